@@ -1,0 +1,64 @@
+ghost use Rattle.std.specs.Prelude.{◌≡◌, ◌<◌, ◌^◌, ◌↔◌, IsTrue, length};
+ghost use Rattle.xs_value.specs.Domains.{Has, IsCountable, count_of, different};
+
+use crate::items::Items;
+use crate::value::Value;
+
+/// A list of numbers.
+pub type NumList = Items<i64>;
+
+/// A list of symbols, each by its number.
+pub type SymList = Items<u32>;
+
+/// The values that a variable may have: the two truth values, the numbers from `lo` to `hi`, or the
+/// listed ones.
+#[derive(Drop)]
+pub enum Domain {
+    Boolean,
+    Range { lo: i64, hi: i64 },
+    Numbers(NumList),
+    Symbols(SymList),
+}
+
+impl Domain {
+    /// Whether the value is one of the domain's. Takes no memory.
+    pub fn has(&self, value: Value) -> bool
+        ensures { IsTrue result ↔ Has self.now value }
+    {
+        match (self, value) {
+            (Domain::Boolean, Value::Bool(_)) => true,
+            (Domain::Range { lo, hi }, Value::Num(number)) => *lo <= number && number <= *hi,
+            (Domain::Numbers(numbers), Value::Num(number)) => numbers.as_slice().contains(&number),
+            (Domain::Symbols(symbols), Value::Sym(symbol)) => symbols.as_slice().contains(&symbol),
+            _ => false,
+        }
+    }
+
+    /// The number of the domain's values; a value that is listed twice counts once. Takes no memory.
+    pub fn count(&self) -> u64
+        requires { IsCountable self.now }
+        ensures { result ≡ count_of self.now }
+    {
+        match self {
+            Domain::Boolean => 2,
+            Domain::Range { lo, hi } => (*hi - *lo + 1) as u64,
+            Domain::Numbers(numbers) => count_different(numbers.as_slice()),
+            Domain::Symbols(symbols) => count_different(symbols.as_slice()),
+        }
+    }
+}
+
+/// How many different items there are.
+#[tactic(auto, using(crate::proofs::Different::different_more))]
+fn count_different<T: PartialEq>(items: &[T]) -> u64
+    requires { length items.now < 2 ^ 63 }
+    ensures { result ≡ different T.eq items.now }
+{
+    let mut count: u64 = 0;
+    for (i, item) in items.iter().enumerate() {
+        if !items[i + 1..].contains(item) {
+            count += 1;
+        }
+    }
+    count
+}

@@ -1,0 +1,30 @@
+//! Values, names and lists that every other crate shares.
+//!
+//! This is the bottom layer. A list is an [`Items`], which contracts see as the list of its items; a
+//! [`Name`] is seen as its bytes, a [`Dotted`] as a list of names that is never empty, and a
+//! [`Valuation`] as a list of values. Every `..List` type of the layers above is an alias of `Items`,
+//! also where a type reaches itself through the list: `specs/formers/items/Items.antt` tells the
+//! toolchain how `Items` stores what it holds. Want of memory is [`OutOfMemory`], and `?` makes it
+//! from each refusal of std. What a domain's values are stands in `specs/Domains.antt`.
+//!
+//! ```text
+//! let mut names = NameList::new(alloc);
+//! names.push(Name::new(alloc, b"main")?)?;
+//! names.at(0).text()    // b"main"
+//! ```
+#![tactic(auto)]
+
+mod domain;
+mod items;
+mod memory;
+mod name;
+mod value;
+
+pub use domain::{Domain, NumList, SymList};
+pub use items::Items;
+pub use memory::OutOfMemory;
+pub use name::{Dotted, Name, NameList};
+pub use value::{Valuation, Value};
+
+/// A list of bytes.
+pub type ByteList = Items<u8>;
