@@ -1,5 +1,5 @@
 -- Counting different items one by one.
-use Rattle.std.proofs.Common.{arith, ℕ, Bool, List, ◌≡◌, ◌<◌, ◌+◌, length, get_or, drop, subst, if◌then◌else◌}
+use Rattle.std.proofs.Common.{arith, ◌≤◌, true, false, ℕ, Bool, List, ◌≡◌, ◌<◌, ◌+◌, length, get_or, drop, subst, if◌then◌else◌}
 use Rattle.std.specs.List.{list_any}
 use Rattle.std.proofs.lemmas.List.{at_drop_more}
 use Rattle.xs_value.specs.Domains.{different}
@@ -19,3 +19,7 @@ counted same xs i d count more later within item answer so_far step =
     let asked : later ≡ list_any (λ y. same y (get_or xs i d)) (drop (i + 1) xs) = subst (λ x. later ≡ list_any (λ y. same y x) (drop (i + 1) xs)) item answer in
     let turned : different same (drop i xs) ≡ (if later then 0 else 1) + different same (drop (i + 1) xs) = rw asked split in
     omega (arith, turned, so_far, step)
+
+pub few_more : (later : Bool) → (if later then 0 else 1) ≤ 1
+few_more true = omega arith
+few_more false = omega arith

@@ -1,5 +1,5 @@
 -- The values of a domain, and how many there are.
-use Rattle.std.specs.Prelude.{ℕ, ℤ, neg_ℤ, ◌+ℤ◌, Bool, List, [], ◌∷◌, ◌≡◌, ◌<◌, ◌≤◌, ◌+◌, ◌-ℤ◌, ◌≤ℤ◌, Contains, if◌then◌else◌, pos, nat_abs, nat_eq, length}
+use Rattle.std.specs.Prelude.{ℕ, neg_ℤ, ◌+ℤ◌, Bool, List, [], ◌∷◌, ◌+◌, ◌-ℤ◌, ◌≤ℤ◌, Contains, if◌then◌else◌, pos, nat_abs, nat_eq}
 use Rattle.std.specs.List.{list_any}
 use Rattle.std.specs.Ordering.{int_eq}
 use Rattle.xs_value.specs.declared.domain.Domain.{Domain}

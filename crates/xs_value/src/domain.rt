@@ -1,4 +1,5 @@
-ghost use Rattle.std.specs.Prelude.{◌≡◌, ◌<◌, ◌^◌, ◌↔◌, IsTrue, length};
+ghost use Rattle.std.specs.Prelude.{◌≡◌, ◌↔◌, IsTrue, nat_eq};
+ghost use Rattle.std.specs.Ordering.{int_eq};
 ghost use Rattle.xs_value.specs.Domains.{Has, IsCountable, count_of, different};
 
 use crate::items::Items;
@@ -42,23 +43,34 @@ impl Domain {
         match self {
             Domain::Boolean => 2,
             Domain::Range { lo, hi } => (*hi - *lo + 1) as u64,
-            Domain::Numbers(numbers) => count_different(numbers.as_slice()),
-            Domain::Symbols(symbols) => count_different(symbols.as_slice()),
+            Domain::Numbers(numbers) => different_numbers(numbers.as_slice()),
+            Domain::Symbols(symbols) => different_symbols(symbols.as_slice()),
         }
     }
 }
 
-/// How many different items there are.
-#[tactic(auto, using(crate::proofs::Different::different_more))]
-fn count_different<T: PartialEq>(items: &[T]) -> u64
-    requires { length items.now < 2 ^ 63 }
-    ensures { result ≡ different T.eq items.now }
+/// How many different numbers there are.
+#[tactic(auto, using(crate::proofs::Different::counted))]
+fn different_numbers(numbers: &[i64]) -> u64
+    ensures { result ≡ different int_eq numbers.now }
 {
     let mut count: u64 = 0;
-    for (i, item) in items.iter().enumerate() {
-        if !items[i + 1..].contains(item) {
-            count += 1;
-        }
+    for (i, number) in numbers.iter().enumerate() {
+        let later = numbers[i + 1..].contains(number);
+        count += u64::from(!later);
+    }
+    count
+}
+
+/// How many different symbols there are.
+#[tactic(auto, using(crate::proofs::Different::counted))]
+fn different_symbols(symbols: &[u32]) -> u64
+    ensures { result ≡ different nat_eq symbols.now }
+{
+    let mut count: u64 = 0;
+    for (i, symbol) in symbols.iter().enumerate() {
+        let later = symbols[i + 1..].contains(symbol);
+        count += u64::from(!later);
     }
     count
 }

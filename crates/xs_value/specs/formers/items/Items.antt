@@ -56,9 +56,9 @@ module _ (Here There : RattleType) (along : Here.Denot → There.Denot) where
       let vectors = vector.the_places global.the_row ghosts Here There along alike in
       let fields = struct_places (kept.the_type Here) (kept.the_type There) (vector.mapped along, tt) _ (λ place. refl) refl (laid _ _ _ vectors, tt) in
       view_places one_field (the_former this) view (λ A B f inside. refl) (λ A inside. refl) Here.Denot There.Denot along
-          (shown.the_row Here).coded (shown.the_row There).coded (invariant Here.Denot) (invariant There.Denot)
-          (λ inside p q. refl) (λ inside p q. refl) (λ inside holds. tt) (λ inside holds. tt)
-          (kept_row Here) (kept_row There) fields
+      (shown.the_row Here).coded (shown.the_row There).coded (invariant Here.Denot) (invariant There.Denot)
+      (λ inside p q. refl) (λ inside p q. refl) (λ inside holds. tt) (λ inside holds. tt)
+      (kept_row Here) (kept_row There) fields
 
   pub the_codes_placed : Recodes Here There along → Recodes (shown.the_row Here) (shown.the_row There) ((the_former this).map Here.Denot There.Denot along)
   the_codes_placed recodes items = sym (code_map Here.coded.code There.coded.code along (λ item. sym (recodes item)) items)
