@@ -1,0 +1,31 @@
+//! Programs and expressions as they are written, their text, and what they mean.
+//!
+//! An [`Expr`] is a tree over leaves; a written expression has dotted names as its leaves. Boxes have
+//! pointers in them, so contracts never compare expressions: they compare trees, by `tree_of` of
+//! `specs/Written.antt`, and programs by `program_tree` of `specs/ProgramTree.antt`. Two expressions
+//! are the same exactly where their trees are equal. All fields are public, so that the layers above
+//! build and take apart what they need, and every definition and contract above speaks of trees.
+//!
+//! ```text
+//! // a & b
+//! Expr::Binary(Op::And, Box::new(alloc, a)?, Box::new(alloc, b)?)
+//! ```
+#![tactic(auto)]
+
+mod copy;
+mod copy_program;
+mod expr;
+mod measure;
+mod program;
+
+pub use copy::{copy_branches, copy_expressions};
+pub use copy_program::{
+    copy_assignments, copy_decls, copy_defines, copy_members, copy_modules, copy_sections,
+};
+pub use expr::{BranchList, Expr, ExprList, Op};
+pub use measure::{height, size};
+pub use program::{
+    AssignList, Assignment, Decl, DeclList, Declared, Define, DefineList, Member, MemberList,
+    Module, ModuleList, Moment, Program, Section, SectionList,
+};
+pub use xs_value::NameList;
