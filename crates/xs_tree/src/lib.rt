@@ -16,6 +16,7 @@ mod copy;
 mod copy_program;
 mod expr;
 mod measure;
+mod print;
 mod program;
 
 pub use copy::{copy_branches, copy_expressions};
@@ -24,6 +25,7 @@ pub use copy_program::{
 };
 pub use expr::{BranchList, Expr, ExprList, Op};
 pub use measure::{height, size};
+pub use print::print_expr;
 pub use program::{
     AssignList, Assignment, Decl, DeclList, Declared, Define, DefineList, Member, MemberList,
     Module, ModuleList, Moment, Program, Section, SectionList,
