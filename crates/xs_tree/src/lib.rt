@@ -17,6 +17,7 @@ mod copy_program;
 mod expr;
 mod measure;
 mod print;
+mod print_modules;
 mod program;
 
 pub use copy::{copy_branches, copy_expressions};
@@ -26,6 +27,7 @@ pub use copy_program::{
 pub use expr::{BranchList, Expr, ExprList, Op};
 pub use measure::{height, size};
 pub use print::print_expr;
+pub use print_modules::print_program;
 pub use program::{
     AssignList, Assignment, Decl, DeclList, Declared, Define, DefineList, Member, MemberList,
     Module, ModuleList, Moment, Program, Section, SectionList,
