@@ -1,11 +1,11 @@
 -- What the definitions give for small values.
-use Rattle.std.proofs.Common.{◌≡◌, ℕ, List, [], ◌∷◌, Option, Some, None, refl}
+use Rattle.std.proofs.Common.{◌≡◌, List, [], ◌∷◌, Some, None, refl}
 use Rattle.std.specs.Prelude.{codes}
 use Rattle.xs_desk.specs.declared.files.NamedFile.{NamedFile}
 use Rattle.xs_desk.specs.declared.fails.CallKind.TheVariants.{Read, Append}
 use Rattle.xs_desk.specs.declared.fails.Fail.{Fail}
 use Rattle.xs_desk.specs.Files.{file_of, with_file}
-use Rattle.xs_desk.specs.Desk.{told_with, told_longer, said_more}
+use Rattle.xs_desk.specs.Desk.{told_longer, said_more}
 use Rattle.xs_desk.specs.Memory.{kept_at}
 
 abbrev two_files : List NamedFile

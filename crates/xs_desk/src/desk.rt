@@ -1,7 +1,7 @@
 // What the analyser asks of the world: files by their names, and a text that it says.
 ghost use Rattle.std.specs.Prelude.{◌≡◌, ◌≤◌, ℕ, List, [], Option, length, IfOk, OnOk, OnErr, IsErrOf};
 ghost use Rattle.xs_desk.specs.declared.files.NamedFile.{NamedFile};
-ghost use Rattle.xs_desk.specs.Desk.{Rose, ReadsFrom, HasNoFile, told_with, told_longer, AppendsFront, said_more, SaysFront};
+ghost use Rattle.xs_desk.specs.Desk.{Rose, ReadsFrom, HasNoFile, told_with, told_longer, AppendsPrefix, said_more, SaysPrefix};
 ghost use Rattle.xs_desk.specs.declared.desk.WriteStop.TheVariants as write_stop;
 
 use xs_value::OutOfMemory;
@@ -48,7 +48,7 @@ pub trait Desk {
     /// No call fails from here on.
     ghost quiet: { Self → Type 0 };
 
-    /// Bytes of the file from a place on (in bytes, from 0) into the front of the buffer, and their
+    /// Bytes of the file from a place on (in bytes, from 0) into the start of the buffer, and their
     /// number: at most as many as the buffer takes, and none for a buffer with room only at or past the
     /// end of the file.
     fn read(&mut self, name: &str, at: u64, into: &mut [u8]) -> Result<usize, ReadStop>
@@ -75,7 +75,7 @@ pub trait Desk {
     /// appended, or nothing was done.
     fn append(&mut self, name: &str, bytes: &[u8]) -> Result<(), WriteStop>
         ensures ok { OnOk result (files self.new ≡ told_longer (files self.old) name.now bytes.now) }
-        ensures err { OnErr result (AppendsFront (files self.old) (files self.new) name.now bytes.now) }
+        ensures err { OnErr result (AppendsPrefix (files self.old) (files self.new) name.now bytes.now) }
         ensures said { said self.new ≡ said self.old }
         ensures later { faults self.old ≤ faults self.new }
         ensures failed { IsErrOf result WriteStop.Failed → Rose (faults self.old) (faults self.new) }
@@ -84,7 +84,7 @@ pub trait Desk {
     /// Says the bytes. After a refusal a prefix of them was said.
     fn say(&mut self, bytes: &[u8]) -> Result<(), WriteStop>
         ensures ok { OnOk result (said self.new ≡ said_more (said self.old) bytes.now) }
-        ensures err { OnErr result (SaysFront (said self.old) (said self.new) bytes.now) }
+        ensures err { OnErr result (SaysPrefix (said self.old) (said self.new) bytes.now) }
         ensures files { files self.new ≡ files self.old }
         ensures later { faults self.old ≤ faults self.new }
         ensures failed { IsErrOf result WriteStop.Failed → Rose (faults self.old) (faults self.new) }

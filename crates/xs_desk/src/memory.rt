@@ -3,7 +3,7 @@ ghost use Rattle.std.specs.Prelude.{◌≡◌, ◌↔◌, ◌≤◌, ◌++◌, t
 ghost use Rattle.std.specs.Option.{option_copied};
 ghost use Rattle.xs_desk.specs.Files.{file_of, content_of, with_file};
 ghost use Rattle.xs_desk.specs.Memory.{no_counts, counted, next_fail, next_count, after_call, kept_bytes, without_memory, WritesTo};
-ghost use Rattle.xs_desk.specs.Desk.{Reads, ReadsFrom, AppendsFront, SaysFront};
+ghost use Rattle.xs_desk.specs.Desk.{Reads, ReadsFrom, AppendsPrefix, SaysPrefix};
 
 use crate::fails::{CallCounts, kept_of, raise};
 use crate::files::{append_to_file, find_file, start_file};
@@ -110,7 +110,7 @@ impl Desk for MemoryDesk {
             return Err(ReadStop::Failed);
         }
         match find_file(&self.files, name.as_bytes()) {
-            Some(bytes) => Ok(copy_front(bytes, at, into)),
+            Some(bytes) => Ok(copy_prefix(bytes, at, into)),
             None => Err(ReadStop::Absent),
         }
     }
@@ -141,7 +141,7 @@ impl Desk for MemoryDesk {
                   (content_of self.old.files name.now ++ kept_bytes self.old CallKind.Append bytes.now);
             })
             (without_memory self.old CallKind.Append) }
-        ensures front { OnErr result (AppendsFront (Some self.old.files) (Some self.new.files) name.now bytes.now) }
+        ensures prefix { OnErr result (AppendsPrefix (Some self.old.files) (Some self.new.files) name.now bytes.now) }
         ensures later { self.old.faults ≤ self.new.faults }
         ensures quiet { self.old.fails ≡ [] → (self.new.fails ≡ []) × (self.new.faults ≡ self.old.faults) }
     {
@@ -149,7 +149,7 @@ impl Desk for MemoryDesk {
             append_to_file(self.alloc, &mut self.files, name, bytes)?;
             return Ok(());
         };
-        append_to_file(self.alloc, &mut self.files, name, front_of(bytes, kept))?;
+        append_to_file(self.alloc, &mut self.files, name, prefix_of(bytes, kept))?;
         raise(&mut self.faults);
         Err(WriteStop::Failed)
     }
@@ -160,7 +160,7 @@ impl Desk for MemoryDesk {
         ensures state { WritesTo result self.new
             (record (after_call self.old CallKind.Say) { said = self.old.said ++ kept_bytes self.old CallKind.Say bytes.now })
             (without_memory self.old CallKind.Say) }
-        ensures front { OnErr result (SaysFront (Some self.old.said) (Some self.new.said) bytes.now) }
+        ensures prefix { OnErr result (SaysPrefix (Some self.old.said) (Some self.new.said) bytes.now) }
         ensures later { self.old.faults ≤ self.new.faults }
         ensures quiet { self.old.fails ≡ [] → (self.new.fails ≡ []) × (self.new.faults ≡ self.old.faults) }
     {
@@ -168,22 +168,22 @@ impl Desk for MemoryDesk {
             self.said.append(bytes)?;
             return Ok(());
         };
-        self.said.append(front_of(bytes, kept))?;
+        self.said.append(prefix_of(bytes, kept))?;
         raise(&mut self.faults);
         Err(WriteStop::Failed)
     }
 }
 
 /// The first bytes, at most so many.
-fn front_of(bytes: &[u8], count: u64) -> &[u8]
+fn prefix_of(bytes: &[u8], count: u64) -> &[u8]
     ensures { result.now ≡ take count bytes.now }
 {
     let count = count.min(bytes.len() as u64) as usize;
     &bytes[..count]
 }
 
-/// Copies the bytes from a place on into the front of the buffer, and says how many.
-fn copy_front(bytes: &[u8], at: u64, into: &mut [u8]) -> usize
+/// Copies the bytes from a place on into the start of the buffer, and says how many.
+fn copy_prefix(bytes: &[u8], at: u64, into: &mut [u8]) -> usize
     ensures reads { Reads bytes.now at into.new result }
     ensures bound { result ≤ length into.new }
 {

@@ -1,7 +1,7 @@
 // Whole files and texts over any desk, piece by piece.
 ghost use Rattle.std.specs.Prelude.{◌≡◌, ◌<◌, ◌≤◌, Some, length, IfOk, OnOk, OnErr, IfSome, IsErrOf};
 ghost use Rattle.xs_desk.specs.Files.{file_of, content_of};
-ghost use Rattle.xs_desk.specs.Desk.{Rose, HasNoFile, told_with, WritesFront, said_more, SaysFront};
+ghost use Rattle.xs_desk.specs.Desk.{Rose, HasNoFile, told_with, WritesPrefix, said_more, SaysPrefix};
 ghost use Rattle.xs_desk.specs.Whole.{fault_of};
 ghost use Rattle.xs_desk.specs.declared.whole.DeskFault.TheVariants as fault;
 
@@ -87,7 +87,7 @@ pub fn read_whole<D: Desk>(
 /// refusal the file is as before or holds a prefix of the bytes; all else stays.
 pub fn write_whole<D: Desk>(desk: &mut D, name: &str, bytes: &[u8]) -> Result<(), WriteStop>
     ensures ok { OnOk result (D.files desk.new ≡ told_with (D.files desk.old) name.now bytes.now) }
-    ensures err { OnErr result (WritesFront (D.files desk.old) (D.files desk.new) name.now bytes.now) }
+    ensures err { OnErr result (WritesPrefix (D.files desk.old) (D.files desk.new) name.now bytes.now) }
     ensures said { D.said desk.new ≡ D.said desk.old }
     ensures later { D.faults desk.old ≤ D.faults desk.new }
     ensures failed { IsErrOf result WriteStop.Failed → Rose (D.faults desk.old) (D.faults desk.new) }
@@ -107,7 +107,7 @@ pub fn write_whole<D: Desk>(desk: &mut D, name: &str, bytes: &[u8]) -> Result<()
 /// else stays.
 pub fn say_whole<D: Desk>(desk: &mut D, bytes: &[u8]) -> Result<(), WriteStop>
     ensures ok { OnOk result (D.said desk.new ≡ said_more (D.said desk.old) bytes.now) }
-    ensures err { OnErr result (SaysFront (D.said desk.old) (D.said desk.new) bytes.now) }
+    ensures err { OnErr result (SaysPrefix (D.said desk.old) (D.said desk.new) bytes.now) }
     ensures files { D.files desk.new ≡ D.files desk.old }
     ensures later { D.faults desk.old ≤ D.faults desk.new }
     ensures failed { IsErrOf result WriteStop.Failed → Rose (D.faults desk.old) (D.faults desk.new) }

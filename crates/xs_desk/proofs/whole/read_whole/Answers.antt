@@ -1,7 +1,7 @@
 use Rattle.std.proofs.Common.{rules, arith, ◌≡◌, ◌++◌, length, take, length-append, length-take-le}
 use Rattle.std.proofs.lemmas.Grind.{common_steps}
 use Rattle.xs_desk.specs.Desk.{ReadsFrom}
-use Rattle.xs_desk.proofs.Reading.{IsFrontOf-more}
+use Rattle.xs_desk.proofs.Reading.{IsPrefixOf-more}
 use Rattle.xs_desk.proofs.whole.read_whole.Goals as goal
 
 pub loop-bytes-preserved : goal.loop-bytes-preserved
@@ -14,7 +14,7 @@ loop-bytes-preserved g c =
       said = search rules;
       later = omega arith;
       quiet = search rules;
-      front = rw appended (IsFrontOf-more _ _ _ _ _ c.in_ok-count.ensures.bound c.loop-bytes.invariant.front reads);
+      prefix = rw appended (IsPrefixOf-more _ _ _ _ _ c.in_ok-count.ensures.bound c.loop-bytes.invariant.prefix reads);
       short = rw appended (omega (arith, length-append c.loop-bytes.bytes.items (take c.in_ok-count.count c.read.new.into), length-take-le c.in_ok-count.count c.read.new.into c.in_ok-count.ensures.bound));
       room = search rules;
     }

@@ -1,5 +1,5 @@
 use Rattle.std.proofs.Common.{◌≡◌, ◌≤◌, ◌-◌, length}
-use Rattle.xs_desk.proofs.Reading.{IsFrontOf}
+use Rattle.xs_desk.proofs.Reading.{IsPrefixOf}
 use Rattle.xs_desk.proofs.whole.read_whole.Given as goal
 
 abbrev pub invariant-loop-bytes : goal.invariant-loop-bytes
@@ -8,7 +8,7 @@ invariant-loop-bytes g l = record {
   said : g.D.Desk.said l.desk ≡ g.D.Desk.said l.fn.desk;
   later : g.D.Desk.faults l.fn.desk ≤ g.D.Desk.faults l.desk;
   quiet : g.D.Desk.quiet l.fn.desk → g.D.Desk.quiet l.desk × (g.D.Desk.faults l.desk ≡ g.D.Desk.faults l.fn.desk);
-  front : IsFrontOf (g.D.Desk.files l.fn.desk) l.name l.bytes.items;
+  prefix : IsPrefixOf (g.D.Desk.files l.fn.desk) l.name l.bytes.items;
   short : length l.bytes.items ≤ l.limit;
   room : length l.buffer ≡ 4096;
 }
