@@ -174,10 +174,10 @@ IsStop stop.BadByte bytes = IsBadByte bytes
 IsStop stop.OpenComment bytes = IsOpenComment bytes
 IsStop stop.NumberTooBig bytes = IsBigNumber bytes
 
-abbrev stopped : Stop → Result Found Stop
+abbrev pub stopped : Stop → Result Found Stop
 stopped s = Err s
 
-err_same : (s why : Stop) → stopped s ≡ stopped why → s ≡ why
+pub err_same : (s why : Stop) → stopped s ≡ stopped why → s ≡ why
 err_same s why e = cc
 
 bad_here : (b : ℕ) (bs : List ℕ) → (BeginsComment (b ∷ bs) → ⊥) → is_blank b ≡ false → is_word_start b ≡ false → is_ascii_digit b ≡ false → sign_at signs (b ∷ bs) ≡ None → IsBadByte (b ∷ bs)
@@ -285,7 +285,7 @@ not_comment_and_token text after x u (inr (inr (b, blank, spelled))) same kind t
         other)
         token
 
-text_some : (kind : TokenKind) (text after : List ℕ) → IsToken kind text after → 0 < length text
+pub text_some : (kind : TokenKind) (text after : List ℕ) → IsToken kind text after → 0 < length text
 text_some kind [] after token =
     ⊎_elim (λ word. absurd word.1) (λ other. ⊎_elim (λ number. absurd number.1) (λ sign. absurd (sign_some kind sign)) other) token
 text_some kind (b ∷ bs) after token = omega arith
@@ -300,7 +300,7 @@ found_token kind text after (Some other) len token piece =
     let same_len : len ≡ length text = sym (length-take-le len (text ++ after) piece.within) ∙ ap length same_text in
     ap (λ k. found (Some k) len) same_kind ∙ ap (found (Some kind)) same_len
 
-no_stop : (kind : TokenKind) (text after : List ℕ) (why : Stop) → IsTokenPiece kind text after → IsStop why (text ++ after) → ⊥
+pub no_stop : (kind : TokenKind) (text after : List ℕ) (why : Stop) → IsTokenPiece kind text after → IsStop why (text ++ after) → ⊥
 no_stop kind text after stop.BadByte token bad = bad.no_token kind text after refl token.longest.token
 no_stop kind text after stop.OpenComment token open_comment = token.no_comment (inr (open_comment.inner, open_comment.spelled))
 no_stop kind text after stop.NumberTooBig token big =

@@ -48,7 +48,7 @@ found_same a b m n e =
     (ap (λ here. here.kind) same, ap (λ here. here.len) same)
 
 -- two pieces at one place are one
-one_piece : (a b : Option TokenKind) (x y u v : List ℕ) → IsPiece a x u → IsPiece b y v → x ++ u ≡ y ++ v → (a ≡ b) × (x ≡ y) × (u ≡ v)
+pub one_piece : (a b : Option TokenKind) (x y u v : List ℕ) → IsPiece a x u → IsPiece b y v → x ++ u ≡ y ++ v → (a ≡ b) × (x ≡ y) × (u ≡ v)
 one_piece a b x y u v first second same =
     let both = found_same a b (length x) (length y) (sym (piece_at-piece a x u first) ∙ ap piece_at same ∙ piece_at-piece b y v second) in
     let text = same_front x y u v same both.1 in

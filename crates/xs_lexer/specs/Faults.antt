@@ -39,12 +39,12 @@ pub record IsBigNumber (bytes : List ℕ) : Type 0 where
   pub number : IsLongest Number digits after
   pub big : 2 ^ 63 - 1 < number_of digits
 
--- what a fault says of the bytes
+-- what a fault says of the bytes; want of memory says nothing of them, and is the fault of none
 abbrev pub IsFaultOf : List ℕ → LexFault → Type 0
 IsFaultOf bytes (fault.BadByte at) = StopsAt bytes at IsBadByte
 IsFaultOf bytes (fault.OpenComment at) = StopsAt bytes at IsOpenComment
 IsFaultOf bytes (fault.NumberTooBig at) = StopsAt bytes at IsBigNumber
-IsFaultOf bytes fault.OutOfMemory = Unit {0}
+IsFaultOf bytes fault.OutOfMemory = ⊥
 
 -- the fault of a stop at this place
 abbrev pub fault_at : Stop → ℕ → LexFault

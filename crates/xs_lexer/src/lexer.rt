@@ -1,6 +1,7 @@
 // The split of a text, piece by piece.
 ghost use Rattle.std.specs.Prelude.{◌≡◌, ◌⊎◌, ◌<◌, ◌≤◌, ◌+◌, ◌^◌, ◌++◌, [], ◌∷◌, List, length, OnOk, OnErr, IfOk, IfErr};
 ghost use Rattle.xs_lexer.specs.declared.token.Token.{Token};
+ghost use Rattle.xs_lexer.specs.declared.token.LexFault.{LexFault};
 ghost use Rattle.xs_lexer.specs.Tokens.{token_of, HasTokens};
 ghost use Rattle.xs_lexer.specs.Faults.{HasNoSplit, IsFaultOf, fault_at};
 
@@ -47,10 +48,11 @@ pub fn tokens(alloc: Global, bytes: &[u8]) -> Result<TokenList, LexFault>
     ensures split { IfOk result (λ tokens. HasTokens bytes.now tokens) }
     // No other split has other tokens.
     ensures only { IfOk result (λ tokens. (others : List Token) → HasTokens bytes.now others → others ≡ tokens) }
-    // A fault says where the pieces stop, and why.
-    ensures fault { IfErr result (λ fault. IsFaultOf bytes.now fault) }
-    // Unless memory ran out, there is no split then.
+    // Unless memory ran out there is no split then, the fault says where the pieces stop and why, and the bytes have no other.
     ensures none { IfErr result (λ fault. (fault ≡ LexFault.OutOfMemory) ⊎ HasNoSplit bytes.now) }
+    ensures fault { IfErr result (λ fault. (fault ≡ LexFault.OutOfMemory) ⊎ IsFaultOf bytes.now fault) }
+    ensures smallest { IfErr result (λ fault. (fault ≡ LexFault.OutOfMemory)
+        ⊎ ((other : LexFault) → IsFaultOf bytes.now other → other ≡ fault)) }
 {
     let mut tokens = TokenList::new(alloc);
     let mut rest = bytes;

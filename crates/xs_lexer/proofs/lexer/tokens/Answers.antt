@@ -1,5 +1,6 @@
 use Rattle.std.proofs.Common.{◌≡◌, ◌<◌, ◌+◌, ◌-◌, length, [], ◌∙◌, sym, arith, inr, false-eqb, eqb-true}
 use Rattle.xs_lexer.proofs.SplitLemmas.{IsSplitTo-more, found_within, fault_of_stop, no_split_at_stop, HasTokens-all, one_answer}
+use Rattle.xs_lexer.proofs.FaultLemmas.{one_fault}
 use Rattle.xs_lexer.proofs.BlockLemmas.{nil_of_length}
 use Rattle.xs_lexer.proofs.lexer.tokens.Goals as goal
 
@@ -12,7 +13,13 @@ pub returns-in-Err-clause-fault : goal.returns-in-Err-clause-fault
 returns-in-Err-clause-fault c =
     let some : 0 < length c.loop-rest.rest.now = omega (arith, false-eqb _ 0 c.loop-rest-test.ensures) in
     let place : length c.args.bytes.now - length c.loop-rest.rest.now + length c.loop-rest.rest.now ≡ length c.args.bytes.now = omega arith in
-    rw c.at.ensures (fault_of_stop c.args.bytes.now c.loop-rest.rest.now c.loop-rest.tokens _ c.in-Err.stop c.loop-rest.invariant.split some place (sym c.piece_at.ensures ∙ c.in-Err.is))
+    rw c.at.ensures (inr (fault_of_stop c.args.bytes.now c.loop-rest.rest.now c.loop-rest.tokens _ c.in-Err.stop c.loop-rest.invariant.split some place (sym c.piece_at.ensures ∙ c.in-Err.is)))
+
+pub returns-in-Err-clause-smallest : goal.returns-in-Err-clause-smallest
+returns-in-Err-clause-smallest c =
+    let some : 0 < length c.loop-rest.rest.now = omega (arith, false-eqb _ 0 c.loop-rest-test.ensures) in
+    let place : length c.args.bytes.now - length c.loop-rest.rest.now + length c.loop-rest.rest.now ≡ length c.args.bytes.now = omega arith in
+    rw c.at.ensures (inr (λ other is. one_fault c.args.bytes.now _ other (fault_of_stop c.args.bytes.now c.loop-rest.rest.now c.loop-rest.tokens _ c.in-Err.stop c.loop-rest.invariant.split some place (sym c.piece_at.ensures ∙ c.in-Err.is)) is))
 
 pub returns-in-Err-clause-none : goal.returns-in-Err-clause-none
 returns-in-Err-clause-none c =
