@@ -1,5 +1,5 @@
 -- A text has one fault at most: where its pieces stop, and why.
-use Rattle.std.proofs.Common.{◌≡◌, ℕ, ◌+◌, ◌<◌, true, false, List, [], ◌∷◌, ◌++◌, length, take, drop, Option, Some, None, sym, ap, ◌∙◌, refl, subst, inl, inr, ⊎_elim, arith, append_assoc, length-append}
+use Rattle.std.proofs.Common.{◌≡◌, ℕ, ◌<◌, true, false, List, [], ◌∷◌, ◌++◌, length, take, drop, Option, Some, None, sym, ap, ◌∙◌, refl, subst, inl, inr, ⊎_elim, arith, append_assoc, length-append}
 use Rattle.std.specs.Prelude.{◌⊎◌, codes, Result, Ok, Err}
 use Rattle.std.specs.Char.{is_ascii_digit}
 use Rattle.std.proofs.lemmas.List.{take-append-drop}
@@ -69,9 +69,9 @@ digit_first (b ∷ bs) after token = (
   bs,
   refl,
   ⊎_elim
-  (λ word. absurd (number_no_word word.0))
-  (λ other. ⊎_elim (λ number. number.1.0) (λ sign. absurd (sign_no_number Number (b ∷ bs) sign refl)) other)
-  token,
+      (λ word. absurd (number_no_word word.0))
+      (λ other. ⊎_elim (λ number. number.1.0) (λ sign. absurd (sign_no_number Number (b ∷ bs) sign refl)) other)
+      token,
 )
 
 digit_blank : (b : ℕ) (bs text after : List ℕ) → is_ascii_digit b ≡ true → b ∷ bs ≡ text ++ after → IsLineComment text after ⊎ (IsBlockComment text ⊎ IsBlankByte text) → ⊥

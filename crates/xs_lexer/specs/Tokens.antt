@@ -1,5 +1,5 @@
 -- How bytes split into tokens and blanks: a relation on whole texts.
-use Rattle.std.specs.Prelude.{◌≡◌, ◌⊎◌, ◌<◌, ◌≤◌, ◌+◌, ◌-◌, ◌^◌, ℕ, true, List, [], ◌∷◌, ◌++◌, length, Option, Some, None, codes}
+use Rattle.std.specs.Prelude.{◌≡◌, ◌⊎◌, ◌≤◌, ◌+◌, ◌-◌, ◌^◌, ℕ, true, List, [], ◌∷◌, ◌++◌, length, Option, Some, None, codes}
 use Rattle.xs_lexer.specs.declared.token.TokenKind.{TokenKind}
 use Rattle.xs_lexer.specs.declared.token.TokenKind.TheVariants.{Word, Number, Becomes, Dots, NotEqual, AtMost, AtLeast, Iff, Implies, Open, Close, OpenBrace, CloseBrace, OpenSquare, CloseSquare, Comma, Semicolon, Colon, Dot, Bang, And, Bar, Equal, Less, Greater, Plus, Minus, Star, Slash, Question}
 use Rattle.xs_lexer.specs.declared.token.Token.{Token}
