@@ -1,5 +1,5 @@
 -- How bytes split into tokens and blanks: a relation on whole texts.
-use Rattle.std.specs.Prelude.{◌≡◌, ◌⊎◌, ◌≤◌, ◌+◌, ◌-◌, ◌^◌, ℕ, true, List, [], ◌∷◌, ◌++◌, length, Option, Some, None, codes}
+use Rattle.std.specs.Prelude.{◌≡◌, ◌⊎◌, ◌<◌, ◌≤◌, ◌+◌, ◌-◌, ◌^◌, ℕ, true, List, [], ◌∷◌, ◌++◌, length, drop, slice_range, Option, Some, None, codes}
 use Rattle.xs_lexer.specs.declared.token.TokenKind.{TokenKind}
 use Rattle.xs_lexer.specs.declared.token.TokenKind.TheVariants.{Word, Number, Becomes, Dots, NotEqual, AtMost, AtLeast, Iff, Implies, Open, Close, OpenBrace, CloseBrace, OpenSquare, CloseSquare, Comma, Semicolon, Colon, Dot, Bang, And, Bar, Equal, Less, Greater, Plus, Minus, Star, Slash, Question}
 use Rattle.xs_lexer.specs.declared.token.Token.{Token}
@@ -44,6 +44,7 @@ pub record Sign : Type 0 where
   pub kind : TokenKind
   pub text : List ℕ
 
+-- the sign of this kind
 abbrev pub sign : TokenKind → Sign
 sign kind = record { kind = kind; text = sign_text kind }
 
@@ -76,7 +77,7 @@ abbrev pub IsToken : TokenKind → List ℕ → List ℕ → Type 0
 IsToken kind text after =
     ((kind ≡ Word) × IsWord text after) ⊎ (((kind ≡ Number) × IsNumber text after) ⊎ IsAmong signs kind text)
 
--- and no longer token begins at its place
+-- the text is a token of this kind, and no longer token begins at its place
 pub record IsLongest (kind : TokenKind) (text after : List ℕ) : Type 0 where
   pub token : IsToken kind text after
   pub longest : (other : TokenKind) (front back : List ℕ) → front ++ back ≡ text ++ after → IsToken other front back → length front ≤ length text
@@ -86,6 +87,7 @@ pub record Piece : Type 0 where
   pub kind : Option TokenKind
   pub text : List ℕ
 
+-- the bytes begin with these
 abbrev pub BeginsWith : List ℕ → List ℕ → Type 0
 BeginsWith bytes front = (rest : List ℕ) × (bytes ≡ front ++ rest)
 
@@ -111,6 +113,7 @@ pub record IsBlockComment (text : List ℕ) : Type 0 where
   pub spelled : text ≡ codes "/--" ++ (inner ++ codes "--/")
   pub first : (front back : List ℕ) → inner ++ codes "--/" ≡ front ++ (codes "--/" ++ back) → back ≡ []
 
+-- one blank byte
 abbrev pub IsBlankByte : List ℕ → Type 0
 IsBlankByte text = (b : ℕ) × (is_blank b ≡ true) × (text ≡ b ∷ [])
 
@@ -149,3 +152,9 @@ tokens_from start (piece ∷ pieces) =
 -- the tokens of a split of the bytes
 abbrev pub HasTokens : List ℕ → List Token → Type 0
 HasTokens bytes tokens = (pieces : List Piece) × Splits pieces bytes [] × (tokens ≡ tokens_from 0 pieces)
+
+-- the bytes at the token's place are a token of its kind, as they stand in the text
+pub record StandsIn (bytes : List ℕ) (token : Token) : Type 0 where
+  pub some : token.start < token.end
+  pub within : token.end ≤ length bytes
+  pub piece : IsTokenPiece token.kind (slice_range bytes token.start token.end) (drop token.end bytes)

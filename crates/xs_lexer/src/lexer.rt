@@ -1,8 +1,8 @@
 // The split of a text, piece by piece.
-ghost use Rattle.std.specs.Prelude.{◌≡◌, ◌⊎◌, ◌<◌, ◌≤◌, ◌+◌, ◌^◌, ◌++◌, [], ◌∷◌, List, length, OnOk, OnErr, IfOk, IfErr};
+ghost use Rattle.std.specs.Prelude.{◌≡◌, ◌⊎◌, ◌<◌, ◌≤◌, ◌+◌, ◌^◌, ◌++◌, [], ◌∷◌, List, length, All, OnOk, OnErr, IfOk, IfErr};
 ghost use Rattle.xs_lexer.specs.declared.token.Token.{Token};
 ghost use Rattle.xs_lexer.specs.declared.token.LexFault.{LexFault};
-ghost use Rattle.xs_lexer.specs.Tokens.{token_of, HasTokens};
+ghost use Rattle.xs_lexer.specs.Tokens.{token_of, HasTokens, StandsIn};
 ghost use Rattle.xs_lexer.specs.Faults.{HasNoSplit, IsFaultOf, fault_at};
 
 use crate::scan::{Found, Stop, piece_at};
@@ -41,11 +41,13 @@ fn push_found(tokens: &mut TokenList, start: u32, found: Found) -> Result<(), Ou
 /// `OpenComment` and `NumberTooBig` come exactly where the bytes have no split, with the place up to
 /// which pieces reach: the smallest at which none begins. It takes time in proportion to the bytes.
 ///
-/// The signs, words, numbers and comments are those of the NuSMV 2.6 manual, "Lexical Structure" of its
-/// input language; that a word takes no `-` before a `-` or a `>` is this project's own rule.
+/// Signs, words, numbers and comments are those of the lexical part of the NuSMV 2.6 manual, chapter
+/// "Input Language"; that a word takes no `-` before a `-` or a `>` is this project's own rule.
 pub fn tokens(alloc: Global, bytes: &[u8]) -> Result<TokenList, LexFault>
     requires { length bytes.now < 2 ^ 32 }
     ensures split { IfOk result (λ tokens. HasTokens bytes.now tokens) }
+    // The bytes at each token's place are a token of its kind; a number's are at most 2 ^ 63 - 1.
+    ensures stand { IfOk result (λ tokens. All (StandsIn bytes.now) tokens) }
     // No other split has other tokens.
     ensures only { IfOk result (λ tokens. (others : List Token) → HasTokens bytes.now others → others ≡ tokens) }
     // Unless memory ran out there is no split then, the fault says where the pieces stop and why, and the bytes have no other.

@@ -1,5 +1,6 @@
 use Rattle.std.proofs.Common.{◌≡◌, ◌<◌, ◌+◌, ◌-◌, length, [], ◌∙◌, sym, arith, inr, false-eqb, eqb-true}
 use Rattle.xs_lexer.proofs.SplitLemmas.{IsSplitTo-more, found_within, fault_of_stop, no_split_at_stop, HasTokens-all, one_answer}
+use Rattle.xs_lexer.proofs.PlaceLemmas.{HasTokens-stand}
 use Rattle.xs_lexer.proofs.FaultLemmas.{one_fault}
 use Rattle.xs_lexer.proofs.BlockLemmas.{nil_of_length}
 use Rattle.xs_lexer.proofs.lexer.tokens.Goals as goal
@@ -44,3 +45,8 @@ pub returns-clause-only : goal.returns-clause-only
 returns-clause-only c = λ others are.
     let no_rest : c.loop-rest.rest.now ≡ [] = nil_of_length c.loop-rest.rest.now (eqb-true _ 0 (sym c.loop-rest-test.ensures)) in
     one_answer c.args.bytes.now c.loop-rest.tokens others (HasTokens-all c.args.bytes.now c.loop-rest.rest.now c.loop-rest.tokens c.loop-rest.invariant.split no_rest) are
+
+pub returns-clause-stand : goal.returns-clause-stand
+returns-clause-stand c =
+    let no_rest : c.loop-rest.rest.now ≡ [] = nil_of_length c.loop-rest.rest.now (eqb-true _ 0 (sym c.loop-rest-test.ensures)) in
+    HasTokens-stand c.args.bytes.now c.loop-rest.tokens (HasTokens-all c.args.bytes.now c.loop-rest.rest.now c.loop-rest.tokens c.loop-rest.invariant.split no_rest)
