@@ -15,6 +15,7 @@
 mod copy;
 mod copy_program;
 mod expr;
+mod laws;
 mod measure;
 mod print;
 mod print_modules;
@@ -25,6 +26,7 @@ pub use copy_program::{
     copy_assignments, copy_decls, copy_defines, copy_members, copy_modules, copy_sections,
 };
 pub use expr::{BranchList, Expr, ExprList, Op};
+pub use laws::{deeper_is_the_same, leaves_decide, one_tree, printed_spells};
 pub use measure::{height, size};
 pub use print::print_expr;
 pub use print_modules::print_program;
