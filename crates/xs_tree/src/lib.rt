@@ -35,3 +35,6 @@ pub use program::{
     Module, ModuleList, Moment, Program, Section, SectionList,
 };
 pub use xs_value::NameList;
+
+#[cfg(test)]
+mod tests;
