@@ -1,6 +1,6 @@
 //! Laws of the definitions, each as the contract of a function that does nothing.
 
-ghost use Rattle.xs_tree.specs.Laws.{SpellsOneExpression, PrintedSpells, TextsSpell, DeeperMeansTheSame, DeeperGivesTheSame, AgreeingLeavesGiveTheSame, MappedLeavesGiveTheSame};
+ghost use Rattle.xs_tree.specs.Laws.{SpellsOneExpression, PrintedSpells, TextsSpell, ProgramTextsSpell, DeeperMeansTheSame, DeeperGivesTheSame, AgreeingLeavesGiveTheSame, MappedLeavesGiveTheSame};
 
 /// No list of tokens spells two expressions.
 pub fn one_tree()
@@ -12,9 +12,10 @@ pub fn printed_spells()
     ensures { PrintedSpells }
 {}
 
-/// The text of an expression that can be written spells it.
+/// The text of an expression or of a program that can be written spells it.
 pub fn texts_spell()
-    ensures { TextsSpell }
+    ensures expressions { TextsSpell }
+    ensures programs { ProgramTextsSpell }
 {}
 
 /// More steps from name to name change neither what a name means nor what an expression gives.
