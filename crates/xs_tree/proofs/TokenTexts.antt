@@ -1,22 +1,20 @@
 -- Texts of one token.
-use Rattle.std.proofs.Common.{◌≡◌, ℕ, suc, ◌+◌, ◌-◌, ◌*◌, ◌/◌, ◌%◌, ◌^◌, ◌<◌, ◌≤◌, Bool, true, false, List, [], ◌∷◌, ◌++◌, length, take, drop, Some, None, sym, ap, ◌∙◌, refl, subst, arith, add-one, length-append}
+use Rattle.std.proofs.Common.{◌≡◌, ℕ, ◌+◌, ◌-◌, ◌*◌, ◌/◌, ◌%◌, ◌^◌, ◌<◌, ◌≤◌, true, false, List, [], ◌∷◌, ◌++◌, length, take, Some, None, sym, ap, ◌∙◌, refl, subst, arith, length-append}
 use Rattle.std.specs.Prelude.{nat_eq, nat_le, codes, not, ◌&&◌, ◌==◌}
 use Rattle.std.specs.Char.{is_ascii_digit}
 use Rattle.std.specs.Fmt.{decimal}
 use Rattle.std.proofs.lemmas.Bool.Decides.{nat_tests}
 use Rattle.std.proofs.lemmas.Bool.{le-leb}
 use Rattle.std.proofs.lemmas.Fmt.{decimal_by_steps}
-use Rattle.std.proofs.lemmas.List.{append-nil}
 use Rattle.std.proofs.Math.Seq.{take-append_seam}
-use Rattle.xs_lexer.specs.declared.token.TokenKind.{TokenKind}
 use Rattle.xs_lexer.specs.declared.token.TokenKind.TheVariants as k
-use Rattle.xs_lexer.specs.Bytes.{is_blank, is_word_start, is_word_byte}
+use Rattle.xs_lexer.specs.Bytes.{is_word_start, is_word_byte}
 use Rattle.xs_lexer.specs.Runs.{Runs, run_len, takes_word, takes_digit, ends_word, number_from}
 use Rattle.xs_lexer.specs.Tokens.{IsWord, number_of}
 use Rattle.xs_lexer.specs.Scan.{found, number_found, token_at, piece_at}
 use Rattle.xs_lexer.proofs.ByteLemmas.{word_not_blank, digit_not_blank, digit_not_word}
 use Rattle.xs_lexer.proofs.RunLemmas.{run_len-runs, Runs-digits}
-use Rattle.xs_tree.specs.Lexemes.{Lexeme, word, num, sign}
+use Rattle.xs_tree.specs.Lexemes.{word, num, sign}
 use Rattle.xs_tree.specs.Printed.{IsSmall}
 use Rattle.xs_tree.proofs.Pieces.{Reads, piece_reads, as_lexemes}
 

@@ -4,6 +4,8 @@ ghost use Rattle.std.specs.Prelude.{◌≡◌, ◌++◌, codes, IfOk, OnOk, map}
 ghost use Rattle.xs_tree.specs.ProgramTree.{program_tree, module_tree, section_tree, decl_tree, declared_tree, define_tree, assignment_tree};
 ghost use Rattle.xs_tree.specs.Text.{program_text, module_text, section_text, decl_line, declared_text, define_line, assignment_line, target_text, member_text, constants_text, in_brackets, commas, line, all_of, text_of};
 ghost use Rattle.xs_tree.specs.Written.{tree_of};
+ghost use Rattle.xs_tree.specs.WritableProgram.{IsWritableProgram};
+ghost use Rattle.xs_tree.specs.Bytes.{BytesSpellProgram};
 
 use crate::expr::Expr;
 use crate::print::{
@@ -18,7 +20,9 @@ use xs_value::{ByteList, Dotted, Name, OutOfMemory};
 /// The text of a program: each module's header, then its sections in order, each section's word on a line
 /// of its own and each item on a line after two spaces.
 pub fn print_program(alloc: Global, p: &Program) -> Result<Vec<u8>, OutOfMemory>
-    ensures { IfOk result (λ text. text.items ≡ program_text (program_tree p.now)) }
+    ensures text { IfOk result (λ text. text.items ≡ program_text (program_tree p.now)) }
+    // What can be written is read back as itself.
+    ensures spells { IfOk result (λ text. IsWritableProgram (program_tree p.now) → BytesSpellProgram text.items (program_tree p.now)) }
 {
     let mut text = ByteList::new(alloc);
     append_modules(alloc, &mut text, p.modules.as_slice())?;
