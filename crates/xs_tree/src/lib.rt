@@ -6,6 +6,16 @@
 //! are the same exactly where their trees are equal. All fields are public, so that the layers above
 //! build and take apart what they need, and every definition and contract above speaks of trees.
 //!
+//! The definitions of the language stand in `specs/`, in this order for a reader: `Tree` and
+//! `ProgramTree` (what there is), `Text` (the bytes that are printed), `Lexemes`, `Spells`,
+//! `SpellsProgram` and `Bytes` (which trees a text spells), `Printed` and `WritableProgram` (which
+//! trees can be written), `Values` and `Evaluate` (what an expression gives), `Scope` (what a name
+//! means), `May` (which values a written expression may have) and `Trace` (the traces of a program).
+//! The grammar and the meaning follow the NuSMV 2.6 manual; the order and the grouping of operators
+//! are this project's own. The laws in `laws` join them: what is printed spells its tree, no tokens
+//! spell two expressions, and more look-up steps change nothing. `proofs/Examples.antt` computes
+//! examples of each.
+//!
 //! ```text
 //! // a & b
 //! Expr::Binary(Op::And, Box::new(alloc, a)?, Box::new(alloc, b)?)
