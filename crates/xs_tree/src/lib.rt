@@ -36,7 +36,9 @@ pub use copy_program::{
     copy_assignments, copy_decls, copy_defines, copy_members, copy_modules, copy_sections,
 };
 pub use expr::{BranchList, Expr, ExprList, Op};
-pub use laws::{deeper_is_the_same, leaves_decide, one_tree, printed_spells, texts_spell};
+pub use laws::{
+    deeper_is_the_same, leaves_decide, one_tree, printed_spells, spelled_is_writable, texts_spell,
+};
 pub use measure::{height, size};
 pub use print::print_expr;
 pub use print_modules::print_program;
