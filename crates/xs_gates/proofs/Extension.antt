@@ -137,17 +137,22 @@ Means-weaker s r S S' P Q m keep weaken = record {
   means = λ v h. weaken v (Satisfies-earlier s r.0 m.extends v h) (m.means v h);
 }
 
+-- one more fact on the shape
+pub Means-keep : {A : Type 0} (s : Circuit) (r : Circuit × A) (S S' : Circuit → A → Type 0) (P : TotalAssignment → A → Type 0)
+    → Means s r S P → (S r.0 r.1 → S' r.0 r.1) → Means s r S' P
+Means-keep s r S S' P m keep = record { extends = m.extends; shape = keep m.shape; means = m.means }
+
 -- The items in turn: S and P speak of what is left and of what was given so far, and each item's step keeps them.
 pub Means-fold : {X A : Type 0} (step : X → A → Circuit → Circuit × A)
-    (S : List X → Circuit → A → Type 0) (P : List X → TotalAssignment → A → Type 0) (first : Circuit)
-    → ((x : X) (xs : List X) (a : A) (t : Circuit) → Extends first t → S (x ∷ xs) t a → Means t (step x a t) (S xs) (λ v b. P (x ∷ xs) v a → P xs v b))
-    → (xs : List X) (a : A) (s : Circuit) → Extends first s → S xs s a
+    (S : List X → Circuit → A → Type 0) (P : List X → TotalAssignment → A → Type 0)
+    → ((x : X) (xs : List X) (a : A) (t : Circuit) → S (x ∷ xs) t a → Means t (step x a t) (S xs) (λ v b. P (x ∷ xs) v a → P xs v b))
+    → (xs : List X) (a : A) (s : Circuit) → S xs s a
     → Means s (fold_gates step xs a s) (S []) (λ v b. P xs v a → P [] v b)
 unfolding fold_gates
-Means-fold step S P first turn [] a s e shape = Means-done s a _ _ shape (λ v h p. p)
-Means-fold step S P first turn (x ∷ xs) a s e shape =
-    Means-after s _ _ _ _ _ _ (turn x xs a s e shape) (λ b t hb et.
-    Means-weaker t _ _ (S []) _ _ (Means-fold step S P first turn xs b t (Extends-trans first s t e et) hb) (λ h. h) (λ v h k p q. k (p q)))
+Means-fold step S P turn [] a s shape = Means-done s a _ _ shape (λ v h p. p)
+Means-fold step S P turn (x ∷ xs) a s shape =
+    Means-after s _ _ _ _ _ _ (turn x xs a s shape) (λ b t hb et.
+    Means-weaker t _ _ (S []) _ _ (Means-fold step S P turn xs b t hb) (λ h. h) (λ v h k p q. k (p q)))
 
 pub HasTruth-later : (old new : Circuit) → Extends old new → HasTruth old → HasTruth new
 HasTruth-later old new e t v h = t v (Satisfies-earlier old new e v h)

@@ -7,8 +7,8 @@ use Rattle.xs_lits.specs.Models.{TotalAssignment, literal_value, clause_value, S
 use Rattle.xs_lits.proofs.ModelLemmas.{literal_value-same, literal_value-opposite, Satisfies-back}
 use Rattle.xs_gates.specs.Circuit.{Circuit, with_gate}
 use Rattle.xs_gates.specs.Gates.{differ, and_clauses, xor_clauses, mux_clauses, and_gate, or_gate, xor_gate, mux_gate}
-use Rattle.xs_gates.specs.Meaning.{AllBelow, BeginsWith, GivesBool, StopsWithin}
-use Rattle.xs_gates.proofs.Extension.{Extends-gate, ClausesBelow-from, begins-after, BeginsWith-refl}
+use Rattle.xs_gates.specs.Meaning.{AllBelow, BeginsWith, GivesBool, Means, StopsWithin}
+use Rattle.xs_gates.proofs.Extension.{Extends-gate, ClausesBelow-from, Means-keep, begins-after, BeginsWith-refl}
 
 -- ---- the clauses, as tests of the values of g, a, b and c
 
@@ -232,6 +232,29 @@ mux_gate-free c a b s = refl
 pub or_gate-free : (a b : Literal) (s : Circuit) → (or_gate a b s).0.free ≡ s.free + 1
 unfolding or_gate
 or_gate-free a b s = and_gate-free (opposite a) (opposite b) s
+
+-- ---- each gate, with the number of variables that it takes
+
+-- the literal's variable is the next one
+pub record IsNext (s t : Circuit) (l : Literal) : Type 0 where
+  pub below : IsBelow t.free l
+  pub next : t.free ≡ s.free + 1
+
+pub and_gate-means : (s : Circuit) (a b : Literal) → IsBelow s.free a → IsBelow s.free b
+    → Means s (and_gate a b s) (IsNext s) (λ v l. literal_value v l ≡ (literal_value v a && literal_value v b))
+and_gate-means s a b ha hb = Means-keep s _ _ _ _ (and_gate-gives s a b ha hb) (λ h. record { below = h; next = and_gate-free a b s })
+
+pub or_gate-means : (s : Circuit) (a b : Literal) → IsBelow s.free a → IsBelow s.free b
+    → Means s (or_gate a b s) (IsNext s) (λ v l. literal_value v l ≡ (literal_value v a || literal_value v b))
+or_gate-means s a b ha hb = Means-keep s _ _ _ _ (or_gate-gives s a b ha hb) (λ h. record { below = h; next = or_gate-free a b s })
+
+pub xor_gate-means : (s : Circuit) (a b : Literal) → IsBelow s.free a → IsBelow s.free b
+    → Means s (xor_gate a b s) (IsNext s) (λ v l. literal_value v l ≡ differ (literal_value v a) (literal_value v b))
+xor_gate-means s a b ha hb = Means-keep s _ _ _ _ (xor_gate-gives s a b ha hb) (λ h. record { below = h; next = xor_gate-free a b s })
+
+pub mux_gate-means : (s : Circuit) (c a b : Literal) → IsBelow s.free c → IsBelow s.free a → IsBelow s.free b
+    → Means s (mux_gate c a b s) (IsNext s) (λ v l. literal_value v l ≡ cond (literal_value v c) (literal_value v a) (literal_value v b))
+mux_gate-means s c a b hc ha hb = Means-keep s _ _ _ _ (mux_gate-gives s c a b hc ha hb) (λ h. record { below = h; next = mux_gate-free c a b s })
 
 -- that a sequence of gates only adds clauses, for `search`
 pub ruleset gates_begin = (begins-after, xor_gate-begins, and_gate-begins, or_gate-begins, mux_gate-begins, BeginsWith-refl)
