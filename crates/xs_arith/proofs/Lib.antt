@@ -1,0 +1,5 @@
+pub mod Numbers
+pub mod Orders
+pub mod DigitMeans
+pub mod WordMeans
+pub mod SumMeans

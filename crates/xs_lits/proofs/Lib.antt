@@ -1,4 +1,0 @@
-pub mod CodeLemmas
-pub mod ListLemmas
-pub mod ModelLemmas
-pub mod TruthLemmas
