@@ -1,0 +1,4 @@
+pub mod CodeLemmas
+pub mod ListLemmas
+pub mod ModelLemmas
+pub mod TruthLemmas
