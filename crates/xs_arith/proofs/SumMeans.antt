@@ -1,6 +1,6 @@
 -- What the gates of sums and differences mean.
-use Rattle.std.proofs.Common.{◌≡◌, ℕ, zero, suc, ◌+◌, ◌-◌, ◌*◌, ◌^◌, ◌<◌, ◌≤◌, Bool, true, false, not, ◌&&◌, ◌||◌, List, [], ◌∷◌, length, map, ◌++◌, refl, sym, ◌∙◌, ap, subst, arith, rules, ℤ, pos, ◌+ℤ◌, ◌-ℤ◌, neg_ℤ}
-use Rattle.std.specs.Prelude.{zip}
+use Rattle.std.proofs.Common.{◌≡◌, ℕ, zero, suc, ◌+◌, ◌-◌, ◌*◌, ◌^◌, ◌<◌, ◌≤◌, Bool, true, false, not, ◌&&◌, ◌||◌, List, [], ◌∷◌, length, map, ◌++◌, refl, sym, ◌∙◌, ap, subst, arith, rules, ℤ, pos, ◌+ℤ◌, ◌-ℤ◌, neg_ℤ, drop, Some}
+use Rattle.std.specs.Prelude.{zip, slice_get}
 use Rattle.std.specs.List.{AllByRecursion}
 use Rattle.std.proofs.lemmas.Int.{ints}
 use Rattle.std.proofs.lemmas.List.{length-map, length-append, append-nil}
@@ -8,15 +8,15 @@ use Rattle.xs_lits.specs.Literal.{Literal, opposite}
 use Rattle.xs_lits.specs.Models.{TotalAssignment, literal_value, IsBelow}
 use Rattle.xs_gates.specs.Circuit.{Circuit, after, fold_gates}
 use Rattle.xs_gates.specs.Gates.{differ, constant_lit}
-use Rattle.xs_gates.specs.Meaning.{AllBelow, Means, HasTruth, BeginsWith}
-use Rattle.xs_gates.proofs.Extension.{each-weaker, AllBelow-more, AllBelow-append, Means-after, Means-done, Means-weaker, Means-fold, begins-after, BeginsWith-refl}
+use Rattle.xs_gates.specs.Meaning.{AllBelow, Means, HasTruth, BeginsWith, StopsWithin}
+use Rattle.xs_gates.proofs.Extension.{each-weaker, AllBelow-more, AllBelow-append, Means-after, Means-done, Means-weaker, Means-fold, Means-keep, begins-after, BeginsWith-refl, StopsWithin-here}
 use Rattle.xs_gates.proofs.Rows.{gates_begin, and_gate-means, or_gate-means, xor_gate-means}
-use Rattle.xs_gates.proofs.Turns.{fold_gates-begins}
+use Rattle.xs_gates.proofs.Turns.{Turns, Turns-end, Turns-between, Turns-here, Turns-next, Turns-stops, fold_gates-begins}
 use Rattle.xs_arith.specs.Bits.{carry_of, signed_value, IsCutTo}
-use Rattle.xs_arith.specs.Words.{word_value, fit, IsWordOf}
+use Rattle.xs_arith.specs.Words.{word_value, fit, IsWordOf, IsOfWidth, GivesCut}
 use Rattle.xs_arith.specs.Sums.{full_adder, sum_step, sum_gates, add_gates, subtract_gates, negate_gates}
 use Rattle.xs_arith.proofs.Numbers.{add_bits, plain_bits-cut, subtract_bits-cut, SameModulo-add, SameModulo-sub, IsCutTo-same}
-use Rattle.xs_arith.proofs.WordMeans.{PairBelow, PairBelow-later, zip-below, length-pairs, map-first, map-second, map-push, IsSized, length-fit, length-values, AllBelow-fit, AllBelow-opposite, map-opposite, word_value-fit}
+use Rattle.xs_arith.proofs.WordMeans.{PairBelow, PairBelow-later, zip-below, length-pairs, map-first, map-second, map-push, slice_get-zip, IsSized, width_of, length-fit, length-values, AllBelow-fit, AllBelow-opposite, map-opposite, word_value-fit}
 
 pub full_adder-means : (s : Circuit) (x y c : Literal) → IsBelow s.free x → IsBelow s.free y → IsBelow s.free c
     → Means s (full_adder x y c s) (λ t r. IsBelow t.free r.0 × IsBelow t.free r.1 × (t.free ≡ s.free + 5))
@@ -164,3 +164,52 @@ negate_gates-means a n s t f h wa =
     Means-weaker s _ _ (IsSized n (s.free + 5 * n)) _ _ (subtract_gates-means (constant_lit false ∷ []) a n s t f h (record { signed = omega arith; below = (f, tt) }) wa)
     (λ w. w)
     (λ v old c. subst (λ (z : ℤ). IsCutTo n z (word_value v (negate_gates a n s).1)) (ap (λ z. z -ℤ word_value v a) (zero_word v (t v old)) ∙ omega (arith, ints)) c)
+
+pub add_gates-gives : (a b : List Literal) (n : ℕ) (s : Circuit) → HasTruth s → 1 < s.free → 0 < n → IsWordOf s a → IsWordOf s b
+    → GivesCut s (add_gates a b n s).0 (add_gates a b n s).1 n (λ v. word_value v a +ℤ word_value v b)
+add_gates-gives a b n s t f h wa wb = Means-keep s _ _ (IsOfWidth n) _ (add_gates-means a b n s t f h wa wb) (width_of n _ _ _)
+
+pub subtract_gates-gives : (a b : List Literal) (n : ℕ) (s : Circuit) → HasTruth s → 1 < s.free → 0 < n → IsWordOf s a → IsWordOf s b
+    → GivesCut s (subtract_gates a b n s).0 (subtract_gates a b n s).1 n (λ v. word_value v a -ℤ word_value v b)
+subtract_gates-gives a b n s t f h wa wb = Means-keep s _ _ (IsOfWidth n) _ (subtract_gates-means a b n s t f h wa wb) (width_of n _ _ _)
+
+pub negate_gates-gives : (a : List Literal) (n : ℕ) (s : Circuit) → HasTruth s → 1 < s.free → 0 < n → IsWordOf s a
+    → GivesCut s (negate_gates a n s).0 (negate_gates a n s).1 n (λ v. neg_ℤ (word_value v a))
+negate_gates-gives a n s t f h wa = Means-keep s _ _ (IsOfWidth n) _ (negate_gates-means a n s t f h wa) (width_of n _ _ _)
+
+-- ---- the loop over the places
+
+module _ (a b : List Literal) (c : Literal) (s : Circuit) (n limit : ℕ) (w : List Literal) (i : ℕ) (carry : Literal) (g : Circuit)
+    (turns : Turns sum_step (SumShape n limit) (zip a b) s (fold_gates sum_step (zip a b) ([], c) s) i (w, carry) g) where
+  pub sum_loop-end : length (zip a b) ≤ i → sum_gates a b c s ≡ (g, w)
+  unfolding sum_gates after
+  sum_loop-end h =
+      ap (λ (z : Circuit × (List Literal × Literal)). (z.0, z.1.0)) (Turns-end sum_step (SumShape n limit) sum_step-adds (zip a b) s _ i (w, carry) g turns h)
+
+  pub sum_loop-between : StopsWithin s g (sum_gates a b c s).0
+  unfolding sum_gates
+  sum_loop-between =
+      StopsWithin-here _ _ _ _ (Turns-between sum_step (SumShape n limit) sum_step-adds (zip a b) s _ i (w, carry) g turns) (λ r t. BeginsWith-refl t.clauses)
+
+  module _ (x y : Literal) (ex : slice_get a i ≡ Some x) (ey : slice_get b i ≡ Some y) where
+    pair_is : slice_get (zip a b) i ≡ Some (x, y)
+    pair_is = slice_get-zip a b i x y ex ey
+
+    pub sum_loop-here : SumShape n limit ((x, y) ∷ drop (i + 1) (zip a b)) g (w, carry)
+    sum_loop-here = Turns-here sum_step (SumShape n limit) sum_step-adds (zip a b) s _ i (w, carry) g turns (x, y) pair_is
+
+    pub sum_loop-next : (t : Circuit) (r d : Literal) → full_adder x y carry g ≡ (t, (r, d))
+        → Turns sum_step (SumShape n limit) (zip a b) s (fold_gates sum_step (zip a b) ([], c) s) (i + 1) (w ++ r ∷ [], d) t
+    unfolding sum_step after
+    sum_loop-next t r d e =
+        Turns-next sum_step (SumShape n limit) sum_step-adds (zip a b) s _ i (w, carry) g turns (x, y) pair_is t (w ++ r ∷ [], d)
+        (ap (λ (z : Circuit × (Literal × Literal)). (z.0, (w ++ z.1.0 ∷ [], z.1.1))) e)
+        (sum_step-turn n limit (λ v. []) (x, y) (drop (i + 1) (zip a b)) (w, carry) g sum_loop-here).shape
+
+    pub sum_loop-stops : (new : Circuit) → StopsWithin g new (full_adder x y carry g).0 → StopsWithin s new (sum_gates a b c s).0
+    unfolding sum_gates sum_step
+    sum_loop-stops new h =
+        StopsWithin-here _ _ _ _
+        (Turns-stops sum_step (SumShape n limit) sum_step-adds (zip a b) s _ i (w, carry) g turns (x, y) pair_is new
+        (StopsWithin-here _ _ _ _ h (λ r t. BeginsWith-refl t.clauses)))
+        (λ r t. BeginsWith-refl t.clauses)

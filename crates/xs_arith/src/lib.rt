@@ -1,5 +1,6 @@
-//! Words of literals.
+//! Words of literals, and the gates of their arithmetic.
 #![tactic(auto)]
 
-/// A list of literals.
-pub type Word = xs_value::Items<xs_lits::lit::Lit>;
+pub mod compare;
+pub mod sums;
+pub mod word;
