@@ -9,14 +9,14 @@ use Rattle.xs_lits.specs.Models.{TotalAssignment, literal_value, IsBelow}
 use Rattle.xs_lits.proofs.ModelLemmas.{literal_value-opposite}
 use Rattle.xs_gates.specs.Circuit.{Circuit, after, fold_gates}
 use Rattle.xs_gates.specs.Gates.{constant_lit}
-use Rattle.xs_gates.specs.Meaning.{AllBelow, Means, HasTruth, BeginsWith}
-use Rattle.xs_gates.proofs.Extension.{AllBelow-more, AllBelow-append, Means-after, Means-done, Means-weaker, Means-fold, begins-after, BeginsWith-refl}
+use Rattle.xs_gates.specs.Meaning.{AllBelow, Means, GivesBool, HasTruth, BeginsWith, StopsWithin}
+use Rattle.xs_gates.proofs.Extension.{AllBelow-more, AllBelow-append, Means-after, Means-done, Means-weaker, Means-fold, begins-after, BeginsWith-refl, Means-keep, StopsWithin-here}
 use Rattle.xs_gates.proofs.Rows.{and_gate-means, or_gate-means, and_gate-begins, or_gate-begins}
-use Rattle.xs_gates.proofs.Turns.{fold_gates-begins}
+use Rattle.xs_gates.proofs.Turns.{Turns, Turns-end, Turns-here, Turns-next, Turns-stops, fold_gates-begins}
 use Rattle.xs_arith.specs.Bits.{bit_value}
 use Rattle.xs_arith.specs.Words.{sign_of, zeros, push_gate, map_gates}
 use Rattle.xs_arith.specs.Counts.{true_count, count_gate, count_step, first_from, at_most_gates}
-use Rattle.xs_arith.proofs.WordMeans.{PairBelow, PairBelow-later, zip-below, MapsTo, map_gates-means, push_gate-adds, IsSized, AllBelow-zeros, sign-below}
+use Rattle.xs_arith.proofs.WordMeans.{PairBelow, PairBelow-later, zip-below, slice_get-zip, MapsTo, map_gates-means, push_gate-adds, IsSized, AllBelow-zeros, sign-below}
 
 -- ---- one literal more
 
@@ -194,3 +194,62 @@ at_most_gates-means lits n s t f hl =
 pub at_most_gates-adds : (lits : List Literal) (n : ℕ) (s : Circuit) → BeginsWith (at_most_gates lits n s).0.clauses s.clauses
 unfolding at_most_gates
 at_most_gates-adds lits n s = begins-after s _ _ (fold_gates-begins count_step count_step-adds lits _ s) (λ ds t. BeginsWith-refl t.clauses)
+
+pub at_most_gates-gives : (lits : List Literal) (n : ℕ) (s : Circuit) → HasTruth s → 1 < s.free → AllBelow s.free lits
+    → GivesBool s (at_most_gates lits n s).0 (at_most_gates lits n s).1 (λ v. leb (true_count v lits) n)
+at_most_gates-gives lits n s t f hl = Means-keep s _ _ (λ u l. IsBelow u.free l) _ (at_most_gates-means lits n s t f hl) (λ h. h.0)
+
+-- ---- the loop over the counters
+
+pub neighbours : (xs : List Literal) (i : ℕ) (x y : Literal) → slice_get xs i ≡ Some x → slice_get xs (i + 1) ≡ Some y → slice_get (zip xs (drop 1 xs)) i ≡ Some (x, y)
+neighbours [] i x y e f = cc
+neighbours (a ∷ xs) i x y e f =
+    let next : suc i ≡ i + 1 = omega arith in
+    slice_get-zip (a ∷ xs) xs i x y e (ap (slice_get (a ∷ xs)) next ∙ f)
+
+pub length-neighbours : (xs : List Literal) → 0 < length xs → length (zip xs (drop 1 xs)) + 1 ≡ length xs
+length-neighbours [] h = absurd (omega arith)
+length-neighbours (x ∷ xs) h = omega (arith, length-tail x xs)
+
+pub neighbours-below : (n : ℕ) (xs : List Literal) → AllBelow n xs → AllByRecursion (PairBelow n) (zip xs (drop 1 xs))
+neighbours-below n [] h = tt
+neighbours-below n (x ∷ xs) h = zip-below n (x ∷ xs) xs h h.1
+
+pub count_step-stops : (l : Literal) (cs : List Literal) (s new : Circuit) → StopsWithin s new (map_gates (count_gate l) (zip cs (drop 1 cs)) [] s).0 → StopsWithin s new (count_step l cs s).0
+unfolding count_step
+count_step-stops l cs s new h = StopsWithin-here _ _ _ _ h (λ w t. BeginsWith-refl t.clauses)
+
+pub count_step-exact : (l : Literal) (cs : List Literal) (s t : Circuit) (w : List Literal) → map_gates (count_gate l) (zip cs (drop 1 cs)) [] s ≡ (t, w) → count_step l cs s ≡ (t, w ++ sign_of cs ∷ [])
+unfolding count_step after
+count_step-exact l cs s t w e = ap (λ (z : Circuit × List Literal). (z.0, z.1 ++ sign_of cs ∷ [])) e
+
+-- ---- the loop over the literals
+
+module _ (lits : List Literal) (n : ℕ) (s : Circuit) (limit : ℕ) (cs : List Literal) (i : ℕ) (g : Circuit)
+    (turns : Turns count_step (CountShape n limit) lits s (fold_gates count_step lits (zeros (n + 1) ++ constant_lit true ∷ []) s) i cs g) where
+  pub count_loop-end : length lits ≤ i → at_most_gates lits n s ≡ (g, opposite (first_from (constant_lit false) cs))
+  unfolding at_most_gates after
+  count_loop-end h =
+      ap (λ (z : Circuit × List Literal). (z.0, opposite (first_from (constant_lit false) z.1))) (Turns-end count_step (CountShape n limit) count_step-adds lits s _ i cs g turns h)
+
+  pub count_loop-long : length cs ≡ suc (suc n)
+  count_loop-long = turns.shape.long
+
+  module _ (l : Literal) (e : slice_get lits i ≡ Some l) where
+    pub count_loop-here : CountShape n limit (l ∷ drop (i + 1) lits) g cs
+    count_loop-here = Turns-here count_step (CountShape n limit) count_step-adds lits s _ i cs g turns l e
+
+    pub count_loop-stops : (new : Circuit) → StopsWithin g new (count_step l cs g).0 → StopsWithin s new (at_most_gates lits n s).0
+    unfolding at_most_gates
+    count_loop-stops new h =
+        StopsWithin-here _ _ _ _ (Turns-stops count_step (CountShape n limit) count_step-adds lits s _ i cs g turns l e new h) (λ ds t. BeginsWith-refl t.clauses)
+
+    pub count_loop-next : (t : Circuit) (ds : List Literal) → count_step l cs g ≡ (t, ds)
+        → Turns count_step (CountShape n limit) lits s (fold_gates count_step lits (zeros (n + 1) ++ constant_lit true ∷ []) s) (i + 1) ds t
+    count_loop-next t ds k =
+        Turns-next count_step (CountShape n limit) count_step-adds lits s _ i cs g turns l e t ds k
+        (count_step-turn n limit (λ v. 0) l (drop (i + 1) lits) cs g count_loop-here).shape
+
+pub first-at : (cs : List Literal) (c : Literal) → slice_get cs 0 ≡ Some c → first_from (constant_lit false) cs ≡ c
+first-at [] c e = cc
+first-at (d ∷ ds) c e = cc

@@ -9,6 +9,7 @@ use Rattle.std.proofs.Math.Nat.{pow-succ'}
 use Rattle.xs_lits.specs.Literal.{Literal}
 use Rattle.xs_lits.specs.Models.{literal_value, TotalAssignment}
 use Rattle.xs_gates.specs.Gates.{differ, constant_lit}
+use Rattle.xs_gates.specs.Meaning.{AllBelow}
 use Rattle.xs_arith.specs.Bits.{bit_value, natural_value, last_from, last_bit, signed_value}
 use Rattle.xs_arith.specs.Words.{word_value}
 use Rattle.xs_arith.specs.Numbers.{digits_from, number_word}
@@ -108,3 +109,16 @@ not_same true true = refl
 not_same true false = refl
 not_same false true = refl
 not_same false false = refl
+
+digits-below : (f n : ℕ) (s : Bool) (m : ℕ) → 1 < m → AllBelow m (digits_from f n s)
+unfolding digits_from
+digits-below zero n s m h = (h, tt)
+digits-below (suc f) n s m h =
+    elim (eqb n 0) as (λ b. AllBelow m (cond b (constant_lit s ∷ []) (constant_lit (differ (eqb (n % 2) 1) s) ∷ digits_from f (n / 2) s))) [
+      | true ↦ (h, tt)
+      | false ↦ (h, digits-below f (n / 2) s m h)
+    ]
+
+pub number_word-below : (z : ℤ) (m : ℕ) → 1 < m → AllBelow m (number_word z)
+number_word-below (pos n) m h = digits-below 64 n false m h
+number_word-below (negsuc n) m h = digits-below 64 n true m h

@@ -1,6 +1,6 @@
 -- What the gates of a product mean.
-use Rattle.std.proofs.Common.{◌≡◌, ℕ, zero, suc, ◌+◌, ◌-◌, ◌*◌, ◌^◌, ◌<◌, ◌≤◌, Bool, true, false, not, ◌&&◌, List, [], ◌∷◌, ◌++◌, length, map, take, drop, refl, sym, ◌∙◌, ap, subst, arith, rules, pow-add, ℤ, pos, negsuc, neg_ℤ, ◌+ℤ◌, ◌*ℤ◌}
-use Rattle.std.specs.Prelude.{replicate}
+use Rattle.std.proofs.Common.{◌≡◌, ℕ, zero, suc, ◌+◌, ◌-◌, ◌*◌, ◌^◌, ◌<◌, ◌≤◌, Bool, true, false, not, ◌&&◌, List, [], ◌∷◌, ◌++◌, length, map, take, drop, refl, sym, ◌∙◌, ap, subst, arith, rules, pow-add, ℤ, pos, negsuc, neg_ℤ, ◌+ℤ◌, ◌*ℤ◌, Some}
+use Rattle.std.specs.Prelude.{replicate, slice_get}
 use Rattle.std.specs.List.{AllByRecursion}
 use borrow.Author.Differences.{up, down}
 use Rattle.std.proofs.lemmas.Int.{ints}
@@ -11,14 +11,14 @@ use Rattle.xs_lits.specs.Literal.{Literal}
 use Rattle.xs_lits.specs.Models.{TotalAssignment, literal_value, IsBelow}
 use Rattle.xs_gates.specs.Circuit.{Circuit, after, fold_gates}
 use Rattle.xs_gates.specs.Gates.{and_gate, constant_lit}
-use Rattle.xs_gates.specs.Meaning.{AllBelow, Means, HasTruth, BeginsWith, Extends}
-use Rattle.xs_gates.proofs.Extension.{AllBelow-more, AllBelow-append, Means-after, Means-done, Means-weaker, Means-fold, begins-after, BeginsWith-refl, HasTruth-later}
+use Rattle.xs_gates.specs.Meaning.{AllBelow, Means, HasTruth, BeginsWith, Extends, StopsWithin}
+use Rattle.xs_gates.proofs.Extension.{AllBelow-more, AllBelow-append, Means-after, Means-done, Means-weaker, Means-fold, begins-after, BeginsWith-refl, HasTruth-later, Means-keep, StopsWithin-here, StopsWithin-later}
 use Rattle.xs_gates.proofs.Rows.{and_gate-means, and_gate-begins}
-use Rattle.xs_gates.proofs.Turns.{fold_gates-begins}
+use Rattle.xs_gates.proofs.Turns.{Turns, Turns-end, Turns-here, Turns-next, Turns-stops, fold_gates-begins}
 use Rattle.xs_arith.specs.Bits.{bit_value, natural_value, signed_value, SameModulo, IsCutTo}
-use Rattle.xs_arith.specs.Words.{fit, zeros, word_value, IsWordOf, push_gate, map_gates}
+use Rattle.xs_arith.specs.Words.{fit, zeros, word_value, IsWordOf, IsOfWidth, GivesCut, push_gate, map_gates}
 use Rattle.xs_arith.specs.Sums.{sum_gates}
-use Rattle.xs_arith.specs.Products.{row_gates, product_step, multiply_gates}
+use Rattle.xs_arith.specs.Products.{row_gates, product_step, product_gates, multiply_gates}
 use Rattle.xs_arith.proofs.Numbers.{SameModulo-refl, SameModulo-sym, SameModulo-trans, SameModulo-signed, signed_value-cut, add_bits, natural_value-add_bits}
 use Rattle.xs_arith.proofs.WordMeans.{MapsTo, map_gates-means, push_gate-adds, IsSized, length-fit, AllBelow-fit, AllBelow-zeros, word_value-fit, length-values}
 use Rattle.xs_arith.proofs.SumMeans.{sum_gates-means, sum_gates-adds}
@@ -194,6 +194,33 @@ product-first a bs n s ea eb f ha hb = record {
   least = f;
 }
 
+pub product_gates-means : (a b : List Literal) (n : ℕ) (s : Circuit) → length a ≡ n → length b ≡ n → HasTruth s → 1 < s.free → AllBelow s.free a → AllBelow s.free b
+    → Means s (product_gates a b s) (λ t x. (length x ≡ n) × AllBelow t.free x × (t.free ≤ s.free + 6 * n * n))
+    (λ v x. SameModulo (2 ^ n) (pos (value_of v a * value_of v b)) (pos (value_of v x)))
+unfolding product_gates
+product_gates-means a b n s ea eb t f ha hb =
+    let target : TotalAssignment → ℕ = λ v. value_of v a * value_of v b in
+    let limit : ℕ = s.free + 6 * n * n in
+    subst (λ k. Means s (after (fold_gates (product_step a) b (0, zeros k) s) (λ r t. (t, r.1))) (λ t x. (length x ≡ n) × AllBelow t.free x × (t.free ≤ s.free + 6 * n * n))
+    (λ v x. SameModulo (2 ^ n) (pos (value_of v a * value_of v b)) (pos (value_of v x)))) (sym ea)
+    (Means-after s _ _ _ _ _ _
+    (Means-weaker s _ _ (ProductShape n limit a []) _ (λ v r. SameModulo (2 ^ n) (pos (target v)) (pos (value_of v r.1)))
+    (Means-fold (product_step a) (ProductShape n limit a) (ProductTo n a target) (product_step-turn n limit a target) b (0, zeros n) s (product-first a b n s ea eb f ha hb))
+    (λ k. k)
+    (λ v old k.
+    let one : v 1 ≡ true = t v old in
+    let start : value_of v a * value_of v b ≡ value_of v (zeros n) + 2 ^ 0 * (value_of v b * value_of v a) = omega (arith, zeros_value v n one) in
+    SameModulo-trans (k (λ u. SameModulo-natural (2 ^ n) _ _ 0 (omega (arith, start))) one) (SameModulo-natural (2 ^ n) _ _ 0 (omega arith))))
+    (λ r u hr e. Means-done u r.1 _ _ (hr.long, hr.word, omega (arith, hr.room)) (λ v i k. k)))
+  where
+    zeros_value : (v : TotalAssignment) (n : ℕ) → v 1 ≡ true → value_of v (zeros n) ≡ 0
+    zeros_value v zero t = refl
+    zeros_value v (suc n) t = omega (arith, zeros_value v n t, ap (λ b. bit_value (not b)) t)
+
+pub product_gates-adds : (a b : List Literal) (s : Circuit) → BeginsWith (product_gates a b s).0.clauses s.clauses
+unfolding product_gates
+product_gates-adds a b s = begins-after s _ _ (fold_gates-begins (product_step a) (product_step-adds a) b (0, zeros (length a)) s) (λ r t. BeginsWith-refl t.clauses)
+
 pub multiply_gates-means : (a b : List Literal) (n : ℕ) (s : Circuit) → HasTruth s → 1 < s.free → 0 < n → IsWordOf s a → IsWordOf s b
     → Means s (multiply_gates a b n s) (λ t x. (length x ≡ n) × AllBelow t.free x × (t.free ≤ s.free + 6 * n * n))
     (λ v x. IsCutTo n (word_value v a *ℤ word_value v b) (word_value v x))
@@ -201,28 +228,71 @@ unfolding multiply_gates
 multiply_gates-means a b n s t f h wa wb =
     let x : List Literal = fit n a in
     let y : List Literal = fit n b in
-    let target : TotalAssignment → ℕ = λ v. value_of v x * value_of v y in
-    Means-after s _ _ _ _ _ _
-    (Means-weaker s _ _ (ProductShape n (s.free + 6 * n * n) x []) _ (λ v r. v 1 ≡ true × SameModulo (2 ^ n) (pos (target v)) (pos (value_of v r.1)))
-    (Means-fold (product_step x) (ProductShape n (s.free + 6 * n * n) x) (ProductTo n x target) (product_step-turn n (s.free + 6 * n * n) x target) y (0, zeros n) s
-    (product-first x y n s (length-fit n a) (length-fit n b) f (AllBelow-fit n s.free a f wa.below) (AllBelow-fit n s.free b f wb.below)))
+    let product : Means s (product_gates x y s) (λ t x. (length x ≡ n) × AllBelow t.free x × (t.free ≤ s.free + 6 * n * n)) (λ v z. SameModulo (2 ^ n) (pos (value_of v x * value_of v y)) (pos (value_of v z))) =
+    product_gates-means x y n s (length-fit n a) (length-fit n b) t f (AllBelow-fit n s.free a f wa.below) (AllBelow-fit n s.free b f wb.below)
+    in
+    Means-weaker s _ _ (λ t x. (length x ≡ n) × AllBelow t.free x × (t.free ≤ s.free + 6 * n * n)) _ _ product
     (λ k. k)
     (λ v old k.
-    let one : v 1 ≡ true = t v old in
-    let start : value_of v x * value_of v y ≡ value_of v (zeros n) + 2 ^ 0 * (value_of v y * value_of v x) = omega (arith, zeros_value v n one) in
-    (one, SameModulo-trans (k (λ u. SameModulo-natural (2 ^ n) _ _ 0 (omega (arith, start))) one) (SameModulo-natural (2 ^ n) _ _ 0 (omega arith)))))
-    (λ r u hr e.
-    Means-done u r.1 _ _ (hr.long, hr.word, omega (arith, hr.room))
-    (λ v i k.
     let na : SameModulo (2 ^ n) (word_value v a) (pos (value_of v x)) = SameModulo-trans (word_value-fit v n a wa.signed) (SameModulo-signed (map (literal_value v) x) n (length-values v n a)) in
     let nb : SameModulo (2 ^ n) (word_value v b) (pos (value_of v y)) = SameModulo-trans (word_value-fit v n b wb.signed) (SameModulo-signed (map (literal_value v) y) n (length-values v n b)) in
-    signed_value-cut (map (literal_value v) r.1) n (word_value v a *ℤ word_value v b) (length-map r.1 (literal_value v) ∙ hr.long) h
-    (SameModulo-trans (SameModulo-mul na nb) k.1)))
-  where
-    zeros_value : (v : TotalAssignment) (n : ℕ) → v 1 ≡ true → value_of v (zeros n) ≡ 0
-    zeros_value v zero t = refl
-    zeros_value v (suc n) t = omega (arith, zeros_value v n t, ap (λ b. bit_value (not b)) t)
+    signed_value-cut (map (literal_value v) (product_gates x y s).1) n (word_value v a *ℤ word_value v b) (length-map (product_gates x y s).1 (literal_value v) ∙ product.shape.0) h
+    (SameModulo-trans (SameModulo-mul na nb) k))
+
+pub multiply_gates-gives : (a b : List Literal) (n : ℕ) (s : Circuit) → HasTruth s → 1 < s.free → 0 < n → IsWordOf s a → IsWordOf s b
+    → GivesCut s (multiply_gates a b n s).0 (multiply_gates a b n s).1 n (λ v. word_value v a *ℤ word_value v b)
+multiply_gates-gives a b n s t f h wa wb = Means-keep s _ _ (IsOfWidth n) _ (multiply_gates-means a b n s t f h wa wb) (λ k. record { long = k.0; below = k.1 })
 
 pub multiply_gates-adds : (a b : List Literal) (n : ℕ) (s : Circuit) → BeginsWith (multiply_gates a b n s).0.clauses s.clauses
 unfolding multiply_gates
-multiply_gates-adds a b n s = begins-after s _ _ (fold_gates-begins (product_step (fit n a)) (product_step-adds (fit n a)) (fit n b) (0, zeros n) s) (λ r t. BeginsWith-refl t.clauses)
+multiply_gates-adds a b n s = product_gates-adds (fit n a) (fit n b) s
+
+-- ---- the loops
+
+pub slice_get-take : {A : Type 0} (xs : List A) (n i : ℕ) (x : A) → i < n → slice_get xs i ≡ Some x → slice_get (take n xs) i ≡ Some x
+slice_get-take xs zero i x h e = absurd (omega arith)
+slice_get-take [] (suc n) i x h e = cc
+slice_get-take (y ∷ xs) (suc n) zero x h e = e
+slice_get-take (y ∷ xs) (suc n) (suc i) x h e = slice_get-take xs n i x (omega arith) e
+
+pub row-sized : (b : Literal) (i : ℕ) (a : List Literal) (s t : Circuit) (w : List Literal) → 1 < s.free → i ≤ length a → IsBelow s.free b → AllBelow s.free a
+    → row_gates b i a s ≡ (t, w) → IsSized (length a) (s.free + (length a - i)) t w
+row-sized b i a s t w f h hb ha e = subst (λ (z : Circuit × List Literal). IsSized (length a) (s.free + (length a - i)) z.0 z.1) e (row_gates-means b i a s f h hb ha).shape
+
+module _ (a b : List Literal) (s : Circuit) (n limit : ℕ) (r : List Literal) (i : ℕ) (g : Circuit)
+    (turns : Turns (product_step a) (ProductShape n limit a) b s (fold_gates (product_step a) b (0, zeros (length a)) s) i (i, r) g) where
+  pub product_loop-end : length b ≤ i → product_gates a b s ≡ (g, r)
+  unfolding product_gates after
+  product_loop-end h =
+      ap (λ (z : Circuit × (ℕ × List Literal)). (z.0, z.1.1)) (Turns-end (product_step a) (ProductShape n limit a) (product_step-adds a) b s _ i (i, r) g turns h)
+
+  module _ (x : Literal) (ex : slice_get b i ≡ Some x) where
+    pub product_loop-here : ProductShape n limit a (x ∷ drop (i + 1) b) g (i, r)
+    product_loop-here = Turns-here (product_step a) (ProductShape n limit a) (product_step-adds a) b s _ i (i, r) g turns x ex
+
+    pub product_loop-first : (new : Circuit) → StopsWithin g new (row_gates x i a g).0 → StopsWithin s new (product_gates a b s).0
+    unfolding product_gates product_step
+    product_loop-first new h =
+        StopsWithin-here _ _ _ _
+        (Turns-stops (product_step a) (ProductShape n limit a) (product_step-adds a) b s _ i (i, r) g turns x ex new
+        (StopsWithin-here _ _ _ _ h (λ row t. begins-after t _ _ (sum_gates-adds r row (constant_lit false) t) (λ sum u. BeginsWith-refl u.clauses))))
+        (λ r t. BeginsWith-refl t.clauses)
+
+    module _ (t : Circuit) (row : List Literal) (e : row_gates x i a g ≡ (t, row)) where
+      pub product_loop-second : (new : Circuit) → StopsWithin t new (sum_gates r row (constant_lit false) t).0 → StopsWithin s new (product_gates a b s).0
+      unfolding product_gates product_step
+      product_loop-second new h =
+          StopsWithin-here _ _ _ _
+          (Turns-stops (product_step a) (ProductShape n limit a) (product_step-adds a) b s _ i (i, r) g turns x ex new
+          (StopsWithin-later _ _ _ _ _ _ e (subst (λ (z : Circuit × List Literal). BeginsWith z.0.clauses g.clauses) e (row_gates-adds x i a g))
+          (StopsWithin-here _ _ _ _ h (λ sum u. BeginsWith-refl u.clauses))))
+          (λ r t. BeginsWith-refl t.clauses)
+
+      pub product_loop-next : (u : Circuit) (sum : List Literal) → sum_gates r row (constant_lit false) t ≡ (u, sum)
+          → Turns (product_step a) (ProductShape n limit a) b s (fold_gates (product_step a) b (0, zeros (length a)) s) (i + 1) (i + 1, sum) u
+      unfolding product_step after
+      product_loop-next u sum f =
+          Turns-next (product_step a) (ProductShape n limit a) (product_step-adds a) b s _ i (i, r) g turns x ex u (i + 1, sum)
+          (ap (λ (z : Circuit × List Literal). ((sum_gates r z.1 (constant_lit false) z.0).0, (i + 1, (sum_gates r z.1 (constant_lit false) z.0).1))) e
+          ∙ ap (λ (z : Circuit × List Literal). (z.0, (i + 1, z.1))) f)
+          (product_step-turn n limit a (λ v. 0) x (drop (i + 1) b) (i, r) g product_loop-here).shape

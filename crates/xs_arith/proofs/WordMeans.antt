@@ -1,6 +1,6 @@
 -- Words: their numbers at other widths, their signs, and words made literal by literal.
-use Rattle.std.proofs.Common.{◌≡◌, ℕ, zero, suc, ◌+◌, ◌-◌, ◌*◌, ◌^◌, ◌<◌, ◌≤◌, min, Bool, true, false, not, List, [], ◌∷◌, length, map, get_or, add-one, ◌++◌, refl, sym, ◌∙◌, ap, subst, arith, rules, ℤ, pos, Some}
-use Rattle.std.specs.Prelude.{replicate, int_lt, slice_get, zip}
+use Rattle.std.proofs.Common.{◌≡◌, ℕ, zero, suc, ◌+◌, ◌-◌, ◌*◌, ◌^◌, ◌<◌, ◌≤◌, min, Bool, true, false, not, List, [], ◌∷◌, length, map, get_or, add-one, ◌++◌, refl, sym, ◌∙◌, ap, subst, arith, rules, ℤ, pos, drop, Some}
+use Rattle.std.specs.Prelude.{replicate, int_lt, slice_get, zip, Result, Ok, Err, IfOk, OnOk}
 use Rattle.std.specs.List.{AllByRecursion}
 use Rattle.std.proofs.lemmas.List.{length-map, length-append, length-replicate, append_assoc, append-nil, map-append}
 use Rattle.xs_lits.specs.Literal.{Literal, opposite}
@@ -8,8 +8,9 @@ use Rattle.xs_lits.specs.Models.{TotalAssignment, literal_value, IsBelow}
 use Rattle.xs_lits.proofs.ModelLemmas.{literal_value-opposite}
 use Rattle.xs_gates.specs.Circuit.{Circuit, after, fold_gates}
 use Rattle.xs_gates.specs.Gates.{constant_lit}
-use Rattle.xs_gates.specs.Meaning.{AllBelow, Extends, Means, BeginsWith}
-use Rattle.xs_gates.proofs.Extension.{each-weaker, AllBelow-more, AllBelow-append, Means-after, Means-done, Means-weaker, Means-fold, begins-after, BeginsWith-refl}
+use Rattle.xs_gates.specs.Meaning.{AllBelow, Extends, Means, BeginsWith, StopsWithin}
+use Rattle.xs_gates.proofs.Extension.{each-weaker, AllBelow-more, AllBelow-append, Means-after, Means-done, Means-weaker, Means-fold, begins-after, BeginsWith-refl, StopsWithin-here}
+use Rattle.xs_gates.proofs.Turns.{Turns, Turns-first, Turns-end, Turns-between, Turns-here, Turns-next, Turns-stops}
 use Rattle.xs_arith.specs.Bits.{natural_value, last_from, last_bit, signed_value, SameModulo, IsCutTo, fit_from}
 use Rattle.xs_arith.specs.Words.{word_value, fit, sign_of, zeros, IsWordOf, IsOfWidth, push_gate, map_gates}
 use Rattle.xs_arith.proofs.Numbers.{length-fit_from, map-fit_from, SameModulo-fit_from}
@@ -227,3 +228,45 @@ module _ {X : Type 0} (gate : X → Circuit → Circuit × Literal) (k : ℕ) (B
   pub push_gate-adds : (x : X) (w : List Literal) (t : Circuit) → BeginsWith (push_gate gate x w t).0.clauses t.clauses
   unfolding push_gate
   push_gate-adds x w t = begins-after t _ _ (m.adds x t) (λ l u. BeginsWith-refl u.clauses)
+
+-- ---- what a call says of the circuit that it left
+
+pub OnOk-built : {A E : Type 0} (r : Result A E) (new : Circuit) (built : Circuit × A) (P : Circuit → Type 0) → IfOk r (λ a. built ≡ (new, a)) → P built.0 → OnOk r (P new)
+OnOk-built (Ok a) new built P is p = subst (λ (x : Circuit × _). P x.0) is p
+OnOk-built (Err e) new built P is p = tt
+
+-- ---- the loop over the items
+
+-- the loop has given w after i items
+abbrev pub MapTurns : {X : Type 0} → (X → Circuit → Circuit × Literal) → ℕ → (ℕ → X → Type 0) → List X → List Literal → Circuit → ℕ → List Literal → Circuit → Type 0
+MapTurns gate k B xs w0 s i w g = Turns (push_gate gate) (MapShape k B (length w0 + length xs) (s.free + k * length xs)) xs s (map_gates gate xs w0 s) i w g
+
+pub map_loop-start : {X : Type 0} (gate : X → Circuit → Circuit × Literal) (k : ℕ) (B : ℕ → X → Type 0) (f : TotalAssignment → X → Bool) (m : MapsTo gate k B f)
+    (xs : List X) (w0 : List Literal) (s : Circuit) → AllByRecursion (B s.free) xs → AllBelow s.free w0 → MapTurns gate k B xs w0 s 0 w0 s
+map_loop-start gate k B f m xs w0 s hx hw = Turns-first (push_gate gate) (MapShape k B (length w0 + length xs) (s.free + k * length xs)) xs w0 s (map_gates-first gate k B f m xs w0 s hx hw)
+
+module _ {X : Type 0} (gate : X → Circuit → Circuit × Literal) (k : ℕ) (B : ℕ → X → Type 0) (f : TotalAssignment → X → Bool) (m : MapsTo gate k B f)
+    (xs : List X) (w0 : List Literal) (s : Circuit) (n limit : ℕ) (w : List Literal) (i : ℕ) (g : Circuit)
+    (turns : Turns (push_gate gate) (MapShape k B n limit) xs s (map_gates gate xs w0 s) i w g) where
+  pub map_loop-end : length xs ≤ i → map_gates gate xs w0 s ≡ (g, w)
+  map_loop-end h = Turns-end (push_gate gate) (MapShape k B n limit) (push_gate-adds gate k B f m) xs s _ i w g turns h
+
+  pub map_loop-between : StopsWithin s g (map_gates gate xs w0 s).0
+  map_loop-between = Turns-between (push_gate gate) (MapShape k B n limit) (push_gate-adds gate k B f m) xs s _ i w g turns
+
+  module _ (x : X) (e : slice_get xs i ≡ Some x) where
+    pub map_loop-here : MapShape k B n limit (x ∷ drop (i + 1) xs) g w
+    map_loop-here = Turns-here (push_gate gate) (MapShape k B n limit) (push_gate-adds gate k B f m) xs s _ i w g turns x e
+
+    pub map_loop-stops : (new : Circuit) → StopsWithin g new (gate x g).0 → StopsWithin s new (map_gates gate xs w0 s).0
+    unfolding push_gate
+    map_loop-stops new h =
+        Turns-stops (push_gate gate) (MapShape k B n limit) (push_gate-adds gate k B f m) xs s _ i w g turns x e new
+        (StopsWithin-here _ _ _ _ h (λ l u. BeginsWith-refl u.clauses))
+
+    pub map_loop-next : (t : Circuit) (l : Literal) → gate x g ≡ (t, l) → Turns (push_gate gate) (MapShape k B n limit) xs s (map_gates gate xs w0 s) (i + 1) (w ++ l ∷ []) t
+    unfolding push_gate after
+    map_loop-next t l h =
+        Turns-next (push_gate gate) (MapShape k B n limit) (push_gate-adds gate k B f m) xs s _ i w g turns x e t (w ++ l ∷ [])
+        (ap (λ (z : Circuit × Literal). (z.0, w ++ z.1 ∷ [])) h)
+        (push_gate-turn gate k B f m n limit (λ v. []) x (drop (i + 1) xs) w g map_loop-here).shape

@@ -15,5 +15,9 @@ unfoldable pub product_step : List Literal → Literal → ℕ × List Literal �
 product_step a b r s =
     after (row_gates b r.0 a s) (λ row t. after (sum_gates r.1 row (constant_lit false) t) (λ sum u. (u, (r.0 + 1, sum))))
 
+-- the product of two words of one length, cut to it
+unfoldable pub product_gates : List Literal → List Literal → Circuit → Circuit × List Literal
+product_gates a b s = after (fold_gates (product_step a) b (0, zeros (length a)) s) (λ r t. (t, r.1))
+
 unfoldable pub multiply_gates : List Literal → List Literal → ℕ → Circuit → Circuit × List Literal
-multiply_gates a b width s = after (fold_gates (product_step (fit width a)) (fit width b) (0, zeros width) s) (λ r t. (t, r.1))
+multiply_gates a b width s = product_gates (fit width a) (fit width b) s

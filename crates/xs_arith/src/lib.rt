@@ -2,5 +2,8 @@
 #![tactic(auto)]
 
 pub mod compare;
+pub mod constants;
+pub mod counts;
+pub mod products;
 pub mod sums;
 pub mod word;
