@@ -14,9 +14,9 @@ use Rattle.xs_gates.proofs.Extension.{AllBelow-more, AllBelow-append, Means-afte
 use Rattle.xs_gates.proofs.Rows.{and_gate-means, or_gate-means, and_gate-begins, or_gate-begins}
 use Rattle.xs_gates.proofs.Turns.{Turns, Turns-end, Turns-here, Turns-next, Turns-stops, fold_gates-begins}
 use Rattle.xs_arith.specs.Bits.{bit_value}
-use Rattle.xs_arith.specs.Words.{sign_of, zeros, push_gate, map_gates}
+use Rattle.xs_arith.specs.Words.{sign_of, zeros, push_gate, map_gates, IsSized}
 use Rattle.xs_arith.specs.Counts.{true_count, count_gate, count_step, first_from, at_most_gates}
-use Rattle.xs_arith.proofs.WordMeans.{PairBelow, PairBelow-later, zip-below, slice_get-zip, MapsTo, map_gates-means, push_gate-adds, IsSized, AllBelow-zeros, sign-below}
+use Rattle.xs_arith.proofs.WordMeans.{PairBelow, PairBelow-later, zip-below, slice_get-zip, MapsTo, map_gates-means, push_gate-adds, AllBelow-zeros, sign-below}
 
 -- ---- one literal more
 

@@ -6,3 +6,5 @@ pub mod SumMeans
 pub mod TestMeans
 pub mod CountMeans
 pub mod ProductMeans
+pub mod QuotientMeans
+pub mod DivideMeans

@@ -16,11 +16,11 @@ use Rattle.xs_gates.proofs.Extension.{AllBelow-more, AllBelow-append, Means-afte
 use Rattle.xs_gates.proofs.Rows.{and_gate-means, and_gate-begins}
 use Rattle.xs_gates.proofs.Turns.{Turns, Turns-end, Turns-here, Turns-next, Turns-stops, fold_gates-begins}
 use Rattle.xs_arith.specs.Bits.{bit_value, natural_value, signed_value, SameModulo, IsCutTo}
-use Rattle.xs_arith.specs.Words.{fit, zeros, word_value, IsWordOf, IsOfWidth, GivesCut, push_gate, map_gates}
+use Rattle.xs_arith.specs.Words.{fit, zeros, word_value, IsWordOf, IsOfWidth, GivesCut, push_gate, map_gates, IsSized}
 use Rattle.xs_arith.specs.Sums.{sum_gates}
 use Rattle.xs_arith.specs.Products.{row_gates, product_step, product_gates, multiply_gates}
 use Rattle.xs_arith.proofs.Numbers.{SameModulo-refl, SameModulo-sym, SameModulo-trans, SameModulo-signed, signed_value-cut, add_bits, natural_value-add_bits}
-use Rattle.xs_arith.proofs.WordMeans.{MapsTo, map_gates-means, push_gate-adds, IsSized, length-fit, AllBelow-fit, AllBelow-zeros, word_value-fit, length-values}
+use Rattle.xs_arith.proofs.WordMeans.{MapsTo, map_gates-means, push_gate-adds, length-fit, AllBelow-fit, AllBelow-zeros, word_value-fit, length-values}
 use Rattle.xs_arith.proofs.SumMeans.{sum_gates-means, sum_gates-adds}
 
 -- ---- products up to a multiple of m

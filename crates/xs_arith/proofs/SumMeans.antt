@@ -13,10 +13,10 @@ use Rattle.xs_gates.proofs.Extension.{each-weaker, AllBelow-more, AllBelow-appen
 use Rattle.xs_gates.proofs.Rows.{gates_begin, and_gate-means, or_gate-means, xor_gate-means}
 use Rattle.xs_gates.proofs.Turns.{Turns, Turns-end, Turns-between, Turns-here, Turns-next, Turns-stops, fold_gates-begins}
 use Rattle.xs_arith.specs.Bits.{carry_of, signed_value, IsCutTo}
-use Rattle.xs_arith.specs.Words.{word_value, fit, IsWordOf, IsOfWidth, GivesCut}
+use Rattle.xs_arith.specs.Words.{word_value, fit, IsWordOf, IsOfWidth, GivesCut, IsSized}
 use Rattle.xs_arith.specs.Sums.{full_adder, sum_step, sum_gates, add_gates, subtract_gates, negate_gates}
 use Rattle.xs_arith.proofs.Numbers.{add_bits, plain_bits-cut, subtract_bits-cut, SameModulo-add, SameModulo-sub, IsCutTo-same}
-use Rattle.xs_arith.proofs.WordMeans.{PairBelow, PairBelow-later, zip-below, length-pairs, map-first, map-second, map-push, slice_get-zip, IsSized, width_of, length-fit, length-values, AllBelow-fit, AllBelow-opposite, map-opposite, word_value-fit}
+use Rattle.xs_arith.proofs.WordMeans.{PairBelow, PairBelow-later, zip-below, length-pairs, map-first, map-second, map-push, slice_get-zip, width_of, length-fit, length-values, AllBelow-fit, AllBelow-opposite, map-opposite, word_value-fit}
 
 pub full_adder-means : (s : Circuit) (x y c : Literal) → IsBelow s.free x → IsBelow s.free y → IsBelow s.free c
     → Means s (full_adder x y c s) (λ t r. IsBelow t.free r.0 × IsBelow t.free r.1 × (t.free ≡ s.free + 5))

@@ -12,7 +12,7 @@ use Rattle.xs_gates.specs.Meaning.{AllBelow, Extends, Means, BeginsWith, StopsWi
 use Rattle.xs_gates.proofs.Extension.{each-weaker, AllBelow-more, AllBelow-append, Means-after, Means-done, Means-weaker, Means-fold, begins-after, BeginsWith-refl, StopsWithin-here}
 use Rattle.xs_gates.proofs.Turns.{Turns, Turns-first, Turns-end, Turns-between, Turns-here, Turns-next, Turns-stops}
 use Rattle.xs_arith.specs.Bits.{natural_value, last_from, last_bit, signed_value, SameModulo, IsCutTo, fit_from}
-use Rattle.xs_arith.specs.Words.{word_value, fit, sign_of, zeros, IsWordOf, IsOfWidth, push_gate, map_gates}
+use Rattle.xs_arith.specs.Words.{word_value, fit, sign_of, zeros, IsWordOf, IsOfWidth, IsSized, push_gate, map_gates}
 use Rattle.xs_arith.proofs.Numbers.{length-fit_from, map-fit_from, SameModulo-fit_from}
 use Rattle.xs_arith.proofs.Orders.{Fits, Fits-signed, signed_value-fit_from, last_bit-sign}
 
@@ -172,12 +172,6 @@ map-second f (x ∷ xs) (y ∷ ys) e = ap (λ z. f y ∷ z) (map-second f xs ys 
 
 pub map-push : {A B : Type 0} (f : A → B) (w : List A) (x : A) (ys : List B) → map f (w ++ x ∷ []) ++ ys ≡ map f w ++ f x ∷ ys
 map-push f w x ys = ap (λ z. z ++ ys) (map-append f w (x ∷ [])) ∙ append_assoc (map f w) (f x ∷ []) ys
-
--- a word of n literals, after which `limit` is the next free variable
-pub record IsSized (n limit : ℕ) (s : Circuit) (w : List Literal) : Type 0 where
-  pub long : length w ≡ n
-  pub below : AllBelow s.free w
-  pub free : s.free ≡ limit
 
 pub width_of : (n limit : ℕ) (s : Circuit) (w : List Literal) → IsSized n limit s w → IsOfWidth n s w
 width_of n limit s w h = record { long = h.long; below = h.below }

@@ -34,20 +34,20 @@ quotient_step b bit a s = after (divide_bit b bit a.1 s) (λ x t. (t, (a.0 ++ x.
 unfoldable pub long_division_gates : List Literal → List Literal → Circuit → Circuit × (List Literal × List Literal)
 long_division_gates a b s = after (fold_gates (quotient_step b) (reverse a) ([], zeros (length b)) s) (λ r t. (t, (reverse r.0, r.1)))
 
--- the quotient and the remainder of the two without their signs, at one bit more than they have
-unfoldable pub magnitudes_gates : List Literal → List Literal → Circuit → Circuit × (List Literal × List Literal)
-magnitudes_gates a b s =
-    after (magnitude_gates a (max (length a) (length b) + 1) s) (λ x s1.
-    after (magnitude_gates b (max (length a) (length b) + 1) s1) (λ y s2. long_division_gates x y s2))
+-- the quotient and the remainder of the two without their signs, at that width
+unfoldable pub magnitudes_gates : List Literal → List Literal → ℕ → Circuit → Circuit × (List Literal × List Literal)
+magnitudes_gates a b width s =
+    after (magnitude_gates a width s) (λ x s1. after (magnitude_gates b width s1) (λ y s2. long_division_gates x y s2))
 
--- the quotient is negated where the signs differ
+-- At one bit more than the two have. The quotient is negated where the signs differ.
 unfoldable pub divide_gates : List Literal → List Literal → ℕ → Circuit → Circuit × List Literal
 divide_gates a b width s =
-    after (magnitudes_gates a b s) (λ r s1.
+    after (magnitudes_gates a b (max (length a) (length b) + 1) s) (λ r s1.
     after (xor_gate (sign_of a) (sign_of b) s1) (λ c s2.
     after (negate_where_gates c r.0 s2) (λ q s3. (s3, fit width q))))
 
 -- the remainder has the sign of the dividend
 unfoldable pub remainder_gates : List Literal → List Literal → ℕ → Circuit → Circuit × List Literal
 remainder_gates a b width s =
-    after (magnitudes_gates a b s) (λ r s1. after (negate_where_gates (sign_of a) r.1 s1) (λ m s2. (s2, fit width m)))
+    after (magnitudes_gates a b (max (length a) (length b) + 1) s) (λ r s1.
+    after (negate_where_gates (sign_of a) r.1 s1) (λ m s2. (s2, fit width m)))

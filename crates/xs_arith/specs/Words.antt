@@ -33,6 +33,12 @@ pub record IsOfWidth (n : ℕ) (s : Circuit) (w : List Literal) : Type 0 where
   pub long : length w ≡ n
   pub below : AllBelow s.free w
 
+-- a word of n literals, after which `limit` is the next free variable
+pub record IsSized (n limit : ℕ) (s : Circuit) (w : List Literal) : Type 0 where
+  pub long : length w ≡ n
+  pub below : AllBelow s.free w
+  pub free : s.free ≡ limit
+
 -- w was built onto old, has that width, and is the number z, cut to it, in each assignment that makes the clauses true
 abbrev pub GivesCut : Circuit → Circuit → List Literal → ℕ → (TotalAssignment → ℤ) → Type 0
 GivesCut old new w width z = Means old (new, w) (IsOfWidth width) (λ v x. IsCutTo width (z v) (word_value v x))

@@ -5,5 +5,6 @@ pub mod compare;
 pub mod constants;
 pub mod counts;
 pub mod products;
+pub mod quotients;
 pub mod sums;
 pub mod word;

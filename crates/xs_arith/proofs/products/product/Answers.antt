@@ -4,10 +4,9 @@ use Rattle.xs_gates.specs.Gates.{constant_lit}
 use Rattle.xs_gates.specs.Meaning.{StopsWithin}
 use Rattle.xs_gates.proofs.Extension.{OnErr-from, StopsWithin-none, AllBelow-more}
 use Rattle.xs_gates.proofs.Turns.{Turns-first}
-use Rattle.xs_arith.specs.Words.{zeros}
+use Rattle.xs_arith.specs.Words.{zeros, IsSized}
 use Rattle.xs_arith.specs.Sums.{sum_gates}
 use Rattle.xs_arith.specs.Products.{product_step}
-use Rattle.xs_arith.proofs.WordMeans.{IsSized}
 use Rattle.xs_arith.proofs.ProductMeans.{ProductShape, product-first, product_gates-adds, row-sized, product_loop-end, product_loop-here, product_loop-first, product_loop-second, product_loop-next}
 use Rattle.xs_arith.proofs.products.product.Goals as goal
 use Rattle.xs_arith.proofs.products.product.Goals.{After-at, In_ok-row}
