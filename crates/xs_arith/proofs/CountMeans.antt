@@ -1,6 +1,6 @@
 -- What the gates that count mean.
-use Rattle.std.proofs.Common.{◌≡◌, ℕ, zero, suc, ◌+◌, ◌-◌, ◌*◌, ◌<◌, ◌≤◌, Bool, true, false, not, ◌&&◌, ◌||◌, leb, List, [], ◌∷◌, ◌++◌, length, map, drop, refl, sym, ◌∙◌, ap, subst, arith, rules, Some}
-use Rattle.std.specs.Prelude.{replicate, zip, slice_get}
+use Rattle.std.proofs.Common.{◌≡◌, ℕ, zero, suc, ◌+◌, ◌*◌, ◌<◌, ◌≤◌, Bool, true, false, not, ◌&&◌, ◌||◌, leb, List, [], ◌∷◌, ◌++◌, length, map, drop, refl, sym, ◌∙◌, ap, subst, arith, Some}
+use Rattle.std.specs.Prelude.{zip, slice_get}
 use Rattle.std.specs.List.{AllByRecursion}
 use Rattle.std.proofs.lemmas.List.{length-append, length-replicate, map-append}
 use Rattle.std.proofs.lemmas.Bool.Decides.{nat_tests}
@@ -14,7 +14,7 @@ use Rattle.xs_gates.proofs.Extension.{AllBelow-more, AllBelow-append, Means-afte
 use Rattle.xs_gates.proofs.Rows.{and_gate-means, or_gate-means, and_gate-begins, or_gate-begins}
 use Rattle.xs_gates.proofs.Turns.{Turns, Turns-end, Turns-here, Turns-next, Turns-stops, fold_gates-begins}
 use Rattle.xs_arith.specs.Bits.{bit_value}
-use Rattle.xs_arith.specs.Words.{sign_of, zeros, push_gate, map_gates, IsSized}
+use Rattle.xs_arith.specs.Words.{sign_of, zeros, push_gate, map_gates}
 use Rattle.xs_arith.specs.Counts.{true_count, count_gate, count_step, first_from, at_most_gates}
 use Rattle.xs_arith.proofs.WordMeans.{PairBelow, PairBelow-later, zip-below, slice_get-zip, MapsTo, map_gates-means, push_gate-adds, AllBelow-zeros, sign-below}
 

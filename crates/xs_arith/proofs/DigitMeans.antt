@@ -1,5 +1,5 @@
 -- What the word of a number means.
-use Rattle.std.proofs.Common.{◌≡◌, ℕ, zero, suc, ◌+◌, ◌-◌, ◌*◌, ◌/◌, ◌%◌, ◌^◌, ◌<◌, ◌≤◌, Bool, true, false, not, cond, eqb, List, [], ◌∷◌, ◌++◌, length, map, append_assoc, w64, refl, sym, ◌∙◌, ap, subst, arith, rules, inl, inr, ℤ, pos, negsuc, ◌+ℤ◌, ◌-ℤ◌, eq-eqb}
+use Rattle.std.proofs.Common.{◌≡◌, ℕ, zero, suc, ◌*◌, ◌/◌, ◌%◌, ◌^◌, ◌<◌, Bool, true, false, not, cond, eqb, List, [], ◌∷◌, ◌++◌, length, map, append_assoc, w64, refl, sym, ◌∙◌, ap, arith, inl, inr, ℤ, pos, negsuc, ◌+ℤ◌}
 use Rattle.std.specs.Prelude.{FitsSigned}
 use Rattle.std.proofs.Math.Bool.{beq}
 use Rattle.std.proofs.lemmas.Int.{ints}
@@ -9,9 +9,10 @@ use Rattle.std.proofs.Math.Nat.{pow-succ'}
 use Rattle.xs_lits.specs.Literal.{Literal}
 use Rattle.xs_lits.specs.Models.{literal_value, TotalAssignment}
 use Rattle.xs_gates.specs.Gates.{differ, constant_lit}
+use Rattle.xs_gates.specs.Circuit.{Circuit}
 use Rattle.xs_gates.specs.Meaning.{AllBelow}
-use Rattle.xs_arith.specs.Bits.{bit_value, natural_value, last_from, last_bit, signed_value}
-use Rattle.xs_arith.specs.Words.{word_value}
+use Rattle.xs_arith.specs.Bits.{bit_value, last_from, signed_value}
+use Rattle.xs_arith.specs.Words.{word_value, IsWordOf}
 use Rattle.xs_arith.specs.Numbers.{digits_from, number_word}
 
 pub constant-value : (v : TotalAssignment) (b : Bool) → v 1 ≡ true → literal_value v (constant_lit b) ≡ b
@@ -119,6 +120,6 @@ digits-below (suc f) n s m h =
       | false ↦ (h, digits-below f (n / 2) s m h)
     ]
 
-pub number_word-below : (z : ℤ) (m : ℕ) → 1 < m → AllBelow m (number_word z)
-number_word-below (pos n) m h = digits-below 64 n false m h
-number_word-below (negsuc n) m h = digits-below 64 n true m h
+pub number_word-word : (z : ℤ) (s : Circuit) → 1 < s.free → IsWordOf s (number_word z)
+number_word-word (pos n) s h = record { signed = digits_from-some 64 n false; below = digits-below 64 n false s.free h }
+number_word-word (negsuc n) s h = record { signed = digits_from-some 64 n true; below = digits-below 64 n true s.free h }

@@ -1,6 +1,6 @@
 -- Division: the signs, and the loops of the calls.
-use Rattle.std.proofs.Common.{◌≡◌, ◌≢◌, ℕ, zero, suc, ◌+◌, ◌-◌, ◌*◌, ◌/◌, ◌%◌, ◌^◌, ◌<◌, ◌≤◌, max, Bool, true, false, cond, List, [], ◌∷◌, ◌++◌, length, map, take, drop, reverse, refl, sym, ◌∙◌, ap, subst, arith, ℤ, pos, negsuc, neg_ℤ, nat_abs, ◌≤ℤ◌, ◌<ℤ◌, Some}
-use Rattle.std.specs.Prelude.{int_lt, int_div, int_rem, zip, slice_get}
+use Rattle.std.proofs.Common.{◌≡◌, ◌≢◌, ℕ, zero, suc, ◌+◌, ◌-◌, ◌*◌, ◌/◌, ◌%◌, ◌^◌, ◌<◌, ◌≤◌, max, false, cond, List, [], ◌∷◌, ◌++◌, length, map, take, drop, reverse, refl, sym, ◌∙◌, ap, subst, arith, ℤ, pos, negsuc, neg_ℤ, nat_abs, Some}
+use Rattle.std.specs.Prelude.{int_lt, int_div, int_rem, slice_get}
 use Rattle.std.proofs.lemmas.Int.{ints}
 use Rattle.std.proofs.Math.Nat.{pow-succ', div-le_self, mod-le}
 use Rattle.xs_lits.specs.Literal.{Literal, opposite}
@@ -12,14 +12,14 @@ use Rattle.xs_gates.proofs.Extension.{AllBelow-more, Means-after, Means-done, Me
 use Rattle.xs_gates.proofs.Rows.{xor_gate-means, xor_gate-begins}
 use Rattle.xs_gates.proofs.Turns.{Turns, Turns-end, Turns-between, Turns-here, Turns-next, Turns-stops}
 use Rattle.xs_arith.specs.Bits.{signed_value, IsCutTo}
-use Rattle.xs_arith.specs.Words.{word_value, fit, sign_of, zeros, IsWordOf, IsOfWidth, IsSized}
+use Rattle.xs_arith.specs.Words.{word_value, fit, sign_of, zeros, IsWordOf, IsOfWidth}
 use Rattle.xs_arith.specs.Sums.{subtract_gates, less_gates, negate_gates}
 use Rattle.xs_arith.specs.Quotients.{choose_gates, negate_where_gates, magnitude_gates, divide_bit, quotient_step, long_division_gates, magnitudes_gates, divide_gates, remainder_gates}
 use Rattle.xs_arith.proofs.Orders.{Fits}
 use Rattle.xs_arith.proofs.WordMeans.{AllBelow-fit, length-fit, sign-below, sign-value, word_value-fit, Fits-word}
 use Rattle.xs_arith.proofs.SumMeans.{subtract_gates-adds}
 use Rattle.xs_arith.proofs.TestMeans.{less_gates-adds}
-use Rattle.xs_arith.proofs.QuotientMeans.{choose_gates-means, choose_gates-adds, value_chosen, negate_where_gates-means, negate_where_gates-adds, magnitude_gates-means, magnitude_gates-adds, divide_cost, divide_bit-adds, DivideShape, quotient_step-turn, quotient_step-adds, long_division_gates-means, long_division_gates-adds}
+use Rattle.xs_arith.proofs.QuotientMeans.{choose_gates-means, choose_gates-adds, value_chosen, negate_where_gates-means, negate_where_gates-adds, magnitude_gates-means, magnitude_gates-adds, divide_cost, DivideShape, quotient_step-turn, quotient_step-adds, long_division_gates-means, long_division_gates-adds}
 
 pub choose_gates-gives : (c : Literal) (xs ys : List Literal) (s : Circuit) → length xs ≡ length ys → IsBelow s.free c → AllBelow s.free xs → AllBelow s.free ys
     → Means s (choose_gates c xs ys s) (IsOfWidth (length xs)) (λ v w. word_value v w ≡ cond (literal_value v c) (word_value v xs) (word_value v ys))

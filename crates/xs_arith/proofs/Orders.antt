@@ -1,14 +1,13 @@
 -- Where numbers in two's complement are exact, and how their bits compare.
-use Rattle.std.proofs.Common.{◌≡◌, ℕ, zero, suc, ◌+◌, ◌-◌, ◌*◌, ◌^◌, ◌<◌, ◌≤◌, max, Bool, true, false, not, cond, ◌&&◌, ◌||◌, List, [], ◌∷◌, length, map, refl, sym, ◌∙◌, ap, subst, arith, rules, inl, inr, ℤ, pos, negsuc, ◌+ℤ◌, ◌-ℤ◌, ◌≤ℤ◌, ◌<ℤ◌, neg_ℤ}
+use Rattle.std.proofs.Common.{◌≡◌, ℕ, zero, suc, ◌+◌, ◌-◌, ◌*◌, ◌^◌, ◌<◌, ◌≤◌, Bool, true, false, not, ◌&&◌, List, [], ◌∷◌, length, refl, sym, ◌∙◌, ap, arith, ℤ, pos, ◌-ℤ◌, ◌≤ℤ◌, ◌<ℤ◌, neg_ℤ}
 use Rattle.std.specs.Prelude.{int_lt}
 use Rattle.std.specs.Ordering.{int_eq}
 use Rattle.std.proofs.lemmas.Int.{ints}
-use Rattle.std.proofs.lemmas.Bool.{cases_order, cases_Bool, and_parts, and_from, not-true}
 use Rattle.std.proofs.lemmas.Bool.Decides.{Decides-int_eq}
-use Rattle.std.proofs.Math.Nat.{pow-succ', mul-le-mul_left}
+use Rattle.std.proofs.Math.Nat.{pow-succ'}
 use Rattle.std.proofs.Math.Pow.{pow_mono}
 use Rattle.xs_gates.specs.Gates.{differ}
-use Rattle.xs_arith.specs.Bits.{bit_value, natural_value, last_from, last_bit, signed_value, IsCutTo, SameModulo, fit_from}
+use Rattle.xs_arith.specs.Bits.{bit_value, natural_value, last_bit, signed_value, IsCutTo, fit_from}
 use Rattle.xs_arith.proofs.Numbers.{natural_value-below, signed_value-cut, IsCutTo-fits, SameModulo-fit_from, SameModulo-signed, SameModulo-trans, SameModulo-refl, length-fit_from}
 
 -- ---- what fits a number of bits

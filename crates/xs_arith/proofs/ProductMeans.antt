@@ -1,25 +1,25 @@
 -- What the gates of a product mean.
-use Rattle.std.proofs.Common.{◌≡◌, ℕ, zero, suc, ◌+◌, ◌-◌, ◌*◌, ◌^◌, ◌<◌, ◌≤◌, Bool, true, false, not, ◌&&◌, List, [], ◌∷◌, ◌++◌, length, map, take, drop, refl, sym, ◌∙◌, ap, subst, arith, rules, pow-add, ℤ, pos, negsuc, neg_ℤ, ◌+ℤ◌, ◌*ℤ◌, Some}
-use Rattle.std.specs.Prelude.{replicate, slice_get}
+use Rattle.std.proofs.Common.{◌≡◌, ℕ, zero, suc, ◌+◌, ◌-◌, ◌*◌, ◌^◌, ◌<◌, ◌≤◌, Bool, true, false, not, ◌&&◌, List, [], ◌∷◌, ◌++◌, length, map, take, drop, refl, sym, ◌∙◌, ap, subst, arith, pow-add, ℤ, pos, negsuc, neg_ℤ, ◌*ℤ◌, Some}
+use Rattle.std.specs.Prelude.{slice_get}
 use Rattle.std.specs.List.{AllByRecursion}
 use borrow.Author.Differences.{up, down}
 use Rattle.std.proofs.lemmas.Int.{ints}
-use Rattle.std.proofs.lemmas.List.{length-map, length-append, length-replicate, length-take-le, take-map}
+use Rattle.std.proofs.lemmas.List.{length-map, length-replicate, length-take-le, take-map}
 use Rattle.std.proofs.Math.IntN.{*ℤ-negsuc, *ℤ_comm}
 use Rattle.std.proofs.Math.Nat.{pow-succ'}
 use Rattle.xs_lits.specs.Literal.{Literal}
 use Rattle.xs_lits.specs.Models.{TotalAssignment, literal_value, IsBelow}
 use Rattle.xs_gates.specs.Circuit.{Circuit, after, fold_gates}
 use Rattle.xs_gates.specs.Gates.{and_gate, constant_lit}
-use Rattle.xs_gates.specs.Meaning.{AllBelow, Means, HasTruth, BeginsWith, Extends, StopsWithin}
-use Rattle.xs_gates.proofs.Extension.{AllBelow-more, AllBelow-append, Means-after, Means-done, Means-weaker, Means-fold, begins-after, BeginsWith-refl, HasTruth-later, Means-keep, StopsWithin-here, StopsWithin-later}
+use Rattle.xs_gates.specs.Meaning.{AllBelow, Means, HasTruth, BeginsWith, StopsWithin}
+use Rattle.xs_gates.proofs.Extension.{AllBelow-more, Means-after, Means-done, Means-weaker, Means-fold, begins-after, BeginsWith-refl, Means-keep, StopsWithin-here, StopsWithin-later}
 use Rattle.xs_gates.proofs.Rows.{and_gate-means, and_gate-begins}
 use Rattle.xs_gates.proofs.Turns.{Turns, Turns-end, Turns-here, Turns-next, Turns-stops, fold_gates-begins}
-use Rattle.xs_arith.specs.Bits.{bit_value, natural_value, signed_value, SameModulo, IsCutTo}
-use Rattle.xs_arith.specs.Words.{fit, zeros, word_value, IsWordOf, IsOfWidth, GivesCut, push_gate, map_gates, IsSized}
+use Rattle.xs_arith.specs.Bits.{bit_value, natural_value, SameModulo, IsCutTo}
+use Rattle.xs_arith.specs.Words.{fit, zeros, word_value, IsWordOf, IsOfWidth, GivesCut, push_gate, IsSized}
 use Rattle.xs_arith.specs.Sums.{sum_gates}
 use Rattle.xs_arith.specs.Products.{row_gates, product_step, product_gates, multiply_gates}
-use Rattle.xs_arith.proofs.Numbers.{SameModulo-refl, SameModulo-sym, SameModulo-trans, SameModulo-signed, signed_value-cut, add_bits, natural_value-add_bits}
+use Rattle.xs_arith.proofs.Numbers.{SameModulo-trans, SameModulo-signed, signed_value-cut, add_bits, natural_value-add_bits}
 use Rattle.xs_arith.proofs.WordMeans.{MapsTo, map_gates-means, push_gate-adds, length-fit, AllBelow-fit, AllBelow-zeros, word_value-fit, length-values}
 use Rattle.xs_arith.proofs.SumMeans.{sum_gates-means, sum_gates-adds}
 

@@ -1,6 +1,6 @@
 -- What the gates of a quotient mean.
-use Rattle.std.proofs.Common.{◌≡◌, ℕ, zero, suc, ◌+◌, ◌-◌, ◌*◌, ◌/◌, ◌%◌, ◌^◌, ◌<◌, ◌≤◌, max, Bool, true, false, not, cond, List, [], ◌∷◌, ◌++◌, length, map, take, drop, reverse, refl, sym, ◌∙◌, ap, subst, arith, rules, ℤ, pos, negsuc, neg_ℤ, nat_abs, ◌+ℤ◌, ◌-ℤ◌, ◌≤ℤ◌, ◌<ℤ◌, Some}
-use Rattle.std.specs.Prelude.{int_lt, int_div, int_rem, zip, slice_get, replicate}
+use Rattle.std.proofs.Common.{◌≡◌, ℕ, zero, suc, ◌+◌, ◌-◌, ◌*◌, ◌/◌, ◌%◌, ◌^◌, ◌<◌, ◌≤◌, Bool, true, false, not, cond, List, [], ◌∷◌, ◌++◌, length, map, take, drop, reverse, refl, sym, ◌∙◌, ap, subst, arith, ℤ, pos, negsuc, neg_ℤ, nat_abs, ◌+ℤ◌, ◌-ℤ◌, ◌≤ℤ◌, ◌<ℤ◌}
+use Rattle.std.specs.Prelude.{int_lt, zip}
 use Rattle.std.specs.List.{AllByRecursion}
 use Rattle.std.proofs.lemmas.Int.{ints}
 use Rattle.std.proofs.lemmas.Nat.{div-mul-add, div-add-mod'}
@@ -10,15 +10,14 @@ use Rattle.std.proofs.Math.Pow.{pow_mono}
 use Rattle.xs_lits.specs.Literal.{Literal, opposite}
 use Rattle.xs_lits.specs.Models.{TotalAssignment, literal_value, IsBelow}
 use Rattle.xs_lits.proofs.ModelLemmas.{literal_value-opposite}
-use Rattle.xs_gates.specs.Circuit.{Circuit, after, fold_gates}
-use Rattle.xs_gates.specs.Gates.{mux_gate, xor_gate, constant_lit, differ}
-use Rattle.xs_gates.specs.Meaning.{AllBelow, Means, HasTruth, BeginsWith, StopsWithin}
-use Rattle.xs_gates.proofs.Extension.{each-weaker, AllBelow-more, AllBelow-append, Means-after, Means-done, Means-weaker, Means-keep, Means-fold, HasTruth-later, begins-after, BeginsWith-refl, StopsWithin-here, StopsWithin-later}
-use Rattle.xs_gates.proofs.Rows.{mux_gate-means, xor_gate-means, mux_gate-begins, xor_gate-begins}
-use Rattle.xs_gates.proofs.Turns.{Turns, Turns-end, Turns-between, Turns-here, Turns-next, Turns-stops, fold_gates-begins}
-use Rattle.xs_arith.specs.Bits.{bit_value, natural_value, last_from, last_bit, signed_value, IsCutTo}
-use Rattle.xs_arith.specs.Words.{word_value, fit, sign_of, zeros, IsWordOf, IsOfWidth, push_gate, map_gates, IsSized}
-use Rattle.xs_arith.specs.Sums.{subtract_gates, less_gates, negate_gates}
+use Rattle.xs_gates.specs.Circuit.{Circuit}
+use Rattle.xs_gates.specs.Gates.{mux_gate, constant_lit}
+use Rattle.xs_gates.specs.Meaning.{AllBelow, Means, HasTruth, BeginsWith}
+use Rattle.xs_gates.proofs.Extension.{AllBelow-more, AllBelow-append, Means-after, Means-done, Means-weaker, Means-fold, HasTruth-later, begins-after, BeginsWith-refl}
+use Rattle.xs_gates.proofs.Rows.{mux_gate-means, mux_gate-begins}
+use Rattle.xs_gates.proofs.Turns.{fold_gates-begins}
+use Rattle.xs_arith.specs.Bits.{bit_value, natural_value, last_from, last_bit, signed_value}
+use Rattle.xs_arith.specs.Words.{word_value, fit, sign_of, zeros, IsWordOf, IsOfWidth, push_gate, IsSized}
 use Rattle.xs_arith.specs.Quotients.{choose_gates, negate_where_gates, magnitude_gates, divide_bit, quotient_step, long_division_gates}
 use Rattle.xs_arith.proofs.Numbers.{natural_value-below, last_from-half}
 use Rattle.xs_arith.proofs.Orders.{Fits, Fits-more, exact}
@@ -138,8 +137,7 @@ magnitude_gates-means a m s t f h wa =
     subst (λ (z : ℤ). Fits (length w) (neg_ℤ z)) (sym whole)
     (subst (λ (i : ℕ). Fits i (neg_ℤ (word_value v a))) (sym long)
     (Fits-more (suc (length a)) n _ (omega (arith, h)) (Fits-negation (length a) (word_value v a) wa.signed small)))
-    in
-    (
+    in (
       k fits
           ∙ ap (λ z. cond (literal_value v (sign_of a)) (neg_ℤ z) z) whole
           ∙ ap (λ b. cond b (neg_ℤ (word_value v a)) (word_value v a)) (sign-value v a wa.signed)
@@ -417,8 +415,7 @@ long_division_gates-means m a b s t f ha hb =
     (λ h. h)
     (λ v old k. k (λ d eb most some. record { taken = 0; rest = 0; left = digits-reverse v a; is = zeros_bits v (length b) (t v old); small = some; same = omega arith })))
     (λ q u hq e.
-    Means-done u (reverse q.0, q.1) _ _
-    (
+    Means-done u (reverse q.0, q.1) _ _ (
       record { long = length-reverse q.0 ∙ omega (arith, hq.long, ha.long); below = AllBelow-reverse u.free q.0 hq.quotient },
       hq.rest,
       omega (arith, hq.room, ap (λ k. divide_cost n * k) ha.long),
@@ -428,8 +425,7 @@ long_division_gates-means m a b s t f ha hb =
     let number : natural_value (map (literal_value v) a) ≡ x = natural_is (map (literal_value v) a) (suc m) x (length-map a (literal_value v) ∙ ha.long) ea in
     let parts : _ = by_division (digits_onto v q.0 0) d h.rest x h.small (h.same ∙ h.left ∙ number) in
     let two : 2 ^ suc m ≡ 2 * 2 ^ m = pow-succ' 2 m in
-    let small : x / d < 2 ^ suc m = omega (arith, div-le_self x d, mx, two, pow-positive m) in
-    (
+    let small : x / d < 2 ^ suc m = omega (arith, div-le_self x d, mx, two, pow-positive m) in (
       plain (map (literal_value v) (reverse q.0)) (suc m) (x / d) (length-map (reverse q.0) (literal_value v) ∙ length-reverse q.0 ∙ omega (arith, hq.long, ha.long)) (reverse-digits v q.0 ∙ parts.0) small,
       h.is ∙ ap pos parts.1,
     )))

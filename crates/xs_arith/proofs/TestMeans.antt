@@ -1,5 +1,5 @@
 -- What the gates of comparisons mean.
-use Rattle.std.proofs.Common.{◌≡◌, ℕ, ◌+◌, ◌*◌, ◌<◌, ◌≤◌, max, Bool, true, false, not, ◌&&◌, List, [], ◌∷◌, length, map, refl, sym, ◌∙◌, ap, subst, arith, rules, ℤ, pos, ◌-ℤ◌, drop, Some}
+use Rattle.std.proofs.Common.{◌≡◌, ℕ, ◌+◌, ◌*◌, ◌<◌, ◌≤◌, max, Bool, true, false, not, ◌&&◌, List, ◌∷◌, length, map, refl, sym, ◌∙◌, ap, subst, arith, pos, ◌-ℤ◌, drop, Some}
 use Rattle.std.specs.Prelude.{int_lt, zip, slice_get}
 use Rattle.std.specs.List.{AllByRecursion}
 use Rattle.std.specs.Ordering.{int_eq}
@@ -7,7 +7,7 @@ use Rattle.xs_lits.specs.Literal.{Literal, opposite}
 use Rattle.xs_lits.specs.Models.{TotalAssignment, literal_value, IsBelow}
 use Rattle.xs_lits.proofs.ModelLemmas.{literal_value-opposite}
 use Rattle.xs_gates.specs.Circuit.{Circuit, after, fold_gates}
-use Rattle.xs_gates.specs.Gates.{differ, constant_lit, and_gate, xor_gate}
+use Rattle.xs_gates.specs.Gates.{constant_lit, and_gate, xor_gate}
 use Rattle.xs_gates.specs.Meaning.{AllBelow, Means, GivesBool, HasTruth, BeginsWith, StopsWithin}
 use Rattle.xs_gates.proofs.Extension.{each-weaker, Means-after, Means-done, Means-weaker, Means-fold, Means-keep, begins-after, BeginsWith-refl, StopsWithin-here, StopsWithin-later}
 use Rattle.xs_gates.proofs.Rows.{and_gate-means, xor_gate-means, xor_gate-begins, and_gate-begins}

@@ -1,18 +1,18 @@
 -- Words: their numbers at other widths, their signs, and words made literal by literal.
-use Rattle.std.proofs.Common.{◌≡◌, ℕ, zero, suc, ◌+◌, ◌-◌, ◌*◌, ◌^◌, ◌<◌, ◌≤◌, min, Bool, true, false, not, List, [], ◌∷◌, length, map, get_or, add-one, ◌++◌, refl, sym, ◌∙◌, ap, subst, arith, rules, ℤ, pos, drop, Some}
-use Rattle.std.specs.Prelude.{replicate, int_lt, slice_get, zip, Result, Ok, Err, IfOk, OnOk}
+use Rattle.std.proofs.Common.{◌≡◌, ℕ, zero, suc, ◌+◌, ◌-◌, ◌*◌, ◌^◌, ◌<◌, ◌≤◌, min, Bool, false, not, List, [], ◌∷◌, length, map, add-one, ◌++◌, refl, sym, ◌∙◌, ap, subst, arith, pos, drop, Some}
+use Rattle.std.specs.Prelude.{int_lt, slice_get, zip, Result, Ok, Err, IfOk, OnOk}
 use Rattle.std.specs.List.{AllByRecursion}
-use Rattle.std.proofs.lemmas.List.{length-map, length-append, length-replicate, append_assoc, append-nil, map-append}
+use Rattle.std.proofs.lemmas.List.{length-map, length-append, append_assoc, append-nil, map-append}
 use Rattle.xs_lits.specs.Literal.{Literal, opposite}
 use Rattle.xs_lits.specs.Models.{TotalAssignment, literal_value, IsBelow}
 use Rattle.xs_lits.proofs.ModelLemmas.{literal_value-opposite}
-use Rattle.xs_gates.specs.Circuit.{Circuit, after, fold_gates}
+use Rattle.xs_gates.specs.Circuit.{Circuit, after}
 use Rattle.xs_gates.specs.Gates.{constant_lit}
-use Rattle.xs_gates.specs.Meaning.{AllBelow, Extends, Means, BeginsWith, StopsWithin}
+use Rattle.xs_gates.specs.Meaning.{AllBelow, Means, BeginsWith, StopsWithin}
 use Rattle.xs_gates.proofs.Extension.{each-weaker, AllBelow-more, AllBelow-append, Means-after, Means-done, Means-weaker, Means-fold, begins-after, BeginsWith-refl, StopsWithin-here}
 use Rattle.xs_gates.proofs.Turns.{Turns, Turns-first, Turns-end, Turns-between, Turns-here, Turns-next, Turns-stops}
-use Rattle.xs_arith.specs.Bits.{natural_value, last_from, last_bit, signed_value, SameModulo, IsCutTo, fit_from}
-use Rattle.xs_arith.specs.Words.{word_value, fit, sign_of, zeros, IsWordOf, IsOfWidth, IsSized, push_gate, map_gates}
+use Rattle.xs_arith.specs.Bits.{last_from, signed_value, SameModulo, fit_from}
+use Rattle.xs_arith.specs.Words.{word_value, fit, sign_of, zeros, IsOfWidth, IsSized, push_gate, map_gates}
 use Rattle.xs_arith.proofs.Numbers.{length-fit_from, map-fit_from, SameModulo-fit_from}
 use Rattle.xs_arith.proofs.Orders.{Fits, Fits-signed, signed_value-fit_from, last_bit-sign}
 

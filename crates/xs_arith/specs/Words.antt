@@ -3,7 +3,7 @@ use Rattle.std.specs.Prelude.{◌≡◌, ℕ, ◌<◌, List, [], ◌∷◌, ◌+
 use Rattle.xs_lits.specs.Literal.{Literal}
 use Rattle.xs_lits.specs.Models.{TotalAssignment, literal_value}
 use Rattle.xs_gates.specs.Circuit.{Circuit, after, fold_gates}
-use Rattle.xs_gates.specs.Gates.{constant_lit, mux_gate}
+use Rattle.xs_gates.specs.Gates.{constant_lit}
 use Rattle.xs_gates.specs.Meaning.{Means, AllBelow}
 use Rattle.xs_arith.specs.Bits.{signed_value, IsCutTo, fit_from, last_from}
 

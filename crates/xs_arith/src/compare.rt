@@ -15,12 +15,7 @@ use xs_lits::lit::Lit;
 use xs_value::OutOfMemory;
 
 /// `less` at any width for which there is room.
-pub(crate) fn is_less(
-    alloc: Global,
-    g: &mut Gates,
-    a: &Word,
-    b: &Word,
-) -> Result<Lit, OutOfMemory>
+pub(crate) fn is_less(alloc: Global, g: &mut Gates, a: &Word, b: &Word) -> Result<Lit, OutOfMemory>
     requires short { (length a.now < 2 ^ 31) × (length b.now < 2 ^ 31) }
     requires left { IsWordOf g.old a.now }
     requires right { IsWordOf g.old b.now }

@@ -26,12 +26,7 @@ fn count(g: &mut Gates, more: Lit, fewer: Lit, l: Lit) -> Result<Lit, OutOfMemor
 }
 
 /// The counters with one literal more.
-fn counted(
-    alloc: Global,
-    g: &mut Gates,
-    counters: &Word,
-    l: Lit,
-) -> Result<Word, OutOfMemory>
+fn counted(alloc: Global, g: &mut Gates, counters: &Word, l: Lit) -> Result<Word, OutOfMemory>
     requires some { 0 < length counters.now }
     requires left { AllBelow g.old.free counters.now }
     requires right { IsBelow g.old.free l }

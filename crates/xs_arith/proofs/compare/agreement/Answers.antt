@@ -1,4 +1,4 @@
-use Rattle.std.proofs.Common.{◌≡◌, ◌+◌, ◌*◌, ◌<◌, [], ◌∷◌, List, length, drop, arith}
+use Rattle.std.proofs.Common.{◌+◌, ◌*◌, ◌∷◌, length, drop, arith}
 use Rattle.std.specs.Prelude.{zip}
 use Rattle.xs_gates.proofs.Extension.{OnErr-from}
 use Rattle.xs_gates.proofs.Turns.{Turns-first}

@@ -1,13 +1,12 @@
-use Rattle.std.proofs.Common.{◌≡◌, ◌<◌, ◌≤◌, ◌+◌, ◌*◌, ◌+ℤ◌, ◌-ℤ◌, neg_ℤ, ℕ, List, [], ◌∷◌, length, max, true, false, refl, sym, ◌∙◌, ap, subst, arith}
+use Rattle.std.proofs.Common.{◌≡◌, ◌<◌, length, max, true, sym, ◌∙◌, ap, subst, arith}
 use Rattle.std.specs.Prelude.{IfOk, OnErr, zip}
-use Rattle.std.proofs.lemmas.List.{length-map}
-use Rattle.xs_lits.specs.Literal.{Literal, opposite}
+use Rattle.xs_lits.specs.Literal.{Literal}
 use Rattle.xs_gates.specs.Circuit.{Circuit, fold_gates}
 use Rattle.xs_gates.specs.Gates.{constant_lit}
 use Rattle.xs_gates.specs.Meaning.{StopsWithin, GivesBool}
 use Rattle.xs_gates.proofs.Extension.{OnErr-from, IfOk-built, OnOk-free, StopsWithin-none}
-use Rattle.xs_arith.specs.Words.{fit, GivesCut, word_value}
-use Rattle.xs_arith.proofs.WordMeans.{AllBelow-fit, AllBelow-opposite, length-fit}
+use Rattle.xs_arith.specs.Words.{fit, word_value}
+use Rattle.xs_arith.proofs.WordMeans.{AllBelow-fit, length-fit}
 use Rattle.std.specs.Ordering.{int_eq}
 use Rattle.xs_arith.specs.Sums.{equal_step, equal_gates}
 use Rattle.xs_arith.proofs.TestMeans.{equal_gates-means, equal_gates-gives, equal_gates-adds}

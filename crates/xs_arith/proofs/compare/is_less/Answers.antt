@@ -1,14 +1,11 @@
-use Rattle.std.proofs.Common.{◌≡◌, ◌<◌, ◌≤◌, ◌+◌, ◌*◌, ◌+ℤ◌, ◌-ℤ◌, neg_ℤ, ℕ, List, [], ◌∷◌, length, max, true, false, refl, sym, ◌∙◌, ap, subst, arith}
-use Rattle.std.specs.Prelude.{IfOk, OnErr, int_lt}
-use Rattle.std.proofs.lemmas.List.{length-map}
-use Rattle.xs_lits.specs.Literal.{Literal, opposite}
+use Rattle.std.proofs.Common.{◌≡◌, ◌+◌, ℕ, length, max, sym, ◌∙◌, ap, subst, arith}
+use Rattle.std.specs.Prelude.{int_lt}
+use Rattle.xs_lits.specs.Literal.{Literal}
 use Rattle.xs_gates.specs.Circuit.{Circuit}
-use Rattle.xs_gates.specs.Gates.{constant_lit}
 use Rattle.xs_gates.specs.Meaning.{StopsWithin, GivesBool}
-use Rattle.xs_gates.proofs.Extension.{OnErr-from, IfOk-built, OnOk-free, StopsWithin-none}
-use Rattle.xs_arith.specs.Words.{fit, GivesCut, word_value}
-use Rattle.xs_arith.proofs.WordMeans.{AllBelow-fit, AllBelow-opposite, length-fit}
-use Rattle.xs_arith.specs.Sums.{subtract_gates, less_gates}
+use Rattle.xs_gates.proofs.Extension.{OnErr-from}
+use Rattle.xs_arith.specs.Words.{word_value}
+use Rattle.xs_arith.specs.Sums.{subtract_gates}
 use Rattle.xs_arith.proofs.TestMeans.{less_gates-gives, less_gates-exact, less_gates-stops}
 use Rattle.xs_arith.proofs.compare.is_less.Goals as goal
 

@@ -1,13 +1,11 @@
-use Rattle.std.proofs.Common.{◌≡◌, ◌<◌, ◌/◌, ◌%◌, ◌++◌, ◌∷◌, [], eqb, pos, to_z, of_z, ℕ, ℤ, List, sym, ◌∙◌, ap, subst, arith, w64}
+use Rattle.std.proofs.Common.{◌≡◌, ◌/◌, ◌%◌, ◌++◌, ◌∷◌, [], eqb, pos, to_z, of_z, List, sym, ◌∙◌, ap, subst, arith, w64}
 use Rattle.std.proofs.lemmas.Int.{to_z-of_z}
 use Rattle.std.specs.Prelude.{int_lt}
 use Rattle.xs_lits.specs.Literal.{Literal}
 use Rattle.xs_gates.specs.Gates.{constant_lit, differ}
-use Rattle.xs_gates.specs.Meaning.{AllBelow}
-use Rattle.xs_lits.specs.Models.{TotalAssignment}
-use Rattle.xs_arith.specs.Words.{word_value}
+use Rattle.xs_arith.specs.Words.{word_value, IsWordOf}
 use Rattle.xs_arith.specs.Numbers.{number_word, digits_from}
-use Rattle.xs_arith.proofs.DigitMeans.{digits_loop-step, digits_loop-end, not_same, number_word-value, number_word-below}
+use Rattle.xs_arith.proofs.DigitMeans.{digits_loop-step, digits_loop-end, not_same, number_word-value, number_word-word}
 use Rattle.xs_arith.proofs.constants.number.Goals as goal
 
 pub loop-rest-preserved : goal.loop-rest-preserved
@@ -32,7 +30,7 @@ returns-clause-exact c =
 pub returns-clause-value : goal.returns-clause-value
 returns-clause-value c = λ v t. ap (word_value v) (returns-clause-exact c) ∙ number_word-value v c.args.n t c.ranges.n
 
-pub returns-clause-below : goal.returns-clause-below
-returns-clause-below c =
-    subst (λ (w : List Literal). AllBelow c.args.g.now.free w) (sym (returns-clause-exact c))
-    (number_word-below c.args.n c.args.g.now.free (omega (arith, c.constant-2.ensures.below, ap (λ (l : Literal). l.var) c.constant-2.ensures.literal)))
+pub returns-clause-word : goal.returns-clause-word
+returns-clause-word c =
+    subst (λ (w : List Literal). IsWordOf c.args.g.now w) (sym (returns-clause-exact c))
+    (number_word-word c.args.n c.args.g.now (omega (arith, c.constant-2.ensures.below, ap (λ (l : Literal). l.var) c.constant-2.ensures.literal)))

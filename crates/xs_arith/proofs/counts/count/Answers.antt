@@ -1,4 +1,4 @@
-use Rattle.std.proofs.Common.{◌≡◌, refl}
+use Rattle.std.proofs.Common.{refl}
 use Rattle.xs_gates.specs.Circuit.{after}
 use Rattle.xs_gates.specs.Meaning.{StopsWithin}
 use Rattle.xs_gates.proofs.Extension.{OnErr-from, StopsWithin-here, StopsWithin-later}

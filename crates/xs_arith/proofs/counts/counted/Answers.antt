@@ -1,7 +1,6 @@
-use Rattle.std.proofs.Common.{◌≡◌, ◌<◌, ◌≤◌, ◌+◌, ◌-◌, ◌*◌, ◌++◌, ◌∷◌, [], ℕ, List, length, drop, refl, sym, ◌∙◌, ap, subst, arith}
+use Rattle.std.proofs.Common.{◌+◌, ◌*◌, ◌++◌, ◌∷◌, [], length, drop, sym, ◌∙◌, ap, arith}
 use Rattle.std.specs.Prelude.{zip}
 use Rattle.xs_gates.proofs.Extension.{OnErr-from}
-use Rattle.xs_lits.specs.Literal.{Literal}
 use Rattle.xs_arith.specs.Counts.{count_gate}
 use Rattle.xs_arith.proofs.WordMeans.{MapShape, map_loop-start, map_loop-end, map_loop-between, map_loop-here, map_loop-next, map_loop-stops}
 use Rattle.xs_arith.proofs.CountMeans.{Countable, Countable-zip, counted, count_gate-maps, neighbours, neighbours-below, length-neighbours, count_step-stops, count_step-exact}

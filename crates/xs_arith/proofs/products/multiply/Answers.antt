@@ -1,14 +1,12 @@
-use Rattle.std.proofs.Common.{◌≡◌, ◌<◌, ◌≤◌, ◌+◌, ◌*◌, ◌+ℤ◌, ◌*ℤ◌, ◌-ℤ◌, neg_ℤ, ℕ, List, [], ◌∷◌, length, max, true, false, refl, sym, ◌∙◌, ap, subst, arith}
+use Rattle.std.proofs.Common.{◌≡◌, ◌<◌, ◌≤◌, ◌+◌, ◌*◌, ◌*ℤ◌, ℕ, List, length, refl, sym, ◌∙◌, ap, subst, arith}
 use Rattle.std.specs.Prelude.{IfOk, OnErr}
-use Rattle.std.proofs.lemmas.List.{length-map}
 use Rattle.std.proofs.Math.Nat.{mul-le-mul_left}
-use Rattle.xs_lits.specs.Literal.{Literal, opposite}
+use Rattle.xs_lits.specs.Literal.{Literal}
 use Rattle.xs_gates.specs.Circuit.{Circuit}
-use Rattle.xs_gates.specs.Gates.{constant_lit}
 use Rattle.xs_gates.specs.Meaning.{StopsWithin}
-use Rattle.xs_gates.proofs.Extension.{OnErr-from, IfOk-built, OnOk-free, StopsWithin-none}
-use Rattle.xs_arith.specs.Words.{fit, GivesCut, word_value}
-use Rattle.xs_arith.proofs.WordMeans.{OnOk-built, AllBelow-fit, AllBelow-opposite, length-fit}
+use Rattle.xs_gates.proofs.Extension.{OnErr-from, IfOk-built, StopsWithin-none}
+use Rattle.xs_arith.specs.Words.{GivesCut, word_value}
+use Rattle.xs_arith.proofs.WordMeans.{OnOk-built, AllBelow-fit, length-fit}
 use Rattle.xs_arith.specs.Products.{product_gates, multiply_gates}
 use Rattle.xs_arith.proofs.ProductMeans.{multiply_gates-means, multiply_gates-gives, multiply_gates-adds}
 use Rattle.xs_arith.proofs.products.multiply.Goals as goal

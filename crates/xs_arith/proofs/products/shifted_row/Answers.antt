@@ -1,9 +1,7 @@
-use Rattle.std.proofs.Common.{◌≡◌, ◌<◌, ◌≤◌, ◌+◌, ◌-◌, ◌*◌, ◌++◌, ◌∷◌, [], ℕ, List, length, drop, take, ◌&&◌, refl, sym, ◌∙◌, ap, subst, arith}
+use Rattle.std.proofs.Common.{◌+◌, ◌-◌, ◌*◌, ◌∷◌, length, drop, take, ◌&&◌, arith}
 use Rattle.std.proofs.lemmas.List.{length-take-le}
-use Rattle.xs_lits.specs.Literal.{Literal}
 use Rattle.xs_lits.specs.Models.{literal_value}
 use Rattle.xs_gates.specs.Gates.{and_gate}
-use Rattle.xs_gates.specs.Circuit.{Circuit}
 use Rattle.xs_gates.specs.Meaning.{StopsWithin}
 use Rattle.xs_gates.proofs.Extension.{OnErr-from, StopsWithin-none}
 use Rattle.xs_arith.specs.Words.{zeros}

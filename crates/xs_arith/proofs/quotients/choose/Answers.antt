@@ -1,11 +1,10 @@
-use Rattle.std.proofs.Common.{◌≡◌, ◌<◌, ◌≤◌, ◌+◌, ◌-◌, ◌*◌, ◌++◌, ◌∷◌, [], ℕ, suc, List, length, drop, take, reverse, max, cond, true, false, refl, sym, ◌∙◌, ap, subst, arith, Some}
-use Rattle.std.specs.Prelude.{zip, slice_get, IfOk, OnErr}
-use Rattle.xs_lits.specs.Literal.{Literal, opposite}
+use Rattle.std.proofs.Common.{◌≡◌, ◌+◌, ◌*◌, ◌∷◌, [], List, length, drop, cond, sym, ◌∙◌, ap, subst, arith}
+use Rattle.std.specs.Prelude.{zip}
+use Rattle.xs_lits.specs.Literal.{Literal}
 use Rattle.xs_lits.specs.Models.{literal_value}
 use Rattle.xs_gates.specs.Circuit.{Circuit}
-use Rattle.xs_gates.specs.Gates.{constant_lit, xor_gate}
-use Rattle.xs_gates.specs.Meaning.{Means, StopsWithin, BeginsWith}
-use Rattle.xs_gates.proofs.Extension.{OnErr-from, StopsWithin-none, AllBelow-more}
+use Rattle.xs_gates.specs.Meaning.{Means, StopsWithin}
+use Rattle.xs_gates.proofs.Extension.{OnErr-from}
 use Rattle.xs_arith.specs.Words.{IsOfWidth, word_value}
 use Rattle.xs_arith.specs.Quotients.{choose_gates}
 use Rattle.xs_arith.proofs.WordMeans.{MapShape, zip-below, slice_get-zip, length-pairs, map_loop-start, map_loop-end, map_loop-between, map_loop-here, map_loop-next, map_loop-stops}

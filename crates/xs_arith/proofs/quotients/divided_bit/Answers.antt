@@ -1,13 +1,9 @@
-use Rattle.std.proofs.Common.{◌≡◌, ◌<◌, ◌≤◌, ◌+◌, ◌-◌, ◌*◌, ◌++◌, ◌∷◌, [], ℕ, suc, List, length, drop, take, reverse, max, cond, true, false, refl, sym, ◌∙◌, ap, subst, arith, Some}
-use Rattle.std.specs.Prelude.{zip, slice_get, IfOk, OnErr}
-use Rattle.xs_lits.specs.Literal.{Literal, opposite}
-use Rattle.xs_lits.specs.Models.{literal_value}
-use Rattle.xs_gates.specs.Circuit.{Circuit}
-use Rattle.xs_gates.specs.Gates.{constant_lit, xor_gate}
-use Rattle.xs_gates.specs.Meaning.{Means, StopsWithin, BeginsWith}
+use Rattle.std.proofs.Common.{◌≡◌, ◌∷◌, ℕ, length, take, sym, ◌∙◌, ap, subst, arith}
+use Rattle.xs_lits.specs.Literal.{Literal}
+use Rattle.xs_gates.specs.Meaning.{StopsWithin}
 use Rattle.xs_gates.proofs.Extension.{OnErr-from, StopsWithin-none, AllBelow-more}
-use Rattle.xs_arith.specs.Sums.{less_gates, subtract_gates}
-use Rattle.xs_arith.specs.Quotients.{choose_gates, divide_bit}
+use Rattle.xs_arith.specs.Sums.{subtract_gates}
+use Rattle.xs_arith.specs.Quotients.{choose_gates}
 use Rattle.xs_arith.specs.Words.{IsWordOf}
 use Rattle.std.proofs.lemmas.List.{length-take-le}
 use Rattle.xs_arith.proofs.ProductMeans.{AllBelow-take}

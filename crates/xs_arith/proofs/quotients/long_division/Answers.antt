@@ -1,19 +1,11 @@
-use Rattle.std.proofs.Common.{◌≡◌, ◌≢◌, ◌<◌, ◌≤◌, ◌+◌, ◌-◌, ◌*◌, ◌++◌, ◌∷◌, [], ℕ, suc, List, length, drop, take, reverse, max, cond, true, false, refl, sym, ◌∙◌, ap, subst, arith, Some, pos}
-use Rattle.std.specs.Prelude.{zip, slice_get, IfOk, OnErr, int_div, int_rem}
+use Rattle.std.proofs.Common.{◌≡◌, ◌+◌, ◌-◌, ◌*◌, ◌∷◌, [], suc, length, drop, reverse, sym, ◌∙◌, ap, arith}
+use Rattle.std.specs.Prelude.{slice_get}
 use Rattle.std.proofs.lemmas.List.{length-reverse}
-use Rattle.std.proofs.Math.Nat.{mul-le-mul_left}
-use Rattle.xs_lits.specs.Literal.{Literal, opposite}
-use Rattle.xs_lits.specs.Models.{literal_value, IsBelow}
-use Rattle.xs_gates.specs.Circuit.{Circuit}
-use Rattle.xs_gates.specs.Gates.{constant_lit, xor_gate}
-use Rattle.xs_gates.specs.Meaning.{Means, StopsWithin, BeginsWith}
-use Rattle.xs_gates.proofs.Extension.{OnErr-from, StopsWithin-none, AllBelow-more}
+use Rattle.xs_gates.proofs.Extension.{OnErr-from, StopsWithin-none}
 use Rattle.xs_gates.proofs.Turns.{Turns-first, Turns-last}
-use Rattle.xs_arith.specs.Bits.{IsCutTo}
-use Rattle.xs_arith.specs.Words.{fit, sign_of, zeros, word_value, IsWordOf, IsOfWidth, IsSized}
-use Rattle.xs_arith.specs.Quotients.{negate_where_gates, magnitude_gates, quotient_step, long_division_gates, magnitudes_gates, divide_gates, remainder_gates}
-use Rattle.xs_arith.proofs.WordMeans.{AllBelow-fit, length-fit, sign-below}
-use Rattle.xs_arith.proofs.QuotientMeans.{DivideShape, divide_cost, divide-first, quotient_step-adds, long_division_gates-adds, magnitude_gates-adds, AllBelow-reverse}
+use Rattle.xs_arith.specs.Words.{zeros}
+use Rattle.xs_arith.specs.Quotients.{quotient_step}
+use Rattle.xs_arith.proofs.QuotientMeans.{DivideShape, divide_cost, divide-first, quotient_step-adds, long_division_gates-adds, AllBelow-reverse}
 use Rattle.xs_arith.proofs.DivideMeans.{long_loop-end, long_loop-between, long_loop-here, long_loop-stops, long_loop-next}
 use Rattle.xs_arith.proofs.quotients.long_division.Goals as goal
 use Rattle.xs_arith.proofs.quotients.long_division.Goals.{After-at}
@@ -71,8 +63,7 @@ pub returns-clause-shape : goal.returns-clause-shape
 returns-clause-shape c =
     let last : DivideShape (length c.args.divisor.now - 2) (length c.args.dividend) (c.args.g.now.free + divide_cost (suc (suc (length c.args.divisor.now - 2))) * length c.args.dividend) c.args.divisor.now [] c.loop-i.g (c.loop-i.quotient, c.loop-i.rest) =
     Turns-last (quotient_step c.args.divisor.now) (DivideShape (length c.args.divisor.now - 2) (length c.args.dividend) (c.args.g.now.free + divide_cost (suc (suc (length c.args.divisor.now - 2))) * length c.args.dividend) c.args.divisor.now) (quotient_step-adds c.args.divisor.now) (reverse c.args.dividend) c.args.g.now _ c.loop-i.i (c.loop-i.quotient, c.loop-i.rest) c.loop-i.g c.loop-i.invariant (omega (arith, ap length c.reversed-bits.ensures))
-    in
-    (
+    in (
       rw c.reversed-quotient.ensures
           (record { long = length-reverse c.loop-i.quotient ∙ omega (arith, last.long, c.requires.same); below = AllBelow-reverse c.loop-i.g.free c.loop-i.quotient last.quotient }),
       record { long = last.rest.long ∙ sym last.divisor.long; below = last.rest.below },

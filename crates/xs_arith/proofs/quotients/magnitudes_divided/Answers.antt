@@ -1,19 +1,7 @@
-use Rattle.std.proofs.Common.{◌≡◌, ◌≢◌, ◌<◌, ◌≤◌, ◌+◌, ◌-◌, ◌*◌, ◌++◌, ◌∷◌, [], ℕ, suc, List, length, drop, take, reverse, max, cond, true, false, refl, sym, ◌∙◌, ap, subst, arith, Some, pos}
-use Rattle.std.specs.Prelude.{zip, slice_get, IfOk, OnErr, int_div, int_rem}
-use Rattle.std.proofs.lemmas.List.{length-reverse}
+use Rattle.std.proofs.Common.{◌+◌, ◌*◌, ℕ, sym, ◌∙◌, ap, subst, arith}
 use Rattle.std.proofs.Math.Nat.{mul-le-mul_left}
-use Rattle.xs_lits.specs.Literal.{Literal, opposite}
-use Rattle.xs_lits.specs.Models.{literal_value, IsBelow}
-use Rattle.xs_gates.specs.Circuit.{Circuit}
-use Rattle.xs_gates.specs.Gates.{constant_lit, xor_gate}
-use Rattle.xs_gates.specs.Meaning.{Means, StopsWithin, BeginsWith}
-use Rattle.xs_gates.proofs.Extension.{OnErr-from, StopsWithin-none, AllBelow-more}
-use Rattle.xs_gates.proofs.Turns.{Turns-first, Turns-last}
-use Rattle.xs_arith.specs.Bits.{IsCutTo}
-use Rattle.xs_arith.specs.Words.{fit, sign_of, zeros, word_value, IsWordOf, IsOfWidth, IsSized}
-use Rattle.xs_arith.specs.Quotients.{negate_where_gates, magnitude_gates, quotient_step, long_division_gates, magnitudes_gates, divide_gates, remainder_gates}
-use Rattle.xs_arith.proofs.WordMeans.{AllBelow-fit, length-fit, sign-below}
-use Rattle.xs_arith.proofs.QuotientMeans.{DivideShape, divide_cost, divide-first, quotient_step-adds, long_division_gates-adds, magnitude_gates-adds}
+use Rattle.xs_gates.proofs.Extension.{OnErr-from, AllBelow-more}
+use Rattle.xs_arith.specs.Words.{IsOfWidth}
 use Rattle.xs_arith.proofs.DivideMeans.{magnitudes-first, magnitudes-second, magnitudes-third, magnitudes-exact}
 use Rattle.xs_arith.proofs.quotients.magnitudes_divided.Goals as goal
 

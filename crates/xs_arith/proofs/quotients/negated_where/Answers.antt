@@ -1,14 +1,7 @@
-use Rattle.std.proofs.Common.{◌≡◌, ◌<◌, ◌≤◌, ◌+◌, ◌-◌, ◌*◌, ◌++◌, ◌∷◌, [], ℕ, suc, List, length, drop, take, reverse, max, cond, true, false, refl, sym, ◌∙◌, ap, subst, arith, Some}
-use Rattle.std.specs.Prelude.{zip, slice_get, IfOk, OnErr}
-use Rattle.xs_lits.specs.Literal.{Literal, opposite}
-use Rattle.xs_lits.specs.Models.{literal_value}
-use Rattle.xs_gates.specs.Circuit.{Circuit}
-use Rattle.xs_gates.specs.Gates.{constant_lit, xor_gate}
-use Rattle.xs_gates.specs.Meaning.{Means, StopsWithin, BeginsWith}
-use Rattle.xs_gates.proofs.Extension.{OnErr-from, StopsWithin-none, AllBelow-more}
-use Rattle.xs_arith.specs.Words.{IsSized}
+use Rattle.std.proofs.Common.{◌≡◌, ℕ, length, ◌∙◌, subst, arith}
+use Rattle.xs_gates.specs.Meaning.{StopsWithin}
+use Rattle.xs_gates.proofs.Extension.{OnErr-from, AllBelow-more}
 use Rattle.xs_arith.specs.Sums.{negate_gates}
-use Rattle.xs_arith.specs.Quotients.{choose_gates}
 use Rattle.xs_arith.proofs.DivideMeans.{negate_where-stops, negate_where-later, negate_where-exact}
 use Rattle.xs_arith.proofs.quotients.negated_where.Goals as goal
 use Rattle.xs_arith.proofs.quotients.negated_where.Goals.{In_ok-negated}

@@ -1,9 +1,8 @@
-use Rattle.std.proofs.Common.{◌≡◌, ◌<◌, ◌≤◌, ◌+◌, ◌*◌, ◌+ℤ◌, ◌-ℤ◌, neg_ℤ, ℕ, List, [], ◌∷◌, length, max, true, false, refl, sym, ◌∙◌, ap, subst, arith}
+use Rattle.std.proofs.Common.{◌≡◌, ◌<◌, ◌-ℤ◌, ℕ, List, length, refl, sym, ◌∙◌, ap, subst, arith}
 use Rattle.std.specs.Prelude.{IfOk, OnErr}
 use Rattle.std.proofs.lemmas.List.{length-map}
 use Rattle.xs_lits.specs.Literal.{Literal, opposite}
 use Rattle.xs_gates.specs.Circuit.{Circuit}
-use Rattle.xs_gates.specs.Gates.{constant_lit}
 use Rattle.xs_gates.specs.Meaning.{StopsWithin}
 use Rattle.xs_gates.proofs.Extension.{OnErr-from, IfOk-built, OnOk-free, StopsWithin-none}
 use Rattle.xs_arith.specs.Words.{fit, GivesCut, word_value}
@@ -43,7 +42,7 @@ pub returns-in_err-b-2-clause-err : goal.returns-in_err-b-2-clause-err
 returns-in_err-b-2-clause-err c = OnErr-from _ _ (StopsWithin-none c.args.g.now _ (subtract_gates-adds c.args.a.now c.args.b.now c.args.width c.args.g.now))
 
 pub sum-requires-clause-same : goal.sum-requires-clause-same
-sum-requires-clause-same c = 
+sum-requires-clause-same c =
     rw (c.in_ok-a.ensures, c.in_ok-b-2.ensures, c.in_ok-b.ensures)
     (length-fit c.args.width c.args.a.now ∙ sym (length-map (fit c.args.width c.args.b.now) opposite ∙ length-fit c.args.width c.args.b.now))
 

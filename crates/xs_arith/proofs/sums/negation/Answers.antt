@@ -1,13 +1,11 @@
-use Rattle.std.proofs.Common.{◌≡◌, ◌<◌, ◌≤◌, ◌+◌, ◌*◌, ◌+ℤ◌, ◌-ℤ◌, neg_ℤ, ℕ, List, [], ◌∷◌, length, max, true, false, refl, sym, ◌∙◌, ap, subst, arith}
+use Rattle.std.proofs.Common.{◌≡◌, ◌<◌, neg_ℤ, ℕ, List, [], ◌∷◌, false, refl, sym, ap, subst, arith}
 use Rattle.std.specs.Prelude.{IfOk, OnErr}
-use Rattle.std.proofs.lemmas.List.{length-map}
-use Rattle.xs_lits.specs.Literal.{Literal, opposite}
+use Rattle.xs_lits.specs.Literal.{Literal}
 use Rattle.xs_gates.specs.Circuit.{Circuit}
 use Rattle.xs_gates.specs.Gates.{constant_lit}
 use Rattle.xs_gates.specs.Meaning.{StopsWithin}
-use Rattle.xs_gates.proofs.Extension.{OnErr-from, IfOk-built, OnOk-free, StopsWithin-none}
-use Rattle.xs_arith.specs.Words.{fit, GivesCut, word_value}
-use Rattle.xs_arith.proofs.WordMeans.{AllBelow-fit, AllBelow-opposite, length-fit}
+use Rattle.xs_gates.proofs.Extension.{OnErr-from, IfOk-built, StopsWithin-none}
+use Rattle.xs_arith.specs.Words.{GivesCut, word_value}
 use Rattle.xs_arith.specs.Sums.{subtract_gates, negate_gates}
 use Rattle.xs_arith.proofs.SumMeans.{negate_gates-gives, negate_gates-adds}
 use Rattle.xs_arith.proofs.sums.negation.Goals as goal

@@ -1,6 +1,5 @@
-use Rattle.std.proofs.Common.{◌≡◌, ◌+◌, ◌*◌, ◌<◌, [], ◌∷◌, List, length, drop, arith}
+use Rattle.std.proofs.Common.{◌+◌, ◌*◌, [], ◌∷◌, length, drop, arith}
 use Rattle.std.specs.Prelude.{zip}
-use Rattle.xs_lits.specs.Literal.{Literal}
 use Rattle.xs_gates.proofs.Extension.{OnErr-from}
 use Rattle.xs_gates.proofs.Turns.{Turns-first}
 use Rattle.xs_arith.specs.Sums.{sum_step}

@@ -1,4 +1,4 @@
-use Rattle.std.proofs.Common.{◌≡◌, ◌+◌, ◌*◌, length, []}
+use Rattle.std.proofs.Common.{◌+◌, ◌*◌, length, []}
 use Rattle.std.specs.Prelude.{zip}
 use Rattle.xs_gates.specs.Circuit.{fold_gates}
 use Rattle.xs_gates.proofs.Turns.{Turns}
