@@ -8,3 +8,4 @@ pub mod CountMeans
 pub mod ProductMeans
 pub mod QuotientMeans
 pub mod DivideMeans
+pub mod Examples
