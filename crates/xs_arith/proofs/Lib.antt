@@ -1,0 +1,11 @@
+pub mod Numbers
+pub mod Orders
+pub mod DigitMeans
+pub mod WordMeans
+pub mod SumMeans
+pub mod TestMeans
+pub mod CountMeans
+pub mod ProductMeans
+pub mod QuotientMeans
+pub mod DivideMeans
+pub mod Examples

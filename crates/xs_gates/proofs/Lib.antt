@@ -1,0 +1,4 @@
+pub mod Extension
+pub mod Rows
+pub mod Turns
+pub mod Examples
