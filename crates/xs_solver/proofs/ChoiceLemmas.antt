@@ -1,10 +1,10 @@
 -- What holds of a literal that is chosen freely.
-use Rattle.std.proofs.Common.{◌≡◌, ⊎_elim, ℕ, None, sym, ap, ◌∙◌, subst}
+use Rattle.std.proofs.Common.{◌≡◌, ⊎_elim, ℕ, None, sym, ap, ◌∙◌}
 use Rattle.xs_lits.specs.Literal.{Literal}
 use Rattle.xs_lits.specs.Code.{code_of}
 use Rattle.xs_lits.specs.Assignment.{Assignment, IsInRange, value_of}
 use Rattle.xs_lits.proofs.CodeLemmas.{code_of-injective}
-use Rattle.xs_solver.specs.Choice.{IsTaken, IsFallback, IsChoice}
+use Rattle.xs_solver.specs.Choice.{IsTaken, IsChoice}
 
 pub choice_in_range : (a : Assignment) (code : ℕ) (l : Literal) → IsChoice a code l → IsInRange a l
 choice_in_range a code l h = ⊎_elim (λ (t : IsTaken a code l). t.in_range) (λ f. f.1.in_range) h

@@ -11,10 +11,11 @@ use Rattle.xs_solver.specs.declared.find.Found.TheVariants.{Conflict, Next, Noth
 use Rattle.xs_solver.specs.declared.find.Pick.{Pick}
 use Rattle.xs_solver.specs.declared.find.Pick.TheVariants.{Assume, Refuted, Choose, Done}
 
--- the clause is neither false nor unit
+-- the clause is not false
 abbrev pub IsQuiet : Assignment → List Literal → Type 0
 IsQuiet a c = truth_of a c ≢ False
 
+-- what a look at all clauses finds is false or unit; where it finds nothing, no clause is false
 abbrev pub IsFound : List (List Literal) → Assignment → Found → Type 0
 IsFound clauses a (Conflict number) = truth_at clauses a number ≡ Some False
 IsFound clauses a (Next number l) = truth_at clauses a number ≡ Some (UnitClause l)
@@ -26,6 +27,7 @@ IsUseful clauses a (Conflict number) = truth_at clauses a number ≡ Some False
 IsUseful clauses a (Next number l) = truth_at clauses a number ≡ Some (UnitClause l)
 IsUseful clauses a Nothing = Unit {0}
 
+-- an assumption that is free or false, or where all are true a free variable, or that there is none
 abbrev pub IsPick : Assignment → List Literal → Pick → Type 0
 IsPick a assumptions (Assume l) = Contains assumptions l × (value_of a l ≡ None)
 IsPick a assumptions (Refuted l) = Contains assumptions l × (value_of a l ≡ Some false)

@@ -10,14 +10,14 @@ use xs_lits::clause::Truth;
 use xs_lits::lit::Lit;
 use xs_lits::truth::truth_of_lits;
 
-/// What a look at all clauses finds first.
+/// A clause that is false or unit, if one was found.
 #[derive(Clone, Copy)]
 pub enum Found {
     /// The clause of this number is false.
     Conflict(u64),
     /// The clause of this number is unit.
     Next(u64, Lit),
-    /// No clause is false or unit.
+    /// Neither.
     Nothing,
 }
 

@@ -584,41 +584,72 @@ mod tests {
         }
     }
 
-    // At most one of the pigeons sits in each of three holes; pigeon p in hole h is the variable 3p + h.
+    // Pigeon p sits in one of three holes; that it sits in hole h is the variable 3p + h.
+    fn sits(
+        rt: &impl Abort,
+        alloc: Global,
+        list: &mut ClauseList,
+        p: i64,
+    ) -> Result<(), OutOfMemory> {
+        assert!(rt; p >= 0 && p < 100);
+        add(rt, alloc, list, &[3 * p + 1, 3 * p + 2, 3 * p + 3])
+    }
+
+    // Two pigeons sit in no hole together.
+    fn apart(
+        rt: &impl Abort,
+        alloc: Global,
+        list: &mut ClauseList,
+        p: i64,
+        q: i64,
+    ) -> Result<(), OutOfMemory> {
+        assert!(rt; p >= 0 && p < 100 && q >= 0 && q < 100);
+        add(rt, alloc, list, &[-3 * p - 1, -3 * q - 1])?;
+        add(rt, alloc, list, &[-3 * p - 2, -3 * q - 2])?;
+        add(rt, alloc, list, &[-3 * p - 3, -3 * q - 3])
+    }
+
+    // So many pigeons sit in three holes, each alone.
     fn pigeons(
         rt: &impl Abort,
         alloc: Global,
         list: &mut ClauseList,
         count: i64,
     ) -> Result<(), OutOfMemory> {
-        assert!(rt; count < 100);
         for p in 0..count {
-            add(rt, alloc, list, &[3 * p + 1, 3 * p + 2, 3 * p + 3])?;
+            sits(rt, alloc, list, p)?;
             for q in 0..p {
-                add(rt, alloc, list, &[-3 * p - 1, -3 * q - 1])?;
-                add(rt, alloc, list, &[-3 * p - 2, -3 * q - 2])?;
-                add(rt, alloc, list, &[-3 * p - 3, -3 * q - 3])?;
+                apart(rt, alloc, list, p, q)?;
             }
         }
         Ok(())
     }
 
-    // Variable i + 1 differs from variable i exactly where variable 100 + i is true, for i up to count.
-    fn parity(
+    // Variable i + 1 differs from variable i exactly where variable 100 + i is true.
+    fn differ(
         rt: &impl Abort,
         alloc: Global,
         list: &mut ClauseList,
-        count: i64,
+        i: i64,
     ) -> Result<(), OutOfMemory> {
-        assert!(rt; count < 100);
-        for i in 1..count {
-            let other = 100 + i;
-            add(rt, alloc, list, &[-other, i, i + 1])?;
-            add(rt, alloc, list, &[-other, -i, -i - 1])?;
-            add(rt, alloc, list, &[other, -i, i + 1])?;
-            add(rt, alloc, list, &[other, i, -i - 1])?;
-        }
-        Ok(())
+        assert!(rt; i >= 0 && i < 100);
+        let next = i + 1;
+        let other = i + 100;
+        add(rt, alloc, list, &[-other, i, next])?;
+        add(rt, alloc, list, &[-other, -i, -next])?;
+        add(rt, alloc, list, &[other, -i, next])?;
+        add(rt, alloc, list, &[other, i, -next])
+    }
+
+    // Variables i and i + 1 have one value.
+    fn alike(
+        rt: &impl Abort,
+        alloc: Global,
+        list: &mut ClauseList,
+        i: i64,
+    ) -> Result<(), OutOfMemory> {
+        assert!(rt; i >= 0 && i < 100);
+        add(rt, alloc, list, &[-100 - i])
     }
 
     // The length of the clause that refutes, or None.
@@ -675,11 +706,13 @@ mod tests {
     // step must keep the value.
     fn chain(rt: &impl Abort, alloc: Global, panel: &mut Panel) -> Result<(), OutOfMemory> {
         let mut list = ClauseList::new(alloc);
-        parity(rt, alloc, &mut list, 50)?;
+        for i in 1..50i64 {
+            differ(rt, alloc, &mut list, i)?;
+        }
         let ends = [Lit::new(1, false), Lit::new(50, true)];
         assert_eq!(rt; try_solve(rt, alloc, 150, &list, &ends, panel)?, None);
-        for i in 101..150i64 {
-            add(rt, alloc, &mut list, &[-i])?;
+        for i in 1..50i64 {
+            alike(rt, alloc, &mut list, i)?;
         }
         let found = try_solve(rt, alloc, 150, &list, &ends, panel)?;
         assert_eq!(rt; length_of(found), Some(2));

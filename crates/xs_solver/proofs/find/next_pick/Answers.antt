@@ -1,8 +1,7 @@
-use Rattle.std.proofs.Common.{◌≡◌, ◌≤◌, Some, true, All, length, refl, ap, ◌∙◌, subst, arith}
-use Rattle.std.specs.Option.{option_map}
+use Rattle.std.proofs.Common.{◌≡◌, ◌≤◌, Some, true, All, length, refl, subst, arith}
 use Rattle.std.proofs.lemmas.List.{take_all}
 use Rattle.std.proofs.lemmas.List.Elements.{All-more}
-use Rattle.xs_lits.specs.Literal.{Literal, signed}
+use Rattle.xs_lits.specs.Literal.{Literal}
 use Rattle.xs_lits.specs.Assignment.{value_of}
 use Rattle.xs_solver.proofs.find.next_pick.Goals as goal
 

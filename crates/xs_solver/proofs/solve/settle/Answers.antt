@@ -1,9 +1,8 @@
-use Rattle.std.proofs.Common.{◌≡◌, ◌-◌, List, Some, Contains, length, sym, ap, ◌∙◌, subst, arith}
-use Rattle.xs_lits.specs.Literal.{Literal}
+use Rattle.std.proofs.Common.{◌≡◌, Some, sym, ap, ◌∙◌}
 use Rattle.xs_lits.specs.Assignment.{Assignment}
 use Rattle.xs_lits.specs.declared.clause.Truth.TheVariants.{Unit as UnitClause}
 use Rattle.xs_derive.specs.Hints.{truth_at}
-use Rattle.xs_solver.proofs.LessonLemmas.{unit_in_range, unit_free, empty_core, listed_at, nothing_in}
+use Rattle.xs_solver.proofs.LessonLemmas.{unit_in_range, unit_free}
 use Rattle.xs_solver.proofs.solve.settle.Goals as goal
 
 pub push-requires-clause-in_range : goal.push-requires-clause-in_range
