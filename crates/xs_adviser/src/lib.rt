@@ -1,0 +1,29 @@
+//! Advisers, which suggest free choices to the clause search.
+//!
+//! An [`Adviser`] is code of the caller's own behind a box. It is seen by contracts as one number, how
+//! many learned clauses it was told; what it picks is any number at all, so nothing rests on it. The
+//! layer above hands one [`Panel`] of them to the search, which asks the present adviser at each free
+//! choice, tells it each learned clause, and goes on to the next one at each restart. No call but
+//! `ready` takes memory. [`InOrder`] and [`Scripted`] are seen as an endless round of answers,
+//! [`Active`] as its count alone. What a count, a round and a panel are stands in `specs/`.
+//!
+//! ```text
+//! let mut panel = Panel::new(advisers);    // InOrder and Active, say
+//! panel.ready(9)?;
+//! panel.pick();       // 3, the code of the negation of variable 1
+//! panel.rotate();     // Active is present
+//! ```
+#![tactic(auto)]
+
+mod active;
+mod adviser;
+mod in_order;
+mod panel;
+mod round;
+mod scripted;
+
+pub use active::Active;
+pub use adviser::Adviser;
+pub use in_order::InOrder;
+pub use panel::Panel;
+pub use scripted::{CodeList, Scripted};

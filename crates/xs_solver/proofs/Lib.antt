@@ -1,0 +1,11 @@
+pub mod TrailLemmas
+pub mod AnalysisLemmas
+pub mod ExplainLemmas
+pub mod OpenLemmas
+pub mod StepLemmas
+pub mod LearnLemmas
+pub mod ScoreLemmas
+pub mod SearchLemmas
+pub mod LessonLemmas
+pub mod VerdictLemmas
+pub mod ChoiceLemmas

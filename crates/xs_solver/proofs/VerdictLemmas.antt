@@ -1,0 +1,101 @@
+-- From the last step of a search to its verdict.
+use Rattle.std.proofs.Common.{◌≡◌, ◌≢◌, ⊎_elim, ℕ, ◌+◌, ◌<◌, ◌≤◌, Bool, true, false, List, [], ◌∷◌, ◌++◌, length, get_or, unwrap_or, Option, Some, None, All, Any, Contains, refl, sym, ap, ◌∙◌, subst, arith}
+use Rattle.std.specs.Option.{option_map}
+use Rattle.std.specs.List.{list_any}
+use Rattle.std.proofs.lemmas.Bool.{cases_Bool}
+use Rattle.std.proofs.lemmas.Option.{none-some}
+use Rattle.std.proofs.lemmas.List.{get_or_append_left, length-append}
+use Rattle.std.proofs.lemmas.List.Elements.{All-nil, All-push, All-contains}
+use Rattle.std.proofs.lemmas.List.Folds.{Any-from_list_any}
+use Rattle.xs_lits.specs.Literal.{Literal, signed}
+use Rattle.xs_lits.specs.Assignment.{Assignment, value_of, is_true_in}
+use Rattle.xs_lits.specs.Truth.{truth_of}
+use Rattle.xs_lits.specs.Models.{TotalAssignment, clause_value, Satisfies}
+use Rattle.xs_lits.specs.declared.clause.Truth.TheVariants.{False}
+use Rattle.xs_lits.proofs.ListLemmas.{All-from_list_any}
+use Rattle.xs_lits.proofs.ModelLemmas.{All-from_Satisfies, Satisfies-from_All}
+use Rattle.xs_lits.proofs.TruthLemmas.{truth_of-False}
+use Rattle.xs_derive.specs.Derivation.{IsUpTo}
+use Rattle.xs_derive.proofs.ModelLemmas.{FollowsFrom-EndsFalse}
+use Rattle.xs_derive.specs.declared.step.Step.{Step}
+use Rattle.xs_solver.specs.Found.{IsQuiet}
+use Rattle.xs_solver.specs.Search.{AreSteps, with_steps, Grows, IsSolution, IsRefutation}
+use Rattle.xs_solver.specs.Verdict.{IsFull, IsCore, IsAdvance, IsVerdict}
+use Rattle.xs_solver.specs.TrailRecord.{TrailValue}
+use Rattle.xs_solver.specs.declared.solve.Verdict.{Verdict}
+use Rattle.xs_solver.specs.declared.solve.Verdict.TheVariants.{Sat, Unsat}
+
+value_true : (o : Option Bool) → unwrap_or o false ≡ true → o ≡ Some true
+value_true None e = cc
+value_true (Some b) e = ap Some e
+
+value_false : (o : Option Bool) → unwrap_or o false ≡ false → o ≢ None → o ≡ Some false
+value_false None e ne = absurd (ne refl)
+value_false (Some b) e ne = ap Some e
+
+-- a clause whose variables have values is true or false
+clause_holds : (a : Assignment) (c : List Literal) → All (λ l. value_of a l ≢ None) c → truth_of a c ≢ False → Any (λ l. value_of a l ≡ Some true) c
+clause_holds a c taken quiet =
+    ⊎_elim
+    (λ some. let w = Any-from_list_any (is_true_in a) c some in (w.0, w.1, w.2, w.3, value_true (value_of a w.1) w.4))
+    (λ none.
+    let not_true = All-from_list_any (is_true_in a) c none in
+    absurd (quiet ((truth_of-False a c).1 (λ k d lt. value_false (value_of a (get_or c k d)) (not_true k d lt) (taken k d lt)))))
+    (cases_Bool (list_any (is_true_in a) c))
+
+has_value : (a : Assignment) (l : Literal) → get_or a l.var None ≢ None → value_of a l ≢ None
+has_value a l ne e = by_place (get_or a l.var None) ne e where
+  by_place : (o : Option Bool) → o ≢ None → option_map (signed l.negated) o ≡ None → ⊥
+  by_place None ne e = ne refl
+  by_place (Some b) ne e = none-some _ (sym e)
+
+All-first : (P : List Literal → Type 0) (ss : List Step) (cs : List (List Literal)) → All P (with_steps cs ss) → All P cs
+All-first P [] cs all = all
+All-first P (s ∷ ss) cs all = front cs (All-first P ss (cs ++ s.clause ∷ []) all) where
+  front : (ds : List (List Literal)) → All P (ds ++ s.clause ∷ []) → All P ds
+  front [] all = All-nil P
+  front (d ∷ ds) all = λ k e lt. from_front k e lt where
+    from_front : (k : ℕ) (e : List Literal) → k < length (d ∷ ds) → P (get_or (d ∷ ds) k e)
+    from_front k e lt = subst P ((get_or_append_left (d ∷ ds) (s.clause ∷ []) e k lt)) (all k e (omega (arith, length-append (d ∷ ds) (s.clause ∷ []))))
+
+pub solution : (vars : ℕ) (givens ds : List (List Literal)) (assumptions : List Literal) (a : Assignment) (kept_old kept_new : Option (List Step)) → Grows vars givens kept_old ds kept_new → All (All (λ l. 1 ≤ l.var)) givens → All (All (IsUpTo vars)) givens → length a ≡ vars + 1 → IsFull ds assumptions a → IsSolution vars givens assumptions a
+solution vars givens ds assumptions a kept_old kept_new grows positive in_range places full = record {
+  places = places;
+  clauses_true = λ k d lt.
+      let c = get_or givens k d in
+      let quiet = All-first (IsQuiet a) grows.steps givens (subst (All (IsQuiet a)) grows.clauses full.quiet) k d lt in
+      clause_holds a c
+      (λ j e lt'.
+      let above = positive k d lt j e lt' in
+      let below = in_range k d lt j e lt' in
+      has_value a (get_or c j e) (full.taken (get_or c j e).var above (omega (arith, below, places))))
+      quiet;
+  assumptions_true = full.assumed;
+}
+
+-- steps keep all models
+all_follow : (vars : ℕ) (v : TotalAssignment) (ss : List Step) (cs : List (List Literal)) → AreSteps vars cs ss → Satisfies v cs → Satisfies v (with_steps cs ss)
+all_follow vars v [] cs steps model = model
+all_follow vars v (s ∷ ss) cs steps model =
+    all_follow vars v ss (cs ++ s.clause ∷ []) steps.1
+    (Satisfies-from_All v (cs ++ s.clause ∷ [])
+    (All-push (λ c. clause_value v c ≡ true) cs s.clause (All-from_Satisfies v cs model) (FollowsFrom-EndsFalse vars cs s.clause s.hints steps.0.ends v model)))
+
+pub refutation : (vars : ℕ) (givens ds : List (List Literal)) (assumptions c : List Literal) (kept_old kept_new : Option (List Step)) → Grows vars givens kept_old ds kept_new → IsCore ds assumptions c → IsRefutation vars givens assumptions kept_old kept_new c
+refutation vars givens ds assumptions c kept_old kept_new grows core =
+    let listed : Contains (with_steps givens grows.steps) c = subst (λ (xs : List (List Literal)). Contains xs c) grows.clauses core.listed in
+    record {
+      negated = core.negated;
+      follows = λ v model. All-contains (λ d. clause_value v d ≡ true) (with_steps givens grows.steps) c
+          (All-from_Satisfies v (with_steps givens grows.steps) (all_follow vars v grows.steps givens grows.are_steps model)) listed;
+      steps = grows.steps;
+      are_steps = grows.are_steps;
+      kept = grows.kept;
+      listed = listed;
+    }
+
+pub verdict_of : (vars : ℕ) (givens ds : List (List Literal)) (assumptions : List Literal) (old new : TrailValue) (kept_old kept_new : Option (List Step)) (v : Verdict) → Grows vars givens kept_old ds kept_new → All (All (λ l. 1 ≤ l.var)) givens → All (All (IsUpTo vars)) givens → length old.values ≡ vars + 1 → IsAdvance ds assumptions old new (Some v) → IsVerdict vars givens assumptions kept_old kept_new v
+verdict_of vars givens ds assumptions old new kept_old kept_new (Sat a) grows positive in_range places h =
+    solution vars givens ds assumptions a kept_old kept_new grows positive in_range (h.1 ∙ places) h.0
+verdict_of vars givens ds assumptions old new kept_old kept_new (Unsat c) grows positive in_range places h =
+    refutation vars givens ds assumptions c kept_old kept_new grows h

@@ -1,0 +1,35 @@
+-- What a look at all clauses finds.
+use Rattle.std.specs.Prelude.{◌≡◌, ◌≢◌, ◌<◌, ℕ, List, All, Contains, Some, None, true, false, length, slice_index_or}
+use Rattle.xs_lits.specs.Literal.{Literal}
+use Rattle.xs_lits.specs.Assignment.{Assignment, value_of}
+use Rattle.xs_lits.specs.Truth.{truth_of}
+use Rattle.xs_lits.specs.declared.clause.Truth.TheVariants.{False, Unit as UnitClause}
+use Rattle.xs_derive.specs.Hints.{truth_at}
+use Rattle.xs_solver.specs.Choice.{HasFree}
+use Rattle.xs_solver.specs.declared.find.Found.{Found}
+use Rattle.xs_solver.specs.declared.find.Found.TheVariants.{Conflict, Next, Nothing}
+use Rattle.xs_solver.specs.declared.find.Pick.{Pick}
+use Rattle.xs_solver.specs.declared.find.Pick.TheVariants.{Assume, Refuted, Choose, Done}
+
+-- the clause is not false
+abbrev pub IsQuiet : Assignment → List Literal → Type 0
+IsQuiet a c = truth_of a c ≢ False
+
+-- what a look at all clauses finds is false or unit; where it finds nothing, no clause is false
+abbrev pub IsFound : List (List Literal) → Assignment → Found → Type 0
+IsFound clauses a (Conflict number) = truth_at clauses a number ≡ Some False
+IsFound clauses a (Next number l) = truth_at clauses a number ≡ Some (UnitClause l)
+IsFound clauses a Nothing = All (IsQuiet a) clauses
+
+-- what propagation finds is false or unit; where it finds nothing, nothing is said
+abbrev pub IsUseful : List (List Literal) → Assignment → Found → Type 0
+IsUseful clauses a (Conflict number) = truth_at clauses a number ≡ Some False
+IsUseful clauses a (Next number l) = truth_at clauses a number ≡ Some (UnitClause l)
+IsUseful clauses a Nothing = Unit {0}
+
+-- an assumption that is free or false, or where all are true a free variable, or that there is none
+abbrev pub IsPick : Assignment → List Literal → Pick → Type 0
+IsPick a assumptions (Assume l) = Contains assumptions l × (value_of a l ≡ None)
+IsPick a assumptions (Refuted l) = Contains assumptions l × (value_of a l ≡ Some false)
+IsPick a assumptions Choose = All (λ p. value_of a p ≡ Some true) assumptions × HasFree a
+IsPick a assumptions Done = All (λ p. value_of a p ≡ Some true) assumptions × ((x : ℕ) → 0 < x → x < length a → slice_index_or a x None ≢ None)

@@ -1,0 +1,9 @@
+pub mod TrailRecord
+pub mod Trail
+pub mod Choice
+pub mod Found
+pub mod AnalysisRecord
+pub mod Analysis
+pub mod Search
+pub mod Score
+pub mod Verdict
