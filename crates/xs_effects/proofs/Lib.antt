@@ -1,0 +1,5 @@
+pub mod AddedNameLaws
+pub mod Equivalence
+pub mod TemplateLaws
+pub mod EffectRows
+pub mod EffectRowLaw
