@@ -3,6 +3,12 @@
 
 ghost use Rattle.xs_effects.specs.EffectLaw.{EffectLaw};
 
+mod build;
+mod names;
+
+pub use build::{binary, choice, named, negated, next, not, number, set_of_one, set_of_two};
+pub use names::{mode_symbol, mode_variable, nominal_symbol, own_name};
+
 /// An effect's branch and rule sections allow a read value exactly where the effect does.
 pub fn effects_allow()
     ensures { EffectLaw }
