@@ -3,3 +3,4 @@ pub mod Equivalence
 pub mod TemplateLaws
 pub mod EffectRows
 pub mod EffectRowLaw
+pub mod AllowedLaws

@@ -1,10 +1,11 @@
 -- What a mode adds for its effect: a branch of the case that gives the read value, and rule sections.
-use Rattle.std.specs.Prelude.{ℤ, pos, negsuc, suc, nat_eq, Bool, true, false, List, [], ◌∷◌, Some, if◌then◌else◌}
+use Rattle.std.specs.Prelude.{ℤ, pos, negsuc, suc, nat_eq, Bool, true, false, List, [], ◌∷◌, Option, Some, None, map, if◌then◌else◌}
 use Rattle.xs_tree.specs.declared.expr.Op.TheVariants as op
 use Rattle.xs_tree.specs.declared.program.Member.{Member}
 use Rattle.xs_tree.specs.declared.program.Member.TheVariants as member
-use Rattle.xs_tree.specs.Tree.{Trees, truth as is_truth, number as is_number, leaf, not_of, negate, next_of, binary, choice, set_of, span, no_tree, tree_then}
-use Rattle.xs_tree.specs.ProgramTree.{Text, Path, Formula, DeclaredTree, boolean, range, members, instance, SectionTree, invar, trans}
+use Rattle.xs_tree.specs.declared.program.Section.{Section}
+use Rattle.xs_tree.specs.Tree.{Trees, truth as is_truth, number as is_number, leaf, not_of, negate, next_of, binary, choice, set_of, span, no_tree, tree_then, trees_from}
+use Rattle.xs_tree.specs.ProgramTree.{Text, Path, Formula, DeclaredTree, boolean, range, members, instance, SectionTree, invar, trans, section_tree}
 use Rattle.meaning.specs.Values.{Value, truth, number, symbol}
 use Rattle.xs_fei.specs.Instructions.{EffectTree, stuck_at, follows, inverted, random, erroneous, frozen, stuck_at_pick, offset, ramp_down}
 use Rattle.xs_effects.specs.AddedNames.{own_name, mode_variable, mode_symbol}
@@ -32,8 +33,7 @@ member_value (member.Symbol x) = symbol x
 
 -- the members in written order
 abbrev pub member_trees : List Member → Trees Path
-member_trees [] = no_tree
-member_trees (m ∷ ms) = tree_then (value_tree (member_value m)) (member_trees ms)
+member_trees ms = trees_from (map (λ m. value_tree (member_value m)) ms)
 
 -- the set of a domain
 abbrev pub domain_tree : DeclaredTree → Formula
@@ -103,3 +103,8 @@ rules (follows e) slice mode x = []
 rules inverted slice mode x = []
 rules random slice mode x = []
 rules (offset d) slice mode x = []
+
+-- a section or none, as a list
+abbrev pub rule_sections : Option Section → List SectionTree
+rule_sections None = []
+rule_sections (Some s) = section_tree s ∷ []
