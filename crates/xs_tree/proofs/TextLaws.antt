@@ -1,0 +1,26 @@
+-- Text that is appended piece by piece.
+use Rattle.std.proofs.Common.{◌≡◌, ℕ, ◌+◌, ◌<◌, List, [], ◌∷◌, ◌++◌, length, get_or, drop, map, refl, ap}
+use Rattle.std.proofs.lemmas.List.{append_assoc, append-nil, drop_more}
+use Rattle.xs_tree.specs.declared.expr.Expr.{Expr}
+use Rattle.xs_tree.specs.declared.expr.Expr.TheVariants.{SetOf}
+use Rattle.xs_tree.specs.ProgramTree.{Text, Path}
+use Rattle.xs_tree.specs.Tree.{Tree, trees_from}
+use Rattle.xs_tree.specs.Text.{text_of, trees_texts, commas, each_after}
+use Rattle.xs_tree.proofs.WrittenLaws.{tree_of_set}
+use Rattle.xs_tree.specs.Written.{tree_of}
+use Rattle.std.specs.Prelude.{codes}
+
+-- what is left of texts after a mark, one text on
+pub each_after_more : {A : Type 0} (shown : A → Text) (mark : Text) (xs : List A) (i : ℕ) (d : A) → i < length xs →
+    each_after mark (map shown (drop i xs)) ≡ mark ++ (shown (get_or xs i d) ++ each_after mark (map shown (drop (i + 1) xs)))
+each_after_more shown mark xs i d h = ap (λ ys. each_after mark (map shown ys)) (drop_more xs i d h)
+
+-- the texts of the members of a set are those of a list of trees
+pub trees_texts_from : (ts : List (Tree Path)) → trees_texts (trees_from ts) ≡ map text_of ts
+trees_texts_from [] = refl
+trees_texts_from (t ∷ ts) = ap (λ more. text_of t ∷ more) (trees_texts_from ts)
+
+pub text_of_set : (ts : List (Expr Path)) → text_of (tree_of (SetOf ts)) ≡ codes "{" ++ (commas (map text_of (map tree_of ts)) ++ codes "}")
+text_of_set ts = rw (tree_of_set ts, trees_texts_from (map tree_of ts)) refl
+
+pub ruleset print_rules = (append_assoc, append-nil)

@@ -1,0 +1,22 @@
+-- Which trees the bytes of a text spell.
+use Rattle.std.specs.Prelude.{ℕ, ◌≤◌, List}
+use Rattle.xs_lexer.specs.declared.token.Token.{Token}
+use Rattle.xs_lexer.specs.Tokens.{HasTokens}
+use Rattle.xs_tree.specs.Tree.{height_of}
+use Rattle.xs_tree.specs.ProgramTree.{Formula, ProgramTree}
+use Rattle.xs_tree.specs.Lexemes.{lexemes_of}
+use Rattle.xs_tree.specs.SpellsProgram.{SpellsProgram, SpellsExpr}
+use Rattle.xs_tree.specs.Nesting.{nesting_of}
+
+-- the bytes have tokens that spell the program
+abbrev pub BytesSpellProgram : List ℕ → ProgramTree → Type 0
+BytesSpellProgram bytes p = (tokens : List Token) × HasTokens bytes tokens × SpellsProgram (lexemes_of bytes tokens) p
+
+-- the bytes have tokens that spell the expression
+abbrev pub BytesSpellExpr : List ℕ → Formula → Type 0
+BytesSpellExpr bytes e = (tokens : List Token) × HasTokens bytes tokens × SpellsExpr (lexemes_of bytes tokens) e
+
+-- the tree is at most 1,000 high, and as it is spelled parentheses are nested at most 1,000 deep
+abbrev pub HasDepths : List ℕ → Formula → Type 0
+HasDepths bytes e =
+    (height_of e ≤ 1000) × ((tokens : List Token) → HasTokens bytes tokens → (spelled : SpellsExpr (lexemes_of bytes tokens) e) → nesting_of spelled ≤ 1000)

@@ -1,0 +1,25 @@
+//! Laws of the definitions, each as the contract of a function that does nothing.
+
+ghost use Rattle.xs_tree.specs.Laws.{SpellsOneExpression, PrintedSpells, DeeperMeansTheSame, DeeperGivesTheSame, AgreeingLeavesGiveTheSame, MappedLeavesGiveTheSame};
+
+/// No list of tokens spells two expressions.
+pub fn one_tree()
+    ensures { SpellsOneExpression }
+{}
+
+/// The tokens of an expression's printed text spell it.
+pub fn printed_spells()
+    ensures { PrintedSpells }
+{}
+
+/// More steps from name to name change neither what a name means nor what an expression gives.
+pub fn deeper_is_the_same()
+    ensures meaning { DeeperMeansTheSame }
+    ensures values { DeeperGivesTheSame }
+{}
+
+/// An expression's values come from those of its leaves alone.
+pub fn leaves_decide()
+    ensures agreeing { AgreeingLeavesGiveTheSame }
+    ensures mapped { MappedLeavesGiveTheSame }
+{}
