@@ -7,9 +7,10 @@ use Rattle.std.specs.Ordering.{int_eq}
 use Rattle.xs_tree.specs.declared.program.Member.{Member}
 use Rattle.xs_tree.specs.declared.program.Member.TheVariants as member
 use Rattle.xs_tree.specs.ProgramTree.{Text}
-use Rattle.meaning.specs.Values.{Value, truth, number, symbol, at_most, same_value, same_text, same_int}
-use Rattle.meaning.specs.Trace.{is_member}
-use Rattle.meaning.proofs.ValueLaws.{same_text_equal, same_text_refl, same_int_equal}
+use Rattle.xs_tree.specs.Values.{Value, truth, number, symbol, at_most, same_value, same_int}
+use Rattle.xs_tree.specs.Texts.{same_text}
+use Rattle.xs_tree.specs.Trace.{is_member}
+use Rattle.xs_tree.proofs.ValueLaws.{same_text_equal, same_text_refl, same_int_equal}
 use Rattle.xs_effects.specs.Templates.{member_value}
 use Rattle.xs_effects.proofs.TemplateLaws.{bool_same, same_value_refl}
 

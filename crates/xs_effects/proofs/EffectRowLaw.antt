@@ -2,10 +2,10 @@
 use Rattle.std.proofs.Common.{◌≡◌, ◌≢◌, ◌⊎◌, inl, inr, ◌↔◌, Bool, true, false, Some, None, refl, sym, ◌∙◌, ap, subst}
 use Rattle.std.specs.Prelude.{ℤ, int_lt, ◌-ℤ◌, IsTrue, codes, ◌||◌, ◌&&◌, if◌then◌else◌}
 use Rattle.xs_tree.specs.ProgramTree.{Text, Path, Formula, DeclaredTree, boolean, range, members, instance}
-use Rattle.meaning.specs.Values.{Value, truth, number, symbol, Values, one, has, same_value, opposite}
-use Rattle.meaning.specs.Evaluate.{Leaves, evaluate}
-use Rattle.meaning.specs.Trace.{Each, in_domain}
-use Rattle.meaning.proofs.ValueLaws.{same_text_refl}
+use Rattle.xs_tree.specs.Values.{Value, truth, number, symbol, Values, one, has, same_value, opposite}
+use Rattle.xs_tree.specs.Evaluate.{Leaves, evaluate}
+use Rattle.xs_tree.specs.Trace.{Each, in_domain}
+use Rattle.xs_tree.proofs.ValueLaws.{same_text_refl}
 use Rattle.xs_fei.specs.Instructions.{EffectTree, stuck_at, follows, inverted, random, erroneous, frozen, stuck_at_pick, offset, ramp_down, SliceTree}
 use Rattle.xs_effects.specs.AddedNames.{ModeState}
 use Rattle.xs_effects.specs.Effects.{Allows, IsRamp}

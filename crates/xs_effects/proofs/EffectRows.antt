@@ -4,10 +4,10 @@ use Rattle.std.specs.Prelude.{ℤ, int_lt, ◌+ℤ◌, ◌-ℤ◌, IsTrue, if◌
 use Rattle.xs_tree.specs.declared.expr.Op.TheVariants as op
 use Rattle.xs_tree.specs.Tree.{binary, next_of}
 use Rattle.xs_tree.specs.ProgramTree.{Text, Path, Formula, DeclaredTree, boolean, range, members, instance}
-use Rattle.meaning.specs.Values.{Value, truth, number, symbol, Values, one, has, same_value, opposite}
-use Rattle.meaning.specs.Evaluate.{Leaves, evaluate, gives_choice}
-use Rattle.meaning.specs.Trace.{in_domain}
-use Rattle.meaning.proofs.ValueLaws.{same_value_equal}
+use Rattle.xs_tree.specs.Values.{Value, truth, number, symbol, Values, one, has, same_value, opposite}
+use Rattle.xs_tree.specs.Evaluate.{Leaves, evaluate, gives_choice}
+use Rattle.xs_tree.specs.Trace.{in_domain}
+use Rattle.xs_tree.proofs.ValueLaws.{same_value_equal}
 use Rattle.xs_fei.specs.Instructions.{EffectTree, stuck_at, follows, inverted, random, erroneous, frozen, stuck_at_pick, offset, ramp_down, SliceTree}
 use Rattle.xs_effects.specs.AddedNames.{ModeState}
 use Rattle.xs_effects.specs.Effects.{Allows, clipped, IsOffset, IsRamp, IsInverse}

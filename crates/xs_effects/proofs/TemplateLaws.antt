@@ -6,10 +6,11 @@ use Rattle.xs_tree.specs.declared.program.Member.{Member}
 use Rattle.xs_tree.specs.declared.program.Member.TheVariants as member
 use Rattle.xs_tree.specs.Tree.{binary, negate, number as is_number}
 use Rattle.xs_tree.specs.ProgramTree.{Text, Path, Formula, DeclaredTree, boolean, range, members, instance}
-use Rattle.meaning.specs.Values.{Value, truth, number, symbol, Values, no_value, one, from_to, either, has, same_value, same_text, same_int, same_bool, opposite, apply}
-use Rattle.meaning.specs.Evaluate.{Leaves, evaluate, evaluate_trees, evaluate_branches, gives_choice}
-use Rattle.meaning.specs.Trace.{Each, in_domain, is_member}
-use Rattle.meaning.proofs.ValueLaws.{same_text_equal, same_text_refl, same_value_equal}
+use Rattle.xs_tree.specs.Values.{Value, truth, number, symbol, Values, no_value, one, from_to, either, has, same_value, same_int, same_bool, opposite, apply}
+use Rattle.xs_tree.specs.Texts.{same_text}
+use Rattle.xs_tree.specs.Evaluate.{Leaves, evaluate, evaluate_trees, evaluate_branches, gives_choice}
+use Rattle.xs_tree.specs.Trace.{Each, in_domain, is_member}
+use Rattle.xs_tree.proofs.ValueLaws.{same_text_equal, same_text_refl, same_value_equal}
 use Rattle.xs_effects.specs.AddedNames.{ModeState}
 use Rattle.xs_effects.specs.AddedNames.{mode_symbol}
 use Rattle.xs_effects.specs.Templates.{number_tree, value_tree, member_value, member_trees, domain_tree}

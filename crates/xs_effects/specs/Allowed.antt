@@ -3,8 +3,8 @@ use Rattle.std.specs.Prelude.{ℤ, pos, negsuc, ◌+ℤ◌, ◌-ℤ◌, Bool, tr
 use Rattle.std.specs.List.{list_any}
 use Rattle.xs_tree.specs.declared.program.Member.{Member}
 use Rattle.xs_tree.specs.ProgramTree.{DeclaredTree, boolean, range, members, instance}
-use Rattle.meaning.specs.Values.{Value, truth, number, symbol, opposite, same_value, at_most, is_between}
-use Rattle.meaning.specs.Trace.{in_domain}
+use Rattle.xs_tree.specs.Values.{Value, truth, number, symbol, opposite, same_value, at_most, is_between}
+use Rattle.xs_tree.specs.Trace.{in_domain}
 use Rattle.xs_fei.specs.Instructions.{EffectTree, stuck_at, follows, inverted, random, erroneous, frozen, stuck_at_pick, offset, ramp_down}
 use Rattle.xs_effects.specs.Templates.{member_value}
 use Rattle.xs_effects.specs.declared.fault.EffectFault.{EffectFault}

@@ -3,9 +3,10 @@ use Rattle.std.specs.Prelude.{◌≡◌, ◌≢◌, ◌↔◌, IsTrue, Bool, tru
 use Rattle.xs_tree.specs.declared.program.Member.{Member}
 use Rattle.xs_tree.specs.declared.program.Member.TheVariants as member
 use Rattle.xs_tree.specs.ProgramTree.{Text, Path, Formula, DeclaredTree, boolean, range, members, SectionTree, invar, trans}
-use Rattle.meaning.specs.Values.{Value, truth, symbol, Values, one, has, same_text, opposite}
-use Rattle.meaning.specs.Evaluate.{Leaves, evaluate}
-use Rattle.meaning.specs.Trace.{Each, in_domain}
+use Rattle.xs_tree.specs.Values.{Value, truth, symbol, Values, one, has, opposite}
+use Rattle.xs_tree.specs.Texts.{same_text}
+use Rattle.xs_tree.specs.Evaluate.{Leaves, evaluate}
+use Rattle.xs_tree.specs.Trace.{Each, in_domain}
 use Rattle.xs_fei.specs.Instructions.{EffectTree, stuck_at, follows, inverted, random, erroneous, frozen, stuck_at_pick, offset, ramp_down, SliceTree}
 use Rattle.xs_effects.specs.AddedNames.{ModeState, own_name, mode_variable, mode_symbol}
 use Rattle.xs_effects.specs.Effects.{Allows}

@@ -1,8 +1,8 @@
 -- Which read values an effect allows, given the own value and the value read at the moment before.
 use Rattle.std.specs.Prelude.{◌≡◌, ◌≢◌, ℤ, Bool, true, false, IsTrue, int_lt, ◌+ℤ◌, ◌-ℤ◌, if◌then◌else◌}
 use Rattle.xs_tree.specs.ProgramTree.{Formula, DeclaredTree, range}
-use Rattle.meaning.specs.Values.{Value, truth, number, opposite}
-use Rattle.meaning.specs.Trace.{in_domain}
+use Rattle.xs_tree.specs.Values.{Value, truth, number, opposite}
+use Rattle.xs_tree.specs.Trace.{in_domain}
 use Rattle.xs_fei.specs.Instructions.{EffectTree, stuck_at, follows, inverted, random, erroneous, frozen, stuck_at_pick, offset, ramp_down}
 
 -- the number of the range that is nearest

@@ -3,7 +3,7 @@ use Rattle.std.specs.Prelude.{ℤ, negsuc, ◌≤ℤ◌, All}
 use Rattle.xs_tree.specs.declared.program.Member.{Member}
 use Rattle.xs_tree.specs.declared.program.Member.TheVariants as member
 use Rattle.xs_tree.specs.ProgramTree.{DeclaredTree, boolean, range, members, instance}
-use Rattle.meaning.specs.Values.{Value, truth, number, symbol}
+use Rattle.xs_tree.specs.Values.{Value, truth, number, symbol}
 use Rattle.xs_fei.specs.Instructions.{EffectTree, stuck_at, follows, inverted, random, erroneous, frozen, stuck_at_pick, offset, ramp_down}
 
 -- the number's negation is within 64 bits

@@ -6,7 +6,7 @@ use Rattle.xs_tree.specs.declared.program.Member.TheVariants as member
 use Rattle.xs_tree.specs.declared.program.Section.{Section}
 use Rattle.xs_tree.specs.Tree.{Trees, truth as is_truth, number as is_number, leaf, not_of, negate, next_of, binary, choice, set_of, span, no_tree, tree_then, trees_from}
 use Rattle.xs_tree.specs.ProgramTree.{Text, Path, Formula, DeclaredTree, boolean, range, members, instance, SectionTree, invar, trans, section_tree}
-use Rattle.meaning.specs.Values.{Value, truth, number, symbol}
+use Rattle.xs_tree.specs.Values.{Value, truth, number, symbol}
 use Rattle.xs_fei.specs.Instructions.{EffectTree, stuck_at, follows, inverted, random, erroneous, frozen, stuck_at_pick, offset, ramp_down}
 use Rattle.xs_effects.specs.AddedNames.{own_name, mode_variable, mode_symbol}
 

@@ -3,7 +3,7 @@ use Rattle.std.specs.Prelude.{◌≡◌, ◌⊎◌, Some, None}
 use Rattle.xs_tree.specs.declared.program.Member.{Member}
 use Rattle.xs_tree.specs.declared.program.Member.TheVariants as member
 use Rattle.xs_tree.specs.ProgramTree.{DeclaredTree, members}
-use Rattle.meaning.specs.Trace.{Each, AtSome}
+use Rattle.xs_tree.specs.Trace.{Each, AtSome}
 use Rattle.xs_fei.specs.Instructions.{SliceTree}
 use Rattle.xs_effects.specs.AddedNames.{ModeState}
 

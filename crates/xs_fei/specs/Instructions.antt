@@ -12,7 +12,8 @@ use Rattle.xs_fei.specs.declared.instructions.Instructions.{Instructions}
 use Rattle.xs_tree.specs.ProgramTree.{Text, Path, Formula}
 use Rattle.xs_tree.specs.declared.expr.Expr.{Expr}
 use Rattle.xs_tree.specs.Written.{tree_of}
-use Rattle.meaning.specs.Values.{Value, truth, number, symbol, same_text}
+use Rattle.xs_tree.specs.Values.{Value, truth, number, symbol}
+use Rattle.xs_tree.specs.Texts.{same_text}
 
 pub data EffectTree : Type 0 where
   stuck_at : Value → EffectTree

@@ -4,11 +4,11 @@ use Rattle.xs_lexer.specs.declared.token.TokenKind.{TokenKind}
 use Rattle.xs_lexer.specs.declared.token.TokenKind.TheVariants as k
 use Rattle.xs_lexer.specs.declared.token.Token.{Token}
 use Rattle.xs_tree.specs.ProgramTree.{Text, Formula}
-use Rattle.meaning.specs.Values.{Value, truth, number, symbol}
-use Rattle.spells.specs.Lexemes.{Lexeme, word, num, sign, is_reserved, lexemes_of}
-use Rattle.spells.specs.Tokens.{HasTokens, sign_text}
-use Rattle.spells.specs.Spells.{SpellsInt}
-use Rattle.spells.specs.SpellsProgram.{SpellsMany, SpellsExpr}
+use Rattle.xs_tree.specs.Values.{Value, truth, number, symbol}
+use Rattle.xs_tree.specs.Lexemes.{Lexeme, word, num, sign, is_reserved, lexemes_of}
+use Rattle.xs_lexer.specs.Tokens.{HasTokens, sign_text}
+use Rattle.xs_tree.specs.Spells.{SpellsInt}
+use Rattle.xs_tree.specs.SpellsProgram.{SpellsMany, SpellsExpr}
 use Rattle.xs_fei.specs.declared.instructions.Dynamics.{Dynamics}
 use Rattle.xs_fei.specs.declared.instructions.Dynamics.TheVariants.{Permanent, Transient}
 use Rattle.xs_fei.specs.Instructions.{EffectTree, stuck_at, follows, inverted, random, erroneous, frozen, stuck_at_pick, offset, ramp_down, ModeTree, SliceTree, ExtensionTree, InstructionTree}

@@ -4,7 +4,8 @@
 //! the modes in which that variable fails, and each mode has an effect, a guard and its dynamics.
 //! Contracts see instructions by [`Instructions`] as `instruction_tree` gives them: the same lists and
 //! texts, with no pointer in them (`specs/Instructions.antt`). Which tokens spell which instructions
-//! stands in `specs/SpellsInstructions.antt`, a case for each line of the grammar.
+//! stands in `specs/SpellsInstructions.antt`, a case for each line of the grammar; the text that
+//! [`print_instructions`] gives stands in `specs/InstructionText.antt`.
 //!
 //! ```text
 //! EXTENSION OF MODULE Lamp
@@ -14,8 +15,10 @@
 #![tactic(auto)]
 
 mod instructions;
+mod print;
 
 pub use instructions::{
     Constant, Dynamics, Effect, Extension, ExtensionList, Instructions, MarkList, ModeList,
     ModeRule, Slice, SliceList,
 };
+pub use print::print_instructions;

@@ -5,10 +5,10 @@ use Rattle.std.proofs.lemmas.List.{append_cancel_left, append_cancel_right}
 use Rattle.std.proofs.lemmas.List.Elements.{Contains-append_right}
 use Rattle.xs_tree.specs.declared.program.Member.TheVariants as member
 use Rattle.xs_tree.specs.ProgramTree.{Text, SectionTree, var, ivar, frozen, define, constants, assign, init, invar, trans, ModuleTree, ProgramTree}
-use Rattle.meaning.specs.Values.{same_text}
-use Rattle.meaning.specs.Scope.{state, a_variable, find_module, kind_declared, kind_in_sections, kind_in, is_symbol, is_symbol_of_sections, is_symbol_of_members, is_symbol_of_decls, is_text_among}
-use Rattle.meaning.specs.Trace.{AtSome}
-use Rattle.meaning.proofs.ValueLaws.{same_text_equal, same_text_refl}
+use Rattle.xs_tree.specs.Texts.{same_text, is_among}
+use Rattle.xs_tree.specs.Scope.{state, a_variable, find_module, kind_declared, kind_in_sections, kind_in, is_symbol, is_symbol_of_sections, is_symbol_of_members, is_symbol_of_decls}
+use Rattle.xs_tree.specs.Trace.{AtSome}
+use Rattle.xs_tree.proofs.ValueLaws.{same_text_equal, same_text_refl}
 use Rattle.xs_fei.specs.Instructions.{ModeTree, SliceTree, InstructionTree, is_target, is_affected}
 use Rattle.xs_effects.specs.AddedNames.{ModeState}
 use Rattle.xs_effects.specs.AddedNames.{own_name, mode_variable, mode_symbol}
@@ -123,7 +123,7 @@ sections_more (var ds ∷ ss) ts x h = or_true (is_symbol_of_decls ds x) _ (inr 
 sections_more (ivar ds ∷ ss) ts x h = or_true (is_symbol_of_decls ds x) _ (inr (sections_more ss ts x h))
 sections_more (frozen ds ∷ ss) ts x h = or_true (is_symbol_of_decls ds x) _ (inr (sections_more ss ts x h))
 sections_more (define ds ∷ ss) ts x h = sections_more ss ts x h
-sections_more (constants xs ∷ ss) ts x h = or_true (is_text_among xs x) _ (inr (sections_more ss ts x h))
+sections_more (constants xs ∷ ss) ts x h = or_true (is_among xs x) _ (inr (sections_more ss ts x h))
 sections_more (assign xs ∷ ss) ts x h = sections_more ss ts x h
 sections_more (init e ∷ ss) ts x h = sections_more ss ts x h
 sections_more (invar e ∷ ss) ts x h = sections_more ss ts x h

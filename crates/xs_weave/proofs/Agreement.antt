@@ -3,14 +3,15 @@ use Rattle.std.proofs.Common.{◌≡◌, ◌↔◌, ℕ, zero, suc, Bool, true, 
 use Rattle.std.specs.Prelude.{if◌then◌else◌}
 use Rattle.xs_tree.specs.Tree.{Tree, Trees, Branches, truth as is_truth, number as is_number, leaf, not_of, negate, next_of, binary, choice, case_of, set_of, span, no_tree, tree_then, no_branch, branch_then}
 use Rattle.xs_tree.specs.ProgramTree.{Text, Path, Formula, DeclaredTree, ModuleTree, ProgramTree}
-use Rattle.meaning.specs.Values.{Value, Values}
-use Rattle.meaning.specs.Evaluate.{Leaves, evaluate, evaluate_trees, evaluate_branches}
-use Rattle.meaning.specs.Scope.{Place, Key, define_key, actual_key, Role, Kind, a_formal, a_variable, a_define, an_instance, undeclared, kind_in, kind_at, module_at, actual_of_kind, is_symbol, Meaning, a_variable_at, an_expression_at, an_instance_at, a_symbol, LookUp, plain_name, through_plain, through_actual, through_formal, by_kind, means_in}
-use Rattle.meaning.specs.May.{Valuation, values_of_meaning, name_values, May}
-use Rattle.meaning.specs.Trace.{IsVariable}
+use Rattle.xs_tree.specs.Values.{Value, Values}
+use Rattle.xs_tree.specs.Evaluate.{Leaves, evaluate, evaluate_trees, evaluate_branches}
+use Rattle.xs_tree.specs.Scope.{Place, Key, define_key, actual_key, Role, Kind, a_formal, a_variable, a_define, an_instance, undeclared, kind_in, kind_at, module_at, actual_of_kind, is_symbol, Meaning, a_variable_at, an_expression_at, an_instance_at, a_symbol, LookUp, plain_name, through_plain, through_actual, through_formal, by_kind, means_in}
+use Rattle.xs_tree.specs.May.{Valuation, values_of_meaning, name_values, May}
+use Rattle.xs_tree.specs.Trace.{IsVariable}
 use Rattle.xs_fei.specs.Instructions.{InstructionTree}
 use Rattle.xs_weave.specs.Woven.{woven, tree_map_both, trees_map_both, branches_map_both}
-use Rattle.xs_weave.specs.Weavable.{AllLeaves, AllLeavesOfTrees, AllLeavesOfBranches, NoNext, NoNextInTrees, NoNextInBranches, IsWeavable, IsReadable, HasMeaning}
+use Rattle.xs_tree.specs.Laws.{AllLeaves, AllLeavesOfTrees, AllLeavesOfBranches}
+use Rattle.xs_weave.specs.Weavable.{NoNext, NoNextInTrees, NoNextInBranches, IsWeavable, IsReadable, HasMeaning}
 use Rattle.xs_weave.proofs.Meanings.{same_meaning}
 
 -- evaluation sees what the leaves of the tree give, and no more

@@ -2,10 +2,11 @@
 use Rattle.std.proofs.Common.{◌≡◌, inl, inr, Bool, true, false, List, [], ◌∷◌, Some, None, refl, sym, ap, subst}
 use Rattle.std.specs.Prelude.{if◌then◌else◌}
 use Rattle.xs_tree.specs.ProgramTree.{Text, Path, Formula}
-use Rattle.meaning.specs.Values.{truth, one, same_text}
-use Rattle.meaning.specs.Evaluate.{Leaves, evaluate, evaluate_branches, gives_choice}
-use Rattle.meaning.specs.Trace.{Each}
-use Rattle.meaning.proofs.ValueLaws.{same_text_equal, same_text_refl}
+use Rattle.xs_tree.specs.Values.{truth, one}
+use Rattle.xs_tree.specs.Texts.{same_text}
+use Rattle.xs_tree.specs.Evaluate.{Leaves, evaluate, evaluate_branches, gives_choice}
+use Rattle.xs_tree.specs.Trace.{Each}
+use Rattle.xs_tree.proofs.ValueLaws.{same_text_equal, same_text_refl}
 use Rattle.xs_fei.specs.Instructions.{ModeTree}
 use Rattle.xs_effects.specs.AddedNames.{ModeState}
 use Rattle.xs_effects.specs.Templates.{stands}
@@ -42,4 +43,3 @@ chosen_some f last (n ∷ ms) m a h = go (same_text m.name n.name) refl a (λ b.
     go true e a more = ap f (sym (h n (inl refl) (same_text_equal _ _ e)))
     go false e (inl is) more = let yes' : same_text m.name n.name ≡ true = subst (λ k. same_text m.name k.name ≡ true) (sym is) (same_text_refl m.name) in cc
     go false e (inr b) more = more b
-

@@ -2,10 +2,10 @@
 use Rattle.std.proofs.Common.{◌≡◌, ◌⊎◌, inl, inr, ℕ, Bool, true, false, List, [], ◌∷◌, Option, Some, None, refl, sym, ap, subst}
 use Rattle.std.specs.Prelude.{if◌then◌else◌, ◌||◌}
 use Rattle.xs_tree.specs.ProgramTree.{Text, DeclaredTree, boolean, range, members, instance, DeclTree, DefineTree, SectionTree, var, ivar, frozen, define, constants, assign, init, invar, trans, ModuleTree, ProgramTree}
-use Rattle.meaning.specs.Values.{same_text}
-use Rattle.meaning.specs.Scope.{Role, state, input, frozen_role, Kind, a_variable, a_define, kind_declared, kind_in_decls, kind_in_defines, kind_in_sections, kind_after_formals, formal_from, kind_in, is_symbol, is_symbol_of_sections, is_symbol_of_decls, is_symbol_of_type, is_text_among}
-use Rattle.meaning.specs.Trace.{Each}
-use Rattle.meaning.proofs.ValueLaws.{same_text_equal}
+use Rattle.xs_tree.specs.Texts.{same_text, is_among}
+use Rattle.xs_tree.specs.Scope.{Role, state, input, frozen_role, Kind, a_variable, a_define, kind_declared, kind_in_decls, kind_in_defines, kind_in_sections, kind_after_formals, formal_from, kind_in, is_symbol, is_symbol_of_sections, is_symbol_of_decls, is_symbol_of_type}
+use Rattle.xs_tree.specs.Trace.{Each}
+use Rattle.xs_tree.proofs.ValueLaws.{same_text_equal}
 use Rattle.xs_weave.specs.Woven.{type_of_kind}
 use Rattle.xs_weave.specs.Weavable.{Among}
 use Rattle.xs_weave.proofs.Lists.{each_all}
@@ -74,7 +74,7 @@ section_symbol (x ∷ ss) section y (inl e) h = first x ss (subst (λ z. is_symb
     first (var ds) ss h = or_true (is_symbol_of_decls ds y) _ (inl (drop (is_symbol_of_decls ds y) h))
     first (ivar ds) ss h = or_true (is_symbol_of_decls ds y) _ (inl (drop (is_symbol_of_decls ds y) h))
     first (frozen ds) ss h = or_true (is_symbol_of_decls ds y) _ (inl (drop (is_symbol_of_decls ds y) h))
-    first (constants xs) ss h = or_true (is_text_among xs y) _ (inl (drop (is_text_among xs y) h))
+    first (constants xs) ss h = or_true (is_among xs y) _ (inl (drop (is_among xs y) h))
     first (define ds) ss h = cc
     first (assign xs) ss h = cc
     first (init e) ss h = cc
@@ -86,7 +86,7 @@ section_symbol (x ∷ ss) section y (inr a) h = later x (section_symbol ss secti
     later (var ds) h = or_true (is_symbol_of_decls ds y) _ (inr h)
     later (ivar ds) h = or_true (is_symbol_of_decls ds y) _ (inr h)
     later (frozen ds) h = or_true (is_symbol_of_decls ds y) _ (inr h)
-    later (constants xs) h = or_true (is_text_among xs y) _ (inr h)
+    later (constants xs) h = or_true (is_among xs y) _ (inr h)
     later (define ds) h = h
     later (assign xs) h = h
     later (init e) h = h

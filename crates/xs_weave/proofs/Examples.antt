@@ -4,9 +4,10 @@ use Rattle.std.specs.Prelude.{codes}
 use Rattle.xs_tree.specs.declared.program.Moment.TheVariants.{First, After}
 use Rattle.xs_tree.specs.Tree.{truth as is_truth, leaf}
 use Rattle.xs_tree.specs.ProgramTree.{Text, boolean, var, assign, ProgramTree, ModuleTree}
-use Rattle.meaning.specs.Values.{truth, one, same_text}
-use Rattle.meaning.specs.Scope.{Place, module_at, module_of_kind, kind_in}
-use Rattle.meaning.specs.Trace.{IsInstance, Each}
+use Rattle.xs_tree.specs.Values.{truth, one}
+use Rattle.xs_tree.specs.Texts.{same_text}
+use Rattle.xs_tree.specs.Scope.{Place, module_at, module_of_kind, kind_in}
+use Rattle.xs_tree.specs.Trace.{IsInstance, Each}
 use Rattle.xs_fei.specs.declared.instructions.Dynamics.TheVariants.{Permanent}
 use Rattle.xs_weave.specs.Faults.{HasFaults}
 use Rattle.xs_fei.specs.Instructions.{InstructionTree, stuck_at, slices_of}

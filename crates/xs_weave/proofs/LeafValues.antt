@@ -4,12 +4,12 @@ use Rattle.std.specs.Prelude.{IsTrue}
 use Rattle.xs_tree.specs.declared.program.Member.{Member}
 use Rattle.xs_tree.specs.declared.program.Member.TheVariants as member
 use Rattle.xs_tree.specs.ProgramTree.{Text, Formula, DeclaredTree, boolean, range, members, instance, ModuleTree, ProgramTree}
-use Rattle.meaning.specs.Values.{Value, symbol, Values, one, has}
-use Rattle.meaning.specs.Evaluate.{evaluate}
-use Rattle.meaning.specs.Scope.{Place, Role, state, Kind, a_variable, an_instance, undeclared, kind_declared, kind_in_sections, kind_in, kind_at, module_of_kind, module_at, is_symbol, is_symbol_of_members, is_symbol_of_type}
-use Rattle.meaning.specs.May.{Valuation, name_values, May}
-use Rattle.meaning.specs.Trace.{Each, IsInstance}
-use Rattle.meaning.proofs.Monotone.{evaluate_below, name_values_more, same_values}
+use Rattle.xs_tree.specs.Values.{Value, symbol, Values, one, has}
+use Rattle.xs_tree.specs.Evaluate.{evaluate}
+use Rattle.xs_tree.specs.Scope.{Place, Role, state, Kind, a_variable, an_instance, undeclared, kind_declared, kind_in_sections, kind_in, kind_at, module_of_kind, module_at, is_symbol, is_symbol_of_members, is_symbol_of_type}
+use Rattle.xs_tree.specs.May.{Valuation, name_values, May}
+use Rattle.xs_tree.specs.Trace.{Each, IsInstance}
+use Rattle.xs_tree.proofs.Monotone.{evaluate_below, name_values_more, same_values}
 use Rattle.xs_fei.specs.Instructions.{SliceTree, InstructionTree, slices_of}
 use Rattle.xs_effects.specs.AddedNames.{ModeState}
 use Rattle.xs_effects.specs.AddedNames.{own_name, mode_variable, mode_symbol}
@@ -18,8 +18,8 @@ use Rattle.xs_weave.specs.Weavable.{Among, IsFinite, IsFreeMember, SymbolsAreFre
 use Rattle.xs_effects.specs.Types.{IsKnown}
 use Rattle.xs_weave.proofs.WovenKinds.{kind_or, kind_woven, Adds, IsAddedBy, added_or_not}
 use Rattle.xs_weave.proofs.Meanings.{module_woven, symbol_stays, kind_kept, Kept}
-use Rattle.meaning.specs.Values.{same_text}
-use Rattle.meaning.proofs.ValueLaws.{same_text_refl}
+use Rattle.xs_tree.specs.Texts.{same_text}
+use Rattle.xs_tree.proofs.ValueLaws.{same_text_refl}
 use Rattle.xs_weave.proofs.Declared.{or_true, variable_symbol}
 use Rattle.xs_effects.specs.EffectLaw.{SliceLeaves}
 use Rattle.xs_weave.proofs.Added.{own_not_mode, own_kind, mode_kind, slices_symbol, found_among, woven_symbol}

@@ -16,3 +16,6 @@ pub mod WovenExamples
 pub mod OneToOne
 pub mod Declared
 pub mod Cases
+pub mod LookupLaws
+pub mod RenameLaws
+pub mod SliceLaws

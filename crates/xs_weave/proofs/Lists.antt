@@ -1,7 +1,7 @@
 -- What holds of each member of lists put together.
 use Rattle.std.proofs.Common.{inl, inr, ◌↔◌, List, [], ◌∷◌, ◌++◌, refl, subst}
 use Rattle.std.specs.Prelude.{map, flat_map}
-use Rattle.meaning.specs.Trace.{Each}
+use Rattle.xs_tree.specs.Trace.{Each}
 use Rattle.xs_effects.proofs.Equivalence.{iff_trans, iff_refl, iff_both}
 use Rattle.xs_weave.specs.Weavable.{Among}
 

@@ -2,8 +2,9 @@
 use Rattle.std.proofs.Common.{◌≡◌, ◌⊎◌, inl, inr, ℕ, zero, suc, Bool, true, false, List, [], ◌∷◌, ◌++◌, Option, Some, None, refl, sym, ◌∙◌, ap, subst}
 use Rattle.std.specs.Prelude.{map, option_map, ◌||◌, if◌then◌else◌, codes}
 use Rattle.xs_tree.specs.ProgramTree.{Text, Path, Formula, SectionTree, var, ivar, frozen, define, constants, assign, init, invar, trans, ModuleTree, ProgramTree}
-use Rattle.meaning.specs.Scope.{Place, Key, actual_key, Kind, a_formal, a_variable, a_define, an_instance, undeclared, kind_in_sections, kind_in, kind_at, module_of_kind, module_at, actual_of_kind, is_symbol, is_symbol_of_sections, is_symbol_of_decls, is_text_among, Meaning, a_symbol, LookUp, plain_name, through_plain, through_actual, through_formal, by_kind, means_in}
-use Rattle.meaning.specs.Trace.{IsInstance}
+use Rattle.xs_tree.specs.Scope.{Place, Key, actual_key, Kind, a_formal, a_variable, a_define, an_instance, undeclared, kind_in_sections, kind_in, kind_at, module_of_kind, module_at, actual_of_kind, is_symbol, is_symbol_of_sections, is_symbol_of_decls, Meaning, a_symbol, LookUp, plain_name, through_plain, through_actual, through_formal, by_kind, means_in}
+use Rattle.xs_tree.specs.Texts.{is_among}
+use Rattle.xs_tree.specs.Trace.{IsInstance}
 use Rattle.xs_fei.specs.Instructions.{SliceTree, InstructionTree, slices_of, is_affected}
 use Rattle.xs_effects.specs.AddedNames.{own_name, mode_variable}
 use Rattle.xs_weave.specs.Woven.{type_of_kind, woven_section, added_sections, woven_module, woven}
@@ -31,7 +32,7 @@ sections_symbol affected (var ds ∷ ss) ts x h = or_right (is_symbol_of_decls d
 sections_symbol affected (ivar ds ∷ ss) ts x h = or_right (is_symbol_of_decls ds x) _ _ (sections_symbol affected ss ts x) h
 sections_symbol affected (frozen ds ∷ ss) ts x h = or_right (is_symbol_of_decls ds x) _ _ (sections_symbol affected ss ts x) h
 sections_symbol affected (define ds ∷ ss) ts x h = sections_symbol affected ss ts x h
-sections_symbol affected (constants xs ∷ ss) ts x h = or_right (is_text_among xs x) _ _ (sections_symbol affected ss ts x) h
+sections_symbol affected (constants xs ∷ ss) ts x h = or_right (is_among xs x) _ _ (sections_symbol affected ss ts x) h
 sections_symbol affected (assign xs ∷ ss) ts x h = sections_symbol affected ss ts x h
 sections_symbol affected (init e ∷ ss) ts x h = sections_symbol affected ss ts x h
 sections_symbol affected (invar e ∷ ss) ts x h = sections_symbol affected ss ts x h

@@ -3,11 +3,12 @@ use Rattle.std.proofs.Common.{◌≡◌, ◌≢◌, ◌⊎◌, inl, inr, Bool, t
 use Rattle.std.specs.Prelude.{IsTrue, map, codes, nat_eq, if◌then◌else◌, ◌||◌}
 use Rattle.xs_tree.specs.declared.program.Member.TheVariants as member
 use Rattle.xs_tree.specs.ProgramTree.{Text, Formula, DeclaredTree, ModuleTree, ProgramTree}
-use Rattle.meaning.specs.Values.{Value, truth, number, symbol, same_text}
-use Rattle.meaning.specs.Scope.{Place, Role, a_variable, undeclared, kind_in, module_at}
-use Rattle.meaning.specs.May.{Valuation, May}
-use Rattle.meaning.specs.Trace.{Each, EachPair, AtSome, AtFirst, IsInstance, IsVariable, in_domain, is_member, DomainSection, IsMoment, IsTrace}
-use Rattle.meaning.proofs.ValueLaws.{same_text_equal, same_text_refl}
+use Rattle.xs_tree.specs.Values.{Value, truth, number, symbol}
+use Rattle.xs_tree.specs.Texts.{same_text}
+use Rattle.xs_tree.specs.Scope.{Place, Role, a_variable, undeclared, kind_in, module_at}
+use Rattle.xs_tree.specs.May.{Valuation, May}
+use Rattle.xs_tree.specs.Trace.{Each, EachPair, AtSome, AtFirst, IsInstance, IsVariable, in_domain, is_member, DomainSection, IsMoment, IsTrace}
+use Rattle.xs_tree.proofs.ValueLaws.{same_text_equal, same_text_refl}
 use Rattle.xs_fei.specs.Instructions.{ModeTree, SliceTree, InstructionTree, slices_of}
 use Rattle.xs_effects.specs.AddedNames.{ModeState}
 use Rattle.xs_weave.specs.Moves.{Moves, Guarded, Stays}

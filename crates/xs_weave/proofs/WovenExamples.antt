@@ -6,9 +6,10 @@ use Rattle.xs_tree.specs.declared.program.Member.TheVariants as member
 use Rattle.xs_tree.specs.declared.program.Moment.TheVariants.{Always, First, After}
 use Rattle.xs_tree.specs.Tree.{truth as is_truth, next_of, binary, choice, case_of, set_of, no_tree, tree_then, no_branch, branch_then}
 use Rattle.xs_tree.specs.ProgramTree.{Text, Formula, boolean, members, var, assign, trans, ModuleTree}
-use Rattle.meaning.specs.Values.{truth, same_text}
-use Rattle.meaning.specs.Scope.{Place, state, a_variable, a_define, an_instance, undeclared, kind_in, a_variable_at}
-use Rattle.meaning.proofs.ValueLaws.{same_text_refl}
+use Rattle.xs_tree.specs.Values.{truth}
+use Rattle.xs_tree.specs.Texts.{same_text}
+use Rattle.xs_tree.specs.Scope.{Place, state, a_variable, a_define, an_instance, undeclared, kind_in, a_variable_at}
+use Rattle.xs_tree.proofs.ValueLaws.{same_text_refl}
 use Rattle.xs_fei.specs.declared.instructions.Dynamics.TheVariants.{Permanent, Transient}
 use Rattle.xs_fei.specs.Instructions.{InstructionTree, SliceTree, ModeTree, random, frozen, stuck_at, slices_of}
 use Rattle.xs_effects.specs.AddedNames.{ModeState}

@@ -4,10 +4,11 @@ use Rattle.std.specs.Prelude.{IsTrue, map, option_map, ◌||◌}
 use Rattle.xs_tree.specs.declared.program.Member.{Member}
 use Rattle.xs_tree.specs.declared.program.Member.TheVariants as member
 use Rattle.xs_tree.specs.ProgramTree.{Text, DeclaredTree, boolean, range, members, instance, SectionTree, var, ivar, frozen, define, constants, assign, init, invar, trans, ModuleTree, ProgramTree}
-use Rattle.meaning.specs.Values.{Value, symbol, same_text}
-use Rattle.meaning.specs.Scope.{Place, Role, state, input, frozen_role, a_variable, kind_declared, kind_in_sections, formal_from, kind_in, module_at, is_symbol_of_members}
-use Rattle.meaning.specs.May.{Valuation, May}
-use Rattle.meaning.specs.Trace.{Each, IsInstance, in_domain, is_member, Declares, FirstSection, EachSection, DomainSection}
+use Rattle.xs_tree.specs.Values.{Value, symbol}
+use Rattle.xs_tree.specs.Texts.{same_text}
+use Rattle.xs_tree.specs.Scope.{Place, Role, state, input, frozen_role, a_variable, kind_declared, kind_in_sections, formal_from, kind_in, module_at, is_symbol_of_members}
+use Rattle.xs_tree.specs.May.{Valuation, May}
+use Rattle.xs_tree.specs.Trace.{Each, IsInstance, in_domain, is_member, Declares, FirstSection, EachSection, DomainSection}
 use Rattle.xs_fei.specs.Instructions.{EffectTree, stuck_at, follows, inverted, random, erroneous, frozen as e_frozen, stuck_at_pick, offset, ramp_down, SliceTree, InstructionTree, slices_of, is_affected}
 use Rattle.xs_effects.specs.AddedNames.{ModeState}
 use Rattle.xs_weave.specs.Extended as extended

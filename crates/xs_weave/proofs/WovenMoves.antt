@@ -4,12 +4,12 @@ use Rattle.std.specs.Prelude.{ℤ, int_lt, ◌-ℤ◌, IsTrue, codes, ◌&&◌, 
 use Rattle.xs_tree.specs.declared.expr.Op.TheVariants as op
 use Rattle.xs_tree.specs.Tree.{binary, choice}
 use Rattle.xs_tree.specs.ProgramTree.{Text, Formula, DeclaredTree, boolean, range, members, instance, ModuleTree, ProgramTree}
-use Rattle.meaning.specs.Values.{Value, truth, number, symbol, Values, no_value, one, either, has, same_value, opposite}
-use Rattle.meaning.specs.Evaluate.{evaluate, gives_either, gives_choice}
-use Rattle.meaning.specs.Scope.{Place}
-use Rattle.meaning.specs.May.{Valuation, name_values, May}
-use Rattle.meaning.specs.Trace.{Each, AtSome, IsInstance, InDomains, in_domain, StepSection, FirstSection}
-use Rattle.meaning.proofs.Monotone.{evaluate_below, raised}
+use Rattle.xs_tree.specs.Values.{Value, truth, number, symbol, Values, no_value, one, either, has, same_value, opposite}
+use Rattle.xs_tree.specs.Evaluate.{evaluate, gives_either, gives_choice}
+use Rattle.xs_tree.specs.Scope.{Place}
+use Rattle.xs_tree.specs.May.{Valuation, name_values, May}
+use Rattle.xs_tree.specs.Trace.{Each, AtSome, IsInstance, InDomains, in_domain, StepSection, FirstSection}
+use Rattle.xs_tree.proofs.Monotone.{evaluate_below, raised}
 use Rattle.xs_fei.specs.declared.instructions.Dynamics.{Dynamics}
 use Rattle.xs_fei.specs.declared.instructions.Dynamics.TheVariants.{Permanent, Transient}
 use Rattle.xs_fei.specs.Instructions.{EffectTree, stuck_at, follows, inverted, random, erroneous, frozen, stuck_at_pick, offset, ramp_down, ModeTree, SliceTree, InstructionTree, slices_of}

@@ -4,12 +4,12 @@ use Rattle.std.specs.Prelude.{map, if◌then◌else◌}
 use Rattle.xs_tree.specs.declared.program.Moment.{Moment as When}
 use Rattle.xs_tree.specs.declared.program.Moment.TheVariants.{Always, First, After}
 use Rattle.xs_tree.specs.ProgramTree.{Text, Path, Formula, DeclaredTree, boolean, range, members, instance, SectionTree, var, ivar, frozen, define, constants, assign, init, invar, trans, ModuleTree, ProgramTree}
-use Rattle.meaning.specs.Values.{Value, truth, one}
-use Rattle.meaning.specs.Evaluate.{evaluate}
-use Rattle.meaning.specs.Scope.{Place, Role, state, input, frozen_role, a_variable, kind_declared, kind_in, kind_at, module_at, means_in}
-use Rattle.meaning.specs.May.{Valuation, name_values, Reading, reading, MayRead, May}
-use Rattle.meaning.specs.Trace.{Keeps, Each, EachPair, AtFirst, IsInstance, Declares, FirstAssigned, EachAssigned, NextAssigned, FirstSection, EachSection, StepSection, DomainSection, IsFirst, IsMoment, IsStep, IsTrace}
-use Rattle.meaning.proofs.Monotone.{Extends, evaluate_below, name_values_more}
+use Rattle.xs_tree.specs.Values.{Value, truth, one}
+use Rattle.xs_tree.specs.Evaluate.{evaluate}
+use Rattle.xs_tree.specs.Scope.{Place, Role, state, input, frozen_role, a_variable, kind_declared, kind_in, kind_at, module_at, means_in}
+use Rattle.xs_tree.specs.May.{Valuation, name_values, Reading, reading, MayRead, May}
+use Rattle.xs_tree.specs.Trace.{Keeps, Each, EachPair, AtFirst, IsInstance, Declares, FirstAssigned, EachAssigned, NextAssigned, FirstSection, EachSection, StepSection, DomainSection, IsFirst, IsMoment, IsStep, IsTrace}
+use Rattle.xs_tree.proofs.Monotone.{Extends, evaluate_below, name_values_more}
 use Rattle.xs_fei.specs.Instructions.{SliceTree, InstructionTree, slices_of, is_affected}
 use Rattle.xs_weave.specs.Moves.{Moves}
 use Rattle.xs_weave.specs.Extended as extended

@@ -4,12 +4,12 @@ use Rattle.std.specs.Prelude.{if◌then◌else◌}
 use Rattle.xs_tree.specs.declared.program.Moment.{Moment as When}
 use Rattle.xs_tree.specs.declared.program.Moment.TheVariants.{Always, First, After}
 use Rattle.xs_tree.specs.ProgramTree.{Text, Path, Formula, SectionTree, var, ivar, frozen, define, constants, assign, init, invar, trans, ModuleTree, ProgramTree, boolean, range, members, instance, DeclaredTree}
-use Rattle.meaning.specs.Values.{Value, truth, one}
-use Rattle.meaning.specs.Evaluate.{evaluate}
-use Rattle.meaning.specs.Scope.{Place, frozen_role, kind_declared, kind_in, a_variable}
-use Rattle.meaning.specs.May.{Valuation, name_values, Reading, reading, MayRead, May}
-use Rattle.meaning.specs.Trace.{Keeps, IsInstance, FirstAssigned, EachAssigned, NextAssigned, FirstSection, EachSection, StepSection}
-use Rattle.meaning.proofs.Monotone.{Extends, evaluate_below, name_values_more}
+use Rattle.xs_tree.specs.Values.{Value, truth, one}
+use Rattle.xs_tree.specs.Evaluate.{evaluate}
+use Rattle.xs_tree.specs.Scope.{Place, frozen_role, kind_declared, kind_in, a_variable}
+use Rattle.xs_tree.specs.May.{Valuation, name_values, Reading, reading, MayRead, May}
+use Rattle.xs_tree.specs.Trace.{Keeps, IsInstance, FirstAssigned, EachAssigned, NextAssigned, FirstSection, EachSection, StepSection}
+use Rattle.xs_tree.proofs.Monotone.{Extends, evaluate_below, name_values_more}
 use Rattle.xs_fei.specs.Instructions.{SliceTree, InstructionTree, slices_of, is_affected}
 use Rattle.xs_weave.specs.Extended as extended
 use Rattle.xs_weave.specs.Extended.{Moment, with_own, own_reading, target_value}

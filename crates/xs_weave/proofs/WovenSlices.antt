@@ -2,12 +2,12 @@
 use Rattle.std.proofs.Common.{◌≡◌, ◌≢◌, inl, inr, ◌↔◌, ℕ, suc, Bool, true, false, List, [], ◌∷◌, Some, None, refl, sym, ◌∙◌, ap, subst}
 use Rattle.std.specs.Prelude.{ℤ, IsTrue, codes, ◌||◌}
 use Rattle.xs_tree.specs.ProgramTree.{Text, Formula, DeclaredTree, boolean, range, members, instance, ModuleTree, ProgramTree}
-use Rattle.meaning.specs.Values.{Value, truth, symbol, Values, one, has, same_value, opposite}
-use Rattle.meaning.specs.Evaluate.{evaluate}
-use Rattle.meaning.specs.Scope.{Place, kind_in}
-use Rattle.meaning.specs.May.{Valuation, name_values, May}
-use Rattle.meaning.specs.Trace.{Each, AtSome, IsInstance, in_domain, EachSection}
-use Rattle.meaning.proofs.ValueLaws.{same_text_equal, same_text_refl}
+use Rattle.xs_tree.specs.Values.{Value, truth, symbol, Values, one, has, same_value, opposite}
+use Rattle.xs_tree.specs.Evaluate.{evaluate}
+use Rattle.xs_tree.specs.Scope.{Place, kind_in}
+use Rattle.xs_tree.specs.May.{Valuation, name_values, May}
+use Rattle.xs_tree.specs.Trace.{Each, AtSome, IsInstance, in_domain, EachSection}
+use Rattle.xs_tree.proofs.ValueLaws.{same_text_equal, same_text_refl}
 use Rattle.xs_fei.specs.Instructions.{EffectTree, stuck_at, follows, inverted, random, erroneous, frozen, stuck_at_pick, offset, ramp_down, ModeTree, SliceTree, InstructionTree, slices_of}
 use Rattle.xs_effects.specs.AddedNames.{ModeState}
 use Rattle.xs_effects.specs.AddedNames.{own_name, mode_variable, mode_symbol}

@@ -2,11 +2,12 @@
 use Rattle.std.proofs.Common.{◌≡◌, inl, inr, ◌↔◌, Bool, true, List, [], ◌∷◌, Some, None, refl, sym, ◌∙◌, subst}
 use Rattle.std.specs.Prelude.{IsTrue}
 use Rattle.xs_tree.specs.ProgramTree.{Text, SectionTree, var, ivar, frozen, define, constants, assign, init, invar, trans, ModuleTree, ProgramTree}
-use Rattle.meaning.specs.Values.{Value, truth, same_text, opposite}
-use Rattle.meaning.specs.Scope.{Place, kind_in}
-use Rattle.meaning.specs.May.{Valuation, May}
-use Rattle.meaning.specs.Trace.{Each, EachPair, AtSome, AtFirst, IsInstance, in_domain, FirstSection, EachSection, StepSection, DomainSection, IsFirst, InDomains, IsMoment, IsStep, IsTrace}
-use Rattle.meaning.proofs.ValueLaws.{same_text_equal, same_text_refl}
+use Rattle.xs_tree.specs.Values.{Value, truth, opposite}
+use Rattle.xs_tree.specs.Texts.{same_text}
+use Rattle.xs_tree.specs.Scope.{Place, kind_in}
+use Rattle.xs_tree.specs.May.{Valuation, May}
+use Rattle.xs_tree.specs.Trace.{Each, EachPair, AtSome, AtFirst, IsInstance, in_domain, FirstSection, EachSection, StepSection, DomainSection, IsFirst, InDomains, IsMoment, IsStep, IsTrace}
+use Rattle.xs_tree.proofs.ValueLaws.{same_text_equal, same_text_refl}
 use Rattle.xs_fei.specs.Instructions.{ModeTree, SliceTree, InstructionTree, slices_of, is_affected}
 use Rattle.xs_effects.specs.AddedNames.{ModeState}
 use Rattle.xs_effects.specs.Effects.{Allows}

@@ -1,10 +1,10 @@
 -- What a woven program means: its traces are the extended traces, and its faultless ones those of the program.
 use Rattle.std.specs.Prelude.{◌≡◌, ◌↔◌, List, [], ◌∷◌, ◌++◌, Some, None, Contains, codes}
 use Rattle.xs_tree.specs.ProgramTree.{Text, DeclaredTree, ModuleTree, ProgramTree}
-use Rattle.meaning.specs.Values.{symbol}
-use Rattle.meaning.specs.Scope.{Place, Role}
-use Rattle.meaning.specs.May.{Valuation}
-use Rattle.meaning.specs.Trace.{IsInstance, IsVariable, IsTrace, Each, AtSome}
+use Rattle.xs_tree.specs.Values.{symbol}
+use Rattle.xs_tree.specs.Scope.{Place, Role}
+use Rattle.xs_tree.specs.May.{Valuation}
+use Rattle.xs_tree.specs.Trace.{IsInstance, IsVariable, IsTrace, Each, AtSome}
 use Rattle.xs_fei.specs.Instructions.{InstructionTree, SliceTree, slices_of}
 use Rattle.xs_effects.specs.AddedNames.{ModeState, own_name, mode_variable, mode_symbol}
 use Rattle.xs_weave.specs.Extended.{Moment, IsExtended}

@@ -3,10 +3,11 @@ use Rattle.std.specs.Prelude.{◌≡◌, Bool, true, List, [], ◌∷◌, Some, 
 use Rattle.xs_tree.specs.declared.program.Moment.{Moment as When}
 use Rattle.xs_tree.specs.declared.program.Moment.TheVariants.{Always, First, After}
 use Rattle.xs_tree.specs.ProgramTree.{Text, Path, Formula, DeclaredTree, boolean, DeclTree, SectionTree, var, ivar, frozen, assign, init, invar, trans, ModuleTree, ProgramTree}
-use Rattle.meaning.specs.Values.{Value, truth, one, opposite, same_text}
-use Rattle.meaning.specs.Scope.{Place, Kind, a_variable, kind_in}
-use Rattle.meaning.specs.May.{Valuation, Reading, reading, MayRead, May}
-use Rattle.meaning.specs.Trace.{IsInstance, Declares, Keeps, Each, EachPair, AtSome, AtFirst, AtLast}
+use Rattle.xs_tree.specs.Values.{Value, truth, one, opposite}
+use Rattle.xs_tree.specs.Texts.{same_text}
+use Rattle.xs_tree.specs.Scope.{Place, Kind, a_variable, kind_in}
+use Rattle.xs_tree.specs.May.{Valuation, Reading, reading, MayRead, May}
+use Rattle.xs_tree.specs.Trace.{IsInstance, Declares, Keeps, Each, EachPair, AtSome, AtFirst, AtLast}
 use Rattle.xs_fei.specs.Instructions.{InstructionTree, SliceTree, slices_of, is_affected}
 use Rattle.xs_effects.specs.Effects.{Allows}
 use Rattle.xs_effects.specs.AddedNames.{ModeState}

@@ -1,7 +1,7 @@
 -- The faults of a program under instructions.
 use Rattle.std.specs.Prelude.{◌≡◌, ℕ, zero, suc, List, [], ◌∷◌, ◌++◌, Option, Some, None, map, flat_map}
 use Rattle.xs_tree.specs.ProgramTree.{Text, boolean, range, members, instance, DeclTree, SectionTree, var, ModuleTree, ProgramTree}
-use Rattle.meaning.specs.Scope.{Place, module_at}
+use Rattle.xs_tree.specs.Scope.{Place, module_at}
 use Rattle.xs_fei.specs.Instructions.{InstructionTree, SliceTree, slices_of}
 
 pub record Fault : Type 0 where

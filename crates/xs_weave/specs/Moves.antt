@@ -3,7 +3,7 @@ use Rattle.std.specs.Prelude.{◌≡◌, ◌⊎◌, List, Option, Some, None}
 use Rattle.xs_fei.specs.declared.instructions.Dynamics.{Dynamics}
 use Rattle.xs_fei.specs.declared.instructions.Dynamics.TheVariants.{Permanent, Transient}
 use Rattle.xs_tree.specs.ProgramTree.{Text, Formula}
-use Rattle.meaning.specs.Trace.{AtSome}
+use Rattle.xs_tree.specs.Trace.{AtSome}
 use Rattle.xs_fei.specs.Instructions.{ModeTree}
 use Rattle.xs_effects.specs.AddedNames.{ModeState}
 

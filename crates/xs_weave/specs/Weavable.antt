@@ -4,38 +4,16 @@ use Rattle.xs_tree.specs.declared.program.Member.{Member}
 use Rattle.xs_tree.specs.declared.program.Member.TheVariants as member
 use Rattle.xs_tree.specs.Tree.{Tree, Trees, Branches, truth as is_truth, number as is_number, leaf, not_of, negate, next_of, binary, choice, case_of, set_of, span, no_tree, tree_then, no_branch, branch_then}
 use Rattle.xs_tree.specs.ProgramTree.{Text, Path, Formula, DeclaredTree, boolean, range, members, instance, DeclTree, AssignmentTree, SectionTree, var, ivar, frozen as frozen_section, assign, init, invar, trans, ModuleTree, ProgramTree}
-use Rattle.meaning.specs.Values.{truth, one}
-use Rattle.meaning.specs.Evaluate.{evaluate}
-use Rattle.meaning.specs.Scope.{Place, Role, state, input, frozen_role, a_variable, a_define, an_instance, undeclared, kind_declared, kind_in, nth_formula, is_symbol, Meaning, Means}
-use Rattle.meaning.specs.May.{Valuation, name_values}
-use Rattle.meaning.specs.Trace.{IsInstance, Each, AtSome, in_domain, InDomains}
+use Rattle.xs_tree.specs.Values.{truth, one}
+use Rattle.xs_tree.specs.Evaluate.{evaluate}
+use Rattle.xs_tree.specs.Laws.{AllLeaves}
+use Rattle.xs_tree.specs.Scope.{Place, Role, state, input, frozen_role, a_variable, a_define, an_instance, undeclared, kind_declared, kind_in, nth_formula, is_symbol, Meaning, Means}
+use Rattle.xs_tree.specs.May.{Valuation, name_values}
+use Rattle.xs_tree.specs.Trace.{IsInstance, Each, AtSome, in_domain, InDomains}
 use Rattle.xs_fei.specs.Instructions.{EffectTree, stuck_at, follows, inverted, offset, ramp_down, ModeTree, SliceTree, InstructionTree, slices_of}
 use Rattle.xs_effects.specs.Types.{IsUniform, IsKnown}
 use Rattle.xs_effects.specs.AddedNames.{ModeState}
 use Rattle.xs_effects.specs.AddedNames.{own_name, mode_variable, mode_symbol}
-
--- every leaf is so
-abbrev mutual
-  pub AllLeaves : {L : Type 0} → (L → Type 0) → Tree L → Type 0
-  AllLeaves P (is_truth b) = Unit {0}
-  AllLeaves P (is_number n) = Unit {0}
-  AllLeaves P (leaf l) = P l
-  AllLeaves P (not_of a) = AllLeaves P a
-  AllLeaves P (negate a) = AllLeaves P a
-  AllLeaves P (next_of a) = AllLeaves P a
-  AllLeaves P (binary o a b) = AllLeaves P a × AllLeaves P b
-  AllLeaves P (choice c a b) = AllLeaves P c × AllLeaves P a × AllLeaves P b
-  AllLeaves P (case_of bs) = AllLeavesOfBranches P bs
-  AllLeaves P (set_of ts) = AllLeavesOfTrees P ts
-  AllLeaves P (span lo hi) = Unit {0}
-
-  pub AllLeavesOfTrees : {L : Type 0} → (L → Type 0) → Trees L → Type 0
-  AllLeavesOfTrees P no_tree = Unit {0}
-  AllLeavesOfTrees P (tree_then t ts) = AllLeaves P t × AllLeavesOfTrees P ts
-
-  pub AllLeavesOfBranches : {L : Type 0} → (L → Type 0) → Branches L → Type 0
-  AllLeavesOfBranches P no_branch = Unit {0}
-  AllLeavesOfBranches P (branch_then c a bs) = AllLeaves P c × AllLeaves P a × AllLeavesOfBranches P bs
 
 -- `next` does not stand in it
 abbrev mutual

@@ -6,11 +6,12 @@ use Rattle.xs_tree.specs.declared.program.Member.TheVariants as member
 use Rattle.xs_tree.specs.declared.program.Moment.TheVariants.{Always, First, After}
 use Rattle.xs_tree.specs.Tree.{Tree, Trees, Branches, truth as is_truth, number as is_number, leaf, not_of, negate, next_of, binary, choice, case_of, set_of, span, no_tree, tree_then, no_branch, branch_then}
 use Rattle.xs_tree.specs.ProgramTree.{Text, Path, Formula, DeclaredTree, boolean, range, members, instance, DeclTree, AssignmentTree, SectionTree, var, ivar, frozen as frozen_section, define, constants, assign, init, invar, trans, ModuleTree, ProgramTree}
-use Rattle.meaning.specs.Values.{Value, truth, number, symbol}
-use Rattle.meaning.specs.Scope.{Kind, a_variable, kind_in}
+use Rattle.xs_tree.specs.Values.{Value, truth, number, symbol}
+use Rattle.xs_tree.specs.Scope.{Kind, a_variable, kind_in}
 use Rattle.xs_fei.specs.declared.instructions.Dynamics.{Dynamics}
 use Rattle.xs_fei.specs.declared.instructions.Dynamics.TheVariants.{Permanent, Transient}
-use Rattle.xs_fei.specs.Instructions.{EffectTree, stuck_at, follows, inverted, random, erroneous, frozen, stuck_at_pick, offset, ramp_down, ModeTree, SliceTree, InstructionTree, slices_of, is_affected}
+use Rattle.xs_fei.specs.Instructions.{EffectTree, stuck_at, follows, inverted, random, erroneous, frozen, stuck_at_pick, offset, ramp_down, ModeTree, SliceTree, ExtensionTree, InstructionTree, slices_of, is_affected}
+use Rattle.xs_tree.specs.Texts.{same_text}
 use Rattle.xs_effects.specs.AddedNames.{own_name, mode_variable, mode_symbol}
 use Rattle.xs_effects.specs.Templates.{named, branch, stands, rules}
 
@@ -102,6 +103,11 @@ rename affected (x ∷ y ∷ path) = x ∷ y ∷ path
 abbrev pub same_path : Path → Path
 same_path path = path
 
+-- renamed, or left as it is
+abbrev pub renaming : Bool → (Text → Bool) → Path → Path
+renaming true affected = rename affected
+renaming false affected = same_path
+
 abbrev pub woven_assignment : (Text → Bool) → AssignmentTree → AssignmentTree
 woven_assignment affected a = record { when = a.when; target = rename affected a.target; value = a.value }
 
@@ -116,6 +122,11 @@ woven_section affected (init e) = init (tree_map_both (rename affected) same_pat
 woven_section affected (invar e) = invar e
 woven_section affected (trans e) = trans (tree_map_both same_path (rename affected) e)
 
+-- the extension's slices, where it is one of the module
+abbrev pub own_slices : ExtensionTree → Text → List SliceTree
+own_slices x m = if same_text x.of_module m then x.slices else []
+
+-- the sections of the module's slices, in the order of the file
 abbrev pub added_sections : InstructionTree → ModuleTree → List SectionTree
 added_sections i m = flat_map (slice_sections m) (slices_of i m.name)
 

@@ -1,0 +1,110 @@
+-- What the look-ups find, one element of a list on.
+use Rattle.std.proofs.Common.{◌≡◌, ℕ, ◌+◌, ◌<◌, suc, Bool, true, false, List, [], ◌∷◌, ◌++◌, length, get_or, drop, map, Some, None, refl, sym, ◌∙◌, ap}
+use Rattle.std.specs.Prelude.{if◌then◌else◌, ◌&&◌, ◌||◌}
+use Rattle.std.specs.List.{list_any}
+use Rattle.std.proofs.lemmas.List.{drop_more}
+use Rattle.xs_tree.specs.Texts.{same_text}
+use Rattle.xs_tree.specs.declared.program.Decl.{Decl}
+use Rattle.xs_tree.specs.declared.program.Define.{Define}
+use Rattle.xs_tree.specs.declared.program.Section.{Section}
+use Rattle.xs_tree.specs.ProgramTree.{Text, DeclaredTree, boolean, range, members, instance, DeclTree, DefineTree, SectionTree, var, ivar, frozen, define, constants, assign, init, invar, trans, decl_tree, define_tree, section_tree}
+use Rattle.xs_tree.specs.Scope.{Role, state, input, frozen_role, Kind, a_define, kind_declared, kind_in_decls, kind_in_defines, kind_in_sections, formal_from, kind_after_formals}
+use Rattle.xs_fei.specs.declared.instructions.Slice.{Slice}
+use Rattle.xs_fei.specs.declared.instructions.Extension.{Extension}
+use Rattle.xs_fei.specs.Instructions.{SliceTree, slice_tree, extension_tree, slices_from, is_target}
+use Rattle.xs_weave.specs.Woven.{type_of_kind}
+use Rattle.xs_weave.specs.TargetType.{variable_type, type_in_decls, type_in_defines, type_in_section, first_type}
+
+if_true : (b c : Bool) → (if b then true else c) ≡ (b || c)
+if_true true c = refl
+if_true false c = refl
+
+pub target_any : (ss : List Slice) (x : Text) → is_target (map slice_tree ss) x ≡ list_any (λ (s : Slice). same_text s.target x) ss
+target_any [] x = refl
+target_any (s ∷ ss) x = if_true (same_text s.target x) (is_target (map slice_tree ss) x) ∙ ap (λ b. same_text s.target x || b) (target_any ss x)
+
+or_assoc : (a b c : Bool) → (a || (b || c)) ≡ ((a || b) || c)
+or_assoc true b c = refl
+or_assoc false b c = refl
+
+target_append : (ss ts : List SliceTree) (x : Text) → is_target (ss ++ ts) x ≡ (is_target ss x || is_target ts x)
+target_append [] ts x = refl
+target_append (s ∷ ss) ts x =
+    if_true (same_text s.target x) (is_target (ss ++ ts) x) ∙ ap (λ b. same_text s.target x || b) (target_append ss ts x) ∙ or_assoc (same_text s.target x) (is_target ss x) (is_target ts x)
+    ∙ ap (λ b. b || is_target ts x) (sym (if_true (same_text s.target x) (is_target ss x)))
+
+-- a slice of the module affects the variable where one of an extension of the module does
+pub affected_any : (xs : List Extension) (m x : Text) →
+    is_target (slices_from (map extension_tree xs) m) x ≡ list_any (λ (e : Extension). same_text e.«module» m && is_target (map slice_tree e.slices) x) xs
+affected_any [] m x = refl
+affected_any (e ∷ xs) m x = go (same_text e.«module» m) (affected_any xs m x)
+  where
+    go : (b : Bool) → is_target (slices_from (map extension_tree xs) m) x ≡ list_any (λ (e : Extension). same_text e.«module» m && is_target (map slice_tree e.slices) x) xs →
+        is_target (if b then map slice_tree e.slices ++ slices_from (map extension_tree xs) m else slices_from (map extension_tree xs) m) x
+        ≡ ((b && is_target (map slice_tree e.slices) x) || list_any (λ (e : Extension). same_text e.«module» m && is_target (map slice_tree e.slices) x) xs)
+    go true more = target_append (map slice_tree e.slices) (slices_from (map extension_tree xs) m) x ∙ ap (λ b. is_target (map slice_tree e.slices) x || b) more
+    go false more = more
+
+-- a formal is no variable
+pub type_after_formals : (i : ℕ) (fs : List Text) (x : Text) (k : Kind) →
+    type_of_kind (kind_after_formals (formal_from i fs x) k) ≡ (if list_any (λ f. same_text f x) fs then boolean else type_of_kind k)
+type_after_formals i [] x k = refl
+type_after_formals i (f ∷ fs) x k = go (same_text f x) (type_after_formals (suc i) fs x k)
+  where
+    go : (b : Bool) → type_of_kind (kind_after_formals (formal_from (suc i) fs x) k) ≡ (if list_any (λ f. same_text f x) fs then boolean else type_of_kind k) →
+        type_of_kind (kind_after_formals (if b then Some i else formal_from (suc i) fs x) k) ≡ (if (b || list_any (λ f. same_text f x) fs) then boolean else type_of_kind k)
+    go true more = refl
+    go false more = more
+
+declared_type : (role : Role) (d : DeclaredTree) → type_of_kind (kind_declared role d) ≡ variable_type d
+declared_type role boolean = refl
+declared_type role (range lo hi) = refl
+declared_type role (members ms) = refl
+declared_type role (instance m actuals) = refl
+
+type_of_decls : (role : Role) (ds : List DeclTree) (x : Text) (k : Kind) → type_of_kind (kind_in_decls role ds x k) ≡ first_type (type_in_decls ds x) (type_of_kind k)
+type_of_decls role [] x k = refl
+type_of_decls role (d ∷ ds) x k = go (same_text d.name x) (type_of_decls role ds x k)
+  where
+    go : (b : Bool) → type_of_kind (kind_in_decls role ds x k) ≡ first_type (type_in_decls ds x) (type_of_kind k) →
+        type_of_kind (if b then kind_declared role d.what else kind_in_decls role ds x k) ≡ first_type (if b then Some (variable_type d.what) else type_in_decls ds x) (type_of_kind k)
+    go true more = declared_type role d.what
+    go false more = more
+
+type_of_defines : (ds : List DefineTree) (x : Text) (k : Kind) → type_of_kind (kind_in_defines ds x k) ≡ first_type (type_in_defines ds x) (type_of_kind k)
+type_of_defines [] x k = refl
+type_of_defines (d ∷ ds) x k = go (same_text d.name x) (type_of_defines ds x k)
+  where
+    go : (b : Bool) → type_of_kind (kind_in_defines ds x k) ≡ first_type (type_in_defines ds x) (type_of_kind k) →
+        type_of_kind (if b then a_define d.value else kind_in_defines ds x k) ≡ first_type (if b then Some boolean else type_in_defines ds x) (type_of_kind k)
+    go true more = refl
+    go false more = more
+
+section_first : (s : SectionTree) (ss : List SectionTree) (x : Text) →
+    type_of_kind (kind_in_sections (s ∷ ss) x) ≡ first_type (type_in_section s x) (type_of_kind (kind_in_sections ss x))
+section_first (var ds) ss x = type_of_decls state ds x (kind_in_sections ss x)
+section_first (ivar ds) ss x = type_of_decls input ds x (kind_in_sections ss x)
+section_first (frozen ds) ss x = type_of_decls frozen_role ds x (kind_in_sections ss x)
+section_first (define ds) ss x = type_of_defines ds x (kind_in_sections ss x)
+section_first (constants xs) ss x = refl
+section_first (assign list) ss x = refl
+section_first (init e) ss x = refl
+section_first (invar e) ss x = refl
+section_first (trans e) ss x = refl
+
+pub sections_more : (ss : List Section) (x : Text) (i : ℕ) (d : Section) → i < length ss →
+    type_of_kind (kind_in_sections (map section_tree (drop i ss)) x)
+    ≡ first_type (type_in_section (section_tree (get_or ss i d)) x) (type_of_kind (kind_in_sections (map section_tree (drop (i + 1) ss)) x))
+sections_more ss x i d h =
+    ap (λ ts. type_of_kind (kind_in_sections (map section_tree ts) x)) (drop_more ss i d h)
+    ∙ section_first (section_tree (get_or ss i d)) (map section_tree (drop (i + 1) ss)) x
+
+pub decls_more : (ds : List Decl) (x : Text) (i : ℕ) (d : Decl) → i < length ds →
+    type_in_decls (map decl_tree (drop i ds)) x
+    ≡ (if same_text (decl_tree (get_or ds i d)).name x then Some (variable_type (decl_tree (get_or ds i d)).what) else type_in_decls (map decl_tree (drop (i + 1) ds)) x)
+decls_more ds x i d h = ap (λ es. type_in_decls (map decl_tree es) x) (drop_more ds i d h)
+
+pub defines_more : (ds : List Define) (x : Text) (i : ℕ) (d : Define) → i < length ds →
+    type_in_defines (map define_tree (drop i ds)) x
+    ≡ (if same_text (define_tree (get_or ds i d)).name x then Some boolean else type_in_defines (map define_tree (drop (i + 1) ds)) x)
+defines_more ds x i d h = ap (λ es. type_in_defines (map define_tree es) x) (drop_more ds i d h)
