@@ -4,3 +4,4 @@ pub mod TemplateLaws
 pub mod EffectRows
 pub mod EffectRowLaw
 pub mod AllowedLaws
+pub mod Examples

@@ -113,7 +113,7 @@ fn members(alloc: Global, members: &[Member]) -> Result<ExprList<Dotted>, OutOfM
 
 /// The set of the values of a type.
 #[tactic(auto, using(xs_tree::proofs::WrittenLaws::tree_of_set))]
-pub fn domain(alloc: Global, d: &Declared) -> Result<Expr<Dotted>, OutOfMemory>
+fn domain(alloc: Global, d: &Declared) -> Result<Expr<Dotted>, OutOfMemory>
     requires { TypeHasNegations (declared_tree d.now) }
     ensures { IfOk result (λ made. tree_of made ≡ domain_tree (declared_tree d.now)) }
 {

@@ -60,7 +60,7 @@ pub fn symbol_of(alloc: Global, slice: &Name, mode: &Name) -> Result<Expr<Dotted
 }
 
 /// The state of a slice.
-pub fn state_of(alloc: Global, slice: &Name) -> Result<Expr<Dotted>, OutOfMemory>
+fn state_of(alloc: Global, slice: &Name) -> Result<Expr<Dotted>, OutOfMemory>
     ensures { IfOk result (λ made. tree_of made ≡ named_tree (mode_variable_of slice.now)) }
 {
     let name = mode_variable(alloc, slice)?;

@@ -52,13 +52,20 @@ mode_line m = mode_head m ++ (dynamics_text m.dynamics ++ (effect_text m.effect 
 abbrev pub slice_text : SliceTree → Text
 slice_text s = codes "  SLICE " ++ (s.name ++ (codes " AFFECTS " ++ (s.target ++ (codes " WITH\n" ++ all_of (map mode_line s.modes)))))
 
+-- the words before the name of a module, and before that of the file
+unfoldable pub extension_words : Text
+extension_words = codes "EXTENSION OF MODULE "
+
+unfoldable pub file_words : Text
+file_words = codes "FAULT EXTENSION "
+
 -- an extension: its first line, then its slices
 abbrev pub extension_text : ExtensionTree → Text
-extension_text x = codes "EXTENSION OF MODULE " ++ (x.of_module ++ (codes "\n" ++ all_of (map slice_text x.slices)))
+extension_text x = extension_words ++ (x.of_module ++ (codes "\n" ++ all_of (map slice_text x.slices)))
 
 -- the line with the file's own name, where it has one
 abbrev pub name_line : Text → Text
-name_line x = codes "FAULT EXTENSION " ++ (x ++ codes "\n")
+name_line x = file_words ++ (x ++ codes "\n")
 
 abbrev pub name_text : Option Text → Text
 name_text None = []

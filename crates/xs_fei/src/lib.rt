@@ -22,3 +22,6 @@ pub use instructions::{
     ModeRule, Slice, SliceList,
 };
 pub use print::print_instructions;
+
+#[cfg(test)]
+mod tests;

@@ -5,7 +5,7 @@ ghost use Rattle.std.specs.Fmt.{signed_decimal};
 ghost use Rattle.xs_tree.specs.Text.{text_of, all_of, joined};
 ghost use Rattle.xs_tree.specs.Written.{tree_of};
 ghost use Rattle.xs_fei.specs.Instructions.{instruction_tree, extension_tree, slice_tree, mode_tree, effect_tree, constant_value, guard_tree};
-ghost use Rattle.xs_fei.specs.InstructionText.{instructions_text, extension_text, slice_text, mode_line, mode_head, mark_text, guard_text, effect_text, constant_text, dynamics_text, name_text, name_line};
+ghost use Rattle.xs_fei.specs.InstructionText.{instructions_text, extension_text, slice_text, mode_line, mode_head, mark_text, guard_text, effect_text, constant_text, dynamics_text, name_text, name_line, file_words as file_words_text, extension_words as extension_words_text};
 
 use crate::instructions::{
     Constant, Dynamics, Effect, Extension, Instructions, MarkList, ModeRule, Slice,
@@ -40,7 +40,7 @@ fn append_file_name(text: &mut ByteList, name: &Option<Name>) -> Result<(), OutO
 fn append_name_line(text: &mut ByteList, name: &Name) -> Result<(), OutOfMemory>
     ensures { OnOk result (text.new ≡ text.old ++ name_line name.now) }
 {
-    text.append(b"FAULT EXTENSION ")?;
+    text.append(file_words())?;
     text.append(name.text())?;
     text.append(b"\n")
 }
@@ -67,7 +67,7 @@ fn append_extension(
 ) -> Result<(), OutOfMemory>
     ensures { OnOk result (text.new ≡ text.old ++ extension_text (extension_tree extension.now)) }
 {
-    text.append(b"EXTENSION OF MODULE ")?;
+    text.append(extension_words())?;
     text.append(extension.module.text())?;
     text.append(b"\n")?;
     append_slices(alloc, text, extension.slices.as_slice())
@@ -243,4 +243,18 @@ fn append_number(alloc: Global, text: &mut ByteList, n: i64) -> Result<(), OutOf
 {
     let digits = format!(in alloc; "{n}")?;
     text.append(digits.as_bytes())
+}
+
+#[tactic(auto, unfolding(crate::specs::InstructionText::file_words))]
+fn file_words() -> &'static [u8]
+    ensures { result.now ≡ file_words_text }
+{
+    b"FAULT EXTENSION "
+}
+
+#[tactic(auto, unfolding(crate::specs::InstructionText::extension_words))]
+fn extension_words() -> &'static [u8]
+    ensures { result.now ≡ extension_words_text }
+{
+    b"EXTENSION OF MODULE "
 }

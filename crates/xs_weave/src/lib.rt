@@ -28,3 +28,6 @@ pub use weave::woven_program;
 pub fn woven_extends()
     ensures { WovenExtends }
 {}
+
+#[cfg(test)]
+mod tests;

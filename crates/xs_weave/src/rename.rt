@@ -45,12 +45,12 @@ fn renamed_section(
         }
         Section::Init(e) => Ok(Section::Init(renamed(alloc, i, owner, true, false, e)?)),
         Section::Trans(e) => Ok(Section::Trans(renamed(alloc, i, owner, false, true, e)?)),
+        Section::Invar(e) => Ok(Section::Invar(e.copy(alloc)?)),
         Section::Var(_)
         | Section::Ivar(_)
         | Section::Frozen(_)
         | Section::Define(_)
-        | Section::Constants(_)
-        | Section::Invar(_) => section.copy(alloc),
+        | Section::Constants(_) => section.copy(alloc),
     }
 }
 
