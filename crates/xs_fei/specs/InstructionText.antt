@@ -1,5 +1,5 @@
 -- The text of instructions, as bytes.
-use Rattle.std.specs.Prelude.{ℤ, true, false, List, [], ◌∷◌, ◌++◌, Option, Some, None, map, codes}
+use Rattle.std.specs.Prelude.{true, false, List, [], ◌++◌, Option, Some, None, map, codes}
 use Rattle.std.specs.Fmt.{signed_decimal}
 use Rattle.xs_tree.specs.ProgramTree.{Text, Formula}
 use Rattle.xs_tree.specs.Text.{text_of, joined, all_of}
