@@ -3,11 +3,12 @@ use Rattle.std.proofs.Common.{◌≡◌, ℕ, zero, suc, Bool, true, false, List
 use Rattle.std.specs.Prelude.{pos, negsuc, codes, IsTrue}
 use Rattle.xs_tree.specs.declared.expr.Op.TheVariants as op
 use Rattle.xs_tree.specs.declared.program.Moment.TheVariants.{First, After}
-use Rattle.xs_tree.specs.Tree.{truth as is_truth, number as is_number, leaf, choice, set_of, no_tree, tree_then}
-use Rattle.xs_tree.specs.ProgramTree.{Text, boolean, range, instance, var, define, assign, ProgramTree, ModuleTree}
+use Rattle.xs_tree.specs.Tree.{truth as is_truth, number as is_number, leaf, binary, choice, set_of, no_tree, tree_then}
+use Rattle.xs_tree.specs.ProgramTree.{Text, Path, boolean, range, instance, var, frozen, define, assign, ProgramTree, ModuleTree}
 use Rattle.xs_tree.specs.Values.{apply, Value, truth, number, Values, one, either, no_value, has}
 use Rattle.xs_tree.specs.Texts.{same_text}
 use Rattle.xs_tree.specs.Scope.{Place, a_variable_at, an_expression_at, actual_key, means_in, module_at, module_of_kind, kind_in}
+use Rattle.xs_tree.specs.Text.{program_text}
 use Rattle.xs_tree.specs.May.{Valuation, May, name_values}
 use Rattle.xs_tree.specs.Evaluate.{evaluate}
 use Rattle.xs_tree.proofs.ValueLaws.{same_value_equal}
@@ -48,7 +49,7 @@ p_of_a = refl
 p_of_b : means_in 5 two (codes "b" ∷ []) (codes "p" ∷ []) ≡ Some (an_expression_at (actual_key (codes "b" ∷ []) 0) [] (is_truth true))
 p_of_b = refl
 
--- a.d means the define of a
+-- a.d means the define of a, which asks through the formal p for b.s: two instances and a define
 d_of_a : name_values 5 two [] (λ at x. truth true) (λ at x. truth true) (codes "a" ∷ codes "d" ∷ []) ≡ Some (either (one (truth true)) (either (one (number (pos 2))) no_value))
 d_of_a = refl
 
@@ -169,3 +170,26 @@ quotient = refl
 
 remainder : apply op.Mod (number (negsuc 6)) (number (pos 2)) ≡ Some (number (negsuc 0))
 remainder = refl
+
+-- a set under `in`: 1 in {1, 2}
+within_set :
+    evaluate {L = Path} (λ name. None) (λ name. None) (binary op.Within (is_number (pos 1)) (set_of (tree_then (is_number (pos 1)) (tree_then (is_number (pos 2)) no_tree)))) ≡
+    Some (one (truth true))
+within_set = refl
+
+-- MODULE main FROZENVAR f : boolean;
+abbrev fixed_main : ModuleTree
+fixed_main = record { name = codes "main"; formals = []; sections = frozen (record { name = codes "f"; what = boolean } ∷ []) ∷ [] }
+
+abbrev fixed : ProgramTree
+fixed = fixed_main ∷ []
+
+-- a frozen variable keeps its value: no trace has it TRUE and then FALSE
+pub frozen_keeps : (v w : Valuation) (more : List Valuation) → IsTrace fixed (v ∷ w ∷ more) → v [] (codes "f") ≡ truth true → w [] (codes "f") ≡ truth false → ⊥
+frozen_keeps v w more t before now =
+    let same : w [] (codes "f") ≡ v [] (codes "f") = (t.steps.0 [] fixed_main refl).0.0 in
+    let clash : truth true ≡ truth false = sym before ∙ sym same ∙ now in cc
+
+-- the text of the lamp
+lamp_text : program_text lamp ≡ codes "MODULE main\nVAR\n  on : boolean;\nASSIGN\n  init(on) := TRUE;\n  next(on) := on;\n"
+lamp_text = refl

@@ -75,8 +75,8 @@ int_spells (pos n) = plain_int
 int_spells (negsuc n) = minus_int
 
 pub path_spells : (x : List ℕ) (p : Path) → AreNames (x ∷ p) → SpellsDotted (printed_path (x ∷ p)) (x ∷ p)
-path_spells x [] h = one_name h.0
-path_spells x (y ∷ p) h = more_names h.0 (path_spells y p h.1)
+path_spells x [] h = one_name h.0.0
+path_spells x (y ∷ p) h = more_names h.0.0 (path_spells y p h.1)
 
 -- what stands under a minus begins no span
 pub no_span : (t : Tree Path) → begins_span (under_minus t (printed t)) ≡ false

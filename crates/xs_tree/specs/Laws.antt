@@ -5,6 +5,9 @@ use Rattle.xs_tree.specs.ProgramTree.{Path, Formula, ProgramTree}
 use Rattle.xs_tree.specs.Lexemes.{Lexeme}
 use Rattle.xs_tree.specs.Spells.{at_expr, Spells}
 use Rattle.xs_tree.specs.Printed.{printed, IsWritable}
+use Rattle.xs_tree.specs.Text.{text_of, program_text}
+use Rattle.xs_tree.specs.Bytes.{BytesSpellExpr, BytesSpellProgram}
+use Rattle.xs_tree.specs.WritableProgram.{IsWritableProgram}
 use Rattle.xs_tree.specs.Values.{Values}
 use Rattle.xs_tree.specs.Evaluate.{Leaves, evaluate}
 use Rattle.xs_tree.specs.Leaves.{tree_map}
@@ -18,6 +21,14 @@ SpellsOneExpression = (ts : List Lexeme) (a b : Tree Path) → Spells at_expr ts
 -- the printed tokens of an expression spell it
 abbrev pub PrintedSpells : Type 0
 PrintedSpells = (t : Tree Path) → IsWritable t → Spells at_expr (printed t) t
+
+-- the text of an expression that can be written spells it
+abbrev pub TextsSpell : Type 0
+TextsSpell = (t : Formula) → IsWritable t → BytesSpellExpr (text_of t) t
+
+-- the text of a program that can be written spells it
+abbrev pub ProgramTextsSpell : Type 0
+ProgramTextsSpell = (p : ProgramTree) → IsWritableProgram p → BytesSpellProgram (program_text p) p
 
 -- what is found in so many steps is found in more
 abbrev pub DeeperMeansTheSame : Type 0

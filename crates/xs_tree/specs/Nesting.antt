@@ -1,5 +1,5 @@
 -- How many of the parentheses of the line "(" expr ")" stand in one another.
-use Rattle.std.specs.Prelude.{ℕ, ◌+◌, max, List, [], ◌∷◌}
+use Rattle.std.specs.Prelude.{ℕ, ◌+◌, max, List}
 use Rattle.xs_tree.specs.Tree.{Tree, Trees, Branches}
 use Rattle.xs_tree.specs.ProgramTree.{Path}
 use Rattle.xs_tree.specs.Lexemes.{Lexeme}

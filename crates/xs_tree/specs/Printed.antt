@@ -1,9 +1,10 @@
 -- The tokens of an expression's printed text.
-use Rattle.std.specs.Prelude.{◌≡◌, ◌≢◌, suc, ℤ, pos, negsuc, true, false, List, [], ◌∷◌, ◌++◌, codes}
+use Rattle.std.specs.Prelude.{◌≡◌, ◌≢◌, ◌≤◌, ◌+◌, ◌-◌, ◌^◌, ℕ, suc, ℤ, pos, negsuc, true, false, List, [], ◌∷◌, ◌++◌, codes}
 use Rattle.std.specs.Fmt.{decimal}
 use Rattle.xs_lexer.specs.declared.token.TokenKind.TheVariants as k
+use Rattle.xs_lexer.specs.Tokens.{IsWord}
 use Rattle.xs_tree.specs.Tree.{Tree, Trees, Branches, truth, number, leaf, not_of, negate, next_of, binary, choice, case_of, set_of, span, no_tree, tree_then, no_branch, branch_then}
-use Rattle.xs_tree.specs.ProgramTree.{Path}
+use Rattle.xs_tree.specs.ProgramTree.{Text, Path}
 use Rattle.xs_tree.specs.Lexemes.{Lexeme, word, num, sign, is_reserved}
 use Rattle.xs_tree.specs.Spells.{operator}
 
@@ -48,19 +49,33 @@ abbrev mutual
   printed_branches no_branch = []
   printed_branches (branch_then c a bs) = printed c ++ sign k.Colon ∷ (printed a ++ sign k.Semicolon ∷ printed_branches bs)
 
+-- a word that is not reserved
+abbrev pub IsName : Text → Type 0
+IsName x = (is_reserved x ≡ false) × IsWord x []
+
 abbrev pub AreNames : Path → Type 0
 AreNames [] = Unit {0}
-AreNames (x ∷ p) = (is_reserved x ≡ false) × AreNames p
+AreNames (x ∷ p) = IsName x × AreNames p
 
-abbrev pub IsNonNegative : ℤ → Type 0
-IsNonNegative (pos n) = Unit {0}
-IsNonNegative (negsuc n) = ⊥
+-- a number that a token can hold
+abbrev pub IsSmall : ℕ → Type 0
+IsSmall n = n ≤ 2 ^ 63 - 1
 
--- some text spells the tree
+-- a number that stands alone has no sign
+abbrev pub IsUnsigned : ℤ → Type 0
+IsUnsigned (pos n) = IsSmall n
+IsUnsigned (negsuc n) = ⊥
+
+-- an end of a span or a range may have one
+abbrev pub IsEnd : ℤ → Type 0
+IsEnd (pos n) = IsSmall n
+IsEnd (negsuc n) = IsSmall (n + 1)
+
+-- the tree can be written: its names are names, its numbers fit, and no set or case is empty
 abbrev mutual
   pub IsWritable : Tree Path → Type 0
   IsWritable (truth b) = Unit {0}
-  IsWritable (number n) = IsNonNegative n
+  IsWritable (number n) = IsUnsigned n
   IsWritable (leaf p) = (p ≢ []) × AreNames p
   IsWritable (not_of a) = IsWritable a
   IsWritable (negate a) = IsWritable a
@@ -69,7 +84,7 @@ abbrev mutual
   IsWritable (choice c a b) = IsWritable c × IsWritable a × IsWritable b
   IsWritable (case_of bs) = (bs ≢ no_branch) × AreWritableBranches bs
   IsWritable (set_of ts) = (ts ≢ no_tree) × AreWritable ts
-  IsWritable (span lo hi) = Unit {0}
+  IsWritable (span lo hi) = IsEnd lo × IsEnd hi
 
   pub AreWritable : Trees Path → Type 0
   AreWritable no_tree = Unit {0}

@@ -1,5 +1,5 @@
 -- What expressions give: a value, or several.
-use Rattle.std.specs.Prelude.{ℤ, Bool, true, false, [], ◌∷◌, Option, Some, None, nat_eq, ◌&&◌, ◌||◌, pos, negsuc, int_lt, int_div, int_rem, ◌+ℤ◌, ◌-ℤ◌, ◌*ℤ◌}
+use Rattle.std.specs.Prelude.{ℤ, Bool, true, false, Option, Some, None, nat_eq, ◌&&◌, ◌||◌, pos, negsuc, int_lt, int_div, int_rem, ◌+ℤ◌, ◌-ℤ◌, ◌*ℤ◌}
 use Rattle.xs_tree.specs.declared.expr.Op.{Op}
 use Rattle.xs_tree.specs.declared.expr.Op.TheVariants as op
 use Rattle.xs_tree.specs.ProgramTree.{Text}

@@ -1,6 +1,6 @@
 //! Laws of the definitions, each as the contract of a function that does nothing.
 
-ghost use Rattle.xs_tree.specs.Laws.{SpellsOneExpression, PrintedSpells, DeeperMeansTheSame, DeeperGivesTheSame, AgreeingLeavesGiveTheSame, MappedLeavesGiveTheSame};
+ghost use Rattle.xs_tree.specs.Laws.{SpellsOneExpression, PrintedSpells, TextsSpell, ProgramTextsSpell, DeeperMeansTheSame, DeeperGivesTheSame, AgreeingLeavesGiveTheSame, MappedLeavesGiveTheSame};
 
 /// No list of tokens spells two expressions.
 pub fn one_tree()
@@ -10,6 +10,12 @@ pub fn one_tree()
 /// The tokens of an expression's printed text spell it.
 pub fn printed_spells()
     ensures { PrintedSpells }
+{}
+
+/// The text of an expression or of a program that can be written spells it.
+pub fn texts_spell()
+    ensures expressions { TextsSpell }
+    ensures programs { ProgramTextsSpell }
 {}
 
 /// More steps from name to name change neither what a name means nor what an expression gives.

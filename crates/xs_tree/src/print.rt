@@ -4,6 +4,8 @@ ghost use Rattle.std.specs.Prelude.{◌≡◌, ◌++◌, codes, IfOk, OnOk, map}
 ghost use Rattle.std.specs.Fmt.{signed_decimal};
 ghost use Rattle.xs_tree.specs.Text.{text_of, op_text, after_minus, span_text, dotted_text, commas, branches_text, each_after, joined};
 ghost use Rattle.xs_tree.specs.Written.{tree_of, branches_of};
+ghost use Rattle.xs_tree.specs.Printed.{IsWritable};
+ghost use Rattle.xs_tree.specs.Bytes.{BytesSpellExpr};
 
 use crate::expr::{Expr, Op};
 use std::alloc::Global;
@@ -13,7 +15,9 @@ use xs_value::{ByteList, Dotted, Name, OutOfMemory};
 /// under a unary minus stands in parentheses too, since that minus would be read as the sign of its
 /// first number.
 pub fn print_expr(alloc: Global, e: &Expr<Dotted>) -> Result<Vec<u8>, OutOfMemory>
-    ensures { IfOk result (λ text. text.items ≡ text_of (tree_of e.now)) }
+    ensures text { IfOk result (λ text. text.items ≡ text_of (tree_of e.now)) }
+    // What can be written is read back as itself.
+    ensures spells { IfOk result (λ text. IsWritable (tree_of e.now) → BytesSpellExpr text.items (tree_of e.now)) }
 {
     let mut text = ByteList::new(alloc);
     append_expr(alloc, &mut text, e)?;

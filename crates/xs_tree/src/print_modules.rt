@@ -4,9 +4,13 @@ ghost use Rattle.std.specs.Prelude.{◌≡◌, ◌++◌, codes, IfOk, OnOk, map}
 ghost use Rattle.xs_tree.specs.ProgramTree.{program_tree, module_tree, section_tree, decl_tree, declared_tree, define_tree, assignment_tree};
 ghost use Rattle.xs_tree.specs.Text.{program_text, module_text, section_text, decl_line, declared_text, define_line, assignment_line, target_text, member_text, constants_text, in_brackets, commas, line, all_of, text_of};
 ghost use Rattle.xs_tree.specs.Written.{tree_of};
+ghost use Rattle.xs_tree.specs.WritableProgram.{IsWritableProgram};
+ghost use Rattle.xs_tree.specs.Bytes.{BytesSpellProgram};
 
 use crate::expr::Expr;
-use crate::print::{append_dotted, append_expr, append_expressions, append_names, append_number, append_span};
+use crate::print::{
+    append_dotted, append_expr, append_expressions, append_names, append_number, append_span,
+};
 use crate::program::{
     Assignment, Decl, Declared, Define, Member, Module, Moment, Program, Section,
 };
@@ -16,7 +20,9 @@ use xs_value::{ByteList, Dotted, Name, OutOfMemory};
 /// The text of a program: each module's header, then its sections in order, each section's word on a line
 /// of its own and each item on a line after two spaces.
 pub fn print_program(alloc: Global, p: &Program) -> Result<Vec<u8>, OutOfMemory>
-    ensures { IfOk result (λ text. text.items ≡ program_text (program_tree p.now)) }
+    ensures text { IfOk result (λ text. text.items ≡ program_text (program_tree p.now)) }
+    // What can be written is read back as itself.
+    ensures spells { IfOk result (λ text. IsWritableProgram (program_tree p.now) → BytesSpellProgram text.items (program_tree p.now)) }
 {
     let mut text = ByteList::new(alloc);
     append_modules(alloc, &mut text, p.modules.as_slice())?;
@@ -24,11 +30,7 @@ pub fn print_program(alloc: Global, p: &Program) -> Result<Vec<u8>, OutOfMemory>
 }
 
 #[tactic(auto, using(crate::proofs::TextLaws::print_rules))]
-fn append_modules(
-    alloc: Global,
-    text: &mut ByteList,
-    modules: &[Module],
-) -> Result<(), OutOfMemory>
+fn append_modules(alloc: Global, text: &mut ByteList, modules: &[Module]) -> Result<(), OutOfMemory>
     ensures { OnOk result (text.new ≡ text.old ++ all_of (map module_text (map module_tree modules.now))) }
 {
     for module in modules {
@@ -38,14 +40,14 @@ fn append_modules(
 }
 
 #[tactic(auto, using(crate::proofs::TextLaws::print_rules))]
-fn append_module(alloc: Global, text: &mut ByteList, module: &Module) -> Result<(), OutOfMemory>
-    ensures { OnOk result (text.new ≡ text.old ++ module_text (module_tree module.now)) }
+fn append_module(alloc: Global, text: &mut ByteList, written: &Module) -> Result<(), OutOfMemory>
+    ensures { OnOk result (text.new ≡ text.old ++ module_text (module_tree written.now)) }
 {
     text.append(b"MODULE ")?;
-    text.append(module.name.text())?;
-    append_formals(text, module.formals.as_slice())?;
+    text.append(written.name.text())?;
+    append_formals(text, written.formals.as_slice())?;
     text.append(b"\n")?;
-    append_sections(alloc, text, module.sections.as_slice())
+    append_sections(alloc, text, written.sections.as_slice())
 }
 
 #[tactic(auto, using(crate::proofs::TextLaws::print_rules))]
@@ -75,11 +77,7 @@ fn append_sections(
 }
 
 #[tactic(auto, using(crate::proofs::TextLaws::print_rules))]
-fn append_section(
-    alloc: Global,
-    text: &mut ByteList,
-    section: &Section,
-) -> Result<(), OutOfMemory>
+fn append_section(alloc: Global, text: &mut ByteList, section: &Section) -> Result<(), OutOfMemory>
     ensures { OnOk result (text.new ≡ text.old ++ section_text (section_tree section.now)) }
 {
     match section {
@@ -123,11 +121,7 @@ fn append_section(
 }
 
 #[tactic(auto, using(crate::proofs::TextLaws::print_rules))]
-fn append_formula(
-    alloc: Global,
-    text: &mut ByteList,
-    e: &Expr<Dotted>,
-) -> Result<(), OutOfMemory>
+fn append_formula(alloc: Global, text: &mut ByteList, e: &Expr<Dotted>) -> Result<(), OutOfMemory>
     ensures { OnOk result (text.new ≡ text.old ++ line (text_of (tree_of e.now))) }
 {
     text.append(b"  ")?;
@@ -169,11 +163,7 @@ fn append_decl(alloc: Global, text: &mut ByteList, decl: &Decl) -> Result<(), Ou
 }
 
 #[tactic(auto, using(crate::proofs::TextLaws::print_rules))]
-fn append_declared(
-    alloc: Global,
-    text: &mut ByteList,
-    what: &Declared,
-) -> Result<(), OutOfMemory>
+fn append_declared(alloc: Global, text: &mut ByteList, what: &Declared) -> Result<(), OutOfMemory>
     ensures { OnOk result (text.new ≡ text.old ++ declared_text (declared_tree what.now)) }
 {
     match what {
@@ -208,11 +198,7 @@ fn append_actuals(
 }
 
 #[tactic(auto, using(crate::proofs::TextLaws::print_rules))]
-fn append_members(
-    alloc: Global,
-    text: &mut ByteList,
-    members: &[Member],
-) -> Result<(), OutOfMemory>
+fn append_members(alloc: Global, text: &mut ByteList, members: &[Member]) -> Result<(), OutOfMemory>
     ensures { OnOk result (text.new ≡ text.old ++ commas (map member_text members.now)) }
 {
     let [first, more @ ..] = members else {
@@ -236,11 +222,7 @@ fn append_member(alloc: Global, text: &mut ByteList, member: &Member) -> Result<
 }
 
 #[tactic(auto, using(crate::proofs::TextLaws::print_rules))]
-fn append_defines(
-    alloc: Global,
-    text: &mut ByteList,
-    defines: &[Define],
-) -> Result<(), OutOfMemory>
+fn append_defines(alloc: Global, text: &mut ByteList, defines: &[Define]) -> Result<(), OutOfMemory>
     ensures { OnOk result (text.new ≡ text.old ++ all_of (map define_line (map define_tree defines.now))) }
 {
     for define in defines {
@@ -290,11 +272,7 @@ fn append_assignment(
 }
 
 #[tactic(auto, using(crate::proofs::TextLaws::print_rules))]
-fn append_target(
-    text: &mut ByteList,
-    when: Moment,
-    target: &Dotted,
-) -> Result<(), OutOfMemory>
+fn append_target(text: &mut ByteList, when: Moment, target: &Dotted) -> Result<(), OutOfMemory>
     ensures { OnOk result (text.new ≡ text.old ++ target_text when target.now) }
 {
     match when {

@@ -1,7 +1,6 @@
-use Rattle.std.proofs.Common.{◌≡◌, ◌++◌, ◌+◌, ◌*◌, drop, map, codes}
-use Rattle.xs_tree.specs.Tree.{size_of, trees_size, branches_size}
+use Rattle.std.proofs.Common.{◌≡◌, ◌++◌, drop, map, codes}
 use Rattle.xs_tree.specs.Text.{text_of, each_after, branches_text}
-use Rattle.xs_tree.specs.Written.{tree_of, trees_of, branches_of}
+use Rattle.xs_tree.specs.Written.{tree_of, branches_of}
 use Rattle.xs_tree.proofs.print.+print.Given as goal
 
 abbrev pub invariant-append_expressions-loop-expression : goal.invariant-append_expressions-loop-expression
