@@ -191,11 +191,16 @@ fn is_in_domain(d: &Declared, c: &Constant) -> bool
     }
 }
 
-#[tactic(auto, using(crate::proofs::AllowedLaws::member_any))]
+#[tactic(auto, using(crate::proofs::AllowedLaws::member_more))]
 fn is_listed(members: &[Member], c: &Constant) -> bool
     ensures { result ≡ is_member members.now (constant_value c.now) }
 {
-    members.iter().any(|member| is_constant(member, c))
+    for member in members {
+        if is_constant(member, c) {
+            return true;
+        }
+    }
+    false
 }
 
 #[tactic(auto, using(crate::proofs::AllowedLaws::same_int_test))]
@@ -230,10 +235,23 @@ fn is_below(lo: i64, hi: i64) -> bool
 fn has_two_members(members: &[Member]) -> bool
     ensures { result ≡ members_differ members.now }
 {
-    match members.split_first() {
-        Some((first, rest)) => rest.iter().any(|member| differs(first, member)),
-        None => false,
+    match members {
+        [first, rest @ ..] => has_other(first, rest),
+        [] => false,
     }
+}
+
+/// Whether a member of the rest differs from the first.
+#[tactic(auto, using(crate::proofs::AllowedLaws::any_more))]
+fn has_other(first: &Member, rest: &[Member]) -> bool
+    ensures { result ≡ list_any (differs_from first.now) rest.now }
+{
+    for member in rest {
+        if differs(first, member) {
+            return true;
+        }
+    }
+    false
 }
 
 #[tactic(auto, using(crate::proofs::AllowedLaws::same_int_test))]

@@ -23,7 +23,7 @@ mod parts;
 mod rules;
 
 pub use build::{binary, choice, named, negated, next, not, number, set_of_one, set_of_two};
-pub use fault::{allowed, EffectFault};
+pub use fault::{EffectFault, allowed};
 pub use names::{mode_symbol, mode_variable, nominal_symbol, own_name};
 pub use parts::{branch, name_of, own_value};
 pub use rules::{rule, stands, symbol_of};

@@ -11,7 +11,7 @@ use Rattle.xs_tree.specs.ProgramTree.{Text, DeclaredTree, boolean, range, member
 use Rattle.xs_tree.specs.Scope.{Role, state, input, frozen_role, Kind, a_define, kind_declared, kind_in_decls, kind_in_defines, kind_in_sections, formal_from, kind_after_formals}
 use Rattle.xs_fei.specs.declared.instructions.Slice.{Slice}
 use Rattle.xs_fei.specs.declared.instructions.Extension.{Extension}
-use Rattle.xs_fei.specs.Instructions.{SliceTree, slice_tree, extension_tree, slices_from, is_target}
+use Rattle.xs_fei.specs.Instructions.{SliceTree, ExtensionTree, slice_tree, extension_tree, slices_from, is_target}
 use Rattle.xs_weave.specs.Woven.{type_of_kind}
 use Rattle.xs_weave.specs.TargetType.{variable_type, type_in_decls, type_in_defines, type_in_section, first_type}
 
@@ -19,9 +19,11 @@ if_true : (b c : Bool) → (if b then true else c) ≡ (b || c)
 if_true true c = refl
 if_true false c = refl
 
-pub target_any : (ss : List Slice) (x : Text) → is_target (map slice_tree ss) x ≡ list_any (λ (s : Slice). same_text s.target x) ss
-target_any [] x = refl
-target_any (s ∷ ss) x = if_true (same_text s.target x) (is_target (map slice_tree ss) x) ∙ ap (λ b. same_text s.target x || b) (target_any ss x)
+-- one slice on
+pub target_more : (ss : List Slice) (x : Text) (i : ℕ) (d : Slice) → i < length ss →
+    is_target (map slice_tree (drop i ss)) x ≡ (same_text (slice_tree (get_or ss i d)).target x || is_target (map slice_tree (drop (i + 1) ss)) x)
+target_more ss x i d h =
+    ap (λ ts. is_target (map slice_tree ts) x) (drop_more ss i d h) ∙ if_true (same_text (slice_tree (get_or ss i d)).target x) (is_target (map slice_tree (drop (i + 1) ss)) x)
 
 or_assoc : (a b c : Bool) → (a || (b || c)) ≡ ((a || b) || c)
 or_assoc true b c = refl
@@ -33,17 +35,19 @@ target_append (s ∷ ss) ts x =
     if_true (same_text s.target x) (is_target (ss ++ ts) x) ∙ ap (λ b. same_text s.target x || b) (target_append ss ts x) ∙ or_assoc (same_text s.target x) (is_target ss x) (is_target ts x)
     ∙ ap (λ b. b || is_target ts x) (sym (if_true (same_text s.target x) (is_target ss x)))
 
--- a slice of the module affects the variable where one of an extension of the module does
-pub affected_any : (xs : List Extension) (m x : Text) →
-    is_target (slices_from (map extension_tree xs) m) x ≡ list_any (λ (e : Extension). same_text e.«module» m && is_target (map slice_tree e.slices) x) xs
-affected_any [] m x = refl
-affected_any (e ∷ xs) m x = go (same_text e.«module» m) (affected_any xs m x)
+-- a slice of the module affects the variable where one of the first extension or of a later one does
+affected_first : (e : ExtensionTree) (xs : List ExtensionTree) (m x : Text) → is_target (slices_from (e ∷ xs) m) x ≡ ((same_text e.of_module m && is_target e.slices x) || is_target (slices_from xs m) x)
+affected_first e xs m x = go (same_text e.of_module m)
   where
-    go : (b : Bool) → is_target (slices_from (map extension_tree xs) m) x ≡ list_any (λ (e : Extension). same_text e.«module» m && is_target (map slice_tree e.slices) x) xs →
-        is_target (if b then map slice_tree e.slices ++ slices_from (map extension_tree xs) m else slices_from (map extension_tree xs) m) x
-        ≡ ((b && is_target (map slice_tree e.slices) x) || list_any (λ (e : Extension). same_text e.«module» m && is_target (map slice_tree e.slices) x) xs)
-    go true more = target_append (map slice_tree e.slices) (slices_from (map extension_tree xs) m) x ∙ ap (λ b. is_target (map slice_tree e.slices) x || b) more
-    go false more = more
+    go : (b : Bool) → is_target (if b then e.slices ++ slices_from xs m else slices_from xs m) x ≡ ((b && is_target e.slices x) || is_target (slices_from xs m) x)
+    go true = target_append e.slices (slices_from xs m) x
+    go false = refl
+
+pub affected_more : (xs : List Extension) (m x : Text) (i : ℕ) (d : Extension) → i < length xs →
+    is_target (slices_from (map extension_tree (drop i xs)) m) x
+    ≡ ((same_text (extension_tree (get_or xs i d)).of_module m && is_target (extension_tree (get_or xs i d)).slices x) || is_target (slices_from (map extension_tree (drop (i + 1) xs)) m) x)
+affected_more xs m x i d h =
+    ap (λ ys. is_target (slices_from (map extension_tree ys) m) x) (drop_more xs i d h) ∙ affected_first (extension_tree (get_or xs i d)) (map extension_tree (drop (i + 1) xs)) m x
 
 -- a formal is no variable
 pub type_after_formals : (i : ℕ) (fs : List Text) (x : Text) (k : Kind) →

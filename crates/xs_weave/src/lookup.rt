@@ -20,27 +20,34 @@ pub fn has_text(x: &Name, y: &Name) -> bool
 }
 
 /// Whether a slice of the module affects the variable.
-#[tactic(auto, using(crate::proofs::LookupLaws::affected_any))]
-pub fn is_affected(i: &Instructions, module: &Name, x: &Name) -> bool
-    ensures { result ≡ is_affected_in (instruction_tree i.now) «module».now x.now }
+#[tactic(auto, using(crate::proofs::LookupLaws::affected_more))]
+pub fn is_affected(i: &Instructions, owner: &Name, x: &Name) -> bool
+    ensures { result ≡ is_affected_in (instruction_tree i.now) owner.now x.now }
 {
-    let extensions = i.extensions.as_slice();
-    extensions
-        .iter()
-        .any(|extension| affects(extension, module, x))
+    for extension in i.extensions.as_slice() {
+        if affects(extension, owner, x) {
+            return true;
+        }
+    }
+    false
 }
 
-fn affects(extension: &Extension, module: &Name, x: &Name) -> bool
-    ensures { result ≡ (same_text extension.now.«module» «module».now && is_target_of (map slice_tree extension.now.slices) x.now) }
+fn affects(extension: &Extension, owner: &Name, x: &Name) -> bool
+    ensures { result ≡ (same_text extension.now.«module» owner.now && is_target_of (map slice_tree extension.now.slices) x.now) }
 {
-    has_text(&extension.module, module) && is_target(extension.slices.as_slice(), x)
+    has_text(&extension.module, owner) && is_target(extension.slices.as_slice(), x)
 }
 
-#[tactic(auto, using(crate::proofs::LookupLaws::target_any))]
+#[tactic(auto, using(crate::proofs::LookupLaws::target_more))]
 fn is_target(slices: &[Slice], x: &Name) -> bool
     ensures { result ≡ is_target_of (map slice_tree slices.now) x.now }
 {
-    slices.iter().any(|slice| has_text(&slice.target, x))
+    for slice in slices {
+        if has_text(&slice.target, x) {
+            return true;
+        }
+    }
+    false
 }
 
 /// The type of the variable that the name declares in the module.
@@ -54,10 +61,16 @@ pub fn target_type(alloc: Global, m: &Module, x: &Name) -> Result<Declared, OutO
     type_among(alloc, m.sections.as_slice(), x)
 }
 
+#[tactic(auto, using(xs_effects::proofs::AllowedLaws::any_more))]
 fn is_formal(formals: &[Name], x: &Name) -> bool
     ensures { result ≡ list_any (λ f. same_text f x.now) formals.now }
 {
-    formals.iter().any(|formal| has_text(formal, x))
+    for formal in formals {
+        if has_text(formal, x) {
+            return true;
+        }
+    }
+    false
 }
 
 #[tactic(auto, using(crate::proofs::LookupLaws::sections_more))]

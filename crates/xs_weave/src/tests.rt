@@ -85,7 +85,8 @@ fn a_woven_sensor_prints_its_own_value_and_its_state(rt: HostRuntime) -> Result<
     let alloc = rt.alloc();
     let woven = woven_program(alloc, &sensor(alloc)?, &eye(alloc)?)?;
     let text = print_program(alloc, &woven)?;
-    let lines = b"MODULE Sensor(line)\nVAR\n  seen : boolean;\nASSIGN\n  seen#nominal := line;\nVAR\n  seen#nominal : boolean;\n  Eye#mode : {Eye#nominal, Eye#wild, Eye#hold};\nASSIGN\n  init(Eye#mode) := Eye#nominal;\n  next(Eye#mode) := case (Eye#mode = Eye#wild) : {Eye#wild, Eye#nominal}; (Eye#mode = Eye#hold) : Eye#hold; TRUE : (({Eye#nominal} union (TRUE ? {Eye#wild} : {Eye#nominal})) union (TRUE ? {Eye#hold} : {Eye#nominal})); esac;\n  seen := case (Eye#mode = Eye#wild) : {FALSE, TRUE}; (Eye#mode = Eye#hold) : {FALSE, TRUE}; TRUE : seen#nominal; esac;\nTRANS\n  ((next(Eye#mode) = Eye#hold) -> (next(seen) = seen));\n";
+    let lines =
+        b"MODULE Sensor(line)\nVAR\n  seen : boolean;\nASSIGN\n  seen#nominal := line;\nVAR\n  seen#nominal : boolean;\n  Eye#mode : {Eye#nominal, Eye#wild, Eye#hold};\nASSIGN\n  init(Eye#mode) := Eye#nominal;\n  next(Eye#mode) := case (Eye#mode = Eye#wild) : {Eye#wild, Eye#nominal}; (Eye#mode = Eye#hold) : Eye#hold; TRUE : (({Eye#nominal} union (TRUE ? {Eye#wild} : {Eye#nominal})) union (TRUE ? {Eye#hold} : {Eye#nominal})); esac;\n  seen := case (Eye#mode = Eye#wild) : {FALSE, TRUE}; (Eye#mode = Eye#hold) : {FALSE, TRUE}; TRUE : seen#nominal; esac;\nTRANS\n  ((next(Eye#mode) = Eye#hold) -> (next(seen) = seen));\n";
     assert_eq!(rt; text.as_slice(), lines.as_slice());
     Ok(())
 }
