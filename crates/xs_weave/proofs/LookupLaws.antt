@@ -13,7 +13,7 @@ use Rattle.xs_fei.specs.declared.instructions.Slice.{Slice}
 use Rattle.xs_fei.specs.declared.instructions.Extension.{Extension}
 use Rattle.xs_fei.specs.Instructions.{SliceTree, ExtensionTree, slice_tree, extension_tree, slices_from, is_target}
 use Rattle.xs_weave.specs.Woven.{type_of_kind}
-use Rattle.xs_weave.specs.TargetType.{variable_type, type_in_decls, type_in_defines, type_in_section, first_type}
+use Rattle.xs_weave.specs.Lookups.{affects, variable_type, type_in_decls, type_in_defines, type_in_section, first_type}
 
 if_true : (b c : Bool) → (if b then true else c) ≡ (b || c)
 if_true true c = refl
@@ -36,21 +36,37 @@ target_append (s ∷ ss) ts x =
     ∙ ap (λ b. b || is_target ts x) (sym (if_true (same_text s.target x) (is_target ss x)))
 
 -- a slice of the module affects the variable where one of the first extension or of a later one does
-affected_first : (e : ExtensionTree) (xs : List ExtensionTree) (m x : Text) → is_target (slices_from (e ∷ xs) m) x ≡ ((same_text e.of_module m && is_target e.slices x) || is_target (slices_from xs m) x)
+affected_first : (e : ExtensionTree) (xs : List ExtensionTree) (m x : Text) → is_target (slices_from (e ∷ xs) m) x ≡ (affects e m x || is_target (slices_from xs m) x)
+unfolding affects
 affected_first e xs m x = go (same_text e.of_module m)
   where
     go : (b : Bool) → is_target (if b then e.slices ++ slices_from xs m else slices_from xs m) x ≡ ((b && is_target e.slices x) || is_target (slices_from xs m) x)
     go true = target_append e.slices (slices_from xs m) x
     go false = refl
 
-pub affected_more : (xs : List Extension) (m x : Text) (i : ℕ) (d : Extension) → i < length xs →
+affected_more : (xs : List Extension) (m x : Text) (i : ℕ) (d : Extension) → i < length xs →
     is_target (slices_from (map extension_tree (drop i xs)) m) x
-    ≡ ((same_text (extension_tree (get_or xs i d)).of_module m && is_target (extension_tree (get_or xs i d)).slices x) || is_target (slices_from (map extension_tree (drop (i + 1) xs)) m) x)
+    ≡ (affects (extension_tree (get_or xs i d)) m x || is_target (slices_from (map extension_tree (drop (i + 1) xs)) m) x)
 affected_more xs m x i d h =
     ap (λ ys. is_target (slices_from (map extension_tree ys) m) x) (drop_more xs i d h) ∙ affected_first (extension_tree (get_or xs i d)) (map extension_tree (drop (i + 1) xs)) m x
 
+-- an extension of a loop affects the variable, or does not
+pub affected_here : (xs : List Extension) (m x : Text) (i : ℕ) (e : Extension) → i < length xs → e ≡ get_or xs i e → affects (extension_tree e) m x ≡ true →
+    is_target (slices_from (map extension_tree (drop i xs)) m) x ≡ is_target (slices_from (map extension_tree xs) m) x →
+    true ≡ is_target (slices_from (map extension_tree xs) m) x
+affected_here xs m x i e h is t rest =
+    sym (affected_more xs m x i e h ∙ ap (λ (f : Extension). affects (extension_tree f) m x || is_target (slices_from (map extension_tree (drop (i + 1) xs)) m) x) (sym is)
+    ∙ ap (λ b. b || is_target (slices_from (map extension_tree (drop (i + 1) xs)) m) x) t) ∙ rest
+
+pub affected_later : (xs : List Extension) (m x : Text) (i : ℕ) (e : Extension) → i < length xs → e ≡ get_or xs i e → affects (extension_tree e) m x ≡ false →
+    is_target (slices_from (map extension_tree (drop i xs)) m) x ≡ is_target (slices_from (map extension_tree xs) m) x →
+    is_target (slices_from (map extension_tree (drop (i + 1) xs)) m) x ≡ is_target (slices_from (map extension_tree xs) m) x
+affected_later xs m x i e h is t rest =
+    sym (affected_more xs m x i e h ∙ ap (λ (f : Extension). affects (extension_tree f) m x || is_target (slices_from (map extension_tree (drop (i + 1) xs)) m) x) (sym is)
+    ∙ ap (λ b. b || is_target (slices_from (map extension_tree (drop (i + 1) xs)) m) x) t) ∙ rest
+
 -- a formal is no variable
-pub type_after_formals : (i : ℕ) (fs : List Text) (x : Text) (k : Kind) →
+type_after_formals : (i : ℕ) (fs : List Text) (x : Text) (k : Kind) →
     type_of_kind (kind_after_formals (formal_from i fs x) k) ≡ (if list_any (λ f. same_text f x) fs then boolean else type_of_kind k)
 type_after_formals i [] x k = refl
 type_after_formals i (f ∷ fs) x k = go (same_text f x) (type_after_formals (suc i) fs x k)
@@ -59,6 +75,12 @@ type_after_formals i (f ∷ fs) x k = go (same_text f x) (type_after_formals (su
         type_of_kind (kind_after_formals (if b then Some i else formal_from (suc i) fs x) k) ≡ (if (b || list_any (λ f. same_text f x) fs) then boolean else type_of_kind k)
     go true more = refl
     go false more = more
+
+pub formal_type : (fs : List Text) (x : Text) (k : Kind) → list_any (λ f. same_text f x) fs ≡ true → type_of_kind (kind_after_formals (formal_from 0 fs x) k) ≡ boolean
+formal_type fs x k h = type_after_formals 0 fs x k ∙ ap (λ b. if b then boolean else type_of_kind k) h
+
+pub no_formal_type : (fs : List Text) (x : Text) (k : Kind) → list_any (λ f. same_text f x) fs ≡ false → type_of_kind (kind_after_formals (formal_from 0 fs x) k) ≡ type_of_kind k
+no_formal_type fs x k h = type_after_formals 0 fs x k ∙ ap (λ b. if b then boolean else type_of_kind k) h
 
 declared_type : (role : Role) (d : DeclaredTree) → type_of_kind (kind_declared role d) ≡ variable_type d
 declared_type role boolean = refl
@@ -86,6 +108,7 @@ type_of_defines (d ∷ ds) x k = go (same_text d.name x) (type_of_defines ds x k
 
 section_first : (s : SectionTree) (ss : List SectionTree) (x : Text) →
     type_of_kind (kind_in_sections (s ∷ ss) x) ≡ first_type (type_in_section s x) (type_of_kind (kind_in_sections ss x))
+unfolding type_in_section
 section_first (var ds) ss x = type_of_decls state ds x (kind_in_sections ss x)
 section_first (ivar ds) ss x = type_of_decls input ds x (kind_in_sections ss x)
 section_first (frozen ds) ss x = type_of_decls frozen_role ds x (kind_in_sections ss x)
@@ -96,12 +119,29 @@ section_first (init e) ss x = refl
 section_first (invar e) ss x = refl
 section_first (trans e) ss x = refl
 
-pub sections_more : (ss : List Section) (x : Text) (i : ℕ) (d : Section) → i < length ss →
+sections_more : (ss : List Section) (x : Text) (i : ℕ) (d : Section) → i < length ss →
     type_of_kind (kind_in_sections (map section_tree (drop i ss)) x)
     ≡ first_type (type_in_section (section_tree (get_or ss i d)) x) (type_of_kind (kind_in_sections (map section_tree (drop (i + 1) ss)) x))
 sections_more ss x i d h =
     ap (λ ts. type_of_kind (kind_in_sections (map section_tree ts) x)) (drop_more ss i d h)
     ∙ section_first (section_tree (get_or ss i d)) (map section_tree (drop (i + 1) ss)) x
+
+-- a section of a loop declares the name, or does not
+pub found_here : (ss : List Section) (x : Text) (i : ℕ) (d : Section) (type : DeclaredTree) → i < length ss → d ≡ get_or ss i d → type_in_section (section_tree d) x ≡ Some type →
+    type_of_kind (kind_in_sections (map section_tree (drop i ss)) x) ≡ type_of_kind (kind_in_sections (map section_tree ss) x) →
+    type ≡ type_of_kind (kind_in_sections (map section_tree ss) x)
+found_here ss x i d type h is t rest =
+    sym (sections_more ss x i d h
+    ∙ ap (λ (s : Section). first_type (type_in_section (section_tree s) x) (type_of_kind (kind_in_sections (map section_tree (drop (i + 1) ss)) x))) (sym is)
+    ∙ ap (λ o. first_type o (type_of_kind (kind_in_sections (map section_tree (drop (i + 1) ss)) x))) t) ∙ rest
+
+pub found_later : (ss : List Section) (x : Text) (i : ℕ) (d : Section) → i < length ss → d ≡ get_or ss i d → type_in_section (section_tree d) x ≡ None →
+    type_of_kind (kind_in_sections (map section_tree (drop i ss)) x) ≡ type_of_kind (kind_in_sections (map section_tree ss) x) →
+    type_of_kind (kind_in_sections (map section_tree (drop (i + 1) ss)) x) ≡ type_of_kind (kind_in_sections (map section_tree ss) x)
+found_later ss x i d h is t rest =
+    sym (sections_more ss x i d h
+    ∙ ap (λ (s : Section). first_type (type_in_section (section_tree s) x) (type_of_kind (kind_in_sections (map section_tree (drop (i + 1) ss)) x))) (sym is)
+    ∙ ap (λ o. first_type o (type_of_kind (kind_in_sections (map section_tree (drop (i + 1) ss)) x))) t) ∙ rest
 
 pub decls_more : (ds : List Decl) (x : Text) (i : ℕ) (d : Decl) → i < length ds →
     type_in_decls (map decl_tree (drop i ds)) x

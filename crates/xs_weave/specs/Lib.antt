@@ -5,5 +5,5 @@ pub mod Conservative
 pub mod Woven
 pub mod Weavable
 pub mod WeaveLaws
-pub mod TargetType
+pub mod Lookups
 pub mod Numbers

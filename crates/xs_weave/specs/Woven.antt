@@ -137,5 +137,9 @@ woven_module i m = record {
   sections = map (woven_section (is_affected i m.name)) m.sections ++ added_sections i m;
 }
 
+-- the same, as a word that is opened by name
+unfoldable pub woven_tree : InstructionTree → ModuleTree → ModuleTree
+woven_tree i m = woven_module i m
+
 abbrev pub woven : ProgramTree → InstructionTree → ProgramTree
 woven p i = map (woven_module i) p

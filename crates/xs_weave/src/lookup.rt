@@ -1,11 +1,11 @@
-ghost use Rattle.std.specs.Prelude.{◌≡◌, ◌&&◌, IfOk, map, option_map};
+ghost use Rattle.std.specs.Prelude.{◌≡◌, IfOk, map, option_map};
 ghost use Rattle.std.specs.List.{list_any};
 ghost use Rattle.xs_tree.specs.Texts.{same_text};
 ghost use Rattle.xs_tree.specs.ProgramTree.{module_tree, section_tree, decl_tree, define_tree, declared_tree};
 ghost use Rattle.xs_tree.specs.Scope.{kind_in, kind_in_sections};
-ghost use Rattle.xs_fei.specs.Instructions.{instruction_tree, slice_tree, is_affected as is_affected_in, is_target as is_target_of};
+ghost use Rattle.xs_fei.specs.Instructions.{instruction_tree, extension_tree, slices_from, slice_tree, is_affected as is_affected_in, is_target as is_target_of};
 ghost use Rattle.xs_weave.specs.Woven.{type_of_kind};
-ghost use Rattle.xs_weave.specs.TargetType.{variable_type as variable_type_of, type_in_decls, type_in_defines, type_in_section};
+ghost use Rattle.xs_weave.specs.Lookups.{affects as affects_in, variable_type as variable_type_of, type_in_decls, type_in_defines, type_in_section};
 
 use std::alloc::Global;
 use xs_fei::{Extension, Instructions, Slice};
@@ -20,11 +20,16 @@ pub fn has_text(x: &Name, y: &Name) -> bool
 }
 
 /// Whether a slice of the module affects the variable.
-#[tactic(auto, using(crate::proofs::LookupLaws::affected_more))]
 pub fn is_affected(i: &Instructions, owner: &Name, x: &Name) -> bool
     ensures { result ≡ is_affected_in (instruction_tree i.now) owner.now x.now }
 {
-    for extension in i.extensions.as_slice() {
+    any_affects(i.extensions.as_slice(), owner, x)
+}
+
+fn any_affects(extensions: &[Extension], owner: &Name, x: &Name) -> bool
+    ensures { result ≡ is_target_of (slices_from (map extension_tree extensions.now) owner.now) x.now }
+{
+    for extension in extensions {
         if affects(extension, owner, x) {
             return true;
         }
@@ -32,8 +37,9 @@ pub fn is_affected(i: &Instructions, owner: &Name, x: &Name) -> bool
     false
 }
 
+#[tactic(auto, unfolding(crate::specs::Lookups::affects))]
 fn affects(extension: &Extension, owner: &Name, x: &Name) -> bool
-    ensures { result ≡ (same_text extension.now.«module» owner.now && is_target_of (map slice_tree extension.now.slices) x.now) }
+    ensures { result ≡ affects_in (extension_tree extension.now) owner.now x.now }
 {
     has_text(&extension.module, owner) && is_target(extension.slices.as_slice(), x)
 }
@@ -51,13 +57,24 @@ fn is_target(slices: &[Slice], x: &Name) -> bool
 }
 
 /// The type of the variable that the name declares in the module.
-#[tactic(auto, using(crate::proofs::LookupLaws::type_after_formals))]
 pub fn target_type(alloc: Global, m: &Module, x: &Name) -> Result<Declared, OutOfMemory>
     ensures { IfOk result (λ made. declared_tree made ≡ type_of_kind (kind_in (module_tree m.now) x.now)) }
 {
-    if is_formal(m.formals.as_slice(), x) {
+    if has_formal(m, x) {
         return Ok(Declared::Boolean);
     }
+    declared_type(alloc, m, x)
+}
+
+fn has_formal(m: &Module, x: &Name) -> bool
+    ensures { result ≡ list_any (λ f. same_text f x.now) m.now.formals }
+{
+    is_formal(m.formals.as_slice(), x)
+}
+
+fn declared_type(alloc: Global, m: &Module, x: &Name) -> Result<Declared, OutOfMemory>
+    ensures { IfOk result (λ made. declared_tree made ≡ type_of_kind (kind_in_sections (map section_tree m.now.sections) x.now)) }
+{
     type_among(alloc, m.sections.as_slice(), x)
 }
 
@@ -73,18 +90,20 @@ fn is_formal(formals: &[Name], x: &Name) -> bool
     false
 }
 
-#[tactic(auto, using(crate::proofs::LookupLaws::sections_more))]
 fn type_among(alloc: Global, sections: &[Section], x: &Name) -> Result<Declared, OutOfMemory>
     ensures { IfOk result (λ made. declared_tree made ≡ type_of_kind (kind_in_sections (map section_tree sections.now) x.now)) }
 {
     for section in sections {
-        if let Some(found) = type_of_section(alloc, section, x)? {
-            return Ok(found);
+        let found = type_of_section(alloc, section, x)?;
+        match found {
+            Some(declared) => return Ok(declared),
+            None => {}
         }
     }
     Ok(Declared::Boolean)
 }
 
+#[tactic(auto, unfolding(crate::specs::Lookups::type_in_section))]
 fn type_of_section(
     alloc: Global,
     section: &Section,

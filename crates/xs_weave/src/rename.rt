@@ -196,7 +196,6 @@ fn renamed_boxed(
 }
 
 #[cycle(renamed)]
-#[tactic(auto, using(crate::proofs::RenameLaws::trees_renamed))]
 fn renamed_members(
     alloc: Global,
     i: &Instructions,
@@ -215,7 +214,6 @@ fn renamed_members(
 }
 
 #[cycle(renamed)]
-#[tactic(auto, using(crate::proofs::RenameLaws::branches_renamed))]
 fn renamed_branches(
     alloc: Global,
     i: &Instructions,

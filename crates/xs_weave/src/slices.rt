@@ -1,7 +1,7 @@
 //! The sections that a slice adds to its module.
 
-ghost use Rattle.std.specs.Prelude.{◌≡◌, [], ◌∷◌, ◌++◌, IfOk, OnOk, All, map, Some, None, flat_map};
-ghost use Rattle.xs_tree.specs.Tree.{choice as choice_of, set_of, tree_then, no_tree};
+ghost use Rattle.std.specs.Prelude.{◌≡◌, true, [], ◌∷◌, ◌++◌, IfOk, OnOk, All, map, Some, None, flat_map};
+ghost use Rattle.xs_tree.specs.Tree.{choice as choice_of, case_of, truth, branches_from};
 ghost use Rattle.xs_tree.specs.Written.{tree_of, branch_trees};
 ghost use Rattle.xs_tree.specs.ProgramTree.{declared_tree, decl_tree, assignment_tree, section_tree};
 ghost use Rattle.xs_fei.specs.Instructions.{effect_tree, guard_tree, mode_tree, slice_tree};
@@ -132,13 +132,20 @@ fn nominal(alloc: Global, slice: &Name) -> Result<Expr<Dotted>, OutOfMemory>
 }
 
 /// The next state: by cases on the state that stands.
-#[tactic(auto, using(xs_tree::proofs::WrittenLaws::tree_of_case, crate::proofs::SliceLaws::mode_branches_from))]
 fn moves(alloc: Global, s: &Slice) -> Result<Expr<Dotted>, OutOfMemory>
     ensures { IfOk result (λ made. tree_of made ≡ moves_tree (slice_tree s.now)) }
 {
-    let mut branches = stay_branches(alloc, s)?;
-    let entered = entries(alloc, s)?;
-    branches.push((Expr::Truth(true), entered))?;
+    let branches = stay_branches(alloc, s)?;
+    let last = entries(alloc, s)?;
+    closed(branches, last)
+}
+
+/// The case of the branches, and of a last one that always applies.
+#[tactic(auto, using(xs_tree::proofs::WrittenLaws::tree_of_case))]
+fn closed(mut branches: BranchList<Dotted>, last: Expr<Dotted>) -> Result<Expr<Dotted>, OutOfMemory>
+    ensures { IfOk result (λ made. tree_of made ≡ case_of (branches_from (map branch_trees branches ++ (truth true, tree_of last) ∷ []))) }
+{
+    branches.push((Expr::Truth(true), last))?;
     Ok(Expr::Case(branches))
 }
 
@@ -206,16 +213,14 @@ fn guard(alloc: Global, guard: &Option<Expr<Dotted>>) -> Result<Expr<Dotted>, Ou
 }
 
 /// The read value: by cases on the state that stands.
-#[tactic(auto, using(xs_tree::proofs::WrittenLaws::tree_of_case, crate::proofs::SliceLaws::mode_branches_from))]
 fn read(alloc: Global, d: &Declared, s: &Slice) -> Result<Expr<Dotted>, OutOfMemory>
     requires numbers { SliceHasNegations s.now }
     requires declared { TypeHasNegations (declared_tree d.now) }
     ensures { IfOk result (λ made. tree_of made ≡ read_tree (declared_tree d.now) (slice_tree s.now)) }
 {
-    let mut branches = effect_branches(alloc, d, s)?;
-    let own = own_value(alloc, &s.target)?;
-    branches.push((Expr::Truth(true), own))?;
-    Ok(Expr::Case(branches))
+    let branches = effect_branches(alloc, d, s)?;
+    let last = own_value(alloc, &s.target)?;
+    closed(branches, last)
 }
 
 fn effect_branches(

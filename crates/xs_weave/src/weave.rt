@@ -2,7 +2,7 @@ ghost use Rattle.std.specs.Prelude.{◌≡◌, [], ◌∷◌, ◌++◌, IfOk, On
 ghost use Rattle.xs_tree.specs.Texts.{same_text};
 ghost use Rattle.xs_tree.specs.ProgramTree.{program_tree, module_tree, section_tree};
 ghost use Rattle.xs_fei.specs.Instructions.{instruction_tree, slice_tree, slices_of, is_affected};
-ghost use Rattle.xs_weave.specs.Woven.{woven, woven_module as woven_module_of, woven_section, added_sections, slice_sections, own_slices};
+ghost use Rattle.xs_weave.specs.Woven.{woven, woven_tree, woven_section, added_sections, slice_sections, own_slices};
 ghost use Rattle.xs_fei.specs.Instructions.{extension_tree};
 ghost use Rattle.xs_weave.specs.Numbers.{ExtensionHasNegations, SliceHasNegations, ModuleHasNegations};
 
@@ -16,6 +16,7 @@ use xs_value::{Items, OutOfMemory};
 
 /// The program woven with the instructions: in each module that a slice affects, the names of own values
 /// where the nominal text says what a variable is, and at its end the sections of each slice.
+#[tactic(auto, unfolding(crate::specs::Woven::woven_tree))]
 pub fn woven_program(alloc: Global, p: &Program, i: &Instructions) -> Result<Program, OutOfMemory>
     requires types { All ModuleHasNegations p.now.modules }
     requires effects { All ExtensionHasNegations i.now.extensions }
@@ -32,7 +33,7 @@ fn woven_modules(
 ) -> Result<ModuleList, OutOfMemory>
     requires types { All ModuleHasNegations modules.now }
     requires effects { All ExtensionHasNegations i.now.extensions }
-    ensures { IfOk result (λ made. map module_tree made ≡ map (woven_module_of (instruction_tree i.now)) (map module_tree modules.now)) }
+    ensures { IfOk result (λ made. map module_tree made ≡ map (woven_tree (instruction_tree i.now)) (map module_tree modules.now)) }
 {
     let mut made = Items::new(alloc);
     for owner in modules {
@@ -41,10 +42,11 @@ fn woven_modules(
     Ok(made)
 }
 
+#[tactic(auto, unfolding(crate::specs::Woven::woven_tree))]
 fn woven_module(alloc: Global, i: &Instructions, m: &Module) -> Result<Module, OutOfMemory>
     requires types { ModuleHasNegations m.now }
     requires effects { All ExtensionHasNegations i.now.extensions }
-    ensures { IfOk result (λ made. module_tree made ≡ woven_module_of (instruction_tree i.now) (module_tree m.now)) }
+    ensures { IfOk result (λ made. module_tree made ≡ woven_tree (instruction_tree i.now) (module_tree m.now)) }
 {
     let name = m.name.copy(alloc)?;
     let formals = m.formals.copy(alloc)?;

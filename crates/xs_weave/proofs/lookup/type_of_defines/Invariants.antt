@@ -1,6 +1,6 @@
 use Rattle.std.proofs.Common.{◌≡◌, drop, map}
 use Rattle.xs_tree.specs.ProgramTree.{define_tree}
-use Rattle.xs_weave.specs.TargetType.{type_in_defines}
+use Rattle.xs_weave.specs.Lookups.{type_in_defines}
 use Rattle.xs_weave.proofs.lookup.type_of_defines.Given as goal
 
 abbrev pub invariant-loop-define : goal.invariant-loop-define
