@@ -28,6 +28,3 @@ pub use weave::woven_program;
 pub fn woven_extends()
     ensures { WovenExtends }
 {}
-
-#[cfg(test)]
-mod tests;
