@@ -33,7 +33,7 @@ seen_first (Some kind) whole before text after start tokens cut place =
     ap (λ t. lexeme_of kind t ∷ lexemes_of whole tokens) (range_is whole before text after start cut place)
 
 -- the grammar sees of the tokens what it sees of the pieces
-seen_tokens : (pieces : List Piece) (whole before bytes : List ℕ) (start : ℕ) → whole ≡ before ++ bytes → start ≡ length before → Splits pieces bytes [] →
+pub seen_tokens : (pieces : List Piece) (whole before bytes : List ℕ) (start : ℕ) → whole ≡ before ++ bytes → start ≡ length before → Splits pieces bytes [] →
     lexemes_of whole (tokens_from start pieces) ≡ seen pieces
 seen_tokens [] whole before bytes start cut place splits = refl
 seen_tokens (piece ∷ pieces) whole before bytes start cut place (after, spelled, is, later) =

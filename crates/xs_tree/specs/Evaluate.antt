@@ -14,22 +14,27 @@ abbrev pub only : Option Values → Option Value
 only (Some (one v)) = Some v
 only _ = None
 
+-- the only value, where it is a truth value
 abbrev pub only_truth : Option Values → Option Bool
 only_truth (Some (one (truth b))) = Some b
 only_truth _ = None
 
+-- a result as values
 abbrev pub gives_one : Option Value → Option Values
 gives_one (Some v) = Some (one v)
 gives_one None = None
 
+-- the opposite of one truth value
 abbrev pub gives_not : Option Values → Option Values
 gives_not (Some (one (truth b))) = Some (one (truth (opposite b)))
 gives_not _ = None
 
+-- one number with the other sign
 abbrev pub gives_negative : Option Values → Option Values
 gives_negative (Some (one (number n))) = Some (one (number (pos 0 -ℤ n)))
 gives_negative _ = None
 
+-- the values of both sides
 abbrev pub gives_either : Option Values → Option Values → Option Values
 gives_either (Some a) (Some b) = Some (either a b)
 gives_either _ _ = None
@@ -39,10 +44,12 @@ abbrev pub gives_within : Option Values → Option Values → Option Values
 gives_within (Some (one v)) (Some s) = Some (one (truth (has s v)))
 gives_within _ _ = None
 
+-- an operator on one value of each side
 abbrev pub gives_applied : Op → Option Values → Option Values → Option Values
 gives_applied o (Some (one v)) (Some (one w)) = gives_one (apply o v w)
 gives_applied o _ _ = None
 
+-- an operator on the values of its operands
 abbrev pub gives_binary : Op → Option Values → Option Values → Option Values
 gives_binary op.Union a b = gives_either a b
 gives_binary op.Within a b = gives_within a b
@@ -54,6 +61,7 @@ gives_choice (Some (one (truth true))) a b = a
 gives_choice (Some (one (truth false))) a b = b
 gives_choice _ a b = None
 
+-- the values of a tree, of the members of a set, and of the branches of a case
 abbrev mutual
   pub evaluate : {L : Type 0} → Leaves L → Leaves L → Tree L → Option Values
   evaluate now next (is_truth b) = Some (one (truth b))

@@ -1,7 +1,7 @@
 -- The laws of the grammar and of values, which small functions of `src/laws.rt` carry.
 use Rattle.std.specs.Prelude.{◌≡◌, ◌+◌, ℕ, List, Some}
 use Rattle.xs_tree.specs.Tree.{Tree, Trees, Branches, truth, number, leaf, not_of, negate, next_of, binary, choice, case_of, set_of, span, no_tree, tree_then, no_branch, branch_then}
-use Rattle.xs_tree.specs.ProgramTree.{Path, Formula, ProgramTree}
+use Rattle.xs_tree.specs.ProgramTree.{Text, Path, Formula, ProgramTree}
 use Rattle.xs_tree.specs.Lexemes.{Lexeme}
 use Rattle.xs_tree.specs.Spells.{at_expr, Spells}
 use Rattle.xs_tree.specs.Printed.{printed, IsWritable}
@@ -29,6 +29,12 @@ TextsSpell = (t : Formula) → IsWritable t → BytesSpellExpr (text_of t) t
 -- the text of a program that can be written spells it
 abbrev pub ProgramTextsSpell : Type 0
 ProgramTextsSpell = (p : ProgramTree) → IsWritableProgram p → BytesSpellProgram (program_text p) p
+
+-- what some text spells can be written
+abbrev pub SpelledIsWritable : Type 0
+SpelledIsWritable =
+    ((bytes : Text) (t : Formula) → BytesSpellExpr bytes t → IsWritable t)
+    × ((bytes : Text) (p : ProgramTree) → BytesSpellProgram bytes p → IsWritableProgram p)
 
 -- what is found in so many steps is found in more
 abbrev pub DeeperMeansTheSame : Type 0

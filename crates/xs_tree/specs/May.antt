@@ -26,6 +26,7 @@ name_values (suc n) p at now next name =
 abbrev pub Reading : Type 0
 Reading = ℕ → Leaves Path
 
+-- what names give at an instance
 abbrev pub reading : ProgramTree → Place → Valuation → Valuation → Reading
 reading p at now next n = name_values n p at now next
 

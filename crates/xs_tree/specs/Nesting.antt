@@ -5,6 +5,7 @@ use Rattle.xs_tree.specs.ProgramTree.{Path}
 use Rattle.xs_tree.specs.Lexemes.{Lexeme}
 use Rattle.xs_tree.specs.Spells.{Spells, only_iff, implies, repeated, only_or, chooses, only_not, negates, only_atom, inverts, SpellsMore, no_operator, one_operator, SpellsAtom, is_true, is_false, is_number, is_span, is_name, in_parentheses, is_next, is_set, is_case, SpellsTrees, one_tree, more_trees, SpellsBranches, one_branch, more_branches}
 
+-- how deep parentheses are nested as the tokens spell the tree
 abbrev mutual
   pub nesting_of : {l : ℕ} {ts : List Lexeme} {t : Tree Path} → Spells l ts t → ℕ
   nesting_of (only_iff p) = nesting_of p

@@ -8,15 +8,18 @@ use Rattle.xs_tree.specs.ProgramTree.{Text, Path}
 use Rattle.xs_tree.specs.Lexemes.{Lexeme, word, num, sign, is_reserved}
 use Rattle.xs_tree.specs.Spells.{operator}
 
+-- a number with its sign
 abbrev pub printed_int : ℤ → List Lexeme
 printed_int (pos n) = num n (decimal n) ∷ []
 printed_int (negsuc n) = sign k.Minus ∷ num (suc n) (decimal (suc n)) ∷ []
 
+-- names with dots between
 abbrev pub printed_path : Path → List Lexeme
 printed_path [] = []
 printed_path (x ∷ []) = word x ∷ []
 printed_path (x ∷ y ∷ p) = word x ∷ sign k.Dot ∷ printed_path (y ∷ p)
 
+-- between parentheses
 abbrev pub in_brackets : List Lexeme → List Lexeme
 in_brackets ts = sign k.Open ∷ (ts ++ sign k.Close ∷ [])
 
@@ -25,6 +28,7 @@ abbrev pub under_minus : {L : Type 0} → Tree L → List Lexeme → List Lexeme
 under_minus (span lo hi) ts = in_brackets ts
 under_minus _ ts = ts
 
+-- the tokens of an expression, of the members of a set, and of the branches of a case
 abbrev mutual
   pub printed : Tree Path → List Lexeme
   printed (truth true) = word (codes "TRUE") ∷ []
@@ -53,6 +57,7 @@ abbrev mutual
 abbrev pub IsName : Text → Type 0
 IsName x = (is_reserved x ≡ false) × IsWord x []
 
+-- each part is a name
 abbrev pub AreNames : Path → Type 0
 AreNames [] = Unit {0}
 AreNames (x ∷ p) = IsName x × AreNames p

@@ -10,6 +10,7 @@ use Rattle.xs_tree.specs.Texts.{same_text, is_among}
 abbrev pub Place : Type 0
 Place = List Text
 
+-- what kind of variable: of the state, an input, or frozen
 pub data Role : Type 0 where
   state : Role
   input : Role
@@ -23,28 +24,34 @@ pub data Kind : Type 0 where
   an_instance : Text → List Formula → Kind
   undeclared : Kind
 
+-- the first module of this name
 abbrev pub find_module : ProgramTree → Text → Option ModuleTree
 find_module [] x = None
 find_module (m ∷ ms) x = if same_text m.name x then Some m else find_module ms x
 
+-- the place of a formal, counted on from a number
 abbrev pub formal_from : ℕ → List Text → Text → Option ℕ
 formal_from i [] x = None
 formal_from i (y ∷ ys) x = if same_text y x then Some i else formal_from (suc i) ys x
 
+-- what a declaration makes of its name
 abbrev pub kind_declared : Role → DeclaredTree → Kind
 kind_declared role (instance m actuals) = an_instance m actuals
 kind_declared role boolean = a_variable role boolean
 kind_declared role (range lo hi) = a_variable role (range lo hi)
 kind_declared role (members ms) = a_variable role (members ms)
 
+-- what the first declaration of a name makes of it
 abbrev pub kind_in_decls : Role → List DeclTree → Text → Kind → Kind
 kind_in_decls role [] x otherwise = otherwise
 kind_in_decls role (d ∷ ds) x otherwise = if same_text d.name x then kind_declared role d.what else kind_in_decls role ds x otherwise
 
+-- what the first define of a name makes of it
 abbrev pub kind_in_defines : List DefineTree → Text → Kind → Kind
 kind_in_defines [] x otherwise = otherwise
 kind_in_defines (d ∷ ds) x otherwise = if same_text d.name x then a_define d.value else kind_in_defines ds x otherwise
 
+-- what the first section that declares a name makes of it
 abbrev pub kind_in_sections : List SectionTree → Text → Kind
 kind_in_sections [] x = undeclared
 kind_in_sections (var ds ∷ ss) x = kind_in_decls state ds x (kind_in_sections ss x)
@@ -57,6 +64,7 @@ kind_in_sections (init e ∷ ss) x = kind_in_sections ss x
 kind_in_sections (invar e ∷ ss) x = kind_in_sections ss x
 kind_in_sections (trans e ∷ ss) x = kind_in_sections ss x
 
+-- a formal goes before what is declared
 abbrev pub kind_after_formals : Option ℕ → Kind → Kind
 kind_after_formals (Some i) otherwise = a_formal i
 kind_after_formals None otherwise = otherwise
@@ -65,10 +73,12 @@ kind_after_formals None otherwise = otherwise
 abbrev pub kind_in : ModuleTree → Text → Kind
 kind_in m x = kind_after_formals (formal_from 0 m.formals x) (kind_in_sections m.sections x)
 
+-- the module of which this is an instance
 abbrev pub module_of_kind : ProgramTree → Kind → Option ModuleTree
 module_of_kind p (an_instance m actuals) = find_module p m
 module_of_kind p _ = None
 
+-- what a name is in the module of an instance
 abbrev pub kind_at : Option ModuleTree → Text → Kind
 kind_at (Some m) x = kind_in m x
 kind_at None x = undeclared
@@ -78,11 +88,13 @@ abbrev pub module_at : ProgramTree → Place → Option ModuleTree
 module_at p [] = find_module p (codes "main")
 module_at p (x ∷ at) = module_of_kind p (kind_at (module_at p at) x)
 
+-- the actual at a place
 abbrev pub nth_formula : List Formula → ℕ → Option Formula
 nth_formula [] i = None
 nth_formula (e ∷ es) zero = Some e
 nth_formula (e ∷ es) (suc i) = nth_formula es i
 
+-- an actual of an instance
 abbrev pub actual_of_kind : Kind → ℕ → Option Formula
 actual_of_kind (an_instance m actuals) i = nth_formula actuals i
 actual_of_kind _ i = None
@@ -93,14 +105,17 @@ is_symbol_of_members [] x = false
 is_symbol_of_members (member.Number n ∷ ms) x = is_symbol_of_members ms x
 is_symbol_of_members (member.Symbol y ∷ ms) x = same_text y x || is_symbol_of_members ms x
 
+-- the text is a member of the type
 abbrev pub is_symbol_of_type : DeclaredTree → Text → Bool
 is_symbol_of_type (members ms) x = is_symbol_of_members ms x
 is_symbol_of_type _ x = false
 
+-- the text is a member of one of the types
 abbrev pub is_symbol_of_decls : List DeclTree → Text → Bool
 is_symbol_of_decls [] x = false
 is_symbol_of_decls (d ∷ ds) x = is_symbol_of_type d.what x || is_symbol_of_decls ds x
 
+-- the text is a symbol of one of the sections
 abbrev pub is_symbol_of_sections : List SectionTree → Text → Bool
 is_symbol_of_sections [] x = false
 is_symbol_of_sections (var ds ∷ ss) x = is_symbol_of_decls ds x || is_symbol_of_sections ss x
@@ -109,6 +124,7 @@ is_symbol_of_sections (frozen ds ∷ ss) x = is_symbol_of_decls ds x || is_symbo
 is_symbol_of_sections (constants xs ∷ ss) x = is_among xs x || is_symbol_of_sections ss x
 is_symbol_of_sections (_ ∷ ss) x = is_symbol_of_sections ss x
 
+-- the text is a symbol of the program
 abbrev pub is_symbol : ProgramTree → Text → Bool
 is_symbol [] x = false
 is_symbol (m ∷ ms) x = is_symbol_of_sections m.sections x || is_symbol ms x
@@ -130,6 +146,7 @@ pub data Meaning : Type 0 where
 abbrev pub LookUp : Type 0
 LookUp = Place → Path → Option Meaning
 
+-- an expression that is a name alone
 abbrev pub plain_name : Formula → Option Path
 plain_name (leaf name) = Some name
 plain_name _ = None
@@ -139,6 +156,7 @@ abbrev pub whole_actual : Key → Place → Formula → Path → Option Meaning
 whole_actual key caller e [] = Some (an_expression_at key caller e)
 whole_actual key caller e (x ∷ rest) = None
 
+-- through an actual that is a name, the look-up goes on in the caller
 abbrev pub through_plain : LookUp → Key → Place → Formula → Option Path → Path → Option Meaning
 through_plain look key caller e (Some []) rest = None
 through_plain look key caller e (Some (x ∷ name)) rest = look caller (x ∷ (name ++ rest))
@@ -149,10 +167,12 @@ abbrev pub through_actual : LookUp → Key → Place → Option Formula → Path
 through_actual look key caller None rest = None
 through_actual look key caller (Some e) rest = through_plain look key caller e (plain_name e) rest
 
+-- at a formal of an instance; main has no caller and so no actual
 abbrev pub through_formal : LookUp → ProgramTree → Place → ℕ → Path → Option Meaning
 through_formal look p [] i rest = None
 through_formal look p (own ∷ caller) i rest = through_actual look (actual_key (own ∷ caller) i) caller (actual_of_kind (kind_at (module_at p caller) own) i) rest
 
+-- the meaning of a name by what its first part is
 abbrev pub by_kind : LookUp → ProgramTree → Place → Kind → Text → Path → Option Meaning
 by_kind look p at (a_formal i) x rest = through_formal look p at i rest
 by_kind look p at (a_variable role what) x [] = Some (a_variable_at at x)

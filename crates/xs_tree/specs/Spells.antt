@@ -113,6 +113,7 @@ begins_span _ = false
 abbrev pub is_repeated : ℕ → Bool
 is_repeated l = nat_eq l at_iff || (nat_le at_or l && nat_le l at_prod)
 
+-- the tokens spell the tree at a line of the grammar
 mutual
   pub data Spells : ℕ → List Lexeme → Tree Path → Type 0 where
     -- expr = iff [ "->" expr ]

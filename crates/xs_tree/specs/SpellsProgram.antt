@@ -25,9 +25,11 @@ pub data SpellsBracketed {A : Type 0} (One : List Lexeme → A → Type 0) : Lis
   no_brackets : SpellsBracketed One [] []
   brackets : {ts : List Lexeme} {list : List A} → SpellsCommas One ts list → SpellsBracketed One (sign k.Open ∷ (ts ++ sign k.Close ∷ [])) list
 
+-- name
 pub data SpellsName : List Lexeme → Text → Type 0 where
   a_name : {x : Text} → is_reserved x ≡ false → SpellsName (word x ∷ []) x
 
+-- expr
 abbrev pub SpellsExpr : List Lexeme → Formula → Type 0
 SpellsExpr ts e = Spells at_expr ts e
 
@@ -75,6 +77,7 @@ pub data SpellsFormula : List Lexeme → Formula → Type 0 where
   open_ended : {ts : List Lexeme} {e : Formula} → SpellsExpr ts e → SpellsFormula ts e
   ended : {ts : List Lexeme} {e : Formula} → SpellsExpr ts e → SpellsFormula (ts ++ sign k.Semicolon ∷ []) e
 
+-- the words of sections that leave nothing
 abbrev pub skipped_words : List Text
 skipped_words = codes "CTLSPEC" ∷ codes "SPEC" ∷ codes "LTLSPEC" ∷ codes "PSLSPEC" ∷ codes "INVARSPEC" ∷ codes "COMPUTE" ∷ []
 
@@ -85,6 +88,7 @@ HasNoSection (word x ∷ ts) = (is_among section_words x ≡ false) × HasNoSect
 HasNoSection (num n d ∷ ts) = HasNoSection ts
 HasNoSection (sign s ∷ ts) = HasNoSection ts
 
+-- section
 pub data SpellsSection : List Lexeme → SectionTree → Type 0 where
   a_var : {ts : List Lexeme} {ds : List DeclTree} → SpellsMany (SpellsDecl SpellsDeclared) ts ds → SpellsSection (word (codes "VAR") ∷ ts) (var ds)
   an_ivar : {ts : List Lexeme} {ds : List DeclTree} → SpellsMany (SpellsDecl SpellsType) ts ds → SpellsSection (word (codes "IVAR") ∷ ts) (ivar ds)
@@ -108,6 +112,7 @@ pub data SpellsFormals : List Lexeme → List Text → Type 0 where
   some_formals : {ts : List Lexeme} {xs : List Text} → SpellsBracketed SpellsName ts xs → SpellsFormals ts xs
   empty_formals : SpellsFormals (sign k.Open ∷ sign k.Close ∷ []) []
 
+-- the header and the sections of a module
 pub data SpellsModule : List Lexeme → ModuleTree → Type 0 where
   a_module : {x : Text} {fs ts : List Lexeme} {formals : List Text} {ss : List SectionTree} → is_reserved x ≡ false → SpellsFormals fs formals → SpellsSections ts ss →
       SpellsModule (word (codes "MODULE") ∷ word x ∷ (fs ++ ts)) (record { name = x; formals = formals; sections = ss })

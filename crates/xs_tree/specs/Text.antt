@@ -113,12 +113,15 @@ target_text After x = codes "next(" ++ (dotted_text x ++ codes ")")
 abbrev pub line : Text → Text
 line item = codes "  " ++ (item ++ codes ";\n")
 
+-- a declaration
 abbrev pub decl_line : DeclTree → Text
 decl_line d = line (d.name ++ (codes " : " ++ declared_text d.what))
 
+-- a define
 abbrev pub define_line : DefineTree → Text
 define_line d = line (d.name ++ (codes " := " ++ text_of d.value))
 
+-- an assignment
 abbrev pub assignment_line : AssignmentTree → Text
 assignment_line a = line (target_text a.when a.target ++ (codes " := " ++ text_of a.value))
 

@@ -11,19 +11,23 @@ pub data Value : Type 0 where
   number : ℤ → Value
   symbol : Text → Value
 
+-- both are the same number
 abbrev pub same_int : ℤ → ℤ → Bool
 same_int (pos m) (pos n) = nat_eq m n
 same_int (negsuc m) (negsuc n) = nat_eq m n
 same_int _ _ = false
 
+-- the other truth value
 abbrev pub opposite : Bool → Bool
 opposite true = false
 opposite false = true
 
+-- both are the same truth value
 abbrev pub same_bool : Bool → Bool → Bool
 same_bool true b = b
 same_bool false b = opposite b
 
+-- both are the same value
 abbrev pub same_value : Value → Value → Bool
 same_value (truth a) (truth b) = same_bool a b
 same_value (number a) (number b) = same_int a b
@@ -37,13 +41,16 @@ pub data Values : Type 0 where
   from_to : ℤ → ℤ → Values
   either : Values → Values → Values
 
+-- the first is no greater
 abbrev pub at_most : ℤ → ℤ → Bool
 at_most a b = opposite (int_lt b a)
 
+-- a number from one to another
 abbrev pub is_between : ℤ → ℤ → Value → Bool
 is_between lo hi (number n) = at_most lo n && at_most n hi
 is_between lo hi _ = false
 
+-- the value is among these
 abbrev pub has : Values → Value → Bool
 has no_value v = false
 has (one w) v = same_value w v
@@ -65,6 +72,7 @@ on_numbers op.AtMost a b = Some (truth (at_most a b))
 on_numbers op.AtLeast a b = Some (truth (at_most b a))
 on_numbers _ a b = None
 
+-- an operator on two truth values
 abbrev pub on_truths : Op → Bool → Bool → Option Value
 on_truths op.Equal a b = Some (truth (same_bool a b))
 on_truths op.Differs a b = Some (truth (opposite (same_bool a b)))
@@ -76,6 +84,7 @@ on_truths op.Iff a b = Some (truth (same_bool a b))
 on_truths op.Implies a b = Some (truth (opposite a || b))
 on_truths _ a b = None
 
+-- an operator on two symbols
 abbrev pub on_symbols : Op → Text → Text → Option Value
 on_symbols op.Equal a b = Some (truth (same_text a b))
 on_symbols op.Differs a b = Some (truth (opposite (same_text a b)))

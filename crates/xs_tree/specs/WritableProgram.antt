@@ -6,6 +6,7 @@ use Rattle.xs_tree.specs.ProgramTree.{DeclaredTree, boolean, range, members, ins
 use Rattle.xs_tree.specs.Printed.{IsName, AreNames, IsEnd, IsWritable}
 use Rattle.xs_tree.specs.Trace.{Each}
 
+-- a member of a type
 abbrev pub IsWritableMember : Member → Type 0
 IsWritableMember (member.Number n) = IsEnd n
 IsWritableMember (member.Symbol x) = IsName x
@@ -17,12 +18,14 @@ IsWritableType (range lo hi) = IsEnd lo × IsEnd hi
 IsWritableType (members ms) = (ms ≢ []) × Each IsWritableMember ms
 IsWritableType (instance m actuals) = ⊥
 
+-- a type, or an instance whose actuals can be written
 abbrev pub IsWritableDeclared : DeclaredTree → Type 0
 IsWritableDeclared (instance m actuals) = IsName m × Each IsWritable actuals
 IsWritableDeclared boolean = Unit {0}
 IsWritableDeclared (range lo hi) = IsEnd lo × IsEnd hi
 IsWritableDeclared (members ms) = (ms ≢ []) × Each IsWritableMember ms
 
+-- a declaration of a state variable or an instance
 abbrev pub IsWritableDecl : DeclTree → Type 0
 IsWritableDecl d = IsName d.name × IsWritableDeclared d.what
 
@@ -30,12 +33,15 @@ IsWritableDecl d = IsName d.name × IsWritableDeclared d.what
 abbrev pub IsWritableTyped : DeclTree → Type 0
 IsWritableTyped d = IsName d.name × IsWritableType d.what
 
+-- a define
 abbrev pub IsWritableDefine : DefineTree → Type 0
 IsWritableDefine d = IsName d.name × IsWritable d.value
 
+-- an assignment to a name
 abbrev pub IsWritableAssignment : AssignmentTree → Type 0
 IsWritableAssignment a = (a.target ≢ []) × AreNames a.target × IsWritable a.value
 
+-- a section
 abbrev pub IsWritableSection : SectionTree → Type 0
 IsWritableSection (var ds) = Each IsWritableDecl ds
 IsWritableSection (ivar ds) = Each IsWritableTyped ds
@@ -47,8 +53,10 @@ IsWritableSection (init e) = IsWritable e
 IsWritableSection (invar e) = IsWritable e
 IsWritableSection (trans e) = IsWritable e
 
+-- a module
 abbrev pub IsWritableModule : ModuleTree → Type 0
 IsWritableModule m = IsName m.name × Each IsName m.formals × Each IsWritableSection m.sections
 
+-- a program
 abbrev pub IsWritableProgram : ProgramTree → Type 0
 IsWritableProgram p = Each IsWritableModule p

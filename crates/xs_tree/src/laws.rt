@@ -1,6 +1,6 @@
 //! Laws of the definitions, each as the contract of a function that does nothing.
 
-ghost use Rattle.xs_tree.specs.Laws.{SpellsOneExpression, PrintedSpells, TextsSpell, ProgramTextsSpell, DeeperMeansTheSame, DeeperGivesTheSame, AgreeingLeavesGiveTheSame, MappedLeavesGiveTheSame};
+ghost use Rattle.xs_tree.specs.Laws.{SpellsOneExpression, PrintedSpells, TextsSpell, ProgramTextsSpell, SpelledIsWritable, DeeperMeansTheSame, DeeperGivesTheSame, AgreeingLeavesGiveTheSame, MappedLeavesGiveTheSame};
 
 /// No list of tokens spells two expressions.
 pub fn one_tree()
@@ -16,6 +16,11 @@ pub fn printed_spells()
 pub fn texts_spell()
     ensures expressions { TextsSpell }
     ensures programs { ProgramTextsSpell }
+{}
+
+/// What some text spells can be written, so that its printed text spells it.
+pub fn spelled_is_writable()
+    ensures { SpelledIsWritable }
 {}
 
 /// More steps from name to name change neither what a name means nor what an expression gives.
