@@ -1,0 +1,49 @@
+-- Computed examples of the definitions.
+use Rattle.std.proofs.Common.{◌≡◌, [], ◌∷◌, Some, None, refl}
+use Rattle.std.specs.Prelude.{pos, negsuc, codes}
+use Rattle.xs_tree.specs.declared.program.Member.TheVariants as member
+use Rattle.xs_tree.specs.ProgramTree.{boolean, range, members}
+use Rattle.xs_tree.specs.Tree.{binary, negate, number as a_number}
+use Rattle.xs_tree.specs.declared.expr.Op.TheVariants as op
+use Rattle.xs_tree.specs.Values.{number}
+use Rattle.xs_fei.specs.Instructions.{stuck_at, erroneous, frozen, offset, ramp_down}
+use Rattle.xs_effects.specs.AddedNames.{own_name, mode_symbol}
+use Rattle.xs_effects.specs.Effects.{clipped}
+use Rattle.xs_effects.specs.Templates.{number_tree}
+use Rattle.xs_effects.specs.Allowed.{fault_of}
+use Rattle.xs_effects.specs.declared.fault.EffectFault.TheVariants.{WrongKind, Outside, OneValueOnly}
+
+-- 7 and 5 more, clipped to 0..9
+clipped_sum : clipped (pos 0) (pos 9) (pos 12) ≡ pos 9
+clipped_sum = refl
+
+-- the least number of 32 bits, by numbers of 32 bits
+least_number : number_tree (negsuc 2147483647) ≡ binary op.Minus (negate (a_number (pos 2147483647))) (a_number (pos 1))
+least_number = refl
+
+own_of_seen : own_name (codes "seen") ≡ codes "seen#nominal"
+own_of_seen = refl
+
+symbol_of_wild : mode_symbol (codes "Eye") (Some (codes "wild")) ≡ codes "Eye#wild"
+symbol_of_wild = refl
+
+-- 3..3 has one value alone; 4 is not in 0..3; a step of 0 is no step
+one_value : fault_of erroneous (range (pos 3) (pos 3)) ≡ Some OneValueOnly
+one_value = refl
+
+above_range : fault_of (stuck_at (number (pos 4))) (range (pos 0) (pos 3)) ≡ Some Outside
+above_range = refl
+
+no_step : fault_of (ramp_down (pos 0) (pos 0)) (range (pos 0) (pos 3)) ≡ Some Outside
+no_step = refl
+
+-- hi + d is above 32 bits
+sum_too_great : fault_of (offset (pos 2147483647)) (range (pos 1) (pos 2)) ≡ Some Outside
+sum_too_great = refl
+
+-- an enumeration has the kind of its first member
+number_for_symbol : fault_of (stuck_at (number (pos 1))) (members (member.Symbol (codes "red") ∷ member.Number (pos 1) ∷ [])) ≡ Some WrongKind
+number_for_symbol = refl
+
+frozen_truth : fault_of frozen boolean ≡ None
+frozen_truth = refl

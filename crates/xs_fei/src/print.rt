@@ -1,0 +1,260 @@
+//! Printing instructions. All text goes to the end of one buffer, so the work is linear in the text.
+
+ghost use Rattle.std.specs.Prelude.{◌≡◌, ◌++◌, codes, IfOk, OnOk, map};
+ghost use Rattle.std.specs.Fmt.{signed_decimal};
+ghost use Rattle.xs_tree.specs.Text.{text_of, all_of, joined};
+ghost use Rattle.xs_tree.specs.Written.{tree_of};
+ghost use Rattle.xs_fei.specs.Instructions.{instruction_tree, extension_tree, slice_tree, mode_tree, effect_tree, constant_value, guard_tree};
+ghost use Rattle.xs_fei.specs.InstructionText.{instructions_text, extension_text, slice_text, mode_line, mode_head, mark_text, guard_text, effect_text, constant_text, dynamics_text, name_text, name_line, file_words as file_words_text, extension_words as extension_words_text};
+
+use crate::instructions::{
+    Constant, Dynamics, Effect, Extension, Instructions, MarkList, ModeRule, Slice,
+};
+use std::alloc::Global;
+use xs_tree::{Expr, print_expr};
+use xs_value::{ByteList, Dotted, Name, OutOfMemory};
+
+/// The text of instructions: a line for the name that they give themselves, where they do, and then
+/// each extension with its slices, and each slice with its modes, on lines of their own.
+#[tactic(auto, using(xs_tree::proofs::TextLaws::print_rules))]
+pub fn print_instructions(alloc: Global, i: &Instructions) -> Result<Vec<u8>, OutOfMemory>
+    ensures { IfOk result (λ text. text.items ≡ instructions_text (instruction_tree i.now)) }
+{
+    let mut text = ByteList::new(alloc);
+    append_file_name(&mut text, &i.name)?;
+    append_extensions(alloc, &mut text, i.extensions.as_slice())?;
+    Ok(text.into_vec())
+}
+
+#[tactic(auto, using(xs_tree::proofs::TextLaws::print_rules))]
+fn append_file_name(text: &mut ByteList, name: &Option<Name>) -> Result<(), OutOfMemory>
+    ensures { OnOk result (text.new ≡ text.old ++ name_text name.now) }
+{
+    match name {
+        Some(name) => append_name_line(text, name),
+        None => Ok(()),
+    }
+}
+
+#[tactic(auto, using(xs_tree::proofs::TextLaws::print_rules))]
+fn append_name_line(text: &mut ByteList, name: &Name) -> Result<(), OutOfMemory>
+    ensures { OnOk result (text.new ≡ text.old ++ name_line name.now) }
+{
+    text.append(file_words())?;
+    text.append(name.text())?;
+    text.append(b"\n")
+}
+
+#[tactic(auto, using(xs_tree::proofs::TextLaws::print_rules))]
+fn append_extensions(
+    alloc: Global,
+    text: &mut ByteList,
+    extensions: &[Extension],
+) -> Result<(), OutOfMemory>
+    ensures { OnOk result (text.new ≡ text.old ++ all_of (map extension_text (map extension_tree extensions.now))) }
+{
+    for extension in extensions {
+        append_extension(alloc, text, extension)?;
+    }
+    Ok(())
+}
+
+#[tactic(auto, using(xs_tree::proofs::TextLaws::print_rules))]
+fn append_extension(
+    alloc: Global,
+    text: &mut ByteList,
+    extension: &Extension,
+) -> Result<(), OutOfMemory>
+    ensures { OnOk result (text.new ≡ text.old ++ extension_text (extension_tree extension.now)) }
+{
+    text.append(extension_words())?;
+    text.append(extension.module.text())?;
+    text.append(b"\n")?;
+    append_slices(alloc, text, extension.slices.as_slice())
+}
+
+#[tactic(auto, using(xs_tree::proofs::TextLaws::print_rules))]
+fn append_slices(alloc: Global, text: &mut ByteList, slices: &[Slice]) -> Result<(), OutOfMemory>
+    ensures { OnOk result (text.new ≡ text.old ++ all_of (map slice_text (map slice_tree slices.now))) }
+{
+    for slice in slices {
+        append_slice(alloc, text, slice)?;
+    }
+    Ok(())
+}
+
+#[tactic(auto, using(xs_tree::proofs::TextLaws::print_rules))]
+fn append_slice(alloc: Global, text: &mut ByteList, slice: &Slice) -> Result<(), OutOfMemory>
+    ensures { OnOk result (text.new ≡ text.old ++ slice_text (slice_tree slice.now)) }
+{
+    text.append(b"  SLICE ")?;
+    text.append(slice.name.text())?;
+    text.append(b" AFFECTS ")?;
+    text.append(slice.target.text())?;
+    text.append(b" WITH\n")?;
+    append_modes(alloc, text, slice.modes.as_slice())
+}
+
+#[tactic(auto, using(xs_tree::proofs::TextLaws::print_rules))]
+fn append_modes(alloc: Global, text: &mut ByteList, modes: &[ModeRule]) -> Result<(), OutOfMemory>
+    ensures { OnOk result (text.new ≡ text.old ++ all_of (map mode_line (map mode_tree modes.now))) }
+{
+    for mode in modes {
+        append_mode(alloc, text, mode)?;
+    }
+    Ok(())
+}
+
+#[tactic(auto, using(xs_tree::proofs::TextLaws::print_rules))]
+fn append_mode(alloc: Global, text: &mut ByteList, mode: &ModeRule) -> Result<(), OutOfMemory>
+    ensures { OnOk result (text.new ≡ text.old ++ mode_line (mode_tree mode.now)) }
+{
+    append_mode_head(text, mode)?;
+    append_dynamics(text, mode.dynamics)?;
+    append_effect(alloc, text, &mode.effect)?;
+    append_guard(alloc, text, &mode.guard)?;
+    text.append(b";\n")
+}
+
+#[tactic(auto, using(xs_tree::proofs::TextLaws::print_rules))]
+fn append_mode_head(text: &mut ByteList, mode: &ModeRule) -> Result<(), OutOfMemory>
+    ensures { OnOk result (text.new ≡ text.old ++ mode_head (mode_tree mode.now)) }
+{
+    text.append(b"    MODE ")?;
+    text.append(mode.name.text())?;
+    append_mark(text, &mode.mark)?;
+    text.append(b" : ")
+}
+
+fn append_dynamics(text: &mut ByteList, dynamics: Dynamics) -> Result<(), OutOfMemory>
+    ensures { OnOk result (text.new ≡ text.old ++ dynamics_text dynamics) }
+{
+    match dynamics {
+        Dynamics::Permanent => text.append(b"Permanent "),
+        Dynamics::Transient => text.append(b"Transient "),
+    }
+}
+
+#[tactic(auto, using(xs_tree::proofs::TextLaws::print_rules))]
+fn append_mark(text: &mut ByteList, mark: &Option<MarkList>) -> Result<(), OutOfMemory>
+    ensures { OnOk result (text.new ≡ text.old ++ mark_text mark.now) }
+{
+    match mark {
+        Some(tokens) => {
+            text.append(b" {")?;
+            append_tokens(text, tokens.as_slice())?;
+            text.append(b"}")
+        }
+        None => Ok(()),
+    }
+}
+
+#[tactic(auto, using(xs_tree::proofs::TextLaws::print_rules))]
+fn append_tokens(text: &mut ByteList, tokens: &[Name]) -> Result<(), OutOfMemory>
+    ensures { OnOk result (text.new ≡ text.old ++ joined (codes " ") tokens.now) }
+{
+    let [first, more @ ..] = tokens else {
+        return Ok(());
+    };
+    text.append(first.text())?;
+    for token in more {
+        text.append(b" ")?;
+        text.append(token.text())?;
+    }
+    Ok(())
+}
+
+#[tactic(auto, using(xs_tree::proofs::TextLaws::print_rules))]
+fn append_guard(
+    alloc: Global,
+    text: &mut ByteList,
+    guard: &Option<Expr<Dotted>>,
+) -> Result<(), OutOfMemory>
+    ensures { OnOk result (text.new ≡ text.old ++ guard_text (guard_tree guard.now)) }
+{
+    match guard {
+        Some(guard) => {
+            text.append(b" WHEN ")?;
+            append_expression(alloc, text, guard)
+        }
+        None => Ok(()),
+    }
+}
+
+fn append_expression(
+    alloc: Global,
+    text: &mut ByteList,
+    e: &Expr<Dotted>,
+) -> Result<(), OutOfMemory>
+    ensures { OnOk result (text.new ≡ text.old ++ text_of (tree_of e.now)) }
+{
+    let part = print_expr(alloc, e)?;
+    text.append(&part)
+}
+
+#[tactic(auto, using(xs_tree::proofs::TextLaws::print_rules))]
+fn append_effect(alloc: Global, text: &mut ByteList, effect: &Effect) -> Result<(), OutOfMemory>
+    ensures { OnOk result (text.new ≡ text.old ++ effect_text (effect_tree effect.now)) }
+{
+    match effect {
+        Effect::StuckAt(c) => {
+            text.append(b"StuckAt(")?;
+            append_constant(alloc, text, c)?;
+            text.append(b")")
+        }
+        Effect::Follows(e) => {
+            text.append(b"Follows(")?;
+            append_expression(alloc, text, e)?;
+            text.append(b")")
+        }
+        Effect::Inverted => text.append(b"Inverted"),
+        Effect::Random => text.append(b"Random"),
+        Effect::Erroneous => text.append(b"Erroneous"),
+        Effect::Frozen => text.append(b"Frozen"),
+        Effect::StuckAtPick => text.append(b"StuckAtPick"),
+        Effect::Offset(distance) => {
+            text.append(b"Offset(")?;
+            append_number(alloc, text, *distance)?;
+            text.append(b")")
+        }
+        Effect::RampDown(step, floor) => {
+            text.append(b"RampDown(")?;
+            append_number(alloc, text, *step)?;
+            text.append(b", ")?;
+            append_number(alloc, text, *floor)?;
+            text.append(b")")
+        }
+    }
+}
+
+fn append_constant(alloc: Global, text: &mut ByteList, c: &Constant) -> Result<(), OutOfMemory>
+    ensures { OnOk result (text.new ≡ text.old ++ constant_text (constant_value c.now)) }
+{
+    match c {
+        Constant::Truth(true) => text.append(b"TRUE"),
+        Constant::Truth(false) => text.append(b"FALSE"),
+        Constant::Number(n) => append_number(alloc, text, *n),
+        Constant::Symbol(x) => text.append(x.text()),
+    }
+}
+
+fn append_number(alloc: Global, text: &mut ByteList, n: i64) -> Result<(), OutOfMemory>
+    ensures { OnOk result (text.new ≡ text.old ++ signed_decimal n) }
+{
+    let digits = format!(in alloc; "{n}")?;
+    text.append(digits.as_bytes())
+}
+
+#[tactic(auto, unfolding(crate::specs::InstructionText::file_words))]
+fn file_words() -> &'static [u8]
+    ensures { result.now ≡ file_words_text }
+{
+    b"FAULT EXTENSION "
+}
+
+#[tactic(auto, unfolding(crate::specs::InstructionText::extension_words))]
+fn extension_words() -> &'static [u8]
+    ensures { result.now ≡ extension_words_text }
+{
+    b"EXTENSION OF MODULE "
+}

@@ -1,0 +1,55 @@
+-- What a woven program means: its traces are the extended traces, and its faultless ones those of the program.
+use Rattle.std.specs.Prelude.{◌≡◌, ◌↔◌, List, [], ◌∷◌, ◌++◌, Some, None, Contains, codes}
+use Rattle.xs_tree.specs.ProgramTree.{Text, DeclaredTree, ModuleTree, ProgramTree}
+use Rattle.xs_tree.specs.Values.{symbol}
+use Rattle.xs_tree.specs.Scope.{Place, Role}
+use Rattle.xs_tree.specs.May.{Valuation}
+use Rattle.xs_tree.specs.Trace.{IsInstance, IsVariable, IsTrace, Each, AtSome}
+use Rattle.xs_fei.specs.Instructions.{InstructionTree, SliceTree, slices_of}
+use Rattle.xs_effects.specs.AddedNames.{ModeState, own_name, mode_variable, mode_symbol}
+use Rattle.xs_weave.specs.Extended.{Moment, IsExtended}
+
+-- the two lists are as long as each other, and each member of the one is related to that of the other
+abbrev pub EachBoth : {A B : Type 0} → (A → B → Type 0) → List A → List B → Type 0
+EachBoth R [] [] = Unit {0}
+EachBoth R (a ∷ more) (b ∷ others) = R a b × EachBoth R more others
+EachBoth R _ _ = ⊥
+
+module _ (p : ProgramTree) (i : InstructionTree) where
+  abbrev pub IsSlice : Place → SliceTree → Type 0
+  IsSlice at s = (m : ModuleTree) × IsInstance p at m × Contains (slices_of i m.name) s
+
+  -- nominal, or in one of the slice's modes
+  abbrev pub IsStateOf : SliceTree → ModeState → Type 0
+  IsStateOf s None = Unit {0}
+  IsStateOf s (Some name) = AtSome (λ m. m.name ≡ name) s.modes
+
+  -- a valuation of the woven program, as a moment: x gives the read value, x#nominal the own value of an
+  -- affected variable, and S#mode the mode
+  pub record IsCutMoment (v : Valuation) (mo : Moment) : Type 0 where
+    pub read : (at : Place) (x : Text) (role : Role) (type : DeclaredTree) → IsVariable p at x role type → v at x ≡ mo.read at x
+    pub own : (at : Place) (s : SliceTree) → IsSlice at s → v at (own_name s.target) ≡ mo.own at s.target
+    pub known : (at : Place) (s : SliceTree) → IsSlice at s → IsStateOf s (mo.mode at s.name)
+    pub mode : (at : Place) (s : SliceTree) → IsSlice at s → v at (mode_variable s.name) ≡ symbol (mode_symbol s.name (mo.mode at s.name))
+
+  abbrev pub IsCut : List Valuation → List Moment → Type 0
+  IsCut vs trace = EachBoth IsCutMoment vs trace
+
+  -- no fault's mode stands at any moment
+  abbrev pub IsFaultless : List Moment → Type 0
+  IsFaultless trace = Each (λ (mo : Moment). (at : Place) (s : SliceTree) → IsSlice at s → mo.mode at s.name ≡ None) trace
+
+  -- the read values alone
+  abbrev pub IsHidden : List Moment → List Valuation → Type 0
+  IsHidden trace vs =
+      EachBoth (λ (mo : Moment) (v : Valuation). (at : Place) (x : Text) (role : Role) (type : DeclaredTree) → IsVariable p at x role type → v at x ≡ mo.read at x) trace vs
+
+  pub record IsExtensionOf (w : ProgramTree) : Type 0 where
+    -- a list of valuations is a trace of the woven program exactly where what it is cut to is an extended trace
+    pub traces : (vs : List Valuation) (trace : List Moment) → IsCut vs trace → (IsTrace w vs ↔ IsExtended p i trace)
+    -- each trace can be cut, and each extended trace is the cut of a list of valuations
+    pub cut : (vs : List Valuation) → IsTrace w vs → (trace : List Moment) × IsCut vs trace
+    pub whole : (trace : List Moment) → IsExtended p i trace → (vs : List Valuation) × IsCut vs trace
+    -- the faultless ones, hidden, are exactly the traces of the program
+    pub nominal : (vs : List Valuation) →
+        (IsTrace p vs ↔ ((trace : List Moment) × IsExtended p i trace × IsFaultless trace × IsHidden trace vs))
