@@ -1,0 +1,5 @@
+mod RunLemmas
+mod SmallLemmas
+mod WordLemmas
+mod InputLemmas
+mod OutcomeLemmas
