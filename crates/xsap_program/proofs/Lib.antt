@@ -3,3 +3,8 @@ mod SmallLemmas
 mod WordLemmas
 mod InputLemmas
 mod OutcomeLemmas
+mod SmallSpells
+mod SmallWeavable
+mod SmallNames
+mod SmallWritable
+mod ExtensionLemmas

@@ -6,3 +6,4 @@ pub mod Commands
 pub mod Runs
 pub mod Loaded
 pub mod Delivered
+pub mod Extension

@@ -1,5 +1,5 @@
 // The top call.
-ghost use Rattle.std.specs.Prelude.{◌≡◌, ◌≤◌, ◌⊎◌, IfOk, OnOk, OnErr, IfSome, IsErrOf, ℕ, List, map};
+ghost use Rattle.std.specs.Prelude.{◌≡◌, ◌≤◌, ◌⊎◌, IfOk, OnOk, OnErr, IfSome, IsSomeAnd, IsErrOf, ℕ, List, map};
 ghost use Rattle.xs_desk.specs.Desk.{Rose, told_with, WritesPrefix, said_more, SaysPrefix};
 ghost use Rattle.xs_tree.specs.ProgramTree.{Text};
 ghost use Rattle.xsap_program.specs.declared.status.Refusal.{Refusal};
@@ -10,6 +10,8 @@ ghost use Rattle.xsap_program.specs.SmallModel.{SmallModelTree, IsSmallModel};
 ghost use Rattle.xsap_program.specs.SmallFaults.{SmallFaultsTree};
 ghost use Rattle.xsap_program.specs.Runs.{extension_text, report_text};
 ghost use Rattle.xsap_program.specs.Loaded.{IsModelOf, AreFaultsOf};
+ghost use Rattle.xsap_program.specs.Commands.{AsksToExtend};
+ghost use Rattle.xsap_program.specs.Extension.{IsExtended};
 ghost use Rattle.xsap_program.specs.Delivered.{IsMadeOf, ended_as, Stopped};
 ghost use Rattle.xs_desk.specs.declared.desk.WriteStop.TheVariants as write_stop;
 
@@ -30,6 +32,11 @@ pub fn run<D: Desk>(alloc: Global, words: &[&str], desk: &mut D) -> Status
     // Unless the desk failed or memory ran out, the whole of what words and files come to stands.
     ensures answered { IsAnswer result → IfSome (D.files desk.old) (λ files.
         HasAnswered files (map (λ w. w.now) words.now) result (D.files desk.old) (D.files desk.new) (D.said desk.old) (D.said desk.new)) }
+    // What words and files come to is one status, and this is it.
+    ensures exact { IsAnswer result → IfSome (D.files desk.old) (λ files. (o : Outcome) → Means files (map (λ w. w.now) words.now) o → result ≡ outcome_status o) }
+    // A run that is done has written the extension: its traces are the extended traces, and its faultless ones the model's.
+    ensures extended { (model faults extended : Text) → result ≡ Status.Done → AsksToExtend (map (λ w. w.now) words.now) model faults extended →
+        IfSome (D.files desk.old) (λ before. IsSomeAnd (D.files desk.new) (λ after. IsExtended before after model faults extended)) }
     // However it ends, nothing was done, or a part of that stands: a prefix of what would be written and said.
     ensures left { ((D.files desk.new ≡ D.files desk.old) × (D.said desk.new ≡ D.said desk.old)) ⊎ IfSome (D.files desk.old) (λ files.
         HasStopped files (map (λ w. w.now) words.now) (D.files desk.old) (D.files desk.new) (D.said desk.old) (D.said desk.new)) }
