@@ -1,0 +1,10 @@
+mod RunLemmas
+mod SmallLemmas
+mod WordLemmas
+mod InputLemmas
+mod OutcomeLemmas
+mod SmallSpells
+mod SmallWeavable
+mod SmallNames
+mod SmallWritable
+mod ExtensionLemmas

@@ -1,0 +1,27 @@
+-- What `extend` does to the files: the conservativity of the written extension.
+use Rattle.std.specs.Prelude.{◌≡◌, ℕ, List, Some}
+use Rattle.xs_desk.specs.declared.files.NamedFile.{NamedFile}
+use Rattle.xs_desk.specs.Files.{file_of}
+use Rattle.xs_tree.specs.ProgramTree.{Text, ProgramTree}
+use Rattle.xs_tree.specs.Bytes.{BytesSpellProgram}
+use Rattle.xs_fei.specs.Instructions.{InstructionTree}
+use Rattle.xs_fei.specs.SpellsInstructions.{BytesSpellInstructions}
+use Rattle.xs_weave.specs.Conservative.{IsExtensionOf}
+
+-- The file that is written spells the extension of the program that the model's bytes at entry spell, by the
+-- instructions that the other file's bytes at entry spell: its traces, cut, are exactly the extended traces,
+-- and the faultless ones, hidden, are exactly the traces of that program.
+pub record IsExtended (before after : List NamedFile) (model faults extended : Text) : Type 0 where
+  pub model_bytes : List ℕ
+  pub fault_bytes : List ℕ
+  pub written_bytes : List ℕ
+  pub program : ProgramTree
+  pub instructions : InstructionTree
+  pub written : ProgramTree
+  pub had_model : file_of before model ≡ Some model_bytes
+  pub had_faults : file_of before faults ≡ Some fault_bytes
+  pub has_written : file_of after extended ≡ Some written_bytes
+  pub spells_program : BytesSpellProgram model_bytes program
+  pub spells_instructions : BytesSpellInstructions fault_bytes instructions
+  pub spells_written : BytesSpellProgram written_bytes written
+  pub extension : IsExtensionOf program instructions written

@@ -1,0 +1,51 @@
+-- How a run ends: its number, and the line that a refusal says.
+use Rattle.std.specs.Prelude.{ℕ, ℤ, pos, List, ◌++◌, codes}
+use Rattle.std.specs.Fmt.{decimal}
+use Rattle.xs_tree.specs.ProgramTree.{Text}
+use Rattle.xsap_program.specs.declared.status.Built.TheVariants as built
+use Rattle.xsap_program.specs.declared.status.Part.{Part}
+use Rattle.xsap_program.specs.declared.status.Part.TheVariants as part
+use Rattle.xsap_program.specs.declared.status.InputFault.{InputFault}
+use Rattle.xsap_program.specs.declared.status.Refusal.{Refusal}
+use Rattle.xsap_program.specs.declared.status.Refusal.TheVariants as refusal
+use Rattle.xsap_program.specs.declared.status.Status.{Status}
+use Rattle.xsap_program.specs.declared.status.Status.TheVariants as status
+
+abbrev pub number_of : Status → ℤ
+number_of status.Done = pos 0
+number_of (status.NotBuilt built.Words) = pos 2
+number_of (status.NotBuilt built.Model) = pos 3
+number_of (status.NotBuilt built.Faults) = pos 4
+number_of (status.Model fault) = pos 3
+number_of (status.Faults fault) = pos 4
+number_of status.Desk = pos 7
+number_of status.Memory = pos 8
+
+abbrev pub status_of : Refusal → Status
+status_of (refusal.NotBuilt b) = status.NotBuilt b
+status_of (refusal.Model fault) = status.Model fault
+status_of (refusal.Faults fault) = status.Faults fault
+
+abbrev pub part_text : Part → Text
+part_text part.Absent = codes "absent "
+part_text part.Length = codes "length "
+
+-- the part, the number of its rule, and the place
+abbrev pub fault_text : InputFault → Text
+fault_text fault = part_text fault.part ++ (decimal fault.number ++ (codes " at " ++ (decimal fault.place ++ codes "\n")))
+
+-- the one line of a refusal
+abbrev pub refusal_text : Refusal → Text
+refusal_text (refusal.NotBuilt built.Words) = codes "refused words 0 at 1\n"
+refusal_text (refusal.NotBuilt built.Model) = codes "refused model built 1 at 0\n"
+refusal_text (refusal.NotBuilt built.Faults) = codes "refused faults built 1 at 0\n"
+refusal_text (refusal.Model fault) = codes "refused model " ++ fault_text fault
+refusal_text (refusal.Faults fault) = codes "refused faults " ++ fault_text fault
+
+-- the file is not there
+abbrev pub absent : InputFault
+absent = record { part = part.Absent; number = 1; place = 0 }
+
+-- the file has more than 1,048,576 bytes
+abbrev pub too_long : InputFault
+too_long = record { part = part.Length; number = 1; place = 1048576 }

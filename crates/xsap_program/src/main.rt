@@ -1,0 +1,68 @@
+//! Extends SMV models with faults: the program over the crates below it.
+//!
+//! [`run::run`] is the whole program over any desk: it reads the words, a model and instructions, and
+//! writes and says the answer. Its contract says what a run comes to (`specs/Runs.antt`): the one line of
+//! the first refusal, or the extension and its fault list, and what is left where the desk fails on the
+//! way. `main` hands it the words of the command line and a desk over real files. The small forms that
+//! are read now, a model of one boolean variable (`specs/SmallModel.antt`) and one permanent stuck-at
+//! mode (`specs/SmallFaults.antt`), widen with the reader of the whole language.
+//!
+//! ```text
+//! xsap_program extend --model lamp.smv --faults lamp.fei --extended out.smv
+//! ```
+#![tactic(auto)]
+
+use real_desk::RealDesk;
+use run::run;
+use status::Status;
+use std::alloc::{AllocError, Global};
+use std::env;
+use std::io::ErrorKind;
+use std::process::ExitCode;
+
+mod build;
+pub mod command;
+pub mod input;
+mod names;
+mod pattern;
+mod real_desk;
+mod report;
+pub mod run;
+pub mod small_faults;
+pub mod small_model;
+pub mod status;
+#[cfg(test)]
+mod tests;
+
+/// The number that the program ends with where a word is not text, which no status has.
+const NOT_TEXT: u8 = 11;
+
+fn main(rt: HostRuntime) -> ExitCode {
+    let alloc = rt.alloc();
+    let number = match env::args(&rt) {
+        Ok(args) => match args.skip(1).collect::<Vec<String>>(alloc) {
+            Ok(words) => exit_number(&status_of(rt, alloc, &words)),
+            Err(AllocError) => exit_number(&Status::Memory),
+        },
+        Err(error) if error.kind() == ErrorKind::OutOfMemory => exit_number(&Status::Memory),
+        Err(_) => NOT_TEXT,
+    };
+    ExitCode::from(number)
+}
+
+/// How a run with these words over real files ends.
+fn status_of(rt: HostRuntime, alloc: Global, words: &[String]) -> Status {
+    match words
+        .iter()
+        .map(|word| word.as_str())
+        .collect::<Vec<&str>>(alloc)
+    {
+        Ok(words) => run(alloc, &words, &mut RealDesk::new(rt)),
+        Err(AllocError) => Status::Memory,
+    }
+}
+
+/// The number of a status, as the system takes it.
+fn exit_number(status: &Status) -> u8 {
+    status.number() as u8
+}

@@ -1,0 +1,159 @@
+// The top call.
+ghost use Rattle.std.specs.Prelude.{◌≡◌, ◌≤◌, ◌⊎◌, IfOk, OnOk, OnErr, IfSome, IsSomeAnd, IsErrOf, ℕ, List, map};
+ghost use Rattle.xs_desk.specs.Desk.{Rose, told_with, WritesPrefix, said_more, SaysPrefix};
+ghost use Rattle.xs_tree.specs.ProgramTree.{Text};
+ghost use Rattle.xsap_program.specs.declared.status.Refusal.{Refusal};
+ghost use Rattle.xsap_program.specs.declared.input.Stop.TheVariants as stops;
+ghost use Rattle.xsap_program.specs.Statuses.{status_of, refusal_text};
+ghost use Rattle.xsap_program.specs.Runs.{Outcome, refuses, extends, ComesTo, Means, IsAnswer, outcome_status, HasAnswered, HasStopped};
+ghost use Rattle.xsap_program.specs.SmallModel.{SmallModelTree, IsSmallModel};
+ghost use Rattle.xsap_program.specs.SmallFaults.{SmallFaultsTree};
+ghost use Rattle.xsap_program.specs.Runs.{extension_text, report_text};
+ghost use Rattle.xsap_program.specs.Loaded.{IsModelOf, AreFaultsOf};
+ghost use Rattle.xsap_program.specs.Commands.{AsksToExtend};
+ghost use Rattle.xsap_program.specs.Extension.{IsExtended};
+ghost use Rattle.xsap_program.specs.Delivered.{IsMadeOf, ended_as, Stopped};
+ghost use Rattle.xs_desk.specs.declared.desk.WriteStop.TheVariants as write_stop;
+
+use crate::command::{Extend, command};
+use crate::input::{LoadedFaults, LoadedModel, Stop, load_faults, load_model};
+use crate::status::{Built, Refusal, Status};
+use std::alloc::Global;
+use xs_desk::{Desk, WriteStop, say_whole, write_whole};
+use xs_tree::print_program;
+use xs_value::{ByteList, OutOfMemory};
+use xs_weave::woven_program;
+
+/// Does what the words ask for: `extend` reads a model and instructions, writes the model extended with
+/// the fault, and says the fault. Both files are read, and every refusal is tried, before anything is
+/// written or said. A refusal says its one line and changes no file. The words are those of the command
+/// line without the program's own name.
+pub fn run<D: Desk>(alloc: Global, words: &[&str], desk: &mut D) -> Status
+    // Unless the desk failed or memory ran out, the whole of what words and files come to stands.
+    ensures answered { IsAnswer result → IfSome (D.files desk.old) (λ files.
+        HasAnswered files (map (λ w. w.now) words.now) result (D.files desk.old) (D.files desk.new) (D.said desk.old) (D.said desk.new)) }
+    // What words and files come to is one status, and this is it.
+    ensures exact { IsAnswer result → IfSome (D.files desk.old) (λ files. (o : Outcome) → Means files (map (λ w. w.now) words.now) o → result ≡ outcome_status o) }
+    // A run that is done has written the extension: its traces are the extended traces, and its faultless ones the model's.
+    ensures extended { (model faults extended : Text) → result ≡ Status.Done → AsksToExtend (map (λ w. w.now) words.now) model faults extended →
+        IfSome (D.files desk.old) (λ before. IsSomeAnd (D.files desk.new) (λ after. IsExtended before after model faults extended)) }
+    // However it ends, nothing was done, or a part of that stands: a prefix of what would be written and said.
+    ensures left { ((D.files desk.new ≡ D.files desk.old) × (D.said desk.new ≡ D.said desk.old)) ⊎ IfSome (D.files desk.old) (λ files.
+        HasStopped files (map (λ w. w.now) words.now) (D.files desk.old) (D.files desk.new) (D.said desk.old) (D.said desk.new)) }
+    // The desk's status comes only where its count of faults rose.
+    ensures failed { result ≡ Status.Desk → Rose (D.faults desk.old) (D.faults desk.new) }
+    ensures later { D.faults desk.old ≤ D.faults desk.new }
+    ensures quiet { D.quiet desk.old → D.quiet desk.new × (D.faults desk.new ≡ D.faults desk.old) }
+{
+    let Some(files) = command(words) else {
+        return refuse(alloc, desk, Refusal::NotBuilt(Built::Words));
+    };
+    match prepare(alloc, desk, &files) {
+        Ok(made) => deliver(desk, files.extended, &made),
+        Err(stop) => stopped(alloc, desk, stop),
+    }
+}
+
+/// Ends a run that can't go on: a refusal says its line.
+fn stopped<D: Desk>(alloc: Global, desk: &mut D, stop: Stop) -> Status
+    ensures stopped { Stopped stop result (D.files desk.old) (D.files desk.new) (D.said desk.old) (D.said desk.new) }
+    ensures failed { result ≡ Status.Desk → (stop ≡ stops.Desk) ⊎ Rose (D.faults desk.old) (D.faults desk.new) }
+    ensures later { D.faults desk.old ≤ D.faults desk.new }
+    ensures quiet { D.quiet desk.old → D.quiet desk.new × (D.faults desk.new ≡ D.faults desk.old) }
+{
+    match stop {
+        Stop::Refused(refusal) => refuse(alloc, desk, refusal),
+        Stop::Desk => Status::Desk,
+        Stop::Memory => Status::Memory,
+    }
+}
+
+/// What is written and said once every refusal was tried.
+#[derive(Drop)]
+pub struct Made {
+    pub text: Vec<u8>,
+    pub report: ByteList,
+}
+
+/// Reads both files, and makes what is to be written and said.
+fn prepare<D: Desk>(alloc: Global, desk: &mut D, asked: &Extend) -> Result<Made, Stop>
+    ensures ok { IfOk result (λ made. IfSome (D.files desk.old) (λ files.
+        ComesTo files asked.now.model.now asked.now.faults.now asked.now.extended.now (extends asked.now.extended.now made.text.items made.report))) }
+    ensures refused { (r : Refusal) → IsErrOf result (stops.Refused r) → IfSome (D.files desk.old) (λ files.
+        ComesTo files asked.now.model.now asked.now.faults.now asked.now.extended.now (refuses r)) }
+    ensures failed { IsErrOf result stops.Desk → Rose (D.faults desk.old) (D.faults desk.new) }
+
+    ensures files { D.files desk.new ≡ D.files desk.old }
+    ensures said { D.said desk.new ≡ D.said desk.old }
+    ensures later { D.faults desk.old ≤ D.faults desk.new }
+    ensures quiet { D.quiet desk.old → D.quiet desk.new × (D.faults desk.new ≡ D.faults desk.old) }
+{
+    let model = load_model(alloc, desk, asked.model)?;
+    let faults = load_faults(alloc, desk, asked.faults, &model.variable)?;
+    Ok(make(alloc, &model, faults)?)
+}
+
+/// The printed extension of the model by the instructions, and what is said of it.
+fn make(alloc: Global, model: &LoadedModel, faults: LoadedFaults) -> Result<Made, OutOfMemory>
+    requires model { (bytes : List ℕ) × IsModelOf bytes model.now }
+    requires faults { (bytes : List ℕ) × AreFaultsOf bytes model.now.variable faults }
+    ensures { IfOk result (λ made. IsMadeOf model.now faults made) }
+{
+    let LoadedFaults {
+        instructions,
+        report,
+    } = faults;
+    let woven = woven_program(alloc, &model.program, &instructions)?;
+    let text = print_program(alloc, &woven)?;
+    Ok(Made { text, report })
+}
+
+/// Writes the extension, and then says the report.
+fn deliver<D: Desk>(desk: &mut D, file: &str, made: &Made) -> Status
+    ensures done { result ≡ Status.Done → (D.files desk.new ≡ told_with (D.files desk.old) file.now made.now.text.items) × (D.said desk.new ≡ said_more (D.said desk.old) made.now.report) }
+    ensures part { WritesPrefix (D.files desk.old) (D.files desk.new) file.now made.now.text.items × SaysPrefix (D.said desk.old) (D.said desk.new) made.now.report }
+    ensures ends { (result ≡ Status.Done) ⊎ ((result ≡ Status.Desk) ⊎ (result ≡ Status.Memory)) }
+    ensures failed { result ≡ Status.Desk → Rose (D.faults desk.old) (D.faults desk.new) }
+    ensures later { D.faults desk.old ≤ D.faults desk.new }
+    ensures quiet { D.quiet desk.old → D.quiet desk.new × (D.faults desk.new ≡ D.faults desk.old) }
+{
+    ended(Status::Done, write_and_say(desk, file, made))
+}
+
+/// The status of work that ends with this one where no call failed.
+fn ended(status: Status, done: Result<(), WriteStop>) -> Status
+    ensures { result ≡ ended_as status done }
+{
+    match done {
+        Ok(()) => status,
+        Err(WriteStop::Failed) => Status::Desk,
+        Err(WriteStop::OutOfMemory) => Status::Memory,
+    }
+}
+
+fn write_and_say<D: Desk>(desk: &mut D, file: &str, made: &Made) -> Result<(), WriteStop>
+    ensures ok { OnOk result ((D.files desk.new ≡ told_with (D.files desk.old) file.now made.now.text.items) × (D.said desk.new ≡ said_more (D.said desk.old) made.now.report)) }
+    ensures part { WritesPrefix (D.files desk.old) (D.files desk.new) file.now made.now.text.items × SaysPrefix (D.said desk.old) (D.said desk.new) made.now.report }
+    ensures failed { IsErrOf result write_stop.Failed → Rose (D.faults desk.old) (D.faults desk.new) }
+    ensures later { D.faults desk.old ≤ D.faults desk.new }
+    ensures quiet { D.quiet desk.old → D.quiet desk.new × (D.faults desk.new ≡ D.faults desk.old) }
+{
+    write_whole(desk, file, &made.text)?;
+    say_whole(desk, made.report.as_slice())
+}
+
+/// Says the line of a refusal.
+fn refuse<D: Desk>(alloc: Global, desk: &mut D, refusal: Refusal) -> Status
+    ensures said { result ≡ status_of refusal → D.said desk.new ≡ said_more (D.said desk.old) (refusal_text refusal) }
+    ensures part { SaysPrefix (D.said desk.old) (D.said desk.new) (refusal_text refusal) }
+    ensures ends { (result ≡ status_of refusal) ⊎ ((result ≡ Status.Desk) ⊎ (result ≡ Status.Memory)) }
+    ensures files { D.files desk.new ≡ D.files desk.old }
+    ensures failed { result ≡ Status.Desk → Rose (D.faults desk.old) (D.faults desk.new) }
+    ensures later { D.faults desk.old ≤ D.faults desk.new }
+    ensures quiet { D.quiet desk.old → D.quiet desk.new × (D.faults desk.new ≡ D.faults desk.old) }
+{
+    match refusal.line(alloc) {
+        Ok(line) => ended(refusal.status(), say_whole(desk, line.as_slice())),
+        Err(OutOfMemory) => Status::Memory,
+    }
+}

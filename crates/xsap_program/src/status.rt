@@ -1,0 +1,143 @@
+// How a run ends, and the line that a refusal says.
+ghost use Rattle.std.specs.Prelude.{◌≡◌, ◌≤ℤ◌, pos, ◌++◌, IfOk, OnOk, codes};
+ghost use Rattle.std.specs.Fmt.{decimal};
+ghost use Rattle.xsap_program.specs.Statuses.{number_of, status_of, part_text, fault_text, refusal_text};
+
+use std::alloc::Global;
+use xs_value::{ByteList, OutOfMemory};
+
+/// What this program can't do yet.
+#[derive(Clone, Copy, Debug, PartialEq, Eq)]
+pub enum Built {
+    /// The words ask for more than `extend` in its fixed order of options.
+    Words,
+    /// The model is more than one boolean variable of `main`.
+    Model,
+    /// The instructions are more than one permanent stuck-at mode.
+    Faults,
+}
+
+/// What is wrong with an input.
+#[derive(Clone, Copy, Debug, PartialEq, Eq)]
+pub enum Part {
+    /// There is no such file.
+    Absent,
+    /// The file is too long.
+    Length,
+}
+
+/// Why an input is refused: the part, its rule's number, and the place, which for a length is the limit
+/// in bytes.
+#[derive(Clone, Copy, Debug, PartialEq, Eq)]
+pub struct InputFault {
+    pub part: Part,
+    pub number: u32,
+    pub place: u64,
+}
+
+/// What is refused, each with its one line.
+#[derive(Clone, Copy, Debug, PartialEq, Eq)]
+pub enum Refusal {
+    NotBuilt(Built),
+    Model(InputFault),
+    Faults(InputFault),
+}
+
+/// How a run ends.
+#[derive(Clone, Copy, Debug, PartialEq, Eq)]
+pub enum Status {
+    /// The work is done.
+    Done,
+    /// A part of the work is not built yet.
+    NotBuilt(Built),
+    /// The model is refused.
+    Model(InputFault),
+    /// The instructions are refused.
+    Faults(InputFault),
+    /// A call of the desk failed.
+    Desk,
+    /// There was no memory.
+    Memory,
+}
+
+impl Status {
+    /// The number that the program ends with, from 0 to 8.
+    pub fn number(&self) -> i32
+        ensures number { result ≡ number_of self.now }
+        ensures within { (pos 0 ≤ℤ result) × (result ≤ℤ pos 8) }
+    {
+        match self {
+            Status::Done => 0,
+            Status::NotBuilt(Built::Words) => 2,
+            Status::NotBuilt(Built::Model) | Status::Model(_) => 3,
+            Status::NotBuilt(Built::Faults) | Status::Faults(_) => 4,
+            Status::Desk => 7,
+            Status::Memory => 8,
+        }
+    }
+}
+
+impl Refusal {
+    /// The status that a run ends with after it has said this refusal.
+    pub fn status(self) -> Status
+        ensures { result ≡ status_of self }
+    {
+        match self {
+            Refusal::NotBuilt(built) => Status::NotBuilt(built),
+            Refusal::Model(fault) => Status::Model(fault),
+            Refusal::Faults(fault) => Status::Faults(fault),
+        }
+    }
+
+    /// The line that it says, with its line feed.
+    pub fn line(self, alloc: Global) -> Result<ByteList, OutOfMemory>
+        ensures { IfOk result (λ line. line ≡ refusal_text self) }
+    {
+        match self {
+            Refusal::NotBuilt(Built::Words) => {
+                ByteList::from_slice(alloc, b"refused words 0 at 1\n")
+            }
+            Refusal::NotBuilt(Built::Model) => {
+                ByteList::from_slice(alloc, b"refused model built 1 at 0\n")
+            }
+            Refusal::NotBuilt(Built::Faults) => {
+                ByteList::from_slice(alloc, b"refused faults built 1 at 0\n")
+            }
+            Refusal::Model(fault) => fault_line(alloc, b"refused model ", fault),
+            Refusal::Faults(fault) => fault_line(alloc, b"refused faults ", fault),
+        }
+    }
+}
+
+/// The line of a refused input, after its beginning.
+fn fault_line(alloc: Global, begin: &[u8], fault: InputFault) -> Result<ByteList, OutOfMemory>
+    ensures { IfOk result (λ line. line ≡ begin.now ++ fault_text fault) }
+{
+    let mut line = ByteList::from_slice(alloc, begin)?;
+    line.append(part_name(fault.part))?;
+    append_place(alloc, &mut line, fault.number, fault.place)?;
+    Ok(line)
+}
+
+/// Appends the rule's number and the place, and ends the line.
+fn append_place(
+    alloc: Global,
+    line: &mut ByteList,
+    number: u32,
+    place: u64,
+) -> Result<(), OutOfMemory>
+    ensures { OnOk result (line.new ≡ line.old ++ (decimal number ++ (codes " at " ++ (decimal place ++ codes "\n")))) }
+{
+    let text = format!(in alloc; "{number} at {place}\n")?;
+    line.append(text.as_bytes())
+}
+
+/// The part as the line names it, with a space after it.
+fn part_name(part: Part) -> &'static [u8]
+    ensures { result.now ≡ part_text part }
+{
+    match part {
+        Part::Absent => b"absent ",
+        Part::Length => b"length ",
+    }
+}
