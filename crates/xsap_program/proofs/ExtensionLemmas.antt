@@ -1,9 +1,8 @@
 -- From an answered run to the extension that it has written; and that an answer has one outcome.
-use Rattle.std.proofs.Common.{arith, ◌≡◌, ◌⊎◌, inl, inr, ⊎_elim, ◌≤◌, ◌<◌, ℕ, List, [], ◌∷◌, length, Option, Some, None, IfSome, IsSomeAnd, unwrap_or, codes, refl, sym, ap, subst, ◌∙◌}
+use Rattle.std.proofs.Common.{arith, ◌≡◌, inl, inr, ◌<◌, ℕ, List, [], length, Option, Some, None, IfSome, IsSomeAnd, unwrap_or, refl, sym, ap, subst, ◌∙◌}
 use Rattle.xs_lexer.proofs.SplitLemmas.{one_answer}
 use Rattle.xs_desk.specs.declared.files.NamedFile.{NamedFile}
 use Rattle.xs_desk.specs.Files.{file_of, content_of, with_file}
-use Rattle.xs_desk.specs.Desk.{told_with}
 use Rattle.xs_desk.proofs.Writing.{file_of-with_file}
 use Rattle.xs_tree.specs.ProgramTree.{Text}
 use Rattle.xs_tree.specs.Lexemes.{lexemes_of}
@@ -14,11 +13,11 @@ use Rattle.xsap_program.specs.declared.status.Refusal.TheVariants as refusal
 use Rattle.xsap_program.specs.declared.status.Status.{Status}
 use Rattle.xsap_program.specs.declared.status.Status.TheVariants as status
 use Rattle.xsap_program.specs.declared.status.InputFault.{InputFault}
-use Rattle.xsap_program.specs.Statuses.{status_of, absent, too_long}
+use Rattle.xsap_program.specs.Statuses.{status_of}
 use Rattle.xsap_program.specs.Commands.{AsksToExtend}
 use Rattle.xsap_program.specs.SmallModel.{SmallModelTree, IsSmallModel, model_lexemes, small_program}
 use Rattle.xsap_program.specs.SmallFaults.{SmallFaultsTree, AreSmallFaults, small_instructions}
-use Rattle.xsap_program.specs.Runs.{IsRefusedFile, HasBytes, RefusesModel, model_file, other_model, HoldsModel, RefusesFaults, faults_file, other_faults, HoldsFaults, extension_text, Outcome, refuses, extends, ComesTo, refuses_model, refuses_faults, is_extended, Means, other_words, asked, IsAnswer, outcome_status, IsDelivered, HasAnswered}
+use Rattle.xsap_program.specs.Runs.{IsRefusedFile, HasBytes, RefusesModel, model_file, other_model, HoldsModel, RefusesFaults, faults_file, other_faults, HoldsFaults, extension_text, Outcome, ComesTo, refuses_model, refuses_faults, is_extended, Means, other_words, asked, IsAnswer, outcome_status, IsDelivered, HasAnswered}
 use Rattle.xsap_program.specs.Extension.{IsExtended}
 use Rattle.xsap_program.proofs.SmallLemmas.{same_rest, same_head}
 use Rattle.xsap_program.proofs.SmallWritable.{small_extension}
@@ -66,7 +65,7 @@ comes_extended files model faults extended o after said now (refuses_model r no_
 comes_extended files model faults extended o after said now (refuses_faults m r holds no_faults) stands ended = absurd (never_done r ended)
 comes_extended files model faults extended o after said now (is_extended m f holds have) stands ended =
     subst (λ told. IsSomeAnd told (λ new. IsExtended files new model faults extended)) (sym stands.0)
-        (small_files_extended files (with_file files extended (extension_text m f)) model faults extended m f holds have (file_of-with_file files extended (extension_text m f)))
+    (small_files_extended files (with_file files extended (extension_text m f)) model faults extended m f holds have (file_of-with_file files extended (extension_text m f)))
 
 means_extended : (files : List NamedFile) (words : List Text) (model faults extended : Text) (o : Outcome) (after : Option (List NamedFile)) (said now : Option (List ℕ)) → Means files words o →
     AsksToExtend words model faults extended → IsDelivered o (Some files) after said now → status.Done ≡ outcome_status o → IsSomeAnd after (λ new. IsExtended files new model faults extended)
@@ -74,8 +73,8 @@ means_extended files words model faults extended o after said now (other_words m
 means_extended files words model faults extended o after said now (asked m f x o' named comes) asks stands ended =
     let made = comes_extended files m f x o' after said now comes stands ended in
     subst (λ t. IsSomeAnd after (λ new. IsExtended files new t faults extended)) (one_model_file named asks)
-        (subst (λ t. IsSomeAnd after (λ new. IsExtended files new m t extended)) (one_faults_file named asks)
-            (subst (λ t. IsSomeAnd after (λ new. IsExtended files new m f t)) (one_extended_file named asks) made))
+    (subst (λ t. IsSomeAnd after (λ new. IsExtended files new m t extended)) (one_faults_file named asks)
+    (subst (λ t. IsSomeAnd after (λ new. IsExtended files new m f t)) (one_extended_file named asks) made))
 
 -- a run that answers that it is done has extended the model
 pub done_extends : (told after : Option (List NamedFile)) (said now : Option (List ℕ)) (words : List Text) (s : Status) (model faults extended : Text) →
@@ -156,9 +155,9 @@ one_meaning files words a b (other_words x) (asked m f e o asks comes) = absurd 
 one_meaning files words a b (asked m f e o asks comes) (other_words y) = absurd (y m f e asks)
 one_meaning files words a b (asked m f e o asks comes) (asked m' f' e' o' asks' comes') =
     one_coming files m' f' e' o o'
-        (subst (λ t. ComesTo files t f' e' o) (one_model_file asks asks')
-            (subst (λ t. ComesTo files m t e' o) (one_faults_file asks asks')
-                (subst (λ t. ComesTo files m f t o) (one_extended_file asks asks') comes))) comes'
+    (subst (λ t. ComesTo files t f' e' o) (one_model_file asks asks')
+    (subst (λ t. ComesTo files m t e' o) (one_faults_file asks asks')
+    (subst (λ t. ComesTo files m f t o) (one_extended_file asks asks') comes))) comes'
 
 -- so an answer is the status of whatever the words and files mean
 pub answers_exactly : (told after : Option (List NamedFile)) (said now : Option (List ℕ)) (words : List Text) (s : Status) →

@@ -1,5 +1,5 @@
 -- What the reading of an input file comes to.
-use Rattle.std.proofs.Common.{◌≡◌, ◌≢◌, ℕ, List, All, Option, Some, None, Result, Ok, Err, IsErrOf, IfSome, IsTrue, false, refl, sym, ap, subst, ◌∙◌}
+use Rattle.std.proofs.Common.{◌≡◌, ◌≢◌, ℕ, List, Option, Some, None, Result, Err, IsErrOf, IfSome, false, sym, ap, subst, ◌∙◌}
 use Rattle.xs_lexer.specs.declared.token.Token.{Token}
 use Rattle.xs_lexer.specs.Tokens.{HasTokens}
 use Rattle.xs_lexer.proofs.SplitLemmas.{one_answer}
@@ -11,12 +11,10 @@ use Rattle.xsap_program.specs.declared.status.InputFault.{InputFault}
 use Rattle.xsap_program.specs.declared.status.Refusal.{Refusal}
 use Rattle.xsap_program.specs.declared.status.Refusal.TheVariants as refusal
 use Rattle.xsap_program.specs.declared.input.Input.TheVariants as input
-use Rattle.xsap_program.specs.declared.input.Stop.{Stop}
 use Rattle.xsap_program.specs.declared.input.Stop.TheVariants as stop
 use Rattle.xsap_program.specs.SmallModel.{SmallModelTree, IsSmallModel, AreOnce, model_lexemes}
 use Rattle.xsap_program.specs.SmallFaults.{SmallFaultsTree, AreSmallFaults, IsFree, AreNew, faults_lexemes}
 use Rattle.xsap_program.proofs.SmallLemmas.{one_faults}
-use Rattle.xsap_program.specs.Loaded.{AreTokens, IfSomeTokens}
 use Rattle.xsap_program.specs.Runs.{refusal_at, IsRefusedFile, HasBytes, RefusesModel, model_file, other_model, RefusesFaults, faults_file, other_faults}
 
 -- a stop that is this refusal is no other

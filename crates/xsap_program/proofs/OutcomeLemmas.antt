@@ -2,7 +2,7 @@
 use Rattle.std.proofs.Common.{◌≡◌, ◌⊎◌, inl, inr, ⊎_elim, ℕ, List, Option, Some, None, IfSome, refl, sym, ap, subst, ◌∙◌}
 use Rattle.xs_desk.specs.declared.files.NamedFile.{NamedFile}
 use Rattle.xs_desk.specs.Desk.{told_with, said_more, SaysPrefix, WritesPrefix}
-use Rattle.xs_tree.specs.ProgramTree.{Text, program_tree}
+use Rattle.xs_tree.specs.ProgramTree.{Text}
 use Rattle.xs_tree.specs.Text.{program_text}
 use Rattle.xs_fei.specs.Instructions.{instruction_tree}
 use Rattle.xs_weave.specs.Woven.{woven}
@@ -22,7 +22,7 @@ use Rattle.xsap_program.specs.SmallModel.{small_program}
 use Rattle.xsap_program.specs.SmallFaults.{AreSmallFaults, small_instructions}
 use Rattle.xsap_program.specs.Loaded.{IsModelOf, AreFaultsOf}
 use Rattle.xsap_program.specs.Delivered.{IsMadeOf, Stopped}
-use Rattle.xsap_program.specs.Runs.{HasBytes, RefusesModel, HoldsModel, RefusesFaults, HoldsFaults, extension_text, report_text, Outcome, refuses, extends, ComesTo, refuses_model, refuses_faults, is_extended, Means, asked, other_words, IsAnswer, HasAnswered, HasStopped}
+use Rattle.xsap_program.specs.Runs.{HasBytes, RefusesModel, HoldsModel, RefusesFaults, extension_text, report_text, Outcome, refuses, extends, ComesTo, refuses_model, refuses_faults, is_extended, Means, asked, other_words, IsAnswer, HasAnswered, HasStopped}
 
 module _ (model faults extended : Text) where
   -- the model is refused

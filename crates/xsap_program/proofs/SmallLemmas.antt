@@ -7,7 +7,7 @@ use Rattle.xs_lexer.specs.declared.token.Token.{Token}
 use Rattle.xs_tree.specs.declared.program.Moment.{Moment}
 use Rattle.xs_tree.specs.declared.program.Moment.TheVariants.{Always, First, After}
 use Rattle.xs_tree.specs.ProgramTree.{Text}
-use Rattle.xs_tree.specs.Lexemes.{Lexeme, word, num, sign, is_reserved, lexemes_of}
+use Rattle.xs_tree.specs.Lexemes.{Lexeme, word, sign, is_reserved, lexemes_of}
 use Rattle.xs_tree.specs.Texts.{same_text}
 use Rattle.xsap_program.specs.declared.small_model.SmallValue.{SmallValue}
 use Rattle.xsap_program.specs.declared.small_model.SmallValue.TheVariants.{Constant, Same, Opposite}

@@ -1,11 +1,10 @@
 -- What a run comes to, and what it leaves behind.
-use Rattle.std.specs.Prelude.{ℕ, ◌≡◌, ◌⊎◌, ◌≤◌, ◌<◌, List, ◌++◌, length, take, Option, Some, None, IfSome, codes}
+use Rattle.std.specs.Prelude.{ℕ, ◌≡◌, ◌⊎◌, ◌≤◌, ◌<◌, List, ◌++◌, length, Option, Some, None, codes}
 use Rattle.xs_desk.specs.declared.files.NamedFile.{NamedFile}
 use Rattle.xs_desk.specs.Files.{file_of, content_of}
 use Rattle.xs_desk.specs.Desk.{told_with, said_more, SaysPrefix, WritesPrefix}
-use Rattle.xs_tree.specs.ProgramTree.{Text, program_tree}
+use Rattle.xs_tree.specs.ProgramTree.{Text}
 use Rattle.xs_tree.specs.Text.{program_text}
-use Rattle.xs_fei.specs.Instructions.{instruction_tree}
 use Rattle.xs_weave.specs.Woven.{woven}
 use Rattle.xsap_program.specs.declared.status.Built.TheVariants as built
 use Rattle.xsap_program.specs.declared.status.InputFault.{InputFault}
@@ -15,7 +14,6 @@ use Rattle.xsap_program.specs.declared.status.Status.{Status}
 use Rattle.xsap_program.specs.declared.status.Status.TheVariants as status
 use Rattle.xsap_program.specs.declared.input.Input.{Input}
 use Rattle.xsap_program.specs.declared.input.Input.TheVariants as input
-use Rattle.xsap_program.specs.declared.input.Stop.{Stop}
 use Rattle.xsap_program.specs.Statuses.{status_of, refusal_text, absent, too_long}
 use Rattle.xsap_program.specs.Commands.{AsksToExtend, AsksForMore}
 use Rattle.xsap_program.specs.SmallModel.{SmallModelTree, IsSmallModel, small_program}

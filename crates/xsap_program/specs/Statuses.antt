@@ -1,5 +1,5 @@
 -- How a run ends: its number, and the line that a refusal says.
-use Rattle.std.specs.Prelude.{ℕ, ℤ, pos, List, ◌++◌, codes}
+use Rattle.std.specs.Prelude.{ℤ, pos, ◌++◌, codes}
 use Rattle.std.specs.Fmt.{decimal}
 use Rattle.xs_tree.specs.ProgramTree.{Text}
 use Rattle.xsap_program.specs.declared.status.Built.TheVariants as built

@@ -111,7 +111,7 @@ fn a_run_ends_says_and_writes_as_its_row(rt: HostRuntime) -> Result<(), OutOfMem
         one_name,
         refused(Some(b""), Some(DARK), 3, b"refused model built 1 at 0\n"),
         refused(
-            Some(&LAMP[..40]),
+            Some(&LAMP[..50]),
             Some(DARK),
             3,
             b"refused model built 1 at 0\n",

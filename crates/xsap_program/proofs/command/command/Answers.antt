@@ -1,4 +1,4 @@
-use Rattle.std.proofs.Common.{rules, arith, ◌≡◌, IsTrue, ◌∙◌, [], get_or}
+use Rattle.std.proofs.Common.{arith, IsTrue, ◌∙◌, []}
 use Rattle.xsap_program.proofs.WordLemmas.{seven_words, with_options}
 use Rattle.xsap_program.proofs.command.command.Goals as goal
 

@@ -1,4 +1,4 @@
-use Rattle.std.proofs.Common.{rules, arith, ◌≡◌, Some, None, true, false, IsTrue, refl, sym, subst, ap, ◌∙◌}
+use Rattle.std.proofs.Common.{arith, ◌≡◌, false, IsTrue, refl, sym, subst, ◌∙◌}
 use Rattle.xsap_program.specs.SmallFaults.{faults_of}
 use Rattle.xsap_program.specs.Loaded.{AreTokens, IfSomeTokens}
 use Rattle.xsap_program.proofs.InputLemmas.{refused_as, no_small_faults, no_new_names}

@@ -1,4 +1,4 @@
-use Rattle.std.proofs.Common.{rules, arith, ◌≡◌, Err, IsErrOf, IfSome, refl, sym, ap, subst, ◌∙◌}
+use Rattle.std.proofs.Common.{Err, IsErrOf, IfSome, sym, ap, subst, ◌∙◌}
 use Rattle.std.proofs.lemmas.Result.{err_from_is_err_and}
 use Rattle.xsap_program.specs.Runs.{HasBytes}
 use Rattle.xsap_program.specs.declared.input.Stop.TheVariants as stop

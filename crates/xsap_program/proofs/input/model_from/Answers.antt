@@ -1,5 +1,5 @@
-use Rattle.std.proofs.Common.{rules, arith, ◌≡◌, Some, None, refl, sym, subst, ◌∙◌}
-use Rattle.xsap_program.specs.SmallModel.{model_of, IsSmallModel}
+use Rattle.std.proofs.Common.{refl, sym, subst}
+use Rattle.xsap_program.specs.SmallModel.{model_of}
 use Rattle.xsap_program.specs.Loaded.{AreTokens, IfSomeTokens}
 use Rattle.xsap_program.proofs.InputLemmas.{refused_as, no_small_model}
 use Rattle.xsap_program.proofs.input.model_from.Goals as goal

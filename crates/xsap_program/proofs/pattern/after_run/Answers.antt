@@ -1,6 +1,6 @@
-use Rattle.std.proofs.Common.{rules, arith, ◌≡◌, ◌<◌, ◌+◌, ℕ, List, ◌∷◌, All, length, get_or, IsTrue, true, subst}
+use Rattle.std.proofs.Common.{rules, arith, ◌≡◌, ◌∷◌, All, IsTrue, subst}
 use Rattle.std.proofs.lemmas.List.Elements.{All-tail}
-use Rattle.xsap_program.specs.Patterns.{lexeme_wanted, lexeme_at, LiesIn, IsPlain}
+use Rattle.xsap_program.specs.Patterns.{LiesIn}
 use Rattle.xsap_program.proofs.RunLemmas.{past_one}
 use Rattle.xsap_program.proofs.pattern.after_run.Goals as goal
 

@@ -1,4 +1,4 @@
-use Rattle.std.proofs.Common.{rules, arith, ◌≡◌, ◌++◌, ap, sym, refl, ◌∙◌, true, false, map}
+use Rattle.std.proofs.Common.{◌++◌, ap, sym, refl, ◌∙◌, map}
 use Rattle.std.proofs.lemmas.List.{append-nil}
 use Rattle.xsap_program.specs.Patterns.{lexeme_wanted}
 use Rattle.xsap_program.proofs.SmallLemmas.{append_none, no_tokens, empty_tokens, true_false}

@@ -1,5 +1,5 @@
-use Rattle.std.proofs.Common.{rules, arith, ◌≡◌, true, false, sym, ap, ◌∙◌, slice_range}
-use Rattle.xs_tree.specs.Lexemes.{word, lexeme_of, is_reserved}
+use Rattle.std.proofs.Common.{rules, ◌≡◌, true, false, sym, ap, ◌∙◌, slice_range}
+use Rattle.xs_tree.specs.Lexemes.{is_reserved}
 use Rattle.xsap_program.proofs.RunLemmas.{text_of_word}
 use Rattle.xsap_program.proofs.pattern.name_of.Goals as goal
 

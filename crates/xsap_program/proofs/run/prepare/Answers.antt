@@ -1,4 +1,4 @@
-use Rattle.std.proofs.Common.{rules, arith, ◌≡◌, Err, IsErrOf, sym, ap, ◌∙◌}
+use Rattle.std.proofs.Common.{Err, IsErrOf, sym, ap, ◌∙◌}
 use Rattle.std.proofs.lemmas.Result.{err_from_is_err_and}
 use Rattle.xsap_program.specs.declared.input.Stop.TheVariants as stop
 use Rattle.xsap_program.proofs.InputLemmas.{same_error}

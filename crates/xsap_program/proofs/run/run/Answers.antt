@@ -1,7 +1,7 @@
 use Rattle.std.proofs.Common.{Err, inr, refl, ap}
 use Rattle.xsap_program.specs.declared.status.Built.TheVariants as built
 use Rattle.xsap_program.specs.declared.status.Refusal.TheVariants as refusal
-use Rattle.xsap_program.specs.Runs.{refuses, extends, other_words}
+use Rattle.xsap_program.specs.Runs.{refuses}
 use Rattle.xsap_program.proofs.OutcomeLemmas.{means_asked, means_more, answers_refusal, stops_at_refusal, answers_extension, stops_at_extension, answers_stop, leaves_stop}
 use Rattle.xsap_program.proofs.ExtensionLemmas.{answers_exactly, done_extends}
 use Rattle.xsap_program.proofs.run.run.Goals as goal

@@ -1,5 +1,5 @@
-use Rattle.std.proofs.Common.{rules, arith, ◌≡◌, ◌≢◌, ◌⊎◌, inl, inr, List, [], true, false, refl, sym, ◌∙◌}
-use Rattle.xs_tree.specs.Lexemes.{Lexeme, lexemes_of}
+use Rattle.std.proofs.Common.{arith, ◌≡◌, ◌≢◌, ◌⊎◌, inl, inr, [], false, refl, sym, ◌∙◌}
+use Rattle.xs_tree.specs.Lexemes.{lexemes_of}
 use Rattle.xsap_program.specs.SmallModel.{AreApart}
 use Rattle.xsap_program.proofs.SmallLemmas.{no_first, no_second, no_third, no_lexeme, true_false}
 use Rattle.xsap_program.proofs.small_model.small_assignments.Goals as goal

@@ -1,4 +1,4 @@
-use Rattle.std.proofs.Common.{rules, arith, ◌≡◌, refl, sym, ◌∙◌}
+use Rattle.std.proofs.Common.{refl, sym, ◌∙◌}
 use Rattle.xsap_program.specs.SmallModel.{assignments_lexemes}
 use Rattle.xsap_program.proofs.SmallLemmas.{same_rest}
 use Rattle.xsap_program.proofs.small_model.small_model.Goals as goal
