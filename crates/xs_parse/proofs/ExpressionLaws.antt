@@ -33,7 +33,7 @@ no_front ts h f =
     let on : is_stuck (run start ts) ≡ false = front_goes_on ts (f.0, f.1.0, f.1.1) in
     let clash : true ≡ false = sym h ∙ on in cc
 
-none_within : (xs : List Token) (i : ℕ) → i < length xs → slice_get xs i ≡ None → ⊥
+pub none_within : (xs : List Token) (i : ℕ) → i < length xs → slice_get xs i ≡ None → ⊥
 none_within [] i h e = absurd (omega (arith, h))
 none_within (x ∷ xs) zero h e = cc
 none_within (x ∷ xs) (suc i) h e = none_within xs i (omega (arith, h)) e
@@ -138,12 +138,6 @@ expression_depths bytes tokens t only low height = (height, λ others split spel
         let within : nat_lt 1000 (nesting_of spelled) ≡ false = sym (deep_nesting spelled) ∙ here in
         grind (arith, nat_tests, within)
 
--- what spells nothing is refused as such
-pub expression_found : (bytes : List ℕ) (tokens : List Token) → ((others : List Token) → HasTokens bytes others → others ≡ tokens) →
-    (t : Formula) → BytesSpellExpr bytes t → is_whole (run start (lexemes_of bytes tokens)) ≡ true
-expression_found bytes tokens only t spelled =
-    subst (λ z. is_whole (run start (lexemes_of bytes z)) ≡ true) (only spelled.0 spelled.1) (spelled_accepted spelled.2)
-
 -- the same, as the code finds it
 pub check_stops : (Deep : Type 0) (bytes : List ℕ) (tokens : List Token) (ts : List Lexeme) (i : ℕ) (f : ParseFault) → HasTokens bytes tokens → ts ≡ lexemes_of bytes tokens → i ≡ reach_of start ts → i < length ts →
     ((token : Token) (lexeme : Lexeme) → slice_get tokens i ≡ Some token → slice_get ts i ≡ Some lexeme → f ≡ stop_fault (is_left_out lexeme) token.start) → FaultMeans IsExpression Deep bytes f
@@ -160,10 +154,3 @@ check_stops Deep bytes tokens ts i f split same at within fault = go (slice_get 
         let here : slice_get tokens (reach_of start (lexemes_of bytes tokens)) ≡ Some token = ap (slice_get tokens) (sym place) ∙ e in
         let bound : reach_of start (lexemes_of bytes tokens) < length (lexemes_of bytes tokens) = subst (λ z. z < length (lexemes_of bytes tokens)) place (subst (λ z. i < length z) same within) in
         subst (FaultMeans IsExpression Deep bytes) (sym (fault token (lexeme_at bytes token) e lexeme)) (expression_stops Deep bytes tokens token split here bound)
-
--- the tree that is made of a whole list is spelled
-pub made_spelled : (ts : List Lexeme) (t : Formula) → is_whole (run start ts) ≡ true → built ts ≡ Some t → SpellsExpr ts t
-made_spelled ts t whole e =
-    let made = accepted_spelled ts whole in
-    let same : made.0 ≡ t = (let both : Some made.0 ≡ Some t = sym (built_spelled made.1) ∙ e in cc) in
-    subst (SpellsExpr ts) same made.1

@@ -16,3 +16,4 @@ pub mod Heights
 pub mod ExtentLaws
 pub mod ExpressionLaws
 pub mod FaultLaws
+pub mod ListLaws

@@ -14,3 +14,4 @@ pub mod Heights
 pub mod BuildViews
 pub mod Extents
 pub mod Stops
+pub mod Lists

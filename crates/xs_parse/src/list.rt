@@ -1,7 +1,11 @@
 // How far a list of expressions can be read, and its trees.
-ghost use Rattle.std.specs.Prelude.{◌≡◌};
+ghost use Rattle.std.specs.Prelude.{◌≡◌, ◌∷◌, [], List, Some, false, IfOk, IfSome};
+ghost use Rattle.xs_parse.specs.Recognise as machine;
+ghost use Rattle.xs_parse.specs.Views.{role_view, state_with};
+ghost use Rattle.xs_parse.specs.Recognise.{role_of};
+ghost use Rattle.xs_parse.specs.Predict.{all_empty};
 ghost use Rattle.xs_parse.specs.Formulas as lists;
-ghost use Rattle.xs_parse.specs.Views.{role_view};
+ghost use Rattle.xs_parse.specs.Lists.{place_view, after_view, stepped, Fits, ListReads};
 
 use crate::cursor::Cursor;
 use crate::expected::Reading;
@@ -26,7 +30,12 @@ pub enum Place {
 }
 
 /// The first token of an expression.
-fn begin_step(frames: &mut Frames, token: &TokenText) -> Result<Option<Place>, OutOfMemory> {
+#[tactic(auto, using(crate::proofs::ListLaws::live_stuck))]
+fn begin_step(frames: &mut Frames, token: &TokenText) -> Result<Option<Place>, OutOfMemory>
+    requires { frames.old ≡ [] }
+    ensures next { IfOk result (λ place. after_view place frames.new ≡ lists.live (machine.step machine.start (role_of token.now)) (lists.more ∷ [])) }
+    ensures fits { IfOk result (λ place. IfSome place (λ p. Fits p frames.new)) }
+{
     let mode = step(Mode::Wants, frames, token.role())?;
     if is_stuck(mode) {
         Ok(None)
@@ -40,7 +49,11 @@ fn inside_step(
     mode: Mode,
     frames: &mut Frames,
     token: &TokenText,
-) -> Result<Option<Place>, OutOfMemory> {
+) -> Result<Option<Place>, OutOfMemory>
+    requires { machine.is_stuck (state_with mode frames.old) ≡ false }
+    ensures next { IfOk result (λ place. after_view place frames.new ≡ stepped (lists.live (state_with mode frames.old) (lists.more ∷ [])) token.now) }
+    ensures fits { IfOk result (λ place. IfSome place (λ p. Fits p frames.new)) }
+{
     let whole = is_whole(mode, frames);
     let role = token.role();
     let next = step(mode, frames, role)?;
@@ -64,11 +77,16 @@ fn is_semicolon(role: Role) -> bool
 }
 
 /// One more token, and nothing where no list goes on with it.
+#[tactic(auto, using(crate::proofs::ListLaws::begins_first, crate::proofs::ListLaws::begins_again))]
 fn list_step(
     place: Place,
     frames: &mut Frames,
     token: &TokenText,
-) -> Result<Option<Place>, OutOfMemory> {
+) -> Result<Option<Place>, OutOfMemory>
+    requires { Fits place frames.old }
+    ensures next { IfOk result (λ new. after_view new frames.new ≡ stepped (place_view place frames.old) token.now) }
+    ensures fits { IfOk result (λ new. IfSome new (λ p. Fits p frames.new)) }
+{
     match place {
         Place::First => begin_step(frames, token),
         Place::Again => begin_step(frames, token),
@@ -77,7 +95,10 @@ fn list_step(
 }
 
 /// Whether the list may end here.
-fn may_end(place: Place, frames: &Frames) -> bool {
+#[tactic(auto, using(crate::proofs::ListLaws::inside_ends))]
+fn may_end(place: Place, frames: &Frames) -> bool
+    ensures { (s : List lists.Sym) → place_view place frames.now ≡ Some s → result ≡ all_empty lists.Sym lists.formulas s }
+{
     match place {
         Place::First => false,
         Place::Again => true,
@@ -85,8 +106,10 @@ fn may_end(place: Place, frames: &Frames) -> bool {
     }
 }
 
-/// How far a list of expressions can be read.
-pub fn read_list(alloc: Global, tokens: &[TokenText]) -> Result<Reading, OutOfMemory> {
+/// How far a list of expressions can be read, and its trees.
+pub fn read_list(alloc: Global, tokens: &[TokenText]) -> Result<Reading, OutOfMemory>
+    ensures { IfOk result (λ reading. ListReads tokens.now reading) }
+{
     let mut frames = Frames::new(alloc);
     let mut place = Place::First;
     for (i, token) in tokens.iter().enumerate() {

@@ -10,6 +10,7 @@ ghost use Rattle.xs_tree.specs.Bytes.{BytesSpellExpr, HasDepths};
 ghost use Rattle.xs_parse.specs.Recognise as machine;
 ghost use Rattle.xs_parse.specs.Build.{built as machine_built};
 ghost use Rattle.xs_parse.specs.Extents.{is_deep};
+ghost use Rattle.xs_parse.specs.Lists.{IsExpressions, AreExpressions};
 ghost use Rattle.xs_parse.specs.Stops.{IsExpression, IsTooDeep, FaultMeans, IsOfTokens, is_left_out, stop_fault};
 
 use crate::cursor::Cursor;
@@ -124,6 +125,47 @@ fn read_expression(
     make_expression(alloc, bytes, tokens, texts)
 }
 
+/// Refuses what is no list of expressions.
+fn check_list(
+    alloc: Global,
+    bytes: &[u8],
+    tokens: &TokenList,
+    texts: &[TokenText],
+) -> Result<(), ParseFault>
+    requires short { length bytes.now < 2 ^ 32 }
+    requires split { HasTokens bytes.now tokens.now }
+    requires same { texts.now ≡ lexemes_of bytes.now tokens.now }
+    ensures spelled { IfOk result (λ _. IsExpressions texts.now) }
+    ensures fault { IfErr result (λ fault. FaultMeans IsExpressions (AreExpressions bytes.now) bytes.now fault) }
+{
+    match read_list(alloc, texts)? {
+        Reading::Whole => Ok(()),
+        Reading::Unfinished => Err(ParseFault::End(bytes.len() as u32)),
+        Reading::Stopped(i) => Err(stop_at(tokens, texts, i)),
+    }
+}
+
+/// The trees of tokens that are a list of expressions. Some tree is made of each expression that is spelled, so
+/// that the last arm is never taken.
+fn make_list(
+    alloc: Global,
+    bytes: &[u8],
+    tokens: &TokenList,
+    texts: &[TokenText],
+) -> Result<ExprList<Dotted>, ParseFault>
+    requires split { HasTokens bytes.now tokens.now }
+    requires same { texts.now ≡ lexemes_of bytes.now tokens.now }
+    requires spelled { IsExpressions texts.now }
+    ensures { IfErr result (λ fault. FaultMeans IsExpressions (AreExpressions bytes.now) bytes.now fault) }
+{
+    let mut cursor = Cursor::new(texts);
+    match list_trees(alloc, &mut cursor) {
+        Ok(trees) => Ok(trees),
+        Err(BuildFault::OutOfMemory) => Err(ParseFault::OutOfMemory),
+        Err(BuildFault::TooDeep | BuildFault::NoTree) => Err(ParseFault::TooDeep),
+    }
+}
+
 /// The fault of a text that can be read so far.
 fn check(
     bytes: &[u8],
@@ -175,18 +217,15 @@ pub fn expression(alloc: Global, bytes: &[u8]) -> Result<Expr<Dotted>, ParseFaul
 
 /// The expressions that the bytes spell: one or more, with semicolons between, and one more semicolon
 /// allowed at the end. It takes time in proportion to the bytes.
+#[tactic(auto, using(crate::proofs::FaultLaws::of_tokens))]
 pub fn expressions(alloc: Global, bytes: &[u8]) -> Result<ExprList<Dotted>, ParseFault>
     requires { length bytes.now < 2 ^ 32 }
+    ensures { IfErr result (λ fault. FaultMeans IsExpressions (AreExpressions bytes.now) bytes.now fault) }
 {
     let tokens = split(alloc, bytes)?;
     let texts = token_texts(alloc, bytes, &tokens)?;
-    let reading = read_list(alloc, &texts)?;
-    check(bytes, &tokens, &texts, reading)?;
-    let mut cursor = Cursor::new(&texts);
-    match list_trees(alloc, &mut cursor) {
-        Ok(trees) => Ok(trees),
-        Err(fault) => Err(unbuilt(fault, bytes.len() as u32)),
-    }
+    check_list(alloc, bytes, &tokens, &texts)?;
+    make_list(alloc, bytes, &tokens, &texts)
 }
 
 /// The program that the bytes spell. Sections that are passed over leave nothing in it. It takes time in
