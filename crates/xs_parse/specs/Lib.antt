@@ -1,0 +1,17 @@
+pub mod Recognise
+pub mod Complete
+pub mod Build
+pub mod Depth
+pub mod Predict
+pub mod Formulas
+pub mod ProgramRead
+pub mod Views
+pub mod MarkView
+pub mod Places
+pub mod PartViews
+pub mod Faults
+pub mod Heights
+pub mod BuildViews
+pub mod Extents
+pub mod Stops
+pub mod Lists

@@ -1,0 +1,34 @@
+-- The code's marks, as those of the grammar of programs.
+use Rattle.xs_parse.specs.declared.mark.Mark.TheVariants as m
+use Rattle.xs_parse.specs.declared.mark.Mark.{Mark}
+use Rattle.xs_parse.specs.ProgramRead as read
+
+abbrev pub mark_view : Mark → read.Mark
+mark_view m.Module = read.w_module
+mark_view m.Var = read.w_var
+mark_view m.Ivar = read.w_ivar
+mark_view m.Frozen = read.w_frozen
+mark_view m.Define = read.w_define
+mark_view m.Constants = read.w_constants
+mark_view m.Assign = read.w_assign
+mark_view m.Init = read.w_init
+mark_view m.Invar = read.w_invar
+mark_view m.Trans = read.w_trans
+mark_view m.Skipped = read.w_skipped
+mark_view m.Boolean = read.w_boolean
+mark_view m.First = read.w_first
+mark_view m.After = read.w_after
+mark_view m.Name = read.a_name
+mark_view m.Number = read.a_number
+mark_view m.Becomes = read.s_becomes
+mark_view m.Dots = read.s_dots
+mark_view m.Open = read.s_open
+mark_view m.Close = read.s_close
+mark_view m.OpenBrace = read.s_open_brace
+mark_view m.CloseBrace = read.s_close_brace
+mark_view m.Comma = read.s_comma
+mark_view m.Semicolon = read.s_semicolon
+mark_view m.Colon = read.s_colon
+mark_view m.Dot = read.s_dot
+mark_view m.Minus = read.s_minus
+mark_view m.Nothing = read.no_mark
