@@ -1,5 +1,4 @@
 use crate::run::run;
-use crate::status::Status;
 use std::alloc::Global;
 use xs_desk::{CallKind, Fail, FailList, FileList, MemoryDesk, NamedFile};
 use xs_value::OutOfMemory;
@@ -36,115 +35,97 @@ fn desk_of(
     Ok(MemoryDesk::new(alloc, files, fails))
 }
 
-/// What a run must end with, say, and have written, where it has written at all.
-#[derive(Clone, Copy)]
-struct Row<'a> {
-    words: &'a [&'a str],
-    model: Option<&'a [u8]>,
-    faults: Option<&'a [u8]>,
-    fail: Option<Fail>,
+/// Whether a run over this desk ends with this number, says this text and has written this file, if any.
+fn holds(
+    alloc: Global,
+    desk: MemoryDesk,
+    words: &[&str],
     number: i32,
-    said: &'a [u8],
-    written: Option<&'a [u8]>,
+    said: &[u8],
+    written: Option<&[u8]>,
+) -> bool {
+    let mut desk = desk;
+    let status = run(alloc, words, &mut desk);
+    status.number() == number && desk.said() == said && desk.file("x") == written
 }
 
-/// Whether the run of a row does what the row says.
-fn holds(alloc: Global, row: &Row) -> Result<bool, OutOfMemory> {
-    let mut desk = desk_of(alloc, row.model, row.faults, row.fail)?;
-    let status = run(alloc, row.words, &mut desk);
-    Ok(status.number() == row.number && desk.said() == row.said && desk.file("x") == row.written)
-}
-
-/// The row of one refusal, after which nothing is written.
-fn refused<'a>(
-    model: Option<&'a [u8]>,
-    faults: Option<&'a [u8]>,
+/// Whether a run over these two files, where they are given, says this one refusal and writes nothing.
+fn refuses(
+    alloc: Global,
+    model: Option<&[u8]>,
+    faults: Option<&[u8]>,
     number: i32,
-    said: &'a [u8],
-) -> Row<'a> {
-    Row {
-        words: &WORDS,
-        model,
-        faults,
-        fail: None,
-        number,
-        said,
-        written: None,
-    }
+    said: &[u8],
+) -> Result<bool, OutOfMemory> {
+    let desk = desk_of(alloc, model, faults, None)?;
+    Ok(holds(alloc, desk, &WORDS, number, said, None))
 }
 
-/// The row of a desk that fails at one call of the run over the lamp.
-fn failing(call: CallKind, kept: u64, written: Option<&[u8]>) -> Row {
-    Row {
-        words: &WORDS,
-        model: Some(LAMP),
-        faults: Some(DARK),
-        fail: Some(Fail { call, nth: 1, kept }),
-        number: 7,
-        said: b"",
-        written,
-    }
+/// Whether a run over the lamp, whose first call of a kind fails, says nothing and leaves this file.
+fn stops(
+    alloc: Global,
+    call: CallKind,
+    kept: u64,
+    written: Option<&[u8]>,
+) -> Result<bool, OutOfMemory> {
+    let fail = Fail { call, nth: 1, kept };
+    let desk = desk_of(alloc, Some(LAMP), Some(DARK), Some(fail))?;
+    Ok(holds(alloc, desk, &WORDS, 7, b"", written))
 }
 
 #[test]
-fn a_run_ends_says_and_writes_as_its_row(rt: HostRuntime) -> Result<(), OutOfMemory> {
+fn the_lamp_is_extended_and_a_failing_desk_leaves_a_part(
+    rt: HostRuntime,
+) -> Result<(), OutOfMemory> {
+    let alloc = rt.alloc();
+    let desk = desk_of(alloc, Some(LAMP), Some(DARK), None)?;
+    let said = b"faults 1\nfault 1 Lamp.dark\nextended\n";
+    assert!(rt; holds(alloc, desk, &WORDS, 0, said, Some(EXTENDED)));
+    assert!(rt; stops(alloc, CallKind::Read, 0, None)?);
+    assert!(rt; stops(alloc, CallKind::Start, 0, None)?);
+    assert!(rt; stops(alloc, CallKind::Append, 10, Some(b"MODULE mai"))?);
+    assert!(rt; stops(alloc, CallKind::Say, 0, Some(EXTENDED))?);
+    Ok(())
+}
+
+#[test]
+fn each_refusal_says_its_line(rt: HostRuntime) -> Result<(), OutOfMemory> {
     let alloc = rt.alloc();
     let mut long = Vec::from_slice(alloc, LAMP)?;
     long.resize(1_048_577, b' ')?;
-    let lamp = Row {
-        number: 0,
-        said: b"faults 1\nfault 1 Lamp.dark\nextended\n",
-        fail: None,
-        ..failing(CallKind::Read, 0, Some(EXTENDED))
-    };
-    let no_words = Row {
-        words: &[],
-        ..refused(Some(LAMP), Some(DARK), 2, b"refused words 0 at 1\n")
-    };
-    let one_name = Row {
-        words: &["extend", "--model", "m", "--faults", "f", "--extended", "m"],
-        ..no_words
-    };
-    let rows = [
-        lamp,
-        no_words,
-        one_name,
-        refused(Some(b""), Some(DARK), 3, b"refused model built 1 at 0\n"),
-        refused(
-            Some(&LAMP[..50]),
+    let long = long.as_slice();
+    let desk = desk_of(alloc, Some(LAMP), Some(DARK), None)?;
+    assert!(rt; holds(alloc, desk, &[], 2, b"refused words 0 at 1\n", None));
+    let not_built = b"refused model built 1 at 0\n";
+    assert!(rt; refuses(alloc, Some(b""), Some(DARK), 3, not_built)?);
+    assert!(rt; refuses(alloc, Some(&LAMP[..50]), Some(DARK), 3, not_built)?);
+    assert!(rt;
+        refuses(
+            alloc,
+            Some(long),
             Some(DARK),
             3,
-            b"refused model built 1 at 0\n",
-        ),
-        refused(Some(b"@"), None, 3, b"refused model built 1 at 0\n"),
-        refused(
-            Some(&long),
-            Some(DARK),
-            3,
-            b"refused model length 1 at 1048576\n",
-        ),
-        refused(None, Some(DARK), 3, b"refused model absent 1 at 0\n"),
-        refused(Some(LAMP), None, 4, b"refused faults absent 1 at 0\n"),
-        refused(
+            b"refused model length 1 at 1048576\n"
+        )?
+    );
+    assert!(rt; refuses(alloc, None, Some(DARK), 3, b"refused model absent 1 at 0\n")?);
+    assert!(rt;
+        refuses(
+            alloc,
             Some(LAMP),
-            Some(&long),
+            None,
             4,
-            b"refused faults length 1 at 1048576\n",
-        ),
-        refused(Some(LAMP), Some(b""), 4, b"refused faults built 1 at 0\n"),
-        refused(
+            b"refused faults absent 1 at 0\n"
+        )?
+    );
+    assert!(rt;
+        refuses(
+            alloc,
             Some(LAMP),
-            Some(&DARK[..90]),
+            Some(b""),
             4,
-            b"refused faults built 1 at 0\n",
-        ),
-        failing(CallKind::Read, 0, None),
-        failing(CallKind::Start, 0, None),
-        failing(CallKind::Append, 10, Some(b"MODULE mai")),
-        failing(CallKind::Say, 0, Some(EXTENDED)),
-    ];
-    for row in &rows {
-        assert!(rt; holds(alloc, row)?);
-    }
+            b"refused faults built 1 at 0\n"
+        )?
+    );
     Ok(())
 }
