@@ -1,9 +1,7 @@
 -- The two answers of `advance`.
 use Rattle.std.proofs.Common.{◌≡◌, ◌≤◌, ◌<◌, ℕ, zero, suc, ◌+◌, ◌-◌, List, [], ◌∷◌, ◌++◌, refl, sym, ap, subst, arith, length}
 use Rattle.std.specs.Prelude.{drop, take}
-use Rattle.xs_lits.specs.Literal.{Literal, opposite, signed}
-use Rattle.xs_lits.specs.Assignment.{Assignment}
-use Rattle.xs_lits.specs.Models.{TotalAssignment, literal_value, clause_value, all_true}
+use Rattle.xs_lits.specs.Literal.{Literal}
 use Rattle.xs_encode.specs.declared.system.System.{System}
 use Rattle.xs_frames.specs.Chain.{InFrame}
 use Rattle.xs_frames.specs.Framed.{frame_at, IsFramed, AreStronger, HasEqualNeighbours, IsInductive}

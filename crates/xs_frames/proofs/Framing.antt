@@ -2,8 +2,7 @@
 use Rattle.std.proofs.Common.{◌≡◌, ◌≤◌, ◌<◌, ℕ, zero, suc, ◌+◌, ◌-◌, List, [], ◌∷◌, ◌++◌, Some, refl, sym, subst, arith, length}
 use Rattle.std.specs.Prelude.{slice_get, Contains, All}
 use Rattle.std.proofs.lemmas.List.Elements.{All-nil, All-cons, All-head, All-tail, All-push}
-use Rattle.xs_lits.specs.Literal.{Literal, opposite}
-use Rattle.xs_lits.specs.Models.{TotalAssignment, clause_value, all_true}
+use Rattle.xs_lits.specs.Literal.{Literal}
 use Rattle.xs_encode.specs.declared.system.System.{System}
 use Rattle.xs_frames.specs.Chain.{State, state_values, IsFirstState, IsStepOf, Makes, InFrame, IsOverBits}
 use Rattle.xs_derive.specs.Hints.{HasNoOpposites}

@@ -2,7 +2,7 @@
 use Rattle.std.proofs.Common.{◌≡◌, ◌≤◌, ◌<◌, ℕ, zero, suc, ◌+◌, ◌-◌, Bool, true, false, List, [], ◌∷◌, ◌++◌, refl, sym, ◌∙◌, ap, subst, arith, length, ◌⊎◌, inl, inr}
 use Rattle.std.specs.Prelude.{slice_index_or, Contains}
 use Rattle.std.proofs.lemmas.List.Elements.{Contains-append_left, Contains-push_cases, Contains-push}
-use Rattle.xs_lits.specs.Literal.{Literal, opposite}
+use Rattle.xs_lits.specs.Literal.{Literal}
 use Rattle.xs_lits.specs.Models.{TotalAssignment, clause_value, all_true}
 use Rattle.xs_encode.specs.declared.system.System.{System}
 use Rattle.xs_frames.specs.Chain.{State, state_values, IsStepOf, Makes, InFrame}

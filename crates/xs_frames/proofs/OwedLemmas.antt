@@ -1,9 +1,7 @@
 -- Obligations, paths, and the measure of `clear`.
 use Rattle.std.proofs.Common.{◌≡◌, ◌≤◌, ◌<◌, ℕ, zero, suc, ◌+◌, ◌*◌, ◌-◌, List, [], ◌∷◌, ◌++◌, Some, refl, sym, ◌∙◌, ap, subst, arith, length, ◌⊎◌, inl, inr}
 use Rattle.std.specs.Prelude.{slice_get, slice_index_or}
-use Rattle.xs_lits.specs.Literal.{Literal, opposite, signed}
-use Rattle.xs_lits.specs.Assignment.{Assignment}
-use Rattle.xs_lits.specs.Models.{TotalAssignment, literal_value, clause_value, all_true}
+use Rattle.xs_lits.specs.Literal.{Literal}
 use Rattle.xs_encode.specs.declared.system.System.{System}
 use Rattle.xs_frames.specs.Chain.{State, IsState, IsStepOf, IsBad, Makes, InFrame}
 use Rattle.xs_frames.specs.Framed.{frame_at, strengthened, IsFramed, AreStronger, AreOwed, IsPathBack, IsClear}

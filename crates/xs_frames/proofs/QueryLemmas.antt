@@ -1,12 +1,12 @@
 -- What the search's answers say to a query, and which lists it may be asked about.
-use Rattle.std.proofs.Common.{◌≡◌, ◌≢◌, ◌≤◌, ◌<◌, ℕ, zero, suc, ◌+◌, ◌-◌, ◌*◌, ◌^◌, Bool, true, false, not, List, [], ◌∷◌, ◌++◌, refl, sym, ◌∙◌, ap, subst, arith, length, Option, Some, None}
+use Rattle.std.proofs.Common.{◌≡◌, ◌≤◌, ◌<◌, ℕ, ◌+◌, ◌*◌, ◌^◌, Bool, true, false, not, List, [], ◌∷◌, refl, sym, ◌∙◌, ap, subst, arith, length, Option, Some, None}
 use Rattle.std.specs.Prelude.{slice_index_or, Contains, IsTrue, All, Any, unwrap_or}
 use Rattle.std.specs.Option.{option_map}
 use Rattle.std.proofs.lemmas.Option.{none-some}
 use Rattle.std.proofs.lemmas.List.Elements.{All-contains, All-nil, All-cons, Contains-get_or}
 use Rattle.xs_lits.specs.Literal.{Literal, opposite, signed}
 use Rattle.xs_lits.specs.Assignment.{Assignment, value_of}
-use Rattle.xs_lits.specs.Models.{TotalAssignment, literal_value, clause_value, all_true}
+use Rattle.xs_lits.specs.Models.{literal_value, clause_value, all_true}
 use Rattle.std.specs.Bool.{Decides}
 use Rattle.std.proofs.lemmas.Bool.Decides.{Decides-eqb}
 use Rattle.std.specs.Prelude.{◌==◌}
@@ -15,10 +15,8 @@ use Rattle.xs_lits.proofs.CodeLemmas.{code_of-injective}
 use Rattle.xs_lits.proofs.ModelLemmas.{Satisfies-from_All}
 use Rattle.xs_derive.specs.Derivation.{IsUpTo}
 use Rattle.xs_derive.specs.Hints.{HasNoOpposites, LacksOpposite}
-use Rattle.xs_derive.proofs.FalseLemmas.{opposite-opposite}
 use Rattle.xs_derive.specs.declared.step.Step.{Step}
 use Rattle.xs_solver.specs.Verdict.{IsVerdict as IsAnswer}
-use Rattle.xs_solver.specs.Search.{IsSolution, IsRefutation}
 use Rattle.xs_solver.specs.declared.solve.Verdict.{Verdict}
 use Rattle.xs_solver.specs.declared.solve.Verdict.TheVariants.{Sat, Unsat}
 use Rattle.xs_encode.specs.declared.system.System.{System}

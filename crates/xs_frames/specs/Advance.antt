@@ -1,7 +1,6 @@
 -- What the answer of `advance` says.
 use Rattle.std.specs.Prelude.{◌-◌, List, drop, length}
-use Rattle.xs_lits.specs.Literal.{Literal, opposite}
-use Rattle.xs_lits.specs.Models.{TotalAssignment, clause_value, all_true}
+use Rattle.xs_lits.specs.Literal.{Literal}
 use Rattle.xs_encode.specs.declared.system.System.{System}
 use Rattle.xs_frames.specs.Chain.{State, InFrame}
 use Rattle.xs_frames.specs.Framed.{frame_at, IsInductive, HasEqualNeighbours}

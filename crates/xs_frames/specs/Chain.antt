@@ -1,7 +1,7 @@
 -- Chains of frames over a system of clause lists.
 use Rattle.std.specs.Prelude.{◌≡◌, ℕ, ◌+◌, ◌-◌, ◌≤◌, ◌<◌, Bool, false, IsTrue, List, [], ◌∷◌, Some, All, Contains, slice_get, slice_index_or, length, ◌^◌}
 use Rattle.xs_encode.specs.declared.system.System.{System}
-use Rattle.xs_lits.specs.Literal.{Literal, opposite}
+use Rattle.xs_lits.specs.Literal.{Literal}
 use Rattle.xs_lits.specs.Models.{TotalAssignment, clause_value, all_true}
 
 -- a pattern of the state bits

@@ -1,7 +1,7 @@
 -- How many states are left in frames: the measure of `clear`.
 use Rattle.std.specs.Prelude.{ℕ, zero, suc, ◌+◌, ◌-◌, ◌*◌, Bool, true, false, List, [], ◌∷◌, length, slice_index_or}
-use Rattle.xs_lits.specs.Literal.{Literal, opposite}
-use Rattle.xs_lits.specs.Models.{TotalAssignment, clause_value, all_true}
+use Rattle.xs_lits.specs.Literal.{Literal}
+use Rattle.xs_lits.specs.Models.{all_true}
 use Rattle.xs_frames.specs.Chain.{State}
 
 abbrev pub one_if : Bool → ℕ

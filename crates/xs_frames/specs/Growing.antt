@@ -1,8 +1,7 @@
 -- What `advance` gives.
 use Rattle.std.specs.Prelude.{◌≡◌, ◌≢◌, ℕ, ◌+◌, ◌<◌, Bool, true, false, List, [], All, Contains, length, slice_index_or}
 use Rattle.xs_frames.specs.Framed.{frame_at}
-use Rattle.xs_lits.specs.Literal.{Literal, opposite}
-use Rattle.xs_lits.specs.Models.{TotalAssignment, clause_value, all_true}
+use Rattle.xs_lits.specs.Literal.{Literal}
 use Rattle.xs_encode.specs.declared.system.System.{System}
 use Rattle.xs_frames.specs.Chain.{State, IsFirstState, IsStepOf, Makes, InFrame, IsOverBits, IsFrame}
 

@@ -1,7 +1,7 @@
 -- What one look of `clear` says.
 use Rattle.std.specs.Prelude.{◌≡◌, ℕ, suc, ◌-◌, ◌<◌, false, List, [], Some, slice_get, length}
-use Rattle.xs_lits.specs.Literal.{Literal, opposite}
-use Rattle.xs_lits.specs.Models.{TotalAssignment, clause_value, all_true}
+use Rattle.xs_lits.specs.Literal.{Literal}
+use Rattle.xs_lits.specs.Models.{clause_value}
 use Rattle.xs_encode.specs.declared.system.System.{System}
 use Rattle.xs_frames.specs.Chain.{State, state_values, IsFirstState, IsStepOf, IsBad, Makes, InFrame, IsOverBits}
 use Rattle.xs_derive.specs.Hints.{HasNoOpposites}

@@ -1,7 +1,6 @@
 -- The frames by number, as the layer above has them: number 0 is `first`.
 use Rattle.std.specs.Prelude.{ℕ, suc, ◌+◌, ◌<◌, List, Contains, length}
-use Rattle.xs_lits.specs.Literal.{Literal, opposite}
-use Rattle.xs_lits.specs.Models.{TotalAssignment, clause_value, all_true}
+use Rattle.xs_lits.specs.Literal.{Literal}
 use Rattle.xs_encode.specs.declared.system.System.{System}
 use Rattle.xs_frames.specs.Chain.{State, IsStepOf}
 use Rattle.xs_frames.specs.Framed.{frame_at, InNumber}

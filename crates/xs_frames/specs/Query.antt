@@ -1,8 +1,8 @@
 -- What the answer of a query says.
-use Rattle.std.specs.Prelude.{Bool, IsTrue, List, All, Contains}
+use Rattle.std.specs.Prelude.{IsTrue, List, All, Contains}
 use Rattle.xs_lits.specs.Literal.{Literal, opposite}
 use Rattle.xs_lits.specs.Assignment.{Assignment}
-use Rattle.xs_lits.specs.Models.{TotalAssignment, literal_value, clause_value, all_true, FollowsFrom}
+use Rattle.xs_lits.specs.Models.{literal_value, all_true, FollowsFrom}
 use Rattle.xs_frames.specs.Bits.{values_of}
 use Rattle.xs_solver.specs.declared.solve.Verdict.{Verdict}
 use Rattle.xs_solver.specs.declared.solve.Verdict.TheVariants.{Sat, Unsat}

@@ -91,7 +91,13 @@ fn look_before(
         return Ok(Look::Blocked(outside));
     }
     let next = literals(alloc, bits + 2, state.as_slice())?;
-    match ask(alloc, &frames[level - 1], &system.step, next.as_slice(), panel)? {
+    match ask(
+        alloc,
+        &frames[level - 1],
+        &system.step,
+        next.as_slice(),
+        panel,
+    )? {
         Verdict::Sat(values) => Ok(Look::Deeper(read(alloc, 2, bits, &values)?)),
         Verdict::Unsat(core) => Ok(Look::Blocked(join(alloc, bits, &outside, &core)?)),
     }

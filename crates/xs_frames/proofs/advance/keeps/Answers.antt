@@ -1,6 +1,5 @@
-use Rattle.std.proofs.Common.{◌≡◌, ◌++◌, ◌+◌, ◌*◌, ◌^◌, ◌<◌, ℕ, All, sym, ap, subst, arith, slice_index_or}
+use Rattle.std.proofs.Common.{◌≡◌, ◌++◌, ◌+◌, ◌*◌, ◌^◌, ◌<◌, ℕ, All, sym, subst, arith, slice_index_or}
 use Rattle.std.proofs.lemmas.Grind.{common_steps}
-
 use Rattle.xs_frames.specs.Bits.{against_next}
 use Rattle.xs_frames.specs.Query.{IsVerdict, IsModel, IsCore}
 use Rattle.xs_derive.specs.Hints.{HasNoOpposites}

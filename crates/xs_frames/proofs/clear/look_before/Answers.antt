@@ -1,4 +1,4 @@
-use Rattle.std.proofs.Common.{◌≡◌, ◌++◌, [], sym, ap, subst, arith, ◌<◌, ◌≤◌, ◌-◌, ◌+◌, ◌*◌, ◌^◌, ℕ, All, length}
+use Rattle.std.proofs.Common.{◌≡◌, ◌++◌, [], sym, subst, arith, ◌<◌, ◌≤◌, ◌-◌, ◌+◌, ◌*◌, ◌^◌, ℕ, All, length}
 use Rattle.std.proofs.lemmas.Grind.{common_steps}
 use Rattle.xs_frames.specs.Chain.{IsOverBits, InFrame, IsStepOf, State}
 use Rattle.xs_lits.specs.Literal.{Literal}

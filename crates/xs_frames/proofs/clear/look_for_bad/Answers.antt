@@ -1,4 +1,4 @@
-use Rattle.std.proofs.Common.{◌≡◌, ◌++◌, [], sym, ap, subst, arith, length, ◌-◌, List, ℕ, All}
+use Rattle.std.proofs.Common.{◌≡◌, ◌++◌, [], sym, subst, arith, length, ◌-◌, List, ℕ, All}
 use Rattle.std.proofs.lemmas.Grind.{common_steps}
 use Rattle.xs_frames.specs.Chain.{IsOverBits, InFrame, IsBad, State}
 use Rattle.xs_lits.specs.Literal.{Literal}

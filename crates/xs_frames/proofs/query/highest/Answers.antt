@@ -1,4 +1,4 @@
-use Rattle.std.proofs.Common.{◌≡◌, ◌≤◌, ◌<◌, ◌^◌, All, List, length, sym, ◌∙◌, subst, arith, take}
+use Rattle.std.proofs.Common.{◌≤◌, ◌<◌, ◌^◌, All, List, length, ◌∙◌, subst, arith, take}
 use Rattle.std.proofs.lemmas.List.{take_all}
 use Rattle.std.proofs.lemmas.List.Elements.{All-more}
 use Rattle.xs_lits.specs.Literal.{Literal}

@@ -1,4 +1,3 @@
-use Rattle.std.proofs.Common.{◌∙◌, ap}
 use Rattle.std.proofs.lemmas.Slice.Eq.{slice_eq-Decides}
 use Rattle.xs_frames.proofs.QueryLemmas.{same_decides}
 use Rattle.xs_frames.proofs.query.is_same.Goals as goal
