@@ -1,0 +1,10 @@
+pub mod Count
+pub mod Short
+pub mod Links
+pub mod Framing
+pub mod BitLemmas
+pub mod LookLemmas
+pub mod PushLemmas
+pub mod OwedLemmas
+pub mod AdvanceLemmas
+pub mod QueryLemmas

@@ -1,0 +1,280 @@
+-- Obligations, paths, and the measure of `clear`.
+use Rattle.std.proofs.Common.{◌≡◌, ◌≤◌, ◌<◌, ℕ, zero, suc, ◌+◌, ◌*◌, ◌-◌, List, [], ◌∷◌, ◌++◌, Some, refl, sym, ◌∙◌, ap, subst, arith, length, ◌⊎◌, inl, inr}
+use Rattle.std.specs.Prelude.{slice_get, slice_index_or}
+use Rattle.xs_lits.specs.Literal.{Literal}
+use Rattle.xs_encode.specs.declared.system.System.{System}
+use Rattle.xs_frames.specs.Chain.{State, IsState, IsStepOf, IsBad, Makes, InFrame}
+use Rattle.xs_frames.specs.Framed.{frame_at, strengthened, IsFramed, AreStronger, AreOwed, IsPathBack, IsClear}
+use Rattle.xs_frames.specs.Counted.{states_left, work_left}
+use Rattle.xs_frames.specs.Looked.{Blocks, IsLook, IsBadLook, IsStepLook}
+use Rattle.xs_frames.specs.declared.clear.Look.{Look}
+use Rattle.xs_frames.specs.declared.clear.Look.TheVariants.{Nothing, IsFirst, Deeper, Blocked}
+use Rattle.xs_frames.proofs.Links.{length_strengthened, untouched, stronger, left_less, reaches_from}
+use Rattle.xs_frames.proofs.Framing.{framed_kept, in_list}
+
+get_left : {A : Type 0} (xs : List A) (x : A) (p : ℕ) (s : A) → slice_get xs p ≡ Some s → slice_get (xs ++ x ∷ []) p ≡ Some s
+get_left [] x p s e = cc
+get_left (y ∷ ys) x zero s e = e
+get_left (y ∷ ys) x (suc p) s e = get_left ys x p s e
+
+get_push : {A : Type 0} (xs : List A) (x : A) (p : ℕ) (s : A) → slice_get (xs ++ x ∷ []) p ≡ Some s → (slice_get xs p ≡ Some s) ⊎ ((p ≡ length xs) × (x ≡ s))
+get_push [] x zero s e = inr (refl, cc)
+get_push [] x (suc p) s e = cc
+get_push (y ∷ ys) x zero s e = inl e
+get_push (y ∷ ys) x (suc p) s e = onward (get_push ys x p s e)
+  where
+    onward : (slice_get ys p ≡ Some s) ⊎ ((p ≡ length ys) × (x ≡ s)) → (slice_get ys p ≡ Some s) ⊎ ((suc p ≡ suc (length ys)) × (x ≡ s))
+    onward (inl f) = inl f
+    onward (inr f) = inr (ap suc f.0, f.1)
+
+get_end : {A : Type 0} (xs : List A) (x : A) → slice_get (xs ++ x ∷ []) (length xs) ≡ Some x
+get_end [] x = refl
+get_end (y ∷ ys) x = get_end ys x
+
+get_within : {A : Type 0} (xs : List A) (p : ℕ) (s : A) → slice_get xs p ≡ Some s → p < length xs
+get_within [] p s e = cc
+get_within (x ∷ xs) zero s e = grind arith
+get_within (x ∷ xs) (suc p) s e = let rest = get_within xs p s e in grind arith
+
+length_push : {A : Type 0} (xs : List A) (x : A) → length (xs ++ x ∷ []) ≡ length xs + 1
+length_push [] x = omega arith
+length_push (y ∷ ys) x = let rest = length_push ys x in one (length (ys ++ x ∷ [])) (length ys) rest
+  where
+    one : (m n : ℕ) → m ≡ n + 1 → suc m ≡ suc n + 1
+    one m n e = omega (arith, e)
+
+pub newest : {A : Type 0} (xs : List A) (d : A) → 0 < length xs → slice_get xs (length xs - 1) ≡ Some (slice_index_or xs (length xs - 1) d)
+newest {A = A} [] d lt = absurd (omega (arith, lt))
+newest {A = A} (x ∷ xs) d lt = subst (λ n. slice_get (x ∷ xs) n ≡ Some (slice_index_or (x ∷ xs) n d)) (less (length xs)) (go x xs)
+  where
+    less : (n : ℕ) → n ≡ suc n - 1
+    less n = omega arith
+
+    go : (x : A) (xs : List A) → slice_get (x ∷ xs) (length xs) ≡ Some (slice_index_or (x ∷ xs) (length xs) d)
+    go x [] = refl
+    go x (y ∷ ys) = go y ys
+
+some_or_none : {A : Type 0} (xs : List A) → (xs ≡ []) ⊎ (0 < length xs)
+some_or_none [] = inl refl
+some_or_none (x ∷ xs) = inr (grind arith)
+
+module _ (system : System) (bad : List (List Literal)) where
+  pub owed_none : (frames : List (List (List Literal))) → AreOwed system bad frames []
+  owed_none frames = record { fits = omega arith; inside = λ p s e. cc; ends_bad = λ s e. cc; steps = λ p s t e f. cc }
+
+  pub look_bad_only : (frames : List (List (List Literal))) (owed : List State) (look : Look) → owed ≡ [] → IsBadLook system bad frames look → IsLook system bad frames owed look
+  look_bad_only frames owed look e b = record {
+    at_bad = λ q. b;
+    at_newest = λ t f. absurd (none t (subst (λ xs. slice_get xs (length xs - 1) ≡ Some t) e f));
+  }
+    where
+      none : (t : State) → slice_get [] (length {A = State} [] - 1) ≡ Some t → ⊥
+      none t f = cc
+
+  pub look_newest : (frames : List (List (List Literal))) (owed : List State) (look : Look) (t : State) → 0 < length owed → t ≡ slice_index_or owed (length owed - 1) [] →
+      IsStepLook system frames (length frames - length owed) t look → IsLook system bad frames owed look
+  look_newest frames owed look t lt e b = record {
+    at_bad = λ q. absurd (empty (subst (λ xs. 0 < length xs) q lt));
+    at_newest = λ u f. subst (λ z. IsStepLook system frames (length frames - length owed) z look) (same t u (sym (ap (λ z. Some z) (sym e)) ∙ sym (newest owed [] lt) ∙ f)) b;
+  }
+    where
+      empty : 0 < length {A = State} [] → ⊥
+      empty lt = omega (arith, lt)
+
+      same : (t u : State) → Some t ≡ Some u → t ≡ u
+      same t u e = cc
+
+  pub newest_state : (frames : List (List (List Literal))) (owed : List State) → AreOwed system bad frames owed → 0 < length owed → IsState system (slice_index_or owed (length owed - 1) [])
+  newest_state frames owed o lt = (o.inside (length owed - 1) (slice_index_or owed (length owed - 1) []) (newest owed [] lt)).0
+
+  pub look_nothing : (frames : List (List (List Literal))) (owed : List State) → IsFramed system frames → IsLook system bad frames owed Nothing → IsClear system bad frames
+  look_nothing frames owed f look = by_case (some_or_none owed)
+    where
+      by_case : (owed ≡ []) ⊎ (0 < length owed) → IsClear system bad frames
+      by_case (inl e) = λ s h b. look.at_bad e s (in_list system frames (length frames - 1) s f h) b
+      by_case (inr lt) = absurd (look.at_newest (slice_index_or owed (length owed - 1) []) (newest owed [] lt))
+
+  pub look_first : (frames : List (List (List Literal))) (owed : List State) → AreOwed system bad frames owed → IsLook system bad frames owed IsFirst → IsPathBack system bad (length frames - 1) owed
+  look_first frames owed o look = by_case (some_or_none owed)
+    where
+      fit : (n k : ℕ) → n ≤ k → n ≤ k - 1 + 1
+      fit n k le = omega arith
+
+      by_case : (owed ≡ []) ⊎ (0 < length owed) → IsPathBack system bad (length frames - 1) owed
+      by_case (inl e) = absurd (look.at_bad e)
+      by_case (inr lt) =
+          let top = newest owed [] lt in
+          record {
+            fits = fit (length owed) (length frames) o.fits;
+            starts = slice_index_or owed (length owed - 1) [];
+            starts_last = top;
+            is_first = look.at_newest (slice_index_or owed (length owed - 1) []) top;
+            ends_bad = o.ends_bad;
+            steps = o.steps;
+          }
+
+  -- one obligation more
+  pub look_deeper : (frames : List (List (List Literal))) (owed : List State) (r : State) → IsFramed system frames → AreOwed system bad frames owed → IsLook system bad frames owed (Deeper r) →
+      (length owed < length frames) × AreOwed system bad frames (owed ++ r ∷ [])
+  look_deeper frames owed r f o look = by_case (some_or_none owed)
+    where
+      by_case : (owed ≡ []) ⊎ (0 < length owed) → (length owed < length frames) × AreOwed system bad frames (owed ++ r ∷ [])
+      by_case (inl e) = let found = look.at_bad e in
+          subst (λ xs. (length xs < length frames) × AreOwed system bad frames (xs ++ r ∷ [])) (sym e) (f.some, one found)
+        where
+          one : InFrame system (frame_at frames (length frames - 1)) r × IsBad system bad r → AreOwed system bad frames (r ∷ [])
+          one found = record {
+            fits = (let lt = f.some in grind (arith, lt));
+            inside = inside;
+            ends_bad = λ s e. subst (IsBad system bad) (same s e) found.1;
+            steps = λ p s t e f. cc;
+          }
+            where
+              same : (s : State) → Some r ≡ Some s → r ≡ s
+              same s e = cc
+
+              less : (n : ℕ) → n - 1 ≡ n - 1 - 0
+              less n = omega arith
+
+              inside : (p : ℕ) (s : State) → slice_get (r ∷ []) p ≡ Some s → InFrame system (frame_at frames (length frames - 1 - p)) s
+              inside zero s e = subst (InFrame system (frame_at frames (length frames - 1 - 0))) (same s e) (subst (λ n. InFrame system (frame_at frames n) r) (less (length frames)) found.0)
+              inside (suc p) s e = cc
+      by_case (inr lt) =
+          let top = newest owed [] lt in
+          let found = look.at_newest (slice_index_or owed (length owed - 1) []) top in
+          (lower (length frames) (length owed) found.0, more found.0 found.1 found.2)
+        where
+          lower : (n k : ℕ) → 0 < n - k → k < n
+          lower n k lt = omega arith
+
+          fit : (k n m : ℕ) → m ≡ k + 1 → k < n → m ≤ n
+          fit k n m e lt = omega arith
+
+          less : (n k : ℕ) → n - k - 1 ≡ n - 1 - k
+          less n k = omega arith
+
+          one_less : (n p : ℕ) → suc p ≡ n → p ≡ n - 1
+          one_less n p e = omega arith
+
+          same : (s t : State) → Some s ≡ Some t → s ≡ t
+          same s t e = cc
+
+          more : 0 < length frames - length owed → InFrame system (frame_at frames (length frames - length owed - 1)) r → IsStepOf system r (slice_index_or owed (length owed - 1) []) →
+              AreOwed system bad frames (owed ++ r ∷ [])
+          more positive here step = record {
+            fits = fit (length owed) (length frames) (length (owed ++ r ∷ [])) (length_push owed r) (lower (length frames) (length owed) positive);
+            inside = λ p s e. inside p s (get_push owed r p s e);
+            ends_bad = λ s e. ends s (get_push owed r 0 s e);
+            steps = λ p s t e f. steps p s t (get_push owed r p t e) (get_push owed r (suc p) s f);
+          }
+            where
+              inside : (p : ℕ) (s : State) → (slice_get owed p ≡ Some s) ⊎ ((p ≡ length owed) × (r ≡ s)) → InFrame system (frame_at frames (length frames - 1 - p)) s
+              inside p s (inl e) = o.inside p s e
+              inside p s (inr e) = subst (λ n. InFrame system (frame_at frames (length frames - 1 - n)) s) (sym e.0)
+                  (subst (λ n. InFrame system (frame_at frames n) s) (less (length frames) (length owed)) (subst (InFrame system (frame_at frames (length frames - length owed - 1))) e.1 here))
+
+              ends : (s : State) → (slice_get owed 0 ≡ Some s) ⊎ ((0 ≡ length owed) × (r ≡ s)) → IsBad system bad s
+              ends s (inl e) = o.ends_bad s e
+              ends s (inr e) = absurd (omega (arith, lt, e.0))
+
+              steps : (p : ℕ) (s t : State) → (slice_get owed p ≡ Some t) ⊎ ((p ≡ length owed) × (r ≡ t)) → (slice_get owed (suc p) ≡ Some s) ⊎ ((suc p ≡ length owed) × (r ≡ s)) → IsStepOf system s t
+              steps p s t (inl e) (inl f) = o.steps p s t e f
+              steps p s t (inr e) (inl f) = let within = get_within owed (suc p) s f in absurd (omega (arith, within, e.0))
+              steps p s t (inr e) (inr f) = absurd (omega (arith, e.0, f.0))
+              steps p s t (inl e) (inr f) =
+                  let top : slice_get owed p ≡ Some (slice_index_or owed (length owed - 1) []) = subst (λ n. slice_get owed n ≡ Some (slice_index_or owed (length owed - 1) [])) (sym (one_less (length owed) p f.0)) (newest owed [] lt) in
+                  let is : slice_index_or owed (length owed - 1) [] ≡ t = same (slice_index_or owed (length owed - 1) []) t (sym top ∙ e) in
+                  subst (λ z. IsStepOf system z t) f.1 (subst (IsStepOf system r) is step)
+
+  -- what blocks the newest obligation
+  pub record BlocksNewest (frames : List (List (List Literal))) (owed : List State) (c : List Literal) : Type 0 where
+    pub some : 0 < length owed
+    pub state : State
+    pub is_newest : slice_get owed (length owed - 1) ≡ Some state
+    pub blocks : Blocks system frames (length frames - length owed) state c
+
+  pub look_blocked : (frames : List (List (List Literal))) (owed : List State) (c : List Literal) → IsLook system bad frames owed (Blocked c) → BlocksNewest frames owed c
+  look_blocked frames owed c look = by_case (some_or_none owed)
+    where
+      by_case : (owed ≡ []) ⊎ (0 < length owed) → BlocksNewest frames owed c
+      by_case (inl e) = absurd (look.at_bad e)
+      by_case (inr lt) =
+          let top = newest owed [] lt in
+          record { some = lt; state = slice_index_or owed (length owed - 1) []; is_newest = top; blocks = look.at_newest (slice_index_or owed (length owed - 1) []) top }
+
+  -- the frames stay framed, also where only some of them got the clause
+  pub framed_blocked : (frames : List (List (List Literal))) (level n : ℕ) (s : State) (c : List Literal) → n ≤ suc level → IsFramed system frames → Blocks system frames level s c → IsFramed system (strengthened n c frames)
+  framed_blocked frames level zero s c le f b = f
+  framed_blocked frames level (suc n) s c le f b =
+      framed_kept system n c frames f b.over_bits b.apart b.first (λ m r t e h step. after m r t e h step level refl)
+    where
+      up : (n m level l : ℕ) → suc n ≤ suc level → n ≡ suc m → level ≡ suc l → m ≤ l
+      up n m level l le e q = omega arith
+
+      after : (m : ℕ) (r t : State) → n ≡ suc m → InFrame system (frame_at frames m) r → IsStepOf system r t → (l : ℕ) → level ≡ l → Makes system t c
+      after m r t e h step zero q = absurd (omega (arith, le, e, q))
+      after m r t e h step (suc l) q = b.after l r t q (reaches_from system m l frames r (up n m level l le e q) f.linked h) step
+
+  pub stronger_after : (old frames : List (List (List Literal))) (n : ℕ) (c : List Literal) → AreStronger system old frames → AreStronger system old (strengthened n c frames)
+  stronger_after old frames n c w = λ i s lt h. w i s lt (stronger system n c frames i s h)
+
+  -- one obligation less
+  pub owed_less : (frames : List (List (List Literal))) (owed : List State) (t : State) (c : List Literal) → AreOwed system bad frames (owed ++ t ∷ []) →
+      AreOwed system bad (strengthened (length frames - length (owed ++ t ∷ []) + 1) c frames) owed
+  owed_less frames owed t c o = record {
+    fits = fit (length owed) (length (owed ++ t ∷ [])) (length frames) (length (strengthened n c frames)) (length_push owed t) o.fits (length_strengthened n c frames);
+    inside = λ p s e. subst (λ k. InFrame system (frame_at (strengthened n c frames) (k - 1 - p)) s) (sym (length_strengthened n c frames))
+        (subst (λ z. InFrame system z s) (sym (untouched n (length frames - 1 - p) c frames (above (length frames) (length owed) (length (owed ++ t ∷ [])) p (length_push owed t) o.fits (get_within owed p s e))))
+        (o.inside p s (get_left owed t p s e)));
+    ends_bad = λ s e. o.ends_bad s (get_left owed t 0 s e);
+    steps = λ p s u e f. o.steps p s u (get_left owed t p u e) (get_left owed t (suc p) s f);
+  }
+    where
+      n : ℕ
+      n = length frames - length (owed ++ t ∷ []) + 1
+
+      fit : (k m f l : ℕ) → m ≡ k + 1 → m ≤ f → l ≡ f → k ≤ l
+      fit k m f l e le q = omega arith
+
+      above : (f k m p : ℕ) → m ≡ k + 1 → m ≤ f → p < k → f - m + 1 ≤ f - 1 - p
+      above f k m p e le lt = omega arith
+
+  -- the measure
+  pub work_deeper : (frames : List (List (List Literal))) (owed : List State) (r : State) → length owed < length frames → work_left system.state_bits frames (owed ++ r ∷ []) < work_left system.state_bits frames owed
+  work_deeper frames owed r lt = go (states_left system.state_bits frames * (length frames + 1)) (length frames) (length owed) (length (owed ++ r ∷ [])) (length_push owed r) lt
+    where
+      go : (a n k m : ℕ) → m ≡ k + 1 → k < n → a + (n - m) < a + (n - k)
+      go a n k m e lt = omega arith
+
+  pub work_blocked : (frames : List (List (List Literal))) (owed : List State) (t : State) (c : List Literal) → AreOwed system bad frames (owed ++ t ∷ []) → BlocksNewest frames (owed ++ t ∷ []) c →
+      work_left system.state_bits (strengthened (length frames - length (owed ++ t ∷ []) + 1) c frames) owed < work_left system.state_bits frames (owed ++ t ∷ [])
+  work_blocked frames owed t c o b =
+      falls (states_left system.state_bits (strengthened n c frames)) (states_left system.state_bits frames) (length (strengthened n c frames)) (length frames) (length owed) (length (owed ++ t ∷ []))
+      (length_strengthened n c frames) (length_push owed t) o.fits less
+    where
+      n : ℕ
+      n = length frames - length (owed ++ t ∷ []) + 1
+
+      level : ℕ
+      level = length frames - 1 - (length (owed ++ t ∷ []) - 1)
+
+      here : InFrame system (frame_at frames level) b.state
+      here = o.inside (length (owed ++ t ∷ []) - 1) b.state b.is_newest
+
+      in_n : (f m : ℕ) → 0 < m → m ≤ f → f - 1 - (m - 1) < f - m + 1
+      in_n f m lt le = omega arith
+
+      in_frames : (f m : ℕ) → 0 < m → m ≤ f → f - 1 - (m - 1) < f
+      in_frames f m lt le = omega arith
+
+      less : states_left system.state_bits (strengthened n c frames) < states_left system.state_bits frames
+      less = left_less system.state_bits n level c frames b.state here.0 (in_n (length frames) (length (owed ++ t ∷ [])) b.some o.fits) (in_frames (length frames) (length (owed ++ t ∷ [])) b.some o.fits) here.1 b.blocks.excludes
+
+      falls : (a b l f k m : ℕ) → l ≡ f → m ≡ k + 1 → m ≤ f → a < b → a * (l + 1) + (l - k) < b * (f + 1) + (f - m)
+      falls a b l f k m e q le lt = subst (λ z. a * (z + 1) + (z - k) < b * (f + 1) + (f - m)) (sym e) (grow (a * (f + 1)) (b * (f + 1)) f k m q le (product a b f lt))
+        where
+          product : (a b f : ℕ) → a < b → a * (f + 1) + (f + 1) ≤ b * (f + 1)
+          product a b f lt = grind arith
+
+          grow : (x y f k m : ℕ) → m ≡ k + 1 → m ≤ f → x + (f + 1) ≤ y → x + (f - k) < y + (f - m)
+          grow x y f k m q le g = omega arith

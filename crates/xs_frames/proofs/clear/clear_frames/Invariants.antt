@@ -1,0 +1,15 @@
+use Rattle.std.proofs.Common.{◌≡◌, length}
+use Rattle.xs_frames.specs.Framed.{IsFramed, AreStronger, AreOwed}
+use Rattle.xs_frames.specs.Counted.{work_left}
+use Rattle.xs_frames.proofs.clear.clear_frames.Given as goal
+
+abbrev pub invariant-looks : goal.invariant-looks
+invariant-looks g l = record {
+  framed : IsFramed l.system l.frames;
+  same : length l.frames ≡ length l.initial.frames;
+  stronger : AreStronger l.system l.initial.frames l.frames;
+  owed : AreOwed l.system l.bad l.frames l.owed;
+}
+
+abbrev pub decreases-looks : goal.decreases-looks
+decreases-looks g l = work_left l.system.state_bits l.frames l.owed

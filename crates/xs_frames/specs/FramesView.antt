@@ -1,0 +1,12 @@
+-- What the fields of `Frames` stand for.
+use Rattle.xs_frames.specs.FramesRecord.{FramesValue}
+use Rattle.xs_frames.specs.Condition.{IsBounded}
+use Rattle.xs_frames.specs.Framed.{IsFramed}
+use Rattle.xs_frames.specs.declared.frames.Frames.TheInside.{Inside}
+
+abbrev pub frames_of : Inside → FramesValue
+frames_of f = record { system = f.system; frames = f.frames.items; spent = f.spent }
+
+pub record AreSound (f : Inside) : Type 0 where
+  pub bounded : IsBounded f.system
+  pub framed : IsFramed f.system f.frames.items

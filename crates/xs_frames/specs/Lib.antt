@@ -1,0 +1,12 @@
+pub mod Chain
+pub mod Condition
+pub mod Framed
+pub mod Counted
+pub mod Growing
+pub mod Numbered
+pub mod Bits
+pub mod Query
+pub mod Looked
+pub mod Advance
+pub mod FramesRecord
+pub mod FramesView

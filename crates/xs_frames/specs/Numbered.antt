@@ -1,0 +1,15 @@
+-- The frames by number, as the layer above has them: number 0 is `first`.
+use Rattle.std.specs.Prelude.{ℕ, suc, ◌+◌, ◌<◌, List, Contains, length}
+use Rattle.xs_lits.specs.Literal.{Literal}
+use Rattle.xs_encode.specs.declared.system.System.{System}
+use Rattle.xs_frames.specs.Chain.{State, IsStepOf}
+use Rattle.xs_frames.specs.Framed.{frame_at, InNumber}
+
+module _ (system : System) where
+  pub record AreNumbered (frames : List (List (List Literal))) : Type 0 where
+    -- each frame implies the next
+    pub implies : (i : ℕ) (s : State) → i + 1 < length frames → InNumber system frames i s → InNumber system frames (suc i) s
+    -- a frame with a step implies the next
+    pub steps : (i : ℕ) (s t : State) → i + 1 < length frames → InNumber system frames i s → IsStepOf system s t → InNumber system frames (suc i) t
+    -- each clause of a frame from number 2 on stands in the frame before it
+    pub stands : (i : ℕ) (c : List Literal) → 0 < i → i + 1 < length frames → Contains (frame_at frames (i + 1)) c → Contains (frame_at frames i) c

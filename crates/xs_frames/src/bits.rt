@@ -1,0 +1,93 @@
+ghost use Rattle.std.specs.Prelude.{◌≡◌, ◌≤◌, ◌<◌, ◌+◌, ◌*◌, ◌^◌, length, IfOk, All};
+ghost use Rattle.xs_lits.specs.Literal.{opposite};
+ghost use Rattle.xs_frames.specs.Bits.{literal_for, literals_from, read_from, joined, values_of, against_next, moved_back, moved_on};
+ghost use Rattle.xs_frames.specs.Condition.{IsLow};
+
+use crate::states::State;
+use std::alloc::Global;
+use xs_lits::assign::Assign;
+use xs_lits::clause::Clause;
+use xs_lits::lit::Lit;
+use xs_value::OutOfMemory;
+
+/// The literals that say that the variables from a number on have the state's values.
+#[tactic(auto, using(crate::proofs::BitLemmas::literals_more))]
+pub fn literals(alloc: Global, from: u64, state: &[bool]) -> Result<Vec<Lit>, OutOfMemory>
+    requires positive { 1 ≤ from }
+    requires small { from + length state.now < 2 ^ 62 }
+    ensures { IfOk result (λ lits. lits.items ≡ literals_from from state.now) }
+{
+    let mut lits = Vec::new(alloc);
+    for (i, value) in state.iter().enumerate() {
+        lits.push(Lit::new(from + i as u64, !*value))?;
+    }
+    Ok(lits)
+}
+
+/// The value of a variable, false where none is given.
+pub fn value(assign: &Assign, variable: u64) -> bool
+    requires positive { 1 ≤ variable }
+    requires small { variable < 2 ^ 62 }
+    ensures { result ≡ values_of assign.now variable }
+{
+    if variable > assign.vars() {
+        return false;
+    }
+    assign.value(Lit::new(variable, false)).unwrap_or(false)
+}
+
+/// The values of so many variables from a number on.
+#[tactic(auto, using(crate::proofs::BitLemmas::read_more))]
+pub fn read(alloc: Global, from: u64, bits: u64, assign: &Assign) -> Result<State, OutOfMemory>
+    requires positive { 1 ≤ from }
+    requires small { from + bits < 2 ^ 62 }
+    ensures { IfOk result (λ s. s ≡ read_from from bits assign.now) }
+{
+    let mut state = State::new(alloc);
+    for i in 0..bits {
+        state.push(value(assign, from + i))?;
+    }
+    Ok(state)
+}
+
+/// The literal of a variable so many places further back.
+fn back(bits: u64, lit: Lit) -> Lit
+    requires { bits + 2 ≤ lit.var }
+    ensures { result ≡ moved_back bits lit }
+{
+    Lit::new(lit.var() - bits, lit.is_negated())
+}
+
+/// The opposite of a literal, of a variable so many places further on.
+fn turned_on(bits: u64, lit: Lit) -> Lit
+    requires bits { bits < 2 ^ 31 }
+    requires low { IsLow lit }
+    ensures { result ≡ moved_on bits (opposite lit) }
+{
+    Lit::new(lit.var() + bits, !lit.is_negated())
+}
+
+/// A clause, and one over state bits next put back to state bits now.
+pub fn join(alloc: Global, bits: u64, clause: &Clause, next: &Clause) -> Result<Clause, OutOfMemory>
+    requires { All (λ l. bits + 2 ≤ l.var) next.now }
+    ensures { IfOk result (λ c. c ≡ joined bits clause.now next.now) }
+{
+    let mut both = Vec::from_slice(alloc, clause.lits())?;
+    for lit in next.lits() {
+        both.push(back(bits, *lit))?;
+    }
+    Clause::from_lits(alloc, both.as_slice())
+}
+
+/// The literals of a clause turned round, over state bits next.
+pub fn turn_next(alloc: Global, bits: u64, clause: &Clause) -> Result<Vec<Lit>, OutOfMemory>
+    requires bits { bits < 2 ^ 31 }
+    requires low { All IsLow clause.now }
+    ensures { IfOk result (λ lits. lits.items ≡ against_next bits clause.now) }
+{
+    let mut turned = Vec::new(alloc);
+    for lit in clause.lits() {
+        turned.push(turned_on(bits, *lit))?;
+    }
+    Ok(turned)
+}

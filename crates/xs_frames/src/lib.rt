@@ -1,0 +1,34 @@
+//! Frames of property-directed reachability: over-approximations of what a system reaches in so many steps.
+//!
+//! Contracts see [`Frames`] as the system, a list of clause lists over the state bits now, and whether
+//! memory ran out once. The frame of number 0 is the system's first states; its list is an outline of
+//! them, clauses that every first state makes true. Each frame implies the next, alone and with a step
+//! (`specs/Numbered.antt`). `clear` blocks the bad states of the last frame, the frontier's, by cores, or
+//! finds a path into them; `advance` adds a frame and pushes each clause that every step keeps. What a
+//! step, a chain and an inductive list are stands in `specs/Chain.antt` and `specs/Framed.antt`.
+//!
+//! ```text
+//! let mut frames = Frames::new(alloc, system)?;    // one bit that is false first and stays
+//! frames.clear(&bad, &mut panel)?                  // Clear: the bit is not true in a first state
+//! frames.advance(&mut panel)?                      // Fixed or Further
+//! ```
+#![tactic(auto)]
+
+ghost use Rattle.xs_frames.specs.Chain.{ChainsAreShort};
+
+mod advance;
+mod bits;
+mod clear;
+mod frames;
+mod query;
+mod states;
+
+pub use advance::Advanced;
+pub use clear::Cleared;
+pub use frames::Frames;
+pub use states::{State, States};
+
+/// A chain over b state bits has at most 2^b + 1 frames.
+pub fn chains_are_short()
+    ensures { ChainsAreShort }
+{}
