@@ -1,0 +1,2 @@
+pub mod UsesLaws
+pub mod ShapeLaws

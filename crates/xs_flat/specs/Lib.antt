@@ -1,0 +1,3 @@
+pub mod Uses
+pub mod Shape
+pub mod Faults
