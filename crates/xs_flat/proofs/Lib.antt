@@ -1,2 +1,3 @@
-pub mod UsesLaws
 pub mod ShapeLaws
+pub mod ClosedLaws
+pub mod MainLaws

@@ -1,5 +1,5 @@
 -- The shapes of a set and of a case, by those of their parts.
-use Rattle.std.proofs.Common.{◌≡◌, List, [], ◌∷◌, map, ap, ap2, ◌∙◌, refl}
+use Rattle.std.proofs.Common.{◌≡◌, List, [], ◌∷◌, map, ap, ◌∙◌, refl}
 use Rattle.xs_tree.specs.declared.expr.Expr.{Expr}
 use Rattle.xs_tree.specs.declared.expr.Expr.TheVariants.{Case, SetOf}
 use Rattle.xs_tree.specs.Tree.{Tree, Trees, Branches, case_of, set_of, tree_then, branch_then, trees_from, branches_from}

@@ -1,3 +1,4 @@
-pub mod Uses
 pub mod Shape
 pub mod Faults
+pub mod Closed
+pub mod ClosedFormulas

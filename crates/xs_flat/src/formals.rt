@@ -86,7 +86,7 @@ impl<'a> Scene<'a> {
 
     /// The look-up of a formal, at its actual's first part.
     fn frame_of(&self, spot: usize, formal: usize) -> Option<Frame<'a>> {
-        let inner = self.walk.spots.as_slice().get(spot)?;
+        let inner = self.spots.as_slice().get(spot)?;
         match inner.actuals.get(formal)? {
             Expr::Leaf(name) => Some(Frame {
                 spot,

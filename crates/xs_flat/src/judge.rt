@@ -40,7 +40,7 @@ pub(crate) struct Judged {
 pub(crate) fn judge(alloc: Global, scene: &Scene<'_>, needs: &Needs) -> Result<(), FlatFault>
     ensures { IfErr result IsPastMain }
 {
-    for spot in 0..scene.walk.spots.len() {
+    for spot in 0..scene.spots.len() {
         judge_instance(alloc, scene, needs, spot)?;
     }
     Ok(())

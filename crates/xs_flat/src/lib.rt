@@ -19,6 +19,7 @@
 //! ```
 #![tactic(auto)]
 
+mod bounds;
 mod build;
 mod fault;
 mod flattening;
@@ -34,6 +35,7 @@ mod symbols;
 mod uses;
 mod walk;
 
+pub use bounds::Bounds;
 pub use fault::{FlatFault, Rule};
 pub use flattening::{flatten, resolve_at, resolve_top};
 pub use model::{

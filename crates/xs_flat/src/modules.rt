@@ -1,7 +1,7 @@
 //! The modules of a program by name, and the names of each module: the rules that a program keeps or
 //! breaks before any instance is made.
 
-ghost use Rattle.std.specs.Prelude.{◌≡◌, codes, is_some, map, IfErr};
+ghost use Rattle.std.specs.Prelude.{◌≡◌, ◌↔◌, codes, is_some, map, IfErr, IsTrue};
 ghost use Rattle.xs_tree.specs.ProgramTree.{module_tree};
 ghost use Rattle.xs_tree.specs.Scope.{find_module};
 ghost use Rattle.xs_flat.specs.Faults.{IsPastMain};
@@ -68,7 +68,7 @@ impl<'a> Modules<'a> {
         ensures { IfErr result IsPastMain }
     {
         let header = number_after(last)?;
-        if module.name.text() == b"main".as_slice() && !module.formals.is_empty() {
+        if is_main(&module.name) && !module.formals.is_empty() {
             return Err(FlatFault {
                 rule: Rule::MainHasParameters,
                 item: header,
@@ -131,13 +131,21 @@ impl<'a> Names<'a> {
 }
 
 /// The place of the first module called `main`.
+#[tactic(auto, using(crate::proofs::MainLaws::found, crate::proofs::MainLaws::skipped_at))]
 pub(crate) fn main_place(modules: &[Module]) -> Option<usize>
     ensures { is_some result ≡ is_some (find_module (map module_tree modules.now) (codes "main")) }
 {
     for (k, module) in modules.iter().enumerate() {
-        if module.name.text() == b"main".as_slice() {
+        if is_main(&module.name) {
             return Some(k);
         }
     }
     None
+}
+
+/// Whether a name is `main`.
+fn is_main(name: &Name) -> bool
+    ensures { IsTrue result ↔ (name.now ≡ codes "main") }
+{
+    name.text() == b"main".as_slice()
 }

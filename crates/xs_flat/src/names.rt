@@ -1,18 +1,13 @@
 //! What names mean. The formals are answered first, once and for all; then a look-up goes through the
 //! parts of a name, one after another.
 
-ghost use Rattle.std.specs.Prelude.{IfErr};
-ghost use Rattle.xs_flat.specs.Faults.{IsPastMain};
-
-use crate::fault::FlatFault;
 use crate::items::{Item, number_of};
-use crate::model::VariableList;
 use crate::modules::{Local, Modules};
 use crate::symbols::symbols_of;
-use crate::walk::{Meaning, Walk};
+use crate::walk::{Meaning, Spot};
 use indexmap::IndexSet;
 use std::alloc::Global;
-use xs_tree::{Declared, Expr, Program};
+use xs_tree::{Declared, Expr};
 use xs_value::{Dotted, Name, OutOfMemory};
 
 /// What is known of a formal: nothing yet, that its look-up has begun, what it means, or that its look-up
@@ -38,7 +33,7 @@ pub(crate) struct Defined<'a> {
 #[derive(Drop)]
 pub(crate) struct Scene<'a> {
     pub modules: Modules<'a>,
-    pub walk: Walk<'a>,
+    pub spots: Vec<Spot<'a>>,
     pub symbols: IndexSet<&'a [u8]>,
     pub definitions: Vec<Defined<'a>>,
     pub formals: Vec<Vec<Formal>>,
@@ -51,21 +46,16 @@ pub(crate) enum Step {
 }
 
 impl<'a> Scene<'a> {
-    /// The scene of a program that keeps the rules of modules and instances, which starts at the module
-    /// of this place.
-    pub(crate) fn of_program(
+    /// The scene of these modules and instances.
+    pub(crate) fn of_instances(
         alloc: Global,
-        p: &'a Program,
-        main: usize,
-    ) -> Result<Scene<'a>, FlatFault>
-        ensures { IfErr result IsPastMain }
-    {
-        let modules = Modules::read(alloc, p, main)?;
-        let walk = Walk::whole(alloc, &modules)?;
+        modules: Modules<'a>,
+        spots: Vec<Spot<'a>>,
+    ) -> Result<Scene<'a>, OutOfMemory> {
         let symbols = symbols_of(alloc, &modules)?;
         let mut scene = Scene {
             modules,
-            walk,
+            spots,
             symbols,
             definitions: Vec::new(alloc),
             formals: Vec::new(alloc),
@@ -76,16 +66,9 @@ impl<'a> Scene<'a> {
         Ok(scene)
     }
 
-    /// The variables of the walk, without the rest of the scene.
-    pub(crate) fn into_variables(self) -> VariableList {
-        let Scene { walk, .. } = self;
-        let Walk { variables, .. } = walk;
-        variables
-    }
-
     /// Makes room for the formals of each instance.
     fn add_formals(&mut self, alloc: Global) -> Result<(), OutOfMemory> {
-        for spot in self.walk.spots.as_slice() {
+        for spot in self.spots.as_slice() {
             let formals = Vec::from_elem(alloc, Formal::Unknown, spot.actuals.len())?;
             self.formals.push(formals)?;
         }
@@ -94,7 +77,7 @@ impl<'a> Scene<'a> {
 
     /// Numbers the defines and the actuals of all instances.
     fn add_definitions(&mut self) -> Result<(), OutOfMemory> {
-        for spot in 0..self.walk.spots.len() {
+        for spot in 0..self.spots.len() {
             let items = self.item_count(spot);
             for place in 0..items {
                 self.add_definitions_of(spot, place)?;
@@ -105,7 +88,7 @@ impl<'a> Scene<'a> {
 
     /// The number of items of an instance's module.
     pub(crate) fn item_count(&self, spot: usize) -> usize {
-        match self.walk.spots.as_slice().get(spot) {
+        match self.spots.as_slice().get(spot) {
             Some(spot) => spot.own.len(),
             None => 0,
         }
@@ -157,7 +140,7 @@ impl<'a> Scene<'a> {
 
     /// The item at a place of an instance's module, with its number.
     pub(crate) fn item_at(&self, spot: usize, place: usize) -> Option<(Item<'a>, u32)> {
-        let module = self.walk.spots.as_slice().get(spot)?.module;
+        let module = self.spots.as_slice().get(spot)?.module;
         let names = self.modules.list.as_slice().get(module)?;
         let numbered = names.items.as_slice().get(place)?;
         Some((numbered.item, numbered.number))
@@ -165,7 +148,7 @@ impl<'a> Scene<'a> {
 
     /// What the item at a place means at an instance.
     pub(crate) fn own(&self, spot: usize, place: usize) -> Meaning {
-        match self.walk.spots.as_slice().get(spot) {
+        match self.spots.as_slice().get(spot) {
             Some(spot) => match spot.own.as_slice().get(place) {
                 Some(meaning) => *meaning,
                 None => Meaning::Nothing,
@@ -175,7 +158,7 @@ impl<'a> Scene<'a> {
     }
 
     fn set_own(&mut self, spot: usize, place: usize, meaning: Meaning) {
-        if let Some(spot) = self.walk.spots.get_mut(spot) {
+        if let Some(spot) = self.spots.get_mut(spot) {
             if let Some(own) = spot.own.get_mut(place) {
                 *own = meaning;
             }
@@ -212,7 +195,7 @@ impl<'a> Scene<'a> {
     }
 
     pub(crate) fn local(&self, spot: usize, part: &Name) -> Option<Local> {
-        let module = self.walk.spots.as_slice().get(spot)?.module;
+        let module = self.spots.as_slice().get(spot)?.module;
         let names = self.modules.list.as_slice().get(module)?;
         Some(*names.locals.get(part.text())?)
     }

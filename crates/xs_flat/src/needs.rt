@@ -105,6 +105,14 @@ impl Needs {
         })
     }
 
+    /// The place of a definition in the model's order; for one that isn't there, the number of all.
+    pub(crate) fn place_of(&self, definition: usize) -> usize {
+        match self.places.as_slice().get(definition) {
+            Some(place) => *place,
+            None => self.places.len(),
+        }
+    }
+
     /// Whether a definition is needed by itself.
     pub(crate) fn is_on_circle(&self, definition: usize) -> bool {
         is_true(self.on_circle.as_slice(), definition)

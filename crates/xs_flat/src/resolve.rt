@@ -1,10 +1,12 @@
 //! Written expressions over the numbers of a flat model.
 
-ghost use Rattle.std.specs.Prelude.{◌≡◌, IfOk, IfErr, map};
+ghost use Rattle.std.specs.Prelude.{◌≡◌, true, IfOk, IfErr, map};
+ghost use Rattle.std.specs.List.{list_all};
+ghost use Rattle.xs_flat.specs.Closed.{is_within, is_closed, is_branch_closed};
 ghost use Rattle.xs_flat.specs.Shape.{shape, branch_shapes};
 ghost use Rattle.xs_flat.specs.Faults.{IsPastMain};
 
-use crate::build::Source;
+use crate::bounds::Bounds;
 use crate::fault::{FlatFault, Rule};
 use crate::items::number_of;
 use crate::model::Flat;
@@ -15,9 +17,18 @@ use std::alloc::Global;
 use xs_tree::{BranchList, Expr, ExprList};
 use xs_value::{Dotted, Items, OutOfMemory};
 
+/// Where an expression is written, and what it may name: the instance, the item that a fault tells, and
+/// the numbers that are there.
+#[derive(Clone, Copy)]
+pub(crate) struct Source {
+    pub spot: usize,
+    pub item: u32,
+    pub bounds: Bounds,
+}
+
 /// An expression with each name replaced by what it stands for at an instance.
 #[cycle(resolve)]
-#[tactic(auto, using(crate::proofs::ShapeLaws::shape_of_case, crate::proofs::ShapeLaws::shape_of_set))]
+#[tactic(auto, using(crate::proofs::ShapeLaws::shape_of_case, crate::proofs::ShapeLaws::shape_of_set, crate::proofs::ClosedLaws::closed_case, crate::proofs::ClosedLaws::closed_set))]
 pub(crate) fn resolve(
     alloc: Global,
     scene: &Scene<'_>,
@@ -26,6 +37,7 @@ pub(crate) fn resolve(
     e: &Expr<Dotted>,
 ) -> Result<Expr<Flat>, FlatFault>
     ensures shape { IfOk result (λ made. shape made ≡ shape e.now) }
+    ensures closed { IfOk result (λ made. is_closed source.bounds made ≡ true) }
     ensures fault { IfErr result IsPastMain }
 {
     match e {
@@ -63,6 +75,7 @@ fn resolve_boxed(
     e: &Expr<Dotted>,
 ) -> Result<Box<Expr<Flat>>, FlatFault>
     ensures shape { IfOk result (λ made. shape made.value ≡ shape e.now) }
+    ensures closed { IfOk result (λ made. is_closed source.bounds made.value ≡ true) }
     ensures fault { IfErr result IsPastMain }
 {
     let made = resolve(alloc, scene, needs, source, e)?;
@@ -70,6 +83,7 @@ fn resolve_boxed(
 }
 
 #[cycle(resolve)]
+#[tactic(auto, using(crate::proofs::ClosedLaws::all_push))]
 fn resolve_members(
     alloc: Global,
     scene: &Scene<'_>,
@@ -78,6 +92,7 @@ fn resolve_members(
     members: &[Expr<Dotted>],
 ) -> Result<ExprList<Flat>, FlatFault>
     ensures shapes { IfOk result (λ made. map shape made ≡ map shape members.now) }
+    ensures closed { IfOk result (λ made. list_all (is_closed source.bounds) made ≡ true) }
     ensures fault { IfErr result IsPastMain }
 {
     let mut made = Items::new(alloc);
@@ -88,6 +103,7 @@ fn resolve_members(
 }
 
 #[cycle(resolve)]
+#[tactic(auto, using(crate::proofs::ClosedLaws::all_push))]
 fn resolve_branches(
     alloc: Global,
     scene: &Scene<'_>,
@@ -96,6 +112,7 @@ fn resolve_branches(
     branches: &[(Expr<Dotted>, Expr<Dotted>)],
 ) -> Result<BranchList<Flat>, FlatFault>
     ensures shapes { IfOk result (λ made. map branch_shapes made ≡ map branch_shapes branches.now) }
+    ensures closed { IfOk result (λ made. list_all (is_branch_closed source.bounds) made ≡ true) }
     ensures fault { IfErr result IsPastMain }
 {
     let mut made = Items::new(alloc);
@@ -106,23 +123,36 @@ fn resolve_branches(
     Ok(made)
 }
 
-/// What a name of an expression stands for. A name without a value has nothing to stand for.
-fn leaf(
+/// What a name of an expression stands for. A name without a value has nothing to stand for, and a
+/// definition that does not stand before is one of a loop.
+pub(crate) fn leaf(
     scene: &Scene<'_>,
     needs: &Needs,
     source: Source,
     name: &Dotted,
 ) -> Result<Flat, FlatFault>
-    ensures { IfErr result IsPastMain }
+    ensures closed { IfOk result (λ made. is_within source.bounds made ≡ true) }
+    ensures fault { IfErr result IsPastMain }
 {
     match scene.meaning(source.spot, name) {
-        Meaning::Variable { number, .. } => Ok(Flat::Var(number)),
-        Meaning::Symbol(number) => Ok(Flat::Symbol(number)),
-        Meaning::Definition(definition) => match needs.places.as_slice().get(definition) {
-            Some(place) => Ok(Flat::Definition(number_of(*place)?)),
-            None => Err(no_such_name(source)),
-        },
-        Meaning::Instance(_) | Meaning::Nothing | Meaning::Loop => Err(no_such_name(source)),
+        Meaning::Variable { number, .. } if (number as usize) < source.bounds.variables => {
+            Ok(Flat::Var(number))
+        }
+        Meaning::Symbol(number) if (number as usize) < source.bounds.symbols => {
+            Ok(Flat::Symbol(number))
+        }
+        Meaning::Definition(definition) => {
+            let place = needs.place_of(definition);
+            if place < source.bounds.definitions {
+                Ok(Flat::Definition(number_of(place)?))
+            } else {
+                Err(FlatFault {
+                    rule: Rule::DefineLoop,
+                    item: source.item,
+                })
+            }
+        }
+        _ => Err(no_such_name(source)),
     }
 }
 

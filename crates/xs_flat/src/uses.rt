@@ -1,8 +1,6 @@
 //! The names of an expression.
 
-ghost use Rattle.std.specs.Prelude.{◌≡◌, ◌++◌, ◌||◌, false, IfOk, OnOk};
-ghost use Rattle.xs_tree.specs.Written.{tree_of, trees_of, branches_of};
-ghost use Rattle.xs_flat.specs.Uses.{uses_in, trees_uses, branches_uses, has_next, trees_have_next, branches_have_next, nests_next, trees_nest_next, branches_nest_next};
+ghost use Rattle.std.specs.Prelude.{◌≡◌};
 
 use std::alloc::Global;
 use std::marker::Model;
@@ -51,9 +49,6 @@ pub(crate) struct Uses<'a> {
 impl<'a> Uses<'a> {
     /// The names of an expression.
     pub(crate) fn of_value(alloc: Global, e: &'a Expr<Dotted>) -> Result<Uses<'a>, OutOfMemory>
-        ensures names { IfOk result (λ uses. uses.names.items ≡ uses_in false (tree_of e.now)) }
-        ensures next { IfOk result (λ uses. uses.has_next ≡ has_next (tree_of e.now)) }
-        ensures nested { IfOk result (λ uses. uses.nested_next ≡ nests_next false (tree_of e.now)) }
     {
         let mut uses = Uses {
             names: Vec::new(alloc),
@@ -65,11 +60,7 @@ impl<'a> Uses<'a> {
     }
 
     #[cycle(uses)]
-    #[tactic(auto, using(crate::proofs::UsesLaws::uses_rules))]
     fn add(&mut self, e: &'a Expr<Dotted>, next: bool) -> Result<(), OutOfMemory>
-        ensures names { OnOk result (self.new.names.items ≡ self.old.names.items ++ uses_in next (tree_of e.now)) }
-        ensures next { OnOk result (self.new.has_next ≡ (self.old.has_next || has_next (tree_of e.now))) }
-        ensures nested { OnOk result (self.new.nested_next ≡ (self.old.nested_next || nests_next next (tree_of e.now))) }
     {
         match e {
             Expr::Truth(_) | Expr::Number(_) | Expr::Span(_, _) => Ok(()),
@@ -95,11 +86,7 @@ impl<'a> Uses<'a> {
     }
 
     #[cycle(uses)]
-    #[tactic(auto, using(crate::proofs::UsesLaws::uses_rules))]
     fn add_members(&mut self, members: &'a [Expr<Dotted>], next: bool) -> Result<(), OutOfMemory>
-        ensures names { OnOk result (self.new.names.items ≡ self.old.names.items ++ trees_uses next (trees_of members.now)) }
-        ensures next { OnOk result (self.new.has_next ≡ (self.old.has_next || trees_have_next (trees_of members.now))) }
-        ensures nested { OnOk result (self.new.nested_next ≡ (self.old.nested_next || trees_nest_next next (trees_of members.now))) }
     {
         for member in members {
             self.add(member, next)?;
@@ -108,15 +95,11 @@ impl<'a> Uses<'a> {
     }
 
     #[cycle(uses)]
-    #[tactic(auto, using(crate::proofs::UsesLaws::uses_rules))]
     fn add_branches(
         &mut self,
         branches: &'a [(Expr<Dotted>, Expr<Dotted>)],
         next: bool,
     ) -> Result<(), OutOfMemory>
-        ensures names { OnOk result (self.new.names.items ≡ self.old.names.items ++ branches_uses next (branches_of branches.now)) }
-        ensures next { OnOk result (self.new.has_next ≡ (self.old.has_next || branches_have_next (branches_of branches.now))) }
-        ensures nested { OnOk result (self.new.nested_next ≡ (self.old.nested_next || branches_nest_next next (branches_of branches.now))) }
     {
         for (condition, value) in branches {
             self.add(condition, next)?;

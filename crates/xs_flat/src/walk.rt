@@ -1,6 +1,7 @@
 //! The walk over the instances of a program, depth first by items.
 
-ghost use Rattle.std.specs.Prelude.{IfErr};
+ghost use Rattle.std.specs.Prelude.{◌≡◌, false, IfOk, IfErr, OnOk};
+ghost use Rattle.xs_flat.specs.Closed.{AreVariables, is_instance};
 ghost use Rattle.xs_flat.specs.Faults.{IsPastMain};
 
 use crate::fault::{FlatFault, Rule};
@@ -59,7 +60,8 @@ struct Standing {
 impl<'a> Walk<'a> {
     /// All instances and variables of a program that breaks no rule from 5 to 7 and passes no limit.
     pub(crate) fn whole(alloc: Global, modules: &Modules<'a>) -> Result<Walk<'a>, FlatFault>
-        ensures { IfErr result IsPastMain }
+        ensures variables { IfOk result (λ walk. AreVariables walk.variables) }
+        ensures fault { IfErr result IsPastMain }
     {
         let mut walk = Walk {
             spots: Vec::new(alloc),
@@ -77,6 +79,16 @@ impl<'a> Walk<'a> {
         Ok(walk)
     }
 
+    /// The instances and the variables.
+    pub(crate) fn into_parts(self) -> (Vec<Spot<'a>>, VariableList)
+        ensures { result.1 ≡ self.entry.variables }
+    {
+        let Walk {
+            spots, variables, ..
+        } = self;
+        (spots, variables)
+    }
+
     /// Goes through an instance, item by item; the answer is its number.
     #[cycle(walk)]
     fn enter(
@@ -86,7 +98,9 @@ impl<'a> Walk<'a> {
         spot: Spot<'a>,
         left: usize,
     ) -> Result<usize, FlatFault>
-        ensures { IfErr result IsPastMain }
+        requires variables { AreVariables self.old.variables }
+        ensures variables { OnOk result (AreVariables self.new.variables) }
+        ensures fault { IfErr result IsPastMain }
     {
         let number = self.spots.len();
         let module = spot.module;
@@ -112,7 +126,9 @@ impl<'a> Walk<'a> {
         standing: Standing,
         numbered: Numbered<'a>,
     ) -> Result<Meaning, FlatFault>
-        ensures { IfErr result IsPastMain }
+        requires variables { AreVariables self.old.variables }
+        ensures variables { OnOk result (AreVariables self.new.variables) }
+        ensures fault { IfErr result IsPastMain }
     {
         let Item::Declared(role, decl) = numbered.item else {
             return Ok(Meaning::Nothing);
@@ -163,6 +179,7 @@ impl<'a> Walk<'a> {
         Err(FlatFault { rule, item })
     }
 
+    #[tactic(auto, using(crate::proofs::ClosedLaws::variables_push))]
     fn add_variable(
         &mut self,
         alloc: Global,
@@ -172,7 +189,10 @@ impl<'a> Walk<'a> {
         decl: &Decl,
         path: Dotted,
     ) -> Result<Meaning, FlatFault>
-        ensures { IfErr result IsPastMain }
+        requires variables { AreVariables self.old.variables }
+        requires values { is_instance decl.now.what ≡ false }
+        ensures variables { OnOk result (AreVariables self.new.variables) }
+        ensures fault { IfErr result IsPastMain }
     {
         let place = self.variables.len();
         if place >= VARIABLE_LIMIT {
@@ -207,13 +227,17 @@ impl<'a> Walk<'a> {
         }
     }
 
-    fn set_entered(&mut self, module: usize, value: bool) {
+    fn set_entered(&mut self, module: usize, value: bool)
+        ensures { self.new.variables ≡ self.old.variables }
+    {
         if let Some(entered) = self.entered.get_mut(module) {
             *entered = value;
         }
     }
 
-    fn tell(&mut self, spot: usize, meaning: Meaning) -> Result<(), OutOfMemory> {
+    fn tell(&mut self, spot: usize, meaning: Meaning) -> Result<(), OutOfMemory>
+        ensures { self.new.variables ≡ self.old.variables }
+    {
         if let Some(spot) = self.spots.get_mut(spot) {
             spot.own.push(meaning)?;
         }
