@@ -13,7 +13,7 @@ use Rattle.xs_flat.specs.declared.model.Flat.{Flat}
 use Rattle.xs_flat.specs.declared.model.Formula.{Formula}
 use Rattle.xs_flat.specs.declared.model.Variable.{Variable}
 use Rattle.xs_flat.specs.declared.bounds.Bounds.{Bounds}
-use Rattle.xs_flat.specs.Closed.{is_within, tree_all, trees_all, branches_all, is_closed, is_branch_closed, are_closed, AreEarlier, AreVariables, is_variable, is_instance}
+use Rattle.xs_flat.specs.Closed.{is_within, tree_all, trees_all, branches_all, is_closed, is_branch_closed, are_closed, are_earlier, AreVariables, is_variable, is_instance}
 
 and_more : (a b c : Bool) → ((a && b) && c) ≡ (a && (b && c))
 and_more true b c = refl
@@ -42,20 +42,33 @@ pub all_push : {X : Type 0} (p : X → Bool) (xs : List X) (x : X) → list_all 
 all_push p xs x all one =
     list_all-append p xs (x ∷ []) ∙ both_true (list_all p xs) (list_all p (x ∷ [])) all (both_true (p x) true one refl)
 
-earlier_after : (v s k : ℕ) (ds : List Formula) (d : Formula) → AreEarlier v s k ds →
-    is_closed (record { variables = v; symbols = s; definitions = k + length ds }) d.value ≡ true → AreEarlier v s k (ds ++ d ∷ [])
+left_true : (a b : Bool) → (a && b) ≡ true → a ≡ true
+left_true true b both = refl
+left_true false b both = both
+
+right_true : (a b : Bool) → (a && b) ≡ true → b ≡ true
+right_true true b both = both
+right_true false b both = grind (arith)
+
+earlier_after : (v s k : ℕ) (ds : List Formula) (d : Formula) → are_earlier v s k ds ≡ true →
+    is_closed (record { variables = v; symbols = s; definitions = k + length ds }) d.value ≡ true → are_earlier v s k (ds ++ d ∷ []) ≡ true
 earlier_after v s k [] d before one =
     let same : k + 0 ≡ k = omega arith in
-    (subst (λ n. is_closed (record { variables = v; symbols = s; definitions = n }) d.value ≡ true) same one, tt)
+    both_true (is_closed (record { variables = v; symbols = s; definitions = k }) d.value) true
+      (subst (λ n. is_closed (record { variables = v; symbols = s; definitions = n }) d.value ≡ true) same one) refl
 earlier_after v s k (e ∷ ds) d before one =
     let same : k + length (e ∷ ds) ≡ suc k + length ds = omega arith in
-    (before.0, earlier_after v s (suc k) ds d before.1 (subst (λ n. is_closed (record { variables = v; symbols = s; definitions = n }) d.value ≡ true) same one))
+    let first : Bool = is_closed (record { variables = v; symbols = s; definitions = k }) e.value in
+    both_true first (are_earlier v s (suc k) (ds ++ d ∷ [])) (left_true first (are_earlier v s (suc k) ds) before)
+      (earlier_after v s (suc k) ds d (right_true first (are_earlier v s (suc k) ds) before)
+        (subst (λ n. is_closed (record { variables = v; symbols = s; definitions = n }) d.value ≡ true) same one))
 
-pub earlier_push : (v s : ℕ) (ds : List Formula) (d : Formula) → AreEarlier v s 0 ds →
-    is_closed (record { variables = v; symbols = s; definitions = length ds }) d.value ≡ true → AreEarlier v s 0 (ds ++ d ∷ [])
-earlier_push v s ds d before one =
-    let same : length ds ≡ 0 + length ds = omega arith in
-    earlier_after v s 0 ds d before (subst (λ n. is_closed (record { variables = v; symbols = s; definitions = n }) d.value ≡ true) same one)
+pub earlier_push : (b : Bounds) (ds : List Formula) (d : Formula) → are_earlier b.variables b.symbols 0 ds ≡ true → b.definitions ≡ length ds →
+    is_closed b d.value ≡ true → are_earlier b.variables b.symbols 0 (ds ++ d ∷ []) ≡ true
+earlier_push b ds d before next one =
+    let same : b.definitions ≡ 0 + length ds = omega arith in
+    earlier_after b.variables b.symbols 0 ds d before
+      (subst (λ n. is_closed (record { variables = b.variables; symbols = b.symbols; definitions = n }) d.value ≡ true) same one)
 
 pub formulas_push : (b : Bounds) (fs : List Formula) (f : Formula) → are_closed b fs ≡ true → is_closed b f.value ≡ true → are_closed b (fs ++ f ∷ []) ≡ true
 formulas_push b fs f all one = all_push (λ g. is_closed b g.value) fs f all one

@@ -54,10 +54,10 @@ abbrev pub are_closed : Bounds → List Formula → Bool
 are_closed b fs = list_all (λ f. is_closed b f.value) fs
 
 -- a definition of this place uses those before it alone, and so on for those after it
-abbrev pub AreEarlier : ℕ → ℕ → ℕ → List Formula → Type 0
-AreEarlier variables symbols k [] = Unit {0}
-AreEarlier variables symbols k (d ∷ ds) =
-    (is_closed (record { variables = variables; symbols = symbols; definitions = k }) d.value ≡ true) × AreEarlier variables symbols (suc k) ds
+abbrev pub are_earlier : ℕ → ℕ → ℕ → List Formula → Bool
+are_earlier variables symbols k [] = true
+are_earlier variables symbols k (d ∷ ds) =
+    is_closed (record { variables = variables; symbols = symbols; definitions = k }) d.value && are_earlier variables symbols (suc k) ds
 
 -- declared as an instance
 abbrev pub is_instance : Declared → Bool
@@ -81,7 +81,7 @@ bounds_of m = record { variables = length m.variables; symbols = length m.symbol
 -- each formula names the model's own variables, symbols and definitions, and each definition earlier ones alone
 pub record IsClosedModel (m : FlatModel) : Type 0 where
   pub variables : AreVariables m.variables
-  pub definitions : AreEarlier (length m.variables) (length m.symbols) 0 m.definitions
+  pub definitions : are_earlier (length m.variables) (length m.symbols) 0 m.definitions ≡ true
   pub init : are_closed (bounds_of m) m.init ≡ true
   pub invar : are_closed (bounds_of m) m.invar ≡ true
   pub trans : are_closed (bounds_of m) m.trans ≡ true

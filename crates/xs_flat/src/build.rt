@@ -1,7 +1,7 @@
 //! The flat model of a scene that breaks no rule.
 
 ghost use Rattle.std.specs.Prelude.{◌≡◌, true, length, IfOk, IfErr, OnOk};
-ghost use Rattle.xs_flat.specs.Closed.{is_within, is_closed, are_closed, AreEarlier, AreVariables, IsClosedModel};
+ghost use Rattle.xs_flat.specs.Closed.{is_within, is_closed, are_closed, are_earlier, AreVariables, IsClosedModel};
 ghost use Rattle.xs_flat.specs.ClosedFormulas.{AreClosed};
 ghost use Rattle.xs_tree.specs.declared.expr.Op.TheVariants as op;
 ghost use Rattle.xs_tree.specs.Tree.{binary, next_of, leaf as leaf_tree};
@@ -90,7 +90,7 @@ fn definitions_of(
     variables: usize,
     symbols: usize,
 ) -> Result<FlatList, FlatFault>
-    ensures earlier { IfOk result (λ made. AreEarlier variables symbols 0 made) }
+    ensures earlier { IfOk result (λ made. are_earlier variables symbols 0 made ≡ true) }
     ensures fault { IfErr result IsPastMain }
 {
     let mut made = Items::new(alloc);
@@ -106,7 +106,6 @@ fn definitions_of(
 }
 
 /// Appends the definition at a place of the scene, over those that stand before it.
-#[tactic(auto, using(crate::proofs::ClosedLaws::earlier_push))]
 fn add_definition(
     alloc: Global,
     scene: &Scene<'_>,
@@ -115,9 +114,9 @@ fn add_definition(
     place: usize,
     made: &mut FlatList,
 ) -> Result<(), FlatFault>
-    requires before { AreEarlier bounds.variables bounds.symbols 0 made.old }
+    requires before { are_earlier bounds.variables bounds.symbols 0 made.old ≡ true }
     requires next { bounds.definitions ≡ length made.old }
-    ensures earlier { OnOk result (AreEarlier bounds.variables bounds.symbols 0 made.new) }
+    ensures earlier { OnOk result (are_earlier bounds.variables bounds.symbols 0 made.new ≡ true) }
     ensures fault { IfErr result IsPastMain }
 {
     let Some(defined) = scene.definitions.as_slice().get(place) else {
@@ -129,7 +128,22 @@ fn add_definition(
         bounds,
     };
     let value = resolve(alloc, scene, needs, source, defined.value)?;
-    Ok(made.push(formula(source, value)?)?)
+    Ok(push_definition(made, source, value)?)
+}
+
+/// Appends a definition over those that stand before it.
+#[tactic(auto, using(crate::proofs::ClosedLaws::earlier_push))]
+fn push_definition(
+    list: &mut FlatList,
+    source: Source,
+    value: Expr<Flat>,
+) -> Result<(), OutOfMemory>
+    requires before { are_earlier source.bounds.variables source.bounds.symbols 0 list.old ≡ true }
+    requires next { source.bounds.definitions ≡ length list.old }
+    requires value { is_closed source.bounds value ≡ true }
+    ensures { OnOk result (are_earlier source.bounds.variables source.bounds.symbols 0 list.new ≡ true) }
+{
+    list.push(formula(source, value)?)
 }
 
 fn formula(source: Source, value: Expr<Flat>) -> Result<Formula, OutOfMemory>
