@@ -55,20 +55,20 @@ earlier_after : (v s k : ℕ) (ds : List Formula) (d : Formula) → are_earlier 
 earlier_after v s k [] d before one =
     let same : k + 0 ≡ k = omega arith in
     both_true (is_closed (record { variables = v; symbols = s; definitions = k }) d.value) true
-      (subst (λ n. is_closed (record { variables = v; symbols = s; definitions = n }) d.value ≡ true) same one) refl
+    (subst (λ n. is_closed (record { variables = v; symbols = s; definitions = n }) d.value ≡ true) same one) refl
 earlier_after v s k (e ∷ ds) d before one =
     let same : k + length (e ∷ ds) ≡ suc k + length ds = omega arith in
     let first : Bool = is_closed (record { variables = v; symbols = s; definitions = k }) e.value in
     both_true first (are_earlier v s (suc k) (ds ++ d ∷ [])) (left_true first (are_earlier v s (suc k) ds) before)
-      (earlier_after v s (suc k) ds d (right_true first (are_earlier v s (suc k) ds) before)
-        (subst (λ n. is_closed (record { variables = v; symbols = s; definitions = n }) d.value ≡ true) same one))
+    (earlier_after v s (suc k) ds d (right_true first (are_earlier v s (suc k) ds) before)
+    (subst (λ n. is_closed (record { variables = v; symbols = s; definitions = n }) d.value ≡ true) same one))
 
 pub earlier_push : (b : Bounds) (ds : List Formula) (d : Formula) → are_earlier b.variables b.symbols 0 ds ≡ true → b.definitions ≡ length ds →
     is_closed b d.value ≡ true → are_earlier b.variables b.symbols 0 (ds ++ d ∷ []) ≡ true
 earlier_push b ds d before next one =
     let same : b.definitions ≡ 0 + length ds = omega arith in
     earlier_after b.variables b.symbols 0 ds d before
-      (subst (λ n. is_closed (record { variables = b.variables; symbols = b.symbols; definitions = n }) d.value ≡ true) same one)
+    (subst (λ n. is_closed (record { variables = b.variables; symbols = b.symbols; definitions = n }) d.value ≡ true) same one)
 
 pub formulas_push : (b : Bounds) (fs : List Formula) (f : Formula) → are_closed b fs ≡ true → is_closed b f.value ≡ true → are_closed b (fs ++ f ∷ []) ≡ true
 formulas_push b fs f all one = all_push (λ g. is_closed b g.value) fs f all one

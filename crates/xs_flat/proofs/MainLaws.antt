@@ -23,4 +23,4 @@ pub skipped_at : (ms : List Module) (k : ℕ) (d : Module) (x : Text) → k < le
     find_module (map module_tree (drop (k + 1) ms)) x ≡ find_module (map module_tree (drop k ms)) x
 skipped_at ms k d x within other =
     sym (ap (λ ys. find_module (map module_tree ys) x) (drop_more ms k d within)
-      ∙ skipped (module_tree (get_or ms k d)) (map module_tree (drop (k + 1) ms)) x other)
+    ∙ skipped (module_tree (get_or ms k d)) (map module_tree (drop (k + 1) ms)) x other)

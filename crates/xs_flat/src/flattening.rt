@@ -94,17 +94,24 @@ pub fn resolve_at(
     let source = Source {
         spot: instance as usize,
         item: 0,
-        bounds: Bounds {
-            variables: m.variables.len(),
-            symbols: m.symbols.len(),
-            definitions: m.definitions.len(),
-        },
+        bounds: all_of(m),
     };
     let judged = judge_value(alloc, &scene, &needs, source.spot, e)?;
     if let Some(rule) = rule_at(judged, inputs) {
         return Err(FlatFault { rule, item: 0 });
     }
     resolve(alloc, &scene, &needs, source, e)
+}
+
+/// How many things an expression of a model can name.
+fn all_of(m: &FlatModel) -> Bounds
+    ensures { result ≡ bounds_of m.now }
+{
+    Bounds {
+        variables: m.variables.len(),
+        symbols: m.symbols.len(),
+        definitions: m.definitions.len(),
+    }
 }
 
 /// The first rule that an expression breaks as the value of a DEFINE.

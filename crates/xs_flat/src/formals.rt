@@ -55,7 +55,12 @@ impl<'a> Scene<'a> {
 
     /// Looks up a formal and all that it needs. Each turn begins a look-up or ends one, so twice the
     /// number of formals is enough of them.
-    fn answer_formal(&mut self, alloc: Global, spot: usize, formal: usize) -> Result<(), OutOfMemory> {
+    fn answer_formal(
+        &mut self,
+        alloc: Global,
+        spot: usize,
+        formal: usize,
+    ) -> Result<(), OutOfMemory> {
         let turns = self.all_formals().saturating_mul(2);
         let mut waiting = Vec::new(alloc);
         self.begin(&mut waiting, spot, formal)?;
@@ -65,7 +70,11 @@ impl<'a> Scene<'a> {
             };
             self.take_turn(&mut waiting, frame)?;
         }
-        if waiting.is_empty() { Ok(()) } else { Err(OutOfMemory) }
+        if waiting.is_empty() {
+            Ok(())
+        } else {
+            Err(OutOfMemory)
+        }
     }
 
     /// Puts the look-up of a formal that nothing is known of on the stack.

@@ -310,7 +310,8 @@ impl Needs {
     fn is_input(&self, meaning: Meaning) -> bool {
         match meaning {
             Meaning::Variable {
-                role: Role::Input, ..
+                role: Role::Input,
+                ..
             } => true,
             Meaning::Definition(definition) => self.is_reading_input(definition),
             _ => false,

@@ -38,11 +38,7 @@ pub(crate) struct Modules<'a> {
 
 impl<'a> Modules<'a> {
     /// The modules of a program that breaks no rule from 2 to 4. The module `main` stands at a place.
-    pub(crate) fn read(
-        alloc: Global,
-        p: &'a Program,
-        main: usize,
-    ) -> Result<Modules<'a>, FlatFault>
+    pub(crate) fn read(alloc: Global, p: &'a Program, main: usize) -> Result<Modules<'a>, FlatFault>
         ensures { IfErr result IsPastMain }
     {
         let mut modules = Modules {
@@ -100,7 +96,11 @@ impl<'a> Names<'a> {
         ensures { IfErr result IsPastMain }
     {
         for (k, formal) in formals.iter().enumerate() {
-            if self.locals.insert(formal.text(), Local::Formal(k))?.is_some() {
+            if self
+                .locals
+                .insert(formal.text(), Local::Formal(k))?
+                .is_some()
+            {
                 return Err(FlatFault {
                     rule: Rule::DoubleName,
                     item: header,

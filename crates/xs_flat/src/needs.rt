@@ -1,7 +1,7 @@
 //! What definitions need: their order, which of them are on a circle, and which read an input.
 
-use crate::names::{Defined, Scene};
 use crate::model::Role;
+use crate::names::{Defined, Scene};
 use crate::uses::Uses;
 use crate::walk::Meaning;
 use std::alloc::Global;
@@ -138,7 +138,8 @@ fn link(
         match scene.meaning(defined.spot, each.name()) {
             Meaning::Definition(needed) => links.add(definition, needed)?,
             Meaning::Variable {
-                role: Role::Input, ..
+                role: Role::Input,
+                ..
             } => input = true,
             _ => {}
         }
@@ -184,7 +185,11 @@ fn add_below(
             }
         }
     }
-    if tasks.is_empty() { Ok(()) } else { Err(OutOfMemory) }
+    if tasks.is_empty() {
+        Ok(())
+    } else {
+        Err(OutOfMemory)
+    }
 }
 
 /// Puts visits on the stack, so that the first one is done first.
@@ -260,7 +265,11 @@ fn take_from(
             waiting.extend_from_slice(links.from(definition))?;
         }
     }
-    if waiting.is_empty() { Ok(found) } else { Err(OutOfMemory) }
+    if waiting.is_empty() {
+        Ok(found)
+    } else {
+        Err(OutOfMemory)
+    }
 }
 
 fn is_true(marks: &[bool], place: usize) -> bool {

@@ -21,10 +21,7 @@ pub(crate) fn symbols_of<'a>(
     Ok(symbols)
 }
 
-fn add_of_item<'a>(
-    symbols: &mut IndexSet<&'a [u8]>,
-    item: Item<'a>,
-) -> Result<(), OutOfMemory> {
+fn add_of_item<'a>(symbols: &mut IndexSet<&'a [u8]>, item: Item<'a>) -> Result<(), OutOfMemory> {
     match item {
         Item::Constants(names) => add_names(symbols, names.as_slice()),
         Item::Declared(_, decl) => match &decl.what {

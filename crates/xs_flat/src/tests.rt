@@ -91,13 +91,29 @@ fn rules_of_main(rt: HostRuntime) -> Result<(), Fail> {
     assert_eq!(rt; fault(alloc, instance(alloc, b"M")?, none)?, (5, 2));
     let none = Section::Constants(NameList::new(alloc));
     assert_eq!(rt; fault(alloc, instance(alloc, b"main")?, none)?, (7, 2));
-    assert_eq!(rt; fault(alloc, boolean(alloc)?, define(alloc, Expr::Truth(true))?)?, (4, 3));
-    assert_eq!(rt; fault(alloc, boolean(alloc)?, Section::Init(next_leaf(alloc)?))?, (12, 3));
-    assert_eq!(rt; fault(alloc, define(alloc, leaf(alloc)?)?, Section::Init(leaf(alloc)?))?, (11, 2));
+    assert_eq!(rt;
+        fault(alloc, boolean(alloc)?, define(alloc, Expr::Truth(true))?)?,
+        (4, 3)
+    );
+    assert_eq!(rt;
+        fault(alloc, boolean(alloc)?, Section::Init(next_leaf(alloc)?))?,
+        (12, 3)
+    );
+    assert_eq!(rt;
+        fault(
+            alloc,
+            define(alloc, leaf(alloc)?)?,
+            Section::Init(leaf(alloc)?)
+        )?,
+        (11, 2)
+    );
     let input = Section::Ivar(declared(alloc, Declared::Boolean)?);
     assert_eq!(rt; fault(alloc, input, Section::Invar(leaf(alloc)?))?, (13, 3));
     let frozen = Section::Frozen(declared(alloc, Declared::Boolean)?);
-    assert_eq!(rt; fault(alloc, frozen, assigned(alloc, &[Moment::After])?)?, (9, 3));
+    assert_eq!(rt;
+        fault(alloc, frozen, assigned(alloc, &[Moment::After])?)?,
+        (9, 3)
+    );
     let twice = assigned(alloc, &[Moment::After, Moment::First, Moment::Always])?;
     assert_eq!(rt; fault(alloc, boolean(alloc)?, twice)?, (10, 5));
     let none = Section::Constants(NameList::new(alloc));

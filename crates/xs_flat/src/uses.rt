@@ -48,8 +48,7 @@ pub(crate) struct Uses<'a> {
 
 impl<'a> Uses<'a> {
     /// The names of an expression.
-    pub(crate) fn of_value(alloc: Global, e: &'a Expr<Dotted>) -> Result<Uses<'a>, OutOfMemory>
-    {
+    pub(crate) fn of_value(alloc: Global, e: &'a Expr<Dotted>) -> Result<Uses<'a>, OutOfMemory> {
         let mut uses = Uses {
             names: Vec::new(alloc),
             has_next: false,
@@ -60,8 +59,7 @@ impl<'a> Uses<'a> {
     }
 
     #[cycle(uses)]
-    fn add(&mut self, e: &'a Expr<Dotted>, next: bool) -> Result<(), OutOfMemory>
-    {
+    fn add(&mut self, e: &'a Expr<Dotted>, next: bool) -> Result<(), OutOfMemory> {
         match e {
             Expr::Truth(_) | Expr::Number(_) | Expr::Span(_, _) => Ok(()),
             Expr::Leaf(name) => Ok(self.names.push(Use { name, next })?),
@@ -86,8 +84,7 @@ impl<'a> Uses<'a> {
     }
 
     #[cycle(uses)]
-    fn add_members(&mut self, members: &'a [Expr<Dotted>], next: bool) -> Result<(), OutOfMemory>
-    {
+    fn add_members(&mut self, members: &'a [Expr<Dotted>], next: bool) -> Result<(), OutOfMemory> {
         for member in members {
             self.add(member, next)?;
         }
@@ -99,8 +96,7 @@ impl<'a> Uses<'a> {
         &mut self,
         branches: &'a [(Expr<Dotted>, Expr<Dotted>)],
         next: bool,
-    ) -> Result<(), OutOfMemory>
-    {
+    ) -> Result<(), OutOfMemory> {
         for (condition, value) in branches {
             self.add(condition, next)?;
             self.add(value, next)?;

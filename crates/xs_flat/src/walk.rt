@@ -84,7 +84,9 @@ impl<'a> Walk<'a> {
         ensures { result.1 ≡ self.entry.variables }
     {
         let Walk {
-            spots, variables, ..
+            spots,
+            variables,
+            ..
         } = self;
         (spots, variables)
     }
@@ -216,9 +218,12 @@ impl<'a> Walk<'a> {
     fn path_below(&self, alloc: Global, spot: usize, name: &Name) -> Result<Dotted, OutOfMemory> {
         let name = name.copy(alloc)?;
         match self.spots.get(spot) {
-            Some(Spot {
-                path: Some(path), ..
-            }) => {
+            Some(
+                Spot {
+                    path: Some(path),
+                    ..
+                },
+            ) => {
                 let mut below = path.copy(alloc)?;
                 below.push(name)?;
                 Ok(below)
