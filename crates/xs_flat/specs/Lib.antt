@@ -1,0 +1,4 @@
+pub mod Shape
+pub mod Faults
+pub mod Closed
+pub mod ClosedFormulas

@@ -1,0 +1,10 @@
+//! How many things a flat expression can name.
+
+/// The variables and symbols of a model, and those of its definitions that an expression may name: for a
+/// formula all, for a definition the earlier ones.
+#[derive(Clone, Copy)]
+pub struct Bounds {
+    pub variables: usize,
+    pub symbols: usize,
+    pub definitions: usize,
+}

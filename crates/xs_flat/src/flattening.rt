@@ -1,0 +1,130 @@
+//! The public calls: a program's flat model, and expressions at one of its instances.
+
+ghost use Rattle.std.specs.Prelude.{◌≡◌, ◌∷◌, [], ◌↔◌, ◌&&◌, codes, not, true, None, IfOk, IfErr, IsErrOf};
+ghost use Rattle.xs_tree.specs.ProgramTree.{program_tree};
+ghost use Rattle.xs_tree.specs.Scope.{find_module};
+ghost use Rattle.xs_flat.specs.declared.fault.Rule.TheVariants.{NoMain, NoSuchName, NextHere, InputHere};
+ghost use Rattle.xs_flat.specs.Shape.{shape};
+ghost use Rattle.xs_flat.specs.Closed.{is_closed, bounds_of, IsClosedModel};
+ghost use Rattle.xs_flat.specs.Faults.{first_of, IsPastMain};
+
+use crate::bounds::Bounds;
+use crate::build::build;
+use crate::fault::{FlatFault, Rule};
+use crate::judge::{Judged, judge, judge_value};
+use crate::model::{Flat, FlatModel};
+use crate::modules::{Modules, main_place};
+use crate::names::Scene;
+use crate::needs::Needs;
+use crate::resolve::{Source, resolve};
+use crate::walk::Walk;
+use std::alloc::Global;
+use xs_tree::{Expr, Program};
+use xs_value::Dotted;
+
+/// The flat model of a program, or the first rule that it breaks.
+///
+/// The rules are tried in three groups. First those of modules and of their names, in written order; then
+/// those of instances and limits, along the walk over the instances; then all others, by instances, then
+/// items. At one item the rule with the lowest number is told.
+pub fn flatten(alloc: Global, p: &Program) -> Result<FlatModel, FlatFault>
+    ensures closed { IfOk result IsClosedModel }
+    ensures no_main { IsErrOf result (record { rule = NoMain; item = 0 }) ↔ (find_module (program_tree p.now) (codes "main") ≡ None) }
+{
+    match main_place(p.modules.as_slice()) {
+        Some(main) => flatten_from(alloc, p, main),
+        None => Err(FlatFault {
+            rule: Rule::NoMain,
+            item: 0,
+        }),
+    }
+}
+
+/// The flat model of a program whose module `main` stands at a place.
+fn flatten_from(alloc: Global, p: &Program, main: usize) -> Result<FlatModel, FlatFault>
+    ensures closed { IfOk result IsClosedModel }
+    ensures fault { IfErr result IsPastMain }
+{
+    let modules = Modules::read(alloc, p, main)?;
+    let walk = Walk::whole(alloc, &modules)?;
+    let (spots, variables) = walk.into_parts();
+    let scene = Scene::of_instances(alloc, modules, spots)?;
+    let needs = Needs::of_scene(alloc, &scene)?;
+    judge(alloc, &scene, &needs)?;
+    build(alloc, &scene, &needs, variables)
+}
+
+/// An expression at `main`, over the numbers of the program's flat model. It may have no `next` and read
+/// no input. The fault's item is 0.
+pub fn resolve_top(
+    alloc: Global,
+    p: &Program,
+    m: &FlatModel,
+    e: &Expr<Dotted>,
+) -> Result<Expr<Flat>, FlatFault>
+    ensures shape { IfOk result (λ made. shape made ≡ shape e.now) }
+    ensures closed { IfOk result (λ made. is_closed (bounds_of m.now) made ≡ true) }
+{
+    resolve_at(alloc, p, m, 0, false, e)
+}
+
+/// An expression as the value of a DEFINE of an instance, over the numbers of the program's flat model. It
+/// may have no `next`, and read inputs only where `inputs` says so. The fault's item is 0.
+pub fn resolve_at(
+    alloc: Global,
+    p: &Program,
+    m: &FlatModel,
+    instance: u32,
+    inputs: bool,
+    e: &Expr<Dotted>,
+) -> Result<Expr<Flat>, FlatFault>
+    ensures shape { IfOk result (λ made. shape made ≡ shape e.now) }
+    ensures closed { IfOk result (λ made. is_closed (bounds_of m.now) made ≡ true) }
+{
+    let Some(main) = main_place(p.modules.as_slice()) else {
+        return Err(FlatFault {
+            rule: Rule::NoMain,
+            item: 0,
+        });
+    };
+    let modules = Modules::read(alloc, p, main)?;
+    let (spots, _variables) = Walk::whole(alloc, &modules)?.into_parts();
+    let scene = Scene::of_instances(alloc, modules, spots)?;
+    let needs = Needs::of_scene(alloc, &scene)?;
+    let source = Source {
+        spot: instance as usize,
+        item: 0,
+        bounds: all_of(m),
+    };
+    let judged = judge_value(alloc, &scene, &needs, source.spot, e)?;
+    if let Some(rule) = rule_at(judged, inputs) {
+        return Err(FlatFault { rule, item: 0 });
+    }
+    resolve(alloc, &scene, &needs, source, e)
+}
+
+/// How many things an expression of a model can name.
+fn all_of(m: &FlatModel) -> Bounds
+    ensures { result ≡ bounds_of m.now }
+{
+    Bounds {
+        variables: m.variables.len(),
+        symbols: m.symbols.len(),
+        definitions: m.definitions.len(),
+    }
+}
+
+/// The first rule that an expression breaks as the value of a DEFINE.
+fn rule_at(judged: Judged, inputs: bool) -> Option<Rule>
+    ensures { result ≡ first_of ((judged.no_value, NoSuchName) ∷ (judged.next, NextHere) ∷ (judged.input && not inputs, InputHere) ∷ []) }
+{
+    if judged.no_value {
+        Some(Rule::NoSuchName)
+    } else if judged.next {
+        Some(Rule::NextHere)
+    } else if judged.input && !inputs {
+        Some(Rule::InputHere)
+    } else {
+        None
+    }
+}

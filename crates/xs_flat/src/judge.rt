@@ -1,0 +1,330 @@
+//! The rules of names, targets and moments, tried by instances, then items, then numbers.
+
+ghost use Rattle.std.specs.Prelude.{◌≡◌, ◌∷◌, [], IfOk, IfErr};
+ghost use Rattle.xs_flat.specs.Faults.{first_of, IsPastMain, IsRulePastMain};
+ghost use Rattle.xs_flat.specs.declared.fault.Rule.TheVariants.{NoSuchName, DefineLoop, NextHere, InputHere};
+
+use crate::fault::{FlatFault, Rule};
+use crate::items::Item;
+use crate::model::Role;
+use crate::modules::Local;
+use crate::names::{Formal, Scene};
+use crate::needs::Needs;
+use crate::uses::Uses;
+use crate::walk::Meaning;
+use indexmap::IndexMap;
+use std::alloc::Global;
+use xs_tree::{Assignment, Declared, Expr, Moment};
+use xs_value::{Dotted, Name, OutOfMemory};
+
+/// The moments of which the assignments so far speak, for one target.
+#[derive(Clone, Copy)]
+struct Times {
+    always: bool,
+    first: bool,
+    after: bool,
+}
+
+/// What may be wrong with a value, wherever it stands: a name that means nothing or an instance, `next`,
+/// `next` under another, an input, and an input under `next`.
+#[derive(Clone, Copy)]
+pub(crate) struct Judged {
+    pub no_value: bool,
+    pub next: bool,
+    pub nested_next: bool,
+    pub input: bool,
+    pub next_input: bool,
+}
+
+/// The first fault of the items of all instances, or Ok where there is none.
+pub(crate) fn judge(alloc: Global, scene: &Scene<'_>, needs: &Needs) -> Result<(), FlatFault>
+    ensures { IfErr result IsPastMain }
+{
+    for spot in 0..scene.spots.len() {
+        judge_instance(alloc, scene, needs, spot)?;
+    }
+    Ok(())
+}
+
+fn judge_instance(
+    alloc: Global,
+    scene: &Scene<'_>,
+    needs: &Needs,
+    spot: usize,
+) -> Result<(), FlatFault>
+    ensures { IfErr result IsPastMain }
+{
+    let mut assigned = IndexMap::new(alloc);
+    for place in 0..scene.item_count(spot) {
+        if let Some((item, number)) = scene.item_at(spot, place) {
+            let rule = match item {
+                Item::Assigned(assignment) => {
+                    judge_assignment(alloc, scene, needs, spot, assignment, &mut assigned)?
+                }
+                _ => judge_item(alloc, scene, needs, spot, place, item)?,
+            };
+            if let Some(rule) = rule {
+                return Err(FlatFault { rule, item: number });
+            }
+        }
+    }
+    Ok(())
+}
+
+/// The first rule that an item other than an assignment breaks at an instance.
+fn judge_item(
+    alloc: Global,
+    scene: &Scene<'_>,
+    needs: &Needs,
+    spot: usize,
+    place: usize,
+    item: Item<'_>,
+) -> Result<Option<Rule>, OutOfMemory>
+    ensures { IfOk result IsRulePastMain }
+{
+    match item {
+        Item::Declared(_, decl) => match (&decl.what, scene.own(spot, place)) {
+            (Declared::Instance(_, actuals), Meaning::Instance(inner)) => {
+                judge_actuals(alloc, scene, needs, spot, inner, actuals.as_slice())
+            }
+            _ => Ok(None),
+        },
+        Item::Defined(define) => {
+            let judged = judge_value(alloc, scene, needs, spot, &define.value)?;
+            let circle = needs.is_on_meaning_circle(scene.own(spot, place));
+            Ok(rule_of_definition(judged, circle))
+        }
+        Item::Init(e) | Item::Invar(e) => {
+            Ok(rule_of_now(judge_value(alloc, scene, needs, spot, e)?))
+        }
+        Item::Trans(e) => Ok(rule_of_step(judge_value(alloc, scene, needs, spot, e)?)),
+        Item::Assigned(_) | Item::Constants(_) => Ok(None),
+    }
+}
+
+fn rule_of_definition(value: Judged, on_circle: bool) -> Option<Rule>
+    ensures { result ≡ first_of ((value.no_value, NoSuchName) ∷ (on_circle, DefineLoop) ∷ (value.next, NextHere) ∷ []) }
+{
+    if value.no_value {
+        Some(Rule::NoSuchName)
+    } else if on_circle {
+        Some(Rule::DefineLoop)
+    } else if value.next {
+        Some(Rule::NextHere)
+    } else {
+        None
+    }
+}
+
+/// The first rule that a value breaks which speaks of one moment alone.
+fn rule_of_now(now: Judged) -> Option<Rule>
+    ensures { result ≡ first_of ((now.no_value, NoSuchName) ∷ (now.next, NextHere) ∷ (now.input, InputHere) ∷ []) }
+{
+    if now.no_value {
+        Some(Rule::NoSuchName)
+    } else if now.next {
+        Some(Rule::NextHere)
+    } else if now.input {
+        Some(Rule::InputHere)
+    } else {
+        None
+    }
+}
+
+/// The first rule that a value breaks which speaks of a moment and the one after it.
+fn rule_of_step(step: Judged) -> Option<Rule>
+    ensures { result ≡ first_of ((step.no_value, NoSuchName) ∷ (step.nested_next, NextHere) ∷ (step.next_input, InputHere) ∷ []) }
+{
+    if step.no_value {
+        Some(Rule::NoSuchName)
+    } else if step.nested_next {
+        Some(Rule::NextHere)
+    } else if step.next_input {
+        Some(Rule::InputHere)
+    } else {
+        None
+    }
+}
+
+/// The first rule that an assignment breaks at an instance, after those that stand in `assigned`.
+fn judge_assignment<'a>(
+    alloc: Global,
+    scene: &Scene<'_>,
+    needs: &Needs,
+    spot: usize,
+    assignment: &'a Assignment,
+    assigned: &mut IndexMap<&'a [u8], Times>,
+) -> Result<Option<Rule>, OutOfMemory>
+    ensures { IfOk result IsRulePastMain }
+{
+    let judged = judge_value(alloc, scene, needs, spot, &assignment.value)?;
+    if judged.no_value {
+        return Ok(Some(Rule::NoSuchName));
+    }
+    let [target] = assignment.target.parts() else {
+        return Ok(Some(Rule::NotATarget));
+    };
+    if !is_target(scene.local_meaning(spot, target), assignment.when) {
+        return Ok(Some(Rule::NotATarget));
+    }
+    if !note_assigned(assigned, target.text(), assignment.when)? {
+        return Ok(Some(Rule::DoubleAssign));
+    }
+    Ok(match assignment.when {
+        Moment::Always | Moment::First => rule_of_now(judged),
+        Moment::After => rule_of_step(judged),
+    })
+}
+
+/// Whether a variable may be assigned: a state variable always, a frozen one at the first moment.
+fn is_target(meaning: Meaning, when: Moment) -> bool {
+    match meaning {
+        Meaning::Variable { role, .. } => match role {
+            Role::State => true,
+            Role::Frozen => when == Moment::First,
+            Role::Input => false,
+        },
+        _ => false,
+    }
+}
+
+/// Notes an assignment. The answer says whether no earlier one speaks of the same time.
+fn note_assigned<'a>(
+    assigned: &mut IndexMap<&'a [u8], Times>,
+    target: &'a [u8],
+    when: Moment,
+) -> Result<bool, OutOfMemory> {
+    let before = match assigned.get(target) {
+        Some(times) => *times,
+        None => Times {
+            always: false,
+            first: false,
+            after: false,
+        },
+    };
+    let times = Times {
+        always: before.always || when == Moment::Always,
+        first: before.first || when == Moment::First,
+        after: before.after || when == Moment::After,
+    };
+    assigned.insert(target, times)?;
+    Ok(match when {
+        Moment::Always => !before.always && !before.first && !before.after,
+        Moment::First => !before.always && !before.first,
+        Moment::After => !before.always && !before.after,
+    })
+}
+
+/// The first rule that the actuals of a declaration break.
+fn judge_actuals(
+    alloc: Global,
+    scene: &Scene<'_>,
+    needs: &Needs,
+    spot: usize,
+    inner: usize,
+    actuals: &[Expr<Dotted>],
+) -> Result<Option<Rule>, OutOfMemory>
+    ensures { IfOk result IsRulePastMain }
+{
+    let mut no_value = false;
+    let mut circle = false;
+    let mut next = false;
+    for (formal, actual) in actuals.iter().enumerate() {
+        match scene.formal(inner, formal) {
+            Formal::Means(Meaning::Nothing) => no_value = true,
+            Formal::Circle => circle = true,
+            Formal::Means(meaning) => {
+                circle = circle || is_actual(actual) && needs.is_on_meaning_circle(meaning);
+            }
+            Formal::Unknown | Formal::Begun => {}
+        }
+        if is_actual(actual) {
+            let judged = judge_value(alloc, scene, needs, spot, actual)?;
+            no_value = no_value || judged.no_value;
+            next = next || judged.next;
+        }
+    }
+    Ok(if no_value {
+        Some(Rule::NoSuchName)
+    } else if circle {
+        Some(Rule::DefineLoop)
+    } else if next {
+        Some(Rule::NextHere)
+    } else {
+        None
+    })
+}
+
+/// Whether an actual is more than a plain name, so that it has a definition of its own.
+fn is_actual(value: &Expr<Dotted>) -> bool {
+    match value {
+        Expr::Leaf(_) => false,
+        _ => true,
+    }
+}
+
+/// What is wrong with a value at an instance.
+pub(crate) fn judge_value(
+    alloc: Global,
+    scene: &Scene<'_>,
+    needs: &Needs,
+    spot: usize,
+    value: &Expr<Dotted>,
+) -> Result<Judged, OutOfMemory> {
+    let uses = Uses::of_value(alloc, value)?;
+    let mut judged = Judged {
+        no_value: false,
+        next: uses.has_next,
+        nested_next: uses.nested_next,
+        input: false,
+        next_input: false,
+    };
+    for each in uses.names.as_slice() {
+        let meaning = scene.meaning(spot, each.name());
+        let input = needs.is_input(meaning);
+        judged.no_value = judged.no_value || is_no_value(meaning);
+        judged.input = judged.input || input;
+        judged.next_input = judged.next_input || input && each.is_next();
+    }
+    Ok(judged)
+}
+
+/// Whether a name with this meaning has no value. A name that meets a loop is not judged.
+fn is_no_value(meaning: Meaning) -> bool {
+    match meaning {
+        Meaning::Nothing | Meaning::Instance(_) => true,
+        _ => false,
+    }
+}
+
+impl Needs {
+    /// Whether a meaning is a definition that is needed by itself.
+    fn is_on_meaning_circle(&self, meaning: Meaning) -> bool {
+        match meaning {
+            Meaning::Definition(definition) => self.is_on_circle(definition),
+            _ => false,
+        }
+    }
+
+    /// Whether a meaning is an input, or a definition that reads one.
+    fn is_input(&self, meaning: Meaning) -> bool {
+        match meaning {
+            Meaning::Variable {
+                role: Role::Input,
+                ..
+            } => true,
+            Meaning::Definition(definition) => self.is_reading_input(definition),
+            _ => false,
+        }
+    }
+}
+
+impl Scene<'_> {
+    /// What a name of an instance's own module declares or defines there; a formal is nothing of its own.
+    fn local_meaning(&self, spot: usize, name: &Name) -> Meaning {
+        match self.local(spot, name) {
+            Some(Local::Item(place)) => self.own(spot, place),
+            _ => Meaning::Nothing,
+        }
+    }
+}

@@ -1,0 +1,46 @@
+//! Programs as flat models: one list of variables, and formulas over them.
+//!
+//! A program is modules that declare instances of one another. [`flatten`] goes through all instances
+//! from `main` on and makes of them one list of variables, one of definitions and three of formulas,
+//! whose names are numbers ([`Flat`]); or it tells the first of fourteen rules that the program breaks,
+//! and the item that breaks it ([`FlatFault`]). A name of a formula is looked up once, here: the layers
+//! above never see a dotted name or an instance's parameters. [`resolve_top`] and [`resolve_at`] do the
+//! same for an expression that is not part of the program.
+//!
+//! The passes stand one to a file, in this order: `modules` (the rules of modules and their names),
+//! `walk` (instances, variables and limits), `symbols`, `names` and `formals` (what names mean),
+//! `needs` (the order of definitions, circles, and what reads inputs), `judge` (all other rules) and
+//! `build` with `resolve`. Each is linear in what it reads or makes.
+//!
+//! ```text
+//! // MODULE main VAR on : boolean; ASSIGN next(on) := !on;
+//! let model = flatten(alloc, &program)?;
+//! model.trans.at(0).value    // next(Var(0)) in !Var(0)
+//! ```
+#![tactic(auto)]
+
+mod bounds;
+mod build;
+mod fault;
+mod flattening;
+mod formals;
+mod items;
+mod judge;
+mod model;
+mod modules;
+mod names;
+mod needs;
+mod resolve;
+mod symbols;
+mod uses;
+mod walk;
+
+pub use bounds::Bounds;
+pub use fault::{FlatFault, Rule};
+pub use flattening::{flatten, resolve_at, resolve_top};
+pub use model::{
+    Flat, FlatList, FlatModel, Formula, Instance, InstanceList, Role, Variable, VariableList,
+};
+
+#[cfg(test)]
+mod tests;

@@ -1,0 +1,241 @@
+//! What names mean. The formals are answered first, once and for all; then a look-up goes through the
+//! parts of a name, one after another.
+
+use crate::items::{Item, number_of};
+use crate::modules::{Local, Modules};
+use crate::symbols::symbols_of;
+use crate::walk::{Meaning, Spot};
+use indexmap::IndexSet;
+use std::alloc::Global;
+use xs_tree::{Declared, Expr};
+use xs_value::{Dotted, Name, OutOfMemory};
+
+/// What is known of a formal: nothing yet, that its look-up has begun, what it means, or that its look-up
+/// comes back to itself.
+#[derive(Clone, Copy, PartialEq, Eq)]
+pub(crate) enum Formal {
+    Unknown,
+    Begun,
+    Means(Meaning),
+    Circle,
+}
+
+/// A define, or an actual that is not a plain name: the instance that its names are looked up in, its
+/// item, and its value.
+#[derive(Clone, Copy)]
+pub(crate) struct Defined<'a> {
+    pub spot: usize,
+    pub item: u32,
+    pub value: &'a Expr<Dotted>,
+}
+
+/// All that a name can mean at some instance. `definitions` stand by instances, then items.
+#[derive(Drop)]
+pub(crate) struct Scene<'a> {
+    pub modules: Modules<'a>,
+    pub spots: Vec<Spot<'a>>,
+    pub symbols: IndexSet<&'a [u8]>,
+    pub definitions: Vec<Defined<'a>>,
+    pub formals: Vec<Vec<Formal>>,
+}
+
+/// One step of a look-up: what a part means, or the formal that it is.
+pub(crate) enum Step {
+    Means(Meaning),
+    Formal(usize),
+}
+
+impl<'a> Scene<'a> {
+    /// The scene of these modules and instances.
+    pub(crate) fn of_instances(
+        alloc: Global,
+        modules: Modules<'a>,
+        spots: Vec<Spot<'a>>,
+    ) -> Result<Scene<'a>, OutOfMemory> {
+        let symbols = symbols_of(alloc, &modules)?;
+        let mut scene = Scene {
+            modules,
+            spots,
+            symbols,
+            definitions: Vec::new(alloc),
+            formals: Vec::new(alloc),
+        };
+        scene.add_formals(alloc)?;
+        scene.add_definitions()?;
+        scene.answer_formals(alloc)?;
+        Ok(scene)
+    }
+
+    /// Makes room for the formals of each instance.
+    fn add_formals(&mut self, alloc: Global) -> Result<(), OutOfMemory> {
+        for spot in self.spots.as_slice() {
+            let formals = Vec::from_elem(alloc, Formal::Unknown, spot.actuals.len())?;
+            self.formals.push(formals)?;
+        }
+        Ok(())
+    }
+
+    /// Numbers the defines and the actuals of all instances.
+    fn add_definitions(&mut self) -> Result<(), OutOfMemory> {
+        for spot in 0..self.spots.len() {
+            let items = self.item_count(spot);
+            for place in 0..items {
+                self.add_definitions_of(spot, place)?;
+            }
+        }
+        Ok(())
+    }
+
+    /// The number of items of an instance's module.
+    pub(crate) fn item_count(&self, spot: usize) -> usize {
+        match self.spots.as_slice().get(spot) {
+            Some(spot) => spot.own.len(),
+            None => 0,
+        }
+    }
+
+    /// Numbers the define of an item, or the actuals that are not plain names.
+    fn add_definitions_of(&mut self, spot: usize, place: usize) -> Result<(), OutOfMemory> {
+        let Some((item, number)) = self.item_at(spot, place) else {
+            return Ok(());
+        };
+        match item {
+            Item::Defined(define) => {
+                let made = self.definitions.len();
+                self.definitions.push(Defined {
+                    spot,
+                    item: number,
+                    value: &define.value,
+                })?;
+                self.set_own(spot, place, Meaning::Definition(made));
+                Ok(())
+            }
+            Item::Declared(_, decl) => match (&decl.what, self.own(spot, place)) {
+                (Declared::Instance(_, actuals), Meaning::Instance(inner)) => {
+                    self.add_actuals(spot, number, inner, actuals.as_slice())
+                }
+                _ => Ok(()),
+            },
+            _ => Ok(()),
+        }
+    }
+
+    fn add_actuals(
+        &mut self,
+        spot: usize,
+        item: u32,
+        inner: usize,
+        actuals: &'a [Expr<Dotted>],
+    ) -> Result<(), OutOfMemory> {
+        for (formal, value) in actuals.iter().enumerate() {
+            if let Expr::Leaf(_) = value {
+                continue;
+            }
+            let made = self.definitions.len();
+            self.definitions.push(Defined { spot, item, value })?;
+            self.set_formal(inner, formal, Formal::Means(Meaning::Definition(made)));
+        }
+        Ok(())
+    }
+
+    /// The item at a place of an instance's module, with its number.
+    pub(crate) fn item_at(&self, spot: usize, place: usize) -> Option<(Item<'a>, u32)> {
+        let module = self.spots.as_slice().get(spot)?.module;
+        let names = self.modules.list.as_slice().get(module)?;
+        let numbered = names.items.as_slice().get(place)?;
+        Some((numbered.item, numbered.number))
+    }
+
+    /// What the item at a place means at an instance.
+    pub(crate) fn own(&self, spot: usize, place: usize) -> Meaning {
+        match self.spots.as_slice().get(spot) {
+            Some(spot) => match spot.own.as_slice().get(place) {
+                Some(meaning) => *meaning,
+                None => Meaning::Nothing,
+            },
+            None => Meaning::Nothing,
+        }
+    }
+
+    fn set_own(&mut self, spot: usize, place: usize, meaning: Meaning) {
+        if let Some(spot) = self.spots.get_mut(spot) {
+            if let Some(own) = spot.own.get_mut(place) {
+                *own = meaning;
+            }
+        }
+    }
+
+    /// What is known of an instance's formal.
+    pub(crate) fn formal(&self, spot: usize, formal: usize) -> Formal {
+        match self.formals.as_slice().get(spot) {
+            Some(formals) => match formals.as_slice().get(formal) {
+                Some(known) => *known,
+                None => Formal::Means(Meaning::Nothing),
+            },
+            None => Formal::Means(Meaning::Nothing),
+        }
+    }
+
+    pub(crate) fn set_formal(&mut self, spot: usize, formal: usize, known: Formal) {
+        if let Some(formals) = self.formals.get_mut(spot) {
+            if let Some(place) = formals.get_mut(formal) {
+                *place = known;
+            }
+        }
+    }
+
+    /// What a part of a name means at an instance; `last` says that no part comes after it.
+    pub(crate) fn step(&self, spot: usize, part: &Name, last: bool) -> Step {
+        match self.local(spot, part) {
+            Some(Local::Formal(formal)) => Step::Formal(formal),
+            Some(Local::Item(place)) => Step::Means(self.own(spot, place)),
+            None if last => Step::Means(self.symbol(part)),
+            None => Step::Means(Meaning::Nothing),
+        }
+    }
+
+    pub(crate) fn local(&self, spot: usize, part: &Name) -> Option<Local> {
+        let module = self.spots.as_slice().get(spot)?.module;
+        let names = self.modules.list.as_slice().get(module)?;
+        Some(*names.locals.get(part.text())?)
+    }
+
+    fn symbol(&self, part: &Name) -> Meaning {
+        match self.symbols.get_index_of(part.text()) {
+            Some(place) => match number_of(place) {
+                Ok(number) => Meaning::Symbol(number),
+                Err(OutOfMemory) => Meaning::Nothing,
+            },
+            None => Meaning::Nothing,
+        }
+    }
+
+    /// What a name means at an instance, once all formals are answered.
+    pub(crate) fn meaning(&self, spot: usize, name: &Dotted) -> Meaning {
+        let mut here = spot;
+        let mut rest = name.parts();
+        while let [part, more @ ..] = rest {
+            let last = more.is_empty();
+            let found = match self.step(here, part, last) {
+                Step::Means(meaning) => meaning,
+                Step::Formal(formal) => told(self.formal(here, formal)),
+            };
+            match found {
+                found if last => return found,
+                Meaning::Instance(inner) => here = inner,
+                Meaning::Loop => return Meaning::Loop,
+                _ => return Meaning::Nothing,
+            }
+            rest = more;
+        }
+        Meaning::Nothing
+    }
+}
+
+/// What a formal means. One on a circle, or not answered, is part of a loop.
+pub(crate) fn told(known: Formal) -> Meaning {
+    match known {
+        Formal::Means(meaning) => meaning,
+        Formal::Circle | Formal::Begun | Formal::Unknown => Meaning::Loop,
+    }
+}

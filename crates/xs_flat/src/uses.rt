@@ -1,0 +1,106 @@
+//! The names of an expression.
+
+ghost use Rattle.std.specs.Prelude.{◌≡◌};
+
+use std::alloc::Global;
+use std::marker::Model;
+use xs_tree::Expr;
+use xs_value::{Dotted, OutOfMemory};
+
+/// A name of an expression, and whether it stands under `next`.
+#[derive(Drop)]
+pub(crate) struct Use<'a> {
+    name: &'a Dotted,
+    next: bool,
+}
+
+impl<'a> Model for Use<'a> {
+    ghost use Rattle.std.specs.Prelude.{List, ℕ, Bool};
+
+    ghost Value = { List (List ℕ) × Bool };
+
+    ghost view = { λ each. (each.name.now, each.next) };
+}
+
+impl<'a> Use<'a> {
+    /// The name.
+    pub(crate) fn name(&self) -> &'a Dotted
+        ensures { result.now ≡ self.now.0 }
+    {
+        self.name
+    }
+
+    /// Whether it stands under `next`.
+    pub(crate) fn is_next(&self) -> bool
+        ensures { result ≡ self.now.1 }
+    {
+        self.next
+    }
+}
+
+/// The names of an expression in written order, and where it has `next`: somewhere, and under another.
+#[derive(Drop)]
+pub(crate) struct Uses<'a> {
+    pub names: Vec<Use<'a>>,
+    pub has_next: bool,
+    pub nested_next: bool,
+}
+
+impl<'a> Uses<'a> {
+    /// The names of an expression.
+    pub(crate) fn of_value(alloc: Global, e: &'a Expr<Dotted>) -> Result<Uses<'a>, OutOfMemory> {
+        let mut uses = Uses {
+            names: Vec::new(alloc),
+            has_next: false,
+            nested_next: false,
+        };
+        uses.add(e, false)?;
+        Ok(uses)
+    }
+
+    #[cycle(uses)]
+    fn add(&mut self, e: &'a Expr<Dotted>, next: bool) -> Result<(), OutOfMemory> {
+        match e {
+            Expr::Truth(_) | Expr::Number(_) | Expr::Span(_, _) => Ok(()),
+            Expr::Leaf(name) => Ok(self.names.push(Use { name, next })?),
+            Expr::Not(a) | Expr::Negate(a) => self.add(a, next),
+            Expr::Next(a) => {
+                self.has_next = true;
+                self.nested_next = self.nested_next || next;
+                self.add(a, true)
+            }
+            Expr::Binary(_, a, b) => {
+                self.add(a, next)?;
+                self.add(b, next)
+            }
+            Expr::Choice(c, a, b) => {
+                self.add(c, next)?;
+                self.add(a, next)?;
+                self.add(b, next)
+            }
+            Expr::Case(branches) => self.add_branches(branches.as_slice(), next),
+            Expr::SetOf(members) => self.add_members(members.as_slice(), next),
+        }
+    }
+
+    #[cycle(uses)]
+    fn add_members(&mut self, members: &'a [Expr<Dotted>], next: bool) -> Result<(), OutOfMemory> {
+        for member in members {
+            self.add(member, next)?;
+        }
+        Ok(())
+    }
+
+    #[cycle(uses)]
+    fn add_branches(
+        &mut self,
+        branches: &'a [(Expr<Dotted>, Expr<Dotted>)],
+        next: bool,
+    ) -> Result<(), OutOfMemory> {
+        for (condition, value) in branches {
+            self.add(condition, next)?;
+            self.add(value, next)?;
+        }
+        Ok(())
+    }
+}
