@@ -28,3 +28,6 @@ pub use value::{Valuation, Value};
 
 /// A list of bytes.
 pub type ByteList = Items<u8>;
+
+#[cfg(test)]
+mod tests;
