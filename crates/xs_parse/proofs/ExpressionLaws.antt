@@ -3,7 +3,7 @@ use Rattle.std.proofs.lemmas.List.{length-map}
 use Rattle.std.proofs.lemmas.Option.{slice_get-map}
 use Rattle.std.specs.Option.{option_map}
 use Rattle.xs_parse.specs.declared.fault.ParseFault.{ParseFault}
-use Rattle.std.proofs.Common.{◌≡◌, ℕ, zero, suc, ◌+◌, ◌<◌, ◌≤◌, Bool, true, false, List, [], ◌∷◌, ◌++◌, Option, Some, None, length, take, refl, sym, ap, ◌∙◌, subst, arith, append-nil}
+use Rattle.std.proofs.Common.{◌≡◌, ℕ, zero, suc, ◌<◌, ◌≤◌, Bool, true, false, List, [], ◌∷◌, Option, Some, None, length, refl, sym, ap, ◌∙◌, subst, arith}
 use Rattle.std.specs.Prelude.{nat_lt, slice_get}
 use Rattle.std.proofs.lemmas.Bool.Decides.{nat_tests}
 use Rattle.xs_lexer.specs.declared.token.Token.{Token}
@@ -14,11 +14,11 @@ use Rattle.xs_tree.specs.Lexemes.{Lexeme, lexemes_of}
 use Rattle.xs_tree.specs.SpellsProgram.{SpellsExpr}
 use Rattle.xs_tree.specs.Nesting.{nesting_of}
 use Rattle.xs_tree.specs.Bytes.{BytesSpellExpr, HasDepths}
-use Rattle.xs_parse.specs.Recognise.{State, stuck, run, is_stuck, is_whole, start}
+use Rattle.xs_parse.specs.Recognise.{run, is_stuck, is_whole, start}
 use Rattle.xs_parse.specs.Build.{built}
 use Rattle.xs_parse.specs.Extents.{reach_of, is_deep}
 use Rattle.xs_parse.specs.Places.{lexeme_at}
-use Rattle.xs_parse.specs.Stops.{IsExpression, IsFrontOf, StopsAt, Unfinished, IsTooDeep, FaultMeans, is_left_out, stop_fault}
+use Rattle.xs_parse.specs.Stops.{IsExpression, IsFrontOf, Unfinished, IsTooDeep, FaultMeans, is_left_out, stop_fault}
 use Rattle.xs_parse.proofs.Rest.{accepted_spelled}
 use Rattle.xs_parse.proofs.Accepted.{spelled_accepted}
 use Rattle.xs_parse.proofs.Exact.{goes_on, front_goes_on}

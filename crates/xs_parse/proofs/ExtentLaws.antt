@@ -10,12 +10,9 @@ use Rattle.xs_tree.specs.Spells.{at_expr, Spells}
 use Rattle.xs_tree.specs.Nesting.{nesting_of}
 use Rattle.xs_parse.specs.Recognise.{Role, State, stuck, step, run, role_of, is_stuck, is_whole, start}
 use Rattle.xs_parse.specs.Depth.{depth, peak}
-use Rattle.xs_parse.specs.Extents.{reach_of, is_deep}
+use Rattle.xs_parse.specs.Extents.{reach_of, is_deep, ends_whole}
 use Rattle.xs_parse.proofs.Accepted.{run_stuck, spelled_accepted}
 use Rattle.xs_parse.proofs.Peaks.{peak_nesting}
-
-pub run_more : (st : State) (ts : List Lexeme) (i : ℕ) (d : Lexeme) → i < length ts → run st (drop i ts) ≡ run (step st (role_of (get_or ts i d))) (drop (i + 1) ts)
-run_more st ts i d h = ap (run st) (drop_more ts i d h)
 
 pub reach_more : (st : State) (ts : List Lexeme) (i : ℕ) (d : Lexeme) → i < length ts →
     reach_of st (drop i ts) ≡ (if is_stuck (step st (role_of (get_or ts i d))) then 0 else reach_of (step st (role_of (get_or ts i d))) (drop (i + 1) ts) + 1)
@@ -25,10 +22,9 @@ pub deep_more : (st : State) (ts : List Lexeme) (i : ℕ) (d : Lexeme) → i < l
     is_deep st (drop i ts) ≡ (if is_stuck (step st (role_of (get_or ts i d))) then false else (nat_lt 1000 (depth (step st (role_of (get_or ts i d)))) || is_deep (step st (role_of (get_or ts i d))) (drop (i + 1) ts)))
 deep_more st ts i d h = ap (is_deep st) (drop_more ts i d h)
 
--- where no list goes on, no list is whole
-pub stuck_whole : (st : State) (ts : List Lexeme) → is_stuck st ≡ true → is_whole (run st ts) ≡ false
-stuck_whole stuck ts h = ap is_whole (run_stuck ts)
-stuck_whole st ts h = cc
+pub whole_more : (st : State) (ts : List Lexeme) (i : ℕ) (d : Lexeme) → i < length ts →
+    ends_whole st (drop i ts) ≡ (if is_stuck (step st (role_of (get_or ts i d))) then is_whole st else ends_whole (step st (role_of (get_or ts i d))) (drop (i + 1) ts))
+whole_more st ts i d h = ap (ends_whole st) (drop_more ts i d h)
 
 stuck_run : (st : State) (ts : List Lexeme) → is_stuck st ≡ true → is_stuck (run st ts) ≡ true
 stuck_run stuck ts h = ap is_stuck (run_stuck ts)
@@ -74,6 +70,65 @@ reached_stops st (t ∷ ts) h = go (is_stuck (step st (role_of t))) refl h (reac
     go true e h rest = e
     go false e h rest = rw add-one (rest (omega (arith, h)))
 
+-- the lexemes that are reached are whole where the last state is
+pub reached_whole : (st : State) (ts : List Lexeme) → ends_whole st ts ≡ is_whole (run st (take (reach_of st ts) ts))
+reached_whole st [] = refl
+reached_whole st (t ∷ ts) = go (is_stuck (step st (role_of t))) refl (reached_whole (step st (role_of t)) ts)
+  where
+    go : (b : Bool) → is_stuck (step st (role_of t)) ≡ b → ends_whole (step st (role_of t)) ts ≡ is_whole (run (step st (role_of t)) (take (reach_of (step st (role_of t)) ts) ts)) →
+        (if b then is_whole st else ends_whole (step st (role_of t)) ts) ≡ is_whole (run st (take (if b then 0 else reach_of (step st (role_of t)) ts + 1) (t ∷ ts)))
+    go true e rest = refl
+    go false e rest = rw add-one rest
+
+-- and all of them where all are reached
+pub all_whole : (st : State) (ts : List Lexeme) → length ts ≤ reach_of st ts → ends_whole st ts ≡ is_whole (run st ts)
+all_whole st [] h = refl
+all_whole st (t ∷ ts) h = go (is_stuck (step st (role_of t))) h (all_whole (step st (role_of t)) ts)
+  where
+    go : (b : Bool) → length (t ∷ ts) ≤ (if b then 0 else reach_of (step st (role_of t)) ts + 1) →
+        (length ts ≤ reach_of (step st (role_of t)) ts → ends_whole (step st (role_of t)) ts ≡ is_whole (run (step st (role_of t)) ts)) →
+        (if b then is_whole st else ends_whole (step st (role_of t)) ts) ≡ is_whole (run st (t ∷ ts))
+    go true h rest = absurd (omega (arith, h))
+    go false h rest = rest (omega (arith, h))
+
+-- what stands before a list at which an expression ends: nothing, or a lexeme with which it does not go on
+unfoldable pub Halts : State → List Lexeme → Type 0
+Halts st [] = Unit {0}
+Halts st (t ∷ ts) = is_stuck (step st (role_of t)) ≡ true
+
+-- where the first list goes on and the second does not go on after it, all of the first is reached
+pub reach_before : (st : State) (xs r : List Lexeme) → is_stuck (run st xs) ≡ false → Halts (run st xs) r → reach_of st (xs ++ r) ≡ length xs
+unfolding Halts
+reach_before st [] [] on halts = refl
+reach_before st [] (t ∷ r) on halts = rw halts refl
+reach_before st (x ∷ xs) r on halts = go (is_stuck (step st (role_of x))) refl (reach_before (step st (role_of x)) xs r on halts)
+  where
+    go : (b : Bool) → is_stuck (step st (role_of x)) ≡ b → reach_of (step st (role_of x)) (xs ++ r) ≡ length xs → (if b then 0 else reach_of (step st (role_of x)) (xs ++ r) + 1) ≡ length (x ∷ xs)
+    go true e rest = let clash : true ≡ false = sym (stuck_run (step st (role_of x)) xs e) ∙ on in cc
+    go false e rest = omega (arith, rest)
+
+pub whole_before : (st : State) (xs r : List Lexeme) → is_stuck (run st xs) ≡ false → Halts (run st xs) r → ends_whole st (xs ++ r) ≡ is_whole (run st xs)
+unfolding Halts
+whole_before st [] [] on halts = refl
+whole_before st [] (t ∷ r) on halts = rw halts refl
+whole_before st (x ∷ xs) r on halts = go (is_stuck (step st (role_of x))) refl (whole_before (step st (role_of x)) xs r on halts)
+  where
+    go : (b : Bool) → is_stuck (step st (role_of x)) ≡ b → ends_whole (step st (role_of x)) (xs ++ r) ≡ is_whole (run (step st (role_of x)) xs) →
+        (if b then is_whole st else ends_whole (step st (role_of x)) (xs ++ r)) ≡ is_whole (run st (x ∷ xs))
+    go true e rest = let clash : true ≡ false = sym (stuck_run (step st (role_of x)) xs e) ∙ on in cc
+    go false e rest = rest
+
+pub deep_before : (st : State) (xs r : List Lexeme) → is_stuck (run st xs) ≡ false → Halts (run st xs) r → is_deep st (xs ++ r) ≡ is_deep st xs
+unfolding Halts
+deep_before st [] [] on halts = refl
+deep_before st [] (t ∷ r) on halts = rw halts refl
+deep_before st (x ∷ xs) r on halts = go (is_stuck (step st (role_of x))) refl (deep_before (step st (role_of x)) xs r on halts)
+  where
+    go : (b : Bool) → is_stuck (step st (role_of x)) ≡ b → is_deep (step st (role_of x)) (xs ++ r) ≡ is_deep (step st (role_of x)) xs →
+        (if b then false else (nat_lt 1000 (depth (step st (role_of x))) || is_deep (step st (role_of x)) (xs ++ r))) ≡ (if b then false else (nat_lt 1000 (depth (step st (role_of x))) || is_deep (step st (role_of x)) xs))
+    go true e rest = refl
+    go false e rest = ap (λ b. nat_lt 1000 (depth (step st (role_of x))) || b) rest
+
 peak_least : (s : State) (us : List Lexeme) → depth s ≤ peak s us
 peak_least s [] = omega arith
 peak_least s (u ∷ us) = omega arith
@@ -110,9 +165,8 @@ stops_deep st new ts i x r deep h is role path halts same =
     or_false true = refl
     or_false false = refl
 
-pub stops_whole : (st new : State) (ts : List Lexeme) (i : ℕ) (x : Lexeme) (r : Role) → i < length ts → x ≡ get_or ts i x → r ≡ role_of x → new ≡ step st r → is_stuck new ≡ true →
-    run start ts ≡ run st (drop i ts) → false ≡ is_whole (run start ts)
-stops_whole st new ts i x r h is role path halts same =
-    let here : is_stuck (step st (role_of (get_or ts i x))) ≡ true = ap (λ z. is_stuck (step st (role_of z))) (sym is) ∙ ap (λ z. is_stuck (step st z)) (sym role) ∙ ap is_stuck (sym path) ∙ halts in
-    let none = stuck_whole (step st (role_of (get_or ts i x))) (drop (i + 1) ts) here in
-    sym (ap is_whole (same ∙ run_more st ts i x h) ∙ none)
+pub stops_whole : (st new : State) (ts : List Lexeme) (i : ℕ) (x : Lexeme) (whole : Bool) (r : Role) → i < length ts → x ≡ get_or ts i x → r ≡ role_of x → new ≡ step st r → is_stuck new ≡ true →
+    ends_whole start ts ≡ ends_whole st (drop i ts) → whole ≡ is_whole st → whole ≡ ends_whole start ts
+stops_whole st new ts i x whole r h is role path halts same here =
+    let stops : is_stuck (step st (role_of (get_or ts i x))) ≡ true = ap (λ z. is_stuck (step st (role_of z))) (sym is) ∙ ap (λ z. is_stuck (step st z)) (sym role) ∙ ap is_stuck (sym path) ∙ halts in
+    sym (same ∙ whole_more st ts i x h ∙ ap (λ b. if b then is_whole st else ends_whole (step st (role_of (get_or ts i x))) (drop (i + 1) ts)) stops ∙ sym here)

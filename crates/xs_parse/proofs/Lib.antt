@@ -17,3 +17,10 @@ pub mod ExtentLaws
 pub mod ExpressionLaws
 pub mod FaultLaws
 pub mod ListLaws
+pub mod ReadLaws
+pub mod ListReads
+pub mod StopLaws
+pub mod SymbolStacks
+pub mod ProgramStops
+pub mod PartLaws
+pub mod PartReads

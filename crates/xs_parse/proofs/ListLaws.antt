@@ -13,7 +13,7 @@ use Rattle.xs_parse.specs.Recognise as machine
 use Rattle.xs_parse.specs.Predict.{taken, step, run, all_empty}
 use Rattle.xs_parse.specs.Formulas.{Sym, formula, more, again, expressions, live, is_semicolon, after_semicolon, formulas}
 use Rattle.xs_parse.specs.Places.{lexeme_at}
-use Rattle.xs_parse.specs.Stops.{IsFrontOf, StopsAt, Unfinished, FaultMeans, is_left_out, stop_fault}
+use Rattle.xs_parse.specs.Stops.{IsFrontOf, Unfinished, FaultMeans, is_left_out, stop_fault}
 use Rattle.xs_parse.specs.Lists.{IsExpressions, place_view, Fits, stepped, expected_after, Goes, Ends}
 use Rattle.xs_parse.specs.declared.list.Place.{Place}
 use Rattle.xs_parse.specs.declared.list.Place.TheVariants as p

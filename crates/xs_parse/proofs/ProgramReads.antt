@@ -36,7 +36,7 @@ among P (w ∷ ws) x all h = go (same_text w x) refl h (λ e. among P ws x all.1
     go true e h rec = subst P (same_text_equal w x e) all.0
     go false e h rec = rec h
 
-Marked : Mark → Lexeme → Type 0
+unfoldable pub Marked : Mark → Lexeme → Type 0
 Marked w_module t = t ≡ word (codes "MODULE")
 Marked w_var t = t ≡ word (codes "VAR")
 Marked w_ivar t = t ≡ word (codes "IVAR")
@@ -90,7 +90,7 @@ marked_word x =
     by_test (same_text x (codes "next")) P _ _ (λ e. same_word x (codes "next") e) (λ n14.
     by_test (is_reserved x) P no_mark a_name (λ e. tt) (λ e. (x, refl, e))))))))))))))))
 
-marked : (t : Lexeme) → Marked (mark_of t) t
+pub marked : (t : Lexeme) → Marked (mark_of t) t
 unfolding Marked
 marked (word x) = marked_word x
 marked (num n d) = (n, d, refl)
@@ -115,7 +115,7 @@ not_skipped x n = go (is_among skipped_words x) refl
     go true e = let clash : is_reserved x ≡ true = among (λ w. is_reserved w ≡ true) skipped_words x (refl, (refl, (refl, (refl, (refl, (refl, tt)))))) e in cc
     go false e = refl
 
-mark_of_name : (x : List ℕ) → is_reserved x ≡ false → mark_of (word x) ≡ a_name
+pub mark_of_name : (x : List ℕ) → is_reserved x ≡ false → mark_of (word x) ≡ a_name
 mark_of_name x n =
     rw (
       is_none_of x (codes "MODULE") refl n,
@@ -135,17 +135,17 @@ mark_of_name x n =
       n,
     ) refl
 
-mark_of_skipped : (x : List ℕ) → is_among skipped_words x ≡ true → mark_of (word x) ≡ w_skipped
+pub mark_of_skipped : (x : List ℕ) → is_among skipped_words x ≡ true → mark_of (word x) ≡ w_skipped
 mark_of_skipped x h = among (λ w. mark_of_word w ≡ w_skipped) skipped_words x (refl, (refl, (refl, (refl, (refl, (refl, tt)))))) h
 
-skipped_section : (x : List ℕ) → is_among skipped_words x ≡ true → is_among section_words x ≡ true
+pub skipped_section : (x : List ℕ) → is_among skipped_words x ≡ true → is_among section_words x ≡ true
 skipped_section x h = among (λ w. is_among section_words w ≡ true) skipped_words x (refl, (refl, (refl, (refl, (refl, (refl, tt)))))) h
 
 section_no_role : (x : List ℕ) → is_among section_words x ≡ true → role_of_word x ≡ no_role
 section_no_role x h = among (λ w. role_of_word w ≡ no_role) section_words x
     (refl, (refl, (refl, (refl, (refl, (refl, (refl, (refl, (refl, (refl, (refl, (refl, (refl, (refl, (refl, (refl, (refl, (refl, (refl, tt))))))))))))))))))) h
 
-abbrev begins_section : Mark → Bool
+abbrev pub begins_section : Mark → Bool
 begins_section w_module = true
 begins_section w_var = true
 begins_section w_ivar = true
@@ -159,7 +159,7 @@ begins_section w_trans = true
 begins_section w_skipped = true
 begins_section _ = false
 
-section_mark : (c : Mark) (t : Lexeme) → Marked c t → begins_section c ≡ true → is_section t ≡ true
+pub section_mark : (c : Mark) (t : Lexeme) → Marked c t → begins_section c ≡ true → is_section t ≡ true
 unfolding Marked
 section_mark w_skipped t m h = ap is_section m.1 ∙ skipped_section m.0 m.2
 section_mark w_module t m h = ap is_section m
@@ -1118,14 +1118,14 @@ completing s.skip = tt
 completing s.last_semicolon = inl refl
 
 -- what may follow
-abbrev ends_role : Role → Bool
+abbrev pub ends_role : Role → Bool
 ends_role machine.a_semicolon = true
 ends_role machine.a_comma = true
 ends_role machine.closes = true
 ends_role machine.no_role = true
 ends_role _ = false
 
-whole_stops : (st : State) (c : Role) → is_whole st ≡ true → ends_role c ≡ true → machine.step st c ≡ stuck
+pub whole_stops : (st : State) (c : Role) → is_whole st ≡ true → ends_role c ≡ true → machine.step st c ≡ stuck
 whole_stops (had e []) machine.a_semicolon h f = stops_semicolon e
   where
     stops_semicolon : (e : Ended) → machine.step (had e []) machine.a_semicolon ≡ stuck
@@ -1152,7 +1152,7 @@ whole_stops (had e []) machine.no_role h f = stops_none e
     stops_none by_other = refl
 whole_stops st c h f = cc
 
-section_ends : (t : Lexeme) → is_section t ≡ true → ends_role (role_of t) ≡ true
+pub section_ends : (t : Lexeme) → is_section t ≡ true → ends_role (role_of t) ≡ true
 section_ends (word x) h = ap ends_role (section_no_role x h)
 section_ends (num n d) h = cc
 section_ends (sign q) h = cc
@@ -1164,14 +1164,14 @@ role_ends s_comma t m h = ap (λ z. ends_role (role_of z)) m
 role_ends s_close t m h = ap (λ z. ends_role (role_of z)) m
 role_ends c t m h = section_ends t h
 
-abbrev is_sectional : Mark → Bool
+abbrev pub is_sectional : Mark → Bool
 is_sectional no_mark = true
 is_sectional c = begins_section c
 
 reserved_section : (x : List ℕ) → is_among section_words x ≡ true → is_reserved x ≡ true
 reserved_section x h = rw h refl
 
-section_marks : (c : Mark) (t : Lexeme) → Marked c t → is_section t ≡ true → is_sectional c ≡ true
+pub section_marks : (c : Mark) (t : Lexeme) → Marked c t → is_section t ≡ true → is_sectional c ≡ true
 unfolding Marked
 section_marks a_name t m h =
     let among : is_among section_words m.0 ≡ true = sym (ap is_section m.1) ∙ h in

@@ -3,7 +3,7 @@ use Rattle.std.proofs.Common.{◌≡◌, ◌+◌, length, drop, get_or, ℕ, ◌
 use Rattle.std.proofs.lemmas.List.{drop_more}
 use Rattle.std.specs.Prelude.{pos, max, if◌then◌else◌}
 use Rattle.xs_tree.specs.declared.expr.Op.{Op}
-use Rattle.xs_tree.specs.Tree.{Tree, truth, number, leaf, not_of, negate, next_of, binary, choice, case_of, set_of, span, height_of, trees_height, branches_height, trees_from, branches_from}
+use Rattle.xs_tree.specs.Tree.{Tree, truth, number, leaf, not_of, negate, next_of, binary, choice, case_of, set_of, span, height_of, branches_height, branches_from}
 use Rattle.xs_tree.specs.Lexemes.{Lexeme}
 use Rattle.xs_tree.specs.ProgramTree.{Path}
 use Rattle.xs_tree.specs.Spells.{line_of}

@@ -1,7 +1,7 @@
 -- How high the trees are that the machine holds.
 use Rattle.std.specs.Prelude.{◌≡◌, ℕ, ◌<◌, max, Bool, true, false, List, [], ◌∷◌}
-use Rattle.xs_tree.specs.Tree.{Tree, height_of, trees_height, branches_height, trees_from, branches_from}
-use Rattle.xs_parse.specs.Build.{Part, left_part, answered, asked, set_part, condition_part, outcome_part, Hand, number_hand, name_hand, other_hand, Build, ready, name_on, high_on, minus_high_on, next_on, branch_on, holds, broken, value, Held}
+use Rattle.xs_tree.specs.Tree.{height_of, trees_height, branches_height, trees_from, branches_from}
+use Rattle.xs_parse.specs.Build.{Part, left_part, answered, asked, set_part, condition_part, outcome_part, other_hand, Build, ready, name_on, high_on, minus_high_on, next_on, branch_on, holds, broken, value, Held}
 
 abbrev pub part_height : Part → ℕ
 part_height (left_part o a) = height_of a

@@ -15,3 +15,8 @@ pub mod BuildViews
 pub mod Extents
 pub mod Stops
 pub mod Lists
+pub mod Reads
+pub mod Within
+pub mod Readings
+pub mod Symbols
+pub mod ProgramParts

@@ -12,7 +12,7 @@ use Rattle.xs_parse.specs.declared.expected.Reading.TheVariants as reading
 use Rattle.xs_parse.specs.Recognise.{Frame, is_stuck}
 use Rattle.xs_parse.specs.Views.{state_with}
 use Rattle.xs_parse.specs.Predict.{step, run, all_empty}
-use Rattle.xs_parse.specs.Formulas.{Sym, formula, more, again, expressions, live, formulas}
+use Rattle.xs_parse.specs.Formulas.{Sym, more, again, expressions, live, formulas}
 
 -- the list spells some list of expressions
 abbrev pub IsExpressions : List Lexeme → Type 0
@@ -57,7 +57,3 @@ Fits (p.Inside mode) s = is_stuck (state_with mode s) ≡ false
 -- the bytes spell this list of expressions
 abbrev pub BytesSpellExpressions : List ℕ → List Formula → Type 0
 BytesSpellExpressions bytes es = (tokens : List Token) × HasTokens bytes tokens × SpellsExpressions (lexemes_of bytes tokens) es
-
--- and some list
-abbrev pub AreExpressions : List ℕ → Type 0
-AreExpressions bytes = (es : List Formula) × BytesSpellExpressions bytes es

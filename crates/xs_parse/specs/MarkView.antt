@@ -1,4 +1,5 @@
 -- The code's marks, as those of the grammar of programs.
+use Rattle.std.specs.Prelude.{ℕ, Bool, nat_eq}
 use Rattle.xs_parse.specs.declared.mark.Mark.TheVariants as m
 use Rattle.xs_parse.specs.declared.mark.Mark.{Mark}
 use Rattle.xs_parse.specs.ProgramRead as read
@@ -32,3 +33,38 @@ mark_view m.Colon = read.s_colon
 mark_view m.Dot = read.s_dot
 mark_view m.Minus = read.s_minus
 mark_view m.Nothing = read.no_mark
+
+-- the number of a mark
+abbrev pub mark_number : read.Mark → ℕ
+mark_number read.w_module = 0
+mark_number read.w_var = 1
+mark_number read.w_ivar = 2
+mark_number read.w_frozen = 3
+mark_number read.w_define = 4
+mark_number read.w_constants = 5
+mark_number read.w_assign = 6
+mark_number read.w_init = 7
+mark_number read.w_invar = 8
+mark_number read.w_trans = 9
+mark_number read.w_skipped = 10
+mark_number read.w_boolean = 11
+mark_number read.w_first = 12
+mark_number read.w_after = 13
+mark_number read.a_name = 14
+mark_number read.a_number = 15
+mark_number read.s_becomes = 16
+mark_number read.s_dots = 17
+mark_number read.s_open = 18
+mark_number read.s_close = 19
+mark_number read.s_open_brace = 20
+mark_number read.s_close_brace = 21
+mark_number read.s_comma = 22
+mark_number read.s_semicolon = 23
+mark_number read.s_colon = 24
+mark_number read.s_dot = 25
+mark_number read.s_minus = 26
+mark_number read.no_mark = 27
+
+-- whether two marks are the same
+abbrev pub is_mark : read.Mark → read.Mark → Bool
+is_mark c d = nat_eq (mark_number c) (mark_number d)

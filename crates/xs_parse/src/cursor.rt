@@ -1,7 +1,16 @@
 // What is left of the tokens of a program.
+//
+// Contracts say what a call reads by the functions on lexemes of `specs/Reads.antt`: a part and what is behind it,
+// that an expression is too deep, or that no part stands there.
+ghost use Rattle.std.specs.Prelude.{◌≡◌, Err, IfOk, length, drop, if◌then◌else◌};
+ghost use Rattle.xs_tree.specs.Written.{tree_of};
+ghost use Rattle.xs_parse.specs.declared.fault.BuildFault.TheVariants as stop;
+ghost use Rattle.xs_parse.specs.MarkView.{mark_view, is_mark};
+ghost use Rattle.xs_parse.specs.Reads.{got, deep, none, mark_at, rest_of, has_next, expect_at, name_at, number_at, expr_at, goes_on, is_past};
+
 use crate::extent::reach;
 use crate::fault::BuildFault;
-use crate::mark::Mark;
+use crate::mark::{Mark, is_same};
 use crate::token::{Digits, TokenText};
 use crate::tree::tree;
 use std::alloc::Global;
@@ -25,12 +34,16 @@ impl<'t, 'a> Model for Cursor<'t, 'a> {
 }
 
 impl<'t, 'a> Cursor<'t, 'a> {
-    pub fn new(rest: &'t [TokenText<'a>]) -> Cursor<'t, 'a> {
+    pub fn new(rest: &'t [TokenText<'a>]) -> Cursor<'t, 'a>
+        ensures { result ≡ rest.now }
+    {
         Cursor { rest }
     }
 
     /// What the next token is, and nothing at the end.
-    pub fn mark(&self) -> Mark {
+    pub fn mark(&self) -> Mark
+        ensures { mark_view result ≡ mark_at self.now }
+    {
         match self.rest {
             [token, ..] => token.mark(),
             [] => Mark::Nothing,
@@ -38,12 +51,16 @@ impl<'t, 'a> Cursor<'t, 'a> {
     }
 
     /// The number of tokens that are left.
-    pub fn len(&self) -> usize {
+    pub fn len(&self) -> usize
+        ensures { result ≡ length self.now }
+    {
         self.rest.len()
     }
 
     /// Whether the next token begins a module or a section, or there is none.
-    pub fn ends_skip(&self) -> bool {
+    pub fn ends_skip(&self) -> bool
+        ensures { result ≡ is_past self.now }
+    {
         match self.rest {
             [token, ..] => token.is_section(),
             [] => true,
@@ -51,15 +68,37 @@ impl<'t, 'a> Cursor<'t, 'a> {
     }
 
     /// Passes over the next token, if there is one.
-    pub fn skip(&mut self) {
+    pub fn skip(&mut self)
+        ensures { self.new ≡ rest_of self.old }
+    {
         if let [_, rest @ ..] = self.rest {
             self.rest = rest;
         }
     }
 
+    /// Whether a semicolon stands next, and another token behind it.
+    pub fn goes_on(&self) -> bool
+        ensures { result ≡ goes_on self.now }
+    {
+        match self.rest {
+            [token, rest @ ..] => is_same(Mark::Semicolon, token.mark()) && rest.len() > 0,
+            [] => false,
+        }
+    }
+
+    /// Whether the next token has this mark.
+    pub fn is_next(&self, mark: Mark) -> bool
+        ensures { result ≡ has_next (mark_view mark) self.now }
+    {
+        is_same(mark, self.mark())
+    }
+
     /// Passes over the next token where it has this mark.
-    pub fn take(&mut self, mark: Mark) -> bool {
-        if self.mark() == mark {
+    pub fn take(&mut self, mark: Mark) -> bool
+        ensures taken { result ≡ has_next (mark_view mark) self.old }
+        ensures rest { self.new ≡ (if has_next (mark_view mark) self.old then rest_of self.old else self.old) }
+    {
+        if self.is_next(mark) {
             self.skip();
             true
         } else {
@@ -68,7 +107,11 @@ impl<'t, 'a> Cursor<'t, 'a> {
     }
 
     /// Passes over the next token, which has this mark.
-    pub fn expect(&mut self, mark: Mark) -> Result<(), BuildFault> {
+    pub fn expect(&mut self, mark: Mark) -> Result<(), BuildFault>
+        ensures ok { IfOk result (λ _. expect_at (mark_view mark) self.old ≡ got tt self.new) }
+        ensures deep { result ≡ Err stop.TooDeep → expect_at (mark_view mark) self.old ≡ deep }
+        ensures none { result ≡ Err stop.NoTree → expect_at (mark_view mark) self.old ≡ none }
+    {
         if self.take(mark) {
             Ok(())
         } else {
@@ -77,7 +120,11 @@ impl<'t, 'a> Cursor<'t, 'a> {
     }
 
     /// The next token, which is a name.
-    pub fn name(&mut self, alloc: Global) -> Result<Name, BuildFault> {
+    pub fn name(&mut self, alloc: Global) -> Result<Name, BuildFault>
+        ensures ok { IfOk result (λ name. name_at self.old ≡ got name self.new) }
+        ensures deep { result ≡ Err stop.TooDeep → name_at self.old ≡ deep }
+        ensures none { result ≡ Err stop.NoTree → name_at self.old ≡ none }
+    {
         match self.rest {
             [token, rest @ ..] => match token.mark() {
                 Mark::Name => {
@@ -92,7 +139,11 @@ impl<'t, 'a> Cursor<'t, 'a> {
     }
 
     /// The next token, which is a number.
-    pub fn digits(&mut self) -> Result<Digits, BuildFault> {
+    pub fn digits(&mut self) -> Result<Digits, BuildFault>
+        ensures ok { IfOk result (λ digits. number_at self.old ≡ got digits.value self.new) }
+        ensures deep { result ≡ Err stop.TooDeep → number_at self.old ≡ deep }
+        ensures none { result ≡ Err stop.NoTree → number_at self.old ≡ none }
+    {
         match self.rest {
             [token, rest @ ..] => match token.mark() {
                 Mark::Number => {
@@ -106,17 +157,39 @@ impl<'t, 'a> Cursor<'t, 'a> {
         }
     }
 
+    /// Passes over so many tokens.
+    #[tactic(auto, using(crate::proofs::ReadLaws::rest_drop))]
+    fn skip_all(&mut self, count: usize)
+        ensures { self.new ≡ drop count self.old }
+    {
+        for i in 0..count {
+            self.skip();
+        }
+    }
+
     /// The longest expression that stands next.
-    pub fn expression(&mut self, alloc: Global) -> Result<Expr<Dotted>, BuildFault> {
+    #[tactic(auto, using(crate::proofs::ReadLaws::expr_got, crate::proofs::ReadLaws::expr_nested, crate::proofs::ReadLaws::expr_partial, crate::proofs::ReadLaws::expr_unmade))]
+    pub fn expression(&mut self, alloc: Global) -> Result<Expr<Dotted>, BuildFault>
+        ensures ok { IfOk result (λ e. expr_at self.old ≡ got (tree_of e) self.new) }
+        ensures deep { result ≡ Err stop.TooDeep → expr_at self.old ≡ deep }
+        ensures none { result ≡ Err stop.NoTree → expr_at self.old ≡ none }
+    {
         let extent = reach(alloc, self.rest)?;
+        if !extent.whole {
+            return Err(BuildFault::NoTree);
+        }
         if extent.deep {
             return Err(BuildFault::TooDeep);
         }
         let (front, _) = self.rest.split_at(extent.len);
-        let made = tree(alloc, front)?;
-        for _ in 0..extent.len {
-            self.skip();
+        match tree(alloc, front) {
+            Ok(made) => {
+                self.skip_all(extent.len);
+                Ok(made)
+            }
+            Err(BuildFault::TooDeep) => Err(BuildFault::TooDeep),
+            Err(BuildFault::NoTree) => Err(BuildFault::NoTree),
+            Err(BuildFault::OutOfMemory) => Err(BuildFault::OutOfMemory),
         }
-        Ok(made)
     }
 }

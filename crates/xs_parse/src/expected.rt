@@ -1,344 +1,212 @@
 // The recogniser of programs: a stack of what is still expected.
 //
-// Outside expressions one token decides what comes. So the stack holds what may still come, an
-// expression among it in whatever state its own recogniser is.
+// Outside expressions one token decides what comes. So the stack holds what may still come, and beside it stands an
+// expression that has begun, in whatever state its own recogniser is.
+ghost use Rattle.std.specs.Prelude.{◌≡◌, ◌∷◌, [], List, Some, false, IfOk, IfSome};
+ghost use Rattle.xs_parse.specs.Recognise as machine;
+ghost use Rattle.xs_parse.specs.Recognise.{role_of};
+ghost use Rattle.xs_parse.specs.Views.{state_with};
+ghost use Rattle.xs_parse.specs.ProgramRead as read;
+ghost use Rattle.xs_parse.specs.Predict.{step as one_step, all_empty};
+ghost use Rattle.xs_parse.specs.Readings.{stepped, ReadsTo};
+ghost use Rattle.xs_parse.specs.Symbols.{symbol_view, position_view, after_view, between_view, Chosen, Taken, Fits};
+
+use crate::choices::after;
 use crate::frames::Frames;
 use crate::machine::{Mode, is_stuck, is_whole, step};
 use crate::mark::Mark;
+use crate::symbols::{Symbol, Symbols, may_be_empty};
 use crate::token::TokenText;
 use std::alloc::Global;
 use xs_value::OutOfMemory;
 
-/// A part of the grammar that may still come.
+/// Where a program is read.
 #[derive(Clone, Copy, Debug, PartialEq, Eq)]
-pub enum Symbol {
-    Name,
-    Number,
-    Colon,
-    Becomes,
-    Semicolon,
-    Open,
-    Close,
-    Dots,
-    Formula,
-    Modules,
-    Formals,
-    FirstFormal,
-    MoreFormals,
-    Sections,
-    Decls,
-    TypeDecls,
-    Declared,
-    Type,
-    Actuals,
-    FirstActual,
-    MoreActuals,
-    Int,
-    Member,
-    MoreMembers,
-    Defines,
-    MoreConstants,
-    Assigns,
-    MoreDots,
-    Skip,
-    LastSemicolon,
+pub enum Position {
+    /// Between expressions.
+    Between,
+    /// In an expression, before what the symbols expect.
+    Inside(Mode),
 }
 
-/// Whether a part may be nothing.
-fn may_be_empty(symbol: Symbol) -> bool {
+/// The first token of an expression.
+#[tactic(auto, using(crate::proofs::ProgramStops::live_taken, crate::proofs::ProgramStops::live_stuck))]
+fn begin_formula(
+    frames: &mut Frames,
+    symbols: &mut Symbols,
+    token: &TokenText,
+) -> Result<Option<Position>, OutOfMemory>
+    requires { frames.old ≡ [] }
+    ensures next { IfOk result (λ position. Taken position (read.live (machine.step machine.start (role_of token.now)) []) symbols.old frames.new symbols.new) }
+    ensures fits { IfOk result (λ position. IfSome position (λ p. Fits p frames.new)) }
+{
+    let mode = step(Mode::Wants, frames, token.role())?;
+    if is_stuck(mode) {
+        frames.clear();
+        Ok(None)
+    } else {
+        Ok(Some(Position::Inside(mode)))
+    }
+}
+
+/// The first token of the actuals, other than what closes them.
+#[tactic(auto, using(crate::proofs::ProgramStops::live_taken, crate::proofs::ProgramStops::live_stuck))]
+fn begin_actuals(
+    frames: &mut Frames,
+    symbols: &mut Symbols,
+    token: &TokenText,
+) -> Result<Option<Position>, OutOfMemory>
+    requires { frames.old ≡ [] }
+    ensures next { IfOk result (λ position. Taken position (read.live (machine.step machine.start (role_of token.now)) (read.more_actuals ∷ [])) symbols.old frames.new symbols.new) }
+    ensures fits { IfOk result (λ position. IfSome position (λ p. Fits p frames.new)) }
+{
+    let mode = step(Mode::Wants, frames, token.role())?;
+    if is_stuck(mode) {
+        frames.clear();
+        Ok(None)
+    } else {
+        symbols.push(Symbol::MoreActuals)?;
+        Ok(Some(Position::Inside(mode)))
+    }
+}
+
+/// The first token in the parentheses of actuals.
+fn first_actual(
+    frames: &mut Frames,
+    symbols: &mut Symbols,
+    token: &TokenText,
+) -> Result<Option<Position>, OutOfMemory>
+    requires { frames.old ≡ [] }
+    ensures next { IfOk result (λ position. Taken position (read.next read.first_actual token.now) symbols.old frames.new symbols.new) }
+    ensures fits { IfOk result (λ position. IfSome position (λ p. Fits p frames.new)) }
+{
+    match token.mark() {
+        Mark::Close => Ok(Some(Position::Between)),
+        _ => begin_actuals(frames, symbols, token),
+    }
+}
+
+/// A token of what is passed over.
+fn pass_over(symbols: &mut Symbols, token: &TokenText) -> Result<bool, OutOfMemory>
+    ensures { IfOk result (λ on. Chosen on (read.next read.skip token.now) symbols.old symbols.new) }
+{
+    if token.is_section() {
+        Ok(false)
+    } else {
+        symbols.expect(&[Symbol::Skip])
+    }
+}
+
+/// Between expressions, where a part goes on.
+fn between(on: bool) -> Option<Position>
+    ensures { result ≡ between_view on }
+{
+    if on { Some(Position::Between) } else { None }
+}
+
+/// What comes of a part with a token, and nothing where the part does not go on with it.
+#[tactic(auto, using(crate::proofs::ProgramStops::chosen_taken))]
+fn take(
+    frames: &mut Frames,
+    symbols: &mut Symbols,
+    symbol: Symbol,
+    token: &TokenText,
+) -> Result<Option<Position>, OutOfMemory>
+    requires { frames.old ≡ [] }
+    ensures next { IfOk result (λ position. Taken position (read.next (symbol_view symbol) token.now) symbols.old frames.new symbols.new) }
+    ensures fits { IfOk result (λ position. IfSome position (λ p. Fits p frames.new)) }
+{
     match symbol {
-        Symbol::Modules
-        | Symbol::Formals
-        | Symbol::Sections
-        | Symbol::Decls
-        | Symbol::TypeDecls
-        | Symbol::Actuals
-        | Symbol::Defines
-        | Symbol::Assigns
-        | Symbol::MoreDots
-        | Symbol::Skip
-        | Symbol::LastSemicolon => true,
-        _ => false,
+        Symbol::Formula => begin_formula(frames, symbols, token),
+        Symbol::FirstActual => first_actual(frames, symbols, token),
+        Symbol::Skip => Ok(between(pass_over(symbols, token)?)),
+        _ => Ok(between(after(symbols, symbol, token.mark())?)),
     }
 }
 
-/// What is still expected: the rest of an expression that has begun, if one has, and then the
-/// symbols, of which the last comes first.
-#[derive(Drop)]
-struct Expected {
-    formula: Option<Mode>,
-    frames: Frames,
-    symbols: Vec<Symbol>,
-}
-
-impl Expected {
-    fn new(alloc: Global, first: Symbol) -> Result<Expected, OutOfMemory> {
-        let mut symbols = Vec::new(alloc);
-        symbols.push(first)?;
-        Ok(Expected {
-            formula: None,
-            frames: Frames::new(alloc),
-            symbols,
-        })
-    }
-
-    /// Expects these, the first of them first.
-    fn expect(&mut self, symbols: &[Symbol]) -> Result<bool, OutOfMemory> {
-        for symbol in symbols.iter().rev() {
-            self.symbols.push(*symbol)?;
-        }
-        Ok(true)
-    }
-
-    /// Whether an expression begins with the token.
-    fn begin_formula(&mut self, token: &TokenText) -> Result<bool, OutOfMemory> {
-        let mode = step(Mode::Wants, &mut self.frames, token.role())?;
-        if is_stuck(mode) {
-            self.frames.clear();
-            return Ok(false);
-        }
-        self.formula = Some(mode);
-        Ok(true)
-    }
-
-    fn after_section(&mut self, mark: Mark) -> Result<bool, OutOfMemory> {
-        match mark {
-            Mark::Var => self.expect(&[Symbol::Decls, Symbol::Sections]),
-            Mark::Ivar | Mark::Frozen => self.expect(&[Symbol::TypeDecls, Symbol::Sections]),
-            Mark::Define => self.expect(&[Symbol::Defines, Symbol::Sections]),
-            Mark::Constants => {
-                self.expect(&[Symbol::Name, Symbol::MoreConstants, Symbol::Sections])
-            }
-            Mark::Assign => self.expect(&[Symbol::Assigns, Symbol::Sections]),
-            Mark::Init | Mark::Invar | Mark::Trans => {
-                self.expect(&[Symbol::Formula, Symbol::LastSemicolon, Symbol::Sections])
-            }
-            Mark::Skipped => self.expect(&[Symbol::Skip, Symbol::Sections]),
-            _ => Ok(false),
-        }
-    }
-
-    fn after_type(&mut self, mark: Mark) -> Result<bool, OutOfMemory> {
-        match mark {
-            Mark::Boolean => Ok(true),
-            Mark::Number => self.expect(&[Symbol::Dots, Symbol::Int]),
-            Mark::Minus => self.expect(&[Symbol::Number, Symbol::Dots, Symbol::Int]),
-            Mark::OpenBrace => self.expect(&[Symbol::Member, Symbol::MoreMembers]),
-            _ => Ok(false),
-        }
-    }
-
-    fn after_assigns(&mut self, mark: Mark) -> Result<bool, OutOfMemory> {
-        match mark {
-            Mark::Name => self.expect(&[
-                Symbol::MoreDots,
-                Symbol::Becomes,
-                Symbol::Formula,
-                Symbol::Semicolon,
-                Symbol::Assigns,
-            ]),
-            Mark::First | Mark::After => self.expect(&[
-                Symbol::Open,
-                Symbol::Name,
-                Symbol::MoreDots,
-                Symbol::Close,
-                Symbol::Becomes,
-                Symbol::Formula,
-                Symbol::Semicolon,
-                Symbol::Assigns,
-            ]),
-            _ => Ok(false),
-        }
-    }
-
-    fn after_single(symbol: Symbol, mark: Mark) -> bool {
-        match (symbol, mark) {
-            (Symbol::Name, Mark::Name) => true,
-            (Symbol::Number, Mark::Number) => true,
-            (Symbol::Colon, Mark::Colon) => true,
-            (Symbol::Becomes, Mark::Becomes) => true,
-            (Symbol::Semicolon, Mark::Semicolon) => true,
-            (Symbol::Open, Mark::Open) => true,
-            (Symbol::Close, Mark::Close) => true,
-            (Symbol::Dots, Mark::Dots) => true,
-            _ => false,
-        }
-    }
-
-    /// What comes after a token with which a list of a module's parts goes on.
-    fn after_list(&mut self, symbol: Symbol, mark: Mark) -> Result<bool, OutOfMemory> {
-        match (symbol, mark) {
-            (Symbol::Modules, Mark::Module) => self.expect(&[
-                Symbol::Name,
-                Symbol::Formals,
-                Symbol::Sections,
-                Symbol::Modules,
-            ]),
-            (Symbol::Decls, Mark::Name) => self.expect(&[
-                Symbol::Colon,
-                Symbol::Declared,
-                Symbol::Semicolon,
-                Symbol::Decls,
-            ]),
-            (Symbol::TypeDecls, Mark::Name) => self.expect(&[
-                Symbol::Colon,
-                Symbol::Type,
-                Symbol::Semicolon,
-                Symbol::TypeDecls,
-            ]),
-            (Symbol::Defines, Mark::Name) => self.expect(&[
-                Symbol::Becomes,
-                Symbol::Formula,
-                Symbol::Semicolon,
-                Symbol::Defines,
-            ]),
-            (Symbol::MoreDots, Mark::Dot) => self.expect(&[Symbol::Name, Symbol::MoreDots]),
-            _ => Ok(false),
-        }
-    }
-
-    /// What comes after a token with which a list in brackets goes on or ends.
-    fn after_commas(&mut self, symbol: Symbol, mark: Mark) -> Result<bool, OutOfMemory> {
-        match (symbol, mark) {
-            (Symbol::Formals, Mark::Open) => self.expect(&[Symbol::FirstFormal]),
-            (Symbol::FirstFormal, Mark::Close) => Ok(true),
-            (Symbol::FirstFormal, Mark::Name) => self.expect(&[Symbol::MoreFormals]),
-            (Symbol::MoreFormals, Mark::Close) => Ok(true),
-            (Symbol::MoreFormals, Mark::Comma) => {
-                self.expect(&[Symbol::Name, Symbol::MoreFormals])
-            }
-            (Symbol::Actuals, Mark::Open) => self.expect(&[Symbol::FirstActual]),
-            (Symbol::MoreActuals, Mark::Close) => Ok(true),
-            (Symbol::MoreActuals, Mark::Comma) => {
-                self.expect(&[Symbol::Formula, Symbol::MoreActuals])
-            }
-            (Symbol::MoreMembers, Mark::CloseBrace) => Ok(true),
-            (Symbol::MoreMembers, Mark::Comma) => {
-                self.expect(&[Symbol::Member, Symbol::MoreMembers])
-            }
-            (Symbol::MoreConstants, Mark::Semicolon) => Ok(true),
-            (Symbol::MoreConstants, Mark::Comma) => {
-                self.expect(&[Symbol::Name, Symbol::MoreConstants])
-            }
-            _ => Ok(false),
-        }
-    }
-
-    fn after_small(&mut self, symbol: Symbol, mark: Mark) -> Result<bool, OutOfMemory> {
-        match (symbol, mark) {
-            (Symbol::Int, Mark::Number) => Ok(true),
-            (Symbol::Int, Mark::Minus) => self.expect(&[Symbol::Number]),
-            (Symbol::Member, Mark::Name) => Ok(true),
-            (Symbol::Member, Mark::Number) => Ok(true),
-            (Symbol::Member, Mark::Minus) => self.expect(&[Symbol::Number]),
-            (Symbol::LastSemicolon, Mark::Semicolon) => Ok(true),
-            _ => Ok(false),
-        }
-    }
-
-    /// Whether a part goes on with the token, and then what is still expected of it.
-    fn after(&mut self, symbol: Symbol, mark: Mark) -> Result<bool, OutOfMemory> {
-        match symbol {
-            Symbol::Sections => self.after_section(mark),
-            Symbol::Declared => match mark {
-                Mark::Name => self.expect(&[Symbol::Actuals]),
-                _ => self.after_type(mark),
-            },
-            Symbol::Type => self.after_type(mark),
-            Symbol::Assigns => self.after_assigns(mark),
-            Symbol::Modules
-            | Symbol::Decls
-            | Symbol::TypeDecls
-            | Symbol::Defines
-            | Symbol::MoreDots => self.after_list(symbol, mark),
-            Symbol::Formals
-            | Symbol::FirstFormal
-            | Symbol::MoreFormals
-            | Symbol::Actuals
-            | Symbol::MoreActuals
-            | Symbol::MoreMembers
-            | Symbol::MoreConstants => self.after_commas(symbol, mark),
-            Symbol::Int | Symbol::Member | Symbol::LastSemicolon => self.after_small(symbol, mark),
-            _ => Ok(Expected::after_single(symbol, mark)),
-        }
-    }
-
-    /// An expression, and then this symbol.
-    fn begin_list(&mut self, token: &TokenText, more: Symbol) -> Result<bool, OutOfMemory> {
-        if self.begin_formula(token)? {
-            self.expect(&[more])
-        } else {
-            Ok(false)
-        }
-    }
-
-    /// Whether a part goes on with the token, and then what is still expected of it.
-    fn take(&mut self, symbol: Symbol, token: &TokenText) -> Result<bool, OutOfMemory> {
-        match symbol {
-            Symbol::Formula => self.begin_formula(token),
-            Symbol::FirstActual => match token.mark() {
-                Mark::Close => Ok(true),
-                _ => self.begin_list(token, Symbol::MoreActuals),
-            },
-            Symbol::Skip => {
-                if token.is_section() {
-                    Ok(false)
-                } else {
-                    self.expect(&[Symbol::Skip])
+/// One more token between expressions, and nothing where no program goes on with it.
+fn symbols_step(
+    frames: &mut Frames,
+    symbols: &mut Symbols,
+    token: &TokenText,
+) -> Result<Option<Position>, OutOfMemory>
+    requires { frames.old ≡ [] }
+    ensures next { IfOk result (λ position. after_view position frames.new symbols.new ≡ one_step read.Sym read.programs symbols.old token.now) }
+    ensures fits { IfOk result (λ position. IfSome position (λ p. Fits p frames.new)) }
+{
+    while let Some(symbol) = symbols.pop() {
+        match take(frames, symbols, symbol, token)? {
+            Some(position) => return Ok(Some(position)),
+            None => {
+                if !may_be_empty(symbol) {
+                    return Ok(None);
                 }
             }
-            _ => self.after(symbol, token.mark()),
         }
     }
+    Ok(None)
+}
 
-    /// Whether the first of the symbols that goes on with the token may come next.
-    fn step_symbols(&mut self, token: &TokenText) -> Result<bool, OutOfMemory> {
-        // Each round takes a symbol away, and a round that puts others in its place is the last.
-        for _ in 0..self.symbols.len() {
-            let Some(symbol) = self.symbols.pop() else {
-                return Ok(false);
-            };
-            if self.take(symbol, token)? {
-                return Ok(true);
-            }
-            if !may_be_empty(symbol) {
-                return Ok(false);
-            }
-        }
-        Ok(false)
+/// One more token in an expression, or behind it.
+fn inside_step(
+    mode: Mode,
+    frames: &mut Frames,
+    symbols: &mut Symbols,
+    token: &TokenText,
+) -> Result<Option<Position>, OutOfMemory>
+    requires { machine.is_stuck (state_with mode frames.old) ≡ false }
+    ensures next { IfOk result (λ position. after_view position frames.new symbols.new ≡ stepped read.Sym read.programs (read.live (state_with mode frames.old) symbols.old) token.now) }
+    ensures fits { IfOk result (λ position. IfSome position (λ p. Fits p frames.new)) }
+{
+    let whole = is_whole(mode, frames);
+    let next = step(mode, frames, token.role())?;
+    if !is_stuck(next) {
+        Ok(Some(Position::Inside(next)))
+    } else if whole {
+        frames.clear();
+        symbols_step(frames, symbols, token)
+    } else {
+        Ok(None)
     }
+}
 
-    /// Whether some text goes on with the token, and then what is still expected.
-    fn step(&mut self, token: &TokenText) -> Result<bool, OutOfMemory> {
-        if let Some(mode) = self.formula {
-            let whole = is_whole(mode, &self.frames);
-            let next = step(mode, &mut self.frames, token.role())?;
-            if !is_stuck(next) {
-                self.formula = Some(next);
-                return Ok(true);
-            }
-            if !whole {
-                return Ok(false);
-            }
-            self.formula = None;
-            self.frames.clear();
-        }
-        self.step_symbols(token)
+/// One more token, and nothing where no program goes on with it.
+fn program_step(
+    position: Position,
+    frames: &mut Frames,
+    symbols: &mut Symbols,
+    token: &TokenText,
+) -> Result<Option<Position>, OutOfMemory>
+    requires { Fits position frames.old }
+    ensures next { IfOk result (λ new. after_view new frames.new symbols.new ≡ stepped read.Sym read.programs (position_view position frames.old symbols.old) token.now) }
+    ensures fits { IfOk result (λ new. IfSome new (λ p. Fits p frames.new)) }
+{
+    match position {
+        Position::Between => symbols_step(frames, symbols, token),
+        Position::Inside(mode) => inside_step(mode, frames, symbols, token),
     }
+}
 
-    /// Whether the text may end here.
-    fn may_end(&self) -> bool {
-        if let Some(mode) = self.formula {
-            if !is_whole(mode, &self.frames) {
-                return false;
-            }
+/// Whether all that is expected may be nothing. Nothing is expected any more after it.
+fn may_all_be_empty(symbols: &mut Symbols) -> bool
+    ensures { result ≡ all_empty read.Sym read.programs symbols.old }
+{
+    while let Some(symbol) = symbols.pop() {
+        if !may_be_empty(symbol) {
+            return false;
         }
-        for symbol in &self.symbols {
-            if !may_be_empty(*symbol) {
-                return false;
-            }
-        }
-        true
+    }
+    true
+}
+
+/// Whether the program may end here.
+#[tactic(auto, using(crate::proofs::ProgramStops::inside_ends))]
+fn may_end(position: Position, frames: &Frames, symbols: &mut Symbols) -> bool
+    ensures { (s : List read.Sym) → position_view position frames.now symbols.old ≡ Some s → result ≡ all_empty read.Sym read.programs s }
+{
+    match position {
+        Position::Between => may_all_be_empty(symbols),
+        Position::Inside(mode) => is_whole(mode, frames) && may_all_be_empty(symbols),
     }
 }
 
@@ -353,19 +221,21 @@ pub enum Reading {
     Unfinished,
 }
 
-/// How far a text of this part of the grammar can be read.
-pub fn read_through(
-    alloc: Global,
-    first: Symbol,
-    tokens: &[TokenText],
-) -> Result<Reading, OutOfMemory> {
-    let mut expected = Expected::new(alloc, first)?;
+/// How far a program can be read.
+pub fn read_program(alloc: Global, tokens: &[TokenText]) -> Result<Reading, OutOfMemory>
+    ensures { IfOk result (λ reading. ReadsTo read.Sym read.programs read.modules tokens.now reading) }
+{
+    let mut frames = Frames::new(alloc);
+    let mut symbols = Symbols::new(alloc);
+    symbols.push(Symbol::Modules)?;
+    let mut position = Position::Between;
     for (i, token) in tokens.iter().enumerate() {
-        if !expected.step(token)? {
-            return Ok(Reading::Stopped(i));
+        match program_step(position, &mut frames, &mut symbols, token)? {
+            Some(next) => position = next,
+            None => return Ok(Reading::Stopped(i)),
         }
     }
-    if expected.may_end() {
+    if may_end(position, &frames, &mut symbols) {
         Ok(Reading::Whole)
     } else {
         Ok(Reading::Unfinished)

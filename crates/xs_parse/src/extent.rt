@@ -1,7 +1,7 @@
 // How far an expression reaches, and how deep its parentheses are nested.
 ghost use Rattle.std.specs.Prelude.{◌≡◌, ◌≤◌, IfOk, length};
 ghost use Rattle.xs_parse.specs.Recognise as machine;
-ghost use Rattle.xs_parse.specs.Extents.{reach_of, is_deep};
+ghost use Rattle.xs_parse.specs.Extents.{reach_of, is_deep, ends_whole};
 
 use crate::frames::Frames;
 use crate::machine::{Mode, is_stuck, is_whole, step};
@@ -19,29 +19,26 @@ pub struct Extent {
     pub len: usize,
     /// Whether parentheses are nested deeper than 1,000.
     pub deep: bool,
-    /// Whether all tokens together are an expression.
+    /// Whether these tokens together are an expression.
     pub whole: bool,
 }
 
 /// How far the expression reaches that the tokens begin with.
-#[tactic(auto, using(crate::proofs::ExtentLaws::reach_more, crate::proofs::ExtentLaws::deep_more, crate::proofs::ExtentLaws::run_more, crate::proofs::ExtentLaws::stuck_whole))]
+#[tactic(auto, using(crate::proofs::ExtentLaws::reach_more, crate::proofs::ExtentLaws::deep_more, crate::proofs::ExtentLaws::whole_more))]
 pub fn reach(alloc: Global, tokens: &[TokenText]) -> Result<Extent, OutOfMemory>
     ensures len { IfOk result (λ extent. extent.len ≡ reach_of machine.start tokens.now) }
     ensures within { IfOk result (λ extent. extent.len ≤ length tokens.now) }
     ensures deep { IfOk result (λ extent. extent.deep ≡ is_deep machine.start tokens.now) }
-    ensures whole { IfOk result (λ extent. extent.whole ≡ machine.is_whole (machine.run machine.start tokens.now)) }
+    ensures whole { IfOk result (λ extent. extent.whole ≡ ends_whole machine.start tokens.now) }
 {
     let mut frames = Frames::new(alloc);
     let mut mode = Mode::Wants;
     let mut deep = false;
     for (len, token) in tokens.iter().enumerate() {
+        let whole = is_whole(mode, &frames);
         mode = step(mode, &mut frames, token.role())?;
         if is_stuck(mode) {
-            return Ok(Extent {
-                len,
-                deep,
-                whole: false,
-            });
+            return Ok(Extent { len, deep, whole });
         }
         deep = deep || frames.groups() > LIMIT;
     }

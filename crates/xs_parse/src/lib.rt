@@ -24,20 +24,22 @@
 //! ```
 #![tactic(auto)]
 
+mod choices;
 mod cursor;
-mod expected;
-mod extent;
-mod fault;
-mod frames;
+pub mod expected;
+pub mod extent;
+pub mod fault;
+pub mod frames;
 mod grown;
 mod list;
-mod machine;
-mod mark;
+pub mod machine;
+pub mod mark;
 mod parts;
-mod reader;
+pub mod reader;
 mod sections;
-mod token;
-mod tree;
+mod symbols;
+pub mod token;
+pub mod tree;
 mod words;
 
 pub use fault::ParseFault;

@@ -1,10 +1,13 @@
 // How far a list of expressions can be read, and its trees.
-ghost use Rattle.std.specs.Prelude.{◌≡◌, ◌∷◌, [], List, Some, false, IfOk, IfSome};
+ghost use Rattle.std.specs.Prelude.{◌≡◌, ◌∷◌, [], List, Some, false, Err, IfOk, IfSome, map};
 ghost use Rattle.xs_parse.specs.Recognise as machine;
 ghost use Rattle.xs_parse.specs.Views.{role_view, state_with};
 ghost use Rattle.xs_parse.specs.Recognise.{role_of};
 ghost use Rattle.xs_parse.specs.Predict.{all_empty};
 ghost use Rattle.xs_parse.specs.Formulas as lists;
+ghost use Rattle.xs_parse.specs.declared.fault.BuildFault.TheVariants as stop;
+ghost use Rattle.xs_parse.specs.Reads.{got, deep, none, some_at, goes_on, expr_at, next_expr, exprs_at};
+ghost use Rattle.xs_tree.specs.Written.{tree_of};
 ghost use Rattle.xs_parse.specs.Lists.{place_view, after_view, stepped, Fits, ListReads};
 
 use crate::cursor::Cursor;
@@ -125,15 +128,32 @@ pub fn read_list(alloc: Global, tokens: &[TokenText]) -> Result<Reading, OutOfMe
     }
 }
 
-/// The expressions that are left, with semicolons between and one more at the end allowed.
-pub fn list_trees(alloc: Global, cursor: &mut Cursor) -> Result<ExprList<Dotted>, BuildFault> {
+/// The expressions that are left, with semicolons between.
+fn joined_trees(alloc: Global, cursor: &mut Cursor) -> Result<ExprList<Dotted>, BuildFault>
+    ensures ok { IfOk result (λ trees. some_at goes_on expr_at next_expr cursor.old ≡ got (map tree_of trees) cursor.new) }
+    ensures deep { result ≡ Err stop.TooDeep → some_at goes_on expr_at next_expr cursor.old ≡ deep }
+    ensures none { result ≡ Err stop.NoTree → some_at goes_on expr_at next_expr cursor.old ≡ none }
+{
     let mut trees = Items::new(alloc);
     trees.push(cursor.expression(alloc)?)?;
-    for _ in 0..cursor.len() {
-        if !cursor.take(Mark::Semicolon) || cursor.len() == 0 {
+    let most = cursor.len();
+    for round in 0..most {
+        if !cursor.goes_on() {
             return Ok(trees);
         }
+        cursor.skip();
         trees.push(cursor.expression(alloc)?)?;
     }
+    Ok(trees)
+}
+
+/// The expressions that are left, with semicolons between and one more at the end allowed.
+pub fn list_trees(alloc: Global, cursor: &mut Cursor) -> Result<ExprList<Dotted>, BuildFault>
+    ensures ok { IfOk result (λ trees. exprs_at cursor.old ≡ got (map tree_of trees) cursor.new) }
+    ensures deep { result ≡ Err stop.TooDeep → exprs_at cursor.old ≡ deep }
+    ensures none { result ≡ Err stop.NoTree → exprs_at cursor.old ≡ none }
+{
+    let trees = joined_trees(alloc, cursor)?;
+    let _ended = cursor.take(Mark::Semicolon);
     Ok(trees)
 }

@@ -1,3 +1,6 @@
+ghost use Rattle.std.specs.Prelude.{◌≡◌};
+ghost use Rattle.xs_parse.specs.MarkView.{mark_view, is_mark};
+
 /// What a token is outside expressions.
 #[derive(Clone, Copy, Debug, PartialEq, Eq)]
 pub enum Mark {
@@ -29,4 +32,11 @@ pub enum Mark {
     Dot,
     Minus,
     Nothing,
+}
+
+/// Whether two marks are the same.
+pub fn is_same(one: Mark, other: Mark) -> bool
+    ensures { result ≡ is_mark (mark_view one) (mark_view other) }
+{
+    one == other
 }

@@ -1,20 +1,22 @@
 // The three calls: tokens, then how far they can be read, then the tree.
-ghost use Rattle.std.specs.Prelude.{◌≡◌, ◌<◌, ◌≤◌, ◌^◌, List, Some, true, false, All, IfOk, IfErr, length, slice_get};
+ghost use Rattle.std.specs.Prelude.{◌≡◌, ◌<◌, ◌≤◌, ◌^◌, List, Some, true, false, All, IfOk, IfErr, length, map, slice_get};
 ghost use Rattle.xs_lexer.specs.declared.token.Token.{Token};
 ghost use Rattle.xs_lexer.specs.Tokens.{HasTokens, StandsIn};
 ghost use Rattle.xs_tree.specs.Tree.{height_of};
-ghost use Rattle.xs_tree.specs.ProgramTree.{Formula};
+ghost use Rattle.xs_tree.specs.ProgramTree.{Formula, ProgramTree, program_tree as tree_of_program};
 ghost use Rattle.xs_tree.specs.Written.{tree_of};
 ghost use Rattle.xs_tree.specs.Lexemes.{Lexeme, lexemes_of};
-ghost use Rattle.xs_tree.specs.Bytes.{BytesSpellExpr, HasDepths};
+ghost use Rattle.xs_tree.specs.Bytes.{BytesSpellExpr, BytesSpellProgram, HasDepths};
 ghost use Rattle.xs_parse.specs.Recognise as machine;
 ghost use Rattle.xs_parse.specs.Build.{built as machine_built};
 ghost use Rattle.xs_parse.specs.Extents.{is_deep};
-ghost use Rattle.xs_parse.specs.Lists.{IsExpressions, AreExpressions};
+ghost use Rattle.xs_parse.specs.Lists.{IsExpressions, BytesSpellExpressions};
+ghost use Rattle.xs_parse.specs.Within.{HaveDepths, AreTooDeep, HasProgramDepths, IsProgramTooDeep};
+ghost use Rattle.xs_parse.specs.Symbols.{IsProgram};
 ghost use Rattle.xs_parse.specs.Stops.{IsExpression, IsTooDeep, FaultMeans, IsOfTokens, is_left_out, stop_fault};
 
 use crate::cursor::Cursor;
-use crate::expected::{Reading, Symbol, read_through};
+use crate::expected::{Reading, read_program};
 use crate::extent::reach;
 use crate::fault::{BuildFault, ParseFault};
 use crate::list::{list_trees, read_list};
@@ -28,7 +30,7 @@ use xs_value::Dotted;
 
 /// The tokens of the bytes.
 #[tactic(auto, using(crate::proofs::FaultLaws::lexical))]
-fn split(alloc: Global, bytes: &[u8]) -> Result<TokenList, ParseFault>
+pub fn split(alloc: Global, bytes: &[u8]) -> Result<TokenList, ParseFault>
     requires { length bytes.now < 2 ^ 32 }
     ensures split { IfOk result (λ tokens. HasTokens bytes.now tokens) }
     ensures stand { IfOk result (λ tokens. All (StandsIn bytes.now) tokens) }
@@ -43,7 +45,7 @@ fn split(alloc: Global, bytes: &[u8]) -> Result<TokenList, ParseFault>
 }
 
 /// The fault of a text that goes on up to the token of this number.
-fn stop_at(tokens: &TokenList, texts: &[TokenText], i: usize) -> ParseFault
+pub fn stop_at(tokens: &TokenList, texts: &[TokenText], i: usize) -> ParseFault
     requires token { i < length tokens.now }
     requires text { i < length texts.now }
     ensures { (token : Token) (lexeme : Lexeme) → slice_get tokens.now i ≡ Some token → slice_get texts.now i ≡ Some lexeme →
@@ -136,7 +138,7 @@ fn check_list(
     requires split { HasTokens bytes.now tokens.now }
     requires same { texts.now ≡ lexemes_of bytes.now tokens.now }
     ensures spelled { IfOk result (λ _. IsExpressions texts.now) }
-    ensures fault { IfErr result (λ fault. FaultMeans IsExpressions (AreExpressions bytes.now) bytes.now fault) }
+    ensures fault { IfErr result (λ fault. FaultMeans IsExpressions (AreTooDeep bytes.now) bytes.now fault) }
 {
     match read_list(alloc, texts)? {
         Reading::Whole => Ok(()),
@@ -145,8 +147,7 @@ fn check_list(
     }
 }
 
-/// The trees of tokens that are a list of expressions. Some tree is made of each expression that is spelled, so
-/// that the last arm is never taken.
+/// The trees of tokens that are a list of expressions.
 fn make_list(
     alloc: Global,
     bytes: &[u8],
@@ -154,46 +155,65 @@ fn make_list(
     texts: &[TokenText],
 ) -> Result<ExprList<Dotted>, ParseFault>
     requires split { HasTokens bytes.now tokens.now }
+    requires only { (others : List Token) → HasTokens bytes.now others → others ≡ tokens.now }
     requires same { texts.now ≡ lexemes_of bytes.now tokens.now }
     requires spelled { IsExpressions texts.now }
-    ensures { IfErr result (λ fault. FaultMeans IsExpressions (AreExpressions bytes.now) bytes.now fault) }
+    ensures spelled { IfOk result (λ trees. BytesSpellExpressions bytes.now (map tree_of trees)) }
+    ensures depths { IfOk result (λ trees. HaveDepths bytes.now (map tree_of trees)) }
+    ensures only { IfOk result (λ trees. (es : List Formula) → BytesSpellExpressions bytes.now es → map tree_of trees ≡ es) }
+    ensures fault { IfErr result (λ fault. FaultMeans IsExpressions (AreTooDeep bytes.now) bytes.now fault) }
 {
     let mut cursor = Cursor::new(texts);
     match list_trees(alloc, &mut cursor) {
         Ok(trees) => Ok(trees),
+        Err(BuildFault::TooDeep) => Err(ParseFault::TooDeep),
         Err(BuildFault::OutOfMemory) => Err(ParseFault::OutOfMemory),
-        Err(BuildFault::TooDeep | BuildFault::NoTree) => Err(ParseFault::TooDeep),
+        Err(BuildFault::NoTree) => unreachable!(),
     }
 }
 
-/// The fault of a text that can be read so far.
-fn check(
+/// Refuses what is no program.
+fn check_program(
+    alloc: Global,
     bytes: &[u8],
     tokens: &TokenList,
     texts: &[TokenText],
-    reading: Reading,
 ) -> Result<(), ParseFault>
-    requires { length bytes.now < 2 ^ 32 }
+    requires short { length bytes.now < 2 ^ 32 }
+    requires split { HasTokens bytes.now tokens.now }
+    requires same { texts.now ≡ lexemes_of bytes.now tokens.now }
+    ensures spelled { IfOk result (λ _. IsProgram texts.now) }
+    ensures fault { IfErr result (λ fault. FaultMeans IsProgram (IsProgramTooDeep bytes.now) bytes.now fault) }
 {
-    match reading {
+    match read_program(alloc, texts)? {
         Reading::Whole => Ok(()),
         Reading::Unfinished => Err(ParseFault::End(bytes.len() as u32)),
-        Reading::Stopped(i) => {
-            if i < tokens.len() && i < texts.len() {
-                Err(stop_at(tokens, texts, i))
-            } else {
-                Err(ParseFault::End(bytes.len() as u32))
-            }
-        }
+        Reading::Stopped(i) => Err(stop_at(tokens, texts, i)),
     }
 }
 
-/// The fault of tokens of which no tree was made.
-fn unbuilt(fault: BuildFault, end: u32) -> ParseFault {
-    match fault {
-        BuildFault::TooDeep => ParseFault::TooDeep,
-        BuildFault::OutOfMemory => ParseFault::OutOfMemory,
-        BuildFault::NoTree => ParseFault::End(end),
+/// The tree of tokens that are a program.
+fn make_program(
+    alloc: Global,
+    bytes: &[u8],
+    tokens: &TokenList,
+    texts: &[TokenText],
+) -> Result<Program, ParseFault>
+    requires split { HasTokens bytes.now tokens.now }
+    requires only { (others : List Token) → HasTokens bytes.now others → others ≡ tokens.now }
+    requires same { texts.now ≡ lexemes_of bytes.now tokens.now }
+    requires spelled { IsProgram texts.now }
+    ensures spelled { IfOk result (λ p. BytesSpellProgram bytes.now (tree_of_program p)) }
+    ensures depths { IfOk result (λ p. HasProgramDepths bytes.now (tree_of_program p)) }
+    ensures only { IfOk result (λ p. (q : ProgramTree) → BytesSpellProgram bytes.now q → tree_of_program p ≡ q) }
+    ensures fault { IfErr result (λ fault. FaultMeans IsProgram (IsProgramTooDeep bytes.now) bytes.now fault) }
+{
+    let mut cursor = Cursor::new(texts);
+    match program_tree(alloc, &mut cursor) {
+        Ok(program) => Ok(program),
+        Err(BuildFault::TooDeep) => Err(ParseFault::TooDeep),
+        Err(BuildFault::OutOfMemory) => Err(ParseFault::OutOfMemory),
+        Err(BuildFault::NoTree) => unreachable!(),
     }
 }
 
@@ -220,7 +240,10 @@ pub fn expression(alloc: Global, bytes: &[u8]) -> Result<Expr<Dotted>, ParseFaul
 #[tactic(auto, using(crate::proofs::FaultLaws::of_tokens))]
 pub fn expressions(alloc: Global, bytes: &[u8]) -> Result<ExprList<Dotted>, ParseFault>
     requires { length bytes.now < 2 ^ 32 }
-    ensures { IfErr result (λ fault. FaultMeans IsExpressions (AreExpressions bytes.now) bytes.now fault) }
+    ensures spelled { IfOk result (λ trees. BytesSpellExpressions bytes.now (map tree_of trees)) }
+    ensures depths { IfOk result (λ trees. HaveDepths bytes.now (map tree_of trees)) }
+    ensures only { IfOk result (λ trees. (es : List Formula) → BytesSpellExpressions bytes.now es → map tree_of trees ≡ es) }
+    ensures fault { IfErr result (λ fault. FaultMeans IsExpressions (AreTooDeep bytes.now) bytes.now fault) }
 {
     let tokens = split(alloc, bytes)?;
     let texts = token_texts(alloc, bytes, &tokens)?;
@@ -230,16 +253,16 @@ pub fn expressions(alloc: Global, bytes: &[u8]) -> Result<ExprList<Dotted>, Pars
 
 /// The program that the bytes spell. Sections that are passed over leave nothing in it. It takes time in
 /// proportion to the bytes.
+#[tactic(auto, using(crate::proofs::FaultLaws::of_tokens))]
 pub fn program(alloc: Global, bytes: &[u8]) -> Result<Program, ParseFault>
     requires { length bytes.now < 2 ^ 32 }
+    ensures spelled { IfOk result (λ p. BytesSpellProgram bytes.now (tree_of_program p)) }
+    ensures depths { IfOk result (λ p. HasProgramDepths bytes.now (tree_of_program p)) }
+    ensures only { IfOk result (λ p. (q : ProgramTree) → BytesSpellProgram bytes.now q → tree_of_program p ≡ q) }
+    ensures fault { IfErr result (λ fault. FaultMeans IsProgram (IsProgramTooDeep bytes.now) bytes.now fault) }
 {
     let tokens = split(alloc, bytes)?;
     let texts = token_texts(alloc, bytes, &tokens)?;
-    let reading = read_through(alloc, Symbol::Modules, &texts)?;
-    check(bytes, &tokens, &texts, reading)?;
-    let mut cursor = Cursor::new(&texts);
-    match program_tree(alloc, &mut cursor) {
-        Ok(program) => Ok(program),
-        Err(fault) => Err(unbuilt(fault, bytes.len() as u32)),
-    }
+    check_program(alloc, bytes, &tokens, &texts)?;
+    make_program(alloc, bytes, &tokens, &texts)
 }

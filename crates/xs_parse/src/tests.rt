@@ -3,6 +3,7 @@ ghost use Rattle.std.specs.Prelude.{◌<◌, ◌^◌, length};
 use crate::{ParseFault, expression, expressions, program};
 use std::alloc::Global;
 use std::test::Fail;
+use xs_value::OutOfMemory;
 
 /// What a text is read as.
 #[derive(Clone, Copy, Debug, PartialEq, Eq)]
@@ -175,6 +176,161 @@ fn stops_where_no_text_goes_on(rt: HostRuntime) -> Result<(), Fail> {
         assert!(rt; text.len() < 100);
         let found = refusal(rt.alloc(), *kind, text);
         assert!(rt; found == *expected);
+    }
+    Ok(())
+}
+
+/// What a text is read as, the text, and its refusal where it has one. The text is its front, so many times what
+/// opens, its middle, as many times what closes, and its back.
+type Repeated = (
+    Kind,
+    &'static [u8],
+    &'static [u8],
+    usize,
+    &'static [u8],
+    &'static [u8],
+    Option<ParseFault>,
+);
+
+static REPEATED: [Repeated; 13] = [
+    (Kind::Expression, b"", b"(", 1000, b")", b"", None),
+    (
+        Kind::Expression,
+        b"",
+        b"(",
+        1001,
+        b")",
+        b"",
+        Some(ParseFault::TooDeep),
+    ),
+    (
+        Kind::Expression,
+        b"",
+        b"(",
+        1001,
+        b")",
+        b")",
+        Some(ParseFault::Unexpected(2003)),
+    ),
+    (Kind::Expression, b"", b"!", 999, b"", b"", None),
+    (
+        Kind::Expression,
+        b"",
+        b"!",
+        1000,
+        b"",
+        b"",
+        Some(ParseFault::TooDeep),
+    ),
+    (
+        Kind::List,
+        b"a; ",
+        b"(",
+        1001,
+        b")",
+        b";",
+        Some(ParseFault::TooDeep),
+    ),
+    (
+        Kind::List,
+        b"a; ",
+        b"(",
+        1001,
+        b")",
+        b";;",
+        Some(ParseFault::Unexpected(2007)),
+    ),
+    (
+        Kind::Program,
+        b"MODULE m INIT ",
+        b"(",
+        1000,
+        b")",
+        b"",
+        None,
+    ),
+    (
+        Kind::Program,
+        b"MODULE m INIT ",
+        b"(",
+        1001,
+        b")",
+        b"",
+        Some(ParseFault::TooDeep),
+    ),
+    (
+        Kind::Expression,
+        b"",
+        b"(",
+        1000000,
+        b")",
+        b"",
+        Some(ParseFault::TooDeep),
+    ),
+    (
+        Kind::Expression,
+        b"",
+        b"!",
+        1000000,
+        b"",
+        b"",
+        Some(ParseFault::TooDeep),
+    ),
+    (
+        Kind::Expression,
+        b"",
+        b"a+",
+        1000000,
+        b"",
+        b"",
+        Some(ParseFault::TooDeep),
+    ),
+    (
+        Kind::Program,
+        b"MODULE m INIT ",
+        b"a+",
+        1000000,
+        b"",
+        b"",
+        Some(ParseFault::TooDeep),
+    ),
+];
+
+fn push_all(text: &mut Vec<u8>, more: &[u8]) -> Result<(), OutOfMemory> {
+    for byte in more {
+        text.push(*byte)?;
+    }
+    Ok(())
+}
+
+fn push_times(text: &mut Vec<u8>, more: &[u8], times: usize) -> Result<(), OutOfMemory> {
+    for _ in 0..times {
+        push_all(text, more)?;
+    }
+    Ok(())
+}
+
+fn repeated(alloc: Global, row: &Repeated) -> Result<Vec<u8>, OutOfMemory> {
+    let (_, front, open, times, close, back, _) = row;
+    let mut text = Vec::new(alloc);
+    push_all(&mut text, front)?;
+    push_times(&mut text, open, *times)?;
+    push_all(&mut text, b"a")?;
+    push_times(&mut text, close, *times)?;
+    push_all(&mut text, back)?;
+    Ok(text)
+}
+
+#[test]
+fn is_too_deep_only_where_it_is_spelled(rt: HostRuntime) -> Result<(), Fail> {
+    for row in &REPEATED {
+        let made = repeated(rt.alloc(), row);
+        assert!(rt; made.is_ok());
+        if let Ok(text) = made {
+            assert!(rt; text.len() < 3000000);
+            let found = refusal(rt.alloc(), row.0, &text);
+            assert!(rt; found == row.6);
+        }
     }
     Ok(())
 }

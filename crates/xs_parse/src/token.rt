@@ -8,7 +8,7 @@ ghost use Rattle.xs_parse.specs.ProgramRead.{mark_of, mark_of_word, is_section};
 ghost use Rattle.xs_parse.specs.Build.{name_in, number_in};
 ghost use Rattle.xs_parse.specs.Views.{role_view};
 ghost use Rattle.xs_parse.specs.MarkView.{mark_view};
-ghost use Rattle.xs_parse.specs.Places.{lexeme_at};
+ghost use Rattle.xs_parse.specs.Places.{lexeme_at, is_word, text_in};
 ghost use Rattle.xs_parse.specs.Stops.{is_left_out};
 ghost use Rattle.xs_lexer.specs.Tokens.{StandsIn};
 
@@ -56,12 +56,13 @@ impl<'a> Model for TokenText<'a> {
     ghost use Rattle.xs_lexer.specs.Tokens.{number_of};
     ghost use Rattle.xs_lexer.specs.declared.token.TokenKind.TheVariants.{Number};
     ghost use Rattle.xs_tree.specs.Lexemes.{Lexeme, lexeme_of};
+    ghost use Rattle.xs_parse.specs.Places.{text_in};
 
     ghost Value = { Lexeme };
 
     ghost view = { λ token. lexeme_of token.kind token.text.now };
 
-    ghost invariant = { λ token. token.kind ≡ Number → number_of token.text.now ≤ 2 ^ 63 - 1 };
+    ghost invariant = { λ token. (token.kind ≡ Number → number_of token.text.now ≤ 2 ^ 63 - 1) × (text_in (lexeme_of token.kind token.text.now) ≡ token.text.now) };
 }
 
 fn word_role(text: &[u8]) -> Role
@@ -222,6 +223,23 @@ impl<'a> TokenText<'a> {
             TokenKind::Word => is_left_out(self.text),
             _ => false,
         }
+    }
+
+    /// Whether the token is this word.
+    pub fn is_word(&self, word: &[u8]) -> bool
+        ensures { result ≡ is_word self.now word.now }
+    {
+        match self.kind {
+            TokenKind::Word => is_same(self.text, word),
+            _ => false,
+        }
+    }
+
+    /// The token's text.
+    pub fn text(&self) -> &[u8]
+        ensures { result.now ≡ text_in self.now }
+    {
+        self.text
     }
 
     /// A word's text as a name, and the empty one of another token.

@@ -1,4 +1,4 @@
-use Rattle.std.proofs.Common.{◌≡◌, sym, ◌∙◌}
+use Rattle.std.proofs.Common.{sym, ◌∙◌}
 use Rattle.xs_parse.specs.Views.{role_view, state_with}
 use Rattle.xs_parse.proofs.ExtentLaws.{stops_deep, stops_whole}
 use Rattle.xs_parse.proofs.extent.reach.Goals as goal
@@ -12,5 +12,5 @@ returns-then-is_stuck-clause-deep c =
 pub returns-then-is_stuck-clause-whole : goal.returns-then-is_stuck-clause-whole
 returns-then-is_stuck-clause-whole c =
     stops_whole (state_with c.loop-len.mode c.loop-len.frames) (state_with c.in_ok-mode.mode c.step.new.frames) c.args.tokens.now c.loop-len.len c.index-tokens-len.result
-    (role_view c.role.result) c.loop-len-test.true c.index-tokens-len.is c.role.ensures c.in_ok-mode.ensures
-    (sym (c.is_stuck.ensures c.step.new.frames) ∙ c.if-is_stuck.true) c.loop-len.invariant.run
+    c.is_whole-whole.result (role_view c.role.result) c.loop-len-test.true c.index-tokens-len.is c.role.ensures c.in_ok-mode.ensures
+    (sym (c.is_stuck.ensures c.step.new.frames) ∙ c.if-is_stuck.true) c.loop-len.invariant.whole c.is_whole-whole.ensures

@@ -2,12 +2,12 @@ use Rattle.std.proofs.Common.{◌≡◌, ◌+◌, drop}
 use Rattle.std.specs.Prelude.{◌||◌}
 use Rattle.xs_parse.specs.Recognise as machine
 use Rattle.xs_parse.specs.Views.{state_with}
-use Rattle.xs_parse.specs.Extents.{reach_of, is_deep}
+use Rattle.xs_parse.specs.Extents.{reach_of, is_deep, ends_whole}
 use Rattle.xs_parse.proofs.extent.reach.Given as goal
 
 abbrev pub invariant-loop-len : goal.invariant-loop-len
 invariant-loop-len l = record {
   len : reach_of machine.start l.tokens ≡ l.len + reach_of (state_with l.mode l.frames) (drop l.len l.tokens);
   deep : is_deep machine.start l.tokens ≡ (l.deep || is_deep (state_with l.mode l.frames) (drop l.len l.tokens));
-  run : machine.run machine.start l.tokens ≡ machine.run (state_with l.mode l.frames) (drop l.len l.tokens);
+  whole : ends_whole machine.start l.tokens ≡ ends_whole (state_with l.mode l.frames) (drop l.len l.tokens);
 }

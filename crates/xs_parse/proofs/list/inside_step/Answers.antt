@@ -1,4 +1,4 @@
-use Rattle.std.proofs.Common.{◌≡◌, sym, ◌∙◌}
+use Rattle.std.proofs.Common.{sym, ◌∙◌}
 use Rattle.xs_parse.specs.Views.{role_view, state_with}
 use Rattle.xs_parse.proofs.ListLaws.{goes_inside}
 use Rattle.xs_parse.proofs.list.inside_step.Goals as goal

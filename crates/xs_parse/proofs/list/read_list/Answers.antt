@@ -1,7 +1,7 @@
-use Rattle.std.proofs.Common.{◌≡◌, None, sym, ap, ◌∙◌, subst}
+use Rattle.std.proofs.Common.{None, sym, ap, ◌∙◌, subst}
 use Rattle.std.specs.Prelude.{IfSome}
 use Rattle.std.proofs.lemmas.List.{take_all}
-use Rattle.xs_parse.specs.Lists.{expected_after, place_view, after_view, stepped, Fits}
+use Rattle.xs_parse.specs.Lists.{expected_after, place_view, after_view, Fits}
 use Rattle.xs_parse.proofs.ListLaws.{path_more, fits_goes}
 use Rattle.xs_parse.proofs.list.read_list.Goals as goal
 

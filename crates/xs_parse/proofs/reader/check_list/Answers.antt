@@ -1,5 +1,6 @@
-use Rattle.std.proofs.Common.{◌≡◌, refl, subst, length}
-use Rattle.xs_parse.specs.Lists.{ListReads, AreExpressions}
+use Rattle.std.proofs.Common.{refl, subst, length}
+use Rattle.xs_parse.specs.Lists.{ListReads}
+use Rattle.xs_parse.specs.Within.{AreTooDeep}
 use Rattle.xs_parse.proofs.ListLaws.{list_spelled, check_list_ends, check_list_stops}
 use Rattle.xs_parse.proofs.reader.check_list.Goals as goal
 
@@ -14,5 +15,5 @@ returns-in-Unfinished-clause-fault c =
 pub returns-in-Stopped-clause-fault : goal.returns-in-Stopped-clause-fault
 returns-in-Stopped-clause-fault c =
     let reads = subst (ListReads c.args.texts.now) c.in-Stopped.is c.in_ok-read_list.ensures in
-    check_list_stops (AreExpressions c.args.bytes.now) c.args.bytes.now c.args.tokens.now c.args.texts.now c.in-Stopped.i c.stop_at.result
+    check_list_stops (AreTooDeep c.args.bytes.now) c.args.bytes.now c.args.tokens.now c.args.texts.now c.in-Stopped.i c.stop_at.result
     c.requires.split c.requires.same reads.0 reads.1 reads.2 c.stop_at.ensures

@@ -1,4 +1,4 @@
-use Rattle.std.proofs.Common.{rules, arith, ◌≤◌, ◌^◌, ◌+◌, ◌-◌, ◌*◌, get_or}
+use Rattle.std.proofs.Common.{arith, ◌^◌, ◌-◌}
 use Rattle.xs_parse.proofs.Texts.{number_small}
 use Rattle.xs_parse.proofs.token.value_of.Goals as goal
 

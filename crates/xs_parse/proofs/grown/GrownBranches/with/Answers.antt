@@ -1,4 +1,4 @@
-use Rattle.std.proofs.Common.{arith, ◌≡◌, ◌∙◌, ap, map}
+use Rattle.std.proofs.Common.{arith, ◌∙◌, ap, map}
 use Rattle.xs_tree.specs.Tree.{branches_height, branches_from}
 use Rattle.xs_tree.specs.Written.{branch_trees}
 use Rattle.xs_parse.proofs.Heights.{branch_height}
