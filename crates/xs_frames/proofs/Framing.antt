@@ -1,14 +1,15 @@
 -- The invariant of frames is kept, and what follows from it.
 use Rattle.std.proofs.Common.{◌≡◌, ◌≤◌, ◌<◌, ℕ, zero, suc, ◌+◌, ◌-◌, List, [], ◌∷◌, ◌++◌, Some, refl, sym, subst, arith, length}
 use Rattle.std.specs.Prelude.{slice_get, Contains, All}
-use Rattle.std.proofs.lemmas.List.Elements.{All-nil, All-cons, All-head, All-tail, All-push}
+use Rattle.std.proofs.lemmas.List.Elements.{All-nil, All-cons, All-head, All-tail, All-push, All-contains}
 use Rattle.xs_lits.specs.Literal.{Literal}
 use Rattle.xs_encode.specs.declared.system.System.{System}
-use Rattle.xs_frames.specs.Chain.{State, state_values, IsFirstState, IsStepOf, Makes, InFrame, IsOverBits}
+use Rattle.xs_frames.specs.Chain.{State, state_values, IsFirstState, IsStepOf, Makes, InFrame, IsOverBits, Stands}
 use Rattle.xs_derive.specs.Hints.{HasNoOpposites}
 use Rattle.xs_frames.specs.Framed.{frame_at, strengthened, Linked, IsFramed, InNumber, ArePushed, IsInductive, HasEqualNeighbours}
 use Rattle.xs_frames.specs.Growing.{IsOpenChain}
-use Rattle.xs_frames.proofs.Short.{subset_true}
+use Rattle.xs_frames.proofs.Sets.{stands_itself}
+use Rattle.xs_frames.proofs.Short.{standing_true}
 use Rattle.xs_frames.proofs.Links.{length_strengthened, links_kept, to_push, reaches, reaches_from, link_at}
 
 all_strengthened : (P : List Literal → Type 0) (n : ℕ) (c : List Literal) (fs : List (List (List Literal))) → All (All P) fs → P c → All (All P) (strengthened n c fs)
@@ -75,7 +76,7 @@ module _ (system : System) where
     apart = all_at HasNoOpposites fs e.at f.apart (omega (arith, e.within));
     holds_first = λ s h. first_in fs e.at s f h;
     is_kept = λ s t h step. let there = (link_at system e.at fs e.within f.linked).0 s t h step in
-        (there.0, subset_true (state_values system t) (frame_at fs (e.at + 1)) (frame_at fs e.at) e.same there.1);
+        (there.0, standing_true (state_values system t) (frame_at fs (e.at + 1)) (frame_at fs e.at) (λ c m. All-contains (Stands (frame_at fs (e.at + 1))) (frame_at fs e.at) c e.same.0 m) there.1);
   }
 
   pub fixed_implies : (fs : List (List (List Literal))) (k : ℕ) (s : State) → IsFramed system fs → (e : HasEqualNeighbours system fs) → e.at ≤ k → InFrame system (frame_at fs e.at) s → InFrame system (frame_at fs k) s
@@ -106,7 +107,7 @@ frame_is fs f0 (suc i) frame lt e = by_get fs i frame (subst (λ n. slice_get fs
 
 -- after pushing, frames no two of which are equal are a chain but for its last property
 pub open_chain : (system : System) (f0 : List (List Literal)) (fs : List (List (List Literal))) → IsFramed system (f0 ∷ fs) → ArePushed system (f0 ∷ fs) →
-    ((i : ℕ) → 0 < i → i + 1 < length (f0 ∷ fs) → (c : List Literal) × Contains (frame_at (f0 ∷ fs) i) c × (Contains (frame_at (f0 ∷ fs) (i + 1)) c → ⊥)) → IsOpenChain system fs
+    ((i : ℕ) → 0 < i → i + 1 < length (f0 ∷ fs) → (c : List Literal) × Contains (frame_at (f0 ∷ fs) i) c × (Stands (frame_at (f0 ∷ fs) (i + 1)) c → ⊥)) → IsOpenChain system fs
 open_chain system f0 fs f p d = record {
   over_bits = All-tail (All (IsOverBits system)) f0 fs f.over_bits;
   first = λ frame s at h. let i = frame_is fs f0 1 frame at.0 at.1 in subst (λ z. InFrame system z s) i.0 (first_in system (f0 ∷ fs) 1 s f h);
@@ -119,15 +120,15 @@ open_chain system f0 fs f p d = record {
   shrinks = λ i frame next at after c m.
       let a = frame_is fs f0 i frame at.0 at.1 in
       let b = frame_is fs f0 (i + 1) next after.0 after.1 in
-      subst (λ z. Contains z c) a.0 ((link_at system i (f0 ∷ fs) b.1 f.linked).1 c (subst (λ z. Contains z c) (sym b.0) m));
+      stands_itself frame c (subst (λ z. Contains z c) a.0 ((link_at system i (f0 ∷ fs) b.1 f.linked).1 c (subst (λ z. Contains z c) (sym b.0) m)));
   loses = λ i frame next at after.
       let a = frame_is fs f0 i frame at.0 at.1 in
       let b = frame_is fs f0 (i + 1) next after.0 after.1 in
       let lost = d i at.0 b.1 in
-      (lost.0, subst (λ z. Contains z lost.0) a.0 lost.1, λ m. lost.2 (subst (λ z. Contains z lost.0) (sym b.0) m));
+      (lost.0, subst (λ z. Contains z lost.0) a.0 lost.1, λ m. lost.2 (subst (λ z. Stands z lost.0) (sym b.0) m));
   pushed = λ i frame next at after c m held.
       let a = frame_is fs f0 i frame at.0 at.1 in
       let b = frame_is fs f0 (i + 1) next after.0 after.1 in
-      subst (λ z. Contains z c) b.0 (p i c at.0 b.1 (subst (λ z. Contains z c) (sym a.0) m)
+      subst (λ z. Stands z c) b.0 (p i c at.0 b.1 (subst (λ z. Contains z c) (sym a.0) m)
       (λ s t h step. held s t (subst (λ z. InFrame system z s) a.0 h) step));
 }

@@ -1,4 +1,6 @@
 pub mod Count
+pub mod Sets
+pub mod MomentLemmas
 pub mod Short
 pub mod Links
 pub mod Framing

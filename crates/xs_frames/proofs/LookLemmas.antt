@@ -1,5 +1,5 @@
 -- What the answers of the queries of `clear` say of states and frames.
-use Rattle.std.proofs.Common.{◌≡◌, ◌≤◌, ◌<◌, ℕ, suc, ◌+◌, ◌-◌, Bool, true, false, not, ◌||◌, List, [], ◌∷◌, ◌++◌, refl, sym, ◌∙◌, ap, subst, arith, length, map}
+use Rattle.std.proofs.Common.{◌≡◌, ◌≤◌, ◌<◌, ℕ, suc, ◌+◌, ◌-◌, ◌*◌, Bool, true, false, not, ◌||◌, List, [], ◌∷◌, ◌++◌, refl, sym, ◌∙◌, ap, subst, arith, length, map}
 use Rattle.std.specs.Prelude.{slice_index_or, Contains, IsTrue, All}
 use Rattle.std.proofs.lemmas.List.Elements.{All-head, All-tail, All-append}
 use Rattle.xs_lits.specs.Literal.{Literal, opposite, signed}
@@ -11,6 +11,8 @@ use Rattle.xs_frames.specs.Framed.{frame_at}
 use Rattle.xs_frames.specs.Bits.{literal_for, literals_from, values_of, read_from, joined, moved_back}
 use Rattle.xs_frames.specs.Query.{IsModel, IsCore}
 use Rattle.xs_frames.specs.Looked.{Blocks}
+use Rattle.xs_frames.specs.Path.{Gives, Leads, IsStepUnder, IsStateMoment, IsStepMoment, state_in, inputs_in}
+use Rattle.xs_frames.proofs.MomentLemmas.{taken_read, taken_gives}
 use Rattle.xs_frames.proofs.Links.{append_parts, append_true}
 use Rattle.xs_frames.proofs.BitLemmas.{agrees_read, agrees_at, length_read, IsOpposed, all_opposed, all_back, back_at, high_enough, all_false, none_apart, over_value}
 
@@ -109,12 +111,16 @@ module _ (system : System) where
         ∙ (append_parts (values_of values) frame list m.clauses_true).0,
   )
 
-  pub bad_deeper : (frame bad : List (List Literal)) (values : Assignment) → All (IsOverBits system) frame → IsModel (frame ++ bad) [] values →
-      InFrame system frame (read_from 2 system.state_bits values) × IsBad system bad (read_from 2 system.state_bits values)
-  bad_deeper frame bad values over m = (
-    read_in frame bad [] values over m,
-    (length_read 2 system.state_bits values, (values_of values, agrees_read 2 system.state_bits values, (append_parts (values_of values) frame bad m.clauses_true).1)),
-  )
+  pub bad_deeper : (frame bad : List (List Literal)) (values a : Assignment) → All (IsOverBits system) frame → IsModel (frame ++ bad) [] values → IsStateMoment system values a →
+      InFrame system frame (state_in system a) × IsBad system bad (state_in system a) × Gives 2 system.state_bits a
+  bad_deeper frame bad values a over m moment =
+      let is : state_in system a ≡ read_from 2 system.state_bits values = taken_read 2 system.state_bits values a moment.state in
+      let found : InFrame system frame (read_from 2 system.state_bits values) × IsBad system bad (read_from 2 system.state_bits values) = (
+        read_in frame bad [] values over m,
+        (length_read 2 system.state_bits values, (values_of values, agrees_read 2 system.state_bits values, (append_parts (values_of values) frame bad m.clauses_true).1)),
+      ) in
+      let there = subst (λ (s : State). InFrame system frame s × IsBad system bad s) (sym is) found in
+      (there.0, there.1, taken_gives 2 system.state_bits values a moment.state)
 
   pub bad_nothing : (frame bad : List (List Literal)) (core : List Literal) → All (IsOverBits system) frame → IsCore (frame ++ bad) [] core →
       (s : State) → InFrame system frame s → IsBad system bad s → ⊥
@@ -128,22 +134,30 @@ module _ (system : System) where
   pub before_first : (s : State) (values : Assignment) → IsState system s → IsModel ([] ++ system.first) (literals_from 2 s) values → IsFirstState system s
   before_first s values e m = (e, (values_of values, agrees_assumed (values_of values) 2 s m.assumptions_true, m.clauses_true))
 
-  pub before_deeper : (frame : List (List Literal)) (s : State) (values : Assignment) → All (IsOverBits system) frame → IsState system s →
-      IsModel (frame ++ system.step) (literals_from (system.state_bits + 2) s) values →
-      InFrame system frame (read_from 2 system.state_bits values) × IsStepOf system (read_from 2 system.state_bits values) s
-  before_deeper frame s values over e m = (
-    read_in frame system.step (literals_from (system.state_bits + 2) s) values over m,
-    (
-      length_read 2 system.state_bits values,
-      e,
-      (
-        values_of values,
-        agrees_read 2 system.state_bits values,
-        agrees_assumed (values_of values) (system.state_bits + 2) s m.assumptions_true,
-        (append_parts (values_of values) frame system.step m.clauses_true).1,
-      ),
-    ),
-  )
+  pub before_deeper : (frame : List (List Literal)) (s : State) (values a : Assignment) → All (IsOverBits system) frame → IsState system s →
+      IsModel (frame ++ system.step) (literals_from (system.state_bits + 2) s) values → IsStepMoment system values a →
+      InFrame system frame (state_in system a) × Leads system a s
+  before_deeper frame s values a over e m moment =
+      let is : state_in system a ≡ read_from 2 system.state_bits values = taken_read 2 system.state_bits values a moment.state in
+      let are : inputs_in system a ≡ read_from (2 * system.state_bits + 2) system.input_bits values = taken_read (2 * system.state_bits + 2) system.input_bits values a moment.inputs in
+      let step : IsStepUnder system (read_from (2 * system.state_bits + 2) system.input_bits values) (read_from 2 system.state_bits values) s = (
+        length_read 2 system.state_bits values,
+        e,
+        (
+          values_of values,
+          agrees_read 2 system.state_bits values,
+          agrees_assumed (values_of values) (system.state_bits + 2) s m.assumptions_true,
+          agrees_read (2 * system.state_bits + 2) system.input_bits values,
+          (append_parts (values_of values) frame system.step m.clauses_true).1,
+        ),
+      ) in (
+        subst (InFrame system frame) (sym is) (read_in frame system.step (literals_from (system.state_bits + 2) s) values over m),
+        (
+          taken_gives 2 system.state_bits values a moment.state,
+          taken_gives (2 * system.state_bits + 2) system.input_bits values a moment.inputs,
+          subst (λ (u : List Bool). IsStepUnder system u (state_in system a) s) (sym are) (subst (λ (r : State). IsStepUnder system (read_from (2 * system.state_bits + 2) system.input_bits values) r s) (sym is) step),
+        ),
+      )
 
   pub next_high : (clauses : List (List Literal)) (s : State) (core : List Literal) → IsCore clauses (literals_from (system.state_bits + 2) s) core → All (λ l. system.state_bits + 2 ≤ l.var) core
   next_high clauses s core c = λ k d lt. high_enough system.state_bits s (slice_index_or core k d) (all_opposed (system.state_bits + 2) s core c.negated k d lt)

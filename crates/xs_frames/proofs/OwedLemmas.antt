@@ -1,10 +1,15 @@
 -- Obligations, paths, and the measure of `clear`.
 use Rattle.std.proofs.Common.{◌≡◌, ◌≤◌, ◌<◌, ℕ, zero, suc, ◌+◌, ◌*◌, ◌-◌, List, [], ◌∷◌, ◌++◌, Some, refl, sym, ◌∙◌, ap, subst, arith, length, ◌⊎◌, inl, inr}
-use Rattle.std.specs.Prelude.{slice_get, slice_index_or}
+use Rattle.std.specs.Prelude.{slice_get, slice_index_or, reverse}
+use Rattle.std.proofs.lemmas.List.{length-reverse, get_or-reverse}
+use Rattle.std.proofs.lemmas.List.Elements.{All-from_get_or}
+use Rattle.std.proofs.lemmas.Option.{slice_get-get_or}
+use Rattle.xs_lits.specs.Assignment.{Assignment}
 use Rattle.xs_lits.specs.Literal.{Literal}
 use Rattle.xs_encode.specs.declared.system.System.{System}
-use Rattle.xs_frames.specs.Chain.{State, IsState, IsStepOf, IsBad, Makes, InFrame}
-use Rattle.xs_frames.specs.Framed.{frame_at, strengthened, IsFramed, AreStronger, AreOwed, IsPathBack, IsClear}
+use Rattle.xs_frames.specs.Chain.{State, IsFirstState, IsStepOf, IsBad, Makes, InFrame}
+use Rattle.xs_frames.specs.Framed.{frame_at, strengthened, IsFramed, AreStronger, IsClear}
+use Rattle.xs_frames.specs.Path.{Gives, Leads, IsPath, AreOwed, state_in}
 use Rattle.xs_frames.specs.Counted.{states_left, work_left}
 use Rattle.xs_frames.specs.Looked.{Blocks, IsLook, IsBadLook, IsStepLook}
 use Rattle.xs_frames.specs.declared.clear.Look.{Look}
@@ -54,67 +59,106 @@ newest {A = A} (x ∷ xs) d lt = subst (λ n. slice_get (x ∷ xs) n ≡ Some (s
     go x [] = refl
     go x (y ∷ ys) = go y ys
 
+get_some : {A : Type 0} (xs : List A) (p : ℕ) (d : A) → p < length xs → slice_get xs p ≡ Some (slice_index_or xs p d)
+get_some xs p d lt = slice_get-get_or xs p d lt
+
 some_or_none : {A : Type 0} (xs : List A) → (xs ≡ []) ⊎ (0 < length xs)
 some_or_none [] = inl refl
 some_or_none (x ∷ xs) = inr (grind arith)
 
 module _ (system : System) (bad : List (List Literal)) where
   pub owed_none : (frames : List (List (List Literal))) → AreOwed system bad frames []
-  owed_none frames = record { fits = omega arith; inside = λ p s e. cc; ends_bad = λ s e. cc; steps = λ p s t e f. cc }
+  owed_none frames = record { fits = omega arith; given = λ p a e. cc; inside = λ p s e. cc; ends_bad = λ s e. cc; steps = λ p s t e f. cc }
 
-  pub look_bad_only : (frames : List (List (List Literal))) (owed : List State) (look : Look) → owed ≡ [] → IsBadLook system bad frames look → IsLook system bad frames owed look
+  pub look_bad_only : (frames : List (List (List Literal))) (owed : List Assignment) (look : Look) → owed ≡ [] → IsBadLook system bad frames look → IsLook system bad frames owed look
   look_bad_only frames owed look e b = record {
     at_bad = λ q. b;
     at_newest = λ t f. absurd (none t (subst (λ xs. slice_get xs (length xs - 1) ≡ Some t) e f));
   }
     where
-      none : (t : State) → slice_get [] (length {A = State} [] - 1) ≡ Some t → ⊥
+      none : (t : Assignment) → slice_get [] (length {A = Assignment} [] - 1) ≡ Some t → ⊥
       none t f = cc
 
-  pub look_newest : (frames : List (List (List Literal))) (owed : List State) (look : Look) (t : State) → 0 < length owed → t ≡ slice_index_or owed (length owed - 1) [] →
+  pub look_newest : (frames : List (List (List Literal))) (owed : List Assignment) (look : Look) (t : State) → 0 < length owed → t ≡ state_in system (slice_index_or owed (length owed - 1) []) →
       IsStepLook system frames (length frames - length owed) t look → IsLook system bad frames owed look
   look_newest frames owed look t lt e b = record {
     at_bad = λ q. absurd (empty (subst (λ xs. 0 < length xs) q lt));
-    at_newest = λ u f. subst (λ z. IsStepLook system frames (length frames - length owed) z look) (same t u (sym (ap (λ z. Some z) (sym e)) ∙ sym (newest owed [] lt) ∙ f)) b;
+    at_newest = λ u f. subst (λ z. IsStepLook system frames (length frames - length owed) z look)
+        (e ∙ ap (state_in system) (same (slice_index_or owed (length owed - 1) []) u (sym (newest owed [] lt) ∙ f))) b;
   }
     where
-      empty : 0 < length {A = State} [] → ⊥
+      empty : 0 < length {A = Assignment} [] → ⊥
       empty lt = omega (arith, lt)
 
-      same : (t u : State) → Some t ≡ Some u → t ≡ u
+      same : (t u : Assignment) → Some t ≡ Some u → t ≡ u
       same t u e = cc
 
-  pub newest_state : (frames : List (List (List Literal))) (owed : List State) → AreOwed system bad frames owed → 0 < length owed → IsState system (slice_index_or owed (length owed - 1) [])
-  newest_state frames owed o lt = (o.inside (length owed - 1) (slice_index_or owed (length owed - 1) []) (newest owed [] lt)).0
-
-  pub look_nothing : (frames : List (List (List Literal))) (owed : List State) → IsFramed system frames → IsLook system bad frames owed Nothing → IsClear system bad frames
+  pub look_nothing : (frames : List (List (List Literal))) (owed : List Assignment) → IsFramed system frames → IsLook system bad frames owed Nothing → IsClear system bad frames
   look_nothing frames owed f look = by_case (some_or_none owed)
     where
       by_case : (owed ≡ []) ⊎ (0 < length owed) → IsClear system bad frames
       by_case (inl e) = λ s h b. look.at_bad e s (in_list system frames (length frames - 1) s f h) b
       by_case (inr lt) = absurd (look.at_newest (slice_index_or owed (length owed - 1) []) (newest owed [] lt))
 
-  pub look_first : (frames : List (List (List Literal))) (owed : List State) → AreOwed system bad frames owed → IsLook system bad frames owed IsFirst → IsPathBack system bad (length frames - 1) owed
-  look_first frames owed o look = by_case (some_or_none owed)
+  -- the obligations turned round are a path, where the newest is first
+  pub owed_path : (frames : List (List (List Literal))) (owed : List Assignment) → AreOwed system bad frames owed → 0 < length owed →
+      IsFirstState system (state_in system (slice_index_or owed (length owed - 1) [])) → IsPath system bad (length frames - 1) (reverse owed)
+  owed_path frames owed o lt first = record {
+    some = subst (λ n. 0 < n) (sym (length-reverse owed)) lt;
+    short = subst (λ n. n ≤ length frames - 1 + 1) (sym (length-reverse owed)) (fit (length owed) (length frames) o.fits);
+    given = All-from_get_or (Gives 2 system.state_bits) (reverse owed) [] (λ i l. given i (subst (λ n. i < n) (length-reverse owed) l));
+    starts_first = subst (λ a. IsFirstState system (state_in system a)) (sym (get_or-reverse owed 0 [] lt ∙ ap (λ n. slice_index_or owed n []) (none_less (length owed)))) first;
+    steps = λ i l. steps i (subst (λ n. i + 1 < n) (length-reverse owed) l);
+    ends_bad = subst (λ n. IsBad system bad (state_in system (slice_index_or (reverse owed) (n - 1) []))) (sym (length-reverse owed))
+        (subst (λ a. IsBad system bad (state_in system a)) (sym (get_or-reverse owed (length owed - 1) [] (last (length owed) lt) ∙ ap (λ n. slice_index_or owed n []) (all_less (length owed))))
+        (o.ends_bad (slice_index_or owed 0 []) (get_some owed 0 [] lt)));
+  }
     where
       fit : (n k : ℕ) → n ≤ k → n ≤ k - 1 + 1
       fit n k le = omega arith
 
-      by_case : (owed ≡ []) ⊎ (0 < length owed) → IsPathBack system bad (length frames - 1) owed
+      none_less : (n : ℕ) → n - 1 - 0 ≡ n - 1
+      none_less n = omega arith
+
+      all_less : (n : ℕ) → n - 1 - (n - 1) ≡ 0
+      all_less n = omega arith
+
+      last : (n : ℕ) → 0 < n → n - 1 < n
+      last n lt = omega arith
+
+      back : (n i : ℕ) → i < n → n - 1 - i < n
+      back n i lt = omega arith
+
+      sooner : (n i : ℕ) → i + 1 < n → i < n
+      sooner n i lt = omega arith
+
+      one_back : (n i : ℕ) → i + 1 < n → n - 1 - i ≡ suc (n - 1 - (i + 1))
+      one_back n i lt = omega arith
+
+      given : (i : ℕ) → i < length owed → Gives 2 system.state_bits (slice_index_or (reverse owed) i [])
+      given i l = subst (Gives 2 system.state_bits) (sym (get_or-reverse owed i [] l))
+          (o.given (length owed - 1 - i) (slice_index_or owed (length owed - 1 - i) []) (get_some owed (length owed - 1 - i) [] (back (length owed) i l)))
+
+      steps : (i : ℕ) → i + 1 < length owed → Leads system (slice_index_or (reverse owed) i []) (state_in system (slice_index_or (reverse owed) (i + 1) []))
+      steps i l =
+          let p : ℕ = length owed - 1 - (i + 1) in
+          let here : slice_index_or (reverse owed) i [] ≡ slice_index_or owed (suc p) [] =
+          get_or-reverse owed i [] (sooner (length owed) i l) ∙ ap (λ n. slice_index_or owed n []) (one_back (length owed) i l) in
+          let next : slice_index_or (reverse owed) (i + 1) [] ≡ slice_index_or owed p [] = get_or-reverse owed (i + 1) [] l in
+          let inside : suc p < length owed = subst (λ n. n < length owed) (one_back (length owed) i l) (back (length owed) i (sooner (length owed) i l)) in
+          subst (λ a. Leads system a (state_in system (slice_index_or (reverse owed) (i + 1) []))) (sym here)
+          (subst (λ b. Leads system (slice_index_or owed (suc p) []) (state_in system b)) (sym next)
+          (o.steps p (slice_index_or owed (suc p) []) (slice_index_or owed p []) (get_some owed p [] (back (length owed) (i + 1) l)) (get_some owed (suc p) [] inside)))
+
+  pub look_first : (frames : List (List (List Literal))) (owed : List Assignment) → AreOwed system bad frames owed → IsLook system bad frames owed IsFirst → IsPath system bad (length frames - 1) (reverse owed)
+  look_first frames owed o look = by_case (some_or_none owed)
+    where
+      by_case : (owed ≡ []) ⊎ (0 < length owed) → IsPath system bad (length frames - 1) (reverse owed)
       by_case (inl e) = absurd (look.at_bad e)
-      by_case (inr lt) =
-          let top = newest owed [] lt in
-          record {
-            fits = fit (length owed) (length frames) o.fits;
-            starts = slice_index_or owed (length owed - 1) [];
-            starts_last = top;
-            is_first = look.at_newest (slice_index_or owed (length owed - 1) []) top;
-            ends_bad = o.ends_bad;
-            steps = o.steps;
-          }
+      by_case (inr lt) = owed_path frames owed o lt (look.at_newest (slice_index_or owed (length owed - 1) []) (newest owed [] lt))
 
   -- one obligation more
-  pub look_deeper : (frames : List (List (List Literal))) (owed : List State) (r : State) → IsFramed system frames → AreOwed system bad frames owed → IsLook system bad frames owed (Deeper r) →
+  pub look_deeper : (frames : List (List (List Literal))) (owed : List Assignment) (r : Assignment) → IsFramed system frames → AreOwed system bad frames owed → IsLook system bad frames owed (Deeper r) →
       (length owed < length frames) × AreOwed system bad frames (owed ++ r ∷ [])
   look_deeper frames owed r f o look = by_case (some_or_none owed)
     where
@@ -122,22 +166,28 @@ module _ (system : System) (bad : List (List Literal)) where
       by_case (inl e) = let found = look.at_bad e in
           subst (λ xs. (length xs < length frames) × AreOwed system bad frames (xs ++ r ∷ [])) (sym e) (f.some, one found)
         where
-          one : InFrame system (frame_at frames (length frames - 1)) r × IsBad system bad r → AreOwed system bad frames (r ∷ [])
+          one : InFrame system (frame_at frames (length frames - 1)) (state_in system r) × IsBad system bad (state_in system r) × Gives 2 system.state_bits r → AreOwed system bad frames (r ∷ [])
           one found = record {
             fits = (let lt = f.some in grind (arith, lt));
+            given = given;
             inside = inside;
-            ends_bad = λ s e. subst (IsBad system bad) (same s e) found.1;
+            ends_bad = λ s e. subst (λ a. IsBad system bad (state_in system a)) (same s e) found.1;
             steps = λ p s t e f. cc;
           }
             where
-              same : (s : State) → Some r ≡ Some s → r ≡ s
+              same : (s : Assignment) → Some r ≡ Some s → r ≡ s
               same s e = cc
 
               less : (n : ℕ) → n - 1 ≡ n - 1 - 0
               less n = omega arith
 
-              inside : (p : ℕ) (s : State) → slice_get (r ∷ []) p ≡ Some s → InFrame system (frame_at frames (length frames - 1 - p)) s
-              inside zero s e = subst (InFrame system (frame_at frames (length frames - 1 - 0))) (same s e) (subst (λ n. InFrame system (frame_at frames n) r) (less (length frames)) found.0)
+              given : (p : ℕ) (s : Assignment) → slice_get (r ∷ []) p ≡ Some s → Gives 2 system.state_bits s
+              given zero s e = subst (Gives 2 system.state_bits) (same s e) found.2
+              given (suc p) s e = cc
+
+              inside : (p : ℕ) (s : Assignment) → slice_get (r ∷ []) p ≡ Some s → InFrame system (frame_at frames (length frames - 1 - p)) (state_in system s)
+              inside zero s e = subst (λ a. InFrame system (frame_at frames (length frames - 1 - 0)) (state_in system a)) (same s e)
+                  (subst (λ n. InFrame system (frame_at frames n) (state_in system r)) (less (length frames)) found.0)
               inside (suc p) s e = cc
       by_case (inr lt) =
           let top = newest owed [] lt in
@@ -156,51 +206,57 @@ module _ (system : System) (bad : List (List Literal)) where
           one_less : (n p : ℕ) → suc p ≡ n → p ≡ n - 1
           one_less n p e = omega arith
 
-          same : (s t : State) → Some s ≡ Some t → s ≡ t
+          same : (s t : Assignment) → Some s ≡ Some t → s ≡ t
           same s t e = cc
 
-          more : 0 < length frames - length owed → InFrame system (frame_at frames (length frames - length owed - 1)) r → IsStepOf system r (slice_index_or owed (length owed - 1) []) →
+          more : 0 < length frames - length owed → InFrame system (frame_at frames (length frames - length owed - 1)) (state_in system r) → Leads system r (state_in system (slice_index_or owed (length owed - 1) [])) →
               AreOwed system bad frames (owed ++ r ∷ [])
           more positive here step = record {
             fits = fit (length owed) (length frames) (length (owed ++ r ∷ [])) (length_push owed r) (lower (length frames) (length owed) positive);
+            given = λ p s e. given p s (get_push owed r p s e);
             inside = λ p s e. inside p s (get_push owed r p s e);
             ends_bad = λ s e. ends s (get_push owed r 0 s e);
             steps = λ p s t e f. steps p s t (get_push owed r p t e) (get_push owed r (suc p) s f);
           }
             where
-              inside : (p : ℕ) (s : State) → (slice_get owed p ≡ Some s) ⊎ ((p ≡ length owed) × (r ≡ s)) → InFrame system (frame_at frames (length frames - 1 - p)) s
-              inside p s (inl e) = o.inside p s e
-              inside p s (inr e) = subst (λ n. InFrame system (frame_at frames (length frames - 1 - n)) s) (sym e.0)
-                  (subst (λ n. InFrame system (frame_at frames n) s) (less (length frames) (length owed)) (subst (InFrame system (frame_at frames (length frames - length owed - 1))) e.1 here))
+              given : (p : ℕ) (s : Assignment) → (slice_get owed p ≡ Some s) ⊎ ((p ≡ length owed) × (r ≡ s)) → Gives 2 system.state_bits s
+              given p s (inl e) = o.given p s e
+              given p s (inr e) = subst (Gives 2 system.state_bits) e.1 step.0
 
-              ends : (s : State) → (slice_get owed 0 ≡ Some s) ⊎ ((0 ≡ length owed) × (r ≡ s)) → IsBad system bad s
+              inside : (p : ℕ) (s : Assignment) → (slice_get owed p ≡ Some s) ⊎ ((p ≡ length owed) × (r ≡ s)) → InFrame system (frame_at frames (length frames - 1 - p)) (state_in system s)
+              inside p s (inl e) = o.inside p s e
+              inside p s (inr e) = subst (λ n. InFrame system (frame_at frames (length frames - 1 - n)) (state_in system s)) (sym e.0)
+                  (subst (λ n. InFrame system (frame_at frames n) (state_in system s)) (less (length frames) (length owed))
+                  (subst (λ a. InFrame system (frame_at frames (length frames - length owed - 1)) (state_in system a)) e.1 here))
+
+              ends : (s : Assignment) → (slice_get owed 0 ≡ Some s) ⊎ ((0 ≡ length owed) × (r ≡ s)) → IsBad system bad (state_in system s)
               ends s (inl e) = o.ends_bad s e
               ends s (inr e) = absurd (omega (arith, lt, e.0))
 
-              steps : (p : ℕ) (s t : State) → (slice_get owed p ≡ Some t) ⊎ ((p ≡ length owed) × (r ≡ t)) → (slice_get owed (suc p) ≡ Some s) ⊎ ((suc p ≡ length owed) × (r ≡ s)) → IsStepOf system s t
+              steps : (p : ℕ) (s t : Assignment) → (slice_get owed p ≡ Some t) ⊎ ((p ≡ length owed) × (r ≡ t)) → (slice_get owed (suc p) ≡ Some s) ⊎ ((suc p ≡ length owed) × (r ≡ s)) → Leads system s (state_in system t)
               steps p s t (inl e) (inl f) = o.steps p s t e f
               steps p s t (inr e) (inl f) = let within = get_within owed (suc p) s f in absurd (omega (arith, within, e.0))
               steps p s t (inr e) (inr f) = absurd (omega (arith, e.0, f.0))
               steps p s t (inl e) (inr f) =
                   let top : slice_get owed p ≡ Some (slice_index_or owed (length owed - 1) []) = subst (λ n. slice_get owed n ≡ Some (slice_index_or owed (length owed - 1) [])) (sym (one_less (length owed) p f.0)) (newest owed [] lt) in
                   let is : slice_index_or owed (length owed - 1) [] ≡ t = same (slice_index_or owed (length owed - 1) []) t (sym top ∙ e) in
-                  subst (λ z. IsStepOf system z t) f.1 (subst (IsStepOf system r) is step)
+                  subst (λ z. Leads system z (state_in system t)) f.1 (subst (λ z. Leads system r (state_in system z)) is step)
 
   -- what blocks the newest obligation
-  pub record BlocksNewest (frames : List (List (List Literal))) (owed : List State) (c : List Literal) : Type 0 where
+  pub record BlocksNewest (frames : List (List (List Literal))) (owed : List Assignment) (c : List Literal) : Type 0 where
     pub some : 0 < length owed
-    pub state : State
-    pub is_newest : slice_get owed (length owed - 1) ≡ Some state
-    pub blocks : Blocks system frames (length frames - length owed) state c
+    pub moment : Assignment
+    pub is_newest : slice_get owed (length owed - 1) ≡ Some moment
+    pub blocks : Blocks system frames (length frames - length owed) (state_in system moment) c
 
-  pub look_blocked : (frames : List (List (List Literal))) (owed : List State) (c : List Literal) → IsLook system bad frames owed (Blocked c) → BlocksNewest frames owed c
+  pub look_blocked : (frames : List (List (List Literal))) (owed : List Assignment) (c : List Literal) → IsLook system bad frames owed (Blocked c) → BlocksNewest frames owed c
   look_blocked frames owed c look = by_case (some_or_none owed)
     where
       by_case : (owed ≡ []) ⊎ (0 < length owed) → BlocksNewest frames owed c
       by_case (inl e) = absurd (look.at_bad e)
       by_case (inr lt) =
           let top = newest owed [] lt in
-          record { some = lt; state = slice_index_or owed (length owed - 1) []; is_newest = top; blocks = look.at_newest (slice_index_or owed (length owed - 1) []) top }
+          record { some = lt; moment = slice_index_or owed (length owed - 1) []; is_newest = top; blocks = look.at_newest (slice_index_or owed (length owed - 1) []) top }
 
   -- the frames stay framed, also where only some of them got the clause
   pub framed_blocked : (frames : List (List (List Literal))) (level n : ℕ) (s : State) (c : List Literal) → n ≤ suc level → IsFramed system frames → Blocks system frames level s c → IsFramed system (strengthened n c frames)
@@ -219,12 +275,13 @@ module _ (system : System) (bad : List (List Literal)) where
   stronger_after old frames n c w = λ i s lt h. w i s lt (stronger system n c frames i s h)
 
   -- one obligation less
-  pub owed_less : (frames : List (List (List Literal))) (owed : List State) (t : State) (c : List Literal) → AreOwed system bad frames (owed ++ t ∷ []) →
+  pub owed_less : (frames : List (List (List Literal))) (owed : List Assignment) (t : Assignment) (c : List Literal) → AreOwed system bad frames (owed ++ t ∷ []) →
       AreOwed system bad (strengthened (length frames - length (owed ++ t ∷ []) + 1) c frames) owed
   owed_less frames owed t c o = record {
     fits = fit (length owed) (length (owed ++ t ∷ [])) (length frames) (length (strengthened n c frames)) (length_push owed t) o.fits (length_strengthened n c frames);
-    inside = λ p s e. subst (λ k. InFrame system (frame_at (strengthened n c frames) (k - 1 - p)) s) (sym (length_strengthened n c frames))
-        (subst (λ z. InFrame system z s) (sym (untouched n (length frames - 1 - p) c frames (above (length frames) (length owed) (length (owed ++ t ∷ [])) p (length_push owed t) o.fits (get_within owed p s e))))
+    given = λ p s e. o.given p s (get_left owed t p s e);
+    inside = λ p s e. subst (λ k. InFrame system (frame_at (strengthened n c frames) (k - 1 - p)) (state_in system s)) (sym (length_strengthened n c frames))
+        (subst (λ z. InFrame system z (state_in system s)) (sym (untouched n (length frames - 1 - p) c frames (above (length frames) (length owed) (length (owed ++ t ∷ [])) p (length_push owed t) o.fits (get_within owed p s e))))
         (o.inside p s (get_left owed t p s e)));
     ends_bad = λ s e. o.ends_bad s (get_left owed t 0 s e);
     steps = λ p s u e f. o.steps p s u (get_left owed t p u e) (get_left owed t (suc p) s f);
@@ -240,13 +297,13 @@ module _ (system : System) (bad : List (List Literal)) where
       above f k m p e le lt = omega arith
 
   -- the measure
-  pub work_deeper : (frames : List (List (List Literal))) (owed : List State) (r : State) → length owed < length frames → work_left system.state_bits frames (owed ++ r ∷ []) < work_left system.state_bits frames owed
+  pub work_deeper : (frames : List (List (List Literal))) (owed : List Assignment) (r : Assignment) → length owed < length frames → work_left system.state_bits frames (owed ++ r ∷ []) < work_left system.state_bits frames owed
   work_deeper frames owed r lt = go (states_left system.state_bits frames * (length frames + 1)) (length frames) (length owed) (length (owed ++ r ∷ [])) (length_push owed r) lt
     where
       go : (a n k m : ℕ) → m ≡ k + 1 → k < n → a + (n - m) < a + (n - k)
       go a n k m e lt = omega arith
 
-  pub work_blocked : (frames : List (List (List Literal))) (owed : List State) (t : State) (c : List Literal) → AreOwed system bad frames (owed ++ t ∷ []) → BlocksNewest frames (owed ++ t ∷ []) c →
+  pub work_blocked : (frames : List (List (List Literal))) (owed : List Assignment) (t : Assignment) (c : List Literal) → AreOwed system bad frames (owed ++ t ∷ []) → BlocksNewest frames (owed ++ t ∷ []) c →
       work_left system.state_bits (strengthened (length frames - length (owed ++ t ∷ []) + 1) c frames) owed < work_left system.state_bits frames (owed ++ t ∷ [])
   work_blocked frames owed t c o b =
       falls (states_left system.state_bits (strengthened n c frames)) (states_left system.state_bits frames) (length (strengthened n c frames)) (length frames) (length owed) (length (owed ++ t ∷ []))
@@ -258,8 +315,8 @@ module _ (system : System) (bad : List (List Literal)) where
       level : ℕ
       level = length frames - 1 - (length (owed ++ t ∷ []) - 1)
 
-      here : InFrame system (frame_at frames level) b.state
-      here = o.inside (length (owed ++ t ∷ []) - 1) b.state b.is_newest
+      here : InFrame system (frame_at frames level) (state_in system b.moment)
+      here = o.inside (length (owed ++ t ∷ []) - 1) b.moment b.is_newest
 
       in_n : (f m : ℕ) → 0 < m → m ≤ f → f - 1 - (m - 1) < f - m + 1
       in_n f m lt le = omega arith
@@ -268,7 +325,7 @@ module _ (system : System) (bad : List (List Literal)) where
       in_frames f m lt le = omega arith
 
       less : states_left system.state_bits (strengthened n c frames) < states_left system.state_bits frames
-      less = left_less system.state_bits n level c frames b.state here.0 (in_n (length frames) (length (owed ++ t ∷ [])) b.some o.fits) (in_frames (length frames) (length (owed ++ t ∷ [])) b.some o.fits) here.1 b.blocks.excludes
+      less = left_less system.state_bits n level c frames (state_in system b.moment) here.0 (in_n (length frames) (length (owed ++ t ∷ [])) b.some o.fits) (in_frames (length frames) (length (owed ++ t ∷ [])) b.some o.fits) here.1 b.blocks.excludes
 
       falls : (a b l f k m : ℕ) → l ≡ f → m ≡ k + 1 → m ≤ f → a < b → a * (l + 1) + (l - k) < b * (f + 1) + (f - m)
       falls a b l f k m e q le lt = subst (λ z. a * (z + 1) + (z - k) < b * (f + 1) + (f - m)) (sym e) (grow (a * (f + 1)) (b * (f + 1)) f k m q le (product a b f lt))

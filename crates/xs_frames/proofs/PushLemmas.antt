@@ -6,12 +6,13 @@ use Rattle.xs_lits.specs.Literal.{Literal, opposite, signed}
 use Rattle.xs_lits.specs.Assignment.{Assignment}
 use Rattle.xs_lits.specs.Models.{TotalAssignment, literal_value, clause_value, all_true}
 use Rattle.xs_encode.specs.declared.system.System.{System}
-use Rattle.xs_frames.specs.Chain.{State, Agrees, state_values, InFrame, IsOverBits}
+use Rattle.xs_frames.specs.Chain.{State, Agrees, state_values, InFrame, IsOverBits, Stands}
 use Rattle.xs_frames.specs.Framed.{frame_at, Linked, IsFramed}
 use Rattle.xs_frames.specs.Growing.{Keeps, HasGrown, IsPlacePushed, IsPushedAt, ArePushedBelow, AllLoseBelow, Loses}
 use Rattle.std.proofs.lemmas.Bool.{cases_eq}
 use Rattle.std.proofs.lemmas.List.{length-set, get_or-set_same, get_or-set_other}
 use Rattle.xs_frames.specs.Framed.{AreStronger}
+use Rattle.xs_frames.proofs.Sets.{true_member, from_member, stands_itself, stands_grown}
 use Rattle.xs_frames.proofs.Short.{subset_true}
 use Rattle.xs_frames.specs.Bits.{values_of, read_from, against_next, moved_on}
 use Rattle.xs_frames.specs.Query.{IsModel, IsCore}
@@ -21,30 +22,6 @@ use Rattle.xs_derive.proofs.FalseLemmas.{opposite-opposite}
 use Rattle.xs_derive.specs.Hints.{HasNoOpposites}
 use Rattle.xs_frames.proofs.BitLemmas.{agrees_read, agrees_at, length_read}
 use Rattle.xs_frames.proofs.LookLemmas.{list_over, read_in}
-
--- a member that is true
-pub true_member : (v : TotalAssignment) (c : List Literal) → clause_value v c ≡ true → (l : Literal) × Contains c l × (literal_value v l ≡ true)
-true_member v [] t = cc
-true_member v (l ∷ c) t = go (literal_value v l) refl (λ r. true_member v c r)
-  where
-    go : (b : Bool) → literal_value v l ≡ b → (clause_value v c ≡ true → (k : Literal) × Contains c k × (literal_value v k ≡ true)) → (k : Literal) × Contains (l ∷ c) k × (literal_value v k ≡ true)
-    go true e more = (l, (0, grind arith, refl), e)
-    go false e more =
-        let rest : clause_value v c ≡ true = rw e at t in
-        let m = more rest in
-        (m.0, (suc m.1.0, (let lt = m.1.1 in grind (arith, lt)), m.1.2), m.2)
-
-pub from_member : (v : TotalAssignment) (c : List Literal) (l : Literal) → Contains c l → literal_value v l ≡ true → clause_value v c ≡ true
-from_member v [] l m t = absurd (omega (arith, m.1))
-from_member v (k ∷ c) l m t = by_place m.0 m.1 m.2 (λ r. from_member v c l r t)
-  where
-    by_place : (i : ℕ) → i < length (k ∷ c) → slice_index_or (k ∷ c) i l ≡ l → (Contains c l → clause_value v c ≡ true) → clause_value v (k ∷ c) ≡ true
-    by_place zero lt e more = let here : literal_value v k ≡ true = ap (literal_value v) e ∙ t in rw here refl
-    by_place (suc i) lt e more = let rest : clause_value v c ≡ true = more (i, grind arith, e) in go (literal_value v k) refl rest
-      where
-        go : (b : Bool) → literal_value v k ≡ b → clause_value v c ≡ true → clause_value v (k ∷ c) ≡ true
-        go true q r = rw q refl
-        go false q r = rw (q, r) refl
 
 pub from_map : (f : Literal → Literal) (c : List Literal) (x : Literal) → Contains (map f c) x → (l : Literal) × Contains c l × (f l ≡ x)
 from_map f [] x m = absurd (omega (arith, m.1))
@@ -160,8 +137,9 @@ module _ (system : System) where
     grows = λ d m. subst (λ f. Contains f d) (sym (get_or-set_same fs (i + 1) (frame_at fs (i + 1) ++ c ∷ []) [] lt)) (Contains-append_left (frame_at fs (i + 1)) (c ∷ []) d m);
   }
 
-  pub added_stands : (fs : List (List (List Literal))) (i : ℕ) (c : List Literal) → i + 1 < length fs → Contains (frame_at (slice_set fs (i + 1) (frame_at fs (i + 1) ++ c ∷ [])) (i + 1)) c
-  added_stands fs i c lt = subst (λ f. Contains f c) (sym (get_or-set_same fs (i + 1) (frame_at fs (i + 1) ++ c ∷ []) [] lt)) (Contains-push (frame_at fs (i + 1)) c)
+  pub added_stands : (fs : List (List (List Literal))) (i : ℕ) (c : List Literal) → i + 1 < length fs → Stands (frame_at (slice_set fs (i + 1) (frame_at fs (i + 1) ++ c ∷ [])) (i + 1)) c
+  added_stands fs i c lt = subst (λ f. Stands f c) (sym (get_or-set_same fs (i + 1) (frame_at fs (i + 1) ++ c ∷ []) [] lt))
+      (stands_itself (frame_at fs (i + 1) ++ c ∷ []) c (Contains-push (frame_at fs (i + 1)) c))
 
   pub grown_more : (a b c : List (List (List Literal))) (i : ℕ) → HasGrown system a b i → HasGrown system b c i → HasGrown system a c i
   grown_more a b c i g h = record {
@@ -196,14 +174,14 @@ module _ (system : System) where
       less k n ne lt = omega arith
 
       at_n : IsPlacePushed system a c i n
-      at_n = subst (λ f. Keeps system f (slice_index_or f n []) → Contains (frame_at c (i + 1)) (slice_index_or f n [])) (frame_stays a b i g) here
+      at_n = subst (λ f. Keeps system f (slice_index_or f n []) → Stands (frame_at c (i + 1)) (slice_index_or f n [])) (frame_stays a b i g) here
 
       by_place : (k : ℕ) → (k ≡ n) ⊎ (k ≢ n) → k < n + 1 → IsPlacePushed system a c i k
       by_place k (inl e) lt = subst (λ m. IsPlacePushed system a c i m) (sym e) at_n
-      by_place k (inr ne) lt = λ keeps. h.grows (slice_index_or (frame_at a i) k []) (before k (less k n ne lt) keeps)
+      by_place k (inr ne) lt = λ keeps. stands_grown (frame_at b (i + 1)) (frame_at c (i + 1)) (slice_index_or (frame_at a i) k []) h.grows (before k (less k n ne lt) keeps)
 
   pub all_places : (a b : List (List (List Literal))) (i : ℕ) → HasGrown system a b i → ArePlacesPushed a b i (length (frame_at a i)) → IsPushedAt system b i
-  all_places a b i g p = subst (λ f. (c : List Literal) → Contains f c → Keeps system f c → Contains (frame_at b (i + 1)) c) (sym (frame_stays a b i g))
+  all_places a b i g p = subst (λ f. (c : List Literal) → Contains f c → Keeps system f c → Stands (frame_at b (i + 1)) c) (sym (frame_stays a b i g))
       (λ c m keeps. by_member c m keeps)
     where
       same : (xs : List (List Literal)) (k : ℕ) (c d : List Literal) → k < length xs → slice_index_or xs k c ≡ slice_index_or xs k d
@@ -211,10 +189,10 @@ module _ (system : System) where
       same (x ∷ xs) zero c d lt = refl
       same (x ∷ xs) (suc k) c d lt = same xs k c d (grind arith)
 
-      by_member : (c : List Literal) → Contains (frame_at a i) c → Keeps system (frame_at a i) c → Contains (frame_at b (i + 1)) c
+      by_member : (c : List Literal) → Contains (frame_at a i) c → Keeps system (frame_at a i) c → Stands (frame_at b (i + 1)) c
       by_member c m keeps =
           let is : slice_index_or (frame_at a i) m.0 [] ≡ c = same (frame_at a i) m.0 [] c m.1 ∙ m.2 in
-          subst (Contains (frame_at b (i + 1))) is (p m.0 m.1 (subst (Keeps system (frame_at a i)) (sym is) keeps))
+          subst (Stands (frame_at b (i + 1))) is (p m.0 m.1 (subst (Keeps system (frame_at a i)) (sym is) keeps))
 
   pub pushed_more : (a b : List (List (List Literal))) (i : ℕ) → HasGrown system a b i → ArePushedBelow system a i → IsPushedAt system b i → ArePushedBelow system b (i + 1)
   pushed_more a b i g before here = λ j some lt. by_place j some lt (cases_eq j i)
@@ -230,7 +208,7 @@ module _ (system : System) where
 
       carry : (j : ℕ) → j < i → IsPushedAt system a j → IsPushedAt system b j
       carry j lt p = λ c m k.
-          subst (λ f. Contains f c) (sym (g.others (j + 1) (apart_next j i lt)))
+          subst (λ f. Stands f c) (sym (g.others (j + 1) (apart_next j i lt)))
           (p c (subst (λ f. Contains f c) (g.others j (apart j i lt)) m) (subst (λ f. Keeps system f c) (g.others j (apart j i lt)) k))
 
       by_place : (j : ℕ) → 0 < j → j < i + 1 → (j ≡ i) ⊎ (j ≢ i) → IsPushedAt system b j

@@ -7,11 +7,6 @@ use Rattle.std.proofs.lemmas.List.Elements.{All-contains, All-nil, All-cons, Con
 use Rattle.xs_lits.specs.Literal.{Literal, opposite, signed}
 use Rattle.xs_lits.specs.Assignment.{Assignment, value_of}
 use Rattle.xs_lits.specs.Models.{literal_value, clause_value, all_true}
-use Rattle.std.specs.Bool.{Decides}
-use Rattle.std.proofs.lemmas.Bool.Decides.{Decides-eqb}
-use Rattle.std.specs.Prelude.{◌==◌}
-use Rattle.xs_lits.specs.Code.{code_of}
-use Rattle.xs_lits.proofs.CodeLemmas.{code_of-injective}
 use Rattle.xs_lits.proofs.ModelLemmas.{Satisfies-from_All}
 use Rattle.xs_derive.specs.Derivation.{IsUpTo}
 use Rattle.xs_derive.specs.Hints.{HasNoOpposites, LacksOpposite}
@@ -21,11 +16,12 @@ use Rattle.xs_solver.specs.declared.solve.Verdict.{Verdict}
 use Rattle.xs_solver.specs.declared.solve.Verdict.TheVariants.{Sat, Unsat}
 use Rattle.xs_encode.specs.declared.system.System.{System}
 use Rattle.xs_frames.specs.Chain.{State, IsOverBits}
-use Rattle.xs_frames.specs.Condition.{IsLow, IsBounded}
+use Rattle.xs_frames.specs.Condition.{IsLow, IsOverNow, IsFit}
 use Rattle.xs_frames.specs.Bits.{literal_for, literals_from, values_of, against_next, moved_on}
 use Rattle.xs_frames.specs.Query.{IsVerdict}
 use Rattle.xs_frames.proofs.BitLemmas.{literal_found}
-use Rattle.xs_frames.proofs.PushLemmas.{from_member, from_map}
+use Rattle.xs_frames.proofs.PushLemmas.{from_map}
+use Rattle.xs_frames.proofs.Sets.{from_member}
 
 pub all_raised : (n m : ℕ) (xs : List Literal) → n ≤ m → All (IsUpTo n) xs → All (IsUpTo m) xs
 all_raised n m xs le a = λ k d lt. omega (arith, a k d lt, le)
@@ -56,14 +52,22 @@ verdict_of vars all clauses assumptions old new (Unsat c) e h = record {
 }
 
 -- which lists are low
-pub bits_low : (system : System) (f : List (List Literal)) → IsBounded system → All (IsOverBits system) f → All (All IsLow) f
-bits_low system f b over = λ k d lt i e lt'. below (slice_index_or (slice_index_or f k d) i e).var system.state_bits (over k d lt i e lt').1 b.bits where
-  below : (x b : ℕ) → x < b + 2 → 2 * b + 2 < 2 ^ 31 → x < 2 ^ 31
-  below x b lt le = omega (arith, lt, le)
+pub bits_low : (system : System) (f : List (List Literal)) → IsFit system → All (IsOverBits system) f → All (All IsLow) f
+bits_low system f b over = λ k d lt i e lt'. below (slice_index_or (slice_index_or f k d) i e).var system.state_bits system.input_bits (over k d lt i e lt').1 b.bits where
+  below : (x b u : ℕ) → x < b + 2 → 2 * b + u + 1 < 2 ^ 31 → x < 2 ^ 31
+  below x b u lt le = omega (arith, lt, le)
 
 pub literals_low : (n : ℕ) (s : State) → n + length s ≤ 2 ^ 31 → All IsLow (literals_from n s)
 literals_low n [] le = All-nil IsLow
 literals_low n (b ∷ s) le = All-cons IsLow (literal_for n b) (literals_from (n + 1) s) (grind (arith, le)) (literals_low (n + 1) s (grind (arith, le)))
+
+-- a list that speaks of the state now is over low variables
+pub now_low : (system : System) (f : List (List Literal)) → All (All (IsOverNow system)) f → All (All IsLow) f
+now_low system f over = λ k d lt i e lt'. (over k d lt i e lt').0
+
+-- the variables of states are low
+pub states_low : (b u : ℕ) → 2 * b + u + 1 < 2 ^ 31 → 2 * b + 1 < 2 ^ 31
+states_low b u lt = omega (arith, lt)
 
 -- no literal of a state stands beside its opposite
 pub literals_apart : (n : ℕ) (s : State) → HasNoOpposites (literals_from n s)
@@ -82,9 +86,9 @@ literals_apart n s = λ k d lt. record { absent = λ o. apart (slice_index_or (l
       let two : not l.negated ≡ not (slice_index_or s g.0 false) = ap (λ (k : Literal). k.negated) g.2 in
       turned (slice_index_or s f.0 false) (ap (λ i. not (slice_index_or s i false)) places ∙ sym two ∙ ap not one)
 
-pub against_low : (bits : ℕ) (c : List Literal) → 2 * bits + 2 < 2 ^ 31 → All (λ l. (2 ≤ l.var) × (l.var < bits + 2)) c → All IsLow (against_next bits c)
+pub against_low : (bits : ℕ) (c : List Literal) → 2 * bits + 1 < 2 ^ 31 → All (λ l. (2 ≤ l.var) × (l.var < bits + 2)) c → All IsLow (against_next bits c)
 against_low bits c le over = λ k d lt. at (slice_index_or (against_next bits c) k d) (from_map (λ l. moved_on bits (opposite l)) c (slice_index_or (against_next bits c) k d) (Contains-get_or (against_next bits c) k d lt)) where
-  below : (x y b : ℕ) → y + b ≡ x → y < b + 2 → 2 * b + 2 < 2 ^ 31 → x < 2 ^ 31
+  below : (x y b : ℕ) → y + b ≡ x → y < b + 2 → 2 * b + 1 < 2 ^ 31 → x < 2 ^ 31
   below x y b e lt le = omega (arith, e, lt, le)
 
   at : (x : Literal) → (l : Literal) × Contains c l × (moved_on bits (opposite l) ≡ x) → IsLow x
@@ -109,7 +113,3 @@ against_apart bits c a = λ k d lt. record { absent = λ o. apart (slice_index_o
       turn true false e = refl
       turn false true e = refl
       turn false false e = sym e
-
--- two literals are one where their codes are
-pub same_decides : (l m : Literal) → Decides (code_of l == code_of m) (l ≡ m)
-same_decides l m = (λ e. code_of-injective l m ((Decides-eqb (code_of l) (code_of m)).0 e), λ e. (Decides-eqb (code_of l) (code_of m)).1 (ap code_of e))

@@ -5,8 +5,9 @@ use Rattle.std.specs.Prelude.{slice_get, slice_index_or, Contains}
 use Rattle.xs_lits.specs.Literal.{Literal}
 use Rattle.xs_lits.specs.Models.{TotalAssignment, clause_value, all_true}
 use Rattle.xs_encode.specs.declared.system.System.{System}
-use Rattle.xs_frames.specs.Chain.{InFrame, IsFrame, IsChain, ChainsAreShort}
+use Rattle.xs_frames.specs.Chain.{InFrame, IsFrame, IsChain, ChainsAreShort, Stands}
 use Rattle.xs_frames.specs.Counted.{count, passes}
+use Rattle.xs_frames.proofs.Sets.{part_true}
 use Rattle.xs_frames.proofs.Count.{Within, count_back, count_bound}
 
 pub both_true : (a b : Bool) → (a && b) ≡ true → (a ≡ true) × (b ≡ true)
@@ -39,6 +40,12 @@ all_from_members v (c ∷ cs) f = and_true _ _ (f c (first_member c cs)) (all_fr
 pub subset_true : (v : TotalAssignment) (cs ds : List (List Literal)) → ((c : List Literal) → Contains ds c → Contains cs c) → all_true v cs ≡ true → all_true v ds ≡ true
 subset_true v cs ds f t = all_from_members v ds (λ c m. member_true v cs c t (f c m))
 
+pub stands_true : (v : TotalAssignment) (cs : List (List Literal)) (c : List Literal) → all_true v cs ≡ true → Stands cs c → clause_value v c ≡ true
+stands_true v cs c t s = part_true v s.1 c s.4.1 (member_true v cs s.1 t (s.0, s.2, s.3))
+
+pub standing_true : (v : TotalAssignment) (cs ds : List (List Literal)) → ((c : List Literal) → Contains ds c → Stands cs c) → all_true v cs ≡ true → all_true v ds ≡ true
+standing_true v cs ds f t = all_from_members v ds (λ c m. stands_true v cs c t (f c m))
+
 get_before : {A : Type 0} (xs : List A) (j : ℕ) (x : A) → slice_get xs (suc j) ≡ Some x → (y : A) × (slice_get xs j ≡ Some y)
 get_before [] j x e = cc
 get_before (y ∷ ys) zero x e = (y, refl)
@@ -67,7 +74,7 @@ module _ (system : System) (bad : List (List Literal)) (frames : List (List (Lis
           one_less j = omega arith
 
       within : Within system.state_bits (passes frame) (passes next)
-      within = λ s e t. subset_true (λ v. slice_index_or s (v - 2) false) frame next (λ c m. chain.shrinks (j + 1) frame next this that c m) t
+      within = λ s e t. standing_true (λ v. slice_index_or s (v - 2) false) frame next (λ c m. chain.shrinks (j + 1) frame next this that c m) t
 
       by_order : (count system.state_bits (passes frame) < count system.state_bits (passes next)) ⊎ (count system.state_bits (passes next) ≤ count system.state_bits (passes frame)) →
           count system.state_bits (passes frame) < count system.state_bits (passes next)

@@ -4,7 +4,7 @@ use Rattle.xs_lits.specs.Literal.{Literal}
 use Rattle.xs_encode.specs.declared.system.System.{System}
 use Rattle.xs_frames.specs.Chain.{State, InFrame}
 use Rattle.xs_frames.specs.Framed.{frame_at, IsInductive, HasEqualNeighbours}
-use Rattle.xs_frames.specs.Growing.{IsOpenChain, AllLoseBelow}
+use Rattle.xs_frames.specs.Growing.{IsOpenChain}
 use Rattle.xs_frames.specs.declared.advance.Advanced.{Advanced}
 use Rattle.xs_frames.specs.declared.advance.Advanced.TheVariants.{Further, Fixed}
 
@@ -17,7 +17,7 @@ module _ (system : System) where
 
   -- no two neighbouring frames are equal: frames 1 on are a chain but for its last property
   pub record IsFurther (now : List (List (List Literal))) : Type 0 where
-    pub no_equal_ones : AllLoseBelow system now (length now - 1)
+    pub no_equal_ones : HasEqualNeighbours system now → ⊥
     pub chain : IsOpenChain system (drop 1 now)
 
   abbrev pub IsAdvanced : List (List (List Literal)) → List (List (List Literal)) → Advanced → Type 0

@@ -1,5 +1,5 @@
 -- Chains of frames over a system of clause lists.
-use Rattle.std.specs.Prelude.{◌≡◌, ℕ, ◌+◌, ◌-◌, ◌≤◌, ◌<◌, Bool, false, IsTrue, List, [], ◌∷◌, Some, All, Contains, slice_get, slice_index_or, length, ◌^◌}
+use Rattle.std.specs.Prelude.{◌≡◌, ℕ, ◌+◌, ◌-◌, ◌≤◌, ◌<◌, Bool, false, IsTrue, List, [], ◌∷◌, Some, All, Any, Contains, slice_get, slice_index_or, length, ◌^◌}
 use Rattle.xs_encode.specs.declared.system.System.{System}
 use Rattle.xs_lits.specs.Literal.{Literal}
 use Rattle.xs_lits.specs.Models.{TotalAssignment, clause_value, all_true}
@@ -12,6 +12,18 @@ State = List Bool
 abbrev pub Agrees : TotalAssignment → ℕ → State → Type 0
 Agrees v n [] = Unit {0}
 Agrees v n (b ∷ bs) = (v n ≡ b) × Agrees v (n + 1) bs
+
+-- the two clauses are one set of literals
+abbrev pub SameLiterals : List Literal → List Literal → Type 0
+SameLiterals c d = All (Contains d) c × All (Contains c) d
+
+-- the clause stands in the frame: some clause of it is the same set of literals
+abbrev pub Stands : List (List Literal) → List Literal → Type 0
+Stands frame c = Any (SameLiterals c) frame
+
+-- the two frames are one set of clauses
+abbrev pub SameClauses : List (List Literal) → List (List Literal) → Type 0
+SameClauses f g = All (Stands g) f × All (Stands f) g
 
 module _ (system : System) where
   abbrev pub IsState : State → Type 0
@@ -50,11 +62,11 @@ module _ (system : System) where
     pub advances : (i : ℕ) (frame next : List (List Literal)) (s t : State) → IsFrame frames i frame → IsFrame frames (i + 1) next →
         InFrame frame s → IsStepOf s t → InFrame next t
     pub shrinks : (i : ℕ) (frame next : List (List Literal)) → IsFrame frames i frame → IsFrame frames (i + 1) next →
-        (c : List Literal) → Contains next c → Contains frame c
+        (c : List Literal) → Contains next c → Stands frame c
     pub loses : (i : ℕ) (frame next : List (List Literal)) → IsFrame frames i frame → IsFrame frames (i + 1) next →
-        (c : List Literal) × Contains frame c × (Contains next c → ⊥)
+        (c : List Literal) × Contains frame c × (Stands next c → ⊥)
     pub pushed : (i : ℕ) (frame next : List (List Literal)) → IsFrame frames i frame → IsFrame frames (i + 1) next →
-        (c : List Literal) → Contains frame c → ((s t : State) → InFrame frame s → IsStepOf s t → Makes t c) → Contains next c
+        (c : List Literal) → Contains frame c → ((s t : State) → InFrame frame s → IsStepOf s t → Makes t c) → Stands next c
     pub clear : (i : ℕ) (frame next : List (List Literal)) → IsFrame frames i frame → IsFrame frames (i + 1) next → (s : State) → InFrame frame s → IsBad bad s → ⊥
 
 -- there is a chain of k frames

@@ -1,5 +1,5 @@
--- Which systems and lists frames are asked about.
-use Rattle.std.specs.Prelude.{◌+◌, ◌*◌, ◌^◌, ◌<◌, All}
+-- Which systems frames are made of, and which lists they are asked to clear.
+use Rattle.std.specs.Prelude.{◌+◌, ◌*◌, ◌^◌, ◌<◌, ◌⊎◌, All}
 use Rattle.xs_lits.specs.Literal.{Literal}
 use Rattle.xs_encode.specs.declared.system.System.{System}
 
@@ -7,8 +7,14 @@ use Rattle.xs_encode.specs.declared.system.System.{System}
 abbrev pub IsLow : Literal → Type 0
 IsLow l = l.var < 2 ^ 31
 
--- the system's variables, and those of its states, are below 2^31
-pub record IsBounded (system : System) : Type 0 where
-  pub bits : 2 * system.state_bits + 2 < 2 ^ 31
-  pub first : All (All IsLow) system.first
+-- the literal's variable is 1, a state bit now, or above all state and input bits
+abbrev pub IsOverNow : System → Literal → Type 0
+IsOverNow system l =
+    IsLow l × ((l.var < system.state_bits + 2) ⊎ (2 * system.state_bits + system.input_bits + 1 < l.var))
+
+-- `first` is over the state now and gates, and all variables are below 2^31
+pub record IsFit (system : System) : Type 0 where
+  pub bits : 2 * system.state_bits + system.input_bits + 1 < 2 ^ 31
+  pub first : All (All (IsOverNow system)) system.first
   pub step : All (All IsLow) system.step
+  pub state : All (All IsLow) system.state

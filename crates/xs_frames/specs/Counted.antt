@@ -1,6 +1,7 @@
 -- How many states are left in frames: the measure of `clear`.
 use Rattle.std.specs.Prelude.{ℕ, zero, suc, ◌+◌, ◌-◌, ◌*◌, Bool, true, false, List, [], ◌∷◌, length, slice_index_or}
 use Rattle.xs_lits.specs.Literal.{Literal}
+use Rattle.xs_lits.specs.Assignment.{Assignment}
 use Rattle.xs_lits.specs.Models.{all_true}
 use Rattle.xs_frames.specs.Chain.{State}
 
@@ -22,5 +23,5 @@ states_left bits [] = 0
 states_left bits (f ∷ fs) = count bits (passes f) + states_left bits fs
 
 -- states left first, then the number of the frame that is looked at: one number
-abbrev pub work_left : ℕ → List (List (List Literal)) → List State → ℕ
+abbrev pub work_left : ℕ → List (List (List Literal)) → List Assignment → ℕ
 work_left bits frames owed = states_left bits frames * (length frames + 1) + (length frames - length owed)

@@ -1,6 +1,6 @@
 -- What the fields of `Frames` stand for.
 use Rattle.xs_frames.specs.FramesRecord.{FramesValue}
-use Rattle.xs_frames.specs.Condition.{IsBounded}
+use Rattle.xs_frames.specs.Condition.{IsFit}
 use Rattle.xs_frames.specs.Framed.{IsFramed}
 use Rattle.xs_frames.specs.declared.frames.Frames.TheInside.{Inside}
 
@@ -8,5 +8,5 @@ abbrev pub frames_of : Inside → FramesValue
 frames_of f = record { system = f.system; frames = f.frames.items; spent = f.spent }
 
 pub record AreSound (f : Inside) : Type 0 where
-  pub bounded : IsBounded f.system
+  pub fit : IsFit f.system
   pub framed : IsFramed f.system f.frames.items

@@ -5,6 +5,7 @@ pub mod Counted
 pub mod Growing
 pub mod Numbered
 pub mod Bits
+pub mod Path
 pub mod Query
 pub mod Looked
 pub mod Advance

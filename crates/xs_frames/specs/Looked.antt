@@ -1,11 +1,13 @@
 -- What one look of `clear` says.
 use Rattle.std.specs.Prelude.{◌≡◌, ℕ, suc, ◌-◌, ◌<◌, false, List, [], Some, slice_get, length}
 use Rattle.xs_lits.specs.Literal.{Literal}
+use Rattle.xs_lits.specs.Assignment.{Assignment}
 use Rattle.xs_lits.specs.Models.{clause_value}
 use Rattle.xs_encode.specs.declared.system.System.{System}
 use Rattle.xs_frames.specs.Chain.{State, state_values, IsFirstState, IsStepOf, IsBad, Makes, InFrame, IsOverBits}
 use Rattle.xs_derive.specs.Hints.{HasNoOpposites}
-use Rattle.xs_frames.specs.Framed.{frame_at, IsPathBack, IsClear}
+use Rattle.xs_frames.specs.Framed.{frame_at, IsClear}
+use Rattle.xs_frames.specs.Path.{Gives, state_in, Leads, IsPath}
 use Rattle.xs_frames.specs.declared.clear.Look.{Look}
 use Rattle.xs_frames.specs.declared.clear.Look.TheVariants.{Nothing, IsFirst, Deeper, Blocked}
 use Rattle.xs_frames.specs.declared.clear.Cleared.{Cleared}
@@ -24,21 +26,22 @@ module _ (system : System) where
   abbrev pub IsBadLook : List (List Literal) → List (List (List Literal)) → Look → Type 0
   IsBadLook bad frames Nothing = (s : State) → InFrame system (frame_at frames (length frames - 1)) s → IsBad system bad s → ⊥
   IsBadLook bad frames IsFirst = ⊥
-  IsBadLook bad frames (Deeper s) = InFrame system (frame_at frames (length frames - 1)) s × IsBad system bad s
+  IsBadLook bad frames (Deeper a) =
+      InFrame system (frame_at frames (length frames - 1)) (state_in system a) × IsBad system bad (state_in system a) × Gives 2 system.state_bits a
   IsBadLook bad frames (Blocked c) = ⊥
 
   -- a look at a state of the frame of a number
   abbrev pub IsStepLook : List (List (List Literal)) → ℕ → State → Look → Type 0
   IsStepLook frames level s Nothing = ⊥
   IsStepLook frames level s IsFirst = IsFirstState system s
-  IsStepLook frames level s (Deeper r) = (0 < level) × InFrame system (frame_at frames (level - 1)) r × IsStepOf system r s
+  IsStepLook frames level s (Deeper a) = (0 < level) × InFrame system (frame_at frames (level - 1)) (state_in system a) × Leads system a s
   IsStepLook frames level s (Blocked c) = Blocks frames level s c
 
   abbrev pub IsCleared : List (List Literal) → List (List (List Literal)) → Cleared → Type 0
   IsCleared bad frames Clear = IsClear system bad frames
-  IsCleared bad frames (Path path) = IsPathBack system bad (length frames - 1) path
+  IsCleared bad frames (Path path) = IsPath system bad (length frames - 1) path
 
   -- a look at the newest obligation, or where there is none for a bad state
-  pub record IsLook (bad : List (List Literal)) (frames : List (List (List Literal))) (owed : List State) (look : Look) : Type 0 where
+  pub record IsLook (bad : List (List Literal)) (frames : List (List (List Literal))) (owed : List Assignment) (look : Look) : Type 0 where
     pub at_bad : owed ≡ [] → IsBadLook bad frames look
-    pub at_newest : (t : State) → slice_get owed (length owed - 1) ≡ Some t → IsStepLook frames (length frames - length owed) t look
+    pub at_newest : (a : Assignment) → slice_get owed (length owed - 1) ≡ Some a → IsStepLook frames (length frames - length owed) (state_in system a) look

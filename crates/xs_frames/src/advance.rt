@@ -1,9 +1,9 @@
 ghost use Rattle.std.specs.Prelude.{◌≡◌, ◌≤◌, ◌<◌, ◌+◌, ◌-◌, ◌*◌, ◌^◌, length, IfOk, OnOk, OnErr, ℕ, All, Contains, Bool, IsTrue, false, List, IfSome, None};
 ghost use Rattle.xs_lits.specs.Literal.{Literal};
 ghost use Rattle.xs_derive.specs.Hints.{HasNoOpposites};
-ghost use Rattle.xs_frames.specs.Condition.{IsBounded};
-ghost use Rattle.xs_frames.specs.Chain.{InFrame, IsState, IsOverBits};
-ghost use Rattle.xs_frames.specs.Framed.{frame_at, IsFramed, AreStronger};
+ghost use Rattle.xs_frames.specs.Condition.{IsFit};
+ghost use Rattle.xs_frames.specs.Chain.{InFrame, IsState, IsOverBits, Stands};
+ghost use Rattle.xs_frames.specs.Framed.{frame_at, IsFramed, AreStronger, ArePushed};
 ghost use Rattle.xs_frames.specs.Advance.{IsAdvanced};
 ghost use Rattle.xs_frames.specs.Growing.{DecidesKept, HasGrown, IsPlacePushed, IsPushedAt, ArePushedBelow, IsFixedAt, AllLoseBelow};
 
@@ -24,7 +24,7 @@ fn keeps(
     clause: &Clause,
     panel: &mut Panel,
 ) -> Result<bool, OutOfMemory>
-    requires bounded { IsBounded system.now }
+    requires fit { IsFit system.now }
     requires frame { All (IsOverBits system.now) frame.now }
     requires clause { IsOverBits system.now clause.now }
     requires apart { HasNoOpposites clause.now }
@@ -47,7 +47,7 @@ fn push_clause(
     k: usize,
     panel: &mut Panel,
 ) -> Result<(), OutOfMemory>
-    requires bounded { IsBounded system.now }
+    requires fit { IsFit system.now }
     requires framed { IsFramed system.now frames.old }
     requires next { i + 1 < length frames.old }
     requires place { k < length (frame_at frames.old i) }
@@ -74,7 +74,7 @@ fn push_frame(
     i: usize,
     panel: &mut Panel,
 ) -> Result<(), OutOfMemory>
-    requires bounded { IsBounded system.now }
+    requires fit { IsFit system.now }
     requires framed { IsFramed system.now frames.old }
     requires next { i + 1 < length frames.old }
     ensures framed { IsFramed system.now frames.new }
@@ -90,8 +90,8 @@ fn push_frame(
 
 /// Tells whether each clause of a list stands in another.
 fn is_within(list: &ClauseList, other: &ClauseList) -> bool
-    ensures within { IsTrue result → (c : List Literal) → Contains list.now c → Contains other.now c }
-    ensures lost { result ≡ false → (c : List Literal) × Contains list.now c × (Contains other.now c → ⊥) }
+    ensures within { IsTrue result → All (Stands other.now) list.now }
+    ensures lost { result ≡ false → (c : List Literal) × Contains list.now c × (Stands other.now c → ⊥) }
 {
     for clause in list.as_slice() {
         if !has(other, clause) {
@@ -108,7 +108,7 @@ fn push_all(
     frames: &mut [ClauseList],
     panel: &mut Panel,
 ) -> Result<(), OutOfMemory>
-    requires bounded { IsBounded system.now }
+    requires fit { IsFit system.now }
     requires framed { IsFramed system.now frames.old }
     ensures framed { IsFramed system.now frames.new }
     ensures same { length frames.new ≡ length frames.old }
@@ -121,7 +121,7 @@ fn push_all(
     Ok(())
 }
 
-/// Finds two neighbouring frames with the same clauses, from frame 1 on.
+/// Finds two neighbouring frames that are one set of clauses, from frame 1 on.
 fn find_fixed(system: &System, frames: &[ClauseList]) -> Option<usize>
     requires { 0 < length frames.now }
     ensures fixed { IfSome result (λ i. IsFixedAt system.now frames.now i) }
@@ -159,11 +159,12 @@ pub fn advance_frames(
     frames: &mut Vec<ClauseList>,
     panel: &mut Panel,
 ) -> Result<Advanced, OutOfMemory>
-    requires bounded { IsBounded system.now }
+    requires fit { IsFit system.now }
     requires framed { IsFramed system.now frames.old.items }
     ensures framed { IsFramed system.now frames.new.items }
     ensures stronger { AreStronger system.now frames.old.items frames.new.items }
     ensures frontier { OnOk result (length frames.new.items ≡ length frames.old.items + 1) }
+    ensures pushed { OnOk result (ArePushed system.now frames.new.items) }
     ensures advanced { IfOk result (λ answer. IsAdvanced system.now frames.old.items frames.new.items answer) }
 {
     frames.push(ClauseList::new(alloc))?;

@@ -1,14 +1,18 @@
 ghost use Rattle.std.specs.Prelude.{◌≡◌, ◌≤◌, ◌<◌, ◌+◌, ◌*◌, ◌^◌, length, IfOk, All};
 ghost use Rattle.xs_lits.specs.Literal.{opposite};
 ghost use Rattle.xs_frames.specs.Bits.{literal_for, literals_from, read_from, joined, values_of, against_next, moved_back, moved_on};
-ghost use Rattle.xs_frames.specs.Condition.{IsLow};
+ghost use Rattle.xs_frames.specs.Condition.{IsLow, IsFit};
+ghost use Rattle.xs_frames.specs.Path.{AreFree, AreTaken, AreKept, IsStateMoment, IsStepMoment};
 
-use crate::states::State;
 use std::alloc::Global;
+use xs_encode::System;
 use xs_lits::assign::Assign;
 use xs_lits::clause::Clause;
 use xs_lits::lit::Lit;
-use xs_value::OutOfMemory;
+use xs_value::{Items, OutOfMemory};
+
+/// A state: the values of the state bits, in order.
+pub type State = Items<bool>;
 
 /// The literals that say that the variables from a number on have the state's values.
 #[tactic(auto, using(crate::proofs::BitLemmas::literals_more))]
@@ -90,4 +94,44 @@ pub fn turn_next(alloc: Global, bits: u64, clause: &Clause) -> Result<Vec<Lit>, 
         turned.push(turned_on(bits, *lit))?;
     }
     Ok(turned)
+}
+
+/// Gives so many variables from a number on the values that they have elsewhere, false where they have none.
+fn give(given: &mut Assign, from: u64, count: u64, values: &Assign)
+    requires positive { 1 ≤ from }
+    requires small { from + count < 2 ^ 62 }
+    requires within { from + count ≤ length given.old }
+    requires free { AreFree from count given.old }
+    ensures same { length given.new ≡ length given.old }
+    ensures taken { AreTaken from count values.now given.new }
+    ensures others { AreKept from count given.old given.new }
+{
+    for i in 0..count {
+        let variable = from + i;
+        given.set(Lit::new(variable, !value(values, variable)));
+    }
+}
+
+/// A moment that gives the state bits now, and no other variable.
+pub fn state_moment(alloc: Global, system: &System, values: &Assign) -> Result<Assign, OutOfMemory>
+    requires { IsFit system.now }
+    ensures { IfOk result (λ m. IsStateMoment system.now values.now m) }
+{
+    let bits = u64::from(system.state_bits);
+    let inputs = u64::from(system.input_bits);
+    let mut given = Assign::with_vars(alloc, 2 * bits + inputs + 1)?;
+    give(&mut given, 2, bits, values);
+    Ok(given)
+}
+
+/// A moment that gives the state bits and the input bits now.
+pub fn step_moment(alloc: Global, system: &System, values: &Assign) -> Result<Assign, OutOfMemory>
+    requires { IsFit system.now }
+    ensures { IfOk result (λ m. IsStepMoment system.now values.now m) }
+{
+    let bits = u64::from(system.state_bits);
+    let inputs = u64::from(system.input_bits);
+    let mut given = state_moment(alloc, system, values)?;
+    give(&mut given, 2 * bits + 2, inputs, values);
+    Ok(given)
 }

@@ -1,16 +1,18 @@
 ghost use Rattle.std.specs.Prelude.{◌≡◌, ◌≤◌, ◌<◌, ◌+◌, ◌-◌, ◌*◌, ◌^◌, All, length, IfOk, OnOk, OnErr, ℕ};
-ghost use Rattle.xs_frames.specs.Condition.{IsLow, IsBounded};
-ghost use Rattle.xs_frames.specs.Framed.{strengthened, frame_at, IsFramed, AreStronger, AreOwed};
+ghost use Rattle.xs_frames.specs.Condition.{IsOverNow, IsFit};
+ghost use Rattle.xs_frames.specs.Framed.{strengthened, frame_at, IsFramed, AreStronger};
 ghost use Rattle.xs_frames.specs.Looked.{IsBadLook, IsStepLook, IsLook, IsCleared};
 ghost use Rattle.xs_frames.specs.Chain.{InFrame, IsState};
+ghost use Rattle.xs_frames.specs.Path.{AreOwed};
 ghost use Rattle.xs_frames.specs.Counted.{work_left};
 
-use crate::bits::{join, literals, read};
+use crate::bits::{State, join, literals, read, state_moment, step_moment};
 use crate::query::ask;
-use crate::states::{State, States};
+use crate::steps::StepList;
 use std::alloc::Global;
 use xs_adviser::Panel;
 use xs_encode::System;
+use xs_lits::assign::Assign;
 use xs_lits::clause::{Clause, ClauseList};
 use xs_solver::solve::Verdict;
 use xs_value::OutOfMemory;
@@ -20,15 +22,17 @@ use xs_value::OutOfMemory;
 pub enum Look {
     Nothing,
     IsFirst,
-    Deeper(State),
+    Deeper(Assign),
     Blocked(Clause),
 }
 
-/// The answer of `clear`: a path is written from its end.
+/// The answer of `clear`.
 #[derive(Drop)]
 pub enum Cleared {
+    /// No state of the frontier's frame is bad.
     Clear,
-    Path(States),
+    /// A path from a first state into a bad one, with at most as many steps as the frontier's number.
+    Path(StepList),
 }
 
 /// Puts a clause into the first n frames.
@@ -53,14 +57,13 @@ fn look_for_bad(
     bad: &ClauseList,
     panel: &mut Panel,
 ) -> Result<Look, OutOfMemory>
-    requires bounded { IsBounded system.now }
-    requires bad { All (All IsLow) bad.now }
+    requires fit { IsFit system.now }
+    requires bad { All (All (IsOverNow system.now)) bad.now }
     requires framed { IsFramed system.now frames.now }
     ensures { IfOk result (λ look. IsBadLook system.now bad.now frames.now look) }
 {
-    let bits = u64::from(system.state_bits);
     match ask(alloc, &frames[frames.len() - 1], bad, &[], panel)? {
-        Verdict::Sat(values) => Ok(Look::Deeper(read(alloc, 2, bits, &values)?)),
+        Verdict::Sat(values) => Ok(Look::Deeper(state_moment(alloc, system, &values)?)),
         Verdict::Unsat(_core) => Ok(Look::Nothing),
     }
 }
@@ -74,7 +77,7 @@ fn look_before(
     state: &State,
     panel: &mut Panel,
 ) -> Result<Look, OutOfMemory>
-    requires bounded { IsBounded system.now }
+    requires fit { IsFit system.now }
     requires framed { IsFramed system.now frames.now }
     requires level { level < length frames.now }
     requires state { IsState system.now state.now }
@@ -98,7 +101,7 @@ fn look_before(
         next.as_slice(),
         panel,
     )? {
-        Verdict::Sat(values) => Ok(Look::Deeper(read(alloc, 2, bits, &values)?)),
+        Verdict::Sat(values) => Ok(Look::Deeper(step_moment(alloc, system, &values)?)),
         Verdict::Unsat(core) => Ok(Look::Blocked(join(alloc, bits, &outside, &core)?)),
     }
 }
@@ -109,11 +112,11 @@ fn look_once(
     system: &System,
     frames: &[ClauseList],
     bad: &ClauseList,
-    owed: &[State],
+    owed: &[Assign],
     panel: &mut Panel,
 ) -> Result<Look, OutOfMemory>
-    requires bounded { IsBounded system.now }
-    requires bad { All (All IsLow) bad.now }
+    requires fit { IsFit system.now }
+    requires bad { All (All (IsOverNow system.now)) bad.now }
     requires framed { IsFramed system.now frames.now }
     requires owed { AreOwed system.now bad.now frames.now owed.now }
     ensures { IfOk result (λ look. IsLook system.now bad.now frames.now owed.now look) }
@@ -122,7 +125,9 @@ fn look_once(
         return look_for_bad(alloc, system, frames, bad, panel);
     }
     let level = frames.len() - owed.len();
-    look_before(alloc, system, frames, level, &owed[owed.len() - 1], panel)
+    let bits = u64::from(system.state_bits);
+    let state = read(alloc, 2, bits, &owed[owed.len() - 1])?;
+    look_before(alloc, system, frames, level, &state, panel)
 }
 
 /// Answers a path from a first state into bad, or that no state of the last frame is bad.
@@ -133,20 +138,20 @@ pub fn clear_frames(
     bad: &ClauseList,
     panel: &mut Panel,
 ) -> Result<Cleared, OutOfMemory>
-    requires bounded { IsBounded system.now }
-    requires bad { All (All IsLow) bad.now }
+    requires fit { IsFit system.now }
+    requires bad { All (All (IsOverNow system.now)) bad.now }
     requires framed { IsFramed system.now frames.old }
     ensures framed { IsFramed system.now frames.new }
     ensures same { length frames.new ≡ length frames.old }
     ensures stronger { AreStronger system.now frames.old frames.new }
     ensures cleared { IfOk result (λ answer. IsCleared system.now bad.now frames.new answer) }
 {
-    let mut owed = States::new(alloc);
+    let mut owed = StepList::new(alloc);
     'looks: loop {
         match look_once(alloc, system, frames, bad, owed.as_slice(), panel)? {
             Look::Nothing => return Ok(Cleared::Clear),
-            Look::IsFirst => return Ok(Cleared::Path(owed)),
-            Look::Deeper(state) => owed.push(state)?,
+            Look::IsFirst => return Ok(Cleared::Path(owed.reversed())),
+            Look::Deeper(moment) => owed.push(moment)?,
             Look::Blocked(clause) => {
                 let level = frames.len() - owed.as_slice().len();
                 strengthen(frames, level + 1, &clause)?;

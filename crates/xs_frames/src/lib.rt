@@ -4,8 +4,10 @@
 //! memory ran out once. The frame of number 0 is the system's first states; its list is an outline of
 //! them, clauses that every first state makes true. Each frame implies the next, alone and with a step
 //! (`specs/Numbered.antt`). `clear` blocks the bad states of the last frame, the frontier's, by cores, or
-//! finds a path into them; `advance` adds a frame and pushes each clause that every step keeps. What a
-//! step, a chain and an inductive list are stands in `specs/Chain.antt` and `specs/Framed.antt`.
+//! finds a path into them, one assignment for each moment (`specs/Path.antt`); `advance` adds a frame and
+//! pushes each clause that every step keeps. Clauses are compared as sets of literals. What a step, a chain
+//! and an inductive list are stands in `specs/Chain.antt` and `specs/Framed.antt`; which systems frames are
+//! made of, and which lists they clear, in `specs/Condition.antt`.
 //!
 //! ```text
 //! let mut frames = Frames::new(alloc, system)?;    // one bit that is false first and stays
@@ -19,14 +21,16 @@ ghost use Rattle.xs_frames.specs.Chain.{ChainsAreShort};
 mod advance;
 mod bits;
 mod clear;
+mod condition;
 mod frames;
 mod query;
-mod states;
+mod steps;
 
 pub use advance::Advanced;
 pub use clear::Cleared;
+pub use condition::{are_over_now, can_frame};
 pub use frames::Frames;
-pub use states::{State, States};
+pub use steps::StepList;
 
 /// A chain over b state bits has at most 2^b + 1 frames.
 pub fn chains_are_short()

@@ -3,13 +3,14 @@ ghost use Rattle.xs_lits.specs.Literal.{Literal};
 ghost use Rattle.xs_derive.specs.Derivation.{IsUpTo};
 ghost use Rattle.xs_derive.specs.Hints.{HasNoOpposites};
 ghost use Rattle.xs_frames.specs.Condition.{IsLow};
+ghost use Rattle.xs_frames.specs.Chain.{SameLiterals, Stands};
 ghost use Rattle.xs_frames.specs.Query.{IsVerdict};
 
 use std::alloc::Global;
 use xs_adviser::Panel;
 use xs_derive::recorder::KeepNone;
 use xs_lits::clause::{Clause, ClauseList};
-use xs_lits::lit::Lit;
+use xs_lits::lit::{Lit, contains};
 use xs_solver::solve::{Verdict, solve};
 use xs_value::OutOfMemory;
 
@@ -70,20 +71,31 @@ pub fn ask(
     Ok(verdict)
 }
 
-/// Whether two clauses have the same literals in the same order.
-fn is_same(clause: &Clause, other: &Clause) -> bool
-    ensures { IsTrue result ↔ (clause.now ≡ other.now) }
+// Whether each literal of a clause is in another.
+fn is_part(clause: &Clause, other: &Clause) -> bool
+    ensures { IsTrue result ↔ All (Contains other.now) clause.now }
 {
-    clause.lits() == other.lits()
+    for lit in clause.lits() {
+        if !contains(other.lits(), *lit) {
+            return false;
+        }
+    }
+    true
 }
 
-/// Whether a clause stands in a list.
+// Whether two clauses are one set of literals.
+fn is_same(clause: &Clause, other: &Clause) -> bool
+    ensures { IsTrue result ↔ SameLiterals clause.now other.now }
+{
+    is_part(clause, other) && is_part(other, clause)
+}
+
+/// Whether a clause stands in a list, as a set of literals.
 pub fn has(list: &ClauseList, clause: &Clause) -> bool
-    ensures stands { IsTrue result → Contains list.now clause.now }
-    ensures lacks { result ≡ false → Contains list.now clause.now → ⊥ }
+    ensures { IsTrue result ↔ Stands list.now clause.now }
 {
     for other in list.as_slice() {
-        if is_same(other, clause) {
+        if is_same(clause, other) {
             return true;
         }
     }

@@ -1,11 +1,11 @@
 use Rattle.std.proofs.Common.{◌≡◌, ◌++◌, ◌∷◌, [], sym, ◌∙◌, subst, arith, length, List, ℕ, ◌<◌, ◌+◌, ◌-◌, take, drop}
 use Rattle.std.proofs.lemmas.Grind.{common_steps}
 use Rattle.xs_lits.specs.Literal.{Literal}
-use Rattle.xs_frames.specs.Framed.{IsFramed, AreStronger, frame_at}
+use Rattle.xs_frames.specs.Framed.{IsFramed, AreStronger, ArePushed, frame_at}
 use Rattle.xs_frames.specs.Growing.{IsFixedAt, AllLoseBelow}
 use Rattle.xs_frames.specs.Advance.{IsFixed, IsFurther}
 use Rattle.xs_frames.proofs.Framing.{framed_grown}
-use Rattle.xs_frames.proofs.AdvanceLemmas.{written, is_fixed, is_further, stronger_grown}
+use Rattle.xs_frames.proofs.AdvanceLemmas.{written, is_fixed, is_further, all_pushed, stronger_grown}
 use Rattle.xs_frames.proofs.advance.advance_frames.Goals as goal
 
 pub push_all-requires-clause-framed : goal.push_all-requires-clause-framed
@@ -81,3 +81,23 @@ returns-in-None-clause-advanced g c =
     let lose : AllLoseBelow c.args.system.now c.push_all.new.frames (length c.push_all.new.frames - 1) =
     subst (λ (f : List (List (List Literal))). AllLoseBelow c.args.system.now f (length f - 1)) shown (c.find_fixed.ensures.none c.in-None.is) in
     subst (IsFurther c.args.system.now) (sym now) (is_further c.args.system.now c.push_all.new.frames c.push_all.ensures.framed c.in_ok-push_all.ensures.pushed lose)
+
+pub returns-in_ok-copy_list-in-Some-clause-pushed : goal.returns-in_ok-copy_list-in-Some-clause-pushed
+returns-in_ok-copy_list-in-Some-clause-pushed g c =
+    let grown : c.as_mut_slice.result.now ≡ c.args.frames.now.items ++ [] ∷ [] = grind (arith, common_steps) in
+    let same : length c.push_all.new.frames ≡ length c.as_mut_slice.result.now = c.push_all.ensures.same in
+    let items : length c.push.new.self.items ≡ length c.push_all.new.frames = grind (arith, common_steps) in
+    let len : c.push.new.self.len ≡ length c.push_all.new.frames = grind (arith, common_steps) in
+    let now : take c.push.new.self.len (c.push_all.new.frames ++ drop (length c.push_all.new.frames) c.push.new.self.items) ≡ c.push_all.new.frames =
+    subst (λ (n : ℕ). take n (c.push_all.new.frames ++ drop (length c.push_all.new.frames) c.push.new.self.items) ≡ c.push_all.new.frames) (sym len) (written c.push_all.new.frames c.push.new.self.items items) in
+    subst (ArePushed c.args.system.now) (sym now) (all_pushed c.args.system.now c.push_all.new.frames c.in_ok-push_all.ensures.pushed)
+
+pub returns-in-None-clause-pushed : goal.returns-in-None-clause-pushed
+returns-in-None-clause-pushed g c =
+    let grown : c.as_mut_slice.result.now ≡ c.args.frames.now.items ++ [] ∷ [] = grind (arith, common_steps) in
+    let same : length c.push_all.new.frames ≡ length c.as_mut_slice.result.now = c.push_all.ensures.same in
+    let items : length c.push.new.self.items ≡ length c.push_all.new.frames = grind (arith, common_steps) in
+    let len : c.push.new.self.len ≡ length c.push_all.new.frames = grind (arith, common_steps) in
+    let now : take c.push.new.self.len (c.push_all.new.frames ++ drop (length c.push_all.new.frames) c.push.new.self.items) ≡ c.push_all.new.frames =
+    subst (λ (n : ℕ). take n (c.push_all.new.frames ++ drop (length c.push_all.new.frames) c.push.new.self.items) ≡ c.push_all.new.frames) (sym len) (written c.push_all.new.frames c.push.new.self.items items) in
+    subst (ArePushed c.args.system.now) (sym now) (all_pushed c.args.system.now c.push_all.new.frames c.in_ok-push_all.ensures.pushed)

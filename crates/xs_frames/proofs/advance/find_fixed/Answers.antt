@@ -1,4 +1,5 @@
-use Rattle.std.proofs.Common.{◌≡◌, sym, subst, arith, length, List, ◌<◌, ◌+◌, Contains}
+use Rattle.std.proofs.Common.{◌≡◌, sym, subst, arith, length, List, ◌<◌, ◌+◌, Contains, All}
+use Rattle.xs_frames.specs.Chain.{Stands}
 use Rattle.std.proofs.lemmas.Grind.{common_steps}
 use Rattle.xs_lits.specs.Literal.{Literal}
 use Rattle.xs_frames.specs.Framed.{frame_at}
@@ -15,7 +16,8 @@ returns-then-is_within-clause-fixed c =
     record {
       from_one = one;
       within = inside;
-      same = λ x m. subst (λ (f : List (List Literal)). Contains f x) next (c.is_within.ensures.within c.if-is_within.true x (subst (λ (f : List (List Literal)). Contains f x) (sym here) m));
+      same = subst (λ (f : List (List Literal)). All (Stands f) (frame_at c.args.frames.now c.frames.i)) next
+          (subst (λ (f : List (List Literal)). All (Stands c.index-frames-i-in-frames.result) f) here (c.is_within.ensures.within c.if-is_within.true));
     }
 
 pub frames-preserved : goal.frames-preserved
@@ -24,5 +26,5 @@ frames-preserved c =
     let next : c.index-frames-i-in-frames.result ≡ frame_at c.args.frames.now (c.frames.i + 1) = grind (arith, common_steps) in
     let lost = c.is_within.ensures.lost c.if-is_within.false in
     let loses : Loses c.args.system.now c.args.frames.now c.frames.i =
-    (lost.0, subst (λ (f : List (List Literal)). Contains f lost.0) here lost.1, λ m. lost.2 (subst (λ (f : List (List Literal)). Contains f lost.0) (sym next) m)) in
+    (lost.0, subst (λ (f : List (List Literal)). Contains f lost.0) here lost.1, λ m. lost.2 (subst (λ (f : List (List Literal)). Stands f lost.0) (sym next) m)) in
     lose_more c.args.system.now c.args.frames.now c.frames.i c.frames.invariant loses

@@ -4,23 +4,23 @@ use Rattle.xs_frames.specs.Bits.{against_next}
 use Rattle.xs_frames.specs.Query.{IsVerdict, IsModel, IsCore}
 use Rattle.xs_derive.specs.Hints.{HasNoOpposites}
 use Rattle.xs_frames.specs.Condition.{IsLow}
-use Rattle.xs_frames.proofs.QueryLemmas.{bits_low, against_low, against_apart}
+use Rattle.xs_frames.proofs.QueryLemmas.{bits_low, against_low, against_apart, states_low}
 use Rattle.xs_frames.proofs.PushLemmas.{kept, not_kept}
 use Rattle.xs_frames.proofs.advance.keeps.Goals as goal
 
 pub turn_next-requires-clause-low : goal.turn_next-requires-clause-low
-turn_next-requires-clause-low g c = λ k d lt. below (slice_index_or c.args.clause.now k d).var c.args.system.now.state_bits (c.requires.clause k d lt).1 c.requires.bounded.bits
+turn_next-requires-clause-low g c = λ k d lt. below (slice_index_or c.args.clause.now k d).var c.args.system.now.state_bits (c.requires.clause k d lt).1 (states_low c.args.system.now.state_bits c.args.system.now.input_bits c.requires.fit.bits)
   where
-    below : (x b : ℕ) → x < b + 2 → 2 * b + 2 < 2 ^ 31 → x < 2 ^ 31
+    below : (x b : ℕ) → x < b + 2 → 2 * b + 1 < 2 ^ 31 → x < 2 ^ 31
     below x b lt le = omega (arith, lt, le)
 
 pub ask-requires-clause-frame : goal.ask-requires-clause-frame
-ask-requires-clause-frame g c = bits_low c.args.system.now c.args.frame.now c.requires.bounded c.requires.frame
+ask-requires-clause-frame g c = bits_low c.args.system.now c.args.frame.now c.requires.fit c.requires.frame
 
 pub ask-requires-clause-assumptions : goal.ask-requires-clause-assumptions
 ask-requires-clause-assumptions g c =
     let assumed : c.as_slice.result.now ≡ against_next c.args.system.now.state_bits c.args.clause.now = grind (arith, common_steps) in
-    subst (All IsLow) (sym assumed) (against_low c.args.system.now.state_bits c.args.clause.now c.requires.bounded.bits c.requires.clause)
+    subst (All IsLow) (sym assumed) (against_low c.args.system.now.state_bits c.args.clause.now (states_low c.args.system.now.state_bits c.args.system.now.input_bits c.requires.fit.bits) c.requires.clause)
 
 pub ask-requires-clause-apart : goal.ask-requires-clause-apart
 ask-requires-clause-apart g c =

@@ -1,4 +1,4 @@
-use Rattle.std.proofs.Common.{◌≡◌, ◌++◌, ◌∷◌, [], sym, ◌∙◌, subst, arith, slice_index_or, slice_set, List, ◌+◌, ◌<◌, length, Contains, false, true}
+use Rattle.std.proofs.Common.{◌≡◌, ◌++◌, ◌∷◌, [], sym, ◌∙◌, subst, arith, slice_index_or, slice_set, List, ◌+◌, ◌<◌, length, Contains, IsTrue, false, true}
 use Rattle.std.proofs.lemmas.List.Elements.{Contains-get_or}
 use Rattle.std.proofs.lemmas.Grind.{common_steps}
 use Rattle.xs_lits.specs.Literal.{Literal}
@@ -6,6 +6,7 @@ use Rattle.xs_frames.specs.Framed.{IsFramed, frame_at}
 use Rattle.xs_frames.specs.Growing.{Keeps}
 use Rattle.xs_derive.specs.Hints.{HasNoOpposites}
 use Rattle.xs_frames.specs.Growing.{HasGrown}
+use Rattle.xs_frames.specs.Chain.{Stands}
 use Rattle.xs_frames.proofs.PushLemmas.{framed_added, added_stands, grown_added}
 use Rattle.xs_frames.proofs.advance.push_clause.Goals as goal
 
@@ -37,8 +38,8 @@ pub returns-clause-pushed : goal.returns-clause-pushed
 returns-clause-pushed g c =
     let clause : c.in_ok-clause.clause ≡ slice_index_or (frame_at c.args.frames.now c.args.i) c.args.k [] = grind (arith, common_steps) in
     let put : c.push.new.self ≡ frame_at c.args.frames.now (c.args.i + 1) ++ c.in_ok-clause.clause ∷ [] = grind (arith, common_steps) in
-    λ keeps. subst (Contains (frame_at (slice_set c.args.frames.now (c.args.i + 1) c.push.new.self) (c.args.i + 1))) clause
-    (subst (λ (f : List (List Literal)). Contains (frame_at (slice_set c.args.frames.now (c.args.i + 1) f) (c.args.i + 1)) c.in_ok-clause.clause) (sym put)
+    λ keeps. subst (Stands (frame_at (slice_set c.args.frames.now (c.args.i + 1) c.push.new.self) (c.args.i + 1))) clause
+    (subst (λ (f : List (List Literal)). Stands (frame_at (slice_set c.args.frames.now (c.args.i + 1) f) (c.args.i + 1)) c.in_ok-clause.clause) (sym put)
     (added_stands c.args.system.now c.args.frames.now c.args.i c.in_ok-clause.clause c.requires.next))
 
 pub keeps-requires-clause-apart : goal.keeps-requires-clause-apart
@@ -52,3 +53,11 @@ returns-clause-grown g c =
     let put : c.push.new.self ≡ frame_at c.args.frames.now (c.args.i + 1) ++ c.in_ok-clause.clause ∷ [] = grind (arith, common_steps) in
     subst (λ (f : List (List Literal)). HasGrown c.args.system.now c.args.frames.now (slice_set c.args.frames.now (c.args.i + 1) f) c.args.i) (sym put)
     (grown_added c.args.system.now c.args.frames.now c.args.i c.in_ok-clause.clause c.requires.next)
+
+pub returns-then-has-clause-pushed : goal.returns-then-has-clause-pushed
+returns-then-has-clause-pushed g c =
+    let clause : c.in_ok-clause.clause ≡ slice_index_or (frame_at c.args.frames.now c.args.i) c.args.k [] = grind (arith, common_steps) in
+    let next : c.index-frames-i-2.result ≡ frame_at c.args.frames.now (c.args.i + 1) = grind (arith, common_steps) in
+    let frame : slice_index_or c.args.frames.now (c.args.i + 1) c.index-frames-i-2.result ≡ frame_at c.args.frames.now (c.args.i + 1) = sym c.index-frames-i-2.is ∙ next in
+    let found : IsTrue c.has.result = grind arith in
+    λ keeps. subst (Stands (frame_at c.args.frames.now (c.args.i + 1))) clause (subst (λ (f : List (List Literal)). Stands f c.in_ok-clause.clause) frame (c.has.ensures.0 found))

@@ -1,5 +1,6 @@
 use Rattle.std.proofs.Common.{◌≡◌, length}
-use Rattle.xs_frames.specs.Framed.{IsFramed, AreStronger, AreOwed}
+use Rattle.xs_frames.specs.Framed.{IsFramed, AreStronger}
+use Rattle.xs_frames.specs.Path.{AreOwed}
 use Rattle.xs_frames.specs.Counted.{work_left}
 use Rattle.xs_frames.proofs.clear.clear_frames.Given as goal
 

@@ -12,16 +12,16 @@ use Rattle.xs_frames.proofs.QueryLemmas.{literals_low, literals_apart}
 use Rattle.xs_frames.proofs.LookLemmas.{before_first, before_deeper, next_high, blocked_zero, blocked_more}
 use Rattle.xs_frames.proofs.clear.look_before.Goals as goal
 
-room_now : (b n : ℕ) → n ≡ b → 2 * b + 2 < 2 ^ 31 → 2 + n ≤ 2 ^ 31
-room_now b n e lt = omega (arith, e, lt)
+room_now : (b n u : ℕ) → n ≡ b → 2 * b + u + 1 < 2 ^ 31 → 2 + n ≤ 2 ^ 31
+room_now b n u e lt = omega (arith, e, lt)
 
-room_next : (b n : ℕ) → n ≡ b → 2 * b + 2 < 2 ^ 31 → b + 2 + n ≤ 2 ^ 31
-room_next b n e lt = omega (arith, e, lt)
+room_next : (b n u : ℕ) → n ≡ b → 2 * b + u + 1 < 2 ^ 31 → b + 2 + n ≤ 2 ^ 31
+room_next b n u e lt = omega (arith, e, lt)
 
 pub ask-requires-clause-assumptions : goal.ask-requires-clause-assumptions
 ask-requires-clause-assumptions g c =
     let assumed : c.as_slice-2.result.now ≡ literals_from 2 c.args.state.now = grind (arith, common_steps) in
-    subst (All IsLow) (sym assumed) (literals_low 2 c.args.state.now (room_now c.args.system.now.state_bits (length c.args.state.now) c.requires.state c.requires.bounded.bits))
+    subst (All IsLow) (sym assumed) (literals_low 2 c.args.state.now (room_now c.args.system.now.state_bits (length c.args.state.now) c.args.system.now.input_bits c.requires.state c.requires.fit.bits))
 
 pub ask-requires-clause-apart : goal.ask-requires-clause-apart
 ask-requires-clause-apart g c =
@@ -31,7 +31,7 @@ ask-requires-clause-apart g c =
 pub ask-requires-2-clause-assumptions : goal.ask-requires-2-clause-assumptions
 ask-requires-2-clause-assumptions g c =
     let assumed : c.as_slice-4.result.now ≡ literals_from (c.args.system.now.state_bits + 2) c.args.state.now = grind (arith, common_steps) in
-    subst (All IsLow) (sym assumed) (literals_low (c.args.system.now.state_bits + 2) c.args.state.now (room_next c.args.system.now.state_bits (length c.args.state.now) c.requires.state c.requires.bounded.bits))
+    subst (All IsLow) (sym assumed) (literals_low (c.args.system.now.state_bits + 2) c.args.state.now (room_next c.args.system.now.state_bits (length c.args.state.now) c.args.system.now.input_bits c.requires.state c.requires.fit.bits))
 
 pub ask-requires-2-clause-apart : goal.ask-requires-2-clause-apart
 ask-requires-2-clause-apart g c =
@@ -63,9 +63,7 @@ returns-in-Sat-2 g c =
     let model : IsModel (frame_at c.args.frames.now k ++ c.args.system.now.step) (literals_from (c.args.system.now.state_bits + 2) c.args.state.now) c.in-Sat-2.values =
     subst (IsVerdict (frame_at c.args.frames.now k ++ c.args.system.now.step) (literals_from (c.args.system.now.state_bits + 2) c.args.state.now)) c.in-Sat-2.is verdict in
     let over : All (IsOverBits c.args.system.now) (frame_at c.args.frames.now k) = c.requires.framed.over_bits k [] (omega (arith, c.requires.level)) in
-    let read : c.in_ok-read-in-Sat-2.field-0 ≡ read_from 2 c.args.system.now.state_bits c.in-Sat-2.values = grind (arith, common_steps) in
-    let both = subst (λ (s : State). InFrame c.args.system.now (frame_at c.args.frames.now k) s × IsStepOf c.args.system.now s c.args.state.now) (sym read)
-    (before_deeper c.args.system.now (frame_at c.args.frames.now k) c.args.state.now c.in-Sat-2.values over c.requires.state model) in
+    let both = before_deeper c.args.system.now (frame_at c.args.frames.now k) c.args.state.now c.in-Sat-2.values c.in_ok-step_moment-in-Sat-2.field-0 over c.requires.state model c.in_ok-step_moment-in-Sat-2.ensures in
     (positive, both.0, both.1)
 
 pub join-requires : goal.join-requires

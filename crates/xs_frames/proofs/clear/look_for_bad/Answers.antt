@@ -8,16 +8,14 @@ use Rattle.xs_frames.specs.Query.{IsVerdict, IsModel, IsCore}
 use Rattle.xs_frames.proofs.LookLemmas.{bad_deeper, bad_nothing}
 use Rattle.xs_frames.proofs.clear.look_for_bad.Goals as goal
 
-pub returns-in_ok-read-in-Sat : goal.returns-in_ok-read-in-Sat
-returns-in_ok-read-in-Sat g c =
+pub returns-in_ok-state_moment-in-Sat : goal.returns-in_ok-state_moment-in-Sat
+returns-in_ok-state_moment-in-Sat g c =
     let k : ℕ = length c.args.frames.now - 1 in
     let frame : c.index-frames-frames.result ≡ frame_at c.args.frames.now k = grind (arith, common_steps) in
     let verdict : IsVerdict (frame_at c.args.frames.now k ++ c.args.bad.now) [] c.in_ok-values.field-0 = subst (λ (f : List (List Literal)). IsVerdict (f ++ c.args.bad.now) [] c.in_ok-values.field-0) frame c.in_ok-values.ensures in
     let model : IsModel (frame_at c.args.frames.now k ++ c.args.bad.now) [] c.in-Sat.values = subst (IsVerdict (frame_at c.args.frames.now k ++ c.args.bad.now) []) c.in-Sat.is verdict in
     let over : All (IsOverBits c.args.system.now) (frame_at c.args.frames.now k) = c.requires.framed.over_bits k [] (omega (arith, c.requires.framed.some)) in
-    let read : c.in_ok-read-in-Sat.field-0 ≡ read_from 2 c.args.system.now.state_bits c.in-Sat.values = grind (arith, common_steps) in
-    subst (λ (s : State). InFrame c.args.system.now (frame_at c.args.frames.now k) s × IsBad c.args.system.now c.args.bad.now s) (sym read)
-    (bad_deeper c.args.system.now (frame_at c.args.frames.now k) c.args.bad.now c.in-Sat.values over model)
+    bad_deeper c.args.system.now (frame_at c.args.frames.now k) c.args.bad.now c.in-Sat.values c.in_ok-state_moment-in-Sat.field-0 over model c.in_ok-state_moment-in-Sat.ensures
 
 pub returns-in-Unsat : goal.returns-in-Unsat
 returns-in-Unsat g c =

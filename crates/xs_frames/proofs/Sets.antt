@@ -1,0 +1,41 @@
+-- Clauses as sets of literals, and frames as sets of clauses.
+use Rattle.std.proofs.Common.{◌≡◌, ◌<◌, ℕ, zero, suc, Bool, true, false, List, [], ◌∷◌, refl, sym, ◌∙◌, ap, subst, arith, length}
+use Rattle.std.specs.Prelude.{slice_index_or, Contains, All}
+use Rattle.std.proofs.lemmas.List.Elements.{All-contains, All-contains_itself}
+use Rattle.xs_lits.specs.Literal.{Literal}
+use Rattle.xs_lits.specs.Models.{TotalAssignment, literal_value, clause_value, all_true}
+use Rattle.xs_frames.specs.Chain.{SameLiterals, Stands}
+
+-- a member that is true
+pub true_member : (v : TotalAssignment) (c : List Literal) → clause_value v c ≡ true → (l : Literal) × Contains c l × (literal_value v l ≡ true)
+true_member v [] t = cc
+true_member v (l ∷ c) t = go (literal_value v l) refl (λ r. true_member v c r)
+  where
+    go : (b : Bool) → literal_value v l ≡ b → (clause_value v c ≡ true → (k : Literal) × Contains c k × (literal_value v k ≡ true)) → (k : Literal) × Contains (l ∷ c) k × (literal_value v k ≡ true)
+    go true e more = (l, (0, grind arith, refl), e)
+    go false e more =
+        let rest : clause_value v c ≡ true = rw e at t in
+        let m = more rest in
+        (m.0, (suc m.1.0, (let lt = m.1.1 in grind (arith, lt)), m.1.2), m.2)
+
+pub from_member : (v : TotalAssignment) (c : List Literal) (l : Literal) → Contains c l → literal_value v l ≡ true → clause_value v c ≡ true
+from_member v [] l m t = absurd (omega (arith, m.1))
+from_member v (k ∷ c) l m t = by_place m.0 m.1 m.2 (λ r. from_member v c l r t)
+  where
+    by_place : (i : ℕ) → i < length (k ∷ c) → slice_index_or (k ∷ c) i l ≡ l → (Contains c l → clause_value v c ≡ true) → clause_value v (k ∷ c) ≡ true
+    by_place zero lt e more = let here : literal_value v k ≡ true = ap (literal_value v) e ∙ t in rw here refl
+    by_place (suc i) lt e more = let rest : clause_value v c ≡ true = more (i, grind arith, e) in go (literal_value v k) refl rest
+      where
+        go : (b : Bool) → literal_value v k ≡ b → clause_value v c ≡ true → clause_value v (k ∷ c) ≡ true
+        go true q r = rw q refl
+        go false q r = rw (q, r) refl
+
+-- a clause that contains the literals of a true one is true
+pub part_true : (v : TotalAssignment) (c d : List Literal) → All (Contains d) c → clause_value v c ≡ true → clause_value v d ≡ true
+part_true v c d a t = let m = true_member v c t in from_member v d m.0 (All-contains (Contains d) c m.0 a m.1) m.2
+
+pub stands_itself : (frame : List (List Literal)) (c : List Literal) → Contains frame c → Stands frame c
+stands_itself frame c m = (m.0, c, m.1, m.2, (All-contains_itself c, All-contains_itself c))
+
+pub stands_grown : (f g : List (List Literal)) (c : List Literal) → ((d : List Literal) → Contains f d → Contains g d) → Stands f c → Stands g c
+stands_grown f g c w s = let m = w s.1 (s.0, s.2, s.3) in (m.0, s.1, m.1, m.2, s.4)
