@@ -1,0 +1,56 @@
+-- A look-up step by step, and when it comes back to a formal.
+use Rattle.std.specs.Prelude.{◌≡◌, ℕ, zero, suc, [], ◌∷◌, ◌++◌, Option, Some, None}
+use Rattle.xs_tree.specs.ProgramTree.{Text, Path, Formula, ProgramTree}
+use Rattle.xs_tree.specs.Scope.{Place, Kind, a_formal, a_variable, a_define, an_instance, undeclared, plain_name, kind_at, module_at, actual_of_kind, means_in}
+
+pub record Look : Type 0 where
+  pub place : Place
+  pub name : Path
+
+abbrev pub at_actual : Place → Option Path → Path → Option Look
+at_actual caller (Some []) rest = None
+at_actual caller (Some (x ∷ name)) rest = Some (record { place = caller; name = x ∷ (name ++ rest) })
+at_actual caller None rest = None
+
+abbrev pub plain_of : Option Formula → Option Path
+plain_of None = None
+plain_of (Some e) = plain_name e
+
+abbrev pub step_formal : ProgramTree → Place → ℕ → Path → Option Look
+step_formal p [] i rest = None
+step_formal p (own ∷ caller) i rest = at_actual caller (plain_of (actual_of_kind (kind_at (module_at p caller) own) i)) rest
+
+abbrev pub step_kind : ProgramTree → Place → Kind → Text → Path → Option Look
+step_kind p at (a_formal i) x rest = step_formal p at i rest
+step_kind p at (an_instance m actuals) x [] = None
+step_kind p at (an_instance m actuals) x (y ∷ rest) = Some (record { place = x ∷ at; name = y ∷ rest })
+step_kind p at (a_variable role what) x rest = None
+step_kind p at (a_define e) x rest = None
+step_kind p at undeclared x rest = None
+
+-- where a look-up goes on: at the actual of a formal, and in an instance
+abbrev pub step_of : ProgramTree → Place → Path → Option Look
+step_of p at [] = None
+step_of p at (x ∷ rest) = step_kind p at (kind_at (module_at p at) x) x rest
+
+abbrev pub step_on : ProgramTree → Option Look → Option Look
+step_on p None = None
+step_on p (Some l) = step_of p l.place l.name
+
+abbrev pub look_after : ℕ → ProgramTree → Place → Path → Option Look
+look_after zero p at name = Some (record { place = at; name = name })
+look_after (suc n) p at name = step_on p (look_after n p at name)
+
+-- the look-up of a formal comes back to that formal
+abbrev pub ComesBack : ProgramTree → Place → Text → Type 0
+ComesBack p at x = (n : ℕ) × (rest : Path) × (look_after (suc n) p at (x ∷ []) ≡ Some (record { place = at; name = x ∷ rest }))
+
+-- the look-up of a name meets a formal whose look-up comes back to it
+abbrev pub MeetsLoop : ProgramTree → Place → Path → Type 0
+MeetsLoop p at name =
+    (n : ℕ) × (at' : Place) × (x : Text) × (rest : Path) × (look_after n p at name ≡ Some (record { place = at'; name = x ∷ rest })) × ComesBack p at' x
+
+-- the name means nothing, and no loop is to blame
+pub record MeansNothing (p : ProgramTree) (at : Place) (name : Path) : Type 0 where
+  pub no_meaning : (n : ℕ) → means_in n p at name ≡ None
+  pub no_loop : MeetsLoop p at name → ⊥
