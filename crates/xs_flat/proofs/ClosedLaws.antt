@@ -1,12 +1,12 @@
 -- Lists of closed expressions grow by closed ones.
-use Rattle.std.proofs.Common.{◌≡◌, ℕ, zero, suc, ◌+◌, ◌≤◌, ◌<◌, Bool, true, false, not, ◌&&◌, List, [], ◌∷◌, ◌++◌, length, map, refl, ap, ◌∙◌, sym, subst, arith}
+use Rattle.std.proofs.Common.{◌≡◌, ℕ, suc, ◌+◌, ◌≤◌, ◌<◌, Bool, true, false, not, ◌&&◌, List, [], ◌∷◌, ◌++◌, length, refl, ap, ◌∙◌, sym, subst, arith}
 use Rattle.std.specs.List.{list_all}
 use Rattle.std.proofs.lemmas.List.{length-append}
 use Rattle.std.proofs.lemmas.List.Folds.{list_all-append}
 use Rattle.xs_tree.specs.declared.expr.Expr.{Expr}
 use Rattle.xs_tree.specs.declared.expr.Expr.TheVariants.{Case, SetOf}
 use Rattle.xs_tree.specs.declared.expr.Op.TheVariants as op
-use Rattle.xs_tree.specs.Tree.{Tree, case_of, set_of, binary}
+use Rattle.xs_tree.specs.Tree.{Tree, binary}
 use Rattle.xs_tree.specs.Written.{tree_of, trees_of, branches_of}
 use Rattle.xs_tree.proofs.WrittenLaws.{tree_of_case, tree_of_set}
 use Rattle.xs_flat.specs.declared.model.Flat.{Flat}
@@ -42,11 +42,11 @@ pub all_push : {X : Type 0} (p : X → Bool) (xs : List X) (x : X) → list_all 
 all_push p xs x all one =
     list_all-append p xs (x ∷ []) ∙ both_true (list_all p xs) (list_all p (x ∷ [])) all (both_true (p x) true one refl)
 
-left_true : (a b : Bool) → (a && b) ≡ true → a ≡ true
+pub left_true : (a b : Bool) → (a && b) ≡ true → a ≡ true
 left_true true b both = refl
 left_true false b both = both
 
-right_true : (a b : Bool) → (a && b) ≡ true → b ≡ true
+pub right_true : (a b : Bool) → (a && b) ≡ true → b ≡ true
 right_true true b both = both
 right_true false b both = grind (arith)
 

@@ -1,3 +1,6 @@
 pub mod ShapeLaws
 pub mod ClosedLaws
 pub mod MainLaws
+pub mod OwnNames
+pub mod ItemLaws
+pub mod SymbolLaws

@@ -2,9 +2,9 @@
 use Rattle.std.proofs.Common.{◌≡◌, List, [], ◌∷◌, map, ap, ◌∙◌, refl}
 use Rattle.xs_tree.specs.declared.expr.Expr.{Expr}
 use Rattle.xs_tree.specs.declared.expr.Expr.TheVariants.{Case, SetOf}
-use Rattle.xs_tree.specs.Tree.{Tree, Trees, Branches, case_of, set_of, tree_then, branch_then, trees_from, branches_from}
-use Rattle.xs_tree.specs.Leaves.{tree_map, trees_map, branches_map}
-use Rattle.xs_tree.specs.Written.{tree_of, trees_of, branches_of, branch_trees}
+use Rattle.xs_tree.specs.Tree.{case_of, set_of, tree_then, branch_then, trees_from, branches_from}
+use Rattle.xs_tree.specs.Leaves.{trees_map, branches_map}
+use Rattle.xs_tree.specs.Written.{trees_of, branches_of}
 use Rattle.xs_tree.proofs.WrittenLaws.{tree_of_case, tree_of_set}
 use Rattle.xs_flat.specs.Shape.{shape_of, shape, branch_shapes}
 

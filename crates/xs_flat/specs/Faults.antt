@@ -1,7 +1,7 @@
 -- Which rule is told of several.
 use Rattle.std.specs.Prelude.{◌≡◌, Bool, true, false, if◌then◌else◌, List, [], ◌∷◌, Option, Some, None, IfSome}
 use Rattle.xs_flat.specs.declared.fault.Rule.{Rule}
-use Rattle.xs_flat.specs.declared.fault.Rule.TheVariants.{NoMain, OutOfMemory}
+use Rattle.xs_flat.specs.declared.fault.Rule.TheVariants.{NoMain}
 use Rattle.xs_flat.specs.declared.fault.FlatFault.{FlatFault}
 
 -- the first rule of a list that is broken

@@ -1,5 +1,4 @@
 -- The shape of an expression, whatever its names are.
-use Rattle.std.specs.Prelude.{List, map}
 use Rattle.xs_tree.specs.Tree.{Tree}
 use Rattle.xs_tree.specs.Leaves.{tree_map}
 use Rattle.xs_tree.specs.Written.{tree_of}

@@ -9,6 +9,7 @@ ghost use Rattle.xs_tree.specs.Written.{tree_of};
 ghost use Rattle.xs_flat.specs.Faults.{IsPastMain};
 
 use crate::bounds::Bounds;
+use crate::copy::copy_path;
 use crate::fault::{FlatFault, Rule};
 use crate::items::{Item, number_of};
 use crate::model::{
@@ -18,7 +19,6 @@ use crate::names::Scene;
 use crate::needs::Needs;
 use crate::resolve::{Source, boxed, leaf, resolve};
 use crate::symbols::symbol_names;
-use crate::walk::Spot;
 use std::alloc::Global;
 use xs_tree::{Assignment, Expr, Moment, Op};
 use xs_value::{Dotted, Items, OutOfMemory};
@@ -67,19 +67,12 @@ fn instances_of(alloc: Global, scene: &Scene<'_>) -> Result<InstanceList, OutOfM
     let mut instances = Items::new(alloc);
     for spot in scene.spots.as_slice() {
         if let Some(names) = scene.modules.list.as_slice().get(spot.module) {
-            let path = copy_path(alloc, spot)?;
+            let path = copy_path(alloc, &spot.path)?;
             let module = names.module.name.copy(alloc)?;
             instances.push(Instance { path, module })?;
         }
     }
     Ok(instances)
-}
-
-fn copy_path(alloc: Global, spot: &Spot<'_>) -> Result<Option<Dotted>, OutOfMemory> {
-    match &spot.path {
-        Some(path) => Ok(Some(path.copy(alloc)?)),
-        None => Ok(None),
-    }
 }
 
 /// The definitions in order, each over those before it.
@@ -344,14 +337,22 @@ fn target_of(
 }
 
 /// That a target is among the values of an expression.
-fn within(alloc: Global, target: Expr<Flat>, value: Expr<Flat>) -> Result<Expr<Flat>, OutOfMemory>
+pub(crate) fn within(
+    alloc: Global,
+    target: Expr<Flat>,
+    value: Expr<Flat>,
+) -> Result<Expr<Flat>, OutOfMemory>
     ensures { IfOk result (λ made. tree_of made ≡ binary op.Within (tree_of target) (tree_of value)) }
 {
     Ok(Expr::Binary(Op::Within, boxed(alloc, target)?, boxed(alloc, value)?))
 }
 
 /// That a variable is among the values of an expression at the moment after.
-fn within_next(alloc: Global, target: Flat, value: Expr<Flat>) -> Result<Expr<Flat>, OutOfMemory>
+pub(crate) fn within_next(
+    alloc: Global,
+    target: Flat,
+    value: Expr<Flat>,
+) -> Result<Expr<Flat>, OutOfMemory>
     ensures { IfOk result (λ made. tree_of made ≡ binary op.Within (next_of (leaf_tree target)) (tree_of value)) }
 {
     let next = Expr::Next(boxed(alloc, Expr::Leaf(target))?);

@@ -6,6 +6,8 @@ ghost use Rattle.xs_tree.specs.Scope.{find_module};
 ghost use Rattle.xs_flat.specs.declared.fault.Rule.TheVariants.{NoMain, NoSuchName, NextHere, InputHere};
 ghost use Rattle.xs_flat.specs.Shape.{shape};
 ghost use Rattle.xs_flat.specs.Closed.{is_closed, bounds_of, IsClosedModel};
+ghost use Rattle.xs_flat.specs.ModelTree.{model_tree};
+ghost use Rattle.xs_flattening.specs.FlatTrace.{NamesOwn};
 ghost use Rattle.xs_flat.specs.Faults.{first_of, IsPastMain};
 
 use crate::bounds::Bounds;
@@ -29,6 +31,7 @@ use xs_value::Dotted;
 /// items. At one item the rule with the lowest number is told.
 pub fn flatten(alloc: Global, p: &Program) -> Result<FlatModel, FlatFault>
     ensures closed { IfOk result IsClosedModel }
+    ensures own { IfOk result (λ m. NamesOwn (model_tree m)) }
     ensures no_main { IsErrOf result (record { rule = NoMain; item = 0 }) ↔ (find_module (program_tree p.now) (codes "main") ≡ None) }
 {
     match main_place(p.modules.as_slice()) {
@@ -43,6 +46,7 @@ pub fn flatten(alloc: Global, p: &Program) -> Result<FlatModel, FlatFault>
 /// The flat model of a program whose module `main` stands at a place.
 fn flatten_from(alloc: Global, p: &Program, main: usize) -> Result<FlatModel, FlatFault>
     ensures closed { IfOk result IsClosedModel }
+    ensures own { IfOk result (λ m. NamesOwn (model_tree m)) }
     ensures fault { IfErr result IsPastMain }
 {
     let modules = Modules::read(alloc, p, main)?;

@@ -1,6 +1,10 @@
 //! The items of a module, numbered as in the whole program.
 
-ghost use Rattle.std.specs.Prelude.{◌≡◌, ◌+◌, IfOk};
+ghost use Rattle.std.specs.Prelude.{◌≡◌, ◌+◌, [], ◌∷◌, map, IfOk, OnOk};
+ghost use Rattle.xs_tree.specs.ProgramTree.{module_tree, section_tree, decl_tree, define_tree, assignment_tree};
+ghost use Rattle.xs_flattening.specs.Items.{items_of, items_of_section, a_declaration, a_definition, an_assignment};
+ghost use Rattle.xs_flat.specs.ModelTree.{role_of};
+ghost use Rattle.xs_flat.specs.ItemTree.{item_tree, counted_of, with_items, counted_below};
 
 use crate::model::Role;
 use std::alloc::Global;
@@ -40,7 +44,9 @@ impl<'a> ItemList<'a> {
         alloc: Global,
         header: u32,
         module: &'a Module,
-    ) -> Result<ItemList<'a>, OutOfMemory> {
+    ) -> Result<ItemList<'a>, OutOfMemory>
+        ensures { IfOk result (λ list. counted_of list ≡ counted_below header (items_of (module_tree module.now))) }
+    {
         let mut list = ItemList {
             items: Vec::new(alloc),
             last: header,
@@ -52,18 +58,24 @@ impl<'a> ItemList<'a> {
     }
 
     /// The number of the last item, or the header's where there is none.
-    pub(crate) fn last_number(&self) -> u32 {
+    pub(crate) fn last_number(&self) -> u32
+        ensures { result ≡ self.now.last }
+    {
         self.last
     }
 
-    fn add(&mut self, item: Item<'a>) -> Result<(), OutOfMemory> {
+    fn add(&mut self, item: Item<'a>) -> Result<(), OutOfMemory>
+        ensures { OnOk result (counted_of self.new ≡ with_items (counted_of self.old) (item_tree item.entry ∷ [])) }
+    {
         let number = number_after(self.last)?;
         self.items.push(Numbered { number, item })?;
         self.last = number;
         Ok(())
     }
 
-    fn add_section(&mut self, section: &'a Section) -> Result<(), OutOfMemory> {
+    fn add_section(&mut self, section: &'a Section) -> Result<(), OutOfMemory>
+        ensures { OnOk result (counted_of self.new ≡ with_items (counted_of self.old) (items_of_section (section_tree section.now))) }
+    {
         match section {
             Section::Var(list) => self.add_decls(Role::State, list.as_slice()),
             Section::Ivar(list) => self.add_decls(Role::Input, list.as_slice()),
@@ -77,21 +89,27 @@ impl<'a> ItemList<'a> {
         }
     }
 
-    fn add_decls(&mut self, role: Role, decls: &'a [Decl]) -> Result<(), OutOfMemory> {
+    fn add_decls(&mut self, role: Role, decls: &'a [Decl]) -> Result<(), OutOfMemory>
+        ensures { OnOk result (counted_of self.new ≡ with_items (counted_of self.old) (map (a_declaration (role_of role)) (map decl_tree decls.now))) }
+    {
         for decl in decls {
             self.add(Item::Declared(role, decl))?;
         }
         Ok(())
     }
 
-    fn add_defines(&mut self, defines: &'a [Define]) -> Result<(), OutOfMemory> {
+    fn add_defines(&mut self, defines: &'a [Define]) -> Result<(), OutOfMemory>
+        ensures { OnOk result (counted_of self.new ≡ with_items (counted_of self.old) (map a_definition (map define_tree defines.now))) }
+    {
         for define in defines {
             self.add(Item::Defined(define))?;
         }
         Ok(())
     }
 
-    fn add_assignments(&mut self, assignments: &'a [Assignment]) -> Result<(), OutOfMemory> {
+    fn add_assignments(&mut self, assignments: &'a [Assignment]) -> Result<(), OutOfMemory>
+        ensures { OnOk result (counted_of self.new ≡ with_items (counted_of self.old) (map an_assignment (map assignment_tree assignments.now))) }
+    {
         for assignment in assignments {
             self.add(Item::Assigned(assignment))?;
         }

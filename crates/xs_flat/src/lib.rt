@@ -21,9 +21,11 @@
 
 mod bounds;
 mod build;
+mod copy;
 mod fault;
 mod flattening;
 mod formals;
+mod history;
 mod items;
 mod judge;
 mod model;
@@ -36,10 +38,13 @@ mod uses;
 mod walk;
 
 pub use bounds::Bounds;
+pub use copy::{copy_faults, copy_flat};
 pub use fault::{FlatFault, Rule};
 pub use flattening::{flatten, resolve_at, resolve_top};
+pub use history::with_history;
 pub use model::{
-    Flat, FlatList, FlatModel, Formula, Instance, InstanceList, Role, Variable, VariableList,
+    Fault, FaultList, Flat, FlatList, FlatModel, Formula, Instance, InstanceList, Role, Variable,
+    VariableList,
 };
 
 #[cfg(test)]

@@ -67,3 +67,15 @@ pub struct FlatModel {
     pub invar: FlatList,
     pub trans: FlatList,
 }
+
+/// A fault of an analysis: its name, the number of its state variable, and the number of the symbol that
+/// the variable has while the fault's mode stands.
+#[derive(Drop)]
+pub struct Fault {
+    pub name: Dotted,
+    pub variable: u32,
+    pub symbol: u32,
+}
+
+/// Faults, in the order in which reports number them from 1.
+pub type FaultList = Items<Fault>;

@@ -1,9 +1,11 @@
-use crate::{Flat, flatten, resolve_at, resolve_top};
+use crate::{
+    Fault, FaultList, Flat, FlatModel, copy_faults, flatten, resolve_at, resolve_top, with_history,
+};
 use std::alloc::Global;
 use std::test::Fail;
 use xs_tree::{
-    AssignList, Assignment, Decl, DeclList, Declared, Define, DefineList, Expr, ExprList, Module,
-    ModuleList, Moment, NameList, Program, Section, SectionList,
+    AssignList, Assignment, Decl, DeclList, Declared, Define, DefineList, Expr, ExprList, Member,
+    MemberList, Module, ModuleList, Moment, NameList, Op, Program, Section, SectionList,
 };
 use xs_value::{Dotted, Name, OutOfMemory};
 
@@ -140,6 +142,66 @@ fn one_variable(rt: HostRuntime) -> Result<(), Fail> {
 fn is_first(e: &Expr<Flat>) -> bool {
     match e {
         Expr::Leaf(leaf) => *leaf == Flat::Var(0),
+        _ => false,
+    }
+}
+
+/// The model of `VAR x : {ok, bad}; TRANS x`, and the fault that stands where `x = bad`, twice.
+fn failing(alloc: Global) -> Result<(FlatModel, FaultList), Fail> {
+    let mut members = MemberList::new(alloc);
+    members.push(Member::Symbol(Name::new(alloc, b"ok")?))?;
+    members.push(Member::Symbol(Name::new(alloc, b"bad")?))?;
+    let mode = Section::Var(declared(alloc, Declared::Members(members))?);
+    let program = main_of(alloc, mode, Section::Trans(leaf(alloc)?))?;
+    let mut faults = FaultList::new(alloc);
+    for _each in 0..2 {
+        let name = Dotted::new(alloc, Name::new(alloc, b"x")?)?;
+        faults.push(Fault {
+            name,
+            variable: 0,
+            symbol: 1,
+        })?;
+    }
+    Ok((
+        flatten(alloc, &program)?,
+        copy_faults(alloc, faults.as_slice())?,
+    ))
+}
+
+#[test]
+fn two_bits(rt: HostRuntime) -> Result<(), Fail> {
+    let alloc = rt.alloc();
+    let (model, faults) = failing(alloc)?;
+    let made = with_history(alloc, &model, &faults)?;
+    assert_eq!(rt; made.variables.len(), 3);
+    assert!(rt; is_named(&made.variables.at(2).path, b"failed#2"));
+    assert_eq!(rt; made.init.len(), 2);
+    assert_eq!(rt; made.trans.len(), 3);
+    assert!(rt; is_about(&made.init.at(1).value, 2));
+    assert!(rt; is_about(&made.trans.at(2).value, 2));
+    assert!(rt; is_first(&made.trans.at(0).value));
+    Ok(())
+}
+
+/// Whether an expression has `in` on top, and on its left the variable of a number, now or next.
+fn is_about(e: &Expr<Flat>, number: u32) -> bool {
+    match e {
+        Expr::Binary(Op::Within, left, _) => match left.as_ref() {
+            Expr::Leaf(leaf) => *leaf == Flat::Var(number),
+            Expr::Next(below) => match below.as_ref() {
+                Expr::Leaf(leaf) => *leaf == Flat::Var(number),
+                _ => false,
+            },
+            _ => false,
+        },
+        _ => false,
+    }
+}
+
+/// Whether a path is this one name.
+fn is_named(path: &Dotted, text: &[u8]) -> bool {
+    match path.parts() {
+        [name] => name.text() == text,
         _ => false,
     }
 }

@@ -1,5 +1,4 @@
 -- Each turn takes one look-up from the stack.
-use Rattle.std.proofs.Common.{length}
 use Rattle.xs_flat.proofs.names.Scene.close_circle.Given as goal
 
 abbrev pub decreases-loop-frame : goal.decreases-loop-frame

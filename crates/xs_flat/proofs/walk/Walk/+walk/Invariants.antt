@@ -1,5 +1,5 @@
 -- The levels that may still be entered go down from an instance to those inside it.
-use Rattle.std.proofs.Common.{ℕ, ◌+◌, ◌*◌}
+use Rattle.std.proofs.Common.{◌+◌, ◌*◌}
 use Rattle.xs_flat.specs.Closed.{AreVariables}
 use Rattle.xs_flat.proofs.walk.Walk.+walk.Given as goal
 

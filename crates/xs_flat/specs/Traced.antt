@@ -1,0 +1,13 @@
+-- The traces of a model with history bits.
+use Rattle.std.specs.Prelude.{List, map}
+use Rattle.xs_tree.specs.Trace.{Each}
+use Rattle.xs_flat.specs.declared.model.FlatModel.{FlatModel}
+use Rattle.xs_flat.specs.declared.model.Fault.{Fault}
+use Rattle.xs_flat.specs.ModelTree.{model_tree, mode_of}
+use Rattle.xs_flattening.specs.FlatTrace.{NamesOwn, IsModeOf, TellsHistory}
+
+-- for a model that reads its own variables and faults that are its own, the traces of the made one are
+-- those of the model, each with the bits of its history
+abbrev pub HasHistory : FlatModel → List Fault → FlatModel → Type 0
+HasHistory m faults made =
+    NamesOwn (model_tree m) → Each (IsModeOf (model_tree m)) (map mode_of faults) → TellsHistory (model_tree m) (map mode_of faults) (model_tree made)
