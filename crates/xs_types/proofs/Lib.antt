@@ -1,0 +1,10 @@
+pub mod IntervalLaws
+pub mod TreeLaws
+pub mod RowLaws
+pub mod ToldLaws
+pub mod NodeLaws
+pub mod ListLaws
+pub mod ExprLaws
+pub mod CallLaws
+pub mod SizeLaws
+pub mod DigitLaws

@@ -1,0 +1,23 @@
+-- The tree of a case and of a set, and what is left of a list of expressions, one element on.
+use Rattle.std.proofs.Common.{◌≡◌, ℕ, ◌+◌, ◌<◌, List, length, get_or, drop, ap, sym, ◌∙◌}
+use Rattle.std.proofs.lemmas.List.{drop_more}
+use Rattle.xs_tree.specs.declared.expr.Expr.{Expr, fold-roll-Expr}
+use Rattle.xs_tree.specs.declared.expr.Expr.TheVariants.{Case, SetOf, rolls-Case, rolls-SetOf}
+use Rattle.xs_tree.specs.declared.expr.Expr.TheOpen as open_
+use Rattle.xs_tree.specs.Tree.{Tree, case_of, set_of}
+use Rattle.xs_tree.specs.Written.{tree_of, trees_of, branches_of, node_tree}
+use Rattle.xs_kinds.specs.Costs.{cost_of, trees_cost, branches_cost}
+
+pub tree_of_case : {L : Type 0} (bs : List (Expr L × Expr L)) → tree_of (Case bs) ≡ case_of (branches_of bs)
+tree_of_case {L = L} bs = ap tree_of (sym (rolls-Case bs)) ∙ fold-roll-Expr L (Tree L) node_tree (open_.Case bs)
+
+pub tree_of_set : {L : Type 0} (ts : List (Expr L)) → tree_of (SetOf ts) ≡ set_of (trees_of ts)
+tree_of_set {L = L} ts = ap tree_of (sym (rolls-SetOf ts)) ∙ fold-roll-Expr L (Tree L) node_tree (open_.SetOf ts)
+
+pub trees_cost_more : {L : Type 0} (ts : List (Expr L)) (i : ℕ) (d : Expr L) → i < length ts →
+    trees_cost (trees_of (drop i ts)) ≡ cost_of (tree_of (get_or ts i d)) + trees_cost (trees_of (drop (i + 1) ts))
+trees_cost_more ts i d h = ap (λ xs. trees_cost (trees_of xs)) (drop_more ts i d h)
+
+pub branches_cost_more : {L : Type 0} (bs : List (Expr L × Expr L)) (i : ℕ) (d : Expr L × Expr L) → i < length bs →
+    branches_cost (branches_of (drop i bs)) ≡ cost_of (tree_of (get_or bs i d).0) + cost_of (tree_of (get_or bs i d).1) + branches_cost (branches_of (drop (i + 1) bs))
+branches_cost_more bs i d h = ap (λ xs. branches_cost (branches_of xs)) (drop_more bs i d h)

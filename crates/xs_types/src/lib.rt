@@ -1,0 +1,39 @@
+//! Kinds of expressions, domains of variables, and the limits of a model.
+//!
+//! Each expression has a kind: truth values, the numbers of an interval, or symbols. [`check_model`] finds
+//! the kinds of all variables, definitions and formulas of a flat model, or tells the first rule that is
+//! broken ([`TypeFault`]); a [`Typed`] model breaks none. [`check_value`], [`check_top`] and [`kind_of`]
+//! do the same for an expression that is no part of the model. The classes are those of the NuSMV 2.6
+//! manual; the intervals are this project's own, and they see to it that no divisor is 0 and no number
+//! passes 32 bits.
+//!
+//! The files from below: `fault` (the rules), `interval` (arithmetic on intervals), `sort` and
+//! `several` (one node over its parts), `judge` (a whole expression), `declare` (declared types), `bits` and `cost` (sizes), `site`
+//! (which fault comes first), `typed` (models) and `calls` (single expressions). An expression that breaks
+//! a rule has a class and no interval, so that each rule is told where it is broken and not at what stands
+//! around it.
+//!
+//! ```text
+//! // MODULE main VAR x : 0..3; ASSIGN next(x) := 5 / x;
+//! check_model(alloc, model)    // MayDivideByZero, at the assignment's item
+//! ```
+#![tactic(auto)]
+
+mod bits;
+mod calls;
+mod cost;
+mod declare;
+mod fault;
+mod interval;
+mod judge;
+mod several;
+mod site;
+mod sort;
+mod typed;
+
+pub use calls::{Kind, check_top, check_value, kind_of};
+pub use fault::{Rule, TypeFault};
+pub use typed::{Typed, check_model};
+
+#[cfg(test)]
+mod tests;
