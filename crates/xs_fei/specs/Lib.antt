@@ -1,3 +1,4 @@
 pub mod Instructions
 pub mod SpellsInstructions
 pub mod InstructionText
+pub mod WritableInstructions

@@ -5,7 +5,8 @@
 //! Contracts see instructions by [`Instructions`] as `instruction_tree` gives them: the same lists and
 //! texts, with no pointer in them (`specs/Instructions.antt`). Which tokens spell which instructions
 //! stands in `specs/SpellsInstructions.antt`, a case for each line of the grammar; the text that
-//! [`print_instructions`] gives stands in `specs/InstructionText.antt`.
+//! [`print_instructions`] gives stands in `specs/InstructionText.antt`, and it spells all instructions that can
+//! be written (`specs/WritableInstructions.antt`).
 //!
 //! ```text
 //! EXTENSION OF MODULE Lamp

@@ -5,6 +5,8 @@ ghost use Rattle.std.specs.Fmt.{signed_decimal};
 ghost use Rattle.xs_tree.specs.Text.{text_of, all_of, joined};
 ghost use Rattle.xs_tree.specs.Written.{tree_of};
 ghost use Rattle.xs_fei.specs.Instructions.{instruction_tree, extension_tree, slice_tree, mode_tree, effect_tree, constant_value, guard_tree};
+ghost use Rattle.xs_fei.specs.SpellsInstructions.{BytesSpellInstructions};
+ghost use Rattle.xs_fei.specs.WritableInstructions.{IsWritableInstructions};
 ghost use Rattle.xs_fei.specs.InstructionText.{instructions_text, extension_text, slice_text, mode_line, mode_head, mark_text, guard_text, effect_text, constant_text, dynamics_text, name_text, name_line, file_words as file_words_text, extension_words as extension_words_text};
 
 use crate::instructions::{
@@ -18,7 +20,9 @@ use xs_value::{ByteList, Dotted, Name, OutOfMemory};
 /// each extension with its slices, and each slice with its modes, on lines of their own.
 #[tactic(auto, using(xs_tree::proofs::TextLaws::print_rules))]
 pub fn print_instructions(alloc: Global, i: &Instructions) -> Result<Vec<u8>, OutOfMemory>
-    ensures { IfOk result (λ text. text.items ≡ instructions_text (instruction_tree i.now)) }
+    ensures text { IfOk result (λ text. text.items ≡ instructions_text (instruction_tree i.now)) }
+    // What can be written is read back as itself.
+    ensures spells { IfOk result (λ text. IsWritableInstructions (instruction_tree i.now) → BytesSpellInstructions text.items (instruction_tree i.now)) }
 {
     let mut text = ByteList::new(alloc);
     append_file_name(&mut text, &i.name)?;

@@ -1,0 +1,12 @@
+use Rattle.std.proofs.Common.{◌≡◌, arith, sym, subst}
+use Rattle.xs_tree.proofs.TextLaws.{print_rules}
+use Rattle.xs_fei.specs.Instructions.{instruction_tree}
+use Rattle.xs_fei.specs.InstructionText.{instructions_text}
+use Rattle.xs_fei.specs.SpellsInstructions.{BytesSpellInstructions}
+use Rattle.xs_fei.proofs.InstructionSpells.{instructions_spell}
+use Rattle.xs_fei.proofs.print.print_instructions.Goals as goal
+
+pub returns-clause-spells : goal.returns-clause-spells
+returns-clause-spells c = λ h.
+    let text : c.into_vec.result.items ≡ instructions_text (instruction_tree c.args.i.now) = grind (arith, print_rules) in
+    subst (λ z. BytesSpellInstructions z (instruction_tree c.args.i.now)) (sym text) (instructions_spell (instruction_tree c.args.i.now) h)

@@ -1,0 +1,62 @@
+-- The instructions that can be written: every name is a name, every number fits, and no slice is without a mode.
+use Rattle.std.specs.Prelude.{◌≡◌, ◌≢◌, ◌⊎◌, ℕ, [], Option, Some, None, List}
+use Rattle.std.specs.Fmt.{decimal}
+use Rattle.xs_lexer.specs.declared.token.TokenKind.{TokenKind}
+use Rattle.xs_lexer.specs.declared.token.TokenKind.TheVariants as k
+use Rattle.xs_lexer.specs.Tokens.{IsWord, sign_text}
+use Rattle.xs_tree.specs.ProgramTree.{Text, Formula}
+use Rattle.xs_tree.specs.Values.{Value, truth, number, symbol}
+use Rattle.xs_tree.specs.Printed.{IsName, IsSmall, IsEnd, IsWritable}
+use Rattle.xs_tree.specs.Trace.{Each}
+use Rattle.xs_fei.specs.Instructions.{EffectTree, stuck_at, follows, inverted, random, erroneous, frozen, stuck_at_pick, offset, ramp_down, ModeTree, SliceTree, ExtensionTree, InstructionTree}
+
+-- a sign that does not end a mark
+abbrev pub IsInner : TokenKind → Type 0
+IsInner k.Word = ⊥
+IsInner k.Number = ⊥
+IsInner k.CloseBrace = ⊥
+IsInner _ = Unit {0}
+
+-- the text of a token of a mark: a word, a number without leading zeros, or a sign
+abbrev pub IsMarkText : Text → Type 0
+IsMarkText x = IsWord x [] ⊎ (((n : ℕ) × IsSmall n × (x ≡ decimal n)) ⊎ ((s : TokenKind) × IsInner s × (x ≡ sign_text s)))
+
+abbrev pub IsWritableConstant : Value → Type 0
+IsWritableConstant (truth b) = Unit {0}
+IsWritableConstant (number n) = IsEnd n
+IsWritableConstant (symbol x) = IsName x
+
+abbrev pub IsWritableEffect : EffectTree → Type 0
+IsWritableEffect (stuck_at c) = IsWritableConstant c
+IsWritableEffect (follows e) = IsWritable e
+IsWritableEffect inverted = Unit {0}
+IsWritableEffect random = Unit {0}
+IsWritableEffect erroneous = Unit {0}
+IsWritableEffect frozen = Unit {0}
+IsWritableEffect stuck_at_pick = Unit {0}
+IsWritableEffect (offset d) = IsEnd d
+IsWritableEffect (ramp_down d f) = IsEnd d × IsEnd f
+
+abbrev pub IsWritableMark : Option (List Text) → Type 0
+IsWritableMark None = Unit {0}
+IsWritableMark (Some xs) = Each IsMarkText xs
+
+abbrev pub IsWritableGuard : Option Formula → Type 0
+IsWritableGuard None = Unit {0}
+IsWritableGuard (Some g) = IsWritable g
+
+abbrev pub IsWritableMode : ModeTree → Type 0
+IsWritableMode m = IsName m.name × IsWritableMark m.mark × IsWritableEffect m.effect × IsWritableGuard m.guard
+
+abbrev pub IsWritableSlice : SliceTree → Type 0
+IsWritableSlice s = IsName s.name × IsName s.target × (s.modes ≢ []) × Each IsWritableMode s.modes
+
+abbrev pub IsWritableExtension : ExtensionTree → Type 0
+IsWritableExtension x = IsName x.of_module × Each IsWritableSlice x.slices
+
+abbrev pub IsWritableFileName : Option Text → Type 0
+IsWritableFileName None = Unit {0}
+IsWritableFileName (Some x) = IsName x
+
+abbrev pub IsWritableInstructions : InstructionTree → Type 0
+IsWritableInstructions i = IsWritableFileName i.name × Each IsWritableExtension i.extensions

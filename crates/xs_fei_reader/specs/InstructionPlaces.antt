@@ -1,0 +1,173 @@
+-- What is expected at each place of the recogniser of instructions.
+use Rattle.std.specs.Prelude.{◌≡◌, ℕ, ◌+◌, ◌<◌, Bool, true, false, List, [], ◌∷◌, Option, Some, None, take, length, codes}
+use Rattle.xs_tree.specs.Lexemes.{Lexeme}
+use Rattle.xs_fei.specs.Instructions.{InstructionTree}
+use Rattle.xs_fei.specs.SpellsInstructions.{SpellsInstructions, BytesSpellInstructions}
+use Rattle.xs_parse.specs.declared.expected.Reading.{Reading}
+use Rattle.xs_parse.specs.declared.expected.Reading.TheVariants as reading
+use Rattle.xs_parse.specs.declared.machine.Mode.{Mode}
+use Rattle.xs_parse.specs.Recognise.{Frame, is_stuck}
+use Rattle.xs_parse.specs.Views.{state_with}
+use Rattle.xs_parse.specs.Predict.{step, run, all_empty}
+use Rattle.xs_fei_reader.specs.declared.place.Single as c
+use Rattle.xs_fei_reader.specs.declared.place.Single.TheVariants as w
+use Rattle.xs_fei_reader.specs.declared.place.HeadPlace.{HeadPlace}
+use Rattle.xs_fei_reader.specs.declared.place.HeadPlace.TheVariants as h
+use Rattle.xs_fei_reader.specs.declared.place.ModePlace.{ModePlace}
+use Rattle.xs_fei_reader.specs.declared.place.ModePlace.TheVariants as m
+use Rattle.xs_fei_reader.specs.declared.place.ArgumentPlace.{ArgumentPlace}
+use Rattle.xs_fei_reader.specs.declared.place.ArgumentPlace.TheVariants as a
+use Rattle.xs_fei_reader.specs.declared.place.WordPlace.{WordPlace}
+use Rattle.xs_fei_reader.specs.declared.place.WordPlace.TheVariants as v
+use Rattle.xs_fei_reader.specs.declared.place.Place.{Place}
+use Rattle.xs_fei_reader.specs.declared.place.Place.TheVariants as p
+use Rattle.xs_fei_reader.specs.InstructionRead.{Single, Sym, single, keyword, the_name, the_number, the_open, the_close, the_comma, the_colon, the_semicolon, file, extensions, slices, mode, modes, mode_rest, mark, in_mark, dynamics, effect, constant, int, guard, expr, live, instructions}
+
+-- the list spells some instructions
+abbrev pub IsInstructions : List Lexeme → Type 0
+IsInstructions ts = (i : InstructionTree) × SpellsInstructions ts i
+
+-- what follows a slice, a mode, and an effect
+abbrev pub after_slices : List Sym
+after_slices = slices ∷ extensions ∷ []
+
+abbrev pub after_modes : List Sym
+after_modes = modes ∷ after_slices
+
+abbrev pub before_semicolon : List Sym
+before_semicolon = single the_semicolon ∷ after_modes
+
+abbrev pub before_guard : List Sym
+before_guard = guard ∷ before_semicolon
+
+abbrev pub before_close : List Sym
+before_close = single the_close ∷ before_guard
+
+abbrev pub before_colon : List Sym
+before_colon = single the_colon ∷ dynamics ∷ effect ∷ before_guard
+
+abbrev pub before_modes : List Sym
+before_modes = mode ∷ after_modes
+
+abbrev pub single_view : c.Single → Single
+single_view w.Name = the_name
+single_view w.Number = the_number
+single_view w.Open = the_open
+single_view w.Close = the_close
+single_view w.Comma = the_comma
+single_view w.Colon = the_colon
+single_view w.Semicolon = the_semicolon
+
+abbrev pub head_view : HeadPlace → List Sym
+head_view h.File = file ∷ []
+head_view h.FileExtension = keyword (codes "EXTENSION") ∷ single the_name ∷ extensions ∷ []
+head_view h.FileName = single the_name ∷ extensions ∷ []
+head_view h.Extensions = extensions ∷ []
+head_view h.Of = keyword (codes "OF") ∷ keyword (codes "MODULE") ∷ single the_name ∷ after_slices
+head_view h.ModuleWord = keyword (codes "MODULE") ∷ single the_name ∷ after_slices
+head_view h.ModuleName = single the_name ∷ after_slices
+head_view h.Slices = after_slices
+head_view h.SliceName = single the_name ∷ keyword (codes "AFFECTS") ∷ single the_name ∷ keyword (codes "WITH") ∷ before_modes
+head_view h.Affects = keyword (codes "AFFECTS") ∷ single the_name ∷ keyword (codes "WITH") ∷ before_modes
+head_view h.Target = single the_name ∷ keyword (codes "WITH") ∷ before_modes
+head_view h.With = keyword (codes "WITH") ∷ before_modes
+head_view h.FirstMode = before_modes
+
+abbrev pub mode_view : ModePlace → List Sym
+mode_view m.Modes = after_modes
+mode_view m.Name = mode_rest ∷ after_modes
+mode_view m.Mark = mark ∷ before_colon
+mode_view m.InMark = in_mark ∷ before_colon
+mode_view m.Colon = before_colon
+mode_view m.Dynamics = dynamics ∷ effect ∷ before_guard
+mode_view m.Effect = effect ∷ before_guard
+mode_view m.Guard = before_guard
+
+abbrev pub argument_view : ArgumentPlace → List Sym
+argument_view a.ConstantOpen = single the_open ∷ constant ∷ before_close
+argument_view a.FollowedOpen = single the_open ∷ expr ∷ before_close
+argument_view a.NumberOpen = single the_open ∷ int ∷ before_close
+argument_view a.StepOpen = single the_open ∷ int ∷ single the_comma ∷ int ∷ before_close
+argument_view a.Constant = constant ∷ before_close
+argument_view a.Number = int ∷ before_close
+argument_view a.Digits = single the_number ∷ before_close
+argument_view a.Step = int ∷ single the_comma ∷ int ∷ before_close
+argument_view a.StepDigits = single the_number ∷ single the_comma ∷ int ∷ before_close
+argument_view a.Comma = single the_comma ∷ int ∷ before_close
+argument_view a.Close = before_close
+
+abbrev pub word_view : WordPlace → List Sym
+word_view (v.Head place) = head_view place
+word_view (v.Mode place) = mode_view place
+word_view (v.Argument place) = argument_view place
+word_view v.Followed = expr ∷ before_close
+word_view v.Condition = expr ∷ before_semicolon
+
+abbrev pub after_word : Option WordPlace → Option (List Sym)
+after_word None = None
+after_word (Some place) = Some (word_view place)
+
+-- what is expected at a place, where this is open in an expression
+abbrev pub place_view : Place → List Frame → Option (List Sym)
+place_view (p.Word place) s = Some (word_view place)
+place_view (p.InFollowed m) s = live (state_with m s) before_close
+place_view (p.InCondition m) s = live (state_with m s) before_semicolon
+
+abbrev pub after_view : Option Place → List Frame → Option (List Sym)
+after_view None s = None
+after_view (Some place) s = place_view place s
+
+abbrev pub stepped : Option (List Sym) → Lexeme → Option (List Sym)
+stepped None t = None
+stepped (Some s) t = step Sym instructions s t
+
+-- what is expected after these lexemes
+abbrev pub expected_after : List Lexeme → Option (List Sym)
+expected_after ts = run Sym instructions (Some (file ∷ [])) ts
+
+abbrev pub Goes : Option (List Sym) → Type 0
+Goes o = (s : List Sym) × (o ≡ Some s)
+
+-- the list goes on, and may end here or not
+abbrev pub Ends : Bool → List Lexeme → Type 0
+Ends may ts = (s : List Sym) × (expected_after ts ≡ Some s) × (all_empty Sym instructions s ≡ may)
+
+abbrev pub ListReads : List Lexeme → Reading → Type 0
+ListReads ts reading.Whole = Ends true ts
+ListReads ts reading.Unfinished = Ends false ts
+ListReads ts (reading.Stopped i) = (i < length ts) × Goes (expected_after (take i ts)) × (expected_after (take (i + 1) ts) ≡ None)
+
+-- what is open there: nothing, or an expression that goes on
+abbrev pub Fits : Place → List Frame → Type 0
+Fits (p.Word place) s = s ≡ []
+Fits (p.InFollowed m) s = is_stuck (state_with m s) ≡ false
+Fits (p.InCondition m) s = is_stuck (state_with m s) ≡ false
+
+-- whether instructions may end at a place
+abbrev pub head_ends : HeadPlace → Bool
+head_ends h.File = true
+head_ends h.Extensions = true
+head_ends h.Slices = true
+head_ends _ = false
+
+abbrev pub mode_ends : ModePlace → Bool
+mode_ends m.Modes = true
+mode_ends _ = false
+
+abbrev pub word_ends : WordPlace → Bool
+word_ends (v.Head place) = head_ends place
+word_ends (v.Mode place) = mode_ends place
+word_ends _ = false
+
+abbrev pub ends_at : Place → Bool
+ends_at (p.Word place) = word_ends place
+ends_at _ = false
+
+-- an expression that has begun, or nothing, before these symbols
+abbrev pub begun_view : Option Mode → List Frame → List Sym → Option (List Sym)
+begun_view None s rest = None
+begun_view (Some m) s rest = live (state_with m s) rest
+
+-- the bytes spell some instructions
+abbrev pub AreInstructions : List ℕ → Type 0
+AreInstructions bytes = (i : InstructionTree) × BytesSpellInstructions bytes i

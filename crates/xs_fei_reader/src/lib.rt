@@ -1,0 +1,35 @@
+//! Reads fault extension instructions.
+//!
+//! The model: bytes have tokens, as `xs_lexer` splits them, the grammar sees each token as a lexeme, and a list of
+//! lexemes spells instructions by a relation with one case for each line of the grammar (`SpellsInstructions` of
+//! `xs_fei`). The call answers the instructions that the bytes spell, or a `ParseFault` with the first place that no
+//! text goes on from; what a refusal says of the bytes is `FaultMeans` of `xs_parse`, over `IsInstructions` of
+//! `specs/InstructionPlaces.antt`.
+//!
+//! The words of the grammar, such as `MODE` and `Permanent`, are known by their place and are names elsewhere.
+//!
+//! `specs/InstructionRead.antt` has the grammar as one in which a token decides what is still expected, and
+//! `specs/InstructionPlaces.antt` what is expected at each place of the first pass; `specs/Reads.antt` says what the
+//! second pass has read of the tokens.
+//!
+//! A text is read twice, as programs are. The first pass (`place`) makes nothing: outside expressions one token decides
+//! what comes next, so a place in the grammar is all that it keeps, and in an expression the state of the recogniser
+//! of expressions. Only where the whole text spells instructions the second pass (`build`) makes them, and gives
+//! up as soon as an expression would be higher than 1,000. So `TooDeep` never hides another refusal, and both passes
+//! take time in proportion to the tokens.
+//!
+//! ```text
+//! instructions(alloc, b"EXTENSION OF MODULE Lamp")      no slice for the module Lamp
+//! instructions(alloc, b"EXTENSION OF Lamp")             Unexpected(13)
+//! ```
+#![tactic(auto)]
+
+mod build;
+mod cursor;
+mod place;
+mod reader;
+
+pub use reader::instructions;
+
+#[cfg(test)]
+mod tests;
