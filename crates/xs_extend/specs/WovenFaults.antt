@@ -1,0 +1,24 @@
+-- The list of faults that a weave gives, over the instances of a flat model.
+use Rattle.std.specs.Prelude.{List, [], Option, Some, None, map, flat_map, reverse}
+use Rattle.xs_tree.specs.ProgramTree.{Path}
+use Rattle.xs_tree.specs.Scope.{Place}
+use Rattle.xs_fei.specs.Instructions.{InstructionTree, slices_of}
+use Rattle.xs_flat.specs.declared.model.Instance.{Instance}
+use Rattle.xs_weave.specs.Faults.{Fault, slice_faults}
+use Rattle.xs_extend.specs.declared.faults.WovenFault.{WovenFault}
+
+-- a path is written from `main` on, and a place has the innermost name first
+abbrev pub place_of : Option Path → Place
+place_of None = []
+place_of (Some path) = reverse path
+
+abbrev pub fault_tree : WovenFault → Fault
+fault_tree f = record { place = place_of f.path; slice = f.slice; mode = f.mode }
+
+-- the faults of an instance: by the slices of its module in the order of the file, then by modes
+abbrev pub instance_faults : InstructionTree → Instance → List Fault
+instance_faults i at = flat_map (slice_faults (place_of at.path)) (slices_of i at.«module»)
+
+-- the faults by instances
+abbrev pub faults_at : InstructionTree → List Instance → List Fault
+faults_at i instances = flat_map (instance_faults i) instances

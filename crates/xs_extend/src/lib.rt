@@ -1,0 +1,29 @@
+//! From a program and fault instructions to the woven program and its list of faults, or to the first rule
+//! that the instructions break.
+//!
+//! The rules are tried in three groups. The first two, at the items of the instructions and on the number
+//! of faults, are those of `xs_weave_rules`. The third judges guards and Follows expressions at each
+//! instance, as the definitions that they would be. What passes is woven by `xs_weave`, and its faults are
+//! listed by instances, then slices, then modes ([`weave`]). [`fault_list`] gives them the numbers that they
+//! have in the woven program's flat model.
+//!
+//! ```text
+//! let woven = weave(alloc, &program, &instructions)?;
+//! let model = flatten(alloc, &woven.program)?;
+//! fault_list(alloc, &woven, &model)?.at(0).name    // Lamp.dark
+//! ```
+#![tactic(auto)]
+
+mod fault;
+mod faults;
+mod guards;
+mod list;
+mod weaving;
+
+pub use fault::{Cause, WeaveFault};
+pub use faults::{Woven, WovenFault, WovenFaultList, woven_faults};
+pub use list::fault_list;
+pub use weaving::{weave, weave_typed};
+
+#[cfg(test)]
+mod tests;

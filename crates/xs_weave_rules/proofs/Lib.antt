@@ -1,0 +1,5 @@
+pub mod NegationLaws
+pub mod ProgramNames
+pub mod KeptItems
+pub mod KeptFacts
+pub mod WeavableLaw

@@ -1,0 +1,19 @@
+use std::alloc::Global;
+use xs_fei::Slice;
+use xs_tree::Declared;
+use xs_value::{Name, OutOfMemory};
+
+/// A slice with the module that it extends, what its variable is declared to be, and its item. Its modes
+/// are the items after it.
+#[derive(Clone, Copy)]
+pub struct Placed<'a> {
+    pub owner: &'a Name,
+    pub slice: &'a Slice,
+    pub declared: &'a Declared,
+    pub item: u32,
+}
+
+/// The item after another one. Instructions that pass the numbers of 32 bits count as want of memory.
+pub fn item_after(item: u32) -> Result<u32, OutOfMemory> {
+    item.checked_add(1).ok_or(OutOfMemory)
+}
