@@ -2,10 +2,11 @@
 use Rattle.std.proofs.Common.{◌≡◌, ◌⊎◌, inl, inr, ⊎_elim, ℕ, List, Option, Some, None, IfSome, refl, sym, ap, subst, ◌∙◌}
 use Rattle.xs_desk.specs.declared.files.NamedFile.{NamedFile}
 use Rattle.xs_desk.specs.Desk.{told_with, said_more, SaysPrefix, WritesPrefix}
-use Rattle.xs_tree.specs.ProgramTree.{Text}
-use Rattle.xs_tree.specs.Text.{program_text}
-use Rattle.xs_fei.specs.Instructions.{instruction_tree}
-use Rattle.xs_weave.specs.Woven.{woven}
+use Rattle.xs_tree.specs.ProgramTree.{Text, ProgramTree}
+use Rattle.xsap_program.specs.declared.faults.Made.{Made}
+use Rattle.xsap_program.specs.Delivered.{Stopped}
+use Rattle.xsap_program.specs.Inputs.{RefusesModel, HoldsModel, RefusesFaults, HoldsExtension}
+use Rattle.xsap_program.specs.Runs.{Outcome, refuses, extends, ComesTo, refuses_model, refuses_faults, is_extended, Means, asked, other_words, IsAnswer, HasAnswered, HasStopped}
 use Rattle.xsap_program.specs.declared.status.Built.TheVariants as built
 use Rattle.xsap_program.specs.declared.status.Refusal.{Refusal}
 use Rattle.xsap_program.specs.declared.status.Refusal.TheVariants as refusal
@@ -13,16 +14,8 @@ use Rattle.xsap_program.specs.declared.status.Status.{Status}
 use Rattle.xsap_program.specs.declared.status.Status.TheVariants as status
 use Rattle.xsap_program.specs.declared.input.Stop.{Stop}
 use Rattle.xsap_program.specs.declared.input.Stop.TheVariants as stopped
-use Rattle.xsap_program.specs.declared.input.LoadedModel.{LoadedModel}
-use Rattle.xsap_program.specs.declared.input.LoadedFaults.{LoadedFaults}
-use Rattle.xsap_program.specs.declared.run.Made.{Made}
 use Rattle.xsap_program.specs.Statuses.{status_of, refusal_text}
 use Rattle.xsap_program.specs.Commands.{AsksToExtend, AsksForMore}
-use Rattle.xsap_program.specs.SmallModel.{small_program}
-use Rattle.xsap_program.specs.SmallFaults.{AreSmallFaults, small_instructions}
-use Rattle.xsap_program.specs.Loaded.{IsModelOf, AreFaultsOf}
-use Rattle.xsap_program.specs.Delivered.{IsMadeOf, Stopped}
-use Rattle.xsap_program.specs.Runs.{HasBytes, RefusesModel, HoldsModel, RefusesFaults, extension_text, report_text, Outcome, refuses, extends, ComesTo, refuses_model, refuses_faults, is_extended, Means, asked, other_words, IsAnswer, HasAnswered, HasStopped}
 
 module _ (model faults extended : Text) where
   -- the model is refused
@@ -31,38 +24,24 @@ module _ (model faults extended : Text) where
   comes_to_no_model None r no_model = tt
   comes_to_no_model (Some files) r no_model = refuses_model r no_model
 
-  holds : (files : List NamedFile) (bytes : List ℕ) (l : LoadedModel) (is : IsModelOf bytes l) → HasBytes files model bytes → HoldsModel files model is.small
-  holds files bytes l is has = record { bytes = bytes; has = has; is = is.is }
-
   -- the instructions are refused
-  pub comes_to_no_faults : (told mid : Option (List NamedFile)) (bytes : List ℕ) (l : LoadedModel) (r : Refusal) → mid ≡ told → IsModelOf bytes l →
-      IfSome told (λ files. HasBytes files model bytes) → IfSome mid (λ files. RefusesFaults files faults l.variable r) →
-      IfSome told (λ files. ComesTo files model faults extended (refuses r))
-  comes_to_no_faults told mid bytes l r same is has no_faults = at_told told has (subst (λ t. IfSome t (λ files. RefusesFaults files faults l.variable r)) same no_faults) where
-    at_told : (told : Option (List NamedFile)) → IfSome told (λ files. HasBytes files model bytes) → IfSome told (λ files. RefusesFaults files faults l.variable r) →
-        IfSome told (λ files. ComesTo files model faults extended (refuses r))
-    at_told None has no_faults = tt
-    at_told (Some files) has no_faults =
-        refuses_faults is.small r (holds files bytes l is has) (subst (λ x. RefusesFaults files faults x r) is.variable no_faults)
+  pub comes_to_no_faults : (told mid : Option (List NamedFile)) (p : ProgramTree) (r : Refusal) → mid ≡ told → IfSome told (λ files. HoldsModel files model p) →
+      IfSome mid (λ files. RefusesFaults files faults p r) → IfSome told (λ files. ComesTo files model faults extended (refuses r))
+  comes_to_no_faults told mid p r same holds no_faults = at_told told holds (subst (λ t. IfSome t (λ files. RefusesFaults files faults p r)) same no_faults) where
+    at_told : (t : Option (List NamedFile)) → IfSome t (λ files. HoldsModel files model p) → IfSome t (λ files. RefusesFaults files faults p r) →
+        IfSome t (λ files. ComesTo files model faults extended (refuses r))
+    at_told None holds no_faults = tt
+    at_told (Some files) holds no_faults = refuses_faults p r holds no_faults
 
-  -- both are small: the extension of the one by the other
-  pub comes_to_extension : (told mid : Option (List NamedFile)) (bytes more : List ℕ) (l : LoadedModel) (k : LoadedFaults) (made : Made) → mid ≡ told → IsModelOf bytes l →
-      IfSome told (λ files. HasBytes files model bytes) → AreFaultsOf more l.variable k → IfSome mid (λ files. HasBytes files faults more) → IsMadeOf l k made →
+  -- both are taken: the extension of the one by the other
+  pub comes_to_extension : (told mid : Option (List NamedFile)) (p : ProgramTree) (made : Made) → mid ≡ told → IfSome told (λ files. HoldsModel files model p) →
+      IfSome mid (λ files. HoldsExtension files faults p made) →
       IfSome told (λ files. ComesTo files model faults extended (extends extended made.text.items made.report))
-  comes_to_extension told mid bytes more l k made same is has are has_more is_made =
-      at_told told has (subst (λ t. IfSome t (λ files. HasBytes files faults more)) same has_more) where
-        text : made.text.items ≡ extension_text is.small are.small
-        text = is_made.text ∙ ap (λ p. program_text (woven p (instruction_tree k.instructions))) is.tree
-            ∙ ap (λ i. program_text (woven (small_program is.small) i)) (are.tree ∙ ap (λ x. small_instructions x are.small) is.variable)
-
-        at_told : (told : Option (List NamedFile)) → IfSome told (λ files. HasBytes files model bytes) → IfSome told (λ files. HasBytes files faults more) →
-            IfSome told (λ files. ComesTo files model faults extended (extends extended made.text.items made.report))
-        at_told None has has_more = tt
-        at_told (Some files) has has_more =
-            let small = is_extended is.small are.small (holds files bytes l is has)
-            (record { bytes = more; has = has_more; are = subst (λ x. AreSmallFaults more x are.small) is.variable are.are }) in
-            subst (λ r. ComesTo files model faults extended (extends extended made.text.items r)) (sym (is_made.report ∙ are.report))
-            (subst (λ t. ComesTo files model faults extended (extends extended t (report_text are.small))) (sym text) small)
+  comes_to_extension told mid p made same holds has = at_told told holds (subst (λ t. IfSome t (λ files. HoldsExtension files faults p made)) same has) where
+    at_told : (t : Option (List NamedFile)) → IfSome t (λ files. HoldsModel files model p) → IfSome t (λ files. HoldsExtension files faults p made) →
+        IfSome t (λ files. ComesTo files model faults extended (extends extended made.text.items made.report))
+    at_told None holds has = tt
+    at_told (Some files) holds has = is_extended p made.text.items made.report holds has
 
 -- what the files come to is what the words mean
 pub means_asked : (told : Option (List NamedFile)) (words : List Text) (model faults extended : Text) (o : Outcome) → AsksToExtend words model faults extended →

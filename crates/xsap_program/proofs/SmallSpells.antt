@@ -12,10 +12,7 @@ use Rattle.xs_tree.proofs.PrintedSpells.{loosened, an_expr}
 use Rattle.xs_tree.specs.Values as values
 use Rattle.xs_fei.specs.Instructions.{ExtensionTree}
 use Rattle.xs_fei.specs.SpellsInstructions.{SpellsConst, const_true, const_false, e_stuck, d_permanent, no_guard, no_mark, SpellsMode, a_mode, SpellsSlice, a_slice, SpellsExtension, an_extension, SpellsInstructions, unnamed, named, BytesSpellInstructions}
-use Rattle.xsap_program.specs.declared.small_model.SmallValue.{SmallValue}
-use Rattle.xsap_program.specs.declared.small_model.SmallValue.TheVariants as value
-use Rattle.xsap_program.specs.declared.small_model.SmallAssignment.{SmallAssignment}
-use Rattle.xsap_program.specs.SmallModel.{SmallModelTree, value_lexemes, value_tree, target_lexemes, assignment_lexemes, assignment_of, assignments_lexemes, model_lexemes, small_sections, small_program, IsSmallModel}
+use Rattle.xsap_program.specs.SmallModel.{SmallValue, constant, same, opposite, SmallAssignment, SmallModelTree, value_lexemes, value_tree, target_lexemes, assignment_lexemes, assignment_of, assignments_lexemes, model_lexemes, small_sections, small_program, IsSmallModel}
 use Rattle.xsap_program.specs.SmallFaults.{SmallFaultsTree, header_lexemes, truth_text, slice_lexemes, mode_lexemes, faults_lexemes, IsFree, AreSmallFaults, small_mode, small_instructions}
 
 -- a list of one
@@ -27,10 +24,10 @@ alone_section ts s p = subst (λ us. SpellsSections us (s ∷ [])) (append-nil t
 
 module _ (x : Text) (free : is_reserved x ≡ false) where
   value_spells : (v : SmallValue) → SpellsExpr (value_lexemes x v) (value_tree x v)
-  value_spells (value.Constant true) = an_expr is_true
-  value_spells (value.Constant false) = an_expr is_false
-  value_spells value.Same = an_expr (is_name (one_name free))
-  value_spells value.Opposite = loosened 11 0 11 (omega arith) (omega arith) (inverts (only_atom (is_name (one_name free))))
+  value_spells (constant true) = an_expr is_true
+  value_spells (constant false) = an_expr is_false
+  value_spells same = an_expr (is_name (one_name free))
+  value_spells opposite = loosened 11 0 11 (omega arith) (omega arith) (inverts (only_atom (is_name (one_name free))))
 
   target_spells : (w : Moment) → SpellsTarget (target_lexemes x w) w (x ∷ [])
   target_spells Always = always (one_name free)

@@ -10,10 +10,7 @@ use Rattle.xs_fei.specs.Instructions.{SliceTree, ModeTree, slices_of}
 use Rattle.xs_effects.specs.AddedNames.{ModeState, own_name, mode_variable, mode_symbol}
 use Rattle.xs_effects.specs.Types.{IsKnown}
 use Rattle.xs_weave.specs.Weavable.{Among, HasMeaning, IsReadable, IsLawfulAssignment, IsLawfulInstance, IsLawfulSlice, IsWeavable}
-use Rattle.xsap_program.specs.declared.small_model.SmallValue.{SmallValue}
-use Rattle.xsap_program.specs.declared.small_model.SmallValue.TheVariants as value
-use Rattle.xsap_program.specs.declared.small_model.SmallAssignment.{SmallAssignment}
-use Rattle.xsap_program.specs.SmallModel.{SmallModelTree, value_tree, assignment_of, small_sections, small_program}
+use Rattle.xsap_program.specs.SmallModel.{SmallValue, constant, same, opposite, SmallAssignment, SmallModelTree, value_tree, assignment_of, small_sections, small_program}
 use Rattle.xsap_program.specs.SmallFaults.{SmallFaultsTree, AreNew, small_mode, small_instructions}
 
 -- texts that differ are told apart
@@ -83,9 +80,9 @@ module _ (m : SmallModelTree) where
   means_variable = (a_variable_at [] m.name, (1, rw (same_text_refl m.name) refl))
 
   value_readable : (v : SmallValue) → IsReadable (small_program m) [] (value_tree m.name v)
-  value_readable (value.Constant b) = tt
-  value_readable value.Same = means_variable
-  value_readable value.Opposite = means_variable
+  value_readable (constant b) = tt
+  value_readable same = means_variable
+  value_readable opposite = means_variable
 
   assignments_lawful : (list : List SmallAssignment) → Each (IsLawfulAssignment (small_program m) [] (small_main m)) (map (assignment_of m.name) list)
   assignments_lawful [] = tt

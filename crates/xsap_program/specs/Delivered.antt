@@ -1,27 +1,15 @@
--- What is made before anything is written, and how the writing ends.
+-- How a run ends that stops on its way, and how the writing ends.
 use Rattle.std.specs.Prelude.{◌≡◌, ◌⊎◌, ℕ, List, Option, Result, Ok, Err}
 use Rattle.xs_desk.specs.declared.files.NamedFile.{NamedFile}
 use Rattle.xs_desk.specs.Desk.{said_more, SaysPrefix}
 use Rattle.xs_desk.specs.declared.desk.WriteStop.{WriteStop}
 use Rattle.xs_desk.specs.declared.desk.WriteStop.TheVariants as stop
-use Rattle.xs_tree.specs.ProgramTree.{program_tree}
-use Rattle.xs_tree.specs.Text.{program_text}
-use Rattle.xs_fei.specs.Instructions.{instruction_tree}
-use Rattle.xs_weave.specs.Woven.{woven}
 use Rattle.xsap_program.specs.Statuses.{status_of, refusal_text}
 use Rattle.xsap_program.specs.declared.status.Refusal.{Refusal}
 use Rattle.xsap_program.specs.declared.input.Stop.{Stop}
 use Rattle.xsap_program.specs.declared.input.Stop.TheVariants as stopped
-use Rattle.xsap_program.specs.declared.input.LoadedModel.{LoadedModel}
-use Rattle.xsap_program.specs.declared.input.LoadedFaults.{LoadedFaults}
-use Rattle.xsap_program.specs.declared.run.Made.{Made}
 use Rattle.xsap_program.specs.declared.status.Status.{Status}
 use Rattle.xsap_program.specs.declared.status.Status.TheVariants as status
-
--- the text is that of the woven program, and the report that of the instructions
-pub record IsMadeOf (model : LoadedModel) (faults : LoadedFaults) (made : Made) : Type 0 where
-  pub text : made.text.items ≡ program_text (woven (program_tree model.program) (instruction_tree faults.instructions))
-  pub report : made.report ≡ faults.report
 
 -- a status where the writing was done, and else why it was not
 abbrev pub ended_as : Status → Result (Unit {0}) WriteStop → Status

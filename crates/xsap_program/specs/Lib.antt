@@ -1,9 +1,10 @@
-pub mod Patterns
 pub mod SmallModel
 pub mod SmallFaults
 pub mod Statuses
+pub mod Wrongs
 pub mod Commands
+pub mod Reports
+pub mod Inputs
 pub mod Runs
-pub mod Loaded
 pub mod Delivered
 pub mod Extension

@@ -1,67 +1,20 @@
 -- What a run comes to, and what it leaves behind.
-use Rattle.std.specs.Prelude.{ℕ, ◌≡◌, ◌⊎◌, ◌≤◌, ◌<◌, List, ◌++◌, length, Option, Some, None, codes}
+use Rattle.std.specs.Prelude.{ℕ, ◌≡◌, List, Option}
 use Rattle.xs_desk.specs.declared.files.NamedFile.{NamedFile}
-use Rattle.xs_desk.specs.Files.{file_of, content_of}
 use Rattle.xs_desk.specs.Desk.{told_with, said_more, SaysPrefix, WritesPrefix}
-use Rattle.xs_tree.specs.ProgramTree.{Text}
-use Rattle.xs_tree.specs.Text.{program_text}
-use Rattle.xs_weave.specs.Woven.{woven}
+use Rattle.xs_tree.specs.ProgramTree.{Text, ProgramTree}
 use Rattle.xsap_program.specs.declared.status.Built.TheVariants as built
-use Rattle.xsap_program.specs.declared.status.InputFault.{InputFault}
 use Rattle.xsap_program.specs.declared.status.Refusal.{Refusal}
 use Rattle.xsap_program.specs.declared.status.Refusal.TheVariants as refusal
 use Rattle.xsap_program.specs.declared.status.Status.{Status}
 use Rattle.xsap_program.specs.declared.status.Status.TheVariants as status
-use Rattle.xsap_program.specs.declared.input.Input.{Input}
-use Rattle.xsap_program.specs.declared.input.Input.TheVariants as input
-use Rattle.xsap_program.specs.Statuses.{status_of, refusal_text, absent, too_long}
+use Rattle.xs_parse.specs.declared.fault.ParseFault.{ParseFault}
+use Rattle.xsap_program.specs.declared.wrong.Wrong.TheVariants as wrong
+use Rattle.xsap_program.specs.Wrongs.{parse_wrong}
+use Rattle.xsap_program.specs.Statuses.{status_of, refusal_text}
 use Rattle.xsap_program.specs.Commands.{AsksToExtend, AsksForMore}
-use Rattle.xsap_program.specs.SmallModel.{SmallModelTree, IsSmallModel, small_program}
-use Rattle.xsap_program.specs.SmallFaults.{SmallFaultsTree, AreSmallFaults, small_instructions}
-
--- the refusal of one of the two input files
-abbrev pub refusal_at : Input → InputFault → Refusal
-refusal_at input.Model fault = refusal.Model fault
-refusal_at input.Faults fault = refusal.Faults fault
-
--- the file is not there, or it has more than 1,048,576 bytes
-abbrev pub IsRefusedFile : List NamedFile → Text → InputFault → Type 0
-IsRefusedFile files name fault = ((fault ≡ absent) × (file_of files name ≡ None)) ⊎ ((fault ≡ too_long) × (1048576 < length (content_of files name)))
-
--- the file has these bytes, at most 1,048,576
-pub record HasBytes (files : List NamedFile) (name : Text) (bytes : List ℕ) : Type 0 where
-  pub held : file_of files name ≡ Some bytes
-  pub short : length bytes ≤ 1048576
-
--- the model file is refused, or it is no small model
-pub data RefusesModel (files : List NamedFile) (name : Text) : Refusal → Type 0 where
-  model_file : (fault : InputFault) → IsRefusedFile files name fault → RefusesModel files name (refusal.Model fault)
-  other_model : (bytes : List ℕ) → HasBytes files name bytes → ((m : SmallModelTree) → IsSmallModel bytes m → ⊥) → RefusesModel files name (refusal.NotBuilt built.Model)
-
--- the file holds a small model
-pub record HoldsModel (files : List NamedFile) (name : Text) (m : SmallModelTree) : Type 0 where
-  pub bytes : List ℕ
-  pub has : HasBytes files name bytes
-  pub is : IsSmallModel bytes m
-
--- the instruction file is refused, or it holds no small instructions for the model's variable
-pub data RefusesFaults (files : List NamedFile) (name x : Text) : Refusal → Type 0 where
-  faults_file : (fault : InputFault) → IsRefusedFile files name fault → RefusesFaults files name x (refusal.Faults fault)
-  other_faults : (bytes : List ℕ) → HasBytes files name bytes → ((f : SmallFaultsTree) → AreSmallFaults bytes x f → ⊥) → RefusesFaults files name x (refusal.NotBuilt built.Faults)
-
--- the file holds small instructions for the model's variable
-pub record HoldsFaults (files : List NamedFile) (name x : Text) (f : SmallFaultsTree) : Type 0 where
-  pub bytes : List ℕ
-  pub has : HasBytes files name bytes
-  pub are : AreSmallFaults bytes x f
-
--- what is said once the extension is written: the fault, and that it is done
-abbrev pub report_text : SmallFaultsTree → Text
-report_text f = codes "faults 1\nfault 1 " ++ (f.slice ++ (codes "." ++ (f.mode ++ codes "\nextended\n")))
-
--- the text of the extension: the woven program, printed
-abbrev pub extension_text : SmallModelTree → SmallFaultsTree → Text
-extension_text m f = program_text (woven (small_program m) (small_instructions m.name f))
+use Rattle.xsap_program.specs.declared.status.InputFault.{InputFault}
+use Rattle.xsap_program.specs.Inputs.{IsRefusedFile, HasBytes, IsModelFault, RefusesModel, HoldsModel, RefusesFaults, HoldsFaults}
 
 -- a run refuses something, or it writes a text to a file and says a report
 pub data Outcome : Type 0 where
@@ -71,9 +24,9 @@ pub data Outcome : Type 0 where
 -- what the two files come to, with the file for the extension, in the order of the work
 pub data ComesTo (files : List NamedFile) (model faults extended : Text) : Outcome → Type 0 where
   refuses_model : (r : Refusal) → RefusesModel files model r → ComesTo files model faults extended (refuses r)
-  refuses_faults : (m : SmallModelTree) (r : Refusal) → HoldsModel files model m → RefusesFaults files faults m.name r → ComesTo files model faults extended (refuses r)
-  is_extended : (m : SmallModelTree) (f : SmallFaultsTree) → HoldsModel files model m → HoldsFaults files faults m.name f →
-      ComesTo files model faults extended (extends extended (extension_text m f) (report_text f))
+  refuses_faults : (p : ProgramTree) (r : Refusal) → HoldsModel files model p → RefusesFaults files faults p r → ComesTo files model faults extended (refuses r)
+  is_extended : (p : ProgramTree) (text report : Text) → HoldsModel files model p → HoldsFaults files faults p text report →
+      ComesTo files model faults extended (extends extended text report)
 
 -- what a run over these files with these words comes to
 pub data Means (files : List NamedFile) (words : List Text) : Outcome → Type 0 where
@@ -114,3 +67,24 @@ pub record HasStopped (files : List NamedFile) (words : List Text) (before after
   pub outcome : Outcome
   pub means : Means files words outcome
   pub in_part : IsDeliveredInPart outcome before after said now
+
+-- what the words alone, or the words and the model's file, decide before any rule is tried
+pub data Settles (files : List NamedFile) (words : List Text) : Outcome → Type 0 where
+  words_settle : AsksForMore words → Settles files words (refuses (refusal.NotBuilt built.Words))
+  model_settles : (model faults extended : Text) (fault : InputFault) → AsksToExtend words model faults extended → IsRefusedFile files model fault →
+      Settles files words (refuses (refusal.Model fault))
+  text_settles : (model faults extended : Text) (bytes : List ℕ) (f : ParseFault) (fault : InputFault) → AsksToExtend words model faults extended → HasBytes files model bytes →
+      wrong.Refused fault ≡ parse_wrong f → IsModelFault bytes f → Settles files words (refuses (refusal.Model fault))
+
+-- the answer is not that the model is refused
+abbrev pub IsPastModel : Status → Type 0
+IsPastModel (status.Model fault) = ⊥
+IsPastModel _ = Unit {0}
+
+-- the words name a file of instructions that is refused as a file
+pub record LacksFaults (files : List NamedFile) (words : List Text) (fault : InputFault) : Type 0 where
+  pub model : Text
+  pub faults : Text
+  pub extended : Text
+  pub asks : AsksToExtend words model faults extended
+  pub refused : IsRefusedFile files faults fault

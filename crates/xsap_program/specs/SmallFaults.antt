@@ -1,6 +1,5 @@
 -- The small form of instructions: one slice of `main` with one permanent stuck-at mode.
 use Rattle.std.specs.Prelude.{ℕ, ◌≡◌, ◌≢◌, Bool, true, false, List, [], ◌∷◌, ◌++◌, Option, Some, None, codes}
-use Rattle.std.specs.Borrow.{Bor}
 use Rattle.xs_lexer.specs.declared.token.TokenKind.TheVariants as k
 use Rattle.xs_lexer.specs.declared.token.Token.{Token}
 use Rattle.xs_tree.specs.ProgramTree.{Text}
@@ -10,7 +9,6 @@ use Rattle.xs_fei.specs.declared.instructions.Dynamics.TheVariants.{Permanent}
 use Rattle.xs_fei.specs.Instructions.{InstructionTree, ModeTree, stuck_at}
 use Rattle.xs_effects.specs.AddedNames.{own_name, mode_variable, mode_symbol}
 use Rattle.xs_tree.specs.Values as values
-use Rattle.xsap_program.specs.declared.small_faults.SmallFaults.{SmallFaults}
 
 -- small instructions: a name where one is given, the slice, its mode, and the value that it sticks at
 pub record SmallFaultsTree : Type 0 where
@@ -18,14 +16,6 @@ pub record SmallFaultsTree : Type 0 where
   pub slice : Text
   pub mode : Text
   pub stuck : Bool
-
-abbrev pub told : Option (Bor Text) → Option Text
-told None = None
-told (Some x) = Some x.now
-
--- the instructions that were read
-abbrev pub faults_of : SmallFaults → SmallFaultsTree
-faults_of f = record { name = told f.name; slice = f.slice.now; mode = f.mode.now; stuck = f.stuck }
 
 abbrev pub header_lexemes : Option Text → List Lexeme
 header_lexemes None = []

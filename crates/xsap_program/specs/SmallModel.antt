@@ -1,5 +1,5 @@
 -- The small form of a model: one boolean variable of `main`, and at most two assignments to it.
-use Rattle.std.specs.Prelude.{ℕ, ◌≡◌, ◌≢◌, true, false, List, [], ◌∷◌, ◌++◌, map, codes}
+use Rattle.std.specs.Prelude.{ℕ, ◌≡◌, ◌≢◌, Bool, true, false, List, [], ◌∷◌, ◌++◌, map, codes}
 use Rattle.xs_lexer.specs.declared.token.TokenKind.TheVariants as k
 use Rattle.xs_lexer.specs.declared.token.Token.{Token}
 use Rattle.xs_tree.specs.declared.program.Moment.{Moment}
@@ -8,34 +8,29 @@ use Rattle.xs_tree.specs.Tree.{truth, leaf, not_of}
 use Rattle.xs_tree.specs.ProgramTree.{Text, Formula, boolean, var, assign, AssignmentTree, SectionTree, ProgramTree}
 use Rattle.xs_tree.specs.Lexemes.{Lexeme, word, sign, lexemes_of, is_reserved}
 use Rattle.xs_lexer.specs.Tokens.{HasTokens}
-use Rattle.xsap_program.specs.declared.small_model.SmallValue.{SmallValue}
-use Rattle.xsap_program.specs.declared.small_model.SmallValue.TheVariants as value
-use Rattle.xsap_program.specs.declared.small_model.SmallAssignment.{SmallAssignment}
-use Rattle.xsap_program.specs.declared.small_model.SmallAssignments.{SmallAssignments}
-use Rattle.xsap_program.specs.declared.small_model.SmallAssignments.TheVariants as assignments
-use Rattle.xsap_program.specs.declared.small_model.SmallModel.{SmallModel}
+
+-- what is assigned: a constant, the variable, or its negation
+pub data SmallValue : Type 0 where
+  constant : Bool → SmallValue
+  same : SmallValue
+  opposite : SmallValue
+
+-- at which moments a value is assigned
+pub record SmallAssignment : Type 0 where
+  pub when : Moment
+  pub value : SmallValue
 
 -- a small model: the variable's name and its assignments
 pub record SmallModelTree : Type 0 where
   pub name : Text
   pub assignments : List SmallAssignment
 
--- the assignments in the order of the text
-abbrev pub listed : SmallAssignments → List SmallAssignment
-listed assignments.Nothing = []
-listed (assignments.One a) = a ∷ []
-listed (assignments.Two a b) = a ∷ b ∷ []
-
--- the model that was read
-abbrev pub model_of : SmallModel → SmallModelTree
-model_of m = record { name = m.name.now; assignments = listed m.assignments }
-
 -- TRUE, FALSE, the variable, or its negation
 abbrev pub value_lexemes : Text → SmallValue → List Lexeme
-value_lexemes x (value.Constant true) = word (codes "TRUE") ∷ []
-value_lexemes x (value.Constant false) = word (codes "FALSE") ∷ []
-value_lexemes x value.Same = word x ∷ []
-value_lexemes x value.Opposite = sign k.Bang ∷ word x ∷ []
+value_lexemes x (constant true) = word (codes "TRUE") ∷ []
+value_lexemes x (constant false) = word (codes "FALSE") ∷ []
+value_lexemes x same = word x ∷ []
+value_lexemes x opposite = sign k.Bang ∷ word x ∷ []
 
 -- the variable, or `init` or `next` of it
 abbrev pub target_lexemes : Text → Moment → List Lexeme
@@ -80,9 +75,9 @@ pub record IsSmallModel (bytes : List ℕ) (m : SmallModelTree) : Type 0 where
   pub once : AreOnce m.assignments
 
 abbrev pub value_tree : Text → SmallValue → Formula
-value_tree x (value.Constant b) = truth b
-value_tree x value.Same = leaf (x ∷ [])
-value_tree x value.Opposite = not_of (leaf (x ∷ []))
+value_tree x (constant b) = truth b
+value_tree x same = leaf (x ∷ [])
+value_tree x opposite = not_of (leaf (x ∷ []))
 
 abbrev pub assignment_of : Text → SmallAssignment → AssignmentTree
 assignment_of x a = record { when = a.when; target = x ∷ []; value = value_tree x a.value }

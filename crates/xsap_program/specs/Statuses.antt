@@ -14,8 +14,6 @@ use Rattle.xsap_program.specs.declared.status.Status.TheVariants as status
 abbrev pub number_of : Status → ℤ
 number_of status.Done = pos 0
 number_of (status.NotBuilt built.Words) = pos 2
-number_of (status.NotBuilt built.Model) = pos 3
-number_of (status.NotBuilt built.Faults) = pos 4
 number_of (status.Model fault) = pos 3
 number_of (status.Faults fault) = pos 4
 number_of status.Desk = pos 7
@@ -29,6 +27,12 @@ status_of (refusal.Faults fault) = status.Faults fault
 abbrev pub part_text : Part → Text
 part_text part.Absent = codes "absent "
 part_text part.Length = codes "length "
+part_text part.Lex = codes "lex "
+part_text part.Parse = codes "parse "
+part_text part.Flat = codes "flat "
+part_text part.Kinds = codes "type "
+part_text part.Weave = codes "weave "
+part_text part.Effect = codes "effect "
 
 -- the part, the number of its rule, and the place
 abbrev pub fault_text : InputFault → Text
@@ -37,8 +41,6 @@ fault_text fault = part_text fault.part ++ (decimal fault.number ++ (codes " at 
 -- the one line of a refusal
 abbrev pub refusal_text : Refusal → Text
 refusal_text (refusal.NotBuilt built.Words) = codes "refused words 0 at 1\n"
-refusal_text (refusal.NotBuilt built.Model) = codes "refused model built 1 at 0\n"
-refusal_text (refusal.NotBuilt built.Faults) = codes "refused faults built 1 at 0\n"
 refusal_text (refusal.Model fault) = codes "refused model " ++ fault_text fault
 refusal_text (refusal.Faults fault) = codes "refused faults " ++ fault_text fault
 

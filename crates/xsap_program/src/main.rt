@@ -3,9 +3,13 @@
 //! [`run::run`] is the whole program over any desk: it reads the words, a model and instructions, and
 //! writes and says the answer. Its contract says what a run comes to (`specs/Runs.antt`): the one line of
 //! the first refusal, or the extension and its fault list, and what is left where the desk fails on the
-//! way. `main` hands it the words of the command line and a desk over real files. The small forms that
-//! are read now, a model of one boolean variable (`specs/SmallModel.antt`) and one permanent stuck-at
-//! mode (`specs/SmallFaults.antt`), widen with the reader of the whole language.
+//! way. What is wrong with a file and what it holds stands in `specs/Inputs.antt`, the numbers and lines of
+//! refusals in `specs/Wrongs.antt` and `specs/Statuses.antt`, and that the written file is the extension in
+//! `specs/Extension.antt`. `main` hands `run` the words of the command line and a desk over real files.
+//!
+//! The files stand in the order of the work: `command` (the words), `input` (a file's bytes), `model`
+//! (program, flat model, kinds), `faults` (instructions, the weave, the limits of the whole), `report`
+//! (what is said) and `run`. `wrong` and `status` have what each refusal says.
 //!
 //! ```text
 //! xsap_program extend --model lamp.smv --faults lamp.fei --extended out.smv
@@ -20,19 +24,17 @@ use std::env;
 use std::io::ErrorKind;
 use std::process::ExitCode;
 
-mod build;
 pub mod command;
+pub mod faults;
 pub mod input;
-mod names;
-mod pattern;
+pub mod model;
 mod real_desk;
 mod report;
 pub mod run;
-pub mod small_faults;
-pub mod small_model;
 pub mod status;
 #[cfg(test)]
 mod tests;
+pub mod wrong;
 
 /// The number that the program ends with where a word is not text, which no status has.
 const NOT_TEXT: u8 = 11;

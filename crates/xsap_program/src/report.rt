@@ -1,17 +1,95 @@
-// What is said of small instructions.
-ghost use Rattle.std.specs.Prelude.{◌≡◌, ◌++◌, IfOk, codes};
+// What is said once the extension is written.
+ghost use Rattle.std.specs.Prelude.{◌≡◌, ◌++◌, IfOk, OnOk, codes, length, map};
+ghost use Rattle.std.specs.Fmt.{decimal};
+ghost use Rattle.xsap_program.specs.Reports.{report_text, fault_line, fault_lines, name_text, path_text, parts_text};
 
 use std::alloc::Global;
-use xs_value::{ByteList, OutOfMemory};
+use xs_extend::WovenFault;
+use xs_value::{ByteList, Dotted, Name, OutOfMemory};
 
-/// The number of faults, the one fault by its slice and mode, and that the extension is written.
-pub(crate) fn report(alloc: Global, slice: &[u8], mode: &[u8]) -> Result<ByteList, OutOfMemory>
-    ensures { IfOk result (λ text. text ≡ codes "faults 1\nfault 1 " ++ (slice.now ++ (codes "." ++ (mode.now ++ codes "\nextended\n")))) }
+/// The number of faults, each fault with its number and name, and that the extension is written.
+#[tactic(auto, using(crate::proofs::ReportLaws::report_rules))]
+pub(crate) fn report(alloc: Global, faults: &[WovenFault]) -> Result<ByteList, OutOfMemory>
+    ensures { IfOk result (λ text. text ≡ report_text faults.now) }
 {
-    let mut text = ByteList::from_slice(alloc, b"faults 1\nfault 1 ")?;
-    text.append(slice)?;
-    text.append(b".")?;
-    text.append(mode)?;
-    text.append(b"\nextended\n")?;
+    let mut text = ByteList::from_slice(alloc, b"faults ")?;
+    append_number(alloc, &mut text, faults.len())?;
+    text.append(b"\n")?;
+    append_faults(alloc, &mut text, faults)?;
+    text.append(b"extended\n")?;
     Ok(text)
+}
+
+/// Appends a line for each fault.
+#[tactic(auto, using(crate::proofs::ReportLaws::report_rules))]
+fn append_faults(
+    alloc: Global,
+    text: &mut ByteList,
+    faults: &[WovenFault],
+) -> Result<(), OutOfMemory>
+    ensures { OnOk result (text.new ≡ text.old ++ fault_lines 1 faults.now) }
+{
+    for (i, fault) in faults.iter().enumerate() {
+        append_fault(alloc, text, i + 1, fault)?;
+    }
+    Ok(())
+}
+
+/// Appends the line of one fault.
+#[tactic(auto, using(crate::proofs::ReportLaws::report_rules))]
+fn append_fault(
+    alloc: Global,
+    text: &mut ByteList,
+    number: usize,
+    fault: &WovenFault,
+) -> Result<(), OutOfMemory>
+    ensures { OnOk result (text.new ≡ text.old ++ fault_line number fault.now) }
+{
+    text.append(b"fault ")?;
+    append_number(alloc, text, number)?;
+    text.append(b" ")?;
+    append_name(text, fault)?;
+    text.append(b"\n")
+}
+
+/// Appends a fault's name: its path, slice and mode, with dots between.
+#[tactic(auto, using(crate::proofs::ReportLaws::report_rules))]
+fn append_name(text: &mut ByteList, fault: &WovenFault) -> Result<(), OutOfMemory>
+    ensures { OnOk result (text.new ≡ text.old ++ name_text fault.now) }
+{
+    append_path(text, &fault.path)?;
+    text.append(fault.slice.text())?;
+    text.append(b".")?;
+    text.append(fault.mode.text())
+}
+
+/// Appends the path of an instance, which `main` does not have, with a dot after each part.
+#[tactic(auto, using(crate::proofs::ReportLaws::report_rules))]
+fn append_path(text: &mut ByteList, path: &Option<Dotted>) -> Result<(), OutOfMemory>
+    ensures { OnOk result (text.new ≡ text.old ++ path_text path.now) }
+{
+    match path {
+        Some(path) => append_parts(text, path.parts()),
+        None => Ok(()),
+    }
+}
+
+/// Appends names with a dot after each.
+#[tactic(auto, using(crate::proofs::ReportLaws::report_rules))]
+fn append_parts(text: &mut ByteList, parts: &[Name]) -> Result<(), OutOfMemory>
+    ensures { OnOk result (text.new ≡ text.old ++ parts_text parts.now) }
+{
+    for part in parts {
+        text.append(part.text())?;
+        text.append(b".")?;
+    }
+    Ok(())
+}
+
+/// Appends a number.
+fn append_number(alloc: Global, text: &mut ByteList, number: usize) -> Result<(), OutOfMemory>
+    ensures { OnOk result (text.new ≡ text.old ++ decimal number) }
+{
+    let digits = format!(in alloc; "{number}")?;
+    text.append(digits.as_bytes())
 }

@@ -5,38 +5,43 @@ ghost use Rattle.xs_tree.specs.ProgramTree.{Text};
 ghost use Rattle.xsap_program.specs.declared.status.Refusal.{Refusal};
 ghost use Rattle.xsap_program.specs.declared.input.Stop.TheVariants as stops;
 ghost use Rattle.xsap_program.specs.Statuses.{status_of, refusal_text};
-ghost use Rattle.xsap_program.specs.Runs.{Outcome, refuses, extends, ComesTo, Means, IsAnswer, outcome_status, HasAnswered, HasStopped};
-ghost use Rattle.xsap_program.specs.SmallModel.{SmallModelTree, IsSmallModel};
-ghost use Rattle.xsap_program.specs.SmallFaults.{SmallFaultsTree};
-ghost use Rattle.xsap_program.specs.Runs.{extension_text, report_text};
-ghost use Rattle.xsap_program.specs.Loaded.{IsModelOf, AreFaultsOf};
+ghost use Rattle.xsap_program.specs.Runs.{Outcome, refuses, extends, ComesTo, Means, IsAnswer, outcome_status, HasAnswered, HasStopped, Settles, IsPastModel, LacksFaults};
+ghost use Rattle.xsap_program.specs.declared.status.InputFault.{InputFault};
 ghost use Rattle.xsap_program.specs.Commands.{AsksToExtend};
-ghost use Rattle.xsap_program.specs.Extension.{IsExtended};
-ghost use Rattle.xsap_program.specs.Delivered.{IsMadeOf, ended_as, Stopped};
+ghost use Rattle.xsap_program.specs.Extension.{IsExtended, AreSmallFiles, IsSmallExtension};
+ghost use Rattle.xsap_program.specs.SmallModel.{SmallModelTree};
+ghost use Rattle.xsap_program.specs.SmallFaults.{SmallFaultsTree};
+ghost use Rattle.xsap_program.specs.Delivered.{ended_as, Stopped};
 ghost use Rattle.xs_desk.specs.declared.desk.WriteStop.TheVariants as write_stop;
 
 use crate::command::{Extend, command};
-use crate::input::{LoadedFaults, LoadedModel, Stop, load_faults, load_model};
+use crate::faults::{Made, load_extension};
+use crate::input::Stop;
+use crate::model::load_model;
 use crate::status::{Built, Refusal, Status};
 use std::alloc::Global;
 use xs_desk::{Desk, WriteStop, say_whole, write_whole};
-use xs_tree::print_program;
-use xs_value::{ByteList, OutOfMemory};
-use xs_weave::woven_program;
+use xs_value::OutOfMemory;
 
 /// Does what the words ask for: `extend` reads a model and instructions, writes the model extended with
-/// the fault, and says the fault. Both files are read, and every refusal is tried, before anything is
+/// the faults, and says the faults. Both files are read, and every refusal is tried, before anything is
 /// written or said. A refusal says its one line and changes no file. The words are those of the command
 /// line without the program's own name.
 pub fn run<D: Desk>(alloc: Global, words: &[&str], desk: &mut D) -> Status
     // Unless the desk failed or memory ran out, the whole of what words and files come to stands.
     ensures answered { IsAnswer result → IfSome (D.files desk.old) (λ files.
         HasAnswered files (map (λ w. w.now) words.now) result (D.files desk.old) (D.files desk.new) (D.said desk.old) (D.said desk.new)) }
-    // What words and files come to is one status, and this is it.
-    ensures exact { IsAnswer result → IfSome (D.files desk.old) (λ files. (o : Outcome) → Means files (map (λ w. w.now) words.now) o → result ≡ outcome_status o) }
-    // A run that is done has written the extension: its traces are the extended traces, and its faultless ones the model's.
+    // What the words alone, or the words and the model's file, decide before any rule is tried is the answer.
+    ensures settled { IsAnswer result → IfSome (D.files desk.old) (λ files. (o : Outcome) → Settles files (map (λ w. w.now) words.now) o → result ≡ outcome_status o) }
+    // Where the model is not refused, an instruction file that is absent or too long is the answer.
+    ensures no_faults { IsAnswer result → IsPastModel result → IfSome (D.files desk.old) (λ files. (fault : InputFault) → LacksFaults files (map (λ w. w.now) words.now) fault → result ≡ Status.Faults fault) }
+    // A run that is done has written the woven program, as the one program that the model spells and the instructions make it;
+    // where a weave takes these its traces are the extended traces, and its faultless ones the model's.
     ensures extended { (model faults extended : Text) → result ≡ Status.Done → AsksToExtend (map (λ w. w.now) words.now) model faults extended →
         IfSome (D.files desk.old) (λ before. IsSomeAnd (D.files desk.new) (λ after. IsExtended before after model faults extended)) }
+    // Where the files hold a small model and small instructions for its variable, that is their extension, without premise.
+    ensures small { (model faults extended : Text) → result ≡ Status.Done → AsksToExtend (map (λ w. w.now) words.now) model faults extended →
+        IfSome (D.files desk.old) (λ before. IsSomeAnd (D.files desk.new) (λ after. (m : SmallModelTree) (f : SmallFaultsTree) → AreSmallFiles before model faults m f → IsSmallExtension after extended m f)) }
     // However it ends, nothing was done, or a part of that stands: a prefix of what would be written and said.
     ensures left { ((D.files desk.new ≡ D.files desk.old) × (D.said desk.new ≡ D.said desk.old)) ⊎ IfSome (D.files desk.old) (λ files.
         HasStopped files (map (λ w. w.now) words.now) (D.files desk.old) (D.files desk.new) (D.said desk.old) (D.said desk.new)) }
@@ -68,13 +73,6 @@ fn stopped<D: Desk>(alloc: Global, desk: &mut D, stop: Stop) -> Status
     }
 }
 
-/// What is written and said once every refusal was tried.
-#[derive(Drop)]
-pub struct Made {
-    pub text: Vec<u8>,
-    pub report: ByteList,
-}
-
 /// Reads both files, and makes what is to be written and said.
 fn prepare<D: Desk>(alloc: Global, desk: &mut D, asked: &Extend) -> Result<Made, Stop>
     ensures ok { IfOk result (λ made. IfSome (D.files desk.old) (λ files.
@@ -89,23 +87,7 @@ fn prepare<D: Desk>(alloc: Global, desk: &mut D, asked: &Extend) -> Result<Made,
     ensures quiet { D.quiet desk.old → D.quiet desk.new × (D.faults desk.new ≡ D.faults desk.old) }
 {
     let model = load_model(alloc, desk, asked.model)?;
-    let faults = load_faults(alloc, desk, asked.faults, &model.variable)?;
-    Ok(make(alloc, &model, faults)?)
-}
-
-/// The printed extension of the model by the instructions, and what is said of it.
-fn make(alloc: Global, model: &LoadedModel, faults: LoadedFaults) -> Result<Made, OutOfMemory>
-    requires model { (bytes : List ℕ) × IsModelOf bytes model.now }
-    requires faults { (bytes : List ℕ) × AreFaultsOf bytes model.now.variable faults }
-    ensures { IfOk result (λ made. IsMadeOf model.now faults made) }
-{
-    let LoadedFaults {
-        instructions,
-        report,
-    } = faults;
-    let woven = woven_program(alloc, &model.program, &instructions)?;
-    let text = print_program(alloc, &woven)?;
-    Ok(Made { text, report })
+    load_extension(alloc, desk, asked.faults, &model)
 }
 
 /// Writes the extension, and then says the report.

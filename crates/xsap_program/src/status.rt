@@ -11,23 +11,32 @@ use xs_value::{ByteList, OutOfMemory};
 pub enum Built {
     /// The words ask for more than `extend` in its fixed order of options.
     Words,
-    /// The model is more than one boolean variable of `main`.
-    Model,
-    /// The instructions are more than one permanent stuck-at mode.
-    Faults,
 }
 
-/// What is wrong with an input.
+/// What is wrong with an input: how far the work on it came.
 #[derive(Clone, Copy, Debug, PartialEq, Eq)]
 pub enum Part {
     /// There is no such file.
     Absent,
     /// The file is too long.
     Length,
+    /// The bytes have no tokens.
+    Lex,
+    /// The tokens spell nothing, or something too deep.
+    Parse,
+    /// A rule of names, instances and assignments is broken.
+    Flat,
+    /// A rule of kinds, or a limit of size, is broken.
+    Kinds,
+    /// A rule of slices and modes is broken.
+    Weave,
+    /// The effect of a mode is not allowed at its variable.
+    Effect,
 }
 
-/// Why an input is refused: the part, its rule's number, and the place, which for a length is the limit
-/// in bytes.
+/// Why an input is refused: the part, its rule's number, and the place. The place is a byte, counted from
+/// 0, where the text is wrong; the limit in bytes, where it is too long; and an item of the program or of the
+/// instructions, counted from 1 in written order, where a rule is broken. It is 0 where it says nothing.
 #[derive(Clone, Copy, Debug, PartialEq, Eq)]
 pub struct InputFault {
     pub part: Part,
@@ -69,8 +78,8 @@ impl Status {
         match self {
             Status::Done => 0,
             Status::NotBuilt(Built::Words) => 2,
-            Status::NotBuilt(Built::Model) | Status::Model(_) => 3,
-            Status::NotBuilt(Built::Faults) | Status::Faults(_) => 4,
+            Status::Model(_) => 3,
+            Status::Faults(_) => 4,
             Status::Desk => 7,
             Status::Memory => 8,
         }
@@ -96,12 +105,6 @@ impl Refusal {
         match self {
             Refusal::NotBuilt(Built::Words) => {
                 ByteList::from_slice(alloc, b"refused words 0 at 1\n")
-            }
-            Refusal::NotBuilt(Built::Model) => {
-                ByteList::from_slice(alloc, b"refused model built 1 at 0\n")
-            }
-            Refusal::NotBuilt(Built::Faults) => {
-                ByteList::from_slice(alloc, b"refused faults built 1 at 0\n")
             }
             Refusal::Model(fault) => fault_line(alloc, b"refused model ", fault),
             Refusal::Faults(fault) => fault_line(alloc, b"refused faults ", fault),
@@ -139,5 +142,11 @@ fn part_name(part: Part) -> &'static [u8]
     match part {
         Part::Absent => b"absent ",
         Part::Length => b"length ",
+        Part::Lex => b"lex ",
+        Part::Parse => b"parse ",
+        Part::Flat => b"flat ",
+        Part::Kinds => b"type ",
+        Part::Weave => b"weave ",
+        Part::Effect => b"effect ",
     }
 }

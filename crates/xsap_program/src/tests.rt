@@ -1,4 +1,5 @@
 use crate::run::run;
+use crate::status::Status;
 use std::alloc::Global;
 use xs_desk::{CallKind, Fail, FailList, FileList, MemoryDesk, NamedFile};
 use xs_value::OutOfMemory;
@@ -11,6 +12,34 @@ const DARK: &[u8] =
 
 const EXTENDED: &[u8] =
     b"MODULE main\nVAR\n  on : boolean;\nASSIGN\n  init(on#nominal) := TRUE;\n  next(on#nominal) := on;\nVAR\n  on#nominal : boolean;\n  Lamp#mode : {Lamp#nominal, Lamp#dark};\nASSIGN\n  init(Lamp#mode) := Lamp#nominal;\n  next(Lamp#mode) := case (Lamp#mode = Lamp#dark) : Lamp#dark; TRUE : ({Lamp#nominal} union (TRUE ? {Lamp#dark} : {Lamp#nominal})); esac;\n  on := case (Lamp#mode = Lamp#dark) : FALSE; TRUE : on#nominal; esac;\n";
+
+const SIDES: &[u8] =
+    b"MODULE Left VAR out : boolean; ASSIGN out := TRUE; MODULE Right VAR out : boolean; ASSIGN out := TRUE; MODULE main VAR a : Left; b : Right;";
+
+const SIDES_OFF: &[u8] =
+    b"EXTENSION OF MODULE Left SLICE SA AFFECTS out WITH MODE off : Permanent StuckAt(FALSE); EXTENSION OF MODULE Right SLICE SB AFFECTS out WITH MODE off : Permanent StuckAt(FALSE);";
+
+const SIDES_EXTENDED: &[u8] =
+    b"MODULE Left\nVAR\n  out : boolean;\nASSIGN\n  out#nominal := TRUE;\nVAR\n  out#nominal : boolean;\n  SA#mode : {SA#nominal, SA#off};\nASSIGN\n  init(SA#mode) := SA#nominal;\n  next(SA#mode) := case (SA#mode = SA#off) : SA#off; TRUE : ({SA#nominal} union (TRUE ? {SA#off} : {SA#nominal})); esac;\n  out := case (SA#mode = SA#off) : FALSE; TRUE : out#nominal; esac;\nMODULE Right\nVAR\n  out : boolean;\nASSIGN\n  out#nominal := TRUE;\nVAR\n  out#nominal : boolean;\n  SB#mode : {SB#nominal, SB#off};\nASSIGN\n  init(SB#mode) := SB#nominal;\n  next(SB#mode) := case (SB#mode = SB#off) : SB#off; TRUE : ({SB#nominal} union (TRUE ? {SB#off} : {SB#nominal})); esac;\n  out := case (SB#mode = SB#off) : FALSE; TRUE : out#nominal; esac;\nMODULE main\nVAR\n  a : Left;\n  b : Right;\n";
+
+const POWER: &[u8] =
+    b"MODULE Generator\nVAR live : boolean;\nASSIGN live := TRUE;\nMODULE Battery\nVAR charge : 0..3;\nASSIGN init(charge) := 3; next(charge) := charge;\nMODULE Sensor(line)\nVAR seen : boolean;\nASSIGN seen := line;\nMODULE main\nVAR g1 : Generator; g2 : Generator; b1 : Battery; b2 : Battery;\n    v1 : Sensor(feed1); use2 : boolean;\nDEFINE feed1 := g1.live | b1.charge > 0;\n  feed2 := g2.live | b2.charge > 0;\n  bus := use2 ? feed2 : feed1;\nASSIGN init(use2) := FALSE; next(use2) := !v1.seen;\nCTLSPEC AG bus\n";
+
+const POWER_FAULTS: &[u8] =
+    b"FAULT EXTENSION Power\nEXTENSION OF MODULE Generator\n  SLICE Gen AFFECTS live WITH MODE off : Permanent StuckAt(FALSE);\nEXTENSION OF MODULE Battery\n  SLICE Cell AFFECTS charge WITH MODE drain : Permanent RampDown(1, 0);\nEXTENSION OF MODULE Sensor\n  SLICE Eye AFFECTS seen WITH\n    MODE wild {0.001} : Transient Random;\n    MODE hold : Permanent Frozen;\n";
+
+const POWER_SAID: &[u8] =
+    b"faults 6\nfault 1 g1.Gen.off\nfault 2 g2.Gen.off\nfault 3 b1.Cell.drain\nfault 4 b2.Cell.drain\nfault 5 v1.Eye.wild\nfault 6 v1.Eye.hold\nextended\n";
+
+const TWO_SLICES: &[u8] =
+    b"EXTENSION OF MODULE main SLICE Lamp AFFECTS on WITH MODE dark : Permanent StuckAt(FALSE); SLICE Light AFFECTS on WITH MODE dark : Permanent StuckAt(FALSE);";
+
+const ONE_SLICE_TWICE: &[u8] =
+    b"EXTENSION OF MODULE main SLICE Lamp AFFECTS on WITH MODE dark : Permanent StuckAt(FALSE); SLICE Lamp AFFECTS on WITH MODE dark : Permanent StuckAt(FALSE);";
+
+/// The module of the sensors with its faults, as it stands in the extension.
+const SENSOR: &[u8] =
+    b"MODULE Sensor(line)\nVAR\n  seen : boolean;\nASSIGN\n  seen#nominal := line;\nVAR\n  seen#nominal : boolean;\n  Eye#mode : {Eye#nominal, Eye#wild, Eye#hold};\nASSIGN\n  init(Eye#mode) := Eye#nominal;\n  next(Eye#mode) := case (Eye#mode = Eye#wild) : {Eye#wild, Eye#nominal}; (Eye#mode = Eye#hold) : Eye#hold; TRUE : (({Eye#nominal} union (TRUE ? {Eye#wild} : {Eye#nominal})) union (TRUE ? {Eye#hold} : {Eye#nominal})); esac;\n  seen := case (Eye#mode = Eye#wild) : {FALSE, TRUE}; (Eye#mode = Eye#hold) : {FALSE, TRUE}; TRUE : seen#nominal; esac;\nTRANS\n  ((next(Eye#mode) = Eye#hold) -> (next(seen) = seen));\n";
 
 const WORDS: [&str; 7] = ["extend", "--model", "m", "--faults", "f", "--extended", "x"];
 
@@ -49,16 +78,55 @@ fn holds(
     status.number() == number && desk.said() == said && desk.file("x") == written
 }
 
-/// Whether a run over these two files, where they are given, says this one refusal and writes nothing.
-fn refuses(
-    alloc: Global,
-    model: Option<&[u8]>,
-    faults: Option<&[u8]>,
+/// Files, and how a run over them ends: its number, what it says, and the file that it writes, if any.
+#[derive(Clone, Copy)]
+struct Row<'a> {
+    model: Option<&'a [u8]>,
+    faults: Option<&'a [u8]>,
     number: i32,
-    said: &[u8],
-) -> Result<bool, OutOfMemory> {
-    let desk = desk_of(alloc, model, faults, None)?;
-    Ok(holds(alloc, desk, &WORDS, number, said, None))
+    said: &'a [u8],
+    written: Option<&'a [u8]>,
+}
+
+/// The row of a model that is refused.
+fn no_model<'a>(model: &'a [u8], said: &'a [u8]) -> Row<'a> {
+    Row {
+        model: Some(model),
+        faults: Some(DARK),
+        number: 3,
+        said,
+        written: None,
+    }
+}
+
+/// The row of instructions that are refused for the lamp.
+fn no_faults<'a>(faults: &'a [u8], said: &'a [u8]) -> Row<'a> {
+    Row {
+        model: Some(LAMP),
+        faults: Some(faults),
+        number: 4,
+        said,
+        written: None,
+    }
+}
+
+/// Whether each run over the files of a row ends as it says.
+fn all_hold(alloc: Global, rows: &[Row]) -> Result<bool, OutOfMemory> {
+    for row in rows {
+        let desk = desk_of(alloc, row.model, row.faults, None)?;
+        if !holds(alloc, desk, &WORDS, row.number, row.said, row.written) {
+            return Ok(false);
+        }
+    }
+    Ok(true)
+}
+
+/// Whether a part stands in a file, if there is one.
+fn contains(file: Option<&[u8]>, part: &[u8]) -> bool {
+    match file {
+        Some(bytes) => (0..bytes.len()).any(|i| bytes[i..].starts_with(part)),
+        None => false,
+    }
 }
 
 /// Whether a run over the lamp, whose first call of a kind fails, says nothing and leaves this file.
@@ -93,39 +161,101 @@ fn each_refusal_says_its_line(rt: HostRuntime) -> Result<(), OutOfMemory> {
     let alloc = rt.alloc();
     let mut long = Vec::from_slice(alloc, LAMP)?;
     long.resize(1_048_577, b' ')?;
-    let long = long.as_slice();
     let desk = desk_of(alloc, Some(LAMP), Some(DARK), None)?;
     assert!(rt; holds(alloc, desk, &[], 2, b"refused words 0 at 1\n", None));
-    let not_built = b"refused model built 1 at 0\n";
-    assert!(rt; refuses(alloc, Some(b""), Some(DARK), 3, not_built)?);
-    assert!(rt; refuses(alloc, Some(&LAMP[..50]), Some(DARK), 3, not_built)?);
-    assert!(rt;
-        refuses(
-            alloc,
-            Some(long),
-            Some(DARK),
-            3,
-            b"refused model length 1 at 1048576\n"
-        )?
-    );
-    assert!(rt; refuses(alloc, None, Some(DARK), 3, b"refused model absent 1 at 0\n")?);
-    assert!(rt;
-        refuses(
-            alloc,
-            Some(LAMP),
-            None,
-            4,
-            b"refused faults absent 1 at 0\n"
-        )?
-    );
-    assert!(rt;
-        refuses(
-            alloc,
-            Some(LAMP),
-            Some(b""),
-            4,
-            b"refused faults built 1 at 0\n"
-        )?
-    );
+    let rows = [
+        Row {
+            model: None,
+            ..no_model(b"", b"refused model absent 1 at 0\n")
+        },
+        no_model(long.as_slice(), b"refused model length 1 at 1048576\n"),
+        no_model(b"MODULE main @", b"refused model lex 1 at 12\n"),
+        no_model(
+            b"MODULE main FAIRNESS TRUE",
+            b"refused model parse 4 at 12\n",
+        ),
+        no_model(b"", b"refused model flat 1 at 0\n"),
+        no_model(
+            b"MODULE main VAR m : M; MODULE M VAR n : M;",
+            b"refused model flat 7 at 4\n",
+        ),
+        no_model(
+            b"MODULE main DEFINE a := b; b := a;",
+            b"refused model flat 11 at 2\n",
+        ),
+        no_model(
+            b"MODULE main VAR x : boolean; ASSIGN x := TRUE; next(x) := x;",
+            b"refused model flat 10 at 4\n",
+        ),
+        no_model(b"MODULE main VAR x : 3..1;", b"refused model type 6 at 2\n"),
+        no_model(
+            b"MODULE main VAR x : 0..2147483648;",
+            b"refused model type 5 at 2\n",
+        ),
+        no_model(
+            b"MODULE main VAR x : 0..3; y : 0..3; ASSIGN next(y) := y / x;",
+            b"refused model type 4 at 4\n",
+        ),
+        Row {
+            faults: None,
+            ..no_faults(b"", b"refused faults absent 1 at 0\n")
+        },
+        no_faults(long.as_slice(), b"refused faults length 1 at 1048576\n"),
+        no_faults(b"FAULT ?", b"refused faults parse 1 at 6\n"),
+        no_faults(
+            b"EXTENSION OF MODULE main SLICE L AFFECTS z WITH MODE d : Permanent Random;",
+            b"refused faults weave 2 at 2\n",
+        ),
+        no_faults(TWO_SLICES, b"refused faults weave 6 at 4\n"),
+        no_faults(ONE_SLICE_TWICE, b"refused faults weave 4 at 4\n"),
+        no_faults(
+            b"EXTENSION OF MODULE main SLICE on AFFECTS on WITH MODE dark : Permanent StuckAt(FALSE);",
+            b"refused faults weave 8 at 2\n",
+        ),
+        no_faults(
+            b"EXTENSION OF MODULE main SLICE L AFFECTS on WITH MODE d : Permanent Offset(1);",
+            b"refused faults effect 1 at 3\n",
+        ),
+        no_faults(
+            b"EXTENSION OF MODULE main SLICE L AFFECTS on WITH MODE d : Permanent Random WHEN z;",
+            b"refused faults flat 8 at 3\n",
+        ),
+        no_faults(
+            b"EXTENSION OF MODULE main SLICE L AFFECTS on WITH MODE d : Permanent Random WHEN 3;",
+            b"refused faults type 2 at 3\n",
+        ),
+        no_faults(
+            b"EXTENSION OF MODULE main SLICE L AFFECTS on WITH MODE nominal : Permanent Random;",
+            b"refused faults weave 8 at 3\n",
+        ),
+    ];
+    assert!(rt; all_hold(alloc, &rows)?);
+    Ok(())
+}
+
+#[test]
+fn modules_are_extended_at_each_instance(rt: HostRuntime) -> Result<(), OutOfMemory> {
+    let alloc = rt.alloc();
+    let rows = [
+        Row {
+            model: Some(LAMP),
+            faults: Some(b""),
+            number: 0,
+            said: b"faults 0\nextended\n",
+            written: Some(LAMP),
+        },
+        Row {
+            model: Some(SIDES),
+            faults: Some(SIDES_OFF),
+            number: 0,
+            said: b"faults 2\nfault 1 a.SA.off\nfault 2 b.SB.off\nextended\n",
+            written: Some(SIDES_EXTENDED),
+        },
+    ];
+    assert!(rt; all_hold(alloc, &rows)?);
+    let mut desk = desk_of(alloc, Some(POWER), Some(POWER_FAULTS), None)?;
+    let status = run(alloc, &WORDS, &mut desk);
+    assert!(rt; status == Status::Done && desk.said() == POWER_SAID);
+    assert!(rt; contains(desk.file("x"), SENSOR));
     Ok(())
 }

@@ -3,7 +3,9 @@ use Rattle.xsap_program.specs.declared.status.Built.TheVariants as built
 use Rattle.xsap_program.specs.declared.status.Refusal.TheVariants as refusal
 use Rattle.xsap_program.specs.Runs.{refuses}
 use Rattle.xsap_program.proofs.OutcomeLemmas.{means_asked, means_more, answers_refusal, stops_at_refusal, answers_extension, stops_at_extension, answers_stop, leaves_stop}
-use Rattle.xsap_program.proofs.ExtensionLemmas.{answers_exactly, done_extends}
+use Rattle.xsap_program.proofs.ExtensionLemmas.{done_extends}
+use Rattle.xsap_program.proofs.ExactLemmas.{answers_settled, answers_past_model}
+use Rattle.xsap_program.proofs.SmallExtension.{extends_small}
 use Rattle.xsap_program.proofs.run.run.Goals as goal
 
 pub returns-in_default-clause-answered : goal.returns-in_default-clause-answered
@@ -36,20 +38,41 @@ returns-in-Err-clause-left g c =
     leaves_stop _ _ _ _ _ _ _ c.prepare.ensures.files c.prepare.ensures.said c.in-Err.stop c.stopped.result
     (λ r is. means_asked _ _ _ _ _ (refuses r) c.in-Some.ensures.found (c.in-Err.ensures.refused r (ap (λ s. Err s) is))) c.stopped.ensures.stopped
 
-pub returns-in_default-clause-exact : goal.returns-in_default-clause-exact
-returns-in_default-clause-exact g c = answers_exactly _ _ _ _ _ _ (returns-in_default-clause-answered g c)
-
 pub returns-in_default-clause-extended : goal.returns-in_default-clause-extended
 returns-in_default-clause-extended g c model faults extended = done_extends _ _ _ _ _ _ model faults extended (returns-in_default-clause-answered g c)
-
-pub returns-in-Ok-clause-exact : goal.returns-in-Ok-clause-exact
-returns-in-Ok-clause-exact g c = answers_exactly _ _ _ _ _ _ (returns-in-Ok-clause-answered g c)
 
 pub returns-in-Ok-clause-extended : goal.returns-in-Ok-clause-extended
 returns-in-Ok-clause-extended g c model faults extended = done_extends _ _ _ _ _ _ model faults extended (returns-in-Ok-clause-answered g c)
 
-pub returns-in-Err-clause-exact : goal.returns-in-Err-clause-exact
-returns-in-Err-clause-exact g c = answers_exactly _ _ _ _ _ _ (returns-in-Err-clause-answered g c)
-
 pub returns-in-Err-clause-extended : goal.returns-in-Err-clause-extended
 returns-in-Err-clause-extended g c model faults extended = done_extends _ _ _ _ _ _ model faults extended (returns-in-Err-clause-answered g c)
+
+pub returns-in_default-clause-settled : goal.returns-in_default-clause-settled
+returns-in_default-clause-settled g c = answers_settled _ _ _ _ _ _ (returns-in_default-clause-answered g c)
+
+pub returns-in_default-clause-no_faults : goal.returns-in_default-clause-no_faults
+returns-in_default-clause-no_faults g c = answers_past_model _ _ _ _ _ _ (returns-in_default-clause-answered g c)
+
+pub returns-in-Ok-clause-settled : goal.returns-in-Ok-clause-settled
+returns-in-Ok-clause-settled g c = answers_settled _ _ _ _ _ _ (returns-in-Ok-clause-answered g c)
+
+pub returns-in-Ok-clause-no_faults : goal.returns-in-Ok-clause-no_faults
+returns-in-Ok-clause-no_faults g c = answers_past_model _ _ _ _ _ _ (returns-in-Ok-clause-answered g c)
+
+pub returns-in-Err-clause-settled : goal.returns-in-Err-clause-settled
+returns-in-Err-clause-settled g c = answers_settled _ _ _ _ _ _ (returns-in-Err-clause-answered g c)
+
+pub returns-in-Err-clause-no_faults : goal.returns-in-Err-clause-no_faults
+returns-in-Err-clause-no_faults g c = answers_past_model _ _ _ _ _ _ (returns-in-Err-clause-answered g c)
+
+pub returns-in_default-clause-small : goal.returns-in_default-clause-small
+returns-in_default-clause-small g c model faults extended done asks =
+    extends_small _ _ model faults extended (returns-in_default-clause-extended g c model faults extended done asks)
+
+pub returns-in-Ok-clause-small : goal.returns-in-Ok-clause-small
+returns-in-Ok-clause-small g c model faults extended done asks =
+    extends_small _ _ model faults extended (returns-in-Ok-clause-extended g c model faults extended done asks)
+
+pub returns-in-Err-clause-small : goal.returns-in-Err-clause-small
+returns-in-Err-clause-small g c model faults extended done asks =
+    extends_small _ _ model faults extended (returns-in-Err-clause-extended g c model faults extended done asks)

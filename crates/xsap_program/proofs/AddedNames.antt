@@ -1,0 +1,104 @@
+-- The names that a weave adds are words that are not reserved.
+use Rattle.std.proofs.Common.{◌≡◌, ℕ, Bool, true, false, List, [], ◌∷◌, ◌++◌, Option, Some, None, codes, refl, subst, sym, arith, append_assoc}
+use Rattle.std.specs.Prelude.{not, nat_eq, ◌&&◌, ◌||◌, ◌==◌}
+use Rattle.std.specs.List.{list_all}
+use Rattle.std.proofs.lemmas.Bool.Decides.{nat_tests}
+use Rattle.xs_lexer.specs.Bytes.{is_word_start, is_word_byte}
+use Rattle.xs_lexer.specs.Runs.{Runs, takes_word}
+use Rattle.xs_lexer.specs.Tokens.{IsWord}
+use Rattle.xs_tree.specs.ProgramTree.{Text}
+use Rattle.xs_tree.specs.Texts.{same_text, is_among}
+use Rattle.xs_tree.specs.Lexemes.{is_reserved, section_words, expression_words, left_out_words}
+use Rattle.xs_tree.specs.Printed.{IsName}
+use Rattle.xs_effects.specs.AddedNames.{own_name, mode_variable, mode_symbol}
+
+-- a word goes on with `#`, and with what a word goes on with after it
+runs_on : (bs rest : Text) → Runs takes_word bs [] → Runs takes_word (35 ∷ rest) [] → Runs takes_word (bs ++ 35 ∷ rest) []
+runs_on [] rest h more = more
+runs_on (b ∷ []) rest h more = (h.0, more)
+runs_on (b ∷ c ∷ bs) rest h more = (h.0, runs_on (c ∷ bs) rest h.1 more)
+
+word_on : (x rest : Text) → IsWord x [] → Runs takes_word (35 ∷ rest) [] → IsWord (x ++ 35 ∷ rest) []
+word_on [] rest h more = absurd h
+word_on (b ∷ bs) rest h more = (h.0, runs_on bs rest h.1 more)
+
+-- the bytes of a word run on after `#`
+start_goes_on : (b : ℕ) (bs : Text) → is_word_start b ≡ true → takes_word (b ∷ bs) ≡ true
+start_goes_on b bs h =
+    let no_dash : (b == 45) ≡ false = grind (arith, nat_tests) in
+    rw (h, no_dash) refl
+
+word_runs : (x : Text) → IsWord x [] → Runs takes_word (35 ∷ x) []
+word_runs [] h = absurd h
+word_runs (b ∷ bs) h = (refl, (start_goes_on b (bs ++ []) h.0, h.1))
+
+-- no reserved word has a `#`
+abbrev no_hash : Text → Bool
+no_hash bs = list_all (λ b. not (nat_eq b 35)) bs
+
+both_parts : (a b : Bool) → (a && b) ≡ true → (a ≡ true) × (b ≡ true)
+both_parts true true h = (refl, refl)
+both_parts true false h = cc
+both_parts false b h = cc
+
+no_more_texts : (a b : Bool) → b ≡ false → (a && b) ≡ false
+no_more_texts true b h = h
+no_more_texts false b h = refl
+
+not_true : (a : Bool) → not a ≡ true → a ≡ false
+not_true true h = cc
+not_true false h = refl
+
+hash_differs : (w x rest : Text) → no_hash w ≡ true → same_text w (x ++ 35 ∷ rest) ≡ false
+hash_differs [] [] rest h = refl
+hash_differs [] (c ∷ cs) rest h = refl
+hash_differs (d ∷ ds) [] rest h = rw (not_true (nat_eq d 35) (both_parts (not (nat_eq d 35)) _ h).0) refl
+hash_differs (d ∷ ds) (c ∷ cs) rest h = no_more_texts (nat_eq d c) _ (hash_differs ds cs rest (both_parts (not (nat_eq d 35)) _ h).1)
+
+abbrev no_hashes : List Text → Bool
+no_hashes ws = list_all no_hash ws
+
+neither : (a b : Bool) → a ≡ false → b ≡ false → (a || b) ≡ false
+neither true b h g = cc
+neither false b h g = g
+
+not_among : (ws : List Text) (x rest : Text) → no_hashes ws ≡ true → is_among ws (x ++ 35 ∷ rest) ≡ false
+not_among [] x rest h = refl
+not_among (w ∷ ws) x rest h =
+    let parts = both_parts (no_hash w) (no_hashes ws) h in
+    neither (same_text w (x ++ 35 ∷ rest)) (is_among ws (x ++ 35 ∷ rest)) (hash_differs w x rest parts.0) (not_among ws x rest parts.1)
+
+without_hashes : (no_hashes section_words ≡ true) × (no_hashes expression_words ≡ true) × (no_hashes left_out_words ≡ true)
+without_hashes = (refl, refl, refl)
+
+not_reserved : (x rest : Text) → is_reserved (x ++ 35 ∷ rest) ≡ false
+not_reserved x rest =
+    let t : Text = x ++ 35 ∷ rest in
+    let words = without_hashes in
+    neither (is_among section_words t || is_among expression_words t) (is_among left_out_words t)
+    (neither (is_among section_words t) (is_among expression_words t) (not_among section_words x rest words.0) (not_among expression_words x rest words.1))
+    (not_among left_out_words x rest words.2)
+
+-- a name with a suffix after `#` is a name
+suffixed : (x rest : Text) → IsWord x [] → Runs takes_word (35 ∷ rest) [] → IsName (x ++ 35 ∷ rest)
+suffixed x rest h more = (not_reserved x rest, word_on x rest h more)
+
+nominal_runs : Runs takes_word (codes "#nominal") []
+nominal_runs = (refl, (refl, (refl, (refl, (refl, (refl, (refl, (refl, tt))))))))
+
+mode_runs : Runs takes_word (codes "#mode") []
+mode_runs = (refl, (refl, (refl, (refl, (refl, tt)))))
+
+-- the name of the own value
+pub own_is_name : (x : Text) → IsWord x [] → IsName (own_name x)
+own_is_name x h = suffixed x (codes "nominal") h nominal_runs
+
+-- the mode variable of a slice, and its symbols
+pub mode_variable_is_name : (s : Text) → IsWord s [] → IsName (mode_variable s)
+mode_variable_is_name s h = suffixed s (codes "mode") h mode_runs
+
+pub nominal_is_name : (s : Text) → IsWord s [] → IsName (mode_symbol s None)
+nominal_is_name s h = suffixed s (codes "nominal") h nominal_runs
+
+pub symbol_is_name : (s mode : Text) → IsWord s [] → IsWord mode [] → IsName (mode_symbol s (Some mode))
+symbol_is_name s mode h g = subst IsName (sym (append_assoc s (codes "#") mode)) (suffixed s mode h (word_runs mode g))

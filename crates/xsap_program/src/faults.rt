@@ -1,0 +1,107 @@
+// An instruction file as the extension of a model: the text that is written, and what is said.
+ghost use Rattle.std.specs.Prelude.{◌≡◌, ◌≤◌, length, IfOk, IfErr, IfSome, IsErrOf};
+ghost use Rattle.xs_desk.specs.Desk.{Rose};
+ghost use Rattle.xs_tree.specs.ProgramTree.{program_tree};
+ghost use Rattle.xsap_program.specs.Inputs.{IsWrongWhole, IsWrongFaults, RefusesFaults, HoldsExtension, IsMade, IsMadeOf};
+ghost use Rattle.xsap_program.specs.declared.status.Refusal.{Refusal};
+ghost use Rattle.xsap_program.specs.declared.input.Stop.TheVariants as stop;
+
+use crate::input::{Input, Stop, read_input};
+use crate::model::LoadedModel;
+use crate::report::report;
+use crate::wrong::Wrong;
+use std::alloc::Global;
+use xs_desk::Desk;
+use xs_extend::{Woven, fault_list, weave_typed};
+use xs_fei_reader::instructions;
+use xs_flat::{FlatFault, FlatModel, flatten, with_history};
+use xs_tree::{Program, print_program};
+use xs_types::{TypeFault, check_model};
+use xs_value::{ByteList, OutOfMemory};
+
+/// What is written and said once every refusal was tried.
+#[derive(Drop)]
+pub struct Made {
+    pub text: Vec<u8>,
+    pub report: ByteList,
+}
+
+/// The extension of a model by the instructions of a file.
+pub(crate) fn load_extension<D: Desk>(
+    alloc: Global,
+    desk: &mut D,
+    name: &str,
+    model: &LoadedModel,
+) -> Result<Made, Stop>
+    ensures ok { IfOk result (λ made. IfSome (D.files desk.old) (λ files. HoldsExtension files name.now (program_tree model.now.program) made)) }
+    ensures refused { (r : Refusal) → IsErrOf result (stop.Refused r) → IfSome (D.files desk.old) (λ files. RefusesFaults files name.now (program_tree model.now.program) r) }
+    ensures failed { IsErrOf result stop.Desk → Rose (D.faults desk.old) (D.faults desk.new) }
+
+    ensures files { D.files desk.new ≡ D.files desk.old }
+    ensures said { D.said desk.new ≡ D.said desk.old }
+    ensures later { D.faults desk.old ≤ D.faults desk.new }
+    ensures quiet { D.quiet desk.old → D.quiet desk.new × (D.faults desk.new ≡ D.faults desk.old) }
+{
+    let bytes = read_input(alloc, desk, Input::Faults, name)?;
+    match extension_of(alloc, &bytes, model) {
+        Ok(made) => Ok(made),
+        Err(wrong) => Err(Input::Faults.stop(wrong)),
+    }
+}
+
+/// The extension of the model by the instructions that the bytes spell.
+fn extension_of(alloc: Global, bytes: &[u8], model: &LoadedModel) -> Result<Made, Wrong>
+    requires { length bytes.now ≤ 1048576 }
+    ensures ok { IfOk result (IsMade (program_tree model.now.program) bytes.now) }
+    ensures wrong { IfErr result (IsWrongFaults (program_tree model.now.program) bytes.now) }
+{
+    let instructions = instructions(alloc, bytes)?;
+    let woven = weave_typed(alloc, &model.program, &model.typed, &instructions)?;
+    check_limits(alloc, &woven)?;
+    Ok(made_of(alloc, &woven)?)
+}
+
+/// Refuses an extension that passes a limit of size, as no item of either file does alone.
+fn check_limits(alloc: Global, woven: &Woven) -> Result<(), Wrong>
+    ensures wrong { IfErr result IsWrongWhole }
+{
+    let flat = flat_whole(alloc, &woven.program)?;
+    let faults = fault_list(alloc, woven, &flat)?;
+    let full = with_history(alloc, &flat, &faults)?;
+    check_whole(alloc, full)
+}
+
+/// The flat model of an extension. What is wrong with it is wrong with the whole.
+fn flat_whole(alloc: Global, program: &Program) -> Result<FlatModel, Wrong>
+    ensures wrong { IfErr result IsWrongWhole }
+{
+    match flatten(alloc, program) {
+        Ok(flat) => Ok(flat),
+        Err(fault) => Err(Wrong::from(FlatFault {
+            rule: fault.rule,
+            item: 0,
+        })),
+    }
+}
+
+/// Refuses a flat model of an extension by its kinds and its size.
+fn check_whole(alloc: Global, flat: FlatModel) -> Result<(), Wrong>
+    ensures wrong { IfErr result IsWrongWhole }
+{
+    match check_model(alloc, flat) {
+        Ok(_typed) => Ok(()),
+        Err(fault) => Err(Wrong::from(TypeFault {
+            rule: fault.rule,
+            item: 0,
+        })),
+    }
+}
+
+/// The text of an extension, and what is said of its faults.
+fn made_of(alloc: Global, woven: &Woven) -> Result<Made, OutOfMemory>
+    ensures { IfOk result (λ made. IsMadeOf woven.now made) }
+{
+    let text = print_program(alloc, &woven.program)?;
+    let report = report(alloc, woven.faults.as_slice())?;
+    Ok(Made { text, report })
+}
