@@ -1,15 +1,17 @@
 -- Computed examples of the definitions.
-use Rattle.std.proofs.Common.{◌≡◌, [], ◌∷◌, Some, None, refl}
-use Rattle.std.specs.Prelude.{pos, negsuc, codes}
+use Rattle.std.proofs.Common.{◌≡◌, ℕ, true, false, [], ◌∷◌, Some, None, refl}
+use Rattle.std.specs.Prelude.{pos, negsuc, codes, if◌then◌else◌}
 use Rattle.xs_tree.specs.declared.program.Member.TheVariants as member
-use Rattle.xs_tree.specs.ProgramTree.{boolean, range, members}
+use Rattle.xs_tree.specs.ProgramTree.{Path, boolean, range, members}
+use Rattle.xs_tree.specs.Texts.{same_text}
+use Rattle.xs_tree.specs.Evaluate.{Leaves, evaluate}
 use Rattle.xs_tree.specs.Tree.{binary, negate, number as a_number}
 use Rattle.xs_tree.specs.declared.expr.Op.TheVariants as op
-use Rattle.xs_tree.specs.Values.{number}
+use Rattle.xs_tree.specs.Values.{truth, number, symbol, one}
 use Rattle.xs_fei.specs.Instructions.{stuck_at, erroneous, frozen, offset, ramp_down}
 use Rattle.xs_effects.specs.AddedNames.{own_name, mode_symbol}
 use Rattle.xs_effects.specs.Effects.{clipped}
-use Rattle.xs_effects.specs.Templates.{number_tree}
+use Rattle.xs_effects.specs.Templates.{number_tree, branch, ramp_rule}
 use Rattle.xs_effects.specs.Allowed.{fault_of}
 use Rattle.xs_effects.specs.declared.fault.EffectFault.TheVariants.{WrongKind, Outside, OneValueOnly}
 
@@ -47,3 +49,33 @@ number_for_symbol = refl
 
 frozen_truth : fault_of frozen boolean ≡ None
 frozen_truth = refl
+
+-- the own value of x is this number
+abbrev own_is : ℕ → Leaves Path
+own_is n [] = None
+own_is n (name ∷ path) = if same_text name (codes "x#nominal") then Some (one (number (pos n))) else None
+
+-- under Offset(5) on 0..9 the own value 7 reads 9, and 2 reads 7
+seven_reads_nine : evaluate (own_is 7) (own_is 7) (branch (offset (pos 5)) (range (pos 0) (pos 9)) (codes "x")) ≡ Some (one (number (pos 9)))
+seven_reads_nine = refl
+
+two_reads_seven : evaluate (own_is 2) (own_is 2) (branch (offset (pos 5)) (range (pos 0) (pos 9)) (codes "x")) ≡ Some (one (number (pos 7)))
+two_reads_seven = refl
+
+-- x reads this number, and the mode m of the slice S stands
+abbrev falling : ℕ → Leaves Path
+falling n [] = None
+falling n (name ∷ path) = if same_text name (codes "x") then Some (one (number (pos n))) else Some (one (symbol (codes "S#m")))
+
+-- RampDown(4, 1) entered after the read value 9 reads 5, and not 6, and then 1, and 1 again
+nine_falls_to_five : evaluate (falling 9) (falling 5) (ramp_rule (pos 4) (pos 1) (codes "S") (codes "m") (codes "x")) ≡ Some (one (truth true))
+nine_falls_to_five = refl
+
+nine_skips_six : evaluate (falling 9) (falling 6) (ramp_rule (pos 4) (pos 1) (codes "S") (codes "m") (codes "x")) ≡ Some (one (truth false))
+nine_skips_six = refl
+
+five_falls_to_one : evaluate (falling 5) (falling 1) (ramp_rule (pos 4) (pos 1) (codes "S") (codes "m") (codes "x")) ≡ Some (one (truth true))
+five_falls_to_one = refl
+
+one_stays : evaluate (falling 1) (falling 1) (ramp_rule (pos 4) (pos 1) (codes "S") (codes "m") (codes "x")) ≡ Some (one (truth true))
+one_stays = refl
