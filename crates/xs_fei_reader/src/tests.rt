@@ -5,6 +5,7 @@ use std::alloc::Global;
 use std::test::Fail;
 use xs_lexer::LexFault;
 use xs_parse::ParseFault;
+use xs_value::OutOfMemory;
 
 /// A text, and its refusal where it has one.
 type Case = (&'static [u8], Option<ParseFault>);
@@ -130,6 +131,56 @@ fn texts_are_read_or_refused_where_they_stop(rt: HostRuntime) -> Result<(), Fail
         assert!(rt; text.len() < 1000);
         let given = refusal(rt.alloc(), text);
         assert_eq!(rt; given, *wanted);
+    }
+    Ok(())
+}
+
+/// What opens a guard and what closes it, so many times each, what follows, and the refusal where there is one.
+type DeepCase = (
+    &'static [u8],
+    usize,
+    &'static [u8],
+    &'static [u8],
+    Option<ParseFault>,
+);
+
+static DEEP: [DeepCase; 6] = [
+    (b"(", 1000, b")", b";", None),
+    (b"(", 1001, b")", b";", Some(ParseFault::TooDeep)),
+    (b"(", 1001, b")", b"; )", Some(ParseFault::Unexpected(2081))),
+    (b"!", 999, b"", b";", None),
+    (b"!", 1000, b"", b";", Some(ParseFault::TooDeep)),
+    (b"(", 1001, b")", b"", Some(ParseFault::End(2079))),
+];
+
+fn push_times(text: &mut Vec<u8>, more: &[u8], times: usize) -> Result<(), OutOfMemory> {
+    for _ in 0..times {
+        text.extend_from_slice(more)?;
+    }
+    Ok(())
+}
+
+/// Instructions whose one guard is a name so deep.
+fn guarded(alloc: Global, case: &DeepCase) -> Result<Vec<u8>, OutOfMemory> {
+    let (open, times, close, back, _) = case;
+    let mut text = Vec::new(alloc);
+    text.extend_from_slice(
+        b"EXTENSION OF MODULE m SLICE s AFFECTS x WITH MODE d : Permanent Random WHEN ",
+    )?;
+    push_times(&mut text, open, *times)?;
+    text.extend_from_slice(b"a")?;
+    push_times(&mut text, close, *times)?;
+    text.extend_from_slice(back)?;
+    Ok(text)
+}
+
+#[test]
+fn a_guard_is_too_deep_only_where_the_whole_text_is_spelled(rt: HostRuntime) -> Result<(), Fail> {
+    for case in &DEEP {
+        let text = guarded(rt.alloc(), case)?;
+        assert!(rt; text.len() < 10000);
+        let given = refusal(rt.alloc(), &text);
+        assert_eq!(rt; given, case.4);
     }
     Ok(())
 }
