@@ -4,7 +4,7 @@ use Rattle.std.specs.Prelude.{codes}
 use Rattle.std.specs.Fmt.{decimal, signed_decimal}
 use Rattle.xs_lexer.specs.declared.token.TokenKind.{TokenKind}
 use Rattle.xs_lexer.specs.declared.token.TokenKind.TheVariants as k
-use Rattle.xs_lexer.specs.Tokens.{IsWord, sign_text}
+use Rattle.xs_lexer.specs.Tokens.{IsWord, IsNumber, number_of, sign_text}
 use Rattle.xs_tree.specs.ProgramTree.{Text, Formula}
 use Rattle.xs_tree.specs.Values.{Value, truth, number, symbol}
 use Rattle.xs_tree.specs.Lexemes.{Lexeme, word, num, sign}
@@ -13,7 +13,7 @@ use Rattle.xs_tree.specs.Text.{each_after, joined, text_of, all_of}
 use Rattle.xs_tree.specs.Printed.{printed, printed_int, in_brackets}
 use Rattle.xs_tree.specs.Trace.{Each}
 use Rattle.xs_tree.proofs.Pieces.{Reads, nothing, then, as_lexemes, piece_reads, whole_reads}
-use Rattle.xs_tree.proofs.TokenTexts.{Ends, blank, line_feed, is_open_brace, is_close_brace, is_comma, is_semicolon, is_colon, is_word, is_number}
+use Rattle.xs_tree.proofs.TokenTexts.{Ends, blank, line_feed, is_open_brace, is_close_brace, is_comma, is_semicolon, is_colon, is_word, AreDigits, digits_read}
 use Rattle.xs_tree.proofs.PrintedSpells.{printed_spells, an_expr, int_spells}
 use Rattle.xs_tree.proofs.TextSpells.{at_space, at_open, at_close, at_comma, at_semicolon, at_brace, spaced, int_reads, brackets_read, text_reads}
 use Rattle.xs_fei.specs.declared.instructions.Dynamics.{Dynamics}
@@ -68,12 +68,14 @@ sign_before_brace s rest h = piece_reads (Some s) (sign_text s) (125 ∷ rest) (
 inner : (s : TokenKind) → IsInner s → s ≢ k.CloseBrace
 inner s h e = subst IsInner e h
 
+are_digits : (x : Text) → IsNumber x [] → AreDigits (number_of x) x
+are_digits [] h = absurd h
+are_digits (b ∷ bs) h = record { some = omega arith; runs = h; value = refl }
+
 -- a token of a mark, before a blank or the closing brace
 token_before : (x rest : Text) → IsMarkText x → Ends rest → ((s : TokenKind) → IsInner s → Reads (sign_text s) rest (sign s ∷ [])) → (t : Lexeme) × Reads x rest (t ∷ []) × IsTokenText t x
 token_before x rest (inl h) e signs = (word x, is_word x rest h e, word_text)
-token_before x rest (inr (inl h)) e signs =
-    let same = h.2 in
-    (num h.0 (decimal h.0), subst (λ z. Reads z rest (num h.0 (decimal h.0) ∷ [])) (sym same) (is_number h.0 rest h.1 e), subst (IsTokenText (num h.0 (decimal h.0))) (sym same) number_text)
+token_before x rest (inr (inl h)) e signs = (num (number_of x) x, digits_read (number_of x) x rest h.1 (are_digits x h.0) e, number_text)
 token_before x rest (inr (inr h)) e signs =
     let same = h.2 in
     (sign h.0, subst (λ z. Reads z rest (sign h.0 ∷ [])) (sym same) (signs h.0 h.1), subst (IsTokenText (sign h.0)) (sym same) (sign_of (inner h.0 h.1)))

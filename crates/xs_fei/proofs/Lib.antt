@@ -1,1 +1,2 @@
 pub mod InstructionSpells
+pub mod SpelledInstructions

@@ -1,9 +1,8 @@
 -- The instructions that can be written: every name is a name, every number fits, and no slice is without a mode.
-use Rattle.std.specs.Prelude.{◌≡◌, ◌≢◌, ◌⊎◌, ℕ, [], Option, Some, None, List}
-use Rattle.std.specs.Fmt.{decimal}
+use Rattle.std.specs.Prelude.{◌≡◌, ◌≢◌, ◌⊎◌, [], Option, Some, None, List}
 use Rattle.xs_lexer.specs.declared.token.TokenKind.{TokenKind}
 use Rattle.xs_lexer.specs.declared.token.TokenKind.TheVariants as k
-use Rattle.xs_lexer.specs.Tokens.{IsWord, sign_text}
+use Rattle.xs_lexer.specs.Tokens.{IsWord, IsNumber, number_of, sign_text}
 use Rattle.xs_tree.specs.ProgramTree.{Text, Formula}
 use Rattle.xs_tree.specs.Values.{Value, truth, number, symbol}
 use Rattle.xs_tree.specs.Printed.{IsName, IsSmall, IsEnd, IsWritable}
@@ -17,9 +16,9 @@ IsInner k.Number = ⊥
 IsInner k.CloseBrace = ⊥
 IsInner _ = Unit {0}
 
--- the text of a token of a mark: a word, a number without leading zeros, or a sign
+-- the text of a token of a mark: a word, the digits of a number that a token can hold, or a sign
 abbrev pub IsMarkText : Text → Type 0
-IsMarkText x = IsWord x [] ⊎ (((n : ℕ) × IsSmall n × (x ≡ decimal n)) ⊎ ((s : TokenKind) × IsInner s × (x ≡ sign_text s)))
+IsMarkText x = IsWord x [] ⊎ ((IsNumber x [] × IsSmall (number_of x)) ⊎ ((s : TokenKind) × IsInner s × (x ≡ sign_text s)))
 
 abbrev pub IsWritableConstant : Value → Type 0
 IsWritableConstant (truth b) = Unit {0}

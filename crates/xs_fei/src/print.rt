@@ -1,6 +1,6 @@
 //! Printing instructions. All text goes to the end of one buffer, so the work is linear in the text.
 
-ghost use Rattle.std.specs.Prelude.{◌≡◌, ◌++◌, codes, IfOk, OnOk, map};
+ghost use Rattle.std.specs.Prelude.{◌≡◌, ◌++◌, ℕ, List, codes, IfOk, OnOk, map};
 ghost use Rattle.std.specs.Fmt.{signed_decimal};
 ghost use Rattle.xs_tree.specs.Text.{text_of, all_of, joined};
 ghost use Rattle.xs_tree.specs.Written.{tree_of};
@@ -21,8 +21,9 @@ use xs_value::{ByteList, Dotted, Name, OutOfMemory};
 #[tactic(auto, using(xs_tree::proofs::TextLaws::print_rules))]
 pub fn print_instructions(alloc: Global, i: &Instructions) -> Result<Vec<u8>, OutOfMemory>
     ensures text { IfOk result (λ text. text.items ≡ instructions_text (instruction_tree i.now)) }
-    // What can be written is read back as itself.
+    // What can be written is spelled by its text, and so is what some text spells.
     ensures spells { IfOk result (λ text. IsWritableInstructions (instruction_tree i.now) → BytesSpellInstructions text.items (instruction_tree i.now)) }
+    ensures again { IfOk result (λ text. (bytes : List ℕ) → BytesSpellInstructions bytes (instruction_tree i.now) → BytesSpellInstructions text.items (instruction_tree i.now)) }
 {
     let mut text = ByteList::new(alloc);
     append_file_name(&mut text, &i.name)?;

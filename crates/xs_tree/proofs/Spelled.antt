@@ -7,7 +7,8 @@ use Rattle.xs_lexer.specs.declared.token.TokenKind.TheVariants as k
 use Rattle.xs_lexer.specs.declared.token.Token.{Token}
 use Rattle.xs_lexer.specs.Bytes.{is_word_byte}
 use Rattle.xs_lexer.specs.Runs.{Runs, takes_word, ends_word}
-use Rattle.xs_lexer.specs.Tokens.{Piece, IsTokenPiece, IsPiece, Splits, IsWord, IsAmong, signs, HasTokens}
+use Rattle.xs_lexer.specs.Tokens.{Piece, IsTokenPiece, IsPiece, Splits, IsWord, IsNumber, IsAmong, signs, HasTokens, number_of}
+use Rattle.xs_lexer.proofs.RunLemmas.{Runs-digits}
 use Rattle.xs_lexer.proofs.SignLemmas.{among_all}
 use Rattle.xs_tree.specs.declared.program.Member.{Member}
 use Rattle.xs_tree.specs.Tree.{Tree, Trees, Branches, no_tree, no_branch}
@@ -22,21 +23,27 @@ use Rattle.xs_tree.specs.WritableProgram.{IsWritableMember, IsWritableType, IsWr
 use Rattle.xs_tree.specs.Trace.{Each}
 use Rattle.xs_tree.proofs.Pieces.{with_piece, seen, seen_tokens}
 
--- a lexeme that a text can have
-abbrev Fits : Lexeme → Type 0
-Fits (word x) = IsWord x []
-Fits (num n d) = IsSmall n
-Fits (sign s) = Unit {0}
+-- a kind that a sign has
+abbrev pub IsSign : TokenKind → Type 0
+IsSign k.Word = ⊥
+IsSign k.Number = ⊥
+IsSign _ = Unit {0}
 
-abbrev AllFit : List Lexeme → Type 0
+-- a lexeme that a text can have
+abbrev pub Fits : Lexeme → Type 0
+Fits (word x) = IsWord x []
+Fits (num n d) = IsSmall n × IsNumber d [] × (n ≡ number_of d)
+Fits (sign s) = IsSign s
+
+abbrev pub AllFit : List Lexeme → Type 0
 AllFit [] = Unit {0}
 AllFit (l ∷ ls) = Fits l × AllFit ls
 
-front : (xs ys : List Lexeme) → AllFit (xs ++ ys) → AllFit xs
+pub front : (xs ys : List Lexeme) → AllFit (xs ++ ys) → AllFit xs
 front [] ys h = tt
 front (x ∷ xs) ys h = (h.0, front xs ys h.1)
 
-back : (xs ys : List Lexeme) → AllFit (xs ++ ys) → AllFit ys
+pub back : (xs ys : List Lexeme) → AllFit (xs ++ ys) → AllFit ys
 back [] ys h = h
 back (x ∷ xs) ys h = back xs ys h.1
 
@@ -52,7 +59,7 @@ word_runs_alone [] behind h = tt
 word_runs_alone (b ∷ []) behind h = (at_end (is_word_byte b) (b == 45) (ends_word behind) h.0, tt)
 word_runs_alone (b ∷ c ∷ bs) behind h = (h.0, word_runs_alone (c ∷ bs) behind h.1)
 
-word_alone : (x behind : List ℕ) → IsWord x behind → IsWord x []
+pub word_alone : (x behind : List ℕ) → IsWord x behind → IsWord x []
 word_alone [] behind h = absurd h
 word_alone (b ∷ bs) behind h = (h.0, word_runs_alone bs behind h.1)
 
@@ -71,10 +78,32 @@ sign_no_word text among =
     let clash : false ≡ true = subst (λ kind. not (is_word_kind kind) ≡ true) place.2 place.1 in
     cc
 
+is_number_kind : TokenKind → Bool
+is_number_kind k.Number = true
+is_number_kind other = false
+
+no_numbers : list_all (λ sign. not (is_number_kind sign.kind)) signs ≡ true
+unfolding is_number_kind
+no_numbers = refl
+
+sign_no_number : (text : List ℕ) → IsAmong signs k.Number text → ⊥
+unfolding is_number_kind
+sign_no_number text among =
+    let place = among_all (λ sign. not (is_number_kind sign.kind)) signs k.Number text no_numbers among in
+    let clash : false ≡ true = subst (λ kind. not (is_number_kind kind) ≡ true) place.2 place.1 in
+    cc
+
+-- digits are digits at the end of a text too
+number_alone : (x behind : List ℕ) → IsNumber x behind → IsNumber x []
+number_alone [] behind h = absurd h
+number_alone (b ∷ bs) behind h = Runs-digits (b ∷ bs) behind [] h
+
 fits_of : (kind : TokenKind) (text behind : List ℕ) → IsTokenPiece kind text behind → Fits (lexeme_of kind text)
 fits_of k.Word text behind p =
     ⊎_elim (λ w. word_alone text behind w.1) (λ other. ⊎_elim (λ n. let clash : k.Word ≡ k.Number = n.0 in cc) (λ s. absurd (sign_no_word text s)) other) p.longest.token
-fits_of k.Number text behind p = p.small refl
+fits_of k.Number text behind p =
+    let digits : IsNumber text behind = ⊎_elim (λ w. let clash : k.Number ≡ k.Word = w.0 in cc) (λ other. ⊎_elim (λ n. n.1) (λ s. absurd (sign_no_number text s)) other) p.longest.token in
+    (p.small refl, number_alone text behind digits, refl)
 fits_of kind text behind p = tt
 
 piece_fits : (kind : Option TokenKind) (text behind : List ℕ) (ls : List Lexeme) → IsPiece kind text behind → AllFit ls → AllFit (with_piece kind text ls)
@@ -86,7 +115,7 @@ pieces_fit [] bytes rest s = tt
 pieces_fit (piece ∷ pieces) bytes rest (behind, spelled, is, later) = piece_fits piece.kind piece.text behind (seen pieces) is (pieces_fit pieces behind rest later)
 
 -- the lexemes of a text fit
-tokens_fit : (bytes : List ℕ) (tokens : List Token) → HasTokens bytes tokens → AllFit (lexemes_of bytes tokens)
+pub tokens_fit : (bytes : List ℕ) (tokens : List Token) → HasTokens bytes tokens → AllFit (lexemes_of bytes tokens)
 tokens_fit bytes tokens has =
     subst AllFit (sym (ap (lexemes_of bytes) has.2 ∙ seen_tokens has.0 bytes [] bytes 0 refl (omega arith) has.1)) (pieces_fit has.0 bytes [] has.1)
 
@@ -94,9 +123,9 @@ minus_end : (n : ℕ) → IsSmall n → IsEnd (minus n)
 minus_end zero h = omega arith
 minus_end (suc n) h = omega (arith, h)
 
-int_writable : {ts : List Lexeme} {z : ℤ} → SpellsInt ts z → AllFit ts → IsEnd z
-int_writable plain_int h = h.0
-int_writable (minus_int {n}) h = minus_end n h.1.0
+pub int_writable : {ts : List Lexeme} {z : ℤ} → SpellsInt ts z → AllFit ts → IsEnd z
+int_writable plain_int h = h.0.0
+int_writable (minus_int {n}) h = minus_end n h.1.0.0
 
 dotted_writable : {ts : List Lexeme} {p : Path} → SpellsDotted ts p → AllFit ts → (p ≢ []) × AreNames p
 dotted_writable (one_name r) h = (λ e. cc, ((r, h.0), tt))
@@ -111,7 +140,7 @@ branches_some (one_branch p q) e = cc
 branches_some (more_branches p q m) e = cc
 
 mutual
-  spelled_writable : {l : ℕ} {ts : List Lexeme} {t : Tree Path} → Spells l ts t → AllFit ts → IsWritable t
+  pub spelled_writable : {l : ℕ} {ts : List Lexeme} {t : Tree Path} → Spells l ts t → AllFit ts → IsWritable t
   spelled_writable (only_iff p) h = spelled_writable p h
   spelled_writable (implies {xs} {ys} p q) h = (spelled_writable p (front xs (sign k.Implies ∷ ys) h), spelled_writable q (back xs (sign k.Implies ∷ ys) h).1)
   spelled_writable (repeated {xs = xs} {ys = ys} r p m) h = more_writable m (spelled_writable p (front xs ys h)) (back xs ys h)
@@ -131,7 +160,7 @@ mutual
   atom_writable : {ts : List Lexeme} {t : Tree Path} → SpellsAtom ts t → AllFit ts → IsWritable t
   atom_writable is_true h = tt
   atom_writable is_false h = tt
-  atom_writable is_number h = h.0
+  atom_writable is_number h = h.0.0
   atom_writable (is_span {xs} {ys} p q) h = (int_writable p (front xs (sign k.Dots ∷ ys) h), int_writable q (back xs (sign k.Dots ∷ ys) h).1)
   atom_writable (is_name p) h = dotted_writable p h
   atom_writable (in_parentheses {ts} p) h = spelled_writable p (front ts (sign k.Close ∷ []) h.1)
@@ -155,7 +184,7 @@ pub expression_writable : (bytes : Text) (t : Formula) → BytesSpellExpr bytes 
 expression_writable bytes t s = spelled_writable s.2 (tokens_fit bytes s.0 s.1)
 
 -- lists
-many_writable : {A : Type 0} (One : List Lexeme → A → Type 0) (Fine : A → Type 0) → ((ts : List Lexeme) (a : A) → One ts a → AllFit ts → Fine a) →
+pub many_writable : {A : Type 0} (One : List Lexeme → A → Type 0) (Fine : A → Type 0) → ((ts : List Lexeme) (a : A) → One ts a → AllFit ts → Fine a) →
     {ts : List Lexeme} {xs : List A} → SpellsMany One ts xs → AllFit ts → Each Fine xs
 many_writable One Fine each no_more h = tt
 many_writable One Fine each (one_more {ts} {us} {a} p m) h = (each ts a p (front ts us h), many_writable One Fine each m (back ts us h))
@@ -171,7 +200,7 @@ brackets_writable : {A : Type 0} (One : List Lexeme → A → Type 0) (Fine : A 
 brackets_writable One Fine each no_brackets h = tt
 brackets_writable One Fine each (brackets {ts} p) h = (commas_writable One Fine each p (front ts (sign k.Close ∷ []) h.1)).1
 
-name_writable : (ts : List Lexeme) (x : Text) → SpellsName ts x → AllFit ts → IsName x
+pub name_writable : (ts : List Lexeme) (x : Text) → SpellsName ts x → AllFit ts → IsName x
 name_writable ts x (a_name r) h = (r, h.0)
 
 expr_writable : (ts : List Lexeme) (t : Formula) → SpellsExpr ts t → AllFit ts → IsWritable t

@@ -149,7 +149,7 @@ more_digits n ds h before =
 pub decimal_digits : (n : ℕ) → n < 2 ^ 64 → AreDigits n (decimal n)
 decimal_digits n h = decimal_by_steps AreDigits one_digit more_digits n h
 
-digits_read : (n : ℕ) (ds rest : List ℕ) → IsSmall n → AreDigits n ds → Ends rest → Reads ds rest (num n ds ∷ [])
+pub digits_read : (n : ℕ) (ds rest : List ℕ) → IsSmall n → AreDigits n ds → Ends rest → Reads ds rest (num n ds ∷ [])
 digits_read n [] rest small digits ends = absurd (omega (arith, digits.some))
 digits_read n (b ∷ bs) rest small digits ends =
     let digit : is_ascii_digit b ≡ true = digits.runs.0 in

@@ -3,8 +3,6 @@ mod InputLemmas
 mod OutcomeLemmas
 mod ReportLaws
 mod AddedNames
-mod Fitting
-mod InstructionsWritable
 mod WovenSpells
 mod SmallSpells
 mod SmallOnly

@@ -25,7 +25,8 @@ use Rattle.xs_effects.specs.Templates.{named, number_tree, value_tree, member_va
 use Rattle.xs_weave.specs.Woven.{mode_branches, set_one, guard_formula, entries_from, entries, stay_branch, moves_tree, read_tree, mode_type, slice_variables, slice_assignments, slice_rules, type_of_kind, slice_sections, tree_map_both, trees_map_both, branches_map_both, rename, same_path, woven_assignment, woven_section, added_sections, woven_module, woven}
 use Rattle.xs_weave.proofs.Lists.{each_append, each_map}
 use Rattle.xsap_program.proofs.AddedNames.{own_is_name, mode_variable_is_name, nominal_is_name, symbol_is_name}
-use Rattle.xsap_program.proofs.InstructionsWritable.{IsWritableValue, IsWritableEffect, IsWritableGuard, IsWritableMode, IsWritableSlice, IsWritableExtension, AreWritableInstructions, instructions_writable}
+use Rattle.xs_fei.specs.WritableInstructions.{IsWritableConstant, IsWritableEffect, IsWritableGuard, IsWritableMode, IsWritableSlice, IsWritableExtension, IsWritableInstructions}
+use Rattle.xs_fei.proofs.SpelledInstructions.{instructions_writable}
 
 -- a single name can be written
 pub one_name : (x : Text) → IsName x → IsWritable (named x)
@@ -116,7 +117,7 @@ number_writable : (n : ℤ) → IsEnd n → IsWritable (number_tree n)
 number_writable (pos n) h = h
 number_writable (negsuc n) h = number_by (nat_eq n 2147483647) n h
 
-value_writable : (c : Value) → IsWritableValue c → IsWritable (value_tree c)
+value_writable : (c : Value) → IsWritableConstant c → IsWritable (value_tree c)
 value_writable (a_truth b) h = tt
 value_writable (number n) h = number_writable n h
 value_writable (symbol x) h = one_name x h
@@ -193,7 +194,7 @@ module _ (slice : Text) (named_slice : IsName slice) where
   mode_branches_writable : (f : ModeTree → Formula) (last : Formula) → ((m : ModeTree) → IsWritableMode m → IsWritable (f m)) → IsWritable last →
       (ms : List ModeTree) → Each IsWritableMode ms → AreWritableBranches (mode_branches slice f last ms)
   mode_branches_writable f last each w [] h = (tt, w, tt)
-  mode_branches_writable f last each w (m ∷ ms) h = (standing m.name h.0.named, each m h.0, mode_branches_writable f last each w ms h.1)
+  mode_branches_writable f last each w (m ∷ ms) h = (standing m.name h.0.0, each m h.0, mode_branches_writable f last each w ms h.1)
 
   mode_branches_some : (f : ModeTree → Formula) (last : Formula) (ms : List ModeTree) → mode_branches slice f last ms ≢ no_branch
   mode_branches_some f last [] e = cc
@@ -207,7 +208,7 @@ module _ (slice : Text) (named_slice : IsName slice) where
   entries_from_writable so_far [] w h = w
   entries_from_writable so_far (m ∷ ms) w h =
       entries_from_writable (binary op.Union so_far (choice (guard_formula m.guard) (set_one (mode_symbol slice (Some m.name))) (set_one (mode_symbol slice None)))) ms
-      (w, (guard_writable m.guard h.0.guard_fits, only_one (mode_symbol slice (Some m.name)) (symbol_named m.name h.0.named), only_one (mode_symbol slice None) nominal)) h.1
+      (w, (guard_writable m.guard h.0.3, only_one (mode_symbol slice (Some m.name)) (symbol_named m.name h.0.0), only_one (mode_symbol slice None) nominal)) h.1
 
   stay_writable : (d : Dynamics) (mode : Text) → IsName mode → IsWritable (stay_branch slice d mode)
   stay_writable Permanent mode h = one_name (mode_symbol slice (Some mode)) (symbol_named mode h)
@@ -215,46 +216,46 @@ module _ (slice : Text) (named_slice : IsName slice) where
 
   symbols_writable : (ms : List ModeTree) → Each IsWritableMode ms → Each IsWritableMember (map (λ m. member.Symbol (mode_symbol slice (Some m.name))) ms)
   symbols_writable [] h = tt
-  symbols_writable (m ∷ ms) h = (symbol_named m.name h.0.named, symbols_writable ms h.1)
+  symbols_writable (m ∷ ms) h = (symbol_named m.name h.0.0, symbols_writable ms h.1)
 
 -- the sections of a slice
 module _ (s : SliceTree) (h : IsWritableSlice s) where
   moves_writable : IsWritable (moves_tree s)
   moves_writable =
       let f : ModeTree → Formula = λ m. stay_branch s.name m.dynamics m.name in (
-        mode_branches_some s.name h.named f (entries s.name s.modes) s.modes,
-        mode_branches_writable s.name h.named f (entries s.name s.modes) (λ m w. stay_writable s.name h.named m.dynamics m.name w.named)
-            (entries_from_writable s.name h.named (set_one (mode_symbol s.name None)) s.modes (only_one (mode_symbol s.name None) (nominal s.name h.named)) h.each_mode) s.modes h.each_mode,
+        mode_branches_some s.name h.0 f (entries s.name s.modes) s.modes,
+        mode_branches_writable s.name h.0 f (entries s.name s.modes) (λ m w. stay_writable s.name h.0 m.dynamics m.name w.0)
+            (entries_from_writable s.name h.0 (set_one (mode_symbol s.name None)) s.modes (only_one (mode_symbol s.name None) (nominal s.name h.0)) h.3) s.modes h.3,
       )
 
   read_writable : (t : DeclaredTree) → IsWritableType t → IsWritable (read_tree t s)
   read_writable t w =
       let f : ModeTree → Formula = λ m. branch m.effect t s.target in (
-        mode_branches_some s.name h.named f (named (own_name s.target)) s.modes,
-        mode_branches_writable s.name h.named f (named (own_name s.target)) (λ m g. branch_writable m.effect t s.target g.effect_fits w h.target_named)
-            (one_name (own_name s.target) (own_is_name s.target h.target_named.1)) s.modes h.each_mode,
+        mode_branches_some s.name h.0 f (named (own_name s.target)) s.modes,
+        mode_branches_writable s.name h.0 f (named (own_name s.target)) (λ m g. branch_writable m.effect t s.target g.2 w h.1)
+            (one_name (own_name s.target) (own_is_name s.target h.1.1)) s.modes h.3,
       )
 
   state_named : IsName (mode_variable s.name)
-  state_named = mode_variable_is_name s.name h.named.1
+  state_named = mode_variable_is_name s.name h.0.1
 
   slice_rules_writable : Each IsWritableSection (slice_rules s)
   slice_rules_writable =
-      each_of_all IsWritableSection IsWritableMode (λ m. rules m.effect s.name m.name s.target) (λ m g. rules_writable s.name h.named m.effect m.name s.target g.effect_fits g.named h.target_named) s.modes h.each_mode
+      each_of_all IsWritableSection IsWritableMode (λ m. rules m.effect s.name m.name s.target) (λ m g. rules_writable s.name h.0 m.effect m.name s.target g.2 g.0 h.1) s.modes h.3
 
   slice_writable : (m : ModuleTree) → IsWritableModule m → Each IsWritableSection (slice_sections m s)
   slice_writable m w =
       let type = type_is_writable m s.target w in (
         (
-          (own_is_name s.target h.target_named.1, type_declared (type_of_kind (kind_in m s.target)) type),
-          ((state_named, (λ e. cc, (nominal s.name h.named, symbols_writable s.name h.named s.modes h.each_mode))), tt),
+          (own_is_name s.target h.1.1, type_declared (type_of_kind (kind_in m s.target)) type),
+          ((state_named, (λ e. cc, (nominal s.name h.0, symbols_writable s.name h.0 s.modes h.3))), tt),
         ),
         (
           (
-            (λ e. cc, (state_named, tt), one_name (mode_symbol s.name None) (nominal s.name h.named)),
+            (λ e. cc, (state_named, tt), one_name (mode_symbol s.name None) (nominal s.name h.0)),
             (
               (λ e. cc, (state_named, tt), moves_writable),
-              ((λ e. cc, (h.target_named, tt), read_writable (type_of_kind (kind_in m s.target)) type), tt),
+              ((λ e. cc, (h.1, tt), read_writable (type_of_kind (kind_in m s.target)) type), tt),
             ),
           ),
           slice_rules_writable,
@@ -340,17 +341,17 @@ slices_writable : (xs : List ExtensionTree) (m : Text) → Each IsWritableExtens
 slices_writable [] m h = tt
 slices_writable (x ∷ xs) m h =
     either (Each IsWritableSlice) (same_text x.of_module m) (x.slices ++ slices_from xs m) (slices_from xs m)
-    ((each_append IsWritableSlice x.slices (slices_from xs m)).1 (h.0, slices_writable xs m h.1)) (slices_writable xs m h.1)
+    ((each_append IsWritableSlice x.slices (slices_from xs m)).1 (h.0.1, slices_writable xs m h.1)) (slices_writable xs m h.1)
 
-module_woven : (i : InstructionTree) → AreWritableInstructions i → (m : ModuleTree) → IsWritableModule m → IsWritableModule (woven_module i m)
+module_woven : (i : InstructionTree) → IsWritableInstructions i → (m : ModuleTree) → IsWritableModule m → IsWritableModule (woven_module i m)
 module_woven i h m w =
     let affected = is_affected i m.name in
     let old = (each_map IsWritableSection (woven_section affected) m.sections).1
     (each_weaker IsWritableSection (λ s. IsWritableSection (woven_section affected s)) (section_woven affected) m.sections w.2) in
-    let added = each_of_all IsWritableSection IsWritableSlice (slice_sections m) (λ s g. slice_writable s g m w) (slices_of i m.name) (slices_writable i.extensions m.name h) in
+    let added = each_of_all IsWritableSection IsWritableSlice (slice_sections m) (λ s g. slice_writable s g m w) (slices_of i m.name) (slices_writable i.extensions m.name h.1) in
     (w.0, w.1, (each_append IsWritableSection (map (woven_section affected) m.sections) (added_sections i m)).1 (old, added))
 
-pub woven_writable : (p : ProgramTree) (i : InstructionTree) → IsWritableProgram p → AreWritableInstructions i → IsWritableProgram (woven p i)
+pub woven_writable : (p : ProgramTree) (i : InstructionTree) → IsWritableProgram p → IsWritableInstructions i → IsWritableProgram (woven p i)
 woven_writable p i w h = (each_map IsWritableModule (woven_module i) p).1 (each_weaker IsWritableModule (λ m. IsWritableModule (woven_module i m)) (module_woven i h) p w)
 
 -- the text of what is woven from two texts spells it
