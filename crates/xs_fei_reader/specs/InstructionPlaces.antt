@@ -1,8 +1,8 @@
 -- What is expected at each place of the recogniser of instructions.
-use Rattle.std.specs.Prelude.{◌≡◌, ℕ, ◌+◌, ◌<◌, Bool, true, false, List, [], ◌∷◌, Option, Some, None, take, length, codes}
+use Rattle.std.specs.Prelude.{◌≡◌, ◌+◌, ◌<◌, Bool, true, false, List, [], ◌∷◌, Option, Some, None, take, length, codes}
 use Rattle.xs_tree.specs.Lexemes.{Lexeme}
 use Rattle.xs_fei.specs.Instructions.{InstructionTree}
-use Rattle.xs_fei.specs.SpellsInstructions.{SpellsInstructions, BytesSpellInstructions}
+use Rattle.xs_fei.specs.SpellsInstructions.{SpellsInstructions}
 use Rattle.xs_parse.specs.declared.expected.Reading.{Reading}
 use Rattle.xs_parse.specs.declared.expected.Reading.TheVariants as reading
 use Rattle.xs_parse.specs.declared.machine.Mode.{Mode}
@@ -167,7 +167,3 @@ ends_at _ = false
 abbrev pub begun_view : Option Mode → List Frame → List Sym → Option (List Sym)
 begun_view None s rest = None
 begun_view (Some m) s rest = live (state_with m s) rest
-
--- the bytes spell some instructions
-abbrev pub AreInstructions : List ℕ → Type 0
-AreInstructions bytes = (i : InstructionTree) × BytesSpellInstructions bytes i

@@ -1,3 +1,4 @@
 pub mod Reads
+pub mod Within
 pub mod InstructionRead
 pub mod InstructionPlaces

@@ -1,58 +1,134 @@
--- What is read of the front of a list of lexemes.
-use Rattle.std.specs.Prelude.{◌≡◌, ℕ, Bool, false, List, [], ◌∷◌, ◌++◌, Option, Some, None, codes}
-use Rattle.xs_lexer.specs.declared.token.TokenKind.TheVariants as k
-use Rattle.xs_tree.specs.ProgramTree.{Text}
-use Rattle.xs_tree.specs.Lexemes.{Lexeme, is_reserved, word, num, sign}
+-- What the second pass reads of instructions, part by part, and what it leaves.
+use Rattle.std.specs.Prelude.{ℕ, Bool, true, false, not, List, [], ◌∷◌, Option, Some, None, codes, length, if◌then◌else◌}
+use Rattle.xs_tree.specs.ProgramTree.{Text, Formula}
+use Rattle.xs_tree.specs.Values.{Value, truth, number, symbol}
+use Rattle.xs_tree.specs.Lexemes.{Lexeme}
 use Rattle.xs_fei.specs.declared.instructions.Dynamics.{Dynamics}
-use Rattle.xs_fei.specs.SpellsInstructions.{IsTokenText, SpellsMark, SpellsDynamics}
-use Rattle.xs_parse.specs.Places.{is_word}
-use Rattle.xs_parse.specs.ProgramRead.{Mark, no_mark, mark_of}
+use Rattle.xs_fei.specs.declared.instructions.Dynamics.TheVariants.{Permanent, Transient}
+use Rattle.xs_fei.specs.Instructions.{EffectTree, stuck_at, follows, inverted, random, erroneous, frozen, stuck_at_pick, offset, ramp_down, ModeTree, SliceTree, ExtensionTree, InstructionTree}
+use Rattle.xs_parse.specs.Places.{is_word, text_in}
+use Rattle.xs_parse.specs.ProgramRead.{a_name, s_open, s_close, s_open_brace, s_close_brace, s_comma, s_semicolon, s_colon}
+use Rattle.xs_parse.specs.Reads.{Read, got, none, and_then, rest_of, has_next, expect_at, name_at, expr_at, each_at, some_at}
+use Rattle.xs_parse.specs.ProgramParts.{int_at}
 
--- the front of a list, up to this rest of it, spells this
-pub record Reads {A : Type 0} (P : List Lexeme → A → Type 0) (list rest : List Lexeme) (made : A) : Type 0 where
-  pub front : List Lexeme
-  pub whole : list ≡ front ++ rest
-  pub spelled : P front made
+-- whether this word stands next
+abbrev pub has_word : List ℕ → List Lexeme → Bool
+has_word w [] = false
+has_word w (t ∷ ts) = is_word t w
 
--- the list begins with a lexeme of this mark, and this is the rest
-pub record Begins (mark : Mark) (list rest : List Lexeme) : Type 0 where
-  pub lexeme : Lexeme
-  pub whole : list ≡ lexeme ∷ rest
-  pub marked : mark_of lexeme ≡ mark
+-- this word
+abbrev pub word_at : List ℕ → List Lexeme → Read (Unit {0})
+word_at w ts = if has_word w ts then got tt (rest_of ts) else none
 
--- the list begins with this name, and this is the rest
-pub record BeginsName (list rest : List Lexeme) (name : Text) : Type 0 where
-  pub whole : list ≡ word name ∷ rest
-  pub free : is_reserved name ≡ false
+-- the text of the next lexeme
+abbrev pub text_at : List Lexeme → Read Text
+text_at [] = none
+text_at (t ∷ ts) = got (text_in t) ts
 
--- the list begins with a number of this value, and this is the rest
-pub record BeginsNumber (list rest : List Lexeme) (value : ℕ) : Type 0 where
-  pub digits : Text
-  pub whole : list ≡ num value digits ∷ rest
+abbrev pub const_at : List Lexeme → Read Value
+const_at ts =
+    if has_word (codes "TRUE") ts then got (truth true) (rest_of ts) else
+    (if has_word (codes "FALSE") ts then got (truth false) (rest_of ts) else
+    (if has_next a_name ts then and_then (name_at ts) (λ x r. got (symbol x) r) else and_then (int_at ts) (λ n r. got (number n) r)))
 
--- a token of a mark, and its text
-abbrev pub SpellsToken : List Lexeme → Text → Type 0
-SpellsToken ts x = (t : Lexeme) × (ts ≡ t ∷ []) × IsTokenText t x
+-- what stands behind the word of an effect
+abbrev pub stuck_from : List Lexeme → Read EffectTree
+stuck_from ts = and_then (expect_at s_open ts) (λ _ r. and_then (const_at r) (λ c s. and_then (expect_at s_close s) (λ _ q. got (stuck_at c) q)))
 
--- what the first lexeme is, and whether it is this word
-abbrev pub mark_here : List Lexeme → Mark
-mark_here [] = no_mark
-mark_here (t ∷ ts) = mark_of t
+abbrev pub follows_from : List Lexeme → Read EffectTree
+follows_from ts = and_then (expect_at s_open ts) (λ _ r. and_then (expr_at r) (λ e s. and_then (expect_at s_close s) (λ _ q. got (follows e) q)))
 
-abbrev pub is_word_here : List Lexeme → List ℕ → Bool
-is_word_here [] w = false
-is_word_here (t ∷ ts) w = is_word t w
+abbrev pub offset_from : List Lexeme → Read EffectTree
+offset_from ts = and_then (expect_at s_open ts) (λ _ r. and_then (int_at r) (λ d s. and_then (expect_at s_close s) (λ _ q. got (offset d) q)))
 
--- the list begins with a mode up to its effect, and this is the rest
-pub record ReadsHead (list rest : List Lexeme) (name : Text) (mark : Option (List Text)) (dynamics : Dynamics) : Type 0 where
-  pub of_mark : List Lexeme
-  pub of_dynamics : List Lexeme
-  pub whole : list ≡ word (codes "MODE") ∷ word name ∷ (of_mark ++ sign k.Colon ∷ (of_dynamics ++ rest))
-  pub free : is_reserved name ≡ false
-  pub mark_spelled : SpellsMark of_mark mark
-  pub dynamics_spelled : SpellsDynamics of_dynamics dynamics
+abbrev pub ramp_from : List Lexeme → Read EffectTree
+ramp_from ts =
+    and_then (expect_at s_open ts) (λ _ r. and_then (int_at r) (λ d s. and_then (expect_at s_comma s) (λ _ q. and_then (int_at q) (λ f y. and_then (expect_at s_close y) (λ _ z. got (ramp_down d f) z)))))
 
--- the list begins with the name that a file gives itself, where it does, and this is the rest
-abbrev pub ReadsName : List Lexeme → List Lexeme → Option Text → Type 0
-ReadsName list rest None = list ≡ rest
-ReadsName list rest (Some name) = (list ≡ word (codes "FAULT") ∷ word (codes "EXTENSION") ∷ word name ∷ rest) × (is_reserved name ≡ false)
+-- an effect that is its word alone
+abbrev pub plain_at : List Lexeme → Read EffectTree
+plain_at ts =
+    if has_word (codes "Inverted") ts then got inverted (rest_of ts) else
+    (if has_word (codes "Random") ts then got random (rest_of ts) else
+    (if has_word (codes "Erroneous") ts then got erroneous (rest_of ts) else
+    (if has_word (codes "Frozen") ts then got frozen (rest_of ts) else and_then (word_at (codes "StuckAtPick") ts) (λ _ r. got stuck_at_pick r))))
+
+abbrev pub effect_at : List Lexeme → Read EffectTree
+effect_at ts =
+    if has_word (codes "StuckAt") ts then stuck_from (rest_of ts) else
+    (if has_word (codes "Follows") ts then follows_from (rest_of ts) else
+    (if has_word (codes "Offset") ts then offset_from (rest_of ts) else
+    (if has_word (codes "RampDown") ts then ramp_from (rest_of ts) else plain_at ts)))
+
+abbrev pub dynamics_at : List Lexeme → Read Dynamics
+dynamics_at ts = if has_word (codes "Permanent") ts then got Permanent (rest_of ts) else and_then (word_at (codes "Transient") ts) (λ _ r. got Transient r)
+
+abbrev pub guard_at : List Lexeme → Read (Option Formula)
+guard_at ts = if has_word (codes "WHEN") ts then and_then (expr_at (rest_of ts)) (λ e r. got (Some e) r) else got None ts
+
+-- whether a mark goes on
+abbrev pub in_braces : List Lexeme → Bool
+in_braces ts = not (has_next s_close_brace ts)
+
+abbrev pub texts_at : List Lexeme → Read (List Text)
+texts_at ts = each_at in_braces text_at (length ts) ts
+
+abbrev pub marked_at : List Lexeme → Read (Option (List Text))
+marked_at ts = if has_next s_open_brace ts then and_then (texts_at (rest_of ts)) (λ xs r. and_then (expect_at s_close_brace r) (λ _ s. got (Some xs) s)) else got None ts
+
+-- what stands before the effect of a mode
+pub record HeadTree : Type 0 where
+  pub name : Text
+  pub mark : Option (List Text)
+  pub dynamics : Dynamics
+
+abbrev pub head_tree : Text → Option (List Text) → Dynamics → HeadTree
+head_tree x m d = record { name = x; mark = m; dynamics = d }
+
+abbrev pub head_at : List Lexeme → Read HeadTree
+head_at ts =
+    and_then (word_at (codes "MODE") ts) (λ _ r. and_then (name_at r) (λ x s. and_then (marked_at s) (λ m q. and_then (expect_at s_colon q) (λ _ y. and_then (dynamics_at y) (λ d z. got (head_tree x m d) z)))))
+
+abbrev pub mode_with : HeadTree → EffectTree → Option Formula → ModeTree
+mode_with h e g = record { name = h.name; mark = h.mark; dynamics = h.dynamics; effect = e; guard = g }
+
+abbrev pub mode_at : List Lexeme → Read ModeTree
+mode_at ts = and_then (head_at ts) (λ h r. and_then (effect_at r) (λ e s. and_then (guard_at s) (λ g q. and_then (expect_at s_semicolon q) (λ _ z. got (mode_with h e g) z))))
+
+abbrev pub modes_at : List Lexeme → Read (List ModeTree)
+modes_at ts = some_at (has_word (codes "MODE")) mode_at mode_at ts
+
+abbrev pub slice_at : List Lexeme → Read SliceTree
+slice_at ts =
+    and_then (word_at (codes "SLICE") ts) (λ _ r. and_then (name_at r) (λ x s. and_then (word_at (codes "AFFECTS") s) (λ _ q. and_then (name_at q) (λ y p.
+    and_then (word_at (codes "WITH") p) (λ _ o. and_then (modes_at o) (λ ms z. got (record { name = x; target = y; modes = ms }) z))))))
+
+abbrev pub slices_at : List Lexeme → Read (List SliceTree)
+slices_at ts = each_at (has_word (codes "SLICE")) slice_at (length ts) ts
+
+abbrev pub extension_at : List Lexeme → Read ExtensionTree
+extension_at ts =
+    and_then (word_at (codes "EXTENSION") ts) (λ _ r. and_then (word_at (codes "OF") r) (λ _ s. and_then (word_at (codes "MODULE") s) (λ _ q. and_then (name_at q) (λ x y.
+    and_then (slices_at y) (λ ss z. got (record { of_module = x; slices = ss }) z)))))
+
+abbrev pub extensions_at : List Lexeme → Read (List ExtensionTree)
+extensions_at ts = each_at (has_word (codes "EXTENSION")) extension_at (length ts) ts
+
+-- the name of a file, behind its first word
+abbrev pub given_name_at : List Lexeme → Read Text
+given_name_at ts = and_then (word_at (codes "EXTENSION") ts) (λ _ r. name_at r)
+
+-- the name that a file gives itself, where it does
+abbrev pub file_name_at : List Lexeme → Read (Option Text)
+file_name_at ts = if has_word (codes "FAULT") ts then and_then (given_name_at (rest_of ts)) (λ x r. got (Some x) r) else got None ts
+
+-- the end of the list
+abbrev pub end_at : List Lexeme → Read (Unit {0})
+end_at [] = got tt []
+end_at (t ∷ ts) = none
+
+abbrev pub instructions_of : Option Text → List ExtensionTree → InstructionTree
+instructions_of x xs = record { name = x; extensions = xs }
+
+abbrev pub file_at : List Lexeme → Read InstructionTree
+file_at ts = and_then (file_name_at ts) (λ x r. and_then (extensions_at r) (λ xs s. and_then (end_at s) (λ _ q. got (instructions_of x xs) q)))

@@ -1,11 +1,13 @@
 // The instructions, from the tokens that spell them.
 //
-// Each round of a loop here takes a token at least, so that no loop has more rounds than tokens are left.
-ghost use Rattle.std.specs.Prelude.{◌≡◌, ◌<◌, IfOk, map, length};
-ghost use Rattle.xs_tree.specs.SpellsProgram.{SpellsMany};
+// Each function goes along with a function on lexemes of `specs/Reads.antt`. What stands behind the word of an effect
+// has a function of its own. Each round of a loop here takes a token at least, so that no loop has more rounds than
+// tokens are left.
+ghost use Rattle.std.specs.Prelude.{◌≡◌, Err, IfOk, map};
+ghost use Rattle.xs_parse.specs.declared.fault.BuildFault.TheVariants as stop;
+ghost use Rattle.xs_parse.specs.Reads.{got, deep, none};
 ghost use Rattle.xs_fei.specs.Instructions.{constant_value, effect_tree, guard_tree, mode_tree, slice_tree, extension_tree, instruction_tree};
-ghost use Rattle.xs_fei.specs.SpellsInstructions.{SpellsConst, SpellsEffect, SpellsDynamics, SpellsGuard, SpellsMark, SpellsMode, SpellsSlice, SpellsExtension, SpellsInstructions};
-ghost use Rattle.xs_fei_reader.specs.Reads.{Reads, ReadsHead, ReadsName, SpellsToken};
+ghost use Rattle.xs_fei_reader.specs.Reads as part;
 
 use crate::cursor::Cursor;
 use std::alloc::Global;
@@ -20,15 +22,17 @@ use xs_value::{Dotted, Name};
 
 /// A constant: a truth value, a name or a number.
 fn constant(alloc: Global, cursor: &mut Cursor) -> Result<Constant, BuildFault>
-    ensures { IfOk result (λ made. Reads SpellsConst cursor.old cursor.new (constant_value made)) }
+    ensures ok { IfOk result (λ made. part.const_at cursor.old ≡ got (constant_value made) cursor.new) }
+    ensures deep { result ≡ Err stop.TooDeep → part.const_at cursor.old ≡ deep }
+    ensures none { result ≡ Err stop.NoTree → part.const_at cursor.old ≡ none }
 {
     if cursor.is_word(b"TRUE") {
-        cursor.expect_word(b"TRUE")?;
+        cursor.skip();
         Ok(Constant::Truth(true))
     } else if cursor.is_word(b"FALSE") {
-        cursor.expect_word(b"FALSE")?;
+        cursor.skip();
         Ok(Constant::Truth(false))
-    } else if cursor.mark() == Mark::Name {
+    } else if cursor.is_next(Mark::Name) {
         Ok(Constant::Symbol(cursor.name(alloc)?))
     } else {
         Ok(Constant::Number(cursor.number()?))
@@ -36,9 +40,10 @@ fn constant(alloc: Global, cursor: &mut Cursor) -> Result<Constant, BuildFault>
 }
 
 fn stuck_at(alloc: Global, cursor: &mut Cursor) -> Result<Effect, BuildFault>
-    ensures { IfOk result (λ made. Reads SpellsEffect cursor.old cursor.new (effect_tree made)) }
+    ensures ok { IfOk result (λ made. part.stuck_from cursor.old ≡ got (effect_tree made) cursor.new) }
+    ensures deep { result ≡ Err stop.TooDeep → part.stuck_from cursor.old ≡ deep }
+    ensures none { result ≡ Err stop.NoTree → part.stuck_from cursor.old ≡ none }
 {
-    cursor.expect_word(b"StuckAt")?;
     cursor.expect(Mark::Open)?;
     let constant = constant(alloc, cursor)?;
     cursor.expect(Mark::Close)?;
@@ -46,9 +51,10 @@ fn stuck_at(alloc: Global, cursor: &mut Cursor) -> Result<Effect, BuildFault>
 }
 
 fn follows(alloc: Global, cursor: &mut Cursor) -> Result<Effect, BuildFault>
-    ensures { IfOk result (λ made. Reads SpellsEffect cursor.old cursor.new (effect_tree made)) }
+    ensures ok { IfOk result (λ made. part.follows_from cursor.old ≡ got (effect_tree made) cursor.new) }
+    ensures deep { result ≡ Err stop.TooDeep → part.follows_from cursor.old ≡ deep }
+    ensures none { result ≡ Err stop.NoTree → part.follows_from cursor.old ≡ none }
 {
-    cursor.expect_word(b"Follows")?;
     cursor.expect(Mark::Open)?;
     let value = cursor.expression(alloc)?;
     cursor.expect(Mark::Close)?;
@@ -56,9 +62,10 @@ fn follows(alloc: Global, cursor: &mut Cursor) -> Result<Effect, BuildFault>
 }
 
 fn offset(cursor: &mut Cursor) -> Result<Effect, BuildFault>
-    ensures { IfOk result (λ made. Reads SpellsEffect cursor.old cursor.new (effect_tree made)) }
+    ensures ok { IfOk result (λ made. part.offset_from cursor.old ≡ got (effect_tree made) cursor.new) }
+    ensures deep { result ≡ Err stop.TooDeep → part.offset_from cursor.old ≡ deep }
+    ensures none { result ≡ Err stop.NoTree → part.offset_from cursor.old ≡ none }
 {
-    cursor.expect_word(b"Offset")?;
     cursor.expect(Mark::Open)?;
     let distance = cursor.number()?;
     cursor.expect(Mark::Close)?;
@@ -66,9 +73,10 @@ fn offset(cursor: &mut Cursor) -> Result<Effect, BuildFault>
 }
 
 fn ramp_down(cursor: &mut Cursor) -> Result<Effect, BuildFault>
-    ensures { IfOk result (λ made. Reads SpellsEffect cursor.old cursor.new (effect_tree made)) }
+    ensures ok { IfOk result (λ made. part.ramp_from cursor.old ≡ got (effect_tree made) cursor.new) }
+    ensures deep { result ≡ Err stop.TooDeep → part.ramp_from cursor.old ≡ deep }
+    ensures none { result ≡ Err stop.NoTree → part.ramp_from cursor.old ≡ none }
 {
-    cursor.expect_word(b"RampDown")?;
     cursor.expect(Mark::Open)?;
     let step = cursor.number()?;
     cursor.expect(Mark::Comma)?;
@@ -79,19 +87,21 @@ fn ramp_down(cursor: &mut Cursor) -> Result<Effect, BuildFault>
 
 /// An effect that is its word alone.
 fn plain_effect(cursor: &mut Cursor) -> Result<Effect, BuildFault>
-    ensures { IfOk result (λ made. Reads SpellsEffect cursor.old cursor.new (effect_tree made)) }
+    ensures ok { IfOk result (λ made. part.plain_at cursor.old ≡ got (effect_tree made) cursor.new) }
+    ensures deep { result ≡ Err stop.TooDeep → part.plain_at cursor.old ≡ deep }
+    ensures none { result ≡ Err stop.NoTree → part.plain_at cursor.old ≡ none }
 {
     if cursor.is_word(b"Inverted") {
-        cursor.expect_word(b"Inverted")?;
+        cursor.skip();
         Ok(Effect::Inverted)
     } else if cursor.is_word(b"Random") {
-        cursor.expect_word(b"Random")?;
+        cursor.skip();
         Ok(Effect::Random)
     } else if cursor.is_word(b"Erroneous") {
-        cursor.expect_word(b"Erroneous")?;
+        cursor.skip();
         Ok(Effect::Erroneous)
     } else if cursor.is_word(b"Frozen") {
-        cursor.expect_word(b"Frozen")?;
+        cursor.skip();
         Ok(Effect::Frozen)
     } else {
         cursor.expect_word(b"StuckAtPick")?;
@@ -100,15 +110,21 @@ fn plain_effect(cursor: &mut Cursor) -> Result<Effect, BuildFault>
 }
 
 fn effect(alloc: Global, cursor: &mut Cursor) -> Result<Effect, BuildFault>
-    ensures { IfOk result (λ made. Reads SpellsEffect cursor.old cursor.new (effect_tree made)) }
+    ensures ok { IfOk result (λ made. part.effect_at cursor.old ≡ got (effect_tree made) cursor.new) }
+    ensures deep { result ≡ Err stop.TooDeep → part.effect_at cursor.old ≡ deep }
+    ensures none { result ≡ Err stop.NoTree → part.effect_at cursor.old ≡ none }
 {
     if cursor.is_word(b"StuckAt") {
+        cursor.skip();
         stuck_at(alloc, cursor)
     } else if cursor.is_word(b"Follows") {
+        cursor.skip();
         follows(alloc, cursor)
     } else if cursor.is_word(b"Offset") {
+        cursor.skip();
         offset(cursor)
     } else if cursor.is_word(b"RampDown") {
+        cursor.skip();
         ramp_down(cursor)
     } else {
         plain_effect(cursor)
@@ -116,10 +132,12 @@ fn effect(alloc: Global, cursor: &mut Cursor) -> Result<Effect, BuildFault>
 }
 
 fn dynamics(cursor: &mut Cursor) -> Result<Dynamics, BuildFault>
-    ensures { IfOk result (λ made. Reads SpellsDynamics cursor.old cursor.new (made)) }
+    ensures ok { IfOk result (λ made. part.dynamics_at cursor.old ≡ got made cursor.new) }
+    ensures deep { result ≡ Err stop.TooDeep → part.dynamics_at cursor.old ≡ deep }
+    ensures none { result ≡ Err stop.NoTree → part.dynamics_at cursor.old ≡ none }
 {
     if cursor.is_word(b"Permanent") {
-        cursor.expect_word(b"Permanent")?;
+        cursor.skip();
         Ok(Dynamics::Permanent)
     } else {
         cursor.expect_word(b"Transient")?;
@@ -129,10 +147,12 @@ fn dynamics(cursor: &mut Cursor) -> Result<Dynamics, BuildFault>
 
 /// The condition of a mode, where it has one.
 fn guard(alloc: Global, cursor: &mut Cursor) -> Result<Option<Expr<Dotted>>, BuildFault>
-    ensures { IfOk result (λ made. Reads SpellsGuard cursor.old cursor.new (guard_tree made)) }
+    ensures ok { IfOk result (λ made. part.guard_at cursor.old ≡ got (guard_tree made) cursor.new) }
+    ensures deep { result ≡ Err stop.TooDeep → part.guard_at cursor.old ≡ deep }
+    ensures none { result ≡ Err stop.NoTree → part.guard_at cursor.old ≡ none }
 {
     if cursor.is_word(b"WHEN") {
-        cursor.expect_word(b"WHEN")?;
+        cursor.skip();
         Ok(Some(cursor.expression(alloc)?))
     } else {
         Ok(None)
@@ -141,24 +161,29 @@ fn guard(alloc: Global, cursor: &mut Cursor) -> Result<Option<Expr<Dotted>>, Bui
 
 /// The texts of a mark's tokens, up to its closing brace.
 fn mark_texts(alloc: Global, cursor: &mut Cursor) -> Result<MarkList, BuildFault>
-    ensures { IfOk result (λ made. Reads (SpellsMany SpellsToken) cursor.old cursor.new (made)) }
+    ensures ok { IfOk result (λ made. part.texts_at cursor.old ≡ got made cursor.new) }
+    ensures deep { result ≡ Err stop.TooDeep → part.texts_at cursor.old ≡ deep }
+    ensures none { result ≡ Err stop.NoTree → part.texts_at cursor.old ≡ none }
 {
-    let mut texts = MarkList::new(alloc);
-    for _ in 0..cursor.len() {
-        if cursor.mark() == Mark::CloseBrace {
-            return Ok(texts);
+    let mut list = MarkList::new(alloc);
+    let most = cursor.len();
+    for round in 0..most {
+        if cursor.is_next(Mark::CloseBrace) {
+            return Ok(list);
         }
-        texts.push(cursor.text(alloc)?)?;
+        list.push(cursor.text(alloc)?)?;
     }
-    Ok(texts)
+    Ok(list)
 }
 
 /// The mark of a mode, where it has one.
 fn mark(alloc: Global, cursor: &mut Cursor) -> Result<Option<MarkList>, BuildFault>
-    ensures { IfOk result (λ made. Reads SpellsMark cursor.old cursor.new (made)) }
+    ensures ok { IfOk result (λ made. part.marked_at cursor.old ≡ got made cursor.new) }
+    ensures deep { result ≡ Err stop.TooDeep → part.marked_at cursor.old ≡ deep }
+    ensures none { result ≡ Err stop.NoTree → part.marked_at cursor.old ≡ none }
 {
-    if cursor.mark() == Mark::OpenBrace {
-        cursor.expect(Mark::OpenBrace)?;
+    if cursor.is_next(Mark::OpenBrace) {
+        cursor.skip();
         let texts = mark_texts(alloc, cursor)?;
         cursor.expect(Mark::CloseBrace)?;
         Ok(Some(texts))
@@ -176,7 +201,9 @@ struct ModeHead {
 }
 
 fn mode_head(alloc: Global, cursor: &mut Cursor) -> Result<ModeHead, BuildFault>
-    ensures { IfOk result (λ head. ReadsHead cursor.old cursor.new head.name head.mark head.dynamics) }
+    ensures ok { IfOk result (λ made. part.head_at cursor.old ≡ got (part.head_tree made.name made.mark made.dynamics) cursor.new) }
+    ensures deep { result ≡ Err stop.TooDeep → part.head_at cursor.old ≡ deep }
+    ensures none { result ≡ Err stop.NoTree → part.head_at cursor.old ≡ none }
 {
     cursor.expect_word(b"MODE")?;
     let name = cursor.name(alloc)?;
@@ -191,7 +218,9 @@ fn mode_head(alloc: Global, cursor: &mut Cursor) -> Result<ModeHead, BuildFault>
 }
 
 fn mode(alloc: Global, cursor: &mut Cursor) -> Result<ModeRule, BuildFault>
-    ensures { IfOk result (λ made. Reads SpellsMode cursor.old cursor.new (mode_tree made)) }
+    ensures ok { IfOk result (λ made. part.mode_at cursor.old ≡ got (mode_tree made) cursor.new) }
+    ensures deep { result ≡ Err stop.TooDeep → part.mode_at cursor.old ≡ deep }
+    ensures none { result ≡ Err stop.NoTree → part.mode_at cursor.old ≡ none }
 {
     let head = mode_head(alloc, cursor)?;
     let effect = effect(alloc, cursor)?;
@@ -208,22 +237,26 @@ fn mode(alloc: Global, cursor: &mut Cursor) -> Result<ModeRule, BuildFault>
 
 /// One mode or more.
 fn modes(alloc: Global, cursor: &mut Cursor) -> Result<ModeList, BuildFault>
-    ensures spelled { IfOk result (λ made. Reads (SpellsMany SpellsMode) cursor.old cursor.new (map mode_tree made)) }
-    ensures some { IfOk result (λ made. 0 < length made) }
+    ensures ok { IfOk result (λ made. part.modes_at cursor.old ≡ got (map mode_tree made) cursor.new) }
+    ensures deep { result ≡ Err stop.TooDeep → part.modes_at cursor.old ≡ deep }
+    ensures none { result ≡ Err stop.NoTree → part.modes_at cursor.old ≡ none }
 {
-    let mut modes = ModeList::new(alloc);
-    modes.push(mode(alloc, cursor)?)?;
-    for _ in 0..cursor.len() {
+    let mut list = ModeList::new(alloc);
+    list.push(mode(alloc, cursor)?)?;
+    let most = cursor.len();
+    for round in 0..most {
         if !cursor.is_word(b"MODE") {
-            return Ok(modes);
+            return Ok(list);
         }
-        modes.push(mode(alloc, cursor)?)?;
+        list.push(mode(alloc, cursor)?)?;
     }
-    Ok(modes)
+    Ok(list)
 }
 
 fn slice(alloc: Global, cursor: &mut Cursor) -> Result<Slice, BuildFault>
-    ensures { IfOk result (λ made. Reads SpellsSlice cursor.old cursor.new (slice_tree made)) }
+    ensures ok { IfOk result (λ made. part.slice_at cursor.old ≡ got (slice_tree made) cursor.new) }
+    ensures deep { result ≡ Err stop.TooDeep → part.slice_at cursor.old ≡ deep }
+    ensures none { result ≡ Err stop.NoTree → part.slice_at cursor.old ≡ none }
 {
     cursor.expect_word(b"SLICE")?;
     let name = cursor.name(alloc)?;
@@ -239,20 +272,25 @@ fn slice(alloc: Global, cursor: &mut Cursor) -> Result<Slice, BuildFault>
 }
 
 fn slices(alloc: Global, cursor: &mut Cursor) -> Result<SliceList, BuildFault>
-    ensures { IfOk result (λ made. Reads (SpellsMany SpellsSlice) cursor.old cursor.new (map slice_tree made)) }
+    ensures ok { IfOk result (λ made. part.slices_at cursor.old ≡ got (map slice_tree made) cursor.new) }
+    ensures deep { result ≡ Err stop.TooDeep → part.slices_at cursor.old ≡ deep }
+    ensures none { result ≡ Err stop.NoTree → part.slices_at cursor.old ≡ none }
 {
-    let mut slices = SliceList::new(alloc);
-    for _ in 0..cursor.len() {
+    let mut list = SliceList::new(alloc);
+    let most = cursor.len();
+    for round in 0..most {
         if !cursor.is_word(b"SLICE") {
-            return Ok(slices);
+            return Ok(list);
         }
-        slices.push(slice(alloc, cursor)?)?;
+        list.push(slice(alloc, cursor)?)?;
     }
-    Ok(slices)
+    Ok(list)
 }
 
 fn extension(alloc: Global, cursor: &mut Cursor) -> Result<Extension, BuildFault>
-    ensures { IfOk result (λ made. Reads SpellsExtension cursor.old cursor.new (extension_tree made)) }
+    ensures ok { IfOk result (λ made. part.extension_at cursor.old ≡ got (extension_tree made) cursor.new) }
+    ensures deep { result ≡ Err stop.TooDeep → part.extension_at cursor.old ≡ deep }
+    ensures none { result ≡ Err stop.NoTree → part.extension_at cursor.old ≡ none }
 {
     cursor.expect_word(b"EXTENSION")?;
     cursor.expect_word(b"OF")?;
@@ -263,26 +301,40 @@ fn extension(alloc: Global, cursor: &mut Cursor) -> Result<Extension, BuildFault
 }
 
 fn extensions(alloc: Global, cursor: &mut Cursor) -> Result<ExtensionList, BuildFault>
-    ensures { IfOk result (λ made. Reads (SpellsMany SpellsExtension) cursor.old cursor.new (map extension_tree made)) }
+    ensures ok { IfOk result (λ made. part.extensions_at cursor.old ≡ got (map extension_tree made) cursor.new) }
+    ensures deep { result ≡ Err stop.TooDeep → part.extensions_at cursor.old ≡ deep }
+    ensures none { result ≡ Err stop.NoTree → part.extensions_at cursor.old ≡ none }
 {
-    let mut extensions = ExtensionList::new(alloc);
-    for _ in 0..cursor.len() {
+    let mut list = ExtensionList::new(alloc);
+    let most = cursor.len();
+    for round in 0..most {
         if !cursor.is_word(b"EXTENSION") {
-            return Ok(extensions);
+            return Ok(list);
         }
-        extensions.push(extension(alloc, cursor)?)?;
+        list.push(extension(alloc, cursor)?)?;
     }
-    Ok(extensions)
+    Ok(list)
+}
+
+/// The name behind the word `FAULT`.
+fn given_name(alloc: Global, cursor: &mut Cursor) -> Result<Name, BuildFault>
+    ensures ok { IfOk result (λ made. part.given_name_at cursor.old ≡ got made cursor.new) }
+    ensures deep { result ≡ Err stop.TooDeep → part.given_name_at cursor.old ≡ deep }
+    ensures none { result ≡ Err stop.NoTree → part.given_name_at cursor.old ≡ none }
+{
+    cursor.expect_word(b"EXTENSION")?;
+    cursor.name(alloc)
 }
 
 /// The name that a file gives itself, where it does.
 fn file_name(alloc: Global, cursor: &mut Cursor) -> Result<Option<Name>, BuildFault>
-    ensures { IfOk result (λ name. ReadsName cursor.old cursor.new name) }
+    ensures ok { IfOk result (λ made. part.file_name_at cursor.old ≡ got made cursor.new) }
+    ensures deep { result ≡ Err stop.TooDeep → part.file_name_at cursor.old ≡ deep }
+    ensures none { result ≡ Err stop.NoTree → part.file_name_at cursor.old ≡ none }
 {
     if cursor.is_word(b"FAULT") {
-        cursor.expect_word(b"FAULT")?;
-        cursor.expect_word(b"EXTENSION")?;
-        Ok(Some(cursor.name(alloc)?))
+        cursor.skip();
+        Ok(Some(given_name(alloc, cursor)?))
     } else {
         Ok(None)
     }
@@ -290,13 +342,12 @@ fn file_name(alloc: Global, cursor: &mut Cursor) -> Result<Option<Name>, BuildFa
 
 /// The instructions that all of the tokens spell.
 pub fn file(alloc: Global, cursor: &mut Cursor) -> Result<Instructions, BuildFault>
-    ensures { IfOk result (λ made. SpellsInstructions cursor.old (instruction_tree made)) }
+    ensures ok { IfOk result (λ made. part.file_at cursor.old ≡ got (instruction_tree made) cursor.new) }
+    ensures deep { result ≡ Err stop.TooDeep → part.file_at cursor.old ≡ deep }
+    ensures none { result ≡ Err stop.NoTree → part.file_at cursor.old ≡ none }
 {
     let name = file_name(alloc, cursor)?;
     let extensions = extensions(alloc, cursor)?;
-    if cursor.len() == 0 {
-        Ok(Instructions { name, extensions })
-    } else {
-        Err(BuildFault::NoTree)
-    }
+    cursor.expect_end()?;
+    Ok(Instructions { name, extensions })
 }

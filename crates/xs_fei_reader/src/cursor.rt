@@ -1,18 +1,20 @@
 // What is left of the tokens of instructions.
-ghost use Rattle.std.specs.Prelude.{◌≡◌, ◌∷◌, [], None, IfOk, IfSome, FitsSigned, length, drop};
-ghost use Rattle.std.specs.Int.{w64};
-ghost use Rattle.xs_tree.specs.Spells.{SpellsInt};
-ghost use Rattle.xs_tree.specs.SpellsProgram.{SpellsExpr};
-ghost use Rattle.xs_tree.specs.Lexemes.{word as a_word};
+//
+// Contracts say what a call reads by functions on lexemes: a part and what is behind it, that an expression is too
+// deep, or that no part stands there.
+ghost use Rattle.std.specs.Prelude.{◌≡◌, Err, IfOk, length, drop};
 ghost use Rattle.xs_tree.specs.Written.{tree_of};
+ghost use Rattle.xs_parse.specs.declared.fault.BuildFault.TheVariants as stop;
 ghost use Rattle.xs_parse.specs.MarkView.{mark_view};
-ghost use Rattle.xs_fei_reader.specs.Reads.{Reads, Begins, BeginsName, BeginsNumber, SpellsToken, mark_here, is_word_here};
+ghost use Rattle.xs_parse.specs.Reads.{got, deep, none, mark_at, rest_of, has_next, expect_at, name_at, number_at, expr_at};
+ghost use Rattle.xs_parse.specs.ProgramParts.{int_at};
+ghost use Rattle.xs_fei_reader.specs.Reads.{has_word, word_at, text_at, end_at};
 
 use std::alloc::Global;
 use std::marker::Model;
 use xs_parse::extent::reach;
 use xs_parse::fault::BuildFault;
-use xs_parse::mark::Mark;
+use xs_parse::mark::{Mark, is_same};
 use xs_parse::token::{Digits, TokenText};
 use xs_parse::tree::tree;
 use xs_tree::Expr;
@@ -48,8 +50,8 @@ impl<'t, 'a> Cursor<'t, 'a> {
     }
 
     /// What the next token is, and nothing at the end.
-    pub fn mark(&self) -> Mark
-        ensures { mark_view result ≡ mark_here self.now }
+    fn mark(&self) -> Mark
+        ensures { mark_view result ≡ mark_at self.now }
     {
         match self.rest {
             [token, ..] => token.mark(),
@@ -57,9 +59,16 @@ impl<'t, 'a> Cursor<'t, 'a> {
         }
     }
 
+    /// Whether the next token has this mark.
+    pub fn is_next(&self, mark: Mark) -> bool
+        ensures { result ≡ has_next (mark_view mark) self.now }
+    {
+        is_same(mark, self.mark())
+    }
+
     /// Whether the next token is this word.
     pub fn is_word(&self, word: &[u8]) -> bool
-        ensures { result ≡ is_word_here self.now word.now }
+        ensures { result ≡ has_word word.now self.now }
     {
         match self.rest {
             [token, ..] => token.is_word(word),
@@ -67,125 +76,156 @@ impl<'t, 'a> Cursor<'t, 'a> {
         }
     }
 
-    /// The next token, which is passed over.
-    fn next(&mut self) -> Option<&'t TokenText<'a>>
-        ensures some { IfSome result (λ token. self.old ≡ token.now ∷ self.new) }
-        ensures none { result ≡ None → (self.old ≡ []) × (self.new ≡ []) }
+    /// Passes over the next token, if there is one.
+    pub fn skip(&mut self)
+        ensures { self.new ≡ rest_of self.old }
     {
-        match self.rest {
-            [token, rest @ ..] => {
-                self.rest = rest;
-                Some(token)
-            }
-            [] => None,
+        if let [_, rest @ ..] = self.rest {
+            self.rest = rest;
         }
     }
 
     /// Passes over this number of tokens.
-    fn skip(&mut self, len: usize)
-        ensures { self.new ≡ drop len self.old }
+    #[tactic(auto, using(xs_parse::proofs::ReadLaws::rest_drop))]
+    fn skip_all(&mut self, count: usize)
+        ensures { self.new ≡ drop count self.old }
     {
-        for _ in 0..len {
-            let _token = self.next();
+        for i in 0..count {
+            self.skip();
         }
     }
 
     /// Passes over the next token, which has this mark.
     pub fn expect(&mut self, mark: Mark) -> Result<(), BuildFault>
-        ensures { IfOk result (λ _. Begins (mark_view mark) self.old self.new) }
+        ensures ok { IfOk result (λ _. expect_at (mark_view mark) self.old ≡ got tt self.new) }
+        ensures deep { result ≡ Err stop.TooDeep → expect_at (mark_view mark) self.old ≡ deep }
+        ensures none { result ≡ Err stop.NoTree → expect_at (mark_view mark) self.old ≡ none }
     {
-        match self.next() {
-            Some(token) if token.mark() == mark => Ok(()),
-            _ => Err(BuildFault::NoTree),
+        if self.is_next(mark) {
+            self.skip();
+            Ok(())
+        } else {
+            Err(BuildFault::NoTree)
         }
     }
 
     /// Passes over the next token, which is this word.
     pub fn expect_word(&mut self, word: &[u8]) -> Result<(), BuildFault>
-        ensures { IfOk result (λ _. self.old ≡ a_word word.now ∷ self.new) }
+        ensures ok { IfOk result (λ _. word_at word.now self.old ≡ got tt self.new) }
+        ensures deep { result ≡ Err stop.TooDeep → word_at word.now self.old ≡ deep }
+        ensures none { result ≡ Err stop.NoTree → word_at word.now self.old ≡ none }
     {
-        match self.next() {
-            Some(token) if token.is_word(word) => Ok(()),
-            _ => Err(BuildFault::NoTree),
+        if self.is_word(word) {
+            self.skip();
+            Ok(())
+        } else {
+            Err(BuildFault::NoTree)
+        }
+    }
+
+    /// No token is left.
+    pub fn expect_end(&mut self) -> Result<(), BuildFault>
+        ensures ok { IfOk result (λ _. end_at self.old ≡ got tt self.new) }
+        ensures deep { result ≡ Err stop.TooDeep → end_at self.old ≡ deep }
+        ensures none { result ≡ Err stop.NoTree → end_at self.old ≡ none }
+    {
+        match self.rest {
+            [_, ..] => Err(BuildFault::NoTree),
+            [] => Ok(()),
         }
     }
 
     /// The next token, which is a name.
     pub fn name(&mut self, alloc: Global) -> Result<Name, BuildFault>
-        ensures { IfOk result (λ name. BeginsName self.old self.new name) }
+        ensures ok { IfOk result (λ name. name_at self.old ≡ got name self.new) }
+        ensures deep { result ≡ Err stop.TooDeep → name_at self.old ≡ deep }
+        ensures none { result ≡ Err stop.NoTree → name_at self.old ≡ none }
     {
-        match self.next() {
-            Some(token) => match token.mark() {
-                Mark::Name => Ok(token.name(alloc)?),
+        match self.rest {
+            [token, rest @ ..] => match token.mark() {
+                Mark::Name => {
+                    let name = token.name(alloc)?;
+                    self.rest = rest;
+                    Ok(name)
+                }
                 _ => Err(BuildFault::NoTree),
             },
-            None => Err(BuildFault::NoTree),
+            [] => Err(BuildFault::NoTree),
         }
     }
 
     /// The next token, which is a number.
     fn digits(&mut self) -> Result<Digits, BuildFault>
-        ensures { IfOk result (λ digits. BeginsNumber self.old self.new digits.value) }
+        ensures ok { IfOk result (λ digits. number_at self.old ≡ got digits.value self.new) }
+        ensures deep { result ≡ Err stop.TooDeep → number_at self.old ≡ deep }
+        ensures none { result ≡ Err stop.NoTree → number_at self.old ≡ none }
     {
-        match self.next() {
-            Some(token) => match token.mark() {
-                Mark::Number => Ok(token.digits()),
+        match self.rest {
+            [token, rest @ ..] => match token.mark() {
+                Mark::Number => {
+                    let digits = token.digits();
+                    self.rest = rest;
+                    Ok(digits)
+                }
                 _ => Err(BuildFault::NoTree),
             },
-            None => Err(BuildFault::NoTree),
+            [] => Err(BuildFault::NoTree),
         }
     }
 
     /// The number that stands next, with its sign.
     pub fn number(&mut self) -> Result<i64, BuildFault>
-        ensures spelled { IfOk result (λ n. Reads SpellsInt self.old self.new n) }
-        ensures fits { IfOk result (λ n. FitsSigned w64 n) }
+        ensures ok { IfOk result (λ n. int_at self.old ≡ got n self.new) }
+        ensures deep { result ≡ Err stop.TooDeep → int_at self.old ≡ deep }
+        ensures none { result ≡ Err stop.NoTree → int_at self.old ≡ none }
     {
-        if self.mark() == Mark::Minus {
-            self.expect(Mark::Minus)?;
+        if self.is_next(Mark::Minus) {
+            self.skip();
             Ok(self.digits()?.negated())
         } else {
             Ok(self.digits()?.plain())
         }
     }
 
-    /// The text of the next token, which is one of a mark.
+    /// The text of the next token.
     pub fn text(&mut self, alloc: Global) -> Result<Name, BuildFault>
-        ensures { IfOk result (λ text. Reads SpellsToken self.old self.new text) }
+        ensures ok { IfOk result (λ text. text_at self.old ≡ got text self.new) }
+        ensures deep { result ≡ Err stop.TooDeep → text_at self.old ≡ deep }
+        ensures none { result ≡ Err stop.NoTree → text_at self.old ≡ none }
     {
-        match self.next() {
-            Some(token) => match token.mark() {
-                Mark::CloseBrace => Err(BuildFault::NoTree),
-                _ => Ok(Name::new(alloc, token.text())?),
-            },
-            None => Err(BuildFault::NoTree),
+        match self.rest {
+            [token, rest @ ..] => {
+                let text = Name::new(alloc, token.text())?;
+                self.rest = rest;
+                Ok(text)
+            }
+            [] => Err(BuildFault::NoTree),
         }
     }
 
     /// The longest expression that stands next.
+    #[tactic(auto, using(xs_parse::proofs::ReadLaws::expr_got, xs_parse::proofs::ReadLaws::expr_nested, xs_parse::proofs::ReadLaws::expr_partial, xs_parse::proofs::ReadLaws::expr_unmade))]
     pub fn expression(&mut self, alloc: Global) -> Result<Expr<Dotted>, BuildFault>
-        ensures { IfOk result (λ e. Reads SpellsExpr self.old self.new (tree_of e)) }
+        ensures ok { IfOk result (λ e. expr_at self.old ≡ got (tree_of e) self.new) }
+        ensures deep { result ≡ Err stop.TooDeep → expr_at self.old ≡ deep }
+        ensures none { result ≡ Err stop.NoTree → expr_at self.old ≡ none }
     {
-        let reached = reach(alloc, self.rest)?;
-        let (front, _) = self.rest.split_at(reached.len);
-        let made = whole_expression(alloc, front)?;
-        self.skip(reached.len);
-        Ok(made)
-    }
-}
-
-/// The expression that all of the tokens spell.
-fn whole_expression(alloc: Global, tokens: &[TokenText]) -> Result<Expr<Dotted>, BuildFault>
-    ensures { IfOk result (λ e. SpellsExpr tokens.now (tree_of e)) }
-{
-    let extent = reach(alloc, tokens)?;
-    if extent.len < tokens.len() {
-        Err(BuildFault::NoTree)
-    } else if !extent.whole {
-        Err(BuildFault::NoTree)
-    } else if extent.deep {
-        Err(BuildFault::TooDeep)
-    } else {
-        tree(alloc, tokens)
+        let extent = reach(alloc, self.rest)?;
+        if !extent.whole {
+            return Err(BuildFault::NoTree);
+        }
+        if extent.deep {
+            return Err(BuildFault::TooDeep);
+        }
+        let (front, _) = self.rest.split_at(extent.len);
+        match tree(alloc, front) {
+            Ok(made) => {
+                self.skip_all(extent.len);
+                Ok(made)
+            }
+            Err(BuildFault::TooDeep) => Err(BuildFault::TooDeep),
+            Err(BuildFault::NoTree) => Err(BuildFault::NoTree),
+            Err(BuildFault::OutOfMemory) => Err(BuildFault::OutOfMemory),
+        }
     }
 }

@@ -10,13 +10,15 @@
 //!
 //! `specs/InstructionRead.antt` has the grammar as one in which a token decides what is still expected, and
 //! `specs/InstructionPlaces.antt` what is expected at each place of the first pass; `specs/Reads.antt` says what the
-//! second pass has read of the tokens.
+//! second pass reads of the tokens, part by part, and `specs/Within.antt` which expressions instructions have, as they
+//! are spelled: the guards and the values that `Follows` names.
 //!
 //! A text is read twice, as programs are. The first pass (`place`) makes nothing: outside expressions one token decides
 //! what comes next, so a place in the grammar is all that it keeps, and in an expression the state of the recogniser
 //! of expressions. Only where the whole text spells instructions the second pass (`build`) makes them, and gives
-//! up as soon as an expression would be higher than 1,000. So `TooDeep` never hides another refusal, and both passes
-//! take time in proportion to the tokens.
+//! up at the first expression that is higher than 1,000 or nested deeper. What is spelled is read back as it is
+//! spelled, or found too deep (`read_file` of `proofs/FileReads.antt`). So `TooDeep` never hides another refusal, and
+//! both passes take time in proportion to the tokens.
 //!
 //! ```text
 //! instructions(alloc, b"EXTENSION OF MODULE Lamp")      no slice for the module Lamp

@@ -4,9 +4,10 @@ ghost use Rattle.xs_lexer.specs.declared.token.Token.{Token};
 ghost use Rattle.xs_lexer.specs.Tokens.{HasTokens};
 ghost use Rattle.xs_tree.specs.Lexemes.{lexemes_of};
 ghost use Rattle.xs_parse.specs.Stops.{FaultMeans};
-ghost use Rattle.xs_fei_reader.specs.InstructionPlaces.{IsInstructions, AreInstructions};
+ghost use Rattle.xs_fei_reader.specs.InstructionPlaces.{IsInstructions};
+ghost use Rattle.xs_fei_reader.specs.Within.{HaveInstructionDepths, AreInstructionsTooDeep};
 ghost use Rattle.xs_fei.specs.Instructions.{InstructionTree, instruction_tree};
-ghost use Rattle.xs_fei.specs.SpellsInstructions.{SpellsInstructions, BytesSpellInstructions};
+ghost use Rattle.xs_fei.specs.SpellsInstructions.{BytesSpellInstructions};
 
 use crate::build::file;
 use crate::cursor::Cursor;
@@ -31,7 +32,7 @@ fn check(
     requires split { HasTokens bytes.now tokens.now }
     requires same { texts.now ≡ lexemes_of bytes.now tokens.now }
     ensures spelled { IfOk result (λ _. IsInstructions texts.now) }
-    ensures fault { IfErr result (λ fault. FaultMeans IsInstructions (AreInstructions bytes.now) bytes.now fault) }
+    ensures fault { IfErr result (λ fault. FaultMeans IsInstructions (AreInstructionsTooDeep bytes.now) bytes.now fault) }
 {
     match read_through(alloc, texts)? {
         Reading::Whole => Ok(()),
@@ -40,8 +41,7 @@ fn check(
     }
 }
 
-/// The instructions of tokens that spell some. Some are made of all tokens that spell them within the depths, so that
-/// the last arm is taken only where they are too deep.
+/// The instructions of tokens that spell some, which the second pass reads or finds too deep.
 fn make(
     alloc: Global,
     bytes: &[u8],
@@ -49,47 +49,35 @@ fn make(
     texts: &[TokenText],
 ) -> Result<Instructions, ParseFault>
     requires split { HasTokens bytes.now tokens.now }
+    requires only { (others : List Token) → HasTokens bytes.now others → others ≡ tokens.now }
     requires same { texts.now ≡ lexemes_of bytes.now tokens.now }
     requires spelled { IsInstructions texts.now }
-    ensures spelled { IfOk result (λ i. SpellsInstructions texts.now (instruction_tree i)) }
-    ensures fault { IfErr result (λ fault. FaultMeans IsInstructions (AreInstructions bytes.now) bytes.now fault) }
+    ensures spelled { IfOk result (λ i. BytesSpellInstructions bytes.now (instruction_tree i)) }
+    ensures depths { IfOk result (λ i. HaveInstructionDepths bytes.now (instruction_tree i)) }
+    ensures only { IfOk result (λ i. (j : InstructionTree) → BytesSpellInstructions bytes.now j → instruction_tree i ≡ j) }
+    ensures fault { IfErr result (λ fault. FaultMeans IsInstructions (AreInstructionsTooDeep bytes.now) bytes.now fault) }
 {
     let mut cursor = Cursor::new(texts);
     match file(alloc, &mut cursor) {
         Ok(instructions) => Ok(instructions),
+        Err(BuildFault::TooDeep) => Err(ParseFault::TooDeep),
         Err(BuildFault::OutOfMemory) => Err(ParseFault::OutOfMemory),
-        Err(BuildFault::TooDeep | BuildFault::NoTree) => Err(ParseFault::TooDeep),
+        Err(BuildFault::NoTree) => unreachable!(),
     }
 }
 
-/// The instructions of tokens, where they spell some.
-fn read(
-    alloc: Global,
-    bytes: &[u8],
-    tokens: &TokenList,
-    texts: &[TokenText],
-) -> Result<Instructions, ParseFault>
-    requires short { length bytes.now < 2 ^ 32 }
-    requires split { HasTokens bytes.now tokens.now }
-    requires only { (others : List Token) → HasTokens bytes.now others → others ≡ tokens.now }
-    requires same { texts.now ≡ lexemes_of bytes.now tokens.now }
-    ensures spelled { IfOk result (λ i. BytesSpellInstructions bytes.now (instruction_tree i)) }
-    ensures only { IfOk result (λ i. (j : InstructionTree) → BytesSpellInstructions bytes.now j → instruction_tree i ≡ j) }
-    ensures fault { IfErr result (λ fault. FaultMeans IsInstructions (AreInstructions bytes.now) bytes.now fault) }
-{
-    check(alloc, bytes, tokens, texts)?;
-    make(alloc, bytes, tokens, texts)
-}
-
-/// The instructions that the bytes spell. It takes time in proportion to the bytes.
+/// The instructions that the bytes spell, where each expression in them is at most 1,000 high and nested at most 1,000
+/// deep. It takes time in proportion to the bytes.
 #[tactic(auto, using(xs_parse::proofs::FaultLaws::of_tokens))]
 pub fn instructions(alloc: Global, bytes: &[u8]) -> Result<Instructions, ParseFault>
     requires { length bytes.now < 2 ^ 32 }
     ensures spelled { IfOk result (λ i. BytesSpellInstructions bytes.now (instruction_tree i)) }
+    ensures depths { IfOk result (λ i. HaveInstructionDepths bytes.now (instruction_tree i)) }
     ensures only { IfOk result (λ i. (j : InstructionTree) → BytesSpellInstructions bytes.now j → instruction_tree i ≡ j) }
-    ensures fault { IfErr result (λ fault. FaultMeans IsInstructions (AreInstructions bytes.now) bytes.now fault) }
+    ensures fault { IfErr result (λ fault. FaultMeans IsInstructions (AreInstructionsTooDeep bytes.now) bytes.now fault) }
 {
     let tokens = split(alloc, bytes)?;
     let texts = token_texts(alloc, bytes, &tokens)?;
-    read(alloc, bytes, &tokens, &texts)
+    check(alloc, bytes, &tokens, &texts)?;
+    make(alloc, bytes, &tokens, &texts)
 }

@@ -12,7 +12,8 @@ use Rattle.xs_parse.specs.Within.{HasProgramDepths, IsProgramTooDeep}
 use Rattle.xs_flat.specs.declared.fault.FlatFault.{FlatFault}
 use Rattle.xs_fei.specs.Instructions.{InstructionTree}
 use Rattle.xs_fei.specs.SpellsInstructions.{BytesSpellInstructions}
-use Rattle.xs_fei_reader.specs.InstructionPlaces.{IsInstructions, AreInstructions}
+use Rattle.xs_fei_reader.specs.InstructionPlaces.{IsInstructions}
+use Rattle.xs_fei_reader.specs.Within.{AreInstructionsTooDeep}
 use Rattle.xs_weave.specs.Woven.{woven}
 use Rattle.xs_types.specs.declared.fault.TypeFault.{TypeFault}
 use Rattle.xs_extend.specs.declared.faults.Woven.{Woven}
@@ -62,7 +63,7 @@ abbrev pub IsModelFault : List ℕ → ParseFault → Type 0
 IsModelFault bytes f = FaultMeans IsProgram (IsProgramTooDeep bytes) bytes f
 
 abbrev pub IsFaultOfInstructions : List ℕ → ParseFault → Type 0
-IsFaultOfInstructions bytes f = FaultMeans IsInstructions (AreInstructions bytes) bytes f
+IsFaultOfInstructions bytes f = FaultMeans IsInstructions (AreInstructionsTooDeep bytes) bytes f
 
 -- what is wrong with the bytes of a model: they spell no program within the depths, or it breaks a rule
 pub data IsWrongModel (bytes : List ℕ) (w : Wrong) : Type 0 where

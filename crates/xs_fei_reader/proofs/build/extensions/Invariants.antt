@@ -1,9 +1,9 @@
-use Rattle.xs_tree.specs.SpellsProgram.{SpellsMany}
-use Rattle.std.specs.Prelude.{map}
+use Rattle.std.proofs.Common.{◌≡◌, ◌-◌, map}
+use Rattle.std.specs.Prelude.{codes}
 use Rattle.xs_fei.specs.Instructions.{extension_tree}
-use Rattle.xs_fei.specs.SpellsInstructions.{SpellsExtension}
-use Rattle.xs_fei_reader.specs.Reads.{Reads}
+use Rattle.xs_parse.specs.Reads.{each_at, with_front}
+use Rattle.xs_fei_reader.specs.Reads.{has_word, extensions_at, extension_at}
 use Rattle.xs_fei_reader.proofs.build.extensions.Given as goal
 
-abbrev pub invariant-loop : goal.invariant-loop
-invariant-loop l = Reads (SpellsMany SpellsExtension) l.fn.cursor l.cursor (map extension_tree l.extensions)
+abbrev pub invariant-loop-round : goal.invariant-loop-round
+invariant-loop-round l = extensions_at l.fn.cursor ≡ with_front (map extension_tree l.list) (each_at (has_word (codes "EXTENSION")) extension_at (l.most - l.round) l.cursor)

@@ -1,6 +1,7 @@
-use Rattle.xs_tree.specs.SpellsProgram.{SpellsMany}
-use Rattle.xs_fei_reader.specs.Reads.{Reads, SpellsToken}
+use Rattle.std.proofs.Common.{◌≡◌, ◌-◌}
+use Rattle.xs_parse.specs.Reads.{each_at, with_front}
+use Rattle.xs_fei_reader.specs.Reads.{in_braces, texts_at, text_at}
 use Rattle.xs_fei_reader.proofs.build.mark_texts.Given as goal
 
-abbrev pub invariant-loop : goal.invariant-loop
-invariant-loop l = Reads (SpellsMany SpellsToken) l.fn.cursor l.cursor l.texts
+abbrev pub invariant-loop-round : goal.invariant-loop-round
+invariant-loop-round l = texts_at l.fn.cursor ≡ with_front l.list (each_at in_braces text_at (l.most - l.round) l.cursor)

@@ -1,20 +1,32 @@
+use Rattle.std.proofs.Common.{sym, ap, ◌∙◌, map}
+use Rattle.std.specs.Prelude.{Err, codes}
+use Rattle.std.proofs.lemmas.Result.{err_from_is_err_and}
 use Rattle.xs_fei.specs.Instructions.{mode_tree}
-use Rattle.xs_fei.specs.SpellsInstructions.{SpellsMode}
-use Rattle.xs_fei_reader.proofs.BuildLaws.{none_mapped, one_mapped, some_pushed}
+use Rattle.xs_parse.proofs.ReadLaws.{each_viewed, each_end, each_spent, each_deep, each_none, same_fault}
+use Rattle.xs_fei_reader.specs.Reads.{has_word, modes_at, mode_at}
 use Rattle.xs_fei_reader.proofs.build.modes.Goals as goal
 
-pub loop-init : goal.loop-init
-loop-init c =
-    record {
-      spelled = one_mapped SpellsMode mode_tree c.args.cursor.now c.args.cursor.now c.mode.new.cursor c.new-modes.result c.push.new.self c.in_ok-mode.field-0
-          (none_mapped SpellsMode mode_tree c.args.cursor.now c.new-modes.result c.new-modes.ensures) c.in_ok-mode.ensures c.in_ok-push.ensures.ok;
-      some = some_pushed c.new-modes.result c.push.new.self c.in_ok-mode.field-0 c.in_ok-push.ensures.ok;
-    }
+pub returns-then-not-is_word-clause-ok : goal.returns-then-not-is_word-clause-ok
+returns-then-not-is_word-clause-ok c =
+    each_end (has_word (codes "MODE")) mode_at (modes_at c.args.cursor.now) (map mode_tree c.loop-round.list) c.len-most.result c.loop-round.round c.loop-round.cursor c.loop-round.invariant c.loop-round-test.true
+    (sym c.is_word.ensures ∙ c.if-not-is_word.true)
 
-pub loop-preserved : goal.loop-preserved
-loop-preserved c =
-    record {
-      spelled = one_mapped SpellsMode mode_tree c.args.cursor.now c.loop.cursor c.mode-in-loop.new.cursor c.loop.modes c.push-in-loop.new.self c.in_ok-mode-2.field-0
-          c.loop.invariant.spelled c.in_ok-mode-2.ensures c.in_ok-push-2.ensures.ok;
-      some = some_pushed c.loop.modes c.push-in-loop.new.self c.in_ok-mode-2.field-0 c.in_ok-push-2.ensures.ok;
-    }
+pub returns-in_err-mode-2-clause-deep : goal.returns-in_err-mode-2-clause-deep
+returns-in_err-mode-2-clause-deep c = λ e.
+    let exit = err_from_is_err_and c.from_residual-in_err-mode-2.result c.from_residual-in_err-mode-2.ensures.1 in
+    each_deep (has_word (codes "MODE")) mode_at (modes_at c.args.cursor.now) (map mode_tree c.loop-round.list) c.len-most.result c.loop-round.round c.loop-round.cursor c.loop-round.invariant c.loop-round-test.true
+    (sym c.is_word.ensures ∙ c.if-not-is_word.false) (c.mode-in-loop-round.ensures.deep (c.in_err-mode-2.was ∙ ap Err (sym exit.2 ∙ same_fault (sym exit.1 ∙ e))))
+
+pub returns-in_err-mode-2-clause-none : goal.returns-in_err-mode-2-clause-none
+returns-in_err-mode-2-clause-none c = λ e.
+    let exit = err_from_is_err_and c.from_residual-in_err-mode-2.result c.from_residual-in_err-mode-2.ensures.1 in
+    each_none (has_word (codes "MODE")) mode_at (modes_at c.args.cursor.now) (map mode_tree c.loop-round.list) c.len-most.result c.loop-round.round c.loop-round.cursor c.loop-round.invariant c.loop-round-test.true
+    (sym c.is_word.ensures ∙ c.if-not-is_word.false) (c.mode-in-loop-round.ensures.none (c.in_err-mode-2.was ∙ ap Err (sym exit.2 ∙ same_fault (sym exit.1 ∙ e))))
+
+pub loop-round-preserved : goal.loop-round-preserved
+loop-round-preserved c =
+    each_viewed mode_tree (has_word (codes "MODE")) mode_at (modes_at c.args.cursor.now) c.loop-round.list c.push-in-loop-round.new.self c.len-most.result c.loop-round.round c.loop-round.cursor c.mode-in-loop-round.new.cursor c.in_ok-mode-2.field-0
+    c.loop-round.invariant c.loop-round-test.true (sym c.is_word.ensures ∙ c.if-not-is_word.false) (c.in_ok-mode-2.ensures.ok) c.in_ok-push-2.ensures.ok
+
+pub returns-clause-ok : goal.returns-clause-ok
+returns-clause-ok c = each_spent (has_word (codes "MODE")) mode_at (modes_at c.args.cursor.now) (map mode_tree c.loop-round.list) c.len-most.result c.loop-round.round c.loop-round.cursor c.loop-round.invariant c.loop-round-test.false

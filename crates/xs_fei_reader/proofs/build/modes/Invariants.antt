@@ -1,13 +1,9 @@
-use Rattle.std.proofs.Common.{◌<◌, length}
-use Rattle.std.specs.Prelude.{map}
-use Rattle.xs_tree.specs.SpellsProgram.{SpellsMany}
+use Rattle.std.proofs.Common.{◌≡◌, ◌-◌, map}
+use Rattle.std.specs.Prelude.{codes}
 use Rattle.xs_fei.specs.Instructions.{mode_tree}
-use Rattle.xs_fei.specs.SpellsInstructions.{SpellsMode}
-use Rattle.xs_fei_reader.specs.Reads.{Reads}
+use Rattle.xs_parse.specs.Reads.{each_at, with_front}
+use Rattle.xs_fei_reader.specs.Reads.{has_word, modes_at, mode_at}
 use Rattle.xs_fei_reader.proofs.build.modes.Given as goal
 
-abbrev pub invariant-loop : goal.invariant-loop
-invariant-loop l = record {
-  spelled : Reads (SpellsMany SpellsMode) l.fn.cursor l.cursor (map mode_tree l.modes);
-  some : 0 < length l.modes;
-}
+abbrev pub invariant-loop-round : goal.invariant-loop-round
+invariant-loop-round l = modes_at l.fn.cursor ≡ with_front (map mode_tree l.list) (each_at (has_word (codes "MODE")) mode_at (l.most - l.round) l.cursor)

@@ -1,9 +1,9 @@
-use Rattle.xs_tree.specs.SpellsProgram.{SpellsMany}
-use Rattle.std.specs.Prelude.{map}
+use Rattle.std.proofs.Common.{◌≡◌, ◌-◌, map}
+use Rattle.std.specs.Prelude.{codes}
 use Rattle.xs_fei.specs.Instructions.{slice_tree}
-use Rattle.xs_fei.specs.SpellsInstructions.{SpellsSlice}
-use Rattle.xs_fei_reader.specs.Reads.{Reads}
+use Rattle.xs_parse.specs.Reads.{each_at, with_front}
+use Rattle.xs_fei_reader.specs.Reads.{has_word, slices_at, slice_at}
 use Rattle.xs_fei_reader.proofs.build.slices.Given as goal
 
-abbrev pub invariant-loop : goal.invariant-loop
-invariant-loop l = Reads (SpellsMany SpellsSlice) l.fn.cursor l.cursor (map slice_tree l.slices)
+abbrev pub invariant-loop-round : goal.invariant-loop-round
+invariant-loop-round l = slices_at l.fn.cursor ≡ with_front (map slice_tree l.list) (each_at (has_word (codes "SLICE")) slice_at (l.most - l.round) l.cursor)

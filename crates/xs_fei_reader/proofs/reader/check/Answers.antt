@@ -1,5 +1,6 @@
 use Rattle.std.proofs.Common.{refl, subst, length}
-use Rattle.xs_fei_reader.specs.InstructionPlaces.{ListReads, AreInstructions}
+use Rattle.xs_fei_reader.specs.InstructionPlaces.{ListReads}
+use Rattle.xs_fei_reader.specs.Within.{AreInstructionsTooDeep}
 use Rattle.xs_fei_reader.proofs.PlaceLaws.{whole_spelled, check_ends, check_stops}
 use Rattle.xs_fei_reader.proofs.reader.check.Goals as goal
 
@@ -14,5 +15,5 @@ returns-in-Unfinished-clause-fault c =
 pub returns-in-Stopped-clause-fault : goal.returns-in-Stopped-clause-fault
 returns-in-Stopped-clause-fault c =
     let reads = subst (ListReads c.args.texts.now) c.in-Stopped.is c.in_ok-read_through.ensures in
-    check_stops (AreInstructions c.args.bytes.now) c.args.bytes.now c.args.tokens.now c.args.texts.now c.in-Stopped.i c.stop_at.result
+    check_stops (AreInstructionsTooDeep c.args.bytes.now) c.args.bytes.now c.args.tokens.now c.args.texts.now c.in-Stopped.i c.stop_at.result
     c.requires.split c.requires.same reads.0 reads.1 reads.2 c.stop_at.ensures
