@@ -1,7 +1,12 @@
+ghost use Rattle.std.specs.Prelude.{◌<◌, ◌^◌, length};
+
 use crate::run::run;
 use crate::status::Status;
 use std::alloc::Global;
+use std::test::Fail as TestFail;
 use xs_desk::{CallKind, Fail, FailList, FileList, MemoryDesk, NamedFile};
+use xs_parse::expression;
+use xs_tree::print_expr;
 use xs_value::OutOfMemory;
 
 const LAMP: &[u8] =
@@ -257,5 +262,40 @@ fn modules_are_extended_at_each_instance(rt: HostRuntime) -> Result<(), OutOfMem
     let status = run(alloc, &WORDS, &mut desk);
     assert!(rt; status == Status::Done && desk.said() == POWER_SAID);
     assert!(rt; contains(desk.file("x"), SENSOR));
+    Ok(())
+}
+
+/// An expression, and how it is printed.
+static PRINTED: [(&[u8], &[u8]); 11] = [
+    (b"a -> b -> c", b"(a -> (b -> c))"),
+    (b"!a = b", b"((!a) = b)"),
+    (b"a->b", b"(a -> b)"),
+    (b"a-b", b"a-b"),
+    (b"a - b", b"(a - b)"),
+    (b"a--b", b"a"),
+    (b"a /-- x --/ & b", b"(a & b)"),
+    (b"a | b xor c & d", b"((a | b) xor (c & d))"),
+    (b"a ? b : c ? d : e", b"(a ? b : (c ? d : e))"),
+    (b"a <-> b -> c", b"((a <-> b) -> c)"),
+    (b"-(1..3) in {a, b}", b"((-(1..3)) in {a, b})"),
+];
+
+/// What is printed of an expression that is read, and nothing of what is not.
+fn read_and_printed(alloc: Global, text: &[u8]) -> Result<Vec<u8>, OutOfMemory>
+    requires { length text.now < 2 ^ 32 }
+{
+    match expression(alloc, text) {
+        Ok(read) => print_expr(alloc, &read),
+        Err(_) => Ok(Vec::new(alloc)),
+    }
+}
+
+#[test]
+fn an_expression_is_printed_as_it_groups(rt: HostRuntime) -> Result<(), TestFail> {
+    for (text, wanted) in &PRINTED {
+        assert!(rt; text.len() < 100);
+        let made = read_and_printed(rt.alloc(), text)?;
+        assert_eq!(rt; made.as_slice(), *wanted);
+    }
     Ok(())
 }
