@@ -6,7 +6,7 @@ use Rattle.xs_tree.proofs.ValueLaws.{same_text_refl}
 use Rattle.xs_tree.specs.Scope.{Place, Role, find_module}
 use Rattle.xs_tree.specs.Trace.{Each}
 use Rattle.xs_flattening.specs.Items.{Item, a_declaration, a_definition, an_assignment, some_constants, an_init, an_invar, a_trans, NumberedItem, items_of, items_named, items_found, numbered_from, modules_from, Visit, visits_inside, visits_of, walk_items, walk, visits, variable_declared, variables_of}
-use Rattle.xs_flattening.specs.Rules.{names_of_item, is_name_again, is_missing_instance, IsAccepted}
+use Rattle.xs_flattening.specs.Rules.{names_of_item, is_name_again, is_missing_instance, IsWalkable}
 use Rattle.xs_flattening.proofs.Reaches.{each_left, each_right}
 use Rattle.xs_flattening.proofs.Lists.{each_more}
 use Rattle.xs_flattening.proofs.Conditions.{each_join}
@@ -138,7 +138,7 @@ is_under : (at : Place) (v : Visit) → BelongsSome at v → Under at v.place
 is_under at v (y, own p q) = ([], p)
 is_under at v (y, inner u) = (u.0 ++ y ∷ [], u.1 ∙ places_joined u.0 y at)
 
-module _ (p : ProgramTree) (accepted : IsAccepted p) where
+module _ (p : ProgramTree) (walkable : IsWalkable p) where
   abbrev GoesApart : (Place → Text → List Visit) → Type 0
   GoesApart go = (at : Place) (name : Text) (m : ModuleTree) → find_module p name ≡ Some m → Each (VisitFacts p) (go at name) →
       Apart (go at name) × Each (λ (v : Visit). Under at v.place) (go at name)
@@ -224,7 +224,7 @@ module _ (p : ProgramTree) (accepted : IsAccepted p) where
   walk_apart zero on at name m found h = (tt, tt)
   walk_apart (suc n) on at name m found h =
       let a : Apart (walk_items (walk n p (name ∷ on)) (name ∷ on) at (items_named p name)) × Each (BelongsSome at) (walk_items (walk n p (name ∷ on)) (name ∷ on) at (items_named p name)) =
-      items_apart (walk n p (name ∷ on)) (walk_apart n (name ∷ on)) (name ∷ on) at m (items_named p name) (facts_named p accepted name m found) (found_ordered p 1 [] name) h in
+      items_apart (walk n p (name ∷ on)) (walk_apart n (name ∷ on)) (name ∷ on) at m (items_named p name) (facts_named p walkable name m found) (found_ordered p 1 [] name) h in
       (a.0, each_more (BelongsSome at) (λ (v : Visit). Under at v.place) (walk_items (walk n p (name ∷ on)) (name ∷ on) at (items_named p name)) (is_under at) a.1)
 
   keeps_differ : (v : Visit) (vs : List Visit) → Each (Differ v) vs → Each (Differ v) (flat_map (λ w. variable_declared w w.decl.what) vs)
@@ -249,4 +249,4 @@ module _ (p : ProgramTree) (accepted : IsAccepted p) where
 
   -- no variable is listed twice
   pub variables_apart : (m : ModuleTree) → find_module p (codes "main") ≡ Some m → Apart (variables_of p)
-  variables_apart m e = keeps_apart (visits p) (walk_apart (length p) [] [] (codes "main") m e (all_visit_facts p accepted)).0
+  variables_apart m e = keeps_apart (visits p) (walk_apart (length p) [] [] (codes "main") m e (all_visit_facts p walkable)).0

@@ -6,9 +6,8 @@ use Rattle.xs_tree.proofs.ValueLaws.{same_text_refl, same_text_equal}
 use Rattle.xs_tree.specs.Scope.{Role, state, input, frozen_role, Kind, a_define, an_instance, undeclared, formal_from, kind_declared, kind_in_decls, kind_in_defines, kind_in_sections, kind_after_formals, kind_in, find_module}
 use Rattle.xs_tree.specs.Trace.{Each}
 use Rattle.xs_flattening.specs.Items.{Item, a_declaration, a_definition, an_assignment, some_constants, an_init, an_invar, a_trans, NumberedItem, NumberedModule, items_of_section, items_of, numbered_from, modules_from, modules_of, numbered_items, items_found}
-use Rattle.xs_flattening.specs.Rules.{names_of_item, is_name_again, double_name, a_header, an_item, IsKept, IsAccepted}
+use Rattle.xs_flattening.specs.Rules.{names_of_item, is_name_again, double_name, a_header, an_item, IsKept, module_sites, IsWalkable}
 use Rattle.xs_flattening.proofs.Now.{neither}
-use Rattle.xs_flattening.proofs.Reaches.{each_left}
 use Rattle.xs_flattening.proofs.Lists.{each_of_map, each_more}
 use Rattle.xs_flattening.proofs.Conditions.{each_flat}
 use Rattle.xs_tree.specs.Texts.{same_text, is_among}
@@ -142,14 +141,14 @@ with_both : {A : Type 0} (P Q R : A → Type 0) (xs : List A) → ((x : A) → P
 with_both P Q R [] f h k = tt
 with_both P Q R (x ∷ xs) f h k = (f x h.0 k.0, with_both P Q R xs f h.1 k.1)
 
-pub all_facts : (p : ProgramTree) → IsAccepted p → Each (λ (m : NumberedModule). Each (ItemFacts m.tree) (numbered_items m)) (modules_of p)
+pub all_facts : (p : ProgramTree) → IsWalkable p → Each (λ (m : NumberedModule). Each (ItemFacts m.tree) (numbered_items m)) (modules_of p)
 all_facts p h =
     each_more _ _ (modules_of p)
     (λ (m : NumberedModule) k. with_both (λ (i : NumberedItem). (after : List Item) × (items_of m.tree ≡ i.before ++ i.item ∷ after)) (λ i. IsKept p (an_item m i)) (ItemFacts m.tree) (numbered_items m)
     (λ i s kept. record { after = s.0; among = s.1; fresh = not_true _ (kept double_name) })
     (split_each (items_of m.tree) (suc m.number) [] (items_of m.tree) refl) (each_of_map (IsKept p) (an_item m) (numbered_items m) k.1))
     ((each_flat (IsKept p) (λ m. a_header m ∷ map (an_item m) (numbered_items m)) (modules_of p)).0
-    (each_left (IsKept p) (flat_map (λ m. a_header m ∷ map (an_item m) (numbered_items m)) (modules_of p)) _ h.1))
+    h.modules)
 
 pub found_facts : (p : ProgramTree) (n : ℕ) (before : List ModuleTree) (x : Text) (m : ModuleTree) → find_module p x ≡ Some m →
     Each (λ (k : NumberedModule). Each (ItemFacts k.tree) (numbered_items k)) (modules_from n before p) → Each (ItemFacts m) (items_found (modules_from n before p) x)

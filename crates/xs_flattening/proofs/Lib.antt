@@ -11,6 +11,7 @@ pub mod MoreBroken
 pub mod KindLaws
 pub mod Pigeons
 pub mod Places
+pub mod Walkable
 pub mod Flattening
 pub mod Through
 pub mod LookLaws

@@ -12,7 +12,7 @@ use Rattle.xs_flattening.specs.Items.{Visit, variables_of}
 use Rattle.xs_flattening.specs.Rules.{IsAccepted}
 use Rattle.xs_flattening.specs.Model.{same_place, IsVariableOf, EachBoth, IsFlatOf}
 use Rattle.xs_flattening.proofs.Apart.{Differ, Apart, variables_apart}
-use Rattle.xs_flattening.proofs.Flattening.{main_is_there}
+use Rattle.xs_flattening.proofs.Walkable.{accepted_walkable, main_is_there}
 use Rattle.xs_tree.specs.Texts.{same_text}
 
 same_place_refl : (at : Place) → same_place at at ≡ true
@@ -79,5 +79,5 @@ beside (y ∷ ys) (v ∷ vs) n h (suc i) x e =
 -- the law: each list of as many values as variables is a valuation's
 pub has_valuation : (p : ProgramTree) (m : FlatModel) → IsAccepted p → IsFlatOf p m → (v : List Value) → length v ≡ length m.variables → (named : Valuation) × Numbers m v named
 has_valuation p m accepted is v n =
-    let main : (k : ModuleTree) × (find_module p (codes "main") ≡ Some k) = main_is_there p accepted in
-    (value_beside m.variables v, beside m.variables v n (all_other m (variables_of p) m.variables is.variables (variables_apart p accepted main.0 main.1)))
+    let main : (k : ModuleTree) × (find_module p (codes "main") ≡ Some k) = main_is_there p (accepted_walkable p accepted) in
+    (value_beside m.variables v, beside m.variables v n (all_other m (variables_of p) m.variables is.variables (variables_apart p (accepted_walkable p accepted) main.0 main.1)))

@@ -6,7 +6,7 @@ use Rattle.xs_tree.specs.Scope.{Place, Role, Kind, a_formal, a_variable, a_defin
 use Rattle.xs_tree.specs.Trace.{Each, IsInstance}
 use Rattle.xs_flattening.specs.Flat.{FlatInstance}
 use Rattle.xs_flattening.specs.Items.{Item, a_declaration, a_definition, an_assignment, some_constants, an_init, an_invar, a_trans, NumberedItem, items_of, items_named, items_found, numbered_from, modules_from, modules_of, numbered_items, Visit, visits_inside, visits_of, walk_items, walk, visits, instance_declared, instances_of_visit, instances_of}
-use Rattle.xs_flattening.specs.Rules.{is_missing_instance, is_on_path, no_such_module, module_loop, a_header, an_item, visit_sites, IsKept, IsAccepted}
+use Rattle.xs_flattening.specs.Rules.{is_missing_instance, is_on_path, no_such_module, module_loop, a_header, an_item, visit_sites, IsKept, IsWalkable}
 use Rattle.xs_flattening.proofs.Reaches.{each_left, each_right}
 use Rattle.xs_flattening.proofs.Lists.{get_left}
 use Rattle.xs_flattening.proofs.Conditions.{each_join, each_at}
@@ -65,7 +65,7 @@ module_inside : (p : ProgramTree) (at : Place) (m : ModuleTree) (x : Text) (role
     IsInstance p at m → kind_in m x ≡ kind_declared role (instance n actuals) → find_module p n ≡ Some k → IsInstance p (x ∷ at) k
 module_inside p at m x role n actuals k is kind found = ap (λ o. module_of_kind p (kind_at o x)) is ∙ ap (module_of_kind p) kind ∙ found
 
-module _ (p : ProgramTree) (accepted : IsAccepted p) where
+module _ (p : ProgramTree) (walkable : IsWalkable p) where
   abbrev Goes : (Place → Text → List Visit) → Type 0
   Goes go = (at : Place) (name : Text) (m : ModuleTree) → IsInstance p at m → find_module p name ≡ Some m → Each (VisitFacts p) (go at name) → Each (Real p) (go at name)
 
@@ -105,7 +105,7 @@ module _ (p : ProgramTree) (accepted : IsAccepted p) where
       (items_real go goes on at m items is facts.1 (each_right (VisitFacts p) (visits_of go on at i.number i.item) (walk_items go on at items) h))
 
   pub facts_named : (name : Text) (m : ModuleTree) → find_module p name ≡ Some m → Each (ItemFacts m) (items_named p name)
-  facts_named name m e = found_facts p 1 [] name m e (all_facts p accepted)
+  facts_named name m e = found_facts p 1 [] name m e (all_facts p walkable)
 
   walk_real : (n : ℕ) (on : List Text) → Goes (walk n p on)
   walk_real zero on at name m is found h = tt
@@ -113,8 +113,7 @@ module _ (p : ProgramTree) (accepted : IsAccepted p) where
       items_real (walk n p (name ∷ on)) (walk_real n (name ∷ on)) (name ∷ on) at m (items_named p name) is (facts_named name m found) h
 
   pub all_visit_facts : Each (VisitFacts p) (visits p)
-  all_visit_facts = visits_kept p [] (visits p) (each_left (IsKept p) (visit_sites [] (visits p)) _
-      (each_right (IsKept p) (flat_map (λ m. a_header m ∷ map (an_item m) (numbered_items m)) (modules_of p)) _ accepted.1))
+  all_visit_facts = visits_kept p [] (visits p) walkable.visits
 
   pub has_main : (m : ModuleTree) → find_module p (codes "main") ≡ Some m → Each (Real p) (visits p)
   has_main m e = walk_real (length p) [] [] (codes "main") m e e all_visit_facts

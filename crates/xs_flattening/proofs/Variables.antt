@@ -7,12 +7,12 @@ use Rattle.xs_tree.specs.Scope.{Place, Role, Kind, a_variable, a_define, kind_de
 use Rattle.xs_tree.specs.Trace.{Each, IsVariable}
 use Rattle.xs_flattening.specs.Flat.{FlatVariable, FlatModel}
 use Rattle.xs_flattening.specs.Items.{Item, a_declaration, a_definition, an_assignment, some_constants, an_init, an_invar, a_trans, NumberedItem, items_of, items_named, Visit, visits_of, walk, visits, variable_declared, variables_of}
-use Rattle.xs_flattening.specs.Rules.{IsAccepted}
+use Rattle.xs_flattening.specs.Rules.{IsWalkable}
 use Rattle.xs_flattening.specs.Model.{IsVariableOf, EachBoth, IsFlatOf}
 use Rattle.xs_flattening.proofs.Conditions.{each_join, each_at}
 use Rattle.xs_flattening.proofs.KindLaws.{kind_in_items, sections_kind}
 use Rattle.xs_flattening.proofs.Places.{In, in_flat, Real, Walked, in_items, found_at, walked, has_main}
-use Rattle.xs_flattening.proofs.Flattening.{main_is_there}
+use Rattle.xs_flattening.proofs.Walkable.{main_is_there}
 use Rattle.xs_tree.specs.Texts.{same_text}
 
 -- a variable is declared by an item
@@ -76,7 +76,7 @@ both_at_second R (x ∷ xs) [] i y h e = absurd h
 both_at_second R (x ∷ xs) (z ∷ ys) zero y h e = let same : z ≡ y = cc in (x, refl, subst (R x) same h.0)
 both_at_second R (x ∷ xs) (z ∷ ys) (suc i) y h e = both_at_second R xs ys i y h.1 e
 
-module _ (p : ProgramTree) (accepted : IsAccepted p) where
+module _ (p : ProgramTree) (walkable : IsWalkable p) where
   abbrev RealVariable : Visit → Type 0
   RealVariable v = IsVariable p v.place v.decl.name v.role v.decl.what
 
@@ -96,8 +96,8 @@ module _ (p : ProgramTree) (accepted : IsAccepted p) where
       (v : Visit) × In v (variables_of p) × (v.place ≡ at) × (v.decl.name ≡ x) × (v.role ≡ role) × (v.decl.what ≡ type)
   listed at x role type is = (visit, in_flat (λ (v : Visit). variable_declared v v.decl.what) visit visit (visits p) within.0 within.1 in_own, refl, by.name, refl, by.type)
     where
-      w : Walked p accepted at is.0
-      w = walked p accepted at is.0 is.1
+      w : Walked p walkable at is.0
+      w = walked p walkable at is.0 is.1
 
       in_sections : (o : Option ℕ) (k : Kind) → kind_after_formals o k ≡ a_variable role type → k ≡ a_variable role type
       in_sections None k e = e
@@ -107,7 +107,7 @@ module _ (p : ProgramTree) (accepted : IsAccepted p) where
       by = declared_as (items_of is.0) x role type (sections_kind is.0.sections x ∙ in_sections (formal_from 0 is.0.formals x) (kind_in_sections is.0.sections x) is.2)
 
       item : (y : NumberedItem) × (slice_get (items_named p w.name) by.place ≡ Some y) × (y.item ≡ a_declaration role by.decl)
-      item = found_at p accepted p 1 [] w.name is.0 by.place (a_declaration role by.decl) w.found by.is
+      item = found_at p walkable p 1 [] w.name is.0 by.place (a_declaration role by.decl) w.found by.is
 
       go : Place → Text → List Visit
       go = walk w.left p (w.name ∷ w.on)
@@ -116,7 +116,7 @@ module _ (p : ProgramTree) (accepted : IsAccepted p) where
       visit = record { place = at; on_path = w.name ∷ w.on; number = item.0.number; role = role; decl = by.decl }
 
       within : In visit (visits p)
-      within = w.sub visit (in_items p accepted go (w.name ∷ w.on) at visit (items_named p w.name) by.place item.0 item.1
+      within = w.sub visit (in_items p walkable go (w.name ∷ w.on) at visit (items_named p w.name) by.place item.0 item.1
           (subst (λ i. In visit (visits_of go (w.name ∷ w.on) at item.0.number i)) (sym item.2) (0, refl)))
 
       in_own : In visit (variable_declared visit by.decl.what)
@@ -137,8 +137,8 @@ module _ (p : ProgramTree) (accepted : IsAccepted p) where
       from : (i : ℕ) × (v : FlatVariable) × (slice_get m.variables i ≡ Some v) × (v.place ≡ at) × (v.name ≡ x) → (role : Role) × (type : DeclaredTree) × IsVariable p at x role type
       from h =
           let b : (v : Visit) × (slice_get (variables_of p) h.0 ≡ Some v) × IsVariableOf m v h.1 = both_at_second (IsVariableOf m) (variables_of p) m.variables h.0 h.1 is.variables h.2 in
-          let main : (k : ModuleTree) × (find_module p (codes "main") ≡ Some k) = main_is_there p accepted in
-          let real : RealVariable b.0 = each_at RealVariable (variables_of p) h.0 b.0 (real_variables (visits p) (has_main p accepted main.0 main.1)) b.1 in (
+          let main : (k : ModuleTree) × (find_module p (codes "main") ≡ Some k) = main_is_there p walkable in
+          let real : RealVariable b.0 = each_at RealVariable (variables_of p) h.0 b.0 (real_variables (visits p) (has_main p walkable main.0 main.1)) b.1 in (
             b.0.role,
             b.0.decl.what,
             subst (λ y. IsVariable p at y b.0.role b.0.decl.what) (sym b.2.name ∙ h.4)

@@ -65,11 +65,17 @@ abbrev pub visit_sites : List Visit → List Visit → List Site
 visit_sites before [] = []
 visit_sites before (v ∷ vs) = a_visit before v ∷ visit_sites (before ++ v ∷ []) vs
 
+-- the places of group one: modules by items
+abbrev pub module_sites : ProgramTree → List Site
+module_sites p = flat_map (λ m. a_header m ∷ map (an_item m) (numbered_items m)) (modules_of p)
+
+-- the places of group three: instances by items
+abbrev pub use_sites : ProgramTree → List Site
+use_sites p = flat_map (λ at. map (a_use at) (items_named p at.module_name)) (instances_of p)
+
 -- all places in the order in which they are tried: modules by items, the walk, instances by items
 abbrev pub sites : ProgramTree → List Site
-sites p =
-    the_program ∷ (flat_map (λ m. a_header m ∷ map (an_item m) (numbered_items m)) (modules_of p)
-    ++ (visit_sites [] (visits p) ++ flat_map (λ at. map (a_use at) (items_named p at.module_name)) (instances_of p)))
+sites p = the_program ∷ (module_sites p ++ (visit_sites [] (visits p) ++ use_sites p))
 
 -- Rules 1 to 4.
 abbrev pub is_missing : Option ModuleTree → Bool
@@ -395,3 +401,9 @@ pub record IsFirstBroken (p : ProgramTree) (rule : Rule) (item : ℕ) : Type 0 w
 
 abbrev pub IsAccepted : ProgramTree → Type 0
 IsAccepted p = Each (IsKept p) (sites p)
+
+-- The rules of modules and of the walk are kept, so that a program has instances and variables.
+pub record IsWalkable (p : ProgramTree) : Type 0 where
+  pub program : IsKept p the_program
+  pub modules : Each (IsKept p) (module_sites p)
+  pub visits : Each (IsKept p) (visit_sites [] (visits p))

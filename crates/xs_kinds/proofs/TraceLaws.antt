@@ -16,7 +16,8 @@ use Rattle.xs_flattening.proofs.Lists.{each_more}
 use Rattle.xs_flattening.proofs.KindLaws.{ItemFacts, kind_of_declaration}
 use Rattle.xs_flattening.proofs.Sections.{items_are}
 use Rattle.xs_flattening.proofs.Places.{has_main, walked, facts_named}
-use Rattle.xs_flattening.proofs.Flattening.{main_is_there, flattening}
+use Rattle.xs_flattening.proofs.Flattening.{flattening}
+use Rattle.xs_flattening.proofs.Walkable.{accepted_walkable, main_is_there}
 use Rattle.xs_flattening.proofs.Variables.{variables_are}
 use Rattle.xs_flattening.proofs.Numbered.{has_valuation}
 use Rattle.xs_kinds.specs.Laws.{values_by_number, DomainsAreThose, TracesAreThose}
@@ -43,9 +44,9 @@ its_kind m n before (a_trans e) f = tt
 
 kinds_of_items : (p : ProgramTree) → IsAccepted p → (at : Place) (m : ModuleTree) → IsInstance p at m → Each (IsItsKind m) (items_of m)
 kinds_of_items p accepted at m is =
-    let w = walked p accepted at m is in
+    let w = walked p (accepted_walkable p accepted) at m is in
     (items_are (IsItsKind m) p 1 [] w.name m w.found).0
-    (each_more (ItemFacts m) (λ (i : NumberedItem). IsItsKind m i.item) (items_named p w.name) (λ i f. its_kind m i.number i.before i.item f) (facts_named p accepted w.name m w.found))
+    (each_more (ItemFacts m) (λ (i : NumberedItem). IsItsKind m i.item) (items_named p w.name) (λ i f. its_kind m i.number i.before i.item f) (facts_named p (accepted_walkable p accepted) w.name m w.found))
 
 -- What holds of all variables of an instance holds of its declarations.
 abbrev VariablesHold : ProgramTree → Valuation → Type 0
@@ -118,9 +119,9 @@ told_at p v (y ∷ xs) (suc i) x n h e = told_at p v xs i x n.1 h.1 e
 
 variables_hold : (p : ProgramTree) (m : FlatModel) → IsAccepted p → IsFlatOf p m → (v : Valuation) → AreInDomains m.variables (values_by_number m v) → VariablesHold p v
 variables_hold p m accepted is v h at x role type var' =
-    let main : (k : ModuleTree) × (find_module p (codes "main") ≡ Some k) = main_is_there p accepted in
-    let reals = numbered p m (variables_of p) m.variables is.variables (real_all p (visits p) (has_main p accepted main.0 main.1)) in
-    let found = (variables_are p accepted m is at x).0 (role, type, var') in
+    let main : (k : ModuleTree) × (find_module p (codes "main") ≡ Some k) = main_is_there p (accepted_walkable p accepted) in
+    let reals = numbered p m (variables_of p) m.variables is.variables (real_all p (visits p) (has_main p (accepted_walkable p accepted) main.0 main.1)) in
+    let found = (variables_are p (accepted_walkable p accepted) m is at x).0 (role, type, var') in
     let told = told_at p v m.variables found.0 found.1 reals h found.2 in
     let here : IsVariable p at x told.real.role found.1.declared =
     subst (λ y. IsVariable p at y told.real.role found.1.declared) found.4 (subst (λ a. IsVariable p a found.1.name told.real.role found.1.declared) found.3 told.real.is) in

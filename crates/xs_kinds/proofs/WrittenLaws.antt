@@ -16,7 +16,7 @@ use Rattle.xs_flattening.specs.Model.{IsVariableOf, EachBoth, IsFlatOf}
 use Rattle.xs_flattening.specs.Resolved.{Resolver, IsSound, IsResolved}
 use Rattle.xs_flattening.proofs.Conditions.{each_join}
 use Rattle.xs_flattening.proofs.Places.{Real, has_main}
-use Rattle.xs_flattening.proofs.Flattening.{main_is_there}
+use Rattle.xs_flattening.proofs.Walkable.{accepted_walkable, main_is_there}
 use Rattle.xs_flattening.specs.FlatTrace.{AreInDomains}
 use Rattle.xs_kinds.specs.Judged.{Judged, truth_class, not_boolean, unless_class}
 use Rattle.xs_kinds.specs.Safe.{IsOfClass, IsOfKind}
@@ -114,8 +114,8 @@ domains_from p m v h (w ∷ ws) (x ∷ xs) b r =
 
 pub domains : (p : ProgramTree) (m : FlatModel) → IsAccepted p → IsFlatOf p m → (v : Valuation) → InDomains p v → AreInDomains m.variables (values_by_number m v)
 domains p m accepted is v h =
-    let main : (k : ModuleTree) × (find_module p (codes "main") ≡ Some k) = main_is_there p accepted in
-    domains_from p m v h (variables_of p) m.variables is.variables (real_all p (visits p) (has_main p accepted main.0 main.1))
+    let main : (k : ModuleTree) × (find_module p (codes "main") ≡ Some k) = main_is_there p (accepted_walkable p accepted) in
+    domains_from p m v h (variables_of p) m.variables is.variables (real_all p (visits p) (has_main p (accepted_walkable p accepted) main.0 main.1))
 
 -- the law of flat expressions, at the values of valuations
 kept : (p : ProgramTree) (m : FlatModel) → IsAccepted p → (is : IsFlatOf p m) → IsTyped m → (r : Resolver) → IsSound p m is.written r → (now next : Valuation) → InDomains p now → InDomains p next →
