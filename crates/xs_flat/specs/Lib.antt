@@ -6,3 +6,8 @@ pub mod ModelTree
 pub mod Traced
 pub mod ItemTree
 pub mod Symbols
+pub mod SceneTree
+pub mod NeedsTree
+pub mod FoundAt
+pub mod Walked
+pub mod Judging

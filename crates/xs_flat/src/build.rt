@@ -6,7 +6,13 @@ ghost use Rattle.xs_flat.specs.ClosedFormulas.{AreClosed};
 ghost use Rattle.xs_tree.specs.declared.expr.Op.TheVariants as op;
 ghost use Rattle.xs_tree.specs.Tree.{binary, next_of, leaf as leaf_tree};
 ghost use Rattle.xs_tree.specs.Written.{tree_of};
-ghost use Rattle.xs_flat.specs.Faults.{IsPastMain};
+ghost use Rattle.xs_flat.specs.Faults.{IsPastMain, IsWant};
+ghost use Rattle.xs_flat.specs.SceneTree.{IsScene, program_of};
+ghost use Rattle.xs_flat.specs.NeedsTree.{AreNeeds};
+ghost use Rattle.xs_flat.specs.Walked.{AreDeclared};
+ghost use Rattle.xs_flat.specs.ModelTree.{model_tree};
+ghost use Rattle.xs_flattening.specs.Rules.{IsAccepted};
+ghost use Rattle.xs_flattening.specs.Model.{IsFlatOf};
 
 use crate::bounds::Bounds;
 use crate::copy::copy_path;
@@ -38,9 +44,14 @@ pub(crate) fn build(
     needs: &Needs,
     variables: VariableList,
 ) -> Result<FlatModel, FlatFault>
-    requires { AreVariables variables }
+    requires scene { IsScene scene.now }
+    requires needs { AreNeeds (program_of scene.now) needs.now }
+    requires accepted { IsAccepted (program_of scene.now) }
+    requires variables { AreVariables variables }
+    requires declared { AreDeclared (program_of scene.now) variables }
     ensures closed { IfOk result IsClosedModel }
-    ensures fault { IfErr result IsPastMain }
+    ensures flat { IfOk result (λ model. IsFlatOf (program_of scene.now) (model_tree model)) }
+    ensures want { IfErr result IsWant }
 {
     let instances = instances_of(alloc, scene)?;
     let symbols = symbol_names(alloc, &scene.symbols)?;

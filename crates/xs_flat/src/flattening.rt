@@ -8,7 +8,11 @@ ghost use Rattle.xs_flat.specs.Shape.{shape};
 ghost use Rattle.xs_flat.specs.Closed.{is_closed, bounds_of, IsClosedModel};
 ghost use Rattle.xs_flat.specs.ModelTree.{model_tree};
 ghost use Rattle.xs_flattening.specs.FlatTrace.{NamesOwn};
-ghost use Rattle.xs_flat.specs.Faults.{first_of, IsPastMain};
+ghost use Rattle.xs_flat.specs.Faults.{first_of, IsPastMain, IsFaultOf};
+ghost use Rattle.std.specs.Prelude.{Some};
+ghost use Rattle.xs_flattening.specs.Rules.{IsAccepted};
+ghost use Rattle.xs_flattening.specs.Model.{IsFlatOf};
+ghost use Rattle.xs_flat.specs.SceneTree.{module_from};
 
 use crate::bounds::Bounds;
 use crate::build::build;
@@ -32,6 +36,9 @@ use xs_value::Dotted;
 pub fn flatten(alloc: Global, p: &Program) -> Result<FlatModel, FlatFault>
     ensures closed { IfOk result IsClosedModel }
     ensures own { IfOk result (λ m. NamesOwn (model_tree m)) }
+    ensures accepted { IfOk result (λ m. IsAccepted (program_tree p.now)) }
+    ensures flat { IfOk result (λ m. IsFlatOf (program_tree p.now) (model_tree m)) }
+    ensures fault { IfErr result (IsFaultOf (program_tree p.now)) }
     ensures no_main { IsErrOf result (record { rule = NoMain; item = 0 }) ↔ (find_module (program_tree p.now) (codes "main") ≡ None) }
 {
     match main_place(p.modules.as_slice()) {
@@ -45,9 +52,12 @@ pub fn flatten(alloc: Global, p: &Program) -> Result<FlatModel, FlatFault>
 
 /// The flat model of a program whose module `main` stands at a place.
 fn flatten_from(alloc: Global, p: &Program, main: usize) -> Result<FlatModel, FlatFault>
+    requires main { module_from 0 (program_tree p.now) (codes "main") ≡ Some main }
     ensures closed { IfOk result IsClosedModel }
     ensures own { IfOk result (λ m. NamesOwn (model_tree m)) }
-    ensures fault { IfErr result IsPastMain }
+    ensures accepted { IfOk result (λ m. IsAccepted (program_tree p.now)) }
+    ensures flat { IfOk result (λ m. IsFlatOf (program_tree p.now) (model_tree m)) }
+    ensures fault { IfErr result (IsFaultOf (program_tree p.now)) }
 {
     let modules = Modules::read(alloc, p, main)?;
     let walk = Walk::whole(alloc, &modules)?;

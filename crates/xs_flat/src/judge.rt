@@ -1,7 +1,16 @@
 //! The rules of names, targets and moments, tried by instances, then items, then numbers.
 
 ghost use Rattle.std.specs.Prelude.{◌≡◌, ◌∷◌, [], IfOk, IfErr};
-ghost use Rattle.xs_flat.specs.Faults.{first_of, IsPastMain, IsRulePastMain};
+ghost use Rattle.std.specs.Prelude.{Some, slice_get};
+ghost use Rattle.xs_tree.specs.Trace.{Each};
+ghost use Rattle.xs_tree.specs.Written.{tree_of};
+ghost use Rattle.xs_flattening.specs.Flat.{FlatInstance};
+ghost use Rattle.xs_flattening.specs.Items.{instances_of};
+ghost use Rattle.xs_flattening.specs.Rules.{IsKept, use_sites};
+ghost use Rattle.xs_flat.specs.SceneTree.{IsScene, program_of};
+ghost use Rattle.xs_flat.specs.NeedsTree.{AreNeeds};
+ghost use Rattle.xs_flat.specs.Judging.{IsJudged};
+ghost use Rattle.xs_flat.specs.Faults.{first_of, IsPastMain, IsRulePastMain, IsFaultOf};
 ghost use Rattle.xs_flat.specs.declared.fault.Rule.TheVariants.{NoSuchName, DefineLoop, NextHere, InputHere};
 
 use crate::fault::{FlatFault, Rule};
@@ -38,7 +47,10 @@ pub(crate) struct Judged {
 
 /// The first fault of the items of all instances, or Ok where there is none.
 pub(crate) fn judge(alloc: Global, scene: &Scene<'_>, needs: &Needs) -> Result<(), FlatFault>
-    ensures { IfErr result IsPastMain }
+    requires scene { IsScene scene.now }
+    requires needs { AreNeeds (program_of scene.now) needs.now }
+    ensures kept { IfOk result (λ _. Each (IsKept (program_of scene.now)) (use_sites (program_of scene.now))) }
+    ensures fault { IfErr result (IsFaultOf (program_of scene.now)) }
 {
     for spot in 0..scene.spots.len() {
         judge_instance(alloc, scene, needs, spot)?;
@@ -270,7 +282,11 @@ pub(crate) fn judge_value(
     needs: &Needs,
     spot: usize,
     value: &Expr<Dotted>,
-) -> Result<Judged, OutOfMemory> {
+) -> Result<Judged, OutOfMemory>
+    requires scene { IsScene scene.now }
+    requires needs { AreNeeds (program_of scene.now) needs.now }
+    ensures judged { (at : FlatInstance) → slice_get (instances_of (program_of scene.now)) spot ≡ Some at → IfOk result (IsJudged (program_of scene.now) at.place (tree_of value.now)) }
+{
     let uses = Uses::of_value(alloc, value)?;
     let mut judged = Judged {
         no_value: false,

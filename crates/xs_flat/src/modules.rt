@@ -1,10 +1,11 @@
 //! The modules of a program by name, and the names of each module: the rules that a program keeps or
 //! breaks before any instance is made.
 
-ghost use Rattle.std.specs.Prelude.{◌≡◌, ◌↔◌, codes, is_some, map, IfErr, IsTrue};
-ghost use Rattle.xs_tree.specs.ProgramTree.{module_tree};
+ghost use Rattle.std.specs.Prelude.{◌≡◌, ◌↔◌, codes, is_some, map, Some, IfOk, IfErr, IsTrue};
+ghost use Rattle.xs_tree.specs.ProgramTree.{module_tree, program_tree};
 ghost use Rattle.xs_tree.specs.Scope.{find_module};
-ghost use Rattle.xs_flat.specs.Faults.{IsPastMain};
+ghost use Rattle.xs_flat.specs.Faults.{IsPastMain, IsFaultOf};
+ghost use Rattle.xs_flat.specs.SceneTree.{AreModules, module_from};
 
 use crate::fault::{FlatFault, Rule};
 use crate::items::{Item, ItemList, Numbered, number_after};
@@ -28,9 +29,10 @@ pub(crate) struct Names<'a> {
     pub locals: IndexMap<&'a [u8], Local>,
 }
 
-/// The modules in written order, and the place of each name's module in it.
+/// The modules of a program in written order, and the place of each name's module in it.
 #[derive(Drop)]
 pub(crate) struct Modules<'a> {
+    pub program: &'a Program,
     pub list: Vec<Names<'a>>,
     pub places: IndexMap<&'a [u8], usize>,
     pub main: usize,
@@ -39,9 +41,13 @@ pub(crate) struct Modules<'a> {
 impl<'a> Modules<'a> {
     /// The modules of a program that breaks no rule from 2 to 4. The module `main` stands at a place.
     pub(crate) fn read(alloc: Global, p: &'a Program, main: usize) -> Result<Modules<'a>, FlatFault>
-        ensures { IfErr result IsPastMain }
+        requires main { module_from 0 (program_tree p.now) (codes "main") ≡ Some main }
+        ensures modules { IfOk result AreModules }
+        ensures program { IfOk result (λ modules. modules.program.now ≡ p.now) }
+        ensures fault { IfErr result (IsFaultOf (program_tree p.now)) }
     {
         let mut modules = Modules {
+            program: p,
             list: Vec::new(alloc),
             places: IndexMap::new(alloc),
             main,
@@ -133,7 +139,7 @@ impl<'a> Names<'a> {
 /// The place of the first module called `main`.
 #[tactic(auto, using(crate::proofs::MainLaws::found, crate::proofs::MainLaws::skipped_at))]
 pub(crate) fn main_place(modules: &[Module]) -> Option<usize>
-    ensures { is_some result ≡ is_some (find_module (map module_tree modules.now) (codes "main")) }
+    ensures place { result ≡ module_from 0 (map module_tree modules.now) (codes "main") }
 {
     for (k, module) in modules.iter().enumerate() {
         if is_main(&module.name) {

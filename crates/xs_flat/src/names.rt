@@ -1,6 +1,16 @@
 //! What names mean. The formals are answered first, once and for all; then a look-up goes through the
 //! parts of a name, one after another.
 
+ghost use Rattle.std.specs.Prelude.{◌≡◌, length, Some, IfOk, option_map, slice_get};
+ghost use Rattle.xs_tree.specs.ProgramTree.{program_tree};
+ghost use Rattle.xs_flattening.specs.Flat.{FlatInstance};
+ghost use Rattle.xs_flattening.specs.Items.{instances_of};
+ghost use Rattle.xs_flattening.specs.Rules.{IsWalkable};
+ghost use Rattle.xs_flattening.specs.Model.{EachBoth};
+ghost use Rattle.xs_flat.specs.ItemTree.{item_tree};
+ghost use Rattle.xs_flat.specs.SceneTree.{AreModules, IsSpotWalked, IsScene, IsFound, program_of, items_at, number_and_item};
+ghost use Rattle.xs_flat.specs.FoundAt.{local_at, own_at, formal_at, part_at, found_at, told};
+
 use crate::items::{Item, number_of};
 use crate::modules::{Local, Modules};
 use crate::symbols::symbols_of;
@@ -51,7 +61,13 @@ impl<'a> Scene<'a> {
         alloc: Global,
         modules: Modules<'a>,
         spots: Vec<Spot<'a>>,
-    ) -> Result<Scene<'a>, OutOfMemory> {
+    ) -> Result<Scene<'a>, OutOfMemory>
+        requires modules { AreModules modules.entry }
+        requires walkable { IsWalkable (program_tree modules.entry.program.now) }
+        requires spots { EachBoth (IsSpotWalked (program_tree modules.entry.program.now)) (instances_of (program_tree modules.entry.program.now)) spots.items }
+        ensures scene { IfOk result IsScene }
+        ensures program { IfOk result (λ scene. scene.modules.program.now ≡ modules.entry.program.now) }
+    {
         let symbols = symbols_of(alloc, &modules)?;
         let mut scene = Scene {
             modules,
@@ -87,7 +103,9 @@ impl<'a> Scene<'a> {
     }
 
     /// The number of items of an instance's module.
-    pub(crate) fn item_count(&self, spot: usize) -> usize {
+    pub(crate) fn item_count(&self, spot: usize) -> usize
+        ensures count { IsScene self.now → result ≡ length (items_at (program_of self.now) spot) }
+    {
         match self.spots.as_slice().get(spot) {
             Some(spot) => spot.own.len(),
             None => 0,
@@ -139,7 +157,9 @@ impl<'a> Scene<'a> {
     }
 
     /// The item at a place of an instance's module, with its number.
-    pub(crate) fn item_at(&self, spot: usize, place: usize) -> Option<(Item<'a>, u32)> {
+    pub(crate) fn item_at(&self, spot: usize, place: usize) -> Option<(Item<'a>, u32)>
+        ensures item { IsScene self.now → option_map (λ r. (r.1, item_tree r.0)) result ≡ option_map number_and_item (slice_get (items_at (program_of self.now) spot) place) }
+    {
         let module = self.spots.as_slice().get(spot)?.module;
         let names = self.modules.list.as_slice().get(module)?;
         let numbered = names.items.as_slice().get(place)?;
@@ -147,7 +167,9 @@ impl<'a> Scene<'a> {
     }
 
     /// What the item at a place means at an instance.
-    pub(crate) fn own(&self, spot: usize, place: usize) -> Meaning {
+    pub(crate) fn own(&self, spot: usize, place: usize) -> Meaning
+        ensures own { result ≡ own_at self.now spot place }
+    {
         match self.spots.as_slice().get(spot) {
             Some(spot) => match spot.own.as_slice().get(place) {
                 Some(meaning) => *meaning,
@@ -166,7 +188,9 @@ impl<'a> Scene<'a> {
     }
 
     /// What is known of an instance's formal.
-    pub(crate) fn formal(&self, spot: usize, formal: usize) -> Formal {
+    pub(crate) fn formal(&self, spot: usize, formal: usize) -> Formal
+        ensures formal { result ≡ formal_at self.now spot formal }
+    {
         match self.formals.as_slice().get(spot) {
             Some(formals) => match formals.as_slice().get(formal) {
                 Some(known) => *known,
@@ -194,7 +218,9 @@ impl<'a> Scene<'a> {
         }
     }
 
-    pub(crate) fn local(&self, spot: usize, part: &Name) -> Option<Local> {
+    pub(crate) fn local(&self, spot: usize, part: &Name) -> Option<Local>
+        ensures local { result ≡ local_at self.now spot part.now }
+    {
         let module = self.spots.as_slice().get(spot)?.module;
         let names = self.modules.list.as_slice().get(module)?;
         Some(*names.locals.get(part.text())?)
@@ -211,7 +237,10 @@ impl<'a> Scene<'a> {
     }
 
     /// What a name means at an instance, once all formals are answered.
-    pub(crate) fn meaning(&self, spot: usize, name: &Dotted) -> Meaning {
+    pub(crate) fn meaning(&self, spot: usize, name: &Dotted) -> Meaning
+        ensures value { result ≡ found_at self.now spot name.now }
+        ensures found { IsScene self.now → (at : FlatInstance) → slice_get (instances_of (program_of self.now)) spot ≡ Some at → IsFound (program_of self.now) at.place name.now result }
+    {
         let mut here = spot;
         let mut rest = name.parts();
         while let [part, more @ ..] = rest {
@@ -233,7 +262,9 @@ impl<'a> Scene<'a> {
 }
 
 /// What a formal means. One on a circle, or not answered, is part of a loop.
-pub(crate) fn told(known: Formal) -> Meaning {
+pub(crate) fn told(known: Formal) -> Meaning
+    ensures { result ≡ told known }
+{
     match known {
         Formal::Means(meaning) => meaning,
         Formal::Circle | Formal::Begun | Formal::Unknown => Meaning::Loop,

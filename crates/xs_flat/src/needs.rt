@@ -1,5 +1,9 @@
 //! What definitions need: their order, which of them are on a circle, and which read an input.
 
+ghost use Rattle.std.specs.Prelude.{IfOk};
+ghost use Rattle.xs_flat.specs.SceneTree.{IsScene, program_of};
+ghost use Rattle.xs_flat.specs.NeedsTree.{AreNeeds};
+
 use crate::model::Role;
 use crate::names::{Defined, Scene};
 use crate::uses::Uses;
@@ -83,7 +87,10 @@ impl Links {
 
 impl Needs {
     /// The needs of a scene's definitions.
-    pub(crate) fn of_scene(alloc: Global, scene: &Scene<'_>) -> Result<Needs, OutOfMemory> {
+    pub(crate) fn of_scene(alloc: Global, scene: &Scene<'_>) -> Result<Needs, OutOfMemory>
+        requires { IsScene scene.now }
+        ensures needs { IfOk result (AreNeeds (program_of scene.now)) }
+    {
         let count = scene.definitions.len();
         let mut links = Links::none(alloc, count)?;
         let mut inputs = Vec::from_elem(alloc, false, count)?;

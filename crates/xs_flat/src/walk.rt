@@ -2,7 +2,10 @@
 
 ghost use Rattle.std.specs.Prelude.{◌≡◌, false, IfOk, IfErr, OnOk};
 ghost use Rattle.xs_flat.specs.Closed.{AreVariables, is_instance};
-ghost use Rattle.xs_flat.specs.Faults.{IsPastMain};
+ghost use Rattle.xs_flat.specs.Faults.{IsPastMain, IsFaultOf};
+ghost use Rattle.xs_flat.specs.SceneTree.{AreModules};
+ghost use Rattle.xs_flat.specs.Walked.{IsWhole};
+ghost use Rattle.xs_tree.specs.ProgramTree.{program_tree};
 
 use crate::fault::{FlatFault, Rule};
 use crate::items::{Item, Numbered, number_of};
@@ -60,8 +63,10 @@ struct Standing {
 impl<'a> Walk<'a> {
     /// All instances and variables of a program that breaks no rule from 5 to 7 and passes no limit.
     pub(crate) fn whole(alloc: Global, modules: &Modules<'a>) -> Result<Walk<'a>, FlatFault>
+        requires { AreModules modules.now }
         ensures variables { IfOk result (λ walk. AreVariables walk.variables) }
-        ensures fault { IfErr result IsPastMain }
+        ensures whole { IfOk result (IsWhole (program_tree modules.now.program.now)) }
+        ensures fault { IfErr result (IsFaultOf (program_tree modules.now.program.now)) }
     {
         let mut walk = Walk {
             spots: Vec::new(alloc),
@@ -81,7 +86,8 @@ impl<'a> Walk<'a> {
 
     /// The instances and the variables.
     pub(crate) fn into_parts(self) -> (Vec<Spot<'a>>, VariableList)
-        ensures { result.1 ≡ self.entry.variables }
+        ensures spots { result.0 ≡ self.entry.spots }
+        ensures variables { result.1 ≡ self.entry.variables }
     {
         let Walk {
             spots,

@@ -1,0 +1,15 @@
+-- What is judged of a value at an instance.
+use Rattle.std.specs.Prelude.{◌≡◌, ◌↔◌, true}
+use Rattle.xs_tree.specs.ProgramTree.{Formula, ProgramTree}
+use Rattle.xs_tree.specs.Scope.{Place}
+use Rattle.xs_tree.specs.Trace.{AtSome}
+use Rattle.xs_flattening.specs.Resolved.{leaves_in, has_next}
+use Rattle.xs_flattening.specs.Rules.{SomeHasNoValue, GivesInput, next_under_next, leaves_under}
+use Rattle.xs_flat.specs.declared.judge.Judged.{Judged}
+
+pub record IsJudged (p : ProgramTree) (at : Place) (e : Formula) (j : Judged) : Type 0 where
+  pub no_value : (j.no_value ≡ true) ↔ SomeHasNoValue p at e
+  pub next : j.next ≡ has_next e
+  pub nested_next : j.nested_next ≡ next_under_next e
+  pub input : (j.input ≡ true) ↔ AtSome (GivesInput p at) (leaves_in e)
+  pub next_input : (j.next_input ≡ true) ↔ AtSome (GivesInput p at) (leaves_under e)
