@@ -11,3 +11,4 @@ pub mod NeedsTree
 pub mod FoundAt
 pub mod Walked
 pub mod Judging
+pub mod Flagged

@@ -1,6 +1,10 @@
 //! The names of an expression.
 
-ghost use Rattle.std.specs.Prelude.{◌≡◌};
+ghost use Rattle.std.specs.Prelude.{◌≡◌, false, IfOk};
+ghost use Rattle.xs_tree.specs.Written.{tree_of};
+ghost use Rattle.xs_flattening.specs.Resolved.{has_next};
+ghost use Rattle.xs_flattening.specs.Rules.{next_under_next};
+ghost use Rattle.xs_flat.specs.Flagged.{flagged};
 
 use std::alloc::Global;
 use std::marker::Model;
@@ -48,7 +52,11 @@ pub(crate) struct Uses<'a> {
 
 impl<'a> Uses<'a> {
     /// The names of an expression.
-    pub(crate) fn of_value(alloc: Global, e: &'a Expr<Dotted>) -> Result<Uses<'a>, OutOfMemory> {
+    pub(crate) fn of_value(alloc: Global, e: &'a Expr<Dotted>) -> Result<Uses<'a>, OutOfMemory>
+        ensures names { IfOk result (λ uses. uses.names.items ≡ flagged false (tree_of e.now)) }
+        ensures next { IfOk result (λ uses. uses.has_next ≡ has_next (tree_of e.now)) }
+        ensures nested { IfOk result (λ uses. uses.nested_next ≡ next_under_next (tree_of e.now)) }
+    {
         let mut uses = Uses {
             names: Vec::new(alloc),
             has_next: false,
