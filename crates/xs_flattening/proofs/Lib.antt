@@ -21,5 +21,6 @@ pub mod Lamp
 pub mod Variables
 pub mod Apart
 pub mod Numbered
+pub mod KeysApart
 pub mod HistoryLaws
 pub mod HistoryTraces
