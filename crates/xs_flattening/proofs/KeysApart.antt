@@ -1,20 +1,18 @@
 -- No instance and no definition is listed twice.
 use Rattle.std.proofs.Common.{◌≡◌, ℕ, zero, suc, ◌≤◌, arith, Bool, true, false, ◌||◌, List, [], ◌∷◌, ◌++◌, Option, Some, None, length, refl, sym, ◌∙◌, ap, subst}
 use Rattle.std.specs.Prelude.{flat_map, codes, slice_get}
-use Rattle.xs_tree.specs.ProgramTree.{Text, Path, Formula, DeclaredTree, boolean, range, members, instance, DeclTree, DefineTree, ModuleTree, ProgramTree}
+use Rattle.xs_tree.specs.ProgramTree.{Text, Path, Formula, DeclaredTree, boolean, range, members, instance, ModuleTree, ProgramTree}
 use Rattle.xs_tree.proofs.ValueLaws.{same_text_refl}
 use Rattle.xs_tree.specs.Scope.{Place, Key, define_key, actual_key, find_module, plain_name}
 use Rattle.xs_tree.specs.Texts.{same_text, is_among}
 use Rattle.xs_tree.specs.Trace.{Each, IsInstance}
 use Rattle.xs_flattening.specs.Flat.{FlatInstance}
-use Rattle.xs_flattening.specs.Items.{Item, a_declaration, a_definition, an_assignment, some_constants, an_init, an_invar, a_trans, NumberedItem, items_named, Visit, visits, walk, instance_declared, instances_of_visit, instances_of}
+use Rattle.xs_flattening.specs.Items.{Item, a_declaration, a_definition, an_assignment, some_constants, an_init, an_invar, a_trans, NumberedItem, items_named, Visit, visits, instance_declared, instances_of_visit, instances_of}
 use Rattle.xs_flattening.specs.Rules.{names_of_item, is_name_again, IsWalkable}
 use Rattle.xs_flattening.specs.Model.{Root, root_of_actual, roots_of_actuals, roots_of_type, roots_of_item, roots_of}
-use Rattle.xs_flattening.proofs.Reaches.{each_left, each_right}
 use Rattle.xs_flattening.proofs.Lists.{each_more}
 use Rattle.xs_flattening.proofs.Conditions.{each_join, each_at, each_from}
 use Rattle.xs_flattening.proofs.KindLaws.{ItemFacts}
-use Rattle.xs_flattening.proofs.Sections.{AreInstances}
 use Rattle.xs_flattening.proofs.Places.{facts_named, all_visit_facts, are_instances}
 use Rattle.xs_flattening.proofs.Apart.{Differ, Apart, LaterThan, Ordered, among_right, found_ordered, walk_apart}
 use Rattle.xs_flattening.proofs.Walkable.{main_is_there}

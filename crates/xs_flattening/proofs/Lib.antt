@@ -22,5 +22,7 @@ pub mod Variables
 pub mod Apart
 pub mod Numbered
 pub mod KeysApart
+pub mod OneTree
+pub mod OneModel
 pub mod HistoryLaws
 pub mod HistoryTraces

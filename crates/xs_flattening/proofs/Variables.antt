@@ -62,14 +62,14 @@ declared_as (an_invar f ∷ items) x role what e = later items _ x role what (de
 declared_as (a_trans f ∷ items) x role what e = later items _ x role what (declared_as items x role what e)
 
 -- two lists that go together, at a place
-both_at : {A B : Type 0} (R : A → B → Type 0) (xs : List A) (ys : List B) (i : ℕ) (x : A) → EachBoth R xs ys → slice_get xs i ≡ Some x → (y : B) × (slice_get ys i ≡ Some y) × R x y
+pub both_at : {A B : Type 0} (R : A → B → Type 0) (xs : List A) (ys : List B) (i : ℕ) (x : A) → EachBoth R xs ys → slice_get xs i ≡ Some x → (y : B) × (slice_get ys i ≡ Some y) × R x y
 both_at R [] [] i x h e = cc
 both_at R [] (y ∷ ys) i x h e = absurd h
 both_at R (z ∷ xs) [] i x h e = absurd h
 both_at R (z ∷ xs) (y ∷ ys) zero x h e = let same : z ≡ x = cc in (y, refl, subst (λ w. R w y) same h.0)
 both_at R (z ∷ xs) (y ∷ ys) (suc i) x h e = both_at R xs ys i x h.1 e
 
-both_at_second : {A B : Type 0} (R : A → B → Type 0) (xs : List A) (ys : List B) (i : ℕ) (y : B) → EachBoth R xs ys → slice_get ys i ≡ Some y → (x : A) × (slice_get xs i ≡ Some x) × R x y
+pub both_at_second : {A B : Type 0} (R : A → B → Type 0) (xs : List A) (ys : List B) (i : ℕ) (y : B) → EachBoth R xs ys → slice_get ys i ≡ Some y → (x : A) × (slice_get xs i ≡ Some x) × R x y
 both_at_second R [] [] i y h e = cc
 both_at_second R [] (z ∷ ys) i y h e = absurd h
 both_at_second R (x ∷ xs) [] i y h e = absurd h
