@@ -27,7 +27,7 @@ apart_join [] ys h k c = k
 apart_join (x ∷ xs) ys h k c = (each_join (Differ x) xs ys h.0 c.0, apart_join xs ys h.1 k c.1)
 
 -- a place at or below another
-abbrev Under : Place → Place → Type 0
+abbrev pub Under : Place → Place → Type 0
 Under base place = (front : Place) × (place ≡ front ++ base)
 
 length_joined : (xs ys : Place) → length (xs ++ ys) ≡ length xs + length ys
@@ -60,7 +60,7 @@ belong_differ at x y v w n (inner u) (own p q) = λ s t. not_inside at x u.0 (sy
 belong_differ at x y v w n (inner u) (inner u') = λ s t. n (same_length_ends u.0 u'.0 x y at (sym u.1 ∙ s ∙ u'.1))
 
 -- the names of later items are others
-abbrev LaterThan : List Item → NumberedItem → Type 0
+abbrev pub LaterThan : List Item → NumberedItem → Type 0
 LaterThan before j = (mid : List Item) × (j.before ≡ before ++ mid)
 
 joined_again : (xs ys zs : List Item) → (xs ++ ys) ++ zs ≡ xs ++ (ys ++ zs)
@@ -76,7 +76,7 @@ append_nil : (xs : List Item) → xs ++ [] ≡ xs
 append_nil [] = refl
 append_nil (x ∷ xs) = ap (λ ws. x ∷ ws) (append_nil xs)
 
-abbrev Ordered : List NumberedItem → Type 0
+abbrev pub Ordered : List NumberedItem → Type 0
 Ordered [] = Unit {0}
 Ordered (i ∷ is) = Each (LaterThan (i.before ++ i.item ∷ [])) is × Ordered is
 
@@ -87,7 +87,7 @@ numbered_ordered n before (i ∷ items) = (
   numbered_ordered (suc n) (before ++ i ∷ []) items,
 )
 
-found_ordered : (p : ProgramTree) (n : ℕ) (before : List ModuleTree) (x : Text) → Ordered (items_found (modules_from n before p) x)
+pub found_ordered : (p : ProgramTree) (n : ℕ) (before : List ModuleTree) (x : Text) → Ordered (items_found (modules_from n before p) x)
 found_ordered [] n before x = tt
 found_ordered (first ∷ more) n before x = by_name (same_text first.name x) refl (found_ordered more (n + suc (length (items_of first))) (before ++ first ∷ []) x)
   where
@@ -100,7 +100,7 @@ or_true : (a : Bool) → (a || true) ≡ true
 or_true true = refl
 or_true false = refl
 
-among_right : (xs ys : List Text) (x : Text) → is_among ys x ≡ true → is_among (xs ++ ys) x ≡ true
+pub among_right : (xs ys : List Text) (x : Text) → is_among ys x ≡ true → is_among (xs ++ ys) x ≡ true
 among_right [] ys x h = h
 among_right (z ∷ xs) ys x h = rw (among_right xs ys x h) (or_true (same_text z x))
 
@@ -139,7 +139,7 @@ is_under at v (y, own p q) = ([], p)
 is_under at v (y, inner u) = (u.0 ++ y ∷ [], u.1 ∙ places_joined u.0 y at)
 
 module _ (p : ProgramTree) (walkable : IsWalkable p) where
-  abbrev GoesApart : (Place → Text → List Visit) → Type 0
+  abbrev pub GoesApart : (Place → Text → List Visit) → Type 0
   GoesApart go = (at : Place) (name : Text) (m : ModuleTree) → find_module p name ≡ Some m → Each (VisitFacts p) (go at name) →
       Apart (go at name) × Each (λ (v : Visit). Under at v.place) (go at name)
 
@@ -220,7 +220,7 @@ module _ (p : ProgramTree) (walkable : IsWalkable p) where
       by_item (an_invar e) later g k = k
       by_item (a_trans e) later g k = k
 
-  walk_apart : (n : ℕ) (on : List Text) → GoesApart (walk n p on)
+  pub walk_apart : (n : ℕ) (on : List Text) → GoesApart (walk n p on)
   walk_apart zero on at name m found h = (tt, tt)
   walk_apart (suc n) on at name m found h =
       let a : Apart (walk_items (walk n p (name ∷ on)) (name ∷ on) at (items_named p name)) × Each (BelongsSome at) (walk_items (walk n p (name ∷ on)) (name ∷ on) at (items_named p name)) =

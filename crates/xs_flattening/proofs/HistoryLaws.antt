@@ -1,5 +1,5 @@
 -- A history of no fault adds nothing, and that of one fault more adds its bit last.
-use Rattle.std.proofs.Common.{◌≡◌, ℕ, zero, suc, ◌+◌, ◌<◌, List, [], ◌∷◌, ◌++◌, length, map, take, get_or, refl, ap, ◌∙◌, sym, subst, arith}
+use Rattle.std.proofs.Common.{◌≡◌, ℕ, suc, ◌+◌, ◌<◌, List, [], ◌∷◌, ◌++◌, length, map, take, get_or, refl, ap, ◌∙◌, sym, arith}
 use Rattle.std.proofs.lemmas.List.{append-nil, append_assoc, length-append, map_more, length-map, length-take-le}
 use Rattle.xs_flattening.specs.Flat.{FlatVariable, FlatFormula, FlatModel}
 use Rattle.xs_flattening.specs.History.{Mode, bit_variable, bit_at_first, bit_at_step, bit_variables, bits_at_first, bits_at_step, with_history, with_bit}

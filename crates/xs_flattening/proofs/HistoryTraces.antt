@@ -1,20 +1,19 @@
 -- The traces of a model with history bits are those of the model, each with the bits of its history.
-use Rattle.std.proofs.Common.{◌≡◌, ℕ, zero, suc, ◌+◌, ◌<◌, Bool, true, false, ◌||◌, List, [], ◌∷◌, ◌++◌, length, map, Option, Some, None, refl, ap, ◌∙◌, sym, subst, arith}
+use Rattle.std.proofs.Common.{◌≡◌, ℕ, zero, suc, ◌<◌, Bool, true, false, ◌||◌, List, [], ◌∷◌, ◌++◌, length, map, Option, Some, refl, ap, ◌∙◌, sym, subst, arith}
 use Rattle.std.proofs.lemmas.List.{append_assoc, length-map}
 use Rattle.std.specs.Prelude.{slice_get, ◌↔◌, IsTrue}
 use Rattle.xs_tree.specs.declared.expr.Op.TheVariants as op
 use Rattle.xs_tree.specs.ProgramTree.{Text, boolean}
 use Rattle.xs_tree.specs.Values.{Value, truth, number, symbol, Values, one}
-use Rattle.xs_tree.specs.Texts.{same_text}
-use Rattle.xs_tree.specs.Evaluate.{evaluate, gives_within, gives_applied, gives_binary}
-use Rattle.xs_tree.specs.Trace.{Each, EachPair, AtFirst, in_domain}
-use Rattle.xs_flattening.specs.Flat.{FlatLeaf, flat_variable, flat_symbol, flat_definition, FlatVariable, FlatFormula, FlatModel, one_of, symbol_of, given, flat_leaves, definition_gives, table_after, leaves_at, Holds}
+use Rattle.xs_tree.specs.Evaluate.{evaluate, gives_within, gives_applied}
+use Rattle.xs_tree.specs.Trace.{Each, EachPair, in_domain}
+use Rattle.xs_flattening.specs.Flat.{FlatLeaf, flat_variable, flat_symbol, flat_definition, FlatVariable, FlatFormula, FlatModel, one_of, symbol_of, flat_leaves, definition_gives, table_after, leaves_at, Holds}
 use Rattle.xs_flattening.specs.Resolved.{leaves_in}
-use Rattle.xs_flattening.specs.History.{Mode, stands_now, stands_next, bit_variable, bit_variables, bit_at_first, bit_at_step, bits_at_first, bits_at_step, with_history}
+use Rattle.xs_flattening.specs.History.{Mode, bit_variables, bit_at_first, bit_at_step, bits_at_first, bits_at_step, with_history}
 use Rattle.xs_flattening.specs.FlatTrace.{AreInDomains, IsFlatMoment, IsFlatStep, IsFlatTrace, is_symbol_value, stands, stands_in_some, bits_after, told_from, IsOwnName, IsOwnFormula, NamesOwn, IsModeOf}
-use Rattle.xs_flattening.proofs.Lists.{get_left, get_end, length_end, get_within, each_more}
+use Rattle.xs_flattening.proofs.Lists.{get_left, length_end, get_within, each_more}
 use Rattle.xs_flattening.proofs.Reaches.{each_left, each_right}
-use Rattle.xs_flattening.proofs.Conditions.{iff_then, iff_back, each_join, each_at, MayBe, within_iff, may_one}
+use Rattle.xs_flattening.proofs.Conditions.{iff_then, each_join, MayBe, within_iff, may_one}
 use Rattle.xs_flattening.proofs.Now.{BothSame, same_on}
 
 -- More values change nothing for formulas that do not read them.

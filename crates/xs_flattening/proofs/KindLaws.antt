@@ -6,7 +6,7 @@ use Rattle.xs_tree.proofs.ValueLaws.{same_text_refl, same_text_equal}
 use Rattle.xs_tree.specs.Scope.{Role, state, input, frozen_role, Kind, a_define, an_instance, undeclared, formal_from, kind_declared, kind_in_decls, kind_in_defines, kind_in_sections, kind_after_formals, kind_in, find_module}
 use Rattle.xs_tree.specs.Trace.{Each}
 use Rattle.xs_flattening.specs.Items.{Item, a_declaration, a_definition, an_assignment, some_constants, an_init, an_invar, a_trans, NumberedItem, NumberedModule, items_of_section, items_of, numbered_from, modules_from, modules_of, numbered_items, items_found}
-use Rattle.xs_flattening.specs.Rules.{names_of_item, is_name_again, double_name, a_header, an_item, IsKept, module_sites, IsWalkable}
+use Rattle.xs_flattening.specs.Rules.{names_of_item, is_name_again, double_name, a_header, an_item, IsKept, IsWalkable}
 use Rattle.xs_flattening.proofs.Now.{neither}
 use Rattle.xs_flattening.proofs.Lists.{each_of_map, each_more}
 use Rattle.xs_flattening.proofs.Conditions.{each_flat}

@@ -21,5 +21,8 @@ pub mod Lamp
 pub mod Variables
 pub mod Apart
 pub mod Numbered
+pub mod KeysApart
+pub mod OneTree
+pub mod OneModel
 pub mod HistoryLaws
 pub mod HistoryTraces

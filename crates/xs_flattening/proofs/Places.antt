@@ -1,12 +1,12 @@
 -- The walk comes to every instance, and to nothing else.
 use Rattle.std.proofs.Common.{◌≡◌, ℕ, zero, suc, ◌+◌, ◌≤◌, arith, Bool, true, false, List, [], ◌∷◌, ◌++◌, length, Option, Some, None, refl, sym, ◌∙◌, ap, subst}
-use Rattle.std.specs.Prelude.{slice_get, map, flat_map, if◌then◌else◌, codes}
+use Rattle.std.specs.Prelude.{slice_get, flat_map, if◌then◌else◌, codes}
 use Rattle.xs_tree.specs.ProgramTree.{Text, Formula, DeclaredTree, boolean, range, members, instance, ModuleTree, ProgramTree}
 use Rattle.xs_tree.specs.Scope.{Place, Role, Kind, a_formal, a_variable, a_define, an_instance, undeclared, kind_declared, kind_in, kind_in_sections, formal_from, kind_after_formals, kind_at, module_of_kind, module_at, find_module}
 use Rattle.xs_tree.specs.Trace.{Each, IsInstance}
 use Rattle.xs_flattening.specs.Flat.{FlatInstance}
-use Rattle.xs_flattening.specs.Items.{Item, a_declaration, a_definition, an_assignment, some_constants, an_init, an_invar, a_trans, NumberedItem, items_of, items_named, items_found, numbered_from, modules_from, modules_of, numbered_items, Visit, visits_inside, visits_of, walk_items, walk, visits, instance_declared, instances_of_visit, instances_of}
-use Rattle.xs_flattening.specs.Rules.{is_missing_instance, is_on_path, no_such_module, module_loop, a_header, an_item, visit_sites, IsKept, IsWalkable}
+use Rattle.xs_flattening.specs.Items.{Item, a_declaration, a_definition, an_assignment, some_constants, an_init, an_invar, a_trans, NumberedItem, items_of, items_named, items_found, numbered_from, modules_from, Visit, visits_inside, visits_of, walk_items, walk, visits, instance_declared, instances_of_visit, instances_of}
+use Rattle.xs_flattening.specs.Rules.{is_missing_instance, is_on_path, no_such_module, module_loop, visit_sites, IsKept, IsWalkable}
 use Rattle.xs_flattening.proofs.Reaches.{each_left, each_right}
 use Rattle.xs_flattening.proofs.Lists.{get_left}
 use Rattle.xs_flattening.proofs.Conditions.{each_join, each_at}

@@ -51,7 +51,7 @@ names_known P q e flat is h = each_of_map (Known P) q (leaves_in e) (subst (Each
     in_written : Each (Known P) (leaves_in (tree_map q e))
     in_written = subst (λ t. Each (Known P) (leaves_in t)) is in_flat
 
-each_leaf : (ls : List FlatLeaf) → Each (λ l. Unit {0}) ls
+pub each_leaf : (ls : List FlatLeaf) → Each (λ l. Unit {0}) ls
 each_leaf [] = tt
 each_leaf (l ∷ ls) = (tt, each_leaf ls)
 

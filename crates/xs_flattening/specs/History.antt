@@ -1,5 +1,5 @@
 -- A flat model with one more boolean for each fault, which is TRUE from the moment on at which the fault's mode stands.
-use Rattle.std.specs.Prelude.{ℕ, suc, ◌+◌, List, [], ◌∷◌, ◌++◌, codes, decimal, length}
+use Rattle.std.specs.Prelude.{ℕ, suc, List, [], ◌∷◌, ◌++◌, codes, decimal, length}
 use Rattle.xs_tree.specs.declared.expr.Op.TheVariants as op
 use Rattle.xs_tree.specs.Tree.{Tree, leaf, next_of, binary}
 use Rattle.xs_tree.specs.ProgramTree.{Text, boolean}

@@ -6,8 +6,8 @@ use Rattle.xs_tree.specs.Values.{Value}
 use Rattle.xs_tree.specs.May.{Valuation}
 use Rattle.xs_tree.specs.Trace.{IsVariable}
 use Rattle.xs_flattening.specs.Flat.{FlatVariable, FlatModel, Numbers}
-use Rattle.xs_flattening.specs.Rules.{Rule, number_of, IsFirstBroken, IsAccepted}
-use Rattle.xs_flattening.specs.Model.{IsFlatOf, IsFlattened}
+use Rattle.xs_flattening.specs.Rules.{Rule, number_of, IsFirstBroken, IsWalkable, IsAccepted}
+use Rattle.xs_flattening.specs.Model.{KeysDiffer, IsFlatOf, IsFlattened}
 
 -- the model of an accepted program says what the program says
 abbrev pub FlatteningIsExact : Type 0
@@ -32,3 +32,7 @@ OneFault = (p : ProgramTree) (r q : Rule) (i j : ℕ) → IsFirstBroken p r i �
 -- an accepted program has none
 abbrev pub AcceptedHasNoFault : Type 0
 AcceptedHasNoFault = (p : ProgramTree) (r : Rule) (i : ℕ) → IsAccepted p → IsFirstBroken p r i → ⊥
+
+-- A program that keeps the rules of modules and of the walk has one flat model, where that has no definition twice.
+abbrev pub OneModel : Type 0
+OneModel = (p : ProgramTree) (m n : FlatModel) → IsWalkable p → (is : IsFlatOf p m) → KeysDiffer is.written → IsFlatOf p n → m ≡ n

@@ -215,6 +215,11 @@ pub record IsDefinitionOf (p : ProgramTree) (m : FlatModel) (d : Definition) (f 
   pub root : (root : Root) × ((i : ℕ) × (slice_get (roots_of p) i ≡ Some root)) × (root.key ≡ d.key) × (f.item ≡ root.item)
   pub number : IsInstanceNumber m d.place f.number
 
+-- no definition has the key of another
+abbrev pub KeysDiffer : List Definition → Type 0
+KeysDiffer [] = Unit {0}
+KeysDiffer (d ∷ ds) = Each (λ (e : Definition). d.key ≡ e.key → ⊥) ds × KeysDiffer ds
+
 -- the model is the program's
 pub record IsFlatOf (p : ProgramTree) (m : FlatModel) : Type 0 where
   pub resolver : Resolver

@@ -16,7 +16,7 @@
 #![tactic(auto)]
 
 ghost use Rattle.xs_flattening.specs.FlatTrace.{HistoryIsExact};
-ghost use Rattle.xs_flattening.specs.Laws.{FlatteningIsExact, VariablesAreThose, ListsAreValuations, OneFault, AcceptedHasNoFault};
+ghost use Rattle.xs_flattening.specs.Laws.{FlatteningIsExact, VariablesAreThose, ListsAreValuations, OneFault, AcceptedHasNoFault, OneModel};
 
 /// The flat model of an accepted program holds exactly what the program's conditions hold, its variables
 /// are those of the program's instances, and each list of as many values is a valuation's.
@@ -24,6 +24,12 @@ pub fn flattening_is_exact()
     ensures formulas { FlatteningIsExact }
     ensures variables { VariablesAreThose }
     ensures valuations { ListsAreValuations }
+{}
+
+/// A program that keeps the rules of modules and of the walk has at most one flat model without a definition
+/// that stands twice.
+pub fn one_model()
+    ensures { OneModel }
 {}
 
 /// A program has at most one first broken rule, with one item, and none where it is accepted.

@@ -8,6 +8,7 @@ use Rattle.xs_frames.specs.Chain.{State, state_values, IsFirstState, IsStepOf, M
 use Rattle.xs_derive.specs.Hints.{HasNoOpposites}
 use Rattle.xs_frames.specs.Framed.{frame_at, strengthened, Linked, IsFramed, InNumber, ArePushed, IsInductive, HasEqualNeighbours}
 use Rattle.xs_frames.specs.Growing.{IsOpenChain}
+use Rattle.xs_frames.specs.Numbered.{AreNumbered}
 use Rattle.xs_frames.proofs.Sets.{stands_itself}
 use Rattle.xs_frames.proofs.Short.{standing_true}
 use Rattle.xs_frames.proofs.Links.{length_strengthened, links_kept, to_push, reaches, reaches_from, link_at}
@@ -92,6 +93,16 @@ module _ (system : System) where
     where
       one_more : (i : ℕ) → i + 1 ≡ suc i
       one_more i = omega arith
+
+  pub numbered : (fs : List (List (List Literal))) → IsFramed system fs → AreNumbered system fs
+  numbered fs f = record {
+    some = f.some;
+    is_first = λ s. (λ h. h, λ h. h);
+    outlined = f.begins;
+    implies = λ i s lt h. number_implies fs i s f lt h;
+    steps = λ i s t lt h step. number_steps fs i s t f lt h step;
+    stands = λ i c one lt m. (link_at system i fs lt f.linked).1 c m;
+  }
 
 frame_is : (fs : List (List (List Literal))) (f0 : List (List Literal)) (i : ℕ) (frame : List (List Literal)) → 0 < i → slice_get fs (i - 1) ≡ Some frame → (frame_at (f0 ∷ fs) i ≡ frame) × (i < length (f0 ∷ fs))
 frame_is fs f0 zero frame lt e = absurd (omega (arith, lt))

@@ -1,10 +1,10 @@
 -- Clauses as sets of literals, and frames as sets of clauses.
-use Rattle.std.proofs.Common.{◌≡◌, ◌<◌, ℕ, zero, suc, Bool, true, false, List, [], ◌∷◌, refl, sym, ◌∙◌, ap, subst, arith, length}
+use Rattle.std.proofs.Common.{◌≡◌, ◌<◌, ℕ, zero, suc, Bool, true, false, List, [], ◌∷◌, refl, ◌∙◌, ap, arith, length}
 use Rattle.std.specs.Prelude.{slice_index_or, Contains, All}
 use Rattle.std.proofs.lemmas.List.Elements.{All-contains, All-contains_itself}
 use Rattle.xs_lits.specs.Literal.{Literal}
-use Rattle.xs_lits.specs.Models.{TotalAssignment, literal_value, clause_value, all_true}
-use Rattle.xs_frames.specs.Chain.{SameLiterals, Stands}
+use Rattle.xs_lits.specs.Models.{TotalAssignment, literal_value, clause_value}
+use Rattle.xs_frames.specs.Chain.{Stands}
 
 -- a member that is true
 pub true_member : (v : TotalAssignment) (c : List Literal) → clause_value v c ≡ true → (l : Literal) × Contains c l × (literal_value v l ≡ true)

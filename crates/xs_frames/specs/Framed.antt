@@ -1,5 +1,5 @@
 -- Frames as a list of clause lists, the one of number 0 an outline of the first states.
-use Rattle.std.specs.Prelude.{◌≡◌, ℕ, zero, suc, ◌+◌, ◌-◌, ◌≤◌, ◌<◌, List, [], ◌∷◌, ◌++◌, Some, All, Contains, slice_get, slice_index_or, length}
+use Rattle.std.specs.Prelude.{ℕ, zero, suc, ◌+◌, ◌-◌, ◌<◌, List, [], ◌∷◌, ◌++◌, All, Contains, slice_index_or, length}
 use Rattle.xs_lits.specs.Literal.{Literal}
 use Rattle.xs_derive.specs.Hints.{HasNoOpposites}
 use Rattle.xs_encode.specs.declared.system.System.{System}

@@ -1,12 +1,16 @@
 -- The frames by number, as the layer above has them: number 0 is `first`.
-use Rattle.std.specs.Prelude.{ℕ, suc, ◌+◌, ◌<◌, List, Contains, length}
+use Rattle.std.specs.Prelude.{◌↔◌, ℕ, suc, ◌+◌, ◌<◌, List, Contains, length}
 use Rattle.xs_lits.specs.Literal.{Literal}
 use Rattle.xs_encode.specs.declared.system.System.{System}
-use Rattle.xs_frames.specs.Chain.{State, IsStepOf}
+use Rattle.xs_frames.specs.Chain.{State, IsFirstState, IsStepOf, InFrame}
 use Rattle.xs_frames.specs.Framed.{frame_at, InNumber}
 
 module _ (system : System) where
   pub record AreNumbered (frames : List (List (List Literal))) : Type 0 where
+    -- there is a frame of number 0, it is `first`, and each first state makes the list that outlines it true
+    pub some : 0 < length frames
+    pub is_first : (s : State) → InNumber system frames 0 s ↔ IsFirstState system s
+    pub outlined : (s : State) → InNumber system frames 0 s → InFrame system (frame_at frames 0) s
     -- each frame implies the next
     pub implies : (i : ℕ) (s : State) → i + 1 < length frames → InNumber system frames i s → InNumber system frames (suc i) s
     -- a frame with a step implies the next

@@ -42,6 +42,7 @@ impl Frames {
         requires { IsFit system }
         ensures system { IfOk result (λ f. f.system ≡ system) }
         ensures frontier { IfOk result (λ f. frontier f ≡ 0) }
+        ensures numbered { IfOk result (λ f. AreNumbered f.system f.frames) }
     {
         let mut frames = Vec::new(alloc);
         frames.push(ClauseList::new(alloc))?;
@@ -73,6 +74,7 @@ impl Frames {
         requires { All (All (IsOverNow self.old.system)) bad.now }
         ensures system { self.new.system ≡ self.old.system }
         ensures frontier { frontier self.new ≡ frontier self.old }
+        ensures numbered { AreNumbered self.new.system self.new.frames }
         ensures stronger { AreStronger self.old.system self.old.frames self.new.frames }
         ensures cleared { IfOk result (λ answer. IsCleared self.old.system bad.now self.new.frames answer) }
         ensures spent { self.old.spent ≡ true → IsErr result }
@@ -92,6 +94,7 @@ impl Frames {
     pub fn advance(&mut self, panel: &mut Panel) -> Result<Advanced, OutOfMemory>
         ensures system { self.new.system ≡ self.old.system }
         ensures frontier { OnOk result (frontier self.new ≡ frontier self.old + 1) }
+        ensures numbered { AreNumbered self.new.system self.new.frames }
         ensures stronger { AreStronger self.old.system self.old.frames self.new.frames }
         ensures pushed { OnOk result (ArePushed self.old.system self.new.frames) }
         ensures advanced { IfOk result (λ answer. IsAdvanced self.old.system self.old.frames self.new.frames answer) }

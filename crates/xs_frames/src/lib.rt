@@ -2,12 +2,13 @@
 //!
 //! Contracts see [`Frames`] as the system, a list of clause lists over the state bits now, and whether
 //! memory ran out once. The frame of number 0 is the system's first states; its list is an outline of
-//! them, clauses that every first state makes true. Each frame implies the next, alone and with a step
-//! (`specs/Numbered.antt`). `clear` blocks the bad states of the last frame, the frontier's, by cores, or
-//! finds a path into them, one assignment for each moment (`specs/Path.antt`); `advance` adds a frame and
-//! pushes each clause that every step keeps. Clauses are compared as sets of literals. What a step, a chain
-//! and an inductive list are stands in `specs/Chain.antt` and `specs/Framed.antt`; which systems frames are
-//! made of, and which lists they clear, in `specs/Condition.antt`.
+//! them, clauses that every first state makes true. Each frame implies the next, alone and with a step,
+//! from `new` on and whatever `clear` and `advance` answer (`specs/Numbered.antt`). `clear` blocks the bad
+//! states of the last frame, the frontier's, by cores, or finds a path into them, one assignment for each
+//! moment (`specs/Path.antt`); `advance` adds a frame and pushes each clause that every step keeps. Clauses
+//! are compared as sets of literals. What a step, a chain and an inductive list are stands in
+//! `specs/Chain.antt` and `specs/Framed.antt`; which systems frames are made of, and which lists they
+//! clear, in `specs/Condition.antt`.
 //!
 //! ```text
 //! let mut frames = Frames::new(alloc, system)?;    // one bit that is false first and stays

@@ -1,10 +1,10 @@
 use Rattle.std.proofs.Common.{◌≡◌, ◌++◌, [], sym, subst, arith, ◌<◌, ◌≤◌, ◌-◌, ◌+◌, ◌*◌, ◌^◌, ℕ, All, length}
 use Rattle.std.proofs.lemmas.Grind.{common_steps}
-use Rattle.xs_frames.specs.Chain.{IsOverBits, InFrame, IsStepOf, State}
+use Rattle.xs_frames.specs.Chain.{IsOverBits}
 use Rattle.xs_lits.specs.Literal.{Literal}
 use Rattle.xs_frames.specs.Framed.{frame_at}
 use Rattle.xs_frames.specs.Looked.{Blocks}
-use Rattle.xs_frames.specs.Bits.{read_from, literals_from, joined}
+use Rattle.xs_frames.specs.Bits.{literals_from, joined}
 use Rattle.xs_frames.specs.Query.{IsVerdict, IsModel, IsCore}
 use Rattle.xs_derive.specs.Hints.{HasNoOpposites}
 use Rattle.xs_frames.specs.Condition.{IsLow}

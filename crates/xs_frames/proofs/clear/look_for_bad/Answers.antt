@@ -1,9 +1,8 @@
-use Rattle.std.proofs.Common.{◌≡◌, ◌++◌, [], sym, subst, arith, length, ◌-◌, List, ℕ, All}
+use Rattle.std.proofs.Common.{◌≡◌, ◌++◌, [], subst, arith, length, ◌-◌, List, ℕ, All}
 use Rattle.std.proofs.lemmas.Grind.{common_steps}
-use Rattle.xs_frames.specs.Chain.{IsOverBits, InFrame, IsBad, State}
+use Rattle.xs_frames.specs.Chain.{IsOverBits}
 use Rattle.xs_lits.specs.Literal.{Literal}
 use Rattle.xs_frames.specs.Framed.{frame_at}
-use Rattle.xs_frames.specs.Bits.{read_from}
 use Rattle.xs_frames.specs.Query.{IsVerdict, IsModel, IsCore}
 use Rattle.xs_frames.proofs.LookLemmas.{bad_deeper, bad_nothing}
 use Rattle.xs_frames.proofs.clear.look_for_bad.Goals as goal

@@ -1,7 +1,6 @@
 use Rattle.std.proofs.Common.{◌≡◌, [], sym, ◌∙◌, ap, subst, arith, length, slice_index_or, ◌<◌, ◌-◌}
 use Rattle.std.proofs.lemmas.Grind.{common_steps}
 use Rattle.std.proofs.lemmas.Result.{IfOk-weaker}
-use Rattle.xs_lits.specs.Assignment.{Assignment}
 use Rattle.xs_frames.specs.Chain.{IsState}
 use Rattle.xs_frames.specs.Bits.{read_from}
 use Rattle.xs_frames.specs.Path.{state_in}

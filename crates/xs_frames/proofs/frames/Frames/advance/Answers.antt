@@ -1,7 +1,16 @@
 use Rattle.std.proofs.Common.{OnOk, subst}
 use Rattle.xs_frames.specs.Framed.{ArePushed}
 use Rattle.xs_frames.specs.FramesRecord.{FramesValue}
+use Rattle.xs_frames.specs.Numbered.{AreNumbered}
+use Rattle.xs_frames.proofs.Framing.{numbered}
 use Rattle.xs_frames.proofs.frames.Frames.advance.Goals as goal
+
+pub returns-then-self-clause-numbered : goal.returns-then-self-clause-numbered
+returns-then-self-clause-numbered g c =
+    subst (λ (v : FramesValue). AreNumbered v.system v.frames) c.self.view_is (numbered c.self.inside.system c.self.inside.frames.items c.self.invariant.framed)
+
+pub returns-clause-numbered : goal.returns-clause-numbered
+returns-clause-numbered g c = numbered c.self.inside.system c.advance_frames-answer.new.frames.items c.advance_frames-answer.ensures.framed
 
 pub returns-clause-pushed : goal.returns-clause-pushed
 returns-clause-pushed g c =
