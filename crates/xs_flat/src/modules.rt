@@ -137,7 +137,7 @@ impl<'a> Names<'a> {
 }
 
 /// The place of the first module called `main`.
-#[tactic(auto, using(crate::proofs::MainLaws::found, crate::proofs::MainLaws::skipped_at))]
+#[tactic(auto, using(crate::proofs::MainLaws::found_at, crate::proofs::MainLaws::skipped_at))]
 pub(crate) fn main_place(modules: &[Module]) -> Option<usize>
     ensures place { result ≡ module_from 0 (map module_tree modules.now) (codes "main") }
 {
