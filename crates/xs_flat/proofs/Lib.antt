@@ -4,3 +4,10 @@ pub mod MainLaws
 pub mod OwnNames
 pub mod ItemLaws
 pub mod SymbolLaws
+pub mod MapLaws
+pub mod ReadingLaws
+pub mod HeaderLaws
+pub mod NamesLaws
+pub mod PassedOn
+pub mod ModuleFaults
+pub mod ReadLaws
