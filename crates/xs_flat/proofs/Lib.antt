@@ -5,3 +5,10 @@ pub mod OwnNames
 pub mod ItemLaws
 pub mod SymbolLaws
 pub mod OrderLaws
+pub mod MapLaws
+pub mod ReadingLaws
+pub mod HeaderLaws
+pub mod NamesLaws
+pub mod PassedOn
+pub mod ModuleFaults
+pub mod ReadLaws

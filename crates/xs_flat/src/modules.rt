@@ -1,11 +1,15 @@
 //! The modules of a program by name, and the names of each module: the rules that a program keeps or
 //! breaks before any instance is made.
 
-ghost use Rattle.std.specs.Prelude.{◌≡◌, ◌↔◌, codes, is_some, map, Some, IfOk, IfErr, IsTrue};
+ghost use Rattle.std.specs.Prelude.{◌≡◌, ◌↔◌, ◌&&◌, suc, [], ◌∷◌, ◌++◌, length, codes, map, None, Some, IfOk, IfErr, OnOk, IsTrue};
 ghost use Rattle.xs_tree.specs.ProgramTree.{module_tree, program_tree};
-ghost use Rattle.xs_tree.specs.Scope.{find_module};
-ghost use Rattle.xs_flat.specs.Faults.{IsPastMain, IsFaultOf};
-ghost use Rattle.xs_flat.specs.SceneTree.{AreModules, module_from};
+ghost use Rattle.xs_tree.specs.Texts.{same_text, is_among};
+ghost use Rattle.xs_flattening.specs.Items.{items_of};
+ghost use Rattle.xs_flattening.specs.Rules.{double_name, has_formals, names_of_item, is_name_again};
+ghost use Rattle.xs_flat.specs.Faults.{IsFaultOf};
+ghost use Rattle.xs_flat.specs.ItemTree.{numbered_tree, counted_from};
+ghost use Rattle.xs_flat.specs.Reading.{AreRead, IsReadAfter, IsFirstModule, IsTold, told_if, formals_told, items_told, header_told, names_told, module_told, texts_of, trees_read, item_of_numbered};
+ghost use Rattle.xs_flat.specs.SceneTree.{AreModules, module_from, named, module_entries, formal_entries, entries_of_item, item_entries, local_entries};
 
 use crate::fault::{FlatFault, Rule};
 use crate::items::{Item, ItemList, Numbered, number_after};
@@ -60,17 +64,41 @@ impl<'a> Modules<'a> {
     }
 
     /// The module of a name, with its place.
-    pub(crate) fn find(&self, name: &Name) -> Option<(usize, &Names<'a>)> {
+    pub(crate) fn find(&self, name: &Name) -> Option<(usize, &Names<'a>)>
+        requires { AreModules self.now }
+        ensures { IsFirstModule self.now name.now result }
+    {
         let place = *self.places.get(name.text())?;
         Some((place, self.list.get(place)?))
     }
 
     /// Adds a module whose header comes after the item `last`; the answer is the module's last item.
     fn add(&mut self, alloc: Global, last: u32, module: &'a Module) -> Result<u32, FlatFault>
-        ensures { IfErr result IsPastMain }
+        requires { AreRead self.old last }
+        ensures read { IfOk result (IsReadAfter self.old (module_tree module.now) self.new) }
+        ensures kept { OnOk result (module_told (trees_read self.old) (suc last) (module_tree module.now) ≡ None) }
+        ensures fault { IfErr result (IsTold (module_told (trees_read self.old) (suc last) (module_tree module.now))) }
     {
         let header = number_after(last)?;
-        if is_main(&module.name) && !module.formals.is_empty() {
+        self.add_place(header, module)?;
+        let items = ItemList::of_module(alloc, header, module)?;
+        let last = items.last_number();
+        let names = Names::of_module(alloc, header, module, items.items)?;
+        self.list.push(names)?;
+        Ok(last)
+    }
+
+    /// Gives a module its place, after the rules of its header.
+    fn add_place(&mut self, header: u32, module: &'a Module) -> Result<(), FlatFault>
+        requires { named self.old.places.entries ≡ module_entries 0 (trees_read self.old) }
+        ensures places { OnOk result (named self.new.places.entries ≡ named self.old.places.entries ++ (module.now.name, length self.old.list.items) ∷ []) }
+        ensures list { self.new.list ≡ self.old.list }
+        ensures program { self.new.program ≡ self.old.program }
+        ensures main { self.new.main ≡ self.old.main }
+        ensures kept { OnOk result (header_told (trees_read self.old) header (module_tree module.now) ≡ None) }
+        ensures fault { IfErr result (IsTold (header_told (trees_read self.old) header (module_tree module.now))) }
+    {
+        if is_main_with_formals(module) {
             return Err(FlatFault {
                 rule: Rule::MainHasParameters,
                 item: header,
@@ -83,61 +111,108 @@ impl<'a> Modules<'a> {
                 item: header,
             });
         }
-        let items = ItemList::of_module(alloc, header, module)?;
-        let last = items.last_number();
-        let mut names = Names {
-            module,
-            items: items.items,
-            locals: IndexMap::new(alloc),
-        };
-        names.add_formals(header, module.formals.as_slice())?;
-        names.add_items()?;
-        self.list.push(names)?;
-        Ok(last)
+        Ok(())
     }
 }
 
 impl<'a> Names<'a> {
-    fn add_formals(&mut self, header: u32, formals: &'a [Name]) -> Result<(), FlatFault>
-        ensures { IfErr result IsPastMain }
+    /// A module of these items with its names, none of which stands twice.
+    fn of_module(
+        alloc: Global,
+        header: u32,
+        module: &'a Module,
+        items: Vec<Numbered<'a>>,
+    ) -> Result<Names<'a>, FlatFault>
+        requires { map numbered_tree items.items ≡ counted_from (suc header) (items_of (module_tree module.now)) }
+        ensures same { IfOk result (λ names. names.module.now ≡ module.now) }
+        ensures items { IfOk result (λ names. names.items ≡ items.entry) }
+        ensures locals { IfOk result (λ names. named names.locals.entries ≡ local_entries (module_tree module.now)) }
+        ensures kept { OnOk result (names_told header (module_tree module.now) ≡ None) }
+        ensures fault { IfErr result (IsTold (names_told header (module_tree module.now))) }
     {
-        for (k, formal) in formals.iter().enumerate() {
-            if self
-                .locals
-                .insert(formal.text(), Local::Formal(k))?
-                .is_some()
-            {
-                return Err(FlatFault {
-                    rule: Rule::DoubleName,
-                    item: header,
-                });
-            }
-        }
-        Ok(())
-    }
-
-    fn add_items(&mut self) -> Result<(), FlatFault>
-        ensures { IfErr result IsPastMain }
-    {
-        for (k, numbered) in self.items.iter().enumerate() {
-            let name = match numbered.item {
-                Item::Declared(_, decl) => decl.name.text(),
-                Item::Defined(define) => define.name.text(),
-                _ => continue,
-            };
-            if self.locals.insert(name, Local::Item(k))?.is_some() {
-                return Err(FlatFault {
-                    rule: Rule::DoubleName,
-                    item: numbered.number,
-                });
-            }
-        }
-        Ok(())
+        let mut locals = IndexMap::new(alloc);
+        declare_formals(&mut locals, header, module.formals.as_slice())?;
+        declare_items(&mut locals, items.as_slice())?;
+        Ok(Names {
+            module,
+            items,
+            locals,
+        })
     }
 }
 
+/// Declares the formals of a module, which stand at its header.
+fn declare_formals<'a>(
+    locals: &mut IndexMap<&'a [u8], Local>,
+    header: u32,
+    formals: &'a [Name],
+) -> Result<(), FlatFault>
+    ensures entries { OnOk result (named locals.new.entries ≡ named locals.old.entries ++ formal_entries 0 formals.now) }
+    ensures kept { OnOk result (formals_told header (texts_of (named locals.old.entries)) formals.now ≡ None) }
+    ensures fault { IfErr result (IsTold (formals_told header (texts_of (named locals.old.entries)) formals.now)) }
+{
+    for (k, formal) in formals.iter().enumerate() {
+        declare(locals, header, formal.text(), Local::Formal(k))?;
+    }
+    Ok(())
+}
+
+/// Declares the names that items give.
+fn declare_items<'a>(
+    locals: &mut IndexMap<&'a [u8], Local>,
+    items: &[Numbered<'a>],
+) -> Result<(), FlatFault>
+    ensures entries { OnOk result (named locals.new.entries ≡ named locals.old.entries ++ item_entries 0 (map item_of_numbered items.now)) }
+    ensures kept { OnOk result (items_told (texts_of (named locals.old.entries)) (map numbered_tree items.now) ≡ None) }
+    ensures fault { IfErr result (IsTold (items_told (texts_of (named locals.old.entries)) (map numbered_tree items.now))) }
+{
+    for (k, numbered) in items.iter().enumerate() {
+        declare_item(locals, k, *numbered)?;
+    }
+    Ok(())
+}
+
+/// Declares the name that the item at a place gives, if it gives one.
+fn declare_item<'a>(
+    locals: &mut IndexMap<&'a [u8], Local>,
+    place: usize,
+    numbered: Numbered<'a>,
+) -> Result<(), FlatFault>
+    ensures entries { OnOk result (named locals.new.entries ≡ named locals.old.entries ++ entries_of_item place (item_of_numbered numbered.entry)) }
+    ensures kept { OnOk result (told_if (is_name_again (texts_of (named locals.old.entries)) (names_of_item (item_of_numbered numbered.entry))) double_name numbered.entry.number ≡ None) }
+    ensures fault { IfErr result (IsTold (told_if (is_name_again (texts_of (named locals.old.entries)) (names_of_item (item_of_numbered numbered.entry))) double_name numbered.entry.number)) }
+{
+    let number = numbered.number;
+    match numbered.item {
+        Item::Declared(_, decl) => declare(locals, number, decl.name.text(), Local::Item(place)),
+        Item::Defined(define) => declare(locals, number, define.name.text(), Local::Item(place)),
+        Item::Assigned(_) | Item::Constants(_) | Item::Init(_) | Item::Invar(_) | Item::Trans(_) =>
+            Ok(()),
+    }
+}
+
+/// Declares a name, which an item gives and none before it.
+fn declare<'a>(
+    locals: &mut IndexMap<&'a [u8], Local>,
+    item: u32,
+    name: &'a [u8],
+    local: Local,
+) -> Result<(), FlatFault>
+    ensures entries { OnOk result (named locals.new.entries ≡ named locals.old.entries ++ (name.now, local) ∷ []) }
+    ensures kept { OnOk result (told_if (is_among (texts_of (named locals.old.entries)) name.now) double_name item ≡ None) }
+    ensures fault { IfErr result (IsTold (told_if (is_among (texts_of (named locals.old.entries)) name.now) double_name item)) }
+{
+    if locals.insert(name, local)?.is_some() {
+        return Err(FlatFault {
+            rule: Rule::DoubleName,
+            item,
+        });
+    }
+    Ok(())
+}
+
 /// The place of the first module called `main`.
-#[tactic(auto, using(crate::proofs::MainLaws::found, crate::proofs::MainLaws::skipped_at))]
+#[tactic(auto, using(crate::proofs::MainLaws::found_at, crate::proofs::MainLaws::skipped_at))]
 pub(crate) fn main_place(modules: &[Module]) -> Option<usize>
     ensures place { result ≡ module_from 0 (map module_tree modules.now) (codes "main") }
 {
@@ -147,6 +222,13 @@ pub(crate) fn main_place(modules: &[Module]) -> Option<usize>
         }
     }
     None
+}
+
+/// Whether a module is `main` and has formals.
+fn is_main_with_formals(module: &Module) -> bool
+    ensures { result ≡ (same_text module.now.name (codes "main") && has_formals module.now.formals) }
+{
+    is_main(&module.name) && !module.formals.is_empty()
 }
 
 /// Whether a name is `main`.
