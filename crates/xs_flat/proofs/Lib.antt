@@ -4,3 +4,6 @@ pub mod MainLaws
 pub mod OwnNames
 pub mod ItemLaws
 pub mod SymbolLaws
+pub mod Tables
+pub mod LookSplit
+pub mod Steps
