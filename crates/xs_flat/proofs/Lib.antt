@@ -7,3 +7,6 @@ pub mod SymbolLaws
 pub mod Tables
 pub mod LookSplit
 pub mod Steps
+pub mod LookFound
+pub mod NameKinds
+pub mod SymbolKinds
