@@ -10,3 +10,6 @@ pub mod Steps
 pub mod LookFound
 pub mod NameKinds
 pub mod SymbolKinds
+pub mod SceneFound
+pub mod SceneItems
+pub mod RowLaws

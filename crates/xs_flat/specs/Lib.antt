@@ -13,3 +13,5 @@ pub mod Walked
 pub mod Judging
 pub mod Flagged
 pub mod Steps
+pub mod Known
+pub mod Laid

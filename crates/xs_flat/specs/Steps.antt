@@ -1,9 +1,12 @@
--- One step of a look-up: what a part of a name means, or which formal it is.
-use Rattle.std.specs.Prelude.{ℕ, Bool, true, false, if◌then◌else◌, Option, Some, None}
+-- One step of a look-up: what a part of a name means, or which formal it is; and the items of an instance.
+use Rattle.std.specs.Prelude.{ℕ, Bool, true, false, if◌then◌else◌, Option, Some, None, slice_get, length}
 use Rattle.xs_tree.specs.ProgramTree.{Text}
-use Rattle.xs_flat.specs.FoundAt.{local_at, own_at, formal_at, symbol_at, told}
+use Rattle.xs_flat.specs.FoundAt.{names_of_spot, local_at, own_at, formal_at, symbol_at, told}
 use Rattle.xs_flat.specs.declared.modules.Local.{Local}
 use Rattle.xs_flat.specs.declared.modules.Local.TheVariants as local
+use Rattle.xs_flat.specs.declared.items.Numbered.{Numbered}
+use Rattle.xs_flat.specs.declared.modules.Names.{Names}
+use Rattle.xs_flat.specs.declared.walk.Spot.{Spot}
 use Rattle.xs_flat.specs.declared.walk.Meaning.{Meaning as Found}
 use Rattle.xs_flat.specs.declared.walk.Meaning.TheVariants as found
 use Rattle.xs_flat.specs.declared.names.Scene.{Scene}
@@ -23,3 +26,15 @@ step_at s spot last x = step_by_local s spot last x (local_at s spot x)
 abbrev pub found_by : Scene → ℕ → Step → Found
 found_by s spot (step.Means f) = f
 found_by s spot (step.Formal i) = told (formal_at s spot i)
+
+abbrev pub numbered_in : Option Names → ℕ → Option Numbered
+numbered_in None place = None
+numbered_in (Some names) place = slice_get names.items.items place
+
+-- the item at a place of an instance's module
+abbrev pub numbered_at : Scene → ℕ → ℕ → Option Numbered
+numbered_at s spot place = numbered_in (names_of_spot s (slice_get s.spots.items spot)) place
+
+abbrev pub count_in : Option Spot → ℕ
+count_in None = 0
+count_in (Some spot) = length spot.own.items

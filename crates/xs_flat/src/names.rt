@@ -10,9 +10,10 @@ ghost use Rattle.xs_flattening.specs.Model.{EachBoth};
 ghost use Rattle.xs_flat.specs.ItemTree.{item_tree};
 ghost use Rattle.xs_flat.specs.SceneTree.{AreModules, IsSpotWalked, IsScene, IsFound, program_of, items_at, number_and_item};
 ghost use Rattle.xs_flat.specs.FoundAt.{names_of_spot, local_at, own_at, formal_at, symbol_or, symbol_at, part_at, found_at, told};
-ghost use Rattle.xs_flat.specs.Steps.{step_at};
+ghost use Rattle.xs_flat.specs.Steps.{step_at, numbered_at, count_in};
+ghost use Rattle.xs_flat.specs.Known.{rows, rows_with, IsSameButFormals};
 
-use crate::items::Item;
+use crate::items::{Item, Numbered};
 use crate::modules::{Local, Modules, Names};
 use crate::symbols::symbols_of;
 use crate::walk::{Meaning, Spot};
@@ -105,7 +106,15 @@ impl<'a> Scene<'a> {
 
     /// The number of items of an instance's module.
     pub(crate) fn item_count(&self, spot: usize) -> usize
+        ensures own { result ≡ count_in (slice_get self.now.spots.items spot) }
         ensures count { IsScene self.now → result ≡ length (items_at (program_of self.now) spot) }
+    {
+        self.own_count(spot)
+    }
+
+    /// The number of meanings of an instance's items.
+    fn own_count(&self, spot: usize) -> usize
+        ensures { result ≡ count_in (slice_get self.now.spots.items spot) }
     {
         match self.spots.as_slice().get(spot) {
             Some(spot) => spot.own.len(),
@@ -161,10 +170,19 @@ impl<'a> Scene<'a> {
     pub(crate) fn item_at(&self, spot: usize, place: usize) -> Option<(Item<'a>, u32)>
         ensures item { IsScene self.now → option_map (λ r. (r.1, item_tree r.0)) result ≡ option_map number_and_item (slice_get (items_at (program_of self.now) spot) place) }
     {
-        let module = self.spots.as_slice().get(spot)?.module;
-        let names = self.modules.list.as_slice().get(module)?;
-        let numbered = names.items.as_slice().get(place)?;
-        Some((numbered.item, numbered.number))
+        match self.numbered_at(spot, place) {
+            Some(numbered) => Some((numbered.item, numbered.number)),
+            None => None,
+        }
+    }
+
+    fn numbered_at(&self, spot: usize, place: usize) -> Option<Numbered<'a>>
+        ensures { result ≡ numbered_at self.now spot place }
+    {
+        match self.names_at(spot) {
+            Some(names) => names.items.as_slice().get(place).copied(),
+            None => None,
+        }
     }
 
     /// What the item at a place means at an instance.
@@ -201,7 +219,10 @@ impl<'a> Scene<'a> {
         }
     }
 
-    pub(crate) fn set_formal(&mut self, spot: usize, formal: usize, known: Formal) {
+    pub(crate) fn set_formal(&mut self, spot: usize, formal: usize, known: Formal)
+        ensures same { IsSameButFormals self.old self.new }
+        ensures formals { rows self.new ≡ rows_with (rows self.old) spot formal known }
+    {
         if let Some(formals) = self.formals.get_mut(spot) {
             if let Some(place) = formals.get_mut(formal) {
                 *place = known;
