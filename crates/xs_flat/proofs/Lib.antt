@@ -12,3 +12,12 @@ pub mod NamesLaws
 pub mod PassedOn
 pub mod ModuleFaults
 pub mod ReadLaws
+pub mod Tables
+pub mod LookSplit
+pub mod Steps
+pub mod LookFound
+pub mod NameKinds
+pub mod SymbolKinds
+pub mod SceneFound
+pub mod SceneItems
+pub mod RowLaws
