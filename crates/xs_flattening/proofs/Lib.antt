@@ -28,3 +28,4 @@ pub mod HistoryLaws
 pub mod HistoryTraces
 pub mod Kept
 pub mod Meant
+pub mod Listed

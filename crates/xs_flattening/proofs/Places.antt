@@ -19,10 +19,10 @@ use Rattle.xs_tree.specs.Texts.{same_text, is_among}
 abbrev pub In : {A : Type 0} → A → List A → Type 0
 In x xs = (i : ℕ) × (slice_get xs i ≡ Some x)
 
-in_left : {A : Type 0} (x : A) (xs ys : List A) → In x xs → In x (xs ++ ys)
+pub in_left : {A : Type 0} (x : A) (xs ys : List A) → In x xs → In x (xs ++ ys)
 in_left x xs ys h = (h.0, get_left xs ys h.0 x h.1)
 
-in_right : {A : Type 0} (x : A) (xs ys : List A) → In x ys → In x (xs ++ ys)
+pub in_right : {A : Type 0} (x : A) (xs ys : List A) → In x ys → In x (xs ++ ys)
 in_right x [] ys h = h
 in_right x (y ∷ xs) ys h = let r : In x (xs ++ ys) = in_right x xs ys h in (suc r.0, r.1)
 
