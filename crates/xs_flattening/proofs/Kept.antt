@@ -2,7 +2,7 @@
 use Rattle.std.proofs.Common.{◌≡◌, ℕ, Bool, true, false, List, [], ◌∷◌, ◌++◌, length, Option, Some, None, refl, sym, ◌∙◌, subst}
 use Rattle.std.specs.Prelude.{codes, slice_get, map, nat_eq}
 use Rattle.std.proofs.Common.{eqb-true}
-use Rattle.xs_tree.specs.ProgramTree.{Text, Formula, ModuleTree, ProgramTree}
+use Rattle.xs_tree.specs.ProgramTree.{Text, Formula, instance, ModuleTree, ProgramTree}
 use Rattle.xs_tree.specs.Values.{opposite}
 use Rattle.xs_tree.specs.Texts.{same_text}
 use Rattle.xs_tree.proofs.ValueLaws.{same_text_equal}
@@ -10,12 +10,12 @@ use Rattle.xs_tree.specs.Scope.{Place, Kind, an_instance, find_module, formal_fr
 use Rattle.xs_tree.specs.Trace.{Each, IsInstance}
 use Rattle.xs_flattening.specs.Flat.{FlatInstance}
 use Rattle.xs_flattening.specs.Items.{Item, a_declaration, NumberedItem, items_of, items_named, Visit, visits, visits_of, walk, instances_of}
-use Rattle.xs_flattening.specs.Rules.{is_miscounted, is_other_count, a_use, module_sites, visit_sites, use_sites, IsKept, IsWalkable, IsAccepted}
+use Rattle.xs_flattening.specs.Rules.{is_missing_instance, is_miscounted, is_other_count, a_use, module_sites, visit_sites, use_sites, IsKept, IsWalkable, IsAccepted}
 use Rattle.xs_flattening.proofs.Reaches.{each_right}
 use Rattle.xs_flattening.proofs.Conditions.{each_at, each_flat, each_mapped}
 use Rattle.xs_flattening.proofs.KindLaws.{DeclaredBy, declared_by, sections_kind}
 use Rattle.xs_flattening.proofs.Sections.{AreInstances}
-use Rattle.xs_flattening.proofs.Places.{VisitFacts, all_visit_facts, Walked, walked, found_at, in_items, are_instances, In}
+use Rattle.xs_flattening.proofs.Places.{VisitFacts, all_visit_facts, Walked, walked, found_at, in_items, are_instances, there, In}
 use Rattle.xs_flattening.proofs.Walkable.{accepted_walkable, main_is_there}
 
 -- the module of a name has the name
@@ -76,10 +76,10 @@ same_count m k e = by_test (nat_eq (length m.formals) k) refl e
     by_test true t h = eqb-true (length m.formals) k t
     by_test false t h = let bad : true ≡ false = rw t at h in cc
 
--- an instance has as many actuals as its module has formals
-pub as_many : (p : ProgramTree) → IsWalkable p → (at : Place) (m : ModuleTree) → IsInstance p at m → (x n : Text) (actuals : List Formula) → kind_in m x ≡ an_instance n actuals →
-    (k : ModuleTree) → find_module p n ≡ Some k → length k.formals ≡ length actuals
-as_many p walkable at m is x n actuals kind k found = same_count k (length actuals) counted
+-- the visit of an instance's declaration
+visited : (p : ProgramTree) (walkable : IsWalkable p) (at : Place) (m : ModuleTree) → IsInstance p at m → (x n : Text) (actuals : List Formula) → kind_in m x ≡ an_instance n actuals →
+    (v : Visit) × VisitFacts p v × (v.decl.what ≡ instance n actuals)
+visited p walkable at m is x n actuals kind = (visit, facts, by.what)
   where
     w : Walked p walkable at m
     w = walked p walkable at m is
@@ -100,5 +100,15 @@ as_many p walkable at m is x n actuals kind k found = same_count k (length actua
     facts : VisitFacts p visit
     facts = each_at (VisitFacts p) (visits p) within.0 visit (all_visit_facts p walkable) within.1
 
-    counted : is_other_count (Some k) (length actuals) ≡ false
-    counted = subst (λ o. is_other_count o (length actuals) ≡ false) found (subst (λ t. is_miscounted p t ≡ false) by.what facts.counted)
+-- an instance has a module
+pub module_there : (p : ProgramTree) → IsWalkable p → (at : Place) (m : ModuleTree) → IsInstance p at m → (x n : Text) (actuals : List Formula) → kind_in m x ≡ an_instance n actuals →
+    (k : ModuleTree) × (find_module p n ≡ Some k)
+module_there p walkable at m is x n actuals kind =
+    let v = visited p walkable at m is x n actuals kind in there p n (subst (λ t. is_missing_instance p t ≡ false) v.2 v.1.exists)
+
+-- an instance has as many actuals as its module has formals
+pub as_many : (p : ProgramTree) → IsWalkable p → (at : Place) (m : ModuleTree) → IsInstance p at m → (x n : Text) (actuals : List Formula) → kind_in m x ≡ an_instance n actuals →
+    (k : ModuleTree) → find_module p n ≡ Some k → length k.formals ≡ length actuals
+as_many p walkable at m is x n actuals kind k found =
+    let v = visited p walkable at m is x n actuals kind in
+    same_count k (length actuals) (subst (λ o. is_other_count o (length actuals) ≡ false) found (subst (λ t. is_miscounted p t ≡ false) v.2 v.1.counted))
