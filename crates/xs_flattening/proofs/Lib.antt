@@ -26,3 +26,6 @@ pub mod OneTree
 pub mod OneModel
 pub mod HistoryLaws
 pub mod HistoryTraces
+pub mod Kept
+pub mod Meant
+pub mod Listed

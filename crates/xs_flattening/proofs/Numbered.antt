@@ -19,7 +19,7 @@ same_place_refl : (at : Place) → same_place at at ≡ true
 same_place_refl [] = refl
 same_place_refl (x ∷ at) = rw (same_text_refl x, same_place_refl at) refl
 
-same_place_equal : (at bt : Place) → same_place at bt ≡ true → at ≡ bt
+pub same_place_equal : (at bt : Place) → same_place at bt ≡ true → at ≡ bt
 same_place_equal [] [] h = refl
 same_place_equal [] (y ∷ bt) h = cc
 same_place_equal (x ∷ at) [] h = cc

@@ -6,7 +6,7 @@ use Rattle.xs_tree.specs.Scope.{Place, Role, Kind, a_formal, a_variable, a_defin
 use Rattle.xs_tree.specs.Trace.{Each, IsInstance}
 use Rattle.xs_flattening.specs.Flat.{FlatInstance}
 use Rattle.xs_flattening.specs.Items.{Item, a_declaration, a_definition, an_assignment, some_constants, an_init, an_invar, a_trans, NumberedItem, items_of, items_named, items_found, numbered_from, modules_from, Visit, visits_inside, visits_of, walk_items, walk, visits, instance_declared, instances_of_visit, instances_of}
-use Rattle.xs_flattening.specs.Rules.{is_missing_instance, is_on_path, no_such_module, module_loop, visit_sites, IsKept, IsWalkable}
+use Rattle.xs_flattening.specs.Rules.{is_missing_instance, is_miscounted, is_on_path, no_such_module, wrong_count, module_loop, visit_sites, IsKept, IsWalkable}
 use Rattle.xs_flattening.proofs.Reaches.{each_left, each_right}
 use Rattle.xs_flattening.proofs.Lists.{get_left}
 use Rattle.xs_flattening.proofs.Conditions.{each_join, each_at}
@@ -19,10 +19,10 @@ use Rattle.xs_tree.specs.Texts.{same_text, is_among}
 abbrev pub In : {A : Type 0} → A → List A → Type 0
 In x xs = (i : ℕ) × (slice_get xs i ≡ Some x)
 
-in_left : {A : Type 0} (x : A) (xs ys : List A) → In x xs → In x (xs ++ ys)
+pub in_left : {A : Type 0} (x : A) (xs ys : List A) → In x xs → In x (xs ++ ys)
 in_left x xs ys h = (h.0, get_left xs ys h.0 x h.1)
 
-in_right : {A : Type 0} (x : A) (xs ys : List A) → In x ys → In x (xs ++ ys)
+pub in_right : {A : Type 0} (x : A) (xs ys : List A) → In x ys → In x (xs ++ ys)
 in_right x [] ys h = h
 in_right x (y ∷ xs) ys h = let r : In x (xs ++ ys) = in_right x xs ys h in (suc r.0, r.1)
 
@@ -34,16 +34,17 @@ in_flat f x y (z ∷ xs) (suc i) e h = in_right y (f z) (flat_map f xs) (in_flat
 -- what the rules give at a visit
 pub record VisitFacts (p : ProgramTree) (v : Visit) : Type 0 where
   pub exists : is_missing_instance p v.decl.what ≡ false
+  pub counted : is_miscounted p v.decl.what ≡ false
   pub apart : is_on_path v.on_path v.decl.what ≡ false
 
-not_true : (b : Bool) → (b ≡ true → ⊥) → b ≡ false
+pub not_true : (b : Bool) → (b ≡ true → ⊥) → b ≡ false
 not_true true h = absurd (h refl)
 not_true false h = refl
 
 visits_kept : (p : ProgramTree) (before vs : List Visit) → Each (IsKept p) (visit_sites before vs) → Each (VisitFacts p) vs
 visits_kept p before [] h = tt
 visits_kept p before (v ∷ vs) h =
-    (record { exists = not_true _ (h.0 no_such_module); apart = not_true _ (h.0 module_loop) }, visits_kept p (before ++ v ∷ []) vs h.1)
+    (record { exists = not_true _ (h.0 no_such_module); counted = not_true _ (h.0 wrong_count); apart = not_true _ (h.0 module_loop) }, visits_kept p (before ++ v ∷ []) vs h.1)
 
 pub there : (p : ProgramTree) (x : Text) → IsThere p x → (m : ModuleTree) × (find_module p x ≡ Some m)
 there p x h = by_find (find_module p x) refl
@@ -181,7 +182,7 @@ module _ (p : ProgramTree) (walkable : IsWalkable p) where
     pub instances : In (record { place = x ∷ at; module_name = n }) (instances_of_visit visit)
     pub inside : (k : ModuleTree) → find_module p n ≡ Some k → Walked (x ∷ at) k
 
-  below : (at : Place) (m : ModuleTree) (w : Walked at m) (x : Text) (n : Text) (actuals : List Formula) → kind_in m x ≡ an_instance n actuals → Below at x n
+  pub below : (at : Place) (m : ModuleTree) (w : Walked at m) (x : Text) (n : Text) (actuals : List Formula) → kind_in m x ≡ an_instance n actuals → Below at x n
   below at m w x n actuals kind = record { visit = visit; within = within; instances = listed; inside = inside }
     where
       in_sections : (o : Option ℕ) (k : Kind) → kind_after_formals o k ≡ an_instance n actuals → k ≡ an_instance n actuals
@@ -260,7 +261,7 @@ module _ (p : ProgramTree) (walkable : IsWalkable p) where
     pub kind : kind_in tree x ≡ an_instance module_name actuals
     pub found : find_module p module_name ≡ Some m
 
-  above : (at : Place) (x : Text) (m : ModuleTree) → IsInstance p (x ∷ at) m → Above at x m
+  pub above : (at : Place) (x : Text) (m : ModuleTree) → IsInstance p (x ∷ at) m → Above at x m
   above at x m is = by_module (module_at p at) refl is
     where
       by_kind : (k : ModuleTree) → module_at p at ≡ Some k → (kind : Kind) → kind_in k x ≡ kind → module_of_kind p kind ≡ Some m → Above at x m

@@ -1,7 +1,9 @@
 -- A look-up step by step, and when it comes back to a formal.
-use Rattle.std.specs.Prelude.{◌≡◌, ℕ, zero, suc, [], ◌∷◌, ◌++◌, Option, Some, None}
-use Rattle.xs_tree.specs.ProgramTree.{Text, Path, Formula, ProgramTree}
-use Rattle.xs_tree.specs.Scope.{Place, Kind, a_formal, a_variable, a_define, an_instance, undeclared, plain_name, kind_at, module_at, actual_of_kind, means_in}
+use Rattle.std.specs.Prelude.{◌≡◌, ℕ, zero, suc, List, [], ◌∷◌, ◌++◌, Option, Some, None}
+use Rattle.xs_tree.specs.Tree.{leaf}
+use Rattle.xs_tree.specs.ProgramTree.{Text, Path, Formula, ModuleTree, ProgramTree}
+use Rattle.xs_tree.specs.Trace.{IsInstance}
+use Rattle.xs_tree.specs.Scope.{Place, Kind, a_formal, a_variable, a_define, an_instance, undeclared, plain_name, nth_formula, kind_in, kind_at, module_at, actual_of_kind, means_in, Meaning, Means}
 
 pub record Look : Type 0 where
   pub place : Place
@@ -54,3 +56,9 @@ MeetsLoop p at name =
 pub record MeansNothing (p : ProgramTree) (at : Place) (name : Path) : Type 0 where
   pub no_meaning : (n : ℕ) → means_in n p at name ≡ None
   pub no_loop : MeetsLoop p at name → ⊥
+
+-- each actual that is a name means something where it is written
+abbrev pub ActualsMean : ProgramTree → Type 0
+ActualsMean p =
+    (at : Place) (m : ModuleTree) → IsInstance p at m → (x n : Text) (actuals : List Formula) → kind_in m x ≡ an_instance n actuals → (k : ℕ) (name : Path) → nth_formula actuals k ≡ Some (leaf name) →
+    (meaning : Meaning) × Means p at name meaning
