@@ -21,3 +21,4 @@ pub mod SymbolKinds
 pub mod SceneFound
 pub mod SceneItems
 pub mod RowLaws
+pub mod ActualLaws
