@@ -13,3 +13,5 @@ pub mod SymbolKinds
 pub mod SceneFound
 pub mod SceneItems
 pub mod RowLaws
+pub mod Heads
+pub mod Told
