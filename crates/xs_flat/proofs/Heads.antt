@@ -77,7 +77,7 @@ instance_number p walkable i j a b e f same =
     (not_main (visits p) (record { place = []; module_name = codes "main" }) refl, all_other (visits p) apart) e f same
 
 -- no two formals of a module have one name
-among_there : (xs : List Text) (j : ℕ) (x : Text) → slice_get xs j ≡ Some x → is_among xs x ≡ true
+pub among_there : (xs : List Text) (j : ℕ) (x : Text) → slice_get xs j ≡ Some x → is_among xs x ≡ true
 among_there [] j x e = never x e
 among_there (y ∷ xs) zero x e = rw (of_some y x e, same_text_refl x) refl
 among_there (y ∷ xs) (suc j) x e = rw (among_there xs j x e) (or_true (same_text y x))
@@ -86,7 +86,7 @@ among_there (y ∷ xs) (suc j) x e = rw (among_there xs j x e) (or_true (same_te
     or_true true = refl
     or_true false = refl
 
-not_both : (b : Bool) → b ≡ true → b ≡ false → ⊥
+pub not_both : (b : Bool) → b ≡ true → b ≡ false → ⊥
 not_both b e f = let bad : true ≡ false = sym e ∙ f in cc
 
 pub formal_number : (xs : List Text) (i j : ℕ) (x : Text) → has_twice xs ≡ false → slice_get xs i ≡ Some x → slice_get xs j ≡ Some x → i ≡ j
@@ -116,7 +116,7 @@ found_once (first ∷ more) n before x m e h = by_name (same_text first.name x) 
     by_name true t rest = ap (λ (k : ModuleTree). has_twice k.formals) (sym (of_some first m (rw t at e))) ∙ h.0
     by_name false t rest = rest (rw t at e)
 
-formals_once : (p : ProgramTree) → IsWalkable p → (x : Text) (m : ModuleTree) → find_module p x ≡ Some m → has_twice m.formals ≡ false
+pub formals_once : (p : ProgramTree) → IsWalkable p → (x : Text) (m : ModuleTree) → find_module p x ≡ Some m → has_twice m.formals ≡ false
 formals_once p walkable x m e =
     found_once p 1 [] x m e
     (each_more (λ (m : NumberedModule). Each (IsKept p) (a_header m ∷ map (an_item m) (numbered_items m))) HasOnce (modules_of p)

@@ -15,3 +15,6 @@ pub mod SceneItems
 pub mod RowLaws
 pub mod Heads
 pub mod Told
+pub mod HeadKinds
+pub mod Naming
+pub mod NamingItems

@@ -7,7 +7,8 @@ use Rattle.xs_flattening.specs.Flat.{FlatInstance}
 use Rattle.xs_flattening.specs.Items.{instances_of}
 use Rattle.xs_flattening.specs.Looks.{Look, look_after}
 use Rattle.xs_flat.specs.SceneTree.{IsKnown, formals_of}
-use Rattle.xs_flat.specs.FoundAt.{formal_or}
+use Rattle.xs_flat.specs.FoundAt.{names_of_spot, formal_or}
+use Rattle.xs_flat.specs.declared.modules.Names.{Names}
 use Rattle.xs_flat.specs.declared.names.Formal.{Formal}
 use Rattle.xs_flat.specs.declared.names.Formal.TheVariants as known
 use Rattle.xs_flat.specs.declared.names.Scene.{Scene}
@@ -22,6 +23,14 @@ rows s = rows_of s.formals.items
 abbrev pub row_or : Option (List Formal) → List Formal
 row_or None = []
 row_or (Some fs) = fs
+
+abbrev pub formals_in : Option Names → ℕ
+formals_in None = 0
+formals_in (Some names) = length names.«module».now.formals
+
+-- the number of formals of an instance's module
+abbrev pub formals_at : Scene → ℕ → ℕ
+formals_at s spot = formals_in (names_of_spot s (slice_get s.spots.items spot))
 
 -- with something else known of one formal
 abbrev pub rows_with : List (List Formal) → ℕ → ℕ → Formal → List (List Formal)
