@@ -18,3 +18,4 @@ pub mod Told
 pub mod HeadKinds
 pub mod Naming
 pub mod NamingItems
+pub mod Unknowns

@@ -4,7 +4,10 @@ use Rattle.std.specs.Prelude.{slice_get, slice_set, option_map, flat_map}
 use Rattle.std.specs.declared.alloc.Global.{Global}
 use Rattle.std.proofs.lemmas.List.{drop_all, take_all, length-set, append-nil}
 use Rattle.std.proofs.lemmas.Bool.{ltb-true, ltb-false}
+use Rattle.std.specs.Borrow.{Bor}
+use Rattle.xs_tree.specs.declared.expr.Expr.{Expr}
 use Rattle.xs_tree.specs.declared.program.Decl.{Decl}
+use Rattle.xs_tree.specs.declared.program.Define.{Define}
 use Rattle.xs_tree.specs.declared.program.Declared.{Declared}
 use Rattle.xs_tree.specs.declared.program.Declared.TheVariants as declared
 use Rattle.xs_tree.specs.ProgramTree.{Text, Path, Formula, DeclaredTree, boolean, range, members, instance, DeclTree, DefineTree, ProgramTree, declared_tree, decl_tree, define_tree}
@@ -23,6 +26,7 @@ use Rattle.xs_flat.specs.FoundAt.{own_at, own_in, found_or}
 use Rattle.xs_flat.specs.Steps.{numbered_at, count_in}
 use Rattle.xs_flat.specs.Known.{rows_of, rows, AreTold}
 use Rattle.xs_flat.specs.Laid.{IsLaidSpot, IsLaid, IsLeft, IsNaming, IsSameProgram, IsActualAt, NamesActual, IsItemAt, NamesDeclared, AreActualsAt, NamesActuals, NamesItem, roots_at, NamesItems, with_own_in, with_own, IsSpotBy, IsNamedTo}
+use Rattle.xs_flat.specs.declared.model.Role.{Role as Role'}
 use Rattle.xs_flat.specs.declared.items.Item.{Item}
 use Rattle.xs_flat.specs.declared.items.Item.TheVariants as code
 use Rattle.xs_flat.specs.declared.items.Numbered.{Numbered}
@@ -33,7 +37,8 @@ use Rattle.xs_flat.specs.declared.names.Formal.{Formal}
 use Rattle.xs_flat.specs.declared.names.Defined.{Defined}
 use Rattle.xs_flat.specs.declared.names.Scene.{Scene}
 use Rattle.xs_flat.proofs.LookSplit.{never, of_some}
-use Rattle.xs_flat.proofs.SceneItems.{both_length, item_listed}
+use Rattle.xs_flat.proofs.SceneItems.{both_length, item_listed, get_map}
+use Rattle.xs_flat.proofs.RowLaws.{get_there}
 use Rattle.xs_flat.proofs.Told.{set_get, set_own, get_below}
 use Rattle.xs_flat.proofs.HeadKinds.{definition_kind, declaration_kind}
 use Rattle.xs_flat.proofs.Naming.{both_push, program_same, naming_at, naming_pushed, left_number}
@@ -463,3 +468,35 @@ none_named s modules walkable spots none told = record {
     by j at e =
         let w : (w : Spot) × (slice_get s.spots.items j ≡ Some w) × IsSpotWalked (program_of s) at w = both_at (IsSpotWalked (program_of s)) (instances_of (program_of s)) s.spots.items j at spots e in
         record { spot = w.0; is = w.1; done = λ h. absurd (omega (arith, h)); walked = λ h. w.2 }
+
+-- an item that is no declaration and no define
+pub no_names : (i : Item) → ((r : Role') (d : Bor Decl) → i ≡ code.Declared r d → ⊥) → ((d : Bor Define) → i ≡ code.Defined d → ⊥) → NamesNone (item_tree i)
+no_names (code.Declared r d) h g = h r d refl
+no_names (code.Defined d) h g = g d refl
+no_names (code.Assigned a) h g = tt
+no_names (code.Constants xs) h g = tt
+no_names (code.Init e) h g = tt
+no_names (code.Invar e) h g = tt
+no_names (code.Trans e) h g = tt
+
+-- a declared type that is no instance
+pub no_instance : (w : Declared) → ((m : Text) (es : List (Expr Path)) → w ≡ declared.Instance m es → ⊥) → IsVariableTree (declared_tree w)
+no_instance declared.Boolean h = tt
+no_instance (declared.Range lo hi) h = tt
+no_instance (declared.Members ms) h = tt
+no_instance (declared.Instance m es) h = h m es refl
+
+pub not_instance : (f : Found) → ((k : ℕ) → f ≡ found.Instance k → ⊥) → IsNoInstance f
+not_instance (found.Instance k) h = h k refl
+not_instance (found.Variable k r) h = tt
+not_instance (found.Definition k) h = tt
+not_instance (found.Symbol k) h = tt
+not_instance found.Nothing h = tt
+not_instance found.Loop h = tt
+
+-- the tree of the expression at a place
+pub tree_there : (es : List (Expr Path)) (k : ℕ) (e : Expr Path) → k < length es → e ≡ get_or es k e → slice_get (map tree_of es) k ≡ Some (tree_of e)
+tree_there es k e within is = get_map tree_of es k ∙ ap (option_map tree_of) (get_there es k e within is)
+
+pub same_many : (old new : Scene) (j k : ℕ) → new.modules ≡ old.modules → IsNamedTo old j → IsNamedTo new k → length new.spots.items ≡ length old.spots.items
+same_many old new j k same a b = b.many ∙ ap (λ p. length (instances_of p)) (program_same old new same) ∙ sym a.many

@@ -1,5 +1,5 @@
 -- What is known of the formals while they are looked up.
-use Rattle.std.specs.Prelude.{◌≡◌, ℕ, suc, List, [], ◌∷◌, length, map, Option, Some, None, slice_get, slice_set, Vec}
+use Rattle.std.specs.Prelude.{◌≡◌, ℕ, zero, suc, List, [], ◌∷◌, ◌++◌, replicate, length, map, Option, Some, None, slice_get, slice_set, Vec}
 use Rattle.std.specs.declared.alloc.Global.{Global}
 use Rattle.xs_tree.specs.ProgramTree.{Text, Path, ModuleTree, ProgramTree}
 use Rattle.xs_tree.specs.Scope.{Place, find_module}
@@ -31,6 +31,11 @@ formals_in (Some names) = length names.«module».now.formals
 -- the number of formals of an instance's module
 abbrev pub formals_at : Scene → ℕ → ℕ
 formals_at s spot = formals_in (names_of_spot s (slice_get s.spots.items spot))
+
+-- the formals of the first so many instances, of which nothing is known
+abbrev pub unknown_to : Scene → ℕ → List (List Formal)
+unknown_to s zero = []
+unknown_to s (suc k) = unknown_to s k ++ replicate (formals_at s k) known.Unknown ∷ []
 
 -- with something else known of one formal
 abbrev pub rows_with : List (List Formal) → ℕ → ℕ → Formal → List (List Formal)

@@ -15,3 +15,4 @@ pub mod Flagged
 pub mod Steps
 pub mod Known
 pub mod Laid
+pub mod Waiting

@@ -99,8 +99,17 @@ impl<'a> Scene<'a> {
     {
         for spot in 0..self.spots.len() {
             let count = self.formals_of(spot);
-            self.formals.push(unknown(alloc, count)?)?;
+            let formals = unknown(alloc, count)?;
+            self.push_formals(formals)?;
         }
+        Ok(())
+    }
+
+    fn push_formals(&mut self, formals: Vec<Formal>) -> Result<(), OutOfMemory>
+        ensures same { IsSameButFormals self.old self.new }
+        ensures pushed { OnOk result (self.new.formals.items ≡ self.old.formals.items ++ formals ∷ []) }
+    {
+        self.formals.push(formals)?;
         Ok(())
     }
 
@@ -169,10 +178,14 @@ impl<'a> Scene<'a> {
         ensures same { IsSameProgram self.old self.new }
         ensures named { OnOk result (NamesDeclared self.old self.new spot item (decl_tree decl.now) walked) }
     {
-        match (&decl.what, walked) {
-            (Declared::Instance(_, actuals), Meaning::Instance(inner)) => {
-                self.add_actuals(spot, item, inner, actuals.as_slice())
-            }
+        match &decl.what {
+            Declared::Instance(_, actuals) => match walked {
+                Meaning::Instance(inner) => {
+                    self.add_actuals(spot, item, inner, actuals.as_slice())?;
+                    Ok(())
+                }
+                _ => Ok(()),
+            },
             _ => Ok(()),
         }
     }
