@@ -19,3 +19,5 @@ pub mod HeadKinds
 pub mod Naming
 pub mod NamingItems
 pub mod Unknowns
+pub mod LookAfter
+pub mod Frames
