@@ -22,3 +22,11 @@ pub mod SceneFound
 pub mod SceneItems
 pub mod RowLaws
 pub mod ActualLaws
+pub mod Heads
+pub mod Told
+pub mod HeadKinds
+pub mod Naming
+pub mod NamingItems
+pub mod Unknowns
+pub mod LookAfter
+pub mod Frames

@@ -44,7 +44,7 @@ look_at at name = record { place = at; name = name }
 first_part : (w z : Text) (ws r more : Path) → (w ∷ ws) ++ more ≡ z ∷ r → w ≡ z
 first_part w z ws r more e = cc
 
-same_part : (k : Look) (more : Path) (at' : Place) (z : Text) (r : Path) → with_more k more ≡ look_at at' (z ∷ r) → (part : HasPart k) → (k.place ≡ at') × (part.0 ≡ z)
+pub same_part : (k : Look) (more : Path) (at' : Place) (z : Text) (r : Path) → with_more k more ≡ look_at at' (z ∷ r) → (part : HasPart k) → (k.place ≡ at') × (part.0 ≡ z)
 same_part k more at' z r same part = (
   ap (λ (l : Look). l.place) same,
   first_part part.0 z part.1 r more (ap (λ ws. ws ++ more) (sym part.2) ∙ ap (λ (l : Look). l.name) same),

@@ -16,3 +16,4 @@ pub mod Reading
 pub mod Steps
 pub mod Known
 pub mod Laid
+pub mod Waiting

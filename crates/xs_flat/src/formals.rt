@@ -1,92 +1,133 @@
 //! What formals mean. The look-up of a formal goes through its actual, where it may meet other formals,
 //! and these again others. Look-ups that wait for another one stand on a stack of their own, since there
-//! can be as many as there are formals; each formal is looked up once.
+//! can be as many as there are formals; each formal is looked up once. Where the topmost look-up comes to
+//! a formal whose own look-up waits below it, those from that one on are a circle. Their formals are
+//! answered at once, and they are taken from the stack as their turns come.
 
-use crate::names::{Formal, Scene, Step};
+ghost use Rattle.std.specs.Prelude.{◌≡◌, ◌∷◌, ◌++◌, true, option_copied, slice_get, IfSome, OnOk};
+ghost use Rattle.xs_flat.specs.SceneTree.{IsScene, program_of};
+ghost use Rattle.xs_flat.specs.FoundAt.{formal_at};
+ghost use Rattle.xs_flat.specs.Steps.{known_at, is_open as is_open_of, row_count, row_answered as answered_row, all_answered as answered_all, gone_inside};
+ghost use Rattle.xs_flat.specs.Known.{rows, formal_of, IsOpen, IsSameButFormals};
+ghost use Rattle.xs_flat.specs.Waiting.{IsFormal, IsFrame, LastWaits, IsReady, IsWaiting, IsProgress, IsCircled};
+
+use crate::names::{Formal, Scene, Step, plain_name_of, told};
 use crate::walk::Meaning;
 use std::alloc::Global;
-use xs_tree::Expr;
 use xs_value::{Name, OutOfMemory};
 
 /// A look-up that has begun: the formal of an instance, and the parts of its actual that are still to be
 /// looked up, at the instance `here`.
 #[derive(Clone, Copy)]
-struct Frame<'a> {
-    spot: usize,
-    formal: usize,
-    here: usize,
-    rest: &'a [Name],
+pub(crate) struct Frame<'a> {
+    pub spot: usize,
+    pub formal: usize,
+    pub here: usize,
+    pub rest: &'a [Name],
 }
 
-/// How far a look-up comes: to an answer, or to a formal that has none yet.
-enum Reached {
-    Answer(Meaning),
-    Formal { spot: usize, formal: usize },
+/// How a look-up goes on at its next part: further, to an answer, or not before the formal that the part
+/// is has an answer itself.
+pub(crate) enum Progress<'a> {
+    Further(Frame<'a>),
+    Ended(Meaning),
+    Waits(usize),
+}
+
+/// What a part of a name means, or the formal that it is, if that has no answer yet.
+pub(crate) enum Part {
+    Known(Meaning),
+    Waits(usize),
 }
 
 impl<'a> Scene<'a> {
     /// Looks up all formals.
-    pub(crate) fn answer_formals(&mut self, alloc: Global) -> Result<(), OutOfMemory> {
+    pub(crate) fn answer_formals(&mut self, alloc: Global) -> Result<(), OutOfMemory>
+        requires { IsReady self.old }
+        ensures same { IsSameButFormals self.old self.new }
+        ensures scene { OnOk result (IsScene self.new) }
+    {
         for spot in 0..self.formals.len() {
-            for formal in 0..self.formal_count(spot) {
-                if self.formal(spot, formal) == Formal::Unknown {
-                    self.answer_formal(alloc, spot, formal)?;
-                }
-            }
+            self.answer_row(alloc, spot)?;
         }
-        Ok(())
-    }
-
-    fn formal_count(&self, spot: usize) -> usize {
-        match self.formals.as_slice().get(spot) {
-            Some(formals) => formals.len(),
-            None => 0,
-        }
-    }
-
-    /// The number of all formals, as far as numbers go.
-    fn all_formals(&self) -> usize {
-        let mut total: usize = 0;
-        for formals in self.formals.as_slice() {
-            total = total.saturating_add(formals.len());
-        }
-        total
-    }
-
-    /// Looks up a formal and all that it needs. Each turn begins a look-up or ends one, so twice the
-    /// number of formals is enough of them.
-    fn answer_formal(
-        &mut self,
-        alloc: Global,
-        spot: usize,
-        formal: usize,
-    ) -> Result<(), OutOfMemory> {
-        let turns = self.all_formals().saturating_mul(2);
-        let mut waiting = Vec::new(alloc);
-        self.begin(&mut waiting, spot, formal)?;
-        for _turn in 0..turns {
-            let Some(frame) = waiting.pop() else {
-                return Ok(());
-            };
-            self.take_turn(&mut waiting, frame)?;
-        }
-        if waiting.is_empty() {
+        if self.all_answered() {
             Ok(())
         } else {
             Err(OutOfMemory)
         }
     }
 
-    /// Puts the look-up of a formal that nothing is known of on the stack.
+    /// Looks up the formals of an instance.
+    fn answer_row(&mut self, alloc: Global, spot: usize) -> Result<(), OutOfMemory>
+        requires { IsReady self.old }
+        ensures same { IsSameButFormals self.old self.new }
+        ensures ready { OnOk result (IsReady self.new) }
+    {
+        for formal in 0..self.formal_count(spot) {
+            if is_open(self.formal(spot, formal)) {
+                self.answer_formal(alloc, spot, formal)?;
+            }
+        }
+        Ok(())
+    }
+
+    fn formal_count(&self, spot: usize) -> usize
+        ensures { result ≡ row_count self.now spot }
+    {
+        match self.formals.as_slice().get(spot) {
+            Some(formals) => formals.len(),
+            None => 0,
+        }
+    }
+
+    /// Whether no formal is left without an answer.
+    fn all_answered(&self) -> bool
+        ensures { result ≡ answered_all self.now.formals.items }
+    {
+        self.formals.iter().all(|formals| row_answered(formals.as_slice()))
+    }
+
+    /// Looks up a formal and all that it needs. The look-ups end long before the turns do.
+    fn answer_formal(
+        &mut self,
+        alloc: Global,
+        spot: usize,
+        formal: usize,
+    ) -> Result<(), OutOfMemory>
+        requires ready { IsReady self.old }
+        requires formal { IsFormal (program_of self.old) spot formal }
+        requires unanswered { IsOpen (formal_at self.old spot formal) }
+        ensures same { IsSameButFormals self.old self.new }
+        ensures ready { OnOk result (IsReady self.new) }
+    {
+        let mut waiting = Vec::new(alloc);
+        self.begin(&mut waiting, spot, formal)?;
+        for _turn in 0..usize::MAX {
+            let Some(frame) = waiting.pop() else {
+                return Ok(());
+            };
+            self.take_turn(&mut waiting, frame)?;
+        }
+        Err(OutOfMemory)
+    }
+
+    /// Puts the look-up of a formal that has no answer on the stack. Its actual is a plain name, since other
+    /// actuals are answered already.
     fn begin(
         &mut self,
         waiting: &mut Vec<Frame<'a>>,
         spot: usize,
         formal: usize,
-    ) -> Result<(), OutOfMemory> {
+    ) -> Result<(), OutOfMemory>
+        requires waiting { IsWaiting self.old waiting.old.items }
+        requires last { LastWaits (program_of self.old) waiting.old.items spot formal }
+        requires formal { IsFormal (program_of self.old) spot formal }
+        requires unanswered { IsOpen (formal_at self.old spot formal) }
+        ensures same { IsSameButFormals self.old self.new }
+        ensures waiting { OnOk result (IsWaiting self.new waiting.new.items) }
+    {
         let Some(frame) = self.frame_of(spot, formal) else {
-            self.set_formal(spot, formal, Formal::Means(Meaning::Nothing));
-            return Ok(());
+            return Err(OutOfMemory);
         };
         self.set_formal(spot, formal, Formal::Begun);
         waiting.push(frame)?;
@@ -94,78 +135,171 @@ impl<'a> Scene<'a> {
     }
 
     /// The look-up of a formal, at its actual's first part.
-    fn frame_of(&self, spot: usize, formal: usize) -> Option<Frame<'a>> {
-        let inner = self.spots.as_slice().get(spot)?;
-        match inner.actuals.get(formal)? {
-            Expr::Leaf(name) => Some(Frame {
-                spot,
-                formal,
-                here: inner.caller,
-                rest: name.parts(),
-            }),
-            _ => None,
-        }
+    fn frame_of(&self, spot: usize, formal: usize) -> Option<Frame<'a>>
+        requires ready { IsReady self.now }
+        requires formal { IsFormal (program_of self.now) spot formal }
+        ensures frame { IfSome result (IsFrame (program_of self.now) (rows self.now)) }
+        ensures spot { IfSome result (λ f. f.spot ≡ spot) }
+        ensures formal { IfSome result (λ f. f.formal ≡ formal) }
+    {
+        let own = self.spots.as_slice().get(spot)?;
+        let value = own.actuals.get(formal)?;
+        let name = plain_name_of(value)?;
+        Some(Frame {
+            spot,
+            formal,
+            here: own.caller,
+            rest: name.parts(),
+        })
     }
 
-    /// Goes on with the topmost look-up until it ends or has to wait.
+    /// Goes on with the topmost look-up by one part. One whose formal has got its answer is done.
     fn take_turn(
         &mut self,
         waiting: &mut Vec<Frame<'a>>,
         frame: Frame<'a>,
-    ) -> Result<(), OutOfMemory> {
-        let (frame, reached) = self.go_on(frame);
-        match reached {
-            Reached::Answer(meaning) => {
+    ) -> Result<(), OutOfMemory>
+        requires { IsWaiting self.old (waiting.old.items ++ frame.entry ∷ []) }
+        ensures same { IsSameButFormals self.old self.new }
+        ensures waiting { OnOk result (IsWaiting self.new waiting.new.items) }
+    {
+        if !is_open(self.formal(frame.spot, frame.formal)) {
+            return Ok(());
+        }
+        match self.advance(frame) {
+            Progress::Further(next) => {
+                waiting.push(next)?;
+                Ok(())
+            }
+            Progress::Ended(meaning) => {
                 self.set_formal(frame.spot, frame.formal, Formal::Means(meaning));
                 Ok(())
             }
-            Reached::Formal { spot, formal } => {
+            Progress::Waits(formal) => {
                 waiting.push(frame)?;
-                if self.formal(spot, formal) == Formal::Begun {
-                    self.close_circle(waiting, spot, formal);
-                    Ok(())
+                self.wait_for(waiting, frame.here, formal)
+            }
+        }
+    }
+
+    /// Begins the look-up that the topmost one waits for, or closes the circle that it comes back to.
+    fn wait_for(
+        &mut self,
+        waiting: &mut Vec<Frame<'a>>,
+        spot: usize,
+        formal: usize,
+    ) -> Result<(), OutOfMemory>
+        requires waiting { IsWaiting self.old waiting.old.items }
+        requires last { LastWaits (program_of self.old) waiting.old.items spot formal }
+        requires formal { IsFormal (program_of self.old) spot formal }
+        requires unanswered { IsOpen (formal_at self.old spot formal) }
+        ensures same { IsSameButFormals self.old self.new }
+        ensures waiting { OnOk result (IsWaiting self.new waiting.new.items) }
+    {
+        match self.formal(spot, formal) {
+            Formal::Begun => {
+                self.close_circle(waiting, spot, formal)?;
+                Ok(())
+            }
+            _ => self.begin(waiting, spot, formal),
+        }
+    }
+
+    /// One part of a look-up.
+    fn advance(&self, frame: Frame<'a>) -> Progress<'a>
+        requires ready { IsReady self.now }
+        requires frame { IsFrame (program_of self.now) (rows self.now) frame.entry }
+        ensures { IsProgress (program_of self.now) (rows self.now) frame.entry result }
+    {
+        let [part, more @ ..] = frame.rest else {
+            return Progress::Ended(Meaning::Nothing);
+        };
+        match self.known_part(frame.here, part) {
+            Part::Waits(formal) => Progress::Waits(formal),
+            Part::Known(found) => {
+                if more.is_empty() {
+                    Progress::Ended(found)
                 } else {
-                    self.begin(waiting, spot, formal)
+                    go_inside(frame, more, found)
                 }
             }
         }
     }
 
-    /// Takes a look-up as far as the formals that are answered lead it.
-    fn go_on(&self, frame: Frame<'a>) -> (Frame<'a>, Reached) {
-        let mut frame = frame;
-        while let [part, more @ ..] = frame.rest {
-            let last = more.is_empty();
-            let found = match self.step(frame.here, part, last) {
-                Step::Means(meaning) => meaning,
-                Step::Formal(formal) => match self.formal(frame.here, formal) {
-                    Formal::Means(meaning) => meaning,
-                    Formal::Circle => Meaning::Loop,
-                    Formal::Unknown | Formal::Begun => {
-                        let spot = frame.here;
-                        return (frame, Reached::Formal { spot, formal });
-                    }
-                },
-            };
-            match found {
-                found if last => return (frame, Reached::Answer(found)),
-                Meaning::Instance(inner) => frame.here = inner,
-                Meaning::Loop => return (frame, Reached::Answer(Meaning::Loop)),
-                _ => return (frame, Reached::Answer(Meaning::Nothing)),
+    /// What a part means at an instance, or the formal that it is, if that has no answer yet.
+    fn known_part(&self, spot: usize, part: &Name) -> Part
+        ensures { result ≡ known_at self.now spot part.now }
+    {
+        match self.step(spot, part, true) {
+            Step::Means(meaning) => Part::Known(meaning),
+            Step::Formal(formal) => {
+                let known = self.formal(spot, formal);
+                if is_open(known) {
+                    Part::Waits(formal)
+                } else {
+                    Part::Known(told(known))
+                }
             }
-            frame.rest = more;
         }
-        (frame, Reached::Answer(Meaning::Nothing))
     }
 
-    /// Ends the look-ups from that of a formal to the topmost one, each of which leads to the next and the
-    /// last one back to the first.
-    fn close_circle(&mut self, waiting: &mut Vec<Frame<'a>>, spot: usize, formal: usize) {
-        while let Some(frame) = waiting.pop() {
+    /// Answers the look-ups from that of a formal to the topmost one, each of which leads to the next and
+    /// the last one back to the first.
+    fn close_circle(
+        &mut self,
+        waiting: &[Frame<'a>],
+        spot: usize,
+        formal: usize,
+    ) -> Result<(), OutOfMemory>
+        ensures same { IsSameButFormals self.old self.new }
+        ensures circle { OnOk result (IsCircled (rows self.old) (rows self.new) waiting.now spot formal) }
+    {
+        let mut left = waiting;
+        while let [below @ .., frame] = left {
             self.set_formal(frame.spot, frame.formal, Formal::Circle);
             if frame.spot == spot && frame.formal == formal {
-                return;
+                return Ok(());
             }
+            left = below;
+        }
+        Err(OutOfMemory)
+    }
+}
+
+/// The parts after one that means this are looked up inside it, if it is an instance.
+fn go_inside<'a>(frame: Frame<'a>, more: &'a [Name], found: Meaning) -> Progress<'a>
+    ensures { result ≡ gone_inside frame.entry more.entry found }
+{
+    match found {
+        Meaning::Instance(inner) => Progress::Further(Frame {
+            spot: frame.spot,
+            formal: frame.formal,
+            here: inner,
+            rest: more,
+        }),
+        Meaning::Loop => Progress::Ended(Meaning::Loop),
+        _ => Progress::Ended(Meaning::Nothing),
+    }
+}
+
+/// Whether a formal has no answer.
+fn is_open(known: Formal) -> bool
+    ensures { result ≡ is_open_of known }
+{
+    match known {
+        Formal::Unknown | Formal::Begun => true,
+        Formal::Circle | Formal::Means(_) => false,
+    }
+}
+
+/// Whether no formal of these is left without an answer.
+fn row_answered(formals: &[Formal]) -> bool
+    ensures { result ≡ answered_row formals.now }
+{
+    for known in formals {
+        if is_open(*known) {
+            return false;
         }
     }
+    true
 }

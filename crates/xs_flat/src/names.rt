@@ -1,8 +1,10 @@
 //! What names mean. The formals are answered first, once and for all; then a look-up goes through the
 //! parts of a name, one after another.
 
-ghost use Rattle.std.specs.Prelude.{◌≡◌, length, Some, IfOk, option_map, option_copied, slice_get};
-ghost use Rattle.xs_tree.specs.ProgramTree.{program_tree};
+ghost use Rattle.std.specs.Prelude.{◌≡◌, [], ◌∷◌, ◌++◌, length, map, replicate, Some, IfOk, OnOk, option_map, option_copied, slice_get};
+ghost use Rattle.xs_tree.specs.ProgramTree.{program_tree, decl_tree};
+ghost use Rattle.xs_tree.specs.Written.{tree_of};
+ghost use Rattle.xs_tree.specs.Scope.{plain_name};
 ghost use Rattle.xs_flattening.specs.Flat.{FlatInstance};
 ghost use Rattle.xs_flattening.specs.Items.{instances_of};
 ghost use Rattle.xs_flattening.specs.Rules.{IsWalkable};
@@ -11,7 +13,8 @@ ghost use Rattle.xs_flat.specs.ItemTree.{item_tree};
 ghost use Rattle.xs_flat.specs.SceneTree.{AreModules, IsSpotWalked, IsScene, IsFound, program_of, items_at, number_and_item};
 ghost use Rattle.xs_flat.specs.FoundAt.{names_of_spot, local_at, own_at, formal_at, symbol_or, symbol_at, part_at, found_at, told};
 ghost use Rattle.xs_flat.specs.Steps.{step_at, numbered_at, count_in};
-ghost use Rattle.xs_flat.specs.Known.{rows, rows_with, IsSameButFormals};
+ghost use Rattle.xs_flat.specs.Known.{rows, rows_with, formals_at, IsSameButFormals, AreTold};
+ghost use Rattle.xs_flat.specs.Laid.{IsLaid, IsNamedTo, IsSameProgram, NamesItems, NamesItem, NamesDeclared, NamesActuals, NamesActual, with_own};
 
 use crate::items::{Item, Numbered};
 use crate::modules::{Local, Modules, Names};
@@ -19,7 +22,7 @@ use crate::symbols::symbols_of;
 use crate::walk::{Meaning, Spot};
 use indexmap::IndexSet;
 use std::alloc::Global;
-use xs_tree::{Declared, Expr};
+use xs_tree::{Decl, Declared, Expr};
 use xs_value::{Dotted, Name, OutOfMemory};
 
 /// What is known of a formal: nothing yet, that its look-up has begun, what it means, or that its look-up
@@ -71,6 +74,9 @@ impl<'a> Scene<'a> {
         ensures program { IfOk result (λ scene. scene.modules.program.now ≡ modules.entry.program.now) }
     {
         let symbols = symbols_of(alloc, &modules)?;
+        if symbols.len() >= 4_294_967_296 {
+            return Err(OutOfMemory);
+        }
         let mut scene = Scene {
             modules,
             spots,
@@ -79,29 +85,169 @@ impl<'a> Scene<'a> {
             formals: Vec::new(alloc),
         };
         scene.add_formals(alloc)?;
-        scene.add_definitions()?;
+        scene.add_definitions(alloc)?;
         scene.answer_formals(alloc)?;
         Ok(scene)
     }
 
     /// Makes room for the formals of each instance.
-    fn add_formals(&mut self, alloc: Global) -> Result<(), OutOfMemory> {
-        for spot in self.spots.as_slice() {
-            let formals = Vec::from_elem(alloc, Formal::Unknown, spot.actuals.len())?;
-            self.formals.push(formals)?;
+    fn add_formals(&mut self, alloc: Global) -> Result<(), OutOfMemory>
+        requires laid { IsLaid self.old }
+        requires none { rows self.old ≡ [] }
+        ensures same { IsSameButFormals self.old self.new }
+        ensures told { OnOk result (AreTold (program_of self.old) (rows self.new)) }
+    {
+        for spot in 0..self.spots.len() {
+            let count = self.formals_of(spot);
+            let formals = unknown(alloc, count)?;
+            self.push_formals(formals)?;
         }
         Ok(())
     }
 
+    fn push_formals(&mut self, formals: Vec<Formal>) -> Result<(), OutOfMemory>
+        ensures same { IsSameButFormals self.old self.new }
+        ensures pushed { OnOk result (self.new.formals.items ≡ self.old.formals.items ++ formals ∷ []) }
+    {
+        self.formals.push(formals)?;
+        Ok(())
+    }
+
+    /// The number of formals of an instance's module.
+    fn formals_of(&self, spot: usize) -> usize
+        ensures { result ≡ formals_at self.now spot }
+    {
+        match self.names_at(spot) {
+            Some(names) => names.module.formals.len(),
+            None => 0,
+        }
+    }
+
     /// Numbers the defines and the actuals of all instances.
-    fn add_definitions(&mut self) -> Result<(), OutOfMemory> {
+    fn add_definitions(&mut self, alloc: Global) -> Result<(), OutOfMemory>
+        requires { IsNamedTo self.old 0 }
+        ensures modules { OnOk result (self.new.modules ≡ self.old.modules) }
+        ensures symbols { OnOk result (self.new.symbols ≡ self.old.symbols) }
+        ensures named { OnOk result (IsNamedTo self.new (length (instances_of (program_of self.new)))) }
+    {
         for spot in 0..self.spots.len() {
-            let items = self.item_count(spot);
-            for place in 0..items {
-                self.add_definitions_of(spot, place)?;
-            }
+            let own = self.define_items(alloc, spot)?;
+            self.set_own(spot, own);
         }
         Ok(())
+    }
+
+    /// Numbers the definitions of an instance; the answer is what its items mean.
+    fn define_items(&mut self, alloc: Global, spot: usize) -> Result<Vec<Meaning>, OutOfMemory>
+        ensures same { IsSameProgram self.old self.new }
+        ensures named { IfOk result (λ own. NamesItems self.old self.new spot own.items) }
+    {
+        let mut own = Vec::new(alloc);
+        for place in 0..self.own_count(spot) {
+            let walked = self.own(spot, place);
+            let meaning = self.define_item(spot, place, walked)?;
+            own.push(meaning)?;
+        }
+        Ok(own)
+    }
+
+    /// Numbers the define of an item, or the actuals that are not plain names; the answer is what the item
+    /// means.
+    fn define_item(&mut self, spot: usize, place: usize, walked: Meaning) -> Result<Meaning, OutOfMemory>
+        ensures same { IsSameProgram self.old self.new }
+        ensures named { IfOk result (NamesItem self.old self.new spot place walked) }
+    {
+        let Some(numbered) = self.numbered_at(spot, place) else {
+            return Ok(walked);
+        };
+        match numbered.item {
+            Item::Defined(define) => {
+                let made = self.push_definition(spot, numbered.number, &define.value)?;
+                Ok(Meaning::Definition(made))
+            }
+            Item::Declared(_, decl) => {
+                self.add_declared(spot, numbered.number, decl, walked)?;
+                Ok(walked)
+            }
+            _ => Ok(walked),
+        }
+    }
+
+    /// Numbers the actuals of a declared instance.
+    fn add_declared(&mut self, spot: usize, item: u32, decl: &'a Decl, walked: Meaning) -> Result<(), OutOfMemory>
+        ensures same { IsSameProgram self.old self.new }
+        ensures named { OnOk result (NamesDeclared self.old self.new spot item (decl_tree decl.now) walked) }
+    {
+        match &decl.what {
+            Declared::Instance(_, actuals) => match walked {
+                Meaning::Instance(inner) => {
+                    self.add_actuals(spot, item, inner, actuals.as_slice())?;
+                    Ok(())
+                }
+                _ => Ok(()),
+            },
+            _ => Ok(()),
+        }
+    }
+
+    /// Numbers the actuals of an instance that are not plain names.
+    fn add_actuals(
+        &mut self,
+        spot: usize,
+        item: u32,
+        inner: usize,
+        actuals: &'a [Expr<Dotted>],
+    ) -> Result<(), OutOfMemory>
+        ensures same { IsSameProgram self.old self.new }
+        ensures named { OnOk result (NamesActuals self.old self.new spot item inner (map tree_of actuals.now)) }
+    {
+        for (formal, value) in actuals.iter().enumerate() {
+            self.add_actual(spot, item, inner, formal, value)?;
+        }
+        Ok(())
+    }
+
+    fn add_actual(
+        &mut self,
+        spot: usize,
+        item: u32,
+        inner: usize,
+        formal: usize,
+        value: &'a Expr<Dotted>,
+    ) -> Result<(), OutOfMemory>
+        ensures same { IsSameProgram self.old self.new }
+        ensures named { OnOk result (NamesActual self.old self.new spot item inner formal (tree_of value.now)) }
+    {
+        if let Some(_name) = plain_name_of(value) {
+            return Ok(());
+        }
+        let made = self.push_definition(spot, item, value)?;
+        self.set_formal(inner, formal, Formal::Means(Meaning::Definition(made)));
+        Ok(())
+    }
+
+    /// Adds a definition; the answer is its number.
+    fn push_definition(&mut self, spot: usize, item: u32, value: &'a Expr<Dotted>) -> Result<usize, OutOfMemory>
+        ensures same { IsSameProgram self.old self.new }
+        ensures rows { rows self.new ≡ rows self.old }
+        ensures number { IfOk result (λ made. made ≡ length self.old.definitions.items) }
+        ensures pushed { OnOk result (self.new.definitions.items ≡ self.old.definitions.items ++ (record { spot = spot; item = item; value = value.entry }) ∷ []) }
+    {
+        let made = self.definitions.len();
+        self.definitions.push(Defined { spot, item, value })?;
+        Ok(made)
+    }
+
+    fn set_own(&mut self, spot: usize, own: Vec<Meaning>)
+        ensures modules { self.new.modules ≡ self.old.modules }
+        ensures symbols { self.new.symbols ≡ self.old.symbols }
+        ensures definitions { self.new.definitions ≡ self.old.definitions }
+        ensures formals { self.new.formals ≡ self.old.formals }
+        ensures own { self.new.spots.items ≡ with_own self.old.spots.items spot own }
+    {
+        if let Some(spot) = self.spots.get_mut(spot) {
+            spot.own = own;
+        }
     }
 
     /// The number of items of an instance's module.
@@ -120,50 +266,6 @@ impl<'a> Scene<'a> {
             Some(spot) => spot.own.len(),
             None => 0,
         }
-    }
-
-    /// Numbers the define of an item, or the actuals that are not plain names.
-    fn add_definitions_of(&mut self, spot: usize, place: usize) -> Result<(), OutOfMemory> {
-        let Some((item, number)) = self.item_at(spot, place) else {
-            return Ok(());
-        };
-        match item {
-            Item::Defined(define) => {
-                let made = self.definitions.len();
-                self.definitions.push(Defined {
-                    spot,
-                    item: number,
-                    value: &define.value,
-                })?;
-                self.set_own(spot, place, Meaning::Definition(made));
-                Ok(())
-            }
-            Item::Declared(_, decl) => match (&decl.what, self.own(spot, place)) {
-                (Declared::Instance(_, actuals), Meaning::Instance(inner)) => {
-                    self.add_actuals(spot, number, inner, actuals.as_slice())
-                }
-                _ => Ok(()),
-            },
-            _ => Ok(()),
-        }
-    }
-
-    fn add_actuals(
-        &mut self,
-        spot: usize,
-        item: u32,
-        inner: usize,
-        actuals: &'a [Expr<Dotted>],
-    ) -> Result<(), OutOfMemory> {
-        for (formal, value) in actuals.iter().enumerate() {
-            if let Expr::Leaf(_) = value {
-                continue;
-            }
-            let made = self.definitions.len();
-            self.definitions.push(Defined { spot, item, value })?;
-            self.set_formal(inner, formal, Formal::Means(Meaning::Definition(made)));
-        }
-        Ok(())
     }
 
     /// The item at a place of an instance's module, with its number.
@@ -195,14 +297,6 @@ impl<'a> Scene<'a> {
                 None => Meaning::Nothing,
             },
             None => Meaning::Nothing,
-        }
-    }
-
-    fn set_own(&mut self, spot: usize, place: usize, meaning: Meaning) {
-        if let Some(spot) = self.spots.get_mut(spot) {
-            if let Some(own) = spot.own.get_mut(place) {
-                *own = meaning;
-            }
         }
     }
 
@@ -310,6 +404,32 @@ impl<'a> Scene<'a> {
             Step::Formal(formal) => told(self.formal(spot, formal)),
         }
     }
+}
+
+/// The name that an expression is, if it is a name alone.
+pub(crate) fn plain_name_of(value: &Expr<Dotted>) -> Option<&Dotted>
+    ensures { option_copied result ≡ plain_name (tree_of value.now) }
+{
+    match value {
+        Expr::Leaf(name) => Some(name),
+        Expr::Truth(_) => None,
+        Expr::Number(_) => None,
+        Expr::Not(_) => None,
+        Expr::Negate(_) => None,
+        Expr::Next(_) => None,
+        Expr::Binary(..) => None,
+        Expr::Choice(..) => None,
+        Expr::Case(_) => None,
+        Expr::SetOf(_) => None,
+        Expr::Span(..) => None,
+    }
+}
+
+/// So many formals of which nothing is known.
+fn unknown(alloc: Global, count: usize) -> Result<Vec<Formal>, OutOfMemory>
+    ensures { IfOk result (λ v. v.items ≡ replicate count Formal.Unknown) }
+{
+    Ok(Vec::from_elem(alloc, Formal::Unknown, count)?)
 }
 
 /// The symbol of a number. There are none whose numbers pass 32 bits.
