@@ -4,7 +4,7 @@ pub mod MainLaws
 pub mod OwnNames
 pub mod ItemLaws
 pub mod SymbolLaws
-pub mod OrderLaws
+pub mod OrderedOnce
 pub mod MapLaws
 pub mod ReadingLaws
 pub mod HeaderLaws
