@@ -5,3 +5,7 @@ pub mod OwnNames
 pub mod ItemLaws
 pub mod SymbolLaws
 pub mod UsesLaws
+pub mod LinkLaws
+pub mod ReachLaws
+pub mod LayLaws
+pub mod NamingLaws

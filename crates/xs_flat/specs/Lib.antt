@@ -13,3 +13,7 @@ pub mod Walked
 pub mod Judging
 pub mod Flagged
 pub mod Seen
+pub mod Links
+pub mod Spreads
+pub mod Laying
+pub mod Naming
