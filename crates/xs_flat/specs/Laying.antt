@@ -1,12 +1,12 @@
 -- The order of definitions by their numbers: each after those that it is linked to, in their order, and so on down.
-use Rattle.std.specs.Prelude.{◌≡◌, ◌↔◌, ℕ, zero, suc, ◌<◌, Bool, true, false, List, [], ◌∷◌, ◌++◌, length, map, reverse, Option, Some, None, slice_get, set}
+use Rattle.std.specs.Prelude.{◌≡◌, ◌⊎◌, ℕ, zero, suc, ◌<◌, Bool, true, false, List, [], ◌∷◌, ◌++◌, length, map, reverse, Option, Some, None, slice_get, set}
 use Rattle.xs_tree.specs.Trace.{Each}
 use Rattle.xs_flat.specs.declared.needs.Mark.{Mark}
 use Rattle.xs_flat.specs.declared.needs.Mark.TheVariants.{Unmet, Begun, Ended}
 use Rattle.xs_flat.specs.declared.needs.Task.{Task}
 use Rattle.xs_flat.specs.declared.needs.Task.TheVariants.{Visit, End}
 use Rattle.xs_flat.specs.declared.needs.Laying.{Laying}
-use Rattle.xs_flat.specs.Links.{Graph, Has}
+use Rattle.xs_flat.specs.Links.{Graph, Has, Reaches}
 
 -- the numbers below the count, from a number on
 abbrev pub upto_from : ℕ → ℕ → List ℕ
@@ -30,9 +30,14 @@ mutual
     no_more : {done : List ℕ} → LaysAll g done [] done
     one_more : {done between after more : List ℕ} {k : ℕ} → Lays g done k between → LaysAll g between more after → LaysAll g done (k ∷ more) after
 
+-- some number leads back to itself
+abbrev pub SomeCircle : Graph → ℕ → Type 0
+SomeCircle g count = (k : ℕ) × (k < count) × Reaches g (g k) k
+
 -- the order of all numbers, where no circle was met
 pub record IsLaid (g : Graph) (count : ℕ) (circle : Bool) (order : List ℕ) : Type 0 where
   pub laid : circle ≡ false → LaysAll g [] (upto count) order
+  pub shown : circle ≡ true → SomeCircle g count
 
 -- The walk: how far it is with each number, the order so far, what is to be done, first things first, and
 -- whether it met a circle.
@@ -75,10 +80,30 @@ abbrev pub number_of : Task → ℕ
 number_of (Visit k) = k
 number_of (End k) = k
 
+-- the end of a visit is among the tasks
+abbrev pub HasEnd : List Task → ℕ → Type 0
+HasEnd [] k = ⊥
+HasEnd (Visit j ∷ ts) k = HasEnd ts k
+HasEnd (End j ∷ ts) k = (j ≡ k) ⊎ HasEnd ts k
+
+-- the first visit of these that is to be ended is of a number that is linked to this one
+abbrev pub IsFor : Graph → ℕ → List Task → Type 0
+IsFor g k [] = Unit {0}
+IsFor g k (Visit j ∷ ts) = IsFor g k ts
+IsFor g k (End j ∷ ts) = Has (g j) k
+
+-- each task is for the next visit that is to be ended
+abbrev pub Hangs : Graph → List Task → Type 0
+Hangs g [] = Unit {0}
+Hangs g (t ∷ ts) = IsFor g (number_of t) ts × Hangs g ts
+
 -- the numbers in the order are those that are ended, and doing what is left orders all
 pub record IsLaying (g : Graph) (count : ℕ) (s : Lay) : Type 0 where
   pub size : length s.marks ≡ count
   pub ended : (k : ℕ) → mark_at s.marks k ≡ Ended → Has s.order k
   pub ordered : (k : ℕ) → Has s.order k → mark_at s.marks k ≡ Ended
   pub within : Each (λ t. number_of t < count) s.tasks
+  pub begun : (k : ℕ) → mark_at s.marks k ≡ Begun → HasEnd s.tasks k
+  pub hangs : Hangs g s.tasks
+  pub shown : s.circle ≡ true → SomeCircle g count
   pub rest : s.circle ≡ false → (after : List ℕ) → Ends g s.order s.tasks after → LaysAll g [] (upto count) after
