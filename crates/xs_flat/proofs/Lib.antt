@@ -9,3 +9,6 @@ pub mod LinkLaws
 pub mod ReachLaws
 pub mod LayLaws
 pub mod NamingLaws
+pub mod OrderLaws
+pub mod KeyLaws
+pub mod RootLaws

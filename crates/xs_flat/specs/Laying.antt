@@ -107,3 +107,12 @@ pub record IsLaying (g : Graph) (count : ℕ) (s : Lay) : Type 0 where
   pub hangs : Hangs g s.tasks
   pub shown : s.circle ≡ true → SomeCircle g count
   pub rest : s.circle ≡ false → (after : List ℕ) → Ends g s.order s.tasks after → LaysAll g [] (upto count) after
+
+-- no number is there twice
+abbrev pub Once : List ℕ → Type 0
+Once xs = (i j k : ℕ) → slice_get xs i ≡ Some k → slice_get xs j ≡ Some k → i ≡ j
+
+-- each number's place in an order, from a place on
+abbrev pub placed_from : List ℕ → ℕ → List ℕ → List ℕ
+placed_from places i [] = places
+placed_from places i (k ∷ ks) = placed_from (set places k i) (suc i) ks

@@ -10,7 +10,7 @@ ghost use Rattle.xs_flat.specs.SceneTree.{IsScene, program_of};
 ghost use Rattle.xs_flat.specs.FoundAt.{found_at};
 ghost use Rattle.xs_flat.specs.NeedsTree.{AreNeeds};
 ghost use Rattle.xs_flat.specs.Links.{Has, Reaches, graph_of, rows, linked_to, all_linked_to, AreTurned, AreReached, IsCircle, AreCircles, is_marked, spread_by};
-ghost use Rattle.xs_flat.specs.Laying.{IsInto, mark_at, visits, upto, lay_of, lay_by, IsLaid};
+ghost use Rattle.xs_flat.specs.Laying.{IsInto, mark_at, visits, upto, lay_of, lay_by, IsLaid, placed_from};
 ghost use Rattle.xs_flat.specs.Spreads.{spread_of};
 ghost use Rattle.xs_flat.specs.Naming.{needed, is_input, needs_of, reads_of, number_if, IsFoundAt, AreFoundIn, IsNamed};
 ghost use Rattle.xs_flat.specs.declared.needs.Mark.TheVariants as Mark;
@@ -308,7 +308,10 @@ fn order_of(alloc: Global, links: &Links) -> Result<Laying, OutOfMemory>
 }
 
 /// Of each of so many definitions its place in an order.
-fn places_of(alloc: Global, count: usize, order: &[usize]) -> Result<Vec<usize>, OutOfMemory> {
+#[tactic(auto, using(crate::proofs::RootLaws::keys_once))]
+fn places_of(alloc: Global, count: usize, order: &[usize]) -> Result<Vec<usize>, OutOfMemory>
+    ensures { IfOk result (λ places. places.items ≡ placed_from (replicate count 0) 0 order.now) }
+{
     let mut places = Vec::from_elem(alloc, 0, count)?;
     for (place, definition) in order.iter().enumerate() {
         if let Some(known) = places.get_mut(*definition) {
