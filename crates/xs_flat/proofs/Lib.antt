@@ -12,3 +12,4 @@ pub mod NamingLaws
 pub mod OrderLaws
 pub mod KeyLaws
 pub mod RootLaws
+pub mod NeedLaws
