@@ -13,3 +13,5 @@ pub mod OrderLaws
 pub mod KeyLaws
 pub mod RootLaws
 pub mod NeedLaws
+pub mod AddLaws
+pub mod SceneNeeds

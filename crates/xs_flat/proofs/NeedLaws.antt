@@ -75,7 +75,7 @@ module _ (s : Scene) (spot : ℕ) (i : FlatInstance) (at_spot : slice_get (insta
   names_from [] other h some = absurd some
   names_from (x ∷ names) other h (inl (place, e, means)) =
       let f : (j : ℕ) × IsKeyAt (program_of s) j other × Has (needed (found_at s spot x)) j =
-          needed_from (program_of s) i.place x (found_at s spot x) other place e (h.0.found i at_spot) means in
+      needed_from (program_of s) i.place x (found_at s spot x) other place e (h.0.found i at_spot) means in
       (f.0, f.1, has_left (needed (found_at s spot x)) (needs_in s spot names) f.0 f.2)
   names_from (x ∷ names) other h (inr some) =
       let f : (j : ℕ) × IsKeyAt (program_of s) j other × Has (needs_in s spot names) j = names_from names other h.1 some in
@@ -84,16 +84,15 @@ module _ (s : Scene) (spot : ℕ) (i : FlatInstance) (at_spot : slice_get (insta
   names_named : (names : List Path) → Each (IsFoundAt s spot) names → Each (HasMeaning (program_of s) i.place) names →
       AreNamed (program_of s) i.place names (map (key_at (keys_of (program_of s))) (needs_in s spot names))
   names_named [] h meant = refl
-  names_named (x ∷ names) h meant =
-      (
-        meant.0.0,
-        map (key_at (keys_of (program_of s))) (needs_in s spot names),
-        meant.0.1,
-        names_named names h.1 meant.1,
-        map-append (key_at (keys_of (program_of s))) (needed (found_at s spot x)) (needs_in s spot names)
-            ∙ ap (λ ks. ks ++ map (key_at (keys_of (program_of s))) (needs_in s spot names))
-                (named_one (program_of s) i.place x (found_at s spot x) meant.0.0 (h.0.found i at_spot) meant.0.1),
-      )
+  names_named (x ∷ names) h meant = (
+    meant.0.0,
+    map (key_at (keys_of (program_of s))) (needs_in s spot names),
+    meant.0.1,
+    names_named names h.1 meant.1,
+    map-append (key_at (keys_of (program_of s))) (needed (found_at s spot x)) (needs_in s spot names)
+        ∙ ap (λ ks. ks ++ map (key_at (keys_of (program_of s))) (needs_in s spot names))
+        (named_one (program_of s) i.place x (found_at s spot x) meant.0.0 (h.0.found i at_spot) meant.0.1),
+  )
 
   module _ (walkable : IsWalkable (program_of s)) where
     reads_to : (names : List Path) → Each (IsFoundAt s spot) names → reads_in s spot names ≡ true → AtSome (MeansInput (program_of s) i.place) names

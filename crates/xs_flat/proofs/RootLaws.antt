@@ -75,12 +75,11 @@ actuals_apart inside i item (e ∷ es) = of_one (plain_name e) (actuals_apart in
 
     of_one : (o : Option Path) → KeysApart (roots_of_actuals inside (suc i) item es) → KeysApart (root_of_actual inside i item o ++ roots_of_actuals inside (suc i) item es)
     of_one (Some name) h = h
-    of_one None h =
-        (
-          each_more (ActualFrom inside (suc i)) (OtherKey (record { key = actual_key inside i; item = item })) (roots_of_actuals inside (suc i) item es)
-              (λ r a same. differs a.0 a.1 (same ∙ a.2)) (actuals_from inside (suc i) item es),
-          h,
-        )
+    of_one None h = (
+      each_more (ActualFrom inside (suc i)) (OtherKey (record { key = actual_key inside i; item = item })) (roots_of_actuals inside (suc i) item es)
+          (λ r a same. differs a.0 a.1 (same ∙ a.2)) (actuals_from inside (suc i) item es),
+      h,
+    )
 
 -- the definitions of one item
 abbrev AtHome : Place → Text → Root → Type 0

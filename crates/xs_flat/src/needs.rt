@@ -308,7 +308,6 @@ fn order_of(alloc: Global, links: &Links) -> Result<Laying, OutOfMemory>
 }
 
 /// Of each of so many definitions its place in an order.
-#[tactic(auto, using(crate::proofs::NeedLaws::reads_from_input))]
 fn places_of(alloc: Global, count: usize, order: &[usize]) -> Result<Vec<usize>, OutOfMemory>
     ensures { IfOk result (λ places. places.items ≡ placed_from (replicate count 0) 0 order.now) }
 {
