@@ -30,3 +30,14 @@ pub mod NamingItems
 pub mod Unknowns
 pub mod LookAfter
 pub mod Frames
+pub mod UsesLaws
+pub mod LinkLaws
+pub mod ReachLaws
+pub mod LayLaws
+pub mod NamingLaws
+pub mod OrderLaws
+pub mod KeyLaws
+pub mod RootLaws
+pub mod NeedLaws
+pub mod AddLaws
+pub mod SceneNeeds

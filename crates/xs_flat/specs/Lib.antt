@@ -17,3 +17,8 @@ pub mod Steps
 pub mod Known
 pub mod Laid
 pub mod Waiting
+pub mod Seen
+pub mod Links
+pub mod Spreads
+pub mod Laying
+pub mod Naming

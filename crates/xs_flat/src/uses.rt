@@ -1,10 +1,11 @@
 //! The names of an expression.
 
-ghost use Rattle.std.specs.Prelude.{◌≡◌, false, IfOk};
-ghost use Rattle.xs_tree.specs.Written.{tree_of};
+ghost use Rattle.std.specs.Prelude.{◌≡◌, false, IfOk, OnOk};
+ghost use Rattle.xs_tree.specs.Written.{tree_of, trees_of, branches_of};
 ghost use Rattle.xs_flattening.specs.Resolved.{has_next};
 ghost use Rattle.xs_flattening.specs.Rules.{next_under_next};
 ghost use Rattle.xs_flat.specs.Flagged.{flagged};
+ghost use Rattle.xs_flat.specs.Seen.{seen_in, seen_after, seen_after_trees, seen_after_branches};
 
 use std::alloc::Global;
 use std::marker::Model;
@@ -52,6 +53,7 @@ pub(crate) struct Uses<'a> {
 
 impl<'a> Uses<'a> {
     /// The names of an expression.
+    #[tactic(auto, using(crate::proofs::UsesLaws::names_seen, crate::proofs::UsesLaws::next_seen, crate::proofs::UsesLaws::nested_seen))]
     pub(crate) fn of_value(alloc: Global, e: &'a Expr<Dotted>) -> Result<Uses<'a>, OutOfMemory>
         ensures names { IfOk result (λ uses. uses.names.items ≡ flagged false (tree_of e.now)) }
         ensures next { IfOk result (λ uses. uses.has_next ≡ has_next (tree_of e.now)) }
@@ -66,8 +68,11 @@ impl<'a> Uses<'a> {
         Ok(uses)
     }
 
+    /// Adds the names of an expression that stands under `next`, or not.
     #[cycle(uses)]
-    fn add(&mut self, e: &'a Expr<Dotted>, next: bool) -> Result<(), OutOfMemory> {
+    fn add(&mut self, e: &'a Expr<Dotted>, next: bool) -> Result<(), OutOfMemory>
+        ensures { OnOk result (seen_in self.new ≡ seen_after next (tree_of e.now) (seen_in self.old)) }
+    {
         match e {
             Expr::Truth(_) | Expr::Number(_) | Expr::Span(_, _) => Ok(()),
             Expr::Leaf(name) => Ok(self.names.push(Use { name, next })?),
@@ -92,7 +97,9 @@ impl<'a> Uses<'a> {
     }
 
     #[cycle(uses)]
-    fn add_members(&mut self, members: &'a [Expr<Dotted>], next: bool) -> Result<(), OutOfMemory> {
+    fn add_members(&mut self, members: &'a [Expr<Dotted>], next: bool) -> Result<(), OutOfMemory>
+        ensures { OnOk result (seen_in self.new ≡ seen_after_trees next (trees_of members.now) (seen_in self.old)) }
+    {
         for member in members {
             self.add(member, next)?;
         }
@@ -104,7 +111,9 @@ impl<'a> Uses<'a> {
         &mut self,
         branches: &'a [(Expr<Dotted>, Expr<Dotted>)],
         next: bool,
-    ) -> Result<(), OutOfMemory> {
+    ) -> Result<(), OutOfMemory>
+        ensures { OnOk result (seen_in self.new ≡ seen_after_branches next (branches_of branches.now) (seen_in self.old)) }
+    {
         for (condition, value) in branches {
             self.add(condition, next)?;
             self.add(value, next)?;
