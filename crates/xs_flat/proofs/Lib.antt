@@ -4,3 +4,4 @@ pub mod MainLaws
 pub mod OwnNames
 pub mod ItemLaws
 pub mod SymbolLaws
+pub mod ResolvedLaws

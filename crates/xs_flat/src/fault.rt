@@ -46,9 +46,9 @@ pub struct FlatFault {
 }
 
 impl From<OutOfMemory> for FlatFault {
-    ghost use Rattle.xs_flat.specs.Faults.{IsPastMain};
+    ghost use Rattle.xs_flat.specs.Faults.{IsPastMain, IsWant};
 
-    ghost from_gives = { λ _ fault. IsPastMain fault };
+    ghost from_gives = { λ _ fault. IsPastMain fault × IsWant fault };
 
     fn from(_refused: OutOfMemory) -> FlatFault {
         FlatFault {
@@ -59,9 +59,9 @@ impl From<OutOfMemory> for FlatFault {
 }
 
 impl From<AllocError> for FlatFault {
-    ghost use Rattle.xs_flat.specs.Faults.{IsPastMain};
+    ghost use Rattle.xs_flat.specs.Faults.{IsPastMain, IsWant};
 
-    ghost from_gives = { λ _ fault. IsPastMain fault };
+    ghost from_gives = { λ _ fault. IsPastMain fault × IsWant fault };
 
     fn from(_refused: AllocError) -> FlatFault {
         FlatFault {
@@ -72,9 +72,9 @@ impl From<AllocError> for FlatFault {
 }
 
 impl<T: Drop> From<AllocFailed<T>> for FlatFault {
-    ghost use Rattle.xs_flat.specs.Faults.{IsPastMain};
+    ghost use Rattle.xs_flat.specs.Faults.{IsPastMain, IsWant};
 
-    ghost from_gives = { λ _ fault. IsPastMain fault };
+    ghost from_gives = { λ _ fault. IsPastMain fault × IsWant fault };
 
     fn from(_refused: AllocFailed<T>) -> FlatFault {
         FlatFault {
