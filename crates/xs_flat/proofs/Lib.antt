@@ -5,3 +5,14 @@ pub mod OwnNames
 pub mod ItemLaws
 pub mod SymbolLaws
 pub mod ResolvedLaws
+pub mod Tables
+pub mod LookSplit
+pub mod Steps
+pub mod LookFound
+pub mod NameKinds
+pub mod SymbolKinds
+pub mod SceneFound
+pub mod SceneItems
+pub mod RowLaws
+pub mod Heads
+pub mod Told

@@ -16,7 +16,7 @@ turned x y = by_tests (nat_eq x y) (nat_eq y x) refl refl
     by_tests false true e f = eq-eqb x y (sym (eqb-true y x f)) ∙ sym f
     by_tests false false e f = e ∙ sym f
 
-same_bytes : (x y : List ℕ) → pointwise nat_eq x y ≡ same_text y x
+pub same_bytes : (x y : List ℕ) → pointwise nat_eq x y ≡ same_text y x
 same_bytes [] [] = refl
 same_bytes [] (d ∷ ds) = refl
 same_bytes (c ∷ cs) [] = refl

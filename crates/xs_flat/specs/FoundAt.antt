@@ -1,5 +1,5 @@
 -- What the tables of a scene tell of a name, part by part.
-use Rattle.std.specs.Prelude.{ℕ, suc, Bool, true, false, if◌then◌else◌, List, [], ◌∷◌, Option, Some, None, option_map, slice_get, Vec}
+use Rattle.std.specs.Prelude.{ℕ, suc, Bool, true, false, if◌then◌else◌, List, [], ◌∷◌, Option, Some, None, option_map, slice_get, nat_lt, Vec}
 use Rattle.std.specs.declared.alloc.Global.{Global}
 use Rattle.xs_tree.specs.ProgramTree.{Text, Path}
 use Rattle.xs_tree.specs.Texts.{same_text}
@@ -70,9 +70,9 @@ told known.Unknown = found.Loop
 
 abbrev pub symbol_or : Option ℕ → Found
 symbol_or None = found.Nothing
-symbol_or (Some k) = found.Symbol k
+symbol_or (Some k) = if nat_lt k 4294967296 then found.Symbol k else found.Nothing
 
--- the symbol of a name
+-- the symbol of a name, where its number has 32 bits
 abbrev pub symbol_at : Scene → Text → Found
 symbol_at s x = symbol_or (place_from 0 (texts s.symbols.keys) x)
 

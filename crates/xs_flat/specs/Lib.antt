@@ -13,3 +13,6 @@ pub mod Walked
 pub mod Judging
 pub mod Flagged
 pub mod ResolverOf
+pub mod Steps
+pub mod Known
+pub mod Laid

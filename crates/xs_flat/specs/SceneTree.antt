@@ -202,6 +202,7 @@ pub record IsSet (s : Scene) : Type 0 where
   pub walkable : IsWalkable (program_of s)
   pub spots : EachBoth (IsSpot (program_of s)) (instances_of (program_of s)) s.spots.items
   pub symbols : texts s.symbols.keys ≡ symbols_of (program_of s)
+  pub few_symbols : length s.symbols.keys < 4294967296
   pub definitions : EachBoth (IsDefined (program_of s)) (roots_of (program_of s)) s.definitions.items
 
 -- all tables of a scene are the program's

@@ -1,7 +1,7 @@
 //! What names mean. The formals are answered first, once and for all; then a look-up goes through the
 //! parts of a name, one after another.
 
-ghost use Rattle.std.specs.Prelude.{◌≡◌, length, Some, IfOk, option_map, slice_get};
+ghost use Rattle.std.specs.Prelude.{◌≡◌, length, Some, IfOk, option_map, option_copied, slice_get};
 ghost use Rattle.xs_tree.specs.ProgramTree.{program_tree};
 ghost use Rattle.xs_flattening.specs.Flat.{FlatInstance};
 ghost use Rattle.xs_flattening.specs.Items.{instances_of};
@@ -9,10 +9,12 @@ ghost use Rattle.xs_flattening.specs.Rules.{IsWalkable};
 ghost use Rattle.xs_flattening.specs.Model.{EachBoth};
 ghost use Rattle.xs_flat.specs.ItemTree.{item_tree};
 ghost use Rattle.xs_flat.specs.SceneTree.{AreModules, IsSpotWalked, IsScene, IsFound, program_of, items_at, number_and_item};
-ghost use Rattle.xs_flat.specs.FoundAt.{local_at, own_at, formal_at, part_at, found_at, told};
+ghost use Rattle.xs_flat.specs.FoundAt.{names_of_spot, local_at, own_at, formal_at, symbol_or, symbol_at, part_at, found_at, told};
+ghost use Rattle.xs_flat.specs.Steps.{step_at, numbered_at, count_in};
+ghost use Rattle.xs_flat.specs.Known.{rows, rows_with, IsSameButFormals};
 
-use crate::items::{Item, number_of};
-use crate::modules::{Local, Modules};
+use crate::items::{Item, Numbered};
+use crate::modules::{Local, Modules, Names};
 use crate::symbols::symbols_of;
 use crate::walk::{Meaning, Spot};
 use indexmap::IndexSet;
@@ -104,7 +106,15 @@ impl<'a> Scene<'a> {
 
     /// The number of items of an instance's module.
     pub(crate) fn item_count(&self, spot: usize) -> usize
+        ensures own { result ≡ count_in (slice_get self.now.spots.items spot) }
         ensures count { IsScene self.now → result ≡ length (items_at (program_of self.now) spot) }
+    {
+        self.own_count(spot)
+    }
+
+    /// The number of meanings of an instance's items.
+    fn own_count(&self, spot: usize) -> usize
+        ensures { result ≡ count_in (slice_get self.now.spots.items spot) }
     {
         match self.spots.as_slice().get(spot) {
             Some(spot) => spot.own.len(),
@@ -160,10 +170,19 @@ impl<'a> Scene<'a> {
     pub(crate) fn item_at(&self, spot: usize, place: usize) -> Option<(Item<'a>, u32)>
         ensures item { IsScene self.now → option_map (λ r. (r.1, item_tree r.0)) result ≡ option_map number_and_item (slice_get (items_at (program_of self.now) spot) place) }
     {
-        let module = self.spots.as_slice().get(spot)?.module;
-        let names = self.modules.list.as_slice().get(module)?;
-        let numbered = names.items.as_slice().get(place)?;
-        Some((numbered.item, numbered.number))
+        match self.numbered_at(spot, place) {
+            Some(numbered) => Some((numbered.item, numbered.number)),
+            None => None,
+        }
+    }
+
+    fn numbered_at(&self, spot: usize, place: usize) -> Option<Numbered<'a>>
+        ensures { result ≡ numbered_at self.now spot place }
+    {
+        match self.names_at(spot) {
+            Some(names) => names.items.as_slice().get(place).copied(),
+            None => None,
+        }
     }
 
     /// What the item at a place means at an instance.
@@ -200,7 +219,10 @@ impl<'a> Scene<'a> {
         }
     }
 
-    pub(crate) fn set_formal(&mut self, spot: usize, formal: usize, known: Formal) {
+    pub(crate) fn set_formal(&mut self, spot: usize, formal: usize, known: Formal)
+        ensures same { IsSameButFormals self.old self.new }
+        ensures formals { rows self.new ≡ rows_with (rows self.old) spot formal known }
+    {
         if let Some(formals) = self.formals.get_mut(spot) {
             if let Some(place) = formals.get_mut(formal) {
                 *place = known;
@@ -209,7 +231,9 @@ impl<'a> Scene<'a> {
     }
 
     /// What a part of a name means at an instance; `last` says that no part comes after it.
-    pub(crate) fn step(&self, spot: usize, part: &Name, last: bool) -> Step {
+    pub(crate) fn step(&self, spot: usize, part: &Name, last: bool) -> Step
+        ensures step { result ≡ step_at self.now spot last part.now }
+    {
         match self.local(spot, part) {
             Some(Local::Formal(formal)) => Step::Formal(formal),
             Some(Local::Item(place)) => Step::Means(self.own(spot, place)),
@@ -218,20 +242,31 @@ impl<'a> Scene<'a> {
         }
     }
 
+    /// What a name is in an instance's module.
     pub(crate) fn local(&self, spot: usize, part: &Name) -> Option<Local>
         ensures local { result ≡ local_at self.now spot part.now }
     {
-        let module = self.spots.as_slice().get(spot)?.module;
-        let names = self.modules.list.as_slice().get(module)?;
-        Some(*names.locals.get(part.text())?)
+        match self.names_at(spot) {
+            Some(names) => names.locals.get(part.text()).copied(),
+            None => None,
+        }
     }
 
-    fn symbol(&self, part: &Name) -> Meaning {
+    /// The names of an instance's module.
+    pub(crate) fn names_at(&self, spot: usize) -> Option<&Names<'a>>
+        ensures names { option_copied result ≡ names_of_spot self.now (slice_get self.now.spots.items spot) }
+    {
+        match self.spots.as_slice().get(spot) {
+            Some(spot) => self.modules.list.as_slice().get(spot.module),
+            None => None,
+        }
+    }
+
+    fn symbol(&self, part: &Name) -> Meaning
+        ensures symbol { result ≡ symbol_at self.now part.now }
+    {
         match self.symbols.get_index_of(part.text()) {
-            Some(place) => match number_of(place) {
-                Ok(number) => Meaning::Symbol(number),
-                Err(OutOfMemory) => Meaning::Nothing,
-            },
+            Some(place) => symbol_of(place),
             None => Meaning::Nothing,
         }
     }
@@ -241,22 +276,49 @@ impl<'a> Scene<'a> {
         ensures value { result ≡ found_at self.now spot name.now }
         ensures found { IsScene self.now → (at : FlatInstance) → slice_get (instances_of (program_of self.now)) spot ≡ Some at → IsFound (program_of self.now) at.place name.now result }
     {
+        self.look_up(spot, name.parts())
+    }
+
+    /// What the parts of a name mean, one inside another.
+    fn look_up(&self, spot: usize, parts: &[Name]) -> Meaning
+        ensures { result ≡ found_at self.now spot parts.now }
+    {
         let mut here = spot;
-        let mut rest = name.parts();
+        let mut rest = parts;
         while let [part, more @ ..] = rest {
-            let last = more.is_empty();
-            let found = match self.step(here, part, last) {
-                Step::Means(meaning) => meaning,
-                Step::Formal(formal) => told(self.formal(here, formal)),
-            };
+            let found = self.part(here, part, more.is_empty());
+            if more.is_empty() {
+                return found;
+            }
             match found {
-                found if last => return found,
                 Meaning::Instance(inner) => here = inner,
                 Meaning::Loop => return Meaning::Loop,
                 _ => return Meaning::Nothing,
             }
             rest = more;
         }
+        Meaning::Nothing
+    }
+
+    /// What a part of a name means at an instance; `last` says that no part comes after it.
+    #[tactic(auto, using(crate::proofs::Steps::found_step))]
+    fn part(&self, spot: usize, part: &Name, last: bool) -> Meaning
+        ensures { result ≡ part_at self.now spot last part.now }
+    {
+        match self.step(spot, part, last) {
+            Step::Means(meaning) => meaning,
+            Step::Formal(formal) => told(self.formal(spot, formal)),
+        }
+    }
+}
+
+/// The symbol of a number. There are none whose numbers pass 32 bits.
+fn symbol_of(place: usize) -> Meaning
+    ensures { result ≡ symbol_or (Some place) }
+{
+    if place < 4_294_967_296 {
+        Meaning::Symbol(place as u32)
+    } else {
         Meaning::Nothing
     }
 }

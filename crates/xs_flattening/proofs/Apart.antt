@@ -220,7 +220,7 @@ module _ (p : ProgramTree) (walkable : IsWalkable p) where
       by_item (an_invar e) later g k = k
       by_item (a_trans e) later g k = k
 
-  walk_apart : (n : ℕ) (on : List Text) → GoesApart (walk n p on)
+  pub walk_apart : (n : ℕ) (on : List Text) → GoesApart (walk n p on)
   walk_apart zero on at name m found h = (tt, tt)
   walk_apart (suc n) on at name m found h =
       let a : Apart (walk_items (walk n p (name ∷ on)) (name ∷ on) at (items_named p name)) × Each (BelongsSome at) (walk_items (walk n p (name ∷ on)) (name ∷ on) at (items_named p name)) =
