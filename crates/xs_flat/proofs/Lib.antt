@@ -16,3 +16,7 @@ pub mod SceneItems
 pub mod RowLaws
 pub mod Heads
 pub mod Told
+pub mod BuildOrder
+pub mod BuildAccepted
+pub mod BuildRoots
+pub mod BuildPlaces
