@@ -20,3 +20,5 @@ pub mod BuildOrder
 pub mod BuildAccepted
 pub mod BuildRoots
 pub mod BuildPlaces
+pub mod BuildLeaves
+pub mod BuildSound
