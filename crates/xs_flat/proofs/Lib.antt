@@ -22,3 +22,6 @@ pub mod BuildRoots
 pub mod BuildPlaces
 pub mod BuildLeaves
 pub mod BuildSound
+pub mod BuildFormulas
+pub mod BuildModel
+pub mod BuildLoops

@@ -109,6 +109,11 @@ asked_item q spot what i = asked_conditions q spot i.number (what i.item)
 abbrev pub asked_items : Scene → Needs → (Item → List Condition) → ℕ → List NumberedItem → List Told
 asked_items s n what spot is = flat_map (asked_item (leaf_at s n spot) spot what) is
 
+-- the item, where there is one
+abbrev pub item_listed : Option NumberedItem → List NumberedItem
+item_listed None = []
+item_listed (Some i) = i ∷ []
+
 -- by instances, counted on from a number, and then items
 abbrev pub asked_from : Scene → Needs → (Item → List Condition) → ℕ → List FlatInstance → List Told
 asked_from s n what k [] = []

@@ -16,15 +16,17 @@ ghost use Rattle.xs_flat.specs.SceneTree.{IsScene, program_of, items_at};
 ghost use Rattle.xs_flat.specs.NeedsTree.{AreNeeds};
 ghost use Rattle.xs_flat.specs.Walked.{AreDeclared};
 ghost use Rattle.xs_flat.specs.ItemTree.{item_tree};
+ghost use Rattle.xs_flat.specs.Symbols.{texts};
 ghost use Rattle.xs_flat.specs.ModelTree.{instance_tree, leaf_of, model_tree};
 ghost use Rattle.xs_flat.specs.ResolverOf.{leaf_at, told_tree};
-ghost use Rattle.xs_flat.specs.Asked.{told, asked_definition, IsReady, AreReady, conditions_asked, clause_tree, clauses_told, asked_condition, is_variable_within, IsConditionKnown, AreConditionsKnown, asked_conditions, asked_items, asked_from, instance_told};
+ghost use Rattle.xs_flat.specs.Asked.{told, asked_definition, IsReady, AreReady, conditions_asked, clause_tree, clauses_told, asked_condition, is_variable_within, IsConditionKnown, AreConditionsKnown, asked_conditions, asked_items, asked_from, item_listed, instance_in, instance_told};
 
 use crate::bounds::Bounds;
 use crate::copy::copy_path;
 use crate::fault::FlatFault;
 use crate::items::{Item, number_of};
 use crate::model::{Flat, FlatList, FlatModel, Formula, Instance, InstanceList, Role, VariableList};
+use crate::modules::Names;
 use crate::names::Scene;
 use crate::needs::Needs;
 use crate::resolve::{Source, boxed, resolve};
@@ -32,7 +34,7 @@ use crate::symbols::symbol_names;
 use crate::walk::{Meaning, Spot};
 use std::alloc::Global;
 use xs_tree::{Assignment, Decl, Declared, Expr, Moment, Op};
-use xs_value::{Dotted, Items, Name, OutOfMemory};
+use xs_value::{Dotted, Items, Name, NameList, OutOfMemory};
 
 /// Which formulas are asked for: those of the first moment, those of each, those of each step, or those
 /// that keep frozen variables as they are.
@@ -73,6 +75,32 @@ pub(crate) fn build(
     let instances = instances_of(alloc, scene)?;
     let symbols = symbol_names(alloc, &scene.symbols)?;
     let definitions = definitions_of(alloc, scene, needs, variables.len(), symbols.len())?;
+    with_formulas(alloc, scene, needs, instances, variables, symbols, definitions)
+}
+
+/// The model of these lists with all formulas.
+fn with_formulas(
+    alloc: Global,
+    scene: &Scene<'_>,
+    needs: &Needs,
+    instances: InstanceList,
+    variables: VariableList,
+    symbols: NameList,
+    definitions: FlatList,
+) -> Result<FlatModel, FlatFault>
+    requires scene { IsScene scene.now }
+    requires needs { AreNeeds (program_of scene.now) needs.now }
+    requires accepted { IsAccepted (program_of scene.now) }
+    requires instances { map instance_tree instances ≡ flat_map (instance_told scene.now) scene.now.spots.items }
+    requires variables { AreVariables variables }
+    requires declared { AreDeclared (program_of scene.now) variables }
+    requires symbols { symbols ≡ texts scene.now.symbols.keys }
+    requires definitions { map told definitions ≡ map (asked_definition scene.now needs.now) needs.now.order.items }
+    requires earlier { are_earlier (length variables) (length symbols) 0 definitions ≡ true }
+    ensures closed { IfOk result IsClosedModel }
+    ensures flat { IfOk result (λ model. IsFlatOf (program_of scene.now) (model_tree model)) }
+    ensures want { IfErr result IsWant }
+{
     let bounds = Bounds {
         variables: variables.len(),
         symbols: symbols.len(),
@@ -111,12 +139,24 @@ fn add_instance(
 ) -> Result<(), OutOfMemory>
     ensures { OnOk result (map instance_tree instances.new ≡ map instance_tree instances.old ++ instance_told scene.now spot.now) }
 {
-    if let Some(names) = scene.modules.list.as_slice().get(spot.module) {
-        let path = copy_path(alloc, &spot.path)?;
-        let module = names.module.name.copy(alloc)?;
-        instances.push(Instance { path, module })?;
+    match scene.modules.list.as_slice().get(spot.module) {
+        Some(names) => push_instance(alloc, spot, names, instances),
+        None => Ok(()),
     }
-    Ok(())
+}
+
+/// Appends an instance of a module.
+fn push_instance(
+    alloc: Global,
+    spot: &Spot<'_>,
+    names: &Names<'_>,
+    instances: &mut InstanceList,
+) -> Result<(), OutOfMemory>
+    ensures { OnOk result (map instance_tree instances.new ≡ map instance_tree instances.old ++ instance_in spot.now (Some names.now)) }
+{
+    let path = copy_path(alloc, &spot.path)?;
+    let module = names.module.name.copy(alloc)?;
+    instances.push(Instance { path, module })
 }
 
 /// The definitions in order, each over those before it.
@@ -258,16 +298,40 @@ fn add_of_instance(
     ensures want { IfErr result IsWant }
 {
     for place in 0..scene.item_count(spot) {
-        if let Some((item, number)) = scene.item_at(spot, place) {
+        add_at(alloc, scene, needs, bounds, asked, spot, place, list)?;
+    }
+    Ok(())
+}
+
+/// Adds what the item at a place of an instance asks.
+fn add_at(
+    alloc: Global,
+    scene: &Scene<'_>,
+    needs: &Needs,
+    bounds: Bounds,
+    asked: Asked,
+    spot: usize,
+    place: usize,
+    list: &mut FlatList,
+) -> Result<(), FlatFault>
+    requires scene { IsScene scene.now }
+    requires known { AreConditionsKnown scene.now needs.now bounds (conditions_asked asked) }
+    requires closed { are_closed bounds list.old ≡ true }
+    ensures told { OnOk result (map told list.new ≡ map told list.old ++ asked_items scene.now needs.now (conditions_asked asked) spot (item_listed (slice_get (items_at (program_of scene.now) spot) place))) }
+    ensures closed { OnOk result (are_closed bounds list.new ≡ true) }
+    ensures want { IfErr result IsWant }
+{
+    match scene.item_at(spot, place) {
+        Some((item, number)) => {
             let source = Source {
                 spot,
                 item: number,
                 bounds,
             };
-            add_of_item(alloc, scene, needs, source, asked, item, list)?;
+            add_of_item(alloc, scene, needs, source, asked, item, list)
         }
+        None => Ok(()),
     }
-    Ok(())
 }
 
 /// Adds what an item asks.
