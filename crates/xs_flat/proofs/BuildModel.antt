@@ -175,7 +175,7 @@ module _ (s : Scene) (n : Needs) (is : IsScene s) (needs : AreNeeds (program_of 
     pub record DefinitionAt (j : ℕ) (d : Definition) (f : FormulaOf) : Type 0 where
       pub at : AtPlace j
       pub written : d ≡ record { key = at.root.key; place = at.fits.at.place; written = tree_of at.defined.value.now }
-      pub is : told f ≡ record { tree = tree_map (leaf_at s n at.defined.spot) (tree_of at.defined.value.now); item = at.defined.item; number = at.defined.spot }
+      pub made : told f ≡ record { tree = tree_map (leaf_at s n at.defined.spot) (tree_of at.defined.value.now); item = at.defined.item; number = at.defined.spot }
       pub before : Each (IsBefore j) (leaves_in (flat_tree f.value))
 
     of_definition : (a b : Definition) → Some a ≡ Some b → a ≡ b
@@ -185,7 +185,7 @@ module _ (s : Scene) (n : Needs) (is : IsScene s) (needs : AreNeeds (program_of 
     of_told a b e = cc
 
     definition_made : (j : ℕ) (d : Definition) (f : FormulaOf) → slice_get (definitions s n is needs accepted) j ≡ Some d → slice_get ds j ≡ Some f → DefinitionAt j d f
-    definition_made j d f e g = record { at = a; written = written; is = is_told; before = before }
+    definition_made j d f e g = record { at = a; written = written; made = is_told; before = before }
       where
         k : (k : Key) × (slice_get (order s n is needs accepted).ordered j ≡ Some k) × (definition_of (program_of s) k ≡ d)
         k = get_mapped (definition_of (program_of s)) (order s n is needs accepted).ordered j d e
@@ -218,12 +218,12 @@ module _ (s : Scene) (n : Needs) (is : IsScene s) (needs : AreNeeds (program_of 
 
     is_instance : (d : Definition) (f : FormulaOf) (j : ℕ) → DefinitionAt j d f → IsInstanceNumber m d.place f.«instance»
     is_instance d f j a =
-        (a.at.fits.at, ap (slice_get m.instances) (ap (λ (t : Told). t.number) a.is) ∙ ap (λ xs. slice_get xs a.at.defined.spot) instances ∙ a.at.fits.is, sym (ap (λ (d : Definition). d.place) a.written))
+        (a.at.fits.at, ap (slice_get m.instances) (ap (λ (t : Told). t.number) a.made) ∙ ap (λ xs. slice_get xs a.at.defined.spot) instances ∙ a.at.fits.is, sym (ap (λ (d : Definition). d.place) a.written))
 
     placed_one : (j : ℕ) (d : Definition) (f : FormulaOf) → DefinitionAt j d f → IsDefinitionOf (program_of s) m d (formula_tree f)
     placed_one j d f a = record {
       expression = subst (λ (d : Definition). expression_of (program_of s) d.key ≡ Some (d.place, d.written)) (sym a.written) a.at.fits.expression;
-      root = (a.at.root, (a.at.number, a.at.is_root), sym (ap (λ (d : Definition). d.key) a.written), ap (λ (t : Told). t.item) a.is ∙ a.at.fits.item);
+      root = (a.at.root, (a.at.number, a.at.is_root), sym (ap (λ (d : Definition). d.key) a.written), ap (λ (t : Told). t.item) a.made ∙ a.at.fits.item);
       number = is_instance d f j a;
     }
 
@@ -254,7 +254,7 @@ module _ (s : Scene) (n : Needs) (is : IsScene s) (needs : AreNeeds (program_of 
         resolved : IsResolved (resolver s n d.place) d.written (flat_tree x.0.value)
         resolved =
             subst (λ (d : Definition). IsResolved (resolver s n d.place) d.written (flat_tree x.0.value)) (sym a.written)
-            (ap (λ (t : Told). t.tree) a.is ∙ sym (ap (λ o. tree_map (leaf_by s n o) (tree_of a.at.defined.value.now)) (resolver_at s n is needs accepted a.at.defined.spot a.at.fits.at a.at.fits.is)))
+            (ap (λ (t : Told). t.tree) a.made ∙ sym (ap (λ o. tree_map (leaf_by s n o) (tree_of a.at.defined.value.now)) (resolver_at s n is needs accepted a.at.defined.spot a.at.fits.at a.at.fits.is)))
 
         good : IsGoodRoot (program_of s) a.at.root
         good = each_at (IsGoodRoot (program_of s)) (roots_of (program_of s)) a.at.number a.at.root (good_roots (program_of s) accepted) a.at.is_root
