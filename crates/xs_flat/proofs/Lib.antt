@@ -12,6 +12,7 @@ pub mod NamesLaws
 pub mod PassedOn
 pub mod ModuleFaults
 pub mod ReadLaws
+pub mod ResolvedLaws
 pub mod Tables
 pub mod LookSplit
 pub mod Steps
@@ -41,3 +42,12 @@ pub mod RootLaws
 pub mod NeedLaws
 pub mod AddLaws
 pub mod SceneNeeds
+pub mod BuildOrder
+pub mod BuildAccepted
+pub mod BuildRoots
+pub mod BuildPlaces
+pub mod BuildLeaves
+pub mod BuildSound
+pub mod BuildFormulas
+pub mod BuildModel
+pub mod BuildLoops

@@ -1,7 +1,6 @@
 pub mod Shape
 pub mod Faults
 pub mod Closed
-pub mod ClosedFormulas
 pub mod ModelTree
 pub mod Traced
 pub mod ItemTree
@@ -22,3 +21,8 @@ pub mod Links
 pub mod Spreads
 pub mod Laying
 pub mod Naming
+pub mod ResolverOf
+pub mod Steps
+pub mod Known
+pub mod Laid
+pub mod Asked

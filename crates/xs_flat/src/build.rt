@@ -1,40 +1,59 @@
 //! The flat model of a scene that breaks no rule.
 
-ghost use Rattle.std.specs.Prelude.{◌≡◌, true, length, IfOk, IfErr, OnOk};
-ghost use Rattle.xs_flat.specs.Closed.{is_within, is_closed, are_closed, are_earlier, AreVariables, IsClosedModel};
-ghost use Rattle.xs_flat.specs.ClosedFormulas.{AreClosed};
+ghost use Rattle.std.specs.Prelude.{◌≡◌, Some, ◌++◌, ◌∷◌, [], true, length, map, flat_map, IfOk, IfErr, OnOk, slice_get};
 ghost use Rattle.xs_tree.specs.declared.expr.Op.TheVariants as op;
 ghost use Rattle.xs_tree.specs.Tree.{binary, next_of, leaf as leaf_tree};
+ghost use Rattle.xs_tree.specs.Trace.{Each};
 ghost use Rattle.xs_tree.specs.Written.{tree_of};
-ghost use Rattle.xs_flat.specs.Faults.{IsPastMain, IsWant};
-ghost use Rattle.xs_flat.specs.SceneTree.{IsScene, program_of};
+ghost use Rattle.xs_tree.specs.ProgramTree.{declared_tree};
+ghost use Rattle.xs_tree.specs.declared.program.Moment.TheVariants.{Always, First, After};
+ghost use Rattle.xs_flattening.specs.Items.{instances_of};
+ghost use Rattle.xs_flattening.specs.Model.{IsFlatOf, now_among, next_among, kept, kept_declared, assigned_first, assigned_each, assigned_step, first_conditions, each_conditions, step_conditions, kept_conditions};
+ghost use Rattle.xs_flattening.specs.Rules.{IsAccepted};
+ghost use Rattle.xs_flat.specs.Closed.{is_within, is_closed, are_closed, are_earlier, AreVariables, IsClosedModel};
+ghost use Rattle.xs_flat.specs.Faults.{IsWant};
+ghost use Rattle.xs_flat.specs.SceneTree.{IsScene, program_of, items_at};
 ghost use Rattle.xs_flat.specs.NeedsTree.{AreNeeds};
 ghost use Rattle.xs_flat.specs.Walked.{AreDeclared};
-ghost use Rattle.xs_flat.specs.ModelTree.{model_tree};
-ghost use Rattle.xs_flattening.specs.Rules.{IsAccepted};
-ghost use Rattle.xs_flattening.specs.Model.{IsFlatOf};
+ghost use Rattle.xs_flat.specs.ItemTree.{item_tree};
+ghost use Rattle.xs_flat.specs.Symbols.{texts};
+ghost use Rattle.xs_flat.specs.ModelTree.{instance_tree, leaf_of, model_tree};
+ghost use Rattle.xs_flat.specs.ResolverOf.{leaf_at, told_tree};
+ghost use Rattle.xs_flat.specs.Asked.{told, asked_definition, IsReady, AreReady, conditions_asked, clause_tree, clauses_told, asked_condition, is_variable_within, IsConditionKnown, AreConditionsKnown, asked_conditions, asked_items, asked_from, item_listed, instance_in, instance_told};
 
 use crate::bounds::Bounds;
 use crate::copy::copy_path;
-use crate::fault::{FlatFault, Rule};
+use crate::fault::FlatFault;
 use crate::items::{Item, number_of};
-use crate::model::{
-    Flat, FlatList, FlatModel, Formula, Instance, InstanceList, Role, Variable, VariableList,
-};
+use crate::model::{Flat, FlatList, FlatModel, Formula, Instance, InstanceList, Role, VariableList};
+use crate::modules::Names;
 use crate::names::Scene;
 use crate::needs::Needs;
-use crate::resolve::{Source, boxed, leaf, resolve};
+use crate::resolve::{Source, boxed, resolve};
 use crate::symbols::symbol_names;
+use crate::walk::{Meaning, Spot};
 use std::alloc::Global;
-use xs_tree::{Assignment, Expr, Moment, Op};
-use xs_value::{Dotted, Items, OutOfMemory};
+use xs_tree::{Assignment, Decl, Declared, Expr, Moment, Op};
+use xs_value::{Dotted, Items, Name, NameList, OutOfMemory};
 
-/// The formulas so far.
-#[derive(Drop)]
-pub(crate) struct Formulas {
-    pub init: FlatList,
-    pub invar: FlatList,
-    pub trans: FlatList,
+/// Which formulas are asked for: those of the first moment, those of each, those of each step, or those
+/// that keep frozen variables as they are.
+#[derive(Clone, Copy)]
+pub(crate) enum Asked {
+    First,
+    Each,
+    Step,
+    Kept,
+}
+
+/// What an item asks: that an expression is TRUE, that a variable has now or next one of an expression's
+/// values, or that it keeps its own.
+#[derive(Clone, Copy)]
+pub(crate) enum Clause<'a> {
+    Plain(&'a Expr<Dotted>),
+    Now(&'a Name, &'a Expr<Dotted>),
+    Next(&'a Name, &'a Expr<Dotted>),
+    Kept(&'a Name),
 }
 
 /// The flat model of a scene with these variables.
@@ -56,13 +75,41 @@ pub(crate) fn build(
     let instances = instances_of(alloc, scene)?;
     let symbols = symbol_names(alloc, &scene.symbols)?;
     let definitions = definitions_of(alloc, scene, needs, variables.len(), symbols.len())?;
+    with_formulas(alloc, scene, needs, instances, variables, symbols, definitions)
+}
+
+/// The model of these lists with all formulas.
+fn with_formulas(
+    alloc: Global,
+    scene: &Scene<'_>,
+    needs: &Needs,
+    instances: InstanceList,
+    variables: VariableList,
+    symbols: NameList,
+    definitions: FlatList,
+) -> Result<FlatModel, FlatFault>
+    requires scene { IsScene scene.now }
+    requires needs { AreNeeds (program_of scene.now) needs.now }
+    requires accepted { IsAccepted (program_of scene.now) }
+    requires instances { map instance_tree instances ≡ flat_map (instance_told scene.now) scene.now.spots.items }
+    requires variables { AreVariables variables }
+    requires declared { AreDeclared (program_of scene.now) variables }
+    requires symbols { symbols ≡ texts scene.now.symbols.keys }
+    requires definitions { map told definitions ≡ map (asked_definition scene.now needs.now) needs.now.order.items }
+    requires earlier { are_earlier (length variables) (length symbols) 0 definitions ≡ true }
+    ensures closed { IfOk result IsClosedModel }
+    ensures flat { IfOk result (λ model. IsFlatOf (program_of scene.now) (model_tree model)) }
+    ensures want { IfErr result IsWant }
+{
     let bounds = Bounds {
         variables: variables.len(),
         symbols: symbols.len(),
         definitions: definitions.len(),
     };
-    let formulas = formulas_of(alloc, scene, needs, bounds, variables.as_slice())?;
-    let Formulas { init, invar, trans } = formulas;
+    let init = formulas_of(alloc, scene, needs, bounds, Asked::First)?;
+    let invar = formulas_of(alloc, scene, needs, bounds, Asked::Each)?;
+    let mut trans = formulas_of(alloc, scene, needs, bounds, Asked::Step)?;
+    add_formulas(alloc, scene, needs, bounds, Asked::Kept, &mut trans)?;
     Ok(FlatModel {
         instances,
         variables,
@@ -74,16 +121,42 @@ pub(crate) fn build(
     })
 }
 
-fn instances_of(alloc: Global, scene: &Scene<'_>) -> Result<InstanceList, OutOfMemory> {
+fn instances_of(alloc: Global, scene: &Scene<'_>) -> Result<InstanceList, OutOfMemory>
+    ensures { IfOk result (λ made. map instance_tree made ≡ flat_map (instance_told scene.now) scene.now.spots.items) }
+{
     let mut instances = Items::new(alloc);
     for spot in scene.spots.as_slice() {
-        if let Some(names) = scene.modules.list.as_slice().get(spot.module) {
-            let path = copy_path(alloc, &spot.path)?;
-            let module = names.module.name.copy(alloc)?;
-            instances.push(Instance { path, module })?;
-        }
+        add_instance(alloc, scene, spot, &mut instances)?;
     }
     Ok(instances)
+}
+
+fn add_instance(
+    alloc: Global,
+    scene: &Scene<'_>,
+    spot: &Spot<'_>,
+    instances: &mut InstanceList,
+) -> Result<(), OutOfMemory>
+    ensures { OnOk result (map instance_tree instances.new ≡ map instance_tree instances.old ++ instance_told scene.now spot.now) }
+{
+    match scene.modules.list.as_slice().get(spot.module) {
+        Some(names) => push_instance(alloc, spot, names, instances),
+        None => Ok(()),
+    }
+}
+
+/// Appends an instance of a module.
+fn push_instance(
+    alloc: Global,
+    spot: &Spot<'_>,
+    names: &Names<'_>,
+    instances: &mut InstanceList,
+) -> Result<(), OutOfMemory>
+    ensures { OnOk result (map instance_tree instances.new ≡ map instance_tree instances.old ++ instance_in spot.now (Some names.now)) }
+{
+    let path = copy_path(alloc, &spot.path)?;
+    let module = names.module.name.copy(alloc)?;
+    instances.push(Instance { path, module })
 }
 
 /// The definitions in order, each over those before it.
@@ -94,8 +167,10 @@ fn definitions_of(
     variables: usize,
     symbols: usize,
 ) -> Result<FlatList, FlatFault>
+    requires ready { AreReady scene.now needs.now variables symbols }
+    ensures told { IfOk result (λ made. map told made ≡ map (asked_definition scene.now needs.now) needs.now.order.items) }
     ensures earlier { IfOk result (λ made. are_earlier variables symbols 0 made ≡ true) }
-    ensures fault { IfErr result IsPastMain }
+    ensures want { IfErr result IsWant }
 {
     let mut made = Items::new(alloc);
     for place in needs.order.as_slice() {
@@ -118,13 +193,15 @@ fn add_definition(
     place: usize,
     made: &mut FlatList,
 ) -> Result<(), FlatFault>
+    requires ready { IsReady scene.now needs.now bounds place }
     requires before { are_earlier bounds.variables bounds.symbols 0 made.old ≡ true }
     requires next { bounds.definitions ≡ length made.old }
+    ensures told { OnOk result (map told made.new ≡ map told made.old ++ asked_definition scene.now needs.now place ∷ []) }
     ensures earlier { OnOk result (are_earlier bounds.variables bounds.symbols 0 made.new ≡ true) }
-    ensures fault { IfErr result IsPastMain }
+    ensures want { IfErr result IsWant }
 {
     let Some(defined) = scene.definitions.as_slice().get(place) else {
-        return Ok(());
+        unreachable!();
     };
     let source = Source {
         spot: defined.spot,
@@ -145,13 +222,15 @@ fn push_definition(
     requires before { are_earlier source.bounds.variables source.bounds.symbols 0 list.old ≡ true }
     requires next { source.bounds.definitions ≡ length list.old }
     requires value { is_closed source.bounds value ≡ true }
-    ensures { OnOk result (are_earlier source.bounds.variables source.bounds.symbols 0 list.new ≡ true) }
+    ensures told { OnOk result (map told list.new ≡ map told list.old ++ record { tree = told_tree value; item = source.item; number = source.spot } ∷ []) }
+    ensures earlier { OnOk result (are_earlier source.bounds.variables source.bounds.symbols 0 list.new ≡ true) }
 {
     list.push(formula(source, value)?)
 }
 
 fn formula(source: Source, value: Expr<Flat>) -> Result<Formula, OutOfMemory>
-    ensures { IfOk result (λ made. made.value ≡ value) }
+    ensures value { IfOk result (λ made. made.value ≡ value) }
+    ensures told { IfOk result (λ made. told made ≡ record { tree = told_tree value; item = source.item; number = source.spot }) }
 {
     Ok(Formula {
         value,
@@ -160,162 +239,233 @@ fn formula(source: Source, value: Expr<Flat>) -> Result<Formula, OutOfMemory>
     })
 }
 
-/// All formulas: those that are written, and then that frozen variables stay as they are.
+/// The formulas that are asked for, by instances and then items.
 fn formulas_of(
     alloc: Global,
     scene: &Scene<'_>,
     needs: &Needs,
     bounds: Bounds,
-    variables: &[Variable],
-) -> Result<Formulas, FlatFault>
-    requires { length variables.now ≡ bounds.variables }
-    ensures closed { IfOk result (AreClosed bounds) }
-    ensures fault { IfErr result IsPastMain }
+    asked: Asked,
+) -> Result<FlatList, FlatFault>
+    requires scene { IsScene scene.now }
+    requires known { AreConditionsKnown scene.now needs.now bounds (conditions_asked asked) }
+    ensures told { IfOk result (λ made. map told made ≡ asked_from scene.now needs.now (conditions_asked asked) 0 (instances_of (program_of scene.now))) }
+    ensures closed { IfOk result (λ made. are_closed bounds made ≡ true) }
+    ensures want { IfErr result IsWant }
 {
-    let mut formulas = Formulas {
-        init: Items::new(alloc),
-        invar: Items::new(alloc),
-        trans: Items::new(alloc),
-    };
-    formulas.add_written(alloc, scene, needs, bounds)?;
-    formulas.add_kept(alloc, bounds, variables)?;
-    Ok(formulas)
+    let mut made = Items::new(alloc);
+    add_formulas(alloc, scene, needs, bounds, asked, &mut made)?;
+    Ok(made)
 }
 
-impl Formulas {
-    /// Adds the formulas that are written, by instances and then items.
-    fn add_written(
-        &mut self,
-        alloc: Global,
-        scene: &Scene<'_>,
-        needs: &Needs,
-        bounds: Bounds,
-    ) -> Result<(), FlatFault>
-        requires { AreClosed bounds self.old }
-        ensures closed { OnOk result (AreClosed bounds self.new) }
-        ensures fault { IfErr result IsPastMain }
-    {
-        for spot in 0..scene.spots.len() {
-            self.add_instance(alloc, scene, needs, bounds, spot)?;
-        }
-        Ok(())
+/// Adds the formulas that are asked for.
+fn add_formulas(
+    alloc: Global,
+    scene: &Scene<'_>,
+    needs: &Needs,
+    bounds: Bounds,
+    asked: Asked,
+    list: &mut FlatList,
+) -> Result<(), FlatFault>
+    requires scene { IsScene scene.now }
+    requires known { AreConditionsKnown scene.now needs.now bounds (conditions_asked asked) }
+    requires closed { are_closed bounds list.old ≡ true }
+    ensures told { OnOk result (map told list.new ≡ map told list.old ++ asked_from scene.now needs.now (conditions_asked asked) 0 (instances_of (program_of scene.now))) }
+    ensures closed { OnOk result (are_closed bounds list.new ≡ true) }
+    ensures want { IfErr result IsWant }
+{
+    for spot in 0..scene.spots.len() {
+        add_of_instance(alloc, scene, needs, bounds, asked, spot, list)?;
     }
+    Ok(())
+}
 
-    fn add_instance(
-        &mut self,
-        alloc: Global,
-        scene: &Scene<'_>,
-        needs: &Needs,
-        bounds: Bounds,
-        spot: usize,
-    ) -> Result<(), FlatFault>
-        requires { AreClosed bounds self.old }
-        ensures closed { OnOk result (AreClosed bounds self.new) }
-        ensures fault { IfErr result IsPastMain }
-    {
-        for place in 0..scene.item_count(spot) {
-            if let Some((item, number)) = scene.item_at(spot, place) {
-                let source = Source {
-                    spot,
-                    item: number,
-                    bounds,
-                };
-                self.add_item(alloc, scene, needs, source, item)?;
-            }
-        }
-        Ok(())
+/// Adds those of an instance.
+fn add_of_instance(
+    alloc: Global,
+    scene: &Scene<'_>,
+    needs: &Needs,
+    bounds: Bounds,
+    asked: Asked,
+    spot: usize,
+    list: &mut FlatList,
+) -> Result<(), FlatFault>
+    requires scene { IsScene scene.now }
+    requires known { AreConditionsKnown scene.now needs.now bounds (conditions_asked asked) }
+    requires closed { are_closed bounds list.old ≡ true }
+    ensures told { OnOk result (map told list.new ≡ map told list.old ++ asked_items scene.now needs.now (conditions_asked asked) spot (items_at (program_of scene.now) spot)) }
+    ensures closed { OnOk result (are_closed bounds list.new ≡ true) }
+    ensures want { IfErr result IsWant }
+{
+    for place in 0..scene.item_count(spot) {
+        add_at(alloc, scene, needs, bounds, asked, spot, place, list)?;
     }
+    Ok(())
+}
 
-    fn add_item(
-        &mut self,
-        alloc: Global,
-        scene: &Scene<'_>,
-        needs: &Needs,
-        source: Source,
-        item: Item<'_>,
-    ) -> Result<(), FlatFault>
-        requires { AreClosed source.bounds self.old }
-        ensures closed { OnOk result (AreClosed source.bounds self.new) }
-        ensures fault { IfErr result IsPastMain }
-    {
-        match item {
-            Item::Init(e) => {
-                let value = resolve(alloc, scene, needs, source, e)?;
-                Ok(push_formula(&mut self.init, source, value)?)
-            }
-            Item::Invar(e) => {
-                let value = resolve(alloc, scene, needs, source, e)?;
-                Ok(push_formula(&mut self.invar, source, value)?)
-            }
-            Item::Trans(e) => {
-                let value = resolve(alloc, scene, needs, source, e)?;
-                Ok(push_formula(&mut self.trans, source, value)?)
-            }
-            Item::Assigned(assignment) => {
-                self.add_assignment(alloc, scene, needs, source, assignment)
-            }
-            Item::Declared(_, _) | Item::Defined(_) | Item::Constants(_) => Ok(()),
+/// Adds what the item at a place of an instance asks.
+fn add_at(
+    alloc: Global,
+    scene: &Scene<'_>,
+    needs: &Needs,
+    bounds: Bounds,
+    asked: Asked,
+    spot: usize,
+    place: usize,
+    list: &mut FlatList,
+) -> Result<(), FlatFault>
+    requires scene { IsScene scene.now }
+    requires known { AreConditionsKnown scene.now needs.now bounds (conditions_asked asked) }
+    requires closed { are_closed bounds list.old ≡ true }
+    ensures told { OnOk result (map told list.new ≡ map told list.old ++ asked_items scene.now needs.now (conditions_asked asked) spot (item_listed (slice_get (items_at (program_of scene.now) spot) place))) }
+    ensures closed { OnOk result (are_closed bounds list.new ≡ true) }
+    ensures want { IfErr result IsWant }
+{
+    match scene.item_at(spot, place) {
+        Some((item, number)) => {
+            let source = Source {
+                spot,
+                item: number,
+                bounds,
+            };
+            add_of_item(alloc, scene, needs, source, asked, item, list)
         }
+        None => Ok(()),
     }
+}
 
-    /// Adds that the target is among the values of an assignment.
-    #[tactic(auto, using(crate::proofs::ClosedLaws::closed_within))]
-    fn add_assignment(
-        &mut self,
-        alloc: Global,
-        scene: &Scene<'_>,
-        needs: &Needs,
-        source: Source,
-        assignment: &Assignment,
-    ) -> Result<(), FlatFault>
-        requires { AreClosed source.bounds self.old }
-        ensures closed { OnOk result (AreClosed source.bounds self.new) }
-        ensures fault { IfErr result IsPastMain }
-    {
-        let target = target_of(scene, needs, source, &assignment.target)?;
-        let value = resolve(alloc, scene, needs, source, &assignment.value)?;
-        match assignment.when {
-            Moment::Always => {
-                let value = within(alloc, Expr::Leaf(target), value)?;
-                Ok(push_formula(&mut self.invar, source, value)?)
-            }
-            Moment::First => {
-                let value = within(alloc, Expr::Leaf(target), value)?;
-                Ok(push_formula(&mut self.init, source, value)?)
-            }
-            Moment::After => {
-                let value = within_next(alloc, target, value)?;
-                Ok(push_formula(&mut self.trans, source, value)?)
-            }
-        }
+/// Adds what an item asks.
+fn add_of_item(
+    alloc: Global,
+    scene: &Scene<'_>,
+    needs: &Needs,
+    source: Source,
+    asked: Asked,
+    item: Item<'_>,
+    list: &mut FlatList,
+) -> Result<(), FlatFault>
+    requires known { Each (IsConditionKnown (leaf_at scene.now needs.now source.spot) source.bounds) (conditions_asked asked (item_tree item)) }
+    requires closed { are_closed source.bounds list.old ≡ true }
+    ensures told { OnOk result (map told list.new ≡ map told list.old ++ asked_conditions (leaf_at scene.now needs.now source.spot) source.spot source.item (conditions_asked asked (item_tree item.entry))) }
+    ensures closed { OnOk result (are_closed source.bounds list.new ≡ true) }
+    ensures want { IfErr result IsWant }
+{
+    match clause_of(asked, item) {
+        Some(clause) => add_clause(alloc, scene, needs, source, clause, list),
+        None => Ok(()),
     }
+}
 
-    /// Adds that each frozen variable stays as it is.
-    #[tactic(auto, using(crate::proofs::ClosedLaws::closed_within))]
-    fn add_kept(
-        &mut self,
-        alloc: Global,
-        bounds: Bounds,
-        variables: &[Variable],
-    ) -> Result<(), OutOfMemory>
-        requires closed { AreClosed bounds self.old }
-        requires all { length variables.now ≡ bounds.variables }
-        ensures { OnOk result (AreClosed bounds self.new) }
-    {
-        for (place, variable) in variables.iter().enumerate() {
-            if variable.role == Role::Frozen {
-                let leaf = Flat::Var(number_of(place)?);
-                let value = within_next(alloc, leaf, Expr::Leaf(leaf))?;
-                let source = Source {
-                    spot: variable.instance as usize,
-                    item: variable.item,
-                    bounds,
-                };
-                push_formula(&mut self.trans, source, value)?;
-            }
-        }
-        Ok(())
+/// What an item asks, of the formulas that are asked for.
+fn clause_of<'a>(asked: Asked, item: Item<'a>) -> Option<Clause<'a>>
+    ensures { clauses_told result ≡ conditions_asked asked (item_tree item.entry) }
+{
+    match asked {
+        Asked::First => first_clause(item),
+        Asked::Each => each_clause(item),
+        Asked::Step => step_clause(item),
+        Asked::Kept => kept_clause(item),
     }
+}
+
+fn first_clause<'a>(item: Item<'a>) -> Option<Clause<'a>>
+    ensures { clauses_told result ≡ first_conditions (item_tree item.entry) }
+{
+    match item {
+        Item::Init(e) => Some(Clause::Plain(e)),
+        Item::Assigned(assignment) => match assignment.when {
+            Moment::First => now_clause(assignment),
+            Moment::Always | Moment::After => None,
+        },
+        _ => None,
+    }
+}
+
+fn each_clause<'a>(item: Item<'a>) -> Option<Clause<'a>>
+    ensures { clauses_told result ≡ each_conditions (item_tree item.entry) }
+{
+    match item {
+        Item::Invar(e) => Some(Clause::Plain(e)),
+        Item::Assigned(assignment) => match assignment.when {
+            Moment::Always => now_clause(assignment),
+            Moment::First | Moment::After => None,
+        },
+        _ => None,
+    }
+}
+
+fn step_clause<'a>(item: Item<'a>) -> Option<Clause<'a>>
+    ensures { clauses_told result ≡ step_conditions (item_tree item.entry) }
+{
+    match item {
+        Item::Trans(e) => Some(Clause::Plain(e)),
+        Item::Assigned(assignment) => match assignment.when {
+            Moment::After => next_clause(assignment),
+            Moment::First | Moment::Always => None,
+        },
+        _ => None,
+    }
+}
+
+fn kept_clause<'a>(item: Item<'a>) -> Option<Clause<'a>>
+    ensures { clauses_told result ≡ kept_conditions (item_tree item.entry) }
+{
+    match item {
+        Item::Declared(Role::Frozen, decl) => kept_of(decl),
+        _ => None,
+    }
+}
+
+fn kept_of<'a>(decl: &'a Decl) -> Option<Clause<'a>>
+    ensures { clauses_told result ≡ kept_declared decl.now.name (declared_tree decl.now.what) }
+{
+    match decl.what {
+        Declared::Instance(_, _) => None,
+        Declared::Boolean | Declared::Range(_, _) | Declared::Members(_) => {
+            Some(Clause::Kept(&decl.name))
+        }
+    }
+}
+
+/// That the target of an assignment has one of the values now. A target of several parts asks nothing.
+fn now_clause<'a>(assignment: &'a Assignment) -> Option<Clause<'a>>
+    ensures first { clauses_told result ≡ assigned_first First assignment.now.target (tree_of assignment.now.value) }
+    ensures each { clauses_told result ≡ assigned_each Always assignment.now.target (tree_of assignment.now.value) }
+{
+    match assignment.target.parts() {
+        [] => None,
+        [target] => Some(Clause::Now(target, &assignment.value)),
+        [_, _, ..] => None,
+    }
+}
+
+fn next_clause<'a>(assignment: &'a Assignment) -> Option<Clause<'a>>
+    ensures { clauses_told result ≡ assigned_step After assignment.now.target (tree_of assignment.now.value) }
+{
+    match assignment.target.parts() {
+        [] => None,
+        [target] => Some(Clause::Next(target, &assignment.value)),
+        [_, _, ..] => None,
+    }
+}
+
+/// Appends the formula of a condition.
+fn add_clause(
+    alloc: Global,
+    scene: &Scene<'_>,
+    needs: &Needs,
+    source: Source,
+    clause: Clause<'_>,
+    list: &mut FlatList,
+) -> Result<(), FlatFault>
+    requires known { IsConditionKnown (leaf_at scene.now needs.now source.spot) source.bounds (clause_tree clause) }
+    requires closed { are_closed source.bounds list.old ≡ true }
+    ensures told { OnOk result (map told list.new ≡ map told list.old ++ asked_conditions (leaf_at scene.now needs.now source.spot) source.spot source.item (clause_tree clause.entry ∷ [])) }
+    ensures closed { OnOk result (are_closed source.bounds list.new ≡ true) }
+    ensures want { IfErr result IsWant }
+{
+    let value = clause_value(alloc, scene, needs, source, clause)?;
+    Ok(push_formula(list, source, value)?)
 }
 
 /// Appends a formula.
@@ -323,27 +473,98 @@ impl Formulas {
 fn push_formula(list: &mut FlatList, source: Source, value: Expr<Flat>) -> Result<(), OutOfMemory>
     requires old { are_closed source.bounds list.old ≡ true }
     requires value { is_closed source.bounds value ≡ true }
-    ensures { OnOk result (are_closed source.bounds list.new ≡ true) }
+    ensures told { OnOk result (map told list.new ≡ map told list.old ++ record { tree = told_tree value; item = source.item; number = source.spot } ∷ []) }
+    ensures closed { OnOk result (are_closed source.bounds list.new ≡ true) }
 {
     list.push(formula(source, value)?)
 }
 
-/// The variable that an assignment speaks of.
-fn target_of(
+/// The expression that a condition asks to be TRUE.
+fn clause_value(
+    alloc: Global,
     scene: &Scene<'_>,
     needs: &Needs,
     source: Source,
-    target: &Dotted,
-) -> Result<Flat, FlatFault>
-    ensures closed { IfOk result (λ made. is_within source.bounds made ≡ true) }
-    ensures fault { IfErr result IsPastMain }
+    clause: Clause<'_>,
+) -> Result<Expr<Flat>, FlatFault>
+    requires known { IsConditionKnown (leaf_at scene.now needs.now source.spot) source.bounds (clause_tree clause) }
+    ensures told { IfOk result (λ made. told_tree made ≡ asked_condition (leaf_at scene.now needs.now source.spot) (clause_tree clause.entry)) }
+    ensures closed { IfOk result (λ made. is_closed source.bounds made ≡ true) }
+    ensures want { IfErr result IsWant }
 {
-    match leaf(scene, needs, source, target)? {
-        Flat::Var(number) => Ok(Flat::Var(number)),
-        Flat::Symbol(_) | Flat::Definition(_) => Err(FlatFault {
-            rule: Rule::NotATarget,
-            item: source.item,
-        }),
+    match clause {
+        Clause::Plain(e) => resolve(alloc, scene, needs, source, e),
+        Clause::Now(target, e) => now_value(alloc, scene, needs, source, target, e),
+        Clause::Next(target, e) => next_value(alloc, scene, needs, source, target, e),
+        Clause::Kept(target) => kept_value(alloc, scene, needs, source, target),
+    }
+}
+
+#[tactic(auto, using(crate::proofs::ClosedLaws::closed_within))]
+fn now_value(
+    alloc: Global,
+    scene: &Scene<'_>,
+    needs: &Needs,
+    source: Source,
+    target: &Name,
+    e: &Expr<Dotted>,
+) -> Result<Expr<Flat>, FlatFault>
+    requires known { IsConditionKnown (leaf_at scene.now needs.now source.spot) source.bounds (now_among target.now (tree_of e.now)) }
+    ensures told { IfOk result (λ made. told_tree made ≡ asked_condition (leaf_at scene.now needs.now source.spot) (now_among target.now (tree_of e.now))) }
+    ensures closed { IfOk result (λ made. is_closed source.bounds made ≡ true) }
+    ensures want { IfErr result IsWant }
+{
+    let target = target_of(scene, needs, source, target);
+    let value = resolve(alloc, scene, needs, source, e)?;
+    Ok(within(alloc, Expr::Leaf(target), value)?)
+}
+
+#[tactic(auto, using(crate::proofs::ClosedLaws::closed_within))]
+fn next_value(
+    alloc: Global,
+    scene: &Scene<'_>,
+    needs: &Needs,
+    source: Source,
+    target: &Name,
+    e: &Expr<Dotted>,
+) -> Result<Expr<Flat>, FlatFault>
+    requires known { IsConditionKnown (leaf_at scene.now needs.now source.spot) source.bounds (next_among target.now (tree_of e.now)) }
+    ensures told { IfOk result (λ made. told_tree made ≡ asked_condition (leaf_at scene.now needs.now source.spot) (next_among target.now (tree_of e.now))) }
+    ensures closed { IfOk result (λ made. is_closed source.bounds made ≡ true) }
+    ensures want { IfErr result IsWant }
+{
+    let target = target_of(scene, needs, source, target);
+    let value = resolve(alloc, scene, needs, source, e)?;
+    Ok(within_next(alloc, target, value)?)
+}
+
+#[tactic(auto, using(crate::proofs::ClosedLaws::closed_within))]
+fn kept_value(
+    alloc: Global,
+    scene: &Scene<'_>,
+    needs: &Needs,
+    source: Source,
+    target: &Name,
+) -> Result<Expr<Flat>, FlatFault>
+    requires known { is_variable_within source.bounds (leaf_at scene.now needs.now source.spot (target.now ∷ [])) ≡ true }
+    ensures told { IfOk result (λ made. told_tree made ≡ asked_condition (leaf_at scene.now needs.now source.spot) (kept target.now)) }
+    ensures closed { IfOk result (λ made. is_closed source.bounds made ≡ true) }
+    ensures want { IfErr result IsWant }
+{
+    let target = target_of(scene, needs, source, target);
+    Ok(within_next(alloc, target, Expr::Leaf(target))?)
+}
+
+/// The variable that a condition speaks of.
+fn target_of(scene: &Scene<'_>, needs: &Needs, source: Source, target: &Name) -> Flat
+    requires known { is_variable_within source.bounds (leaf_at scene.now needs.now source.spot (target.now ∷ [])) ≡ true }
+    ensures leaf { Some (leaf_of result) ≡ leaf_at scene.now needs.now source.spot (target.now ∷ []) }
+    ensures closed { is_within source.bounds result ≡ true }
+{
+    let _order = needs;
+    match scene.part(source.spot, target, true) {
+        Meaning::Variable { number, .. } => Flat::Var(number),
+        _ => unreachable!(),
     }
 }
 

@@ -396,7 +396,7 @@ impl<'a> Scene<'a> {
 
     /// What a part of a name means at an instance; `last` says that no part comes after it.
     #[tactic(auto, using(crate::proofs::Steps::found_step))]
-    fn part(&self, spot: usize, part: &Name, last: bool) -> Meaning
+    pub(crate) fn part(&self, spot: usize, part: &Name, last: bool) -> Meaning
         ensures { result ≡ part_at self.now spot last part.now }
     {
         match self.step(spot, part, last) {

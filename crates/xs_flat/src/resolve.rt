@@ -1,10 +1,12 @@
 //! Written expressions over the numbers of a flat model.
 
-ghost use Rattle.std.specs.Prelude.{◌≡◌, true, IfOk, IfErr, map};
-ghost use Rattle.std.specs.List.{list_all};
+ghost use Rattle.std.specs.Prelude.{◌≡◌, true, Some, IfOk, IfErr, map, slice_get};
+ghost use Rattle.std.specs.List.{list_all, All};
 ghost use Rattle.xs_flat.specs.Closed.{is_within, is_closed, is_branch_closed};
 ghost use Rattle.xs_flat.specs.Shape.{shape, branch_shapes};
-ghost use Rattle.xs_flat.specs.Faults.{IsPastMain};
+ghost use Rattle.xs_flat.specs.Faults.{IsWant};
+ghost use Rattle.xs_flat.specs.ModelTree.{leaf_of};
+ghost use Rattle.xs_flat.specs.ResolverOf.{leaf_at, leaf_placed, is_leaf_within, told_tree, asked_tree, told_branch, asked_branch, IsKnown, IsBranchKnown};
 
 use crate::bounds::Bounds;
 use crate::fault::{FlatFault, Rule};
@@ -28,7 +30,7 @@ pub(crate) struct Source {
 
 /// An expression with each name replaced by what it stands for at an instance.
 #[cycle(resolve)]
-#[tactic(auto, using(crate::proofs::ShapeLaws::shape_of_case, crate::proofs::ShapeLaws::shape_of_set, crate::proofs::ClosedLaws::closed_case, crate::proofs::ClosedLaws::closed_set))]
+#[tactic(auto, using(crate::proofs::ShapeLaws::shape_of_case, crate::proofs::ShapeLaws::shape_of_set, crate::proofs::ClosedLaws::closed_case, crate::proofs::ClosedLaws::closed_set, crate::proofs::ResolvedLaws::told_case, crate::proofs::ResolvedLaws::told_set, crate::proofs::ResolvedLaws::asked_case, crate::proofs::ResolvedLaws::asked_set))]
 pub(crate) fn resolve(
     alloc: Global,
     scene: &Scene<'_>,
@@ -36,9 +38,10 @@ pub(crate) fn resolve(
     source: Source,
     e: &Expr<Dotted>,
 ) -> Result<Expr<Flat>, FlatFault>
+    ensures resolved { IfOk result (λ made. told_tree made ≡ asked_tree (leaf_at scene.now needs.now source.spot) e.now) }
     ensures shape { IfOk result (λ made. shape made ≡ shape e.now) }
     ensures closed { IfOk result (λ made. is_closed source.bounds made ≡ true) }
-    ensures fault { IfErr result IsPastMain }
+    ensures want { IsKnown (leaf_at scene.now needs.now source.spot) source.bounds e.now → IfErr result IsWant }
 {
     match e {
         Expr::Truth(b) => Ok(Expr::Truth(*b)),
@@ -74,9 +77,10 @@ fn resolve_boxed(
     source: Source,
     e: &Expr<Dotted>,
 ) -> Result<Box<Expr<Flat>>, FlatFault>
+    ensures resolved { IfOk result (λ made. told_tree made.value ≡ asked_tree (leaf_at scene.now needs.now source.spot) e.now) }
     ensures shape { IfOk result (λ made. shape made.value ≡ shape e.now) }
     ensures closed { IfOk result (λ made. is_closed source.bounds made.value ≡ true) }
-    ensures fault { IfErr result IsPastMain }
+    ensures want { IsKnown (leaf_at scene.now needs.now source.spot) source.bounds e.now → IfErr result IsWant }
 {
     let made = resolve(alloc, scene, needs, source, e)?;
     Ok(boxed(alloc, made)?)
@@ -91,9 +95,10 @@ fn resolve_members(
     source: Source,
     members: &[Expr<Dotted>],
 ) -> Result<ExprList<Flat>, FlatFault>
+    ensures resolved { IfOk result (λ made. map told_tree made ≡ map (asked_tree (leaf_at scene.now needs.now source.spot)) members.now) }
     ensures shapes { IfOk result (λ made. map shape made ≡ map shape members.now) }
     ensures closed { IfOk result (λ made. list_all (is_closed source.bounds) made ≡ true) }
-    ensures fault { IfErr result IsPastMain }
+    ensures want { All (IsKnown (leaf_at scene.now needs.now source.spot) source.bounds) members.now → IfErr result IsWant }
 {
     let mut made = Items::new(alloc);
     for member in members {
@@ -111,9 +116,10 @@ fn resolve_branches(
     source: Source,
     branches: &[(Expr<Dotted>, Expr<Dotted>)],
 ) -> Result<BranchList<Flat>, FlatFault>
+    ensures resolved { IfOk result (λ made. map told_branch made ≡ map (asked_branch (leaf_at scene.now needs.now source.spot)) branches.now) }
     ensures shapes { IfOk result (λ made. map branch_shapes made ≡ map branch_shapes branches.now) }
     ensures closed { IfOk result (λ made. list_all (is_branch_closed source.bounds) made ≡ true) }
-    ensures fault { IfErr result IsPastMain }
+    ensures want { All (IsBranchKnown (leaf_at scene.now needs.now source.spot) source.bounds) branches.now → IfErr result IsWant }
 {
     let mut made = Items::new(alloc);
     for (condition, value) in branches {
@@ -131,8 +137,9 @@ pub(crate) fn leaf(
     source: Source,
     name: &Dotted,
 ) -> Result<Flat, FlatFault>
+    ensures leaf { IfOk result (λ made. Some (leaf_of made) ≡ leaf_at scene.now needs.now source.spot name.now) }
     ensures closed { IfOk result (λ made. is_within source.bounds made ≡ true) }
-    ensures fault { IfErr result IsPastMain }
+    ensures want { is_leaf_within source.bounds (leaf_at scene.now needs.now source.spot name.now) ≡ true → IfErr result IsWant }
 {
     match scene.meaning(source.spot, name) {
         Meaning::Variable { number, .. } if (number as usize) < source.bounds.variables => {
@@ -141,27 +148,28 @@ pub(crate) fn leaf(
         Meaning::Symbol(number) if (number as usize) < source.bounds.symbols => {
             Ok(Flat::Symbol(number))
         }
-        Meaning::Definition(definition) => {
-            let place = needs.place_of(definition);
-            if place < source.bounds.definitions {
-                Ok(Flat::Definition(number_of(place)?))
-            } else {
-                Err(FlatFault {
-                    rule: Rule::DefineLoop,
-                    item: source.item,
-                })
-            }
-        }
-        _ => Err(no_such_name(source)),
+        Meaning::Definition(definition) => placed(needs, source, definition),
+        _ => Err(FlatFault {
+            rule: Rule::NoSuchName,
+            item: source.item,
+        }),
     }
 }
 
-fn no_such_name(source: Source) -> FlatFault
-    ensures { IsPastMain result }
+/// The definition of a number of the scene's list, by its place in the order.
+fn placed(needs: &Needs, source: Source, definition: usize) -> Result<Flat, FlatFault>
+    ensures leaf { IfOk result (λ made. Some (leaf_of made) ≡ leaf_placed (slice_get needs.now.places.items definition)) }
+    ensures closed { IfOk result (λ made. is_within source.bounds made ≡ true) }
+    ensures want { is_leaf_within source.bounds (leaf_placed (slice_get needs.now.places.items definition)) ≡ true → IfErr result IsWant }
 {
-    FlatFault {
-        rule: Rule::NoSuchName,
-        item: source.item,
+    match needs.places.as_slice().get(definition) {
+        Some(place) if *place < source.bounds.definitions => {
+            Ok(Flat::Definition(number_of(*place)?))
+        }
+        _ => Err(FlatFault {
+            rule: Rule::DefineLoop,
+            item: source.item,
+        }),
     }
 }
 

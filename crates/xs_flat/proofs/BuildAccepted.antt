@@ -1,0 +1,214 @@
+-- What the rules give at each item of each instance of an accepted program.
+use Rattle.std.proofs.Common.{◌≡◌, ℕ, zero, suc, ◌+◌, ◌<◌, Bool, true, false, ◌||◌, List, [], ◌∷◌, ◌++◌, Option, Some, None, refl, sym, ◌∙◌, ap, subst, arith, inl, inr, eqb-true}
+use Rattle.std.specs.Prelude.{◌⊎◌, slice_get, map, flat_map, codes, length, IsTrue, nat_eq, if◌then◌else◌}
+use Rattle.xs_tree.specs.ProgramTree.{Text, Path, Formula, DeclaredTree, boolean, range, members, instance, DeclTree, DefineTree, AssignmentTree, ModuleTree, ProgramTree}
+use Rattle.xs_tree.specs.Texts.{same_text, is_among}
+use Rattle.xs_tree.specs.Values.{opposite}
+use Rattle.xs_tree.specs.declared.program.Moment.{Moment}
+use Rattle.xs_tree.specs.declared.program.Moment.TheVariants.{Always, First, After}
+use Rattle.xs_tree.specs.Scope.{Place, Role, state, input, frozen_role, Kind, a_formal, a_variable, a_define, an_instance, undeclared, kind_declared, kind_in, kind_in_sections, formal_from, kind_after_formals, kind_at, module_of_kind, module_at, find_module, actual_of_kind, nth_formula, plain_name, Key, define_key, actual_key, Meaning, a_variable_at, Means, means_in, by_kind}
+use Rattle.xs_tree.specs.Trace.{Each, AtSome, IsInstance}
+use Rattle.xs_tree.proofs.ValueLaws.{same_text_refl, same_text_equal}
+use Rattle.xs_flattening.specs.Flat.{FlatInstance}
+use Rattle.xs_flattening.specs.Resolved.{leaves_in, has_next}
+use Rattle.xs_flattening.specs.Items.{Item, a_declaration, a_definition, an_assignment, some_constants, an_init, an_invar, a_trans, NumberedItem, items_of, items_named, Visit, visits_of, walk, visits, instances_of}
+use Rattle.xs_flattening.specs.Looks.{Look, at_actual, plain_of, step_formal, step_kind, step_of, step_on, look_after, ComesBack, MeetsLoop}
+use Rattle.xs_flattening.specs.Rules.{Site, a_use, a_visit, visit_sites, use_sites, IsKept, IsWalkable, IsAccepted, names_of_item, is_name_again, is_miscounted, is_other_count, wrong_count, no_such_name, not_a_target, define_loop, next_here, SomeHasNoValue, ActualHasNoMeaning, BreaksNames, may_be_assigned, is_target, expression_of_kind, expression_in, expression_of, NeedsItself, ActualLoops, SomeActualLoops, LoopsInside, BreaksLoops, some_has_next, breaks_next}
+use Rattle.xs_flattening.specs.Model.{Root, root_of_actual, roots_of_actuals, roots_of_type, roots_of_item, roots_of}
+use Rattle.xs_flattening.proofs.Now.{neither}
+use Rattle.xs_flattening.proofs.Reaches.{each_right}
+use Rattle.xs_flattening.proofs.Lists.{each_of_map}
+use Rattle.xs_flattening.proofs.Conditions.{each_flat, each_at, each_from, each_join}
+use Rattle.xs_flattening.proofs.Sections.{AreInstances}
+use Rattle.xs_flattening.proofs.KindLaws.{kind_in_items, sections_kind, ItemFacts, kind_of_declaration, DeclaredBy, declared_by}
+use Rattle.xs_flattening.proofs.Places.{In, Walked, walked, in_items, found_at, facts_named, are_instances}
+use Rattle.xs_flattening.proofs.EndLaws.{ended_stays}
+use Rattle.xs_flattening.proofs.Walkable.{accepted_walkable, main_is_there}
+
+-- Lists.
+pub each_not : {A : Type 0} (P : A → Type 0) (xs : List A) → (AtSome P xs → ⊥) → Each (λ x. P x → ⊥) xs
+each_not P [] h = tt
+each_not P (x ∷ xs) h = ((λ q. h (inl q)), each_not P xs (λ q. h (inr q)))
+
+pub some_at : {A : Type 0} (P : A → Type 0) (xs : List A) (i : ℕ) (x : A) → slice_get xs i ≡ Some x → P x → AtSome P xs
+some_at P [] i x e h = cc
+some_at P (y ∷ xs) zero x e h = let same : y ≡ x = cc in inl (subst P (sym same) h)
+some_at P (y ∷ xs) (suc i) x e h = inr (some_at P xs i x e h)
+
+pub nth_slice : (es : List Formula) (i : ℕ) → nth_formula es i ≡ slice_get es i
+nth_slice [] i = refl
+nth_slice (e ∷ es) zero = refl
+nth_slice (e ∷ es) (suc i) = nth_slice es i
+
+pub not_true : (b : Bool) → (b ≡ true → ⊥) → b ≡ false
+not_true true h = absurd (h refl)
+not_true false h = refl
+
+not_false : (b : Bool) → (b ≡ false → ⊥) → b ≡ true
+not_false true h = refl
+not_false false h = absurd (h refl)
+
+or_true : (a b : Bool) → b ≡ true → (a || b) ≡ true
+or_true true b h = refl
+or_true false b h = h
+
+pub next_among : (es : List Formula) (i : ℕ) (e : Formula) → slice_get es i ≡ Some e → has_next e ≡ true → some_has_next es ≡ true
+next_among [] i e h n = cc
+next_among (f ∷ es) zero e h n = let same : f ≡ e = cc in rw same (rw n refl)
+next_among (f ∷ es) (suc i) e h n = or_true (has_next f) (some_has_next es) (next_among es i e h n)
+
+pub formal_place : (k : ℕ) (xs : List Text) (x : Text) (i : ℕ) → formal_from k xs x ≡ Some i → (j : ℕ) × (i ≡ k + j) × (slice_get xs j ≡ Some x)
+formal_place k [] x i h = cc
+formal_place k (y ∷ xs) x i h = by_name (same_text y x) refl (λ e. formal_place (suc k) xs x i e)
+  where
+    by_name : (b : Bool) → same_text y x ≡ b → (formal_from (suc k) xs x ≡ Some i → (j : ℕ) × (i ≡ suc k + j) × (slice_get xs j ≡ Some x)) →
+        (j : ℕ) × (i ≡ k + j) × (slice_get (y ∷ xs) j ≡ Some x)
+    by_name true t rest =
+        let found : Some k ≡ Some i = rw t at h in
+        let same : k ≡ i = cc in
+        (0, omega (arith, same), ap Some (same_text_equal y x t))
+    by_name false t rest =
+        let r : (j : ℕ) × (i ≡ suc k + j) × (slice_get xs j ≡ Some x) = rest (rw t at h) in
+        let e : i ≡ suc k + r.0 = r.1 in
+        (suc r.0, omega (arith, e), r.2)
+
+pub found_name : (p : ProgramTree) (x : Text) (m : ModuleTree) → find_module p x ≡ Some m → m.name ≡ x
+found_name [] x m h = cc
+found_name (first ∷ more) x m h = by_name (same_text first.name x) refl (λ e. found_name more x m e)
+  where
+    by_name : (b : Bool) → same_text first.name x ≡ b → (find_module more x ≡ Some m → m.name ≡ x) → m.name ≡ x
+    by_name true t rest =
+        let found : Some first ≡ Some m = rw t at h in
+        let same : first ≡ m = cc in
+        subst (λ (k : ModuleTree). k.name ≡ x) same (same_text_equal first.name x t)
+    by_name false t rest = rest (rw t at h)
+
+-- What a define makes of its name.
+among_split : (xs ys : List Text) (x : Text) → is_among (xs ++ ys) x ≡ false → (is_among xs x ≡ false) × (is_among ys x ≡ false)
+among_split [] ys x h = (refl, h)
+among_split (z ∷ xs) ys x h =
+    let s : (same_text z x ≡ false) × (is_among (xs ++ ys) x ≡ false) = neither _ _ h in
+    let r : (is_among xs x ≡ false) × (is_among ys x ≡ false) = among_split xs ys x s.1 in (rw s.0 r.0, r.1)
+
+no_formal : (i : ℕ) (formals : List Text) (x : Text) → is_among formals x ≡ false → formal_from i formals x ≡ None
+no_formal i [] x h = refl
+no_formal i (y ∷ formals) x h =
+    let s : (same_text y x ≡ false) × (is_among formals x ≡ false) = neither _ _ h in rw s.0 (no_formal (suc i) formals x s.1)
+
+defined_kind : (before : List Item) (d : DefineTree) (after : List Item) → is_among (flat_map names_of_item before) d.name ≡ false →
+    kind_in_items (before ++ a_definition d ∷ after) d.name ≡ a_define d.value
+defined_kind [] d after h = rw (same_text_refl d.name) refl
+defined_kind (a_declaration role' d' ∷ before) d after h =
+    let s : (same_text d'.name d.name ≡ false) × (is_among (flat_map names_of_item before) d.name ≡ false) = neither _ _ h in rw s.0 (defined_kind before d after s.1)
+defined_kind (a_definition d' ∷ before) d after h =
+    let s : (same_text d'.name d.name ≡ false) × (is_among (flat_map names_of_item before) d.name ≡ false) = neither _ _ h in rw s.0 (defined_kind before d after s.1)
+defined_kind (an_assignment a ∷ before) d after h = defined_kind before d after h
+defined_kind (some_constants xs ∷ before) d after h = defined_kind before d after h
+defined_kind (an_init e ∷ before) d after h = defined_kind before d after h
+defined_kind (an_invar e ∷ before) d after h = defined_kind before d after h
+defined_kind (a_trans e ∷ before) d after h = defined_kind before d after h
+
+pub kind_of_definition : (m : ModuleTree) (before : List Item) (d : DefineTree) (after : List Item) → items_of m ≡ before ++ a_definition d ∷ after →
+    is_among (m.formals ++ flat_map names_of_item before) d.name ≡ false → kind_in m d.name ≡ a_define d.value
+kind_of_definition m before d after e h =
+    let s : (is_among m.formals d.name ≡ false) × (is_among (flat_map names_of_item before) d.name ≡ false) = among_split m.formals _ d.name h in
+    ap (λ o. kind_after_formals o (kind_in_sections m.sections d.name)) (no_formal 0 m.formals d.name s.0)
+    ∙ sym (sections_kind m.sections d.name) ∙ ap (λ is. kind_in_items is d.name) e ∙ defined_kind before d after s.1
+
+-- what is told of a definition that breaks no rule
+pub record IsGoodRoot (p : ProgramTree) (r : Root) : Type 0 where
+  pub free : NeedsItself p r.key → ⊥
+  pub at : Place
+  pub written : Formula
+  pub is : expression_of p r.key ≡ Some (at, written)
+  pub now : has_next written ≡ false
+  pub named : SomeHasNoValue p at written → ⊥
+
+module _ (p : ProgramTree) (accepted : IsAccepted p) where
+  pub walkable : IsWalkable p
+  walkable = accepted_walkable p accepted
+
+  pub are : AreInstances p
+  are = are_instances p walkable (main_is_there p walkable).0 (main_is_there p walkable).1
+
+  uses : Each (IsKept p) (use_sites p)
+  uses = each_right (IsKept p) (visit_sites [] (visits p)) (use_sites p) (each_right (IsKept p) _ _ accepted.1)
+
+  -- an item of an instance breaks no rule
+  pub kept_at : (i : ℕ) (x : FlatInstance) → slice_get (instances_of p) i ≡ Some x → (j : ℕ) (n : NumberedItem) → slice_get (items_named p x.module_name) j ≡ Some n → IsKept p (a_use x n)
+  kept_at i x e j n f =
+      each_at (λ n. IsKept p (a_use x n)) (items_named p x.module_name) j n
+      (each_of_map (IsKept p) (a_use x) (items_named p x.module_name)
+      (each_at (λ x. Each (IsKept p) (map (a_use x) (items_named p x.module_name))) (instances_of p) i x ((each_flat (IsKept p) (λ x. map (a_use x) (items_named p x.module_name)) (instances_of p)).0 uses) e)) f
+
+  -- an item of an instance with what it makes of its name
+  pub record ItemAt (x : FlatInstance) (n : NumberedItem) : Type 0 where
+    pub tree : ModuleTree
+    pub is : IsInstance p x.place tree
+    pub found : find_module p x.module_name ≡ Some tree
+    pub facts : ItemFacts tree n
+
+  pub item_at : (i : ℕ) (x : FlatInstance) → slice_get (instances_of p) i ≡ Some x → (j : ℕ) (n : NumberedItem) → slice_get (items_named p x.module_name) j ≡ Some n → ItemAt x n
+  item_at i x e j n f =
+      let k : (m : ModuleTree) × IsInstance p x.place m × (find_module p x.module_name ≡ Some m) = are.real i x e in
+      record { tree = k.0; is = k.1; found = k.2; facts = each_at (ItemFacts k.0) (items_named p x.module_name) j n (facts_named p walkable x.module_name k.0 k.2) f }
+
+  kind_there : (at : Place) (m : ModuleTree) (x : Text) (k : Kind) → IsInstance p at m → kind_in m x ≡ k → kind_at (module_at p at) x ≡ k
+  kind_there at m x k is e = ap (λ o. kind_at o x) is ∙ e
+
+  pub fresh_declared : (x : FlatInstance) (n : NumberedItem) (role : Role) (d : DeclTree) → ItemAt x n → n.item ≡ a_declaration role d → kind_at (module_at p x.place) d.name ≡ kind_declared role d.what
+  fresh_declared x n role d t e =
+      kind_there x.place t.tree d.name (kind_declared role d.what) t.is
+      (kind_of_declaration t.tree n.before role d t.facts.after (subst (λ i. items_of t.tree ≡ n.before ++ i ∷ t.facts.after) e t.facts.among)
+      (subst (λ i. is_name_again (t.tree.formals ++ flat_map names_of_item n.before) (names_of_item i) ≡ false) e t.facts.fresh))
+
+  pub fresh_defined : (x : FlatInstance) (n : NumberedItem) (d : DefineTree) → ItemAt x n → n.item ≡ a_definition d → kind_at (module_at p x.place) d.name ≡ a_define d.value
+  fresh_defined x n d t e =
+      kind_there x.place t.tree d.name (a_define d.value) t.is
+      (kind_of_definition t.tree n.before d t.facts.after (subst (λ i. items_of t.tree ≡ n.before ++ i ∷ t.facts.after) e t.facts.among)
+      (subst (λ i. is_name_again (t.tree.formals ++ flat_map names_of_item n.before) (names_of_item i) ≡ false) e t.facts.fresh))
+
+  -- a variable means itself
+  variable_means : (at : Place) (x : Text) (role : Role) (what : DeclaredTree) → kind_at (module_at p at) x ≡ a_variable role what → Means p at (x ∷ []) (a_variable_at at x)
+  variable_means at x role what e = (1, ap (λ k. by_kind (means_in 0 p) p at k x []) e)
+
+  target_variable : (when : Moment) (k : Kind) → may_be_assigned when k ≡ true → (role : Role) × (what : DeclaredTree) × (k ≡ a_variable role what)
+  target_variable when (a_variable state what) h = (state, what, refl)
+  target_variable Always (a_variable input what) h = cc
+  target_variable First (a_variable input what) h = cc
+  target_variable After (a_variable input what) h = cc
+  target_variable Always (a_variable frozen_role what) h = cc
+  target_variable First (a_variable frozen_role what) h = (frozen_role, what, refl)
+  target_variable After (a_variable frozen_role what) h = cc
+  target_variable Always (a_formal i) h = cc
+  target_variable First (a_formal i) h = cc
+  target_variable After (a_formal i) h = cc
+  target_variable Always (a_define e) h = cc
+  target_variable First (a_define e) h = cc
+  target_variable After (a_define e) h = cc
+  target_variable Always (an_instance m as') h = cc
+  target_variable First (an_instance m as') h = cc
+  target_variable After (an_instance m as') h = cc
+  target_variable Always undeclared h = cc
+  target_variable First undeclared h = cc
+  target_variable After undeclared h = cc
+
+  -- the target of an assignment is a variable of its own module
+  pub target_means : (x : FlatInstance) (n : NumberedItem) (a : AssignmentTree) (y : Text) → IsKept p (a_use x n) → n.item ≡ an_assignment a → a.target ≡ y ∷ [] → Means p x.place (y ∷ []) (a_variable_at x.place y)
+  target_means x n a y kept e t =
+      let assigned : IsKept p (a_use x (record n { item = an_assignment a })) = subst (λ i. IsKept p (a_use x (record n { item = i }))) e kept in
+      let test : is_target p x.place a.when a.target ≡ true = not_false (is_target p x.place a.when a.target) (assigned not_a_target) in
+      let v : (role : Role) × (what : DeclaredTree) × (kind_at (module_at p x.place) y ≡ a_variable role what) =
+      target_variable a.when (kind_at (module_at p x.place) y) (subst (λ t. is_target p x.place a.when t ≡ true) t test) in
+      variable_means x.place y v.0 v.1 v.2
+
+  -- a declared variable means itself
+  plain_kind : (role : Role) (what : DeclaredTree) → ((m : Text) (actuals : List Formula) → what ≡ instance m actuals → ⊥) → kind_declared role what ≡ a_variable role what
+  plain_kind role boolean h = refl
+  plain_kind role (range lo hi) h = refl
+  plain_kind role (members ms) h = refl
+  plain_kind role (instance m actuals) h = absurd (h m actuals refl)
+
+  pub declared_means : (x : FlatInstance) (n : NumberedItem) (role : Role) (d : DeclTree) → ItemAt x n → n.item ≡ a_declaration role d →
+      ((m : Text) (actuals : List Formula) → d.what ≡ instance m actuals → ⊥) → Means p x.place (d.name ∷ []) (a_variable_at x.place d.name)
+  declared_means x n role d t e other = variable_means x.place d.name role d.what (fresh_declared x n role d t e ∙ plain_kind role d.what other)

@@ -1,0 +1,128 @@
+-- What is asked of a list is what is asked of its first item and of the rest.
+use Rattle.std.proofs.Common.{◌≡◌, ℕ, zero, suc, ◌+◌, ◌<◌, ◌≤◌, List, [], ◌∷◌, ◌++◌, length, drop, Option, Some, None, refl, sym, ◌∙◌, ap, subst, arith, append_assoc, append-nil, slice_index_or}
+use Rattle.std.specs.Prelude.{slice_get, map, flat_map, option_map}
+use Rattle.xs_tree.specs.Trace.{Each}
+use Rattle.xs_flattening.specs.Flat.{FlatInstance}
+use Rattle.xs_flattening.specs.Items.{Item, NumberedItem, items_named, instances_of}
+use Rattle.xs_flattening.specs.Model.{Condition, EachBoth}
+use Rattle.xs_flat.specs.declared.bounds.Bounds.{Bounds}
+use Rattle.xs_flat.specs.declared.names.Scene.{Scene}
+use Rattle.xs_flat.specs.declared.walk.Spot.{Spot}
+use Rattle.xs_flat.specs.declared.modules.Names.{Names}
+use Rattle.xs_flat.specs.ModelTree.{place_of}
+use Rattle.xs_flat.specs.declared.needs.Needs.{Needs}
+use Rattle.xs_flat.specs.SceneTree.{program_of, IsScene, IsSpot, number_and_item, items_of_instance, items_at}
+use Rattle.xs_flat.specs.ResolverOf.{leaf_at}
+use Rattle.xs_flat.specs.Asked.{Told, IsConditionKnown, AreConditionsKnown, asked_conditions, asked_item, asked_items, asked_from, item_listed, instance_in, instance_told}
+use Rattle.xs_flat.proofs.BuildLeaves.{get_there}
+
+pub drop_at : {A : Type 0} (xs : List A) (k : ℕ) (x : A) → slice_get xs k ≡ Some x → drop k xs ≡ x ∷ drop (k + 1) xs
+drop_at [] k x e = cc
+drop_at (y ∷ xs) zero x e = let same : y ≡ x = cc in ap (λ z. z ∷ xs) same
+drop_at (y ∷ xs) (suc k) x e =
+    let later : suc (k + 1) ≡ suc k + 1 = omega arith in
+    drop_at xs k x e ∙ ap (λ n. x ∷ drop n (y ∷ xs)) later
+
+drop_past : {A : Type 0} (xs : List A) (k : ℕ) → length xs ≤ k → drop k xs ≡ []
+drop_past [] zero h = refl
+drop_past [] (suc k) h = refl
+drop_past (y ∷ xs) zero h = absurd (omega (arith, h))
+drop_past (y ∷ xs) (suc k) h = drop_past xs k (omega (arith, h))
+
+get_none : {A : Type 0} (xs : List A) (k : ℕ) → slice_get xs k ≡ None → length xs ≤ k
+get_none [] k e = omega arith
+get_none (y ∷ xs) zero e = cc
+get_none (y ∷ xs) (suc k) e = let less : length xs ≤ k = get_none xs k e in omega (arith, less)
+
+both_many : {A B : Type 0} (R : A → B → Type 0) (xs : List A) (ys : List B) → EachBoth R xs ys → length xs ≡ length ys
+both_many R [] [] h = refl
+both_many R [] (y ∷ ys) h = absurd h
+both_many R (x ∷ xs) [] h = absurd h
+both_many R (x ∷ xs) (y ∷ ys) h = ap suc (both_many R xs ys h.1)
+
+-- a step of a loop that appends
+pub appended : {A : Type 0} (new old more rest left all : List A) → new ≡ old ++ more → left ≡ more ++ rest → old ++ left ≡ all → new ++ rest ≡ all
+appended new old more rest left all e f g = ap (λ xs. xs ++ rest) e ∙ append_assoc old more rest ∙ ap (λ xs. old ++ xs) (sym f) ∙ g
+
+pub flat_step : {A B : Type 0} (f : A → List B) (xs : List A) (k : ℕ) (x : A) → slice_get xs k ≡ Some x → flat_map f (drop k xs) ≡ f x ++ flat_map f (drop (k + 1) xs)
+flat_step f xs k x e = ap (flat_map f) (drop_at xs k x e)
+
+pub flat_end : {A B : Type 0} (f : A → List B) (xs : List A) (k : ℕ) → length xs ≤ k → flat_map f (drop k xs) ≡ []
+flat_end f xs k h = ap (flat_map f) (drop_past xs k h)
+
+module _ (s : Scene) (n : Needs) (what : Item → List Condition) where
+  -- the item at a place, if there is one, and then the rest
+  pub items_step : (spot k : ℕ) (is : List NumberedItem) → asked_items s n what spot (drop k is) ≡ asked_items s n what spot (item_listed (slice_get is k)) ++ asked_items s n what spot (drop (k + 1) is)
+  items_step spot k is = by_get (slice_get is k) refl
+    where
+      by_get : (o : Option NumberedItem) → slice_get is k ≡ o → asked_items s n what spot (drop k is) ≡ asked_items s n what spot (item_listed o) ++ asked_items s n what spot (drop (k + 1) is)
+      by_get None e =
+          let past : length is ≤ k = get_none is k e in
+          let later : length is ≤ k + 1 = omega (arith, past) in
+          ap (asked_items s n what spot) (drop_past is k past) ∙ sym (ap (asked_items s n what spot) (drop_past is (k + 1) later))
+      by_get (Some i) e =
+          ap (asked_items s n what spot) (drop_at is k i e)
+          ∙ ap (λ ts. ts ++ asked_items s n what spot (drop (k + 1) is)) (sym (append-nil (asked_item (leaf_at s n spot) spot what i)))
+
+  pub items_end : (spot k : ℕ) (is : List NumberedItem) → length is ≤ k → asked_items s n what spot (drop k is) ≡ []
+  items_end spot k is h = ap (asked_items s n what spot) (drop_past is k h)
+
+  -- the instance of a number, and then the rest
+  pub spots_step : (k : ℕ) → k < length (instances_of (program_of s)) →
+      asked_from s n what k (drop k (instances_of (program_of s))) ≡ asked_items s n what k (items_at (program_of s) k) ++ asked_from s n what (k + 1) (drop (k + 1) (instances_of (program_of s)))
+  spots_step k less =
+      let x : (x : FlatInstance) × (slice_get (instances_of (program_of s)) k ≡ Some x) = get_there (instances_of (program_of s)) k less in
+      let later : suc k ≡ k + 1 = omega arith in
+      ap (asked_from s n what k) (drop_at (instances_of (program_of s)) k x.0 x.1)
+      ∙ ap (λ is. asked_items s n what k is ++ asked_from s n what (suc k) (drop (k + 1) (instances_of (program_of s)))) (sym (ap (items_of_instance (program_of s)) x.1))
+      ∙ ap (λ j. asked_items s n what k (items_at (program_of s) k) ++ asked_from s n what j (drop (k + 1) (instances_of (program_of s)))) later
+
+  pub spots_end : (k : ℕ) → length (instances_of (program_of s)) ≤ k → asked_from s n what k (drop k (instances_of (program_of s))) ≡ []
+  spots_end k h = ap (asked_from s n what k) (drop_past (instances_of (program_of s)) k h)
+
+  -- an item that is read is one of the instance's
+  listed : (o : Option NumberedItem) (number : ℕ) (item : Item) → Some (number, item) ≡ option_map number_and_item o → (i : NumberedItem) × (o ≡ Some i) × (i.number ≡ number) × (i.item ≡ item)
+  listed None number item e = cc
+  listed (Some i) number item e = (i, refl, sym (ap (first_of number) e), sym (ap (second_of item) e))
+    where
+      first_of : ℕ → Option (ℕ × Item) → ℕ
+      first_of d None = d
+      first_of d (Some x) = x.0
+
+      second_of : Item → Option (ℕ × Item) → Item
+      second_of d None = d
+      second_of d (Some x) = x.1
+
+  pub item_known : (b : Bounds) (spot place number : ℕ) (item : Item) → AreConditionsKnown s n b what → Some (number, item) ≡ option_map number_and_item (slice_get (items_at (program_of s) spot) place) →
+      Each (IsConditionKnown (leaf_at s n spot) b) (what item)
+  item_known b spot place number item known e =
+      let l : (i : NumberedItem) × (slice_get (items_at (program_of s) spot) place ≡ Some i) × (i.number ≡ number) × (i.item ≡ item) = listed (slice_get (items_at (program_of s) spot) place) number item e in
+      subst (λ i. Each (IsConditionKnown (leaf_at s n spot) b) (what i)) l.3 (known spot place l.0 l.1)
+
+  pub item_asked : (spot place number : ℕ) (item : Item) → Some (number, item) ≡ option_map number_and_item (slice_get (items_at (program_of s) spot) place) →
+      asked_conditions (leaf_at s n spot) spot number (what item) ≡ asked_items s n what spot (item_listed (slice_get (items_at (program_of s) spot) place))
+  item_asked spot place number item e =
+      let l : (i : NumberedItem) × (slice_get (items_at (program_of s) spot) place ≡ Some i) × (i.number ≡ number) × (i.item ≡ item) = listed (slice_get (items_at (program_of s) spot) place) number item e in
+      ap (λ j. asked_conditions (leaf_at s n spot) spot j (what item)) (sym l.2)
+      ∙ ap (λ i. asked_conditions (leaf_at s n spot) spot l.0.number (what i)) (sym l.3)
+      ∙ sym (append-nil (asked_item (leaf_at s n spot) spot what l.0))
+      ∙ ap (λ o. asked_items s n what spot (item_listed o)) (sym l.1)
+
+  pub none_asked : (spot : ℕ) (o : Option NumberedItem) → None ≡ option_map number_and_item o → asked_items s n what spot (item_listed o) ≡ []
+  none_asked spot None e = refl
+  none_asked spot (Some i) e = cc
+
+pub many_spots : (s : Scene) → IsScene s → length (instances_of (program_of s)) ≡ length s.spots.items
+many_spots s is = both_many (IsSpot (program_of s)) (instances_of (program_of s)) s.spots.items is.set.spots
+
+pub index_get : (xs : List ℕ) (i : ℕ) → i < length xs → slice_get xs i ≡ Some (slice_index_or xs i 0)
+index_get [] i h = absurd (omega (arith, h))
+index_get (y ∷ xs) zero h = refl
+index_get (y ∷ xs) (suc i) h = index_get xs i (omega (arith, h))
+
+pub told_some : (s : Scene) (spot : Spot) (names : Names) → slice_get s.modules.list.items spot.«module» ≡ Some names →
+    instance_told s spot ≡ record { place = place_of spot.path; module_name = names.«module».now.name } ∷ []
+told_some s spot names e = ap (instance_in spot) e
+
+pub told_none : (s : Scene) (spot : Spot) → slice_get s.modules.list.items spot.«module» ≡ None → instance_told s spot ≡ []
+told_none s spot e = ap (instance_in spot) e
