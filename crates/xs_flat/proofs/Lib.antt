@@ -4,3 +4,7 @@ pub mod MainLaws
 pub mod OwnNames
 pub mod ItemLaws
 pub mod SymbolLaws
+pub mod JudgeLists
+pub mod JudgeUses
+pub mod JudgeNames
+pub mod JudgeValues

@@ -12,3 +12,4 @@ pub mod FoundAt
 pub mod Walked
 pub mod Judging
 pub mod Flagged
+pub mod Verdicts

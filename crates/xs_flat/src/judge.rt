@@ -1,7 +1,8 @@
 //! The rules of names, targets and moments, tried by instances, then items, then numbers.
 
-ghost use Rattle.std.specs.Prelude.{◌≡◌, ◌∷◌, [], IfOk, IfErr};
+ghost use Rattle.std.specs.Prelude.{◌≡◌, ◌∷◌, ◌++◌, [], List, Bool, IfOk, IfErr};
 ghost use Rattle.std.specs.Prelude.{Some, slice_get};
+ghost use Rattle.xs_tree.specs.ProgramTree.{Path};
 ghost use Rattle.xs_tree.specs.Trace.{Each};
 ghost use Rattle.xs_tree.specs.Written.{tree_of};
 ghost use Rattle.xs_flattening.specs.Flat.{FlatInstance};
@@ -10,6 +11,7 @@ ghost use Rattle.xs_flattening.specs.Rules.{IsKept, use_sites};
 ghost use Rattle.xs_flat.specs.SceneTree.{IsScene, program_of};
 ghost use Rattle.xs_flat.specs.NeedsTree.{AreNeeds};
 ghost use Rattle.xs_flat.specs.Judging.{IsJudged};
+ghost use Rattle.xs_flat.specs.Verdicts.{is_without_value, mark_at, is_input_found, is_circle_found, with_flags, AreJudged};
 ghost use Rattle.xs_flat.specs.Faults.{first_of, IsPastMain, IsRulePastMain, IsFaultOf};
 ghost use Rattle.xs_flat.specs.declared.fault.Rule.TheVariants.{NoSuchName, DefineLoop, NextHere, InputHere};
 
@@ -19,7 +21,7 @@ use crate::model::Role;
 use crate::modules::Local;
 use crate::names::{Formal, Scene};
 use crate::needs::Needs;
-use crate::uses::Uses;
+use crate::uses::{Use, Uses};
 use crate::walk::Meaning;
 use indexmap::IndexMap;
 use std::alloc::Global;
@@ -288,25 +290,75 @@ pub(crate) fn judge_value(
     ensures judged { (at : FlatInstance) → slice_get (instances_of (program_of scene.now)) spot ≡ Some at → IfOk result (IsJudged (program_of scene.now) at.place (tree_of value.now)) }
 {
     let uses = Uses::of_value(alloc, value)?;
+    Ok(judge_names(
+        scene,
+        needs,
+        spot,
+        uses.names.as_slice(),
+        uses.has_next,
+        uses.nested_next,
+    ))
+}
+
+/// What is wrong with a value that has these names, and that has `next`, also under another, or not.
+fn judge_names(
+    scene: &Scene<'_>,
+    needs: &Needs,
+    spot: usize,
+    names: &[Use<'_>],
+    next: bool,
+    nested_next: bool,
+) -> Judged
+    requires scene { IsScene scene.now }
+    requires needs { AreNeeds (program_of scene.now) needs.now }
+    ensures { AreJudged (program_of scene.now) spot names.now next nested_next result }
+{
     let mut judged = Judged {
         no_value: false,
-        next: uses.has_next,
-        nested_next: uses.nested_next,
+        next,
+        nested_next,
         input: false,
         next_input: false,
     };
-    for each in uses.names.as_slice() {
-        let meaning = scene.meaning(spot, each.name());
-        let input = needs.is_input(meaning);
-        judged.no_value = judged.no_value || is_no_value(meaning);
-        judged.input = judged.input || input;
-        judged.next_input = judged.next_input || input && each.is_next();
+    for each in names {
+        judged = judged.with_name(scene, needs, spot, each);
     }
-    Ok(judged)
+    judged
+}
+
+impl Judged {
+    /// The value judged by one name more.
+    fn with_name(self, scene: &Scene<'_>, needs: &Needs, spot: usize, each: &Use<'_>) -> Judged
+        requires scene { IsScene scene.now }
+        requires needs { AreNeeds (program_of scene.now) needs.now }
+        ensures { (us : List (Path × Bool)) (next nested : Bool) → AreJudged (program_of scene.now) spot us next nested self → AreJudged (program_of scene.now) spot (us ++ each.now ∷ []) next nested result }
+    {
+        let meaning = scene.meaning(spot, each.name());
+        self.with_flags(
+            is_no_value(meaning),
+            needs.is_input(meaning),
+            each.is_next(),
+        )
+    }
+
+    /// The value judged by a name that has no value or has one, and that gives an input or not, under `next` or not.
+    fn with_flags(self, no_value: bool, input: bool, next: bool) -> Judged
+        ensures { result ≡ with_flags self no_value input next }
+    {
+        Judged {
+            no_value: self.no_value || no_value,
+            next: self.next,
+            nested_next: self.nested_next,
+            input: self.input || input,
+            next_input: self.next_input || input && next,
+        }
+    }
 }
 
 /// Whether a name with this meaning has no value. A name that meets a loop is not judged.
-fn is_no_value(meaning: Meaning) -> bool {
+fn is_no_value(meaning: Meaning) -> bool
+    ensures { result ≡ is_without_value meaning }
+{
     match meaning {
         Meaning::Nothing | Meaning::Instance(_) => true,
         _ => false,
@@ -315,23 +367,37 @@ fn is_no_value(meaning: Meaning) -> bool {
 
 impl Needs {
     /// Whether a meaning is a definition that is needed by itself.
-    fn is_on_meaning_circle(&self, meaning: Meaning) -> bool {
+    fn is_on_meaning_circle(&self, meaning: Meaning) -> bool
+        ensures { result ≡ is_circle_found self.now meaning }
+    {
         match meaning {
-            Meaning::Definition(definition) => self.is_on_circle(definition),
+            Meaning::Definition(definition) => is_marked(self.on_circle.as_slice(), definition),
             _ => false,
         }
     }
 
     /// Whether a meaning is an input, or a definition that reads one.
-    fn is_input(&self, meaning: Meaning) -> bool {
+    fn is_input(&self, meaning: Meaning) -> bool
+        ensures { result ≡ is_input_found self.now meaning }
+    {
         match meaning {
             Meaning::Variable {
                 role: Role::Input,
                 ..
             } => true,
-            Meaning::Definition(definition) => self.is_reading_input(definition),
+            Meaning::Definition(definition) => is_marked(self.reads_input.as_slice(), definition),
             _ => false,
         }
+    }
+}
+
+/// Whether the definition of a number is marked.
+fn is_marked(marks: &[bool], definition: usize) -> bool
+    ensures { result ≡ mark_at marks.now definition }
+{
+    match marks.get(definition) {
+        Some(mark) => *mark,
+        None => false,
     }
 }
 
