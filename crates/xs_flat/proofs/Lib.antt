@@ -8,3 +8,7 @@ pub mod JudgeLists
 pub mod JudgeUses
 pub mod JudgeNames
 pub mod JudgeValues
+pub mod JudgeItems
+pub mod JudgeActuals
+pub mod JudgePlaces
+pub mod JudgeHanded

@@ -1,8 +1,9 @@
 //! The rules of names, targets and moments, tried by instances, then items, then numbers.
 
-ghost use Rattle.std.specs.Prelude.{◌≡◌, ◌∷◌, ◌++◌, [], List, Bool, IfOk, IfErr};
+ghost use Rattle.std.specs.Prelude.{◌≡◌, ◌∷◌, ◌++◌, [], List, Bool, true, map, is_some, IfOk, IfErr};
 ghost use Rattle.std.specs.Prelude.{Some, slice_get};
 ghost use Rattle.xs_tree.specs.ProgramTree.{Path};
+ghost use Rattle.xs_tree.specs.Scope.{plain_name};
 ghost use Rattle.xs_tree.specs.Trace.{Each};
 ghost use Rattle.xs_tree.specs.Written.{tree_of};
 ghost use Rattle.xs_flattening.specs.Flat.{FlatInstance};
@@ -11,7 +12,7 @@ ghost use Rattle.xs_flattening.specs.Rules.{IsKept, use_sites};
 ghost use Rattle.xs_flat.specs.SceneTree.{IsScene, program_of};
 ghost use Rattle.xs_flat.specs.NeedsTree.{AreNeeds};
 ghost use Rattle.xs_flat.specs.Judging.{IsJudged};
-ghost use Rattle.xs_flat.specs.Verdicts.{is_without_value, mark_at, is_input_found, is_circle_found, with_flags, AreJudged};
+ghost use Rattle.xs_flat.specs.Verdicts.{is_without_value, mark_at, is_input_found, is_circle_found, with_flags, AreJudged, is_nothing_known, is_circle_known, is_circle_meant, JudgesActual, JudgesActuals, joined_actual};
 ghost use Rattle.xs_flat.specs.Faults.{first_of, IsPastMain, IsRulePastMain, IsFaultOf};
 ghost use Rattle.xs_flat.specs.declared.fault.Rule.TheVariants.{NoSuchName, DefineLoop, NextHere, InputHere};
 
@@ -99,7 +100,7 @@ fn judge_item(
     match item {
         Item::Declared(_, decl) => match (&decl.what, scene.own(spot, place)) {
             (Declared::Instance(_, actuals), Meaning::Instance(inner)) => {
-                judge_actuals(alloc, scene, needs, spot, inner, actuals.as_slice())
+                Ok(rule_of_actuals(judge_actuals(alloc, scene, needs, spot, inner, actuals.as_slice())?))
             }
             _ => Ok(None),
         },
@@ -124,6 +125,20 @@ fn rule_of_definition(value: Judged, on_circle: bool) -> Option<Rule>
     } else if on_circle {
         Some(Rule::DefineLoop)
     } else if value.next {
+        Some(Rule::NextHere)
+    } else {
+        None
+    }
+}
+
+fn rule_of_actuals(actuals: JudgedActual) -> Option<Rule>
+    ensures { result ≡ first_of ((actuals.no_value, NoSuchName) ∷ (actuals.circle, DefineLoop) ∷ (actuals.next, NextHere) ∷ []) }
+{
+    if actuals.no_value {
+        Some(Rule::NoSuchName)
+    } else if actuals.circle {
+        Some(Rule::DefineLoop)
+    } else if actuals.next {
         Some(Rule::NextHere)
     } else {
         None
@@ -229,7 +244,16 @@ fn note_assigned<'a>(
     })
 }
 
-/// The first rule that the actuals of a declaration break.
+/// What may be wrong with the actuals of a declaration: one means nothing, or has a name without a value;
+/// one is on a circle; one has `next`.
+#[derive(Clone, Copy)]
+struct JudgedActual {
+    no_value: bool,
+    circle: bool,
+    next: bool,
+}
+
+/// What is wrong with the actuals that an instance is handed.
 fn judge_actuals(
     alloc: Global,
     scene: &Scene<'_>,
@@ -237,43 +261,94 @@ fn judge_actuals(
     spot: usize,
     inner: usize,
     actuals: &[Expr<Dotted>],
-) -> Result<Option<Rule>, OutOfMemory>
-    ensures { IfOk result IsRulePastMain }
+) -> Result<JudgedActual, OutOfMemory>
+    requires scene { IsScene scene.now }
+    requires needs { AreNeeds (program_of scene.now) needs.now }
+    ensures { IfOk result (JudgesActuals (program_of scene.now) spot inner (map tree_of actuals.now) (map tree_of actuals.now)) }
 {
-    let mut no_value = false;
-    let mut circle = false;
-    let mut next = false;
+    let mut judged = JudgedActual {
+        no_value: false,
+        circle: false,
+        next: false,
+    };
     for (formal, actual) in actuals.iter().enumerate() {
-        match scene.formal(inner, formal) {
-            Formal::Means(Meaning::Nothing) => no_value = true,
-            Formal::Circle => circle = true,
-            Formal::Means(meaning) => {
-                circle = circle || is_actual(actual) && needs.is_on_meaning_circle(meaning);
-            }
-            Formal::Unknown | Formal::Begun => {}
-        }
-        if is_actual(actual) {
-            let judged = judge_value(alloc, scene, needs, spot, actual)?;
-            no_value = no_value || judged.no_value;
-            next = next || judged.next;
-        }
+        let one = judge_actual(alloc, scene, needs, spot, inner, formal, actual)?;
+        judged = judged.joined(one);
     }
-    Ok(if no_value {
-        Some(Rule::NoSuchName)
-    } else if circle {
-        Some(Rule::DefineLoop)
-    } else if next {
-        Some(Rule::NextHere)
-    } else {
-        None
+    Ok(judged)
+}
+
+/// What is wrong with the actual of a formal. A plain name is judged by what is known of the formal, any
+/// other one has a definition of its own.
+fn judge_actual(
+    alloc: Global,
+    scene: &Scene<'_>,
+    needs: &Needs,
+    spot: usize,
+    inner: usize,
+    formal: usize,
+    actual: &Expr<Dotted>,
+) -> Result<JudgedActual, OutOfMemory>
+    requires scene { IsScene scene.now }
+    requires needs { AreNeeds (program_of scene.now) needs.now }
+    ensures { IfOk result (JudgesActual (program_of scene.now) spot inner formal (tree_of actual.now)) }
+{
+    let known = scene.formal(inner, formal);
+    if is_plain(actual) {
+        return Ok(JudgedActual {
+            no_value: is_nothing(known),
+            circle: is_circle(known),
+            next: false,
+        });
+    }
+    let judged = judge_value(alloc, scene, needs, spot, actual)?;
+    Ok(JudgedActual {
+        no_value: judged.no_value,
+        circle: needs.is_on_formal_circle(known),
+        next: judged.next,
     })
 }
 
-/// Whether an actual is more than a plain name, so that it has a definition of its own.
-fn is_actual(value: &Expr<Dotted>) -> bool {
+impl JudgedActual {
+    /// What is wrong with one or with the other.
+    fn joined(self, other: JudgedActual) -> JudgedActual
+        ensures { result ≡ joined_actual self other }
+    {
+        JudgedActual {
+            no_value: self.no_value || other.no_value,
+            circle: self.circle || other.circle,
+            next: self.next || other.next,
+        }
+    }
+}
+
+/// Whether an actual is a name alone, so that it has no definition of its own.
+fn is_plain(value: &Expr<Dotted>) -> bool
+    ensures { result ≡ is_some (plain_name (tree_of value.now)) }
+{
     match value {
-        Expr::Leaf(_) => false,
-        _ => true,
+        Expr::Leaf(_) => true,
+        _ => false,
+    }
+}
+
+/// Whether a formal means nothing.
+fn is_nothing(known: Formal) -> bool
+    ensures { result ≡ is_nothing_known known }
+{
+    match known {
+        Formal::Means(Meaning::Nothing) => true,
+        _ => false,
+    }
+}
+
+/// Whether a formal comes back to itself.
+fn is_circle(known: Formal) -> bool
+    ensures { result ≡ is_circle_known known }
+{
+    match known {
+        Formal::Circle => true,
+        _ => false,
     }
 }
 
@@ -376,6 +451,16 @@ impl Needs {
         }
     }
 
+    /// Whether a formal means a definition that is needed by itself.
+    fn is_on_formal_circle(&self, known: Formal) -> bool
+        ensures { result ≡ is_circle_meant self.now known }
+    {
+        match known {
+            Formal::Means(meaning) => self.is_on_meaning_circle(meaning),
+            _ => false,
+        }
+    }
+
     /// Whether a meaning is an input, or a definition that reads one.
     fn is_input(&self, meaning: Meaning) -> bool
         ensures { result ≡ is_input_found self.now meaning }
@@ -409,4 +494,11 @@ impl Scene<'_> {
             _ => Meaning::Nothing,
         }
     }
+}
+
+#[tactic(auto, using(crate::proofs::JudgeHanded::actuals_step))]
+fn probe() -> bool
+    ensures { result ≡ true }
+{
+    true
 }
