@@ -12,3 +12,5 @@ pub mod JudgeItems
 pub mod JudgeActuals
 pub mod JudgePlaces
 pub mod JudgeHanded
+pub mod JudgeTimes
+pub mod JudgeTargets

@@ -496,7 +496,7 @@ impl Scene<'_> {
     }
 }
 
-#[tactic(auto, using(crate::proofs::JudgeHanded::actuals_step))]
+#[tactic(auto, using(crate::proofs::JudgeTargets::target_is))]
 fn probe() -> bool
     ensures { result ≡ true }
 {

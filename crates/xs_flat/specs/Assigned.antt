@@ -1,0 +1,113 @@
+-- At which moments the assignments so far speak of a variable, and whether one more may be there.
+use Rattle.std.specs.Prelude.{◌≡◌, ℕ, Bool, true, false, ◌||◌, ◌&&◌, List, [], ◌∷◌, Option, Some, None, if◌then◌else◌}
+use Rattle.std.specs.Borrow.{Bor}
+use Rattle.xs_tree.specs.declared.program.Moment.{Moment}
+use Rattle.xs_tree.specs.declared.program.Moment.TheVariants.{Always, First, After}
+use Rattle.xs_tree.specs.ProgramTree.{Text, Path, ProgramTree}
+use Rattle.xs_tree.specs.Texts.{same_text}
+use Rattle.xs_flattening.specs.Items.{Item, a_declaration, a_definition, an_assignment, some_constants, an_init, an_invar, a_trans}
+use Rattle.xs_flat.specs.Faults.{first_of}
+use Rattle.xs_flat.specs.FoundAt.{local_at, own_at}
+use Rattle.xs_flat.specs.declared.fault.Rule.{Rule}
+use Rattle.xs_flat.specs.declared.fault.Rule.TheVariants.{NoSuchName, DoubleAssign, NextHere, InputHere}
+use Rattle.xs_flat.specs.declared.judge.Judged.{Judged}
+use Rattle.xs_flat.specs.declared.judge.Times.{Times}
+use Rattle.xs_flat.specs.declared.model.Role.TheVariants.{State, Input, Frozen}
+use Rattle.xs_flat.specs.declared.modules.Local.{Local}
+use Rattle.xs_flat.specs.declared.modules.Local.TheVariants as local
+use Rattle.xs_flat.specs.declared.names.Scene.{Scene}
+use Rattle.xs_flat.specs.declared.walk.Meaning.{Meaning as Found}
+use Rattle.xs_flat.specs.declared.walk.Meaning.TheVariants as found
+
+-- what an own name of an instance means there; a formal is nothing of its own
+abbrev pub meant_by : Scene → ℕ → Option Local → Found
+meant_by s spot (Some (local.Item place)) = own_at s spot place
+meant_by s spot (Some (local.Formal i)) = found.Nothing
+meant_by s spot None = found.Nothing
+
+abbrev pub local_meant : Scene → ℕ → Text → Found
+local_meant s spot x = meant_by s spot (local_at s spot x)
+
+-- a variable of the state may be assigned, a frozen one at the first moment
+abbrev pub may_assign : Found → Moment → Bool
+may_assign (found.Variable k State) when = true
+may_assign (found.Variable k Frozen) First = true
+may_assign (found.Variable k Frozen) Always = false
+may_assign (found.Variable k Frozen) After = false
+may_assign (found.Variable k Input) when = false
+may_assign (found.Instance k) when = false
+may_assign (found.Definition k) when = false
+may_assign (found.Symbol k) when = false
+may_assign found.Nothing when = false
+may_assign found.Loop when = false
+
+abbrev pub is_always : Moment → Bool
+is_always Always = true
+is_always First = false
+is_always After = false
+
+abbrev pub is_first : Moment → Bool
+is_first First = true
+is_first Always = false
+is_first After = false
+
+abbrev pub is_after : Moment → Bool
+is_after After = true
+is_after Always = false
+is_after First = false
+
+abbrev pub no_times : Times
+no_times = record { always = false; first = false; after = false }
+
+-- with one moment more
+abbrev pub with_moment : Times → Moment → Times
+with_moment t when = record { always = t.always || is_always when; first = t.first || is_first when; after = t.after || is_after when }
+
+-- an assignment of the moment speaks of the same time as one of those
+abbrev pub is_met : Times → Moment → Bool
+is_met t Always = t.always || (t.first || t.after)
+is_met t First = t.always || t.first
+is_met t After = t.always || t.after
+
+-- the path is this name alone
+abbrev pub is_only : Path → Text → Bool
+is_only [] x = false
+is_only (y ∷ []) x = same_text y x
+is_only (y ∷ (z ∷ rest)) x = false
+
+-- the item assigns the variable, at a moment that passes the test
+abbrev pub assigns_at : (Moment → Bool) → Text → Item → Bool
+assigns_at test x (an_assignment a) = is_only a.target x && test a.when
+assigns_at test x (a_declaration role d) = false
+assigns_at test x (a_definition d) = false
+assigns_at test x (some_constants xs) = false
+assigns_at test x (an_init e) = false
+assigns_at test x (an_invar e) = false
+assigns_at test x (a_trans e) = false
+
+abbrev pub some_assigns : (Moment → Bool) → Text → List Item → Bool
+some_assigns test x [] = false
+some_assigns test x (i ∷ is) = assigns_at test x i || some_assigns test x is
+
+-- at which moments the items assign the variable
+abbrev pub times_in : List Item → Text → Times
+times_in is x = record { always = some_assigns is_always x is; first = some_assigns is_first x is; after = some_assigns is_after x is }
+
+-- the times of a variable in a table
+abbrev pub times_of : List (Bor (List ℕ) × Times) → Text → Times
+times_of [] x = no_times
+times_of (e ∷ es) x = if same_text e.0.now x then e.1 else times_of es x
+
+-- the table has the times of all variables that the items assign
+abbrev pub AreTimes : List (Bor (List ℕ) × Times) → List Item → Type 0
+AreTimes es is = (x : Text) → times_of es x ≡ times_in is x
+
+-- the rule that the value of an assignment breaks, by the moment of which it speaks
+abbrev pub value_rule : Moment → Judged → Option Rule
+value_rule Always j = first_of ((j.no_value, NoSuchName) ∷ (j.next, NextHere) ∷ (j.input, InputHere) ∷ [])
+value_rule First j = first_of ((j.no_value, NoSuchName) ∷ (j.next, NextHere) ∷ (j.input, InputHere) ∷ [])
+value_rule After j = first_of ((j.no_value, NoSuchName) ∷ (j.nested_next, NextHere) ∷ (j.next_input, InputHere) ∷ [])
+
+-- the rule that an assignment with a lawful target and lawful names breaks
+abbrev pub assignment_rule : Bool → Moment → Judged → Option Rule
+assignment_rule met when j = if met then Some DoubleAssign else value_rule when j
