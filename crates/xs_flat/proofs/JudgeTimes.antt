@@ -130,6 +130,15 @@ times_kept es is i e h x = h x ∙ sym (times_same is i x (λ test. by_item test
     by_item test (an_invar f) q = refl
     by_item test (a_trans f) q = refl
 
+or_true : (b : Bool) → (b || true) ≡ true
+or_true true = refl
+or_true false = refl
+
+with_is : (t : Times) (when : Moment) → with_moment t when ≡ times (t.always || is_always when) (t.first || is_first when) (t.after || is_after when)
+with_is t Always = same_times true t.first t.after _ _ _ (sym (or_true t.always)) (sym (or_false t.first)) (sym (or_false t.after))
+with_is t First = same_times t.always true t.after _ _ _ (sym (or_false t.always)) (sym (or_true t.first)) (sym (or_false t.after))
+with_is t After = same_times t.always t.first true _ _ _ (sym (or_false t.always)) (sym (or_false t.first)) (sym (or_true t.after))
+
 -- an assignment of a variable
 pub times_added : (es new : List (Bor (List ℕ) × Times)) (is : List Item) (a : AssignmentTree) (x : Text) → a.target ≡ x ∷ [] →
     ((y : Text) → times_of new y ≡ (if same_text x y then with_moment (times_of es x) a.when else times_of es y)) → AreTimes es is → AreTimes new (is ++ an_assignment a ∷ [])
@@ -143,6 +152,7 @@ times_added es new is a x target added h y = added y ∙ by_text (same_text x y)
         ap (λ b. if b then with_moment (times_of es x) a.when else times_of es y) e
         ∙ ap (λ z. with_moment (times_of es z) a.when) (same_text_equal x y e)
         ∙ ap (λ t. with_moment t a.when) (h y)
+        ∙ with_is (times_in is y) a.when
         ∙ same_times _ _ _ _ _ _ (sym (here is_always)) (sym (here is_first)) (sym (here is_after))
       where
         here : (test : Moment → Bool) → some_assigns test y (is ++ an_assignment a ∷ []) ≡ (some_assigns test y is || test a.when)
@@ -254,10 +264,6 @@ assigned_before a x target (i ∷ is) = (to i (assigned_before a x target is).0,
         by_split : (assigns_at (speaks_at a.when) x j ≡ true) ⊎ (some_assigns (speaks_at a.when) x is ≡ true) → AtSome (Assigns a) (j ∷ is)
         by_split (inl q) = inl (told j q)
         by_split (inr q) = inr (rest q)
-
-    or_true : (b : Bool) → (b || true) ≡ true
-    or_true true = refl
-    or_true false = refl
 
     from : (j : Item) → (AtSome (Assigns a) is → some_assigns (speaks_at a.when) x is ≡ true) → AtSome (Assigns a) (j ∷ is) → (assigns_at (speaks_at a.when) x j || some_assigns (speaks_at a.when) x is) ≡ true
     from j rest (inl h) = ap (λ b. b || some_assigns (speaks_at a.when) x is) (back j h)

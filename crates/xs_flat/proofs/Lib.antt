@@ -14,3 +14,4 @@ pub mod JudgePlaces
 pub mod JudgeHanded
 pub mod JudgeTimes
 pub mod JudgeTargets
+pub mod JudgeAssignments

@@ -1,13 +1,16 @@
 -- At which moments the assignments so far speak of a variable, and whether one more may be there.
-use Rattle.std.specs.Prelude.{◌≡◌, ℕ, Bool, true, false, ◌||◌, ◌&&◌, List, [], ◌∷◌, Option, Some, None, if◌then◌else◌}
+use Rattle.std.specs.Prelude.{◌≡◌, ℕ, Bool, true, false, ◌||◌, ◌&&◌, List, [], ◌∷◌, ◌++◌, Option, Some, None, slice_get, if◌then◌else◌}
 use Rattle.std.specs.Borrow.{Bor}
 use Rattle.xs_tree.specs.declared.program.Moment.{Moment}
 use Rattle.xs_tree.specs.declared.program.Moment.TheVariants.{Always, First, After}
 use Rattle.xs_tree.specs.ProgramTree.{Text, Path, ProgramTree}
 use Rattle.xs_tree.specs.Texts.{same_text}
-use Rattle.xs_flattening.specs.Items.{Item, a_declaration, a_definition, an_assignment, some_constants, an_init, an_invar, a_trans}
+use Rattle.xs_flattening.specs.Flat.{FlatInstance}
+use Rattle.xs_flattening.specs.Items.{Item, NumberedItem, items_named, instances_of, a_declaration, a_definition, an_assignment, some_constants, an_init, an_invar, a_trans}
+use Rattle.xs_flattening.specs.Rules.{a_use}
 use Rattle.xs_flat.specs.Faults.{first_of}
 use Rattle.xs_flat.specs.FoundAt.{local_at, own_at}
+use Rattle.xs_flat.specs.Verdicts.{IsTold}
 use Rattle.xs_flat.specs.declared.fault.Rule.{Rule}
 use Rattle.xs_flat.specs.declared.fault.Rule.TheVariants.{NoSuchName, DoubleAssign, NextHere, InputHere}
 use Rattle.xs_flat.specs.declared.judge.Judged.{Judged}
@@ -61,7 +64,9 @@ no_times = record { always = false; first = false; after = false }
 
 -- with one moment more
 abbrev pub with_moment : Times → Moment → Times
-with_moment t when = record { always = t.always || is_always when; first = t.first || is_first when; after = t.after || is_after when }
+with_moment t Always = record { always = true; first = t.first; after = t.after }
+with_moment t First = record { always = t.always; first = true; after = t.after }
+with_moment t After = record { always = t.always; first = t.first; after = true }
 
 -- an assignment of the moment speaks of the same time as one of those
 abbrev pub is_met : Times → Moment → Bool
@@ -111,3 +116,14 @@ value_rule After j = first_of ((j.no_value, NoSuchName) ∷ (j.nested_next, Next
 -- the rule that an assignment with a lawful target and lawful names breaks
 abbrev pub assignment_rule : Bool → Moment → Judged → Option Rule
 assignment_rule met when j = if met then Some DoubleAssign else value_rule when j
+
+-- whether a path is one name that may be assigned at the moment; where it is, which
+abbrev pub IsTargetTold : Scene → ℕ → Path → Moment → Option (Bor Text) → Type 0
+IsTargetTold s spot target when None = (x : Text) → target ≡ x ∷ [] → may_assign (local_meant s spot x) when ≡ false
+IsTargetTold s spot target when (Some x) = (target ≡ x.now ∷ []) × (may_assign (local_meant s spot x.now) when ≡ true)
+
+-- what is told of the item at a place of an instance, after those that the table has, and the table with it
+pub record IsItemTold (p : ProgramTree) (spot place : ℕ) (old new : List (Bor (List ℕ) × Times)) (item : Item) (o : Option Rule) : Type 0 where
+  pub told : (at : FlatInstance) → slice_get (instances_of p) spot ≡ Some at → (i : NumberedItem) → slice_get (items_named p at.module_name) place ≡ Some i →
+      i.item ≡ item → AreTimes old i.before → IsTold p (a_use at i) o
+  pub times : o ≡ None → (before : List Item) → AreTimes old before → AreTimes new (before ++ item ∷ [])

@@ -1,8 +1,11 @@
 -- What is judged of meanings, names, actuals and items on the way to the first fault of the items.
 use Rattle.std.specs.Prelude.{◌≡◌, ◌↔◌, ◌<◌, ℕ, Bool, true, false, ◌||◌, ◌&&◌, List, [], ◌∷◌, length, map, Option, Some, None, slice_get, if◌then◌else◌}
-use Rattle.xs_tree.specs.ProgramTree.{Text, Path, Formula, ModuleTree, ProgramTree}
+use Rattle.std.specs.Borrow.{Bor}
+use Rattle.xs_tree.specs.ProgramTree.{Text, Path, Formula, DeclaredTree, boolean, range, members, instance, ModuleTree, ProgramTree}
 use Rattle.xs_tree.specs.Scope.{Place, an_instance, find_module, kind_at, module_at, plain_name}
 use Rattle.xs_tree.specs.Trace.{AtSome}
+use Rattle.xs_tree.specs.Written.{tree_of}
+use Rattle.xs_tree.specs.declared.expr.Expr.{Expr}
 use Rattle.xs_flattening.specs.Flat.{FlatInstance}
 use Rattle.xs_flattening.specs.Items.{Item, NumberedItem, items_named, instances_of}
 use Rattle.xs_flattening.specs.Resolved.{has_next}
@@ -107,11 +110,6 @@ abbrev pub IsToldOf : ProgramTree → ℕ → Item → Option Rule → Type 0
 IsToldOf p spot item o =
     (at : FlatInstance) → slice_get (instances_of p) spot ≡ Some at → (i : NumberedItem) → i.item ≡ item → IsTold p (a_use at i) o
 
--- what is told of the item at a place of an instance
-abbrev pub IsToldAt : ProgramTree → ℕ → ℕ → Option Rule → Type 0
-IsToldAt p spot place o =
-    (at : FlatInstance) → slice_get (instances_of p) spot ≡ Some at → (i : NumberedItem) → slice_get (items_named p at.module_name) place ≡ Some i → IsTold p (a_use at i) o
-
 -- what is known of a formal says that it means nothing, or that it comes back to itself
 abbrev pub is_nothing_known : Formal → Bool
 is_nothing_known (known.Means found.Nothing) = true
@@ -178,3 +176,29 @@ JudgesActual p spot inner index e j =
 abbrev pub JudgesActuals : ProgramTree → ℕ → ℕ → List Formula → List Formula → JudgedActual → Type 0
 JudgesActuals p spot inner actuals some j =
     (m : ModuleTree) (at inside : FlatInstance) (own : Text) → IsHanded p spot inner m at inside own actuals → AreActualsJudged p at.place inside.place m some j
+
+-- what is told of the item at a place of an instance, if it is this one
+abbrev pub IsToldHere : ProgramTree → ℕ → ℕ → Item → Option Rule → Type 0
+IsToldHere p spot place item o =
+    (at : FlatInstance) → slice_get (instances_of p) spot ≡ Some at → (i : NumberedItem) → slice_get (items_named p at.module_name) place ≡ Some i →
+    i.item ≡ item → IsTold p (a_use at i) o
+
+-- the actuals of the declaration of an instance; a variable has none
+abbrev pub AreActuals : DeclaredTree → Option (Bor (List (Expr Path))) → Type 0
+AreActuals (instance m actuals) (Some xs) = actuals ≡ map tree_of xs.now
+AreActuals (instance m actuals) None = ⊥
+AreActuals boolean None = Unit {0}
+AreActuals (range lo hi) None = Unit {0}
+AreActuals (members ms) None = Unit {0}
+AreActuals boolean (Some xs) = ⊥
+AreActuals (range lo hi) (Some xs) = ⊥
+AreActuals (members ms) (Some xs) = ⊥
+
+-- the number of an instance that is meant
+abbrev pub instance_in : Found → Option ℕ
+instance_in (found.Instance k) = Some k
+instance_in (found.Variable k role) = None
+instance_in (found.Definition k) = None
+instance_in (found.Symbol k) = None
+instance_in found.Nothing = None
+instance_in found.Loop = None

@@ -1,13 +1,15 @@
 //! The rules of names, targets and moments, tried by instances, then items, then numbers.
 
-ghost use Rattle.std.specs.Prelude.{◌≡◌, ◌∷◌, ◌++◌, [], List, Bool, true, map, is_some, IfOk, IfErr};
+ghost use Rattle.std.specs.Prelude.{◌≡◌, ◌∷◌, ◌++◌, [], List, Bool, true, map, is_some, if◌then◌else◌, IfOk, IfErr, OnOk};
 ghost use Rattle.std.specs.Prelude.{Some, slice_get};
-ghost use Rattle.xs_tree.specs.ProgramTree.{Path};
+ghost use Rattle.xs_tree.specs.ProgramTree.{Text, Path, assignment_tree};
+ghost use Rattle.xs_tree.specs.Texts.{same_text};
 ghost use Rattle.xs_tree.specs.Scope.{plain_name};
 ghost use Rattle.xs_tree.specs.Trace.{Each};
 ghost use Rattle.xs_tree.specs.Written.{tree_of};
 ghost use Rattle.xs_flattening.specs.Flat.{FlatInstance};
-ghost use Rattle.xs_flattening.specs.Items.{instances_of};
+ghost use Rattle.xs_flattening.specs.Items.{an_assignment, instances_of};
+ghost use Rattle.xs_flat.specs.Assigned.{value_rule, assignment_rule, IsItemTold, IsTargetTold, may_assign, local_meant, is_met, times_of, with_moment};
 ghost use Rattle.xs_flattening.specs.Rules.{IsKept, use_sites};
 ghost use Rattle.xs_flat.specs.SceneTree.{IsScene, program_of};
 ghost use Rattle.xs_flat.specs.NeedsTree.{AreNeeds};
@@ -74,7 +76,7 @@ fn judge_instance(
         if let Some((item, number)) = scene.item_at(spot, place) {
             let rule = match item {
                 Item::Assigned(assignment) => {
-                    judge_assignment(alloc, scene, needs, spot, assignment, &mut assigned)?
+                    judge_assignment(alloc, scene, needs, spot, place, assignment, &mut assigned)?
                 }
                 _ => judge_item(alloc, scene, needs, spot, place, item)?,
             };
@@ -175,73 +177,157 @@ fn rule_of_step(step: Judged) -> Option<Rule>
     }
 }
 
+/// The first rule that the value of an assignment breaks, by the moment of which it speaks.
+fn rule_of_value(when: Moment, value: Judged) -> Option<Rule>
+    ensures { result ≡ value_rule when value }
+{
+    match when {
+        Moment::Always | Moment::First => rule_of_now(value),
+        Moment::After => rule_of_step(value),
+    }
+}
+
+/// The first rule that an assignment breaks whose names and target are lawful; `met` says that an earlier
+/// one speaks of the same time.
+fn rule_of_assignment(met: bool, when: Moment, value: Judged) -> Option<Rule>
+    ensures { result ≡ assignment_rule met when value }
+{
+    if met {
+        Some(Rule::DoubleAssign)
+    } else {
+        rule_of_value(when, value)
+    }
+}
+
 /// The first rule that an assignment breaks at an instance, after those that stand in `assigned`.
 fn judge_assignment<'a>(
     alloc: Global,
     scene: &Scene<'_>,
     needs: &Needs,
     spot: usize,
+    place: usize,
     assignment: &'a Assignment,
     assigned: &mut IndexMap<&'a [u8], Times>,
 ) -> Result<Option<Rule>, OutOfMemory>
-    ensures { IfOk result IsRulePastMain }
+    requires scene { IsScene scene.now }
+    requires needs { AreNeeds (program_of scene.now) needs.now }
+    ensures { IfOk result (IsItemTold (program_of scene.now) spot place assigned.old.entries assigned.new.entries (an_assignment (assignment_tree assignment.now))) }
 {
     let judged = judge_value(alloc, scene, needs, spot, &assignment.value)?;
     if judged.no_value {
         return Ok(Some(Rule::NoSuchName));
     }
-    let [target] = assignment.target.parts() else {
+    let Some(target) = target_of(scene, spot, assignment) else {
         return Ok(Some(Rule::NotATarget));
     };
-    if !is_target(scene.local_meaning(spot, target), assignment.when) {
-        return Ok(Some(Rule::NotATarget));
+    let met = note_assigned(assigned, target, assignment.when)?;
+    Ok(rule_of_assignment(met, assignment.when, judged))
+}
+
+/// The target of an assignment, if it is a variable that may be assigned so.
+fn target_of<'a>(scene: &Scene<'_>, spot: usize, assignment: &'a Assignment) -> Option<&'a Name>
+    ensures { IsTargetTold scene.now spot assignment.now.target assignment.now.when result }
+{
+    let [target] = assignment.target.parts() else {
+        return None;
+    };
+    if is_target(scene.local_meaning(spot, target), assignment.when) {
+        Some(target)
+    } else {
+        None
     }
-    if !note_assigned(assigned, target.text(), assignment.when)? {
-        return Ok(Some(Rule::DoubleAssign));
-    }
-    Ok(match assignment.when {
-        Moment::Always | Moment::First => rule_of_now(judged),
-        Moment::After => rule_of_step(judged),
-    })
 }
 
 /// Whether a variable may be assigned: a state variable always, a frozen one at the first moment.
-fn is_target(meaning: Meaning, when: Moment) -> bool {
+fn is_target(meaning: Meaning, when: Moment) -> bool
+    ensures { result ≡ may_assign meaning when }
+{
     match meaning {
         Meaning::Variable { role, .. } => match role {
             Role::State => true,
-            Role::Frozen => when == Moment::First,
+            Role::Frozen => match when {
+                Moment::First => true,
+                Moment::Always | Moment::After => false,
+            },
             Role::Input => false,
         },
         _ => false,
     }
 }
 
-/// Notes an assignment. The answer says whether no earlier one speaks of the same time.
+/// Notes an assignment. The answer says whether an earlier one speaks of the same time.
 fn note_assigned<'a>(
     assigned: &mut IndexMap<&'a [u8], Times>,
-    target: &'a [u8],
+    target: &'a Name,
     when: Moment,
-) -> Result<bool, OutOfMemory> {
-    let before = match assigned.get(target) {
+) -> Result<bool, OutOfMemory>
+    ensures met { IfOk result (λ met. met ≡ is_met (times_of assigned.old.entries target.now) when) }
+    ensures noted { OnOk result ((x : Text) → times_of assigned.new.entries x ≡ (if same_text target.now x then with_moment (times_of assigned.old.entries target.now) when else times_of assigned.old.entries x)) }
+{
+    let times = times_at(assigned, target.text());
+    note_times(assigned, target.text(), times.with(when))?;
+    Ok(times.is_met(when))
+}
+
+/// The moments of which the assignments of a target speak.
+fn times_at(assigned: &IndexMap<&[u8], Times>, target: &[u8]) -> Times
+    ensures { result ≡ times_of assigned.now.entries target.now }
+{
+    match assigned.get(target) {
         Some(times) => *times,
         None => Times {
             always: false,
             first: false,
             after: false,
         },
-    };
-    let times = Times {
-        always: before.always || when == Moment::Always,
-        first: before.first || when == Moment::First,
-        after: before.after || when == Moment::After,
-    };
+    }
+}
+
+fn note_times<'a>(
+    assigned: &mut IndexMap<&'a [u8], Times>,
+    target: &'a [u8],
+    times: Times,
+) -> Result<(), OutOfMemory>
+    ensures { OnOk result ((x : Text) → times_of assigned.new.entries x ≡ (if same_text target.now x then times else times_of assigned.old.entries x)) }
+{
     assigned.insert(target, times)?;
-    Ok(match when {
-        Moment::Always => !before.always && !before.first && !before.after,
-        Moment::First => !before.always && !before.first,
-        Moment::After => !before.always && !before.after,
-    })
+    Ok(())
+}
+
+impl Times {
+    /// With one moment more.
+    fn with(self, when: Moment) -> Times
+        ensures { result ≡ with_moment self when }
+    {
+        match when {
+            Moment::Always => Times {
+                always: true,
+                first: self.first,
+                after: self.after,
+            },
+            Moment::First => Times {
+                always: self.always,
+                first: true,
+                after: self.after,
+            },
+            Moment::After => Times {
+                always: self.always,
+                first: self.first,
+                after: true,
+            },
+        }
+    }
+
+    /// Whether an assignment of this moment speaks of the same time as one of those.
+    fn is_met(self, when: Moment) -> bool
+        ensures { result ≡ is_met self when }
+    {
+        match when {
+            Moment::Always => self.always || self.first || self.after,
+            Moment::First => self.always || self.first,
+            Moment::After => self.always || self.after,
+        }
+    }
 }
 
 /// What may be wrong with the actuals of a declaration: one means nothing, or has a name without a value;
@@ -488,7 +574,9 @@ fn is_marked(marks: &[bool], definition: usize) -> bool
 
 impl Scene<'_> {
     /// What a name of an instance's own module declares or defines there; a formal is nothing of its own.
-    fn local_meaning(&self, spot: usize, name: &Name) -> Meaning {
+    fn local_meaning(&self, spot: usize, name: &Name) -> Meaning
+        ensures { result ≡ local_meant self.now spot name.now }
+    {
         match self.local(spot, name) {
             Some(Local::Item(place)) => self.own(spot, place),
             _ => Meaning::Nothing,
@@ -496,7 +584,7 @@ impl Scene<'_> {
     }
 }
 
-#[tactic(auto, using(crate::proofs::JudgeTargets::target_is))]
+#[tactic(auto, using(crate::proofs::JudgeAssignments::assignment_told))]
 fn probe() -> bool
     ensures { result ≡ true }
 {
