@@ -15,3 +15,5 @@ pub mod JudgeHanded
 pub mod JudgeTimes
 pub mod JudgeTargets
 pub mod JudgeAssignments
+pub mod JudgeTold
+pub mod JudgeInstances

@@ -7,10 +7,11 @@ use Rattle.xs_tree.specs.ProgramTree.{Text, Path, ProgramTree}
 use Rattle.xs_tree.specs.Texts.{same_text}
 use Rattle.xs_flattening.specs.Flat.{FlatInstance}
 use Rattle.xs_flattening.specs.Items.{Item, NumberedItem, items_named, instances_of, a_declaration, a_definition, an_assignment, some_constants, an_init, an_invar, a_trans}
-use Rattle.xs_flattening.specs.Rules.{a_use}
+use Rattle.xs_flattening.specs.Rules.{Site, item_of, a_use}
 use Rattle.xs_flat.specs.Faults.{first_of}
 use Rattle.xs_flat.specs.FoundAt.{local_at, own_at}
 use Rattle.xs_flat.specs.Verdicts.{IsTold}
+use Rattle.xs_flat.specs.declared.fault.FlatFault.{FlatFault}
 use Rattle.xs_flat.specs.declared.fault.Rule.{Rule}
 use Rattle.xs_flat.specs.declared.fault.Rule.TheVariants.{NoSuchName, DoubleAssign, NextHere, InputHere}
 use Rattle.xs_flat.specs.declared.judge.Judged.{Judged}
@@ -127,3 +128,14 @@ pub record IsItemTold (p : ProgramTree) (spot place : ℕ) (old new : List (Bor 
   pub told : (at : FlatInstance) → slice_get (instances_of p) spot ≡ Some at → (i : NumberedItem) → slice_get (items_named p at.module_name) place ≡ Some i →
       i.item ≡ item → AreTimes old i.before → IsTold p (a_use at i) o
   pub times : o ≡ None → (before : List Item) → AreTimes old before → AreTimes new (before ++ item ∷ [])
+
+-- the same with the item's number, where a rule is broken
+abbrev pub IsFaultAt : ProgramTree → Site → Option FlatFault → Type 0
+IsFaultAt p site None = IsTold p site None
+IsFaultAt p site (Some f) = IsTold p site (Some f.rule) × (f.item ≡ item_of site)
+
+pub record IsPlaceTold (p : ProgramTree) (spot place : ℕ) (old new : List (Bor (List ℕ) × Times)) (o : Option FlatFault) : Type 0 where
+  pub told : (at : FlatInstance) → slice_get (instances_of p) spot ≡ Some at → (i : NumberedItem) → slice_get (items_named p at.module_name) place ≡ Some i →
+      AreTimes old i.before → IsFaultAt p (a_use at i) o
+  pub times : (at : FlatInstance) → slice_get (instances_of p) spot ≡ Some at → (i : NumberedItem) → slice_get (items_named p at.module_name) place ≡ Some i →
+      o ≡ None → (before : List Item) → AreTimes old before → AreTimes new (before ++ i.item ∷ [])

@@ -1,17 +1,18 @@
 -- What is judged of meanings, names, actuals and items on the way to the first fault of the items.
-use Rattle.std.specs.Prelude.{◌≡◌, ◌↔◌, ◌<◌, ℕ, Bool, true, false, ◌||◌, ◌&&◌, List, [], ◌∷◌, length, map, Option, Some, None, slice_get, if◌then◌else◌}
+use Rattle.std.specs.Prelude.{◌≡◌, ◌↔◌, ◌<◌, ℕ, Bool, true, false, ◌||◌, ◌&&◌, List, [], ◌∷◌, ◌++◌, length, map, Option, Some, None, IfSome, slice_get, if◌then◌else◌}
 use Rattle.std.specs.Borrow.{Bor}
 use Rattle.xs_tree.specs.ProgramTree.{Text, Path, Formula, DeclaredTree, boolean, range, members, instance, ModuleTree, ProgramTree}
 use Rattle.xs_tree.specs.Scope.{Place, an_instance, find_module, kind_at, module_at, plain_name}
-use Rattle.xs_tree.specs.Trace.{AtSome}
+use Rattle.xs_tree.specs.Trace.{Each, AtSome}
 use Rattle.xs_tree.specs.Written.{tree_of}
 use Rattle.xs_tree.specs.declared.expr.Expr.{Expr}
 use Rattle.xs_flattening.specs.Flat.{FlatInstance}
 use Rattle.xs_flattening.specs.Items.{Item, NumberedItem, items_named, instances_of}
 use Rattle.xs_flattening.specs.Resolved.{has_next}
 use Rattle.xs_flattening.specs.Rules as rules
-use Rattle.xs_flattening.specs.Rules.{ActualHasNoMeaning, ActualLoops, SomeActualLoops, some_has_next, has_twice, HasNoValue, GivesInput, Site, a_use, number_of, Breaks, IsKept}
+use Rattle.xs_flattening.specs.Rules.{ActualHasNoMeaning, ActualLoops, SomeActualLoops, some_has_next, has_twice, HasNoValue, GivesInput, Site, item_of, a_use, number_of, Breaks, IsKept}
 use Rattle.xs_flat.specs.Faults.{rule_of}
+use Rattle.xs_flat.specs.declared.fault.FlatFault.{FlatFault}
 use Rattle.xs_flat.specs.declared.fault.Rule.{Rule}
 use Rattle.xs_flat.specs.declared.judge.Judged.{Judged}
 use Rattle.xs_flat.specs.declared.judge.JudgedActual.{JudgedActual}
@@ -202,3 +203,22 @@ instance_in (found.Definition k) = None
 instance_in (found.Symbol k) = None
 instance_in found.Nothing = None
 instance_in found.Loop = None
+
+-- The rule is broken at one of the sites with this item, none at those before it, and none of a lower number at it.
+pub record IsFirstAt (p : ProgramTree) (ss : List Site) (item : ℕ) (rule : rules.Rule) : Type 0 where
+  pub before : List Site
+  pub site : Site
+  pub after : List Site
+  pub in_order : ss ≡ before ++ site ∷ after
+  pub kept_before : Each (IsKept p) before
+  pub least : IsLowestAt p site rule
+  pub at_item : item ≡ item_of site
+
+-- what is told of some sites is right: no rule is broken, or this is the first fault
+abbrev pub AreTold : ProgramTree → List Site → Option FlatFault → Type 0
+AreTold p ss None = Each (IsKept p) ss
+AreTold p ss (Some f) = IfSome (rule_of f.rule) (IsFirstAt p ss f.item)
+
+-- what is told of the items of an instance
+abbrev pub IsInstanceTold : ProgramTree → ℕ → Option FlatFault → Type 0
+IsInstanceTold p spot o = (at : FlatInstance) → slice_get (instances_of p) spot ≡ Some at → AreTold p (map (a_use at) (items_named p at.module_name)) o

@@ -2,20 +2,21 @@
 
 ghost use Rattle.std.specs.Prelude.{◌≡◌, ◌∷◌, ◌++◌, [], List, Bool, true, map, is_some, if◌then◌else◌, IfOk, IfErr, OnOk};
 ghost use Rattle.std.specs.Prelude.{Some, slice_get};
-ghost use Rattle.xs_tree.specs.ProgramTree.{Text, Path, assignment_tree};
+ghost use Rattle.xs_tree.specs.ProgramTree.{Text, Path, assignment_tree, decl_tree, declared_tree, define_tree};
 ghost use Rattle.xs_tree.specs.Texts.{same_text};
-ghost use Rattle.xs_tree.specs.Scope.{plain_name};
+ghost use Rattle.xs_tree.specs.Scope.{plain_name, Role as RoleOf};
 ghost use Rattle.xs_tree.specs.Trace.{Each};
 ghost use Rattle.xs_tree.specs.Written.{tree_of};
 ghost use Rattle.xs_flattening.specs.Flat.{FlatInstance};
-ghost use Rattle.xs_flattening.specs.Items.{an_assignment, instances_of};
-ghost use Rattle.xs_flat.specs.Assigned.{value_rule, assignment_rule, IsItemTold, IsTargetTold, may_assign, local_meant, is_met, times_of, with_moment};
+ghost use Rattle.xs_flattening.specs.Items.{a_declaration, a_definition, an_assignment, an_init, an_invar, a_trans, instances_of};
+ghost use Rattle.xs_flat.specs.ItemTree.{item_tree};
+ghost use Rattle.xs_flat.specs.Assigned.{value_rule, assignment_rule, IsItemTold, IsPlaceTold, IsTargetTold, may_assign, local_meant, is_met, times_of, with_moment};
 ghost use Rattle.xs_flattening.specs.Rules.{IsKept, use_sites};
 ghost use Rattle.xs_flat.specs.SceneTree.{IsScene, program_of};
 ghost use Rattle.xs_flat.specs.NeedsTree.{AreNeeds};
 ghost use Rattle.xs_flat.specs.Judging.{IsJudged};
-ghost use Rattle.xs_flat.specs.Verdicts.{is_without_value, mark_at, is_input_found, is_circle_found, with_flags, AreJudged, is_nothing_known, is_circle_known, is_circle_meant, JudgesActual, JudgesActuals, joined_actual};
-ghost use Rattle.xs_flat.specs.Faults.{first_of, IsPastMain, IsRulePastMain, IsFaultOf};
+ghost use Rattle.xs_flat.specs.Verdicts.{IsToldOf, IsToldHere, IsInstanceTold, AreActuals, instance_in, is_without_value, mark_at, is_input_found, is_circle_found, with_flags, AreJudged, is_nothing_known, is_circle_known, is_circle_meant, JudgesActual, JudgesActuals, joined_actual};
+ghost use Rattle.xs_flat.specs.Faults.{first_of, IsFaultOf};
 ghost use Rattle.xs_flat.specs.declared.fault.Rule.TheVariants.{NoSuchName, DefineLoop, NextHere, InputHere};
 
 use crate::fault::{FlatFault, Rule};
@@ -28,7 +29,7 @@ use crate::uses::{Use, Uses};
 use crate::walk::Meaning;
 use indexmap::IndexMap;
 use std::alloc::Global;
-use xs_tree::{Assignment, Declared, Expr, Moment};
+use xs_tree::{Assignment, Decl, Declared, Define, Expr, Moment};
 use xs_value::{Dotted, Name, OutOfMemory};
 
 /// The moments of which the assignments so far speak, for one target.
@@ -58,65 +59,182 @@ pub(crate) fn judge(alloc: Global, scene: &Scene<'_>, needs: &Needs) -> Result<(
     ensures fault { IfErr result (IsFaultOf (program_of scene.now)) }
 {
     for spot in 0..scene.spots.len() {
-        judge_instance(alloc, scene, needs, spot)?;
+        match judge_instance(alloc, scene, needs, spot) {
+            Ok(None) => {}
+            Ok(Some(fault)) => return Err(fault),
+            Err(OutOfMemory) => {
+                return Err(FlatFault {
+                    rule: Rule::OutOfMemory,
+                    item: 0,
+                });
+            }
+        }
     }
     Ok(())
 }
 
+/// The first fault of the items of an instance.
 fn judge_instance(
     alloc: Global,
     scene: &Scene<'_>,
     needs: &Needs,
     spot: usize,
-) -> Result<(), FlatFault>
-    ensures { IfErr result IsPastMain }
+) -> Result<Option<FlatFault>, OutOfMemory>
+    requires scene { IsScene scene.now }
+    requires needs { AreNeeds (program_of scene.now) needs.now }
+    ensures { IfOk result (IsInstanceTold (program_of scene.now) spot) }
 {
     let mut assigned = IndexMap::new(alloc);
     for place in 0..scene.item_count(spot) {
-        if let Some((item, number)) = scene.item_at(spot, place) {
-            let rule = match item {
-                Item::Assigned(assignment) => {
-                    judge_assignment(alloc, scene, needs, spot, place, assignment, &mut assigned)?
-                }
-                _ => judge_item(alloc, scene, needs, spot, place, item)?,
-            };
-            if let Some(rule) = rule {
-                return Err(FlatFault { rule, item: number });
-            }
+        let fault = judge_place(alloc, scene, needs, spot, place, &mut assigned)?;
+        if let Some(fault) = fault {
+            return Ok(Some(fault));
         }
     }
-    Ok(())
+    Ok(None)
 }
 
-/// The first rule that an item other than an assignment breaks at an instance.
-fn judge_item(
+/// The fault of the item at a place of an instance, after the assignments that stand in `assigned`.
+fn judge_place<'a>(
+    alloc: Global,
+    scene: &Scene<'a>,
+    needs: &Needs,
+    spot: usize,
+    place: usize,
+    assigned: &mut IndexMap<&'a [u8], Times>,
+) -> Result<Option<FlatFault>, OutOfMemory>
+    requires scene { IsScene scene.now }
+    requires needs { AreNeeds (program_of scene.now) needs.now }
+    ensures { IfOk result (IsPlaceTold (program_of scene.now) spot place assigned.old.entries assigned.new.entries) }
+{
+    let Some((item, number)) = scene.item_at(spot, place) else {
+        return Ok(None);
+    };
+    let Some(rule) = judge_item(alloc, scene, needs, spot, place, item, assigned)? else {
+        return Ok(None);
+    };
+    Ok(Some(FlatFault { rule, item: number }))
+}
+
+/// The first rule that an item breaks at an instance.
+fn judge_item<'a>(
     alloc: Global,
     scene: &Scene<'_>,
     needs: &Needs,
     spot: usize,
     place: usize,
-    item: Item<'_>,
+    item: Item<'a>,
+    assigned: &mut IndexMap<&'a [u8], Times>,
 ) -> Result<Option<Rule>, OutOfMemory>
-    ensures { IfOk result IsRulePastMain }
+    requires scene { IsScene scene.now }
+    requires needs { AreNeeds (program_of scene.now) needs.now }
+    ensures { IfOk result (IsItemTold (program_of scene.now) spot place assigned.old.entries assigned.new.entries (item_tree item.entry)) }
 {
     match item {
-        Item::Declared(_, decl) => match (&decl.what, scene.own(spot, place)) {
-            (Declared::Instance(_, actuals), Meaning::Instance(inner)) => {
-                Ok(rule_of_actuals(judge_actuals(alloc, scene, needs, spot, inner, actuals.as_slice())?))
-            }
-            _ => Ok(None),
-        },
-        Item::Defined(define) => {
-            let judged = judge_value(alloc, scene, needs, spot, &define.value)?;
-            let circle = needs.is_on_meaning_circle(scene.own(spot, place));
-            Ok(rule_of_definition(judged, circle))
+        Item::Declared(_, decl) => judge_declaration(alloc, scene, needs, spot, place, decl),
+        Item::Defined(define) => judge_definition(alloc, scene, needs, spot, place, define),
+        Item::Assigned(assignment) => {
+            judge_assignment(alloc, scene, needs, spot, place, assignment, assigned)
         }
-        Item::Init(e) | Item::Invar(e) => {
-            Ok(rule_of_now(judge_value(alloc, scene, needs, spot, e)?))
-        }
-        Item::Trans(e) => Ok(rule_of_step(judge_value(alloc, scene, needs, spot, e)?)),
-        Item::Assigned(_) | Item::Constants(_) => Ok(None),
+        Item::Constants(_) => Ok(None),
+        Item::Init(e) => judge_moment(alloc, scene, needs, spot, e),
+        Item::Invar(e) => judge_moment(alloc, scene, needs, spot, e),
+        Item::Trans(e) => judge_step(alloc, scene, needs, spot, e),
     }
+}
+
+/// The first rule that the declaration of an instance breaks by its actuals; that of a variable breaks none.
+fn judge_declaration(
+    alloc: Global,
+    scene: &Scene<'_>,
+    needs: &Needs,
+    spot: usize,
+    place: usize,
+    decl: &Decl,
+) -> Result<Option<Rule>, OutOfMemory>
+    requires scene { IsScene scene.now }
+    requires needs { AreNeeds (program_of scene.now) needs.now }
+    ensures { IfOk result (λ o. (role : RoleOf) → IsToldHere (program_of scene.now) spot place (a_declaration role (decl_tree decl.now)) o) }
+{
+    let Some(actuals) = actuals_of(&decl.what) else {
+        return Ok(None);
+    };
+    let Some(inner) = instance_in(scene.own(spot, place)) else {
+        return Ok(None);
+    };
+    let judged = judge_actuals(alloc, scene, needs, spot, inner, actuals)?;
+    Ok(rule_of_actuals(judged))
+}
+
+/// The actuals of the declaration of an instance.
+fn actuals_of<'a>(what: &'a Declared) -> Option<&'a [Expr<Dotted>]>
+    ensures { AreActuals (declared_tree what.now) result }
+{
+    match what {
+        Declared::Instance(_, actuals) => Some(actuals.as_slice()),
+        Declared::Boolean | Declared::Range(_, _) | Declared::Members(_) => None,
+    }
+}
+
+/// The number of an instance that is meant.
+fn instance_in(meaning: Meaning) -> Option<usize>
+    ensures { result ≡ instance_in meaning }
+{
+    match meaning {
+        Meaning::Instance(inner) => Some(inner),
+        _ => None,
+    }
+}
+
+/// The first rule that a define breaks at an instance.
+fn judge_definition(
+    alloc: Global,
+    scene: &Scene<'_>,
+    needs: &Needs,
+    spot: usize,
+    place: usize,
+    define: &Define,
+) -> Result<Option<Rule>, OutOfMemory>
+    requires scene { IsScene scene.now }
+    requires needs { AreNeeds (program_of scene.now) needs.now }
+    ensures { IfOk result (IsToldHere (program_of scene.now) spot place (a_definition (define_tree define.now))) }
+{
+    let judged = judge_value(alloc, scene, needs, spot, &define.value)?;
+    let circle = needs.is_on_meaning_circle(scene.own(spot, place));
+    Ok(rule_of_definition(judged, circle))
+}
+
+/// The first rule that an expression of one moment breaks at an instance.
+fn judge_moment(
+    alloc: Global,
+    scene: &Scene<'_>,
+    needs: &Needs,
+    spot: usize,
+    e: &Expr<Dotted>,
+) -> Result<Option<Rule>, OutOfMemory>
+    requires scene { IsScene scene.now }
+    requires needs { AreNeeds (program_of scene.now) needs.now }
+    ensures first { IfOk result (IsToldOf (program_of scene.now) spot (an_init (tree_of e.now))) }
+    ensures each { IfOk result (IsToldOf (program_of scene.now) spot (an_invar (tree_of e.now))) }
+{
+    let judged = judge_value(alloc, scene, needs, spot, e)?;
+    Ok(rule_of_now(judged))
+}
+
+/// The first rule that an expression of a moment and the next one breaks at an instance.
+fn judge_step(
+    alloc: Global,
+    scene: &Scene<'_>,
+    needs: &Needs,
+    spot: usize,
+    e: &Expr<Dotted>,
+) -> Result<Option<Rule>, OutOfMemory>
+    requires scene { IsScene scene.now }
+    requires needs { AreNeeds (program_of scene.now) needs.now }
+    ensures { IfOk result (IsToldOf (program_of scene.now) spot (a_trans (tree_of e.now))) }
+{
+    let judged = judge_value(alloc, scene, needs, spot, e)?;
+    Ok(rule_of_step(judged))
 }
 
 fn rule_of_definition(value: Judged, on_circle: bool) -> Option<Rule>
@@ -584,7 +702,7 @@ impl Scene<'_> {
     }
 }
 
-#[tactic(auto, using(crate::proofs::JudgeAssignments::assignment_told))]
+#[tactic(auto, using(crate::proofs::JudgeInstances::all_instances))]
 fn probe() -> bool
     ensures { result ≡ true }
 {
