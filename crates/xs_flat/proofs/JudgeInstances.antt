@@ -83,11 +83,11 @@ no_item p spot place es none = record {
   times = λ at at_spot i e q before times. absurd (none_some (i.number, i.item) (none ∙ here_at p spot place at at_spot i e));
 }
 
-number_is : (a b : ℕ) (x y : Item) → Some (a, x) ≡ Some (b, y) → a ≡ b
-number_is a b x y e = cc
+number_is : (x y : ℕ × Item) → Some x ≡ Some y → x.0 ≡ y.0
+number_is x y e = ap (λ (z : ℕ × Item). z.0) (some_same x y e)
 
-item_is : (a b : ℕ) (x y : Item) → Some (a, x) ≡ Some (b, y) → x ≡ y
-item_is a b x y e = cc
+item_is : (x y : ℕ × Item) → Some x ≡ Some y → x.1 ≡ y.1
+item_is x y e = ap (λ (z : ℕ × Item). z.1) (some_same x y e)
 
 pub kept_item : (p : ProgramTree) (spot place number : ℕ) (item : Item) (es new : List (Bor (List ℕ) × Times)) → Some (number, item) ≡ option_map number_and_item (slice_get (items_at p spot) place) →
     IsItemTold p spot place es new item None → IsPlaceTold p spot place es new None
@@ -97,18 +97,21 @@ kept_item p spot place number item es new is h = record {
 }
   where
     same : (at : FlatInstance) → slice_get (instances_of p) spot ≡ Some at → (i : NumberedItem) → slice_get (items_named p at.module_name) place ≡ Some i → i.item ≡ item
-    same at at_spot i e = sym (item_is number i.number item i.item (is ∙ here_at p spot place at at_spot i e))
+    same at at_spot i e = sym (item_is (number, item) (i.number, i.item) (is ∙ here_at p spot place at at_spot i e))
 
 pub broken_item : (p : ProgramTree) (spot place number : ℕ) (item : Item) (es new : List (Bor (List ℕ) × Times)) → Some (number, item) ≡ option_map number_and_item (slice_get (items_at p spot) place) →
     (rule : Code) → IsItemTold p spot place es new item (Some rule) → IsPlaceTold p spot place es new (Some (record { rule = rule; item = number }))
 broken_item p spot place number item es new is rule h = record {
   told = λ at at_spot i e times.
-      (h.told at at_spot i e (sym (item_is number i.number item i.item (is ∙ here_at p spot place at at_spot i e))) times, number_is number i.number item i.item (is ∙ here_at p spot place at at_spot i e));
+      (h.told at at_spot i e (sym (item_is (number, item) (i.number, i.item) (is ∙ here_at p spot place at at_spot i e))) times, number_is (number, item) (i.number, i.item) (is ∙ here_at p spot place at at_spot i e));
   times = λ at at_spot i e q before times. absurd (differ q);
 }
   where
-    differ : Some (record { rule = rule; item = number }) ≡ None → ⊥
-    differ q = none_some _ (sym q)
+    fault : FlatFault
+    fault = record { rule = rule; item = number }
+
+    differ : Some fault ≡ None → ⊥
+    differ q = none_some fault (sym q)
 
 -- The items of an instance so far.
 pub record ItemsSoFar (p : ProgramTree) (at : FlatInstance) (place : ℕ) (es : List (Bor (List ℕ) × Times)) : Type 0 where
