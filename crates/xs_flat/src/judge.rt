@@ -1,6 +1,6 @@
 //! The rules of names, targets and moments, tried by instances, then items, then numbers.
 
-ghost use Rattle.std.specs.Prelude.{◌≡◌, ◌∷◌, ◌++◌, [], List, Bool, true, map, is_some, if◌then◌else◌, IfOk, IfErr, OnOk};
+ghost use Rattle.std.specs.Prelude.{◌≡◌, ◌∷◌, ◌++◌, [], List, Bool, map, is_some, if◌then◌else◌, IfOk, IfErr, OnOk};
 ghost use Rattle.std.specs.Prelude.{Some, slice_get};
 ghost use Rattle.xs_tree.specs.ProgramTree.{Text, Path, assignment_tree, decl_tree, declared_tree, define_tree};
 ghost use Rattle.xs_tree.specs.Texts.{same_text};
@@ -700,11 +700,4 @@ impl Scene<'_> {
             _ => Meaning::Nothing,
         }
     }
-}
-
-#[tactic(auto, using(crate::proofs::JudgeInstances::all_instances))]
-fn probe() -> bool
-    ensures { result ≡ true }
-{
-    true
 }
