@@ -51,3 +51,16 @@ pub mod BuildSound
 pub mod BuildFormulas
 pub mod BuildModel
 pub mod BuildLoops
+pub mod JudgeLists
+pub mod JudgeUses
+pub mod JudgeNames
+pub mod JudgeValues
+pub mod JudgeItems
+pub mod JudgeActuals
+pub mod JudgePlaces
+pub mod JudgeHanded
+pub mod JudgeTimes
+pub mod JudgeTargets
+pub mod JudgeAssignments
+pub mod JudgeTold
+pub mod JudgeInstances

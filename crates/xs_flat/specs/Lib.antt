@@ -26,3 +26,5 @@ pub mod Steps
 pub mod Known
 pub mod Laid
 pub mod Asked
+pub mod Verdicts
+pub mod Assigned

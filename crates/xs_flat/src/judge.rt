@@ -1,16 +1,22 @@
 //! The rules of names, targets and moments, tried by instances, then items, then numbers.
 
-ghost use Rattle.std.specs.Prelude.{◌≡◌, ◌∷◌, [], IfOk, IfErr};
+ghost use Rattle.std.specs.Prelude.{◌≡◌, ◌∷◌, ◌++◌, [], List, Bool, map, is_some, if◌then◌else◌, IfOk, IfErr, OnOk};
 ghost use Rattle.std.specs.Prelude.{Some, slice_get};
+ghost use Rattle.xs_tree.specs.ProgramTree.{Text, Path, assignment_tree, decl_tree, declared_tree, define_tree};
+ghost use Rattle.xs_tree.specs.Texts.{same_text};
+ghost use Rattle.xs_tree.specs.Scope.{plain_name, Role as RoleOf};
 ghost use Rattle.xs_tree.specs.Trace.{Each};
 ghost use Rattle.xs_tree.specs.Written.{tree_of};
 ghost use Rattle.xs_flattening.specs.Flat.{FlatInstance};
-ghost use Rattle.xs_flattening.specs.Items.{instances_of};
+ghost use Rattle.xs_flattening.specs.Items.{a_declaration, a_definition, an_assignment, an_init, an_invar, a_trans, instances_of};
+ghost use Rattle.xs_flat.specs.ItemTree.{item_tree};
+ghost use Rattle.xs_flat.specs.Assigned.{value_rule, assignment_rule, IsItemTold, IsPlaceTold, IsTargetTold, may_assign, local_meant, is_met, times_of, with_moment};
 ghost use Rattle.xs_flattening.specs.Rules.{IsKept, use_sites};
 ghost use Rattle.xs_flat.specs.SceneTree.{IsScene, program_of};
 ghost use Rattle.xs_flat.specs.NeedsTree.{AreNeeds};
 ghost use Rattle.xs_flat.specs.Judging.{IsJudged};
-ghost use Rattle.xs_flat.specs.Faults.{first_of, IsPastMain, IsRulePastMain, IsFaultOf};
+ghost use Rattle.xs_flat.specs.Verdicts.{IsToldOf, IsToldHere, IsInstanceTold, AreActuals, instance_in, is_without_value, mark_at, is_input_found, is_circle_found, with_flags, AreJudged, is_nothing_known, is_circle_known, is_circle_meant, JudgesActual, JudgesActuals, joined_actual};
+ghost use Rattle.xs_flat.specs.Faults.{first_of, IsFaultOf};
 ghost use Rattle.xs_flat.specs.declared.fault.Rule.TheVariants.{NoSuchName, DefineLoop, NextHere, InputHere};
 
 use crate::fault::{FlatFault, Rule};
@@ -19,11 +25,11 @@ use crate::model::Role;
 use crate::modules::Local;
 use crate::names::{Formal, Scene};
 use crate::needs::Needs;
-use crate::uses::Uses;
+use crate::uses::{Use, Uses};
 use crate::walk::Meaning;
 use indexmap::IndexMap;
 use std::alloc::Global;
-use xs_tree::{Assignment, Declared, Expr, Moment};
+use xs_tree::{Assignment, Decl, Declared, Define, Expr, Moment};
 use xs_value::{Dotted, Name, OutOfMemory};
 
 /// The moments of which the assignments so far speak, for one target.
@@ -53,65 +59,182 @@ pub(crate) fn judge(alloc: Global, scene: &Scene<'_>, needs: &Needs) -> Result<(
     ensures fault { IfErr result (IsFaultOf (program_of scene.now)) }
 {
     for spot in 0..scene.spots.len() {
-        judge_instance(alloc, scene, needs, spot)?;
+        match judge_instance(alloc, scene, needs, spot) {
+            Ok(None) => {}
+            Ok(Some(fault)) => return Err(fault),
+            Err(OutOfMemory) => {
+                return Err(FlatFault {
+                    rule: Rule::OutOfMemory,
+                    item: 0,
+                });
+            }
+        }
     }
     Ok(())
 }
 
+/// The first fault of the items of an instance.
 fn judge_instance(
     alloc: Global,
     scene: &Scene<'_>,
     needs: &Needs,
     spot: usize,
-) -> Result<(), FlatFault>
-    ensures { IfErr result IsPastMain }
+) -> Result<Option<FlatFault>, OutOfMemory>
+    requires scene { IsScene scene.now }
+    requires needs { AreNeeds (program_of scene.now) needs.now }
+    ensures { IfOk result (IsInstanceTold (program_of scene.now) spot) }
 {
     let mut assigned = IndexMap::new(alloc);
     for place in 0..scene.item_count(spot) {
-        if let Some((item, number)) = scene.item_at(spot, place) {
-            let rule = match item {
-                Item::Assigned(assignment) => {
-                    judge_assignment(alloc, scene, needs, spot, assignment, &mut assigned)?
-                }
-                _ => judge_item(alloc, scene, needs, spot, place, item)?,
-            };
-            if let Some(rule) = rule {
-                return Err(FlatFault { rule, item: number });
-            }
+        let fault = judge_place(alloc, scene, needs, spot, place, &mut assigned)?;
+        if let Some(fault) = fault {
+            return Ok(Some(fault));
         }
     }
-    Ok(())
+    Ok(None)
 }
 
-/// The first rule that an item other than an assignment breaks at an instance.
-fn judge_item(
+/// The fault of the item at a place of an instance, after the assignments that stand in `assigned`.
+fn judge_place<'a>(
+    alloc: Global,
+    scene: &Scene<'a>,
+    needs: &Needs,
+    spot: usize,
+    place: usize,
+    assigned: &mut IndexMap<&'a [u8], Times>,
+) -> Result<Option<FlatFault>, OutOfMemory>
+    requires scene { IsScene scene.now }
+    requires needs { AreNeeds (program_of scene.now) needs.now }
+    ensures { IfOk result (IsPlaceTold (program_of scene.now) spot place assigned.old.entries assigned.new.entries) }
+{
+    let Some((item, number)) = scene.item_at(spot, place) else {
+        return Ok(None);
+    };
+    let Some(rule) = judge_item(alloc, scene, needs, spot, place, item, assigned)? else {
+        return Ok(None);
+    };
+    Ok(Some(FlatFault { rule, item: number }))
+}
+
+/// The first rule that an item breaks at an instance.
+fn judge_item<'a>(
     alloc: Global,
     scene: &Scene<'_>,
     needs: &Needs,
     spot: usize,
     place: usize,
-    item: Item<'_>,
+    item: Item<'a>,
+    assigned: &mut IndexMap<&'a [u8], Times>,
 ) -> Result<Option<Rule>, OutOfMemory>
-    ensures { IfOk result IsRulePastMain }
+    requires scene { IsScene scene.now }
+    requires needs { AreNeeds (program_of scene.now) needs.now }
+    ensures { IfOk result (IsItemTold (program_of scene.now) spot place assigned.old.entries assigned.new.entries (item_tree item.entry)) }
 {
     match item {
-        Item::Declared(_, decl) => match (&decl.what, scene.own(spot, place)) {
-            (Declared::Instance(_, actuals), Meaning::Instance(inner)) => {
-                judge_actuals(alloc, scene, needs, spot, inner, actuals.as_slice())
-            }
-            _ => Ok(None),
-        },
-        Item::Defined(define) => {
-            let judged = judge_value(alloc, scene, needs, spot, &define.value)?;
-            let circle = needs.is_on_meaning_circle(scene.own(spot, place));
-            Ok(rule_of_definition(judged, circle))
+        Item::Declared(_, decl) => judge_declaration(alloc, scene, needs, spot, place, decl),
+        Item::Defined(define) => judge_definition(alloc, scene, needs, spot, place, define),
+        Item::Assigned(assignment) => {
+            judge_assignment(alloc, scene, needs, spot, place, assignment, assigned)
         }
-        Item::Init(e) | Item::Invar(e) => {
-            Ok(rule_of_now(judge_value(alloc, scene, needs, spot, e)?))
-        }
-        Item::Trans(e) => Ok(rule_of_step(judge_value(alloc, scene, needs, spot, e)?)),
-        Item::Assigned(_) | Item::Constants(_) => Ok(None),
+        Item::Constants(_) => Ok(None),
+        Item::Init(e) => judge_moment(alloc, scene, needs, spot, e),
+        Item::Invar(e) => judge_moment(alloc, scene, needs, spot, e),
+        Item::Trans(e) => judge_step(alloc, scene, needs, spot, e),
     }
+}
+
+/// The first rule that the declaration of an instance breaks by its actuals; that of a variable breaks none.
+fn judge_declaration(
+    alloc: Global,
+    scene: &Scene<'_>,
+    needs: &Needs,
+    spot: usize,
+    place: usize,
+    decl: &Decl,
+) -> Result<Option<Rule>, OutOfMemory>
+    requires scene { IsScene scene.now }
+    requires needs { AreNeeds (program_of scene.now) needs.now }
+    ensures { IfOk result (λ o. (role : RoleOf) → IsToldHere (program_of scene.now) spot place (a_declaration role (decl_tree decl.now)) o) }
+{
+    let Some(actuals) = actuals_of(&decl.what) else {
+        return Ok(None);
+    };
+    let Some(inner) = instance_in(scene.own(spot, place)) else {
+        return Ok(None);
+    };
+    let judged = judge_actuals(alloc, scene, needs, spot, inner, actuals)?;
+    Ok(rule_of_actuals(judged))
+}
+
+/// The actuals of the declaration of an instance.
+fn actuals_of<'a>(what: &'a Declared) -> Option<&'a [Expr<Dotted>]>
+    ensures { AreActuals (declared_tree what.now) result }
+{
+    match what {
+        Declared::Instance(_, actuals) => Some(actuals.as_slice()),
+        Declared::Boolean | Declared::Range(_, _) | Declared::Members(_) => None,
+    }
+}
+
+/// The number of an instance that is meant.
+fn instance_in(meaning: Meaning) -> Option<usize>
+    ensures { result ≡ instance_in meaning }
+{
+    match meaning {
+        Meaning::Instance(inner) => Some(inner),
+        _ => None,
+    }
+}
+
+/// The first rule that a define breaks at an instance.
+fn judge_definition(
+    alloc: Global,
+    scene: &Scene<'_>,
+    needs: &Needs,
+    spot: usize,
+    place: usize,
+    define: &Define,
+) -> Result<Option<Rule>, OutOfMemory>
+    requires scene { IsScene scene.now }
+    requires needs { AreNeeds (program_of scene.now) needs.now }
+    ensures { IfOk result (IsToldHere (program_of scene.now) spot place (a_definition (define_tree define.now))) }
+{
+    let judged = judge_value(alloc, scene, needs, spot, &define.value)?;
+    let circle = needs.is_on_meaning_circle(scene.own(spot, place));
+    Ok(rule_of_definition(judged, circle))
+}
+
+/// The first rule that an expression of one moment breaks at an instance.
+fn judge_moment(
+    alloc: Global,
+    scene: &Scene<'_>,
+    needs: &Needs,
+    spot: usize,
+    e: &Expr<Dotted>,
+) -> Result<Option<Rule>, OutOfMemory>
+    requires scene { IsScene scene.now }
+    requires needs { AreNeeds (program_of scene.now) needs.now }
+    ensures first { IfOk result (IsToldOf (program_of scene.now) spot (an_init (tree_of e.now))) }
+    ensures each { IfOk result (IsToldOf (program_of scene.now) spot (an_invar (tree_of e.now))) }
+{
+    let judged = judge_value(alloc, scene, needs, spot, e)?;
+    Ok(rule_of_now(judged))
+}
+
+/// The first rule that an expression of a moment and the next one breaks at an instance.
+fn judge_step(
+    alloc: Global,
+    scene: &Scene<'_>,
+    needs: &Needs,
+    spot: usize,
+    e: &Expr<Dotted>,
+) -> Result<Option<Rule>, OutOfMemory>
+    requires scene { IsScene scene.now }
+    requires needs { AreNeeds (program_of scene.now) needs.now }
+    ensures { IfOk result (IsToldOf (program_of scene.now) spot (a_trans (tree_of e.now))) }
+{
+    let judged = judge_value(alloc, scene, needs, spot, e)?;
+    Ok(rule_of_step(judged))
 }
 
 fn rule_of_definition(value: Judged, on_circle: bool) -> Option<Rule>
@@ -122,6 +245,20 @@ fn rule_of_definition(value: Judged, on_circle: bool) -> Option<Rule>
     } else if on_circle {
         Some(Rule::DefineLoop)
     } else if value.next {
+        Some(Rule::NextHere)
+    } else {
+        None
+    }
+}
+
+fn rule_of_actuals(actuals: JudgedActual) -> Option<Rule>
+    ensures { result ≡ first_of ((actuals.no_value, NoSuchName) ∷ (actuals.circle, DefineLoop) ∷ (actuals.next, NextHere) ∷ []) }
+{
+    if actuals.no_value {
+        Some(Rule::NoSuchName)
+    } else if actuals.circle {
+        Some(Rule::DefineLoop)
+    } else if actuals.next {
         Some(Rule::NextHere)
     } else {
         None
@@ -158,76 +295,169 @@ fn rule_of_step(step: Judged) -> Option<Rule>
     }
 }
 
+/// The first rule that the value of an assignment breaks, by the moment of which it speaks.
+fn rule_of_value(when: Moment, value: Judged) -> Option<Rule>
+    ensures { result ≡ value_rule when value }
+{
+    match when {
+        Moment::Always | Moment::First => rule_of_now(value),
+        Moment::After => rule_of_step(value),
+    }
+}
+
+/// The first rule that an assignment breaks whose names and target are lawful; `met` says that an earlier
+/// one speaks of the same time.
+fn rule_of_assignment(met: bool, when: Moment, value: Judged) -> Option<Rule>
+    ensures { result ≡ assignment_rule met when value }
+{
+    if met {
+        Some(Rule::DoubleAssign)
+    } else {
+        rule_of_value(when, value)
+    }
+}
+
 /// The first rule that an assignment breaks at an instance, after those that stand in `assigned`.
 fn judge_assignment<'a>(
     alloc: Global,
     scene: &Scene<'_>,
     needs: &Needs,
     spot: usize,
+    place: usize,
     assignment: &'a Assignment,
     assigned: &mut IndexMap<&'a [u8], Times>,
 ) -> Result<Option<Rule>, OutOfMemory>
-    ensures { IfOk result IsRulePastMain }
+    requires scene { IsScene scene.now }
+    requires needs { AreNeeds (program_of scene.now) needs.now }
+    ensures { IfOk result (IsItemTold (program_of scene.now) spot place assigned.old.entries assigned.new.entries (an_assignment (assignment_tree assignment.now))) }
 {
     let judged = judge_value(alloc, scene, needs, spot, &assignment.value)?;
     if judged.no_value {
         return Ok(Some(Rule::NoSuchName));
     }
-    let [target] = assignment.target.parts() else {
+    let Some(target) = target_of(scene, spot, assignment) else {
         return Ok(Some(Rule::NotATarget));
     };
-    if !is_target(scene.local_meaning(spot, target), assignment.when) {
-        return Ok(Some(Rule::NotATarget));
+    let met = note_assigned(assigned, target, assignment.when)?;
+    Ok(rule_of_assignment(met, assignment.when, judged))
+}
+
+/// The target of an assignment, if it is a variable that may be assigned so.
+fn target_of<'a>(scene: &Scene<'_>, spot: usize, assignment: &'a Assignment) -> Option<&'a Name>
+    ensures { IsTargetTold scene.now spot assignment.now.target assignment.now.when result }
+{
+    let [target] = assignment.target.parts() else {
+        return None;
+    };
+    if is_target(scene.local_meaning(spot, target), assignment.when) {
+        Some(target)
+    } else {
+        None
     }
-    if !note_assigned(assigned, target.text(), assignment.when)? {
-        return Ok(Some(Rule::DoubleAssign));
-    }
-    Ok(match assignment.when {
-        Moment::Always | Moment::First => rule_of_now(judged),
-        Moment::After => rule_of_step(judged),
-    })
 }
 
 /// Whether a variable may be assigned: a state variable always, a frozen one at the first moment.
-fn is_target(meaning: Meaning, when: Moment) -> bool {
+fn is_target(meaning: Meaning, when: Moment) -> bool
+    ensures { result ≡ may_assign meaning when }
+{
     match meaning {
         Meaning::Variable { role, .. } => match role {
             Role::State => true,
-            Role::Frozen => when == Moment::First,
+            Role::Frozen => match when {
+                Moment::First => true,
+                Moment::Always | Moment::After => false,
+            },
             Role::Input => false,
         },
         _ => false,
     }
 }
 
-/// Notes an assignment. The answer says whether no earlier one speaks of the same time.
+/// Notes an assignment. The answer says whether an earlier one speaks of the same time.
 fn note_assigned<'a>(
     assigned: &mut IndexMap<&'a [u8], Times>,
-    target: &'a [u8],
+    target: &'a Name,
     when: Moment,
-) -> Result<bool, OutOfMemory> {
-    let before = match assigned.get(target) {
+) -> Result<bool, OutOfMemory>
+    ensures met { IfOk result (λ met. met ≡ is_met (times_of assigned.old.entries target.now) when) }
+    ensures noted { OnOk result ((x : Text) → times_of assigned.new.entries x ≡ (if same_text target.now x then with_moment (times_of assigned.old.entries target.now) when else times_of assigned.old.entries x)) }
+{
+    let times = times_at(assigned, target.text());
+    note_times(assigned, target.text(), times.with(when))?;
+    Ok(times.is_met(when))
+}
+
+/// The moments of which the assignments of a target speak.
+fn times_at(assigned: &IndexMap<&[u8], Times>, target: &[u8]) -> Times
+    ensures { result ≡ times_of assigned.now.entries target.now }
+{
+    match assigned.get(target) {
         Some(times) => *times,
         None => Times {
             always: false,
             first: false,
             after: false,
         },
-    };
-    let times = Times {
-        always: before.always || when == Moment::Always,
-        first: before.first || when == Moment::First,
-        after: before.after || when == Moment::After,
-    };
-    assigned.insert(target, times)?;
-    Ok(match when {
-        Moment::Always => !before.always && !before.first && !before.after,
-        Moment::First => !before.always && !before.first,
-        Moment::After => !before.always && !before.after,
-    })
+    }
 }
 
-/// The first rule that the actuals of a declaration break.
+fn note_times<'a>(
+    assigned: &mut IndexMap<&'a [u8], Times>,
+    target: &'a [u8],
+    times: Times,
+) -> Result<(), OutOfMemory>
+    ensures { OnOk result ((x : Text) → times_of assigned.new.entries x ≡ (if same_text target.now x then times else times_of assigned.old.entries x)) }
+{
+    assigned.insert(target, times)?;
+    Ok(())
+}
+
+impl Times {
+    /// With one moment more.
+    fn with(self, when: Moment) -> Times
+        ensures { result ≡ with_moment self when }
+    {
+        match when {
+            Moment::Always => Times {
+                always: true,
+                first: self.first,
+                after: self.after,
+            },
+            Moment::First => Times {
+                always: self.always,
+                first: true,
+                after: self.after,
+            },
+            Moment::After => Times {
+                always: self.always,
+                first: self.first,
+                after: true,
+            },
+        }
+    }
+
+    /// Whether an assignment of this moment speaks of the same time as one of those.
+    fn is_met(self, when: Moment) -> bool
+        ensures { result ≡ is_met self when }
+    {
+        match when {
+            Moment::Always => self.always || self.first || self.after,
+            Moment::First => self.always || self.first,
+            Moment::After => self.always || self.after,
+        }
+    }
+}
+
+/// What may be wrong with the actuals of a declaration: one means nothing, or has a name without a value;
+/// one is on a circle; one has `next`.
+#[derive(Clone, Copy)]
+struct JudgedActual {
+    no_value: bool,
+    circle: bool,
+    next: bool,
+}
+
+/// What is wrong with the actuals that an instance is handed.
 fn judge_actuals(
     alloc: Global,
     scene: &Scene<'_>,
@@ -235,43 +465,94 @@ fn judge_actuals(
     spot: usize,
     inner: usize,
     actuals: &[Expr<Dotted>],
-) -> Result<Option<Rule>, OutOfMemory>
-    ensures { IfOk result IsRulePastMain }
+) -> Result<JudgedActual, OutOfMemory>
+    requires scene { IsScene scene.now }
+    requires needs { AreNeeds (program_of scene.now) needs.now }
+    ensures { IfOk result (JudgesActuals (program_of scene.now) spot inner (map tree_of actuals.now) (map tree_of actuals.now)) }
 {
-    let mut no_value = false;
-    let mut circle = false;
-    let mut next = false;
+    let mut judged = JudgedActual {
+        no_value: false,
+        circle: false,
+        next: false,
+    };
     for (formal, actual) in actuals.iter().enumerate() {
-        match scene.formal(inner, formal) {
-            Formal::Means(Meaning::Nothing) => no_value = true,
-            Formal::Circle => circle = true,
-            Formal::Means(meaning) => {
-                circle = circle || is_actual(actual) && needs.is_on_meaning_circle(meaning);
-            }
-            Formal::Unknown | Formal::Begun => {}
-        }
-        if is_actual(actual) {
-            let judged = judge_value(alloc, scene, needs, spot, actual)?;
-            no_value = no_value || judged.no_value;
-            next = next || judged.next;
-        }
+        let one = judge_actual(alloc, scene, needs, spot, inner, formal, actual)?;
+        judged = judged.joined(one);
     }
-    Ok(if no_value {
-        Some(Rule::NoSuchName)
-    } else if circle {
-        Some(Rule::DefineLoop)
-    } else if next {
-        Some(Rule::NextHere)
-    } else {
-        None
+    Ok(judged)
+}
+
+/// What is wrong with the actual of a formal. A plain name is judged by what is known of the formal, any
+/// other one has a definition of its own.
+fn judge_actual(
+    alloc: Global,
+    scene: &Scene<'_>,
+    needs: &Needs,
+    spot: usize,
+    inner: usize,
+    formal: usize,
+    actual: &Expr<Dotted>,
+) -> Result<JudgedActual, OutOfMemory>
+    requires scene { IsScene scene.now }
+    requires needs { AreNeeds (program_of scene.now) needs.now }
+    ensures { IfOk result (JudgesActual (program_of scene.now) spot inner formal (tree_of actual.now)) }
+{
+    let known = scene.formal(inner, formal);
+    if is_plain(actual) {
+        return Ok(JudgedActual {
+            no_value: is_nothing(known),
+            circle: is_circle(known),
+            next: false,
+        });
+    }
+    let judged = judge_value(alloc, scene, needs, spot, actual)?;
+    Ok(JudgedActual {
+        no_value: judged.no_value,
+        circle: needs.is_on_formal_circle(known),
+        next: judged.next,
     })
 }
 
-/// Whether an actual is more than a plain name, so that it has a definition of its own.
-fn is_actual(value: &Expr<Dotted>) -> bool {
+impl JudgedActual {
+    /// What is wrong with one or with the other.
+    fn joined(self, other: JudgedActual) -> JudgedActual
+        ensures { result ≡ joined_actual self other }
+    {
+        JudgedActual {
+            no_value: self.no_value || other.no_value,
+            circle: self.circle || other.circle,
+            next: self.next || other.next,
+        }
+    }
+}
+
+/// Whether an actual is a name alone, so that it has no definition of its own.
+fn is_plain(value: &Expr<Dotted>) -> bool
+    ensures { result ≡ is_some (plain_name (tree_of value.now)) }
+{
     match value {
-        Expr::Leaf(_) => false,
-        _ => true,
+        Expr::Leaf(_) => true,
+        _ => false,
+    }
+}
+
+/// Whether a formal means nothing.
+fn is_nothing(known: Formal) -> bool
+    ensures { result ≡ is_nothing_known known }
+{
+    match known {
+        Formal::Means(Meaning::Nothing) => true,
+        _ => false,
+    }
+}
+
+/// Whether a formal comes back to itself.
+fn is_circle(known: Formal) -> bool
+    ensures { result ≡ is_circle_known known }
+{
+    match known {
+        Formal::Circle => true,
+        _ => false,
     }
 }
 
@@ -288,25 +569,75 @@ pub(crate) fn judge_value(
     ensures judged { (at : FlatInstance) → slice_get (instances_of (program_of scene.now)) spot ≡ Some at → IfOk result (IsJudged (program_of scene.now) at.place (tree_of value.now)) }
 {
     let uses = Uses::of_value(alloc, value)?;
+    Ok(judge_names(
+        scene,
+        needs,
+        spot,
+        uses.names.as_slice(),
+        uses.has_next,
+        uses.nested_next,
+    ))
+}
+
+/// What is wrong with a value that has these names, and that has `next`, also under another, or not.
+fn judge_names(
+    scene: &Scene<'_>,
+    needs: &Needs,
+    spot: usize,
+    names: &[Use<'_>],
+    next: bool,
+    nested_next: bool,
+) -> Judged
+    requires scene { IsScene scene.now }
+    requires needs { AreNeeds (program_of scene.now) needs.now }
+    ensures { AreJudged (program_of scene.now) spot names.now next nested_next result }
+{
     let mut judged = Judged {
         no_value: false,
-        next: uses.has_next,
-        nested_next: uses.nested_next,
+        next,
+        nested_next,
         input: false,
         next_input: false,
     };
-    for each in uses.names.as_slice() {
-        let meaning = scene.meaning(spot, each.name());
-        let input = needs.is_input(meaning);
-        judged.no_value = judged.no_value || is_no_value(meaning);
-        judged.input = judged.input || input;
-        judged.next_input = judged.next_input || input && each.is_next();
+    for each in names {
+        judged = judged.with_name(scene, needs, spot, each);
     }
-    Ok(judged)
+    judged
+}
+
+impl Judged {
+    /// The value judged by one name more.
+    fn with_name(self, scene: &Scene<'_>, needs: &Needs, spot: usize, each: &Use<'_>) -> Judged
+        requires scene { IsScene scene.now }
+        requires needs { AreNeeds (program_of scene.now) needs.now }
+        ensures { (us : List (Path × Bool)) (next nested : Bool) → AreJudged (program_of scene.now) spot us next nested self → AreJudged (program_of scene.now) spot (us ++ each.now ∷ []) next nested result }
+    {
+        let meaning = scene.meaning(spot, each.name());
+        self.with_flags(
+            is_no_value(meaning),
+            needs.is_input(meaning),
+            each.is_next(),
+        )
+    }
+
+    /// The value judged by a name that has no value or has one, and that gives an input or not, under `next` or not.
+    fn with_flags(self, no_value: bool, input: bool, next: bool) -> Judged
+        ensures { result ≡ with_flags self no_value input next }
+    {
+        Judged {
+            no_value: self.no_value || no_value,
+            next: self.next,
+            nested_next: self.nested_next,
+            input: self.input || input,
+            next_input: self.next_input || input && next,
+        }
+    }
 }
 
 /// Whether a name with this meaning has no value. A name that meets a loop is not judged.
-fn is_no_value(meaning: Meaning) -> bool {
+fn is_no_value(meaning: Meaning) -> bool
+    ensures { result ≡ is_without_value meaning }
+{
     match meaning {
         Meaning::Nothing | Meaning::Instance(_) => true,
         _ => false,
@@ -315,29 +646,55 @@ fn is_no_value(meaning: Meaning) -> bool {
 
 impl Needs {
     /// Whether a meaning is a definition that is needed by itself.
-    fn is_on_meaning_circle(&self, meaning: Meaning) -> bool {
+    fn is_on_meaning_circle(&self, meaning: Meaning) -> bool
+        ensures { result ≡ is_circle_found self.now meaning }
+    {
         match meaning {
-            Meaning::Definition(definition) => self.is_on_circle(definition),
+            Meaning::Definition(definition) => is_marked(self.on_circle.as_slice(), definition),
+            _ => false,
+        }
+    }
+
+    /// Whether a formal means a definition that is needed by itself.
+    fn is_on_formal_circle(&self, known: Formal) -> bool
+        ensures { result ≡ is_circle_meant self.now known }
+    {
+        match known {
+            Formal::Means(meaning) => self.is_on_meaning_circle(meaning),
             _ => false,
         }
     }
 
     /// Whether a meaning is an input, or a definition that reads one.
-    fn is_input(&self, meaning: Meaning) -> bool {
+    fn is_input(&self, meaning: Meaning) -> bool
+        ensures { result ≡ is_input_found self.now meaning }
+    {
         match meaning {
             Meaning::Variable {
                 role: Role::Input,
                 ..
             } => true,
-            Meaning::Definition(definition) => self.is_reading_input(definition),
+            Meaning::Definition(definition) => is_marked(self.reads_input.as_slice(), definition),
             _ => false,
         }
     }
 }
 
+/// Whether the definition of a number is marked.
+fn is_marked(marks: &[bool], definition: usize) -> bool
+    ensures { result ≡ mark_at marks.now definition }
+{
+    match marks.get(definition) {
+        Some(mark) => *mark,
+        None => false,
+    }
+}
+
 impl Scene<'_> {
     /// What a name of an instance's own module declares or defines there; a formal is nothing of its own.
-    fn local_meaning(&self, spot: usize, name: &Name) -> Meaning {
+    fn local_meaning(&self, spot: usize, name: &Name) -> Meaning
+        ensures { result ≡ local_meant self.now spot name.now }
+    {
         match self.local(spot, name) {
             Some(Local::Item(place)) => self.own(spot, place),
             _ => Meaning::Nothing,
