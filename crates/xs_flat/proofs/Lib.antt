@@ -11,3 +11,4 @@ pub mod NamesLaws
 pub mod PassedOn
 pub mod ModuleFaults
 pub mod ReadLaws
+pub mod FoundModule
