@@ -12,3 +12,5 @@ pub mod PassedOn
 pub mod ModuleFaults
 pub mod ReadLaws
 pub mod FoundModule
+pub mod PathLaws
+pub mod PlaceLaws

@@ -13,3 +13,4 @@ pub mod Walked
 pub mod Judging
 pub mod Flagged
 pub mod Reading
+pub mod Walking
