@@ -64,3 +64,6 @@ pub mod JudgeTargets
 pub mod JudgeAssignments
 pub mod JudgeTold
 pub mod JudgeInstances
+pub mod FoundModule
+pub mod PathLaws
+pub mod PlaceLaws

@@ -28,3 +28,4 @@ pub mod Laid
 pub mod Asked
 pub mod Verdicts
 pub mod Assigned
+pub mod Walking

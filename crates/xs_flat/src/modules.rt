@@ -68,8 +68,10 @@ impl<'a> Modules<'a> {
         requires { AreModules self.now }
         ensures { IsFirstModule self.now name.now result }
     {
-        let place = *self.places.get(name.text())?;
-        Some((place, self.list.get(place)?))
+        match self.places.get(name.text()) {
+            Some(place) => Some((*place, &self.list[*place])),
+            None => None,
+        }
     }
 
     /// Adds a module whose header comes after the item `last`; the answer is the module's last item.

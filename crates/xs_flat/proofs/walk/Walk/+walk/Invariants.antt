@@ -1,13 +1,19 @@
--- The levels that may still be entered go down from an instance to those inside it.
-use Rattle.std.proofs.Common.{◌+◌, ◌*◌}
+-- The modules that the walk isn't in yet go down from an instance to those inside it.
+use Rattle.std.proofs.Common.{◌≡◌, ◌+◌, ◌-◌, ◌*◌, length, map, take, drop}
 use Rattle.xs_flat.specs.Closed.{AreVariables}
 use Rattle.xs_flat.proofs.walk.Walk.+walk.Given as goal
 
 abbrev pub decreases-enter : goal.decreases-enter
-decreases-enter l = 2 * l.left + 1
+decreases-enter l = 5 * (length l.modules.now.list.items - length l.self.now.inside.items)
+
+abbrev pub decreases-add_instance : goal.decreases-add_instance
+decreases-add_instance l = 5 * (length l.modules.now.list.items - length l.self.now.inside.items) + 1
+
+abbrev pub decreases-declare : goal.decreases-declare
+decreases-declare l = 5 * (length l.modules.now.list.items - length l.self.now.inside.items) + 2
 
 abbrev pub decreases-meet : goal.decreases-meet
-decreases-meet l = 2 * l.standing.left
+decreases-meet l = 5 * (length l.modules.now.list.items - length l.self.now.inside.items) + 3
 
-abbrev pub invariant-enter-loop-numbered : goal.invariant-enter-loop-numbered
-invariant-enter-loop-numbered l = AreVariables l.self.variables
+abbrev pub decreases-go_through : goal.decreases-go_through
+decreases-go_through l = 5 * (length l.modules.now.list.items - length l.self.now.inside.items) + 4
