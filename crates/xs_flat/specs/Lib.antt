@@ -22,9 +22,6 @@ pub mod Spreads
 pub mod Laying
 pub mod Naming
 pub mod ResolverOf
-pub mod Steps
-pub mod Known
-pub mod Laid
 pub mod Asked
 pub mod Verdicts
 pub mod Assigned
