@@ -14,3 +14,7 @@ pub mod ReadLaws
 pub mod FoundModule
 pub mod PathLaws
 pub mod PlaceLaws
+pub mod WalkLaws
+pub mod GoneLaws
+pub mod EnterLaws
+pub mod MetLaws

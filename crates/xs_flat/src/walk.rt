@@ -192,12 +192,7 @@ impl<'a> Walk<'a> {
                 };
                 self.declare(alloc, modules, declaring)
             }
-            Item::Defined(_)
-            | Item::Assigned(_)
-            | Item::Constants(_)
-            | Item::Init(_)
-            | Item::Invar(_)
-            | Item::Trans(_) => Ok(Meaning::Nothing),
+            _ => Ok(Meaning::Nothing),
         }
     }
 
