@@ -87,8 +87,14 @@ module _ (ms : Modules) (known : AreModules ms) (w0 : Walk) (spot : Spot) (entry
   -- the path is shorter than the list of modules
   pub deeper : length w0.inside.items < length ms.list.items
   deeper =
-      omega (arith, few, length-reverse (texts w0.inside.items), length-map w0.inside.items (λ (k : Bor (List ℕ)). k.now),
-        both_length HasNames (modules_of (program_in ms)) ms.list.items known.list, modules_count 1 [] (program_in ms))
+      omega (
+        arith,
+        few,
+        length-reverse (texts w0.inside.items),
+        length-map w0.inside.items (λ (k : Bor (List ℕ)). k.now),
+        both_length HasNames (modules_of (program_in ms)) ms.list.items known.list,
+        modules_count 1 [] (program_in ms),
+      )
 
   module _ (w1 : Walk) (key : Bor (List ℕ)) (spots : w1.spots.items ≡ w0.spots.items ++ spot ∷ []) (inside : w1.inside.items ≡ w0.inside.items ++ key ∷ []) (key_is : key.now ≡ name)
       (variables : w1.variables ≡ w0.variables) where
@@ -153,7 +159,7 @@ module _ (ms : Modules) (known : AreModules ms) (w0 : Walk) (spot : Spot) (entry
         names = entry.names;
         is = entry.is;
         caller = subst (λ (calls : List Call). IsCaller calls (place_of spot.path) spot.caller) (sym calls_more)
-          (caller_stays (calls_of ms w0) (call_of ms spot ∷ map (call_of ms) walked.more) [] [] (place_of spot.path) spot.caller entry.caller);
+            (caller_stays (calls_of ms w0) (call_of ms spot ∷ map (call_of ms) walked.more) [] [] (place_of spot.path) spot.caller entry.caller);
         own = own_items;
       }
 
@@ -163,9 +169,11 @@ module _ (ms : Modules) (known : AreModules ms) (w0 : Walk) (spot : Spot) (entry
         walked = record {
           more = own_of spot own ∷ walked.more;
           spots = spots_left;
-          done = (spot_left,
+          done = (
+            spot_left,
             subst (λ (calls : List Call). EachBoth (IsSpotOf ms calls (variables_of_walk w3)) (calls_in (visits_within ms w0 spot)) walked.more) (sym calls_left)
-            (subst (λ (vars : List FlatVariable). EachBoth (IsSpotOf ms (calls_of ms w2) vars) (calls_in (visits_within ms w0 spot)) walked.more) (sym variables_left) walked.done));
+                (subst (λ (vars : List FlatVariable). EachBoth (IsSpotOf ms (calls_of ms w2) vars) (calls_in (visits_within ms w0 spot)) walked.more) (sym variables_left) walked.done),
+          );
           added = walked.added;
           variables = variables' ∙ walked.variables ∙ ap (λ xs. xs ++ walked.added) variables;
           declared = subst (λ (calls : List Call). EachBoth (IsDeclaredIn calls) (variables_in (visits_within ms w0 spot)) (map variable_tree walked.added)) (sym calls_left) walked.declared;

@@ -49,13 +49,13 @@ module _ (ms : Modules) (w0 : Walk) (spot : ℕ) (standing : IsStanding ms w0 sp
     told_left : told_from ms w1 (visits_here ms w0 spot (map numbered_tree (drop k items)))
         ≡ told_first (told_from ms w1 (visits_at ms w1 spot here))
         (visits_told (program_in ms) (length w1.spots.items + length (calls_in (visits_at ms w0 spot here))) (length w1.variables + length (variables_in (visits_at ms w0 spot here)))
-          (visits_here ms w0 spot (map numbered_tree (drop (k + 1) items))))
+        (visits_here ms w0 spot (map numbered_tree (drop (k + 1) items))))
     told_left =
         ap (told_from ms w1) visits_left
         ∙ told_join (program_in ms) (length w1.spots.items) (length w1.variables) (visits_at ms w0 spot here) (visits_here ms w0 spot (map numbered_tree (drop (k + 1) items)))
         ∙ ap (λ vs. told_first (told_from ms w1 vs)
-            (visits_told (program_in ms) (length w1.spots.items + length (calls_in (visits_at ms w0 spot here))) (length w1.variables + length (variables_in (visits_at ms w0 spot here)))
-              (visits_here ms w0 spot (map numbered_tree (drop (k + 1) items)))))
+        (visits_told (program_in ms) (length w1.spots.items + length (calls_in (visits_at ms w0 spot here))) (length w1.variables + length (variables_in (visits_at ms w0 spot here)))
+        (visits_here ms w0 spot (map numbered_tree (drop (k + 1) items)))))
         (sym (same_visits (calls_in (visits_here ms w0 spot before)) (visits_here ms w0 spot before) w1 here far.gone.walked))
 
     pub gone_fault : (f : FlatFault) → IsTold (told_from ms w1 (visits_at ms w1 spot here)) f → IsTold (told_from ms w0 (visits_here ms w0 spot (map numbered_tree items))) f
@@ -85,8 +85,8 @@ module _ (ms : Modules) (w0 : Walk) (spot : ℕ) (standing : IsStanding ms w0 sp
       own_before =
           both_more (Owns w1) (Owns w2) before meanings
           (λ i g o. subst (λ (calls : List Call). IsOwnIn calls (variables_of_walk w2) (place_at w0 spot) i.1 g) (sym (calls_grow ms w1 w2 _ _ stepped))
-            (subst (λ (vars : List FlatVariable). IsOwnIn (calls_of ms w1 ++ map (call_of ms) stepped.more) vars (place_at w0 spot) i.1 g) (sym (variables_grow ms w1 w2 _ _ stepped))
-            (own_stays (calls_of ms w1) (map (call_of ms) stepped.more) (variables_of_walk w1) (map variable_tree stepped.added) (place_at w0 spot) i.1 g o)))
+          (subst (λ (vars : List FlatVariable). IsOwnIn (calls_of ms w1 ++ map (call_of ms) stepped.more) vars (place_at w0 spot) i.1 g) (sym (variables_grow ms w1 w2 _ _ stepped))
+          (own_stays (calls_of ms w1) (map (call_of ms) stepped.more) (variables_of_walk w1) (map variable_tree stepped.added) (place_at w0 spot) i.1 g o)))
           far.gone.own
 
       own_here : Owns w2 here f

@@ -18,3 +18,5 @@ pub mod WalkLaws
 pub mod GoneLaws
 pub mod EnterLaws
 pub mod MetLaws
+pub mod VisitFaults
+pub mod WholeLaws

@@ -38,7 +38,7 @@ use Rattle.xs_flat.proofs.ReadingLaws.{told_as, told_here, told_later, none_firs
 use Rattle.xs_flat.proofs.WalkLaws.{walked_none}
 
 -- An instance.
-calls_met : (ms : Modules) (calls : List Call) (vars : List FlatVariable) (cs : List Call) (spots : List Spot) → EachBoth (IsSpotOf ms calls vars) cs spots → map (call_of ms) spots ≡ cs
+pub calls_met : (ms : Modules) (calls : List Call) (vars : List FlatVariable) (cs : List Call) (spots : List Spot) → EachBoth (IsSpotOf ms calls vars) cs spots → map (call_of ms) spots ≡ cs
 calls_met ms calls vars [] [] h = refl
 calls_met ms calls vars [] (s ∷ spots) h = absurd h
 calls_met ms calls vars (c ∷ cs) [] h = absurd h
@@ -96,12 +96,12 @@ module _ (ms : Modules) (w0 : Walk) (spot n : ℕ) (role : Role) (x m : Text) (a
             means = refl;
             call = call_of ms inner;
             is = ap (slice_get (calls_of ms w1)) count ∙ ap (λ cs. slice_get cs (length (calls_of ms w0))) calls_more
-              ∙ get_here (calls_of ms w0) (call_of ms inner) (calls_in (visits_within ms w0 inner));
+                ∙ get_here (calls_of ms w0) (call_of ms inner) (calls_in (visits_within ms w0 inner));
             place = ap (λ (c : Call). c.place) handed;
           };
         }
 
-get_mapped : {A B : Type 0} (f : A → B) (xs : List A) (k : ℕ) (x : A) → slice_get xs k ≡ Some x → slice_get (map f xs) k ≡ Some (f x)
+pub get_mapped : {A B : Type 0} (f : A → B) (xs : List A) (k : ℕ) (x : A) → slice_get xs k ≡ Some x → slice_get (map f xs) k ≡ Some (f x)
 get_mapped f [] k x e = cc
 get_mapped f (y ∷ xs) zero x e = let same : y ≡ x = cc in ap (λ z. Some (f z)) same
 get_mapped f (y ∷ xs) (suc k) x e = get_mapped f xs k x e
@@ -116,10 +116,11 @@ module _ (ms : Modules) (w0 : Walk) (spot n : ℕ) (word : RoleWord) (x : Text) 
 
   spot_there : (c : Call) × (slice_get (calls_of ms w1) added.«instance» ≡ Some c) × (c.place ≡ place_at w0 spot)
   spot_there =
-      let s : (s : Spot) × (slice_get w0.spots.items spot ≡ Some s) = get_within w0.spots.items spot within in
-      (call_of ms s.0,
+      let s : (s : Spot) × (slice_get w0.spots.items spot ≡ Some s) = get_within w0.spots.items spot within in (
+        call_of ms s.0,
         ap (slice_get (calls_of ms w1)) instance_is ∙ ap (λ ss. slice_get (map (call_of ms) ss) spot) spots ∙ get_mapped (call_of ms) w0.spots.items spot s.0 s.1,
-        sym (ap place_of_spot s.1))
+        sym (ap place_of_spot s.1),
+      )
 
   plain_declared : (what : DeclaredTree) → (variable_tree added).declared ≡ what → IsDeclaredIn (calls_of ms w1) (plain_visit what) (variable_tree added)
   plain_declared what e = record { place = place; name = name; role = role_is; declared = e; item = item_is; at = spot_there.0; is = spot_there.1; at_place = spot_there.2 }
@@ -144,8 +145,8 @@ module _ (ms : Modules) (w0 : Walk) (spot n : ℕ) (word : RoleWord) (x : Text) 
         means = refl;
         variable = variable_tree added;
         is = ap (slice_get (variables_of_walk w1)) last
-          ∙ ap (λ vs. slice_get vs (length (variables_of_walk w0))) (ap (map variable_tree) variables ∙ map-append variable_tree w0.variables (added ∷ []))
-          ∙ get_here (variables_of_walk w0) (variable_tree added) [];
+            ∙ ap (λ vs. slice_get vs (length (variables_of_walk w0))) (ap (map variable_tree) variables ∙ map-append variable_tree w0.variables (added ∷ []))
+            ∙ get_here (variables_of_walk w0) (variable_tree added) [];
         place = place;
         name = name;
         role_is = role_is;
@@ -235,4 +236,4 @@ module _ (ms : Modules) (w0 : Walk) (x m : Text) (inner : Spot) (standing : IsSt
       ap (λ (t : DeclaredTree). told_from ms w0 (visits_at ms w0 inner.caller (n, a_declaration role (record { name = x; what = t })))) e
       ∙ instance_told_first ms w0 inner.caller n role x m (map tree_of inner.actuals.now) at_module.fresh inner handed_is
       ∙ ap (λ k. told_first (instance_told (program_in ms) (on_path_of w0) (length w0.spots.items) n m k)
-        (visits_told (program_in ms) (suc (length w0.spots.items)) (length w0.variables) (visits_within ms w0 inner))) (sym counted)
+      (visits_told (program_in ms) (suc (length w0.spots.items)) (length w0.variables) (visits_within ms w0 inner))) (sym counted)

@@ -91,7 +91,7 @@ module _ (calls cs : List Call) (vars vs : List FlatVariable) where
     is = h.is;
     caller = caller_stays c.place spot.caller h.caller;
     own = both_more (λ (i : NumberedItem). IsOwnIn calls vars c.place i.item) (λ (i : NumberedItem). IsOwnIn (calls ++ cs) (vars ++ vs) c.place i.item)
-      (items_named (program_in ms) c.module_name) spot.own.items (λ (i : NumberedItem) f. own_stays c.place i.item f) h.own;
+        (items_named (program_in ms) c.module_name) spot.own.items (λ (i : NumberedItem) f. own_stays c.place i.item f) h.own;
   }
 
   declared_stays : (v : Visit) (x : FlatVariable) → IsDeclaredIn calls v x → IsDeclaredIn (calls ++ cs) v x
@@ -153,19 +153,19 @@ walked_then ms w0 w1 w2 cs cs' vs vs' h k = record {
   more = h.more ++ k.more;
   spots = k.spots ∙ ap (λ ss. ss ++ k.more) h.spots ∙ append_assoc w0.spots.items h.more k.more;
   done = both_join (IsSpotOf ms (calls_of ms w2) (variables_of_walk w2)) cs cs' h.more k.more
-    (both_more (IsSpotOf ms (calls_of ms w1) (variables_of_walk w1)) (IsSpotOf ms (calls_of ms w2) (variables_of_walk w2)) cs h.more
-    (λ c spot s. subst (λ (calls : List Call). IsSpotOf ms calls (variables_of_walk w2) c spot) (sym (calls_grow ms w1 w2 cs' vs' k))
+      (both_more (IsSpotOf ms (calls_of ms w1) (variables_of_walk w1)) (IsSpotOf ms (calls_of ms w2) (variables_of_walk w2)) cs h.more
+      (λ c spot s. subst (λ (calls : List Call). IsSpotOf ms calls (variables_of_walk w2) c spot) (sym (calls_grow ms w1 w2 cs' vs' k))
       (subst (λ (vars : List FlatVariable). IsSpotOf ms (calls_of ms w1 ++ map (call_of ms) k.more) vars c spot) (sym (variables_grow ms w1 w2 cs' vs' k))
       (spot_stays (calls_of ms w1) (map (call_of ms) k.more) (variables_of_walk w1) (map variable_tree k.added) ms c spot s))) h.done)
-    k.done;
+      k.done;
   added = h.added ++ k.added;
   variables = k.variables ∙ ap (λ xs. xs ++ k.added) h.variables ∙ append_assoc w0.variables h.added k.added;
   declared = subst (λ (ws : List Visit). EachBoth (IsDeclaredIn (calls_of ms w2)) ws (map variable_tree (h.added ++ k.added))) (sym (flat_join (λ v. variable_declared v v.decl.what) vs vs'))
-    (subst (λ (xs : List FlatVariable). EachBoth (IsDeclaredIn (calls_of ms w2)) (variables_in vs ++ variables_in vs') xs) (sym (map-append variable_tree h.added k.added))
-    (both_join (IsDeclaredIn (calls_of ms w2)) (variables_in vs) (variables_in vs') (map variable_tree h.added) (map variable_tree k.added)
-    (both_more (IsDeclaredIn (calls_of ms w1)) (IsDeclaredIn (calls_of ms w2)) (variables_in vs) (map variable_tree h.added)
-    (λ v x d. subst (λ (calls : List Call). IsDeclaredIn calls v x) (sym (calls_grow ms w1 w2 cs' vs' k)) (declared_stays (calls_of ms w1) (map (call_of ms) k.more) (variables_of_walk w1) (map variable_tree k.added) v x d)) h.declared)
-    k.declared));
+      (subst (λ (xs : List FlatVariable). EachBoth (IsDeclaredIn (calls_of ms w2)) (variables_in vs ++ variables_in vs') xs) (sym (map-append variable_tree h.added k.added))
+      (both_join (IsDeclaredIn (calls_of ms w2)) (variables_in vs) (variables_in vs') (map variable_tree h.added) (map variable_tree k.added)
+      (both_more (IsDeclaredIn (calls_of ms w1)) (IsDeclaredIn (calls_of ms w2)) (variables_in vs) (map variable_tree h.added)
+      (λ v x d. subst (λ (calls : List Call). IsDeclaredIn calls v x) (sym (calls_grow ms w1 w2 cs' vs' k)) (declared_stays (calls_of ms w1) (map (call_of ms) k.more) (variables_of_walk w1) (map variable_tree k.added) v x d)) h.declared)
+      k.declared));
   inside = k.inside ∙ h.inside;
 }
 
@@ -182,14 +182,14 @@ told_join p i k [] ws =
     ap (λ n. visits_told p n k ws) no_more ∙ ap (λ n. visits_told p (i + 0) n ws) none
 told_join p i k (v ∷ vs) ws =
     let more : (i + length (calls_declared (v.decl.name ∷ v.place) v.decl.what)) + length (calls_in vs) ≡ i + length (calls_in (v ∷ vs)) =
-        omega (arith, length-append (calls_declared (v.decl.name ∷ v.place) v.decl.what) (calls_in vs)) in
+    omega (arith, length-append (calls_declared (v.decl.name ∷ v.place) v.decl.what) (calls_in vs)) in
     let count : (k + length (variable_declared v v.decl.what)) + length (variables_in vs) ≡ k + length (variables_in (v ∷ vs)) =
-        omega (arith, length-append (variable_declared v v.decl.what) (variables_in vs)) in
+    omega (arith, length-append (variable_declared v v.decl.what) (variables_in vs)) in
     ap (told_first (visit_told p i k v))
     (told_join p (i + length (calls_declared (v.decl.name ∷ v.place) v.decl.what)) (k + length (variable_declared v v.decl.what)) vs ws
     ∙ ap (λ n. told_first (visits_told p (i + length (calls_declared (v.decl.name ∷ v.place) v.decl.what)) (k + length (variable_declared v v.decl.what)) vs)
-        (visits_told p n ((k + length (variable_declared v v.decl.what)) + length (variables_in vs)) ws)) more
+    (visits_told p n ((k + length (variable_declared v v.decl.what)) + length (variables_in vs)) ws)) more
     ∙ ap (λ n. told_first (visits_told p (i + length (calls_declared (v.decl.name ∷ v.place) v.decl.what)) (k + length (variable_declared v v.decl.what)) vs)
-        (visits_told p (i + length (calls_in (v ∷ vs))) n ws)) count)
+    (visits_told p (i + length (calls_in (v ∷ vs))) n ws)) count)
     ∙ told_more (visit_told p i k v) (visits_told p (i + length (calls_declared (v.decl.name ∷ v.place) v.decl.what)) (k + length (variable_declared v v.decl.what)) vs)
     (visits_told p (i + length (calls_in (v ∷ vs))) (k + length (variables_in (v ∷ vs))) ws)

@@ -44,9 +44,9 @@ add_instance-returns-in_err-enter-clause-fault t c =
     let m : Text = c.args.name.now in
     let inner : Spot = record { «module» = c.in_ok-module.module; caller = c.args.declaring.spot; path = Some c.in_ok-path.path; actuals = c.as_slice.result; own = c.new.result } in
     let what : declared_tree c.args.declaring.decl.now.what ≡ instance m (map tree_of c.as_slice.result.now) =
-        ap declared_tree c.requires.declared ∙ ap (λ (es : List (Expr Path)). instance m (map tree_of es)) (sym c.as_slice.ensures) in
+    ap declared_tree c.requires.declared ∙ ap (λ (es : List (Expr Path)). instance m (map tree_of es)) (sym c.as_slice.ensures) in
     let count : c.len.result ≡ length (map tree_of c.as_slice.result.now) =
-        c.len.ensures ∙ ap length (sym c.as_slice.ensures) ∙ sym (length-map c.as_slice.result.now tree_of) in
+    c.len.ensures ∙ ap length (sym c.as_slice.ensures) ∙ sym (length-map c.as_slice.result.now tree_of) in
     let f = c.in_err-enter.field-0.0 in
     passed_on (IsTold (told_from ms w0 (visits_at ms w0 c.args.declaring.spot (declared_item c.args.declaring)))) c.from_residual-in_err-enter.result f c.from_residual-in_err-enter.ensures.1
     (told_as _ _ f
@@ -62,7 +62,7 @@ add_instance-returns-clause-met t c =
     let m : Text = c.args.name.now in
     let inner : Spot = record { «module» = c.in_ok-module.module; caller = c.args.declaring.spot; path = Some c.in_ok-path.path; actuals = c.as_slice.result; own = c.new.result } in
     let what : declared_tree c.args.declaring.decl.now.what ≡ instance m (map tree_of c.as_slice.result.now) =
-        ap declared_tree c.requires.declared ∙ ap (λ (es : List (Expr Path)). instance m (map tree_of es)) (sym c.as_slice.ensures) in
+    ap declared_tree c.requires.declared ∙ ap (λ (es : List (Expr Path)). instance m (map tree_of es)) (sym c.as_slice.ensures) in
     met_inner ms w0 x m inner c.requires.standing c.in_ok-module.ensures.found c.in_ok-path.ensures c.args.declaring.item (role_of c.args.declaring.role) (declared_tree c.args.declaring.decl.now.what) what
     c.enter.new.self c.in_ok-enter.field-0 c.in_ok-enter.ensures.entered
 
@@ -74,9 +74,9 @@ add_instance-returns-clause-kept t c =
     let m : Text = c.args.name.now in
     let inner : Spot = record { «module» = c.in_ok-module.module; caller = c.args.declaring.spot; path = Some c.in_ok-path.path; actuals = c.as_slice.result; own = c.new.result } in
     let what : declared_tree c.args.declaring.decl.now.what ≡ instance m (map tree_of c.as_slice.result.now) =
-        ap declared_tree c.requires.declared ∙ ap (λ (es : List (Expr Path)). instance m (map tree_of es)) (sym c.as_slice.ensures) in
+    ap declared_tree c.requires.declared ∙ ap (λ (es : List (Expr Path)). instance m (map tree_of es)) (sym c.as_slice.ensures) in
     let count : c.len.result ≡ length (map tree_of c.as_slice.result.now) =
-        c.len.ensures ∙ ap length (sym c.as_slice.ensures) ∙ sym (length-map c.as_slice.result.now tree_of) in
+    c.len.ensures ∙ ap length (sym c.as_slice.ensures) ∙ sym (length-map c.as_slice.result.now tree_of) in
     told_inner ms w0 x m inner c.requires.standing c.in_ok-module.ensures.found c.in_ok-path.ensures c.args.declaring.item (role_of c.args.declaring.role) (declared_tree c.args.declaring.decl.now.what) what c.len.result count
     ∙ none_first (instance_told (program_in ms) (on_path_of w0) (length w0.spots.items) c.args.declaring.item m c.len.result)
     (visits_told (program_in ms) (suc (length w0.spots.items)) (length w0.variables) (visits_within ms w0 inner)) c.in_ok-module.ensures.kept
@@ -91,8 +91,8 @@ enter-go_through-requires t c =
     let listed : slice_get ms.list.items c.args.spot.«module» ≡ Some names = slice_get-get_or ms.list.items c.args.spot.«module» names less ∙ ap Some (sym c.index-names.ensures) in
     let count : c.len-number.result ≡ length c.args.self.now.spots.items = search rules in
     let standing : IsStanding ms w1 c.len-number.result =
-        stands_there ms c.requires.modules c.args.self.now c.args.spot c.requires.entry names listed w1 _ c.in_ok-push.ensures.items c.in_ok-push-2.ensures.items
-        (name_is ms c.requires.modules c.args.self.now c.args.spot c.requires.entry names listed) refl c.len-number.result count c.as_slice.result.now c.as_slice.ensures.value in
+    stands_there ms c.requires.modules c.args.self.now c.args.spot c.requires.entry names listed w1 _ c.in_ok-push.ensures.items c.in_ok-push-2.ensures.items
+    (name_is ms c.requires.modules c.args.self.now c.args.spot c.requires.entry names listed) refl c.len-number.result count c.as_slice.result.now c.as_slice.ensures.value in
     let deep : length c.args.self.now.inside.items < length ms.list.items = deeper ms c.requires.modules c.args.self.now c.args.spot c.requires.entry names listed in
     let longer : length c.push-2.new.self.items ≡ length c.args.self.now.inside.items + 1 = ap length c.in_ok-push-2.ensures.items ∙ length-append c.args.self.now.inside.items _ in
     let smaller : 5 * (length ms.list.items - length c.push-2.new.self.items) + 4 < 5 * (length ms.list.items - length c.args.self.now.inside.items) = omega (arith, deep, longer) in
@@ -151,7 +151,7 @@ go_through-returns-in_err-meet-clause-fault t c =
     let same : d ≡ get_or items k d = search rules in
     let f = c.in_err-meet.field-0.0 in
     let told : IsTold (told_from c.args.modules.now w1 (visits_at c.args.modules.now w1 c.args.spot (numbered_tree (get_or items k d)))) f =
-        subst (λ (n : Numbered). IsTold (told_from c.args.modules.now w1 (visits_at c.args.modules.now w1 c.args.spot (numbered_tree n))) f) same c.in_err-meet.ensures.fault in
+    subst (λ (n : Numbered). IsTold (told_from c.args.modules.now w1 (visits_at c.args.modules.now w1 c.args.spot (numbered_tree n))) f) same c.in_err-meet.ensures.fault in
     passed_on (IsTold (told_from c.args.modules.now c.args.self.now (visits_here c.args.modules.now c.args.self.now c.args.spot (map numbered_tree items))))
     c.from_residual.result f c.from_residual.ensures.1
     (gone_fault c.args.modules.now c.args.self.now c.args.spot c.requires.standing items k d within w1 c.loop-numbered.own.items c.loop-numbered.invariant.far f told)
@@ -168,12 +168,12 @@ go_through-loop-numbered-preserved t c =
     let within : k < length items = search rules in
     let same : d ≡ get_or items k d = search rules in
     let met : HasMet ms w1 c.args.spot (numbered_tree (get_or items k d)) w2 f =
-        subst (λ (n : Numbered). HasMet ms w1 c.args.spot (numbered_tree n) w2 f) same c.in_ok-meet.ensures.met in
+    subst (λ (n : Numbered). HasMet ms w1 c.args.spot (numbered_tree n) w2 f) same c.in_ok-meet.ensures.met in
     let none : told_from ms w1 (visits_at ms w1 c.args.spot (numbered_tree (get_or items k d))) ≡ None =
-        ap (λ (n : Numbered). told_from ms w1 (visits_at ms w1 c.args.spot (numbered_tree n))) (sym same) ∙ c.in_ok-meet.ensures.kept in
+    ap (λ (n : Numbered). told_from ms w1 (visits_at ms w1 c.args.spot (numbered_tree n))) (sym same) ∙ c.in_ok-meet.ensures.kept in
     record {
       far = subst (λ (fs : List Found). GoneSoFar ms c.args.self.now c.args.spot items (k + 1) w2 fs) (sym c.in_ok-push.ensures.items)
-        (gone_more ms c.args.self.now c.args.spot c.requires.standing items k d within w1 c.loop-numbered.own.items c.loop-numbered.invariant.far w2 f met none);
+          (gone_more ms c.args.self.now c.args.spot c.requires.standing items k d within w1 c.loop-numbered.own.items c.loop-numbered.invariant.far w2 f met none);
       variables = c.in_ok-meet.ensures.variables;
     }
 
