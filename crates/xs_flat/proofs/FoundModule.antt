@@ -1,5 +1,5 @@
 -- The place that the table of modules has for a name is that of the first module of the name.
-use Rattle.std.proofs.Common.{◌≡◌, ℕ, zero, suc, ◌+◌, ◌<◌, arith, Bool, true, false, List, [], ◌∷◌, ◌++◌, length, Option, Some, None, if◌then◌else◌, refl, ap, ◌∙◌, sym, subst}
+use Rattle.std.proofs.Common.{◌≡◌, ℕ, zero, suc, ◌+◌, ◌<◌, arith, Bool, true, false, List, [], ◌∷◌, ◌++◌, length, Option, Some, None, if◌then◌else◌, codes, refl, ap, ◌∙◌, sym, subst}
 use Rattle.std.specs.Prelude.{slice_get}
 use Rattle.indexmap.specs.IndexMap.{get_by}
 use Rattle.std.specs.Borrow.{Bor}
@@ -13,7 +13,7 @@ use Rattle.xs_flat.specs.declared.modules.Names.{Names}
 use Rattle.xs_flat.specs.declared.modules.Modules.{Modules}
 use Rattle.xs_flat.specs.FoundAt.{entry_of}
 use Rattle.xs_flat.specs.Reading.{IsModuleAt}
-use Rattle.xs_flat.specs.SceneTree.{AreModules, HasNames, named, module_entries}
+use Rattle.xs_flat.specs.SceneTree.{AreModules, HasNames, named, module_entries, module_from}
 use Rattle.xs_flat.proofs.MapLaws.{same_key, looked_up}
 
 -- a name without an entry has no module
@@ -78,7 +78,7 @@ module _ (ms : Modules) (known : AreModules ms) (k : Bor (List ℕ)) where
       let f : EntryFacts 0 place 1 [] (program_tree ms.program.now) k.now = facts o place e some in
       let at : f.steps ≡ place = omega (arith, f.away) in
       let both : (names : Names) × (slice_get ms.list.items f.steps ≡ Some names) × HasNames f.tree names =
-          both_at HasNames (modules_of (program_tree ms.program.now)) ms.list.items f.steps f.tree known.list f.is in
+      both_at HasNames (modules_of (program_tree ms.program.now)) ms.list.items f.steps f.tree known.list f.is in
       (both.0, sym (ap (λ i. slice_get ms.list.items i) at) ∙ both.1)
 
   pub found : (o : Option ℕ) (place : ℕ) (names : Names) → o ≡ get_by (same_key k) ms.places → o ≡ Some place → slice_get ms.list.items place ≡ Some names → IsModuleAt ms k.now place names
@@ -86,7 +86,7 @@ module _ (ms : Modules) (known : AreModules ms) (k : Bor (List ℕ)) where
       let f : EntryFacts 0 place 1 [] (program_tree ms.program.now) k.now = facts o place e some in
       let at : f.steps ≡ place = omega (arith, f.away) in
       let both : (names : Names) × (slice_get ms.list.items f.steps ≡ Some names) × HasNames f.tree names =
-          both_at HasNames (modules_of (program_tree ms.program.now)) ms.list.items f.steps f.tree known.list f.is in
+      both_at HasNames (modules_of (program_tree ms.program.now)) ms.list.items f.steps f.tree known.list f.is in
       let some_names : Some both.0 ≡ Some names = sym both.1 ∙ ap (λ i. slice_get ms.list.items i) at ∙ there in
       let same : both.0 ≡ names = cc in
       record {
@@ -102,3 +102,26 @@ pub get_less : {A : Type 0} (xs : List A) (i : ℕ) (x : A) → slice_get xs i �
 get_less [] i x e = cc
 get_less (y ∷ xs) zero x e = omega arith
 get_less (y ∷ xs) (suc i) x e = let h : i < length xs = get_less xs i x e in omega (arith, h)
+
+-- The module `main` stands at its place.
+place_entry : (k : ℕ) (p : ProgramTree) (x : Text) → entry_of (module_entries k p) x ≡ module_from k p x
+place_entry k [] x = refl
+place_entry k (m ∷ p) x = ap (λ o. if same_text m.name x then Some k else o) (place_entry (suc k) p x)
+
+pub main_at : (ms : Modules) → AreModules ms → (names : Names) × IsModuleAt ms (codes "main") ms.main names
+main_at ms known =
+    let f : EntryFacts 0 ms.main 1 [] (program_tree ms.program.now) (codes "main") =
+    entry_facts 0 ms.main 1 [] (program_tree ms.program.now) (codes "main") (place_entry 0 (program_tree ms.program.now) (codes "main") ∙ known.main) in
+    let at : f.steps ≡ ms.main = omega (arith, f.away) in
+    let both : (names : Names) × (slice_get ms.list.items f.steps ≡ Some names) × HasNames f.tree names =
+    both_at HasNames (modules_of (program_tree ms.program.now)) ms.list.items f.steps f.tree known.list f.is in (
+      both.0,
+      record {
+        tree = f.tree;
+        is = ap (λ i. slice_get (modules_of (program_tree ms.program.now)) i) (sym at) ∙ f.is;
+        named = f.found;
+        items = f.items;
+        has = both.2;
+        listed = sym (ap (λ i. slice_get ms.list.items i) at) ∙ both.1;
+      },
+    )

@@ -67,3 +67,9 @@ pub mod JudgeInstances
 pub mod FoundModule
 pub mod PathLaws
 pub mod PlaceLaws
+pub mod WalkLaws
+pub mod GoneLaws
+pub mod EnterLaws
+pub mod MetLaws
+pub mod VisitFaults
+pub mod WholeLaws

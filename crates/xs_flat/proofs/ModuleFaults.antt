@@ -67,7 +67,7 @@ item_step : (p : ProgramTree) (m : NumberedModule) (i : NumberedItem) (ss : List
 item_step p m i ss o true e h = here p (an_item m i) ss double_name i.number (item_lowest p m i e) refl
 item_step p m i ss o false e h = after_part p (an_item m i ∷ []) ss o (item_kept p m i (λ k. let bad : true ≡ false = sym k ∙ e in cc), tt) h
 
-flat_end : {A B : Type 0} (f : A → List B) (xs : List A) (x : A) → flat_map f (xs ++ x ∷ []) ≡ flat_map f xs ++ f x
+pub flat_end : {A B : Type 0} (f : A → List B) (xs : List A) (x : A) → flat_map f (xs ++ x ∷ []) ≡ flat_map f xs ++ f x
 flat_end f [] x = append-nil (f x)
 flat_end f (y ∷ xs) x = ap (λ zs. f y ++ zs) (flat_end f xs x) ∙ sym (append_assoc (f y) (flat_map f xs) (f x))
 

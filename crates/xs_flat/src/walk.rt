@@ -1,6 +1,6 @@
 //! The walk over the instances of a program, depth first by items.
 
-ghost use Rattle.std.specs.Prelude.{◌≡◌, ◌<◌, ◌-◌, suc, false, None, ◌∷◌, length, map, reverse, take, IfOk, IfErr, OnOk};
+ghost use Rattle.std.specs.Prelude.{◌≡◌, ◌<◌, ◌-◌, suc, false, None, [], ◌∷◌, length, map, reverse, take, IfOk, IfErr, OnOk};
 ghost use Rattle.xs_tree.specs.ProgramTree.{program_tree};
 ghost use Rattle.xs_tree.specs.Texts.{is_among};
 ghost use Rattle.xs_tree.specs.declared.program.Declared.TheVariants.{Instance};
@@ -67,6 +67,24 @@ struct Declaring<'a> {
     decl: &'a Decl,
 }
 
+impl<'a> Spot<'a> {
+    /// The instance of the module `main`, which stands at a place.
+    fn of_main(alloc: Global, place: usize) -> Spot<'a>
+        ensures place { result.module ≡ place }
+        ensures path { result.path ≡ None }
+        ensures actuals { result.actuals.now ≡ [] }
+        ensures own { result.own.items ≡ [] }
+    {
+        Spot {
+            module: place,
+            caller: 0,
+            path: None,
+            actuals: &[],
+            own: Vec::new(alloc),
+        }
+    }
+}
+
 impl<'a> Walk<'a> {
     /// All instances and variables of a program that breaks no rule from 5 to 7 and passes no limit.
     pub(crate) fn whole(alloc: Global, modules: &Modules<'a>) -> Result<Walk<'a>, FlatFault>
@@ -80,13 +98,7 @@ impl<'a> Walk<'a> {
             variables: Items::new(alloc),
             inside: Vec::new(alloc),
         };
-        let main = Spot {
-            module: modules.main,
-            caller: 0,
-            path: None,
-            actuals: &[],
-            own: Vec::new(alloc),
-        };
+        let main = Spot::of_main(alloc, modules.main);
         walk.enter(alloc, modules, main)?;
         Ok(walk)
     }
@@ -192,12 +204,7 @@ impl<'a> Walk<'a> {
                 };
                 self.declare(alloc, modules, declaring)
             }
-            Item::Defined(_)
-            | Item::Assigned(_)
-            | Item::Constants(_)
-            | Item::Init(_)
-            | Item::Invar(_)
-            | Item::Trans(_) => Ok(Meaning::Nothing),
+            _ => Ok(Meaning::Nothing),
         }
     }
 

@@ -12,17 +12,17 @@ use Rattle.xs_flat.proofs.modules.Modules.find.Goals as goal
 pub index-requires : goal.index-requires
 index-requires c =
     let there : (names : Names) × (slice_get c.args.self.now.list.items c.in-Some.place.now ≡ Some names) =
-        listed c.args.self.now c.requires c.text.result (Some c.in-Some.place.now) c.in-Some.place.now c.in-Some.ensures.value (search rules) in
+    listed c.args.self.now c.requires c.text.result (Some c.in-Some.place.now) c.in-Some.place.now c.in-Some.ensures.value (search rules) in
     let less : c.in-Some.place.now < length c.args.self.now.list.items = get_less c.args.self.now.list.items c.in-Some.place.now there.0 there.1 in
     search rules
 
 pub returns-in-Some : goal.returns-in-Some
 returns-in-Some c =
     let there : (names : Names) × (slice_get c.args.self.now.list.items c.in-Some.place.now ≡ Some names) =
-        listed c.args.self.now c.requires c.text.result (Some c.in-Some.place.now) c.in-Some.place.now c.in-Some.ensures.value (search rules) in
+    listed c.args.self.now c.requires c.text.result (Some c.in-Some.place.now) c.in-Some.place.now c.in-Some.ensures.value (search rules) in
     let less : c.in-Some.place.now < length c.args.self.now.list.items = get_less c.args.self.now.list.items c.in-Some.place.now there.0 there.1 in
     let here : slice_get c.args.self.now.list.items c.in-Some.place.now ≡ Some c.index.result.now =
-        slice_get-get_or c.args.self.now.list.items c.in-Some.place.now c.index.result.now less ∙ ap Some (sym c.index.ensures) in
+    slice_get-get_or c.args.self.now.list.items c.in-Some.place.now c.index.result.now less ∙ ap Some (sym c.index.ensures) in
     subst (λ (x : Text). IsModuleAt c.args.self.now x c.in-Some.place.now c.index.result.now) c.text.ensures
     (found c.args.self.now c.requires c.text.result (Some c.in-Some.place.now) c.in-Some.place.now c.index.result.now c.in-Some.ensures.value (search rules) here)
 

@@ -1,6 +1,7 @@
 -- The modules that the walk isn't in yet go down from an instance to those inside it.
 use Rattle.std.proofs.Common.{◌≡◌, ◌+◌, ◌-◌, ◌*◌, length, map, take, drop}
 use Rattle.xs_flat.specs.Closed.{AreVariables}
+use Rattle.xs_flat.proofs.GoneLaws.{GoneSoFar}
 use Rattle.xs_flat.proofs.walk.Walk.+walk.Given as goal
 
 abbrev pub decreases-enter : goal.decreases-enter
@@ -17,3 +18,9 @@ decreases-meet l = 5 * (length l.modules.now.list.items - length l.self.now.insi
 
 abbrev pub decreases-go_through : goal.decreases-go_through
 decreases-go_through l = 5 * (length l.modules.now.list.items - length l.self.now.inside.items) + 4
+
+abbrev pub invariant-go_through-loop-numbered : goal.invariant-go_through-loop-numbered
+invariant-go_through-loop-numbered l = record {
+  far : GoneSoFar l.modules l.initial.self l.spot l.items l.numbered-index l.self l.own.items;
+  variables : AreVariables l.self.variables;
+}

@@ -15,8 +15,8 @@ returns-then-is_same c =
     let within : k < length ks = search rules in
     let same : c.outer-item.result ≡ get_or ks k c.outer-item.result = search rules in
     let test : same_text (get_or ks k c.outer-item.result).now c.args.name.now ≡ true =
-        subst (λ (b : Bor (List ℕ)). same_text b.now c.args.name.now ≡ true) same
-        (same_test c.is_same.result c.outer-item.result.now c.args.name.now c.is_same.ensures ∙ c.if-is_same.true) in
+    subst (λ (b : Bor (List ℕ)). same_text b.now c.args.name.now ≡ true) same
+    (same_test c.is_same.result c.outer-item.result.now c.args.name.now c.is_same.ensures ∙ c.if-is_same.true) in
     sym (among_reverse (texts ks) c.args.name.now ∙ sym c.loop-outer.invariant ∙ outer_same ks k c.outer-item.result c.args.name.now within test)
 
 pub loop-outer-preserved : goal.loop-outer-preserved
@@ -26,8 +26,8 @@ loop-outer-preserved c =
     let within : k < length ks = search rules in
     let same : c.outer-item.result ≡ get_or ks k c.outer-item.result = search rules in
     let test : same_text (get_or ks k c.outer-item.result).now c.args.name.now ≡ false =
-        subst (λ (b : Bor (List ℕ)). same_text b.now c.args.name.now ≡ false) same
-        (same_test c.is_same.result c.outer-item.result.now c.args.name.now c.is_same.ensures ∙ c.if-is_same.false) in
+    subst (λ (b : Bor (List ℕ)). same_text b.now c.args.name.now ≡ false) same
+    (same_test c.is_same.result c.outer-item.result.now c.args.name.now c.is_same.ensures ∙ c.if-is_same.false) in
     outer_other ks k c.outer-item.result c.args.name.now within test ∙ c.loop-outer.invariant
 
 pub returns : goal.returns
