@@ -1,14 +1,13 @@
 -- The links of definitions by their numbers are what their expressions name.
-use Rattle.std.proofs.Common.{◌≡◌, ◌↔◌, ℕ, zero, suc, ◌+◌, ◌<◌, arith, Bool, true, false, ◌||◌, List, [], ◌∷◌, ◌++◌, length, map, Option, Some, None, refl, ap, ◌∙◌, sym, subst, ◌⊎◌, inl, inr}
-use Rattle.std.proofs.lemmas.List.{map-append}
-use Rattle.std.specs.Prelude.{slice_get, flat_map, IsTrue, codes}
+use Rattle.std.proofs.Common.{◌≡◌, ℕ, zero, suc, true, List, [], ◌∷◌, map, Option, Some, None, refl, ap, ◌∙◌, sym, subst, inl, inr}
+use Rattle.std.specs.Prelude.{slice_get, flat_map, codes}
 use Rattle.xs_tree.specs.ProgramTree.{Text, DeclaredTree, boolean, range, members, instance, Path, Formula, ProgramTree, ModuleTree}
-use Rattle.xs_tree.specs.Scope.{Place, Key, define_key, Kind, a_variable, Meaning, a_variable_at, an_expression_at, an_instance_at, a_symbol, Means, kind_declared, kind_at, module_at, find_module}
-use Rattle.xs_tree.specs.Trace.{Each, AtSome, IsVariable}
+use Rattle.xs_tree.specs.Scope.{Place, Key, define_key, a_variable, Meaning, a_variable_at, an_expression_at, an_instance_at, a_symbol, Means, kind_declared, kind_at, module_at, find_module}
+use Rattle.xs_tree.specs.Trace.{Each, IsVariable}
 use Rattle.xs_flattening.specs.Items.{Visit, visits, variable_declared, variables_of}
 use Rattle.xs_flattening.specs.Looks.{MeansNothing, MeetsLoop}
-use Rattle.xs_flattening.specs.Rules.{Needs, MeansInput, IsWalkable, is_input_kind}
-use Rattle.xs_flattening.specs.Model.{Root, roots_of, keys_of_meaning, AreNamed}
+use Rattle.xs_flattening.specs.Rules.{MeansInput, IsWalkable, is_input_kind}
+use Rattle.xs_flattening.specs.Model.{Root, roots_of, keys_of_meaning}
 use Rattle.xs_flattening.proofs.Conditions.{each_at, each_join}
 use Rattle.xs_flattening.proofs.LookLaws.{meets_loop_nothing}
 use Rattle.xs_flattening.proofs.Places.{Real, has_main}

@@ -1,13 +1,14 @@
 -- The walk keeps that what is left to be done orders all.
-use Rattle.std.proofs.Common.{◌≡◌, ℕ, zero, suc, ◌+◌, ◌<◌, arith, Bool, true, false, List, [], ◌∷◌, ◌++◌, length, map, reverse, set, replicate, Option, Some, None, refl, ap, ◌∙◌, sym, subst, ◌⊎◌, inl, inr}
-use Rattle.std.specs.Prelude.{slice_get}
+use Rattle.std.proofs.Common.{◌≡◌, ℕ, zero, suc, ◌+◌, ◌<◌, arith, Bool, true, false, List, [], ◌∷◌, ◌++◌, length, set, replicate, refl, ap, ◌∙◌, sym, subst, ◌⊎◌, inl, inr}
+use Rattle.std.proofs.lemmas.List.{length-replicate, length-set}
 use Rattle.xs_tree.specs.Trace.{Each}
+use Rattle.xs_flattening.proofs.Conditions.{each_join}
 use Rattle.xs_flat.specs.declared.needs.Mark.{Mark}
 use Rattle.xs_flat.specs.declared.needs.Mark.TheVariants.{Unmet, Begun, Ended}
 use Rattle.xs_flat.specs.declared.needs.Task.{Task}
 use Rattle.xs_flat.specs.declared.needs.Task.TheVariants.{Visit, End}
 use Rattle.xs_flat.specs.Links.{Graph, Has, Reaches, start, further}
-use Rattle.xs_flat.specs.Laying.{upto, upto_from, IsInto, Lays, stands, comes, LaysAll, no_more, one_more, IsLaid, Lay, mark_or, mark_at, visits, visit_by, lay_by, Ends, number_of, SomeCircle, HasEnd, IsFor, Hangs, IsLaying}
+use Rattle.xs_flat.specs.Laying.{upto, upto_from, IsInto, Lays, stands, comes, LaysAll, no_more, one_more, IsLaid, Lay, mark_at, visits, visit_by, lay_by, Ends, number_of, HasEnd, IsFor, Hangs, IsLaying}
 use Rattle.xs_flat.proofs.LinkLaws.{has_left, has_right, has_either}
 
 -- visits in front of other tasks
@@ -17,10 +18,6 @@ ends_visits g done [] ts after h = (done, no_more, h)
 ends_visits g done (k ∷ ks) ts after (between, lays, h) =
     let more : (mid : List ℕ) × LaysAll g between ks mid × Ends g mid ts after = ends_visits g between ks ts after h in
     (more.0, one_more lays more.1, more.2)
-
-unmet_size : (n : ℕ) → length (replicate n Unmet) ≡ n
-unmet_size zero = refl
-unmet_size (suc n) = ap suc (unmet_size n)
 
 none_ended : (n k : ℕ) → mark_at (replicate n Unmet) k ≡ Ended → ⊥
 none_ended zero k h = cc
@@ -84,7 +81,7 @@ upto_more n = from_more 0 n ∙ ap (λ i. upto n ++ i ∷ []) none
 pub laying_first : (g : Graph) (count : ℕ) → IsLaying g count (record { marks = replicate count Unmet; order = []; tasks = visits (upto count); circle = false })
 laying_first g count =
     record {
-      size = unmet_size count;
+      size = length-replicate count Unmet;
       ended = λ k h. absurd (none_ended count k h);
       ordered = λ k h. absurd h;
       within = visits_within count (upto count) (λ k h. from_zero k (upto_within 0 count k h));
@@ -108,11 +105,6 @@ laying_first g count =
     all_of after (between, all, e) = subst (LaysAll g [] (upto count)) (sym e) all
 
 -- marks after one is set
-mark_size : (ms : List Mark) (k : ℕ) (m : Mark) → length (set ms k m) ≡ length ms
-mark_size [] k m = refl
-mark_size (x ∷ ms) zero m = refl
-mark_size (x ∷ ms) (suc k) m = ap suc (mark_size ms k m)
-
 mark_same : (ms : List Mark) (k : ℕ) (m : Mark) → k < length ms → mark_at (set ms k m) k ≡ m
 mark_same [] k m within = absurd (omega arith)
 mark_same (x ∷ ms) zero m within = refl
@@ -144,10 +136,6 @@ same_or (suc k) (suc j) = by_side (same_or k j)
     by_side (inl e) = inl (ap suc e)
     by_side (inr n) = inr (λ e. n (one_back e))
 
-each_join : (P : Task → Type 0) (xs ys : List Task) → Each P xs → Each P ys → Each P (xs ++ ys)
-each_join P [] ys h g = g
-each_join P (x ∷ xs) ys h g = (h.0, each_join P xs ys h.1 g)
-
 module _ (g : Graph) (count : ℕ) (into : IsInto g count) (ms : List Mark) (order : List ℕ) (ts : List Task) (circle : Bool) where
   abbrev before : Task → Lay
   before t = record { marks = ms; order = order; tasks = t ∷ ts; circle = circle }
@@ -158,7 +146,7 @@ module _ (g : Graph) (count : ℕ) (into : IsInto g count) (ms : List Mark) (ord
   end_task : (k : ℕ) → IsLaying g count (before (End k)) → IsLaying g count (lay_by g popped (End k))
   end_task k h =
       record {
-        size = mark_size ms k Ended ∙ h.size;
+        size = length-set ms k Ended ∙ h.size;
         ended = λ j e. ended j e (same_or k j);
         ordered = λ j a. by_side j (same_or k j) (has_either order (k ∷ []) j a);
         within = h.within.1;
@@ -224,7 +212,7 @@ module _ (g : Graph) (count : ℕ) (into : IsInto g count) (ms : List Mark) (ord
   visit_unmet : (k : ℕ) → mark_at ms k ≡ Unmet → IsLaying g count (before (Visit k)) → IsLaying g count (visit_by g popped k Unmet)
   visit_unmet k e h =
       record {
-        size = mark_size ms k Begun ∙ h.size;
+        size = length-set ms k Begun ∙ h.size;
         ended = λ j m. ended j m (same_or k j);
         ordered = λ j a. ordered j a (same_or k j);
         within = each_join (λ t. number_of t < count) (visits (g k)) (End k ∷ ts) (visits_within count (g k) (into k)) (h.within.0, h.within.1);

@@ -1,5 +1,6 @@
 -- Links, and the same from their other ends.
-use Rattle.std.proofs.Common.{◌≡◌, ◌↔◌, ℕ, zero, suc, ◌+◌, ◌<◌, ◌≤◌, arith, List, [], ◌∷◌, ◌++◌, length, map, set, get_or, replicate, Some, None, refl, ap, ◌∙◌, sym, subst, ◌⊎◌, inl, inr}
+use Rattle.std.proofs.Common.{◌≡◌, ℕ, zero, suc, ◌+◌, ◌<◌, ◌≤◌, arith, List, [], ◌∷◌, ◌++◌, length, map, set, get_or, replicate, refl, ap, ◌∙◌, sym, subst, ◌⊎◌, inl, inr}
+use Rattle.std.proofs.lemmas.List.{length-map, length-replicate}
 use Rattle.std.specs.Prelude.{slice_get, Vec}
 use Rattle.std.specs.declared.alloc.Global.{Global}
 use Rattle.xs_flat.specs.declared.needs.Links.{Links}
@@ -155,23 +156,18 @@ no_links zero b a h = h
 no_links (suc n) zero a h = h
 no_links (suc n) (suc b) a h = no_links n b a h
 
-rows_size : (vs : List (Vec ℕ Global)) → length (map items_in vs) ≡ length vs
-rows_size [] = refl
-rows_size (v ∷ vs) = ap suc (rows_size vs)
-
 abbrev no_rows : ℕ → List (List ℕ)
 no_rows n = replicate n []
 
 replicated_size : (n : ℕ) → length (no_rows n) ≡ n
-replicated_size zero = refl
-replicated_size (suc n) = ap suc (replicated_size n)
+replicated_size n = length-replicate n []
 
 pub are_turned : (l back : Links) → rows back ≡ turned_from (replicate (length l.of.items) []) 0 (rows l) → AreTurned l back
 are_turned l back e = record { size = size; links = λ a b within. (there a b, turned a b within) }
   where
     size : length back.of.items ≡ length l.of.items
     size =
-        sym (rows_size back.of.items)
+        sym (length-map back.of.items items_in)
         ∙ ap (λ (rs : List (List ℕ)). length rs) e
         ∙ turned_size (replicate (length l.of.items) []) 0 (rows l)
         ∙ replicated_size (length l.of.items)

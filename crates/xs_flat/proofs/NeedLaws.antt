@@ -1,5 +1,5 @@
 -- What is reached over links by numbers is what definitions need of one another by their keys.
-use Rattle.std.proofs.Common.{◌≡◌, ◌↔◌, ℕ, zero, suc, ◌+◌, ◌<◌, arith, Bool, true, false, ◌||◌, List, [], ◌∷◌, ◌++◌, length, map, Option, Some, None, refl, ap, ◌∙◌, sym, subst, ◌⊎◌, inl, inr}
+use Rattle.std.proofs.Common.{◌≡◌, ℕ, zero, suc, ◌+◌, ◌<◌, arith, Bool, true, false, ◌||◌, List, [], ◌∷◌, ◌++◌, map, Option, Some, refl, ap, ◌∙◌, sym, subst, ◌⊎◌, inl, inr}
 use Rattle.std.proofs.lemmas.List.{map-append}
 use Rattle.std.specs.Prelude.{slice_get}
 use Rattle.xs_tree.specs.ProgramTree.{Path, Formula, ProgramTree}
@@ -10,7 +10,7 @@ use Rattle.xs_flattening.specs.Flat.{FlatInstance}
 use Rattle.xs_flattening.specs.Items.{instances_of}
 use Rattle.xs_flattening.specs.Resolved.{leaves_in}
 use Rattle.xs_flattening.specs.Rules.{Needs, Leads, NeedsItself, MeansInput, IsWalkable, expression_of}
-use Rattle.xs_flattening.specs.Model.{EachBoth, Root, roots_of, keys_of_meaning, AreNamed}
+use Rattle.xs_flattening.specs.Model.{Root, roots_of, AreNamed}
 use Rattle.xs_flattening.proofs.Conditions.{each_at}
 use Rattle.xs_flattening.proofs.Variables.{both_at}
 use Rattle.xs_flat.specs.declared.walk.Meaning.{Meaning as Found}
@@ -19,7 +19,7 @@ use Rattle.xs_flat.specs.declared.names.Defined.{Defined}
 use Rattle.xs_flat.specs.declared.names.Scene.{Scene}
 use Rattle.xs_flat.specs.SceneTree.{Denotes, IsFound, IsDefined, IsScene, program_of}
 use Rattle.xs_flat.specs.FoundAt.{found_at}
-use Rattle.xs_flat.specs.NeedsTree.{KeyReadsInput, keys_of, IsKeyAt}
+use Rattle.xs_flat.specs.NeedsTree.{KeyReadsInput, keys_of, IsKeyAt, IsMeant}
 use Rattle.xs_flat.specs.Links.{Graph, Has, Reaches, start, further}
 use Rattle.xs_flat.specs.Naming.{needed, is_input, needs_in, reads_in, names_of, needs_of, reads_of, number_if, inputs_from, IsFoundAt, AreFoundIn}
 use Rattle.xs_flat.proofs.LinkLaws.{has_left, has_right, has_either}
@@ -43,8 +43,17 @@ found_keyed p at name (found.Symbol k) j h bad = absurd bad
 found_keyed p at name found.Nothing j h bad = absurd bad
 found_keyed p at name found.Loop j h bad = absurd bad
 
-abbrev pub HasMeaning : ProgramTree → Place → Path → Type 0
+abbrev HasMeaning : ProgramTree → Place → Path → Type 0
 HasMeaning p at name = (m : Meaning) × Means p at name m
+
+-- what is found for a name that means something
+found_meaning : (p : ProgramTree) (at : Place) (name : Path) (f : Found) → IsFound p at name f → IsMeant p at name → HasMeaning p at name
+found_meaning p at name found.Nothing h meant = absurd (meant.something h)
+found_meaning p at name found.Loop h meant = absurd (meant.no_loop h)
+found_meaning p at name (found.Definition k) (m, means, den) meant = (m, means)
+found_meaning p at name (found.Variable number role) (m, means, den) meant = (m, means)
+found_meaning p at name (found.Instance k) (m, means, den) meant = (m, means)
+found_meaning p at name (found.Symbol k) (m, means, den) meant = (m, means)
 
 abbrev NamesKey : ProgramTree → Place → Key → Path → Type 0
 NamesKey p at other name = (place : Place) × (e : Formula) × Means p at name (an_expression_at other place e)
@@ -81,18 +90,19 @@ module _ (s : Scene) (spot : ℕ) (i : FlatInstance) (at_spot : slice_get (insta
       let f : (j : ℕ) × IsKeyAt (program_of s) j other × Has (needs_in s spot names) j = names_from names other h.1 some in
       (f.0, f.1, has_right (needed (found_at s spot x)) (needs_in s spot names) f.0 f.2)
 
-  names_named : (names : List Path) → Each (IsFoundAt s spot) names → Each (HasMeaning (program_of s) i.place) names →
+  names_named : (names : List Path) → Each (IsFoundAt s spot) names → Each (IsMeant (program_of s) i.place) names →
       AreNamed (program_of s) i.place names (map (key_at (keys_of (program_of s))) (needs_in s spot names))
   names_named [] h meant = refl
-  names_named (x ∷ names) h meant = (
-    meant.0.0,
-    map (key_at (keys_of (program_of s))) (needs_in s spot names),
-    meant.0.1,
-    names_named names h.1 meant.1,
-    map-append (key_at (keys_of (program_of s))) (needed (found_at s spot x)) (needs_in s spot names)
-        ∙ ap (λ ks. ks ++ map (key_at (keys_of (program_of s))) (needs_in s spot names))
-        (named_one (program_of s) i.place x (found_at s spot x) meant.0.0 (h.0.found i at_spot) meant.0.1),
-  )
+  names_named (x ∷ names) h meant =
+      let m : HasMeaning (program_of s) i.place x = found_meaning (program_of s) i.place x (found_at s spot x) (h.0.found i at_spot) meant.0 in (
+        m.0,
+        map (key_at (keys_of (program_of s))) (needs_in s spot names),
+        m.1,
+        names_named names h.1 meant.1,
+        map-append (key_at (keys_of (program_of s))) (needed (found_at s spot x)) (needs_in s spot names)
+            ∙ ap (λ ks. ks ++ map (key_at (keys_of (program_of s))) (needs_in s spot names))
+            (named_one (program_of s) i.place x (found_at s spot x) m.0 (h.0.found i at_spot) m.1),
+      )
 
   module _ (walkable : IsWalkable (program_of s)) where
     reads_to : (names : List Path) → Each (IsFoundAt s spot) names → reads_in s spot names ≡ true → AtSome (MeansInput (program_of s) i.place) names
@@ -121,7 +131,7 @@ pub record IsLinked (p : ProgramTree) (g : Graph) (inputs : List ℕ) (k : ℕ) 
   pub to : (j : ℕ) (other : Key) → Has (g k) j → IsKeyAt p j other → AtSome (NamesKey p place other) (leaves_in written)
   pub keyed : (j : ℕ) → Has (g k) j → (other : Key) × IsKeyAt p j other
   pub from : (other : Key) → AtSome (NamesKey p place other) (leaves_in written) → (j : ℕ) × IsKeyAt p j other × Has (g k) j
-  pub named : Each (HasMeaning p place) (leaves_in written) → AreNamed p place (leaves_in written) (map (key_at (keys_of p)) (g k))
+  pub named : Each (IsMeant p place) (leaves_in written) → AreNamed p place (leaves_in written) (map (key_at (keys_of p)) (g k))
   pub input : Has inputs k → AtSome (MeansInput p place) (leaves_in written)
   pub input_back : AtSome (MeansInput p place) (leaves_in written) → Has inputs k
 

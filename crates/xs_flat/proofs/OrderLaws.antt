@@ -1,6 +1,6 @@
 -- An order of numbers that are laid has each of them once, and none of them leads back to itself.
-use Rattle.std.proofs.Common.{◌≡◌, ℕ, zero, suc, ◌+◌, ◌<◌, ◌≤◌, arith, List, [], ◌∷◌, ◌++◌, length, set, replicate, Option, Some, None, refl, ap, ◌∙◌, sym, subst, ◌⊎◌, inl, inr}
-use Rattle.std.proofs.lemmas.List.{append-nil, append_assoc}
+use Rattle.std.proofs.Common.{◌≡◌, ℕ, zero, suc, ◌+◌, ◌<◌, arith, List, [], ◌∷◌, ◌++◌, length, set, Some, refl, ap, ◌∙◌, sym, subst, ◌⊎◌, inl, inr}
+use Rattle.std.proofs.lemmas.List.{append-nil, append_assoc, length-set}
 use Rattle.std.specs.Prelude.{slice_get}
 use Rattle.xs_flat.specs.Links.{Graph, Has, Reaches, start, further}
 use Rattle.xs_flat.specs.Laying.{upto, upto_from, IsInto, Lays, stands, comes, LaysAll, no_more, one_more, placed_from, Once}
@@ -219,14 +219,9 @@ set_besides (p ∷ ps) zero (suc j) v other = refl
 set_besides (p ∷ ps) (suc k) zero v other = refl
 set_besides (p ∷ ps) (suc k) (suc j) v other = set_besides ps k j v (λ e. other (ap suc e))
 
-set_length : (ps : List ℕ) (k v : ℕ) → length (set ps k v) ≡ length ps
-set_length [] k v = refl
-set_length (p ∷ ps) zero v = refl
-set_length (p ∷ ps) (suc k) v = ap suc (set_length ps k v)
-
 pub placed_size : (ps : List ℕ) (i : ℕ) (ks : List ℕ) → length (placed_from ps i ks) ≡ length ps
 placed_size ps i [] = refl
-placed_size ps i (k ∷ ks) = placed_size (set ps k i) (suc i) ks ∙ set_length ps k i
+placed_size ps i (k ∷ ks) = placed_size (set ps k i) (suc i) ks ∙ length-set ps k i
 
 placed_besides : (ps : List ℕ) (i : ℕ) (ks : List ℕ) (k : ℕ) → (Has ks k → ⊥) → slice_get (placed_from ps i ks) k ≡ slice_get ps k
 placed_besides ps i [] k out = refl
@@ -255,7 +250,7 @@ placed_is ps i (x ∷ ks) zero k once within e =
     none : i ≡ i + 0
     none = omega arith
 placed_is ps i (x ∷ ks) (suc j) k once within e =
-    placed_is (set ps x i) (suc i) ks j k (once_tail x ks once) (subst (λ n. k < n) (sym (set_length ps x i)) within) e ∙ ap Some next
+    placed_is (set ps x i) (suc i) ks j k (once_tail x ks once) (subst (λ n. k < n) (sym (length-set ps x i)) within) e ∙ ap Some next
   where
     next : suc i + j ≡ i + suc j
     next = omega arith

@@ -1,9 +1,11 @@
 -- What is looked at one by one is in the end all that is reached.
-use Rattle.std.proofs.Common.{◌≡◌, ◌↔◌, ℕ, zero, suc, ◌<◌, arith, Bool, true, false, List, [], ◌∷◌, ◌++◌, length, set, replicate, Option, Some, None, refl, ap, ◌∙◌, sym, subst, ◌⊎◌, inl, inr}
+use Rattle.std.proofs.Common.{◌≡◌, ℕ, zero, suc, ◌<◌, arith, Bool, true, false, List, [], ◌∷◌, ◌++◌, length, set, replicate, Some, refl, ap, ◌∙◌, sym, subst, ◌⊎◌, inl, inr}
+use Rattle.std.proofs.lemmas.List.{length-replicate, length-set}
 use Rattle.std.specs.Prelude.{slice_get, Vec}
 use Rattle.std.specs.declared.alloc.Global.{Global}
+use Rattle.xs_flattening.proofs.Lists.{get_within}
 use Rattle.xs_flat.specs.declared.needs.Links.{Links}
-use Rattle.xs_flat.specs.Links.{Has, Graph, graph_of, row_of, Reaches, start, further, IsWithin, AreReached, is_marked, told_mark, Spread, spread_by, IsSpreading}
+use Rattle.xs_flat.specs.Links.{Has, Graph, graph_of, row_of, Reaches, start, further, IsWithin, AreReached, is_marked, told_mark, spread_by, IsSpreading}
 use Rattle.xs_flat.proofs.LinkLaws.{has_left, has_right, has_either}
 
 pub no_items : {A : Type 0} (xs : List A) → length xs ≡ 0 → xs ≡ []
@@ -23,14 +25,10 @@ none_marked zero k h = cc
 none_marked (suc n) zero h = cc
 none_marked (suc n) (suc k) h = none_marked n k h
 
-unmarked_size : (n : ℕ) → length (replicate n false) ≡ n
-unmarked_size zero = refl
-unmarked_size (suc n) = ap suc (unmarked_size n)
-
 pub spreading_first : (g : Graph) (starts : List ℕ) (count : ℕ) → IsSpreading g starts count (record { reached = replicate count false; waiting = starts })
 spreading_first g starts count =
     record {
-      size = unmarked_size count;
+      size = length-replicate count false;
       marked = λ k h. absurd (none_marked count k h);
       waits = λ k h. start h;
       begun = λ k h unmarked. h;
@@ -38,11 +36,6 @@ spreading_first g starts count =
     }
 
 -- marks after one is set
-set_size : (xs : List Bool) (k : ℕ) → length (set xs k true) ≡ length xs
-set_size [] k = refl
-set_size (x ∷ xs) zero = refl
-set_size (x ∷ xs) (suc k) = ap suc (set_size xs k)
-
 set_marked : (xs : List Bool) (k j : ℕ) → slice_get (set xs k true) j ≡ Some true → (k ≡ j) ⊎ (slice_get xs j ≡ Some true)
 set_marked [] k j h = inr h
 set_marked (x ∷ xs) zero zero h = inl refl
@@ -123,23 +116,18 @@ spreading_by g starts count r w k h = by_mark (is_marked r k) refl
     by_mark false m =
         rw m
         (record {
-          size = set_size r k ∙ h.size;
+          size = length-set r k true ∙ h.size;
           marked = λ j t. marked_more j (set_marked r k j t);
           waits = λ j a. waits_more j (has_either w (g k) j a);
           begun = λ j s f. begun_more j s (set_unmarked r k j f);
           closed = λ a b t to f. closed_more a b (set_marked r k a t) to (set_unmarked r k b f);
         })
 
-some_mark : (r : List Bool) (a : ℕ) → a < length r → (b : Bool) × (slice_get r a ≡ Some b)
-some_mark [] a within = absurd (omega arith)
-some_mark (x ∷ r) zero within = (x, refl)
-some_mark (x ∷ r) (suc a) within = some_mark r a (omega arith)
-
 -- where nothing waits, no reached one is unmarked
 module _ (g : Graph) (starts : List ℕ) (count : ℕ) (r : List Bool) (within : IsWithin g count) (h : IsSpreading g starts count (record { reached = r; waiting = [] })) where
   no_false : (j : ℕ) → Reaches g starts j → slice_get r j ≡ Some false → ⊥
   no_false j (start s) f = h.begun j s f
-  no_false j (further {a = a} from to) f = by_value (λ e. no_false a from e) (some_mark r a (subst (λ n. a < n) (sym h.size) (within a j to)))
+  no_false j (further {a = a} from to) f = by_value (λ e. no_false a from e) (get_within r a (subst (λ n. a < n) (sym h.size) (within a j to)))
     where
       by_bool : (slice_get r a ≡ Some false → ⊥) → (m : Bool) → slice_get r a ≡ Some m → ⊥
       by_bool not_a true e = h.closed a j e to f

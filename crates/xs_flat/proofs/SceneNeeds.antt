@@ -1,24 +1,23 @@
 -- What is found of the needs of a scene's definitions is what the program asks for.
-use Rattle.std.proofs.Common.{◌≡◌, ◌↔◌, ℕ, zero, suc, ◌+◌, ◌<◌, arith, Bool, true, false, List, [], ◌∷◌, ◌++◌, length, map, replicate, Option, Some, None, refl, ap, ◌∙◌, sym, subst}
+use Rattle.std.proofs.Common.{◌≡◌, ℕ, zero, suc, ◌+◌, ◌<◌, arith, Bool, true, false, List, [], ◌∷◌, length, map, replicate, Option, Some, refl, ap, ◌∙◌, sym, subst}
+use Rattle.std.proofs.lemmas.List.{length-map, length-replicate}
 use Rattle.std.proofs.lemmas.Option.{slice_get_within}
 use Rattle.std.specs.Prelude.{slice_get, Vec}
 use Rattle.std.specs.declared.alloc.Global.{Global}
-use Rattle.xs_tree.specs.ProgramTree.{ProgramTree}
 use Rattle.xs_tree.specs.Scope.{Key}
 use Rattle.xs_tree.specs.Trace.{Each}
 use Rattle.xs_flattening.specs.Rules.{NeedsItself}
 use Rattle.xs_flattening.specs.Model.{EachBoth, Root, roots_of, AddsAll}
 use Rattle.xs_flattening.proofs.Conditions.{each_at}
 use Rattle.xs_flattening.proofs.Lists.{get_within}
-use Rattle.xs_flat.specs.declared.names.Defined.{Defined}
 use Rattle.xs_flat.specs.declared.names.Scene.{Scene}
 use Rattle.xs_flat.specs.declared.needs.Links.{Links}
 use Rattle.xs_flat.specs.declared.needs.Named.{Named}
 use Rattle.xs_flat.specs.declared.needs.Needs.{Needs}
 use Rattle.xs_flat.specs.SceneTree.{IsDefined, IsScene, program_of}
-use Rattle.xs_flat.specs.NeedsTree.{KeyReadsInput, keys_of, IsKeyAt, HasCircle, HasInput, AreMeant, IsOrder, AreNeeds}
-use Rattle.xs_flat.specs.Links.{Graph, Has, Reaches, graph_of, rows, links_at, AreReached, IsCircle, AreCircles, AreTurned}
-use Rattle.xs_flat.specs.Laying.{upto, IsInto, LaysAll, IsLaid, Once, placed_from}
+use Rattle.xs_flat.specs.NeedsTree.{keys_of, IsKeyAt, HasCircle, HasInput, AreMeant, IsOrder, AreNeeds}
+use Rattle.xs_flat.specs.Links.{Graph, Has, Reaches, graph_of, links_at, AreReached, IsCircle, AreCircles, AreTurned}
+use Rattle.xs_flat.specs.Laying.{upto, IsInto, IsLaid, placed_from}
 use Rattle.xs_flat.specs.Naming.{needs_of, inputs_from, IsNamed}
 use Rattle.xs_flat.proofs.LinkLaws.{graph_rows}
 use Rattle.xs_flat.proofs.ReachLaws.{graph_within}
@@ -26,10 +25,6 @@ use Rattle.xs_flat.proofs.OrderLaws.{Grows, grown, has_at, at_has, in_upto, upto
 use Rattle.xs_flat.proofs.KeyLaws.{key_at}
 use Rattle.xs_flat.proofs.NeedLaws.{IsLinked, linked, circle_is, circle_from, reads_is, reads_from_input}
 use Rattle.xs_flat.proofs.AddLaws.{AreKeyed, keys_upto, keyed_each, adds_from}
-
-map_size : {A B : Type 0} (f : A → B) (xs : List A) → length (map f xs) ≡ length xs
-map_size f [] = refl
-map_size f (x ∷ xs) = ap suc (map_size f xs)
 
 both_size : {A B : Type 0} (R : A → B → Type 0) (xs : List A) (ys : List B) → EachBoth R xs ys → length xs ≡ length ys
 both_size R [] [] h = refl
@@ -53,8 +48,7 @@ abbrev zeros : ℕ → List ℕ
 zeros n = replicate n 0
 
 zeros_size : (n : ℕ) → length (zeros n) ≡ n
-zeros_size zero = refl
-zeros_size (suc n) = ap suc (zeros_size n)
+zeros_size n = length-replicate n zero
 
 module _ (s : Scene) (is : IsScene s) (named : Named) (n : IsNamed s named) where
   abbrev keys : List Key
@@ -65,11 +59,11 @@ module _ (s : Scene) (is : IsScene s) (named : Named) (n : IsNamed s named) wher
 
   pub count_is : length named.links.of.items ≡ length keys
   count_is =
-      sym (map_size (λ (v : Vec ℕ Global). v.items) named.links.of.items)
+      sym (length-map named.links.of.items (λ (v : Vec ℕ Global). v.items))
       ∙ ap (λ (rs : List (List ℕ)). length rs) n.links
-      ∙ map_size (needs_of s) s.definitions.items
+      ∙ length-map s.definitions.items (needs_of s)
       ∙ sym (both_size (IsDefined (program_of s)) (roots_of (program_of s)) s.definitions.items is.set.definitions)
-      ∙ sym (map_size (λ (r : Root). r.key) (roots_of (program_of s)))
+      ∙ sym (length-map (roots_of (program_of s)) (λ (r : Root). r.key))
 
   all_linked : (k : ℕ) (key : Key) → IsKeyAt (program_of s) k key → IsLinked (program_of s) graph (inputs_from s 0 s.definitions.items) k key
   all_linked =
@@ -158,7 +152,7 @@ module _ (s : Scene) (is : IsScene s) (named : Named) (n : IsNamed s named) wher
 
     sizes : length s.definitions.items ≡ length keys
     sizes =
-        sym (both_size (IsDefined (program_of s)) (roots_of (program_of s)) s.definitions.items is.set.definitions) ∙ sym (map_size (λ (r : Root). r.key) (roots_of (program_of s)))
+        sym (both_size (IsDefined (program_of s)) (roots_of (program_of s)) s.definitions.items is.set.definitions) ∙ sym (length-map (roots_of (program_of s)) (λ (r : Root). r.key))
 
     places_size : length needs.places.items ≡ length s.definitions.items
     places_size =

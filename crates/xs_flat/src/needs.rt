@@ -5,11 +5,11 @@
 //! there is one, and so the program will be refused, is each definition searched for on its own. What
 //! reads an input is all that is reached from what names one, over the links from their other ends.
 
-ghost use Rattle.std.specs.Prelude.{◌≡◌, ◌<◌, ◌↔◌, true, ◌||◌, [], ◌∷◌, ◌++◌, Some, length, map, reverse, set, slice_get, replicate, false, unwrap_or, IfOk, OnOk};
+ghost use Rattle.std.specs.Prelude.{◌≡◌, ◌<◌, ◌↔◌, true, ◌||◌, [], ◌∷◌, ◌++◌, length, reverse, set, slice_get, replicate, false, unwrap_or, IfOk, OnOk};
 ghost use Rattle.xs_flat.specs.SceneTree.{IsScene, program_of};
 ghost use Rattle.xs_flat.specs.FoundAt.{found_at};
 ghost use Rattle.xs_flat.specs.NeedsTree.{AreNeeds};
-ghost use Rattle.xs_flat.specs.Links.{Has, Reaches, graph_of, rows, linked_to, all_linked_to, AreTurned, AreReached, IsCircle, AreCircles, is_marked, spread_by};
+ghost use Rattle.xs_flat.specs.Links.{Reaches, graph_of, rows, linked_to, all_linked_to, AreTurned, AreReached, IsCircle, AreCircles, is_marked, spread_by};
 ghost use Rattle.xs_flat.specs.Laying.{IsInto, mark_at, visits, upto, lay_of, lay_by, IsLaid, placed_from};
 ghost use Rattle.xs_flat.specs.Spreads.{spread_of};
 ghost use Rattle.xs_flat.specs.Naming.{needed, is_input, needs_of, reads_of, number_if, IsFoundAt, AreFoundIn, IsNamed};
@@ -41,6 +41,52 @@ pub(crate) struct Needs {
     pub on_circle: Vec<bool>,
     /// Whether a definition reads an input, also through others.
     pub reads_input: Vec<bool>,
+}
+
+impl Needs {
+    /// The needs of a scene's definitions.
+    pub(crate) fn of_scene(alloc: Global, scene: &Scene<'_>) -> Result<Needs, OutOfMemory>
+        requires { IsScene scene.now }
+        ensures needs { IfOk result (AreNeeds (program_of scene.now)) }
+    {
+        let count = scene.definitions.len();
+        let named = Named::of_scene(alloc, scene)?;
+        let back = named.links.turned(alloc)?;
+        let laid = order_of(alloc, &named.links)?;
+        let places = places_of(alloc, count, laid.order.as_slice())?;
+        let on_circle = circles_of(alloc, &named.links, laid.circle)?;
+        let reads_input = reached_from(alloc, &back, named.inputs.as_slice())?;
+        Ok(Needs {
+            order: laid.order,
+            places,
+            on_circle,
+            reads_input,
+        })
+    }
+
+    /// The place of a definition in the model's order; for one that isn't there, the number of all.
+    pub(crate) fn place_of(&self, definition: usize) -> usize
+        ensures { result ≡ unwrap_or (slice_get self.now.places.items definition) (length self.now.places.items) }
+    {
+        match self.places.as_slice().get(definition) {
+            Some(place) => *place,
+            None => self.places.len(),
+        }
+    }
+
+    /// Whether a definition is needed by itself.
+    pub(crate) fn is_on_circle(&self, definition: usize) -> bool
+        ensures { result ≡ is_marked self.now.on_circle.items definition }
+    {
+        is_true(self.on_circle.as_slice(), definition)
+    }
+
+    /// Whether a definition reads an input, also through others.
+    pub(crate) fn is_reading_input(&self, definition: usize) -> bool
+        ensures { result ≡ is_marked self.now.reads_input.items definition }
+    {
+        is_true(self.reads_input.as_slice(), definition)
+    }
 }
 
 /// Which definitions are reached so far, and which are still to be looked at.
@@ -82,6 +128,7 @@ impl Links {
         Ok(())
     }
 
+    /// What a definition is linked to; nothing for one that isn't there.
     fn from(&self, definition: usize) -> &[usize]
         ensures { result.now ≡ graph_of self.now definition }
     {
@@ -96,6 +143,7 @@ impl Links {
         self.count.saturating_add(self.of.len()).saturating_mul(2)
     }
 
+    /// Adds a link from each of these.
     fn add_all_to(&mut self, starts: &[usize], to: usize) -> Result<(), OutOfMemory>
         ensures { OnOk result (rows self.new ≡ all_linked_to (rows self.old) starts.now to) }
     {
@@ -372,6 +420,7 @@ struct NamedBy {
 }
 
 impl Named {
+    /// What all definitions of a scene name.
     fn of_scene(alloc: Global, scene: &Scene<'_>) -> Result<Named, OutOfMemory>
         requires { IsScene scene.now }
         ensures named { IfOk result (IsNamed scene.now) }
@@ -429,6 +478,7 @@ impl NamedBy {
         Ok(named)
     }
 
+    /// Adds what a name means.
     fn add(&mut self, meaning: Meaning) -> Result<(), OutOfMemory>
         ensures needs { OnOk result (self.new.needs.items ≡ self.old.needs.items ++ needed meaning) }
         ensures input { OnOk result (self.new.input ≡ (self.old.input || is_input meaning)) }
@@ -444,51 +494,5 @@ impl NamedBy {
             }
             _ => Ok(()),
         }
-    }
-}
-
-impl Needs {
-    /// The needs of a scene's definitions.
-    pub(crate) fn of_scene(alloc: Global, scene: &Scene<'_>) -> Result<Needs, OutOfMemory>
-        requires { IsScene scene.now }
-        ensures needs { IfOk result (AreNeeds (program_of scene.now)) }
-    {
-        let count = scene.definitions.len();
-        let named = Named::of_scene(alloc, scene)?;
-        let back = named.links.turned(alloc)?;
-        let laid = order_of(alloc, &named.links)?;
-        let places = places_of(alloc, count, laid.order.as_slice())?;
-        let on_circle = circles_of(alloc, &named.links, laid.circle)?;
-        let reads_input = reached_from(alloc, &back, named.inputs.as_slice())?;
-        Ok(Needs {
-            order: laid.order,
-            places,
-            on_circle,
-            reads_input,
-        })
-    }
-
-    /// The place of a definition in the model's order; for one that isn't there, the number of all.
-    pub(crate) fn place_of(&self, definition: usize) -> usize
-        ensures { result ≡ unwrap_or (slice_get self.now.places.items definition) (length self.now.places.items) }
-    {
-        match self.places.as_slice().get(definition) {
-            Some(place) => *place,
-            None => self.places.len(),
-        }
-    }
-
-    /// Whether a definition is needed by itself.
-    pub(crate) fn is_on_circle(&self, definition: usize) -> bool
-        ensures { result ≡ is_marked self.now.on_circle.items definition }
-    {
-        is_true(self.on_circle.as_slice(), definition)
-    }
-
-    /// Whether a definition reads an input, also through others.
-    pub(crate) fn is_reading_input(&self, definition: usize) -> bool
-        ensures { result ≡ is_marked self.now.reads_input.items definition }
-    {
-        is_true(self.reads_input.as_slice(), definition)
     }
 }

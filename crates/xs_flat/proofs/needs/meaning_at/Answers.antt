@@ -1,7 +1,6 @@
 -- What is found is what the name means.
-use Rattle.std.proofs.Common.{rules, ◌≡◌, subst}
+use Rattle.std.proofs.Common.{subst}
 use Rattle.xs_flat.specs.SceneTree.{IsFound, program_of}
-use Rattle.xs_flat.specs.FoundAt.{found_at}
 use Rattle.xs_flat.proofs.needs.meaning_at.Goals as goal
 
 pub returns : goal.returns

@@ -1,5 +1,5 @@
 -- Each task keeps the invariant.
-use Rattle.std.proofs.Common.{rules, ◌≡◌, ℕ, Bool, List, false, [], ◌∷◌, ◌++◌, length, replicate, reverse, ◌∙◌, sym, subst, ap}
+use Rattle.std.proofs.Common.{rules, ◌≡◌, ℕ, List, false, [], ◌∷◌, ◌++◌, length, replicate, reverse, ◌∙◌, sym, subst, ap}
 use Rattle.std.proofs.lemmas.List.{reverse-append}
 use Rattle.xs_flat.specs.declared.needs.Mark.TheVariants.{Unmet}
 use Rattle.xs_flat.specs.declared.needs.Task.{Task}

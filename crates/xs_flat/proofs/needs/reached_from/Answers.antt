@@ -1,6 +1,6 @@
 -- Looking at what waits keeps the invariant, and where nothing waits all is told.
-use Rattle.std.proofs.Common.{rules, arith, ◌≡◌, List, ℕ, Bool, false, [], ◌∷◌, ◌++◌, length, replicate, ◌∙◌, sym, subst, ap}
-use Rattle.xs_flat.specs.Links.{graph_of, AreReached, Spread, spread_by, IsSpreading}
+use Rattle.std.proofs.Common.{rules, arith, ◌≡◌, List, ℕ, false, [], ◌∷◌, ◌++◌, length, replicate, ◌∙◌, sym, subst, ap}
+use Rattle.xs_flat.specs.Links.{graph_of, Spread, spread_by, IsSpreading}
 use Rattle.xs_flat.specs.Spreads.{spread_of}
 use Rattle.xs_flat.proofs.ReachLaws.{graph_within, no_items, spreading_first, spreading_by, spread_all}
 use Rattle.xs_flat.proofs.needs.reached_from.Goals as goal

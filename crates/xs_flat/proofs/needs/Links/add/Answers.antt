@@ -1,5 +1,5 @@
 -- The row of a number gets a link more.
-use Rattle.std.proofs.Common.{rules, ◌≡◌, ◌<◌, ◌≤◌, length, ap, ◌∙◌, sym}
+use Rattle.std.proofs.Common.{rules, ◌<◌, ◌≤◌, length, ap, ◌∙◌, sym}
 use Rattle.xs_flat.specs.Links.{rows}
 use Rattle.xs_flat.proofs.LinkLaws.{linked_row, linked_past}
 use Rattle.xs_flat.proofs.needs.Links.add.Goals as goal

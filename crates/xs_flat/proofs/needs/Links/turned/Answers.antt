@@ -1,5 +1,5 @@
 -- All rows are added from their other ends.
-use Rattle.std.proofs.Common.{rules, ◌≡◌, ◌≤◌, ℕ, List, [], length, map, drop, replicate, ap, ◌∙◌, sym}
+use Rattle.std.proofs.Common.{rules, ◌≤◌, ℕ, List, length, map, ap, ◌∙◌, sym}
 use Rattle.std.proofs.lemmas.List.{drop_all}
 use Rattle.std.specs.Prelude.{Vec}
 use Rattle.std.specs.declared.alloc.Global.{Global}

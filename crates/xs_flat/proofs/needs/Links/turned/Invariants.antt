@@ -1,5 +1,5 @@
 -- The links so far from their other ends, with the rows that are left, are all.
-use Rattle.std.proofs.Common.{◌≡◌, ℕ, List, [], length, map, drop, replicate}
+use Rattle.std.proofs.Common.{◌≡◌, ℕ, [], length, map, drop, replicate}
 use Rattle.std.specs.Prelude.{Vec}
 use Rattle.std.specs.declared.alloc.Global.{Global}
 use Rattle.xs_flat.specs.Links.{rows, turned_from}

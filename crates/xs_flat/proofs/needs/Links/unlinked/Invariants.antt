@@ -1,5 +1,5 @@
 -- A row without links for each turn.
-use Rattle.std.proofs.Common.{◌≡◌, List, [], map, replicate, ℕ}
+use Rattle.std.proofs.Common.{◌≡◌, [], map, replicate, ℕ}
 use Rattle.std.specs.Prelude.{Vec}
 use Rattle.std.specs.declared.alloc.Global.{Global}
 use Rattle.xs_flat.proofs.needs.Links.unlinked.Given as goal

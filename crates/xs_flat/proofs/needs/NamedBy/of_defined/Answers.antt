@@ -1,6 +1,5 @@
 -- All names are read.
-use Rattle.std.proofs.Common.{rules, ◌≡◌, ℕ, List, Bool, false, ◌≤◌, length}
-use Rattle.xs_tree.specs.ProgramTree.{Path}
+use Rattle.std.proofs.Common.{rules, ◌≡◌, false, ◌≤◌, length}
 use Rattle.xs_tree.specs.Written.{tree_of}
 use Rattle.xs_flat.specs.Flagged.{flagged}
 use Rattle.xs_flat.proofs.NamingLaws.{all_needed, all_read, all_found}

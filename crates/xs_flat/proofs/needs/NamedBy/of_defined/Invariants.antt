@@ -1,5 +1,5 @@
 -- What is named so far, with what is left, is all.
-use Rattle.std.proofs.Common.{◌≡◌, ◌||◌, ◌++◌, map, drop}
+use Rattle.std.proofs.Common.{◌≡◌, ◌||◌, ◌++◌, drop}
 use Rattle.xs_tree.specs.Trace.{Each}
 use Rattle.xs_flat.specs.Naming.{needs_in, reads_in, IsFoundAt, first_names}
 use Rattle.xs_flat.proofs.needs.NamedBy.of_defined.Given as goal

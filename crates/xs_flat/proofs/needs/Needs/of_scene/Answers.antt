@@ -1,5 +1,5 @@
 -- What is found by numbers is what the program asks for by keys.
-use Rattle.std.proofs.Common.{rules, ◌≡◌, ℕ, List, Bool, length, replicate, ap, ◌∙◌, subst}
+use Rattle.std.proofs.Common.{rules, ◌≡◌, ℕ, List, length, replicate, ap, ◌∙◌, subst}
 use Rattle.xs_flat.specs.Links.{graph_of, AreReached}
 use Rattle.xs_flat.specs.Laying.{placed_from}
 use Rattle.xs_flat.proofs.SceneNeeds.{links_into, are_needs}
