@@ -27,15 +27,7 @@ use Rattle.xs_flat.specs.declared.needs.Needs.{Needs}
 use Rattle.xs_flat.specs.declared.walk.Meaning.{Meaning as Found}
 use Rattle.xs_flat.specs.declared.walk.Meaning.TheVariants as found
 use Rattle.xs_flat.proofs.JudgeNames.{one_meaning, not_nothing, not_loop, definition_circles}
-
-none_some : {A : Type 0} (a : A) → None ≡ Some a → ⊥
-none_some a e = cc
-
-some_same : {A : Type 0} (a b : A) → Some a ≡ Some b → a ≡ b
-some_same a b e = cc
-
-never : {A : Type 0} → false ≡ true → A
-never e = cc
+use Rattle.xs_flat.proofs.JudgeLists.{none_some, some_same, never}
 
 -- What is known of a formal, and what its name means.
 back_loops : (p : ProgramTree) (at : Place) (x : Text) → ComesBack p at x → MeetsLoop p at (x ∷ [])

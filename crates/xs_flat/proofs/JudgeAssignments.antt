@@ -24,12 +24,10 @@ use Rattle.xs_flat.specs.declared.names.Scene.{Scene}
 use Rattle.xs_flat.proofs.JudgeItems.{Judges, Tests, code_of, told_tests, told_names, told_target, told_item, nowhere}
 use Rattle.xs_flat.proofs.JudgeTargets.{target_is}
 use Rattle.xs_flat.proofs.JudgeTimes.{is_double, times_added}
+use Rattle.xs_flat.proofs.JudgeLists.{never}
 
-never : {A : Type 0} → false ≡ true → A
-never e = cc
-
-none_some : {A : Type 0} (a : A) → Some a ≡ None → ⊥
-none_some a e = cc
+some_none : {A : Type 0} (a : A) → Some a ≡ None → ⊥
+some_none a e = cc
 
 -- a name without a value
 pub names_told : (s : Scene) (spot place : ℕ) (es : List (Bor (List ℕ) × Times)) (a : AssignmentTree) (j : Judged) → Judges (program_of s) spot a.value j → j.no_value ≡ true →
@@ -38,7 +36,7 @@ names_told s spot place es a j judged broken = record {
   told = λ at at_spot i at_place is times.
       told_item (program_of s) at i (an_assignment a) (Some code.NoSuchName) is
       (told_names (program_of s) at (record { number = i.number; before = i.before; item = an_assignment a }) ((judged at at_spot).no_value.0 broken));
-  times = λ e. absurd (none_some code.NoSuchName e);
+  times = λ e. absurd (some_none code.NoSuchName e);
 }
 
 no_names : (p : ProgramTree) (at : Place) (a : AssignmentTree) (j : Judged) → IsJudged p at a.value j → j.no_value ≡ false → BreaksNames p at (an_assignment a) → ⊥
@@ -58,7 +56,7 @@ target_told s scene spot place es a j judged kept wrong = record {
       told_item (program_of s) at i (an_assignment a) (Some code.NotATarget) is
       (told_target (program_of s) at (record { number = i.number; before = i.before; item = an_assignment a }) (no_names (program_of s) at.place a j (judged at at_spot) kept)
       (no_target s scene spot at at_spot a.when a.target wrong));
-  times = λ e. absurd (none_some code.NotATarget e);
+  times = λ e. absurd (some_none code.NotATarget e);
 }
 
 -- an assignment with a lawful target and lawful names

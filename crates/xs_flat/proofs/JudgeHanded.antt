@@ -25,15 +25,9 @@ use Rattle.xs_flat.specs.declared.names.Scene.{Scene}
 use Rattle.xs_flat.specs.declared.needs.Needs.{Needs}
 use Rattle.xs_flat.proofs.JudgeActuals.{IsFormalOf, formal_of, plain_told, value_told}
 use Rattle.xs_flat.proofs.JudgeItems.{Judges, Tests, told_tests, told_item, nowhere}
-use Rattle.xs_flat.proofs.JudgeLists.{take_step, take_end}
+use Rattle.xs_flat.proofs.JudgeLists.{none_some, some_same, take_step, take_end}
 use Rattle.xs_flat.proofs.JudgePlaces.{formal_is, handed}
 use Rattle.xs_flat.proofs.JudgeValues.{one_more}
-
-none_some : {A : Type 0} (a : A) → None ≡ Some a → ⊥
-none_some a e = cc
-
-some_same : {A : Type 0} (a b : A) → Some a ≡ Some b → a ≡ b
-some_same a b e = cc
 
 get_less : {A : Type 0} (xs : List A) (i : ℕ) (x : A) → slice_get xs i ≡ Some x → i < length xs
 get_less [] i x e = absurd (none_some x e)

@@ -24,12 +24,7 @@ use Rattle.xs_flat.specs.declared.judge.Times.{Times}
 use Rattle.xs_flat.specs.declared.names.Scene.{Scene}
 use Rattle.xs_flat.specs.declared.walk.Spot.{Spot}
 use Rattle.xs_flat.proofs.JudgePlaces.{HasSpot, has_spot}
-
-none_some : {A : Type 0} (a : A) → None ≡ Some a → ⊥
-none_some a e = cc
-
-some_same : {A : Type 0} (a b : A) → Some a ≡ Some b → a ≡ b
-some_same a b e = cc
+use Rattle.xs_flat.proofs.JudgeLists.{none_some, some_same}
 
 -- A list at a place.
 take_at : {A : Type 0} (xs : List A) (k : ℕ) (x : A) → slice_get xs k ≡ Some x → take (suc k) xs ≡ take k xs ++ x ∷ []

@@ -1,7 +1,16 @@
--- What holds of the first elements of a list, with one more, and of all.
+-- Tests and options that differ, and what holds of the first elements of a list, with one more, and of all.
 use Rattle.std.proofs.Common.{◌≡◌, ℕ, zero, suc, ◌+◌, ◌<◌, ◌≤◌, arith, Bool, true, false, List, [], ◌∷◌, ◌++◌, length, get_or, take, Option, Some, None, map, refl, sym, ◌∙◌, ap, subst}
 use Rattle.std.specs.Prelude.{slice_get}
 use Rattle.std.proofs.lemmas.List.{take_more, take_all}
+
+pub none_some : {A : Type 0} (a : A) → None ≡ Some a → ⊥
+none_some a e = cc
+
+pub some_same : {A : Type 0} (a b : A) → Some a ≡ Some b → a ≡ b
+some_same a b e = cc
+
+pub never : {A : Type 0} → false ≡ true → A
+never e = cc
 
 pub take_step : {X : Type 0} (P : List X → Type 0) (xs : List X) (i : ℕ) (x : X) → i < length xs → x ≡ get_or xs i x → P (take i xs ++ x ∷ []) → P (take (i + 1) xs)
 take_step P xs i x within is h = subst P (ap (λ y. take i xs ++ y ∷ []) is ∙ sym (take_more xs i x within)) h

@@ -22,12 +22,7 @@ use Rattle.xs_flat.specs.declared.model.Role.TheVariants.{State, Input, Frozen}
 use Rattle.xs_flat.specs.declared.needs.Needs.{Needs}
 use Rattle.xs_flat.specs.declared.walk.Meaning.{Meaning as Found}
 use Rattle.xs_flat.specs.declared.walk.Meaning.TheVariants as found
-
-none_some : {A : Type 0} (a : A) → None ≡ Some a → ⊥
-none_some a e = cc
-
-never : {A : Type 0} → false ≡ true → A
-never e = cc
+use Rattle.xs_flat.proofs.JudgeLists.{none_some, some_same, never}
 
 pub one_meaning : (p : ProgramTree) (at : Place) (name : Path) (a b : Meaning) → Means p at name a → Means p at name b → a ≡ b
 one_meaning p at name a b h k = same_meaning h.0 k.0 p at name a b h.1 k.1
@@ -109,9 +104,6 @@ found_kind p walkable k role at x d =
       subst (λ a. kind_at (module_at p a) x ≡ a_variable (role_of role) r.what) d.2
           (subst (λ y. kind_at (module_at p d.0.place) y ≡ a_variable (role_of role) r.what) d.3 (r.kind ∙ ap (λ q. a_variable q r.what) d.4)),
     )
-
-some_same : {A : Type 0} (a b : A) → Some a ≡ Some b → a ≡ b
-some_same a b e = cc
 
 get_map : {A B : Type 0} (f : A → B) (xs : List A) (k : ℕ) (x : A) → slice_get xs k ≡ Some x → slice_get (map f xs) k ≡ Some (f x)
 get_map f [] k x e = absurd (none_some x e)

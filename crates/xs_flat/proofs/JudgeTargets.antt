@@ -26,12 +26,7 @@ use Rattle.xs_flat.specs.declared.walk.Meaning.{Meaning as Found}
 use Rattle.xs_flat.specs.declared.walk.Meaning.TheVariants as found
 use Rattle.xs_flat.proofs.JudgeNames.{found_kind}
 use Rattle.xs_flat.proofs.JudgePlaces.{HasModule, has_module, HasSpot, has_spot, own_is}
-
-none_some : {A : Type 0} (a : A) → None ≡ Some a → ⊥
-none_some a e = cc
-
-some_same : {A : Type 0} (a b : A) → Some a ≡ Some b → a ≡ b
-some_same a b e = cc
+use Rattle.xs_flat.proofs.JudgeLists.{none_some, some_same}
 
 -- The table of a module's names.
 pub data SaysLocal (m : ModuleTree) (x : Text) (o : Option Local) : Type 0 where

@@ -36,9 +36,7 @@ use Rattle.xs_flat.proofs.JudgeItems.{Judges, constants_told, definition_told, i
 use Rattle.xs_flat.proofs.JudgeHanded.{actuals_told}
 use Rattle.xs_flat.proofs.JudgePlaces.{own_is, handed}
 use Rattle.xs_flat.proofs.JudgeTimes.{is_assignment, times_kept}
-
-none_some : {A : Type 0} (a : A) → None ≡ Some a → ⊥
-none_some a e = cc
+use Rattle.xs_flat.proofs.JudgeLists.{none_some, some_same}
 
 -- an own meaning is that of the item
 own_meaning : (s : Scene) → IsScene s → (k : ℕ) (at : FlatInstance) → slice_get (instances_of (program_of s)) k ≡ Some at → (place : ℕ) (i : NumberedItem) →
@@ -83,9 +81,6 @@ instance_meant p inside (found.Definition k) d e = absurd d
 instance_meant p inside (found.Symbol k) d e = absurd d
 instance_meant p inside found.Nothing d e = absurd d
 instance_meant p inside found.Loop d e = absurd d
-
-some_same : {A : Type 0} (a b : A) → Some a ≡ Some b → a ≡ b
-some_same a b e = cc
 
 instance_found : (p : ProgramTree) (inside : Place) (f : Found) (k : ℕ) → Denotes p f (an_instance_at inside) → instance_in f ≡ Some k → (ins : FlatInstance) × (slice_get (instances_of p) k ≡ Some ins) × (ins.place ≡ inside)
 instance_found p inside (found.Instance j) k d e = subst (λ n. (ins : FlatInstance) × (slice_get (instances_of p) n ≡ Some ins) × (ins.place ≡ inside)) (some_same j k e) d
