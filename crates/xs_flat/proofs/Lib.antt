@@ -25,3 +25,4 @@ pub mod BuildSound
 pub mod BuildFormulas
 pub mod BuildModel
 pub mod BuildLoops
+pub mod FlatFaults

@@ -247,10 +247,10 @@ module _ (p : ProgramTree) (walkable : IsWalkable p) where
       of_one (members ms) rest = (keeps_differ w vs h.0, rest)
       of_one (instance m actuals) rest = rest
 
-  -- no variable is listed twice
-  pub variables_apart : (m : ModuleTree) → find_module p (codes "main") ≡ Some m → Apart (variables_of p)
-  variables_apart m e = keeps_apart (visits p) (walk_apart (length p) [] [] (codes "main") m e (all_visit_facts p walkable)).0
-
   -- no declaration is visited twice
   pub visits_apart : (m : ModuleTree) → find_module p (codes "main") ≡ Some m → Apart (visits p)
   visits_apart m e = (walk_apart (length p) [] [] (codes "main") m e (all_visit_facts p walkable)).0
+
+  -- no variable is listed twice
+  pub variables_apart : (m : ModuleTree) → find_module p (codes "main") ≡ Some m → Apart (variables_of p)
+  variables_apart m e = keeps_apart (visits p) (visits_apart m e)
