@@ -73,3 +73,4 @@ pub mod EnterLaws
 pub mod MetLaws
 pub mod VisitFaults
 pub mod WholeLaws
+pub mod FlatFaults

@@ -12,13 +12,15 @@ ghost use Rattle.xs_flat.specs.Faults.{first_of, IsPastMain, IsFaultOf};
 ghost use Rattle.std.specs.Prelude.{Some};
 ghost use Rattle.xs_flattening.specs.Rules.{IsAccepted};
 ghost use Rattle.xs_flattening.specs.Model.{IsFlatOf};
-ghost use Rattle.xs_flat.specs.SceneTree.{module_from};
+ghost use Rattle.xs_flat.specs.SceneTree.{module_from, IsScene, program_of};
+ghost use Rattle.xs_flat.specs.Closed.{AreVariables};
+ghost use Rattle.xs_flat.specs.Walked.{AreDeclared};
 
 use crate::bounds::Bounds;
 use crate::build::build;
 use crate::fault::{FlatFault, Rule};
 use crate::judge::{Judged, judge, judge_value};
-use crate::model::{Flat, FlatModel};
+use crate::model::{Flat, FlatModel, VariableList};
 use crate::modules::{Modules, main_place};
 use crate::names::Scene;
 use crate::needs::Needs;
@@ -59,13 +61,48 @@ fn flatten_from(alloc: Global, p: &Program, main: usize) -> Result<FlatModel, Fl
     ensures flat { IfOk result (λ m. IsFlatOf (program_tree p.now) (model_tree m)) }
     ensures fault { IfErr result (IsFaultOf (program_tree p.now)) }
 {
+    let (scene, variables) = scene_of(alloc, p, main)?;
+    model_of(alloc, &scene, variables)
+}
+
+/// The tables of a program whose module `main` stands at a place, and its variables.
+#[tactic(auto, using(crate::proofs::FlatFaults::want_fault))]
+fn scene_of<'a>(
+    alloc: Global,
+    p: &'a Program,
+    main: usize,
+) -> Result<(Scene<'a>, VariableList), FlatFault>
+    requires main { module_from 0 (program_tree p.now) (codes "main") ≡ Some main }
+    ensures scene { IfOk result (λ made. IsScene made.0) }
+    ensures program { IfOk result (λ made. program_of made.0 ≡ program_tree p.now) }
+    ensures variables { IfOk result (λ made. AreVariables made.1) }
+    ensures declared { IfOk result (λ made. AreDeclared (program_tree p.now) made.1) }
+    ensures fault { IfErr result (IsFaultOf (program_tree p.now)) }
+{
     let modules = Modules::read(alloc, p, main)?;
-    let walk = Walk::whole(alloc, &modules)?;
-    let (spots, variables) = walk.into_parts();
+    let (spots, variables) = Walk::whole(alloc, &modules)?.into_parts();
     let scene = Scene::of_instances(alloc, modules, spots)?;
-    let needs = Needs::of_scene(alloc, &scene)?;
-    judge(alloc, &scene, &needs)?;
-    build(alloc, &scene, &needs, variables)
+    Ok((scene, variables))
+}
+
+/// The flat model of a scene with these variables, if no rule of its items is broken.
+#[tactic(auto, using(crate::proofs::FlatFaults::want_fault))]
+fn model_of(
+    alloc: Global,
+    scene: &Scene<'_>,
+    variables: VariableList,
+) -> Result<FlatModel, FlatFault>
+    requires scene { IsScene scene.now }
+    requires variables { AreVariables variables }
+    requires declared { AreDeclared (program_of scene.now) variables }
+    ensures closed { IfOk result IsClosedModel }
+    ensures accepted { IfOk result (λ m. IsAccepted (program_of scene.now)) }
+    ensures flat { IfOk result (λ m. IsFlatOf (program_of scene.now) (model_tree m)) }
+    ensures fault { IfErr result (IsFaultOf (program_of scene.now)) }
+{
+    let needs = Needs::of_scene(alloc, scene)?;
+    judge(alloc, scene, &needs)?;
+    build(alloc, scene, &needs, variables)
 }
 
 /// An expression at `main`, over the numbers of the program's flat model. It may have no `next` and read

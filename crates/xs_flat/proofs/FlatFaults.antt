@@ -1,0 +1,50 @@
+-- Want of memory is always a fault, and of an accepted program it is the only one.
+use Rattle.std.proofs.Common.{◌≡◌, ℕ, suc, Bool, true, false, List, [], ◌∷◌, Option, Some, None, refl, sym, ◌∙◌, ap, subst, if◌then◌else◌}
+use Rattle.std.specs.Prelude.{codes, IfSome, IfOk, IfErr}
+use Rattle.std.specs.declared.result.Result.{Result}
+use Rattle.std.specs.declared.result.Result.TheVariants.{Ok, Err}
+use Rattle.xs_tree.specs.ProgramTree.{Text, ModuleTree, ProgramTree}
+use Rattle.xs_tree.specs.Texts.{same_text}
+use Rattle.xs_tree.specs.Scope.{find_module}
+use Rattle.xs_tree.specs.Trace.{Each}
+use Rattle.xs_flattening.specs.Rules as rules
+use Rattle.xs_flattening.specs.Rules.{IsFirstBroken, IsAccepted, IsWalkable, IsKept, use_sites}
+use Rattle.xs_flattening.proofs.Laws.{accepted_unbroken}
+use Rattle.xs_flattening.proofs.Walkable.{walkable_accepted, accepted_walkable, main_is_there}
+use Rattle.xs_flat.specs.declared.fault.Rule.TheVariants as code
+use Rattle.xs_flat.specs.declared.fault.FlatFault.{FlatFault}
+use Rattle.xs_flat.specs.Faults.{rule_of, IsFaultOf, IsWant}
+use Rattle.xs_flat.specs.SceneTree.{module_from}
+
+pub want_fault : (p : ProgramTree) (f : FlatFault) → IsWant f → IsFaultOf p f
+want_fault p f want = subst (λ r. IfSome (rule_of r) (λ r. IsFirstBroken p r f.item)) (sym want) tt
+
+-- a fault of an accepted program breaks no rule
+pub no_rule : (p : ProgramTree) (f : FlatFault) → IsAccepted p → IsFaultOf p f → rule_of f.rule ≡ None
+no_rule p f accepted fault = by_rule (rule_of f.rule) fault
+  where
+    by_rule : (o : Option rules.Rule) → IfSome o (λ r. IsFirstBroken p r f.item) → o ≡ None
+    by_rule None h = refl
+    by_rule (Some r) h = absurd (accepted_unbroken p r f.item accepted h)
+
+pub ok_always : {T E : Type 0} (r : Result T E) (A : Type 0) → A → IfOk r (λ _. A)
+ok_always (Ok x) A a = a
+ok_always (Err e) A a = tt
+
+pub ok_both : {T E : Type 0} (r : Result T E) (A : Type 0) → IfOk r (λ _. A) → (B : Type 0) → (A → B) → IfOk r (λ _. B)
+ok_both (Ok x) A a B f = f a
+ok_both (Err e) A a B f = tt
+
+pub no_place : (k : ℕ) (p : ProgramTree) (x : Text) → module_from k p x ≡ None → find_module p x ≡ None
+no_place k [] x e = refl
+no_place k (m ∷ ms) x e = by_name (same_text m.name x) refl (λ h. no_place (suc k) ms x h)
+  where
+    by_name : (b : Bool) → same_text m.name x ≡ b → (module_from (suc k) ms x ≡ None → find_module ms x ≡ None) → find_module (m ∷ ms) x ≡ None
+    by_name true t rest = let bad : Some k ≡ None = rw t at e in cc
+    by_name false t rest = ap (λ b. if b then Some m else find_module ms x) t ∙ rest (rw t at e)
+
+-- an accepted program has a module `main`
+pub main_found : (p : ProgramTree) → IsAccepted p → module_from 0 p (codes "main") ≡ None → ⊥
+main_found p accepted e =
+    let main : (m : ModuleTree) × (find_module p (codes "main") ≡ Some m) = main_is_there p (accepted_walkable p accepted) in
+    let bad : None ≡ Some main.0 = sym (no_place 0 p (codes "main") e) ∙ main.1 in cc
