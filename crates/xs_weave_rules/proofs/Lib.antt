@@ -6,3 +6,4 @@ pub mod WeavableLaw
 mod KeyedLaws
 mod LocalLaws
 mod SiteFaults
+mod CountLaws

@@ -9,3 +9,4 @@ pub mod Locals
 pub mod Names
 pub mod Faults
 pub mod OutOfMemory
+pub mod Counted
