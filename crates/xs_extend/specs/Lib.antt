@@ -1,1 +1,2 @@
 pub mod WovenFaults
+pub mod Refused
