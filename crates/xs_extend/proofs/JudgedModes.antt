@@ -19,7 +19,7 @@ use Rattle.xs_flattening.proofs.Conditions.{each_at}
 use Rattle.xs_flattening.proofs.Lists.{each_more}
 use Rattle.xs_flattening.proofs.Resolving.{Known, names_known}
 use Rattle.xs_flattening.proofs.Places.{has_main}
-use Rattle.xs_flattening.proofs.Flattening.{main_is_there}
+use Rattle.xs_flattening.proofs.Walkable.{accepted_walkable, main_is_there}
 use Rattle.xs_flattening.proofs.Variables.{variables_are}
 use Rattle.xs_kinds.specs.Judged.{Class, number_class, symbol_class, KindRule, mixed_enum, unless_class, first_class}
 use Rattle.xs_kinds.specs.Declared.{member_kind, judged_declared}
@@ -40,7 +40,7 @@ or_right true b h = cc
 or_right false b h = h
 
 mutual
-  no_next : {L : Type 0} (t : Tree L) → has_next t ≡ false → NoNext t
+  pub no_next : {L : Type 0} (t : Tree L) → has_next t ≡ false → NoNext t
   no_next (is_truth b) h = tt
   no_next (is_number n) h = tt
   no_next (leaf l) h = tt
@@ -157,9 +157,9 @@ one_type p at x r q s t a b =
 
 pub types_uniform : TypesAreUniform
 types_uniform p m accepted is typed at k x role type here kind =
-    let listed : (i : ℕ) × (v : FlatVariable) × (slice_get m.variables i ≡ Some v) × (v.place ≡ at) × (v.name ≡ x) = (variables_are p accepted m is at x).0 (role, type, (k, here, kind)) in
-    let main : (n : ModuleTree) × (find_module p (codes "main") ≡ Some n) = main_is_there p accepted in
-    let origin : From p m listed.1 = each_at (From p m) m.variables listed.0 listed.1 (from p m (variables_of p) m.variables is.variables (real_all p (visits p) (has_main p accepted main.0 main.1))) listed.2 in
+    let listed : (i : ℕ) × (v : FlatVariable) × (slice_get m.variables i ≡ Some v) × (v.place ≡ at) × (v.name ≡ x) = (variables_are p (accepted_walkable p accepted) m is at x).0 (role, type, (k, here, kind)) in
+    let main : (n : ModuleTree) × (find_module p (codes "main") ≡ Some n) = main_is_there p (accepted_walkable p accepted) in
+    let origin : From p m listed.1 = each_at (From p m) m.variables listed.0 listed.1 (from p m (variables_of p) m.variables is.variables (real_all p (visits p) (has_main p (accepted_walkable p accepted) main.0 main.1))) listed.2 in
     let right : (judged_declared listed.1.declared).broken ≡ [] =
     each_at (λ y. (judged_declared y.declared).broken ≡ []) m.variables listed.0 listed.1 (types_right m.variables (none_first (variable_breaches m.variables) _ typed.kept)) listed.2 in
     let there : IsVariable p at x origin.visit.role origin.visit.decl.what =

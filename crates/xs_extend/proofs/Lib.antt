@@ -1,2 +1,3 @@
 mod FaultLaws
-mod JudgedModes
+pub mod JudgedModes
+pub mod LawfulLaws

@@ -11,6 +11,8 @@ use Rattle.xs_flattening.specs.Resolved.{Definition, Resolver, IsSound, IsResolv
 use Rattle.xs_flattening.specs.Rules.{IsAccepted}
 use Rattle.xs_flattening.specs.Model.{IsFlatOf}
 use Rattle.xs_kinds.specs.Models.{judged_in, broken_condition, IsTyped}
+use Rattle.xs_flattening.specs.Looks.{ActualsMean}
+use Rattle.xs_weave.specs.Weavable.{IsLawfulInstance}
 use Rattle.xs_weave_rules.specs.Judged.{IsJudgedMode}
 
 module _ (p : ProgramTree) (m : FlatModel) (written : List Definition) (at : Place) where
@@ -62,3 +64,7 @@ abbrev pub TypesAreUniform : Type 0
 TypesAreUniform =
     (p : ProgramTree) (m : FlatModel) → IsAccepted p → IsFlatOf p m → IsTyped m → (at : Place) (k : ModuleTree) (x : Text) (role : Role) (type : DeclaredTree) →
     IsInstance p at k → kind_in k x ≡ a_variable role type → IsUniform type
+
+-- each instance of a program that breaks no rule of names, whose actuals mean something, is such as the weave takes
+abbrev pub InstancesAreLawful : Type 0
+InstancesAreLawful = (p : ProgramTree) (m : FlatModel) → IsAccepted p → IsFlatOf p m → ActualsMean p → (at : Place) (k : ModuleTree) → IsInstance p at k → IsLawfulInstance p at k
