@@ -1,1 +1,3 @@
 mod FaultLaws
+pub mod JudgedModes
+pub mod LawfulLaws

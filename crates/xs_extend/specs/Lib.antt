@@ -1,1 +1,3 @@
 pub mod WovenFaults
+pub mod Refused
+pub mod JudgedLaws

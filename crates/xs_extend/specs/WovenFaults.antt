@@ -1,5 +1,5 @@
 -- The list of faults that a weave gives, over the instances of a flat model.
-use Rattle.std.specs.Prelude.{List, [], Option, Some, None, map, flat_map, reverse}
+use Rattle.std.specs.Prelude.{List, [], Option, Some, None, flat_map, reverse}
 use Rattle.xs_tree.specs.ProgramTree.{Path}
 use Rattle.xs_tree.specs.Scope.{Place}
 use Rattle.xs_fei.specs.Instructions.{InstructionTree, slices_of}

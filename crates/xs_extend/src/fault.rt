@@ -1,3 +1,6 @@
+ghost use Rattle.std.specs.Prelude.{◌≡◌};
+ghost use Rattle.xs_extend.specs.Refused.{of_rule, IsWant};
+
 use std::alloc::{AllocError, AllocFailed};
 use xs_flat::FlatFault;
 use xs_types::TypeFault;
@@ -24,6 +27,8 @@ pub struct WeaveFault {
 }
 
 impl From<RuleFault> for WeaveFault {
+    ghost from_gives = { λ told fault. fault ≡ of_rule told };
+
     fn from(fault: RuleFault) -> WeaveFault {
         WeaveFault {
             cause: Cause::Weave(fault.rule),
@@ -33,6 +38,8 @@ impl From<RuleFault> for WeaveFault {
 }
 
 impl From<OutOfMemory> for WeaveFault {
+    ghost from_gives = { λ _ fault. IsWant fault };
+
     fn from(_refused: OutOfMemory) -> WeaveFault {
         WeaveFault {
             cause: Cause::Weave(Rule::OutOfMemory),
@@ -42,6 +49,8 @@ impl From<OutOfMemory> for WeaveFault {
 }
 
 impl From<AllocError> for WeaveFault {
+    ghost from_gives = { λ _ fault. IsWant fault };
+
     fn from(_refused: AllocError) -> WeaveFault {
         WeaveFault {
             cause: Cause::Weave(Rule::OutOfMemory),
@@ -51,6 +60,8 @@ impl From<AllocError> for WeaveFault {
 }
 
 impl<T: Drop> From<AllocFailed<T>> for WeaveFault {
+    ghost from_gives = { λ _ fault. IsWant fault };
+
     fn from(_refused: AllocFailed<T>) -> WeaveFault {
         WeaveFault {
             cause: Cause::Weave(Rule::OutOfMemory),

@@ -1,6 +1,9 @@
 //! The rules of guards and Follows expressions, tried by instances, then items. Each expression is judged
 //! as a DEFINE of its module would be: first by the rules of names, then by those of kinds.
 
+ghost use Rattle.std.specs.Prelude.{IfErr};
+ghost use Rattle.xs_extend.specs.Refused.{IsOfExpressions, IsFromExpressions};
+
 use crate::fault::{Cause, WeaveFault};
 use std::alloc::Global;
 use xs_fei::{Effect, ModeRule};
@@ -36,7 +39,9 @@ pub(crate) fn judge_guards(
     alloc: Global,
     nominal: Nominal<'_>,
     slices: &[Placed<'_>],
-) -> Result<(), WeaveFault> {
+) -> Result<(), WeaveFault>
+    ensures { IfErr result IsFromExpressions }
+{
     let mut number = 0;
     for instance in nominal.typed.model().instances.as_slice() {
         judge_instance(alloc, nominal, number, &instance.module, slices)?;
@@ -52,7 +57,9 @@ fn judge_instance(
     instance: u32,
     module: &Name,
     slices: &[Placed<'_>],
-) -> Result<(), WeaveFault> {
+) -> Result<(), WeaveFault>
+    ensures { IfErr result IsFromExpressions }
+{
     for placed in slices {
         if placed.owner.is_same(module) {
             judge_slice(alloc, nominal, instance, *placed)?;
@@ -66,7 +73,9 @@ fn judge_slice(
     nominal: Nominal<'_>,
     instance: u32,
     placed: Placed<'_>,
-) -> Result<(), WeaveFault> {
+) -> Result<(), WeaveFault>
+    ensures { IfErr result IsFromExpressions }
+{
     let mut item = placed.item;
     for mode in placed.slice.modes.as_slice() {
         item = item_after(item)?;
@@ -86,7 +95,9 @@ fn judge_mode(
     instance: u32,
     declared: &Declared,
     mode: &ModeRule,
-) -> Result<(), Cause> {
+) -> Result<(), Cause>
+    ensures { IfErr result IsOfExpressions }
+{
     let resolved = resolve_mode(alloc, nominal, instance, mode)?;
     let kinds = kinds_of(nominal.typed, &resolved)?;
     if !follows_fits(kinds.follows, declared) {
@@ -104,7 +115,9 @@ fn resolve_mode(
     nominal: Nominal<'_>,
     instance: u32,
     mode: &ModeRule,
-) -> Result<Resolved, Cause> {
+) -> Result<Resolved, Cause>
+    ensures { IfErr result IsOfExpressions }
+{
     let follows = resolve(alloc, nominal, instance, false, follows_of(&mode.effect));
     let guard = resolve(alloc, nominal, instance, true, mode.guard.as_ref());
     match (follows, guard) {
@@ -140,7 +153,9 @@ fn follows_of(effect: &Effect) -> Option<&Expr<Dotted>> {
 }
 
 /// The kinds of a mode's expressions, or the first rule of kinds that one of them breaks.
-fn kinds_of(typed: &Typed, resolved: &Resolved) -> Result<Kinds, Cause> {
+fn kinds_of(typed: &Typed, resolved: &Resolved) -> Result<Kinds, Cause>
+    ensures { IfErr result IsOfExpressions }
+{
     let follows = kind(typed, resolved.follows.as_ref());
     let guard = kind(typed, resolved.guard.as_ref());
     match (follows, guard) {
@@ -212,19 +227,25 @@ fn is_symbol(member: Option<&Member>) -> bool {
     }
 }
 
-fn kind_fault(rule: Rule) -> Cause {
+fn kind_fault(rule: Rule) -> Cause
+    ensures { IsOfExpressions result }
+{
     Cause::Kinds(TypeFault { rule, item: 0 })
 }
 
 /// Want of memory is told as such, and never inside another fault.
-pub(crate) fn flat_cause(fault: FlatFault) -> Cause {
+pub(crate) fn flat_cause(fault: FlatFault) -> Cause
+    ensures { IsOfExpressions result }
+{
     match fault.rule {
         xs_flat::Rule::OutOfMemory => Cause::Weave(xs_weave_rules::Rule::OutOfMemory),
         _ => Cause::Flat(fault),
     }
 }
 
-pub(crate) fn type_cause(fault: TypeFault) -> Cause {
+pub(crate) fn type_cause(fault: TypeFault) -> Cause
+    ensures { IsOfExpressions result }
+{
     match fault.rule {
         Rule::OutOfMemory => Cause::Weave(xs_weave_rules::Rule::OutOfMemory),
         _ => Cause::Kinds(fault),

@@ -1,9 +1,17 @@
 //! The public calls: the woven program with its faults.
 
-ghost use Rattle.std.specs.Prelude.{◌≡◌, IfOk};
+ghost use Rattle.std.specs.Prelude.{◌≡◌, ◌≢◌, IfOk, IfErr, OnOk, map};
 ghost use Rattle.xs_tree.specs.ProgramTree.{program_tree};
 ghost use Rattle.xs_fei.specs.Instructions.{instruction_tree};
 ghost use Rattle.xs_weave.specs.Woven.{woven};
+ghost use Rattle.xs_weave_rules.specs.Counted.{module_names};
+ghost use Rattle.xs_weave_rules.specs.Sites.{item_sites};
+ghost use Rattle.xs_weave_rules.specs.Rules.{broken_at};
+ghost use Rattle.xs_weave_rules.specs.Counting.{count_broken_at};
+ghost use Rattle.xs_weave_rules.specs.FirstBroken.{AllKept, IsFirstBroken};
+ghost use Rattle.xs_weave_rules.specs.declared.fault.Rule.TheVariants as broken;
+ghost use Rattle.xs_extend.specs.WovenFaults.{fault_tree, faults_at};
+ghost use Rattle.xs_extend.specs.Refused.{modules_in, KeepsRules, IsTold, IsToldSomewhere};
 
 use crate::fault::{Cause, WeaveFault};
 use crate::faults::{Woven, woven_faults};
@@ -16,13 +24,15 @@ use xs_types::{Typed, check_model};
 use xs_value::{Name, OutOfMemory};
 use xs_weave::woven_program;
 use xs_weave_rules::{
-    extensions_have_negations, judge_counts, modules_have_negations, placed_slices,
+    RuleFault, extensions_have_negations, judge_counts, modules_have_negations, placed_slices,
 };
 
 /// The program woven with the instructions, and its faults; or the first rule that the instructions break.
 /// The program breaks no rule itself; where one does, that is told with item 0.
 pub fn weave(alloc: Global, p: &Program, i: &Instructions) -> Result<Woven, WeaveFault>
     ensures program { IfOk result (λ w. program_tree w.program ≡ woven (program_tree p.now) (instruction_tree i.now)) }
+    ensures kept { OnOk result (AllKept (broken_at (program_tree p.now)) (item_sites (instruction_tree i.now))) }
+    ensures told { IfErr result (λ fault. IsToldSomewhere (program_tree p.now) (instruction_tree i.now) fault) }
 {
     let typed = typed_of(alloc, p)?;
     weave_typed(alloc, p, &typed, i)
@@ -36,19 +46,48 @@ pub fn weave_typed(
     i: &Instructions,
 ) -> Result<Woven, WeaveFault>
     ensures program { IfOk result (λ w. program_tree w.program ≡ woven (program_tree p.now) (instruction_tree i.now)) }
+    ensures faults { IfOk result (λ w. map fault_tree w.faults ≡ faults_at (instruction_tree i.now) typed.now.model.instances) }
+    ensures kept { OnOk result (KeepsRules (program_tree p.now) (instruction_tree i.now) (modules_in typed.now.model.instances)) }
+    ensures told { IfErr result (λ fault. IsTold (program_tree p.now) (instruction_tree i.now) (modules_in typed.now.model.instances) fault) }
+{
+    judge(alloc, p, typed, i)?;
+    let woven = made(alloc, p, typed, i)?;
+    Ok(woven)
+}
+
+/// Tells the first rule that the instructions break.
+fn judge(alloc: Global, p: &Program, typed: &Typed, i: &Instructions) -> Result<(), WeaveFault>
+    ensures kept { OnOk result (KeepsRules (program_tree p.now) (instruction_tree i.now) (modules_in typed.now.model.instances)) }
+    ensures told { IfErr result (λ fault. IsTold (program_tree p.now) (instruction_tree i.now) (modules_in typed.now.model.instances) fault) }
 {
     let slices = placed_slices(alloc, p, i)?;
-    let instances = typed.model().instances.as_slice();
-    let owners = modules_of(alloc, instances)?;
-    judge_counts(alloc, owners.as_slice(), slices.as_slice())?;
-    judge_guards(alloc, Nominal { program: p, typed }, slices.as_slice())?;
+    count(alloc, typed, i)?;
+    judge_guards(alloc, Nominal { program: p, typed }, slices.as_slice())
+}
+
+/// Tells the first mode with which there are too many faults, or too many modes.
+fn count(alloc: Global, typed: &Typed, i: &Instructions) -> Result<(), RuleFault>
+    ensures kept { OnOk result (AllKept (count_broken_at (modules_in typed.now.model.instances)) (item_sites (instruction_tree i.now))) }
+    ensures first { IfErr result (λ fault. fault.rule ≢ broken.OutOfMemory → IsFirstBroken (count_broken_at (modules_in typed.now.model.instances)) (item_sites (instruction_tree i.now)) fault.rule fault.item) }
+{
+    let owners = modules_of(alloc, typed.model().instances.as_slice())?;
+    judge_counts(owners.as_slice(), i)
+}
+
+/// The woven program and its faults, of instructions that break no rule.
+fn made(alloc: Global, p: &Program, typed: &Typed, i: &Instructions) -> Result<Woven, OutOfMemory>
+    ensures program { IfOk result (λ w. program_tree w.program ≡ woven (program_tree p.now) (instruction_tree i.now)) }
+    ensures faults { IfOk result (λ w. map fault_tree w.faults ≡ faults_at (instruction_tree i.now) typed.now.model.instances) }
+{
     let program = program_of(alloc, p, i)?;
-    let faults = woven_faults(alloc, instances, i)?;
+    let faults = woven_faults(alloc, typed.model().instances.as_slice(), i)?;
     Ok(Woven { program, faults })
 }
 
 /// The module of each instance.
-fn modules_of<'a>(alloc: Global, instances: &'a [Instance]) -> Result<Vec<&'a Name>, OutOfMemory> {
+fn modules_of<'a>(alloc: Global, instances: &'a [Instance]) -> Result<Vec<&'a Name>, OutOfMemory>
+    ensures { IfOk result (λ modules. module_names modules.items ≡ modules_in instances.now) }
+{
     let mut modules = Vec::new(alloc);
     for instance in instances {
         modules.push(&instance.module)?;
@@ -57,7 +96,9 @@ fn modules_of<'a>(alloc: Global, instances: &'a [Instance]) -> Result<Vec<&'a Na
 }
 
 /// The flat model of a program, with kinds.
-fn typed_of(alloc: Global, p: &Program) -> Result<Typed, WeaveFault> {
+fn typed_of(alloc: Global, p: &Program) -> Result<Typed, WeaveFault>
+    ensures { IfErr result (λ fault. fault.item ≡ 0) }
+{
     let model = match flatten(alloc, p) {
         Ok(model) => model,
         Err(fault) => return Err(of_program(flat_cause(fault))),
@@ -69,7 +110,9 @@ fn typed_of(alloc: Global, p: &Program) -> Result<Typed, WeaveFault> {
 }
 
 /// A fault of the program itself.
-fn of_program(cause: Cause) -> WeaveFault {
+fn of_program(cause: Cause) -> WeaveFault
+    ensures { result ≡ record { cause = cause; item = 0 } }
+{
     WeaveFault { cause, item: 0 }
 }
 

@@ -5,6 +5,14 @@ pub mod ToldLaws
 pub mod NodeLaws
 pub mod ListLaws
 pub mod ExprLaws
-pub mod CallLaws
 pub mod SizeLaws
 pub mod DigitLaws
+pub mod TypeLaws
+pub mod NumberingLaws
+pub mod MetLaws
+pub mod SiteLaws
+pub mod KeptLaws
+pub mod PartLaws
+pub mod CallLaws
+pub mod ModelLaws
+pub mod DomainLaws

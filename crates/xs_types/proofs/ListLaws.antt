@@ -1,21 +1,21 @@
 -- The members of a set and the branches of a case are judged as the table of kinds says.
 use Rattle.std.proofs.Common.{◌≡◌, ℕ, ◌+◌, ◌<◌, Bool, true, false, not, ◌||◌, List, [], ◌∷◌, ◌++◌, length, get_or, drop, Option, Some, None, refl, sym, ap, ◌∙◌}
-use Rattle.std.specs.Prelude.{flat_map, map}
+use Rattle.std.specs.Prelude.{flat_map}
 use Rattle.std.proofs.lemmas.List.{drop_more}
 use Rattle.xs_tree.specs.declared.expr.Expr.{Expr}
 use Rattle.xs_tree.specs.Tree.{Tree, Branches, no_branch, branch_then}
 use Rattle.xs_tree.specs.Written.{tree_of, trees_of, branches_of}
 use Rattle.xs_kinds.specs.Intervals.{Interval}
-use Rattle.xs_kinds.specs.Judged.{Class, truth_class, number_class, symbol_class, Kind, Judged, KindRule, mismatch, not_boolean, case_end, joined, rule_if, unless_class, unlike_first, first_class, hull_of, hull_from, kinds_in, broken_in, some_set, judged_set, judged_case, is_word_true, ends_in_true, judge, judge_trees, judge_conditions, judge_values, same_class as same}
+use Rattle.xs_kinds.specs.Judged.{Class, truth_class, number_class, symbol_class, Kind, Judged, KindRule, mismatch, not_boolean, case_end, joined, rule_if, unless_class, unlike_first, hull_of, hull_from, kinds_in, broken_in, some_set, judged_set, judged_case, is_word_true, ends_in_true, judge, judge_trees, judge_conditions, judge_values, same_class as same}
 use Rattle.xs_types.specs.declared.fault.Rule.{Rule}
 use Rattle.xs_types.specs.declared.fault.Rule.TheVariants.{Mismatch, NotBoolean, CaseEnd}
 use Rattle.xs_types.specs.declared.sort.Class.TheVariants.{Truth}
 use Rattle.xs_types.specs.declared.several.Several.{Several}
 use Rattle.xs_types.specs.declared.several.Guards.{Guards}
-use Rattle.xs_types.specs.Rows.{lower, unless, class_rule, some_values}
+use Rattle.xs_types.specs.Rows.{lower, unless, class_rule}
 use Rattle.xs_types.specs.Answers.{told_class, told_rules, told_sort, told}
 use Rattle.xs_types.specs.Several.{add_to, add_all, guard_by, guard_all, no_guards, row_set, row_case}
-use Rattle.xs_types.proofs.ToldLaws.{lower_again, lower_none, told_join, joins, told_rule_if, told_class_rule, told_some}
+use Rattle.xs_types.proofs.ToldLaws.{lower_again, lower_none, told_join, joins, told_class_rule, told_some}
 
 or_again : (a b c : Bool) → (a || b) || c ≡ a || (b || c)
 or_again true b c = refl
@@ -58,7 +58,7 @@ like_itself number_class rs = refl
 like_itself symbol_class rs = refl
 
 -- all values of a list that is not empty
-all_of : (j : Judged) (js : List Judged) → add_all None (j ∷ js) ≡ Some (record {
+pub all_of : (j : Judged) (js : List Judged) → add_all None (j ∷ js) ≡ Some (record {
   sort = record { class = told_class j.kind.class; interval = hull_of (kinds_in (j ∷ js)) };
   is_set = some_set (j ∷ js);
   own = told_rules (unlike_first mismatch (kinds_in (j ∷ js)));

@@ -1,13 +1,52 @@
--- What is left of the costs of a list, one element on.
-use Rattle.std.proofs.Common.{◌≡◌, ℕ, ◌+◌, ◌<◌, List, length, get_or, drop, ap, ◌∙◌}
+-- What is left of the costs of a list, one element on, and the costs and bits of a model.
+use Rattle.std.proofs.Common.{◌≡◌, ℕ, ◌+◌, ◌<◌, List, [], ◌∷◌, length, get_or, drop, ap, sym, ◌∙◌, refl, arith}
+use Rattle.std.specs.Prelude.{map, sum_by}
 use Rattle.std.proofs.lemmas.List.{drop_more}
 use Rattle.std.proofs.lemmas.List.Sums.{sum_by-cons}
+use Rattle.xs_tree.specs.ProgramTree.{Text}
+use Rattle.xs_tree.specs.Written.{tree_of}
+use Rattle.xs_flattening.specs.Flat.{FlatFormula, FlatVariable}
 use Rattle.xs_flat.specs.declared.model.Formula.{Formula}
 use Rattle.xs_flat.specs.declared.model.Variable.{Variable}
-use Rattle.xs_types.specs.Sizes.{formula_cost, formulas_cost, variable_cost, variables_cost}
+use Rattle.xs_flat.specs.declared.model.FlatModel.{FlatModel}
+use Rattle.xs_flat.specs.ModelTree.{leaf_of, formula_tree, variable_tree, model_tree}
+use Rattle.xs_kinds.specs.Costs.{cost_of, declared_cost, declared_width, role_width, model_cost, state_bits, formulas_cost as cost_of_formulas}
+use Rattle.xs_kinds.proofs.Mapped.{cost_mapped}
+use Rattle.xs_types.specs.Sizes.{formula_cost, formulas_cost, variable_cost, variables_cost, variable_bits, variables_bits}
 
 pub formulas_cost_more : (fs : List Formula) (i : ℕ) (d : Formula) → i < length fs → formulas_cost (drop i fs) ≡ formula_cost (get_or fs i d) + formulas_cost (drop (i + 1) fs)
 formulas_cost_more fs i d h = ap formulas_cost (drop_more fs i d h) ∙ sum_by-cons formula_cost (get_or fs i d) (drop (i + 1) fs)
 
 pub variables_cost_more : (vs : List Variable) (i : ℕ) (d : Variable) → i < length vs → variables_cost (drop i vs) ≡ variable_cost (get_or vs i d) + variables_cost (drop (i + 1) vs)
 variables_cost_more vs i d h = ap variables_cost (drop_more vs i d h) ∙ sum_by-cons variable_cost (get_or vs i d) (drop (i + 1) vs)
+
+pub variables_bits_more : (symbols : List Text) (vs : List Variable) (i : ℕ) (d : Variable) → i < length vs →
+    variables_bits symbols (drop i vs) ≡ variable_bits symbols (get_or vs i d) + variables_bits symbols (drop (i + 1) vs)
+variables_bits_more symbols vs i d h = ap (variables_bits symbols) (drop_more vs i d h) ∙ sum_by-cons (variable_bits symbols) (get_or vs i d) (drop (i + 1) vs)
+
+formulas_same : (fs : List Formula) → cost_of_formulas (map formula_tree fs) ≡ formulas_cost fs
+formulas_same [] = refl
+formulas_same (f ∷ fs) =
+    sum_by-cons (λ (x : FlatFormula). cost_of x.value) (formula_tree f) (map formula_tree fs) ∙ ap (λ n. n + cost_of_formulas (map formula_tree fs)) (cost_mapped leaf_of (tree_of f.value))
+    ∙ ap (λ n. formula_cost f + n) (formulas_same fs) ∙ sym (sum_by-cons formula_cost f fs)
+
+variables_same : (vs : List Variable) → sum_by (λ (x : FlatVariable). declared_cost x.declared) (map variable_tree vs) ≡ variables_cost vs
+variables_same [] = refl
+variables_same (v ∷ vs) =
+    sum_by-cons (λ (x : FlatVariable). declared_cost x.declared) (variable_tree v) (map variable_tree vs) ∙ ap (λ n. variable_cost v + n) (variables_same vs) ∙ sym (sum_by-cons variable_cost v vs)
+
+-- the cost of a model, by the parts of its code
+pub whole_cost : (m : FlatModel) →
+    model_cost (model_tree m) ≡ variables_cost m.variables + formulas_cost m.definitions + formulas_cost m.init + formulas_cost m.invar + formulas_cost m.trans
+whole_cost m =
+    omega (arith, variables_same m.variables, formulas_same m.definitions, formulas_same m.init, formulas_same m.invar, formulas_same m.trans)
+
+-- the bits of a model's states
+pub whole_bits : (m : FlatModel) → state_bits (model_tree m) ≡ variables_bits m.symbols m.variables
+whole_bits m = go m.variables
+  where
+    go : (vs : List Variable) → sum_by (λ (x : FlatVariable). role_width x.role (declared_width m.symbols x.declared)) (map variable_tree vs) ≡ variables_bits m.symbols vs
+    go [] = refl
+    go (v ∷ vs) =
+        sum_by-cons (λ (x : FlatVariable). role_width x.role (declared_width m.symbols x.declared)) (variable_tree v) (map variable_tree vs) ∙ ap (λ n. variable_bits m.symbols v + n) (go vs)
+        ∙ sym (sum_by-cons (variable_bits m.symbols) v vs)

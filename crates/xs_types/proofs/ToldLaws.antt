@@ -1,5 +1,5 @@
 -- Of joined rules the first is the first of both firsts.
-use Rattle.std.proofs.Common.{◌≡◌, ℕ, ◌<◌, Bool, true, false, not, cond, nat_lt, ◌&&◌, ◌||◌, List, [], ◌∷◌, ◌++◌, Option, Some, None, refl, sym, ap, ◌∙◌, arith}
+use Rattle.std.proofs.Common.{◌≡◌, Bool, true, false, not, cond, nat_lt, ◌&&◌, ◌||◌, List, [], ◌∷◌, ◌++◌, Option, Some, None, refl, sym, ap, ◌∙◌, arith}
 use Rattle.std.proofs.lemmas.Bool.{ltb-true, ltb-false}
 use Rattle.xs_kinds.specs.Intervals.{Interval, fits}
 use Rattle.xs_kinds.specs.Judged as found
@@ -8,7 +8,6 @@ use Rattle.xs_kinds.specs.Models.{least, least_after, lesser}
 use Rattle.xs_kinds.proofs.Least.{least_join, least_of_both}
 use Rattle.xs_types.specs.declared.fault.Rule.{Rule}
 use Rattle.xs_types.specs.declared.fault.Rule.TheVariants.{SetHere, TooWide}
-use Rattle.xs_types.specs.declared.sort.Judged.{Judged}
 use Rattle.xs_types.specs.Rows.{rule_number, lesser_rule, lower, unless, same_class, class_rule, where_kept, one_value, some_values, exact_of}
 use Rattle.xs_types.specs.Answers.{told_class, told_rule, told_first, told_rules, told_sort, told}
 
@@ -41,7 +40,7 @@ pub lower_none : (a : Option Rule) → lower a None ≡ a
 lower_none None = refl
 lower_none (Some r) = refl
 
-same_number : (r : KindRule) → rule_number (told_rule r) ≡ number_of r
+pub same_number : (r : KindRule) → rule_number (told_rule r) ≡ number_of r
 same_number mismatch = refl
 same_number not_boolean = refl
 same_number set_here = refl

@@ -1,5 +1,5 @@
 -- What the code answers for what the definitions of kinds say: of all rules that are broken, the first.
-use Rattle.std.specs.Prelude.{Option, Some, None, List, slice_get}
+use Rattle.std.specs.Prelude.{Option, Some, None, List}
 use Rattle.xs_kinds.specs.Judged as found
 use Rattle.xs_kinds.specs.Judged.{Kind, KindRule, truth_class, number_class, symbol_class, mismatch, not_boolean, set_here, may_divide_by_zero, too_wide, empty_range, mixed_enum, case_end, too_large, double_member}
 use Rattle.xs_kinds.specs.Models.{least}

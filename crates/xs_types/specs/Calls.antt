@@ -1,9 +1,13 @@
 -- What is answered for an expression of a typed model.
-use Rattle.std.specs.Prelude.{ℕ, pos, neg_ℤ, nat_lt, Bool, true, false, Option, Some, None, Result, Ok, Err, List, ◌++◌}
+use Rattle.std.specs.Prelude.{pos, neg_ℤ, Bool, true, false, Option, Some, None, Result, Ok, Err, List}
+use Rattle.xs_tree.specs.Tree.{Tree}
+use Rattle.xs_tree.specs.Values.{Value}
+use Rattle.xs_flattening.specs.Flat.{FlatLeaf, FlatModel}
+use Rattle.xs_flattening.specs.FlatTrace.{AreInDomains}
 use Rattle.xs_kinds.specs.Judged as found
-use Rattle.xs_kinds.specs.Judged.{Judged, truth_class, number_class, symbol_class}
-use Rattle.xs_kinds.specs.Models.{broken_condition}
-use Rattle.xs_flat.specs.declared.model.Flat.{Flat}
+use Rattle.xs_kinds.specs.Judged.{KindRule}
+use Rattle.xs_kinds.specs.Laws.{IsClosed, ReadsOwn, KeepsKind}
+use Rattle.xs_kinds.specs.Models.{judged_in}
 use Rattle.xs_types.specs.declared.fault.Rule.{Rule}
 use Rattle.xs_types.specs.declared.fault.Rule.TheVariants.{TooLarge}
 use Rattle.xs_types.specs.declared.fault.TypeFault.{TypeFault}
@@ -11,7 +15,7 @@ use Rattle.xs_types.specs.declared.calls.Kind.{Kind}
 use Rattle.xs_types.specs.declared.calls.Kind.TheVariants.{Bool as ABool, Num, Sym}
 use Rattle.xs_types.specs.declared.sort.Class.TheVariants.{Truth, Number, Symbol}
 use Rattle.xs_types.specs.declared.sort.Sort.{Sort}
-use Rattle.xs_types.specs.Answers.{told_rules, told_sort}
+use Rattle.xs_types.specs.Answers.{told_rule, told_sort}
 
 -- a sort as a kind; a missing interval is that of all numbers within 32 bits
 abbrev pub sort_kind : Sort → Kind
@@ -30,14 +34,28 @@ shown k = sort_kind (told_sort k)
 abbrev pub fault_of : Rule → TypeFault
 fault_of r = record { rule = r; item = 0 }
 
--- a value's kind, or the first rule that it breaks
-abbrev pub value_answer : Judged → Result Kind TypeFault
-value_answer j = elim (told_rules j.broken) [ Some r ↦ Err (fault_of r) | None ↦ Ok (shown j.kind) ]
+-- a value's kind, or the rule for which it is refused
+abbrev pub value_answer : Option KindRule → found.Kind → Result Kind TypeFault
+value_answer None k = Ok (shown k)
+value_answer (Some r) k = Err (fault_of (told_rule r))
 
-abbrev pub size_answer : Bool → Result (Unit {0}) TypeFault
-size_answer true = Err (fault_of TooLarge)
-size_answer false = Ok tt
+-- nothing, or the rule for which a condition is refused
+abbrev pub top_answer : Option KindRule → Result (Unit {0}) TypeFault
+top_answer None = Ok tt
+top_answer (Some r) = Err (fault_of (told_rule r))
 
--- nothing, or the first rule that a condition of this cost breaks; its cost is tried last
-abbrev pub top_answer : ℕ → Judged → Result (Unit {0}) TypeFault
-top_answer cost j = elim (told_rules (broken_condition j)) [ Some r ↦ Err (fault_of r) | None ↦ size_answer (nat_lt 50000 cost) ]
+-- the same of what the code judges
+abbrev pub value_by : Option Rule → Sort → Result Kind TypeFault
+value_by None s = Ok (sort_kind s)
+value_by (Some r) s = Err (fault_of r)
+
+-- a condition that breaks no rule may still be too large
+abbrev pub top_by : Option Rule → Bool → Result (Unit {0}) TypeFault
+top_by (Some r) large = Err (fault_of r)
+top_by None true = Err (fault_of TooLarge)
+top_by None false = Ok tt
+
+-- An expression over the model's own names keeps its kind, at values of the domains.
+abbrev pub LiesInKind : FlatModel → Tree FlatLeaf → Type 0
+LiesInKind m e =
+    IsClosed m → ReadsOwn m e → (v w : List Value) → AreInDomains m.variables v → AreInDomains m.variables w → KeepsKind m v w (judged_in m false e) e

@@ -4,4 +4,11 @@ pub mod Answers
 pub mod Several
 pub mod Names
 pub mod Calls
+pub mod Kept
+pub mod Sites
+pub mod Types
+pub mod Numbering
+pub mod Met
+pub mod Faults
 pub mod Sizes
+pub mod Parts

@@ -1,5 +1,5 @@
 -- The rules of one node, where of the rules that are broken the first alone is kept.
-use Rattle.std.specs.Prelude.{ℕ, ℤ, ◌&&◌, ◌||◌, Bool, true, false, not, nat_lt, int_lt, Option, Some, None, if◌then◌else◌}
+use Rattle.std.specs.Prelude.{ℕ, ℤ, ◌||◌, Bool, true, false, not, nat_lt, int_lt, Option, Some, None, if◌then◌else◌}
 use Rattle.xs_tree.specs.declared.expr.Op.{Op}
 use Rattle.xs_tree.specs.declared.expr.Op.TheVariants as op
 use Rattle.xs_kinds.specs.Intervals.{Interval, just, has_zero, fits}
@@ -79,6 +79,10 @@ abbrev pub row_span : Bool → ℤ → ℤ → Judged
 row_span sets lo hi =
     let e = exact_of (Some (record { lo = lo; hi = hi })) in
     some_values sets true (lower (unless (not (int_lt hi lo)) EmptyRange) e.wide) (record { class = Number; interval = e.interval }) None
+
+-- the same of one of its numbers
+abbrev pub row_range : ℤ → ℤ → Judged
+row_range lo hi = let all = row_span true lo hi in record { sort = all.sort; is_set = false; broken = all.broken }
 
 abbrev pub row_not : Judged → Judged
 row_not a = one_value (class_rule Truth NotBoolean a.sort) Truth None a.broken

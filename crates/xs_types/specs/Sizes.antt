@@ -1,11 +1,11 @@
--- What a flat model costs.
-use Rattle.std.specs.Prelude.{ℕ, ◌+◌, List, sum_by}
-use Rattle.xs_tree.specs.ProgramTree.{declared_tree}
+-- What the variables and formulas of a flat model cost, and how many bits its variables have.
+use Rattle.std.specs.Prelude.{ℕ, List, sum_by}
+use Rattle.xs_tree.specs.ProgramTree.{Text, declared_tree}
 use Rattle.xs_tree.specs.Written.{tree_of}
-use Rattle.xs_kinds.specs.Costs.{cost_of, declared_cost}
+use Rattle.xs_kinds.specs.Costs.{cost_of, declared_cost, declared_width, role_width}
 use Rattle.xs_flat.specs.declared.model.Formula.{Formula}
 use Rattle.xs_flat.specs.declared.model.Variable.{Variable}
-use Rattle.xs_flat.specs.declared.model.FlatModel.{FlatModel}
+use Rattle.xs_flat.specs.ModelTree.{role_of}
 
 abbrev pub formula_cost : Formula → ℕ
 formula_cost f = cost_of (tree_of f.value)
@@ -19,6 +19,9 @@ variable_cost v = declared_cost (declared_tree v.declared)
 abbrev pub variables_cost : List Variable → ℕ
 variables_cost vs = sum_by variable_cost vs
 
--- the cost of all variables, definitions and formulas
-abbrev pub flat_cost : FlatModel → ℕ
-flat_cost m = variables_cost m.variables + formulas_cost m.definitions + formulas_cost m.init + formulas_cost m.invar + formulas_cost m.trans
+-- the bits of a variable in a state
+abbrev pub variable_bits : List Text → Variable → ℕ
+variable_bits symbols v = role_width (role_of v.role) (declared_width symbols (declared_tree v.declared))
+
+abbrev pub variables_bits : List Text → List Variable → ℕ
+variables_bits symbols vs = sum_by (variable_bits symbols) vs

@@ -1,5 +1,5 @@
 -- What the code answers for what definitions say.
-use Rattle.std.specs.Prelude.{ℤ, pos, neg_ℤ, ◌≤ℤ◌, Bool, true, false, Option, Some, None, if◌then◌else◌}
+use Rattle.std.specs.Prelude.{ℤ, pos, neg_ℤ, ◌≤ℤ◌, Option, Some, None, if◌then◌else◌}
 use Rattle.xs_kinds.specs.Intervals.{Interval, fits}
 
 -- an interval that ends within 32 bits

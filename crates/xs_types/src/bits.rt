@@ -1,19 +1,77 @@
 //! How many bits stand for a variable's value.
 
-ghost use Rattle.std.specs.Prelude.{◌≡◌, ◌≤◌};
-ghost use Rattle.xs_kinds.specs.Costs.{digits_of, digits_above, width_of};
+ghost use Rattle.std.specs.Prelude.{◌≡◌, ◌≤◌, None, map};
+ghost use Rattle.xs_tree.specs.ProgramTree.{declared_tree};
+ghost use Rattle.xs_kinds.specs.Costs.{digits_of, digits_above, width_of, width_in, member_number, declared_width};
+ghost use Rattle.xs_types.specs.Types.{widened, spread};
 
-use xs_value::Domain;
+use crate::symbols::SymbolNumbers;
+use std::marker::Model;
+use xs_tree::{Declared, Member};
 
-/// The number of bits of a domain. A truth value has 1. Numbers that are never below 0 have as many as the
-/// greatest has binary digits, and at least 1; others have the least width at which both ends are numbers
-/// in two's complement. A symbol is its number. Takes no memory.
-pub(crate) fn domain_bits(domain: &Domain) -> u32 {
-    match domain {
-        Domain::Boolean => 1,
-        Domain::Range { lo, hi } => width(*lo, *hi),
-        Domain::Numbers(numbers) => width(least(numbers.as_slice()), greatest(numbers.as_slice())),
-        Domain::Symbols(symbols) => width(0, greatest_symbol(symbols.as_slice()) as i64),
+/// The least and the greatest of some numbers.
+#[derive(Clone, Copy)]
+struct Ends {
+    lo: i64,
+    hi: i64,
+}
+
+impl Model for Ends {
+    ghost use Rattle.xs_kinds.specs.Intervals.{Interval};
+
+    ghost Value = { Interval };
+
+    ghost view = { λ e. record { lo = e.lo; hi = e.hi } };
+
+    ghost inverse = { λ e. record { lo = e.lo; hi = e.hi } };
+}
+
+/// The number of bits of a declared type. A truth value has 1. Numbers that are never below 0 have as many
+/// as the greatest has binary digits, and at least 1; others have the least width at which both ends are
+/// numbers in two's complement. A symbol is its number, and an instance has none. Takes no memory.
+#[tactic(auto, using(crate::proofs::TypeLaws::hull_spread))]
+pub(crate) fn declared_bits(numbers: &SymbolNumbers<'_>, declared: &Declared) -> u32
+    ensures { result ≡ declared_width numbers.now.symbols.now (declared_tree declared.now) }
+{
+    match declared {
+        Declared::Boolean => 1,
+        Declared::Instance(_, _) => 0,
+        Declared::Range(lo, hi) => width(*lo, *hi),
+        Declared::Members(members) => ends_width(ends_of(numbers, members.as_slice())),
+    }
+}
+
+/// The least and the greatest number of some members.
+fn ends_of(numbers: &SymbolNumbers<'_>, members: &[Member]) -> Option<Ends>
+    ensures { result ≡ spread None (map (member_number numbers.now.symbols.now) members.now) }
+{
+    let mut ends = None;
+    for member in members {
+        ends = Some(widened(ends, numbers.member(member)));
+    }
+    ends
+}
+
+/// The ends with one more number.
+fn widened(ends: Option<Ends>, n: i64) -> Ends
+    ensures { result ≡ widened ends n }
+{
+    match ends {
+        Some(ends) => Ends {
+            lo: ends.lo.min(n),
+            hi: ends.hi.max(n),
+        },
+        None => Ends { lo: n, hi: n },
+    }
+}
+
+/// The bits of the numbers between two ends, and none where there are no numbers.
+fn ends_width(ends: Option<Ends>) -> u32
+    ensures { result ≡ width_in ends }
+{
+    match ends {
+        Some(ends) => width(ends.lo, ends.hi),
+        None => 0,
     }
 }
 
@@ -51,28 +109,4 @@ fn digits(n: u64) -> u32
         }
     }
     count
-}
-
-fn least(numbers: &[i64]) -> i64 {
-    let mut found = i64::MAX;
-    for number in numbers {
-        found = found.min(*number);
-    }
-    found
-}
-
-fn greatest(numbers: &[i64]) -> i64 {
-    let mut found = i64::MIN;
-    for number in numbers {
-        found = found.max(*number);
-    }
-    found
-}
-
-fn greatest_symbol(symbols: &[u32]) -> u32 {
-    let mut found = 0;
-    for symbol in symbols {
-        found = found.max(*symbol);
-    }
-    found
 }

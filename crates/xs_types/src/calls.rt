@@ -1,16 +1,15 @@
 //! Expressions over a typed model that are no part of it.
 
-ghost use Rattle.std.specs.Prelude.{◌≡◌, true, false};
-ghost use Rattle.xs_tree.specs.Written.{tree_of};
-ghost use Rattle.xs_kinds.specs.Judged.{judge};
-ghost use Rattle.xs_kinds.specs.Costs.{cost_of};
-ghost use Rattle.xs_types.specs.Names.{name_kind};
-ghost use Rattle.xs_types.specs.Calls.{sort_kind, shown, value_answer, top_answer};
+ghost use Rattle.std.specs.Prelude.{◌≡◌, true, false, [], nat_lt, OnOk};
+ghost use Rattle.xs_flat.specs.ModelTree.{model_tree, flat_tree};
+ghost use Rattle.xs_kinds.specs.Models.{judged_in, broken_condition, value_fault, top_fault};
+ghost use Rattle.xs_types.specs.Answers.{told};
+ghost use Rattle.xs_types.specs.Calls.{sort_kind, shown, value_answer, top_answer, value_by, top_by, LiesInKind};
 
 use crate::cost::{COST_LIMIT, cost};
 use crate::fault::{Rule, TypeFault};
 use crate::judge::judge;
-use crate::sort::{Class, Sort, broken_condition};
+use crate::sort::{Class, Judged, Sort, broken_condition};
 use crate::typed::Typed;
 use xs_flat::Flat;
 use xs_tree::Expr;
@@ -26,33 +25,62 @@ pub enum Kind {
 
 /// The kind of an expression that breaks no rule, also of a set. Takes no memory.
 pub fn kind_of(t: &Typed, e: &Expr<Flat>) -> Kind
-    ensures { result ≡ shown (judge (name_kind t.now.sorts) true (tree_of e.now)).kind }
+    ensures { result ≡ shown (judged_in (model_tree t.now.model) true (flat_tree e.now)).kind }
 {
-    known_kind(judge(t.sorts(), true, e).sort)
+    known_kind(judge_in(t, true, e).sort)
 }
 
 /// The kind of an expression, or the first rule that it breaks, with item 0. A set is refused. Takes no
 /// memory.
+///
+/// An expression that is not refused breaks no rule, and at values of the domains its value lies in its
+/// kind.
 pub fn check_value(t: &Typed, e: &Expr<Flat>) -> Result<Kind, TypeFault>
-    ensures { result ≡ value_answer (judge (name_kind t.now.sorts) false (tree_of e.now)) }
+    ensures answer { result ≡ value_answer (value_fault (model_tree t.now.model) (flat_tree e.now)) (judged_in (model_tree t.now.model) false (flat_tree e.now)).kind }
+    ensures kept { OnOk result ((judged_in (model_tree t.now.model) false (flat_tree e.now)).broken ≡ []) }
+    ensures lies { OnOk result (LiesInKind (model_tree t.now.model) (flat_tree e.now)) }
 {
-    let judged = judge(t.sorts(), false, e);
-    match judged.broken {
-        Some(rule) => Err(TypeFault { rule, item: 0 }),
-        None => Ok(known_kind(judged.sort)),
-    }
+    let judged = judge_in(t, false, e);
+    value_told(judged.broken, judged.sort)
 }
 
 /// Whether an expression may be a top event; else the first rule that it breaks, with item 0. It must be a
 /// truth value, and its cost at most 50,000, which is tried last. Takes no memory.
-#[tactic(auto, using(crate::proofs::CallLaws::told_condition))]
+///
+/// An expression that is not refused is a condition that breaks no rule.
 pub fn check_top(t: &Typed, e: &Expr<Flat>) -> Result<(), TypeFault>
-    ensures { result ≡ top_answer (cost_of (tree_of e.now)) (judge (name_kind t.now.sorts) false (tree_of e.now)) }
+    ensures answer { result ≡ top_answer (top_fault (model_tree t.now.model) (flat_tree e.now)) }
+    ensures kept { OnOk result (broken_condition (judged_in (model_tree t.now.model) false (flat_tree e.now)) ≡ []) }
+    ensures lies { OnOk result (LiesInKind (model_tree t.now.model) (flat_tree e.now)) }
 {
-    let judged = judge(t.sorts(), false, e);
-    match broken_condition(judged) {
+    let judged = judge_in(t, false, e);
+    top_told(broken_condition(judged), cost(e) > COST_LIMIT)
+}
+
+/// An expression over a typed model.
+fn judge_in(t: &Typed, sets: bool, e: &Expr<Flat>) -> Judged
+    ensures { result ≡ told (judged_in (model_tree t.now.model) sets (flat_tree e.now)) }
+{
+    judge(t.sorts(), sets, e)
+}
+
+/// What is told of a value that breaks a rule or none.
+fn value_told(broken: Option<Rule>, sort: Sort) -> Result<Kind, TypeFault>
+    ensures { result ≡ value_by broken sort }
+{
+    match broken {
         Some(rule) => Err(TypeFault { rule, item: 0 }),
-        None if cost(e) > COST_LIMIT => Err(TypeFault {
+        None => Ok(known_kind(sort)),
+    }
+}
+
+/// What is told of a condition that breaks a rule or none, and is too large or not.
+fn top_told(broken: Option<Rule>, large: bool) -> Result<(), TypeFault>
+    ensures { result ≡ top_by broken large }
+{
+    match broken {
+        Some(rule) => Err(TypeFault { rule, item: 0 }),
+        None if large => Err(TypeFault {
             rule: Rule::TooLarge,
             item: 0,
         }),

@@ -1,11 +1,14 @@
-//! The cost of expressions, by which large models are refused.
+//! The cost of expressions and of models, by which large models are refused.
 
 ghost use Rattle.std.specs.Prelude.{◌≡◌, ◌+◌, min};
 ghost use Rattle.xs_tree.specs.Written.{tree_of, trees_of, branches_of};
-ghost use Rattle.xs_kinds.specs.Costs.{op_cost, cost_of, trees_cost, branches_cost};
+ghost use Rattle.xs_tree.specs.ProgramTree.{declared_tree};
+ghost use Rattle.xs_flat.specs.ModelTree.{model_tree};
+ghost use Rattle.xs_kinds.specs.Costs.{op_cost, cost_of, trees_cost, branches_cost, declared_cost, model_cost};
+ghost use Rattle.xs_types.specs.Sizes.{formulas_cost, variables_cost};
 
-use xs_flat::Flat;
-use xs_tree::{Expr, Op};
+use xs_flat::{Flat, FlatModel, Formula, Variable};
+use xs_tree::{Declared, Expr, Op};
 
 /// The greatest cost of a model, and of a top event.
 pub(crate) const COST_LIMIT: u64 = 50_000;
@@ -67,5 +70,56 @@ fn weight(op: Op) -> u64
     match op {
         Op::Times | Op::Over | Op::Mod => 64,
         _ => 1,
+    }
+}
+
+/// The cost of a model, which is that of its variables, definitions and formulas; one more than the limit
+/// stands for every greater one.
+#[tactic(auto, using(crate::proofs::SizeLaws::whole_cost))]
+pub(crate) fn model_cost(m: &FlatModel) -> u64
+    ensures { result ≡ min (model_cost (model_tree m.now)) 50001 }
+{
+    let conditions = both(
+        formulas_cost(m.init.as_slice()),
+        both(
+            formulas_cost(m.invar.as_slice()),
+            formulas_cost(m.trans.as_slice()),
+        ),
+    );
+    both(
+        variables_cost(m.variables.as_slice()),
+        both(formulas_cost(m.definitions.as_slice()), conditions),
+    )
+}
+
+#[tactic(auto, using(crate::proofs::SizeLaws::formulas_cost_more))]
+fn formulas_cost(formulas: &[Formula]) -> u64
+    ensures { result ≡ min (formulas_cost formulas.now) 50001 }
+{
+    let mut total = 0;
+    for formula in formulas {
+        total = both(total, cost(&formula.value));
+    }
+    total
+}
+
+#[tactic(auto, using(crate::proofs::SizeLaws::variables_cost_more))]
+fn variables_cost(variables: &[Variable]) -> u64
+    ensures { result ≡ min (variables_cost variables.now) 50001 }
+{
+    let mut total = 0;
+    for variable in variables {
+        total = both(total, declared_cost(&variable.declared));
+    }
+    total
+}
+
+fn declared_cost(declared: &Declared) -> u64
+    ensures { result ≡ declared_cost (declared_tree declared.now) }
+{
+    match declared {
+        Declared::Boolean | Declared::Instance(_, _) => 0,
+        Declared::Range(_, _) => 3,
+        Declared::Members(members) => members.len() as u64,
     }
 }

@@ -42,6 +42,10 @@ pub struct TypeFault {
 }
 
 impl From<OutOfMemory> for TypeFault {
+    ghost use Rattle.xs_types.specs.Faults.{IsOfMemory};
+
+    ghost from_gives = { λ _ fault. IsOfMemory fault };
+
     fn from(_refused: OutOfMemory) -> TypeFault {
         TypeFault {
             rule: Rule::OutOfMemory,
@@ -51,6 +55,10 @@ impl From<OutOfMemory> for TypeFault {
 }
 
 impl From<AllocError> for TypeFault {
+    ghost use Rattle.xs_types.specs.Faults.{IsOfMemory};
+
+    ghost from_gives = { λ _ fault. IsOfMemory fault };
+
     fn from(_refused: AllocError) -> TypeFault {
         TypeFault {
             rule: Rule::OutOfMemory,
@@ -60,6 +68,10 @@ impl From<AllocError> for TypeFault {
 }
 
 impl<T: Drop> From<AllocFailed<T>> for TypeFault {
+    ghost use Rattle.xs_types.specs.Faults.{IsOfMemory};
+
+    ghost from_gives = { λ _ fault. IsOfMemory fault };
+
     fn from(_refused: AllocFailed<T>) -> TypeFault {
         TypeFault {
             rule: Rule::OutOfMemory,
@@ -69,7 +81,7 @@ impl<T: Drop> From<AllocFailed<T>> for TypeFault {
 }
 
 /// The number of a rule, from 1 on.
-fn number_of(rule: Rule) -> u32
+pub(crate) fn number_of(rule: Rule) -> u32
     ensures { result ≡ rule_number rule }
 {
     match rule {

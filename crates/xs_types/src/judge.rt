@@ -8,7 +8,9 @@ ghost use Rattle.xs_types.specs.Names.{sort_at, name_sort, name_kind};
 ghost use Rattle.xs_types.specs.Several.{add_all, guard_all, no_guards};
 
 use crate::several::{Guards, Several, add_to, guard_by, whole_case, whole_set};
-use crate::sort::{Class, Judged, Sort, choice, literal, negative, operation, opposite, span};
+use crate::sort::{
+    Class, Judged, Sort, choice, kept, literal, negative, operation, opposite, span,
+};
 use xs_flat::Flat;
 use xs_tree::{Expr, Op};
 
@@ -42,17 +44,6 @@ fn sort_at(sorts: &[Sort], number: u32) -> Sort
             class: Class::Truth,
             interval: None,
         },
-    }
-}
-
-/// A single value that breaks no rule.
-fn kept(sort: Sort) -> Judged
-    ensures { result ≡ record { sort = sort; is_set = false; broken = None } }
-{
-    Judged {
-        sort,
-        is_set: false,
-        broken: None,
     }
 }
 

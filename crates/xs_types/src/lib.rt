@@ -7,11 +7,15 @@
 //! manual; the intervals are this project's own, and they see to it that no divisor is 0 and no number
 //! passes 32 bits.
 //!
-//! The files from below: `fault` (the rules), `interval` (arithmetic on intervals), `sort` and
-//! `several` (one node over its parts), `judge` (a whole expression), `declare` (declared types), `bits` and `cost` (sizes), `site`
-//! (which fault comes first), `typed` (models) and `calls` (single expressions). An expression that breaks
-//! a rule has a class and no interval, so that each rule is told where it is broken and not at what stands
-//! around it.
+//! The files from below: `fault` (the rules), `interval` (arithmetic on intervals), `sort` and `several`
+//! (one node over its parts), `judge` (a whole expression), `symbols`, `members` and `declare` (declared
+//! types and their domains), `bits` and `cost` (sizes), `site` (which fault comes first), `variables`,
+//! `definitions` and `conditions` (the parts of a model), `whole` and `typed` (models) and `calls` (single
+//! expressions). An expression that breaks a rule has a class and no interval, so that each rule is told
+//! where it is broken and not at what stands around it.
+//!
+//! What is answered is what `xs_kinds` defines, over `model_tree` and `flat_tree` of `xs_flat`: a typed
+//! model meets `IsTyped`, a fault `IsFault`, and an expression is judged as by `judged_in`.
 //!
 //! ```text
 //! // MODULE main VAR x : 0..3; ASSIGN next(x) := 5 / x;
@@ -21,15 +25,21 @@
 
 mod bits;
 mod calls;
+mod conditions;
 mod cost;
 mod declare;
+mod definitions;
 mod fault;
 mod interval;
 mod judge;
+mod members;
 mod several;
 mod site;
 mod sort;
+mod symbols;
 mod typed;
+mod variables;
+mod whole;
 
 pub use calls::{Kind, check_top, check_value, kind_of};
 pub use fault::{Rule, TypeFault};

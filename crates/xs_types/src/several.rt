@@ -98,7 +98,7 @@ pub(crate) fn whole_case(sets: bool, guards: Guards, values: Option<Several>) ->
     }
 }
 
-fn no_sort() -> Sort
+pub(crate) fn no_sort() -> Sort
     ensures { result ≡ record { class = Truth; interval = None } }
 {
     Sort {

@@ -1,6 +1,9 @@
 //! The first place at which a model breaks a rule.
 
-use crate::fault::{Rule, TypeFault};
+ghost use Rattle.std.specs.Prelude.{◌≡◌};
+ghost use Rattle.xs_types.specs.Sites.{is_before, earlier_site, site_at};
+
+use crate::fault::{Rule, number_of};
 
 /// A rule that is broken at an item of an instance.
 #[derive(Clone, Copy, Debug, PartialEq, Eq)]
@@ -12,27 +15,23 @@ pub(crate) struct Site {
 
 impl Site {
     /// Whether this comes no later: by instances, then items, then numbers of rules.
-    fn is_before(self, other: Site) -> bool {
+    fn is_before(self, other: Site) -> bool
+        ensures { result ≡ is_before self other }
+    {
         if self.instance != other.instance {
             self.instance < other.instance
         } else if self.item != other.item {
             self.item < other.item
         } else {
-            (self.rule as u32) <= (other.rule as u32)
-        }
-    }
-
-    /// What is told of it.
-    pub(crate) fn fault(self) -> TypeFault {
-        TypeFault {
-            rule: self.rule,
-            item: self.item,
+            number_of(self.rule) <= number_of(other.rule)
         }
     }
 }
 
 /// The earlier of two sites, where there is any.
-pub(crate) fn earlier(a: Option<Site>, b: Option<Site>) -> Option<Site> {
+pub(crate) fn earlier(a: Option<Site>, b: Option<Site>) -> Option<Site>
+    ensures { result ≡ earlier_site a b }
+{
     match (a, b) {
         (Some(a), Some(b)) => Some(if a.is_before(b) { a } else { b }),
         (Some(a), None) => Some(a),
@@ -41,10 +40,15 @@ pub(crate) fn earlier(a: Option<Site>, b: Option<Site>) -> Option<Site> {
 }
 
 /// The site of an item that breaks a rule, or None where it breaks none.
-pub(crate) fn site_of(instance: u32, item: u32, broken: Option<Rule>) -> Option<Site> {
-    Some(Site {
-        instance,
-        item,
-        rule: broken?,
-    })
+pub(crate) fn site_of(instance: u32, item: u32, broken: Option<Rule>) -> Option<Site>
+    ensures { result ≡ site_at instance item broken }
+{
+    match broken {
+        Some(rule) => Some(Site {
+            instance,
+            item,
+            rule,
+        }),
+        None => None,
+    }
 }

@@ -1,8 +1,8 @@
 //! What is known of an expression's values, and the rules of one node over its parts.
 
-ghost use Rattle.std.specs.Prelude.{◌≡◌, None};
+ghost use Rattle.std.specs.Prelude.{◌≡◌, false, None};
 ghost use Rattle.xs_kinds.specs.Judged.{joined, on_both, exact_interval, negative_interval};
-ghost use Rattle.xs_types.specs.Rows.{lower, same_class, class_rule, one_value, some_values, found, exact_of, is_divided, row_not, row_connective, row_negative, row_number, row_order, row_same, row_union, row_binary, row_choice, row_span, row_literal};
+ghost use Rattle.xs_types.specs.Rows.{lower, same_class, class_rule, one_value, some_values, found, exact_of, is_divided, row_not, row_connective, row_negative, row_number, row_order, row_same, row_union, row_binary, row_choice, row_span, row_range, row_literal};
 ghost use Rattle.xs_types.specs.declared.fault.Rule.TheVariants.{NotBoolean};
 ghost use Rattle.xs_types.specs.declared.sort.Class.TheVariants.{Truth};
 
@@ -64,8 +64,19 @@ pub(crate) fn class_rule(class: Class, rule: Rule, sort: Sort) -> Option<Rule>
     unless(sort.class.is_same(class), rule)
 }
 
+/// A single value that breaks no rule.
+pub(crate) fn kept(sort: Sort) -> Judged
+    ensures { result ≡ record { sort = sort; is_set = false; broken = None } }
+{
+    Judged {
+        sort,
+        is_set: false,
+        broken: None,
+    }
+}
+
 /// A single value, where a node breaks the rule `own` and its parts break the rule `parts`.
-fn one_value(
+pub(crate) fn one_value(
     own: Option<Rule>,
     class: Class,
     interval: Option<Interval>,
@@ -157,6 +168,18 @@ pub(crate) fn span(sets: bool, lo: i64, hi: i64) -> Judged
     let own = lower(unless(lo <= hi, Rule::EmptyRange), wide);
     let class = Class::Number;
     some_values(sets, true, own, Sort { class, interval }, None)
+}
+
+/// The numbers from `lo` to `hi`, each alone.
+pub(crate) fn range(lo: i64, hi: i64) -> Judged
+    ensures { result ≡ row_range lo hi }
+{
+    let all = span(true, lo, hi);
+    Judged {
+        sort: all.sort,
+        is_set: false,
+        broken: all.broken,
+    }
 }
 
 /// `!a`.

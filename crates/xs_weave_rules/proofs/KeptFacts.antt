@@ -1,19 +1,18 @@
 -- What it says of an item that it breaks no rule.
 use Rattle.std.proofs.Common.{◌≡◌, ◌≢◌, inl, inr, ℕ, Bool, true, false, List, [], ◌∷◌, ◌++◌, Option, Some, None, map, refl, sym, ◌∙◌, ap, subst}
-use Rattle.std.specs.Prelude.{if◌then◌else◌, ◌||◌, codes, IsTrue}
+use Rattle.std.specs.Prelude.{if◌then◌else◌, ◌||◌, codes}
 use Rattle.std.specs.List.{list_any}
 use Rattle.std.proofs.lemmas.List.{append_assoc}
 use Rattle.xs_tree.specs.declared.program.Member.{Member}
 use Rattle.xs_tree.specs.declared.program.Member.TheVariants as member
 use Rattle.xs_tree.specs.ProgramTree.{Text, DeclaredTree, boolean, range, members, instance, DeclTree, DefineTree, SectionTree, var, ivar, frozen as frozen_section, define, constants, assign, init, invar, trans, ModuleTree, ProgramTree}
-use Rattle.xs_tree.specs.Values.{Value}
 use Rattle.xs_tree.specs.Texts.{same_text, is_among}
 use Rattle.xs_tree.specs.Scope.{Place, Role, state, input, frozen_role, Kind, a_formal, a_variable, a_define, an_instance, undeclared, find_module, kind_in, kind_in_decls, kind_in_defines, kind_in_sections, kind_after_formals, formal_from, kind_declared, kind_at, module_at, module_of_kind}
 use Rattle.xs_tree.specs.Trace.{IsInstance, Each, AtSome, in_domain}
 use Rattle.xs_tree.proofs.ValueLaws.{same_text_equal}
 use Rattle.xs_fei.specs.Instructions.{EffectTree, stuck_at, follows, inverted, random, erroneous, frozen, stuck_at_pick, offset, ramp_down, ModeTree, SliceTree}
 use Rattle.xs_effects.specs.AddedNames.{ModeState, own_name, mode_variable, mode_symbol}
-use Rattle.xs_effects.specs.Allowed.{fault_of, constant_fault, is_of_kind, inverted_fault, offset_fault, ramp_fault}
+use Rattle.xs_effects.specs.Allowed.{fault_of, constant_fault, is_of_kind, inverted_fault}
 use Rattle.xs_effects.specs.Types.{IsKnown}
 use Rattle.xs_effects.specs.declared.fault.EffectFault.{EffectFault}
 use Rattle.xs_weave.specs.Woven.{type_of_kind}
@@ -21,7 +20,7 @@ use Rattle.xs_weave.specs.Weavable.{Among, IsFinite, IsFreeMember, SymbolsAreFre
 use Rattle.xs_weave.proofs.Added.{own_not_mode}
 use Rattle.xs_weave_rules.specs.Sites.{OwnedSlice, a_slice, a_mode}
 use Rattle.xs_weave_rules.specs.declared.fault.Rule.{Rule}
-use Rattle.xs_weave_rules.specs.declared.fault.Rule.TheVariants.{NoSuchVariable, NotAStateVariable, DoubleSlice, DoubleMode, VariableTaken, Effect, NameTaken}
+use Rattle.xs_weave_rules.specs.declared.fault.Rule.TheVariants.{NoSuchVariable, NotAStateVariable, DoubleSlice, DoubleMode, VariableTaken, NameTaken}
 use Rattle.xs_weave_rules.specs.Rules.{target_kind, is_not_declared, is_state_variable, opposite_of, is_slice_name, is_mode_name, is_affected_already, is_program_name, state_names, states_before, owns_before, is_taken, is_known, is_local_member, hides_symbol, slice_adds_taken, mode_adds_taken, effect_rules, first_of, broken_at}
 use Rattle.xs_weave_rules.specs.Judged.{IsReadableEffect}
 use Rattle.xs_weave_rules.proofs.ProgramNames.{or_false, among_not}

@@ -1,6 +1,6 @@
 -- What is known of two slices, or of two modes of a slice, where no item breaks a rule: one stands before the
 -- other, or they are the same.
-use Rattle.std.proofs.Common.{◌≡◌, ◌⊎◌, inl, inr, Bool, true, false, List, [], ◌∷◌, ◌++◌, Option, Some, None, map, refl, sym, ◌∙◌, subst}
+use Rattle.std.proofs.Common.{◌≡◌, ◌⊎◌, inl, inr, Bool, true, false, List, [], ◌∷◌, ◌++◌, None, map, refl, sym, ◌∙◌, subst}
 use Rattle.std.specs.Prelude.{if◌then◌else◌, flat_map}
 use Rattle.std.proofs.lemmas.List.{append_assoc, append-nil}
 use Rattle.xs_tree.specs.ProgramTree.{Text, ProgramTree}
@@ -9,7 +9,7 @@ use Rattle.xs_tree.proofs.ValueLaws.{same_text_equal}
 use Rattle.xs_fei.specs.Instructions.{ModeTree, SliceTree, ExtensionTree, slices_from}
 use Rattle.xs_weave.specs.Weavable.{Among}
 use Rattle.xs_weave.proofs.Lists.{each_append}
-use Rattle.xs_weave_rules.specs.Sites.{OwnedSlice, owned, Site, an_extension, a_slice, a_mode, mode_sites, slice_sites, extension_sites}
+use Rattle.xs_weave_rules.specs.Sites.{OwnedSlice, owned, a_slice, a_mode, mode_sites, slice_sites, extension_sites}
 use Rattle.xs_weave_rules.specs.Rules.{broken_at}
 use Rattle.xs_weave_rules.specs.FirstBroken.{AllKept}
 

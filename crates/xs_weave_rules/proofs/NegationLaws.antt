@@ -1,6 +1,6 @@
 -- What the tests of negations say.
-use Rattle.std.proofs.Common.{◌≡◌, ℕ, suc, ◌+◌, ◌<◌, drop, length, get_or, ap, Bool, true, false, ◌&&◌, Option, Some, None, List, [], ◌∷◌, map, All, refl, arith}
-use Rattle.std.specs.Prelude.{ℤ, negsuc, ◌≤ℤ◌, if◌then◌else◌}
+use Rattle.std.proofs.Common.{◌≡◌, ℕ, ◌+◌, ◌<◌, drop, length, get_or, ap, Bool, true, false, ◌&&◌, Option, Some, None, List, [], ◌∷◌, map, All, refl, arith}
+use Rattle.std.specs.Prelude.{ℤ, if◌then◌else◌}
 use Rattle.std.specs.List.{list_all}
 use Rattle.std.proofs.lemmas.List.{drop_more}
 use Rattle.std.proofs.lemmas.List.Elements.{All-cons, All-nil}
@@ -8,9 +8,9 @@ use Rattle.xs_tree.specs.declared.program.Member.{Member}
 use Rattle.xs_tree.specs.declared.program.Member.TheVariants as member
 use Rattle.xs_tree.specs.declared.program.Module.{Module}
 use Rattle.xs_tree.specs.Texts.{same_text}
-use Rattle.xs_tree.specs.ProgramTree.{Text, DeclaredTree, boolean, range, members, instance, DeclTree, DefineTree, SectionTree, var, ivar, frozen as frozen_section, define, constants, assign, init, invar, trans, ModuleTree, module_tree}
-use Rattle.xs_tree.specs.Values.{Value, truth, number, symbol, at_most}
-use Rattle.xs_tree.specs.Scope.{Role, state, input, frozen_role, Kind, a_formal, a_variable, a_define, an_instance, undeclared, kind_declared, kind_in, kind_in_decls, kind_in_defines, kind_in_sections, kind_after_formals, formal_from}
+use Rattle.xs_tree.specs.ProgramTree.{Text, DeclaredTree, boolean, range, members, instance, DeclTree, DefineTree, SectionTree, var, ivar, frozen as frozen_section, define, constants, assign, init, invar, trans, module_tree}
+use Rattle.xs_tree.specs.Values.{Value, truth, number, symbol}
+use Rattle.xs_tree.specs.Scope.{Role, state, input, frozen_role, Kind, a_define, kind_declared, kind_in_decls, kind_in_defines, kind_in_sections, kind_after_formals, formal_from}
 use Rattle.xs_fei.specs.declared.instructions.ModeRule.{ModeRule}
 use Rattle.xs_fei.specs.declared.instructions.Slice.{Slice}
 use Rattle.xs_fei.specs.declared.instructions.Extension.{Extension}

@@ -1,10 +1,10 @@
 -- A name that is none of the program's means nothing in its modules.
-use Rattle.std.proofs.Common.{◌≡◌, inl, inr, ℕ, zero, suc, Bool, true, false, List, [], ◌∷◌, Option, Some, None, refl, sym, ◌∙◌, subst}
-use Rattle.std.specs.Prelude.{if◌then◌else◌, ◌||◌}
+use Rattle.std.proofs.Common.{◌≡◌, inl, inr, ℕ, suc, Bool, true, false, List, [], ◌∷◌, None, refl, ◌∙◌, subst}
+use Rattle.std.specs.Prelude.{◌||◌}
 use Rattle.std.specs.List.{list_any}
 use Rattle.xs_tree.specs.ProgramTree.{Text, DeclTree, DefineTree, SectionTree, var, ivar, frozen as frozen_section, define, constants, assign, init, invar, trans, ModuleTree, ProgramTree}
 use Rattle.xs_tree.specs.Texts.{same_text, is_among}
-use Rattle.xs_tree.specs.Scope.{Role, state, input, frozen_role, Kind, undeclared, kind_in, kind_in_decls, kind_in_defines, kind_in_sections, kind_after_formals, formal_from, is_symbol, is_symbol_of_sections, is_symbol_of_decls, is_symbol_of_type}
+use Rattle.xs_tree.specs.Scope.{Role, state, input, frozen_role, Kind, undeclared, kind_in, kind_in_decls, kind_in_defines, kind_in_sections, formal_from, is_symbol, is_symbol_of_sections, is_symbol_of_decls, is_symbol_of_type}
 use Rattle.xs_tree.proofs.ValueLaws.{same_text_refl}
 use Rattle.xs_weave.specs.Weavable.{Among}
 use Rattle.xs_weave_rules.specs.Rules.{is_name_of_decls, is_name_of_defines, is_name_of_section, is_name_of_module, is_program_name}

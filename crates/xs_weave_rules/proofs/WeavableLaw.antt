@@ -1,10 +1,9 @@
 -- Where no item breaks a rule, and the rest is judged, a program and instructions are such as a weave takes.
-use Rattle.std.proofs.Common.{◌≡◌, ◌≢◌, ◌⊎◌, inl, inr, Bool, true, false, ◌&&◌, List, [], ◌∷◌, ◌++◌, Option, Some, None, map, refl, sym, ◌∙◌, ap, subst}
-use Rattle.std.specs.Prelude.{codes}
+use Rattle.std.proofs.Common.{◌≡◌, ◌≢◌, ◌⊎◌, inl, inr, Bool, true, false, ◌&&◌, List, [], ◌∷◌, ◌++◌, Some, refl, sym, ◌∙◌, ap, subst}
 use Rattle.xs_tree.specs.ProgramTree.{Text, DeclaredTree, ModuleTree, ProgramTree}
-use Rattle.xs_tree.specs.Texts.{same_text, is_among}
-use Rattle.xs_tree.specs.Scope.{Place, state, Kind, a_variable, undeclared, find_module, kind_in, kind_at}
-use Rattle.xs_tree.specs.Trace.{IsInstance, Each}
+use Rattle.xs_tree.specs.Texts.{same_text}
+use Rattle.xs_tree.specs.Scope.{Place, state, a_variable, find_module, kind_in, kind_at}
+use Rattle.xs_tree.specs.Trace.{IsInstance}
 use Rattle.xs_tree.proofs.ValueLaws.{same_text_refl}
 use Rattle.xs_fei.specs.Instructions.{ModeTree, SliceTree, InstructionTree, slices_of}
 use Rattle.xs_effects.specs.AddedNames.{ModeState, own_name, mode_variable, mode_symbol}
@@ -13,13 +12,13 @@ use Rattle.xs_weave.specs.Woven.{type_of_kind}
 use Rattle.xs_weave.specs.Weavable.{Among, IsLawfulMode, IsLawfulSlice, IsWeavable, SymbolsAreFree, IsAllowed}
 use Rattle.xs_weave.proofs.Lists.{each_all, each_at}
 use Rattle.xs_weave.proofs.Added.{found_among}
-use Rattle.xs_weave_rules.specs.Sites.{OwnedSlice, owned, item_sites, a_mode}
+use Rattle.xs_weave_rules.specs.Sites.{OwnedSlice, owned, item_sites}
 use Rattle.xs_weave_rules.specs.Rules.{target_kind, opposite_of, is_state_variable, state_names, states_before, owns_before, hides_symbol, broken_at}
 use Rattle.xs_weave_rules.specs.FirstBroken.{AllKept}
 use Rattle.xs_weave_rules.specs.Judged.{IsJudged, IsJudgedMode}
 use Rattle.xs_weave_rules.proofs.ProgramNames.{any_false, undeclared_there, no_symbol}
 use Rattle.xs_weave_rules.proofs.KeptItems.{among_left, among_right, among_map, among_flat, all_slices, slice_in_file, IsKeptSlice, StandsAfter, kept_at, two_slices, extensions_kept, ModeAfter, mode_at, two_modes}
-use Rattle.xs_weave_rules.proofs.KeptFacts.{SliceKept, slice_facts, ModeKept, mode_facts, IsFree, free, state_among, SymbolKept, symbol_kept, not_nominal, state_type, finite_type, free_symbols, effect_allowed, instance_found}
+use Rattle.xs_weave_rules.proofs.KeptFacts.{SliceKept, slice_facts, ModeKept, mode_facts, IsFree, free, state_among, symbol_kept, not_nominal, state_type, finite_type, free_symbols, effect_allowed, instance_found}
 
 abbrev slice_of : OwnedSlice → SliceTree
 slice_of o = o.slice

@@ -3,7 +3,7 @@ use Rattle.std.specs.Prelude.{◌≡◌}
 use Rattle.xs_tree.specs.ProgramTree.{Text, DeclaredTree, ModuleTree, ProgramTree}
 use Rattle.xs_tree.specs.Scope.{Place, Role, a_variable, kind_in}
 use Rattle.xs_tree.specs.Trace.{IsInstance, Each}
-use Rattle.xs_fei.specs.Instructions.{EffectTree, stuck_at, follows, inverted, random, erroneous, frozen, stuck_at_pick, offset, ramp_down, ModeTree, SliceTree, InstructionTree, slices_of}
+use Rattle.xs_fei.specs.Instructions.{EffectTree, follows, ModeTree, SliceTree, InstructionTree, slices_of}
 use Rattle.xs_effects.specs.Types.{IsUniform}
 use Rattle.xs_weave.specs.Weavable.{Among, IsReadable, IsLawfulInstance, IsLawfulGuard, IsWeavable}
 use Rattle.xs_weave_rules.specs.Sites.{item_sites}

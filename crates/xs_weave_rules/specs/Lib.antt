@@ -4,3 +4,9 @@ pub mod Rules
 pub mod FirstBroken
 pub mod Judged
 pub mod Counting
+pub mod Keyed
+pub mod Locals
+pub mod Names
+pub mod Faults
+pub mod OutOfMemory
+pub mod Counted

@@ -1,5 +1,5 @@
 -- Which numbers have a negation within 64 bits, as tests.
-use Rattle.std.specs.Prelude.{ℤ, negsuc, Bool, true, ◌&&◌, List}
+use Rattle.std.specs.Prelude.{ℤ, negsuc, Bool, true, ◌&&◌}
 use Rattle.std.specs.List.{list_all}
 use Rattle.xs_tree.specs.declared.program.Member.{Member}
 use Rattle.xs_tree.specs.declared.program.Member.TheVariants as member

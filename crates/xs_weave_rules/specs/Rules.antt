@@ -6,7 +6,7 @@ use Rattle.xs_tree.specs.declared.program.Member.TheVariants as member
 use Rattle.xs_tree.specs.ProgramTree.{Text, DeclaredTree, boolean, range, members, instance, DeclTree, DefineTree, SectionTree, var, ivar, frozen, define, constants, assign, init, invar, trans, ModuleTree, ProgramTree}
 use Rattle.xs_tree.specs.Texts.{same_text, is_among}
 use Rattle.xs_tree.specs.Scope.{state, input, frozen_role, Kind, a_formal, a_variable, a_define, an_instance, undeclared, find_module, kind_at, is_symbol_of_type}
-use Rattle.xs_fei.specs.Instructions.{ModeTree, SliceTree}
+use Rattle.xs_fei.specs.Instructions.{ModeTree}
 use Rattle.xs_effects.specs.AddedNames.{own_name, mode_variable, mode_symbol}
 use Rattle.xs_effects.specs.Allowed.{fault_of}
 use Rattle.xs_effects.specs.declared.fault.EffectFault.{EffectFault}

@@ -1,3 +1,5 @@
+ghost use Rattle.xs_weave_rules.specs.OutOfMemory.{IsWant};
+
 use std::alloc::{AllocError, AllocFailed};
 use xs_effects::EffectFault;
 use xs_value::OutOfMemory;
@@ -36,25 +38,9 @@ pub struct RuleFault {
     pub item: u32,
 }
 
-impl From<OutOfMemory> for Rule {
-    fn from(_refused: OutOfMemory) -> Rule {
-        Rule::OutOfMemory
-    }
-}
-
-impl From<AllocError> for Rule {
-    fn from(_refused: AllocError) -> Rule {
-        Rule::OutOfMemory
-    }
-}
-
-impl<T: Drop> From<AllocFailed<T>> for Rule {
-    fn from(_refused: AllocFailed<T>) -> Rule {
-        Rule::OutOfMemory
-    }
-}
-
 impl From<OutOfMemory> for RuleFault {
+    ghost from_gives = { λ _ fault. IsWant fault };
+
     fn from(_refused: OutOfMemory) -> RuleFault {
         RuleFault {
             rule: Rule::OutOfMemory,
@@ -64,6 +50,8 @@ impl From<OutOfMemory> for RuleFault {
 }
 
 impl From<AllocError> for RuleFault {
+    ghost from_gives = { λ _ fault. IsWant fault };
+
     fn from(_refused: AllocError) -> RuleFault {
         RuleFault {
             rule: Rule::OutOfMemory,
@@ -73,6 +61,8 @@ impl From<AllocError> for RuleFault {
 }
 
 impl<T: Drop> From<AllocFailed<T>> for RuleFault {
+    ghost from_gives = { λ _ fault. IsWant fault };
+
     fn from(_refused: AllocFailed<T>) -> RuleFault {
         RuleFault {
             rule: Rule::OutOfMemory,

@@ -1,25 +1,52 @@
 //! The rules that are tried at each item of the instructions, in written order.
 
+ghost use Rattle.std.specs.Prelude.{◌≡◌, ◌≢◌, ◌+◌, ◌||◌, ◌++◌, [], ◌∷◌, IfOk, IfErr, OnOk, Some, None, map, length, option_map};
+ghost use Rattle.std.specs.Result.{result_err};
+ghost use Rattle.std.specs.List.{list_any};
+ghost use Rattle.xs_tree.specs.ProgramTree.{program_tree, declared_tree};
+ghost use Rattle.xs_tree.specs.Scope.{find_module};
+ghost use Rattle.xs_fei.specs.Instructions.{instruction_tree, extension_tree, slice_tree};
+ghost use Rattle.xs_weave.specs.Woven.{type_of_kind};
+ghost use Rattle.xs_weave_rules.specs.Sites.{owned, a_slice, item_sites, mode_sites, slice_sites, extension_sites};
+ghost use Rattle.xs_weave_rules.specs.Rules.{broken_at, target_kind, is_program_name, is_local_member, hides_symbol as hides_symbol_of};
+ghost use Rattle.xs_weave_rules.specs.FirstBroken.{AllKept, IsFirstBroken};
+ghost use Rattle.xs_weave_rules.specs.Locals.{local_tree, variable};
+ghost use Rattle.xs_weave_rules.specs.Faults.{IsKnown, IsMet, IsTaken, first_fault, sites_of, slices_in, names_of, target_rule, slice_rule, is_taken_with, adds_taken as adds_taken_by, owned_slices, file_slices, placed_tree};
+ghost use Rattle.xs_weave_rules.specs.Keyed.{with_text, with_texts, is_pair_among, with_pair};
+ghost use Rattle.xs_tree.specs.Texts.{same_text, is_among};
+ghost use Rattle.xs_weave_rules.specs.declared.fault.Rule.TheVariants as broken;
+
 use crate::fault::{Rule, RuleFault};
-use crate::modules::{Local, Modules, Scope};
+use crate::modes::{Judged, take_modes};
+use crate::modules::{Known, Local};
 use crate::placed::{Placed, item_after};
-use crate::taken::Taken;
+use crate::targets::Targets;
 use crate::texts::Texts;
-use indexmap::IndexSet;
 use std::alloc::Global;
-use xs_effects::{allowed, mode_symbol, mode_variable, nominal_symbol, own_name};
-use xs_fei::{Extension, Instructions, ModeRule, Slice};
+use xs_effects::{mode_variable, nominal_symbol, own_name};
+use xs_fei::{Extension, Instructions, Slice};
 use xs_tree::{Declared, Member, Program};
 use xs_value::{Name, OutOfMemory};
 
-/// What the items so far have: names, slices, the variables that they affect, and the last item's number.
+/// What the items so far have: the names that they add, slices, the variables that they affect, and the last
+/// item's number. The names of own values stand apart, since two own values may have one name, in two modules.
 #[derive(Drop)]
-struct Met<'a> {
-    taken: Taken,
-    slices: Texts,
-    targets: IndexSet<(&'a [u8], &'a [u8])>,
-    placed: Vec<Placed<'a>>,
-    last: u32,
+pub(crate) struct Met<'a> {
+    pub(crate) states: Texts,
+    pub(crate) owns: Texts,
+    pub(crate) slices: Texts,
+    pub(crate) targets: Targets<'a>,
+    pub(crate) placed: Vec<Placed<'a>>,
+    pub(crate) last: u32,
+}
+
+/// The names that a slice adds: of its variable's own value, of its state, and of the state in which no mode
+/// stands.
+#[derive(Drop)]
+pub(crate) struct SliceNames {
+    pub(crate) own: Name,
+    pub(crate) switch: Name,
+    pub(crate) nominal: Name,
 }
 
 /// The slices of instructions that break no rule from 1 to 8, in written order.
@@ -27,47 +54,85 @@ pub fn placed_slices<'a>(
     alloc: Global,
     p: &'a Program,
     i: &'a Instructions,
-) -> Result<Vec<Placed<'a>>, RuleFault> {
-    let modules = Modules::read(alloc, p)?;
-    let mut met = Met::none(alloc, p)?;
-    for extension in i.extensions.as_slice() {
-        met.take_extension(alloc, &modules, extension)?;
-    }
+) -> Result<Vec<Placed<'a>>, RuleFault>
+    ensures kept { OnOk result (AllKept (broken_at (program_tree p.now)) (item_sites (instruction_tree i.now))) }
+    ensures first { IfErr result (λ fault. fault.rule ≢ broken.OutOfMemory → IsFirstBroken (broken_at (program_tree p.now)) (item_sites (instruction_tree i.now)) fault.rule fault.item) }
+{
+    let known = Known::read(alloc, p)?;
+    let mut met = Met::none(alloc);
+    met.take_extensions(alloc, &known, i.extensions.as_slice())?;
     Ok(met.placed)
 }
 
 impl<'a> Met<'a> {
-    fn none(alloc: Global, p: &Program) -> Result<Met<'a>, OutOfMemory> {
-        Ok(Met {
-            taken: Taken::of_program(alloc, p)?,
+    fn none(alloc: Global) -> Met<'a>
+        ensures met { IsMet result }
+        ensures last { result.last ≡ 0 }
+        ensures slices { slices_in result ≡ [] }
+    {
+        Met {
+            states: Texts::new(alloc),
+            owns: Texts::new(alloc),
             slices: Texts::new(alloc),
-            targets: IndexSet::new(alloc),
+            targets: Targets::new(alloc),
             placed: Vec::new(alloc),
             last: 0,
-        })
+        }
     }
 
-    /// The number of the next item.
-    fn next_item(&mut self) -> Result<u32, OutOfMemory> {
-        self.last = item_after(self.last)?;
-        Ok(self.last)
+    fn take_extensions(
+        &mut self,
+        alloc: Global,
+        known: &Known<'a>,
+        extensions: &'a [Extension],
+    ) -> Result<(), RuleFault>
+        requires known { IsKnown known.now }
+        requires met { IsMet self.old }
+        ensures kept { OnOk result (IsTaken (program_tree known.now.program.now) self.old.last self.old self.new (extension_sites (slices_in self.old) (map extension_tree extensions.now)) (file_slices (map extension_tree extensions.now))) }
+        ensures told { IfErr result (λ fault. fault.rule ≢ broken.OutOfMemory → first_fault (broken_at (program_tree known.now.program.now)) self.old.last (extension_sites (slices_in self.old) (map extension_tree extensions.now)) ≡ Some fault) }
+    {
+        for extension in extensions {
+            self.take_extension(alloc, known, extension)?;
+        }
+        Ok(())
     }
 
     fn take_extension(
         &mut self,
         alloc: Global,
-        modules: &Modules<'a>,
+        known: &Known<'a>,
         extension: &'a Extension,
-    ) -> Result<(), RuleFault> {
-        let item = self.next_item()?;
-        let Some(scope) = modules.find(&extension.module) else {
+    ) -> Result<(), RuleFault>
+        requires known { IsKnown known.now }
+        requires met { IsMet self.old }
+        ensures kept { OnOk result (IsTaken (program_tree known.now.program.now) self.old.last self.old self.new (sites_of (slices_in self.old) (extension_tree extension.now)) (owned_slices (extension_tree extension.now))) }
+        ensures told { IfErr result (λ fault. fault.rule ≢ broken.OutOfMemory → first_fault (broken_at (program_tree known.now.program.now)) self.old.last (sites_of (slices_in self.old) (extension_tree extension.now)) ≡ Some fault) }
+    {
+        let item = item_after(self.last)?;
+        if !known.has_module(&extension.module) {
             return Err(RuleFault {
                 rule: Rule::NoSuchModule,
                 item,
             });
-        };
-        for slice in extension.slices.as_slice() {
-            self.take_slice(alloc, scope, &extension.module, slice)?;
+        }
+        self.last = item;
+        self.take_slices(alloc, known, &extension.module, extension.slices.as_slice())
+    }
+
+    fn take_slices(
+        &mut self,
+        alloc: Global,
+        known: &Known<'a>,
+        owner: &'a Name,
+        slices: &'a [Slice],
+    ) -> Result<(), RuleFault>
+        requires known { IsKnown known.now }
+        requires met { IsMet self.old }
+        ensures kept { OnOk result (IsTaken (program_tree known.now.program.now) self.old.last self.old self.new (slice_sites (slices_in self.old) owner.now (map slice_tree slices.now)) (map (owned owner.now) (map slice_tree slices.now))) }
+        ensures told { IfErr result (λ fault. fault.rule ≢ broken.OutOfMemory → first_fault (broken_at (program_tree known.now.program.now)) self.old.last (slice_sites (slices_in self.old) owner.now (map slice_tree slices.now)) ≡ Some fault) }
+    {
+        for slice in slices {
+            self.take_slice(alloc, known, owner, slice)?;
         }
         Ok(())
     }
@@ -75,118 +140,186 @@ impl<'a> Met<'a> {
     fn take_slice(
         &mut self,
         alloc: Global,
-        scope: &Scope<'a>,
+        known: &Known<'a>,
         owner: &'a Name,
         slice: &'a Slice,
-    ) -> Result<(), RuleFault> {
-        let item = self.next_item()?;
-        let declared = match self.judge_slice(alloc, scope, owner, slice) {
+    ) -> Result<(), RuleFault>
+        requires known { IsKnown known.now }
+        requires met { IsMet self.old }
+        ensures kept { OnOk result (IsTaken (program_tree known.now.program.now) self.old.last self.old self.new (slice_sites (slices_in self.old) owner.now (slice_tree slice.now ∷ [])) (owned owner.now (slice_tree slice.now) ∷ [])) }
+        ensures told { IfErr result (λ fault. fault.rule ≢ broken.OutOfMemory → first_fault (broken_at (program_tree known.now.program.now)) self.old.last (slice_sites (slices_in self.old) owner.now (slice_tree slice.now ∷ [])) ≡ Some fault) }
+    {
+        let item = item_after(self.last)?;
+        let names = SliceNames::of(alloc, slice)?;
+        let declared = match self.judge_slice(known, owner, slice, &names) {
             Ok(declared) => declared,
             Err(rule) => return Err(RuleFault { rule, item }),
         };
-        self.placed.push(Placed {
+        let placed = Placed {
             owner,
             slice,
             declared,
             item,
-        })?;
-        self.take_modes(alloc, declared, slice)
+        };
+        self.place(alloc, known, &names, &placed)
     }
 
-    fn take_modes(
+    /// Takes a slice that breaks no rule itself, with its modes.
+    fn place(
         &mut self,
         alloc: Global,
-        declared: &Declared,
-        slice: &Slice,
-    ) -> Result<(), RuleFault> {
-        let mut names = Texts::new(alloc);
-        for mode in slice.modes.as_slice() {
-            let item = self.next_item()?;
-            match self.judge_mode(alloc, declared, &slice.name, &mut names, mode) {
-                Ok(()) => {}
-                Err(rule) => return Err(RuleFault { rule, item }),
-            }
-        }
+        known: &Known<'a>,
+        names: &SliceNames,
+        placed: &Placed<'a>,
+    ) -> Result<(), RuleFault>
+        requires known { IsKnown known.now }
+        requires met { IsMet self.old }
+        requires names { names.now ≡ names_of (slice_tree placed.now.slice.now) }
+        requires declared { declared_tree placed.now.declared.now ≡ type_of_kind (target_kind (program_tree known.now.program.now) (placed_tree placed.now)) }
+        ensures kept { OnOk result (IsTaken (program_tree known.now.program.now) placed.now.item self.old self.new (mode_sites (slices_in self.old) (placed_tree placed.now) [] (placed_tree placed.now).slice.modes) (placed_tree placed.now ∷ [])) }
+        ensures told { IfErr result (λ fault. fault.rule ≢ broken.OutOfMemory → first_fault (broken_at (program_tree known.now.program.now)) placed.now.item (mode_sites (slices_in self.old) (placed_tree placed.now) [] (placed_tree placed.now).slice.modes) ≡ Some fault) }
+    {
+        self.add_slice(alloc, names, placed)?;
+        let judged = Judged {
+            known,
+            owns: &self.owns,
+            declared: placed.declared,
+            slice: placed.slice,
+        };
+        self.last = take_modes(alloc, &judged, &mut self.states, placed.item)?;
+        self.placed.push(*placed)?;
         Ok(())
+    }
+
+    /// Takes the names of a slice, and the variable that it affects.
+    fn add_slice(
+        &mut self,
+        alloc: Global,
+        names: &SliceNames,
+        placed: &Placed<'a>,
+    ) -> Result<(), OutOfMemory>
+        ensures states { OnOk result (self.new.states ≡ with_texts self.old.states (names.now.switch ∷ names.now.nominal ∷ [])) }
+        ensures owns { OnOk result (self.new.owns ≡ with_text self.old.owns names.now.own) }
+        ensures slices { OnOk result (self.new.slices ≡ with_text self.old.slices placed.now.slice.now.name) }
+        ensures targets { OnOk result (self.new.targets ≡ with_pair self.old.targets (placed.now.owner.now, placed.now.slice.now.target)) }
+        ensures placed { OnOk result (self.new.placed ≡ self.old.placed) }
+    {
+        self.targets.add(placed.owner, &placed.slice.target)?;
+        self.slices.add(alloc, placed.slice.name.text())?;
+        self.owns.add(alloc, names.own.text())?;
+        self.add_states(alloc, names)
+    }
+
+    fn add_states(&mut self, alloc: Global, names: &SliceNames) -> Result<(), OutOfMemory>
+        ensures states { OnOk result (self.new.states ≡ with_texts self.old.states (names.now.switch ∷ names.now.nominal ∷ [])) }
+        ensures owns { OnOk result (self.new.owns ≡ self.old.owns) }
+        ensures slices { OnOk result (self.new.slices ≡ self.old.slices) }
+        ensures targets { OnOk result (self.new.targets ≡ self.old.targets) }
+        ensures placed { OnOk result (self.new.placed ≡ self.old.placed) }
+    {
+        self.states.add(alloc, names.switch.text())?;
+        self.states.add(alloc, names.nominal.text())
     }
 
     /// What the slice's variable is declared to be, or the first rule that the slice's item breaks.
     fn judge_slice(
-        &mut self,
-        alloc: Global,
-        scope: &Scope<'a>,
+        &self,
+        known: &Known<'a>,
         owner: &'a Name,
         slice: &'a Slice,
-    ) -> Result<&'a Declared, Rule> {
-        let declared = target_of(scope, &slice.target)?;
-        self.take_slice_name(alloc, &slice.name)?;
-        self.take_target(owner, &slice.target)?;
-        self.take_own_name(alloc, &slice.target)?;
-        self.take_state_names(alloc, &slice.name)?;
-        if hides_symbol(scope, declared) {
-            return Err(Rule::NameTaken);
-        }
-        Ok(declared)
-    }
-
-    fn take_slice_name(&mut self, alloc: Global, slice: &Name) -> Result<(), Rule> {
-        if self.slices.has(slice.text()) {
-            return Err(Rule::DoubleSlice);
-        }
-        Ok(self.slices.add(alloc, slice.text())?)
-    }
-
-    fn take_target(&mut self, owner: &'a Name, target: &'a Name) -> Result<(), Rule> {
-        if self.targets.insert((owner.text(), target.text()))? {
-            Ok(())
-        } else {
-            Err(Rule::VariableTaken)
+        names: &SliceNames,
+    ) -> Result<&'a Declared, Rule>
+        requires known { IsKnown known.now }
+        requires met { IsMet self.now }
+        requires names { names.now ≡ names_of (slice_tree slice.now) }
+        ensures rule { result_err result ≡ broken_at (program_tree known.now.program.now) (a_slice (slices_in self.now) (owned owner.now (slice_tree slice.now))) }
+        ensures declared { IfOk result (λ declared. declared_tree declared.now ≡ type_of_kind (target_kind (program_tree known.now.program.now) (owned owner.now (slice_tree slice.now)))) }
+    {
+        let declared = target_of(known.local(owner, &slice.target))?;
+        match self.later_rule(known, owner, slice, names, declared) {
+            Some(rule) => Err(rule),
+            None => Ok(declared),
         }
     }
 
-    fn take_own_name(&mut self, alloc: Global, target: &Name) -> Result<(), Rule> {
-        let name = own_name(alloc, target)?;
-        if self.taken.has_but_own(&name) {
-            return Err(Rule::NameTaken);
-        }
-        Ok(self.taken.add_own(alloc, &name)?)
-    }
-
-    fn take_state_names(&mut self, alloc: Global, slice: &Name) -> Result<(), Rule> {
-        self.take_name(alloc, mode_variable(alloc, slice)?)?;
-        self.take_name(alloc, nominal_symbol(alloc, slice)?)
-    }
-
-    fn take_name(&mut self, alloc: Global, name: Name) -> Result<(), Rule> {
-        if self.taken.has(&name) {
-            return Err(Rule::NameTaken);
-        }
-        Ok(self.taken.add(alloc, &name)?)
-    }
-
-    /// The first rule that a mode's item breaks. `names` has those of the slice's earlier modes.
-    fn judge_mode(
-        &mut self,
-        alloc: Global,
+    /// The first rule after those on the target that the slice's item breaks.
+    fn later_rule(
+        &self,
+        known: &Known<'a>,
+        owner: &'a Name,
+        slice: &'a Slice,
+        names: &SliceNames,
         declared: &Declared,
-        slice: &Name,
-        names: &mut Texts,
-        mode: &ModeRule,
-    ) -> Result<(), Rule> {
-        if names.has(mode.name.text()) {
-            return Err(Rule::DoubleMode);
+    ) -> Option<Rule>
+        requires known { IsKnown known.now }
+        ensures { result ≡ slice_rule (is_among self.now.slices slice.now.name) (is_pair_among self.now.targets (owner.now, slice.now.target)) (adds_taken_by (program_tree known.now.program.now) self.now.states self.now.owns names.now) (hides_symbol_of (find_module (program_tree known.now.program.now) owner.now) (declared_tree declared.now)) }
+    {
+        if self.slices.has(slice.name.text()) {
+            return Some(Rule::DoubleSlice);
         }
-        names.add(alloc, mode.name.text())?;
-        match allowed(&mode.effect, declared) {
-            Ok(()) => self.take_name(alloc, mode_symbol(alloc, slice, &mode.name)?),
-            Err(fault) => Err(Rule::Effect(fault)),
+        if self.targets.has(owner, &slice.target) {
+            return Some(Rule::VariableTaken);
         }
+        if self.adds_taken(known, names) || hides_symbol(known, owner, declared) {
+            return Some(Rule::NameTaken);
+        }
+        None
+    }
+
+    /// Whether a name that the slice adds is taken.
+    fn adds_taken(&self, known: &Known<'a>, names: &SliceNames) -> bool
+        requires { IsKnown known.now }
+        ensures { result ≡ adds_taken_by (program_tree known.now.program.now) self.now.states self.now.owns names.now }
+    {
+        self.is_own_taken(known, &names.own)
+            || (self.is_taken(known, &names.own, &names.switch)
+                || self.is_taken(known, &names.own, &names.nominal))
+    }
+
+    /// Whether the name is taken for that of an own value.
+    fn is_own_taken(&self, known: &Known<'a>, own: &Name) -> bool
+        requires { IsKnown known.now }
+        ensures { result ≡ (is_program_name (program_tree known.now.program.now) own.now || is_among self.now.states own.now) }
+    {
+        known.has_name(own) || self.states.has(own.text())
+    }
+
+    /// Whether the name is taken, also by the name of an own value that comes with it.
+    fn is_taken(&self, known: &Known<'a>, own: &Name, name: &Name) -> bool
+        requires { IsKnown known.now }
+        ensures { result ≡ is_taken_with (program_tree known.now.program.now) self.now.states self.now.owns own.now name.now }
+    {
+        known.has_name(name) || (self.states.has(name.text()) || self.is_own(own, name))
+    }
+
+    fn is_own(&self, own: &Name, name: &Name) -> bool
+        ensures { result ≡ (is_among self.now.owns name.now || same_text own.now name.now) }
+    {
+        self.owns.has(name.text()) || has_text(own, name)
+    }
+}
+
+impl SliceNames {
+    fn of(alloc: Global, slice: &Slice) -> Result<SliceNames, OutOfMemory>
+        ensures { IfOk result (λ names. names ≡ names_of (slice_tree slice.now)) }
+    {
+        let own = own_name(alloc, &slice.target)?;
+        let switch = mode_variable(alloc, &slice.name)?;
+        let nominal = nominal_symbol(alloc, &slice.name)?;
+        Ok(SliceNames {
+            own,
+            switch,
+            nominal,
+        })
     }
 }
 
 /// What the variable that a slice affects is declared to be.
-fn target_of<'a>(scope: &Scope<'a>, target: &Name) -> Result<&'a Declared, Rule> {
-    match scope.local(target) {
+fn target_of<'a>(local: Option<Local<'a>>) -> Result<&'a Declared, Rule>
+    ensures rule { result_err result ≡ target_rule (option_map local_tree local.entry) }
+    ensures declared { IfOk result (λ declared. option_map local_tree local.entry ≡ Some (variable (declared_tree declared.now))) }
+{
+    match local {
         Some(Local::Variable(declared)) => Ok(declared),
         Some(Local::Other) => Err(Rule::NotAStateVariable),
         Some(Local::Formal) | None => Err(Rule::NoSuchVariable),
@@ -194,25 +327,42 @@ fn target_of<'a>(scope: &Scope<'a>, target: &Name) -> Result<&'a Declared, Rule>
 }
 
 /// Whether a symbol of the type is a name of the module, so that a template would mean that.
-fn hides_symbol(scope: &Scope<'_>, declared: &Declared) -> bool {
+fn hides_symbol(known: &Known<'_>, owner: &Name, declared: &Declared) -> bool
+    requires { IsKnown known.now }
+    ensures { result ≡ hides_symbol_of (find_module (program_tree known.now.program.now) owner.now) (declared_tree declared.now) }
+{
     match declared {
-        Declared::Members(members) => has_local(scope, members.as_slice()),
+        Declared::Members(members) => has_local(known, owner, members.as_slice()),
         Declared::Boolean | Declared::Range(_, _) | Declared::Instance(_, _) => false,
     }
 }
 
-fn has_local(scope: &Scope<'_>, members: &[Member]) -> bool {
+#[tactic(auto, using(xs_effects::proofs::AllowedLaws::any_more))]
+fn has_local(known: &Known<'_>, owner: &Name, members: &[Member]) -> bool
+    requires { IsKnown known.now }
+    ensures { result ≡ list_any (is_local_member (find_module (program_tree known.now.program.now) owner.now)) members.now }
+{
     for member in members {
-        if is_local(scope, member) {
+        if is_local(known, owner, member) {
             return true;
         }
     }
     false
 }
 
-fn is_local(scope: &Scope<'_>, member: &Member) -> bool {
+fn is_local(known: &Known<'_>, owner: &Name, member: &Member) -> bool
+    requires { IsKnown known.now }
+    ensures { result ≡ is_local_member (find_module (program_tree known.now.program.now) owner.now) member.now }
+{
     match member {
         Member::Number(_) => false,
-        Member::Symbol(name) => scope.local(name).is_some(),
+        Member::Symbol(name) => known.has_local(owner, name),
     }
+}
+
+/// Whether both names have the same text.
+fn has_text(x: &Name, y: &Name) -> bool
+    ensures { result ≡ same_text x.now y.now }
+{
+    x.is_same(y)
 }

@@ -18,10 +18,12 @@ mod count;
 mod fault;
 mod items;
 mod laws;
+mod modes;
 mod modules;
+mod names;
 mod numbers;
 mod placed;
-mod taken;
+mod targets;
 mod texts;
 
 pub use count::judge_counts;

@@ -1,5 +1,16 @@
 //! The modules of a program by name, and what names are in them.
 
+ghost use Rattle.std.specs.Prelude.{◌≡◌, [], ◌++◌, IfOk, OnOk, map, flat_map, option_map, is_some};
+ghost use Rattle.std.specs.Option.{option_copied};
+ghost use Rattle.xs_tree.specs.ProgramTree.{program_tree, module_tree, section_tree, decl_tree, define_tree, declared_tree};
+ghost use Rattle.xs_tree.specs.Scope.{find_module, kind_at};
+ghost use Rattle.xs_weave_rules.specs.Keyed.{first_with, with_entry, with_entries};
+ghost use Rattle.xs_weave_rules.specs.Locals.{local_tree, declared_local, formal_entry, variable_entry, other_entry, define_entry, section_locals, locals_of, scope_of, scopes_of, locals_in, scopes_in, local_in, seen_kind, other};
+ghost use Rattle.xs_weave_rules.specs.Rules.{is_program_name, is_missing, is_local, opposite_of};
+ghost use Rattle.xs_weave_rules.specs.Faults.{IsKnown};
+
+use crate::names::program_names;
+use crate::texts::Texts;
 use indexmap::IndexMap;
 use std::alloc::Global;
 use xs_tree::{Decl, Declared, Define, Module, Program, Section};
@@ -17,33 +28,91 @@ pub(crate) enum Local<'a> {
 /// The names of a module. Of two declarations of a name the first counts.
 #[derive(Drop)]
 pub(crate) struct Scope<'a> {
-    locals: IndexMap<&'a [u8], Local<'a>>,
+    pub(crate) locals: IndexMap<&'a [u8], Local<'a>>,
 }
 
-/// The modules by name. Of two modules of a name the first counts.
+/// A program with its modules by name, and the names that it has. Of two modules of a name the first counts.
 #[derive(Drop)]
-pub(crate) struct Modules<'a> {
-    scopes: IndexMap<&'a [u8], Scope<'a>>,
+pub(crate) struct Known<'a> {
+    pub(crate) program: &'a Program,
+    pub(crate) scopes: IndexMap<&'a [u8], Scope<'a>>,
+    pub(crate) names: Texts,
 }
 
-impl<'a> Modules<'a> {
-    /// The modules of a program.
-    pub(crate) fn read(alloc: Global, p: &'a Program) -> Result<Modules<'a>, OutOfMemory> {
-        let mut modules = Modules {
+impl<'a> Known<'a> {
+    /// The modules and the names of a program.
+    pub(crate) fn read(alloc: Global, p: &'a Program) -> Result<Known<'a>, OutOfMemory>
+        ensures program { IfOk result (λ known. known.program.now ≡ p.now) }
+        ensures known { IfOk result IsKnown }
+    {
+        let names = program_names(alloc, p)?;
+        let mut known = Known {
+            program: p,
             scopes: IndexMap::new(alloc),
+            names,
         };
-        for module in p.modules.as_slice() {
-            modules.add(alloc, module)?;
+        known.add_modules(alloc, p.modules.as_slice())?;
+        Ok(known)
+    }
+
+    /// Whether a module has the name.
+    pub(crate) fn has_module(&self, name: &Name) -> bool
+        requires { IsKnown self.now }
+        ensures { is_missing (find_module (program_tree self.now.program.now) name.now) ≡ opposite_of result }
+    {
+        self.scopes.contains_key(name.text())
+    }
+
+    /// Whether the program has the name.
+    pub(crate) fn has_name(&self, name: &Name) -> bool
+        requires { IsKnown self.now }
+        ensures { result ≡ is_program_name (program_tree self.now.program.now) name.now }
+    {
+        self.names.has(name.text())
+    }
+
+    /// What a name is in the module of a name, where it is declared there.
+    pub(crate) fn local(&self, owner: &Name, name: &Name) -> Option<Local<'a>>
+        requires { IsKnown self.now }
+        ensures { option_map local_tree result ≡ seen_kind (kind_at (find_module (program_tree self.now.program.now) owner.now) name.now) }
+    {
+        match self.find(owner) {
+            Some(scope) => scope.local(name),
+            None => None,
         }
-        Ok(modules)
     }
 
-    /// The names of the module of a name.
-    pub(crate) fn find(&self, name: &Name) -> Option<&Scope<'a>> {
-        self.scopes.get(name.text())
+    /// Whether a name is declared, or a formal, in the module of a name.
+    pub(crate) fn has_local(&self, owner: &Name, name: &Name) -> bool
+        requires { IsKnown self.now }
+        ensures { result ≡ is_local (find_module (program_tree self.now.program.now) owner.now) name.now }
+    {
+        self.local(owner, name).is_some()
     }
 
-    fn add(&mut self, alloc: Global, module: &'a Module) -> Result<(), OutOfMemory> {
+    fn find(&self, owner: &Name) -> Option<&Scope<'a>>
+        ensures { option_map locals_in (option_copied result) ≡ first_with (scopes_in self.now) owner.now }
+    {
+        self.scopes.get(owner.text())
+    }
+
+    #[tactic(auto, using(crate::proofs::KeyedLaws::keyed_rules))]
+    fn add_modules(&mut self, alloc: Global, modules: &'a [Module]) -> Result<(), OutOfMemory>
+        ensures program { OnOk result (self.new.program ≡ self.old.program) }
+        ensures names { OnOk result (self.new.names ≡ self.old.names) }
+        ensures scopes { OnOk result (scopes_in self.new ≡ with_entries (scopes_in self.old) (map scope_of (map module_tree modules.now))) }
+    {
+        for module in modules {
+            self.add_module(alloc, module)?;
+        }
+        Ok(())
+    }
+
+    fn add_module(&mut self, alloc: Global, module: &'a Module) -> Result<(), OutOfMemory>
+        ensures program { OnOk result (self.new.program ≡ self.old.program) }
+        ensures names { OnOk result (self.new.names ≡ self.old.names) }
+        ensures scopes { OnOk result (scopes_in self.new ≡ with_entry (scopes_in self.old) (scope_of (module_tree «module».now))) }
+    {
         if self.scopes.contains_key(module.name.text()) {
             return Ok(());
         }
@@ -54,24 +123,37 @@ impl<'a> Modules<'a> {
 }
 
 impl<'a> Scope<'a> {
-    fn of_module(alloc: Global, module: &'a Module) -> Result<Scope<'a>, OutOfMemory> {
-        let mut scope = Scope {
-            locals: IndexMap::new(alloc),
-        };
+    #[tactic(auto, using(crate::proofs::KeyedLaws::keyed_rules))]
+    fn of_module(alloc: Global, module: &'a Module) -> Result<Scope<'a>, OutOfMemory>
+        ensures { IfOk result (λ scope. locals_in scope ≡ with_entries [] (locals_of (module_tree «module».now))) }
+    {
+        let mut scope = Scope::empty(alloc);
         scope.add_formals(module.formals.as_slice())?;
         scope.add_sections(module.sections.as_slice())?;
         Ok(scope)
     }
 
+    fn empty(alloc: Global) -> Scope<'a>
+        ensures { locals_in result ≡ [] }
+    {
+        Scope {
+            locals: IndexMap::new(alloc),
+        }
+    }
+
     /// What a name is in the module, where it is declared there.
-    pub(crate) fn local(&self, name: &Name) -> Option<Local<'a>> {
+    fn local(&self, name: &Name) -> Option<Local<'a>>
+        ensures { option_map local_tree result ≡ first_with (locals_in self.now) name.now }
+    {
         match self.locals.get(name.text()) {
             Some(local) => Some(*local),
             None => None,
         }
     }
 
-    fn add(&mut self, name: &'a Name, local: Local<'a>) -> Result<(), OutOfMemory> {
+    fn add(&mut self, name: &'a Name, local: Local<'a>) -> Result<(), OutOfMemory>
+        ensures { OnOk result (locals_in self.new ≡ with_entry (locals_in self.old) (name.now, local_tree local.entry)) }
+    {
         if self.locals.contains_key(name.text()) {
             return Ok(());
         }
@@ -79,24 +161,33 @@ impl<'a> Scope<'a> {
         Ok(())
     }
 
-    fn add_formals(&mut self, formals: &'a [Name]) -> Result<(), OutOfMemory> {
+    #[tactic(auto, using(crate::proofs::KeyedLaws::keyed_rules))]
+    fn add_formals(&mut self, formals: &'a [Name]) -> Result<(), OutOfMemory>
+        ensures { OnOk result (locals_in self.new ≡ with_entries (locals_in self.old) (map formal_entry formals.now)) }
+    {
         for formal in formals {
             self.add(formal, Local::Formal)?;
         }
         Ok(())
     }
 
-    fn add_sections(&mut self, sections: &'a [Section]) -> Result<(), OutOfMemory> {
+    #[tactic(auto, using(crate::proofs::KeyedLaws::keyed_rules))]
+    fn add_sections(&mut self, sections: &'a [Section]) -> Result<(), OutOfMemory>
+        ensures { OnOk result (locals_in self.new ≡ with_entries (locals_in self.old) (flat_map section_locals (map section_tree sections.now))) }
+    {
         for section in sections {
             self.add_section(section)?;
         }
         Ok(())
     }
 
-    fn add_section(&mut self, section: &'a Section) -> Result<(), OutOfMemory> {
+    fn add_section(&mut self, section: &'a Section) -> Result<(), OutOfMemory>
+        ensures { OnOk result (locals_in self.new ≡ with_entries (locals_in self.old) (section_locals (section_tree section.now))) }
+    {
         match section {
             Section::Var(list) => self.add_variables(list.as_slice()),
-            Section::Ivar(list) | Section::Frozen(list) => self.add_others(list.as_slice()),
+            Section::Ivar(list) => self.add_others(list.as_slice()),
+            Section::Frozen(list) => self.add_others(list.as_slice()),
             Section::Define(list) => self.add_defines(list.as_slice()),
             Section::Constants(_)
             | Section::Assign(_)
@@ -106,21 +197,30 @@ impl<'a> Scope<'a> {
         }
     }
 
-    fn add_variables(&mut self, decls: &'a [Decl]) -> Result<(), OutOfMemory> {
+    #[tactic(auto, using(crate::proofs::KeyedLaws::keyed_rules))]
+    fn add_variables(&mut self, decls: &'a [Decl]) -> Result<(), OutOfMemory>
+        ensures { OnOk result (locals_in self.new ≡ with_entries (locals_in self.old) (map variable_entry (map decl_tree decls.now))) }
+    {
         for decl in decls {
             self.add(&decl.name, declared(&decl.what))?;
         }
         Ok(())
     }
 
-    fn add_others(&mut self, decls: &'a [Decl]) -> Result<(), OutOfMemory> {
+    #[tactic(auto, using(crate::proofs::KeyedLaws::keyed_rules))]
+    fn add_others(&mut self, decls: &'a [Decl]) -> Result<(), OutOfMemory>
+        ensures { OnOk result (locals_in self.new ≡ with_entries (locals_in self.old) (map other_entry (map decl_tree decls.now))) }
+    {
         for decl in decls {
             self.add(&decl.name, Local::Other)?;
         }
         Ok(())
     }
 
-    fn add_defines(&mut self, defines: &'a [Define]) -> Result<(), OutOfMemory> {
+    #[tactic(auto, using(crate::proofs::KeyedLaws::keyed_rules))]
+    fn add_defines(&mut self, defines: &'a [Define]) -> Result<(), OutOfMemory>
+        ensures { OnOk result (locals_in self.new ≡ with_entries (locals_in self.old) (map define_entry (map define_tree defines.now))) }
+    {
         for define in defines {
             self.add(&define.name, Local::Other)?;
         }
@@ -129,7 +229,9 @@ impl<'a> Scope<'a> {
 }
 
 /// What a declaration of a VAR section makes of its name.
-fn declared<'a>(what: &'a Declared) -> Local<'a> {
+fn declared<'a>(what: &'a Declared) -> Local<'a>
+    ensures { local_tree result ≡ declared_local (declared_tree what.now) }
+{
     match what {
         Declared::Instance(_, _) => Local::Other,
         Declared::Boolean | Declared::Range(_, _) | Declared::Members(_) => Local::Variable(what),

@@ -1,3 +1,5 @@
+ghost use Rattle.std.specs.Prelude.{◌≡◌, ◌+◌, IfOk};
+
 use std::alloc::Global;
 use xs_fei::Slice;
 use xs_tree::Declared;
@@ -14,6 +16,8 @@ pub struct Placed<'a> {
 }
 
 /// The item after another one. Instructions that pass the numbers of 32 bits count as want of memory.
-pub fn item_after(item: u32) -> Result<u32, OutOfMemory> {
+pub fn item_after(item: u32) -> Result<u32, OutOfMemory>
+    ensures { IfOk result (λ next. next ≡ item + 1) }
+{
     item.checked_add(1).ok_or(OutOfMemory)
 }

@@ -1,6 +1,5 @@
 use Rattle.std.proofs.Common.{◌≡◌, ◌++◌, map, drop}
 use Rattle.xs_fei.specs.Instructions.{mode_tree}
-use Rattle.xs_weave.specs.Faults.{Fault}
 use Rattle.xs_extend.specs.WovenFaults.{place_of, fault_tree}
 use Rattle.xs_extend.proofs.faults.add_slice.Given as goal
 

@@ -1,4 +1,3 @@
-use Rattle.std.proofs.Common.{◌≡◌, ◌*ℤ◌}
 use Rattle.std.proofs.lemmas.Int.{to_z-of_z}
 use Rattle.xs_types.proofs.IntervalLaws.{product_fits}
 use Rattle.xs_types.proofs.interval.product.Goals as goal

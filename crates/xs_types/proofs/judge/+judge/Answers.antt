@@ -1,4 +1,4 @@
-use Rattle.std.proofs.Common.{rules, ◌≡◌}
+use Rattle.std.proofs.Common.{rules}
 use Rattle.std.proofs.lemmas.Int.{to_z-of_z}
 use Rattle.xs_types.specs.Names.{name_kind}
 use Rattle.xs_types.proofs.ExprLaws.{link_not, link_negative, link_binary, link_choice, link_case, link_set, judged_span_is}

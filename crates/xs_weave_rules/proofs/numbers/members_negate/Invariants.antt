@@ -1,4 +1,4 @@
-use Rattle.std.proofs.Common.{◌≡◌, map, drop}
+use Rattle.std.proofs.Common.{◌≡◌, drop}
 use Rattle.std.specs.List.{list_all}
 use Rattle.xs_weave_rules.specs.Negations.{member_negates}
 use Rattle.xs_weave_rules.proofs.numbers.members_negate.Given as goal

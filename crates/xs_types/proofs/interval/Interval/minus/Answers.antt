@@ -1,8 +1,8 @@
-use Rattle.std.proofs.Common.{◌≡◌, ◌∙◌, ◌+ℤ◌, ◌-ℤ◌, pos, sym, arith, rules}
+use Rattle.std.proofs.Common.{◌-ℤ◌, arith, rules}
 use Rattle.std.proofs.lemmas.Int.{ints, to_z-of_z}
 use mir.Syntax.{w64}
 use mir.Val.{SFits}
-use Rattle.xs_types.specs.Told.{fitting, IsSmall}
+use Rattle.xs_types.specs.Told.{IsSmall}
 use Rattle.xs_types.proofs.IntervalLaws.{difference_fits}
 use Rattle.xs_types.proofs.interval.Interval.minus.Goals as goal
 

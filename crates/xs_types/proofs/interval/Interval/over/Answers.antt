@@ -1,8 +1,8 @@
-use Rattle.std.proofs.Common.{◌≡◌, ◌∙◌, ◌+ℤ◌, ◌-ℤ◌, ◌*ℤ◌, pos, sym, arith, rules}
-use Rattle.std.proofs.lemmas.Int.{ints, to_z-of_z}
+use Rattle.std.proofs.Common.{◌≡◌, ◌∙◌, rules}
+use Rattle.std.proofs.lemmas.Int.{to_z-of_z}
 use mir.Syntax.{w64}
 use mir.Val.{SFits}
-use Rattle.xs_types.specs.Told.{fitting, IsSmall}
+use Rattle.xs_types.specs.Told.{fitting}
 use Rattle.std.specs.Prelude.{int_div}
 use Rattle.xs_kinds.specs.Intervals.{hull, just}
 use Rattle.xs_types.proofs.IntervalLaws.{by_corners}

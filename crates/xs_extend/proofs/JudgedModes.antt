@@ -1,0 +1,169 @@
+-- Guards and what is followed, by the rules of names and of kinds.
+use Rattle.std.proofs.Common.{◌≡◌, ◌⊎◌, inl, inr, ℕ, Bool, true, false, List, [], ◌∷◌, map, flat_map, Option, Some, None, refl, sym, ◌∙◌, ap, subst}
+use Rattle.std.specs.Prelude.{◌||◌, slice_get, codes}
+use Rattle.xs_tree.specs.declared.program.Member.{Member}
+use Rattle.xs_tree.specs.declared.program.Member.TheVariants as member
+use Rattle.xs_tree.specs.Tree.{Tree, Trees, Branches, truth as is_truth, number as is_number, leaf, not_of, negate, next_of, binary, choice, case_of, set_of, span, no_tree, tree_then, no_branch, branch_then}
+use Rattle.xs_tree.specs.ProgramTree.{Text, Formula, DeclaredTree, boolean, range, members, instance, ModuleTree, ProgramTree}
+use Rattle.xs_tree.specs.Scope.{Place, Role, a_variable, kind_in, find_module}
+use Rattle.xs_tree.specs.Trace.{Each, IsVariable}
+use Rattle.xs_fei.specs.Instructions.{EffectTree, stuck_at, follows, inverted, random, erroneous, frozen, stuck_at_pick, offset, ramp_down}
+use Rattle.xs_effects.specs.Types.{IsUniform, IsNumberMember, IsSymbolMember}
+use Rattle.xs_weave.specs.Weavable.{NoNext, NoNextInTrees, NoNextInBranches, HasMeaning, IsReadable, IsLawfulGuard}
+use Rattle.xs_flattening.specs.Flat.{FlatLeaf, FlatVariable, FlatModel}
+use Rattle.xs_flattening.specs.Items.{Visit, visits, variables_of}
+use Rattle.xs_flattening.specs.Resolved.{Definition, Resolver, IsSound, IsResolved, leaves_in, has_next, trees_have_next, branches_have_next}
+use Rattle.xs_flattening.specs.Rules.{IsAccepted}
+use Rattle.xs_flattening.specs.Model.{IsVariableOf, EachBoth, IsFlatOf}
+use Rattle.xs_flattening.proofs.Conditions.{each_at}
+use Rattle.xs_flattening.proofs.Lists.{each_more}
+use Rattle.xs_flattening.proofs.Resolving.{Known, names_known}
+use Rattle.xs_flattening.proofs.Places.{has_main}
+use Rattle.xs_flattening.proofs.Walkable.{accepted_walkable, main_is_there}
+use Rattle.xs_flattening.proofs.Variables.{variables_are}
+use Rattle.xs_kinds.specs.Judged.{Class, number_class, symbol_class, KindRule, mixed_enum, unless_class, first_class}
+use Rattle.xs_kinds.specs.Declared.{member_kind, judged_declared}
+use Rattle.xs_kinds.specs.Models.{breaches_at, variable_breaches, IsTyped}
+use Rattle.xs_kinds.proofs.Parts.{none_first, none_second, class_kept}
+use Rattle.xs_kinds.proofs.ClosedLaws.{all_leaves}
+use Rattle.xs_kinds.proofs.WrittenLaws.{written_conditions_decided, IsReal, real_all}
+use Rattle.xs_weave_rules.specs.Judged.{IsReadableEffect}
+use Rattle.xs_extend.specs.JudgedLaws.{IsGoodEffect, IsGoodGuard, GoodModesAreJudged, TypesAreUniform}
+
+-- where no `next` is found, none stands
+or_left : (a b : Bool) → (a || b) ≡ false → a ≡ false
+or_left true b h = h
+or_left false b h = refl
+
+or_right : (a b : Bool) → (a || b) ≡ false → b ≡ false
+or_right true b h = cc
+or_right false b h = h
+
+mutual
+  pub no_next : {L : Type 0} (t : Tree L) → has_next t ≡ false → NoNext t
+  no_next (is_truth b) h = tt
+  no_next (is_number n) h = tt
+  no_next (leaf l) h = tt
+  no_next (not_of a) h = no_next a h
+  no_next (negate a) h = no_next a h
+  no_next (next_of a) h = cc
+  no_next (binary o a b) h = (no_next a (or_left (has_next a) (has_next b) h), no_next b (or_right (has_next a) (has_next b) h))
+  no_next (choice c a b) h =
+      let sides : (has_next a || has_next b) ≡ false = or_right (has_next c) (has_next a || has_next b) h in
+      (no_next c (or_left (has_next c) (has_next a || has_next b) h), no_next a (or_left (has_next a) (has_next b) sides), no_next b (or_right (has_next a) (has_next b) sides))
+  no_next (case_of bs) h = no_next_branches bs h
+  no_next (set_of ts) h = no_next_trees ts h
+  no_next (span lo hi) h = tt
+
+  no_next_trees : {L : Type 0} (ts : Trees L) → trees_have_next ts ≡ false → NoNextInTrees ts
+  no_next_trees no_tree h = tt
+  no_next_trees (tree_then t ts) h = (no_next t (or_left (has_next t) (trees_have_next ts) h), no_next_trees ts (or_right (has_next t) (trees_have_next ts) h))
+
+  no_next_branches : {L : Type 0} (bs : Branches L) → branches_have_next bs ≡ false → NoNextInBranches bs
+  no_next_branches no_branch h = tt
+  no_next_branches (branch_then c a bs) h =
+      let rest : (has_next a || branches_have_next bs) ≡ false = or_right (has_next c) (has_next a || branches_have_next bs) h in
+      (no_next c (or_left (has_next c) (has_next a || branches_have_next bs) h), no_next a (or_left (has_next a) (branches_have_next bs) rest), no_next_branches bs (or_right (has_next a) (branches_have_next bs) rest))
+
+-- the names of an expression that is resolved soundly mean something
+each_unit : (ls : List FlatLeaf) → Each (λ l. Unit {0}) ls
+each_unit [] = tt
+each_unit (l ∷ ls) = (tt, each_unit ls)
+
+pub resolved_readable : (p : ProgramTree) (m : FlatModel) (ds : List Definition) (r : Resolver) → IsSound p m ds r → (at : Place) (e : Formula) (flat : Tree FlatLeaf) → IsResolved (r at) e flat → IsReadable p at e
+resolved_readable p m ds r sound at e flat is =
+    all_leaves (HasMeaning p at) e (each_more (λ name. Known (λ l. Unit {0}) (r at name)) (HasMeaning p at) (leaves_in e)
+    (λ name known. let found = sound at name known.found known.is in (found.0, found.1)) (names_known (λ l. Unit {0}) (r at) e flat is (each_unit (leaves_in flat))))
+
+effect_readable : (p : ProgramTree) (m : FlatModel) (ds : List Definition) (at : Place) (e : EffectTree) → IsGoodEffect p m ds at e → IsReadableEffect p at e
+effect_readable p m ds at (follows e) good = resolved_readable p m ds good.resolver good.sound at e good.flat good.resolved
+effect_readable p m ds at (stuck_at c) good = tt
+effect_readable p m ds at inverted good = tt
+effect_readable p m ds at random good = tt
+effect_readable p m ds at erroneous good = tt
+effect_readable p m ds at frozen good = tt
+effect_readable p m ds at stuck_at_pick good = tt
+effect_readable p m ds at (offset d) good = tt
+effect_readable p m ds at (ramp_down d f) good = tt
+
+guard_lawful : (p : ProgramTree) (m : FlatModel) → IsAccepted p → (is : IsFlatOf p m) → IsTyped m → (at : Place) (k : ModuleTree) (g : Option Formula) → IsGoodGuard p m is.written at g → IsLawfulGuard p at k g
+guard_lawful p m accepted is typed at k None good = tt
+guard_lawful p m accepted is typed at k (Some e) good = (
+  resolved_readable p m is.written good.resolver good.sound at e good.flat good.resolved,
+  no_next e good.no_next,
+  λ v within. written_conditions_decided p m accepted is typed good.resolver good.sound v v within within at e good.flat good.resolved good.kept,
+)
+
+pub good_modes : GoodModesAreJudged
+good_modes p m accepted is typed at k mode good =
+    record { effect = effect_readable p m is.written at mode.effect good.effect; guard = guard_lawful p m accepted is typed at k mode.guard good.guard }
+
+-- the members of a type that breaks no rule
+all_of_class : (c : Class) (ms : List Member) → flat_map (unless_class c mixed_enum) (map member_kind ms) ≡ [] → Each (λ m. (member_kind m).class ≡ c) ms
+all_of_class c [] h = tt
+all_of_class c (m ∷ ms) h = (
+  class_kept c mixed_enum (member_kind m) (none_first (unless_class c mixed_enum (member_kind m)) (flat_map (unless_class c mixed_enum) (map member_kind ms)) h),
+  all_of_class c ms (none_second (unless_class c mixed_enum (member_kind m)) (flat_map (unless_class c mixed_enum) (map member_kind ms)) h),
+)
+
+numbers_all : (ms : List Member) → Each (λ m. (member_kind m).class ≡ number_class) ms → Each IsNumberMember ms
+numbers_all [] h = tt
+numbers_all (member.Number n ∷ ms) h = (tt, numbers_all ms h.1)
+numbers_all (member.Symbol x ∷ ms) h = absurd (cc (h.0))
+
+symbols_all : (ms : List Member) → Each (λ m. (member_kind m).class ≡ symbol_class) ms → Each IsSymbolMember ms
+symbols_all [] h = tt
+symbols_all (member.Number n ∷ ms) h = absurd (cc (h.0))
+symbols_all (member.Symbol x ∷ ms) h = (tt, symbols_all ms h.1)
+
+members_uniform : (ms : List Member) → flat_map (unless_class (first_class (map member_kind ms)) mixed_enum) (map member_kind ms) ≡ [] → Each IsNumberMember ms ⊎ Each IsSymbolMember ms
+members_uniform [] h = inl tt
+members_uniform (member.Number n ∷ ms) h = inl (numbers_all (member.Number n ∷ ms) (all_of_class number_class (member.Number n ∷ ms) h))
+members_uniform (member.Symbol x ∷ ms) h = inr (symbols_all (member.Symbol x ∷ ms) (all_of_class symbol_class (member.Symbol x ∷ ms) h))
+
+type_uniform : (type : DeclaredTree) → (judged_declared type).broken ≡ [] → IsUniform type
+type_uniform boolean h = tt
+type_uniform (range lo hi) h = tt
+type_uniform (instance k actuals) h = tt
+type_uniform (members ms) h = members_uniform ms (none_first _ _ (none_first _ _ h))
+
+-- the types of a typed model's variables break no rule
+no_breach : (number item : ℕ) (rules : List KindRule) → breaches_at number item rules ≡ [] → rules ≡ []
+no_breach number item [] h = refl
+no_breach number item (r ∷ rules) h = cc
+
+types_right : (xs : List FlatVariable) → variable_breaches xs ≡ [] → Each (λ x. (judged_declared x.declared).broken ≡ []) xs
+types_right [] h = tt
+types_right (x ∷ xs) h =
+    let here = breaches_at x.number x.item (judged_declared x.declared).broken in
+    (no_breach x.number x.item (judged_declared x.declared).broken (none_first here (variable_breaches xs) h), types_right xs (none_second here (variable_breaches xs) h))
+
+-- a flat variable at a place of the list, with the declaration that it comes from
+record From (p : ProgramTree) (m : FlatModel) (x : FlatVariable) : Type 0 where
+  visit : Visit
+  is : IsVariableOf m visit x
+  real : IsReal p visit
+
+from : (p : ProgramTree) (m : FlatModel) (ws : List Visit) (xs : List FlatVariable) → EachBoth (IsVariableOf m) ws xs → Each (IsReal p) ws → Each (From p m) xs
+from p m [] [] b r = tt
+from p m [] (x ∷ xs) b r = absurd b
+from p m (w ∷ ws) [] b r = absurd b
+from p m (w ∷ ws) (x ∷ xs) b r = (record { visit = w; is = b.0; real = r.0 }, from p m ws xs b.1 r.1)
+
+one_type : (p : ProgramTree) (at : Place) (x : Text) (r q : Role) (s t : DeclaredTree) → IsVariable p at x r s → IsVariable p at x q t → s ≡ t
+one_type p at x r q s t a b =
+    let same : a.0 ≡ b.0 = cc (a.1, b.1) in
+    let kinds : a_variable r s ≡ a_variable q t = sym a.2 ∙ ap (λ m. kind_in m x) same ∙ b.2 in cc
+
+pub types_uniform : TypesAreUniform
+types_uniform p m accepted is typed at k x role type here kind =
+    let listed : (i : ℕ) × (v : FlatVariable) × (slice_get m.variables i ≡ Some v) × (v.place ≡ at) × (v.name ≡ x) = (variables_are p (accepted_walkable p accepted) m is at x).0 (role, type, (k, here, kind)) in
+    let main : (n : ModuleTree) × (find_module p (codes "main") ≡ Some n) = main_is_there p (accepted_walkable p accepted) in
+    let origin : From p m listed.1 = each_at (From p m) m.variables listed.0 listed.1 (from p m (variables_of p) m.variables is.variables (real_all p (visits p) (has_main p (accepted_walkable p accepted) main.0 main.1))) listed.2 in
+    let right : (judged_declared listed.1.declared).broken ≡ [] =
+    each_at (λ y. (judged_declared y.declared).broken ≡ []) m.variables listed.0 listed.1 (types_right m.variables (none_first (variable_breaches m.variables) _ typed.kept)) listed.2 in
+    let there : IsVariable p at x origin.visit.role origin.visit.decl.what =
+    subst (λ y. IsVariable p at y origin.visit.role origin.visit.decl.what) (sym origin.is.name ∙ listed.4)
+    (subst (λ a. IsVariable p a origin.visit.decl.name origin.visit.role origin.visit.decl.what) (sym origin.is.place ∙ listed.3) origin.real) in
+    let same : type ≡ listed.1.declared = one_type p at x role origin.visit.role type origin.visit.decl.what (k, here, kind) there ∙ sym origin.is.declared in
+    type_uniform type (subst (λ t. (judged_declared t).broken ≡ []) (sym same) right)

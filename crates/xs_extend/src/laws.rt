@@ -1,0 +1,20 @@
+//! What the rules on guards and on what is followed are for.
+
+ghost use Rattle.xs_extend.specs.JudgedLaws.{GoodModesAreJudged, InstancesAreLawful, TypesAreUniform};
+
+/// A mode whose expressions break no rule at an instance of a program that breaks none is such as the weave
+/// takes: what is followed means something, and the guard has exactly one truth value.
+pub fn good_modes_are_judged()
+    ensures { GoodModesAreJudged }
+{}
+
+/// In a program that breaks no rule, the members of a variable's type are all numbers or all symbols.
+pub fn types_are_uniform()
+    ensures { TypesAreUniform }
+{}
+
+/// In a program that breaks no rule of names, and whose actuals mean something, each instance is such as the
+/// weave takes.
+pub fn instances_are_lawful()
+    ensures { InstancesAreLawful }
+{}

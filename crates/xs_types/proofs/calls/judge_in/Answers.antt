@@ -1,0 +1,13 @@
+use Rattle.std.proofs.Common.{◌∙◌, ap}
+use Rattle.xs_flat.specs.ModelTree.{model_tree}
+use Rattle.xs_tree.specs.Written.{tree_of}
+use Rattle.xs_kinds.specs.Judged.{judge}
+use Rattle.xs_types.specs.Answers.{told}
+use Rattle.xs_types.specs.Names.{name_kind}
+use Rattle.xs_types.proofs.KeptLaws.{judged_as_in}
+use Rattle.xs_types.proofs.calls.judge_in.Goals as goal
+
+pub returns : goal.returns
+returns c =
+    c.judge.ensures ∙ ap (λ s. told (judge (name_kind s) c.args.sets (tree_of c.args.e.now))) c.sorts.ensures.sorts
+    ∙ ap told (judged_as_in (model_tree c.args.t.now.model) {s = c.args.t.now.sorts} c.sorts.ensures.kinds c.args.sets c.args.e.now)

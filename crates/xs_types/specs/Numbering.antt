@@ -1,0 +1,19 @@
+-- Symbols by their numbers, as a map keeps them.
+use lib.Pointwise.{pointwise}
+use Rattle.std.specs.Prelude.{◌≡◌, ℕ, ◌+◌, Bool, Option, Some, None, List, [], ◌∷◌, nat_eq, if◌then◌else◌}
+use Rattle.std.specs.Borrow.{Bor}
+use Rattle.indexmap.specs.IndexMap.{IndexMap, get}
+use Rattle.xs_tree.specs.Texts.{same_text}
+
+-- both borrowed texts have the same bytes
+abbrev pub same_borrowed : Bor (List ℕ) → Bor (List ℕ) → Bool
+same_borrowed x y = pointwise nat_eq x.now y.now
+
+-- the first place of a text among texts that are numbered from i on
+abbrev pub number_from : ℕ → List (List ℕ) → List ℕ → Option ℕ
+number_from i [] x = None
+number_from i (y ∷ ys) x = if same_text y x then Some i else number_from (i + 1) ys x
+
+-- the map has the first place of each text
+abbrev pub AreNumbered : {S : Type 0} → ℕ → List (List ℕ) → IndexMap (Bor (List ℕ)) ℕ S → Type 0
+AreNumbered i texts places = (x : Bor (List ℕ)) → get same_borrowed places x ≡ number_from i texts x.now

@@ -1,0 +1,7 @@
+-- Want of memory, as it is told.
+use Rattle.std.specs.Prelude.{◌≡◌}
+use Rattle.xs_weave_rules.specs.declared.fault.Rule.TheVariants.{OutOfMemory}
+use Rattle.xs_weave_rules.specs.declared.fault.RuleFault.{RuleFault}
+
+abbrev pub IsWant : RuleFault → Type 0
+IsWant fault = fault.rule ≡ OutOfMemory
