@@ -21,3 +21,4 @@ pub mod NamingItems
 pub mod Unknowns
 pub mod LookAfter
 pub mod Frames
+pub mod Closing
