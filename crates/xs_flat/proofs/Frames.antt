@@ -1,10 +1,10 @@
 -- How a look-up goes on by one part.
-use Rattle.std.proofs.Common.{◌≡◌, ℕ, zero, suc, ◌+◌, ◌-◌, ◌<◌, ◌≤◌, arith, Bool, true, false, ltb, List, [], ◌∷◌, ◌++◌, length, Option, Some, None, Vec, refl, sym, ◌∙◌, ap, subst, if◌then◌else◌}
+use Rattle.std.proofs.Common.{◌≡◌, ℕ, zero, suc, ◌+◌, ◌-◌, ◌<◌, ◌≤◌, arith, Bool, true, false, ltb, eqb-true, eq-eqb, get_or, take, drop, ◌==◌, List, [], ◌∷◌, ◌++◌, length, Option, Some, None, Vec, refl, sym, ◌∙◌, ap, subst, if◌then◌else◌}
 use Rattle.std.specs.Prelude.{slice_get, map, option_map}
 use Rattle.std.specs.Borrow.{Bor}
 use Rattle.std.specs.declared.alloc.Global.{Global}
 use Rattle.std.proofs.lemmas.Bool.{ltb-true, ltb-false}
-use Rattle.std.proofs.lemmas.List.{append-nil}
+use Rattle.std.proofs.lemmas.List.{append-nil, take_all}
 use Rattle.xs_tree.specs.declared.expr.Expr.{Expr}
 use Rattle.xs_tree.specs.ProgramTree.{Text, Path, Formula, DeclaredTree, boolean, range, members, instance, ModuleTree, ProgramTree}
 use Rattle.xs_tree.specs.Texts.{same_text}
@@ -362,3 +362,26 @@ frame_made s ready f formal own is here e there plain some = by_place head.insta
         ∙ ap (λ k. at_actual caller (plain_of (actual_of_kind k f.formal)) []) c.1
         ∙ ap (λ q. at_actual caller (plain_of q) []) (actual_there (map tree_of own.actuals.now) f.formal (tree_of e) listed)
         ∙ ap (λ a. at_actual a (plain_of (Some (tree_of e))) []) (sym c.0.2))
+
+-- the parts after the first one
+pub first_is : (parts : Path) (x : Text) (more : Path) (r : Text) → parts ≡ x ∷ more → r ≡ get_or parts 0 r → r ≡ x
+first_is parts x more r is e = e ∙ ap (λ ws. get_or ws 0 r) is
+
+pub tail_taken : (parts : Path) (x : Text) (more : Path) → parts ≡ x ∷ more → take (length parts - 1) (drop 1 parts) ≡ more
+tail_taken parts x more is =
+    ap (λ (ws : Path). take (length ws - 1) (drop 1 ws)) is ∙ take_all (suc (length more) - 1) more (omega arith)
+
+none_left : (xs : Path) → length xs ≡ 0 → xs ≡ []
+none_left [] e = refl
+none_left (x ∷ xs) e = absurd (omega (arith, e))
+
+pub last_empty : (parts : Path) (x : Text) (more : Path) → parts ≡ x ∷ more → true ≡ (length (take (length parts - 1) (drop 1 parts)) == 0) → more ≡ []
+last_empty parts x more is e = none_left more (ap (λ (ws : Path). length ws) (sym (tail_taken parts x more is)) ∙ eqb-true (length (take (length parts - 1) (drop 1 parts))) 0 (sym e))
+
+pub some_more : (parts : Path) (x : Text) (more : Path) → parts ≡ x ∷ more → false ≡ (length (take (length parts - 1) (drop 1 parts)) == 0) → (y : Text) × (rest : Path) × (more ≡ y ∷ rest)
+some_more parts x [] is e =
+    absurd (not_both (e ∙ eq-eqb (length (take (length parts - 1) (drop 1 parts))) 0 (ap (λ (ws : Path). length ws) (tail_taken parts x [] is))))
+  where
+    not_both : false ≡ true → ⊥
+    not_both h = cc
+some_more parts x (y ∷ more) is e = (y, more, refl)

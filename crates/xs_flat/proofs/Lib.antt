@@ -74,3 +74,4 @@ pub mod MetLaws
 pub mod VisitFaults
 pub mod WholeLaws
 pub mod FlatFaults
+pub mod Closing

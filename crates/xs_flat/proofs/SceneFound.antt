@@ -154,7 +154,7 @@ module _ (s : Scene) (set : IsSet s) where
       same = sym real.2 ∙ here.2.placed.named
 
   module _ (spot : ℕ) (at : FlatInstance) (st : Stand spot at) (x : Text) where
-    kind : kind_at (module_at (program_of s) at.place) x ≡ kind_after_formals (formal_from 0 st.tree.formals x) (kind_in_items (items_of st.tree) x)
+    pub kind : kind_at (module_at (program_of s) at.place) x ≡ kind_after_formals (formal_from 0 st.tree.formals x) (kind_in_items (items_of st.tree) x)
     kind = ap (λ o. kind_at o x) st.instance ∙ kind_by_items st.tree x
 
     -- what the item that gives the name means here

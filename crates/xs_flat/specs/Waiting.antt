@@ -100,3 +100,9 @@ pub record IsCircled (rs rs' : List (List Formal)) (fs : List Frame) (spot i : �
   pub first_spot : first.spot ≡ spot
   pub first_formal : first.formal ≡ i
   pub made : rs' ≡ circled rs (first ∷ circle)
+
+-- the look-ups after those that are left are answered
+pub record IsClosing (rs rs' : List (List Formal)) (fs left : List Frame) : Type 0 where
+  pub after : List Frame
+  pub split : fs ≡ left ++ after
+  pub made : rs' ≡ circled rs after

@@ -4,11 +4,11 @@
 //! a formal whose own look-up waits below it, those from that one on are a circle. Their formals are
 //! answered at once, and they are taken from the stack as their turns come.
 
-ghost use Rattle.std.specs.Prelude.{◌≡◌, ◌∷◌, ◌++◌, true, option_copied, slice_get, IfSome, OnOk};
+ghost use Rattle.std.specs.Prelude.{◌≡◌, [], ◌∷◌, ◌++◌, IfSome, OnOk};
 ghost use Rattle.xs_flat.specs.SceneTree.{IsScene, program_of};
 ghost use Rattle.xs_flat.specs.FoundAt.{formal_at};
 ghost use Rattle.xs_flat.specs.Steps.{known_at, is_open as is_open_of, row_count, row_answered as answered_row, all_answered as answered_all, gone_inside};
-ghost use Rattle.xs_flat.specs.Known.{rows, formal_of, IsOpen, IsSameButFormals};
+ghost use Rattle.xs_flat.specs.Known.{rows, IsOpen, IsSameButFormals};
 ghost use Rattle.xs_flat.specs.Waiting.{IsFormal, IsFrame, LastWaits, IsReady, IsWaiting, IsProgress, IsCircled};
 
 use crate::names::{Formal, Scene, Step, plain_name_of, told};
@@ -84,7 +84,12 @@ impl<'a> Scene<'a> {
     fn all_answered(&self) -> bool
         ensures { result ≡ answered_all self.now.formals.items }
     {
-        self.formals.iter().all(|formals| row_answered(formals.as_slice()))
+        for formals in self.formals.as_slice() {
+            if !row_answered(formals.as_slice()) {
+                return false;
+            }
+        }
+        true
     }
 
     /// Looks up a formal and all that it needs. The look-ups end long before the turns do.
@@ -159,7 +164,7 @@ impl<'a> Scene<'a> {
         waiting: &mut Vec<Frame<'a>>,
         frame: Frame<'a>,
     ) -> Result<(), OutOfMemory>
-        requires { IsWaiting self.old (waiting.old.items ++ frame.entry ∷ []) }
+        requires { IsWaiting self.old (waiting.old.items ++ frame ∷ []) }
         ensures same { IsSameButFormals self.old self.new }
         ensures waiting { OnOk result (IsWaiting self.new waiting.new.items) }
     {
@@ -208,7 +213,7 @@ impl<'a> Scene<'a> {
     /// One part of a look-up.
     fn advance(&self, frame: Frame<'a>) -> Progress<'a>
         requires ready { IsReady self.now }
-        requires frame { IsFrame (program_of self.now) (rows self.now) frame.entry }
+        requires frame { IsFrame (program_of self.now) (rows self.now) frame }
         ensures { IsProgress (program_of self.now) (rows self.now) frame.entry result }
     {
         let [part, more @ ..] = frame.rest else {
