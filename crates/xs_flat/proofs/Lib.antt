@@ -22,3 +22,4 @@ pub mod Unknowns
 pub mod LookAfter
 pub mod Frames
 pub mod Closing
+pub mod Stacks
