@@ -75,3 +75,4 @@ pub mod VisitFaults
 pub mod WholeLaws
 pub mod FlatFaults
 pub mod Closing
+pub mod Stacks
