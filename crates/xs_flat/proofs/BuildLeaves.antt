@@ -24,7 +24,7 @@ use Rattle.xs_flat.specs.declared.names.Defined.{Defined}
 use Rattle.xs_flat.specs.declared.names.Scene.{Scene}
 use Rattle.xs_flat.specs.declared.needs.Needs.{Needs}
 use Rattle.xs_flat.specs.SceneTree.{Denotes, IsFound, IsDefined, program_of, IsScene}
-use Rattle.xs_flat.specs.NeedsTree.{keys_of, IsKeyAt, HasCircle, IsOrder, AreNeeds}
+use Rattle.xs_flat.specs.NeedsTree.{keys_of, IsKeyAt, HasCircle, IsOrder, AreNeeds, IsMeant, AreMeant}
 use Rattle.xs_flat.specs.FoundAt.{found_at}
 use Rattle.xs_flat.specs.ResolverOf.{leaf_placed, leaf_found, leaf_at, is_leaf_within, TreeAll, TreesAll, BranchesAll, AreKnown}
 use Rattle.xs_flat.proofs.SceneFound.{scene_found}
@@ -200,9 +200,6 @@ module _ (p : ProgramTree) where
     leaf_within places bound at name (found.Definition i) is value within = leaf_of_meaning places bound at name (found.Definition i) is.0 is.1 is.2 value within
 
 module _ (s : Scene) (n : Needs) (is : IsScene s) (needs : AreNeeds (program_of s) n) (accepted : IsAccepted (program_of s)) where
-  pub order : IsOrder (program_of s) n.order.items n.places.items
-  order = needs.order (no_circles (program_of s) (roots_of (program_of s)) n.on_circle.items needs.circles (good_roots (program_of s) accepted))
-
   -- the keys of definitions
   abbrev pub RootKey : Key → Type 0
   RootKey k = (i : ℕ) × (slice_get (keys_of (program_of s)) i ≡ Some k)
@@ -221,6 +218,29 @@ module _ (s : Scene) (n : Needs) (is : IsScene s) (needs : AreNeeds (program_of 
 
   one_written : (k : Key) (at bt : Place) (e f : Formula) → expression_of (program_of s) k ≡ Some (at, e) → expression_of (program_of s) k ≡ Some (bt, f) → (at ≡ bt) × (e ≡ f)
   one_written k at bt e f g h = subst (λ o. Written o bt f) (sym h ∙ g) (refl, refl)
+
+  are_meant : AreMeant (program_of s)
+  are_meant k key at e is_k written =
+      each_from (IsMeant (program_of s) at) (leaves_in e)
+      (λ i name is_name. record {
+        something = λ none. named (some_at (HasNoValue (program_of s) at) (leaves_in e) i name is_name (nothing none));
+        no_loop = λ loop. no_come_back (program_of s) accepted loop.1 loop.2 loop.5;
+      })
+    where
+      r : (r : Root) × (slice_get (roots_of (program_of s)) k ≡ Some r) × (r.key ≡ key)
+      r = root_of_key key k is_k
+
+      good : IsGoodRoot (program_of s) r.0
+      good = each_at (IsGoodRoot (program_of s)) (roots_of (program_of s)) k r.0 (good_roots (program_of s) accepted) r.1
+
+      same : (good.at ≡ at) × (good.written ≡ e)
+      same = one_written r.0.key good.at at good.written e good.is (ap (expression_of (program_of s)) r.2 ∙ written)
+
+      named : SomeHasNoValue (program_of s) at e → ⊥
+      named bad = good.named (subst (λ a. SomeHasNoValue (program_of s) a good.written) (sym same.0) (subst (SomeHasNoValue (program_of s) at) (sym same.1) bad))
+
+  pub order : IsOrder (program_of s) n.order.items n.places.items
+  order = needs.order (no_circles (program_of s) (roots_of (program_of s)) n.on_circle.items needs.circles (good_roots (program_of s) accepted)) are_meant
 
   -- what a definition needs is a definition
   root_needs : (k other : Key) → RootKey k → NeedsOf (program_of s) k other → RootKey other
