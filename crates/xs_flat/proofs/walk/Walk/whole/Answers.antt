@@ -1,5 +1,4 @@
 -- The walk from `main` on.
-use Rattle.xs_flat.specs.declared.walk.Walk.{Walk}
 use Rattle.xs_flat.specs.Faults.{IsFaultOf}
 use Rattle.xs_flat.specs.Walking.{program_in}
 use Rattle.xs_flat.proofs.PassedOn.{passed_on}
