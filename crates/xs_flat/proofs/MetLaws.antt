@@ -203,14 +203,13 @@ module _ (ms : Modules) (w0 : Walk) (x m : Text) (inner : Spot) (standing : IsSt
       let s : (s : Spot) × (slice_get w0.spots.items inner.caller ≡ Some s) = get_within w0.spots.items inner.caller standing.within in
       (call_of ms s.0, get_mapped (call_of ms) w0.spots.items inner.caller s.0 s.1, sym (ap place_of_spot s.1))
 
-  pub may_enter : inner.own.items ≡ [] → IsEntry ms w0 inner
-  may_enter empty = record {
+  pub may_enter : IsEntry ms w0 inner
+  may_enter = record {
     names = at_module.names;
     is = subst (λ (y : Text). IsModuleAt ms y inner.«module» at_module.names) (sym (module_named ms m inner.«module» at_module.names at_module.is)) at_module.is;
     caller = subst (λ (at : Place). IsCaller (calls_of ms w0) at inner.caller) (sym placed) caller_there;
     path = standing.path;
     fresh = ap (is_among (on_path_of w0)) (module_named ms m inner.«module» at_module.names at_module.is) ∙ at_module.fresh;
-    empty = empty;
   }
 
   handed_is : call_of ms inner ≡ record { place = x ∷ place_at w0 inner.caller; module_name = m; actuals = map tree_of inner.actuals.now }

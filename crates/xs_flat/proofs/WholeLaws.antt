@@ -169,8 +169,8 @@ module _ (ms : Modules) (known : AreModules ms) (w0 : Walk) (spots : w0.spots.it
   no_place : place_of main.path ≡ []
   no_place = ap place_of no_path
 
-  pub main_enters : main.own.items ≡ [] → IsEntry ms w0 main
-  main_enters empty =
+  pub main_enters : IsEntry ms w0 main
+  main_enters =
       let at : (names : Names) × IsModuleAt ms (codes "main") ms.main names = main_at ms known in
       record {
         names = at.0;
@@ -178,7 +178,6 @@ module _ (ms : Modules) (known : AreModules ms) (w0 : Walk) (spots : w0.spots.it
         caller = subst (λ (place : Place). IsCaller (calls_of ms w0) place main.caller) (sym no_place) tt;
         path = subst (λ (on : List Text). IsPath (program_in ms) on) (sym no_modules) (record { there = tt; apart = tt });
         fresh = ap (λ on. is_among on (name_at ms main.«module»)) no_modules;
-        empty = empty;
       }
 
   all_visits : visits_within ms w0 main ≡ visits (program_in ms)

@@ -222,7 +222,6 @@ pub record IsEntry (ms : Modules) (w : Walk) (spot : Spot) : Type 0 where
   pub caller : IsCaller (calls_of ms w) (place_of spot.path) spot.caller
   pub path : IsPath (program_in ms) (on_path_of w)
   pub fresh : is_among (on_path_of w) (name_at ms spot.«module») ≡ false
-  pub empty : spot.own.items ≡ []
 
 -- the module of an instance, which is not on the path
 pub record IsModuleOf (ms : Modules) (w : Walk) (x : Text) (module_place : ℕ) : Type 0 where

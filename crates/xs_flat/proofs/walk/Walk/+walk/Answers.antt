@@ -31,7 +31,7 @@ add_instance-enter-requires t c =
     let x : Text = c.args.declaring.decl.now.name in
     let m : Text = c.args.name.now in
     let inner : Spot = record { «module» = c.in_ok-module.module; caller = c.args.declaring.spot; path = Some c.in_ok-path.path; actuals = c.as_slice.result; own = c.new.result } in
-    let entry : IsEntry ms w0 inner = may_enter ms w0 x m inner c.requires.standing c.in_ok-module.ensures.found c.in_ok-path.ensures c.new.ensures.items in
+    let entry : IsEntry ms w0 inner = may_enter ms w0 x m inner c.requires.standing c.in_ok-module.ensures.found c.in_ok-path.ensures in
     (search rules, (c.requires.modules, (entry, c.requires.variables)))
 
 pub add_instance-returns-in_err-enter-clause-fault : goal.add_instance-returns-in_err-enter-clause-fault
