@@ -1,17 +1,15 @@
 -- The walk enters an instance, goes through its items, and leaves it.
-use Rattle.std.proofs.Common.{◌≡◌, ℕ, zero, suc, ◌+◌, ◌-◌, ◌<◌, ◌≤◌, arith, Bool, true, false, List, [], ◌∷◌, ◌++◌, length, map, take, reverse, Option, Some, None, Bor, refl, ap, ◌∙◌, sym, subst}
+use Rattle.std.proofs.Common.{◌≡◌, ℕ, zero, suc, ◌+◌, ◌-◌, ◌<◌, ◌≤◌, arith, List, [], ◌∷◌, ◌++◌, length, map, take, reverse, Some, Bor, refl, ap, ◌∙◌, sym, subst}
 use Rattle.std.specs.Prelude.{slice_get, flat_map, Vec}
 use Rattle.std.specs.declared.alloc.Global.{Global}
-use Rattle.std.proofs.lemmas.List.{append_assoc, append-nil, map-append, length-append, length-map, length-reverse}
+use Rattle.std.proofs.lemmas.List.{append_assoc, map-append, length-append, length-map, length-reverse}
 use Rattle.xs_tree.specs.ProgramTree.{Text, ModuleTree, ProgramTree}
-use Rattle.xs_tree.specs.Scope.{Place, find_module}
-use Rattle.xs_tree.specs.Texts.{is_among}
-use Rattle.xs_tree.specs.Trace.{Each}
+use Rattle.xs_tree.specs.Scope.{Place}
 use Rattle.xs_flattening.specs.Flat.{FlatVariable}
-use Rattle.xs_flattening.specs.Items.{Item as ItemOf, items_of, NumberedItem, numbered_items, modules_from, modules_of, items_named, Visit, visits_of, walk_items, walk}
+use Rattle.xs_flattening.specs.Items.{Item as ItemOf, items_of, NumberedItem, modules_from, modules_of, items_named, Visit, visits_of, walk_items, walk}
 use Rattle.xs_flattening.specs.Model.{EachBoth}
 use Rattle.xs_flattening.specs.Rules.{is_missing}
-use Rattle.xs_flattening.proofs.Pigeons.{IsThere, AreApart, no_more_names}
+use Rattle.xs_flattening.proofs.Pigeons.{no_more_names}
 use Rattle.xs_flat.specs.declared.items.Numbered.{Numbered}
 use Rattle.xs_flat.specs.declared.model.Variable.{Variable}
 use Rattle.xs_flat.specs.declared.modules.Modules.{Modules}
@@ -22,7 +20,6 @@ use Rattle.xs_flat.specs.declared.walk.Walk.{Walk}
 use Rattle.xs_flat.specs.ItemTree.{numbered_tree}
 use Rattle.xs_flat.specs.ModelTree.{place_of, variable_tree}
 use Rattle.xs_flat.specs.SceneTree.{AreModules, HasNames, number_and_item}
-use Rattle.xs_flat.specs.Reading.{IsModuleAt}
 use Rattle.xs_flat.specs.Symbols.{texts}
 use Rattle.xs_flat.specs.Walking.{Call, calls_in, variables_in, walk_from, program_in, name_in, name_at, call_of, calls_of, variables_of_walk, on_path_of, place_of_spot, place_at, visits_here, visits_within, visits_told, told_from, IsOwnIn, IsCaller, IsSpotOf, IsDeclaredIn, HasWalked, HasGone, HasEntered, IsPath, IsStanding, IsEntry, own_of, with_own}
 use Rattle.xs_flat.proofs.PathLaws.{path_more}

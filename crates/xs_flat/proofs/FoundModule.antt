@@ -6,14 +6,13 @@ use Rattle.std.specs.Borrow.{Bor}
 use Rattle.xs_tree.specs.ProgramTree.{Text, ModuleTree, ProgramTree, program_tree}
 use Rattle.xs_tree.specs.Scope.{find_module}
 use Rattle.xs_tree.specs.Texts.{same_text}
-use Rattle.xs_flattening.specs.Items.{items_of, NumberedItem, NumberedModule, modules_from, modules_of, numbered_items, items_found, items_named}
-use Rattle.xs_flattening.specs.Model.{EachBoth}
-use Rattle.xs_flattening.proofs.Variables.{both_at, both_at_second}
+use Rattle.xs_flattening.specs.Items.{items_of, NumberedModule, modules_from, modules_of, numbered_items, items_found}
+use Rattle.xs_flattening.proofs.Variables.{both_at}
 use Rattle.xs_flat.specs.declared.modules.Names.{Names}
 use Rattle.xs_flat.specs.declared.modules.Modules.{Modules}
 use Rattle.xs_flat.specs.FoundAt.{entry_of}
 use Rattle.xs_flat.specs.Reading.{IsModuleAt}
-use Rattle.xs_flat.specs.SceneTree.{AreModules, HasNames, named, module_entries, module_from}
+use Rattle.xs_flat.specs.SceneTree.{AreModules, HasNames, module_entries, module_from}
 use Rattle.xs_flat.proofs.MapLaws.{same_key, looked_up}
 
 -- a name without an entry has no module

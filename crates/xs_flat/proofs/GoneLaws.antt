@@ -1,11 +1,9 @@
 -- The items of an instance, one after another.
-use Rattle.std.proofs.Common.{◌≡◌, ℕ, zero, suc, ◌+◌, ◌<◌, ◌≤◌, arith, List, [], ◌∷◌, ◌++◌, length, map, get_or, take, drop, Some, None, refl, ap, ◌∙◌, sym, subst}
-use Rattle.std.specs.Prelude.{flat_map}
-use Rattle.std.proofs.lemmas.List.{take_more, take_all, drop_more, drop_all, map-append, append-nil}
-use Rattle.xs_tree.specs.ProgramTree.{Text}
+use Rattle.std.proofs.Common.{◌≡◌, ℕ, ◌+◌, ◌<◌, ◌≤◌, List, [], ◌∷◌, ◌++◌, length, map, get_or, take, drop, None, refl, ap, ◌∙◌, sym, subst}
+use Rattle.std.proofs.lemmas.List.{take_more, take_all, drop_more, drop_all, map-append}
 use Rattle.xs_tree.specs.Scope.{Place}
 use Rattle.xs_flattening.specs.Flat.{FlatVariable}
-use Rattle.xs_flattening.specs.Items.{Item as ItemOf, Visit, visits_of, variable_declared}
+use Rattle.xs_flattening.specs.Items.{Item as ItemOf, Visit, visits_of}
 use Rattle.xs_flattening.specs.Model.{EachBoth}
 use Rattle.xs_flat.specs.declared.fault.FlatFault.{FlatFault}
 use Rattle.xs_flat.specs.declared.items.Numbered.{Numbered}
@@ -14,9 +12,9 @@ use Rattle.xs_flat.specs.declared.walk.Meaning.{Meaning as Found}
 use Rattle.xs_flat.specs.declared.walk.Walk.{Walk}
 use Rattle.xs_flat.specs.ItemTree.{numbered_tree}
 use Rattle.xs_flat.specs.ModelTree.{variable_tree}
-use Rattle.xs_flat.specs.Reading.{Told, told_first, IsTold}
+use Rattle.xs_flat.specs.Reading.{told_first, IsTold}
 use Rattle.xs_flat.specs.Walking.{Call, calls_in, calls_declared, variables_in, visits_told, program_in, call_of, calls_of, variables_of_walk, on_path_of, place_at, walk_from, visits_at, visits_here, told_from, IsOwnIn, HasWalked, HasMet, HasGone, IsStanding}
-use Rattle.xs_flat.proofs.ReadLaws.{both_more as both_end}
+use Rattle.xs_flat.proofs.ReadLaws.{both_end}
 use Rattle.xs_flat.proofs.ReadingLaws.{told_as, told_here, none_first}
 use Rattle.xs_flat.proofs.ModuleFaults.{flat_end}
 use Rattle.xs_flat.proofs.WalkLaws.{both_more, flat_join, walked_none, own_stays, calls_grow, variables_grow, spots_count, variables_count, path_stays, place_stays, walked_then, told_join}

@@ -1,5 +1,5 @@
 -- The rules of a module's header, from the tests of the code.
-use Rattle.std.proofs.Common.{◌≡◌, ◌↔◌, ℕ, suc, Bool, true, false, IsTrue, ◌&&◌, ◌||◌, List, [], ◌∷◌, codes, refl, ap, ◌∙◌, sym, subst}
+use Rattle.std.proofs.Common.{◌≡◌, ◌↔◌, ℕ, suc, Bool, true, false, IsTrue, ◌&&◌, ◌||◌, List, [], ◌∷◌, codes, refl, ap, ◌∙◌, subst}
 use Rattle.xs_tree.specs.ProgramTree.{Text, ModuleTree, ProgramTree}
 use Rattle.xs_tree.specs.Texts.{same_text, is_among}
 use Rattle.xs_tree.proofs.ValueLaws.{same_text_equal, same_text_refl}

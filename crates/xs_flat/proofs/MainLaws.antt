@@ -1,5 +1,5 @@
 -- The place of the first module of a name, module by module.
-use Rattle.std.proofs.Common.{◌≡◌, ℕ, suc, ◌+◌, ◌<◌, arith, Bool, true, false, List, [], ◌∷◌, length, get_or, drop, map, Option, Some, None, if◌then◌else◌, refl, ap, ◌∙◌, sym}
+use Rattle.std.proofs.Common.{◌≡◌, ℕ, suc, ◌+◌, ◌<◌, arith, Bool, true, false, List, [], ◌∷◌, length, get_or, drop, map, Some, None, if◌then◌else◌, refl, ap, ◌∙◌, sym}
 use Rattle.std.proofs.lemmas.List.{drop_more}
 use Rattle.xs_tree.specs.declared.program.Module.{Module}
 use Rattle.xs_tree.specs.ProgramTree.{Text, ModuleTree, ProgramTree, module_tree}

@@ -1,9 +1,8 @@
 -- What the walk has met at an item: nothing, a variable or an instance.
-use Rattle.std.proofs.Common.{◌≡◌, ℕ, zero, suc, ◌+◌, ◌<◌, arith, Bool, true, false, List, [], ◌∷◌, ◌++◌, length, map, reverse, if◌then◌else◌, Option, Some, None, refl, ap, ◌∙◌, sym, subst}
+use Rattle.std.proofs.Common.{◌≡◌, ℕ, zero, suc, ◌+◌, ◌<◌, arith, Bool, true, false, List, [], ◌∷◌, ◌++◌, length, map, if◌then◌else◌, Some, None, refl, ap, ◌∙◌, sym, subst}
 use Rattle.std.specs.Prelude.{slice_get}
-use Rattle.std.proofs.lemmas.List.{append-nil, map-append, length-map, length-append}
-use Rattle.xs_tree.specs.ProgramTree.{Text, Formula, DeclaredTree, boolean, range, members, instance, declared_tree, decl_tree, ModuleTree, ProgramTree}
-use Rattle.xs_tree.specs.declared.expr.Expr.{Expr}
+use Rattle.std.proofs.lemmas.List.{append-nil, map-append, length-map}
+use Rattle.xs_tree.specs.ProgramTree.{Text, Formula, DeclaredTree, boolean, range, members, instance, declared_tree, ModuleTree, ProgramTree}
 use Rattle.std.specs.Borrow.{Bor}
 use Rattle.xs_tree.specs.declared.program.Decl.{Decl}
 use Rattle.xs_tree.specs.declared.program.Declared.{Declared}
@@ -13,28 +12,24 @@ use Rattle.xs_tree.specs.Texts.{same_text, is_among}
 use Rattle.xs_tree.specs.Written.{tree_of}
 use Rattle.xs_tree.proofs.ValueLaws.{same_text_equal}
 use Rattle.xs_flattening.specs.Flat.{FlatVariable}
-use Rattle.xs_flattening.specs.Items.{Item as ItemOf, a_declaration, Visit, variable_declared}
+use Rattle.xs_flattening.specs.Items.{Item as ItemOf, a_declaration, Visit}
 use Rattle.xs_flattening.specs.Model.{EachBoth}
-use Rattle.xs_flattening.proofs.Lists.{get_left, get_within}
-use Rattle.xs_flat.specs.declared.fault.FlatFault.{FlatFault}
+use Rattle.xs_flattening.proofs.Lists.{get_within}
 use Rattle.xs_flat.specs.declared.items.Item.{Item}
 use Rattle.xs_flat.specs.declared.items.Item.TheVariants as code
 use Rattle.xs_flat.specs.declared.model.Variable.{Variable}
 use Rattle.xs_flat.specs.declared.model.Role.{Role as RoleWord}
 use Rattle.xs_flat.specs.declared.modules.Modules.{Modules}
 use Rattle.xs_flat.specs.declared.modules.Names.{Names}
-use Rattle.xs_flat.specs.declared.walk.Declaring.{Declaring}
-use Rattle.xs_flat.specs.declared.walk.Meaning.{Meaning as Found}
 use Rattle.xs_flat.specs.declared.walk.Meaning.TheVariants as found
 use Rattle.xs_flat.specs.declared.walk.Spot.{Spot}
 use Rattle.xs_flat.specs.declared.walk.Walk.{Walk}
 use Rattle.xs_flat.specs.Closed.{is_instance}
 use Rattle.xs_flat.specs.ItemTree.{item_tree}
 use Rattle.xs_flat.specs.ModelTree.{role_of, place_of, variable_tree}
-use Rattle.xs_flat.specs.Reading.{Told, told_first, IsTold, IsModuleAt}
-use Rattle.xs_flat.specs.Walking.{Call, calls_in, variables_in, instance_told, visits_told, walk_from, program_in, name_in, name_at, IsCaller, IsEntry, IsModuleOf, IsStanding, call_of, calls_of, variables_of_walk, on_path_of, place_of_spot, place_at, visits_at, visits_within, told_from, IsInstanceIn, IsVariableIn, IsOwnIn, IsSpotOf, IsDeclaredIn, HasWalked, HasMet, HasEntered, IsVariableOf, declared_item}
+use Rattle.xs_flat.specs.Reading.{told_first, IsModuleAt}
+use Rattle.xs_flat.specs.Walking.{Call, calls_in, variables_in, instance_told, visits_told, walk_from, program_in, name_in, name_at, IsCaller, IsEntry, IsModuleOf, IsStanding, call_of, calls_of, variables_of_walk, on_path_of, place_of_spot, place_at, visits_at, visits_within, told_from, IsVariableIn, IsOwnIn, IsSpotOf, IsDeclaredIn, HasWalked, HasMet, HasEntered}
 use Rattle.xs_flat.proofs.EnterLaws.{get_here}
-use Rattle.xs_flat.proofs.ReadingLaws.{told_as, told_here, told_later, none_first}
 use Rattle.xs_flat.proofs.WalkLaws.{walked_none}
 
 -- An instance.
@@ -208,14 +203,13 @@ module _ (ms : Modules) (w0 : Walk) (x m : Text) (inner : Spot) (standing : IsSt
       let s : (s : Spot) × (slice_get w0.spots.items inner.caller ≡ Some s) = get_within w0.spots.items inner.caller standing.within in
       (call_of ms s.0, get_mapped (call_of ms) w0.spots.items inner.caller s.0 s.1, sym (ap place_of_spot s.1))
 
-  pub may_enter : inner.own.items ≡ [] → IsEntry ms w0 inner
-  may_enter empty = record {
+  pub may_enter : IsEntry ms w0 inner
+  may_enter = record {
     names = at_module.names;
     is = subst (λ (y : Text). IsModuleAt ms y inner.«module» at_module.names) (sym (module_named ms m inner.«module» at_module.names at_module.is)) at_module.is;
     caller = subst (λ (at : Place). IsCaller (calls_of ms w0) at inner.caller) (sym placed) caller_there;
     path = standing.path;
     fresh = ap (is_among (on_path_of w0)) (module_named ms m inner.«module» at_module.names at_module.is) ∙ at_module.fresh;
-    empty = empty;
   }
 
   handed_is : call_of ms inner ≡ record { place = x ∷ place_at w0 inner.caller; module_name = m; actuals = map tree_of inner.actuals.now }

@@ -1,19 +1,19 @@
 -- What is told of modules and of their names is the first broken rule.
 use Rattle.std.proofs.Common.{◌≡◌, ℕ, suc, ◌+◌, ◌<◌, ◌≤◌, arith, Bool, true, false, ◌&&◌, ◌||◌, List, [], ◌∷◌, ◌++◌, length, map, Option, Some, None, codes, refl, ap, ◌∙◌, sym, subst}
 use Rattle.std.specs.Prelude.{IfSome, flat_map}
-use Rattle.std.proofs.lemmas.List.{append_assoc, append-nil, map-append}
+use Rattle.std.proofs.lemmas.List.{append_assoc, append-nil}
 use Rattle.xs_tree.specs.ProgramTree.{Text, ModuleTree, ProgramTree}
 use Rattle.xs_tree.specs.Scope.{find_module}
 use Rattle.xs_tree.specs.Texts.{same_text, is_among}
 use Rattle.xs_tree.proofs.ValueLaws.{same_text_equal, same_text_refl}
 use Rattle.xs_tree.specs.Trace.{Each}
-use Rattle.xs_flattening.specs.Items.{Item as ItemOf, items_of, NumberedItem, numbered_from, NumberedModule, modules_from, modules_of, numbered_items, visits}
+use Rattle.xs_flattening.specs.Items.{Item as ItemOf, items_of, NumberedItem, numbered_from, NumberedModule, modules_from, numbered_items, visits}
 use Rattle.xs_flattening.specs.Rules.{Rule, no_main, main_has_parameters, double_module, double_name, no_such_module, wrong_count, module_loop, no_such_name, not_a_target, double_assign, define_loop, next_here, input_here, too_many, number_of, Site, item_of, the_program, a_header, an_item, module_sites, visit_sites, use_sites, has_formals, has_twice, is_module_among, is_missing, names_of_item, is_name_again, Breaks, IsKept, IsFirstBroken}
 use Rattle.xs_flattening.proofs.FaultLaws.{IsLowest, IsFirstOf, Outcome, first_broken, in_part, after_part}
 use Rattle.xs_flat.specs.declared.fault.FlatFault.{FlatFault}
 use Rattle.xs_flat.specs.Faults.{rule_of, IsFaultOf}
 use Rattle.xs_flat.specs.ItemTree.{counted_from}
-use Rattle.xs_flat.specs.Reading.{Told, told_if, told_first, IsTold, formals_told, items_told, header_told, names_told, module_told, modules_told}
+use Rattle.xs_flat.specs.Reading.{Told, told_if, told_first, IsTold, formals_told, items_told, header_told, module_told, modules_told}
 use Rattle.xs_flat.specs.SceneTree.{module_from}
 use Rattle.xs_flat.proofs.MainLaws.{nowhere}
 
@@ -155,7 +155,7 @@ formals_twice : (header : ℕ) (xs : List Text) → formals_told header [] xs �
 formals_twice header xs = formals_as header [] xs ∙ ap (λ b. told_if b double_name header) (ap (λ b. has_twice xs || b) (none_among xs) ∙ or_nothing (has_twice xs))
 
 -- Headers.
-never : (b : Bool) → b ≡ false → b ≡ true → ⊥
+pub never : (b : Bool) → b ≡ false → b ≡ true → ⊥
 never b e f = let bad : true ≡ false = sym f ∙ e in cc
 
 module _ (p : ProgramTree) (m : NumberedModule) where

@@ -1,6 +1,5 @@
 -- The names of a module, formals first, then items.
 use Rattle.std.proofs.Common.{◌≡◌, ℕ, suc, List, [], ◌∷◌, ◌++◌, map, None, refl, ap, ◌∙◌, sym}
-use Rattle.std.proofs.lemmas.List.{map-append}
 use Rattle.xs_tree.specs.ProgramTree.{Text, ModuleTree}
 use Rattle.xs_flattening.specs.Items.{Item as ItemOf, items_of}
 use Rattle.xs_flat.specs.declared.fault.FlatFault.{FlatFault}

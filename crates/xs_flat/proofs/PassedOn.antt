@@ -2,8 +2,6 @@
 use Rattle.std.proofs.Common.{◌≡◌, Result, Ok, Err, IfErr, sym, subst}
 use Rattle.std.specs.Result.{IsErrAnd}
 use Rattle.xs_flat.specs.declared.fault.FlatFault.{FlatFault}
-use Rattle.xs_flat.specs.declared.fault.Rule.TheVariants as code
-use Rattle.xs_flat.specs.Faults.{IsWant}
 
 pub passed_on : {A : Type 0} (P : FlatFault → Type 0) (r : Result A FlatFault) (f : FlatFault) → IsErrAnd r (λ y. y ≡ f) → P f → IfErr r P
 passed_on P (Ok a) f h k = absurd h

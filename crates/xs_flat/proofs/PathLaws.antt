@@ -1,10 +1,9 @@
 -- The path of modules that the walk stands in.
-use Rattle.std.proofs.Common.{◌≡◌, ◌↔◌, ℕ, zero, suc, ◌+◌, ◌-◌, ◌<◌, arith, Bool, true, false, IsTrue, ◌||◌, List, [], ◌∷◌, ◌++◌, length, get_or, drop, map, reverse, refl, ap, ◌∙◌, sym, subst, Bor}
+use Rattle.std.proofs.Common.{◌≡◌, ℕ, ◌+◌, ◌<◌, Bool, true, false, ◌||◌, List, [], ◌∷◌, ◌++◌, length, get_or, drop, reverse, refl, ap, ◌∙◌, sym, Bor}
 use Rattle.std.proofs.lemmas.List.{drop_more, reverse-append, map-append}
 use Rattle.xs_tree.specs.ProgramTree.{Text}
 use Rattle.xs_tree.specs.Texts.{same_text, is_among}
 use Rattle.xs_flat.specs.Symbols.{texts}
-use Rattle.xs_flat.proofs.HeaderLaws.{same_test}
 
 among_end : (xs : List Text) (y x : Text) → is_among (xs ++ y ∷ []) x ≡ (same_text y x || is_among xs x)
 among_end [] y x = refl

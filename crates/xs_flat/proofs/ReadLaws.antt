@@ -1,11 +1,10 @@
 -- The tables of modules with one module more.
 use Rattle.std.proofs.Common.{◌≡◌, ℕ, suc, ◌+◌, ◌<◌, arith, codes, drop, get_or, List, [], ◌∷◌, ◌++◌, length, map, Some, None, refl, ap, ◌∙◌, sym, subst}
-use Rattle.std.specs.Prelude.{slice_get}
 use Rattle.std.proofs.lemmas.List.{append-nil, append_assoc, map-append, length-map, drop_more}
 use Rattle.xs_tree.specs.declared.program.Module.{Module}
-use Rattle.xs_tree.specs.ProgramTree.{Text, ModuleTree, ProgramTree, module_tree, program_tree}
+use Rattle.xs_tree.specs.ProgramTree.{ModuleTree, ProgramTree, module_tree, program_tree}
 use Rattle.xs_tree.specs.Trace.{Each}
-use Rattle.xs_flattening.specs.Items.{Item as ItemOf, items_of, NumberedModule, modules_from, modules_of, numbered_from, numbered_items}
+use Rattle.xs_flattening.specs.Items.{Item as ItemOf, items_of, NumberedModule, modules_from, modules_of, numbered_from}
 use Rattle.xs_flattening.specs.Model.{EachBoth}
 use Rattle.xs_flattening.specs.Rules.{the_program, module_sites, IsKept}
 use Rattle.xs_flat.specs.declared.fault.FlatFault.{FlatFault}
@@ -17,11 +16,11 @@ use Rattle.xs_flat.specs.SceneTree.{HasNames, named, number_and_item, local_entr
 use Rattle.xs_flat.proofs.ReadingLaws.{told_as, told_here, none_first}
 use Rattle.xs_flat.proofs.ModuleFaults.{modules_kept}
 
-pub both_more : {A B : Type 0} (R : A → B → Type 0) (xs : List A) (ys : List B) (x : A) (y : B) → EachBoth R xs ys → R x y → EachBoth R (xs ++ x ∷ []) (ys ++ y ∷ [])
-both_more R [] [] x y h r = (r, tt)
-both_more R [] (z ∷ ys) x y h r = absurd h
-both_more R (z ∷ xs) [] x y h r = absurd h
-both_more R (w ∷ xs) (z ∷ ys) x y h r = (h.0, both_more R xs ys x y h.1 r)
+pub both_end : {A B : Type 0} (R : A → B → Type 0) (xs : List A) (ys : List B) (x : A) (y : B) → EachBoth R xs ys → R x y → EachBoth R (xs ++ x ∷ []) (ys ++ y ∷ [])
+both_end R [] [] x y h r = (r, tt)
+both_end R [] (z ∷ ys) x y h r = absurd h
+both_end R (z ∷ xs) [] x y h r = absurd h
+both_end R (w ∷ xs) (z ∷ ys) x y h r = (h.0, both_end R xs ys x y h.1 r)
 
 pub counted_numbered : (n : ℕ) (before is : List ItemOf) → map number_and_item (numbered_from n before is) ≡ counted_from n is
 counted_numbered n before [] = refl
@@ -63,7 +62,7 @@ module _ (old new : Modules) (last last' : ℕ) (m : ModuleTree) (names : Names)
   more_list =
       subst (λ (ns : List Names). EachBoth HasNames (modules_of (trees_read new)) ns) (sym listed)
       (subst (λ (ms : List NumberedModule). EachBoth HasNames ms (old.list.items ++ names ∷ [])) (sym (ap modules_of added ∙ more_modules 1 [] (trees_read old) m))
-      (both_more HasNames (modules_of (trees_read old)) old.list.items (record { number = next_header 1 (trees_read old); before = trees_read old; tree = m }) names read.list has))
+      (both_end HasNames (modules_of (trees_read old)) old.list.items (record { number = next_header 1 (trees_read old); before = trees_read old; tree = m }) names read.list has))
 
   more_places : named new.places.entries ≡ module_entries 0 (trees_read new)
   more_places =

@@ -1,11 +1,10 @@
 -- What is told of visits is the first broken rule.
-use Rattle.std.proofs.Common.{◌≡◌, ℕ, suc, ◌+◌, ◌<◌, ◌≤◌, arith, nat_lt, Bool, true, false, List, [], ◌∷◌, ◌++◌, length, Option, Some, None, refl, ap, ◌∙◌, sym, subst}
+use Rattle.std.proofs.Common.{◌≡◌, ℕ, ◌+◌, ◌<◌, ◌≤◌, arith, nat_lt, Bool, true, false, List, [], ◌∷◌, ◌++◌, length, Option, Some, None, refl, ap, ◌∙◌, sym, subst}
 use Rattle.std.specs.Prelude.{IfSome, flat_map}
 use Rattle.std.proofs.lemmas.Bool.{ltb-true, lt-ltb}
 use Rattle.std.proofs.lemmas.List.{length-append}
-use Rattle.xs_tree.specs.ProgramTree.{Text, DeclaredTree, boolean, range, members, instance, ProgramTree}
+use Rattle.xs_tree.specs.ProgramTree.{DeclaredTree, boolean, range, members, instance, ProgramTree}
 use Rattle.xs_tree.specs.Scope.{Place}
-use Rattle.xs_tree.specs.Trace.{Each}
 use Rattle.xs_flattening.specs.Items.{Visit, visits, instance_declared, variable_declared}
 use Rattle.xs_flattening.specs.Rules.{Rule, no_main, main_has_parameters, double_module, double_name, no_such_module, wrong_count, module_loop, no_such_name, not_a_target, double_assign, define_loop, next_here, input_here, too_many, number_of, Site, the_program, a_visit, module_sites, visit_sites, use_sites, is_missing_instance, is_miscounted, is_on_path, instances_before, variables_before, PassesLimit, Breaks, IsKept, IsFirstBroken, IsWalkable}
 use Rattle.xs_flattening.proofs.FaultLaws.{IsLowest, IsFirstOf, Outcome, first_broken, in_part, after_part}
@@ -14,8 +13,8 @@ use Rattle.xs_flat.specs.declared.modules.Modules.{Modules}
 use Rattle.xs_flat.specs.Faults.{rule_of, IsFaultOf}
 use Rattle.xs_flat.specs.Reading.{Told, told_if, told_first, IsTold}
 use Rattle.xs_flat.specs.SceneTree.{AreModules}
-use Rattle.xs_flat.specs.Walking.{calls_declared, passes_limit, visit_told, visits_told, program_in}
-use Rattle.xs_flat.proofs.ModuleFaults.{flat_end}
+use Rattle.xs_flat.specs.Walking.{calls_declared, passes_limit, visits_told, program_in}
+use Rattle.xs_flat.proofs.ModuleFaults.{never, flat_end}
 
 limit_passed : (before : List Visit) (what : DeclaredTree) → passes_limit (instances_before before) (variables_before before) what ≡ true → PassesLimit before what
 limit_passed before boolean e = omega (arith, ltb-true 1999 (variables_before before) e)
@@ -31,9 +30,6 @@ limit_kept before boolean e h = below 1999 (variables_before before) e (omega (a
 limit_kept before (range lo hi) e h = below 1999 (variables_before before) e (omega (arith, h))
 limit_kept before (members ms) e h = below 1999 (variables_before before) e (omega (arith, h))
 limit_kept before (instance m actuals) e h = below 999 (instances_before before) e (omega (arith, h))
-
-never : (b : Bool) → b ≡ false → b ≡ true → ⊥
-never b e f = let bad : true ≡ false = sym f ∙ e in cc
 
 module _ (p : ProgramTree) (before : List Visit) (v : Visit) where
   abbrev Missing : Bool

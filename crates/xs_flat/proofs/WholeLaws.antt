@@ -1,7 +1,8 @@
 -- The walk from `main` on has met all instances and variables of the program.
-use Rattle.std.proofs.Common.{◌≡◌, ℕ, suc, ◌+◌, ◌-◌, arith, List, [], ◌∷◌, ◌++◌, length, map, reverse, Option, Some, None, codes, Bor, refl, ap, ◌∙◌, sym, subst}
+use Rattle.std.proofs.Common.{◌≡◌, ℕ, suc, ◌-◌, arith, List, [], ◌∷◌, ◌++◌, length, map, reverse, Some, None, codes, refl, ap, ◌∙◌, sym, subst}
 use Rattle.std.specs.Prelude.{slice_get, flat_map}
-use Rattle.xs_tree.specs.ProgramTree.{Text, Formula, DeclaredTree, boolean, range, members, instance, ModuleTree, ProgramTree, program_tree}
+use Rattle.std.proofs.lemmas.List.{map-append}
+use Rattle.xs_tree.specs.ProgramTree.{Text, Formula, DeclaredTree, boolean, range, members, instance, ModuleTree, ProgramTree}
 use Rattle.xs_tree.specs.Scope.{Place, Role, an_instance, kind_declared, kind_at, module_at, find_module}
 use Rattle.xs_tree.specs.Texts.{is_among}
 use Rattle.xs_tree.specs.Trace.{Each}
@@ -21,13 +22,13 @@ use Rattle.xs_flat.specs.declared.modules.Names.{Names}
 use Rattle.xs_flat.specs.declared.walk.Meaning.{Meaning as Found}
 use Rattle.xs_flat.specs.declared.walk.Spot.{Spot}
 use Rattle.xs_flat.specs.declared.walk.Walk.{Walk}
-use Rattle.xs_flat.specs.ModelTree.{role_of, place_of, variable_tree}
+use Rattle.xs_flat.specs.ModelTree.{place_of, variable_tree}
 use Rattle.xs_flat.specs.Faults.{IsFaultOf}
 use Rattle.xs_flat.specs.Reading.{IsTold, IsModuleAt}
-use Rattle.xs_flat.specs.SceneTree.{AreModules, IsWalked, IsOwnMeaning, meaning_of_item, IsCalled, IsPlaced, IsSpotWalked}
+use Rattle.xs_flat.specs.SceneTree.{AreModules, IsWalked, IsCalled, IsSpotWalked}
 use Rattle.xs_flat.specs.Symbols.{texts}
-use Rattle.xs_flat.specs.Walked.{IsDeclaredBy, AreDeclared, IsWhole}
-use Rattle.xs_flat.specs.Walking.{Call, calls_declared, calls_in, variables_in, visits_told, walk_from, program_in, name_at, call_of, calls_of, variables_of_walk, on_path_of, visits_within, IsInstanceIn, IsVariableIn, IsDeclarationIn, IsOwnIn, IsCaller, IsSpotOf, IsDeclaredIn, HasWalked, HasEntered, IsPath, IsEntry}
+use Rattle.xs_flat.specs.Walked.{IsDeclaredBy, IsWhole}
+use Rattle.xs_flat.specs.Walking.{Call, calls_declared, calls_in, variables_in, visits_told, walk_from, program_in, name_at, call_of, calls_of, variables_of_walk, on_path_of, visits_within, IsInstanceIn, IsVariableIn, IsDeclarationIn, IsOwnIn, IsCaller, IsSpotOf, IsDeclaredIn, HasEntered, IsPath, IsEntry}
 use Rattle.xs_flat.proofs.FoundModule.{main_at}
 use Rattle.xs_flat.proofs.MetLaws.{calls_met, get_mapped, module_named}
 use Rattle.xs_flat.proofs.ReadingLaws.{told_as}
@@ -47,10 +48,6 @@ both_with P R S [] (y ∷ ys) f p h = absurd h
 both_with P R S (x ∷ xs) [] f p h = absurd h
 both_with P R S (x ∷ xs) (y ∷ ys) f p h = (f x y p.0 h.0, both_with P R S xs ys f p.1 h.1)
 
-map_join : {A B : Type 0} (f : A → B) (xs ys : List A) → map f (xs ++ ys) ≡ map f xs ++ map f ys
-map_join f [] ys = refl
-map_join f (x ∷ xs) ys = ap (λ zs. f x ∷ zs) (map_join f xs ys)
-
 -- an instance without what it is handed
 abbrev pub instance_of : Call → FlatInstance
 instance_of c = record { place = c.place; module_name = c.module_name }
@@ -64,7 +61,7 @@ declared_instances at (instance m actuals) = refl
 visited_instances : (vs : List Visit) → map instance_of (calls_in vs) ≡ flat_map instances_of_visit vs
 visited_instances [] = refl
 visited_instances (v ∷ vs) =
-    map_join instance_of (calls_declared (v.decl.name ∷ v.place) v.decl.what) (calls_in vs)
+    map-append instance_of (calls_declared (v.decl.name ∷ v.place) v.decl.what) (calls_in vs)
     ∙ ap (λ is. is ++ map instance_of (calls_in vs)) (declared_instances (v.decl.name ∷ v.place) v.decl.what)
     ∙ ap (λ is. instances_of_visit v ++ is) (visited_instances vs)
 
@@ -172,8 +169,8 @@ module _ (ms : Modules) (known : AreModules ms) (w0 : Walk) (spots : w0.spots.it
   no_place : place_of main.path ≡ []
   no_place = ap place_of no_path
 
-  pub main_enters : main.own.items ≡ [] → IsEntry ms w0 main
-  main_enters empty =
+  pub main_enters : IsEntry ms w0 main
+  main_enters =
       let at : (names : Names) × IsModuleAt ms (codes "main") ms.main names = main_at ms known in
       record {
         names = at.0;
@@ -181,7 +178,6 @@ module _ (ms : Modules) (known : AreModules ms) (w0 : Walk) (spots : w0.spots.it
         caller = subst (λ (place : Place). IsCaller (calls_of ms w0) place main.caller) (sym no_place) tt;
         path = subst (λ (on : List Text). IsPath (program_in ms) on) (sym no_modules) (record { there = tt; apart = tt });
         fresh = ap (λ on. is_among on (name_at ms main.«module»)) no_modules;
-        empty = empty;
       }
 
   all_visits : visits_within ms w0 main ≡ visits (program_in ms)

@@ -1,7 +1,7 @@
 -- The fault of modules and of their names, told module by module and name by name.
 use Rattle.std.specs.Prelude.{◌≡◌, ℕ, suc, ◌+◌, Bool, true, false, ◌&&◌, List, [], ◌∷◌, ◌++◌, length, map, Option, Some, None, codes, IfSome, slice_get}
 use Rattle.std.specs.Borrow.{Bor}
-use Rattle.xs_tree.specs.ProgramTree.{Text, ModuleTree, ProgramTree, program_tree, module_tree}
+use Rattle.xs_tree.specs.ProgramTree.{Text, ModuleTree, program_tree, module_tree}
 use Rattle.xs_tree.specs.Scope.{find_module}
 use Rattle.xs_tree.specs.Texts.{same_text, is_among}
 use Rattle.xs_flattening.specs.Items.{Item as ItemOf, NumberedModule, modules_of, numbered_items, items_of, items_named}

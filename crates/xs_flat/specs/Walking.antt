@@ -1,16 +1,16 @@
 -- The walk step by step: what it has met where it stands, and what is told of the visits that come.
-use Rattle.std.specs.Prelude.{◌≡◌, ℕ, zero, suc, Vec, ◌+◌, ◌-◌, ◌<◌, nat_lt, Bool, true, false, List, [], ◌∷◌, ◌++◌, length, map, flat_map, reverse, Option, Some, None, slice_get}
+use Rattle.std.specs.Prelude.{◌≡◌, ℕ, zero, suc, Vec, ◌+◌, ◌-◌, ◌<◌, nat_lt, Bool, false, List, [], ◌∷◌, ◌++◌, length, map, flat_map, reverse, Option, Some, None, slice_get}
 use Rattle.std.specs.declared.alloc.Global.{Global}
 use Rattle.xs_tree.specs.ProgramTree.{Text, Formula, DeclaredTree, instance, ProgramTree, program_tree, decl_tree, declared_tree}
 use Rattle.xs_tree.specs.Scope.{Place, Role, find_module}
 use Rattle.xs_tree.specs.Texts.{is_among}
 use Rattle.xs_tree.specs.Trace.{Each}
 use Rattle.xs_tree.specs.Written.{tree_of}
-use Rattle.xs_flattening.specs.Flat.{FlatInstance, FlatVariable}
+use Rattle.xs_flattening.specs.Flat.{FlatVariable}
 use Rattle.xs_flattening.specs.Items.{Item as ItemOf, a_declaration, NumberedItem, items_named, Visit, visits_of, walk, variable_declared}
 use Rattle.xs_flattening.specs.Model.{EachBoth}
 use Rattle.xs_flattening.proofs.Pigeons.{IsThere, AreApart}
-use Rattle.xs_flattening.specs.Rules.{Rule, no_such_module, wrong_count, module_loop, too_many, is_missing, is_missing_instance, is_miscounted, is_on_path, is_other_count}
+use Rattle.xs_flattening.specs.Rules.{no_such_module, wrong_count, module_loop, too_many, is_missing, is_missing_instance, is_miscounted, is_on_path, is_other_count}
 use Rattle.xs_flat.specs.declared.model.Role.{Role as RoleWord}
 use Rattle.xs_flat.specs.declared.model.Variable.{Variable}
 use Rattle.xs_flat.specs.declared.modules.Names.{Names}
@@ -222,7 +222,6 @@ pub record IsEntry (ms : Modules) (w : Walk) (spot : Spot) : Type 0 where
   pub caller : IsCaller (calls_of ms w) (place_of spot.path) spot.caller
   pub path : IsPath (program_in ms) (on_path_of w)
   pub fresh : is_among (on_path_of w) (name_at ms spot.«module») ≡ false
-  pub empty : spot.own.items ≡ []
 
 -- the module of an instance, which is not on the path
 pub record IsModuleOf (ms : Modules) (w : Walk) (x : Text) (module_place : ℕ) : Type 0 where

@@ -1,5 +1,5 @@
 -- One formal more.
-use Rattle.std.proofs.Common.{rules, ◌≡◌, ◌<◌, ◌++◌, ◌∷◌, [], None, length, get_or, ap, ◌∙◌, sym, subst, List}
+use Rattle.std.proofs.Common.{◌≡◌, ◌++◌, ◌∷◌, [], None, get_or, ap, ◌∙◌, sym, subst, List}
 use Rattle.xs_tree.specs.ProgramTree.{Text}
 use Rattle.xs_tree.specs.Texts.{is_among}
 use Rattle.xs_flattening.specs.Rules.{double_name}

@@ -1,5 +1,5 @@
 -- One item more.
-use Rattle.std.proofs.Common.{rules, ◌≡◌, ◌<◌, ◌++◌, None, List, length, get_or, ap, ◌∙◌, sym, subst}
+use Rattle.std.proofs.Common.{◌≡◌, ◌++◌, None, List, get_or, ap, ◌∙◌, sym, subst}
 use Rattle.xs_tree.specs.ProgramTree.{Text}
 use Rattle.xs_flattening.specs.Rules.{double_name, names_of_item, is_name_again}
 use Rattle.xs_flat.specs.declared.items.Numbered.{Numbered}

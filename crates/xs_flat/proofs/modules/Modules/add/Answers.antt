@@ -1,5 +1,5 @@
 -- The module's names and its place stand last.
-use Rattle.std.proofs.Common.{rules, ◌≡◌, suc, ◌+◌, ◌++◌, ◌∷◌, [], length, map, ap, ◌∙◌, sym}
+use Rattle.std.proofs.Common.{rules, ◌≡◌, suc, ◌+◌, ◌++◌, ◌∷◌, [], length, map, ap, ◌∙◌}
 use Rattle.std.specs.Prelude.{Vec}
 use Rattle.std.specs.declared.alloc.Global.{Global}
 use Rattle.xs_tree.specs.ProgramTree.{ModuleTree, module_tree}
@@ -8,8 +8,6 @@ use Rattle.xs_flat.specs.declared.items.Numbered.{Numbered}
 use Rattle.xs_flat.specs.declared.modules.Modules.{Modules}
 use Rattle.xs_flat.specs.declared.modules.Names.{Names}
 use Rattle.xs_flat.specs.ItemTree.{Counted, numbered_tree, counted_from, counted_below, counted_of}
-use Rattle.xs_flat.specs.Reading.{tree_of_names}
-use Rattle.xs_flat.specs.SceneTree.{named, local_entries}
 use Rattle.xs_flat.proofs.ReadLaws.{read_more}
 use Rattle.xs_flat.proofs.modules.Modules.add.Goals as goal
 

@@ -1,10 +1,10 @@
 -- A module whose name has a place is there already.
-use Rattle.std.proofs.Common.{rules, ◌≡◌, Bool, true, false, ◌&&◌, ◌++◌, ◌∷◌, [], codes, length, List, ap, ◌∙◌, sym}
+use Rattle.std.proofs.Common.{rules, ◌≡◌, true, false, ◌&&◌, ◌++◌, ◌∷◌, [], codes, length, List, ap, ◌∙◌, sym}
 use Rattle.xs_tree.specs.ProgramTree.{Text, ModuleTree, module_tree}
 use Rattle.xs_tree.specs.Texts.{same_text, is_among}
 use Rattle.xs_flattening.specs.Rules.{has_formals, is_module_among}
 use Rattle.xs_flat.specs.Reading.{trees_read, texts_of}
-use Rattle.xs_flat.specs.SceneTree.{named, module_entries}
+use Rattle.xs_flat.specs.SceneTree.{named}
 use Rattle.xs_flat.proofs.HeaderLaws.{module_seen, header_by}
 use Rattle.xs_flat.proofs.MapLaws.{seen, stands_last}
 use Rattle.xs_flat.proofs.modules.Modules.add_place.Goals as goal

@@ -1,11 +1,10 @@
 -- One module more.
 use Rattle.std.proofs.Common.{rules, ◌≡◌, ◌<◌, ◌++◌, None, List, length, get_or, drop, map, ap, ◌∙◌, sym, subst, suc, [], Some}
 use Rattle.std.proofs.lemmas.List.{drop_all, append-nil}
-use Rattle.xs_tree.specs.ProgramTree.{ModuleTree, ProgramTree, module_tree, program_tree}
+use Rattle.xs_tree.specs.ProgramTree.{ProgramTree, module_tree, program_tree}
 use Rattle.xs_tree.specs.declared.program.Module.{Module}
 use Rattle.xs_tree.specs.declared.program.Program.{Program}
 use Rattle.std.specs.Borrow.{Bor}
-use Rattle.xs_flat.specs.declared.modules.Modules.{Modules}
 use Rattle.xs_flat.specs.Faults.{IsFaultOf}
 use Rattle.xs_flat.specs.Reading.{IsTold, IsReadAfter, module_told, modules_told, trees_read}
 use Rattle.xs_flat.proofs.PassedOn.{passed_on}

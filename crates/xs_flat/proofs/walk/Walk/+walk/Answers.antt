@@ -1,26 +1,24 @@
 -- One step of the walk after another.
-use Rattle.std.proofs.Common.{rules, ◌≡◌, ◌<◌, ◌+◌, ◌-◌, ◌*◌, suc, ◌∙◌, ◌∷◌, ◌++◌, [], ℕ, Some, None, length, map, get_or, drop, take, List, Bor, refl, ap, sym, subst, arith}
-use Rattle.std.specs.Prelude.{slice_get, Vec}
-use Rattle.std.specs.declared.alloc.Global.{Global}
-use Rattle.std.proofs.lemmas.List.{length-append, length-map, take_all}
+use Rattle.std.proofs.Common.{rules, ◌≡◌, ◌<◌, ◌+◌, ◌-◌, ◌*◌, suc, ◌∙◌, Some, None, length, map, get_or, List, refl, ap, sym, subst, arith}
+use Rattle.std.specs.Prelude.{slice_get}
+use Rattle.std.proofs.lemmas.List.{length-append, length-map}
 use Rattle.std.proofs.lemmas.Option.{slice_get-get_or}
-use Rattle.xs_tree.specs.ProgramTree.{Text, Path, Formula, instance, decl_tree, declared_tree}
+use Rattle.xs_tree.specs.ProgramTree.{Text, Path, instance, declared_tree}
 use Rattle.xs_tree.specs.declared.expr.Expr.{Expr}
 use Rattle.xs_tree.specs.Written.{tree_of}
-use Rattle.xs_flattening.specs.Items.{a_declaration}
 use Rattle.xs_flat.specs.declared.items.Numbered.{Numbered}
 use Rattle.xs_flat.specs.declared.modules.Modules.{Modules}
 use Rattle.xs_flat.specs.declared.modules.Names.{Names}
 use Rattle.xs_flat.specs.declared.walk.Spot.{Spot}
 use Rattle.xs_flat.specs.declared.walk.Walk.{Walk}
 use Rattle.xs_flat.specs.declared.walk.Meaning.{Meaning as Found}
-use Rattle.xs_flat.specs.ItemTree.{numbered_tree, item_tree}
+use Rattle.xs_flat.specs.ItemTree.{numbered_tree}
 use Rattle.xs_flat.specs.ModelTree.{role_of}
-use Rattle.xs_flat.specs.Reading.{IsTold, told_first}
-use Rattle.xs_flat.specs.Walking.{Call, call_of, calls_of, program_in, place_at, on_path_of, visits_at, visits_here, visits_within, visits_told, told_from, instance_told, declared_item, HasMet, HasGone, HasEntered, IsEntry, IsModuleOf, IsStanding, IsCaller}
+use Rattle.xs_flat.specs.Reading.{IsTold}
+use Rattle.xs_flat.specs.Walking.{program_in, on_path_of, visits_at, visits_here, visits_within, visits_told, told_from, instance_told, declared_item, HasMet, IsEntry, IsStanding}
 use Rattle.xs_flat.proofs.PassedOn.{passed_on}
 use Rattle.xs_flat.proofs.ReadingLaws.{told_as, told_later, none_first}
-use Rattle.xs_flat.proofs.GoneLaws.{GoneSoFar, gone_none, gone_fault, gone_more, gone_all}
+use Rattle.xs_flat.proofs.GoneLaws.{GoneSoFar, gone_none, gone_fault, gone_more}
 use Rattle.xs_flat.proofs.EnterLaws.{deeper, name_is, stands_there, told_there, entered_there}
 use Rattle.xs_flat.proofs.FoundModule.{get_less}
 use Rattle.xs_flat.proofs.MetLaws.{may_enter, met_inner, told_inner, met_other, told_other}
@@ -33,7 +31,7 @@ add_instance-enter-requires t c =
     let x : Text = c.args.declaring.decl.now.name in
     let m : Text = c.args.name.now in
     let inner : Spot = record { «module» = c.in_ok-module.module; caller = c.args.declaring.spot; path = Some c.in_ok-path.path; actuals = c.as_slice.result; own = c.new.result } in
-    let entry : IsEntry ms w0 inner = may_enter ms w0 x m inner c.requires.standing c.in_ok-module.ensures.found c.in_ok-path.ensures c.new.ensures.items in
+    let entry : IsEntry ms w0 inner = may_enter ms w0 x m inner c.requires.standing c.in_ok-module.ensures.found c.in_ok-path.ensures in
     (search rules, (c.requires.modules, (entry, c.requires.variables)))
 
 pub add_instance-returns-in_err-enter-clause-fault : goal.add_instance-returns-in_err-enter-clause-fault

@@ -1,5 +1,5 @@
 -- The modules that the walk isn't in yet go down from an instance to those inside it.
-use Rattle.std.proofs.Common.{◌≡◌, ◌+◌, ◌-◌, ◌*◌, length, map, take, drop}
+use Rattle.std.proofs.Common.{◌+◌, ◌-◌, ◌*◌, length}
 use Rattle.xs_flat.specs.Closed.{AreVariables}
 use Rattle.xs_flat.proofs.GoneLaws.{GoneSoFar}
 use Rattle.xs_flat.proofs.walk.Walk.+walk.Given as goal

@@ -1,5 +1,5 @@
 -- The variable stands last.
-use Rattle.std.proofs.Common.{rules, ◌∙◌, refl, ap}
+use Rattle.std.proofs.Common.{◌∙◌, refl, ap}
 use Rattle.xs_flat.specs.ModelTree.{role_of}
 use Rattle.xs_flat.proofs.MetLaws.{met_variable}
 use Rattle.xs_flat.proofs.walk.Walk.add_variable.Goals as goal

@@ -1,7 +1,6 @@
 -- One outer module more.
-use Rattle.std.proofs.Common.{rules, ◌≡◌, ◌<◌, List, Bor, ℕ, true, false, length, get_or, drop, ap, ◌∙◌, sym, subst}
+use Rattle.std.proofs.Common.{rules, ◌≡◌, ◌<◌, List, Bor, ℕ, true, false, length, get_or, ap, ◌∙◌, sym, subst}
 use Rattle.std.proofs.lemmas.List.{drop_all}
-use Rattle.xs_tree.specs.ProgramTree.{Text}
 use Rattle.xs_tree.specs.Texts.{same_text, is_among}
 use Rattle.xs_flat.specs.Symbols.{texts}
 use Rattle.xs_flat.proofs.HeaderLaws.{same_test}

@@ -1,6 +1,6 @@
 -- The parts before, and the name.
-use Rattle.std.proofs.Common.{rules, ◌≡◌, ◌<◌, ◌∙◌, ◌++◌, ◌∷◌, [], Some, None, length, get_or, ap, sym}
-use Rattle.xs_tree.specs.ProgramTree.{Text, Path}
+use Rattle.std.proofs.Common.{rules, ◌∙◌, ◌++◌, ◌∷◌, [], ap}
+use Rattle.xs_tree.specs.ProgramTree.{Text}
 use Rattle.xs_flat.proofs.PlaceLaws.{below_path, below_main}
 use Rattle.xs_flat.proofs.walk.Walk.path_below.Goals as goal
 

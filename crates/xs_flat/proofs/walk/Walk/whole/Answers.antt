@@ -1,5 +1,4 @@
 -- The walk from `main` on.
-use Rattle.xs_flat.specs.declared.walk.Walk.{Walk}
 use Rattle.xs_flat.specs.Faults.{IsFaultOf}
 use Rattle.xs_flat.specs.Walking.{program_in}
 use Rattle.xs_flat.proofs.PassedOn.{passed_on}
@@ -9,7 +8,7 @@ use Rattle.xs_flat.proofs.walk.Walk.whole.Goals as goal
 pub enter-requires-clause-entry : goal.enter-requires-clause-entry
 enter-requires-clause-entry c =
     main_enters c.args.modules.now c.requires (record { spots = c.new.result; variables = c.new-2.result; inside = c.new-3.result }) c.new.ensures.items c.new-2.ensures c.new-3.ensures.items
-    c.of_main-main.result c.of_main-main.ensures.place c.of_main-main.ensures.path c.of_main-main.ensures.actuals c.of_main-main.ensures.own
+    c.of_main-main.result c.of_main-main.ensures.place c.of_main-main.ensures.path c.of_main-main.ensures.actuals
 
 pub returns-in_err-enter-clause-fault : goal.returns-in_err-enter-clause-fault
 returns-in_err-enter-clause-fault c =
