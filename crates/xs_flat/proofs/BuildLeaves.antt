@@ -97,9 +97,11 @@ mutual
   branches_of_leaves : {L : Type 0} (P : L → Type 0) (bs : Branches L) → Each P (branches_leaves bs) → BranchesAll P bs
   branches_of_leaves P no_branch h = tt
   branches_of_leaves P (branch_then c a bs) h =
-      let rest : Each P (leaves_in a ++ branches_leaves bs) = each_right P (leaves_in c) (leaves_in a ++ branches_leaves bs) h in
-      (tree_leaves P c (each_left P (leaves_in c) (leaves_in a ++ branches_leaves bs) h), tree_leaves P a (each_left P (leaves_in a) (branches_leaves bs) rest),
-      branches_of_leaves P bs (each_right P (leaves_in a) (branches_leaves bs) rest))
+      let rest : Each P (leaves_in a ++ branches_leaves bs) = each_right P (leaves_in c) (leaves_in a ++ branches_leaves bs) h in (
+        tree_leaves P c (each_left P (leaves_in c) (leaves_in a ++ branches_leaves bs) h),
+        tree_leaves P a (each_left P (leaves_in a) (branches_leaves bs) rest),
+        branches_of_leaves P bs (each_right P (leaves_in a) (branches_leaves bs) rest),
+      )
 
 -- as many variables and symbols as the program has, and so many definitions
 abbrev pub bounds_with : ProgramTree → ℕ → Bounds

@@ -26,3 +26,5 @@ pub mod BuildFormulas
 pub mod BuildModel
 pub mod BuildLoops
 pub mod FlatFaults
+pub mod BuildUnique
+pub mod ResolvedAtLaws

@@ -16,3 +16,4 @@ pub mod Steps
 pub mod Known
 pub mod Laid
 pub mod Asked
+pub mod ResolvedAt
