@@ -19,7 +19,7 @@ abbrev Written : Option (Place × Formula) → Place → Formula → Type 0
 Written None at e = ⊥
 Written (Some w) at e = (w.0 ≡ at) × (w.1 ≡ e)
 
-one_written : (p : ProgramTree) (k : Key) (at bt : Place) (e f : Formula) → expression_of p k ≡ Some (at, e) → expression_of p k ≡ Some (bt, f) → (at ≡ bt) × (e ≡ f)
+pub one_written : (p : ProgramTree) (k : Key) (at bt : Place) (e f : Formula) → expression_of p k ≡ Some (at, e) → expression_of p k ≡ Some (bt, f) → (at ≡ bt) × (e ≡ f)
 one_written p k at bt e f g h = subst (λ o. Written o bt f) (sym h ∙ g) (refl, refl)
 
 needs_one : (p : ProgramTree) (k : Key) (at bt : Place) (e f : Formula) (needs needs' : List Key) → expression_of p k ≡ Some (at, e) → expression_of p k ≡ Some (bt, f) →

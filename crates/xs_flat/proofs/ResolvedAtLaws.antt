@@ -33,20 +33,10 @@ use Rattle.xs_flat.specs.Judging.{IsJudged}
 use Rattle.xs_flat.specs.ResolverOf.{leaf_at, leaf_by, resolver, AreKnown}
 use Rattle.xs_flat.specs.ResolvedAt.{IsAt, BreaksValue, IsLeastBroken, IsValueFault, IsResolvedAt}
 use Rattle.xs_flat.proofs.BuildLeaves.{order, bounds_with, value_known}
+use Rattle.xs_flat.proofs.BuildLoops.{both_many}
+use Rattle.xs_flat.proofs.SceneItems.{both_more}
 use Rattle.xs_flat.proofs.BuildSound.{definition_of, written_with, definitions, sound, resolver_at}
 use Rattle.xs_flat.proofs.BuildUnique.{all_one}
-
-both_length : {A B : Type 0} (R : A → B → Type 0) (xs : List A) (ys : List B) → EachBoth R xs ys → length xs ≡ length ys
-both_length R [] [] h = refl
-both_length R [] (y ∷ ys) h = absurd h
-both_length R (x ∷ xs) [] h = absurd h
-both_length R (x ∷ xs) (y ∷ ys) h = ap suc (both_length R xs ys h.1)
-
-both_more : {A B : Type 0} (R Q : A → B → Type 0) (xs : List A) (ys : List B) → ((x : A) (y : B) → R x y → Q x y) → EachBoth R xs ys → EachBoth Q xs ys
-both_more R Q [] [] f h = tt
-both_more R Q [] (y ∷ ys) f h = absurd h
-both_more R Q (x ∷ xs) [] f h = absurd h
-both_more R Q (x ∷ xs) (y ∷ ys) f h = (f x y h.0, both_more R Q xs ys f h.1)
 
 -- a definition is what its key stands for
 one_definition : (p : ProgramTree) (d : Definition) → expression_of p d.key ≡ Some (d.place, d.written) → definition_of p d.key ≡ d
@@ -101,16 +91,16 @@ module _ (s : Scene) (n : Needs) (is : IsScene s) (needs : AreNeeds (program_of 
   known_at m spot at a e value = subst (λ b. AreKnown (leaf_at s n spot) b e) same (value_known s n is needs accepted spot at e (there (model_tree m) spot at a) value)
     where
       variables : length (variables_of (program_of s)) ≡ length m.variables
-      variables = both_length (IsVariableOf (model_tree m)) (variables_of (program_of s)) (map variable_tree m.variables) a.flat.variables ∙ length-map m.variables variable_tree
+      variables = both_many (IsVariableOf (model_tree m)) (variables_of (program_of s)) (map variable_tree m.variables) a.flat.variables ∙ length-map m.variables variable_tree
 
       symbols : length (symbols_of (program_of s)) ≡ length m.symbols
       symbols = ap (λ (xs : List Text). length xs) (sym a.flat.symbols)
 
       many : length n.order.items ≡ length m.definitions
       many =
-          both_length (IsKeyAt (program_of s)) n.order.items (order s n is needs accepted).ordered (order s n is needs accepted).each
+          both_many (IsKeyAt (program_of s)) n.order.items (order s n is needs accepted).ordered (order s n is needs accepted).each
           ∙ sym (length-map (order s n is needs accepted).ordered (definition_of (program_of s))) ∙ ap (λ (ds : List Definition). length ds) (sym (written_is (model_tree m) a.flat))
-          ∙ both_length (IsDefinitionOf (program_of s) (model_tree m)) a.flat.written (map formula_tree m.definitions) a.flat.placed ∙ length-map m.definitions formula_tree
+          ∙ both_many (IsDefinitionOf (program_of s) (model_tree m)) a.flat.written (map formula_tree m.definitions) a.flat.placed ∙ length-map m.definitions formula_tree
 
       same : bounds_with (program_of s) (length n.order.items) ≡ bounds_made (length m.variables) (length m.symbols) (length m.definitions)
       same = cc (variables, symbols, many)

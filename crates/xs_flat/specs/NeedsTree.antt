@@ -1,8 +1,9 @@
 -- What is known of the needs of definitions.
 use Rattle.std.specs.Prelude.{◌≡◌, ◌↔◌, ℕ, Bool, true, false, List, [], ◌∷◌, length, map, Option, Some, None, slice_get, get_or}
-use Rattle.xs_tree.specs.ProgramTree.{Formula, ProgramTree}
+use Rattle.xs_tree.specs.ProgramTree.{Path, Formula, ProgramTree}
 use Rattle.xs_tree.specs.Scope.{Place, Key}
 use Rattle.xs_tree.specs.Trace.{Each, AtSome}
+use Rattle.xs_flattening.specs.Looks.{MeansNothing, MeetsLoop}
 use Rattle.xs_flattening.specs.Resolved.{leaves_in}
 use Rattle.xs_flattening.specs.Rules.{Leads, NeedsItself, MeansInput, expression_of}
 use Rattle.xs_flattening.specs.Model.{EachBoth, Root, roots_of, AddsAll}
@@ -32,7 +33,16 @@ HasCircle p key b = (b ≡ true) ↔ NeedsItself p key
 abbrev pub HasInput : ProgramTree → Key → Bool → Type 0
 HasInput p key b = (b ≡ true) ↔ KeyReadsInput p key
 
--- The order of definitions, where none needs itself: each after those that it names. It has all numbers, and the
+-- the name means something
+pub record IsMeant (p : ProgramTree) (at : Place) (name : Path) : Type 0 where
+  pub something : MeansNothing p at name → ⊥
+  pub no_loop : MeetsLoop p at name → ⊥
+
+-- each name of each definition means something
+abbrev pub AreMeant : ProgramTree → Type 0
+AreMeant p = (k : ℕ) (key : Key) (at : Place) (e : Formula) → IsKeyAt p k key → expression_of p key ≡ Some (at, e) → Each (IsMeant p at) (leaves_in e)
+
+-- The order of definitions, where none needs itself and all names mean something: each after those that it names. It has all numbers, and the
 -- places are the other way round.
 pub record IsOrder (p : ProgramTree) (order places : List ℕ) : Type 0 where
   pub ordered : List Key
@@ -45,4 +55,4 @@ pub record IsOrder (p : ProgramTree) (order places : List ℕ) : Type 0 where
 pub record AreNeeds (p : ProgramTree) (n : Needs) : Type 0 where
   pub circles : EachBoth (HasCircle p) (keys_of p) n.on_circle.items
   pub inputs : EachBoth (HasInput p) (keys_of p) n.reads_input.items
-  pub order : Each (λ b. b ≡ false) n.on_circle.items → IsOrder p n.order.items n.places.items
+  pub order : Each (λ b. b ≡ false) n.on_circle.items → AreMeant p → IsOrder p n.order.items n.places.items
