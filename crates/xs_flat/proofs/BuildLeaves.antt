@@ -24,24 +24,25 @@ use Rattle.xs_flat.specs.declared.names.Defined.{Defined}
 use Rattle.xs_flat.specs.declared.names.Scene.{Scene}
 use Rattle.xs_flat.specs.declared.needs.Needs.{Needs}
 use Rattle.xs_flat.specs.SceneTree.{Denotes, IsFound, IsDefined, program_of, IsScene}
+<<<<<<< HEAD
 use Rattle.xs_flat.specs.NeedsTree.{keys_of, IsKeyAt, HasCircle, IsOrder, AreNeeds, IsMeant, AreMeant}
+=======
+use Rattle.xs_flat.specs.NeedsTree.{keys_of, IsKeyAt, HasCircle, IsMeant, AreMeant, IsOrder, AreNeeds}
+>>>>>>> 468a1f9b5d61f831e27c5d37702664e2af7a12f4
 use Rattle.xs_flat.specs.FoundAt.{found_at}
 use Rattle.xs_flat.specs.ResolverOf.{leaf_placed, leaf_found, leaf_at, is_leaf_within, TreeAll, TreesAll, BranchesAll, AreKnown}
 use Rattle.xs_flat.proofs.SceneFound.{scene_found}
 use Rattle.xs_flat.proofs.BuildOrder.{AllAfter, ordered_after, needs_before, one_place, same_key_equal}
-use Rattle.xs_flat.proofs.BuildAccepted.{some_at, IsGoodRoot}
+use Rattle.xs_flat.proofs.BuildAccepted.{some_at, each_not, IsGoodRoot}
 use Rattle.xs_flat.proofs.BuildRoots.{good_roots, no_come_back}
+use Rattle.xs_flat.proofs.BuildUnique.{one_written}
+use Rattle.xs_flattening.proofs.Lists.{each_more, get_within}
 
 -- Lists.
 pub get_less : {A : Type 0} (xs : List A) (i : ℕ) (x : A) → slice_get xs i ≡ Some x → i < length xs
 get_less [] i x e = cc
 get_less (y ∷ xs) zero x e = omega arith
 get_less (y ∷ xs) (suc i) x e = let less : i < length xs = get_less xs i x e in omega (arith, less)
-
-pub get_there : {A : Type 0} (xs : List A) (i : ℕ) → i < length xs → (x : A) × (slice_get xs i ≡ Some x)
-get_there [] i h = absurd (omega (arith, h))
-get_there (y ∷ xs) zero h = (y, refl)
-get_there (y ∷ xs) (suc i) h = get_there xs i (omega (arith, h))
 
 pub get_mapped : {A B : Type 0} (f : A → B) (xs : List A) (i : ℕ) (y : B) → slice_get (map f xs) i ≡ Some y → (x : A) × (slice_get xs i ≡ Some x) × (f x ≡ y)
 get_mapped f [] i y e = cc
@@ -97,9 +98,11 @@ mutual
   branches_of_leaves : {L : Type 0} (P : L → Type 0) (bs : Branches L) → Each P (branches_leaves bs) → BranchesAll P bs
   branches_of_leaves P no_branch h = tt
   branches_of_leaves P (branch_then c a bs) h =
-      let rest : Each P (leaves_in a ++ branches_leaves bs) = each_right P (leaves_in c) (leaves_in a ++ branches_leaves bs) h in
-      (tree_leaves P c (each_left P (leaves_in c) (leaves_in a ++ branches_leaves bs) h), tree_leaves P a (each_left P (leaves_in a) (branches_leaves bs) rest),
-      branches_of_leaves P bs (each_right P (leaves_in a) (branches_leaves bs) rest))
+      let rest : Each P (leaves_in a ++ branches_leaves bs) = each_right P (leaves_in c) (leaves_in a ++ branches_leaves bs) h in (
+        tree_leaves P c (each_left P (leaves_in c) (leaves_in a ++ branches_leaves bs) h),
+        tree_leaves P a (each_left P (leaves_in a) (branches_leaves bs) rest),
+        branches_of_leaves P bs (each_right P (leaves_in a) (branches_leaves bs) rest),
+      )
 
 -- as many variables and symbols as the program has, and so many definitions
 abbrev pub bounds_with : ProgramTree → ℕ → Bounds
@@ -199,7 +202,23 @@ module _ (p : ProgramTree) where
     leaf_within places bound at name (found.Instance i) is value within = leaf_of_meaning places bound at name (found.Instance i) is.0 is.1 is.2 value within
     leaf_within places bound at name (found.Definition i) is value within = leaf_of_meaning places bound at name (found.Definition i) is.0 is.1 is.2 value within
 
+-- each name of each definition means something
+are_meant : (p : ProgramTree) → IsAccepted p → AreMeant p
+are_meant p accepted k key at e is_key is_written =
+    let r : (r : Root) × (slice_get (roots_of p) k ≡ Some r) × (r.key ≡ key) = get_mapped (λ (r : Root). r.key) (roots_of p) k key is_key in
+    let good : IsGoodRoot p r.0 = each_at (IsGoodRoot p) (roots_of p) k r.0 (good_roots p accepted) r.1 in
+    let same : (good.at ≡ at) × (good.written ≡ e) = one_written p key good.at at good.written e (ap (expression_of p) (sym r.2) ∙ good.is) is_written in
+    let named : SomeHasNoValue p at e → ⊥ = subst (λ a. SomeHasNoValue p a e → ⊥) same.0 (subst (λ w. SomeHasNoValue p good.at w → ⊥) same.1 good.named) in
+    each_more (λ name. HasNoValue p at name → ⊥) (IsMeant p at) (leaves_in e)
+    (λ name h. record { something = λ m. h (nothing m); no_loop = λ l. no_come_back p accepted l.1 l.2 l.5 }) (each_not (HasNoValue p at) (leaves_in e) named)
+
 module _ (s : Scene) (n : Needs) (is : IsScene s) (needs : AreNeeds (program_of s) n) (accepted : IsAccepted (program_of s)) where
+<<<<<<< HEAD
+=======
+  pub order : IsOrder (program_of s) n.order.items n.places.items
+  order = needs.order (no_circles (program_of s) (roots_of (program_of s)) n.on_circle.items needs.circles (good_roots (program_of s) accepted)) (are_meant (program_of s) accepted)
+
+>>>>>>> 468a1f9b5d61f831e27c5d37702664e2af7a12f4
   -- the keys of definitions
   abbrev pub RootKey : Key → Type 0
   RootKey k = (i : ℕ) × (slice_get (keys_of (program_of s)) i ≡ Some k)
@@ -212,6 +231,7 @@ module _ (s : Scene) (n : Needs) (is : IsScene s) (needs : AreNeeds (program_of 
       let r : (r : Root) × (slice_get (roots_of (program_of s)) at.0 ≡ Some r) × (r.key ≡ k) = root_of_key k at.0 at.1 in
       (each_at (IsGoodRoot (program_of s)) (roots_of (program_of s)) at.0 r.0 (good_roots (program_of s) accepted) r.1).free (subst (NeedsItself (program_of s)) (sym r.2) itself)
 
+<<<<<<< HEAD
   abbrev Written : Option (Place × Formula) → Place → Formula → Type 0
   Written None at e = ⊥
   Written (Some w) at e = (w.0 ≡ at) × (w.1 ≡ e)
@@ -242,6 +262,8 @@ module _ (s : Scene) (n : Needs) (is : IsScene s) (needs : AreNeeds (program_of 
   pub order : IsOrder (program_of s) n.order.items n.places.items
   order = needs.order (no_circles (program_of s) (roots_of (program_of s)) n.on_circle.items needs.circles (good_roots (program_of s) accepted)) are_meant
 
+=======
+>>>>>>> 468a1f9b5d61f831e27c5d37702664e2af7a12f4
   -- what a definition needs is a definition
   root_needs : (k other : Key) → RootKey k → NeedsOf (program_of s) k other → RootKey other
   root_needs k other at need = from_found
@@ -253,7 +275,7 @@ module _ (s : Scene) (n : Needs) (is : IsScene s) (needs : AreNeeds (program_of 
       d = both_at (IsDefined (program_of s)) (roots_of (program_of s)) s.definitions.items at.0 r.0 is.set.definitions r.1
 
       same : (need.place ≡ d.2.at.place) × (need.written ≡ tree_of d.0.value.now)
-      same = one_written k need.place d.2.at.place need.written (tree_of d.0.value.now) need.is (ap (expression_of (program_of s)) (sym r.2) ∙ d.2.expression)
+      same = one_written (program_of s) k need.place d.2.at.place need.written (tree_of d.0.value.now) need.is (ap (expression_of (program_of s)) (sym r.2) ∙ d.2.expression)
 
       named : (name : Path) × ((bt : Place) × (e : Formula) × Means (program_of s) need.place name (an_expression_at other bt e))
       named = at_some (λ name. (bt : Place) × (e : Formula) × Means (program_of s) need.place name (an_expression_at other bt e)) (leaves_in need.written) need.named
@@ -273,7 +295,7 @@ module _ (s : Scene) (n : Needs) (is : IsScene s) (needs : AreNeeds (program_of 
   key_placed k key e =
       let less : k < length (keys_of (program_of s)) = get_less (keys_of (program_of s)) k key e in
       let size : length n.places.items ≡ length (keys_of (program_of s)) = order.size in
-      let i : (i : ℕ) × (slice_get n.places.items k ≡ Some i) = get_there n.places.items k (omega (arith, less, size)) in
+      let i : (i : ℕ) × (slice_get n.places.items k ≡ Some i) = get_within n.places.items k (omega (arith, less, size)) in
       let o : slice_get n.order.items i.0 ≡ Some k = order.all k i.0 i.1 in
       let b : (j : Key) × (slice_get order.ordered i.0 ≡ Some j) × IsKeyAt (program_of s) k j = both_at (IsKeyAt (program_of s)) n.order.items order.ordered i.0 k order.each o in
       (i.0, i.1, o, b.1 ∙ sym b.2 ∙ e)
@@ -303,7 +325,7 @@ module _ (s : Scene) (n : Needs) (is : IsScene s) (needs : AreNeeds (program_of 
       good = each_at (IsGoodRoot (program_of s)) (roots_of (program_of s)) k r.0 (good_roots (program_of s) accepted) r.1
 
       same : (good.at ≡ r.2.at.place) × (good.written ≡ tree_of d.value.now)
-      same = one_written r.0.key good.at r.2.at.place good.written (tree_of d.value.now) good.is r.2.expression
+      same = one_written (program_of s) r.0.key good.at r.2.at.place good.written (tree_of d.value.now) good.is r.2.expression
 
       named : SomeHasNoValue (program_of s) r.2.at.place (tree_of d.value.now) → ⊥
       named bad = good.named (subst (λ a. SomeHasNoValue (program_of s) a good.written) (sym same.0) (subst (SomeHasNoValue (program_of s) r.2.at.place) (sym same.1) bad))

@@ -14,7 +14,7 @@ use Rattle.xs_flat.specs.declared.needs.Needs.{Needs}
 use Rattle.xs_flat.specs.SceneTree.{program_of, IsScene, IsSpot, number_and_item, items_of_instance, items_at}
 use Rattle.xs_flat.specs.ResolverOf.{leaf_at}
 use Rattle.xs_flat.specs.Asked.{Told, IsConditionKnown, AreConditionsKnown, asked_conditions, asked_item, asked_items, asked_from, item_listed, instance_in, instance_told}
-use Rattle.xs_flat.proofs.BuildLeaves.{get_there}
+use Rattle.xs_flattening.proofs.Lists.{get_within}
 
 pub drop_at : {A : Type 0} (xs : List A) (k : ℕ) (x : A) → slice_get xs k ≡ Some x → drop k xs ≡ x ∷ drop (k + 1) xs
 drop_at [] k x e = cc
@@ -34,7 +34,7 @@ get_none [] k e = omega arith
 get_none (y ∷ xs) zero e = cc
 get_none (y ∷ xs) (suc k) e = let less : length xs ≤ k = get_none xs k e in omega (arith, less)
 
-both_many : {A B : Type 0} (R : A → B → Type 0) (xs : List A) (ys : List B) → EachBoth R xs ys → length xs ≡ length ys
+pub both_many : {A B : Type 0} (R : A → B → Type 0) (xs : List A) (ys : List B) → EachBoth R xs ys → length xs ≡ length ys
 both_many R [] [] h = refl
 both_many R [] (y ∷ ys) h = absurd h
 both_many R (x ∷ xs) [] h = absurd h
@@ -71,7 +71,7 @@ module _ (s : Scene) (n : Needs) (what : Item → List Condition) where
   pub spots_step : (k : ℕ) → k < length (instances_of (program_of s)) →
       asked_from s n what k (drop k (instances_of (program_of s))) ≡ asked_items s n what k (items_at (program_of s) k) ++ asked_from s n what (k + 1) (drop (k + 1) (instances_of (program_of s)))
   spots_step k less =
-      let x : (x : FlatInstance) × (slice_get (instances_of (program_of s)) k ≡ Some x) = get_there (instances_of (program_of s)) k less in
+      let x : (x : FlatInstance) × (slice_get (instances_of (program_of s)) k ≡ Some x) = get_within (instances_of (program_of s)) k less in
       let later : suc k ≡ k + 1 = omega arith in
       ap (asked_from s n what k) (drop_at (instances_of (program_of s)) k x.0 x.1)
       ∙ ap (λ is. asked_items s n what k is ++ asked_from s n what (suc k) (drop (k + 1) (instances_of (program_of s)))) (sym (ap (items_of_instance (program_of s)) x.1))

@@ -16,6 +16,7 @@ use Rattle.xs_flattening.specs.Rules.{IsAccepted, expression_of}
 use Rattle.xs_flattening.specs.Model.{EachBoth, Root, roots_of, symbols_of, AddsAll, IsInstanceNumber, IsVariableOf, IsDefinitionOf, IsFlatOf}
 use Rattle.xs_flattening.proofs.Conditions.{each_at, each_join}
 use Rattle.xs_flattening.proofs.Variables.{both_at, both_at_second}
+use Rattle.xs_flattening.proofs.Lists.{get_within}
 use Rattle.xs_flat.specs.declared.bounds.Bounds.{Bounds}
 use Rattle.xs_flat.specs.declared.model.Flat.{Flat}
 use Rattle.xs_flat.specs.declared.model.Flat.TheVariants.{Var, Symbol, Definition as DefinitionOf}
@@ -41,7 +42,9 @@ use Rattle.xs_flat.specs.Asked.{Told, told, asked_defined, asked_definition, IsR
 use Rattle.xs_flat.proofs.ClosedLaws.{left_true, right_true}
 use Rattle.xs_flat.proofs.BuildAccepted.{found_name, IsGoodRoot}
 use Rattle.xs_flat.proofs.BuildRoots.{good_roots}
-use Rattle.xs_flat.proofs.BuildLeaves.{get_less, get_there, get_map, get_mapped, order, bounds_with, definition_known}
+use Rattle.xs_flat.proofs.BuildLeaves.{get_less, get_map, get_mapped, order, bounds_with, definition_known}
+use Rattle.xs_flat.proofs.BuildLoops.{both_many}
+use Rattle.xs_flat.proofs.SceneItems.{both_more}
 use Rattle.xs_flat.proofs.BuildSound.{definition_of, written_with, keys_of_definitions, definitions, definition_at, sound, resolver_at}
 use Rattle.xs_flat.proofs.BuildFormulas.{all_known, formulas_are, both_are}
 
@@ -56,18 +59,6 @@ bounds_made v t d = record { variables = v; symbols = t; definitions = d }
 
 abbrev made_instance : Place → Text → FlatInstance
 made_instance at x = record { place = at; module_name = x }
-
-both_length : {A B : Type 0} (R : A → B → Type 0) (xs : List A) (ys : List B) → EachBoth R xs ys → length xs ≡ length ys
-both_length R [] [] h = refl
-both_length R [] (y ∷ ys) h = absurd h
-both_length R (x ∷ xs) [] h = absurd h
-both_length R (x ∷ xs) (y ∷ ys) h = ap suc (both_length R xs ys h.1)
-
-both_more : {A B : Type 0} (R Q : A → B → Type 0) (xs : List A) (ys : List B) → ((x : A) (y : B) → R x y → Q x y) → EachBoth R xs ys → EachBoth Q xs ys
-both_more R Q [] [] f h = tt
-both_more R Q [] (y ∷ ys) f h = absurd h
-both_more R Q (x ∷ xs) [] f h = absurd h
-both_more R Q (x ∷ xs) (y ∷ ys) f h = (f x y h.0, both_more R Q xs ys f h.1)
 
 -- A closed definition names those before it alone.
 mutual
@@ -213,7 +204,7 @@ module _ (s : Scene) (n : Needs) (is : IsScene s) (needs : AreNeeds (program_of 
 
     same_many : length (definitions s n is needs accepted) ≡ length (map formula_tree ds)
     same_many =
-        length-map (order s n is needs accepted).ordered (definition_of (program_of s)) ∙ sym (both_length (IsKeyAt (program_of s)) n.order.items (order s n is needs accepted).ordered (order s n is needs accepted).each)
+        length-map (order s n is needs accepted).ordered (definition_of (program_of s)) ∙ sym (both_many (IsKeyAt (program_of s)) n.order.items (order s n is needs accepted).ordered (order s n is needs accepted).each)
         ∙ sym (length-map n.order.items (asked_definition s n)) ∙ ap (λ (ts : List Told). length ts) (sym all) ∙ length-map ds told ∙ sym (length-map ds formula_tree)
 
     is_instance : (d : Definition) (f : FormulaOf) (j : ℕ) → DefinitionAt j d f → IsInstanceNumber m d.place f.«instance»
@@ -246,7 +237,7 @@ module _ (s : Scene) (n : Needs) (is : IsScene s) (needs : AreNeeds (program_of 
             omega (arith, here, many, mapped)
 
         x : (x : FormulaOf) × (slice_get ds k ≡ Some x)
-        x = get_there ds k less
+        x = get_within ds k less
 
         a : DefinitionAt k d x.0
         a = definition_made k d x.0 e x.1
@@ -303,7 +294,7 @@ module _ (s : Scene) (n : Needs) (is : IsScene s) (needs : AreNeeds (program_of 
   -- The bounds that are read off the lists.
   pub many_variables : (vs : List Variable) → AreDeclared (program_of s) vs → length vs ≡ length (variables_of (program_of s))
   many_variables vs declared =
-      sym (length-map vs variable_tree) ∙ sym (both_length (IsDeclaredBy (program_of s)) (variables_of (program_of s)) (map variable_tree vs) declared)
+      sym (length-map vs variable_tree) ∙ sym (both_many (IsDeclaredBy (program_of s)) (variables_of (program_of s)) (map variable_tree vs) declared)
 
   pub many_symbols : (xs : List Text) → xs ≡ texts s.symbols.keys → length xs ≡ length (symbols_of (program_of s))
   many_symbols xs e = ap (λ (ys : List Text). length ys) (e ∙ is.set.symbols)

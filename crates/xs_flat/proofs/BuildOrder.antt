@@ -229,8 +229,8 @@ module _ (p : ProgramTree) where
       add_grows {done = done} {k = k} (comes {after = after} {needs = needs} {at = at} {e = e} fresh is named all) ok good =
           let needed : (other : Key) → Needs p k other → is_key_among needs other ≡ true =
           (λ other n. let same : (n.place ≡ at) × (n.written ≡ e) = one_expression k n.place at n.written e n.is is in
-              named_all at (leaves_in e) needs other named
-              (subst (λ bt. AtSome (Naming bt other) (leaves_in e)) same.0 (subst (λ f. AtSome (Naming n.place other) (leaves_in f)) same.1 n.named))) in
+          named_all at (leaves_in e) needs other named
+          (subst (λ bt. AtSome (Naming bt other) (leaves_in e)) same.0 (subst (λ f. AtSome (Naming n.place other) (leaves_in f)) same.1 n.named))) in
           let needs_one : (other : Key) → is_key_among needs other ≡ true → Needs p k other =
           (λ other h. record { place = at; written = e; is = is; named = named_back at (leaves_in e) needs other named h }) in
           let g : Grown done needs after = all_grow all (λ other h. ok_needs k other ok (needs_one other h)) good in

@@ -113,21 +113,24 @@ module _ (p : ProgramTree) (accepted : IsAccepted p) where
       kind_at (module_at p x.place) own ≡ an_instance m actuals → (k : ℕ) (e : Formula) → slice_get actuals k ≡ Some e → (o : Option Path) → plain_name e ≡ o →
       Each (IsGoodRoot p) (root_of_actual (own ∷ x.place) k n.number o)
   actual_root x n role own m actuals kept count kind k e is (Some name) plain = tt
-  actual_root x n role own m actuals kept count kind k e is None plain = (record {
-    free = λ needs. no_loop x n role own m actuals kept count.tree count.found (record {
-      index = k;
-      formal = (formal_there count.tree.formals actuals k e count.count is).0;
-      actual = e;
-      is_formal = (formal_there count.tree.formals actuals k e count.count is).1;
-      is_actual = is;
-      loops = subst (ActualLoops p (own ∷ x.place) k (formal_there count.tree.formals actuals k e count.count is).0) (sym plain) needs;
-    });
-    at = x.place;
-    written = e;
-    is = ap (λ j. expression_in x.place (actual_of_kind j k)) kind ∙ ap (expression_in x.place) (nth_slice actuals k ∙ is);
-    now = not_true (has_next e) (λ next. kept next_here (next_among actuals k e is next));
-    named = λ bad. kept no_such_name (some_at (λ e. ActualHasNoMeaning p x.place e (plain_name e)) actuals k e is (subst (ActualHasNoMeaning p x.place e) (sym plain) bad));
-  }, tt)
+  actual_root x n role own m actuals kept count kind k e is None plain = (
+    record {
+      free = λ needs. no_loop x n role own m actuals kept count.tree count.found (record {
+        index = k;
+        formal = (formal_there count.tree.formals actuals k e count.count is).0;
+        actual = e;
+        is_formal = (formal_there count.tree.formals actuals k e count.count is).1;
+        is_actual = is;
+        loops = subst (ActualLoops p (own ∷ x.place) k (formal_there count.tree.formals actuals k e count.count is).0) (sym plain) needs;
+      });
+      at = x.place;
+      written = e;
+      is = ap (λ j. expression_in x.place (actual_of_kind j k)) kind ∙ ap (expression_in x.place) (nth_slice actuals k ∙ is);
+      now = not_true (has_next e) (λ next. kept next_here (next_among actuals k e is next));
+      named = λ bad. kept no_such_name (some_at (λ e. ActualHasNoMeaning p x.place e (plain_name e)) actuals k e is (subst (ActualHasNoMeaning p x.place e) (sym plain) bad));
+    },
+    tt,
+  )
     where
       formal_there : (xs : List Text) (es : List Formula) (k : ℕ) (e : Formula) → length xs ≡ length es → slice_get es k ≡ Some e → (y : Text) × (slice_get xs k ≡ Some y)
       formal_there [] [] k e l h = cc
@@ -159,15 +162,17 @@ module _ (p : ProgramTree) (accepted : IsAccepted p) where
       Each (IsGoodRoot p) (roots_of_item x.place n.number item)
   item_roots x j n f kept t (a_declaration role d) e = declared_roots x j n role d f kept t e d.what refl
   item_roots x j n f kept t (a_definition d) e =
-      let defined : IsKept p (a_use x (record n { item = a_definition d })) = subst (λ i. IsKept p (a_use x (record n { item = i }))) e kept in
-      (record {
-        free = defined define_loop;
-        at = x.place;
-        written = d.value;
-        is = ap (expression_of_kind x.place) (fresh_defined p accepted x n d t e);
-        now = not_true (has_next d.value) (defined next_here);
-        named = defined no_such_name;
-      }, tt)
+      let defined : IsKept p (a_use x (record n { item = a_definition d })) = subst (λ i. IsKept p (a_use x (record n { item = i }))) e kept in (
+        record {
+          free = defined define_loop;
+          at = x.place;
+          written = d.value;
+          is = ap (expression_of_kind x.place) (fresh_defined p accepted x n d t e);
+          now = not_true (has_next d.value) (defined next_here);
+          named = defined no_such_name;
+        },
+        tt,
+      )
   item_roots x j n f kept t (an_assignment a) e = tt
   item_roots x j n f kept t (some_constants xs) e = tt
   item_roots x j n f kept t (an_init g) e = tt

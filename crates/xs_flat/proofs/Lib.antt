@@ -76,3 +76,5 @@ pub mod WholeLaws
 pub mod FlatFaults
 pub mod Closing
 pub mod Stacks
+pub mod BuildUnique
+pub mod ResolvedAtLaws

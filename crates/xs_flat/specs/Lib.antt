@@ -26,3 +26,4 @@ pub mod Asked
 pub mod Verdicts
 pub mod Assigned
 pub mod Walking
+pub mod ResolvedAt

@@ -25,7 +25,9 @@ use crate::bounds::Bounds;
 use crate::copy::copy_path;
 use crate::fault::FlatFault;
 use crate::items::{Item, number_of};
-use crate::model::{Flat, FlatList, FlatModel, Formula, Instance, InstanceList, Role, VariableList};
+use crate::model::{
+    Flat, FlatList, FlatModel, Formula, Instance, InstanceList, Role, VariableList,
+};
 use crate::modules::Names;
 use crate::names::Scene;
 use crate::needs::Needs;
@@ -75,7 +77,15 @@ pub(crate) fn build(
     let instances = instances_of(alloc, scene)?;
     let symbols = symbol_names(alloc, &scene.symbols)?;
     let definitions = definitions_of(alloc, scene, needs, variables.len(), symbols.len())?;
-    with_formulas(alloc, scene, needs, instances, variables, symbols, definitions)
+    with_formulas(
+        alloc,
+        scene,
+        needs,
+        instances,
+        variables,
+        symbols,
+        definitions,
+    )
 }
 
 /// The model of these lists with all formulas.

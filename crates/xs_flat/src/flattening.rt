@@ -1,12 +1,12 @@
 //! The public calls: a program's flat model, and expressions at one of its instances.
 
-ghost use Rattle.std.specs.Prelude.{◌≡◌, ◌∷◌, [], ◌↔◌, ◌&&◌, codes, not, true, None, IfOk, IfErr, IsErrOf};
+ghost use Rattle.std.specs.Prelude.{◌≡◌, ◌∷◌, [], ◌↔◌, ◌&&◌, codes, not, true, false, None, IfOk, IfErr, IsErrOf};
 ghost use Rattle.xs_tree.specs.ProgramTree.{program_tree};
 ghost use Rattle.xs_tree.specs.Scope.{find_module};
 ghost use Rattle.xs_flat.specs.declared.fault.Rule.TheVariants.{NoMain, NoSuchName, NextHere, InputHere};
 ghost use Rattle.xs_flat.specs.Shape.{shape};
 ghost use Rattle.xs_flat.specs.Closed.{is_closed, bounds_of, IsClosedModel};
-ghost use Rattle.xs_flat.specs.ModelTree.{model_tree};
+ghost use Rattle.xs_flat.specs.ModelTree.{model_tree, flat_tree};
 ghost use Rattle.xs_flattening.specs.FlatTrace.{NamesOwn};
 ghost use Rattle.xs_flat.specs.Faults.{first_of, IsPastMain, IsFaultOf};
 ghost use Rattle.std.specs.Prelude.{Some};
@@ -15,6 +15,10 @@ ghost use Rattle.xs_flattening.specs.Model.{IsFlatOf};
 ghost use Rattle.xs_flat.specs.SceneTree.{module_from, IsScene, program_of};
 ghost use Rattle.xs_flat.specs.Closed.{AreVariables};
 ghost use Rattle.xs_flat.specs.Walked.{AreDeclared};
+ghost use Rattle.xs_flat.specs.NeedsTree.{AreNeeds};
+ghost use Rattle.xs_flat.specs.ResolvedAt.{IsAt, IsResolvedAt, IsValueFault};
+ghost use Rattle.xs_flattening.specs.Flat.{FlatInstance};
+ghost use Rattle.xs_tree.specs.Written.{tree_of};
 
 use crate::bounds::Bounds;
 use crate::build::build;
@@ -115,6 +119,8 @@ pub fn resolve_top(
 ) -> Result<Expr<Flat>, FlatFault>
     ensures shape { IfOk result (λ made. shape made ≡ shape e.now) }
     ensures closed { IfOk result (λ made. is_closed (bounds_of m.now) made ≡ true) }
+    ensures resolved { (at : FlatInstance) → IsAt (program_tree p.now) (model_tree m.now) 0 at → IfOk result (λ made. IsResolvedAt (program_tree p.now) (model_tree m.now) at.place (tree_of e.now) (flat_tree made)) }
+    ensures fault { (at : FlatInstance) → IsAt (program_tree p.now) (model_tree m.now) 0 at → IfErr result (IsValueFault (program_tree p.now) at.place false (tree_of e.now)) }
 {
     resolve_at(alloc, p, m, 0, false, e)
 }
@@ -131,27 +137,90 @@ pub fn resolve_at(
 ) -> Result<Expr<Flat>, FlatFault>
     ensures shape { IfOk result (λ made. shape made ≡ shape e.now) }
     ensures closed { IfOk result (λ made. is_closed (bounds_of m.now) made ≡ true) }
+    ensures resolved { (at : FlatInstance) → IsAt (program_tree p.now) (model_tree m.now) «instance» at → IfOk result (λ made. IsResolvedAt (program_tree p.now) (model_tree m.now) at.place (tree_of e.now) (flat_tree made)) }
+    ensures fault { (at : FlatInstance) → IsAt (program_tree p.now) (model_tree m.now) «instance» at → IfErr result (IsValueFault (program_tree p.now) at.place inputs (tree_of e.now)) }
 {
-    let Some(main) = main_place(p.modules.as_slice()) else {
-        return Err(FlatFault {
+    match main_place(p.modules.as_slice()) {
+        Some(main) => resolve_from(alloc, p, main, m, instance as usize, inputs, e),
+        None => Err(FlatFault {
             rule: Rule::NoMain,
             item: 0,
-        });
-    };
-    let modules = Modules::read(alloc, p, main)?;
-    let (spots, _variables) = Walk::whole(alloc, &modules)?.into_parts();
-    let scene = Scene::of_instances(alloc, modules, spots)?;
-    let needs = Needs::of_scene(alloc, &scene)?;
-    let source = Source {
-        spot: instance as usize,
+        }),
+    }
+}
+
+/// An expression of a program whose module `main` stands at a place.
+fn resolve_from(
+    alloc: Global,
+    p: &Program,
+    main: usize,
+    m: &FlatModel,
+    spot: usize,
+    inputs: bool,
+    e: &Expr<Dotted>,
+) -> Result<Expr<Flat>, FlatFault>
+    requires main { module_from 0 (program_tree p.now) (codes "main") ≡ Some main }
+    ensures shape { IfOk result (λ made. shape made ≡ shape e.now) }
+    ensures closed { IfOk result (λ made. is_closed (bounds_of m.now) made ≡ true) }
+    ensures resolved { (at : FlatInstance) → IsAt (program_tree p.now) (model_tree m.now) spot at → IfOk result (λ made. IsResolvedAt (program_tree p.now) (model_tree m.now) at.place (tree_of e.now) (flat_tree made)) }
+    ensures fault { (at : FlatInstance) → IsAt (program_tree p.now) (model_tree m.now) spot at → IfErr result (IsValueFault (program_tree p.now) at.place inputs (tree_of e.now)) }
+{
+    let (scene, _variables) = scene_of(alloc, p, main)?;
+    resolve_in(alloc, &scene, m, spot, inputs, e)
+}
+
+/// An expression by the tables of a program.
+fn resolve_in(
+    alloc: Global,
+    scene: &Scene<'_>,
+    m: &FlatModel,
+    spot: usize,
+    inputs: bool,
+    e: &Expr<Dotted>,
+) -> Result<Expr<Flat>, FlatFault>
+    requires scene { IsScene scene.now }
+    ensures shape { IfOk result (λ made. shape made ≡ shape e.now) }
+    ensures closed { IfOk result (λ made. is_closed (bounds_of m.now) made ≡ true) }
+    ensures resolved { (at : FlatInstance) → IsAt (program_of scene.now) (model_tree m.now) spot at → IfOk result (λ made. IsResolvedAt (program_of scene.now) (model_tree m.now) at.place (tree_of e.now) (flat_tree made)) }
+    ensures fault { (at : FlatInstance) → IsAt (program_of scene.now) (model_tree m.now) spot at → IfErr result (IsValueFault (program_of scene.now) at.place inputs (tree_of e.now)) }
+{
+    let needs = Needs::of_scene(alloc, scene)?;
+    resolve_value(alloc, scene, &needs, m, spot, inputs, e)
+}
+
+/// An expression that is judged first.
+fn resolve_value(
+    alloc: Global,
+    scene: &Scene<'_>,
+    needs: &Needs,
+    m: &FlatModel,
+    spot: usize,
+    inputs: bool,
+    e: &Expr<Dotted>,
+) -> Result<Expr<Flat>, FlatFault>
+    requires scene { IsScene scene.now }
+    requires needs { AreNeeds (program_of scene.now) needs.now }
+    ensures shape { IfOk result (λ made. shape made ≡ shape e.now) }
+    ensures closed { IfOk result (λ made. is_closed (bounds_of m.now) made ≡ true) }
+    ensures resolved { (at : FlatInstance) → IsAt (program_of scene.now) (model_tree m.now) spot at → IfOk result (λ made. IsResolvedAt (program_of scene.now) (model_tree m.now) at.place (tree_of e.now) (flat_tree made)) }
+    ensures fault { (at : FlatInstance) → IsAt (program_of scene.now) (model_tree m.now) spot at → IfErr result (IsValueFault (program_of scene.now) at.place inputs (tree_of e.now)) }
+{
+    let judged = judge_value(alloc, scene, needs, spot, e)?;
+    match rule_at(judged, inputs) {
+        Some(rule) => Err(FlatFault { rule, item: 0 }),
+        None => resolve(alloc, scene, needs, source_at(m, spot), e),
+    }
+}
+
+/// The place of an expression that is no part of the program.
+fn source_at(m: &FlatModel, spot: usize) -> Source
+    ensures { result ≡ record { spot = spot; item = 0; bounds = bounds_of m.now } }
+{
+    Source {
+        spot,
         item: 0,
         bounds: all_of(m),
-    };
-    let judged = judge_value(alloc, &scene, &needs, source.spot, e)?;
-    if let Some(rule) = rule_at(judged, inputs) {
-        return Err(FlatFault { rule, item: 0 });
     }
-    resolve(alloc, &scene, &needs, source, e)
 }
 
 /// How many things an expression of a model can name.

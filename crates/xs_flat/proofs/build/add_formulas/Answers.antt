@@ -14,11 +14,11 @@ loop-spot-preserved c =
     let less : c.loop-spot.spot < length (instances_of (program_of s)) = omega (arith, many, within) in
     record {
       told = appended (map told c.add_of_instance.new.list) (map told c.loop-spot.list)
-      (asked_items s n (conditions_asked c.args.asked) c.loop-spot.spot (items_at (program_of s) c.loop-spot.spot))
-      (asked_from s n (conditions_asked c.args.asked) (c.loop-spot.spot + 1) (drop (c.loop-spot.spot + 1) (instances_of (program_of s))))
-      (asked_from s n (conditions_asked c.args.asked) c.loop-spot.spot (drop c.loop-spot.spot (instances_of (program_of s))))
-      (map told c.args.list.now ++ asked_from s n (conditions_asked c.args.asked) 0 (instances_of (program_of s)))
-      (search rules) (spots_step s n (conditions_asked c.args.asked) c.loop-spot.spot less) c.loop-spot.invariant.told;
+          (asked_items s n (conditions_asked c.args.asked) c.loop-spot.spot (items_at (program_of s) c.loop-spot.spot))
+          (asked_from s n (conditions_asked c.args.asked) (c.loop-spot.spot + 1) (drop (c.loop-spot.spot + 1) (instances_of (program_of s))))
+          (asked_from s n (conditions_asked c.args.asked) c.loop-spot.spot (drop c.loop-spot.spot (instances_of (program_of s))))
+          (map told c.args.list.now ++ asked_from s n (conditions_asked c.args.asked) 0 (instances_of (program_of s)))
+          (search rules) (spots_step s n (conditions_asked c.args.asked) c.loop-spot.spot less) c.loop-spot.invariant.told;
       closed = search rules;
     }
 

@@ -7,4 +7,4 @@ use Rattle.xs_flat.proofs.OwnNames.{closed_names_own}
 use Rattle.xs_flat.proofs.flattening.flatten_from.Goals as goal
 
 pub returns-clause-own : goal.returns-clause-own
-returns-clause-own c = IfOk-weaker c.build.result IsClosedModel (λ m. NamesOwn (model_tree m)) closed_names_own c.build.ensures.closed
+returns-clause-own c = IfOk-weaker c.model_of.result IsClosedModel (λ m. NamesOwn (model_tree m)) closed_names_own c.model_of.ensures.closed

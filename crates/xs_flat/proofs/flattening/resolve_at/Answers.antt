@@ -1,9 +1,11 @@
--- What is closed within the bounds that are read off the model is closed within the model's.
-use Rattle.std.proofs.Common.{◌≡◌, true, IfOk, subst}
-use Rattle.xs_flat.specs.declared.bounds.Bounds.{Bounds}
-use Rattle.xs_flat.specs.Closed.{is_closed}
+-- An accepted program has a module `main`.
+use Rattle.std.proofs.Common.{rules, ◌≡◌, None, codes}
+use Rattle.xs_tree.specs.ProgramTree.{program_tree}
+use Rattle.xs_flat.specs.SceneTree.{module_from}
+use Rattle.xs_flat.proofs.FlatFaults.{main_found}
 use Rattle.xs_flat.proofs.flattening.resolve_at.Goals as goal
 
-pub returns-clause-closed : goal.returns-clause-closed
-returns-clause-closed c =
-    subst (λ (b : Bounds). IfOk c.resolve.result (λ made. is_closed b made ≡ true)) c.all_of.ensures c.resolve.ensures.closed
+pub returns-in-None-clause-fault : goal.returns-in-None-clause-fault
+returns-in-None-clause-fault c = λ at is.
+    let none : module_from 0 (program_tree c.args.p.now) (codes "main") ≡ None = search rules in
+    absurd (main_found (program_tree c.args.p.now) is.accepted none)

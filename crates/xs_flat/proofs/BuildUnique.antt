@@ -1,0 +1,45 @@
+-- A program's definitions have one order.
+use Rattle.std.proofs.Common.{◌≡◌, Bool, true, false, List, [], ◌∷◌, ◌++◌, Option, Some, None, refl, sym, ◌∙◌, ap, subst}
+use Rattle.xs_tree.specs.ProgramTree.{Path, Formula, ProgramTree}
+use Rattle.xs_tree.specs.Scope.{Place, Key, Meaning, Means}
+use Rattle.xs_flattening.specs.Resolved.{leaves_in}
+use Rattle.xs_flattening.specs.Rules.{expression_of}
+use Rattle.xs_flattening.specs.Model.{keys_of_meaning, AreNamed, is_key_among, Adds, AddsAll, stands, comes, no_more, one_more}
+use Rattle.xs_flattening.proofs.Resolving.{same_meaning}
+
+-- the definitions that names mean are determined
+named_one : (p : ProgramTree) (at : Place) (names : List Path) (keys keys' : List Key) → AreNamed p at names keys → AreNamed p at names keys' → keys ≡ keys'
+named_one p at [] keys keys' h k = h ∙ sym k
+named_one p at (name ∷ names) keys keys' h k =
+    let same : h.0 ≡ k.0 = same_meaning h.2.0 k.2.0 p at name h.0 k.0 h.2.1 k.2.1 in
+    let rest : h.1 ≡ k.1 = named_one p at names h.1 k.1 h.3 k.3 in
+    h.4 ∙ ap (λ m. keys_of_meaning m ++ h.1) same ∙ ap (λ more. keys_of_meaning k.0 ++ more) rest ∙ sym k.4
+
+abbrev Written : Option (Place × Formula) → Place → Formula → Type 0
+Written None at e = ⊥
+Written (Some w) at e = (w.0 ≡ at) × (w.1 ≡ e)
+
+pub one_written : (p : ProgramTree) (k : Key) (at bt : Place) (e f : Formula) → expression_of p k ≡ Some (at, e) → expression_of p k ≡ Some (bt, f) → (at ≡ bt) × (e ≡ f)
+one_written p k at bt e f g h = subst (λ o. Written o bt f) (sym h ∙ g) (refl, refl)
+
+needs_one : (p : ProgramTree) (k : Key) (at bt : Place) (e f : Formula) (needs needs' : List Key) → expression_of p k ≡ Some (at, e) → expression_of p k ≡ Some (bt, f) →
+    AreNamed p at (leaves_in e) needs → AreNamed p bt (leaves_in f) needs' → needs' ≡ needs
+needs_one p k at bt e f needs needs' g h a b =
+    let same : (at ≡ bt) × (e ≡ f) = one_written p k at bt e f g h in
+    named_one p at (leaves_in e) needs' needs (subst (λ c. AreNamed p c (leaves_in e) needs') (sym same.0) (subst (λ d. AreNamed p bt (leaves_in d) needs') (sym same.1) b)) a
+
+two_ways : (b : Bool) → b ≡ true → b ≡ false → ⊥
+two_ways b h k = let bad : true ≡ false = sym h ∙ k in cc
+
+mutual
+  pub adds_one : {p : ProgramTree} {done a b : List Key} {k : Key} → Adds p done k a → Adds p done k b → a ≡ b
+  adds_one (stands among) (stands among') = refl
+  adds_one {done = done} {k = k} (stands among) (comes fresh is named all) = absurd (two_ways (is_key_among done k) among fresh)
+  adds_one {done = done} {k = k} (comes fresh is named all) (stands among) = absurd (two_ways (is_key_among done k) among fresh)
+  adds_one {p = p} {done = done} {k = k} (comes {after = after} {needs = needs} {at = at} {e = e} fresh is named all) (comes {after = after'} {needs = needs'} {at = bt} {e = f} fresh' is' named' all') =
+      ap (λ xs. xs ++ k ∷ []) (all_one all (subst (λ ks. AddsAll p done ks after') (needs_one p k at bt e f needs needs' is is' named named') all'))
+
+  pub all_one : {p : ProgramTree} {done keys a b : List Key} → AddsAll p done keys a → AddsAll p done keys b → a ≡ b
+  all_one no_more no_more = refl
+  all_one {p = p} {b = b} (one_more {between = between} {more = more} {k = k} one rest) (one_more {between = between'} one' rest') =
+      all_one rest (subst (λ xs. AddsAll p xs more b) (sym (adds_one one one')) rest')

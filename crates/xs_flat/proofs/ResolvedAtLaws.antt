@@ -1,0 +1,198 @@
+-- An expression that breaks no rule is resolved over each reading of the model, and one that breaks some is told the least.
+use Rattle.std.proofs.Common.{◌≡◌, ℕ, suc, ◌<◌, ◌≤◌, Bool, true, false, not, ◌&&◌, List, [], ◌∷◌, length, Option, Some, None, refl, sym, ◌∙◌, ap, subst, arith}
+use Rattle.std.specs.Prelude.{slice_get, map, IfSome, IfOk, IfErr, ◌↔◌}
+use Rattle.std.specs.declared.result.Result.{Result}
+use Rattle.std.specs.declared.result.Result.TheVariants.{Ok, Err}
+use Rattle.std.proofs.lemmas.List.{length-map}
+use Rattle.xs_tree.specs.Tree.{Tree}
+use Rattle.xs_tree.specs.ProgramTree.{Text, Path, Formula, ProgramTree}
+use Rattle.xs_tree.specs.Leaves.{tree_map}
+use Rattle.xs_tree.specs.Scope.{Place, Key}
+use Rattle.xs_tree.specs.Trace.{AtSome}
+use Rattle.xs_flattening.specs.Flat.{FlatLeaf, FlatInstance, FlatVariable, FlatFormula, FlatModel}
+use Rattle.xs_flattening.specs.Resolved.{leaves_in, has_next, Definition, Resolver, IsSound, IsResolved}
+use Rattle.xs_flattening.specs.Items.{Visit, instances_of, variables_of}
+use Rattle.xs_flattening.specs.Rules as rules
+use Rattle.xs_flattening.specs.Rules.{number_of, no_main, main_has_parameters, double_module, double_name, no_such_module, wrong_count, module_loop, no_such_name, not_a_target, double_assign, define_loop, next_here, input_here, too_many, SomeHasNoValue, GivesInput, IsAccepted, expression_of}
+use Rattle.xs_flattening.specs.Model.{EachBoth, symbols_of, IsVariableOf, IsDefinitionOf, IsFlatOf}
+use Rattle.xs_flat.specs.declared.bounds.Bounds.{Bounds}
+use Rattle.xs_flat.specs.declared.fault.Rule.{Rule}
+use Rattle.xs_flat.specs.declared.fault.Rule.TheVariants.{NoSuchName, NextHere, InputHere}
+use Rattle.xs_flat.specs.declared.fault.FlatFault.{FlatFault}
+use Rattle.xs_flat.specs.declared.judge.Judged.{Judged}
+use Rattle.xs_flat.specs.declared.model.FlatModel.{FlatModel as FlatModelOf}
+use Rattle.xs_flat.specs.declared.names.Scene.{Scene}
+use Rattle.xs_flat.specs.declared.needs.Needs.{Needs}
+use Rattle.xs_flat.specs.Faults.{first_of, rule_of, IsWant}
+use Rattle.xs_flat.specs.Closed.{bounds_of}
+use Rattle.xs_flat.specs.ModelTree.{variable_tree, formula_tree, model_tree}
+use Rattle.xs_flat.specs.SceneTree.{program_of, IsScene}
+use Rattle.xs_flat.specs.NeedsTree.{IsKeyAt, IsOrder, AreNeeds}
+use Rattle.xs_flat.specs.Walked.{IsDeclaredBy}
+use Rattle.xs_flat.specs.Judging.{IsJudged}
+use Rattle.xs_flat.specs.ResolverOf.{leaf_at, leaf_by, resolver, AreKnown}
+use Rattle.xs_flat.specs.ResolvedAt.{IsAt, BreaksValue, IsLeastBroken, IsValueFault, IsResolvedAt}
+use Rattle.xs_flat.proofs.BuildLeaves.{order, bounds_with, value_known}
+use Rattle.xs_flat.proofs.BuildLoops.{both_many}
+use Rattle.xs_flat.proofs.SceneItems.{both_more}
+use Rattle.xs_flat.proofs.BuildSound.{definition_of, written_with, definitions, sound, resolver_at}
+use Rattle.xs_flat.proofs.BuildUnique.{all_one}
+
+-- a definition is what its key stands for
+one_definition : (p : ProgramTree) (d : Definition) → expression_of p d.key ≡ Some (d.place, d.written) → definition_of p d.key ≡ d
+one_definition p d e = ap (written_with d.key) e
+
+all_definitions : (p : ProgramTree) (m : FlatModel) (ds : List Definition) (fs : List FlatFormula) → EachBoth (IsDefinitionOf p m) ds fs → map (definition_of p) (map (λ (d : Definition). d.key) ds) ≡ ds
+all_definitions p m [] [] h = refl
+all_definitions p m [] (f ∷ fs) h = absurd h
+all_definitions p m (d ∷ ds) [] h = absurd h
+all_definitions p m (d ∷ ds) (f ∷ fs) h =
+    let one : definition_of p d.key ≡ d = one_definition p d h.0.expression in
+    let rest : map (definition_of p) (map (λ (d : Definition). d.key) ds) ≡ ds = all_definitions p m ds fs h.1 in
+    ap (λ x. x ∷ map (definition_of p) (map (λ (d : Definition). d.key) ds)) one ∙ ap (λ xs. d ∷ xs) rest
+
+abbrev bounds_made : ℕ → ℕ → ℕ → Bounds
+bounds_made v t d = record { variables = v; symbols = t; definitions = d }
+
+module _ (s : Scene) (n : Needs) (is : IsScene s) (needs : AreNeeds (program_of s) n) (accepted : IsAccepted (program_of s)) where
+  -- each reading of the model has the definitions of the scene
+  written_is : (m : FlatModel) (flat : IsFlatOf (program_of s) m) → flat.written ≡ definitions s n is needs accepted
+  written_is m flat =
+      sym (all_definitions (program_of s) m flat.written m.definitions flat.placed) ∙ ap (map (definition_of (program_of s))) (all_one flat.order (order s n is needs accepted).adds)
+
+  declared : (m : FlatModel) (flat : IsFlatOf (program_of s) m) → EachBoth (IsDeclaredBy (program_of s)) (variables_of (program_of s)) m.variables
+  declared m flat = both_more (IsVariableOf m) (IsDeclaredBy (program_of s)) (variables_of (program_of s)) m.variables of_variable flat.variables
+    where
+      of_variable : (v : Visit) (x : FlatVariable) → IsVariableOf m v x → IsDeclaredBy (program_of s) v x
+      of_variable v x h = record {
+        place = h.place;
+        name = h.name;
+        role = h.role;
+        declared = h.declared;
+        item = h.item;
+        at = h.number.0;
+        is = ap (λ xs. slice_get xs x.number) (sym flat.instances) ∙ h.number.1;
+        at_place = h.number.2;
+      }
+
+  pub there : (m : FlatModel) (spot : ℕ) (at : FlatInstance) → IsAt (program_of s) m spot at → slice_get (instances_of (program_of s)) spot ≡ Some at
+  there m spot at a = ap (λ xs. slice_get xs spot) (sym a.flat.instances) ∙ a.is_at
+
+  pub resolved_at : (m : FlatModel) (spot : ℕ) (at : FlatInstance) → IsAt (program_of s) m spot at → (e : Formula) (t : Tree FlatLeaf) → tree_map Some t ≡ tree_map (leaf_at s n spot) e →
+      IsResolvedAt (program_of s) m at.place e t
+  resolved_at m spot at a e t h flat = (
+    resolver s n,
+    subst (λ ds. IsSound (program_of s) m ds (resolver s n)) (sym (written_is m flat)) (sound s n is needs accepted m (declared m flat) flat.symbols),
+    h ∙ sym (ap (λ o. tree_map (leaf_by s n o) e) (resolver_at s n is needs accepted spot at (there m spot at a))),
+  )
+
+  pub known_at : (m : FlatModelOf) (spot : ℕ) (at : FlatInstance) → IsAt (program_of s) (model_tree m) spot at → (e : Formula) → (SomeHasNoValue (program_of s) at.place e → ⊥) →
+      AreKnown (leaf_at s n spot) (bounds_of m) e
+  known_at m spot at a e value = subst (λ b. AreKnown (leaf_at s n spot) b e) same (value_known s n is needs accepted spot at e (there (model_tree m) spot at a) value)
+    where
+      variables : length (variables_of (program_of s)) ≡ length m.variables
+      variables = both_many (IsVariableOf (model_tree m)) (variables_of (program_of s)) (map variable_tree m.variables) a.flat.variables ∙ length-map m.variables variable_tree
+
+      symbols : length (symbols_of (program_of s)) ≡ length m.symbols
+      symbols = ap (λ (xs : List Text). length xs) (sym a.flat.symbols)
+
+      many : length n.order.items ≡ length m.definitions
+      many =
+          both_many (IsKeyAt (program_of s)) n.order.items (order s n is needs accepted).ordered (order s n is needs accepted).each
+          ∙ sym (length-map (order s n is needs accepted).ordered (definition_of (program_of s))) ∙ ap (λ (ds : List Definition). length ds) (sym (written_is (model_tree m) a.flat))
+          ∙ both_many (IsDefinitionOf (program_of s) (model_tree m)) a.flat.written (map formula_tree m.definitions) a.flat.placed ∙ length-map m.definitions formula_tree
+
+      same : bounds_with (program_of s) (length n.order.items) ≡ bounds_made (length m.variables) (length m.symbols) (length m.definitions)
+      same = cc (variables, symbols, many)
+
+-- The least rule.
+module _ (p : ProgramTree) (at : Place) (inputs : Bool) (e : Formula) where
+  nothing_before : (bound : ℕ) → bound ≤ 8 → (other : rules.Rule) → number_of other < bound → BreaksValue p at inputs e other → ⊥
+  nothing_before bound few no_main less b = b
+  nothing_before bound few main_has_parameters less b = b
+  nothing_before bound few double_module less b = b
+  nothing_before bound few double_name less b = b
+  nothing_before bound few no_such_module less b = b
+  nothing_before bound few wrong_count less b = b
+  nothing_before bound few module_loop less b = b
+  nothing_before bound few no_such_name less b = omega (arith, few, less)
+  nothing_before bound few not_a_target less b = b
+  nothing_before bound few double_assign less b = b
+  nothing_before bound few define_loop less b = b
+  nothing_before bound few next_here less b = omega (arith, few, less)
+  nothing_before bound few input_here less b = omega (arith, few, less)
+  nothing_before bound few too_many less b = b
+
+  before_next : (SomeHasNoValue p at e → ⊥) → (other : rules.Rule) → number_of other < 12 → BreaksValue p at inputs e other → ⊥
+  before_next value no_main less b = b
+  before_next value main_has_parameters less b = b
+  before_next value double_module less b = b
+  before_next value double_name less b = b
+  before_next value no_such_module less b = b
+  before_next value wrong_count less b = b
+  before_next value module_loop less b = b
+  before_next value no_such_name less b = value b
+  before_next value not_a_target less b = b
+  before_next value double_assign less b = b
+  before_next value define_loop less b = b
+  before_next value next_here less b = omega (arith, less)
+  before_next value input_here less b = omega (arith, less)
+  before_next value too_many less b = b
+
+  before_input : (SomeHasNoValue p at e → ⊥) → has_next e ≡ false → (other : rules.Rule) → number_of other < 13 → BreaksValue p at inputs e other → ⊥
+  before_input value now no_main less b = b
+  before_input value now main_has_parameters less b = b
+  before_input value now double_module less b = b
+  before_input value now double_name less b = b
+  before_input value now no_such_module less b = b
+  before_input value now wrong_count less b = b
+  before_input value now module_loop less b = b
+  before_input value now no_such_name less b = value b
+  before_input value now not_a_target less b = b
+  before_input value now double_assign less b = b
+  before_input value now define_loop less b = b
+  before_input value now next_here less b = let bad : true ≡ false = sym b ∙ now in cc
+  before_input value now input_here less b = omega (arith, less)
+  before_input value now too_many less b = b
+
+  no_value : (j : Judged) → IsJudged p at e j → j.no_value ≡ false → SomeHasNoValue p at e → ⊥
+  no_value j is f bad = let both : true ≡ false = sym (is.no_value.1 bad) ∙ f in cc
+
+  both_parts : (a b : Bool) → (a && not b) ≡ true → (a ≡ true) × (b ≡ false)
+  both_parts true false h = (refl, refl)
+  both_parts true true h = cc
+  both_parts false true h = cc
+  both_parts false false h = cc
+
+  value_fault_of : (rule told : Rule) → Some told ≡ Some rule → IfSome (rule_of told) (IsLeastBroken p at inputs e) → IfSome (rule_of rule) (λ r. (◌≡◌ {A = ℕ} 0 0) × IsLeastBroken p at inputs e r)
+  value_fault_of rule told same h = let one : told ≡ rule = cc in subst (λ r. IfSome (rule_of r) (λ r. (◌≡◌ {A = ℕ} 0 0) × IsLeastBroken p at inputs e r)) one (with_item (rule_of told) h)
+    where
+      with_item : (o : Option rules.Rule) → IfSome o (IsLeastBroken p at inputs e) → IfSome o (λ r. (◌≡◌ {A = ℕ} 0 0) × IsLeastBroken p at inputs e r)
+      with_item None h = tt
+      with_item (Some r) h = (refl, h)
+
+  pub least_told : (j : Judged) → IsJudged p at e j → (rule : Rule) → first_of ((j.no_value, NoSuchName) ∷ (j.next, NextHere) ∷ (j.input && not inputs, InputHere) ∷ []) ≡ Some rule →
+      IsValueFault p at inputs e (record { rule = rule; item = 0 })
+  least_told j is rule h = by_flags j.no_value j.next (j.input && not inputs) refl refl refl h
+    where
+      by_flags : (a b c : Bool) → j.no_value ≡ a → j.next ≡ b → (j.input && not inputs) ≡ c → first_of ((a, NoSuchName) ∷ (b, NextHere) ∷ (c, InputHere) ∷ []) ≡ Some rule →
+          IfSome (rule_of rule) (λ r. (◌≡◌ {A = ℕ} 0 0) × IsLeastBroken p at inputs e r)
+      by_flags true b c ea eb ec t = value_fault_of rule NoSuchName t (record { broken = is.no_value.0 ea; lowest = nothing_before 8 (omega arith) })
+      by_flags false true c ea eb ec t = value_fault_of rule NextHere t (record { broken = sym is.next ∙ eb; lowest = before_next (no_value j is ea) })
+      by_flags false false true ea eb ec t =
+          let parts : (j.input ≡ true) × (inputs ≡ false) = both_parts j.input inputs ec in
+          value_fault_of rule InputHere t (record { broken = (parts.1, is.input.0 parts.0); lowest = before_input (no_value j is ea) (sym is.next ∙ eb) })
+      by_flags false false false ea eb ec t = cc
+
+  pub none_told : (j : Judged) → IsJudged p at e j → first_of ((j.no_value, NoSuchName) ∷ (j.next, NextHere) ∷ (j.input && not inputs, InputHere) ∷ []) ≡ None → SomeHasNoValue p at e → ⊥
+  none_told j is h = by_flag j.no_value refl h
+    where
+      by_flag : (a : Bool) → j.no_value ≡ a → first_of ((a, NoSuchName) ∷ (j.next, NextHere) ∷ (j.input && not inputs, InputHere) ∷ []) ≡ None → SomeHasNoValue p at e → ⊥
+      by_flag true ea t = cc
+      by_flag false ea t = no_value j is ea
+
+  pub want_value : (f : FlatFault) → IsWant f → IsValueFault p at inputs e f
+  want_value f want = subst (λ r. IfSome (rule_of r) (λ r. (f.item ≡ 0) × IsLeastBroken p at inputs e r)) (sym want) tt
+
+  pub no_rule_value : (f : FlatFault) → rule_of f.rule ≡ None → IsValueFault p at inputs e f
+  no_rule_value f none = subst (λ o. IfSome o (λ r. (f.item ≡ 0) × IsLeastBroken p at inputs e r)) (sym none) tt

@@ -1,0 +1,25 @@
+-- The tables are the program's, and of an accepted one they only want memory.
+use Rattle.std.proofs.Common.{rules, ◌≡◌, None, IfErr, IfOk, subst}
+use Rattle.xs_tree.specs.ProgramTree.{ProgramTree, program_tree}
+use Rattle.xs_tree.specs.Written.{tree_of}
+use Rattle.xs_flattening.specs.Flat.{FlatInstance}
+use Rattle.xs_flat.specs.Faults.{rule_of, IsFaultOf}
+use Rattle.xs_flat.specs.ModelTree.{model_tree, flat_tree}
+use Rattle.xs_flat.specs.SceneTree.{program_of}
+use Rattle.xs_flat.specs.ResolvedAt.{IsAt, IsResolvedAt, IsValueFault}
+use Rattle.xs_flat.proofs.FlatFaults.{no_rule}
+use Rattle.xs_flat.proofs.ResolvedAtLaws.{no_rule_value}
+use Rattle.xs_flat.proofs.flattening.resolve_from.Goals as goal
+
+pub returns-in_err-scene-clause-fault : goal.returns-in_err-scene-clause-fault
+returns-in_err-scene-clause-fault c = λ at is.
+    let fault : IsFaultOf (program_tree c.args.p.now) c.in_err-scene.field-0.0 = search rules in
+    let value : IsValueFault (program_tree c.args.p.now) at.place c.args.inputs (tree_of c.args.e.now) c.in_err-scene.field-0.0 =
+    no_rule_value (program_tree c.args.p.now) at.place c.args.inputs (tree_of c.args.e.now) c.in_err-scene.field-0.0 (no_rule (program_tree c.args.p.now) c.in_err-scene.field-0.0 is.accepted fault) in
+    search rules
+
+pub returns-clause-resolved : goal.returns-clause-resolved
+returns-clause-resolved c = λ at is.
+    let same : program_of c.in_ok-scene.scene ≡ program_tree c.args.p.now = search rules in
+    subst (λ (q : ProgramTree). (at : FlatInstance) → IsAt q (model_tree c.args.m.now) c.args.spot at → IfOk c.resolve_in.result (λ made. IsResolvedAt q (model_tree c.args.m.now) at.place (tree_of c.args.e.now) (flat_tree made)))
+    same c.resolve_in.ensures.resolved at is
