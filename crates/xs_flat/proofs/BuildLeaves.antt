@@ -24,11 +24,7 @@ use Rattle.xs_flat.specs.declared.names.Defined.{Defined}
 use Rattle.xs_flat.specs.declared.names.Scene.{Scene}
 use Rattle.xs_flat.specs.declared.needs.Needs.{Needs}
 use Rattle.xs_flat.specs.SceneTree.{Denotes, IsFound, IsDefined, program_of, IsScene}
-<<<<<<< HEAD
-use Rattle.xs_flat.specs.NeedsTree.{keys_of, IsKeyAt, HasCircle, IsOrder, AreNeeds, IsMeant, AreMeant}
-=======
 use Rattle.xs_flat.specs.NeedsTree.{keys_of, IsKeyAt, HasCircle, IsMeant, AreMeant, IsOrder, AreNeeds}
->>>>>>> 468a1f9b5d61f831e27c5d37702664e2af7a12f4
 use Rattle.xs_flat.specs.FoundAt.{found_at}
 use Rattle.xs_flat.specs.ResolverOf.{leaf_placed, leaf_found, leaf_at, is_leaf_within, TreeAll, TreesAll, BranchesAll, AreKnown}
 use Rattle.xs_flat.proofs.SceneFound.{scene_found}
@@ -213,12 +209,9 @@ are_meant p accepted k key at e is_key is_written =
     (λ name h. record { something = λ m. h (nothing m); no_loop = λ l. no_come_back p accepted l.1 l.2 l.5 }) (each_not (HasNoValue p at) (leaves_in e) named)
 
 module _ (s : Scene) (n : Needs) (is : IsScene s) (needs : AreNeeds (program_of s) n) (accepted : IsAccepted (program_of s)) where
-<<<<<<< HEAD
-=======
   pub order : IsOrder (program_of s) n.order.items n.places.items
   order = needs.order (no_circles (program_of s) (roots_of (program_of s)) n.on_circle.items needs.circles (good_roots (program_of s) accepted)) (are_meant (program_of s) accepted)
 
->>>>>>> 468a1f9b5d61f831e27c5d37702664e2af7a12f4
   -- the keys of definitions
   abbrev pub RootKey : Key → Type 0
   RootKey k = (i : ℕ) × (slice_get (keys_of (program_of s)) i ≡ Some k)
@@ -231,39 +224,6 @@ module _ (s : Scene) (n : Needs) (is : IsScene s) (needs : AreNeeds (program_of 
       let r : (r : Root) × (slice_get (roots_of (program_of s)) at.0 ≡ Some r) × (r.key ≡ k) = root_of_key k at.0 at.1 in
       (each_at (IsGoodRoot (program_of s)) (roots_of (program_of s)) at.0 r.0 (good_roots (program_of s) accepted) r.1).free (subst (NeedsItself (program_of s)) (sym r.2) itself)
 
-<<<<<<< HEAD
-  abbrev Written : Option (Place × Formula) → Place → Formula → Type 0
-  Written None at e = ⊥
-  Written (Some w) at e = (w.0 ≡ at) × (w.1 ≡ e)
-
-  one_written : (k : Key) (at bt : Place) (e f : Formula) → expression_of (program_of s) k ≡ Some (at, e) → expression_of (program_of s) k ≡ Some (bt, f) → (at ≡ bt) × (e ≡ f)
-  one_written k at bt e f g h = subst (λ o. Written o bt f) (sym h ∙ g) (refl, refl)
-
-  are_meant : AreMeant (program_of s)
-  are_meant k key at e is_k written =
-      each_from (IsMeant (program_of s) at) (leaves_in e)
-      (λ i name is_name. record {
-        something = λ none. named (some_at (HasNoValue (program_of s) at) (leaves_in e) i name is_name (nothing none));
-        no_loop = λ loop. no_come_back (program_of s) accepted loop.1 loop.2 loop.5;
-      })
-    where
-      r : (r : Root) × (slice_get (roots_of (program_of s)) k ≡ Some r) × (r.key ≡ key)
-      r = root_of_key key k is_k
-
-      good : IsGoodRoot (program_of s) r.0
-      good = each_at (IsGoodRoot (program_of s)) (roots_of (program_of s)) k r.0 (good_roots (program_of s) accepted) r.1
-
-      same : (good.at ≡ at) × (good.written ≡ e)
-      same = one_written r.0.key good.at at good.written e good.is (ap (expression_of (program_of s)) r.2 ∙ written)
-
-      named : SomeHasNoValue (program_of s) at e → ⊥
-      named bad = good.named (subst (λ a. SomeHasNoValue (program_of s) a good.written) (sym same.0) (subst (SomeHasNoValue (program_of s) at) (sym same.1) bad))
-
-  pub order : IsOrder (program_of s) n.order.items n.places.items
-  order = needs.order (no_circles (program_of s) (roots_of (program_of s)) n.on_circle.items needs.circles (good_roots (program_of s) accepted)) are_meant
-
-=======
->>>>>>> 468a1f9b5d61f831e27c5d37702664e2af7a12f4
   -- what a definition needs is a definition
   root_needs : (k other : Key) → RootKey k → NeedsOf (program_of s) k other → RootKey other
   root_needs k other at need = from_found
