@@ -23,3 +23,5 @@ pub mod LookAfter
 pub mod Frames
 pub mod Closing
 pub mod Stacks
+pub mod Turns
+pub mod SceneSymbols

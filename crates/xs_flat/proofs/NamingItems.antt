@@ -248,7 +248,7 @@ take_there [] k x h = never x h
 take_there (y ∷ xs) zero x h = ap (λ z. z ∷ []) (of_some y x h)
 take_there (y ∷ xs) (suc k) x h = ap (λ zs. y ∷ zs) (take_there xs k x h)
 
-get_within : {A : Type 0} (xs : List A) (k : ℕ) → k < length xs → (x : A) × (slice_get xs k ≡ Some x)
+pub get_within : {A : Type 0} (xs : List A) (k : ℕ) → k < length xs → (x : A) × (slice_get xs k ≡ Some x)
 get_within [] k h = absurd (omega (arith, h))
 get_within (y ∷ xs) zero h = (y, refl)
 get_within (y ∷ xs) (suc k) h = get_within xs k (omega (arith, h))
