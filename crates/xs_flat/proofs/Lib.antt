@@ -25,3 +25,4 @@ pub mod Closing
 pub mod Stacks
 pub mod Turns
 pub mod SceneSymbols
+pub mod Starting

@@ -67,9 +67,9 @@ impl<'a> Scene<'a> {
         modules: Modules<'a>,
         spots: Vec<Spot<'a>>,
     ) -> Result<Scene<'a>, OutOfMemory>
-        requires modules { AreModules modules.entry }
-        requires walkable { IsWalkable (program_tree modules.entry.program.now) }
-        requires spots { EachBoth (IsSpotWalked (program_tree modules.entry.program.now)) (instances_of (program_tree modules.entry.program.now)) spots.items }
+        requires modules { AreModules modules }
+        requires walkable { IsWalkable (program_tree modules.program.now) }
+        requires spots { EachBoth (IsSpotWalked (program_tree modules.program.now)) (instances_of (program_tree modules.program.now)) spots.items }
         ensures scene { IfOk result IsScene }
         ensures program { IfOk result (λ scene. scene.modules.program.now ≡ modules.entry.program.now) }
     {

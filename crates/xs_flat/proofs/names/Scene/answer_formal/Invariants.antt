@@ -3,8 +3,8 @@ use Rattle.xs_flat.specs.Known.{IsSameButFormals}
 use Rattle.xs_flat.specs.Waiting.{IsWaiting}
 use Rattle.xs_flat.proofs.names.Scene.answer_formal.Given as goal
 
-abbrev pub invariant-loop-_turn : goal.invariant-loop-_turn
-invariant-loop-_turn l = record {
+abbrev pub invariant-loop-turn : goal.invariant-loop-turn
+invariant-loop-turn l = record {
   same : IsSameButFormals l.fn.self l.self;
   waiting : IsWaiting l.self l.waiting.items;
 }
