@@ -170,8 +170,7 @@ module _ (s : Scene) (ready : IsReady s) (spot : ℕ) (at : FlatInstance) (st : 
       by_open : (j : ℕ) (b : Bool) → is_open (formal_at s spot j) ≡ b → formal_from 0 st.tree.formals x ≡ Some j → (if b then part.Waits j else part.Known (told (formal_at s spot j))) ≡ part.Waits i →
           IsHead (program_of s) spot i at.place x × IsOpen (formal_of (rows s) spot i)
       by_open j true o formal h =
-          let same : j ≡ i = same_wait j h in
-          (
+          let same : j ≡ i = same_wait j h in (
             head_of i e (formal ∙ ap Some same),
             subst (λ n. IsOpen (formal_of (rows s) spot n)) same (subst IsOpen (formal_by_rows s spot j) (open_is (formal_at s spot j) o)),
           )

@@ -78,3 +78,6 @@ pub mod Closing
 pub mod Stacks
 pub mod BuildUnique
 pub mod ResolvedAtLaws
+pub mod Turns
+pub mod SceneSymbols
+pub mod Starting

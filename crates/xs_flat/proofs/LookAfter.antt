@@ -23,11 +23,14 @@ abbrev MeetsAt : ProgramTree → Place → Path → ℕ → Type 0
 MeetsAt p at name n = (at' : Place) × (x : Text) × (rest : Path) × (look_after n p at name ≡ Some (look_at at' (x ∷ rest))) × ComesBack p at' x
 
 around : (p : ProgramTree) (at : Place) (name : Path) (n : ℕ) → (m : MeetsAt p at name n) → MeetsAt p at name (suc m.4.0 + n)
-around p at name n m =
-    (m.0, m.1, m.4.1 ++ m.2,
-    steps_more (suc m.4.0) n p at name (look_at m.0 (m.1 ∷ m.2)) m.3
-    ∙ after_longer (suc m.4.0) m.2 p m.0 (m.1 ∷ []) (look_at m.0 (m.1 ∷ m.4.1)) m.4.2,
-    m.4)
+around p at name n m = (
+  m.0,
+  m.1,
+  m.4.1 ++ m.2,
+  steps_more (suc m.4.0) n p at name (look_at m.0 (m.1 ∷ m.2)) m.3
+      ∙ after_longer (suc m.4.0) m.2 p m.0 (m.1 ∷ []) (look_at m.0 (m.1 ∷ m.4.1)) m.4.2,
+  m.4,
+)
 
 later : (fuel : ℕ) (p : ProgramTree) (at : Place) (name : Path) (d n : ℕ) → d ≤ fuel + n → MeetsAt p at name n → (k : ℕ) × MeetsAt p at name (k + d)
 later zero p at name d n le m =

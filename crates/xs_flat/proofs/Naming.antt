@@ -141,9 +141,11 @@ module _ (old mid new : Scene) (spot item inner formal made : ℕ) (value : Bor 
   told_here at inside rest a n x head =
       let kind : kind_at (module_at (program_of old) (a.own ∷ at.place)) x ≡ a_formal formal =
       ap (λ q. kind_at (module_at (program_of old) q) x) (sym a.below) ∙ head_kind (program_of old) n.laid.walkable inner formal inside.place x head in
-      let means : Means (program_of old) inside.place (x ∷ []) (an_expression_at (actual_key inside.place formal) at.place e) =
-      (1, subst (λ q. means_in 1 (program_of old) q (x ∷ []) ≡ Some (an_expression_at (actual_key q formal) at.place e)) (sym a.below)
-      (actual_means (program_of old) a.own at.place formal x e kind a.actual none)) in
+      let means : Means (program_of old) inside.place (x ∷ []) (an_expression_at (actual_key inside.place formal) at.place e) = (
+        1,
+        subst (λ q. means_in 1 (program_of old) q (x ∷ []) ≡ Some (an_expression_at (actual_key q formal) at.place e)) (sym a.below)
+            (actual_means (program_of old) a.own at.place formal x e kind a.actual none),
+      ) in
       let ends : step_of (program_of old) inside.place (x ∷ []) ≡ None =
       subst (λ q. step_of (program_of old) q (x ∷ []) ≡ None) (sym a.below) (actual_ends (program_of old) a.own at.place formal x e kind a.actual none) in (
         (

@@ -248,7 +248,7 @@ take_there [] k x h = never x h
 take_there (y ∷ xs) zero x h = ap (λ z. z ∷ []) (of_some y x h)
 take_there (y ∷ xs) (suc k) x h = ap (λ zs. y ∷ zs) (take_there xs k x h)
 
-get_within : {A : Type 0} (xs : List A) (k : ℕ) → k < length xs → (x : A) × (slice_get xs k ≡ Some x)
+pub get_within : {A : Type 0} (xs : List A) (k : ℕ) → k < length xs → (x : A) × (slice_get xs k ≡ Some x)
 get_within [] k h = absurd (omega (arith, h))
 get_within (y ∷ xs) zero h = (y, refl)
 get_within (y ∷ xs) (suc k) h = get_within xs k (omega (arith, h))
@@ -278,8 +278,7 @@ one_item old mid new spot k own walked meaning same is within so_far one = λ at
       meaning = subst (λ q. IsWalked q at.place y.0.item walked) (sym same_p) (subst (IsWalked p at.place y.0.item) same_f y.2);
     } in
     let r : IsNaming new (roots_at at (drop (suc k) items) ++ rest) × IsOwn (program_of mid) at.place y.0 meaning = one at y.0 (roots_at at (drop (suc k) items) ++ rest) ia here in
-    subst (λ j. IsNaming new (roots_at at (drop j items) ++ rest) × EachBoth (IsOwn p at.place) (take j items) (own ++ meaning ∷ [])) next
-    (
+    subst (λ j. IsNaming new (roots_at at (drop j items) ++ rest) × EachBoth (IsOwn p at.place) (take j items) (own ++ meaning ∷ [])) next (
       r.0,
       subst (λ xs. EachBoth (IsOwn p at.place) xs (own ++ meaning ∷ [])) (sym (take_there items k y.0 y.1))
           (both_push (IsOwn p at.place) (take k items) own y.0 meaning s.1 (subst (λ q. IsOwn q at.place y.0 meaning) same_p r.1)),

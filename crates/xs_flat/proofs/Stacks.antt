@@ -150,11 +150,13 @@ module _ (p : ProgramTree) (rs : List (List Formal)) where
 
   reach_more : (h k l : Head) → Reaches h k → Reaches k l → Reaches h l
   reach_more h k l a b =
-      let count : suc (b.0 + suc a.0) ≡ suc b.0 + suc a.0 = omega arith in
-      (b.0 + suc a.0, b.1 ++ a.1,
-      ap (λ n. look_after n p h.0 (h.1 ∷ [])) count
-      ∙ steps_more (suc b.0) (suc a.0) p h.0 (h.1 ∷ []) (look_at k a.1) a.2
-      ∙ after_longer (suc b.0) a.1 p k.0 (k.1 ∷ []) (look_at l b.1) b.2)
+      let count : suc (b.0 + suc a.0) ≡ suc b.0 + suc a.0 = omega arith in (
+        b.0 + suc a.0,
+        b.1 ++ a.1,
+        ap (λ n. look_after n p h.0 (h.1 ∷ [])) count
+            ∙ steps_more (suc b.0) (suc a.0) p h.0 (h.1 ∷ []) (look_at k a.1) a.2
+            ∙ after_longer (suc b.0) a.1 p k.0 (k.1 ∷ []) (look_at l b.1) b.2,
+      )
 
   link_reaches : (h k : Head) → Link p rs h k → Reaches h k
   link_reaches h k l = (l.steps, l.rest, l.after)

@@ -153,7 +153,12 @@ impl<'a> Scene<'a> {
 
     /// Numbers the define of an item, or the actuals that are not plain names; the answer is what the item
     /// means.
-    fn define_item(&mut self, spot: usize, place: usize, walked: Meaning) -> Result<Meaning, OutOfMemory>
+    fn define_item(
+        &mut self,
+        spot: usize,
+        place: usize,
+        walked: Meaning,
+    ) -> Result<Meaning, OutOfMemory>
         ensures same { IsSameProgram self.old self.new }
         ensures named { IfOk result (NamesItem self.old self.new spot place walked) }
     {
@@ -174,7 +179,13 @@ impl<'a> Scene<'a> {
     }
 
     /// Numbers the actuals of a declared instance.
-    fn add_declared(&mut self, spot: usize, item: u32, decl: &'a Decl, walked: Meaning) -> Result<(), OutOfMemory>
+    fn add_declared(
+        &mut self,
+        spot: usize,
+        item: u32,
+        decl: &'a Decl,
+        walked: Meaning,
+    ) -> Result<(), OutOfMemory>
         ensures same { IsSameProgram self.old self.new }
         ensures named { OnOk result (NamesDeclared self.old self.new spot item (decl_tree decl.now) walked) }
     {
@@ -227,7 +238,12 @@ impl<'a> Scene<'a> {
     }
 
     /// Adds a definition; the answer is its number.
-    fn push_definition(&mut self, spot: usize, item: u32, value: &'a Expr<Dotted>) -> Result<usize, OutOfMemory>
+    fn push_definition(
+        &mut self,
+        spot: usize,
+        item: u32,
+        value: &'a Expr<Dotted>,
+    ) -> Result<usize, OutOfMemory>
         ensures same { IsSameProgram self.old self.new }
         ensures rows { rows self.new ≡ rows self.old }
         ensures number { IfOk result (λ made. made ≡ length self.old.definitions.items) }

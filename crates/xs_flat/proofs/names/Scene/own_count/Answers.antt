@@ -2,7 +2,6 @@
 use Rattle.std.proofs.Common.{◌≤◌, length, ap, sym, rules}
 use Rattle.xs_flat.specs.Steps.{count_in}
 use Rattle.xs_flat.proofs.RowLaws.{get_past}
-use Rattle.xs_flat.proofs.Stacks.{circle_told}
 use Rattle.xs_flat.proofs.names.Scene.own_count.Goals as goal
 
 pub returns-in-None : goal.returns-in-None

@@ -4,9 +4,6 @@ use Rattle.std.proofs.Common.{◌≡◌, ℕ, List, ap, ◌∙◌, Bor}
 use Rattle.std.specs.Prelude.{nat_eq, position}
 use Rattle.xs_flat.specs.FoundAt.{symbol_or}
 use Rattle.xs_flat.proofs.Tables.{placed}
-use Rattle.xs_flat.proofs.LookFound.{found_parts}
-use Rattle.xs_flat.proofs.NameKinds.{locals_told}
-use Rattle.xs_flat.proofs.SymbolKinds.{symbols_among}
 use Rattle.xs_flat.proofs.names.Scene.symbol.Goals as goal
 
 pub returns-in-Some : goal.returns-in-Some
