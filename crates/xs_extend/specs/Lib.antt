@@ -1,3 +1,4 @@
 pub mod WovenFaults
 pub mod Refused
 pub mod JudgedLaws
+pub mod InstanceLaws

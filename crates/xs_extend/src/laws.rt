@@ -1,5 +1,6 @@
 //! What the rules on guards and on what is followed are for.
 
+ghost use Rattle.xs_extend.specs.InstanceLaws.{InstancesAreListed};
 ghost use Rattle.xs_extend.specs.JudgedLaws.{GoodModesAreJudged, TypesAreUniform};
 
 /// A mode whose expressions break no rule at an instance of a program that breaks none is such as the weave
@@ -11,4 +12,9 @@ pub fn good_modes_are_judged()
 /// In a program that breaks no rule, the members of a variable's type are all numbers or all symbols.
 pub fn types_are_uniform()
     ensures { TypesAreUniform }
+{}
+
+/// Where a flat model has the instances that flattening gives, they are the program's in depth-first order.
+pub fn instances_are_listed()
+    ensures { InstancesAreListed }
 {}
