@@ -1,3 +1,4 @@
 mod FaultLaws
 mod JudgedModes
 mod InstanceLaws
+mod NumberLaws

@@ -1,6 +1,6 @@
 -- The instances of a flat model are those of the program in depth-first order.
 use Rattle.std.specs.Prelude.{◌≡◌, List, map}
-use Rattle.xs_tree.specs.ProgramTree.{DeclaredTree, boolean, range, members, instance, DeclTree, SectionTree, var, ivar, frozen, define, constants, assign, init, invar, trans, ModuleTree, ProgramTree}
+use Rattle.xs_tree.specs.ProgramTree.{DeclaredTree, boolean, range, members, instance, DeclTree, SectionTree, var, ivar, frozen, define, constants, assign, init, invar, trans, ProgramTree}
 use Rattle.xs_tree.specs.Trace.{Each}
 use Rattle.xs_flat.specs.declared.model.Instance.{Instance}
 use Rattle.xs_flattening.specs.Flat.{FlatInstance}

@@ -2,3 +2,4 @@ pub mod WovenFaults
 pub mod Refused
 pub mod JudgedLaws
 pub mod InstanceLaws
+pub mod NumberedFaults
