@@ -1,12 +1,16 @@
 -- What is left of a list of faults, one extension on.
-use Rattle.std.proofs.Common.{◌≡◌, ℕ, ◌+◌, ◌<◌, Bool, true, false, List, [], ◌∷◌, ◌++◌, length, get_or, drop, map, append_assoc, append-nil, refl, ◌∙◌, ap}
+use Rattle.std.proofs.Common.{◌≡◌, ℕ, ◌+◌, ◌<◌, Bool, true, false, List, [], ◌∷◌, ◌++◌, length, get_or, drop, map, append_assoc, append-nil, refl, sym, ◌∙◌, ap}
 use Rattle.std.specs.Prelude.{flat_map, if◌then◌else◌}
 use Rattle.std.proofs.lemmas.List.{drop_more}
 use Rattle.std.proofs.lemmas.Grind.{flat_map-append}
-use Rattle.xs_tree.specs.ProgramTree.{Text}
+use Rattle.xs_tree.specs.ProgramTree.{Text, ProgramTree}
+use Rattle.xs_tree.specs.Trace.{Each}
+use Rattle.xs_flat.specs.declared.model.Instance.{Instance}
+use Rattle.xs_weave.specs.Faults.{Fault, slice_faults, module_slices, slices_at, place_faults, HasFaults}
+use Rattle.xs_extend.specs.WovenFaults.{place_of, faults_at, IsOfModule, places_of, AreInstancesOf}
 use Rattle.xs_tree.specs.Texts.{same_text}
 use Rattle.xs_fei.specs.declared.instructions.Extension.{Extension}
-use Rattle.xs_fei.specs.Instructions.{SliceTree, ExtensionTree, extension_tree, slices_from}
+use Rattle.xs_fei.specs.Instructions.{SliceTree, ExtensionTree, InstructionTree, extension_tree, slices_from, slices_of}
 use Rattle.xs_weave.specs.Woven.{own_slices}
 
 own_first : (x : ExtensionTree) (xs : List ExtensionTree) (m : Text) → slices_from (x ∷ xs) m ≡ own_slices x m ++ slices_from xs m
@@ -23,5 +27,16 @@ extensions_more f m xs i d h =
     ap (λ ys. flat_map f (slices_from (map extension_tree ys) m)) (drop_more xs i d h)
     ∙ ap (flat_map f) (own_first (extension_tree (get_or xs i d)) (map extension_tree (drop (i + 1) xs)) m)
     ∙ flat_map-append f (own_slices (extension_tree (get_or xs i d)) m) (slices_from (map extension_tree (drop (i + 1) xs)) m)
+
+-- the faults at the program's instances are the program's
+module _ (p : ProgramTree) (i : InstructionTree) where
+  faults_there : (instances : List Instance) → Each (IsOfModule p) instances → faults_at i instances ≡ flat_map (place_faults p i) (places_of instances)
+  faults_there [] h = refl
+  faults_there (at ∷ more) h =
+      let here : slices_of i at.«module» ≡ slices_at p i (place_of at.path) = sym (ap (module_slices i) h.0.1 ∙ ap (slices_of i) h.0.2) in
+      (λ j. flat_map (slice_faults (place_of at.path)) (here j) ++ faults_there more h.1 j)
+
+  pub faults_are : (instances : List Instance) (faults : List Fault) → faults ≡ faults_at i instances → AreInstancesOf p instances → HasFaults p i faults
+  faults_are instances faults e are = (places_of instances, are.places, e ∙ faults_there instances are.modules)
 
 pub ruleset fault_rules = (append_assoc, append-nil, extensions_more)

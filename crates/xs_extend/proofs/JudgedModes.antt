@@ -27,8 +27,8 @@ use Rattle.xs_kinds.specs.Models.{breaches_at, variable_breaches, IsTyped}
 use Rattle.xs_kinds.proofs.Parts.{none_first, none_second, class_kept}
 use Rattle.xs_kinds.proofs.ClosedLaws.{all_leaves}
 use Rattle.xs_kinds.proofs.WrittenLaws.{written_conditions_decided, IsReal, real_all}
-use Rattle.xs_weave_rules.specs.Judged.{IsReadableEffect}
-use Rattle.xs_extend.specs.JudgedLaws.{IsGoodEffect, IsGoodGuard, GoodModesAreJudged, TypesAreUniform}
+use Rattle.xs_weave_rules.specs.Judged.{IsReadableEffect, IsJudgedMode}
+use Rattle.xs_extend.specs.JudgedLaws.{IsGoodMode, IsGoodEffect, IsGoodGuard, GoodModesAreJudged, TypesAreUniform, GoodIsJudged}
 
 -- where no `next` is found, none stands
 or_left : (a b : Bool) → (a || b) ≡ false → a ≡ false
@@ -167,3 +167,10 @@ types_uniform p m accepted is typed at k x role type here kind =
     (subst (λ a. IsVariable p a origin.visit.decl.name origin.visit.role origin.visit.decl.what) (sym origin.is.place ∙ listed.3) origin.real) in
     let same : type ≡ listed.1.declared = one_type p at x role origin.visit.role type origin.visit.decl.what (k, here, kind) there ∙ sym origin.is.declared in
     type_uniform type (subst (λ t. (judged_declared t).broken ≡ []) (sym same) right)
+
+pub good_is_judged : GoodIsJudged
+good_is_judged p m i accepted is typed lawful good = record {
+  instances = lawful;
+  uniform = λ at k x role type here kind. types_uniform p m accepted is typed at k x role type here kind;
+  modes = λ at k s here a. each_more (IsGoodMode p m is.written at) (IsJudgedMode p at k) s.modes (λ mode g. good_modes p m accepted is typed at k mode g) (good at k s here a);
+}

@@ -1,3 +1,5 @@
-mod FaultLaws
+pub mod FaultLaws
 pub mod JudgedModes
 pub mod LawfulLaws
+pub mod InstanceLaws
+pub mod NumberLaws

@@ -3,8 +3,8 @@ use Rattle.std.specs.Prelude.{◌≡◌, false, List, [], Option, Some, None}
 use Rattle.xs_tree.specs.Tree.{Tree}
 use Rattle.xs_tree.specs.ProgramTree.{Text, Formula, DeclaredTree, ModuleTree, ProgramTree}
 use Rattle.xs_tree.specs.Scope.{Place, Role, a_variable, kind_in}
-use Rattle.xs_tree.specs.Trace.{IsInstance}
-use Rattle.xs_fei.specs.Instructions.{EffectTree, stuck_at, follows, inverted, random, erroneous, frozen, stuck_at_pick, offset, ramp_down, ModeTree}
+use Rattle.xs_tree.specs.Trace.{IsInstance, Each}
+use Rattle.xs_fei.specs.Instructions.{EffectTree, stuck_at, follows, inverted, random, erroneous, frozen, stuck_at_pick, offset, ramp_down, ModeTree, SliceTree, InstructionTree, slices_of}
 use Rattle.xs_effects.specs.Types.{IsUniform}
 use Rattle.xs_flattening.specs.Flat.{FlatLeaf, FlatModel}
 use Rattle.xs_flattening.specs.Resolved.{Definition, Resolver, IsSound, IsResolved, has_next}
@@ -12,8 +12,8 @@ use Rattle.xs_flattening.specs.Rules.{IsAccepted}
 use Rattle.xs_flattening.specs.Model.{IsFlatOf}
 use Rattle.xs_kinds.specs.Models.{judged_in, broken_condition, IsTyped}
 use Rattle.xs_flattening.specs.Looks.{ActualsMean}
-use Rattle.xs_weave.specs.Weavable.{IsLawfulInstance}
-use Rattle.xs_weave_rules.specs.Judged.{IsJudgedMode}
+use Rattle.xs_weave.specs.Weavable.{Among, IsLawfulInstance}
+use Rattle.xs_weave_rules.specs.Judged.{IsJudgedMode, IsJudged}
 
 module _ (p : ProgramTree) (m : FlatModel) (written : List Definition) (at : Place) where
   -- a guard at an instance: its names mean something, it has no `next`, and its flat form breaks no rule as a condition
@@ -68,3 +68,13 @@ TypesAreUniform =
 -- each instance of a program that breaks no rule of names, whose actuals mean something, is such as the weave takes
 abbrev pub InstancesAreLawful : Type 0
 InstancesAreLawful = (p : ProgramTree) (m : FlatModel) → IsAccepted p → IsFlatOf p m → ActualsMean p → (at : Place) (k : ModuleTree) → IsInstance p at k → IsLawfulInstance p at k
+
+-- each mode is good at each instance of its slice's module
+abbrev pub AreGoodModes : ProgramTree → FlatModel → List Definition → InstructionTree → Type 0
+AreGoodModes p m written i = (at : Place) (k : ModuleTree) (s : SliceTree) → IsInstance p at k → Among (slices_of i k.name) s → Each (IsGoodMode p m written at) s.modes
+
+-- Instructions whose modes are good are judged, where the names at each instance of the program mean something.
+abbrev pub GoodIsJudged : Type 0
+GoodIsJudged =
+    (p : ProgramTree) (m : FlatModel) (i : InstructionTree) → IsAccepted p → (is : IsFlatOf p m) → IsTyped m → ((at : Place) (k : ModuleTree) → IsInstance p at k → IsLawfulInstance p at k) →
+    AreGoodModes p m is.written i → IsJudged p i

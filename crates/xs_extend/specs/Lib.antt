@@ -1,3 +1,5 @@
 pub mod WovenFaults
 pub mod Refused
 pub mod JudgedLaws
+pub mod InstanceLaws
+pub mod NumberedFaults

@@ -1,10 +1,11 @@
 -- The list of faults that a weave gives, over the instances of a flat model.
-use Rattle.std.specs.Prelude.{List, [], Option, Some, None, flat_map, reverse}
-use Rattle.xs_tree.specs.ProgramTree.{Path}
+use Rattle.std.specs.Prelude.{◌≡◌, List, [], Option, Some, None, map, flat_map, reverse}
+use Rattle.xs_tree.specs.ProgramTree.{Path, ModuleTree, ProgramTree}
+use Rattle.xs_tree.specs.Trace.{Each, IsInstance}
 use Rattle.xs_tree.specs.Scope.{Place}
 use Rattle.xs_fei.specs.Instructions.{InstructionTree, slices_of}
 use Rattle.xs_flat.specs.declared.model.Instance.{Instance}
-use Rattle.xs_weave.specs.Faults.{Fault, slice_faults}
+use Rattle.xs_weave.specs.Faults.{Fault, slice_faults, HasInstances}
 use Rattle.xs_extend.specs.declared.faults.WovenFault.{WovenFault}
 
 -- a path is written from `main` on, and a place has the innermost name first
@@ -22,3 +23,15 @@ instance_faults i at = flat_map (slice_faults (place_of at.path)) (slices_of i a
 -- the faults by instances
 abbrev pub faults_at : InstructionTree → List Instance → List Fault
 faults_at i instances = flat_map (instance_faults i) instances
+
+-- an instance with its own module
+abbrev pub IsOfModule : ProgramTree → Instance → Type 0
+IsOfModule p at = (m : ModuleTree) × IsInstance p (place_of at.path) m × (m.name ≡ at.«module»)
+
+abbrev pub places_of : List Instance → List Place
+places_of instances = map (λ at. place_of at.path) instances
+
+-- these are the program's instances in depth-first order, each with its module
+pub record AreInstancesOf (p : ProgramTree) (instances : List Instance) : Type 0 where
+  pub places : HasInstances p (places_of instances)
+  pub modules : Each (IsOfModule p) instances

@@ -1,6 +1,7 @@
 //! What the rules on guards and on what is followed are for.
 
-ghost use Rattle.xs_extend.specs.JudgedLaws.{GoodModesAreJudged, InstancesAreLawful, TypesAreUniform};
+ghost use Rattle.xs_extend.specs.InstanceLaws.{InstancesAreListed};
+ghost use Rattle.xs_extend.specs.JudgedLaws.{GoodIsJudged, GoodModesAreJudged, InstancesAreLawful, TypesAreUniform};
 
 /// A mode whose expressions break no rule at an instance of a program that breaks none is such as the weave
 /// takes: what is followed means something, and the guard has exactly one truth value.
@@ -17,4 +18,14 @@ pub fn types_are_uniform()
 /// weave takes.
 pub fn instances_are_lawful()
     ensures { InstancesAreLawful }
+{}
+
+/// Where a flat model has the instances that flattening gives, they are the program's in depth-first order.
+pub fn instances_are_listed()
+    ensures { InstancesAreListed }
+{}
+
+/// Instructions whose modes break no rule at any instance of a lawful program are judged.
+pub fn good_is_judged()
+    ensures { GoodIsJudged }
 {}

@@ -23,7 +23,7 @@ mod weaving;
 
 pub use fault::{Cause, WeaveFault};
 pub use faults::{Woven, WovenFault, WovenFaultList, woven_faults};
-pub use laws::{good_modes_are_judged, types_are_uniform};
+pub use laws::{good_is_judged, good_modes_are_judged, instances_are_listed, types_are_uniform};
 pub use list::fault_list;
 pub use weaving::{weave, weave_typed};
 

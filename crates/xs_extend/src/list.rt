@@ -1,5 +1,9 @@
 //! The faults with the numbers that they have in the woven program's flat model.
 
+ghost use Rattle.std.specs.Prelude.{◌≡◌, ◌∷◌, ◌++◌, [], IfOk, OnOk, IfSome, Some, IsTrue, slice_get};
+ghost use Rattle.xs_effects.specs.AddedNames.{mode_variable as mode_variable_of, mode_symbol as mode_symbol_of};
+ghost use Rattle.xs_extend.specs.NumberedFaults.{parts_of, IsNumbered, AreNumbered, AreSymbols, HasPath};
+
 use crate::faults::{Woven, WovenFault};
 use indexmap::IndexMap;
 use std::alloc::Global;
@@ -9,17 +13,30 @@ use xs_value::{Dotted, Items, Name, OutOfMemory};
 
 /// The symbols of a model by their texts, with their numbers.
 #[derive(Drop)]
-struct Symbols<'a> {
-    numbers: IndexMap<&'a [u8], u32>,
+pub(crate) struct Symbols<'a> {
+    pub(crate) names: &'a [Name],
+    pub(crate) numbers: IndexMap<&'a [u8], u32>,
 }
 
 /// The faults of a woven program, each with the number of the variable that holds its slice's state and of
 /// the symbol of its mode. `w` is an answer of the weave, and `m` is the flat model of `w.program`; for
 /// another model, that lacks one of these, the answer is want of memory.
-pub fn fault_list(alloc: Global, w: &Woven, m: &FlatModel) -> Result<FaultList, OutOfMemory> {
-    let symbols = Symbols::of_model(alloc, m)?;
+pub fn fault_list(alloc: Global, w: &Woven, m: &FlatModel) -> Result<FaultList, OutOfMemory>
+    ensures { IfOk result (λ list. AreNumbered m.now w.now.faults list) }
+{
+    numbered_list(alloc, m, w.faults.as_slice())
+}
+
+fn numbered_list(
+    alloc: Global,
+    m: &FlatModel,
+    woven: &[WovenFault],
+) -> Result<FaultList, OutOfMemory>
+    ensures { IfOk result (λ list. AreNumbered m.now woven.now list) }
+{
+    let symbols = Symbols::of_names(alloc, m.symbols.as_slice())?;
     let mut faults = Items::new(alloc);
-    for fault in w.faults.as_slice() {
+    for fault in woven {
         faults.push(numbered(alloc, m, &symbols, fault)?)?;
     }
     Ok(faults)
@@ -30,7 +47,11 @@ fn numbered(
     m: &FlatModel,
     symbols: &Symbols<'_>,
     fault: &WovenFault,
-) -> Result<Fault, OutOfMemory> {
+) -> Result<Fault, OutOfMemory>
+    requires own { symbols.now.names.now ≡ m.now.symbols }
+    requires symbols { AreSymbols symbols.now }
+    ensures { IfOk result (λ made. IsNumbered m.now fault.now made) }
+{
     let variable = variable_of(alloc, m, fault)?;
     let symbol = symbols.of_fault(alloc, fault)?;
     let name = name_of(alloc, fault)?;
@@ -42,7 +63,9 @@ fn numbered(
 }
 
 /// The fault's path, slice and mode as one dotted name.
-fn name_of(alloc: Global, fault: &WovenFault) -> Result<Dotted, OutOfMemory> {
+fn name_of(alloc: Global, fault: &WovenFault) -> Result<Dotted, OutOfMemory>
+    ensures { IfOk result (λ name. name ≡ parts_of fault.now.path ++ (fault.now.slice ∷ fault.now.mode ∷ [])) }
+{
     let slice = fault.slice.copy(alloc)?;
     let mut name = path_below(alloc, &fault.path, slice)?;
     name.push(fault.mode.copy(alloc)?)?;
@@ -50,7 +73,9 @@ fn name_of(alloc: Global, fault: &WovenFault) -> Result<Dotted, OutOfMemory> {
 }
 
 /// The name from `main` on of a name at an instance.
-fn path_below(alloc: Global, path: &Option<Dotted>, name: Name) -> Result<Dotted, OutOfMemory> {
+fn path_below(alloc: Global, path: &Option<Dotted>, name: Name) -> Result<Dotted, OutOfMemory>
+    ensures { IfOk result (λ made. made ≡ parts_of path.now ++ name ∷ []) }
+{
     match path {
         Some(path) => {
             let mut below = path.copy(alloc)?;
@@ -62,7 +87,9 @@ fn path_below(alloc: Global, path: &Option<Dotted>, name: Name) -> Result<Dotted
 }
 
 /// The number of the variable that holds the state of the fault's slice.
-fn variable_of(alloc: Global, m: &FlatModel, fault: &WovenFault) -> Result<u32, OutOfMemory> {
+fn variable_of(alloc: Global, m: &FlatModel, fault: &WovenFault) -> Result<u32, OutOfMemory>
+    ensures { IfOk result (λ number. HasPath m.now.variables number (parts_of fault.now.path ++ mode_variable_of fault.now.slice ∷ [])) }
+{
     let state = mode_variable(alloc, &fault.slice)?;
     let path = path_below(alloc, &fault.path, state)?;
     match place_of(m.variables.as_slice(), &path) {
@@ -72,7 +99,9 @@ fn variable_of(alloc: Global, m: &FlatModel, fault: &WovenFault) -> Result<u32, 
 }
 
 /// The place of the variable of a name. There are few faults and few variables.
-fn place_of(variables: &[Variable], path: &Dotted) -> Option<usize> {
+fn place_of(variables: &[Variable], path: &Dotted) -> Option<usize>
+    ensures { IfSome result (λ place. HasPath variables.now place path.now) }
+{
     for (place, variable) in variables.iter().enumerate() {
         if is_same(variable.path.parts(), path.parts()) {
             return Some(place);
@@ -81,12 +110,15 @@ fn place_of(variables: &[Variable], path: &Dotted) -> Option<usize> {
     None
 }
 
-fn is_same(x: &[Name], y: &[Name]) -> bool {
+/// Whether both are the same names.
+fn is_same(x: &[Name], y: &[Name]) -> bool
+    ensures { IsTrue result → x.now ≡ y.now }
+{
     if x.len() != y.len() {
         return false;
     }
-    for (a, b) in x.iter().zip(y.iter()) {
-        if !a.is_same(b) {
+    for i in 0..x.len() {
+        if !x[i].is_same(&y[i]) {
             return false;
         }
     }
@@ -94,28 +126,57 @@ fn is_same(x: &[Name], y: &[Name]) -> bool {
 }
 
 impl<'a> Symbols<'a> {
-    fn of_model(alloc: Global, m: &'a FlatModel) -> Result<Symbols<'a>, OutOfMemory> {
+    fn of_names(alloc: Global, names: &'a [Name]) -> Result<Symbols<'a>, OutOfMemory>
+        ensures own { IfOk result (λ symbols. symbols.names.now ≡ names.now) }
+        ensures symbols { IfOk result AreSymbols }
+    {
         let mut symbols = Symbols {
+            names,
             numbers: IndexMap::new(alloc),
         };
-        for (place, symbol) in m.symbols.as_slice().iter().enumerate() {
-            symbols.numbers.insert(symbol.text(), number_of(place)?)?;
+        for (place, symbol) in names.iter().enumerate() {
+            symbols.add(symbol, number_of(place)?)?;
         }
         Ok(symbols)
     }
 
+    fn add(&mut self, symbol: &'a Name, number: u32) -> Result<(), OutOfMemory>
+        requires is { slice_get self.old.names.now number ≡ Some symbol.now }
+        requires symbols { AreSymbols self.old }
+        ensures own { OnOk result (self.new.names ≡ self.old.names) }
+        ensures symbols { OnOk result (AreSymbols self.new) }
+    {
+        self.numbers.insert(symbol.text(), number)?;
+        Ok(())
+    }
+
     /// The number of the symbol of a fault's mode.
-    fn of_fault(&self, alloc: Global, fault: &WovenFault) -> Result<u32, OutOfMemory> {
+    fn of_fault(&self, alloc: Global, fault: &WovenFault) -> Result<u32, OutOfMemory>
+        requires { AreSymbols self.now }
+        ensures { IfOk result (λ number. slice_get self.now.names.now number ≡ Some (mode_symbol_of fault.now.slice (Some fault.now.mode))) }
+    {
         let symbol = mode_symbol(alloc, &fault.slice, &fault.mode)?;
-        match self.numbers.get(symbol.text()) {
-            Some(number) => Ok(*number),
+        match self.number_of(&symbol) {
+            Some(number) => Ok(number),
             None => Err(OutOfMemory),
+        }
+    }
+
+    fn number_of(&self, symbol: &Name) -> Option<u32>
+        requires { AreSymbols self.now }
+        ensures { IfSome result (λ number. slice_get self.now.names.now number ≡ Some symbol.now) }
+    {
+        match self.numbers.get(symbol.text()) {
+            Some(number) => Some(*number),
+            None => None,
         }
     }
 }
 
 /// A place in a list as a number of 32 bits. A longer list counts as want of memory.
-fn number_of(place: usize) -> Result<u32, OutOfMemory> {
+fn number_of(place: usize) -> Result<u32, OutOfMemory>
+    ensures { IfOk result (λ number. number ≡ place) }
+{
     match u32::try_from(place) {
         Ok(number) => Ok(number),
         Err(_too_large) => Err(OutOfMemory),

@@ -10,7 +10,10 @@ ghost use Rattle.xs_weave_rules.specs.Rules.{broken_at};
 ghost use Rattle.xs_weave_rules.specs.Counting.{count_broken_at};
 ghost use Rattle.xs_weave_rules.specs.FirstBroken.{AllKept, IsFirstBroken};
 ghost use Rattle.xs_weave_rules.specs.declared.fault.Rule.TheVariants as broken;
-ghost use Rattle.xs_extend.specs.WovenFaults.{fault_tree, faults_at};
+ghost use Rattle.xs_extend.specs.WovenFaults.{fault_tree, faults_at, AreInstancesOf};
+ghost use Rattle.xs_weave.specs.Conservative.{IsExtensionOf};
+ghost use Rattle.xs_weave.specs.Faults.{HasFaults};
+ghost use Rattle.xs_weave_rules.specs.Judged.{IsJudged};
 ghost use Rattle.xs_extend.specs.Refused.{modules_in, KeepsRules, IsTold, IsToldSomewhere};
 
 use crate::fault::{Cause, WeaveFault};
@@ -31,6 +34,7 @@ use xs_weave_rules::{
 /// The program breaks no rule itself; where one does, that is told with item 0.
 pub fn weave(alloc: Global, p: &Program, i: &Instructions) -> Result<Woven, WeaveFault>
     ensures program { IfOk result (λ w. program_tree w.program ≡ woven (program_tree p.now) (instruction_tree i.now)) }
+    ensures extension { IfOk result (λ w. IsJudged (program_tree p.now) (instruction_tree i.now) → IsExtensionOf (program_tree p.now) (instruction_tree i.now) (program_tree w.program)) }
     ensures kept { OnOk result (AllKept (broken_at (program_tree p.now)) (item_sites (instruction_tree i.now))) }
     ensures told { IfErr result (λ fault. IsToldSomewhere (program_tree p.now) (instruction_tree i.now) fault) }
 {
@@ -46,7 +50,9 @@ pub fn weave_typed(
     i: &Instructions,
 ) -> Result<Woven, WeaveFault>
     ensures program { IfOk result (λ w. program_tree w.program ≡ woven (program_tree p.now) (instruction_tree i.now)) }
-    ensures faults { IfOk result (λ w. map fault_tree w.faults ≡ faults_at (instruction_tree i.now) typed.now.model.instances) }
+    ensures extension { IfOk result (λ w. IsJudged (program_tree p.now) (instruction_tree i.now) → IsExtensionOf (program_tree p.now) (instruction_tree i.now) (program_tree w.program)) }
+    ensures faults { IfOk result (λ w. AreInstancesOf (program_tree p.now) typed.now.model.instances → HasFaults (program_tree p.now) (instruction_tree i.now) (map fault_tree w.faults)) }
+    ensures listed { IfOk result (λ w. map fault_tree w.faults ≡ faults_at (instruction_tree i.now) typed.now.model.instances) }
     ensures kept { OnOk result (KeepsRules (program_tree p.now) (instruction_tree i.now) (modules_in typed.now.model.instances)) }
     ensures told { IfErr result (λ fault. IsTold (program_tree p.now) (instruction_tree i.now) (modules_in typed.now.model.instances) fault) }
 {

@@ -1,6 +1,5 @@
 -- What is told of values and conditions.
 use Rattle.std.proofs.Common.{◌≡◌, ℕ, Bool, true, false, List, [], ◌∷◌, Option, Some, None, refl, sym, ap, ◌∙◌, subst, OnOk, min, arith}
-use Rattle.std.proofs.lemmas.Bool.{ltb-true, ltb-false}
 use Rattle.std.specs.Prelude.{Result, Ok, Err, nat_lt}
 use Rattle.xs_tree.specs.Tree.{Tree}
 use Rattle.xs_flattening.specs.Flat.{FlatLeaf, FlatModel}
@@ -19,6 +18,7 @@ use Rattle.xs_types.specs.declared.fault.Rule.{Rule}
 use Rattle.xs_types.specs.Rows.{lower, class_rule}
 use Rattle.xs_types.specs.Answers.{told_first, told_rules, told_sort, told}
 use Rattle.xs_types.specs.Calls.{value_answer, top_answer, value_by, top_by, LiesInKind}
+use Rattle.xs_types.proofs.SizeLaws.{below_cap}
 use Rattle.xs_types.proofs.ToldLaws.{joins, told_class_rule}
 
 pub told_condition : (j : Judged) → lower (class_rule Truth NotBoolean (told_sort j.kind)) (told_rules j.broken) ≡ told_rules (broken_condition j)
@@ -44,20 +44,11 @@ told_top m e = by (least (broken_condition (judged_in m false e))) (nat_lt 50000
     by None true = refl
     by None false = refl
 
-large_cost : (n : ℕ) → nat_lt 50000 (min n 50001) ≡ nat_lt 50000 n
-large_cost n = by (nat_lt 50000 (min n 50001)) (nat_lt 50000 n) refl refl
-  where
-    by : (a b : Bool) → nat_lt 50000 (min n 50001) ≡ a → nat_lt 50000 n ≡ b → a ≡ b
-    by true true e f = refl
-    by false false e f = refl
-    by true false e f = absurd (omega (arith, ltb-true _ _ e, ltb-false _ _ f))
-    by false true e f = absurd (omega (arith, ltb-false _ _ e, ltb-true _ _ f))
-
 pub top_answered : (r : Result (Unit {0}) TypeFault) (m : FlatModel) (e : Tree FlatLeaf) (judged : AJudged) (broken : Option Rule) (cost : ℕ) → judged ≡ told (judged_in m false e) →
     broken ≡ lower (class_rule Truth NotBoolean judged.sort) judged.broken → cost ≡ min (cost_of e) 50001 → r ≡ top_by broken (nat_lt 50000 cost) → r ≡ top_answer (top_fault m e)
 top_answered r m e judged broken cost is is_broken is_cost is_answer =
     is_answer ∙ ap (λ b. top_by b (nat_lt 50000 cost)) (is_broken ∙ ap (λ (j : AJudged). lower (class_rule Truth NotBoolean j.sort) j.broken) is ∙ told_condition (judged_in m false e))
-    ∙ ap (top_by (told_rules (broken_condition (judged_in m false e)))) (ap (nat_lt 50000) is_cost ∙ large_cost (cost_of e)) ∙ told_top m e
+    ∙ ap (top_by (told_rules (broken_condition (judged_in m false e)))) (ap (nat_lt 50000) is_cost ∙ below_cap 50000 (cost_of e) (omega arith)) ∙ told_top m e
 
 -- what is not refused breaks no rule
 value_right : (rs : List KindRule) (k : found.Kind) → OnOk (value_answer (least rs) k) (rs ≡ [])

@@ -1,6 +1,6 @@
 -- A model is typed, or what is told is its fault.
-use Rattle.std.proofs.Common.{◌≡◌, ℕ, ◌≤◌, min, Bool, true, false, ◌||◌, Option, Some, None, refl, sym, ap, ◌∙◌, subst, nat_lt, arith}
-use Rattle.std.proofs.lemmas.Bool.{ltb-true, ltb-false}
+use Rattle.std.proofs.Common.{◌≡◌, ℕ, min, Bool, true, false, ◌||◌, Option, Some, None, refl, sym, ap, ◌∙◌, subst, nat_lt, arith}
+use Rattle.std.proofs.lemmas.Bool.{ltb-false}
 use Rattle.xs_flattening.specs.Flat.{FlatModel}
 use Rattle.xs_kinds.specs.Judged.{KindRule}
 use Rattle.xs_kinds.specs.Costs.{model_cost, state_bits}
@@ -13,16 +13,7 @@ use Rattle.xs_types.specs.Answers.{told_rule}
 use Rattle.xs_types.specs.Faults.{IsFaultOf, told_fault}
 use Rattle.xs_types.specs.Sites.{told_first_site, fault_by}
 use Rattle.xs_types.proofs.SiteLaws.{fault_told}
-
--- a number above the limit of costs counts as one more than it
-below_cap : (limit n : ℕ) → limit ≤ 50000 → nat_lt limit (min n 50001) ≡ nat_lt limit n
-below_cap limit n h = by (nat_lt limit (min n 50001)) (nat_lt limit n) refl refl
-  where
-    by : (a b : Bool) → nat_lt limit (min n 50001) ≡ a → nat_lt limit n ≡ b → a ≡ b
-    by true true e f = refl
-    by false false e f = refl
-    by true false e f = absurd (omega (arith, ltb-true _ _ e, ltb-false _ _ f))
-    by false true e f = absurd (omega (arith, ltb-false _ _ e, ltb-true _ _ f))
+use Rattle.xs_types.proofs.SizeLaws.{below_cap}
 
 pub fault_answered : (m : FlatModel) (first : Option Site) (cost bits : ℕ) → first ≡ told_first_site (first_of (breaches m)) → cost ≡ min (model_cost m) 50001 → bits ≡ min (state_bits m) 50001 →
     fault_by first (nat_lt 50000 cost || nat_lt 4096 bits) ≡ told_fault (first_fault m)

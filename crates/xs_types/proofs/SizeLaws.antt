@@ -1,5 +1,6 @@
 -- What is left of the costs of a list, one element on, and the costs and bits of a model.
-use Rattle.std.proofs.Common.{◌≡◌, ℕ, ◌+◌, ◌<◌, List, [], ◌∷◌, length, get_or, drop, ap, sym, ◌∙◌, refl, arith}
+use Rattle.std.proofs.Common.{◌≡◌, ℕ, ◌+◌, ◌<◌, ◌≤◌, min, Bool, true, false, nat_lt, List, [], ◌∷◌, length, get_or, drop, ap, sym, ◌∙◌, refl, arith}
+use Rattle.std.proofs.lemmas.Bool.{ltb-true, ltb-false}
 use Rattle.std.specs.Prelude.{map, sum_by}
 use Rattle.std.proofs.lemmas.List.{drop_more}
 use Rattle.std.proofs.lemmas.List.Sums.{sum_by-cons}
@@ -50,3 +51,13 @@ whole_bits m = go m.variables
     go (v ∷ vs) =
         sum_by-cons (λ (x : FlatVariable). role_width x.role (declared_width m.symbols x.declared)) (variable_tree v) (map variable_tree vs) ∙ ap (λ n. variable_bits m.symbols v + n) (go vs)
         ∙ sym (sum_by-cons (variable_bits m.symbols) v vs)
+
+-- a number above the limit of costs counts as one more than it
+pub below_cap : (limit n : ℕ) → limit ≤ 50000 → nat_lt limit (min n 50001) ≡ nat_lt limit n
+below_cap limit n h = by (nat_lt limit (min n 50001)) (nat_lt limit n) refl refl
+  where
+    by : (a b : Bool) → nat_lt limit (min n 50001) ≡ a → nat_lt limit n ≡ b → a ≡ b
+    by true true e f = refl
+    by false false e f = refl
+    by true false e f = absurd (omega (arith, ltb-true _ _ e, ltb-false _ _ f))
+    by false true e f = absurd (omega (arith, ltb-false _ _ e, ltb-true _ _ f))

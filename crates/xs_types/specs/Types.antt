@@ -96,7 +96,7 @@ abbrev pub IsType : DeclaredTree → Type 0
 IsType (instance m actuals) = ⊥
 IsType _ = Unit {0}
 
--- The domain has the values of the type: if its declaration breaks no rule, and over symbols that are numbered so.
+-- A domain has the values of a type that is no instance, a symbol by its number.
 abbrev pub HasValuesOf : List Text → DeclaredTree → Domain → Type 0
 HasValuesOf symbols d domain = IsType d → (v : Value) (w : told.Value) → StandsFor symbols v w → (Has domain v ↔ IsTrue (in_domain d w))
 

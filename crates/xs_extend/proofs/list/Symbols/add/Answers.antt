@@ -1,0 +1,10 @@
+use Rattle.std.proofs.Common.{◌≡◌, ◌∙◌, Some, sym, ap, subst}
+use Rattle.std.specs.Prelude.{slice_get}
+use Rattle.xs_tree.specs.Trace.{Each}
+use Rattle.xs_extend.proofs.NumberLaws.{right_put}
+use Rattle.xs_extend.proofs.list.Symbols.add.Goals as goal
+
+pub returns-clause-symbols : goal.returns-clause-symbols
+returns-clause-symbols c =
+    subst (Each (λ e. slice_get c.args.self.now.names.now e.1 ≡ Some e.0.now)) (sym c.in_ok-insert.ensures.entries)
+    (right_put (λ k. k.now) c.args.self.now.names.now c.args.self.now.numbers.entries c.text.result c.args.number c.requires.symbols (c.requires.is ∙ ap Some (sym c.text.ensures)))
