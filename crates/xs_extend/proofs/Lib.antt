@@ -3,3 +3,4 @@ pub mod JudgedModes
 pub mod LawfulLaws
 pub mod InstanceLaws
 pub mod NumberLaws
+pub mod GuardLaws

@@ -3,3 +3,4 @@ pub mod Refused
 pub mod JudgedLaws
 pub mod InstanceLaws
 pub mod NumberedFaults
+pub mod Guarded

@@ -1,7 +1,18 @@
 //! The rules of guards and Follows expressions, tried by instances, then items. Each expression is judged
 //! as a DEFINE of its module would be: first by the rules of names, then by those of kinds.
 
-ghost use Rattle.std.specs.Prelude.{IfErr};
+ghost use Rattle.std.specs.Prelude.{◌≡◌, Bool, true, IfErr, IfOk, OnOk, IsTrue, Some, map, slice_get, option_copied, option_map};
+ghost use Rattle.xs_tree.specs.Trace.{Each};
+ghost use Rattle.xs_tree.specs.Written.{tree_of};
+ghost use Rattle.xs_tree.specs.Texts.{same_text};
+ghost use Rattle.xs_fei.specs.Instructions.{effect_tree, guard_tree, mode_tree, slice_tree};
+ghost use Rattle.xs_flattening.specs.Flat.{FlatInstance};
+ghost use Rattle.xs_flattening.specs.Rules.{IsAccepted};
+ghost use Rattle.xs_flattening.specs.Model.{IsFlatOf};
+ghost use Rattle.xs_flat.specs.ModelTree.{model_tree, instance_tree};
+ghost use Rattle.xs_flat.specs.ResolvedAt.{IsAt};
+ghost use Rattle.xs_weave_rules.specs.Faults.{placed_tree};
+ghost use Rattle.xs_extend.specs.Guarded.{program_in, model_in, HasForm, HasKind, followed, IsTruth, IsGood, IsGoodSlice, AreGoodSlices};
 ghost use Rattle.xs_extend.specs.Refused.{IsOfExpressions, IsFromExpressions};
 
 use crate::fault::{Cause, WeaveFault};
@@ -40,7 +51,8 @@ pub(crate) fn judge_guards(
     nominal: Nominal<'_>,
     slices: &[Placed<'_>],
 ) -> Result<(), WeaveFault>
-    ensures { IfErr result IsFromExpressions }
+    ensures want { IfErr result IsFromExpressions }
+    ensures good { IsAccepted (program_in nominal) → IsFlatOf (program_in nominal) (model_in nominal) → OnOk result (Each (AreGoodSlices (program_in nominal) (model_in nominal) (map placed_tree slices.now)) (model_in nominal).instances) }
 {
     let mut number = 0;
     for instance in nominal.typed.model().instances.as_slice() {
@@ -58,7 +70,8 @@ fn judge_instance(
     module: &Name,
     slices: &[Placed<'_>],
 ) -> Result<(), WeaveFault>
-    ensures { IfErr result IsFromExpressions }
+    ensures want { IfErr result IsFromExpressions }
+    ensures good { (at : FlatInstance) → IsAt (program_in nominal) (model_in nominal) «instance» at → at.module_name ≡ «module».now → OnOk result (AreGoodSlices (program_in nominal) (model_in nominal) (map placed_tree slices.now) at) }
 {
     for placed in slices {
         if placed.owner.is_same(module) {
@@ -74,7 +87,8 @@ fn judge_slice(
     instance: u32,
     placed: Placed<'_>,
 ) -> Result<(), WeaveFault>
-    ensures { IfErr result IsFromExpressions }
+    ensures want { IfErr result IsFromExpressions }
+    ensures good { (at : FlatInstance) → IsAt (program_in nominal) (model_in nominal) «instance» at → OnOk result (Each (IsGood (program_in nominal) (model_in nominal) at.place) (slice_tree placed.slice.now).modes) }
 {
     let mut item = placed.item;
     for mode in placed.slice.modes.as_slice() {
@@ -96,7 +110,8 @@ fn judge_mode(
     declared: &Declared,
     mode: &ModeRule,
 ) -> Result<(), Cause>
-    ensures { IfErr result IsOfExpressions }
+    ensures want { IfErr result IsOfExpressions }
+    ensures good { (at : FlatInstance) → IsAt (program_in nominal) (model_in nominal) «instance» at → OnOk result (IsGood (program_in nominal) (model_in nominal) at.place (mode_tree mode.now)) }
 {
     let resolved = resolve_mode(alloc, nominal, instance, mode)?;
     let kinds = kinds_of(nominal.typed, &resolved)?;
@@ -116,7 +131,9 @@ fn resolve_mode(
     instance: u32,
     mode: &ModeRule,
 ) -> Result<Resolved, Cause>
-    ensures { IfErr result IsOfExpressions }
+    ensures want { IfErr result IsOfExpressions }
+    ensures follows { (at : FlatInstance) → IsAt (program_in nominal) (model_in nominal) «instance» at → IfOk result (λ r. HasForm (program_in nominal) (model_in nominal) at.place (followed (effect_tree mode.now.effect)) r.follows) }
+    ensures guard { (at : FlatInstance) → IsAt (program_in nominal) (model_in nominal) «instance» at → IfOk result (λ r. HasForm (program_in nominal) (model_in nominal) at.place (guard_tree mode.now.guard) r.guard) }
 {
     let follows = resolve(alloc, nominal, instance, false, follows_of(&mode.effect));
     let guard = resolve(alloc, nominal, instance, true, mode.guard.as_ref());
@@ -134,7 +151,9 @@ fn resolve(
     instance: u32,
     inputs: bool,
     e: Option<&Expr<Dotted>>,
-) -> Result<Option<Expr<Flat>>, FlatFault> {
+) -> Result<Option<Expr<Flat>>, FlatFault>
+    ensures form { (at : FlatInstance) → IsAt (program_in nominal) (model_in nominal) «instance» at → IfOk result (HasForm (program_in nominal) (model_in nominal) at.place (option_map tree_of (option_copied e))) }
+{
     let Some(e) = e else {
         return Ok(None);
     };
@@ -145,7 +164,9 @@ fn resolve(
 }
 
 /// The expression that an effect follows.
-fn follows_of(effect: &Effect) -> Option<&Expr<Dotted>> {
+fn follows_of(effect: &Effect) -> Option<&Expr<Dotted>>
+    ensures { option_map tree_of (option_copied result) ≡ followed (effect_tree effect.now) }
+{
     match effect {
         Effect::Follows(e) => Some(e),
         _ => None,
@@ -154,7 +175,9 @@ fn follows_of(effect: &Effect) -> Option<&Expr<Dotted>> {
 
 /// The kinds of a mode's expressions, or the first rule of kinds that one of them breaks.
 fn kinds_of(typed: &Typed, resolved: &Resolved) -> Result<Kinds, Cause>
-    ensures { IfErr result IsOfExpressions }
+    ensures want { IfErr result IsOfExpressions }
+    ensures follows { IfOk result (λ kinds. HasKind (model_tree typed.now.model) resolved.now.follows kinds.follows) }
+    ensures guard { IfOk result (λ kinds. HasKind (model_tree typed.now.model) resolved.now.guard kinds.guard) }
 {
     let follows = kind(typed, resolved.follows.as_ref());
     let guard = kind(typed, resolved.guard.as_ref());
@@ -166,7 +189,9 @@ fn kinds_of(typed: &Typed, resolved: &Resolved) -> Result<Kinds, Cause>
 }
 
 /// The kind of an expression, where there is one.
-fn kind(typed: &Typed, e: Option<&Expr<Flat>>) -> Result<Option<Kind>, TypeFault> {
+fn kind(typed: &Typed, e: Option<&Expr<Flat>>) -> Result<Option<Kind>, TypeFault>
+    ensures { IfOk result (HasKind (model_tree typed.now.model) (option_copied e)) }
+{
     match e {
         Some(e) => Ok(Some(check_value(typed, e)?)),
         None => Ok(None),
@@ -184,7 +209,9 @@ fn follows_fits(kind: Option<Kind>, declared: &Declared) -> bool {
 }
 
 /// Whether the guard is a truth value.
-fn guard_fits(kind: Option<Kind>) -> bool {
+fn guard_fits(kind: Option<Kind>) -> bool
+    ensures { IsTrue result → IsTruth kind }
+{
     match kind {
         Some(kind) => kind == Kind::Bool,
         None => true,

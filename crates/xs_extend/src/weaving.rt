@@ -13,7 +13,14 @@ ghost use Rattle.xs_weave_rules.specs.declared.fault.Rule.TheVariants as broken;
 ghost use Rattle.xs_extend.specs.WovenFaults.{fault_tree, faults_at, AreInstancesOf};
 ghost use Rattle.xs_weave.specs.Conservative.{IsExtensionOf};
 ghost use Rattle.xs_weave.specs.Faults.{HasFaults};
-ghost use Rattle.xs_weave_rules.specs.Judged.{IsJudged};
+ghost use Rattle.xs_weave.specs.Weavable.{IsWeavable};
+ghost use Rattle.xs_weave_rules.specs.Faults.{file_slices};
+ghost use Rattle.xs_tree.specs.Trace.{Each};
+ghost use Rattle.xs_flattening.specs.Looks.{ActualsMean};
+ghost use Rattle.xs_flattening.specs.Rules.{IsAccepted};
+ghost use Rattle.xs_flattening.specs.Model.{IsFlatOf};
+ghost use Rattle.xs_flat.specs.ModelTree.{model_tree};
+ghost use Rattle.xs_extend.specs.Guarded.{AreGoodSlices};
 ghost use Rattle.xs_extend.specs.Refused.{modules_in, KeepsRules, IsTold, IsToldSomewhere};
 
 use crate::fault::{Cause, WeaveFault};
@@ -34,7 +41,8 @@ use xs_weave_rules::{
 /// The program breaks no rule itself; where one does, that is told with item 0.
 pub fn weave(alloc: Global, p: &Program, i: &Instructions) -> Result<Woven, WeaveFault>
     ensures program { IfOk result (λ w. program_tree w.program ≡ woven (program_tree p.now) (instruction_tree i.now)) }
-    ensures extension { IfOk result (λ w. IsJudged (program_tree p.now) (instruction_tree i.now) → IsExtensionOf (program_tree p.now) (instruction_tree i.now) (program_tree w.program)) }
+    ensures weavable { OnOk result (IsWeavable (program_tree p.now) (instruction_tree i.now)) }
+    ensures extension { IfOk result (λ w. IsExtensionOf (program_tree p.now) (instruction_tree i.now) (program_tree w.program)) }
     ensures kept { OnOk result (AllKept (broken_at (program_tree p.now)) (item_sites (instruction_tree i.now))) }
     ensures told { IfErr result (λ fault. IsToldSomewhere (program_tree p.now) (instruction_tree i.now) fault) }
 {
@@ -50,7 +58,7 @@ pub fn weave_typed(
     i: &Instructions,
 ) -> Result<Woven, WeaveFault>
     ensures program { IfOk result (λ w. program_tree w.program ≡ woven (program_tree p.now) (instruction_tree i.now)) }
-    ensures extension { IfOk result (λ w. IsJudged (program_tree p.now) (instruction_tree i.now) → IsExtensionOf (program_tree p.now) (instruction_tree i.now) (program_tree w.program)) }
+    ensures weavable { IsAccepted (program_tree p.now) → IsFlatOf (program_tree p.now) (model_tree typed.now.model) → ActualsMean (program_tree p.now) → OnOk result (IsWeavable (program_tree p.now) (instruction_tree i.now)) }
     ensures faults { IfOk result (λ w. AreInstancesOf (program_tree p.now) typed.now.model.instances → HasFaults (program_tree p.now) (instruction_tree i.now) (map fault_tree w.faults)) }
     ensures listed { IfOk result (λ w. map fault_tree w.faults ≡ faults_at (instruction_tree i.now) typed.now.model.instances) }
     ensures kept { OnOk result (KeepsRules (program_tree p.now) (instruction_tree i.now) (modules_in typed.now.model.instances)) }
@@ -64,6 +72,7 @@ pub fn weave_typed(
 /// Tells the first rule that the instructions break.
 fn judge(alloc: Global, p: &Program, typed: &Typed, i: &Instructions) -> Result<(), WeaveFault>
     ensures kept { OnOk result (KeepsRules (program_tree p.now) (instruction_tree i.now) (modules_in typed.now.model.instances)) }
+    ensures guards { IsAccepted (program_tree p.now) → IsFlatOf (program_tree p.now) (model_tree typed.now.model) → OnOk result (Each (AreGoodSlices (program_tree p.now) (model_tree typed.now.model) (file_slices (instruction_tree i.now).extensions)) (model_tree typed.now.model).instances) }
     ensures told { IfErr result (λ fault. IsTold (program_tree p.now) (instruction_tree i.now) (modules_in typed.now.model.instances) fault) }
 {
     let slices = placed_slices(alloc, p, i)?;
@@ -103,7 +112,10 @@ fn modules_of<'a>(alloc: Global, instances: &'a [Instance]) -> Result<Vec<&'a Na
 
 /// The flat model of a program, with kinds.
 fn typed_of(alloc: Global, p: &Program) -> Result<Typed, WeaveFault>
-    ensures { IfErr result (λ fault. fault.item ≡ 0) }
+    ensures told { IfErr result (λ fault. fault.item ≡ 0) }
+    ensures accepted { OnOk result (IsAccepted (program_tree p.now)) }
+    ensures flat { IfOk result (λ typed. IsFlatOf (program_tree p.now) (model_tree typed.model)) }
+    ensures meant { OnOk result (ActualsMean (program_tree p.now)) }
 {
     let model = match flatten(alloc, p) {
         Ok(model) => model,

@@ -55,6 +55,7 @@ pub fn placed_slices<'a>(
     p: &'a Program,
     i: &'a Instructions,
 ) -> Result<Vec<Placed<'a>>, RuleFault>
+    ensures placed { IfOk result (λ placed. map placed_tree placed.items ≡ file_slices (instruction_tree i.now).extensions) }
     ensures kept { OnOk result (AllKept (broken_at (program_tree p.now)) (item_sites (instruction_tree i.now))) }
     ensures first { IfErr result (λ fault. fault.rule ≢ broken.OutOfMemory → IsFirstBroken (broken_at (program_tree p.now)) (item_sites (instruction_tree i.now)) fault.rule fault.item) }
 {

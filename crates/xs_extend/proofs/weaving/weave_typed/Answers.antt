@@ -1,7 +1,7 @@
 use Rattle.xs_tree.specs.ProgramTree.{program_tree}
-use Rattle.std.proofs.Common.{map, sym, subst}
-use Rattle.xs_weave.specs.Conservative.{IsExtensionOf}
-use Rattle.xs_weave.proofs.WovenNominal.{woven_extends}
+use Rattle.std.proofs.Common.{map}
+use Rattle.xs_flat.specs.ModelTree.{model_tree}
+use Rattle.xs_extend.proofs.GuardLaws.{guards_judged}
 use Rattle.xs_weave_rules.proofs.WeavableLaw.{weavable}
 use Rattle.xs_fei.specs.Instructions.{instruction_tree}
 use Rattle.xs_extend.specs.WovenFaults.{fault_tree}
@@ -12,7 +12,8 @@ pub returns-clause-faults : goal.returns-clause-faults
 returns-clause-faults c = λ are.
     faults_are (program_tree c.args.p.now) (instruction_tree c.args.i.now) c.args.typed.now.model.instances (map fault_tree c.in_ok-woven.woven.faults) c.in_ok-woven.ensures.faults are
 
-pub returns-clause-extension : goal.returns-clause-extension
-returns-clause-extension c = λ judged.
-    subst (IsExtensionOf (program_tree c.args.p.now) (instruction_tree c.args.i.now)) (sym c.in_ok-woven.ensures.program)
-    (woven_extends (program_tree c.args.p.now) (instruction_tree c.args.i.now) (weavable (program_tree c.args.p.now) (instruction_tree c.args.i.now) judged c.in_ok-judge.ensures.kept.items))
+pub returns-clause-weavable : goal.returns-clause-weavable
+returns-clause-weavable c = λ accepted flat mean.
+    let p = program_tree c.args.p.now in
+    let i = instruction_tree c.args.i.now in
+    weavable p i (guards_judged p (model_tree c.args.typed.now.model) i accepted flat c.args.typed.now.typed mean (c.in_ok-judge.ensures.guards accepted flat)) c.in_ok-judge.ensures.kept.items
