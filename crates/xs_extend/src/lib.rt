@@ -7,6 +7,9 @@
 //! listed by instances, then slices, then modes ([`weave`]). [`fault_list`] gives them the numbers that they
 //! have in the woven program's flat model.
 //!
+//! Which rule is told, group after group, stands in `specs/Refused.antt`; what the third group is for are laws
+//! over the definitions of names and of kinds ([`good_is_judged`]).
+//!
 //! ```text
 //! let woven = weave(alloc, &program, &instructions)?;
 //! let model = flatten(alloc, &woven.program)?;
