@@ -52,7 +52,8 @@ files_extended before after model faults extended p text report holds have writt
       only_program = holds.is_text.only;
       spells_instructions = made.spelled;
       spells_written = subst (λ t. BytesSpellProgram t (woven p made.instructions)) (sym made.printed) (woven_text_spells holds.bytes have.bytes p made.instructions holds.is_text.spelled made.spelled);
-      extension = woven_extends p made.instructions;
+      weavable = made.weavable;
+      extension = woven_extends p made.instructions made.weavable;
     }
 
 comes_extended : (files : List NamedFile) (model faults extended : Text) (o : Outcome) (after : Option (List NamedFile)) (said now : Option (List ℕ)) → ComesTo files model faults extended o →

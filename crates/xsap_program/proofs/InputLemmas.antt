@@ -1,6 +1,12 @@
 -- What the reading of an input file comes to.
-use Rattle.std.proofs.Common.{◌≡◌, ℕ, List, Option, Some, None, Result, Err, IsErrOf, IfSome}
+use Rattle.std.proofs.Common.{◌≡◌, ◌∙◌, ap, refl, ℕ, List, [], ◌∷◌, map, Option, Some, None, Result, Err, IsErrOf, IfSome}
 use Rattle.xs_tree.specs.ProgramTree.{Text, ProgramTree}
+use Rattle.xs_flattening.specs.Flat.{FlatInstance, FlatModel as ModelTree}
+use Rattle.xs_flattening.specs.Model.{IsFlatOf}
+use Rattle.xs_flat.specs.declared.model.FlatModel.{FlatModel}
+use Rattle.xs_flat.specs.declared.model.Instance.{Instance}
+use Rattle.xs_flat.specs.ModelTree.{instance_tree, model_tree}
+use Rattle.xs_extend.specs.Refused.{modules_in}
 use Rattle.xs_desk.specs.declared.files.NamedFile.{NamedFile}
 use Rattle.xsap_program.specs.declared.status.InputFault.{InputFault}
 use Rattle.xsap_program.specs.declared.status.Refusal.{Refusal}
@@ -10,7 +16,7 @@ use Rattle.xsap_program.specs.declared.wrong.Wrong.TheVariants as wrong
 use Rattle.xsap_program.specs.declared.input.Input.TheVariants as input
 use Rattle.xsap_program.specs.declared.input.Stop.TheVariants as stop
 use Rattle.xsap_program.specs.declared.faults.Made.{Made}
-use Rattle.xsap_program.specs.Inputs.{refusal_at, stop_at, IsRefusedFile, HasBytes, IsWrongModel, IsModelText, RefusesModel, model_file, model_bytes, HoldsModel, IsWrongFaults, RefusesFaults, faults_file, faults_bytes, IsMade, HoldsExtension}
+use Rattle.xsap_program.specs.Inputs.{refusal_at, stop_at, modules_named, IsRefusedFile, HasBytes, IsWrongModel, IsModelText, IsLawful, RefusesModel, model_file, model_bytes, HoldsModel, IsWrongFaults, RefusesFaults, faults_file, faults_bytes, IsMade, HoldsExtension}
 
 -- a stop at the one refusal is a stop at no other
 pub same_refusal : {x r : Refusal} → stop.Refused x ≡ stop.Refused r → r ≡ x
@@ -30,10 +36,10 @@ refuses_model_bytes (Some files) name bytes (wrong.Refused fault) r is has bad =
 refuses_model_bytes (Some files) name bytes wrong.Memory r is has bad = cc
 
 -- bytes that are taken, as the model of the file
-pub holds_model : (told : Option (List NamedFile)) (name : Text) (bytes : List ℕ) (p : ProgramTree) → IfSome told (λ files. HasBytes files name bytes) → IsModelText bytes p →
-    IfSome told (λ files. HoldsModel files name p)
-holds_model None name bytes p has text = tt
-holds_model (Some files) name bytes p has text = record { bytes = bytes; has = has; is_text = text }
+pub holds_model : (told : Option (List NamedFile)) (name : Text) (bytes : List ℕ) (p : ProgramTree) (m : ModelTree) → IfSome told (λ files. HasBytes files name bytes) → IsModelText bytes p →
+    IsLawful p m → IfSome told (λ files. HoldsModel files name p)
+holds_model None name bytes p m has text lawful = tt
+holds_model (Some files) name bytes p m has text lawful = record { bytes = bytes; has = has; is_text = text; flat = m; lawful = lawful }
 
 pub refuses_faults_file : (told : Option (List NamedFile)) (name : Text) (p : ProgramTree) (r : Refusal) (fault : InputFault) → r ≡ refusal_at input.Faults fault →
     IfSome told (λ files. IsRefusedFile files name fault) → IfSome told (λ files. RefusesFaults files name p r)
@@ -54,3 +60,11 @@ holds_extension (Some files) name p bytes made has is = record { bytes = bytes; 
 
 pub same_error : {T E : Type 0} {a b : E} → Path (Result T E) (Err a) (Err b) → a ≡ b
 same_error e = cc
+
+-- the modules of a model's instances are those of the program's
+pub modules_are : (p : ProgramTree) (m : FlatModel) → IsFlatOf p (model_tree m) → modules_in m.instances ≡ modules_named p
+modules_are p m is = twice m.instances ∙ ap (map (λ (at : FlatInstance). at.module_name)) is.instances
+  where
+    twice : (xs : List Instance) → modules_in xs ≡ map (λ (at : FlatInstance). at.module_name) (map instance_tree xs)
+    twice [] = refl
+    twice (x ∷ xs) = ap (λ rest. x.«module» ∷ rest) (twice xs)

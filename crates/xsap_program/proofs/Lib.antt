@@ -4,10 +4,6 @@ mod OutcomeLemmas
 mod ReportLaws
 mod AddedNames
 mod WovenSpells
-mod SmallSpells
-mod SmallOnly
 mod TextFaults
-mod SmallWeavable
-mod SmallExtension
 mod ExtensionLemmas
 mod ExactLemmas

@@ -6,16 +6,14 @@ use Rattle.xs_tree.specs.ProgramTree.{Text, ProgramTree}
 use Rattle.xs_tree.specs.Bytes.{BytesSpellProgram}
 use Rattle.xs_fei.specs.Instructions.{InstructionTree}
 use Rattle.xs_fei.specs.SpellsInstructions.{BytesSpellInstructions}
-use Rattle.xsap_program.specs.SmallModel.{SmallModelTree, IsSmallModel, small_program}
-use Rattle.xsap_program.specs.SmallFaults.{SmallFaultsTree, AreSmallFaults, small_instructions}
 use Rattle.xs_weave.specs.Conservative.{IsExtensionOf}
 use Rattle.xs_weave.specs.Weavable.{IsWeavable}
 use Rattle.xs_weave.specs.Woven.{woven}
 
 -- The file that is written spells the program that the weave makes of the program that the model's bytes at
--- entry spell and of the instructions that the other file's bytes at entry spell. Where a weave takes these,
--- that is their extension: its traces, cut, are exactly the extended traces, and the faultless ones, hidden,
--- are exactly the traces of the program.
+-- entry spell and of the instructions that the other file's bytes at entry spell. The program and the
+-- instructions are such as a weave takes, and what is written is their extension: its traces, cut, are exactly
+-- the extended traces, and the faultless ones, hidden, are exactly the traces of the program.
 pub record IsExtended (before after : List NamedFile) (model faults extended : Text) : Type 0 where
   pub model_bytes : List ℕ
   pub fault_bytes : List ℕ
@@ -29,20 +27,5 @@ pub record IsExtended (before after : List NamedFile) (model faults extended : T
   pub only_program : (q : ProgramTree) → BytesSpellProgram model_bytes q → program ≡ q
   pub spells_instructions : BytesSpellInstructions fault_bytes instructions
   pub spells_written : BytesSpellProgram written_bytes (woven program instructions)
-  pub extension : IsWeavable program instructions → IsExtensionOf program instructions (woven program instructions)
-
--- the files hold a small model and small instructions for its variable
-pub record AreSmallFiles (files : List NamedFile) (model faults : Text) (m : SmallModelTree) (f : SmallFaultsTree) : Type 0 where
-  pub model_bytes : List ℕ
-  pub fault_bytes : List ℕ
-  pub had_model : file_of files model ≡ Some model_bytes
-  pub had_faults : file_of files faults ≡ Some fault_bytes
-  pub is_model : IsSmallModel model_bytes m
-  pub are_faults : AreSmallFaults fault_bytes m.name f
-
--- the file that is written spells the extension of the small model by the small instructions
-pub record IsSmallExtension (files : List NamedFile) (extended : Text) (m : SmallModelTree) (f : SmallFaultsTree) : Type 0 where
-  pub written_bytes : List ℕ
-  pub has_written : file_of files extended ≡ Some written_bytes
-  pub spells_written : BytesSpellProgram written_bytes (woven (small_program m) (small_instructions m.name f))
-  pub extension : IsExtensionOf (small_program m) (small_instructions m.name f) (woven (small_program m) (small_instructions m.name f))
+  pub weavable : IsWeavable program instructions
+  pub extension : IsExtensionOf program instructions (woven program instructions)

@@ -1,5 +1,5 @@
 -- What the two input files come to: what is wrong with a file, and what it holds.
-use Rattle.std.specs.Prelude.{ℕ, ◌≡◌, ◌⊎◌, ◌≤◌, ◌<◌, List, length, Some, None}
+use Rattle.std.specs.Prelude.{ℕ, ◌≡◌, ◌⊎◌, ◌≤◌, ◌<◌, List, length, map, Some, None}
 use Rattle.xs_desk.specs.declared.files.NamedFile.{NamedFile}
 use Rattle.xs_desk.specs.Files.{file_of, content_of}
 use Rattle.xs_tree.specs.ProgramTree.{Text, ProgramTree, program_tree}
@@ -10,11 +10,22 @@ use Rattle.xs_parse.specs.Stops.{FaultMeans}
 use Rattle.xs_parse.specs.Symbols.{IsProgram}
 use Rattle.xs_parse.specs.Within.{HasProgramDepths, IsProgramTooDeep}
 use Rattle.xs_flat.specs.declared.fault.FlatFault.{FlatFault}
+use Rattle.xs_flat.specs.Faults.{IsFaultOf}
+use Rattle.xs_flattening.specs.Flat.{FlatModel as ModelTree}
+use Rattle.xs_flattening.specs.Flat.{FlatInstance}
+use Rattle.xs_flattening.specs.Items.{instances_of}
+use Rattle.xs_flattening.specs.Looks.{ActualsMean}
+use Rattle.xs_flattening.specs.Rules.{IsAccepted}
+use Rattle.xs_flattening.specs.Model.{IsFlatOf}
+use Rattle.xs_kinds.specs.Models.{IsTyped}
+use Rattle.xs_types.specs.Faults.{IsToldOf}
 use Rattle.xs_fei.specs.Instructions.{InstructionTree}
 use Rattle.xs_fei.specs.SpellsInstructions.{BytesSpellInstructions}
 use Rattle.xs_fei_reader.specs.InstructionPlaces.{IsInstructions}
 use Rattle.xs_fei_reader.specs.Within.{AreInstructionsTooDeep}
 use Rattle.xs_weave.specs.Woven.{woven}
+use Rattle.xs_weave.specs.Weavable.{IsWeavable}
+use Rattle.xs_extend.specs.Refused.{IsTold}
 use Rattle.xs_types.specs.declared.fault.TypeFault.{TypeFault}
 use Rattle.xs_extend.specs.declared.faults.Woven.{Woven}
 use Rattle.xs_extend.specs.declared.faults.WovenFault.{WovenFault}
@@ -65,12 +76,25 @@ IsModelFault bytes f = FaultMeans IsProgram (IsProgramTooDeep bytes) bytes f
 abbrev pub IsFaultOfInstructions : List ℕ → ParseFault → Type 0
 IsFaultOfInstructions bytes f = FaultMeans IsInstructions (AreInstructionsTooDeep bytes) bytes f
 
--- what is wrong with the bytes of a model: they spell no program within the depths, or it breaks a rule
+-- the flat model of a program, which has no other
+pub record IsModelOf (p : ProgramTree) (m : ModelTree) : Type 0 where
+  pub is : IsFlatOf p m
+  pub only : (n : ModelTree) → IsFlatOf p n → n ≡ m
+
+-- a program that keeps every rule of names and of kinds, with its flat model
+pub record IsLawful (p : ProgramTree) (m : ModelTree) : Type 0 where
+  pub accepted : IsAccepted p
+  pub meant : ActualsMean p
+  pub model : IsModelOf p m
+  pub typed : IsTyped m
+
+-- what is wrong with the bytes of a model: they spell no program within the depths, or it breaks a rule of names, or its
+-- flat model one of kinds, and no other before
 pub data IsWrongModel (bytes : List ℕ) (w : Wrong) : Type 0 where
   no_memory : w ≡ wrong.Memory → IsWrongModel bytes w
   not_read : (f : ParseFault) → w ≡ parse_wrong f → IsModelFault bytes f → IsWrongModel bytes w
-  not_flat : (p : ProgramTree) (f : FlatFault) → IsModelText bytes p → w ≡ flat_wrong f → IsWrongModel bytes w
-  not_typed : (p : ProgramTree) (f : TypeFault) → IsModelText bytes p → w ≡ type_wrong f → IsWrongModel bytes w
+  not_flat : (p : ProgramTree) (f : FlatFault) → IsModelText bytes p → IsFaultOf p f → w ≡ flat_wrong f → IsWrongModel bytes w
+  not_typed : (p : ProgramTree) (m : ModelTree) (f : TypeFault) → IsModelText bytes p → IsAccepted p → IsModelOf p m → IsToldOf m f → w ≡ type_wrong f → IsWrongModel bytes w
 
 -- the model file is refused
 pub data RefusesModel (files : List NamedFile) (name : Text) (r : Refusal) : Type 0 where
@@ -82,6 +106,8 @@ pub record HoldsModel (files : List NamedFile) (name : Text) (p : ProgramTree) :
   pub bytes : List ℕ
   pub has : HasBytes files name bytes
   pub is_text : IsModelText bytes p
+  pub flat : ModelTree
+  pub lawful : IsLawful p flat
 
 -- what is wrong with an extension as a whole, at no item of either file
 pub data IsWrongWhole (w : Wrong) : Type 0 where
@@ -89,12 +115,16 @@ pub data IsWrongWhole (w : Wrong) : Type 0 where
   too_many : (f : FlatFault) → f.item ≡ 0 → w ≡ flat_wrong f → IsWrongWhole w
   too_large : (f : TypeFault) → f.item ≡ 0 → w ≡ type_wrong f → IsWrongWhole w
 
+-- the modules of the instances of a program
+abbrev pub modules_named : ProgramTree → List Text
+modules_named p = map (λ (at : FlatInstance). at.module_name) (instances_of p)
+
 -- what is wrong with the bytes of instructions for a program: they spell no instructions, these break a rule of the
 -- weave, or the extension passes a limit
 pub data IsWrongFaults (p : ProgramTree) (bytes : List ℕ) (w : Wrong) : Type 0 where
   out_of_memory : w ≡ wrong.Memory → IsWrongFaults p bytes w
   not_spelled : (f : ParseFault) → w ≡ parse_wrong f → IsFaultOfInstructions bytes f → IsWrongFaults p bytes w
-  not_woven : (i : InstructionTree) (f : WeaveFault) → BytesSpellInstructions bytes i → w ≡ weave_wrong f → IsWrongFaults p bytes w
+  not_woven : (i : InstructionTree) (f : WeaveFault) → BytesSpellInstructions bytes i → IsTold p i (modules_named p) f → w ≡ weave_wrong f → IsWrongFaults p bytes w
   past_limit : (i : InstructionTree) → BytesSpellInstructions bytes i → IsWrongWhole w → IsWrongFaults p bytes w
 
 -- the instruction file is refused
@@ -107,6 +137,7 @@ pub record IsExtensionText (p : ProgramTree) (bytes : List ℕ) (text report : T
   pub instructions : InstructionTree
   pub faults : List WovenFault
   pub spelled : BytesSpellInstructions bytes instructions
+  pub weavable : IsWeavable p instructions
   pub printed : text ≡ program_text (woven p instructions)
   pub told : report ≡ report_text faults
 

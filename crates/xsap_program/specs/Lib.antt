@@ -1,5 +1,3 @@
-pub mod SmallModel
-pub mod SmallFaults
 pub mod Statuses
 pub mod Wrongs
 pub mod Commands

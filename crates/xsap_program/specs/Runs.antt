@@ -14,7 +14,13 @@ use Rattle.xsap_program.specs.Wrongs.{parse_wrong}
 use Rattle.xsap_program.specs.Statuses.{status_of, refusal_text}
 use Rattle.xsap_program.specs.Commands.{AsksToExtend, AsksForMore}
 use Rattle.xsap_program.specs.declared.status.InputFault.{InputFault}
-use Rattle.xsap_program.specs.Inputs.{IsRefusedFile, HasBytes, IsModelFault, RefusesModel, HoldsModel, RefusesFaults, HoldsFaults}
+use Rattle.xs_flattening.specs.Flat.{FlatModel}
+use Rattle.xs_flattening.specs.Rules.{Rule, number_of, IsFirstBroken, IsAccepted}
+use Rattle.xs_flattening.specs.Model.{IsFlatOf}
+use Rattle.xs_kinds.specs.Judged.{KindRule, number_of as kind_number}
+use Rattle.xs_kinds.specs.Models.{IsFault}
+use Rattle.xsap_program.specs.declared.status.Part.TheVariants as part
+use Rattle.xsap_program.specs.Inputs.{IsRefusedFile, HasBytes, IsModelText, IsModelFault, RefusesModel, HoldsModel, RefusesFaults, HoldsFaults}
 
 -- a run refuses something, or it writes a text to a file and says a report
 pub data Outcome : Type 0 where
@@ -68,13 +74,19 @@ pub record HasStopped (files : List NamedFile) (words : List Text) (before after
   pub means : Means files words outcome
   pub in_part : IsDeliveredInPart outcome before after said now
 
--- what the words alone, or the words and the model's file, decide before any rule is tried
+-- what the words alone, or the words and the model's file, decide: a file that can't be read, or the first rule of names or
+-- of kinds that the program breaks which the file's bytes spell
 pub data Settles (files : List NamedFile) (words : List Text) : Outcome → Type 0 where
   words_settle : AsksForMore words → Settles files words (refuses (refusal.NotBuilt built.Words))
   model_settles : (model faults extended : Text) (fault : InputFault) → AsksToExtend words model faults extended → IsRefusedFile files model fault →
       Settles files words (refuses (refusal.Model fault))
   text_settles : (model faults extended : Text) (bytes : List ℕ) (f : ParseFault) (fault : InputFault) → AsksToExtend words model faults extended → HasBytes files model bytes →
       wrong.Refused fault ≡ parse_wrong f → IsModelFault bytes f → Settles files words (refuses (refusal.Model fault))
+  names_settle : (model faults extended : Text) (bytes : List ℕ) (p : ProgramTree) (r : Rule) (item : ℕ) → AsksToExtend words model faults extended → HasBytes files model bytes →
+      IsModelText bytes p → IsFirstBroken p r item → Settles files words (refuses (refusal.Model (record { part = part.Flat; number = number_of r; place = item })))
+  kinds_settle : (model faults extended : Text) (bytes : List ℕ) (p : ProgramTree) (m : FlatModel) (r : KindRule) (item : ℕ) → AsksToExtend words model faults extended → HasBytes files model bytes →
+      IsModelText bytes p → IsAccepted p → IsFlatOf p m → IsFault m r item →
+      Settles files words (refuses (refusal.Model (record { part = part.Kinds; number = kind_number r; place = item })))
 
 -- the answer is not that the model is refused
 abbrev pub IsPastModel : Status → Type 0

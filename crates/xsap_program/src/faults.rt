@@ -2,7 +2,8 @@
 ghost use Rattle.std.specs.Prelude.{◌≡◌, ◌≤◌, length, IfOk, IfErr, IfSome, IsErrOf};
 ghost use Rattle.xs_desk.specs.Desk.{Rose};
 ghost use Rattle.xs_tree.specs.ProgramTree.{program_tree};
-ghost use Rattle.xsap_program.specs.Inputs.{IsWrongWhole, IsWrongFaults, RefusesFaults, HoldsExtension, IsMade, IsMadeOf};
+ghost use Rattle.xs_flat.specs.ModelTree.{model_tree};
+ghost use Rattle.xsap_program.specs.Inputs.{IsLawful, IsWrongWhole, IsWrongFaults, RefusesFaults, HoldsExtension, IsMade, IsMadeOf};
 ghost use Rattle.xsap_program.specs.declared.status.Refusal.{Refusal};
 ghost use Rattle.xsap_program.specs.declared.input.Stop.TheVariants as stop;
 
@@ -33,6 +34,7 @@ pub(crate) fn load_extension<D: Desk>(
     name: &str,
     model: &LoadedModel,
 ) -> Result<Made, Stop>
+    requires { IsLawful (program_tree model.now.program) (model_tree model.now.typed.model) }
     ensures ok { IfOk result (λ made. IfSome (D.files desk.old) (λ files. HoldsExtension files name.now (program_tree model.now.program) made)) }
     ensures refused { (r : Refusal) → IsErrOf result (stop.Refused r) → IfSome (D.files desk.old) (λ files. RefusesFaults files name.now (program_tree model.now.program) r) }
     ensures failed { IsErrOf result stop.Desk → Rose (D.faults desk.old) (D.faults desk.new) }
@@ -51,7 +53,8 @@ pub(crate) fn load_extension<D: Desk>(
 
 /// The extension of the model by the instructions that the bytes spell.
 fn extension_of(alloc: Global, bytes: &[u8], model: &LoadedModel) -> Result<Made, Wrong>
-    requires { length bytes.now ≤ 1048576 }
+    requires length { length bytes.now ≤ 1048576 }
+    requires lawful { IsLawful (program_tree model.now.program) (model_tree model.now.typed.model) }
     ensures ok { IfOk result (IsMade (program_tree model.now.program) bytes.now) }
     ensures wrong { IfErr result (IsWrongFaults (program_tree model.now.program) bytes.now) }
 {

@@ -2,7 +2,8 @@
 ghost use Rattle.std.specs.Prelude.{◌≡◌, ◌≤◌, length, IfOk, IfErr, IfSome, IsErrOf};
 ghost use Rattle.xs_desk.specs.Desk.{Rose};
 ghost use Rattle.xs_tree.specs.ProgramTree.{program_tree};
-ghost use Rattle.xsap_program.specs.Inputs.{IsModelText, IsWrongModel, RefusesModel, HoldsModel};
+ghost use Rattle.xs_flat.specs.ModelTree.{model_tree};
+ghost use Rattle.xsap_program.specs.Inputs.{IsModelText, IsLawful, IsWrongModel, RefusesModel, HoldsModel};
 ghost use Rattle.xsap_program.specs.declared.status.Refusal.{Refusal};
 ghost use Rattle.xsap_program.specs.declared.input.Stop.TheVariants as stop;
 
@@ -29,6 +30,7 @@ pub(crate) fn load_model<D: Desk>(
     name: &str,
 ) -> Result<LoadedModel, Stop>
     ensures ok { IfOk result (λ l. IfSome (D.files desk.old) (λ files. HoldsModel files name.now (program_tree l.program))) }
+    ensures lawful { IfOk result (λ l. IsLawful (program_tree l.program) (model_tree l.typed.model)) }
     ensures refused { (r : Refusal) → IsErrOf result (stop.Refused r) → IfSome (D.files desk.old) (λ files. RefusesModel files name.now r) }
     ensures failed { IsErrOf result stop.Desk → Rose (D.faults desk.old) (D.faults desk.new) }
 
@@ -48,6 +50,7 @@ pub(crate) fn load_model<D: Desk>(
 fn model_of(alloc: Global, bytes: &[u8]) -> Result<LoadedModel, Wrong>
     requires { length bytes.now ≤ 1048576 }
     ensures ok { IfOk result (λ l. IsModelText bytes.now (program_tree l.program)) }
+    ensures lawful { IfOk result (λ l. IsLawful (program_tree l.program) (model_tree l.typed.model)) }
     ensures wrong { IfErr result (IsWrongModel bytes.now) }
 {
     let program = program(alloc, bytes)?;

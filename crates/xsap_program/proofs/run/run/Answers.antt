@@ -5,7 +5,6 @@ use Rattle.xsap_program.specs.Runs.{refuses}
 use Rattle.xsap_program.proofs.OutcomeLemmas.{means_asked, means_more, answers_refusal, stops_at_refusal, answers_extension, stops_at_extension, answers_stop, leaves_stop}
 use Rattle.xsap_program.proofs.ExtensionLemmas.{done_extends}
 use Rattle.xsap_program.proofs.ExactLemmas.{answers_settled, answers_past_model}
-use Rattle.xsap_program.proofs.SmallExtension.{extends_small}
 use Rattle.xsap_program.proofs.run.run.Goals as goal
 
 pub returns-in_default-clause-answered : goal.returns-in_default-clause-answered
@@ -65,14 +64,3 @@ returns-in-Err-clause-settled g c = answers_settled _ _ _ _ _ _ (returns-in-Err-
 pub returns-in-Err-clause-no_faults : goal.returns-in-Err-clause-no_faults
 returns-in-Err-clause-no_faults g c = answers_past_model _ _ _ _ _ _ (returns-in-Err-clause-answered g c)
 
-pub returns-in_default-clause-small : goal.returns-in_default-clause-small
-returns-in_default-clause-small g c model faults extended done asks =
-    extends_small _ _ model faults extended (returns-in_default-clause-extended g c model faults extended done asks)
-
-pub returns-in-Ok-clause-small : goal.returns-in-Ok-clause-small
-returns-in-Ok-clause-small g c model faults extended done asks =
-    extends_small _ _ model faults extended (returns-in-Ok-clause-extended g c model faults extended done asks)
-
-pub returns-in-Err-clause-small : goal.returns-in-Err-clause-small
-returns-in-Err-clause-small g c model faults extended done asks =
-    extends_small _ _ model faults extended (returns-in-Err-clause-extended g c model faults extended done asks)
