@@ -21,7 +21,6 @@ pub mod NamingItems
 pub mod Unknowns
 pub mod LookAfter
 pub mod Frames
-pub mod Closing
 pub mod Stacks
 pub mod Turns
 pub mod SceneSymbols
