@@ -179,10 +179,6 @@ module _ (old mid new : Scene) (spot item inner formal made : ℕ) (value : Bor 
       (left_one (program_of old) old.definitions.items (root inside) rest (record { spot = spot; item = item; value = value }) n'.left defined)
       (told_all at inside rest a n')
 
--- a plain name has no definition
-pub leaf_named : (s : Scene) (spot item inner formal : ℕ) (e : Formula) (name : Bor Path) → Some name.now ≡ plain_name e → NamesActual s s spot item inner formal e
-leaf_named s spot item inner formal e name is = λ at inside rest a n. subst (λ o. IsNaming s (root_of_actual inside.place formal item o ++ rest)) (sym is) n
-
 pub same_start : (s : Scene) → IsSameProgram s s
 same_start s = record { modules = refl; spots = refl; symbols = refl }
 

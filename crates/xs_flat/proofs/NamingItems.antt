@@ -171,36 +171,6 @@ instance_named old new spot item inner d m es what names = λ at role rest there
     (subst (λ q. IsNaming old (roots_of_actuals q 0 item es ++ rest)) (sym den.2)
     (subst (λ w. IsNaming old (roots_of_type (d.name ∷ at.place) item w ++ rest)) what naming))
 
--- a declaration without actuals
-abbrev pub IsVariableTree : DeclaredTree → Type 0
-IsVariableTree (instance m es) = ⊥
-IsVariableTree _ = Unit {0}
-
-pub variable_named : (old : Scene) (spot item : ℕ) (d : DeclTree) (walked : Found) → IsVariableTree d.what → NamesDeclared old old spot item d walked
-variable_named old spot item d walked plain = λ at role rest there kind denotes naming. by_type d.what plain rest (d.name ∷ at.place) naming
-  where
-    by_type : (what : DeclaredTree) → IsVariableTree what → (rest : List Root) (inside : Place) → IsNaming old (roots_of_type inside item what ++ rest) → IsNaming old rest
-    by_type boolean h rest inside naming = naming
-    by_type (range lo hi) h rest inside naming = naming
-    by_type (members ms) h rest inside naming = naming
-    by_type (instance m es) h rest inside naming = absurd h
-
-abbrev pub IsNoInstance : Found → Type 0
-IsNoInstance (found.Instance k) = ⊥
-IsNoInstance _ = Unit {0}
-
-pub strange_named : (old : Scene) (spot item : ℕ) (d : DeclTree) (m : Text) (es : List Formula) (walked : Found) → d.what ≡ instance m es → IsNoInstance walked → NamesDeclared old old spot item d walked
-strange_named old spot item d m es walked what none = λ at role rest there kind denotes naming.
-    absurd (by_found walked none (d.name ∷ at.place) (subst (λ w. Denotes (program_of old) walked (meaning_of_declared at.place d.name w)) what denotes))
-  where
-    by_found : (f : Found) → IsNoInstance f → (a : Place) → Denotes (program_of old) f (an_instance_at a) → ⊥
-    by_found (found.Instance k) h a d = h
-    by_found (found.Variable k r) h a d = d
-    by_found (found.Definition k) h a d = d
-    by_found (found.Symbol k) h a d = d
-    by_found found.Nothing h a d = d
-    by_found found.Loop h a d = d
-
 -- some of an instance's actuals
 abbrev pub NamedActuals : Scene → Scene → ℕ → ℕ → ℕ → List Formula → ℕ → Type 0
 NamedActuals old new spot item inner es k =
@@ -477,21 +447,6 @@ no_names (code.Constants xs) h g = tt
 no_names (code.Init e) h g = tt
 no_names (code.Invar e) h g = tt
 no_names (code.Trans e) h g = tt
-
--- a declared type that is no instance
-pub no_instance : (w : Declared) → ((m : Text) (es : List (Expr Path)) → w ≡ declared.Instance m es → ⊥) → IsVariableTree (declared_tree w)
-no_instance declared.Boolean h = tt
-no_instance (declared.Range lo hi) h = tt
-no_instance (declared.Members ms) h = tt
-no_instance (declared.Instance m es) h = h m es refl
-
-pub not_instance : (f : Found) → ((k : ℕ) → f ≡ found.Instance k → ⊥) → IsNoInstance f
-not_instance (found.Instance k) h = h k refl
-not_instance (found.Variable k r) h = tt
-not_instance (found.Definition k) h = tt
-not_instance (found.Symbol k) h = tt
-not_instance found.Nothing h = tt
-not_instance found.Loop h = tt
 
 -- the tree of the expression at a place
 pub tree_there : (es : List (Expr Path)) (k : ℕ) (e : Expr Path) → k < length es → e ≡ get_or es k e → slice_get (map tree_of es) k ≡ Some (tree_of e)

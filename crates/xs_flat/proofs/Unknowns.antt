@@ -23,9 +23,6 @@ use Rattle.xs_flat.proofs.LookSplit.{never, of_some}
 use Rattle.xs_flat.proofs.SceneItems.{both_length, laid_at, names_laid}
 use Rattle.xs_flat.proofs.Told.{get_below}
 
-items_of_row : Vec Formal Global → List Formal
-items_of_row v = v.items
-
 pub unknown_more : (s mid : Scene) (k : ℕ) (fs : List (Vec Formal Global)) (v : Vec Formal Global) (count : ℕ) → IsSameButFormals s mid → rows mid ≡ unknown_to s k → fs ≡ mid.formals.items ++ v ∷ [] →
     v.items ≡ replicate count known.Unknown → count ≡ formals_at mid k → rows_of fs ≡ unknown_to s (k + 1)
 unknown_more s mid k fs v count same so_far pushed is counted =
@@ -50,17 +47,6 @@ unknown_more s mid k fs v count same so_far pushed is counted =
         formals_of_modules : Modules → Option Spot → ℕ
         formals_of_modules m o = formals_in (names_by m o)
 
-get_joined : {A : Type 0} (xs : List A) (y : A) (k : ℕ) → (slice_get (xs ++ y ∷ []) k ≡ slice_get xs k) ⊎ ((k ≡ length xs) × (slice_get (xs ++ y ∷ []) k ≡ Some y))
-get_joined [] y zero = inr (refl, refl)
-get_joined [] y (suc k) = inl refl
-get_joined (x ∷ xs) y zero = inl refl
-get_joined (x ∷ xs) y (suc k) = by_rest (get_joined xs y k)
-  where
-    by_rest : (slice_get (xs ++ y ∷ []) k ≡ slice_get xs k) ⊎ ((k ≡ length xs) × (slice_get (xs ++ y ∷ []) k ≡ Some y)) →
-        (slice_get (xs ++ y ∷ []) k ≡ slice_get xs k) ⊎ ((suc k ≡ suc (length xs)) × (slice_get (xs ++ y ∷ []) k ≡ Some y))
-    by_rest (inl e) = inl e
-    by_rest (inr e) = inr (ap suc e.0, e.1)
-
 get_left : {A : Type 0} (xs : List A) (y : A) (k : ℕ) → k < length xs → slice_get (xs ++ y ∷ []) k ≡ slice_get xs k
 get_left [] y k h = absurd (omega (arith, h))
 get_left (x ∷ xs) y zero h = refl
@@ -82,9 +68,6 @@ unknown_at : (s : Scene) (n k : ℕ) → k < n → slice_get (unknown_to s n) k 
 unknown_at s zero k h = absurd (omega (arith, h))
 unknown_at s (suc n) k h = by_place (ltb k n) refl (unknown_at s n k)
   where
-    row : List Formal
-    row = replicate (formals_at s n) known.Unknown
-
     by_place : (b : Bool) → ltb k n ≡ b → (k < n → slice_get (unknown_to s n) k ≡ Some (replicate (formals_at s k) known.Unknown)) → slice_get (unknown_to s (suc n)) k ≡ Some (replicate (formals_at s k) known.Unknown)
     by_place true e rest =
         let before : k < n = ltb-true k n e in
