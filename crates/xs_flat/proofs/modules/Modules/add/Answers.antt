@@ -1,5 +1,5 @@
 -- The module's names and its place stand last.
-use Rattle.std.proofs.Common.{rules, ◌≡◌, suc, ◌+◌, ◌++◌, ◌∷◌, [], length, map, ap, ◌∙◌}
+use Rattle.std.proofs.Common.{rules, List, ◌≡◌, suc, ◌+◌, ◌++◌, ◌∷◌, [], length, map, ap, ◌∙◌}
 use Rattle.std.specs.Prelude.{Vec}
 use Rattle.std.specs.declared.alloc.Global.{Global}
 use Rattle.xs_tree.specs.ProgramTree.{ModuleTree, module_tree}
@@ -8,8 +8,20 @@ use Rattle.xs_flat.specs.declared.items.Numbered.{Numbered}
 use Rattle.xs_flat.specs.declared.modules.Modules.{Modules}
 use Rattle.xs_flat.specs.declared.modules.Names.{Names}
 use Rattle.xs_flat.specs.ItemTree.{Counted, numbered_tree, counted_from, counted_below, counted_of}
+use Rattle.xs_flat.specs.Reading.{IsTold, header_told, names_told, module_told, trees_read}
+use Rattle.xs_flat.proofs.PassedOn.{passed_on}
+use Rattle.xs_flat.proofs.ReadingLaws.{told_as, told_later}
 use Rattle.xs_flat.proofs.ReadLaws.{read_more}
 use Rattle.xs_flat.proofs.modules.Modules.add.Goals as goal
+
+pub returns-in_err-names-clause-fault : goal.returns-in_err-names-clause-fault
+returns-in_err-names-clause-fault c =
+    let trees : List ModuleTree = trees_read c.args.self.now in
+    let m : ModuleTree = module_tree c.args.module.now in
+    let header : c.in_ok-header.header ≡ suc c.args.last = search rules in
+    passed_on (IsTold (module_told trees (suc c.args.last) m)) c.from_residual-in_err-names.result c.in_err-names.field-0.0 c.from_residual-in_err-names.ensures.1
+    (told_as (module_told trees c.in_ok-header.header m) (module_told trees (suc c.args.last) m) c.in_err-names.field-0.0 (ap (λ n. module_told trees n m) header)
+    (told_later (header_told trees c.in_ok-header.header m) (names_told c.in_ok-header.header m) c.in_err-names.field-0.0 c.in_ok-add_place.ensures.kept c.in_err-names.ensures.fault))
 
 pub returns-clause-read : goal.returns-clause-read
 returns-clause-read c =
