@@ -17,3 +17,4 @@ pub mod Known
 pub mod Laid
 pub mod Asked
 pub mod ResolvedAt
+pub mod ScopeOf
