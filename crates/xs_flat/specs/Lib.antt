@@ -27,3 +27,4 @@ pub mod Verdicts
 pub mod Assigned
 pub mod Walking
 pub mod ResolvedAt
+pub mod ScopeOf

@@ -1,7 +1,7 @@
 //! The public calls: a program's flat model, and expressions at one of its instances.
 
 ghost use Rattle.std.specs.Prelude.{◌≡◌, ◌∷◌, [], ◌↔◌, ◌&&◌, codes, not, true, false, None, IfOk, IfErr, IsErrOf};
-ghost use Rattle.xs_tree.specs.ProgramTree.{program_tree};
+ghost use Rattle.xs_tree.specs.ProgramTree.{ProgramTree, program_tree};
 ghost use Rattle.xs_tree.specs.Scope.{find_module};
 ghost use Rattle.xs_flat.specs.declared.fault.Rule.TheVariants.{NoMain, NoSuchName, NextHere, InputHere};
 ghost use Rattle.xs_flat.specs.Shape.{shape};
@@ -16,6 +16,7 @@ ghost use Rattle.xs_flat.specs.SceneTree.{module_from, IsScene, program_of};
 ghost use Rattle.xs_flat.specs.Closed.{AreVariables};
 ghost use Rattle.xs_flat.specs.Walked.{AreDeclared};
 ghost use Rattle.xs_flat.specs.NeedsTree.{AreNeeds};
+ghost use Rattle.xs_flat.specs.ScopeOf.{IsScopeOf, IsAnyScope};
 ghost use Rattle.xs_flat.specs.ResolvedAt.{IsAt, IsResolvedAt, IsValueFault};
 ghost use Rattle.xs_flattening.specs.Flat.{FlatInstance};
 ghost use Rattle.xs_tree.specs.Written.{tree_of};
@@ -33,6 +34,66 @@ use crate::walk::Walk;
 use std::alloc::Global;
 use xs_tree::{Expr, Program};
 use xs_value::Dotted;
+
+/// The tables of a program, for expressions at its instances: each costs its own size alone.
+#[derive(Drop)]
+pub struct Scope<'a> {
+    scene: Scene<'a>,
+    needs: Needs,
+}
+
+impl<'a> Scope<'a> {
+    /// The scope of a program that keeps the rules of modules and of the walk.
+    pub fn of_program(alloc: Global, p: &'a Program) -> Result<Scope<'a>, FlatFault>
+        ensures scope { IfOk result (IsScopeOf (program_tree p.now)) }
+        ensures fault { IfErr result (IsFaultOf (program_tree p.now)) }
+    {
+        match main_place(p.modules.as_slice()) {
+            Some(main) => scope_from(alloc, p, main),
+            None => Err(FlatFault {
+                rule: Rule::NoMain,
+                item: 0,
+            }),
+        }
+    }
+
+    /// An expression as [`resolve_at`] resolves it.
+    pub fn resolve_at(
+        &self,
+        alloc: Global,
+        m: &FlatModel,
+        instance: u32,
+        inputs: bool,
+        e: &Expr<Dotted>,
+    ) -> Result<Expr<Flat>, FlatFault>
+        requires scope { IsAnyScope self.now }
+        ensures shape { IfOk result (λ made. shape made ≡ shape e.now) }
+        ensures closed { IfOk result (λ made. is_closed (bounds_of m.now) made ≡ true) }
+        ensures resolved { (p : ProgramTree) → IsScopeOf p self.now → (at : FlatInstance) → IsAt p (model_tree m.now) «instance» at → IfOk result (λ made. IsResolvedAt p (model_tree m.now) at.place (tree_of e.now) (flat_tree made)) }
+        ensures fault { (p : ProgramTree) → IsScopeOf p self.now → (at : FlatInstance) → IsAt p (model_tree m.now) «instance» at → IfErr result (IsValueFault p at.place inputs (tree_of e.now)) }
+    {
+        resolve_value(
+            alloc,
+            &self.scene,
+            &self.needs,
+            m,
+            instance as usize,
+            inputs,
+            e,
+        )
+    }
+}
+
+#[tactic(auto, using(crate::proofs::FlatFaults::want_fault))]
+fn scope_from<'a>(alloc: Global, p: &'a Program, main: usize) -> Result<Scope<'a>, FlatFault>
+    requires main { module_from 0 (program_tree p.now) (codes "main") ≡ Some main }
+    ensures scope { IfOk result (IsScopeOf (program_tree p.now)) }
+    ensures fault { IfErr result (IsFaultOf (program_tree p.now)) }
+{
+    let (scene, _variables) = scene_of(alloc, p, main)?;
+    let needs = Needs::of_scene(alloc, &scene)?;
+    Ok(Scope { scene, needs })
+}
 
 /// The flat model of a program, or the first rule that it breaks.
 ///

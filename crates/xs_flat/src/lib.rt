@@ -5,7 +5,7 @@
 //! whose names are numbers ([`Flat`]); or it tells the first of fourteen rules that the program breaks,
 //! and the item that breaks it ([`FlatFault`]). A name of a formula is looked up once, here: the layers
 //! above never see a dotted name or an instance's parameters. [`resolve_top`] and [`resolve_at`] do the
-//! same for an expression that is not part of the program.
+//! same for an expression that is not part of the program, and a [`Scope`] keeps the tables for many of them.
 //!
 //! The passes stand one to a file, in this order: `modules` (the rules of modules and their names),
 //! `walk` (instances, variables and limits), `symbols`, `names` and `formals` (what names mean),
@@ -40,7 +40,7 @@ mod walk;
 pub use bounds::Bounds;
 pub use copy::{copy_faults, copy_flat};
 pub use fault::{FlatFault, Rule};
-pub use flattening::{flatten, resolve_at, resolve_top};
+pub use flattening::{Scope, flatten, resolve_at, resolve_top};
 pub use history::with_history;
 pub use model::{
     Fault, FaultList, Flat, FlatList, FlatModel, Formula, Instance, InstanceList, Role, Variable,

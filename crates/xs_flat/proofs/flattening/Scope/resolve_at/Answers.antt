@@ -1,0 +1,18 @@
+-- The tables are those of the scope's program.
+use Rattle.std.proofs.Common.{◌≡◌, IfOk, IfErr, subst}
+use Rattle.xs_tree.specs.ProgramTree.{ProgramTree}
+use Rattle.xs_tree.specs.Written.{tree_of}
+use Rattle.xs_flattening.specs.Flat.{FlatInstance}
+use Rattle.xs_flat.specs.ModelTree.{model_tree, flat_tree}
+use Rattle.xs_flat.specs.ResolvedAt.{IsAt, IsResolvedAt, IsValueFault}
+use Rattle.xs_flat.proofs.flattening.Scope.resolve_at.Goals as goal
+
+pub returns-clause-resolved : goal.returns-clause-resolved
+returns-clause-resolved c = λ p is at a.
+    subst (λ (q : ProgramTree). (at : FlatInstance) → IsAt q (model_tree c.args.m.now) c.args.«instance» at → IfOk c.resolve_value.result (λ made. IsResolvedAt q (model_tree c.args.m.now) at.place (tree_of c.args.e.now) (flat_tree made)))
+    is.program c.resolve_value.ensures.resolved at a
+
+pub returns-clause-fault : goal.returns-clause-fault
+returns-clause-fault c = λ p is at a.
+    subst (λ (q : ProgramTree). (at : FlatInstance) → IsAt q (model_tree c.args.m.now) c.args.«instance» at → IfErr c.resolve_value.result (IsValueFault q at.place c.args.inputs (tree_of c.args.e.now)))
+    is.program c.resolve_value.ensures.fault at a
