@@ -1,14 +1,14 @@
 -- In an accepted program what is handed on means something, as the tables of a scene tell.
-use Rattle.std.proofs.Common.{◌≡◌, ◌⊎◌, inl, inr, ℕ, zero, List, [], ◌∷◌, Option, Some, None, refl, sym, ◌∙◌, ap, subst}
+use Rattle.std.proofs.Common.{◌≡◌, inl, inr, ℕ, zero, [], ◌∷◌, Some, refl, sym, ◌∙◌, ap, subst}
 use Rattle.std.specs.Prelude.{slice_get, codes, Vec}
 use Rattle.std.specs.declared.alloc.Global.{Global}
 use Rattle.xs_tree.specs.Tree.{leaf}
-use Rattle.xs_tree.specs.ProgramTree.{Text, Path, Formula, ModuleTree, ProgramTree}
-use Rattle.xs_tree.specs.Scope.{Place, an_instance, Meaning, Means, find_module, kind_in, kind_at, module_of_kind, nth_formula}
+use Rattle.xs_tree.specs.ProgramTree.{Text, Path, ModuleTree, ProgramTree}
+use Rattle.xs_tree.specs.Scope.{Place, find_module, kind_at, module_of_kind}
 use Rattle.xs_tree.specs.Trace.{IsInstance}
 use Rattle.xs_flattening.specs.Flat.{FlatInstance}
 use Rattle.xs_flattening.specs.Items.{instances_of}
-use Rattle.xs_flattening.specs.Looks.{ComesBack, ActualsMean}
+use Rattle.xs_flattening.specs.Looks.{ActualsMean}
 use Rattle.xs_flattening.specs.Rules.{IsWalkable, IsAccepted}
 use Rattle.xs_flattening.specs.Model.{EachBoth}
 use Rattle.xs_flattening.proofs.Sections.{AreInstances}

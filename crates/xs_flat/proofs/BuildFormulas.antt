@@ -1,22 +1,21 @@
 -- The formulas that are told are those that the conditions of the program ask for.
-use Rattle.std.proofs.Common.{◌≡◌, ℕ, zero, suc, ◌+◌, ◌<◌, Bool, true, false, List, [], ◌∷◌, ◌++◌, length, Option, Some, None, refl, sym, ◌∙◌, ap, subst, arith}
-use Rattle.std.specs.Prelude.{slice_get, map, flat_map, nat_lt, if◌then◌else◌}
+use Rattle.std.proofs.Common.{◌≡◌, ℕ, suc, ◌+◌, true, List, [], ◌∷◌, ◌++◌, length, Option, Some, None, refl, sym, ◌∙◌, ap, subst, arith}
+use Rattle.std.specs.Prelude.{slice_get, map, flat_map}
 use Rattle.xs_tree.specs.declared.expr.Op.{Op}
 use Rattle.xs_tree.specs.declared.expr.Op.TheVariants as op
 use Rattle.xs_tree.specs.declared.program.Moment.{Moment}
 use Rattle.xs_tree.specs.declared.program.Moment.TheVariants.{Always, First, After}
 use Rattle.xs_tree.specs.Tree.{Tree, truth, number, leaf, not_of, negate, next_of, binary, choice, case_of, set_of, span}
-use Rattle.xs_tree.specs.ProgramTree.{Text, Path, Formula, DeclaredTree, boolean, range, members, instance, DeclTree, AssignmentTree, ProgramTree}
+use Rattle.xs_tree.specs.ProgramTree.{Text, Path, Formula, DeclaredTree, boolean, range, members, instance, ProgramTree}
 use Rattle.xs_tree.specs.Leaves.{tree_map}
-use Rattle.xs_tree.specs.Scope.{Place, state, input, frozen_role, Meaning, a_variable_at, an_expression_at, an_instance_at, a_symbol, Means}
+use Rattle.xs_tree.specs.Scope.{Place, state, input, frozen_role, Meaning, a_variable_at, Means}
 use Rattle.xs_tree.specs.Trace.{Each}
-use Rattle.xs_flattening.specs.Flat.{FlatLeaf, flat_variable, flat_symbol, flat_definition, FlatInstance, FlatVariable, FlatFormula, FlatModel}
-use Rattle.xs_flattening.specs.Resolved.{Definition, StandsFor, IsLeafOf, IsResolved}
+use Rattle.xs_flattening.specs.Flat.{FlatLeaf, flat_variable, flat_symbol, flat_definition, FlatInstance, FlatFormula, FlatModel}
+use Rattle.xs_flattening.specs.Resolved.{StandsFor, IsLeafOf, IsResolved}
 use Rattle.xs_flattening.specs.Items.{Item, a_declaration, a_definition, an_assignment, some_constants, an_init, an_invar, a_trans, NumberedItem, items_named, Visit, instances_of, variables_of}
 use Rattle.xs_flattening.specs.Rules.{IsAccepted, IsKept, a_use, no_such_name, SomeHasNoValue}
-use Rattle.xs_flattening.specs.Model.{Condition, plain, now_among, next_among, kept, assigned_first, assigned_each, assigned_step, kept_declared, first_conditions, each_conditions, step_conditions, kept_conditions, Written, written_at, conditions, IsVariableNumber, IsAmong, IsKeptBy, same_tree, next_tree, IsConditionTree, IsInstanceNumber, IsFormulaOf, EachBoth, symbols_of}
+use Rattle.xs_flattening.specs.Model.{Condition, plain, now_among, next_among, kept, assigned_first, assigned_each, assigned_step, kept_declared, Written, written_at, conditions, IsVariableNumber, IsConditionTree, IsFormulaOf, EachBoth, symbols_of}
 use Rattle.xs_flattening.proofs.Resolving.{same_meaning}
-use Rattle.xs_flat.specs.declared.bounds.Bounds.{Bounds}
 use Rattle.xs_flat.specs.declared.model.Formula.{Formula as FormulaOf}
 use Rattle.xs_flat.specs.declared.walk.Meaning.{Meaning as Found}
 use Rattle.xs_flat.specs.declared.walk.Meaning.TheVariants as found
@@ -25,14 +24,14 @@ use Rattle.xs_flat.specs.declared.needs.Needs.{Needs}
 use Rattle.xs_flat.specs.declared.build.Asked.{Asked}
 use Rattle.xs_flat.specs.declared.build.Asked.TheVariants as asked
 use Rattle.xs_flat.specs.ModelTree.{role_of, flat_tree, formula_tree}
-use Rattle.xs_flat.specs.SceneTree.{Denotes, IsFound, program_of, IsScene, items_of_instance, items_at}
+use Rattle.xs_flat.specs.SceneTree.{Denotes, IsFound, program_of, IsScene, items_of_instance}
 use Rattle.xs_flat.specs.NeedsTree.{AreNeeds}
 use Rattle.xs_flat.specs.Walked.{IsDeclaredBy}
 use Rattle.xs_flat.specs.FoundAt.{found_at}
-use Rattle.xs_flat.specs.ResolverOf.{leaf_found, leaf_at, leaf_by, number_from, resolver, AreKnown}
+use Rattle.xs_flat.specs.ResolverOf.{leaf_found, leaf_at, leaf_by, resolver}
 use Rattle.xs_flat.specs.Asked.{Told, told, conditions_asked, asked_condition, is_variable_within, IsConditionKnown, AreConditionsKnown, asked_conditions, asked_item, asked_items, asked_from}
 use Rattle.xs_flat.proofs.SceneFound.{scene_found}
-use Rattle.xs_flat.proofs.BuildAccepted.{kept_at, ItemAt, item_at, target_means, declared_means}
+use Rattle.xs_flat.proofs.BuildAccepted.{kept_at, item_at, target_means, declared_means}
 use Rattle.xs_flat.proofs.BuildLeaves.{get_less, less_is, bounds_with, value_known}
 use Rattle.xs_flat.proofs.BuildSound.{definitions, leaf_means, resolver_at}
 use Rattle.xs_flattening.proofs.LookLaws.{meets_loop_nothing}

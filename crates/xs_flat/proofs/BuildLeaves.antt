@@ -1,15 +1,15 @@
 -- Each name of an accepted program has a leaf, which is what the name means, and which stands before.
-use Rattle.std.proofs.Common.{◌≡◌, ℕ, zero, suc, ◌+◌, ◌<◌, Bool, true, false, List, [], ◌∷◌, ◌++◌, length, Option, Some, None, refl, sym, ◌∙◌, ap, subst, arith, inl, inr}
-use Rattle.std.specs.Prelude.{◌⊎◌, slice_get, map, nat_lt, if◌then◌else◌}
+use Rattle.std.proofs.Common.{◌≡◌, ℕ, zero, suc, ◌<◌, Bool, true, false, List, [], ◌∷◌, ◌++◌, length, Some, None, refl, sym, ◌∙◌, ap, subst, arith, inl, inr}
+use Rattle.std.specs.Prelude.{◌⊎◌, slice_get, map, nat_lt}
 use Rattle.std.proofs.lemmas.Bool.{ltb-false}
 use Rattle.xs_tree.specs.Tree.{Tree, Trees, Branches, truth, number, leaf, not_of, negate, next_of, binary, choice, case_of, set_of, span, no_tree, tree_then, no_branch, branch_then}
-use Rattle.xs_tree.specs.ProgramTree.{Text, Path, Formula, ProgramTree}
+use Rattle.xs_tree.specs.ProgramTree.{Path, Formula, ProgramTree}
 use Rattle.xs_tree.specs.Written.{tree_of}
 use Rattle.xs_tree.specs.Scope.{Place, Key, Meaning, a_variable_at, an_expression_at, an_instance_at, a_symbol, Means}
 use Rattle.xs_tree.specs.Trace.{Each, AtSome}
-use Rattle.xs_flattening.specs.Flat.{FlatLeaf, FlatInstance, flat_variable, flat_symbol, flat_definition}
+use Rattle.xs_flattening.specs.Flat.{FlatInstance}
 use Rattle.xs_flattening.specs.Resolved.{leaves_in, trees_leaves, branches_leaves}
-use Rattle.xs_flattening.specs.Items.{Visit, instances_of, variables_of}
+use Rattle.xs_flattening.specs.Items.{instances_of, variables_of}
 use Rattle.xs_flattening.specs.Rules.{IsAccepted, HasNoValue, nothing, only_an_instance, SomeHasNoValue, Needs as NeedsOf, NeedsItself, expression_of}
 use Rattle.xs_flattening.specs.Model.{EachBoth, Root, roots_of, symbols_of, is_key_among, same_key}
 use Rattle.xs_flattening.proofs.Reaches.{each_left, each_right}

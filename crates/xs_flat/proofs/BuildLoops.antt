@@ -1,9 +1,9 @@
 -- What is asked of a list is what is asked of its first item and of the rest.
 use Rattle.std.proofs.Common.{◌≡◌, ℕ, zero, suc, ◌+◌, ◌<◌, ◌≤◌, List, [], ◌∷◌, ◌++◌, length, drop, Option, Some, None, refl, sym, ◌∙◌, ap, subst, arith, append_assoc, append-nil, slice_index_or}
-use Rattle.std.specs.Prelude.{slice_get, map, flat_map, option_map}
+use Rattle.std.specs.Prelude.{slice_get, flat_map, option_map}
 use Rattle.xs_tree.specs.Trace.{Each}
 use Rattle.xs_flattening.specs.Flat.{FlatInstance}
-use Rattle.xs_flattening.specs.Items.{Item, NumberedItem, items_named, instances_of}
+use Rattle.xs_flattening.specs.Items.{Item, NumberedItem, instances_of}
 use Rattle.xs_flattening.specs.Model.{Condition, EachBoth}
 use Rattle.xs_flat.specs.declared.bounds.Bounds.{Bounds}
 use Rattle.xs_flat.specs.declared.names.Scene.{Scene}
@@ -13,7 +13,7 @@ use Rattle.xs_flat.specs.ModelTree.{place_of}
 use Rattle.xs_flat.specs.declared.needs.Needs.{Needs}
 use Rattle.xs_flat.specs.SceneTree.{program_of, IsScene, IsSpot, number_and_item, items_of_instance, items_at}
 use Rattle.xs_flat.specs.ResolverOf.{leaf_at}
-use Rattle.xs_flat.specs.Asked.{Told, IsConditionKnown, AreConditionsKnown, asked_conditions, asked_item, asked_items, asked_from, item_listed, instance_in, instance_told}
+use Rattle.xs_flat.specs.Asked.{IsConditionKnown, AreConditionsKnown, asked_conditions, asked_item, asked_items, asked_from, item_listed, instance_in, instance_told}
 use Rattle.xs_flattening.proofs.Lists.{get_within}
 
 pub drop_at : {A : Type 0} (xs : List A) (k : ℕ) (x : A) → slice_get xs k ≡ Some x → drop k xs ≡ x ∷ drop (k + 1) xs

@@ -1,17 +1,17 @@
 -- The lists that are made are the flat model of the scene's program.
-use Rattle.std.proofs.Common.{◌≡◌, ℕ, zero, suc, ◌+◌, ◌<◌, Bool, true, false, ◌&&◌, List, [], ◌∷◌, ◌++◌, length, Option, Some, None, refl, sym, ◌∙◌, ap, subst, arith}
-use Rattle.std.specs.Prelude.{slice_get, map, flat_map, nat_lt}
+use Rattle.std.proofs.Common.{◌≡◌, ℕ, zero, suc, ◌+◌, ◌<◌, true, false, ◌&&◌, List, [], ◌∷◌, ◌++◌, length, Option, Some, None, refl, sym, ◌∙◌, ap, subst, arith}
+use Rattle.std.specs.Prelude.{slice_get, map, flat_map}
 use Rattle.std.proofs.lemmas.Bool.{ltb-true}
 use Rattle.std.proofs.lemmas.List.{length-map}
 use Rattle.xs_tree.specs.Tree.{Tree, Trees, Branches, truth, number, leaf, not_of, negate, next_of, binary, choice, case_of, set_of, span, no_tree, tree_then, no_branch, branch_then}
-use Rattle.xs_tree.specs.ProgramTree.{Text, Path, Formula, ModuleTree, module_tree, ProgramTree}
+use Rattle.xs_tree.specs.ProgramTree.{Text, Formula, ModuleTree}
 use Rattle.xs_tree.specs.Leaves.{tree_map, trees_map, branches_map}
 use Rattle.xs_tree.specs.Written.{tree_of}
 use Rattle.xs_tree.specs.Scope.{Place, Key}
 use Rattle.xs_tree.specs.Trace.{Each}
-use Rattle.xs_flattening.specs.Flat.{FlatLeaf, FlatInstance, FlatVariable, FlatFormula, FlatModel}
+use Rattle.xs_flattening.specs.Flat.{FlatInstance, FlatVariable, FlatFormula, FlatModel}
 use Rattle.xs_flattening.specs.Resolved.{leaves_in, trees_leaves, branches_leaves, has_next, Definition, IsBefore, IsResolved, AreDefinitions}
-use Rattle.xs_flattening.specs.Items.{NumberedModule, modules_of, Visit, instances_of, variables_of}
+use Rattle.xs_flattening.specs.Items.{modules_of, Visit, instances_of, variables_of}
 use Rattle.xs_flattening.specs.Rules.{IsAccepted, expression_of}
 use Rattle.xs_flattening.specs.Model.{EachBoth, Root, roots_of, symbols_of, AddsAll, IsInstanceNumber, IsVariableOf, IsDefinitionOf, IsFlatOf}
 use Rattle.xs_flattening.proofs.Conditions.{each_at, each_join}
@@ -21,7 +21,6 @@ use Rattle.xs_flat.specs.declared.bounds.Bounds.{Bounds}
 use Rattle.xs_flat.specs.declared.model.Flat.{Flat}
 use Rattle.xs_flat.specs.declared.model.Flat.TheVariants.{Var, Symbol, Definition as DefinitionOf}
 use Rattle.xs_flat.specs.declared.model.Formula.{Formula as FormulaOf}
-use Rattle.xs_flat.specs.declared.model.Instance.{Instance}
 use Rattle.xs_flat.specs.declared.model.Variable.{Variable}
 use Rattle.xs_flat.specs.declared.model.FlatModel.{FlatModel as FlatModelOf}
 use Rattle.xs_flat.specs.declared.modules.Names.{Names}
@@ -35,17 +34,17 @@ use Rattle.xs_flat.specs.Closed.{is_within, tree_all, trees_all, branches_all, i
 use Rattle.xs_flat.specs.ModelTree.{leaf_of, flat_tree, place_of, instance_tree, variable_tree, formula_tree, model_tree}
 use Rattle.xs_flat.specs.Symbols.{texts}
 use Rattle.xs_flat.specs.SceneTree.{HasNames, IsPlaced, IsSpot, IsDefined, program_of, IsScene}
-use Rattle.xs_flat.specs.NeedsTree.{keys_of, IsKeyAt, IsOrder, AreNeeds}
+use Rattle.xs_flat.specs.NeedsTree.{keys_of, IsKeyAt, AreNeeds}
 use Rattle.xs_flat.specs.Walked.{IsDeclaredBy, AreDeclared}
 use Rattle.xs_flat.specs.ResolverOf.{leaf_at, leaf_by, resolver}
-use Rattle.xs_flat.specs.Asked.{Told, told, asked_defined, asked_definition, IsReady, AreReady, AreConditionsKnown, conditions_asked, asked_from, instance_in, instance_told}
+use Rattle.xs_flat.specs.Asked.{Told, told, asked_defined, asked_definition, AreReady, AreConditionsKnown, conditions_asked, asked_from, instance_in, instance_told}
 use Rattle.xs_flat.proofs.ClosedLaws.{left_true, right_true}
 use Rattle.xs_flat.proofs.BuildAccepted.{found_name, IsGoodRoot}
 use Rattle.xs_flat.proofs.BuildRoots.{good_roots}
 use Rattle.xs_flat.proofs.BuildLeaves.{get_less, get_map, get_mapped, order, bounds_with, definition_known}
 use Rattle.xs_flat.proofs.BuildLoops.{both_many}
 use Rattle.xs_flat.proofs.SceneItems.{both_more}
-use Rattle.xs_flat.proofs.BuildSound.{definition_of, written_with, keys_of_definitions, definitions, definition_at, sound, resolver_at}
+use Rattle.xs_flat.proofs.BuildSound.{definition_of, keys_of_definitions, definitions, definition_at, sound, resolver_at}
 use Rattle.xs_flat.proofs.BuildFormulas.{all_known, formulas_are, both_are}
 
 pub both_from : {A B : Type 0} (R : A → B → Type 0) (xs : List A) (ys : List B) → length xs ≡ length ys → ((i : ℕ) (x : A) (y : B) → slice_get xs i ≡ Some x → slice_get ys i ≡ Some y → R x y) → EachBoth R xs ys

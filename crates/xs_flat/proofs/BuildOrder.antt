@@ -1,7 +1,7 @@
 -- The order of definitions, where none needs itself: each stands once, and after all that it names.
 use Rattle.std.proofs.Common.{◌≡◌, ℕ, zero, suc, ◌<◌, Bool, true, false, ◌&&◌, ◌||◌, List, [], ◌∷◌, ◌++◌, Option, Some, None, refl, sym, ◌∙◌, ap, subst, arith, eqb-true, eq-eqb, inl, inr}
 use Rattle.std.specs.Prelude.{◌⊎◌, slice_get, nat_eq}
-use Rattle.xs_tree.specs.ProgramTree.{Text, Path, Formula, ProgramTree}
+use Rattle.xs_tree.specs.ProgramTree.{Path, Formula, ProgramTree}
 use Rattle.xs_tree.specs.Texts.{same_text}
 use Rattle.xs_tree.specs.Scope.{Place, Key, define_key, actual_key, Meaning, a_variable_at, an_expression_at, an_instance_at, a_symbol, Means}
 use Rattle.xs_tree.specs.Trace.{AtSome}

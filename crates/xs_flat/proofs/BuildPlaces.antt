@@ -1,17 +1,15 @@
 -- No two instances have one place, so that a place has one number.
-use Rattle.std.proofs.Common.{◌≡◌, ℕ, zero, suc, ◌+◌, ◌<◌, Bool, true, false, List, [], ◌∷◌, ◌++◌, Option, Some, None, refl, sym, ◌∙◌, ap, subst, arith}
-use Rattle.std.specs.Prelude.{slice_get, flat_map, codes, length, if◌then◌else◌}
+use Rattle.std.proofs.Common.{◌≡◌, List, [], ◌∷◌, ◌++◌, sym}
+use Rattle.std.specs.Prelude.{flat_map, codes}
 use Rattle.xs_tree.specs.ProgramTree.{Text, DeclaredTree, boolean, range, members, instance, ProgramTree}
 use Rattle.xs_tree.specs.Scope.{Place}
 use Rattle.xs_tree.specs.Trace.{Each}
 use Rattle.xs_flattening.specs.Flat.{FlatInstance}
 use Rattle.xs_flattening.specs.Items.{Visit, visits, instance_declared, instances_of_visit, instances_of}
 use Rattle.xs_flattening.specs.Rules.{IsWalkable}
-use Rattle.xs_flattening.specs.Model.{same_place}
-use Rattle.xs_flattening.proofs.Conditions.{each_join, each_at}
+use Rattle.xs_flattening.proofs.Conditions.{each_join}
 use Rattle.xs_flattening.proofs.Apart.{Differ, Apart, visits_apart}
 use Rattle.xs_flattening.proofs.Walkable.{main_is_there}
-use Rattle.xs_flat.proofs.BuildOrder.{same_place_refl, same_place_equal}
 
 abbrev pub OtherPlace : FlatInstance → FlatInstance → Type 0
 OtherPlace i j = i.place ≡ j.place → ⊥

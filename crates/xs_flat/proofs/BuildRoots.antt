@@ -1,19 +1,18 @@
 -- In an accepted program no definition needs itself, each has its value, and no formal comes back.
 use Rattle.std.proofs.Common.{◌≡◌, ℕ, zero, suc, ◌+◌, Bool, true, false, List, [], ◌∷◌, ◌++◌, Option, Some, None, refl, sym, ◌∙◌, ap, subst, arith, eqb-true}
-use Rattle.std.specs.Prelude.{slice_get, map, flat_map, length, nat_eq, if◌then◌else◌}
-use Rattle.xs_tree.specs.ProgramTree.{Text, Path, Formula, DeclaredTree, boolean, range, members, instance, DeclTree, DefineTree, ModuleTree, ProgramTree}
+use Rattle.std.specs.Prelude.{slice_get, flat_map, length, nat_eq}
+use Rattle.xs_tree.specs.ProgramTree.{Text, Path, Formula, DeclaredTree, boolean, range, members, instance, DeclTree, ModuleTree, ProgramTree}
 use Rattle.xs_tree.specs.Texts.{same_text}
 use Rattle.xs_tree.specs.Values.{opposite}
-use Rattle.xs_tree.specs.Scope.{Place, Role, Kind, a_formal, a_variable, a_define, an_instance, undeclared, kind_declared, kind_in, kind_in_sections, formal_from, kind_after_formals, kind_at, module_of_kind, module_at, find_module, actual_of_kind, nth_formula, plain_name, define_key, actual_key}
-use Rattle.xs_tree.specs.Trace.{Each, AtSome, IsInstance}
+use Rattle.xs_tree.specs.Scope.{Place, Role, Kind, a_formal, a_variable, a_define, an_instance, undeclared, kind_declared, kind_in, kind_in_sections, formal_from, kind_after_formals, kind_at, module_of_kind, module_at, find_module, actual_of_kind, plain_name}
+use Rattle.xs_tree.specs.Trace.{Each, IsInstance}
 use Rattle.xs_flattening.specs.Flat.{FlatInstance}
 use Rattle.xs_flattening.specs.Resolved.{has_next}
 use Rattle.xs_flattening.specs.Items.{Item, a_declaration, a_definition, an_assignment, some_constants, an_init, an_invar, a_trans, NumberedItem, items_of, items_named, Visit, visits_of, walk, visits, instances_of}
-use Rattle.xs_flattening.specs.Looks.{Look, at_actual, plain_of, step_kind, step_of, look_after, ComesBack}
-use Rattle.xs_flattening.specs.Rules.{a_use, visit_sites, IsKept, IsAccepted, is_missing_instance, is_miscounted, is_other_count, wrong_count, no_such_name, define_loop, next_here, SomeHasNoValue, ActualHasNoMeaning, expression_of_kind, expression_in, NeedsItself, ActualLoops, SomeActualLoops, LoopsInside, some_has_next}
-use Rattle.xs_flattening.specs.Model.{Root, root_of_actual, roots_of_actuals, roots_of_type, roots_of_item, roots_of}
+use Rattle.xs_flattening.specs.Looks.{at_actual, plain_of, step_kind, step_of, look_after, ComesBack}
+use Rattle.xs_flattening.specs.Rules.{a_use, visit_sites, IsKept, IsAccepted, is_missing_instance, is_miscounted, is_other_count, wrong_count, no_such_name, define_loop, next_here, ActualHasNoMeaning, expression_of_kind, expression_in, ActualLoops, SomeActualLoops, LoopsInside}
+use Rattle.xs_flattening.specs.Model.{root_of_actual, roots_of_actuals, roots_of_type, roots_of_item, roots_of}
 use Rattle.xs_flattening.proofs.Conditions.{each_flat, each_at, each_from, each_join}
-use Rattle.xs_flattening.proofs.Variables.{both_at}
 use Rattle.xs_flattening.proofs.KindLaws.{kind_in_items, sections_kind, DeclaredBy, declared_by}
 use Rattle.xs_flattening.proofs.Places.{In, VisitFacts, there, Walked, walked, in_items, found_at, all_visit_facts}
 use Rattle.xs_flattening.proofs.EndLaws.{ended_stays}

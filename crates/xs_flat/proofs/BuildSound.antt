@@ -1,13 +1,12 @@
 -- The resolver of a scene gives each name what it means, by the numbers of a model.
-use Rattle.std.proofs.Common.{◌≡◌, ℕ, zero, suc, ◌+◌, ◌<◌, Bool, true, false, List, [], ◌∷◌, length, Option, Some, None, refl, sym, ◌∙◌, ap, subst, arith}
+use Rattle.std.proofs.Common.{◌≡◌, ℕ, zero, suc, ◌+◌, Bool, true, false, List, [], ◌∷◌, Option, Some, None, refl, sym, ◌∙◌, ap, subst, arith}
 use Rattle.std.specs.Prelude.{slice_get, map, if◌then◌else◌}
 use Rattle.xs_tree.specs.Tree.{truth}
-use Rattle.xs_tree.specs.ProgramTree.{Text, Path, Formula, ProgramTree}
-use Rattle.xs_tree.specs.Scope.{Place, Key, Meaning, a_variable_at, an_expression_at, an_instance_at, a_symbol, Means}
-use Rattle.xs_tree.specs.Trace.{Each}
+use Rattle.xs_tree.specs.ProgramTree.{Path, Formula, ProgramTree}
+use Rattle.xs_tree.specs.Scope.{Place, Key, Meaning, a_variable_at, an_expression_at, an_instance_at, a_symbol}
 use Rattle.xs_flattening.specs.Flat.{FlatLeaf, flat_variable, flat_symbol, flat_definition, FlatInstance, FlatVariable, FlatModel}
 use Rattle.xs_flattening.specs.Resolved.{Definition, StandsFor, IsLeafOf, IsSound}
-use Rattle.xs_flattening.specs.Items.{Visit, instances_of, variables_of}
+use Rattle.xs_flattening.specs.Items.{instances_of, variables_of}
 use Rattle.xs_flattening.specs.Rules.{IsAccepted, expression_of}
 use Rattle.xs_flattening.specs.Model.{EachBoth, Root, roots_of, symbols_of, same_place}
 use Rattle.xs_flattening.proofs.Variables.{both_at}
@@ -16,15 +15,15 @@ use Rattle.xs_flat.specs.declared.walk.Meaning.TheVariants as found
 use Rattle.xs_flat.specs.declared.names.Scene.{Scene}
 use Rattle.xs_flat.specs.declared.needs.Needs.{Needs}
 use Rattle.xs_flat.specs.SceneTree.{Denotes, IsFound, program_of, IsScene}
-use Rattle.xs_flat.specs.NeedsTree.{keys_of, IsKeyAt, IsOrder, AreNeeds}
+use Rattle.xs_flat.specs.NeedsTree.{keys_of, IsKeyAt, AreNeeds}
 use Rattle.xs_flat.specs.Walked.{IsDeclaredBy}
 use Rattle.xs_flat.specs.FoundAt.{found_at}
-use Rattle.xs_flat.specs.ResolverOf.{leaf_placed, leaf_found, leaf_at, leaf_by, number_from, resolver}
+use Rattle.xs_flat.specs.ResolverOf.{leaf_placed, leaf_found, leaf_by, number_from, resolver}
 use Rattle.xs_flat.proofs.SceneFound.{scene_found}
 use Rattle.xs_flat.proofs.BuildOrder.{same_place_refl, same_place_equal}
 use Rattle.xs_flat.proofs.BuildPlaces.{OtherPlace, PlacesApart, places_apart}
 use Rattle.xs_flat.proofs.BuildAccepted.{walkable}
-use Rattle.xs_flat.proofs.BuildLeaves.{get_map, get_mapped, order}
+use Rattle.xs_flat.proofs.BuildLeaves.{get_map, order}
 use Rattle.xs_flattening.proofs.Conditions.{each_at}
 
 -- The number of a place.

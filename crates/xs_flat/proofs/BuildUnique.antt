@@ -1,7 +1,7 @@
 -- A program's definitions have one order.
 use Rattle.std.proofs.Common.{◌≡◌, Bool, true, false, List, [], ◌∷◌, ◌++◌, Option, Some, None, refl, sym, ◌∙◌, ap, subst}
 use Rattle.xs_tree.specs.ProgramTree.{Path, Formula, ProgramTree}
-use Rattle.xs_tree.specs.Scope.{Place, Key, Meaning, Means}
+use Rattle.xs_tree.specs.Scope.{Place, Key}
 use Rattle.xs_flattening.specs.Resolved.{leaves_in}
 use Rattle.xs_flattening.specs.Rules.{expression_of}
 use Rattle.xs_flattening.specs.Model.{keys_of_meaning, AreNamed, is_key_among, Adds, AddsAll, stands, comes, no_more, one_more}

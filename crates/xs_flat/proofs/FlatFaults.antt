@@ -1,18 +1,16 @@
 -- Want of memory is always a fault, and of an accepted program it is the only one.
-use Rattle.std.proofs.Common.{◌≡◌, ℕ, suc, Bool, true, false, List, [], ◌∷◌, ◌++◌, Option, Some, None, refl, sym, ◌∙◌, ap, subst, if◌then◌else◌, arith}
+use Rattle.std.proofs.Common.{◌≡◌, ℕ, suc, Bool, true, false, [], ◌∷◌, ◌++◌, Option, Some, None, refl, sym, ◌∙◌, ap, subst, if◌then◌else◌, arith}
 use Rattle.std.specs.Prelude.{codes, IfSome, IfOk, IfErr, IsTrue, ◌<◌}
 use Rattle.std.specs.declared.result.Result.{Result}
 use Rattle.std.specs.declared.result.Result.TheVariants.{Ok, Err}
 use Rattle.xs_tree.specs.ProgramTree.{Text, ModuleTree, ProgramTree}
 use Rattle.xs_tree.specs.Texts.{same_text}
 use Rattle.xs_tree.specs.Scope.{find_module}
-use Rattle.xs_tree.specs.Trace.{Each}
 use Rattle.xs_flattening.specs.Rules as rules
 use Rattle.xs_flattening.specs.Rules.{IsFirstBroken, IsAccepted, IsWalkable, IsKept, use_sites}
 use Rattle.xs_flattening.specs.Items.{visits}
 use Rattle.xs_flattening.proofs.Laws.{accepted_unbroken}
-use Rattle.xs_flattening.proofs.Walkable.{walkable_accepted, accepted_walkable, main_is_there}
-use Rattle.xs_flat.specs.declared.fault.Rule.TheVariants as code
+use Rattle.xs_flattening.proofs.Walkable.{accepted_walkable, main_is_there}
 use Rattle.xs_flat.specs.declared.fault.FlatFault.{FlatFault}
 use Rattle.xs_flat.specs.Faults.{rule_of, IsFaultOf, IsWant}
 use Rattle.xs_flat.specs.SceneTree.{module_from}

@@ -1,27 +1,25 @@
 -- How a look-up goes on by one part.
-use Rattle.std.proofs.Common.{◌≡◌, ℕ, zero, suc, ◌+◌, ◌-◌, ◌<◌, ◌≤◌, arith, Bool, true, false, ltb, eqb-true, eq-eqb, get_or, take, drop, ◌==◌, List, [], ◌∷◌, ◌++◌, length, Option, Some, None, Vec, refl, sym, ◌∙◌, ap, subst, if◌then◌else◌}
+use Rattle.std.proofs.Common.{◌≡◌, ℕ, zero, suc, ◌+◌, ◌-◌, ◌<◌, ◌≤◌, arith, Bool, true, false, ltb, eqb-true, eq-eqb, get_or, take, drop, ◌==◌, List, [], ◌∷◌, length, Option, Some, None, Vec, refl, sym, ◌∙◌, ap, subst, if◌then◌else◌}
 use Rattle.std.specs.Prelude.{slice_get, map, option_map}
 use Rattle.std.specs.Borrow.{Bor}
 use Rattle.std.specs.declared.alloc.Global.{Global}
 use Rattle.std.proofs.lemmas.Bool.{ltb-true, ltb-false}
 use Rattle.std.proofs.lemmas.List.{append-nil, take_all}
 use Rattle.xs_tree.specs.declared.expr.Expr.{Expr}
-use Rattle.xs_tree.specs.ProgramTree.{Text, Path, Formula, DeclaredTree, boolean, range, members, instance, ModuleTree, ProgramTree}
+use Rattle.xs_tree.specs.ProgramTree.{Text, Path, Formula, DeclaredTree, boolean, range, members, instance, ProgramTree}
 use Rattle.xs_tree.specs.Texts.{same_text}
 use Rattle.xs_tree.specs.Written.{tree_of}
 use Rattle.xs_tree.specs.Scope.{Place, Kind, a_formal, a_variable, a_define, an_instance, undeclared, Meaning, a_variable_at, an_expression_at, an_instance_at, a_symbol, Means, formal_from, kind_declared, kind_after_formals, kind_at, module_at, plain_name, actual_of_kind, nth_formula}
 use Rattle.xs_flattening.specs.Flat.{FlatInstance}
 use Rattle.xs_flattening.specs.Items.{Item, a_declaration, a_definition, an_assignment, some_constants, an_init, an_invar, a_trans, items_of, instances_of}
-use Rattle.xs_flattening.specs.Looks.{Look, at_actual, plain_of, step_kind, step_of, step_on, look_after}
+use Rattle.xs_flattening.specs.Looks.{Look, at_actual, plain_of, step_kind, step_of, look_after}
 use Rattle.xs_flattening.proofs.EndLaws.{steps_more}
-use Rattle.xs_flattening.proofs.KindLaws.{kind_of_item, kind_in_items}
-use Rattle.xs_flat.specs.SceneTree.{item_from, local_after, Denotes, IsFound, IsCalled, IsKnown, program_of, IsSet}
+use Rattle.xs_flattening.proofs.KindLaws.{kind_in_items}
+use Rattle.xs_flat.specs.SceneTree.{item_from, local_after, Denotes, IsFound, IsCalled, program_of}
 use Rattle.xs_flat.specs.FoundAt.{formal_or, formal_in, formal_at, told, symbol_at, own_at, by_local, part_at, local_at, found_inside}
-use Rattle.xs_flat.specs.Steps.{step_by_local, step_at, known_by, known_at, is_open, gone_inside}
-use Rattle.xs_flat.specs.Known.{rows_of, rows, row_or, formal_of, IsHead, IsOpen, IsOpenAt, ShutAt, Shut, ShutBeyond, IsTold, AreTold}
-use Rattle.xs_flat.specs.Waiting.{IsFormal, IsFrame, WaitsFor, IsReady, IsAnswer, GoesOn, Waits, IsProgress}
-use Rattle.xs_flat.specs.declared.modules.Local.{Local}
-use Rattle.xs_flat.specs.declared.modules.Local.TheVariants as local
+use Rattle.xs_flat.specs.Steps.{step_by_local, known_by, known_at, is_open, gone_inside}
+use Rattle.xs_flat.specs.Known.{rows, row_or, formal_of, IsHead, IsOpen, ShutAt, Shut, IsTold}
+use Rattle.xs_flat.specs.Waiting.{IsFormal, IsFrame, IsReady, IsAnswer, GoesOn, Waits, IsProgress}
 use Rattle.xs_flat.specs.declared.walk.Meaning.{Meaning as Found}
 use Rattle.xs_flat.specs.declared.walk.Meaning.TheVariants as found
 use Rattle.xs_flat.specs.declared.walk.Spot.{Spot}
@@ -29,11 +27,8 @@ use Rattle.xs_flat.specs.declared.names.Formal.{Formal}
 use Rattle.xs_flat.specs.declared.names.Formal.TheVariants as known
 use Rattle.xs_flat.specs.declared.names.Scene.{Scene}
 use Rattle.xs_flat.specs.declared.formals.Frame.{Frame}
-use Rattle.xs_flat.specs.declared.formals.Part.{Part}
 use Rattle.xs_flat.specs.declared.formals.Part.TheVariants as part
-use Rattle.xs_flat.specs.declared.formals.Progress.{Progress}
-use Rattle.xs_flat.specs.declared.formals.Progress.TheVariants as progress
-use Rattle.xs_flat.proofs.LookSplit.{never, of_some, with_more, Reach, reach}
+use Rattle.xs_flat.proofs.LookSplit.{never, of_some, Reach, reach}
 use Rattle.xs_flat.proofs.LookFound.{found_parts}
 use Rattle.xs_flat.proofs.LookAfter.{found_after, shut_same, shut_more, shut_own, beyond_from, no_instance}
 use Rattle.xs_flat.proofs.NameKinds.{formal_named}

@@ -1,10 +1,10 @@
 -- What formals, definitions and declarations are in the modules of instances.
-use Rattle.std.proofs.Common.{◌≡◌, ℕ, zero, suc, ◌+◌, arith, Bool, true, false, ◌||◌, List, [], ◌∷◌, ◌++◌, Option, Some, None, refl, sym, ◌∙◌, ap, subst, if◌then◌else◌}
+use Rattle.std.proofs.Common.{◌≡◌, ℕ, zero, suc, ◌+◌, arith, Bool, true, false, List, [], ◌∷◌, ◌++◌, Some, None, refl, sym, ◌∙◌, ap}
 use Rattle.std.specs.Prelude.{slice_get, flat_map, codes}
-use Rattle.xs_tree.specs.ProgramTree.{Text, Path, Formula, DeclTree, DefineTree, ModuleTree, ProgramTree}
+use Rattle.xs_tree.specs.ProgramTree.{Text, DeclTree, DefineTree, ModuleTree, ProgramTree}
 use Rattle.xs_tree.specs.Texts.{same_text, is_among}
-use Rattle.xs_tree.specs.Scope.{Place, Role, Kind, a_formal, a_define, kind_declared, kind_in, kind_in_sections, kind_after_formals, kind_at, module_at, find_module, formal_from}
-use Rattle.xs_tree.specs.Trace.{Each, IsInstance}
+use Rattle.xs_tree.specs.Scope.{Place, Role, a_formal, a_define, kind_declared, kind_in, kind_in_sections, kind_after_formals, kind_at, module_at, find_module, formal_from}
+use Rattle.xs_tree.specs.Trace.{IsInstance}
 use Rattle.xs_tree.proofs.ValueLaws.{same_text_refl, same_text_equal}
 use Rattle.xs_flattening.specs.Flat.{FlatInstance}
 use Rattle.xs_flattening.specs.Items.{Item, a_declaration, a_definition, an_assignment, some_constants, an_init, an_invar, a_trans, NumberedItem, items_of, items_named, instances_of}

@@ -1,26 +1,23 @@
 -- What is known of the formals of an instance tells what is wrong with its actuals.
-use Rattle.std.proofs.Common.{◌≡◌, ℕ, zero, suc, ◌+◌, ◌<◌, arith, Bool, true, false, ◌||◌, List, [], ◌∷◌, ◌++◌, length, Option, Some, None, refl, sym, ◌∙◌, ap, subst, inl, inr}
+use Rattle.std.proofs.Common.{◌≡◌, ℕ, zero, suc, ◌+◌, arith, Bool, true, false, List, [], ◌∷◌, Option, Some, None, refl, sym, ◌∙◌, ap, subst}
 use Rattle.std.specs.Prelude.{◌↔◌, slice_get, if◌then◌else◌}
 use Rattle.std.proofs.lemmas.List.{append-nil}
 use Rattle.xs_tree.specs.Tree.{leaf}
 use Rattle.xs_tree.specs.Texts.{same_text, is_among}
 use Rattle.xs_tree.specs.ProgramTree.{Text, Path, Formula, ModuleTree, ProgramTree}
-use Rattle.xs_tree.specs.Scope.{Place, Kind, a_formal, an_instance, Key, actual_key, Meaning, a_variable_at, an_expression_at, an_instance_at, a_symbol, Means, means_in, find_module, formal_from, kind_after_formals, kind_in_sections, kind_at, module_of_kind, module_at, nth_formula, actual_of_kind, plain_name, through_formal, through_actual, through_plain, by_kind}
-use Rattle.xs_tree.specs.Trace.{AtSome}
+use Rattle.xs_tree.specs.Scope.{Place, a_formal, an_instance, Key, actual_key, Meaning, an_expression_at, Means, means_in, find_module, formal_from, kind_after_formals, kind_in_sections, kind_at, module_of_kind, module_at, nth_formula, actual_of_kind, plain_name, through_actual, through_plain, by_kind}
 use Rattle.xs_tree.proofs.ValueLaws.{same_text_refl, same_text_equal}
-use Rattle.xs_flattening.specs.Flat.{FlatInstance}
-use Rattle.xs_flattening.specs.Looks.{Look, at_actual, plain_of, step_formal, step_kind, step_of, step_on, look_after, ComesBack, MeetsLoop, MeansNothing}
+use Rattle.xs_flattening.specs.Looks.{Look, at_actual, plain_of, step_kind, step_of, look_after, ComesBack, MeetsLoop, MeansNothing}
 use Rattle.xs_flattening.specs.Resolved.{has_next}
-use Rattle.xs_flattening.specs.Rules.{has_twice, NeedsItself, ActualHasNoMeaning, SomeHasNoValue, ActualLoops}
+use Rattle.xs_flattening.specs.Rules.{has_twice, ActualHasNoMeaning, ActualLoops}
 use Rattle.xs_flattening.proofs.EndLaws.{steps_more, ended_stays, ended_meets_none, stuck_means}
-use Rattle.xs_flattening.proofs.LookLaws.{step_means, comes_back_nothing}
+use Rattle.xs_flattening.proofs.LookLaws.{step_means}
 use Rattle.xs_flattening.proofs.Now.{neither}
-use Rattle.xs_flat.specs.SceneTree.{Denotes, IsFound, IsKnown}
+use Rattle.xs_flat.specs.SceneTree.{Denotes, IsKnown}
 use Rattle.xs_flat.specs.NeedsTree.{AreNeeds, HasCircle}
 use Rattle.xs_flat.specs.Judging.{IsJudged}
-use Rattle.xs_flat.specs.Verdicts.{is_circle_found, is_nothing_known, is_circle_known, is_circle_meant, IsHanded, LoopsAt, IsActualJudged}
+use Rattle.xs_flat.specs.Verdicts.{is_circle_found, is_nothing_known, is_circle_known, is_circle_meant, LoopsAt, IsActualJudged}
 use Rattle.xs_flat.specs.declared.judge.Judged.{Judged}
-use Rattle.xs_flat.specs.declared.judge.JudgedActual.{JudgedActual}
 use Rattle.xs_flat.specs.declared.names.Formal.{Formal}
 use Rattle.xs_flat.specs.declared.names.Formal.TheVariants as known
 use Rattle.xs_flat.specs.declared.needs.Needs.{Needs}

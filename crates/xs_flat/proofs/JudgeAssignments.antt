@@ -1,5 +1,5 @@
 -- The first rule that an assignment breaks at an instance.
-use Rattle.std.proofs.Common.{◌≡◌, ℕ, Bool, true, false, List, [], ◌∷◌, ◌++◌, Option, Some, None, if◌then◌else◌, refl, sym, ◌∙◌, ap, subst, Bor}
+use Rattle.std.proofs.Common.{◌≡◌, ℕ, Bool, true, false, List, [], ◌∷◌, Option, Some, None, if◌then◌else◌, refl, sym, ◌∙◌, ap, subst, Bor}
 use Rattle.std.specs.Prelude.{◌↔◌, IsTrue, slice_get}
 use Rattle.xs_tree.specs.declared.program.Moment.{Moment}
 use Rattle.xs_tree.specs.declared.program.Moment.TheVariants.{Always, First, After}
@@ -8,10 +8,9 @@ use Rattle.xs_tree.specs.ProgramTree.{Text, Path, Formula, AssignmentTree, Progr
 use Rattle.xs_tree.specs.Scope.{Place}
 use Rattle.xs_tree.specs.Trace.{AtSome}
 use Rattle.xs_flattening.specs.Flat.{FlatInstance}
-use Rattle.xs_flattening.specs.Items.{Item, an_assignment, NumberedItem, items_named, instances_of}
-use Rattle.xs_flattening.specs.Resolved.{has_next}
-use Rattle.xs_flattening.specs.Rules.{is_target, is_later, has_bad_next, inputs_judged, GivesInput, next_under_next, BreaksNames, BreaksTarget, BreaksOnce, a_use}
-use Rattle.xs_flat.specs.Assigned.{may_assign, local_meant, IsTargetTold, with_moment, is_met, times_of, AreTimes, value_rule, assignment_rule, IsItemTold}
+use Rattle.xs_flattening.specs.Items.{an_assignment, NumberedItem, instances_of}
+use Rattle.xs_flattening.specs.Rules.{is_target, is_later, has_bad_next, inputs_judged, GivesInput, BreaksNames, BreaksOnce, a_use}
+use Rattle.xs_flat.specs.Assigned.{IsTargetTold, with_moment, is_met, times_of, assignment_rule, IsItemTold}
 use Rattle.xs_flat.specs.Faults.{first_of}
 use Rattle.xs_flat.specs.Judging.{IsJudged}
 use Rattle.xs_flat.specs.SceneTree.{IsScene, program_of}
@@ -21,7 +20,7 @@ use Rattle.xs_flat.specs.declared.fault.Rule.TheVariants as code
 use Rattle.xs_flat.specs.declared.judge.Judged.{Judged}
 use Rattle.xs_flat.specs.declared.judge.Times.{Times}
 use Rattle.xs_flat.specs.declared.names.Scene.{Scene}
-use Rattle.xs_flat.proofs.JudgeItems.{Judges, Tests, code_of, told_tests, told_names, told_target, told_item, nowhere}
+use Rattle.xs_flat.proofs.JudgeItems.{Judges, code_of, told_tests, told_names, told_target, told_item, nowhere}
 use Rattle.xs_flat.proofs.JudgeTargets.{target_is}
 use Rattle.xs_flat.proofs.JudgeTimes.{is_double, times_added}
 use Rattle.xs_flat.proofs.JudgeLists.{never}

@@ -6,9 +6,8 @@ use Rattle.xs_tree.specs.declared.expr.Expr.{Expr}
 use Rattle.xs_tree.specs.Written.{tree_of}
 use Rattle.xs_tree.specs.ProgramTree.{Text, Path, Formula, instance, ModuleTree, ProgramTree}
 use Rattle.xs_tree.specs.Scope.{Place, Role, find_module, plain_name}
-use Rattle.xs_tree.specs.Trace.{AtSome}
 use Rattle.xs_flattening.specs.Flat.{FlatInstance}
-use Rattle.xs_flattening.specs.Items.{a_declaration, NumberedItem, items_named, instances_of}
+use Rattle.xs_flattening.specs.Items.{a_declaration, NumberedItem}
 use Rattle.xs_flattening.specs.Resolved.{has_next}
 use Rattle.xs_flattening.specs.Rules.{ActualHasNoMeaning, SomeActualLoops, LoopsInside, some_has_next, a_use}
 use Rattle.xs_flattening.proofs.Lists.{get_left, get_end, get_within}
@@ -24,9 +23,9 @@ use Rattle.xs_flat.specs.declared.names.Formal.{Formal}
 use Rattle.xs_flat.specs.declared.names.Scene.{Scene}
 use Rattle.xs_flat.specs.declared.needs.Needs.{Needs}
 use Rattle.xs_flat.proofs.JudgeActuals.{IsFormalOf, formal_of, plain_told, value_told}
-use Rattle.xs_flat.proofs.JudgeItems.{Judges, Tests, told_tests, told_item, nowhere}
+use Rattle.xs_flat.proofs.JudgeItems.{Judges, told_tests, told_item, nowhere}
 use Rattle.xs_flat.proofs.JudgeLists.{none_some, some_same, take_step, take_end}
-use Rattle.xs_flat.proofs.JudgePlaces.{formal_is, handed}
+use Rattle.xs_flat.proofs.JudgePlaces.{formal_is}
 use Rattle.xs_flat.proofs.JudgeValues.{one_more}
 
 get_less : {A : Type 0} (xs : List A) (i : ℕ) (x : A) → slice_get xs i ≡ Some x → i < length xs

@@ -1,28 +1,25 @@
 -- The items of an instance one after another, and the instances one after another.
-use Rattle.std.proofs.Common.{◌≡◌, ℕ, zero, suc, ◌+◌, ◌<◌, ◌≤◌, arith, Bool, true, false, List, [], ◌∷◌, ◌++◌, length, get_or, take, Option, Some, None, map, refl, sym, ◌∙◌, ap, subst, Bor}
+use Rattle.std.proofs.Common.{◌≡◌, ℕ, zero, suc, ◌+◌, ◌<◌, ◌≤◌, arith, List, [], ◌∷◌, ◌++◌, length, take, Option, Some, None, map, refl, sym, ◌∙◌, ap, subst, Bor}
 use Rattle.std.specs.Prelude.{slice_get, flat_map, option_map, IfSome}
 use Rattle.std.proofs.lemmas.List.{take_all}
-use Rattle.xs_tree.specs.ProgramTree.{Text, ProgramTree}
+use Rattle.xs_tree.specs.ProgramTree.{ProgramTree}
 use Rattle.xs_tree.specs.Trace.{Each}
 use Rattle.xs_flattening.specs.Flat.{FlatInstance}
-use Rattle.xs_flattening.specs.Items.{Item, NumberedItem, NumberedModule, numbered_from, numbered_items, items_of, items_named, visits, instances_of}
+use Rattle.xs_flattening.specs.Items.{Item, NumberedItem, NumberedModule, numbered_from, items_of, items_named, visits, instances_of}
 use Rattle.xs_flattening.specs.Model.{EachBoth}
 use Rattle.xs_flattening.specs.Rules as rules
 use Rattle.xs_flattening.specs.Rules.{Site, the_program, a_use, item_of, use_sites, module_sites, visit_sites, IsKept, IsWalkable, IsFirstBroken}
 use Rattle.xs_flattening.proofs.Conditions.{each_join}
-use Rattle.xs_flattening.proofs.FaultLaws.{IsLowest, IsFirstOf, Outcome, first_broken, in_part, after_part}
+use Rattle.xs_flattening.proofs.FaultLaws.{IsFirstOf, first_broken, in_part, after_part}
 use Rattle.xs_flattening.proofs.Lists.{get_within, map_joined}
-use Rattle.xs_flat.specs.Assigned.{times_of, times_in, AreTimes, IsItemTold, IsFaultAt, IsPlaceTold}
+use Rattle.xs_flat.specs.Assigned.{times_of, AreTimes, IsItemTold, IsFaultAt, IsPlaceTold}
 use Rattle.xs_flat.specs.Faults.{rule_of, IsFaultOf}
-use Rattle.xs_flat.specs.ItemTree.{item_tree}
 use Rattle.xs_flat.specs.SceneTree.{number_and_item, items_of_instance, items_at, IsSpot, IsScene, program_of}
-use Rattle.xs_flat.specs.Verdicts.{IsLowestAt, IsToldRule, IsTold, IsFirstAt, AreTold, IsInstanceTold}
+use Rattle.xs_flat.specs.Verdicts.{IsToldRule, IsFirstAt, IsInstanceTold}
 use Rattle.xs_flat.specs.declared.fault.FlatFault.{FlatFault}
 use Rattle.xs_flat.specs.declared.fault.Rule.{Rule as Code}
-use Rattle.xs_flat.specs.declared.items.Item.{Item as ItemCode}
 use Rattle.xs_flat.specs.declared.judge.Times.{Times}
 use Rattle.xs_flat.specs.declared.names.Scene.{Scene}
-use Rattle.xs_flat.specs.declared.walk.Spot.{Spot}
 use Rattle.xs_flat.proofs.JudgePlaces.{HasSpot, has_spot}
 use Rattle.xs_flat.proofs.JudgeLists.{none_some, some_same}
 

@@ -1,6 +1,5 @@
 -- Tests and options that differ, and what holds of the first elements of a list, with one more, and of all.
-use Rattle.std.proofs.Common.{◌≡◌, ℕ, zero, suc, ◌+◌, ◌<◌, ◌≤◌, arith, Bool, true, false, List, [], ◌∷◌, ◌++◌, length, get_or, take, Option, Some, None, map, refl, sym, ◌∙◌, ap, subst}
-use Rattle.std.specs.Prelude.{slice_get}
+use Rattle.std.proofs.Common.{◌≡◌, ℕ, ◌+◌, ◌<◌, ◌≤◌, true, false, List, [], ◌∷◌, ◌++◌, length, get_or, take, Some, None, sym, ◌∙◌, ap, subst}
 use Rattle.std.proofs.lemmas.List.{take_more, take_all}
 
 pub none_some : {A : Type 0} (a : A) → None ≡ Some a → ⊥

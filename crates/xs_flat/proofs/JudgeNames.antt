@@ -1,12 +1,12 @@
 -- What is found for a name tells whether it has no value, and whether it gives an input.
-use Rattle.std.proofs.Common.{◌≡◌, ℕ, zero, suc, Bool, true, false, List, [], ◌∷◌, ◌++◌, Option, Some, None, map, refl, sym, ◌∙◌, ap, subst, inl, inr}
-use Rattle.std.specs.Prelude.{◌↔◌, ◌⊎◌, IsTrue, slice_get, flat_map, codes}
+use Rattle.std.proofs.Common.{◌≡◌, ℕ, zero, suc, Bool, true, List, [], ◌∷◌, Some, map, refl, sym, ◌∙◌, ap, subst, inl, inr}
+use Rattle.std.specs.Prelude.{◌↔◌, IsTrue, slice_get, flat_map, codes}
 use Rattle.xs_tree.specs.ProgramTree.{Text, Path, Formula, DeclaredTree, boolean, range, members, instance, ModuleTree, ProgramTree}
-use Rattle.xs_tree.specs.Scope.{Place, Kind, a_variable, kind_declared, kind_at, module_at, Key, Meaning, a_variable_at, an_expression_at, an_instance_at, a_symbol, Means, means_in, find_module}
+use Rattle.xs_tree.specs.Scope.{Place, a_variable, kind_declared, kind_at, module_at, Key, Meaning, a_variable_at, an_expression_at, an_instance_at, a_symbol, Means, find_module}
 use Rattle.xs_tree.specs.Trace.{Each}
 use Rattle.xs_flattening.specs.Items.{Visit, visits, variable_declared, variables_of}
 use Rattle.xs_flattening.specs.Looks.{MeansNothing, MeetsLoop}
-use Rattle.xs_flattening.specs.Rules.{HasNoValue, nothing, only_an_instance, MeansInput, ReadsInput, GivesInput, is_input_kind, NeedsItself, IsWalkable, expression_of}
+use Rattle.xs_flattening.specs.Rules.{HasNoValue, nothing, only_an_instance, ReadsInput, GivesInput, is_input_kind, IsWalkable}
 use Rattle.xs_flattening.specs.Model.{Root, roots_of, EachBoth}
 use Rattle.xs_flattening.proofs.Conditions.{each_join, each_at}
 use Rattle.xs_flattening.proofs.LookLaws.{meets_loop_nothing}

@@ -1,14 +1,14 @@
 -- What the tables of a scene hold at an instance: its module, its items with their meanings, and the instances that it declares.
-use Rattle.std.proofs.Common.{◌≡◌, ℕ, zero, suc, ◌+◌, Bool, true, false, not, List, [], ◌∷◌, ◌++◌, length, Option, Some, None, map, refl, sym, ◌∙◌, ap, subst, eqb-true}
-use Rattle.std.specs.Prelude.{◌↔◌, slice_get, codes, nat_eq, flat_map, if◌then◌else◌, Vec}
+use Rattle.std.proofs.Common.{◌≡◌, ℕ, suc, ◌+◌, Bool, true, false, List, [], ◌∷◌, ◌++◌, length, Some, map, refl, sym, ◌∙◌, ap, subst, eqb-true}
+use Rattle.std.specs.Prelude.{slice_get, codes, nat_eq, flat_map, if◌then◌else◌, Vec}
 use Rattle.std.specs.declared.alloc.Global.{Global}
-use Rattle.xs_tree.specs.Texts.{same_text, is_among}
-use Rattle.xs_tree.specs.ProgramTree.{Text, Path, Formula, DeclaredTree, instance, DeclTree, ModuleTree, ProgramTree}
-use Rattle.xs_tree.specs.Scope.{Place, Role, Kind, a_variable, an_instance, kind_declared, kind_at, module_at, find_module}
+use Rattle.xs_tree.specs.Texts.{same_text}
+use Rattle.xs_tree.specs.ProgramTree.{Text, Formula, instance, DeclTree, ModuleTree, ProgramTree}
+use Rattle.xs_tree.specs.Scope.{Place, Role, Kind, an_instance, kind_declared, kind_at, module_at, find_module}
 use Rattle.xs_tree.specs.Trace.{Each, IsInstance}
 use Rattle.xs_tree.specs.Values.{opposite}
 use Rattle.xs_flattening.specs.Flat.{FlatInstance}
-use Rattle.xs_flattening.specs.Items.{Item, a_declaration, NumberedItem, NumberedModule, items_of, items_named, modules_from, modules_of, numbered_items, Visit, visits_of, walk, visits, instances_of}
+use Rattle.xs_flattening.specs.Items.{a_declaration, NumberedItem, NumberedModule, items_of, items_named, modules_from, modules_of, numbered_items, Visit, visits_of, walk, visits, instances_of}
 use Rattle.xs_flattening.specs.Rules.{a_header, an_item, visit_sites, double_name, wrong_count, has_twice, is_other_count, is_miscounted, names_of_item, is_name_again, IsKept, IsWalkable}
 use Rattle.xs_flattening.specs.Model.{EachBoth}
 use Rattle.xs_flattening.proofs.Conditions.{each_at, each_flat}
@@ -18,7 +18,7 @@ use Rattle.xs_flattening.proofs.Places.{In, facts_named, Walked, in_items, found
 use Rattle.xs_flattening.proofs.Variables.{both_at}
 use Rattle.xs_flattening.proofs.Walkable.{main_is_there}
 use Rattle.xs_flat.specs.FoundAt.{own_in, own_at, found_or, formal_in, formal_or, formal_at}
-use Rattle.xs_flat.specs.SceneTree.{IsCalled, IsPlaced, IsSpot, IsOwn, IsKnown, AreKnown, formals_of, IsScene, program_of}
+use Rattle.xs_flat.specs.SceneTree.{IsCalled, IsSpot, IsOwn, IsKnown, AreKnown, formals_of, IsScene, program_of}
 use Rattle.xs_flat.specs.Verdicts.{IsHanded}
 use Rattle.xs_flat.specs.declared.names.Formal.{Formal}
 use Rattle.xs_flat.specs.declared.names.Scene.{Scene}

@@ -1,14 +1,14 @@
 -- What an own name of an instance means there tells whether it may be assigned.
-use Rattle.std.proofs.Common.{◌≡◌, ℕ, zero, suc, ◌+◌, arith, Bool, true, false, List, [], ◌∷◌, ◌++◌, Option, Some, None, if◌then◌else◌, refl, sym, ◌∙◌, ap, subst, inl, inr}
-use Rattle.std.specs.Prelude.{◌⊎◌, slice_get}
+use Rattle.std.proofs.Common.{◌≡◌, ℕ, suc, ◌+◌, arith, Bool, true, false, List, [], ◌∷◌, ◌++◌, Option, Some, None, if◌then◌else◌, refl, sym, ◌∙◌, ap, subst}
+use Rattle.std.specs.Prelude.{slice_get}
 use Rattle.xs_tree.specs.declared.program.Moment.{Moment}
 use Rattle.xs_tree.specs.declared.program.Moment.TheVariants.{Always, First, After}
 use Rattle.xs_tree.specs.Texts.{same_text}
-use Rattle.xs_tree.specs.ProgramTree.{Text, DeclaredTree, boolean, range, members, instance, DeclTree, ModuleTree, ProgramTree}
-use Rattle.xs_tree.specs.Scope.{Place, Role, Kind, a_formal, a_variable, a_define, an_instance, undeclared, Key, define_key, Meaning, a_variable_at, an_expression_at, an_instance_at, kind_declared, formal_from, kind_after_formals, kind_in, kind_in_sections, kind_at, module_at, find_module}
+use Rattle.xs_tree.specs.ProgramTree.{Text, DeclaredTree, boolean, range, members, instance, ModuleTree, ProgramTree}
+use Rattle.xs_tree.specs.Scope.{Place, a_formal, a_variable, a_define, an_instance, undeclared, Key, define_key, a_variable_at, an_expression_at, an_instance_at, kind_declared, formal_from, kind_after_formals, kind_in, kind_in_sections, kind_at, module_at}
 use Rattle.xs_tree.proofs.ValueLaws.{same_text_equal}
 use Rattle.xs_flattening.specs.Flat.{FlatInstance}
-use Rattle.xs_flattening.specs.Items.{Item, a_declaration, a_definition, an_assignment, some_constants, an_init, an_invar, a_trans, NumberedItem, NumberedModule, items_of, items_named, modules_of, instances_of}
+use Rattle.xs_flattening.specs.Items.{Item, a_declaration, a_definition, an_assignment, some_constants, an_init, an_invar, a_trans, NumberedItem, items_of, items_named, modules_of, instances_of}
 use Rattle.xs_flattening.specs.Rules.{may_be_assigned, is_target, IsWalkable}
 use Rattle.xs_flattening.proofs.KindLaws.{kind_of_item, kind_in_items, sections_kind}
 use Rattle.xs_flattening.proofs.Places.{found_at}
@@ -16,7 +16,7 @@ use Rattle.xs_flattening.proofs.Variables.{both_at}
 use Rattle.xs_flat.specs.Assigned.{meant_by, local_meant, may_assign}
 use Rattle.xs_flat.specs.FoundAt.{entry_of, names_of_spot, local_in, local_at, own_at}
 use Rattle.xs_flat.specs.ModelTree.{role_of}
-use Rattle.xs_flat.specs.SceneTree.{gives_name, formal_entries, entries_of_item, item_entries, local_entries, named, HasNames, Denotes, meaning_of_declared, meaning_of_item, IsOwnMeaning, IsScene, program_of}
+use Rattle.xs_flat.specs.SceneTree.{gives_name, formal_entries, item_entries, local_entries, HasNames, Denotes, meaning_of_declared, meaning_of_item, IsOwnMeaning, IsScene, program_of}
 use Rattle.xs_flat.specs.declared.model.Role.TheVariants.{State, Input, Frozen}
 use Rattle.xs_flat.specs.declared.modules.Local.{Local}
 use Rattle.xs_flat.specs.declared.modules.Local.TheVariants as local
@@ -26,7 +26,7 @@ use Rattle.xs_flat.specs.declared.walk.Meaning.{Meaning as Found}
 use Rattle.xs_flat.specs.declared.walk.Meaning.TheVariants as found
 use Rattle.xs_flat.proofs.JudgeNames.{found_kind}
 use Rattle.xs_flat.proofs.JudgePlaces.{HasModule, has_module, HasSpot, has_spot, own_is}
-use Rattle.xs_flat.proofs.JudgeLists.{none_some, some_same}
+use Rattle.xs_flat.proofs.JudgeLists.{some_same}
 
 -- The table of a module's names.
 pub data SaysLocal (m : ModuleTree) (x : Text) (o : Option Local) : Type 0 where

@@ -1,12 +1,12 @@
 -- The table of assigned variables tells whether an earlier assignment speaks of the same time.
 use lib.Pointwise.{pointwise}
 use Rattle.std.proofs.Common.{◌≡◌, ℕ, Bool, true, false, ◌||◌, ◌&&◌, List, [], ◌∷◌, ◌++◌, Option, Some, None, cond, if◌then◌else◌, refl, sym, ◌∙◌, ap, subst, inl, inr, eqb-true, eq-eqb, Bor}
-use Rattle.std.specs.Prelude.{◌↔◌, ◌⊎◌, IsTrue, nat_eq}
+use Rattle.std.specs.Prelude.{◌↔◌, ◌⊎◌, nat_eq}
 use Rattle.std.specs.Map.{lookup}
 use Rattle.indexmap.specs.IndexMap.{insert_entry}
 use Rattle.xs_tree.specs.declared.program.Moment.{Moment}
 use Rattle.xs_tree.specs.declared.program.Moment.TheVariants.{Always, First, After}
-use Rattle.xs_tree.specs.ProgramTree.{Text, Path, AssignmentTree, ProgramTree}
+use Rattle.xs_tree.specs.ProgramTree.{Text, Path, AssignmentTree}
 use Rattle.xs_tree.specs.Texts.{same_text}
 use Rattle.xs_tree.specs.Trace.{AtSome}
 use Rattle.xs_tree.proofs.ValueLaws.{same_text_refl, same_text_equal}

@@ -1,6 +1,6 @@
 -- What is told of each kind of item at its place in the module of an instance.
-use Rattle.std.proofs.Common.{◌≡◌, ℕ, Bool, true, false, List, [], ◌∷◌, ◌++◌, Option, Some, None, map, refl, sym, ◌∙◌, ap, subst, Bor}
-use Rattle.std.specs.Prelude.{◌↔◌, slice_get, Result, IfOk}
+use Rattle.std.proofs.Common.{◌≡◌, ℕ, Bool, true, false, List, [], ◌∷◌, Option, Some, None, map, refl, sym, ◌∙◌, ap, subst, Bor}
+use Rattle.std.specs.Prelude.{slice_get, Result, IfOk}
 use Rattle.std.proofs.lemmas.Result.{IfOk-weaker}
 use Rattle.xs_tree.specs.declared.expr.Expr.{Expr}
 use Rattle.xs_tree.specs.declared.program.Assignment.{Assignment}
@@ -11,15 +11,15 @@ use Rattle.xs_tree.specs.ProgramTree.{Text, Path, Formula, DeclaredTree, boolean
 use Rattle.xs_tree.specs.Scope.{Place, Role, define_key, an_expression_at, an_instance_at, find_module}
 use Rattle.xs_flattening.specs.Flat.{FlatInstance}
 use Rattle.xs_flattening.specs.Items.{Item, a_declaration, a_definition, an_assignment, some_constants, an_init, an_invar, a_trans, NumberedItem, items_named, instances_of}
-use Rattle.xs_flattening.specs.Rules.{a_use, IsWalkable}
-use Rattle.xs_flat.specs.Assigned.{AreTimes, IsItemTold}
+use Rattle.xs_flattening.specs.Rules.{a_use}
+use Rattle.xs_flat.specs.Assigned.{IsItemTold}
 use Rattle.xs_flat.specs.Faults.{first_of}
 use Rattle.xs_flat.specs.FoundAt.{own_at}
 use Rattle.xs_flat.specs.ItemTree.{item_tree}
 use Rattle.xs_flat.specs.ModelTree.{role_of}
 use Rattle.xs_flat.specs.NeedsTree.{AreNeeds, HasCircle}
-use Rattle.xs_flat.specs.SceneTree.{Denotes, meaning_of_item, IsOwnMeaning, IsOwn, IsScene, program_of}
-use Rattle.xs_flat.specs.Verdicts.{is_circle_found, IsTold, IsToldOf, IsToldHere, AreActuals, instance_in, IsHanded, AreActualsJudged, JudgesActuals}
+use Rattle.xs_flat.specs.SceneTree.{Denotes, meaning_of_item, IsOwnMeaning, IsScene, program_of}
+use Rattle.xs_flat.specs.Verdicts.{is_circle_found, IsTold, IsToldOf, IsToldHere, AreActuals, instance_in, IsHanded, JudgesActuals}
 use Rattle.xs_flat.specs.declared.fault.Rule.{Rule as Code}
 use Rattle.xs_flat.specs.declared.fault.Rule.TheVariants as code
 use Rattle.xs_flat.specs.declared.items.Item.{Item as ItemCode}

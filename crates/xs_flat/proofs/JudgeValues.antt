@@ -7,7 +7,7 @@ use Rattle.xs_tree.specs.Scope.{Place}
 use Rattle.xs_tree.specs.Trace.{AtSome}
 use Rattle.xs_flattening.specs.Flat.{FlatInstance}
 use Rattle.xs_flattening.specs.Items.{instances_of}
-use Rattle.xs_flattening.specs.Resolved.{leaves_in, has_next}
+use Rattle.xs_flattening.specs.Resolved.{has_next}
 use Rattle.xs_flattening.specs.Rules.{HasNoValue, GivesInput, IsWalkable, next_under_next}
 use Rattle.xs_flat.specs.SceneTree.{IsFound, IsScene, program_of}
 use Rattle.xs_flat.specs.NeedsTree.{AreNeeds}

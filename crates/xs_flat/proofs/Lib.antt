@@ -74,10 +74,10 @@ pub mod MetLaws
 pub mod VisitFaults
 pub mod WholeLaws
 pub mod FlatFaults
-pub mod Closing
 pub mod Stacks
 pub mod BuildUnique
 pub mod ResolvedAtLaws
 pub mod Turns
 pub mod SceneSymbols
 pub mod Starting
+pub mod OnlyModel

@@ -1,13 +1,13 @@
 -- What the names of a module tell of a name is what it is in the module.
-use Rattle.std.proofs.Common.{◌≡◌, ℕ, zero, suc, ◌+◌, arith, Bool, true, false, List, [], ◌∷◌, ◌++◌, Option, Some, None, refl, sym, ◌∙◌, ap, subst}
-use Rattle.std.specs.Prelude.{slice_get, option_map, if◌then◌else◌}
+use Rattle.std.proofs.Common.{◌≡◌, ℕ, suc, ◌+◌, arith, Bool, true, false, List, [], ◌∷◌, ◌++◌, Option, Some, None, refl, sym, ◌∙◌, ap}
+use Rattle.std.specs.Prelude.{slice_get}
 use Rattle.xs_tree.specs.ProgramTree.{Text, ModuleTree}
 use Rattle.xs_tree.specs.Texts.{same_text}
-use Rattle.xs_tree.specs.Scope.{Kind, a_formal, undeclared, formal_from, kind_after_formals, kind_in, kind_in_sections}
+use Rattle.xs_tree.specs.Scope.{undeclared, formal_from, kind_after_formals, kind_in}
 use Rattle.xs_tree.proofs.ValueLaws.{same_text_equal}
 use Rattle.xs_flattening.specs.Items.{Item, a_declaration, a_definition, an_assignment, some_constants, an_init, an_invar, a_trans, items_of}
 use Rattle.xs_flattening.proofs.KindLaws.{kind_of_item, kind_in_items, sections_kind}
-use Rattle.xs_flat.specs.SceneTree.{gives_name, item_from, local_after, local_of, formal_entries, entries_of_item, item_entries, local_entries}
+use Rattle.xs_flat.specs.SceneTree.{gives_name, item_from, local_after, local_of, formal_entries, item_entries, local_entries}
 use Rattle.xs_flat.specs.FoundAt.{entry_of}
 use Rattle.xs_flat.specs.declared.modules.Local.{Local}
 use Rattle.xs_flat.specs.declared.modules.Local.TheVariants as local

@@ -1,21 +1,20 @@
 -- Definitions get their numbers one after another.
-use Rattle.std.proofs.Common.{◌≡◌, ℕ, zero, suc, ◌+◌, arith, List, [], ◌∷◌, ◌++◌, length, Option, Some, None, Vec, refl, sym, ◌∙◌, ap, subst}
+use Rattle.std.proofs.Common.{◌≡◌, ℕ, zero, suc, List, [], ◌∷◌, ◌++◌, length, Option, Some, None, Vec, refl, sym, ◌∙◌, ap, subst}
 use Rattle.std.specs.Prelude.{slice_get}
 use Rattle.std.specs.Borrow.{Bor}
 use Rattle.std.specs.declared.alloc.Global.{Global}
-use Rattle.xs_value.specs.declared.name.Dotted.{Dotted}
 use Rattle.xs_tree.specs.declared.expr.Expr.{Expr}
 use Rattle.xs_tree.specs.ProgramTree.{Text, Path, Formula, ProgramTree, program_tree}
 use Rattle.xs_tree.specs.Written.{tree_of}
-use Rattle.xs_tree.specs.Scope.{Place, Kind, a_formal, Key, actual_key, Meaning, an_expression_at, plain_name, through_plain, through_actual, by_kind, kind_at, module_at, actual_of_kind, means_in, Means}
+use Rattle.xs_tree.specs.Scope.{Place, a_formal, actual_key, Meaning, an_expression_at, plain_name, through_plain, through_actual, by_kind, kind_at, module_at, actual_of_kind, means_in, Means}
 use Rattle.xs_flattening.specs.Flat.{FlatInstance}
 use Rattle.xs_flattening.specs.Items.{instances_of}
 use Rattle.xs_flattening.specs.Looks.{Look, at_actual, plain_of, step_kind, step_of, step_on, look_after, ComesBack}
 use Rattle.xs_flattening.specs.Rules.{IsWalkable, expression_of, expression_in}
 use Rattle.xs_flattening.specs.Model.{EachBoth, Root, root_of_actual, roots_of}
 use Rattle.xs_flattening.proofs.LookLaws.{comes_back_nothing}
-use Rattle.xs_flat.specs.SceneTree.{AreModules, Denotes, IsFound, IsKnown, IsDefined, program_of}
-use Rattle.xs_flat.specs.Known.{rows, rows_with, formal_of, IsHead, IsTold, Shut, ShutAt, ShutBeyond, AreTold, IsSameButFormals}
+use Rattle.xs_flat.specs.SceneTree.{AreModules, Denotes, IsKnown, IsDefined, program_of}
+use Rattle.xs_flat.specs.Known.{rows, rows_with, IsHead, IsTold, ShutAt, ShutBeyond, AreTold, IsSameButFormals}
 use Rattle.xs_flat.specs.Laid.{IsLaidSpot, IsLaid, IsLeft, IsNaming, IsSameProgram, IsActualAt, NamesActual}
 use Rattle.xs_flat.specs.declared.modules.Modules.{Modules}
 use Rattle.xs_flat.specs.declared.walk.Meaning.{Meaning as Found}

@@ -8,24 +8,21 @@ use Rattle.std.specs.Borrow.{Bor}
 use Rattle.xs_tree.specs.declared.expr.Expr.{Expr}
 use Rattle.xs_tree.specs.declared.program.Decl.{Decl}
 use Rattle.xs_tree.specs.declared.program.Define.{Define}
-use Rattle.xs_tree.specs.declared.program.Declared.{Declared}
-use Rattle.xs_tree.specs.declared.program.Declared.TheVariants as declared
-use Rattle.xs_tree.specs.ProgramTree.{Text, Path, Formula, DeclaredTree, boolean, range, members, instance, DeclTree, DefineTree, ProgramTree, declared_tree, decl_tree, define_tree}
+use Rattle.xs_tree.specs.ProgramTree.{Text, Path, Formula, instance, DeclTree, DefineTree, ProgramTree}
 use Rattle.xs_tree.specs.Written.{tree_of}
-use Rattle.xs_tree.specs.Scope.{Place, Role, kind_declared, a_define, Key, define_key, Meaning, a_variable_at, an_expression_at, an_instance_at, a_symbol, plain_name, kind_at, module_at, actual_of_kind, an_instance, nth_formula}
+use Rattle.xs_tree.specs.Scope.{Role, kind_declared, a_define, define_key, an_instance_at, plain_name, kind_at, module_at, actual_of_kind, nth_formula}
 use Rattle.xs_flattening.specs.Flat.{FlatInstance}
 use Rattle.xs_flattening.specs.Items.{Item as ItemOf, a_declaration, a_definition, an_assignment, some_constants, an_init, an_invar, a_trans, NumberedItem, items_named, instances_of}
 use Rattle.xs_flattening.specs.Rules.{IsWalkable, expression_of, expression_of_kind}
 use Rattle.xs_flattening.specs.Model.{EachBoth, Root, root_of_actual, roots_of_actuals, roots_of_type, roots_of_item, roots_of, symbols_of}
 use Rattle.xs_flattening.proofs.Variables.{both_at, both_at_second}
 use Rattle.xs_flat.specs.ItemTree.{item_tree, numbered_tree}
-use Rattle.xs_flat.specs.ModelTree.{role_of}
 use Rattle.xs_flat.specs.Symbols.{texts}
-use Rattle.xs_flat.specs.SceneTree.{AreModules, IsPlaced, IsSet, Denotes, IsOwnMeaning, IsOwn, IsWalked, IsSpotWalked, IsSpot, IsDefined, meaning_of_declared, meaning_of_item, number_and_item, program_of}
+use Rattle.xs_flat.specs.SceneTree.{AreModules, IsPlaced, IsSet, Denotes, IsOwn, IsWalked, IsSpotWalked, IsSpot, IsDefined, meaning_of_declared, number_and_item, program_of}
 use Rattle.xs_flat.specs.FoundAt.{own_at, own_in, found_or}
 use Rattle.xs_flat.specs.Steps.{numbered_at, count_in}
 use Rattle.xs_flat.specs.Known.{rows_of, rows, AreTold}
-use Rattle.xs_flat.specs.Laid.{IsLaidSpot, IsLaid, IsLeft, IsNaming, IsSameProgram, IsActualAt, NamesActual, IsItemAt, NamesDeclared, AreActualsAt, NamesActuals, NamesItem, roots_at, NamesItems, with_own_in, with_own, IsSpotBy, IsNamedTo}
+use Rattle.xs_flat.specs.Laid.{IsLaidSpot, IsLaid, IsNaming, IsSameProgram, IsActualAt, NamesActual, IsItemAt, NamesDeclared, AreActualsAt, NamesActuals, NamesItem, roots_at, NamesItems, with_own_in, with_own, IsSpotBy, IsNamedTo}
 use Rattle.xs_flat.specs.declared.model.Role.{Role as Role'}
 use Rattle.xs_flat.specs.declared.items.Item.{Item}
 use Rattle.xs_flat.specs.declared.items.Item.TheVariants as code

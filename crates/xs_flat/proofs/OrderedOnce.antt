@@ -3,14 +3,13 @@ use Rattle.std.proofs.Common.{◌≡◌, ℕ, zero, suc, List, [], ◌∷◌, So
 use Rattle.std.specs.Prelude.{slice_get, map}
 use Rattle.xs_tree.specs.ProgramTree.{ProgramTree}
 use Rattle.xs_tree.specs.Scope.{Key}
-use Rattle.xs_tree.specs.Trace.{Each}
 use Rattle.xs_flattening.specs.Resolved.{Definition}
 use Rattle.xs_flattening.specs.Rules.{IsWalkable}
-use Rattle.xs_flattening.specs.Model.{EachBoth, KeysDiffer, Root, roots_of}
-use Rattle.xs_flattening.proofs.Conditions.{each_at, each_from}
+use Rattle.xs_flattening.specs.Model.{KeysDiffer, Root, roots_of}
+use Rattle.xs_flattening.proofs.Conditions.{each_from}
 use Rattle.xs_flattening.proofs.Variables.{both_at_second}
 use Rattle.xs_flattening.proofs.KeysApart.{one_root}
-use Rattle.xs_flat.specs.NeedsTree.{keys_of, IsKeyAt, IsOrder}
+use Rattle.xs_flat.specs.NeedsTree.{IsKeyAt, IsOrder}
 
 -- the root of a number, from its key
 root_at : (rs : List Root) (k : ℕ) (key : Key) → slice_get (map (λ (r : Root). r.key) rs) k ≡ Some key → (r : Root) × (slice_get rs k ≡ Some r) × (r.key ≡ key)
@@ -49,4 +48,4 @@ pub keys_differ : (p : ProgramTree) (walkable : IsWalkable p) (order places : Li
     map (λ (d : Definition). d.key) ds ≡ is.ordered → KeysDiffer ds
 keys_differ p walkable order places is ds e =
     differ_from ds (λ i j c d f g same. one_place p walkable order places is i j c.key
-        (subst (λ ks. slice_get ks i ≡ Some c.key) e (key_at ds i c f)) (subst (λ ks. slice_get ks j ≡ Some c.key) e (subst (λ k. slice_get (map (λ (d : Definition). d.key) ds) j ≡ Some k) (sym same) (key_at ds j d g))))
+    (subst (λ ks. slice_get ks i ≡ Some c.key) e (key_at ds i c f)) (subst (λ ks. slice_get ks j ≡ Some c.key) e (subst (λ k. slice_get (map (λ (d : Definition). d.key) ds) j ≡ Some k) (sym same) (key_at ds j d g))))

@@ -1,16 +1,13 @@
 -- An expression that breaks no rule is resolved over each reading of the model, and one that breaks some is told the least.
-use Rattle.std.proofs.Common.{◌≡◌, ℕ, suc, ◌<◌, ◌≤◌, Bool, true, false, not, ◌&&◌, List, [], ◌∷◌, length, Option, Some, None, refl, sym, ◌∙◌, ap, subst, arith}
-use Rattle.std.specs.Prelude.{slice_get, map, IfSome, IfOk, IfErr, ◌↔◌}
-use Rattle.std.specs.declared.result.Result.{Result}
-use Rattle.std.specs.declared.result.Result.TheVariants.{Ok, Err}
+use Rattle.std.proofs.Common.{◌≡◌, ℕ, ◌<◌, ◌≤◌, Bool, true, false, not, ◌&&◌, List, [], ◌∷◌, length, Option, Some, None, refl, sym, ◌∙◌, ap, subst, arith}
+use Rattle.std.specs.Prelude.{slice_get, map, IfSome}
 use Rattle.std.proofs.lemmas.List.{length-map}
 use Rattle.xs_tree.specs.Tree.{Tree}
-use Rattle.xs_tree.specs.ProgramTree.{Text, Path, Formula, ProgramTree}
+use Rattle.xs_tree.specs.ProgramTree.{Text, Formula, ProgramTree}
 use Rattle.xs_tree.specs.Leaves.{tree_map}
-use Rattle.xs_tree.specs.Scope.{Place, Key}
-use Rattle.xs_tree.specs.Trace.{AtSome}
+use Rattle.xs_tree.specs.Scope.{Place}
 use Rattle.xs_flattening.specs.Flat.{FlatLeaf, FlatInstance, FlatVariable, FlatFormula, FlatModel}
-use Rattle.xs_flattening.specs.Resolved.{leaves_in, has_next, Definition, Resolver, IsSound, IsResolved}
+use Rattle.xs_flattening.specs.Resolved.{has_next, Definition, IsSound}
 use Rattle.xs_flattening.specs.Items.{Visit, instances_of, variables_of}
 use Rattle.xs_flattening.specs.Rules as rules
 use Rattle.xs_flattening.specs.Rules.{number_of, no_main, main_has_parameters, double_module, double_name, no_such_module, wrong_count, module_loop, no_such_name, not_a_target, double_assign, define_loop, next_here, input_here, too_many, SomeHasNoValue, GivesInput, IsAccepted, expression_of}
@@ -27,7 +24,7 @@ use Rattle.xs_flat.specs.Faults.{first_of, rule_of, IsWant}
 use Rattle.xs_flat.specs.Closed.{bounds_of}
 use Rattle.xs_flat.specs.ModelTree.{variable_tree, formula_tree, model_tree}
 use Rattle.xs_flat.specs.SceneTree.{program_of, IsScene}
-use Rattle.xs_flat.specs.NeedsTree.{IsKeyAt, IsOrder, AreNeeds}
+use Rattle.xs_flat.specs.NeedsTree.{IsKeyAt, AreNeeds}
 use Rattle.xs_flat.specs.Walked.{IsDeclaredBy}
 use Rattle.xs_flat.specs.Judging.{IsJudged}
 use Rattle.xs_flat.specs.ResolverOf.{leaf_at, leaf_by, resolver, AreKnown}

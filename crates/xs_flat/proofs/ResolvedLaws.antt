@@ -7,7 +7,7 @@ use Rattle.xs_tree.specs.declared.expr.Expr.TheVariants.{Case, SetOf}
 use Rattle.xs_tree.specs.ProgramTree.{Path}
 use Rattle.xs_tree.specs.Tree.{case_of, set_of, tree_then, branch_then, trees_from, branches_from}
 use Rattle.xs_tree.specs.Leaves.{tree_map, trees_map, branches_map}
-use Rattle.xs_tree.specs.Written.{tree_of, trees_of, branches_of}
+use Rattle.xs_tree.specs.Written.{trees_of, branches_of}
 use Rattle.xs_tree.proofs.WrittenLaws.{tree_of_case, tree_of_set}
 use Rattle.xs_flattening.specs.Flat.{FlatLeaf}
 use Rattle.xs_flat.specs.declared.bounds.Bounds.{Bounds}

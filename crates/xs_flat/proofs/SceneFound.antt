@@ -4,16 +4,14 @@ use Rattle.std.specs.Prelude.{slice_get, nat_lt, codes}
 use Rattle.std.proofs.lemmas.List.{length-map}
 use Rattle.std.proofs.lemmas.Bool.{lt-ltb}
 use Rattle.std.specs.declared.alloc.Global.{Global}
-use Rattle.xs_tree.specs.ProgramTree.{Text, Path, DeclaredTree, boolean, range, members, instance, DeclTree, DefineTree, ModuleTree, ProgramTree}
-use Rattle.xs_tree.specs.Texts.{same_text, is_among}
-use Rattle.xs_tree.specs.Scope.{Place, Role, Kind, kind_declared, a_define, undeclared, Key, define_key, Meaning, a_variable_at, an_expression_at, an_instance_at, a_symbol, by_kind, means_in, Means, is_symbol, find_module, formal_from, kind_in, kind_at, module_at, kind_after_formals}
+use Rattle.xs_tree.specs.ProgramTree.{Text, Path, DeclaredTree, boolean, range, members, instance, ModuleTree, ProgramTree}
+use Rattle.xs_tree.specs.Scope.{Place, Role, Kind, kind_declared, undeclared, define_key, Meaning, an_expression_at, a_symbol, by_kind, means_in, Means, is_symbol, find_module, formal_from, kind_at, module_at, kind_after_formals}
 use Rattle.xs_tree.specs.Trace.{IsInstance}
 use Rattle.xs_tree.proofs.ValueLaws.{same_text_equal}
 use Rattle.xs_flattening.specs.Flat.{FlatInstance}
-use Rattle.xs_flattening.specs.Items.{Item, a_declaration, a_definition, an_assignment, some_constants, an_init, an_invar, a_trans, NumberedItem, NumberedModule, items_of, items_named, modules_of, instances_of}
-use Rattle.xs_flattening.specs.Looks.{look_after, step_on, step_kind, ComesBack, MeetsLoop, MeansNothing}
-use Rattle.xs_flattening.specs.Rules.{IsWalkable}
-use Rattle.xs_flattening.specs.Model.{EachBoth, symbols_of}
+use Rattle.xs_flattening.specs.Items.{Item, a_declaration, a_definition, an_assignment, some_constants, an_init, an_invar, a_trans, NumberedItem, items_of, items_named, modules_of, instances_of}
+use Rattle.xs_flattening.specs.Looks.{step_kind, MeansNothing}
+use Rattle.xs_flattening.specs.Model.{symbols_of}
 use Rattle.xs_flattening.proofs.EndLaws.{ended_meets_none}
 use Rattle.xs_flattening.proofs.KindLaws.{kind_of_item, kind_in_items}
 use Rattle.xs_flattening.proofs.Places.{found_at as item_there, are_instances}
@@ -21,7 +19,7 @@ use Rattle.xs_flattening.proofs.Sections.{AreInstances}
 use Rattle.xs_flattening.proofs.Variables.{both_at}
 use Rattle.xs_flattening.proofs.Walkable.{main_is_there}
 use Rattle.xs_flat.specs.Symbols.{texts}
-use Rattle.xs_flat.specs.SceneTree.{gives_name, item_from, local_after, local_of, local_entries, named, HasNames, Denotes, IsFound, meaning_of_declared, meaning_of_item, IsOwnMeaning, IsOwn, IsPlaced, IsSpot, IsKnown, formals_of, AreKnown, program_of, IsSet, IsScene}
+use Rattle.xs_flat.specs.SceneTree.{gives_name, item_from, local_after, local_of, HasNames, Denotes, IsFound, meaning_of_declared, meaning_of_item, IsOwnMeaning, IsOwn, IsSpot, IsKnown, formals_of, AreKnown, program_of, IsSet, IsScene}
 use Rattle.xs_flat.specs.FoundAt.{entry_of, place_from, names_of_spot, local_in, local_at, found_or, own_in, own_at, formal_or, formal_in, formal_at, told, symbol_or, symbol_at, by_local, part_at, found_inside}
 use Rattle.xs_flat.specs.FoundAt as tables
 use Rattle.xs_flat.specs.declared.modules.Local.{Local}
@@ -33,7 +31,6 @@ use Rattle.xs_flat.specs.declared.walk.Spot.{Spot}
 use Rattle.xs_flat.specs.declared.names.Formal.{Formal}
 use Rattle.xs_flat.specs.declared.names.Formal.TheVariants as known
 use Rattle.xs_flat.specs.declared.names.Scene.{Scene}
-use Rattle.xs_flat.proofs.LookSplit.{never, of_some}
 use Rattle.xs_flat.proofs.LookFound.{nothing_at_all, found_parts}
 use Rattle.xs_flat.proofs.NameKinds.{locals_told, formal_named, Given, item_given, none_given, kind_by_items}
 use Rattle.xs_flat.proofs.SymbolKinds.{symbols_among, PlacedAt, placed_at, not_placed}

@@ -1,13 +1,12 @@
 -- The items of an instance are those of its module.
 use Rattle.std.proofs.Common.{◌≡◌, ℕ, zero, suc, List, [], ◌∷◌, length, map, Option, Some, None, refl, sym, ◌∙◌, ap}
 use Rattle.std.specs.Prelude.{slice_get, option_map}
-use Rattle.xs_tree.specs.ProgramTree.{ProgramTree}
 use Rattle.xs_flattening.specs.Flat.{FlatInstance}
-use Rattle.xs_flattening.specs.Items.{NumberedItem, NumberedModule, items_named, modules_of, numbered_items, instances_of}
+use Rattle.xs_flattening.specs.Items.{items_named, modules_of, numbered_items, instances_of}
 use Rattle.xs_flattening.specs.Model.{EachBoth}
 use Rattle.xs_flattening.proofs.Variables.{both_at}
 use Rattle.xs_flat.specs.ItemTree.{numbered_tree}
-use Rattle.xs_flat.specs.SceneTree.{HasNames, IsOwn, IsSpot, number_and_item, items_of_instance, items_at, program_of, IsSet, IsScene}
+use Rattle.xs_flat.specs.SceneTree.{HasNames, IsOwn, IsSpot, number_and_item, items_of_instance, items_at, program_of, IsSet}
 use Rattle.xs_flat.specs.FoundAt.{names_of_spot}
 use Rattle.xs_flat.specs.Steps.{numbered_in, numbered_at, count_in}
 use Rattle.xs_flat.specs.Laid.{IsLaidSpot, IsLaid}

@@ -1,10 +1,10 @@
 -- The symbols of the modules that are read are those of the program.
-use Rattle.std.proofs.Common.{◌≡◌, ℕ, suc, ◌+◌, List, [], ◌∷◌, ◌++◌, length, map, refl, sym, ◌∙◌, ap}
+use Rattle.std.proofs.Common.{◌≡◌, ℕ, suc, ◌+◌, List, [], ◌∷◌, ◌++◌, length, map, refl, ◌∙◌, ap}
 use Rattle.std.specs.Prelude.{flat_map}
-use Rattle.xs_tree.specs.ProgramTree.{Text, ModuleTree, ProgramTree, program_tree}
-use Rattle.xs_flattening.specs.Items.{Item, NumberedItem, NumberedModule, items_of, numbered_from, modules_from, modules_of, numbered_items}
+use Rattle.xs_tree.specs.ProgramTree.{Text, ModuleTree, program_tree}
+use Rattle.xs_flattening.specs.Items.{Item, NumberedModule, items_of, numbered_from, modules_from, modules_of}
 use Rattle.xs_flattening.specs.Model.{EachBoth, symbols_of_item, first_appearances, symbols_of}
-use Rattle.xs_flat.specs.ItemTree.{item_tree, numbered_tree}
+use Rattle.xs_flat.specs.ItemTree.{numbered_tree}
 use Rattle.xs_flat.specs.Symbols.{symbols_of_numbered, symbols_in}
 use Rattle.xs_flat.specs.SceneTree.{HasNames, AreModules, number_and_item}
 use Rattle.xs_flat.specs.declared.items.Numbered.{Numbered}

@@ -1,28 +1,28 @@
 -- Look-ups that wait for one another, and what is known where they come back.
-use Rattle.std.proofs.Common.{◌≡◌, ℕ, zero, suc, ◌+◌, ◌-◌, ◌<◌, ◌≤◌, arith, Bool, true, false, ltb, eqb, List, [], ◌∷◌, ◌++◌, length, Option, Some, None, refl, sym, ◌∙◌, ap, subst, ◌⊎◌, inl, inr}
+use Rattle.std.proofs.Common.{◌≡◌, ℕ, zero, suc, ◌+◌, ◌-◌, ◌<◌, ◌≤◌, arith, Bool, true, false, ltb, List, [], ◌∷◌, ◌++◌, length, Option, Some, None, refl, sym, ◌∙◌, ap, subst, ◌⊎◌, inl, inr}
 use Rattle.std.specs.Prelude.{slice_get}
 use Rattle.std.proofs.lemmas.Bool.{ltb-true, ltb-false}
 use Rattle.std.proofs.lemmas.List.{length-set}
 use Rattle.xs_tree.specs.ProgramTree.{Text, Path, ProgramTree}
-use Rattle.xs_tree.specs.Scope.{Place, find_module}
+use Rattle.xs_tree.specs.Scope.{Place}
 use Rattle.xs_flattening.specs.Flat.{FlatInstance}
 use Rattle.xs_flattening.specs.Items.{instances_of}
-use Rattle.xs_flattening.specs.Looks.{Look, look_after, step_on, ComesBack}
+use Rattle.xs_flattening.specs.Looks.{Look, look_after, ComesBack}
 use Rattle.xs_flattening.specs.Rules.{IsWalkable}
 use Rattle.xs_flattening.specs.Model.{EachBoth}
 use Rattle.xs_flattening.proofs.LookLaws.{after_longer}
 use Rattle.xs_flattening.proofs.EndLaws.{steps_more, goes_on}
 use Rattle.xs_flat.specs.SceneTree.{IsKnown, formals_of}
 use Rattle.xs_flat.specs.FoundAt.{formal_or}
-use Rattle.xs_flat.specs.Known.{row_or, rows_with, formal_of, IsHead, IsOpen, IsOpenAt, ShutAt, Shut, IsTold, IsSized, AreTold}
+use Rattle.xs_flat.specs.Known.{row_or, formal_of, IsHead, IsOpen, IsOpenAt, ShutAt, Shut, IsTold, IsSized, AreTold}
 use Rattle.xs_flat.specs.Waiting.{IsFrame, WaitsFor, LastWaits, IsStack, circled}
 use Rattle.xs_flat.specs.declared.names.Formal.{Formal}
 use Rattle.xs_flat.specs.declared.names.Formal.TheVariants as known
 use Rattle.xs_flat.specs.declared.formals.Frame.{Frame}
-use Rattle.xs_flat.proofs.LookSplit.{never, of_some, HasPart, with_more, named_look}
+use Rattle.xs_flat.proofs.LookSplit.{of_some, HasPart, with_more, named_look}
 use Rattle.xs_flat.proofs.LookFound.{same_part}
 use Rattle.xs_flat.proofs.Heads.{head_place, head_numbers}
-use Rattle.xs_flat.proofs.Told.{IsNoMoreOpen, IsChanged, changed, shut_on, told_on, no_more_open, still_sized, set_own, get_below}
+use Rattle.xs_flat.proofs.Told.{IsNoMoreOpen, IsChanged, changed, shut_on, told_on, still_sized, set_own, get_below}
 
 module _ (p : ProgramTree) (rs rs' : List (List Formal)) (less : IsNoMoreOpen p rs rs') where
   pub frame_on : (f : Frame) → IsFrame p rs f → IsFrame p rs' f

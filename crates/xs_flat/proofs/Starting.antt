@@ -1,8 +1,7 @@
 -- A scene before and after its definitions have numbers.
-use Rattle.std.proofs.Common.{◌≡◌, ℕ, ◌<◌, arith, List, [], length, Vec, refl, sym, ◌∙◌, ap, subst}
+use Rattle.std.proofs.Common.{◌≡◌, ◌<◌, [], length, Vec, sym, ◌∙◌, ap, subst}
 use Rattle.std.specs.declared.alloc.Global.{Global}
-use Rattle.xs_tree.specs.ProgramTree.{ProgramTree, program_tree}
-use Rattle.xs_flattening.specs.Flat.{FlatInstance}
+use Rattle.xs_tree.specs.ProgramTree.{ProgramTree}
 use Rattle.xs_flattening.specs.Items.{NumberedItem, items_named, instances_of}
 use Rattle.xs_flattening.specs.Rules.{IsWalkable}
 use Rattle.xs_flattening.specs.Model.{EachBoth, symbols_of}

@@ -1,11 +1,10 @@
 -- What a step finds is what the part means.
-use Rattle.std.proofs.Common.{◌≡◌, ℕ, Bool, true, false, List, [], ◌∷◌, Option, Some, None, refl}
-use Rattle.xs_tree.specs.ProgramTree.{Text, Path}
-use Rattle.xs_flat.specs.FoundAt.{local_at, by_local, part_at, found_at, found_inside}
+use Rattle.std.proofs.Common.{◌≡◌, ℕ, Bool, Option, Some, None, refl}
+use Rattle.xs_tree.specs.ProgramTree.{Text}
+use Rattle.xs_flat.specs.FoundAt.{local_at, by_local, part_at}
 use Rattle.xs_flat.specs.Steps.{step_by_local, step_at, found_by}
 use Rattle.xs_flat.specs.declared.modules.Local.{Local}
 use Rattle.xs_flat.specs.declared.modules.Local.TheVariants as local
-use Rattle.xs_flat.specs.declared.walk.Meaning.{Meaning as Found}
 use Rattle.xs_flat.specs.declared.names.Scene.{Scene}
 
 found_local : (s : Scene) (spot : ℕ) (last : Bool) (x : Text) (o : Option Local) → found_by s spot (step_by_local s spot last x o) ≡ by_local s spot last x o

@@ -1,6 +1,6 @@
 -- A look-up in a table is that of the first entry with the text.
 use lib.Pointwise.{pointwise}
-use Rattle.std.proofs.Common.{◌≡◌, ℕ, suc, ◌+◌, cond, Bool, List, [], ◌∷◌, Option, Some, None, refl, add-one, ◌∙◌}
+use Rattle.std.proofs.Common.{◌≡◌, ℕ, suc, List, [], ◌∷◌, refl, add-one, ◌∙◌}
 use Rattle.std.specs.Prelude.{nat_eq, position}
 use Rattle.std.specs.Borrow.{Bor}
 use Rattle.std.specs.List.{position_from}

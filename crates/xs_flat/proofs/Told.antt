@@ -1,11 +1,10 @@
 -- All answers so far are right, and stay so when another one is told.
-use Rattle.std.proofs.Common.{◌≡◌, ℕ, zero, suc, ◌+◌, ◌<◌, ◌≤◌, arith, List, [], ◌∷◌, length, Option, Some, None, refl, sym, ◌∙◌, ap, subst, ◌⊎◌, inl, inr}
+use Rattle.std.proofs.Common.{◌≡◌, ℕ, zero, suc, ◌<◌, arith, List, [], ◌∷◌, length, Option, Some, refl, sym, ◌∙◌, ap, subst, ◌⊎◌, inl, inr}
 use Rattle.std.specs.Prelude.{slice_get, slice_set}
 use Rattle.std.proofs.lemmas.List.{length-set}
-use Rattle.xs_tree.specs.ProgramTree.{Text, Path, ModuleTree, ProgramTree}
-use Rattle.xs_tree.specs.Scope.{Place, find_module}
+use Rattle.xs_tree.specs.ProgramTree.{Text, Path, ProgramTree}
+use Rattle.xs_tree.specs.Scope.{Place}
 use Rattle.xs_flattening.specs.Flat.{FlatInstance}
-use Rattle.xs_flattening.specs.Items.{instances_of}
 use Rattle.xs_flattening.specs.Looks.{Look, look_after}
 use Rattle.xs_flattening.specs.Rules.{IsWalkable}
 use Rattle.xs_flat.specs.SceneTree.{IsKnown, formals_of}

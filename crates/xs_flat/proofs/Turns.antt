@@ -1,5 +1,5 @@
 -- One turn of the look-ups of formals.
-use Rattle.std.proofs.Common.{◌≡◌, ℕ, zero, suc, ◌+◌, ◌<◌, ◌≤◌, arith, Bool, true, false, List, [], ◌∷◌, ◌++◌, length, Option, Some, None, Vec, refl, sym, ◌∙◌, ap, subst, if◌then◌else◌}
+use Rattle.std.proofs.Common.{◌≡◌, ℕ, zero, suc, ◌<◌, arith, Bool, true, false, List, [], ◌∷◌, ◌++◌, length, Option, Some, None, Vec, refl, sym, ◌∙◌, ap, subst}
 use Rattle.std.specs.Prelude.{slice_get, option_map}
 use Rattle.std.specs.declared.alloc.Global.{Global}
 use Rattle.std.proofs.lemmas.List.{length-map}
@@ -14,7 +14,7 @@ use Rattle.xs_flat.specs.Symbols.{texts}
 use Rattle.xs_flat.specs.SceneTree.{AreModules, IsSpot, IsDefined, IsKnown, formals_of, AreKnown, program_of, IsSet, IsScene}
 use Rattle.xs_flat.specs.FoundAt.{formal_or, formal_at}
 use Rattle.xs_flat.specs.Steps.{is_open, row_answered, all_answered, row_count_in, row_count}
-use Rattle.xs_flat.specs.Known.{rows_of, rows, row_or, rows_with, formal_of, IsHead, IsOpen, IsTold, IsSized, AreTold, IsSameButFormals}
+use Rattle.xs_flat.specs.Known.{rows, row_or, rows_with, formal_of, IsOpen, IsTold, IsSized, AreTold, IsSameButFormals}
 use Rattle.xs_flat.specs.Waiting.{IsFormal, IsFrame, LastWaits, IsStack, IsReady, IsWaiting, IsAnswer, GoesOn, Waits, circled, IsCircled}
 use Rattle.xs_flat.specs.declared.walk.Meaning.{Meaning as Found}
 use Rattle.xs_flat.specs.declared.walk.Spot.{Spot}

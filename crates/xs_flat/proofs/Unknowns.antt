@@ -1,17 +1,16 @@
 -- Of new formals nothing is known.
-use Rattle.std.proofs.Common.{◌≡◌, ℕ, zero, suc, ◌+◌, ◌<◌, ◌≤◌, arith, Bool, true, false, ltb, ◌⊎◌, inl, inr, List, [], ◌∷◌, ◌++◌, length, map, replicate, Option, Some, None, Vec, refl, sym, ◌∙◌, ap, subst}
+use Rattle.std.proofs.Common.{◌≡◌, ℕ, zero, suc, ◌+◌, ◌<◌, ◌≤◌, arith, Bool, true, false, ltb, List, [], ◌∷◌, ◌++◌, length, replicate, Option, Some, None, Vec, refl, sym, ◌∙◌, ap, subst}
 use Rattle.std.specs.Prelude.{slice_get}
 use Rattle.std.specs.declared.alloc.Global.{Global}
 use Rattle.std.proofs.lemmas.List.{map-append, length-replicate}
 use Rattle.std.proofs.lemmas.Bool.{ltb-true, ltb-false}
-use Rattle.xs_tree.specs.ProgramTree.{Text, ModuleTree, ProgramTree}
+use Rattle.xs_tree.specs.ProgramTree.{Text, ModuleTree}
 use Rattle.xs_tree.specs.Scope.{Place, find_module}
 use Rattle.xs_flattening.specs.Flat.{FlatInstance}
 use Rattle.xs_flattening.specs.Items.{instances_of}
-use Rattle.xs_flattening.specs.Model.{EachBoth}
 use Rattle.xs_flat.specs.SceneTree.{HasNames, formals_of, program_of}
 use Rattle.xs_flat.specs.FoundAt.{names_of_spot, formal_or}
-use Rattle.xs_flat.specs.Known.{rows_of, rows, row_or, formals_in, formals_at, unknown_to, formal_of, IsHead, IsTold, IsSized, AreTold, IsSameButFormals}
+use Rattle.xs_flat.specs.Known.{rows_of, rows, row_or, formals_in, formals_at, unknown_to, formal_of, IsHead, IsTold, AreTold, IsSameButFormals}
 use Rattle.xs_flat.specs.Laid.{IsLaidSpot, IsLaid}
 use Rattle.xs_flat.specs.declared.modules.Modules.{Modules}
 use Rattle.xs_flat.specs.declared.modules.Names.{Names}
@@ -19,7 +18,6 @@ use Rattle.xs_flat.specs.declared.walk.Spot.{Spot}
 use Rattle.xs_flat.specs.declared.names.Formal.{Formal}
 use Rattle.xs_flat.specs.declared.names.Formal.TheVariants as known
 use Rattle.xs_flat.specs.declared.names.Scene.{Scene}
-use Rattle.xs_flat.proofs.LookSplit.{never, of_some}
 use Rattle.xs_flat.proofs.SceneItems.{both_length, laid_at, names_laid}
 use Rattle.xs_flat.proofs.Told.{get_below}
 

@@ -1,9 +1,8 @@
 -- What the lists of a flat model are to be, by the tables of a scene: each formula with what its names get.
-use Rattle.std.specs.Prelude.{◌≡◌, ℕ, suc, nat_lt, Bool, true, false, List, [], ◌∷◌, ◌++◌, length, map, flat_map, Option, Some, None, slice_get}
+use Rattle.std.specs.Prelude.{◌≡◌, ℕ, suc, nat_lt, Bool, true, false, List, [], ◌∷◌, ◌++◌, map, flat_map, Option, Some, None, slice_get}
 use Rattle.xs_tree.specs.declared.expr.Op.TheVariants as op
-use Rattle.xs_tree.specs.declared.expr.Expr.{Expr}
 use Rattle.xs_tree.specs.Tree.{Tree, truth, leaf, next_of, binary}
-use Rattle.xs_tree.specs.ProgramTree.{Text, Path, Formula}
+use Rattle.xs_tree.specs.ProgramTree.{Path}
 use Rattle.xs_tree.specs.Leaves.{tree_map}
 use Rattle.xs_tree.specs.Written.{tree_of}
 use Rattle.xs_tree.specs.Trace.{Each}

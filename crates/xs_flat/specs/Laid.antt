@@ -1,5 +1,5 @@
 -- The tables of a scene while its definitions get their numbers.
-use Rattle.std.specs.Prelude.{◌≡◌, ℕ, ◌<◌, ◌≤◌, List, [], ◌∷◌, ◌++◌, length, drop, flat_map, Option, Some, None, slice_get, slice_set, Vec}
+use Rattle.std.specs.Prelude.{◌≡◌, ℕ, ◌<◌, ◌≤◌, List, ◌∷◌, ◌++◌, length, drop, flat_map, Option, Some, None, slice_get, slice_set, Vec}
 use Rattle.std.specs.declared.alloc.Global.{Global}
 use Rattle.xs_tree.specs.ProgramTree.{Text, Formula, DeclTree, ProgramTree}
 use Rattle.xs_tree.specs.Scope.{Role, kind_declared, an_instance, kind_at, module_at, actual_of_kind, plain_name}

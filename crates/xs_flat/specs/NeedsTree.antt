@@ -1,5 +1,5 @@
 -- What is known of the needs of definitions.
-use Rattle.std.specs.Prelude.{◌≡◌, ◌↔◌, ℕ, Bool, true, false, List, [], ◌∷◌, length, map, Option, Some, None, slice_get, get_or}
+use Rattle.std.specs.Prelude.{◌≡◌, ◌↔◌, ℕ, Bool, true, false, List, [], length, map, Some, slice_get}
 use Rattle.xs_tree.specs.ProgramTree.{Path, Formula, ProgramTree}
 use Rattle.xs_tree.specs.Scope.{Place, Key}
 use Rattle.xs_tree.specs.Trace.{Each, AtSome}

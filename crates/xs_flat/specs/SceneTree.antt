@@ -1,14 +1,14 @@
 -- What the tables of names hold of a program: its modules, its instances, and what names mean there.
-use Rattle.std.specs.Prelude.{◌≡◌, ℕ, suc, ◌<◌, Bool, true, false, if◌then◌else◌, List, [], ◌∷◌, ◌++◌, length, map, Option, Some, None, codes, option_map, slice_get, Vec}
+use Rattle.std.specs.Prelude.{◌≡◌, ℕ, suc, ◌<◌, Bool, false, if◌then◌else◌, List, [], ◌∷◌, ◌++◌, length, map, Option, Some, None, codes, slice_get, Vec}
 use Rattle.std.specs.declared.alloc.Global.{Global}
 use Rattle.std.specs.Borrow.{Bor}
-use Rattle.xs_tree.specs.ProgramTree.{Text, Path, Formula, DeclaredTree, boolean, range, members, instance, ModuleTree, ProgramTree, program_tree, module_tree}
+use Rattle.xs_tree.specs.ProgramTree.{Text, Path, Formula, DeclaredTree, instance, ModuleTree, ProgramTree, program_tree, module_tree}
 use Rattle.xs_tree.specs.Texts.{same_text}
 use Rattle.xs_tree.specs.Written.{tree_of}
-use Rattle.xs_tree.specs.Scope.{Place, Kind, Key, define_key, Meaning, a_variable_at, an_expression_at, an_instance_at, a_symbol, Means, find_module, formal_from, kind_at, module_at, an_instance}
+use Rattle.xs_tree.specs.Scope.{Place, define_key, Meaning, a_variable_at, an_expression_at, an_instance_at, a_symbol, Means, find_module, formal_from, kind_at, module_at, an_instance}
 use Rattle.xs_tree.specs.Trace.{Each}
 use Rattle.xs_flattening.specs.Flat.{FlatInstance}
-use Rattle.xs_flattening.specs.Items.{Item as ItemOf, a_declaration, a_definition, NumberedItem, NumberedModule, modules_of, numbered_items, items_of, items_named, Visit, visits, instances_of, variables_of}
+use Rattle.xs_flattening.specs.Items.{Item as ItemOf, a_declaration, a_definition, NumberedItem, NumberedModule, modules_of, numbered_items, items_of, items_named, Visit, instances_of, variables_of}
 use Rattle.xs_flattening.specs.Looks.{ComesBack, MeetsLoop, MeansNothing}
 use Rattle.xs_flattening.specs.Rules.{the_program, module_sites, IsKept, IsWalkable, expression_of}
 use Rattle.xs_flattening.specs.Model.{EachBoth, Root, roots_of, symbols_of}

@@ -1,5 +1,5 @@
 -- What the walk over the instances finds.
-use Rattle.std.specs.Prelude.{◌≡◌, ℕ, List, map, Some, slice_get}
+use Rattle.std.specs.Prelude.{◌≡◌, List, map, Some, slice_get}
 use Rattle.xs_tree.specs.ProgramTree.{ProgramTree}
 use Rattle.xs_flattening.specs.Flat.{FlatInstance, FlatVariable}
 use Rattle.xs_flattening.specs.Items.{Visit, instances_of, variables_of}

@@ -1,6 +1,6 @@
 //! The public calls: a program's flat model, and expressions at one of its instances.
 
-ghost use Rattle.std.specs.Prelude.{◌≡◌, ◌∷◌, [], ◌↔◌, ◌&&◌, codes, not, true, false, None, IfOk, IfErr, IsErrOf};
+ghost use Rattle.std.specs.Prelude.{◌≡◌, ◌∷◌, [], ◌↔◌, ◌&&◌, codes, not, true, false, None, IfOk, IfErr, OnOk, IsErrOf};
 ghost use Rattle.xs_tree.specs.ProgramTree.{ProgramTree, program_tree};
 ghost use Rattle.xs_tree.specs.Scope.{find_module};
 ghost use Rattle.xs_flat.specs.declared.fault.Rule.TheVariants.{NoMain, NoSuchName, NextHere, InputHere};
@@ -18,7 +18,9 @@ ghost use Rattle.xs_flat.specs.Walked.{AreDeclared};
 ghost use Rattle.xs_flat.specs.NeedsTree.{AreNeeds};
 ghost use Rattle.xs_flat.specs.ScopeOf.{IsScopeOf, IsAnyScope};
 ghost use Rattle.xs_flat.specs.ResolvedAt.{IsAt, IsResolvedAt, IsValueFault};
-ghost use Rattle.xs_flattening.specs.Flat.{FlatInstance};
+ghost use Rattle.xs_flattening.specs.Flat.{FlatInstance, FlatModel as ModelTree};
+ghost use Rattle.xs_flattening.specs.Looks.{ActualsMean};
+ghost use Rattle.xs_flattening.specs.Resolved.{has_next};
 ghost use Rattle.xs_tree.specs.Written.{tree_of};
 
 use crate::bounds::Bounds;
@@ -70,6 +72,7 @@ impl<'a> Scope<'a> {
         ensures shape { IfOk result (λ made. shape made ≡ shape e.now) }
         ensures closed { IfOk result (λ made. is_closed (bounds_of m.now) made ≡ true) }
         ensures resolved { (p : ProgramTree) → IsScopeOf p self.now → (at : FlatInstance) → IsAt p (model_tree m.now) «instance» at → IfOk result (λ made. IsResolvedAt p (model_tree m.now) at.place (tree_of e.now) (flat_tree made)) }
+        ensures no_next { (p : ProgramTree) → IsScopeOf p self.now → (at : FlatInstance) → IsAt p (model_tree m.now) «instance» at → OnOk result (has_next (tree_of e.now) ≡ false) }
         ensures fault { (p : ProgramTree) → IsScopeOf p self.now → (at : FlatInstance) → IsAt p (model_tree m.now) «instance» at → IfErr result (IsValueFault p at.place inputs (tree_of e.now)) }
     {
         resolve_value(
@@ -105,6 +108,8 @@ pub fn flatten(alloc: Global, p: &Program) -> Result<FlatModel, FlatFault>
     ensures own { IfOk result (λ m. NamesOwn (model_tree m)) }
     ensures accepted { IfOk result (λ m. IsAccepted (program_tree p.now)) }
     ensures flat { IfOk result (λ m. IsFlatOf (program_tree p.now) (model_tree m)) }
+    ensures alone { IfOk result (λ m. (k : ModelTree) → IsFlatOf (program_tree p.now) k → k ≡ model_tree m) }
+    ensures meant { OnOk result (ActualsMean (program_tree p.now)) }
     ensures fault { IfErr result (IsFaultOf (program_tree p.now)) }
     ensures no_main { IsErrOf result (record { rule = NoMain; item = 0 }) ↔ (find_module (program_tree p.now) (codes "main") ≡ None) }
 {
@@ -124,6 +129,8 @@ fn flatten_from(alloc: Global, p: &Program, main: usize) -> Result<FlatModel, Fl
     ensures own { IfOk result (λ m. NamesOwn (model_tree m)) }
     ensures accepted { IfOk result (λ m. IsAccepted (program_tree p.now)) }
     ensures flat { IfOk result (λ m. IsFlatOf (program_tree p.now) (model_tree m)) }
+    ensures alone { IfOk result (λ m. (k : ModelTree) → IsFlatOf (program_tree p.now) k → k ≡ model_tree m) }
+    ensures meant { OnOk result (ActualsMean (program_tree p.now)) }
     ensures fault { IfErr result (IsFaultOf (program_tree p.now)) }
 {
     let (scene, variables) = scene_of(alloc, p, main)?;
@@ -163,6 +170,8 @@ fn model_of(
     ensures closed { IfOk result IsClosedModel }
     ensures accepted { IfOk result (λ m. IsAccepted (program_of scene.now)) }
     ensures flat { IfOk result (λ m. IsFlatOf (program_of scene.now) (model_tree m)) }
+    ensures alone { IfOk result (λ m. (k : ModelTree) → IsFlatOf (program_of scene.now) k → k ≡ model_tree m) }
+    ensures meant { OnOk result (ActualsMean (program_of scene.now)) }
     ensures fault { IfErr result (IsFaultOf (program_of scene.now)) }
 {
     let needs = Needs::of_scene(alloc, scene)?;
@@ -181,6 +190,7 @@ pub fn resolve_top(
     ensures shape { IfOk result (λ made. shape made ≡ shape e.now) }
     ensures closed { IfOk result (λ made. is_closed (bounds_of m.now) made ≡ true) }
     ensures resolved { (at : FlatInstance) → IsAt (program_tree p.now) (model_tree m.now) 0 at → IfOk result (λ made. IsResolvedAt (program_tree p.now) (model_tree m.now) at.place (tree_of e.now) (flat_tree made)) }
+    ensures no_next { (at : FlatInstance) → IsAt (program_tree p.now) (model_tree m.now) 0 at → OnOk result (has_next (tree_of e.now) ≡ false) }
     ensures fault { (at : FlatInstance) → IsAt (program_tree p.now) (model_tree m.now) 0 at → IfErr result (IsValueFault (program_tree p.now) at.place false (tree_of e.now)) }
 {
     resolve_at(alloc, p, m, 0, false, e)
@@ -199,6 +209,7 @@ pub fn resolve_at(
     ensures shape { IfOk result (λ made. shape made ≡ shape e.now) }
     ensures closed { IfOk result (λ made. is_closed (bounds_of m.now) made ≡ true) }
     ensures resolved { (at : FlatInstance) → IsAt (program_tree p.now) (model_tree m.now) «instance» at → IfOk result (λ made. IsResolvedAt (program_tree p.now) (model_tree m.now) at.place (tree_of e.now) (flat_tree made)) }
+    ensures no_next { (at : FlatInstance) → IsAt (program_tree p.now) (model_tree m.now) «instance» at → OnOk result (has_next (tree_of e.now) ≡ false) }
     ensures fault { (at : FlatInstance) → IsAt (program_tree p.now) (model_tree m.now) «instance» at → IfErr result (IsValueFault (program_tree p.now) at.place inputs (tree_of e.now)) }
 {
     match main_place(p.modules.as_slice()) {
@@ -224,6 +235,7 @@ fn resolve_from(
     ensures shape { IfOk result (λ made. shape made ≡ shape e.now) }
     ensures closed { IfOk result (λ made. is_closed (bounds_of m.now) made ≡ true) }
     ensures resolved { (at : FlatInstance) → IsAt (program_tree p.now) (model_tree m.now) spot at → IfOk result (λ made. IsResolvedAt (program_tree p.now) (model_tree m.now) at.place (tree_of e.now) (flat_tree made)) }
+    ensures no_next { (at : FlatInstance) → IsAt (program_tree p.now) (model_tree m.now) spot at → OnOk result (has_next (tree_of e.now) ≡ false) }
     ensures fault { (at : FlatInstance) → IsAt (program_tree p.now) (model_tree m.now) spot at → IfErr result (IsValueFault (program_tree p.now) at.place inputs (tree_of e.now)) }
 {
     let (scene, _variables) = scene_of(alloc, p, main)?;
@@ -243,6 +255,7 @@ fn resolve_in(
     ensures shape { IfOk result (λ made. shape made ≡ shape e.now) }
     ensures closed { IfOk result (λ made. is_closed (bounds_of m.now) made ≡ true) }
     ensures resolved { (at : FlatInstance) → IsAt (program_of scene.now) (model_tree m.now) spot at → IfOk result (λ made. IsResolvedAt (program_of scene.now) (model_tree m.now) at.place (tree_of e.now) (flat_tree made)) }
+    ensures no_next { (at : FlatInstance) → IsAt (program_of scene.now) (model_tree m.now) spot at → OnOk result (has_next (tree_of e.now) ≡ false) }
     ensures fault { (at : FlatInstance) → IsAt (program_of scene.now) (model_tree m.now) spot at → IfErr result (IsValueFault (program_of scene.now) at.place inputs (tree_of e.now)) }
 {
     let needs = Needs::of_scene(alloc, scene)?;
@@ -264,6 +277,7 @@ fn resolve_value(
     ensures shape { IfOk result (λ made. shape made ≡ shape e.now) }
     ensures closed { IfOk result (λ made. is_closed (bounds_of m.now) made ≡ true) }
     ensures resolved { (at : FlatInstance) → IsAt (program_of scene.now) (model_tree m.now) spot at → IfOk result (λ made. IsResolvedAt (program_of scene.now) (model_tree m.now) at.place (tree_of e.now) (flat_tree made)) }
+    ensures no_next { (at : FlatInstance) → IsAt (program_of scene.now) (model_tree m.now) spot at → OnOk result (has_next (tree_of e.now) ≡ false) }
     ensures fault { (at : FlatInstance) → IsAt (program_of scene.now) (model_tree m.now) spot at → IfErr result (IsValueFault (program_of scene.now) at.place inputs (tree_of e.now)) }
 {
     let judged = judge_value(alloc, scene, needs, spot, e)?;

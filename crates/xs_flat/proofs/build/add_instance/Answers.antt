@@ -1,5 +1,5 @@
 -- The module of an instance is looked up by its number.
-use Rattle.std.proofs.Common.{◌≡◌, ◌<◌, ◌≤◌, List, Some, None, length, map, [], ◌++◌, ap, subst, ◌∙◌, sym, append-nil}
+use Rattle.std.proofs.Common.{◌≡◌, ◌<◌, ◌≤◌, List, Some, None, length, map, ◌++◌, ap, subst, ◌∙◌, sym, append-nil}
 use Rattle.std.specs.Prelude.{slice_get, OnOk}
 use Rattle.std.proofs.lemmas.Bool.{ltb-true, ltb-false}
 use Rattle.xs_flat.specs.declared.modules.Names.{Names}

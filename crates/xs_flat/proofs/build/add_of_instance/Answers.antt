@@ -1,9 +1,9 @@
 -- One item more.
-use Rattle.std.proofs.Common.{rules, ◌≡◌, ◌+◌, ◌≤◌, ◌++◌, length, map, drop, ap, ◌∙◌, sym, append-nil}
+use Rattle.std.proofs.Common.{rules, ◌+◌, ◌++◌, map, drop}
 use Rattle.xs_flat.specs.SceneTree.{program_of, items_at}
 use Rattle.xs_flat.specs.Asked.{told, conditions_asked, asked_items, item_listed}
 use Rattle.std.specs.Prelude.{slice_get}
-use Rattle.xs_flat.proofs.BuildLoops.{appended, items_step, items_end}
+use Rattle.xs_flat.proofs.BuildLoops.{appended, items_step}
 use Rattle.xs_flat.proofs.build.add_of_instance.Goals as goal
 
 pub loop-place-preserved : goal.loop-place-preserved

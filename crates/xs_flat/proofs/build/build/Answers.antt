@@ -1,5 +1,5 @@
 -- The definitions are made over as many variables and symbols as the program has.
-use Rattle.std.proofs.Common.{rules, ◌≡◌, ℕ, List, length, ◌∙◌}
+use Rattle.std.proofs.Common.{rules, ◌≡◌, ◌∙◌}
 use Rattle.xs_flat.specs.declared.names.Scene.{Scene}
 use Rattle.xs_flat.specs.declared.needs.Needs.{Needs}
 use Rattle.xs_flat.specs.Symbols.{texts}

@@ -1,5 +1,5 @@
 -- The definition at a place of the order is ready there.
-use Rattle.std.proofs.Common.{rules, ◌≡◌, ℕ, ◌<◌, List, Some, length, slice_index_or, subst, sym, ap, ◌∙◌}
+use Rattle.std.proofs.Common.{rules, ◌≡◌, ℕ, ◌<◌, List, length, slice_index_or, subst, sym, ap, ◌∙◌}
 use Rattle.std.specs.Prelude.{slice_get}
 use Rattle.xs_flat.specs.Asked.{IsReady}
 use Rattle.xs_flat.proofs.BuildLoops.{index_get}

@@ -1,13 +1,11 @@
 -- The formulas are asked for within the bounds that are read off the lists, and the whole is the program's model.
-use Rattle.std.proofs.Common.{rules, ◌≡◌, ℕ, ◌++◌, length, map, ap, ◌∙◌}
-use Rattle.xs_flattening.specs.Items.{instances_of, variables_of}
-use Rattle.xs_flattening.specs.Model.{symbols_of}
-use Rattle.xs_flat.specs.declared.build.Asked.{Asked}
+use Rattle.std.proofs.Common.{rules, ◌≡◌, ◌++◌, length, map, ap, ◌∙◌}
+use Rattle.xs_flattening.specs.Items.{instances_of}
 use Rattle.xs_flat.specs.declared.build.Asked.TheVariants as asked
 use Rattle.xs_flat.specs.declared.names.Scene.{Scene}
 use Rattle.xs_flat.specs.declared.needs.Needs.{Needs}
 use Rattle.xs_flat.specs.SceneTree.{program_of}
-use Rattle.xs_flat.specs.Asked.{told, conditions_asked, AreConditionsKnown, asked_from}
+use Rattle.xs_flat.specs.Asked.{told, conditions_asked, asked_from}
 use Rattle.xs_flat.proofs.BuildModel.{is_flat, many_variables, many_symbols, many_definitions, known_within}
 use Rattle.xs_flat.proofs.build.with_formulas.Goals as goal
 

@@ -1,5 +1,9 @@
 -- A closed model reads its own variables alone.
+use Rattle.std.proofs.Common.{◌≡◌, IfOk, OnOk, subst}
 use Rattle.std.proofs.lemmas.Result.{IfOk-weaker}
+use Rattle.xs_flattening.specs.Flat.{FlatModel as ModelTree}
+use Rattle.xs_flattening.specs.Looks.{ActualsMean}
+use Rattle.xs_flattening.specs.Model.{IsFlatOf}
 use Rattle.xs_flattening.specs.FlatTrace.{NamesOwn}
 use Rattle.xs_flat.specs.ModelTree.{model_tree}
 use Rattle.xs_flat.specs.Closed.{IsClosedModel}
@@ -8,3 +12,10 @@ use Rattle.xs_flat.proofs.flattening.flatten_from.Goals as goal
 
 pub returns-clause-own : goal.returns-clause-own
 returns-clause-own c = IfOk-weaker c.model_of.result IsClosedModel (λ m. NamesOwn (model_tree m)) closed_names_own c.model_of.ensures.closed
+
+pub returns-clause-alone : goal.returns-clause-alone
+returns-clause-alone c =
+    subst (λ p. IfOk c.model_of.result (λ m. (k : ModelTree) → IsFlatOf p k → k ≡ model_tree m)) c.in_ok-scene.ensures.program c.model_of.ensures.alone
+
+pub returns-clause-meant : goal.returns-clause-meant
+returns-clause-meant c = subst (λ p. OnOk c.model_of.result (ActualsMean p)) c.in_ok-scene.ensures.program c.model_of.ensures.meant

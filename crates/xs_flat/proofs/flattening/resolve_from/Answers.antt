@@ -1,9 +1,10 @@
 -- The tables are the program's, and of an accepted one they only want memory.
-use Rattle.std.proofs.Common.{rules, ◌≡◌, None, IfErr, IfOk, subst}
+use Rattle.std.proofs.Common.{rules, ◌≡◌, false, IfOk, OnOk, subst}
 use Rattle.xs_tree.specs.ProgramTree.{ProgramTree, program_tree}
 use Rattle.xs_tree.specs.Written.{tree_of}
 use Rattle.xs_flattening.specs.Flat.{FlatInstance}
-use Rattle.xs_flat.specs.Faults.{rule_of, IsFaultOf}
+use Rattle.xs_flattening.specs.Resolved.{has_next}
+use Rattle.xs_flat.specs.Faults.{IsFaultOf}
 use Rattle.xs_flat.specs.ModelTree.{model_tree, flat_tree}
 use Rattle.xs_flat.specs.SceneTree.{program_of}
 use Rattle.xs_flat.specs.ResolvedAt.{IsAt, IsResolvedAt, IsValueFault}
@@ -23,3 +24,8 @@ returns-clause-resolved c = λ at is.
     let same : program_of c.in_ok-scene.scene ≡ program_tree c.args.p.now = search rules in
     subst (λ (q : ProgramTree). (at : FlatInstance) → IsAt q (model_tree c.args.m.now) c.args.spot at → IfOk c.resolve_in.result (λ made. IsResolvedAt q (model_tree c.args.m.now) at.place (tree_of c.args.e.now) (flat_tree made)))
     same c.resolve_in.ensures.resolved at is
+
+pub returns-clause-no_next : goal.returns-clause-no_next
+returns-clause-no_next c = λ at is.
+    let same : program_of c.in_ok-scene.scene ≡ program_tree c.args.p.now = search rules in
+    subst (λ (q : ProgramTree). (at : FlatInstance) → IsAt q (model_tree c.args.m.now) c.args.spot at → OnOk c.resolve_in.result (has_next (tree_of c.args.e.now) ≡ false)) same c.resolve_in.ensures.no_next at is

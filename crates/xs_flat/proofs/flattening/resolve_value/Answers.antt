@@ -1,7 +1,6 @@
 -- A value that breaks no rule is resolved, or memory is wanting.
-use Rattle.std.proofs.Common.{◌≡◌, ◌∷◌, [], not, ◌&&◌, None, IfErr, IfOk, sym, ◌∙◌, subst}
+use Rattle.std.proofs.Common.{◌≡◌, not, ◌&&◌, false, IfErr, IfOk, sym, ◌∙◌, subst}
 use Rattle.std.proofs.lemmas.Result.{IfOk-weaker}
-use Rattle.xs_tree.specs.ProgramTree.{ProgramTree}
 use Rattle.xs_tree.specs.Written.{tree_of}
 use Rattle.xs_flattening.specs.Rules.{SomeHasNoValue}
 use Rattle.xs_flat.specs.declared.fault.Rule.TheVariants.{NoSuchName, NextHere, InputHere}
@@ -9,13 +8,15 @@ use Rattle.xs_flat.specs.declared.names.Scene.{Scene}
 use Rattle.xs_flat.specs.declared.needs.Needs.{Needs}
 use Rattle.xs_flat.specs.declared.resolve.Source.{Source}
 use Rattle.xs_flat.specs.Closed.{bounds_of}
-use Rattle.xs_flat.specs.Faults.{first_of, IsWant}
+use Rattle.xs_flat.specs.Faults.{IsWant}
 use Rattle.xs_flat.specs.ModelTree.{model_tree, flat_tree}
 use Rattle.xs_flat.specs.SceneTree.{program_of}
 use Rattle.xs_flat.specs.Judging.{IsJudged}
 use Rattle.xs_flat.specs.ResolverOf.{leaf_at, told_tree, asked_tree, IsKnown}
-use Rattle.xs_flat.specs.ResolvedAt.{IsAt, IsResolvedAt, IsValueFault}
-use Rattle.xs_flat.proofs.FlatFaults.{err_weaker}
+use Rattle.xs_flat.specs.ResolvedAt.{IsResolvedAt, IsValueFault}
+use Rattle.xs_flattening.specs.Resolved.{has_next}
+use Rattle.xs_flat.proofs.FlatFaults.{err_weaker, ok_always}
+use Rattle.xs_flat.proofs.OnlyModel.{second_not}
 use Rattle.xs_flat.proofs.ResolvedAtLaws.{there, resolved_at, known_at, none_told, want_value}
 use Rattle.xs_flat.proofs.flattening.resolve_value.Goals as goal
 
@@ -39,3 +40,11 @@ returns-in-None-clause-fault c = λ at is.
     err_weaker c.resolve.result IsWant (IsValueFault (program_of s) at.place c.args.inputs (tree_of c.args.e.now))
     (λ f want. want_value (program_of s) at.place c.args.inputs (tree_of c.args.e.now) f want)
     (subst (λ (q : Source). IsKnown (leaf_at s n q.spot) q.bounds c.args.e.now → IfErr c.resolve.result IsWant) c.source_at.ensures c.resolve.ensures.want known)
+
+pub returns-in-None-clause-no_next : goal.returns-in-None-clause-no_next
+returns-in-None-clause-no_next c = λ at is.
+    let s : Scene = c.args.scene.now in let n : Needs = c.args.needs.now in
+    let judged : IsJudged (program_of s) at.place (tree_of c.args.e.now) c.in_ok-judged.judged =
+    c.in_ok-judged.ensures.judged at (there s n c.requires.scene c.requires.needs is.accepted (model_tree c.args.m.now) c.args.spot at is) in
+    ok_always c.resolve.result (has_next (tree_of c.args.e.now) ≡ false)
+    (sym judged.next ∙ second_not c.in_ok-judged.judged.no_value c.in_ok-judged.judged.next (c.in_ok-judged.judged.input && not c.args.inputs) NoSuchName NextHere InputHere (sym c.rule_at.ensures ∙ c.in-None.is))

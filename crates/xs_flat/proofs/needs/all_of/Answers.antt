@@ -1,5 +1,5 @@
 -- One number more.
-use Rattle.std.proofs.Common.{rules, ◌≡◌, ◌+◌, ◌++◌, ◌∷◌, [], ◌∙◌, ap, sym}
+use Rattle.std.proofs.Common.{rules, ◌≡◌, ◌++◌, ◌∷◌, [], ◌∙◌, ap, sym}
 use Rattle.xs_flat.proofs.LayLaws.{upto_more}
 use Rattle.xs_flat.proofs.needs.all_of.Goals as goal
 

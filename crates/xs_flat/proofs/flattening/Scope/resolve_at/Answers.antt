@@ -1,5 +1,5 @@
 -- The tables are those of the scope's program.
-use Rattle.std.proofs.Common.{◌≡◌, IfOk, IfErr, subst}
+use Rattle.std.proofs.Common.{IfOk, IfErr, subst}
 use Rattle.xs_tree.specs.ProgramTree.{ProgramTree}
 use Rattle.xs_tree.specs.Written.{tree_of}
 use Rattle.xs_flattening.specs.Flat.{FlatInstance}

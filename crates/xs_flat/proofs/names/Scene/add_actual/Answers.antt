@@ -1,5 +1,5 @@
 -- An actual that is no plain name gets the next number.
-use Rattle.std.proofs.Common.{◌≡◌, sym, rules}
+use Rattle.std.proofs.Common.{sym, rules}
 use Rattle.xs_flat.proofs.Naming.{actual_named}
 use Rattle.xs_flat.proofs.names.Scene.add_actual.Goals as goal
 

@@ -1,5 +1,5 @@
 -- One actual more.
-use Rattle.std.proofs.Common.{◌<◌, ◌≤◌, length, map, rules, sym, ◌∙◌, subst}
+use Rattle.std.proofs.Common.{◌<◌, ◌≤◌, length, map, rules, sym, subst}
 use Rattle.std.proofs.lemmas.List.{length-map}
 use Rattle.xs_tree.specs.Written.{tree_of}
 use Rattle.xs_flat.proofs.Naming.{program_same, same_then}

@@ -2,7 +2,7 @@
 use Rattle.std.proofs.Common.{◌≡◌, map, rules, ap, sym, subst, ◌∙◌}
 use Rattle.xs_tree.specs.ProgramTree.{instance, decl_tree, declared_tree}
 use Rattle.xs_tree.specs.Written.{tree_of}
-use Rattle.xs_flat.specs.Laid.{NamesDeclared, NamesActuals}
+use Rattle.xs_flat.specs.Laid.{NamesDeclared}
 use Rattle.xs_flat.proofs.NamingItems.{instance_named}
 use Rattle.xs_flat.proofs.names.Scene.add_declared.Goals as goal
 

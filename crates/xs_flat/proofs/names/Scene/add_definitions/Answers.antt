@@ -1,5 +1,5 @@
 -- One instance more.
-use Rattle.std.proofs.Common.{◌≡◌, ◌+◌, ◌<◌, length, rules, ◌∙◌, sym}
+use Rattle.std.proofs.Common.{◌+◌, ◌<◌, length, rules, ◌∙◌}
 use Rattle.xs_flat.specs.Laid.{IsNamedTo}
 use Rattle.xs_flat.proofs.NamingItems.{one_named, same_many}
 use Rattle.xs_flat.proofs.names.Scene.add_definitions.Goals as goal

@@ -1,7 +1,7 @@
 -- The formals of one instance more.
-use Rattle.std.proofs.Common.{◌≡◌, length, rules, ◌∙◌, sym, subst}
+use Rattle.std.proofs.Common.{◌≡◌, length, rules, sym, subst}
 use Rattle.xs_flat.specs.SceneTree.{program_of}
-use Rattle.xs_flat.specs.Known.{rows, unknown_to, AreTold}
+use Rattle.xs_flat.specs.Known.{AreTold}
 use Rattle.xs_flat.proofs.Unknowns.{unknown_more, unknown_told}
 use Rattle.xs_flat.proofs.names.Scene.add_formals.Goals as goal
 

@@ -1,5 +1,5 @@
 -- The look-ups that are taken off so far are answered.
-use Rattle.std.proofs.Common.{◌≡◌, List, ◌++◌, length}
+use Rattle.std.proofs.Common.{length}
 use Rattle.xs_flat.specs.Known.{rows, IsSameButFormals}
 use Rattle.xs_flat.specs.Waiting.{IsClosing}
 use Rattle.xs_flat.proofs.names.Scene.close_circle.Given as goal

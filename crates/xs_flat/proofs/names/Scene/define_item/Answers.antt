@@ -1,5 +1,5 @@
 -- An item means what it is numbered as.
-use Rattle.std.proofs.Common.{◌≡◌, None, Some, refl, sym, ap, rules}
+use Rattle.std.proofs.Common.{◌≡◌, None, refl, sym, ap, rules}
 use Rattle.xs_tree.specs.ProgramTree.{decl_tree, define_tree}
 use Rattle.xs_flat.specs.ItemTree.{item_tree}
 use Rattle.xs_flat.specs.ModelTree.{role_of}

@@ -1,5 +1,5 @@
 -- One item more.
-use Rattle.std.proofs.Common.{◌≡◌, ◌+◌, ◌<◌, ◌≤◌, List, [], ◌∷◌, ◌++◌, rules, subst, sym}
+use Rattle.std.proofs.Common.{◌≡◌, ◌+◌, ◌<◌, ◌≤◌, [], ◌∷◌, ◌++◌, rules, subst, sym}
 use Rattle.std.specs.Prelude.{slice_get}
 use Rattle.xs_flat.specs.Steps.{count_in}
 use Rattle.xs_flat.proofs.Naming.{same_then}

@@ -1,5 +1,5 @@
 -- The item is that of the module.
-use Rattle.std.proofs.Common.{◌≡◌, Some, None, ◌∙◌, ap}
+use Rattle.std.proofs.Common.{◌∙◌, ap}
 use Rattle.std.specs.Prelude.{option_map}
 use Rattle.xs_flat.specs.ItemTree.{numbered_tree}
 use Rattle.xs_flat.proofs.SceneItems.{set_laid, items_listed}

@@ -1,6 +1,6 @@
 -- The entry of a text in the names of the instance's module.
 use lib.Pointwise.{pointwise}
-use Rattle.std.proofs.Common.{◌≡◌, ap, ◌∙◌, Bor, List, ℕ}
+use Rattle.std.proofs.Common.{ap, ◌∙◌, Bor, List, ℕ}
 use Rattle.std.specs.Prelude.{nat_eq}
 use Rattle.std.specs.Map.{lookup}
 use Rattle.xs_flat.specs.FoundAt.{local_in}

@@ -1,5 +1,5 @@
 -- The tables of a scene are filled one after another.
-use Rattle.std.proofs.Common.{◌≡◌, ◌<◌, List, [], length, rules, sym, ◌∙◌, ap, subst, arith}
+use Rattle.std.proofs.Common.{◌<◌, length, rules, sym, ◌∙◌, ap, subst}
 use Rattle.xs_flattening.specs.Model.{symbols_of}
 use Rattle.xs_flat.specs.Symbols.{texts}
 use Rattle.xs_flat.specs.declared.names.Scene.{Scene}

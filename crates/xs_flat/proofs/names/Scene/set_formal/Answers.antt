@@ -1,6 +1,5 @@
 -- One formal is told.
-use Rattle.std.proofs.Common.{◌≡◌, ◌<◌, ◌≤◌, Some, length, get_or, refl, arith, rules}
-use Rattle.std.specs.Prelude.{slice_get}
+use Rattle.std.proofs.Common.{◌≡◌, ◌<◌, ◌≤◌, length, get_or, refl, rules}
 use Rattle.std.specs.Vec.{with_item}
 use Rattle.xs_flat.proofs.RowLaws.{written, written_past, get_there}
 use Rattle.xs_flat.proofs.names.Scene.set_formal.Goals as goal

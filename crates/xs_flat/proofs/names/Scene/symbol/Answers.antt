@@ -1,6 +1,6 @@
 -- The place of a text among the symbols.
 use lib.Pointwise.{pointwise}
-use Rattle.std.proofs.Common.{◌≡◌, ℕ, List, ap, ◌∙◌, Bor}
+use Rattle.std.proofs.Common.{ℕ, List, ap, ◌∙◌, Bor}
 use Rattle.std.specs.Prelude.{nat_eq, position}
 use Rattle.xs_flat.specs.FoundAt.{symbol_or}
 use Rattle.xs_flat.proofs.Tables.{placed}
