@@ -1,7 +1,7 @@
 -- Modes whose expressions are resolved and judged are good.
 use Rattle.std.proofs.Common.{◌≡◌, ◌⊎◌, inl, inr, ℕ, Bool, true, false, List, [], ◌∷◌, ◌++◌, map, Option, Some, None, refl, sym, ◌∙◌, ap, subst}
-use Rattle.std.specs.Prelude.{codes, slice_get}
-use Rattle.xs_tree.specs.ProgramTree.{Text, Formula, ModuleTree, ProgramTree}
+use Rattle.std.specs.Prelude.{codes, slice_get, Result, Ok, Err, IfOk, OnOk}
+use Rattle.xs_tree.specs.ProgramTree.{Text, Formula, ModuleTree, ProgramTree, program_tree}
 use Rattle.xs_tree.specs.Texts.{same_text}
 use Rattle.xs_tree.specs.Trace.{Each, AtSome, IsInstance}
 use Rattle.xs_tree.specs.Scope.{Place, find_module}
@@ -23,7 +23,11 @@ use Rattle.xs_kinds.specs.Intervals.{Interval}
 use Rattle.xs_kinds.specs.Judged as found
 use Rattle.xs_kinds.specs.Judged.{Class, truth_class, number_class, symbol_class, not_boolean, unless_class}
 use Rattle.xs_kinds.specs.Models.{judged_in, broken_condition, IsTyped}
-use Rattle.xs_weave.specs.Weavable.{Among}
+use Rattle.xs_weave.specs.Weavable.{Among, IsWeavable}
+use Rattle.xs_weave.specs.Conservative.{IsExtensionOf}
+use Rattle.xs_weave.specs.Woven.{woven}
+use Rattle.xs_weave.proofs.WovenNominal.{woven_extends}
+use Rattle.xs_extend.specs.declared.faults.Woven.{Woven}
 use Rattle.xs_weave_rules.specs.Sites.{OwnedSlice, owned}
 use Rattle.xs_weave_rules.specs.Faults.{file_slices}
 use Rattle.xs_weave_rules.specs.Judged.{IsJudged}
@@ -146,3 +150,9 @@ guards_good p m i accepted is good at k s here among =
 -- instructions whose guards are good at each instance are judged
 pub guards_judged : (p : ProgramTree) (m : FlatModel) (i : InstructionTree) → IsAccepted p → IsFlatOf p m → IsTyped m → ActualsMean p → Each (AreGoodSlices p m (file_slices i.extensions)) m.instances → IsJudged p i
 guards_judged p m i accepted is typed mean good = good_is_judged p m i accepted is typed (lawful_instance p accepted m is mean) (guards_good p m i accepted is good)
+
+-- what is made of a program and instructions that a weave takes is their extension
+pub made_extends : {E : Type 0} (p : ProgramTree) (i : InstructionTree) (r : Result Woven E) → IfOk r (λ w. program_tree w.program ≡ woven p i) → OnOk r (IsWeavable p i) →
+    IfOk r (λ w. IsExtensionOf p i (program_tree w.program))
+made_extends p i (Ok w) is takes = subst (IsExtensionOf p i) (sym is) (woven_extends p i takes)
+made_extends p i (Err e) is takes = tt

@@ -52,7 +52,7 @@ pub(crate) fn judge_guards(
     slices: &[Placed<'_>],
 ) -> Result<(), WeaveFault>
     ensures want { IfErr result IsFromExpressions }
-    ensures good { IsAccepted (program_in nominal) → IsFlatOf (program_in nominal) (model_in nominal) → OnOk result (Each (AreGoodSlices (program_in nominal) (model_in nominal) (map placed_tree slices.now)) (model_in nominal).instances) }
+    ensures good { IsAccepted (program_in nominal.entry) → IsFlatOf (program_in nominal.entry) (model_in nominal.entry) → OnOk result (Each (AreGoodSlices (program_in nominal.entry) (model_in nominal.entry) (map placed_tree slices.now)) (model_in nominal.entry).instances) }
 {
     let mut number = 0;
     for instance in nominal.typed.model().instances.as_slice() {
@@ -71,7 +71,7 @@ fn judge_instance(
     slices: &[Placed<'_>],
 ) -> Result<(), WeaveFault>
     ensures want { IfErr result IsFromExpressions }
-    ensures good { (at : FlatInstance) → IsAt (program_in nominal) (model_in nominal) «instance» at → at.module_name ≡ «module».now → OnOk result (AreGoodSlices (program_in nominal) (model_in nominal) (map placed_tree slices.now) at) }
+    ensures good { (at : FlatInstance) → IsAt (program_in nominal.entry) (model_in nominal.entry) «instance» at → at.module_name ≡ «module».now → OnOk result (AreGoodSlices (program_in nominal.entry) (model_in nominal.entry) (map placed_tree slices.now) at) }
 {
     for placed in slices {
         if placed.owner.is_same(module) {
@@ -88,7 +88,7 @@ fn judge_slice(
     placed: Placed<'_>,
 ) -> Result<(), WeaveFault>
     ensures want { IfErr result IsFromExpressions }
-    ensures good { (at : FlatInstance) → IsAt (program_in nominal) (model_in nominal) «instance» at → OnOk result (Each (IsGood (program_in nominal) (model_in nominal) at.place) (slice_tree placed.slice.now).modes) }
+    ensures good { (at : FlatInstance) → IsAt (program_in nominal.entry) (model_in nominal.entry) «instance» at → OnOk result (Each (IsGood (program_in nominal.entry) (model_in nominal.entry) at.place) (slice_tree placed.entry.slice.now).modes) }
 {
     let mut item = placed.item;
     for mode in placed.slice.modes.as_slice() {
@@ -111,7 +111,7 @@ fn judge_mode(
     mode: &ModeRule,
 ) -> Result<(), Cause>
     ensures want { IfErr result IsOfExpressions }
-    ensures good { (at : FlatInstance) → IsAt (program_in nominal) (model_in nominal) «instance» at → OnOk result (IsGood (program_in nominal) (model_in nominal) at.place (mode_tree mode.now)) }
+    ensures good { (at : FlatInstance) → IsAt (program_in nominal.entry) (model_in nominal.entry) «instance» at → OnOk result (IsGood (program_in nominal.entry) (model_in nominal.entry) at.place (mode_tree mode.now)) }
 {
     let resolved = resolve_mode(alloc, nominal, instance, mode)?;
     let kinds = kinds_of(nominal.typed, &resolved)?;
@@ -132,8 +132,8 @@ fn resolve_mode(
     mode: &ModeRule,
 ) -> Result<Resolved, Cause>
     ensures want { IfErr result IsOfExpressions }
-    ensures follows { (at : FlatInstance) → IsAt (program_in nominal) (model_in nominal) «instance» at → IfOk result (λ r. HasForm (program_in nominal) (model_in nominal) at.place (followed (effect_tree mode.now.effect)) r.follows) }
-    ensures guard { (at : FlatInstance) → IsAt (program_in nominal) (model_in nominal) «instance» at → IfOk result (λ r. HasForm (program_in nominal) (model_in nominal) at.place (guard_tree mode.now.guard) r.guard) }
+    ensures follows { (at : FlatInstance) → IsAt (program_in nominal.entry) (model_in nominal.entry) «instance» at → IfOk result (λ r. HasForm (program_in nominal.entry) (model_in nominal.entry) at.place (followed (effect_tree mode.now.effect)) r.follows) }
+    ensures guard { (at : FlatInstance) → IsAt (program_in nominal.entry) (model_in nominal.entry) «instance» at → IfOk result (λ r. HasForm (program_in nominal.entry) (model_in nominal.entry) at.place (guard_tree mode.now.guard) r.guard) }
 {
     let follows = resolve(alloc, nominal, instance, false, follows_of(&mode.effect));
     let guard = resolve(alloc, nominal, instance, true, mode.guard.as_ref());
@@ -152,7 +152,7 @@ fn resolve(
     inputs: bool,
     e: Option<&Expr<Dotted>>,
 ) -> Result<Option<Expr<Flat>>, FlatFault>
-    ensures form { (at : FlatInstance) → IsAt (program_in nominal) (model_in nominal) «instance» at → IfOk result (HasForm (program_in nominal) (model_in nominal) at.place (option_map tree_of (option_copied e))) }
+    ensures form { (at : FlatInstance) → IsAt (program_in nominal.entry) (model_in nominal.entry) «instance» at → IfOk result (HasForm (program_in nominal.entry) (model_in nominal.entry) at.place (option_map tree_of (option_copied e.entry))) }
 {
     let Some(e) = e else {
         return Ok(None);
@@ -190,7 +190,7 @@ fn kinds_of(typed: &Typed, resolved: &Resolved) -> Result<Kinds, Cause>
 
 /// The kind of an expression, where there is one.
 fn kind(typed: &Typed, e: Option<&Expr<Flat>>) -> Result<Option<Kind>, TypeFault>
-    ensures { IfOk result (HasKind (model_tree typed.now.model) (option_copied e)) }
+    ensures { IfOk result (HasKind (model_tree typed.now.model) (option_copied e.entry)) }
 {
     match e {
         Some(e) => Ok(Some(check_value(typed, e)?)),

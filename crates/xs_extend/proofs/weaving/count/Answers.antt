@@ -12,6 +12,6 @@ use Rattle.xs_extend.proofs.weaving.count.Goals as goal
 pub returns-clause-first : goal.returns-clause-first
 returns-clause-first c =
     let same : module_names c.as_slice-2.result.now ≡ modules_in c.args.typed.now.model.instances =
-    ap module_names c.as_slice-2.ensures.value ∙ c.in_ok-owners.ensures ∙ ap modules_in c.as_slice.ensures ∙ ap (λ m. modules_in m.instances) c.model.ensures in
+    ap module_names c.as_slice-2.ensures.value ∙ c.in_ok-owners.ensures ∙ ap modules_in c.as_slice.ensures ∙ ap (λ m. modules_in m.instances) c.model.ensures.model in
     subst (λ modules. IfErr c.judge_counts.result (λ fault. fault.rule ≢ broken.OutOfMemory → IsFirstBroken (count_broken_at modules) (item_sites (instruction_tree c.args.i.now)) fault.rule fault.item)) same
     c.judge_counts.ensures.first
