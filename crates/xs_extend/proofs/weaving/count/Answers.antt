@@ -1,13 +1,19 @@
 use Rattle.std.proofs.Common.{◌≡◌, ◌≢◌, ◌∙◌, ap, subst}
-use Rattle.std.specs.Prelude.{IfErr}
+use Rattle.std.specs.Prelude.{IfErr, OnOk}
 use Rattle.xs_fei.specs.Instructions.{instruction_tree}
 use Rattle.xs_weave_rules.specs.Sites.{item_sites}
 use Rattle.xs_weave_rules.specs.Counting.{count_broken_at}
 use Rattle.xs_weave_rules.specs.Counted.{module_names}
-use Rattle.xs_weave_rules.specs.FirstBroken.{IsFirstBroken}
+use Rattle.xs_weave_rules.specs.FirstBroken.{IsFirstBroken, AllKept}
 use Rattle.xs_weave_rules.specs.declared.fault.Rule.TheVariants as broken
 use Rattle.xs_extend.specs.Refused.{modules_in}
 use Rattle.xs_extend.proofs.weaving.count.Goals as goal
+
+pub returns-clause-kept : goal.returns-clause-kept
+returns-clause-kept c =
+    let same : module_names c.as_slice-2.result.now ≡ modules_in c.args.typed.now.model.instances =
+    ap module_names c.as_slice-2.ensures.value ∙ c.in_ok-owners.ensures ∙ ap modules_in c.as_slice.ensures ∙ ap (λ m. modules_in m.instances) c.model.ensures.model in
+    subst (λ modules. OnOk c.judge_counts.result (AllKept (count_broken_at modules) (item_sites (instruction_tree c.args.i.now)))) same c.judge_counts.ensures.kept
 
 pub returns-clause-first : goal.returns-clause-first
 returns-clause-first c =
