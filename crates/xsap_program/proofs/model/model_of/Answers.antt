@@ -1,7 +1,8 @@
+use Rattle.std.proofs.Common.{subst, sym}
 use Rattle.std.proofs.lemmas.Result.{err_from_is_err_and}
 use Rattle.xs_tree.specs.ProgramTree.{program_tree}
 use Rattle.xs_flat.specs.ModelTree.{model_tree}
-use Rattle.xsap_program.specs.Inputs.{IsModelText, not_read, not_flat, not_typed}
+use Rattle.xsap_program.specs.Inputs.{IsModelText, IsLawful, not_read, not_flat, not_typed}
 use Rattle.xsap_program.proofs.model.model_of.Goals as goal
 
 pub returns-in_err-program-clause-wrong : goal.returns-in_err-program-clause-wrong
@@ -23,3 +24,8 @@ returns-in_err-typed-clause-wrong c =
 
 pub returns-clause-ok : goal.returns-clause-ok
 returns-clause-ok c = record { spelled = c.in_ok-program.ensures.spelled; only = c.in_ok-program.ensures.only; depths = c.in_ok-program.ensures.depths }
+
+pub returns-clause-lawful : goal.returns-clause-lawful
+returns-clause-lawful c =
+    subst (λ m. IsLawful (program_tree c.in_ok-program.program) (model_tree m)) (sym c.in_ok-typed.ensures.model)
+    (record { accepted = c.in_ok-flat.ensures.accepted; meant = c.in_ok-flat.ensures.meant; model = record { is = c.in_ok-flat.ensures.flat; only = c.in_ok-flat.ensures.alone }; typed = c.in_ok-typed.ensures.typed })
