@@ -4,7 +4,7 @@ use Rattle.std.proofs.lemmas.List.{drop_all, drop_more}
 use Rattle.xs_tree.specs.Trace.{Each}
 
 pub each_from : {A B : Type 0} (P : B → Type 0) (f : A → B) (xs : List A) (i : ℕ) (x : A) → i < length xs → x ≡ get_or xs i x → P (f x) → Each P (map f (drop (i + 1) xs)) → Each P (map f (drop i xs))
-each_from P f xs i x below here item rest = subst (λ ys. Each P (map f ys)) (sym (drop_more xs i x below ∙ ap (λ y. y ∷ drop (i + 1) xs) (sym here))) (item , rest)
+each_from P f xs i x below here item rest = subst (λ ys. Each P (map f ys)) (sym (drop_more xs i x below ∙ ap (λ y. y ∷ drop (i + 1) xs) (sym here))) (item, rest)
 
 pub none_left : {A B : Type 0} (P : B → Type 0) (f : A → B) (xs : List A) (i : ℕ) → length xs ≤ i → Each P (map f (drop i xs))
 none_left P f xs i h = subst (λ ys. Each P (map f ys)) (sym (drop_all i xs h)) tt

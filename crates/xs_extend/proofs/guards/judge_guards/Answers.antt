@@ -8,7 +8,7 @@ use Rattle.xs_extend.proofs.EachItem.{each_from, none_left, item_there}
 use Rattle.xs_extend.proofs.guards.judge_guards.Goals as goal
 
 pub loop-instance-init : goal.loop-instance-init
-loop-instance-init c = (refl , λ accepted flat all. all)
+loop-instance-init c = (refl, λ accepted flat all. all)
 
 pub loop-instance-preserved : goal.loop-instance-preserved
 loop-instance-preserved c =
@@ -16,12 +16,14 @@ loop-instance-preserved c =
     let there : slice_get (map instance_tree c.args.nominal.typed.now.model.instances) c.loop-instance.number ≡ Some (instance_tree c.instance-item.result) =
     subst (λ n. slice_get (map instance_tree c.args.nominal.typed.now.model.instances) n ≡ Some (instance_tree c.instance-item.result)) (sym c.loop-instance.invariant.0)
     (subst (λ xs. slice_get (map instance_tree xs) c.loop-instance.instance-index ≡ Some (instance_tree c.instance-item.result)) same
-    (item_there instance_tree c.as_slice-instance-items.result.now c.loop-instance.instance-index c.instance-item.result c.loop-instance-test.true c.instance-item.is)) in
-    (c.in_ok-number.ensures ∙ ap (λ n. n + 1) c.loop-instance.invariant.0 , λ accepted flat rest.
-      c.loop-instance.invariant.1 accepted flat
-      (each_from (AreGoodSlices (program_in c.args.nominal) (model_in c.args.nominal) (map placed_tree c.args.slices.now)) instance_tree c.as_slice-instance-items.result.now c.loop-instance.instance-index
-      c.instance-item.result c.loop-instance-test.true c.instance-item.is
-      (c.in_ok-judge_instance.ensures.good (instance_tree c.instance-item.result) (record { accepted = accepted; flat = flat; is_at = there }) refl) rest))
+    (item_there instance_tree c.as_slice-instance-items.result.now c.loop-instance.instance-index c.instance-item.result c.loop-instance-test.true c.instance-item.is)) in (
+      c.in_ok-number.ensures ∙ ap (λ n. n + 1) c.loop-instance.invariant.0,
+      λ accepted flat rest.
+          c.loop-instance.invariant.1 accepted flat
+          (each_from (AreGoodSlices (program_in c.args.nominal) (model_in c.args.nominal) (map placed_tree c.args.slices.now)) instance_tree c.as_slice-instance-items.result.now c.loop-instance.instance-index
+          c.instance-item.result c.loop-instance-test.true c.instance-item.is
+          (c.in_ok-judge_instance.ensures.good (instance_tree c.instance-item.result) (record { accepted = accepted; flat = flat; is_at = there }) refl) rest),
+    )
 
 pub returns-clause-good : goal.returns-clause-good
 returns-clause-good c =

@@ -10,5 +10,5 @@ use Rattle.xs_extend.proofs.guards.judge_guards.Given as goal
 abbrev pub invariant-loop-instance : goal.invariant-loop-instance
 invariant-loop-instance l =
     (l.number ≡ l.instance-index) × (IsAccepted (program_in l.nominal) → IsFlatOf (program_in l.nominal) (model_in l.nominal) →
-      Each (AreGoodSlices (program_in l.nominal) (model_in l.nominal) (map placed_tree l.slices)) (map instance_tree (drop l.instance-index l.instance-items)) →
-      Each (AreGoodSlices (program_in l.nominal) (model_in l.nominal) (map placed_tree l.slices)) (map instance_tree l.instance-items))
+    Each (AreGoodSlices (program_in l.nominal) (model_in l.nominal) (map placed_tree l.slices)) (map instance_tree (drop l.instance-index l.instance-items)) →
+    Each (AreGoodSlices (program_in l.nominal) (model_in l.nominal) (map placed_tree l.slices)) (map instance_tree l.instance-items))

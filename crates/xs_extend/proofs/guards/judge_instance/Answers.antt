@@ -15,14 +15,14 @@ loop-placed-init c = λ at is named all. all
 pub loop-placed-preserved : goal.loop-placed-preserved
 loop-placed-preserved c =
     λ at is named rest.
-      let good : IsGoodSlice (program_in c.args.nominal) (model_in c.args.nominal) at (placed_tree c.placed-item.result) =
-      elim c.if-is_same.branch [
-        | then-is_same+in_ok-judge_slice w ↦ λ same. w.in_ok-judge_slice.ensures.good at is
-        | else-is_same w ↦ λ same. absurd (differ (sym w.if-is_same.false ∙ c.is_same.ensures.1 (same_text_equal c.placed-item.result.owner.now at.module_name same ∙ named)))
-      ] in
-      c.loop-placed.invariant at is named
-      (each_from (IsGoodSlice (program_in c.args.nominal) (model_in c.args.nominal) at) placed_tree c.args.slices.now c.loop-placed.placed-index c.placed-item.result c.loop-placed-test.true c.placed-item.is
-      good rest)
+    let good : IsGoodSlice (program_in c.args.nominal) (model_in c.args.nominal) at (placed_tree c.placed-item.result) =
+    elim c.if-is_same.branch [
+      | then-is_same+in_ok-judge_slice w ↦ λ same. w.in_ok-judge_slice.ensures.good at is
+      | else-is_same w ↦ λ same. absurd (differ (sym w.if-is_same.false ∙ c.is_same.ensures.1 (same_text_equal c.placed-item.result.owner.now at.module_name same ∙ named)))
+    ] in
+    c.loop-placed.invariant at is named
+    (each_from (IsGoodSlice (program_in c.args.nominal) (model_in c.args.nominal) at) placed_tree c.args.slices.now c.loop-placed.placed-index c.placed-item.result c.loop-placed-test.true c.placed-item.is
+    good rest)
 
 pub returns-clause-good : goal.returns-clause-good
 returns-clause-good c =

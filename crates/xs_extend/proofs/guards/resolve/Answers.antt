@@ -9,9 +9,9 @@ pub returns : goal.returns
 returns c =
     record {
       form = λ at is.
-        let here : IsAt (program_in c.args.nominal) (model_tree c.model-model.result.now) c.args.instance at =
-        subst (λ m. IsAt (program_in c.args.nominal) (model_tree m) c.args.instance at) (sym c.model-model.ensures.model) is in
-        let form : IsFormOf (program_in c.args.nominal) (model_tree c.model-model.result.now) at.place (tree_of c.in-Some.e.now) c.in_ok-resolved.resolved =
-        record { resolved = c.in_ok-resolved.ensures.resolved at here; no_next = c.in_ok-resolved.ensures.no_next at here } in
-        rw (c.in-Some.is) (subst (λ m. IsFormOf (program_in c.args.nominal) (model_tree m) at.place (tree_of c.in-Some.e.now) c.in_ok-resolved.resolved) c.model-model.ensures.model form);
+          let here : IsAt (program_in c.args.nominal) (model_tree c.model-model.result.now) c.args.instance at =
+          subst (λ m. IsAt (program_in c.args.nominal) (model_tree m) c.args.instance at) (sym c.model-model.ensures.model) is in
+          let form : IsFormOf (program_in c.args.nominal) (model_tree c.model-model.result.now) at.place (tree_of c.in-Some.e.now) c.in_ok-resolved.resolved =
+          record { resolved = c.in_ok-resolved.ensures.resolved at here; no_next = c.in_ok-resolved.ensures.no_next at here } in
+          rw (c.in-Some.is) (subst (λ m. IsFormOf (program_in c.args.nominal) (model_tree m) at.place (tree_of c.in-Some.e.now) c.in_ok-resolved.resolved) c.model-model.ensures.model form);
     }

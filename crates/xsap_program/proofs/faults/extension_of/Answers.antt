@@ -15,7 +15,7 @@ pub returns-in_err-woven-clause-wrong : goal.returns-in_err-woven-clause-wrong
 returns-in_err-woven-clause-wrong c =
     let exit = err_from_is_err_and c.from_residual-in_err-woven.result c.from_residual-in_err-woven.ensures.1 in
     let told = subst (λ names. IsTold (program_tree c.args.model.now.program) (instruction_tree c.in_ok-instructions.instructions) names c.in_err-woven.field-0.0)
-        (modules_are (program_tree c.args.model.now.program) c.args.model.now.typed.model c.requires.lawful.model.is) c.in_err-woven.ensures.told in
+    (modules_are (program_tree c.args.model.now.program) c.args.model.now.typed.model c.requires.lawful.model.is) c.in_err-woven.ensures.told in
     rw exit.1 (not_woven (instruction_tree c.in_ok-instructions.instructions) c.in_err-woven.field-0.0 c.in_ok-instructions.ensures.spelled told exit.2)
 
 pub returns-in_err-check_limits-clause-wrong : goal.returns-in_err-check_limits-clause-wrong

@@ -63,4 +63,3 @@ returns-in-Err-clause-settled g c = answers_settled _ _ _ _ _ _ (returns-in-Err-
 
 pub returns-in-Err-clause-no_faults : goal.returns-in-Err-clause-no_faults
 returns-in-Err-clause-no_faults g c = answers_past_model _ _ _ _ _ _ (returns-in-Err-clause-answered g c)
-
