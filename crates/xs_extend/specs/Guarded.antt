@@ -13,7 +13,8 @@ use Rattle.xs_flattening.specs.Model.{IsFlatOf}
 use Rattle.xs_kinds.specs.Models.{judged_in}
 use Rattle.xs_flat.specs.declared.model.Flat.{Flat}
 use Rattle.xs_flat.specs.ModelTree.{flat_tree, model_tree}
-use Rattle.xs_flat.specs.ResolvedAt.{IsAt, IsResolvedAt}
+use Rattle.xs_flattening.specs.ResolvedAt.{IsResolvedAt}
+use Rattle.xs_flat.specs.ResolvedAt.{IsAt}
 use Rattle.xs_types.specs.Calls.{shown}
 use Rattle.xs_types.specs.declared.calls.Kind.{Kind}
 use Rattle.xs_types.specs.declared.calls.Kind.TheVariants.{Bool as ABool}

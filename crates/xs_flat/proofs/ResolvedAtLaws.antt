@@ -28,7 +28,9 @@ use Rattle.xs_flat.specs.NeedsTree.{IsKeyAt, AreNeeds}
 use Rattle.xs_flat.specs.Walked.{IsDeclaredBy}
 use Rattle.xs_flat.specs.Judging.{IsJudged}
 use Rattle.xs_flat.specs.ResolverOf.{leaf_at, leaf_by, resolver, AreKnown}
-use Rattle.xs_flat.specs.ResolvedAt.{IsAt, BreaksValue, IsLeastBroken, IsValueFault, IsResolvedAt}
+use Rattle.xs_flattening.specs.ValueRules.{BreaksValue, IsLeastBroken}
+use Rattle.xs_flattening.specs.ResolvedAt.{IsResolvedAt}
+use Rattle.xs_flat.specs.ResolvedAt.{IsAt, IsValueFault}
 use Rattle.xs_flat.proofs.BuildLeaves.{order, bounds_with, value_known}
 use Rattle.xs_flat.proofs.BuildLoops.{both_many}
 use Rattle.xs_flat.proofs.SceneItems.{both_more}

@@ -8,3 +8,5 @@ pub mod Laws
 pub mod FirstFault
 pub mod History
 pub mod FlatTrace
+pub mod ValueRules
+pub mod ResolvedAt

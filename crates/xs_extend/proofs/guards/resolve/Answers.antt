@@ -1,7 +1,8 @@
 use Rattle.std.proofs.Common.{subst, sym}
 use Rattle.xs_tree.specs.Written.{tree_of}
 use Rattle.xs_flat.specs.ModelTree.{flat_tree, model_tree}
-use Rattle.xs_flat.specs.ResolvedAt.{IsAt, IsResolvedAt}
+use Rattle.xs_flattening.specs.ResolvedAt.{IsResolvedAt}
+use Rattle.xs_flat.specs.ResolvedAt.{IsAt}
 use Rattle.xs_extend.specs.Guarded.{program_in, IsFormOf}
 use Rattle.xs_extend.proofs.guards.resolve.Goals as goal
 

@@ -7,7 +7,8 @@ use Rattle.xs_flattening.specs.Resolved.{has_next}
 use Rattle.xs_flat.specs.Faults.{IsFaultOf}
 use Rattle.xs_flat.specs.ModelTree.{model_tree, flat_tree}
 use Rattle.xs_flat.specs.SceneTree.{program_of}
-use Rattle.xs_flat.specs.ResolvedAt.{IsAt, IsResolvedAt, IsValueFault}
+use Rattle.xs_flattening.specs.ResolvedAt.{IsResolvedAt}
+use Rattle.xs_flat.specs.ResolvedAt.{IsAt, IsValueFault}
 use Rattle.xs_flat.proofs.FlatFaults.{no_rule}
 use Rattle.xs_flat.proofs.ResolvedAtLaws.{no_rule_value}
 use Rattle.xs_flat.proofs.flattening.resolve_from.Goals as goal

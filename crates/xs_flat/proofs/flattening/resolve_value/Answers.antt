@@ -13,7 +13,8 @@ use Rattle.xs_flat.specs.ModelTree.{model_tree, flat_tree}
 use Rattle.xs_flat.specs.SceneTree.{program_of}
 use Rattle.xs_flat.specs.Judging.{IsJudged}
 use Rattle.xs_flat.specs.ResolverOf.{leaf_at, told_tree, asked_tree, IsKnown}
-use Rattle.xs_flat.specs.ResolvedAt.{IsResolvedAt, IsValueFault}
+use Rattle.xs_flattening.specs.ResolvedAt.{IsResolvedAt}
+use Rattle.xs_flat.specs.ResolvedAt.{IsValueFault}
 use Rattle.xs_flattening.specs.Resolved.{has_next}
 use Rattle.xs_flat.proofs.FlatFaults.{err_weaker, ok_always}
 use Rattle.xs_flat.proofs.OnlyModel.{second_not}

@@ -1,0 +1,12 @@
+//! What the rules on guards and on what is followed mean: where they are judged, which are broken, and the
+//! first that instructions break.
+//!
+//! A mode is judged at each instance of its slice's module (`specs/Uses.antt`), as a DEFINE of that module
+//! would be: first by the rules of names and then, in its flat form, by those of kinds
+//! (`specs/Expressions.antt`). These are definitions alone; the code that judges stands in the layer above.
+//!
+//! ```text
+//! // SLICE Lamp AFFECTS on WITH MODE dark : Permanent StuckAt(FALSE) WHEN 3;
+//! // at the instance main and the item 3, the guard breaks the second rule of kinds
+//! ```
+#![tactic(auto)]
