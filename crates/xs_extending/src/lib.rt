@@ -10,3 +10,10 @@
 //! // at the instance main and the item 3, the guard breaks the second rule of kinds
 //! ```
 #![tactic(auto)]
+
+ghost use Rattle.xs_extending.specs.Laws.{NamesComeFirst};
+
+/// A mode that is refused by a rule of kinds breaks no rule of names.
+pub fn names_come_first()
+    ensures { NamesComeFirst }
+{}
