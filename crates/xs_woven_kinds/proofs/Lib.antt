@@ -1,0 +1,5 @@
+pub mod Rightly
+pub mod Numbers
+pub mod Domains
+pub mod Effects
+pub mod Moves
