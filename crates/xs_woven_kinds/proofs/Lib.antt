@@ -3,3 +3,5 @@ pub mod Numbers
 pub mod Domains
 pub mod Effects
 pub mod Moves
+pub mod Leaves
+pub mod Definitions
