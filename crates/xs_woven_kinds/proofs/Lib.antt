@@ -5,3 +5,4 @@ pub mod Effects
 pub mod Moves
 pub mod Leaves
 pub mod Definitions
+pub mod Items
