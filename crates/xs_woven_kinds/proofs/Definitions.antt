@@ -34,12 +34,12 @@ both_known (Some x) at bt e f h g =
 
 -- What stands for a meaning.
 module _ (m : FlatModel) (ds : List Definition) where
-  for_variable : (l : FlatLeaf) (at : Place) (x : Text) → StandsFor m ds l (a_variable_at at x) → (j : ℕ) × (l ≡ flat_variable j) × IsVariableNumber m at x j
+  pub for_variable : (l : FlatLeaf) (at : Place) (x : Text) → StandsFor m ds l (a_variable_at at x) → (j : ℕ) × (l ≡ flat_variable j) × IsVariableNumber m at x j
   for_variable (flat_variable j) at x h = (j, refl, record { variable = h.0; is = h.1; same_place = h.2; same_name = h.3 })
   for_variable (flat_symbol j) at x h = absurd h
   for_variable (flat_definition j) at x h = absurd h
 
-  for_symbol : (l : FlatLeaf) (x : Text) → StandsFor m ds l (a_symbol x) → (j : ℕ) × (l ≡ flat_symbol j)
+  pub for_symbol : (l : FlatLeaf) (x : Text) → StandsFor m ds l (a_symbol x) → (j : ℕ) × (l ≡ flat_symbol j)
   for_symbol (flat_variable j) x h = absurd h
   for_symbol (flat_symbol j) x h = (j, refl)
   for_symbol (flat_definition j) x h = absurd h

@@ -6,3 +6,4 @@ pub mod Moves
 pub mod Leaves
 pub mod Definitions
 pub mod Items
+pub mod Renamed
