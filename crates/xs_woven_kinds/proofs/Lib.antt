@@ -7,3 +7,4 @@ pub mod Leaves
 pub mod Definitions
 pub mod Items
 pub mod Renamed
+pub mod Kept
