@@ -8,3 +8,4 @@ pub mod Definitions
 pub mod Items
 pub mod Renamed
 pub mod Kept
+pub mod Sites
