@@ -29,7 +29,7 @@ listed p accepted =
     let main : (k : ModuleTree) × (find_module p (codes "main") ≡ Some k) = main_is_there p (accepted_walkable p accepted) in
     are_instances p (accepted_walkable p accepted) main.0 main.1
 
-one_module : (p : ProgramTree) (k m : ModuleTree) (at bt : Place) → bt ≡ at → IsInstance p bt k → IsInstance p at m → k ≡ m
+pub one_module : (p : ProgramTree) (k m : ModuleTree) (at bt : Place) → bt ≡ at → IsInstance p bt k → IsInstance p at m → k ≡ m
 one_module p k m at bt e a b = let there : IsInstance p at k = subst (λ q. IsInstance p q k) e a in let both : Some k ≡ Some m = sym there ∙ b in cc
 
 module _ (p : ProgramTree) (accepted : IsAccepted p) where

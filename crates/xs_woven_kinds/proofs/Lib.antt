@@ -9,3 +9,4 @@ pub mod Items
 pub mod Renamed
 pub mod Kept
 pub mod Sites
+pub mod Uses
