@@ -145,11 +145,11 @@ module _ (K : Path → Kind) (P : Path → Type 0) where
   branch_right (offset d) s (instance n actuals) kinds a follow h = cc
   branch_right (ramp_down d f) s type kinds a follow h = domain_right K P type kinds.right kinds.members h
 
-  -- a rule section is a condition
+  -- a rule section is a condition that breaks no rule
   abbrev pub RuleRight : SectionTree → Type 0
   RuleRight (invar e) = AllLeaves P e → Rightly truth_class (judge K false e)
   RuleRight (trans e) = AllLeaves P e → Rightly truth_class (judge K false e)
-  RuleRight _ = Unit {0}
+  RuleRight _ = ⊥
 
   -- each rule section of a mode breaks no rule
   pub rules_right : (e : EffectTree) (s : SliceTree) (type : DeclaredTree) (mode : Text) → SliceKinds s type → IsKnown s (Some mode) → fault_of e type ≡ None → Each RuleRight (rules e s.name mode s.target)

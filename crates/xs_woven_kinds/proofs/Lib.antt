@@ -10,3 +10,4 @@ pub mod Renamed
 pub mod Kept
 pub mod Sites
 pub mod Uses
+pub mod Added
