@@ -11,3 +11,4 @@ pub mod Kept
 pub mod Sites
 pub mod Uses
 pub mod Added
+pub mod WovenModel
