@@ -18,7 +18,7 @@ use Rattle.xs_weave_rules.specs.Rules.{broken_at}
 use Rattle.xs_weave_rules.specs.FirstBroken.{AllKept}
 use Rattle.xs_flattening.specs.Flat.{FlatLeaf, flat_variable, FlatModel}
 use Rattle.xs_flattening.specs.Items.{Item, items_of_section}
-use Rattle.xs_flattening.specs.Rules.{IsAccepted}
+use Rattle.xs_flattening.specs.Rules.{IsWalkable}
 use Rattle.xs_flattening.specs.Model.{plain, now_among, next_among, IsFlatOf}
 use Rattle.xs_flattening.proofs.Conditions.{each_flat, each_join}
 use Rattle.xs_kinds.specs.Judged.{Class, truth_class, symbol_class, Kind, Judged, judged_same, judge}
@@ -36,7 +36,7 @@ use Rattle.xs_woven_kinds.proofs.Kept.{EachAsked}
 use Rattle.xs_woven_kinds.proofs.Uses.{slice_kinds, modes_judged}
 
 -- Of one model.
-module _ (q : ProgramTree) (w : FlatModel) (also : IsAccepted q) (iw : IsFlatOf q w) (at : Place) where
+module _ (q : ProgramTree) (w : FlatModel) (also : IsWalkable q) (iw : IsFlatOf q w) (at : Place) where
   abbrev after : Path → Kind
   after name = kind_given w (iw.resolver at name)
 
@@ -101,7 +101,7 @@ module _ (q : ProgramTree) (w : FlatModel) (also : IsAccepted q) (iw : IsFlatOf 
       each_join SectionKeeps (rules m.effect s.name m.name s.target) (flat_map (λ n. rules n.effect s.name n.name s.target) ms)
       (sections_keep (rules m.effect s.name m.name s.target) (rules_right after resolved m.effect s type m.name kinds j.0.0 j.0.1.allowed)) (rules_keep s type kinds ms j.1)
 
-module _ (p : ProgramTree) (i : InstructionTree) (ok : IsWeavable p i) (m w : FlatModel) (accepted : IsAccepted p) (also : IsAccepted (woven p i)) (is : IsFlatOf p m) (iw : IsFlatOf (woven p i) w)
+module _ (p : ProgramTree) (i : InstructionTree) (ok : IsWeavable p i) (m w : FlatModel) (walkable : IsWalkable p) (also : IsWalkable (woven p i)) (is : IsFlatOf p m) (iw : IsFlatOf (woven p i) w)
     (right : breaches m ≡ []) (kept : AllKept (broken_at p) (item_sites i)) (used : AllUsesKept p m i) (at : Place) (k : ModuleTree) (here : IsInstance p at k) where
   abbrev Keeps : Item → Type 0
   Keeps = ItemKeeps (woven p i) w also iw at
@@ -117,8 +117,8 @@ module _ (p : ProgramTree) (i : InstructionTree) (ok : IsWeavable p i) (m w : Fl
       let same : lawful.type ≡ type = sym (ap type_of_kind lawful.target_kind) in
       let K = λ (name : Path). kind_given w (iw.resolver at name) in
       let P = HasLeaf (iw.resolver at) in
-      let kinds : SliceKinds K P s type = subst (SliceKinds K P s) same (slice_kinds p i ok m w accepted also is iw right kept used at k s here a) in
-      let judged : ModesJudged K P s type s.modes = subst (λ t. ModesJudged K P s t s.modes) same (modes_judged p i ok m w accepted also is iw right kept used at k s here a) in
+      let kinds : SliceKinds K P s type = subst (SliceKinds K P s) same (slice_kinds p i ok m w walkable also is iw right kept used at k s here a) in
+      let judged : ModesJudged K P s type s.modes = subst (λ t. ModesJudged K P s t s.modes) same (modes_judged p i ok m w walkable also is iw right kept used at k s here a) in
       let mode_there : IsVariable q at (mode_variable s.name) state (mode_type s) = variable_there q at (mode_variable s.name) state (mode_type s) (mode_variable_kind p i ok at k s here a) in
       let read_there : IsVariable q at s.target state lawful.type = variable_there q at s.target state lawful.type (read_variable p i ok at k s.target state lawful.type here lawful.target_kind) in
       let target_there : IsVariable q at s.target state type = subst (IsVariable q at s.target state) same read_there in

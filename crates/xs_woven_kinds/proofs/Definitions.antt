@@ -14,7 +14,7 @@ use Rattle.xs_weave.proofs.Meanings.{Kept, kind_kept, module_woven, same_meaning
 use Rattle.xs_weave.proofs.LeafValues.{kind_at_woven, read_variable}
 use Rattle.xs_flattening.specs.Flat.{FlatLeaf, flat_variable, flat_symbol, flat_definition, FlatVariable, FlatFormula, FlatModel}
 use Rattle.xs_flattening.specs.Resolved.{leaves_in, has_next, Definition, StandsFor, IsLeafOf, Resolver, IsSound, IsResolved, IsBefore}
-use Rattle.xs_flattening.specs.Rules.{expression_of_kind, expression_in, expression_of, IsAccepted}
+use Rattle.xs_flattening.specs.Rules.{expression_of_kind, expression_in, expression_of, IsWalkable}
 use Rattle.xs_flattening.specs.Model.{IsVariableNumber, IsDefinitionOf, IsFlatOf}
 use Rattle.xs_flattening.proofs.Lists.{each_more}
 use Rattle.xs_flattening.proofs.Resolving.{same_meaning as one_meaning}
@@ -105,7 +105,7 @@ module _ (p : ProgramTree) (i : InstructionTree) (ok : IsWeavable p i) where
       found None e k = let bad : undeclared ≡ a_variable role type = ap (λ o. name_kind_at o x) (sym e) ∙ k in cc
       found (Some n) e k = (n, e, ap (λ o. name_kind_at o x) (sym e) ∙ k)
 
-module _ (p : ProgramTree) (i : InstructionTree) (ok : IsWeavable p i) (m w : FlatModel) (accepted : IsAccepted p) (also : IsAccepted (woven p i)) (is : IsFlatOf p m) (iw : IsFlatOf (woven p i) w) where
+module _ (p : ProgramTree) (i : InstructionTree) (ok : IsWeavable p i) (m w : FlatModel) (walkable : IsWalkable p) (also : IsWalkable (woven p i)) (is : IsFlatOf p m) (iw : IsFlatOf (woven p i) w) where
   -- definitions with numbers below this one are judged the same in both
   abbrev DefinitionsAgree : ℕ → Type 0
   DefinitionsAgree n =
@@ -120,8 +120,8 @@ module _ (p : ProgramTree) (i : InstructionTree) (ok : IsWeavable p i) (m w : Fl
       let b = for_variable w iw.written l' at x g in
       let v = a.2.variable in
       let there : IsVariable p at x v.role v.declared =
-      subst (λ c. IsVariable p c x v.role v.declared) a.2.same_place (subst (λ y. IsVariable p v.place y v.role v.declared) a.2.same_name (declared_so p m accepted is a.0 v a.2.is)) in
-      ap (kind_of_leaf m) a.1 ∙ variable_kind p m accepted is at x v.role v.declared a.0 there a.2
+      subst (λ c. IsVariable p c x v.role v.declared) a.2.same_place (subst (λ y. IsVariable p v.place y v.role v.declared) a.2.same_name (declared_so p m walkable is a.0 v a.2.is)) in
+      ap (kind_of_leaf m) a.1 ∙ variable_kind p m walkable is at x v.role v.declared a.0 there a.2
       ∙ sym (variable_kind (woven p i) w also iw at x v.role v.declared b.0 (variable_woven p i ok at x v.role v.declared there) b.2) ∙ ap (kind_of_leaf w) (sym b.1)
   leaf_agrees n agree l l' (a_symbol x) before h g =
       let a = for_symbol m is.written l x h in

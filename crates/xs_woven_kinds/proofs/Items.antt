@@ -9,13 +9,13 @@ use Rattle.xs_tree.specs.Trace.{Each, IsInstance}
 use Rattle.xs_flattening.specs.Flat.{FlatLeaf, FlatInstance, FlatVariable, FlatFormula, FlatModel}
 use Rattle.xs_flattening.specs.Items.{Item, NumberedItem, items_of, items_named, instances_of}
 use Rattle.xs_flattening.specs.Resolved.{Resolver}
-use Rattle.xs_flattening.specs.Rules.{IsAccepted}
+use Rattle.xs_flattening.specs.Rules.{IsWalkable}
 use Rattle.xs_flattening.specs.Model.{Condition, Written, written_at, conditions, IsConditionTree, IsFormulaOf, EachBoth}
 use Rattle.xs_flattening.proofs.Conditions.{iff_then, each_iff, each_at, each_from, each_flat, each_mapped}
 use Rattle.xs_flattening.proofs.Lists.{each_more}
 use Rattle.xs_flattening.proofs.Places.{are_instances}
 use Rattle.xs_flattening.proofs.Sections.{AreInstances, items_are}
-use Rattle.xs_flattening.proofs.Walkable.{accepted_walkable, main_is_there}
+use Rattle.xs_flattening.proofs.Walkable.{main_is_there}
 use Rattle.xs_kinds.specs.Judged.{KindRule, Judged}
 use Rattle.xs_kinds.specs.Declared.{judged_declared}
 use Rattle.xs_kinds.specs.Models.{judged_definitions, judged_variables, judged_in, broken_condition, breaches_at, variable_breaches, definition_breaches, condition_breaches, breaches}
@@ -24,27 +24,27 @@ use Rattle.xs_kinds.proofs.Parts.{none_first, none_second}
 use Rattle.xs_woven_kinds.proofs.Rightly.{none_joined}
 
 -- Instances.
-pub listed : (p : ProgramTree) → IsAccepted p → AreInstances p
-listed p accepted =
-    let main : (k : ModuleTree) × (find_module p (codes "main") ≡ Some k) = main_is_there p (accepted_walkable p accepted) in
-    are_instances p (accepted_walkable p accepted) main.0 main.1
+pub listed : (p : ProgramTree) → IsWalkable p → AreInstances p
+listed p walkable =
+    let main : (k : ModuleTree) × (find_module p (codes "main") ≡ Some k) = main_is_there p walkable in
+    are_instances p walkable main.0 main.1
 
 pub one_module : (p : ProgramTree) (k m : ModuleTree) (at bt : Place) → bt ≡ at → IsInstance p bt k → IsInstance p at m → k ≡ m
 one_module p k m at bt e a b = let there : IsInstance p at k = subst (λ q. IsInstance p q k) e a in let both : Some k ≡ Some m = sym there ∙ b in cc
 
-module _ (p : ProgramTree) (accepted : IsAccepted p) where
+module _ (p : ProgramTree) (walkable : IsWalkable p) where
   -- over the items of the listed instances is over the items of all instances
   pub over_items : (C : Place → Item → Type 0) →
       (Each (λ (x : FlatInstance). Each (λ (i : NumberedItem). C x.place i.item) (items_named p x.module_name)) (instances_of p)
       ↔ ((at : Place) (m : ModuleTree) → IsInstance p at m → Each (C at) (items_of m)))
   over_items C = (
-    (λ h at m is. let l : (i : ℕ) × (x : FlatInstance) × (slice_get (instances_of p) i ≡ Some x) × (x.place ≡ at) = (listed p accepted).all at m is in
-        let k : (k : ModuleTree) × IsInstance p l.1.place k × (find_module p l.1.module_name ≡ Some k) = (listed p accepted).real l.0 l.1 l.2 in
+    (λ h at m is. let l : (i : ℕ) × (x : FlatInstance) × (slice_get (instances_of p) i ≡ Some x) × (x.place ≡ at) = (listed p walkable).all at m is in
+        let k : (k : ModuleTree) × IsInstance p l.1.place k × (find_module p l.1.module_name ≡ Some k) = (listed p walkable).real l.0 l.1 l.2 in
         let same : k.0 ≡ m = one_module p k.0 m at l.1.place l.3 k.1 is in
         subst (λ a. Each (C a) (items_of m)) l.3 ((items_are (C l.1.place) p 1 [] l.1.module_name m (subst (λ q. find_module p l.1.module_name ≡ Some q) same k.2)).0
         (each_at (λ (x : FlatInstance). Each (λ (i : NumberedItem). C x.place i.item) (items_named p x.module_name)) (instances_of p) l.0 l.1 h l.2))),
     (λ h. each_from (λ (x : FlatInstance). Each (λ (i : NumberedItem). C x.place i.item) (items_named p x.module_name)) (instances_of p)
-        (λ i x e. let k : (k : ModuleTree) × IsInstance p x.place k × (find_module p x.module_name ≡ Some k) = (listed p accepted).real i x e in
+        (λ i x e. let k : (k : ModuleTree) × IsInstance p x.place k × (find_module p x.module_name ≡ Some k) = (listed p walkable).real i x e in
         (items_are (C x.place) p 1 [] x.module_name k.0 k.2).1 (h x.place k.0 k.1))),
   )
 

@@ -17,7 +17,7 @@ use Rattle.xs_weave.proofs.LeafValues.{own_variable}
 use Rattle.xs_flattening.specs.Flat.{FlatLeaf, flat_variable, FlatVariable, FlatModel}
 use Rattle.xs_flattening.specs.Items.{Item, a_declaration, a_definition, an_assignment, some_constants, an_init, an_invar, a_trans, items_of_section}
 use Rattle.xs_flattening.specs.Resolved.{IsResolved}
-use Rattle.xs_flattening.specs.Rules.{IsAccepted}
+use Rattle.xs_flattening.specs.Rules.{IsWalkable}
 use Rattle.xs_flattening.specs.Model.{Condition, plain, now_among, next_among, kept, assigned_first, assigned_each, assigned_step, first_conditions, each_conditions, step_conditions, IsVariableNumber, IsAmong, same_tree, next_tree, IsFlatOf}
 use Rattle.xs_flattening.proofs.Lists.{map_joined}
 use Rattle.xs_kinds.specs.Judged.{Kind, Judged, judged_same, judge}
@@ -91,7 +91,7 @@ module _ (p : ProgramTree) (i : InstructionTree) (ok : IsWeavable p i) where
   pub target_kind_at : (at : Place) (k : ModuleTree) (s : SliceTree) (here : IsInstance p at k) (a : Among (slices_of i k.name) s) → name_kind_at (module_at p at) s.target ≡ a_variable state (ok.slices at k s here a).type
   target_kind_at at k s here a = ap (λ o. name_kind_at o s.target) here ∙ (ok.slices at k s here a).target_kind
 
-  module _ (m w : FlatModel) (accepted : IsAccepted p) (also : IsAccepted (woven p i)) (is : IsFlatOf p m) (iw : IsFlatOf (woven p i) w) (at : Place) (k : ModuleTree) (here : IsInstance p at k) where
+  module _ (m w : FlatModel) (walkable : IsWalkable p) (also : IsWalkable (woven p i)) (is : IsFlatOf p m) (iw : IsFlatOf (woven p i) w) (at : Place) (k : ModuleTree) (here : IsInstance p at k) where
     abbrev before : Path → Kind
     before name = kind_given m (is.resolver at name)
 
@@ -102,7 +102,7 @@ module _ (p : ProgramTree) (i : InstructionTree) (ok : IsWeavable p i) where
     affected = is_affected i k.name
 
     same_keeps : KeepsKinds before after (HasLeaf (is.resolver at)) (HasLeaf (iw.resolver at)) same_path
-    same_keeps name h g = sym (same_kind p i ok m w accepted also is iw is.resolver iw.resolver is.sound iw.sound at name h g)
+    same_keeps name h g = sym (same_kind p i ok m w walkable also is iw is.resolver iw.resolver is.sound iw.sound at name h g)
 
     -- a renamed occurrence has the kind of the variable
     rename_keeps : KeepsKinds before after (HasLeaf (is.resolver at)) (HasLeaf (iw.resolver at)) (rename affected)
@@ -117,7 +117,7 @@ module _ (p : ProgramTree) (i : InstructionTree) (ok : IsWeavable p i) where
             let own : name_kind_at (module_at (woven p i) at) (own_name x) ≡ a_variable state type =
             subst (λ y. name_kind_at (module_at (woven p i) at) (own_name y) ≡ a_variable state type) found.2 (own_kind_at at k s here found.1) in
             let target : name_kind_at (module_at p at) x ≡ a_variable state type = subst (λ y. name_kind_at (module_at p at) y ≡ a_variable state type) found.2 (target_kind_at at k s here found.1) in
-            name_variable (woven p i) w also iw iw.resolver iw.sound at (own_name x) state type own g ∙ sym (name_variable p m accepted is is.resolver is.sound at x state type target h)
+            name_variable (woven p i) w also iw iw.resolver iw.sound at (own_name x) state type own g ∙ sym (name_variable p m walkable is is.resolver is.sound at x state type target h)
         by false e g = same_keeps (x ∷ []) h g
     rename_keeps (x ∷ y ∷ name) h g = same_keeps (x ∷ y ∷ name) h g
 
@@ -132,7 +132,7 @@ module _ (p : ProgramTree) (i : InstructionTree) (ok : IsWeavable p i) where
     same_agrees : (e : Formula) (flat flat' : Tree FlatLeaf) (sets : Bool) → IsResolved (is.resolver at) e flat → IsResolved (iw.resolver at) e flat' → judged_in w sets flat' ≡ judged_in m sets flat
     same_agrees e flat flat' sets h g =
         resolved_judged w (iw.resolver at) e flat' sets g
-        ∙ sym (written_agrees p i ok m w accepted also is iw is.resolver iw.resolver is.sound iw.sound at e flat sets h (has_leaves (iw.resolver at) e flat' g))
+        ∙ sym (written_agrees p i ok m w walkable also is iw is.resolver iw.resolver is.sound iw.sound at e flat sets h (has_leaves (iw.resolver at) e flat' g))
 
     plain_keeps : (e : Formula) → IsKeptAt m is.resolver at (plain e) → KeepsAt w iw.resolver at (plain e)
     plain_keeps e there flat resolved = ap broken_condition (same_agrees e there.0 flat false there.1 resolved) ∙ there.2
@@ -145,10 +145,10 @@ module _ (p : ProgramTree) (i : InstructionTree) (ok : IsWeavable p i) where
     target_agrees x x' t j j' n n' = by t
       where
         there : IsVariable p at x n.variable.role n.variable.declared
-        there = subst (λ a. IsVariable p a x n.variable.role n.variable.declared) n.same_place (subst (λ y. IsVariable p n.variable.place y n.variable.role n.variable.declared) n.same_name (declared_so p m accepted is j n.variable n.is))
+        there = subst (λ a. IsVariable p a x n.variable.role n.variable.declared) n.same_place (subst (λ y. IsVariable p n.variable.place y n.variable.role n.variable.declared) n.same_name (declared_so p m walkable is j n.variable n.is))
 
         first : kind_of_leaf m (flat_variable j) ≡ (judged_declared n.variable.declared).kind
-        first = variable_kind p m accepted is at x n.variable.role n.variable.declared j there n
+        first = variable_kind p m walkable is at x n.variable.role n.variable.declared j there n
 
         by : (x' ≡ x) ⊎ ((affected x ≡ true) × (x' ≡ own_name x)) → kind_of_leaf w (flat_variable j') ≡ kind_of_leaf m (flat_variable j)
         by (inl e) =

@@ -10,14 +10,14 @@ use Rattle.xs_tree.specs.Trace.{Each, IsVariable}
 use Rattle.xs_flattening.specs.Flat.{FlatLeaf, flat_variable, flat_symbol, flat_definition, FlatVariable, FlatFormula, FlatModel}
 use Rattle.xs_flattening.specs.Items.{Visit, visits, variables_of}
 use Rattle.xs_flattening.specs.Resolved.{leaves_in, IsResolved, IsBefore}
-use Rattle.xs_flattening.specs.Rules.{IsAccepted}
+use Rattle.xs_flattening.specs.Rules.{IsWalkable}
 use Rattle.xs_flattening.specs.Model.{EachBoth, IsVariableOf, IsVariableNumber, IsFlatOf}
 use Rattle.xs_flattening.proofs.Conditions.{each_at}
 use Rattle.xs_flattening.proofs.Lists.{each_more, get_end, get_within, length_end}
 use Rattle.xs_flattening.proofs.Places.{has_main}
 use Rattle.xs_flattening.proofs.Resolving.{Known, names_known}
 use Rattle.xs_flattening.proofs.Variables.{variables_are, both_at_second}
-use Rattle.xs_flattening.proofs.Walkable.{accepted_walkable, main_is_there}
+use Rattle.xs_flattening.proofs.Walkable.{main_is_there}
 use Rattle.xs_kinds.specs.Judged.{Kind, Judged, truth_class, judge}
 use Rattle.xs_kinds.specs.Declared.{judged_declared}
 use Rattle.xs_kinds.specs.Models.{kind_at, leaf_kind, judged_variables, judged_after, judged_definitions, kind_of_leaf, judged_in}
@@ -68,13 +68,13 @@ one_type p at x r q s t a b =
     let same : a.0 ≡ b.0 = cc (a.1, b.1) in
     let kinds : a_variable r s ≡ a_variable q t = sym a.2 ∙ ap (λ m. kind_in m x) same ∙ b.2 in cc
 
-module _ (p : ProgramTree) (m : FlatModel) (accepted : IsAccepted p) (is : IsFlatOf p m) where
+module _ (p : ProgramTree) (m : FlatModel) (walkable : IsWalkable p) (is : IsFlatOf p m) where
   -- a numbered variable is declared with its role and type
   pub declared_so : (i : ℕ) (v : FlatVariable) → slice_get m.variables i ≡ Some v → IsVariable p v.place v.name v.role v.declared
   declared_so i v e =
-      let main : (n : ModuleTree) × (find_module p (codes "main") ≡ Some n) = main_is_there p (accepted_walkable p accepted) in
+      let main : (n : ModuleTree) × (find_module p (codes "main") ≡ Some n) = main_is_there p walkable in
       let from : (w : Visit) × (slice_get (variables_of p) i ≡ Some w) × IsVariableOf m w v = both_at_second (IsVariableOf m) (variables_of p) m.variables i v is.variables e in
-      let real : IsReal p from.0 = each_at (IsReal p) (variables_of p) i from.0 (real_all p (visits p) (has_main p (accepted_walkable p accepted) main.0 main.1)) from.1 in
+      let real : IsReal p from.0 = each_at (IsReal p) (variables_of p) i from.0 (real_all p (visits p) (has_main p walkable main.0 main.1)) from.1 in
       let by = from.2 in
       subst (λ at. IsVariable p at v.name v.role v.declared) (sym by.place)
       (subst (λ x. IsVariable p from.0.place x v.role v.declared) (sym by.name)

@@ -12,3 +12,5 @@ pub mod Sites
 pub mod Uses
 pub mod Added
 pub mod WovenModel
+pub mod History
+pub mod WovenLaws

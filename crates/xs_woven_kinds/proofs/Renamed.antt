@@ -14,7 +14,7 @@ use Rattle.xs_weave.proofs.Added.{affected_slice}
 use Rattle.xs_weave.proofs.LeafValues.{own_variable}
 use Rattle.xs_flattening.specs.Flat.{FlatLeaf, FlatModel}
 use Rattle.xs_flattening.specs.Resolved.{StandsFor, IsLeafOf, Resolver, IsSound, IsResolved}
-use Rattle.xs_flattening.specs.Rules.{IsAccepted}
+use Rattle.xs_flattening.specs.Rules.{IsWalkable}
 use Rattle.xs_flattening.specs.Model.{IsFlatOf}
 use Rattle.xs_kinds.specs.Judged.{Kind, Judged, symbol_class, is_word_true, ends_in_true, judge, judge_trees, judge_conditions, judge_values}
 use Rattle.xs_kinds.specs.Declared.{judged_declared}
@@ -44,14 +44,14 @@ kind_there q at x role type (Some n) e k = (n, e, ap (λ o. name_kind_at o x) (s
 pub variable_there : (q : ProgramTree) (at : Place) (x : Text) (role : Role) (type : DeclaredTree) → name_kind_at (module_at q at) x ≡ a_variable role type → IsVariable q at x role type
 variable_there q at x role type k = kind_there q at x role type (module_at q at) refl k
 
-module _ (q : ProgramTree) (m : FlatModel) (accepted : IsAccepted q) (is : IsFlatOf q m) (r : Resolver) (sound : IsSound q m is.written r) where
+module _ (q : ProgramTree) (m : FlatModel) (walkable : IsWalkable q) (is : IsFlatOf q m) (r : Resolver) (sound : IsSound q m is.written r) where
   -- a variable's name has the kind of its type
   pub name_variable : (at : Place) (x : Text) (role : Role) (type : DeclaredTree) → name_kind_at (module_at q at) x ≡ a_variable role type → HasLeaf (r at) (x ∷ []) → kind_given m (r at (x ∷ [])) ≡ (judged_declared type).kind
   name_variable at x role type e g =
       let a : IsLeafOf q m is.written at (x ∷ []) g.0 = sound at (x ∷ []) g.0 g.1 in
       let same : a.0 ≡ a_variable_at at x = means_variable a.1.0 q at x role type a.0 e a.1.1 in
       let b = for_variable m is.written g.0 at x (subst (StandsFor m is.written g.0) same a.2) in
-      ap (kind_given m) g.1 ∙ ap (kind_of_leaf m) b.1 ∙ variable_kind q m accepted is at x role type b.0 (variable_there q at x role type e) b.2
+      ap (kind_given m) g.1 ∙ ap (kind_of_leaf m) b.1 ∙ variable_kind q m walkable is at x role type b.0 (variable_there q at x role type e) b.2
 
   -- an undeclared name that is resolved is a symbol
   pub name_symbol : (at : Place) (x : Text) → name_kind_at (module_at q at) x ≡ undeclared → HasLeaf (r at) (x ∷ []) → (kind_given m (r at (x ∷ []))).class ≡ symbol_class

@@ -27,13 +27,12 @@ use Rattle.xs_weave_rules.specs.FirstBroken.{AllKept}
 use Rattle.xs_weave_rules.proofs.KeptFacts.{mode_facts, instance_found}
 use Rattle.xs_flattening.specs.Flat.{FlatLeaf, FlatInstance, FlatVariable, FlatModel}
 use Rattle.xs_flattening.specs.Items.{instances_of}
-use Rattle.xs_flattening.specs.Rules.{IsAccepted}
+use Rattle.xs_flattening.specs.Rules.{IsWalkable}
 use Rattle.xs_flattening.specs.Model.{IsFlatOf}
 use Rattle.xs_flattening.proofs.Conditions.{each_at, each_flat}
 use Rattle.xs_flattening.proofs.Kept.{module_named}
 use Rattle.xs_flattening.proofs.Reaches.{each_left, each_right}
 use Rattle.xs_flattening.proofs.Variables.{variables_are}
-use Rattle.xs_flattening.proofs.Walkable.{accepted_walkable}
 use Rattle.xs_kinds.specs.Judged.{Class, truth_class, symbol_class, Kind, KindRule, mismatch, not_boolean, unless_class, Judged, judge}
 use Rattle.xs_kinds.specs.Declared.{judged_declared}
 use Rattle.xs_kinds.specs.Models.{judged_in, least_after, least, breaches}
@@ -104,14 +103,14 @@ module _ (p : ProgramTree) (m : FlatModel) where
       here : same_text o.owner x.module_name ≡ true → use_of_site p x n (a_mode before o earlier mode) ≡ record { place = x.place; item = n; type = type_of_kind (target_kind p o); mode = mode } ∷ []
       here e = ap (λ b. if b then record { place = x.place; item = n; type = type_of_kind (target_kind p o); mode = mode } ∷ [] else []) e
 
-module _ (p : ProgramTree) (i : InstructionTree) (ok : IsWeavable p i) (m w : FlatModel) (accepted : IsAccepted p) (also : IsAccepted (woven p i)) (is : IsFlatOf p m) (iw : IsFlatOf (woven p i) w)
+module _ (p : ProgramTree) (i : InstructionTree) (ok : IsWeavable p i) (m w : FlatModel) (walkable : IsWalkable p) (also : IsWalkable (woven p i)) (is : IsFlatOf p m) (iw : IsFlatOf (woven p i) w)
     (right : breaches m ≡ []) (rules : AllKept (broken_at p) (item_sites i)) (used : AllUsesKept p m i) where
   -- the type of a variable breaks no rule
   pub type_right : (at : Place) (x : Text) (role : Role) (type : DeclaredTree) → IsVariable p at x role type → (judged_declared type).broken ≡ []
   type_right at x role type there =
-      let numbered : (j : ℕ) × (v : FlatVariable) × (slice_get m.variables j ≡ Some v) × (v.place ≡ at) × (v.name ≡ x) = (variables_are p (accepted_walkable p accepted) m is at x).0 (role, type, there) in
+      let numbered : (j : ℕ) × (v : FlatVariable) × (slice_get m.variables j ≡ Some v) × (v.place ≡ at) × (v.name ≡ x) = (variables_are p walkable m is at x).0 (role, type, there) in
       let v = numbered.1 in
-      let so : IsVariable p at x v.role v.declared = subst (λ a. IsVariable p a x v.role v.declared) numbered.3 (subst (λ y. IsVariable p v.place y v.role v.declared) numbered.4 (declared_so p m accepted is numbered.0 v numbered.2)) in
+      let so : IsVariable p at x v.role v.declared = subst (λ a. IsVariable p a x v.role v.declared) numbered.3 (subst (λ y. IsVariable p v.place y v.role v.declared) numbered.4 (declared_so p m walkable is numbered.0 v numbered.2)) in
       subst (λ t. (judged_declared t).broken ≡ []) (one_type p at x v.role role v.declared type so there)
       (each_at (λ (y : FlatVariable). (judged_declared y.declared).broken ≡ []) m.variables numbered.0 v (parts_of m right).variables numbered.2)
 
@@ -170,8 +169,8 @@ module _ (p : ProgramTree) (i : InstructionTree) (ok : IsWeavable p i) (m w : Fl
 
     sites_used : Each (IsUsedAt p m (record { place = at; module_name = k.name })) (item_sites i)
     sites_used =
-        let l : (j : ℕ) × (x : FlatInstance) × (slice_get (instances_of p) j ≡ Some x) × (x.place ≡ at) = (listed p accepted).all at k here in
-        let real : (n : ModuleTree) × IsInstance p l.1.place n × (find_module p l.1.module_name ≡ Some n) = (listed p accepted).real l.0 l.1 l.2 in
+        let l : (j : ℕ) × (x : FlatInstance) × (slice_get (instances_of p) j ≡ Some x) × (x.place ≡ at) = (listed p walkable).all at k here in
+        let real : (n : ModuleTree) × IsInstance p l.1.place n × (find_module p l.1.module_name ≡ Some n) = (listed p walkable).real l.0 l.1 l.2 in
         let same : real.0 ≡ k = one_module p real.0 k at l.1.place l.3 real.1 here in
         let name : k.name ≡ l.1.module_name = module_named p l.1.module_name k (subst (λ n. find_module p l.1.module_name ≡ Some n) same real.2) in
         let uses_here : Each (KeepsUse p m) (uses_at p i l.1) = each_at (λ x. Each (KeepsUse p m) (uses_at p i x)) (instances_of p) l.0 l.1 ((each_flat (KeepsUse p m) (uses_at p i) (instances_of p)).0 used) l.2 in
@@ -183,13 +182,13 @@ module _ (p : ProgramTree) (i : InstructionTree) (ok : IsWeavable p i) (m w : Fl
     form_right e None form kept h = absurd form
     form_right e (Some flat) form kept h =
         let r = form is in
-        ap (λ (j : Judged). j.broken) (sym (written_agrees p i ok m w accepted also is iw r.0 iw.resolver r.1 iw.sound at e flat false r.2 h)) ∙ kept
+        ap (λ (j : Judged). j.broken) (sym (written_agrees p i ok m w walkable also is iw r.0 iw.resolver r.1 iw.sound at e flat false r.2 h)) ∙ kept
 
     form_class : (c : Class) (rule : KindRule) (e : Formula) (flat : Tree FlatLeaf) → IsForm p m at (Some e) (Some flat) → unless_class c rule (judged_in m false flat).kind ≡ [] → AllLeaves resolved e →
         (judge after false e).kind.class ≡ c
     form_class c rule e flat form kept h =
         let r = form is in
-        ap (λ (j : Judged). j.kind.class) (sym (written_agrees p i ok m w accepted also is iw r.0 iw.resolver r.1 iw.sound at e flat false r.2 h)) ∙ class_kept c rule (judged_in m false flat).kind kept
+        ap (λ (j : Judged). j.kind.class) (sym (written_agrees p i ok m w walkable also is iw r.0 iw.resolver r.1 iw.sound at e flat false r.2 h)) ∙ class_kept c rule (judged_in m false flat).kind kept
 
     guard_right : (g : Formula) (flat : Option (Tree FlatLeaf)) → IsForm p m at (Some g) flat → broken_by m flat ≡ [] → class_of_guard m flat ≡ [] → AllLeaves resolved g → Rightly truth_class (judge after false g)
     guard_right g None form kept class h = absurd form

@@ -22,7 +22,7 @@ use Rattle.xs_weave_rules.specs.FirstBroken.{AllKept}
 use Rattle.xs_flattening.specs.Flat.{FlatLeaf, flat_variable, FlatInstance, FlatVariable, FlatFormula, FlatModel}
 use Rattle.xs_flattening.specs.Items.{Item, a_declaration, a_definition, an_assignment, some_constants, an_init, an_invar, a_trans, NumberedItem, items_of_section, items_of, items_named, instances_of}
 use Rattle.xs_flattening.specs.Resolved.{Definition, Resolver}
-use Rattle.xs_flattening.specs.Rules.{IsAccepted}
+use Rattle.xs_flattening.specs.Rules.{IsWalkable}
 use Rattle.xs_flattening.specs.Model.{Condition, kept, kept_declared, first_conditions, each_conditions, step_conditions, kept_conditions, Written, conditions, Root, root_of_actual, roots_of_actuals, roots_of_type, roots_of_item, roots_of, EachBoth, IsDefinitionOf, IsFlatOf}
 use Rattle.xs_flattening.proofs.Conditions.{each_at, each_from, each_flat, each_join, each_mapped}
 use Rattle.xs_flattening.proofs.Listed.{root_written}
@@ -115,23 +115,23 @@ module _ (G : Key → Type 0) where
   abbrev ItemHas : Place → Item → Type 0
   ItemHas at item = (n : ℕ) → Each OfKey (roots_of_item at n item)
 
-  roots_down : (q : ProgramTree) (accepted : IsAccepted q) → Each OfKey (roots_of q) → (at : Place) (k : ModuleTree) → IsInstance q at k → Each (ItemHas at) (items_of k)
-  roots_down q accepted h =
-      (over_items q accepted ItemHas).0
+  roots_down : (q : ProgramTree) (walkable : IsWalkable q) → Each OfKey (roots_of q) → (at : Place) (k : ModuleTree) → IsInstance q at k → Each (ItemHas at) (items_of k)
+  roots_down q walkable h =
+      (over_items q walkable ItemHas).0
       (each_more (λ (x : FlatInstance). Each OfKey (flat_map (λ (j : NumberedItem). roots_of_item x.place j.number j.item) (items_named q x.module_name)))
       (λ (x : FlatInstance). Each (λ (j : NumberedItem). ItemHas x.place j.item) (items_named q x.module_name)) (instances_of q)
       (λ x g. each_more (λ (j : NumberedItem). Each OfKey (roots_of_item x.place j.number j.item)) (λ (j : NumberedItem). ItemHas x.place j.item) (items_named q x.module_name)
       (λ j g' n. item_numbered x.place j.number n j.item g') ((each_flat OfKey (λ (j : NumberedItem). roots_of_item x.place j.number j.item) (items_named q x.module_name)).0 g))
       ((each_flat OfKey (λ (x : FlatInstance). flat_map (λ (j : NumberedItem). roots_of_item x.place j.number j.item) (items_named q x.module_name)) (instances_of q)).0 h))
 
-  roots_up : (q : ProgramTree) (accepted : IsAccepted q) → ((at : Place) (k : ModuleTree) → IsInstance q at k → Each (ItemHas at) (items_of k)) → Each OfKey (roots_of q)
-  roots_up q accepted h =
+  roots_up : (q : ProgramTree) (walkable : IsWalkable q) → ((at : Place) (k : ModuleTree) → IsInstance q at k → Each (ItemHas at) (items_of k)) → Each OfKey (roots_of q)
+  roots_up q walkable h =
       (each_flat OfKey (λ (x : FlatInstance). flat_map (λ (j : NumberedItem). roots_of_item x.place j.number j.item) (items_named q x.module_name)) (instances_of q)).1
       (each_more (λ (x : FlatInstance). Each (λ (j : NumberedItem). ItemHas x.place j.item) (items_named q x.module_name))
       (λ (x : FlatInstance). Each OfKey (flat_map (λ (j : NumberedItem). roots_of_item x.place j.number j.item) (items_named q x.module_name))) (instances_of q)
       (λ x g. (each_flat OfKey (λ (j : NumberedItem). roots_of_item x.place j.number j.item) (items_named q x.module_name)).1
       (each_more (λ (j : NumberedItem). ItemHas x.place j.item) (λ (j : NumberedItem). Each OfKey (roots_of_item x.place j.number j.item)) (items_named q x.module_name) (λ j g'. g' j.number) g))
-      ((over_items q accepted ItemHas).1 h))
+      ((over_items q walkable ItemHas).1 h))
 
   -- what is woven keeps an item's definitions
   woven_has : (affected : Text → Bool) (at : Place) (item : Item) → ItemHas at item → ItemHas at (woven_item affected item)
@@ -170,7 +170,7 @@ module _ (G : Key → Type 0) where
   slice_has at k s finite =
       (((λ n. finite_has (own_name s.target ∷ at) n (type_of_kind (kind_in k s.target)) finite), ((λ n. tt), tt)), (((λ n. tt), ((λ n. tt), ((λ n. tt), tt))), all_rules_have at s s.modes))
 
-module _ (p : ProgramTree) (i : InstructionTree) (ok : IsWeavable p i) (m w : FlatModel) (accepted : IsAccepted p) (also : IsAccepted (woven p i)) (is : IsFlatOf p m) (iw : IsFlatOf (woven p i) w)
+module _ (p : ProgramTree) (i : InstructionTree) (ok : IsWeavable p i) (m w : FlatModel) (walkable : IsWalkable p) (also : IsWalkable (woven p i)) (is : IsFlatOf p m) (iw : IsFlatOf (woven p i) w)
     (right : breaches m ≡ []) (rules : AllKept (broken_at p) (item_sites i)) (used : AllUsesKept p m i) where
   -- Variables.
   added_right : (at : Place) (k : ModuleTree) (here : IsInstance p at k) (x : Text) (role : Role) (type : DeclaredTree) (s : SliceTree) → Among (slices_of i k.name) s → IsAddedBy s x →
@@ -180,12 +180,12 @@ module _ (p : ProgramTree) (i : InstructionTree) (ok : IsWeavable p i) (m w : Fl
       let own : a_variable state lawful.type ≡ a_variable role type = sym (own_kind_at p i ok at k s here a) ∙ subst (λ y. name_kind_at (module_at (woven p i) at) y ≡ a_variable role type) (sym e) kind in
       let same : lawful.type ≡ type = ap type_of_kind own in
       subst (λ t. (judged_declared t).broken ≡ []) same
-      (type_right p i ok m w accepted also is iw right rules used at s.target state lawful.type (variable_there p at s.target state lawful.type (target_kind_at p i ok at k s here a)))
+      (type_right p i ok m w walkable also is iw right rules used at s.target state lawful.type (variable_there p at s.target state lawful.type (target_kind_at p i ok at k s here a)))
   added_right at k here x role type s a (inr e) kind =
       let lawful = ok.slices at k s here a in
       let mode : a_variable state (mode_type s) ≡ a_variable role type = sym (mode_variable_kind p i ok at k s here a) ∙ subst (λ y. name_kind_at (module_at (woven p i) at) y ≡ a_variable role type) (sym e) kind in
       let same : mode_type s ≡ type = ap type_of_kind mode in
-      let items = kept_items p i ok m w accepted also is iw right rules used at k s here a in
+      let items = kept_items p i ok m w walkable also is iw right rules used at k s here a in
       let others : Each (λ (mode : ModeTree). mode.name ≢ codes "nominal") s.modes = each_more (IsLawfulMode p at k lawful.type) (λ (mode : ModeTree). mode.name ≢ codes "nominal") s.modes (λ mode h. h.not_nominal) lawful.modes in
       subst (λ t. (judged_declared t).broken ≡ []) same (mode_type_right p items.before (owned k.name s) items.modes others)
 
@@ -203,7 +203,7 @@ module _ (p : ProgramTree) (i : InstructionTree) (ok : IsWeavable p i) (m w : Fl
       by : (at : Place) (k : ModuleTree) (here : IsInstance p at k) → name_kind_at (module_at (woven p i) at) x ≡ a_variable role type → (c : NameKind) → kind_in k x ≡ c →
           kind_or c (kind_in_sections (added_sections i k) x) ≡ a_variable role type → (judged_declared type).broken ≡ []
       by at k here kind' undeclared e kind = new at k here kind' (added_or_not k (slices_of i k.name) x) kind
-      by at k here kind' (a_variable r t) e kind = type_right p i ok m w accepted also is iw right rules used at x role type (k, here, e ∙ kind)
+      by at k here kind' (a_variable r t) e kind = type_right p i ok m w walkable also is iw right rules used at x role type (k, here, e ∙ kind)
       by at k here kind' (a_formal j) e kind = cc
       by at k here kind' (a_define f) e kind = cc
       by at k here kind' (an_instance n es) e kind = cc
@@ -231,7 +231,7 @@ module _ (p : ProgramTree) (i : InstructionTree) (ok : IsWeavable p i) (m w : Fl
       (each_join (ItemHas HasDefinition at) (map (woven_item (is_affected i k.name)) (items_of k)) (flat_map items_of_section (added_sections i k))
       (each_map (ItemHas HasDefinition at) (woven_item (is_affected i k.name)) (items_of k)
       (each_more (ItemHas HasDefinition at) (λ item. ItemHas HasDefinition at (woven_item (is_affected i k.name) item)) (items_of k) (woven_has HasDefinition (is_affected i k.name) at)
-      (roots_down HasDefinition p accepted written_roots at k here)))
+      (roots_down HasDefinition p walkable written_roots at k here)))
       ((each_flat (ItemHas HasDefinition at) items_of_section (added_sections i k)).1
       ((each_flat (λ section. Each (ItemHas HasDefinition at) (items_of_section section)) (slice_sections k) (slices_of i k.name)).1
       (each_all (λ s. Each (λ section. Each (ItemHas HasDefinition at) (items_of_section section)) (slice_sections k s)) (slices_of i k.name) (λ s a. slice_has HasDefinition at k s (finite_target at k here s a))))))))
@@ -247,7 +247,7 @@ module _ (p : ProgramTree) (i : InstructionTree) (ok : IsWeavable p i) (m w : Fl
       let root = of.2.root in
       let d : HasDefinition root.0.key = each_at (λ (r : Root). HasDefinition r.key) (roots_of (woven p i)) root.1.0 root.0 woven_roots root.1.1 in
       let same : slice_get (judged_definitions m) d.1.0 ≡ slice_get (judged_definitions w) j =
-      definitions_agree p i ok m w accepted also is iw (suc d.1.0) d.1.0 j d.0 d'.0 (omega arith) d.1.1 d'.1 (d.2 ∙ root.2) in
+      definitions_agree p i ok m w walkable also is iw (suc d.1.0) d.1.0 j d.0 d'.0 (omega arith) d.1.1 d'.1 (d.2 ∙ root.2) in
       each_at IsRight (judged_definitions m) d.1.0 judged (parts_of m right).definitions (same ∙ e)
 
   -- Conditions.
@@ -258,9 +258,9 @@ module _ (p : ProgramTree) (i : InstructionTree) (ok : IsWeavable p i) (m w : Fl
       each_left (λ (c : Written). IsKeptAt m is.resolver c.place c.condition) (conditions step_conditions p) (conditions kept_conditions p)
       (conditions_there m is.resolver (conditions step_conditions p ++ conditions kept_conditions p) m.at_step is.at_step parts.at_step) in
       each_three (λ item. Each (IsKeptAt m is.resolver at) (first_conditions item)) (λ item. Each (IsKeptAt m is.resolver at) (each_conditions item)) (λ item. Each (IsKeptAt m is.resolver at) (step_conditions item)) (items_of k)
-      ((over_conditions p accepted (IsKeptAt m is.resolver) first_conditions).0 (conditions_there m is.resolver (conditions first_conditions p) m.at_first is.at_first parts.at_first) at k here)
-      ((over_conditions p accepted (IsKeptAt m is.resolver) each_conditions).0 (conditions_there m is.resolver (conditions each_conditions p) m.at_each is.at_each parts.at_each) at k here)
-      ((over_conditions p accepted (IsKeptAt m is.resolver) step_conditions).0 step at k here)
+      ((over_conditions p walkable (IsKeptAt m is.resolver) first_conditions).0 (conditions_there m is.resolver (conditions first_conditions p) m.at_first is.at_first parts.at_first) at k here)
+      ((over_conditions p walkable (IsKeptAt m is.resolver) each_conditions).0 (conditions_there m is.resolver (conditions each_conditions p) m.at_each is.at_each parts.at_each) at k here)
+      ((over_conditions p walkable (IsKeptAt m is.resolver) step_conditions).0 step at k here)
 
   asked_after : (at : Place) (k : ModuleTree) → IsInstance (woven p i) at k → Each (EachAsked (KeepsAt w iw.resolver at)) (items_of k)
   asked_after =
@@ -269,8 +269,8 @@ module _ (p : ProgramTree) (i : InstructionTree) (ok : IsWeavable p i) (m w : Fl
       (each_join (EachAsked (KeepsAt w iw.resolver at)) (map (woven_item (is_affected i k.name)) (items_of k)) (flat_map items_of_section (added_sections i k))
       (each_map (EachAsked (KeepsAt w iw.resolver at)) (woven_item (is_affected i k.name)) (items_of k)
       (each_more (EachAsked (IsKeptAt m is.resolver at)) (λ item. EachAsked (KeepsAt w iw.resolver at) (woven_item (is_affected i k.name) item)) (items_of k)
-      (item_keeps p i ok m w accepted also is iw at k here) (asked_before at k here)))
-      (added_keep p i ok m w accepted also is iw right rules used at k here)))
+      (item_keeps p i ok m w walkable also is iw at k here) (asked_before at k here)))
+      (added_keep p i ok m w walkable also is iw right rules used at k here)))
 
   abbrev WrittenKeeps : Written → Type 0
   WrittenKeeps c = KeepsAt w iw.resolver c.place c.condition

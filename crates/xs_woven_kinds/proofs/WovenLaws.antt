@@ -1,0 +1,59 @@
+-- The one fault of kinds that a woven program's flat model may have.
+use Rattle.std.proofs.Common.{◌≡◌, ◌⊎◌, inl, inr, ℕ, List, [], ◌∷◌, Some, refl, sym, ap, ◌∙◌, subst}
+use Rattle.xs_tree.specs.ProgramTree.{DeclaredTree, ProgramTree}
+use Rattle.xs_tree.specs.Scope.{state}
+use Rattle.xs_tree.specs.Trace.{Each, AtSome, IsVariable}
+use Rattle.xs_fei.specs.Instructions.{SliceTree, InstructionTree, slices_of}
+use Rattle.xs_effects.specs.AddedNames.{mode_variable}
+use Rattle.xs_weave.specs.Woven.{mode_type, woven}
+use Rattle.xs_weave.specs.Weavable.{Among}
+use Rattle.xs_weave.proofs.Added.{among_contains}
+use Rattle.xs_weave.proofs.LeafValues.{mode_variable_kind}
+use Rattle.xs_flattening.specs.Flat.{FlatVariable, FlatModel}
+use Rattle.xs_flattening.specs.History.{Mode, with_history}
+use Rattle.xs_flattening.proofs.Lists.{each_more}
+use Rattle.xs_kinds.specs.Judged.{KindRule, too_large, symbol_class}
+use Rattle.xs_kinds.specs.Declared.{judged_declared}
+use Rattle.xs_kinds.specs.Models.{Breach, breaches, IsFault, at_an_item, of_its_size}
+use Rattle.xs_kinds.proofs.ClosedLaws.{models_closed}
+use Rattle.xs_woven_kinds.specs.Modes.{HasSymbols, IsSliceMode}
+use Rattle.xs_woven_kinds.specs.Laws.{AreWoven, WovenBreaksNone, ModesHaveSymbols, HistoryBreaksNone, WovenBreaksSizeAlone}
+use Rattle.xs_woven_kinds.proofs.Leaves.{declared_so, one_type}
+use Rattle.xs_woven_kinds.proofs.Renamed.{variable_there}
+use Rattle.xs_woven_kinds.proofs.WovenModel.{woven_kept}
+use Rattle.xs_woven_kinds.proofs.History.{history_kept}
+
+pub woven_breaks_none : WovenBreaksNone
+woven_breaks_none p m i w a = woven_kept p i a.weavable m w a.program a.woven_program a.flat a.woven_flat a.no_breach a.items a.expressions
+
+pub modes_have_symbols : ModesHaveSymbols
+modes_have_symbols p m i w a f s =
+    let q = woven p i in
+    let k = s.is_slice.0 in
+    let among : Among (slices_of i k.name) s.slice = among_contains (slices_of i k.name) s.slice s.is_slice.2 in
+    let there : IsVariable q s.place (mode_variable s.slice.name) state (mode_type s.slice) =
+    variable_there q s.place (mode_variable s.slice.name) state (mode_type s.slice) (mode_variable_kind p i a.weavable s.place k s.slice s.is_slice.1 among) in
+    let v = s.number.variable in
+    let so : IsVariable q s.place (mode_variable s.slice.name) v.role v.declared =
+    subst (λ b. IsVariable q b (mode_variable s.slice.name) v.role v.declared) s.number.same_place
+    (subst (λ y. IsVariable q v.place y v.role v.declared) s.number.same_name (declared_so q w a.woven_program a.woven_flat f.variable v s.number.is)) in
+    let same : v.declared ≡ mode_type s.slice = one_type q s.place (mode_variable s.slice.name) v.role state v.declared (mode_type s.slice) so there in
+    record { variable = v; is_variable = s.number.is; symbols = ap (λ t. (judged_declared t).kind.class) same }
+
+pub history_breaks_none : HistoryBreaksNone
+history_breaks_none m fs closed s right = history_kept m fs closed s right
+
+-- where no rule is broken at an item there is the fault of the size alone
+none_among : (first : Breach) (bs : List Breach) → bs ≡ [] → AtSome (λ b. b ≡ first) bs → ⊥
+none_among first [] e h = h
+none_among first (b ∷ bs) e h = cc
+
+size_alone : (m : FlatModel) → breaches m ≡ [] → (rule : KindRule) (item : ℕ) → IsFault m rule item → (rule ≡ too_large) × (item ≡ 0)
+size_alone m right rule item (at_an_item first is r n) = absurd (none_among first (breaches m) right is.among)
+size_alone m right rule item (of_its_size none large r n) = (r, n)
+
+pub woven_breaks_size_alone : WovenBreaksSizeAlone
+woven_breaks_size_alone p m i w a fs modes rule item =
+    let right = woven_breaks_none p m i w a in
+    let symbols : Each (HasSymbols w) fs = each_more (IsSliceMode p i w) (HasSymbols w) fs (λ f s. modes_have_symbols p m i w a f s) modes in
+    (size_alone w right rule item, size_alone (with_history w fs) (history_breaks_none w fs (models_closed (woven p i) w a.woven_flat) symbols right) rule item)
