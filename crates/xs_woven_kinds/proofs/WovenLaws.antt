@@ -23,11 +23,11 @@ use Rattle.xs_woven_kinds.proofs.Renamed.{variable_there}
 use Rattle.xs_woven_kinds.proofs.WovenModel.{woven_kept}
 use Rattle.xs_woven_kinds.proofs.History.{history_kept}
 
-pub woven_breaks_none : WovenBreaksNone
-woven_breaks_none p m i w a = woven_kept p i a.weavable m w a.program a.woven_program a.flat a.woven_flat a.no_breach a.items a.expressions
+pub woven_none : WovenBreaksNone
+woven_none p m i w a = woven_kept p i a.weavable m w a.program a.woven_program a.flat a.woven_flat a.no_breach a.items a.expressions
 
-pub modes_have_symbols : ModesHaveSymbols
-modes_have_symbols p m i w a f s =
+pub modes_symbols : ModesHaveSymbols
+modes_symbols p m i w a f s =
     let q = woven p i in
     let k = s.is_slice.0 in
     let among : Among (slices_of i k.name) s.slice = among_contains (slices_of i k.name) s.slice s.is_slice.2 in
@@ -40,8 +40,8 @@ modes_have_symbols p m i w a f s =
     let same : v.declared ≡ mode_type s.slice = one_type q s.place (mode_variable s.slice.name) v.role state v.declared (mode_type s.slice) so there in
     record { variable = v; is_variable = s.number.is; symbols = ap (λ t. (judged_declared t).kind.class) same }
 
-pub history_breaks_none : HistoryBreaksNone
-history_breaks_none m fs closed s right = history_kept m fs closed s right
+pub history_none : HistoryBreaksNone
+history_none m fs closed s right = history_kept m fs closed s right
 
 -- where no rule is broken at an item there is the fault of the size alone
 none_among : (first : Breach) (bs : List Breach) → bs ≡ [] → AtSome (λ b. b ≡ first) bs → ⊥
@@ -52,8 +52,8 @@ size_alone : (m : FlatModel) → breaches m ≡ [] → (rule : KindRule) (item :
 size_alone m right rule item (at_an_item first is r n) = absurd (none_among first (breaches m) right is.among)
 size_alone m right rule item (of_its_size none large r n) = (r, n)
 
-pub woven_breaks_size_alone : WovenBreaksSizeAlone
-woven_breaks_size_alone p m i w a fs modes rule item =
-    let right = woven_breaks_none p m i w a in
-    let symbols : Each (HasSymbols w) fs = each_more (IsSliceMode p i w) (HasSymbols w) fs (λ f s. modes_have_symbols p m i w a f s) modes in
-    (size_alone w right rule item, size_alone (with_history w fs) (history_breaks_none w fs (models_closed (woven p i) w a.woven_flat) symbols right) rule item)
+pub size_alone_woven : WovenBreaksSizeAlone
+size_alone_woven p m i w a fs modes rule item =
+    let right = woven_none p m i w a in
+    let symbols : Each (HasSymbols w) fs = each_more (IsSliceMode p i w) (HasSymbols w) fs (λ f s. modes_symbols p m i w a f s) modes in
+    (size_alone w right rule item, size_alone (with_history w fs) (history_none w fs (models_closed (woven p i) w a.woven_flat) symbols right) rule item)
