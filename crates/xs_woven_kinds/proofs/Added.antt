@@ -1,5 +1,5 @@
 -- What a slice adds at an instance breaks no rule.
-use Rattle.std.proofs.Common.{◌≡◌, ℕ, Bool, true, false, List, [], ◌∷◌, ◌++◌, map, flat_map, Some, None, refl, sym, ap, ◌∙◌, subst}
+use Rattle.std.proofs.Common.{◌≡◌, ℕ, Bool, true, false, List, [], ◌∷◌, flat_map, None, refl, sym, ap, ◌∙◌, subst}
 use Rattle.xs_tree.specs.declared.expr.Op.TheVariants as op
 use Rattle.xs_tree.specs.Tree.{Tree, leaf, next_of, binary}
 use Rattle.xs_tree.specs.Laws.{AllLeaves}
@@ -9,7 +9,7 @@ use Rattle.xs_tree.specs.Trace.{Each, IsInstance, IsVariable}
 use Rattle.xs_fei.specs.Instructions.{ModeTree, SliceTree, InstructionTree, slices_of}
 use Rattle.xs_effects.specs.AddedNames.{mode_variable, mode_symbol}
 use Rattle.xs_effects.specs.Templates.{named, rules}
-use Rattle.xs_weave.specs.Woven.{type_of_kind, mode_type, moves_tree, read_tree, slice_rules, slice_sections, added_sections, woven}
+use Rattle.xs_weave.specs.Woven.{type_of_kind, mode_type, moves_tree, read_tree, slice_sections, added_sections, woven}
 use Rattle.xs_weave.specs.Weavable.{Among, IsLawfulSlice, IsWeavable}
 use Rattle.xs_weave.proofs.LeafValues.{mode_variable_kind, read_variable}
 use Rattle.xs_weave.proofs.Lists.{each_all}
@@ -21,17 +21,17 @@ use Rattle.xs_flattening.specs.Items.{Item, items_of_section}
 use Rattle.xs_flattening.specs.Rules.{IsWalkable}
 use Rattle.xs_flattening.specs.Model.{plain, now_among, next_among, IsFlatOf}
 use Rattle.xs_flattening.proofs.Conditions.{each_flat, each_join}
-use Rattle.xs_kinds.specs.Judged.{Class, truth_class, symbol_class, Kind, Judged, judged_same, judge}
+use Rattle.xs_kinds.specs.Judged.{Class, truth_class, symbol_class, Kind, Judged, judge}
 use Rattle.xs_kinds.specs.Declared.{judged_declared}
 use Rattle.xs_kinds.specs.Models.{kind_of_leaf, judged_in, broken_condition, breaches}
 use Rattle.xs_extending.specs.Expressions.{AllUsesKept}
 use Rattle.xs_woven_kinds.proofs.Rightly.{Rightly, condition_right, same_right}
 use Rattle.xs_woven_kinds.proofs.Domains.{class_of}
-use Rattle.xs_woven_kinds.proofs.Effects.{SliceKinds, ModeKinds, symbol_right, RuleRight, rules_right}
+use Rattle.xs_woven_kinds.proofs.Effects.{SliceKinds, symbol_right, RuleRight, rules_right}
 use Rattle.xs_woven_kinds.proofs.Moves.{ModesJudged, moves_right, read_right}
 use Rattle.xs_woven_kinds.proofs.Leaves.{kind_given, HasLeaf, resolved_judged, has_leaves, variable_kind}
 use Rattle.xs_woven_kinds.proofs.Items.{KeepsAt}
-use Rattle.xs_woven_kinds.proofs.Renamed.{variable_there}
+use Rattle.xs_woven_kinds.proofs.Definitions.{variable_there}
 use Rattle.xs_woven_kinds.proofs.Kept.{EachAsked}
 use Rattle.xs_woven_kinds.proofs.Uses.{slice_kinds, modes_judged}
 
@@ -51,9 +51,9 @@ module _ (q : ProgramTree) (w : FlatModel) (also : IsWalkable q) (iw : IsFlatOf 
   plain_right e right flat is =
       condition_right (judged_in w false flat) (right_flat truth_class false e flat (right (has_leaves (iw.resolver at) e flat is)) (resolved_judged w (iw.resolver at) e flat false is))
 
-  alone_right : (c : Class) (x : Text) (role : Role) (type : DeclaredTree) → IsVariable q at x role type → class_of type ≡ c → (j : ℕ) → kind_of_leaf w (flat_variable j) ≡ (judged_declared type).kind →
+  alone_right : (c : Class) (type : DeclaredTree) → class_of type ≡ c → (j : ℕ) → kind_of_leaf w (flat_variable j) ≡ (judged_declared type).kind →
       Rightly c (judged_in w false (leaf (flat_variable j)))
-  alone_right c x role type there same j is = record { kept = refl; class = ap (λ (kind : Kind). kind.class) is ∙ same }
+  alone_right c type same j is = record { kept = refl; class = ap (λ (kind : Kind). kind.class) is ∙ same }
 
   -- a variable among the values of a formula of its class, now and at the next moment
   module _ (c : Class) (x : Text) (role : Role) (type : DeclaredTree) (there : IsVariable q at x role type) (same : class_of type ≡ c) (e : Formula) (right : AllLeaves resolved e → Rightly c (judge after true e)) where
@@ -63,7 +63,7 @@ module _ (q : ProgramTree) (w : FlatModel) (also : IsWalkable q) (iw : IsFlatOf 
         let value = right_flat c true e among.value (right (has_leaves (iw.resolver at) e among.value among.resolved)) (resolved_judged w (iw.resolver at) e among.value true among.resolved) in
         ap (λ f. broken_condition (judged_in w false f)) among.is
         ∙ condition_right (judged_in w false (binary op.Within (leaf (flat_variable among.number)) among.value))
-        (same_right c (judged_in w false (leaf (flat_variable among.number))) (judged_in w true among.value) (alone_right c x role type there same among.number kind) value)
+        (same_right c (judged_in w false (leaf (flat_variable among.number))) (judged_in w true among.value) (alone_right c type same among.number kind) value)
 
     pub next_right : KeepsAt w iw.resolver at (next_among x e)
     next_right flat among =
@@ -71,7 +71,7 @@ module _ (q : ProgramTree) (w : FlatModel) (also : IsWalkable q) (iw : IsFlatOf 
         let value = right_flat c true e among.value (right (has_leaves (iw.resolver at) e among.value among.resolved)) (resolved_judged w (iw.resolver at) e among.value true among.resolved) in
         ap (λ f. broken_condition (judged_in w false f)) among.is
         ∙ condition_right (judged_in w false (binary op.Within (next_of (leaf (flat_variable among.number))) among.value))
-        (same_right c (judged_in w false (leaf (flat_variable among.number))) (judged_in w true among.value) (alone_right c x role type there same among.number kind) value)
+        (same_right c (judged_in w false (leaf (flat_variable among.number))) (judged_in w true among.value) (alone_right c type same among.number kind) value)
 
   abbrev pub ItemKeeps : Item → Type 0
   ItemKeeps = EachAsked (KeepsAt w iw.resolver at)
@@ -121,8 +121,7 @@ module _ (p : ProgramTree) (i : InstructionTree) (ok : IsWeavable p i) (m w : Fl
       let judged : ModesJudged K P s type s.modes = subst (λ t. ModesJudged K P s t s.modes) same (modes_judged p i ok m w walkable also is iw right kept used at k s here a) in
       let mode_there : IsVariable q at (mode_variable s.name) state (mode_type s) = variable_there q at (mode_variable s.name) state (mode_type s) (mode_variable_kind p i ok at k s here a) in
       let read_there : IsVariable q at s.target state lawful.type = variable_there q at s.target state lawful.type (read_variable p i ok at k s.target state lawful.type here lawful.target_kind) in
-      let target_there : IsVariable q at s.target state type = subst (IsVariable q at s.target state) same read_there in
-      (
+      let target_there : IsVariable q at s.target state type = subst (IsVariable q at s.target state) same read_there in (
         ((tt, tt, tt), ((tt, tt, tt), tt)),
         (
           (

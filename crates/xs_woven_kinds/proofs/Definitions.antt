@@ -4,7 +4,7 @@ use Rattle.std.specs.Prelude.{slice_get}
 use Rattle.xs_tree.specs.Tree.{Tree}
 use Rattle.xs_tree.specs.Laws.{AllLeaves}
 use Rattle.xs_tree.specs.ProgramTree.{Text, Path, Formula, DeclaredTree, ModuleTree, ProgramTree}
-use Rattle.xs_tree.specs.Scope.{Place, Role, Key, define_key, actual_key, Kind as NameKind, a_formal, a_variable, a_define, an_instance, undeclared, kind_in, kind_at as name_kind_at, kind_in_sections, module_at, actual_of_kind, Meaning, a_variable_at, an_expression_at, an_instance_at, a_symbol, Means, means_in}
+use Rattle.xs_tree.specs.Scope.{Place, Role, Key, define_key, actual_key, Kind as NameKind, a_formal, a_variable, a_define, an_instance, undeclared, kind_in, kind_at as name_kind_at, kind_in_sections, module_at, actual_of_kind, Meaning, a_variable_at, an_expression_at, an_instance_at, a_symbol, Means}
 use Rattle.xs_tree.specs.Trace.{Each, IsInstance, IsVariable}
 use Rattle.xs_fei.specs.Instructions.{SliceTree, InstructionTree, slices_of}
 use Rattle.xs_weave.specs.Woven.{type_of_kind, added_sections, woven}
@@ -12,15 +12,14 @@ use Rattle.xs_weave.specs.Weavable.{Among, IsFinite, IsLawfulSlice, IsWeavable}
 use Rattle.xs_weave.proofs.WovenKinds.{kind_or, IsPlain, added_plain}
 use Rattle.xs_weave.proofs.Meanings.{Kept, kind_kept, module_woven, same_meaning}
 use Rattle.xs_weave.proofs.LeafValues.{kind_at_woven, read_variable}
-use Rattle.xs_flattening.specs.Flat.{FlatLeaf, flat_variable, flat_symbol, flat_definition, FlatVariable, FlatFormula, FlatModel}
-use Rattle.xs_flattening.specs.Resolved.{leaves_in, has_next, Definition, StandsFor, IsLeafOf, Resolver, IsSound, IsResolved, IsBefore}
+use Rattle.xs_flattening.specs.Flat.{FlatLeaf, flat_variable, flat_symbol, flat_definition, FlatFormula, FlatModel}
+use Rattle.xs_flattening.specs.Resolved.{leaves_in, Definition, StandsFor, IsLeafOf, Resolver, IsSound, IsResolved, IsBefore}
 use Rattle.xs_flattening.specs.Rules.{expression_of_kind, expression_in, expression_of, IsWalkable}
 use Rattle.xs_flattening.specs.Model.{IsVariableNumber, IsDefinitionOf, IsFlatOf}
 use Rattle.xs_flattening.proofs.Lists.{each_more}
 use Rattle.xs_flattening.proofs.Resolving.{same_meaning as one_meaning}
 use Rattle.xs_flattening.proofs.Variables.{both_at}
-use Rattle.xs_kinds.specs.Judged.{Kind, Judged, judge}
-use Rattle.xs_kinds.specs.Declared.{judged_declared}
+use Rattle.xs_kinds.specs.Judged.{judge}
 use Rattle.xs_kinds.specs.Models.{kind_at, judged_definitions, kind_of_leaf, judged_in}
 use Rattle.xs_kinds.proofs.ModelLaws.{judge_agrees, all_leaves_more}
 use Rattle.xs_woven_kinds.proofs.Leaves.{kind_given, HasLeaf, HasKnown, resolved_judged, known_leaves, has_leaves, declared_so, variable_kind, definition_judged, all_both}
@@ -31,6 +30,14 @@ both_known (Some x) at bt e f h g =
     let first : x ≡ (at, e) = cc in
     let second : x ≡ (bt, f) = cc in
     (sym (ap (λ (y : Place × Formula). y.0) first) ∙ ap (λ (y : Place × Formula). y.0) second, sym (ap (λ (y : Place × Formula). y.1) first) ∙ ap (λ (y : Place × Formula). y.1) second)
+
+kind_there : (q : ProgramTree) (at : Place) (x : Text) (role : Role) (type : DeclaredTree) (o : Option ModuleTree) → module_at q at ≡ o → name_kind_at (module_at q at) x ≡ a_variable role type → IsVariable q at x role type
+kind_there q at x role type None e k = let bad : undeclared ≡ a_variable role type = ap (λ o. name_kind_at o x) (sym e) ∙ k in cc
+kind_there q at x role type (Some n) e k = (n, e, ap (λ o. name_kind_at o x) (sym e) ∙ k)
+
+-- what the name of an instance is
+pub variable_there : (q : ProgramTree) (at : Place) (x : Text) (role : Role) (type : DeclaredTree) → name_kind_at (module_at q at) x ≡ a_variable role type → IsVariable q at x role type
+variable_there q at x role type k = kind_there q at x role type (module_at q at) refl k
 
 -- What stands for a meaning.
 module _ (m : FlatModel) (ds : List Definition) where
@@ -56,7 +63,8 @@ module _ (m : FlatModel) (ds : List Definition) where
   for_instance (flat_definition j) at h = h
 
 module _ (p : ProgramTree) (i : InstructionTree) (ok : IsWeavable p i) where
-  slice_finite : (at : Place) (m : ModuleTree) → IsInstance p at m → (s : SliceTree) → Among (slices_of i m.name) s → IsFinite (type_of_kind (kind_in m s.target))
+  -- the variable of a slice has a type of values
+  pub slice_finite : (at : Place) (m : ModuleTree) → IsInstance p at m → (s : SliceTree) → Among (slices_of i m.name) s → IsFinite (type_of_kind (kind_in m s.target))
   slice_finite at m is s a =
       let lawful : IsLawfulSlice p at m s = ok.slices at m s is a in
       subst (λ k. IsFinite (type_of_kind k)) (sym lawful.target_kind) lawful.finite
@@ -99,11 +107,7 @@ module _ (p : ProgramTree) (i : InstructionTree) (ok : IsWeavable p i) where
   means_woven at name meaning h = (h.0, same_meaning p i ok h.0 h.0 at name meaning h.1 ∙ h.1)
 
   pub variable_woven : (at : Place) (x : Text) (role : Role) (type : DeclaredTree) → IsVariable p at x role type → IsVariable (woven p i) at x role type
-  variable_woven at x role type h = found (module_at (woven p i) at) refl (read_variable p i ok at h.0 x role type h.1 h.2)
-    where
-      found : (o : Option ModuleTree) → module_at (woven p i) at ≡ o → name_kind_at (module_at (woven p i) at) x ≡ a_variable role type → IsVariable (woven p i) at x role type
-      found None e k = let bad : undeclared ≡ a_variable role type = ap (λ o. name_kind_at o x) (sym e) ∙ k in cc
-      found (Some n) e k = (n, e, ap (λ o. name_kind_at o x) (sym e) ∙ k)
+  variable_woven at x role type h = variable_there (woven p i) at x role type (read_variable p i ok at h.0 x role type h.1 h.2)
 
 module _ (p : ProgramTree) (i : InstructionTree) (ok : IsWeavable p i) (m w : FlatModel) (walkable : IsWalkable p) (also : IsWalkable (woven p i)) (is : IsFlatOf p m) (iw : IsFlatOf (woven p i) w) where
   -- definitions with numbers below this one are judged the same in both

@@ -1,22 +1,20 @@
 -- The kinds of constants and domains of types that break no rule.
-use Rattle.std.proofs.Common.{◌≡◌, ◌⊎◌, inl, inr, Bool, true, false, List, [], ◌∷◌, ◌++◌, map, flat_map, Option, Some, None, ℤ, int_lt, refl, ap, sym, ◌∙◌, subst}
-use Rattle.std.specs.Prelude.{not, ◌||◌, ◌&&◌}
+use Rattle.std.proofs.Common.{◌≡◌, ◌⊎◌, inl, inr, Bool, true, false, List, [], ◌∷◌, ◌++◌, map, flat_map, Some, ℤ, int_lt, refl, ap, sym, ◌∙◌, subst}
 use Rattle.xs_tree.specs.declared.program.Member.{Member}
 use Rattle.xs_tree.specs.declared.program.Member.TheVariants as member
-use Rattle.xs_tree.specs.Tree.{Tree, truth as is_truth, set_of}
 use Rattle.xs_tree.specs.Laws.{AllLeaves, AllLeavesOfTrees}
-use Rattle.xs_tree.specs.ProgramTree.{Text, Path, Formula, DeclaredTree, boolean, range, members, instance}
+use Rattle.xs_tree.specs.ProgramTree.{Text, Path, DeclaredTree, boolean, range, members, instance}
 use Rattle.xs_tree.specs.Texts.{same_text}
 use Rattle.xs_tree.specs.Values.{Value, truth, number, symbol, same_int}
 use Rattle.xs_tree.specs.Trace.{Each, is_member, in_domain}
 use Rattle.xs_tree.proofs.ValueLaws.{both_true, same_text_equal, same_int_equal}
 use Rattle.xs_effects.specs.Templates.{value_tree, member_value, member_trees, domain_tree}
 use Rattle.xs_kinds.specs.Intervals.{Interval, just, fits_number, fits}
-use Rattle.xs_kinds.specs.Judged.{Class, truth_class, number_class, symbol_class, Kind, KindRule, mixed_enum, double_member, empty_range, too_wide, rule_if, unless_class, wide, where_kept, first_class, hull_of, kinds_in, one_value, Judged, judge, judge_trees}
+use Rattle.xs_kinds.specs.Judged.{Class, number_class, symbol_class, Kind, mixed_enum, double_member, empty_range, rule_if, unless_class, wide, where_kept, first_class, kinds_in, judge, judge_trees}
 use Rattle.xs_kinds.specs.Declared.{member_kind, has_double, judged_declared}
 use Rattle.xs_kinds.proofs.Parts.{none_first, none_second, not_if, class_kept, wide_bounded, or_true}
 use Rattle.xs_woven_kinds.proofs.Rightly.{Rightly, set_right, span_right}
-use Rattle.xs_woven_kinds.proofs.Numbers.{numbers_in, numbers_right, between_fits, number_judged}
+use Rattle.xs_woven_kinds.proofs.Numbers.{numbers_right, between_fits, number_judged}
 
 -- the class of a type's values
 abbrev pub class_of : DeclaredTree → Class

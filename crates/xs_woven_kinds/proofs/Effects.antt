@@ -1,26 +1,26 @@
 -- What the templates of a slice are judged as, where its names have the kinds that they are to have.
-use Rattle.std.proofs.Common.{◌≡◌, Bool, true, false, List, [], ◌∷◌, ◌++◌, map, Option, Some, None, ℤ, ◌+ℤ◌, ◌-ℤ◌, refl, ap, sym, ◌∙◌, subst}
+use Rattle.std.proofs.Common.{◌≡◌, Bool, true, false, [], ◌∷◌, Some, None, ℤ, ◌+ℤ◌, ◌-ℤ◌, refl, ap, ◌∙◌}
 use Rattle.std.specs.Prelude.{◌&&◌}
 use Rattle.xs_tree.specs.declared.expr.Op.TheVariants as op
-use Rattle.xs_tree.specs.Tree.{Tree, Trees, Branches, truth as is_truth, leaf, not_of, negate, next_of, binary, choice, case_of, set_of, no_tree, tree_then, no_branch, branch_then}
-use Rattle.xs_tree.specs.Laws.{AllLeaves, AllLeavesOfTrees, AllLeavesOfBranches}
+use Rattle.xs_tree.specs.Tree.{next_of, binary}
+use Rattle.xs_tree.specs.Laws.{AllLeaves}
 use Rattle.xs_tree.specs.ProgramTree.{Text, Path, Formula, DeclaredTree, boolean, range, members, instance, SectionTree, invar, trans}
-use Rattle.xs_tree.specs.Values.{Value, truth, number, symbol, at_most, is_between}
+use Rattle.xs_tree.specs.Values.{number, at_most, is_between}
 use Rattle.xs_tree.specs.Trace.{Each, in_domain}
 use Rattle.xs_tree.proofs.ValueLaws.{both_true}
 use Rattle.xs_fei.specs.Instructions.{EffectTree, stuck_at, follows, inverted, random, erroneous, frozen, stuck_at_pick, offset, ramp_down, ModeTree, SliceTree}
 use Rattle.xs_effects.specs.AddedNames.{ModeState, own_name, mode_variable, mode_symbol}
 use Rattle.xs_effects.specs.Types.{IsKnown}
-use Rattle.xs_effects.specs.Templates.{named, number_tree, value_tree, domain_tree, clipped_tree, branch, greater_tree, stands, stands_next, stays_tree, erroneous_rule, frozen_rule, pick_rule, ramp_rule, rules}
+use Rattle.xs_effects.specs.Templates.{named, number_tree, clipped_tree, branch, greater_tree, stands, stands_next, stays_tree, rules}
 use Rattle.xs_effects.specs.declared.fault.EffectFault.{EffectFault}
-use Rattle.xs_effects.specs.declared.fault.EffectFault.TheVariants.{WrongKind, Outside, OneValueOnly}
-use Rattle.xs_effects.specs.Allowed.{is_small, offset_fits, ramp_fits, fault_unless, constant_fault, is_of_kind, has_two_values, inverted_fault, fault_of}
-use Rattle.xs_kinds.specs.Intervals.{Interval, just, sum_of, difference_of, fits_number, fits}
-use Rattle.xs_kinds.specs.Judged.{Class, truth_class, number_class, symbol_class, Kind, KindRule, Judged, judged_number, judged_same, judge}
+use Rattle.xs_effects.specs.declared.fault.EffectFault.TheVariants.{Outside}
+use Rattle.xs_effects.specs.Allowed.{is_small, offset_fits, ramp_fits, fault_unless, constant_fault, is_of_kind, fault_of}
+use Rattle.xs_kinds.specs.Intervals.{Interval, just, sum_of, difference_of, fits}
+use Rattle.xs_kinds.specs.Judged.{Class, truth_class, number_class, symbol_class, Kind, Judged, judged_number, judge}
 use Rattle.xs_kinds.specs.Declared.{judged_declared}
 use Rattle.xs_woven_kinds.proofs.Rightly.{Rightly, not_right, connective_right, order_right, same_right, choice_right, choice_alone}
 use Rattle.xs_woven_kinds.proofs.Numbers.{numbers_in, numbers_right, small_fits, between_fits, number_judged, sum_judged, difference_judged}
-use Rattle.xs_woven_kinds.proofs.Domains.{class_of, RangeKept, range_kept, range_kind, MembersKnown, domain_right, value_right}
+use Rattle.xs_woven_kinds.proofs.Domains.{class_of, range_kept, range_kind, MembersKnown, domain_right, value_right}
 
 -- no fault
 pub unless_none : (b : Bool) (f : EffectFault) → fault_unless b f ≡ None → b ≡ true
@@ -30,10 +30,6 @@ unless_none false f e = cc
 constant_within : (a b : Bool) → constant_fault a b ≡ None → b ≡ true
 constant_within false b e = cc
 constant_within true b e = unless_none b Outside e
-
--- a leaf of this kind
-leaf_of : Kind → Judged
-leaf_of k = record { kind = k; is_set = false; broken = [] }
 
 module _ (K : Path → Kind) (P : Path → Type 0) where
   -- the names of a slice have the kinds that they are to have
@@ -159,7 +155,7 @@ module _ (K : Path → Kind) (P : Path → Type 0) where
   rules_right random s type mode kinds known a = tt
   rules_right erroneous s type mode kinds known a = (
     λ h. connective_right (judge K false (stands s.name mode)) (judge K false (binary op.Differs (named s.target) (named (own_name s.target)))) (stands_right s type kinds mode known h.0)
-    (same_right (class_of type) (judge K false (named s.target)) (judge K false (named (own_name s.target))) (target_right s type kinds false h.1.0) (own_right s type kinds false h.1.1)),
+        (same_right (class_of type) (judge K false (named s.target)) (judge K false (named (own_name s.target))) (target_right s type kinds false h.1.0) (own_right s type kinds false h.1.1)),
     tt,
   )
   rules_right frozen s type mode kinds known a = (
@@ -168,17 +164,17 @@ module _ (K : Path → Kind) (P : Path → Type 0) where
   )
   rules_right stuck_at_pick s type mode kinds known a = (
     λ h. connective_right (judge K false (binary op.And (stands s.name mode) (stands_next s.name mode))) (judge K false (stays_tree s.target))
-    (connective_right (judge K false (stands s.name mode)) (judge K false (stands_next s.name mode)) (stands_right s type kinds mode known h.0.0) (stands_next_right s type kinds mode known h.0.1))
-    (stays_right s type kinds h.1),
+        (connective_right (judge K false (stands s.name mode)) (judge K false (stands_next s.name mode)) (stands_right s type kinds mode known h.0.0) (stands_next_right s type kinds mode known h.0.1))
+        (stays_right s type kinds h.1),
     tt,
   )
   rules_right (offset d) s type mode kinds known a = tt
   rules_right (ramp_down d f) s boolean mode kinds known a = cc
   rules_right (ramp_down d f) s (range lo hi) mode kinds known a = (
     λ h. connective_right (judge K false (stands_next s.name mode)) (judge K false (binary op.Equal (next_of (named s.target)) (greater_tree (binary op.Minus (named s.target) (number_tree d)) f)))
-    (stands_next_right s (range lo hi) kinds mode known h.0)
-    (same_right number_class (judge K false (named s.target)) (judge K false (greater_tree (binary op.Minus (named s.target) (number_tree d)) f)) (target_right s (range lo hi) kinds false h.1.0)
-    (greater_right s lo hi kinds d f (unless_none (ramp_fits d f lo hi) Outside a) h.1.1)),
+        (stands_next_right s (range lo hi) kinds mode known h.0)
+        (same_right number_class (judge K false (named s.target)) (judge K false (greater_tree (binary op.Minus (named s.target) (number_tree d)) f)) (target_right s (range lo hi) kinds false h.1.0)
+        (greater_right s lo hi kinds d f (unless_none (ramp_fits d f lo hi) Outside a) h.1.1)),
     tt,
   )
   rules_right (ramp_down d f) s (members ms) mode kinds known a = cc

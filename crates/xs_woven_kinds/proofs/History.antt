@@ -1,15 +1,15 @@
 -- A model with the history of its modes breaks no rule at an item where the model breaks none.
-use Rattle.std.proofs.Common.{◌≡◌, ℕ, zero, suc, ◌+◌, ◌<◌, ◌≤◌, arith, Bool, true, false, List, [], ◌∷◌, ◌++◌, length, map, flat_map, Option, Some, None, refl, sym, ap, ◌∙◌, subst}
+use Rattle.std.proofs.Common.{◌≡◌, ℕ, zero, suc, ◌+◌, ◌<◌, arith, false, List, [], ◌∷◌, ◌++◌, length, map, Some, refl, sym, ap, ◌∙◌, subst}
 use Rattle.std.specs.Prelude.{slice_get}
 use Rattle.xs_tree.specs.declared.expr.Op.TheVariants as op
-use Rattle.xs_tree.specs.Tree.{Tree, leaf, next_of, binary}
+use Rattle.xs_tree.specs.Tree.{Tree, leaf, binary}
 use Rattle.xs_tree.specs.ProgramTree.{boolean}
 use Rattle.xs_tree.specs.Trace.{Each}
 use Rattle.xs_flattening.specs.Flat.{FlatLeaf, flat_variable, flat_symbol, flat_definition, FlatVariable, FlatFormula, FlatModel}
 use Rattle.xs_flattening.specs.History.{Mode, stands_now, stands_next, bit_variables, bits_at_first, bits_at_step, bit_at_first, bit_at_step, with_history}
 use Rattle.xs_flattening.proofs.Conditions.{each_join}
 use Rattle.xs_flattening.proofs.Lists.{get_left, length_end}
-use Rattle.xs_kinds.specs.Judged.{Class, truth_class, symbol_class, Kind, Judged, judge}
+use Rattle.xs_kinds.specs.Judged.{Class, truth_class, symbol_class, Judged, judge}
 use Rattle.xs_kinds.specs.Declared.{judged_declared}
 use Rattle.xs_kinds.specs.Laws.{IsKnown, ReadsOwn, AreInOrder, ReadOwn, IsClosed}
 use Rattle.xs_kinds.specs.Models.{kind_at, leaf_kind, judged_variables, judged_after, judged_definitions, kind_of_leaf, judged_in, broken_condition, breaches_at, condition_breaches, breaches}
@@ -18,7 +18,7 @@ use Rattle.xs_kinds.proofs.Parts.{none_first, none_second}
 use Rattle.xs_woven_kinds.specs.Modes.{HasSymbols}
 use Rattle.xs_woven_kinds.proofs.Rightly.{Rightly, none_joined, condition_right, connective_right, same_right}
 use Rattle.xs_woven_kinds.proofs.Leaves.{get_map}
-use Rattle.xs_woven_kinds.proofs.Items.{AreKept, parts_of, none_broken}
+use Rattle.xs_woven_kinds.proofs.Items.{parts_of, none_broken}
 
 -- What is judged of the first variables stays with more.
 same_below : {A B : Type 0} (f : A → B) (xs ys : List A) (i : ℕ) → i < length xs → slice_get (map f (xs ++ ys)) i ≡ slice_get (map f xs) i

@@ -1,9 +1,8 @@
 -- A model breaks no rule where its variables, its definitions and the conditions at its instances do not.
-use Rattle.std.proofs.Common.{◌≡◌, ◌↔◌, ℕ, zero, suc, ◌+◌, ◌<◌, arith, Bool, false, List, [], ◌∷◌, ◌++◌, length, map, flat_map, Option, Some, None, refl, sym, ap, ◌∙◌, subst}
+use Rattle.std.proofs.Common.{◌≡◌, ◌↔◌, ℕ, arith, false, List, [], ◌∷◌, ◌++◌, length, flat_map, Some, refl, sym, ap, ◌∙◌, subst}
 use Rattle.std.specs.Prelude.{slice_get, codes}
-use Rattle.std.proofs.lemmas.Option.{slice_get_within}
 use Rattle.xs_tree.specs.Tree.{Tree}
-use Rattle.xs_tree.specs.ProgramTree.{Text, ModuleTree, ProgramTree}
+use Rattle.xs_tree.specs.ProgramTree.{ModuleTree, ProgramTree}
 use Rattle.xs_tree.specs.Scope.{Place, find_module}
 use Rattle.xs_tree.specs.Trace.{Each, IsInstance}
 use Rattle.xs_flattening.specs.Flat.{FlatLeaf, FlatInstance, FlatVariable, FlatFormula, FlatModel}
@@ -12,7 +11,6 @@ use Rattle.xs_flattening.specs.Resolved.{Resolver}
 use Rattle.xs_flattening.specs.Rules.{IsWalkable}
 use Rattle.xs_flattening.specs.Model.{Condition, Written, written_at, conditions, IsConditionTree, IsFormulaOf, EachBoth}
 use Rattle.xs_flattening.proofs.Conditions.{iff_then, each_iff, each_at, each_from, each_flat, each_mapped}
-use Rattle.xs_flattening.proofs.Lists.{each_more}
 use Rattle.xs_flattening.proofs.Places.{are_instances}
 use Rattle.xs_flattening.proofs.Sections.{AreInstances, items_are}
 use Rattle.xs_flattening.proofs.Walkable.{main_is_there}

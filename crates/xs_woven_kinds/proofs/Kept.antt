@@ -1,12 +1,12 @@
 -- The items of a program break no rule in the woven program's flat model.
-use Rattle.std.proofs.Common.{◌≡◌, ◌⊎◌, inl, inr, ℕ, Bool, true, false, List, [], ◌∷◌, ◌++◌, map, flat_map, Option, Some, None, refl, sym, ap, ◌∙◌, subst}
-use Rattle.std.specs.Prelude.{slice_get, if◌then◌else◌}
+use Rattle.std.proofs.Common.{◌≡◌, ◌⊎◌, inl, inr, ℕ, Bool, true, false, List, [], ◌∷◌, ◌++◌, map, flat_map, refl, sym, ap, ◌∙◌, subst}
+use Rattle.std.specs.Prelude.{if◌then◌else◌}
+use Rattle.std.proofs.lemmas.List.{append_assoc}
 use Rattle.xs_tree.specs.declared.program.Moment.{Moment}
 use Rattle.xs_tree.specs.declared.program.Moment.TheVariants.{Always, First, After}
-use Rattle.xs_tree.specs.declared.expr.Op.TheVariants as op
-use Rattle.xs_tree.specs.Tree.{Tree, leaf, next_of, binary}
+use Rattle.xs_tree.specs.Tree.{Tree}
 use Rattle.xs_tree.specs.ProgramTree.{Text, Path, Formula, DeclaredTree, boolean, range, members, instance, SectionTree, var, ivar, frozen, define, constants, assign, init, invar, trans, ModuleTree, ProgramTree}
-use Rattle.xs_tree.specs.Scope.{Place, Role, state, Kind as NameKind, a_variable, kind_declared, kind_in, kind_at as name_kind_at, module_at}
+use Rattle.xs_tree.specs.Scope.{Place, state, a_variable, kind_declared, kind_at as name_kind_at, module_at}
 use Rattle.xs_tree.specs.Trace.{Each, IsInstance, IsVariable}
 use Rattle.xs_fei.specs.Instructions.{SliceTree, InstructionTree, slices_of, is_affected}
 use Rattle.xs_effects.specs.AddedNames.{own_name}
@@ -14,19 +14,19 @@ use Rattle.xs_weave.specs.Woven.{type_of_kind, tree_map_both, rename, same_path,
 use Rattle.xs_weave.specs.Weavable.{Among, IsFinite, IsLawfulSlice, IsWeavable}
 use Rattle.xs_weave.proofs.Added.{affected_slice}
 use Rattle.xs_weave.proofs.LeafValues.{own_variable}
-use Rattle.xs_flattening.specs.Flat.{FlatLeaf, flat_variable, FlatVariable, FlatModel}
+use Rattle.xs_flattening.specs.Flat.{FlatLeaf, flat_variable, FlatModel}
 use Rattle.xs_flattening.specs.Items.{Item, a_declaration, a_definition, an_assignment, some_constants, an_init, an_invar, a_trans, items_of_section}
 use Rattle.xs_flattening.specs.Resolved.{IsResolved}
 use Rattle.xs_flattening.specs.Rules.{IsWalkable}
-use Rattle.xs_flattening.specs.Model.{Condition, plain, now_among, next_among, kept, assigned_first, assigned_each, assigned_step, first_conditions, each_conditions, step_conditions, IsVariableNumber, IsAmong, same_tree, next_tree, IsFlatOf}
+use Rattle.xs_flattening.specs.Model.{Condition, plain, now_among, next_among, assigned_first, assigned_each, assigned_step, first_conditions, each_conditions, step_conditions, IsVariableNumber, IsFlatOf}
 use Rattle.xs_flattening.proofs.Lists.{map_joined}
-use Rattle.xs_kinds.specs.Judged.{Kind, Judged, judged_same, judge}
+use Rattle.xs_kinds.specs.Judged.{Kind, Judged, judged_same}
 use Rattle.xs_kinds.specs.Declared.{judged_declared}
 use Rattle.xs_kinds.specs.Models.{kind_of_leaf, judged_in, broken_condition}
 use Rattle.xs_woven_kinds.proofs.Leaves.{kind_given, HasLeaf, resolved_judged, has_leaves, one_type, declared_so, variable_kind}
-use Rattle.xs_woven_kinds.proofs.Definitions.{variable_woven, same_kind, written_agrees}
+use Rattle.xs_woven_kinds.proofs.Definitions.{variable_there, variable_woven, same_kind, written_agrees}
 use Rattle.xs_woven_kinds.proofs.Items.{IsKeptAt, KeepsAt}
-use Rattle.xs_woven_kinds.proofs.Renamed.{variable_there, name_variable, KeepsKinds, judge_both}
+use Rattle.xs_woven_kinds.proofs.Renamed.{name_variable, KeepsKinds, judge_both}
 
 -- The items of a woven section are the section's items, woven.
 abbrev pub woven_item : (Text → Bool) → Item → Item
@@ -57,17 +57,13 @@ section_items affected (init e) = refl
 section_items affected (invar e) = refl
 section_items affected (trans e) = refl
 
-joined_again : {A : Type 0} (xs ys zs : List A) → (xs ++ ys) ++ zs ≡ xs ++ (ys ++ zs)
-joined_again [] ys zs = refl
-joined_again (x ∷ xs) ys zs = ap (λ l. x ∷ l) (joined_again xs ys zs)
-
 pub woven_items : (affected : Text → Bool) (ss ts : List SectionTree) →
     flat_map items_of_section (map (woven_section affected) ss ++ ts) ≡ map (woven_item affected) (flat_map items_of_section ss) ++ flat_map items_of_section ts
 woven_items affected [] ts = refl
 woven_items affected (s ∷ ss) ts =
     ap (λ l. l ++ flat_map items_of_section (map (woven_section affected) ss ++ ts)) (section_items affected s)
     ∙ ap (λ l. map (woven_item affected) (items_of_section s) ++ l) (woven_items affected ss ts)
-    ∙ sym (joined_again (map (woven_item affected) (items_of_section s)) (map (woven_item affected) (flat_map items_of_section ss)) (flat_map items_of_section ts))
+    ∙ sym (append_assoc (map (woven_item affected) (items_of_section s)) (map (woven_item affected) (flat_map items_of_section ss)) (flat_map items_of_section ts))
     ∙ ap (λ l. l ++ flat_map items_of_section ts) (sym (map_joined (woven_item affected) (items_of_section s) (flat_map items_of_section ss)))
 
 -- what is asked at first, at each moment and at each step

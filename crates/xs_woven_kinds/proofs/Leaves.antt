@@ -1,8 +1,7 @@
 -- The kinds of a program's names, by what resolves them in its flat model.
-use Rattle.std.proofs.Common.{◌≡◌, ℕ, zero, suc, ◌+◌, ◌<◌, arith, Bool, false, List, [], ◌∷◌, ◌++◌, length, map, flat_map, Option, Some, None, refl, sym, ap, ◌∙◌, subst}
+use Rattle.std.proofs.Common.{◌≡◌, ℕ, zero, suc, ◌+◌, arith, Bool, false, List, [], ◌∷◌, ◌++◌, length, map, Option, Some, None, refl, sym, ap, ◌∙◌, subst}
 use Rattle.std.specs.Prelude.{slice_get, codes}
 use Rattle.xs_tree.specs.Tree.{Tree, Trees, Branches, truth as is_truth, number as is_number, leaf, not_of, negate, next_of, binary, choice, case_of, set_of, span, no_tree, tree_then, no_branch, branch_then}
-use Rattle.xs_tree.specs.Leaves.{tree_map}
 use Rattle.xs_tree.specs.Laws.{AllLeaves, AllLeavesOfTrees, AllLeavesOfBranches}
 use Rattle.xs_tree.specs.ProgramTree.{Text, Path, Formula, DeclaredTree, ModuleTree, ProgramTree}
 use Rattle.xs_tree.specs.Scope.{Place, Role, a_variable, kind_in, find_module}
@@ -11,12 +10,12 @@ use Rattle.xs_flattening.specs.Flat.{FlatLeaf, flat_variable, flat_symbol, flat_
 use Rattle.xs_flattening.specs.Items.{Visit, visits, variables_of}
 use Rattle.xs_flattening.specs.Resolved.{leaves_in, IsResolved, IsBefore}
 use Rattle.xs_flattening.specs.Rules.{IsWalkable}
-use Rattle.xs_flattening.specs.Model.{EachBoth, IsVariableOf, IsVariableNumber, IsFlatOf}
+use Rattle.xs_flattening.specs.Model.{IsVariableOf, IsVariableNumber, IsFlatOf}
 use Rattle.xs_flattening.proofs.Conditions.{each_at}
 use Rattle.xs_flattening.proofs.Lists.{each_more, get_end, get_within, length_end}
 use Rattle.xs_flattening.proofs.Places.{has_main}
 use Rattle.xs_flattening.proofs.Resolving.{Known, names_known}
-use Rattle.xs_flattening.proofs.Variables.{variables_are, both_at_second}
+use Rattle.xs_flattening.proofs.Variables.{both_at_second}
 use Rattle.xs_flattening.proofs.Walkable.{main_is_there}
 use Rattle.xs_kinds.specs.Judged.{Kind, Judged, truth_class, judge}
 use Rattle.xs_kinds.specs.Declared.{judged_declared}
@@ -103,7 +102,7 @@ after_at vs (f ∷ ds) js zero d e =
       js,
       none,
       subst (λ n. slice_get (judged_after vs js (f ∷ ds)) n ≡ Some (judge (leaf_kind vs js) false d.value)) none
-      (after_keeps vs (js ++ j ∷ []) ds (length js) (judge (leaf_kind vs js) false d.value) (get_end js j ∙ ap (λ (g : FlatFormula). Some (judge (leaf_kind vs js) false g.value)) same)),
+          (after_keeps vs (js ++ j ∷ []) ds (length js) (judge (leaf_kind vs js) false d.value) (get_end js j ∙ ap (λ (g : FlatFormula). Some (judge (leaf_kind vs js) false g.value)) same)),
       after_keeps vs js (f ∷ ds),
     )
 after_at vs (f ∷ ds) js (suc k) d e =

@@ -1,7 +1,7 @@
 -- What the cases of a slice are judged as: how its mode moves, and what is read.
-use Rattle.std.proofs.Common.{◌≡◌, Bool, true, false, List, [], ◌∷◌, Option, Some, None, refl, ap, sym, ◌∙◌, subst}
+use Rattle.std.proofs.Common.{◌≡◌, true, false, List, [], ◌∷◌, Option, Some, None, refl}
 use Rattle.xs_tree.specs.declared.expr.Op.TheVariants as op
-use Rattle.xs_tree.specs.Tree.{Tree, Branches, truth as is_truth, binary, choice, case_of, set_of, no_tree, tree_then, no_branch, branch_then}
+use Rattle.xs_tree.specs.Tree.{Branches, binary, choice, case_of, no_branch, branch_then}
 use Rattle.xs_tree.specs.Laws.{AllLeaves, AllLeavesOfBranches}
 use Rattle.xs_tree.specs.ProgramTree.{Text, Path, Formula, DeclaredTree}
 use Rattle.xs_tree.specs.Trace.{Each}
@@ -10,8 +10,8 @@ use Rattle.xs_fei.specs.declared.instructions.Dynamics.TheVariants.{Permanent, T
 use Rattle.xs_fei.specs.Instructions.{ModeTree, SliceTree}
 use Rattle.xs_effects.specs.AddedNames.{mode_symbol, own_name}
 use Rattle.xs_effects.specs.Types.{IsKnown}
-use Rattle.xs_effects.specs.Templates.{named, branch, stands}
-use Rattle.xs_kinds.specs.Judged.{Class, truth_class, symbol_class, Kind, Judged, first_class, kinds_in, ends_in_true, judge, judge_conditions, judge_values}
+use Rattle.xs_effects.specs.Templates.{named, branch}
+use Rattle.xs_kinds.specs.Judged.{Class, truth_class, symbol_class, Kind, ends_in_true, judge, judge_conditions, judge_values}
 use Rattle.xs_weave.specs.Woven.{mode_branches, set_one, guard_formula, entries_from, entries, stay_branch, moves_tree, read_tree}
 use Rattle.xs_woven_kinds.proofs.Rightly.{Rightly, set_right, union_right, choice_right, case_right}
 use Rattle.xs_woven_kinds.proofs.Domains.{class_of}

@@ -1,16 +1,16 @@
 -- The kinds of the number trees of templates.
-use Rattle.std.proofs.Common.{◌≡◌, ℕ, suc, ◌^◌, ◌<◌, ◌≤◌, Bool, true, false, ltb-true, lt-ltb, eqb-true, eq-eqb, arith, List, [], ◌∷◌, Option, Some, None, ℤ, pos, negsuc, ◌+ℤ◌, ◌-ℤ◌, ◌≤ℤ◌, int_lt, refl, ap, sym, ◌∙◌, subst}
-use Rattle.std.specs.Prelude.{nat_lt, nat_eq, not, ◌&&◌, if◌then◌else◌}
+use Rattle.std.proofs.Common.{◌≡◌, ℕ, suc, ◌^◌, ◌<◌, Bool, true, false, ltb-true, lt-ltb, eqb-true, eq-eqb, arith, [], Some, ℤ, pos, negsuc, ◌-ℤ◌, ◌≤ℤ◌, int_lt, refl, ap, sym, ◌∙◌}
+use Rattle.std.specs.Prelude.{nat_eq, not, if◌then◌else◌}
 use Rattle.std.proofs.lemmas.Int.{ints}
 use Rattle.xs_tree.specs.declared.expr.Op.TheVariants as op
-use Rattle.xs_tree.specs.Tree.{Tree, number as is_number, negate, binary}
-use Rattle.xs_tree.specs.ProgramTree.{Path, Formula}
-use Rattle.xs_tree.specs.Values.{Value, number, at_most, opposite, is_between}
+use Rattle.xs_tree.specs.Tree.{number as is_number, negate, binary}
+use Rattle.xs_tree.specs.ProgramTree.{Path}
+use Rattle.xs_tree.specs.Values.{number, at_most, opposite, is_between}
 use Rattle.xs_tree.proofs.ValueLaws.{both_true}
 use Rattle.xs_effects.specs.Allowed.{is_small}
 use Rattle.xs_effects.specs.Templates.{number_tree}
-use Rattle.xs_kinds.specs.Intervals.{Interval, just, sum_of, difference_of, negative_of, fits_number, fits}
-use Rattle.xs_kinds.specs.Judged.{Class, number_class, Kind, KindRule, too_wide, mismatch, rule_if, wide, where_kept, one_value, Judged, judged_number, judged_negative, judge}
+use Rattle.xs_kinds.specs.Intervals.{Interval, just, sum_of, difference_of, fits_number, fits}
+use Rattle.xs_kinds.specs.Judged.{number_class, Kind, too_wide, rule_if, wide, one_value, Judged, judged_number, judged_negative, judge}
 use Rattle.xs_woven_kinds.proofs.Rightly.{Rightly}
 
 -- numbers of this interval, with no rule broken

@@ -1,26 +1,20 @@
 -- The kinds of single names, and of expressions with their occurrences renamed.
-use Rattle.std.proofs.Common.{◌≡◌, ℕ, zero, suc, Bool, true, false, List, [], ◌∷◌, Option, Some, None, refl, sym, ap, ◌∙◌, subst}
+use Rattle.std.proofs.Common.{◌≡◌, ℕ, zero, suc, Bool, true, false, [], ◌∷◌, Some, None, refl, ap, ◌∙◌, subst}
 use Rattle.std.specs.Prelude.{if◌then◌else◌}
 use Rattle.xs_tree.specs.Tree.{Tree, Trees, Branches, truth as is_truth, number as is_number, leaf, not_of, negate, next_of, binary, choice, case_of, set_of, span, no_tree, tree_then, no_branch, branch_then}
 use Rattle.xs_tree.specs.Laws.{AllLeaves, AllLeavesOfTrees, AllLeavesOfBranches}
-use Rattle.xs_tree.specs.ProgramTree.{Text, Path, Formula, DeclaredTree, boolean, range, members, instance, ModuleTree, ProgramTree}
-use Rattle.xs_tree.specs.Scope.{Place, Role, state, Kind as NameKind, a_variable, undeclared, kind_declared, kind_in, kind_at as name_kind_at, module_at, Meaning, a_variable_at, a_symbol, Means, means_in, is_symbol}
-use Rattle.xs_tree.specs.Trace.{IsInstance, IsVariable}
-use Rattle.xs_fei.specs.Instructions.{SliceTree, InstructionTree, slices_of, is_affected}
-use Rattle.xs_effects.specs.AddedNames.{own_name}
-use Rattle.xs_weave.specs.Woven.{type_of_kind, tree_map_both, trees_map_both, branches_map_both, rename, same_path, woven}
-use Rattle.xs_weave.specs.Weavable.{Among, IsFinite, IsWeavable}
-use Rattle.xs_weave.proofs.Added.{affected_slice}
-use Rattle.xs_weave.proofs.LeafValues.{own_variable}
-use Rattle.xs_flattening.specs.Flat.{FlatLeaf, FlatModel}
-use Rattle.xs_flattening.specs.Resolved.{StandsFor, IsLeafOf, Resolver, IsSound, IsResolved}
+use Rattle.xs_tree.specs.ProgramTree.{Text, DeclaredTree, ProgramTree}
+use Rattle.xs_tree.specs.Scope.{Place, Role, a_variable, undeclared, kind_at as name_kind_at, module_at, Meaning, a_variable_at, a_symbol, means_in, is_symbol}
+use Rattle.xs_weave.specs.Woven.{tree_map_both, trees_map_both, branches_map_both}
+use Rattle.xs_flattening.specs.Flat.{FlatModel}
+use Rattle.xs_flattening.specs.Resolved.{StandsFor, IsLeafOf, Resolver, IsSound}
 use Rattle.xs_flattening.specs.Rules.{IsWalkable}
 use Rattle.xs_flattening.specs.Model.{IsFlatOf}
-use Rattle.xs_kinds.specs.Judged.{Kind, Judged, symbol_class, is_word_true, ends_in_true, judge, judge_trees, judge_conditions, judge_values}
+use Rattle.xs_kinds.specs.Judged.{Kind, symbol_class, is_word_true, ends_in_true, judge, judge_trees, judge_conditions, judge_values}
 use Rattle.xs_kinds.specs.Declared.{judged_declared}
-use Rattle.xs_kinds.specs.Models.{kind_of_leaf, judged_in}
-use Rattle.xs_woven_kinds.proofs.Leaves.{kind_given, HasLeaf, resolved_judged, has_leaves, variable_kind}
-use Rattle.xs_woven_kinds.proofs.Definitions.{for_variable, for_symbol, same_kind}
+use Rattle.xs_kinds.specs.Models.{kind_of_leaf}
+use Rattle.xs_woven_kinds.proofs.Leaves.{kind_given, HasLeaf, variable_kind}
+use Rattle.xs_woven_kinds.proofs.Definitions.{variable_there, for_variable, for_symbol}
 
 -- What a single name means.
 means_variable : (n : ℕ) (q : ProgramTree) (at : Place) (x : Text) (role : Role) (type : DeclaredTree) (meaning : Meaning) → name_kind_at (module_at q at) x ≡ a_variable role type →
@@ -35,14 +29,6 @@ means_symbol (suc n) q at x meaning e h = by (is_symbol q x) (rw e at h)
     by : (b : Bool) → (if b then Some (a_symbol x) else None) ≡ Some meaning → meaning ≡ a_symbol x
     by true g = cc
     by false g = cc
-
-kind_there : (q : ProgramTree) (at : Place) (x : Text) (role : Role) (type : DeclaredTree) (o : Option ModuleTree) → module_at q at ≡ o → name_kind_at (module_at q at) x ≡ a_variable role type → IsVariable q at x role type
-kind_there q at x role type None e k = let bad : undeclared ≡ a_variable role type = ap (λ o. name_kind_at o x) (sym e) ∙ k in cc
-kind_there q at x role type (Some n) e k = (n, e, ap (λ o. name_kind_at o x) (sym e) ∙ k)
-
--- what the name of an instance is
-pub variable_there : (q : ProgramTree) (at : Place) (x : Text) (role : Role) (type : DeclaredTree) → name_kind_at (module_at q at) x ≡ a_variable role type → IsVariable q at x role type
-variable_there q at x role type k = kind_there q at x role type (module_at q at) refl k
 
 module _ (q : ProgramTree) (m : FlatModel) (walkable : IsWalkable q) (is : IsFlatOf q m) (r : Resolver) (sound : IsSound q m is.written r) where
   -- a variable's name has the kind of its type

@@ -1,8 +1,8 @@
 -- Parts that break no rule and have a class, and what is made of them.
-use Rattle.std.proofs.Common.{◌≡◌, Bool, true, false, not, ◌&&◌, ◌||◌, List, [], ◌∷◌, ◌++◌, flat_map, map, Option, Some, None, int_lt, ℤ, refl, ap, sym, ◌∙◌, subst}
+use Rattle.std.proofs.Common.{◌≡◌, Bool, true, false, not, ◌&&◌, ◌||◌, List, [], ◌∷◌, ◌++◌, flat_map, Option, Some, None, int_lt, ℤ, refl, ap, sym, ◌∙◌}
 use Rattle.xs_tree.specs.Trace.{Each}
 use Rattle.xs_kinds.specs.Intervals.{Interval, fits}
-use Rattle.xs_kinds.specs.Judged.{Class, truth_class, number_class, symbol_class, Kind, KindRule, mismatch, not_boolean, set_here, case_end, empty_range, too_wide, same_class, rule_if, unless_class, wide, joined, where_kept, one_value, some_values, Judged, judged_not, judged_connective, judged_order, judged_same, judged_union, judged_choice, judged_case, judged_set, judged_span, first_class, hull_of, unlike_first, kinds_in, broken_in, some_set}
+use Rattle.xs_kinds.specs.Judged.{Class, truth_class, number_class, symbol_class, Kind, KindRule, mismatch, not_boolean, set_here, case_end, empty_range, too_wide, same_class, rule_if, unless_class, wide, joined, one_value, some_values, Judged, judged_not, judged_connective, judged_order, judged_same, judged_union, judged_choice, judged_case, judged_set, judged_span, first_class, hull_of, unlike_first, kinds_in, broken_in, some_set}
 use Rattle.xs_kinds.specs.Models.{broken_condition}
 
 -- it breaks no rule, and has the class

@@ -1,25 +1,25 @@
 -- What the items of instructions say of a slice of a module and of its modes.
-use Rattle.std.proofs.Common.{◌≡◌, ◌≢◌, ◌⊎◌, inl, inr, ℕ, suc, Bool, true, false, List, [], ◌∷◌, ◌++◌, map, flat_map, Option, Some, None, refl, sym, ap, ◌∙◌, subst}
+use Rattle.std.proofs.Common.{◌≡◌, ◌≢◌, ◌⊎◌, inl, inr, Bool, true, false, List, [], ◌∷◌, ◌++◌, map, flat_map, Some, None, refl, ap, ◌∙◌, subst}
 use Rattle.std.specs.Prelude.{if◌then◌else◌, ◌||◌, codes}
-use Rattle.std.specs.List.{list_any}
 use Rattle.xs_tree.specs.declared.program.Member.{Member}
 use Rattle.xs_tree.specs.declared.program.Member.TheVariants as member
-use Rattle.xs_tree.specs.ProgramTree.{Text, DeclaredTree, members, ProgramTree}
+use Rattle.xs_tree.specs.ProgramTree.{Text, ProgramTree}
 use Rattle.xs_tree.specs.Texts.{same_text}
 use Rattle.xs_tree.specs.Trace.{Each}
 use Rattle.xs_tree.proofs.ValueLaws.{same_text_equal, same_text_refl}
-use Rattle.xs_fei.specs.Instructions.{ModeTree, SliceTree, ExtensionTree, InstructionTree, slices_from, slices_of}
+use Rattle.xs_fei.specs.Instructions.{ModeTree, SliceTree, ExtensionTree, slices_from}
 use Rattle.xs_effects.specs.AddedNames.{mode_symbol}
 use Rattle.xs_effects.proofs.AddedNameLaws.{mode_symbol_same, nominal_symbol_same}
-use Rattle.xs_kinds.specs.Judged.{Class, symbol_class, KindRule, mixed_enum, double_member, rule_if, unless_class, wide}
+use Rattle.xs_kinds.specs.Judged.{symbol_class, mixed_enum, double_member, rule_if, unless_class, wide}
 use Rattle.xs_kinds.specs.Declared.{member_kind, is_member_again, has_double, judged_declared}
 use Rattle.xs_weave.specs.Woven.{mode_type}
 use Rattle.xs_weave.specs.Weavable.{Among}
-use Rattle.xs_weave_rules.specs.Sites.{OwnedSlice, owned, Site, an_extension, a_slice, a_mode, mode_sites, slice_sites, extension_sites}
-use Rattle.xs_weave_rules.specs.Rules.{is_mode_name, broken_at}
+use Rattle.xs_weave_rules.specs.Sites.{OwnedSlice, owned, Site, a_slice, a_mode, mode_sites, slice_sites, extension_sites}
+use Rattle.xs_weave_rules.specs.Rules.{broken_at}
 use Rattle.xs_weave_rules.specs.FirstBroken.{AllKept}
 use Rattle.xs_weave_rules.proofs.KeptItems.{among_left, among_right}
 use Rattle.xs_weave_rules.proofs.KeptFacts.{ModeKept, mode_facts}
+use Rattle.xs_weave_rules.proofs.ProgramNames.{any_false}
 use Rattle.xs_flattening.proofs.Reaches.{each_left, each_right}
 use Rattle.xs_woven_kinds.proofs.Rightly.{none_joined}
 
@@ -82,19 +82,6 @@ text_differs x y h = by (same_text x y) refl
 or_none : (a b : Bool) → a ≡ false → b ≡ false → (a || b) ≡ false
 or_none a b e f = ap (λ c. c || b) e ∙ f
 
-first_none : (a b : Bool) → (a || b) ≡ false → a ≡ false
-first_none true b e = e
-first_none false b e = refl
-
-second_none : (a b : Bool) → (a || b) ≡ false → b ≡ false
-second_none true b e = cc
-second_none false b e = e
-
-not_named : (earlier : List ModeTree) (m : ModeTree) (x : Text) → is_mode_name earlier x ≡ false → Among earlier m → same_text m.name x ≡ false
-not_named [] m x e a = absurd a
-not_named (n ∷ earlier) m x e (inl f) = subst (λ k. same_text k.name x ≡ false) f (first_none (same_text n.name x) (is_mode_name earlier x) e)
-not_named (n ∷ earlier) m x e (inr a) = not_named earlier m x (second_none (same_text n.name x) (is_mode_name earlier x) e) a
-
 true_not_false : (b : Bool) → b ≡ true → b ≡ false → ⊥
 true_not_false b e f = cc
 
@@ -112,7 +99,7 @@ module _ (p : ProgramTree) (before : List OwnedSlice) (o : OwnedSlice) where
       apart : mode_symbol o.slice.name (Some m.name) ≢ mode_symbol o.slice.name (Some n.name)
       apart e =
           let facts : ModeKept p before o earlier n = mode_facts p before o earlier n kept.0 in
-          let other : same_text m.name n.name ≡ false = not_named earlier m n.name facts.name a in
+          let other : same_text m.name n.name ≡ false = any_false (λ k. same_text k.name n.name) earlier m facts.name a in
           true_not_false (same_text m.name n.name) (subst (λ x. same_text m.name x ≡ true) (mode_symbol_same o.slice.name m.name n.name e) (same_text_refl m.name)) other
 
   no_double : (earlier ms : List ModeTree) → AllKept (broken_at p) (mode_sites before o earlier ms) → has_double (map (symbol_of o.slice.name) ms) ≡ false

@@ -1,27 +1,26 @@
 -- The expressions of modes are judged in the woven program's flat model as they were, and the names of a slice have
 -- the kinds that its templates ask.
-use Rattle.std.proofs.Common.{◌≡◌, ◌≢◌, ◌⊎◌, inl, inr, ℕ, suc, Bool, true, false, List, [], ◌∷◌, ◌++◌, Option, Some, None, refl, sym, ap, ◌∙◌, subst}
-use Rattle.std.specs.Prelude.{slice_get, if◌then◌else◌, ◌||◌, codes}
+use Rattle.std.proofs.Common.{◌≡◌, inl, inr, ℕ, suc, true, false, List, [], ◌∷◌, ◌++◌, Option, Some, None, refl, sym, ap, ◌∙◌, subst}
+use Rattle.std.specs.Prelude.{slice_get, if◌then◌else◌}
 use Rattle.xs_tree.specs.declared.program.Member.{Member}
 use Rattle.xs_tree.specs.declared.program.Member.TheVariants as member
 use Rattle.xs_tree.specs.Tree.{Tree}
 use Rattle.xs_tree.specs.Laws.{AllLeaves}
-use Rattle.xs_tree.specs.ProgramTree.{Text, Path, Formula, DeclaredTree, members, ModuleTree, ProgramTree}
+use Rattle.xs_tree.specs.ProgramTree.{Text, Path, Formula, DeclaredTree, ModuleTree, ProgramTree}
 use Rattle.xs_tree.specs.Texts.{same_text}
-use Rattle.xs_tree.specs.Scope.{Place, Role, state, Kind as NameKind, a_variable, undeclared, kind_in, kind_at as name_kind_at, module_at, find_module, is_symbol, is_symbol_of_members, is_symbol_of_type}
+use Rattle.xs_tree.specs.Scope.{Place, Role, state, a_variable, undeclared, kind_in, kind_at as name_kind_at, module_at, find_module, is_symbol, is_symbol_of_members, is_symbol_of_type}
 use Rattle.xs_tree.specs.Trace.{Each, IsInstance, IsVariable}
 use Rattle.xs_tree.proofs.ValueLaws.{same_text_refl}
-use Rattle.xs_fei.specs.Instructions.{EffectTree, follows, ModeTree, SliceTree, InstructionTree, slices_of}
-use Rattle.xs_effects.specs.AddedNames.{ModeState, own_name, mode_variable, mode_symbol}
+use Rattle.xs_fei.specs.Instructions.{ModeTree, SliceTree, InstructionTree, slices_of}
+use Rattle.xs_effects.specs.AddedNames.{own_name, mode_variable, mode_symbol}
 use Rattle.xs_effects.specs.Allowed.{fault_of}
-use Rattle.xs_effects.specs.Types.{IsKnown}
 use Rattle.xs_weave.specs.Woven.{type_of_kind, mode_type, woven}
 use Rattle.xs_weave.specs.Weavable.{Among, IsFreeMember, SymbolsAreFree, IsLawfulSlice, IsWeavable}
 use Rattle.xs_weave.proofs.Declared.{or_true, variable_symbol}
 use Rattle.xs_weave.proofs.LeafValues.{instance_among, mode_variable_kind, symbol_kind, read_variable}
 use Rattle.xs_weave.proofs.Meanings.{Kept, kind_kept}
 use Rattle.xs_weave.proofs.WovenSlices.{mode_known}
-use Rattle.xs_weave_rules.specs.Sites.{OwnedSlice, owned, Site, an_extension, a_slice, a_mode, mode_sites, item_sites}
+use Rattle.xs_weave_rules.specs.Sites.{OwnedSlice, owned, Site, an_extension, a_slice, a_mode, item_sites}
 use Rattle.xs_weave_rules.specs.Rules.{target_kind, broken_at}
 use Rattle.xs_weave_rules.specs.FirstBroken.{AllKept}
 use Rattle.xs_weave_rules.proofs.KeptFacts.{mode_facts, instance_found}
@@ -33,21 +32,21 @@ use Rattle.xs_flattening.proofs.Conditions.{each_at, each_flat}
 use Rattle.xs_flattening.proofs.Kept.{module_named}
 use Rattle.xs_flattening.proofs.Reaches.{each_left, each_right}
 use Rattle.xs_flattening.proofs.Variables.{variables_are}
-use Rattle.xs_kinds.specs.Judged.{Class, truth_class, symbol_class, Kind, KindRule, mismatch, not_boolean, unless_class, Judged, judge}
+use Rattle.xs_kinds.specs.Judged.{Class, truth_class, Kind, KindRule, mismatch, not_boolean, unless_class, Judged, judge}
 use Rattle.xs_kinds.specs.Declared.{judged_declared}
 use Rattle.xs_kinds.specs.Models.{judged_in, least_after, least, breaches}
 use Rattle.xs_kinds.proofs.Flags.{same_judged}
 use Rattle.xs_kinds.proofs.Parts.{none_first, none_second, class_kept}
-use Rattle.xs_extending.specs.Uses.{Use, use_of_site, uses_from, uses_at, uses}
-use Rattle.xs_extending.specs.Expressions.{followed, IsForm, Forms, broken_by, class_of_followed, class_of_guard, or_else, kind_rule, KeepsUse, AllUsesKept}
+use Rattle.xs_extending.specs.Uses.{use_of_site, uses_from, uses_at}
+use Rattle.xs_extending.specs.Expressions.{followed, IsForm, broken_by, class_of_followed, class_of_guard, or_else, kind_rule, KeepsUse, AllUsesKept}
 use Rattle.xs_woven_kinds.proofs.Rightly.{Rightly}
 use Rattle.xs_woven_kinds.proofs.Domains.{class_of, MemberKnown}
 use Rattle.xs_woven_kinds.proofs.Effects.{SliceKinds, ModeKinds}
 use Rattle.xs_woven_kinds.proofs.Moves.{ModesJudged}
 use Rattle.xs_woven_kinds.proofs.Leaves.{kind_given, HasLeaf, one_type, declared_so}
-use Rattle.xs_woven_kinds.proofs.Definitions.{written_agrees}
-use Rattle.xs_woven_kinds.proofs.Items.{listed, one_module, AreKept, parts_of}
-use Rattle.xs_woven_kinds.proofs.Renamed.{variable_there, name_variable, name_symbol}
+use Rattle.xs_woven_kinds.proofs.Definitions.{variable_there, written_agrees}
+use Rattle.xs_woven_kinds.proofs.Items.{listed, one_module, parts_of}
+use Rattle.xs_woven_kinds.proofs.Renamed.{name_variable, name_symbol}
 use Rattle.xs_woven_kinds.proofs.Kept.{own_kind_at, target_kind_at}
 use Rattle.xs_woven_kinds.proofs.Sites.{SliceItems, slice_items, HasItem, mode_items}
 
@@ -103,17 +102,21 @@ module _ (p : ProgramTree) (m : FlatModel) where
       here : same_text o.owner x.module_name ≡ true → use_of_site p x n (a_mode before o earlier mode) ≡ record { place = x.place; item = n; type = type_of_kind (target_kind p o); mode = mode } ∷ []
       here e = ap (λ b. if b then record { place = x.place; item = n; type = type_of_kind (target_kind p o); mode = mode } ∷ [] else []) e
 
+-- the type of a variable breaks no rule
+pub type_right : (p : ProgramTree) (m : FlatModel) → IsWalkable p → IsFlatOf p m → breaches m ≡ [] → (at : Place) (x : Text) (role : Role) (type : DeclaredTree) → IsVariable p at x role type → (judged_declared type).broken ≡ []
+type_right p m walkable is right at x role type there =
+    let numbered : (j : ℕ) × (v : FlatVariable) × (slice_get m.variables j ≡ Some v) × (v.place ≡ at) × (v.name ≡ x) = (variables_are p walkable m is at x).0 (role, type, there) in
+    let v = numbered.1 in
+    let so : IsVariable p at x v.role v.declared = subst (λ a. IsVariable p a x v.role v.declared) numbered.3 (subst (λ y. IsVariable p v.place y v.role v.declared) numbered.4 (declared_so p m walkable is numbered.0 v numbered.2)) in
+    subst (λ t. (judged_declared t).broken ≡ []) (one_type p at x v.role role v.declared type so there)
+    (each_at (λ (y : FlatVariable). (judged_declared y.declared).broken ≡ []) m.variables numbered.0 v (parts_of m right).variables numbered.2)
+
+-- the items of a slice of a module break no rule
+pub kept_items : (p : ProgramTree) (i : InstructionTree) → AllKept (broken_at p) (item_sites i) → (k : ModuleTree) (s : SliceTree) → Among (slices_of i k.name) s → SliceItems (λ site. broken_at p site ≡ None) (owned k.name s)
+kept_items p i rules k s a = slice_items (λ site. broken_at p site ≡ None) [] i.extensions k.name s rules a
+
 module _ (p : ProgramTree) (i : InstructionTree) (ok : IsWeavable p i) (m w : FlatModel) (walkable : IsWalkable p) (also : IsWalkable (woven p i)) (is : IsFlatOf p m) (iw : IsFlatOf (woven p i) w)
     (right : breaches m ≡ []) (rules : AllKept (broken_at p) (item_sites i)) (used : AllUsesKept p m i) where
-  -- the type of a variable breaks no rule
-  pub type_right : (at : Place) (x : Text) (role : Role) (type : DeclaredTree) → IsVariable p at x role type → (judged_declared type).broken ≡ []
-  type_right at x role type there =
-      let numbered : (j : ℕ) × (v : FlatVariable) × (slice_get m.variables j ≡ Some v) × (v.place ≡ at) × (v.name ≡ x) = (variables_are p walkable m is at x).0 (role, type, there) in
-      let v = numbered.1 in
-      let so : IsVariable p at x v.role v.declared = subst (λ a. IsVariable p a x v.role v.declared) numbered.3 (subst (λ y. IsVariable p v.place y v.role v.declared) numbered.4 (declared_so p m walkable is numbered.0 v numbered.2)) in
-      subst (λ t. (judged_declared t).broken ≡ []) (one_type p at x v.role role v.declared type so there)
-      (each_at (λ (y : FlatVariable). (judged_declared y.declared).broken ≡ []) m.variables numbered.0 v (parts_of m right).variables numbered.2)
-
   module _ (at : Place) (k : ModuleTree) (s : SliceTree) (here : IsInstance p at k) (a : Among (slices_of i k.name) s) where
     abbrev after : Path → Kind
     after name = kind_given w (iw.resolver at name)
@@ -127,12 +130,8 @@ module _ (p : ProgramTree) (i : InstructionTree) (ok : IsWeavable p i) (m w : Fl
     target_is : target_kind p (owned k.name s) ≡ a_variable state lawful.type
     target_is = ap (λ o. name_kind_at o s.target) (instance_found p at k here) ∙ lawful.target_kind
 
-    -- the items of the slice break no rule
-    pub kept_items : SliceItems (λ site. broken_at p site ≡ None) (owned k.name s)
-    kept_items = slice_items (λ site. broken_at p site ≡ None) [] i.extensions k.name s rules a
-
     target_right : (judged_declared lawful.type).broken ≡ []
-    target_right = type_right at s.target state lawful.type (variable_there p at s.target state lawful.type (target_kind_at p i ok at k s here a))
+    target_right = type_right p m walkable is right at s.target state lawful.type (variable_there p at s.target state lawful.type (target_kind_at p i ok at k s here a))
 
     symbol_there : (y : Text) → kind_in k y ≡ undeclared → is_symbol p y ≡ true → name_kind_at (module_at (woven p i) at) y ≡ undeclared
     symbol_there y e known =
@@ -223,5 +222,6 @@ module _ (p : ProgramTree) (i : InstructionTree) (ok : IsWeavable p i) (m w : Fl
     pub modes_judged : ModesJudged after resolved s lawful.type s.modes
     modes_judged =
         let others : SliceItems (IsUsedAt p m (record { place = at; module_name = k.name })) (owned k.name s) = slice_items (IsUsedAt p m (record { place = at; module_name = k.name })) [] i.extensions k.name s sites_used a in
-        each_mode s.modes kept_items.before others.before (λ mode b. b) (mode_items (λ site. broken_at p site ≡ None) kept_items.before (owned k.name s) [] s.modes kept_items.modes)
+        let own = kept_items p i rules k s a in
+        each_mode s.modes own.before others.before (λ mode b. b) (mode_items (λ site. broken_at p site ≡ None) own.before (owned k.name s) [] s.modes own.modes)
         (mode_items (IsUsedAt p m (record { place = at; module_name = k.name })) others.before (owned k.name s) [] s.modes others.modes)

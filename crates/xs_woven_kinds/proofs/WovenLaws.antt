@@ -1,25 +1,24 @@
 -- The one fault of kinds that a woven program's flat model may have.
-use Rattle.std.proofs.Common.{◌≡◌, ◌⊎◌, inl, inr, ℕ, List, [], ◌∷◌, Some, refl, sym, ap, ◌∙◌, subst}
-use Rattle.xs_tree.specs.ProgramTree.{DeclaredTree, ProgramTree}
+use Rattle.std.proofs.Common.{◌≡◌, ℕ, List, [], ◌∷◌, ap, subst}
 use Rattle.xs_tree.specs.Scope.{state}
 use Rattle.xs_tree.specs.Trace.{Each, AtSome, IsVariable}
-use Rattle.xs_fei.specs.Instructions.{SliceTree, InstructionTree, slices_of}
+use Rattle.xs_fei.specs.Instructions.{slices_of}
 use Rattle.xs_effects.specs.AddedNames.{mode_variable}
 use Rattle.xs_weave.specs.Woven.{mode_type, woven}
 use Rattle.xs_weave.specs.Weavable.{Among}
 use Rattle.xs_weave.proofs.Added.{among_contains}
 use Rattle.xs_weave.proofs.LeafValues.{mode_variable_kind}
-use Rattle.xs_flattening.specs.Flat.{FlatVariable, FlatModel}
-use Rattle.xs_flattening.specs.History.{Mode, with_history}
+use Rattle.xs_flattening.specs.Flat.{FlatModel}
+use Rattle.xs_flattening.specs.History.{with_history}
 use Rattle.xs_flattening.proofs.Lists.{each_more}
-use Rattle.xs_kinds.specs.Judged.{KindRule, too_large, symbol_class}
+use Rattle.xs_kinds.specs.Judged.{KindRule, too_large}
 use Rattle.xs_kinds.specs.Declared.{judged_declared}
 use Rattle.xs_kinds.specs.Models.{Breach, breaches, IsFault, at_an_item, of_its_size}
 use Rattle.xs_kinds.proofs.ClosedLaws.{models_closed}
 use Rattle.xs_woven_kinds.specs.Modes.{HasSymbols, IsSliceMode}
-use Rattle.xs_woven_kinds.specs.Laws.{AreWoven, WovenBreaksNone, ModesHaveSymbols, HistoryBreaksNone, WovenBreaksSizeAlone}
+use Rattle.xs_woven_kinds.specs.Laws.{WovenBreaksNone, ModesHaveSymbols, HistoryBreaksNone, WovenBreaksSizeAlone}
 use Rattle.xs_woven_kinds.proofs.Leaves.{declared_so, one_type}
-use Rattle.xs_woven_kinds.proofs.Renamed.{variable_there}
+use Rattle.xs_woven_kinds.proofs.Definitions.{variable_there}
 use Rattle.xs_woven_kinds.proofs.WovenModel.{woven_kept}
 use Rattle.xs_woven_kinds.proofs.History.{history_kept}
 

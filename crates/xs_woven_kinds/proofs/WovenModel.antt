@@ -1,16 +1,16 @@
 -- The woven program's flat model breaks no rule of kinds but, it may be, that of its size.
-use Rattle.std.proofs.Common.{◌≡◌, ◌≢◌, ◌⊎◌, inl, inr, ℕ, zero, suc, ◌+◌, ◌<◌, arith, Bool, true, false, List, [], ◌∷◌, ◌++◌, length, map, flat_map, Option, Some, None, refl, sym, ap, ◌∙◌, subst}
+use Rattle.std.proofs.Common.{◌≡◌, ◌≢◌, ◌⊎◌, inl, inr, ℕ, suc, ◌<◌, arith, Bool, false, List, [], ◌∷◌, ◌++◌, length, map, flat_map, Option, Some, None, refl, sym, ap, ◌∙◌, subst}
 use Rattle.std.specs.Prelude.{slice_get, codes}
 use Rattle.std.proofs.lemmas.Option.{slice_get_within}
 use Rattle.xs_tree.specs.declared.expr.Op.TheVariants as op
-use Rattle.xs_tree.specs.Tree.{Tree, leaf, next_of, binary}
-use Rattle.xs_tree.specs.ProgramTree.{Text, Path, Formula, DeclaredTree, boolean, range, members, instance, DeclTree, SectionTree, var, ivar, frozen, define, constants, assign, init, invar, trans, ModuleTree, ProgramTree}
-use Rattle.xs_tree.specs.Scope.{Place, Key, Role, state, input, frozen_role, Kind as NameKind, a_formal, a_variable, a_define, an_instance, undeclared, kind_declared, kind_in, kind_in_sections, kind_at as name_kind_at, module_at, plain_name}
+use Rattle.xs_tree.specs.Tree.{leaf, next_of, binary}
+use Rattle.xs_tree.specs.ProgramTree.{Text, Path, Formula, DeclaredTree, boolean, range, members, instance, ModuleTree, ProgramTree}
+use Rattle.xs_tree.specs.Scope.{Place, Key, Role, state, input, frozen_role, Kind as NameKind, a_formal, a_variable, a_define, an_instance, undeclared, kind_in, kind_in_sections, kind_at as name_kind_at, module_at, plain_name}
 use Rattle.xs_tree.specs.Trace.{Each, IsInstance, IsVariable}
 use Rattle.xs_fei.specs.Instructions.{EffectTree, stuck_at, follows, inverted, random, erroneous, stuck_at_pick, offset, ramp_down, frozen as frozen_effect, ModeTree, SliceTree, InstructionTree, slices_of, is_affected}
-use Rattle.xs_effects.specs.AddedNames.{own_name, mode_variable}
+use Rattle.xs_effects.specs.AddedNames.{own_name}
 use Rattle.xs_effects.specs.Templates.{rules}
-use Rattle.xs_weave.specs.Woven.{type_of_kind, mode_type, slice_rules, slice_sections, added_sections, woven_module, woven}
+use Rattle.xs_weave.specs.Woven.{type_of_kind, mode_type, slice_sections, added_sections, woven}
 use Rattle.xs_weave.specs.Weavable.{Among, IsFinite, IsLawfulMode, IsWeavable}
 use Rattle.xs_weave.proofs.Lists.{each_all}
 use Rattle.xs_weave.proofs.LeafValues.{mode_variable_kind}
@@ -19,27 +19,26 @@ use Rattle.xs_weave.proofs.WovenMoments.{all_instances}
 use Rattle.xs_weave_rules.specs.Sites.{owned, item_sites}
 use Rattle.xs_weave_rules.specs.Rules.{broken_at}
 use Rattle.xs_weave_rules.specs.FirstBroken.{AllKept}
-use Rattle.xs_flattening.specs.Flat.{FlatLeaf, flat_variable, FlatInstance, FlatVariable, FlatFormula, FlatModel}
+use Rattle.xs_flattening.specs.Flat.{flat_variable, FlatInstance, FlatVariable, FlatFormula, FlatModel}
 use Rattle.xs_flattening.specs.Items.{Item, a_declaration, a_definition, an_assignment, some_constants, an_init, an_invar, a_trans, NumberedItem, items_of_section, items_of, items_named, instances_of}
 use Rattle.xs_flattening.specs.Resolved.{Definition, Resolver}
 use Rattle.xs_flattening.specs.Rules.{IsWalkable}
 use Rattle.xs_flattening.specs.Model.{Condition, kept, kept_declared, first_conditions, each_conditions, step_conditions, kept_conditions, Written, conditions, Root, root_of_actual, roots_of_actuals, roots_of_type, roots_of_item, roots_of, EachBoth, IsDefinitionOf, IsFlatOf}
-use Rattle.xs_flattening.proofs.Conditions.{each_at, each_from, each_flat, each_join, each_mapped}
+use Rattle.xs_flattening.proofs.Conditions.{each_at, each_from, each_flat, each_join}
 use Rattle.xs_flattening.proofs.Listed.{root_written}
 use Rattle.xs_flattening.proofs.Lists.{each_more, each_map, get_within}
 use Rattle.xs_flattening.proofs.Places.{In}
 use Rattle.xs_flattening.proofs.Reaches.{each_left, each_right}
 use Rattle.xs_flattening.proofs.Variables.{both_at}
-use Rattle.xs_kinds.specs.Judged.{Class, Judged}
+use Rattle.xs_kinds.specs.Judged.{Judged}
 use Rattle.xs_kinds.specs.Declared.{judged_declared}
-use Rattle.xs_kinds.specs.Models.{judged_variables, judged_definitions, judged_in, broken_condition, condition_breaches, breaches}
+use Rattle.xs_kinds.specs.Models.{judged_variables, judged_definitions, judged_in, broken_condition, breaches}
 use Rattle.xs_kinds.proofs.ModelLaws.{IsRight, after_length}
 use Rattle.xs_extending.specs.Expressions.{AllUsesKept}
 use Rattle.xs_woven_kinds.proofs.Rightly.{Rightly, condition_right, same_right}
 use Rattle.xs_woven_kinds.proofs.Leaves.{declared_so}
-use Rattle.xs_woven_kinds.proofs.Definitions.{definitions_agree}
-use Rattle.xs_woven_kinds.proofs.Items.{over_items, over_conditions, IsKeptAt, KeepsAt, conditions_there, conditions_keep, AreKept, parts_of, none_broken}
-use Rattle.xs_woven_kinds.proofs.Renamed.{variable_there}
+use Rattle.xs_woven_kinds.proofs.Definitions.{variable_there, slice_finite, definitions_agree}
+use Rattle.xs_woven_kinds.proofs.Items.{over_items, over_conditions, IsKeptAt, KeepsAt, conditions_there, conditions_keep, parts_of, none_broken}
 use Rattle.xs_woven_kinds.proofs.Kept.{woven_item, woven_items, EachAsked, own_kind_at, target_kind_at, item_keeps}
 use Rattle.xs_woven_kinds.proofs.Sites.{mode_type_right}
 use Rattle.xs_woven_kinds.proofs.Uses.{type_right, kept_items}
@@ -54,6 +53,13 @@ same_length R [] [] h = refl
 same_length R [] (y ∷ ys) h = absurd h
 same_length R (x ∷ xs) [] h = absurd h
 same_length R (x ∷ xs) (y ∷ ys) h = ap suc (same_length R xs ys h.1)
+
+-- what is judged as something right is right
+right_as : (js ks : List Judged) (i j : ℕ) (judged : Judged) → Each IsRight js → slice_get js i ≡ slice_get ks j → slice_get ks j ≡ Some judged → judged.broken ≡ []
+right_as js ks i j judged h same e = each_at IsRight js i judged h (same ∙ e)
+
+keys_joined : (a b c : Key) → a ≡ b → b ≡ c → a ≡ c
+keys_joined a b c e f = e ∙ f
 
 -- A frozen variable is asked to stay, which breaks no rule.
 kept_keeps : (m : FlatModel) (r : Resolver) (at : Place) (x : Text) → KeepsAt m r at (kept x)
@@ -180,12 +186,12 @@ module _ (p : ProgramTree) (i : InstructionTree) (ok : IsWeavable p i) (m w : Fl
       let own : a_variable state lawful.type ≡ a_variable role type = sym (own_kind_at p i ok at k s here a) ∙ subst (λ y. name_kind_at (module_at (woven p i) at) y ≡ a_variable role type) (sym e) kind in
       let same : lawful.type ≡ type = ap type_of_kind own in
       subst (λ t. (judged_declared t).broken ≡ []) same
-      (type_right p i ok m w walkable also is iw right rules used at s.target state lawful.type (variable_there p at s.target state lawful.type (target_kind_at p i ok at k s here a)))
+      (type_right p m walkable is right at s.target state lawful.type (variable_there p at s.target state lawful.type (target_kind_at p i ok at k s here a)))
   added_right at k here x role type s a (inr e) kind =
       let lawful = ok.slices at k s here a in
       let mode : a_variable state (mode_type s) ≡ a_variable role type = sym (mode_variable_kind p i ok at k s here a) ∙ subst (λ y. name_kind_at (module_at (woven p i) at) y ≡ a_variable role type) (sym e) kind in
       let same : mode_type s ≡ type = ap type_of_kind mode in
-      let items = kept_items p i ok m w walkable also is iw right rules used at k s here a in
+      let items = kept_items p i rules k s a in
       let others : Each (λ (mode : ModeTree). mode.name ≢ codes "nominal") s.modes = each_more (IsLawfulMode p at k lawful.type) (λ (mode : ModeTree). mode.name ≢ codes "nominal") s.modes (λ mode h. h.not_nominal) lawful.modes in
       subst (λ t. (judged_declared t).broken ≡ []) same (mode_type_right p items.before (owned k.name s) items.modes others)
 
@@ -203,7 +209,7 @@ module _ (p : ProgramTree) (i : InstructionTree) (ok : IsWeavable p i) (m w : Fl
       by : (at : Place) (k : ModuleTree) (here : IsInstance p at k) → name_kind_at (module_at (woven p i) at) x ≡ a_variable role type → (c : NameKind) → kind_in k x ≡ c →
           kind_or c (kind_in_sections (added_sections i k) x) ≡ a_variable role type → (judged_declared type).broken ≡ []
       by at k here kind' undeclared e kind = new at k here kind' (added_or_not k (slices_of i k.name) x) kind
-      by at k here kind' (a_variable r t) e kind = type_right p i ok m w walkable also is iw right rules used at x role type (k, here, e ∙ kind)
+      by at k here kind' (a_variable r t) e kind = type_right p m walkable is right at x role type (k, here, e ∙ kind)
       by at k here kind' (a_formal j) e kind = cc
       by at k here kind' (a_define f) e kind = cc
       by at k here kind' (an_instance n es) e kind = cc
@@ -220,9 +226,6 @@ module _ (p : ProgramTree) (i : InstructionTree) (ok : IsWeavable p i) (m w : Fl
   written_roots : Each (λ (root : Root). HasDefinition root.key) (roots_of p)
   written_roots = each_from (λ (root : Root). HasDefinition root.key) (roots_of p) (λ j root e. root_written p m is root (j, e))
 
-  finite_target : (at : Place) (k : ModuleTree) → IsInstance p at k → (s : SliceTree) → Among (slices_of i k.name) s → IsFinite (type_of_kind (kind_in k s.target))
-  finite_target at k here s a = let lawful = ok.slices at k s here a in subst (λ c. IsFinite (type_of_kind c)) (sym lawful.target_kind) lawful.finite
-
   woven_roots : Each (λ (root : Root). HasDefinition root.key) (roots_of (woven p i))
   woven_roots =
       roots_up HasDefinition (woven p i) also
@@ -234,7 +237,7 @@ module _ (p : ProgramTree) (i : InstructionTree) (ok : IsWeavable p i) (m w : Fl
       (roots_down HasDefinition p walkable written_roots at k here)))
       ((each_flat (ItemHas HasDefinition at) items_of_section (added_sections i k)).1
       ((each_flat (λ section. Each (ItemHas HasDefinition at) (items_of_section section)) (slice_sections k) (slices_of i k.name)).1
-      (each_all (λ s. Each (λ section. Each (ItemHas HasDefinition at) (items_of_section section)) (slice_sections k s)) (slices_of i k.name) (λ s a. slice_has HasDefinition at k s (finite_target at k here s a))))))))
+      (each_all (λ s. Each (λ section. Each (ItemHas HasDefinition at) (items_of_section section)) (slice_sections k s)) (slices_of i k.name) (λ s a. slice_has HasDefinition at k s (slice_finite p i ok at k here s a))))))))
 
   -- each definition is one of the program's, and is judged the same
   definition_right : (j : ℕ) (judged : Judged) → slice_get (judged_definitions w) j ≡ Some judged → judged.broken ≡ []
@@ -247,8 +250,8 @@ module _ (p : ProgramTree) (i : InstructionTree) (ok : IsWeavable p i) (m w : Fl
       let root = of.2.root in
       let d : HasDefinition root.0.key = each_at (λ (r : Root). HasDefinition r.key) (roots_of (woven p i)) root.1.0 root.0 woven_roots root.1.1 in
       let same : slice_get (judged_definitions m) d.1.0 ≡ slice_get (judged_definitions w) j =
-      definitions_agree p i ok m w walkable also is iw (suc d.1.0) d.1.0 j d.0 d'.0 (omega arith) d.1.1 d'.1 (d.2 ∙ root.2) in
-      each_at IsRight (judged_definitions m) d.1.0 judged (parts_of m right).definitions (same ∙ e)
+      definitions_agree p i ok m w walkable also is iw (suc d.1.0) d.1.0 j d.0 d'.0 (omega arith) d.1.1 d'.1 (keys_joined d.0.key root.0.key d'.0.key d.2 root.2) in
+      right_as (judged_definitions m) (judged_definitions w) d.1.0 j judged (parts_of m right).definitions same e
 
   -- Conditions.
   asked_before : (at : Place) (k : ModuleTree) → IsInstance p at k → Each (EachAsked (IsKeptAt m is.resolver at)) (items_of k)

@@ -1,5 +1,5 @@
 -- The laws of kinds of a woven program, as statements.
-use Rattle.std.specs.Prelude.{◌≡◌, ℕ, List, [], ◌∷◌}
+use Rattle.std.specs.Prelude.{◌≡◌, ℕ, List, []}
 use Rattle.xs_tree.specs.ProgramTree.{ProgramTree}
 use Rattle.xs_tree.specs.Trace.{Each}
 use Rattle.xs_fei.specs.Instructions.{InstructionTree}
