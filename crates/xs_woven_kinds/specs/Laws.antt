@@ -1,6 +1,6 @@
 -- The laws of kinds of a woven program, as statements.
-use Rattle.std.specs.Prelude.{◌≡◌, ℕ, List, []}
-use Rattle.xs_tree.specs.ProgramTree.{ProgramTree}
+use Rattle.std.specs.Prelude.{◌≡◌, ℕ, List, [], Some, slice_get}
+use Rattle.xs_tree.specs.ProgramTree.{Text, ProgramTree}
 use Rattle.xs_tree.specs.Trace.{Each}
 use Rattle.xs_fei.specs.Instructions.{InstructionTree}
 use Rattle.xs_weave.specs.Woven.{woven}
@@ -9,6 +9,7 @@ use Rattle.xs_weave_rules.specs.Sites.{item_sites}
 use Rattle.xs_weave_rules.specs.Rules.{broken_at}
 use Rattle.xs_weave_rules.specs.FirstBroken.{AllKept}
 use Rattle.xs_flattening.specs.Flat.{FlatModel}
+use Rattle.xs_flattening.specs.FlatTrace.{IsModeOf}
 use Rattle.xs_flattening.specs.History.{Mode, with_history}
 use Rattle.xs_flattening.specs.Model.{IsFlatOf}
 use Rattle.xs_flattening.specs.Rules.{IsWalkable}
@@ -37,6 +38,11 @@ WovenBreaksNone = (p : ProgramTree) (m : FlatModel) (i : InstructionTree) (w : F
 -- the variables of its modes have symbols
 abbrev pub ModesHaveSymbols : Type 0
 ModesHaveSymbols = (p : ProgramTree) (m : FlatModel) (i : InstructionTree) (w : FlatModel) → AreWoven p m i w → (f : Mode) → IsSliceMode p i w f → HasSymbols w f
+
+-- and where their symbols are the model's, they are modes of it, whose history can be told
+abbrev pub SliceModesAreModes : Type 0
+SliceModesAreModes =
+    (p : ProgramTree) (m : FlatModel) (i : InstructionTree) (w : FlatModel) → AreWoven p m i w → (f : Mode) → IsSliceMode p i w f → (x : Text) → slice_get w.symbols f.symbol ≡ Some x → IsModeOf w f
 
 -- a model with the history of such modes breaks no rule at an item where the model breaks none
 abbrev pub HistoryBreaksNone : Type 0

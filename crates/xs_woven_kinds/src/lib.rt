@@ -17,7 +17,7 @@
 //! ```
 #![tactic(auto)]
 
-ghost use Rattle.xs_woven_kinds.specs.Laws.{WovenBreaksNone, ModesHaveSymbols, HistoryBreaksNone, WovenBreaksSizeAlone};
+ghost use Rattle.xs_woven_kinds.specs.Laws.{WovenBreaksNone, ModesHaveSymbols, SliceModesAreModes, HistoryBreaksNone, WovenBreaksSizeAlone};
 
 /// Where a program's flat model breaks no rule of kinds at an item, and no item or expression of the
 /// instructions breaks a rule, the woven program's flat model breaks none at an item.
@@ -25,10 +25,12 @@ pub fn woven_breaks_none()
     ensures { WovenBreaksNone }
 {}
 
-/// The variables that hold the states of slices have symbols in that model; and a model that breaks no rule
-/// at an item breaks none with the history of modes whose variables have symbols.
+/// The variables that hold the states of slices have symbols alone in that model, so that the history of its
+/// modes can be told; and a model that breaks no rule at an item breaks none with the history of modes whose
+/// variables have symbols.
 pub fn history_breaks_none()
-    ensures modes { ModesHaveSymbols }
+    ensures symbols { ModesHaveSymbols }
+    ensures modes { SliceModesAreModes }
     ensures history { HistoryBreaksNone }
 {}
 
