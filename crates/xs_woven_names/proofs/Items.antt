@@ -1,14 +1,20 @@
 -- The items of a woven module: those of the module, some renamed, and then the added ones.
 use Rattle.std.proofs.Common.{◌≡◌, ◌⊎◌, inl, inr, ℕ, suc, ◌+◌, Bool, true, false, List, [], ◌∷◌, ◌++◌, length, map, flat_map, Option, Some, None, refl, sym, ◌∙◌, ap, subst, append_assoc}
-use Rattle.std.specs.Prelude.{if◌then◌else◌}
+use Rattle.std.specs.Prelude.{ℤ, if◌then◌else◌}
 use Rattle.std.proofs.lemmas.Grind.{flat_map-append}
 use Rattle.xs_tree.specs.ProgramTree.{Text, DeclTree, DefineTree, AssignmentTree, SectionTree, var, ivar, frozen, define, constants, assign, init, invar, trans, ModuleTree, ProgramTree}
-use Rattle.xs_tree.specs.Scope.{Role, find_module}
+use Rattle.xs_tree.specs.Scope.{Role, state, kind_in, find_module}
 use Rattle.xs_tree.specs.Texts.{same_text}
+use Rattle.xs_tree.specs.Trace.{Each}
+use Rattle.xs_tree.specs.declared.program.Moment.TheVariants.{Always, First, After}
 use Rattle.xs_flattening.specs.Items.{Item, a_declaration, a_definition, an_assignment, some_constants, an_init, an_invar, a_trans, NumberedItem, items_of_section, items_of, numbered_from, modules_from, items_found, items_named}
 use Rattle.xs_flattening.proofs.Lists.{map_joined}
-use Rattle.xs_fei.specs.Instructions.{InstructionTree, is_affected}
-use Rattle.xs_weave.specs.Woven.{tree_map_both, rename, same_path, woven_assignment, woven_section, added_sections, woven_module, woven}
+use Rattle.xs_flattening.proofs.Conditions.{each_join}
+use Rattle.xs_fei.specs.Instructions.{EffectTree, stuck_at, follows, inverted, random, erroneous, stuck_at_pick, offset, ramp_down, frozen as frozen_effect, ModeTree, SliceTree, InstructionTree, slices_of, is_affected}
+use Rattle.xs_effects.specs.AddedNames.{own_name, mode_variable, mode_symbol}
+use Rattle.xs_effects.specs.Templates.{named, erroneous_rule, frozen_rule, pick_rule, ramp_rule, rules}
+use Rattle.xs_weave.specs.Woven.{tree_map_both, rename, same_path, woven_assignment, woven_section, type_of_kind, mode_type, moves_tree, read_tree, slice_rules, slice_sections, added_sections, woven_module}
+use Rattle.xs_weave.specs.Weavable.{Among}
 
 -- an item with affected variables renamed
 abbrev pub woven_item : (Text → Bool) → Item → Item
@@ -57,6 +63,75 @@ added_items i m = flat_map items_of_section (added_sections i m)
 
 pub woven_items : (i : InstructionTree) (m : ModuleTree) → items_of (woven_module i m) ≡ map (woven_item (is_affected i m.name)) (items_of m) ++ added_items i m
 woven_items i m = sections_woven (is_affected i m.name) m.sections (added_sections i m)
+
+-- the items of a slice
+abbrev pub slice_items : ModuleTree → SliceTree → List Item
+slice_items m s = flat_map items_of_section (slice_sections m s)
+
+slices_flat : (m : ModuleTree) (ss : List SliceTree) → flat_map items_of_section (flat_map (slice_sections m) ss) ≡ flat_map (slice_items m) ss
+slices_flat m [] = refl
+slices_flat m (s ∷ ss) = flat_map-append items_of_section (slice_sections m s) (flat_map (slice_sections m) ss) ∙ ap (λ is. slice_items m s ++ is) (slices_flat m ss)
+
+pub added_flat : (i : InstructionTree) (m : ModuleTree) → added_items i m ≡ flat_map (slice_items m) (slices_of i m.name)
+added_flat i m = slices_flat m (slices_of i m.name)
+
+-- the declarations and the assignments of a slice
+abbrev pub own_declared : ModuleTree → SliceTree → Item
+own_declared m s = a_declaration state (record { name = own_name s.target; what = type_of_kind (kind_in m s.target) })
+
+abbrev pub mode_declared : SliceTree → Item
+mode_declared s = a_declaration state (record { name = mode_variable s.name; what = mode_type s })
+
+abbrev pub mode_starts : SliceTree → Item
+mode_starts s = an_assignment (record { when = First; target = mode_variable s.name ∷ []; value = named (mode_symbol s.name None) })
+
+abbrev pub mode_moves : SliceTree → Item
+mode_moves s = an_assignment (record { when = After; target = mode_variable s.name ∷ []; value = moves_tree s })
+
+abbrev pub value_read : ModuleTree → SliceTree → Item
+value_read m s = an_assignment (record { when = Always; target = s.target ∷ []; value = read_tree (type_of_kind (kind_in m s.target)) s })
+
+-- what holds of each rule that a mode may add
+pub record OfRules (P : Item → Type 0) (slice mode x : Text) : Type 0 where
+  pub differs : P (an_invar (erroneous_rule slice mode x))
+  pub stays : P (a_trans (frozen_rule slice mode x))
+  pub picked : P (a_trans (pick_rule slice mode x))
+  pub ramps : (d f : ℤ) → P (a_trans (ramp_rule d f slice mode x))
+
+of_effect : (P : Item → Type 0) (slice mode x : Text) → OfRules P slice mode x → (e : EffectTree) → Each P (flat_map items_of_section (rules e slice mode x))
+of_effect P slice mode x h (stuck_at c) = tt
+of_effect P slice mode x h (follows e) = tt
+of_effect P slice mode x h inverted = tt
+of_effect P slice mode x h random = tt
+of_effect P slice mode x h erroneous = (h.differs, tt)
+of_effect P slice mode x h frozen_effect = (h.stays, tt)
+of_effect P slice mode x h stuck_at_pick = (h.picked, tt)
+of_effect P slice mode x h (offset d) = tt
+of_effect P slice mode x h (ramp_down d f) = (h.ramps d f, tt)
+
+of_modes : (P : Item → Type 0) (slice x : Text) (ms : List ModeTree) → ((m : ModeTree) → Among ms m → OfRules P slice m.name x) →
+    Each P (flat_map items_of_section (flat_map (λ m. rules m.effect slice m.name x) ms))
+of_modes P slice x [] h = tt
+of_modes P slice x (m ∷ ms) h =
+    subst (Each P) (sym (flat_map-append items_of_section (rules m.effect slice m.name x) (flat_map (λ m. rules m.effect slice m.name x) ms)))
+    (each_join P (flat_map items_of_section (rules m.effect slice m.name x)) (flat_map items_of_section (flat_map (λ m. rules m.effect slice m.name x) ms))
+    (of_effect P slice m.name x (h m (inl refl)) m.effect) (of_modes P slice x ms (λ n a. h n (inr a))))
+
+-- what holds of each item of a slice
+pub record OfSlice (P : Item → Type 0) (m : ModuleTree) (s : SliceTree) : Type 0 where
+  pub own : P (own_declared m s)
+  pub mode : P (mode_declared s)
+  pub starts : P (mode_starts s)
+  pub moves : P (mode_moves s)
+  pub read : P (value_read m s)
+  pub each_rule : (n : ModeTree) → Among s.modes n → OfRules P s.name n.name s.target
+
+pub of_slice : (P : Item → Type 0) (m : ModuleTree) (s : SliceTree) → OfSlice P m s → Each P (slice_items m s)
+of_slice P m s h = (h.own, (h.mode, (h.starts, (h.moves, (h.read, of_modes P s.name s.target s.modes h.each_rule)))))
+
+pub of_slices : (P : Item → Type 0) (m : ModuleTree) (ss : List SliceTree) → ((s : SliceTree) → Among ss s → OfSlice P m s) → Each P (flat_map (slice_items m) ss)
+of_slices P m [] h = tt
+of_slices P m (s ∷ ss) h = each_join P (slice_items m s) (flat_map (slice_items m) ss) (of_slice P m s (h s (inl refl))) (of_slices P m ss (λ t a. h t (inr a)))
 
 -- the items of the module of a name
 pub items_numbered : (q : ProgramTree) (n : ℕ) (before : List ModuleTree) (x : Text) (m : ModuleTree) → find_module q x ≡ Some m →

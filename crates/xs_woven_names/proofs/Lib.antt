@@ -1,3 +1,5 @@
 pub mod Orders
 pub mod Items
 pub mod Leaves
+pub mod Looking
+pub mod Walks
