@@ -2,7 +2,7 @@
 use Rattle.std.proofs.Common.{◌≡◌, ◌⊎◌, inl, inr, ℕ, suc, ◌+◌, Bool, true, false, List, [], ◌∷◌, ◌++◌, length, map, flat_map, Option, Some, None, refl, sym, ◌∙◌, ap, subst, append_assoc}
 use Rattle.std.specs.Prelude.{ℤ, if◌then◌else◌}
 use Rattle.std.proofs.lemmas.Grind.{flat_map-append}
-use Rattle.xs_tree.specs.ProgramTree.{Text, DeclTree, DefineTree, AssignmentTree, SectionTree, var, ivar, frozen, define, constants, assign, init, invar, trans, ModuleTree, ProgramTree}
+use Rattle.xs_tree.specs.ProgramTree.{Text, Formula, DeclTree, DefineTree, AssignmentTree, SectionTree, var, ivar, frozen, define, constants, assign, init, invar, trans, ModuleTree, ProgramTree}
 use Rattle.xs_tree.specs.Scope.{Role, state, kind_in, find_module}
 use Rattle.xs_tree.specs.Texts.{same_text}
 use Rattle.xs_tree.specs.Trace.{Each}
@@ -132,6 +132,24 @@ of_slice P m s h = (h.own, (h.mode, (h.starts, (h.moves, (h.read, of_modes P s.n
 pub of_slices : (P : Item → Type 0) (m : ModuleTree) (ss : List SliceTree) → ((s : SliceTree) → Among ss s → OfSlice P m s) → Each P (flat_map (slice_items m) ss)
 of_slices P m [] h = tt
 of_slices P m (s ∷ ss) h = each_join P (slice_items m s) (flat_map (slice_items m) ss) (of_slice P m s (h s (inl refl))) (of_slices P m ss (λ t a. h t (inr a)))
+
+-- the rules of a slice neither declare nor assign
+nothing_flat : {A B : Type 0} (g : A → List B) (xs : List A) → Each (λ x. g x ≡ []) xs → flat_map g xs ≡ []
+nothing_flat g [] h = refl
+nothing_flat g (x ∷ xs) h = λ j. h.0 j ++ nothing_flat g xs h.1 j
+
+pub slice_rules_nothing : {A : Type 0} (g : Item → List A) (s : SliceTree) → ((e : Formula) → g (an_invar e) ≡ []) → ((e : Formula) → g (a_trans e) ≡ []) →
+    flat_map g (flat_map items_of_section (slice_rules s)) ≡ []
+slice_rules_nothing g s h k =
+    nothing_flat g (flat_map items_of_section (slice_rules s))
+    (of_modes (λ item. g item ≡ []) s.name s.target s.modes (λ m a. record { differs = h _; stays = k _; picked = k _; ramps = λ d f. k _ }))
+
+-- what is taken from the items of a woven module
+pub taken_woven : {A : Type 0} (g : Item → List A) (i : InstructionTree) (m : ModuleTree) →
+    flat_map g (items_of (woven_module i m)) ≡ flat_map g (map (woven_item (is_affected i m.name)) (items_of m)) ++ flat_map g (flat_map (slice_items m) (slices_of i m.name))
+taken_woven g i m =
+    ap (flat_map g) (woven_items i m) ∙ flat_map-append g (map (woven_item (is_affected i m.name)) (items_of m)) (added_items i m)
+    ∙ ap (λ is. flat_map g (map (woven_item (is_affected i m.name)) (items_of m)) ++ flat_map g is) (added_flat i m)
 
 -- the items of the module of a name
 pub items_numbered : (q : ProgramTree) (n : ℕ) (before : List ModuleTree) (x : Text) (m : ModuleTree) → find_module q x ≡ Some m →

@@ -3,3 +3,5 @@ pub mod Items
 pub mod Leaves
 pub mod Looking
 pub mod Walks
+pub mod Slices
+pub mod Headers

@@ -1,9 +1,9 @@
 //! What a woven program keeps of the rules of names.
 #![tactic(auto)]
 
-ghost use Rattle.xs_woven_names.specs.Laws.{Placeholder};
+ghost use Rattle.xs_woven_names.specs.Laws.{WovenInstancesAreSame};
 
 /// Placeholder.
 pub fn placeholder()
-    ensures { Placeholder }
+    ensures { WovenInstancesAreSame }
 {}
