@@ -5,3 +5,4 @@ pub mod Looking
 pub mod Walks
 pub mod Slices
 pub mod Headers
+pub mod Actuals

@@ -1,9 +1,11 @@
-//! What a woven program keeps of the rules of names.
+//! What a woven program keeps of the rules of flattening.
 #![tactic(auto)]
 
-ghost use Rattle.xs_woven_names.specs.Laws.{WovenInstancesAreSame};
+ghost use Rattle.xs_woven_names.specs.Laws.{WovenActualsMean, WovenInstancesAreSame};
 
-/// Placeholder.
-pub fn placeholder()
-    ensures { WovenInstancesAreSame }
+/// A woven program has the instances of the program, and its actuals mean something where those of the
+/// program do.
+pub fn woven_instances_are_same()
+    ensures instances { WovenInstancesAreSame }
+    ensures actuals { WovenActualsMean }
 {}
