@@ -6,3 +6,4 @@ pub mod Walks
 pub mod Slices
 pub mod Headers
 pub mod Actuals
+pub mod OldItems
