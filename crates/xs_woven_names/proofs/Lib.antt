@@ -7,3 +7,5 @@ pub mod Slices
 pub mod Headers
 pub mod Actuals
 pub mod OldItems
+pub mod Uses
+pub mod Clean
