@@ -9,3 +9,4 @@ pub mod Actuals
 pub mod OldItems
 pub mod Uses
 pub mod Clean
+pub mod NewItems

@@ -48,7 +48,7 @@ over_assigned when (a_define f) k' e fine h = fine (ap (may_be_assigned when) (s
 over_assigned when (an_instance n es) k' e fine h = fine (ap (may_be_assigned when) (sym e) ∙ h)
 over_assigned when undeclared k' e fine h = fine (undeclared_not when)
 
-finite_kind : (type : DeclaredTree) → IsFinite type → kind_declared state type ≡ a_variable state type
+pub finite_kind : (type : DeclaredTree) → IsFinite type → kind_declared state type ≡ a_variable state type
 finite_kind boolean h = refl
 finite_kind (range lo hi) h = refl
 finite_kind (members ms) h = refl
