@@ -10,3 +10,4 @@ pub mod OldItems
 pub mod Uses
 pub mod Clean
 pub mod NewItems
+pub mod Once

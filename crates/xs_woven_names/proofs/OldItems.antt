@@ -36,7 +36,7 @@ state_assigned Always type = refl
 state_assigned First type = refl
 state_assigned After type = refl
 
-undeclared_not : (when : Moment) → may_be_assigned when undeclared ≡ false
+pub undeclared_not : (when : Moment) → may_be_assigned when undeclared ≡ false
 undeclared_not Always = refl
 undeclared_not First = refl
 undeclared_not After = refl
