@@ -11,3 +11,4 @@ pub mod Uses
 pub mod Clean
 pub mod NewItems
 pub mod Once
+pub mod Woven

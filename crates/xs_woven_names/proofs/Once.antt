@@ -42,7 +42,7 @@ targets_in items = flat_map targets_of items
 abbrev AreFree : Target → Target → Type 0
 AreFree u t = u.1 ≡ t.1 → IsTrue (at_one_time u.0 t.0) → ⊥
 
-abbrev IsOnce : List Item → Item → Type 0
+abbrev pub IsOnce : List Item → Item → Type 0
 IsOnce before item = BreaksOnce before item → ⊥
 
 free_before : (a : AssignmentTree) (before : List Item) → (AtSome (Assigns a) before → ⊥) → Each (λ u. AreFree u (a.when, a.target)) (targets_in before)
