@@ -1,15 +1,9 @@
 -- The actuals of a woven program mean what those of the program mean.
-use Rattle.std.proofs.Common.{◌≡◌, ◌⊎◌, ℕ, List, Option, Some, None, refl, sym, ◌∙◌, ap, subst}
-use Rattle.std.specs.Prelude.{option_map}
-use Rattle.xs_tree.specs.Tree.{leaf}
-use Rattle.xs_tree.specs.ProgramTree.{Text, Path, Formula, DeclaredTree, ModuleTree, ProgramTree}
-use Rattle.xs_tree.specs.Scope.{Place, Role, state, input, frozen_role, Kind, a_formal, a_variable, a_define, an_instance, undeclared, kind_in, kind_at, module_at, nth_formula, Meaning, Means}
-use Rattle.xs_tree.specs.Trace.{IsInstance}
-use Rattle.xs_fei.specs.Instructions.{InstructionTree}
-use Rattle.xs_weave.specs.Woven.{woven_module, woven}
-use Rattle.xs_weave.specs.Weavable.{IsWeavable, HasMeaning}
-use Rattle.xs_weave.proofs.Meanings.{module_woven}
-use Rattle.xs_flattening.specs.Looks.{ActualsMean}
+use Rattle.std.proofs.Common.{◌≡◌, List, Option, Some, None, refl, sym, ◌∙◌, ap}
+use Rattle.xs_tree.specs.ProgramTree.{Text, Formula, ModuleTree}
+use Rattle.xs_tree.specs.Scope.{Kind, a_formal, a_variable, a_define, an_instance, undeclared, kind_at, module_at}
+use Rattle.xs_weave.specs.Woven.{woven}
+use Rattle.xs_weave.specs.Weavable.{HasMeaning}
 use Rattle.xs_woven_names.specs.Laws.{WovenActualsMean}
 use Rattle.xs_woven_names.proofs.Looking.{Over, kind_over, still_means}
 

@@ -1,11 +1,11 @@
 -- Trees with no `next`, each of whose leaves is good: what the weave writes is put together from such.
-use Rattle.std.proofs.Common.{◌≡◌, ◌⊎◌, inl, inr, ℕ, suc, Bool, true, false, ◌||◌, List, [], ◌∷◌, ◌++◌, map, Option, Some, None, refl, sym, ap, subst}
+use Rattle.std.proofs.Common.{◌≡◌, inl, inr, suc, Bool, true, false, ◌||◌, List, [], ◌∷◌, Some, None, refl}
 use Rattle.std.specs.Prelude.{ℤ, pos, negsuc, nat_eq, if◌then◌else◌}
 use Rattle.xs_tree.specs.declared.expr.Op.{Op}
 use Rattle.xs_tree.specs.declared.expr.Op.TheVariants as op
 use Rattle.xs_tree.specs.declared.program.Member.{Member}
 use Rattle.xs_tree.specs.declared.program.Member.TheVariants as member
-use Rattle.xs_tree.specs.Tree.{Tree, Trees, Branches, truth as is_truth, number as is_number, leaf, not_of, negate, next_of, binary, choice, case_of, set_of, span, no_tree, tree_then, no_branch, branch_then}
+use Rattle.xs_tree.specs.Tree.{Branches, truth as is_truth, number as is_number, not_of, negate, binary, choice}
 use Rattle.xs_tree.specs.ProgramTree.{Text, Path, Formula, DeclaredTree, boolean, range, members, instance}
 use Rattle.xs_tree.specs.Trace.{Each}
 use Rattle.xs_flattening.specs.Resolved.{leaves_in, branches_leaves, trees_leaves, has_next, branches_have_next, trees_have_next}
@@ -43,7 +43,7 @@ module _ (P : Path → Type 0) where
   pub clean_binary : (o : Op) (a b : Formula) → Clean a → Clean b → Clean (binary o a b)
   clean_binary o a b h k = record { leaves = each_join P (leaves_in a) (leaves_in b) h.leaves k.leaves; free = neither_one _ _ h.free k.free }
 
-  pub clean_choice : (c a b : Formula) → Clean c → Clean a → Clean b → Clean (choice c a b)
+  clean_choice : (c a b : Formula) → Clean c → Clean a → Clean b → Clean (choice c a b)
   clean_choice c a b h k l = record { leaves = join_three P (leaves_in c) (leaves_in a) (leaves_in b) h.leaves k.leaves l.leaves; free = neither_one _ _ h.free (neither_one _ _ k.free l.free) }
 
   pub clean_number : (n : ℤ) → Clean (number_tree n)

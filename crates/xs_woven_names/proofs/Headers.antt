@@ -1,16 +1,15 @@
 -- The rules of modules and of names that are declared, in a woven program.
-use Rattle.std.proofs.Common.{◌≡◌, ◌⊎◌, inl, inr, ℕ, suc, ◌+◌, Bool, true, false, ◌||◌, ◌&&◌, List, [], ◌∷◌, ◌++◌, length, map, flat_map, Option, Some, None, refl, sym, ◌∙◌, ap, subst}
-use Rattle.std.specs.Prelude.{codes, IsTrue, option_map}
+use Rattle.std.proofs.Common.{◌≡◌, inl, inr, ℕ, suc, ◌+◌, Bool, true, false, ◌||◌, List, [], ◌∷◌, ◌++◌, length, map, flat_map, Option, Some, None, refl, sym, ◌∙◌, ap, subst}
+use Rattle.std.specs.Prelude.{codes, option_map}
 use Rattle.std.specs.List.{list_any}
-use Rattle.std.proofs.lemmas.List.{append_assoc}
 use Rattle.std.proofs.lemmas.Grind.{flat_map-append}
 use Rattle.xs_tree.specs.ProgramTree.{Text, DeclTree, DefineTree, AssignmentTree, SectionTree, var, ivar, frozen, define, constants, assign, init, invar, trans, ModuleTree, ProgramTree}
 use Rattle.xs_tree.specs.Texts.{same_text, is_among}
 use Rattle.xs_tree.specs.Scope.{Role, find_module, is_symbol_of_type}
 use Rattle.xs_tree.specs.Trace.{Each}
-use Rattle.xs_tree.proofs.ValueLaws.{same_text_refl, same_text_equal}
+use Rattle.xs_tree.proofs.ValueLaws.{same_text_equal}
 use Rattle.xs_flattening.specs.Items.{Item, a_declaration, a_definition, an_assignment, some_constants, an_init, an_invar, a_trans, NumberedItem, NumberedModule, items_of_section, items_of, numbered_from, modules_from, numbered_items}
-use Rattle.xs_flattening.specs.Rules.{Rule, no_main, main_has_parameters, double_module, double_name, Site, the_program, a_header, an_item, module_sites, has_twice, is_module_among, names_of_item, is_name_again, has_formals, is_missing, Breaks, IsKept}
+use Rattle.xs_flattening.specs.Rules.{no_main, main_has_parameters, double_module, double_name, Site, the_program, a_header, an_item, module_sites, is_module_among, names_of_item, is_name_again, is_missing, IsKept}
 use Rattle.xs_flattening.proofs.Reaches.{each_left, each_right}
 use Rattle.xs_flattening.proofs.Conditions.{each_join}
 use Rattle.xs_flattening.proofs.Lists.{each_of_map, each_map, each_more, map_joined}
@@ -21,16 +20,16 @@ use Rattle.xs_effects.specs.AddedNames.{own_name, mode_variable}
 use Rattle.xs_weave.specs.Woven.{woven_module, woven}
 use Rattle.xs_weave.specs.Weavable.{Among}
 use Rattle.xs_weave.proofs.WovenKinds.{find_woven}
-use Rattle.xs_weave.proofs.Lists.{each_all, each_at}
+use Rattle.xs_weave.proofs.Lists.{each_at}
 use Rattle.xs_weave.proofs.Added.{own_name_same, mode_variable_same, own_not_mode}
 use Rattle.xs_weave_rules.specs.Sites.{item_sites}
 use Rattle.xs_weave_rules.specs.Rules.{is_name_of_section, is_name_of_decls, is_name_of_defines, is_name_of_module, is_program_name, broken_at}
 use Rattle.xs_weave_rules.specs.FirstBroken.{AllKept}
 use Rattle.xs_weave_rules.proofs.ProgramNames.{any_false}
 use Rattle.xs_woven_names.specs.Laws.{OnlyLimits}
-use Rattle.xs_woven_names.proofs.Orders.{EachAfter, after_numbered, numbered_after, after_more, after_two, after_each, each_after, Pairwise, Across, pairs_join, pairs_after, after_pairs}
+use Rattle.xs_woven_names.proofs.Orders.{EachAfter, after_numbered, numbered_after, after_more, after_two, after_each, each_after, Pairwise, pairs_join, pairs_after, after_pairs}
 use Rattle.xs_woven_names.proofs.Items.{woven_item, slice_items, taken_woven, slice_rules_nothing}
-use Rattle.xs_woven_names.proofs.Slices.{not_itself, SlicesApart, slices_apart, own_new, mode_new}
+use Rattle.xs_woven_names.proofs.Slices.{SlicesApart, slices_apart, own_new, mode_new}
 
 -- the names of items
 abbrev names_in : List Item → List Text
@@ -209,7 +208,7 @@ across_turned R (x ∷ xs) ys h = (each_more _ (R x) ys (λ y k. k.0) h, across_
 
 module _ (p : ProgramTree) (i : InstructionTree) (kept : AllKept (broken_at p) (item_sites i)) where
   -- the names of a woven module are new one by one where those of the module are
-  pub module_fresh : (m : ModuleTree) → Among p m → EachAfter (IsFresh m.formals) [] (items_of m) → EachAfter (IsFresh m.formals) [] (items_of (woven_module i m))
+  module_fresh : (m : ModuleTree) → Among p m → EachAfter (IsFresh m.formals) [] (items_of m) → EachAfter (IsFresh m.formals) [] (items_of (woven_module i m))
   module_fresh m a h =
       let old = new_pairs m.formals (names_in (items_of m)) (fresh_new m.formals [] (items_of m) h) in
       let new : Each (λ x. (is_among m.formals x ≡ false) × Each (λ y. Unlike y x) (names_in (items_of m))) (flat_map slice_names (slices_of i m.name)) =

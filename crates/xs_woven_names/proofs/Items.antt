@@ -1,13 +1,13 @@
 -- The items of a woven module: those of the module, some renamed, and then the added ones.
-use Rattle.std.proofs.Common.{◌≡◌, ◌⊎◌, inl, inr, ℕ, suc, ◌+◌, Bool, true, false, List, [], ◌∷◌, ◌++◌, length, map, flat_map, Option, Some, None, refl, sym, ◌∙◌, ap, subst, append_assoc}
-use Rattle.std.specs.Prelude.{ℤ, if◌then◌else◌}
+use Rattle.std.proofs.Common.{◌≡◌, inl, inr, ℕ, suc, ◌+◌, Bool, true, false, List, [], ◌∷◌, ◌++◌, length, map, flat_map, Some, None, refl, sym, ◌∙◌, ap, subst, append_assoc}
+use Rattle.std.specs.Prelude.{ℤ}
 use Rattle.std.proofs.lemmas.Grind.{flat_map-append}
 use Rattle.xs_tree.specs.ProgramTree.{Text, Formula, DeclTree, DefineTree, AssignmentTree, SectionTree, var, ivar, frozen, define, constants, assign, init, invar, trans, ModuleTree, ProgramTree}
 use Rattle.xs_tree.specs.Scope.{Role, state, kind_in, find_module}
 use Rattle.xs_tree.specs.Texts.{same_text}
 use Rattle.xs_tree.specs.Trace.{Each}
 use Rattle.xs_tree.specs.declared.program.Moment.TheVariants.{Always, First, After}
-use Rattle.xs_flattening.specs.Items.{Item, a_declaration, a_definition, an_assignment, some_constants, an_init, an_invar, a_trans, NumberedItem, items_of_section, items_of, numbered_from, modules_from, items_found, items_named}
+use Rattle.xs_flattening.specs.Items.{Item, a_declaration, a_definition, an_assignment, some_constants, an_init, an_invar, a_trans, items_of_section, items_of, numbered_from, modules_from, items_found}
 use Rattle.xs_flattening.proofs.Lists.{map_joined}
 use Rattle.xs_flattening.proofs.Conditions.{each_join}
 use Rattle.xs_fei.specs.Instructions.{EffectTree, stuck_at, follows, inverted, random, erroneous, stuck_at_pick, offset, ramp_down, frozen as frozen_effect, ModeTree, SliceTree, InstructionTree, slices_of, is_affected}
@@ -126,7 +126,7 @@ pub record OfSlice (P : Item → Type 0) (m : ModuleTree) (s : SliceTree) : Type
   pub read : P (value_read m s)
   pub each_rule : (n : ModeTree) → Among s.modes n → OfRules P s.name n.name s.target
 
-pub of_slice : (P : Item → Type 0) (m : ModuleTree) (s : SliceTree) → OfSlice P m s → Each P (slice_items m s)
+of_slice : (P : Item → Type 0) (m : ModuleTree) (s : SliceTree) → OfSlice P m s → Each P (slice_items m s)
 of_slice P m s h = (h.own, (h.mode, (h.starts, (h.moves, (h.read, of_modes P s.name s.target s.modes h.each_rule)))))
 
 pub of_slices : (P : Item → Type 0) (m : ModuleTree) (ss : List SliceTree) → ((s : SliceTree) → Among ss s → OfSlice P m s) → Each P (flat_map (slice_items m) ss)

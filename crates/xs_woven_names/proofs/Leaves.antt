@@ -1,7 +1,6 @@
 -- Leaves and `next` in trees whose leaves are changed, and in trees with no `next`.
-use Rattle.std.proofs.Common.{◌≡◌, Bool, true, false, ◌||◌, List, [], ◌∷◌, ◌++◌, refl, sym, ◌∙◌, ap}
+use Rattle.std.proofs.Common.{◌≡◌, false, ◌||◌, List, [], ◌++◌, refl}
 use Rattle.xs_tree.specs.Tree.{Tree, Trees, Branches, truth as is_truth, number as is_number, leaf, not_of, negate, next_of, binary, choice, case_of, set_of, span, no_tree, tree_then, no_branch, branch_then}
-use Rattle.xs_tree.specs.Laws.{AllLeaves, AllLeavesOfTrees, AllLeavesOfBranches}
 use Rattle.xs_tree.specs.Trace.{Each}
 use Rattle.xs_flattening.specs.Resolved.{leaves_in, trees_leaves, branches_leaves, has_next, trees_have_next, branches_have_next}
 use Rattle.xs_flattening.specs.Rules.{next_under_next, trees_next_under, branches_next_under, leaves_under, trees_leaves_under, branches_leaves_under}
@@ -15,31 +14,9 @@ use Rattle.xs_weave.specs.Woven.{tree_map_both, trees_map_both, branches_map_bot
 pub join_three : {A : Type 0} (P : A → Type 0) (xs ys zs : List A) → Each P xs → Each P ys → Each P zs → Each P (xs ++ (ys ++ zs))
 join_three P xs ys zs h k l = each_join P xs (ys ++ zs) h (each_join P ys zs k l)
 
-pub parts_three : {A : Type 0} (P : A → Type 0) (xs ys zs : List A) → Each P (xs ++ (ys ++ zs)) → Each P xs × (Each P ys × Each P zs)
+parts_three : {A : Type 0} (P : A → Type 0) (xs ys zs : List A) → Each P (xs ++ (ys ++ zs)) → Each P xs × (Each P ys × Each P zs)
 parts_three P xs ys zs h =
     let more : Each P (ys ++ zs) = each_right P xs (ys ++ zs) h in (each_left P xs (ys ++ zs) h, (each_left P ys zs more, each_right P ys zs more))
-
-mutual
-  pub read_leaves : {L : Type 0} (P : L → Type 0) (t : Tree L) → AllLeaves P t → Each P (leaves_in t)
-  read_leaves P (is_truth b) h = tt
-  read_leaves P (is_number n) h = tt
-  read_leaves P (leaf l) h = (h, tt)
-  read_leaves P (not_of a) h = read_leaves P a h
-  read_leaves P (negate a) h = read_leaves P a h
-  read_leaves P (next_of a) h = read_leaves P a h
-  read_leaves P (binary o a b) h = each_join P (leaves_in a) (leaves_in b) (read_leaves P a h.0) (read_leaves P b h.1)
-  read_leaves P (choice c a b) h = join_three P (leaves_in c) (leaves_in a) (leaves_in b) (read_leaves P c h.0) (read_leaves P a h.1) (read_leaves P b h.2)
-  read_leaves P (case_of bs) h = read_branches P bs h
-  read_leaves P (set_of ts) h = read_trees P ts h
-  read_leaves P (span lo hi) h = tt
-
-  read_trees : {L : Type 0} (P : L → Type 0) (ts : Trees L) → AllLeavesOfTrees P ts → Each P (trees_leaves ts)
-  read_trees P no_tree h = tt
-  read_trees P (tree_then t ts) h = each_join P (leaves_in t) (trees_leaves ts) (read_leaves P t h.0) (read_trees P ts h.1)
-
-  read_branches : {L : Type 0} (P : L → Type 0) (bs : Branches L) → AllLeavesOfBranches P bs → Each P (branches_leaves bs)
-  read_branches P no_branch h = tt
-  read_branches P (branch_then c a bs) h = join_three P (leaves_in c) (leaves_in a) (branches_leaves bs) (read_leaves P c h.0) (read_leaves P a h.1) (read_branches P bs h.2)
 
 -- what holds of each leaf by either change
 module _ {L M : Type 0} (R : M → Type 0) where

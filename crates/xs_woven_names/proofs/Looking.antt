@@ -1,13 +1,13 @@
 -- Look-ups in a woven program: they take the steps that they took, and what they find is what they found, but for
 -- added variables and symbols.
-use Rattle.std.proofs.Common.{◌≡◌, ◌⊎◌, inl, inr, ℕ, zero, suc, Bool, true, false, List, [], ◌∷◌, ◌++◌, Option, Some, None, refl, sym, ◌∙◌, ap, subst}
+use Rattle.std.proofs.Common.{◌≡◌, inl, inr, ℕ, zero, suc, Bool, true, false, List, [], ◌∷◌, ◌++◌, Option, Some, None, refl, sym, ◌∙◌, ap, subst}
 use Rattle.std.specs.Prelude.{IsTrue, option_map, flat_map, if◌then◌else◌}
 use Rattle.xs_tree.specs.ProgramTree.{Text, Path, Formula, DeclaredTree, boolean, range, members, instance, ModuleTree, ProgramTree}
 use Rattle.xs_tree.specs.Texts.{same_text}
-use Rattle.xs_tree.specs.Scope.{Place, Role, state, input, frozen_role, Key, define_key, actual_key, Kind, a_formal, a_variable, a_define, an_instance, undeclared, kind_declared, kind_in_sections, kind_in, kind_at, module_at, actual_of_kind, is_symbol, Meaning, a_variable_at, an_expression_at, an_instance_at, a_symbol, LookUp, plain_name, through_plain, through_actual, through_formal, by_kind, means_in, Means}
+use Rattle.xs_tree.specs.Scope.{Place, state, input, frozen_role, Key, define_key, actual_key, Kind, a_formal, a_variable, a_define, an_instance, undeclared, kind_declared, kind_in_sections, kind_in, kind_at, module_at, actual_of_kind, is_symbol, Meaning, a_variable_at, an_expression_at, an_instance_at, a_symbol, LookUp, plain_name, through_plain, through_actual, through_formal, by_kind, means_in, Means}
 use Rattle.xs_tree.specs.Trace.{AtSome}
 use Rattle.xs_flattening.specs.Looks.{Look, at_actual, plain_of, step_formal, step_kind, step_of, step_on, look_after, ComesBack, MeansNothing}
-use Rattle.xs_flattening.specs.Rules.{HasNoValue, nothing, only_an_instance, expression_of_kind, expression_in, expression_of, Needs, Leads, is_input_kind, MeansInput, ReadsInput, GivesInput}
+use Rattle.xs_flattening.specs.Rules.{HasNoValue, nothing, only_an_instance, expression_of_kind, expression_in, expression_of, Needs, Leads, is_input_kind, MeansInput, GivesInput}
 use Rattle.xs_fei.specs.Instructions.{SliceTree, InstructionTree, slices_of}
 use Rattle.xs_effects.specs.AddedNames.{own_name, mode_variable}
 use Rattle.xs_weave.specs.Woven.{type_of_kind, mode_type, slice_sections, added_sections, woven_module, woven}
@@ -23,7 +23,7 @@ Valued q at name = HasNoValue q at name → ⊥
 abbrev pub Quiet : ProgramTree → Place → Path → Type 0
 Quiet q at name = GivesInput q at name → ⊥
 
-pub some_more : {A : Type 0} (P Q : A → Type 0) (xs : List A) → ((x : A) → P x → Q x) → AtSome P xs → AtSome Q xs
+some_more : {A : Type 0} (P Q : A → Type 0) (xs : List A) → ((x : A) → P x → Q x) → AtSome P xs → AtSome Q xs
 some_more P Q [] f a = a
 some_more P Q (x ∷ xs) f (inl h) = inl (f x h)
 some_more P Q (x ∷ xs) f (inr a) = inr (some_more P Q xs f a)
@@ -72,7 +72,7 @@ abbrev pub Over : Kind → Kind → Type 0
 Over undeclared k' = IsAdded k'
 Over k k' = k' ≡ k
 
-pub module_over : (i : InstructionTree) (m : ModuleTree) (x : Text) → Over (kind_in m x) (kind_in (woven_module i m) x)
+module_over : (i : InstructionTree) (m : ModuleTree) (x : Text) → Over (kind_in m x) (kind_in (woven_module i m) x)
 module_over i m x = by_kind' (kind_in m x) refl
   where
     by_kind' : (k : Kind) → kind_in m x ≡ k → Over k (kind_in (woven_module i m) x)
@@ -156,12 +156,12 @@ module _ (p : ProgramTree) (i : InstructionTree) (ok : IsWeavable p i) where
   on_same None = refl
   on_same (Some l) = step_same l.place l.name
 
-  pub look_same : (n : ℕ) (at : Place) (name : Path) → look_after n (woven p i) at name ≡ look_after n p at name
+  look_same : (n : ℕ) (at : Place) (name : Path) → look_after n (woven p i) at name ≡ look_after n p at name
   look_same zero at name = refl
   look_same (suc n) at name = on_same (look_after n (woven p i) at name) ∙ ap (step_on p) (look_same n at name)
 
   -- the expressions of definitions
-  pub expression_same : (key : Key) → expression_of (woven p i) key ≡ expression_of p key
+  expression_same : (key : Key) → expression_of (woven p i) key ≡ expression_of p key
   expression_same (define_key at x) = over_expression at _ _ (kind_over at x)
   expression_same (actual_key [] j) = refl
   expression_same (actual_key (own ∷ caller) j) = ap (expression_in caller) (actual_same caller own j)

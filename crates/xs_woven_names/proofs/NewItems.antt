@@ -1,19 +1,19 @@
 -- The rules on names at the items that slices add.
-use Rattle.std.proofs.Common.{◌≡◌, ◌⊎◌, inl, inr, ℕ, suc, Bool, true, false, ◌||◌, List, [], ◌∷◌, ◌++◌, map, Option, Some, None, refl, sym, ◌∙◌, ap, subst}
-use Rattle.std.specs.Prelude.{ℤ, IsTrue, if◌then◌else◌}
+use Rattle.std.proofs.Common.{◌≡◌, inl, inr, Bool, true, false, ◌||◌, List, [], ◌∷◌, Option, Some, None, refl, sym, ◌∙◌, ap, subst}
+use Rattle.std.specs.Prelude.{ℤ, IsTrue}
 use Rattle.xs_tree.specs.declared.expr.Op.TheVariants as op
 use Rattle.xs_tree.specs.declared.program.Member.{Member}
 use Rattle.xs_tree.specs.declared.program.Member.TheVariants as member
 use Rattle.xs_tree.specs.declared.program.Moment.{Moment}
 use Rattle.xs_tree.specs.declared.program.Moment.TheVariants.{Always, First, After}
-use Rattle.xs_tree.specs.Tree.{binary, case_of}
+use Rattle.xs_tree.specs.Tree.{binary}
 use Rattle.xs_tree.specs.ProgramTree.{Text, Path, Formula, DeclaredTree, boolean, range, members, instance, ModuleTree, ProgramTree}
 use Rattle.xs_tree.specs.Values.{Value, truth, number, symbol}
 use Rattle.xs_tree.specs.Texts.{same_text}
-use Rattle.xs_tree.specs.Scope.{Place, state, a_variable, undeclared, kind_in, kind_at, module_at, is_symbol, is_symbol_of_type, is_symbol_of_members}
+use Rattle.xs_tree.specs.Scope.{Place, state, a_variable, undeclared, kind_in, kind_at, module_at, is_symbol, is_symbol_of_members}
 use Rattle.xs_tree.specs.Trace.{Each, AtSome, IsInstance, in_domain, is_member}
 use Rattle.xs_tree.proofs.ValueLaws.{same_text_refl, same_text_equal}
-use Rattle.xs_flattening.specs.Items.{Item, a_declaration, an_assignment, an_invar, a_trans}
+use Rattle.xs_flattening.specs.Items.{a_declaration, an_assignment, a_trans}
 use Rattle.xs_flattening.specs.Resolved.{leaves_in, has_next}
 use Rattle.xs_flattening.specs.Rules.{Rule, no_such_name, next_here, input_here, HasNoValue, may_be_assigned, next_under_next, leaves_under, GivesInput}
 use Rattle.xs_flattening.proofs.Places.{not_true}
@@ -236,8 +236,11 @@ module _ (p : ProgramTree) (i : InstructionTree) (ok : IsWeavable p i) (at : Pla
   read_clean : Clean Good (read_tree lawful.type s)
   read_clean =
       let all : CleanBranches Good _ = clean_modes Good s.name (λ n. branch n.effect lawful.type s.target) (named (own_name s.target)) s.modes
-      (λ n b. (stands_clean n b, effect_clean lawful.type n.effect (type_good lawful.type lawful.target_kind lawful.symbols_free) (each_at (IsLawfulMode p at m lawful.type) s.modes n lawful.modes b).effect_allowed
-      (λ r c. each_at (KeepsMode p at) s.modes n keeps b r (inl c))))
+      (λ n b. (
+        stands_clean n b,
+        effect_clean lawful.type n.effect (type_good lawful.type lawful.target_kind lawful.symbols_free) (each_at (IsLawfulMode p at m lawful.type) s.modes n lawful.modes b).effect_allowed
+            (λ r c. each_at (KeepsMode p at) s.modes n keeps b r (inl c)),
+      ))
       (clean_name Good (own_name s.target) own_good) in
       record { leaves = all.leaves; free = all.free }
 

@@ -1,14 +1,14 @@
 -- The rules on names at the items that a woven module has of its module.
-use Rattle.std.proofs.Common.{◌≡◌, ◌⊎◌, inl, inr, ℕ, zero, suc, Bool, true, false, List, [], ◌∷◌, Option, Some, None, refl, sym, ◌∙◌, ap, subst}
+use Rattle.std.proofs.Common.{◌≡◌, inl, inr, ℕ, suc, Bool, true, false, List, [], ◌∷◌, Option, Some, None, refl, sym, ◌∙◌, ap, subst}
 use Rattle.std.specs.Prelude.{IsTrue, option_map, if◌then◌else◌}
 use Rattle.xs_tree.specs.declared.program.Moment.{Moment}
 use Rattle.xs_tree.specs.declared.program.Moment.TheVariants.{Always, First, After}
-use Rattle.xs_tree.specs.ProgramTree.{Text, Path, Formula, DeclaredTree, boolean, range, members, instance, DeclTree, AssignmentTree, ModuleTree, ProgramTree}
-use Rattle.xs_tree.specs.Scope.{Place, Role, state, input, frozen_role, Kind, a_formal, a_variable, a_define, an_instance, undeclared, kind_declared, kind_in, kind_at, module_at, find_module, plain_name, define_key, actual_key}
-use Rattle.xs_tree.specs.Trace.{Each, AtSome, IsInstance}
+use Rattle.xs_tree.specs.ProgramTree.{Text, Path, Formula, DeclaredTree, boolean, range, members, instance, ModuleTree, ProgramTree}
+use Rattle.xs_tree.specs.Scope.{Place, Role, state, Kind, a_formal, a_variable, a_define, an_instance, undeclared, kind_declared, kind_in, kind_at, module_at, find_module, plain_name, define_key, actual_key}
+use Rattle.xs_tree.specs.Trace.{AtSome, IsInstance}
 use Rattle.xs_flattening.specs.Items.{Item, a_declaration, a_definition, an_assignment, some_constants, an_init, an_invar, a_trans}
-use Rattle.xs_flattening.specs.Resolved.{leaves_in, has_next}
-use Rattle.xs_flattening.specs.Rules.{HasNoValue, SomeHasNoValue, ActualHasNoMeaning, BreaksNames, may_be_assigned, is_target, NeedsItself, ActualLoops, SomeActualLoops, LoopsInside, BreaksLoops, leaves_under, is_later, has_bad_next, breaks_next, GivesInput, inputs_judged, BreaksInputs, BreaksTarget}
+use Rattle.xs_flattening.specs.Resolved.{leaves_in}
+use Rattle.xs_flattening.specs.Rules.{HasNoValue, SomeHasNoValue, ActualHasNoMeaning, BreaksNames, may_be_assigned, is_target, ActualLoops, LoopsInside, BreaksLoops, leaves_under, is_later, breaks_next, GivesInput, inputs_judged, BreaksInputs, BreaksTarget}
 use Rattle.xs_flattening.proofs.Lists.{each_more}
 use Rattle.xs_fei.specs.Instructions.{SliceTree, InstructionTree, slices_of, is_affected}
 use Rattle.xs_effects.specs.AddedNames.{own_name}
@@ -98,7 +98,7 @@ module _ (p : ProgramTree) (i : InstructionTree) (ok : IsWeavable p i) (at : Pla
 
   module _ (m : ModuleTree) (here : IsInstance p at m) where
     -- an affected variable has an own value, a variable of the state
-    pub renamed_kind : (x : Text) → is_affected i m.name x ≡ true → kind_at (module_at (woven p i) at) (own_name x) ≡ a_variable state (type_of_kind (kind_in m x))
+    renamed_kind : (x : Text) → is_affected i m.name x ≡ true → kind_at (module_at (woven p i) at) (own_name x) ≡ a_variable state (type_of_kind (kind_in m x))
     renamed_kind x h =
         let s : (s : SliceTree) × Among (slices_of i m.name) s × (s.target ≡ x) = affected_slice (slices_of i m.name) x h in
         subst (λ y. kind_at (module_at (woven p i) at) (own_name y) ≡ a_variable state (type_of_kind (kind_in m y))) s.2
@@ -126,8 +126,8 @@ module _ (p : ProgramTree) (i : InstructionTree) (ok : IsWeavable p i) (at : Pla
       where
         by_test : (b : Bool) → is_affected i m.name x ≡ b → is_target (woven p i) at when (if b then own_name x ∷ [] else x ∷ []) ≡ false → ⊥
         by_test true e c =
-            let yes' : may_be_assigned when (kind_at (module_at (woven p i) at) (own_name x)) ≡ true = ap (may_be_assigned when) (renamed_kind x e) ∙ state_assigned when (type_of_kind (kind_in m x)) in
-            let bad : true ≡ false = sym yes' ∙ c in cc
+            let may : may_be_assigned when (kind_at (module_at (woven p i) at) (own_name x)) ≡ true = ap (may_be_assigned when) (renamed_kind x e) ∙ state_assigned when (type_of_kind (kind_in m x)) in
+            let bad : true ≡ false = sym may ∙ c in cc
         by_test false e c = over_assigned when _ _ (kind_over p i ok at x) h c
 
     -- an item of the module, with affected variables renamed

@@ -1,21 +1,20 @@
 -- No variable of a woven module is assigned twice at one time.
-use Rattle.std.proofs.Common.{◌≡◌, ◌⊎◌, inl, inr, ℕ, Bool, true, false, List, [], ◌∷◌, ◌++◌, map, flat_map, Option, Some, None, refl, sym, ◌∙◌, ap, subst}
+use Rattle.std.proofs.Common.{◌≡◌, inl, inr, Bool, true, false, List, [], ◌∷◌, ◌++◌, map, flat_map, refl, sym, ◌∙◌, ap, subst}
 use Rattle.std.specs.Prelude.{IsTrue, if◌then◌else◌}
 use Rattle.std.proofs.lemmas.Grind.{flat_map-append}
 use Rattle.xs_tree.specs.declared.program.Moment.{Moment}
 use Rattle.xs_tree.specs.declared.program.Moment.TheVariants.{Always, First, After}
-use Rattle.xs_tree.specs.ProgramTree.{Text, Path, DeclaredTree, AssignmentTree, ModuleTree, ProgramTree}
+use Rattle.xs_tree.specs.ProgramTree.{Text, Path, AssignmentTree, ModuleTree, ProgramTree}
 use Rattle.xs_tree.specs.Scope.{Place, state, a_variable, undeclared, kind_in, kind_at}
 use Rattle.xs_tree.specs.Trace.{Each, AtSome, IsInstance}
 use Rattle.xs_flattening.specs.Items.{Item, a_declaration, a_definition, an_assignment, some_constants, an_init, an_invar, a_trans, items_of}
 use Rattle.xs_flattening.specs.Rules.{may_be_assigned, is_target, at_one_time, Assigns, BreaksOnce}
-use Rattle.xs_flattening.proofs.Conditions.{each_join}
 use Rattle.xs_flattening.proofs.Lists.{each_more, each_map}
 use Rattle.xs_fei.specs.Instructions.{SliceTree, InstructionTree, slices_of, is_affected}
 use Rattle.xs_effects.specs.AddedNames.{own_name, mode_variable}
 use Rattle.xs_weave.specs.Woven.{rename, woven_module}
 use Rattle.xs_weave.specs.Weavable.{Among, IsLawfulSlice, IsWeavable}
-use Rattle.xs_weave.proofs.Lists.{each_at, each_all}
+use Rattle.xs_weave.proofs.Lists.{each_at}
 use Rattle.xs_weave.proofs.Added.{own_name_same, mode_variable_same, own_not_mode, affected_slice, target_affected}
 use Rattle.xs_woven_names.proofs.Orders.{EachAfter, Pairwise, Across, pairs_join, pairs_map, pairs_after, after_pairs}
 use Rattle.xs_woven_names.proofs.Items.{woven_item, slice_items, taken_woven, slice_rules_nothing}
@@ -209,8 +208,8 @@ module _ (p : ProgramTree) (i : InstructionTree) (ok : IsWeavable p i) (at : Pla
       by_test : (b : Bool) → is_affected i m.name x ≡ b → (if b then own_name x ∷ [] else x ∷ []) ≡ s.target ∷ [] → ⊥
       by_test true t q = other_name s.target (own_name x) (variable_declared s a) (own_undeclared x t) (sym (same_head (own_name x) s.target q))
       by_test false t q =
-          let yes' : is_affected i m.name x ≡ true = subst (λ y. is_affected i m.name y ≡ true) (sym (same_head x s.target q)) (target_affected (slices_of i m.name) s a) in
-          let bad : true ≡ false = sym yes' ∙ t in cc
+          let hit : is_affected i m.name x ≡ true = subst (λ y. is_affected i m.name y ≡ true) (sym (same_head x s.target q)) (target_affected (slices_of i m.name) s a) in
+          let bad : true ≡ false = sym hit ∙ t in cc
 
   -- targets of slices
   mode_not_variable : (s t : SliceTree) → Among (slices_of i m.name) s → Among (slices_of i m.name) t → ◌≡◌ {A = Path} (mode_variable s.name ∷ []) (t.target ∷ []) → ⊥

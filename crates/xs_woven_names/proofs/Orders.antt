@@ -1,5 +1,5 @@
 -- Lists in which each member is judged by those before it, and lists of which any two members are judged.
-use Rattle.std.proofs.Common.{◌≡◌, ◌⊎◌, inl, inr, ℕ, suc, List, [], ◌∷◌, ◌++◌, map, refl, sym, subst}
+use Rattle.std.proofs.Common.{inl, inr, ℕ, suc, List, [], ◌∷◌, ◌++◌, map}
 use Rattle.xs_tree.specs.Trace.{Each, AtSome}
 use Rattle.xs_flattening.specs.Items.{Item, NumberedItem, numbered_from}
 use Rattle.xs_flattening.proofs.Reaches.{each_left, each_right}

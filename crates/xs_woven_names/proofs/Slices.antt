@@ -1,7 +1,6 @@
 -- Where no item of instructions breaks a rule: the names that slices add are new, and slices of a module stand apart.
-use Rattle.std.proofs.Common.{◌≡◌, ◌⊎◌, inl, inr, ℕ, suc, Bool, true, false, ◌&&◌, List, [], ◌∷◌, ◌++◌, map, flat_map, Some, None, refl, sym, ◌∙◌, ap, subst}
+use Rattle.std.proofs.Common.{◌≡◌, Bool, true, false, ◌&&◌, List, [], ◌∷◌, ◌++◌, map, refl, sym, subst}
 use Rattle.std.specs.Prelude.{if◌then◌else◌}
-use Rattle.std.specs.List.{list_any}
 use Rattle.xs_tree.specs.ProgramTree.{Text, ProgramTree}
 use Rattle.xs_tree.specs.Texts.{same_text}
 use Rattle.xs_tree.specs.Trace.{Each}
@@ -12,15 +11,15 @@ use Rattle.xs_effects.specs.AddedNames.{own_name, mode_variable}
 use Rattle.xs_weave.specs.Weavable.{Among}
 use Rattle.xs_weave.proofs.Lists.{each_all, each_at, each_mono}
 use Rattle.xs_weave_rules.specs.Sites.{OwnedSlice, owned, item_sites}
-use Rattle.xs_weave_rules.specs.Rules.{is_slice_name, is_affected_already, is_program_name, states_before, owns_before, broken_at}
+use Rattle.xs_weave_rules.specs.Rules.{is_program_name, states_before, owns_before, broken_at}
 use Rattle.xs_weave_rules.specs.FirstBroken.{AllKept}
-use Rattle.xs_weave_rules.proofs.ProgramNames.{or_false, any_false}
+use Rattle.xs_weave_rules.proofs.ProgramNames.{any_false}
 use Rattle.xs_weave_rules.proofs.KeptItems.{all_slices, slice_in_file, IsKeptSlice, AreKeptSlices, StandsAfter, kept_at, extensions_kept}
-use Rattle.xs_weave_rules.proofs.KeptFacts.{SliceKept, slice_facts, IsFree, free}
-use Rattle.xs_woven_names.proofs.Orders.{EachAfter, Pairwise, Across, pairs_join, pairs_left, pairs_right, pairs_across, pairs_after}
+use Rattle.xs_weave_rules.proofs.KeptFacts.{SliceKept, slice_facts, free}
+use Rattle.xs_woven_names.proofs.Orders.{EachAfter, Pairwise, pairs_join, pairs_left, pairs_right, pairs_across, pairs_after}
 
-pub not_itself : (x y : Text) → same_text x y ≡ false → x ≡ y → ⊥
-not_itself x y h e = let yes' : same_text x x ≡ true = same_text_refl x in let no : same_text x x ≡ false = subst (λ z. same_text x z ≡ false) (sym e) h in cc
+not_itself : (x y : Text) → same_text x y ≡ false → x ≡ y → ⊥
+not_itself x y h e = let same : same_text x x ≡ true = same_text_refl x in let no : same_text x x ≡ false = subst (λ z. same_text x z ≡ false) (sym e) h in cc
 
 -- two slices of a file: other names, and other variables where they are of one module
 abbrev OwnedApart : OwnedSlice → OwnedSlice → Type 0

@@ -1,15 +1,13 @@
 -- The walk over the instances of a woven program: it comes to the same instances, and breaks no rule that it kept.
-use Rattle.std.proofs.Common.{◌≡◌, inl, inr, ℕ, zero, suc, Bool, true, false, List, [], ◌∷◌, ◌++◌, length, map, flat_map, Option, Some, None, refl, sym, ◌∙◌, ap, subst}
-use Rattle.std.specs.Prelude.{codes, option_map, nat_eq, if◌then◌else◌}
+use Rattle.std.proofs.Common.{◌≡◌, ℕ, zero, suc, Bool, true, false, List, [], ◌∷◌, ◌++◌, length, map, flat_map, Option, Some, None, refl, sym, ◌∙◌, ap, subst}
+use Rattle.std.specs.Prelude.{codes, option_map, if◌then◌else◌}
 use Rattle.std.proofs.lemmas.Grind.{flat_map-append}
 use Rattle.xs_tree.specs.ProgramTree.{Text, DeclaredTree, boolean, range, members, instance, ModuleTree, ProgramTree}
 use Rattle.xs_tree.specs.Texts.{is_among}
-use Rattle.xs_tree.specs.Values.{opposite}
 use Rattle.xs_tree.specs.Scope.{Place, Role, find_module}
 use Rattle.xs_tree.specs.Trace.{Each}
-use Rattle.xs_flattening.specs.Flat.{FlatInstance}
 use Rattle.xs_flattening.specs.Items.{Item, a_declaration, a_definition, an_assignment, some_constants, an_init, an_invar, a_trans, NumberedItem, items_of, numbered_from, items_named, Visit, visits_inside, visits_of, walk_items, walk, visits, instances_of_visit, instances_of}
-use Rattle.xs_flattening.specs.Rules.{is_missing, is_missing_instance, is_other_count, is_miscounted, is_on_path}
+use Rattle.xs_flattening.specs.Rules.{is_missing, is_missing_instance, is_other_count, is_miscounted}
 use Rattle.xs_flattening.proofs.Reaches.{each_left, each_right}
 use Rattle.xs_flattening.proofs.Conditions.{each_join}
 use Rattle.xs_flattening.proofs.Places.{VisitFacts}

@@ -1,5 +1,5 @@
 -- A woven program breaks no rule of flattening but its limits.
-use Rattle.std.proofs.Common.{◌≡◌, ◌⊎◌, inl, inr, ℕ, suc, Bool, true, false, List, [], ◌∷◌, ◌++◌, map, flat_map, Option, Some, None, refl, sym, ◌∙◌, ap, subst}
+use Rattle.std.proofs.Common.{◌≡◌, ℕ, Bool, true, false, List, [], ◌∷◌, ◌++◌, map, flat_map, Some, refl, sym, ◌∙◌, ap, subst}
 use Rattle.std.specs.Prelude.{slice_get, codes, option_map, if◌then◌else◌}
 use Rattle.xs_tree.specs.ProgramTree.{Text, ModuleTree, ProgramTree}
 use Rattle.xs_tree.specs.Texts.{same_text}
@@ -7,16 +7,15 @@ use Rattle.xs_tree.specs.Scope.{Place, find_module}
 use Rattle.xs_tree.specs.Trace.{Each, IsInstance}
 use Rattle.xs_tree.proofs.ValueLaws.{same_text_equal}
 use Rattle.xs_flattening.specs.Flat.{FlatInstance}
-use Rattle.xs_flattening.specs.Items.{Item, NumberedItem, items_of, numbered_from, items_named, Visit, visits, instances_of}
-use Rattle.xs_flattening.specs.Rules.{Rule, no_such_module, wrong_count, module_loop, no_such_name, not_a_target, double_assign, define_loop, next_here, input_here, too_many, Site, a_visit, a_use, visit_sites, module_sites, use_sites, sites, BreaksOnce, Breaks, IsKept, IsFirstBroken}
+use Rattle.xs_flattening.specs.Items.{Item, NumberedItem, items_of, items_named, Visit, visits, instances_of}
+use Rattle.xs_flattening.specs.Rules.{no_such_module, wrong_count, module_loop, no_such_name, not_a_target, double_assign, define_loop, next_here, input_here, too_many, Site, a_visit, a_use, visit_sites, module_sites, use_sites, sites, Breaks, IsKept}
 use Rattle.xs_flattening.proofs.Reaches.{each_left, each_right}
 use Rattle.xs_flattening.proofs.Conditions.{each_join, each_flat, each_from, each_at}
 use Rattle.xs_flattening.proofs.Lists.{each_of_map, each_map, each_more}
 use Rattle.xs_flattening.proofs.Places.{VisitFacts, all_visit_facts, are_instances}
 use Rattle.xs_flattening.proofs.Walkable.{accepted_walkable, main_is_there}
-use Rattle.xs_fei.specs.Instructions.{SliceTree, InstructionTree, slices_of, is_affected}
+use Rattle.xs_fei.specs.Instructions.{InstructionTree, slices_of, is_affected}
 use Rattle.xs_weave.specs.Woven.{woven_module, woven}
-use Rattle.xs_weave.specs.Weavable.{Among}
 use Rattle.xs_weave.proofs.WovenKinds.{find_woven}
 use Rattle.xs_weave.proofs.Lists.{each_at as each_among}
 use Rattle.xs_woven_names.specs.Laws.{OnlyLimits, WithinLimits, IsExtendable, WovenKeepsNames, WovenBreaksLimitsAlone, WovenIsAccepted}

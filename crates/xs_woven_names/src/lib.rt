@@ -1,11 +1,11 @@
 //! What a weave keeps of the rules of flattening: a woven program breaks none of them but its limits.
 //!
-//! A program that is read breaks no rule of flattening, its instructions break no rule of items, and no guard
-//! and nothing that is followed breaks a rule of names at any instance (`IsExtendable` in `specs/Laws.antt`).
-//! Then the woven program has the same instances and breaks, at every place where a rule may be broken, no rule
-//! but that of too many variables, which the added ones may pass. So whoever reads a woven program back has
-//! limits and kinds alone to fear. The laws are stated in `specs/Laws.antt`; these functions carry them, and run
-//! nothing.
+//! The program breaks no rule of flattening, no item of the instructions breaks a rule, and no guard and nothing
+//! that is followed breaks a rule of names at any instance (`IsExtendable` in `specs/Laws.antt`). Then the woven
+//! program has the same instances, and at every place where a rule may be broken it breaks none but that of too
+//! many instances or variables, since the weave adds variables. So whoever reads a woven program back has its
+//! limits and its kinds alone to judge. The laws are stated in `specs/Laws.antt`; the functions below carry them
+//! and run nothing.
 //!
 //! The proofs follow the order of the rules. `Items` has the items of a woven module: those of the module, with
 //! affected variables renamed, and then the added ones. `Looking` has look-ups, which take the steps that they
