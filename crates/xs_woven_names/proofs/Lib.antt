@@ -1,0 +1,14 @@
+pub mod Orders
+pub mod Items
+pub mod Leaves
+pub mod Looking
+pub mod Walks
+pub mod Slices
+pub mod Headers
+pub mod Actuals
+pub mod OldItems
+pub mod Uses
+pub mod Clean
+pub mod NewItems
+pub mod Once
+pub mod Woven
