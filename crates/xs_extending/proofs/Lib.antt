@@ -1,1 +1,4 @@
+pub mod KeysOnce
+pub mod Splits
+pub mod OneForm
 pub mod ExpressionLaws
