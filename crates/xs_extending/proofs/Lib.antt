@@ -2,3 +2,4 @@ pub mod KeysOnce
 pub mod Splits
 pub mod OneForm
 pub mod ExpressionLaws
+pub mod SliceLaws

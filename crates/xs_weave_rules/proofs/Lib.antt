@@ -7,4 +7,4 @@ mod KeyedLaws
 mod LocalLaws
 mod SiteFaults
 mod CountLaws
-mod PlacingLaws
+pub mod PlacingLaws

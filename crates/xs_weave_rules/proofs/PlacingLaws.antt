@@ -15,7 +15,7 @@ use Rattle.xs_weave_rules.proofs.KeyedLaws.{map_push}
 use Rattle.xs_weave_rules.proofs.SiteFaults.{drop_item, slice_first}
 
 module _ (p : ProgramTree) where
-  places_joined : (n : ℕ) (xs ys : List Site) → placed_from p n (xs ++ ys) ≡ placed_from p n xs ++ placed_from p (n + length xs) ys
+  pub places_joined : (n : ℕ) (xs ys : List Site) → placed_from p n (xs ++ ys) ≡ placed_from p n xs ++ placed_from p (n + length xs) ys
   places_joined n [] ys = ap (λ k. placed_from p k ys) (omega arith)
   places_joined n (x ∷ xs) ys =
       ap (λ ps. placed_at p (suc n) x ++ ps) (places_joined (suc n) xs ys ∙ ap (λ k. placed_from p (suc n) xs ++ placed_from p k ys) (shifted n (length xs)))
