@@ -8,3 +8,5 @@ pub mod GuardLaws
 pub mod Deciding
 pub mod KindAnswers
 pub mod NameAnswers
+pub mod Telling
+pub mod OneFault

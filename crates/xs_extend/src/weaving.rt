@@ -21,7 +21,7 @@ ghost use Rattle.xs_flat.specs.ModelTree.{model_tree};
 ghost use Rattle.xs_flattening.specs.Flat.{FlatModel};
 ghost use Rattle.xs_kinds.specs.Models.{IsTyped};
 ghost use Rattle.xs_extending.specs.Expressions.{AllUsesKept};
-ghost use Rattle.xs_extend.specs.Refused.{modules_in, modules_at, KeepsRules, IsTold, IsToldSomewhere};
+ghost use Rattle.xs_extend.specs.Refused.{modules_in, modules_at, KeepsRules, IsTold, IsToldSomewhere, IsWant};
 
 use crate::fault::{Cause, WeaveFault};
 use crate::faults::{Woven, woven_faults};
@@ -113,12 +113,14 @@ fn modules_of<'a>(alloc: Global, instances: &'a [Instance]) -> Result<Vec<&'a Na
     Ok(modules)
 }
 
-/// The flat model of a program, with kinds.
+/// The flat model of a program, with kinds. Of a program that breaks no rule it wants memory alone.
 fn typed_of(alloc: Global, p: &Program) -> Result<Typed, WeaveFault>
     ensures told { IfErr result (λ fault. fault.item ≡ 0) }
     ensures accepted { OnOk result (IsAccepted (program_tree p.now)) }
     ensures flat { IfOk result (λ typed. IsFlatOf (program_tree p.now) (model_tree typed.model)) }
+    ensures alone { IfOk result (λ typed. (m : FlatModel) → IsFlatOf (program_tree p.now) m → m ≡ model_tree typed.model) }
     ensures meant { OnOk result (ActualsMean (program_tree p.now)) }
+    ensures want { (m : FlatModel) → IsAccepted (program_tree p.now) → IsFlatOf (program_tree p.now) m → IsTyped m → IfErr result IsWant }
 {
     let model = match flatten(alloc, p) {
         Ok(model) => model,

@@ -13,7 +13,8 @@ use Rattle.xs_weave_rules.specs.Rules.{target_kind}
 use Rattle.xs_weave_rules.specs.Faults.{owned_slices, file_slices}
 use Rattle.xs_weave_rules.specs.Placing.{PlacedSlice, placed_from}
 use Rattle.xs_weave_rules.proofs.PlacingLaws.{places_joined, no_places}
-use Rattle.xs_extending.specs.Uses.{Use, use_of_site, uses_from, uses_at}
+use Rattle.xs_flattening.specs.Items.{instances_of}
+use Rattle.xs_extending.specs.Uses.{Use, use_of_site, uses_from, uses_at, uses}
 use Rattle.xs_extending.specs.SliceUses.{modes_from, uses_of_slice, uses_of_slices}
 
 module _ (p : ProgramTree) where
@@ -109,3 +110,8 @@ module _ (p : ProgramTree) (at : FlatInstance) where
 
 pub uses_are : (p : ProgramTree) (i : InstructionTree) (at : FlatInstance) → uses_at p i at ≡ uses_of_slices (placed_from p 0 (item_sites i)) at
 uses_are p i at = file_used p at 0 [] i.extensions
+
+-- the modes at all instances
+pub all_uses : (p : ProgramTree) (i : InstructionTree) (ss : List PlacedSlice) (instances : List FlatInstance) → ss ≡ placed_from p 0 (item_sites i) → instances ≡ instances_of p →
+    flat_map (uses_of_slices ss) instances ≡ uses p i
+all_uses p i ss instances e f = (λ j. flat_map (uses_of_slices (e j)) (f j)) ∙ sym (λ j. flat_map (λ at. uses_are p i at j) (instances_of p))
