@@ -1,97 +1,111 @@
--- Modes whose expressions are resolved and judged are good.
-use Rattle.std.proofs.Common.{◌≡◌, ◌⊎◌, inl, inr, ℕ, Bool, true, false, List, [], ◌∷◌, ◌++◌, map, Option, Some, None, refl, sym, ◌∙◌, ap, subst}
+-- Modes that break no rule at any instance are good.
+use Rattle.std.proofs.Common.{◌≡◌, ◌⊎◌, inl, inr, ℕ, suc, Bool, true, false, List, [], ◌∷◌, ◌++◌, map, Option, Some, None, refl, sym, ◌∙◌, ap, subst}
 use Rattle.std.specs.Prelude.{codes, slice_get, Result, Ok, Err, IfOk, OnOk}
-use Rattle.xs_tree.specs.ProgramTree.{Text, Formula, ModuleTree, ProgramTree, program_tree}
+use Rattle.xs_tree.specs.Tree.{Tree}
+use Rattle.xs_tree.specs.ProgramTree.{Text, Formula, DeclaredTree, ModuleTree, ProgramTree, program_tree}
 use Rattle.xs_tree.specs.Texts.{same_text}
 use Rattle.xs_tree.specs.Trace.{Each, AtSome, IsInstance}
 use Rattle.xs_tree.specs.Scope.{Place, find_module}
-use Rattle.xs_tree.specs.declared.expr.Expr.{Expr}
 use Rattle.xs_fei.specs.Instructions.{EffectTree, follows, stuck_at, inverted, random, erroneous, frozen, stuck_at_pick, offset, ramp_down, ModeTree, SliceTree, ExtensionTree, InstructionTree, slices_from}
-use Rattle.xs_flattening.specs.Flat.{FlatInstance, FlatModel}
+use Rattle.xs_flattening.specs.Flat.{FlatLeaf, FlatInstance, FlatModel}
 use Rattle.xs_flattening.specs.Items.{instances_of}
 use Rattle.xs_flattening.specs.Looks.{ActualsMean}
-use Rattle.xs_flattening.specs.Rules.{IsWalkable, IsAccepted}
+use Rattle.xs_flattening.specs.Resolved.{has_next}
+use Rattle.xs_flattening.specs.Rules.{Rule, next_here, IsWalkable, IsAccepted}
 use Rattle.xs_flattening.specs.Model.{IsFlatOf}
 use Rattle.xs_flattening.proofs.Reaches.{each_left, each_right}
-use Rattle.xs_flattening.proofs.Lists.{each_more}
-use Rattle.xs_flattening.proofs.Conditions.{each_at}
+use Rattle.xs_flattening.proofs.Lists.{each_map, each_more}
+use Rattle.xs_flattening.proofs.Conditions.{each_at, each_flat}
 use Rattle.xs_flattening.proofs.Sections.{AreInstances}
-use Rattle.xs_flattening.proofs.Places.{are_instances}
+use Rattle.xs_flattening.proofs.Places.{not_true, are_instances}
 use Rattle.xs_flattening.proofs.Walkable.{accepted_walkable, main_is_there}
 use Rattle.xs_flattening.proofs.Kept.{module_named}
-use Rattle.xs_kinds.specs.Intervals.{Interval}
 use Rattle.xs_kinds.specs.Judged as found
-use Rattle.xs_kinds.specs.Judged.{Class, truth_class, number_class, symbol_class, not_boolean, unless_class}
-use Rattle.xs_kinds.specs.Models.{judged_in, broken_condition, IsTyped}
+use Rattle.xs_kinds.specs.Judged.{KindRule, truth_class, not_boolean, unless_class}
+use Rattle.xs_kinds.specs.Models.{least, judged_in, broken_condition, IsTyped}
+use Rattle.xs_kinds.proofs.Least.{least_none}
+use Rattle.xs_kinds.proofs.Parts.{none_first, none_second}
 use Rattle.xs_weave.specs.Weavable.{Among, IsWeavable}
 use Rattle.xs_weave.specs.Conservative.{IsExtensionOf}
 use Rattle.xs_weave.specs.Woven.{woven}
 use Rattle.xs_weave.proofs.WovenNominal.{woven_extends}
-use Rattle.xs_extend.specs.declared.faults.Woven.{Woven}
-use Rattle.xs_weave_rules.specs.Sites.{OwnedSlice, owned}
+use Rattle.xs_weave_rules.specs.Sites.{OwnedSlice, owned, item_sites}
 use Rattle.xs_weave_rules.specs.Faults.{file_slices}
+use Rattle.xs_weave_rules.specs.Placing.{PlacedSlice, placed_from}
 use Rattle.xs_weave_rules.specs.Judged.{IsJudged}
-use Rattle.xs_flat.specs.declared.model.Flat.{Flat}
-use Rattle.xs_flat.specs.ModelTree.{flat_tree}
-use Rattle.xs_types.specs.Calls.{shown}
-use Rattle.xs_types.specs.declared.calls.Kind.{Kind}
-use Rattle.xs_types.specs.declared.calls.Kind.TheVariants.{Bool as ABool, Num, Sym}
+use Rattle.xs_extending.specs.Uses.{Use, uses_at}
+use Rattle.xs_extending.specs.SliceUses.{modes_from, uses_of_slice, uses_of_slices}
+use Rattle.xs_extending.specs.Expressions.{followed, SomeBreaks, IsForm, broken_by, class_of_followed, class_of_guard, or_else, kind_rule, KeepsUse, AllUsesKept}
+use Rattle.xs_extending.proofs.SliceLaws.{placed_are, uses_are}
+use Rattle.xs_extend.specs.declared.faults.Woven.{Woven}
 use Rattle.xs_extend.specs.JudgedLaws.{IsGoodCondition, IsGoodValue, IsGoodEffect, IsGoodGuard, IsGoodMode, AreGoodModes}
 use Rattle.xs_extend.proofs.LawfulLaws.{lawful_instance}
 use Rattle.xs_extend.proofs.JudgedModes.{good_is_judged}
-use Rattle.xs_extend.specs.Guarded.{IsFormOf, HasForm, IsOfKind, HasKind, followed, IsTruth, IsGood, IsGoodSlice, AreGoodSlices}
 
-shown_truth : (c : Class) (i : Option Interval) → shown (record { class = c; interval = i }) ≡ ABool → c ≡ truth_class
-shown_truth truth_class i e = refl
-shown_truth number_class None e = cc
-shown_truth number_class (Some i) e = cc
-shown_truth symbol_class i e = cc
+-- no rule of kinds: the lists of which the least is taken are empty
+abbrev NoneOfBoth : List KindRule → List KindRule → Type 0
+NoneOfBoth rs qs = (rs ≡ []) × (qs ≡ [])
 
-condition_kept : (j : found.Judged) → j.broken ≡ [] → j.kind.class ≡ truth_class → broken_condition j ≡ []
-condition_kept j none truth = rw (truth, none) refl
+none_of_both : (rs qs : List KindRule) → or_else (least rs) (least qs) ≡ None → NoneOfBoth rs qs
+none_of_both rs qs e = by_least (least rs) refl e
+  where
+    by_least : (o : Option KindRule) → least rs ≡ o → or_else o (least qs) ≡ None → NoneOfBoth rs qs
+    by_least None is none = (least_none rs is, least_none qs none)
+    by_least (Some r) is none = cc
 
-module _ (p : ProgramTree) (m : FlatModel) (at : Place) (is : IsFlatOf p m) where
-  good_value : (e : Formula) (flat : Expr Flat) (kind : Kind) → IsFormOf p m at e flat → IsOfKind m flat kind → IsGoodValue p m is.written at e
-  good_value e flat kind form of =
-      let r = form.resolved is in record { resolver = r.0; sound = r.1; flat = flat_tree flat; resolved = r.2; no_next = form.no_next; kept = of.kept }
+module _ (p : ProgramTree) (m : FlatModel) (is : IsFlatOf p m) (at : Place) where
+  without_next : (inputs : Bool) (e : Formula) → ((r : Rule) → SomeBreaks p at inputs (Some e) r → ⊥) → has_next e ≡ false
+  without_next inputs e kept = not_true (has_next e) (kept next_here)
 
-  good_condition : (e : Formula) (flat : Expr Flat) (kind : Kind) → IsFormOf p m at e flat → IsOfKind m flat kind → kind ≡ ABool → IsGoodCondition p m is.written at e
-  good_condition e flat kind form of truth =
-      let r = form.resolved is in
-      let j : found.Judged = judged_in m false (flat_tree flat) in
-      record {
-        resolver = r.0;
-        sound = r.1;
-        flat = flat_tree flat;
-        resolved = r.2;
-        no_next = form.no_next;
-        kept = condition_kept j of.kept (shown_truth j.kind.class j.kind.interval (sym of.kind_is ∙ truth));
-      }
+  good_value : (e : Formula) (flat : Option (Tree FlatLeaf)) → ((r : Rule) → SomeBreaks p at false (Some e) r → ⊥) → IsForm p m at (Some e) flat → broken_by m flat ≡ [] → IsGoodValue p m is.written at e
+  good_value e None names form kept = absurd form
+  good_value e (Some flat) names form kept =
+      let r = form is in record { resolver = r.0; sound = r.1; flat = flat; resolved = r.2; no_next = without_next false e names; kept = kept }
 
-  of_effect : (effect : EffectTree) (flat : Option (Expr Flat)) (kind : Option Kind) → HasForm p m at (followed effect) flat → HasKind m flat kind → IsGoodEffect p m is.written at effect
-  of_effect (follows e) None kind form of = absurd form
-  of_effect (follows e) (Some flat) None form of = absurd of
-  of_effect (follows e) (Some flat) (Some kind) form of = good_value e flat kind form of
-  of_effect (stuck_at c) flat kind form of = tt
-  of_effect inverted flat kind form of = tt
-  of_effect random flat kind form of = tt
-  of_effect erroneous flat kind form of = tt
-  of_effect frozen flat kind form of = tt
-  of_effect stuck_at_pick flat kind form of = tt
-  of_effect (offset d) flat kind form of = tt
-  of_effect (ramp_down d f) flat kind form of = tt
+  good_condition : (e : Formula) (flat : Option (Tree FlatLeaf)) → ((r : Rule) → SomeBreaks p at true (Some e) r → ⊥) → IsForm p m at (Some e) flat → broken_by m flat ≡ [] → class_of_guard m flat ≡ [] →
+      IsGoodCondition p m is.written at e
+  good_condition e None names form kept truth = absurd form
+  good_condition e (Some flat) names form kept truth =
+      let r = form is in
+      record { resolver = r.0; sound = r.1; flat = flat; resolved = r.2; no_next = without_next true e names; kept = ap (λ rs. rs ++ (judged_in m false flat).broken) truth ∙ kept }
 
-  of_guard : (guard : Option Formula) (flat : Option (Expr Flat)) (kind : Option Kind) → HasForm p m at guard flat → HasKind m flat kind → IsTruth kind → IsGoodGuard p m is.written at guard
-  of_guard None flat kind form of truth = tt
-  of_guard (Some e) None kind form of truth = absurd form
-  of_guard (Some e) (Some flat) None form of truth = absurd of
-  of_guard (Some e) (Some flat) (Some kind) form of truth = good_condition e flat kind form of truth
+  of_effect : (effect : EffectTree) (flat : Option (Tree FlatLeaf)) → ((r : Rule) → SomeBreaks p at false (followed effect) r → ⊥) → IsForm p m at (followed effect) flat → broken_by m flat ≡ [] →
+      IsGoodEffect p m is.written at effect
+  of_effect (follows e) flat names form kept = good_value e flat names form kept
+  of_effect (stuck_at c) flat names form kept = tt
+  of_effect inverted flat names form kept = tt
+  of_effect random flat names form kept = tt
+  of_effect erroneous flat names form kept = tt
+  of_effect frozen flat names form kept = tt
+  of_effect stuck_at_pick flat names form kept = tt
+  of_effect (offset d) flat names form kept = tt
+  of_effect (ramp_down d f) flat names form kept = tt
 
--- a mode whose expressions have flat forms of fitting kinds is good
-pub good_mode : (p : ProgramTree) (m : FlatModel) (at : Place) (mode : ModeTree) (follows' guard : Option (Expr Flat)) (follows_kind guard_kind : Option Kind) →
-    HasForm p m at (followed mode.effect) follows' → HasForm p m at mode.guard guard → HasKind m follows' follows_kind → HasKind m guard guard_kind → IsTruth guard_kind → IsGood p m at mode
-good_mode p m at mode follows' guard follows_kind guard_kind f g fk gk truth =
-    λ is. record { effect = of_effect p m at is mode.effect follows' follows_kind f fk; guard = of_guard p m at is mode.guard guard guard_kind g gk truth }
+  of_guard : (guard : Option Formula) (flat : Option (Tree FlatLeaf)) → ((r : Rule) → SomeBreaks p at true guard r → ⊥) → IsForm p m at guard flat → broken_by m flat ≡ [] → class_of_guard m flat ≡ [] →
+      IsGoodGuard p m is.written at guard
+  of_guard None flat names form kept truth = tt
+  of_guard (Some e) flat names form kept truth = good_condition e flat names form kept truth
+
+-- a mode that breaks no rule at an instance is good there
+good_mode : (p : ProgramTree) (m : FlatModel) (is : IsFlatOf p m) (u : Use) → KeepsUse p m u → IsGoodMode p m is.written u.place u.mode
+good_mode p m is u k =
+    let none : NoneOfBoth (broken_by m k.forms.follows_as ++ broken_by m k.forms.guard_as) (class_of_followed m u.type k.forms.follows_as ++ class_of_guard m k.forms.guard_as) = none_of_both _ _ k.kinds in
+    record {
+      effect = of_effect p m is u.place u.mode.effect k.forms.follows_as (λ r b. k.names r (inl b)) k.forms.is_followed (none_first _ _ none.0);
+      guard = of_guard p m is u.place u.mode.guard k.forms.guard_as (λ r b. k.names r (inr b)) k.forms.is_guard (none_second _ _ none.0) (none_second _ _ none.1);
+    }
+
+modes_good : (p : ProgramTree) (m : FlatModel) (is : IsFlatOf p m) (at : Place) (type : DeclaredTree) (n : ℕ) (ms : List ModeTree) → Each (KeepsUse p m) (modes_from at type n ms) →
+    Each (IsGoodMode p m is.written at) ms
+modes_good p m is at type n [] h = tt
+modes_good p m is at type n (mode ∷ ms) h = (good_mode p m is (record { place = at; item = n; type = type; mode = mode }) h.0, modes_good p m is at type (suc n) ms h.1)
+
+-- the modes of a slice are good at an instance of its module
+abbrev IsGoodSlice : (p : ProgramTree) (m : FlatModel) → IsFlatOf p m → FlatInstance → OwnedSlice → Type 0
+IsGoodSlice p m is at o = same_text o.owner at.module_name ≡ true → Each (IsGoodMode p m is.written at.place) o.slice.modes
+
+slice_good : (p : ProgramTree) (m : FlatModel) (is : IsFlatOf p m) (at : FlatInstance) (s : PlacedSlice) → Each (KeepsUse p m) (uses_of_slice at s) → IsGoodSlice p m is at s.of
+slice_good p m is at s h same = modes_good p m is at.place s.type (suc s.item) s.of.slice.modes (rw same at h)
 
 split_some : {A : Type 0} (P : A → Type 0) (xs ys : List A) → AtSome P (xs ++ ys) → AtSome P xs ⊎ AtSome P ys
 split_some P [] ys h = inr h
@@ -127,9 +141,9 @@ owned_by P n s (x ∷ xs) h a =
     by_name true t rest = by_part t rest (split_some (λ y. y ≡ s) x.slices (slices_from xs n) (rw t at a))
     by_name false t rest = rest (rw t at a)
 
--- where the slices of the file are good at each instance, so are the modes of each slice at each instance of its module
-pub guards_good : (p : ProgramTree) (m : FlatModel) (i : InstructionTree) → IsAccepted p → (is : IsFlatOf p m) → Each (AreGoodSlices p m (file_slices i.extensions)) m.instances → AreGoodModes p m is.written i
-guards_good p m i accepted is good at k s here among =
+-- where all modes keep the rules, the modes of each slice are good at each instance of its module
+guards_good : (p : ProgramTree) (m : FlatModel) (i : InstructionTree) → IsAccepted p → (is : IsFlatOf p m) → AllUsesKept p m i → AreGoodModes p m is.written i
+guards_good p m i accepted is kept at k s here among =
     let walkable : IsWalkable p = accepted_walkable p accepted in
     let main : (n : ModuleTree) × (find_module p (codes "main") ≡ Some n) = main_is_there p walkable in
     let are : AreInstances p = are_instances p walkable main.0 main.1 in
@@ -137,19 +151,25 @@ guards_good p m i accepted is good at k s here among =
     let real : (n : ModuleTree) × IsInstance p found.1.place n × (find_module p found.1.module_name ≡ Some n) = are.real found.0 found.1 found.2 in
     let same : real.0 ≡ k = one_module real.0 k (sym (subst (λ a. IsInstance p a real.0) found.3 real.1) ∙ here) in
     let name : k.name ≡ found.1.module_name = module_named p found.1.module_name k (real.2 ∙ ap Some same) in
-    let slices : AreGoodSlices p m (file_slices i.extensions) found.1 =
-    each_at (AreGoodSlices p m (file_slices i.extensions)) m.instances found.0 found.1 good (subst (λ xs. slice_get xs found.0 ≡ Some found.1) (sym is.instances) found.2) in
-    let o : OwnedBy (IsGoodSlice p m found.1) k.name s = owned_by (IsGoodSlice p m found.1) k.name s i.extensions slices among in
-    let modes : Each (IsGood p m found.1.place) s.modes =
-    subst (λ t. Each (IsGood p m found.1.place) t.modes) o.slice (o.known (subst (λ n. same_text o.of.owner n ≡ true) name o.owner)) in
-    each_more (IsGood p m found.1.place) (IsGoodMode p m is.written at) s.modes (λ mode h. subst (λ a. IsGoodMode p m is.written a mode) found.3 (h is)) modes
+    let o : OwnedBy (IsGoodSlice p m is found.1) k.name s = owned_by (IsGoodSlice p m is found.1) k.name s i.extensions (slices_good found.1 (each_at (λ x. Each (KeepsUse p m) (uses_at p i x)) (instances_of p) found.0 found.1
+    ((each_flat (KeepsUse p m) (uses_at p i) (instances_of p)).0 kept) found.2)) among in
+    let modes : Each (IsGoodMode p m is.written found.1.place) s.modes =
+    subst (λ t. Each (IsGoodMode p m is.written found.1.place) t.modes) o.slice (o.known (subst (λ n. same_text o.of.owner n ≡ true) name o.owner)) in
+    subst (λ a. Each (IsGoodMode p m is.written a) s.modes) found.3 modes
   where
     one_module : (a b : ModuleTree) → Some a ≡ Some b → a ≡ b
     one_module a b e = cc
 
--- instructions whose guards are good at each instance are judged
-pub guards_judged : (p : ProgramTree) (m : FlatModel) (i : InstructionTree) → IsAccepted p → IsFlatOf p m → IsTyped m → ActualsMean p → Each (AreGoodSlices p m (file_slices i.extensions)) m.instances → IsJudged p i
-guards_judged p m i accepted is typed mean good = good_is_judged p m i accepted is typed (lawful_instance p accepted m is mean) (guards_good p m i accepted is good)
+    slices_good : (x : FlatInstance) → Each (KeepsUse p m) (uses_at p i x) → Each (IsGoodSlice p m is x) (file_slices i.extensions)
+    slices_good x h =
+        subst (Each (IsGoodSlice p m is x)) (placed_are p i)
+        (each_map (IsGoodSlice p m is x) (λ (s : PlacedSlice). s.of) (placed_from p 0 (item_sites i))
+        (each_more (λ s. Each (KeepsUse p m) (uses_of_slice x s)) (λ s. IsGoodSlice p m is x s.of) (placed_from p 0 (item_sites i)) (slice_good p m is x)
+        ((each_flat (KeepsUse p m) (uses_of_slice x) (placed_from p 0 (item_sites i))).0 (subst (Each (KeepsUse p m)) (uses_are p i x) h))))
+
+-- and the instructions are judged
+pub uses_judged : (p : ProgramTree) (m : FlatModel) (i : InstructionTree) → IsAccepted p → IsFlatOf p m → IsTyped m → ActualsMean p → AllUsesKept p m i → IsJudged p i
+uses_judged p m i accepted is typed mean kept = good_is_judged p m i accepted is typed (lawful_instance p accepted m is mean) (guards_good p m i accepted is kept)
 
 -- what is made of a program and instructions that a weave takes is their extension
 pub made_extends : {E : Type 0} (p : ProgramTree) (i : InstructionTree) (r : Result Woven E) → IfOk r (λ w. program_tree w.program ≡ woven p i) → OnOk r (IsWeavable p i) →

@@ -5,3 +5,8 @@ pub mod InstanceLaws
 pub mod NumberLaws
 pub mod EachItem
 pub mod GuardLaws
+pub mod Deciding
+pub mod KindAnswers
+pub mod NameAnswers
+pub mod Telling
+pub mod OneFault

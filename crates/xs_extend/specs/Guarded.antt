@@ -1,26 +1,30 @@
--- What is known of the expressions of modes at instances once they are judged.
-use Rattle.std.specs.Prelude.{◌≡◌, ℕ, Bool, true, false, List, [], ◌∷◌, Option, Some, None, map, slice_get, IfSome}
-use Rattle.xs_tree.specs.ProgramTree.{Formula, ProgramTree, program_tree}
+-- What is judged of the expressions of a mode, one after the other.
+use Rattle.std.specs.Prelude.{◌≡◌, ◌<◌, ℕ, Bool, true, false, Option, Some, None, IfSome, nat_lt, if◌then◌else◌, Result, Ok, Err}
+use Rattle.std.specs.Option.{option_map}
+use Rattle.xs_tree.specs.Tree.{Tree}
+use Rattle.xs_tree.specs.ProgramTree.{Formula, DeclaredTree, ProgramTree, program_tree}
 use Rattle.xs_tree.specs.Scope.{Place}
-use Rattle.xs_tree.specs.Texts.{same_text}
-use Rattle.xs_tree.specs.Trace.{Each}
-use Rattle.xs_tree.specs.declared.expr.Expr.{Expr}
-use Rattle.xs_fei.specs.Instructions.{EffectTree, follows, stuck_at, inverted, random, erroneous, frozen, stuck_at_pick, offset, ramp_down, ModeTree}
-use Rattle.xs_flattening.specs.Flat.{FlatInstance, FlatModel}
-use Rattle.xs_flattening.specs.Resolved.{has_next}
-use Rattle.xs_flattening.specs.Rules.{IsAccepted}
-use Rattle.xs_flattening.specs.Model.{IsFlatOf}
+use Rattle.xs_tree.specs.declared.program.Member.{Member}
+use Rattle.xs_fei.specs.Instructions.{ModeTree}
+use Rattle.xs_flattening.specs.Flat.{FlatLeaf, FlatModel}
+use Rattle.xs_flattening.specs.Rules.{Rule, number_of}
+use Rattle.xs_kinds.specs.Judged as found
+use Rattle.xs_kinds.specs.Judged.{Class, truth_class, number_class, symbol_class, same_class}
+use Rattle.xs_kinds.specs.Declared.{member_kind, judged_declared}
 use Rattle.xs_kinds.specs.Models.{judged_in}
+use Rattle.xs_tree.specs.declared.expr.Expr.{Expr}
 use Rattle.xs_flat.specs.declared.model.Flat.{Flat}
-use Rattle.xs_flat.specs.ModelTree.{flat_tree, model_tree}
-use Rattle.xs_flattening.specs.ResolvedAt.{IsResolvedAt}
-use Rattle.xs_flat.specs.ResolvedAt.{IsAt}
-use Rattle.xs_types.specs.Calls.{shown}
+use Rattle.xs_flat.specs.declared.fault.FlatFault.{FlatFault}
+use Rattle.xs_flat.specs.Faults.{rule_of}
+use Rattle.xs_flat.specs.ModelTree.{model_tree}
 use Rattle.xs_types.specs.declared.calls.Kind.{Kind}
-use Rattle.xs_types.specs.declared.calls.Kind.TheVariants.{Bool as ABool}
-use Rattle.xs_weave_rules.specs.Sites.{OwnedSlice}
+use Rattle.xs_types.specs.declared.calls.Kind.TheVariants.{Bool as ABool, Num, Sym}
+use Rattle.xs_extending.specs.Uses.{Use}
+use Rattle.xs_extending.specs.Expressions.{SomeBreaks}
+use Rattle.xs_types.specs.declared.fault.TypeFault.{TypeFault}
 use Rattle.xs_extend.specs.declared.guards.Nominal.{Nominal}
-use Rattle.xs_extend.specs.JudgedLaws.{IsGoodMode}
+use Rattle.xs_extend.specs.declared.guards.Resolved.{Resolved}
+use Rattle.xs_extend.specs.declared.guards.Verdict.{Verdict}
 
 abbrev pub program_in : Nominal → ProgramTree
 program_in n = program_tree n.program.now
@@ -28,45 +32,63 @@ program_in n = program_tree n.program.now
 abbrev pub model_in : Nominal → FlatModel
 model_in n = model_tree n.typed.now.model
 
--- the flat expression is the written one at the instance, which has no `next`
-pub record IsFormOf (p : ProgramTree) (m : FlatModel) (at : Place) (e : Formula) (flat : Expr Flat) : Type 0 where
-  pub resolved : IsResolvedAt p m at e (flat_tree flat)
-  pub no_next : has_next e ≡ false
+-- a mode at an instance, of this item
+abbrev pub use_at : Place → DeclaredTree → ModeTree → ℕ → Use
+use_at at type mode n = record { place = at; item = n; type = type; mode = mode }
 
--- the same where there is an expression
-abbrev pub HasForm : ProgramTree → FlatModel → Place → Option Formula → Option (Expr Flat) → Type 0
-HasForm p m at None flat = flat ≡ None
-HasForm p m at (Some e) None = ⊥
-HasForm p m at (Some e) (Some flat) = IsFormOf p m at e flat
+-- the rule of names is broken by the expression, where there is one, and none of a lower number
+pub record IsLeastOfSome (p : ProgramTree) (at : Place) (inputs : Bool) (e : Option Formula) (r : Rule) : Type 0 where
+  pub broken : SomeBreaks p at inputs e r
+  pub lowest : (other : Rule) → number_of other < number_of r → SomeBreaks p at inputs e other → ⊥
 
--- the flat expression breaks no rule, and has this kind
-pub record IsOfKind (m : FlatModel) (flat : Expr Flat) (kind : Kind) : Type 0 where
-  pub kept : (judged_in m false (flat_tree flat)).broken ≡ []
-  pub kind_is : kind ≡ shown (judged_in m false (flat_tree flat)).kind
+-- no rule of names is broken by the expression, where there is one
+abbrev pub IsSomeKept : ProgramTree → Place → Bool → Option Formula → Type 0
+IsSomeKept p at inputs e = (r : Rule) → SomeBreaks p at inputs e r → ⊥
 
-abbrev pub HasKind : FlatModel → Option (Expr Flat) → Option Kind → Type 0
-HasKind m None kind = kind ≡ None
-HasKind m (Some flat) None = ⊥
-HasKind m (Some flat) (Some kind) = IsOfKind m flat kind
+-- the fault is the least rule that the expression breaks, or want of memory
+abbrev pub IsSomeFault : ProgramTree → Place → Bool → Option Formula → FlatFault → Type 0
+IsSomeFault p at inputs e f = IfSome (rule_of f.rule) (λ r. (f.item ≡ 0) × IsLeastOfSome p at inputs e r)
 
--- what an effect follows
-abbrev pub followed : EffectTree → Option Formula
-followed (follows e) = Some e
-followed _ = None
+-- a rule's number; want of memory comes before all
+abbrev pub told_number : Option Rule → ℕ
+told_number None = 0
+told_number (Some r) = number_of r
 
--- the guard is a truth value
-abbrev pub IsTruth : Option Kind → Type 0
-IsTruth None = Unit {0}
-IsTruth (Some kind) = kind ≡ ABool
+-- the kind of a flat form, where there is one
+abbrev pub kind_of_form : FlatModel → Option (Tree FlatLeaf) → Option found.Kind
+kind_of_form m form = option_map (λ e. (judged_in m false e).kind) form
 
--- the mode is good at the instance, over each list of the model's definitions
-abbrev pub IsGood : ProgramTree → FlatModel → Place → ModeTree → Type 0
-IsGood p m at mode = (is : IsFlatOf p m) → IsGoodMode p m is.written at mode
+-- the class of a kind that is shown
+abbrev pub class_shown : Kind → Class
+class_shown ABool = truth_class
+class_shown (Num lo hi) = number_class
+class_shown Sym = symbol_class
 
--- the modes of a slice are good at an instance of its module
-abbrev pub IsGoodSlice : ProgramTree → FlatModel → FlatInstance → OwnedSlice → Type 0
-IsGoodSlice p m at o = same_text o.owner at.module_name ≡ true → Each (IsGood p m at.place) o.slice.modes
+-- the kind, where there is one, is of the class
+abbrev pub fits_class : Option Kind → Class → Bool
+fits_class None c = true
+fits_class (Some k) c = same_class (class_shown k) c
 
--- the modes of all slices are good at the instance
-abbrev pub AreGoodSlices : ProgramTree → FlatModel → List OwnedSlice → FlatInstance → Type 0
-AreGoodSlices p m os at = Each (IsGoodSlice p m at) os
+-- the class of a type that lists this member first
+abbrev pub member_class : Option Member → Class
+member_class None = truth_class
+member_class (Some m) = (member_kind m).class
+
+abbrev pub class_declared : DeclaredTree → Class
+class_declared type = (judged_declared type).kind.class
+
+-- what an answer for an expression says
+abbrev pub judged_by : Result Kind TypeFault → Verdict
+judged_by (Ok k) = record { rule = None; kind = Some k }
+judged_by (Err f) = record { rule = Some f.rule; kind = None }
+
+-- the fault with the lower number
+abbrev pub lower_fault : FlatFault → FlatFault → FlatFault
+lower_fault a b = if nat_lt (told_number (rule_of b.rule)) (told_number (rule_of a.rule)) then b else a
+
+-- both expressions, or the fault of one, or the lower of two
+abbrev pub both_forms : Result (Option (Expr Flat)) FlatFault → Result (Option (Expr Flat)) FlatFault → Result Resolved FlatFault
+both_forms (Ok f) (Ok g) = Ok (record { follows = f; guard = g })
+both_forms (Err a) (Ok g) = Err a
+both_forms (Ok f) (Err b) = Err b
+both_forms (Err a) (Err b) = Err (lower_fault a b)

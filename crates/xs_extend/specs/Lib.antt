@@ -4,3 +4,4 @@ pub mod JudgedLaws
 pub mod InstanceLaws
 pub mod NumberedFaults
 pub mod Guarded
+pub mod ToldLaws

@@ -1,24 +1,35 @@
 //! The rules of guards and Follows expressions, tried by instances, then items. Each expression is judged
 //! as a DEFINE of its module would be: first by the rules of names, then by those of kinds.
 
-ghost use Rattle.std.specs.Prelude.{◌≡◌, Bool, true, IfErr, IfOk, OnOk, IsTrue, Some, map, slice_get, option_copied, option_map};
+ghost use Rattle.std.specs.Prelude.{◌≡◌, ◌≢◌, ◌+◌, ℕ, IfErr, IfOk, OnOk, Some, None, MatchOption, map, flat_map, option_copied, option_map};
 ghost use Rattle.xs_tree.specs.Trace.{Each};
+ghost use Rattle.xs_tree.specs.ProgramTree.{DeclaredTree, program_tree, declared_tree};
 ghost use Rattle.xs_tree.specs.Written.{tree_of};
-ghost use Rattle.xs_tree.specs.Texts.{same_text};
-ghost use Rattle.xs_fei.specs.Instructions.{effect_tree, guard_tree, mode_tree, slice_tree};
+ghost use Rattle.xs_fei.specs.Instructions.{effect_tree, guard_tree, mode_tree};
+ghost use Rattle.xs_kinds.specs.Judged.{truth_class, number_class, symbol_class, same_class};
 ghost use Rattle.xs_flattening.specs.Flat.{FlatInstance};
 ghost use Rattle.xs_flattening.specs.Rules.{IsAccepted};
 ghost use Rattle.xs_flattening.specs.Model.{IsFlatOf};
-ghost use Rattle.xs_flat.specs.ModelTree.{model_tree, instance_tree};
+ghost use Rattle.xs_flat.specs.Faults.{rule_of};
+ghost use Rattle.xs_flat.specs.ModelTree.{flat_tree, model_tree};
 ghost use Rattle.xs_flat.specs.ResolvedAt.{IsAt};
-ghost use Rattle.xs_weave_rules.specs.Faults.{placed_tree};
-ghost use Rattle.xs_extend.specs.Guarded.{program_in, model_in, HasForm, HasKind, followed, IsTruth, IsGood, IsGoodSlice, AreGoodSlices};
-ghost use Rattle.xs_extend.specs.Refused.{IsOfExpressions, IsFromExpressions};
+ghost use Rattle.xs_flat.specs.ScopeOf.{IsScopeOf};
+ghost use Rattle.xs_types.specs.Answers.{told_first, told_rules};
+ghost use Rattle.xs_types.specs.Calls.{fault_of, shown};
+ghost use Rattle.xs_types.specs.Rows.{lower, lesser_rule, unless};
+ghost use Rattle.xs_types.specs.declared.fault.Rule.TheVariants as type_rules;
+ghost use Rattle.xs_weave_rules.specs.Placing.{seen_placed};
+ghost use Rattle.xs_weave_rules.specs.declared.fault.Rule.TheVariants as weave_rules;
+ghost use Rattle.xs_extending.specs.Expressions.{followed, IsForm, broken_by, kind_rule, KeepsNames, KeepsUse, IsBrokenAt};
+ghost use Rattle.xs_extending.specs.SliceUses.{modes_from, uses_of_slices};
+ghost use Rattle.xs_extend.specs.Guarded.{program_in, model_in, use_at, IsSomeKept, IsSomeFault, told_number, kind_of_form, class_shown, fits_class, member_class, class_declared, judged_by, lower_fault, both_forms};
+ghost use Rattle.xs_extend.specs.Refused.{IsOfExpressions, IsFromExpressions, IsWant, IsWantOr, IsFirstFault};
+ghost use Rattle.xs_extend.specs.declared.fault.Cause.TheVariants as causes;
 
 use crate::fault::{Cause, WeaveFault};
 use std::alloc::Global;
 use xs_fei::{Effect, ModeRule};
-use xs_flat::{Flat, FlatFault, resolve_at};
+use xs_flat::{Flat, FlatFault, Scope};
 use xs_tree::{Declared, Expr, Member, Program};
 use xs_types::{Kind, Rule, TypeFault, Typed, check_value};
 use xs_value::{Dotted, Name};
@@ -38,11 +49,11 @@ struct Resolved {
     guard: Option<Expr<Flat>>,
 }
 
-/// The kinds of a mode's expressions.
+/// The rule of kinds that an expression breaks, and its kind where it breaks none.
 #[derive(Clone, Copy)]
-struct Kinds {
-    follows: Option<Kind>,
-    guard: Option<Kind>,
+struct Verdict {
+    rule: Option<Rule>,
+    kind: Option<Kind>,
 }
 
 /// Tells the first mode whose guard or Follows expression breaks a rule at some instance.
@@ -52,48 +63,87 @@ pub(crate) fn judge_guards(
     slices: &[Placed<'_>],
 ) -> Result<(), WeaveFault>
     ensures want { IfErr result IsFromExpressions }
-    ensures good { IsAccepted (program_in nominal.entry) → IsFlatOf (program_in nominal.entry) (model_in nominal.entry) → OnOk result (Each (AreGoodSlices (program_in nominal.entry) (model_in nominal.entry) (map placed_tree slices.now)) (model_in nominal.entry).instances) }
+    ensures kept { IsAccepted (program_in nominal.entry) → IsFlatOf (program_in nominal.entry) (model_in nominal.entry) → OnOk result (Each (KeepsUse (program_in nominal.entry) (model_in nominal.entry)) (flat_map (uses_of_slices (map seen_placed slices.now)) (model_in nominal.entry).instances)) }
+    ensures told { IsAccepted (program_in nominal.entry) → IsFlatOf (program_in nominal.entry) (model_in nominal.entry) → IfErr result (IsFirstFault (program_in nominal.entry) (model_in nominal.entry) (flat_map (uses_of_slices (map seen_placed slices.now)) (model_in nominal.entry).instances)) }
+{
+    let scope = scope_of(alloc, nominal.program)?;
+    judge_instances(alloc, nominal, &scope, slices)
+}
+
+/// Judges the slices at all instances.
+fn judge_instances(
+    alloc: Global,
+    nominal: Nominal<'_>,
+    scope: &Scope<'_>,
+    slices: &[Placed<'_>],
+) -> Result<(), WeaveFault>
+    requires scope { IsScopeOf (program_in nominal) scope.now }
+    ensures want { IfErr result IsFromExpressions }
+    ensures kept { IsAccepted (program_in nominal.entry) → IsFlatOf (program_in nominal.entry) (model_in nominal.entry) → OnOk result (Each (KeepsUse (program_in nominal.entry) (model_in nominal.entry)) (flat_map (uses_of_slices (map seen_placed slices.now)) (model_in nominal.entry).instances)) }
+    ensures told { IsAccepted (program_in nominal.entry) → IsFlatOf (program_in nominal.entry) (model_in nominal.entry) → IfErr result (IsFirstFault (program_in nominal.entry) (model_in nominal.entry) (flat_map (uses_of_slices (map seen_placed slices.now)) (model_in nominal.entry).instances)) }
 {
     let mut number = 0;
     for instance in nominal.typed.model().instances.as_slice() {
-        judge_instance(alloc, nominal, number, &instance.module, slices)?;
+        judge_instance(alloc, nominal, scope, number, &instance.module, slices)?;
         number = item_after(number)?;
     }
     Ok(())
+}
+
+/// The tables of the program, for expressions at its instances.
+fn scope_of<'a>(alloc: Global, program: &'a Program) -> Result<Scope<'a>, WeaveFault>
+    ensures scope { IfOk result (IsScopeOf (program_tree program.now)) }
+    ensures want { IfErr result IsFromExpressions }
+    ensures memory { IsAccepted (program_tree program.now) → IfErr result IsWant }
+{
+    match Scope::of_program(alloc, program) {
+        Ok(scope) => Ok(scope),
+        Err(fault) => Err(WeaveFault {
+            cause: flat_cause(fault),
+            item: 0,
+        }),
+    }
 }
 
 /// Judges the slices of a module at its instance of this number.
 fn judge_instance(
     alloc: Global,
     nominal: Nominal<'_>,
+    scope: &Scope<'_>,
     instance: u32,
     module: &Name,
     slices: &[Placed<'_>],
 ) -> Result<(), WeaveFault>
+    requires scope { IsScopeOf (program_in nominal) scope.now }
     ensures want { IfErr result IsFromExpressions }
-    ensures good { (at : FlatInstance) → IsAt (program_in nominal.entry) (model_in nominal.entry) «instance» at → at.module_name ≡ «module».now → OnOk result (AreGoodSlices (program_in nominal.entry) (model_in nominal.entry) (map placed_tree slices.now) at) }
+    ensures kept { (at : FlatInstance) → IsAt (program_in nominal.entry) (model_in nominal.entry) «instance» at → at.module_name ≡ «module».now → OnOk result (Each (KeepsUse (program_in nominal.entry) (model_in nominal.entry)) (uses_of_slices (map seen_placed slices.now) at)) }
+    ensures told { (at : FlatInstance) → IsAt (program_in nominal.entry) (model_in nominal.entry) «instance» at → at.module_name ≡ «module».now → IfErr result (IsFirstFault (program_in nominal.entry) (model_in nominal.entry) (uses_of_slices (map seen_placed slices.now) at)) }
 {
     for placed in slices {
         if placed.owner.is_same(module) {
-            judge_slice(alloc, nominal, instance, *placed)?;
+            judge_slice(alloc, nominal, scope, instance, *placed)?;
         }
     }
     Ok(())
 }
 
+/// Judges the modes of a slice at an instance of its module.
 fn judge_slice(
     alloc: Global,
     nominal: Nominal<'_>,
+    scope: &Scope<'_>,
     instance: u32,
     placed: Placed<'_>,
 ) -> Result<(), WeaveFault>
+    requires scope { IsScopeOf (program_in nominal) scope.now }
     ensures want { IfErr result IsFromExpressions }
-    ensures good { (at : FlatInstance) → IsAt (program_in nominal.entry) (model_in nominal.entry) «instance» at → OnOk result (Each (IsGood (program_in nominal.entry) (model_in nominal.entry) at.place) (slice_tree placed.entry.slice.now).modes) }
+    ensures kept { (at : FlatInstance) → IsAt (program_in nominal.entry) (model_in nominal.entry) «instance» at → OnOk result (Each (KeepsUse (program_in nominal.entry) (model_in nominal.entry)) (modes_from at.place (declared_tree placed.entry.declared.now) (placed.entry.item + 1) (map mode_tree placed.entry.slice.now.modes))) }
+    ensures told { (at : FlatInstance) → IsAt (program_in nominal.entry) (model_in nominal.entry) «instance» at → IfErr result (IsFirstFault (program_in nominal.entry) (model_in nominal.entry) (modes_from at.place (declared_tree placed.entry.declared.now) (placed.entry.item + 1) (map mode_tree placed.entry.slice.now.modes))) }
 {
     let mut item = placed.item;
     for mode in placed.slice.modes.as_slice() {
         item = item_after(item)?;
-        match judge_mode(alloc, nominal, instance, placed.declared, mode) {
+        match judge_mode(alloc, nominal, scope, instance, placed.declared, mode) {
             Ok(()) => {}
             Err(cause) => return Err(WeaveFault { cause, item }),
         }
@@ -106,41 +156,58 @@ fn judge_slice(
 fn judge_mode(
     alloc: Global,
     nominal: Nominal<'_>,
+    scope: &Scope<'_>,
     instance: u32,
     declared: &Declared,
     mode: &ModeRule,
 ) -> Result<(), Cause>
+    requires scope { IsScopeOf (program_in nominal) scope.now }
     ensures want { IfErr result IsOfExpressions }
-    ensures good { (at : FlatInstance) → IsAt (program_in nominal.entry) (model_in nominal.entry) «instance» at → OnOk result (IsGood (program_in nominal.entry) (model_in nominal.entry) at.place (mode_tree mode.now)) }
+    ensures kept { (at : FlatInstance) (n : ℕ) → IsAt (program_in nominal.entry) (model_in nominal.entry) «instance» at → OnOk result (KeepsUse (program_in nominal.entry) (model_in nominal.entry) (use_at at.place (declared_tree declared.now) (mode_tree mode.now) n)) }
+    ensures told { (at : FlatInstance) (n : ℕ) → IsAt (program_in nominal.entry) (model_in nominal.entry) «instance» at → IfErr result (λ cause. IsWantOr cause (IsBrokenAt (program_in nominal.entry) (model_in nominal.entry) (use_at at.place (declared_tree declared.now) (mode_tree mode.now) n))) }
 {
-    let resolved = resolve_mode(alloc, nominal, instance, mode)?;
-    let kinds = kinds_of(nominal.typed, &resolved)?;
-    if !follows_fits(kinds.follows, declared) {
-        return Err(kind_fault(Rule::Mismatch));
+    let resolved = resolve_mode(alloc, nominal, scope, instance, mode)?;
+    match first_of_kinds(nominal.typed, &resolved, declared) {
+        Some(rule) => Err(kind_fault(rule)),
+        None => Ok(()),
     }
-    if !guard_fits(kinds.guard) {
-        return Err(kind_fault(Rule::NotBoolean));
-    }
-    Ok(())
 }
 
 /// The mode's expressions over the flat model, or the first rule of names that one of them breaks.
 fn resolve_mode(
     alloc: Global,
     nominal: Nominal<'_>,
+    scope: &Scope<'_>,
     instance: u32,
     mode: &ModeRule,
 ) -> Result<Resolved, Cause>
+    requires scope { IsScopeOf (program_in nominal) scope.now }
     ensures want { IfErr result IsOfExpressions }
-    ensures follows { (at : FlatInstance) → IsAt (program_in nominal.entry) (model_in nominal.entry) «instance» at → IfOk result (λ r. HasForm (program_in nominal.entry) (model_in nominal.entry) at.place (followed (effect_tree mode.now.effect)) r.follows) }
-    ensures guard { (at : FlatInstance) → IsAt (program_in nominal.entry) (model_in nominal.entry) «instance» at → IfOk result (λ r. HasForm (program_in nominal.entry) (model_in nominal.entry) at.place (guard_tree mode.now.guard) r.guard) }
+    ensures follows { (at : FlatInstance) → IsAt (program_in nominal.entry) (model_in nominal.entry) «instance» at → IfOk result (λ r. IsForm (program_in nominal.entry) (model_in nominal.entry) at.place (followed (effect_tree mode.now.effect)) (option_map flat_tree r.follows)) }
+    ensures guard { (at : FlatInstance) → IsAt (program_in nominal.entry) (model_in nominal.entry) «instance» at → IfOk result (λ r. IsForm (program_in nominal.entry) (model_in nominal.entry) at.place (guard_tree mode.now.guard) (option_map flat_tree r.guard)) }
+    ensures kept { (at : FlatInstance) (type : DeclaredTree) (n : ℕ) → IsAt (program_in nominal.entry) (model_in nominal.entry) «instance» at → OnOk result (KeepsNames (program_in nominal.entry) (use_at at.place type (mode_tree mode.now) n)) }
+    ensures told { (at : FlatInstance) (type : DeclaredTree) (n : ℕ) → IsAt (program_in nominal.entry) (model_in nominal.entry) «instance» at → IfErr result (λ cause. IsWantOr cause (IsBrokenAt (program_in nominal.entry) (model_in nominal.entry) (use_at at.place type (mode_tree mode.now) n))) }
 {
-    let follows = resolve(alloc, nominal, instance, false, follows_of(&mode.effect));
-    let guard = resolve(alloc, nominal, instance, true, mode.guard.as_ref());
+    let follows = resolve(alloc, nominal, scope, instance, false, follows_of(&mode.effect));
+    let guard = resolve(alloc, nominal, scope, instance, true, mode.guard.as_ref());
+    match both_of(follows, guard) {
+        Ok(resolved) => Ok(resolved),
+        Err(fault) => Err(flat_cause(fault)),
+    }
+}
+
+/// Both expressions, or the fault of one, or the lower of two.
+fn both_of(
+    follows: Result<Option<Expr<Flat>>, FlatFault>,
+    guard: Result<Option<Expr<Flat>>, FlatFault>,
+) -> Result<Resolved, FlatFault>
+    ensures { result ≡ both_forms follows guard }
+{
     match (follows, guard) {
         (Ok(follows), Ok(guard)) => Ok(Resolved { follows, guard }),
-        (Err(fault), Ok(_)) | (Ok(_), Err(fault)) => Err(flat_cause(fault)),
-        (Err(first), Err(second)) => Err(flat_cause(lower_flat(first, second))),
+        (Err(fault), Ok(_)) => Err(fault),
+        (Ok(_), Err(fault)) => Err(fault),
+        (Err(first), Err(second)) => Err(lower_flat(first, second)),
     }
 }
 
@@ -148,18 +215,21 @@ fn resolve_mode(
 fn resolve(
     alloc: Global,
     nominal: Nominal<'_>,
+    scope: &Scope<'_>,
     instance: u32,
     inputs: bool,
     e: Option<&Expr<Dotted>>,
 ) -> Result<Option<Expr<Flat>>, FlatFault>
-    ensures form { (at : FlatInstance) → IsAt (program_in nominal.entry) (model_in nominal.entry) «instance» at → IfOk result (HasForm (program_in nominal.entry) (model_in nominal.entry) at.place (option_map tree_of (option_copied e.entry))) }
+    requires scope { IsScopeOf (program_in nominal) scope.now }
+    ensures form { (at : FlatInstance) → IsAt (program_in nominal.entry) (model_in nominal.entry) «instance» at → IfOk result (λ made. IsForm (program_in nominal.entry) (model_in nominal.entry) at.place (option_map tree_of (option_copied e.entry)) (option_map flat_tree made)) }
+    ensures kept { (at : FlatInstance) → IsAt (program_in nominal.entry) (model_in nominal.entry) «instance» at → OnOk result (IsSomeKept (program_in nominal.entry) at.place inputs (option_map tree_of (option_copied e.entry))) }
+    ensures told { (at : FlatInstance) → IsAt (program_in nominal.entry) (model_in nominal.entry) «instance» at → IfErr result (IsSomeFault (program_in nominal.entry) at.place inputs (option_map tree_of (option_copied e.entry))) }
 {
     let Some(e) = e else {
         return Ok(None);
     };
-    let program = nominal.program;
     let model = nominal.typed.model();
-    let resolved = resolve_at(alloc, program, model, instance, inputs, e)?;
+    let resolved = scope.resolve_at(alloc, model, instance, inputs, e)?;
     Ok(Some(resolved))
 }
 
@@ -173,96 +243,139 @@ fn follows_of(effect: &Effect) -> Option<&Expr<Dotted>>
     }
 }
 
-/// The kinds of a mode's expressions, or the first rule of kinds that one of them breaks.
-fn kinds_of(typed: &Typed, resolved: &Resolved) -> Result<Kinds, Cause>
-    ensures want { IfErr result IsOfExpressions }
-    ensures follows { IfOk result (λ kinds. HasKind (model_tree typed.now.model) resolved.now.follows kinds.follows) }
-    ensures guard { IfOk result (λ kinds. HasKind (model_tree typed.now.model) resolved.now.guard kinds.guard) }
+/// The first rule of kinds that a mode's expressions break: the least of both, and else the demands on
+/// their classes.
+fn first_of_kinds(typed: &Typed, resolved: &Resolved, declared: &Declared) -> Option<Rule>
+    ensures { result ≡ told_first (kind_rule (model_tree typed.now.model) (declared_tree declared.now) (option_map flat_tree resolved.now.follows) (option_map flat_tree resolved.now.guard)) }
 {
-    let follows = kind(typed, resolved.follows.as_ref());
-    let guard = kind(typed, resolved.guard.as_ref());
-    match (follows, guard) {
-        (Ok(follows), Ok(guard)) => Ok(Kinds { follows, guard }),
-        (Err(fault), Ok(_)) | (Ok(_), Err(fault)) => Err(type_cause(fault)),
-        (Err(first), Err(second)) => Err(type_cause(lower_type(first, second))),
+    let follows = judged(typed, resolved.follows.as_ref());
+    let guard = judged(typed, resolved.guard.as_ref());
+    match lower_kind(follows.rule, guard.rule) {
+        Some(rule) => Some(rule),
+        None => demand(follows.kind, guard.kind, declared),
     }
 }
 
-/// The kind of an expression, where there is one.
-fn kind(typed: &Typed, e: Option<&Expr<Flat>>) -> Result<Option<Kind>, TypeFault>
-    ensures { IfOk result (HasKind (model_tree typed.now.model) (option_copied e.entry)) }
+/// The rule of kinds that an expression breaks, or its kind, where there is one.
+fn judged(typed: &Typed, e: Option<&Expr<Flat>>) -> Verdict
+    ensures rule { result.rule ≡ told_rules (broken_by (model_tree typed.now.model) (option_map flat_tree (option_copied e.entry))) }
+    ensures kind { result.rule ≡ None → result.kind ≡ option_map shown (kind_of_form (model_tree typed.now.model) (option_map flat_tree (option_copied e.entry))) }
 {
     match e {
-        Some(e) => Ok(Some(check_value(typed, e)?)),
-        None => Ok(None),
+        Some(e) => of_answer(check_value(typed, e)),
+        None => Verdict {
+            rule: None,
+            kind: None,
+        },
     }
+}
+
+fn of_answer(answer: Result<Kind, TypeFault>) -> Verdict
+    ensures { result ≡ judged_by answer }
+{
+    match answer {
+        Ok(kind) => Verdict {
+            rule: None,
+            kind: Some(kind),
+        },
+        Err(fault) => Verdict {
+            rule: Some(fault.rule),
+            kind: None,
+        },
+    }
+}
+
+/// The demands on classes: what is followed has that of the variable, and a guard is a truth value.
+fn demand(follows: Option<Kind>, guard: Option<Kind>, declared: &Declared) -> Option<Rule>
+    ensures { result ≡ lower (unless (fits_class follows (class_declared (declared_tree declared.now))) type_rules.Mismatch) (unless (fits_class guard truth_class) type_rules.NotBoolean) }
+{
+    if !follows_fits(follows, declared) {
+        return Some(Rule::Mismatch);
+    }
+    if !guard_fits(guard) {
+        return Some(Rule::NotBoolean);
+    }
+    None
 }
 
 /// Whether the expression that is followed has the class of the variable.
-fn follows_fits(kind: Option<Kind>, declared: &Declared) -> bool {
+fn follows_fits(kind: Option<Kind>, declared: &Declared) -> bool
+    ensures { result ≡ fits_class kind (class_declared (declared_tree declared.now)) }
+{
     match kind {
-        Some(Kind::Bool) => is_boolean(declared),
-        Some(Kind::Num(_, _)) => has_numbers(declared),
-        Some(Kind::Sym) => has_symbols(declared),
+        Some(kind) => has_class(kind, declared),
         None => true,
     }
 }
 
 /// Whether the guard is a truth value.
 fn guard_fits(kind: Option<Kind>) -> bool
-    ensures { IsTrue result → IsTruth kind }
+    ensures { result ≡ fits_class kind truth_class }
 {
     match kind {
-        Some(kind) => kind == Kind::Bool,
+        Some(kind) => is_truth(kind),
         None => true,
     }
 }
 
-fn is_boolean(declared: &Declared) -> bool {
+/// Whether the kind has the class of the type.
+fn has_class(kind: Kind, declared: &Declared) -> bool
+    ensures { result ≡ same_class (class_shown kind) (class_declared (declared_tree declared.now)) }
+{
     match declared {
-        Declared::Boolean => true,
-        Declared::Range(_, _) | Declared::Members(_) | Declared::Instance(_, _) => false,
+        Declared::Boolean | Declared::Instance(_, _) => is_truth(kind),
+        Declared::Range(_, _) => is_number(kind),
+        Declared::Members(members) => has_class_of(kind, members.as_slice().first()),
     }
 }
 
-fn has_numbers(declared: &Declared) -> bool {
-    match declared {
-        Declared::Range(_, _) => true,
-        Declared::Members(members) => is_number(members.as_slice().first()),
-        Declared::Boolean | Declared::Instance(_, _) => false,
+/// Whether the kind has the class of a type that lists this member first.
+fn has_class_of(kind: Kind, first: Option<&Member>) -> bool
+    ensures { result ≡ same_class (class_shown kind) (member_class (option_copied first.entry)) }
+{
+    match first {
+        Some(Member::Number(_)) => is_number(kind),
+        Some(Member::Symbol(_)) => is_symbol(kind),
+        None => is_truth(kind),
     }
 }
 
-fn has_symbols(declared: &Declared) -> bool {
-    match declared {
-        Declared::Members(members) => is_symbol(members.as_slice().first()),
-        Declared::Boolean | Declared::Range(_, _) | Declared::Instance(_, _) => false,
+fn is_truth(kind: Kind) -> bool
+    ensures { result ≡ same_class (class_shown kind) truth_class }
+{
+    match kind {
+        Kind::Bool => true,
+        Kind::Num(_, _) | Kind::Sym => false,
     }
 }
 
-fn is_number(member: Option<&Member>) -> bool {
-    match member {
-        Some(Member::Number(_)) => true,
-        Some(Member::Symbol(_)) | None => false,
+fn is_number(kind: Kind) -> bool
+    ensures { result ≡ same_class (class_shown kind) number_class }
+{
+    match kind {
+        Kind::Num(_, _) => true,
+        Kind::Bool | Kind::Sym => false,
     }
 }
 
-fn is_symbol(member: Option<&Member>) -> bool {
-    match member {
-        Some(Member::Symbol(_)) => true,
-        Some(Member::Number(_)) | None => false,
+fn is_symbol(kind: Kind) -> bool
+    ensures { result ≡ same_class (class_shown kind) symbol_class }
+{
+    match kind {
+        Kind::Sym => true,
+        Kind::Bool | Kind::Num(_, _) => false,
     }
 }
 
 fn kind_fault(rule: Rule) -> Cause
-    ensures { IsOfExpressions result }
+    ensures { result ≡ causes.Kinds (fault_of rule) }
 {
     Cause::Kinds(TypeFault { rule, item: 0 })
 }
 
 /// Want of memory is told as such, and never inside another fault.
 pub(crate) fn flat_cause(fault: FlatFault) -> Cause
-    ensures { IsOfExpressions result }
+    ensures { MatchOption (rule_of fault.rule) (result ≡ causes.Weave weave_rules.OutOfMemory) (λ r. result ≡ causes.Flat fault) }
 {
     match fault.rule {
         xs_flat::Rule::OutOfMemory => Cause::Weave(xs_weave_rules::Rule::OutOfMemory),
@@ -271,7 +384,8 @@ pub(crate) fn flat_cause(fault: FlatFault) -> Cause
 }
 
 pub(crate) fn type_cause(fault: TypeFault) -> Cause
-    ensures { IsOfExpressions result }
+    ensures want { fault.rule ≡ type_rules.OutOfMemory → result ≡ causes.Weave weave_rules.OutOfMemory }
+    ensures other { fault.rule ≢ type_rules.OutOfMemory → result ≡ causes.Kinds fault }
 {
     match fault.rule {
         Rule::OutOfMemory => Cause::Weave(xs_weave_rules::Rule::OutOfMemory),
@@ -279,16 +393,42 @@ pub(crate) fn type_cause(fault: TypeFault) -> Cause
     }
 }
 
-fn lower_flat(first: FlatFault, second: FlatFault) -> FlatFault {
-    if (second.rule as u32) < (first.rule as u32) {
+/// The fault with the lower rule. Where memory was wanting, which rule is the lowest is not known.
+fn lower_flat(first: FlatFault, second: FlatFault) -> FlatFault
+    ensures { result ≡ lower_fault first second }
+{
+    if flat_number(second.rule) < flat_number(first.rule) {
         second
     } else {
         first
     }
 }
 
-fn lower_type(first: TypeFault, second: TypeFault) -> TypeFault {
-    if (second.rule as u32) < (first.rule as u32) {
+/// The number of a rule of names; want of memory comes before all.
+fn flat_number(rule: xs_flat::Rule) -> u32
+    ensures { result ≡ told_number (rule_of rule) }
+{
+    match rule {
+        xs_flat::Rule::OutOfMemory => 0,
+        _ => rule as u32,
+    }
+}
+
+/// The rule with the lower number, where there is any.
+fn lower_kind(first: Option<Rule>, second: Option<Rule>) -> Option<Rule>
+    ensures { result ≡ lower first second }
+{
+    match (first, second) {
+        (Some(first), Some(second)) => Some(lesser_kind(first, second)),
+        (Some(first), None) => Some(first),
+        (None, second) => second,
+    }
+}
+
+fn lesser_kind(first: Rule, second: Rule) -> Rule
+    ensures { result ≡ lesser_rule first second }
+{
+    if (second as u32) < (first as u32) {
         second
     } else {
         first

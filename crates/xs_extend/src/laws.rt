@@ -1,7 +1,8 @@
-//! What the rules on guards and on what is followed are for.
+//! What the rules on guards and on what is followed are for, and that a weave tells one fault at most.
 
 ghost use Rattle.xs_extend.specs.InstanceLaws.{InstancesAreListed};
 ghost use Rattle.xs_extend.specs.JudgedLaws.{GoodIsJudged, GoodModesAreJudged, InstancesAreLawful, TypesAreUniform};
+ghost use Rattle.xs_extend.specs.ToldLaws.{OneTold, KeptTellNone};
 
 /// A mode whose expressions break no rule at an instance of a program that breaks none is such as the weave
 /// takes: what is followed means something, and the guard has exactly one truth value.
@@ -28,4 +29,11 @@ pub fn instances_are_listed()
 /// Instructions whose modes break no rule at any instance of a lawful program are judged.
 pub fn good_is_judged()
     ensures { GoodIsJudged }
+{}
+
+/// Of instructions for a program that breaks no rule at most one fault is told, want of memory apart, and none
+/// where all rules are kept.
+pub fn one_told()
+    ensures one { OneTold }
+    ensures none { KeptTellNone }
 {}

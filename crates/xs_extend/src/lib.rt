@@ -7,8 +7,8 @@
 //! listed by instances, then slices, then modes ([`weave`]). [`fault_list`] gives them the numbers that they
 //! have in the woven program's flat model.
 //!
-//! Which rule is told, group after group, stands in `specs/Refused.antt`; what the third group is for are laws
-//! over the definitions of names and of kinds ([`good_is_judged`]).
+//! Which rule is told, group after group, stands in `specs/Refused.antt`, and it is one ([`one_told`]); what the
+//! third group is for are laws over the definitions of names and of kinds ([`good_is_judged`]).
 //!
 //! ```text
 //! let woven = weave(alloc, &program, &instructions)?;
@@ -26,7 +26,9 @@ mod weaving;
 
 pub use fault::{Cause, WeaveFault};
 pub use faults::{Woven, WovenFault, WovenFaultList, woven_faults};
-pub use laws::{good_is_judged, good_modes_are_judged, instances_are_listed, types_are_uniform};
+pub use laws::{
+    good_is_judged, good_modes_are_judged, instances_are_listed, one_told, types_are_uniform,
+};
 pub use list::fault_list;
 pub use weaving::{weave, weave_typed};
 

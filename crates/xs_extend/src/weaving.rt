@@ -14,14 +14,14 @@ ghost use Rattle.xs_extend.specs.WovenFaults.{fault_tree, faults_at, AreInstance
 ghost use Rattle.xs_weave.specs.Conservative.{IsExtensionOf};
 ghost use Rattle.xs_weave.specs.Faults.{HasFaults};
 ghost use Rattle.xs_weave.specs.Weavable.{IsWeavable};
-ghost use Rattle.xs_weave_rules.specs.Faults.{file_slices};
-ghost use Rattle.xs_tree.specs.Trace.{Each};
 ghost use Rattle.xs_flattening.specs.Looks.{ActualsMean};
 ghost use Rattle.xs_flattening.specs.Rules.{IsAccepted};
 ghost use Rattle.xs_flattening.specs.Model.{IsFlatOf};
 ghost use Rattle.xs_flat.specs.ModelTree.{model_tree};
-ghost use Rattle.xs_extend.specs.Guarded.{AreGoodSlices};
-ghost use Rattle.xs_extend.specs.Refused.{modules_in, KeepsRules, IsTold, IsToldSomewhere};
+ghost use Rattle.xs_flattening.specs.Flat.{FlatModel};
+ghost use Rattle.xs_kinds.specs.Models.{IsTyped};
+ghost use Rattle.xs_extending.specs.Expressions.{AllUsesKept};
+ghost use Rattle.xs_extend.specs.Refused.{modules_in, modules_at, KeepsRules, IsTold, IsToldSomewhere, IsWant};
 
 use crate::fault::{Cause, WeaveFault};
 use crate::faults::{Woven, woven_faults};
@@ -44,7 +44,9 @@ pub fn weave(alloc: Global, p: &Program, i: &Instructions) -> Result<Woven, Weav
     ensures weavable { OnOk result (IsWeavable (program_tree p.now) (instruction_tree i.now)) }
     ensures extension { IfOk result (λ w. IsExtensionOf (program_tree p.now) (instruction_tree i.now) (program_tree w.program)) }
     ensures kept { OnOk result (AllKept (broken_at (program_tree p.now)) (item_sites (instruction_tree i.now))) }
-    ensures told { IfErr result (λ fault. IsToldSomewhere (program_tree p.now) (instruction_tree i.now) fault) }
+    ensures uses { (m : FlatModel) → IsFlatOf (program_tree p.now) m → OnOk result (AllUsesKept (program_tree p.now) m (instruction_tree i.now)) }
+    ensures told { IfErr result (IsToldSomewhere (program_tree p.now) (instruction_tree i.now)) }
+    ensures exact { (m : FlatModel) → IsAccepted (program_tree p.now) → IsFlatOf (program_tree p.now) m → IsTyped m → IfErr result (IsTold (program_tree p.now) m (instruction_tree i.now) (modules_at m)) }
 {
     let typed = typed_of(alloc, p)?;
     weave_typed(alloc, p, &typed, i)
@@ -62,7 +64,8 @@ pub fn weave_typed(
     ensures faults { IfOk result (λ w. AreInstancesOf (program_tree p.now) typed.now.model.instances → HasFaults (program_tree p.now) (instruction_tree i.now) (map fault_tree w.faults)) }
     ensures listed { IfOk result (λ w. map fault_tree w.faults ≡ faults_at (instruction_tree i.now) typed.now.model.instances) }
     ensures kept { OnOk result (KeepsRules (program_tree p.now) (instruction_tree i.now) (modules_in typed.now.model.instances)) }
-    ensures told { IfErr result (λ fault. IsTold (program_tree p.now) (instruction_tree i.now) (modules_in typed.now.model.instances) fault) }
+    ensures uses { IsAccepted (program_tree p.now) → IsFlatOf (program_tree p.now) (model_tree typed.now.model) → OnOk result (AllUsesKept (program_tree p.now) (model_tree typed.now.model) (instruction_tree i.now)) }
+    ensures told { IfErr result (IsTold (program_tree p.now) (model_tree typed.now.model) (instruction_tree i.now) (modules_in typed.now.model.instances)) }
 {
     judge(alloc, p, typed, i)?;
     let woven = made(alloc, p, typed, i)?;
@@ -72,8 +75,8 @@ pub fn weave_typed(
 /// Tells the first rule that the instructions break.
 fn judge(alloc: Global, p: &Program, typed: &Typed, i: &Instructions) -> Result<(), WeaveFault>
     ensures kept { OnOk result (KeepsRules (program_tree p.now) (instruction_tree i.now) (modules_in typed.now.model.instances)) }
-    ensures guards { IsAccepted (program_tree p.now) → IsFlatOf (program_tree p.now) (model_tree typed.now.model) → OnOk result (Each (AreGoodSlices (program_tree p.now) (model_tree typed.now.model) (file_slices (instruction_tree i.now).extensions)) (model_tree typed.now.model).instances) }
-    ensures told { IfErr result (λ fault. IsTold (program_tree p.now) (instruction_tree i.now) (modules_in typed.now.model.instances) fault) }
+    ensures uses { IsAccepted (program_tree p.now) → IsFlatOf (program_tree p.now) (model_tree typed.now.model) → OnOk result (AllUsesKept (program_tree p.now) (model_tree typed.now.model) (instruction_tree i.now)) }
+    ensures told { IfErr result (IsTold (program_tree p.now) (model_tree typed.now.model) (instruction_tree i.now) (modules_in typed.now.model.instances)) }
 {
     let slices = placed_slices(alloc, p, i)?;
     count(alloc, typed, i)?;
@@ -110,12 +113,14 @@ fn modules_of<'a>(alloc: Global, instances: &'a [Instance]) -> Result<Vec<&'a Na
     Ok(modules)
 }
 
-/// The flat model of a program, with kinds.
+/// The flat model of a program, with kinds. Of a program that breaks no rule it wants memory alone.
 fn typed_of(alloc: Global, p: &Program) -> Result<Typed, WeaveFault>
     ensures told { IfErr result (λ fault. fault.item ≡ 0) }
     ensures accepted { OnOk result (IsAccepted (program_tree p.now)) }
     ensures flat { IfOk result (λ typed. IsFlatOf (program_tree p.now) (model_tree typed.model)) }
+    ensures alone { IfOk result (λ typed. (m : FlatModel) → IsFlatOf (program_tree p.now) m → m ≡ model_tree typed.model) }
     ensures meant { OnOk result (ActualsMean (program_tree p.now)) }
+    ensures want { (m : FlatModel) → IsAccepted (program_tree p.now) → IsFlatOf (program_tree p.now) m → IsTyped m → IfErr result IsWant }
 {
     let model = match flatten(alloc, p) {
         Ok(model) => model,

@@ -1,1 +1,5 @@
+pub mod KeysOnce
+pub mod Splits
+pub mod OneForm
 pub mod ExpressionLaws
+pub mod SliceLaws

@@ -103,12 +103,16 @@ pub data IsBrokenAt (p : ProgramTree) (m : FlatModel) (u : Use) : UseRule → Ty
   by_names : (r : Rule) → IsLeastOfNames p u r → IsBrokenAt p m u (of_names r)
   by_kinds : (r : KindRule) → KeepsNames p u → (f : Forms p m u) → kind_rule m u.type f.follows_as f.guard_as ≡ Some r → IsBrokenAt p m u (of_kinds r)
 
--- the rule is broken at the item of a mode at an instance, and none at a mode before it, by instances and then items
-pub record IsFirstUse (p : ProgramTree) (m : FlatModel) (i : InstructionTree) (rule : UseRule) (item : ℕ) : Type 0 where
+-- the rule is broken at one of these, of this item, and none before it breaks one
+pub record IsFirstAmong (p : ProgramTree) (m : FlatModel) (among : List Use) (rule : UseRule) (item : ℕ) : Type 0 where
   pub before : List Use
   pub here : Use
   pub after : List Use
-  pub in_order : uses p i ≡ before ++ here ∷ after
+  pub in_order : among ≡ before ++ here ∷ after
   pub kept_before : Each (KeepsUse p m) before
   pub broken : IsBrokenAt p m here rule
   pub at_item : item ≡ here.item
+
+-- the rule is broken at the item of a mode at an instance, and none at a mode before it, by instances and then items
+abbrev pub IsFirstUse : ProgramTree → FlatModel → InstructionTree → UseRule → ℕ → Type 0
+IsFirstUse p m i rule item = IsFirstAmong p m (uses p i) rule item

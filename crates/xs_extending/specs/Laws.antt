@@ -1,10 +1,23 @@
 -- The laws of the rules on expressions of modes, as statements.
+use Rattle.std.specs.Prelude.{◌≡◌, ℕ}
 use Rattle.xs_tree.specs.ProgramTree.{ProgramTree}
+use Rattle.xs_fei.specs.Instructions.{InstructionTree}
 use Rattle.xs_flattening.specs.Flat.{FlatModel}
+use Rattle.xs_flattening.specs.Rules.{IsAccepted}
+use Rattle.xs_flattening.specs.Model.{IsFlatOf}
 use Rattle.xs_kinds.specs.Judged.{KindRule}
 use Rattle.xs_extending.specs.Uses.{Use}
-use Rattle.xs_extending.specs.Expressions.{KeepsNames, of_kinds, IsBrokenAt}
+use Rattle.xs_extending.specs.Expressions.{KeepsNames, UseRule, of_kinds, IsBrokenAt, AllUsesKept, IsFirstUse}
 
 -- a mode that is refused by a rule of kinds breaks no rule of names
 abbrev pub NamesComeFirst : Type 0
 NamesComeFirst = (p : ProgramTree) (m : FlatModel) (u : Use) (r : KindRule) → IsBrokenAt p m u (of_kinds r) → KeepsNames p u
+
+-- instructions have at most one first broken rule on the expressions of their modes, with one item
+abbrev pub OneUse : Type 0
+OneUse =
+    (p : ProgramTree) (m : FlatModel) (i : InstructionTree) (r q : UseRule) (n k : ℕ) → IsAccepted p → IsFlatOf p m → IsFirstUse p m i r n → IsFirstUse p m i q k → (r ≡ q) × (n ≡ k)
+
+-- and none where all modes keep the rules
+abbrev pub KeptHaveNone : Type 0
+KeptHaveNone = (p : ProgramTree) (m : FlatModel) (i : InstructionTree) (r : UseRule) (n : ℕ) → IsAccepted p → IsFlatOf p m → AllUsesKept p m i → IsFirstUse p m i r n → ⊥

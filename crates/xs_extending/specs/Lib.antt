@@ -1,3 +1,4 @@
 pub mod Uses
 pub mod Expressions
 pub mod Laws
+pub mod SliceUses

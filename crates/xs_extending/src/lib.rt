@@ -11,9 +11,16 @@
 //! ```
 #![tactic(auto)]
 
-ghost use Rattle.xs_extending.specs.Laws.{NamesComeFirst};
+ghost use Rattle.xs_extending.specs.Laws.{NamesComeFirst, OneUse, KeptHaveNone};
 
 /// A mode that is refused by a rule of kinds breaks no rule of names.
 pub fn names_come_first()
     ensures { NamesComeFirst }
+{}
+
+/// Instructions have at most one first broken rule on the expressions of their modes, with one item, and none
+/// where all modes keep the rules.
+pub fn one_use()
+    ensures one { OneUse }
+    ensures none { KeptHaveNone }
 {}

@@ -30,12 +30,13 @@ use Rattle.xs_flat.specs.Judging.{IsJudged}
 use Rattle.xs_flat.specs.ResolverOf.{leaf_at, leaf_by, resolver, AreKnown}
 use Rattle.xs_flattening.specs.ValueRules.{BreaksValue, IsLeastBroken}
 use Rattle.xs_flattening.specs.ResolvedAt.{IsResolvedAt}
-use Rattle.xs_flat.specs.ResolvedAt.{IsAt, IsValueFault}
+use Rattle.xs_flat.specs.ResolvedAt.{IsAt, IsValueFault, IsValueKept}
 use Rattle.xs_flat.proofs.BuildLeaves.{order, bounds_with, value_known}
 use Rattle.xs_flat.proofs.BuildLoops.{both_many}
 use Rattle.xs_flat.proofs.SceneItems.{both_more}
 use Rattle.xs_flat.proofs.BuildSound.{definition_of, written_with, definitions, sound, resolver_at}
 use Rattle.xs_flat.proofs.BuildUnique.{all_one}
+use Rattle.xs_flat.proofs.OnlyModel.{second_not}
 
 -- a definition is what its key stands for
 one_definition : (p : ProgramTree) (d : Definition) → expression_of p d.key ≡ Some (d.place, d.written) → definition_of p d.key ≡ d
@@ -189,6 +190,34 @@ module _ (p : ProgramTree) (at : Place) (inputs : Bool) (e : Formula) where
       by_flag : (a : Bool) → j.no_value ≡ a → first_of ((a, NoSuchName) ∷ (j.next, NextHere) ∷ (j.input && not inputs, InputHere) ∷ []) ≡ None → SomeHasNoValue p at e → ⊥
       by_flag true ea t = cc
       by_flag false ea t = no_value j is ea
+
+  third_not : (a b c : Bool) → first_of ((a, NoSuchName) ∷ (b, NextHere) ∷ (c, InputHere) ∷ []) ≡ None → c ≡ false
+  third_not true b c e = cc
+  third_not false true c e = cc
+  third_not false false true e = cc
+  third_not false false false e = refl
+
+  input_told : (input may : Bool) → input ≡ true → may ≡ false → (input && not may) ≡ false → ⊥
+  input_told true true h k e = cc
+  input_told true false h k e = cc
+  input_told false may h k e = cc
+
+  -- where no rule is told, none is broken
+  pub none_broken : (j : Judged) → IsJudged p at e j → first_of ((j.no_value, NoSuchName) ∷ (j.next, NextHere) ∷ (j.input && not inputs, InputHere) ∷ []) ≡ None → IsValueKept p at inputs e
+  none_broken j is h no_main b = absurd b
+  none_broken j is h main_has_parameters b = absurd b
+  none_broken j is h double_module b = absurd b
+  none_broken j is h double_name b = absurd b
+  none_broken j is h no_such_module b = absurd b
+  none_broken j is h wrong_count b = absurd b
+  none_broken j is h module_loop b = absurd b
+  none_broken j is h no_such_name b = none_told j is h b
+  none_broken j is h not_a_target b = absurd b
+  none_broken j is h double_assign b = absurd b
+  none_broken j is h define_loop b = absurd b
+  none_broken j is h next_here b = let bad : true ≡ false = sym b ∙ sym is.next ∙ second_not j.no_value j.next (j.input && not inputs) NoSuchName NextHere InputHere h in cc
+  none_broken j is h input_here b = input_told j.input inputs (is.input.1 b.1) b.0 (third_not j.no_value j.next (j.input && not inputs) h)
+  none_broken j is h too_many b = absurd b
 
   pub want_value : (f : FlatFault) → IsWant f → IsValueFault p at inputs e f
   want_value f want = subst (λ r. IfSome (rule_of r) (λ r. (f.item ≡ 0) × IsLeastBroken p at inputs e r)) (sym want) tt

@@ -3,8 +3,8 @@ use Rattle.std.specs.Prelude.{◌≡◌, ℕ, Bool, Some, slice_get, IfSome}
 use Rattle.xs_tree.specs.ProgramTree.{Formula, ProgramTree}
 use Rattle.xs_tree.specs.Scope.{Place}
 use Rattle.xs_flattening.specs.Flat.{FlatInstance, FlatModel}
-use Rattle.xs_flattening.specs.Rules.{IsAccepted}
-use Rattle.xs_flattening.specs.ValueRules.{IsLeastBroken}
+use Rattle.xs_flattening.specs.Rules.{Rule, IsAccepted}
+use Rattle.xs_flattening.specs.ValueRules.{BreaksValue, IsLeastBroken}
 use Rattle.xs_flattening.specs.Model.{IsFlatOf}
 use Rattle.xs_flat.specs.declared.fault.FlatFault.{FlatFault}
 use Rattle.xs_flat.specs.Faults.{rule_of}
@@ -14,6 +14,10 @@ pub record IsAt (p : ProgramTree) (m : FlatModel) (number : ℕ) (at : FlatInsta
   pub accepted : IsAccepted p
   pub flat : IsFlatOf p m
   pub is_at : slice_get m.instances number ≡ Some at
+
+-- the value breaks no rule
+abbrev pub IsValueKept : ProgramTree → Place → Bool → Formula → Type 0
+IsValueKept p at inputs e = (r : Rule) → BreaksValue p at inputs e r → ⊥
 
 -- the fault is the least rule that the value breaks, at item 0, or want of memory
 abbrev pub IsValueFault : ProgramTree → Place → Bool → Formula → FlatFault → Type 0

@@ -18,7 +18,7 @@ ghost use Rattle.xs_flat.specs.Walked.{AreDeclared};
 ghost use Rattle.xs_flat.specs.NeedsTree.{AreNeeds};
 ghost use Rattle.xs_flat.specs.ScopeOf.{IsScopeOf, IsAnyScope};
 ghost use Rattle.xs_flattening.specs.ResolvedAt.{IsResolvedAt};
-ghost use Rattle.xs_flat.specs.ResolvedAt.{IsAt, IsValueFault};
+ghost use Rattle.xs_flat.specs.ResolvedAt.{IsAt, IsValueFault, IsValueKept};
 ghost use Rattle.xs_flattening.specs.Flat.{FlatInstance, FlatModel as ModelTree};
 ghost use Rattle.xs_flattening.specs.Looks.{ActualsMean};
 ghost use Rattle.xs_flattening.specs.Resolved.{has_next};
@@ -74,6 +74,7 @@ impl<'a> Scope<'a> {
         ensures closed { IfOk result (λ made. is_closed (bounds_of m.now) made ≡ true) }
         ensures resolved { (p : ProgramTree) → IsScopeOf p self.now → (at : FlatInstance) → IsAt p (model_tree m.now) «instance» at → IfOk result (λ made. IsResolvedAt p (model_tree m.now) at.place (tree_of e.now) (flat_tree made)) }
         ensures no_next { (p : ProgramTree) → IsScopeOf p self.now → (at : FlatInstance) → IsAt p (model_tree m.now) «instance» at → OnOk result (has_next (tree_of e.now) ≡ false) }
+        ensures kept { (p : ProgramTree) → IsScopeOf p self.now → (at : FlatInstance) → IsAt p (model_tree m.now) «instance» at → OnOk result (IsValueKept p at.place inputs (tree_of e.now)) }
         ensures fault { (p : ProgramTree) → IsScopeOf p self.now → (at : FlatInstance) → IsAt p (model_tree m.now) «instance» at → IfErr result (IsValueFault p at.place inputs (tree_of e.now)) }
     {
         resolve_value(
@@ -192,6 +193,7 @@ pub fn resolve_top(
     ensures closed { IfOk result (λ made. is_closed (bounds_of m.now) made ≡ true) }
     ensures resolved { (at : FlatInstance) → IsAt (program_tree p.now) (model_tree m.now) 0 at → IfOk result (λ made. IsResolvedAt (program_tree p.now) (model_tree m.now) at.place (tree_of e.now) (flat_tree made)) }
     ensures no_next { (at : FlatInstance) → IsAt (program_tree p.now) (model_tree m.now) 0 at → OnOk result (has_next (tree_of e.now) ≡ false) }
+    ensures kept { (at : FlatInstance) → IsAt (program_tree p.now) (model_tree m.now) 0 at → OnOk result (IsValueKept (program_tree p.now) at.place false (tree_of e.now)) }
     ensures fault { (at : FlatInstance) → IsAt (program_tree p.now) (model_tree m.now) 0 at → IfErr result (IsValueFault (program_tree p.now) at.place false (tree_of e.now)) }
 {
     resolve_at(alloc, p, m, 0, false, e)
@@ -211,6 +213,7 @@ pub fn resolve_at(
     ensures closed { IfOk result (λ made. is_closed (bounds_of m.now) made ≡ true) }
     ensures resolved { (at : FlatInstance) → IsAt (program_tree p.now) (model_tree m.now) «instance» at → IfOk result (λ made. IsResolvedAt (program_tree p.now) (model_tree m.now) at.place (tree_of e.now) (flat_tree made)) }
     ensures no_next { (at : FlatInstance) → IsAt (program_tree p.now) (model_tree m.now) «instance» at → OnOk result (has_next (tree_of e.now) ≡ false) }
+    ensures kept { (at : FlatInstance) → IsAt (program_tree p.now) (model_tree m.now) «instance» at → OnOk result (IsValueKept (program_tree p.now) at.place inputs (tree_of e.now)) }
     ensures fault { (at : FlatInstance) → IsAt (program_tree p.now) (model_tree m.now) «instance» at → IfErr result (IsValueFault (program_tree p.now) at.place inputs (tree_of e.now)) }
 {
     match main_place(p.modules.as_slice()) {
@@ -237,6 +240,7 @@ fn resolve_from(
     ensures closed { IfOk result (λ made. is_closed (bounds_of m.now) made ≡ true) }
     ensures resolved { (at : FlatInstance) → IsAt (program_tree p.now) (model_tree m.now) spot at → IfOk result (λ made. IsResolvedAt (program_tree p.now) (model_tree m.now) at.place (tree_of e.now) (flat_tree made)) }
     ensures no_next { (at : FlatInstance) → IsAt (program_tree p.now) (model_tree m.now) spot at → OnOk result (has_next (tree_of e.now) ≡ false) }
+    ensures kept { (at : FlatInstance) → IsAt (program_tree p.now) (model_tree m.now) spot at → OnOk result (IsValueKept (program_tree p.now) at.place inputs (tree_of e.now)) }
     ensures fault { (at : FlatInstance) → IsAt (program_tree p.now) (model_tree m.now) spot at → IfErr result (IsValueFault (program_tree p.now) at.place inputs (tree_of e.now)) }
 {
     let (scene, _variables) = scene_of(alloc, p, main)?;
@@ -257,6 +261,7 @@ fn resolve_in(
     ensures closed { IfOk result (λ made. is_closed (bounds_of m.now) made ≡ true) }
     ensures resolved { (at : FlatInstance) → IsAt (program_of scene.now) (model_tree m.now) spot at → IfOk result (λ made. IsResolvedAt (program_of scene.now) (model_tree m.now) at.place (tree_of e.now) (flat_tree made)) }
     ensures no_next { (at : FlatInstance) → IsAt (program_of scene.now) (model_tree m.now) spot at → OnOk result (has_next (tree_of e.now) ≡ false) }
+    ensures kept { (at : FlatInstance) → IsAt (program_of scene.now) (model_tree m.now) spot at → OnOk result (IsValueKept (program_of scene.now) at.place inputs (tree_of e.now)) }
     ensures fault { (at : FlatInstance) → IsAt (program_of scene.now) (model_tree m.now) spot at → IfErr result (IsValueFault (program_of scene.now) at.place inputs (tree_of e.now)) }
 {
     let needs = Needs::of_scene(alloc, scene)?;
@@ -279,6 +284,7 @@ fn resolve_value(
     ensures closed { IfOk result (λ made. is_closed (bounds_of m.now) made ≡ true) }
     ensures resolved { (at : FlatInstance) → IsAt (program_of scene.now) (model_tree m.now) spot at → IfOk result (λ made. IsResolvedAt (program_of scene.now) (model_tree m.now) at.place (tree_of e.now) (flat_tree made)) }
     ensures no_next { (at : FlatInstance) → IsAt (program_of scene.now) (model_tree m.now) spot at → OnOk result (has_next (tree_of e.now) ≡ false) }
+    ensures kept { (at : FlatInstance) → IsAt (program_of scene.now) (model_tree m.now) spot at → OnOk result (IsValueKept (program_of scene.now) at.place inputs (tree_of e.now)) }
     ensures fault { (at : FlatInstance) → IsAt (program_of scene.now) (model_tree m.now) spot at → IfErr result (IsValueFault (program_of scene.now) at.place inputs (tree_of e.now)) }
 {
     let judged = judge_value(alloc, scene, needs, spot, e)?;

@@ -180,7 +180,7 @@ module _ (p : ProgramTree) (walkable : IsWalkable p) (m n : FlatModel) (is : IsF
   instance_number at bt i j places h g =
       one_number p walkable i j h.0 g.0 (subst (λ xs. slice_get xs i ≡ Some h.0) is.instances h.1) (subst (λ xs. slice_get xs j ≡ Some g.0) also.instances g.1) (h.2 ∙ places ∙ sym g.2)
 
-  one_stands : (meaning : Meaning) (l k : FlatLeaf) → StandsFor m is.written l meaning → StandsFor n also.written k meaning → l ≡ k
+  pub one_stands : (meaning : Meaning) (l k : FlatLeaf) → StandsFor m is.written l meaning → StandsFor n also.written k meaning → l ≡ k
   one_stands (a_variable_at at x) l k h g =
       let a = variable_leaf m is.written l at x h in
       let b = variable_leaf n also.written k at x g in

@@ -7,3 +7,4 @@ mod KeyedLaws
 mod LocalLaws
 mod SiteFaults
 mod CountLaws
+pub mod PlacingLaws

@@ -10,3 +10,4 @@ pub mod Names
 pub mod Faults
 pub mod OutOfMemory
 pub mod Counted
+pub mod Placing

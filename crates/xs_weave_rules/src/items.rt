@@ -13,6 +13,7 @@ ghost use Rattle.xs_weave_rules.specs.FirstBroken.{AllKept, IsFirstBroken};
 ghost use Rattle.xs_weave_rules.specs.Locals.{local_tree, variable};
 ghost use Rattle.xs_weave_rules.specs.Faults.{IsKnown, IsMet, IsTaken, first_fault, sites_of, slices_in, names_of, target_rule, slice_rule, is_taken_with, adds_taken as adds_taken_by, owned_slices, file_slices, placed_tree};
 ghost use Rattle.xs_weave_rules.specs.Keyed.{with_text, with_texts, is_pair_among, with_pair};
+ghost use Rattle.xs_weave_rules.specs.Placing.{placed_from, seen_placed, places_in};
 ghost use Rattle.xs_tree.specs.Texts.{same_text, is_among};
 ghost use Rattle.xs_weave_rules.specs.declared.fault.Rule.TheVariants as broken;
 
@@ -56,6 +57,7 @@ pub fn placed_slices<'a>(
     i: &'a Instructions,
 ) -> Result<Vec<Placed<'a>>, RuleFault>
     ensures placed { IfOk result (λ placed. map placed_tree placed.items ≡ file_slices (instruction_tree i.now).extensions) }
+    ensures items { IfOk result (λ placed. map seen_placed placed.items ≡ placed_from (program_tree p.now) 0 (item_sites (instruction_tree i.now))) }
     ensures kept { OnOk result (AllKept (broken_at (program_tree p.now)) (item_sites (instruction_tree i.now))) }
     ensures first { IfErr result (λ fault. fault.rule ≢ broken.OutOfMemory → IsFirstBroken (broken_at (program_tree p.now)) (item_sites (instruction_tree i.now)) fault.rule fault.item) }
 {
@@ -70,6 +72,7 @@ impl<'a> Met<'a> {
         ensures met { IsMet result }
         ensures last { result.last ≡ 0 }
         ensures slices { slices_in result ≡ [] }
+        ensures places { places_in result ≡ [] }
     {
         Met {
             states: Texts::new(alloc),
@@ -90,6 +93,7 @@ impl<'a> Met<'a> {
         requires known { IsKnown known.now }
         requires met { IsMet self.old }
         ensures kept { OnOk result (IsTaken (program_tree known.now.program.now) self.old.last self.old self.new (extension_sites (slices_in self.old) (map extension_tree extensions.now)) (file_slices (map extension_tree extensions.now))) }
+        ensures places { OnOk result (places_in self.new ≡ places_in self.old ++ placed_from (program_tree known.now.program.now) self.old.last (extension_sites (slices_in self.old) (map extension_tree extensions.now))) }
         ensures told { IfErr result (λ fault. fault.rule ≢ broken.OutOfMemory → first_fault (broken_at (program_tree known.now.program.now)) self.old.last (extension_sites (slices_in self.old) (map extension_tree extensions.now)) ≡ Some fault) }
     {
         for extension in extensions {
@@ -107,6 +111,7 @@ impl<'a> Met<'a> {
         requires known { IsKnown known.now }
         requires met { IsMet self.old }
         ensures kept { OnOk result (IsTaken (program_tree known.now.program.now) self.old.last self.old self.new (sites_of (slices_in self.old) (extension_tree extension.now)) (owned_slices (extension_tree extension.now))) }
+        ensures places { OnOk result (places_in self.new ≡ places_in self.old ++ placed_from (program_tree known.now.program.now) self.old.last (sites_of (slices_in self.old) (extension_tree extension.now))) }
         ensures told { IfErr result (λ fault. fault.rule ≢ broken.OutOfMemory → first_fault (broken_at (program_tree known.now.program.now)) self.old.last (sites_of (slices_in self.old) (extension_tree extension.now)) ≡ Some fault) }
     {
         let item = item_after(self.last)?;
@@ -130,6 +135,7 @@ impl<'a> Met<'a> {
         requires known { IsKnown known.now }
         requires met { IsMet self.old }
         ensures kept { OnOk result (IsTaken (program_tree known.now.program.now) self.old.last self.old self.new (slice_sites (slices_in self.old) owner.now (map slice_tree slices.now)) (map (owned owner.now) (map slice_tree slices.now))) }
+        ensures places { OnOk result (places_in self.new ≡ places_in self.old ++ placed_from (program_tree known.now.program.now) self.old.last (slice_sites (slices_in self.old) owner.now (map slice_tree slices.now))) }
         ensures told { IfErr result (λ fault. fault.rule ≢ broken.OutOfMemory → first_fault (broken_at (program_tree known.now.program.now)) self.old.last (slice_sites (slices_in self.old) owner.now (map slice_tree slices.now)) ≡ Some fault) }
     {
         for slice in slices {
@@ -148,6 +154,7 @@ impl<'a> Met<'a> {
         requires known { IsKnown known.now }
         requires met { IsMet self.old }
         ensures kept { OnOk result (IsTaken (program_tree known.now.program.now) self.old.last self.old self.new (slice_sites (slices_in self.old) owner.now (slice_tree slice.now ∷ [])) (owned owner.now (slice_tree slice.now) ∷ [])) }
+        ensures places { OnOk result (places_in self.new ≡ places_in self.old ++ placed_from (program_tree known.now.program.now) self.old.last (slice_sites (slices_in self.old) owner.now (slice_tree slice.now ∷ []))) }
         ensures told { IfErr result (λ fault. fault.rule ≢ broken.OutOfMemory → first_fault (broken_at (program_tree known.now.program.now)) self.old.last (slice_sites (slices_in self.old) owner.now (slice_tree slice.now ∷ [])) ≡ Some fault) }
     {
         let item = item_after(self.last)?;
@@ -178,6 +185,7 @@ impl<'a> Met<'a> {
         requires names { names.now ≡ names_of (slice_tree placed.now.slice.now) }
         requires declared { declared_tree placed.now.declared.now ≡ type_of_kind (target_kind (program_tree known.now.program.now) (placed_tree placed.now)) }
         ensures kept { OnOk result (IsTaken (program_tree known.now.program.now) placed.now.item self.old self.new (mode_sites (slices_in self.old) (placed_tree placed.now) [] (placed_tree placed.now).slice.modes) (placed_tree placed.now ∷ [])) }
+        ensures places { OnOk result (places_in self.new ≡ places_in self.old ++ seen_placed placed.now ∷ []) }
         ensures told { IfErr result (λ fault. fault.rule ≢ broken.OutOfMemory → first_fault (broken_at (program_tree known.now.program.now)) placed.now.item (mode_sites (slices_in self.old) (placed_tree placed.now) [] (placed_tree placed.now).slice.modes) ≡ Some fault) }
     {
         self.add_slice(alloc, names, placed)?;

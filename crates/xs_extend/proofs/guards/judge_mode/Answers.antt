@@ -1,10 +1,21 @@
-use Rattle.std.proofs.Common.{refl}
+use Rattle.std.proofs.Common.{◌∙◌, sym}
+use Rattle.std.specs.Option.{option_map}
+use Rattle.xs_tree.specs.ProgramTree.{declared_tree}
 use Rattle.xs_fei.specs.Instructions.{mode_tree}
-use Rattle.xs_extend.specs.Guarded.{program_in, model_in}
-use Rattle.xs_extend.proofs.GuardLaws.{good_mode}
+use Rattle.xs_flat.specs.ModelTree.{flat_tree}
+use Rattle.xs_extend.specs.Guarded.{program_in, model_in, use_at}
+use Rattle.xs_extend.proofs.KindAnswers.{mode_told, mode_kept}
 use Rattle.xs_extend.proofs.guards.judge_mode.Goals as goal
 
-pub returns-clause-good : goal.returns-clause-good
-returns-clause-good c =
-    λ at is. good_mode (program_in c.args.nominal) (model_in c.args.nominal) at.place (mode_tree c.args.mode.now) c.in_ok-resolved.resolved.follows c.in_ok-resolved.resolved.guard c.in_ok-kinds.kinds.follows
-    c.in_ok-kinds.kinds.guard (c.in_ok-resolved.ensures.follows at is) (c.in_ok-resolved.ensures.guard at is) c.in_ok-kinds.ensures.follows c.in_ok-kinds.ensures.guard (c.if-not-guard_fits.ensures refl)
+pub returns-in-Some-clause-told : goal.returns-in-Some-clause-told
+returns-in-Some-clause-told c = λ at n is.
+    let u = use_at at.place (declared_tree c.args.declared.now) (mode_tree c.args.mode.now) n in
+    mode_told (program_in c.args.nominal) (model_in c.args.nominal) u (option_map flat_tree c.in_ok-resolved.resolved.follows) (option_map flat_tree c.in_ok-resolved.resolved.guard) c.in-Some.rule c.kind_fault.result
+    (c.in_ok-resolved.ensures.kept at (declared_tree c.args.declared.now) n is) (c.in_ok-resolved.ensures.follows at is) (c.in_ok-resolved.ensures.guard at is) (sym c.first_of_kinds.ensures ∙ c.in-Some.is)
+    c.kind_fault.ensures
+
+pub returns-clause-kept : goal.returns-clause-kept
+returns-clause-kept c = λ at n is.
+    let u = use_at at.place (declared_tree c.args.declared.now) (mode_tree c.args.mode.now) n in
+    mode_kept (program_in c.args.nominal) (model_in c.args.nominal) u (option_map flat_tree c.in_ok-resolved.resolved.follows) (option_map flat_tree c.in_ok-resolved.resolved.guard)
+    (c.in_ok-resolved.ensures.kept at (declared_tree c.args.declared.now) n is) (c.in_ok-resolved.ensures.follows at is) (c.in_ok-resolved.ensures.guard at is) (sym c.first_of_kinds.ensures ∙ c.in-None.is)

@@ -1,21 +1,23 @@
-use Rattle.std.proofs.Common.{map, subst}
-use Rattle.xs_tree.specs.Trace.{Each}
+use Rattle.std.proofs.Common.{◌+◌, map, subst}
+use Rattle.xs_tree.specs.ProgramTree.{declared_tree}
 use Rattle.xs_fei.specs.Instructions.{mode_tree}
-use Rattle.xs_extend.specs.Guarded.{program_in, model_in, IsGood}
-use Rattle.xs_extend.proofs.EachItem.{each_from, none_left}
+use Rattle.xs_extending.specs.SliceUses.{modes_from}
+use Rattle.xs_extend.specs.Guarded.{program_in, model_in}
+use Rattle.xs_extend.specs.Refused.{IsFirstFault}
+use Rattle.xs_extend.proofs.Deciding.{mode_next, mode_first}
 use Rattle.xs_extend.proofs.guards.judge_slice.Goals as goal
 
-pub loop-mode-init : goal.loop-mode-init
-loop-mode-init c = λ at is all. all
+pub returns-in-Err-clause-told : goal.returns-in-Err-clause-told
+returns-in-Err-clause-told c = λ at is.
+    subst (λ modes.
+    IsFirstFault (program_in c.args.nominal) (model_in c.args.nominal) (modes_from at.place (declared_tree c.args.placed.declared.now) (c.args.placed.item + 1) (map mode_tree modes))
+    (record { cause = c.in-Err.cause; item = c.in_ok-item.item })) c.as_slice-mode-items.ensures
+    (mode_first (program_in c.args.nominal) (model_in c.args.nominal) at.place (declared_tree c.args.placed.declared.now) c.as_slice-mode-items.result.now c.loop-mode.mode-index c.mode-item.result c.loop-mode.item c.in_ok-item.item
+    (modes_from at.place (declared_tree c.args.placed.declared.now) (c.args.placed.item + 1) (map mode_tree c.as_slice-mode-items.result.now)) c.loop-mode-test.true c.mode-item.is c.in_ok-item.ensures
+    (c.loop-mode.invariant at is) c.in-Err.cause (c.in-Err.ensures.told at c.in_ok-item.item is))
 
 pub loop-mode-preserved : goal.loop-mode-preserved
-loop-mode-preserved c =
-    λ at is rest. c.loop-mode.invariant at is
-    (each_from (IsGood (program_in c.args.nominal) (model_in c.args.nominal) at.place) mode_tree c.as_slice-mode-items.result.now c.loop-mode.mode-index c.mode-item.result c.loop-mode-test.true c.mode-item.is
-    (c.in-Ok.ensures.good at is) rest)
-
-pub returns-clause-good : goal.returns-clause-good
-returns-clause-good c =
-    λ at is. subst (λ modes. Each (IsGood (program_in c.args.nominal) (model_in c.args.nominal) at.place) (map mode_tree modes)) c.as_slice-mode-items.ensures
-    (c.loop-mode.invariant at is
-    (none_left (IsGood (program_in c.args.nominal) (model_in c.args.nominal) at.place) mode_tree c.as_slice-mode-items.result.now c.loop-mode.mode-index c.loop-mode-test.false))
+loop-mode-preserved c = λ at is.
+    mode_next (program_in c.args.nominal) (model_in c.args.nominal) at.place (declared_tree c.args.placed.declared.now) c.as_slice-mode-items.result.now c.loop-mode.mode-index c.mode-item.result c.loop-mode.item c.in_ok-item.item
+    (modes_from at.place (declared_tree c.args.placed.declared.now) (c.args.placed.item + 1) (map mode_tree c.as_slice-mode-items.result.now)) c.loop-mode-test.true c.mode-item.is c.in_ok-item.ensures
+    (c.loop-mode.invariant at is) (c.in-Ok.ensures.kept at c.in_ok-item.item is)

@@ -1,7 +1,7 @@
 use Rattle.xs_tree.specs.ProgramTree.{program_tree}
 use Rattle.std.proofs.Common.{map}
 use Rattle.xs_flat.specs.ModelTree.{model_tree}
-use Rattle.xs_extend.proofs.GuardLaws.{guards_judged}
+use Rattle.xs_extend.proofs.GuardLaws.{uses_judged}
 use Rattle.xs_weave_rules.proofs.WeavableLaw.{weavable}
 use Rattle.xs_fei.specs.Instructions.{instruction_tree}
 use Rattle.xs_extend.specs.WovenFaults.{fault_tree}
@@ -16,4 +16,4 @@ pub returns-clause-weavable : goal.returns-clause-weavable
 returns-clause-weavable c = λ accepted flat mean.
     let p = program_tree c.args.p.now in
     let i = instruction_tree c.args.i.now in
-    weavable p i (guards_judged p (model_tree c.args.typed.now.model) i accepted flat c.args.typed.now.typed mean (c.in_ok-judge.ensures.guards accepted flat)) c.in_ok-judge.ensures.kept.items
+    weavable p i (uses_judged p (model_tree c.args.typed.now.model) i accepted flat c.args.typed.now.typed mean (c.in_ok-judge.ensures.uses accepted flat)) c.in_ok-judge.ensures.kept.items

@@ -8,7 +8,7 @@ use Rattle.xs_flat.specs.Faults.{IsFaultOf}
 use Rattle.xs_flat.specs.ModelTree.{model_tree, flat_tree}
 use Rattle.xs_flat.specs.SceneTree.{program_of}
 use Rattle.xs_flattening.specs.ResolvedAt.{IsResolvedAt}
-use Rattle.xs_flat.specs.ResolvedAt.{IsAt, IsValueFault}
+use Rattle.xs_flat.specs.ResolvedAt.{IsAt, IsValueFault, IsValueKept}
 use Rattle.xs_flat.proofs.FlatFaults.{no_rule}
 use Rattle.xs_flat.proofs.ResolvedAtLaws.{no_rule_value}
 use Rattle.xs_flat.proofs.flattening.resolve_from.Goals as goal
@@ -30,3 +30,9 @@ pub returns-clause-no_next : goal.returns-clause-no_next
 returns-clause-no_next c = λ at is.
     let same : program_of c.in_ok-scene.scene ≡ program_tree c.args.p.now = search rules in
     subst (λ (q : ProgramTree). (at : FlatInstance) → IsAt q (model_tree c.args.m.now) c.args.spot at → OnOk c.resolve_in.result (has_next (tree_of c.args.e.now) ≡ false)) same c.resolve_in.ensures.no_next at is
+
+pub returns-clause-kept : goal.returns-clause-kept
+returns-clause-kept c = λ at is.
+    let same : program_of c.in_ok-scene.scene ≡ program_tree c.args.p.now = search rules in
+    subst (λ (q : ProgramTree). (at : FlatInstance) → IsAt q (model_tree c.args.m.now) c.args.spot at → OnOk c.resolve_in.result (IsValueKept q at.place c.args.inputs (tree_of c.args.e.now))) same
+    c.resolve_in.ensures.kept at is

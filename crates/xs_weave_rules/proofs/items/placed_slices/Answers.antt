@@ -1,4 +1,4 @@
-use Rattle.std.proofs.Common.{[], ap, subst, map}
+use Rattle.std.proofs.Common.{[], ◌++◌, ◌∙◌, ap, subst, map}
 use Rattle.std.proofs.lemmas.Result.{err_from_is_err_and}
 use Rattle.xs_tree.specs.ProgramTree.{program_tree}
 use Rattle.xs_fei.specs.Instructions.{extension_tree}
@@ -6,6 +6,7 @@ use Rattle.xs_weave_rules.specs.Sites.{extension_sites}
 use Rattle.xs_weave_rules.specs.Rules.{broken_at}
 use Rattle.xs_weave_rules.specs.FirstBroken.{AllKept, IsFirstBroken}
 use Rattle.xs_weave_rules.specs.Faults.{slices_in}
+use Rattle.xs_weave_rules.specs.Placing.{placed_from}
 use Rattle.xs_weave_rules.proofs.SiteFaults.{file_kept, file_broken}
 use Rattle.xs_weave_rules.proofs.items.placed_slices.Goals as goal
 
@@ -23,3 +24,9 @@ returns-clause-kept c =
     subst (λ es. AllKept (broken_at (program_tree c.args.p.now)) (extension_sites [] (map extension_tree es))) c.as_slice.ensures
     (file_kept (program_tree c.args.p.now) (program_tree c.in_ok-known.known.program.now) c.none-met.result.last (slices_in c.none-met.result) (map extension_tree c.as_slice.result.now)
     (ap program_tree c.in_ok-known.ensures.program) c.none-met.ensures.last c.none-met.ensures.slices c.in_ok-take_extensions.ensures.kept.kept)
+
+pub returns-clause-items : goal.returns-clause-items
+returns-clause-items c =
+    c.in_ok-take_extensions.ensures.places
+    ∙ (λ i. c.none-met.ensures.places i
+    ++ placed_from (program_tree (c.in_ok-known.ensures.program i)) (c.none-met.ensures.last i) (extension_sites (c.none-met.ensures.slices i) (map extension_tree (c.as_slice.ensures i))))

@@ -1,11 +1,11 @@
 -- The tables are those of the scope's program.
-use Rattle.std.proofs.Common.{IfOk, IfErr, subst}
+use Rattle.std.proofs.Common.{IfOk, IfErr, OnOk, subst}
 use Rattle.xs_tree.specs.ProgramTree.{ProgramTree}
 use Rattle.xs_tree.specs.Written.{tree_of}
 use Rattle.xs_flattening.specs.Flat.{FlatInstance}
 use Rattle.xs_flat.specs.ModelTree.{model_tree, flat_tree}
 use Rattle.xs_flattening.specs.ResolvedAt.{IsResolvedAt}
-use Rattle.xs_flat.specs.ResolvedAt.{IsAt, IsValueFault}
+use Rattle.xs_flat.specs.ResolvedAt.{IsAt, IsValueFault, IsValueKept}
 use Rattle.xs_flat.proofs.flattening.Scope.resolve_at.Goals as goal
 
 pub returns-clause-resolved : goal.returns-clause-resolved
@@ -17,3 +17,8 @@ pub returns-clause-fault : goal.returns-clause-fault
 returns-clause-fault c = λ p is at a.
     subst (λ (q : ProgramTree). (at : FlatInstance) → IsAt q (model_tree c.args.m.now) c.args.«instance» at → IfErr c.resolve_value.result (IsValueFault q at.place c.args.inputs (tree_of c.args.e.now)))
     is.program c.resolve_value.ensures.fault at a
+
+pub returns-clause-kept : goal.returns-clause-kept
+returns-clause-kept c = λ p is at a.
+    subst (λ (q : ProgramTree). (at : FlatInstance) → IsAt q (model_tree c.args.m.now) c.args.«instance» at → OnOk c.resolve_value.result (IsValueKept q at.place c.args.inputs (tree_of c.args.e.now))) is.program
+    c.resolve_value.ensures.kept at a

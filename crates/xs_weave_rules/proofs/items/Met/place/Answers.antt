@@ -3,6 +3,7 @@ use Rattle.std.proofs.lemmas.Result.{err_from_is_err_and}
 use Rattle.xs_tree.specs.ProgramTree.{program_tree, declared_tree}
 use Rattle.xs_fei.specs.Instructions.{mode_tree}
 use Rattle.xs_weave_rules.specs.Faults.{placed_tree, slices_in}
+use Rattle.xs_weave_rules.proofs.PlacingLaws.{seen_more}
 use Rattle.xs_weave_rules.proofs.SiteFaults.{place_faults, place_met, placed_more, modes_last}
 use Rattle.xs_weave_rules.proofs.items.Met.place.Goals as goal
 
@@ -28,3 +29,6 @@ returns-clause-kept c =
           c.in_ok-add_slice.ensures.states c.in_ok-add_slice.ensures.owns (record c.add_slice.new.self { states = c.take_modes.new.states; placed = c.push.new.self; last = c.in_ok-self.field-0 }) are c.in_ok-self.ensures.states refl
           c.in_ok-add_slice.ensures.slices c.in_ok-add_slice.ensures.targets;
     }
+
+pub returns-clause-places : goal.returns-clause-places
+returns-clause-places c = seen_more c.args.self.now.placed.items c.push.new.self.items c.args.placed.now (c.in_ok-push.ensures.items ∙ ap (λ v. v.items ++ c.args.placed.now ∷ []) c.in_ok-add_slice.ensures.placed)

@@ -1,9 +1,11 @@
-use Rattle.std.proofs.Common.{arith, ◌<◌, length, map}
+use Rattle.std.proofs.Common.{arith, ◌<◌, ◌++◌, length, map}
 use Rattle.std.proofs.lemmas.Result.{err_from_is_err_and}
 use Rattle.xs_tree.specs.ProgramTree.{program_tree}
 use Rattle.xs_fei.specs.Instructions.{slice_tree}
 use Rattle.xs_weave_rules.specs.Sites.{owned, slice_sites}
 use Rattle.xs_weave_rules.specs.Faults.{slices_in}
+use Rattle.xs_weave_rules.specs.Placing.{placed_from, places_in}
+use Rattle.xs_weave_rules.proofs.PlacingLaws.{slices_placed}
 use Rattle.xs_weave_rules.proofs.SiteFaults.{slices_next, slices_stop}
 use Rattle.xs_weave_rules.proofs.items.Met.take_slices.Goals as goal
 
@@ -13,11 +15,19 @@ returns-in_err-take_slice-clause-told c =
     let exit = err_from_is_err_and c.from_residual.result c.from_residual.ensures.1 in
     rw (exit.1, exit.2) (λ h.
     slices_stop (program_tree c.args.known.now.program.now) c.args.self.now c.loop-slice.self c.args.owner.now (slice_sites (slices_in c.args.self.now) c.args.owner.now (map slice_tree c.args.slices.now))
-    (map (owned c.args.owner.now) (map slice_tree c.args.slices.now)) c.args.slices.now c.loop-slice.slice-index c.slice-item.result below c.slice-item.is c.in_err-take_slice.field-0.0 c.loop-slice.invariant
+    (map (owned c.args.owner.now) (map slice_tree c.args.slices.now)) c.args.slices.now c.loop-slice.slice-index c.slice-item.result below c.slice-item.is c.in_err-take_slice.field-0.0 c.loop-slice.invariant.left
     (c.in_err-take_slice.ensures.told h))
 
 pub loop-slice-preserved : goal.loop-slice-preserved
 loop-slice-preserved c =
     let below : c.loop-slice.slice-index < length c.args.slices.now = omega arith in
-    slices_next (program_tree c.args.known.now.program.now) c.args.self.now c.loop-slice.self c.args.owner.now (slice_sites (slices_in c.args.self.now) c.args.owner.now (map slice_tree c.args.slices.now))
-    (map (owned c.args.owner.now) (map slice_tree c.args.slices.now)) c.args.slices.now c.loop-slice.slice-index c.slice-item.result below c.slice-item.is c.take_slice.new.self c.loop-slice.invariant c.in_ok-take_slice.ensures.kept
+    record {
+      left =
+          slices_next (program_tree c.args.known.now.program.now) c.args.self.now c.loop-slice.self c.args.owner.now (slice_sites (slices_in c.args.self.now) c.args.owner.now (map slice_tree c.args.slices.now))
+          (map (owned c.args.owner.now) (map slice_tree c.args.slices.now)) c.args.slices.now c.loop-slice.slice-index c.slice-item.result below c.slice-item.is c.take_slice.new.self c.loop-slice.invariant.left c.in_ok-take_slice.ensures.kept;
+      places =
+          slices_placed (program_tree c.args.known.now.program.now)
+          (places_in c.args.self.now ++ placed_from (program_tree c.args.known.now.program.now) c.args.self.now.last (slice_sites (slices_in c.args.self.now) c.args.owner.now (map slice_tree c.args.slices.now))) c.loop-slice.self
+          c.take_slice.new.self c.args.owner.now c.args.slices.now c.loop-slice.slice-index c.slice-item.result below c.slice-item.is c.loop-slice.invariant.places c.in_ok-take_slice.ensures.places
+          c.in_ok-take_slice.ensures.kept.slices_are c.in_ok-take_slice.ensures.kept.last;
+    }

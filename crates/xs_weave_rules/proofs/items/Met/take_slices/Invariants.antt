@@ -1,11 +1,15 @@
-use Rattle.std.proofs.Common.{map, drop}
+use Rattle.std.proofs.Common.{◌≡◌, ◌++◌, map, drop}
 use Rattle.xs_tree.specs.ProgramTree.{program_tree}
 use Rattle.xs_fei.specs.Instructions.{slice_tree}
 use Rattle.xs_weave_rules.specs.Sites.{owned, slice_sites}
 use Rattle.xs_weave_rules.specs.Faults.{IsLeft, slices_in}
+use Rattle.xs_weave_rules.specs.Placing.{placed_from, places_in}
 use Rattle.xs_weave_rules.proofs.items.Met.take_slices.Given as goal
 
 abbrev pub invariant-loop-slice : goal.invariant-loop-slice
-invariant-loop-slice l =
-    IsLeft (program_tree l.known.program.now) l.initial.self l.self (slice_sites (slices_in l.initial.self) l.owner (map slice_tree l.slices)) (slice_sites (slices_in l.self) l.owner (map slice_tree (drop l.slice-index l.slices)))
-    (map (owned l.owner) (map slice_tree l.slices)) (map (owned l.owner) (map slice_tree (drop l.slice-index l.slices)))
+invariant-loop-slice l = record {
+  left : IsLeft (program_tree l.known.program.now) l.initial.self l.self (slice_sites (slices_in l.initial.self) l.owner (map slice_tree l.slices)) (slice_sites (slices_in l.self) l.owner (map slice_tree (drop l.slice-index l.slices)))
+      (map (owned l.owner) (map slice_tree l.slices)) (map (owned l.owner) (map slice_tree (drop l.slice-index l.slices)));
+  places : places_in l.self ++ placed_from (program_tree l.known.program.now) l.self.last (slice_sites (slices_in l.self) l.owner (map slice_tree (drop l.slice-index l.slices)))
+      ≡ places_in l.initial.self ++ placed_from (program_tree l.known.program.now) l.initial.self.last (slice_sites (slices_in l.initial.self) l.owner (map slice_tree l.slices));
+}
