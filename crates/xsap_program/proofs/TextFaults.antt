@@ -24,9 +24,6 @@ abbrev stop_wrong : Bool → ℕ → Wrong
 stop_wrong true at = broken part.Parse 4 at
 stop_wrong false at = broken part.Parse 1 at
 
-pub one_refusal : {a b : InputFault} → wrong.Refused a ≡ wrong.Refused b → a ≡ b
-one_refusal e = cc
-
 module _ (IsSpelled : List Lexeme → Type 0) (Deep : Type 0) (bytes : List ℕ) where
   front_of_front : (ts : List Lexeme) (n : ℕ) → IsFrontOf IsSpelled ts → IsFrontOf IsSpelled (take n ts)
   front_of_front ts n (us, whole) =
