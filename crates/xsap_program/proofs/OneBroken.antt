@@ -1,6 +1,5 @@
 -- Of items that are tried in order one is the first that breaks a rule.
 use Rattle.std.proofs.Common.{◌≡◌, ℕ, suc, List, [], ◌∷◌, ◌++◌, length, Option, Some, None, refl, sym, ◌∙◌, ap, subst}
-use Rattle.xs_tree.specs.Trace.{Each}
 use Rattle.xs_weave_rules.specs.Sites.{Site}
 use Rattle.xs_weave_rules.specs.declared.fault.Rule.{Rule}
 use Rattle.xs_weave_rules.specs.FirstBroken.{AllKept, IsFirstBroken}

@@ -1,8 +1,8 @@
 -- What is wrong with an extension as a whole is one thing, and nothing is where it passes no limit.
-use Rattle.std.proofs.Common.{◌≡◌, ℕ, List, sym, ap, subst, ◌∙◌}
+use Rattle.std.proofs.Common.{◌≡◌, List, sym, subst, ◌∙◌}
 use Rattle.xs_tree.specs.ProgramTree.{ProgramTree}
 use Rattle.xs_flattening.specs.Flat.{FlatModel}
-use Rattle.xs_flattening.specs.History.{Mode, with_history}
+use Rattle.xs_flattening.specs.History.{with_history}
 use Rattle.xs_flattening.specs.Rules.{IsAccepted}
 use Rattle.xs_flattening.specs.Model.{EachBoth}
 use Rattle.xs_flattening.proofs.Laws.{accepted_unbroken}

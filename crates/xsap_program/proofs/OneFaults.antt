@@ -1,10 +1,10 @@
 -- A program has one list of faults under instructions.
-use Rattle.std.proofs.Common.{◌≡◌, ℕ, zero, suc, List, [], ◌∷◌, ◌++◌, Option, Some, None, refl, sym, ◌∙◌, ap, subst}
+use Rattle.std.proofs.Common.{◌≡◌, ℕ, zero, suc, List, [], ◌∷◌, ◌++◌, Option, Some, None, refl, sym, ◌∙◌, ap}
 use Rattle.std.specs.Prelude.{flat_map}
 use Rattle.xs_tree.specs.ProgramTree.{Text, ModuleTree, ProgramTree}
 use Rattle.xs_tree.specs.Scope.{Place, module_at}
 use Rattle.xs_fei.specs.Instructions.{InstructionTree}
-use Rattle.xs_weave.specs.Faults.{Fault, instance_names, joined, each_joined, below, instances_in, HasInstances, place_faults, HasFaults}
+use Rattle.xs_weave.specs.Faults.{Fault, instance_names, joined, each_joined, below, instances_in, place_faults, HasFaults}
 
 -- lists that are joined were given
 record AreJoined {A : Type 0} (a b : Option (List A)) (all : List A) : Type 0 where

@@ -22,8 +22,8 @@ use Rattle.xsap_program.specs.declared.status.Part.{Part}
 use Rattle.xsap_program.specs.declared.status.Refusal.{Refusal}
 use Rattle.xsap_program.specs.declared.status.Refusal.TheVariants as refusal
 use Rattle.xsap_program.specs.Wrongs.{parse_wrong, names_fault, kinds_fault}
-use Rattle.xsap_program.specs.Models.{IsModelText, IsModelFault, IsModelOf, IsLawful, IsWrongModel, not_read, not_flat, not_typed}
-use Rattle.xsap_program.specs.Inputs.{HasBytes, RefusesModel, model_file, model_bytes, HoldsModel}
+use Rattle.xsap_program.specs.Models.{IsModelText, IsModelFault, IsLawful, IsWrongModel, not_read, not_flat, not_typed}
+use Rattle.xsap_program.specs.Inputs.{RefusesModel, model_file, model_bytes, HoldsModel}
 use Rattle.xsap_program.proofs.Told.{one_refusal}
 use Rattle.xsap_program.proofs.TextFaults.{reason, of_this_kind, same_reason}
 use Rattle.xsap_program.proofs.FileFacts.{no_bytes, one_file_fault, same_bytes}

@@ -8,7 +8,7 @@ use Rattle.xs_tree.specs.Scope.{Place, find_module}
 use Rattle.xs_tree.specs.Trace.{Each}
 use Rattle.xs_flattening.specs.Flat.{FlatModel}
 use Rattle.xs_flattening.specs.Items.{items_of, Visit, variables_of}
-use Rattle.xs_flattening.specs.Rules.{IsWalkable, IsAccepted}
+use Rattle.xs_flattening.specs.Rules.{IsAccepted}
 use Rattle.xs_flattening.specs.History.{Mode}
 use Rattle.xs_flattening.specs.Model.{IsVariableNumber, IsVariableOf, EachBoth, first_appearances, symbols_of_item, symbols_of, IsFlatOf}
 use Rattle.xs_flattening.proofs.Apart.{Differ, Apart, variables_apart}

@@ -5,7 +5,7 @@ use Rattle.xs_tree.specs.ProgramTree.{Text, ProgramTree}
 use Rattle.xs_tree.specs.Text.{program_text}
 use Rattle.xs_flattening.specs.Flat.{FlatModel}
 use Rattle.xs_fei.specs.Instructions.{InstructionTree}
-use Rattle.xs_weave.specs.Faults.{Fault, HasFaults}
+use Rattle.xs_weave.specs.Faults.{HasFaults}
 use Rattle.xs_weave.specs.Woven.{woven}
 use Rattle.xs_extend.specs.Refused.{IsTold}
 use Rattle.xs_extend.specs.declared.fault.WeaveFault.{WeaveFault}
@@ -17,7 +17,7 @@ use Rattle.xsap_program.specs.Wrongs.{weave_wrong}
 use Rattle.xsap_program.specs.Models.{IsLawful}
 use Rattle.xsap_program.specs.Wholes.{IsWrongWhole, IsWithinLimits}
 use Rattle.xsap_program.specs.Reports.{report_text}
-use Rattle.xsap_program.specs.Inputs.{HasBytes, IsInstructionText, modules_named, AreTaken, IsWrongFaults, not_spelled, not_woven, past_limit, RefusesModel, HoldsModel, RefusesFaults, faults_file, faults_bytes, IsExtensionText, HoldsFaults}
+use Rattle.xsap_program.specs.Inputs.{modules_named, AreTaken, IsWrongFaults, not_spelled, not_woven, past_limit, RefusesFaults, faults_file, faults_bytes, IsExtensionText, HoldsFaults}
 use Rattle.xsap_program.specs.Runs.{Outcome, refuses, extends, ComesTo, refuses_model, refuses_faults, is_extended, Means, other_words, asked}
 use Rattle.xsap_program.proofs.ExtensionLemmas.{one_model_file, one_faults_file, one_extended_file}
 use Rattle.xsap_program.proofs.FileFacts.{no_bytes, one_file_fault, same_bytes}

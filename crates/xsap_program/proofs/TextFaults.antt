@@ -1,5 +1,5 @@
 -- A text that is refused is refused for one reason.
-use Rattle.std.proofs.Common.{arith, ◌≡◌, inl, inr, ⊎_elim, ◌<◌, ◌≤◌, ◌+◌, ℕ, Bool, true, false, List, [], ◌++◌, Some, take, drop, length, refl, sym, ap, subst, ◌∙◌, append_assoc, append-nil, slice_get}
+use Rattle.std.proofs.Common.{arith, ◌≡◌, ⊎_elim, ◌<◌, ◌≤◌, ◌+◌, ℕ, Bool, true, false, List, [], ◌++◌, Some, take, drop, sym, ap, subst, ◌∙◌, append_assoc, append-nil, slice_get}
 use Rattle.std.proofs.lemmas.Bool.{cases_lt}
 use Rattle.std.proofs.lemmas.List.{take-append-drop, take-take}
 use Rattle.xs_lexer.specs.declared.token.Token.{Token}

@@ -1,19 +1,17 @@
 -- The flat model of an extension with the bits of its faults, as the code makes it.
-use Rattle.std.proofs.Common.{◌≡◌, ℕ, zero, suc, List, [], ◌∷◌, ◌++◌, map, Option, Some, None, refl, sym, ap, ◌∙◌}
+use Rattle.std.proofs.Common.{◌≡◌, ℕ, zero, suc, List, [], ◌∷◌, ◌++◌, map, Option, Some, None, refl, ap, ◌∙◌}
 use Rattle.std.specs.Prelude.{slice_get, reverse}
 use Rattle.std.proofs.lemmas.List.{reverse-append}
 use Rattle.xs_tree.specs.ProgramTree.{Text, Path, ProgramTree}
 use Rattle.xs_flattening.specs.History.{with_history}
-use Rattle.xs_flattening.specs.Flat.{FlatVariable, FlatModel as ModelTree}
 use Rattle.xs_flattening.specs.Model.{IsVariableNumber, EachBoth}
-use Rattle.xs_flat.specs.declared.model.Variable.{Variable}
 use Rattle.xs_flat.specs.declared.model.FlatModel.{FlatModel}
 use Rattle.xs_flat.specs.declared.model.Fault.{Fault}
 use Rattle.xs_flat.specs.ModelTree.{place_in, name_in, variable_tree, model_tree, mode_of}
 use Rattle.xs_effects.specs.AddedNames.{mode_variable}
 use Rattle.xs_extend.specs.declared.faults.WovenFault.{WovenFault}
 use Rattle.xs_extend.specs.WovenFaults.{place_of, fault_tree}
-use Rattle.xs_extend.specs.NumberedFaults.{parts_of, HasPath, IsNumbered, AreNumbered}
+use Rattle.xs_extend.specs.NumberedFaults.{parts_of, HasPath, AreNumbered}
 use Rattle.xsap_program.specs.Models.{IsModelOf}
 use Rattle.xsap_program.specs.Wholes.{IsModeOf, IsWhole}
 

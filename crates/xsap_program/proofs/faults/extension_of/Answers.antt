@@ -1,9 +1,8 @@
-use Rattle.std.proofs.Common.{◌≡◌, map, ap, subst, ◌∙◌}
+use Rattle.std.proofs.Common.{map, ap, subst, ◌∙◌}
 use Rattle.std.proofs.lemmas.Result.{err_from_is_err_and}
 use Rattle.xs_fei.specs.Instructions.{instruction_tree}
 use Rattle.xs_tree.specs.ProgramTree.{program_tree}
 use Rattle.xs_tree.specs.Text.{program_text}
-use Rattle.xs_weave.specs.Woven.{woven}
 use Rattle.xs_extend.specs.Refused.{KeepsRules, IsTold}
 use Rattle.xs_extend.specs.WovenFaults.{fault_tree}
 use Rattle.xs_extend.proofs.InstanceLaws.{instances_listed}

@@ -54,4 +54,3 @@ returns-in-Ok-clause-settled g c = answers_settled _ _ _ _ _ _ (returns-in-Ok-cl
 
 pub returns-in-Err-clause-settled : goal.returns-in-Err-clause-settled
 returns-in-Err-clause-settled g c = answers_settled _ _ _ _ _ _ (returns-in-Err-clause-answered g c)
-
