@@ -1,9 +1,9 @@
 -- The names that a weave adds are words that are not reserved.
-use Rattle.std.proofs.Common.{◌≡◌, ℕ, Bool, true, false, List, [], ◌∷◌, ◌++◌, Option, Some, None, codes, refl, subst, sym, arith, append_assoc}
+use Rattle.std.proofs.Common.{◌≡◌, ℕ, Bool, true, false, List, [], ◌∷◌, ◌++◌, Some, None, codes, refl, subst, sym, arith, append_assoc}
 use Rattle.std.specs.Prelude.{not, nat_eq, ◌&&◌, ◌||◌, ◌==◌}
 use Rattle.std.specs.List.{list_all}
 use Rattle.std.proofs.lemmas.Bool.Decides.{nat_tests}
-use Rattle.xs_lexer.specs.Bytes.{is_word_start, is_word_byte}
+use Rattle.xs_lexer.specs.Bytes.{is_word_start}
 use Rattle.xs_lexer.specs.Runs.{Runs, takes_word}
 use Rattle.xs_lexer.specs.Tokens.{IsWord}
 use Rattle.xs_tree.specs.ProgramTree.{Text}

@@ -2,6 +2,7 @@
 use Rattle.std.proofs.Common.{◌≡◌, ℕ, List, Option, Some, None, IfSome, IsSomeAnd, sym, ap, subst, ◌∙◌}
 use Rattle.xs_desk.specs.declared.files.NamedFile.{NamedFile}
 use Rattle.xs_desk.specs.Files.{file_of, with_file}
+use Rattle.xs_desk.specs.Desk.{said_more}
 use Rattle.xs_desk.proofs.Writing.{file_of-with_file}
 use Rattle.xs_tree.specs.ProgramTree.{Text, ProgramTree}
 use Rattle.xs_tree.specs.Bytes.{BytesSpellProgram}
@@ -34,10 +35,10 @@ one_faults_file a b = let e = sym a.spelled ∙ b.spelled in cc
 pub one_extended_file : {words : List Text} {m f x m' f' x' : Text} → AsksToExtend words m f x → AsksToExtend words m' f' x' → x ≡ x'
 one_extended_file a b = let e = sym a.spelled ∙ b.spelled in cc
 
--- two files whose extension was written
-files_extended : (before after : List NamedFile) (model faults extended : Text) (p : ProgramTree) (text report : Text) → HoldsModel before model p → HoldsFaults before faults p text report →
-    file_of after extended ≡ Some text → IsExtended before after model faults extended
-files_extended before after model faults extended p text report holds have written =
+-- two files whose extension was written, and its report said
+files_extended : (before after : List NamedFile) (said now : Option (List ℕ)) (model faults extended : Text) (p : ProgramTree) (text report : Text) → HoldsModel before model p →
+    HoldsFaults before faults p text report → file_of after extended ≡ Some text → now ≡ said_more said report → IsExtended before after said now model faults extended
+files_extended before after said now model faults extended p text report holds have written line =
     let made = have.extension in
     record {
       model_bytes = holds.bytes;
@@ -45,38 +46,42 @@ files_extended before after model faults extended p text report holds have writt
       written_bytes = text;
       program = p;
       instructions = made.instructions;
+      listed = made.faults;
       had_model = holds.has.held;
       had_faults = have.has.held;
       has_written = written;
+      has_said = line ∙ ap (said_more said) made.told;
       spells_program = holds.is_text.spelled;
       only_program = holds.is_text.only;
-      spells_instructions = made.spelled;
-      spells_written = subst (λ t. BytesSpellProgram t (woven p made.instructions)) (sym made.printed) (woven_text_spells holds.bytes have.bytes p made.instructions holds.is_text.spelled made.spelled);
-      weavable = made.weavable;
-      extension = woven_extends p made.instructions made.weavable;
+      spells_instructions = made.is_text.spelled;
+      only_instructions = made.is_text.only;
+      spells_written = subst (λ t. BytesSpellProgram t (woven p made.instructions)) (sym made.printed) (woven_text_spells holds.bytes have.bytes p made.instructions holds.is_text.spelled made.is_text.spelled);
+      weavable = made.taken.weavable;
+      extension = woven_extends p made.instructions made.taken.weavable;
+      are_faults = made.are_faults;
     }
 
 comes_extended : (files : List NamedFile) (model faults extended : Text) (o : Outcome) (after : Option (List NamedFile)) (said now : Option (List ℕ)) → ComesTo files model faults extended o →
-    IsDelivered o (Some files) after said now → status.Done ≡ outcome_status o → IsSomeAnd after (λ new. IsExtended files new model faults extended)
+    IsDelivered o (Some files) after said now → status.Done ≡ outcome_status o → IsSomeAnd after (λ new. IsExtended files new said now model faults extended)
 comes_extended files model faults extended o after said now (refuses_model r no_model) stands ended = absurd (never_done r ended)
 comes_extended files model faults extended o after said now (refuses_faults p r holds no_faults) stands ended = absurd (never_done r ended)
 comes_extended files model faults extended o after said now (is_extended p text report holds have) stands ended =
-    subst (λ told. IsSomeAnd told (λ new. IsExtended files new model faults extended)) (sym stands.0)
-    (files_extended files (with_file files extended text) model faults extended p text report holds have (file_of-with_file files extended text))
+    subst (λ told. IsSomeAnd told (λ new. IsExtended files new said now model faults extended)) (sym stands.0)
+    (files_extended files (with_file files extended text) said now model faults extended p text report holds have (file_of-with_file files extended text) stands.1)
 
 means_extended : (files : List NamedFile) (words : List Text) (model faults extended : Text) (o : Outcome) (after : Option (List NamedFile)) (said now : Option (List ℕ)) → Means files words o →
-    AsksToExtend words model faults extended → IsDelivered o (Some files) after said now → status.Done ≡ outcome_status o → IsSomeAnd after (λ new. IsExtended files new model faults extended)
+    AsksToExtend words model faults extended → IsDelivered o (Some files) after said now → status.Done ≡ outcome_status o → IsSomeAnd after (λ new. IsExtended files new said now model faults extended)
 means_extended files words model faults extended o after said now (other_words more) asks stands ended = absurd (more model faults extended asks)
 means_extended files words model faults extended o after said now (asked m f x o' named comes) asks stands ended =
     let made = comes_extended files m f x o' after said now comes stands ended in
-    subst (λ t. IsSomeAnd after (λ new. IsExtended files new t faults extended)) (one_model_file named asks)
-    (subst (λ t. IsSomeAnd after (λ new. IsExtended files new m t extended)) (one_faults_file named asks)
-    (subst (λ t. IsSomeAnd after (λ new. IsExtended files new m f t)) (one_extended_file named asks) made))
+    subst (λ t. IsSomeAnd after (λ new. IsExtended files new said now t faults extended)) (one_model_file named asks)
+    (subst (λ t. IsSomeAnd after (λ new. IsExtended files new said now m t extended)) (one_faults_file named asks)
+    (subst (λ t. IsSomeAnd after (λ new. IsExtended files new said now m f t)) (one_extended_file named asks) made))
 
 -- a run that answers that it is done has extended the model
 pub done_extends : (told after : Option (List NamedFile)) (said now : Option (List ℕ)) (words : List Text) (s : Status) (model faults extended : Text) →
     (IsAnswer s → IfSome told (λ files. HasAnswered files words s told after said now)) → s ≡ status.Done → AsksToExtend words model faults extended →
-    IfSome told (λ before. IsSomeAnd after (λ new. IsExtended before new model faults extended))
+    IfSome told (λ before. IsSomeAnd after (λ new. IsExtended before new said now model faults extended))
 done_extends None after said now words s model faults extended answered done asks = tt
 done_extends (Some files) after said now words s model faults extended answered done asks =
     let answer = answered (subst IsAnswer (sym done) tt) in

@@ -1,5 +1,5 @@
 -- What the reading of an input file comes to.
-use Rattle.std.proofs.Common.{◌≡◌, ◌∙◌, ap, refl, ℕ, List, [], ◌∷◌, map, Option, Some, None, Result, Err, IsErrOf, IfSome}
+use Rattle.std.proofs.Common.{◌≡◌, ◌∙◌, ap, refl, ℕ, List, [], ◌∷◌, map, Option, Some, None, Result, Err, IfSome}
 use Rattle.xs_tree.specs.ProgramTree.{Text, ProgramTree}
 use Rattle.xs_flattening.specs.Flat.{FlatInstance, FlatModel as ModelTree}
 use Rattle.xs_flattening.specs.Model.{IsFlatOf}
@@ -16,7 +16,9 @@ use Rattle.xsap_program.specs.declared.wrong.Wrong.TheVariants as wrong
 use Rattle.xsap_program.specs.declared.input.Input.TheVariants as input
 use Rattle.xsap_program.specs.declared.input.Stop.TheVariants as stop
 use Rattle.xsap_program.specs.declared.faults.Made.{Made}
-use Rattle.xsap_program.specs.Inputs.{refusal_at, stop_at, modules_named, IsRefusedFile, HasBytes, IsWrongModel, IsModelText, IsLawful, RefusesModel, model_file, model_bytes, HoldsModel, IsWrongFaults, RefusesFaults, faults_file, faults_bytes, IsMade, HoldsExtension}
+use Rattle.xsap_program.specs.Wrongs.{IfRefused}
+use Rattle.xsap_program.specs.Models.{IsModelText, IsLawful, IsWrongModel}
+use Rattle.xsap_program.specs.Inputs.{refusal_at, stop_at, modules_named, IsRefusedFile, HasBytes, RefusesModel, model_file, model_bytes, HoldsModel, IsWrongFaults, RefusesFaults, faults_file, faults_bytes, IsMade, HoldsExtension}
 
 -- a stop at the one refusal is a stop at no other
 pub same_refusal : {x r : Refusal} → stop.Refused x ≡ stop.Refused r → r ≡ x
@@ -30,7 +32,7 @@ refuses_model_file (Some files) name r fault is refused = model_file fault is re
 
 -- bytes that are wrong, as the refusal of the model
 pub refuses_model_bytes : (told : Option (List NamedFile)) (name : Text) (bytes : List ℕ) (w : Wrong) (r : Refusal) → stop.Refused r ≡ stop_at input.Model w →
-    IfSome told (λ files. HasBytes files name bytes) → IsWrongModel bytes w → IfSome told (λ files. RefusesModel files name r)
+    IfSome told (λ files. HasBytes files name bytes) → IfRefused (IsWrongModel bytes) w → IfSome told (λ files. RefusesModel files name r)
 refuses_model_bytes None name bytes w r is has bad = tt
 refuses_model_bytes (Some files) name bytes (wrong.Refused fault) r is has bad = let same : r ≡ refusal.Model fault = cc in model_bytes bytes fault same has bad
 refuses_model_bytes (Some files) name bytes wrong.Memory r is has bad = cc
@@ -47,7 +49,7 @@ refuses_faults_file None name p r fault is refused = tt
 refuses_faults_file (Some files) name p r fault is refused = faults_file fault is refused
 
 pub refuses_faults_bytes : (told : Option (List NamedFile)) (name : Text) (p : ProgramTree) (bytes : List ℕ) (w : Wrong) (r : Refusal) → stop.Refused r ≡ stop_at input.Faults w →
-    IfSome told (λ files. HasBytes files name bytes) → IsWrongFaults p bytes w → IfSome told (λ files. RefusesFaults files name p r)
+    IfSome told (λ files. HasBytes files name bytes) → IfRefused (IsWrongFaults p bytes) w → IfSome told (λ files. RefusesFaults files name p r)
 refuses_faults_bytes None name p bytes w r is has bad = tt
 refuses_faults_bytes (Some files) name p bytes (wrong.Refused fault) r is has bad = let same : r ≡ refusal.Faults fault = cc in faults_bytes bytes fault same has bad
 refuses_faults_bytes (Some files) name p bytes wrong.Memory r is has bad = cc

@@ -1,5 +1,5 @@
 -- From the parts of a run to its outcome.
-use Rattle.std.proofs.Common.{◌≡◌, ◌⊎◌, inl, inr, ⊎_elim, ℕ, List, Option, Some, None, IfSome, refl, sym, ap, subst, ◌∙◌}
+use Rattle.std.proofs.Common.{◌≡◌, ◌⊎◌, inl, inr, ⊎_elim, ℕ, List, Option, Some, None, IfSome, refl, ap, subst, ◌∙◌}
 use Rattle.xs_desk.specs.declared.files.NamedFile.{NamedFile}
 use Rattle.xs_desk.specs.Desk.{told_with, said_more, SaysPrefix, WritesPrefix}
 use Rattle.xs_tree.specs.ProgramTree.{Text, ProgramTree}

@@ -1,5 +1,5 @@
 -- A text that is refused is refused for one reason.
-use Rattle.std.proofs.Common.{arith, ◌≡◌, inl, inr, ⊎_elim, ◌<◌, ◌≤◌, ◌+◌, ℕ, Bool, true, false, List, [], ◌++◌, Some, take, drop, length, refl, sym, ap, subst, ◌∙◌, append_assoc, append-nil, slice_get}
+use Rattle.std.proofs.Common.{arith, ◌≡◌, ⊎_elim, ◌<◌, ◌≤◌, ◌+◌, ℕ, Bool, true, false, List, [], ◌++◌, Some, take, drop, sym, ap, subst, ◌∙◌, append_assoc, append-nil, slice_get}
 use Rattle.std.proofs.lemmas.Bool.{cases_lt}
 use Rattle.std.proofs.lemmas.List.{take-append-drop, take-take}
 use Rattle.xs_lexer.specs.declared.token.Token.{Token}
@@ -23,9 +23,6 @@ use Rattle.xsap_program.specs.Wrongs.{broken, lex_wrong, parse_wrong}
 abbrev stop_wrong : Bool → ℕ → Wrong
 stop_wrong true at = broken part.Parse 4 at
 stop_wrong false at = broken part.Parse 1 at
-
-pub one_refusal : {a b : InputFault} → wrong.Refused a ≡ wrong.Refused b → a ≡ b
-one_refusal e = cc
 
 module _ (IsSpelled : List Lexeme → Type 0) (Deep : Type 0) (bytes : List ℕ) where
   front_of_front : (ts : List Lexeme) (n : ℕ) → IsFrontOf IsSpelled ts → IsFrontOf IsSpelled (take n ts)

@@ -1,10 +1,10 @@
 -- The text of a woven program spells it.
-use Rattle.std.proofs.Common.{◌≡◌, ◌≢◌, ◌≤◌, ◌+◌, ◌-◌, ◌^◌, ℕ, suc, ℤ, pos, negsuc, Bool, true, false, List, [], ◌∷◌, ◌++◌, Option, Some, None, map, flat_map, refl, arith}
+use Rattle.std.proofs.Common.{◌≢◌, ◌+◌, ℕ, suc, ℤ, pos, negsuc, Bool, true, false, List, [], ◌∷◌, ◌++◌, Option, Some, None, map, flat_map, refl, arith}
 use Rattle.std.specs.Prelude.{nat_eq, if◌then◌else◌}
 use Rattle.xs_tree.specs.declared.expr.Op.TheVariants as op
 use Rattle.xs_tree.specs.declared.program.Member.{Member}
 use Rattle.xs_tree.specs.declared.program.Member.TheVariants as member
-use Rattle.xs_tree.specs.Tree.{Tree, Trees, Branches, truth, number as is_number, leaf, not_of, negate, next_of, binary, choice, case_of, set_of, span, no_tree, tree_then, no_branch, branch_then}
+use Rattle.xs_tree.specs.Tree.{Trees, Branches, truth, number as is_number, leaf, not_of, negate, next_of, binary, choice, case_of, set_of, span, no_tree, tree_then, no_branch, branch_then}
 use Rattle.xs_tree.specs.ProgramTree.{Text, Path, Formula, DeclaredTree, boolean, range, members, instance, DeclTree, DefineTree, AssignmentTree, SectionTree, var, ivar, frozen as frozen_section, define, constants, assign, init, invar, trans, ModuleTree, ProgramTree}
 use Rattle.xs_tree.specs.Values.{Value, truth as a_truth, number, symbol}
 use Rattle.xs_tree.specs.Scope.{Role, state, input, frozen_role, Kind, a_formal, a_variable, a_define, an_instance, undeclared, formal_from, kind_declared, kind_in_decls, kind_in_defines, kind_in_sections, kind_after_formals, kind_in}
@@ -13,7 +13,7 @@ use Rattle.xs_tree.specs.Trace.{Each}
 use Rattle.xs_tree.specs.Text.{program_text}
 use Rattle.xs_tree.specs.Bytes.{BytesSpellProgram}
 use Rattle.xs_tree.specs.Printed.{IsName, AreNames, IsSmall, IsEnd, IsWritable, AreWritable, AreWritableBranches}
-use Rattle.xs_tree.specs.WritableProgram.{IsWritableMember, IsWritableType, IsWritableDeclared, IsWritableDecl, IsWritableTyped, IsWritableDefine, IsWritableAssignment, IsWritableSection, IsWritableModule, IsWritableProgram}
+use Rattle.xs_tree.specs.WritableProgram.{IsWritableMember, IsWritableType, IsWritableDeclared, IsWritableDecl, IsWritableTyped, IsWritableAssignment, IsWritableSection, IsWritableModule, IsWritableProgram}
 use Rattle.xs_tree.proofs.Spelled.{program_writable}
 use Rattle.xs_tree.proofs.ProgramSpells.{program_spells}
 use Rattle.xs_fei.specs.declared.instructions.Dynamics.{Dynamics}
@@ -21,8 +21,8 @@ use Rattle.xs_fei.specs.declared.instructions.Dynamics.TheVariants.{Permanent, T
 use Rattle.xs_fei.specs.Instructions.{EffectTree, stuck_at, follows, inverted, random, erroneous, frozen, stuck_at_pick, offset, ramp_down, ModeTree, SliceTree, ExtensionTree, InstructionTree, slices_from, slices_of, is_affected}
 use Rattle.xs_fei.specs.SpellsInstructions.{BytesSpellInstructions}
 use Rattle.xs_effects.specs.AddedNames.{own_name, mode_variable, mode_symbol}
-use Rattle.xs_effects.specs.Templates.{named, number_tree, value_tree, member_value, member_trees, domain_tree, clipped_tree, branch, stands, stands_next, stays_tree, greater_tree, rules}
-use Rattle.xs_weave.specs.Woven.{mode_branches, set_one, guard_formula, entries_from, entries, stay_branch, moves_tree, read_tree, mode_type, slice_variables, slice_assignments, slice_rules, type_of_kind, slice_sections, tree_map_both, trees_map_both, branches_map_both, rename, same_path, woven_assignment, woven_section, added_sections, woven_module, woven}
+use Rattle.xs_effects.specs.Templates.{named, number_tree, value_tree, member_value, member_trees, domain_tree, clipped_tree, branch, stands, stands_next, rules}
+use Rattle.xs_weave.specs.Woven.{mode_branches, set_one, guard_formula, entries_from, entries, stay_branch, moves_tree, read_tree, slice_rules, type_of_kind, slice_sections, tree_map_both, trees_map_both, branches_map_both, rename, same_path, woven_assignment, woven_section, added_sections, woven_module, woven}
 use Rattle.xs_weave.proofs.Lists.{each_append, each_map}
 use Rattle.xsap_program.proofs.AddedNames.{own_is_name, mode_variable_is_name, nominal_is_name, symbol_is_name}
 use Rattle.xs_fei.specs.WritableInstructions.{IsWritableConstant, IsWritableEffect, IsWritableGuard, IsWritableMode, IsWritableSlice, IsWritableExtension, IsWritableInstructions}

@@ -2,6 +2,8 @@ pub mod Statuses
 pub mod Wrongs
 pub mod Commands
 pub mod Reports
+pub mod Models
+pub mod Wholes
 pub mod Inputs
 pub mod Runs
 pub mod Delivered

@@ -9,18 +9,15 @@ use Rattle.xsap_program.specs.declared.status.Refusal.TheVariants as refusal
 use Rattle.xsap_program.specs.declared.status.Status.{Status}
 use Rattle.xsap_program.specs.declared.status.Status.TheVariants as status
 use Rattle.xs_parse.specs.declared.fault.ParseFault.{ParseFault}
+use Rattle.xs_fei.specs.Instructions.{InstructionTree}
+use Rattle.xs_weave_rules.specs.declared.fault.Rule.{Rule}
+use Rattle.xs_extend.specs.Refused.{IsFirstOfGroups}
 use Rattle.xsap_program.specs.declared.wrong.Wrong.TheVariants as wrong
-use Rattle.xsap_program.specs.Wrongs.{parse_wrong}
+use Rattle.xsap_program.specs.declared.status.InputFault.{InputFault}
+use Rattle.xsap_program.specs.Wrongs.{parse_wrong, weave_rule}
 use Rattle.xsap_program.specs.Statuses.{status_of, refusal_text}
 use Rattle.xsap_program.specs.Commands.{AsksToExtend, AsksForMore}
-use Rattle.xsap_program.specs.declared.status.InputFault.{InputFault}
-use Rattle.xs_flattening.specs.Flat.{FlatModel}
-use Rattle.xs_flattening.specs.Rules.{Rule, number_of, IsFirstBroken, IsAccepted}
-use Rattle.xs_flattening.specs.Model.{IsFlatOf}
-use Rattle.xs_kinds.specs.Judged.{KindRule, number_of as kind_number}
-use Rattle.xs_kinds.specs.Models.{IsFault}
-use Rattle.xsap_program.specs.declared.status.Part.TheVariants as part
-use Rattle.xsap_program.specs.Inputs.{IsRefusedFile, HasBytes, IsModelText, IsModelFault, RefusesModel, HoldsModel, RefusesFaults, HoldsFaults}
+use Rattle.xsap_program.specs.Inputs.{IsRefusedFile, HasBytes, RefusesModel, HoldsModel, IsInstructionText, IsFaultOfInstructions, modules_named, RefusesFaults, HoldsFaults}
 
 -- a run refuses something, or it writes a text to a file and says a report
 pub data Outcome : Type 0 where
@@ -74,29 +71,17 @@ pub record HasStopped (files : List NamedFile) (words : List Text) (before after
   pub means : Means files words outcome
   pub in_part : IsDeliveredInPart outcome before after said now
 
--- what the words alone, or the words and the model's file, decide: a file that can't be read, or the first rule of names or
--- of kinds that the program breaks which the file's bytes spell
+-- the instruction file is absent or too long, or its bytes spell no instructions within the depths, or an item of these breaks a
+-- rule before guards and what is followed are judged
+pub data IsRefusedEarly (files : List NamedFile) (name : Text) (p : ProgramTree) (fault : InputFault) : Type 0 where
+  no_file : IsRefusedFile files name fault → IsRefusedEarly files name p fault
+  no_text : (bytes : List ℕ) (f : ParseFault) → HasBytes files name bytes → IsFaultOfInstructions bytes f → wrong.Refused fault ≡ parse_wrong f → IsRefusedEarly files name p fault
+  no_item : (bytes : List ℕ) (i : InstructionTree) (rule : Rule) (item : ℕ) → HasBytes files name bytes → IsInstructionText bytes i → IsFirstOfGroups p i (modules_named p) rule item →
+      wrong.Refused fault ≡ weave_rule rule item → IsRefusedEarly files name p fault
+
+-- what is decided before guards and what is followed are judged: by the words, by the model's file, or by the instruction file
 pub data Settles (files : List NamedFile) (words : List Text) : Outcome → Type 0 where
-  words_settle : AsksForMore words → Settles files words (refuses (refusal.NotBuilt built.Words))
-  model_settles : (model faults extended : Text) (fault : InputFault) → AsksToExtend words model faults extended → IsRefusedFile files model fault →
-      Settles files words (refuses (refusal.Model fault))
-  text_settles : (model faults extended : Text) (bytes : List ℕ) (f : ParseFault) (fault : InputFault) → AsksToExtend words model faults extended → HasBytes files model bytes →
-      wrong.Refused fault ≡ parse_wrong f → IsModelFault bytes f → Settles files words (refuses (refusal.Model fault))
-  names_settle : (model faults extended : Text) (bytes : List ℕ) (p : ProgramTree) (r : Rule) (item : ℕ) → AsksToExtend words model faults extended → HasBytes files model bytes →
-      IsModelText bytes p → IsFirstBroken p r item → Settles files words (refuses (refusal.Model (record { part = part.Flat; number = number_of r; place = item })))
-  kinds_settle : (model faults extended : Text) (bytes : List ℕ) (p : ProgramTree) (m : FlatModel) (r : KindRule) (item : ℕ) → AsksToExtend words model faults extended → HasBytes files model bytes →
-      IsModelText bytes p → IsAccepted p → IsFlatOf p m → IsFault m r item →
-      Settles files words (refuses (refusal.Model (record { part = part.Kinds; number = kind_number r; place = item })))
-
--- the answer is not that the model is refused
-abbrev pub IsPastModel : Status → Type 0
-IsPastModel (status.Model fault) = ⊥
-IsPastModel _ = Unit {0}
-
--- the words name a file of instructions that is refused as a file
-pub record LacksFaults (files : List NamedFile) (words : List Text) (fault : InputFault) : Type 0 where
-  pub model : Text
-  pub faults : Text
-  pub extended : Text
-  pub asks : AsksToExtend words model faults extended
-  pub refused : IsRefusedFile files faults fault
+  by_words : AsksForMore words → Settles files words (refuses (refusal.NotBuilt built.Words))
+  by_model : (model faults extended : Text) (r : Refusal) → AsksToExtend words model faults extended → RefusesModel files model r → Settles files words (refuses r)
+  by_faults : (model faults extended : Text) (p : ProgramTree) (fault : InputFault) → AsksToExtend words model faults extended → HoldsModel files model p → IsRefusedEarly files faults p fault →
+      Settles files words (refuses (refusal.Faults fault))

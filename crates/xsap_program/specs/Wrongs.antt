@@ -16,6 +16,9 @@ use Rattle.xs_weave_rules.specs.declared.fault.Rule.TheVariants as weave
 use Rattle.xs_extend.specs.declared.fault.WeaveFault.{WeaveFault}
 use Rattle.xs_extend.specs.declared.fault.Cause.{Cause}
 use Rattle.xs_extend.specs.declared.fault.Cause.TheVariants as cause
+use Rattle.xs_flattening.specs.Rules as rules
+use Rattle.xs_kinds.specs.Judged as kinds
+use Rattle.xsap_program.specs.declared.status.InputFault.{InputFault}
 use Rattle.xsap_program.specs.declared.status.Part.{Part}
 use Rattle.xsap_program.specs.declared.status.Part.TheVariants as part
 use Rattle.xsap_program.specs.declared.wrong.Wrong.{Wrong}
@@ -102,3 +105,16 @@ cause_wrong (cause.Kinds fault) at = type_rule fault.rule at
 
 abbrev pub weave_wrong : WeaveFault → Wrong
 weave_wrong fault = cause_wrong fault.cause fault.item
+
+-- a rule of names is broken, told at a place
+abbrev pub names_fault : rules.Rule → ℕ → InputFault
+names_fault r place = record { part = part.Flat; number = rules.number_of r; place = place }
+
+-- a rule of kinds, or a limit of size
+abbrev pub kinds_fault : kinds.KindRule → ℕ → InputFault
+kinds_fault r place = record { part = part.Kinds; number = kinds.number_of r; place = place }
+
+-- this is so of the fault, where the input is refused; want of memory refuses nothing
+abbrev pub IfRefused : (InputFault → Type 0) → Wrong → Type 0
+IfRefused P (wrong.Refused fault) = P fault
+IfRefused P wrong.Memory = Unit {0}

@@ -1,9 +1,16 @@
 // An instruction file as the extension of a model: the text that is written, and what is said.
-ghost use Rattle.std.specs.Prelude.{◌≡◌, ◌≤◌, length, IfOk, IfErr, IfSome, IsErrOf};
+ghost use Rattle.std.specs.Prelude.{◌≡◌, ◌≤◌, length, map, IfOk, OnOk, IfErr, IfSome, IsErrOf};
 ghost use Rattle.xs_desk.specs.Desk.{Rose};
 ghost use Rattle.xs_tree.specs.ProgramTree.{program_tree};
 ghost use Rattle.xs_flat.specs.ModelTree.{model_tree};
-ghost use Rattle.xsap_program.specs.Inputs.{IsLawful, IsWrongWhole, IsWrongFaults, RefusesFaults, HoldsExtension, IsMade, IsMadeOf};
+ghost use Rattle.xs_flattening.specs.Rules.{IsAccepted};
+ghost use Rattle.xs_extend.specs.InstanceLaws.{HasInstancesInVar};
+ghost use Rattle.xs_extend.specs.WovenFaults.{fault_tree};
+ghost use Rattle.xsap_program.specs.Wrongs.{IfRefused};
+ghost use Rattle.xsap_program.specs.Models.{IsModelOf, IsLawful};
+ghost use Rattle.xs_kinds.specs.Models.{IsTyped};
+ghost use Rattle.xsap_program.specs.Wholes.{BreaksNames, BreaksKinds, IsWrongWhole, IsWithinLimits};
+ghost use Rattle.xsap_program.specs.Inputs.{IsWrongFaults, RefusesFaults, HoldsExtension, IsMade, IsMadeOf};
 ghost use Rattle.xsap_program.specs.declared.status.Refusal.{Refusal};
 ghost use Rattle.xsap_program.specs.declared.input.Stop.TheVariants as stop;
 
@@ -34,7 +41,8 @@ pub(crate) fn load_extension<D: Desk>(
     name: &str,
     model: &LoadedModel,
 ) -> Result<Made, Stop>
-    requires { IsLawful (program_tree model.now.program) (model_tree model.now.typed.model) }
+    requires lawful { IsLawful (program_tree model.now.program) (model_tree model.now.typed.model) }
+    requires in_var { HasInstancesInVar (program_tree model.now.program) }
     ensures ok { IfOk result (λ made. IfSome (D.files desk.old) (λ files. HoldsExtension files name.now (program_tree model.now.program) made)) }
     ensures refused { (r : Refusal) → IsErrOf result (stop.Refused r) → IfSome (D.files desk.old) (λ files. RefusesFaults files name.now (program_tree model.now.program) r) }
     ensures failed { IsErrOf result stop.Desk → Rose (D.faults desk.old) (D.faults desk.new) }
@@ -55,8 +63,9 @@ pub(crate) fn load_extension<D: Desk>(
 fn extension_of(alloc: Global, bytes: &[u8], model: &LoadedModel) -> Result<Made, Wrong>
     requires length { length bytes.now ≤ 1048576 }
     requires lawful { IsLawful (program_tree model.now.program) (model_tree model.now.typed.model) }
+    requires in_var { HasInstancesInVar (program_tree model.now.program) }
     ensures ok { IfOk result (IsMade (program_tree model.now.program) bytes.now) }
-    ensures wrong { IfErr result (IsWrongFaults (program_tree model.now.program) bytes.now) }
+    ensures wrong { IfErr result (IfRefused (IsWrongFaults (program_tree model.now.program) bytes.now)) }
 {
     let instructions = instructions(alloc, bytes)?;
     let woven = weave_typed(alloc, &model.program, &model.typed, &instructions)?;
@@ -66,7 +75,8 @@ fn extension_of(alloc: Global, bytes: &[u8], model: &LoadedModel) -> Result<Made
 
 /// Refuses an extension that passes a limit of size, as no item of either file does alone.
 fn check_limits(alloc: Global, woven: &Woven) -> Result<(), Wrong>
-    ensures wrong { IfErr result IsWrongWhole }
+    ensures ok { OnOk result (IsWithinLimits (program_tree woven.now.program) (map fault_tree woven.now.faults)) }
+    ensures wrong { IfErr result (IfRefused (IsWrongWhole (program_tree woven.now.program) (map fault_tree woven.now.faults))) }
 {
     let flat = flat_whole(alloc, &woven.program)?;
     let faults = fault_list(alloc, woven, &flat)?;
@@ -76,7 +86,9 @@ fn check_limits(alloc: Global, woven: &Woven) -> Result<(), Wrong>
 
 /// The flat model of an extension. What is wrong with it is wrong with the whole.
 fn flat_whole(alloc: Global, program: &Program) -> Result<FlatModel, Wrong>
-    ensures wrong { IfErr result IsWrongWhole }
+    ensures accepted { OnOk result (IsAccepted (program_tree program.now)) }
+    ensures model { IfOk result (λ flat. IsModelOf (program_tree program.now) (model_tree flat)) }
+    ensures wrong { IfErr result (IfRefused (BreaksNames (program_tree program.now))) }
 {
     match flatten(alloc, program) {
         Ok(flat) => Ok(flat),
@@ -89,7 +101,8 @@ fn flat_whole(alloc: Global, program: &Program) -> Result<FlatModel, Wrong>
 
 /// Refuses a flat model of an extension by its kinds and its size.
 fn check_whole(alloc: Global, flat: FlatModel) -> Result<(), Wrong>
-    ensures wrong { IfErr result IsWrongWhole }
+    ensures typed { OnOk result (IsTyped (model_tree flat)) }
+    ensures wrong { IfErr result (IfRefused (BreaksKinds (model_tree flat))) }
 {
     match check_model(alloc, flat) {
         Ok(_typed) => Ok(()),

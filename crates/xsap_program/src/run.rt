@@ -5,8 +5,7 @@ ghost use Rattle.xs_tree.specs.ProgramTree.{Text};
 ghost use Rattle.xsap_program.specs.declared.status.Refusal.{Refusal};
 ghost use Rattle.xsap_program.specs.declared.input.Stop.TheVariants as stops;
 ghost use Rattle.xsap_program.specs.Statuses.{status_of, refusal_text};
-ghost use Rattle.xsap_program.specs.Runs.{Outcome, refuses, extends, ComesTo, Means, IsAnswer, outcome_status, HasAnswered, HasStopped, Settles, IsPastModel, LacksFaults};
-ghost use Rattle.xsap_program.specs.declared.status.InputFault.{InputFault};
+ghost use Rattle.xsap_program.specs.Runs.{Outcome, refuses, extends, ComesTo, Means, IsAnswer, outcome_status, HasAnswered, HasStopped, Settles};
 ghost use Rattle.xsap_program.specs.Commands.{AsksToExtend};
 ghost use Rattle.xsap_program.specs.Extension.{IsExtended};
 ghost use Rattle.xsap_program.specs.Delivered.{ended_as, Stopped};
@@ -29,15 +28,13 @@ pub fn run<D: Desk>(alloc: Global, words: &[&str], desk: &mut D) -> Status
     // Unless the desk failed or memory ran out, the whole of what words and files come to stands.
     ensures answered { IsAnswer result → IfSome (D.files desk.old) (λ files.
         HasAnswered files (map (λ w. w.now) words.now) result (D.files desk.old) (D.files desk.new) (D.said desk.old) (D.said desk.new)) }
-    // What the words alone, or the words and the model's file, decide is the answer: a file that can't be read, or the first
-    // rule of names or of kinds that the model breaks.
+    // What the words, the model's file and the instruction file decide before guards and what is followed are judged is the
+    // answer: a file that can't be read, and the first rule that the model or an item of the instructions breaks.
     ensures settled { IsAnswer result → IfSome (D.files desk.old) (λ files. (o : Outcome) → Settles files (map (λ w. w.now) words.now) o → result ≡ outcome_status o) }
-    // Where the model is not refused, an instruction file that is absent or too long is the answer.
-    ensures no_faults { IsAnswer result → IsPastModel result → IfSome (D.files desk.old) (λ files. (fault : InputFault) → LacksFaults files (map (λ w. w.now) words.now) fault → result ≡ Status.Faults fault) }
     // A run that is done has written the woven program, as the one program that the model spells and the instructions make it:
-    // its traces are the extended traces, and its faultless ones the model's.
+    // its traces are the extended traces, and its faultless ones the model's. It has said the list of its faults.
     ensures extended { (model faults extended : Text) → result ≡ Status.Done → AsksToExtend (map (λ w. w.now) words.now) model faults extended →
-        IfSome (D.files desk.old) (λ before. IsSomeAnd (D.files desk.new) (λ after. IsExtended before after model faults extended)) }
+        IfSome (D.files desk.old) (λ before. IsSomeAnd (D.files desk.new) (λ after. IsExtended before after (D.said desk.old) (D.said desk.new) model faults extended)) }
     // However it ends, nothing was done, or a part of that stands: a prefix of what would be written and said.
     ensures left { ((D.files desk.new ≡ D.files desk.old) × (D.said desk.new ≡ D.said desk.old)) ⊎ IfSome (D.files desk.old) (λ files.
         HasStopped files (map (λ w. w.now) words.now) (D.files desk.old) (D.files desk.new) (D.said desk.old) (D.said desk.new)) }

@@ -46,6 +46,16 @@ const ONE_SLICE_TWICE: &[u8] =
 const SENSOR: &[u8] =
     b"MODULE Sensor(line)\nVAR\n  seen : boolean;\nASSIGN\n  seen#nominal := line;\nVAR\n  seen#nominal : boolean;\n  Eye#mode : {Eye#nominal, Eye#wild, Eye#hold};\nASSIGN\n  init(Eye#mode) := Eye#nominal;\n  next(Eye#mode) := case (Eye#mode = Eye#wild) : {Eye#wild, Eye#nominal}; (Eye#mode = Eye#hold) : Eye#hold; TRUE : (({Eye#nominal} union (TRUE ? {Eye#wild} : {Eye#nominal})) union (TRUE ? {Eye#hold} : {Eye#nominal})); esac;\n  seen := case (Eye#mode = Eye#wild) : {FALSE, TRUE}; (Eye#mode = Eye#hold) : {FALSE, TRUE}; TRUE : seen#nominal; esac;\nTRANS\n  ((next(Eye#mode) = Eye#hold) -> (next(seen) = seen));\n";
 
+const LOOP_OF_FORMALS: &[u8] =
+    b"MODULE M(p) VAR x : boolean; ASSIGN x := p; MODULE main VAR a : M(b.p); b : M(a.p);";
+
+/// Two instances that assign to one another, and what is written of them where there is no fault.
+const LOOP_OF_ASSIGNMENTS: &[u8] =
+    b"MODULE M(p) VAR x : boolean; ASSIGN x := p; MODULE main VAR a : M(b.x); b : M(a.x);";
+
+const LOOP_WRITTEN: &[u8] =
+    b"MODULE M(p)\nVAR\n  x : boolean;\nASSIGN\n  x := p;\nMODULE main\nVAR\n  a : M(b.x);\n  b : M(a.x);\n";
+
 const WORDS: [&str; 7] = ["extend", "--model", "m", "--faults", "f", "--extended", "x"];
 
 /// A desk with these bytes as model and instructions, where they are given, whose call fails as told.
@@ -112,6 +122,17 @@ fn no_faults<'a>(faults: &'a [u8], said: &'a [u8]) -> Row<'a> {
         number: 4,
         said,
         written: None,
+    }
+}
+
+/// The row of a model that is written as it is, without faults.
+fn as_it_is<'a>(model: &'a [u8], written: &'a [u8]) -> Row<'a> {
+    Row {
+        model: Some(model),
+        faults: Some(b""),
+        number: 0,
+        said: b"faults 0\nextended\n",
+        written: Some(written),
     }
 }
 
@@ -192,7 +213,16 @@ fn each_refusal_says_its_line(rt: HostRuntime) -> Result<(), OutOfMemory> {
             b"MODULE main VAR x : boolean; ASSIGN x := TRUE; next(x) := x;",
             b"refused model flat 10 at 4\n",
         ),
+        no_model(LOOP_OF_FORMALS, b"refused model flat 11 at 5\n"),
         no_model(b"MODULE main VAR x : 3..1;", b"refused model type 6 at 2\n"),
+        no_model(
+            b"MODULE main VAR x : {1, b};",
+            b"refused model type 7 at 2\n",
+        ),
+        no_model(
+            b"MODULE main VAR x : {b, b};",
+            b"refused model type 10 at 2\n",
+        ),
         no_model(
             b"MODULE main VAR x : 0..2147483648;",
             b"refused model type 5 at 2\n",
@@ -242,13 +272,12 @@ fn each_refusal_says_its_line(rt: HostRuntime) -> Result<(), OutOfMemory> {
 fn modules_are_extended_at_each_instance(rt: HostRuntime) -> Result<(), OutOfMemory> {
     let alloc = rt.alloc();
     let rows = [
-        Row {
-            model: Some(LAMP),
-            faults: Some(b""),
-            number: 0,
-            said: b"faults 0\nextended\n",
-            written: Some(LAMP),
-        },
+        as_it_is(LAMP, LAMP),
+        as_it_is(LOOP_OF_ASSIGNMENTS, LOOP_WRITTEN),
+        as_it_is(
+            b"MODULE main VAR x : 0..2147483647;",
+            b"MODULE main\nVAR\n  x : 0..2147483647;\n",
+        ),
         Row {
             model: Some(SIDES),
             faults: Some(SIDES_OFF),

@@ -1,6 +1,11 @@
-use Rattle.std.proofs.Common.{refl}
-use Rattle.xsap_program.specs.Inputs.{too_large}
+use Rattle.std.proofs.Common.{◌∙◌}
+use Rattle.xs_flat.specs.ModelTree.{model_tree}
+use Rattle.xsap_program.specs.Wholes.{BreaksKinds}
+use Rattle.xsap_program.proofs.Told.{if_refused, of_kind}
 use Rattle.xsap_program.proofs.faults.check_whole.Goals as goal
 
-pub returns-in-Err : goal.returns-in-Err
-returns-in-Err c = record { wrong = too_large (record { rule = c.in-Err.fault.rule; item = 0 }) refl c.from.ensures }
+pub returns-in-Err-clause-wrong : goal.returns-in-Err-clause-wrong
+returns-in-Err-clause-wrong c =
+    let m = model_tree c.args.flat in
+    let f = c.in-Err.fault in
+    if_refused (BreaksKinds m) _ (λ told e. let is = of_kind m f 0 told c.in-Err.ensures.fault (e ∙ c.from.ensures) in record { rule = is.rule; item = f.item; broken = is.broken; is = is.is })

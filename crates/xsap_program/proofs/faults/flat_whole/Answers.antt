@@ -1,6 +1,14 @@
-use Rattle.std.proofs.Common.{refl}
-use Rattle.xsap_program.specs.Inputs.{too_many}
+use Rattle.std.proofs.Common.{◌∙◌}
+use Rattle.xs_tree.specs.ProgramTree.{program_tree}
+use Rattle.xsap_program.specs.Wholes.{BreaksNames}
+use Rattle.xsap_program.proofs.Told.{if_refused, named}
 use Rattle.xsap_program.proofs.faults.flat_whole.Goals as goal
 
-pub returns-in-Err : goal.returns-in-Err
-returns-in-Err c = record { wrong = too_many (record { rule = c.in-Err.fault.rule; item = 0 }) refl c.from.ensures }
+pub returns-in-Err-clause-wrong : goal.returns-in-Err-clause-wrong
+returns-in-Err-clause-wrong c =
+    let p = program_tree c.args.program.now in
+    let f = c.in-Err.fault in
+    if_refused (BreaksNames p) _ (λ told e. let is = named p f 0 told c.in-Err.ensures.fault (e ∙ c.from.ensures) in record { rule = is.rule; item = f.item; broken = is.broken; is = is.is })
+
+pub returns-in-Ok-clause-model : goal.returns-in-Ok-clause-model
+returns-in-Ok-clause-model c = record { is = c.in-Ok.ensures.flat; only = c.in-Ok.ensures.alone }

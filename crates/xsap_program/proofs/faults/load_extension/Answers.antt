@@ -2,7 +2,7 @@ use Rattle.std.proofs.Common.{Err, IsErrOf, IfSome, sym, ap, subst, ◌∙◌}
 use Rattle.std.proofs.lemmas.Result.{err_from_is_err_and}
 use Rattle.xsap_program.specs.Inputs.{HasBytes}
 use Rattle.xsap_program.specs.declared.input.Stop.TheVariants as stop
-use Rattle.xsap_program.proofs.InputLemmas.{refuses_faults_file, refuses_faults_bytes, holds_extension, same_error}
+use Rattle.xsap_program.proofs.InputLemmas.{refuses_faults_file, refuses_faults_bytes, same_error}
 use Rattle.xsap_program.proofs.faults.load_extension.Goals as goal
 
 pub returns-in_err-bytes-clause-refused : goal.returns-in_err-bytes-clause-refused

@@ -2,7 +2,7 @@ use Rattle.std.proofs.Common.{Err, IsErrOf, IfSome, sym, ap, subst, ◌∙◌}
 use Rattle.std.proofs.lemmas.Result.{err_from_is_err_and}
 use Rattle.xsap_program.specs.Inputs.{HasBytes}
 use Rattle.xsap_program.specs.declared.input.Stop.TheVariants as stop
-use Rattle.xsap_program.proofs.InputLemmas.{refuses_model_file, refuses_model_bytes, holds_model, same_error}
+use Rattle.xsap_program.proofs.InputLemmas.{refuses_model_file, refuses_model_bytes, same_error}
 use Rattle.xsap_program.proofs.model.load_model.Goals as goal
 
 pub returns-in_err-bytes-clause-refused : goal.returns-in_err-bytes-clause-refused
