@@ -11,9 +11,10 @@ use Rattle.xs_tree.specs.ProgramTree.{Text}
 use Rattle.xs_tree.specs.Values.{Value, truth, number, symbol, at_most, same_value, same_int}
 use Rattle.xs_tree.specs.Texts.{same_text}
 use Rattle.xs_tree.specs.Trace.{is_member}
-use Rattle.xs_tree.proofs.ValueLaws.{same_text_equal, same_text_refl, same_int_equal}
+use Rattle.xs_tree.proofs.ValueLaws.{same_text_refl, same_int_equal}
 use Rattle.xs_effects.specs.Templates.{member_value}
 use Rattle.xs_effects.proofs.TemplateLaws.{bool_same, same_value_refl}
+use Rattle.xs_tree.proofs.OneTree.{same_text_equal}
 
 -- a member that is the value, or a later one
 member_first : (m : Member) (ms : List Member) (v : Value) → is_member (m ∷ ms) v ≡ (same_value (member_value m) v || is_member ms v)

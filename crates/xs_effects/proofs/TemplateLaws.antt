@@ -10,12 +10,13 @@ use Rattle.xs_tree.specs.Values.{Value, truth, number, symbol, Values, no_value,
 use Rattle.xs_tree.specs.Texts.{same_text}
 use Rattle.xs_tree.specs.Evaluate.{Leaves, evaluate, evaluate_trees, evaluate_branches, gives_choice}
 use Rattle.xs_tree.specs.Trace.{Each, in_domain, is_member}
-use Rattle.xs_tree.proofs.ValueLaws.{same_text_equal, same_text_refl, same_value_equal}
+use Rattle.xs_tree.proofs.ValueLaws.{same_text_refl, same_value_equal}
 use Rattle.xs_effects.specs.AddedNames.{ModeState}
 use Rattle.xs_effects.specs.AddedNames.{mode_symbol}
 use Rattle.xs_effects.specs.Templates.{number_tree, value_tree, member_value, member_trees, domain_tree}
 use Rattle.xs_effects.specs.Types.{IsUniform, IsNumberMember, IsSymbolMember}
 use Rattle.xs_effects.proofs.AddedNameLaws.{mode_symbol_same, nominal_symbol_same}
+use Rattle.xs_tree.proofs.OneTree.{same_text_equal}
 
 pub bool_same : (a b : Bool) → (a ≡ true → b ≡ true) → (b ≡ true → a ≡ true) → a ≡ b
 bool_same true true h k = refl

@@ -10,8 +10,8 @@ use Rattle.xs_fei.specs.Instructions.{mode_tree}
 use Rattle.xs_tree.specs.Trace.{Each}
 use Rattle.xs_flattening.specs.Flat.{FlatInstance, FlatModel}
 use Rattle.xs_flattening.proofs.Places.{not_true}
-use Rattle.xs_flat.specs.declared.model.Instance.{Instance}
-use Rattle.xs_flat.specs.ModelTree.{instance_tree}
+use Rattle.xs_scope.specs.declared.model.Instance.{Instance}
+use Rattle.xs_scope.specs.ModelTree.{instance_tree}
 use Rattle.xs_weave_rules.specs.declared.placed.Placed.{Placed}
 use Rattle.xs_weave_rules.specs.Placing.{PlacedSlice, seen_placed}
 use Rattle.xs_extend.proofs.EachItem.{drop_item}

@@ -8,7 +8,7 @@ use Rattle.xs_tree.specs.Scope.{Place, Role, state, kind_declared, kind_in, kind
 use Rattle.xs_tree.specs.Trace.{Each, IsInstance}
 use Rattle.xs_tree.proofs.ValueLaws.{same_text_equal}
 use Rattle.xs_weave.specs.Faults.{instance_names_in, instance_names, joined, each_joined, below, instances_in, HasInstances}
-use Rattle.xs_flat.specs.declared.model.Instance.{Instance}
+use Rattle.xs_scope.specs.declared.model.Instance.{Instance}
 use Rattle.xs_flattening.specs.Flat.{FlatInstance}
 use Rattle.xs_flattening.specs.Items.{Item, a_declaration, a_definition, an_assignment, some_constants, an_init, an_invar, a_trans, items_of_section, items_of, NumberedItem, numbered_from, modules_from, items_found, items_named, Visit, visits_inside, visits_of, walk_items, walk, instance_declared, instances_of_visit, instances_of}
 use Rattle.xs_flattening.specs.Rules.{IsAccepted, is_missing_instance, is_on_path}

@@ -10,12 +10,12 @@ use Rattle.xs_fei.specs.Instructions.{guard_tree}
 use Rattle.xs_tree.specs.Scope.{Place}
 use Rattle.xs_flattening.specs.Flat.{FlatModel}
 use Rattle.xs_flattening.specs.Rules.{Rule, number_of, no_main, main_has_parameters, double_module, double_name, no_such_module, wrong_count, module_loop, no_such_name, not_a_target, double_assign, define_loop, next_here, input_here, too_many, IsAccepted}
-use Rattle.xs_flat.specs.declared.fault.FlatFault.{FlatFault}
+use Rattle.xs_scope.specs.declared.fault.FlatFault.{FlatFault}
 use Rattle.xs_flattening.specs.ValueRules.{IsLeastBroken}
-use Rattle.xs_flat.specs.Faults.{rule_of, IsFaultOf}
+use Rattle.xs_scope.specs.Faults.{rule_of, IsFaultOf}
 use Rattle.xs_flat.specs.ResolvedAt.{IsValueFault}
-use Rattle.xs_flat.specs.declared.model.Flat.{Flat}
-use Rattle.xs_flat.specs.ModelTree.{flat_tree}
+use Rattle.xs_scope.specs.declared.model.Flat.{Flat}
+use Rattle.xs_scope.specs.ModelTree.{flat_tree}
 use Rattle.xs_flat.proofs.FlatFaults.{no_rule}
 use Rattle.xs_weave_rules.specs.declared.fault.Rule.TheVariants.{OutOfMemory}
 use Rattle.xs_extending.specs.Uses.{Use}

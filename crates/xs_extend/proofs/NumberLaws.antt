@@ -7,8 +7,8 @@ use Rattle.indexmap.specs.IndexMap.{insert_entry}
 use Rattle.xs_tree.specs.ProgramTree.{Text}
 use Rattle.xs_tree.specs.Trace.{Each}
 use Rattle.xs_tree.proofs.ValueLaws.{both_true}
-use Rattle.xs_flat.specs.declared.model.FlatModel.{FlatModel}
-use Rattle.xs_flat.specs.declared.model.Fault.{Fault}
+use Rattle.xs_scope.specs.declared.model.FlatModel.{FlatModel}
+use Rattle.xs_scope.specs.declared.model.Fault.{Fault}
 use Rattle.xs_extend.specs.declared.faults.WovenFault.{WovenFault}
 use Rattle.xs_extend.specs.NumberedFaults.{IsNumbered, AreNumbered}
 use borrow.Author.Tests.{eqb-true}

@@ -7,10 +7,10 @@ use Rattle.xs_flattening.specs.Flat.{FlatModel}
 use Rattle.xs_flattening.specs.Rules as rules
 use Rattle.xs_flattening.specs.Rules.{IsAccepted}
 use Rattle.xs_flattening.specs.Model.{IsFlatOf}
-use Rattle.xs_flat.specs.declared.fault.Rule.{Rule as FlatRule}
-use Rattle.xs_flat.specs.declared.fault.Rule.TheVariants as flat
-use Rattle.xs_flat.specs.declared.fault.FlatFault.{FlatFault}
-use Rattle.xs_flat.specs.Faults.{rule_of}
+use Rattle.xs_scope.specs.declared.fault.Rule.{Rule as FlatRule}
+use Rattle.xs_scope.specs.declared.fault.Rule.TheVariants as flat
+use Rattle.xs_scope.specs.declared.fault.FlatFault.{FlatFault}
+use Rattle.xs_scope.specs.Faults.{rule_of}
 use Rattle.xs_types.specs.Answers.{told_rule}
 use Rattle.xs_types.specs.Calls.{fault_of}
 use Rattle.xs_types.specs.declared.fault.TypeFault.{TypeFault}

@@ -9,8 +9,8 @@ use Rattle.xs_flattening.specs.Rules.{IsAccepted}
 use Rattle.xs_flattening.specs.Model.{IsFlatOf}
 use Rattle.xs_kinds.specs.Models.{IsTyped}
 use Rattle.xs_kinds.proofs.Typed.{typed_has_none}
-use Rattle.xs_flat.specs.declared.model.Instance.{Instance}
-use Rattle.xs_flat.specs.ModelTree.{instance_tree}
+use Rattle.xs_scope.specs.declared.model.Instance.{Instance}
+use Rattle.xs_scope.specs.ModelTree.{instance_tree}
 use Rattle.xs_types.specs.Faults.{IsOfMemory, IsToldOf}
 use Rattle.xs_types.specs.declared.fault.TypeFault.{TypeFault}
 use Rattle.xs_weave_rules.specs.declared.fault.Rule.TheVariants.{OutOfMemory}

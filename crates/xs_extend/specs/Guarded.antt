@@ -13,10 +13,10 @@ use Rattle.xs_kinds.specs.Judged.{Class, truth_class, number_class, symbol_class
 use Rattle.xs_kinds.specs.Declared.{member_kind, judged_declared}
 use Rattle.xs_kinds.specs.Models.{judged_in}
 use Rattle.xs_tree.specs.declared.expr.Expr.{Expr}
-use Rattle.xs_flat.specs.declared.model.Flat.{Flat}
-use Rattle.xs_flat.specs.declared.fault.FlatFault.{FlatFault}
-use Rattle.xs_flat.specs.Faults.{rule_of}
-use Rattle.xs_flat.specs.ModelTree.{model_tree}
+use Rattle.xs_scope.specs.declared.model.Flat.{Flat}
+use Rattle.xs_scope.specs.declared.fault.FlatFault.{FlatFault}
+use Rattle.xs_scope.specs.Faults.{rule_of}
+use Rattle.xs_scope.specs.ModelTree.{model_tree}
 use Rattle.xs_types.specs.declared.calls.Kind.{Kind}
 use Rattle.xs_types.specs.declared.calls.Kind.TheVariants.{Bool as ABool, Num, Sym}
 use Rattle.xs_extending.specs.Uses.{Use}

@@ -2,9 +2,9 @@
 use Rattle.std.specs.Prelude.{◌≡◌, ℕ, List, [], ◌∷◌, ◌++◌, Option, Some, None, slice_get}
 use Rattle.xs_tree.specs.ProgramTree.{Path}
 use Rattle.xs_effects.specs.AddedNames.{mode_variable, mode_symbol}
-use Rattle.xs_flat.specs.declared.model.Variable.{Variable}
-use Rattle.xs_flat.specs.declared.model.FlatModel.{FlatModel}
-use Rattle.xs_flat.specs.declared.model.Fault.{Fault}
+use Rattle.xs_scope.specs.declared.model.Variable.{Variable}
+use Rattle.xs_scope.specs.declared.model.FlatModel.{FlatModel}
+use Rattle.xs_scope.specs.declared.model.Fault.{Fault}
 use Rattle.xs_tree.specs.Trace.{Each}
 use Rattle.xs_extend.specs.declared.faults.WovenFault.{WovenFault}
 use Rattle.xs_extend.specs.declared.list.Symbols.{Symbols}

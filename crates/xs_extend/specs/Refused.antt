@@ -5,8 +5,8 @@ use Rattle.xs_fei.specs.Instructions.{InstructionTree}
 use Rattle.xs_flattening.specs.Flat.{FlatInstance, FlatModel}
 use Rattle.xs_flattening.specs.Rules.{IsAccepted}
 use Rattle.xs_flattening.specs.Model.{IsFlatOf}
-use Rattle.xs_flat.specs.declared.model.Instance.{Instance}
-use Rattle.xs_flat.specs.Faults.{rule_of}
+use Rattle.xs_scope.specs.declared.model.Instance.{Instance}
+use Rattle.xs_scope.specs.Faults.{rule_of}
 use Rattle.xs_types.specs.Answers.{told_rule}
 use Rattle.xs_types.specs.Calls.{fault_of}
 use Rattle.xs_extending.specs.Uses.{Use}

@@ -10,8 +10,8 @@ ghost use Rattle.xs_kinds.specs.Judged.{truth_class, number_class, symbol_class,
 ghost use Rattle.xs_flattening.specs.Flat.{FlatInstance};
 ghost use Rattle.xs_flattening.specs.Rules.{IsAccepted};
 ghost use Rattle.xs_flattening.specs.Model.{IsFlatOf};
-ghost use Rattle.xs_flat.specs.Faults.{rule_of};
-ghost use Rattle.xs_flat.specs.ModelTree.{flat_tree, model_tree};
+ghost use Rattle.xs_scope.specs.Faults.{rule_of};
+ghost use Rattle.xs_scope.specs.ModelTree.{flat_tree, model_tree};
 ghost use Rattle.xs_flat.specs.ResolvedAt.{IsAt};
 ghost use Rattle.xs_flat.specs.ScopeOf.{IsScopeOf};
 ghost use Rattle.xs_types.specs.Answers.{told_first, told_rules};

@@ -17,7 +17,7 @@ ghost use Rattle.xs_weave.specs.Weavable.{IsWeavable};
 ghost use Rattle.xs_flattening.specs.Looks.{ActualsMean};
 ghost use Rattle.xs_flattening.specs.Rules.{IsAccepted};
 ghost use Rattle.xs_flattening.specs.Model.{IsFlatOf};
-ghost use Rattle.xs_flat.specs.ModelTree.{model_tree};
+ghost use Rattle.xs_scope.specs.ModelTree.{model_tree};
 ghost use Rattle.xs_flattening.specs.Flat.{FlatModel};
 ghost use Rattle.xs_kinds.specs.Models.{IsTyped};
 ghost use Rattle.xs_extending.specs.Expressions.{AllUsesKept};

@@ -17,12 +17,12 @@ use Rattle.xs_flattening.proofs.Variables.{both_at}
 use Rattle.xs_flattening.proofs.Walkable.{main_is_there}
 use Rattle.xs_flattening.proofs.Kept.{module_there}
 use Rattle.xs_flattening.proofs.Meant.{IsTold, meant}
-use Rattle.xs_flat.specs.SceneTree.{IsFound, IsKnown, AreKnown, formals_of, program_of, IsScene}
-use Rattle.xs_flat.specs.declared.walk.Meaning.{Meaning as Found}
-use Rattle.xs_flat.specs.declared.walk.Meaning.TheVariants as found
-use Rattle.xs_flat.specs.declared.names.Formal.{Formal}
-use Rattle.xs_flat.specs.declared.names.Formal.TheVariants as known
-use Rattle.xs_flat.specs.declared.names.Scene.{Scene}
+use Rattle.xs_scope.specs.SceneTree.{IsFound, IsKnown, AreKnown, formals_of, program_of, IsScene}
+use Rattle.xs_scope.specs.declared.walk.Meaning.{Meaning as Found}
+use Rattle.xs_scope.specs.declared.walk.Meaning.TheVariants as found
+use Rattle.xs_scope.specs.declared.names.Formal.{Formal}
+use Rattle.xs_scope.specs.declared.names.Formal.TheVariants as known
+use Rattle.xs_scope.specs.declared.names.Scene.{Scene}
 
 -- what is found is told
 found_told : (p : ProgramTree) (at : Place) (name : Path) (f : Found) → IsFound p at name f → IsTold p at name

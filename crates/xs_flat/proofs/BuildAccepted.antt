@@ -7,7 +7,7 @@ use Rattle.xs_tree.specs.declared.program.Moment.{Moment}
 use Rattle.xs_tree.specs.declared.program.Moment.TheVariants.{Always, First, After}
 use Rattle.xs_tree.specs.Scope.{Place, Role, state, input, frozen_role, Kind, a_formal, a_variable, a_define, an_instance, undeclared, kind_declared, kind_in, kind_in_sections, formal_from, kind_after_formals, kind_at, module_at, find_module, nth_formula, a_variable_at, Means, means_in, by_kind}
 use Rattle.xs_tree.specs.Trace.{Each, AtSome, IsInstance}
-use Rattle.xs_tree.proofs.ValueLaws.{same_text_refl, same_text_equal}
+use Rattle.xs_tree.proofs.ValueLaws.{same_text_refl}
 use Rattle.xs_flattening.specs.Flat.{FlatInstance}
 use Rattle.xs_flattening.specs.Resolved.{has_next}
 use Rattle.xs_flattening.specs.Items.{Item, a_declaration, a_definition, an_assignment, some_constants, an_init, an_invar, a_trans, NumberedItem, items_of, items_named, visits, instances_of}
@@ -18,9 +18,11 @@ use Rattle.xs_flattening.proofs.Reaches.{each_right}
 use Rattle.xs_flattening.proofs.Lists.{each_of_map}
 use Rattle.xs_flattening.proofs.Conditions.{each_flat, each_at}
 use Rattle.xs_flattening.proofs.Sections.{AreInstances}
-use Rattle.xs_flattening.proofs.KindLaws.{kind_in_items, sections_kind, ItemFacts, kind_of_declaration}
+use Rattle.xs_flattening.proofs.KindLaws.{kind_in_items, sections_kind, ItemFacts, kind_of_declaration, no_formal}
 use Rattle.xs_flattening.proofs.Places.{facts_named, are_instances}
 use Rattle.xs_flattening.proofs.Walkable.{accepted_walkable, main_is_there}
+use Rattle.xs_scope.proofs.HeadKinds.{defined_kind, kind_of_definition}
+use Rattle.xs_tree.proofs.OneTree.{same_text_equal}
 
 -- Lists.
 pub each_not : {A : Type 0} (P : A → Type 0) (xs : List A) → (AtSome P xs → ⊥) → Each (λ x. P x → ⊥) xs
@@ -37,15 +39,11 @@ nth_slice [] i = refl
 nth_slice (e ∷ es) zero = refl
 nth_slice (e ∷ es) (suc i) = nth_slice es i
 
-pub not_true : (b : Bool) → (b ≡ true → ⊥) → b ≡ false
-not_true true h = absurd (h refl)
-not_true false h = refl
-
 not_false : (b : Bool) → (b ≡ false → ⊥) → b ≡ true
 not_false true h = refl
 not_false false h = absurd (h refl)
 
-or_true : (a b : Bool) → b ≡ true → (a || b) ≡ true
+pub or_true : (a b : Bool) → b ≡ true → (a || b) ≡ true
 or_true true b h = refl
 or_true false b h = h
 
@@ -53,64 +51,6 @@ pub next_among : (es : List Formula) (i : ℕ) (e : Formula) → slice_get es i 
 next_among [] i e h n = cc
 next_among (f ∷ es) zero e h n = let same : f ≡ e = cc in rw same (rw n refl)
 next_among (f ∷ es) (suc i) e h n = or_true (has_next f) (some_has_next es) (next_among es i e h n)
-
-pub formal_place : (k : ℕ) (xs : List Text) (x : Text) (i : ℕ) → formal_from k xs x ≡ Some i → (j : ℕ) × (i ≡ k + j) × (slice_get xs j ≡ Some x)
-formal_place k [] x i h = cc
-formal_place k (y ∷ xs) x i h = by_name (same_text y x) refl (λ e. formal_place (suc k) xs x i e)
-  where
-    by_name : (b : Bool) → same_text y x ≡ b → (formal_from (suc k) xs x ≡ Some i → (j : ℕ) × (i ≡ suc k + j) × (slice_get xs j ≡ Some x)) →
-        (j : ℕ) × (i ≡ k + j) × (slice_get (y ∷ xs) j ≡ Some x)
-    by_name true t rest =
-        let found : Some k ≡ Some i = rw t at h in
-        let same : k ≡ i = cc in
-        (0, omega (arith, same), ap Some (same_text_equal y x t))
-    by_name false t rest =
-        let r : (j : ℕ) × (i ≡ suc k + j) × (slice_get xs j ≡ Some x) = rest (rw t at h) in
-        let e : i ≡ suc k + r.0 = r.1 in
-        (suc r.0, omega (arith, e), r.2)
-
-pub found_name : (p : ProgramTree) (x : Text) (m : ModuleTree) → find_module p x ≡ Some m → m.name ≡ x
-found_name [] x m h = cc
-found_name (first ∷ more) x m h = by_name (same_text first.name x) refl (λ e. found_name more x m e)
-  where
-    by_name : (b : Bool) → same_text first.name x ≡ b → (find_module more x ≡ Some m → m.name ≡ x) → m.name ≡ x
-    by_name true t rest =
-        let found : Some first ≡ Some m = rw t at h in
-        let same : first ≡ m = cc in
-        subst (λ (k : ModuleTree). k.name ≡ x) same (same_text_equal first.name x t)
-    by_name false t rest = rest (rw t at h)
-
--- What a define makes of its name.
-among_split : (xs ys : List Text) (x : Text) → is_among (xs ++ ys) x ≡ false → (is_among xs x ≡ false) × (is_among ys x ≡ false)
-among_split [] ys x h = (refl, h)
-among_split (z ∷ xs) ys x h =
-    let s : (same_text z x ≡ false) × (is_among (xs ++ ys) x ≡ false) = neither _ _ h in
-    let r : (is_among xs x ≡ false) × (is_among ys x ≡ false) = among_split xs ys x s.1 in (rw s.0 r.0, r.1)
-
-no_formal : (i : ℕ) (formals : List Text) (x : Text) → is_among formals x ≡ false → formal_from i formals x ≡ None
-no_formal i [] x h = refl
-no_formal i (y ∷ formals) x h =
-    let s : (same_text y x ≡ false) × (is_among formals x ≡ false) = neither _ _ h in rw s.0 (no_formal (suc i) formals x s.1)
-
-defined_kind : (before : List Item) (d : DefineTree) (after : List Item) → is_among (flat_map names_of_item before) d.name ≡ false →
-    kind_in_items (before ++ a_definition d ∷ after) d.name ≡ a_define d.value
-defined_kind [] d after h = rw (same_text_refl d.name) refl
-defined_kind (a_declaration role' d' ∷ before) d after h =
-    let s : (same_text d'.name d.name ≡ false) × (is_among (flat_map names_of_item before) d.name ≡ false) = neither _ _ h in rw s.0 (defined_kind before d after s.1)
-defined_kind (a_definition d' ∷ before) d after h =
-    let s : (same_text d'.name d.name ≡ false) × (is_among (flat_map names_of_item before) d.name ≡ false) = neither _ _ h in rw s.0 (defined_kind before d after s.1)
-defined_kind (an_assignment a ∷ before) d after h = defined_kind before d after h
-defined_kind (some_constants xs ∷ before) d after h = defined_kind before d after h
-defined_kind (an_init e ∷ before) d after h = defined_kind before d after h
-defined_kind (an_invar e ∷ before) d after h = defined_kind before d after h
-defined_kind (a_trans e ∷ before) d after h = defined_kind before d after h
-
-pub kind_of_definition : (m : ModuleTree) (before : List Item) (d : DefineTree) (after : List Item) → items_of m ≡ before ++ a_definition d ∷ after →
-    is_among (m.formals ++ flat_map names_of_item before) d.name ≡ false → kind_in m d.name ≡ a_define d.value
-kind_of_definition m before d after e h =
-    let s : (is_among m.formals d.name ≡ false) × (is_among (flat_map names_of_item before) d.name ≡ false) = among_split m.formals _ d.name h in
-    ap (λ o. kind_after_formals o (kind_in_sections m.sections d.name)) (no_formal 0 m.formals d.name s.0)
-    ∙ sym (sections_kind m.sections d.name) ∙ ap (λ is. kind_in_items is d.name) e ∙ defined_kind before d after s.1
 
 -- what is told of a definition that breaks no rule
 pub record IsGoodRoot (p : ProgramTree) (r : Root) : Type 0 where

@@ -16,25 +16,26 @@ use Rattle.xs_flattening.specs.Items.{Item, a_declaration, a_definition, an_assi
 use Rattle.xs_flattening.specs.Rules.{IsAccepted, IsKept, a_use, no_such_name, SomeHasNoValue}
 use Rattle.xs_flattening.specs.Model.{Condition, plain, now_among, next_among, kept, assigned_first, assigned_each, assigned_step, kept_declared, Written, written_at, conditions, IsVariableNumber, IsConditionTree, IsFormulaOf, EachBoth, symbols_of}
 use Rattle.xs_flattening.proofs.Resolving.{same_meaning}
-use Rattle.xs_flat.specs.declared.model.Formula.{Formula as FormulaOf}
-use Rattle.xs_flat.specs.declared.walk.Meaning.{Meaning as Found}
-use Rattle.xs_flat.specs.declared.walk.Meaning.TheVariants as found
-use Rattle.xs_flat.specs.declared.names.Scene.{Scene}
-use Rattle.xs_flat.specs.declared.needs.Needs.{Needs}
+use Rattle.xs_scope.specs.declared.model.Formula.{Formula as FormulaOf}
+use Rattle.xs_scope.specs.declared.walk.Meaning.{Meaning as Found}
+use Rattle.xs_scope.specs.declared.walk.Meaning.TheVariants as found
+use Rattle.xs_scope.specs.declared.names.Scene.{Scene}
+use Rattle.xs_scope.specs.declared.needs.Needs.{Needs}
 use Rattle.xs_flat.specs.declared.build.Asked.{Asked}
 use Rattle.xs_flat.specs.declared.build.Asked.TheVariants as asked
-use Rattle.xs_flat.specs.ModelTree.{role_of, flat_tree, formula_tree}
-use Rattle.xs_flat.specs.SceneTree.{Denotes, IsFound, program_of, IsScene, items_of_instance}
-use Rattle.xs_flat.specs.NeedsTree.{AreNeeds}
-use Rattle.xs_flat.specs.Walked.{IsDeclaredBy}
-use Rattle.xs_flat.specs.FoundAt.{found_at}
+use Rattle.xs_scope.specs.ModelTree.{role_of, flat_tree, formula_tree}
+use Rattle.xs_scope.specs.SceneTree.{Denotes, IsFound, program_of, IsScene, items_of_instance}
+use Rattle.xs_scope.specs.NeedsTree.{AreNeeds}
+use Rattle.xs_scope.specs.Walked.{IsDeclaredBy}
+use Rattle.xs_scope.specs.FoundAt.{found_at}
 use Rattle.xs_flat.specs.ResolverOf.{leaf_found, leaf_at, leaf_by, resolver}
 use Rattle.xs_flat.specs.Asked.{Told, told, conditions_asked, asked_condition, is_variable_within, IsConditionKnown, AreConditionsKnown, asked_conditions, asked_item, asked_items, asked_from}
-use Rattle.xs_flat.proofs.SceneFound.{scene_found}
+use Rattle.xs_scope.proofs.SceneFound.{scene_found}
 use Rattle.xs_flat.proofs.BuildAccepted.{kept_at, item_at, target_means, declared_means}
-use Rattle.xs_flat.proofs.BuildLeaves.{get_less, less_is, bounds_with, value_known}
+use Rattle.xs_flat.proofs.BuildLeaves.{less_is, bounds_with, value_known}
 use Rattle.xs_flat.proofs.BuildSound.{definitions, leaf_means, resolver_at}
 use Rattle.xs_flattening.proofs.LookLaws.{meets_loop_nothing}
+use Rattle.xs_scope.proofs.FoundModule.{get_less}
 
 -- A tree whose leaves are all told is one of a shape only if the tree is.
 pub record IsBinary (o : Op) (left right : Tree (Option FlatLeaf)) (t : Tree FlatLeaf) : Type 0 where

@@ -17,28 +17,24 @@ use Rattle.xs_flattening.proofs.Conditions.{each_at, each_from}
 use Rattle.xs_flattening.proofs.Variables.{both_at, both_at_second}
 use Rattle.xs_flattening.proofs.Resolving.{same_meaning}
 use Rattle.xs_flattening.proofs.LookLaws.{meets_loop_nothing}
-use Rattle.xs_flat.specs.declared.bounds.Bounds.{Bounds}
-use Rattle.xs_flat.specs.declared.walk.Meaning.{Meaning as Found}
-use Rattle.xs_flat.specs.declared.walk.Meaning.TheVariants as found
-use Rattle.xs_flat.specs.declared.names.Defined.{Defined}
-use Rattle.xs_flat.specs.declared.names.Scene.{Scene}
-use Rattle.xs_flat.specs.declared.needs.Needs.{Needs}
-use Rattle.xs_flat.specs.SceneTree.{Denotes, IsFound, IsDefined, program_of, IsScene}
-use Rattle.xs_flat.specs.NeedsTree.{keys_of, IsKeyAt, HasCircle, IsMeant, AreMeant, IsOrder, AreNeeds}
-use Rattle.xs_flat.specs.FoundAt.{found_at}
+use Rattle.xs_scope.specs.declared.bounds.Bounds.{Bounds}
+use Rattle.xs_scope.specs.declared.walk.Meaning.{Meaning as Found}
+use Rattle.xs_scope.specs.declared.walk.Meaning.TheVariants as found
+use Rattle.xs_scope.specs.declared.names.Defined.{Defined}
+use Rattle.xs_scope.specs.declared.names.Scene.{Scene}
+use Rattle.xs_scope.specs.declared.needs.Needs.{Needs}
+use Rattle.xs_scope.specs.SceneTree.{Denotes, IsFound, IsDefined, program_of, IsScene}
+use Rattle.xs_scope.specs.NeedsTree.{keys_of, IsKeyAt, HasCircle, IsMeant, AreMeant, IsOrder, AreNeeds}
+use Rattle.xs_scope.specs.FoundAt.{found_at}
 use Rattle.xs_flat.specs.ResolverOf.{leaf_placed, leaf_found, leaf_at, is_leaf_within, TreeAll, TreesAll, BranchesAll, AreKnown}
-use Rattle.xs_flat.proofs.SceneFound.{scene_found}
-use Rattle.xs_flat.proofs.BuildOrder.{AllAfter, ordered_after, needs_before, one_place, same_key_equal}
+use Rattle.xs_scope.proofs.SceneFound.{scene_found}
+use Rattle.xs_flat.proofs.BuildOrder.{AllAfter, ordered_after, needs_before, one_place}
 use Rattle.xs_flat.proofs.BuildAccepted.{some_at, each_not, IsGoodRoot}
 use Rattle.xs_flat.proofs.BuildRoots.{good_roots, no_come_back}
 use Rattle.xs_flat.proofs.BuildUnique.{one_written}
 use Rattle.xs_flattening.proofs.Lists.{each_more, get_within}
-
--- Lists.
-pub get_less : {A : Type 0} (xs : List A) (i : ℕ) (x : A) → slice_get xs i ≡ Some x → i < length xs
-get_less [] i x e = cc
-get_less (y ∷ xs) zero x e = omega arith
-get_less (y ∷ xs) (suc i) x e = let less : i < length xs = get_less xs i x e in omega (arith, less)
+use Rattle.xs_flattening.proofs.Listed.{key_equal}
+use Rattle.xs_scope.proofs.FoundModule.{get_less}
 
 pub get_mapped : {A B : Type 0} (f : A → B) (xs : List A) (i : ℕ) (y : B) → slice_get (map f xs) i ≡ Some y → (x : A) × (slice_get xs i ≡ Some x) × (f x ≡ y)
 get_mapped f [] i y e = cc
@@ -62,7 +58,7 @@ key_among [] k h = cc
 key_among (j ∷ ks) k h = by_test (same_key j k) refl (λ e. key_among ks k e)
   where
     by_test : (b : Bool) → same_key j k ≡ b → (is_key_among ks k ≡ true → (i : ℕ) × (slice_get ks i ≡ Some k)) → (i : ℕ) × (slice_get (j ∷ ks) i ≡ Some k)
-    by_test true e rest = (0, ap Some (same_key_equal j k e))
+    by_test true e rest = (0, ap Some (key_equal j k e))
     by_test false e rest = let r : (i : ℕ) × (slice_get ks i ≡ Some k) = rest (rw e at h) in (suc r.0, r.1)
 
 at_some : {A : Type 0} (P : A → Type 0) (xs : List A) → AtSome P xs → (x : A) × P x

@@ -5,16 +5,17 @@ use Rattle.xs_tree.specs.Trace.{Each}
 use Rattle.xs_flattening.specs.Flat.{FlatInstance}
 use Rattle.xs_flattening.specs.Items.{Item, NumberedItem, instances_of}
 use Rattle.xs_flattening.specs.Model.{Condition, EachBoth}
-use Rattle.xs_flat.specs.declared.bounds.Bounds.{Bounds}
-use Rattle.xs_flat.specs.declared.names.Scene.{Scene}
-use Rattle.xs_flat.specs.declared.walk.Spot.{Spot}
-use Rattle.xs_flat.specs.declared.modules.Names.{Names}
-use Rattle.xs_flat.specs.ModelTree.{place_of}
-use Rattle.xs_flat.specs.declared.needs.Needs.{Needs}
-use Rattle.xs_flat.specs.SceneTree.{program_of, IsScene, IsSpot, number_and_item, items_of_instance, items_at}
+use Rattle.xs_scope.specs.declared.bounds.Bounds.{Bounds}
+use Rattle.xs_scope.specs.declared.names.Scene.{Scene}
+use Rattle.xs_scope.specs.declared.walk.Spot.{Spot}
+use Rattle.xs_scope.specs.declared.modules.Names.{Names}
+use Rattle.xs_scope.specs.ModelTree.{place_of}
+use Rattle.xs_scope.specs.declared.needs.Needs.{Needs}
+use Rattle.xs_scope.specs.SceneTree.{program_of, IsScene, IsSpot, number_and_item, items_of_instance, items_at}
 use Rattle.xs_flat.specs.ResolverOf.{leaf_at}
 use Rattle.xs_flat.specs.Asked.{IsConditionKnown, AreConditionsKnown, asked_conditions, asked_item, asked_items, asked_from, item_listed, instance_in, instance_told}
 use Rattle.xs_flattening.proofs.Lists.{get_within}
+use Rattle.xs_scope.proofs.SceneNeeds.{both_size}
 
 pub drop_at : {A : Type 0} (xs : List A) (k : ℕ) (x : A) → slice_get xs k ≡ Some x → drop k xs ≡ x ∷ drop (k + 1) xs
 drop_at [] k x e = cc
@@ -33,12 +34,6 @@ get_none : {A : Type 0} (xs : List A) (k : ℕ) → slice_get xs k ≡ None → 
 get_none [] k e = omega arith
 get_none (y ∷ xs) zero e = cc
 get_none (y ∷ xs) (suc k) e = let less : length xs ≤ k = get_none xs k e in omega (arith, less)
-
-pub both_many : {A B : Type 0} (R : A → B → Type 0) (xs : List A) (ys : List B) → EachBoth R xs ys → length xs ≡ length ys
-both_many R [] [] h = refl
-both_many R [] (y ∷ ys) h = absurd h
-both_many R (x ∷ xs) [] h = absurd h
-both_many R (x ∷ xs) (y ∷ ys) h = ap suc (both_many R xs ys h.1)
 
 -- a step of a loop that appends
 pub appended : {A : Type 0} (new old more rest left all : List A) → new ≡ old ++ more → left ≡ more ++ rest → old ++ left ≡ all → new ++ rest ≡ all
@@ -113,7 +108,7 @@ module _ (s : Scene) (n : Needs) (what : Item → List Condition) where
   none_asked spot (Some i) e = cc
 
 pub many_spots : (s : Scene) → IsScene s → length (instances_of (program_of s)) ≡ length s.spots.items
-many_spots s is = both_many (IsSpot (program_of s)) (instances_of (program_of s)) s.spots.items is.set.spots
+many_spots s is = both_size (IsSpot (program_of s)) (instances_of (program_of s)) s.spots.items is.set.spots
 
 pub index_get : (xs : List ℕ) (i : ℕ) → i < length xs → slice_get xs i ≡ Some (slice_index_or xs i 0)
 index_get [] i h = absurd (omega (arith, h))

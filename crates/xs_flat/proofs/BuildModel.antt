@@ -17,35 +17,37 @@ use Rattle.xs_flattening.specs.Model.{EachBoth, Root, roots_of, symbols_of, Adds
 use Rattle.xs_flattening.proofs.Conditions.{each_at, each_join}
 use Rattle.xs_flattening.proofs.Variables.{both_at, both_at_second}
 use Rattle.xs_flattening.proofs.Lists.{get_within}
-use Rattle.xs_flat.specs.declared.bounds.Bounds.{Bounds}
-use Rattle.xs_flat.specs.declared.model.Flat.{Flat}
-use Rattle.xs_flat.specs.declared.model.Flat.TheVariants.{Var, Symbol, Definition as DefinitionOf}
-use Rattle.xs_flat.specs.declared.model.Formula.{Formula as FormulaOf}
-use Rattle.xs_flat.specs.declared.model.Variable.{Variable}
-use Rattle.xs_flat.specs.declared.model.FlatModel.{FlatModel as FlatModelOf}
-use Rattle.xs_flat.specs.declared.modules.Names.{Names}
-use Rattle.xs_flat.specs.declared.walk.Spot.{Spot}
-use Rattle.xs_flat.specs.declared.names.Defined.{Defined}
-use Rattle.xs_flat.specs.declared.names.Scene.{Scene}
-use Rattle.xs_flat.specs.declared.needs.Needs.{Needs}
+use Rattle.xs_scope.specs.declared.bounds.Bounds.{Bounds}
+use Rattle.xs_scope.specs.declared.model.Flat.{Flat}
+use Rattle.xs_scope.specs.declared.model.Flat.TheVariants.{Var, Symbol, Definition as DefinitionOf}
+use Rattle.xs_scope.specs.declared.model.Formula.{Formula as FormulaOf}
+use Rattle.xs_scope.specs.declared.model.Variable.{Variable}
+use Rattle.xs_scope.specs.declared.model.FlatModel.{FlatModel as FlatModelOf}
+use Rattle.xs_scope.specs.declared.modules.Names.{Names}
+use Rattle.xs_scope.specs.declared.walk.Spot.{Spot}
+use Rattle.xs_scope.specs.declared.names.Defined.{Defined}
+use Rattle.xs_scope.specs.declared.names.Scene.{Scene}
+use Rattle.xs_scope.specs.declared.needs.Needs.{Needs}
 use Rattle.xs_flat.specs.declared.build.Asked.{Asked}
 use Rattle.xs_flat.specs.declared.build.Asked.TheVariants as asked
-use Rattle.xs_flat.specs.Closed.{is_within, tree_all, trees_all, branches_all, is_closed, are_earlier}
-use Rattle.xs_flat.specs.ModelTree.{leaf_of, flat_tree, place_of, instance_tree, variable_tree, formula_tree, model_tree}
-use Rattle.xs_flat.specs.Symbols.{texts}
-use Rattle.xs_flat.specs.SceneTree.{HasNames, IsPlaced, IsSpot, IsDefined, program_of, IsScene}
-use Rattle.xs_flat.specs.NeedsTree.{keys_of, IsKeyAt, AreNeeds}
-use Rattle.xs_flat.specs.Walked.{IsDeclaredBy, AreDeclared}
+use Rattle.xs_scope.specs.Closed.{is_within, tree_all, trees_all, branches_all, is_closed, are_earlier}
+use Rattle.xs_scope.specs.ModelTree.{leaf_of, flat_tree, place_of, instance_tree, variable_tree, formula_tree, model_tree}
+use Rattle.xs_scope.specs.Symbols.{texts}
+use Rattle.xs_scope.specs.SceneTree.{HasNames, IsPlaced, IsSpot, IsDefined, program_of, IsScene}
+use Rattle.xs_scope.specs.NeedsTree.{keys_of, IsKeyAt, AreNeeds}
+use Rattle.xs_scope.specs.Walked.{IsDeclaredBy, AreDeclared}
 use Rattle.xs_flat.specs.ResolverOf.{leaf_at, leaf_by, resolver}
 use Rattle.xs_flat.specs.Asked.{Told, told, asked_defined, asked_definition, AreReady, AreConditionsKnown, conditions_asked, asked_from, instance_in, instance_told}
-use Rattle.xs_flat.proofs.ClosedLaws.{left_true, right_true}
-use Rattle.xs_flat.proofs.BuildAccepted.{found_name, IsGoodRoot}
+use Rattle.xs_scope.proofs.ClosedLaws.{left_true, right_true}
+use Rattle.xs_flat.proofs.BuildAccepted.{IsGoodRoot}
 use Rattle.xs_flat.proofs.BuildRoots.{good_roots}
-use Rattle.xs_flat.proofs.BuildLeaves.{get_less, get_map, get_mapped, order, bounds_with, definition_known}
-use Rattle.xs_flat.proofs.BuildLoops.{both_many}
-use Rattle.xs_flat.proofs.SceneItems.{both_more}
+use Rattle.xs_flat.proofs.BuildLeaves.{get_map, get_mapped, order, bounds_with, definition_known}
+use Rattle.xs_scope.proofs.SceneItems.{both_more}
 use Rattle.xs_flat.proofs.BuildSound.{definition_of, keys_of_definitions, definitions, definition_at, sound, resolver_at}
 use Rattle.xs_flat.proofs.BuildFormulas.{all_known, formulas_are, both_are}
+use Rattle.xs_flattening.proofs.Kept.{module_named}
+use Rattle.xs_scope.proofs.FoundModule.{get_less}
+use Rattle.xs_scope.proofs.SceneNeeds.{both_size}
 
 pub both_from : {A B : Type 0} (R : A → B → Type 0) (xs : List A) (ys : List B) → length xs ≡ length ys → ((i : ℕ) (x : A) (y : B) → slice_get xs i ≡ Some x → slice_get ys i ≡ Some y → R x y) → EachBoth R xs ys
 both_from R [] [] e h = tt
@@ -145,7 +147,7 @@ module _ (s : Scene) (n : Needs) (is : IsScene s) (needs : AreNeeds (program_of 
   name_there i spot placed =
       let b : (names : Names) × (slice_get s.modules.list.items spot.«module» ≡ Some names) × HasNames placed.tree names =
       both_at HasNames (modules_of (program_of s)) s.modules.list.items spot.«module» placed.tree is.set.modules.list placed.is in
-      let name : b.0.«module».now.name ≡ i.module_name = ap (λ (m : ModuleTree). m.name) b.2.tree ∙ found_name (program_of s) i.module_name placed.tree.tree placed.named in
+      let name : b.0.«module».now.name ≡ i.module_name = ap (λ (m : ModuleTree). m.name) b.2.tree ∙ module_named (program_of s) i.module_name placed.tree.tree placed.named in
       ap (instance_in spot) b.1 ∙ ap (λ x. x ∷ []) (same_instance (place_of spot.path) i.place b.0.«module».now.name i.module_name placed.path name)
     where
       same_instance : (at bt : Place) (x y : Text) → at ≡ bt → x ≡ y → made_instance at x ≡ made_instance bt y
@@ -203,7 +205,7 @@ module _ (s : Scene) (n : Needs) (is : IsScene s) (needs : AreNeeds (program_of 
 
     same_many : length (definitions s n is needs accepted) ≡ length (map formula_tree ds)
     same_many =
-        length-map (order s n is needs accepted).ordered (definition_of (program_of s)) ∙ sym (both_many (IsKeyAt (program_of s)) n.order.items (order s n is needs accepted).ordered (order s n is needs accepted).each)
+        length-map (order s n is needs accepted).ordered (definition_of (program_of s)) ∙ sym (both_size (IsKeyAt (program_of s)) n.order.items (order s n is needs accepted).ordered (order s n is needs accepted).each)
         ∙ sym (length-map n.order.items (asked_definition s n)) ∙ ap (λ (ts : List Told). length ts) (sym all) ∙ length-map ds told ∙ sym (length-map ds formula_tree)
 
     is_instance : (d : Definition) (f : FormulaOf) (j : ℕ) → DefinitionAt j d f → IsInstanceNumber m d.place f.«instance»
@@ -293,7 +295,7 @@ module _ (s : Scene) (n : Needs) (is : IsScene s) (needs : AreNeeds (program_of 
   -- The bounds that are read off the lists.
   pub many_variables : (vs : List Variable) → AreDeclared (program_of s) vs → length vs ≡ length (variables_of (program_of s))
   many_variables vs declared =
-      sym (length-map vs variable_tree) ∙ sym (both_many (IsDeclaredBy (program_of s)) (variables_of (program_of s)) (map variable_tree vs) declared)
+      sym (length-map vs variable_tree) ∙ sym (both_size (IsDeclaredBy (program_of s)) (variables_of (program_of s)) (map variable_tree vs) declared)
 
   pub many_symbols : (xs : List Text) → xs ≡ texts s.symbols.keys → length xs ≡ length (symbols_of (program_of s))
   many_symbols xs e = ap (λ (ys : List Text). length ys) (e ∙ is.set.symbols)

@@ -5,55 +5,22 @@ use Rattle.xs_tree.specs.ProgramTree.{Path, Formula, ProgramTree}
 use Rattle.xs_tree.specs.Texts.{same_text}
 use Rattle.xs_tree.specs.Scope.{Place, Key, define_key, actual_key, Meaning, a_variable_at, an_expression_at, an_instance_at, a_symbol, Means}
 use Rattle.xs_tree.specs.Trace.{AtSome}
-use Rattle.xs_tree.proofs.ValueLaws.{same_text_refl, same_text_equal}
+use Rattle.xs_tree.proofs.ValueLaws.{same_text_refl}
 use Rattle.xs_flattening.specs.Resolved.{leaves_in}
 use Rattle.xs_flattening.specs.Rules.{Needs, Leads, NeedsItself, expression_of}
 use Rattle.xs_flattening.specs.Model.{keys_of_meaning, AreNamed, same_place, same_key, is_key_among, Adds, AddsAll, stands, comes, no_more, one_more}
 use Rattle.xs_flattening.proofs.Resolving.{same_meaning}
-
--- equal keys
-left_of : (a b : Bool) → (a && b) ≡ true → a ≡ true
-left_of true b h = refl
-left_of false b h = h
-
-right_of : (a b : Bool) → (a && b) ≡ true → b ≡ true
-right_of true b h = h
-right_of false b h = cc
-
-pub same_place_refl : (at : Place) → same_place at at ≡ true
-same_place_refl [] = refl
-same_place_refl (x ∷ at) = rw (same_text_refl x) (same_place_refl at)
-
-pub same_place_equal : (at bt : Place) → same_place at bt ≡ true → at ≡ bt
-same_place_equal [] [] h = refl
-same_place_equal [] (y ∷ bt) h = cc
-same_place_equal (x ∷ at) [] h = cc
-same_place_equal (x ∷ at) (y ∷ bt) h =
-    let one : x ≡ y = same_text_equal x y (left_of (same_text x y) (same_place at bt) h) in
-    let rest : at ≡ bt = same_place_equal at bt (right_of (same_text x y) (same_place at bt) h) in cc
-
-pub same_key_refl : (k : Key) → same_key k k ≡ true
-same_key_refl (define_key at x) = rw (same_place_refl at) (same_text_refl x)
-same_key_refl (actual_key at i) = rw (same_place_refl at) (eq-eqb i i refl)
-
-pub same_key_equal : (j k : Key) → same_key j k ≡ true → j ≡ k
-same_key_equal (define_key at x) (define_key bt y) h =
-    let place : at ≡ bt = same_place_equal at bt (left_of (same_place at bt) (same_text x y) h) in
-    let name : x ≡ y = same_text_equal x y (right_of (same_place at bt) (same_text x y) h) in cc
-same_key_equal (define_key at x) (actual_key bt i) h = cc
-same_key_equal (actual_key at i) (define_key bt y) h = cc
-same_key_equal (actual_key at i) (actual_key bt j) h =
-    let place : at ≡ bt = same_place_equal at bt (left_of (same_place at bt) (nat_eq i j) h) in
-    let number : i ≡ j = eqb-true i j (right_of (same_place at bt) (nat_eq i j) h) in cc
+use Rattle.xs_scope.proofs.ClosedLaws.{left_true, right_true}
+use Rattle.xs_flat.proofs.BuildAccepted.{or_true}
+use Rattle.xs_flattening.proofs.Numbered.{same_place_refl, same_place_equal}
+use Rattle.xs_flattening.proofs.Listed.{key_equal}
+use Rattle.xs_scope.proofs.AddLaws.{same_key_refl}
+use Rattle.xs_tree.proofs.OneTree.{same_text_equal}
 
 -- keys among others
-or_left : (a b : Bool) → a ≡ true → (a || b) ≡ true
+pub or_left : (a b : Bool) → a ≡ true → (a || b) ≡ true
 or_left true b h = refl
 or_left false b h = cc
-
-or_right : (a b : Bool) → b ≡ true → (a || b) ≡ true
-or_right true b h = refl
-or_right false b h = h
 
 or_cases : (a b : Bool) → (a || b) ≡ true → (a ≡ true) ⊎ (b ≡ true)
 or_cases true b h = inl refl
@@ -65,22 +32,22 @@ among_left (x ∷ xs) ys k h = by_cases (or_cases (same_key x k) (is_key_among x
   where
     by_cases : (same_key x k ≡ true) ⊎ (is_key_among xs k ≡ true) → (is_key_among xs k ≡ true → is_key_among (xs ++ ys) k ≡ true) → (same_key x k || is_key_among (xs ++ ys) k) ≡ true
     by_cases (inl e) rest = or_left (same_key x k) (is_key_among (xs ++ ys) k) e
-    by_cases (inr e) rest = or_right (same_key x k) (is_key_among (xs ++ ys) k) (rest e)
+    by_cases (inr e) rest = or_true (same_key x k) (is_key_among (xs ++ ys) k) (rest e)
 
 pub among_last : (xs : List Key) (k : Key) → is_key_among (xs ++ k ∷ []) k ≡ true
 among_last [] k = or_left (same_key k k) false (same_key_refl k)
-among_last (x ∷ xs) k = or_right (same_key x k) (is_key_among (xs ++ k ∷ []) k) (among_last xs k)
+among_last (x ∷ xs) k = or_true (same_key x k) (is_key_among (xs ++ k ∷ []) k) (among_last xs k)
 
 pub among_push : (xs : List Key) (j k : Key) → is_key_among (xs ++ j ∷ []) k ≡ true → (is_key_among xs k ≡ true) ⊎ (j ≡ k)
 among_push [] j k h = by_cases (or_cases (same_key j k) false h)
   where
     by_cases : (same_key j k ≡ true) ⊎ (false ≡ true) → (false ≡ true) ⊎ (j ≡ k)
-    by_cases (inl e) = inr (same_key_equal j k e)
+    by_cases (inl e) = inr (key_equal j k e)
     by_cases (inr e) = cc
 among_push (x ∷ xs) j k h = by_cases (or_cases (same_key x k) (is_key_among (xs ++ j ∷ []) k) h) (λ e. among_push xs j k e)
   where
     by_rest : (is_key_among xs k ≡ true) ⊎ (j ≡ k) → ((same_key x k || is_key_among xs k) ≡ true) ⊎ (j ≡ k)
-    by_rest (inl e) = inl (or_right (same_key x k) (is_key_among xs k) e)
+    by_rest (inl e) = inl (or_true (same_key x k) (is_key_among xs k) e)
     by_rest (inr e) = inr e
 
     by_cases : (same_key x k ≡ true) ⊎ (is_key_among (xs ++ j ∷ []) k ≡ true) → (is_key_among (xs ++ j ∷ []) k ≡ true → (is_key_among xs k ≡ true) ⊎ (j ≡ k)) →
@@ -131,7 +98,7 @@ module _ (p : ProgramTree) where
   named_only at name (an_expression_at key bt e) more other means h = by_cases (or_cases (same_key key other) (is_key_among more other) h)
     where
       by_cases : (same_key key other ≡ true) ⊎ (is_key_among more other ≡ true) → (Naming at other name) ⊎ (is_key_among more other ≡ true)
-      by_cases (inl same) = inl (bt, e, subst (λ k. Means p at name (an_expression_at k bt e)) (same_key_equal key other same) means)
+      by_cases (inl same) = inl (bt, e, subst (λ k. Means p at name (an_expression_at k bt e)) (key_equal key other same) means)
       by_cases (inr later) = inr later
 
   named_back : (at : Place) (names : List Path) (keys : List Key) (other : Key) → AreNamed p at names keys → is_key_among keys other ≡ true → AtSome (Naming at other) names
@@ -145,7 +112,7 @@ module _ (p : ProgramTree) where
 
   keys_right : (ks : List Key) (more : List Key) (other : Key) → is_key_among more other ≡ true → is_key_among (ks ++ more) other ≡ true
   keys_right [] more other h = h
-  keys_right (k ∷ ks) more other h = or_right (same_key k other) (is_key_among (ks ++ more) other) (keys_right ks more other h)
+  keys_right (k ∷ ks) more other h = or_true (same_key k other) (is_key_among (ks ++ more) other) (keys_right ks more other h)
 
   named_all : (at : Place) (names : List Path) (keys : List Key) (other : Key) → AreNamed p at names keys → AtSome (Naming at other) names → is_key_among keys other ≡ true
   named_all at [] keys other are h = absurd h
@@ -183,7 +150,7 @@ module _ (p : ProgramTree) where
     one_key j k h = by_cases (or_cases (same_key k j) false h)
       where
         by_cases : (same_key k j ≡ true) ⊎ (false ≡ true) → k ≡ j
-        by_cases (inl e) = same_key_equal k j e
+        by_cases (inl e) = key_equal k j e
         by_cases (inr e) = cc
 
     key_here : (k : Key) → is_key_among (k ∷ []) k ≡ true
@@ -216,7 +183,7 @@ module _ (p : ProgramTree) where
         by_one : (is_key_among done j ≡ true) ⊎ Led (k ∷ []) j → (is_key_among done j ≡ true) ⊎ Led (k ∷ more) j
         by_one (inl e) = inl e
         by_one (inr l) = inr (l.0, l.1, among_left (k ∷ []) more l.0 l.2, l.3)
-    led_both done between k more j one (inr l) = inr (l.0, l.1, or_right (same_key k l.0) (is_key_among more l.0) l.2, l.3)
+    led_both done between k more j one (inr l) = inr (l.0, l.1, or_true (same_key k l.0) (is_key_among more l.0) l.2, l.3)
 
     mutual
       add_grows : {done after : List Key} {k : Key} → Adds p done k after → Ok k → AllAfter [] done → Grown done (k ∷ []) after
@@ -246,7 +213,7 @@ module _ (p : ProgramTree) where
       all_grow {done = done} no_more oks good = record { good = good; kept = λ j h. h; there = λ j h. cc; led = λ j h. inl h }
       all_grow {done = done} {after = after} (one_more {between = between} {more = more} {k = k} one rest) oks good =
           let g : Grown done (k ∷ []) between = add_grows one (oks k (or_left (same_key k k) (is_key_among more k) (same_key_refl k))) good in
-          let m : Grown between more after = all_grow rest (λ j h. oks j (or_right (same_key k j) (is_key_among more j) h)) g.good in
+          let m : Grown between more after = all_grow rest (λ j h. oks j (or_true (same_key k j) (is_key_among more j) h)) g.good in
           record {
             good = m.good;
             kept = λ j h. m.kept j (g.kept j h);

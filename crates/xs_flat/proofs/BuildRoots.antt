@@ -13,10 +13,13 @@ use Rattle.xs_flattening.specs.Looks.{at_actual, plain_of, step_kind, step_of, l
 use Rattle.xs_flattening.specs.Rules.{a_use, visit_sites, IsKept, IsAccepted, is_missing_instance, is_miscounted, is_other_count, wrong_count, no_such_name, define_loop, next_here, ActualHasNoMeaning, expression_of_kind, expression_in, ActualLoops, SomeActualLoops, LoopsInside}
 use Rattle.xs_flattening.specs.Model.{root_of_actual, roots_of_actuals, roots_of_type, roots_of_item, roots_of}
 use Rattle.xs_flattening.proofs.Conditions.{each_flat, each_at, each_from, each_join}
-use Rattle.xs_flattening.proofs.KindLaws.{kind_in_items, sections_kind, DeclaredBy, declared_by}
+use Rattle.xs_flattening.proofs.KindLaws.{kind_in_items, sections_kind, DeclaredBy, declared_by, not_true}
 use Rattle.xs_flattening.proofs.Places.{In, VisitFacts, there, Walked, walked, in_items, found_at, all_visit_facts}
 use Rattle.xs_flattening.proofs.EndLaws.{ended_stays}
-use Rattle.xs_flat.proofs.BuildAccepted.{some_at, nth_slice, not_true, next_among, formal_place, found_name, IsGoodRoot, walkable, are, kept_at, ItemAt, item_at, fresh_declared, fresh_defined}
+use Rattle.xs_flat.proofs.BuildAccepted.{some_at, nth_slice, next_among, IsGoodRoot, walkable, are, kept_at, ItemAt, item_at, fresh_declared, fresh_defined}
+use Rattle.xs_flattening.proofs.Meant.{declares_no_formal}
+use Rattle.xs_scope.proofs.NameKinds.{formal_named}
+use Rattle.xs_flattening.proofs.Kept.{module_named}
 
 counted : (a b : ℕ) → opposite (nat_eq a b) ≡ false → a ≡ b
 counted a b h = by_test (nat_eq a b) refl
@@ -25,7 +28,7 @@ counted a b h = by_test (nat_eq a b) refl
     by_test true e = eqb-true a b e
     by_test false e = let bad : true ≡ false = rw e at h in cc
 
-counts_kept : (p : ProgramTree) (before vs : List Visit) → Each (IsKept p) (visit_sites before vs) → Each (λ (v : Visit). is_miscounted p v.decl.what ≡ false) vs
+pub counts_kept : (p : ProgramTree) (before vs : List Visit) → Each (IsKept p) (visit_sites before vs) → Each (λ (v : Visit). is_miscounted p v.decl.what ≡ false) vs
 counts_kept p before [] h = tt
 counts_kept p before (v ∷ vs) h = (not_true _ (h.0 wrong_count), counts_kept p (before ++ v ∷ []) vs h.1)
 
@@ -41,24 +44,6 @@ decl_formal role boolean i e = cc
 decl_formal role (range lo hi) i e = cc
 decl_formal role (members ms) i e = cc
 decl_formal role (instance m as') i e = cc
-
-no_formal_kind : (items : List Item) (x : Text) (i : ℕ) → kind_in_items items x ≡ a_formal i → ⊥
-no_formal_kind [] x i e = cc
-no_formal_kind (a_declaration role d ∷ items) x i e = by_name (same_text d.name x) refl (λ h. no_formal_kind items x i h)
-  where
-    by_name : (b : Bool) → same_text d.name x ≡ b → (kind_in_items items x ≡ a_formal i → ⊥) → ⊥
-    by_name true t rest = decl_formal role d.what i (rw t at e)
-    by_name false t rest = rest (rw t at e)
-no_formal_kind (a_definition d ∷ items) x i e = by_name (same_text d.name x) refl (λ h. no_formal_kind items x i h)
-  where
-    by_name : (b : Bool) → same_text d.name x ≡ b → (kind_in_items items x ≡ a_formal i → ⊥) → ⊥
-    by_name true t rest = let bad : a_define d.value ≡ a_formal i = rw t at e in cc
-    by_name false t rest = rest (rw t at e)
-no_formal_kind (an_assignment a ∷ items) x i e = no_formal_kind items x i e
-no_formal_kind (some_constants xs ∷ items) x i e = no_formal_kind items x i e
-no_formal_kind (an_init f ∷ items) x i e = no_formal_kind items x i e
-no_formal_kind (an_invar f ∷ items) x i e = no_formal_kind items x i e
-no_formal_kind (a_trans f ∷ items) x i e = no_formal_kind items x i e
 
 module _ (p : ProgramTree) (accepted : IsAccepted p) where
   -- an instance that an item declares has as many actuals as its module has formals
@@ -84,7 +69,7 @@ module _ (p : ProgramTree) (accepted : IsAccepted p) where
       w = walked p (walkable p accepted) x.place t.tree t.is
 
       same : x.module_name ≡ w.name
-      same = sym (found_name p x.module_name t.tree t.found) ∙ found_name p w.name t.tree w.found
+      same = sym (module_named p x.module_name t.tree t.found) ∙ module_named p w.name t.tree w.found
 
       visit : Visit
       visit = record { place = x.place; on_path = w.name ∷ w.on; number = n.number; role = role; decl = d }
@@ -270,7 +255,7 @@ module _ (p : ProgramTree) (accepted : IsAccepted p) where
 
   formal_of_kind : (m : ModuleTree) (x : Text) (i : ℕ) (o : Option ℕ) → kind_after_formals o (kind_in_sections m.sections x) ≡ a_formal i → o ≡ Some i
   formal_of_kind m x i (Some j) e = cc
-  formal_of_kind m x i None e = absurd (no_formal_kind (items_of m) x i (sections_kind m.sections x ∙ e))
+  formal_of_kind m x i None e = absurd (declares_no_formal (items_of m) x i (sections_kind m.sections x ∙ e))
 
   -- the actual of a formal that comes back
   loops_there : (caller : Place) (own : Text) (m : ModuleTree) (x : Text) (i : ℕ) → DeclaredAt caller own m → slice_get m.formals i ≡ Some x → ComesBack p (own ∷ caller) x →
@@ -305,7 +290,7 @@ module _ (p : ProgramTree) (accepted : IsAccepted p) where
       in_module : (i : ℕ) (bt : Place) → at ≡ bt → (m : ModuleTree) → module_at p at ≡ Some m → kind_in m x ≡ a_formal i → kind_at (module_at p at) x ≡ a_formal i → ⊥
       in_module i [] same m e kind q = ends at x back (ap (λ k. step_kind p at k x []) q ∙ ap (λ a. step_kind p a (a_formal i) x []) same)
       in_module i (own ∷ caller) same m e kind q =
-          let place : (j : ℕ) × (i ≡ 0 + j) × (slice_get m.formals j ≡ Some x) = formal_place 0 m.formals x i (formal_of_kind m x i (formal_from 0 m.formals x) kind) in
+          let place : (j : ℕ) × (i ≡ 0 + j) × (slice_get m.formals j ≡ Some x) = formal_named 0 m.formals x i (formal_of_kind m x i (formal_from 0 m.formals x) kind) in
           let here : place.0 ≡ i = (let eq : i ≡ 0 + place.0 = place.1 in omega (arith, eq)) in
           loops_there caller own m x i (declared_at caller own m (subst (λ a. module_at p a ≡ Some m) same e)) (subst (λ j. slice_get m.formals j ≡ Some x) here place.2) (subst (λ a. ComesBack p a x) same back)
           (actual_of_kind (kind_at (module_at p caller) own) i) refl

@@ -10,21 +10,21 @@ use Rattle.xs_flattening.specs.Items.{instances_of, variables_of}
 use Rattle.xs_flattening.specs.Rules.{IsAccepted, expression_of}
 use Rattle.xs_flattening.specs.Model.{EachBoth, Root, roots_of, symbols_of, same_place}
 use Rattle.xs_flattening.proofs.Variables.{both_at}
-use Rattle.xs_flat.specs.declared.walk.Meaning.{Meaning as Found}
-use Rattle.xs_flat.specs.declared.walk.Meaning.TheVariants as found
-use Rattle.xs_flat.specs.declared.names.Scene.{Scene}
-use Rattle.xs_flat.specs.declared.needs.Needs.{Needs}
-use Rattle.xs_flat.specs.SceneTree.{Denotes, IsFound, program_of, IsScene}
-use Rattle.xs_flat.specs.NeedsTree.{keys_of, IsKeyAt, AreNeeds}
-use Rattle.xs_flat.specs.Walked.{IsDeclaredBy}
-use Rattle.xs_flat.specs.FoundAt.{found_at}
+use Rattle.xs_scope.specs.declared.walk.Meaning.{Meaning as Found}
+use Rattle.xs_scope.specs.declared.walk.Meaning.TheVariants as found
+use Rattle.xs_scope.specs.declared.names.Scene.{Scene}
+use Rattle.xs_scope.specs.declared.needs.Needs.{Needs}
+use Rattle.xs_scope.specs.SceneTree.{Denotes, IsFound, program_of, IsScene}
+use Rattle.xs_scope.specs.NeedsTree.{keys_of, IsKeyAt, AreNeeds}
+use Rattle.xs_scope.specs.Walked.{IsDeclaredBy}
+use Rattle.xs_scope.specs.FoundAt.{found_at}
 use Rattle.xs_flat.specs.ResolverOf.{leaf_placed, leaf_found, leaf_by, number_from, resolver}
-use Rattle.xs_flat.proofs.SceneFound.{scene_found}
-use Rattle.xs_flat.proofs.BuildOrder.{same_place_refl, same_place_equal}
+use Rattle.xs_scope.proofs.SceneFound.{scene_found}
 use Rattle.xs_flat.proofs.BuildPlaces.{OtherPlace, PlacesApart, places_apart}
 use Rattle.xs_flat.proofs.BuildAccepted.{walkable}
 use Rattle.xs_flat.proofs.BuildLeaves.{get_map, order}
 use Rattle.xs_flattening.proofs.Conditions.{each_at}
+use Rattle.xs_flattening.proofs.Numbered.{same_place_refl, same_place_equal}
 
 -- The number of a place.
 pub number_back : (k : ℕ) (is : List FlatInstance) (at : Place) (j : ℕ) → number_from k is at ≡ Some j → (i : ℕ) × (j ≡ k + i) × (x : FlatInstance) × (slice_get is i ≡ Some x) × (x.place ≡ at)

@@ -6,6 +6,7 @@ use Rattle.xs_flattening.specs.Resolved.{leaves_in}
 use Rattle.xs_flattening.specs.Rules.{expression_of}
 use Rattle.xs_flattening.specs.Model.{keys_of_meaning, AreNamed, is_key_among, Adds, AddsAll, stands, comes, no_more, one_more}
 use Rattle.xs_flattening.proofs.Resolving.{same_meaning}
+use Rattle.xs_scope.proofs.Heads.{not_both}
 
 -- the definitions that names mean are determined
 named_one : (p : ProgramTree) (at : Place) (names : List Path) (keys keys' : List Key) → AreNamed p at names keys → AreNamed p at names keys' → keys ≡ keys'
@@ -28,14 +29,11 @@ needs_one p k at bt e f needs needs' g h a b =
     let same : (at ≡ bt) × (e ≡ f) = one_written p k at bt e f g h in
     named_one p at (leaves_in e) needs' needs (subst (λ c. AreNamed p c (leaves_in e) needs') (sym same.0) (subst (λ d. AreNamed p bt (leaves_in d) needs') (sym same.1) b)) a
 
-two_ways : (b : Bool) → b ≡ true → b ≡ false → ⊥
-two_ways b h k = let bad : true ≡ false = sym h ∙ k in cc
-
 mutual
   pub adds_one : {p : ProgramTree} {done a b : List Key} {k : Key} → Adds p done k a → Adds p done k b → a ≡ b
   adds_one (stands among) (stands among') = refl
-  adds_one {done = done} {k = k} (stands among) (comes fresh is named all) = absurd (two_ways (is_key_among done k) among fresh)
-  adds_one {done = done} {k = k} (comes fresh is named all) (stands among) = absurd (two_ways (is_key_among done k) among fresh)
+  adds_one {done = done} {k = k} (stands among) (comes fresh is named all) = absurd (not_both (is_key_among done k) among fresh)
+  adds_one {done = done} {k = k} (comes fresh is named all) (stands among) = absurd (not_both (is_key_among done k) among fresh)
   adds_one {p = p} {done = done} {k = k} (comes {after = after} {needs = needs} {at = at} {e = e} fresh is named all) (comes {after = after'} {needs = needs'} {at = bt} {e = f} fresh' is' named' all') =
       ap (λ xs. xs ++ k ∷ []) (all_one all (subst (λ ks. AddsAll p done ks after') (needs_one p k at bt e f needs needs' is is' named named') all'))
 

@@ -11,9 +11,9 @@ use Rattle.xs_flattening.specs.Rules.{IsFirstBroken, IsAccepted, IsWalkable, IsK
 use Rattle.xs_flattening.specs.Items.{visits}
 use Rattle.xs_flattening.proofs.Laws.{accepted_unbroken}
 use Rattle.xs_flattening.proofs.Walkable.{accepted_walkable, main_is_there}
-use Rattle.xs_flat.specs.declared.fault.FlatFault.{FlatFault}
-use Rattle.xs_flat.specs.Faults.{rule_of, IsFaultOf, IsWant}
-use Rattle.xs_flat.specs.SceneTree.{module_from}
+use Rattle.xs_scope.specs.declared.fault.FlatFault.{FlatFault}
+use Rattle.xs_scope.specs.Faults.{rule_of, IsFaultOf, IsWant}
+use Rattle.xs_scope.specs.SceneTree.{module_from}
 
 pub want_fault : (p : ProgramTree) (f : FlatFault) → IsWant f → IsFaultOf p f
 want_fault p f want = subst (λ r. IfSome (rule_of r) (λ r. IsFirstBroken p r f.item)) (sym want) tt

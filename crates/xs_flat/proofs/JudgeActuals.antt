@@ -6,25 +6,28 @@ use Rattle.xs_tree.specs.Tree.{leaf}
 use Rattle.xs_tree.specs.Texts.{same_text, is_among}
 use Rattle.xs_tree.specs.ProgramTree.{Text, Path, Formula, ModuleTree, ProgramTree}
 use Rattle.xs_tree.specs.Scope.{Place, a_formal, an_instance, Key, actual_key, Meaning, an_expression_at, Means, means_in, find_module, formal_from, kind_after_formals, kind_in_sections, kind_at, module_of_kind, module_at, nth_formula, actual_of_kind, plain_name, through_actual, through_plain, by_kind}
-use Rattle.xs_tree.proofs.ValueLaws.{same_text_refl, same_text_equal}
+use Rattle.xs_tree.proofs.ValueLaws.{same_text_refl}
 use Rattle.xs_flattening.specs.Looks.{Look, at_actual, plain_of, step_kind, step_of, look_after, ComesBack, MeetsLoop, MeansNothing}
 use Rattle.xs_flattening.specs.Resolved.{has_next}
 use Rattle.xs_flattening.specs.Rules.{has_twice, ActualHasNoMeaning, ActualLoops}
 use Rattle.xs_flattening.proofs.EndLaws.{steps_more, ended_stays, ended_meets_none, stuck_means}
 use Rattle.xs_flattening.proofs.LookLaws.{step_means}
 use Rattle.xs_flattening.proofs.Now.{neither}
-use Rattle.xs_flat.specs.SceneTree.{Denotes, IsKnown}
-use Rattle.xs_flat.specs.NeedsTree.{AreNeeds, HasCircle}
+use Rattle.xs_scope.specs.SceneTree.{Denotes, IsKnown}
+use Rattle.xs_scope.specs.NeedsTree.{AreNeeds, HasCircle}
 use Rattle.xs_flat.specs.Judging.{IsJudged}
 use Rattle.xs_flat.specs.Verdicts.{is_circle_found, is_nothing_known, is_circle_known, is_circle_meant, LoopsAt, IsActualJudged}
 use Rattle.xs_flat.specs.declared.judge.Judged.{Judged}
-use Rattle.xs_flat.specs.declared.names.Formal.{Formal}
-use Rattle.xs_flat.specs.declared.names.Formal.TheVariants as known
-use Rattle.xs_flat.specs.declared.needs.Needs.{Needs}
-use Rattle.xs_flat.specs.declared.walk.Meaning.{Meaning as Found}
-use Rattle.xs_flat.specs.declared.walk.Meaning.TheVariants as found
-use Rattle.xs_flat.proofs.JudgeNames.{one_meaning, not_nothing, not_loop, definition_circles}
+use Rattle.xs_scope.specs.declared.names.Formal.{Formal}
+use Rattle.xs_scope.specs.declared.names.Formal.TheVariants as known
+use Rattle.xs_scope.specs.declared.needs.Needs.{Needs}
+use Rattle.xs_scope.specs.declared.walk.Meaning.{Meaning as Found}
+use Rattle.xs_scope.specs.declared.walk.Meaning.TheVariants as found
+use Rattle.xs_flat.proofs.JudgeNames.{not_nothing, definition_circles}
 use Rattle.xs_flat.proofs.JudgeLists.{none_some, some_same, never}
+use Rattle.xs_scope.proofs.KeyLaws.{same_means}
+use Rattle.xs_scope.proofs.LookFound.{no_loop_meant}
+use Rattle.xs_tree.proofs.OneTree.{same_text_equal}
 
 -- What is known of a formal, and what its name means.
 back_loops : (p : ProgramTree) (at : Place) (x : Text) → ComesBack p at x → MeetsLoop p at (x ∷ [])
@@ -58,17 +61,17 @@ found_definition p n needs found.Loop key at e d = absurd d
 meant : (p : ProgramTree) (n : Needs) → AreNeeds p n → (at : Place) (name : Path) (f : Found) (m : Meaning) → Means p at name m → Denotes p f m → (key : Key) (place : Place) (e : Formula) →
     Means p at name (an_expression_at key place e) → HasCircle p key (is_circle_found n f)
 meant p n needs at name f m h d key place e k =
-    found_definition p n needs f key place e (subst (Denotes p f) (one_meaning p at name m (an_expression_at key place e) h k) d)
+    found_definition p n needs f key place e (subst (Denotes p f) (same_means p at name m (an_expression_at key place e) h k) d)
 
 pub known_definition : (p : ProgramTree) (n : Needs) → AreNeeds p n → (at : Place) (x : Text) (f : Formal) → IsKnown p at x f → (key : Key) (place : Place) (e : Formula) →
     Means p at (x ∷ []) (an_expression_at key place e) → HasCircle p key (is_circle_meant n f)
 known_definition p n needs at x (known.Means found.Nothing) h key place e k = absurd (not_nothing p at (x ∷ []) (an_expression_at key place e) k h.0)
-known_definition p n needs at x (known.Means found.Loop) h key place e k = absurd (not_loop p at (x ∷ []) (an_expression_at key place e) k h.0)
+known_definition p n needs at x (known.Means found.Loop) h key place e k = absurd (no_loop_meant p at (x ∷ []) (an_expression_at key place e) k h.0)
 known_definition p n needs at x (known.Means (found.Instance i)) h key place e k = meant p n needs at (x ∷ []) (found.Instance i) h.0.0 h.0.1 h.0.2 key place e k
 known_definition p n needs at x (known.Means (found.Variable i role)) h key place e k = meant p n needs at (x ∷ []) (found.Variable i role) h.0.0 h.0.1 h.0.2 key place e k
 known_definition p n needs at x (known.Means (found.Definition i)) h key place e k = meant p n needs at (x ∷ []) (found.Definition i) h.0.0 h.0.1 h.0.2 key place e k
 known_definition p n needs at x (known.Means (found.Symbol i)) h key place e k = meant p n needs at (x ∷ []) (found.Symbol i) h.0.0 h.0.1 h.0.2 key place e k
-known_definition p n needs at x known.Circle h key place e k = absurd (not_loop p at (x ∷ []) (an_expression_at key place e) k (back_loops p at x h))
+known_definition p n needs at x known.Circle h key place e k = absurd (no_loop_meant p at (x ∷ []) (an_expression_at key place e) k (back_loops p at x h))
 known_definition p n needs at x known.Begun h key place e k = absurd h
 known_definition p n needs at x known.Unknown h key place e k = absurd h
 

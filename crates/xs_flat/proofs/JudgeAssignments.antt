@@ -11,15 +11,15 @@ use Rattle.xs_flattening.specs.Flat.{FlatInstance}
 use Rattle.xs_flattening.specs.Items.{an_assignment, NumberedItem, instances_of}
 use Rattle.xs_flattening.specs.Rules.{is_target, is_later, has_bad_next, inputs_judged, GivesInput, BreaksNames, BreaksOnce, a_use}
 use Rattle.xs_flat.specs.Assigned.{IsTargetTold, with_moment, is_met, times_of, assignment_rule, IsItemTold}
-use Rattle.xs_flat.specs.Faults.{first_of}
+use Rattle.xs_scope.specs.Faults.{first_of}
 use Rattle.xs_flat.specs.Judging.{IsJudged}
-use Rattle.xs_flat.specs.SceneTree.{IsScene, program_of}
+use Rattle.xs_scope.specs.SceneTree.{IsScene, program_of}
 use Rattle.xs_flat.specs.Verdicts.{IsTold}
-use Rattle.xs_flat.specs.declared.fault.Rule.{Rule as Code}
-use Rattle.xs_flat.specs.declared.fault.Rule.TheVariants as code
+use Rattle.xs_scope.specs.declared.fault.Rule.{Rule as Code}
+use Rattle.xs_scope.specs.declared.fault.Rule.TheVariants as code
 use Rattle.xs_flat.specs.declared.judge.Judged.{Judged}
 use Rattle.xs_flat.specs.declared.judge.Times.{Times}
-use Rattle.xs_flat.specs.declared.names.Scene.{Scene}
+use Rattle.xs_scope.specs.declared.names.Scene.{Scene}
 use Rattle.xs_flat.proofs.JudgeItems.{Judges, code_of, told_tests, told_names, told_target, told_item, nowhere}
 use Rattle.xs_flat.proofs.JudgeTargets.{target_is}
 use Rattle.xs_flat.proofs.JudgeTimes.{is_double, times_added}

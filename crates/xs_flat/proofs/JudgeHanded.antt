@@ -11,27 +11,23 @@ use Rattle.xs_flattening.specs.Items.{a_declaration, NumberedItem}
 use Rattle.xs_flattening.specs.Resolved.{has_next}
 use Rattle.xs_flattening.specs.Rules.{ActualHasNoMeaning, SomeActualLoops, LoopsInside, some_has_next, a_use}
 use Rattle.xs_flattening.proofs.Lists.{get_left, get_end, get_within}
-use Rattle.xs_flat.specs.Faults.{first_of}
-use Rattle.xs_flat.specs.FoundAt.{formal_at}
-use Rattle.xs_flat.specs.SceneTree.{IsKnown, IsScene, program_of}
-use Rattle.xs_flat.specs.NeedsTree.{AreNeeds}
+use Rattle.xs_scope.specs.Faults.{first_of}
+use Rattle.xs_scope.specs.FoundAt.{formal_at}
+use Rattle.xs_scope.specs.SceneTree.{IsKnown, IsScene, program_of}
+use Rattle.xs_scope.specs.NeedsTree.{AreNeeds}
 use Rattle.xs_flat.specs.Verdicts.{is_nothing_known, is_circle_known, is_circle_meant, IsHanded, LoopsAt, IsActualJudged, AreActualsJudged, joined_actual, JudgesActual, JudgesActuals, IsTold}
-use Rattle.xs_flat.specs.declared.fault.Rule.TheVariants as code
+use Rattle.xs_scope.specs.declared.fault.Rule.TheVariants as code
 use Rattle.xs_flat.specs.declared.judge.Judged.{Judged}
 use Rattle.xs_flat.specs.declared.judge.JudgedActual.{JudgedActual}
-use Rattle.xs_flat.specs.declared.names.Formal.{Formal}
-use Rattle.xs_flat.specs.declared.names.Scene.{Scene}
-use Rattle.xs_flat.specs.declared.needs.Needs.{Needs}
+use Rattle.xs_scope.specs.declared.names.Formal.{Formal}
+use Rattle.xs_scope.specs.declared.names.Scene.{Scene}
+use Rattle.xs_scope.specs.declared.needs.Needs.{Needs}
 use Rattle.xs_flat.proofs.JudgeActuals.{IsFormalOf, formal_of, plain_told, value_told}
 use Rattle.xs_flat.proofs.JudgeItems.{Judges, told_tests, told_item, nowhere}
 use Rattle.xs_flat.proofs.JudgeLists.{none_some, some_same, take_step, take_end}
 use Rattle.xs_flat.proofs.JudgePlaces.{formal_is}
 use Rattle.xs_flat.proofs.JudgeValues.{one_more}
-
-get_less : {A : Type 0} (xs : List A) (i : ℕ) (x : A) → slice_get xs i ≡ Some x → i < length xs
-get_less [] i x e = absurd (none_some x e)
-get_less (y ∷ xs) zero x e = omega arith
-get_less (y ∷ xs) (suc i) x e = let rest : i < length xs = get_less xs i x e in omega (arith, rest)
+use Rattle.xs_scope.proofs.FoundModule.{get_less}
 
 -- each actual has a formal
 formal_there : (actuals : List Formula) (formals : List Text) (index : ℕ) (e : Formula) → slice_get actuals index ≡ Some e → length actuals ≡ length formals → (x : Text) × (slice_get formals index ≡ Some x)

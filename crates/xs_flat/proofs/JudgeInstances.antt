@@ -13,24 +13,20 @@ use Rattle.xs_flattening.proofs.Conditions.{each_join}
 use Rattle.xs_flattening.proofs.FaultLaws.{IsFirstOf, first_broken, in_part, after_part}
 use Rattle.xs_flattening.proofs.Lists.{get_within, map_joined}
 use Rattle.xs_flat.specs.Assigned.{times_of, AreTimes, IsItemTold, IsFaultAt, IsPlaceTold}
-use Rattle.xs_flat.specs.Faults.{rule_of, IsFaultOf}
-use Rattle.xs_flat.specs.SceneTree.{number_and_item, items_of_instance, items_at, IsSpot, IsScene, program_of}
+use Rattle.xs_scope.specs.Faults.{rule_of, IsFaultOf}
+use Rattle.xs_scope.specs.SceneTree.{number_and_item, items_of_instance, items_at, IsSpot, IsScene, program_of}
 use Rattle.xs_flat.specs.Verdicts.{IsToldRule, IsFirstAt, IsInstanceTold}
-use Rattle.xs_flat.specs.declared.fault.FlatFault.{FlatFault}
-use Rattle.xs_flat.specs.declared.fault.Rule.{Rule as Code}
+use Rattle.xs_scope.specs.declared.fault.FlatFault.{FlatFault}
+use Rattle.xs_scope.specs.declared.fault.Rule.{Rule as Code}
 use Rattle.xs_flat.specs.declared.judge.Times.{Times}
-use Rattle.xs_flat.specs.declared.names.Scene.{Scene}
+use Rattle.xs_scope.specs.declared.names.Scene.{Scene}
 use Rattle.xs_flat.proofs.JudgePlaces.{HasSpot, has_spot}
 use Rattle.xs_flat.proofs.JudgeLists.{none_some, some_same}
-
--- A list at a place.
-take_at : {A : Type 0} (xs : List A) (k : ℕ) (x : A) → slice_get xs k ≡ Some x → take (suc k) xs ≡ take k xs ++ x ∷ []
-take_at [] k x e = absurd (none_some x e)
-take_at (y ∷ xs) zero x e = ap (λ z. z ∷ []) (some_same y x e)
-take_at (y ∷ xs) (suc k) x e = ap (λ ys. y ∷ ys) (take_at xs k x e)
+use Rattle.xs_flat.proofs.BuildLoops.{many_spots}
+use Rattle.xs_scope.proofs.NamingItems.{take_there}
 
 next_take : {A : Type 0} (xs : List A) (k : ℕ) (x : A) → slice_get xs k ≡ Some x → take (k + 1) xs ≡ take k xs ++ x ∷ []
-next_take xs k x e = let one : k + 1 ≡ suc k = omega arith in ap (λ n. take n xs) one ∙ take_at xs k x e
+next_take xs k x e = let one : k + 1 ≡ suc k = omega arith in ap (λ n. take n xs) one ∙ take_there xs k x e
 
 split_at : {A : Type 0} (xs : List A) (k : ℕ) (x : A) → slice_get xs k ≡ Some x → (after : List A) × (xs ≡ take k xs ++ x ∷ after)
 split_at [] k x e = absurd (none_some x e)
@@ -181,15 +177,6 @@ sites_of p ats = flat_map (λ (at : FlatInstance). map (a_use at) (items_named p
 
 abbrev pub InstancesSoFar : ProgramTree → ℕ → Type 0
 InstancesSoFar p spot = Each (IsKept p) (sites_of p (take spot (instances_of p)))
-
-both_length : {A B : Type 0} (R : A → B → Type 0) (xs : List A) (ys : List B) → EachBoth R xs ys → length xs ≡ length ys
-both_length R [] [] h = refl
-both_length R [] (y ∷ ys) h = absurd h
-both_length R (x ∷ xs) [] h = absurd h
-both_length R (x ∷ xs) (y ∷ ys) h = ap (λ n. suc n) (both_length R xs ys h.1)
-
-pub many_spots : (s : Scene) → IsScene s → length (instances_of (program_of s)) ≡ length s.spots.items
-many_spots s scene = both_length (IsSpot (program_of s)) (instances_of (program_of s)) s.spots.items scene.set.spots
 
 sites_joined : (p : ProgramTree) (xs ys : List FlatInstance) → sites_of p (xs ++ ys) ≡ sites_of p xs ++ sites_of p ys
 sites_joined p [] ys = refl

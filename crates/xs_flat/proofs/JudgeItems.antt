@@ -7,11 +7,11 @@ use Rattle.xs_flattening.specs.Flat.{FlatInstance}
 use Rattle.xs_flattening.specs.Items.{Item, a_declaration, a_definition, some_constants, an_init, an_invar, a_trans, NumberedItem, instances_of}
 use Rattle.xs_flattening.specs.Resolved.{has_next}
 use Rattle.xs_flattening.specs.Rules.{Rule, number_of, no_main, main_has_parameters, double_module, double_name, no_such_module, wrong_count, module_loop, no_such_name, not_a_target, double_assign, define_loop, next_here, input_here, too_many, a_use, BreaksNames, BreaksTarget, BreaksOnce, BreaksLoops, BreaksInputs, breaks_next, BreaksAtUse, IsKept, NeedsItself, next_under_next}
-use Rattle.xs_flat.specs.Faults.{first_of}
+use Rattle.xs_scope.specs.Faults.{first_of}
 use Rattle.xs_flat.specs.Judging.{IsJudged}
 use Rattle.xs_flat.specs.Verdicts.{IsTold, IsToldOf}
-use Rattle.xs_flat.specs.declared.fault.Rule.{Rule as Code}
-use Rattle.xs_flat.specs.declared.fault.Rule.TheVariants as code
+use Rattle.xs_scope.specs.declared.fault.Rule.{Rule as Code}
+use Rattle.xs_scope.specs.declared.fault.Rule.TheVariants as code
 use Rattle.xs_flat.specs.declared.judge.Judged.{Judged}
 
 -- What an item keeps of the rules below a number.

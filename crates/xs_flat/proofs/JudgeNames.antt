@@ -14,33 +14,29 @@ use Rattle.xs_flattening.proofs.Places.{Real, has_main}
 use Rattle.xs_flattening.proofs.Resolving.{same_meaning}
 use Rattle.xs_flattening.proofs.Variables.{both_at}
 use Rattle.xs_flattening.proofs.Walkable.{main_is_there}
-use Rattle.xs_flat.specs.ModelTree.{role_of}
-use Rattle.xs_flat.specs.SceneTree.{Denotes, IsFound}
-use Rattle.xs_flat.specs.NeedsTree.{AreNeeds, KeyReadsInput, HasInput, HasCircle, keys_of}
+use Rattle.xs_scope.specs.ModelTree.{role_of}
+use Rattle.xs_scope.specs.SceneTree.{Denotes, IsFound}
+use Rattle.xs_scope.specs.NeedsTree.{AreNeeds, KeyReadsInput, HasInput, HasCircle, keys_of}
 use Rattle.xs_flat.specs.Verdicts.{is_without_value, mark_or, mark_at, is_input_found, is_circle_found}
-use Rattle.xs_flat.specs.declared.model.Role.TheVariants.{State, Input, Frozen}
-use Rattle.xs_flat.specs.declared.needs.Needs.{Needs}
-use Rattle.xs_flat.specs.declared.walk.Meaning.{Meaning as Found}
-use Rattle.xs_flat.specs.declared.walk.Meaning.TheVariants as found
+use Rattle.xs_scope.specs.declared.model.Role.TheVariants.{State, Input, Frozen}
+use Rattle.xs_scope.specs.declared.needs.Needs.{Needs}
+use Rattle.xs_scope.specs.declared.walk.Meaning.{Meaning as Found}
+use Rattle.xs_scope.specs.declared.walk.Meaning.TheVariants as found
 use Rattle.xs_flat.proofs.JudgeLists.{none_some, some_same, never}
-
-pub one_meaning : (p : ProgramTree) (at : Place) (name : Path) (a b : Meaning) → Means p at name a → Means p at name b → a ≡ b
-one_meaning p at name a b h k = same_meaning h.0 k.0 p at name a b h.1 k.1
+use Rattle.xs_scope.proofs.KeyLaws.{same_means, get_map}
+use Rattle.xs_scope.proofs.LookFound.{no_loop_meant}
 
 pub not_nothing : (p : ProgramTree) (at : Place) (name : Path) (m : Meaning) → Means p at name m → MeansNothing p at name → ⊥
 not_nothing p at name m h k = none_some m (sym (k.no_meaning h.0) ∙ h.1)
 
-pub not_loop : (p : ProgramTree) (at : Place) (name : Path) (m : Meaning) → Means p at name m → MeetsLoop p at name → ⊥
-not_loop p at name m h k = none_some m (sym (meets_loop_nothing p at name k h.0) ∙ h.1)
-
 -- what means something else than an instance has a value
 has_value : (p : ProgramTree) (at : Place) (name : Path) (m : Meaning) → Means p at name m → ((inside : Place) → m ≡ an_instance_at inside → ⊥) → HasNoValue p at name → ⊥
 has_value p at name m h other (nothing k) = not_nothing p at name m h k
-has_value p at name m h other (only_an_instance inside k) = other inside (one_meaning p at name m (an_instance_at inside) h k)
+has_value p at name m h other (only_an_instance inside k) = other inside (same_means p at name m (an_instance_at inside) h k)
 
 loop_has_value : (p : ProgramTree) (at : Place) (name : Path) → MeetsLoop p at name → HasNoValue p at name → ⊥
 loop_has_value p at name h (nothing k) = k.no_loop h
-loop_has_value p at name h (only_an_instance inside k) = not_loop p at name (an_instance_at inside) k h
+loop_has_value p at name h (only_an_instance inside k) = no_loop_meant p at name (an_instance_at inside) k h
 
 instance_has_none : (p : ProgramTree) (at : Place) (name : Path) (k : ℕ) (m : Meaning) → Means p at name m → Denotes p (found.Instance k) m → HasNoValue p at name
 instance_has_none p at name k (an_instance_at inside) h d = only_an_instance inside h
@@ -105,11 +101,6 @@ found_kind p walkable k role at x d =
           (subst (λ y. kind_at (module_at p d.0.place) y ≡ a_variable (role_of role) r.what) d.3 (r.kind ∙ ap (λ q. a_variable q r.what) d.4)),
     )
 
-get_map : {A B : Type 0} (f : A → B) (xs : List A) (k : ℕ) (x : A) → slice_get xs k ≡ Some x → slice_get (map f xs) k ≡ Some (f x)
-get_map f [] k x e = absurd (none_some x e)
-get_map f (y ∷ xs) zero x e = ap (λ z. Some (f z)) (some_same y x e)
-get_map f (y ∷ xs) (suc k) x e = get_map f xs k x e
-
 -- The marks of a definition.
 mark_of : (R : Key → Bool → Type 0) (p : ProgramTree) (marks : List Bool) → EachBoth R (keys_of p) marks → (k : ℕ) (key : Key) (at : Place) (e : Formula) →
     Denotes p (found.Definition k) (an_expression_at key at e) → R key (mark_at marks k)
@@ -148,16 +139,16 @@ read_key p at name r = record { steps = r.steps; last = r.last; leads = r.leads;
 -- what means neither a variable nor an expression gives no input
 no_input : (p : ProgramTree) (at : Place) (name : Path) (m : Meaning) → Means p at name m → ((place : Place) (x : Text) → m ≡ a_variable_at place x → ⊥) →
     ((key : Key) (place : Place) (e : Formula) → m ≡ an_expression_at key place e → ⊥) → GivesInput p at name → ⊥
-no_input p at name m h f g (inl v) = f v.0 v.1 (one_meaning p at name m (a_variable_at v.0 v.1) h v.2)
-no_input p at name m h f g (inr r) = g r.first r.place r.written (one_meaning p at name m (an_expression_at r.first r.place r.written) h r.means)
+no_input p at name m h f g (inl v) = f v.0 v.1 (same_means p at name m (a_variable_at v.0 v.1) h v.2)
+no_input p at name m h f g (inr r) = g r.first r.place r.written (same_means p at name m (an_expression_at r.first r.place r.written) h r.means)
 
 nothing_gives_none : (p : ProgramTree) (at : Place) (name : Path) → MeansNothing p at name → GivesInput p at name → ⊥
 nothing_gives_none p at name h (inl v) = not_nothing p at name (a_variable_at v.0 v.1) v.2 h
 nothing_gives_none p at name h (inr r) = not_nothing p at name (an_expression_at r.first r.place r.written) r.means h
 
 loop_gives_none : (p : ProgramTree) (at : Place) (name : Path) → MeetsLoop p at name → GivesInput p at name → ⊥
-loop_gives_none p at name h (inl v) = not_loop p at name (a_variable_at v.0 v.1) v.2 h
-loop_gives_none p at name h (inr r) = not_loop p at name (an_expression_at r.first r.place r.written) r.means h
+loop_gives_none p at name h (inl v) = no_loop_meant p at name (a_variable_at v.0 v.1) v.2 h
+loop_gives_none p at name h (inr r) = no_loop_meant p at name (an_expression_at r.first r.place r.written) r.means h
 
 instance_gives_none : (p : ProgramTree) (at : Place) (name : Path) (k : ℕ) (m : Meaning) → Means p at name m → Denotes p (found.Instance k) m → GivesInput p at name → ⊥
 instance_gives_none p at name k (an_instance_at inside) h d = no_input p at name (an_instance_at inside) h (λ place x e. cc) (λ key place f e. cc)
@@ -181,10 +172,10 @@ same_text_of a b x y e = cc
 variable_gives : (p : ProgramTree) (at : Place) (name : Path) (place : Place) (x : Text) → Means p at name (a_variable_at place x) →
     GivesInput p at name → IsTrue (is_input_kind (kind_at (module_at p place) x))
 variable_gives p at name place x h (inl v) =
-    let same : a_variable_at v.0 v.1 ≡ a_variable_at place x = one_meaning p at name (a_variable_at v.0 v.1) (a_variable_at place x) v.2 h in
+    let same : a_variable_at v.0 v.1 ≡ a_variable_at place x = same_means p at name (a_variable_at v.0 v.1) (a_variable_at place x) v.2 h in
     subst (λ a. IsTrue (is_input_kind (kind_at (module_at p a) x))) (same_place_of v.0 place v.1 x same)
     (subst (λ y. IsTrue (is_input_kind (kind_at (module_at p v.0) y))) (same_text_of v.0 place v.1 x same) v.3)
-variable_gives p at name place x h (inr r) = absurd (other r.first r.place r.written (one_meaning p at name (a_variable_at place x) (an_expression_at r.first r.place r.written) h r.means))
+variable_gives p at name place x h (inr r) = absurd (other r.first r.place r.written (same_means p at name (a_variable_at place x) (an_expression_at r.first r.place r.written) h r.means))
   where
     other : (key : Key) (b : Place) (e : Formula) → a_variable_at place x ≡ an_expression_at key b e → ⊥
     other key b e same = cc
@@ -227,9 +218,9 @@ definition_input p n needs at name k (an_expression_at key place e) h d = (λ t.
     other b x same = cc
 
     back : GivesInput p at name → is_input_found n (found.Definition k) ≡ true
-    back (inl v) = absurd (other v.0 v.1 (one_meaning p at name (an_expression_at key place e) (a_variable_at v.0 v.1) h v.2))
+    back (inl v) = absurd (other v.0 v.1 (same_means p at name (an_expression_at key place e) (a_variable_at v.0 v.1) h v.2))
     back (inr r) = law.1 (subst (KeyReadsInput p) (same_key r.first key r.place place r.written e
-        (one_meaning p at name (an_expression_at r.first r.place r.written) (an_expression_at key place e) r.means h)) (read_key p at name r))
+        (same_means p at name (an_expression_at r.first r.place r.written) (an_expression_at key place e) r.means h)) (read_key p at name r))
 definition_input p n needs at name k (a_variable_at place x) h d = absurd d
 definition_input p n needs at name k (an_instance_at inside) h d = absurd d
 definition_input p n needs at name k (a_symbol x) h d = absurd d

@@ -13,22 +13,20 @@ use Rattle.xs_flattening.specs.Rules.{a_header, an_item, visit_sites, double_nam
 use Rattle.xs_flattening.specs.Model.{EachBoth}
 use Rattle.xs_flattening.proofs.Conditions.{each_at, each_flat}
 use Rattle.xs_flattening.proofs.Lists.{each_more}
-use Rattle.xs_flattening.proofs.KindLaws.{ItemFacts, kind_of_declaration}
+use Rattle.xs_flattening.proofs.KindLaws.{ItemFacts, kind_of_declaration, not_true}
 use Rattle.xs_flattening.proofs.Places.{In, facts_named, Walked, in_items, found_at, walked, are_instances}
 use Rattle.xs_flattening.proofs.Variables.{both_at}
 use Rattle.xs_flattening.proofs.Walkable.{main_is_there}
-use Rattle.xs_flat.specs.FoundAt.{own_in, own_at, found_or, formal_in, formal_or, formal_at}
-use Rattle.xs_flat.specs.SceneTree.{IsCalled, IsSpot, IsOwn, IsKnown, AreKnown, formals_of, IsScene, program_of}
+use Rattle.xs_scope.specs.FoundAt.{own_in, own_at, found_or, formal_in, formal_or, formal_at}
+use Rattle.xs_scope.specs.SceneTree.{IsCalled, IsSpot, IsOwn, IsKnown, AreKnown, formals_of, IsScene, program_of}
 use Rattle.xs_flat.specs.Verdicts.{IsHanded}
-use Rattle.xs_flat.specs.declared.names.Formal.{Formal}
-use Rattle.xs_flat.specs.declared.names.Scene.{Scene}
-use Rattle.xs_flat.specs.declared.walk.Meaning.{Meaning as Found}
-use Rattle.xs_flat.specs.declared.walk.Spot.{Spot}
+use Rattle.xs_scope.specs.declared.names.Formal.{Formal}
+use Rattle.xs_scope.specs.declared.names.Scene.{Scene}
+use Rattle.xs_scope.specs.declared.walk.Meaning.{Meaning as Found}
+use Rattle.xs_scope.specs.declared.walk.Spot.{Spot}
 use Rattle.xs_flat.proofs.JudgeLists.{none_some, some_same}
-
-not_true : (b : Bool) → (b ≡ true → ⊥) → b ≡ false
-not_true true h = absurd (h refl)
-not_true false h = refl
+use Rattle.xs_flat.proofs.BuildRoots.{counts_kept}
+use Rattle.xs_flattening.proofs.Meant.{formals_once}
 
 -- an instance with its module
 pub record HasModule (p : ProgramTree) (at : FlatInstance) : Type 0 where
@@ -90,17 +88,13 @@ visited p walkable at h place i e role d is = record { visit = visit; within = w
     within = w.sub visit (in_items p walkable go (w.name ∷ w.on) at.place visit (items_named p w.name) (length i.before) item.0 item.1
         (subst (λ x. In visit (visits_of go (w.name ∷ w.on) at.place item.0.number x)) (sym item.2) (0, refl)))
 
-counted : (p : ProgramTree) (before vs : List Visit) → Each (IsKept p) (visit_sites before vs) → Each (λ (v : Visit). is_miscounted p v.decl.what ≡ false) vs
-counted p before [] h = tt
-counted p before (v ∷ vs) h = (not_true _ (h.0 wrong_count), counted p (before ++ v ∷ []) vs h.1)
-
 same_count : (p : ProgramTree) → IsWalkable p → (d : DeclTree) → IsVisited p d → (name : Text) (actuals : List Formula) (m : ModuleTree) → d.what ≡ instance name actuals →
     find_module p name ≡ Some m → length actuals ≡ length m.formals
 same_count p walkable d v name actuals m what named = sym (eqb-true (length m.formals) (length actuals) (by_test (nat_eq (length m.formals) (length actuals)) refl))
   where
     right : is_miscounted p d.what ≡ false
     right = subst (λ (x : DeclTree). is_miscounted p x.what ≡ false) v.decl
-        (each_at (λ (v : Visit). is_miscounted p v.decl.what ≡ false) (visits p) v.within.0 v.visit (counted p [] (visits p) walkable.visits) v.within.1)
+        (each_at (λ (v : Visit). is_miscounted p v.decl.what ≡ false) (visits p) v.within.0 v.visit (counts_kept p [] (visits p) walkable.visits) v.within.1)
 
     test : opposite (nat_eq (length m.formals) (length actuals)) ≡ false
     test = sym (ap (λ o. is_other_count o (length actuals)) named) ∙ sym (ap (is_miscounted p) what) ∙ right
@@ -121,13 +115,6 @@ found_in P (first ∷ more) n before x m e h = by_name (same_text first.name x) 
     by_name : (b : Bool) → same_text first.name x ≡ b → (find_module more x ≡ Some m → P m) → P m
     by_name true t rest = subst P (some_same first m (sym (ap (λ b. if b then Some first else find_module more x) t) ∙ e)) h.0
     by_name false t rest = rest (sym (ap (λ b. if b then Some first else find_module more x) t) ∙ e)
-
-no_twice : (p : ProgramTree) → IsWalkable p → (x : Text) (m : ModuleTree) → find_module p x ≡ Some m → has_twice m.formals ≡ false
-no_twice p walkable x m e =
-    found_in (λ (k : ModuleTree). has_twice k.formals ≡ false) p 1 [] x m e
-    (each_more (λ (k : NumberedModule). Each (IsKept p) (a_header k ∷ map (an_item k) (numbered_items k))) (λ (k : NumberedModule). has_twice k.tree.formals ≡ false) (modules_of p)
-    (λ (k : NumberedModule) h. not_true _ (h.0 double_name))
-    ((each_flat (IsKept p) (λ k. a_header k ∷ map (an_item k) (numbered_items k)) (modules_of p)).0 walkable.modules))
 
 -- The spot of an instance.
 pub record HasSpot (s : Scene) (k : ℕ) (at : FlatInstance) : Type 0 where
@@ -205,5 +192,5 @@ handed s scene k at e place i item role x name actuals is inner inside inside_is
       count = same_count (program_of s) walkable (record { name = x; what = instance name actuals })
           (visited (program_of s) walkable at own_module place i item role (record { name = x; what = instance name actuals }) is) inside.module_name actuals inner_module.tree
           (ap (λ n. instance n actuals) same) inner_module.named;
-      apart = no_twice (program_of s) walkable inside.module_name inner_module.tree inner_module.named;
+      apart = formals_once (program_of s) walkable inside.module_name inner_module.tree inner_module.named;
     }

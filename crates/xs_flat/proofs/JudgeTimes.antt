@@ -9,26 +9,15 @@ use Rattle.xs_tree.specs.declared.program.Moment.TheVariants.{Always, First, Aft
 use Rattle.xs_tree.specs.ProgramTree.{Text, Path, AssignmentTree}
 use Rattle.xs_tree.specs.Texts.{same_text}
 use Rattle.xs_tree.specs.Trace.{AtSome}
-use Rattle.xs_tree.proofs.ValueLaws.{same_text_refl, same_text_equal}
+use Rattle.xs_tree.proofs.ValueLaws.{same_text_refl}
 use Rattle.xs_flattening.specs.Items.{Item, a_declaration, a_definition, an_assignment, some_constants, an_init, an_invar, a_trans}
 use Rattle.xs_flattening.specs.Rules.{at_one_time, Assigns}
 use Rattle.xs_flat.specs.Assigned.{is_always, is_first, is_after, no_times, with_moment, is_met, is_only, assigns_at, some_assigns, times_in, times_of, AreTimes}
 use Rattle.xs_flat.specs.declared.judge.Times.{Times}
-
--- The table as a map.
-turned : (x y : ℕ) → nat_eq x y ≡ nat_eq y x
-turned x y = by_tests (nat_eq x y) (nat_eq y x) refl refl
-  where
-    by_tests : (a b : Bool) → nat_eq x y ≡ a → nat_eq y x ≡ b → nat_eq x y ≡ nat_eq y x
-    by_tests true b e f = e ∙ sym (eq-eqb y x (sym (eqb-true x y e)))
-    by_tests false true e f = eq-eqb x y (sym (eqb-true y x f)) ∙ sym f
-    by_tests false false e f = e ∙ sym f
-
-same_bytes : (x y : List ℕ) → pointwise nat_eq x y ≡ same_text y x
-same_bytes [] [] = refl
-same_bytes [] (d ∷ ds) = refl
-same_bytes (c ∷ cs) [] = refl
-same_bytes (c ∷ cs) (d ∷ ds) = rw (turned c d, same_bytes cs ds) refl
+use Rattle.xs_scope.proofs.SymbolKinds.{grouped}
+use Rattle.xs_scope.proofs.SymbolLaws.{same_bytes}
+use Rattle.xs_lexer.proofs.SignLemmas.{both_true}
+use Rattle.xs_tree.proofs.OneTree.{same_text_equal}
 
 abbrev pub times_or : Option Times → Times
 times_or None = no_times
@@ -86,13 +75,9 @@ or_false : (b : Bool) → (b || false) ≡ b
 or_false true = refl
 or_false false = refl
 
-or_more : (a b c : Bool) → ((a || b) || c) ≡ (a || (b || c))
-or_more true b c = refl
-or_more false b c = refl
-
 assigns_more : (test : Moment → Bool) (x : Text) (is : List Item) (i : Item) → some_assigns test x (is ++ i ∷ []) ≡ (some_assigns test x is || assigns_at test x i)
 assigns_more test x [] i = or_false (assigns_at test x i)
-assigns_more test x (j ∷ is) i = ap (λ b. assigns_at test x j || b) (assigns_more test x is i) ∙ sym (or_more (assigns_at test x j) (some_assigns test x is) (assigns_at test x i))
+assigns_more test x (j ∷ is) i = ap (λ b. assigns_at test x j || b) (assigns_more test x is i) ∙ sym (grouped (assigns_at test x j) (some_assigns test x is) (assigns_at test x i))
 
 abbrev times : Bool → Bool → Bool → Times
 times a b c = record { always = a; first = b; after = c }
@@ -221,10 +206,6 @@ only_this : (p : Path) (x : Text) → is_only p x ≡ true → p ≡ x ∷ []
 only_this [] x e = cc
 only_this (y ∷ []) x e = ap (λ z. z ∷ []) (same_text_equal y x e)
 only_this (y ∷ (z ∷ rest)) x e = cc
-
-both_true : (a b : Bool) → (a && b) ≡ true → (a ≡ true) × (b ≡ true)
-both_true true b e = (refl, e)
-both_true false b e = cc
 
 assigned_before : (a : AssignmentTree) (x : Text) → a.target ≡ x ∷ [] → (is : List Item) → (some_assigns (speaks_at a.when) x is ≡ true) ↔ AtSome (Assigns a) is
 assigned_before a x target [] = (λ e. absurd (differ e), λ h. absurd h)

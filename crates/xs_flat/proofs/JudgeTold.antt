@@ -13,24 +13,24 @@ use Rattle.xs_flattening.specs.Flat.{FlatInstance}
 use Rattle.xs_flattening.specs.Items.{Item, a_declaration, a_definition, an_assignment, some_constants, an_init, an_invar, a_trans, NumberedItem, items_named, instances_of}
 use Rattle.xs_flattening.specs.Rules.{a_use}
 use Rattle.xs_flat.specs.Assigned.{IsItemTold}
-use Rattle.xs_flat.specs.Faults.{first_of}
-use Rattle.xs_flat.specs.FoundAt.{own_at}
-use Rattle.xs_flat.specs.ItemTree.{item_tree}
-use Rattle.xs_flat.specs.ModelTree.{role_of}
-use Rattle.xs_flat.specs.NeedsTree.{AreNeeds, HasCircle}
-use Rattle.xs_flat.specs.SceneTree.{Denotes, meaning_of_item, IsOwnMeaning, IsScene, program_of}
+use Rattle.xs_scope.specs.Faults.{first_of}
+use Rattle.xs_scope.specs.FoundAt.{own_at}
+use Rattle.xs_scope.specs.ItemTree.{item_tree}
+use Rattle.xs_scope.specs.ModelTree.{role_of}
+use Rattle.xs_scope.specs.NeedsTree.{AreNeeds, HasCircle}
+use Rattle.xs_scope.specs.SceneTree.{Denotes, meaning_of_item, IsOwnMeaning, IsScene, program_of}
 use Rattle.xs_flat.specs.Verdicts.{is_circle_found, IsTold, IsToldOf, IsToldHere, AreActuals, instance_in, IsHanded, JudgesActuals}
-use Rattle.xs_flat.specs.declared.fault.Rule.{Rule as Code}
-use Rattle.xs_flat.specs.declared.fault.Rule.TheVariants as code
-use Rattle.xs_flat.specs.declared.items.Item.{Item as ItemCode}
-use Rattle.xs_flat.specs.declared.items.Item.TheVariants as items
+use Rattle.xs_scope.specs.declared.fault.Rule.{Rule as Code}
+use Rattle.xs_scope.specs.declared.fault.Rule.TheVariants as code
+use Rattle.xs_scope.specs.declared.items.Item.{Item as ItemCode}
+use Rattle.xs_scope.specs.declared.items.Item.TheVariants as items
 use Rattle.xs_flat.specs.declared.judge.Judged.{Judged}
 use Rattle.xs_flat.specs.declared.judge.JudgedActual.{JudgedActual}
 use Rattle.xs_flat.specs.declared.judge.Times.{Times}
-use Rattle.xs_flat.specs.declared.names.Scene.{Scene}
-use Rattle.xs_flat.specs.declared.needs.Needs.{Needs}
-use Rattle.xs_flat.specs.declared.walk.Meaning.{Meaning as Found}
-use Rattle.xs_flat.specs.declared.walk.Meaning.TheVariants as found
+use Rattle.xs_scope.specs.declared.names.Scene.{Scene}
+use Rattle.xs_scope.specs.declared.needs.Needs.{Needs}
+use Rattle.xs_scope.specs.declared.walk.Meaning.{Meaning as Found}
+use Rattle.xs_scope.specs.declared.walk.Meaning.TheVariants as found
 use Rattle.xs_flat.proofs.JudgeNames.{definition_circles}
 use Rattle.xs_flat.proofs.JudgeItems.{Judges, constants_told, definition_told, is_variable_declared, variable_told}
 use Rattle.xs_flat.proofs.JudgeHanded.{actuals_told}

@@ -9,15 +9,15 @@ use Rattle.xs_flattening.specs.Flat.{FlatInstance}
 use Rattle.xs_flattening.specs.Items.{instances_of}
 use Rattle.xs_flattening.specs.Resolved.{has_next}
 use Rattle.xs_flattening.specs.Rules.{HasNoValue, GivesInput, IsWalkable, next_under_next}
-use Rattle.xs_flat.specs.SceneTree.{IsFound, IsScene, program_of}
-use Rattle.xs_flat.specs.NeedsTree.{AreNeeds}
-use Rattle.xs_flat.specs.Flagged.{flagged}
+use Rattle.xs_scope.specs.SceneTree.{IsFound, IsScene, program_of}
+use Rattle.xs_scope.specs.NeedsTree.{AreNeeds}
+use Rattle.xs_scope.specs.Flagged.{flagged}
 use Rattle.xs_flat.specs.Judging.{IsJudged}
 use Rattle.xs_flat.specs.Verdicts.{is_without_value, is_input_found, names_in, names_under, with_flags, AreNoted, AreJudged}
 use Rattle.xs_flat.specs.declared.judge.Judged.{Judged}
-use Rattle.xs_flat.specs.declared.names.Scene.{Scene}
-use Rattle.xs_flat.specs.declared.needs.Needs.{Needs}
-use Rattle.xs_flat.specs.declared.walk.Meaning.{Meaning as Found}
+use Rattle.xs_scope.specs.declared.names.Scene.{Scene}
+use Rattle.xs_scope.specs.declared.needs.Needs.{Needs}
+use Rattle.xs_scope.specs.declared.walk.Meaning.{Meaning as Found}
 use Rattle.xs_flat.proofs.JudgeUses.{flagged_names, flagged_under, under_joined}
 use Rattle.xs_flat.proofs.JudgeNames.{without_value, gives_input}
 

@@ -4,12 +4,12 @@ use Rattle.xs_flattening.specs.Flat.{FlatModel}
 use Rattle.xs_flattening.specs.Rules.{IsAccepted}
 use Rattle.xs_flattening.specs.Model.{IsFlatOf}
 use Rattle.xs_flattening.proofs.OneModel.{one_model}
-use Rattle.xs_flat.specs.declared.fault.Rule.{Rule}
-use Rattle.xs_flat.specs.declared.names.Scene.{Scene}
-use Rattle.xs_flat.specs.declared.needs.Needs.{Needs}
-use Rattle.xs_flat.specs.Faults.{first_of}
-use Rattle.xs_flat.specs.SceneTree.{program_of, IsScene}
-use Rattle.xs_flat.specs.NeedsTree.{AreNeeds}
+use Rattle.xs_scope.specs.declared.fault.Rule.{Rule}
+use Rattle.xs_scope.specs.declared.names.Scene.{Scene}
+use Rattle.xs_scope.specs.declared.needs.Needs.{Needs}
+use Rattle.xs_scope.specs.Faults.{first_of}
+use Rattle.xs_scope.specs.SceneTree.{program_of, IsScene}
+use Rattle.xs_scope.specs.NeedsTree.{AreNeeds}
 use Rattle.xs_flat.proofs.BuildLeaves.{order}
 use Rattle.xs_flat.proofs.BuildUnique.{all_one}
 use Rattle.xs_flat.proofs.OrderedOnce.{keys_differ}

@@ -9,7 +9,7 @@ use Rattle.xs_flattening.specs.Model.{KeysDiffer, Root, roots_of}
 use Rattle.xs_flattening.proofs.Conditions.{each_from}
 use Rattle.xs_flattening.proofs.Variables.{both_at_second}
 use Rattle.xs_flattening.proofs.KeysApart.{one_root}
-use Rattle.xs_flat.specs.NeedsTree.{IsKeyAt, IsOrder}
+use Rattle.xs_scope.specs.NeedsTree.{IsKeyAt, IsOrder}
 
 -- the root of a number, from its key
 root_at : (rs : List Root) (k : ℕ) (key : Key) → slice_get (map (λ (r : Root). r.key) rs) k ≡ Some key → (r : Root) × (slice_get rs k ≡ Some r) × (r.key ≡ key)

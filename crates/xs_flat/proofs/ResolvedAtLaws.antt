@@ -12,31 +12,31 @@ use Rattle.xs_flattening.specs.Items.{Visit, instances_of, variables_of}
 use Rattle.xs_flattening.specs.Rules as rules
 use Rattle.xs_flattening.specs.Rules.{number_of, no_main, main_has_parameters, double_module, double_name, no_such_module, wrong_count, module_loop, no_such_name, not_a_target, double_assign, define_loop, next_here, input_here, too_many, SomeHasNoValue, GivesInput, IsAccepted, expression_of}
 use Rattle.xs_flattening.specs.Model.{EachBoth, symbols_of, IsVariableOf, IsDefinitionOf, IsFlatOf}
-use Rattle.xs_flat.specs.declared.bounds.Bounds.{Bounds}
-use Rattle.xs_flat.specs.declared.fault.Rule.{Rule}
-use Rattle.xs_flat.specs.declared.fault.Rule.TheVariants.{NoSuchName, NextHere, InputHere}
-use Rattle.xs_flat.specs.declared.fault.FlatFault.{FlatFault}
+use Rattle.xs_scope.specs.declared.bounds.Bounds.{Bounds}
+use Rattle.xs_scope.specs.declared.fault.Rule.{Rule}
+use Rattle.xs_scope.specs.declared.fault.Rule.TheVariants.{NoSuchName, NextHere, InputHere}
+use Rattle.xs_scope.specs.declared.fault.FlatFault.{FlatFault}
 use Rattle.xs_flat.specs.declared.judge.Judged.{Judged}
-use Rattle.xs_flat.specs.declared.model.FlatModel.{FlatModel as FlatModelOf}
-use Rattle.xs_flat.specs.declared.names.Scene.{Scene}
-use Rattle.xs_flat.specs.declared.needs.Needs.{Needs}
-use Rattle.xs_flat.specs.Faults.{first_of, rule_of, IsWant}
-use Rattle.xs_flat.specs.Closed.{bounds_of}
-use Rattle.xs_flat.specs.ModelTree.{variable_tree, formula_tree, model_tree}
-use Rattle.xs_flat.specs.SceneTree.{program_of, IsScene}
-use Rattle.xs_flat.specs.NeedsTree.{IsKeyAt, AreNeeds}
-use Rattle.xs_flat.specs.Walked.{IsDeclaredBy}
+use Rattle.xs_scope.specs.declared.model.FlatModel.{FlatModel as FlatModelOf}
+use Rattle.xs_scope.specs.declared.names.Scene.{Scene}
+use Rattle.xs_scope.specs.declared.needs.Needs.{Needs}
+use Rattle.xs_scope.specs.Faults.{first_of, rule_of, IsWant}
+use Rattle.xs_scope.specs.Closed.{bounds_of}
+use Rattle.xs_scope.specs.ModelTree.{variable_tree, formula_tree, model_tree}
+use Rattle.xs_scope.specs.SceneTree.{program_of, IsScene}
+use Rattle.xs_scope.specs.NeedsTree.{IsKeyAt, AreNeeds}
+use Rattle.xs_scope.specs.Walked.{IsDeclaredBy}
 use Rattle.xs_flat.specs.Judging.{IsJudged}
 use Rattle.xs_flat.specs.ResolverOf.{leaf_at, leaf_by, resolver, AreKnown}
 use Rattle.xs_flattening.specs.ValueRules.{BreaksValue, IsLeastBroken}
 use Rattle.xs_flattening.specs.ResolvedAt.{IsResolvedAt}
 use Rattle.xs_flat.specs.ResolvedAt.{IsAt, IsValueFault, IsValueKept}
 use Rattle.xs_flat.proofs.BuildLeaves.{order, bounds_with, value_known}
-use Rattle.xs_flat.proofs.BuildLoops.{both_many}
-use Rattle.xs_flat.proofs.SceneItems.{both_more}
+use Rattle.xs_scope.proofs.SceneItems.{both_more}
 use Rattle.xs_flat.proofs.BuildSound.{definition_of, written_with, definitions, sound, resolver_at}
 use Rattle.xs_flat.proofs.BuildUnique.{all_one}
 use Rattle.xs_flat.proofs.OnlyModel.{second_not}
+use Rattle.xs_scope.proofs.SceneNeeds.{both_size}
 
 -- a definition is what its key stands for
 one_definition : (p : ProgramTree) (d : Definition) → expression_of p d.key ≡ Some (d.place, d.written) → definition_of p d.key ≡ d
@@ -91,16 +91,16 @@ module _ (s : Scene) (n : Needs) (is : IsScene s) (needs : AreNeeds (program_of 
   known_at m spot at a e value = subst (λ b. AreKnown (leaf_at s n spot) b e) same (value_known s n is needs accepted spot at e (there (model_tree m) spot at a) value)
     where
       variables : length (variables_of (program_of s)) ≡ length m.variables
-      variables = both_many (IsVariableOf (model_tree m)) (variables_of (program_of s)) (map variable_tree m.variables) a.flat.variables ∙ length-map m.variables variable_tree
+      variables = both_size (IsVariableOf (model_tree m)) (variables_of (program_of s)) (map variable_tree m.variables) a.flat.variables ∙ length-map m.variables variable_tree
 
       symbols : length (symbols_of (program_of s)) ≡ length m.symbols
       symbols = ap (λ (xs : List Text). length xs) (sym a.flat.symbols)
 
       many : length n.order.items ≡ length m.definitions
       many =
-          both_many (IsKeyAt (program_of s)) n.order.items (order s n is needs accepted).ordered (order s n is needs accepted).each
+          both_size (IsKeyAt (program_of s)) n.order.items (order s n is needs accepted).ordered (order s n is needs accepted).each
           ∙ sym (length-map (order s n is needs accepted).ordered (definition_of (program_of s))) ∙ ap (λ (ds : List Definition). length ds) (sym (written_is (model_tree m) a.flat))
-          ∙ both_many (IsDefinitionOf (program_of s) (model_tree m)) a.flat.written (map formula_tree m.definitions) a.flat.placed ∙ length-map m.definitions formula_tree
+          ∙ both_size (IsDefinitionOf (program_of s) (model_tree m)) a.flat.written (map formula_tree m.definitions) a.flat.placed ∙ length-map m.definitions formula_tree
 
       same : bounds_with (program_of s) (length n.order.items) ≡ bounds_made (length m.variables) (length m.symbols) (length m.definitions)
       same = cc (variables, symbols, many)

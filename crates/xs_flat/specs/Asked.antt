@@ -9,16 +9,16 @@ use Rattle.xs_tree.specs.Trace.{Each}
 use Rattle.xs_flattening.specs.Flat.{FlatLeaf, flat_variable, flat_symbol, flat_definition, FlatInstance}
 use Rattle.xs_flattening.specs.Items.{Item, NumberedItem, items_named}
 use Rattle.xs_flattening.specs.Model.{Condition, plain, now_among, next_among, kept, first_conditions, each_conditions, step_conditions, kept_conditions}
-use Rattle.xs_flat.specs.ModelTree.{place_of}
-use Rattle.xs_flat.specs.SceneTree.{program_of, items_at}
+use Rattle.xs_scope.specs.ModelTree.{place_of}
+use Rattle.xs_scope.specs.SceneTree.{program_of, items_at}
 use Rattle.xs_flat.specs.ResolverOf.{leaf_at, told_tree, asked_tree, AreKnown, IsKnown}
-use Rattle.xs_flat.specs.declared.bounds.Bounds.{Bounds}
-use Rattle.xs_flat.specs.declared.model.Formula.{Formula as FormulaOf}
-use Rattle.xs_flat.specs.declared.modules.Names.{Names}
-use Rattle.xs_flat.specs.declared.walk.Spot.{Spot}
-use Rattle.xs_flat.specs.declared.names.Defined.{Defined}
-use Rattle.xs_flat.specs.declared.names.Scene.{Scene}
-use Rattle.xs_flat.specs.declared.needs.Needs.{Needs}
+use Rattle.xs_scope.specs.declared.bounds.Bounds.{Bounds}
+use Rattle.xs_scope.specs.declared.model.Formula.{Formula as FormulaOf}
+use Rattle.xs_scope.specs.declared.modules.Names.{Names}
+use Rattle.xs_scope.specs.declared.walk.Spot.{Spot}
+use Rattle.xs_scope.specs.declared.names.Defined.{Defined}
+use Rattle.xs_scope.specs.declared.names.Scene.{Scene}
+use Rattle.xs_scope.specs.declared.needs.Needs.{Needs}
 use Rattle.xs_flat.specs.declared.build.Asked.{Asked}
 use Rattle.xs_flat.specs.declared.build.Asked.TheVariants as asked
 use Rattle.xs_flat.specs.declared.build.Clause.{Clause}

@@ -8,20 +8,20 @@ use Rattle.xs_tree.specs.Texts.{same_text}
 use Rattle.xs_flattening.specs.Flat.{FlatInstance}
 use Rattle.xs_flattening.specs.Items.{Item, NumberedItem, items_named, instances_of, a_declaration, a_definition, an_assignment, some_constants, an_init, an_invar, a_trans}
 use Rattle.xs_flattening.specs.Rules.{Site, item_of, a_use}
-use Rattle.xs_flat.specs.Faults.{first_of}
-use Rattle.xs_flat.specs.FoundAt.{local_at, own_at}
+use Rattle.xs_scope.specs.Faults.{first_of}
+use Rattle.xs_scope.specs.FoundAt.{local_at, own_at}
 use Rattle.xs_flat.specs.Verdicts.{IsTold}
-use Rattle.xs_flat.specs.declared.fault.FlatFault.{FlatFault}
-use Rattle.xs_flat.specs.declared.fault.Rule.{Rule}
-use Rattle.xs_flat.specs.declared.fault.Rule.TheVariants.{NoSuchName, DoubleAssign, NextHere, InputHere}
+use Rattle.xs_scope.specs.declared.fault.FlatFault.{FlatFault}
+use Rattle.xs_scope.specs.declared.fault.Rule.{Rule}
+use Rattle.xs_scope.specs.declared.fault.Rule.TheVariants.{NoSuchName, DoubleAssign, NextHere, InputHere}
 use Rattle.xs_flat.specs.declared.judge.Judged.{Judged}
 use Rattle.xs_flat.specs.declared.judge.Times.{Times}
-use Rattle.xs_flat.specs.declared.model.Role.TheVariants.{State, Input, Frozen}
-use Rattle.xs_flat.specs.declared.modules.Local.{Local}
-use Rattle.xs_flat.specs.declared.modules.Local.TheVariants as local
-use Rattle.xs_flat.specs.declared.names.Scene.{Scene}
-use Rattle.xs_flat.specs.declared.walk.Meaning.{Meaning as Found}
-use Rattle.xs_flat.specs.declared.walk.Meaning.TheVariants as found
+use Rattle.xs_scope.specs.declared.model.Role.TheVariants.{State, Input, Frozen}
+use Rattle.xs_scope.specs.declared.modules.Local.{Local}
+use Rattle.xs_scope.specs.declared.modules.Local.TheVariants as local
+use Rattle.xs_scope.specs.declared.names.Scene.{Scene}
+use Rattle.xs_scope.specs.declared.walk.Meaning.{Meaning as Found}
+use Rattle.xs_scope.specs.declared.walk.Meaning.TheVariants as found
 
 -- what an own name of an instance means there; a formal is nothing of its own
 abbrev pub meant_by : Scene → ℕ → Option Local → Found

@@ -6,8 +6,8 @@ use Rattle.xs_flattening.specs.Flat.{FlatInstance, FlatModel}
 use Rattle.xs_flattening.specs.Rules.{Rule, IsAccepted}
 use Rattle.xs_flattening.specs.ValueRules.{BreaksValue, IsLeastBroken}
 use Rattle.xs_flattening.specs.Model.{IsFlatOf}
-use Rattle.xs_flat.specs.declared.fault.FlatFault.{FlatFault}
-use Rattle.xs_flat.specs.Faults.{rule_of}
+use Rattle.xs_scope.specs.declared.fault.FlatFault.{FlatFault}
+use Rattle.xs_scope.specs.Faults.{rule_of}
 
 -- the model is the accepted program's, and the instance is one of it
 pub record IsAt (p : ProgramTree) (m : FlatModel) (number : ℕ) (at : FlatInstance) : Type 0 where

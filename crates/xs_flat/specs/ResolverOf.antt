@@ -10,15 +10,15 @@ use Rattle.xs_flattening.specs.Flat.{FlatLeaf, flat_variable, flat_symbol, flat_
 use Rattle.xs_flattening.specs.Items.{instances_of}
 use Rattle.xs_flattening.specs.Resolved.{Resolver}
 use Rattle.xs_flattening.specs.Model.{same_place}
-use Rattle.xs_flat.specs.ModelTree.{flat_tree}
-use Rattle.xs_flat.specs.SceneTree.{program_of}
-use Rattle.xs_flat.specs.FoundAt.{found_at}
-use Rattle.xs_flat.specs.declared.bounds.Bounds.{Bounds}
-use Rattle.xs_flat.specs.declared.model.Flat.{Flat}
-use Rattle.xs_flat.specs.declared.walk.Meaning.{Meaning as Found}
-use Rattle.xs_flat.specs.declared.walk.Meaning.TheVariants as found
-use Rattle.xs_flat.specs.declared.names.Scene.{Scene}
-use Rattle.xs_flat.specs.declared.needs.Needs.{Needs}
+use Rattle.xs_scope.specs.ModelTree.{flat_tree}
+use Rattle.xs_scope.specs.SceneTree.{program_of}
+use Rattle.xs_scope.specs.FoundAt.{found_at}
+use Rattle.xs_scope.specs.declared.bounds.Bounds.{Bounds}
+use Rattle.xs_scope.specs.declared.model.Flat.{Flat}
+use Rattle.xs_scope.specs.declared.walk.Meaning.{Meaning as Found}
+use Rattle.xs_scope.specs.declared.walk.Meaning.TheVariants as found
+use Rattle.xs_scope.specs.declared.names.Scene.{Scene}
+use Rattle.xs_scope.specs.declared.needs.Needs.{Needs}
 
 -- a definition has its place in the order as its number
 abbrev pub leaf_placed : Option ℕ → Option FlatLeaf

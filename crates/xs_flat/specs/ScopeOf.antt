@@ -2,8 +2,8 @@
 use Rattle.std.specs.Prelude.{◌≡◌}
 use Rattle.xs_tree.specs.ProgramTree.{ProgramTree}
 use Rattle.xs_flat.specs.declared.flattening.Scope.{Scope}
-use Rattle.xs_flat.specs.SceneTree.{program_of, IsScene}
-use Rattle.xs_flat.specs.NeedsTree.{AreNeeds}
+use Rattle.xs_scope.specs.SceneTree.{program_of, IsScene}
+use Rattle.xs_scope.specs.NeedsTree.{AreNeeds}
 
 -- the tables of the program, and the needs of its definitions
 pub record IsScopeOf (p : ProgramTree) (s : Scope) : Type 0 where

@@ -11,17 +11,17 @@ use Rattle.xs_flattening.specs.Items.{Item, NumberedItem, items_named, instances
 use Rattle.xs_flattening.specs.Resolved.{has_next}
 use Rattle.xs_flattening.specs.Rules as rules
 use Rattle.xs_flattening.specs.Rules.{ActualHasNoMeaning, ActualLoops, SomeActualLoops, some_has_next, has_twice, HasNoValue, GivesInput, Site, item_of, a_use, number_of, Breaks, IsKept}
-use Rattle.xs_flat.specs.Faults.{rule_of}
-use Rattle.xs_flat.specs.declared.fault.FlatFault.{FlatFault}
-use Rattle.xs_flat.specs.declared.fault.Rule.{Rule}
+use Rattle.xs_scope.specs.Faults.{rule_of}
+use Rattle.xs_scope.specs.declared.fault.FlatFault.{FlatFault}
+use Rattle.xs_scope.specs.declared.fault.Rule.{Rule}
 use Rattle.xs_flat.specs.declared.judge.Judged.{Judged}
 use Rattle.xs_flat.specs.declared.judge.JudgedActual.{JudgedActual}
-use Rattle.xs_flat.specs.declared.model.Role.TheVariants.{State, Input, Frozen}
-use Rattle.xs_flat.specs.declared.names.Formal.{Formal}
-use Rattle.xs_flat.specs.declared.names.Formal.TheVariants as known
-use Rattle.xs_flat.specs.declared.needs.Needs.{Needs}
-use Rattle.xs_flat.specs.declared.walk.Meaning.{Meaning as Found}
-use Rattle.xs_flat.specs.declared.walk.Meaning.TheVariants as found
+use Rattle.xs_scope.specs.declared.model.Role.TheVariants.{State, Input, Frozen}
+use Rattle.xs_scope.specs.declared.names.Formal.{Formal}
+use Rattle.xs_scope.specs.declared.names.Formal.TheVariants as known
+use Rattle.xs_scope.specs.declared.needs.Needs.{Needs}
+use Rattle.xs_scope.specs.declared.walk.Meaning.{Meaning as Found}
+use Rattle.xs_scope.specs.declared.walk.Meaning.TheVariants as found
 
 -- a name with this meaning has no value
 abbrev pub is_without_value : Found → Bool

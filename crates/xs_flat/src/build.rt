@@ -10,31 +10,31 @@ ghost use Rattle.xs_tree.specs.declared.program.Moment.TheVariants.{Always, Firs
 ghost use Rattle.xs_flattening.specs.Items.{instances_of};
 ghost use Rattle.xs_flattening.specs.Model.{IsFlatOf, now_among, next_among, kept, kept_declared, assigned_first, assigned_each, assigned_step, first_conditions, each_conditions, step_conditions, kept_conditions};
 ghost use Rattle.xs_flattening.specs.Rules.{IsAccepted};
-ghost use Rattle.xs_flat.specs.Closed.{is_within, is_closed, are_closed, are_earlier, AreVariables, IsClosedModel};
-ghost use Rattle.xs_flat.specs.Faults.{IsWant};
-ghost use Rattle.xs_flat.specs.SceneTree.{IsScene, program_of, items_at};
-ghost use Rattle.xs_flat.specs.NeedsTree.{AreNeeds};
-ghost use Rattle.xs_flat.specs.Walked.{AreDeclared};
-ghost use Rattle.xs_flat.specs.ItemTree.{item_tree};
-ghost use Rattle.xs_flat.specs.Symbols.{texts};
-ghost use Rattle.xs_flat.specs.ModelTree.{instance_tree, leaf_of, model_tree};
+ghost use Rattle.xs_scope.specs.Closed.{is_within, is_closed, are_closed, are_earlier, AreVariables, IsClosedModel};
+ghost use Rattle.xs_scope.specs.Faults.{IsWant};
+ghost use Rattle.xs_scope.specs.SceneTree.{IsScene, program_of, items_at};
+ghost use Rattle.xs_scope.specs.NeedsTree.{AreNeeds};
+ghost use Rattle.xs_scope.specs.Walked.{AreDeclared};
+ghost use Rattle.xs_scope.specs.ItemTree.{item_tree};
+ghost use Rattle.xs_scope.specs.Symbols.{texts};
+ghost use Rattle.xs_scope.specs.ModelTree.{instance_tree, leaf_of, model_tree};
 ghost use Rattle.xs_flat.specs.ResolverOf.{leaf_at, told_tree};
 ghost use Rattle.xs_flat.specs.Asked.{told, asked_definition, IsReady, AreReady, conditions_asked, clause_tree, clauses_told, asked_condition, is_variable_within, IsConditionKnown, AreConditionsKnown, asked_conditions, asked_items, asked_from, item_listed, instance_in, instance_told};
 
-use crate::bounds::Bounds;
-use crate::copy::copy_path;
-use crate::fault::FlatFault;
-use crate::items::{Item, number_of};
-use crate::model::{
+use crate::resolve::{Source, resolve};
+use std::alloc::Global;
+use xs_scope::bounds::Bounds;
+use xs_scope::copy::{boxed, copy_path};
+use xs_scope::fault::FlatFault;
+use xs_scope::items::{Item, number_of};
+use xs_scope::model::{
     Flat, FlatList, FlatModel, Formula, Instance, InstanceList, Role, VariableList,
 };
-use crate::modules::Names;
-use crate::names::Scene;
-use crate::needs::Needs;
-use crate::resolve::{Source, boxed, resolve};
-use crate::symbols::symbol_names;
-use crate::walk::{Meaning, Spot};
-use std::alloc::Global;
+use xs_scope::modules::Names;
+use xs_scope::names::Scene;
+use xs_scope::needs::Needs;
+use xs_scope::symbols::symbol_names;
+use xs_scope::walk::{Meaning, Spot};
 use xs_tree::{Assignment, Decl, Declared, Expr, Moment, Op};
 use xs_value::{Dotted, Items, Name, NameList, OutOfMemory};
 
@@ -223,7 +223,7 @@ fn add_definition(
 }
 
 /// Appends a definition over those that stand before it.
-#[tactic(auto, using(crate::proofs::ClosedLaws::earlier_push))]
+#[tactic(auto, using(xs_scope::proofs::ClosedLaws::earlier_push))]
 fn push_definition(
     list: &mut FlatList,
     source: Source,
@@ -479,7 +479,7 @@ fn add_clause(
 }
 
 /// Appends a formula.
-#[tactic(auto, using(crate::proofs::ClosedLaws::formulas_push))]
+#[tactic(auto, using(xs_scope::proofs::ClosedLaws::formulas_push))]
 fn push_formula(list: &mut FlatList, source: Source, value: Expr<Flat>) -> Result<(), OutOfMemory>
     requires old { are_closed source.bounds list.old ≡ true }
     requires value { is_closed source.bounds value ≡ true }
@@ -510,7 +510,7 @@ fn clause_value(
     }
 }
 
-#[tactic(auto, using(crate::proofs::ClosedLaws::closed_within))]
+#[tactic(auto, using(xs_scope::proofs::ClosedLaws::closed_within))]
 fn now_value(
     alloc: Global,
     scene: &Scene<'_>,
@@ -529,7 +529,7 @@ fn now_value(
     Ok(within(alloc, Expr::Leaf(target), value)?)
 }
 
-#[tactic(auto, using(crate::proofs::ClosedLaws::closed_within))]
+#[tactic(auto, using(xs_scope::proofs::ClosedLaws::closed_within))]
 fn next_value(
     alloc: Global,
     scene: &Scene<'_>,
@@ -548,7 +548,7 @@ fn next_value(
     Ok(within_next(alloc, target, value)?)
 }
 
-#[tactic(auto, using(crate::proofs::ClosedLaws::closed_within))]
+#[tactic(auto, using(xs_scope::proofs::ClosedLaws::closed_within))]
 fn kept_value(
     alloc: Global,
     scene: &Scene<'_>,

@@ -3,16 +3,16 @@
 ghost use Rattle.std.specs.Prelude.{◌≡◌, map, IfOk, OnOk};
 ghost use Rattle.xs_tree.specs.declared.expr.Op.TheVariants as op;
 ghost use Rattle.xs_tree.specs.Tree.{binary, leaf as leaf_tree};
-ghost use Rattle.xs_flat.specs.ModelTree.{variable_tree, formula_tree, flat_tree, model_tree, mode_of};
+ghost use Rattle.xs_scope.specs.ModelTree.{variable_tree, formula_tree, flat_tree, model_tree, mode_of};
 ghost use Rattle.xs_flat.specs.Traced.{HasHistory};
 ghost use Rattle.xs_flattening.specs.Flat.{flat_symbol};
 ghost use Rattle.xs_flattening.specs.History.{with_history as history_of, with_bit, bit_variable as bit_tree, bit_at_first as first_tree, bit_at_step as step_tree, added as added_tree};
 
 use crate::build::{within, within_next};
-use crate::items::number_of;
-use crate::model::{Fault, FaultList, Flat, FlatModel, Formula, Role, Variable};
-use crate::resolve::boxed;
 use std::alloc::Global;
+use xs_scope::copy::boxed;
+use xs_scope::items::number_of;
+use xs_scope::model::{Fault, FaultList, Flat, FlatModel, Formula, Role, Variable};
 use xs_tree::{Declared, Expr, Op};
 use xs_value::{Dotted, Name, OutOfMemory};
 

@@ -9,26 +9,26 @@ ghost use Rattle.xs_tree.specs.Trace.{Each};
 ghost use Rattle.xs_tree.specs.Written.{tree_of};
 ghost use Rattle.xs_flattening.specs.Flat.{FlatInstance};
 ghost use Rattle.xs_flattening.specs.Items.{a_declaration, a_definition, an_assignment, an_init, an_invar, a_trans, instances_of};
-ghost use Rattle.xs_flat.specs.ItemTree.{item_tree};
+ghost use Rattle.xs_scope.specs.ItemTree.{item_tree};
 ghost use Rattle.xs_flat.specs.Assigned.{value_rule, assignment_rule, IsItemTold, IsPlaceTold, IsTargetTold, may_assign, local_meant, is_met, times_of, with_moment};
 ghost use Rattle.xs_flattening.specs.Rules.{IsKept, use_sites};
-ghost use Rattle.xs_flat.specs.SceneTree.{IsScene, program_of};
-ghost use Rattle.xs_flat.specs.NeedsTree.{AreNeeds};
+ghost use Rattle.xs_scope.specs.SceneTree.{IsScene, program_of};
+ghost use Rattle.xs_scope.specs.NeedsTree.{AreNeeds};
 ghost use Rattle.xs_flat.specs.Judging.{IsJudged};
 ghost use Rattle.xs_flat.specs.Verdicts.{IsToldOf, IsToldHere, IsInstanceTold, AreActuals, instance_in, is_without_value, mark_at, is_input_found, is_circle_found, with_flags, AreJudged, is_nothing_known, is_circle_known, is_circle_meant, JudgesActual, JudgesActuals, joined_actual};
-ghost use Rattle.xs_flat.specs.Faults.{first_of, IsFaultOf};
-ghost use Rattle.xs_flat.specs.declared.fault.Rule.TheVariants.{NoSuchName, DefineLoop, NextHere, InputHere};
+ghost use Rattle.xs_scope.specs.Faults.{first_of, IsFaultOf};
+ghost use Rattle.xs_scope.specs.declared.fault.Rule.TheVariants.{NoSuchName, DefineLoop, NextHere, InputHere};
 
-use crate::fault::{FlatFault, Rule};
-use crate::items::Item;
-use crate::model::Role;
-use crate::modules::Local;
-use crate::names::{Formal, Scene};
-use crate::needs::Needs;
-use crate::uses::{Use, Uses};
-use crate::walk::Meaning;
 use indexmap::IndexMap;
 use std::alloc::Global;
+use xs_scope::fault::{FlatFault, Rule};
+use xs_scope::items::Item;
+use xs_scope::model::Role;
+use xs_scope::modules::Local;
+use xs_scope::names::{Formal, Scene};
+use xs_scope::needs::Needs;
+use xs_scope::uses::{Use, Uses};
+use xs_scope::walk::Meaning;
 use xs_tree::{Assignment, Decl, Declared, Define, Expr, Moment};
 use xs_value::{Dotted, Name, OutOfMemory};
 
@@ -200,7 +200,7 @@ fn judge_definition(
     ensures { IfOk result (IsToldHere (program_of scene.now) spot place (a_definition (define_tree define.now))) }
 {
     let judged = judge_value(alloc, scene, needs, spot, &define.value)?;
-    let circle = needs.is_on_meaning_circle(scene.own(spot, place));
+    let circle = is_on_meaning_circle(needs, scene.own(spot, place));
     Ok(rule_of_definition(judged, circle))
 }
 
@@ -349,7 +349,7 @@ fn target_of<'a>(scene: &Scene<'_>, spot: usize, assignment: &'a Assignment) -> 
     let [target] = assignment.target.parts() else {
         return None;
     };
-    if is_target(scene.local_meaning(spot, target), assignment.when) {
+    if is_target(local_meaning(scene, spot, target), assignment.when) {
         Some(target)
     } else {
         None
@@ -508,7 +508,7 @@ fn judge_actual(
     let judged = judge_value(alloc, scene, needs, spot, actual)?;
     Ok(JudgedActual {
         no_value: judged.no_value,
-        circle: needs.is_on_formal_circle(known),
+        circle: is_on_formal_circle(needs, known),
         next: judged.next,
     })
 }
@@ -615,7 +615,7 @@ impl Judged {
         let meaning = scene.meaning(spot, each.name());
         self.with_flags(
             is_no_value(meaning),
-            needs.is_input(meaning),
+            is_input(needs, meaning),
             each.is_next(),
         )
     }
@@ -644,39 +644,37 @@ fn is_no_value(meaning: Meaning) -> bool
     }
 }
 
-impl Needs {
-    /// Whether a meaning is a definition that is needed by itself.
-    fn is_on_meaning_circle(&self, meaning: Meaning) -> bool
-        ensures { result ≡ is_circle_found self.now meaning }
-    {
-        match meaning {
-            Meaning::Definition(definition) => is_marked(self.on_circle.as_slice(), definition),
-            _ => false,
-        }
+/// Whether a meaning is a definition that is needed by itself.
+fn is_on_meaning_circle(needs: &Needs, meaning: Meaning) -> bool
+    ensures { result ≡ is_circle_found needs.now meaning }
+{
+    match meaning {
+        Meaning::Definition(definition) => is_marked(needs.on_circle.as_slice(), definition),
+        _ => false,
     }
+}
 
-    /// Whether a formal means a definition that is needed by itself.
-    fn is_on_formal_circle(&self, known: Formal) -> bool
-        ensures { result ≡ is_circle_meant self.now known }
-    {
-        match known {
-            Formal::Means(meaning) => self.is_on_meaning_circle(meaning),
-            _ => false,
-        }
+/// Whether a formal means a definition that is needed by itself.
+fn is_on_formal_circle(needs: &Needs, known: Formal) -> bool
+    ensures { result ≡ is_circle_meant needs.now known }
+{
+    match known {
+        Formal::Means(meaning) => is_on_meaning_circle(needs, meaning),
+        _ => false,
     }
+}
 
-    /// Whether a meaning is an input, or a definition that reads one.
-    fn is_input(&self, meaning: Meaning) -> bool
-        ensures { result ≡ is_input_found self.now meaning }
-    {
-        match meaning {
-            Meaning::Variable {
-                role: Role::Input,
-                ..
-            } => true,
-            Meaning::Definition(definition) => is_marked(self.reads_input.as_slice(), definition),
-            _ => false,
-        }
+/// Whether a meaning is an input, or a definition that reads one.
+fn is_input(needs: &Needs, meaning: Meaning) -> bool
+    ensures { result ≡ is_input_found needs.now meaning }
+{
+    match meaning {
+        Meaning::Variable {
+            role: Role::Input,
+            ..
+        } => true,
+        Meaning::Definition(definition) => is_marked(needs.reads_input.as_slice(), definition),
+        _ => false,
     }
 }
 
@@ -690,14 +688,12 @@ fn is_marked(marks: &[bool], definition: usize) -> bool
     }
 }
 
-impl Scene<'_> {
-    /// What a name of an instance's own module declares or defines there; a formal is nothing of its own.
-    fn local_meaning(&self, spot: usize, name: &Name) -> Meaning
-        ensures { result ≡ local_meant self.now spot name.now }
-    {
-        match self.local(spot, name) {
-            Some(Local::Item(place)) => self.own(spot, place),
-            _ => Meaning::Nothing,
-        }
+/// What a name of an instance's own module declares or defines there; a formal is nothing of its own.
+fn local_meaning(scene: &Scene<'_>, spot: usize, name: &Name) -> Meaning
+    ensures { result ≡ local_meant scene.now spot name.now }
+{
+    match scene.local(spot, name) {
+        Some(Local::Item(place)) => scene.own(spot, place),
+        _ => Meaning::Nothing,
     }
 }

@@ -7,10 +7,8 @@
 //! above never see a dotted name or an instance's parameters. [`resolve_top`] and [`resolve_at`] do the
 //! same for an expression that is not part of the program, and a [`Scope`] keeps the tables for many of them.
 //!
-//! The passes stand one to a file, in this order: `modules` (the rules of modules and their names),
-//! `walk` (instances, variables and limits), `symbols`, `names` and `formals` (what names mean),
-//! `needs` (the order of definitions, circles, and what reads inputs), `judge` (all other rules) and
-//! `build` with `resolve`. Each is linear in what it reads or makes.
+//! The tables of instances, names and definitions are made below, in `xs_scope`. Here stand `judge` (all
+//! other rules) and `build` with `resolve`. Each pass is linear in what it reads or makes.
 //!
 //! ```text
 //! // MODULE main VAR on : boolean; ASSIGN next(on) := !on;
@@ -19,32 +17,17 @@
 //! ```
 #![tactic(auto)]
 
-mod bounds;
 mod build;
-mod copy;
-mod fault;
 mod flattening;
-mod formals;
 mod history;
-mod items;
 mod judge;
-mod model;
-mod modules;
-mod names;
-mod needs;
 mod resolve;
-mod symbols;
-mod uses;
-mod walk;
 
-pub use bounds::Bounds;
-pub use copy::{copy_faults, copy_flat};
-pub use fault::{FlatFault, Rule};
 pub use flattening::{Scope, flatten, resolve_at, resolve_top};
 pub use history::with_history;
-pub use model::{
-    Fault, FaultList, Flat, FlatList, FlatModel, Formula, Instance, InstanceList, Role, Variable,
-    VariableList,
+pub use xs_scope::{
+    Bounds, Fault, FaultList, Flat, FlatFault, FlatList, FlatModel, Formula, Instance,
+    InstanceList, Role, Rule, Variable, VariableList, copy_faults, copy_flat,
 };
 
 #[cfg(test)]

@@ -2,20 +2,21 @@
 
 ghost use Rattle.std.specs.Prelude.{◌≡◌, true, Some, IfOk, IfErr, map, slice_get};
 ghost use Rattle.std.specs.List.{list_all, All};
-ghost use Rattle.xs_flat.specs.Closed.{is_within, is_closed, is_branch_closed};
+ghost use Rattle.xs_scope.specs.Closed.{is_within, is_closed, is_branch_closed};
 ghost use Rattle.xs_flat.specs.Shape.{shape, branch_shapes};
-ghost use Rattle.xs_flat.specs.Faults.{IsWant};
-ghost use Rattle.xs_flat.specs.ModelTree.{leaf_of};
+ghost use Rattle.xs_scope.specs.Faults.{IsWant};
+ghost use Rattle.xs_scope.specs.ModelTree.{leaf_of};
 ghost use Rattle.xs_flat.specs.ResolverOf.{leaf_at, leaf_placed, is_leaf_within, told_tree, asked_tree, told_branch, asked_branch, IsKnown, IsBranchKnown};
 
-use crate::bounds::Bounds;
-use crate::fault::{FlatFault, Rule};
-use crate::items::number_of;
-use crate::model::Flat;
-use crate::names::Scene;
-use crate::needs::Needs;
-use crate::walk::Meaning;
 use std::alloc::Global;
+use xs_scope::bounds::Bounds;
+use xs_scope::copy::boxed;
+use xs_scope::fault::{FlatFault, Rule};
+use xs_scope::items::number_of;
+use xs_scope::model::Flat;
+use xs_scope::names::Scene;
+use xs_scope::needs::Needs;
+use xs_scope::walk::Meaning;
 use xs_tree::{BranchList, Expr, ExprList};
 use xs_value::{Dotted, Items, OutOfMemory};
 
@@ -30,7 +31,7 @@ pub(crate) struct Source {
 
 /// An expression with each name replaced by what it stands for at an instance.
 #[cycle(resolve)]
-#[tactic(auto, using(crate::proofs::ShapeLaws::shape_of_case, crate::proofs::ShapeLaws::shape_of_set, crate::proofs::ClosedLaws::closed_case, crate::proofs::ClosedLaws::closed_set, crate::proofs::ResolvedLaws::told_case, crate::proofs::ResolvedLaws::told_set, crate::proofs::ResolvedLaws::asked_case, crate::proofs::ResolvedLaws::asked_set))]
+#[tactic(auto, using(crate::proofs::ShapeLaws::shape_of_case, crate::proofs::ShapeLaws::shape_of_set, xs_scope::proofs::ClosedLaws::closed_case, xs_scope::proofs::ClosedLaws::closed_set, crate::proofs::ResolvedLaws::told_case, crate::proofs::ResolvedLaws::told_set, crate::proofs::ResolvedLaws::asked_case, crate::proofs::ResolvedLaws::asked_set))]
 pub(crate) fn resolve(
     alloc: Global,
     scene: &Scene<'_>,
@@ -87,7 +88,7 @@ fn resolve_boxed(
 }
 
 #[cycle(resolve)]
-#[tactic(auto, using(crate::proofs::ClosedLaws::all_push))]
+#[tactic(auto, using(xs_scope::proofs::ClosedLaws::all_push))]
 fn resolve_members(
     alloc: Global,
     scene: &Scene<'_>,
@@ -108,7 +109,7 @@ fn resolve_members(
 }
 
 #[cycle(resolve)]
-#[tactic(auto, using(crate::proofs::ClosedLaws::all_push))]
+#[tactic(auto, using(xs_scope::proofs::ClosedLaws::all_push))]
 fn resolve_branches(
     alloc: Global,
     scene: &Scene<'_>,
@@ -170,15 +171,5 @@ fn placed(needs: &Needs, source: Source, definition: usize) -> Result<Flat, Flat
             rule: Rule::DefineLoop,
             item: source.item,
         }),
-    }
-}
-
-/// An expression in a box.
-pub(crate) fn boxed(alloc: Global, e: Expr<Flat>) -> Result<Box<Expr<Flat>>, OutOfMemory>
-    ensures { IfOk result (λ made. made.value ≡ e) }
-{
-    match Box::new(alloc, e) {
-        Ok(made) => Ok(made),
-        Err(_refused) => Err(OutOfMemory),
     }
 }

@@ -96,7 +96,7 @@ found_ordered (first ∷ more) n before x = by_name (same_text first.name x) ref
     by_name true t rest = rw t (numbered_ordered (suc n) [] (items_of first))
     by_name false t rest = rw t rest
 
-or_true : (a : Bool) → (a || true) ≡ true
+pub or_true : (a : Bool) → (a || true) ≡ true
 or_true true = refl
 or_true false = refl
 

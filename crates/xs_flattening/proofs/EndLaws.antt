@@ -5,7 +5,7 @@ use Rattle.xs_tree.specs.Scope.{Place, Key, actual_key, Kind, a_formal, a_variab
 use Rattle.xs_flattening.specs.Looks.{Look, at_actual, plain_of, step_kind, step_of, step_on, look_after, ComesBack, MeetsLoop}
 use Rattle.xs_flattening.proofs.LookLaws.{after_longer}
 
-never_some : {A : Type 0} (x : A) → None ≡ Some x → ⊥
+pub never_some : {A : Type 0} (x : A) → None ≡ Some x → ⊥
 never_some x e = cc
 
 -- after some steps, and then some more

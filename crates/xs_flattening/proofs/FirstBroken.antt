@@ -7,6 +7,7 @@ use Rattle.xs_tree.specs.Scope.{Place, define_key, means_in, state}
 use Rattle.xs_flattening.specs.Items.{a_declaration, a_definition, an_init, visits, NumberedItem, NumberedModule}
 use Rattle.xs_flattening.specs.Looks.{Look, look_after, step_on, ComesBack, MeansNothing}
 use Rattle.xs_flattening.specs.Rules.{Rule, number_of, no_main, main_has_parameters, double_module, double_name, module_loop, no_such_name, define_loop, the_program, a_header, an_item, a_visit, a_use, nothing, Needs, Breaks, IsKept, IsFirstBroken}
+use Rattle.xs_flattening.proofs.EndLaws.{never_some}
 
 -- no module: rule 1 at item 0
 empty_breaks : IsFirstBroken [] no_main 0
@@ -107,9 +108,6 @@ nameless_main = record { name = codes "main"; formals = []; sections = init (lea
 
 abbrev nameless : ProgramTree
 nameless = nameless_main ∷ []
-
-never_some : {A : Type 0} (x : A) → None ≡ Some x → ⊥
-never_some x e = cc
 
 abbrev place_of : Option Look → Place
 place_of None = []

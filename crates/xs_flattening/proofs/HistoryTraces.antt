@@ -209,7 +209,7 @@ whole [] i fs (b ∷ v) ts h long = absurd h
 whole (x ∷ xs) i fs [] ts h long = absurd h
 whole (x ∷ xs) i fs (b ∷ v) ts h long = (h.0, whole xs i fs v ts h.1 long)
 
-domains_length : (xs : List FlatVariable) (v : List Value) → AreInDomains xs v → length v ≡ length xs
+pub domains_length : (xs : List FlatVariable) (v : List Value) → AreInDomains xs v → length v ≡ length xs
 domains_length [] [] h = refl
 domains_length [] (b ∷ v) h = absurd h
 domains_length (x ∷ xs) [] h = absurd h
@@ -241,7 +241,7 @@ stands_longer m v more f h is =
     let b : (b : Value) × (slice_get v f.variable ≡ Some b) × IsTrue (in_domain is.variable.declared b) = domain_at m.variables v f.variable is.variable h is.is_variable in
     ap (is_symbol_value (slice_get m.symbols f.symbol)) (get_left v more f.variable b.0 b.1 ∙ sym b.1)
 
-or_false : (a : Bool) → (a || false) ≡ a
+pub or_false : (a : Bool) → (a || false) ≡ a
 or_false true = refl
 or_false false = refl
 

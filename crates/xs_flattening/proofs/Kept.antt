@@ -5,7 +5,6 @@ use Rattle.std.proofs.Common.{eqb-true}
 use Rattle.xs_tree.specs.ProgramTree.{Text, Formula, instance, ModuleTree, ProgramTree}
 use Rattle.xs_tree.specs.Values.{opposite}
 use Rattle.xs_tree.specs.Texts.{same_text}
-use Rattle.xs_tree.proofs.ValueLaws.{same_text_equal}
 use Rattle.xs_tree.specs.Scope.{Place, Kind, an_instance, find_module, formal_from, kind_after_formals, kind_in_sections, kind_in}
 use Rattle.xs_tree.specs.Trace.{Each, IsInstance}
 use Rattle.xs_flattening.specs.Flat.{FlatInstance}
@@ -17,6 +16,7 @@ use Rattle.xs_flattening.proofs.KindLaws.{DeclaredBy, declared_by, sections_kind
 use Rattle.xs_flattening.proofs.Sections.{AreInstances}
 use Rattle.xs_flattening.proofs.Places.{VisitFacts, all_visit_facts, Walked, walked, found_at, in_items, are_instances, there, In}
 use Rattle.xs_flattening.proofs.Walkable.{accepted_walkable, main_is_there}
+use Rattle.xs_tree.proofs.OneTree.{same_text_equal}
 
 -- the module of a name has the name
 pub module_named : (p : ProgramTree) (x : Text) (m : ModuleTree) → find_module p x ≡ Some m → m.name ≡ x

@@ -148,7 +148,7 @@ type_apart inside item (range lo hi) = tt
 type_apart inside item (members ms) = tt
 type_apart inside item (instance m actuals) = actuals_apart inside 0 item actuals
 
-among_left : (xs ys : List Text) (x : Text) → is_among xs x ≡ true → is_among (xs ++ ys) x ≡ true
+pub among_left : (xs ys : List Text) (x : Text) → is_among xs x ≡ true → is_among (xs ++ ys) x ≡ true
 among_left [] ys x h = cc
 among_left (z ∷ xs) ys x h = by_test (same_text z x) refl h (among_left xs ys x)
   where

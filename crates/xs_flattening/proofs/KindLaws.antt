@@ -2,7 +2,7 @@
 use Rattle.std.proofs.Common.{◌≡◌, ℕ, suc, ◌+◌, Bool, true, false, List, [], ◌∷◌, ◌++◌, Some, None, refl, sym, ◌∙◌, ap, subst}
 use Rattle.std.specs.Prelude.{slice_get, map, flat_map, length, if◌then◌else◌}
 use Rattle.xs_tree.specs.ProgramTree.{Text, Formula, DeclaredTree, boolean, range, members, instance, DeclTree, DefineTree, AssignmentTree, SectionTree, var, ivar, frozen, define, constants, assign, init, invar, trans, ModuleTree, ProgramTree}
-use Rattle.xs_tree.proofs.ValueLaws.{same_text_refl, same_text_equal}
+use Rattle.xs_tree.proofs.ValueLaws.{same_text_refl}
 use Rattle.xs_tree.specs.Scope.{Role, state, input, frozen_role, Kind, a_define, an_instance, undeclared, formal_from, kind_declared, kind_in_decls, kind_in_defines, kind_in_sections, kind_after_formals, kind_in, find_module}
 use Rattle.xs_tree.specs.Trace.{Each}
 use Rattle.xs_flattening.specs.Items.{Item, a_declaration, a_definition, an_assignment, some_constants, an_init, an_invar, a_trans, NumberedItem, NumberedModule, items_of_section, items_of, numbered_from, modules_from, modules_of, numbered_items, items_found}
@@ -11,6 +11,7 @@ use Rattle.xs_flattening.proofs.Now.{neither}
 use Rattle.xs_flattening.proofs.Lists.{each_of_map, each_more}
 use Rattle.xs_flattening.proofs.Conditions.{each_flat}
 use Rattle.xs_tree.specs.Texts.{same_text, is_among}
+use Rattle.xs_tree.proofs.OneTree.{same_text_equal}
 
 abbrev pub kind_of_item : Item → Text → Kind → Kind
 kind_of_item (a_declaration role d) x other = if same_text d.name x then kind_declared role d.what else other
@@ -51,13 +52,13 @@ sections_kind (init e ∷ ss) x = sections_kind ss x
 sections_kind (invar e ∷ ss) x = sections_kind ss x
 sections_kind (trans e ∷ ss) x = sections_kind ss x
 
-among_split : (xs ys : List Text) (x : Text) → is_among (xs ++ ys) x ≡ false → (is_among xs x ≡ false) × (is_among ys x ≡ false)
+pub among_split : (xs ys : List Text) (x : Text) → is_among (xs ++ ys) x ≡ false → (is_among xs x ≡ false) × (is_among ys x ≡ false)
 among_split [] ys x h = (refl, h)
 among_split (z ∷ xs) ys x h =
     let s : (same_text z x ≡ false) × (is_among (xs ++ ys) x ≡ false) = neither _ _ h in
     let r : (is_among xs x ≡ false) × (is_among ys x ≡ false) = among_split xs ys x s.1 in (rw s.0 r.0, r.1)
 
-no_formal : (i : ℕ) (formals : List Text) (x : Text) → is_among formals x ≡ false → formal_from i formals x ≡ None
+pub no_formal : (i : ℕ) (formals : List Text) (x : Text) → is_among formals x ≡ false → formal_from i formals x ≡ None
 no_formal i [] x h = refl
 no_formal i (y ∷ formals) x h =
     let s : (same_text y x ≡ false) × (is_among formals x ≡ false) = neither _ _ h in rw s.0 (no_formal (suc i) formals x s.1)
@@ -124,7 +125,7 @@ declared_by (an_init f ∷ items) x n actuals e = later items _ x n actuals (dec
 declared_by (an_invar f ∷ items) x n actuals e = later items _ x n actuals (declared_by items x n actuals e)
 declared_by (a_trans f ∷ items) x n actuals e = later items _ x n actuals (declared_by items x n actuals e)
 
-joined_more : {A : Type 0} (xs : List A) (y : A) (zs : List A) → xs ++ y ∷ zs ≡ (xs ++ y ∷ []) ++ zs
+pub joined_more : {A : Type 0} (xs : List A) (y : A) (zs : List A) → xs ++ y ∷ zs ≡ (xs ++ y ∷ []) ++ zs
 joined_more [] y zs = refl
 joined_more (x ∷ xs) y zs = ap (λ ws. x ∷ ws) (joined_more xs y zs)
 
@@ -133,11 +134,11 @@ split_each : (whole : List Item) (n : ℕ) (before items : List Item) → whole 
 split_each whole n before [] e = tt
 split_each whole n before (i ∷ items) e = ((items, e), split_each whole (suc n) (before ++ i ∷ []) items (e ∙ joined_more before i items))
 
-not_true : (b : Bool) → (b ≡ true → ⊥) → b ≡ false
+pub not_true : (b : Bool) → (b ≡ true → ⊥) → b ≡ false
 not_true true h = absurd (h refl)
 not_true false h = refl
 
-with_both : {A : Type 0} (P Q R : A → Type 0) (xs : List A) → ((x : A) → P x → Q x → R x) → Each P xs → Each Q xs → Each R xs
+pub with_both : {A : Type 0} (P Q R : A → Type 0) (xs : List A) → ((x : A) → P x → Q x → R x) → Each P xs → Each Q xs → Each R xs
 with_both P Q R [] f h k = tt
 with_both P Q R (x ∷ xs) f h k = (f x h.0 k.0, with_both P Q R xs f h.1 k.1)
 

@@ -5,7 +5,6 @@ use Rattle.xs_tree.specs.declared.expr.Op.TheVariants as op
 use Rattle.xs_tree.specs.declared.program.Moment.TheVariants.{First, After}
 use Rattle.xs_tree.specs.Tree.{truth as is_truth, leaf, not_of, next_of, binary}
 use Rattle.xs_tree.specs.ProgramTree.{Text, Formula, boolean, var, define, assign, ModuleTree, ProgramTree}
-use Rattle.xs_tree.proofs.ValueLaws.{same_text_equal}
 use Rattle.xs_tree.specs.Scope.{Place, state, Key, define_key, a_variable_at, an_expression_at, an_instance_at, Means, means_in}
 use Rattle.xs_tree.specs.Trace.{Each, AtSome}
 use Rattle.xs_flattening.specs.Flat.{FlatLeaf, flat_variable, flat_definition, FlatInstance, FlatFormula, FlatModel}
@@ -14,6 +13,8 @@ use Rattle.xs_flattening.specs.Items.{Item, a_declaration, a_definition, an_assi
 use Rattle.xs_flattening.specs.Rules.{no_main, main_has_parameters, double_module, double_name, no_such_module, wrong_count, module_loop, no_such_name, not_a_target, double_assign, define_loop, next_here, too_many, the_program, a_header, an_item, a_visit, a_use, HasNoValue, nothing, only_an_instance, Needs, IsKept, IsAccepted}
 use Rattle.xs_flattening.specs.Model.{IsFlatOf, comes, no_more, one_more}
 use Rattle.xs_tree.specs.Texts.{same_text}
+use Rattle.xs_flattening.proofs.EndLaws.{never_some}
+use Rattle.xs_tree.proofs.OneTree.{same_text_equal}
 
 abbrev on_name : Text
 on_name = codes "on"
@@ -65,9 +66,6 @@ on_is = (a_variable_at [] (codes "on"), (1, refl), (record { place = []; name = 
 
 d_is : IsLeafOf lamp model (definition_d ∷ []) [] (codes "d" ∷ []) (flat_definition 0)
 d_is = (an_expression_at (define_key [] (codes "d")) [] (not_of (leaf (codes "on" ∷ []))), (1, refl), refl)
-
-never_some : {A : Type 0} (x : A) → None ≡ Some x → ⊥
-never_some x e = cc
 
 one_leaf : (a b : FlatLeaf) → Some a ≡ Some b → a ≡ b
 one_leaf a b e = cc

@@ -4,7 +4,6 @@ use Rattle.std.specs.Prelude.{codes, slice_get, map, flat_map, nat_eq}
 use Rattle.std.proofs.Common.{eqb-true}
 use Rattle.xs_tree.specs.ProgramTree.{Text, Formula, DeclaredTree, boolean, range, members, instance, DefineTree, ModuleTree, ProgramTree}
 use Rattle.xs_tree.specs.Texts.{same_text}
-use Rattle.xs_tree.proofs.ValueLaws.{both_true, same_text_equal}
 use Rattle.xs_tree.specs.Scope.{Place, Role, Kind, a_define, Key, define_key, actual_key, kind_declared, kind_after_formals, kind_in_sections, kind_in, formal_from, find_module, plain_name, nth_formula}
 use Rattle.xs_tree.specs.Trace.{Each, IsInstance}
 use Rattle.xs_flattening.specs.Flat.{FlatInstance, FlatModel}
@@ -18,9 +17,11 @@ use Rattle.xs_flattening.proofs.Sections.{AreInstances}
 use Rattle.xs_flattening.proofs.Places.{In, in_left, in_right, in_flat, facts_named, found_at, are_instances}
 use Rattle.xs_flattening.proofs.Numbered.{same_place_equal}
 use Rattle.xs_flattening.proofs.Walkable.{main_is_there}
+use Rattle.xs_lexer.proofs.SignLemmas.{both_true}
+use Rattle.xs_tree.proofs.OneTree.{same_text_equal}
 
 -- Keys.
-key_equal : (j k : Key) → same_key j k ≡ true → j ≡ k
+pub key_equal : (j k : Key) → same_key j k ≡ true → j ≡ k
 key_equal (define_key at x) (define_key bt y) h =
     let parts : (same_place at bt ≡ true) × (same_text x y ≡ true) = both_true _ _ h in
     ap (λ a. define_key a x) (same_place_equal at bt parts.0) ∙ ap (define_key bt) (same_text_equal x y parts.1)

@@ -38,7 +38,7 @@ step_means n p at [] l h = cc
 step_means n p at (x ∷ rest) l h = kind_step n p at (kind_at (module_at p at) x) x rest l h
 
 -- after some steps
-step_some : (p : ProgramTree) (o : Option Look) (l : Look) → step_on p o ≡ Some l → (k : Look) × (o ≡ Some k) × (step_of p k.place k.name ≡ Some l)
+pub step_some : (p : ProgramTree) (o : Option Look) (l : Look) → step_on p o ≡ Some l → (k : Look) × (o ≡ Some k) × (step_of p k.place k.name ≡ Some l)
 step_some p None l h = cc
 step_some p (Some k) l h = (k, refl, h)
 

@@ -3,7 +3,7 @@ use Rattle.std.proofs.Common.{◌≡◌, ℕ, zero, suc, ◌<◌, arith, List, [
 use Rattle.std.specs.Prelude.{slice_get, map, flat_map, ◌⊎◌, ◌+◌, ◌||◌, Bool, true, false}
 use Rattle.xs_tree.specs.ProgramTree.{Text, Path, Formula, DeclaredTree, boolean, range, members, instance, DeclTree, SectionTree, ModuleTree, ProgramTree}
 use Rattle.xs_tree.specs.Texts.{same_text, is_among}
-use Rattle.xs_tree.proofs.ValueLaws.{same_text_refl, same_text_equal}
+use Rattle.xs_tree.proofs.ValueLaws.{same_text_refl}
 use Rattle.xs_tree.specs.Scope.{Place, Kind, a_formal, a_variable, a_define, an_instance, undeclared, Meaning, Means, means_in, find_module, formal_from, kind_after_formals, kind_in_sections, kind_declared, kind_in, kind_at, module_at, module_of_kind, plain_name, nth_formula, actual_of_kind}
 use Rattle.xs_tree.specs.Trace.{Each, AtSome, IsInstance}
 use Rattle.xs_flattening.specs.Items.{Item, a_declaration, a_definition, an_assignment, some_constants, an_init, an_invar, a_trans, items_of, items_of_section, NumberedModule, modules_from, modules_of, numbered_items}
@@ -12,12 +12,13 @@ use Rattle.xs_flattening.specs.Rules.{no_such_name, define_loop, double_name, ha
 use Rattle.xs_flattening.proofs.Lists.{get_within, each_more}
 use Rattle.xs_flattening.proofs.Conditions.{each_flat}
 use Rattle.xs_flattening.proofs.Now.{neither}
-use Rattle.xs_flattening.proofs.KindLaws.{DeclaredBy, kind_in_items, sections_kind}
-use Rattle.xs_flattening.proofs.Places.{Above, above, not_true}
+use Rattle.xs_flattening.proofs.KindLaws.{DeclaredBy, kind_in_items, sections_kind, not_true}
+use Rattle.xs_flattening.proofs.Places.{Above, above}
 use Rattle.xs_flattening.proofs.LookLaws.{step_means}
 use Rattle.xs_flattening.proofs.EndLaws.{steps_more, ended_stays}
 use Rattle.xs_flattening.proofs.Walkable.{accepted_walkable}
 use Rattle.xs_flattening.proofs.Kept.{KeptItem, kept_at, declared_there, as_many}
+use Rattle.xs_tree.proofs.OneTree.{same_text_equal}
 
 nth_got : (es : List Formula) (k : ℕ) (e : Formula) → nth_formula es k ≡ Some e → slice_get es k ≡ Some e
 nth_got [] k e h = cc
@@ -112,7 +113,7 @@ formal_found j (y ∷ ys) x (suc k) h e = by_name (same_text y x) refl (formal_f
     by_name false t more = rw t (more ∙ ap Some (omega arith))
 
 -- no declaration makes a formal
-declares_no_formal : (items : List Item) (x : Text) (i : ℕ) → kind_in_items items x ≡ a_formal i → ⊥
+pub declares_no_formal : (items : List Item) (x : Text) (i : ℕ) → kind_in_items items x ≡ a_formal i → ⊥
 declares_no_formal [] x i e = cc
 declares_no_formal (a_declaration role d ∷ items) x i e = by_name (same_text d.name x) refl d.what (declares_no_formal items x i)
   where

@@ -3,7 +3,7 @@ use Rattle.std.proofs.Common.{◌≡◌, ℕ, zero, suc, arith, Bool, true, fals
 use Rattle.std.specs.Prelude.{slice_get, if◌then◌else◌, codes}
 use Rattle.xs_tree.specs.ProgramTree.{ModuleTree, ProgramTree}
 use Rattle.xs_tree.specs.Values.{Value, truth}
-use Rattle.xs_tree.proofs.ValueLaws.{both_true, same_text_refl, same_text_equal}
+use Rattle.xs_tree.proofs.ValueLaws.{same_text_refl}
 use Rattle.xs_tree.specs.Scope.{Place, find_module}
 use Rattle.xs_tree.specs.May.{Valuation}
 use Rattle.xs_tree.specs.Trace.{Each}
@@ -14,8 +14,10 @@ use Rattle.xs_flattening.specs.Model.{same_place, IsVariableOf, EachBoth, IsFlat
 use Rattle.xs_flattening.proofs.Apart.{Differ, Apart, variables_apart}
 use Rattle.xs_flattening.proofs.Walkable.{accepted_walkable, main_is_there}
 use Rattle.xs_tree.specs.Texts.{same_text}
+use Rattle.xs_lexer.proofs.SignLemmas.{both_true}
+use Rattle.xs_tree.proofs.OneTree.{same_text_equal}
 
-same_place_refl : (at : Place) → same_place at at ≡ true
+pub same_place_refl : (at : Place) → same_place at at ≡ true
 same_place_refl [] = refl
 same_place_refl (x ∷ at) = rw (same_text_refl x, same_place_refl at) refl
 

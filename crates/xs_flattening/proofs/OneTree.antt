@@ -8,6 +8,7 @@ use Rattle.xs_flattening.specs.Flat.{FlatLeaf, flat_symbol}
 use Rattle.xs_flattening.specs.Resolved.{leaves_in, trees_leaves, branches_leaves, IsResolved}
 use Rattle.xs_flattening.proofs.Reaches.{each_left, each_right}
 use Rattle.xs_flattening.proofs.Resolving.{Known, names_known, each_leaf}
+use Rattle.xs_flattening.proofs.KindLaws.{with_both}
 
 -- maps that agree on the leaves of a tree make one tree of it
 mutual
@@ -75,17 +76,13 @@ mutual
       ap (λ x. branch_then x (tree_map leaf_or (tree_map Some a)) (branches_map leaf_or (branches_map Some bs))) (back c)
       ∙ ap (λ x. branch_then c x (branches_map leaf_or (branches_map Some bs))) (back a) ∙ ap (branch_then c a) (branches_back bs)
 
-both_each : {A : Type 0} (P Q R : A → Type 0) (xs : List A) → ((x : A) → P x → Q x → R x) → Each P xs → Each Q xs → Each R xs
-both_each P Q R [] f h k = tt
-both_each P Q R (x ∷ xs) f h k = (f x h.0 k.0, both_each P Q R xs f h.1 k.1)
-
 -- one written expression has one flat one over resolvers that never give two leaves to a name
 pub one_tree : (q r : Path → Option FlatLeaf) (e : Formula) (flat other : Tree FlatLeaf) → ((name : Path) (l k : FlatLeaf) → q name ≡ Some l → r name ≡ Some k → l ≡ k) →
     IsResolved q e flat → IsResolved r e other → flat ≡ other
 one_tree q r e flat other agree h g =
     let some : FlatLeaf → Type 0 = λ l. Unit {0} in
     let mapped : tree_map q e ≡ tree_map r e =
-    map_same q r e (both_each (λ name. Known some (q name)) (λ name. Known some (r name)) (λ name. q name ≡ r name) (leaves_in e)
+    map_same q r e (with_both (λ name. Known some (q name)) (λ name. Known some (r name)) (λ name. q name ≡ r name) (leaves_in e)
     (λ name a b. a.is ∙ ap Some (agree name a.found b.found a.is b.is) ∙ sym b.is)
     (names_known some q e flat h (each_leaf (leaves_in flat))) (names_known some r e other g (each_leaf (leaves_in other)))) in
     sym (back flat) ∙ ap (tree_map leaf_or) (h ∙ mapped ∙ sym g) ∙ back other

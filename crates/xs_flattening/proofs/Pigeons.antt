@@ -2,12 +2,13 @@
 use Rattle.std.proofs.Common.{◌≡◌, suc, ◌≤◌, arith, Bool, true, false, List, [], ◌∷◌, length, refl, sym, ◌∙◌, subst}
 use Rattle.std.specs.Prelude.{if◌then◌else◌}
 use Rattle.xs_tree.specs.ProgramTree.{Text, ModuleTree, ProgramTree}
-use Rattle.xs_tree.proofs.ValueLaws.{same_text_refl, same_text_equal}
+use Rattle.xs_tree.proofs.ValueLaws.{same_text_refl}
 use Rattle.xs_tree.specs.Scope.{find_module}
 use Rattle.xs_tree.specs.Trace.{Each}
 use Rattle.xs_flattening.specs.Rules.{is_missing}
 use Rattle.xs_flattening.proofs.Now.{neither}
 use Rattle.xs_tree.specs.Texts.{same_text, is_among}
+use Rattle.xs_tree.proofs.OneTree.{same_text_equal}
 
 abbrev pub IsThere : ProgramTree → Text → Type 0
 IsThere p x = is_missing (find_module p x) ≡ false

@@ -11,7 +11,7 @@ use Rattle.xs_flattening.proofs.Reaches.{each_left, each_right}
 use Rattle.xs_flattening.proofs.Lists.{get_left}
 use Rattle.xs_flattening.proofs.Conditions.{each_join, each_at}
 use Rattle.xs_flattening.proofs.Sections.{AreInstances}
-use Rattle.xs_flattening.proofs.KindLaws.{ItemFacts, kind_of_declaration, sections_kind, DeclaredBy, declared_by, all_facts, found_facts}
+use Rattle.xs_flattening.proofs.KindLaws.{ItemFacts, kind_of_declaration, sections_kind, DeclaredBy, declared_by, all_facts, found_facts, not_true}
 use Rattle.xs_flattening.proofs.Pigeons.{IsThere, AreApart, no_more_names}
 use Rattle.xs_tree.specs.Texts.{same_text, is_among}
 
@@ -36,10 +36,6 @@ pub record VisitFacts (p : ProgramTree) (v : Visit) : Type 0 where
   pub exists : is_missing_instance p v.decl.what ≡ false
   pub counted : is_miscounted p v.decl.what ≡ false
   pub apart : is_on_path v.on_path v.decl.what ≡ false
-
-pub not_true : (b : Bool) → (b ≡ true → ⊥) → b ≡ false
-not_true true h = absurd (h refl)
-not_true false h = refl
 
 visits_kept : (p : ProgramTree) (before vs : List Visit) → Each (IsKept p) (visit_sites before vs) → Each (VisitFacts p) vs
 visits_kept p before [] h = tt

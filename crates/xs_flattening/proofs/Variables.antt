@@ -2,7 +2,6 @@
 use Rattle.std.proofs.Common.{◌≡◌, ℕ, zero, suc, Bool, true, false, List, [], ◌∷◌, Option, Some, None, refl, sym, ◌∙◌, ap, subst}
 use Rattle.std.specs.Prelude.{slice_get, flat_map, codes, ◌↔◌}
 use Rattle.xs_tree.specs.ProgramTree.{Text, DeclaredTree, boolean, range, members, instance, DeclTree, ModuleTree, ProgramTree}
-use Rattle.xs_tree.proofs.ValueLaws.{same_text_equal}
 use Rattle.xs_tree.specs.Scope.{Place, Role, Kind, a_variable, a_define, kind_declared, kind_in_sections, formal_from, kind_after_formals, find_module}
 use Rattle.xs_tree.specs.Trace.{Each, IsVariable}
 use Rattle.xs_flattening.specs.Flat.{FlatVariable, FlatModel}
@@ -14,6 +13,7 @@ use Rattle.xs_flattening.proofs.KindLaws.{kind_in_items, sections_kind}
 use Rattle.xs_flattening.proofs.Places.{In, in_flat, Real, Walked, in_items, found_at, walked, has_main}
 use Rattle.xs_flattening.proofs.Walkable.{main_is_there}
 use Rattle.xs_tree.specs.Texts.{same_text}
+use Rattle.xs_tree.proofs.OneTree.{same_text_equal}
 
 -- a variable is declared by an item
 pub record DeclaredAs (items : List Item) (x : Text) (role : Role) (what : DeclaredTree) : Type 0 where

@@ -4,11 +4,12 @@ use Rattle.std.specs.Int.{int_min, int_max}
 use Rattle.std.proofs.lemmas.Int.{ints}
 use Rattle.xs_tree.specs.Trace.{Each}
 use Rattle.xs_tree.specs.Values.{Value, truth, number, symbol, Values, one, from_to, either, has, at_most, opposite}
-use Rattle.xs_tree.proofs.ValueLaws.{same_value_equal, both_true}
+use Rattle.xs_tree.proofs.ValueLaws.{same_value_equal}
 use Rattle.xs_kinds.specs.Intervals.{Interval, hull, fits, fits_number}
 use Rattle.xs_kinds.specs.Judged.{Class, truth_class, number_class, symbol_class, Kind, KindRule, set_here, same_class, rule_if, unless_class, wide, joined, where_kept, one_value, some_values, Judged, hull_from, hull_of, first_class}
 use Rattle.xs_kinds.specs.Safe.{LiesIn, IsOfKind, GivesOne, GivesSome}
 use Rattle.xs_kinds.proofs.Products.{in_hull_left, in_hull_right}
+use Rattle.xs_lexer.proofs.SignLemmas.{both_true}
 
 pub none_first : {A : Type 0} (xs ys : List A) → xs ++ ys ≡ [] → xs ≡ []
 none_first [] ys e = refl
@@ -33,7 +34,7 @@ same_class_equal symbol_class truth_class e = cc
 same_class_equal symbol_class number_class e = cc
 same_class_equal symbol_class symbol_class e = refl
 
-not_false : (b : Bool) → not b ≡ false → b ≡ true
+pub not_false : (b : Bool) → not b ≡ false → b ≡ true
 not_false true e = refl
 not_false false e = cc
 
@@ -138,7 +139,7 @@ of_either P s t p q v h = by (or_true (has s v) (has t v) h)
     by (inl e) = p v e
     by (inr e) = q v e
 
-not_less : (a b : ℤ) → at_most a b ≡ true → a ≤ℤ b
+pub not_less : (a b : ℤ) → at_most a b ≡ true → a ≤ℤ b
 not_less a b h = by (int_lt b a) refl h
   where
     by : (t : Bool) → int_lt b a ≡ t → opposite t ≡ true → a ≤ℤ b

@@ -8,7 +8,6 @@ use Rattle.xs_tree.specs.Tree.{Tree, Trees, Branches, truth as is_truth, number 
 use Rattle.xs_tree.specs.Laws.{AllLeaves, AllLeavesOfTrees, AllLeavesOfBranches}
 use Rattle.xs_tree.specs.Values.{number, Values, one, has}
 use Rattle.xs_tree.specs.Evaluate.{Leaves, evaluate}
-use Rattle.xs_tree.proofs.ValueLaws.{both_true}
 use Rattle.xs_kinds.specs.Intervals.{Interval, fits_number}
 use Rattle.xs_kinds.specs.Judged.{Class, truth_class, number_class, symbol_class, Kind, KindRule, mismatch, unless_class, wide, zero_rule, on_both, exact_interval, Judged, judged_binary, broken_in, judge, judge_trees, judge_conditions, judge_values, sets_on_left, sets_on_right}
 use Rattle.xs_kinds.specs.Safe.{IsOfClass, LiesIn, GivesSmall, DividesByNoZero, IsSafe, AreSafe, AreSafeBranches}
@@ -16,6 +15,7 @@ use Rattle.xs_kinds.proofs.Quotients.{NotZero, divisor_not_zero}
 use Rattle.xs_kinds.proofs.Parts.{none_first, none_second, not_if, class_kept, Bounded, Alone, Sound}
 use Rattle.xs_kinds.proofs.Rows.{number_given, bounded_as}
 use Rattle.xs_kinds.proofs.TreeLaws.{Hold, sound, single}
+use Rattle.xs_lexer.proofs.SignLemmas.{both_true}
 
 below : (n m h : ℕ) → ltb m h ≡ true → n ≤ m → ltb n h ≡ true
 below n m h e p = let q = ltb-true m h e in lt-ltb n h (omega arith)

@@ -7,7 +7,7 @@ use Rattle.xs_kinds.specs.Intervals.{Interval, just}
 use Rattle.xs_kinds.specs.Judged.{Class, truth_class, number_class, Kind, mismatch, not_boolean, empty_range, case_end, unless_class, rule_if, wide, joined, Judged, one_value, judged_choice, judged_case, judged_set, judged_span, first_class, hull_of, unlike_first, broken_in, kinds_in, some_set}
 use Rattle.xs_kinds.specs.Safe.{IsOfClass, IsOfKind, GivesOne, GivesSome}
 use Rattle.xs_kinds.proofs.Products.{in_just}
-use Rattle.xs_kinds.proofs.Parts.{none_first, none_second, not_if, class_kept, Bounded, BoundedAs, Inside, wide_bounded, joined_bounded, hull_of_bounded, of_one, of_either, of_span, Alone, Sound, kind_as, sound_one, sound_some}
+use Rattle.xs_kinds.proofs.Parts.{none_first, none_second, not_if, class_kept, Bounded, BoundedAs, Inside, wide_bounded, joined_bounded, hull_of_bounded, of_one, of_either, of_span, Alone, Sound, kind_as, sound_one, sound_some, not_false}
 use Rattle.xs_kinds.proofs.Rows.{truth_given, bounded_as, from_left, from_right}
 
 pub or_false_first : (a b : Bool) → (a || b) ≡ false → a ≡ false
@@ -128,10 +128,6 @@ pub record Kept (ends : Bool) (conditions values : List Judged) : Type 0 where
   pub ended : ends ≡ true
   pub conditions_kept : broken_in conditions ≡ []
   pub values_kept : broken_in values ≡ []
-
-not_false : (b : Bool) → not b ≡ false → b ≡ true
-not_false true e = refl
-not_false false e = cc
 
 pub case_row : (sets ends : Bool) (conditions values : List Judged) (given : Option Values) → (judged_case sets ends conditions values).broken ≡ [] →
     (Kept ends conditions values → Branched (first_class (kinds_in values)) (hull_of (kinds_in values)) values given) → Sound (judged_case sets ends conditions values) given

@@ -22,6 +22,7 @@ use Rattle.xs_flattening.proofs.Variables.{variables_are}
 use Rattle.xs_flattening.proofs.Numbered.{has_valuation}
 use Rattle.xs_kinds.specs.Laws.{values_by_number, DomainsAreThose, TracesAreThose}
 use Rattle.xs_kinds.proofs.WrittenLaws.{numbers, domains, IsReal, real_all}
+use Rattle.xs_flattening.proofs.HistoryTraces.{domains_length}
 
 -- A declaration makes its name what it declares.
 abbrev IsItsKind : ModuleTree → Item → Type 0
@@ -168,12 +169,6 @@ traces_are p m accepted is trace =
     (λ v w. let f = flat.step (values_by_number m v) (values_by_number m w) v w (numbers m v) (numbers m w) in (f.1, f.0)) trace in
     (λ g. record { first = first.0 g.first; moments = moments.0 g.moments; steps = steps.0 g.steps }, λ g. record { first = first.1 g.first; moments = moments.1 g.moments; steps = steps.1 g.steps })
 
-same_length : (xs : List FlatVariable) (v : List Value) → AreInDomains xs v → length v ≡ length xs
-same_length [] [] h = refl
-same_length [] (w ∷ v) h = absurd h
-same_length (x ∷ xs) [] h = absurd h
-same_length (x ∷ xs) (w ∷ v) h = ap suc (same_length xs v h.1)
-
 same_values : (f : FlatVariable → Value) (xs : List FlatVariable) (v : List Value) → length v ≡ length xs → ((i : ℕ) (x : FlatVariable) → slice_get xs i ≡ Some x → slice_get v i ≡ Some (f x)) → map f xs ≡ v
 same_values f [] [] l h = refl
 same_values f [] (w ∷ v) l h = absurd (omega (arith, l))
@@ -188,7 +183,7 @@ pub traces_named : (p : ProgramTree) (m : FlatModel) → IsAccepted p → IsFlat
 traces_named p m accepted is [] h = ([], refl)
 traces_named p m accepted is (v ∷ flat) h =
     let more = traces_named p m accepted is flat h.1 in
-    let size = same_length m.variables v h.0.domains in
+    let size = domains_length m.variables v h.0.domains in
     let named = has_valuation p m accepted is v size in
     let same : values_by_number m named.0 ≡ v = same_values (λ x. named.0 x.place x.name) m.variables v size named.1 in
     let rest = more.1 in

@@ -4,10 +4,10 @@ use Rattle.std.proofs.lemmas.Int.{ints}
 use Rattle.std.proofs.lemmas.Bool.{ltb-true}
 use Rattle.std.proofs.lemmas.Bool.Decides.{nat_tests}
 use Rattle.std.proofs.Math.Nat.{pow-suc, pow-le-pow_right}
-use Rattle.xs_tree.proofs.ValueLaws.{both_true}
 use Rattle.xs_kinds.specs.Intervals.{fits_number}
 use Rattle.xs_kinds.specs.Costs.{digits_in, digits_of, width_of}
 use Rattle.xs_kinds.specs.Laws.{BitsHold, WidthsAreLeast}
+use Rattle.xs_lexer.proofs.SignLemmas.{both_true}
 
 -- d is the number of binary digits of n
 pub record AreDigits (n d : ℕ) : Type 0 where

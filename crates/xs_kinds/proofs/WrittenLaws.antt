@@ -8,7 +8,7 @@ use Rattle.xs_tree.specs.Values.{Value, truth, number, symbol, one, same_value}
 use Rattle.xs_tree.specs.Scope.{Place, Role, state, input, frozen_role, Kind, a_variable, kind_declared, kind_in_decls, kind_in_defines, kind_in_sections, formal_from, kind_after_formals, find_module}
 use Rattle.xs_tree.specs.May.{Valuation}
 use Rattle.xs_tree.specs.Trace.{Each, in_domain, IsVariable, Declares, DomainSection, InDomains}
-use Rattle.xs_tree.proofs.ValueLaws.{same_text_equal, same_text_refl}
+use Rattle.xs_tree.proofs.ValueLaws.{same_text_refl}
 use Rattle.xs_flattening.specs.Flat.{FlatLeaf, FlatVariable, FlatModel, Numbers}
 use Rattle.xs_flattening.specs.Items.{Visit, visits, variable_declared, variables_of}
 use Rattle.xs_flattening.specs.Rules.{IsAccepted}
@@ -27,6 +27,7 @@ use Rattle.xs_kinds.proofs.TreeLaws.{no_set}
 use Rattle.xs_kinds.proofs.Typed.{values_lie}
 use Rattle.xs_kinds.proofs.ClosedLaws.{own_by, models_closed}
 use Rattle.xs_kinds.proofs.AnyResolver.{resolved_by, may_by}
+use Rattle.xs_tree.proofs.OneTree.{same_text_equal}
 
 -- A declared variable has a value of its domain.
 declared_value : (v : Valuation) (at : Place) (x : Text) (role r : Role) (what type : DeclaredTree) → kind_declared r what ≡ a_variable role type → Declares v at x what → IsTrue (in_domain type (v at x))

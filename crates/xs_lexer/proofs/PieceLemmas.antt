@@ -20,7 +20,7 @@ use Rattle.xs_lexer.proofs.ByteLemmas.{blank_cases, word_not_blank, digit_not_bl
 use Rattle.xs_lexer.proofs.RunLemmas.{Runs-run_len, run_len-le, run_len-runs, run_len-stops}
 use Rattle.xs_lexer.proofs.SignLemmas.{chosen_by, starts_with-begins, sign_at-some, sign_no_number, sign_long, sign_starts, sign_some}
 use Rattle.xs_lexer.proofs.BlockLemmas.{BlockAt, block_len-first, block_len-some, block_len-none}
-use Rattle.xs_lexer.proofs.TokenLemmas.{word_longest, number_longest, sign_longest, no_token_at, one_longest, one_kind_longest}
+use Rattle.xs_lexer.proofs.TokenLemmas.{word_longest, number_longest, sign_longest, no_token_at, one_longest, one_kind_longest, some_digits}
 
 -- a piece of this kind and length stands here
 pub record PieceHere (bytes : List ℕ) (here : Found) : Type 0 where
@@ -90,12 +90,9 @@ word_here b bs no_comment starts =
       };
     })
 
-digits_some : (b : ℕ) (bs : List ℕ) → is_ascii_digit b ≡ true → run_len takes_digit (b ∷ bs) ≡ run_len takes_digit bs + 1
-digits_some b bs digit = rw digit refl
-
 number_here : (b : ℕ) (bs : List ℕ) → (BeginsComment (b ∷ bs) → ⊥) → is_ascii_digit b ≡ true → number_from 0 (take (run_len takes_digit (b ∷ bs)) (b ∷ bs)) ≤ 2 ^ 63 - 1 → PieceHere (b ∷ bs) (record { kind = Some Number; len = run_len takes_digit (b ∷ bs) })
 number_here b bs no_comment digit small = record {
-  some = omega (arith, digits_some b bs digit);
+  some = omega (arith, some_digits b bs digit);
   within = run_len-le takes_digit (b ∷ bs);
   piece = record {
     no_comment = λ begins. no_comment (subst BeginsComment (take-append-drop (run_len takes_digit (b ∷ bs)) (b ∷ bs)) begins);

@@ -8,7 +8,7 @@ use Rattle.xs_lexer.specs.declared.token.Token.{Token}
 use Rattle.xs_lexer.specs.Tokens.{Piece, IsPiece, IsTokenPiece, Splits, token_of, tokens_from, HasTokens, StandsIn}
 use Rattle.xs_lexer.proofs.PieceLemmas.{text_some}
 
-range_is : (whole before text after : List ℕ) (start : ℕ) → whole ≡ before ++ (text ++ after) → start ≡ length before → slice_range whole start (start + length text) ≡ text
+pub range_is : (whole before text after : List ℕ) (start : ℕ) → whole ≡ before ++ (text ++ after) → start ≡ length before → slice_range whole start (start + length text) ≡ text
 range_is whole before text after start cut place =
     let long : start + length text - start ≡ length text = omega arith in
     ap (λ n. take n (drop start whole)) long ∙ ap (λ n. take (length text) (drop n whole)) place ∙ ap (λ t. take (length text) (drop (length before) t)) cut

@@ -11,12 +11,10 @@ use Rattle.xs_lexer.specs.Scan.{sign_at}
 use Rattle.xs_lexer.proofs.ByteLemmas.{digit_not_word}
 use Rattle.xs_lexer.proofs.RunLemmas.{Runs-run_len, Runs-le, run_len-le}
 use Rattle.xs_lexer.proofs.SignLemmas.{sign_starts, sign_some, sign_at-none, sign_at-some, sign_at-longest, signs_descend, signs_differ, one_kind, same_front}
+use Rattle.xs_lexer.proofs.BlockLemmas.{tail_same}
 
 head_same : (x y : ℕ) (xs ys : List ℕ) → x ∷ xs ≡ y ∷ ys → x ≡ y
 head_same x y xs ys e = cc
-
-tail_same : (x y : ℕ) (xs ys : List ℕ) → x ∷ xs ≡ y ∷ ys → xs ≡ ys
-tail_same x y xs ys e = ap (drop 1) e
 
 split_run : (test : List ℕ → Bool) (bytes : List ℕ) → take (run_len test bytes) bytes ++ drop (run_len test bytes) bytes ≡ bytes
 split_run test bytes = take-append-drop (run_len test bytes) bytes
@@ -59,7 +57,7 @@ number_at b bs digit kind (x ∷ more) back e token =
     other)
     token
 
-some_digits : (b : ℕ) (bs : List ℕ) → is_ascii_digit b ≡ true → run_len takes_digit (b ∷ bs) ≡ run_len takes_digit bs + 1
+pub some_digits : (b : ℕ) (bs : List ℕ) → is_ascii_digit b ≡ true → run_len takes_digit (b ∷ bs) ≡ run_len takes_digit bs + 1
 some_digits b bs digit = rw digit refl
 
 number_text : (b : ℕ) (bs : List ℕ) → is_ascii_digit b ≡ true → take (run_len takes_digit (b ∷ bs)) (b ∷ bs) ≡ b ∷ take (run_len takes_digit bs) bs

@@ -17,7 +17,7 @@ use Rattle.xs_lits.proofs.ListLemmas.{find_Some, All-from_find_None, find_None, 
 example : truth_of (made_true (all_free 3) (opposite (plain 3))) (plain 2 ∷ plain 2 ∷ plain 3 ∷ []) ≡ UnitClause (plain 2)
 example = refl
 
-value_true : (o : Option Bool) → unwrap_or o false ≡ true → o ≡ Some true
+pub value_true : (o : Option Bool) → unwrap_or o false ≡ true → o ≡ Some true
 value_true None e = cc
 value_true (Some b) e = ap Some e
 

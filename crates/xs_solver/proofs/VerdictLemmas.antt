@@ -14,7 +14,7 @@ use Rattle.xs_lits.specs.Models.{TotalAssignment, clause_value, Satisfies}
 use Rattle.xs_lits.specs.declared.clause.Truth.TheVariants.{False}
 use Rattle.xs_lits.proofs.ListLemmas.{All-from_list_any}
 use Rattle.xs_lits.proofs.ModelLemmas.{All-from_Satisfies, Satisfies-from_All}
-use Rattle.xs_lits.proofs.TruthLemmas.{truth_of-False}
+use Rattle.xs_lits.proofs.TruthLemmas.{truth_of-False, value_true}
 use Rattle.xs_derive.specs.Derivation.{IsUpTo}
 use Rattle.xs_derive.proofs.ModelLemmas.{FollowsFrom-EndsFalse}
 use Rattle.xs_derive.specs.declared.step.Step.{Step}
@@ -24,10 +24,6 @@ use Rattle.xs_solver.specs.Verdict.{IsFull, IsCore, IsAdvance, IsVerdict}
 use Rattle.xs_solver.specs.TrailRecord.{TrailValue}
 use Rattle.xs_solver.specs.declared.solve.Verdict.{Verdict}
 use Rattle.xs_solver.specs.declared.solve.Verdict.TheVariants.{Sat, Unsat}
-
-value_true : (o : Option Bool) → unwrap_or o false ≡ true → o ≡ Some true
-value_true None e = cc
-value_true (Some b) e = ap Some e
 
 value_false : (o : Option Bool) → unwrap_or o false ≡ false → o ≢ None → o ≡ Some false
 value_false None e ne = absurd (ne refl)

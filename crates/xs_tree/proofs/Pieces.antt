@@ -9,6 +9,7 @@ use Rattle.xs_lexer.specs.Tokens.{Piece, IsPiece, Splits, token_of, tokens_from,
 use Rattle.xs_lexer.specs.Scan.{found, piece_at}
 use Rattle.xs_lexer.proofs.PieceLemmas.{piece_found}
 use Rattle.xs_tree.specs.Lexemes.{Lexeme, lexeme_of, lexemes_of}
+use Rattle.xs_lexer.proofs.PlaceLemmas.{range_is}
 
 -- what the grammar sees of a piece, before what it sees of those after it
 abbrev pub with_piece : Option TokenKind → List ℕ → List Lexeme → List Lexeme
@@ -19,12 +20,6 @@ with_piece (Some kind) text more = lexeme_of kind text ∷ more
 abbrev pub seen : List Piece → List Lexeme
 seen [] = []
 seen (piece ∷ pieces) = with_piece piece.kind piece.text (seen pieces)
-
-range_is : (whole before text after : List ℕ) (start : ℕ) → whole ≡ before ++ (text ++ after) → start ≡ length before → slice_range whole start (start + length text) ≡ text
-range_is whole before text after start cut place =
-    let long : start + length text - start ≡ length text = omega arith in
-    ap (λ n. take n (drop start whole)) long ∙ ap (λ n. take (length text) (drop n whole)) place ∙ ap (λ t. take (length text) (drop (length before) t)) cut
-    ∙ ap (take (length text)) (drop-append_seam before (text ++ after)) ∙ take-append_seam text after
 
 seen_first : (kind : Option TokenKind) (whole before text after : List ℕ) (start : ℕ) (tokens : List Token) → whole ≡ before ++ (text ++ after) → start ≡ length before →
     lexemes_of whole (token_of start kind (length text) ++ tokens) ≡ with_piece kind text (lexemes_of whole tokens)

@@ -9,22 +9,26 @@ use Rattle.xs_tree.specs.ProgramTree.{Text, DeclaredTree, boolean, range, member
 use Rattle.xs_tree.specs.Texts.{same_text}
 use Rattle.xs_tree.specs.Trace.{in_domain, is_member}
 use Rattle.xs_tree.specs.Values.{Value, truth, number, symbol, same_int, is_between, at_most, opposite}
-use Rattle.xs_tree.proofs.ValueLaws.{same_text_equal, same_text_refl, same_int_equal, both_true}
+use Rattle.xs_tree.proofs.ValueLaws.{same_text_refl, same_int_equal}
 use Rattle.xs_value.specs.declared.domain.Domain.TheVariants as domain
 use Rattle.xs_value.specs.declared.value.Value.{Value as AValue}
 use Rattle.xs_value.specs.declared.value.Value.TheVariants as value
 use Rattle.xs_value.specs.Domains.{Has}
 use Rattle.xs_kinds.specs.Judged.{KindRule, number_class, symbol_class, mixed_enum, double_member, rule_if, unless_class, unlike_first, wide}
 use Rattle.xs_kinds.specs.Costs.{symbol_number}
-use Rattle.xs_kinds.proofs.Parts.{none_first, none_second}
+use Rattle.xs_kinds.proofs.Parts.{none_first, none_second, not_less}
 use Rattle.xs_kinds.specs.Declared.{member_kind, has_double, judged_declared}
 use Rattle.xs_types.specs.Types.{numbers_in, symbols_in, members_domain, domain_of, StandsFor, HasValuesOf, variable_domain, AreValuesOf}
 use Rattle.xs_types.proofs.MetLaws.{int_itself}
 use Rattle.xs_kinds.specs.Models.{breaches_at, variable_breaches, IsTyped}
 use Rattle.xs_value.specs.declared.domain.Domain.{Domain}
-use Rattle.xs_flat.specs.declared.model.FlatModel.{FlatModel}
-use Rattle.xs_flat.specs.declared.model.Variable.{Variable}
-use Rattle.xs_flat.specs.ModelTree.{variable_tree, model_tree}
+use Rattle.xs_scope.specs.declared.model.FlatModel.{FlatModel}
+use Rattle.xs_scope.specs.declared.model.Variable.{Variable}
+use Rattle.xs_scope.specs.ModelTree.{variable_tree, model_tree}
+use Rattle.xs_lexer.proofs.SignLemmas.{both_true}
+use Rattle.xs_flat.proofs.BuildOrder.{or_left}
+use Rattle.xs_flat.proofs.BuildAccepted.{or_true}
+use Rattle.xs_tree.proofs.OneTree.{same_text_equal}
 
 -- Contained items.
 at_head : {A : Type 0} (x : A) (xs : List A) → Contains (x ∷ xs) x
@@ -43,18 +47,11 @@ by_place x y xs c = by c.0 c.1 c.2
 none_within : {A : Type 0} (x : A) → Contains [] x → ⊥
 none_within x c = omega (arith, c.1)
 
-right_or : (a b : Bool) → b ≡ true → (a || b) ≡ true
-right_or true b e = refl
-right_or false b e = e
-
-left_or : (a b : Bool) → a ≡ true → (a || b) ≡ true
-left_or a b e = ap (λ c. c || b) e
-
 -- Numbers among members.
 number_there : (ms : List Member) (n : ℤ) → Contains (numbers_in ms) n → is_member ms (number n) ≡ true
 number_there [] n c = absurd (none_within n c)
 number_there (member.Number k ∷ ms) n c =
-    ⊎_elim (λ (e : k ≡ n). left_or (same_int k n) (is_member ms (number n)) (subst (λ x. same_int k x ≡ true) e (int_itself k))) (λ d. right_or (same_int k n) (is_member ms (number n)) (number_there ms n d)) (by_place n k (numbers_in ms) c)
+    ⊎_elim (λ (e : k ≡ n). or_left (same_int k n) (is_member ms (number n)) (subst (λ x. same_int k x ≡ true) e (int_itself k))) (λ d. or_true (same_int k n) (is_member ms (number n)) (number_there ms n d)) (by_place n k (numbers_in ms) c)
 number_there (member.Symbol x ∷ ms) n c = number_there ms n c
 
 number_found : (ms : List Member) (n : ℤ) → is_member ms (number n) ≡ true → Contains (numbers_in ms) n
@@ -80,8 +77,8 @@ symbol_there symbols [] i x at c = absurd (none_within i c)
 symbol_there symbols (member.Number n ∷ ms) i x at c = symbol_there symbols ms i x at c
 symbol_there symbols (member.Symbol y ∷ ms) i x at c =
     ⊎_elim
-    (λ (e : symbol_number symbols y ≡ i). left_or (same_text y x) (is_member ms (symbol x)) (subst (λ z. same_text y z ≡ true) (named symbols y x (ap (slice_get symbols) e ∙ at)) (same_text_refl y)))
-    (λ d. right_or (same_text y x) (is_member ms (symbol x)) (symbol_there symbols ms i x at d)) (by_place i (symbol_number symbols y) (symbols_in symbols ms) c)
+    (λ (e : symbol_number symbols y ≡ i). or_left (same_text y x) (is_member ms (symbol x)) (subst (λ z. same_text y z ≡ true) (named symbols y x (ap (slice_get symbols) e ∙ at)) (same_text_refl y)))
+    (λ d. or_true (same_text y x) (is_member ms (symbol x)) (symbol_there symbols ms i x at d)) (by_place i (symbol_number symbols y) (symbols_in symbols ms) c)
 
 symbol_found : (symbols : List Text) (ms : List Member) (i : ℕ) (x : Text) → symbol_number symbols x ≡ i → is_member ms (symbol x) ≡ true → Contains (symbols_in symbols ms) i
 symbol_found symbols [] i x number_is e = cc
@@ -146,14 +143,6 @@ members_has symbols [] e v w s = symbols_has symbols [] refl v w s
 members_has symbols (member.Number n ∷ ms) e v w s = numbers_has symbols (member.Number n ∷ ms) (unlike_none (member.Number n ∷ ms) e) v w s
 members_has symbols (member.Symbol x ∷ ms) e v w s = symbols_has symbols (member.Symbol x ∷ ms) (unlike_none (member.Symbol x ∷ ms) e) v w s
 
--- Ranges.
-no_less : (a b : ℤ) → at_most a b ≡ true → a ≤ℤ b
-no_less a b h = by (int_lt b a) refl h
-  where
-    by : (t : Bool) → int_lt b a ≡ t → opposite t ≡ true → a ≤ℤ b
-    by true e h' = cc
-    by false e h' = omega (arith, ints)
-
 less_not : (a b : ℤ) → a ≤ℤ b → at_most a b ≡ true
 less_not a b h = by (int_lt b a) refl
   where
@@ -165,7 +154,7 @@ range_has : (symbols : List Text) (lo hi : ℤ) (v : AValue) (w : Value) → Sta
 range_has symbols lo hi (value.Num n) (number k) s =
     subst (λ z. Has (domain.Range lo hi) (value.Num n) ↔ IsTrue (is_between lo hi (number z))) s (
       (λ h. let a : at_most lo n ≡ true = less_not lo n h.0 in let b : at_most n hi ≡ true = less_not n hi h.1 in rw (a, b) refl),
-      λ t. let e = both_true (at_most lo n) (at_most n hi) t in (no_less lo n e.0, no_less n hi e.1),
+      λ t. let e = both_true (at_most lo n) (at_most n hi) t in (not_less lo n e.0, not_less n hi e.1),
     )
 range_has symbols lo hi (value.Bool b) (truth c) s = never false refl (λ x. x)
 range_has symbols lo hi (value.Sym i) (symbol x) s = never false refl (λ x. x)

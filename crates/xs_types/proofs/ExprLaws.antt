@@ -15,9 +15,9 @@ use Rattle.xs_types.specs.declared.several.Several.{Several}
 use Rattle.xs_types.specs.declared.several.Guards.{Guards}
 use Rattle.xs_types.specs.Answers.{told}
 use Rattle.xs_types.specs.Several.{add_all, guard_all, no_guards, row_set, row_case}
-use Rattle.xs_types.proofs.TreeLaws.{tree_of_case, tree_of_set}
 use Rattle.xs_types.proofs.NodeLaws.{told_not, told_negative, told_binary, told_choice, told_span}
 use Rattle.xs_types.proofs.ListLaws.{told_set, told_case}
+use Rattle.xs_tree.proofs.WrittenLaws.{tree_of_case, tree_of_set}
 
 pub judged_not_is : {L : Type 0} (k : L → Kind) (sets : Bool) (a : Box (Expr L) Global) → row_not (told (judge k false (tree_of a.value))) ≡ told (judge k sets (tree_of (Not a)))
 judged_not_is {L = L} k sets a =

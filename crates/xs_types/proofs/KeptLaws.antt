@@ -4,10 +4,10 @@ use Rattle.std.specs.Prelude.{slice_get, map}
 use Rattle.xs_tree.specs.declared.expr.Expr.{Expr}
 use Rattle.xs_tree.specs.Written.{tree_of}
 use Rattle.xs_flattening.specs.Flat.{FlatModel}
-use Rattle.xs_flat.specs.declared.model.Flat.{Flat}
-use Rattle.xs_flat.specs.declared.model.Flat.TheVariants as flat
-use Rattle.xs_flat.specs.declared.model.Formula.{Formula}
-use Rattle.xs_flat.specs.ModelTree.{leaf_of, flat_tree, formula_tree}
+use Rattle.xs_scope.specs.declared.model.Flat.{Flat}
+use Rattle.xs_scope.specs.declared.model.Flat.TheVariants as flat
+use Rattle.xs_scope.specs.declared.model.Formula.{Formula}
+use Rattle.xs_scope.specs.ModelTree.{leaf_of, flat_tree, formula_tree}
 use Rattle.xs_kinds.specs.Judged.{Class, truth_class, number_class, symbol_class, Kind, Judged, judge}
 use Rattle.xs_kinds.specs.Models.{kind_at, leaf_kind, judged_in, broken_condition, breaches_at, condition_breaches}
 use Rattle.xs_kinds.proofs.Mapped.{judge_mapped}

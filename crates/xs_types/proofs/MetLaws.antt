@@ -10,13 +10,14 @@ use Rattle.xs_tree.specs.declared.program.Member.{Member}
 use Rattle.xs_tree.specs.declared.program.Member.TheVariants as member
 use Rattle.xs_tree.specs.Texts.{same_text, is_among}
 use Rattle.xs_tree.specs.Values.{same_int}
-use Rattle.xs_tree.proofs.ValueLaws.{same_text_equal, same_int_equal}
-use Rattle.xs_flat.specs.Symbols.{texts}
-use Rattle.xs_flat.proofs.SymbolLaws.{inserted}
+use Rattle.xs_tree.proofs.ValueLaws.{same_int_equal}
+use Rattle.xs_scope.specs.Symbols.{texts}
+use Rattle.xs_scope.proofs.SymbolLaws.{inserted}
 use Rattle.xs_kinds.specs.Declared.{same_member, is_member_again, has_double}
 use Rattle.indexmap.specs.IndexSet.{contains}
 use Rattle.xs_types.specs.declared.members.Met.{Met}
 use Rattle.xs_types.specs.Met.{AddsMember, met_again}
+use Rattle.xs_tree.proofs.OneTree.{same_text_equal}
 
 pub int_itself : (a : ℤ) → same_int a a ≡ true
 int_itself (pos n) = eq-eqb n n refl
@@ -25,20 +26,6 @@ int_itself (negsuc n) = eq-eqb n n refl
 -- both tests of numbers answer the same
 pub same_numbers : (a b : ℤ) → int_eq a b ≡ same_int a b
 same_numbers a b = same_from_decides (int_eq a b) (same_int a b) (Decides-int_eq a b) (same_int_equal a b, λ e. subst (λ x. same_int a x ≡ true) e (int_itself a))
-
-turned : (x y : ℕ) → nat_eq x y ≡ nat_eq y x
-turned x y = same_from_decides (nat_eq x y) (nat_eq y x) (Decides-eqb x y) ((λ e. sym ((Decides-eqb y x).0 e)), λ e. (Decides-eqb y x).1 (sym e))
-
-turned_bytes : (x y : List ℕ) → pointwise nat_eq x y ≡ same_text y x
-turned_bytes [] [] = refl
-turned_bytes [] (d ∷ ds) = refl
-turned_bytes (c ∷ cs) [] = refl
-turned_bytes (c ∷ cs) (d ∷ ds) = rw (turned c d, turned_bytes cs ds) refl
-
--- a text among borrowed ones
-pub any_among : (x : List ℕ) (ks : List (Bor (List ℕ))) → list_any (λ (y : Bor (List ℕ)). pointwise nat_eq x y.now) ks ≡ is_among (texts ks) x
-any_among x [] = refl
-any_among x (k ∷ ks) = rw (turned_bytes x k.now, any_among x ks) refl
 
 among_last : (ts : List (List ℕ)) (x y : List ℕ) → is_among (ts ++ x ∷ []) y ≡ (same_text x y || is_among ts y)
 among_last [] x y = refl

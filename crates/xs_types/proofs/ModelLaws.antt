@@ -14,6 +14,7 @@ use Rattle.xs_types.specs.Faults.{IsFaultOf, told_fault}
 use Rattle.xs_types.specs.Sites.{told_first_site, fault_by}
 use Rattle.xs_types.proofs.SiteLaws.{fault_told}
 use Rattle.xs_types.proofs.SizeLaws.{below_cap}
+use Rattle.xs_flattening.proofs.Now.{neither}
 
 pub fault_answered : (m : FlatModel) (first : Option Site) (cost bits : ℕ) → first ≡ told_first_site (first_of (breaches m)) → cost ≡ min (model_cost m) 50001 → bits ≡ min (state_bits m) 50001 →
     fault_by first (nat_lt 50000 cost || nat_lt 4096 bits) ≡ told_fault (first_fault m)
@@ -38,10 +39,6 @@ typed_is m e = by (first_fault m) refl e
     by : (o : Option (KindRule × ℕ)) → first_fault m ≡ o → told_fault o ≡ None → IsTyped m
     by None g h = none_is_typed m g
     by (Some p) g h = cc
-
-neither : (a b : Bool) → (a || b) ≡ false → (a ≡ false) × (b ≡ false)
-neither true b e = cc
-neither false b e = (refl, e)
 
 -- the sizes of a typed model are within the limits
 pub small_cost : (m : FlatModel) (cost : ℕ) → IsTyped m → cost ≡ min (model_cost m) 50001 → cost ≡ model_cost m

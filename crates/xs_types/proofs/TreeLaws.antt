@@ -8,12 +8,6 @@ use Rattle.xs_tree.specs.Tree.{Tree, case_of, set_of}
 use Rattle.xs_tree.specs.Written.{tree_of, trees_of, branches_of, node_tree}
 use Rattle.xs_kinds.specs.Costs.{cost_of, trees_cost, branches_cost}
 
-pub tree_of_case : {L : Type 0} (bs : List (Expr L × Expr L)) → tree_of (Case bs) ≡ case_of (branches_of bs)
-tree_of_case {L = L} bs = ap tree_of (sym (rolls-Case bs)) ∙ fold-roll-Expr L (Tree L) node_tree (open_.Case bs)
-
-pub tree_of_set : {L : Type 0} (ts : List (Expr L)) → tree_of (SetOf ts) ≡ set_of (trees_of ts)
-tree_of_set {L = L} ts = ap tree_of (sym (rolls-SetOf ts)) ∙ fold-roll-Expr L (Tree L) node_tree (open_.SetOf ts)
-
 pub trees_cost_more : {L : Type 0} (ts : List (Expr L)) (i : ℕ) (d : Expr L) → i < length ts →
     trees_cost (trees_of (drop i ts)) ≡ cost_of (tree_of (get_or ts i d)) + trees_cost (trees_of (drop (i + 1) ts))
 trees_cost_more ts i d h = ap (λ xs. trees_cost (trees_of xs)) (drop_more ts i d h)

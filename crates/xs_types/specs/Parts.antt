@@ -1,7 +1,7 @@
 -- The definitions of a model, one after the other.
 use Rattle.std.specs.Prelude.{◌≡◌, [], List, map}
-use Rattle.xs_flat.specs.declared.model.Formula.{Formula}
-use Rattle.xs_flat.specs.ModelTree.{formula_tree}
+use Rattle.xs_scope.specs.declared.model.Formula.{Formula}
+use Rattle.xs_scope.specs.ModelTree.{formula_tree}
 use Rattle.xs_kinds.specs.Judged.{Judged}
 use Rattle.xs_kinds.specs.FirstBreach.{first_of}
 use Rattle.xs_kinds.specs.Models.{judged_after, definition_breaches}

@@ -10,8 +10,8 @@ use Rattle.xs_value.specs.declared.domain.Domain.TheVariants as domain
 use Rattle.xs_value.specs.declared.value.Value.{Value}
 use Rattle.xs_value.specs.declared.value.Value.TheVariants as value
 use Rattle.xs_value.specs.Domains.{Has}
-use Rattle.xs_flat.specs.declared.model.Variable.{Variable}
-use Rattle.xs_flat.specs.declared.model.FlatModel.{FlatModel}
+use Rattle.xs_scope.specs.declared.model.Variable.{Variable}
+use Rattle.xs_scope.specs.declared.model.FlatModel.{FlatModel}
 use Rattle.xs_kinds.specs.Intervals.{Interval, just, hull}
 use Rattle.xs_kinds.specs.Judged as found
 use Rattle.xs_kinds.specs.Judged.{number_class, symbol_class, wide}

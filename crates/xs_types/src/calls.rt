@@ -1,7 +1,7 @@
 //! Expressions over a typed model that are no part of it.
 
 ghost use Rattle.std.specs.Prelude.{◌≡◌, true, false, [], nat_lt, OnOk};
-ghost use Rattle.xs_flat.specs.ModelTree.{model_tree, flat_tree};
+ghost use Rattle.xs_scope.specs.ModelTree.{model_tree, flat_tree};
 ghost use Rattle.xs_kinds.specs.Models.{judged_in, broken_condition, value_fault, top_fault};
 ghost use Rattle.xs_types.specs.Answers.{told};
 ghost use Rattle.xs_types.specs.Calls.{sort_kind, shown, value_answer, top_answer, value_by, top_by, LiesInKind};

@@ -3,7 +3,7 @@
 ghost use Rattle.std.specs.Prelude.{◌≡◌, ◌+◌, min};
 ghost use Rattle.xs_tree.specs.Written.{tree_of, trees_of, branches_of};
 ghost use Rattle.xs_tree.specs.ProgramTree.{declared_tree};
-ghost use Rattle.xs_flat.specs.ModelTree.{model_tree};
+ghost use Rattle.xs_scope.specs.ModelTree.{model_tree};
 ghost use Rattle.xs_kinds.specs.Costs.{op_cost, cost_of, trees_cost, branches_cost, declared_cost, model_cost};
 ghost use Rattle.xs_types.specs.Sizes.{formulas_cost, variables_cost};
 
@@ -26,7 +26,7 @@ pub(crate) fn both(a: u64, b: u64) -> u64
 /// The cost of an expression: 1 for each node, and 64 for `*`, `/` and `mod`. A name counts as one node,
 /// also where it stands for a definition. Takes no memory.
 #[cycle(cost)]
-#[tactic(auto, using(crate::proofs::TreeLaws::tree_of_case, crate::proofs::TreeLaws::tree_of_set))]
+#[tactic(auto, using(xs_tree::proofs::WrittenLaws::tree_of_case, xs_tree::proofs::WrittenLaws::tree_of_set))]
 pub(crate) fn cost(e: &Expr<Flat>) -> u64
     ensures { result ≡ min (cost_of (tree_of e.now)) 50001 }
 {

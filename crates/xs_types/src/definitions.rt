@@ -2,7 +2,7 @@
 
 ghost use Rattle.std.specs.Prelude.{◌≡◌, false, [], ◌∷◌, ◌++◌, IfOk};
 ghost use Rattle.xs_tree.specs.Written.{tree_of};
-ghost use Rattle.xs_flat.specs.ModelTree.{model_tree};
+ghost use Rattle.xs_scope.specs.ModelTree.{model_tree};
 ghost use Rattle.xs_kinds.specs.Judged.{judge};
 ghost use Rattle.xs_kinds.specs.Models.{judged_variables};
 ghost use Rattle.xs_types.specs.Answers.{told_rules};

@@ -1,7 +1,7 @@
 //! Models that break no rule.
 
 ghost use Rattle.std.specs.Prelude.{◌≡◌, ◌<◌, ◌≤◌, ◌||◌, nat_lt, map, length, slice_get, Some, IfOk, IfErr};
-ghost use Rattle.xs_flat.specs.ModelTree.{model_tree};
+ghost use Rattle.xs_scope.specs.ModelTree.{model_tree};
 ghost use Rattle.xs_kinds.specs.Costs.{model_cost, state_bits};
 ghost use Rattle.xs_kinds.specs.Models.{IsTyped};
 ghost use Rattle.xs_types.specs.Kept.{AreKindsOf};

@@ -2,7 +2,7 @@
 
 ghost use Rattle.std.specs.Prelude.{◌≡◌, ◌+◌, [], ◌∷◌, ◌++◌, min, map, IfOk};
 ghost use Rattle.xs_tree.specs.ProgramTree.{declared_tree};
-ghost use Rattle.xs_flat.specs.ModelTree.{model_tree, variable_tree};
+ghost use Rattle.xs_scope.specs.ModelTree.{model_tree, variable_tree};
 ghost use Rattle.xs_kinds.specs.Declared.{judged_declared};
 ghost use Rattle.xs_kinds.specs.Costs.{state_bits};
 ghost use Rattle.xs_kinds.specs.FirstBreach.{first_of};

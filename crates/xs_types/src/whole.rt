@@ -1,7 +1,7 @@
 //! All that is known of a model, and the first rule that it breaks.
 
 ghost use Rattle.std.specs.Prelude.{◌≡◌, ◌||◌, min, nat_lt, map, IfOk};
-ghost use Rattle.xs_flat.specs.ModelTree.{model_tree};
+ghost use Rattle.xs_scope.specs.ModelTree.{model_tree};
 ghost use Rattle.xs_kinds.specs.Costs.{state_bits};
 ghost use Rattle.xs_kinds.specs.FirstBreach.{first_of};
 ghost use Rattle.xs_kinds.specs.Models.{judged_definitions, variable_breaches, definition_breaches, breaches};

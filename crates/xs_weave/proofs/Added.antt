@@ -8,7 +8,7 @@ use Rattle.xs_tree.specs.ProgramTree.{Text, SectionTree, var, ivar, frozen, defi
 use Rattle.xs_tree.specs.Texts.{same_text, is_among}
 use Rattle.xs_tree.specs.Scope.{state, a_variable, find_module, kind_declared, kind_in_sections, kind_in, is_symbol, is_symbol_of_sections, is_symbol_of_members, is_symbol_of_decls}
 use Rattle.xs_tree.specs.Trace.{AtSome}
-use Rattle.xs_tree.proofs.ValueLaws.{same_text_equal, same_text_refl}
+use Rattle.xs_tree.proofs.ValueLaws.{same_text_refl}
 use Rattle.xs_fei.specs.Instructions.{ModeTree, SliceTree, InstructionTree, is_target, is_affected}
 use Rattle.xs_effects.specs.AddedNames.{ModeState}
 use Rattle.xs_effects.specs.AddedNames.{own_name, mode_variable, mode_symbol}
@@ -16,6 +16,8 @@ use Rattle.xs_weave.specs.Woven.{type_of_kind, mode_type, slice_sections, woven_
 use Rattle.xs_weave.specs.Weavable.{Among}
 use Rattle.xs_effects.specs.Types.{IsKnown}
 use Rattle.xs_weave.proofs.WovenKinds.{slice_kind}
+use Rattle.xs_weave.proofs.Declared.{or_true}
+use Rattle.xs_tree.proofs.OneTree.{same_text_equal}
 
 -- the two ways to say that a list has a member
 pub contains_among : {A : Type 0} (xs : List A) (x : A) → Among xs x → Contains xs x
@@ -110,12 +112,6 @@ mode_kind m (t ∷ ss) s a same other =
     go false e false f (inl is) more =
         let equal : same_text (mode_variable t.name) (mode_variable s.name) ≡ true = subst (λ u. same_text (mode_variable t.name) (mode_variable u.name) ≡ true) is (same_text_refl (mode_variable t.name)) in cc
     go false e false f (inr b) more = more b
-
--- the symbols of the modes are symbols
-or_true : (a b : Bool) → (a ≡ true) ⊎ (b ≡ true) → (a || b) ≡ true
-or_true true b h = refl
-or_true false b (inl e) = cc
-or_true false b (inr e) = e
 
 sections_more : (ss ts : List SectionTree) (x : Text) → is_symbol_of_sections ts x ≡ true → is_symbol_of_sections (ss ++ ts) x ≡ true
 sections_more [] ts x h = h

@@ -6,13 +6,14 @@ use Rattle.xs_tree.specs.Values.{truth, one}
 use Rattle.xs_tree.specs.Texts.{same_text}
 use Rattle.xs_tree.specs.Evaluate.{Leaves, evaluate, evaluate_branches, gives_choice}
 use Rattle.xs_tree.specs.Trace.{Each}
-use Rattle.xs_tree.proofs.ValueLaws.{same_text_equal, same_text_refl}
+use Rattle.xs_tree.proofs.ValueLaws.{same_text_refl}
 use Rattle.xs_fei.specs.Instructions.{ModeTree}
 use Rattle.xs_effects.specs.AddedNames.{ModeState}
 use Rattle.xs_effects.specs.Templates.{stands}
 use Rattle.xs_effects.proofs.TemplateLaws.{is_state}
 use Rattle.xs_weave.specs.Woven.{mode_branches}
 use Rattle.xs_weave.specs.Weavable.{Among}
+use Rattle.xs_tree.proofs.OneTree.{same_text_equal}
 
 -- the branch that the case takes
 abbrev pub chosen : (ModeTree → Formula) → Formula → ModeState → List ModeTree → Formula

@@ -8,7 +8,7 @@ use Rattle.xs_tree.specs.Texts.{same_text}
 use Rattle.xs_tree.specs.Scope.{Place, Role, a_variable, undeclared, kind_in, module_at}
 use Rattle.xs_tree.specs.May.{Valuation, May}
 use Rattle.xs_tree.specs.Trace.{Each, EachPair, AtSome, AtFirst, IsInstance, IsVariable, in_domain, is_member, DomainSection, IsMoment, IsTrace}
-use Rattle.xs_tree.proofs.ValueLaws.{same_text_equal, same_text_refl}
+use Rattle.xs_tree.proofs.ValueLaws.{same_text_refl}
 use Rattle.xs_fei.specs.Instructions.{ModeTree, SliceTree, InstructionTree, slices_of}
 use Rattle.xs_effects.specs.AddedNames.{ModeState}
 use Rattle.xs_weave.specs.Moves.{Moves, Guarded, Stays}
@@ -25,6 +25,7 @@ use Rattle.xs_weave.proofs.Lists.{each_at}
 use Rattle.xs_weave.proofs.Added.{own_not_mode, among_contains, own_name_same, mode_variable_same}
 use Rattle.xs_weave.proofs.WovenSlices.{known_mode}
 use Rattle.xs_weave.proofs.WovenMoments.{all_instances, split}
+use Rattle.xs_tree.proofs.OneTree.{same_text_equal}
 
 -- what follows a beginning of a text
 abbrev pub without : Text → Text → Option Text

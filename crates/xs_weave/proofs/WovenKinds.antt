@@ -4,12 +4,12 @@ use Rattle.std.specs.Prelude.{map, flat_map, option_map, if◌then◌else◌}
 use Rattle.xs_tree.specs.ProgramTree.{Text, DeclaredTree, boolean, range, members, instance, DeclTree, DefineTree, SectionTree, var, ivar, frozen, define, constants, assign, init, invar, trans, ModuleTree, ProgramTree}
 use Rattle.xs_tree.specs.Texts.{same_text}
 use Rattle.xs_tree.specs.Scope.{Role, state, Kind, a_formal, a_variable, a_define, an_instance, undeclared, find_module, formal_from, kind_declared, kind_in_decls, kind_in_defines, kind_in_sections, kind_after_formals, kind_in, module_of_kind, actual_of_kind}
-use Rattle.xs_tree.proofs.ValueLaws.{same_text_equal}
 use Rattle.xs_fei.specs.Instructions.{EffectTree, stuck_at, follows, inverted, random, erroneous, stuck_at_pick, offset, ramp_down, frozen as frozen_effect, ModeTree, SliceTree, InstructionTree, is_affected}
 use Rattle.xs_effects.specs.AddedNames.{own_name, mode_variable}
 use Rattle.xs_weave.specs.Woven.{type_of_kind, mode_type, slice_sections, woven_section, added_sections, woven_module, woven}
 use Rattle.xs_effects.specs.Templates.{rules}
 use Rattle.xs_weave.specs.Weavable.{Among, IsFinite}
+use Rattle.xs_tree.proofs.OneTree.{same_text_equal}
 
 abbrev pub kind_or : Kind → Kind → Kind
 kind_or undeclared k = k

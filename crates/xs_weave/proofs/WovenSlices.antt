@@ -7,7 +7,7 @@ use Rattle.xs_tree.specs.Evaluate.{evaluate}
 use Rattle.xs_tree.specs.Scope.{Place, kind_in}
 use Rattle.xs_tree.specs.May.{Valuation, name_values, May}
 use Rattle.xs_tree.specs.Trace.{Each, AtSome, IsInstance, in_domain, EachSection}
-use Rattle.xs_tree.proofs.ValueLaws.{same_text_equal, same_text_refl}
+use Rattle.xs_tree.proofs.ValueLaws.{same_text_refl}
 use Rattle.xs_fei.specs.Instructions.{EffectTree, stuck_at, follows, inverted, random, erroneous, frozen, stuck_at_pick, offset, ramp_down, ModeTree, SliceTree, InstructionTree, slices_of}
 use Rattle.xs_effects.specs.AddedNames.{ModeState}
 use Rattle.xs_effects.specs.AddedNames.{own_name, mode_variable, mode_symbol}
@@ -23,6 +23,7 @@ use Rattle.xs_effects.specs.EffectLaw.{SliceLeaves}
 use Rattle.xs_effects.proofs.TemplateLaws.{is_state, one_has}
 use Rattle.xs_weave.proofs.Cases.{chosen, case_value, chosen_none, chosen_some}
 use Rattle.xs_effects.proofs.EffectRows.{BranchAllows, RuleNow, Fits, branch_gives, stands_value, erroneous_value, implied, differs_value}
+use Rattle.xs_tree.proofs.OneTree.{same_text_equal}
 
 -- a mode of the list is known
 pub mode_known : (s : SliceTree) (ms : List ModeTree) (m : ModeTree) → Among ms m → AtSome (λ k. k.name ≡ m.name) ms

@@ -7,7 +7,7 @@ use Rattle.xs_tree.specs.Texts.{same_text}
 use Rattle.xs_tree.specs.Scope.{Place, kind_in}
 use Rattle.xs_tree.specs.May.{Valuation, May}
 use Rattle.xs_tree.specs.Trace.{Each, EachPair, AtSome, AtFirst, IsInstance, in_domain, FirstSection, EachSection, StepSection, DomainSection, IsFirst, InDomains, IsMoment, IsStep, IsTrace}
-use Rattle.xs_tree.proofs.ValueLaws.{same_text_equal, same_text_refl}
+use Rattle.xs_tree.proofs.ValueLaws.{same_text_refl}
 use Rattle.xs_fei.specs.Instructions.{ModeTree, SliceTree, InstructionTree, slices_of, is_affected}
 use Rattle.xs_effects.specs.AddedNames.{ModeState}
 use Rattle.xs_effects.specs.Effects.{Allows}
@@ -26,6 +26,7 @@ use Rattle.xs_weave.proofs.WovenSlices.{known_mode}
 use Rattle.xs_weave.proofs.WovenMoves.{slice_step}
 use Rattle.xs_weave.proofs.WovenSections.{section_step}
 use Rattle.xs_weave.proofs.WovenMoments.{declares_domain, all_instances, split, first_iff, moment_iff, slice_known, slice_at, target_declared, type_same, read_same}
+use Rattle.xs_tree.proofs.OneTree.{same_text_equal}
 
 some_find : (ms : List ModeTree) (n : Text) (C : ModeTree → Type 0) → AtSome (λ k. (k.name ≡ n) × C k) ms → (k : ModeTree) × Among ms k × (k.name ≡ n) × C k
 some_find [] n C h = absurd h

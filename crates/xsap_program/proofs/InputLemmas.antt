@@ -3,9 +3,9 @@ use Rattle.std.proofs.Common.{◌≡◌, ◌∙◌, ap, refl, ℕ, List, [], ◌
 use Rattle.xs_tree.specs.ProgramTree.{Text, ProgramTree}
 use Rattle.xs_flattening.specs.Flat.{FlatInstance, FlatModel as ModelTree}
 use Rattle.xs_flattening.specs.Model.{IsFlatOf}
-use Rattle.xs_flat.specs.declared.model.FlatModel.{FlatModel}
-use Rattle.xs_flat.specs.declared.model.Instance.{Instance}
-use Rattle.xs_flat.specs.ModelTree.{instance_tree, model_tree}
+use Rattle.xs_scope.specs.declared.model.FlatModel.{FlatModel}
+use Rattle.xs_scope.specs.declared.model.Instance.{Instance}
+use Rattle.xs_scope.specs.ModelTree.{instance_tree, model_tree}
 use Rattle.xs_extend.specs.Refused.{modules_in}
 use Rattle.xs_desk.specs.declared.files.NamedFile.{NamedFile}
 use Rattle.xsap_program.specs.declared.status.InputFault.{InputFault}

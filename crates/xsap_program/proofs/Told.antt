@@ -3,10 +3,10 @@ use Rattle.std.proofs.Common.{◌≡◌, inl, inr, ℕ, Option, Some, None, IfSo
 use Rattle.xs_tree.specs.ProgramTree.{ProgramTree}
 use Rattle.xs_flattening.specs.Flat.{FlatModel}
 use Rattle.xs_flattening.specs.Rules.{Rule, IsFirstBroken}
-use Rattle.xs_flat.specs.Faults.{rule_of, IsFaultOf}
-use Rattle.xs_flat.specs.declared.fault.FlatFault.{FlatFault}
-use Rattle.xs_flat.specs.declared.fault.Rule.{Rule as FlatRule}
-use Rattle.xs_flat.specs.declared.fault.Rule.TheVariants as flat
+use Rattle.xs_scope.specs.Faults.{rule_of, IsFaultOf}
+use Rattle.xs_scope.specs.declared.fault.FlatFault.{FlatFault}
+use Rattle.xs_scope.specs.declared.fault.Rule.{Rule as FlatRule}
+use Rattle.xs_scope.specs.declared.fault.Rule.TheVariants as flat
 use Rattle.xs_kinds.specs.Judged as kinds
 use Rattle.xs_kinds.specs.Judged.{KindRule}
 use Rattle.xs_kinds.specs.Models.{IsFault}

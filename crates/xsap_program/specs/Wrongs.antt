@@ -4,9 +4,9 @@ use Rattle.xs_lexer.specs.declared.token.LexFault.{LexFault}
 use Rattle.xs_lexer.specs.declared.token.LexFault.TheVariants as lex
 use Rattle.xs_parse.specs.declared.fault.ParseFault.{ParseFault}
 use Rattle.xs_parse.specs.declared.fault.ParseFault.TheVariants as parse
-use Rattle.xs_flat.specs.declared.fault.Rule.{Rule}
-use Rattle.xs_flat.specs.declared.fault.Rule.TheVariants as rule
-use Rattle.xs_flat.specs.declared.fault.FlatFault.{FlatFault}
+use Rattle.xs_scope.specs.declared.fault.Rule.{Rule}
+use Rattle.xs_scope.specs.declared.fault.Rule.TheVariants as rule
+use Rattle.xs_scope.specs.declared.fault.FlatFault.{FlatFault}
 use Rattle.xs_types.specs.declared.fault.TypeFault.{TypeFault}
 use Rattle.xs_types.specs.declared.fault.Rule.{Rule as TypeRule}
 use Rattle.xs_types.specs.declared.fault.Rule.TheVariants as kind

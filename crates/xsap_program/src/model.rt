@@ -2,7 +2,7 @@
 ghost use Rattle.std.specs.Prelude.{◌≡◌, ◌≤◌, length, IfOk, IfErr, IfSome, IsErrOf};
 ghost use Rattle.xs_desk.specs.Desk.{Rose};
 ghost use Rattle.xs_tree.specs.ProgramTree.{program_tree};
-ghost use Rattle.xs_flat.specs.ModelTree.{model_tree};
+ghost use Rattle.xs_scope.specs.ModelTree.{model_tree};
 ghost use Rattle.xs_extend.specs.InstanceLaws.{HasInstancesInVar};
 ghost use Rattle.xsap_program.specs.Wrongs.{IfRefused};
 ghost use Rattle.xsap_program.specs.Models.{IsModelText, IsLawful, IsWrongModel};

@@ -1,7 +1,7 @@
 use Rattle.std.proofs.Common.{◌≡◌, None, ◌∙◌, sym}
 use Rattle.std.specs.Option.{option_map}
 use Rattle.xs_tree.specs.ProgramTree.{declared_tree}
-use Rattle.xs_flat.specs.ModelTree.{flat_tree, model_tree}
+use Rattle.xs_scope.specs.ModelTree.{flat_tree, model_tree}
 use Rattle.xs_types.specs.Answers.{told_rules}
 use Rattle.xs_types.specs.Calls.{shown}
 use Rattle.xs_extending.specs.Expressions.{broken_by}

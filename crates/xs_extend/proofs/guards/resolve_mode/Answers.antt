@@ -4,7 +4,7 @@ use Rattle.std.specs.Option.{option_map}
 use Rattle.xs_tree.specs.ProgramTree.{boolean}
 use Rattle.xs_tree.specs.Written.{tree_of}
 use Rattle.xs_fei.specs.Instructions.{mode_tree}
-use Rattle.xs_flat.specs.ModelTree.{flat_tree}
+use Rattle.xs_scope.specs.ModelTree.{flat_tree}
 use Rattle.xs_extending.specs.Expressions.{followed, IsForm, KeepsNames}
 use Rattle.xs_extend.specs.Guarded.{program_in, model_in, use_at, IsSomeKept, IsSomeFault}
 use Rattle.xs_extend.proofs.NameAnswers.{IsNamesFault, both_answered, both_formed, guard_same, names_cause}

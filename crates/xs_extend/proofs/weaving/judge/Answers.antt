@@ -3,7 +3,7 @@ use Rattle.std.specs.Prelude.{IfErr, OnOk, flat_map}
 use Rattle.xs_tree.specs.ProgramTree.{program_tree}
 use Rattle.xs_tree.specs.Trace.{Each}
 use Rattle.xs_fei.specs.Instructions.{instruction_tree}
-use Rattle.xs_flat.specs.ModelTree.{model_tree}
+use Rattle.xs_scope.specs.ModelTree.{model_tree}
 use Rattle.xs_weave_rules.specs.Placing.{seen_placed}
 use Rattle.xs_extending.specs.Uses.{uses}
 use Rattle.xs_extending.specs.SliceUses.{uses_of_slices}

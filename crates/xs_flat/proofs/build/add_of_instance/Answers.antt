@@ -1,6 +1,6 @@
 -- One item more.
 use Rattle.std.proofs.Common.{rules, ◌+◌, ◌++◌, map, drop}
-use Rattle.xs_flat.specs.SceneTree.{program_of, items_at}
+use Rattle.xs_scope.specs.SceneTree.{program_of, items_at}
 use Rattle.xs_flat.specs.Asked.{told, conditions_asked, asked_items, item_listed}
 use Rattle.std.specs.Prelude.{slice_get}
 use Rattle.xs_flat.proofs.BuildLoops.{appended, items_step}

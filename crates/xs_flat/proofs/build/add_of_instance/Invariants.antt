@@ -1,7 +1,7 @@
 -- The formulas so far, with those of the items that are left, are all.
 use Rattle.std.proofs.Common.{◌≡◌, ◌++◌, true, map, drop}
-use Rattle.xs_flat.specs.Closed.{are_closed}
-use Rattle.xs_flat.specs.SceneTree.{program_of, items_at}
+use Rattle.xs_scope.specs.Closed.{are_closed}
+use Rattle.xs_scope.specs.SceneTree.{program_of, items_at}
 use Rattle.xs_flat.specs.Asked.{told, conditions_asked, asked_items}
 use Rattle.xs_flat.proofs.build.add_of_instance.Given as goal
 

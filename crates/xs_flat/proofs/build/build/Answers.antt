@@ -1,8 +1,8 @@
 -- The definitions are made over as many variables and symbols as the program has.
 use Rattle.std.proofs.Common.{rules, ◌≡◌, ◌∙◌}
-use Rattle.xs_flat.specs.declared.names.Scene.{Scene}
-use Rattle.xs_flat.specs.declared.needs.Needs.{Needs}
-use Rattle.xs_flat.specs.Symbols.{texts}
+use Rattle.xs_scope.specs.declared.names.Scene.{Scene}
+use Rattle.xs_scope.specs.declared.needs.Needs.{Needs}
+use Rattle.xs_scope.specs.Symbols.{texts}
 use Rattle.xs_flat.proofs.BuildModel.{many_variables, many_symbols, ready_within}
 use Rattle.xs_flat.proofs.build.build.Goals as goal
 

@@ -1,6 +1,6 @@
 -- The definitions so far are those of the order so far, and each uses those before it.
 use Rattle.std.proofs.Common.{◌≡◌, true, map, take, length}
-use Rattle.xs_flat.specs.Closed.{are_earlier}
+use Rattle.xs_scope.specs.Closed.{are_earlier}
 use Rattle.xs_flat.specs.Asked.{told, asked_definition}
 use Rattle.xs_flat.proofs.build.definitions_of.Given as goal
 

@@ -2,9 +2,9 @@
 use Rattle.std.proofs.Common.{rules, ◌≡◌, ◌++◌, length, map, ap, ◌∙◌}
 use Rattle.xs_flattening.specs.Items.{instances_of}
 use Rattle.xs_flat.specs.declared.build.Asked.TheVariants as asked
-use Rattle.xs_flat.specs.declared.names.Scene.{Scene}
-use Rattle.xs_flat.specs.declared.needs.Needs.{Needs}
-use Rattle.xs_flat.specs.SceneTree.{program_of}
+use Rattle.xs_scope.specs.declared.names.Scene.{Scene}
+use Rattle.xs_scope.specs.declared.needs.Needs.{Needs}
+use Rattle.xs_scope.specs.SceneTree.{program_of}
 use Rattle.xs_flat.specs.Asked.{told, conditions_asked, asked_from}
 use Rattle.xs_flat.proofs.BuildModel.{is_flat, many_variables, many_symbols, many_definitions, known_within}
 use Rattle.xs_flat.proofs.build.with_formulas.Goals as goal

@@ -1,8 +1,8 @@
 -- That there is no module `main` is told exactly where there is none.
 use Rattle.std.proofs.Common.{rules, ◌≡◌, None, Some, codes, IfErr, refl, subst}
 use Rattle.xs_tree.specs.ProgramTree.{program_tree}
-use Rattle.xs_flat.specs.Faults.{IsFaultOf}
-use Rattle.xs_flat.specs.SceneTree.{module_from}
+use Rattle.xs_scope.specs.Faults.{IsFaultOf}
+use Rattle.xs_scope.specs.SceneTree.{module_from}
 use Rattle.xs_flat.proofs.FlatFaults.{no_place, place_found, no_main_fault, told_no_main}
 use Rattle.xs_flat.proofs.flattening.flatten.Goals as goal
 

@@ -5,8 +5,8 @@ use Rattle.xs_flattening.specs.Flat.{FlatModel as ModelTree}
 use Rattle.xs_flattening.specs.Looks.{ActualsMean}
 use Rattle.xs_flattening.specs.Model.{IsFlatOf}
 use Rattle.xs_flattening.specs.FlatTrace.{NamesOwn}
-use Rattle.xs_flat.specs.ModelTree.{model_tree}
-use Rattle.xs_flat.specs.Closed.{IsClosedModel}
+use Rattle.xs_scope.specs.ModelTree.{model_tree}
+use Rattle.xs_scope.specs.Closed.{IsClosedModel}
 use Rattle.xs_flat.proofs.OwnNames.{closed_names_own}
 use Rattle.xs_flat.proofs.flattening.flatten_from.Goals as goal
 

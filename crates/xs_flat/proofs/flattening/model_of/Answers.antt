@@ -6,8 +6,8 @@ use Rattle.xs_flattening.specs.Looks.{ActualsMean}
 use Rattle.xs_flattening.specs.Rules.{IsAccepted}
 use Rattle.xs_flattening.specs.Model.{IsFlatOf}
 use Rattle.xs_flattening.proofs.Walkable.{walkable_accepted}
-use Rattle.xs_flat.specs.ModelTree.{model_tree}
-use Rattle.xs_flat.specs.SceneTree.{program_of}
+use Rattle.xs_scope.specs.ModelTree.{model_tree}
+use Rattle.xs_scope.specs.SceneTree.{program_of}
 use Rattle.xs_flat.proofs.ActualLaws.{actuals_mean}
 use Rattle.xs_flat.proofs.FlatFaults.{ok_always}
 use Rattle.xs_flat.proofs.OnlyModel.{only_model}

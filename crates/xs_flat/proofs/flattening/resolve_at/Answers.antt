@@ -1,7 +1,7 @@
 -- An accepted program has a module `main`.
 use Rattle.std.proofs.Common.{rules, ◌≡◌, None, codes}
 use Rattle.xs_tree.specs.ProgramTree.{program_tree}
-use Rattle.xs_flat.specs.SceneTree.{module_from}
+use Rattle.xs_scope.specs.SceneTree.{module_from}
 use Rattle.xs_flat.proofs.FlatFaults.{main_found}
 use Rattle.xs_flat.proofs.flattening.resolve_at.Goals as goal
 

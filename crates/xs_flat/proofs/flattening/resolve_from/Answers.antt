@@ -4,9 +4,9 @@ use Rattle.xs_tree.specs.ProgramTree.{ProgramTree, program_tree}
 use Rattle.xs_tree.specs.Written.{tree_of}
 use Rattle.xs_flattening.specs.Flat.{FlatInstance}
 use Rattle.xs_flattening.specs.Resolved.{has_next}
-use Rattle.xs_flat.specs.Faults.{IsFaultOf}
-use Rattle.xs_flat.specs.ModelTree.{model_tree, flat_tree}
-use Rattle.xs_flat.specs.SceneTree.{program_of}
+use Rattle.xs_scope.specs.Faults.{IsFaultOf}
+use Rattle.xs_scope.specs.ModelTree.{model_tree, flat_tree}
+use Rattle.xs_scope.specs.SceneTree.{program_of}
 use Rattle.xs_flattening.specs.ResolvedAt.{IsResolvedAt}
 use Rattle.xs_flat.specs.ResolvedAt.{IsAt, IsValueFault, IsValueKept}
 use Rattle.xs_flat.proofs.FlatFaults.{no_rule}

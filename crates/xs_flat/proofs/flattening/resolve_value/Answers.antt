@@ -3,14 +3,14 @@ use Rattle.std.proofs.Common.{◌≡◌, not, ◌&&◌, false, IfErr, IfOk, sym,
 use Rattle.std.proofs.lemmas.Result.{IfOk-weaker}
 use Rattle.xs_tree.specs.Written.{tree_of}
 use Rattle.xs_flattening.specs.Rules.{SomeHasNoValue}
-use Rattle.xs_flat.specs.declared.fault.Rule.TheVariants.{NoSuchName, NextHere, InputHere}
-use Rattle.xs_flat.specs.declared.names.Scene.{Scene}
-use Rattle.xs_flat.specs.declared.needs.Needs.{Needs}
+use Rattle.xs_scope.specs.declared.fault.Rule.TheVariants.{NoSuchName, NextHere, InputHere}
+use Rattle.xs_scope.specs.declared.names.Scene.{Scene}
+use Rattle.xs_scope.specs.declared.needs.Needs.{Needs}
 use Rattle.xs_flat.specs.declared.resolve.Source.{Source}
-use Rattle.xs_flat.specs.Closed.{bounds_of}
-use Rattle.xs_flat.specs.Faults.{IsWant}
-use Rattle.xs_flat.specs.ModelTree.{model_tree, flat_tree}
-use Rattle.xs_flat.specs.SceneTree.{program_of}
+use Rattle.xs_scope.specs.Closed.{bounds_of}
+use Rattle.xs_scope.specs.Faults.{IsWant}
+use Rattle.xs_scope.specs.ModelTree.{model_tree, flat_tree}
+use Rattle.xs_scope.specs.SceneTree.{program_of}
 use Rattle.xs_flat.specs.Judging.{IsJudged}
 use Rattle.xs_flat.specs.ResolverOf.{leaf_at, told_tree, asked_tree, IsKnown}
 use Rattle.xs_flattening.specs.ResolvedAt.{IsResolvedAt}

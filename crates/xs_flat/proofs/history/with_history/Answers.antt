@@ -1,7 +1,7 @@
 -- One fault more has one bit more, and the traces are those that the law of history tells.
 use Rattle.std.proofs.Common.{◌≡◌, ◌+◌, ◌<◌, ◌≤◌, length, get_or, map, take, rules, ap, ◌∙◌, sym, subst}
 use Rattle.std.proofs.lemmas.List.{take_all}
-use Rattle.xs_flat.specs.ModelTree.{model_tree, mode_of}
+use Rattle.xs_scope.specs.ModelTree.{model_tree, mode_of}
 use Rattle.xs_flattening.specs.History.{with_history, with_bit}
 use Rattle.xs_flattening.specs.FlatTrace.{TellsHistory}
 use Rattle.xs_flattening.proofs.HistoryLaws.{more_bits}

@@ -1,6 +1,6 @@
 -- The model so far has the bits of the faults so far.
 use Rattle.std.proofs.Common.{◌≡◌, map, take}
-use Rattle.xs_flat.specs.ModelTree.{model_tree, mode_of}
+use Rattle.xs_scope.specs.ModelTree.{model_tree, mode_of}
 use Rattle.xs_flattening.specs.History.{with_history}
 use Rattle.xs_flat.proofs.history.with_history.Given as goal
 

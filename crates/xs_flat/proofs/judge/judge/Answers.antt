@@ -1,6 +1,6 @@
 -- The instances one after another.
 use Rattle.std.proofs.Common.{◌<◌, ◌≤◌, length, rules, subst}
-use Rattle.xs_flat.specs.SceneTree.{program_of}
+use Rattle.xs_scope.specs.SceneTree.{program_of}
 use Rattle.xs_flat.specs.Verdicts.{IsInstanceTold}
 use Rattle.xs_flat.proofs.JudgeInstances.{one_more_instance, first_instance, all_instances}
 use Rattle.xs_flat.proofs.judge.judge.Goals as goal

@@ -1,5 +1,5 @@
 -- The items of the instances so far are kept.
-use Rattle.xs_flat.specs.SceneTree.{program_of}
+use Rattle.xs_scope.specs.SceneTree.{program_of}
 use Rattle.xs_flat.proofs.JudgeInstances.{InstancesSoFar}
 use Rattle.xs_flat.proofs.judge.judge.Given as goal
 

@@ -1,7 +1,7 @@
 -- The actuals are judged one after another.
 use Rattle.std.proofs.Common.{map}
 use Rattle.xs_tree.specs.Written.{tree_of}
-use Rattle.xs_flat.specs.SceneTree.{program_of}
+use Rattle.xs_scope.specs.SceneTree.{program_of}
 use Rattle.xs_flat.proofs.JudgeHanded.{no_actuals, actuals_step, actuals_end}
 use Rattle.xs_flat.proofs.judge.judge_actuals.Goals as goal
 

@@ -1,7 +1,7 @@
 -- The actuals so far are judged.
 use Rattle.std.proofs.Common.{map, take}
 use Rattle.xs_tree.specs.Written.{tree_of}
-use Rattle.xs_flat.specs.SceneTree.{program_of}
+use Rattle.xs_scope.specs.SceneTree.{program_of}
 use Rattle.xs_flat.specs.Verdicts.{JudgesActuals}
 use Rattle.xs_flat.proofs.judge.judge_actuals.Given as goal
 

@@ -1,7 +1,7 @@
 -- The declaration of an instance is told by its actuals.
 use Rattle.std.proofs.Common.{sym, ◌∙◌}
 use Rattle.xs_tree.specs.ProgramTree.{decl_tree}
-use Rattle.xs_flat.specs.SceneTree.{program_of}
+use Rattle.xs_scope.specs.SceneTree.{program_of}
 use Rattle.xs_flat.proofs.JudgeTold.{variable_here, no_instance_here, instance_here}
 use Rattle.xs_flat.proofs.judge.judge_declaration.Goals as goal
 

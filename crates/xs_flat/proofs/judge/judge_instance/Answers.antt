@@ -1,7 +1,7 @@
 -- The items one after another.
 use Rattle.std.proofs.Common.{ℕ, ◌<◌, ◌≤◌, subst}
 use Rattle.xs_flat.specs.Assigned.{IsPlaceTold}
-use Rattle.xs_flat.specs.SceneTree.{program_of}
+use Rattle.xs_scope.specs.SceneTree.{program_of}
 use Rattle.xs_flat.proofs.JudgeInstances.{none_so_far, one_more_item, first_item, all_items}
 use Rattle.xs_flat.proofs.judge.judge_instance.Goals as goal
 

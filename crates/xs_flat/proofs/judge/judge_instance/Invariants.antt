@@ -1,5 +1,5 @@
 -- The items so far are kept, and the table has their times.
-use Rattle.xs_flat.specs.SceneTree.{program_of}
+use Rattle.xs_scope.specs.SceneTree.{program_of}
 use Rattle.xs_flat.proofs.JudgeInstances.{InstanceSoFar}
 use Rattle.xs_flat.proofs.judge.judge_instance.Given as goal
 

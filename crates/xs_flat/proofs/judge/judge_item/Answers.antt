@@ -1,5 +1,5 @@
 -- An item is told by what it is.
-use Rattle.xs_flat.specs.SceneTree.{program_of}
+use Rattle.xs_scope.specs.SceneTree.{program_of}
 use Rattle.xs_flat.proofs.JudgeTold.{declared_item, defined_item, assigned_item, init_item, invar_item, trans_item, constants_item}
 use Rattle.xs_flat.proofs.judge.judge_item.Goals as goal
 

@@ -1,6 +1,6 @@
 -- An expression of one moment is told by what is judged of it.
 use Rattle.xs_tree.specs.Written.{tree_of}
-use Rattle.xs_flat.specs.SceneTree.{program_of}
+use Rattle.xs_scope.specs.SceneTree.{program_of}
 use Rattle.xs_flat.proofs.JudgeItems.{init_told, invar_told}
 use Rattle.xs_flat.proofs.judge.judge_moment.Goals as goal
 

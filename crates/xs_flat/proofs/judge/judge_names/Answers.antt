@@ -1,7 +1,7 @@
 -- The names are judged one after another.
 use Rattle.std.proofs.Common.{List, Bool}
 use Rattle.xs_tree.specs.ProgramTree.{Path}
-use Rattle.xs_flat.specs.SceneTree.{program_of}
+use Rattle.xs_scope.specs.SceneTree.{program_of}
 use Rattle.xs_flat.specs.Verdicts.{AreJudged}
 use Rattle.xs_flat.proofs.JudgeLists.{take_step, take_end}
 use Rattle.xs_flat.proofs.JudgeValues.{no_names}

@@ -1,6 +1,6 @@
 -- The names so far are judged.
 use Rattle.std.proofs.Common.{take}
-use Rattle.xs_flat.specs.SceneTree.{program_of}
+use Rattle.xs_scope.specs.SceneTree.{program_of}
 use Rattle.xs_flat.specs.Verdicts.{AreJudged}
 use Rattle.xs_flat.proofs.judge.judge_names.Given as goal
 

@@ -1,8 +1,8 @@
 -- The item at a place, with its number.
 use Rattle.std.proofs.Common.{subst}
 use Rattle.xs_flat.specs.Assigned.{IsItemTold}
-use Rattle.xs_flat.specs.ItemTree.{item_tree}
-use Rattle.xs_flat.specs.SceneTree.{program_of}
+use Rattle.xs_scope.specs.ItemTree.{item_tree}
+use Rattle.xs_scope.specs.SceneTree.{program_of}
 use Rattle.xs_flat.proofs.JudgeInstances.{no_item, kept_item, broken_item}
 use Rattle.xs_flat.proofs.judge.judge_place.Goals as goal
 

@@ -1,6 +1,6 @@
 -- An expression of a moment and the next is told by what is judged of it.
 use Rattle.xs_tree.specs.Written.{tree_of}
-use Rattle.xs_flat.specs.SceneTree.{program_of}
+use Rattle.xs_scope.specs.SceneTree.{program_of}
 use Rattle.xs_flat.proofs.JudgeItems.{trans_told}
 use Rattle.xs_flat.proofs.judge.judge_step.Goals as goal
 

@@ -1,7 +1,7 @@
 -- A value is judged by its names.
 use Rattle.std.proofs.Common.{rules}
 use Rattle.xs_tree.specs.Written.{tree_of}
-use Rattle.xs_flat.specs.SceneTree.{program_of}
+use Rattle.xs_scope.specs.SceneTree.{program_of}
 use Rattle.xs_flat.proofs.JudgeValues.{value_judged}
 use Rattle.xs_flat.proofs.judge.judge_value.Goals as goal
 

@@ -2,7 +2,7 @@
 use Rattle.std.proofs.Common.{rules, ◌≡◌, IfErr}
 use Rattle.std.specs.List.{All}
 use Rattle.xs_tree.specs.declared.expr.Expr.TheVariants.{Case, SetOf}
-use Rattle.xs_flat.specs.Faults.{IsWant}
+use Rattle.xs_scope.specs.Faults.{IsWant}
 use Rattle.xs_flat.specs.ResolverOf.{leaf_at, IsKnown, IsBranchKnown}
 use Rattle.xs_flat.proofs.ResolvedLaws.{known_set, known_case}
 use Rattle.xs_flat.proofs.resolve.+resolve.Goals as goal

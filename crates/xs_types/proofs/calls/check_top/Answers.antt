@@ -1,5 +1,5 @@
 use Rattle.std.proofs.Common.{◌∙◌, ap, sym, min}
-use Rattle.xs_flat.specs.ModelTree.{model_tree, flat_tree, leaf_of}
+use Rattle.xs_scope.specs.ModelTree.{model_tree, flat_tree, leaf_of}
 use Rattle.xs_tree.specs.Written.{tree_of}
 use Rattle.xs_kinds.proofs.Mapped.{cost_mapped}
 use Rattle.xs_types.proofs.CallLaws.{top_answered, top_kept, top_lies}

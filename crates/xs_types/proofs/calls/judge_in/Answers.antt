@@ -1,5 +1,5 @@
 use Rattle.std.proofs.Common.{◌∙◌, ap}
-use Rattle.xs_flat.specs.ModelTree.{model_tree}
+use Rattle.xs_scope.specs.ModelTree.{model_tree}
 use Rattle.xs_tree.specs.Written.{tree_of}
 use Rattle.xs_kinds.specs.Judged.{judge}
 use Rattle.xs_types.specs.Answers.{told}

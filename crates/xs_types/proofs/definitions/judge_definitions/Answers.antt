@@ -1,5 +1,5 @@
 use Rattle.std.proofs.Common.{◌≡◌, ◌∙◌, ap, length, get_or, arith}
-use Rattle.xs_flat.specs.ModelTree.{model_tree}
+use Rattle.xs_scope.specs.ModelTree.{model_tree}
 use Rattle.xs_kinds.specs.Models.{judged_variables}
 use Rattle.xs_types.proofs.PartLaws.{defined_more}
 use Rattle.xs_types.proofs.definitions.judge_definitions.Goals as goal

@@ -1,5 +1,5 @@
 use Rattle.std.proofs.Common.{take}
-use Rattle.xs_flat.specs.ModelTree.{model_tree}
+use Rattle.xs_scope.specs.ModelTree.{model_tree}
 use Rattle.xs_kinds.specs.Models.{judged_variables}
 use Rattle.xs_types.specs.Parts.{AreDefined}
 use Rattle.xs_types.proofs.definitions.judge_definitions.Given as goal

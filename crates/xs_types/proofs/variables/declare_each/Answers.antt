@@ -2,8 +2,8 @@ use Rattle.std.proofs.Common.{◌≡◌, ◌∙◌, ◌<◌, ◌++◌, [], ◌�
 use Rattle.std.specs.Prelude.{map}
 use Rattle.std.proofs.lemmas.List.{map_more}
 use Rattle.xs_tree.specs.ProgramTree.{declared_tree}
-use Rattle.xs_flat.specs.ModelTree.{variable_tree}
-use Rattle.xs_flat.specs.declared.model.Variable.{Variable}
+use Rattle.xs_scope.specs.ModelTree.{variable_tree}
+use Rattle.xs_scope.specs.declared.model.Variable.{Variable}
 use Rattle.xs_kinds.specs.Declared.{judged_declared}
 use Rattle.xs_kinds.specs.FirstBreach.{first_of}
 use Rattle.xs_kinds.specs.Models.{judged_variables, variable_breaches}

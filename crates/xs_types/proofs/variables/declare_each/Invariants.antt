@@ -1,6 +1,6 @@
 use Rattle.std.proofs.Common.{◌≡◌, ◌+◌, ◌≤◌, min, take, drop}
 use Rattle.std.specs.Prelude.{map}
-use Rattle.xs_flat.specs.ModelTree.{variable_tree}
+use Rattle.xs_scope.specs.ModelTree.{variable_tree}
 use Rattle.xs_kinds.specs.FirstBreach.{first_of}
 use Rattle.xs_kinds.specs.Models.{judged_variables, variable_breaches}
 use Rattle.xs_types.specs.Kept.{kept_sorts}

@@ -1,7 +1,7 @@
 use Rattle.std.proofs.Common.{map}
 use Rattle.std.proofs.lemmas.Result.{on_ok_weaker, IfErr-weaker}
 use Rattle.xs_tree.specs.ProgramTree.{program_tree}
-use Rattle.xs_flat.specs.ModelTree.{model_tree}
+use Rattle.xs_scope.specs.ModelTree.{model_tree}
 use Rattle.xs_extend.specs.WovenFaults.{fault_tree}
 use Rattle.xsap_program.specs.Wrongs.{IfRefused}
 use Rattle.xsap_program.specs.Wholes.{IsWhole, BreaksKinds, IsWrongWhole, by_kinds}

@@ -1,5 +1,5 @@
 use Rattle.std.proofs.Common.{◌∙◌}
-use Rattle.xs_flat.specs.ModelTree.{model_tree}
+use Rattle.xs_scope.specs.ModelTree.{model_tree}
 use Rattle.xsap_program.specs.Wholes.{BreaksKinds}
 use Rattle.xsap_program.proofs.Told.{if_refused, of_kind}
 use Rattle.xsap_program.proofs.faults.check_whole.Goals as goal

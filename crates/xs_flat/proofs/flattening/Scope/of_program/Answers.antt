@@ -1,7 +1,7 @@
 -- That there is no module `main` is the first broken rule.
 use Rattle.std.proofs.Common.{rules, ◌≡◌, None, codes}
 use Rattle.xs_tree.specs.ProgramTree.{program_tree}
-use Rattle.xs_flat.specs.SceneTree.{module_from}
+use Rattle.xs_scope.specs.SceneTree.{module_from}
 use Rattle.xs_flat.proofs.FlatFaults.{no_place, no_main_fault}
 use Rattle.xs_flat.proofs.flattening.Scope.of_program.Goals as goal
 

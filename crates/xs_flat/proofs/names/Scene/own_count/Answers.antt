@@ -1,9 +1,0 @@
--- There is no such instance.
-use Rattle.std.proofs.Common.{◌≤◌, length, ap, sym, rules}
-use Rattle.xs_flat.specs.Steps.{count_in}
-use Rattle.xs_flat.proofs.RowLaws.{get_past}
-use Rattle.xs_flat.proofs.names.Scene.own_count.Goals as goal
-
-pub returns-in-None : goal.returns-in-None
-returns-in-None c =
-    let past : length c.args.self.now.spots.items ≤ c.args.spot = search rules in ap count_in (sym (get_past c.args.self.now.spots.items c.args.spot past))

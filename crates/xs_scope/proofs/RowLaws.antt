@@ -1,0 +1,40 @@
+-- What is known of formals, after one of them is told.
+use Rattle.std.proofs.Common.{◌≡◌, ℕ, zero, suc, ◌<◌, ◌≤◌, arith, get_or, List, [], ◌∷◌, length, Some, None, Vec, refl, sym, ◌∙◌, ap, subst}
+use Rattle.std.specs.Prelude.{slice_get, slice_set, option_map}
+use Rattle.std.specs.declared.alloc.Global.{Global}
+use Rattle.std.proofs.lemmas.List.{map-set, set_past, length-map}
+use Rattle.xs_scope.specs.Known.{rows_of, row_or, rows_with}
+use Rattle.xs_scope.specs.declared.names.Formal.{Formal}
+use Rattle.xs_scope.proofs.SceneItems.{get_map}
+
+abbrev items_of_row : Vec Formal Global → List Formal
+items_of_row v = v.items
+
+row_there : (fs : List (Vec Formal Global)) (k : ℕ) (v : Vec Formal Global) → slice_get fs k ≡ Some v → row_or (slice_get (rows_of fs) k) ≡ v.items
+row_there fs k v is = ap row_or (get_map items_of_row fs k ∙ ap (λ o. option_map items_of_row o) is)
+
+pub written : (fs : List (Vec Formal Global)) (k : ℕ) (v w : Vec Formal Global) (i : ℕ) (f : Formal) → slice_get fs k ≡ Some v → w.items ≡ slice_set v.items i f →
+    rows_of (slice_set fs k w) ≡ rows_with (rows_of fs) k i f
+written fs k v w i f is items =
+    map-set items_of_row fs k w
+    ∙ ap (λ r. slice_set (rows_of fs) k r) (items ∙ ap (λ r. slice_set r i f) (sym (row_there fs k v is)))
+
+pub written_past : (fs : List (Vec Formal Global)) (k : ℕ) (v : Vec Formal Global) (i : ℕ) (f : Formal) → slice_get fs k ≡ Some v → length v.items ≤ i →
+    rows_of (slice_set fs k v) ≡ rows_with (rows_of fs) k i f
+written_past fs k v i f is past = written fs k v v i f is (sym (set_past v.items i f past))
+
+pub no_row : (fs : List (Vec Formal Global)) (k i : ℕ) (f : Formal) → length fs ≤ k → rows_of fs ≡ rows_with (rows_of fs) k i f
+no_row fs k i f past = sym (set_past (rows_of fs) k (slice_set (row_or (slice_get (rows_of fs) k)) i f) longer)
+  where
+    longer : length (rows_of fs) ≤ k
+    longer = subst (λ n. n ≤ k) (sym (length-map fs items_of_row)) past
+
+pub get_there : {A : Type 0} (xs : List A) (k : ℕ) (v : A) → k < length xs → v ≡ get_or xs k v → slice_get xs k ≡ Some v
+get_there [] k v within e = absurd (omega (arith, within))
+get_there (x ∷ xs) zero v within e = ap Some (sym e)
+get_there (x ∷ xs) (suc k) v within e = get_there xs k v (omega (arith, within)) e
+
+pub get_past : {A : Type 0} (xs : List A) (k : ℕ) → length xs ≤ k → slice_get xs k ≡ None
+get_past [] k past = refl
+get_past (x ∷ xs) zero past = absurd (omega (arith, past))
+get_past (x ∷ xs) (suc k) past = get_past xs k (omega (arith, past))

@@ -1,0 +1,228 @@
+-- One turn of the look-ups of formals.
+use Rattle.std.proofs.Common.{◌≡◌, ℕ, zero, suc, ◌<◌, arith, Bool, true, false, List, [], ◌∷◌, ◌++◌, length, Option, Some, None, Vec, refl, sym, ◌∙◌, ap, subst}
+use Rattle.std.specs.Prelude.{slice_get, option_map}
+use Rattle.std.specs.declared.alloc.Global.{Global}
+use Rattle.std.proofs.lemmas.List.{length-map}
+use Rattle.xs_tree.specs.ProgramTree.{Text, ModuleTree, ProgramTree}
+use Rattle.xs_tree.specs.Scope.{Place, find_module}
+use Rattle.xs_flattening.specs.Flat.{FlatInstance}
+use Rattle.xs_flattening.specs.Items.{instances_of}
+use Rattle.xs_flattening.specs.Rules.{IsWalkable}
+use Rattle.xs_flattening.specs.Model.{EachBoth, roots_of, symbols_of}
+use Rattle.xs_flattening.specs.Looks.{ComesBack}
+use Rattle.xs_scope.specs.Symbols.{texts}
+use Rattle.xs_scope.specs.SceneTree.{AreModules, IsSpot, IsDefined, IsKnown, formals_of, AreKnown, program_of, IsSet, IsScene}
+use Rattle.xs_scope.specs.FoundAt.{formal_or, formal_at}
+use Rattle.xs_scope.specs.Steps.{is_open, row_answered, all_answered, row_count_in, row_count}
+use Rattle.xs_scope.specs.Known.{rows, row_or, rows_with, formal_of, IsOpen, IsTold, IsSized, AreTold, IsSameButFormals}
+use Rattle.xs_scope.specs.Waiting.{IsFormal, IsFrame, LastWaits, IsStack, IsReady, IsWaiting, IsAnswer, GoesOn, Waits, circled, IsCircled}
+use Rattle.xs_scope.specs.declared.walk.Meaning.{Meaning as Found}
+use Rattle.xs_scope.specs.declared.walk.Spot.{Spot}
+use Rattle.xs_scope.specs.declared.names.Formal.{Formal}
+use Rattle.xs_scope.specs.declared.names.Formal.TheVariants as known
+use Rattle.xs_scope.specs.declared.names.Defined.{Defined}
+use Rattle.xs_scope.specs.declared.names.Scene.{Scene}
+use Rattle.xs_scope.specs.declared.formals.Frame.{Frame}
+use Rattle.xs_scope.proofs.LookSplit.{never, of_some}
+use Rattle.xs_scope.proofs.SceneItems.{get_map}
+use Rattle.xs_scope.proofs.Told.{IsNoMoreOpen, no_more_open, begun_one, answered_one}
+use Rattle.xs_scope.proofs.Naming.{program_same}
+use Rattle.xs_scope.proofs.NamingItems.{both_from, get_within}
+use Rattle.xs_scope.proofs.Frames.{formal_by_rows}
+use Rattle.xs_scope.proofs.Stacks.{frame_on, stack_on, stack_pop, stack_push, last_waits, circled_less, circle_told}
+use Rattle.xs_scope.proofs.Starting.{symbols_by}
+use Rattle.xs_scope.proofs.FoundModule.{get_less}
+
+pub set_same : (old new : Scene) → IsSameButFormals old new → IsSet old → IsSet new
+set_same old new same set = record {
+  modules = subst AreModules (sym same.modules) set.modules;
+  walkable = subst IsWalkable same_p set.walkable;
+  spots =
+      subst (λ (v : Vec Spot Global). EachBoth (IsSpot (program_of new)) (instances_of (program_of new)) v.items) (sym same.spots)
+      (subst (λ (p : ProgramTree). EachBoth (IsSpot p) (instances_of p) old.spots.items) same_p set.spots);
+  symbols = ap (λ ks. texts ks) keys ∙ set.symbols ∙ ap symbols_of same_p;
+  few_symbols = subst (λ ks. length ks < 4294967296) (sym keys) set.few_symbols;
+  definitions =
+      subst (λ (v : Vec Defined Global). EachBoth (IsDefined (program_of new)) (roots_of (program_of new)) v.items) (sym same.definitions)
+      (subst (λ (p : ProgramTree). EachBoth (IsDefined p) (roots_of p) old.definitions.items) same_p set.definitions);
+}
+  where
+    same_p : program_of old ≡ program_of new
+    same_p = sym (program_same old new same.modules)
+
+    keys : new.symbols.keys ≡ old.symbols.keys
+    keys = symbols_by old new.symbols same.symbols
+
+pub waiting_made : (old new : Scene) → IsSameButFormals old new → IsSet old → (rs : List (List Formal)) → rows new ≡ rs → AreTold (program_of old) rs → (fs : List Frame) → IsStack (program_of old) rs fs → IsWaiting new fs
+waiting_made old new same set rs are told fs stack = record {
+  ready = record {
+    set = set_same old new same set;
+    told = subst (λ p. AreTold p (rows new)) same_p (subst (AreTold (program_of old)) (sym are) told);
+  };
+  stack = subst (λ p. IsStack p (rows new) fs) same_p (subst (λ r. IsStack (program_of old) r fs) (sym are) stack);
+}
+  where
+    same_p : program_of old ≡ program_of new
+    same_p = sym (program_same old new same.modules)
+
+open_rows : (s : Scene) (k i : ℕ) → IsOpen (formal_at s k i) → IsOpen (formal_of (rows s) k i)
+open_rows s k i h = subst IsOpen (formal_by_rows s k i) h
+
+pub open_from : (f : Formal) → is_open f ≡ true → IsOpen f
+open_from known.Unknown e = tt
+open_from known.Begun e = tt
+open_from known.Circle e = let bad : false ≡ true = e in cc
+open_from (known.Means f) e = let bad : false ≡ true = e in cc
+
+-- a look-up begins
+pub begun : (old new : Scene) (fs fs' : List Frame) (f : Frame) (k i : ℕ) → IsWaiting old fs → LastWaits (program_of old) fs k i → IsOpen (formal_at old k i) → IsFrame (program_of old) (rows old) f → f.spot ≡ k → f.formal ≡ i →
+    IsSameButFormals old new → rows new ≡ rows_with (rows old) k i known.Begun → fs' ≡ fs ++ f ∷ [] → IsWaiting new fs'
+begun old new fs fs' f k i waiting last open' frame at_spot at_formal same made pushed =
+    subst (IsWaiting new) (sym pushed)
+    (waiting_made old new same waiting.ready.set (rows_with (rows old) k i known.Begun) made
+    (begun_one (program_of old) (rows old) waiting.ready.told k i open_row) (fs ++ f ∷ [])
+    (stack_push (program_of old) (rows_with (rows old) k i known.Begun) fs f (stack_on (program_of old) (rows old) (rows_with (rows old) k i known.Begun) less fs waiting.stack)
+    (subst (λ n. LastWaits (program_of old) fs n f.formal) (sym at_spot) (subst (λ n. LastWaits (program_of old) fs k n) (sym at_formal) last))
+    (frame_on (program_of old) (rows old) (rows_with (rows old) k i known.Begun) less f frame)))
+  where
+    open_row : IsOpen (formal_of (rows old) k i)
+    open_row = open_rows old k i open'
+
+    less : IsNoMoreOpen (program_of old) (rows old) (rows_with (rows old) k i known.Begun)
+    less = no_more_open (program_of old) (rows old) k i known.Begun (λ h. open_row)
+
+-- a circle closes
+pub circle_closed : (old new : Scene) (fs : List Frame) (k i : ℕ) → IsWaiting old fs → LastWaits (program_of old) fs k i → IsSameButFormals old new → IsCircled (rows old) (rows new) fs k i → IsWaiting new fs
+circle_closed old new fs k i waiting last same c =
+    waiting_made old new same waiting.ready.set (circled (rows old) (c.first ∷ c.circle)) c.made
+    (circle_told (program_of old) (rows old) waiting.ready.told waiting.ready.set.walkable c.first c.circle c.before
+    (subst (IsStack (program_of old) (rows old)) c.split waiting.stack)
+    (subst (λ n. LastWaits (program_of old) (c.before ++ c.first ∷ c.circle) n c.first.formal) (sym c.first_spot)
+    (subst (λ n. LastWaits (program_of old) (c.before ++ c.first ∷ c.circle) k n) (sym c.first_formal) (subst (λ xs. LastWaits (program_of old) xs k i) c.split last))))
+    fs (stack_on (program_of old) (rows old) (circled (rows old) (c.first ∷ c.circle)) (circled_less (program_of old) (rows old) (c.first ∷ c.circle)) fs waiting.stack)
+
+-- the topmost look-up is taken off
+pub taken : (s : Scene) (fs : List Frame) (f : Frame) → IsWaiting s (fs ++ f ∷ []) → IsWaiting s fs × IsFrame (program_of s) (rows s) f × LastWaits (program_of s) fs f.spot f.formal
+taken s fs f w =
+    let r : IsStack (program_of s) (rows s) fs × IsFrame (program_of s) (rows s) f × LastWaits (program_of s) fs f.spot f.formal = stack_pop (program_of s) (rows s) fs f w.stack in
+    (record { ready = w.ready; stack = r.0 }, r.1, r.2)
+
+-- it goes on
+pub gone_on : (s : Scene) (fs fs' : List Frame) (f g : Frame) → IsWaiting s (fs ++ f ∷ []) → GoesOn (program_of s) (rows s) f g → fs' ≡ fs ++ g ∷ [] → IsWaiting s fs'
+gone_on s fs fs' f g w on pushed =
+    let t : IsWaiting s fs × IsFrame (program_of s) (rows s) f × LastWaits (program_of s) fs f.spot f.formal = taken s fs f w in
+    subst (IsWaiting s) (sym pushed)
+    (record {
+      ready = w.ready;
+      stack =
+          stack_push (program_of s) (rows s) fs g t.0.stack
+          (subst (λ n. LastWaits (program_of s) fs n g.formal) (sym on.spot) (subst (λ n. LastWaits (program_of s) fs f.spot n) (sym on.formal) t.2)) on.frame;
+    })
+
+-- it waits
+pub waits_last : (s : Scene) (fs fs' : List Frame) (f : Frame) (i : ℕ) → Waits (program_of s) (rows s) f i → fs' ≡ fs ++ f ∷ [] → LastWaits (program_of s) fs' f.here i
+waits_last s fs fs' f i w pushed = subst (λ xs. LastWaits (program_of s) xs f.here i) (sym pushed) (last_waits (program_of s) (rows s) fs f f.here i w.waits)
+
+pub waits_open : (s : Scene) (f : Frame) (i : ℕ) → Waits (program_of s) (rows s) f i → IsOpen (formal_at s f.here i)
+waits_open s f i w = subst IsOpen (sym (formal_by_rows s f.here i)) w.unanswered
+
+-- it ends
+pub ended_turn : (old new : Scene) (fs : List Frame) (f : Frame) (m : Found) → IsWaiting old (fs ++ f ∷ []) → IsOpen (formal_at old f.spot f.formal) → IsAnswer (program_of old) (rows old) f.spot f.formal m →
+    IsSameButFormals old new → rows new ≡ rows_with (rows old) f.spot f.formal (known.Means m) → IsWaiting new fs
+ended_turn old new fs f m w open' a same made =
+    waiting_made old new same w.ready.set (rows_with (rows old) f.spot f.formal (known.Means m)) made
+    (answered_one (program_of old) w.ready.set.walkable (rows old) w.ready.told f.spot f.formal a.at a.name (known.Means m) a.head (λ h. h) (a.found, stays) a.shut (λ k s. (k, s)))
+    fs (stack_on (program_of old) (rows old) (rows_with (rows old) f.spot f.formal (known.Means m)) less fs (taken old fs f w).0.stack)
+  where
+    less : IsNoMoreOpen (program_of old) (rows old) (rows_with (rows old) f.spot f.formal (known.Means m))
+    less = no_more_open (program_of old) (rows old) f.spot f.formal (known.Means m) (λ h. absurd h)
+
+    stays : ComesBack (program_of old) a.at a.name → ⊥
+    stays back = a.shut back.0 a.at a.name back.1 back.2 (f.spot, f.formal, a.head, open_rows old f.spot f.formal open')
+
+-- a formal of an instance
+pub formal_there : (s : Scene) → IsReady s → (spot i : ℕ) → i < row_count s spot → IsFormal (program_of s) spot i
+formal_there s ready spot i lt = by_row (slice_get s.formals.items spot) refl
+  where
+    by_module : (at : FlatInstance) → slice_get (instances_of (program_of s)) spot ≡ Some at → (o : Option ModuleTree) → find_module (program_of s) at.module_name ≡ o → i < length (formals_of o) → IsFormal (program_of s) spot i
+    by_module at e None named within = absurd (omega (arith, within))
+    by_module at e (Some m) named within =
+        let x : (x : Text) × (slice_get m.formals i ≡ Some x) = get_within m.formals i within in
+        (at.place, x.0, record { instance = at; is = e; place = refl; tree = m; named = named; formal = x.1 })
+
+    by_row : (o : Option (Vec Formal Global)) → slice_get s.formals.items spot ≡ o → IsFormal (program_of s) spot i
+    by_row None none = let bad : i < 0 = subst (λ o. i < row_count_in o) none lt in absurd (omega (arith, bad))
+    by_row (Some v) is =
+        let below : spot < length s.formals.items = get_less s.formals.items spot v is in
+        let many : length (rows s) ≡ length s.formals.items = length-map s.formals.items (λ (v : Vec Formal Global). v.items) in
+        let all : length (rows s) ≡ length (instances_of (program_of s)) = ready.told.many in
+        let at : (at : FlatInstance) × (slice_get (instances_of (program_of s)) spot ≡ Some at) = get_within (instances_of (program_of s)) spot (omega (arith, below, many, all)) in
+        let sized : IsSized (program_of s) (rows s) spot at.0 = ready.told.sized spot at.0 at.1 in
+        let row : v.items ≡ sized.row =
+        of_some v.items sized.row (sym (ap (λ o. option_map (λ (v : Vec Formal Global). v.items) o) is) ∙ sym (get_map (λ (v : Vec Formal Global). v.items) s.formals.items spot) ∙ sized.is) in
+        let in_row : i < length v.items = subst (λ o. i < row_count_in o) is lt in
+        by_module at.0 at.1 (find_module (program_of s) at.0.module_name) refl (subst (λ n. i < n) (ap (λ (r : List Formal). length r) row ∙ sized.size) in_row)
+
+-- all formals are answered
+one_answered : (fs : List Formal) (i : ℕ) (f : Formal) → row_answered fs ≡ true → slice_get fs i ≡ Some f → is_open f ≡ false
+one_answered [] i f h e = never f e
+one_answered (x ∷ fs) i f h e = by_first (is_open x) refl i e (λ j g d. one_answered fs j f g d)
+  where
+    by_first : (b : Bool) → is_open x ≡ b → (i : ℕ) → slice_get (x ∷ fs) i ≡ Some f → ((j : ℕ) → row_answered fs ≡ true → slice_get fs j ≡ Some f → is_open f ≡ false) → is_open f ≡ false
+    by_first true o i e rest = let bad : false ≡ true = rw o at h in cc
+    by_first false o zero e rest = ap is_open (sym (of_some x f e)) ∙ o
+    by_first false o (suc i) e rest = rest i (rw o at h) e
+
+row_is_answered : (vs : List (Vec Formal Global)) (k : ℕ) (v : Vec Formal Global) → all_answered vs ≡ true → slice_get vs k ≡ Some v → row_answered v.items ≡ true
+row_is_answered [] k v h e = never v e
+row_is_answered (w ∷ vs) zero v h e = by_first (row_answered w.items) refl
+  where
+    by_first : (b : Bool) → row_answered w.items ≡ b → row_answered v.items ≡ true
+    by_first true o = ap (λ (u : Vec Formal Global). row_answered u.items) (sym (of_some w v e)) ∙ o
+    by_first false o = let bad : false ≡ true = rw o at h in cc
+row_is_answered (w ∷ vs) (suc k) v h e = by_first (row_answered w.items) refl (λ g. row_is_answered vs k v g e)
+  where
+    by_first : (b : Bool) → row_answered w.items ≡ b → (all_answered vs ≡ true → row_answered v.items ≡ true) → row_answered v.items ≡ true
+    by_first true o rest = rest (rw o at h)
+    by_first false o rest = let bad : false ≡ true = rw o at h in cc
+
+known_of : (p : ProgramTree) (rs : List (List Formal)) (at : Place) (x : Text) (f : Formal) → is_open f ≡ false → IsTold p rs at x f → IsKnown p at x f
+known_of p rs at x known.Unknown o h = let bad : true ≡ false = o in cc
+known_of p rs at x known.Begun o h = let bad : true ≡ false = o in cc
+known_of p rs at x known.Circle o h = h.0
+known_of p rs at x (known.Means f) o h = h.0
+
+pub scene_made : (s : Scene) → IsReady s → all_answered s.formals.items ≡ true → IsScene s
+scene_made s ready all = record {
+  set = ready.set;
+  formals =
+      both_from (λ (i : FlatInstance) (fs : Vec Formal Global). AreKnown (program_of s) i fs.items) (instances_of (program_of s)) s.formals.items many
+      (λ j at e. row_known j at e);
+}
+  where
+    many : length s.formals.items ≡ length (instances_of (program_of s))
+    many = sym (length-map s.formals.items (λ (v : Vec Formal Global). v.items)) ∙ ready.told.many
+
+    by_module : (j : ℕ) (at : FlatInstance) → slice_get (instances_of (program_of s)) j ≡ Some at → (v : Vec Formal Global) → slice_get s.formals.items j ≡ Some v → (o : Option ModuleTree) → find_module (program_of s) at.module_name ≡ o →
+        length v.items ≡ length (formals_of o) → EachBoth (IsKnown (program_of s) at.place) (formals_of o) v.items
+    by_module j at e v is None named size = both_from (IsKnown (program_of s) at.place) [] v.items size (λ i x h. never x h)
+    by_module j at e v is (Some m) named size =
+        both_from (IsKnown (program_of s) at.place) m.formals v.items size
+        (λ i x h.
+        let below : i < length m.formals = get_less m.formals i x h in
+        let y : (y : Formal) × (slice_get v.items i ≡ Some y) = get_within v.items i (subst (λ n. i < n) (sym size) below) in
+        let of_y : formal_of (rows s) j i ≡ y.0 =
+        ap (λ o. formal_or (slice_get (row_or o) i)) (get_map (λ (v : Vec Formal Global). v.items) s.formals.items j ∙ ap (λ o. option_map (λ (v : Vec Formal Global). v.items) o) is) ∙ ap formal_or y.1 in
+        let told : IsTold (program_of s) (rows s) at.place x y.0 =
+        subst (IsTold (program_of s) (rows s) at.place x) of_y
+        (ready.told.told j i at.place x (record { instance = at; is = e; place = refl; tree = m; named = named; formal = h })) in
+        (y.0, y.1, known_of (program_of s) (rows s) at.place x y.0 (one_answered v.items i y.0 (row_is_answered s.formals.items j v all is) y.1) told))
+
+    row_known : (j : ℕ) (at : FlatInstance) → slice_get (instances_of (program_of s)) j ≡ Some at → (v : Vec Formal Global) × (slice_get s.formals.items j ≡ Some v) × AreKnown (program_of s) at v.items
+    row_known j at e =
+        let below : j < length (instances_of (program_of s)) = get_less (instances_of (program_of s)) j at e in
+        let v : (v : Vec Formal Global) × (slice_get s.formals.items j ≡ Some v) = get_within s.formals.items j (subst (λ n. j < n) (sym many) below) in
+        let sized : IsSized (program_of s) (rows s) j at = ready.told.sized j at e in
+        let row : v.0.items ≡ sized.row =
+        of_some v.0.items sized.row (sym (ap (λ o. option_map (λ (v : Vec Formal Global). v.items) o) v.1) ∙ sym (get_map (λ (v : Vec Formal Global). v.items) s.formals.items j) ∙ sized.is) in
+        (v.0, v.1, by_module j at e v.0 v.1 (find_module (program_of s) at.module_name) refl (ap (λ (r : List Formal). length r) row ∙ sized.size))

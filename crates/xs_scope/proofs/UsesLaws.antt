@@ -1,0 +1,316 @@
+-- The names of an expression, with whether each stands under `next`.
+use Rattle.std.proofs.Common.{◌≡◌, Bool, true, false, ◌||◌, List, [], ◌∷◌, ◌++◌, map, refl, ap, ◌∙◌, sym, subst, inl, inr}
+use Rattle.std.proofs.lemmas.List.{append-nil, append_assoc, map-append}
+use Rattle.xs_tree.specs.Tree.{Tree, Trees, Branches, truth, number, leaf, not_of, negate, next_of, binary, choice, case_of, set_of, span, no_tree, tree_then, no_branch, branch_then}
+use Rattle.xs_tree.specs.ProgramTree.{Path}
+use Rattle.xs_tree.specs.Trace.{AtSome}
+use Rattle.xs_flattening.specs.Resolved.{leaves_in, trees_leaves, branches_leaves, has_next, trees_have_next, branches_have_next}
+use Rattle.xs_flattening.specs.Rules.{leaves_under, trees_leaves_under, branches_leaves_under, next_under_next, trees_next_under, branches_next_under}
+use Rattle.xs_scope.specs.Flagged.{flagged, trees_flagged, branches_flagged}
+use Rattle.xs_scope.specs.Seen.{Seen, seen_after, seen_after_trees, seen_after_branches}
+use Rattle.xs_scope.proofs.SymbolKinds.{grouped}
+
+four : {A : Type 0} (xs ys zs ws : List A) → ((xs ++ ys) ++ zs) ++ ws ≡ xs ++ (ys ++ (zs ++ ws))
+four xs ys zs ws = append_assoc (xs ++ ys) zs ws ∙ append_assoc xs ys (zs ++ ws)
+
+pub or_false : (a : Bool) → a ≡ (a || false)
+or_false true = refl
+or_false false = refl
+
+or_four : (a b c d : Bool) → (((a || b) || c) || d) ≡ (a || (b || (c || d)))
+or_four true b c d = refl
+or_four false b c d = grouped b c d
+
+-- the names that are seen are those that are flagged
+mutual
+  pub names_seen : (under : Bool) (t : Tree Path) (s : Seen) → (seen_after under t s).names ≡ s.names ++ flagged under t
+  names_seen under (truth b) s = sym (append-nil s.names)
+  names_seen under (number n) s = sym (append-nil s.names)
+  names_seen under (leaf l) s = refl
+  names_seen under (not_of a) s = names_seen under a s
+  names_seen under (negate a) s = names_seen under a s
+  names_seen under (next_of a) s = names_seen true a (record { names = s.names; next = true; nested = s.nested || under })
+  names_seen under (binary o a b) s =
+      names_seen under b (seen_after under a s)
+      ∙ ap (λ xs. xs ++ flagged under b) (names_seen under a s)
+      ∙ append_assoc s.names (flagged under a) (flagged under b)
+  names_seen under (choice c a b) s =
+      names_seen under b (seen_after under a (seen_after under c s))
+      ∙ ap (λ xs. xs ++ flagged under b) (names_seen under a (seen_after under c s) ∙ ap (λ xs. xs ++ flagged under a) (names_seen under c s))
+      ∙ four s.names (flagged under c) (flagged under a) (flagged under b)
+  names_seen under (case_of bs) s = names_seen_branches under bs s
+  names_seen under (set_of ts) s = names_seen_trees under ts s
+  names_seen under (span lo hi) s = sym (append-nil s.names)
+
+  names_seen_trees : (under : Bool) (ts : Trees Path) (s : Seen) → (seen_after_trees under ts s).names ≡ s.names ++ trees_flagged under ts
+  names_seen_trees under no_tree s = sym (append-nil s.names)
+  names_seen_trees under (tree_then t ts) s =
+      names_seen_trees under ts (seen_after under t s)
+      ∙ ap (λ xs. xs ++ trees_flagged under ts) (names_seen under t s)
+      ∙ append_assoc s.names (flagged under t) (trees_flagged under ts)
+
+  names_seen_branches : (under : Bool) (bs : Branches Path) (s : Seen) → (seen_after_branches under bs s).names ≡ s.names ++ branches_flagged under bs
+  names_seen_branches under no_branch s = sym (append-nil s.names)
+  names_seen_branches under (branch_then c a bs) s =
+      names_seen_branches under bs (seen_after under a (seen_after under c s))
+      ∙ ap (λ xs. xs ++ branches_flagged under bs) (names_seen under a (seen_after under c s) ∙ ap (λ xs. xs ++ flagged under a) (names_seen under c s))
+      ∙ four s.names (flagged under c) (flagged under a) (branches_flagged under bs)
+
+true_right : (a : Bool) → true ≡ (a || true)
+true_right true = refl
+true_right false = refl
+
+-- `next` is seen where it stands
+mutual
+  pub next_seen : (under : Bool) (t : Tree Path) (s : Seen) → (seen_after under t s).next ≡ (s.next || has_next t)
+  next_seen under (truth b) s = or_false s.next
+  next_seen under (number n) s = or_false s.next
+  next_seen under (leaf l) s = or_false s.next
+  next_seen under (not_of a) s = next_seen under a s
+  next_seen under (negate a) s = next_seen under a s
+  next_seen under (next_of a) s = next_seen true a (record { names = s.names; next = true; nested = s.nested || under }) ∙ true_right s.next
+  next_seen under (binary o a b) s =
+      next_seen under b (seen_after under a s)
+      ∙ ap (λ x. x || has_next b) (next_seen under a s)
+      ∙ grouped s.next (has_next a) (has_next b)
+  next_seen under (choice c a b) s =
+      next_seen under b (seen_after under a (seen_after under c s))
+      ∙ ap (λ x. x || has_next b) (next_seen under a (seen_after under c s) ∙ ap (λ x. x || has_next a) (next_seen under c s))
+      ∙ or_four s.next (has_next c) (has_next a) (has_next b)
+  next_seen under (case_of bs) s = next_seen_branches under bs s
+  next_seen under (set_of ts) s = next_seen_trees under ts s
+  next_seen under (span lo hi) s = or_false s.next
+
+  next_seen_trees : (under : Bool) (ts : Trees Path) (s : Seen) → (seen_after_trees under ts s).next ≡ (s.next || trees_have_next ts)
+  next_seen_trees under no_tree s = or_false s.next
+  next_seen_trees under (tree_then t ts) s =
+      next_seen_trees under ts (seen_after under t s)
+      ∙ ap (λ x. x || trees_have_next ts) (next_seen under t s)
+      ∙ grouped s.next (has_next t) (trees_have_next ts)
+
+  next_seen_branches : (under : Bool) (bs : Branches Path) (s : Seen) → (seen_after_branches under bs s).next ≡ (s.next || branches_have_next bs)
+  next_seen_branches under no_branch s = or_false s.next
+  next_seen_branches under (branch_then c a bs) s =
+      next_seen_branches under bs (seen_after under a (seen_after under c s))
+      ∙ ap (λ x. x || branches_have_next bs) (next_seen under a (seen_after under c s) ∙ ap (λ x. x || has_next a) (next_seen under c s))
+      ∙ or_four s.next (has_next c) (has_next a) (branches_have_next bs)
+
+-- under `next` each further one is nested
+mutual
+  nested_under : (t : Tree Path) (s : Seen) → (seen_after true t s).nested ≡ (s.nested || has_next t)
+  nested_under (truth b) s = or_false s.nested
+  nested_under (number n) s = or_false s.nested
+  nested_under (leaf l) s = or_false s.nested
+  nested_under (not_of a) s = nested_under a s
+  nested_under (negate a) s = nested_under a s
+  nested_under (next_of a) s =
+      nested_under a (record { names = s.names; next = true; nested = s.nested || true })
+      ∙ ap (λ x. x || has_next a) (sym (true_right s.nested)) ∙ true_right s.nested
+  nested_under (binary o a b) s =
+      nested_under b (seen_after true a s)
+      ∙ ap (λ x. x || has_next b) (nested_under a s)
+      ∙ grouped s.nested (has_next a) (has_next b)
+  nested_under (choice c a b) s =
+      nested_under b (seen_after true a (seen_after true c s))
+      ∙ ap (λ x. x || has_next b) (nested_under a (seen_after true c s) ∙ ap (λ x. x || has_next a) (nested_under c s))
+      ∙ or_four s.nested (has_next c) (has_next a) (has_next b)
+  nested_under (case_of bs) s = nested_under_branches bs s
+  nested_under (set_of ts) s = nested_under_trees ts s
+  nested_under (span lo hi) s = or_false s.nested
+
+  nested_under_trees : (ts : Trees Path) (s : Seen) → (seen_after_trees true ts s).nested ≡ (s.nested || trees_have_next ts)
+  nested_under_trees no_tree s = or_false s.nested
+  nested_under_trees (tree_then t ts) s =
+      nested_under_trees ts (seen_after true t s)
+      ∙ ap (λ x. x || trees_have_next ts) (nested_under t s)
+      ∙ grouped s.nested (has_next t) (trees_have_next ts)
+
+  nested_under_branches : (bs : Branches Path) (s : Seen) → (seen_after_branches true bs s).nested ≡ (s.nested || branches_have_next bs)
+  nested_under_branches no_branch s = or_false s.nested
+  nested_under_branches (branch_then c a bs) s =
+      nested_under_branches bs (seen_after true a (seen_after true c s))
+      ∙ ap (λ x. x || branches_have_next bs) (nested_under a (seen_after true c s) ∙ ap (λ x. x || has_next a) (nested_under c s))
+      ∙ or_four s.nested (has_next c) (has_next a) (branches_have_next bs)
+
+false_right : (a b : Bool) → ((a || false) || b) ≡ (a || b)
+false_right true b = refl
+false_right false b = refl
+
+mutual
+  pub nested_seen : (t : Tree Path) (s : Seen) → (seen_after false t s).nested ≡ (s.nested || next_under_next t)
+  nested_seen (truth b) s = or_false s.nested
+  nested_seen (number n) s = or_false s.nested
+  nested_seen (leaf l) s = or_false s.nested
+  nested_seen (not_of a) s = nested_seen a s
+  nested_seen (negate a) s = nested_seen a s
+  nested_seen (next_of a) s = nested_under a (record { names = s.names; next = true; nested = s.nested || false }) ∙ false_right s.nested (has_next a)
+  nested_seen (binary o a b) s =
+      nested_seen b (seen_after false a s)
+      ∙ ap (λ x. x || next_under_next b) (nested_seen a s)
+      ∙ grouped s.nested (next_under_next a) (next_under_next b)
+  nested_seen (choice c a b) s =
+      nested_seen b (seen_after false a (seen_after false c s))
+      ∙ ap (λ x. x || next_under_next b) (nested_seen a (seen_after false c s) ∙ ap (λ x. x || next_under_next a) (nested_seen c s))
+      ∙ or_four s.nested (next_under_next c) (next_under_next a) (next_under_next b)
+  nested_seen (case_of bs) s = nested_seen_branches bs s
+  nested_seen (set_of ts) s = nested_seen_trees ts s
+  nested_seen (span lo hi) s = or_false s.nested
+
+  nested_seen_trees : (ts : Trees Path) (s : Seen) → (seen_after_trees false ts s).nested ≡ (s.nested || trees_next_under ts)
+  nested_seen_trees no_tree s = or_false s.nested
+  nested_seen_trees (tree_then t ts) s =
+      nested_seen_trees ts (seen_after false t s)
+      ∙ ap (λ x. x || trees_next_under ts) (nested_seen t s)
+      ∙ grouped s.nested (next_under_next t) (trees_next_under ts)
+
+  nested_seen_branches : (bs : Branches Path) (s : Seen) → (seen_after_branches false bs s).nested ≡ (s.nested || branches_next_under bs)
+  nested_seen_branches no_branch s = or_false s.nested
+  nested_seen_branches (branch_then c a bs) s =
+      nested_seen_branches bs (seen_after false a (seen_after false c s))
+      ∙ ap (λ x. x || branches_next_under bs) (nested_seen a (seen_after false c s) ∙ ap (λ x. x || next_under_next a) (nested_seen c s))
+      ∙ or_four s.nested (next_under_next c) (next_under_next a) (branches_next_under bs)
+
+-- the flagged names are the leaves
+firsts_join : {L : Type 0} (xs ys : List (L × Bool)) (as' bs : List L) → map (λ u. u.0) xs ≡ as' → map (λ u. u.0) ys ≡ bs → map (λ u. u.0) (xs ++ ys) ≡ as' ++ bs
+firsts_join xs ys as' bs e f = map-append (λ u. u.0) xs ys ∙ rw (e, f) refl
+
+mutual
+  pub flagged_leaves : {L : Type 0} (under : Bool) (t : Tree L) → map (λ u. u.0) (flagged under t) ≡ leaves_in t
+  flagged_leaves under (truth b) = refl
+  flagged_leaves under (number n) = refl
+  flagged_leaves under (leaf l) = refl
+  flagged_leaves under (not_of a) = flagged_leaves under a
+  flagged_leaves under (negate a) = flagged_leaves under a
+  flagged_leaves under (next_of a) = flagged_leaves true a
+  flagged_leaves under (binary o a b) = firsts_join (flagged under a) (flagged under b) (leaves_in a) (leaves_in b) (flagged_leaves under a) (flagged_leaves under b)
+  flagged_leaves under (choice c a b) =
+      firsts_join (flagged under c) (flagged under a ++ flagged under b) (leaves_in c) (leaves_in a ++ leaves_in b) (flagged_leaves under c)
+      (firsts_join (flagged under a) (flagged under b) (leaves_in a) (leaves_in b) (flagged_leaves under a) (flagged_leaves under b))
+  flagged_leaves under (case_of bs) = flagged_leaves_branches under bs
+  flagged_leaves under (set_of ts) = flagged_leaves_trees under ts
+  flagged_leaves under (span lo hi) = refl
+
+  flagged_leaves_trees : {L : Type 0} (under : Bool) (ts : Trees L) → map (λ u. u.0) (trees_flagged under ts) ≡ trees_leaves ts
+  flagged_leaves_trees under no_tree = refl
+  flagged_leaves_trees under (tree_then t ts) = firsts_join (flagged under t) (trees_flagged under ts) (leaves_in t) (trees_leaves ts) (flagged_leaves under t) (flagged_leaves_trees under ts)
+
+  flagged_leaves_branches : {L : Type 0} (under : Bool) (bs : Branches L) → map (λ u. u.0) (branches_flagged under bs) ≡ branches_leaves bs
+  flagged_leaves_branches under no_branch = refl
+  flagged_leaves_branches under (branch_then c a bs) =
+      firsts_join (flagged under c) (flagged under a ++ branches_flagged under bs) (leaves_in c) (leaves_in a ++ branches_leaves bs) (flagged_leaves under c)
+      (firsts_join (flagged under a) (branches_flagged under bs) (leaves_in a) (branches_leaves bs) (flagged_leaves under a) (flagged_leaves_branches under bs))
+
+-- the names that are flagged
+abbrev pub kept_if : {L : Type 0} → Bool → L → List L
+kept_if true l = l ∷ []
+kept_if false l = []
+
+abbrev pub flagged_only : {L : Type 0} → List (L × Bool) → List L
+flagged_only [] = []
+flagged_only (u ∷ us) = kept_if u.1 u.0 ++ flagged_only us
+
+only_join : {L : Type 0} (xs ys : List (L × Bool)) → flagged_only (xs ++ ys) ≡ flagged_only xs ++ flagged_only ys
+only_join [] ys = refl
+only_join (u ∷ xs) ys = ap (λ ws. kept_if u.1 u.0 ++ ws) (only_join xs ys) ∙ sym (append_assoc (kept_if u.1 u.0) (flagged_only xs) (flagged_only ys))
+
+only_both : {L : Type 0} (xs ys : List (L × Bool)) (as' bs : List L) → flagged_only xs ≡ as' → flagged_only ys ≡ bs → flagged_only (xs ++ ys) ≡ as' ++ bs
+only_both xs ys as' bs e f = only_join xs ys ∙ rw (e, f) refl
+
+-- under `next` all names are flagged
+mutual
+  pub flagged_under : {L : Type 0} (t : Tree L) → flagged_only (flagged true t) ≡ leaves_in t
+  flagged_under (truth b) = refl
+  flagged_under (number n) = refl
+  flagged_under (leaf l) = refl
+  flagged_under (not_of a) = flagged_under a
+  flagged_under (negate a) = flagged_under a
+  flagged_under (next_of a) = flagged_under a
+  flagged_under (binary o a b) = only_both (flagged true a) (flagged true b) (leaves_in a) (leaves_in b) (flagged_under a) (flagged_under b)
+  flagged_under (choice c a b) =
+      only_both (flagged true c) (flagged true a ++ flagged true b) (leaves_in c) (leaves_in a ++ leaves_in b) (flagged_under c)
+      (only_both (flagged true a) (flagged true b) (leaves_in a) (leaves_in b) (flagged_under a) (flagged_under b))
+  flagged_under (case_of bs) = flagged_under_branches bs
+  flagged_under (set_of ts) = flagged_under_trees ts
+  flagged_under (span lo hi) = refl
+
+  flagged_under_trees : {L : Type 0} (ts : Trees L) → flagged_only (trees_flagged true ts) ≡ trees_leaves ts
+  flagged_under_trees no_tree = refl
+  flagged_under_trees (tree_then t ts) = only_both (flagged true t) (trees_flagged true ts) (leaves_in t) (trees_leaves ts) (flagged_under t) (flagged_under_trees ts)
+
+  flagged_under_branches : {L : Type 0} (bs : Branches L) → flagged_only (branches_flagged true bs) ≡ branches_leaves bs
+  flagged_under_branches no_branch = refl
+  flagged_under_branches (branch_then c a bs) =
+      only_both (flagged true c) (flagged true a ++ branches_flagged true bs) (leaves_in c) (leaves_in a ++ branches_leaves bs) (flagged_under c)
+      (only_both (flagged true a) (branches_flagged true bs) (leaves_in a) (branches_leaves bs) (flagged_under a) (flagged_under_branches bs))
+
+-- the flagged names of a whole expression are those under its `next`
+mutual
+  pub flagged_are_under : {L : Type 0} (t : Tree L) → flagged_only (flagged false t) ≡ leaves_under t
+  flagged_are_under (truth b) = refl
+  flagged_are_under (number n) = refl
+  flagged_are_under (leaf l) = refl
+  flagged_are_under (not_of a) = flagged_are_under a
+  flagged_are_under (negate a) = flagged_are_under a
+  flagged_are_under (next_of a) = flagged_under a
+  flagged_are_under (binary o a b) = only_both (flagged false a) (flagged false b) (leaves_under a) (leaves_under b) (flagged_are_under a) (flagged_are_under b)
+  flagged_are_under (choice c a b) =
+      only_both (flagged false c) (flagged false a ++ flagged false b) (leaves_under c) (leaves_under a ++ leaves_under b) (flagged_are_under c)
+      (only_both (flagged false a) (flagged false b) (leaves_under a) (leaves_under b) (flagged_are_under a) (flagged_are_under b))
+  flagged_are_under (case_of bs) = flagged_are_under_branches bs
+  flagged_are_under (set_of ts) = flagged_are_under_trees ts
+  flagged_are_under (span lo hi) = refl
+
+  flagged_are_under_trees : {L : Type 0} (ts : Trees L) → flagged_only (trees_flagged false ts) ≡ trees_leaves_under ts
+  flagged_are_under_trees no_tree = refl
+  flagged_are_under_trees (tree_then t ts) =
+      only_both (flagged false t) (trees_flagged false ts) (leaves_under t) (trees_leaves_under ts) (flagged_are_under t) (flagged_are_under_trees ts)
+
+  flagged_are_under_branches : {L : Type 0} (bs : Branches L) → flagged_only (branches_flagged false bs) ≡ branches_leaves_under bs
+  flagged_are_under_branches no_branch = refl
+  flagged_are_under_branches (branch_then c a bs) =
+      only_both (flagged false c) (flagged false a ++ branches_flagged false bs) (leaves_under c) (leaves_under a ++ branches_leaves_under bs) (flagged_are_under c)
+      (only_both (flagged false a) (branches_flagged false bs) (leaves_under a) (branches_leaves_under bs) (flagged_are_under a) (flagged_are_under_branches bs))
+
+-- the name is flagged, and so it is for it
+pub record IsFlagged {L : Type 0} (P : L → Type 0) (u : L × Bool) : Type 0 where
+  pub is_under : u.1 ≡ true
+  pub holds : P u.0
+
+some_first : {L : Type 0} (P : L → Type 0) (us : List (L × Bool)) → AtSome (λ u. P u.0) us → AtSome P (map (λ u. u.0) us)
+some_first P [] h = absurd h
+some_first P (u ∷ us) (inl h) = inl h
+some_first P (u ∷ us) (inr h) = inr (some_first P us h)
+
+some_first_back : {L : Type 0} (P : L → Type 0) (us : List (L × Bool)) → AtSome P (map (λ u. u.0) us) → AtSome (λ u. P u.0) us
+some_first_back P [] h = absurd h
+some_first_back P (u ∷ us) (inl h) = inl h
+some_first_back P (u ∷ us) (inr h) = inr (some_first_back P us h)
+
+some_kept : {L : Type 0} (P : L → Type 0) (us : List (L × Bool)) → AtSome (IsFlagged P) us → AtSome P (flagged_only us)
+some_kept P [] h = absurd h
+some_kept P ((l, true) ∷ us) (inl h) = inl h.holds
+some_kept P ((l, false) ∷ us) (inl h) = absurd (differs h.is_under)
+  where
+    differs : false ≡ true → ⊥
+    differs e = cc
+some_kept P ((l, true) ∷ us) (inr h) = inr (some_kept P us h)
+some_kept P ((l, false) ∷ us) (inr h) = some_kept P us h
+
+some_kept_back : {L : Type 0} (P : L → Type 0) (us : List (L × Bool)) → AtSome P (flagged_only us) → AtSome (IsFlagged P) us
+some_kept_back P [] h = absurd h
+some_kept_back P ((l, true) ∷ us) (inl h) = inl (record { is_under = refl; holds = h })
+some_kept_back P ((l, true) ∷ us) (inr h) = inr (some_kept_back P us h)
+some_kept_back P ((l, false) ∷ us) h = inr (some_kept_back P us h)
+
+-- some name of an expression, and some name under its `next`
+pub some_leaf : {L : Type 0} (P : L → Type 0) (t : Tree L) → AtSome (λ u. P u.0) (flagged false t) → AtSome P (leaves_in t)
+some_leaf P t h = subst (AtSome P) (flagged_leaves false t) (some_first P (flagged false t) h)
+
+pub some_leaf_back : {L : Type 0} (P : L → Type 0) (t : Tree L) → AtSome P (leaves_in t) → AtSome (λ u. P u.0) (flagged false t)
+some_leaf_back P t h = some_first_back P (flagged false t) (subst (AtSome P) (sym (flagged_leaves false t)) h)
+
+pub some_under : {L : Type 0} (P : L → Type 0) (t : Tree L) → AtSome (IsFlagged P) (flagged false t) → AtSome P (leaves_under t)
+some_under P t h = subst (AtSome P) (flagged_are_under t) (some_kept P (flagged false t) h)
+
+pub some_under_back : {L : Type 0} (P : L → Type 0) (t : Tree L) → AtSome P (leaves_under t) → AtSome (IsFlagged P) (flagged false t)
+some_under_back P t h = some_kept_back P (flagged false t) (subst (AtSome P) (sym (flagged_are_under t)) h)

@@ -1,0 +1,14 @@
+-- The look-ups that are taken off so far are answered.
+use Rattle.std.proofs.Common.{length}
+use Rattle.xs_scope.specs.Known.{rows, IsSameButFormals}
+use Rattle.xs_scope.specs.Waiting.{IsClosing}
+use Rattle.xs_scope.proofs.names.Scene.close_circle.Given as goal
+
+abbrev pub decreases-loop-left : goal.decreases-loop-left
+decreases-loop-left l = length l.left
+
+abbrev pub invariant-loop-left : goal.invariant-loop-left
+invariant-loop-left l = record {
+  same : IsSameButFormals l.initial.self l.self;
+  closing : IsClosing (rows l.initial.self) (rows l.self) l.waiting l.left;
+}

@@ -1,0 +1,10 @@
+-- The symbols so far, with those that are left, are all.
+use Rattle.std.proofs.Common.{◌≡◌, drop}
+use Rattle.xs_flattening.specs.Model.{first_appearances, symbols_of_members}
+use Rattle.xs_scope.specs.Symbols.{texts}
+use Rattle.xs_scope.proofs.symbols.add_members.Given as goal
+
+abbrev pub invariant-loop-member : goal.invariant-loop-member
+invariant-loop-member l =
+    first_appearances (texts l.symbols.keys) (symbols_of_members (drop l.member-index l.members))
+    ≡ first_appearances (texts l.initial.symbols.keys) (symbols_of_members l.members)

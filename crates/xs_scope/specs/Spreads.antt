@@ -1,0 +1,6 @@
+-- What is reached so far, as definitions see it.
+use Rattle.xs_scope.specs.declared.needs.Spread.{Spread as Code}
+use Rattle.xs_scope.specs.Links.{Spread}
+
+abbrev pub spread_of : Code → Spread
+spread_of s = record { reached = s.reached.items; waiting = s.waiting.items }

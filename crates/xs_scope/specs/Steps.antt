@@ -1,0 +1,86 @@
+-- One step of a look-up: what a part of a name means, or which formal it is; and the items of an instance.
+use Rattle.std.specs.Prelude.{ℕ, Bool, true, false, if◌then◌else◌, List, [], ◌∷◌, Option, Some, None, slice_get, length, Vec}
+use Rattle.std.specs.Borrow.{Bor}
+use Rattle.std.specs.declared.alloc.Global.{Global}
+use Rattle.xs_tree.specs.ProgramTree.{Text, Path}
+use Rattle.xs_scope.specs.FoundAt.{names_of_spot, local_at, own_at, formal_at, symbol_at, told}
+use Rattle.xs_scope.specs.declared.modules.Local.{Local}
+use Rattle.xs_scope.specs.declared.modules.Local.TheVariants as local
+use Rattle.xs_scope.specs.declared.items.Numbered.{Numbered}
+use Rattle.xs_scope.specs.declared.modules.Names.{Names}
+use Rattle.xs_scope.specs.declared.walk.Spot.{Spot}
+use Rattle.xs_scope.specs.declared.walk.Meaning.{Meaning as Found}
+use Rattle.xs_scope.specs.declared.walk.Meaning.TheVariants as found
+use Rattle.xs_scope.specs.declared.names.Formal.{Formal}
+use Rattle.xs_scope.specs.declared.names.Formal.TheVariants as known
+use Rattle.xs_scope.specs.declared.formals.Frame.{Frame}
+use Rattle.xs_scope.specs.declared.formals.Part.{Part}
+use Rattle.xs_scope.specs.declared.formals.Part.TheVariants as part
+use Rattle.xs_scope.specs.declared.formals.Progress.{Progress}
+use Rattle.xs_scope.specs.declared.formals.Progress.TheVariants as progress
+use Rattle.xs_scope.specs.declared.names.Scene.{Scene}
+use Rattle.xs_scope.specs.declared.names.Step.{Step}
+use Rattle.xs_scope.specs.declared.names.Step.TheVariants as step
+
+abbrev pub step_by_local : Scene → ℕ → Bool → Text → Option Local → Step
+step_by_local s spot last x (Some (local.Formal i)) = step.Formal i
+step_by_local s spot last x (Some (local.Item place)) = step.Means (own_at s spot place)
+step_by_local s spot last x None = step.Means (if last then symbol_at s x else found.Nothing)
+
+-- the step of a part at an instance, where it is the last part or not
+abbrev pub step_at : Scene → ℕ → Bool → Text → Step
+step_at s spot last x = step_by_local s spot last x (local_at s spot x)
+
+-- what a step finds, once all formals are answered
+abbrev pub found_by : Scene → ℕ → Step → Found
+found_by s spot (step.Means f) = f
+found_by s spot (step.Formal i) = told (formal_at s spot i)
+
+abbrev pub numbered_in : Option Names → ℕ → Option Numbered
+numbered_in None place = None
+numbered_in (Some names) place = slice_get names.items.items place
+
+-- the item at a place of an instance's module
+abbrev pub numbered_at : Scene → ℕ → ℕ → Option Numbered
+numbered_at s spot place = numbered_in (names_of_spot s (slice_get s.spots.items spot)) place
+
+abbrev pub count_in : Option Spot → ℕ
+count_in None = 0
+count_in (Some spot) = length spot.own.items
+
+-- there is no answer yet
+abbrev pub is_open : Formal → Bool
+is_open known.Unknown = true
+is_open known.Begun = true
+is_open known.Circle = false
+is_open (known.Means f) = false
+
+-- no formal of these is left without an answer
+abbrev pub row_answered : List Formal → Bool
+row_answered [] = true
+row_answered (f ∷ fs) = if is_open f then false else row_answered fs
+
+abbrev pub all_answered : List (Vec Formal Global) → Bool
+all_answered [] = true
+all_answered (r ∷ rs) = if row_answered r.items then all_answered rs else false
+
+abbrev pub row_count_in : Option (Vec Formal Global) → ℕ
+row_count_in None = 0
+row_count_in (Some v) = length v.items
+
+abbrev pub row_count : Scene → ℕ → ℕ
+row_count s spot = row_count_in (slice_get s.formals.items spot)
+
+abbrev pub known_by : Scene → ℕ → Step → Part
+known_by s spot (step.Means f) = part.Known f
+known_by s spot (step.Formal i) = if is_open (formal_at s spot i) then part.Waits i else part.Known (told (formal_at s spot i))
+
+-- what a part means at an instance, or the formal without an answer that it is
+abbrev pub known_at : Scene → ℕ → Text → Part
+known_at s spot x = known_by s spot (step_at s spot true x)
+
+-- a look-up goes on inside what its part means
+abbrev pub gone_inside : Frame → Bor Path → Found → Progress
+gone_inside f more (found.Instance k) = progress.Further (record { spot = f.spot; formal = f.formal; here = k; rest = more })
+gone_inside f more found.Loop = progress.Ended found.Loop
+gone_inside f more _ = progress.Ended found.Nothing

@@ -1,0 +1,19 @@
+-- The symbols so far, and the items that have them.
+use Rattle.std.specs.Prelude.{ℕ, List, map, flat_map}
+use Rattle.std.specs.Borrow.{Bor}
+use Rattle.xs_scope.specs.declared.items.Numbered.{Numbered}
+use Rattle.xs_scope.specs.declared.modules.Names.{Names}
+use Rattle.xs_scope.specs.ItemTree.{item_tree}
+use Rattle.xs_flattening.specs.Model.{symbols_of_item}
+
+-- borrowed texts as texts
+abbrev pub texts : List (Bor (List ℕ)) → List (List ℕ)
+texts ks = map (λ k. k.now) ks
+
+-- the symbols of an item, as often as it names them
+abbrev pub symbols_of_numbered : Numbered → List (List ℕ)
+symbols_of_numbered n = symbols_of_item (item_tree n.item)
+
+-- the symbols of a module's items
+abbrev pub symbols_in : Names → List (List ℕ)
+symbols_in names = flat_map symbols_of_numbered names.items.items

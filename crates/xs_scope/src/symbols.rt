@@ -1,0 +1,94 @@
+//! The symbols of a program.
+
+ghost use Rattle.std.specs.Prelude.{◌≡◌, [], ◌∷◌, flat_map, IfOk, OnOk};
+ghost use Rattle.xs_flattening.specs.Model.{first_appearances, symbols_of_members, symbols_of_item};
+ghost use Rattle.xs_scope.specs.ItemTree.{item_tree};
+ghost use Rattle.xs_scope.specs.Symbols.{texts, symbols_in, symbols_of_numbered};
+
+use crate::items::{Item, Numbered};
+use crate::modules::Modules;
+use indexmap::IndexSet;
+use std::alloc::Global;
+use xs_tree::{Declared, Member};
+use xs_value::{Items, Name, NameList, OutOfMemory};
+
+/// The symbols in order of first appearance as a member of a type or in CONSTANTS, over the whole text.
+pub fn symbols_of<'a>(
+    alloc: Global,
+    modules: &Modules<'a>,
+) -> Result<IndexSet<&'a [u8]>, OutOfMemory>
+    ensures { IfOk result (λ symbols. texts symbols.keys ≡ first_appearances [] (flat_map symbols_in modules.now.list.items)) }
+{
+    let mut symbols = IndexSet::new(alloc);
+    for names in modules.list.as_slice() {
+        add_of_items(&mut symbols, names.items.as_slice())?;
+    }
+    Ok(symbols)
+}
+
+fn add_of_items<'a>(
+    symbols: &mut IndexSet<&'a [u8]>,
+    items: &[Numbered<'a>],
+) -> Result<(), OutOfMemory>
+    ensures { OnOk result (texts symbols.new.keys ≡ first_appearances (texts symbols.old.keys) (flat_map symbols_of_numbered items.now)) }
+{
+    for numbered in items {
+        add_of_item(symbols, numbered.item)?;
+    }
+    Ok(())
+}
+
+fn add_of_item<'a>(symbols: &mut IndexSet<&'a [u8]>, item: Item<'a>) -> Result<(), OutOfMemory>
+    ensures { OnOk result (texts symbols.new.keys ≡ first_appearances (texts symbols.old.keys) (symbols_of_item (item_tree item.entry))) }
+{
+    match item {
+        Item::Constants(names) => add_names(symbols, names.as_slice()),
+        Item::Declared(_, decl) => match &decl.what {
+            Declared::Members(members) => add_members(symbols, members.as_slice()),
+            _ => Ok(()),
+        },
+        _ => Ok(()),
+    }
+}
+
+fn add_names<'a>(symbols: &mut IndexSet<&'a [u8]>, names: &'a [Name]) -> Result<(), OutOfMemory>
+    ensures { OnOk result (texts symbols.new.keys ≡ first_appearances (texts symbols.old.keys) names.now) }
+{
+    for name in names {
+        add_name(symbols, name)?;
+    }
+    Ok(())
+}
+
+/// Adds a symbol, unless it is there.
+fn add_name<'a>(symbols: &mut IndexSet<&'a [u8]>, name: &'a Name) -> Result<(), OutOfMemory>
+    ensures { OnOk result (texts symbols.new.keys ≡ first_appearances (texts symbols.old.keys) (name.now ∷ [])) }
+{
+    symbols.insert(name.text())?;
+    Ok(())
+}
+
+fn add_members<'a>(
+    symbols: &mut IndexSet<&'a [u8]>,
+    members: &'a [Member],
+) -> Result<(), OutOfMemory>
+    ensures { OnOk result (texts symbols.new.keys ≡ first_appearances (texts symbols.old.keys) (symbols_of_members members.now)) }
+{
+    for member in members {
+        if let Member::Symbol(name) = member {
+            add_name(symbols, name)?;
+        }
+    }
+    Ok(())
+}
+
+/// The symbols as names of their own.
+pub fn symbol_names(alloc: Global, symbols: &IndexSet<&[u8]>) -> Result<NameList, OutOfMemory>
+    ensures { IfOk result (λ names. names ≡ texts symbols.now.keys) }
+{
+    let mut names = Items::new(alloc);
+    for text in symbols.as_slice() {
+        names.push(Name::new(alloc, *text)?)?;
+    }
+    Ok(names)
+}
