@@ -9,7 +9,7 @@ use Rattle.xs_fei.specs.declared.instructions.ModeRule.{ModeRule}
 use Rattle.xs_fei.specs.Instructions.{mode_tree}
 use Rattle.xs_tree.specs.Trace.{Each}
 use Rattle.xs_flattening.specs.Flat.{FlatInstance, FlatModel}
-use Rattle.xs_flattening.proofs.Places.{not_true}
+use Rattle.xs_flattening.proofs.KindLaws.{not_true}
 use Rattle.xs_scope.specs.declared.model.Instance.{Instance}
 use Rattle.xs_scope.specs.ModelTree.{instance_tree}
 use Rattle.xs_weave_rules.specs.declared.placed.Placed.{Placed}

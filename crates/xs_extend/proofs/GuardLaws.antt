@@ -17,7 +17,8 @@ use Rattle.xs_flattening.proofs.Reaches.{each_left, each_right}
 use Rattle.xs_flattening.proofs.Lists.{each_map, each_more}
 use Rattle.xs_flattening.proofs.Conditions.{each_at, each_flat}
 use Rattle.xs_flattening.proofs.Sections.{AreInstances}
-use Rattle.xs_flattening.proofs.Places.{not_true, are_instances}
+use Rattle.xs_flattening.proofs.KindLaws.{not_true}
+use Rattle.xs_flattening.proofs.Places.{are_instances}
 use Rattle.xs_flattening.proofs.Walkable.{accepted_walkable, main_is_there}
 use Rattle.xs_flattening.proofs.Kept.{module_named}
 use Rattle.xs_kinds.specs.Judged as found

@@ -85,7 +85,3 @@ one_use p m i r q n k accepted is a b =
 pub none_first : (p : ProgramTree) (m : FlatModel) (i : InstructionTree) (r : UseRule) (n : ℕ) → IsAccepted p → IsFlatOf p m → AllUsesKept p m i → IsFirstUse p m i r n → ⊥
 none_first p m i r n accepted is kept a =
     none_broken (KeepsUse p m) (IsBroken p m) (λ u k broken. kept_unbroken p u m accepted is broken.0 k broken.1) a.before a.here a.after (subst (Each (KeepsUse p m)) a.in_order kept) (r, a.broken)
-
--- a mode that is refused by a rule of kinds breaks no rule of names
-pub names_first : (p : ProgramTree) (m : FlatModel) (u : Use) (r : KindRule) → IsBrokenAt p m u (of_kinds r) → KeepsNames p u
-names_first p m u r (by_kinds q kept f is) = kept

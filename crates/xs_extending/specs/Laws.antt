@@ -5,13 +5,7 @@ use Rattle.xs_fei.specs.Instructions.{InstructionTree}
 use Rattle.xs_flattening.specs.Flat.{FlatModel}
 use Rattle.xs_flattening.specs.Rules.{IsAccepted}
 use Rattle.xs_flattening.specs.Model.{IsFlatOf}
-use Rattle.xs_kinds.specs.Judged.{KindRule}
-use Rattle.xs_extending.specs.Uses.{Use}
-use Rattle.xs_extending.specs.Expressions.{KeepsNames, UseRule, of_kinds, IsBrokenAt, AllUsesKept, IsFirstUse}
-
--- a mode that is refused by a rule of kinds breaks no rule of names
-abbrev pub NamesComeFirst : Type 0
-NamesComeFirst = (p : ProgramTree) (m : FlatModel) (u : Use) (r : KindRule) → IsBrokenAt p m u (of_kinds r) → KeepsNames p u
+use Rattle.xs_extending.specs.Expressions.{UseRule, AllUsesKept, IsFirstUse}
 
 -- instructions have at most one first broken rule on the expressions of their modes, with one item
 abbrev pub OneUse : Type 0

@@ -3,7 +3,8 @@
 //!
 //! A mode is judged at each instance of its slice's module (`specs/Uses.antt`), as a DEFINE of that module
 //! would be: first by the rules of names and then, in its flat form, by those of kinds
-//! (`specs/Expressions.antt`). These are definitions alone; the code that judges stands in the layer above.
+//! (`specs/Expressions.antt`). At most one rule is the first that instructions break (`specs/Laws.antt`). The code
+//! that judges stands in the layer above.
 //!
 //! ```text
 //! // SLICE Lamp AFFECTS on WITH MODE dark : Permanent StuckAt(FALSE) WHEN 3;
@@ -11,12 +12,7 @@
 //! ```
 #![tactic(auto)]
 
-ghost use Rattle.xs_extending.specs.Laws.{NamesComeFirst, OneUse, KeptHaveNone};
-
-/// A mode that is refused by a rule of kinds breaks no rule of names.
-pub fn names_come_first()
-    ensures { NamesComeFirst }
-{}
+ghost use Rattle.xs_extending.specs.Laws.{OneUse, KeptHaveNone};
 
 /// Instructions have at most one first broken rule on the expressions of their modes, with one item, and none
 /// where all modes keep the rules.

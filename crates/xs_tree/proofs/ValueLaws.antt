@@ -3,8 +3,20 @@ use Rattle.std.proofs.Common.{◌≡◌, ℕ, Bool, true, false, ◌&&◌, List,
 use Rattle.std.specs.Prelude.{ℤ, pos, negsuc, nat_eq}
 use Rattle.xs_tree.specs.Values.{Value, truth, number, symbol, same_int, same_bool, same_value}
 use Rattle.xs_tree.specs.Texts.{same_text}
-use Rattle.xs_lexer.proofs.SignLemmas.{both_true}
-use Rattle.xs_tree.proofs.OneTree.{same_text_equal}
+
+pub both_true : (a b : Bool) → (a && b) ≡ true → (a ≡ true) × (b ≡ true)
+both_true true true h = (refl, refl)
+both_true true false h = cc
+both_true false b h = cc
+
+pub same_text_equal : (a b : List ℕ) → same_text a b ≡ true → a ≡ b
+same_text_equal [] [] h = refl
+same_text_equal [] (d ∷ ds) h = cc
+same_text_equal (c ∷ cs) [] h = cc
+same_text_equal (c ∷ cs) (d ∷ ds) h =
+    let parts : (nat_eq c d ≡ true) × (same_text cs ds ≡ true) = both_true _ _ h in
+    let heads : c ≡ d = eqb-true c d parts.0 in
+    let tails : cs ≡ ds = same_text_equal cs ds parts.1 in cc
 
 pub same_text_refl : (a : List ℕ) → same_text a a ≡ true
 same_text_refl [] = refl

@@ -13,7 +13,7 @@ use Rattle.xs_flattening.specs.Rules.{no_main, main_has_parameters, double_modul
 use Rattle.xs_flattening.proofs.Reaches.{each_left, each_right}
 use Rattle.xs_flattening.proofs.Conditions.{each_join}
 use Rattle.xs_flattening.proofs.Lists.{each_of_map, each_map, each_more, map_joined}
-use Rattle.xs_flattening.proofs.Places.{not_true}
+use Rattle.xs_flattening.proofs.KindLaws.{not_true}
 use Rattle.xs_flattening.proofs.Now.{neither}
 use Rattle.xs_fei.specs.Instructions.{SliceTree, InstructionTree, slices_of, is_affected}
 use Rattle.xs_effects.specs.AddedNames.{own_name, mode_variable}

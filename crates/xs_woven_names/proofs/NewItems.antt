@@ -16,7 +16,7 @@ use Rattle.xs_tree.proofs.ValueLaws.{same_text_refl, same_text_equal}
 use Rattle.xs_flattening.specs.Items.{a_declaration, an_assignment, a_trans}
 use Rattle.xs_flattening.specs.Resolved.{leaves_in, has_next}
 use Rattle.xs_flattening.specs.Rules.{Rule, no_such_name, next_here, input_here, HasNoValue, may_be_assigned, next_under_next, leaves_under, GivesInput}
-use Rattle.xs_flattening.proofs.Places.{not_true}
+use Rattle.xs_flattening.proofs.KindLaws.{not_true}
 use Rattle.xs_flattening.proofs.Lists.{each_more}
 use Rattle.xs_fei.specs.Instructions.{EffectTree, stuck_at, follows, inverted, random, erroneous, stuck_at_pick, offset, ramp_down, frozen as frozen_effect, ModeTree, SliceTree, InstructionTree, slices_of}
 use Rattle.xs_effects.specs.AddedNames.{ModeState, own_name, mode_variable, mode_symbol}

@@ -1,8 +1,10 @@
 -- What the reading of an input file comes to.
-use Rattle.std.proofs.Common.{◌≡◌, ◌∙◌, ap, refl, ℕ, List, [], ◌∷◌, map, Option, Some, None, Result, Err, IfSome}
+use Rattle.std.proofs.Common.{◌≡◌, ◌∙◌, ap, subst, sym, refl, ℕ, List, [], ◌∷◌, map, Option, Some, None, Result, Err, IfSome}
 use Rattle.xs_tree.specs.ProgramTree.{Text, ProgramTree}
 use Rattle.xs_flattening.specs.Flat.{FlatInstance, FlatModel as ModelTree}
 use Rattle.xs_flattening.specs.Model.{IsFlatOf}
+use Rattle.xs_fei.specs.Instructions.{InstructionTree}
+use Rattle.xs_extending.specs.Expressions.{AllUsesKept}
 use Rattle.xs_scope.specs.declared.model.FlatModel.{FlatModel}
 use Rattle.xs_scope.specs.declared.model.Instance.{Instance}
 use Rattle.xs_scope.specs.ModelTree.{instance_tree, model_tree}
@@ -70,3 +72,7 @@ modules_are p m is = twice m.instances ∙ ap (map (λ (at : FlatInstance). at.m
     twice : (xs : List Instance) → modules_in xs ≡ map (λ (at : FlatInstance). at.module_name) (map instance_tree xs)
     twice [] = refl
     twice (x ∷ xs) = ap (λ rest. x.«module» ∷ rest) (twice xs)
+
+-- what is so of the modes over a lawful program's flat model is so over each of its flat models, since it has one
+pub all_uses : (p : ProgramTree) (m : ModelTree) (i : InstructionTree) → IsLawful p m → AllUsesKept p m i → (n : ModelTree) → IsFlatOf p n → AllUsesKept p n i
+all_uses p m i lawful kept n is = subst (λ o. AllUsesKept p o i) (sym (lawful.model.only n is)) kept

@@ -10,11 +10,10 @@ mod TextFaults
 mod ExtensionLemmas
 mod FileFacts
 mod OneFaults
-mod OneBroken
 mod OneModes
 mod WholeLemmas
+mod LimitLaws
 mod OneModelFault
 mod OneExtension
-mod OneEarlyFault
+mod OneInstructions
 mod OneOutcome
-mod Settled

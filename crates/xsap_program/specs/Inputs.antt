@@ -8,6 +8,8 @@ use Rattle.xs_parse.specs.declared.fault.ParseFault.{ParseFault}
 use Rattle.xs_parse.specs.Stops.{FaultMeans}
 use Rattle.xs_flattening.specs.Flat.{FlatInstance, FlatModel}
 use Rattle.xs_flattening.specs.Items.{instances_of}
+use Rattle.xs_flattening.specs.Model.{IsFlatOf}
+use Rattle.xs_extending.specs.Expressions.{AllUsesKept}
 use Rattle.xs_fei.specs.Instructions.{InstructionTree}
 use Rattle.xs_fei.specs.SpellsInstructions.{BytesSpellInstructions}
 use Rattle.xs_fei_reader.specs.InstructionPlaces.{IsInstructions}
@@ -32,7 +34,7 @@ use Rattle.xsap_program.specs.declared.faults.Made.{Made}
 use Rattle.xsap_program.specs.Statuses.{absent, too_long}
 use Rattle.xsap_program.specs.Wrongs.{parse_wrong, weave_wrong}
 use Rattle.xsap_program.specs.Models.{IsModelText, IsLawful, IsWrongModel}
-use Rattle.xsap_program.specs.Wholes.{IsWrongWhole, IsWithinLimits}
+use Rattle.xsap_program.specs.Wholes.{PassesLimit, IsWithinLimits}
 use Rattle.xsap_program.specs.Reports.{report_text}
 
 -- the refusal of one of the two input files
@@ -81,17 +83,19 @@ IsFaultOfInstructions bytes f = FaultMeans IsInstructions (AreInstructionsTooDee
 abbrev pub modules_named : ProgramTree → List Text
 modules_named p = map (λ (at : FlatInstance). at.module_name) (instances_of p)
 
--- instructions that a weave takes: they keep its rules
+-- instructions that a weave takes: they keep its rules, and no guard and nothing that is followed breaks one
 pub record AreTaken (p : ProgramTree) (i : InstructionTree) : Type 0 where
   pub weavable : IsWeavable p i
   pub kept : KeepsRules p i (modules_named p)
+  pub uses : (m : FlatModel) → IsFlatOf p m → AllUsesKept p m i
 
 -- what is wrong with the bytes of instructions for a program: they spell no instructions within the depths, these break a rule
 -- of the weave, or the extension passes a limit
 pub data IsWrongFaults (p : ProgramTree) (bytes : List ℕ) (fault : InputFault) : Type 0 where
   not_spelled : (f : ParseFault) → IsFaultOfInstructions bytes f → wrong.Refused fault ≡ parse_wrong f → IsWrongFaults p bytes fault
-  not_woven : (i : InstructionTree) (f : WeaveFault) → IsInstructionText bytes i → IsTold p i (modules_named p) f → wrong.Refused fault ≡ weave_wrong f → IsWrongFaults p bytes fault
-  past_limit : (i : InstructionTree) (faults : List Fault) → IsInstructionText bytes i → AreTaken p i → HasFaults p i faults → IsWrongWhole (woven p i) faults fault →
+  not_woven : (i : InstructionTree) (m : FlatModel) (f : WeaveFault) → IsInstructionText bytes i → IsFlatOf p m → IsTold p m i (modules_named p) f → wrong.Refused fault ≡ weave_wrong f →
+      IsWrongFaults p bytes fault
+  past_limit : (i : InstructionTree) (faults : List Fault) → IsInstructionText bytes i → AreTaken p i → HasFaults p i faults → PassesLimit (woven p i) faults fault →
       IsWrongFaults p bytes fault
 
 -- the instruction file is refused

@@ -70,18 +70,3 @@ pub record HasStopped (files : List NamedFile) (words : List Text) (before after
   pub outcome : Outcome
   pub means : Means files words outcome
   pub in_part : IsDeliveredInPart outcome before after said now
-
--- the instruction file is absent or too long, or its bytes spell no instructions within the depths, or an item of these breaks a
--- rule before guards and what is followed are judged
-pub data IsRefusedEarly (files : List NamedFile) (name : Text) (p : ProgramTree) (fault : InputFault) : Type 0 where
-  no_file : IsRefusedFile files name fault → IsRefusedEarly files name p fault
-  no_text : (bytes : List ℕ) (f : ParseFault) → HasBytes files name bytes → IsFaultOfInstructions bytes f → wrong.Refused fault ≡ parse_wrong f → IsRefusedEarly files name p fault
-  no_item : (bytes : List ℕ) (i : InstructionTree) (rule : Rule) (item : ℕ) → HasBytes files name bytes → IsInstructionText bytes i → IsFirstOfGroups p i (modules_named p) rule item →
-      wrong.Refused fault ≡ weave_rule rule item → IsRefusedEarly files name p fault
-
--- what is decided before guards and what is followed are judged: by the words, by the model's file, or by the instruction file
-pub data Settles (files : List NamedFile) (words : List Text) : Outcome → Type 0 where
-  by_words : AsksForMore words → Settles files words (refuses (refusal.NotBuilt built.Words))
-  by_model : (model faults extended : Text) (r : Refusal) → AsksToExtend words model faults extended → RefusesModel files model r → Settles files words (refuses r)
-  by_faults : (model faults extended : Text) (p : ProgramTree) (fault : InputFault) → AsksToExtend words model faults extended → HoldsModel files model p → IsRefusedEarly files faults p fault →
-      Settles files words (refuses (refusal.Faults fault))

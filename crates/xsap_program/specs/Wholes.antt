@@ -3,9 +3,9 @@ use Rattle.std.specs.Prelude.{ℕ, ◌≡◌, List, Some, slice_get}
 use Rattle.xs_tree.specs.ProgramTree.{ProgramTree}
 use Rattle.xs_flattening.specs.Flat.{FlatModel}
 use Rattle.xs_flattening.specs.History.{Mode, with_history}
-use Rattle.xs_flattening.specs.Rules.{Rule, IsFirstBroken, IsAccepted}
+use Rattle.xs_flattening.specs.Rules.{Rule, too_many, IsFirstBroken, IsAccepted}
 use Rattle.xs_flattening.specs.Model.{IsVariableNumber, EachBoth}
-use Rattle.xs_kinds.specs.Judged.{KindRule}
+use Rattle.xs_kinds.specs.Judged.{KindRule, too_large}
 use Rattle.xs_kinds.specs.Models.{IsTyped, IsFault}
 use Rattle.xs_effects.specs.AddedNames.{mode_variable, mode_symbol}
 use Rattle.xs_weave.specs.Faults.{Fault}
@@ -44,6 +44,12 @@ pub record BreaksKinds (whole : FlatModel) (told : InputFault) : Type 0 where
 pub data IsWrongWhole (extension : ProgramTree) (faults : List Fault) (told : InputFault) : Type 0 where
   by_names : BreaksNames extension told → IsWrongWhole extension faults told
   by_kinds : (whole : FlatModel) → IsAccepted extension → IsWhole extension faults whole → BreaksKinds whole told → IsWrongWhole extension faults told
+
+-- The extension passes a limit: it has too many instances or variables, or else its flat model with all bits is too large. No
+-- other rule can be broken where the program and the instructions break none.
+pub data PassesLimit (extension : ProgramTree) (faults : List Fault) (told : InputFault) : Type 0 where
+  by_number : (item : ℕ) → IsFirstBroken extension too_many item → told ≡ names_fault too_many 0 → PassesLimit extension faults told
+  by_size : (whole : FlatModel) → IsAccepted extension → IsWhole extension faults whole → IsFault whole too_large 0 → told ≡ kinds_fault too_large 0 → PassesLimit extension faults told
 
 -- the extension breaks no rule, and no limit of size
 pub record IsWithinLimits (extension : ProgramTree) (faults : List Fault) : Type 0 where

@@ -4,7 +4,7 @@ use Rattle.xsap_program.specs.declared.status.Refusal.TheVariants as refusal
 use Rattle.xsap_program.specs.Runs.{refuses}
 use Rattle.xsap_program.proofs.OutcomeLemmas.{means_asked, means_more, answers_refusal, stops_at_refusal, answers_extension, stops_at_extension, answers_stop, leaves_stop}
 use Rattle.xsap_program.proofs.ExtensionLemmas.{done_extends}
-use Rattle.xsap_program.proofs.Settled.{answers_settled}
+use Rattle.xsap_program.proofs.OneOutcome.{answers_exactly}
 use Rattle.xsap_program.proofs.run.run.Goals as goal
 
 pub returns-in_default-clause-answered : goal.returns-in_default-clause-answered
@@ -46,11 +46,11 @@ returns-in-Ok-clause-extended g c model faults extended = done_extends _ _ _ _ _
 pub returns-in-Err-clause-extended : goal.returns-in-Err-clause-extended
 returns-in-Err-clause-extended g c model faults extended = done_extends _ _ _ _ _ _ model faults extended (returns-in-Err-clause-answered g c)
 
-pub returns-in_default-clause-settled : goal.returns-in_default-clause-settled
-returns-in_default-clause-settled g c = answers_settled _ _ _ _ _ _ (returns-in_default-clause-answered g c)
+pub returns-in_default-clause-exact : goal.returns-in_default-clause-exact
+returns-in_default-clause-exact g c = answers_exactly _ _ _ _ _ _ (returns-in_default-clause-answered g c)
 
-pub returns-in-Ok-clause-settled : goal.returns-in-Ok-clause-settled
-returns-in-Ok-clause-settled g c = answers_settled _ _ _ _ _ _ (returns-in-Ok-clause-answered g c)
+pub returns-in-Ok-clause-exact : goal.returns-in-Ok-clause-exact
+returns-in-Ok-clause-exact g c = answers_exactly _ _ _ _ _ _ (returns-in-Ok-clause-answered g c)
 
-pub returns-in-Err-clause-settled : goal.returns-in-Err-clause-settled
-returns-in-Err-clause-settled g c = answers_settled _ _ _ _ _ _ (returns-in-Err-clause-answered g c)
+pub returns-in-Err-clause-exact : goal.returns-in-Err-clause-exact
+returns-in-Err-clause-exact g c = answers_exactly _ _ _ _ _ _ (returns-in-Err-clause-answered g c)
