@@ -1,5 +1,5 @@
 -- Loops over modes: what is left decides what all come to.
-use Rattle.std.proofs.Common.{◌≡◌, ℕ, suc, ◌+◌, ◌<◌, Bool, true, List, [], ◌∷◌, ◌++◌, map, length, drop, get_or, refl, sym, ◌∙◌, ap, subst, append_assoc, arith}
+use Rattle.std.proofs.Common.{◌≡◌, ℕ, suc, ◌+◌, ◌<◌, true, List, [], ◌∷◌, ◌++◌, map, length, drop, get_or, refl, sym, ◌∙◌, ap, subst, append_assoc, arith}
 use Rattle.std.specs.Prelude.{flat_map, if◌then◌else◌}
 use Rattle.xs_tree.specs.ProgramTree.{DeclaredTree, ProgramTree, declared_tree}
 use Rattle.xs_tree.specs.Scope.{Place}
@@ -23,7 +23,7 @@ use Rattle.xs_extend.specs.declared.fault.Cause.{Cause}
 use Rattle.xs_extend.specs.declared.fault.Cause.TheVariants.{Weave, Flat, Kinds}
 use Rattle.xs_extend.specs.declared.fault.WeaveFault.{WeaveFault}
 use Rattle.xs_extend.specs.Guarded.{use_at}
-use Rattle.xs_extend.specs.Refused.{TellsRule, IsWantOr, IsFirstFault}
+use Rattle.xs_extend.specs.Refused.{IsWantOr, IsFirstFault}
 
 -- where what is left is kept, all are, and what is first among what is left is first among all
 pub record Decides (p : ProgramTree) (m : FlatModel) (left all : List Use) : Type 0 where

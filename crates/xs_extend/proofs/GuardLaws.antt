@@ -21,9 +21,8 @@ use Rattle.xs_flattening.proofs.KindLaws.{not_true}
 use Rattle.xs_flattening.proofs.Places.{are_instances}
 use Rattle.xs_flattening.proofs.Walkable.{accepted_walkable, main_is_there}
 use Rattle.xs_flattening.proofs.Kept.{module_named}
-use Rattle.xs_kinds.specs.Judged as found
-use Rattle.xs_kinds.specs.Judged.{KindRule, truth_class, not_boolean, unless_class}
-use Rattle.xs_kinds.specs.Models.{least, judged_in, broken_condition, IsTyped}
+use Rattle.xs_kinds.specs.Judged.{KindRule}
+use Rattle.xs_kinds.specs.Models.{least, judged_in, IsTyped}
 use Rattle.xs_kinds.proofs.Least.{least_none}
 use Rattle.xs_kinds.proofs.Parts.{none_first, none_second}
 use Rattle.xs_weave.specs.Weavable.{Among, IsWeavable}
@@ -35,8 +34,8 @@ use Rattle.xs_weave_rules.specs.Faults.{file_slices}
 use Rattle.xs_weave_rules.specs.Placing.{PlacedSlice, placed_from}
 use Rattle.xs_weave_rules.specs.Judged.{IsJudged}
 use Rattle.xs_extending.specs.Uses.{Use, uses_at}
-use Rattle.xs_extending.specs.SliceUses.{modes_from, uses_of_slice, uses_of_slices}
-use Rattle.xs_extending.specs.Expressions.{followed, SomeBreaks, IsForm, broken_by, class_of_followed, class_of_guard, or_else, kind_rule, KeepsUse, AllUsesKept}
+use Rattle.xs_extending.specs.SliceUses.{modes_from, uses_of_slice}
+use Rattle.xs_extending.specs.Expressions.{followed, SomeBreaks, IsForm, broken_by, class_of_followed, class_of_guard, or_else, KeepsUse, AllUsesKept}
 use Rattle.xs_extending.proofs.SliceLaws.{placed_are, uses_are}
 use Rattle.xs_extend.specs.declared.faults.Woven.{Woven}
 use Rattle.xs_extend.specs.JudgedLaws.{IsGoodCondition, IsGoodValue, IsGoodEffect, IsGoodGuard, IsGoodMode, AreGoodModes}

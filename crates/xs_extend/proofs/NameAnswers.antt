@@ -1,5 +1,5 @@
 -- The first rule of names of a mode, from what is told of its expressions.
-use Rattle.std.proofs.Common.{◌≡◌, ◌⊎◌, inl, inr, ℕ, ◌<◌, Bool, true, false, Option, Some, None, refl, sym, ◌∙◌, ap, subst, arith}
+use Rattle.std.proofs.Common.{◌≡◌, inl, inr, ℕ, ◌<◌, Bool, true, false, Option, Some, None, refl, sym, subst, arith}
 use Rattle.std.specs.Prelude.{IfSome, MatchOption, nat_lt, if◌then◌else◌, Result, Ok, Err, IfOk, IfErr, OnOk}
 use Rattle.std.specs.Option.{option_map}
 use Rattle.std.proofs.lemmas.Bool.{ltb-true, ltb-false}
@@ -19,11 +19,11 @@ use Rattle.xs_scope.specs.ModelTree.{flat_tree}
 use Rattle.xs_flat.proofs.FlatFaults.{no_rule}
 use Rattle.xs_weave_rules.specs.declared.fault.Rule.TheVariants.{OutOfMemory}
 use Rattle.xs_extending.specs.Uses.{Use}
-use Rattle.xs_extending.specs.Expressions.{followed, BreaksNames, IsLeastOfNames, KeepsNames, IsForm, UseRule, of_names, IsBrokenAt, by_names}
+use Rattle.xs_extending.specs.Expressions.{followed, BreaksNames, IsLeastOfNames, KeepsNames, IsForm, of_names, IsBrokenAt, by_names}
 use Rattle.xs_extend.specs.declared.fault.Cause.{Cause}
 use Rattle.xs_extend.specs.declared.fault.Cause.TheVariants as causes
 use Rattle.xs_extend.specs.Guarded.{IsLeastOfSome, IsSomeKept, IsSomeFault, told_number, lower_fault, both_forms}
-use Rattle.xs_extend.specs.Refused.{TellsRule, IsWantOr}
+use Rattle.xs_extend.specs.Refused.{IsWantOr}
 
 -- how a fault of names is told
 abbrev pub IsFlatCause : FlatFault → Cause → Type 0

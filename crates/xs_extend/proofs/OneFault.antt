@@ -1,7 +1,6 @@
 -- Of instructions for a program at most one fault is told, want of memory apart.
-use Rattle.std.proofs.Common.{◌≡◌, ◌≢◌, ℕ, suc, List, [], ◌∷◌, ◌++◌, Option, Some, None, length, refl, sym, ◌∙◌, ap, subst}
+use Rattle.std.proofs.Common.{◌≡◌, ◌≢◌, ℕ, suc, List, Option, Some, None, length, sym, ◌∙◌, ap, subst}
 use Rattle.xs_tree.specs.ProgramTree.{Text, ProgramTree}
-use Rattle.xs_tree.specs.Trace.{Each}
 use Rattle.xs_fei.specs.Instructions.{InstructionTree}
 use Rattle.xs_flattening.specs.Flat.{FlatModel}
 use Rattle.xs_flattening.specs.Rules as rules
@@ -11,9 +10,6 @@ use Rattle.xs_scope.specs.declared.fault.Rule.{Rule as FlatRule}
 use Rattle.xs_scope.specs.declared.fault.Rule.TheVariants as flat
 use Rattle.xs_scope.specs.declared.fault.FlatFault.{FlatFault}
 use Rattle.xs_scope.specs.Faults.{rule_of}
-use Rattle.xs_types.specs.Answers.{told_rule}
-use Rattle.xs_types.specs.Calls.{fault_of}
-use Rattle.xs_types.specs.declared.fault.TypeFault.{TypeFault}
 use Rattle.xs_weave_rules.specs.declared.fault.Rule.{Rule}
 use Rattle.xs_weave_rules.specs.declared.fault.Rule.TheVariants.{OutOfMemory}
 use Rattle.xs_weave_rules.specs.Sites.{Site, item_sites}

@@ -1,6 +1,6 @@
 -- What a weave tells, by what its parts tell.
-use Rattle.std.proofs.Common.{◌≡◌, ℕ, List, [], ◌∷◌, map, refl, sym, ◌∙◌, ap, subst}
-use Rattle.std.specs.Prelude.{Result, Ok, Err, IfErr, OnOk, MatchOption, ◌⊎◌}
+use Rattle.std.proofs.Common.{◌≡◌, ℕ, List, [], ◌∷◌, map, refl, sym, ap, subst}
+use Rattle.std.specs.Prelude.{Result, Ok, Err, IfErr}
 use Rattle.std.proofs.Common.{inl, inr}
 use Rattle.xs_tree.specs.ProgramTree.{Text, ProgramTree}
 use Rattle.xs_fei.specs.Instructions.{InstructionTree}
@@ -13,7 +13,6 @@ use Rattle.xs_scope.specs.declared.model.Instance.{Instance}
 use Rattle.xs_scope.specs.ModelTree.{instance_tree}
 use Rattle.xs_types.specs.Faults.{IsOfMemory, IsToldOf}
 use Rattle.xs_types.specs.declared.fault.TypeFault.{TypeFault}
-use Rattle.xs_weave_rules.specs.declared.fault.Rule.TheVariants.{OutOfMemory}
 use Rattle.xs_extending.specs.Uses.{uses}
 use Rattle.xs_extend.specs.declared.fault.Cause.{Cause}
 use Rattle.xs_extend.specs.declared.fault.Cause.TheVariants.{Weave, Flat, Kinds}

@@ -188,7 +188,14 @@ fn resolve_mode(
     ensures kept { (at : FlatInstance) (type : DeclaredTree) (n : ℕ) → IsAt (program_in nominal.entry) (model_in nominal.entry) «instance» at → OnOk result (KeepsNames (program_in nominal.entry) (use_at at.place type (mode_tree mode.now) n)) }
     ensures told { (at : FlatInstance) (type : DeclaredTree) (n : ℕ) → IsAt (program_in nominal.entry) (model_in nominal.entry) «instance» at → IfErr result (λ cause. IsWantOr cause (IsBrokenAt (program_in nominal.entry) (model_in nominal.entry) (use_at at.place type (mode_tree mode.now) n))) }
 {
-    let follows = resolve(alloc, nominal, scope, instance, false, follows_of(&mode.effect));
+    let follows = resolve(
+        alloc,
+        nominal,
+        scope,
+        instance,
+        false,
+        follows_of(&mode.effect),
+    );
     let guard = resolve(alloc, nominal, scope, instance, true, mode.guard.as_ref());
     match both_of(follows, guard) {
         Ok(resolved) => Ok(resolved),

@@ -1,17 +1,16 @@
 -- At a mode of an instance one rule is told, and so the first mode that breaks one is one.
-use Rattle.std.proofs.Common.{◌≡◌, ◌⊎◌, inl, inr, ℕ, ◌<◌, arith, Bool, true, false, List, length, ◌∷◌, ◌++◌, Option, Some, None, refl, sym, ◌∙◌, ap, subst}
+use Rattle.std.proofs.Common.{◌≡◌, inl, inr, ℕ, ◌<◌, arith, Bool, true, false, length, Option, Some, None, refl, sym, ◌∙◌, ap, subst}
 use Rattle.std.specs.Prelude.{nat_eq, if◌then◌else◌}
-use Rattle.xs_tree.specs.Tree.{Tree}
 use Rattle.xs_tree.specs.ProgramTree.{Formula, ProgramTree}
 use Rattle.xs_tree.specs.Scope.{Place}
 use Rattle.xs_tree.specs.Trace.{Each}
 use Rattle.xs_fei.specs.Instructions.{InstructionTree}
-use Rattle.xs_flattening.specs.Flat.{FlatLeaf, FlatModel}
+use Rattle.xs_flattening.specs.Flat.{FlatModel}
 use Rattle.xs_flattening.specs.Rules.{Rule, number_of, no_main, main_has_parameters, double_module, double_name, no_such_module, wrong_count, module_loop, no_such_name, not_a_target, double_assign, define_loop, next_here, input_here, too_many, IsAccepted}
 use Rattle.xs_flattening.specs.Model.{IsFlatOf}
 use Rattle.xs_flattening.specs.ValueRules.{BreaksValue}
 use Rattle.xs_kinds.specs.Judged.{KindRule}
-use Rattle.xs_extending.specs.Uses.{Use, uses}
+use Rattle.xs_extending.specs.Uses.{Use}
 use Rattle.xs_extending.specs.Expressions.{followed, SomeBreaks, BreaksNames, IsLeastOfNames, KeepsNames, Forms, kind_rule, KeepsUse, AllUsesKept, UseRule, of_names, of_kinds, IsBrokenAt, by_names, by_kinds, IsFirstUse}
 use Rattle.xs_extending.proofs.OneForm.{same_form}
 use Rattle.xs_extending.proofs.Splits.{one_split, none_broken}

@@ -4,7 +4,7 @@ use Rattle.xs_tree.specs.Tree.{Tree}
 use Rattle.xs_tree.specs.ProgramTree.{Formula, DeclaredTree, ProgramTree}
 use Rattle.xs_tree.specs.Scope.{Place}
 use Rattle.xs_tree.specs.Trace.{Each}
-use Rattle.xs_fei.specs.Instructions.{EffectTree, follows, stuck_at, inverted, random, erroneous, frozen, stuck_at_pick, offset, ramp_down, ModeTree, InstructionTree}
+use Rattle.xs_fei.specs.Instructions.{EffectTree, follows, stuck_at, inverted, random, erroneous, frozen, stuck_at_pick, offset, ramp_down, InstructionTree}
 use Rattle.xs_flattening.specs.Flat.{FlatLeaf, FlatModel}
 use Rattle.xs_flattening.specs.Rules.{Rule, number_of}
 use Rattle.xs_flattening.specs.ValueRules.{BreaksValue}

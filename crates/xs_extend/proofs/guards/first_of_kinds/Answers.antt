@@ -1,4 +1,4 @@
-use Rattle.std.proofs.Common.{◌≡◌, None, ◌∙◌, sym}
+use Rattle.std.proofs.Common.{◌∙◌, sym}
 use Rattle.std.specs.Option.{option_map}
 use Rattle.xs_tree.specs.ProgramTree.{declared_tree}
 use Rattle.xs_scope.specs.ModelTree.{flat_tree, model_tree}

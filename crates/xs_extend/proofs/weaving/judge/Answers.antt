@@ -1,12 +1,10 @@
-use Rattle.std.proofs.Common.{◌≡◌, ◌∙◌, List, map, ap, subst}
-use Rattle.std.specs.Prelude.{IfErr, OnOk, flat_map}
+use Rattle.std.proofs.Common.{◌∙◌, map, ap, subst}
+use Rattle.std.specs.Prelude.{IfErr, OnOk}
 use Rattle.xs_tree.specs.ProgramTree.{program_tree}
 use Rattle.xs_tree.specs.Trace.{Each}
 use Rattle.xs_fei.specs.Instructions.{instruction_tree}
 use Rattle.xs_scope.specs.ModelTree.{model_tree}
 use Rattle.xs_weave_rules.specs.Placing.{seen_placed}
-use Rattle.xs_extending.specs.Uses.{uses}
-use Rattle.xs_extending.specs.SliceUses.{uses_of_slices}
 use Rattle.xs_extending.specs.Expressions.{KeepsUse}
 use Rattle.xs_extending.proofs.SliceLaws.{all_uses}
 use Rattle.xs_extend.specs.Refused.{modules_in, IsFirstFault}
