@@ -1,28 +1,24 @@
 -- What the rules give at each item of each instance of an accepted program.
-use Rattle.std.proofs.Common.{◌≡◌, ℕ, zero, suc, ◌+◌, Bool, true, false, ◌||◌, List, [], ◌∷◌, ◌++◌, Some, None, refl, sym, ◌∙◌, ap, subst, arith, inl, inr}
+use Rattle.std.proofs.Common.{◌≡◌, ℕ, zero, suc, ◌+◌, Bool, true, false, ◌||◌, List, [], ◌∷◌, ◌++◌, Some, refl, sym, ◌∙◌, ap, subst, inl, inr}
 use Rattle.std.specs.Prelude.{slice_get, map, flat_map}
 use Rattle.xs_tree.specs.ProgramTree.{Text, Formula, DeclaredTree, boolean, range, members, instance, DeclTree, DefineTree, AssignmentTree, ModuleTree, ProgramTree}
-use Rattle.xs_tree.specs.Texts.{same_text, is_among}
 use Rattle.xs_tree.specs.declared.program.Moment.{Moment}
 use Rattle.xs_tree.specs.declared.program.Moment.TheVariants.{Always, First, After}
-use Rattle.xs_tree.specs.Scope.{Place, Role, state, input, frozen_role, Kind, a_formal, a_variable, a_define, an_instance, undeclared, kind_declared, kind_in, kind_in_sections, formal_from, kind_after_formals, kind_at, module_at, find_module, nth_formula, a_variable_at, Means, means_in, by_kind}
+use Rattle.xs_tree.specs.Scope.{Place, Role, state, input, frozen_role, Kind, a_formal, a_variable, a_define, an_instance, undeclared, kind_declared, kind_in, kind_at, module_at, find_module, nth_formula, a_variable_at, Means, means_in, by_kind}
 use Rattle.xs_tree.specs.Trace.{Each, AtSome, IsInstance}
-use Rattle.xs_tree.proofs.ValueLaws.{same_text_refl}
 use Rattle.xs_flattening.specs.Flat.{FlatInstance}
 use Rattle.xs_flattening.specs.Resolved.{has_next}
-use Rattle.xs_flattening.specs.Items.{Item, a_declaration, a_definition, an_assignment, some_constants, an_init, an_invar, a_trans, NumberedItem, items_of, items_named, visits, instances_of}
+use Rattle.xs_flattening.specs.Items.{a_declaration, a_definition, an_assignment, NumberedItem, items_of, items_named, visits, instances_of}
 use Rattle.xs_flattening.specs.Rules.{a_use, visit_sites, use_sites, IsKept, IsWalkable, IsAccepted, names_of_item, is_name_again, not_a_target, SomeHasNoValue, may_be_assigned, is_target, expression_of, NeedsItself, some_has_next}
 use Rattle.xs_flattening.specs.Model.{Root}
-use Rattle.xs_flattening.proofs.Now.{neither}
 use Rattle.xs_flattening.proofs.Reaches.{each_right}
 use Rattle.xs_flattening.proofs.Lists.{each_of_map}
 use Rattle.xs_flattening.proofs.Conditions.{each_flat, each_at}
 use Rattle.xs_flattening.proofs.Sections.{AreInstances}
-use Rattle.xs_flattening.proofs.KindLaws.{kind_in_items, sections_kind, ItemFacts, kind_of_declaration, no_formal}
+use Rattle.xs_flattening.proofs.KindLaws.{ItemFacts, kind_of_declaration}
 use Rattle.xs_flattening.proofs.Places.{facts_named, are_instances}
 use Rattle.xs_flattening.proofs.Walkable.{accepted_walkable, main_is_there}
-use Rattle.xs_scope.proofs.HeadKinds.{defined_kind, kind_of_definition}
-use Rattle.xs_tree.proofs.OneTree.{same_text_equal}
+use Rattle.xs_scope.proofs.HeadKinds.{kind_of_definition}
 
 -- Lists.
 pub each_not : {A : Type 0} (P : A → Type 0) (xs : List A) → (AtSome P xs → ⊥) → Each (λ x. P x → ⊥) xs

@@ -4,7 +4,7 @@ use Rattle.std.specs.Prelude.{slice_get, flat_map, option_map}
 use Rattle.xs_tree.specs.Trace.{Each}
 use Rattle.xs_flattening.specs.Flat.{FlatInstance}
 use Rattle.xs_flattening.specs.Items.{Item, NumberedItem, instances_of}
-use Rattle.xs_flattening.specs.Model.{Condition, EachBoth}
+use Rattle.xs_flattening.specs.Model.{Condition}
 use Rattle.xs_scope.specs.declared.bounds.Bounds.{Bounds}
 use Rattle.xs_scope.specs.declared.names.Scene.{Scene}
 use Rattle.xs_scope.specs.declared.walk.Spot.{Spot}

@@ -1,21 +1,16 @@
 -- The order of definitions, where none needs itself: each stands once, and after all that it names.
-use Rattle.std.proofs.Common.{◌≡◌, ℕ, zero, suc, ◌<◌, Bool, true, false, ◌&&◌, ◌||◌, List, [], ◌∷◌, ◌++◌, Option, Some, None, refl, sym, ◌∙◌, ap, subst, arith, eqb-true, eq-eqb, inl, inr}
-use Rattle.std.specs.Prelude.{◌⊎◌, slice_get, nat_eq}
+use Rattle.std.proofs.Common.{◌≡◌, ℕ, zero, suc, ◌<◌, Bool, true, false, ◌||◌, List, [], ◌∷◌, ◌++◌, Option, Some, None, refl, sym, ◌∙◌, ap, subst, arith, inl, inr}
+use Rattle.std.specs.Prelude.{◌⊎◌, slice_get}
 use Rattle.xs_tree.specs.ProgramTree.{Path, Formula, ProgramTree}
-use Rattle.xs_tree.specs.Texts.{same_text}
-use Rattle.xs_tree.specs.Scope.{Place, Key, define_key, actual_key, Meaning, a_variable_at, an_expression_at, an_instance_at, a_symbol, Means}
+use Rattle.xs_tree.specs.Scope.{Place, Key, Meaning, a_variable_at, an_expression_at, an_instance_at, a_symbol, Means}
 use Rattle.xs_tree.specs.Trace.{AtSome}
-use Rattle.xs_tree.proofs.ValueLaws.{same_text_refl}
 use Rattle.xs_flattening.specs.Resolved.{leaves_in}
 use Rattle.xs_flattening.specs.Rules.{Needs, Leads, NeedsItself, expression_of}
-use Rattle.xs_flattening.specs.Model.{keys_of_meaning, AreNamed, same_place, same_key, is_key_among, Adds, AddsAll, stands, comes, no_more, one_more}
+use Rattle.xs_flattening.specs.Model.{keys_of_meaning, AreNamed, same_key, is_key_among, Adds, AddsAll, stands, comes, no_more, one_more}
 use Rattle.xs_flattening.proofs.Resolving.{same_meaning}
-use Rattle.xs_scope.proofs.ClosedLaws.{left_true, right_true}
 use Rattle.xs_flat.proofs.BuildAccepted.{or_true}
-use Rattle.xs_flattening.proofs.Numbered.{same_place_refl, same_place_equal}
 use Rattle.xs_flattening.proofs.Listed.{key_equal}
 use Rattle.xs_scope.proofs.AddLaws.{same_key_refl}
-use Rattle.xs_tree.proofs.OneTree.{same_text_equal}
 
 -- keys among others
 pub or_left : (a b : Bool) → a ≡ true → (a || b) ≡ true

@@ -2,7 +2,6 @@
 use Rattle.std.proofs.Common.{◌≡◌, ℕ, zero, suc, ◌+◌, Bool, true, false, List, [], ◌∷◌, ◌++◌, Option, Some, None, refl, sym, ◌∙◌, ap, subst, arith, eqb-true}
 use Rattle.std.specs.Prelude.{slice_get, flat_map, length, nat_eq}
 use Rattle.xs_tree.specs.ProgramTree.{Text, Path, Formula, DeclaredTree, boolean, range, members, instance, DeclTree, ModuleTree, ProgramTree}
-use Rattle.xs_tree.specs.Texts.{same_text}
 use Rattle.xs_tree.specs.Values.{opposite}
 use Rattle.xs_tree.specs.Scope.{Place, Role, Kind, a_formal, a_variable, a_define, an_instance, undeclared, kind_declared, kind_in, kind_in_sections, formal_from, kind_after_formals, kind_at, module_of_kind, module_at, find_module, actual_of_kind, plain_name}
 use Rattle.xs_tree.specs.Trace.{Each, IsInstance}
@@ -13,7 +12,7 @@ use Rattle.xs_flattening.specs.Looks.{at_actual, plain_of, step_kind, step_of, l
 use Rattle.xs_flattening.specs.Rules.{a_use, visit_sites, IsKept, IsAccepted, is_missing_instance, is_miscounted, is_other_count, wrong_count, no_such_name, define_loop, next_here, ActualHasNoMeaning, expression_of_kind, expression_in, ActualLoops, SomeActualLoops, LoopsInside}
 use Rattle.xs_flattening.specs.Model.{root_of_actual, roots_of_actuals, roots_of_type, roots_of_item, roots_of}
 use Rattle.xs_flattening.proofs.Conditions.{each_flat, each_at, each_from, each_join}
-use Rattle.xs_flattening.proofs.KindLaws.{kind_in_items, sections_kind, DeclaredBy, declared_by, not_true}
+use Rattle.xs_flattening.proofs.KindLaws.{sections_kind, DeclaredBy, declared_by, not_true}
 use Rattle.xs_flattening.proofs.Places.{In, VisitFacts, there, Walked, walked, in_items, found_at, all_visit_facts}
 use Rattle.xs_flattening.proofs.EndLaws.{ended_stays}
 use Rattle.xs_flat.proofs.BuildAccepted.{some_at, nth_slice, next_among, IsGoodRoot, walkable, are, kept_at, ItemAt, item_at, fresh_declared, fresh_defined}

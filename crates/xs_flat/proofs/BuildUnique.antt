@@ -1,5 +1,5 @@
 -- A program's definitions have one order.
-use Rattle.std.proofs.Common.{◌≡◌, Bool, true, false, List, [], ◌∷◌, ◌++◌, Option, Some, None, refl, sym, ◌∙◌, ap, subst}
+use Rattle.std.proofs.Common.{◌≡◌, List, [], ◌∷◌, ◌++◌, Option, Some, None, refl, sym, ◌∙◌, ap, subst}
 use Rattle.xs_tree.specs.ProgramTree.{Path, Formula, ProgramTree}
 use Rattle.xs_tree.specs.Scope.{Place, Key}
 use Rattle.xs_flattening.specs.Resolved.{leaves_in}

@@ -7,7 +7,7 @@ use Rattle.xs_tree.specs.ProgramTree.{Text, ModuleTree, ProgramTree}
 use Rattle.xs_tree.specs.Texts.{same_text}
 use Rattle.xs_tree.specs.Scope.{find_module}
 use Rattle.xs_flattening.specs.Rules as rules
-use Rattle.xs_flattening.specs.Rules.{IsFirstBroken, IsAccepted, IsWalkable, IsKept, use_sites}
+use Rattle.xs_flattening.specs.Rules.{IsFirstBroken, IsAccepted, use_sites}
 use Rattle.xs_flattening.specs.Items.{visits}
 use Rattle.xs_flattening.proofs.Laws.{accepted_unbroken}
 use Rattle.xs_flattening.proofs.Walkable.{accepted_walkable, main_is_there}

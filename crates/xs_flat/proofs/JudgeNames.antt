@@ -1,5 +1,5 @@
 -- What is found for a name tells whether it has no value, and whether it gives an input.
-use Rattle.std.proofs.Common.{◌≡◌, ℕ, zero, suc, Bool, true, List, [], ◌∷◌, Some, map, refl, sym, ◌∙◌, ap, subst, inl, inr}
+use Rattle.std.proofs.Common.{◌≡◌, ℕ, Bool, true, List, [], ◌∷◌, Some, refl, sym, ◌∙◌, ap, subst, inl, inr}
 use Rattle.std.specs.Prelude.{◌↔◌, IsTrue, slice_get, flat_map, codes}
 use Rattle.xs_tree.specs.ProgramTree.{Text, Path, Formula, DeclaredTree, boolean, range, members, instance, ModuleTree, ProgramTree}
 use Rattle.xs_tree.specs.Scope.{Place, a_variable, kind_declared, kind_at, module_at, Key, Meaning, a_variable_at, an_expression_at, an_instance_at, a_symbol, Means, find_module}
@@ -9,9 +9,7 @@ use Rattle.xs_flattening.specs.Looks.{MeansNothing, MeetsLoop}
 use Rattle.xs_flattening.specs.Rules.{HasNoValue, nothing, only_an_instance, ReadsInput, GivesInput, is_input_kind, IsWalkable}
 use Rattle.xs_flattening.specs.Model.{Root, roots_of, EachBoth}
 use Rattle.xs_flattening.proofs.Conditions.{each_join, each_at}
-use Rattle.xs_flattening.proofs.LookLaws.{meets_loop_nothing}
 use Rattle.xs_flattening.proofs.Places.{Real, has_main}
-use Rattle.xs_flattening.proofs.Resolving.{same_meaning}
 use Rattle.xs_flattening.proofs.Variables.{both_at}
 use Rattle.xs_flattening.proofs.Walkable.{main_is_there}
 use Rattle.xs_scope.specs.ModelTree.{role_of}
@@ -22,7 +20,7 @@ use Rattle.xs_scope.specs.declared.model.Role.TheVariants.{State, Input, Frozen}
 use Rattle.xs_scope.specs.declared.needs.Needs.{Needs}
 use Rattle.xs_scope.specs.declared.walk.Meaning.{Meaning as Found}
 use Rattle.xs_scope.specs.declared.walk.Meaning.TheVariants as found
-use Rattle.xs_flat.proofs.JudgeLists.{none_some, some_same, never}
+use Rattle.xs_flat.proofs.JudgeLists.{none_some, never}
 use Rattle.xs_scope.proofs.KeyLaws.{same_means, get_map}
 use Rattle.xs_scope.proofs.LookFound.{no_loop_meant}
 

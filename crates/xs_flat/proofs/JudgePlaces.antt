@@ -1,5 +1,5 @@
 -- What the tables of a scene hold at an instance: its module, its items with their meanings, and the instances that it declares.
-use Rattle.std.proofs.Common.{◌≡◌, ℕ, suc, ◌+◌, Bool, true, false, List, [], ◌∷◌, ◌++◌, length, Some, map, refl, sym, ◌∙◌, ap, subst, eqb-true}
+use Rattle.std.proofs.Common.{◌≡◌, ℕ, suc, ◌+◌, Bool, true, false, List, [], ◌∷◌, ◌++◌, length, Some, refl, sym, ◌∙◌, ap, subst, eqb-true}
 use Rattle.std.specs.Prelude.{slice_get, codes, nat_eq, flat_map, if◌then◌else◌, Vec}
 use Rattle.std.specs.declared.alloc.Global.{Global}
 use Rattle.xs_tree.specs.Texts.{same_text}
@@ -8,12 +8,11 @@ use Rattle.xs_tree.specs.Scope.{Place, Role, Kind, an_instance, kind_declared, k
 use Rattle.xs_tree.specs.Trace.{Each, IsInstance}
 use Rattle.xs_tree.specs.Values.{opposite}
 use Rattle.xs_flattening.specs.Flat.{FlatInstance}
-use Rattle.xs_flattening.specs.Items.{a_declaration, NumberedItem, NumberedModule, items_of, items_named, modules_from, modules_of, numbered_items, Visit, visits_of, walk, visits, instances_of}
-use Rattle.xs_flattening.specs.Rules.{a_header, an_item, visit_sites, double_name, wrong_count, has_twice, is_other_count, is_miscounted, names_of_item, is_name_again, IsKept, IsWalkable}
+use Rattle.xs_flattening.specs.Items.{a_declaration, NumberedItem, NumberedModule, items_of, items_named, modules_from, Visit, visits_of, walk, visits, instances_of}
+use Rattle.xs_flattening.specs.Rules.{is_other_count, is_miscounted, names_of_item, is_name_again, IsWalkable}
 use Rattle.xs_flattening.specs.Model.{EachBoth}
-use Rattle.xs_flattening.proofs.Conditions.{each_at, each_flat}
-use Rattle.xs_flattening.proofs.Lists.{each_more}
-use Rattle.xs_flattening.proofs.KindLaws.{ItemFacts, kind_of_declaration, not_true}
+use Rattle.xs_flattening.proofs.Conditions.{each_at}
+use Rattle.xs_flattening.proofs.KindLaws.{ItemFacts, kind_of_declaration}
 use Rattle.xs_flattening.proofs.Places.{In, facts_named, Walked, in_items, found_at, walked, are_instances}
 use Rattle.xs_flattening.proofs.Variables.{both_at}
 use Rattle.xs_flattening.proofs.Walkable.{main_is_there}

@@ -10,7 +10,7 @@ use Rattle.xs_flattening.specs.Flat.{FlatLeaf, FlatInstance, FlatVariable, FlatF
 use Rattle.xs_flattening.specs.Resolved.{has_next, Definition, IsSound}
 use Rattle.xs_flattening.specs.Items.{Visit, instances_of, variables_of}
 use Rattle.xs_flattening.specs.Rules as rules
-use Rattle.xs_flattening.specs.Rules.{number_of, no_main, main_has_parameters, double_module, double_name, no_such_module, wrong_count, module_loop, no_such_name, not_a_target, double_assign, define_loop, next_here, input_here, too_many, SomeHasNoValue, GivesInput, IsAccepted, expression_of}
+use Rattle.xs_flattening.specs.Rules.{number_of, no_main, main_has_parameters, double_module, double_name, no_such_module, wrong_count, module_loop, no_such_name, not_a_target, double_assign, define_loop, next_here, input_here, too_many, SomeHasNoValue, IsAccepted, expression_of}
 use Rattle.xs_flattening.specs.Model.{EachBoth, symbols_of, IsVariableOf, IsDefinitionOf, IsFlatOf}
 use Rattle.xs_scope.specs.declared.bounds.Bounds.{Bounds}
 use Rattle.xs_scope.specs.declared.fault.Rule.{Rule}

@@ -1,11 +1,11 @@
 -- An order that is laid by numbers is the order of keys that a program asks for.
-use Rattle.std.proofs.Common.{◌≡◌, ℕ, suc, ◌+◌, arith, Bool, true, false, ◌&&◌, ◌||◌, List, [], ◌∷◌, ◌++◌, length, map, Some, refl, ap, ◌∙◌, sym, subst, ◌⊎◌, inl, inr, eqb-true, eq-eqb}
+use Rattle.std.proofs.Common.{◌≡◌, ℕ, suc, ◌+◌, arith, Bool, true, false, ◌||◌, List, [], ◌∷◌, ◌++◌, length, map, Some, refl, ap, ◌∙◌, sym, subst, ◌⊎◌, inl, inr, eqb-true, eq-eqb}
 use Rattle.std.proofs.lemmas.List.{map-append}
 use Rattle.std.specs.Prelude.{slice_get, nat_eq}
 use Rattle.xs_tree.proofs.ValueLaws.{same_text_refl}
 use Rattle.xs_tree.specs.Texts.{same_text}
 use Rattle.xs_tree.specs.ProgramTree.{ProgramTree}
-use Rattle.xs_tree.specs.Scope.{Place, Key, define_key, actual_key}
+use Rattle.xs_tree.specs.Scope.{Key, define_key, actual_key}
 use Rattle.xs_flattening.specs.Rules.{IsWalkable, expression_of}
 use Rattle.xs_flattening.specs.Model as model
 use Rattle.xs_flattening.specs.Model.{EachBoth, Adds, AddsAll, same_place, same_key, is_key_among}

@@ -1,23 +1,19 @@
 -- A formal is one of a number at the instance of a number, and each is so once.
 use Rattle.std.proofs.Common.{◌≡◌, ℕ, zero, suc, ◌+◌, Bool, true, false, ◌||◌, List, [], ◌∷◌, ◌++◌, length, Some, refl, sym, ◌∙◌, ap}
-use Rattle.std.specs.Prelude.{slice_get, map, flat_map, codes}
+use Rattle.std.specs.Prelude.{slice_get, flat_map}
 use Rattle.xs_tree.specs.ProgramTree.{Text, DeclaredTree, boolean, range, members, instance, ModuleTree, ProgramTree}
 use Rattle.xs_tree.specs.Texts.{same_text, is_among}
 use Rattle.xs_tree.specs.Scope.{Place, find_module}
 use Rattle.xs_tree.specs.Trace.{Each}
 use Rattle.xs_tree.proofs.ValueLaws.{same_text_refl}
 use Rattle.xs_flattening.specs.Flat.{FlatInstance}
-use Rattle.xs_flattening.specs.Items.{NumberedModule, items_of, modules_from, modules_of, numbered_items, Visit, visits, instance_declared, instances_of_visit, instances_of}
-use Rattle.xs_flattening.specs.Rules.{has_twice, double_name, a_header, an_item, IsKept, IsWalkable}
-use Rattle.xs_flattening.proofs.Apart.{Differ, Apart, walk_apart}
-use Rattle.xs_flattening.proofs.Conditions.{each_join, each_flat, each_at}
-use Rattle.xs_flattening.proofs.Lists.{each_more}
+use Rattle.xs_flattening.specs.Items.{NumberedModule, items_of, modules_from, Visit, instance_declared, instances_of_visit, instances_of}
+use Rattle.xs_flattening.specs.Rules.{has_twice, IsWalkable}
+use Rattle.xs_flattening.proofs.Apart.{Differ, Apart}
+use Rattle.xs_flattening.proofs.Conditions.{each_join, each_at}
 use Rattle.xs_flattening.proofs.Now.{neither}
-use Rattle.xs_flattening.proofs.Places.{all_visit_facts}
-use Rattle.xs_flattening.proofs.Walkable.{main_is_there}
 use Rattle.xs_scope.specs.Known.{IsHead}
 use Rattle.xs_scope.proofs.LookSplit.{never, of_some}
-use Rattle.xs_flattening.proofs.KindLaws.{not_true}
 use Rattle.xs_flattening.proofs.KeysApart.{one_number}
 use Rattle.xs_flattening.proofs.Meant.{formals_once}
 

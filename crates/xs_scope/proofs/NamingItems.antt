@@ -10,7 +10,7 @@ use Rattle.xs_tree.specs.declared.program.Decl.{Decl}
 use Rattle.xs_tree.specs.declared.program.Define.{Define}
 use Rattle.xs_tree.specs.ProgramTree.{Text, Path, Formula, instance, DeclTree, DefineTree, ProgramTree}
 use Rattle.xs_tree.specs.Written.{tree_of}
-use Rattle.xs_tree.specs.Scope.{Role, kind_declared, a_define, define_key, an_instance_at, plain_name, kind_at, module_at, actual_of_kind, nth_formula}
+use Rattle.xs_tree.specs.Scope.{Role, kind_declared, a_define, define_key, an_instance_at, plain_name, kind_at, module_at, actual_of_kind}
 use Rattle.xs_flattening.specs.Flat.{FlatInstance}
 use Rattle.xs_flattening.specs.Items.{Item as ItemOf, a_declaration, a_definition, an_assignment, some_constants, an_init, an_invar, a_trans, NumberedItem, items_named, instances_of}
 use Rattle.xs_flattening.specs.Rules.{IsWalkable, expression_of, expression_of_kind}

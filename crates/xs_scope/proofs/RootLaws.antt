@@ -1,5 +1,5 @@
 -- No definition is listed twice.
-use Rattle.std.proofs.Common.{◌≡◌, ℕ, zero, suc, ◌+◌, ◌≤◌, arith, Bool, true, false, ◌||◌, List, [], ◌∷◌, ◌++◌, length, Option, Some, None, refl, ap, ◌∙◌, sym, subst}
+use Rattle.std.proofs.Common.{◌≡◌, ℕ, zero, suc, ◌+◌, ◌≤◌, arith, Bool, true, false, List, [], ◌∷◌, ◌++◌, length, Option, Some, None, refl, ap, ◌∙◌, sym, subst}
 use Rattle.std.specs.Prelude.{slice_get, flat_map, codes}
 use Rattle.xs_tree.proofs.ValueLaws.{same_text_refl}
 use Rattle.xs_tree.specs.Texts.{same_text, is_among}
@@ -10,7 +10,7 @@ use Rattle.xs_flattening.specs.Flat.{FlatInstance}
 use Rattle.xs_flattening.specs.Items.{Item, a_declaration, a_definition, an_assignment, some_constants, an_init, an_invar, a_trans, NumberedItem, numbered_from, modules_from, items_found, items_named, items_of, Visit, visits, instance_declared, instances_of_visit, instances_of}
 use Rattle.xs_flattening.specs.Rules.{names_of_item, is_name_again, IsWalkable}
 use Rattle.xs_flattening.specs.Model.{Root, root_of_actual, roots_of_actuals, roots_of_type, roots_of_item, roots_of}
-use Rattle.xs_flattening.proofs.Apart.{Differ, Apart, visits_apart, or_true, among_right}
+use Rattle.xs_flattening.proofs.Apart.{Differ, Apart, visits_apart, among_right}
 use Rattle.xs_flattening.proofs.Conditions.{each_join, each_at}
 use Rattle.xs_flattening.proofs.KindLaws.{ItemFacts}
 use Rattle.xs_flattening.proofs.Lists.{each_more}

@@ -12,7 +12,7 @@ use Rattle.xs_scope.specs.FoundAt.{formal_or}
 use Rattle.xs_scope.specs.Known.{row_or, rows_with, formal_of, IsHead, IsOpen, IsOpenAt, ShutAt, Shut, ShutBeyond, IsTold, IsSized, AreTold}
 use Rattle.xs_scope.specs.declared.names.Formal.{Formal}
 use Rattle.xs_scope.specs.declared.names.Formal.TheVariants as known
-use Rattle.xs_scope.proofs.LookSplit.{never, of_some}
+use Rattle.xs_scope.proofs.LookSplit.{of_some}
 use Rattle.xs_scope.proofs.Heads.{head_place, head_numbers}
 use Rattle.xs_scope.proofs.FoundModule.{get_less}
 

@@ -1,5 +1,5 @@
 -- A model is typed, or what is told is its fault.
-use Rattle.std.proofs.Common.{◌≡◌, ℕ, min, Bool, true, false, ◌||◌, Option, Some, None, refl, sym, ap, ◌∙◌, subst, nat_lt, arith}
+use Rattle.std.proofs.Common.{◌≡◌, ℕ, min, ◌||◌, Option, Some, None, refl, sym, ap, ◌∙◌, subst, nat_lt, arith}
 use Rattle.std.proofs.lemmas.Bool.{ltb-false}
 use Rattle.xs_flattening.specs.Flat.{FlatModel}
 use Rattle.xs_kinds.specs.Judged.{KindRule}

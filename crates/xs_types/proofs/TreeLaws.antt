@@ -1,11 +1,9 @@
 -- The tree of a case and of a set, and what is left of a list of expressions, one element on.
-use Rattle.std.proofs.Common.{◌≡◌, ℕ, ◌+◌, ◌<◌, List, length, get_or, drop, ap, sym, ◌∙◌}
+use Rattle.std.proofs.Common.{◌≡◌, ℕ, ◌+◌, ◌<◌, List, length, get_or, drop, ap}
 use Rattle.std.proofs.lemmas.List.{drop_more}
-use Rattle.xs_tree.specs.declared.expr.Expr.{Expr, fold-roll-Expr}
-use Rattle.xs_tree.specs.declared.expr.Expr.TheVariants.{Case, SetOf, rolls-Case, rolls-SetOf}
+use Rattle.xs_tree.specs.declared.expr.Expr.{Expr}
 use Rattle.xs_tree.specs.declared.expr.Expr.TheOpen as open_
-use Rattle.xs_tree.specs.Tree.{Tree, case_of, set_of}
-use Rattle.xs_tree.specs.Written.{tree_of, trees_of, branches_of, node_tree}
+use Rattle.xs_tree.specs.Written.{tree_of, trees_of, branches_of}
 use Rattle.xs_kinds.specs.Costs.{cost_of, trees_cost, branches_cost}
 
 pub trees_cost_more : {L : Type 0} (ts : List (Expr L)) (i : ℕ) (d : Expr L) → i < length ts →
