@@ -69,16 +69,15 @@ module _ (p : ProgramTree) (i : InstructionTree) where
   slice_modes w [] [] are of = tt
   slice_modes w [] (f ∷ modes) are of = absurd are
   slice_modes w (a ∷ faults) [] are of = absurd are
-  slice_modes w (a ∷ faults) (f ∷ modes) are of =
-      (
-        record {
-          place = a.place;
-          slice = of.0.slice;
-          is_slice = of.0.is_slice;
-          number = subst (λ x. IsVariableNumber w a.place (mode_variable x) f.variable) of.0.name are.0.variable;
-        },
-        slice_modes w faults modes are.1 of.1,
-      )
+  slice_modes w (a ∷ faults) (f ∷ modes) are of = (
+    record {
+      place = a.place;
+      slice = of.0.slice;
+      is_slice = of.0.is_slice;
+      number = subst (λ x. IsVariableNumber w a.place (mode_variable x) f.variable) of.0.name are.0.variable;
+    },
+    slice_modes w faults modes are.1 of.1,
+  )
 
 module _ (p : ProgramTree) (m : FlatModel) (i : InstructionTree) (faults : List Fault) (lawful : IsLawful p m) (taken : AreTaken p i) (has : HasFaults p i faults) where
   extendable : IsExtendable p i
