@@ -3,3 +3,4 @@ pub mod Splits
 pub mod OneForm
 pub mod ExpressionLaws
 pub mod SliceLaws
+pub mod Lamp
