@@ -10,6 +10,7 @@ ghost use Rattle.xs_weave_rules.specs.Rules.{broken_at};
 ghost use Rattle.xs_weave_rules.specs.Counting.{count_broken_at};
 ghost use Rattle.xs_weave_rules.specs.FirstBroken.{AllKept, IsFirstBroken};
 ghost use Rattle.xs_weave_rules.specs.declared.fault.Rule.TheVariants as broken;
+ghost use Rattle.xs_extend.specs.InstanceLaws.{HasInstancesInVar};
 ghost use Rattle.xs_extend.specs.WovenFaults.{fault_tree, faults_at, AreInstancesOf};
 ghost use Rattle.xs_weave.specs.Conservative.{IsExtensionOf};
 ghost use Rattle.xs_weave.specs.Faults.{HasFaults};
@@ -43,6 +44,7 @@ pub fn weave(alloc: Global, p: &Program, i: &Instructions) -> Result<Woven, Weav
     ensures program { IfOk result (λ w. program_tree w.program ≡ woven (program_tree p.now) (instruction_tree i.now)) }
     ensures weavable { OnOk result (IsWeavable (program_tree p.now) (instruction_tree i.now)) }
     ensures extension { IfOk result (λ w. IsExtensionOf (program_tree p.now) (instruction_tree i.now) (program_tree w.program)) }
+    ensures faults { HasInstancesInVar (program_tree p.now) → IfOk result (λ w. HasFaults (program_tree p.now) (instruction_tree i.now) (map fault_tree w.faults)) }
     ensures kept { OnOk result (AllKept (broken_at (program_tree p.now)) (item_sites (instruction_tree i.now))) }
     ensures uses { (m : FlatModel) → IsFlatOf (program_tree p.now) m → OnOk result (AllUsesKept (program_tree p.now) m (instruction_tree i.now)) }
     ensures told { IfErr result (IsToldSomewhere (program_tree p.now) (instruction_tree i.now)) }

@@ -1,11 +1,14 @@
-use Rattle.std.proofs.Common.{subst, sym}
+use Rattle.std.proofs.Common.{map, subst, sym}
 use Rattle.std.specs.Prelude.{IfErr, OnOk}
-use Rattle.std.proofs.lemmas.Result.{err_from_is_err_and}
+use Rattle.std.proofs.lemmas.Result.{err_from_is_err_and, IfOk-weaker}
 use Rattle.xs_tree.specs.ProgramTree.{program_tree}
 use Rattle.xs_fei.specs.Instructions.{instruction_tree}
 use Rattle.xs_scope.specs.ModelTree.{model_tree}
 use Rattle.xs_extending.specs.Expressions.{AllUsesKept}
 use Rattle.xs_extend.specs.Refused.{modules_at, IsTold}
+use Rattle.xs_weave.specs.Faults.{HasFaults}
+use Rattle.xs_extend.specs.WovenFaults.{fault_tree, AreInstancesOf}
+use Rattle.xs_extend.proofs.InstanceLaws.{instances_listed}
 use Rattle.xs_extend.proofs.GuardLaws.{made_extends}
 use Rattle.xs_extend.proofs.Telling.{want_is_told, modules_same, told_somewhere}
 use Rattle.xs_extend.proofs.weaving.weave.Goals as goal
@@ -36,3 +39,11 @@ returns-clause-exact c = λ m accepted flat typed.
     subst (λ k. IfErr c.weave_typed.result (IsTold (program_tree c.args.p.now) k (instruction_tree c.args.i.now) (modules_at k))) (sym (c.in_ok-typed.ensures.alone m flat))
     (subst (λ names. IfErr c.weave_typed.result (IsTold (program_tree c.args.p.now) (model_tree c.in_ok-typed.typed.model) (instruction_tree c.args.i.now) names)) (modules_same c.in_ok-typed.typed.model.instances)
     c.weave_typed.ensures.told)
+
+pub returns-clause-faults : goal.returns-clause-faults
+returns-clause-faults c = λ in_var.
+    let p = program_tree c.args.p.now in
+    let instances = c.in_ok-typed.typed.model.instances in
+    let are : AreInstancesOf p instances = instances_listed p instances c.in_ok-typed.ensures.accepted in_var c.in_ok-typed.ensures.flat.instances in
+    IfOk-weaker c.weave_typed.result (λ w. AreInstancesOf p instances → HasFaults p (instruction_tree c.args.i.now) (map fault_tree w.faults))
+    (λ w. HasFaults p (instruction_tree c.args.i.now) (map fault_tree w.faults)) (λ w has. has are) c.weave_typed.ensures.faults
