@@ -18,6 +18,7 @@ pub mod LookLaws
 pub mod EndLaws
 pub mod FaultLaws
 pub mod Lamp
+pub mod Mirror
 pub mod Variables
 pub mod Apart
 pub mod Numbered
