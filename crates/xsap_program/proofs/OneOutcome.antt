@@ -21,7 +21,7 @@ use Rattle.xsap_program.specs.Wholes.{PassesLimit, IsWithinLimits}
 use Rattle.xsap_program.specs.Reports.{report_text}
 use Rattle.xsap_program.specs.Inputs.{modules_named, AreTaken, IsWrongFaults, not_spelled, not_woven, past_limit, RefusesFaults, faults_file, faults_bytes, IsExtensionText, HoldsFaults}
 use Rattle.xsap_program.specs.declared.status.Status.{Status}
-use Rattle.xsap_program.specs.Runs.{Outcome, refuses, extends, ComesTo, refuses_model, refuses_faults, is_extended, Means, other_words, asked, IsAnswer, outcome_status, HasAnswered}
+use Rattle.xsap_program.specs.Runs.{Outcome, refuses, extends, ComesTo, refuses_model, refuses_faults, is_extended, Means, other_words, asked, IsAnswer, outcome_status, IsDelivered, HasAnswered}
 use Rattle.xsap_program.proofs.ExtensionLemmas.{one_model_file, one_faults_file, one_extended_file}
 use Rattle.xsap_program.proofs.FileFacts.{no_bytes, one_file_fault, same_bytes}
 use Rattle.xsap_program.proofs.OneFaults.{one_list}
@@ -131,10 +131,13 @@ one_outcome files words o q (asked m f x o' asks comes) (asked m' f' x' q' asks'
     comes_to_one files m f x o' q' comes
     (subst (λ t. ComesTo files t f x q') (one_model_file asks' asks) (subst (λ t. ComesTo files m' t x q') (one_faults_file asks' asks) (subst (λ t. ComesTo files m' f' t q') (one_extended_file asks' asks) comes')))
 
--- so that an answer is the status of whatever the words and files come to
+-- so that a run that has answered stands by whatever its words and files come to
 pub answers_exactly : (told after : Option (List NamedFile)) (said now : Option (List ℕ)) (words : List Text) (s : Status) →
     (IsAnswer s → IfSome told (λ files. HasAnswered files words s told after said now)) → IsAnswer s →
-    IfSome told (λ files. (o : Outcome) → Means files words o → s ≡ outcome_status o)
+    IfSome told (λ files. (o : Outcome) → Means files words o → (s ≡ outcome_status o) × IsDelivered o told after said now)
 answers_exactly None after said now words s answered answer = tt
 answers_exactly (Some files) after said now words s answered answer =
-    let given = answered answer in λ o means. given.ended ∙ ap outcome_status (one_outcome files words given.outcome o given.means means)
+    let given = answered answer in
+    λ o means.
+    let same : given.outcome ≡ o = one_outcome files words given.outcome o given.means means in
+    (given.ended ∙ ap outcome_status same, subst (λ q. IsDelivered q (Some files) after said now) same given.delivered)

@@ -5,7 +5,7 @@ ghost use Rattle.xs_tree.specs.ProgramTree.{Text};
 ghost use Rattle.xsap_program.specs.declared.status.Refusal.{Refusal};
 ghost use Rattle.xsap_program.specs.declared.input.Stop.TheVariants as stops;
 ghost use Rattle.xsap_program.specs.Statuses.{status_of, refusal_text};
-ghost use Rattle.xsap_program.specs.Runs.{Outcome, refuses, extends, ComesTo, Means, IsAnswer, outcome_status, HasAnswered, HasStopped};
+ghost use Rattle.xsap_program.specs.Runs.{Outcome, refuses, extends, ComesTo, Means, IsAnswer, outcome_status, IsDelivered, HasAnswered, HasStopped};
 ghost use Rattle.xsap_program.specs.Commands.{AsksToExtend};
 ghost use Rattle.xsap_program.specs.Extension.{IsExtended};
 ghost use Rattle.xsap_program.specs.Delivered.{ended_as, Stopped};
@@ -28,8 +28,10 @@ pub fn run<D: Desk>(alloc: Global, words: &[&str], desk: &mut D) -> Status
     // Unless the desk failed or memory ran out, the whole of what words and files come to stands.
     ensures answered { IsAnswer result → IfSome (D.files desk.old) (λ files.
         HasAnswered files (map (λ w. w.now) words.now) result (D.files desk.old) (D.files desk.new) (D.said desk.old) (D.said desk.new)) }
-    // What the words and files come to is one, and it is the answer: the first rule that is broken, at its place, or Done.
-    ensures exact { IsAnswer result → IfSome (D.files desk.old) (λ files. (o : Outcome) → Means files (map (λ w. w.now) words.now) o → result ≡ outcome_status o) }
+    // What the words and files come to is one, and it is the answer and what stands: the first rule that is broken, at its
+    // place, or the extension and its report.
+    ensures exact { IsAnswer result → IfSome (D.files desk.old) (λ files. (o : Outcome) → Means files (map (λ w. w.now) words.now) o →
+        (result ≡ outcome_status o) × IsDelivered o (D.files desk.old) (D.files desk.new) (D.said desk.old) (D.said desk.new)) }
     // A run that is done has written the woven program, as the one program that the model spells and the instructions make it:
     // its traces are the extended traces, and its faultless ones the model's. It has said the list of its faults.
     ensures extended { (model faults extended : Text) → result ≡ Status.Done → AsksToExtend (map (λ w. w.now) words.now) model faults extended →

@@ -42,6 +42,10 @@ const TWO_SLICES: &[u8] =
 const ONE_SLICE_TWICE: &[u8] =
     b"EXTENSION OF MODULE main SLICE Lamp AFFECTS on WITH MODE dark : Permanent StuckAt(FALSE); SLICE Lamp AFFECTS on WITH MODE dark : Permanent StuckAt(FALSE);";
 
+/// Instructions that add two variables.
+const TWO_MORE: &[u8] =
+    b"EXTENSION OF MODULE main SLICE S AFFECTS x1 WITH MODE m : Permanent Random;";
+
 /// The module of the sensors with its faults, as it stands in the extension.
 const SENSOR: &[u8] =
     b"MODULE Sensor(line)\nVAR\n  seen : boolean;\nASSIGN\n  seen#nominal := line;\nVAR\n  seen#nominal : boolean;\n  Eye#mode : {Eye#nominal, Eye#wild, Eye#hold};\nASSIGN\n  init(Eye#mode) := Eye#nominal;\n  next(Eye#mode) := case (Eye#mode = Eye#wild) : {Eye#wild, Eye#nominal}; (Eye#mode = Eye#hold) : Eye#hold; TRUE : (({Eye#nominal} union (TRUE ? {Eye#wild} : {Eye#nominal})) union (TRUE ? {Eye#hold} : {Eye#nominal})); esac;\n  seen := case (Eye#mode = Eye#wild) : {FALSE, TRUE}; (Eye#mode = Eye#hold) : {FALSE, TRUE}; TRUE : seen#nominal; esac;\nTRANS\n  ((next(Eye#mode) = Eye#hold) -> (next(seen) = seen));\n";
@@ -114,15 +118,20 @@ fn no_model<'a>(model: &'a [u8], said: &'a [u8]) -> Row<'a> {
     }
 }
 
-/// The row of instructions that are refused for the lamp.
-fn no_faults<'a>(faults: &'a [u8], said: &'a [u8]) -> Row<'a> {
+/// The row of instructions that are refused for a model.
+fn refused_for<'a>(model: &'a [u8], faults: &'a [u8], said: &'a [u8]) -> Row<'a> {
     Row {
-        model: Some(LAMP),
+        model: Some(model),
         faults: Some(faults),
         number: 4,
         said,
         written: None,
     }
+}
+
+/// The row of instructions that are refused for the lamp.
+fn no_faults<'a>(faults: &'a [u8], said: &'a [u8]) -> Row<'a> {
+    refused_for(LAMP, faults, said)
 }
 
 /// The row of a model that is written as it is, without faults.
@@ -145,6 +154,16 @@ fn all_hold(alloc: Global, rows: &[Row]) -> Result<bool, OutOfMemory> {
         }
     }
     Ok(true)
+}
+
+/// A model with so many variables.
+fn with_variables(alloc: Global, count: u32) -> Result<Vec<u8>, OutOfMemory> {
+    let mut text = Vec::from_slice(alloc, b"MODULE main VAR")?;
+    for i in 0..count {
+        let declared = format!(in alloc; " x{i} : boolean;")?;
+        text.extend_from_slice(declared.as_bytes())?;
+    }
+    Ok(text)
 }
 
 /// Whether a part stands in a file, if there is one.
@@ -187,6 +206,7 @@ fn each_refusal_says_its_line(rt: HostRuntime) -> Result<(), OutOfMemory> {
     let alloc = rt.alloc();
     let mut long = Vec::from_slice(alloc, LAMP)?;
     long.resize(1_048_577, b' ')?;
+    let wide = with_variables(alloc, 1_999)?;
     let desk = desk_of(alloc, Some(LAMP), Some(DARK), None)?;
     assert!(rt; holds(alloc, desk, &[], 2, b"refused words 0 at 1\n", None));
     let rows = [
@@ -263,6 +283,7 @@ fn each_refusal_says_its_line(rt: HostRuntime) -> Result<(), OutOfMemory> {
             b"EXTENSION OF MODULE main SLICE L AFFECTS on WITH MODE nominal : Permanent Random;",
             b"refused faults weave 8 at 3\n",
         ),
+        refused_for(wide.as_slice(), TWO_MORE, b"refused faults flat 14 at 0\n"),
     ];
     assert!(rt; all_hold(alloc, &rows)?);
     Ok(())
