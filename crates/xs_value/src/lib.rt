@@ -29,5 +29,14 @@ pub use value::{Valuation, Value};
 /// A list of bytes.
 pub type ByteList = Items<u8>;
 
-#[cfg(test)]
-mod tests;
+/// A set of faults by their numbers, from 1.
+pub type FaultSet = Items<u32>;
+
+/// Sets of faults. They rise in every answer of a search; a certificate may hold others.
+pub type SetList = Items<FaultSet>;
+
+/// The moments of a trace, from the first: a value for each variable at each moment.
+pub type MomentList = Items<Valuation>;
+
+/// Traces, one for each of as many sets.
+pub type TraceList = Items<MomentList>;
