@@ -44,6 +44,3 @@ mod whole;
 pub use calls::{Kind, check_top, check_value, kind_of};
 pub use fault::{Rule, TypeFault};
 pub use typed::{Typed, check_model};
-
-#[cfg(test)]
-mod tests;

@@ -1,8 +1,10 @@
+//! Where the reading of expressions, lists and programs stops, and that depth costs no stack.
 ghost use Rattle.std.specs.Prelude.{◌<◌, ◌^◌, length};
 
-use crate::{ParseFault, expression, expressions, program};
+use crate::texts::push_times;
 use std::alloc::Global;
 use std::test::Fail;
+use xs_parse::{ParseFault, expression, expressions, program};
 use xs_value::OutOfMemory;
 
 /// What a text is read as.
@@ -172,10 +174,10 @@ fn refusal(alloc: Global, kind: Kind, text: &[u8]) -> Option<ParseFault>
 
 #[test]
 fn stops_where_no_text_goes_on(rt: HostRuntime) -> Result<(), Fail> {
-    for (kind, text, expected) in &CASES {
+    for (i, (kind, text, expected)) in CASES.iter().enumerate() {
         assert!(rt; text.len() < 100);
         let found = refusal(rt.alloc(), *kind, text);
-        assert!(rt; found == *expected);
+        assert!(rt; found == *expected, "case {i}");
     }
     Ok(())
 }
@@ -296,41 +298,24 @@ static REPEATED: [Repeated; 13] = [
     ),
 ];
 
-fn push_all(text: &mut Vec<u8>, more: &[u8]) -> Result<(), OutOfMemory> {
-    for byte in more {
-        text.push(*byte)?;
-    }
-    Ok(())
-}
-
-fn push_times(text: &mut Vec<u8>, more: &[u8], times: usize) -> Result<(), OutOfMemory> {
-    for _ in 0..times {
-        push_all(text, more)?;
-    }
-    Ok(())
-}
-
 fn repeated(alloc: Global, row: &Repeated) -> Result<Vec<u8>, OutOfMemory> {
     let (_, front, open, times, close, back, _) = row;
     let mut text = Vec::new(alloc);
-    push_all(&mut text, front)?;
+    text.extend_from_slice(front)?;
     push_times(&mut text, open, *times)?;
-    push_all(&mut text, b"a")?;
+    text.extend_from_slice(b"a")?;
     push_times(&mut text, close, *times)?;
-    push_all(&mut text, back)?;
+    text.extend_from_slice(back)?;
     Ok(text)
 }
 
 #[test]
 fn is_too_deep_only_where_it_is_spelled(rt: HostRuntime) -> Result<(), Fail> {
-    for row in &REPEATED {
-        let made = repeated(rt.alloc(), row);
-        assert!(rt; made.is_ok());
-        if let Ok(text) = made {
-            assert!(rt; text.len() < 3000000);
-            let found = refusal(rt.alloc(), row.0, &text);
-            assert!(rt; found == row.6);
-        }
+    for (i, row) in REPEATED.iter().enumerate() {
+        let text = repeated(rt.alloc(), row)?;
+        assert!(rt; text.len() < 3000000);
+        let found = refusal(rt.alloc(), row.0, &text);
+        assert!(rt; found == row.6, "case {i}");
     }
     Ok(())
 }

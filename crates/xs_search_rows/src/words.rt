@@ -1,13 +1,13 @@
-//! The calls on constants, whose clauses settle every variable by unit propagation.
-use crate::compare::{equal, less};
-use crate::constants::number_at;
-use crate::counts::at_most;
-use crate::products::multiply;
-use crate::quotients::{divide, remainder};
-use crate::sums::{add, negate, subtract};
-use crate::word::Word;
+//! Arithmetic on constants, whose clauses settle every variable by unit propagation.
 use std::alloc::Global;
 use std::test::Fail;
+use xs_arith::compare::{equal, less};
+use xs_arith::constants::number_at;
+use xs_arith::counts::at_most;
+use xs_arith::products::multiply;
+use xs_arith::quotients::{divide, remainder};
+use xs_arith::sums::{add, negate, subtract};
+use xs_arith::word::Word;
 use xs_gates::gates::Gates;
 use xs_lits::clause::{Clause, ClauseList};
 use xs_lits::lit::Lit;
@@ -121,14 +121,10 @@ fn divides_all_words_of_four_bits(rt: HostRuntime) -> Result<(), Fail> {
     for a in -8i64..8 {
         for b in -8i64..8 {
             if b != 0 {
-                assert_eq!(rt;
-                    Some(result_of(alloc, Operation::Divide, a, b)?),
-                    a.checked_div(b)
-                );
-                assert_eq!(rt;
-                    Some(result_of(alloc, Operation::Remainder, a, b)?),
-                    a.checked_rem(b)
-                );
+                let quotient = result_of(alloc, Operation::Divide, a, b)?;
+                assert_eq!(rt; Some(quotient), a.checked_div(b), "{a} over {b}");
+                let rest = result_of(alloc, Operation::Remainder, a, b)?;
+                assert_eq!(rt; Some(rest), a.checked_rem(b), "{a} mod {b}");
             }
         }
     }
@@ -139,16 +135,23 @@ fn divides_all_words_of_four_bits(rt: HostRuntime) -> Result<(), Fail> {
 #[test]
 fn adds_multiplies_compares_and_counts(rt: HostRuntime) -> Result<(), Fail> {
     let alloc = rt.alloc();
-    assert_eq!(rt; result_of(alloc, Operation::Add, 7, -8)?, -1);
-    assert_eq!(rt; result_of(alloc, Operation::Subtract, -8, 7)?, -15);
-    assert_eq!(rt; result_of(alloc, Operation::Multiply, -8, 7)?, -56);
-    assert_eq!(rt; result_of(alloc, Operation::Negate, -8, 0)?, 8);
+    let rows = [
+        (Operation::Add, 7, -8, -1),
+        (Operation::Subtract, -8, 7, -15),
+        (Operation::Multiply, -8, 7, -56),
+        (Operation::Negate, -8, 0, 8),
+    ];
+    for (i, (operation, a, b, want)) in rows.iter().enumerate() {
+        assert_eq!(rt; result_of(alloc, *operation, *a, *b)?, *want, "row {i}");
+    }
     assert_eq!(rt; order_of(alloc, -8, 7)?, (Some(true), Some(false)));
     assert_eq!(rt; order_of(alloc, 3, 3)?, (Some(false), Some(true)));
     for i in 0..8u32 {
         let bits = [i & 1 != 0, i & 2 != 0, i & 4 != 0];
-        assert_eq!(rt; at_most_of(alloc, bits, 0)?, Some(i == 0));
-        assert_eq!(rt; at_most_of(alloc, bits, 1)?, Some(i.count_ones() <= 1));
+        for most in 0..2u32 {
+            let found = at_most_of(alloc, bits, most)?;
+            assert_eq!(rt; found, Some(i.count_ones() <= most), "{most} of {i}");
+        }
     }
     Ok(())
 }
