@@ -15,9 +15,9 @@ use Rattle.xs_flattening.specs.Model.{IsFlatOf}
 use Rattle.xs_flattening.proofs.KindLaws.{not_true}
 use Rattle.xs_flattening.proofs.Lists.{leaves_map}
 use Rattle.xs_kinds.specs.Costs.{cost_of}
-use Rattle.xs_kinds.specs.Judged.{truth_class, KindRule, not_boolean, unless_class}
+use Rattle.xs_kinds.specs.Judged.{truth_class, Judged, KindRule, not_boolean, unless_class}
 use Rattle.xs_kinds.specs.Laws.{IsKnown, ReadsOwn, IsClosed}
-use Rattle.xs_kinds.specs.Models.{kind_of_leaf, judged_in, broken_condition, least_after, least, size_fault}
+use Rattle.xs_kinds.specs.Models.{kind_of_leaf, judged_in, broken_condition, least_after, least, size_fault, top_fault}
 use Rattle.xs_kinds.proofs.ClosedLaws.{models_closed}
 use Rattle.xs_kinds.proofs.ModelLaws.{all_leaves_more}
 use Rattle.xs_kinds.proofs.Parts.{none_second}
@@ -29,10 +29,10 @@ use Rattle.xs_encoding.proofs.FlatInputs.{none_any, given_each, leaf_input}
 use Rattle.xs_encoding.proofs.HistoryEncodable.{known_wider, same_name, same_reading}
 use Rattle.xs_encoding.proofs.NameMeans.{each_leaf, same_any}
 use Rattle.xs_woven_names.proofs.Orders.{not_some}
-use Rattle.xs_woven_tops.specs.Tops.{KeepsValue, IsJudgedAlike}
-use Rattle.xs_woven_tops.specs.Laws.{TopsFitWhole}
+use Rattle.xs_woven_tops.specs.Tops.{KeepsValue, IsJudgedAlike, IsTopOf}
+use Rattle.xs_woven_tops.specs.Laws.{TopsFitModels}
 use Rattle.xs_woven_tops.proofs.Names.{values_kept}
-use Rattle.xs_woven_tops.proofs.Judging.{woven_own, whole_alike}
+use Rattle.xs_woven_tops.proofs.Judging.{woven_alike, woven_own, whole_alike}
 
 -- `next` stands where it stood in a tree with its leaves changed
 mutual
@@ -107,23 +107,27 @@ module _ (m : FlatModel) (fs : List Mode) (closed : IsClosed m) where
       (each_leaf (λ l. is_input_name (with_history m fs) l ≡ is_input_name m l) e
       (all_leaves_more (IsKnown (length m.variables) (length m.symbols) (length m.definitions)) (λ l. is_input_name (with_history m fs) l ≡ is_input_name m l) same_input e own))
 
-pub tops_fit : TopsFitWhole
-tops_fit p m i w have accepted at top tree woven_tree read kept told fs =
+-- what is judged over the model as over the program is a top event of it, where it reads no input
+top_made : (m n : FlatModel) (tree other : Tree FlatLeaf) → IsJudgedAlike m tree n other → top_fault m tree ≡ None → ReadsOwn n other → reads_input n other ≡ false → has_next other ≡ false → IsTopOf n other
+top_made m n tree other alike told own quiet now =
+    let j : Judged = judged_in n false other in
+    let none : (broken_condition j ≡ []) × (cost_of other ≤ 50000) = none_told (broken_condition j) (cost_of other) (alike.fault ∙ told) in
+    record {
+      fits = record { own = own; no_input = quiet; right = none.0 };
+      one_value = no_set (kind_of_leaf n) other (none_second (unless_class truth_class not_boolean j.kind) j.broken none.0);
+      no_next = now;
+      small = none.1;
+    }
+
+pub tops_fit : TopsFitModels
+tops_fit p m i w have accepted at top tree woven_tree read kept told =
     let q = woven p i in
-    let whole = with_history w fs in
     let s : (s : Resolver) × IsSound q w have.woven_flat.written s × IsResolved (s at) top woven_tree = read.after have.woven_flat in
     let closed : IsClosed w = models_closed q w have.woven_flat in
     let own : ReadsOwn w woven_tree = woven_own p m i w have at top tree woven_tree read in
-    let alike : IsJudgedAlike m tree whole woven_tree = whole_alike p m i w have at top tree woven_tree read fs in
-    let none : (broken_condition (judged_in whole false woven_tree) ≡ []) × (cost_of woven_tree ≤ 50000) =
-    none_told (broken_condition (judged_in whole false woven_tree)) (cost_of woven_tree) (alike.fault ∙ told) in
-    record {
-      fits = record {
-        own = own_whole w fs closed woven_tree own;
-        no_input = reads_whole w fs closed woven_tree own ∙ quiet_tree q accepted w have.woven_flat s.0 s.1 at top woven_tree s.2 (values_kept p i have.weavable at false top kept);
-        right = none.0;
-      };
-      one_value = no_set (kind_of_leaf whole) woven_tree (none_second (unless_class truth_class not_boolean (judged_in whole false woven_tree).kind) (judged_in whole false woven_tree).broken none.0);
-      no_next = sym (next_mapped Some woven_tree) ∙ ap has_next s.2 ∙ next_mapped (s.0 at) top ∙ not_true (has_next top) (kept next_here);
-      small = none.1;
-    }
+    let quiet : reads_input w woven_tree ≡ false = quiet_tree q accepted w have.woven_flat s.0 s.1 at top woven_tree s.2 (values_kept p i have.weavable at false top kept) in
+    let now : has_next woven_tree ≡ false = sym (next_mapped Some woven_tree) ∙ ap has_next s.2 ∙ next_mapped (s.0 at) top ∙ not_true (has_next top) (kept next_here) in (
+      top_made m w tree woven_tree (woven_alike p m i w have at top tree woven_tree read) told own quiet now,
+      (λ fs. top_made m (with_history w fs) tree woven_tree (whole_alike p m i w have at top tree woven_tree read fs) told (own_whole w fs closed woven_tree own)
+          (reads_whole w fs closed woven_tree own ∙ quiet) now),
+    )

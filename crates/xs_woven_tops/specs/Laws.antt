@@ -67,8 +67,8 @@ TopsAreOfExtensions =
     HasFaults p i faults → EachBoth (IsModeOfFault w) faults modes → (top : Formula) (tree woven_tree : Tree FlatLeaf) → IsReadAs p m i w [] top tree woven_tree →
     IsExtensionModel p i faults top w modes woven_tree
 
--- and where it breaks no rule over the program, it is one whose clauses can be written over the model with history
-abbrev pub TopsFitWhole : Type 0
-TopsFitWhole =
+-- and where it breaks no rule over the program, its clauses can be written over the woven model and with its history
+abbrev pub TopsFitModels : Type 0
+TopsFitModels =
     (p : ProgramTree) (m : FlatModel) (i : InstructionTree) (w : FlatModel) → HaveFlatModels p m i w → IsAccepted (woven p i) → (at : Place) (top : Formula) (tree woven_tree : Tree FlatLeaf) →
-    IsReadAs p m i w at top tree woven_tree → KeepsValue p at false top → top_fault m tree ≡ None → (fs : List Mode) → IsTopOf (with_history w fs) woven_tree
+    IsReadAs p m i w at top tree woven_tree → KeepsValue p at false top → top_fault m tree ≡ None → IsTopOf w woven_tree × ((fs : List Mode) → IsTopOf (with_history w fs) woven_tree)

@@ -14,7 +14,7 @@
 //! ```
 #![tactic(auto)]
 
-ghost use Rattle.xs_woven_tops.specs.Laws.{WovenKeepsValues, WovenResolves, WovenJudgesAlike, HistoryJudgesAlike, WovenRefusesNone, ResolvedIsReadable, WovenMeansTheSame, TopsAreOfExtensions, TopsFitWhole};
+ghost use Rattle.xs_woven_tops.specs.Laws.{WovenKeepsValues, WovenResolves, WovenJudgesAlike, HistoryJudgesAlike, WovenRefusesNone, ResolvedIsReadable, WovenMeansTheSame, TopsAreOfExtensions, TopsFitModels};
 
 /// An expression that breaks no rule of names over a program breaks none over what is woven of it, and one that is
 /// resolved in the program's flat model is resolved in the woven one's. There it has the kind that it had, breaks the
@@ -36,9 +36,9 @@ pub fn tops_mean_the_same()
     ensures extension { TopsAreOfExtensions }
 {}
 
-/// A top event that keeps every rule over the program is one of the extension's model with history: it is TRUE or
-/// FALSE, no set, names what the model has, reads no input and nothing of the next moment, and costs at most
-/// 50,000.
+/// A top event that keeps every rule over the program is one of the extension's model, with history and without: it
+/// is TRUE or FALSE, no set, names what the model has, reads no input and nothing of the next moment, and costs at
+/// most 50,000.
 pub fn tops_fit()
-    ensures { TopsFitWhole }
+    ensures { TopsFitModels }
 {}
