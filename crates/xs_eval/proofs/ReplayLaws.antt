@@ -73,7 +73,7 @@ no_truth b e h = cc (e, h)
 module _ (m : FlatModel) (able : IsEvaluable (model_tree m)) (typed : IsTyped (model_tree m)) (top : Tree Flat) (event : Tree FlatLeaf)
   (decides : (now : Entries) → IsFilled (model_tree m) now → (IsTrue (is_reached top now) ↔ FlatMay (model_tree m) (named_all m.symbols now.variables) (named_all m.symbols now.variables) event (truth true))) where
 
-  name_all : List Value → List told.Value
+  abbrev name_all : List Value → List told.Value
   name_all v = named_all m.symbols v
 
   from_here : (vs : List (List Value)) (before : List (List told.Value)) (v : List Value) → IsLawful (model_tree m) v → Each (IsLawful (model_tree m)) vs →

@@ -311,7 +311,7 @@ module _ (symbols : List Text) (apart : AreApart symbols) where
   nothing ItsValue r = λ y e. cc e
   nothing (Whether v) r = λ vs e p. cc e
 
-  truth_is : (r : Value) (b : Bool) → Is symbols r (told.truth b) → is_true r ≡ b
+  pub truth_is : (r : Value) (b : Bool) → Is symbols r (told.truth b) → is_true r ≡ b
   truth_is (truth c) b i = let same : told.truth c ≡ told.truth b = i.name in cc
   truth_is (Num n) b i = let same : told.number n ≡ told.truth b = i.name in cc
   truth_is (Sym j) b i = let same : told.symbol (text_at (slice_get symbols j)) ≡ told.truth b = i.name in cc

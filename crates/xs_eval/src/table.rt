@@ -3,13 +3,13 @@
 ghost use Rattle.std.specs.Prelude.{◌≡◌, [], length, IfOk};
 ghost use Rattle.xs_tree.specs.Written.{tree_of};
 ghost use Rattle.xs_scope.specs.ModelTree.{model_tree};
-ghost use Rattle.xs_eval.specs.Filled.{definition_value, definition_values, filled, HasRoom};
+ghost use Rattle.xs_eval.specs.Filled.{definition_value, definition_values, filled, HasRoom, HasValues};
 ghost use Rattle.xs_eval.specs.Named.{IsEvaluable, IsLawful, IsFilled};
 
 use crate::ask::{Asked, Known, ask};
 use std::alloc::Global;
 use std::marker::Model;
-use xs_flat::Formula;
+use xs_flat::{FlatModel, Formula};
 use xs_types::Typed;
 use xs_value::{OutOfMemory, Valuation, Value};
 
@@ -52,14 +52,19 @@ impl Table {
         }
     }
 
-    /// Gives the table these values of variables, and those that the definitions then have.
-    pub(crate) fn write(&mut self, v: &Valuation, definitions: &[Formula])
-        requires variables { length self.old.variables ≡ length v.now }
-        requires definitions { length self.old.definitions ≡ length definitions.now }
-        ensures { self.new ≡ record { variables = v.now; definitions = definition_values v.now [] definitions.now } }
+    /// Gives the table these values of variables, and those that the model's definitions then have.
+    pub(crate) fn write(&mut self, m: &FlatModel, v: &Valuation)
+        requires values { HasValues m.now v.now }
+        requires room { HasRoom m.now self.old }
+        ensures entries { self.new ≡ filled m.now v.now }
+        ensures room { HasRoom m.now self.new }
     {
         write_variables(v, &mut self.variables);
-        write_definitions(definitions, &self.variables, &mut self.definitions);
+        write_definitions(
+            m.definitions.as_slice(),
+            &self.variables,
+            &mut self.definitions,
+        );
     }
 }
 
@@ -73,7 +78,7 @@ pub fn fill(t: &Typed, v: &Valuation, into: &mut Table)
     ensures filled { IsFilled (model_tree t.now.model) into.new }
     ensures room { HasRoom t.now.model into.new }
 {
-    into.write(v, t.model().definitions.as_slice());
+    into.write(t.model(), v);
 }
 
 /// Writes the values of all variables.

@@ -70,7 +70,7 @@ fn replay_in(
     ensures room_now { HasRoom model.now now.new }
     ensures room_next { HasRoom model.now next.new }
 {
-    now.write(&moments[0], model.definitions.as_slice());
+    now.write(model, &moments[0]);
     if !first_holds(model, now) {
         return Replayed::BadFirst;
     }
@@ -112,7 +112,7 @@ fn goes_on(model: &FlatModel, v: &Valuation, now: &mut Table, next: &mut Table) 
     ensures room_now { HasRoom model.now now.new }
     ensures room_next { HasRoom model.now next.new }
 {
-    next.write(v, model.definitions.as_slice());
+    next.write(model, v);
     let holds = step_holds(model, now, next);
     swap(now, next);
     holds

@@ -23,10 +23,10 @@ replay_in-requires-clause-lengths c =
     (subst (All (HasValues c.args.t.now.model)) (sym c.as_slice.ensures) (all_lawful c.args.t.now.model c.args.trace.now c.requires.lawful))
 
 pub replay_in-requires-clause-room_now : goal.replay_in-requires-clause-room_now
-replay_in-requires-clause-room_now c = subst (λ m. HasRoom m c.args.now.old) (sym c.model.ensures.model) c.requires.room_now
+replay_in-requires-clause-room_now c = subst (λ m. HasRoom m c.args.now.now) (sym c.model.ensures.model) c.requires.room_now
 
 pub replay_in-requires-clause-room_next : goal.replay_in-requires-clause-room_next
-replay_in-requires-clause-room_next c = subst (λ m. HasRoom m c.args.next.old) (sym c.model.ensures.model) c.requires.room_next
+replay_in-requires-clause-room_next c = subst (λ m. HasRoom m c.args.next.now) (sym c.model.ensures.model) c.requires.room_next
 
 pub returns-clause-answer : goal.returns-clause-answer
 returns-clause-answer c =
