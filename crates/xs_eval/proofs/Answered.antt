@@ -1,5 +1,5 @@
 -- What the code answers for an expression is what the expression gives.
-use Rattle.std.proofs.Common.{◌≡◌, List, Option, Some, refl, subst}
+use Rattle.std.proofs.Common.{◌≡◌, List, Some, refl, subst}
 use Rattle.xs_tree.specs.ProgramTree.{Text}
 use Rattle.xs_tree.specs.Tree.{Tree, Trees, Branches, truth as is_truth, number as is_number, leaf, not_of, negate, next_of, binary, choice, case_of, set_of, span, no_tree, tree_then, no_branch, branch_then}
 use Rattle.xs_tree.specs.Laws.{AllLeaves, AllLeavesOfTrees, AllLeavesOfBranches}

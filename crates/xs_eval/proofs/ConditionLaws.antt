@@ -1,20 +1,17 @@
 -- Conditions that are found TRUE are those that hold.
-use Rattle.std.proofs.Common.{◌≡◌, ◌↔◌, Bool, true, false, ◌&&◌, List, [], ◌∷◌, map, Option, Some, IsTrue, refl, sym, ap, ◌∙◌}
-use Rattle.std.specs.List.{list_all}
+use Rattle.std.proofs.Common.{◌≡◌, ◌↔◌, Bool, true, false, ◌&&◌, List, [], ◌∷◌, map, IsTrue, refl, sym, ap, ◌∙◌}
 use Rattle.xs_tree.specs.Trace.{Each}
 use Rattle.xs_tree.specs.Values as told
 use Rattle.xs_tree.specs.Values.{Values, one, has, same_value, same_bool}
 use Rattle.xs_tree.specs.Written.{tree_of}
 use Rattle.xs_tree.proofs.ValueLaws.{both_true}
-use Rattle.xs_value.specs.declared.value.Value.{Value}
-use Rattle.xs_flattening.specs.Flat.{FlatFormula, FlatModel as ModelTree, FlatMay, Holds}
+use Rattle.xs_flattening.specs.Flat.{FlatModel as ModelTree, Holds}
 use Rattle.xs_scope.specs.declared.model.Formula.{Formula}
 use Rattle.xs_scope.specs.declared.model.FlatModel.{FlatModel}
 use Rattle.xs_scope.specs.ModelTree.{formula_tree, model_tree}
 use Rattle.xs_kinds.specs.Laws.{ReadsOwn, ReadOwn, IsDecided}
 use Rattle.xs_kinds.specs.Models.{IsTyped}
 use Rattle.xs_kinds.proofs.Typed.{conditions_decided}
-use Rattle.xs_encoded.specs.Encoded.{IsFlatFirst}
 use Rattle.xs_eval.specs.declared.ask.Asked.TheVariants.{ItsValue}
 use Rattle.xs_eval.specs.Entries.{Entries}
 use Rattle.xs_eval.specs.Filled.{answer_in, holds, all_hold, first_holds, step_holds}
@@ -72,8 +69,8 @@ first_law m able t now p =
     let first = all_law tree able now now p p m.init able.closed.at_first d.0 in
     let each = all_law tree able now now p p m.invar able.closed.at_each d.1 in (
       (λ h.
-        let both = both_true (all_hold now now m.init) (all_hold now now m.invar) h in
-        record { moment = record { domains = p.lawful.domains; holds = each.0 both.1 }; first = first.0 both.0 }),
+          let both = both_true (all_hold now now m.init) (all_hold now now m.invar) h in
+          record { moment = record { domains = p.lawful.domains; holds = each.0 both.1 }; first = first.0 both.0 }),
       (λ h. both_are (all_hold now now m.init) (all_hold now now m.invar) (first.1 h.first) (each.1 h.moment.holds)),
     )
 
@@ -89,7 +86,7 @@ step_law m able t now next p q =
     let step = all_law tree able now next p q m.trans able.closed.at_step d.2 in
     let each = all_law tree able next next q q m.invar able.closed.at_each c.1 in (
       (λ h.
-        let both = both_true (all_hold now next m.trans) (all_hold next next m.invar) h in
-        record { moment = record { domains = q.lawful.domains; holds = each.0 both.1 }; step = step.0 both.0 }),
+          let both = both_true (all_hold now next m.trans) (all_hold next next m.invar) h in
+          record { moment = record { domains = q.lawful.domains; holds = each.0 both.1 }; step = step.0 both.0 }),
       (λ h. both_are (all_hold now next m.trans) (all_hold next next m.invar) (step.1 h.step) (each.1 h.moment.holds)),
     )

@@ -1,6 +1,6 @@
 -- A mode stands where its variable has the number of its symbol.
-use Rattle.std.proofs.Common.{◌≡◌, ℕ, ◌<◌, Bool, ◌||◌, List, [], ◌∷◌, length, Option, Some, refl, sym, ap, ◌∙◌}
-use Rattle.std.specs.Prelude.{slice_get, nat_eq}
+use Rattle.std.proofs.Common.{◌≡◌, ◌<◌, List, [], ◌∷◌, length, Some, refl, ap, ◌∙◌}
+use Rattle.std.specs.Prelude.{slice_get}
 use Rattle.std.specs.List.{list_any}
 use Rattle.xs_tree.specs.ProgramTree.{Text}
 use Rattle.xs_tree.specs.Texts.{same_text}
@@ -11,8 +11,8 @@ use Rattle.xs_flattening.specs.Flat.{FlatModel}
 use Rattle.xs_flattening.specs.FlatTrace.{is_symbol_value, stands, stands_in_some}
 use Rattle.xs_flattening.specs.History.{Mode}
 use Rattle.xs_flattening.proofs.Lists.{get_within}
-use Rattle.xs_eval.specs.Failed.{is_symbol, is_symbol_there, has_symbol}
-use Rattle.xs_eval.specs.Named.{text_at, named, named_all, named_trace, IsNumbered, IsPlaceOf, IsEvaluable, IsLawful}
+use Rattle.xs_eval.specs.Failed.{is_symbol, has_symbol}
+use Rattle.xs_eval.specs.Named.{text_at, named, named_all, named_trace, IsNumbered, IsEvaluable, IsLawful}
 use Rattle.xs_eval.proofs.FilledLaws.{get_mapped, each_at, lawful_length}
 use Rattle.xs_eval.proofs.Rows.{same_symbol}
 

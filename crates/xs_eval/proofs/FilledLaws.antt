@@ -10,8 +10,7 @@ use Rattle.xs_tree.specs.Values.{Values, one}
 use Rattle.xs_tree.specs.Evaluate.{evaluate}
 use Rattle.xs_tree.specs.Written.{tree_of}
 use Rattle.xs_value.specs.declared.value.Value.{Value}
-use Rattle.xs_value.specs.declared.value.Value.TheVariants.{Sym}
-use Rattle.xs_flattening.specs.Flat.{FlatLeaf, flat_variable, flat_symbol, flat_definition, FlatVariable, FlatFormula, FlatModel as ModelTree, flat_leaves, definition_gives, table_after}
+use Rattle.xs_flattening.specs.Flat.{FlatLeaf, flat_variable, flat_symbol, flat_definition, FlatVariable, FlatModel as ModelTree, flat_leaves, table_after}
 use Rattle.xs_flattening.specs.FlatTrace.{AreInDomains}
 use Rattle.xs_flattening.specs.Model.{EachBoth}
 use Rattle.xs_flattening.proofs.Lists.{get_within, length_end, map_joined}
@@ -19,21 +18,20 @@ use Rattle.xs_scope.specs.declared.model.Formula.{Formula}
 use Rattle.xs_scope.specs.declared.model.FlatModel.{FlatModel}
 use Rattle.xs_scope.specs.ModelTree.{leaf_of, flat_tree, formula_tree, variable_tree, model_tree}
 use Rattle.xs_kinds.specs.Judged.{Judged, judge}
-use Rattle.xs_kinds.specs.Models.{leaf_kind, judged_variables, judged_after, judged_definitions, IsTyped}
-use Rattle.xs_kinds.specs.Laws.{IsKnown, AreInOrder, IsClosed}
+use Rattle.xs_kinds.specs.Models.{leaf_kind, judged_variables, judged_after, IsTyped}
+use Rattle.xs_kinds.specs.Laws.{IsKnown, AreInOrder}
 use Rattle.xs_kinds.proofs.Parts.{Alone}
-use Rattle.xs_kinds.proofs.TreeLaws.{AtLeaf, sound, single}
+use Rattle.xs_kinds.proofs.TreeLaws.{sound, single}
 use Rattle.xs_kinds.proofs.SafeLaws.{safe}
 use Rattle.xs_kinds.proofs.ModelLaws.{each_end, each_before, ValueHolds, GivenHolds, IsRight, names_hold}
 use Rattle.xs_kinds.proofs.Typed.{variables_hold, parts_of, as_many_variables}
 use Rattle.xs_eval.specs.declared.ask.Asked.TheVariants.{ItsValue}
 use Rattle.xs_eval.specs.Asked.{leaf_value, asked_of}
-use Rattle.xs_eval.specs.Entries.{Entries}
 use Rattle.xs_eval.specs.Failed.{HasVariable}
 use Rattle.xs_eval.specs.Filled.{definition_value, definition_values, filled, HasRoom, HasValues}
 use Rattle.xs_eval.specs.Named.{named, named_all, gives_one, IsNumbered, AreApart, IsEvaluable, IsLawful, IsFilled}
 use Rattle.xs_eval.proofs.Rows.{Is}
-use Rattle.xs_eval.proofs.Answered.{HasValue, Knows, answered}
+use Rattle.xs_eval.proofs.Answered.{Knows, answered}
 use Rattle.xs_eval.proofs.Mapped.{asked_mapped}
 
 pub get_mapped : {A B : Type 0} (f : A → B) (xs : List A) (i : ℕ) (x : A) → slice_get xs i ≡ Some x → slice_get (map f xs) i ≡ Some (f x)
@@ -119,14 +117,14 @@ module _ (symbols : List Text) (apart : AreApart symbols) where
       let known = knows (length vs) (length js) v done as_many so_many nv nj in
       let x : Value = definition_value v done d in
       let told_x : Is symbols (asked_of (leaf_value v done) (leaf_value v done) ItsValue e) given.gives.value =
-              answered FlatLeaf symbols apart good leaves leaves (leaf_value v done) (leaf_value v done) known known ItsValue e o.0 small given.gives.value given.gives.is in
+      answered FlatLeaf symbols apart good leaves leaves (leaf_value v done) (leaf_value v done) known known ItsValue e o.0 small given.gives.value given.gives.is in
       let is : Is symbols x given.gives.value = subst (λ y. Is symbols y given.gives.value) (asked_mapped leaf_of (leaf_value v done) (leaf_value v done) ItsValue (tree_of d.value)) told_x in
       let gives_x : evaluate leaves leaves e ≡ gives_one symbols x = given.gives.is ∙ ap (λ y. Some (one y)) (sym is.name) in
       let longer : map (gives_one symbols) (done ++ x ∷ []) ≡ table ++ evaluate leaves leaves e ∷ [] = map_joined (gives_one symbols) done (x ∷ []) ∙ ap (λ g. table ++ g ∷ []) (sym gives_x) in
       let held : EachBoth GivenHolds (js ++ j ∷ []) (map (gives_one symbols) (done ++ x ∷ [])) =
-              subst (λ t. EachBoth GivenHolds (js ++ j ∷ []) t) (sym longer) (both_end GivenHolds js table j (evaluate leaves leaves e) hj (record { bounded = given.bounded; gives = given.gives })) in
+      subst (λ t. EachBoth GivenHolds (js ++ j ∷ []) t) (sym longer) (both_end GivenHolds js table j (evaluate leaves leaves e) hj (record { bounded = given.bounded; gives = given.gives })) in
       let rest = filled_in v vs hv nv ds (js ++ j ∷ []) (done ++ x ∷ []) held (each_join (IsNumbered symbols) done x nj is.numbered) r
-              (subst (λ n. AreInOrder (length vs) (length symbols) n (map formula_tree ds)) (sym (length_end js j)) o.1) in
+      (subst (λ n. AreInOrder (length vs) (length symbols) n (map formula_tree ds)) (sym (length_end js j)) o.1) in
       record { gives = rest.gives ∙ ap (λ t. table_after symbols variables t (map formula_tree ds)) longer; numbered = rest.numbered }
 
 pub filled_law : (m : FlatModel) (v : List Value) → IsEvaluable (model_tree m) → IsTyped (model_tree m) → IsLawful (model_tree m) v → IsFilled (model_tree m) (filled m v)

@@ -9,3 +9,4 @@ pub mod FailedLaws
 pub mod StopLaws
 pub mod AskedLaws
 pub mod LoopLaws
+pub mod Examples

@@ -1,5 +1,5 @@
 -- The answer that is found moment by moment says whether the moments are a trace that reaches the event, or where they stop.
-use Rattle.std.proofs.Common.{◌≡◌, ◌↔◌, ℕ, zero, suc, ◌+◌, ◌-◌, ◌<◌, arith, Bool, true, false, cond, List, [], ◌∷◌, ◌++◌, length, map, IsTrue, refl, sym, ap, ◌∙◌, subst}
+use Rattle.std.proofs.Common.{◌≡◌, ◌↔◌, suc, ◌<◌, arith, Bool, true, false, cond, List, [], ◌∷◌, ◌++◌, length, IsTrue, refl, ap, subst}
 use Rattle.xs_tree.specs.Tree.{Tree}
 use Rattle.xs_tree.specs.Trace.{Each, EachPair, AtFirst, AtLast}
 use Rattle.xs_tree.specs.Values as told
@@ -7,7 +7,7 @@ use Rattle.xs_tree.specs.Values.{has, truth}
 use Rattle.xs_tree.specs.Written.{tree_of}
 use Rattle.xs_tree.specs.declared.expr.Expr.{Expr}
 use Rattle.xs_value.specs.declared.value.Value.{Value}
-use Rattle.xs_flattening.specs.Flat.{FlatLeaf, FlatFormula, FlatModel as ModelTree, FlatMay}
+use Rattle.xs_flattening.specs.Flat.{FlatLeaf, FlatModel as ModelTree, FlatMay}
 use Rattle.xs_flattening.specs.FlatTrace.{IsFlatMoment, IsFlatStep, IsFlatTrace}
 use Rattle.xs_flattening.proofs.Lists.{length_end}
 use Rattle.xs_scope.specs.declared.model.Flat.{Flat}
@@ -18,15 +18,12 @@ use Rattle.xs_kinds.specs.Judged.{KindRule}
 use Rattle.xs_kinds.specs.Models.{judged_in, broken_condition, breaches_at, IsTyped}
 use Rattle.xs_kinds.specs.Laws.{ReadsOwn}
 use Rattle.xs_kinds.proofs.Typed.{decided}
-use Rattle.xs_encoded.specs.Encoded.{IsFlatFirst}
-use Rattle.xs_encoded.specs.FlatTraces.{ReachesTop}
-use Rattle.xs_eval.specs.declared.trace.Replayed.{Replayed}
 use Rattle.xs_eval.specs.declared.trace.Replayed.TheVariants.{Reaches, NoTop, BadFirst, BadStep}
 use Rattle.xs_eval.specs.Entries.{Entries}
 use Rattle.xs_eval.specs.Filled.{filled, first_holds, step_holds}
 use Rattle.xs_eval.specs.Named.{named_all, named_trace, IsEvaluable, IsLawful, IsFilled}
-use Rattle.xs_eval.specs.Stops.{Stops, bad_first, bad_step, no_top, IsFirstMoment, IsNextMoment}
-use Rattle.xs_eval.specs.Replayed.{is_reached, replayed_from, replayed, IsReaching, IsReplayed}
+use Rattle.xs_eval.specs.Stops.{bad_first, bad_step, no_top, IsFirstMoment, IsNextMoment}
+use Rattle.xs_eval.specs.Replayed.{is_reached, replayed_from, replayed, IsReplayed}
 use Rattle.xs_eval.proofs.FilledLaws.{filled_law}
 use Rattle.xs_eval.proofs.ConditionLaws.{condition_law, first_law, step_law}
 
@@ -71,8 +68,7 @@ no_truth : (b : Bool) → b ≡ false → IsTrue b → ⊥
 no_truth b e h = cc (e, h)
 
 module _ (m : FlatModel) (able : IsEvaluable (model_tree m)) (typed : IsTyped (model_tree m)) (top : Tree Flat) (event : Tree FlatLeaf)
-  (decides : (now : Entries) → IsFilled (model_tree m) now → (IsTrue (is_reached top now) ↔ FlatMay (model_tree m) (named_all m.symbols now.variables) (named_all m.symbols now.variables) event (truth true))) where
-
+    (decides : (now : Entries) → IsFilled (model_tree m) now → (IsTrue (is_reached top now) ↔ FlatMay (model_tree m) (named_all m.symbols now.variables) (named_all m.symbols now.variables) event (truth true))) where
   abbrev name_all : List Value → List told.Value
   name_all v = named_all m.symbols v
 

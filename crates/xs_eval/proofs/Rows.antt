@@ -1,5 +1,5 @@
 -- What the code answers at each row of evaluation is what the row gives.
-use Rattle.std.proofs.Common.{◌≡◌, ℕ, List, Bool, true, false, cond, ◌&&◌, ◌||◌, Option, Some, None, ℤ, pos, negsuc, ◌-ℤ◌, int_div, int_rem, IsTrue, refl, sym, ap, ◌∙◌, subst, eqb-true, eq-eqb}
+use Rattle.std.proofs.Common.{◌≡◌, ℕ, List, Bool, true, false, cond, Option, Some, None, ℤ, pos, negsuc, refl, sym, ap, ◌∙◌, subst, eqb-true, eq-eqb}
 use Rattle.std.specs.Prelude.{nat_eq, slice_get}
 use Rattle.xs_tree.specs.declared.expr.Op.{Op}
 use Rattle.xs_tree.specs.declared.expr.Op.TheVariants as op
@@ -15,7 +15,7 @@ use Rattle.xs_kinds.specs.Intervals.{fits_number}
 use Rattle.xs_kinds.specs.Safe.{GivesSmall, DividesByNoZero}
 use Rattle.xs_eval.specs.declared.ask.Asked.{Asked}
 use Rattle.xs_eval.specs.declared.ask.Asked.TheVariants.{ItsValue, Whether}
-use Rattle.xs_eval.specs.Operated.{same, is_true, opposite, negative, either, between, calculated, fitting, compared, on_numbers, on_truths, on_symbols, applied}
+use Rattle.xs_eval.specs.Operated.{same, is_true, opposite, negative, either, between, on_numbers, on_truths, on_symbols, applied}
 use Rattle.xs_eval.specs.Asked.{answer, on_left, on_right, operation, in_span}
 use Rattle.xs_eval.specs.Named.{text_at, named, IsPlaceOf, IsNumbered, AreApart}
 
@@ -255,7 +255,7 @@ module _ (symbols : List Text) (apart : AreApart symbols) where
       let gives_right : h ≡ Some (one (named symbols s)) = a.is_right ∙ ap (λ x. Some (one x)) (sym right.name) in
       let applies : apply o (named symbols r) (named symbols s) ≡ Some a.value = (λ i. apply o (left.name i) (right.name i)) ∙ a.applies in
       let v : Is symbols (applied o r s) a.value =
-          values_only o r s a.value left.numbered right.numbered (small_value g r sg gives_left) (small_value h s sh gives_right) (subst (DividesByNoZero o) gives_right d) applies in
+      values_only o r s a.value left.numbered right.numbered (small_value g r sg gives_left) (small_value h s sh gives_right) (subst (DividesByNoZero o) gives_right d) applies in
       record { numbered = v.numbered; alone = a.is ∙ ap one (sym v.name) }
 
   -- the values of both sides

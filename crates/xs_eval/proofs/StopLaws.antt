@@ -1,13 +1,11 @@
 -- Moments stop at most once.
-use Rattle.std.proofs.Common.{◌≡◌, ℕ, suc, List, [], ◌∷◌, ◌++◌, length, refl, sym, ap, ◌∙◌, subst}
-use Rattle.xs_tree.specs.Tree.{Tree}
+use Rattle.std.proofs.Common.{◌≡◌, suc, List, [], ◌∷◌, ◌++◌, length, refl, sym, ap, ◌∙◌, subst}
 use Rattle.xs_tree.specs.Trace.{Each, EachPair}
 use Rattle.xs_tree.specs.Values.{Value}
-use Rattle.xs_flattening.specs.Flat.{FlatLeaf, FlatModel}
+use Rattle.xs_flattening.specs.Flat.{FlatModel}
 use Rattle.xs_flattening.specs.FlatTrace.{IsFlatMoment, IsFlatStep, IsFlatTrace}
 use Rattle.xs_eval.specs.Laws.{OneStop, ReachingDoesNotStop}
-use Rattle.xs_eval.specs.Replayed.{IsReaching}
-use Rattle.xs_eval.specs.Stops.{Why, Stops, bad_first, bad_step, no_top, IsFirstMoment, IsNextMoment}
+use Rattle.xs_eval.specs.Stops.{bad_first, bad_step, no_top, IsFirstMoment, IsNextMoment}
 
 module _ (m : FlatModel) where
   first_in : (trace more : List (List Value)) (v : List Value) → trace ≡ v ∷ more → IsFlatTrace m trace → IsFirstMoment m v

@@ -1,29 +1,26 @@
 -- What is answered from filled tables is what an expression of a typed model gives.
-use Rattle.std.proofs.Common.{◌≡◌, ◌↔◌, ℕ, suc, ◌+◌, arith, Bool, true, false, List, [], ◌∷◌, ◌++◌, length, map, Option, Some, IsTrue, refl, sym, ap, ◌∙◌, subst}
+use Rattle.std.proofs.Common.{◌≡◌, ◌↔◌, ◌+◌, arith, Bool, true, false, List, [], ◌∷◌, ◌++◌, length, Option, Some, IsTrue, sym, ap, ◌∙◌, subst}
 use Rattle.xs_tree.specs.ProgramTree.{Text}
 use Rattle.xs_tree.specs.Tree.{Tree}
-use Rattle.xs_tree.specs.Trace.{Each}
 use Rattle.xs_tree.specs.Values as told
 use Rattle.xs_tree.specs.Values.{Values, one, has}
 use Rattle.xs_tree.specs.Evaluate.{evaluate}
 use Rattle.xs_tree.specs.Written.{tree_of}
 use Rattle.xs_tree.specs.declared.expr.Expr.{Expr}
 use Rattle.xs_value.specs.declared.value.Value.{Value}
-use Rattle.xs_value.specs.declared.value.Value.TheVariants.{Bool as truth}
-use Rattle.xs_flattening.specs.Flat.{FlatLeaf, FlatVariable, FlatFormula, FlatModel, flat_leaves, definition_gives, table_after, leaves_at, FlatGives, FlatMay}
-use Rattle.xs_flattening.specs.FlatTrace.{AreInDomains}
+use Rattle.xs_flattening.specs.Flat.{FlatLeaf, FlatFormula, FlatModel, flat_leaves, definition_gives, table_after, leaves_at, FlatGives, FlatMay}
 use Rattle.xs_flattening.proofs.Lists.{length_end}
 use Rattle.xs_scope.specs.declared.model.Flat.{Flat}
 use Rattle.xs_scope.specs.ModelTree.{leaf_of, flat_tree}
 use Rattle.xs_kinds.specs.Models.{kind_of_leaf, judged_in, IsTyped}
-use Rattle.xs_kinds.specs.Laws.{IsKnown, IsClosed, ReadsOwn, KeepsKind}
+use Rattle.xs_kinds.specs.Laws.{IsKnown, ReadsOwn, KeepsKind}
 use Rattle.xs_kinds.specs.Safe.{IsSafe}
 use Rattle.xs_kinds.proofs.TreeLaws.{no_set}
 use Rattle.xs_kinds.proofs.Typed.{values_lie}
 use Rattle.xs_eval.specs.declared.ask.Asked.{Asked}
 use Rattle.xs_eval.specs.declared.ask.Asked.TheVariants.{ItsValue, Whether}
 use Rattle.xs_eval.specs.Operated.{is_true}
-use Rattle.xs_eval.specs.Asked.{leaf_value, asked_of}
+use Rattle.xs_eval.specs.Asked.{leaf_value}
 use Rattle.xs_eval.specs.Entries.{Entries}
 use Rattle.xs_eval.specs.Filled.{answer_in}
 use Rattle.xs_eval.specs.Named.{named, named_all, gives_one, IsNumbered, IsEvaluable, IsFilled, Gives}
@@ -44,7 +41,7 @@ filled_knows : (m : FlatModel) (able : IsEvaluable m) (e : Entries) → IsFilled
 filled_knows m able e f =
     let as_many : length e.variables ≡ length m.variables = lawful_is m e.variables f.lawful in
     let so_many : length e.definitions ≡ length m.definitions =
-            sym (map_length (gives_one m.symbols) e.definitions) ∙ (ap length f.definitions ∙ (table_length m.symbols (named_all m.symbols e.variables) [] m.definitions ∙ omega arith)) in
+    sym (map_length (gives_one m.symbols) e.definitions) ∙ (ap length f.definitions ∙ (table_length m.symbols (named_all m.symbols e.variables) [] m.definitions ∙ omega arith)) in
     subst (λ t. Knows FlatLeaf m.symbols able.apart (IsKnown (length m.variables) (length m.symbols) (length m.definitions)) (flat_leaves m.symbols (named_all m.symbols e.variables) t) (leaf_value e.variables e.definitions))
     f.definitions (knows m.symbols able.apart (length m.variables) (length m.definitions) e.variables e.definitions as_many so_many f.lawful.numbered f.numbered)
 

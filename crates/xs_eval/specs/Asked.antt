@@ -1,5 +1,5 @@
 -- What the code computes of an expression: its value, or whether it may have a given one.
-use Rattle.std.specs.Prelude.{ℕ, ℤ, List, true, false, Option, Some, None, slice_get, if◌then◌else◌}
+use Rattle.std.specs.Prelude.{ℤ, List, true, false, Option, Some, None, slice_get, if◌then◌else◌}
 use Rattle.xs_tree.specs.declared.expr.Op.{Op}
 use Rattle.xs_tree.specs.declared.expr.Op.TheVariants as op
 use Rattle.xs_tree.specs.Tree.{Tree, Trees, Branches, truth as is_truth, number as is_number, leaf, not_of, negate, next_of, binary, choice, case_of, set_of, span, no_tree, tree_then, no_branch, branch_then}

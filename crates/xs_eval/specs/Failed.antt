@@ -1,7 +1,7 @@
 -- Whether a variable has a symbol, by their numbers.
 use Rattle.std.specs.Prelude.{ℕ, ◌<◌, nat_eq, Bool, false, Option, Some, None, List, length, slice_get}
 use Rattle.xs_value.specs.declared.value.Value.{Value}
-use Rattle.xs_value.specs.declared.value.Value.TheVariants.{Bool as truth, Num, Sym}
+use Rattle.xs_value.specs.declared.value.Value.TheVariants.{Sym}
 
 -- the value is the symbol of this number
 abbrev pub is_symbol : ℕ → Value → Bool

@@ -8,7 +8,7 @@ use Rattle.xs_scope.specs.declared.model.Flat.{Flat}
 use Rattle.xs_scope.specs.declared.model.Formula.{Formula}
 use Rattle.xs_scope.specs.declared.model.FlatModel.{FlatModel}
 use Rattle.xs_eval.specs.declared.ask.Asked.{Asked}
-use Rattle.xs_eval.specs.declared.ask.Asked.TheVariants.{ItsValue, Whether}
+use Rattle.xs_eval.specs.declared.ask.Asked.TheVariants.{ItsValue}
 use Rattle.xs_eval.specs.Operated.{is_true}
 use Rattle.xs_eval.specs.Asked.{name_value, asked_of}
 use Rattle.xs_eval.specs.Entries.{Entries}

@@ -1,5 +1,5 @@
 -- What becomes of a list of moments, as it is found moment by moment, and what that means.
-use Rattle.std.specs.Prelude.{◌≡◌, ℕ, suc, ◌-◌, Bool, List, [], ◌∷◌, length, if◌then◌else◌}
+use Rattle.std.specs.Prelude.{ℕ, suc, ◌-◌, Bool, List, [], ◌∷◌, length, if◌then◌else◌}
 use Rattle.xs_tree.specs.Tree.{Tree}
 use Rattle.xs_tree.specs.Values as told
 use Rattle.xs_value.specs.declared.value.Value.{Value}

@@ -1,5 +1,5 @@
 -- Where and why moments are no trace of a flat model that reaches a top event.
-use Rattle.std.specs.Prelude.{◌≡◌, ℕ, suc, ◌-◌, ◌<◌, List, [], ◌∷◌, ◌++◌, length}
+use Rattle.std.specs.Prelude.{◌≡◌, ℕ, suc, ◌-◌, List, [], ◌∷◌, ◌++◌, length}
 use Rattle.xs_tree.specs.Tree.{Tree}
 use Rattle.xs_tree.specs.Values.{Value}
 use Rattle.xs_flattening.specs.Flat.{FlatLeaf, FlatModel}

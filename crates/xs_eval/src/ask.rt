@@ -100,12 +100,7 @@ fn in_span(asked: Asked, lo: i64, hi: i64) -> Value
 /// set no value is told. Takes no memory.
 #[cycle(ask)]
 #[tactic(auto, using(xs_tree::proofs::WrittenLaws::tree_of_case, xs_tree::proofs::WrittenLaws::tree_of_set))]
-pub(crate) fn ask<'a>(
-    now: &Known<'a>,
-    next: &Known<'a>,
-    asked: Asked,
-    e: &Expr<Flat>,
-) -> Value
+pub(crate) fn ask<'a>(now: &Known<'a>, next: &Known<'a>, asked: Asked, e: &Expr<Flat>) -> Value
     ensures { result ≡ asked_of (known_value now.now) (known_value next.now) asked (tree_of e.now) }
 {
     match e {
@@ -137,12 +132,7 @@ pub(crate) fn ask<'a>(
 /// TRUE where some member is.
 #[cycle(ask)]
 #[tactic(auto, using(crate::proofs::AskedLaws::members_more))]
-fn ask_members<'a>(
-    now: &Known<'a>,
-    next: &Known<'a>,
-    asked: Asked,
-    members: &[Expr<Flat>],
-) -> Value
+fn ask_members<'a>(now: &Known<'a>, next: &Known<'a>, asked: Asked, members: &[Expr<Flat>]) -> Value
     ensures { result ≡ members_of (known_value now.now) (known_value next.now) asked (trees_of members.now) }
 {
     for member in members {

@@ -39,4 +39,3 @@ pub use laws::one_stop;
 pub use table::{Table, fill};
 pub use trace::{Replayed, replay};
 pub use values::{may, value};
-

@@ -1,7 +1,6 @@
-use Rattle.std.proofs.Common.{◌≡◌, ◌∙◌, ap, sym, subst}
+use Rattle.std.proofs.Common.{◌∙◌, ap, sym, subst}
 use Rattle.xs_scope.specs.declared.model.FlatModel.{FlatModel}
 use Rattle.xs_scope.specs.ModelTree.{model_tree}
-use Rattle.xs_eval.specs.Entries.{Entries}
 use Rattle.xs_eval.specs.Filled.{filled, HasRoom, HasValues}
 use Rattle.xs_eval.specs.Named.{IsFilled}
 use Rattle.xs_eval.proofs.FilledLaws.{filled_law, lawful_values}

@@ -1,9 +1,7 @@
-use Rattle.std.proofs.Common.{◌≡◌, ◌<◌, ◌^◌, ◌∙◌, length, List, ap, sym, subst}
+use Rattle.std.proofs.Common.{◌≡◌, ◌<◌, ◌^◌, ◌∙◌, length, ap, sym, subst}
 use Rattle.std.specs.Prelude.{All}
 use Rattle.xs_tree.specs.Written.{tree_of}
-use Rattle.xs_value.specs.declared.value.Value.{Value}
 use Rattle.xs_scope.specs.ModelTree.{model_tree, flat_tree}
-use Rattle.xs_eval.specs.declared.trace.Replayed.{Replayed}
 use Rattle.xs_eval.specs.Filled.{HasRoom, HasValues}
 use Rattle.xs_eval.specs.Named.{named_trace}
 use Rattle.xs_eval.specs.Replayed.{replayed, IsReplayed}
@@ -32,7 +30,7 @@ pub returns-clause-answer : goal.returns-clause-answer
 returns-clause-answer c =
     let m = c.args.t.now.model in
     let same : c.replay_in.result ≡ replayed m (tree_of c.args.top.now) c.args.trace.now =
-            c.replay_in.ensures.answer
-            ∙ (ap (λ n. replayed n (tree_of c.args.top.now) c.as_slice.result.now) c.model.ensures.model ∙ ap (replayed m (tree_of c.args.top.now)) c.as_slice.ensures) in
+    c.replay_in.ensures.answer
+    ∙ (ap (λ n. replayed n (tree_of c.args.top.now) c.as_slice.result.now) c.model.ensures.model ∙ ap (replayed m (tree_of c.args.top.now)) c.as_slice.ensures) in
     subst (IsReplayed (model_tree m) (flat_tree c.args.top.now) (named_trace m.symbols c.args.trace.now)) (sym same)
     (replayed_law m c.requires.model c.args.t.now.typed c.args.top.now c.requires.own c.requires.kept c.args.trace.now c.requires.some c.requires.lawful)
