@@ -7,7 +7,7 @@ use Rattle.xs_tree.specs.Trace.{in_domain}
 use Rattle.xs_flattening.specs.Flat.{FlatVariable, FlatModel}
 use Rattle.xs_flattening.proofs.Lists.{get_within}
 use Rattle.std.proofs.lemmas.Option.{slice_get_within}
-use Rattle.xs_certificate.specs.Certificate.{Line}
+use Rattle.xs_lines.specs.Lines.{Line}
 use Rattle.xs_trace_text.specs.TraceText.{value_text, variable_text, moment_line, equation}
 use Rattle.xs_trace_text.specs.Given.{IsPrintable}
 use Rattle.xs_trace_text.specs.Wrong.{LineFault, bad_line, unknown_name, outside, twice, number_of, moments_after, IsEquation, IsNameIn, WasSaid, Breaks, IsLeast}

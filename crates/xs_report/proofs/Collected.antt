@@ -4,7 +4,7 @@ use Rattle.std.specs.Prelude.{slice_get}
 use Rattle.xs_tree.specs.Values.{Value}
 use Rattle.xs_flattening.specs.Flat.{FlatVariable, FlatModel}
 use Rattle.xs_flattening.specs.FlatTrace.{AreInDomains}
-use Rattle.xs_certificate.specs.Certificate.{Line}
+use Rattle.xs_lines.specs.Lines.{Line}
 use Rattle.xs_trace_text.specs.TraceText.{value_text, variable_text, moment_line, equation, value_line}
 use Rattle.xs_trace_text.specs.Given.{IsLineWord, IsPrintable, GivesMoments}
 use Rattle.xs_trace_text.specs.Wrong.{moments_after}

@@ -1,9 +1,8 @@
 -- Bytes cut at a byte, and a line cut into the words of an equation.
 use Rattle.std.proofs.Common.{◌≡◌, ◌≢◌, ℕ, zero, suc, ◌<◌, ◌≤◌, List, [], ◌∷◌, ◌++◌, length, take, drop, get_or, refl, sym, ◌∙◌, ap, subst, arith, codes}
 use Rattle.std.specs.Fmt.{decimal}
-use Rattle.xs_certificate.specs.Certificate.{Line}
-use Rattle.xs_certificate.specs.CertificateText.{IsLine}
-use Rattle.xs_certificate.proofs.Separators.{same_front, no_separator}
+use Rattle.xs_lines.specs.Lines.{Line, IsLine}
+use Rattle.xs_lines.proofs.Separators.{same_front, no_separator}
 use Rattle.xs_trace_text.specs.TraceText.{moment_line, equation}
 use Rattle.xs_trace_text.specs.Given.{IsLineWord}
 use Rattle.xs_trace_text.specs.Wrong.{IsEquation}

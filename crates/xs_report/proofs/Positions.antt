@@ -2,8 +2,7 @@
 use Rattle.std.proofs.Common.{◌≡◌, ◌≢◌, ◌⊎◌, inl, inr, ℕ, zero, suc, ◌<◌, ◌≤◌, List, [], ◌∷◌, ◌++◌, length, refl, sym, ◌∙◌, ap, subst, arith, append_assoc}
 use Rattle.std.specs.List.{AllByRecursion}
 use Rattle.xs_flattening.specs.Flat.{FlatVariable, FlatModel}
-use Rattle.xs_certificate.specs.Certificate.{Line}
-use Rattle.xs_certificate.specs.CertificateText.{IsLine}
+use Rattle.xs_lines.specs.Lines.{Line, IsLine}
 use Rattle.xs_trace_text.specs.Given.{IsPrintable}
 use Rattle.xs_trace_text.specs.TraceText.{variable_text, moment_line, equation}
 use Rattle.xs_trace_text.specs.Wrong.{LineFault, moments_after, Breaks, AreSound, Lacks}

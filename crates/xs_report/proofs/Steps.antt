@@ -11,8 +11,8 @@ use Rattle.xs_tree.specs.Trace.{in_domain}
 use Rattle.xs_flattening.specs.Flat.{FlatVariable, FlatModel}
 use Rattle.xs_flattening.proofs.Lists.{get_within}
 use Rattle.xs_scope.proofs.Told.{set_get, set_own}
-use Rattle.xs_certificate.specs.Certificate.{Line}
-use Rattle.xs_certificate.proofs.Separators.{same_front}
+use Rattle.xs_lines.specs.Lines.{Line}
+use Rattle.xs_lines.proofs.Separators.{same_front}
 use Rattle.xs_trace_text.specs.TraceText.{value_text, variable_text, moment_line, equation, value_line}
 use Rattle.xs_trace_text.specs.Given.{IsLineWord, IsPrintable}
 use Rattle.xs_trace_text.specs.Wrong.{LineFault, moments_after, IsEquation, WasSaid, Breaks, AreSound, Lacks}

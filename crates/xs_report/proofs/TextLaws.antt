@@ -6,8 +6,8 @@ use Rattle.xs_tree.specs.ProgramTree.{Text, Path}
 use Rattle.xs_tree.specs.Text.{dotted_text}
 use Rattle.xs_tree.specs.Values.{Value}
 use Rattle.xs_flattening.specs.Flat.{FlatVariable, FlatModel}
-use Rattle.xs_certificate.specs.CertificateText.{fed}
-use Rattle.xs_certificate.proofs.Judged.{fed_joined}
+use Rattle.xs_lines.specs.Lines.{fed}
+use Rattle.xs_lines.proofs.Cuts.{fed_joined}
 use Rattle.xs_scope.specs.declared.model.Variable.{Variable}
 use Rattle.xs_scope.specs.ModelTree.{name_in, place_in, variable_tree}
 use Rattle.xs_value.specs.declared.value.Value.{Value as Numbered}

@@ -9,9 +9,8 @@ use Rattle.xs_tree.specs.Trace.{in_domain}
 use Rattle.xs_flattening.specs.Flat.{FlatVariable, FlatModel}
 use Rattle.xs_flattening.specs.FlatTrace.{AreInDomains}
 use Rattle.xs_flattening.proofs.Lists.{get_within}
-use Rattle.xs_certificate.specs.Certificate.{Line}
-use Rattle.xs_certificate.specs.CertificateText.{fed, IsLine}
-use Rattle.xs_certificate.proofs.Separators.{fed_end}
+use Rattle.xs_lines.specs.Lines.{Line, fed, IsLine}
+use Rattle.xs_lines.proofs.Separators.{fed_end}
 use Rattle.xs_trace_text.specs.TraceText.{value_text, variable_text, moment_line}
 use Rattle.xs_trace_text.specs.Given.{IsPrintable, GivesMoments, BytesGive}
 use Rattle.xs_trace_text.specs.Wrong.{LineFault, bad_line, unknown_name, outside, twice, moments_after, AreSound, IsLeast, IsWrongLine, IsBlank, Lacks, Misses}

@@ -1,8 +1,7 @@
 -- Bytes that are cut at a byte.
 use Rattle.std.specs.Prelude.{◌≡◌, ◌≢◌, ℕ, List, [], ◌∷◌, ◌++◌}
 use Rattle.std.specs.List.{AllByRecursion}
-use Rattle.xs_certificate.specs.Certificate.{Line}
-use Rattle.xs_certificate.specs.CertificateText.{IsLine}
+use Rattle.xs_lines.specs.Lines.{Line, IsLine}
 use Rattle.xs_trace_text.specs.Wrong.{IsEquation}
 
 -- no byte is this one

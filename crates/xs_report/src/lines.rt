@@ -1,7 +1,7 @@
 //! Bytes cut into lines, and lines into words.
 
 ghost use Rattle.std.specs.Prelude.{◌≡◌, ◌≢◌, ◌↔◌, ℕ, ◌<◌, ◌≤◌, [], ◌∷◌, ◌++◌, List, codes, length, slice_index, IsTrue, IfOk, MatchOption};
-ghost use Rattle.xs_certificate.specs.CertificateText.{IsLine};
+ghost use Rattle.xs_lines.specs.Lines.{IsLine};
 ghost use Rattle.xs_trace_text.specs.TraceText.{moment_line};
 ghost use Rattle.xs_trace_text.specs.Wrong.{IsEquation};
 ghost use Rattle.xs_report.specs.Cuts.{Lacks, BeginsWith, IsLineThen, IsNoEquation};

@@ -2,8 +2,7 @@
 
 ghost use Rattle.std.specs.Prelude.{◌≡◌, ◌<◌, ◌-◌, ◌^◌, [], ◌∷◌, ◌++◌, List, length, map, replicate, nat_eq, IfOk, IfErr, OnOk};
 ghost use Rattle.std.specs.List.{list_all};
-ghost use Rattle.xs_certificate.specs.Certificate.{Line};
-ghost use Rattle.xs_certificate.specs.CertificateText.{IsLine};
+ghost use Rattle.xs_lines.specs.Lines.{Line, IsLine};
 ghost use Rattle.xs_scope.specs.ModelTree.{model_tree};
 ghost use Rattle.xs_trace_text.specs.Given.{IsPrintable};
 ghost use Rattle.xs_report.specs.Faults.{IsCauseOf};

@@ -1,7 +1,7 @@
 //! The text of a trace.
 
 ghost use Rattle.std.specs.Prelude.{◌≡◌, ◌∷◌, ◌++◌, [], map, slice_get, IfOk, OnOk};
-ghost use Rattle.xs_certificate.specs.CertificateText.{fed};
+ghost use Rattle.xs_lines.specs.Lines.{fed};
 ghost use Rattle.xs_scope.specs.ModelTree.{model_tree, variable_tree};
 ghost use Rattle.xs_trace_text.specs.TraceText.{value_text, value_line, value_lines, moment_line, trace_text};
 ghost use Rattle.xs_report.specs.Told.{text_at, told_value, told_moment, told_trace};
