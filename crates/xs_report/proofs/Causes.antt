@@ -46,7 +46,7 @@ module _ (m : FlatModel) (p : IsPrintable m) (lines : List Line) (l name text : 
   words : (n v : Line) → IsEquation n v l → (name ≡ n) × (text ≡ v)
   words n v r = same_equation name text n v q.name_word r.name_word (sym q.is_line ∙ r.is_line)
 
-  is_in : (i : ℕ) → IsNamedAt m name i → IsNameIn m name
+  abbrev is_in : (i : ℕ) → IsNamedAt m name i → IsNameIn m name
   is_in i x = record { place = i; variable = x.variable; is_variable = x.is_variable; is_name = x.is_name }
 
   unknown_least : (IsNameIn m name → ⊥) → IsLeast m lines l unknown_name
@@ -88,12 +88,10 @@ refusal_cause m p lines l name text r c h q some f = by c f
     begun = omega (arith, some, h.begun)
 
     said : (i : ℕ) (x : IsNamedAt m name i) → IsTaken r i → WasSaid lines name
-    said i x taken = of_given (last.given some (taken slot.0 slot.1))
+    said i x taken = of_given ((h.last i x.variable slot.0 x.is_variable slot.1).given some (taken slot.0 slot.1))
       where
         slot : (s : Slot) × (slice_get r.slots.items i ≡ Some s)
         slot = let within : i < length m.variables = slice_get_within m.variables i x.variable x.is_variable in get_within r.slots.items i (omega (arith, within, h.many))
-
-        last = h.last i x.variable slot.0 x.is_variable slot.1
 
         of_given : IsGiven lines x.variable (told_value m.symbols slot.0.value) r.begun → WasSaid lines name
         of_given g = record {

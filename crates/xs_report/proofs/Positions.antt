@@ -6,7 +6,7 @@ use Rattle.xs_lines.specs.Lines.{Line, IsLine}
 use Rattle.xs_trace_text.specs.Given.{IsPrintable}
 use Rattle.xs_trace_text.specs.TraceText.{variable_text, moment_line, equation}
 use Rattle.xs_trace_text.specs.Wrong.{LineFault, moments_after, Breaks, AreSound, Lacks}
-use Rattle.xs_trace_text.proofs.OneTrace.{no_items, head_of, tail_of, both_of}
+use Rattle.xs_trace_text.proofs.OneTrace.{no_items, head_of, tail_of, both_of, no_moment}
 use Rattle.xs_trace_text.proofs.Moments.{after_both, no_fewer, next_begins, other_line}
 use Rattle.xs_trace_text.proofs.LineJudged.{AllAre, LineIs, Stops}
 use Rattle.xs_trace_text.proofs.LinesJudged.{judge_lines}
@@ -70,3 +70,14 @@ lacks_more m lines l k lacks past = record { place = lacks.place; variable = lac
         by_side : ((more : List Line) × (lines ≡ before ++ equation (variable_text lacks.variable) value ∷ more) × (after ≡ more ++ l ∷ [])) ⊎ ((before ≡ lines) × (equation (variable_text lacks.variable) value ≡ l) × (after ≡ [])) → ⊥
         by_side (inl i) = lacks.elsewhere before value i.0 i.1 there
         by_side (inr i) = let same : moments_after 0 before ≡ moments_after 0 lines = ap (moments_after 0) i.0 in omega (arith, same, there, past)
+
+-- nor does the line of a moment say what the moments before it lack
+pub lacks_at_moment : (m : FlatModel) → IsPrintable m → (lines : List Line) (l : Line) (n k : ℕ) → Lacks m lines k → l ≡ moment_line n → Lacks m (lines ++ l ∷ []) k
+lacks_at_moment m p lines l n k lacks is = record { place = lacks.place; variable = lacks.variable; is_variable = lacks.is_variable; elsewhere = elsewhere }
+  where
+    elsewhere : (before : List Line) (value : Line) (after : List Line) → lines ++ l ∷ [] ≡ before ++ equation (variable_text lacks.variable) value ∷ after → moments_after 0 before ≢ suc k
+    elsewhere before value after e there = by_side (last_or_in lines l before (equation (variable_text lacks.variable) value) after e)
+      where
+        by_side : ((more : List Line) × (lines ≡ before ++ equation (variable_text lacks.variable) value ∷ more) × (after ≡ more ++ l ∷ [])) ⊎ ((before ≡ lines) × (equation (variable_text lacks.variable) value ≡ l) × (after ≡ [])) → ⊥
+        by_side (inl i) = lacks.elsewhere before value i.0 i.1 there
+        by_side (inr i) = no_moment (variable_text lacks.variable) value n (p.words lacks.place lacks.variable lacks.is_variable) (i.1 ∙ is)

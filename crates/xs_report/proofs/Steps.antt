@@ -26,7 +26,7 @@ use Rattle.xs_report.specs.declared.reading.Reading.{Reading}
 use Rattle.xs_report.specs.Told.{told_value}
 use Rattle.xs_report.specs.Lookups.{IsNamedAt, IsValueAt}
 use Rattle.xs_report.specs.Reading.{IsGiven, IsSilent, IsLast, IsSaid, AreSaid, IsAfter, is_complete, values_of, with_last, ended, IsFree, IsGivenTo, Gives}
-use Rattle.xs_report.proofs.Positions.{last_or_in, sound_more, still, one_begins, front_begun, lacks_more}
+use Rattle.xs_report.proofs.Positions.{last_or_in, sound_more, still, one_begins, front_begun, lacks_more, lacks_at_moment}
 
 some_same : {A : Type 0} (x y : A) → Some x ≡ Some y → x ≡ y
 some_same x y e = cc
@@ -271,7 +271,7 @@ after_moment m p lines l old new h e begun slots moments = record {
   kept = subst (AreSaid m (lines ++ l ∷ [])) (sym moments) (said_more m lines l (with_last old.begun old.slots.items old.moments) done.kept);
   few = subst (λ ms. length ms ≤ new.begun - 1) (sym moments) (omega (arith, done.few, begun));
   lacking = subst (λ ms. length ms + 1 < new.begun → Lacks m (lines ++ l ∷ []) (length ms)) (sym moments)
-      (λ past. lacks_more m lines l (length (with_last old.begun old.slots.items old.moments)) (done.lacking (omega (arith, past, begun))) (omega (arith, past, begun, h.begun)));
+      (λ past. lacks_at_moment m p lines l old.begun (length (with_last old.begun old.slots.items old.moments)) (done.lacking (omega (arith, past, begun))) e);
 }
   where
     done : IsEnded m lines old.begun (with_last old.begun old.slots.items old.moments)

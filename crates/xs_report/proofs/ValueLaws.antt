@@ -19,7 +19,7 @@ use Rattle.xs_types.specs.Numbering.{number_from}
 use Rattle.xs_types.specs.Types.{StandsFor}
 use Rattle.xs_types.proofs.NumberingLaws.{number_told}
 use Rattle.xs_report.specs.Told.{text_at, told_value}
-use Rattle.xs_report.specs.ValueReading.{HasText, IsTruth, IsNumber, IsSymbol, IsReadOf, IsAmong, IsShort, IsReadIn}
+use Rattle.xs_report.specs.ValueReading.{HasText, IsTruth, IsNumber, IsSymbol, IsReadOf, IsParsed, IsAmong, IsShort, IsReadIn}
 
 -- Truth values.
 pub read_truth : (b : Bool) (symbols : List Text) (text : Text) → text ≡ value_text (truth b) → IsReadOf IsTruth symbols text (Some (ABool b))
@@ -127,13 +127,14 @@ in_boolean (ABool b) h = tt
 in_boolean (Num n) h = h
 in_boolean (Sym i) h = h
 
-pub read_boolean : (symbols : List Text) (text : Text) (o : Option Numbered) → IsReadOf IsTruth symbols text o → IsReadIn symbols domain.Boolean text o
-read_boolean symbols text None read = λ v h s t. read v (in_boolean v h) t
-read_boolean symbols text (Some (ABool b)) read = (tt, read.1)
-read_boolean symbols text (Some (Num n)) read = absurd read.0
-read_boolean symbols text (Some (Sym i)) read = absurd read.0
+read_boolean : (symbols : List Text) (text : Text) (o r : Option Numbered) → IsReadOf IsTruth symbols text o → IsAmong domain.Boolean o r → IsReadIn symbols domain.Boolean text r
+read_boolean symbols text None r read a = subst (IsReadIn symbols domain.Boolean text) (sym a) (λ v h s t. read v (in_boolean v h) t)
+read_boolean symbols text (Some (ABool b)) r read (inl a) = subst (IsReadIn symbols domain.Boolean text) (sym a.1) (tt, read.1)
+read_boolean symbols text (Some (ABool b)) r read (inr a) = absurd (a.0 tt)
+read_boolean symbols text (Some (Num n)) r read a = absurd read.0
+read_boolean symbols text (Some (Sym i)) r read a = absurd read.0
 
-pub read_range : (symbols : List Text) (lo hi : ℤ) (text : Text) (o r : Option Numbered) → IsReadOf IsNumber symbols text o → IsAmong (domain.Range lo hi) o r → IsReadIn symbols (domain.Range lo hi) text r
+read_range : (symbols : List Text) (lo hi : ℤ) (text : Text) (o r : Option Numbered) → IsReadOf IsNumber symbols text o → IsAmong (domain.Range lo hi) o r → IsReadIn symbols (domain.Range lo hi) text r
 read_range symbols lo hi text = among IsNumber symbols (domain.Range lo hi) text of_class (one_number symbols text)
   where
     of_class : (v : Numbered) → Has (domain.Range lo hi) v → IsShort v → IsNumber v
@@ -141,7 +142,7 @@ read_range symbols lo hi text = among IsNumber symbols (domain.Range lo hi) text
     of_class (ABool b) h s = h
     of_class (Sym i) h s = h
 
-pub read_numbers : (symbols : List Text) (ns : List ℤ) (text : Text) (o r : Option Numbered) → IsReadOf IsNumber symbols text o → IsAmong (domain.Numbers ns) o r → IsReadIn symbols (domain.Numbers ns) text r
+read_numbers : (symbols : List Text) (ns : List ℤ) (text : Text) (o r : Option Numbered) → IsReadOf IsNumber symbols text o → IsAmong (domain.Numbers ns) o r → IsReadIn symbols (domain.Numbers ns) text r
 read_numbers symbols ns text = among IsNumber symbols (domain.Numbers ns) text of_class (one_number symbols text)
   where
     of_class : (v : Numbered) → Has (domain.Numbers ns) v → IsShort v → IsNumber v
@@ -149,10 +150,17 @@ read_numbers symbols ns text = among IsNumber symbols (domain.Numbers ns) text o
     of_class (ABool b) h s = h
     of_class (Sym i) h s = h
 
-pub read_symbols : (symbols : List Text) (ss : List ℕ) (text : Text) (o r : Option Numbered) → IsReadOf IsSymbol symbols text o → IsAmong (domain.Symbols ss) o r → IsReadIn symbols (domain.Symbols ss) text r
+read_symbols : (symbols : List Text) (ss : List ℕ) (text : Text) (o r : Option Numbered) → IsReadOf IsSymbol symbols text o → IsAmong (domain.Symbols ss) o r → IsReadIn symbols (domain.Symbols ss) text r
 read_symbols symbols ss text = among IsSymbol symbols (domain.Symbols ss) text of_class (one_symbol symbols text)
   where
     of_class : (v : Numbered) → Has (domain.Symbols ss) v → IsShort v → IsSymbol v
     of_class (Sym i) h s = tt
     of_class (ABool b) h s = h
     of_class (Num n) h s = h
+
+-- what is read of a domain's class, among its values
+pub value_read : (symbols : List Text) (d : Domain) (text : Text) (o r : Option Numbered) → IsParsed symbols d text o → IsAmong d o r → IsReadIn symbols d text r
+value_read symbols domain.Boolean text o r = read_boolean symbols text o r
+value_read symbols (domain.Range lo hi) text o r = read_range symbols lo hi text o r
+value_read symbols (domain.Numbers ns) text o r = read_numbers symbols ns text o r
+value_read symbols (domain.Symbols ss) text o r = read_symbols symbols ss text o r

@@ -1,9 +1,10 @@
 -- The whole text: what is wrong first with it, or the trace that it gives.
-use Rattle.std.proofs.Common.{◌≡◌, ◌≢◌, ◌⊎◌, inl, inr, ℕ, zero, suc, ◌+◌, ◌<◌, ◌≤◌, List, [], ◌∷◌, ◌++◌, length, refl, sym, ◌∙◌, ap, subst, arith, append_assoc, Some, None}
-use Rattle.std.specs.Prelude.{slice_get, map, IsTrue}
+use Rattle.std.proofs.Common.{◌≡◌, ◌≢◌, ◌⊎◌, inl, inr, ℕ, zero, suc, ◌+◌, ◌-◌, ◌<◌, ◌≤◌, List, [], ◌∷◌, ◌++◌, length, refl, sym, ◌∙◌, ap, subst, arith, append_assoc, length-append, Bool, true, false, Some, None}
+use Rattle.std.specs.Prelude.{slice_get, map, IsTrue, if◌then◌else◌}
 use Rattle.std.specs.List.{AllByRecursion}
 use Rattle.std.proofs.lemmas.Option.{slice_get_within}
 use Rattle.xs_tree.specs.ProgramTree.{Text}
+use Rattle.xs_tree.specs.Texts.{same_text}
 use Rattle.xs_tree.specs.Values.{Value}
 use Rattle.xs_tree.specs.Trace.{in_domain}
 use Rattle.xs_flattening.specs.Flat.{FlatVariable, FlatModel}
@@ -138,7 +139,7 @@ module _ (m : FlatModel) (p : IsPrintable m) (lines : List Line) (r : Reading) (
   cut : Own m [] lines
   cut = cut_own m p [] lines are
 
-  moments : List (List Numbered)
+  abbrev moments : List (List Numbered)
   moments = with_last r.begun r.slots.items r.moments
 
   done : IsEnded m lines r.begun (with_last r.begun r.slots.items r.moments)
@@ -217,3 +218,71 @@ module _ (m : FlatModel) (p : IsPrintable m) (lines : List Line) (r : Reading) (
             where
               of_moment : IsImage (told_moment m.symbols) trace k v → IsTold m lines v (suc (0 + k))
               of_moment u = subst (λ n. IsTold m lines v n) (omega arith) (subst (λ w. IsTold m lines w (suc k)) u.same (said_told m lines u.item (suc k) (done.kept k u.item (ap (λ ms. slice_get ms k) (sym f.same) ∙ u.is))))
+
+-- The text up to a line.
+pub record IsRead (m : FlatModel) (bytes rest : List ℕ) (number : ℕ) (r : Reading) : Type 0 where
+  pub lines : List Line
+  pub lie : bytes ≡ fed lines ++ rest
+  pub are_lines : AllByRecursion IsLine lines
+  pub after : IsAfter m lines r
+  pub count : number ≡ suc (length lines)
+
+pub read_start : (m : FlatModel) (bytes : List ℕ) (r : Reading) → IsAfter m [] r → IsRead m bytes bytes 1 r
+read_start m bytes r h = record { lines = []; lie = refl; are_lines = tt; after = h; count = refl }
+
+pub read_more : (m : FlatModel) (bytes rest line after : List ℕ) (number : ℕ) (old new : Reading) → IsRead m bytes rest number old → IsLineThen rest line after →
+    ((lines : List Line) → IsAfter m lines old → IsAfter m (lines ++ line ∷ []) new) → IsRead m bytes after (number + 1) new
+read_more m bytes rest line after number old new h l step = record {
+  lines = h.lines ++ line ∷ [];
+  lie = line_lies bytes rest line after h.lines h.lie l;
+  are_lines = are_more h.lines line h.are_lines l.is_line;
+  after = step h.lines h.after;
+  count = let longer : length (h.lines ++ line ∷ []) ≡ suc (length h.lines) = length_more h.lines line in omega (arith, longer, h.count);
+}
+
+-- a moment takes a line, and a line a byte
+begun_few : (n : ℕ) (lines : List Line) → moments_after n lines ≤ n + length lines
+begun_few n [] = omega arith
+begun_few n (l ∷ lines) = by (same_text l (moment_line n)) (begun_few (suc n) lines) (begun_few n lines)
+  where
+    by : (b : Bool) → moments_after (suc n) lines ≤ suc n + length lines → moments_after n lines ≤ n + length lines → moments_after (if b then suc n else n) lines ≤ n + suc (length lines)
+    by true h g = omega (arith, h)
+    by false h g = omega (arith, g)
+
+fed_long : (lines : List Line) → length lines ≤ length (fed lines)
+fed_long [] = omega arith
+fed_long (l ∷ lines) =
+    let both : length ((l ++ 10 ∷ []) ++ fed lines) ≡ length (l ++ 10 ∷ []) + length (fed lines) = length-append (l ++ 10 ∷ []) (fed lines) in
+    let one : length (l ++ 10 ∷ []) ≡ length l + 1 = length-append l (10 ∷ []) in
+    omega (arith, both, one, fed_long lines)
+
+pub rest_shorter : (rest line after : List ℕ) → IsLineThen rest line after → length after < length rest
+rest_shorter rest line after l =
+    let whole : length rest ≡ length (line ++ 10 ∷ after) = ap length l.lie in
+    let sum : length (line ++ 10 ∷ after) ≡ length line + suc (length after) = length-append line (10 ∷ after) in
+    omega (arith, whole, sum)
+
+pub read_few : (m : FlatModel) (bytes rest line after : List ℕ) (number : ℕ) (r : Reading) → IsRead m bytes rest number r → IsLineThen rest line after → number ≤ length bytes
+read_few m bytes rest line after number r h l =
+    let whole : length bytes ≡ length (fed h.lines ++ rest) = ap length h.lie in
+    let sum : length (fed h.lines ++ rest) ≡ length (fed h.lines) + length rest = length-append (fed h.lines) rest in
+    let long : length h.lines ≤ length (fed h.lines) = fed_long h.lines in
+    let less : length after < length rest = rest_shorter rest line after l in
+    omega (arith, whole, sum, long, less, h.count)
+
+pub begun_fewer : (m : FlatModel) (bytes rest : List ℕ) (number : ℕ) (r : Reading) → IsRead m bytes rest number r → r.begun < number
+begun_fewer m bytes rest number r h = let few : moments_after 0 h.lines ≤ 0 + length h.lines = begun_few 0 h.lines in omega (arith, few, h.count, h.after.begun)
+
+-- its ends
+pub read_cause : (m : FlatModel) (bytes rest line after : List ℕ) (number : ℕ) (r : Reading) (c : Cause) → IsRead m bytes rest number r → IsLineThen rest line after → ((lines : List Line) → IsAfter m lines r → IsCauseOf m lines line c) →
+    IsFaultOf m bytes (fault_at c number)
+read_cause m bytes rest line after number r c h l f = cause_wrong m bytes rest line after h.lines r c number h.after h.lie h.are_lines l h.count (f h.lines h.after)
+
+pub read_tail : (m : FlatModel) (bytes rest : List ℕ) (number : ℕ) (r : Reading) → IsRead m bytes rest number r → IsLine rest → rest ≢ [] → IsFaultOf m bytes (fault.BadLine number)
+read_tail m bytes rest number r h l some = tail_wrong m bytes rest h.lines r number h.after h.lie h.are_lines l some h.count
+
+pub read_fault : (m : FlatModel) → IsPrintable m → (bytes rest : List ℕ) (number : ℕ) (r : Reading) (f : TraceFault) → IsRead m bytes rest number r → rest ≡ [] → IsUnfinished (ended r) f → IsFaultOf m bytes f
+read_fault m p bytes rest number r f h none u = unfinished_wrong m p h.lines r h.after h.are_lines bytes (h.lie ∙ ap (λ b. fed h.lines ++ b) none ∙ append_none (fed h.lines)) f u
+
+pub read_gives : (m : FlatModel) → IsPrintable m → (bytes rest : List ℕ) (number : ℕ) (r : Reading) (trace : List (List Numbered)) → IsRead m bytes rest number r → rest ≡ [] → IsFinished (ended r) trace → BytesGive m bytes (told_trace m.symbols trace)
+read_gives m p bytes rest number r trace h none f = finished_gives m p h.lines r h.after h.are_lines bytes (h.lie ∙ ap (λ b. fed h.lines ++ b) none ∙ append_none (fed h.lines)) trace f

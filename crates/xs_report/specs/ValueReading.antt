@@ -4,6 +4,7 @@ use Rattle.std.specs.Prelude.{◌≡◌, ◌⊎◌, ◌<◌, ◌^◌, List, Opti
 use Rattle.xs_tree.specs.ProgramTree.{Text}
 use Rattle.xs_trace_text.specs.TraceText.{value_text}
 use Rattle.xs_value.specs.declared.domain.Domain.{Domain}
+use Rattle.xs_value.specs.declared.domain.Domain.TheVariants as domain
 use Rattle.xs_value.specs.declared.value.Value.{Value as Numbered}
 use Rattle.xs_value.specs.declared.value.Value.TheVariants.{Bool as ABool, Num, Sym}
 use Rattle.xs_value.specs.Domains.{Has}
@@ -32,6 +33,13 @@ IsSymbol _ = ⊥
 abbrev pub IsReadOf : (Numbered → Type 0) → List Text → Text → Option Numbered → Type 0
 IsReadOf P symbols text None = (v : Numbered) → P v → HasText symbols text v → ⊥
 IsReadOf P symbols text (Some v) = P v × HasText symbols text v
+
+-- the value of the domain's class that has the text, where one has it
+abbrev pub IsParsed : List Text → Domain → Text → Option Numbered → Type 0
+IsParsed symbols domain.Boolean text o = IsReadOf IsTruth symbols text o
+IsParsed symbols (domain.Range lo hi) text o = IsReadOf IsNumber symbols text o
+IsParsed symbols (domain.Numbers ns) text o = IsReadOf IsNumber symbols text o
+IsParsed symbols (domain.Symbols ss) text o = IsReadOf IsSymbol symbols text o
 
 -- the value, where the domain has it
 abbrev pub IsAmong : Domain → Option Numbered → Option Numbered → Type 0

@@ -8,7 +8,7 @@ ghost use Rattle.xs_trace_text.specs.Given.{HasItsSymbols};
 ghost use Rattle.xs_report.specs.Lookups.{IsPlaceOf, IsFoundAt};
 
 use crate::numbers::TextNumbers;
-use crate::text::append_dotted;
+use crate::text::append_variable;
 use crate::values::value_of;
 use std::alloc::Global;
 use xs_flat::Variable;
@@ -90,6 +90,6 @@ fn name_of(alloc: Global, variable: &Variable) -> Result<Name, OutOfMemory>
     ensures { IfOk result (λ name. name ≡ printed_name variable.now) }
 {
     let mut text = ByteList::new(alloc);
-    append_dotted(&mut text, &variable.path)?;
+    append_variable(&mut text, variable)?;
     Name::new(alloc, text.as_slice())
 }

@@ -1,6 +1,6 @@
 //! A text of a trace read line by line.
 
-ghost use Rattle.std.specs.Prelude.{◌≡◌, ◌<◌, ◌-◌, ◌^◌, [], ◌∷◌, ◌++◌, List, length, map, replicate, nat_eq, IfOk, IfErr, OnOk};
+ghost use Rattle.std.specs.Prelude.{◌≡◌, ◌<◌, ◌-◌, ◌^◌, [], ◌∷◌, ◌++◌, List, length, map, replicate, false, nat_eq, IfOk, IfErr, OnOk};
 ghost use Rattle.std.specs.List.{list_all};
 ghost use Rattle.xs_lines.specs.Lines.{Line, IsLine};
 ghost use Rattle.xs_scope.specs.ModelTree.{model_tree};

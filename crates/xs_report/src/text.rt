@@ -3,8 +3,10 @@
 ghost use Rattle.std.specs.Prelude.{◌≡◌, ◌++◌, OnOk};
 ghost use Rattle.std.specs.Fmt.{decimal, signed_decimal};
 ghost use Rattle.xs_tree.specs.Text.{dotted_text, joined};
+ghost use Rattle.xs_report.specs.Names.{printed_name};
 
 use std::alloc::Global;
+use xs_flat::Variable;
 use xs_value::{ByteList, Dotted, Name, OutOfMemory};
 
 /// Appends a number that is not below 0.
@@ -36,6 +38,13 @@ pub(crate) fn append_dotted(text: &mut ByteList, name: &Dotted) -> Result<(), Ou
     ensures { OnOk result (text.new ≡ text.old ++ dotted_text name.now) }
 {
     append_names(text, name.parts(), b".")
+}
+
+/// Appends the name of a variable, with dots between its parts.
+pub(crate) fn append_variable(text: &mut ByteList, variable: &Variable) -> Result<(), OutOfMemory>
+    ensures { OnOk result (text.new ≡ text.old ++ printed_name variable.now) }
+{
+    append_names(text, variable.path.parts(), b".")
 }
 
 /// Appends names with a mark between.

@@ -6,7 +6,7 @@ ghost use Rattle.xs_scope.specs.ModelTree.{model_tree, variable_tree};
 ghost use Rattle.xs_trace_text.specs.TraceText.{value_text, value_line, value_lines, moment_line, trace_text};
 ghost use Rattle.xs_report.specs.Told.{text_at, told_value, told_moment, told_trace};
 
-use crate::text::{append_count, append_dotted, append_number};
+use crate::text::{append_count, append_number, append_variable};
 use std::alloc::Global;
 use xs_flat::{FlatModel, Variable};
 use xs_types::Typed;
@@ -85,7 +85,7 @@ fn append_line(
 ) -> Result<(), OutOfMemory>
     ensures { OnOk result (text.new ≡ text.old ++ (value_line (variable_tree variable.now) (told_value symbols.now value) ++ 10 ∷ [])) }
 {
-    append_dotted(text, &variable.path)?;
+    append_variable(text, variable)?;
     text.append(b" = ")?;
     append_value(alloc, text, symbols, value)?;
     text.append(b"\n")

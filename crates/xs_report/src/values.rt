@@ -4,7 +4,7 @@ ghost use lib.Signed.{mag};
 ghost use Rattle.std.specs.Prelude.{◌≡◌, ℤ, ◌<◌, ◌^◌, List, Some, IfOk};
 ghost use Rattle.std.specs.Fmt.{signed_decimal};
 ghost use Rattle.xs_tree.specs.ProgramTree.{Text};
-ghost use Rattle.xs_report.specs.ValueReading.{IsTruth, IsNumber, IsSymbol, IsReadOf, IsAmong, IsReadIn};
+ghost use Rattle.xs_report.specs.ValueReading.{IsTruth, IsNumber, IsSymbol, IsReadOf, IsAmong, IsReadIn, IsParsed};
 
 use crate::numbers::TextNumbers;
 use std::alloc::Global;
@@ -19,10 +19,24 @@ pub(crate) fn value_of(
 ) -> Result<Option<Value>, OutOfMemory>
     ensures { IfOk result (IsReadIn symbols.now.texts.now domain.now text.now) }
 {
+    let value = parsed_for(alloc, domain, symbols, text)?;
+    Ok(among(domain, value))
+}
+
+/// The value of the domain's class that has this text.
+fn parsed_for(
+    alloc: Global,
+    domain: &Domain,
+    symbols: &TextNumbers<'_>,
+    text: &[u8],
+) -> Result<Option<Value>, OutOfMemory>
+    ensures { IfOk result (IsParsed symbols.now.texts.now domain.now text.now) }
+{
     match domain {
         Domain::Boolean => Ok(truth_of(text)),
-        Domain::Symbols(_) => Ok(among(domain, symbol_of(symbols, text))),
-        Domain::Range { .. } | Domain::Numbers(_) => Ok(among(domain, number_of(alloc, text)?)),
+        Domain::Range { .. } => number_of(alloc, text),
+        Domain::Numbers(_) => number_of(alloc, text),
+        Domain::Symbols(_) => Ok(symbol_of(symbols, text)),
     }
 }
 
@@ -31,8 +45,14 @@ fn among(domain: &Domain, value: Option<Value>) -> Option<Value>
     ensures { IsAmong domain.now value result }
 {
     match value {
-        Some(value) if domain.has(value) => Some(value),
-        _ => None,
+        Some(value) => {
+            if domain.has(value) {
+                Some(value)
+            } else {
+                None
+            }
+        }
+        None => None,
     }
 }
 
