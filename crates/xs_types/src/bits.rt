@@ -76,7 +76,7 @@ fn ends_width(ends: Option<Ends>) -> u32
 }
 
 /// The bits of the numbers from `lo` to `hi`.
-fn width(lo: i64, hi: i64) -> u32
+pub fn width(lo: i64, hi: i64) -> u32
     ensures { result ≡ width_of (record { lo = lo; hi = hi }) }
 {
     if lo >= 0 {
@@ -96,7 +96,7 @@ fn digits_above(n: i64) -> u32
 
 /// The number of binary digits, which is 0 for 0.
 #[tactic(auto, using(crate::proofs::DigitLaws::digits_at, crate::proofs::DigitLaws::digits_none))]
-fn digits(n: u64) -> u32
+pub fn digits(n: u64) -> u32
     ensures value { result ≡ digits_of n }
     ensures few { result ≤ 64 }
 {

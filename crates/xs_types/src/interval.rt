@@ -15,7 +15,7 @@ const GREATEST: i64 = 2147483647;
 
 /// The numbers from `lo` to `hi`, both included, which stand in this order and within 32 bits.
 #[derive(Clone, Copy)]
-pub(crate) struct Interval {
+pub struct Interval {
     lo: i64,
     hi: i64,
 }
@@ -114,15 +114,17 @@ fn remainder_hi(hi: i64, most: i64) -> i64
 
 impl Interval {
     /// The least number.
-    pub(crate) fn lo(self) -> i64
-        ensures { result ≡ self.lo }
+    pub fn lo(self) -> i64
+        ensures value { result ≡ self.lo }
+        ensures small { IsSmall result }
     {
         self.lo
     }
 
     /// The greatest number.
-    pub(crate) fn hi(self) -> i64
-        ensures { result ≡ self.hi }
+    pub fn hi(self) -> i64
+        ensures value { result ≡ self.hi }
+        ensures small { IsSmall result }
     {
         self.hi
     }

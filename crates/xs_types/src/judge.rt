@@ -22,7 +22,7 @@ pub(crate) struct Sorts {
 }
 
 /// What a name's values are. A number that names nothing has no values; it counts as a truth value.
-fn name_sort(sorts: &Sorts, name: Flat) -> Sort
+pub(crate) fn name_sort(sorts: &Sorts, name: Flat) -> Sort
     ensures { result ≡ name_sort sorts.now name }
 {
     match name {

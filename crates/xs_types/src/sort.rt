@@ -12,7 +12,7 @@ use xs_tree::Op;
 
 /// Truth values, numbers, or symbols.
 #[derive(Clone, Copy)]
-pub(crate) enum Class {
+pub enum Class {
     Truth,
     Number,
     Symbol,
@@ -21,7 +21,7 @@ pub(crate) enum Class {
 /// What is known of values: their class, and for numbers the interval in which they lie. It is missing
 /// where a rule is broken.
 #[derive(Clone, Copy)]
-pub(crate) struct Sort {
+pub struct Sort {
     pub class: Class,
     pub interval: Option<Interval>,
 }
@@ -29,7 +29,7 @@ pub(crate) struct Sort {
 /// What is known of an expression's values, whether it is a set, and the rule with the lowest number that
 /// it or a part of it breaks.
 #[derive(Clone, Copy)]
-pub(crate) struct Judged {
+pub struct Judged {
     pub sort: Sort,
     pub is_set: bool,
     pub broken: Option<Rule>,
@@ -45,7 +45,7 @@ pub(crate) struct Exact {
 
 impl Class {
     /// Whether both are the same class.
-    pub(crate) fn is_same(self, other: Class) -> bool
+    pub fn is_same(self, other: Class) -> bool
         ensures { result ≡ same_class self other }
     {
         match (self, other) {
@@ -65,7 +65,7 @@ pub(crate) fn class_rule(class: Class, rule: Rule, sort: Sort) -> Option<Rule>
 }
 
 /// A single value that breaks no rule.
-pub(crate) fn kept(sort: Sort) -> Judged
+pub fn kept(sort: Sort) -> Judged
     ensures { result ≡ record { sort = sort; is_set = false; broken = None } }
 {
     Judged {
@@ -152,7 +152,7 @@ pub(crate) fn joined(a: Option<Interval>, b: Option<Interval>) -> Option<Interva
 
 /// A written number.
 #[tactic(auto, using(crate::proofs::RowLaws::found_fitting))]
-pub(crate) fn literal(n: i64) -> Judged
+pub fn literal(n: i64) -> Judged
     ensures { result ≡ row_literal n }
 {
     let exact = found(between(n, n));
@@ -191,7 +191,7 @@ pub(crate) fn opposite(a: Judged) -> Judged
 }
 
 /// `-a`.
-pub(crate) fn negative(a: Judged) -> Judged
+pub fn negative(a: Judged) -> Judged
     ensures { result ≡ row_negative a }
 {
     let sort = a.sort;
@@ -212,7 +212,7 @@ fn negative_found(a: Option<Interval>) -> Exact
 }
 
 /// An operator between two operands. `sets` says whether a set may stand here.
-pub(crate) fn operation(sets: bool, op: Op, a: Judged, b: Judged) -> Judged
+pub fn operation(sets: bool, op: Op, a: Judged, b: Judged) -> Judged
     ensures { result ≡ row_binary sets op a b }
 {
     match op {
@@ -320,7 +320,7 @@ fn union(sets: bool, a: Judged, b: Judged) -> Judged
 }
 
 /// `c ? a : b`.
-pub(crate) fn choice(sets: bool, c: Judged, a: Judged, b: Judged) -> Judged
+pub fn choice(sets: bool, c: Judged, a: Judged, b: Judged) -> Judged
     ensures { result ≡ row_choice sets c a b }
 {
     let own = lower(

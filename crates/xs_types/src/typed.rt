@@ -1,19 +1,21 @@
 //! Models that break no rule.
 
 ghost use Rattle.std.specs.Prelude.{◌≡◌, ◌<◌, ◌≤◌, ◌||◌, nat_lt, map, length, slice_get, Some, IfOk, IfErr};
-ghost use Rattle.xs_scope.specs.ModelTree.{model_tree};
+ghost use Rattle.xs_scope.specs.ModelTree.{model_tree, leaf_of};
 ghost use Rattle.xs_kinds.specs.Costs.{model_cost, state_bits};
-ghost use Rattle.xs_kinds.specs.Models.{IsTyped};
+ghost use Rattle.xs_kinds.specs.Models.{IsTyped, kind_of_leaf};
+ghost use Rattle.xs_types.specs.Answers.{told_sort};
 ghost use Rattle.xs_types.specs.Kept.{AreKindsOf};
 ghost use Rattle.xs_types.specs.Types.{variable_domain, AreValuesOf};
 ghost use Rattle.xs_types.specs.Faults.{IsToldOf};
 
 use crate::cost::model_cost;
 use crate::fault::TypeFault;
-use crate::judge::Sorts;
+use crate::judge::{Sorts, name_sort};
+use crate::sort::Sort;
 use crate::whole::{Found, fault_of, find_all};
 use std::alloc::Global;
-use xs_flat::FlatModel;
+use xs_flat::{Flat, FlatModel};
 use xs_value::Domain;
 
 /// A flat model that breaks no rule of kinds and keeps the limits, with the domains of its variables.
@@ -65,6 +67,14 @@ impl Typed {
         ensures bits { result ≡ state_bits (model_tree self.now.model) }
     {
         self.bits
+    }
+
+    /// What is known of the values of a name of the model: of a variable, of a symbol, or of a definition.
+    /// Takes no memory.
+    pub fn sort_of(&self, name: Flat) -> Sort
+        ensures { result ≡ told_sort (kind_of_leaf (model_tree self.now.model) (leaf_of name)) }
+    {
+        name_sort(&self.sorts, name)
     }
 
     /// What is known of the values of variables and definitions.
