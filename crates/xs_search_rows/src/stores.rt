@@ -11,16 +11,16 @@ use xs_watch::arena::Arena;
 fn sets<S: Store>(rt: &impl Abort, store: &mut S, number: i64, want: &[u64]) {
     let lit = literal(rt, number);
     assert!(rt; lit.var() <= store.vars());
-    assert!(rt; store.assign().value(lit).is_none());
+    let assign = store.assign();
+    assert!(rt; lit.var() <= assign.vars());
+    assert!(rt; assign.value(lit).is_none());
     store.set(lit);
     assert!(rt; store.found() == want, "after {number}");
 }
 
 fn pushes<S: Store>(rt: &impl Abort, store: &mut S, lits: &[Lit]) -> Result<(), OutOfMemory> {
     assert!(rt; store.vars() < 100);
-    for lit in lits {
-        assert!(rt; lit.var() <= store.vars());
-    }
+    assert!(rt; are_up_to(lits, store.vars()));
     store.push(lits)
 }
 
