@@ -10,3 +10,4 @@ pub mod StopLaws
 pub mod AskedLaws
 pub mod LoopLaws
 pub mod Examples
+pub mod ModelLaws

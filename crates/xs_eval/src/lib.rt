@@ -35,7 +35,7 @@ mod values;
 
 pub use conditions::{holds_first, holds_step};
 pub use failed::has_failed;
-pub use laws::one_stop;
+pub use laws::{flat_models_are_evaluable, one_stop};
 pub use table::{Table, fill};
 pub use trace::{Replayed, replay};
 pub use values::{may, value};
