@@ -6,7 +6,7 @@ use Rattle.xs_lines.proofs.Separators.{same_front, no_separator}
 use Rattle.xs_trace_text.specs.TraceText.{moment_line, equation}
 use Rattle.xs_trace_text.specs.Given.{IsLineWord}
 use Rattle.xs_trace_text.specs.Wrong.{IsEquation}
-use Rattle.xs_report.specs.Cuts.{Lacks, BeginsWith, IsNoEquation}
+use Rattle.xs_report.specs.Cuts.{Lacks, BeginsWith, IsNoEquation, IsSpaceless}
 
 pub front_free : (b : ℕ) (bytes : List ℕ) (n : ℕ) → n ≤ length bytes → ((k : ℕ) → k < n → get_or bytes k 0 ≢ b) → Lacks b (take n bytes)
 front_free b [] zero h f = tt
@@ -31,10 +31,6 @@ tail_of x y xs ys e = cc
 lines_of : (xs ys : Line) → IsLine (xs ++ ys) → IsLine xs × IsLine ys
 lines_of [] ys h = (tt, h)
 lines_of (x ∷ xs) ys h = let more : IsLine xs × IsLine ys = lines_of xs ys h.1 in ((h.0, more.0), more.1)
-
--- a word has a byte, and none of its bytes is a space
-abbrev pub IsSpaceless : Line → Type 0
-IsSpaceless w = (w ≢ []) × Lacks 32 w
 
 pub equation_made : (line name rest value : Line) → IsLine line → line ≡ name ++ rest → rest ≡ 32 ∷ 61 ∷ 32 ∷ value → IsSpaceless name → IsSpaceless value → IsEquation name value line
 equation_made line name rest value l e r n v =

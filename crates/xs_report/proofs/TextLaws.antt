@@ -1,5 +1,5 @@
 -- Text that is appended piece by piece.
-use Rattle.std.proofs.Common.{◌≡◌, ℕ, zero, suc, ◌+◌, ◌<◌, ◌≤◌, List, [], ◌∷◌, ◌++◌, length, get_or, drop, Some, None, refl, sym, ◌∙◌, ap, subst, arith, reverse}
+use Rattle.std.proofs.Common.{◌≡◌, ℕ, zero, suc, ◌+◌, ◌<◌, ◌≤◌, List, [], ◌∷◌, ◌++◌, length, get_or, drop, Some, None, refl, sym, ◌∙◌, ap, subst, arith, add-one, reverse}
 use Rattle.std.specs.Prelude.{slice_get, map}
 use Rattle.std.proofs.lemmas.List.{append_assoc, append-nil, length-map, length-reverse, drop_more, reverse-reverse}
 use Rattle.xs_tree.specs.ProgramTree.{Text, Path}
@@ -73,3 +73,21 @@ pub moment_more : (m : FlatModel) (symbols : List Text) (trace : List (List Numb
 moment_more m symbols trace i v e =
     ap (λ t. fed (trace_lines m i (told_trace symbols t))) (drop_item trace i v e)
     ∙ fed_joined (moment_line i ∷ value_lines m.variables (told_moment symbols v)) (trace_lines m (suc i) (told_trace symbols (drop (suc i) trace)))
+
+-- one line on, and past the last value
+pub values_on : (symbols : List Text) (xs : List Variable) (v : List Numbered) (i : ℕ) (x : Variable) (w : Numbered) (before after whole : List ℕ) → slice_get xs i ≡ Some x → slice_get v i ≡ Some w →
+    after ≡ before ++ (value_line (variable_tree x) (told_value symbols w) ++ 10 ∷ []) → before ++ lines_from symbols xs v i ≡ whole → after ++ lines_from symbols xs v (i + 1) ≡ whole
+values_on symbols xs v i x w before after whole e f a b =
+    ap (λ k. after ++ lines_from symbols xs v k) (add-one i) ∙ ap (λ t. t ++ lines_from symbols xs v (suc i)) a ∙ append_assoc before (value_line (variable_tree x) (told_value symbols w) ++ 10 ∷ []) (lines_from symbols xs v (suc i))
+    ∙ ap (λ t. before ++ t) (sym (line_more symbols xs v i x w e f)) ∙ b
+
+pub values_past : (symbols : List Text) (xs : List Variable) (v : List Numbered) (i : ℕ) (before whole : List ℕ) → length v ≤ i → before ++ lines_from symbols xs v i ≡ whole → before ++ lines_from symbols xs v (i + 1) ≡ whole
+values_past symbols xs v i before whole h b = ap (λ t. before ++ t) (line_past symbols xs v (i + 1) (omega (arith, h)) ∙ sym (line_past symbols xs v i h)) ∙ b
+
+-- one moment on
+pub moments_on : (m : FlatModel) (symbols : List Text) (trace : List (List Numbered)) (i : ℕ) (v : List Numbered) (before after whole : List ℕ) → slice_get trace i ≡ Some v →
+    after ≡ before ++ fed (moment_line i ∷ value_lines m.variables (told_moment symbols v)) → before ++ moments_from m symbols trace i ≡ whole → after ++ moments_from m symbols trace (i + 1) ≡ whole
+moments_on m symbols trace i v before after whole e a b =
+    ap (λ k. after ++ moments_from m symbols trace k) (add-one i) ∙ ap (λ t. t ++ moments_from m symbols trace (suc i)) a
+    ∙ append_assoc before (fed (moment_line i ∷ value_lines m.variables (told_moment symbols v))) (moments_from m symbols trace (suc i))
+    ∙ ap (λ t. before ++ t) (sym (moment_more m symbols trace i v e)) ∙ b

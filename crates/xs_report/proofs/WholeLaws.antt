@@ -1,8 +1,9 @@
 -- The whole text: what is wrong first with it, or the trace that it gives.
-use Rattle.std.proofs.Common.{◌≡◌, ◌≢◌, ◌⊎◌, inl, inr, ℕ, zero, suc, ◌+◌, ◌-◌, ◌<◌, ◌≤◌, List, [], ◌∷◌, ◌++◌, length, refl, sym, ◌∙◌, ap, subst, arith, append_assoc, length-append, Bool, true, false, Some, None}
+use Rattle.std.proofs.Common.{◌≡◌, ◌≢◌, ◌⊎◌, inl, inr, ℕ, zero, suc, ◌+◌, ◌-◌, ◌<◌, ◌≤◌, List, [], ◌∷◌, ◌++◌, length, refl, sym, ◌∙◌, ap, subst, arith, append_assoc, length-append, replicate, Bool, true, false, Some, None}
 use Rattle.std.specs.Prelude.{slice_get, map, IsTrue, if◌then◌else◌}
 use Rattle.std.specs.List.{AllByRecursion}
 use Rattle.std.proofs.lemmas.Option.{slice_get_within}
+use Rattle.std.proofs.lemmas.List.{length-replicate}
 use Rattle.xs_tree.specs.ProgramTree.{Text}
 use Rattle.xs_tree.specs.Texts.{same_text}
 use Rattle.xs_tree.specs.Values.{Value}
@@ -60,6 +61,16 @@ before_all m r none nothing many fresh = record {
     no_line : (front : List Line) (line : Line) (back : List Line) → [] ≡ front ++ line ∷ back → ⊥
     no_line [] line back e = no_items line back [] refl e
     no_line (x ∷ front) line back e = no_items x (front ++ line ∷ back) [] refl e
+
+-- as many slots as variables, none of which was given a value
+pub first_after : (m : FlatModel) (r : Reading) (n : ℕ) (s : Slot) → r.begun ≡ 0 → r.moments ≡ [] → r.slots.items ≡ replicate n s → s.moment ≡ 0 → n ≡ length m.variables → IsAfter m [] r
+first_after m r n s none nothing same zeroth many =
+    before_all m r none nothing (ap length same ∙ length-replicate n s ∙ many) (λ i t e. ap (λ (u : Slot). u.moment) (all_same n i t (ap (λ ss. slice_get ss i) (sym same) ∙ e)) ∙ zeroth)
+  where
+    all_same : (n i : ℕ) (t : Slot) → slice_get (replicate n s) i ≡ Some t → t ≡ s
+    all_same zero i t e = absurd (never t e)
+    all_same (suc n) zero t e = sym (some_same s t e)
+    all_same (suc n) (suc i) t e = all_same n i t e
 
 -- A wrong line.
 line_wrong : (m : FlatModel) (bytes rest line after : List ℕ) (lines : List Line) (f : LineFault) → AreSound m lines → bytes ≡ fed lines ++ rest → AllByRecursion IsLine lines → IsLineThen rest line after → IsLeast m lines line f →

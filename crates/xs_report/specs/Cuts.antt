@@ -13,6 +13,10 @@ abbrev pub BeginsWith : ℕ → List ℕ → Type 0
 BeginsWith b [] = Unit {0}
 BeginsWith b (c ∷ cs) = c ≡ b
 
+-- a word has a byte, and none of its bytes is a space
+abbrev pub IsSpaceless : Line → Type 0
+IsSpaceless w = (w ≢ []) × Lacks 32 w
+
 -- the bytes are a line, its feed and more
 pub record IsLineThen (bytes line after : List ℕ) : Type 0 where
   pub is_line : IsLine line

@@ -4,7 +4,7 @@ ghost use Rattle.std.specs.Prelude.{◌≡◌, ◌≢◌, ◌↔◌, ℕ, ◌<�
 ghost use Rattle.xs_lines.specs.Lines.{IsLine};
 ghost use Rattle.xs_trace_text.specs.TraceText.{moment_line};
 ghost use Rattle.xs_trace_text.specs.Wrong.{IsEquation};
-ghost use Rattle.xs_report.specs.Cuts.{Lacks, BeginsWith, IsLineThen, IsNoEquation};
+ghost use Rattle.xs_report.specs.Cuts.{Lacks, BeginsWith, IsLineThen, IsNoEquation, IsSpaceless};
 
 use std::alloc::Global;
 use xs_value::OutOfMemory;
@@ -50,8 +50,14 @@ pub(crate) fn equation_words(line: &[u8]) -> Option<(&[u8], &[u8])>
 {
     let (name, rest) = cut(line, b' ');
     match after_equals(rest) {
-        Some(value) if is_word(name) && is_word(value) => Some((name, value)),
-        _ => None,
+        Some(value) => {
+            if are_words(name, value) {
+                Some((name, value))
+            } else {
+                None
+            }
+        }
+        None => None,
     }
 }
 
@@ -65,9 +71,16 @@ fn after_equals(bytes: &[u8]) -> Option<&[u8]>
     }
 }
 
+/// Whether both are words.
+fn are_words(name: &[u8], value: &[u8]) -> bool
+    ensures { IsTrue result ↔ IsSpaceless name.now × IsSpaceless value.now }
+{
+    is_word(name) && is_word(value)
+}
+
 /// Whether there is a byte, and none is a space.
 fn is_word(bytes: &[u8]) -> bool
-    ensures { IsTrue result ↔ (bytes.now ≢ []) × Lacks 32 bytes.now }
+    ensures { IsTrue result ↔ IsSpaceless bytes.now }
 {
     0 < bytes.len() && length_before(bytes, b' ') == bytes.len()
 }
