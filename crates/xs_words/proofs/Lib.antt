@@ -7,3 +7,5 @@ pub mod StepLemmas
 pub mod CompleteLemmas
 pub mod MadeLemmas
 pub mod ReadingLaws
+pub mod SeenLemmas
+mod Examples
