@@ -1,4 +1,4 @@
-use Rattle.std.proofs.Common.{◌≡◌, Option, Result, Ok, Err, ap, subst, sym, ◌∙◌, IfOk}
+use Rattle.std.proofs.Common.{Result, Ok, Err, subst, IfOk}
 use Rattle.xs_scope.specs.ModelTree.{model_tree}
 use Rattle.xs_report.specs.Lookups.{IsFoundAt}
 use Rattle.xs_report.specs.ValueReading.{IsReadIn}
