@@ -48,6 +48,6 @@ pub returns-clause-cause : goal.returns-clause-cause
 returns-clause-cause c = λ lines h.
     if_err (IsRefusedLine (model_tree c.args.lookup.now.typed.now.model) c.args.self.now c.args.line.now) (IsCauseOf (model_tree c.args.lookup.now.typed.now.model) lines c.args.line.now) c.take_value.result
     (λ made f.
-        line_cause (model_tree c.args.lookup.now.typed.now.model) c.requires.printable lines c.args.line.now c.args.self.now made h (some_long c.args.line.now (sym c.is_empty.ensures ∙ c.if-is_empty.false))
-        (λ e. clash (sym (c.in_ok-is_moment_line.ensures.1 e) ∙ c.if-branch.false)) f)
+    line_cause (model_tree c.args.lookup.now.typed.now.model) c.requires.printable lines c.args.line.now c.args.self.now made h (some_long c.args.line.now (sym c.is_empty.ensures ∙ c.if-is_empty.false))
+    (λ e. clash (sym (c.in_ok-is_moment_line.ensures.1 e) ∙ c.if-branch.false)) f)
     c.take_value.ensures.err
