@@ -1,14 +1,13 @@
 -- What is wrong with a line.
-use Rattle.std.proofs.Common.{◌≡◌, ◌≢◌, ◌⊎◌, inl, inr, ℕ, suc, ◌<◌, ◌≤◌, List, [], ◌∷◌, ◌++◌, length, Some, refl, sym, ◌∙◌, ap, subst, arith}
+use Rattle.std.proofs.Common.{◌≡◌, ◌≢◌, inl, inr, ℕ, ◌<◌, ◌≤◌, List, [], ◌∷◌, ◌++◌, length, Some, sym, ◌∙◌, ap, subst, arith}
 use Rattle.std.specs.Prelude.{slice_get, IsTrue}
-use Rattle.xs_tree.specs.ProgramTree.{Text}
 use Rattle.xs_tree.specs.Values.{Value}
 use Rattle.xs_tree.specs.Trace.{in_domain}
 use Rattle.xs_flattening.specs.Flat.{FlatVariable, FlatModel}
 use Rattle.xs_flattening.proofs.Lists.{get_within}
 use Rattle.std.proofs.lemmas.Option.{slice_get_within}
 use Rattle.xs_lines.specs.Lines.{Line}
-use Rattle.xs_trace_text.specs.TraceText.{value_text, variable_text, moment_line, equation}
+use Rattle.xs_trace_text.specs.TraceText.{value_text, moment_line, equation}
 use Rattle.xs_trace_text.specs.Given.{IsPrintable}
 use Rattle.xs_trace_text.specs.Wrong.{LineFault, bad_line, unknown_name, outside, twice, number_of, moments_after, IsEquation, IsNameIn, WasSaid, Breaks, IsLeast}
 use Rattle.xs_trace_text.proofs.OneTrace.{same_equation}
@@ -18,8 +17,8 @@ use Rattle.xs_report.specs.declared.reading.Slot.{Slot}
 use Rattle.xs_report.specs.declared.reading.Reading.{Reading}
 use Rattle.xs_report.specs.Cuts.{IsNoEquation}
 use Rattle.xs_report.specs.Faults.{IsCauseOf}
-use Rattle.xs_report.specs.Lookups.{IsNamedAt, IsValueAt, HasNoValue}
-use Rattle.xs_report.specs.Reading.{IsGiven, IsAfter, IsTaken, IsRefusal, IsRefusedEquation, IsRefusedLine}
+use Rattle.xs_report.specs.Lookups.{IsNamedAt, HasNoValue}
+use Rattle.xs_report.specs.Reading.{IsGiven, IsAfter, IsTaken, IsRefusal, IsRefusedLine}
 use Rattle.xs_report.specs.Told.{told_value}
 
 some_same : {A : Type 0} (x y : A) → Some x ≡ Some y → x ≡ y

@@ -1,5 +1,5 @@
 -- The trace of the lines of a text, from the valuations whose values are said in its moments.
-use Rattle.std.proofs.Common.{◌≡◌, ◌≢◌, ◌⊎◌, inl, inr, ℕ, zero, suc, ◌+◌, ◌<◌, ◌≤◌, List, [], ◌∷◌, ◌++◌, length, refl, sym, ◌∙◌, ap, subst, arith, append_assoc, length-append, Some, None}
+use Rattle.std.proofs.Common.{◌≡◌, ◌⊎◌, inl, inr, ℕ, zero, suc, ◌+◌, ◌≤◌, List, [], ◌∷◌, ◌++◌, length, refl, sym, ◌∙◌, ap, subst, arith, append_assoc, length-append, Some}
 use Rattle.std.specs.Prelude.{slice_get}
 use Rattle.xs_tree.specs.Values.{Value}
 use Rattle.xs_flattening.specs.Flat.{FlatVariable, FlatModel}
@@ -78,8 +78,13 @@ moments_collected m p (suc fuel) whole done lines n w short e are (inr h) (v ∷
         (o.rest ≡ []) ⊎ ((more : List Line) × (o.rest ≡ moment_line (suc n) ∷ more)) → (trace : List (List Value)) → suc n + length trace ≡ moments_after 0 whole →
         ((k : ℕ) (v : List Value) → slice_get trace k ≡ Some v → IsTold m whole v (suc (suc n + k))) → GivesMoments m (suc n) o.rest trace) →
         GivesMoments m n lines (v ∷ trace)
-    of_own o more = (o.own, o.rest, h.1 ∙ ap (λ ls. moment_line n ∷ ls) o.lie, moment_given m p (done ++ moment_line n ∷ []) o.own n begun o.own_are o.quiet values,
-      more o grouped shorter after o.rest_are at trace (omega (arith, count)) (λ k u f. subst (IsTold m whole u) (omega arith) (told (suc k) u f)))
+    of_own o more = (
+      o.own,
+      o.rest,
+      h.1 ∙ ap (λ ls. moment_line n ∷ ls) o.lie,
+      moment_given m p (done ++ moment_line n ∷ []) o.own n begun o.own_are o.quiet values,
+      more o grouped shorter after o.rest_are at trace (omega (arith, count)) (λ k u f. subst (IsTold m whole u) (omega arith) (told (suc k) u f)),
+    )
       where
         after : moments_after 0 ((done ++ moment_line n ∷ []) ++ o.own) ≡ suc n
         after = after_both 0 (done ++ moment_line n ∷ []) o.own ∙ ap (λ j. moments_after j o.own) begun ∙ none_begins (suc n) o.own o.quiet

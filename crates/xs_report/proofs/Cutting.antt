@@ -4,7 +4,6 @@ use Rattle.std.specs.Fmt.{decimal}
 use Rattle.xs_lines.specs.Lines.{Line, IsLine}
 use Rattle.xs_lines.proofs.Separators.{same_front, no_separator}
 use Rattle.xs_trace_text.specs.TraceText.{moment_line, equation}
-use Rattle.xs_trace_text.specs.Given.{IsLineWord}
 use Rattle.xs_trace_text.specs.Wrong.{IsEquation}
 use Rattle.xs_report.specs.Cuts.{Lacks, BeginsWith, IsNoEquation, IsSpaceless}
 

@@ -1,6 +1,6 @@
 -- Variables that are found by their printed names, and values of their types by their texts.
 use lib.Signed.{mag}
-use Rattle.std.proofs.Common.{◌≡◌, ◌≢◌, ◌↔◌, ℕ, zero, suc, ◌<◌, ◌≤◌, ◌^◌, Bool, true, false, List, [], ◌∷◌, length, Option, Some, None, refl, sym, ◌∙◌, ap, subst, arith, ℤ, pos, negsuc, option_map}
+use Rattle.std.proofs.Common.{◌≡◌, ◌≢◌, ◌↔◌, ℕ, zero, suc, ◌<◌, ◌^◌, Bool, true, false, List, [], ◌∷◌, length, Option, Some, None, refl, sym, ◌∙◌, ap, subst, arith, ℤ, pos, negsuc, option_map}
 use Rattle.std.specs.Prelude.{slice_get, IsTrue, map}
 use Rattle.std.proofs.lemmas.Option.{slice_get-map}
 use Rattle.xs_tree.specs.ProgramTree.{Text, DeclaredTree, boolean, range, members, instance, declared_tree}
@@ -10,7 +10,7 @@ use Rattle.xs_tree.specs.Trace.{in_domain}
 use Rattle.xs_tree.specs.Printed.{IsEnd}
 use Rattle.xs_tree.specs.WritableProgram.{IsWritableType}
 use Rattle.xs_tree.proofs.ValueLaws.{same_text_equal, same_text_refl}
-use Rattle.xs_flattening.specs.Flat.{FlatVariable, FlatModel as ModelTree}
+use Rattle.xs_flattening.specs.Flat.{FlatVariable}
 use Rattle.xs_kinds.specs.Costs.{symbol_number}
 use Rattle.xs_scope.specs.declared.model.FlatModel.{FlatModel}
 use Rattle.xs_scope.specs.declared.model.Variable.{Variable}
@@ -24,12 +24,12 @@ use Rattle.xs_value.specs.declared.value.Value.{Value as Numbered}
 use Rattle.xs_value.specs.declared.value.Value.TheVariants.{Bool as ABool, Num, Sym}
 use Rattle.xs_value.specs.Domains.{Has}
 use Rattle.xs_types.specs.Numbering.{number_from}
-use Rattle.xs_types.specs.Types.{StandsFor, IsType, HasValuesOf, AreValuesOf}
+use Rattle.xs_types.specs.Types.{StandsFor, IsType, AreValuesOf}
 use Rattle.xs_report.specs.Told.{told_value}
 use Rattle.xs_report.specs.Names.{printed_name}
 use Rattle.xs_trace_text.specs.Given.{HasItsSymbols}
 use Rattle.xs_report.specs.ValueReading.{HasText, IsShort, IsReadIn}
-use Rattle.xs_report.specs.Lookups.{IsNamedAt, IsPlaceOf, IsValueAt, HasNoValue, IsFoundAt}
+use Rattle.xs_report.specs.Lookups.{IsNamedAt, IsFoundAt}
 use Rattle.xs_report.proofs.ValueLaws.{StandsAt, number_stands, none_stands, symbol_text}
 
 some_same : {A : Type 0} (x y : A) → Some x ≡ Some y → x ≡ y

@@ -1,14 +1,14 @@
 -- Where lines stand, and how many moments have begun there.
-use Rattle.std.proofs.Common.{◌≡◌, ◌≢◌, ◌⊎◌, inl, inr, ℕ, zero, suc, ◌<◌, ◌≤◌, List, [], ◌∷◌, ◌++◌, length, refl, sym, ◌∙◌, ap, subst, arith, append_assoc}
+use Rattle.std.proofs.Common.{◌≡◌, ◌≢◌, ◌⊎◌, inl, inr, ℕ, suc, ◌<◌, ◌≤◌, List, [], ◌∷◌, ◌++◌, refl, sym, ◌∙◌, ap, subst, arith}
 use Rattle.std.specs.List.{AllByRecursion}
-use Rattle.xs_flattening.specs.Flat.{FlatVariable, FlatModel}
+use Rattle.xs_flattening.specs.Flat.{FlatModel}
 use Rattle.xs_lines.specs.Lines.{Line, IsLine}
 use Rattle.xs_trace_text.specs.Given.{IsPrintable}
 use Rattle.xs_trace_text.specs.TraceText.{variable_text, moment_line, equation}
 use Rattle.xs_trace_text.specs.Wrong.{LineFault, moments_after, Breaks, AreSound, Lacks}
 use Rattle.xs_trace_text.proofs.OneTrace.{no_items, head_of, tail_of, both_of, no_moment}
 use Rattle.xs_trace_text.proofs.Moments.{after_both, no_fewer, next_begins, other_line}
-use Rattle.xs_trace_text.proofs.LineJudged.{AllAre, LineIs, Stops}
+use Rattle.xs_trace_text.proofs.LineJudged.{AllAre, Stops}
 use Rattle.xs_trace_text.proofs.LinesJudged.{judge_lines}
 
 -- A line of lines with one more at the end is one of them, or the last.

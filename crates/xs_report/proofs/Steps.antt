@@ -1,6 +1,6 @@
 -- What stands after one more line.
 use Rattle.std.proofs.Common.{◌≡◌, ◌≢◌, ◌⊎◌, inl, inr, ℕ, zero, suc, ◌+◌, ◌-◌, ◌<◌, ◌≤◌, Bool, true, false, ◌&&◌, nat_eq, nat_lt, List, [], ◌∷◌, ◌++◌, length, Some, None, refl, sym, ◌∙◌, ap, subst, arith, append_assoc, length-append, eqb-true, eq-eqb, ltb-true}
-use Rattle.std.specs.Prelude.{slice_get, slice_set, map, IsTrue, if◌then◌else◌}
+use Rattle.std.specs.Prelude.{slice_get, slice_set, IsTrue, if◌then◌else◌}
 use Rattle.std.specs.List.{list_all}
 use Rattle.std.proofs.lemmas.Bool.Decides.{nat_tests}
 use Rattle.std.proofs.lemmas.Option.{slice_get_within}
@@ -15,7 +15,7 @@ use Rattle.xs_lines.specs.Lines.{Line}
 use Rattle.xs_lines.proofs.Separators.{same_front}
 use Rattle.xs_trace_text.specs.TraceText.{value_text, variable_text, moment_line, equation, value_line}
 use Rattle.xs_trace_text.specs.Given.{IsLineWord, IsPrintable}
-use Rattle.xs_trace_text.specs.Wrong.{LineFault, moments_after, IsEquation, WasSaid, Breaks, AreSound, Lacks}
+use Rattle.xs_trace_text.specs.Wrong.{moments_after, IsEquation, WasSaid, Breaks, Lacks}
 use Rattle.xs_trace_text.proofs.OneTrace.{some_moment, no_moment, equation_some}
 use Rattle.xs_trace_text.proofs.OneFault.{empty_breaks}
 use Rattle.xs_trace_text.proofs.GivenHasNone.{moment_sound}
@@ -24,8 +24,7 @@ use Rattle.xs_value.specs.declared.value.Value.{Value as Numbered}
 use Rattle.xs_report.specs.declared.reading.Slot.{Slot}
 use Rattle.xs_report.specs.declared.reading.Reading.{Reading}
 use Rattle.xs_report.specs.Told.{told_value}
-use Rattle.xs_report.specs.Lookups.{IsNamedAt, IsValueAt}
-use Rattle.xs_report.specs.Reading.{IsGiven, IsSilent, IsLast, IsSaid, AreSaid, IsAfter, is_complete, values_of, with_last, ended, IsFree, IsGivenTo, Gives}
+use Rattle.xs_report.specs.Reading.{IsGiven, IsSilent, IsLast, IsSaid, AreSaid, IsAfter, values_of, with_last, Gives}
 use Rattle.xs_report.proofs.Positions.{last_or_in, sound_more, still, one_begins, front_begun, lacks_more, lacks_at_moment}
 
 some_same : {A : Type 0} (x y : A) → Some x ≡ Some y → x ≡ y

@@ -2,9 +2,8 @@
 use Rattle.std.proofs.Common.{◌≡◌, ℕ, zero, suc, ◌+◌, ◌<◌, ◌≤◌, List, [], ◌∷◌, ◌++◌, length, get_or, drop, Some, None, refl, sym, ◌∙◌, ap, subst, arith, add-one, reverse}
 use Rattle.std.specs.Prelude.{slice_get, map}
 use Rattle.std.proofs.lemmas.List.{append_assoc, append-nil, length-map, length-reverse, drop_more, reverse-reverse}
-use Rattle.xs_tree.specs.ProgramTree.{Text, Path}
+use Rattle.xs_tree.specs.ProgramTree.{Text}
 use Rattle.xs_tree.specs.Text.{dotted_text}
-use Rattle.xs_tree.specs.Values.{Value}
 use Rattle.xs_flattening.specs.Flat.{FlatVariable, FlatModel}
 use Rattle.xs_lines.specs.Lines.{fed}
 use Rattle.xs_lines.proofs.Cuts.{fed_joined}

@@ -1,6 +1,6 @@
 -- Which value a text is read as.
 use lib.Signed.{mag}
-use Rattle.std.proofs.Common.{◌≡◌, ◌≢◌, ◌⊎◌, inl, inr, ℕ, zero, suc, ◌+◌, ◌<◌, ◌^◌, Bool, true, false, List, [], ◌∷◌, length, Option, Some, None, refl, sym, ◌∙◌, ap, subst, arith, codes, ℤ}
+use Rattle.std.proofs.Common.{◌≡◌, ◌≢◌, inl, inr, ℕ, zero, suc, ◌+◌, ◌<◌, ◌^◌, Bool, true, false, List, [], ◌∷◌, length, Option, Some, None, refl, sym, ◌∙◌, ap, subst, arith, codes, ℤ}
 use Rattle.std.specs.Prelude.{slice_get, if◌then◌else◌}
 use Rattle.std.specs.Fmt.{signed_decimal}
 use Rattle.std.proofs.lemmas.Fmt.{signed_decimal_injective}
@@ -16,9 +16,8 @@ use Rattle.xs_value.specs.declared.value.Value.{Value as Numbered}
 use Rattle.xs_value.specs.declared.value.Value.TheVariants.{Bool as ABool, Num, Sym}
 use Rattle.xs_value.specs.Domains.{Has}
 use Rattle.xs_types.specs.Numbering.{number_from}
-use Rattle.xs_types.specs.Types.{StandsFor}
 use Rattle.xs_types.proofs.NumberingLaws.{number_told}
-use Rattle.xs_report.specs.Told.{text_at, told_value}
+use Rattle.xs_report.specs.Told.{text_at}
 use Rattle.xs_report.specs.ValueReading.{HasText, IsTruth, IsNumber, IsSymbol, IsReadOf, IsParsed, IsAmong, IsShort, IsReadIn}
 
 -- Truth values.

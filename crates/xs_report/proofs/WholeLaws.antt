@@ -1,6 +1,6 @@
 -- The whole text: what is wrong first with it, or the trace that it gives.
-use Rattle.std.proofs.Common.{◌≡◌, ◌≢◌, ◌⊎◌, inl, inr, ℕ, zero, suc, ◌+◌, ◌-◌, ◌<◌, ◌≤◌, List, [], ◌∷◌, ◌++◌, length, refl, sym, ◌∙◌, ap, subst, arith, append_assoc, length-append, replicate, Bool, true, false, Some, None}
-use Rattle.std.specs.Prelude.{slice_get, map, IsTrue, if◌then◌else◌}
+use Rattle.std.proofs.Common.{◌≡◌, ◌≢◌, ◌⊎◌, inl, inr, ℕ, zero, suc, ◌+◌, ◌-◌, ◌<◌, ◌≤◌, List, [], ◌∷◌, ◌++◌, length, refl, sym, ◌∙◌, ap, subst, arith, length-append, replicate, Bool, true, false, Some, None}
+use Rattle.std.specs.Prelude.{slice_get, IsTrue, if◌then◌else◌}
 use Rattle.std.specs.List.{AllByRecursion}
 use Rattle.std.proofs.lemmas.Option.{slice_get_within}
 use Rattle.std.proofs.lemmas.List.{length-replicate}
@@ -13,9 +13,9 @@ use Rattle.xs_flattening.specs.FlatTrace.{AreInDomains}
 use Rattle.xs_flattening.proofs.Lists.{get_within}
 use Rattle.xs_lines.specs.Lines.{Line, fed, IsLine}
 use Rattle.xs_lines.proofs.Separators.{fed_end}
-use Rattle.xs_trace_text.specs.TraceText.{value_text, variable_text, moment_line}
+use Rattle.xs_trace_text.specs.TraceText.{value_text, moment_line}
 use Rattle.xs_trace_text.specs.Given.{IsPrintable, GivesMoments, BytesGive}
-use Rattle.xs_trace_text.specs.Wrong.{LineFault, bad_line, unknown_name, outside, twice, moments_after, AreSound, IsLeast, IsWrongLine, IsBlank, Lacks, Misses}
+use Rattle.xs_trace_text.specs.Wrong.{LineFault, bad_line, unknown_name, outside, twice, moments_after, AreSound, IsLeast, IsWrongLine, Lacks, Misses}
 use Rattle.xs_trace_text.proofs.OneTrace.{no_items}
 use Rattle.xs_trace_text.proofs.Moments.{after_both, none_begins, no_fewer, next_begins}
 use Rattle.xs_trace_text.proofs.LineJudged.{AllAre}
@@ -29,7 +29,7 @@ use Rattle.xs_report.specs.declared.reading.Slot.{Slot}
 use Rattle.xs_report.specs.declared.reading.Reading.{Reading}
 use Rattle.xs_report.specs.Cuts.{IsLineThen}
 use Rattle.xs_report.specs.Faults.{fault_at, IsCauseOf, IsFaultOf}
-use Rattle.xs_report.specs.Reading.{IsGiven, IsLast, IsSaid, AreSaid, IsAfter, with_last, ended, IsUnfinished, IsFinished}
+use Rattle.xs_report.specs.Reading.{IsGiven, IsSaid, IsAfter, with_last, ended, IsUnfinished, IsFinished}
 use Rattle.xs_report.specs.Told.{told_value, told_moment, told_trace}
 use Rattle.xs_report.proofs.Positions.{sound_are}
 use Rattle.xs_report.proofs.LookupLaws.{IsImage, image}

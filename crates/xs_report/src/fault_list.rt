@@ -22,11 +22,7 @@ pub fn print_faults(alloc: Global, faults: &FaultList) -> Result<ByteList, OutOf
 
 /// Appends a line for each fault.
 #[tactic(auto, using(crate::proofs::TextLaws::text_rules))]
-fn append_faults(
-    alloc: Global,
-    text: &mut ByteList,
-    faults: &[Fault],
-) -> Result<(), OutOfMemory>
+fn append_faults(alloc: Global, text: &mut ByteList, faults: &[Fault]) -> Result<(), OutOfMemory>
     ensures { OnOk result (text.new ≡ text.old ++ fault_lines 1 (map name_of faults.now)) }
 {
     for (i, fault) in faults.iter().enumerate() {

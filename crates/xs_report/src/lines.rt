@@ -86,11 +86,7 @@ fn is_word(bytes: &[u8]) -> bool
 }
 
 /// Whether the line is that of the moment of this number.
-pub(crate) fn is_moment_line(
-    alloc: Global,
-    line: &[u8],
-    number: u64,
-) -> Result<bool, OutOfMemory>
+pub(crate) fn is_moment_line(alloc: Global, line: &[u8], number: u64) -> Result<bool, OutOfMemory>
     ensures { IfOk result (λ is. IsTrue is ↔ (line.now ≡ moment_line number)) }
 {
     match after_moment(line) {

@@ -72,10 +72,7 @@ impl<'a> Lookup<'a> {
 }
 
 /// The names of variables, with dots between their parts.
-pub(crate) fn printed_names(
-    alloc: Global,
-    variables: &[Variable],
-) -> Result<NameList, OutOfMemory>
+pub(crate) fn printed_names(alloc: Global, variables: &[Variable]) -> Result<NameList, OutOfMemory>
     ensures { IfOk result (λ names. names ≡ map printed_name variables.now) }
 {
     let mut names = NameList::new(alloc);

@@ -88,12 +88,7 @@ impl Reading {
     }
 
     /// Reads a line that is not empty and begins no moment.
-    fn take_value(
-        &mut self,
-        alloc: Global,
-        lookup: &Lookup<'_>,
-        line: &[u8],
-    ) -> Result<(), Cause>
+    fn take_value(&mut self, alloc: Global, lookup: &Lookup<'_>, line: &[u8]) -> Result<(), Cause>
         requires line { IsLine line.now }
         requires printable { IsPrintable (model_tree lookup.now.typed.now.model) }
         requires symbols { HasItsSymbols (model_tree lookup.now.typed.now.model) }

@@ -14,22 +14,14 @@ use xs_value::{ByteList, MomentList, Name, OutOfMemory, Valuation, Value};
 
 /// The text of a trace of the model: for each moment, numbered from 0, the line `moment i`, and for each
 /// variable in flat order the line `name = value`.
-pub fn print_trace(
-    alloc: Global,
-    t: &Typed,
-    trace: &MomentList,
-) -> Result<ByteList, OutOfMemory>
+pub fn print_trace(alloc: Global, t: &Typed, trace: &MomentList) -> Result<ByteList, OutOfMemory>
     ensures { IfOk result (λ text. text ≡ trace_text (model_tree t.now.model) (told_trace t.now.model.symbols trace.now)) }
 {
     print_moments(alloc, t.model(), trace.as_slice())
 }
 
 #[tactic(auto, using(crate::proofs::TextLaws::text_rules))]
-fn print_moments(
-    alloc: Global,
-    m: &FlatModel,
-    trace: &[Valuation],
-) -> Result<ByteList, OutOfMemory>
+fn print_moments(alloc: Global, m: &FlatModel, trace: &[Valuation]) -> Result<ByteList, OutOfMemory>
     ensures { IfOk result (λ text. text ≡ trace_text (model_tree m.now) (told_trace m.now.symbols trace.now)) }
 {
     let mut text = ByteList::new(alloc);

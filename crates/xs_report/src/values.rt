@@ -45,13 +45,7 @@ fn among(domain: &Domain, value: Option<Value>) -> Option<Value>
     ensures { IsAmong domain.now value result }
 {
     match value {
-        Some(value) => {
-            if domain.has(value) {
-                Some(value)
-            } else {
-                None
-            }
-        }
+        Some(value) => { if domain.has(value) { Some(value) } else { None } }
         None => None,
     }
 }

@@ -33,11 +33,7 @@ pub fn read_trace(alloc: Global, t: &Typed, bytes: &[u8]) -> Result<MomentList, 
 }
 
 /// Reads line after line.
-fn read_lines(
-    alloc: Global,
-    lookup: &Lookup<'_>,
-    bytes: &[u8],
-) -> Result<MomentList, TraceFault>
+fn read_lines(alloc: Global, lookup: &Lookup<'_>, bytes: &[u8]) -> Result<MomentList, TraceFault>
     requires printable { IsPrintable (model_tree lookup.now.typed.now.model) }
     requires symbols { HasItsSymbols (model_tree lookup.now.typed.now.model) }
     ensures trace { IfOk result (λ trace. BytesGive (model_tree lookup.now.typed.now.model) bytes.now (told_trace lookup.now.typed.now.model.symbols trace)) }

@@ -1,4 +1,4 @@
-use Rattle.std.proofs.Common.{◌≡◌, ◌++◌, sym, ◌∙◌, ap, subst, take, drop}
+use Rattle.std.proofs.Common.{◌++◌, sym, ◌∙◌, ap, subst, drop}
 use Rattle.std.proofs.lemmas.List.{take-append-drop}
 use Rattle.xs_report.specs.Cuts.{Lacks, BeginsWith}
 use Rattle.xs_report.proofs.Cutting.{front_free, back_begins}

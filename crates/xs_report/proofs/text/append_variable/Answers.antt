@@ -1,5 +1,4 @@
-use Rattle.std.proofs.Common.{◌≡◌, ◌++◌, Result, Ok, Err, refl, sym, ◌∙◌, ap, subst, OnOk, ◌<◌, length}
-use Rattle.xs_tree.specs.Text.{dotted_text}
+use Rattle.std.proofs.Common.{sym}
 use Rattle.xs_report.proofs.TextLaws.{path_text}
 use Rattle.xs_report.proofs.text.append_variable.Goals as goal
 

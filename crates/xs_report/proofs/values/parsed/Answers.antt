@@ -1,5 +1,5 @@
 use lib.Signed.{mag}
-use Rattle.std.proofs.Common.{◌≡◌, ◌<◌, ◌^◌, ℤ, pos, negsuc, w64, rules, sym, ◌∙◌, ap, subst, arith}
+use Rattle.std.proofs.Common.{◌<◌, ◌^◌, ℤ, pos, negsuc, w64, rules, sym, ◌∙◌, ap, subst, arith}
 use Rattle.std.specs.Int.RustNames.{FitsSigned}
 use Rattle.std.specs.Result.{result_ok}
 use Rattle.std.proofs.lemmas.Fmt.{parse-signed_decimal, IsAscii-signed}

@@ -1,4 +1,4 @@
-use Rattle.std.proofs.Common.{rules, w64, Fits, ◌+◌, ◌≡◌, ◌≢◌, ◌<◌, ◌≤◌, List, ℕ, [], ◌∷◌, length, Bool, true, false, Result, Ok, Err, refl, sym, ◌∙◌, ap, subst, arith, IfOk, IfErr, map}
+use Rattle.std.proofs.Common.{rules, w64, Fits, ◌+◌, ◌≡◌, ◌≢◌, ◌<◌, ◌≤◌, List, ℕ, [], ◌∷◌, length, false, Result, Ok, Err, refl, sym, ◌∙◌, ap, arith, IfOk, IfErr}
 use Rattle.std.proofs.lemmas.List.{length-map}
 use Rattle.xs_scope.specs.ModelTree.{model_tree, variable_tree}
 use Rattle.xs_value.specs.declared.value.Value.TheVariants.{Bool as ABool}
@@ -6,7 +6,7 @@ use Rattle.xs_trace_text.specs.Given.{BytesGive}
 use Rattle.xs_report.specs.Faults.{IsFaultOf}
 use Rattle.xs_report.specs.Reading.{IsFinished, IsUnfinished, ended}
 use Rattle.xs_report.specs.Told.{told_trace}
-use Rattle.xs_report.proofs.WholeLaws.{first_after, read_start, read_more, read_few, begun_fewer, read_cause, read_tail, read_fault, read_gives}
+use Rattle.xs_report.proofs.WholeLaws.{first_after, read_start, read_more, read_few, begun_fewer, read_tail, read_fault, read_gives}
 use Rattle.xs_report.proofs.whole.read_lines.Goals as goal
 
 none_left : (xs : List ℕ) → length xs ≤ 0 → xs ≡ []

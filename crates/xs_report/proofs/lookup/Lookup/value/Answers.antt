@@ -1,4 +1,4 @@
-use Rattle.std.proofs.Common.{◌≡◌, Option, Result, Ok, Err, ap, subst, sym, ◌∙◌, IfOk}
+use Rattle.std.proofs.Common.{Result, Ok, Err, subst, IfOk}
 use Rattle.xs_scope.specs.ModelTree.{model_tree}
 use Rattle.xs_report.specs.Lookups.{IsFoundAt}
 use Rattle.xs_report.specs.ValueReading.{IsReadIn}
@@ -13,6 +13,6 @@ pub returns : goal.returns
 returns c =
     if_ok (IsReadIn c.args.self.now.symbols.texts.now c.domain.result.now c.args.text.now) (IsFoundAt (model_tree c.args.self.now.typed.now.model) c.args.place c.args.text.now) c.value_of.result
     (λ o read.
-        value_found c.args.self.now.typed.now.model c.args.place c.domain.result.now c.requires.within c.requires.printable c.requires.symbols c.domain.ensures.values c.args.text.now o
-        (subst (λ ts. IsReadIn ts c.domain.result.now c.args.text.now o) c.args.self.now.own read))
+    value_found c.args.self.now.typed.now.model c.args.place c.domain.result.now c.requires.within c.requires.printable c.requires.symbols c.domain.ensures.values c.args.text.now o
+    (subst (λ ts. IsReadIn ts c.domain.result.now c.args.text.now o) c.args.self.now.own read))
     c.value_of.ensures

@@ -1,7 +1,5 @@
-use Rattle.std.proofs.Common.{◌≡◌, ◌≢◌, ◌++◌, List, ℕ, [], ◌∷◌, length, Bool, true, false, nat_eq, Result, Ok, Err, refl, sym, ◌∙◌, ap, subst, arith, eqb-true, OnOk, IfErr}
+use Rattle.std.proofs.Common.{◌≡◌, ◌≢◌, ◌++◌, List, ℕ, [], ◌∷◌, length, true, false, nat_eq, Result, Ok, Err, refl, sym, ◌∙◌, ap, arith, eqb-true, OnOk, IfErr}
 use Rattle.xs_scope.specs.ModelTree.{model_tree}
-use Rattle.xs_lines.specs.Lines.{Line}
-use Rattle.xs_trace_text.specs.TraceText.{moment_line}
 use Rattle.xs_report.specs.Reading.{Begins, GivesLine, IsRefusedLine, IsAfter}
 use Rattle.xs_report.specs.Faults.{IsCauseOf}
 use Rattle.xs_report.proofs.Steps.{after_empty, after_value, after_moment}
@@ -50,6 +48,6 @@ pub returns-clause-cause : goal.returns-clause-cause
 returns-clause-cause c = λ lines h.
     if_err (IsRefusedLine (model_tree c.args.lookup.now.typed.now.model) c.args.self.now c.args.line.now) (IsCauseOf (model_tree c.args.lookup.now.typed.now.model) lines c.args.line.now) c.take_value.result
     (λ made f.
-        line_cause (model_tree c.args.lookup.now.typed.now.model) c.requires.printable lines c.args.line.now c.args.self.now made h (some_long c.args.line.now (sym c.is_empty.ensures ∙ c.if-is_empty.false))
-        (λ e. clash (sym (c.in_ok-is_moment_line.ensures.1 e) ∙ c.if-branch.false)) f)
+    line_cause (model_tree c.args.lookup.now.typed.now.model) c.requires.printable lines c.args.line.now c.args.self.now made h (some_long c.args.line.now (sym c.is_empty.ensures ∙ c.if-is_empty.false))
+    (λ e. clash (sym (c.in_ok-is_moment_line.ensures.1 e) ∙ c.if-branch.false)) f)
     c.take_value.ensures.err
