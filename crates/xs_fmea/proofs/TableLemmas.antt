@@ -30,9 +30,9 @@ same_entries row [] (c ∷ cs) t = absurd (never_empty c.sets (map (λ d. d.sets
 same_entries row (a ∷ more) [] t = absurd (never_empty a.sets (map (λ b. b.sets) more) (sym t.0))
 same_entries row (a ∷ more) (c ∷ cs) t =
     ap (λ z. z ∷ map (entry_of row) more)
-        (same_entry row a c (heads a.sets c.sets (map (λ b. b.sets) more) (map (λ d. d.sets) cs) t.0) (heads a.ending (told_ending c.ending) (map (λ b. b.ending) more) (map (λ d. told_ending d.ending) cs) t.1))
+    (same_entry row a c (heads a.sets c.sets (map (λ b. b.sets) more) (map (λ d. d.sets) cs) t.0) (heads a.ending (told_ending c.ending) (map (λ b. b.ending) more) (map (λ d. told_ending d.ending) cs) t.1))
     ∙ ap (λ z. entry_of row (told_column c) ∷ z)
-        (same_entries row more cs (tails a.sets c.sets (map (λ b. b.sets) more) (map (λ d. d.sets) cs) t.0, tails a.ending (told_ending c.ending) (map (λ b. b.ending) more) (map (λ d. told_ending d.ending) cs) t.1))
+    (same_entries row more cs (tails a.sets c.sets (map (λ b. b.sets) more) (map (λ d. d.sets) cs) t.0, tails a.ending (told_ending c.ending) (map (λ b. b.ending) more) (map (λ d. told_ending d.ending) cs) t.1))
 
 same_rows : (rows : List (List ℕ)) (found : List Analysis) (columns : List Column) → AreTold found columns →
     map (λ row. map (entry_of row) (map told_column columns)) rows ≡ map (λ row. map (entry_of row) found) rows

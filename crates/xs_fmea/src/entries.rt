@@ -7,7 +7,9 @@ ghost use Rattle.xs_reporting.specs.ExtendedTraces.{Analysis};
 ghost use Rattle.xs_reporting.specs.Tables.{entry_of, absent_entry, rows_of as rows_within};
 ghost use Rattle.xs_fmea.specs.Columns.{told_entry, told_ending, told_column, AreTold, NamesFaults, IsTableOf};
 
-use crate::columns::{Column, ColumnList, Ending, EndingList, Entry, EntryList, EntryRows, FmeaTable};
+use crate::columns::{
+    Column, ColumnList, Ending, EndingList, Entry, EntryList, EntryRows, FmeaTable,
+};
 use crate::rows::rows_of;
 use std::alloc::Global;
 use xs_value::{FaultSet, OutOfMemory};

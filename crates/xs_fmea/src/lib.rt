@@ -19,9 +19,7 @@ mod law;
 mod print;
 mod rows;
 
-pub use columns::{
-    Column, ColumnList, Ending, EndingList, Entry, EntryList, EntryRows, FmeaTable,
-};
+pub use columns::{Column, ColumnList, Ending, EndingList, Entry, EntryList, EntryRows, FmeaTable};
 pub use entries::table;
 pub use law::entries_mean_what_they_say;
 pub use print::print_table;

@@ -26,7 +26,6 @@ pub(crate) fn rows_of(alloc: Global, faults: u32, size: u32) -> Result<SetList, 
 }
 
 /// Appends the set of each fault alone.
-
 fn append_singles(alloc: Global, rows: &mut SetList, faults: u32) -> Result<(), OutOfMemory>
     ensures { OnOk result (rows.new ≡ rows.old ++ map (λ i. i ∷ []) (range_with_len 1 faults)) }
 {
@@ -40,7 +39,6 @@ fn append_singles(alloc: Global, rows: &mut SetList, faults: u32) -> Result<(), 
 }
 
 /// Appends each pair, by its first fault and then by its second.
-
 fn append_pairs(alloc: Global, rows: &mut SetList, faults: u32) -> Result<(), OutOfMemory>
     ensures { OnOk result (rows.new ≡ rows.old ++ pairs_from 1 faults) }
 {
@@ -53,7 +51,6 @@ fn append_pairs(alloc: Global, rows: &mut SetList, faults: u32) -> Result<(), Ou
 }
 
 /// Appends the pairs of the fault that has so many after it with each of those.
-
 fn append_pairs_after(
     alloc: Global,
     rows: &mut SetList,
