@@ -13,6 +13,9 @@ step rows whole left rest x h e = append_assoc rows (x ∷ []) rest ∙ (ap (λ 
 pub steps : {A : Type 0} (rows whole left rest more : List A) → rows ++ left ≡ whole → left ≡ more ++ rest → (rows ++ more) ++ rest ≡ whole
 steps rows whole left rest more h e = append_assoc rows more rest ∙ (ap (λ l. rows ++ l) (sym e) ∙ h)
 
+before : (n : ℕ) → suc n - 1 ≡ n
+before n = omega arith
+
 -- the faults of which so many are left, by their numbers
 abbrev pub numbers_left : ℕ → ℕ → List ℕ
 numbers_left faults left = range_with_len (faults - left + 1) left
@@ -20,13 +23,11 @@ numbers_left faults left = range_with_len (faults - left + 1) left
 pub left_more : (faults left : ℕ) → 0 < left → left ≤ faults → numbers_left faults left ≡ (faults - (left - 1)) ∷ numbers_left faults (left - 1)
 left_more faults zero p h = absurd (omega (arith, p))
 left_more faults (suc n) p h =
-    ap (λ k. range_with_len k (suc n)) (here faults n h) ∙ ap (λ k. (faults - n) ∷ range_with_len k n) (after faults n)
+    subst (λ m. numbers_left faults (suc n) ≡ (faults - m) ∷ numbers_left faults m) (sym (before n))
+    (ap (λ k. range_with_len k (suc n)) (here faults n h))
   where
     here : (faults n : ℕ) → suc n ≤ faults → faults - suc n + 1 ≡ faults - n
     here faults n h = omega (arith, h)
-
-    after : (faults n : ℕ) → suc (faults - n) ≡ faults - n + 1
-    after faults n = omega arith
 
 pub first_left : (faults : ℕ) → faults - faults + 1 ≡ 1
 first_left faults = omega arith
@@ -61,7 +62,8 @@ pairs_left faults left = pairs_from (faults - left + 1) left
 pub pairs_more : (faults left : ℕ) → 0 < left → left ≤ faults → pairs_left faults left ≡ pairs_after (faults - (left - 1)) (left - 1) ++ pairs_left faults (left - 1)
 pairs_more faults zero p h = absurd (omega (arith, p))
 pairs_more faults (suc n) p h =
-    ap (λ k. pairs_from k (suc n)) (here faults n h) ∙ ap (λ k. pairs_after (faults - n) n ++ pairs_from k n) (after faults n)
+    subst (λ m. pairs_left faults (suc n) ≡ pairs_after (faults - m) m ++ pairs_left faults m) (sym (before n))
+    (ap (λ k. pairs_from k (suc n)) (here faults n h) ∙ ap (λ k. pairs_after (faults - n) n ++ pairs_from k n) (after faults n))
   where
     here : (faults n : ℕ) → suc n ≤ faults → faults - suc n + 1 ≡ faults - n
     here faults n h = omega (arith, h)

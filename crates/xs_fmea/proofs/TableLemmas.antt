@@ -6,7 +6,7 @@ use Rattle.std.specs.List.{list_any}
 use Rattle.xs_right.specs.Sets.{is_contained}
 use Rattle.xs_reporting.specs.ExtendedTraces.{Ending, Analysis}
 use Rattle.xs_reporting.specs.Tables.{entry_of, rows_of, absent_entry, yes}
-use Rattle.xs_fmea.specs.Columns.{told_ending, told_column, AreTold, IsTableOf}
+use Rattle.xs_fmea.specs.Columns.{told_entry, told_ending, told_column, AreTold, IsTableOf}
 use Rattle.xs_fmea.specs.declared.columns.Column.{Column}
 use Rattle.xs_fmea.specs.declared.columns.FmeaTable.{FmeaTable}
 
@@ -55,6 +55,15 @@ told_table faults size columns found t is told = record {
   rows = is.rows;
   entries = is.entries ∙ same_rows (rows_of size faults) found columns told;
   endings = is.endings ∙ (endings_told columns ∙ sym told.1);
+}
+
+-- what rows, entries and endings come to is the table
+pub table_of : (faults size : ℕ) (columns : List Column) (t : FmeaTable) → t.rows ≡ rows_of size faults → map (map told_entry) t.entries ≡ map (λ row. map (entry_of row) (map told_column columns)) t.rows →
+    t.endings ≡ map (λ c. c.ending) columns → IsTableOf faults size (map told_column columns) t
+table_of faults size columns t r e f = record {
+  rows = r;
+  entries = e ∙ ap (λ rs. map (λ row. map (entry_of row) (map told_column columns)) rs) r;
+  endings = ap (λ es. map told_ending es) f ∙ endings_by_columns columns;
 }
 
 pub ruleset entry_rules = (append_assoc, append-nil, map-append)

@@ -15,16 +15,25 @@ use Rattle.xs_fmea.specs.declared.columns.Ending.{Ending as Ended}
 
 pub ruleset text_rules = (append_assoc, append-nil, length-map)
 
+-- a line before a text
+line_on : (A D S E F R : Text) → (A ++ (D ++ (S ++ (E ++ F)))) ++ R ≡ A ++ (D ++ (S ++ (E ++ (F ++ R))))
+line_on A D S E F R =
+    append_assoc A (D ++ (S ++ (E ++ F))) R
+    ∙ ap (λ z. A ++ z) (append_assoc D (S ++ (E ++ F)) R ∙ ap (λ z. D ++ z) (append_assoc S (E ++ F) R ∙ ap (λ z. S ++ z) (append_assoc E F R)))
+
 -- the lines of the endings are those of the columns
 lines_of_endings : (bits n : ℕ) (columns : List Analysis) → ending_lines bits n (map (λ a. a.ending) columns) ≡ column_lines bits n columns
 lines_of_endings bits n [] = refl
 lines_of_endings bits n (a ∷ more) =
-    rw (append_assoc, lines_of_endings bits (suc n) more) refl
+    line_on (codes "top ") (decimal n) (codes " ") (ending_text a.ending bits) (codes "\n") (ending_lines bits (suc n) (map (λ b. b.ending) more))
+    ∙ ap (λ z. codes "top " ++ (decimal n ++ (codes " " ++ (ending_text a.ending bits ++ (codes "\n" ++ z))))) (lines_of_endings bits (suc n) more)
 
 -- the lines of rows with their entries are those of rows and columns
 lines_of_rows : (rows : List (List ℕ)) (columns : List Analysis) → entry_lines rows (map (λ row. map (entry_of row) columns) rows) ≡ row_lines rows columns
 lines_of_rows [] columns = refl
-lines_of_rows (row ∷ rows) columns = rw (append_assoc, lines_of_rows rows columns) refl
+lines_of_rows (row ∷ rows) columns =
+    line_on (codes "row") (numbers_text row) (codes " :") (entries_text (map (entry_of row) columns)) (codes "\n") (entry_lines rows (map (λ r. map (entry_of r) columns) rows))
+    ∙ ap (λ z. codes "row" ++ (numbers_text row ++ (codes " :" ++ (entries_text (map (entry_of row) columns) ++ (codes "\n" ++ z))))) (lines_of_rows rows columns)
 
 -- the text of a table of analyses is theirs
 pub text_of_table : (fault_lines : Text) (bits faults size : ℕ) (columns : List Analysis) (t : FmeaTable) → IsTableOf faults size columns t → printed_table fault_lines bits t ≡ table_text fault_lines bits faults size columns
@@ -32,7 +41,7 @@ text_of_table fault_lines bits faults size columns t is =
     ap (λ z. fault_lines ++ (codes "tops " ++ z)) (counted ∙ lined)
   where
     as_many : length t.endings ≡ length columns
-    as_many = sym (length-map told_ending t.endings) ∙ (ap length is.endings ∙ length-map (λ a. a.ending) columns)
+    as_many = sym (length-map t.endings told_ending) ∙ (ap (λ l. length l) is.endings ∙ length-map columns (λ a. a.ending))
 
     counted : decimal (length t.endings) ++ (codes "\n" ++ (ending_lines bits 1 (map told_ending t.endings) ++ entry_lines t.rows (map (map told_entry) t.entries)))
         ≡ decimal (length columns) ++ (codes "\n" ++ (ending_lines bits 1 (map (λ a. a.ending) columns) ++ entry_lines (rows_of size faults) (map (λ row. map (entry_of row) columns) (rows_of size faults))))
