@@ -18,8 +18,13 @@
 #![tactic(auto)]
 
 mod certificate;
+mod lines;
+mod numbers;
 mod pieces;
+mod reading;
+mod words;
 mod writing;
 
 pub use certificate::{CertFault, Certificate, TextList};
+pub use reading::read;
 pub use writing::write;
