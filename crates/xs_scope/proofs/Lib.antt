@@ -29,6 +29,7 @@ pub mod Frames
 pub mod UsesLaws
 pub mod LinkLaws
 pub mod ReachLaws
+pub mod EndLaws
 pub mod LayLaws
 pub mod NamingLaws
 pub mod OrderLaws

@@ -1,28 +1,41 @@
 -- Each task keeps the invariant.
-use Rattle.std.proofs.Common.{rules, ◌≡◌, ℕ, List, false, [], ◌∷◌, ◌++◌, length, replicate, reverse, ◌∙◌, sym, subst, ap}
-use Rattle.std.proofs.lemmas.List.{reverse-append}
+use Rattle.std.proofs.Common.{rules, arith, ◌≡◌, ℕ, List, false, [], ◌∷◌, ◌++◌, length, replicate, reverse, ◌∙◌, sym, subst, ap}
+use Rattle.std.proofs.lemmas.List.{reverse-append, length-map}
 use Rattle.xs_scope.specs.declared.needs.Mark.TheVariants.{Unmet}
 use Rattle.xs_scope.specs.declared.needs.Task.{Task}
-use Rattle.xs_scope.specs.Links.{graph_of}
+use Rattle.xs_scope.specs.Links.{graph_of, rows}
 use Rattle.xs_scope.specs.Laying.{upto, visits, Lay, lay_of, lay_by, IsLaying}
+use Rattle.xs_scope.proofs.LinkLaws.{graph_rows}
+use Rattle.xs_scope.proofs.EndLaws.{left_to_lay, lay_falls, weight}
 use Rattle.xs_scope.proofs.LayLaws.{laying_first, laying_by}
 use Rattle.xs_scope.proofs.needs.order_of.Goals as goal
 
 abbrev first_lay : ℕ → Lay
 first_lay n = record { marks = replicate n Unmet; order = []; tasks = visits (upto n); circle = false }
 
-pub loop-turn-init : goal.loop-turn-init
-loop-turn-init c =
+pub loop-task-init : goal.loop-task-init
+loop-task-init c =
     let count : c.len.result ≡ length c.args.links.now.of.items = search rules in
     let is : lay_of c.in_ok-laying.laying ≡ first_lay c.len.result = search rules in
     subst (λ (s : Lay). IsLaying (graph_of c.args.links.now) (length c.args.links.now.of.items) s) (sym (is ∙ ap first_lay count))
     (laying_first (graph_of c.args.links.now) (length c.args.links.now.of.items))
 
-pub loop-turn-preserved : goal.loop-turn-preserved
-loop-turn-preserved c =
-    let more : c.loop-turn.laying.tasks.items ≡ c.pop.new.self.items ++ c.in-Some.task ∷ [] = search rules in
-    let first : reverse c.loop-turn.laying.tasks.items ≡ c.in-Some.task ∷ reverse c.pop.new.self.items = ap (λ (ts : List Task). reverse ts) more ∙ reverse-append c.pop.new.self.items (c.in-Some.task ∷ []) in
-    let is : lay_of c.by.new.self ≡ lay_by (graph_of c.args.links.now) (record { marks = c.loop-turn.laying.marks.items; order = c.loop-turn.laying.order.items; tasks = reverse c.pop.new.self.items; circle = c.loop-turn.laying.circle }) c.in-Some.task = search rules in
+pub loop-task-preserved : goal.loop-task-preserved
+loop-task-preserved c =
+    let more : c.loop-task.laying.tasks.items ≡ c.pop.new.self.items ++ c.in-Some.task ∷ [] = search rules in
+    let first : reverse c.loop-task.laying.tasks.items ≡ c.in-Some.task ∷ reverse c.pop.new.self.items = ap (λ (ts : List Task). reverse ts) more ∙ reverse-append c.pop.new.self.items (c.in-Some.task ∷ []) in
+    let is : lay_of c.by.new.self ≡ lay_by (graph_of c.args.links.now) (record { marks = c.loop-task.laying.marks.items; order = c.loop-task.laying.order.items; tasks = reverse c.pop.new.self.items; circle = c.loop-task.laying.circle }) c.in-Some.task = search rules in
     subst (λ (s : Lay). IsLaying (graph_of c.args.links.now) (length c.args.links.now.of.items) s) (sym is)
-    (laying_by (graph_of c.args.links.now) (length c.args.links.now.of.items) (c.requires) c.loop-turn.laying.marks.items c.loop-turn.laying.order.items (reverse c.pop.new.self.items) c.loop-turn.laying.circle c.in-Some.task
-    (subst (λ (ts : List Task). IsLaying (graph_of c.args.links.now) (length c.args.links.now.of.items) (record { marks = c.loop-turn.laying.marks.items; order = c.loop-turn.laying.order.items; tasks = ts; circle = c.loop-turn.laying.circle })) first c.loop-turn.invariant))
+    (laying_by (graph_of c.args.links.now) (length c.args.links.now.of.items) (c.requires) c.loop-task.laying.marks.items c.loop-task.laying.order.items (reverse c.pop.new.self.items) c.loop-task.laying.circle c.in-Some.task
+    (subst (λ (ts : List Task). IsLaying (graph_of c.args.links.now) (length c.args.links.now.of.items) (record { marks = c.loop-task.laying.marks.items; order = c.loop-task.laying.order.items; tasks = ts; circle = c.loop-task.laying.circle })) first c.loop-task.invariant))
+
+pub loop-task-smaller : goal.loop-task-smaller
+loop-task-smaller c =
+    let l = c.args.links.now in
+    let tasks = reverse c.pop.new.self.items in
+    let more : c.loop-task.laying.tasks.items ≡ c.pop.new.self.items ++ c.in-Some.task ∷ [] = search rules in
+    let first : reverse c.loop-task.laying.tasks.items ≡ c.in-Some.task ∷ tasks = ap (λ (ts : List Task). reverse ts) more ∙ reverse-append c.pop.new.self.items (c.in-Some.task ∷ []) in
+    let is : lay_of c.by.new.self ≡ lay_by (graph_of l) (record { marks = c.loop-task.laying.marks.items; order = c.loop-task.laying.order.items; tasks = tasks; circle = c.loop-task.laying.circle }) c.in-Some.task = search rules in
+    let size : length c.loop-task.laying.marks.items ≡ length (rows l) = c.loop-task.invariant.size ∙ sym (length-map l.of.items (λ v. v.items)) in
+    let less = lay_falls (graph_of l) (rows l) c.loop-task.laying.marks.items c.loop-task.laying.order.items tasks c.loop-task.laying.circle c.in-Some.task size (graph_rows l) in
+    omega (arith, less, ap (left_to_lay (rows l)) is, ap weight first)
