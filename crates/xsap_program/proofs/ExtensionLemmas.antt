@@ -1,5 +1,5 @@
 -- From an answered run to the extension that it has written.
-use Rattle.std.proofs.Common.{◌≡◌, ℕ, List, Option, Some, None, IfSome, IsSomeAnd, sym, ap, subst, ◌∙◌}
+use Rattle.std.proofs.Common.{◌≡◌, ℕ, List, Option, Some, None, IfSome, IsSomeAnd, sym, ap, subst, ◌∙◌, refl}
 use Rattle.xs_desk.specs.declared.files.NamedFile.{NamedFile}
 use Rattle.xs_desk.specs.Files.{file_of, with_file}
 use Rattle.xs_desk.specs.Desk.{said_more}
@@ -13,27 +13,48 @@ use Rattle.xsap_program.specs.declared.status.Refusal.TheVariants as refusal
 use Rattle.xsap_program.specs.declared.status.Status.{Status}
 use Rattle.xsap_program.specs.declared.status.Status.TheVariants as status
 use Rattle.xsap_program.specs.Statuses.{status_of}
-use Rattle.xsap_program.specs.Commands.{AsksToExtend}
+use Rattle.xs_words.specs.Commands.{extend}
+use Rattle.xs_words.specs.Seen.{rule_of, place_of}
+use Rattle.xs_words.proofs.SeenLemmas.{same_fault}
+use Rattle.xs_words.proofs.ReadingLaws.{one_command, one_fault, commands_have_no_fault}
+use Rattle.xsap_program.specs.Asked.{AsksToExtend, IsNotBuilt, RefusesWords, wrong_words, not_built}
 use Rattle.xsap_program.specs.Inputs.{HoldsModel, HoldsFaults}
-use Rattle.xsap_program.specs.Runs.{Outcome, ComesTo, refuses_model, refuses_faults, is_extended, Means, other_words, asked, IsAnswer, outcome_status, IsDelivered, HasAnswered}
+use Rattle.xsap_program.specs.Runs.{Outcome, ComesTo, refuses_model, refuses_faults, is_extended, Means, refuses_words, asked, IsAnswer, outcome_status, IsDelivered, HasAnswered}
 use Rattle.xsap_program.specs.Extension.{IsExtended}
 use Rattle.xsap_program.proofs.WovenSpells.{woven_text_spells}
 
 -- no refusal ends as done
 never_done : (r : Refusal) → status.Done ≡ status_of r → ⊥
 never_done (refusal.NotBuilt b) e = cc
+never_done (refusal.Words fault) e = cc
 never_done (refusal.Model fault) e = cc
 never_done (refusal.Faults fault) e = cc
 
 -- the words have one model, one instruction file and one file to write
+same_extend : {words : List Text} {m f x m' f' x' : Text} → AsksToExtend words m f x → AsksToExtend words m' f' x' → extend m f x ≡ extend m' f' x'
+same_extend {words = words} {m = m} {f = f} {x = x} {m' = m'} {f' = f'} {x' = x'} a b = one_command words (extend m f x) (extend m' f' x') a b
+
 pub one_model_file : {words : List Text} {m f x m' f' x' : Text} → AsksToExtend words m f x → AsksToExtend words m' f' x' → m ≡ m'
-one_model_file a b = let e = sym a.spelled ∙ b.spelled in cc
+one_model_file a b = let e = same_extend a b in cc
 
 pub one_faults_file : {words : List Text} {m f x m' f' x' : Text} → AsksToExtend words m f x → AsksToExtend words m' f' x' → f ≡ f'
-one_faults_file a b = let e = sym a.spelled ∙ b.spelled in cc
+one_faults_file a b = let e = same_extend a b in cc
 
 pub one_extended_file : {words : List Text} {m f x m' f' x' : Text} → AsksToExtend words m f x → AsksToExtend words m' f' x' → x ≡ x'
-one_extended_file a b = let e = sym a.spelled ∙ b.spelled in cc
+one_extended_file a b = let e = same_extend a b in cc
+
+-- words that are refused ask for no extension
+pub refused_not_asked : (words : List Text) (r : Refusal) (model faults extended : Text) → RefusesWords words r → AsksToExtend words model faults extended → ⊥
+refused_not_asked words r model faults extended (wrong_words f broken) asks = commands_have_no_fault words (extend model faults extended) (rule_of f) (place_of f) asks broken
+refused_not_asked words r model faults extended (not_built c means other) asks = subst IsNotBuilt (one_command words c (extend model faults extended) means asks) other
+
+-- and they are refused once
+pub one_refused_words : (words : List Text) (r s : Refusal) → RefusesWords words r → RefusesWords words s → r ≡ s
+one_refused_words words r s (wrong_words f broken) (wrong_words g also) =
+    let one = one_fault words (rule_of f) (place_of f) (rule_of g) (place_of g) broken also in ap (λ h. refusal.Words h) (same_fault f g one.0 one.1)
+one_refused_words words r s (wrong_words f broken) (not_built c means other) = absurd (commands_have_no_fault words c (rule_of f) (place_of f) means broken)
+one_refused_words words r s (not_built c means other) (wrong_words f broken) = absurd (commands_have_no_fault words c (rule_of f) (place_of f) means broken)
+one_refused_words words r s (not_built c means other) (not_built d also another) = refl
 
 -- two files whose extension was written, and its report said
 files_extended : (before after : List NamedFile) (said now : Option (List ℕ)) (model faults extended : Text) (p : ProgramTree) (text report : Text) → HoldsModel before model p →
@@ -71,7 +92,7 @@ comes_extended files model faults extended o after said now (is_extended p text 
 
 means_extended : (files : List NamedFile) (words : List Text) (model faults extended : Text) (o : Outcome) (after : Option (List NamedFile)) (said now : Option (List ℕ)) → Means files words o →
     AsksToExtend words model faults extended → IsDelivered o (Some files) after said now → status.Done ≡ outcome_status o → IsSomeAnd after (λ new. IsExtended files new said now model faults extended)
-means_extended files words model faults extended o after said now (other_words more) asks stands ended = absurd (more model faults extended asks)
+means_extended files words model faults extended o after said now (refuses_words r refused) asks stands ended = absurd (refused_not_asked words r model faults extended refused asks)
 means_extended files words model faults extended o after said now (asked m f x o' named comes) asks stands ended =
     let made = comes_extended files m f x o' after said now comes stands ended in
     subst (λ t. IsSomeAnd after (λ new. IsExtended files new said now t faults extended)) (one_model_file named asks)

@@ -21,8 +21,8 @@ use Rattle.xsap_program.specs.Wholes.{PassesLimit, IsWithinLimits}
 use Rattle.xsap_program.specs.Reports.{report_text}
 use Rattle.xsap_program.specs.Inputs.{modules_named, AreTaken, IsWrongFaults, not_spelled, not_woven, past_limit, RefusesFaults, faults_file, faults_bytes, IsExtensionText, HoldsFaults}
 use Rattle.xsap_program.specs.declared.status.Status.{Status}
-use Rattle.xsap_program.specs.Runs.{Outcome, refuses, extends, ComesTo, refuses_model, refuses_faults, is_extended, Means, other_words, asked, IsAnswer, outcome_status, IsDelivered, HasAnswered}
-use Rattle.xsap_program.proofs.ExtensionLemmas.{one_model_file, one_faults_file, one_extended_file}
+use Rattle.xsap_program.specs.Runs.{Outcome, refuses, extends, ComesTo, refuses_model, refuses_faults, is_extended, Means, refuses_words, asked, IsAnswer, outcome_status, IsDelivered, HasAnswered}
+use Rattle.xsap_program.proofs.ExtensionLemmas.{refused_not_asked, one_refused_words, one_model_file, one_faults_file, one_extended_file}
 use Rattle.xsap_program.proofs.FileFacts.{no_bytes, one_file_fault, same_bytes}
 use Rattle.xsap_program.proofs.OneFaults.{one_list}
 use Rattle.xsap_program.proofs.OneModelFault.{one_refused_model, held_not_refused, one_held_model}
@@ -124,9 +124,9 @@ module _ (files : List NamedFile) (model faults extended : Text) where
 
 -- two outcomes of the same words and files are one: the same refusal, or the same text and report
 pub one_outcome : (files : List NamedFile) (words : List Text) (o q : Outcome) → Means files words o → Means files words q → o ≡ q
-one_outcome files words o q (other_words more) (other_words also) = refl
-one_outcome files words o q (other_words more) (asked m f x q' asks comes) = absurd (more m f x asks)
-one_outcome files words o q (asked m f x o' asks comes) (other_words more) = absurd (more m f x asks)
+one_outcome files words o q (refuses_words r refused) (refuses_words s also) = ap refuses (one_refused_words words r s refused also)
+one_outcome files words o q (refuses_words r refused) (asked m f x q' asks comes) = absurd (refused_not_asked words r m f x refused asks)
+one_outcome files words o q (asked m f x o' asks comes) (refuses_words r refused) = absurd (refused_not_asked words r m f x refused asks)
 one_outcome files words o q (asked m f x o' asks comes) (asked m' f' x' q' asks' comes') =
     comes_to_one files m f x o' q' comes
     (subst (λ t. ComesTo files t f x q') (one_model_file asks' asks) (subst (λ t. ComesTo files m' t x q') (one_faults_file asks' asks) (subst (λ t. ComesTo files m' f' t q') (one_extended_file asks' asks) comes')))

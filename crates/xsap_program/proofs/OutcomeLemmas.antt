@@ -6,7 +6,7 @@ use Rattle.xs_tree.specs.ProgramTree.{Text, ProgramTree}
 use Rattle.xsap_program.specs.declared.faults.Made.{Made}
 use Rattle.xsap_program.specs.Delivered.{Stopped}
 use Rattle.xsap_program.specs.Inputs.{RefusesModel, HoldsModel, RefusesFaults, HoldsExtension}
-use Rattle.xsap_program.specs.Runs.{Outcome, refuses, extends, ComesTo, refuses_model, refuses_faults, is_extended, Means, asked, other_words, IsAnswer, HasAnswered, HasStopped}
+use Rattle.xsap_program.specs.Runs.{Outcome, refuses, extends, ComesTo, refuses_model, refuses_faults, is_extended, Means, asked, refuses_words, IsAnswer, HasAnswered, HasStopped}
 use Rattle.xsap_program.specs.declared.status.Built.TheVariants as built
 use Rattle.xsap_program.specs.declared.status.Refusal.{Refusal}
 use Rattle.xsap_program.specs.declared.status.Refusal.TheVariants as refusal
@@ -15,7 +15,7 @@ use Rattle.xsap_program.specs.declared.status.Status.TheVariants as status
 use Rattle.xsap_program.specs.declared.input.Stop.{Stop}
 use Rattle.xsap_program.specs.declared.input.Stop.TheVariants as stopped
 use Rattle.xsap_program.specs.Statuses.{status_of, refusal_text}
-use Rattle.xsap_program.specs.Commands.{AsksToExtend, AsksForMore}
+use Rattle.xsap_program.specs.Asked.{AsksToExtend, RefusesWords}
 
 module _ (model faults extended : Text) where
   -- the model is refused
@@ -111,7 +111,7 @@ module _ (words : List Text) (told mid after : Option (List NamedFile)) (said mi
           in_part = (subst (λ t. WritesPrefix t after file text) same wrote, subst (λ t. SaysPrefix t now report) same_said said_front);
         }
 
--- words that ask for something else
-pub means_more : (told : Option (List NamedFile)) (words : List Text) → AsksForMore words → IfSome told (λ files. Means files words (refuses (refusal.NotBuilt built.Words)))
-means_more None words more = tt
-means_more (Some files) words more = other_words more
+-- words that are refused
+pub means_refused : (told : Option (List NamedFile)) (words : List Text) (r : Refusal) → RefusesWords words r → IfSome told (λ files. Means files words (refuses r))
+means_refused None words r refused = tt
+means_refused (Some files) words r refused = refuses_words r refused

@@ -3,7 +3,6 @@ use Rattle.std.specs.Prelude.{ℕ, ◌≡◌, List, Option}
 use Rattle.xs_desk.specs.declared.files.NamedFile.{NamedFile}
 use Rattle.xs_desk.specs.Desk.{told_with, said_more, SaysPrefix, WritesPrefix}
 use Rattle.xs_tree.specs.ProgramTree.{Text, ProgramTree}
-use Rattle.xsap_program.specs.declared.status.Built.TheVariants as built
 use Rattle.xsap_program.specs.declared.status.Refusal.{Refusal}
 use Rattle.xsap_program.specs.declared.status.Refusal.TheVariants as refusal
 use Rattle.xsap_program.specs.declared.status.Status.{Status}
@@ -16,7 +15,7 @@ use Rattle.xsap_program.specs.declared.wrong.Wrong.TheVariants as wrong
 use Rattle.xsap_program.specs.declared.status.InputFault.{InputFault}
 use Rattle.xsap_program.specs.Wrongs.{parse_wrong, weave_rule}
 use Rattle.xsap_program.specs.Statuses.{status_of, refusal_text}
-use Rattle.xsap_program.specs.Commands.{AsksToExtend, AsksForMore}
+use Rattle.xsap_program.specs.Asked.{AsksToExtend, RefusesWords}
 use Rattle.xsap_program.specs.Inputs.{IsRefusedFile, HasBytes, RefusesModel, HoldsModel, IsInstructionText, IsFaultOfInstructions, modules_named, RefusesFaults, HoldsFaults}
 
 -- a run refuses something, or it writes a text to a file and says a report
@@ -33,7 +32,7 @@ pub data ComesTo (files : List NamedFile) (model faults extended : Text) : Outco
 
 -- what a run over these files with these words comes to
 pub data Means (files : List NamedFile) (words : List Text) : Outcome → Type 0 where
-  other_words : AsksForMore words → Means files words (refuses (refusal.NotBuilt built.Words))
+  refuses_words : (r : Refusal) → RefusesWords words r → Means files words (refuses r)
   asked : (model faults extended : Text) (o : Outcome) → AsksToExtend words model faults extended → ComesTo files model faults extended o → Means files words o
 
 -- a status that is neither a failure of the desk nor want of memory

@@ -2,6 +2,8 @@
 use Rattle.std.specs.Prelude.{ℤ, pos, ◌++◌, codes}
 use Rattle.std.specs.Fmt.{decimal}
 use Rattle.xs_tree.specs.ProgramTree.{Text}
+use Rattle.xs_words.specs.declared.fault.WordFault.{WordFault}
+use Rattle.xs_words.specs.Seen.{rule_of, place_of}
 use Rattle.xsap_program.specs.declared.status.Built.TheVariants as built
 use Rattle.xsap_program.specs.declared.status.Part.{Part}
 use Rattle.xsap_program.specs.declared.status.Part.TheVariants as part
@@ -14,6 +16,7 @@ use Rattle.xsap_program.specs.declared.status.Status.TheVariants as status
 abbrev pub number_of : Status → ℤ
 number_of status.Done = pos 0
 number_of (status.NotBuilt built.Words) = pos 2
+number_of (status.Words fault) = pos 2
 number_of (status.Model fault) = pos 3
 number_of (status.Faults fault) = pos 4
 number_of status.Desk = pos 7
@@ -21,6 +24,7 @@ number_of status.Memory = pos 8
 
 abbrev pub status_of : Refusal → Status
 status_of (refusal.NotBuilt b) = status.NotBuilt b
+status_of (refusal.Words fault) = status.Words fault
 status_of (refusal.Model fault) = status.Model fault
 status_of (refusal.Faults fault) = status.Faults fault
 
@@ -38,9 +42,14 @@ part_text part.Effect = codes "effect "
 abbrev pub fault_text : InputFault → Text
 fault_text fault = part_text fault.part ++ (decimal fault.number ++ (codes " at " ++ (decimal fault.place ++ codes "\n")))
 
+-- the number of the rule that words break, and the place
+abbrev pub words_text : WordFault → Text
+words_text fault = decimal (rule_of fault) ++ (codes " at " ++ (decimal (place_of fault) ++ codes "\n"))
+
 -- the one line of a refusal
 abbrev pub refusal_text : Refusal → Text
 refusal_text (refusal.NotBuilt built.Words) = codes "refused words 0 at 1\n"
+refusal_text (refusal.Words fault) = codes "refused words " ++ words_text fault
 refusal_text (refusal.Model fault) = codes "refused model " ++ fault_text fault
 refusal_text (refusal.Faults fault) = codes "refused faults " ++ fault_text fault
 

@@ -3,11 +3,11 @@
 //! [`run::run`] is the whole program over any desk: it reads the words, a model and instructions, and
 //! writes and says the answer. Its contract says what a run comes to (`specs/Runs.antt`): the one line of
 //! the first refusal, or the extension and its fault list, and what is left where the desk fails on the
-//! way. What is wrong with a file and what it holds stands in `specs/Inputs.antt`, the numbers and lines of
+//! way. What words ask for stands in `specs/Asked.antt`, what is wrong with a file and what it holds stands in `specs/Inputs.antt`, the numbers and lines of
 //! refusals in `specs/Wrongs.antt` and `specs/Statuses.antt`, and that the written file is the extension in
 //! `specs/Extension.antt`. `main` hands `run` the words of the command line and a desk over real files.
 //!
-//! The files stand in the order of the work: `command` (the words), `input` (a file's bytes), `model`
+//! The files stand in the order of the work: `input` (a file's bytes), `model`
 //! (program, flat model, kinds), `faults` (instructions, the weave, the limits of the whole), `report`
 //! (what is said) and `run`. `wrong` and `status` have what each refusal says.
 //!
@@ -24,7 +24,6 @@ use std::env;
 use std::io::ErrorKind;
 use std::process::ExitCode;
 
-pub mod command;
 pub mod faults;
 pub mod input;
 pub mod model;

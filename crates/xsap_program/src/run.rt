@@ -1,17 +1,18 @@
 // The top call.
-ghost use Rattle.std.specs.Prelude.{◌≡◌, ◌≤◌, ◌⊎◌, IfOk, OnOk, OnErr, IfSome, IsSomeAnd, IsErrOf, ℕ, List, map};
+ghost use Rattle.std.specs.Prelude.{◌≡◌, ◌≤◌, ◌⊎◌, IfOk, IfErr, OnOk, OnErr, IfSome, IsNone, IsSomeAnd, IsErrOf, ℕ, List, map};
 ghost use Rattle.xs_desk.specs.Desk.{Rose, told_with, WritesPrefix, said_more, SaysPrefix};
 ghost use Rattle.xs_tree.specs.ProgramTree.{Text};
 ghost use Rattle.xsap_program.specs.declared.status.Refusal.{Refusal};
 ghost use Rattle.xsap_program.specs.declared.input.Stop.TheVariants as stops;
 ghost use Rattle.xsap_program.specs.Statuses.{status_of, refusal_text};
 ghost use Rattle.xsap_program.specs.Runs.{Outcome, refuses, extends, ComesTo, Means, IsAnswer, outcome_status, IsDelivered, HasAnswered, HasStopped};
-ghost use Rattle.xsap_program.specs.Commands.{AsksToExtend};
+ghost use Rattle.xs_words.specs.Commands.{extend};
+ghost use Rattle.xs_words.specs.Seen.{seen};
+ghost use Rattle.xsap_program.specs.Asked.{AsksToExtend, IsNotBuilt, RefusesWords};
 ghost use Rattle.xsap_program.specs.Extension.{IsExtended};
 ghost use Rattle.xsap_program.specs.Delivered.{ended_as, Stopped};
 ghost use Rattle.xs_desk.specs.declared.desk.WriteStop.TheVariants as write_stop;
 
-use crate::command::{Extend, command};
 use crate::faults::{Made, load_extension};
 use crate::input::Stop;
 use crate::model::load_model;
@@ -19,6 +20,15 @@ use crate::status::{Built, Refusal, Status};
 use std::alloc::Global;
 use xs_desk::{Desk, WriteStop, say_whole, write_whole};
 use xs_value::OutOfMemory;
+use xs_words::{Command, read_words};
+
+/// The files of `extend`: the model, the instructions, and the extension that is written.
+#[derive(Clone, Copy)]
+struct Extend<'a> {
+    model: &'a str,
+    faults: &'a str,
+    extended: &'a str,
+}
 
 /// Does what the words ask for: `extend` reads a model and instructions, writes the model extended with
 /// the faults, and says the faults. Both files are read, and every refusal is tried, before anything is
@@ -44,12 +54,50 @@ pub fn run<D: Desk>(alloc: Global, words: &[&str], desk: &mut D) -> Status
     ensures later { D.faults desk.old ≤ D.faults desk.new }
     ensures quiet { D.quiet desk.old → D.quiet desk.new × (D.faults desk.new ≡ D.faults desk.old) }
 {
-    let Some(files) = command(words) else {
-        return refuse(alloc, desk, Refusal::NotBuilt(Built::Words));
+    let files = match asked(words) {
+        Ok(files) => files,
+        Err(refusal) => return refuse(alloc, desk, refusal),
     };
     match prepare(alloc, desk, &files) {
         Ok(made) => deliver(desk, files.extended, &made),
         Err(stop) => stopped(alloc, desk, stop),
+    }
+}
+
+/// What the words ask for, where it is built.
+fn asked<'a>(words: &'a [&'a str]) -> Result<Extend<'a>, Refusal>
+    ensures found { IfOk result (λ c. AsksToExtend (map (λ w. w.now) words.now) c.model.now c.faults.now c.extended.now) }
+    ensures refused { IfErr result (λ r. RefusesWords (map (λ w. w.now) words.now) r) }
+{
+    match read_words(words) {
+        Ok(command) => match files_of(command) {
+            Some(files) => Ok(files),
+            None => Err(Refusal::NotBuilt(Built::Words)),
+        },
+        Err(fault) => Err(Refusal::Words(fault)),
+    }
+}
+
+/// The files of a command that is built.
+fn files_of<'a>(command: Command<'a>) -> Option<Extend<'a>>
+    ensures found { IfSome result (λ c. seen command.entry ≡ extend c.model.now c.faults.now c.extended.now) }
+    ensures none { IsNone result → IsNotBuilt (seen command.entry) }
+{
+    match command {
+        Command::Extend {
+            model,
+            faults,
+            extended,
+        } => Some(Extend {
+            model,
+            faults,
+            extended,
+        }),
+        Command::Replay { .. } => None,
+        Command::Analyse { .. } => None,
+        Command::Check { .. } => None,
+        Command::Fmea { .. } => None,
+        Command::Make { .. } => None,
     }
 }
 

@@ -1,15 +1,16 @@
 // How a run ends, and the line that a refusal says.
 ghost use Rattle.std.specs.Prelude.{◌≡◌, ◌≤ℤ◌, pos, ◌++◌, IfOk, OnOk, codes};
 ghost use Rattle.std.specs.Fmt.{decimal};
-ghost use Rattle.xsap_program.specs.Statuses.{number_of, status_of, part_text, fault_text, refusal_text};
+ghost use Rattle.xsap_program.specs.Statuses.{number_of, status_of, part_text, fault_text, words_text, refusal_text};
 
 use std::alloc::Global;
 use xs_value::{ByteList, OutOfMemory};
+use xs_words::WordFault;
 
 /// What this program can't do yet.
 #[derive(Clone, Copy, Debug, PartialEq, Eq)]
 pub enum Built {
-    /// The words ask for more than `extend` in its fixed order of options.
+    /// The words mean a command other than `extend`.
     Words,
 }
 
@@ -48,6 +49,7 @@ pub struct InputFault {
 #[derive(Clone, Copy, Debug, PartialEq, Eq)]
 pub enum Refusal {
     NotBuilt(Built),
+    Words(WordFault),
     Model(InputFault),
     Faults(InputFault),
 }
@@ -59,6 +61,8 @@ pub enum Status {
     Done,
     /// A part of the work is not built yet.
     NotBuilt(Built),
+    /// The words mean no command.
+    Words(WordFault),
     /// The model is refused.
     Model(InputFault),
     /// The instructions are refused.
@@ -77,7 +81,7 @@ impl Status {
     {
         match self {
             Status::Done => 0,
-            Status::NotBuilt(Built::Words) => 2,
+            Status::NotBuilt(Built::Words) | Status::Words(_) => 2,
             Status::Model(_) => 3,
             Status::Faults(_) => 4,
             Status::Desk => 7,
@@ -93,6 +97,7 @@ impl Refusal {
     {
         match self {
             Refusal::NotBuilt(built) => Status::NotBuilt(built),
+            Refusal::Words(fault) => Status::Words(fault),
             Refusal::Model(fault) => Status::Model(fault),
             Refusal::Faults(fault) => Status::Faults(fault),
         }
@@ -106,10 +111,20 @@ impl Refusal {
             Refusal::NotBuilt(Built::Words) => {
                 ByteList::from_slice(alloc, b"refused words 0 at 1\n")
             }
+            Refusal::Words(fault) => words_line(alloc, fault),
             Refusal::Model(fault) => fault_line(alloc, b"refused model ", fault),
             Refusal::Faults(fault) => fault_line(alloc, b"refused faults ", fault),
         }
     }
+}
+
+/// The line of refused words.
+fn words_line(alloc: Global, fault: WordFault) -> Result<ByteList, OutOfMemory>
+    ensures { IfOk result (λ line. line ≡ codes "refused words " ++ words_text fault) }
+{
+    let mut line = ByteList::from_slice(alloc, b"refused words ")?;
+    append_place(alloc, &mut line, fault.number(), u64::from(fault.place()))?;
+    Ok(line)
 }
 
 /// The line of a refused input, after its beginning.
