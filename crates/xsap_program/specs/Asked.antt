@@ -1,7 +1,7 @@
--- What the words of a command line ask for: an extension, a command that is not built yet, or none.
+-- What the words of a command line ask for: an extension, a replay, a command that is not built yet, or none.
 use Rattle.std.specs.Prelude.{List}
 use Rattle.xs_words.specs.declared.fault.WordFault.{WordFault}
-use Rattle.xs_words.specs.Commands.{Text, Command, extend}
+use Rattle.xs_words.specs.Commands.{Text, Command, extend, replay}
 use Rattle.xs_words.specs.Meaning.{Means, BreaksFirst}
 use Rattle.xs_words.specs.Seen.{rule_of, place_of}
 use Rattle.xsap_program.specs.declared.status.Built.TheVariants as built
@@ -12,9 +12,10 @@ use Rattle.xsap_program.specs.declared.status.Refusal.TheVariants as refusal
 abbrev pub AsksToExtend : List Text → Text → Text → Text → Type 0
 AsksToExtend words model faults extended = Means words (extend model faults extended)
 
--- every verb but `extend`
+-- every verb but `extend` and `replay`
 abbrev pub IsNotBuilt : Command → Type 0
 IsNotBuilt (extend model faults extended) = ⊥
+IsNotBuilt (replay model faults trace top) = ⊥
 IsNotBuilt _ = Unit {0}
 
 -- the words are refused: by the rule that they break first, or since they mean a command that is not built

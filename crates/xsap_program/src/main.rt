@@ -26,13 +26,17 @@ use std::process::ExitCode;
 
 pub mod faults;
 pub mod input;
+pub mod loaded;
 pub mod model;
 mod real_desk;
+mod replay;
 mod report;
 pub mod run;
 pub mod status;
 #[cfg(test)]
 mod tests;
+mod top;
+mod trace;
 pub mod wrong;
 
 /// The number that the program ends with where a word is not text, which no status has.
