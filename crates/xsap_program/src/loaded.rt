@@ -81,7 +81,7 @@ fn case_of(alloc: Global, bytes: &[u8], model: &LoadedModel) -> Result<LoadedCas
 {
     let instructions = instructions(alloc, bytes)?;
     let woven = weave_typed(alloc, &model.program, &model.typed, &instructions)?;
-    let limited = limited(alloc, woven)?;
+    let limited = within_limits(alloc, woven)?;
     Ok(LoadedCase {
         instructions,
         limited,
@@ -89,7 +89,7 @@ fn case_of(alloc: Global, bytes: &[u8], model: &LoadedModel) -> Result<LoadedCas
 }
 
 /// Refuses an extension that passes a limit of size, and else gives its flat model.
-fn limited(alloc: Global, woven: Woven) -> Result<Limited, Wrong>
+fn within_limits(alloc: Global, woven: Woven) -> Result<Limited, Wrong>
     ensures ok { IfOk result (IsLimited woven) }
     ensures wrong { IfErr result (IfRefused (IsWrongLimited (program_tree woven.program) (map fault_tree woven.faults))) }
 {

@@ -84,7 +84,7 @@ pub fn run<D: Desk>(alloc: Global, words: &[&str], desk: &mut D) -> Status
     ensures later { D.faults desk.old ≤ D.faults desk.new }
     ensures quiet { D.quiet desk.old → D.quiet desk.new × (D.faults desk.new ≡ D.faults desk.old) }
 {
-    let command = match asked(words) {
+    let command = match command_asked(words) {
         Ok(command) => command,
         Err(refusal) => return refuse(alloc, desk, refusal),
     };
@@ -95,7 +95,7 @@ pub fn run<D: Desk>(alloc: Global, words: &[&str], desk: &mut D) -> Status
 }
 
 /// What the words ask for, where it is built.
-fn asked<'a>(words: &'a [&'a str]) -> Result<Asked<'a>, Refusal>
+fn command_asked<'a>(words: &'a [&'a str]) -> Result<Asked<'a>, Refusal>
     ensures found { IfOk result (λ c. WordsMean (map (λ w. w.now) words.now) (command_of c)) }
     ensures refused { IfErr result (λ r. RefusesWords (map (λ w. w.now) words.now) r) }
 {

@@ -1,6 +1,7 @@
 use Rattle.std.proofs.Common.{Err, inr, refl, ap}
 use Rattle.xsap_program.specs.Runs.{refuses}
-use Rattle.xsap_program.proofs.OutcomeLemmas.{means_asked, means_refused, answers_refusal, stops_at_refusal, answers_extension, stops_at_extension, answers_stop, leaves_stop}
+use Rattle.xsap_program.specs.Prepared.{command_of, outcome_of}
+use Rattle.xsap_program.proofs.OutcomeLemmas.{means_asked, means_refused, answers_refusal, stops_at_refusal, answers_prepared, stops_at_prepared, prepared_is_done, answers_stop, leaves_stop}
 use Rattle.xsap_program.proofs.ExtensionLemmas.{done_extends}
 use Rattle.xsap_program.proofs.OneOutcome.{answers_exactly}
 use Rattle.xsap_program.proofs.run.run.Goals as goal
@@ -17,23 +18,23 @@ returns-in-Err-clause-left g c =
 
 pub returns-in-Ok-prepare-clause-answered : goal.returns-in-Ok-prepare-clause-answered
 returns-in-Ok-prepare-clause-answered g c answer =
-    let means = means_asked _ _ _ _ _ _ c.in-Ok.ensures.found c.in-Ok-prepare.ensures.ok in
-    answers_extension _ _ _ _ _ _ _ c.prepare.ensures.files c.prepare.ensures.said _ _ _ c.deliver.result means c.deliver.ensures.ends c.deliver.ensures.done answer
+    let means = means_asked _ _ (command_of c.in-Ok.command) (outcome_of c.in-Ok-prepare.done) c.in-Ok.ensures.found c.in-Ok-prepare.ensures.ok in
+    answers_prepared _ _ _ _ _ _ _ c.prepare.ensures.files c.prepare.ensures.said (outcome_of c.in-Ok-prepare.done) c.deliver.result (prepared_is_done c.in-Ok-prepare.done) means c.deliver.ensures.ends c.deliver.ensures.done answer
 
 pub returns-in-Ok-prepare-clause-left : goal.returns-in-Ok-prepare-clause-left
 returns-in-Ok-prepare-clause-left g c =
-    let means = means_asked _ _ _ _ _ _ c.in-Ok.ensures.found c.in-Ok-prepare.ensures.ok in
-    inr (stops_at_extension _ _ _ _ _ _ _ c.prepare.ensures.files c.prepare.ensures.said _ _ _ means c.deliver.ensures.part.0 c.deliver.ensures.part.1)
+    let means = means_asked _ _ (command_of c.in-Ok.command) (outcome_of c.in-Ok-prepare.done) c.in-Ok.ensures.found c.in-Ok-prepare.ensures.ok in
+    inr (stops_at_prepared _ _ _ _ _ _ _ c.prepare.ensures.files c.prepare.ensures.said (outcome_of c.in-Ok-prepare.done) means c.deliver.ensures.part)
 
 pub returns-in-Err-prepare-clause-answered : goal.returns-in-Err-prepare-clause-answered
 returns-in-Err-prepare-clause-answered g c answer =
     answers_stop _ _ _ _ _ _ _ c.prepare.ensures.files c.prepare.ensures.said c.in-Err-prepare.stop c.stopped.result
-    (λ r is. means_asked _ _ _ _ _ (refuses r) c.in-Ok.ensures.found (c.in-Err-prepare.ensures.refused r (ap (λ s. Err s) is))) c.stopped.ensures.stopped answer
+    (λ r is. means_asked _ _ (command_of c.in-Ok.command) (refuses r) c.in-Ok.ensures.found (c.in-Err-prepare.ensures.refused r (ap (λ s. Err s) is))) c.stopped.ensures.stopped answer
 
 pub returns-in-Err-prepare-clause-left : goal.returns-in-Err-prepare-clause-left
 returns-in-Err-prepare-clause-left g c =
     leaves_stop _ _ _ _ _ _ _ c.prepare.ensures.files c.prepare.ensures.said c.in-Err-prepare.stop c.stopped.result
-    (λ r is. means_asked _ _ _ _ _ (refuses r) c.in-Ok.ensures.found (c.in-Err-prepare.ensures.refused r (ap (λ s. Err s) is))) c.stopped.ensures.stopped
+    (λ r is. means_asked _ _ (command_of c.in-Ok.command) (refuses r) c.in-Ok.ensures.found (c.in-Err-prepare.ensures.refused r (ap (λ s. Err s) is))) c.stopped.ensures.stopped
 
 pub returns-in-Err-clause-extended : goal.returns-in-Err-clause-extended
 returns-in-Err-clause-extended g c model faults extended = done_extends _ _ _ _ _ _ model faults extended (returns-in-Err-clause-answered g c)

@@ -3,7 +3,7 @@ use Rattle.xs_words.specs.Commands.{Command}
 use Rattle.xs_words.specs.Meaning.{Means}
 use Rattle.xs_words.specs.Seen.{seen}
 use Rattle.xsap_program.specs.Asked.{wrong_words, not_built}
-use Rattle.xsap_program.proofs.run.asked.Goals as goal
+use Rattle.xsap_program.proofs.run.command_asked.Goals as goal
 
 pub returns-in-Some-clause-found : goal.returns-in-Some-clause-found
 returns-in-Some-clause-found c = subst (λ (d : Command). Means (map (λ w. w.now) c.args.words.now) d) c.in-Some.ensures.found c.in-Ok.ensures.ok
