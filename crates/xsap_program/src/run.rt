@@ -228,9 +228,7 @@ fn deliver<D: Desk>(desk: &mut D, done: &Prepared) -> Status
     ensures quiet { D.quiet desk.old → D.quiet desk.new × (D.faults desk.new ≡ D.faults desk.old) }
 {
     match done {
-        Prepared::Extension(file, made) => {
-            ended(Status::Done, write_and_say(desk, file, made))
-        }
+        Prepared::Extension(file, made) => { ended(Status::Done, write_and_say(desk, file, made)) }
         Prepared::Report(report) => ended(Status::Done, say_whole(desk, report.as_slice())),
     }
 }

@@ -75,7 +75,12 @@ fn top_of(
 {
     let written = written_top(alloc, bytes)?;
     judge_top(alloc, model, &written)?;
-    over_extension(alloc, &case.limited.woven.program, case.limited.typed.model(), &written)
+    over_extension(
+        alloc,
+        &case.limited.woven.program,
+        case.limited.typed.model(),
+        &written,
+    )
 }
 
 /// The expression that the bytes spell, where they are not too many.
