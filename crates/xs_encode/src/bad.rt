@@ -1,10 +1,11 @@
 //! The clause list of a model's bad states.
 
-use crate::expression::value;
 use crate::lists::{source_of, state_gates};
-use crate::names::Names;
 use std::alloc::Global;
 use xs_arith::counts::at_most;
+use xs_expressions::expression::expression;
+use xs_expressions::names::Names;
+use xs_expressions::part::Asked;
 use xs_flat::Flat;
 use xs_gates::gates::Gates;
 use xs_lits::clause::ClauseList;
@@ -27,12 +28,13 @@ pub fn bad_clauses(
     let source = source_of(alloc, t)?;
     let (mut g, now) = state_gates(alloc, &source)?;
     let names = Names::at(t, &now, source.symbols);
-    let part = value(alloc, &mut g, &names, top)?;
+    let part = expression(alloc, &mut g, &names, Asked::ItsValue, top)?;
     let l = part.signal.literal(&g);
     g.assert_true(l)?;
     let history = history_literals(alloc, t, faults)?;
     small(alloc, &mut g, history.as_slice(), size)?;
-    unlisted(alloc, g.into_clauses(), history.as_slice(), listed)
+    let clauses = g.clauses().copy()?;
+    unlisted(alloc, clauses, history.as_slice(), listed)
 }
 
 /// The literals of the history bits now: the last of the state's.
@@ -70,11 +72,7 @@ fn unlisted(
 }
 
 /// The negated history bits of a set.
-fn unlisted_clause(
-    alloc: Global,
-    history: &[Lit],
-    set: &[u32],
-) -> Result<Items<Lit>, OutOfMemory> {
+fn unlisted_clause(alloc: Global, history: &[Lit], set: &[u32]) -> Result<Items<Lit>, OutOfMemory> {
     let mut clause = Items::new(alloc);
     for n in set {
         clause.push(history_literal(history, *n).neg())?;

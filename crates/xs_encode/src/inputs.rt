@@ -13,10 +13,7 @@ pub(crate) struct Reading<'a> {
 }
 
 /// For each definition whether it reads an input, from what those before it do.
-pub(crate) fn reading_of<'a>(
-    alloc: Global,
-    m: &'a FlatModel,
-) -> Result<Reading<'a>, OutOfMemory> {
+pub(crate) fn reading_of<'a>(alloc: Global, m: &'a FlatModel) -> Result<Reading<'a>, OutOfMemory> {
     let mut reading = Reading {
         variables: m.variables.as_slice(),
         definitions: Vec::new(alloc),

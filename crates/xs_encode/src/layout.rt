@@ -1,12 +1,12 @@
 //! Which variables of the clause lists are the bits of a model's variables.
 
-use crate::names::SignalList;
-use crate::signal::Signal;
-use crate::width::word_width;
 use std::alloc::Global;
 use xs_arith::word::fitted;
+use xs_expressions::names::SignalList;
+use xs_expressions::width::word_width;
 use xs_flat::Role;
 use xs_lits::lit::Lit;
+use xs_signals::signal::Signal;
 use xs_types::{Typed, width};
 use xs_value::{Domain, Items, OutOfMemory};
 
@@ -167,12 +167,7 @@ fn value_width(domain: &Domain, ends: Ends, symbols: u32) -> u32 {
 }
 
 /// The word of numbers between these ends whose bits begin at `place`, at that width.
-fn number_signal(
-    alloc: Global,
-    ends: Ends,
-    place: u64,
-    wide: u32,
-) -> Result<Signal, OutOfMemory> {
+fn number_signal(alloc: Global, ends: Ends, place: u64, wide: u32) -> Result<Signal, OutOfMemory> {
     let mut word = Items::new(alloc);
     for i in 0..width(ends.lo, ends.hi) {
         word.push(Lit::new(place + i as u64, false))?;

@@ -1,18 +1,19 @@
 //! The clause lists of a model.
 
-use crate::expression::value;
 use crate::inputs::{Reading, reading_of, reads_input};
 use crate::layout::{Places, input_bits, places_next, places_now, variable_signals};
-use crate::names::{Copied, Names, SignalList};
-use crate::signal::{Signal, between, same};
-use crate::width::symbol_width;
 use std::alloc::Global;
 use xs_arith::constants::{number, number_at};
 use xs_arith::word::Word;
+use xs_expressions::expression::expression;
+use xs_expressions::names::{Copied, Names, SignalList};
+use xs_expressions::part::Asked;
+use xs_expressions::width::symbol_width;
 use xs_flat::{FlatModel, Formula, Role};
 use xs_gates::gates::Gates;
 use xs_lits::clause::ClauseList;
 use xs_lits::lit::Lit;
+use xs_signals::signal::{Signal, between, same};
 use xs_system::System;
 use xs_types::Typed;
 use xs_value::{Domain, Items, OutOfMemory};
@@ -44,7 +45,7 @@ pub fn encode(alloc: Global, t: &Typed) -> Result<System, OutOfMemory> {
     let state = g.clauses().copy()?;
     let names = Names::at(t, &now, source.symbols);
     formulas(alloc, &mut g, &names, t.model().init.as_slice())?;
-    let first = g.into_clauses();
+    let first = g.clauses().copy()?;
     let step = step_clauses(alloc, &source)?;
     Ok(System {
         state_bits: t.bits(),
@@ -83,7 +84,8 @@ fn step_clauses(alloc: Global, source: &Source<'_>) -> Result<ClauseList, OutOfM
         symbols: source.symbols,
     };
     formulas(alloc, &mut g, &names, t.model().trans.as_slice())?;
-    Ok(g.into_clauses())
+    let clauses = g.clauses().copy()?;
+    Ok(clauses)
 }
 
 /// A copy of a model with its bits at these places: its definitions, its domains and what holds at each
@@ -136,7 +138,7 @@ fn definition(
         return Ok(Signal::Bit(g.constant(false)));
     }
     let names = Names::at(source.model, copy, source.symbols);
-    let part = value(alloc, g, &names, &d.value)?;
+    let part = expression(alloc, g, &names, Asked::ItsValue, &d.value)?;
     Ok(part.signal)
 }
 
@@ -148,7 +150,7 @@ fn formulas(
     formulas: &[Formula],
 ) -> Result<(), OutOfMemory> {
     for formula in formulas {
-        let part = value(alloc, g, names, &formula.value)?;
+        let part = expression(alloc, g, names, Asked::ItsValue, &formula.value)?;
         let l = part.signal.literal(g);
         g.assert_true(l)?;
     }

@@ -57,18 +57,6 @@ impl Gates {
         &self.clauses
     }
 
-    /// The clauses, without taking memory.
-    pub fn into_clauses(self) -> ClauseList
-        ensures { result ≡ self.clauses }
-    {
-        let Gates {
-            alloc: _,
-            clauses,
-            free: _,
-        } = self;
-        clauses
-    }
-
     /// The next variable to be defined.
     pub fn free(&self) -> u64
         ensures value { result ≡ self.now.free }

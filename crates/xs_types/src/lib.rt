@@ -3,10 +3,10 @@
 //! Each expression has a kind: truth values, the numbers of an interval, or symbols. [`check_model`] finds
 //! the kinds of all variables, definitions and formulas of a flat model, or tells the first rule that is
 //! broken ([`TypeFault`]); a [`Typed`] model breaks none. [`check_value`], [`check_top`] and [`kind_of`]
-//! do the same for an expression that is no part of the model. [`Typed::sort_of`], [`operation`],
-//! [`negative`], [`choice`] and [`add_to`] tell the same node by node, for a pass of one's own. The classes are those of the NuSMV 2.6
-//! manual; the intervals are this project's own, and they see to it that no divisor is 0 and no number
-//! passes 32 bits.
+//! do the same for an expression that is no part of the model. [`Typed::sort_of`], [`literal`],
+//! [`negative`], [`operation`] and [`joined`] tell the same node by node, for a pass of the caller's own.
+//! The classes are those of the NuSMV 2.6 manual; the intervals are this project's own, and they see to it
+//! that no divisor is 0 and no number passes 32 bits.
 //!
 //! The files from below: `fault` (the rules), `interval` (arithmetic on intervals), `sort` and `several`
 //! (one node over its parts), `judge` (a whole expression), `symbols`, `members` and `declare` (declared
@@ -46,8 +46,7 @@ pub use bits::{digits, width};
 pub use calls::{Kind, check_top, check_value, kind_of};
 pub use fault::{Rule, TypeFault};
 pub use interval::Interval;
-pub use several::{Several, add_to};
-pub use sort::{Class, Judged, Sort, choice, kept, literal, negative, operation};
+pub use sort::{Class, Judged, Sort, joined, kept, literal, negative, operation};
 pub use typed::{Typed, check_model};
 
 #[cfg(test)]

@@ -10,7 +10,7 @@ use crate::sort::{Class, Judged, Sort, class_rule, joined, some_values};
 /// The values so far: the class of the first and the hull of all, whether one is a set, the rule that they
 /// break together, and the one that they break themselves.
 #[derive(Clone, Copy)]
-pub struct Several {
+pub(crate) struct Several {
     pub sort: Sort,
     pub is_set: bool,
     pub own: Option<Rule>,
@@ -27,7 +27,7 @@ pub(crate) struct Guards {
 }
 
 /// One more value.
-pub fn add_to(before: Option<Several>, value: Judged) -> Several
+pub(crate) fn add_to(before: Option<Several>, value: Judged) -> Several
     ensures { result ≡ add_to before value }
 {
     match before {

@@ -141,7 +141,7 @@ fn unknown() -> Exact
 }
 
 /// The hull of two intervals that are known.
-pub(crate) fn joined(a: Option<Interval>, b: Option<Interval>) -> Option<Interval>
+pub fn joined(a: Option<Interval>, b: Option<Interval>) -> Option<Interval>
     ensures { result ≡ joined a b }
 {
     match (a, b) {
@@ -320,7 +320,7 @@ fn union(sets: bool, a: Judged, b: Judged) -> Judged
 }
 
 /// `c ? a : b`.
-pub fn choice(sets: bool, c: Judged, a: Judged, b: Judged) -> Judged
+pub(crate) fn choice(sets: bool, c: Judged, a: Judged, b: Judged) -> Judged
     ensures { result ≡ row_choice sets c a b }
 {
     let own = lower(
