@@ -79,7 +79,7 @@ fn step_clauses(alloc: Global, source: &Source<'_>) -> Result<ClauseList, OutOfM
     let next = copied(alloc, &mut g, source, places_next(t), false)?;
     let names = Names {
         model: t,
-        now: &now,
+        current: &now,
         next: &next,
         symbols: source.symbols,
     };
