@@ -1,4 +1,4 @@
-ghost use Rattle.std.specs.Prelude.{◌≡◌, ◌-◌, ◌^◌, [], length, min, IsOk};
+ghost use Rattle.std.specs.Prelude.{◌≡◌, ◌-◌, ◌^◌, ◌<◌, [], length, min, IsOk};
 ghost use Rattle.xs_adviser.specs.Count.{risen};
 ghost use Rattle.xs_adviser.specs.Round.{answer_of, negations, place_after};
 
@@ -43,12 +43,17 @@ impl InOrder {
 }
 
 impl Adviser for InOrder {
+    ghost use Rattle.std.specs.Prelude.{Some, length};
+
     ghost told = { λ a. a.told };
+
+    ghost room = { λ a. Some (length a.answers) };
 
     // No literal has a variable of 2^63 or more.
     fn ready(&mut self, vars: u64) -> Result<(), OutOfMemory>
         ensures ok { IsOk result }
         ensures first { self.new ≡ record { answers = negations (min vars (2 ^ 63 - 1)); place = 0; told = self.old.told } }
+        ensures room { vars < 2 ^ 62 → length self.new.answers ≡ vars }
     {
         self.vars = vars.min(9223372036854775807) as usize;
         self.place = 0;

@@ -31,6 +31,4 @@ pub mod counts;
 pub mod products;
 pub mod quotients;
 pub mod sums;
-#[cfg(test)]
-mod tests;
 pub mod word;

@@ -31,6 +31,3 @@ pub use fails::{CallKind, Fail, FailList};
 pub use files::{FileList, NamedFile};
 pub use memory::MemoryDesk;
 pub use whole::{DeskFault, read_whole, say_whole, write_whole};
-
-#[cfg(test)]
-mod tests;

@@ -31,6 +31,3 @@ pub use laws::{
 };
 pub use list::fault_list;
 pub use weaving::{weave, weave_typed};
-
-#[cfg(test)]
-mod tests;

@@ -1,2 +1,3 @@
 pub mod InstructionSpells
+pub mod OneInstructions
 pub mod SpelledInstructions

@@ -32,6 +32,3 @@ mod place;
 mod reader;
 
 pub use reader::instructions;
-
-#[cfg(test)]
-mod tests;

@@ -29,6 +29,3 @@ pub use xs_scope::{
     Bounds, Fault, FaultList, Flat, FlatFault, FlatList, FlatModel, Formula, Instance,
     InstanceList, Role, Rule, Variable, VariableList, copy_faults, copy_flat,
 };
-
-#[cfg(test)]
-mod tests;

@@ -187,38 +187,3 @@ impl Gates {
         self.append(&[l])
     }
 }
-
-#[cfg(test)]
-mod tests {
-    use super::*;
-    use std::test::Fail;
-
-    #[test]
-    fn gates_take_the_next_variable_and_append_their_clauses(rt: HostRuntime) -> Result<(), Fail> {
-        let alloc = rt.alloc();
-        let two = Lit::new(2, false);
-        let three = Lit::new(3, false);
-        let four = Lit::new(4, false);
-        let mut gates = Gates::new(alloc, 4)?;
-        let both = gates.and(two, three)?;
-        assert_eq!(rt; both, four);
-        assert_eq!(rt; gates.clauses().len(), 4);
-        assert_eq!(rt; gates.clauses().at(1).lits(), [four.neg(), two].as_slice());
-        assert_eq!(rt;
-            gates.clauses().at(2).lits(),
-            [four.neg(), three].as_slice()
-        );
-        assert_eq!(rt;
-            gates.clauses().at(3).lits(),
-            [four, two.neg(), three.neg()].as_slice()
-        );
-        let either = gates.or(two, both)?;
-        assert_eq!(rt; either, Lit::new(5, true));
-        let chosen = gates.mux(two, three, either)?;
-        let differ = gates.xor(chosen, three)?;
-        assert_eq!(rt; differ, Lit::new(7, false));
-        gates.assert_true(differ)?;
-        assert_eq!(rt; gates.free(), 8);
-        Ok(())
-    }
-}

@@ -44,6 +44,3 @@ mod words;
 
 pub use fault::ParseFault;
 pub use reader::{expression, expressions, program};
-
-#[cfg(test)]
-mod tests;

@@ -11,7 +11,7 @@ use Rattle.xs_tree.specs.Texts.{same_text}
 use Rattle.xs_tree.specs.Spells.{at_expr, line_of, operator, minus, SpellsInt, plain_int, minus_int, SpellsDotted, one_name, more_names, begins_span, Spells, only_iff, implies, repeated, only_or, chooses, only_not, negates, only_atom, inverts, SpellsMore, no_operator, one_operator, SpellsAtom, is_true, is_false, is_number, is_span, is_name, in_parentheses, is_next, is_set, is_case, SpellsTrees, one_tree, more_trees, SpellsBranches, one_branch, more_branches}
 
 -- the operator of a lexeme
-op_of : Lexeme → Option Op
+pub op_of : Lexeme → Option Op
 op_of (sign k.Star) = Some op.Times
 op_of (sign k.Slash) = Some op.Over
 op_of (sign k.Plus) = Some op.Plus
@@ -62,14 +62,14 @@ no_operator_is : (o : Op) (t : Lexeme) → op_of t ≡ None → operator o ≡ t
 no_operator_is o t n e = let both : Some o ≡ None = sym (op_of_operator o) ∙ ap op_of e ∙ n in cc
 
 -- what may follow an expression of line l: nothing that goes on with it
-record Ends (l : ℕ) (t : Lexeme) : Type 0 where
+pub record Ends (l : ℕ) (t : Lexeme) : Type 0 where
   operators : (o : Op) (m : ℕ) → operator o ≡ t → line_of o ≡ Some m → m < l
   no_arrow : t ≡ sign k.Implies → 0 < l
   no_question : t ≡ sign k.Question → 2 < l
   no_dot : t ≢ sign k.Dot
   no_dots : t ≢ sign k.Dots
 
-Stops : ℕ → List Lexeme → Type 0
+pub Stops : ℕ → List Lexeme → Type 0
 Stops l [] = Unit {0}
 Stops l (t ∷ ts) = Ends l t
 
@@ -85,7 +85,7 @@ stops_tighter l m (t ∷ ts) h u = record {
 }
 
 -- a lexeme that is no operator, arrow, question mark or dots
-ends_at : (l : ℕ) (t : Lexeme) → op_of t ≡ None → t ≢ sign k.Question → t ≢ sign k.Dot → t ≢ sign k.Dots → Ends l t
+pub ends_at : (l : ℕ) (t : Lexeme) → op_of t ≡ None → t ≢ sign k.Question → t ≢ sign k.Dot → t ≢ sign k.Dots → Ends l t
 unfolding op_of
 ends_at l t n q d dd = record {
   operators = λ o m e f. absurd (no_operator_is o t n e);
@@ -211,10 +211,10 @@ atom_begins r (in_parentheses p) u = refl
 atom_begins r (is_set p) u = refl
 
 -- two spellings at the front of one list are the same
-abbrev Same : {A : Type 0} → List Lexeme → List Lexeme → A → A → List Lexeme → List Lexeme → Type 0
+abbrev pub Same : {A : Type 0} → List Lexeme → List Lexeme → A → A → List Lexeme → List Lexeme → Type 0
 Same xs ys a b r s = (xs ≡ ys) × (a ≡ b) × (r ≡ s)
 
-one_int : {xs ys : List Lexeme} {a b : ℤ} (r s : List Lexeme) → SpellsInt xs a → SpellsInt ys b → xs ++ r ≡ ys ++ s → Same xs ys a b r s
+pub one_int : {xs ys : List Lexeme} {a b : ℤ} (r s : List Lexeme) → SpellsInt xs a → SpellsInt ys b → xs ++ r ≡ ys ++ s → Same xs ys a b r s
 one_int r s (plain_int {n = n} {d = d}) (plain_int {n = m} {d = f}) e =
     let a : n ≡ m = cc in let b : d ≡ f = cc in let c : r ≡ s = cc in (rw (a, b) refl, ap pos a, c)
 one_int r s plain_int minus_int e = cc
@@ -222,7 +222,7 @@ one_int r s minus_int plain_int e = cc
 one_int r s (minus_int {n = n} {d = d}) (minus_int {n = m} {d = f}) e =
     let a : n ≡ m = cc in let b : d ≡ f = cc in let c : r ≡ s = cc in (rw (a, b) refl, ap minus a, c)
 
-one_dotted : {xs ys : List Lexeme} {p q : Path} (r s : List Lexeme) → SpellsDotted xs p → SpellsDotted ys q → xs ++ r ≡ ys ++ s → Stops 11 r → Stops 11 s →
+pub one_dotted : {xs ys : List Lexeme} {p q : Path} (r s : List Lexeme) → SpellsDotted xs p → SpellsDotted ys q → xs ++ r ≡ ys ++ s → Stops 11 r → Stops 11 s →
     Same xs ys p q r s
 unfolding Stops
 one_dotted r s (one_name {x = x} n) (one_name {x = y} m) e u v =
@@ -241,7 +241,7 @@ one_dotted r s (more_names {x = x} {ts = xs} {p = p'} n p) (more_names {x = y} {
 module _ (P : List Lexeme → Type 0)
     (at_atom : (xs : List Lexeme) (a : Tree Path) (r : List Lexeme) → SpellsAtom xs a → P (xs ++ r))
     (at_bang : (r : List Lexeme) → P (sign k.Bang ∷ r)) (at_minus : (r : List Lexeme) → P (sign k.Minus ∷ r)) where
-  begins : {l : ℕ} {xs : List Lexeme} {a : Tree Path} (r : List Lexeme) → Spells l xs a → P (xs ++ r)
+  pub begins : {l : ℕ} {xs : List Lexeme} {a : Tree Path} (r : List Lexeme) → Spells l xs a → P (xs ++ r)
   begins r (only_iff p) = begins r p
   begins r (implies {xs = xs} {ys = ys} p q) = subst P (sym (append_assoc xs (sign k.Implies ∷ ys) r)) (begins _ p)
   begins r (repeated {xs = xs} {ys = ys} h p m) = subst P (sym (append_assoc xs ys r)) (begins _ p)
@@ -262,7 +262,7 @@ abbrev NotEsac : List Lexeme → Type 0
 NotEsac [] = Unit {0}
 NotEsac (t ∷ ts) = is_esac t ≡ false
 
-abbrev IsSome : List Lexeme → Type 0
+abbrev pub IsSome : List Lexeme → Type 0
 IsSome ts = ts ≢ []
 
 int_not_esac : {xs : List Lexeme} {n : ℤ} (r : List Lexeme) → SpellsInt xs n → NotEsac (xs ++ r)
@@ -313,7 +313,7 @@ atom_some xs a r is_number = λ e. cc
 atom_some xs a r (in_parentheses p) = λ e. cc
 atom_some xs a r (is_set p) = λ e. cc
 
-some_token : {l : ℕ} {xs : List Lexeme} {a : Tree Path} (r : List Lexeme) → Spells l xs a → IsSome (xs ++ r)
+pub some_token : {l : ℕ} {xs : List Lexeme} {a : Tree Path} (r : List Lexeme) → Spells l xs a → IsSome (xs ++ r)
 some_token r p = begins IsSome atom_some (λ r e. cc) (λ r e. cc) r p
 
 -- an atom does not begin with `!`, and where it begins with `-` a number and two dots follow
@@ -370,7 +370,7 @@ not_minus r s (only_atom p) h q v e = no_span_next s h q v (atom_minus r _ p e)
 not_minus r s (inverts p) h q v e = cc
 not_minus r s (repeated i p m) h q v e = cc
 
-closes : (l : ℕ) (t : Lexeme) (r : List Lexeme) → Ends l t → Stops l (t ∷ r)
+pub closes : (l : ℕ) (t : Lexeme) (r : List Lexeme) → Ends l t → Stops l (t ∷ r)
 unfolding Stops
 closes l t r h = h
 
@@ -379,15 +379,15 @@ unfolding Stops
 head_ends l [] t more u e = cc
 head_ends l (x ∷ xs) t more u e = let same : x ≡ t = cc in subst (Ends l) same u
 
-end_of_bracket : (l : ℕ) (r : List Lexeme) → Stops l (sign k.Close ∷ r)
+pub end_of_bracket : (l : ℕ) (r : List Lexeme) → Stops l (sign k.Close ∷ r)
 unfolding op_of
 end_of_bracket l r = closes l (sign k.Close) r (ends_at l (sign k.Close) refl (λ e. cc) (λ e. cc) (λ e. cc))
 
-end_of_brace : (l : ℕ) (r : List Lexeme) → Stops l (sign k.CloseBrace ∷ r)
+pub end_of_brace : (l : ℕ) (r : List Lexeme) → Stops l (sign k.CloseBrace ∷ r)
 unfolding op_of
 end_of_brace l r = closes l (sign k.CloseBrace) r (ends_at l (sign k.CloseBrace) refl (λ e. cc) (λ e. cc) (λ e. cc))
 
-end_of_comma : (l : ℕ) (r : List Lexeme) → Stops l (sign k.Comma ∷ r)
+pub end_of_comma : (l : ℕ) (r : List Lexeme) → Stops l (sign k.Comma ∷ r)
 unfolding op_of
 end_of_comma l r = closes l (sign k.Comma) r (ends_at l (sign k.Comma) refl (λ e. cc) (λ e. cc) (λ e. cc))
 
@@ -395,7 +395,7 @@ end_of_colon : (l : ℕ) (r : List Lexeme) → Stops l (sign k.Colon ∷ r)
 unfolding op_of
 end_of_colon l r = closes l (sign k.Colon) r (ends_at l (sign k.Colon) refl (λ e. cc) (λ e. cc) (λ e. cc))
 
-end_of_semicolon : (l : ℕ) (r : List Lexeme) → Stops l (sign k.Semicolon ∷ r)
+pub end_of_semicolon : (l : ℕ) (r : List Lexeme) → Stops l (sign k.Semicolon ∷ r)
 unfolding op_of
 end_of_semicolon l r = closes l (sign k.Semicolon) r (ends_at l (sign k.Semicolon) refl (λ e. cc) (λ e. cc) (λ e. cc))
 
@@ -404,13 +404,13 @@ stops_more {l} r no_operator h = stops_tighter l (suc l) r (omega arith) h
 stops_more {l} r (one_operator {o = o} f s m) h = closes (suc l) (operator o) _ (ends_operator l o f)
 
 -- a list in three parts
-regrouped : (xs ys zs : List Lexeme) (t : Lexeme) → (xs ++ t ∷ ys) ++ zs ≡ xs ++ t ∷ (ys ++ zs)
+pub regrouped : (xs ys zs : List Lexeme) (t : Lexeme) → (xs ++ t ∷ ys) ++ zs ≡ xs ++ t ∷ (ys ++ zs)
 regrouped xs ys zs t = append_assoc xs (t ∷ ys) zs
 
 no_zero : 0 < 0 → ⊥
 no_zero h = omega (arith, h)
 
-second : {t : Lexeme} {xs ys : List Lexeme} → ◌≡◌ {A = List Lexeme} (t ∷ xs) (t ∷ ys) → xs ≡ ys
+pub second : {t : Lexeme} {xs ys : List Lexeme} → ◌≡◌ {A = List Lexeme} (t ∷ xs) (t ∷ ys) → xs ≡ ys
 second e = cc
 
 forms : {xs ys : List Lexeme} {a b : Tree Path} (r s : List Lexeme) (p : SpellsAtom xs a) (q : SpellsAtom ys b) → xs ++ r ≡ ys ++ s → Stops 11 r → Stops 11 s →
@@ -427,7 +427,7 @@ brace_no_comma : {r s : List Lexeme} → ◌≡◌ {A = List Lexeme} (sign k.Clo
 brace_no_comma e = cc
 
 mutual
-  one_line : {l : ℕ} {xs ys : List Lexeme} {a b : Tree Path} (r s : List Lexeme) → Spells l xs a → Spells l ys b → xs ++ r ≡ ys ++ s → Stops l r → Stops l s →
+  pub one_line : {l : ℕ} {xs ys : List Lexeme} {a b : Tree Path} (r s : List Lexeme) → Spells l xs a → Spells l ys b → xs ++ r ≡ ys ++ s → Stops l r → Stops l s →
       Same xs ys a b r s
   one_line r s (only_iff p) (only_iff q) e u v = one_line r s p q e (stops_tighter 0 1 r (omega arith) u) (stops_tighter 0 1 s (omega arith) v)
   one_line r s (only_iff {ts = xs} {t = a} p) (implies {xs = ys} {ys = zs} {a = b} q q') e u v =
@@ -599,6 +599,25 @@ mutual
       one_line _ _ p' q' (sym (regrouped x1 x2 (word (codes "esac") ∷ r) (sign k.Semicolon)) ∙ second inner.2 ∙ regrouped y1 y2 (word (codes "esac") ∷ s) (sign k.Semicolon)) (end_of_semicolon 0 _) (end_of_semicolon 0 _) in
       let last : Same x2 y2 am bm r s = one_case r s pm qm (second rest.2) in
       (rw (inner.0, rest.0, last.0) refl, rw (inner.1, rest.1, last.1) refl, last.2)
+
+-- lexemes that are no operators
+pub no_word_operator : (x : List ℕ) → same_text x (codes "mod") ≡ false → same_text x (codes "union") ≡ false → same_text x (codes "in") ≡ false → same_text x (codes "xor") ≡ false →
+    same_text x (codes "xnor") ≡ false → op_of (word x) ≡ None
+unfolding op_of
+no_word_operator x h1 h2 h3 h4 h5 = rw (h1, h2, h3, h4, h5) refl
+
+pub end_of_becomes : (l : ℕ) (r : List Lexeme) → Stops l (sign k.Becomes ∷ r)
+unfolding op_of
+end_of_becomes l r = closes l (sign k.Becomes) r (ends_at l (sign k.Becomes) refl (λ e. cc) (λ e. cc) (λ e. cc))
+
+-- the rest of lists that are the same
+pub tails : {t u : Lexeme} {xs ys : List Lexeme} → ◌≡◌ {A = List Lexeme} (t ∷ xs) (u ∷ ys) → xs ≡ ys
+tails e = cc
+
+-- nothing ends each line
+pub nothing_stops : (l : ℕ) → Stops l []
+unfolding Stops
+nothing_stops l = tt
 
 -- no list of tokens spells two expressions
 pub one_expression : {ts : List Lexeme} {a b : Tree Path} → Spells at_expr ts a → Spells at_expr ts b → a ≡ b

@@ -4,6 +4,7 @@ use Rattle.xs_tree.specs.Tree.{Tree, Trees, Branches, truth, number, leaf, not_o
 use Rattle.xs_tree.specs.ProgramTree.{Text, Path, Formula, ProgramTree}
 use Rattle.xs_tree.specs.Lexemes.{Lexeme}
 use Rattle.xs_tree.specs.Spells.{at_expr, Spells}
+use Rattle.xs_tree.specs.SpellsProgram.{SpellsProgram, SpellsExpressions}
 use Rattle.xs_tree.specs.Printed.{printed, IsWritable}
 use Rattle.xs_tree.specs.Text.{text_of, program_text}
 use Rattle.xs_tree.specs.Bytes.{BytesSpellExpr, BytesSpellProgram}
@@ -17,6 +18,14 @@ use Rattle.xs_tree.specs.May.{Valuation, name_values}
 -- no list of tokens spells two expressions
 abbrev pub SpellsOneExpression : Type 0
 SpellsOneExpression = (ts : List Lexeme) (a b : Tree Path) → Spells at_expr ts a → Spells at_expr ts b → a ≡ b
+
+-- nor two programs
+abbrev pub SpellsOneProgram : Type 0
+SpellsOneProgram = (ts : List Lexeme) (p q : ProgramTree) → SpellsProgram ts p → SpellsProgram ts q → p ≡ q
+
+-- nor two lists of expressions
+abbrev pub SpellsOneList : Type 0
+SpellsOneList = (ts : List Lexeme) (es fs : List Formula) → SpellsExpressions ts es → SpellsExpressions ts fs → es ≡ fs
 
 -- the printed tokens of an expression spell it
 abbrev pub PrintedSpells : Type 0

@@ -1,10 +1,16 @@
 //! Laws of the definitions, each as the contract of a function that does nothing.
 
-ghost use Rattle.xs_tree.specs.Laws.{SpellsOneExpression, PrintedSpells, TextsSpell, ProgramTextsSpell, SpelledIsWritable, DeeperMeansTheSame, DeeperGivesTheSame, AgreeingLeavesGiveTheSame, MappedLeavesGiveTheSame};
+ghost use Rattle.xs_tree.specs.Laws.{SpellsOneExpression, SpellsOneProgram, SpellsOneList, PrintedSpells, TextsSpell, ProgramTextsSpell, SpelledIsWritable, DeeperMeansTheSame, DeeperGivesTheSame, AgreeingLeavesGiveTheSame, MappedLeavesGiveTheSame};
 
 /// No list of tokens spells two expressions.
 pub fn one_tree()
     ensures { SpellsOneExpression }
+{}
+
+/// No list of tokens spells two programs, or two lists of expressions, however deep they are.
+pub fn one_program()
+    ensures programs { SpellsOneProgram }
+    ensures lists { SpellsOneList }
 {}
 
 /// The tokens of an expression's printed text spell it.

@@ -48,6 +48,3 @@ pub use fault::{Rule, TypeFault};
 pub use interval::Interval;
 pub use sort::{Class, Judged, Sort, joined, kept, literal, negative, operation};
 pub use typed::{Typed, check_model};
-
-#[cfg(test)]
-mod tests;

@@ -1,29 +1,24 @@
--- The cut is one to one, up to what the two sides speak of.
-use Rattle.std.proofs.Common.{◌≡◌, ◌⊎◌, inl, inr, refl, sym, ◌∙◌, subst}
+-- The cut is one to one, up to what the two sides speak of, and onto.
+use Rattle.std.proofs.Common.{◌≡◌, ◌⊎◌, inl, inr, List, [], ◌∷◌, refl, sym, ◌∙◌, subst}
 use Rattle.xs_tree.specs.ProgramTree.{Text, DeclaredTree, ModuleTree, ProgramTree}
 use Rattle.xs_tree.specs.Values.{symbol}
 use Rattle.xs_tree.specs.Scope.{Place, Role, Kind, a_formal, a_variable, a_define, an_instance, undeclared, kind_in, kind_in_sections}
 use Rattle.xs_tree.specs.May.{Valuation}
-use Rattle.xs_tree.specs.Trace.{IsInstance, IsVariable}
+use Rattle.xs_tree.specs.Trace.{IsInstance, IsVariable, Each}
 use Rattle.xs_fei.specs.Instructions.{SliceTree, InstructionTree, slices_of}
 use Rattle.xs_weave.specs.Extended.{Moment}
 use Rattle.xs_effects.specs.AddedNames.{mode_symbol}
-use Rattle.xs_weave.specs.Conservative.{IsSlice, IsCutMoment}
+use Rattle.xs_weave.specs.Conservative.{EachBoth, IsSlice, IsCutMoment, IsCut, SameMoment, SameValuation, HasModes, IsOneToOne}
 use Rattle.xs_weave.specs.Woven.{added_sections, woven}
 use Rattle.xs_weave.specs.Weavable.{Among, IsWeavable}
 use Rattle.xs_weave.proofs.WovenKinds.{kind_or, kind_woven, Adds, IsAddedBy, added_or_not}
 use Rattle.xs_weave.proofs.Added.{contains_among, among_contains}
 use Rattle.xs_weave.proofs.WovenMoves.{state_same}
 use Rattle.xs_weave.proofs.WovenMoments.{all_instances, known_of}
+use Rattle.xs_weave.proofs.WovenCuts.{joined, joined_cut}
 
 module _ (p : ProgramTree) (i : InstructionTree) (ok : IsWeavable p i) where
-  -- the moments say the same of the program's variables, the affected ones and the slices
-  pub record SameMoment (mo mo' : Moment) : Type 0 where
-    pub same_read : (at : Place) (x : Text) (role : Role) (type : DeclaredTree) → IsVariable p at x role type → mo.read at x ≡ mo'.read at x
-    pub same_own : (at : Place) (s : SliceTree) → IsSlice p i at s → mo.own at s.target ≡ mo'.own at s.target
-    pub same_mode : (at : Place) (s : SliceTree) → IsSlice p i at s → mo.mode at s.name ≡ mo'.mode at s.name
-
-  pub one_moment : (v : Valuation) (mo mo' : Moment) → IsCutMoment p i v mo → IsCutMoment p i v mo' → SameMoment mo mo'
+  pub one_moment : (v : Valuation) (mo mo' : Moment) → IsCutMoment p i v mo → IsCutMoment p i v mo' → SameMoment p i mo mo'
   one_moment v mo mo' cut cut' = record {
     same_read = λ at x role type h. sym (cut.read at x role type h) ∙ cut'.read at x role type h;
     same_own = λ at s h. sym (cut.own at s h) ∙ cut'.own at s h;
@@ -38,8 +33,7 @@ module _ (p : ProgramTree) (i : InstructionTree) (ok : IsWeavable p i) where
           (known_of p i s (mo.mode at s.name) (cut.known at s h)) (known_of p i s (mo'.mode at s.name) (cut'.known at s h)) texts
 
   -- and the valuations agree on the variables of the woven program
-  pub one_valuation : (v v' : Valuation) (mo : Moment) → IsCutMoment p i v mo → IsCutMoment p i v' mo →
-      (at : Place) (x : Text) (role : Role) (type : DeclaredTree) → IsVariable (woven p i) at x role type → v at x ≡ v' at x
+  pub one_valuation : (v v' : Valuation) (mo : Moment) → IsCutMoment p i v mo → IsCutMoment p i v' mo → SameValuation p i (woven p i) v v'
   one_valuation v v' mo cut cut' at x role type h =
       (all_instances p i ok (λ at m. kind_in m x ≡ a_variable role type → v at x ≡ v' at x)).1 (λ at m is k. here at m is (sym (kind_woven i m x) ∙ k)) at h.0 h.1 h.2
     where
@@ -65,3 +59,28 @@ module _ (p : ProgramTree) (i : InstructionTree) (ok : IsWeavable p i) where
           by (a_formal j) e k = cc
           by (a_define f) e k = cc
           by (an_instance n es) e k = cc
+
+  one_trace : (vs : List Valuation) (trace trace' : List Moment) → IsCut p i vs trace → IsCut p i vs trace' → EachBoth (SameMoment p i) trace trace'
+  one_trace [] [] [] cut cut' = tt
+  one_trace [] [] (mo ∷ trace) cut cut' = absurd cut'
+  one_trace [] (mo ∷ trace) trace' cut cut' = absurd cut
+  one_trace (v ∷ vs) [] trace' cut cut' = absurd cut
+  one_trace (v ∷ vs) (mo ∷ trace) [] cut cut' = absurd cut'
+  one_trace (v ∷ vs) (mo ∷ trace) (mo' ∷ trace') cut cut' = (one_moment v mo mo' cut.0 cut'.0, one_trace vs trace trace' cut.1 cut'.1)
+
+  one_list : (vs vs' : List Valuation) (trace : List Moment) → IsCut p i vs trace → IsCut p i vs' trace → EachBoth (SameValuation p i (woven p i)) vs vs'
+  one_list [] [] [] cut cut' = tt
+  one_list [] (v ∷ vs) [] cut cut' = absurd cut'
+  one_list [] vs' (mo ∷ trace) cut cut' = absurd cut
+  one_list (v ∷ vs) vs' [] cut cut' = absurd cut
+  one_list (v ∷ vs) [] (mo ∷ trace) cut cut' = absurd cut'
+  one_list (v ∷ vs) (v' ∷ vs') (mo ∷ trace) cut cut' = (one_valuation v v' mo cut.0 cut'.0, one_list vs vs' trace cut.1 cut'.1)
+
+  every_list : (trace : List Moment) → Each (HasModes p i) trace → (vs : List Valuation) × IsCut p i vs trace
+  every_list [] has = ([], tt)
+  every_list (mo ∷ trace) has =
+      let rest : (vs : List Valuation) × IsCut p i vs trace = every_list trace has.1 in
+      (joined p i mo ∷ rest.0, (joined_cut p i ok mo has.0, rest.1))
+
+  pub cut_is_one_to_one : IsOneToOne p i (woven p i)
+  cut_is_one_to_one = record { one_trace = one_trace; one_list = one_list; every_list = every_list }

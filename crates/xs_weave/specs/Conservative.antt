@@ -53,3 +53,23 @@ module _ (p : ProgramTree) (i : InstructionTree) where
     -- the faultless ones, hidden, are exactly the traces of the program
     pub nominal : (vs : List Valuation) →
         (IsTrace p vs ↔ ((trace : List Moment) × IsExtended p i trace × IsFaultless trace × IsHidden trace vs))
+
+  -- the moments say the same of the program's variables, the affected ones and the slices
+  pub record SameMoment (mo mo' : Moment) : Type 0 where
+    pub same_read : (at : Place) (x : Text) (role : Role) (type : DeclaredTree) → IsVariable p at x role type → mo.read at x ≡ mo'.read at x
+    pub same_own : (at : Place) (s : SliceTree) → IsSlice at s → mo.own at s.target ≡ mo'.own at s.target
+    pub same_mode : (at : Place) (s : SliceTree) → IsSlice at s → mo.mode at s.name ≡ mo'.mode at s.name
+
+  -- the valuations agree on the variables of a program
+  abbrev pub SameValuation : ProgramTree → Valuation → Valuation → Type 0
+  SameValuation w v v' = (at : Place) (x : Text) (role : Role) (type : DeclaredTree) → IsVariable w at x role type → v at x ≡ v' at x
+
+  -- each slice is nominal or in one of its modes
+  abbrev pub HasModes : Moment → Type 0
+  HasModes mo = (at : Place) (s : SliceTree) → IsSlice at s → IsStateOf s (mo.mode at s.name)
+
+  -- the cut of lists of valuations of a program is one to one, and every list of moments is the cut of one list
+  pub record IsOneToOne (w : ProgramTree) : Type 0 where
+    pub one_trace : (vs : List Valuation) (trace trace' : List Moment) → IsCut vs trace → IsCut vs trace' → EachBoth SameMoment trace trace'
+    pub one_list : (vs vs' : List Valuation) (trace : List Moment) → IsCut vs trace → IsCut vs' trace → EachBoth (SameValuation w) vs vs'
+    pub every_list : (trace : List Moment) → Each HasModes trace → (vs : List Valuation) × IsCut vs trace

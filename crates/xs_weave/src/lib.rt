@@ -14,7 +14,7 @@
 //! ```
 #![tactic(auto)]
 
-ghost use Rattle.xs_weave.specs.WeaveLaws.{WovenExtends};
+ghost use Rattle.xs_weave.specs.WeaveLaws.{WovenExtends, CutIsOneToOne};
 
 mod lookup;
 mod rename;
@@ -27,4 +27,10 @@ pub use weave::woven_program;
 /// instructions that a weave takes.
 pub fn woven_extends()
     ensures { WovenExtends }
+{}
+
+/// The cut from valuations of the woven program to moments of the extension is one to one, up to what the
+/// two speak of, and every list of moments whose modes are its slices' is the cut of a list of valuations.
+pub fn cut_is_one_to_one()
+    ensures { CutIsOneToOne }
 {}

@@ -32,6 +32,3 @@ pub use items::placed_slices;
 pub use laws::kept_is_weavable;
 pub use numbers::{extensions_have_negations, modules_have_negations};
 pub use placed::{Placed, item_after};
-
-#[cfg(test)]
-mod tests;

@@ -69,7 +69,7 @@ module _ (m : FlatModel) (all : List Mode) (closed : IsClosed m) where
       same_definitions (judged_variables m.variables) (judged_variables full.variables) (length m.variables) (length m.symbols)
       (λ i h. same_below (λ (x : FlatVariable). judged_declared x.declared) m.variables (bit_variables 0 all) i h) m.definitions [] 0 refl closed.definitions
 
-  own_kind : (l : FlatLeaf) → IsKnown (length m.variables) (length m.symbols) (length m.definitions) l → kind_of_leaf full l ≡ kind_of_leaf m l
+  pub own_kind : (l : FlatLeaf) → IsKnown (length m.variables) (length m.symbols) (length m.definitions) l → kind_of_leaf full l ≡ kind_of_leaf m l
   own_kind (flat_variable i) h = ap kind_at (same_below (λ (x : FlatVariable). judged_declared x.declared) m.variables (bit_variables 0 all) i h)
   own_kind (flat_symbol i) h = refl
   own_kind (flat_definition i) h = ap (λ js. kind_at (slice_get js i)) definitions_same

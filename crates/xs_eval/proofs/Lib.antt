@@ -1,0 +1,13 @@
+pub mod Rows
+pub mod Answered
+pub mod Mapped
+pub mod FilledLaws
+pub mod ValueLaws
+pub mod ConditionLaws
+pub mod ReplayLaws
+pub mod FailedLaws
+pub mod StopLaws
+pub mod AskedLaws
+pub mod LoopLaws
+pub mod Examples
+pub mod ModelLaws

@@ -1,0 +1,17 @@
+-- A program's flat model may be evaluated.
+use Rattle.std.proofs.Common.{◌≡◌, List, Some, refl, subst}
+use Rattle.std.specs.Prelude.{slice_get}
+use Rattle.xs_tree.specs.ProgramTree.{Text}
+use Rattle.xs_flattening.specs.Model.{symbols_of}
+use Rattle.xs_flattening.proofs.KeysApart.{pairwise_same}
+use Rattle.xs_flattening.proofs.OneModel.{OtherText, symbols_apart}
+use Rattle.xs_kinds.proofs.ClosedLaws.{models_closed}
+use Rattle.xs_eval.specs.Laws.{FlatModelsAreEvaluable}
+
+pub evaluable : FlatModelsAreEvaluable
+evaluable p m is = record {
+  closed = models_closed p m is;
+  apart = λ i j x e f.
+      pairwise_same OtherText (symbols_of p) i j x x (symbols_apart p) (subst (λ (xs : List Text). slice_get xs i ≡ Some x) is.symbols e) (subst (λ (xs : List Text). slice_get xs j ≡ Some x) is.symbols f)
+      (λ d. d refl) (λ d. d refl);
+}

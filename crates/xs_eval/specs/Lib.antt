@@ -1,0 +1,9 @@
+pub mod Operated
+pub mod Asked
+pub mod Entries
+pub mod Filled
+pub mod Named
+pub mod Stops
+pub mod Replayed
+pub mod Failed
+pub mod Laws

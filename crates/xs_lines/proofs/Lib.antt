@@ -1,0 +1,3 @@
+pub mod Separators
+pub mod Words
+pub mod Cuts

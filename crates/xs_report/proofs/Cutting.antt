@@ -1,0 +1,71 @@
+-- Bytes cut at a byte, and a line cut into the words of an equation.
+use Rattle.std.proofs.Common.{◌≡◌, ◌≢◌, ℕ, zero, suc, ◌<◌, ◌≤◌, List, [], ◌∷◌, ◌++◌, length, take, drop, get_or, refl, sym, ◌∙◌, ap, subst, arith, codes}
+use Rattle.std.specs.Fmt.{decimal}
+use Rattle.xs_lines.specs.Lines.{Line, IsLine}
+use Rattle.xs_lines.proofs.Separators.{same_front, no_separator}
+use Rattle.xs_trace_text.specs.TraceText.{moment_line, equation}
+use Rattle.xs_trace_text.specs.Wrong.{IsEquation}
+use Rattle.xs_report.specs.Cuts.{Lacks, BeginsWith, IsNoEquation, IsSpaceless}
+
+pub front_free : (b : ℕ) (bytes : List ℕ) (n : ℕ) → n ≤ length bytes → ((k : ℕ) → k < n → get_or bytes k 0 ≢ b) → Lacks b (take n bytes)
+front_free b [] zero h f = tt
+front_free b (c ∷ bytes) zero h f = tt
+front_free b [] (suc n) h f = absurd (omega (arith, h))
+front_free b (c ∷ bytes) (suc n) h f = (f 0 (omega arith), front_free b bytes n (omega (arith, h)) (λ k g. f (suc k) (omega (arith, g))))
+
+pub back_begins : (b : ℕ) (bytes : List ℕ) (n : ℕ) → n ≤ length bytes → (n < length bytes → get_or bytes n 0 ≡ b) → BeginsWith b (drop n bytes)
+back_begins b [] zero h f = tt
+back_begins b (c ∷ bytes) zero h f = f (omega arith)
+back_begins b [] (suc n) h f = absurd (omega (arith, h))
+back_begins b (c ∷ bytes) (suc n) h f = back_begins b bytes n (omega (arith, h)) (λ g. f (omega (arith, g)))
+
+append_none : {A : Type 0} (xs : List A) → xs ++ [] ≡ xs
+append_none [] = refl
+append_none (x ∷ xs) = ap (λ ys. x ∷ ys) (append_none xs)
+
+tail_of : (x y : ℕ) (xs ys : List ℕ) → (x ∷ xs) ≡ (y ∷ ys) → xs ≡ ys
+tail_of x y xs ys e = cc
+
+-- Equations.
+lines_of : (xs ys : Line) → IsLine (xs ++ ys) → IsLine xs × IsLine ys
+lines_of [] ys h = (tt, h)
+lines_of (x ∷ xs) ys h = let more : IsLine xs × IsLine ys = lines_of xs ys h.1 in ((h.0, more.0), more.1)
+
+pub equation_made : (line name rest value : Line) → IsLine line → line ≡ name ++ rest → rest ≡ 32 ∷ 61 ∷ 32 ∷ value → IsSpaceless name → IsSpaceless value → IsEquation name value line
+equation_made line name rest value l e r n v =
+    let whole : line ≡ equation name value = e ∙ ap (λ x. name ++ x) r in
+    let parts : IsLine name × IsLine (32 ∷ 61 ∷ 32 ∷ value) = lines_of name (32 ∷ 61 ∷ 32 ∷ value) (subst IsLine whole l) in
+    record {
+      name_word = record { some = n.0; free = n.1; line = parts.0 };
+      value_word = record { some = v.0; free = v.1; line = parts.1.1.1.1 };
+      is_line = whole;
+    }
+
+-- the words of an equation are those at which the line is cut
+same_words : (line name rest n w : Line) → line ≡ name ++ rest → Lacks 32 name → BeginsWith 32 rest → IsEquation n w line → (name ≡ n) × (rest ≡ 32 ∷ 61 ∷ 32 ∷ w)
+same_words line name [] n w e f b q = absurd (no_separator 32 name n (61 ∷ 32 ∷ w) f (sym (append_none name) ∙ sym e ∙ q.is_line))
+same_words line name (c ∷ rest) n w e f b q =
+    let parts : (name ≡ n) × (rest ≡ 61 ∷ 32 ∷ w) = same_front 32 name n rest (61 ∷ 32 ∷ w) f q.name_word.free (ap (λ x. name ++ x ∷ rest) (sym b) ∙ sym e ∙ q.is_line) in
+    (parts.0, ap (λ x. x ∷ rest) b ∙ ap (λ r. 32 ∷ r) parts.1)
+
+pub no_equals : (line name rest : Line) → line ≡ name ++ rest → Lacks 32 name → BeginsWith 32 rest → ((value : Line) → rest ≢ 32 ∷ 61 ∷ 32 ∷ value) → IsNoEquation line
+no_equals line name rest e f b none n w q = none w (same_words line name rest n w e f b q).1
+
+pub no_words : (line name rest value : Line) → line ≡ name ++ rest → Lacks 32 name → BeginsWith 32 rest → rest ≡ 32 ∷ 61 ∷ 32 ∷ value → (IsSpaceless name → IsSpaceless value → ⊥) → IsNoEquation line
+no_words line name rest value e f b r none n w q =
+    let same : (name ≡ n) × (rest ≡ 32 ∷ 61 ∷ 32 ∷ w) = same_words line name rest n w e f b q in
+    let values : w ≡ value = tail_of 32 32 w value (tail_of 61 61 (32 ∷ w) (32 ∷ value) (tail_of 32 32 (61 ∷ 32 ∷ w) (61 ∷ 32 ∷ value) (sym same.1 ∙ r))) in
+    none (subst IsSpaceless (sym same.0) (q.name_word.some, q.name_word.free)) (subst IsSpaceless values (q.value_word.some, q.value_word.free))
+
+-- a byte before all of whose places no space stands
+pub all_free : (b : ℕ) (bytes : List ℕ) (n : ℕ) → n ≡ length bytes → ((k : ℕ) → k < n → get_or bytes k 0 ≢ b) → Lacks b bytes
+all_free b [] n e f = tt
+all_free b (c ∷ bytes) n e f = (f 0 (omega (arith, e)), all_free b bytes (length bytes) refl (λ k g. f (suc k) (omega (arith, e, g))))
+
+-- The line of a moment.
+same_after : (front xs ys : List ℕ) → front ++ xs ≡ front ++ ys → xs ≡ ys
+same_after [] xs ys e = e
+same_after (x ∷ front) xs ys e = same_after front xs ys (tail_of x x (front ++ xs) (front ++ ys) e)
+
+pub same_moment : (line digits : List ℕ) (n : ℕ) → line ≡ codes "moment " ++ digits → line ≡ moment_line n → digits ≡ decimal n
+same_moment line digits n e f = same_after (codes "moment ") digits (decimal n) (sym e ∙ f)

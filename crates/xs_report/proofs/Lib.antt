@@ -1,0 +1,10 @@
+pub mod TextLaws
+pub mod Cutting
+pub mod ValueLaws
+pub mod LookupLaws
+pub mod Positions
+pub mod Steps
+pub mod Causes
+pub mod Collected
+pub mod WholeLaws
+pub mod Examples

@@ -1,0 +1,92 @@
+-- Text that is appended piece by piece.
+use Rattle.std.proofs.Common.{◌≡◌, ℕ, zero, suc, ◌+◌, ◌<◌, ◌≤◌, List, [], ◌∷◌, ◌++◌, length, get_or, drop, Some, None, refl, sym, ◌∙◌, ap, subst, arith, add-one, reverse}
+use Rattle.std.specs.Prelude.{slice_get, map}
+use Rattle.std.proofs.lemmas.List.{append_assoc, append-nil, length-map, length-reverse, drop_more, reverse-reverse}
+use Rattle.xs_tree.specs.ProgramTree.{Text}
+use Rattle.xs_tree.specs.Text.{dotted_text}
+use Rattle.xs_flattening.specs.Flat.{FlatVariable, FlatModel}
+use Rattle.xs_lines.specs.Lines.{fed}
+use Rattle.xs_lines.proofs.Cuts.{fed_joined}
+use Rattle.xs_scope.specs.declared.model.Variable.{Variable}
+use Rattle.xs_scope.specs.ModelTree.{name_in, place_in, variable_tree}
+use Rattle.xs_value.specs.declared.value.Value.{Value as Numbered}
+use Rattle.xs_trace_text.specs.TraceText.{value_line, value_lines, moment_line, trace_lines}
+use Rattle.xs_report.specs.Names.{printed_name}
+use Rattle.xs_report.specs.Told.{told_value, told_moment, told_trace}
+
+pub ruleset text_rules = (append_assoc, append-nil, length-map)
+
+-- a variable is printed by its path
+pub path_text : (x : Variable) → 0 < length x.path → printed_name x ≡ dotted_text x.path
+path_text x some = ap dotted_text (ap reverse (both (reverse x.path) many) ∙ reverse-reverse x.path)
+  where
+    both : (xs : List Text) → 0 < length xs → name_in xs ∷ place_in xs ≡ xs
+    both [] h = absurd (omega (arith, h))
+    both (y ∷ xs) h = refl
+
+    many : 0 < length (reverse x.path)
+    many = let same : length (reverse x.path) ≡ length x.path = length-reverse x.path in omega (arith, same, some)
+
+-- what is left of a list, from the item at a place
+pub drop_item : {A : Type 0} (xs : List A) (i : ℕ) (x : A) → slice_get xs i ≡ Some x → drop i xs ≡ x ∷ drop (suc i) xs
+drop_item [] i x e = absurd (never x e)
+  where
+    never : {A : Type 0} (x : A) → None ≡ Some x → ⊥
+    never x e = cc
+drop_item (y ∷ xs) zero x e = ap (λ z. z ∷ xs) (some_same y x e)
+  where
+    some_same : {A : Type 0} (x y : A) → Some x ≡ Some y → x ≡ y
+    some_same x y e = cc
+drop_item (y ∷ xs) (suc i) x e = drop_item xs i x e
+
+-- nothing is left past the end
+drop_past : {A : Type 0} (xs : List A) (i : ℕ) → length xs ≤ i → drop i xs ≡ []
+drop_past [] zero h = refl
+drop_past [] (suc i) h = refl
+drop_past (x ∷ xs) zero h = absurd (omega (arith, h))
+drop_past (x ∷ xs) (suc i) h = drop_past xs i (omega (arith, h))
+
+no_lines : (xs : List FlatVariable) → value_lines xs [] ≡ []
+no_lines [] = refl
+no_lines (x ∷ xs) = refl
+
+-- the lines of a moment from a variable on
+abbrev pub lines_from : List Text → List Variable → List Numbered → ℕ → List ℕ
+lines_from symbols xs v i = fed (value_lines (map variable_tree (drop i xs)) (told_moment symbols (drop i v)))
+
+pub line_more : (symbols : List Text) (xs : List Variable) (v : List Numbered) (i : ℕ) (x : Variable) (w : Numbered) → slice_get xs i ≡ Some x → slice_get v i ≡ Some w →
+    lines_from symbols xs v i ≡ (value_line (variable_tree x) (told_value symbols w) ++ 10 ∷ []) ++ lines_from symbols xs v (suc i)
+line_more symbols xs v i x w e f =
+    ap (λ ys. fed (value_lines (map variable_tree ys) (told_moment symbols (drop i v)))) (drop_item xs i x e)
+    ∙ ap (λ u. fed (value_lines (map variable_tree (x ∷ drop (suc i) xs)) (told_moment symbols u))) (drop_item v i w f)
+
+pub line_past : (symbols : List Text) (xs : List Variable) (v : List Numbered) (i : ℕ) → length v ≤ i → lines_from symbols xs v i ≡ []
+line_past symbols xs v i h = ap (λ u. fed (value_lines (map variable_tree (drop i xs)) (told_moment symbols u))) (drop_past v i h) ∙ ap fed (no_lines (map variable_tree (drop i xs)))
+
+-- the lines of a trace from a moment on
+abbrev pub moments_from : FlatModel → List Text → List (List Numbered) → ℕ → List ℕ
+moments_from m symbols trace i = fed (trace_lines m i (told_trace symbols (drop i trace)))
+
+pub moment_more : (m : FlatModel) (symbols : List Text) (trace : List (List Numbered)) (i : ℕ) (v : List Numbered) → slice_get trace i ≡ Some v →
+    moments_from m symbols trace i ≡ fed (moment_line i ∷ value_lines m.variables (told_moment symbols v)) ++ moments_from m symbols trace (suc i)
+moment_more m symbols trace i v e =
+    ap (λ t. fed (trace_lines m i (told_trace symbols t))) (drop_item trace i v e)
+    ∙ fed_joined (moment_line i ∷ value_lines m.variables (told_moment symbols v)) (trace_lines m (suc i) (told_trace symbols (drop (suc i) trace)))
+
+-- one line on, and past the last value
+pub values_on : (symbols : List Text) (xs : List Variable) (v : List Numbered) (i : ℕ) (x : Variable) (w : Numbered) (before after whole : List ℕ) → slice_get xs i ≡ Some x → slice_get v i ≡ Some w →
+    after ≡ before ++ (value_line (variable_tree x) (told_value symbols w) ++ 10 ∷ []) → before ++ lines_from symbols xs v i ≡ whole → after ++ lines_from symbols xs v (i + 1) ≡ whole
+values_on symbols xs v i x w before after whole e f a b =
+    ap (λ k. after ++ lines_from symbols xs v k) (add-one i) ∙ ap (λ t. t ++ lines_from symbols xs v (suc i)) a ∙ append_assoc before (value_line (variable_tree x) (told_value symbols w) ++ 10 ∷ []) (lines_from symbols xs v (suc i))
+    ∙ ap (λ t. before ++ t) (sym (line_more symbols xs v i x w e f)) ∙ b
+
+pub values_past : (symbols : List Text) (xs : List Variable) (v : List Numbered) (i : ℕ) (before whole : List ℕ) → length v ≤ i → before ++ lines_from symbols xs v i ≡ whole → before ++ lines_from symbols xs v (i + 1) ≡ whole
+values_past symbols xs v i before whole h b = ap (λ t. before ++ t) (line_past symbols xs v (i + 1) (omega (arith, h)) ∙ sym (line_past symbols xs v i h)) ∙ b
+
+-- one moment on
+pub moments_on : (m : FlatModel) (symbols : List Text) (trace : List (List Numbered)) (i : ℕ) (v : List Numbered) (before after whole : List ℕ) → slice_get trace i ≡ Some v →
+    after ≡ before ++ fed (moment_line i ∷ value_lines m.variables (told_moment symbols v)) → before ++ moments_from m symbols trace i ≡ whole → after ++ moments_from m symbols trace (i + 1) ≡ whole
+moments_on m symbols trace i v before after whole e a b =
+    ap (λ k. after ++ moments_from m symbols trace k) (add-one i) ∙ ap (λ t. t ++ moments_from m symbols trace (suc i)) a
+    ∙ append_assoc before (fed (moment_line i ∷ value_lines m.variables (told_moment symbols v))) (moments_from m symbols trace (suc i))
+    ∙ ap (λ t. before ++ t) (sym (moment_more m symbols trace i v e)) ∙ b

@@ -1,0 +1,9 @@
+use Rattle.std.proofs.Common.{◌≡◌, ◌++◌}
+use Rattle.xs_scope.specs.ModelTree.{model_tree}
+use Rattle.xs_trace_text.specs.TraceText.{trace_text}
+use Rattle.xs_report.specs.Told.{told_trace}
+use Rattle.xs_report.proofs.TextLaws.{moments_from}
+use Rattle.xs_report.proofs.traces.print_moments.Given as goal
+
+abbrev pub invariant-loop-i : goal.invariant-loop-i
+invariant-loop-i l = l.text ++ moments_from (model_tree l.m) l.m.symbols l.trace l.i ≡ trace_text (model_tree l.m) (told_trace l.m.symbols l.trace)

@@ -1,0 +1,8 @@
+pub mod Told
+pub mod FaultText
+pub mod Names
+pub mod Cuts
+pub mod ValueReading
+pub mod Lookups
+pub mod Faults
+pub mod Reading

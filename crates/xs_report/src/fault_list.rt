@@ -1,0 +1,49 @@
+//! The lines of the faults of a report.
+
+ghost use Rattle.std.specs.Prelude.{◌≡◌, ◌++◌, map, IfOk, OnOk};
+ghost use Rattle.xs_report.specs.FaultText.{name_of, fault_line, fault_lines, faults_text};
+
+use crate::text::{append_count, append_dotted};
+use std::alloc::Global;
+use xs_flat::{Fault, FaultList};
+use xs_value::{ByteList, OutOfMemory};
+
+/// The number of faults, and a line for each fault with its number, from 1, and its name.
+#[tactic(auto, using(crate::proofs::TextLaws::text_rules))]
+pub fn print_faults(alloc: Global, faults: &FaultList) -> Result<ByteList, OutOfMemory>
+    ensures { IfOk result (λ text. text ≡ faults_text (map name_of faults.now)) }
+{
+    let mut text = ByteList::from_slice(alloc, b"faults ")?;
+    append_count(alloc, &mut text, faults.len())?;
+    text.append(b"\n")?;
+    append_faults(alloc, &mut text, faults.as_slice())?;
+    Ok(text)
+}
+
+/// Appends a line for each fault.
+#[tactic(auto, using(crate::proofs::TextLaws::text_rules))]
+fn append_faults(alloc: Global, text: &mut ByteList, faults: &[Fault]) -> Result<(), OutOfMemory>
+    ensures { OnOk result (text.new ≡ text.old ++ fault_lines 1 (map name_of faults.now)) }
+{
+    for (i, fault) in faults.iter().enumerate() {
+        append_fault(alloc, text, i + 1, fault)?;
+    }
+    Ok(())
+}
+
+/// Appends the line of one fault.
+#[tactic(auto, using(crate::proofs::TextLaws::text_rules))]
+fn append_fault(
+    alloc: Global,
+    text: &mut ByteList,
+    number: usize,
+    fault: &Fault,
+) -> Result<(), OutOfMemory>
+    ensures { OnOk result (text.new ≡ text.old ++ fault_line number (name_of fault.now)) }
+{
+    text.append(b"fault ")?;
+    append_count(alloc, text, number)?;
+    text.append(b" ")?;
+    append_dotted(text, &fault.name)?;
+    text.append(b"\n")
+}

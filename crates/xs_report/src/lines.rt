@@ -1,0 +1,109 @@
+//! Bytes cut into lines, and lines into words.
+
+ghost use Rattle.std.specs.Prelude.{◌≡◌, ◌≢◌, ◌↔◌, ℕ, ◌<◌, ◌≤◌, [], ◌∷◌, ◌++◌, List, codes, length, slice_index, IsTrue, IfOk, MatchOption};
+ghost use Rattle.xs_lines.specs.Lines.{IsLine};
+ghost use Rattle.xs_trace_text.specs.TraceText.{moment_line};
+ghost use Rattle.xs_trace_text.specs.Wrong.{IsEquation};
+ghost use Rattle.xs_report.specs.Cuts.{Lacks, BeginsWith, IsLineThen, IsNoEquation, IsSpaceless};
+
+use std::alloc::Global;
+use xs_value::OutOfMemory;
+
+/// The bytes before the first line feed and those after it, where there is one.
+pub(crate) fn first_line(bytes: &[u8]) -> Option<(&[u8], &[u8])>
+    ensures { MatchOption result (IsLine bytes.now) (λ p. IsLineThen bytes.now p.0.now p.1.now) }
+{
+    let (line, rest) = cut(bytes, b'\n');
+    match rest {
+        [_, after @ ..] => Some((line, after)),
+        [] => None,
+    }
+}
+
+/// The bytes before the first one of this kind, and those from it on.
+fn cut(bytes: &[u8], byte: u8) -> (&[u8], &[u8])
+    ensures whole { bytes.now ≡ result.0.now ++ result.1.now }
+    ensures front { Lacks byte result.0.now }
+    ensures back { BeginsWith byte result.1.now }
+{
+    bytes.split_at(length_before(bytes, byte))
+}
+
+/// How many bytes stand before the first one of this kind.
+fn length_before(bytes: &[u8], byte: u8) -> usize
+    ensures bound { result ≤ length bytes.now }
+    ensures before { (k : ℕ) → k < result → slice_index bytes.now k ≢ byte }
+    ensures found { result < length bytes.now → slice_index bytes.now result ≡ byte }
+{
+    for (i, b) in bytes.iter().enumerate() {
+        if *b == byte {
+            return i;
+        }
+    }
+    bytes.len()
+}
+
+/// The name and the value of a line that is a word, ` = ` and a word.
+pub(crate) fn equation_words(line: &[u8]) -> Option<(&[u8], &[u8])>
+    requires { IsLine line.now }
+    ensures { MatchOption result (IsNoEquation line.now) (λ p. IsEquation p.0.now p.1.now line.now) }
+{
+    let (name, rest) = cut(line, b' ');
+    match after_equals(rest) {
+        Some(value) => {
+            if are_words(name, value) {
+                Some((name, value))
+            } else {
+                None
+            }
+        }
+        None => None,
+    }
+}
+
+/// What stands after ` = `.
+fn after_equals(bytes: &[u8]) -> Option<&[u8]>
+    ensures { MatchOption result ((value : List ℕ) → bytes.now ≢ 32 ∷ 61 ∷ 32 ∷ value) (λ value. bytes.now ≡ 32 ∷ 61 ∷ 32 ∷ value.now) }
+{
+    match bytes {
+        [b' ', b'=', b' ', value @ ..] => Some(value),
+        _ => None,
+    }
+}
+
+/// Whether both are words.
+fn are_words(name: &[u8], value: &[u8]) -> bool
+    ensures { IsTrue result ↔ IsSpaceless name.now × IsSpaceless value.now }
+{
+    is_word(name) && is_word(value)
+}
+
+/// Whether there is a byte, and none is a space.
+fn is_word(bytes: &[u8]) -> bool
+    ensures { IsTrue result ↔ IsSpaceless bytes.now }
+{
+    0 < bytes.len() && length_before(bytes, b' ') == bytes.len()
+}
+
+/// Whether the line is that of the moment of this number.
+pub(crate) fn is_moment_line(alloc: Global, line: &[u8], number: u64) -> Result<bool, OutOfMemory>
+    ensures { IfOk result (λ is. IsTrue is ↔ (line.now ≡ moment_line number)) }
+{
+    match after_moment(line) {
+        Some(digits) => {
+            let wanted = format!(in alloc; "{number}")?;
+            Ok(digits == wanted.as_bytes())
+        }
+        None => Ok(false),
+    }
+}
+
+/// What stands after the word `moment` and a space.
+fn after_moment(line: &[u8]) -> Option<&[u8]>
+    ensures { MatchOption result ((digits : List ℕ) → line.now ≢ codes "moment " ++ digits) (λ digits. line.now ≡ codes "moment " ++ digits.now) }
+{
+    match line {
+        [b'm', b'o', b'm', b'e', b'n', b't', b' ', digits @ ..] => Some(digits),
+        _ => None,
+    }
+}

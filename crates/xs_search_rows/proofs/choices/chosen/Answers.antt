@@ -1,0 +1,8 @@
+use Rattle.std.proofs.Common.{refl}
+use Rattle.xs_search_rows.proofs.choices.chosen.Goals as goal
+
+-- the least free variable is a free one
+pub choose-requires-clause-free : goal.choose-requires-clause-free
+choose-requires-clause-free c =
+    let facts = c.in-Some.ensures.some c.in-Some.field-0 refl in
+    record { var = c.in-Some.field-0; positive = facts.0; in_range = facts.1; free = facts.2 }

@@ -1,0 +1,42 @@
+-- What the definitions give for a few words.
+use Rattle.std.proofs.Common.{◌≡◌, ℕ, [], ◌∷◌, Ok, Err, None, Some, refl, codes}
+use Rattle.xs_words.specs.declared.fault.WordFault.TheVariants as fault
+use Rattle.xs_words.specs.declared.verb.Verb.TheVariants as verb
+use Rattle.xs_words.specs.Commands.{extend, fmea}
+use Rattle.xs_words.specs.Table.{number_of, options_of}
+use Rattle.xs_words.specs.Meaning.{Means, BreaksFirst, no_verb, an_option, no_value}
+use Rattle.xs_words.specs.Reading.{reading}
+use Rattle.xs_words.proofs.SoundLemmas.{lawful_none}
+use Rattle.xs_words.proofs.ReadingLaws.{read_means, read_breaks}
+
+-- zeros before a number count for nothing
+leading_zeros : number_of (codes "0000000002") ≡ 2
+leading_zeros = refl
+
+-- the options may stand in any order, and a value may look like an option
+any_order : Means (codes "extend" ∷ codes "--faults" ∷ codes "--model" ∷ codes "--extended" ∷ codes "x" ∷ codes "--model" ∷ codes "m" ∷ []) (extend (codes "m") (codes "--model") (codes "x"))
+any_order = read_means _ _ refl
+
+-- no words at all
+no_words : BreaksFirst [] 1 0
+no_words = no_verb refl
+
+-- an option at the end has no value
+no_value_follows : BreaksFirst (codes "extend" ∷ codes "--model" ∷ []) 6 2
+no_value_follows = an_option verb.Extend (codes "--model" ∷ []) 6 2 refl (no_value [] (codes "--model") _ refl (lawful_none (options_of verb.Extend)) refl tt)
+
+-- the option comes twice: told at its second place
+model_twice : BreaksFirst (codes "extend" ∷ codes "--model" ∷ codes "m" ∷ codes "--model" ∷ codes "n" ∷ []) 4 4
+model_twice = read_breaks _ (fault.Twice 4) refl
+
+-- the third option of the verb is missing
+extended_missing : BreaksFirst (codes "extend" ∷ codes "--model" ∷ codes "m" ∷ codes "--faults" ∷ codes "f" ∷ []) 5 3
+extended_missing = read_breaks _ (fault.Missing 3) refl
+
+-- of two equal names the later is told
+same_names : BreaksFirst (codes "extend" ∷ codes "--model" ∷ codes "a" ∷ codes "--faults" ∷ codes "b" ∷ codes "--extended" ∷ codes "a" ∷ []) 8 7
+same_names = read_breaks _ (fault.SameName 7) refl
+
+-- a bad number is told before missing options
+three_is_too_big : BreaksFirst (codes "fmea" ∷ codes "--size" ∷ codes "3" ∷ []) 7 3
+three_is_too_big = read_breaks _ (fault.BadNumber 3) refl

@@ -1,0 +1,6 @@
+pub mod Commands
+pub mod Table
+pub mod Meaning
+pub mod Laws
+pub mod Reading
+pub mod Seen

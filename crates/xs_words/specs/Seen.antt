@@ -1,0 +1,50 @@
+-- Words, commands, faults and options of the program as contracts see them.
+use Rattle.std.specs.Prelude.{ℕ, List, map, Result, Ok, Err}
+use Rattle.std.specs.Borrow.{Bor}
+use Rattle.xs_words.specs.declared.choice.Choice.{Choice}
+use Rattle.xs_words.specs.declared.fault.WordFault.{WordFault}
+use Rattle.xs_words.specs.declared.fault.WordFault.TheVariants as fault
+use Rattle.xs_words.specs.declared.command.Command.{Command}
+use Rattle.xs_words.specs.declared.command.Command.TheVariants as command
+use Rattle.xs_words.specs.Commands as meant
+use Rattle.xs_words.specs.Table as table
+
+abbrev pub texts : List (Bor (List ℕ)) → List (List ℕ)
+texts words = map (λ w. w.now) words
+
+abbrev pub viewed : Choice → table.Choice
+viewed c = record { name = c.name.now; kind = c.kind; required = c.required }
+
+abbrev pub seen : Command → meant.Command
+seen (command.Extend model faults extended) = meant.extend model.now faults.now extended.now
+seen (command.Replay model faults trace top) = meant.replay model.now faults.now trace.now top.now
+seen (command.Analyse model faults top depth extended cert size) = meant.analyse model.now faults.now top.now depth extended.now cert.now size
+seen (command.Check model faults top cert) = meant.check model.now faults.now top.now cert.now
+seen (command.Fmea model faults tops size depth) = meant.fmea model.now faults.now tops.now size depth
+seen (command.Make number stages depth model faults) = meant.make number stages depth model.now faults.now
+
+-- what was read, with the command as contracts see it
+abbrev pub seen_result : Result Command WordFault → Result meant.Command WordFault
+seen_result (Ok c) = Ok (seen c)
+seen_result (Err f) = Err f
+
+-- the number of a rule
+abbrev pub rule_of : WordFault → ℕ
+rule_of (fault.NoVerb at) = 1
+rule_of (fault.UnknownVerb at) = 2
+rule_of (fault.UnknownOption at) = 3
+rule_of (fault.Twice at) = 4
+rule_of (fault.Missing at) = 5
+rule_of (fault.NoValue at) = 6
+rule_of (fault.BadNumber at) = 7
+rule_of (fault.SameName at) = 8
+
+abbrev pub place_of : WordFault → ℕ
+place_of (fault.NoVerb at) = at
+place_of (fault.UnknownVerb at) = at
+place_of (fault.UnknownOption at) = at
+place_of (fault.Twice at) = at
+place_of (fault.Missing at) = at
+place_of (fault.NoValue at) = at
+place_of (fault.BadNumber at) = at
+place_of (fault.SameName at) = at

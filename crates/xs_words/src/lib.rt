@@ -1,0 +1,32 @@
+//! Reads the words of a command line.
+//!
+//! Words mean a command where the first is a verb and the rest are pairs of an option and its value: each
+//! option is one of the verb's and comes once, each value fits its option, every option that may not be left
+//! out is there, and no two files have one name. That is a relation between words and a command, `Means` in
+//! `specs/Meaning.antt`, which says nothing of how words are read; `BreaksFirst` beside it says of each rule
+//! when it is the first that is broken, and at which word. [`read_words`] answers the one command that words
+//! mean, or a [`WordFault`] with the first broken rule and its place, where they mean none. It takes no memory.
+//!
+//! The verbs, their options and what a value may be stand in `specs/Table.antt` and in `verb` and `choice`
+//! here; `number` reads numbers, `pairs` looks options up, `faults` tries the rules and `read` makes the command.
+//!
+//! ```text
+//! read_words(&["extend", "--model", "m", "--faults", "f", "--extended", "x"])  // Ok(Extend { .. })
+//! read_words(&["fmea", "--size", "3"])                                         // Err(BadNumber { at: 3 })
+//! ```
+#![tactic(auto)]
+
+mod choice;
+mod command;
+mod fault;
+mod faults;
+mod number;
+mod pairs;
+mod read;
+mod verb;
+
+pub use choice::Kind;
+pub use command::Command;
+pub use fault::WordFault;
+pub use read::read_words;
+pub use verb::Verb;

@@ -1,0 +1,124 @@
+// The command that words mean.
+ghost use Rattle.std.specs.Prelude.{◌≡◌, IfOk, IfErr};
+ghost use Rattle.xs_words.specs.Meaning.{Means, BreaksFirst};
+ghost use Rattle.xs_words.specs.Laws.{OneCommand, OneFault, CommandsHaveNoFault};
+ghost use Rattle.xs_words.specs.Reading.{pairs_of, reading, made};
+ghost use Rattle.xs_words.specs.Seen.{texts, seen, seen_result, rule_of, place_of};
+
+use crate::command::Command;
+use crate::fault::WordFault;
+use crate::faults::fault_in;
+use crate::pairs::{number, optional_number, text};
+use crate::verb::Verb;
+
+/// The command that the words of a command line mean, without the program's own name, or the first rule that
+/// they break.
+pub fn read_words<'a>(words: &'a [&'a str]) -> Result<Command<'a>, WordFault>
+    ensures ok { IfOk result (λ c. Means (texts words.now) (seen c)) }
+    ensures fault { IfErr result (λ f. BreaksFirst (texts words.now) (rule_of f) (place_of f)) }
+    ensures one_command { OneCommand (texts words.now) }
+    ensures one_fault { OneFault (texts words.now) }
+    ensures apart { CommandsHaveNoFault (texts words.now) }
+{
+    read(words)
+}
+
+/// Tries the rules in their order.
+fn read<'a>(words: &'a [&'a str]) -> Result<Command<'a>, WordFault>
+    ensures { seen_result result ≡ reading (texts words.now) }
+{
+    let [name, words @ ..] = words else {
+        return Err(WordFault::NoVerb { at: 0 });
+    };
+    let Some(verb) = Verb::named(name) else {
+        return Err(WordFault::UnknownVerb { at: 1 });
+    };
+    if let Some(fault) = fault_in(verb.options(), words) {
+        return Err(fault);
+    }
+    Ok(command(verb, words))
+}
+
+/// The command of a verb and the values that the words give its options.
+fn command<'a>(verb: Verb, words: &[&'a str]) -> Command<'a>
+    ensures { seen result ≡ made verb (pairs_of (texts words.now)) }
+{
+    match verb {
+        Verb::Extend => extend(words),
+        Verb::Replay => replay(words),
+        Verb::Analyse => analyse(words),
+        Verb::Check => check(words),
+        Verb::Fmea => fmea(words),
+        Verb::Make => make(words),
+    }
+}
+
+fn extend<'a>(words: &[&'a str]) -> Command<'a>
+    ensures { seen result ≡ made Verb.Extend (pairs_of (texts words.now)) }
+{
+    Command::Extend {
+        model: text(words, "--model"),
+        faults: text(words, "--faults"),
+        extended: text(words, "--extended"),
+    }
+}
+
+fn replay<'a>(words: &[&'a str]) -> Command<'a>
+    ensures { seen result ≡ made Verb.Replay (pairs_of (texts words.now)) }
+{
+    Command::Replay {
+        model: text(words, "--model"),
+        faults: text(words, "--faults"),
+        trace: text(words, "--trace"),
+        top: text(words, "--top"),
+    }
+}
+
+fn analyse<'a>(words: &[&'a str]) -> Command<'a>
+    ensures { seen result ≡ made Verb.Analyse (pairs_of (texts words.now)) }
+{
+    Command::Analyse {
+        model: text(words, "--model"),
+        faults: text(words, "--faults"),
+        top: text(words, "--top"),
+        depth: number(words, "--depth"),
+        extended: text(words, "--extended"),
+        cert: text(words, "--cert"),
+        size: optional_number(words, "--size"),
+    }
+}
+
+fn check<'a>(words: &[&'a str]) -> Command<'a>
+    ensures { seen result ≡ made Verb.Check (pairs_of (texts words.now)) }
+{
+    Command::Check {
+        model: text(words, "--model"),
+        faults: text(words, "--faults"),
+        top: text(words, "--top"),
+        cert: text(words, "--cert"),
+    }
+}
+
+fn fmea<'a>(words: &[&'a str]) -> Command<'a>
+    ensures { seen result ≡ made Verb.Fmea (pairs_of (texts words.now)) }
+{
+    Command::Fmea {
+        model: text(words, "--model"),
+        faults: text(words, "--faults"),
+        tops: text(words, "--tops"),
+        size: number(words, "--size"),
+        depth: number(words, "--depth"),
+    }
+}
+
+fn make<'a>(words: &[&'a str]) -> Command<'a>
+    ensures { seen result ≡ made Verb.Make (pairs_of (texts words.now)) }
+{
+    Command::Make {
+        number: number(words, "--number"),
+        stages: number(words, "--stages"),
+        depth: number(words, "--depth"),
+        model: text(words, "--model"),
+        faults: text(words, "--faults"),
+    }
+}
