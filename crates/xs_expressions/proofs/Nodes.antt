@@ -27,7 +27,7 @@ use Rattle.xs_types.specs.declared.sort.Class.TheVariants.{Truth}
 use Rattle.xs_types.proofs.NodeLaws.{told_negative, told_binary, told_literal}
 use Rattle.xs_signals.specs.Built.{signal_of, BuildsLiteral, BuildsSignal}
 use Rattle.xs_expressions.specs.Sorts.{width_of_sort, sort_width, literal_sort, negative_sort, operation_sort, joined_sort}
-use Rattle.xs_expressions.specs.Naming.{model_of, names_in}
+use Rattle.xs_expressions.specs.Naming.{model_of, names_in, moved}
 use Rattle.xs_expressions.specs.Parts.{truth_sort, IsBit, IsRight, AreRight, BuildsMembers, IsTold, IsEncoded, BuildsPart, AnswersSort, Answers}
 use Rattle.xs_expressions.specs.declared.names.Names.{Names}
 use Rattle.xs_expressions.specs.declared.part.Part.{Part}
@@ -144,6 +144,15 @@ module _ (n : Names) where
   next_right : (asked : TheAsked) (a : Tree FlatLeaf) → IsRight (model_of n) asked (next_of a) → IsRight (model_of n) its_value a
   next_right its_value a h = h
   next_right (whether_has v) a h = h.1
+
+  pub next_part : (m : Names) → m ≡ moved n → (asked : TheAsked) (a : Tree FlatLeaf) (s t u : Circuit) (value p : Part) → BuildsPart m its_value a s t value → Answers asked t value u p
+      → BuildsPart n asked (next_of a) s u p
+  unfolding encoded
+  next_part m e asked a s t u value p built ans =
+      let there : BuildsPart (moved n) its_value a s t value = subst (λ k. BuildsPart k its_value a s t value) e built in
+      plain_part asked (next_of a) s t u value p there.grows ans (λ right.
+      let is : IsEncoded (model_of n) its_value a (encoded (at_next (names_in n)) its_value a s) t value = there.right (next_right asked a right) in
+      (ap (answer asked) is.exact, is.told))
 
   both_right : (o : Op) → TakesValues o → (asked : TheAsked) (a b : Tree FlatLeaf) → IsRight (model_of n) asked (binary o a b) → IsRight (model_of n) its_value a × IsRight (model_of n) its_value b
   both_right op.Union t asked a b h = absurd t
@@ -327,12 +336,12 @@ module _ (n : Names) where
       ∙ ap (λ i. record { class = told_class ja.kind.class; interval = i }) (sym (kept_interval own (joined ja.kind.interval jb.kind.interval) (none_first own _ h)))
 
   -- the width does not matter to truth values
-  bits_chosen : (j k : ℕ) (l : Literal) (e f : Signal) (s : Circuit) → IsBit e → IsBit f → choice_gates j l e f s ≡ choice_gates k l e f s
+  pub bits_chosen : (j k : ℕ) (l : Literal) (e f : Signal) (s : Circuit) → IsBit e → IsBit f → choice_gates j l e f s ≡ choice_gates k l e f s
   bits_chosen j k l (bit a) (bit b) s he hf = refl
   bits_chosen j k l (bit a) (word b) s he hf = absurd hf
   bits_chosen j k l (word a) f s he hf = absurd he
 
-  bit_chosen : (k : ℕ) (l : Literal) (e f : Signal) (s : Circuit) → IsBit e → IsBit f → IsBit (choice_gates k l e f s).1
+  pub bit_chosen : (k : ℕ) (l : Literal) (e f : Signal) (s : Circuit) → IsBit e → IsBit f → IsBit (choice_gates k l e f s).1
   bit_chosen k l (bit a) (bit b) s he hf = tt
   bit_chosen k l (bit a) (word b) s he hf = absurd hf
   bit_chosen k l (word a) f s he hf = absurd he

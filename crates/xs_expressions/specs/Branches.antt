@@ -1,5 +1,5 @@
 -- The branches of a case, in two passes: the conditions and values in written order, and then the choices.
-use Rattle.std.specs.Prelude.{◌≡◌, ◌≤◌, Bool, false, Option, Some, None, List, [], ◌∷◌}
+use Rattle.std.specs.Prelude.{◌≡◌, ◌≤◌, Bool, false, Option, Some, None, List, [], ◌∷◌, ◌++◌}
 use Rattle.xs_tree.specs.Trace.{Each}
 use Rattle.xs_tree.specs.Tree.{Tree, Branches, no_branch, branch_then}
 use Rattle.xs_flattening.specs.Flat.{FlatLeaf, FlatModel}
@@ -60,3 +60,21 @@ pub record BuildsBranches (n : Names) (asked : Asked) (bs : Branches FlatLeaf) (
   pub values : Each (IsSignal t) (signals_of parts.values)
   pub grows : s.free ≤ t.free
   pub right : AreRightBranches (model_of n) asked bs → (listed_gates (names_in n) asked bs s ≡ (t, (parts.conditions, signals_of parts.values))) × AreTold (model_of n) asked bs parts
+
+-- what was built of some branches, with that of those after them
+abbrev pub with_parts : Parts → Circuit × (List Literal × List Signal) → Circuit × (List Literal × List Signal)
+with_parts parts r = (r.0, (parts.conditions ++ r.1.0, signals_of parts.values ++ r.1.1))
+
+-- the values so far are told so that those of the rest make what is known of all
+abbrev pub AreToldSoFar : FlatModel → Asked → Branches FlatLeaf → Branches FlatLeaf → Parts → Type 0
+AreToldSoFar m its_value bs rest parts =
+    spread_sort parts.sort (kinds_in (judge_values (kind_of_leaf m) false rest)) ≡ spread_sort None (kinds_in (judge_values (kind_of_leaf m) false bs))
+AreToldSoFar m (whether_has v) bs rest parts = Each IsBit (signals_of parts.values)
+
+-- what is left of the branches is built onto what was built of those before
+pub record BuildsFirst (n : Names) (asked : Asked) (bs rest : Branches FlatLeaf) (s t : Circuit) (parts : Parts) : Type 0 where
+  pub conditions : AllBelow t.free parts.conditions
+  pub values : Each (IsSignal t) (signals_of parts.values)
+  pub grows : s.free ≤ t.free
+  pub right : AreRightBranches (model_of n) asked bs
+      → (listed_gates (names_in n) asked bs s ≡ with_parts parts (listed_gates (names_in n) asked rest t)) × AreRightBranches (model_of n) asked rest × AreToldSoFar (model_of n) asked bs rest parts

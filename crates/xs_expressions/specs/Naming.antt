@@ -34,3 +34,7 @@ pub record IsNamed (s : Circuit) (n : Names) : Type 0 where
   pub now : IsCopied s n.current.now
   pub next : IsCopied s n.next.now
   pub symbols : n.symbols ≡ symbol_width (model_of n).symbols
+
+-- Under `next` a name is what it is at the next moment.
+abbrev pub moved : Names → Names
+moved n = record { model = n.model; current = n.next; next = n.next; symbols = n.symbols }

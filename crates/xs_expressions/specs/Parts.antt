@@ -89,3 +89,10 @@ pub record BuildsMembers (n : Names) (asked : TheAsked) (ts : Trees FlatLeaf) (s
   pub below : IsBelow t.free l
   pub grows : s.free ≤ t.free
   pub right : AreRight (model_of n) asked ts → encoded_members (names_in n) asked ts (constant_lit false) s ≡ (t, bit l)
+
+-- what was built of some members is TRUE of those so far, and what is left is built onto it
+pub record BuildsSome (n : Names) (asked : TheAsked) (ts rest : Trees FlatLeaf) (s t : Circuit) (l : Literal) : Type 0 where
+  pub below : IsBelow t.free l
+  pub grows : s.free ≤ t.free
+  pub right : AreRight (model_of n) asked ts
+      → (encoded_members (names_in n) asked ts (constant_lit false) s ≡ encoded_members (names_in n) asked rest l t) × AreRight (model_of n) asked rest
