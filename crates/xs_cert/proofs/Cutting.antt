@@ -1,0 +1,69 @@
+-- Bytes cut at a byte, and the words of a line.
+use Rattle.std.proofs.Common.{◌≡◌, ◌≢◌, ℕ, zero, suc, ◌<◌, ◌≤◌, ◌+◌, ◌-◌, Bool, true, false, ◌&&◌, nat_eq, List, [], ◌∷◌, ◌++◌, length, take, drop, get_or, refl, sym, ◌∙◌, ap, arith, eq-eqb, eqb-true, length-append}
+use Rattle.std.proofs.lemmas.List.{take_rest}
+use Rattle.std.specs.Cmp.Lexicographic.{pointwise}
+use Rattle.xs_lines.specs.Lines.{Line}
+use Rattle.xs_certificate.specs.LineReading.{same_bytes, with_byte, words_in}
+use Rattle.xs_certificate.proofs.LineReading.{same_then, same_itself, taken, refused}
+use Rattle.xs_cert.specs.Cuts.{Lacks, BeginsWith, words_after, IsWordThen, LacksWord, IsAfterWord}
+
+pub front_free : (b : ℕ) (bytes : List ℕ) (n : ℕ) → n ≤ length bytes → ((k : ℕ) → k < n → get_or bytes k 0 ≢ b) → Lacks b (take n bytes)
+front_free b [] zero h f = tt
+front_free b (c ∷ bytes) zero h f = tt
+front_free b [] (suc n) h f = absurd (omega (arith, h))
+front_free b (c ∷ bytes) (suc n) h f = (f 0 (omega arith), front_free b bytes n (omega (arith, h)) (λ k g. f (suc k) (omega (arith, g))))
+
+pub back_begins : (b : ℕ) (bytes : List ℕ) (n : ℕ) → n ≤ length bytes → (n < length bytes → get_or bytes n 0 ≡ b) → BeginsWith b (drop n bytes)
+back_begins b [] zero h f = tt
+back_begins b (c ∷ bytes) zero h f = f (omega arith)
+back_begins b [] (suc n) h f = absurd (omega (arith, h))
+back_begins b (c ∷ bytes) (suc n) h f = back_begins b bytes n (omega (arith, h)) (λ g. f (omega (arith, g)))
+
+-- a byte that is another is not found the same
+pub differ : (a b : ℕ) → (a ≡ b → ⊥) → nat_eq a b ≡ false
+differ a b h = by (nat_eq a b) refl
+  where
+    by : (t : Bool) → nat_eq a b ≡ t → nat_eq a b ≡ false
+    by true e = absurd (h (eqb-true a b e))
+    by false e = e
+
+-- Words.
+words_begin : (word rest : Line) → Lacks 32 word → BeginsWith 32 rest → words_in (word ++ rest) ≡ word ∷ words_after rest
+words_begin [] [] f b = refl
+words_begin [] (c ∷ rest) f b = taken (nat_eq c 32) ([] ∷ words_in rest) (with_byte c (words_in rest)) (eq-eqb c 32 b)
+words_begin (x ∷ word) rest f b =
+    refused (nat_eq x 32) ([] ∷ words_in (word ++ rest)) (with_byte x (words_in (word ++ rest))) (differ x 32 f.0) ∙ ap (with_byte x) (words_begin word rest f.1 b)
+
+-- where a line is cut at its first space, the words are the one before it and those after it
+pub words_cut : (bytes word rest : Line) → bytes ≡ word ++ rest → Lacks 32 word → BeginsWith 32 rest → words_in bytes ≡ word ∷ words_after rest
+words_cut bytes word rest e f b = ap words_in e ∙ words_begin word rest f b
+
+pub word_then : (words word rest : List ℕ) → 1 ≤ length words → take (length words - 1) (drop 1 words) ≡ word ++ rest → Lacks 32 word → BeginsWith 32 rest → IsWordThen words word rest
+word_then [] word rest h e f b = absurd (omega (arith, h))
+word_then (c ∷ bytes) word rest h e f b =
+    let whole : bytes ≡ word ++ rest = sym (take_rest (c ∷ bytes) 1) ∙ e in
+    let sum : length (word ++ rest) ≡ length word + length rest = length-append word rest in
+    let long : length bytes ≡ length (word ++ rest) = ap length whole in
+    record { lie = words_cut bytes word rest whole f b; shorter = omega (arith, sum, long) }
+
+pub after_first : (line word rest name : Line) → line ≡ word ++ rest → Lacks 32 word → BeginsWith 32 rest → word ≡ name → IsAfterWord line name rest
+after_first line word rest name e f b same = words_cut line word rest e f b ∙ ap (λ w. w ∷ words_after rest) same
+
+pub lacks_first : (line word rest name : Line) → line ≡ word ++ rest → Lacks 32 word → BeginsWith 32 rest → (word ≡ name → ⊥) → LacksWord line name
+lacks_first line word rest name e f b other words g = other (heads word name (words_after rest) words (sym (words_cut line word rest e f b) ∙ g))
+  where
+    heads : (x y : Line) (xs ys : List Line) → (x ∷ xs) ≡ (y ∷ ys) → x ≡ y
+    heads x y xs ys e = cc
+
+-- A test whether bytes are the same.
+pub pointwise_is : (x y : List ℕ) → pointwise nat_eq x y ≡ same_bytes x y
+pointwise_is [] [] = refl
+pointwise_is [] (b ∷ y) = refl
+pointwise_is (a ∷ x) [] = refl
+pointwise_is (a ∷ x) (b ∷ y) = ap (λ t. nat_eq a b && t) (pointwise_is x y)
+
+pub equal_then : (x y : List ℕ) (t : Bool) → t ≡ pointwise nat_eq x y → t ≡ true → x ≡ y
+equal_then x y t e h = same_then x y (sym (pointwise_is x y) ∙ sym e ∙ h)
+
+pub unequal_then : (x y : List ℕ) (t : Bool) → t ≡ pointwise nat_eq x y → t ≡ false → x ≡ y → ⊥
+unequal_then x y t e h s = let bad : true ≡ false = sym (ap (λ z. same_bytes z y) s ∙ same_itself y) ∙ sym (pointwise_is x y) ∙ sym e ∙ h in cc

@@ -1,0 +1,6 @@
+pub mod PieceLaws
+pub mod Cutting
+pub mod LineLaws
+pub mod NumeralLaws
+pub mod ReadingLaws
+pub mod WholeLaws

@@ -1,0 +1,7 @@
+use Rattle.std.proofs.Common.{◌≡◌, ◌++◌, map, drop}
+use Rattle.xs_lines.specs.Lines.{fed}
+use Rattle.xs_certificate.specs.CertificateText.{clause_line}
+use Rattle.xs_cert.proofs.writing.append_clauses.Given as goal
+
+abbrev pub invariant-loop-clause : goal.invariant-loop-clause
+invariant-loop-clause l = l.text ++ fed (map clause_line (drop l.clause-index l.clauses)) ≡ l.initial.text ++ fed (map clause_line l.clauses)

@@ -1,0 +1,11 @@
+use Rattle.std.proofs.Common.{◌≡◌, ◌++◌, length, arith}
+use Rattle.std.proofs.lemmas.Grind.{common_steps}
+use Rattle.xs_lines.specs.Lines.{fed}
+use Rattle.xs_certificate.specs.CertificateText.{set_lines}
+use Rattle.xs_cert.proofs.PieceLaws.{none_left}
+use Rattle.xs_cert.proofs.writing.append_sets.Goals as goal
+
+pub returns-in_default-2 : goal.returns-in_default-2
+returns-in_default-2 c =
+    let none : length c.loop-sets.traces.now ≡ 0 = grind (arith, common_steps) in
+    none_left c.loop-sets.text (c.args.text.now ++ fed (set_lines c.args.sets.now c.args.traces.now)) c.loop-sets.sets.now c.loop-sets.traces.now none c.loop-sets.invariant
