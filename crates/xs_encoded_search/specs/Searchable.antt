@@ -18,12 +18,11 @@ use Rattle.xs_encoding.specs.Lists.{system_of, bad_list}
 use Rattle.xs_encoding.specs.Encodable.{IsEncodable, IsFitTop}
 use Rattle.xs_cutting.specs.Searched.{IsBadFor}
 
--- The model with history is encodable, its faults are modes of it, the top event fits it, and all are within the limits.
+-- The model with history is encodable, its faults are modes of it, the top event fits it, and inputs and event are small.
 pub record IsSearchable (m : FlatModel) (fs : List Mode) (top : Tree FlatLeaf) : Type 0 where
   pub own : AreOwn m fs top
   pub encodable : IsEncodable (with_history m fs)
   pub fits : IsFitTop (with_history m fs) top
-  pub few_faults : length fs ≤ 256
   pub few_inputs : input_bits (with_history m fs) ≤ 2 ^ 30
   pub small_top : cost_of top ≤ 60000
 

@@ -1,0 +1,13 @@
+-- A model with the history of its faults, over the models and faults of the code.
+use Rattle.std.specs.Prelude.{List, map}
+use Rattle.xs_scope.specs.declared.model.FlatModel.{FlatModel}
+use Rattle.xs_scope.specs.declared.model.Fault.{Fault}
+use Rattle.xs_scope.specs.ModelTree.{model_tree, mode_of}
+use Rattle.xs_flattening.specs.Flat.{FlatModel as ModelTree}
+use Rattle.xs_flattening.specs.History.{Mode, with_history}
+
+abbrev pub modes_of : List Fault → List Mode
+modes_of faults = map mode_of faults
+
+abbrev pub whole_of : FlatModel → List Fault → ModelTree
+whole_of m faults = with_history (model_tree m) (modes_of faults)
