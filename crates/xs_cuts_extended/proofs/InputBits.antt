@@ -22,7 +22,7 @@ use Rattle.xs_encoding.specs.Layout.{width_as_input, input_width, input_bits}
 -- ---- variables
 
 more_before : (vs : List Visit) (v : Visit) → variables_before (vs ++ v ∷ []) ≡ variables_before vs + length (variable_declared v v.decl.what)
-more_before [] v = ap length (append-nil (variable_declared v v.decl.what))
+more_before [] v = let same = ap length (append-nil (variable_declared v v.decl.what)) in omega (arith, same)
 more_before (w ∷ vs) v =
     let one = length-append (variable_declared w w.decl.what) (flat_map (λ x. variable_declared x x.decl.what) (vs ++ v ∷ [])) in
     let two = length-append (variable_declared w w.decl.what) (flat_map (λ x. variable_declared x x.decl.what) vs) in

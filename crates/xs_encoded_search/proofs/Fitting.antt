@@ -1,9 +1,9 @@
 -- The lists of a searchable model are such as frames take.
-use Rattle.std.proofs.Common.{◌≡◌, ◌⊎◌, inl, inr, ℕ, zero, suc, ◌+◌, ◌*◌, ◌^◌, ◌<◌, ◌≤◌, Bool, true, false, ◌||◌, List, length, All, refl, sym, ap, subst, arith}
+use Rattle.std.proofs.Common.{◌≡◌, ◌⊎◌, inl, inr, ℕ, ◌+◌, ◌*◌, ◌^◌, ◌<◌, ◌≤◌, Bool, true, false, ◌||◌, List, length, All, refl, sym, subst, arith}
 use Rattle.std.specs.Prelude.{nat_lt}
-use Rattle.std.specs.List.{range_with_len}
 use Rattle.std.proofs.lemmas.Bool.{ltb-false}
 use Rattle.std.proofs.lemmas.Nat.{mul-le}
+use Rattle.std.proofs.lemmas.List.FromFn.{length-range_with_len}
 use Rattle.xs_tree.specs.Tree.{Tree}
 use Rattle.xs_flattening.specs.Flat.{FlatLeaf, FlatModel}
 use Rattle.xs_flattening.specs.History.{Mode, with_history}
@@ -47,10 +47,6 @@ module _ (m : FlatModel) (n : ℕ) (small : n ≤ 2 ^ 31) where
   overs : (clauses : List (List Literal)) → UseStates m clauses → ClausesBelow n clauses → All (All (IsOverNow (system_of m))) clauses
   overs clauses uses below k d l j e i = over_one (state_bits m) (input_bits m) _ (uses k d l j e i) (let one = below k d l j e i in omega (arith, one, small))
 
-history_long : (n k : ℕ) → length (range_with_len n k) ≡ k
-history_long n zero = refl
-history_long n (suc k) = ap suc (history_long (n + 1) k)
-
 -- counters of so few faults take little room
 small_counters : (size faults : ℕ) → size ≤ faults → faults ≤ 4096 → 2 * (size + 1) * faults ≤ 8194 * 4096
 small_counters size faults h few = mul-le (2 * (size + 1)) faults 8194 4096 (omega (arith, h, few)) few
@@ -65,12 +61,12 @@ lists_fit m fs top is =
     let uses = lists_use_states w is.encodable in
     let small = lists_small w is.encodable in
     let history = history_of m fs in
-    let long : length history ≡ length fs = history_long (length m.variables) (length fs) in
+    let long : length history ≡ length fs = length-range_with_len (length m.variables) (length fs) in
     let few = few_faults m fs is.encodable.typed.small in
     let most = limits w is.encodable.typed.small in
     let room : (size : ℕ) → size ≤ length fs → bad_room w top history size < 2 ^ 31 =
     λ size h. subst (λ n. lists_room w + 1024 * cost_of top + 2 * (size + 1) * n < 2 ^ 31) (sym long)
-        (small_room (gates_place w) (state_bits w) (input_bits w) (model_cost w) (cost_of top) (2 * (size + 1) * length fs) (omega arith) most.1 is.few_inputs most.0 is.small_top (small_counters size (length fs) h few)) in
+        (small_room (gates_place w) (state_bits w) (input_bits w) (model_cost w) (cost_of top) (2 * (size + 1) * length fs) refl most.1 is.few_inputs most.0 is.small_top (small_counters size (length fs) h few)) in
     let lists : lists_room w ≤ 2 ^ 31 = let whole = room 0 (omega arith) in omega (arith, whole) in (
       record {
         bits = omega (arith, most.1, is.few_inputs);

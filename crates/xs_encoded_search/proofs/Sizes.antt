@@ -1,7 +1,9 @@
 -- Where at most as many faults have failed as there are, nothing is asked of their number.
-use Rattle.std.proofs.Common.{◌≡◌, ℕ, zero, suc, ◌+◌, ◌≤◌, Bool, true, false, List, [], ◌∷◌, length, refl, ap, arith}
+use Rattle.std.proofs.Common.{◌≡◌, ℕ, ◌+◌, ◌≤◌, Bool, not, List, length, refl, arith}
 use Rattle.std.specs.Prelude.{filter}
 use Rattle.std.specs.List.{range_with_len}
+use Rattle.std.proofs.lemmas.List.Filters.{length-filter_both}
+use Rattle.std.proofs.lemmas.List.FromFn.{length-range_with_len}
 use Rattle.xs_tree.specs.Tree.{Tree}
 use Rattle.xs_tree.specs.Values.{Value}
 use Rattle.xs_flattening.specs.Flat.{FlatLeaf, FlatModel}
@@ -12,12 +14,10 @@ use Rattle.xs_encoded_search.specs.Searchable.{LargerSizesServe}
 
 -- no more numbers pass a test than there are
 passed_few : (p : ℕ → Bool) (n k : ℕ) → length (filter p (range_with_len n k)) ≤ k
-passed_few p n zero = omega arith
-passed_few p n (suc k) = by_test (p n) (passed_few p (n + 1) k)
-  where
-    by_test : (b : Bool) → length (filter p (range_with_len (n + 1) k)) ≤ k → length (elim b [ true ↦ n ∷ filter p (range_with_len (n + 1) k) | false ↦ filter p (range_with_len (n + 1) k) ]) ≤ suc k
-    by_test true h = omega (arith, h)
-    by_test false h = omega (arith, h)
+passed_few p n k =
+    let both = length-filter_both p (λ x. not (p x)) (λ x. refl) (range_with_len n k) in
+    let long = length-range_with_len n k in
+    omega (arith, both, long)
 
 module _ (m : FlatModel) (fs : List Mode) (top : Tree FlatLeaf) (sets : List (List ℕ)) where
   widened : (size : ℕ) → length fs ≤ size → (v : List Value) → IsBadMoment (with_history m fs) top (history_of m fs) sets (length fs) v → IsBadMoment (with_history m fs) top (history_of m fs) sets size v
