@@ -9,7 +9,7 @@ ghost use Rattle.xs_analysis.specs.Reads.{IsRead};
 
 use std::alloc::Global;
 use xs_cuts::encoded::Encoded;
-use xs_encode::{bad_clauses, encode, state_of as state_values, valuation_of};
+use xs_encode::{bad_clauses, encode, state_of, valuation_of};
 use xs_flat::{FaultList, Flat};
 use xs_lits::assign::Assign;
 use xs_lits::clause::ClauseList;
@@ -40,17 +40,26 @@ fn blank(alloc: Global, t: &Typed) -> Result<Valuation, OutOfMemory>
     Ok(blank)
 }
 
-/// The valuation of a moment that gives its state, and its inputs unless it is the last one.
+/// Reads a moment that gives its state, and its inputs unless it is the last one: these get the least values.
+fn fill(t: &Typed, moment: &Assign, last: bool, values: &mut Valuation)
+    requires encodable { IsEncodable (model_tree t.now.model) }
+    requires long { length values.old ≡ length t.now.model.variables }
+    ensures { IsRead (model_tree t.now.model) last moment.now values.new }
+{
+    if last {
+        state_of(t, moment, values);
+    } else {
+        valuation_of(t, moment, values);
+    }
+}
+
+/// The valuation of a moment.
 fn read(alloc: Global, t: &Typed, moment: &Assign, last: bool) -> Result<Valuation, OutOfMemory>
     requires { IsEncodable (model_tree t.now.model) }
     ensures { IfOk result (λ v. IsRead (model_tree t.now.model) last moment.now v) }
 {
     let mut values = blank(alloc, t)?;
-    if last {
-        state_values(t, moment, &mut values);
-    } else {
-        valuation_of(t, moment, &mut values);
-    }
+    fill(t, moment, last, &mut values);
     Ok(values)
 }
 

@@ -13,7 +13,7 @@
 //! ```
 #![tactic(auto)]
 
-mod analyse;
 mod faulty;
+mod typed;
 
-pub use analyse::analyse;
+pub use typed::analyse;
