@@ -28,7 +28,7 @@ whole_long m fs = length-append m.variables (bit_variables 0 fs) ∙ ap (λ k. l
 -- there are at least as many variables as faults
 pub faults_within : (full : CodeModel) (m : FlatModel) (fs : List Mode) → model_tree full ≡ with_history m fs → length fs ≤ length full.variables
 faults_within full m fs e =
-    let same : length full.variables ≡ length m.variables + length fs = sym (length-map variable_tree full.variables) ∙ ap (λ (w : FlatModel). length w.variables) e ∙ whole_long m fs in
+    let same : length full.variables ≡ length m.variables + length fs = sym (length-map full.variables variable_tree) ∙ ap (λ (w : FlatModel). length w.variables) e ∙ whole_long m fs in
     omega (arith, same)
 
 -- the last variables are the bits of history

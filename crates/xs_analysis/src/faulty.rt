@@ -1,10 +1,8 @@
 //! A model with faults and a top event, as a search sees it.
 
 ghost use Rattle.std.specs.Prelude.{◌≡◌, IfOk, length};
-ghost use Rattle.xs_scope.specs.ModelTree.{model_tree, flat_tree};
+ghost use Rattle.xs_scope.specs.ModelTree.{model_tree};
 ghost use Rattle.xs_encoding.specs.Encodable.{IsEncodable};
-ghost use Rattle.xs_encoded_search.specs.Searchable.{IsSearchable};
-ghost use Rattle.xs_analysis.specs.Wholes.{modes_of, whole_of};
 ghost use Rattle.xs_analysis.specs.Reads.{IsRead};
 
 use std::alloc::Global;
@@ -18,15 +16,13 @@ use xs_tree::Expr;
 use xs_types::Typed;
 use xs_value::{OutOfMemory, SetList, Valuation, Value};
 
-/// A model, the model with the history of its faults, and a top event that a search can look for.
+/// A model, the model with the history of its faults, and a top event.
 #[derive(Drop)]
 pub(crate) struct Faulty<'a> {
     pub(crate) plain: &'a Typed,
     pub(crate) full: &'a Typed,
     pub(crate) faults: &'a FaultList,
     pub(crate) top: &'a Expr<Flat>,
-    ghost whole: { model_tree full.now.model ≡ whole_of plain.now.model faults.now },
-    ghost searchable: { IsSearchable (model_tree plain.now.model) (modes_of faults.now) (flat_tree top.now) },
 }
 
 /// A valuation with a value for each variable of a model, which no one has asked for.
@@ -67,7 +63,7 @@ impl<'a> Encoded for Faulty<'a> {
     ghost use Rattle.xs_scope.specs.ModelTree.{model_tree, flat_tree};
     ghost use Rattle.xs_encoding.specs.Bits as bits;
     ghost use Rattle.xs_encoding.specs.Lists.{system_of};
-    ghost use Rattle.xs_analysis.specs.Wholes.{modes_of, whole_of};
+    ghost use Rattle.xs_analysis.specs.Wholes.{modes_of, whole_of, CanBeSearched};
 
     ghost model = { λ f. model_tree f.plain.now.model };
 
@@ -80,6 +76,8 @@ impl<'a> Encoded for Faulty<'a> {
     ghost state_of = { λ f. bits.state_of (whole_of f.plain.now.model f.faults.now) };
 
     ghost inputs_of = { λ f. bits.inputs_of (whole_of f.plain.now.model f.faults.now) };
+
+    ghost searchable = { λ f. CanBeSearched f.plain.now.model f.full.now.model f.faults.now (flat_tree f.top.now) };
 
     fn encode(&self, alloc: Global) -> Result<System, OutOfMemory> {
         let system = encode(alloc, self.full)?;

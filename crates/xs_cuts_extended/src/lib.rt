@@ -15,9 +15,9 @@
 ghost use Rattle.xs_cuts_extended.specs.Laws.{AnswersAreAnalyses, AnswersArePrinted};
 ghost use Rattle.xs_cuts_extended.specs.Searchable.{ExtensionsAreSearchable};
 
-mod told;
+mod ending;
 
-pub use told::told;
+pub use ending::told;
 
 /// An answer for the flat model of an extension is an analysis of the extension, and ends by its depth; and a report
 /// of the answer tells this analysis.
