@@ -1,12 +1,13 @@
 -- The lists of the whole model are those that the search asks for.
-use Rattle.std.proofs.Common.{◌≡◌, ⊎_elim, ℕ, ◌+◌, ◌-◌, ◌<◌, ◌≤◌, min, List, [], ◌∷◌, length, map, refl, sym, ap, ◌∙◌, subst, arith, All}
+use Rattle.std.proofs.Common.{◌≡◌, ⊎_elim, ℕ, ◌+◌, ◌-◌, ◌≤◌, min, List, length, sym, ap, ◌∙◌, subst, arith, All}
 use Rattle.std.specs.List.{range_with_len}
 use Rattle.std.proofs.lemmas.List.{length-append, length-map}
 use Rattle.std.proofs.lemmas.Bool.{cases_lt}
-use Rattle.std.proofs.Math.Nat.{min-le_left, min-le_right, min-eq_left, min-eq_right}
+use Rattle.std.proofs.Math.Nat.{min-le_right, min-eq_left, min-eq_right}
 use Rattle.xs_tree.specs.Tree.{Tree}
 use Rattle.xs_scope.specs.declared.model.FlatModel.{FlatModel as CodeModel}
-use Rattle.xs_scope.specs.ModelTree.{model_tree, variable_tree}
+use Rattle.xs_scope.specs.declared.model.Fault.{Fault}
+use Rattle.xs_scope.specs.ModelTree.{model_tree, variable_tree, mode_of}
 use Rattle.xs_flattening.specs.Flat.{FlatLeaf, FlatModel}
 use Rattle.xs_flattening.specs.History.{Mode, with_history, bit_variables}
 use Rattle.xs_flattening.proofs.HistoryLaws.{length_bits}
@@ -19,8 +20,9 @@ use Rattle.xs_encoding.specs.Lists.{system_of, bad_list}
 use Rattle.xs_encode.specs.History.{last_numbers}
 use Rattle.xs_encoded_search.specs.Searchable.{IsSearchable}
 use Rattle.xs_encoded_search.proofs.Serves.{lists_serve}
-use Rattle.xs_encoded_search.proofs.Fitting.{lists_fit}
+use Rattle.xs_encoded_search.proofs.Fitting.{few_faults, lists_fit}
 use Rattle.xs_encoded_search.proofs.Sizes.{larger_serve}
+use Rattle.xs_analysis.specs.Wholes.{modes_of}
 
 whole_long : (m : FlatModel) (fs : List Mode) → length (with_history m fs).variables ≡ length m.variables + length fs
 whole_long m fs = length-append m.variables (bit_variables 0 fs) ∙ ap (λ k. length m.variables + k) (length_bits 0 fs)
@@ -30,6 +32,13 @@ pub faults_within : (full : CodeModel) (m : FlatModel) (fs : List Mode) → mode
 faults_within full m fs e =
     let same : length full.variables ≡ length m.variables + length fs = sym (length-map full.variables variable_tree) ∙ ap (λ (w : FlatModel). length w.variables) e ∙ whole_long m fs in
     omega (arith, same)
+
+-- there are at most 4,096 faults
+pub few : (m : FlatModel) (faults : List Fault) (top : Tree FlatLeaf) → IsSearchable m (modes_of faults) top → length faults ≤ 4096
+few m faults top is =
+    let most = few_faults m (modes_of faults) is.encodable.typed.small in
+    let same = length-map faults mode_of in
+    omega (arith, most, same)
 
 -- the last variables are the bits of history
 last_history : (m : FlatModel) (fs : List Mode) → last_numbers (with_history m fs) (length fs) ≡ history_of m fs

@@ -1,10 +1,11 @@
 -- A moment that gives the bits of a valuation is read as one.
-use Rattle.std.proofs.Common.{◌≡◌, ℕ, zero, suc, ◌+◌, Bool, true, false, List, [], ◌∷◌, Some, refl, sym, ap, ◌∙◌, subst}
-use Rattle.std.specs.Prelude.{slice_get, slice_index_or, map}
+use Rattle.std.proofs.Common.{◌≡◌, ℕ, zero, suc, ◌+◌, Bool, true, false, List, [], ◌∷◌, Some, Result, Ok, Err, IfOk, refl, sym, ap, ◌∙◌, subst}
+use Rattle.std.specs.Prelude.{slice_get, slice_index_or}
 use Rattle.xs_tree.specs.ProgramTree.{Text}
 use Rattle.xs_tree.specs.Tree.{Tree}
 use Rattle.xs_tree.specs.Values.{Value as Told, truth, number, symbol}
 use Rattle.xs_value.specs.declared.value.Value.{Value}
+use Rattle.xs_value.specs.declared.memory.OutOfMemory.{OutOfMemory}
 use Rattle.xs_value.specs.declared.value.Value.TheVariants.{Bool as ABool, Num, Sym}
 use Rattle.xs_flattening.specs.Flat.{FlatLeaf, FlatModel}
 use Rattle.xs_flattening.specs.History.{Mode, with_history}
@@ -12,15 +13,14 @@ use Rattle.xs_flattening.specs.FlatTrace.{AreInDomains}
 use Rattle.xs_types.specs.Types.{StandsFor}
 use Rattle.xs_lits.specs.Assignment.{Assignment}
 use Rattle.xs_system.specs.States.{Agrees}
-use Rattle.xs_frames.specs.Bits.{values_of as bits_in, read_from}
-use Rattle.xs_frames.specs.Path.{state_in, inputs_in}
+use Rattle.xs_frames.specs.Bits.{read_from}
 use Rattle.xs_encoding.specs.Bits.{state_of, inputs_of}
 use Rattle.xs_encoding.specs.Layout.{input_place}
 use Rattle.xs_encoding.specs.Lists.{system_of}
 use Rattle.xs_encoding.specs.Encodable.{IsEncodable}
 use Rattle.xs_encoded_search.specs.Searchable.{with_least}
 use Rattle.xs_encoded_search.proofs.Leasts.{least_values_show}
-use Rattle.xs_encode.specs.Values.{StandFor, HasState, HasMoment, values_in}
+use Rattle.xs_encode.specs.Values.{StandFor, HasState, values_in}
 use Rattle.xs_cuts.specs.Values.{value_of, values_of}
 use Rattle.xs_cuts.specs.Progress.{IsReadable, IsReadOf}
 use Rattle.xs_analysis.specs.Reads.{IsRead}
@@ -93,3 +93,10 @@ module _ (m : FlatModel) (fs : List Mode) (top : Tree FlatLeaf) (encodable : IsE
         state = ap (state_of whole) told ∙ r.state;
         inputs = λ e. ap (inputs_of whole) told ∙ r.inputs e;
       }
+
+  -- as what is read of the whole model is, where memory suffices
+  pub are_read_of : (full : FlatModel) → full ≡ with_history m fs → (last : Bool) (a : Assignment) (result : Result (List Value) OutOfMemory) →
+      IsReadable m fs top (system_of (with_history m fs)) (state_of (with_history m fs)) (inputs_of (with_history m fs)) last a → IfOk result (λ v. IsRead full last a v) →
+      IfOk result (λ v. IsReadOf m fs top (system_of (with_history m fs)) (state_of (with_history m fs)) (inputs_of (with_history m fs)) last a v)
+  are_read_of full e last a (Ok v) r read = is_read_of last a v r (subst (λ w. IsRead w last a v) e read)
+  are_read_of full e last a (Err o) r read = read

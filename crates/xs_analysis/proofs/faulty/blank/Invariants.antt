@@ -2,4 +2,4 @@ use Rattle.std.proofs.Common.{◌≡◌, length}
 use Rattle.xs_analysis.proofs.faulty.blank.Given as goal
 
 abbrev pub invariant-loop-variable : goal.invariant-loop-variable
-invariant-loop-variable l = length l.blank ≡ l.variable-index
+invariant-loop-variable l = length l.blank ≡ l._variable-index
