@@ -68,8 +68,8 @@ module _ (m : FlatModel) (fs : List Mode) (top : Tree FlatLeaf) (is : IsSearchab
   bad_for =
       ⊎_elim
       (λ less. let here : most ≡ size = least ∙ min-eq_left (omega (arith, less)) in
-          subst (λ n. IsBadFor m fs top (system_of (with_history m fs)) (state_of (with_history m fs)) (inputs_of (with_history m fs)) n sets bad) here for_most)
+      subst (λ n. IsBadFor m fs top (system_of (with_history m fs)) (state_of (with_history m fs)) (inputs_of (with_history m fs)) n sets bad) here for_most)
       (λ more. let here : most ≡ length fs = least ∙ min-eq_right (omega (arith, more)) ∙ all in
-          larger_serve m fs top (system_of (with_history m fs)) (state_of (with_history m fs)) (inputs_of (with_history m fs)) size (omega (arith, more, all)) sets bad
-          (subst (λ n. IsBadFor m fs top (system_of (with_history m fs)) (state_of (with_history m fs)) (inputs_of (with_history m fs)) n sets bad) here for_most))
+      larger_serve m fs top (system_of (with_history m fs)) (state_of (with_history m fs)) (inputs_of (with_history m fs)) size (omega (arith, more, all)) sets bad
+      (subst (λ n. IsBadFor m fs top (system_of (with_history m fs)) (state_of (with_history m fs)) (inputs_of (with_history m fs)) n sets bad) here for_most))
       (cases_lt size count)

@@ -4,23 +4,21 @@ use Rattle.std.specs.Prelude.{nat_lt}
 use Rattle.std.proofs.lemmas.Bool.{ltb-false}
 use Rattle.std.proofs.lemmas.Nat.{mul-le}
 use Rattle.std.proofs.lemmas.List.FromFn.{length-range_with_len}
-use Rattle.xs_tree.specs.Tree.{Tree}
-use Rattle.xs_flattening.specs.Flat.{FlatLeaf, FlatModel}
+use Rattle.xs_flattening.specs.Flat.{FlatModel}
 use Rattle.xs_flattening.specs.History.{Mode, with_history}
 use Rattle.xs_kinds.specs.Costs.{cost_of, model_cost, state_bits}
 use Rattle.xs_kinds.specs.Models.{is_too_large}
 use Rattle.xs_lits.specs.Literal.{Literal}
 use Rattle.xs_lits.specs.Models.{ClausesBelow}
-use Rattle.xs_system.specs.declared.system.System.{System}
-use Rattle.xs_frames.specs.Condition.{IsLow, IsFit, IsOverNow}
+use Rattle.xs_frames.specs.Condition.{IsLow, IsOverNow}
 use Rattle.xs_encoded.specs.FlatTraces.{history_of}
 use Rattle.xs_encoding.specs.Layout.{input_bits, gates_place}
 use Rattle.xs_encoding.specs.Lists.{system_of, state_list, first_list, step_list, bad_list}
-use Rattle.xs_encoding.specs.Variables.{IsOfState, UseStates, lists_room, bad_room}
+use Rattle.xs_encoding.specs.Variables.{UseStates, lists_room, bad_room}
 use Rattle.xs_encoding.proofs.CleanLists.{lists_use_states}
 use Rattle.xs_encoding.proofs.SizeLists.{lists_small}
 use Rattle.xs_encoding.proofs.HistoryPlaces.{history_last}
-use Rattle.xs_encoded_search.specs.Searchable.{IsSearchable, ListsFitFrames}
+use Rattle.xs_encoded_search.specs.Searchable.{ListsFitFrames}
 
 neither : (a b : Bool) → (a || b) ≡ false → (a ≡ false) × (b ≡ false)
 neither true b e = cc
@@ -66,7 +64,7 @@ lists_fit m fs top is =
     let most = limits w is.encodable.typed.small in
     let room : (size : ℕ) → size ≤ length fs → bad_room w top history size < 2 ^ 31 =
     λ size h. subst (λ n. lists_room w + 1024 * cost_of top + 2 * (size + 1) * n < 2 ^ 31) (sym long)
-        (small_room (gates_place w) (state_bits w) (input_bits w) (model_cost w) (cost_of top) (2 * (size + 1) * length fs) refl most.1 is.few_inputs most.0 is.small_top (small_counters size (length fs) h few)) in
+    (small_room (gates_place w) (state_bits w) (input_bits w) (model_cost w) (cost_of top) (2 * (size + 1) * length fs) refl most.1 is.few_inputs most.0 is.small_top (small_counters size (length fs) h few)) in
     let lists : lists_room w ≤ 2 ^ 31 = let whole = room 0 (omega arith) in omega (arith, whole) in (
       record {
         bits = omega (arith, most.1, is.few_inputs);
@@ -75,6 +73,6 @@ lists_fit m fs top is =
         state = lows w (lists_room w) lists (state_list w) small.states;
       },
       (λ sets size h.
-        overs w (bad_room w top history size) (let below = room size h in omega (arith, below)) (bad_list w top history sets size) (uses.2 top history sets size is.fits (history_last m fs).0)
-        (small.bad top history sets size is.fits (history_last m fs).0)),
+          overs w (bad_room w top history size) (let below = room size h in omega (arith, below)) (bad_list w top history sets size) (uses.2 top history sets size is.fits (history_last m fs).0)
+          (small.bad top history sets size is.fits (history_last m fs).0)),
     )

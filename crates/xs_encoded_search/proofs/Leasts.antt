@@ -1,22 +1,21 @@
 -- The least values of an encodable model, and its valuations with the least inputs.
-use Rattle.std.proofs.Common.{◌≡◌, ◌<◌, ◌≤ℤ◌, ℤ, true, false, List, [], ◌∷◌, length, Some, IsTrue, refl, sym, ap, subst, arith, int_lt}
+use Rattle.std.proofs.Common.{◌≡◌, ◌≤ℤ◌, ℤ, false, List, [], ◌∷◌, Some, refl, sym, ap, subst, arith, int_lt}
 use Rattle.std.proofs.lemmas.Int.{ints}
 use Rattle.xs_tree.specs.ProgramTree.{Text, DeclaredTree, boolean, range, members, instance}
 use Rattle.xs_tree.specs.Trace.{Each}
-use Rattle.xs_tree.specs.Values.{Value, at_most, opposite}
-use Rattle.xs_flattening.specs.Flat.{FlatVariable, FlatModel}
-use Rattle.xs_flattening.specs.FlatTrace.{AreInDomains}
+use Rattle.xs_tree.specs.Values.{opposite}
+use Rattle.xs_flattening.specs.Flat.{FlatVariable}
 use Rattle.xs_kinds.specs.Declared.{judged_declared}
 use Rattle.xs_kinds.specs.Intervals.{Interval}
-use Rattle.xs_least.specs.Least.{HasValues, least_values, with_inputs}
+use Rattle.xs_least.specs.Least.{HasValues, least_values}
 use Rattle.xs_least.proofs.LeastLaws.{least_values_lie, least_inputs_serve}
 use Rattle.xs_encoding.specs.Bits.{state_of, inputs_of}
-use Rattle.xs_encoding.specs.Encodable.{IsEncodable, IsListedType}
+use Rattle.xs_encoding.specs.Encodable.{IsListedType}
 use Rattle.xs_encoding.proofs.ByRole.{bits_by_role}
 use Rattle.xs_encoding.proofs.MomentMeans.{model_types}
 use Rattle.xs_encoding.proofs.Readings.{IsRightType}
 use Rattle.xs_encoding.proofs.TypeMeans.{range_numbers}
-use Rattle.xs_encoded_search.specs.Searchable.{with_least, ShowsLeast, LeastValuesShow}
+use Rattle.xs_encoded_search.specs.Searchable.{LeastValuesShow}
 
 one_interval : (i j : Interval) → Some i ≡ Some j → i ≡ j
 one_interval i j e = cc
@@ -45,6 +44,6 @@ least_values_show m is =
     let least = least_values_lie m.symbols m.variables values in (
       least,
       (λ v h.
-        let served = least_inputs_serve m (state_of m) (inputs_of m) (bits_by_role m) values v h in
-        record { domains = served.0; state = served.1; inputs = (bits_by_role m).inputs v (least_values m.symbols m.variables) h least }),
+          let served = least_inputs_serve m (state_of m) (inputs_of m) (bits_by_role m) values v h in
+          record { domains = served.0; state = served.1; inputs = (bits_by_role m).inputs v (least_values m.symbols m.variables) h least }),
     )

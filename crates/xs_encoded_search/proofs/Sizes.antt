@@ -1,5 +1,5 @@
 -- Where at most as many faults have failed as there are, nothing is asked of their number.
-use Rattle.std.proofs.Common.{◌≡◌, ℕ, ◌+◌, ◌≤◌, Bool, not, List, length, refl, arith}
+use Rattle.std.proofs.Common.{ℕ, ◌≤◌, Bool, not, List, length, refl, arith}
 use Rattle.std.specs.Prelude.{filter}
 use Rattle.std.specs.List.{range_with_len}
 use Rattle.std.proofs.lemmas.List.Filters.{length-filter_both}

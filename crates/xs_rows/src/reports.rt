@@ -73,14 +73,34 @@ fn found(alloc: Global, t: &Typed) -> Result<ByteList, OutOfMemory> {
     let mut traces = TraceList::new(alloc);
     traces.push(trace(alloc)?)?;
     let faults = faults(alloc)?;
-    print_analysis(alloc, t, &faults, &sets, &traces, true, 3, 1, Ending::Complete)
+    print_analysis(
+        alloc,
+        t,
+        &faults,
+        &sets,
+        &traces,
+        true,
+        3,
+        1,
+        Ending::Complete,
+    )
 }
 
 fn none(alloc: Global, t: &Typed) -> Result<ByteList, OutOfMemory> {
     let sets = SetList::new(alloc);
     let traces = TraceList::new(alloc);
     let faults = faults(alloc)?;
-    print_analysis(alloc, t, &faults, &sets, &traces, false, 3, 0, Ending::Bounded(4))
+    print_analysis(
+        alloc,
+        t,
+        &faults,
+        &sets,
+        &traces,
+        false,
+        3,
+        0,
+        Ending::Bounded(4),
+    )
 }
 
 #[test]
