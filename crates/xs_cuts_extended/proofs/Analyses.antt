@@ -1,5 +1,5 @@
 -- An answer for the flat model of an extension is an analysis of the extension.
-use Rattle.std.proofs.Common.{◌≡◌, ◌↔◌, ℕ, zero, suc, ◌+◌, ◌≤◌, Bool, true, List, [], ◌∷◌, map, length, Some, refl, sym, ap, ◌∙◌, subst}
+use Rattle.std.proofs.Common.{◌≡◌, ◌↔◌, ℕ, zero, suc, Bool, true, List, [], ◌∷◌, map, length, Some, refl, sym, ap, ◌∙◌, subst}
 use Rattle.std.specs.Prelude.{slice_get}
 use Rattle.xs_tree.specs.Tree.{Tree}
 use Rattle.xs_tree.specs.ProgramTree.{Text, Formula, ProgramTree}
@@ -14,15 +14,14 @@ use Rattle.xs_system.specs.declared.system.System.{System}
 use Rattle.xs_right.specs.Laws.{AreBoth}
 use Rattle.xs_encoded.specs.FlatTraces.{ReachesTop, HasFailedNumber}
 use Rattle.xs_cutting.specs.Found.{Found, sets_of, traces_of, AreFound}
-use Rattle.xs_cutting.specs.Searched.{FlatTrace, AreFoundFlat}
+use Rattle.xs_cutting.specs.Searched.{FlatTrace}
 use Rattle.xs_extended_right.specs.ExtendedTraces.{IsExtensionModel, IsFlatCut, IsRightExtended}
 use Rattle.xs_extended_right.proofs.Carried.{correspond, uncut, flat_traces_cut, all_right_extended, short_right_extended}
-use Rattle.xs_analysis_text.specs.Analysis.{Ending, complete, bounded}
 use Rattle.xs_reporting.specs.ExtendedTraces.{IsOfClass, IsAnalysisOf}
 use Rattle.xs_cuts.specs.declared.answer.Analysis.{Analysis}
 use Rattle.xs_cuts.specs.declared.answer.End.{End}
 use Rattle.xs_cuts.specs.declared.answer.End.TheVariants.{Complete, Bounded}
-use Rattle.xs_cuts.specs.Values.{trace_of, found_of, all_found}
+use Rattle.xs_cuts.specs.Values.{trace_of, all_found}
 use Rattle.xs_cuts.specs.Progress.{CodeFound, HasChainFor}
 use Rattle.xs_cuts.specs.Answer.{IsEnd, IsAnswer}
 use Rattle.xs_cuts.proofs.SearchLemmas.{sets_same}

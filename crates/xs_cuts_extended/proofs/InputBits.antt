@@ -1,5 +1,5 @@
 -- An accepted program has few variables, and so few bits of inputs.
-use Rattle.std.proofs.Common.{◌≡◌, ℕ, zero, suc, ◌+◌, ◌*◌, ◌^◌, ◌<◌, ◌≤◌, max, nat_eq, Bool, true, false, List, [], ◌∷◌, ◌++◌, length, Option, Some, None, ℤ, pos, negsuc, refl, sym, ap, ◌∙◌, subst, arith, inl, inr, ⊎_elim}
+use Rattle.std.proofs.Common.{◌≡◌, ℕ, zero, suc, ◌+◌, ◌*◌, ◌^◌, ◌≤◌, nat_eq, Bool, true, false, List, [], ◌∷◌, ◌++◌, length, Option, Some, None, ℤ, pos, negsuc, refl, sym, ap, ◌∙◌, subst, arith, ⊎_elim}
 use Rattle.std.specs.Prelude.{flat_map, map, sum_by, ◌/◌}
 use Rattle.std.proofs.lemmas.Bool.{cases_lt}
 use Rattle.std.proofs.lemmas.List.{length-append, append_assoc, append-nil}
@@ -16,7 +16,7 @@ use Rattle.xs_flattening.proofs.HistoryLaws.{length_bits}
 use Rattle.xs_flattening.proofs.Walkable.{accepted_walkable}
 use Rattle.xs_kinds.specs.Intervals.{Interval}
 use Rattle.xs_kinds.specs.Judged.{hull_of}
-use Rattle.xs_kinds.specs.Costs.{digits_in, digits_of, digits_above, width_of, width_in, declared_width, number_kind, member_number}
+use Rattle.xs_kinds.specs.Costs.{digits_in, digits_above, width_of, width_in, declared_width, number_kind, member_number}
 use Rattle.xs_encoding.specs.Layout.{width_as_input, input_width, input_bits}
 
 -- ---- variables

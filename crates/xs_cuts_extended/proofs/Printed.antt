@@ -1,13 +1,12 @@
 -- A report of an answer prints the analysis that it tells.
-use Rattle.std.proofs.Common.{◌≡◌, ℕ, zero, suc, Bool, List, [], ◌∷◌, map, refl, sym, ap, ◌∙◌}
+use Rattle.std.proofs.Common.{◌≡◌, ℕ, zero, suc, List, [], ◌∷◌, map, refl, ap}
 use Rattle.std.specs.Prelude.{slice_get, slice_index_or}
 use Rattle.xs_tree.specs.ProgramTree.{Text}
-use Rattle.xs_tree.specs.Values.{Value as Told, symbol}
+use Rattle.xs_tree.specs.Values.{symbol}
 use Rattle.xs_value.specs.declared.value.Value.{Value}
 use Rattle.xs_value.specs.declared.value.Value.TheVariants.{Bool as ABool, Num, Sym}
-use Rattle.xs_analysis_text.specs.Analysis.{Ending, Analysis}
 use Rattle.xs_report.specs.Told.{text_at, told_value, told_moment, told_trace}
-use Rattle.xs_report.specs.Analysed.{told_ending, told_traces}
+use Rattle.xs_report.specs.Analysed.{told_traces}
 use Rattle.xs_cuts.specs.Values.{value_of, values_of, trace_of}
 use Rattle.xs_cuts_extended.specs.Laws.{AnswersArePrinted}
 

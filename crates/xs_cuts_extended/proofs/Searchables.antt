@@ -1,13 +1,13 @@
 -- The flat model of an extension, with its faults and a top event that fits it, can be searched.
-use Rattle.std.proofs.Common.{◌≡◌, ℕ, zero, suc, ◌<◌, ◌≤◌, ◌^◌, false, List, [], ◌∷◌, map, length, Option, Some, None, refl, sym, ap, ◌∙◌, subst, arith}
+use Rattle.std.proofs.Common.{◌≡◌, ℕ, zero, suc, ◌<◌, List, [], ◌∷◌, length, Some, refl, sym, ap, ◌∙◌, subst, arith}
 use Rattle.std.specs.Prelude.{slice_get}
 use Rattle.xs_tree.specs.Tree.{Tree}
-use Rattle.xs_tree.specs.ProgramTree.{Text, Formula, DeclaredTree, boolean, range, members, instance, ModuleTree, ProgramTree}
-use Rattle.xs_tree.specs.Scope.{Place, Role, state, Kind, a_variable, kind_in}
+use Rattle.xs_tree.specs.ProgramTree.{Text, Formula, DeclaredTree, boolean, range, members, instance, ProgramTree}
+use Rattle.xs_tree.specs.Scope.{Place, Role, state, a_variable, kind_in}
 use Rattle.xs_tree.specs.Trace.{Each, IsVariable}
-use Rattle.xs_tree.specs.WritableProgram.{IsWritableType, IsWritableProgram}
+use Rattle.xs_tree.specs.WritableProgram.{IsWritableType}
 use Rattle.xs_flattening.specs.Flat.{FlatLeaf, FlatVariable, FlatModel}
-use Rattle.xs_flattening.specs.History.{Mode, with_history}
+use Rattle.xs_flattening.specs.History.{Mode}
 use Rattle.xs_flattening.specs.Model.{EachBoth}
 use Rattle.xs_fei.specs.Instructions.{InstructionTree, slices_of}
 use Rattle.xs_effects.specs.AddedNames.{mode_variable}
@@ -15,17 +15,14 @@ use Rattle.xs_weave.specs.Faults.{Fault}
 use Rattle.xs_weave.specs.Woven.{mode_type, woven}
 use Rattle.xs_weave.specs.Weavable.{Among}
 use Rattle.xs_weave.proofs.Added.{among_contains}
-use Rattle.xs_kinds.specs.Costs.{cost_of}
-use Rattle.xs_kinds.specs.Models.{IsTyped}
 use Rattle.xs_trace_text.specs.Laws.{IsNamed}
 use Rattle.xs_trace_text.proofs.FlatNames.{flat_models_named}
 use Rattle.xs_encoding.specs.Inputs.{is_input}
 use Rattle.xs_encoding.specs.Laws.{HasMember}
-use Rattle.xs_encoding.specs.Encodable.{IsEncodable, IsFitTop}
+use Rattle.xs_encoding.specs.Encodable.{IsEncodable}
 use Rattle.xs_encoding.specs.HistoryBits.{IsStateMode}
 use Rattle.xs_encoding.proofs.FlatEncodable.{flat_models_encodable}
 use Rattle.xs_encoding.proofs.HistoryEncodable.{history_encodable}
-use Rattle.xs_encoded_search.specs.Searchable.{IsSearchable}
 use Rattle.xs_encoded_search.proofs.Fitting.{few_faults}
 use Rattle.xs_extended_right.specs.ExtendedTraces.{IsModeOfFault, IsExtensionModel}
 use Rattle.xs_extended_right.proofs.Modes.{IsOfSlice, of_program}

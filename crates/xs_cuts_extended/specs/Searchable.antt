@@ -1,5 +1,5 @@
 -- When the flat model of an extension, with its faults and a top event, can be searched.
-use Rattle.std.specs.Prelude.{ℕ, ◌≤◌, ◌<◌, ◌^◌, List, length}
+use Rattle.std.specs.Prelude.{◌≤◌, ◌<◌, ◌^◌, List, length}
 use Rattle.xs_tree.specs.Tree.{Tree}
 use Rattle.xs_tree.specs.ProgramTree.{Formula, ProgramTree}
 use Rattle.xs_tree.specs.WritableProgram.{IsWritableProgram}
