@@ -1,0 +1,4 @@
+pub mod Analyses
+pub mod InputBits
+pub mod Searchables
+pub mod Printed
