@@ -1,0 +1,4 @@
+pub mod RowLemmas
+pub mod TextLaws
+pub mod TableLemmas
+pub mod EntryLaws
