@@ -3,9 +3,9 @@ use Rattle.std.proofs.Common.{◌≡◌, ℕ, zero, suc, ◌+◌, ◌-◌, ◌*�
 use Rattle.std.specs.Prelude.{slice_index_or}
 use Rattle.std.specs.Int.{div_ceil}
 use Rattle.std.proofs.lemmas.List.{append_assoc, append-nil}
-use Rattle.std.proofs.lemmas.Grind.{div_ceil_times}
 use Rattle.xs_odds.specs.Units.{one_in_units}
 use Rattle.xs_odds.specs.Laws.{AreAtMostOne}
+use Rattle.xs_odds.proofs.Products.{no_larger}
 
 pub ruleset text_rules = (append_assoc, append-nil)
 
@@ -17,3 +17,10 @@ pub at_most_one : (xs : List ℕ) (i : ℕ) → AreAtMostOne xs → get_or xs i 
 at_most_one [] i h = omega arith
 at_most_one (x ∷ xs) zero h = h.0
 at_most_one (x ∷ xs) (suc i) h = at_most_one xs i h.1
+
+-- a product of two probabilities is one, rounded up too
+pub product_small : (x y : ℕ) → x ≤ one_in_units → y ≤ one_in_units → div_ceil (x * y) one_in_units ≤ one_in_units
+product_small x y h k = trans_of (div_ceil (x * y) one_in_units) x one_in_units (no_larger x (y ∷ []) (k, tt)) h
+  where
+    trans_of : (a b c : ℕ) → a ≤ b → b ≤ c → a ≤ c
+    trans_of a b c h k = omega arith

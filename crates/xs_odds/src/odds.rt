@@ -1,6 +1,7 @@
 //! The units of faults, and the bound of a set of them.
 
-ghost use Rattle.std.specs.Prelude.{◌≡◌, ◌≤◌, ◌<◌, ◌×◌, ◌^◌, [], ◌∷◌, ◌++◌, All, length, slice_get, slice_index_or, Some, OnOk, OnErr};
+ghost use Rattle.std.specs.Prelude.{◌≡◌, ◌≤◌, ◌<◌, ◌×◌, ◌-◌, ◌*◌, [], ◌∷◌, ◌++◌, All, length, slice_get, slice_index_or, Some, OnOk, OnErr};
+ghost use Rattle.std.specs.Int.{div_ceil};
 ghost use Rattle.xs_odds.specs.Units.{one_in_units};
 ghost use Rattle.xs_odds.specs.Bounds.{Bounds, bound_of, multiplied, units_in};
 
@@ -78,10 +79,10 @@ pub fn bound(odds: &OddsList, set: &[u32]) -> u128
     ensures bounds { Bounds (units_in odds.now set.now) result }
     ensures small { result ≤ one_in_units }
 {
-    match set.split_first() {
-        Some((first, more)) => multiplied_by(odds, u128::from(odds.of_fault(*first)), more),
-        None => ONE,
-    }
+    let [first, more @ ..] = set else {
+        return ONE;
+    };
+    multiplied_by(odds, u128::from(odds.of_fault(*first)), more)
 }
 
 /// A number of units, multiplied by the units of each fault in turn.
