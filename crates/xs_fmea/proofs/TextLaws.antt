@@ -5,9 +5,9 @@ use Rattle.std.specs.Fmt.{decimal}
 use Rattle.std.proofs.lemmas.List.{append_assoc, append-nil, length-map, drop_more}
 use Rattle.std.proofs.Math.ListN.{drop_of_length-le}
 use Rattle.xs_tree.specs.ProgramTree.{Text}
-use Rattle.xs_reporting.specs.ExtendedTraces.{Ending, Analysis}
-use Rattle.xs_reporting.specs.AnalysisText.{numbers_text, ending_text}
-use Rattle.xs_reporting.specs.Tables.{Entry, entry_of, rows_of, entries_text, column_lines, row_lines, table_text}
+use Rattle.xs_analysis_text.specs.Analysis.{Ending, Analysis}
+use Rattle.xs_analysis_text.specs.AnalysisText.{numbers_text, ending_text}
+use Rattle.xs_fmea.specs.Tables.{Entry, entry_of, rows_of, entries_text, column_lines, row_lines, table_text}
 use Rattle.xs_fmea.specs.Columns.{told_entry, told_ending, IsTableOf, ending_line, ending_lines, entry_line, entry_lines, printed_table}
 use Rattle.xs_fmea.specs.declared.columns.FmeaTable.{FmeaTable}
 use Rattle.xs_fmea.specs.declared.columns.Entry.{Entry as Entered}

@@ -2,9 +2,9 @@
 use Rattle.std.specs.Prelude.{◌≡◌, ◌<◌, ◌≤◌, ℕ, suc, true, List, [], ◌∷◌, ◌++◌, All, codes, length, map}
 use Rattle.std.specs.Fmt.{decimal}
 use Rattle.xs_tree.specs.ProgramTree.{Text}
-use Rattle.xs_reporting.specs.ExtendedTraces.{Ending, complete, bounded, Analysis}
-use Rattle.xs_reporting.specs.AnalysisText.{numbers_text, ending_text}
-use Rattle.xs_reporting.specs.Tables.{Entry, yes, no, unknown, entry_of, rows_of, entries_text}
+use Rattle.xs_analysis_text.specs.Analysis.{Ending, complete, bounded, Analysis}
+use Rattle.xs_analysis_text.specs.AnalysisText.{numbers_text, ending_text}
+use Rattle.xs_fmea.specs.Tables.{Entry, yes, no, unknown, entry_of, rows_of, entries_text}
 use Rattle.xs_fmea.specs.declared.columns.Entry.{Entry as Entered}
 use Rattle.xs_fmea.specs.declared.columns.Entry.TheVariants as entered
 use Rattle.xs_fmea.specs.declared.columns.Ending.{Ending as Ended}

@@ -3,8 +3,8 @@
 ghost use Rattle.std.specs.Prelude.{◌≡◌, ◌≤◌, ◌<◌, [], List, All, map, IfOk};
 ghost use Rattle.std.specs.List.{list_any};
 ghost use Rattle.xs_right.specs.Sets.{has_number, is_contained as contained};
-ghost use Rattle.xs_reporting.specs.ExtendedTraces.{Analysis};
-ghost use Rattle.xs_reporting.specs.Tables.{entry_of, absent_entry, rows_of as rows_within};
+ghost use Rattle.xs_analysis_text.specs.Analysis.{Analysis};
+ghost use Rattle.xs_fmea.specs.Tables.{entry_of, absent_entry, rows_of as rows_within};
 ghost use Rattle.xs_fmea.specs.Columns.{told_entry, told_ending, told_column, AreTold, NamesFaults, IsTableOf};
 
 use crate::columns::{

@@ -3,8 +3,8 @@
 //! [`table`] makes the rows (the sets of at most so many faults, smaller ones first, then by their numbers) and
 //! asks each column, which is the answer of an analysis, what it says of each row: `yes` where a listed set lies
 //! within the row, else `no` where the column is complete and `unknown` where it is bounded. [`print_table`] gives
-//! the text. The definitions stand in `xs_reporting`; `specs/Columns.antt` says how columns and tables are seen
-//! there, and `specs/Laws.antt` has the theorem that [`entries_mean_what_they_say`] carries: of columns that are
+//! the text. `specs/Tables.antt` has the definitions, and `specs/Columns.antt` says how columns and tables are seen
+//! there. What an entry means of the traces of an extension stands above, in `xs_reporting`: of columns that are
 //! right for all traces, or for those of at most so many steps, each entry is right.
 //!
 //! ```text
@@ -13,13 +13,19 @@
 //! ```
 #![tactic(auto)]
 
+ghost use Rattle.std.specs.Prelude.{◌≡◌, [], ◌∷◌};
+ghost use Rattle.xs_fmea.specs.Tables.{rows_of};
+
 mod columns;
 mod entries;
-mod law;
 mod print;
 mod rows;
 
 pub use columns::{Column, ColumnList, Ending, EndingList, Entry, EntryList, EntryRows, FmeaTable};
 pub use entries::table;
-pub use law::entries_mean_what_they_say;
 pub use print::print_table;
+
+/// The rows of a table over two faults, as an example.
+pub fn small_example()
+    ensures rows { rows_of 2 2 ≡ [] ∷ (1 ∷ []) ∷ (2 ∷ []) ∷ (1 ∷ 2 ∷ []) ∷ [] }
+{}

@@ -2,9 +2,9 @@
 
 ghost use Rattle.std.specs.Prelude.{◌≡◌, ◌+◌, ◌++◌, ℕ, List, codes, map, length, IfOk, OnOk};
 ghost use Rattle.std.specs.Fmt.{decimal};
-ghost use Rattle.xs_reporting.specs.ExtendedTraces.{Analysis};
-ghost use Rattle.xs_reporting.specs.AnalysisText.{numbers_text, ending_text as text_of_ending};
-ghost use Rattle.xs_reporting.specs.Tables.{entry_text as text_of_entry, entries_text, table_text};
+ghost use Rattle.xs_analysis_text.specs.Analysis.{Analysis};
+ghost use Rattle.xs_analysis_text.specs.AnalysisText.{numbers_text, ending_text as text_of_ending};
+ghost use Rattle.xs_fmea.specs.Tables.{entry_text as text_of_entry, entries_text, table_text};
 ghost use Rattle.xs_fmea.specs.Columns.{told_entry, told_ending, IsTableOf, ending_line, ending_lines, entry_line, entry_lines, printed_table};
 
 use crate::columns::{Ending, Entry, EntryList, FmeaTable};

@@ -2,7 +2,7 @@
 
 ghost use Rattle.std.specs.Prelude.{◌≡◌, ◌≤◌, ◌-◌, [], ◌∷◌, ◌++◌, suc, map, IfOk, OnOk};
 ghost use Rattle.std.specs.List.{range_with_len};
-ghost use Rattle.xs_reporting.specs.Tables.{rows_of as rows_within, pairs_after, pairs_from};
+ghost use Rattle.xs_fmea.specs.Tables.{rows_of as rows_within, pairs_after, pairs_from};
 
 use std::alloc::Global;
 use xs_value::{FaultSet, OutOfMemory, SetList};

@@ -1,5 +1,6 @@
 pub mod Told
 pub mod FaultText
+pub mod Analysed
 pub mod Names
 pub mod Cuts
 pub mod ValueReading

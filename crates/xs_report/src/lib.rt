@@ -19,6 +19,7 @@
 //! ```
 #![tactic(auto)]
 
+mod analysis;
 mod fault;
 mod fault_list;
 mod lines;
@@ -30,6 +31,7 @@ mod traces;
 mod values;
 mod whole;
 
+pub use analysis::{Ending, print_analysis};
 pub use fault::TraceFault;
 pub use fault_list::print_faults;
 pub use traces::print_trace;

@@ -1,5 +1,5 @@
 use Rattle.std.proofs.Common.{◌≡◌, ◌++◌, drop, map}
-use Rattle.xs_reporting.specs.Tables.{entry_of}
+use Rattle.xs_fmea.specs.Tables.{entry_of}
 use Rattle.xs_fmea.specs.Columns.{told_entry, told_column}
 use Rattle.xs_fmea.proofs.entries.entries_of_rows.Given as goal
 

@@ -1,5 +1,5 @@
 use Rattle.std.proofs.Common.{◌≡◌, ◌++◌, drop, map}
-use Rattle.xs_reporting.specs.Tables.{entries_text}
+use Rattle.xs_fmea.specs.Tables.{entries_text}
 use Rattle.xs_fmea.specs.Columns.{told_entry}
 use Rattle.xs_fmea.proofs.print.append_entries.Given as goal
 

@@ -1,6 +1,6 @@
 -- the rows and the pairs that are left are all of them
 use Rattle.std.proofs.Common.{◌≡◌, ◌≤◌, ◌++◌}
-use Rattle.xs_reporting.specs.Tables.{pairs_from}
+use Rattle.xs_fmea.specs.Tables.{pairs_from}
 use Rattle.xs_fmea.proofs.RowLemmas.{pairs_left}
 use Rattle.xs_fmea.proofs.rows.append_pairs.Given as goal
 

@@ -11,8 +11,8 @@ use Rattle.xs_right.specs.Right.{Shows, HasFailedAll}
 use Rattle.xs_extended_right.specs.ExtendedTraces.{IsRightExtended, HasFailedFault}
 use Rattle.xs_encoded.proofs.SetLaws.{either_of, or_cases, none_contained, split_member, has_contains, contains_has, contained_has, contained_from}
 use Rattle.xs_reporting.specs.ExtendedTraces.{Ending, complete, bounded, IsOfClass, Analysis}
-use Rattle.xs_reporting.specs.Tables.{Suffices, IsEntry, yes, absent_entry, entry_of}
-use Rattle.xs_fmea.specs.Laws.{EntriesAreRight}
+use Rattle.xs_fmea.specs.Tables.{yes, absent_entry, entry_of}
+use Rattle.xs_reporting.specs.Tables.{Suffices, IsEntry, EntriesAreRight}
 
 no_place : {A : Type 0} (i : ℕ) (x : A) → slice_get [] i ≡ Some x → ⊥
 no_place i x e = cc

@@ -1,0 +1,15 @@
+-- What an analysis finds.
+use Rattle.std.specs.Prelude.{ℕ, Bool, List}
+use Rattle.xs_tree.specs.Values.{Value}
+
+-- how an analysis ends: for all traces, or for those of at most so many steps
+pub data Ending : Type 0 where
+  complete : Ending
+  bounded : ℕ → Ending
+
+-- sets, the values of a trace for each, whether there is a first moment, and how the analysis ends
+pub record Analysis : Type 0 where
+  pub sets : List (List ℕ)
+  pub shown : List (List (List Value))
+  pub first : Bool
+  pub ending : Ending
