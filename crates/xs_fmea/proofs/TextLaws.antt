@@ -3,12 +3,11 @@ use Rattle.std.proofs.Common.{◌≡◌, ℕ, zero, suc, ◌+◌, ◌<◌, ◌�
 use Rattle.std.specs.Prelude.{map, codes}
 use Rattle.std.specs.Fmt.{decimal}
 use Rattle.std.proofs.lemmas.List.{append_assoc, append-nil, length-map, drop_more}
-use Rattle.std.proofs.Math.ListN.{drop_of_length-le}
 use Rattle.xs_tree.specs.ProgramTree.{Text}
 use Rattle.xs_analysis_text.specs.Analysis.{Ending, Analysis}
 use Rattle.xs_analysis_text.specs.AnalysisText.{numbers_text, ending_text}
 use Rattle.xs_fmea.specs.Tables.{Entry, entry_of, rows_of, entries_text, column_lines, row_lines, table_text}
-use Rattle.xs_fmea.specs.Columns.{told_entry, told_ending, IsTableOf, ending_line, ending_lines, entry_line, entry_lines, printed_table}
+use Rattle.xs_fmea.specs.Columns.{told_entry, told_ending, IsTableOf, ending_line, ending_lines, entry_line, entry_lines, line_at, printed_table}
 use Rattle.xs_fmea.specs.declared.columns.FmeaTable.{FmeaTable}
 use Rattle.xs_fmea.specs.declared.columns.Entry.{Entry as Entered}
 use Rattle.xs_fmea.specs.declared.columns.Ending.{Ending as Ended}
@@ -55,27 +54,24 @@ text_of_table fault_lines bits faults size columns t is =
 abbrev pub lines_left : List (List ℕ) → List (List Entered) → ℕ → Text
 lines_left rows entries i = entry_lines (drop i rows) (map (map told_entry) (drop i entries))
 
-pub row_on : (rows : List (List ℕ)) (entries : List (List Entered)) (i : ℕ) (row : List ℕ) (es : List Entered) (text more whole : Text) → i < length rows → i < length entries →
-    row ≡ get_or rows i row → es ≡ get_or entries i es → more ≡ text ++ entry_line row (map told_entry es) → text ++ lines_left rows entries i ≡ whole → more ++ lines_left rows entries (i + 1) ≡ whole
-row_on rows entries i row es text more whole l l' e f g h =
-    ap (λ t. t ++ lines_left rows entries (i + 1)) g
-    ∙ (append_assoc text (entry_line row (map told_entry es)) (lines_left rows entries (i + 1))
-    ∙ (ap (λ t. text ++ t) (sym left) ∙ h))
-  where
-    left : lines_left rows entries i ≡ entry_line row (map told_entry es) ++ lines_left rows entries (i + 1)
-    left =
-        ap (λ rs. entry_lines rs (map (map told_entry) (drop i entries))) (drop_more rows i row l ∙ ap (λ r. r ∷ drop (i + 1) rows) (sym e))
-        ∙ ap (λ z. entry_lines (row ∷ drop (i + 1) rows) (map (map told_entry) z)) (drop_more entries i es l' ∙ ap (λ r. r ∷ drop (i + 1) entries) (sym f))
-
 no_rows : (rows : List (List ℕ)) → entry_lines rows [] ≡ []
 no_rows [] = refl
 no_rows (r ∷ rows) = refl
 
-none_left : (rows : List (List ℕ)) (entries : List (List Entered)) (i : ℕ) → length entries ≤ i → lines_left rows entries i ≡ []
-none_left rows entries i h = ap (λ z. entry_lines (drop i rows) (map (map told_entry) z)) (drop_of_length-le entries h) ∙ no_rows (drop i rows)
+-- a row's line, where its place has entries, and those that come after it
+line_on_rows : (row : List ℕ) (rows : List (List ℕ)) (entries : List (List Entered)) (i : ℕ) →
+    entry_lines (row ∷ rows) (map (map told_entry) (drop i entries)) ≡ line_at row (map (map told_entry) entries) i ++ entry_lines rows (map (map told_entry) (drop (i + 1) entries))
+line_on_rows row rows [] zero = sym (no_rows rows)
+line_on_rows row rows [] (suc i) = sym (no_rows rows)
+line_on_rows row rows (es ∷ entries) zero = refl
+line_on_rows row rows (es ∷ entries) (suc i) = line_on_rows row rows entries i
 
-pub row_past : (rows : List (List ℕ)) (entries : List (List Entered)) (i : ℕ) (text whole : Text) → length entries ≤ i → text ++ lines_left rows entries i ≡ whole → text ++ lines_left rows entries (i + 1) ≡ whole
-row_past rows entries i text whole h e = ap (λ t. text ++ t) (none_left rows entries (i + 1) (omega (arith, h)) ∙ sym (none_left rows entries i h)) ∙ e
+pub row_on : (rows : List (List ℕ)) (entries : List (List Entered)) (i : ℕ) (row : List ℕ) (text more whole : Text) → drop i rows ≡ row ∷ drop (i + 1) rows →
+    more ≡ text ++ line_at row (map (map told_entry) entries) i → text ++ lines_left rows entries i ≡ whole → more ++ lines_left rows entries (i + 1) ≡ whole
+row_on rows entries i row text more whole e g h =
+    ap (λ t. t ++ lines_left rows entries (i + 1)) g
+    ∙ (append_assoc text (line_at row (map (map told_entry) entries) i) (lines_left rows entries (i + 1))
+    ∙ (ap (λ t. text ++ t) (sym (ap (λ rs. entry_lines rs (map (map told_entry) (drop i entries))) e ∙ line_on_rows row (drop (i + 1) rows) entries i)) ∙ h))
 
 -- the lines of the endings from a place on
 pub ending_on : (bits : ℕ) (endings : List Ended) (i : ℕ) (e : Ended) → i < length endings →

@@ -1,5 +1,5 @@
 -- Columns and tables of the code, as the definitions of analyses and tables see them.
-use Rattle.std.specs.Prelude.{◌≡◌, ◌<◌, ◌≤◌, ℕ, suc, true, List, [], ◌∷◌, ◌++◌, All, codes, length, map}
+use Rattle.std.specs.Prelude.{◌≡◌, ◌<◌, ◌≤◌, ℕ, suc, true, List, [], ◌∷◌, ◌++◌, All, Option, Some, None, slice_get, codes, length, map}
 use Rattle.std.specs.Fmt.{decimal}
 use Rattle.xs_tree.specs.ProgramTree.{Text}
 use Rattle.xs_analysis_text.specs.Analysis.{Ending, complete, bounded, Analysis}
@@ -55,6 +55,14 @@ abbrev pub entry_lines : List (List ℕ) → List (List Entry) → Text
 entry_lines [] entries = []
 entry_lines (row ∷ rows) [] = []
 entry_lines (row ∷ rows) (es ∷ entries) = entry_line row es ++ entry_lines rows entries
+
+-- the line of a row, where the place has entries
+abbrev pub line_of : List ℕ → Option (List Entry) → Text
+line_of row None = []
+line_of row (Some es) = entry_line row es
+
+abbrev pub line_at : List ℕ → List (List Entry) → ℕ → Text
+line_at row entries i = line_of row (slice_get entries i)
 
 abbrev pub printed_table : Text → ℕ → FmeaTable → Text
 printed_table fault_lines bits t =

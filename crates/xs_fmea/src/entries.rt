@@ -12,7 +12,7 @@ use crate::columns::{
 };
 use crate::rows::rows_of;
 use std::alloc::Global;
-use xs_value::{FaultSet, OutOfMemory};
+use xs_value::{FaultSet, OutOfMemory, SetList};
 
 /// The table of rows of at most so many faults: what each column says of each.
 pub fn table(
@@ -28,8 +28,8 @@ pub fn table(
     ensures told { IfOk result (λ t. (found : List Analysis) → AreTold found columns.now → IsTableOf faults size found t) }
 {
     let rows = rows_of(alloc, faults, size)?;
-    let entries = entries_of_rows(alloc, rows.as_slice(), columns.as_slice())?;
-    let endings = endings_of(alloc, columns.as_slice())?;
+    let entries = entries_of_rows(alloc, &rows, columns)?;
+    let endings = endings_of(alloc, columns)?;
     Ok(FmeaTable {
         rows,
         entries,
@@ -39,11 +39,11 @@ pub fn table(
 
 /// How the columns ended.
 #[tactic(auto, using(crate::proofs::TableLemmas::entry_rules))]
-fn endings_of(alloc: Global, columns: &[Column]) -> Result<EndingList, OutOfMemory>
+fn endings_of(alloc: Global, columns: &ColumnList) -> Result<EndingList, OutOfMemory>
     ensures { IfOk result (λ endings. endings ≡ map (λ c. c.ending) columns.now) }
 {
     let mut endings = EndingList::new(alloc);
-    for column in columns {
+    for column in columns.as_slice() {
         endings.push(column.ending)?;
     }
     Ok(endings)
@@ -53,14 +53,14 @@ fn endings_of(alloc: Global, columns: &[Column]) -> Result<EndingList, OutOfMemo
 #[tactic(auto, using(crate::proofs::TableLemmas::entry_rules))]
 fn entries_of_rows(
     alloc: Global,
-    rows: &[FaultSet],
-    columns: &[Column],
+    rows: &SetList,
+    columns: &ColumnList,
 ) -> Result<EntryRows, OutOfMemory>
     ensures { IfOk result (λ entries. map (map told_entry) entries ≡ map (λ row. map (entry_of row) (map told_column columns.now)) rows.now) }
 {
     let mut entries = EntryRows::new(alloc);
-    for row in rows {
-        let list = entries_of(alloc, row.as_slice(), columns)?;
+    for row in rows.as_slice() {
+        let list = entries_of(alloc, row.as_slice(), columns.as_slice())?;
         entries.push(list)?;
     }
     Ok(entries)

@@ -5,7 +5,7 @@ ghost use Rattle.std.specs.Fmt.{decimal};
 ghost use Rattle.xs_analysis_text.specs.Analysis.{Analysis};
 ghost use Rattle.xs_analysis_text.specs.AnalysisText.{numbers_text, ending_text as text_of_ending};
 ghost use Rattle.xs_fmea.specs.Tables.{entry_text as text_of_entry, entries_text, table_text};
-ghost use Rattle.xs_fmea.specs.Columns.{told_entry, told_ending, IsTableOf, ending_line, ending_lines, entry_line, entry_lines, printed_table};
+ghost use Rattle.xs_fmea.specs.Columns.{told_entry, told_ending, IsTableOf, ending_line, ending_lines, entry_line, entry_lines, line_at, printed_table};
 
 use crate::columns::{Ending, Entry, EntryList, FmeaTable};
 use std::alloc::Global;
@@ -13,7 +13,6 @@ use xs_value::{ByteList, FaultSet, OutOfMemory};
 
 /// The text of a table after the lines of the faults, which the caller gives: how many columns there are, how each
 /// ends, and a line for each row. The bits are those of a state.
-#[tactic(auto, using(crate::proofs::TextLaws::text_rules))]
 pub fn print_table(
     alloc: Global,
     fault_lines: &[u8],
@@ -23,6 +22,19 @@ pub fn print_table(
     ensures text { IfOk result (λ text. text.items ≡ printed_table fault_lines.now bits t.now) }
     // The text of a table of analyses is theirs.
     ensures table { IfOk result (λ text. (faults size : ℕ) (columns : List Analysis) → IsTableOf faults size columns t.now → text.items ≡ table_text fault_lines.now bits faults size columns) }
+{
+    text_of(alloc, fault_lines, bits, t)
+}
+
+/// The text of a table, by its own fields.
+#[tactic(auto, using(crate::proofs::TextLaws::text_rules))]
+fn text_of(
+    alloc: Global,
+    fault_lines: &[u8],
+    bits: u32,
+    t: &FmeaTable,
+) -> Result<Vec<u8>, OutOfMemory>
+    ensures { IfOk result (λ text. text.items ≡ printed_table fault_lines.now bits t.now) }
 {
     let mut text = ByteList::new(alloc);
     text.append(fault_lines)?;
@@ -113,11 +125,25 @@ fn append_rows(
     ensures { OnOk result (text.new ≡ text.old ++ entry_lines rows.now (map (map told_entry) entries.now)) }
 {
     for (i, row) in rows.iter().enumerate() {
-        if i < entries.len() {
-            append_row(alloc, text, row.as_slice(), entries[i].as_slice())?;
-        }
+        append_row_at(alloc, text, row.as_slice(), entries, i)?;
     }
     Ok(())
+}
+
+/// Appends the line of a row, where the place has entries.
+fn append_row_at(
+    alloc: Global,
+    text: &mut ByteList,
+    row: &[u32],
+    entries: &[EntryList],
+    place: usize,
+) -> Result<(), OutOfMemory>
+    ensures { OnOk result (text.new ≡ text.old ++ line_at row.now (map (map told_entry) entries.now) place) }
+{
+    match entries.get(place) {
+        Some(list) => append_row(alloc, text, row, list.as_slice()),
+        None => Ok(()),
+    }
 }
 
 /// Appends the line of a row.

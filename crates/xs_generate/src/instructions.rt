@@ -25,7 +25,7 @@ pub fn generated_instructions(alloc: Global) -> Result<Instructions, OutOfMemory
 
 /// The extension of the module of relays.
 fn relay_extension(alloc: Global) -> Result<Extension, OutOfMemory>
-    ensures { IfOk result (λ made. extension_tree made ≡ relay_extension) }
+    ensures { IfOk result (λ made. extension_tree made ≡ extension_of_relay) }
 {
     let module = Name::new(alloc, b"Relay")?;
     let slice = relay_slice(alloc)?;

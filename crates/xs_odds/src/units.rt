@@ -37,19 +37,19 @@ fn with_digits(whole: &[u8], point: &[u8], digits: &[u8]) -> Option<u64>
 fn is_point(text: &[u8]) -> bool
     ensures { result ≡ same_text text.now (codes ".") }
 {
-    text == b"."
+    text == b".".as_slice()
 }
 
 fn is_zero(text: &[u8]) -> bool
     ensures { result ≡ same_text text.now (codes "0") }
 {
-    text == b"0"
+    text == b"0".as_slice()
 }
 
 fn is_one(text: &[u8]) -> bool
     ensures { result ≡ same_text text.now (codes "1") }
 {
-    text == b"1"
+    text == b"1".as_slice()
 }
 
 /// The units of `0` and of `1`.
