@@ -20,8 +20,6 @@ mod columns;
 mod entries;
 mod print;
 mod rows;
-#[cfg(test)]
-mod tests;
 
 pub use columns::{Column, ColumnList, Ending, EndingList, Entry, EntryList, EntryRows, FmeaTable};
 pub use entries::table;

@@ -13,8 +13,8 @@ use Rattle.xs_tree.specs.Lexemes.{is_reserved}
 use Rattle.xs_tree.specs.Printed.{IsName, IsWritable}
 use Rattle.xs_tree.specs.WritableProgram.{IsWritableDecl, IsWritableProgram, IsWritableModule}
 use Rattle.xs_tree.proofs.TokenTexts.{AreDigits, decimal_digits}
-use Rattle.xs_fei.specs.WritableInstructions.{IsWritableInstructions}
-use Rattle.xs_generate.specs.Generator.{next_number, stage_name, output_of, stage, with_stage, with_stages, rails_after, rails_of, Rails, relay_module, main_module, generated_model, generated_instructions, generated_top}
+use Rattle.xs_fei.specs.WritableInstructions.{IsWritableMode, IsWritableSlice, IsWritableInstructions}
+use Rattle.xs_generate.specs.Generator.{next_number, stage_name, output_of, stage, with_stage, with_stages, rails_after, rails_of, Rails, relay_module, main_module, generated_model, off_mode, relay_slice, generated_instructions, generated_top}
 
 -- a digit goes on a word, and is no letter
 digit_in_word : (d : ℕ) → is_ascii_digit d ≡ true → is_word_byte d ≡ true
@@ -97,12 +97,20 @@ model_writable number stages h =
     relay_writable : IsWritableModule relay_module
     relay_writable = (relay_named, ((feed_named, tt), (((out_named, tt), tt), (((never_empty (codes "out") [], ((out_named, tt), (never_empty (codes "feed") [], (feed_named, tt)))), tt), tt))))
 
+off_named : IsName (codes "off")
+off_named = (refl, (refl, (refl, (refl, tt))))
+
+slice_named : IsName (codes "R")
+slice_named = (refl, (refl, tt))
+
+off_writable : IsWritableMode off_mode
+off_writable = (off_named, (tt, (tt, tt)))
+
+slice_writable : IsWritableSlice relay_slice
+slice_writable = (slice_named, (out_named, (never_empty off_mode [], (off_writable, tt))))
+
 pub instructions_writable : IsWritableInstructions generated_instructions
-instructions_writable =
-    (tt, ((relay_named, (((refl, (refl, tt)), (out_named, (never_empty _ [], ((off_named, (tt, (tt, tt))), tt)))), tt)), tt))
-  where
-    off_named : IsName (codes "off")
-    off_named = (refl, (refl, (refl, (refl, tt))))
+instructions_writable = (tt, ((relay_named, (slice_writable, tt)), tt))
 
 pub top_writable : IsWritable generated_top
 top_writable = (never_empty (codes "dead") [], (dead_named, tt))

@@ -17,8 +17,6 @@ mod instructions;
 mod model;
 mod parts;
 mod rails;
-#[cfg(test)]
-mod tests;
 
 pub use instructions::generated_instructions;
 pub use model::{generated_model, generated_top};

@@ -1,4 +1,6 @@
-use crate::{generated_instructions, generated_model, generated_top};
+//! The model of eight stages, the instructions and the top event, as they are printed.
+
+use xs_generate::{generated_instructions, generated_model, generated_top};
 use std::test::Fail;
 use xs_fei::print_instructions;
 use xs_tree::{print_expr, print_program};
