@@ -5,11 +5,17 @@ use Rattle.xs_generate.specs.Generator.{next_number, is_on_rail_a, rails_after, 
 rest_of : (i stages : ℕ) → i < stages → stages - i ≡ suc (stages - (i + 1))
 rest_of i stages h = omega (arith, h)
 
+-- so many stages are one and those after it
+one_more : (k seed j : ℕ) (rails : Rails) → with_stages (rails_after (suc k) seed) j rails ≡ with_stages (rails_after k (next_number seed)) (suc j) (with_stage (is_on_rail_a (next_number seed)) j rails)
+one_more k seed j rails = refl
+
 -- with a stage, those that are left after it are all of them
 pub stage_on : (i stages seed next : ℕ) (on_a : Bool) (rails now whole : Rails) → i < stages → next ≡ next_number seed → on_a ≡ is_on_rail_a next → now ≡ with_stage on_a (i + 1) rails →
     with_stages (rails_after (stages - i) seed) (i + 1) rails ≡ whole → with_stages (rails_after (stages - (i + 1)) next) (i + 1 + 1) now ≡ whole
 stage_on i stages seed next on_a rails now whole h n o e w =
-    ap (with_stages (rails_after (stages - (i + 1)) next) (i + 1 + 1)) (e ∙ ap (λ b. with_stage b (i + 1) rails) o)
-    ∙ ap (λ m. with_stages (rails_after (stages - (i + 1)) m) (i + 1 + 1) (with_stage (is_on_rail_a m) (i + 1) rails)) n
-    ∙ ap (λ k. with_stages (rails_after k seed) (i + 1) rails) (sym (rest_of i stages h))
-    ∙ w
+    let on : on_a ≡ is_on_rail_a (next_number seed) = o ∙ ap is_on_rail_a n in
+    let here : now ≡ with_stage (is_on_rail_a (next_number seed)) (i + 1) rails = e ∙ ap (λ b. with_stage b (i + 1) rails) on in
+    let left : with_stages (rails_after (stages - (i + 1)) next) (i + 1 + 1) now ≡ with_stages (rails_after (stages - (i + 1)) (next_number seed)) (suc (i + 1)) (with_stage (is_on_rail_a (next_number seed)) (i + 1) rails) =
+        ap (λ m. with_stages (rails_after (stages - (i + 1)) m) (i + 1 + 1) now) n ∙ ap (with_stages (rails_after (stages - (i + 1)) (next_number seed)) (i + 1 + 1)) here in
+    let all : with_stages (rails_after (suc (stages - (i + 1))) seed) (i + 1) rails ≡ whole = ap (λ k. with_stages (rails_after k seed) (i + 1) rails) (sym (rest_of i stages h)) ∙ w in
+    left ∙ (sym (one_more (stages - (i + 1)) seed (i + 1) rails) ∙ all)

@@ -11,10 +11,10 @@ use Rattle.xs_tree.specs.ProgramTree.{DeclTree}
 use Rattle.xs_tree.specs.Trace.{Each}
 use Rattle.xs_tree.specs.Lexemes.{is_reserved}
 use Rattle.xs_tree.specs.Printed.{IsName, IsWritable}
-use Rattle.xs_tree.specs.WritableProgram.{IsWritableDecl, IsWritableProgram, IsWritableModule}
+use Rattle.xs_tree.specs.WritableProgram.{IsWritableDecl, IsWritableSection, IsWritableModule, IsWritableProgram}
 use Rattle.xs_tree.proofs.TokenTexts.{AreDigits, decimal_digits}
 use Rattle.xs_fei.specs.WritableInstructions.{IsWritableMode, IsWritableSlice, IsWritableInstructions}
-use Rattle.xs_generate.specs.Generator.{next_number, stage_name, output_of, stage, with_stage, with_stages, rails_after, rails_of, Rails, relay_module, main_module, generated_model, off_mode, relay_slice, generated_instructions, generated_top}
+use Rattle.xs_generate.specs.Generator.{next_number, stage_name, output_of, stage, with_stage, with_stages, rails_after, rails_of, Rails, relay_variables, relay_assignments, relay_module, dead_section, main_module, generated_model, off_mode, relay_slice, generated_instructions, generated_top}
 
 -- a digit goes on a word, and is no letter
 digit_in_word : (d : ℕ) → is_ascii_digit d ≡ true → is_word_byte d ≡ true
@@ -88,14 +88,26 @@ as_many : (n s : ℕ) → length (rails_after n s) ≡ n
 as_many zero s = refl
 as_many (suc n) s = ap suc (as_many n (next_number s))
 
+relay_variables_writable : IsWritableSection relay_variables
+relay_variables_writable = ((out_named, tt), tt)
+
+relay_assignments_writable : IsWritableSection relay_assignments
+relay_assignments_writable = ((never_empty (codes "out") [], (out_named, tt), (never_empty (codes "feed") [], (feed_named, tt))), tt)
+
+relay_writable : IsWritableModule relay_module
+relay_writable = (relay_named, (feed_named, tt), (relay_variables_writable, (relay_assignments_writable, tt)))
+
+dead_writable : (last_a last_b : Option ℕ) → IsSmallLast last_a → IsSmallLast last_b → IsWritableSection (dead_section last_a last_b)
+dead_writable last_a last_b a b = ((dead_named, (output_writable last_a a, output_writable last_b b)), tt)
+
+main_writable : (rails : Rails) → AreWritableRails rails → IsWritableModule (main_module rails)
+main_writable rails are = (main_named, tt, (are.stages, (dead_writable rails.last_a rails.last_b are.last_a are.last_b, tt)))
+
 pub model_writable : (number stages : ℕ) → stages < 2 ^ 32 → IsWritableProgram (generated_model number stages)
 model_writable number stages h =
     let are : AreWritableRails (rails_of number stages) =
         rails_writable (rails_after stages number) 1 (record { stages = []; last_a = None; last_b = None }) (omega (arith, h, as_many stages number)) (record { stages = tt; last_a = tt; last_b = tt }) in
-    (relay_writable, ((main_named, (tt, (are.stages, ((dead_named, (output_writable (rails_of number stages).last_a are.last_a, output_writable (rails_of number stages).last_b are.last_b)), tt), tt))), tt))
-  where
-    relay_writable : IsWritableModule relay_module
-    relay_writable = (relay_named, ((feed_named, tt), (((out_named, tt), tt), (((never_empty (codes "out") [], ((out_named, tt), (never_empty (codes "feed") [], (feed_named, tt)))), tt), tt))))
+    (relay_writable, (main_writable (rails_of number stages) are, tt))
 
 off_named : IsName (codes "off")
 off_named = (refl, (refl, (refl, (refl, tt))))
@@ -104,10 +116,10 @@ slice_named : IsName (codes "R")
 slice_named = (refl, (refl, tt))
 
 off_writable : IsWritableMode off_mode
-off_writable = (off_named, (tt, (tt, tt)))
+off_writable = (off_named, tt, tt, tt)
 
 slice_writable : IsWritableSlice relay_slice
-slice_writable = (slice_named, (out_named, (never_empty off_mode [], (off_writable, tt))))
+slice_writable = (slice_named, out_named, never_empty off_mode [], (off_writable, tt))
 
 pub instructions_writable : IsWritableInstructions generated_instructions
 instructions_writable = (tt, ((relay_named, (slice_writable, tt)), tt))
