@@ -58,20 +58,31 @@ no_rows : (rows : List (List ℕ)) → entry_lines rows [] ≡ []
 no_rows [] = refl
 no_rows (r ∷ rows) = refl
 
+none_past : {A : Type 0} (i : ℕ) → ◌≡◌ {A = List A} (drop i []) []
+none_past zero = refl
+none_past (suc i) = refl
+
+next_place : (i : ℕ) → suc i + 1 ≡ suc (i + 1)
+next_place i = omega arith
+
 -- a row's line, where its place has entries, and those that come after it
 line_on_rows : (row : List ℕ) (rows : List (List ℕ)) (entries : List (List Entered)) (i : ℕ) →
     entry_lines (row ∷ rows) (map (map told_entry) (drop i entries)) ≡ line_at row (map (map told_entry) entries) i ++ entry_lines rows (map (map told_entry) (drop (i + 1) entries))
 line_on_rows row rows [] zero = sym (no_rows rows)
-line_on_rows row rows [] (suc i) = sym (no_rows rows)
+line_on_rows row rows [] (suc i) = sym (ap (λ es. entry_lines rows (map (map told_entry) es)) (none_past (suc i + 1)) ∙ no_rows rows)
 line_on_rows row rows (es ∷ entries) zero = refl
-line_on_rows row rows (es ∷ entries) (suc i) = line_on_rows row rows entries i
+line_on_rows row rows (es ∷ entries) (suc i) =
+    line_on_rows row rows entries i
+    ∙ ap (λ k. line_at row (map (map told_entry) entries) i ++ entry_lines rows (map (map told_entry) (drop k (es ∷ entries)))) (sym (next_place i))
 
-pub row_on : (rows : List (List ℕ)) (entries : List (List Entered)) (i : ℕ) (row : List ℕ) (text more whole : Text) → drop i rows ≡ row ∷ drop (i + 1) rows →
-    more ≡ text ++ line_at row (map (map told_entry) entries) i → text ++ lines_left rows entries i ≡ whole → more ++ lines_left rows entries (i + 1) ≡ whole
-row_on rows entries i row text more whole e g h =
-    ap (λ t. t ++ lines_left rows entries (i + 1)) g
+pub row_on : (rows : List (List ℕ)) (entries : List (List Entered)) (i : ℕ) (row given : List ℕ) (text more whole : Text) → i < length rows → row ≡ get_or rows i row → given ≡ row →
+    more ≡ text ++ line_at given (map (map told_entry) entries) i → text ++ lines_left rows entries i ≡ whole → more ++ lines_left rows entries (i + 1) ≡ whole
+row_on rows entries i row given text more whole l e same g h =
+    let here : drop i rows ≡ row ∷ drop (i + 1) rows = drop_more rows i row l ∙ ap (λ r. r ∷ drop (i + 1) rows) (sym e) in
+    let grown : more ≡ text ++ line_at row (map (map told_entry) entries) i = g ∙ ap (λ r. text ++ line_at r (map (map told_entry) entries) i) same in
+    ap (λ t. t ++ lines_left rows entries (i + 1)) grown
     ∙ (append_assoc text (line_at row (map (map told_entry) entries) i) (lines_left rows entries (i + 1))
-    ∙ (ap (λ t. text ++ t) (sym (ap (λ rs. entry_lines rs (map (map told_entry) (drop i entries))) e ∙ line_on_rows row (drop (i + 1) rows) entries i)) ∙ h))
+    ∙ (ap (λ t. text ++ t) (sym (ap (λ rs. entry_lines rs (map (map told_entry) (drop i entries))) here ∙ line_on_rows row (drop (i + 1) rows) entries i)) ∙ h))
 
 -- the lines of the endings from a place on
 pub ending_on : (bits : ℕ) (endings : List Ended) (i : ℕ) (e : Ended) → i < length endings →

@@ -13,7 +13,14 @@ use xs_value::{Name, OutOfMemory};
 /// The instructions of every generated model. They can be written.
 pub fn generated_instructions(alloc: Global) -> Result<Instructions, OutOfMemory>
     ensures instructions { IfOk result (λ i. instruction_tree i ≡ instructions_tree) }
-    ensures writable { IsWritableInstructions instructions_tree }
+    ensures writable { IfOk result (λ i. IsWritableInstructions (instruction_tree i)) }
+{
+    one_extension(alloc)
+}
+
+/// The instructions of one extension.
+fn one_extension(alloc: Global) -> Result<Instructions, OutOfMemory>
+    ensures { IfOk result (λ i. instruction_tree i ≡ instructions_tree) }
 {
     let relay = relay_extension(alloc)?;
     let extensions = one(alloc, relay)?;

@@ -21,7 +21,14 @@ use xs_value::{Dotted, Name, NameList, OutOfMemory};
 /// The model of a number and so many stages. It can be written.
 pub fn generated_model(alloc: Global, number: u32, stages: u32) -> Result<Program, OutOfMemory>
     ensures model { IfOk result (λ p. program_tree p ≡ model_of number stages) }
-    ensures writable { IsWritableProgram (model_of number stages) }
+    ensures writable { IfOk result (λ p. IsWritableProgram (program_tree p)) }
+{
+    both_modules(alloc, number, stages)
+}
+
+/// The modules of the model.
+fn both_modules(alloc: Global, number: u32, stages: u32) -> Result<Program, OutOfMemory>
+    ensures { IfOk result (λ p. program_tree p ≡ model_of number stages) }
 {
     let relay = relay_module(alloc)?;
     let rails = rails(alloc, number, stages)?;
@@ -35,7 +42,7 @@ pub fn generated_model(alloc: Global, number: u32, stages: u32) -> Result<Progra
 /// The event that both rails are dead, as a formula of `main`. It can be written.
 pub fn generated_top(alloc: Global) -> Result<Expr<Dotted>, OutOfMemory>
     ensures top { IfOk result (λ top. tree_of top ≡ top_tree) }
-    ensures writable { IsWritable top_tree }
+    ensures writable { IfOk result (λ top. IsWritable (tree_of top)) }
 {
     named(alloc, b"dead")
 }
