@@ -1,6 +1,6 @@
 //! The units of faults, and the bound of a set of them.
 
-ghost use Rattle.std.specs.Prelude.{◌≡◌, ◌≤◌, ◌<◌, ◌×◌, ◌-◌, ◌*◌, [], ◌∷◌, ◌++◌, All, length, slice_get, slice_index_or, Some, OnOk, OnErr};
+ghost use Rattle.std.specs.Prelude.{◌≡◌, ◌≤◌, ◌<◌, ◌-◌, ◌*◌, [], ◌∷◌, ◌++◌, All, length, slice_get, slice_index_or, Some, OnOk, OnErr};
 ghost use Rattle.std.specs.Int.{div_ceil};
 ghost use Rattle.xs_odds.specs.Units.{one_in_units};
 ghost use Rattle.xs_odds.specs.Bounds.{Bounds, bound_of, multiplied, units_in};

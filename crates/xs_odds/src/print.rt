@@ -1,6 +1,6 @@
 //! The text of bounds and of their sum.
 
-ghost use Rattle.std.specs.Prelude.{◌≡◌, ◌+◌, ◌++◌, ◌<◌, ◌≤◌, ◌^◌, ◌×◌, codes, decimal, length, map, All, IfOk, OnOk};
+ghost use Rattle.std.specs.Prelude.{◌≡◌, ◌+◌, ◌++◌, ◌<◌, ◌≤◌, ◌^◌, codes, decimal, length, map, All, IfOk, OnOk};
 ghost use Rattle.xs_odds.specs.Bounds.{bound_of, bound_sum, slack_of, units_in};
 ghost use Rattle.xs_odds.specs.OddsText.{last_digits, units_text, odds_line, odds_lines, sum_line, odds_text};
 

@@ -1,6 +1,6 @@
 //! Marks that are probabilities, in units of 10^-18.
 
-ghost use Rattle.std.specs.Prelude.{◌≡◌, ◌<◌, ◌≤◌, ◌-◌, ◌*◌, ◌^◌, true, length, codes, Some, None};
+ghost use Rattle.std.specs.Prelude.{◌≡◌, ◌<◌, ◌≤◌, ◌-◌, ◌*◌, ◌^◌, true, length, codes, Some, None, [], ◌∷◌, IfSome};
 ghost use Rattle.std.specs.List.{list_all};
 ghost use Rattle.xs_lexer.specs.Tokens.{number_of};
 ghost use Rattle.xs_tree.specs.Texts.{same_text};
