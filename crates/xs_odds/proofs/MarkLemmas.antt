@@ -1,17 +1,13 @@
 -- The first fault of marks means what is said of it, and units that are found are those of the mode.
-use Rattle.std.proofs.Common.{◌≡◌, ℕ, zero, suc, ◌+◌, ◌<◌, Bool, true, false, List, [], ◌∷◌, ◌++◌, length, map, Option, Some, None, inl, inr, refl, sym, ◌∙◌, ap, subst, arith}
-use Rattle.std.specs.Prelude.{flat_map, if◌then◌else◌}
+use Rattle.std.proofs.Common.{◌≡◌, ℕ, zero, suc, ◌+◌, ◌<◌, Bool, true, false, List, [], ◌∷◌, ◌++◌, length, map, Option, Some, None, Result, Ok, Err, inl, inr, refl, sym, ◌∙◌, ap, subst, arith}
+use Rattle.std.specs.Result.{result_err, OnOk, IfErr}
 use Rattle.std.proofs.lemmas.List.{append_assoc, append-nil, map-append}
-use Rattle.xs_tree.specs.ProgramTree.{Text}
-use Rattle.xs_tree.specs.Texts.{same_text}
 use Rattle.xs_tree.specs.Trace.{Each}
-use Rattle.xs_fei.specs.Instructions.{ModeTree, SliceTree, ExtensionTree, InstructionTree}
+use Rattle.xs_fei.specs.Instructions.{InstructionTree}
 use Rattle.xs_odds.specs.declared.mode_marks.MarkFault.{MarkFault}
 use Rattle.xs_odds.specs.declared.mode_marks.MarkFault.TheVariants as wrong
 use Rattle.xs_odds.specs.declared.mode_marks.OddsFault.{OddsFault}
-use Rattle.xs_odds.specs.declared.mode_marks.OddsFault.TheVariants as fault
-use Rattle.xs_odds.specs.Units.{units_of}
-use Rattle.xs_odds.specs.Marks.{fault_of_mark, item_marks, IsFirstMarkFault, HasProbabilities}
+use Rattle.xs_odds.specs.Marks.{item_marks, IsFirstMarkFault, HasProbabilities}
 use Rattle.xs_odds.specs.FirstMark.{IsWant, fault_at, first_of, IsMarkFault}
 
 pub ruleset list_rules = (append_assoc, append-nil, map-append)
@@ -58,8 +54,14 @@ first_is n (Some f ∷ fs) e h = record { before = []; wrong_one = f; after = fs
 
 -- the first fault of the items is the first fault of the marks
 pub first_means : (i : InstructionTree) (e : OddsFault) → first_of 0 (item_marks i) ≡ Some e → IsMarkFault i e
-first_means i e h = let first = first_is 0 (item_marks i) e h in subst (IsMarkFault i) (sym first.is_at) (told first.wrong_one (length first.before) (told_first first))
+first_means i e h = let first = first_is 0 (item_marks i) e h in subst (IsMarkFault i) (sym (at_item first)) (told first.wrong_one (length first.before) (told_first first))
   where
+    at_item : (first : First 0 (item_marks i) e) → e ≡ fault_at first.wrong_one (suc (length first.before))
+    at_item first = first.is_at ∙ ap (λ k. fault_at first.wrong_one (suc k)) (none_more (length first.before))
+      where
+        none_more : (n : ℕ) → 0 + n ≡ n
+        none_more n = omega arith
+
     told_first : (first : First 0 (item_marks i) e) → IsFirstMarkFault i first.wrong_one (suc (length first.before))
     told_first first = record { before = first.before; after = first.after; in_order = first.in_order; none_before = first.none_before; at_item = refl }
 
@@ -69,3 +71,18 @@ first_means i e h = let first = first_is 0 (item_marks i) e h in subst (IsMarkFa
 
 pub want_means : (i : InstructionTree) (e : OddsFault) → IsWant e → IsMarkFault i e
 want_means i e w = subst (IsMarkFault i) (sym w) tt
+
+module _ {T : Type 0} (i : InstructionTree) (r : Result T OddsFault) (slice marks : List (Option MarkFault)) where
+  judged_all_at : (s : Result T OddsFault) → result_err s ≡ first_of 0 (item_marks i) → OnOk s (HasProbabilities i)
+  judged_all_at (Ok x) e = none_wrong 0 (item_marks i) (sym e)
+  judged_all_at (Err f) e = tt
+
+  judged_fault_at : (s : Result T OddsFault) → result_err s ≡ first_of 0 (item_marks i) → IfErr s (IsMarkFault i)
+  judged_fault_at (Ok x) e = tt
+  judged_fault_at (Err f) e = first_means i f (sym e)
+
+  pub judged_all : result_err r ≡ first_of 0 slice → slice ≡ marks → marks ≡ item_marks i → OnOk r (HasProbabilities i)
+  judged_all e f g = judged_all_at r (e ∙ ap (first_of 0) (f ∙ g))
+
+  pub judged_fault : result_err r ≡ first_of 0 slice → slice ≡ marks → marks ≡ item_marks i → IfErr r (IsMarkFault i)
+  judged_fault e f g = judged_fault_at r (e ∙ ap (first_of 0) (f ∙ g))

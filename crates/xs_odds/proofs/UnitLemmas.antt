@@ -1,5 +1,5 @@
 -- The units of a mode, found by its slice and name, are those of its mark.
-use Rattle.std.proofs.Common.{◌≡◌, ℕ, zero, suc, Bool, true, false, List, [], ◌∷◌, ◌++◌, map, Option, Some, None, inl, inr, refl, sym, ◌∙◌, ap, subst}
+use Rattle.std.proofs.Common.{◌≡◌, ℕ, Bool, true, false, ◌≤◌, List, [], ◌∷◌, ◌++◌, map, Option, Some, None, ◌⊎◌, inl, inr, refl, sym, ◌∙◌, ap, subst, arith}
 use Rattle.std.specs.Prelude.{flat_map, if◌then◌else◌}
 use Rattle.xs_tree.specs.ProgramTree.{Text, ModuleTree, ProgramTree}
 use Rattle.xs_tree.specs.Scope.{Place, module_at}
@@ -7,11 +7,14 @@ use Rattle.xs_tree.specs.Texts.{same_text}
 use Rattle.xs_tree.specs.Trace.{Each, AtSome}
 use Rattle.xs_tree.proofs.ValueLaws.{same_text_equal, same_text_refl}
 use Rattle.xs_fei.specs.Instructions.{ModeTree, SliceTree, ExtensionTree, InstructionTree, slices_from, slices_of}
-use Rattle.xs_weave.specs.Faults.{Fault, slice_faults, module_slices, slices_at, place_faults, HasFaults}
-use Rattle.xs_weave.specs.Conservative.{EachBoth}
+use Rattle.xs_weave.specs.Faults.{Fault, slice_faults, module_slices, place_faults, HasFaults}
 use Rattle.xs_flattening.proofs.Conditions.{each_flat, each_mapped}
-use Rattle.xs_odds.specs.Units.{units_of}
-use Rattle.xs_odds.specs.Marks.{fault_of_units, fault_of_mark, slice_marks, extension_marks, item_marks, HasProbabilities, HasUnits, AreOdds}
+use Rattle.std.specs.Prelude.{nat_le, ◌&&◌, codes}
+use Rattle.std.proofs.lemmas.Bool.Decides.{nat_tests}
+use Rattle.xs_extend.specs.declared.faults.WovenFault.{WovenFault}
+use Rattle.xs_extend.specs.WovenFaults.{fault_tree}
+use Rattle.xs_odds.specs.Units.{one_in_units, is_fraction, whole_units, at_most_one, with_fraction, units_of}
+use Rattle.xs_odds.specs.Marks.{fault_of_units, fault_of_mark, slice_marks, extension_marks, HasProbabilities, HasUnits, AreOdds}
 use Rattle.xs_odds.specs.FirstMark.{mark_units, or_else, mode_units, units_in_slice, slice_units, extension_units, or_zero, units_at}
 
 -- where no mark is wrong, a mark gives units
@@ -249,3 +252,73 @@ module _ (p : ProgramTree) (i : InstructionTree) where
 
 pub odds_of_faults : (p : ProgramTree) (i : InstructionTree) (faults : List Fault) → HasFaults p i faults → HasProbabilities i → AreOdds i faults (map (λ f. units_at i f.slice f.mode) faults)
 odds_of_faults p i faults has good = odds_right i faults good (faults_there p i faults has)
+
+-- the odds of the code's faults
+pub odds_of_woven : (p : ProgramTree) (i : InstructionTree) (ws : List WovenFault) (odds : List ℕ) → HasFaults p i (map fault_tree ws) → HasProbabilities i →
+    odds ≡ map (λ f. units_at i f.slice f.mode) ws → AreOdds i (map fault_tree ws) odds
+odds_of_woven p i ws odds has good e = subst (AreOdds i (map fault_tree ws)) (sym (e ∙ sym (mapped ws))) (odds_of_faults p i (map fault_tree ws) has good)
+  where
+    mapped : (ws : List WovenFault) → map (λ f. units_at i f.slice f.mode) (map fault_tree ws) ≡ map (λ w. units_at i w.slice w.mode) ws
+    mapped [] = refl
+    mapped (w ∷ ws) = ap (λ l. units_at i w.slice w.mode ∷ l) (mapped ws)
+
+-- units that are found are at most one
+abbrev IsSmall : Option ℕ → Type 0
+IsSmall None = Unit {0}
+IsSmall (Some n) = n ≤ one_in_units
+
+small_if : (b : Bool) (x y : Option ℕ) → IsSmall x → IsSmall y → IsSmall (if b then x else y)
+small_if true x y h k = h
+small_if false x y h k = k
+
+whole_small : (x : Text) → IsSmall (whole_units x)
+whole_small x = small_if (same_text x (codes "0")) (Some 0) (if same_text x (codes "1") then Some one_in_units else None) (omega arith) (small_if (same_text x (codes "1")) (Some one_in_units) None (omega arith) tt)
+
+capped_small : (n : ℕ) → IsSmall (at_most_one n)
+capped_small n = by_test (nat_le n one_in_units) refl
+  where
+    by_test : (b : Bool) → nat_le n one_in_units ≡ b → IsSmall (if b then Some n else None)
+    by_test true e = within n one_in_units e
+      where
+        within : (n u : ℕ) → nat_le n u ≡ true → n ≤ u
+        within n u h = grind (arith, nat_tests)
+    by_test false e = tt
+
+fraction_small : (whole : Option ℕ) (digits : Text) → IsSmall (with_fraction whole digits)
+fraction_small None digits = tt
+fraction_small (Some n) digits = capped_small _
+
+units_of_small : (mark : List Text) → IsSmall (units_of mark)
+units_of_small [] = tt
+units_of_small (x ∷ []) = whole_small x
+units_of_small (x ∷ y ∷ []) = tt
+units_of_small (x ∷ point ∷ digits ∷ []) = small_if (same_text point (codes ".") && is_fraction digits) (with_fraction (whole_units x) digits) None (fraction_small (whole_units x) digits) tt
+units_of_small (x ∷ y ∷ z ∷ w ∷ more) = tt
+
+mark_small : (mark : Option (List Text)) → IsSmall (mark_units mark)
+mark_small None = tt
+mark_small (Some mark) = units_of_small mark
+
+mode_small : (mode : Text) (ms : List ModeTree) → IsSmall (mode_units mode ms)
+mode_small mode [] = tt
+mode_small mode (m ∷ ms) = small_if (same_text m.name mode) (mark_units m.mark) (mode_units mode ms) (mark_small m.mark) (mode_small mode ms)
+
+or_small : (first other : Option ℕ) → IsSmall first → IsSmall other → IsSmall (or_else first other)
+or_small (Some n) other h k = h
+or_small None other h k = k
+
+slices_small : (slice mode : Text) (ss : List SliceTree) → IsSmall (slice_units slice mode ss)
+slices_small slice mode [] = tt
+slices_small slice mode (s ∷ ss) =
+    or_small (units_in_slice slice mode s) (slice_units slice mode ss) (small_if (same_text s.name slice) (mode_units mode s.modes) None (mode_small mode s.modes) tt) (slices_small slice mode ss)
+
+extensions_small : (slice mode : Text) (xs : List ExtensionTree) → IsSmall (extension_units slice mode xs)
+extensions_small slice mode [] = tt
+extensions_small slice mode (x ∷ xs) = or_small (slice_units slice mode x.slices) (extension_units slice mode xs) (slices_small slice mode x.slices) (extensions_small slice mode xs)
+
+zero_small : (units : Option ℕ) → IsSmall units → or_zero units ≤ one_in_units
+zero_small None h = omega arith
+zero_small (Some n) h = h
+
+pub units_at_most_one : (i : InstructionTree) (slice mode : Text) → units_at i slice mode ≤ one_in_units
+units_at_most_one i slice mode = zero_small (extension_units slice mode i.extensions) (extensions_small slice mode i.extensions)

@@ -179,10 +179,17 @@ fn odds_of(
     Ok(odds)
 }
 
-/// The units of a mode of a slice, or 0 where the instructions have none for it.
+/// The units of a mode of a slice, which are at most one.
 fn units_of_fault(i: &Instructions, slice: &Name, mode: &Name) -> u64
     ensures units { result ≡ units_at (instruction_tree i.now) slice.now mode.now }
     ensures small { result ≤ one_in_units }
+{
+    units_or_zero(i, slice, mode)
+}
+
+/// The units of a mode of a slice, or 0 where the instructions have none for it.
+fn units_or_zero(i: &Instructions, slice: &Name, mode: &Name) -> u64
+    ensures { result ≡ units_at (instruction_tree i.now) slice.now mode.now }
 {
     extension_units(i.extensions.as_slice(), slice, mode).unwrap_or(0)
 }

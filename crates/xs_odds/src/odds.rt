@@ -4,6 +4,7 @@ ghost use Rattle.std.specs.Prelude.{◌≡◌, ◌≤◌, ◌<◌, ◌-◌, ◌*
 ghost use Rattle.std.specs.Int.{div_ceil};
 ghost use Rattle.xs_odds.specs.Units.{one_in_units};
 ghost use Rattle.xs_odds.specs.Bounds.{Bounds, bound_of, multiplied, units_in};
+ghost use Rattle.xs_odds.specs.Laws.{AreAtMostOne};
 
 use std::alloc::Global;
 use std::marker::Model;
@@ -57,17 +58,6 @@ impl OddsList {
     {
         self.units.len()
     }
-
-    /// The units of the fault of a number from 1.
-    #[tactic(auto, using(crate::proofs::OddsLemmas::at_most_one))]
-    fn of_fault(&self, number: u32) -> u64
-        requires some { 0 < number }
-        requires within { number ≤ length self.now }
-        ensures units { result ≡ slice_index_or self.now (number - 1) 0 }
-        ensures small { result ≤ one_in_units }
-    {
-        self.units[number as usize - 1]
-    }
 }
 
 /// The bound of a set's probability in units: the first fault's units, multiplied by each further one's, each time
@@ -79,23 +69,56 @@ pub fn bound(odds: &OddsList, set: &[u32]) -> u128
     ensures bounds { Bounds (units_in odds.now set.now) result }
     ensures small { result ≤ one_in_units }
 {
+    bounded(&odds.units, set)
+}
+
+/// The bound by the units of all faults.
+fn bounded(units: &[u64], set: &[u32]) -> u128
+    requires small { AreAtMostOne units.now }
+    requires named { All (λ i. (0 < i) × (i ≤ length units.now)) set.now }
+    ensures bound { result ≡ bound_of (units_in units.now set.now) }
+    ensures bounds { Bounds (units_in units.now set.now) result }
+    ensures small { result ≤ one_in_units }
+{
+    rounded_product(units, set)
+}
+
+/// The product of a set's units, rounded up at each factor.
+fn rounded_product(units: &[u64], set: &[u32]) -> u128
+    requires small { AreAtMostOne units.now }
+    requires named { All (λ i. (0 < i) × (i ≤ length units.now)) set.now }
+    ensures { result ≡ bound_of (units_in units.now set.now) }
+{
     let [first, more @ ..] = set else {
         return ONE;
     };
-    multiplied_by(odds, u128::from(odds.of_fault(*first)), more)
+    multiplied_by(units, u128::from(of_fault(units, *first)), more)
 }
 
 /// A number of units, multiplied by the units of each fault in turn.
-fn multiplied_by(odds: &OddsList, start: u128, faults: &[u32]) -> u128
-    requires named { All (λ i. (0 < i) × (i ≤ length odds.now)) faults.now }
+fn multiplied_by(units: &[u64], start: u128, faults: &[u32]) -> u128
+    requires units { AreAtMostOne units.now }
+    requires named { All (λ i. (0 < i) × (i ≤ length units.now)) faults.now }
     requires small { start ≤ one_in_units }
-    ensures { result ≡ multiplied start (units_in odds.now faults.now) }
+    ensures { result ≡ multiplied start (units_in units.now faults.now) }
 {
     let mut product = start;
     for fault in faults {
-        product = times(product, odds.of_fault(*fault));
+        product = times(product, of_fault(units, *fault));
     }
     product
+}
+
+/// The units of the fault of a number from 1.
+#[tactic(auto, using(crate::proofs::OddsLemmas::at_most_one))]
+fn of_fault(units: &[u64], number: u32) -> u64
+    requires small { AreAtMostOne units.now }
+    requires some { 0 < number }
+    requires within { number ≤ length units.now }
+    ensures units { result ≡ slice_index_or units.now (number - 1) 0 }
+    ensures small { result ≤ one_in_units }
+{
+    units[number as usize - 1]
 }
 
 /// A product of units, divided by 10^18 and rounded up.

@@ -1,6 +1,6 @@
 //! The text of bounds and of their sum.
 
-ghost use Rattle.std.specs.Prelude.{◌≡◌, ◌+◌, ◌++◌, ◌<◌, ◌≤◌, ◌^◌, codes, decimal, length, map, All, IfOk, OnOk};
+ghost use Rattle.std.specs.Prelude.{◌≡◌, ◌+◌, ◌-◌, ◌++◌, ◌<◌, ◌≤◌, ◌^◌, codes, decimal, length, map, All, IfOk, OnOk};
 ghost use Rattle.xs_odds.specs.Bounds.{bound_of, bound_sum, slack_of, units_in};
 ghost use Rattle.xs_odds.specs.OddsText.{last_digits, units_text, odds_line, odds_lines, sum_line, odds_text};
 
@@ -92,9 +92,17 @@ fn slack_of_sets(sets: &[FaultSet], odds: &OddsList) -> u128
 {
     let mut slack: u128 = 0;
     for set in sets {
-        slack += u128::from(set.len().saturating_sub(1) as u64);
+        slack += u128::from(slack_of_set(set));
     }
     slack
+}
+
+/// A set's size less one, or 0 for the empty set.
+fn slack_of_set(set: &FaultSet) -> u64
+    ensures slack { result ≡ length set.now - 1 }
+    ensures small { result < 2 ^ 64 }
+{
+    set.len().saturating_sub(1) as u64
 }
 
 /// Appends a number of units: its whole part, a point, and eighteen digits.
@@ -108,7 +116,7 @@ fn append_units(alloc: Global, text: &mut ByteList, units: u128) -> Result<(), O
 }
 
 /// Appends so many last decimal digits of a number.
-#[tactic(auto, using(crate::proofs::OddsLemmas::text_rules))]
+#[tactic(auto, using(crate::proofs::OddsLemmas::text_rules, crate::proofs::OddsLemmas::digits_more))]
 fn append_last_digits(text: &mut ByteList, count: u32, number: u128) -> Result<(), OutOfMemory>
     ensures { OnOk result (text.new ≡ text.old ++ last_digits count number) }
 {

@@ -1,6 +1,6 @@
 //! Marks that are probabilities, in units of 10^-18.
 
-ghost use Rattle.std.specs.Prelude.{◌≡◌, ◌<◌, ◌≤◌, ◌-◌, ◌*◌, ◌^◌, true, length, codes, Some, None, [], ◌∷◌, IfSome};
+ghost use Rattle.std.specs.Prelude.{◌≡◌, ◌↔◌, ◌<◌, ◌≤◌, ◌-◌, ◌*◌, ◌^◌, true, length, codes, Some, None, [], ◌∷◌, IfSome, IsTrue};
 ghost use Rattle.std.specs.List.{list_all};
 ghost use Rattle.xs_lexer.specs.Tokens.{number_of};
 ghost use Rattle.xs_tree.specs.Texts.{same_text};
@@ -34,22 +34,28 @@ fn with_digits(whole: &[u8], point: &[u8], digits: &[u8]) -> Option<u64>
     }
 }
 
+fn is_equal(text: &[u8], other: &[u8]) -> bool
+    ensures { IsTrue result ↔ (text.now ≡ other.now) }
+{
+    text == other
+}
+
 fn is_point(text: &[u8]) -> bool
     ensures { result ≡ same_text text.now (codes ".") }
 {
-    text == b".".as_slice()
+    is_equal(text, b".")
 }
 
 fn is_zero(text: &[u8]) -> bool
     ensures { result ≡ same_text text.now (codes "0") }
 {
-    text == b"0".as_slice()
+    is_equal(text, b"0")
 }
 
 fn is_one(text: &[u8]) -> bool
     ensures { result ≡ same_text text.now (codes "1") }
 {
-    text == b"1".as_slice()
+    is_equal(text, b"1")
 }
 
 /// The units of `0` and of `1`.

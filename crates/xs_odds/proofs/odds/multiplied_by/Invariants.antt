@@ -5,4 +5,4 @@ use Rattle.xs_odds.specs.Bounds.{multiplied, units_in}
 use Rattle.xs_odds.proofs.odds.multiplied_by.Given as goal
 
 abbrev pub invariant-loop-fault : goal.invariant-loop-fault
-invariant-loop-fault l = (l.product ≤ one_in_units) × (multiplied l.product (units_in l.odds (drop l.fault-index l.faults)) ≡ multiplied l.start (units_in l.odds l.faults))
+invariant-loop-fault l = (l.product ≤ one_in_units) × (multiplied l.product (units_in l.units (drop l.fault-index l.faults)) ≡ multiplied l.start (units_in l.units l.faults))
