@@ -19,7 +19,7 @@ stage_on i stages seed next on_a rails now whole h n o e w =
     let on : on_a ≡ is_on_rail_a (next_number seed) = o ∙ ap is_on_rail_a n in
     let here : now ≡ with_stage (is_on_rail_a (next_number seed)) (i + 1) rails = e ∙ ap (λ b. with_stage b (i + 1) rails) on in
     let left : with_stages (rails_after (stages - (i + 1)) next) (i + 1 + 1) now ≡ with_stages (rails_after (stages - (i + 1)) (next_number seed)) (suc (i + 1)) (with_stage (is_on_rail_a (next_number seed)) (i + 1) rails) =
-        ap (λ m. with_stages (rails_after (stages - (i + 1)) m) (i + 1 + 1) now) n ∙ ap (with_stages (rails_after (stages - (i + 1)) (next_number seed)) (i + 1 + 1)) here
-        ∙ ap (λ k. with_stages (rails_after (stages - (i + 1)) (next_number seed)) k (with_stage (is_on_rail_a (next_number seed)) (i + 1) rails)) (next_place (i + 1)) in
+    ap (λ m. with_stages (rails_after (stages - (i + 1)) m) (i + 1 + 1) now) n ∙ ap (with_stages (rails_after (stages - (i + 1)) (next_number seed)) (i + 1 + 1)) here
+    ∙ ap (λ k. with_stages (rails_after (stages - (i + 1)) (next_number seed)) k (with_stage (is_on_rail_a (next_number seed)) (i + 1) rails)) (next_place (i + 1)) in
     let all : with_stages (rails_after (suc (stages - (i + 1))) seed) (i + 1) rails ≡ whole = ap (λ k. with_stages (rails_after k seed) (i + 1) rails) (sym (rest_of i stages h)) ∙ w in
     left ∙ (sym (one_more (stages - (i + 1)) seed (i + 1) rails) ∙ all)

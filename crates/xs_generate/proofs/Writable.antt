@@ -106,7 +106,7 @@ main_writable rails are = (main_named, tt, (are.stages, (dead_writable rails.las
 pub model_writable : (number stages : ℕ) → stages < 2 ^ 32 → IsWritableProgram (generated_model number stages)
 model_writable number stages h =
     let are : AreWritableRails (rails_of number stages) =
-        rails_writable (rails_after stages number) 1 (record { stages = []; last_a = None; last_b = None }) (omega (arith, h, as_many stages number)) (record { stages = tt; last_a = tt; last_b = tt }) in
+    rails_writable (rails_after stages number) 1 (record { stages = []; last_a = None; last_b = None }) (omega (arith, h, as_many stages number)) (record { stages = tt; last_a = tt; last_b = tt }) in
     (relay_writable, (main_writable (rails_of number stages) are, tt))
 
 off_named : IsName (codes "off")

@@ -120,11 +120,7 @@ fn main_module(alloc: Global, rails: TwoRails) -> Result<Module, OutOfMemory>
 }
 
 /// The define of the event.
-fn defines(
-    alloc: Global,
-    last_a: Option<u32>,
-    last_b: Option<u32>,
-) -> Result<Section, OutOfMemory>
+fn defines(alloc: Global, last_a: Option<u32>, last_b: Option<u32>) -> Result<Section, OutOfMemory>
     ensures { IfOk result (λ made. section_tree made ≡ dead_section last_a last_b) }
 {
     let name = Name::new(alloc, b"dead")?;

@@ -149,16 +149,16 @@ which None other u h = inr h
 slice_found : (slice mode : Text) (u : ℕ) (ss : List SliceTree) → slice_units slice mode ss ≡ Some u → At (IsSliceWith slice mode u) ss
 slice_found slice mode u [] h = cc
 slice_found slice mode u (s ∷ ss) h = elim (which (units_in_slice slice mode s) (slice_units slice mode ss) u h) [
-    inl e ↦ here (IsSliceWith slice mode u) s ss (within_slice slice mode u s e)
+  | inl e ↦ here (IsSliceWith slice mode u) s ss (within_slice slice mode u s e)
   | inr e ↦ later (IsSliceWith slice mode u) s ss (slice_found slice mode u ss e)
-  ]
+]
 
 extension_found : (slice mode : Text) (u : ℕ) (xs : List ExtensionTree) → extension_units slice mode xs ≡ Some u → At (λ x. At (IsSliceWith slice mode u) x.slices) xs
 extension_found slice mode u [] h = cc
 extension_found slice mode u (x ∷ xs) h = elim (which (slice_units slice mode x.slices) (extension_units slice mode xs) u h) [
-    inl e ↦ here (λ y. At (IsSliceWith slice mode u) y.slices) x xs (slice_found slice mode u x.slices e)
+  | inl e ↦ here (λ y. At (IsSliceWith slice mode u) y.slices) x xs (slice_found slice mode u x.slices e)
   | inr e ↦ later (λ y. At (IsSliceWith slice mode u) y.slices) x xs (extension_found slice mode u xs e)
-  ]
+]
 
 mark_of : (mark : Option (List Text)) (u : ℕ) → mark_units mark ≡ Some u → (texts : List Text) × (mark ≡ Some texts) × (units_of texts ≡ Some u)
 mark_of None u h = cc
@@ -211,8 +211,8 @@ module _ (xs : List ExtensionTree) where
   mode_is x a s b m c =
       some_kept (λ y. y ≡ x) (λ y. AtSome (IsNamedSlice s.name m.name) y.slices) xs
       (λ y e. subst (λ z. AtSome (IsNamedSlice s.name m.name) z.slices) (sym e)
-        (some_kept (λ t. t ≡ s) (IsNamedSlice s.name m.name) x.slices
-        (λ t f. subst (IsNamedSlice s.name m.name) (sym f) (refl, some_kept (λ n. n ≡ m) (λ n. n.name ≡ m.name) s.modes (λ n g. ap (λ k. k.name) g) c)) b)) a
+      (some_kept (λ t. t ≡ s) (IsNamedSlice s.name m.name) x.slices
+      (λ t f. subst (IsNamedSlice s.name m.name) (sym f) (refl, some_kept (λ n. n ≡ m) (λ n. n.name ≡ m.name) s.modes (λ n g. ap (λ k. k.name) g) c)) b)) a
 
   slices_there : Each (λ x. Each AllThere x.slices) xs
   slices_there = all_in (λ x. Each AllThere x.slices) xs (λ x a. all_in AllThere x.slices (λ s b. all_in (λ m. ModeThere xs s.name m.name) s.modes (mode_is x a s b)))

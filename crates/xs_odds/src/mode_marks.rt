@@ -45,11 +45,7 @@ impl From<OutOfMemory> for OddsFault {
 
 /// The units of each fault by the mark of its mode, where every mode of the instructions has a mark that is a
 /// probability; else the first mode that has none.
-pub fn marks(
-    alloc: Global,
-    i: &Instructions,
-    faults: &[WovenFault],
-) -> Result<OddsList, OddsFault>
+pub fn marks(alloc: Global, i: &Instructions, faults: &[WovenFault]) -> Result<OddsList, OddsFault>
     requires woven { (p : ProgramTree) × HasFaults p (instruction_tree i.now) (map fault_tree faults.now) }
     requires items { length (marks_of_items (instruction_tree i.now)) < 2 ^ 32 }
     ensures odds { IfOk result (λ odds. AreOdds (instruction_tree i.now) (map fault_tree faults.now) odds) }
@@ -165,11 +161,7 @@ fn fault_of_units(units: Option<u64>) -> Option<MarkFault>
 
 /// The units of each fault, by its slice and mode.
 #[tactic(auto, using(crate::proofs::MarkLemmas::list_rules))]
-fn odds_of(
-    alloc: Global,
-    i: &Instructions,
-    faults: &[WovenFault],
-) -> Result<OddsList, OutOfMemory>
+fn odds_of(alloc: Global, i: &Instructions, faults: &[WovenFault]) -> Result<OddsList, OutOfMemory>
     ensures { IfOk result (λ odds. odds ≡ map (λ f. units_at (instruction_tree i.now) f.slice f.mode) faults.now) }
 {
     let mut odds = OddsList::new(alloc);

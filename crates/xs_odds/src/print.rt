@@ -59,12 +59,7 @@ fn append_line(
 
 /// Appends the line of the sum.
 #[tactic(auto, using(crate::proofs::OddsLemmas::text_rules))]
-fn append_sum(
-    alloc: Global,
-    text: &mut ByteList,
-    sum: u128,
-    slack: u128,
-) -> Result<(), OutOfMemory>
+fn append_sum(alloc: Global, text: &mut ByteList, sum: u128, slack: u128) -> Result<(), OutOfMemory>
     ensures { OnOk result (text.new ≡ text.old ++ (codes "sum " ++ (units_text sum ++ (codes " within " ++ (decimal slack ++ codes "\n"))))) }
 {
     text.append(b"sum ")?;

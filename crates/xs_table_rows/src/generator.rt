@@ -1,8 +1,8 @@
 //! The model of eight stages, the instructions and the top event, as they are printed.
 
-use xs_generate::{generated_instructions, generated_model, generated_top};
 use std::test::Fail;
 use xs_fei::print_instructions;
+use xs_generate::{generated_instructions, generated_model, generated_top};
 use xs_tree::{print_expr, print_program};
 
 /// Of number 1, stages 1, 2 and 7 are on rail A, and the others on rail B.

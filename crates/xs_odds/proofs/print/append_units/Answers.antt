@@ -12,4 +12,4 @@ returns c =
     IfOk-weaker c.append_last_digits.result (λ _. c.append_last_digits.new.text ≡ c.append.new.self ++ last_digits 18 c.args.units)
     (λ _. c.append_last_digits.new.text ≡ c.args.text.now ++ units_text c.args.units)
     (λ _ e. three_on c.args.text.now (decimal (c.args.units / one_in_units)) (codes ".") (last_digits 18 c.args.units) c.append_wide.new.text c.append.new.self c.append_last_digits.new.text
-      c.in_ok-append_wide.ensures c.in_ok-append.ensures.ok e) c.append_last_digits.ensures
+    c.in_ok-append_wide.ensures c.in_ok-append.ensures.ok e) c.append_last_digits.ensures
