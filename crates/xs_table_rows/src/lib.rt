@@ -1,4 +1,4 @@
-//! The tests of tables and of the generator.
+//! The tests of tables, of bounds on probabilities and of the generator.
 //!
 //! A crate with tests is proved a second time with them, so those crates have none, and theirs stand here.
 //! They show that calls succeed and that the texts are those that were worked out by hand.
@@ -6,5 +6,7 @@
 
 #[cfg(test)]
 mod generator;
+#[cfg(test)]
+mod odds;
 #[cfg(test)]
 mod tables;
