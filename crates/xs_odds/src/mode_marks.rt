@@ -1,0 +1,249 @@
+//! The marks of modes as probabilities in units, and the first mode whose mark is none.
+
+ghost use Rattle.std.specs.Prelude.{◌≡◌, ◌<◌, ◌≤◌, ◌^◌, ◌++◌, flat_map, length, map, IfOk, IfErr, OnOk};
+ghost use Rattle.std.specs.Result.{result_err};
+ghost use Rattle.xs_tree.specs.ProgramTree.{ProgramTree};
+ghost use Rattle.xs_tree.specs.Texts.{same_text};
+ghost use Rattle.xs_fei.specs.Instructions.{instruction_tree, extension_tree, slice_tree, mode_tree};
+ghost use Rattle.xs_weave.specs.Faults.{HasFaults};
+ghost use Rattle.xs_extend.specs.WovenFaults.{fault_tree};
+ghost use Rattle.xs_odds.specs.Units.{one_in_units};
+ghost use Rattle.xs_odds.specs.Marks.{item_marks as marks_of_items, extension_marks, slice_marks, fault_of_mark, fault_of_units as fault_of_number, HasProbabilities, AreOdds};
+ghost use Rattle.xs_odds.specs.FirstMark.{IsWant, IsMarkFault, fault_at as fault_at_item, first_of, mark_units, mode_units as units_of_modes, units_in_slice as units_of_slice, slice_units as units_of_slices, extension_units as units_of_extensions, units_at};
+
+use crate::odds::OddsList;
+use crate::units::units_of_mark;
+use std::alloc::Global;
+use xs_extend::WovenFault;
+use xs_fei::{Extension, Instructions, MarkList, ModeRule, Slice};
+use xs_value::{Items, Name, OutOfMemory};
+
+/// What is wrong with the mark of a mode.
+#[derive(Clone, Copy, Debug, PartialEq, Eq)]
+pub enum MarkFault {
+    /// It has no mark.
+    NoMark,
+    /// Its mark is no probability.
+    BadMark,
+}
+
+/// The first mode whose mark is wrong, by its item number in the instructions, or want of memory.
+#[derive(Clone, Copy, Debug, PartialEq, Eq)]
+pub enum OddsFault {
+    NoMark(u32),
+    BadMark(u32),
+    OutOfMemory,
+}
+
+impl From<OutOfMemory> for OddsFault {
+    ghost from_gives = { λ _ fault. IsWant fault };
+
+    fn from(_refused: OutOfMemory) -> OddsFault {
+        OddsFault::OutOfMemory
+    }
+}
+
+/// The units of each fault by the mark of its mode, where every mode of the instructions has a mark that is a
+/// probability; else the first mode that has none.
+pub fn marks(alloc: Global, i: &Instructions, faults: &[WovenFault]) -> Result<OddsList, OddsFault>
+    requires woven { (p : ProgramTree) × HasFaults p (instruction_tree i.now) (map fault_tree faults.now) }
+    requires items { length (marks_of_items (instruction_tree i.now)) < 2 ^ 32 }
+    ensures odds { IfOk result (λ odds. AreOdds (instruction_tree i.now) (map fault_tree faults.now) odds) }
+    ensures all { IfOk result (λ odds. HasProbabilities (instruction_tree i.now)) }
+    ensures fault { IfErr result (IsMarkFault (instruction_tree i.now)) }
+{
+    judge(alloc, i)?;
+    let odds = odds_of(alloc, i, faults)?;
+    Ok(odds)
+}
+
+/// Whether every mode has a mark that is a probability; else the first that has none.
+fn judge(alloc: Global, i: &Instructions) -> Result<(), OddsFault>
+    requires items { length (marks_of_items (instruction_tree i.now)) < 2 ^ 32 }
+    ensures all { OnOk result (HasProbabilities (instruction_tree i.now)) }
+    ensures fault { IfErr result (IsMarkFault (instruction_tree i.now)) }
+{
+    let marks = item_marks(alloc, i)?;
+    first_fault(marks.as_slice())
+}
+
+/// The first fault, by its number from 1.
+fn first_fault(marks: &[Option<MarkFault>]) -> Result<(), OddsFault>
+    requires { length marks.now < 2 ^ 32 }
+    ensures { result_err result ≡ first_of 0 marks.now }
+{
+    for (i, mark) in marks.iter().enumerate() {
+        if let Some(fault) = mark {
+            return Err(fault_at(*fault, i as u32 + 1));
+        }
+    }
+    Ok(())
+}
+
+fn fault_at(fault: MarkFault, item: u32) -> OddsFault
+    ensures { result ≡ fault_at_item fault item }
+{
+    match fault {
+        MarkFault::NoMark => OddsFault::NoMark(item),
+        MarkFault::BadMark => OddsFault::BadMark(item),
+    }
+}
+
+/// What is wrong at each item of the instructions.
+#[tactic(auto, using(crate::proofs::MarkLemmas::list_rules))]
+fn item_marks(alloc: Global, i: &Instructions) -> Result<Items<Option<MarkFault>>, OutOfMemory>
+    ensures { IfOk result (λ marks. marks ≡ marks_of_items (instruction_tree i.now)) }
+{
+    let mut marks = Items::new(alloc);
+    for extension in i.extensions.as_slice() {
+        add_extension(extension, &mut marks)?;
+    }
+    Ok(marks)
+}
+
+#[tactic(auto, using(crate::proofs::MarkLemmas::list_rules))]
+fn add_extension(
+    extension: &Extension,
+    marks: &mut Items<Option<MarkFault>>,
+) -> Result<(), OutOfMemory>
+    ensures { OnOk result (marks.new ≡ marks.old ++ extension_marks (extension_tree extension.now)) }
+{
+    marks.push(None)?;
+    add_slices(extension.slices.as_slice(), marks)
+}
+
+#[tactic(auto, using(crate::proofs::MarkLemmas::list_rules))]
+fn add_slices(slices: &[Slice], marks: &mut Items<Option<MarkFault>>) -> Result<(), OutOfMemory>
+    ensures { OnOk result (marks.new ≡ marks.old ++ flat_map slice_marks (map slice_tree slices.now)) }
+{
+    for slice in slices {
+        add_slice(slice, marks)?;
+    }
+    Ok(())
+}
+
+#[tactic(auto, using(crate::proofs::MarkLemmas::list_rules))]
+fn add_slice(slice: &Slice, marks: &mut Items<Option<MarkFault>>) -> Result<(), OutOfMemory>
+    ensures { OnOk result (marks.new ≡ marks.old ++ slice_marks (slice_tree slice.now)) }
+{
+    marks.push(None)?;
+    add_modes(slice.modes.as_slice(), marks)
+}
+
+#[tactic(auto, using(crate::proofs::MarkLemmas::list_rules))]
+fn add_modes(modes: &[ModeRule], marks: &mut Items<Option<MarkFault>>) -> Result<(), OutOfMemory>
+    ensures { OnOk result (marks.new ≡ marks.old ++ map (λ m. fault_of_mark m.mark) (map mode_tree modes.now)) }
+{
+    for mode in modes {
+        marks.push(fault_of(&mode.mark))?;
+    }
+    Ok(())
+}
+
+/// What is wrong with a mark.
+fn fault_of(mark: &Option<MarkList>) -> Option<MarkFault>
+    ensures { result ≡ fault_of_mark mark.now }
+{
+    match mark {
+        Some(tokens) => fault_of_units(units_of_mark(tokens.as_slice())),
+        None => Some(MarkFault::NoMark),
+    }
+}
+
+fn fault_of_units(units: Option<u64>) -> Option<MarkFault>
+    ensures { result ≡ fault_of_number units }
+{
+    match units {
+        Some(_) => None,
+        None => Some(MarkFault::BadMark),
+    }
+}
+
+/// The units of each fault, by its slice and mode.
+#[tactic(auto, using(crate::proofs::MarkLemmas::list_rules))]
+fn odds_of(alloc: Global, i: &Instructions, faults: &[WovenFault]) -> Result<OddsList, OutOfMemory>
+    ensures { IfOk result (λ odds. odds ≡ map (λ f. units_at (instruction_tree i.now) f.slice f.mode) faults.now) }
+{
+    let mut odds = OddsList::new(alloc);
+    for fault in faults {
+        odds.push(units_of_fault(i, &fault.slice, &fault.mode))?;
+    }
+    Ok(odds)
+}
+
+/// The units of a mode of a slice, which are at most one.
+fn units_of_fault(i: &Instructions, slice: &Name, mode: &Name) -> u64
+    ensures units { result ≡ units_at (instruction_tree i.now) slice.now mode.now }
+    ensures small { result ≤ one_in_units }
+{
+    units_or_zero(i, slice, mode)
+}
+
+/// The units of a mode of a slice, or 0 where the instructions have none for it.
+fn units_or_zero(i: &Instructions, slice: &Name, mode: &Name) -> u64
+    ensures { result ≡ units_at (instruction_tree i.now) slice.now mode.now }
+{
+    extension_units(i.extensions.as_slice(), slice, mode).unwrap_or(0)
+}
+
+fn extension_units(extensions: &[Extension], slice: &Name, mode: &Name) -> Option<u64>
+    ensures units { result ≡ units_of_extensions slice.now mode.now (map extension_tree extensions.now) }
+{
+    for extension in extensions {
+        let units = slice_units(extension.slices.as_slice(), slice, mode);
+        if units.is_some() {
+            return units;
+        }
+    }
+    None
+}
+
+fn slice_units(slices: &[Slice], slice: &Name, mode: &Name) -> Option<u64>
+    ensures { result ≡ units_of_slices slice.now mode.now (map slice_tree slices.now) }
+{
+    for other in slices {
+        let units = units_in_slice(other, slice, mode);
+        if units.is_some() {
+            return units;
+        }
+    }
+    None
+}
+
+/// The units of the mode, where the slice has the name.
+fn units_in_slice(other: &Slice, slice: &Name, mode: &Name) -> Option<u64>
+    ensures { result ≡ units_of_slice slice.now mode.now (slice_tree other.now) }
+{
+    if is_named(&other.name, slice) {
+        mode_units(other.modes.as_slice(), mode)
+    } else {
+        None
+    }
+}
+
+/// The units of the first mode of the name.
+fn mode_units(modes: &[ModeRule], mode: &Name) -> Option<u64>
+    ensures { result ≡ units_of_modes mode.now (map mode_tree modes.now) }
+{
+    for other in modes {
+        if is_named(&other.name, mode) {
+            return units_of_some(&other.mark);
+        }
+    }
+    None
+}
+
+fn units_of_some(mark: &Option<MarkList>) -> Option<u64>
+    ensures { result ≡ mark_units mark.now }
+{
+    match mark {
+        Some(tokens) => units_of_mark(tokens.as_slice()),
+        None => None,
+    }
+}
+
+fn is_named(name: &Name, other: &Name) -> bool
+    ensures { result ≡ same_text name.now other.now }
+{
+    name.is_same(other)
+}
