@@ -1,0 +1,16 @@
+use Rattle.std.proofs.Common.{◌≡◌, ◌+◌, ◌≤◌, drop, length}
+use Rattle.xs_tree.specs.Written.{trees_of, branches_of}
+use Rattle.xs_tree.specs.Leaves.{trees_map, branches_map}
+use Rattle.xs_scope.specs.ModelTree.{leaf_of}
+use Rattle.xs_expressions.specs.Parts.{asked_of, BuildsSome}
+use Rattle.xs_expressions.specs.Branches.{BuildsFirst}
+use Rattle.xs_expressions.proofs.expression.+encode.Given as goal
+
+abbrev pub invariant-some_member-loop-member : goal.invariant-some_member-loop-member
+invariant-some_member-loop-member l =
+    BuildsSome l.names (asked_of l.asked) (trees_map leaf_of (trees_of l.members)) (trees_map leaf_of (trees_of (drop l.member-index l.members))) l.fn.g l.g l.found
+
+abbrev pub invariant-each_branch-loop-condition : goal.invariant-each_branch-loop-condition
+invariant-each_branch-loop-condition l =
+    BuildsFirst l.names (asked_of l.asked) (branches_map leaf_of (branches_of l.branches)) (branches_map leaf_of (branches_of (drop l.condition-index l.branches))) l.fn.g l.g l.parts
+    × (l.left + l.condition-index ≡ length l.branches)
