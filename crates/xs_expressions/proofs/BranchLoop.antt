@@ -1,6 +1,6 @@
 -- The branches of a case, one after another.
 use Rattle.std.proofs.Common.{◌≡◌, ℕ, ◌+◌, ◌<◌, ◌≤◌, false, Some, None, List, [], ◌∷◌, ◌++◌, length, get_or, drop, refl, sym, ◌∙◌, ap, subst, arith}
-use Rattle.std.proofs.lemmas.List.{drop_more, drop_all, append_assoc, append-nil}
+use Rattle.std.proofs.lemmas.List.{drop_more, drop_all, append_assoc, append-nil, length-drop}
 use Rattle.xs_tree.specs.Trace.{Each}
 use Rattle.xs_tree.specs.Tree.{Tree, Branches, no_branch, branch_then}
 use Rattle.xs_tree.specs.Written.{branches_of}
@@ -162,3 +162,43 @@ module _ (n : Names) where
       told_last asked bs parts (built.right is).2,
     );
   }
+
+  -- the same over what is left of a list: a branch that is not the last
+  pub branches_step : (asked : TheAsked) (bs : List (Expr Flat × Expr Flat)) (i : ℕ) (b : Expr Flat × Expr Flat) (s g u v t : Circuit) (parts mid made : Parts) (c p : Part)
+      → i < length bs → b ≡ get_or bs i b → i + 1 < length bs
+      → BuildsFirst n asked (branches_map leaf_of (branches_of bs)) (branches_map leaf_of (branches_of (drop i bs))) s g parts
+      → BuildsPart n its_value (flat_tree b.0) g u c → IsBelow u.free (literal_in (signal_of c.signal)) → mid ≡ record parts { conditions = parts.conditions ++ literal_in (signal_of c.signal) ∷ [] }
+      → v ≡ u → BuildsPart n asked (flat_tree b.1) v t p
+      → made.conditions ≡ mid.conditions → signals_of made.values ≡ signals_of mid.values ++ signal_of p.signal ∷ [] → made.sort ≡ Some (widened_sort mid.sort p.sort)
+      → BuildsFirst n asked (branches_map leaf_of (branches_of bs)) (branches_map leaf_of (branches_of (drop (i + 1) bs))) s t made
+  branches_step asked bs i b s g u v t parts mid made c p low is more before first below is_mid at part same e f =
+      by (drop (i + 1) bs) (omega (arith, length-drop (i + 1) bs, more)) (subst (λ rest. BuildsFirst n asked (branches_map leaf_of (branches_of bs)) rest s g parts) (branches_more bs i b low is) before)
+    where
+      by : (rest : List (Expr Flat × Expr Flat)) → 0 < length rest
+          → BuildsFirst n asked (branches_map leaf_of (branches_of bs)) (branch_then (flat_tree b.0) (flat_tree b.1) (branches_map leaf_of (branches_of rest))) s g parts
+          → BuildsFirst n asked (branches_map leaf_of (branches_of bs)) (branches_map leaf_of (branches_of rest)) s t made
+      by [] some start = absurd (omega (arith, some))
+      by (x ∷ xs) some start =
+          branch_next asked (branches_map leaf_of (branches_of bs)) (flat_tree b.0) (flat_tree b.1) (flat_tree x.0) (flat_tree x.1) (branches_map leaf_of (branches_of xs)) s g u t parts mid made c p
+          (literal_in (signal_of c.signal)) start first refl below is_mid (subst (λ w. BuildsPart n asked (flat_tree b.1) w t p) at part) same e f
+
+  -- and the last
+  pub branches_last : (asked : TheAsked) (bs : List (Expr Flat × Expr Flat)) (i : ℕ) (b : Expr Flat × Expr Flat) (s g v t : Circuit) (parts mid made : Parts) (p : Part)
+      → i < length bs → b ≡ get_or bs i b → length bs ≤ i + 1
+      → BuildsFirst n asked (branches_map leaf_of (branches_of bs)) (branches_map leaf_of (branches_of (drop i bs))) s g parts
+      → mid ≡ parts → v ≡ g → BuildsPart n asked (flat_tree b.1) v t p
+      → made.conditions ≡ mid.conditions → signals_of made.values ≡ signals_of mid.values ++ signal_of p.signal ∷ [] → made.sort ≡ Some (widened_sort mid.sort p.sort)
+      → BuildsFirst n asked (branches_map leaf_of (branches_of bs)) (branches_map leaf_of (branches_of (drop (i + 1) bs))) s t made
+  branches_last asked bs i b s g v t parts mid made p low is high before is_mid at part same e f =
+      subst (λ xs. BuildsFirst n asked (branches_map leaf_of (branches_of bs)) (branches_map leaf_of (branches_of xs)) s t made) (sym (drop_all (i + 1) bs high))
+      (branch_last asked (branches_map leaf_of (branches_of bs)) (flat_tree b.0) (flat_tree b.1) s g t parts made p
+      (subst (λ xs. BuildsFirst n asked (branches_map leaf_of (branches_of bs)) (branch_then (flat_tree b.0) (flat_tree b.1) (branches_map leaf_of (branches_of xs))) s g parts) (drop_all (i + 1) bs high)
+      (subst (λ rest. BuildsFirst n asked (branches_map leaf_of (branches_of bs)) rest s g parts) (branches_more bs i b low is) before))
+      (subst (λ w. BuildsPart n asked (flat_tree b.1) w t p) at part)
+      (same ∙ ap (λ (x : Parts). x.conditions) is_mid) (e ∙ ap (λ (x : Parts). signals_of x.values ++ signal_of p.signal ∷ []) is_mid) (f ∙ ap (λ (x : Parts). Some (widened_sort x.sort p.sort)) is_mid))
+
+  pub branches_done : (asked : TheAsked) (bs : List (Expr Flat × Expr Flat)) (i : ℕ) (s t : Circuit) (parts : Parts) → length bs ≤ i
+      → BuildsFirst n asked (branches_map leaf_of (branches_of bs)) (branches_map leaf_of (branches_of (drop i bs))) s t parts → BuildsBranches n asked (branches_map leaf_of (branches_of bs)) s t parts
+  branches_done asked bs i s t parts high built =
+      branches_end asked (branches_map leaf_of (branches_of bs)) s t parts
+      (subst (λ xs. BuildsFirst n asked (branches_map leaf_of (branches_of bs)) (branches_map leaf_of (branches_of xs)) s t parts) (drop_all i bs high) built)

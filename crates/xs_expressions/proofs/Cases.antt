@@ -1,7 +1,7 @@
 -- The branches of a case, one after another, and then the choices.
 use Rattle.std.proofs.Common.{◌≡◌, ℕ, suc, ◌+◌, ◌<◌, ◌≤◌, Bool, true, false, not, ◌&&◌, Option, Some, None, List, [], ◌∷◌, ◌++◌, length, get_or, drop, refl, sym, ◌∙◌, ap, subst, arith}
 use Rattle.std.specs.Prelude.{flat_map}
-use Rattle.std.proofs.lemmas.List.{drop_more, drop_all, append_assoc, append-nil}
+use Rattle.std.proofs.lemmas.List.{length-map}
 use Rattle.xs_tree.specs.Trace.{Each}
 use Rattle.xs_tree.specs.Tree.{Tree, Branches, no_branch, branch_then, case_of}
 use Rattle.xs_flattening.specs.Flat.{FlatLeaf}
@@ -21,12 +21,12 @@ use Rattle.xs_encoding.specs.Meanings.{IsSignal}
 use Rattle.xs_encoding.proofs.Answering.{kept_interval}
 use Rattle.xs_types.specs.Answers.{told_class, told_sort}
 use Rattle.xs_types.specs.declared.sort.Sort.{Sort}
-use Rattle.xs_signals.specs.Built.{signal_of, signals_of, BuildsSignal}
+use Rattle.xs_signals.specs.Built.{signal_of, signals_of}
 use Rattle.xs_signals.specs.Choices.{first_signal, chosen_gates}
 use Rattle.xs_expressions.specs.Sorts.{sort_width}
 use Rattle.xs_expressions.specs.Naming.{model_of, names_in}
 use Rattle.xs_expressions.specs.Parts.{truth_sort, IsBit, IsRight, IsTold, BuildsPart}
-use Rattle.xs_expressions.specs.Branches.{listed_gates, spread_sort, parts_sort, AreRightBranches, AreTold, BuildsBranches}
+use Rattle.xs_expressions.specs.Branches.{listed_gates, spread_sort, parts_sort, AreRightBranches, AreTold, BuildsBranches, BuildsFirstOf}
 use Rattle.xs_expressions.specs.declared.names.Names.{Names}
 use Rattle.xs_expressions.specs.declared.branches.Parts.{Parts}
 use Rattle.xs_expressions.specs.declared.part.Part.{Part}
@@ -124,35 +124,29 @@ module _ (n : Names) where
   case_told its_value bs parts p s t k h told e f = f ∙ case_sort bs h parts.sort told
   case_told (whether_has v) bs parts p s t k h told e f = subst (λ (r : Circuit × Signal). IsBit r.1) e (bit_listed n k parts.conditions (signals_of parts.values) s told)
 
-  pub case_part : n.symbols ≡ symbol_width (model_of n).symbols → (asked : TheAsked) (bs : Branches FlatLeaf) (s t u : Circuit) (parts : Parts) (p : Part) → BuildsBranches n asked bs s t parts
-      → BuildsSignal t (chosen_gates (sort_width n.symbols (parts_sort parts.sort)) parts.conditions (signals_of parts.values) t) u p.signal → p.sort ≡ parts_sort parts.sort → BuildsPart n asked (case_of bs) s u p
+  -- a case that breaks no rule has one value more than conditions
+  case_long : (asked : TheAsked) (bs : Branches FlatLeaf) (s t : Circuit) (parts : Parts) → IsRight (model_of n) asked (case_of bs) → listed_gates (names_in n) asked bs s ≡ (t, (parts.conditions, signals_of parts.values))
+      → length parts.values ≡ length parts.conditions + 1
+  case_long asked no_branch s t parts is e = absurd (no_case asked is)
+  case_long asked (branch_then d a bs) s t parts is e =
+      let long : length (signals_of parts.values) ≡ suc (length parts.conditions) =
+      subst (λ (r : Circuit × (List Literal × List Signal)). length r.1.1 ≡ suc (length r.1.0)) e (listed_long (names_in n) asked (branch_then d a bs) s tt)
+      in
+      omega (arith, long, length-map signal_of parts.values)
+
+  pub case_built : n.symbols ≡ symbol_width (model_of n).symbols → (asked : TheAsked) (bs : Branches FlatLeaf) (s t u : Circuit) (parts : Parts) (p : Part) → BuildsBranches n asked bs s t parts
+      → BuildsFirstOf n.symbols parts t u p → BuildsPart n asked (case_of bs) s u p
   unfolding encoded after
-  case_part known asked bs s t u parts p built made e = record {
-    usable = made.usable;
-    grows = omega (arith, built.grows, made.grows);
+  case_built known asked bs s t u parts p built first = record {
+    usable = first.usable;
+    grows = omega (arith, built.grows, first.grows);
     right = λ is.
         let parts_are : (listed_gates (names_in n) asked bs s ≡ (t, (parts.conditions, signals_of parts.values))) × AreTold (model_of n) asked bs parts = built.right (branches_right asked bs is) in
+        let made = first.right (case_long asked bs s t parts is parts_are.0) in
         let wide : ℕ = (names_in n).width (case_of bs) in
         record {
           exact =
-              branches_listed (names_in n) asked wide bs s ∙ ap (λ r. after r (λ x v. chosen_gates wide x.0 x.1 v)) parts_are.0 ∙ case_width known asked bs parts t is parts_are.1 ∙ made.exact;
-          told = case_told asked bs parts p t u _ is parts_are.1 made.exact e;
+              branches_listed (names_in n) asked wide bs s ∙ ap (λ r. after r (λ x v. chosen_gates wide x.0 x.1 v)) parts_are.0 ∙ case_width known asked bs parts t is parts_are.1 ∙ made.0;
+          told = case_told asked bs parts p t u _ is parts_are.1 made.0 made.1;
         };
   }
-
-  -- where there is not one value more than conditions there is no branch
-  pub no_case_part : (asked : TheAsked) (bs : Branches FlatLeaf) (s t : Circuit) (parts : Parts) (p : Part) → BuildsBranches n asked bs s t parts → IsSignal t (signal_of p.signal)
-      → (length (signals_of parts.values) ≡ length parts.conditions + 1 → ⊥) → BuildsPart n asked (case_of bs) s t p
-  no_case_part asked bs s t parts p built usable apart = record {
-    usable = usable;
-    grows = built.grows;
-    right = λ is. absurd (by bs is (built.right (branches_right asked bs is)).0);
-  }
-    where
-      by : (cs : Branches FlatLeaf) → IsRight (model_of n) asked (case_of cs) → listed_gates (names_in n) asked cs s ≡ (t, (parts.conditions, signals_of parts.values)) → ⊥
-      by no_branch is e = no_case asked is
-      by (branch_then d a cs) is e =
-          let long : length (signals_of parts.values) ≡ suc (length parts.conditions) =
-          subst (λ (r : Circuit × (List Literal × List Signal)). length r.1.1 ≡ suc (length r.1.0)) e (listed_long (names_in n) asked (branch_then d a cs) s tt)
-          in
-          apart (omega (arith, long))

@@ -16,6 +16,8 @@ use Rattle.xs_lits.specs.Literal.{Literal}
 use Rattle.xs_lits.specs.Models.{IsBelow}
 use Rattle.xs_gates.specs.Circuit.{Circuit, after}
 use Rattle.xs_gates.specs.Gates.{constant_lit, or_gate}
+use Rattle.xs_kinds.specs.Intervals.{Interval}
+use Rattle.xs_encoding.specs.Widths.{word_width, symbol_interval}
 use Rattle.xs_encoding.specs.Signals.{literal_in}
 use Rattle.xs_encoding.specs.Expressions.{Asked as TheAsked, its_value, whether_has, encoded, encoded_members}
 use Rattle.xs_encoding.specs.Meanings.{IsSignal}
@@ -45,6 +47,13 @@ named_later n s t h named = record {
 pub asked_later : (a : Asked) (s t : Circuit) → s.free ≤ t.free → IsAskedIn s (asked_of a) → IsAskedIn t (asked_of a)
 asked_later ItsValue s t h k = tt
 asked_later (WhetherHas v) s t h k = signal_later s t h v.now k
+
+-- a word has a bit
+wide : (i : Interval) → 1 ≤ word_width i
+wide i = omega arith
+
+pub symbols_some : (n : Names) (s : Circuit) → IsNamed s n → 1 ≤ n.symbols
+symbols_some n s named = subst (λ x. 1 ≤ x) (sym named.symbols) (wide (symbol_interval (model_of n).symbols))
 
 -- under `next` the names may be used too
 pub named_next : (n m : Names) (s : Circuit) → m ≡ moved n → IsNamed s n → IsNamed s m

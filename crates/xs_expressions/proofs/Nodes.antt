@@ -1,5 +1,7 @@
 -- What is built of each node of an expression, from what was built of its parts.
 use Rattle.std.proofs.Common.{◌≡◌, ℕ, ◌≤◌, Bool, true, false, not, ◌&&◌, ◌||◌, ℤ, int_lt, List, [], ◌∷◌, ◌++◌, Option, Some, None, refl, sym, ◌∙◌, ap, subst, arith}
+use Rattle.std.specs.Prelude.{Result, IfOk}
+use Rattle.std.proofs.lemmas.Result.{IfOk-weaker}
 use Rattle.xs_tree.specs.declared.expr.Op.{Op}
 use Rattle.xs_tree.specs.declared.expr.Op.TheVariants as op
 use Rattle.xs_tree.specs.ProgramTree.{Text}
@@ -67,24 +69,59 @@ class_width texts n symbol_class i e = e
 pub kind_told : (texts : List Text) (n : ℕ) (k : Kind) (s : Sort) → n ≡ symbol_width texts → s ≡ told_sort k → sort_width n s ≡ kind_width texts k
 kind_told texts n k s e h = ap (sort_width n) h ∙ class_width texts n k.class k.interval e
 
+-- the value itself, where it is asked
+pub answers_value : (s : Circuit) (value : Part) → IsSignal s (signal_of value.signal) → Answers its_value s (s, signal_of value.signal) value.sort s value
+answers_value s value usable = record { usable = usable; grows = omega arith; exact = refl; told = refl }
+
 -- whether a value is that of a signal
-pub answers_has : (v : Signal) (s t : Circuit) (value p : Part) (l : Literal) → BuildsLiteral s (same_gates v (signal_of value.signal) s) t l → signal_of p.signal ≡ bit l → Answers (whether_has v) s value t p
+pub answers_has : (v e : Signal) (known : Sort) (s t : Circuit) (p : Part) (l : Literal) → BuildsLiteral s (same_gates v e s) t l → signal_of p.signal ≡ bit l → Answers (whether_has v) s (s, e) known t p
 unfolding after
-answers_has v s t value p l made e = record {
-  usable = subst (IsSignal t) (sym e) made.below;
+answers_has v e known s t p l made is = record {
+  usable = subst (IsSignal t) (sym is) made.below;
   grows = made.grows;
-  exact = ap as_bit made.exact ∙ ap (λ x. (t, x)) (sym e);
-  told = subst IsBit (sym e) tt;
+  exact = ap as_bit made.exact ∙ ap (λ x. (t, x)) (sym is);
+  told = subst IsBit (sym is) tt;
+}
+
+-- of what was built before
+pub answers_after : (asked : TheAsked) (s t u : Circuit) (r : Circuit × Signal) (e : Signal) (known given : Sort) (p : Part) → r ≡ (t, e) → s.free ≤ t.free → given ≡ known
+    → Answers asked t (t, e) given u p → Answers asked s r known u p
+answers_after asked s t u r e known given p made more sort ans = record {
+  usable = ans.usable;
+  grows = omega (arith, more, ans.grows);
+  exact = ap (answer asked) made ∙ ans.exact;
+  told = subst (λ x. AnswersSort asked x p) sort ans.told;
+}
+
+-- of an equal value, where no gate was built
+pub answers_at : (asked : TheAsked) (s u : Circuit) (e f : Signal) (known given : Sort) (p : Part) → f ≡ e → given ≡ known → Answers asked s (s, f) given u p → Answers asked s (s, e) known u p
+answers_at asked s u e f known given p is sort ans = answers_after asked s s u (s, e) f known given p (ap (λ x. (s, x)) (sym is)) (omega arith) sort ans
+
+-- the same of a result
+pub result_after : {E : Type 0} (q : Result Part E) (asked : TheAsked) (s t u : Circuit) (r : Circuit × Signal) (e : Signal) (known given : Sort) → r ≡ (t, e) → s.free ≤ t.free → given ≡ known
+    → IfOk q (Answers asked t (t, e) given u) → IfOk q (Answers asked s r known u)
+result_after q asked s t u r e known given made more sort =
+    IfOk-weaker q (Answers asked t (t, e) given u) (Answers asked s r known u) (λ p h. answers_after asked s t u r e known given p made more sort h)
+
+pub result_at : {E : Type 0} (q : Result Part E) (asked : TheAsked) (s u : Circuit) (e f : Signal) (known given : Sort) → f ≡ e → given ≡ known → IfOk q (Answers asked s (s, f) given u) → IfOk q (Answers asked s (s, e) known u)
+result_at q asked s u e f known given is sort = IfOk-weaker q (Answers asked s (s, f) given u) (Answers asked s (s, e) known u) (λ p h. answers_at asked s u e f known given p is sort h)
+
+-- a literal as a signal
+pub literal_built : (s t : Circuit) (r : Circuit × Literal) (l : Literal) (p : Part) → BuildsLiteral s r t l → signal_of p.signal ≡ bit l → BuildsSignal s (as_bit r) t p.signal
+literal_built s t r l p made is = record {
+  exact = ap as_bit made.exact ∙ ap (λ x. (t, x)) (sym is);
+  usable = subst (IsSignal t) (sym is) made.below;
+  grows = made.grows;
 }
 
 -- ---- nodes
 
 module _ (n : Names) where
-  -- A node with one value: it was built onto s, which is then t, and what was asked of it is told in u.
-  pub plain_part : (asked : TheAsked) (e : Tree FlatLeaf) (s t u : Circuit) (value p : Part) → s.free ≤ t.free → Answers asked t value u p
-      → (IsRight (model_of n) asked e → (encoded (names_in n) asked e s ≡ answer asked (t, signal_of value.signal)) × (value.sort ≡ told_sort (judged_in (model_of n) false e).kind))
+  -- A node with one value, whose parts were built onto s, which is then t: what was asked of it is told in u.
+  pub plain_part : (asked : TheAsked) (e : Tree FlatLeaf) (s t u : Circuit) (r : Circuit × Signal) (known : Sort) (p : Part) → s.free ≤ t.free → Answers asked t r known u p
+      → (IsRight (model_of n) asked e → (encoded (names_in n) asked e s ≡ answer asked r) × (known ≡ told_sort (judged_in (model_of n) false e).kind))
       → BuildsPart n asked e s u p
-  plain_part asked e s t u value p more ans is = record {
+  plain_part asked e s t u r known p more ans is = record {
     usable = ans.usable;
     grows = omega (arith, more, ans.grows);
     right = λ right. record {
@@ -93,33 +130,33 @@ module _ (n : Names) where
     };
   }
     where
-      by : (m : TheAsked) → AnswersSort m value p → value.sort ≡ told_sort (judged_in (model_of n) false e).kind → IsTold (model_of n) m e p
+      by : (m : TheAsked) → AnswersSort m known p → known ≡ told_sort (judged_in (model_of n) false e).kind → IsTold (model_of n) m e p
       by its_value h k = h ∙ k
       by (whether_has v) h k = h
 
-  pub truth_part : (asked : TheAsked) (b : Bool) (s u : Circuit) (value p : Part) → signal_of value.signal ≡ bit (constant_lit b) → value.sort ≡ truth_sort → Answers asked s value u p → BuildsPart n asked (truth b) s u p
+  pub truth_built : (asked : TheAsked) (b : Bool) (s u : Circuit) (p : Part) → Answers asked s (s, bit (constant_lit b)) truth_sort u p → BuildsPart n asked (truth b) s u p
   unfolding encoded
-  truth_part asked b s u value p e f ans = plain_part asked (truth b) s s u value p (omega arith) ans (λ right. (ap (λ x. answer asked (s, x)) (sym e), f))
+  truth_built asked b s u p ans = plain_part asked (truth b) s s u (s, bit (constant_lit b)) truth_sort p (omega arith) ans (λ right. (refl, refl))
 
-  pub number_part : (asked : TheAsked) (z : ℤ) (s u : Circuit) (value p : Part) → signal_of value.signal ≡ word (number_word z) → value.sort ≡ literal_sort z → Answers asked s value u p → BuildsPart n asked (number z) s u p
+  pub number_built : (asked : TheAsked) (z : ℤ) (s u : Circuit) (p : Part) → Answers asked s (s, word (number_word z)) (literal_sort z) u p → BuildsPart n asked (number z) s u p
   unfolding encoded
-  number_part asked z s u value p e f ans = plain_part asked (number z) s s u value p (omega arith) ans (λ right. (ap (λ x. answer asked (s, x)) (sym e), f ∙ literal_told (model_of n) z))
+  number_built asked z s u p ans = plain_part asked (number z) s s u (s, word (number_word z)) (literal_sort z) p (omega arith) ans (λ right. (refl, literal_told (model_of n) z))
 
-  pub leaf_part : (asked : TheAsked) (l : FlatLeaf) (s u : Circuit) (value p : Part) → signal_of value.signal ≡ (names_in n).now l → value.sort ≡ told_sort (kind_of_leaf (model_of n) l) → Answers asked s value u p → BuildsPart n asked (leaf l) s u p
+  pub leaf_built : (asked : TheAsked) (l : FlatLeaf) (s u : Circuit) (p : Part) → Answers asked s (s, (names_in n).now l) (told_sort (kind_of_leaf (model_of n) l)) u p → BuildsPart n asked (leaf l) s u p
   unfolding encoded
-  leaf_part asked l s u value p e f ans = plain_part asked (leaf l) s s u value p (omega arith) ans (λ right. (ap (λ x. answer asked (s, x)) (sym e), f))
+  leaf_built asked l s u p ans = plain_part asked (leaf l) s s u (s, (names_in n).now l) (told_sort (kind_of_leaf (model_of n) l)) p (omega arith) ans (λ right. (refl, refl))
 
   not_right : (asked : TheAsked) (a : Tree FlatLeaf) → IsRight (model_of n) asked (not_of a) → IsRight (model_of n) its_value a
   not_right its_value a h = none_second (unless_class truth_class not_boolean (judged_in (model_of n) false a).kind) (judged_in (model_of n) false a).broken h
   not_right (whether_has v) a h = none_second (unless_class truth_class not_boolean (judged_in (model_of n) false a).kind) (judged_in (model_of n) false a).broken h.1
 
-  pub not_part : (asked : TheAsked) (a : Tree FlatLeaf) (s t u : Circuit) (pa value p : Part) → BuildsPart n its_value a s t pa
-      → signal_of value.signal ≡ bit (opposite (literal_in (signal_of pa.signal))) → value.sort ≡ truth_sort → Answers asked t value u p → BuildsPart n asked (not_of a) s u p
+  pub not_built : (asked : TheAsked) (a : Tree FlatLeaf) (s t u : Circuit) (pa p : Part) → BuildsPart n its_value a s t pa
+      → Answers asked t (t, bit (opposite (literal_in (signal_of pa.signal)))) truth_sort u p → BuildsPart n asked (not_of a) s u p
   unfolding encoded after
-  not_part asked a s t u pa value p built e f ans =
-      plain_part asked (not_of a) s t u value p built.grows ans (λ right. (
-        ap (λ r. answer asked (after r (λ x w. (w, bit (opposite (literal_in x)))))) (built.right (not_right asked a right)).exact ∙ ap (λ x. answer asked (t, x)) (sym e),
-        f ∙ truth_told (unless_class truth_class not_boolean (judged_in (model_of n) false a).kind),
+  not_built asked a s t u pa p built ans =
+      plain_part asked (not_of a) s t u (t, bit (opposite (literal_in (signal_of pa.signal)))) truth_sort p built.grows ans (λ right. (
+        ap (λ r. answer asked (after r (λ x w. (w, bit (opposite (literal_in x)))))) (built.right (not_right asked a right)).exact,
+        truth_told (unless_class truth_class not_boolean (judged_in (model_of n) false a).kind),
       ))
 
   negative_right : (asked : TheAsked) (a : Tree FlatLeaf) → IsRight (model_of n) asked (negate a) → IsRight (model_of n) its_value a
@@ -127,30 +164,29 @@ module _ (n : Names) where
   negative_right (whether_has v) a h =
       none_second (unless_class number_class mismatch (judged_in (model_of n) false a).kind ++ wide (negative_interval (judged_in (model_of n) false a).kind.interval)) (judged_in (model_of n) false a).broken h.1
 
-  pub negative_part : n.symbols ≡ symbol_width (model_of n).symbols → (asked : TheAsked) (a : Tree FlatLeaf) (s t u w : Circuit) (pa value p : Part) → BuildsPart n its_value a s t pa
-      → BuildsSignal t (as_word (negate_gates (word_in (signal_of pa.signal)) (sort_width n.symbols (negative_sort pa.sort)) t)) u value.signal → value.sort ≡ negative_sort pa.sort
-      → Answers asked u value w p → BuildsPart n asked (negate a) s w p
+  pub negative_built : n.symbols ≡ symbol_width (model_of n).symbols → (asked : TheAsked) (a : Tree FlatLeaf) (s t w : Circuit) (pa p : Part) → BuildsPart n its_value a s t pa
+      → Answers asked t (as_word (negate_gates (word_in (signal_of pa.signal)) (sort_width n.symbols (negative_sort pa.sort)) t)) (negative_sort pa.sort) w p
+      → BuildsPart n asked (negate a) s w p
   unfolding encoded after
-  negative_part wide asked a s t u w pa value p built made f ans =
-      plain_part asked (negate a) s u w value p (omega (arith, built.grows, made.grows)) ans (λ right.
+  negative_built wide asked a s t w pa p built ans =
+      plain_part asked (negate a) s t w (as_word (negate_gates (word_in (signal_of pa.signal)) (sort_width n.symbols (negative_sort pa.sort)) t)) (negative_sort pa.sort) p built.grows ans (λ right.
       let ih : IsEncoded (model_of n) its_value a (encoded (names_in n) its_value a s) t pa = built.right (negative_right asked a right) in
       let sort : negative_sort pa.sort ≡ told_sort (judged_in (model_of n) false (negate a)).kind = ap negative_sort ih.told ∙ negative_told (judged_in (model_of n) false a) in (
         ap (λ r. answer asked (after r (λ x v. as_word (negate_gates (word_in x) ((names_in n).width (negate a)) v)))) ih.exact
-            ∙ ap (λ k. answer asked (as_word (negate_gates (word_in (signal_of pa.signal)) k t))) (sym (kind_told (model_of n).symbols n.symbols (judged_in (model_of n) false (negate a)).kind (negative_sort pa.sort) wide sort))
-            ∙ ap (answer asked) made.exact,
-        f ∙ sort,
+            ∙ ap (λ k. answer asked (as_word (negate_gates (word_in (signal_of pa.signal)) k t))) (sym (kind_told (model_of n).symbols n.symbols (judged_in (model_of n) false (negate a)).kind (negative_sort pa.sort) wide sort)),
+        sort,
       ))
 
   next_right : (asked : TheAsked) (a : Tree FlatLeaf) → IsRight (model_of n) asked (next_of a) → IsRight (model_of n) its_value a
   next_right its_value a h = h
   next_right (whether_has v) a h = h.1
 
-  pub next_part : (m : Names) → m ≡ moved n → (asked : TheAsked) (a : Tree FlatLeaf) (s t u : Circuit) (value p : Part) → BuildsPart m its_value a s t value → Answers asked t value u p
-      → BuildsPart n asked (next_of a) s u p
+  pub next_built : (m : Names) → m ≡ moved n → (asked : TheAsked) (a : Tree FlatLeaf) (s t u : Circuit) (value p : Part) → BuildsPart m its_value a s t value
+      → Answers asked t (t, signal_of value.signal) value.sort u p → BuildsPart n asked (next_of a) s u p
   unfolding encoded
-  next_part m e asked a s t u value p built ans =
+  next_built m e asked a s t u value p built ans =
       let there : BuildsPart (moved n) its_value a s t value = subst (λ k. BuildsPart k its_value a s t value) e built in
-      plain_part asked (next_of a) s t u value p there.grows ans (λ right.
+      plain_part asked (next_of a) s t u (t, signal_of value.signal) value.sort p there.grows ans (λ right.
       let is : IsEncoded (model_of n) its_value a (encoded (at_next (names_in n)) its_value a s) t value = there.right (next_right asked a right) in
       (ap (answer asked) is.exact, is.told))
 
@@ -182,13 +218,14 @@ module _ (n : Names) where
   plain_judged op.Within t a b = absurd t
   plain_judged o t a b = refl
 
-  pub both_part : n.symbols ≡ symbol_width (model_of n).symbols → (o : Op) → TakesValues o → (asked : TheAsked) (a b : Tree FlatLeaf) (s t u w y : Circuit) (pa pb value p : Part)
+  pub both_built : n.symbols ≡ symbol_width (model_of n).symbols → (o : Op) → TakesValues o → (asked : TheAsked) (a b : Tree FlatLeaf) (s t u y : Circuit) (pa pb p : Part)
       → BuildsPart n its_value a s t pa → BuildsPart n its_value b t u pb
-      → BuildsSignal u (operator_gates o (sort_width n.symbols (operation_sort o pa.sort pb.sort)) (signal_of pa.signal) (signal_of pb.signal) u) w value.signal
-      → value.sort ≡ operation_sort o pa.sort pb.sort → Answers asked w value y p → BuildsPart n asked (binary o a b) s y p
+      → Answers asked u (operator_gates o (sort_width n.symbols (operation_sort o pa.sort pb.sort)) (signal_of pa.signal) (signal_of pb.signal) u) (operation_sort o pa.sort pb.sort) y p
+      → BuildsPart n asked (binary o a b) s y p
   unfolding after
-  both_part known o plain asked a b s t u w y pa pb value p left right made f ans =
-      plain_part asked (binary o a b) s w y value p (omega (arith, left.grows, right.grows, made.grows)) ans (λ is.
+  both_built known o plain asked a b s t u y pa pb p left right ans =
+      plain_part asked (binary o a b) s u y (operator_gates o (sort_width n.symbols (operation_sort o pa.sort pb.sort)) (signal_of pa.signal) (signal_of pb.signal) u) (operation_sort o pa.sort pb.sort) p
+      (omega (arith, left.grows, right.grows)) ans (λ is.
       let parts : IsRight (model_of n) its_value a × IsRight (model_of n) its_value b = both_right o plain asked a b is in
       let first : IsEncoded (model_of n) its_value a (encoded (names_in n) its_value a s) t pa = left.right parts.0 in
       let second : IsEncoded (model_of n) its_value b (encoded (names_in n) its_value b t) u pb = right.right parts.1 in
@@ -200,9 +237,8 @@ module _ (n : Names) where
         plain_encoded o plain asked a b s
             ∙ ap (λ r. answer asked (after r (λ e v. after (encoded (names_in n) its_value b v) (λ f z. operator_gates o wide e f z)))) first.exact
             ∙ ap (λ r. answer asked (after r (λ f z. operator_gates o wide (signal_of pa.signal) f z))) second.exact
-            ∙ ap (λ k. answer asked (operator_gates o k (signal_of pa.signal) (signal_of pb.signal) u)) (sym (kind_told (model_of n).symbols n.symbols (judged_in (model_of n) false (binary o a b)).kind (operation_sort o pa.sort pb.sort) known sort))
-            ∙ ap (answer asked) made.exact,
-        f ∙ sort,
+            ∙ ap (λ k. answer asked (operator_gates o k (signal_of pa.signal) (signal_of pb.signal) u)) (sym (kind_told (model_of n).symbols n.symbols (judged_in (model_of n) false (binary o a b)).kind (operation_sort o pa.sort pb.sort) known sort)),
+        sort,
       ))
 
   -- ---- `in`
@@ -223,16 +259,15 @@ module _ (n : Names) where
       let own = unless_class (judged_in (model_of n) false a).kind.class mismatch (judged_in (model_of n) true b).kind in
       (true, none_second (judged_in (model_of n) false a).broken (judged_in (model_of n) true b).broken (none_second own _ h.1))
 
-  pub within_part : (asked : TheAsked) (a b : Tree FlatLeaf) (s t u w : Circuit) (pa pb value p : Part) → BuildsPart n its_value a s t pa → BuildsPart n (whether_has (signal_of pa.signal)) b t u pb
-      → signal_of value.signal ≡ signal_of pb.signal → value.sort ≡ truth_sort → Answers asked u value w p → BuildsPart n asked (binary op.Within a b) s w p
+  pub within_built : (asked : TheAsked) (a b : Tree FlatLeaf) (s t u w : Circuit) (pa pb p : Part) → BuildsPart n its_value a s t pa → BuildsPart n (whether_has (signal_of pa.signal)) b t u pb
+      → Answers asked u (u, signal_of pb.signal) truth_sort w p → BuildsPart n asked (binary op.Within a b) s w p
   unfolding encoded after
-  within_part asked a b s t u w pa pb value p left right e f ans =
-      plain_part asked (binary op.Within a b) s u w value p (omega (arith, left.grows, right.grows)) ans (λ is.
+  within_built asked a b s t u w pa pb p left right ans =
+      plain_part asked (binary op.Within a b) s u w (u, signal_of pb.signal) truth_sort p (omega (arith, left.grows, right.grows)) ans (λ is.
       let first : IsEncoded (model_of n) its_value a (encoded (names_in n) its_value a s) t pa = left.right (within_first asked a b is) in
       let second : IsEncoded (model_of n) (whether_has (signal_of pa.signal)) b (encoded (names_in n) (whether_has (signal_of pa.signal)) b t) u pb = right.right (within_second asked (signal_of pa.signal) a b is) in (
-        ap (λ r. answer asked (after r (λ x v. encoded (names_in n) (whether_has x) b v))) first.exact
-            ∙ ap (answer asked) second.exact ∙ ap (λ x. answer asked (u, x)) (sym e),
-        f ∙ truth_told (unless_class (judged_in (model_of n) false a).kind.class mismatch (judged_in (model_of n) true b).kind),
+        ap (λ r. answer asked (after r (λ x v. encoded (names_in n) (whether_has x) b v))) first.exact ∙ ap (answer asked) second.exact,
+        truth_told (unless_class (judged_in (model_of n) false a).kind.class mismatch (judged_in (model_of n) true b).kind),
       ))
 
   -- ---- sets
@@ -257,23 +292,23 @@ module _ (n : Names) where
       let jb = judged_in (model_of n) true b in
       (true, none_second ja.broken jb.broken (none_second (unless_class ja.kind.class mismatch jb.kind ++ rule_if (true && not h.0) set_here) (ja.broken ++ jb.broken) h.1))
 
-  union_told : (asked : TheAsked) (a b : Tree FlatLeaf) (p : Part) (l : Literal) → signal_of p.signal ≡ bit l → IsRight (model_of n) asked (binary op.Union a b) → IsTold (model_of n) asked (binary op.Union a b) p
-  union_told its_value a b p l e h =
+  union_told : (asked : TheAsked) (a b : Tree FlatLeaf) (p : Part) → IsBit (signal_of p.signal) → IsRight (model_of n) asked (binary op.Union a b) → IsTold (model_of n) asked (binary op.Union a b) p
+  union_told its_value a b p e h =
       absurd (set_refused (unless_class (judged_in (model_of n) true a).kind.class mismatch (judged_in (model_of n) true b).kind) ((judged_in (model_of n) true a).broken ++ (judged_in (model_of n) true b).broken) h)
-  union_told (whether_has v) a b p l e h = subst IsBit (sym e) tt
+  union_told (whether_has v) a b p e h = e
 
-  pub union_part : (asked : TheAsked) (a b : Tree FlatLeaf) (s t u w : Circuit) (pa pb p : Part) (l : Literal) → BuildsPart n asked a s t pa → BuildsPart n asked b t u pb
-      → BuildsLiteral u (or_gate (literal_in (signal_of pa.signal)) (literal_in (signal_of pb.signal)) u) w l → signal_of p.signal ≡ bit l → BuildsPart n asked (binary op.Union a b) s w p
+  pub union_built : (asked : TheAsked) (a b : Tree FlatLeaf) (s t u w : Circuit) (pa pb p : Part) → BuildsPart n asked a s t pa → BuildsPart n asked b t u pb
+      → BuildsSignal u (as_bit (or_gate (literal_in (signal_of pa.signal)) (literal_in (signal_of pb.signal)) u)) w p.signal → IsBit (signal_of p.signal) → BuildsPart n asked (binary op.Union a b) s w p
   unfolding encoded after
-  union_part asked a b s t u w pa pb p l left right made e = record {
-    usable = subst (IsSignal w) (sym e) made.below;
+  union_built asked a b s t u w pa pb p left right made e = record {
+    usable = made.usable;
     grows = omega (arith, left.grows, right.grows, made.grows);
     right = λ is. record {
       exact =
           ap (λ r. after r (λ x v. after (encoded (names_in n) asked b v) (λ y z. as_bit (or_gate (literal_in x) (literal_in y) z)))) (left.right (union_first asked a b is)).exact
           ∙ ap (λ r. after r (λ y z. as_bit (or_gate (literal_in (signal_of pa.signal)) (literal_in y) z))) (right.right (union_second asked a b is)).exact
-          ∙ ap as_bit made.exact ∙ ap (λ x. (w, x)) (sym e);
-      told = union_told asked a b p l e is;
+          ∙ made.exact;
+      told = union_told asked a b p e is;
     };
   }
 
@@ -281,9 +316,9 @@ module _ (n : Names) where
   span_told its_value lo hi p e h = absurd (set_refused (rule_if (int_lt hi lo) empty_range ++ wide (Some (record { lo = lo; hi = hi }))) [] h)
   span_told (whether_has v) lo hi p e h = e
 
-  pub span_part : (asked : TheAsked) (lo hi : ℤ) (s t : Circuit) (p : Part) → BuildsSignal s (span_gates asked lo hi s) t p.signal → IsBit (signal_of p.signal) → BuildsPart n asked (span lo hi) s t p
+  pub span_built : (asked : TheAsked) (lo hi : ℤ) (s t : Circuit) (p : Part) → BuildsSignal s (span_gates asked lo hi s) t p.signal → IsBit (signal_of p.signal) → BuildsPart n asked (span lo hi) s t p
   unfolding encoded
-  span_part asked lo hi s t p made e = record {
+  span_built asked lo hi s t p made e = record {
     usable = made.usable;
     grows = made.grows;
     right = λ is. record { exact = made.exact; told = span_told asked lo hi p e is };
@@ -298,9 +333,9 @@ module _ (n : Names) where
   set_right (whether_has v) ts h =
       let js = judge_trees (kind_of_leaf (model_of n)) ts in none_second (unlike_first mismatch (kinds_in js) ++ rule_if (true && not h.0) set_here) (broken_in js) h.1
 
-  pub set_part : (asked : TheAsked) (ts : Trees FlatLeaf) (s t : Circuit) (p : Part) (l : Literal) → BuildsMembers n asked ts s t l → signal_of p.signal ≡ bit l → BuildsPart n asked (set_of ts) s t p
+  pub set_built : (asked : TheAsked) (ts : Trees FlatLeaf) (s t : Circuit) (p : Part) (l : Literal) → BuildsMembers n asked ts s t l → signal_of p.signal ≡ bit l → BuildsPart n asked (set_of ts) s t p
   unfolding encoded
-  set_part asked ts s t p l made e = record {
+  set_built asked ts s t p l made e = record {
     usable = subst (IsSignal t) (sym e) made.below;
     grows = made.grows;
     right = λ is. record { exact = made.right (set_right asked ts is) ∙ ap (λ x. (t, x)) (sym e); told = set_told asked ts p l e is };
@@ -359,12 +394,12 @@ module _ (n : Names) where
   choice_told its_value d a b pa pb p l s t k h ta tb e f = f ∙ choice_sort d a b h pa.sort pb.sort ta tb
   choice_told (whether_has v) d a b pa pb p l s t k h ta tb e f = subst (λ (r : Circuit × Signal). IsBit r.1) e (bit_chosen k l (signal_of pa.signal) (signal_of pb.signal) s ta tb)
 
-  pub choice_part : n.symbols ≡ symbol_width (model_of n).symbols → (asked : TheAsked) (d a b : Tree FlatLeaf) (s t u w y : Circuit) (pd pa pb p : Part)
+  pub choice_built : n.symbols ≡ symbol_width (model_of n).symbols → (asked : TheAsked) (d a b : Tree FlatLeaf) (s t u w y : Circuit) (pd pa pb p : Part)
       → BuildsPart n its_value d s t pd → BuildsPart n asked a t u pa → BuildsPart n asked b u w pb
       → BuildsSignal w (choice_gates (sort_width n.symbols (joined_sort pa.sort pb.sort)) (literal_in (signal_of pd.signal)) (signal_of pa.signal) (signal_of pb.signal) w) y p.signal
       → p.sort ≡ joined_sort pa.sort pb.sort → BuildsPart n asked (choice d a b) s y p
   unfolding encoded after
-  choice_part known asked d a b s t u w y pd pa pb p first second third made e = record {
+  choice_built known asked d a b s t u w y pd pa pb p first second third made e = record {
     usable = made.usable;
     grows = omega (arith, first.grows, second.grows, third.grows, made.grows);
     right = λ is.

@@ -1,5 +1,5 @@
 -- The branches of a case, in two passes: the conditions and values in written order, and then the choices.
-use Rattle.std.specs.Prelude.{◌≡◌, ◌≤◌, Bool, false, Option, Some, None, List, [], ◌∷◌, ◌++◌}
+use Rattle.std.specs.Prelude.{◌≡◌, ℕ, ◌≤◌, ◌+◌, Bool, false, Option, Some, None, List, [], ◌∷◌, ◌++◌, length}
 use Rattle.xs_tree.specs.Trace.{Each}
 use Rattle.xs_tree.specs.Tree.{Tree, Branches, no_branch, branch_then}
 use Rattle.xs_flattening.specs.Flat.{FlatLeaf, FlatModel}
@@ -13,12 +13,14 @@ use Rattle.xs_gates.specs.Meaning.{AllBelow}
 use Rattle.xs_encoding.specs.Signals.{Signal, literal_in}
 use Rattle.xs_encoding.specs.Expressions.{Asked, its_value, whether_has, Names as TheNames, encoded}
 use Rattle.xs_encoding.specs.Meanings.{IsSignal}
-use Rattle.xs_signals.specs.Built.{signals_of}
+use Rattle.xs_signals.specs.Built.{signal_of, signals_of}
+use Rattle.xs_signals.specs.Choices.{chosen_gates}
 use Rattle.xs_expressions.specs.Naming.{model_of, names_in}
-use Rattle.xs_expressions.specs.Sorts.{joined_sort}
+use Rattle.xs_expressions.specs.Sorts.{sort_width, joined_sort}
 use Rattle.xs_expressions.specs.Parts.{truth_sort, IsBit}
 use Rattle.xs_expressions.specs.declared.names.Names.{Names}
 use Rattle.xs_expressions.specs.declared.branches.Parts.{Parts}
+use Rattle.xs_expressions.specs.declared.part.Part.{Part}
 
 -- the conditions, but the last, and the values of all branches
 unfoldable pub listed_gates : {L : Type 0} → TheNames L → Asked → Branches L → Circuit → Circuit × (List Literal × List Signal)
@@ -78,3 +80,10 @@ pub record BuildsFirst (n : Names) (asked : Asked) (bs rest : Branches FlatLeaf)
   pub grows : s.free ≤ t.free
   pub right : AreRightBranches (model_of n) asked bs
       → (listed_gates (names_in n) asked bs s ≡ with_parts parts (listed_gates (names_in n) asked rest t)) × AreRightBranches (model_of n) asked rest × AreToldSoFar (model_of n) asked bs rest parts
+
+-- what was built onto s of the choices between the values, which is then t: where there is one value more than conditions
+pub record BuildsFirstOf (symbols : ℕ) (parts : Parts) (s t : Circuit) (p : Part) : Type 0 where
+  pub usable : IsSignal t (signal_of p.signal)
+  pub grows : s.free ≤ t.free
+  pub right : length parts.values ≡ length parts.conditions + 1
+      → (chosen_gates (sort_width symbols (parts_sort parts.sort)) parts.conditions (signals_of parts.values) s ≡ (t, signal_of p.signal)) × (p.sort ≡ parts_sort parts.sort)

@@ -67,17 +67,17 @@ pub record BuildsPart (n : Names) (asked : TheAsked) (e : Tree FlatLeaf) (s t : 
   pub grows : s.free ≤ t.free
   pub right : IsRight (model_of n) asked e → IsEncoded (model_of n) asked e (encoded (names_in n) asked e s) t p
 
--- where the value itself is asked it is told as before
-abbrev pub AnswersSort : TheAsked → Part → Part → Type 0
-AnswersSort its_value value p = p.sort ≡ value.sort
-AnswersSort (whether_has v) value p = IsBit (signal_of p.signal)
+-- where the value itself is asked it is told with what is known of it
+abbrev pub AnswersSort : TheAsked → Sort → Part → Type 0
+AnswersSort its_value known p = p.sort ≡ known
+AnswersSort (whether_has v) known p = IsBit (signal_of p.signal)
 
--- what was asked is told of a value
-pub record Answers (asked : TheAsked) (s : Circuit) (value : Part) (t : Circuit) (p : Part) : Type 0 where
+-- what was asked is told of the value r, which was built onto s, and of which this is known; the circuit is then t
+pub record Answers (asked : TheAsked) (s : Circuit) (r : Circuit × Signal) (known : Sort) (t : Circuit) (p : Part) : Type 0 where
   pub usable : IsSignal t (signal_of p.signal)
   pub grows : s.free ≤ t.free
-  pub exact : answer asked (s, signal_of value.signal) ≡ (t, signal_of p.signal)
-  pub told : AnswersSort asked value p
+  pub exact : answer asked r ≡ (t, signal_of p.signal)
+  pub told : AnswersSort asked known p
 
 -- each member breaks no rule by itself
 abbrev pub AreRight : FlatModel → TheAsked → Trees FlatLeaf → Type 0

@@ -1,33 +1,24 @@
 //! Expressions as gates: operands first, from left to right.
 
-ghost use Rattle.std.specs.Prelude.{◌≡◌, ◌≤◌, ◌+◌, IfOk, length};
-ghost use Rattle.xs_tree.specs.Trace.{Each};
+ghost use Rattle.std.specs.Prelude.{IfOk};
 ghost use Rattle.xs_tree.specs.Written.{trees_of, branches_of};
 ghost use Rattle.xs_tree.specs.Leaves.{trees_map, branches_map};
-ghost use Rattle.xs_gates.specs.Meaning.{AllBelow};
 ghost use Rattle.xs_scope.specs.ModelTree.{leaf_of, flat_tree};
-ghost use Rattle.xs_encoding.specs.Meanings.{IsSignal};
 ghost use Rattle.xs_encoding.specs.Laws.{IsAskedIn};
-ghost use Rattle.xs_signals.specs.Built.{signals_of, BuildsSignal};
-ghost use Rattle.xs_signals.specs.Choices.{chosen_gates};
-ghost use Rattle.xs_expressions.specs.Sorts.{sort_width};
 ghost use Rattle.xs_expressions.specs.Naming.{IsNamed};
 ghost use Rattle.xs_expressions.specs.Parts.{asked_of, BuildsPart, BuildsMembers};
-ghost use Rattle.xs_expressions.specs.Branches.{BuildsBranches, parts_sort};
+ghost use Rattle.xs_expressions.specs.Branches.{BuildsBranches};
 
-use crate::branches::{Parts, no_parts, with_condition, with_value};
+use crate::branches::{Parts, first_of, no_parts, with_condition, with_value};
 use crate::names::Names;
 use crate::part::{
-    Asked, Form, Part, answer, applied, as_truth, chosen, form_of, leaf_part, negated, number_part,
-    opposite, sort_or_truth, span_part, truth,
+    Asked, Form, Part, answer, applied_part, as_truth, chosen_part, form_of, leaf_part, negated_part,
+    not_part, number_part, or_part, span_part, truth, truth_part, union_part,
 };
-use crate::width::sort_width;
 use std::alloc::Global;
 use xs_flat::Flat;
 use xs_gates::gates::Gates;
 use xs_lits::lit::Lit;
-use xs_signals::choices::choices;
-use xs_signals::operator::either;
 use xs_tree::Expr;
 use xs_value::OutOfMemory;
 
@@ -45,27 +36,16 @@ pub fn expression(
     ensures { IfOk result (BuildsPart names.now (asked_of asked.entry) (flat_tree e.now) g.old g.new) }
 {
     match e {
-        Expr::Truth(b) => {
-            let l = g.constant(*b);
-            answer(alloc, g, asked, truth(l))
-        }
-        Expr::Number(n) => {
-            let part = number_part(alloc, g, *n)?;
-            answer(alloc, g, asked, part)
-        }
-        Expr::Leaf(name) => {
-            let part = leaf_part(alloc, g, names, *name)?;
-            answer(alloc, g, asked, part)
-        }
+        Expr::Truth(b) => truth_part(alloc, g, asked, *b),
+        Expr::Number(n) => number_part(alloc, g, asked, *n),
+        Expr::Leaf(name) => leaf_part(alloc, g, names, asked, *name),
         Expr::Not(a) => {
-            let a = expression(alloc, g, names, Asked::ItsValue, a)?;
-            let part = opposite(g, &a);
-            answer(alloc, g, asked, part)
+            let part = expression(alloc, g, names, Asked::ItsValue, a)?;
+            not_part(alloc, g, asked, part)
         }
         Expr::Negate(a) => {
-            let a = expression(alloc, g, names, Asked::ItsValue, a)?;
-            let part = negated(alloc, g, names, a)?;
-            answer(alloc, g, asked, part)
+            let part = expression(alloc, g, names, Asked::ItsValue, a)?;
+            negated_part(alloc, g, names, asked, part)
         }
         Expr::Next(a) => {
             let part = expression(alloc, g, &names.at_next(), Asked::ItsValue, a)?;
@@ -75,8 +55,7 @@ pub fn expression(
             Form::Union => {
                 let left = expression(alloc, g, names, asked, a)?;
                 let right = expression(alloc, g, names, asked, b)?;
-                let l = either(g, left.signal.literal(g), right.signal.literal(g))?;
-                Ok(truth(l))
+                union_part(g, left, right)
             }
             Form::Within => {
                 let left = expression(alloc, g, names, Asked::ItsValue, a)?;
@@ -86,24 +65,18 @@ pub fn expression(
             Form::Values => {
                 let left = expression(alloc, g, names, Asked::ItsValue, a)?;
                 let right = expression(alloc, g, names, Asked::ItsValue, b)?;
-                let part = applied(alloc, g, names, *op, left, right)?;
-                answer(alloc, g, asked, part)
+                applied_part(alloc, g, names, asked, *op, left, right)
             }
         },
         Expr::Choice(c, a, b) => {
-            let c = expression(alloc, g, names, Asked::ItsValue, c)?;
-            let a = expression(alloc, g, names, asked, a)?;
-            let b = expression(alloc, g, names, asked, b)?;
-            chosen(alloc, g, names, c.signal.literal(g), a, b)
+            let condition = expression(alloc, g, names, Asked::ItsValue, c)?;
+            let first = expression(alloc, g, names, asked, a)?;
+            let second = expression(alloc, g, names, asked, b)?;
+            chosen_part(alloc, g, names, condition, first, second)
         }
         Expr::Case(branches) => {
             let parts = each_branch(alloc, g, names, asked, branches.as_slice())?;
-            if parts.values.len() == parts.conditions.len() + 1 {
-                first_of(alloc, g, names, &parts)
-            } else {
-                // A case without branches has no value.
-                Ok(truth(g.constant(false)))
-            }
+            first_of(alloc, g, names, parts)
         }
         Expr::SetOf(members) => {
             let l = some_member(alloc, g, names, asked, members.as_slice())?;
@@ -129,7 +102,7 @@ fn some_member(
     let mut found = g.constant(false);
     for member in members {
         let here = expression(alloc, g, names, asked, member)?;
-        found = either(g, found, here.signal.literal(g))?;
+        found = or_part(g, found, here)?;
     }
     Ok(found)
 }
@@ -153,33 +126,10 @@ fn each_branch(
         left -= 1;
         if left > 0 {
             let c = expression(alloc, g, names, Asked::ItsValue, condition)?;
-            parts = with_condition(parts, c.signal.literal(g))?;
+            parts = with_condition(g, parts, c)?;
         }
         let value = expression(alloc, g, names, asked, value)?;
         parts = with_value(parts, value)?;
     }
     Ok(parts)
-}
-
-/// The choices between the values of a case's branches.
-fn first_of(
-    alloc: Global,
-    g: &mut Gates,
-    names: &Names<'_>,
-    parts: &Parts,
-) -> Result<Part, OutOfMemory>
-    requires symbols { 1 ≤ names.now.symbols }
-    requires conditions { AllBelow g.old.free parts.now.conditions }
-    requires values { Each (IsSignal g.old) (signals_of parts.now.values) }
-    requires long { length parts.now.values ≡ length parts.now.conditions + 1 }
-    ensures signal { IfOk result (λ p. BuildsSignal g.old (chosen_gates (sort_width names.now.symbols (parts_sort parts.now.sort)) parts.now.conditions (signals_of parts.now.values) g.old) g.new p.signal) }
-    ensures sort { IfOk result (λ p. p.sort ≡ parts_sort parts.now.sort) }
-{
-    let width = sort_width(names.symbols, sort_or_truth(parts.sort));
-    let (conditions, values) = (parts.conditions.as_slice(), parts.values.as_slice());
-    let signal = choices(alloc, g, width, conditions, values)?;
-    Ok(Part {
-        signal,
-        sort: sort_or_truth(parts.sort),
-    })
 }

@@ -3,13 +3,13 @@
 ghost use Rattle.std.specs.Prelude.{◌≡◌, ◌≤◌, IfOk};
 ghost use Rattle.xs_lits.specs.Literal.{opposite};
 ghost use Rattle.xs_lits.specs.Models.{IsBelow};
-ghost use Rattle.xs_gates.specs.Gates.{or_gate};
+ghost use Rattle.xs_gates.specs.Gates.{constant_lit, or_gate};
 ghost use Rattle.xs_arith.specs.Numbers.{number_word};
 ghost use Rattle.xs_arith.specs.Sums.{negate_gates};
 ghost use Rattle.xs_kinds.specs.Models.{kind_of_leaf};
 ghost use Rattle.xs_types.specs.Answers.{told_sort};
 ghost use Rattle.xs_scope.specs.ModelTree.{leaf_of};
-ghost use Rattle.xs_encoding.specs.Signals.{bit, word, literal_in, word_in, as_word, operator_gates, choice_gates};
+ghost use Rattle.xs_encoding.specs.Signals.{bit, word, literal_in, word_in, as_bit, as_word, operator_gates, choice_gates};
 ghost use Rattle.xs_encoding.specs.Expressions.{span_gates};
 ghost use Rattle.xs_encoding.specs.Meanings.{IsSignal};
 ghost use Rattle.xs_encoding.specs.Laws.{IsAskedIn};
@@ -23,12 +23,10 @@ use crate::names::Names;
 use crate::width::sort_width;
 use std::alloc::Global;
 use xs_arith::constants::number;
-use xs_arith::sums::negate;
 use xs_flat::Flat;
 use xs_gates::gates::Gates;
 use xs_lits::lit::Lit;
-use xs_signals::operator::{negated as negated_signal, operator};
-use xs_signals::room::{check_room, check_width};
+use xs_signals::operator::{either, negated, operator};
 use xs_signals::signal::{Signal, between, choice, same};
 use xs_tree::Op;
 use xs_types::{Class, Sort, joined, kept, literal, negative, operation};
@@ -119,7 +117,7 @@ pub fn answer(
 ) -> Result<Part, OutOfMemory>
     requires asked { IsAskedIn g.old (asked_of asked) }
     requires usable { IsSignal g.old (signal_of part.signal) }
-    ensures { IfOk result (Answers (asked_of asked.entry) g.old part g.new) }
+    ensures { IfOk result (Answers (asked_of asked.entry) g.old (g.old, signal_of part.signal) part.sort g.new) }
 {
     match asked {
         Asked::ItsValue => Ok(part),
@@ -130,31 +128,56 @@ pub fn answer(
     }
 }
 
-/// `!`
-pub fn opposite(g: &Gates, a: &Part) -> Part
-    requires { IsSignal g.now (signal_of a.now.signal) }
-    ensures signal { signal_of result.signal ≡ bit (opposite (literal_in (signal_of a.now.signal))) }
-    ensures below { IsSignal g.now (signal_of result.signal) }
-    ensures sort { result.sort ≡ truth_sort }
+/// TRUE and FALSE.
+pub fn truth_part(
+    alloc: Global,
+    g: &mut Gates,
+    asked: Asked<'_>,
+    b: bool,
+) -> Result<Part, OutOfMemory>
+    requires { IsAskedIn g.old (asked_of asked) }
+    ensures { IfOk result (Answers (asked_of asked.entry) g.old (g.old, bit (constant_lit b)) truth_sort g.new) }
 {
-    truth(a.signal.literal(g).neg())
+    let l = g.constant(b);
+    answer(alloc, g, asked, truth(l))
 }
 
 /// A written number.
-pub fn number_part(alloc: Global, g: &Gates, n: i64) -> Result<Part, OutOfMemory>
-    ensures signal { IfOk result (λ p. signal_of p.signal ≡ word (number_word n)) }
-    ensures usable { IfOk result (λ p. IsSignal g.now (signal_of p.signal)) }
-    ensures sort { IfOk result (λ p. p.sort ≡ literal_sort n) }
+pub fn number_part(
+    alloc: Global,
+    g: &mut Gates,
+    asked: Asked<'_>,
+    n: i64,
+) -> Result<Part, OutOfMemory>
+    requires { IsAskedIn g.old (asked_of asked) }
+    ensures { IfOk result (Answers (asked_of asked.entry) g.old (g.old, word (number_word n)) (literal_sort n) g.new) }
 {
     let word = number(alloc, g, n)?;
-    Ok(Part {
+    let part = Part {
         signal: Signal::Word(word),
         sort: literal(n).sort,
-    })
+    };
+    answer(alloc, g, asked, part)
 }
 
 /// A name.
 pub fn leaf_part(
+    alloc: Global,
+    g: &mut Gates,
+    names: &Names<'_>,
+    asked: Asked<'_>,
+    name: Flat,
+) -> Result<Part, OutOfMemory>
+    requires named { IsNamed g.old names.now }
+    requires asked { IsAskedIn g.old (asked_of asked) }
+    ensures { IfOk result (Answers (asked_of asked.entry) g.old (g.old, (names_in names.now).now (leaf_of name)) (told_sort (kind_of_leaf (model_of names.now) (leaf_of name))) g.new) }
+{
+    let part = named_part(alloc, g, names, name)?;
+    answer(alloc, g, asked, part)
+}
+
+/// The value of a name.
+fn named_part(
     alloc: Global,
     g: &Gates,
     names: &Names<'_>,
@@ -174,63 +197,80 @@ pub fn leaf_part(
     })
 }
 
+/// `!`
+pub fn not_part(
+    alloc: Global,
+    g: &mut Gates,
+    asked: Asked<'_>,
+    a: Part,
+) -> Result<Part, OutOfMemory>
+    requires asked { IsAskedIn g.old (asked_of asked) }
+    requires usable { IsSignal g.old (signal_of a.signal) }
+    ensures { IfOk result (Answers (asked_of asked.entry) g.old (g.old, bit (opposite (literal_in (signal_of a.signal)))) truth_sort g.new) }
+{
+    let l = a.signal.literal(g).neg();
+    answer(alloc, g, asked, truth(l))
+}
+
 /// Unary `-`.
-pub fn negated(
+pub fn negated_part(
     alloc: Global,
     g: &mut Gates,
     names: &Names<'_>,
+    asked: Asked<'_>,
     a: Part,
 ) -> Result<Part, OutOfMemory>
     requires symbols { 1 ≤ names.now.symbols }
+    requires asked { IsAskedIn g.old (asked_of asked) }
     requires usable { IsSignal g.old (signal_of a.signal) }
-    ensures signal { IfOk result (λ p. BuildsSignal g.old (as_word (negate_gates (word_in (signal_of a.signal)) (sort_width names.now.symbols (negative_sort a.sort)) g.old)) g.new p.signal) }
-    ensures sort { IfOk result (λ p. p.sort ≡ negative_sort a.sort) }
+    ensures { IfOk result (Answers (asked_of asked.entry) g.old (as_word (negate_gates (word_in (signal_of a.signal)) (sort_width names.now.symbols (negative_sort a.sort)) g.old)) (negative_sort a.sort) g.new) }
 {
-    let width = sort_width(names.symbols, negative(kept(a.sort)).sort);
-    negated_part(alloc, g, width, negative(kept(a.sort)).sort, a.signal)
-}
-
-/// Unary `-` at that width, with what is known of it.
-fn negated_part(
-    alloc: Global,
-    g: &mut Gates,
-    width: u32,
-    sort: Sort,
-    a: Signal,
-) -> Result<Part, OutOfMemory>
-    requires least { 1 ≤ width }
-    requires usable { IsSignal g.old (signal_of a) }
-    ensures signal { IfOk result (λ p. BuildsSignal g.old (as_word (negate_gates (word_in (signal_of a)) width g.old)) g.new p.signal) }
-    ensures sort { IfOk result (λ p. p.sort ≡ sort) }
-{
-    let signal = negated_signal(alloc, g, width, a)?;
-    Ok(Part { signal, sort })
+    let sort = negative(kept(a.sort)).sort;
+    let width = sort_width(names.symbols, sort);
+    let signal = negated(alloc, g, width, a.signal)?;
+    answer(alloc, g, asked, Part { signal, sort })
 }
 
 /// An operator on two values.
-pub fn applied(
+pub fn applied_part(
     alloc: Global,
     g: &mut Gates,
     names: &Names<'_>,
+    asked: Asked<'_>,
     op: Op,
     a: Part,
     b: Part,
 ) -> Result<Part, OutOfMemory>
     requires symbols { 1 ≤ names.now.symbols }
+    requires asked { IsAskedIn g.old (asked_of asked) }
     requires left { IsSignal g.old (signal_of a.signal) }
     requires right { IsSignal g.old (signal_of b.signal) }
-    ensures signal { IfOk result (λ p. BuildsSignal g.old (operator_gates op (sort_width names.now.symbols (operation_sort op a.sort b.sort)) (signal_of a.signal) (signal_of b.signal) g.old) g.new p.signal) }
-    ensures sort { IfOk result (λ p. p.sort ≡ operation_sort op a.sort b.sort) }
+    ensures { IfOk result (Answers (asked_of asked.entry) g.old (operator_gates op (sort_width names.now.symbols (operation_sort op a.sort b.sort)) (signal_of a.signal) (signal_of b.signal) g.old) (operation_sort op a.sort b.sort) g.new) }
 {
-    let width = sort_width(
-        names.symbols,
-        operation(false, op, kept(a.sort), kept(b.sort)).sort,
-    );
+    let sort = operation(false, op, kept(a.sort), kept(b.sort)).sort;
+    let width = sort_width(names.symbols, sort);
     let signal = operator(alloc, g, op, width, a.signal, b.signal)?;
-    Ok(Part {
-        signal,
-        sort: operation(false, op, kept(a.sort), kept(b.sort)).sort,
-    })
+    answer(alloc, g, asked, Part { signal, sort })
+}
+
+/// Whether one of two is TRUE.
+pub fn union_part(g: &mut Gates, a: Part, b: Part) -> Result<Part, OutOfMemory>
+    requires left { IsSignal g.old (signal_of a.signal) }
+    requires right { IsSignal g.old (signal_of b.signal) }
+    ensures signal { IfOk result (λ p. BuildsSignal g.old (as_bit (or_gate (literal_in (signal_of a.signal)) (literal_in (signal_of b.signal)) g.old)) g.new p.signal) }
+    ensures bit { IfOk result (λ p. IsBit (signal_of p.signal)) }
+{
+    let l = either(g, a.signal.literal(g), b.signal.literal(g))?;
+    Ok(truth(l))
+}
+
+/// Whether the literal is TRUE or the part is.
+pub fn or_part(g: &mut Gates, l: Lit, a: Part) -> Result<Lit, OutOfMemory>
+    requires left { IsBelow g.old.free l }
+    requires right { IsSignal g.old (signal_of a.signal) }
+    ensures { IfOk result (BuildsLiteral g.old (or_gate l (literal_in (signal_of a.signal)) g.old) g.new) }
+{
+    either(g, l, a.signal.literal(g))
 }
 
 /// What is known of two values of one class.
@@ -244,27 +284,26 @@ pub fn joined_sort(a: Sort, b: Sort) -> Sort
 }
 
 /// The first of two values where the condition is TRUE, else the second.
-pub fn chosen(
+pub fn chosen_part(
     alloc: Global,
     g: &mut Gates,
     names: &Names<'_>,
-    c: Lit,
+    c: Part,
     a: Part,
     b: Part,
 ) -> Result<Part, OutOfMemory>
     requires symbols { 1 ≤ names.now.symbols }
-    requires condition { IsBelow g.old.free c }
+    requires condition { IsSignal g.old (signal_of c.signal) }
     requires left { IsSignal g.old (signal_of a.signal) }
     requires right { IsSignal g.old (signal_of b.signal) }
-    ensures signal { IfOk result (λ p. BuildsSignal g.old (choice_gates (sort_width names.now.symbols (joined_sort a.sort b.sort)) c (signal_of a.signal) (signal_of b.signal) g.old) g.new p.signal) }
+    ensures signal { IfOk result (λ p. BuildsSignal g.old (choice_gates (sort_width names.now.symbols (joined_sort a.sort b.sort)) (literal_in (signal_of c.signal)) (signal_of a.signal) (signal_of b.signal) g.old) g.new p.signal) }
     ensures sort { IfOk result (λ p. p.sort ≡ joined_sort a.sort b.sort) }
 {
-    let width = sort_width(names.symbols, joined_sort(a.sort, b.sort));
-    let signal = choice(alloc, g, width, c, a.signal, b.signal)?;
-    Ok(Part {
-        signal,
-        sort: joined_sort(a.sort, b.sort),
-    })
+    let sort = joined_sort(a.sort, b.sort);
+    let width = sort_width(names.symbols, sort);
+    let l = c.signal.literal(g);
+    let signal = choice(alloc, g, width, l, a.signal, b.signal)?;
+    Ok(Part { signal, sort })
 }
 
 /// Whether what is asked for is one of the numbers from `lo` to `hi`, which have no one value.

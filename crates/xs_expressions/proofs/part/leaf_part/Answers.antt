@@ -1,15 +1,12 @@
-use Rattle.std.proofs.Common.{◌<◌, sym, subst, ap, arith}
-use Rattle.xs_lits.specs.Literal.{Literal}
 use Rattle.xs_scope.specs.ModelTree.{leaf_of}
-use Rattle.xs_encoding.specs.Meanings.{IsSignal, IsReady}
-use Rattle.xs_encoding.proofs.NameMeans.{leaf_usable}
-use Rattle.xs_signals.specs.Built.{signals_of}
-use Rattle.xs_expressions.specs.Naming.{model_of}
+use Rattle.xs_kinds.specs.Models.{kind_of_leaf}
+use Rattle.xs_types.specs.Answers.{told_sort}
+use Rattle.xs_expressions.specs.Naming.{model_of, names_in}
+use Rattle.xs_expressions.specs.Parts.{asked_of}
+use Rattle.xs_expressions.proofs.Nodes.{result_at}
 use Rattle.xs_expressions.proofs.part.leaf_part.Goals as goal
 
-pub returns-clause-usable : goal.returns-clause-usable
-returns-clause-usable c =
-    let ready : IsReady c.args.g.now = record { truth = c.constant.ensures.truth; least = omega (arith, c.constant.ensures.below, ap (λ (l : Literal). l.var) c.constant.ensures.literal) } in
-    subst (IsSignal c.args.g.now) (sym c.in_ok-signal.ensures.value)
-    (leaf_usable (model_of c.args.names.now) c.args.g.now ready (signals_of c.args.names.now.current.now.variables) (signals_of c.args.names.now.current.now.definitions)
-    c.requires.now.variables c.requires.now.definitions (leaf_of c.args.name))
+pub returns : goal.returns
+returns c =
+    result_at _ (asked_of c.args.asked) c.args.g.now _ ((names_in c.args.names.now).now (leaf_of c.args.name)) _ (told_sort (kind_of_leaf (model_of c.args.names.now) (leaf_of c.args.name))) _
+    c.in_ok-part.ensures.signal c.in_ok-part.ensures.sort c.answer.ensures
