@@ -132,7 +132,7 @@ module _ (n : Names) where
       let long : length (signals_of parts.values) ≡ suc (length parts.conditions) =
       subst (λ (r : Circuit × (List Literal × List Signal)). length r.1.1 ≡ suc (length r.1.0)) e (listed_long (names_in n) asked (branch_then d a bs) s tt)
       in
-      omega (arith, long, length-map signal_of parts.values)
+      omega (arith, long, length-map parts.values signal_of)
 
   pub case_built : n.symbols ≡ symbol_width (model_of n).symbols → (asked : TheAsked) (bs : Branches FlatLeaf) (s t u : Circuit) (parts : Parts) (p : Part) → BuildsBranches n asked bs s t parts
       → BuildsFirstOf n.symbols parts t u p → BuildsPart n asked (case_of bs) s u p

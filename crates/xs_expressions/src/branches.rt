@@ -125,11 +125,13 @@ fn chosen_of(
     requires long { length parts.now.values ≡ length parts.now.conditions + 1 }
     ensures { IfOk result (BuildsFirstOf names.now.symbols parts.now g.old g.new) }
 {
-    let sort = sort_or_truth(parts.sort);
-    let width = sort_width(names.symbols, sort);
+    let width = sort_width(names.symbols, sort_or_truth(parts.sort));
     let (conditions, values) = (parts.conditions.as_slice(), parts.values.as_slice());
     let signal = choices(alloc, g, width, conditions, values)?;
-    Ok(Part { signal, sort })
+    Ok(Part {
+        signal,
+        sort: sort_or_truth(parts.sort),
+    })
 }
 
 /// What stands for the value that a case without branches lacks.

@@ -225,10 +225,13 @@ pub fn negated_part(
     requires usable { IsSignal g.old (signal_of a.signal) }
     ensures { IfOk result (Answers (asked_of asked.entry) g.old (as_word (negate_gates (word_in (signal_of a.signal)) (sort_width names.now.symbols (negative_sort a.sort)) g.old)) (negative_sort a.sort) g.new) }
 {
-    let sort = negative(kept(a.sort)).sort;
-    let width = sort_width(names.symbols, sort);
+    let width = sort_width(names.symbols, negative(kept(a.sort)).sort);
     let signal = negated(alloc, g, width, a.signal)?;
-    answer(alloc, g, asked, Part { signal, sort })
+    let part = Part {
+        signal,
+        sort: negative(kept(a.sort)).sort,
+    };
+    answer(alloc, g, asked, part)
 }
 
 /// An operator on two values.
@@ -247,10 +250,16 @@ pub fn applied_part(
     requires right { IsSignal g.old (signal_of b.signal) }
     ensures { IfOk result (Answers (asked_of asked.entry) g.old (operator_gates op (sort_width names.now.symbols (operation_sort op a.sort b.sort)) (signal_of a.signal) (signal_of b.signal) g.old) (operation_sort op a.sort b.sort) g.new) }
 {
-    let sort = operation(false, op, kept(a.sort), kept(b.sort)).sort;
-    let width = sort_width(names.symbols, sort);
+    let width = sort_width(
+        names.symbols,
+        operation(false, op, kept(a.sort), kept(b.sort)).sort,
+    );
     let signal = operator(alloc, g, op, width, a.signal, b.signal)?;
-    answer(alloc, g, asked, Part { signal, sort })
+    let part = Part {
+        signal,
+        sort: operation(false, op, kept(a.sort), kept(b.sort)).sort,
+    };
+    answer(alloc, g, asked, part)
 }
 
 /// Whether one of two is TRUE.
@@ -299,11 +308,13 @@ pub fn chosen_part(
     ensures signal { IfOk result (λ p. BuildsSignal g.old (choice_gates (sort_width names.now.symbols (joined_sort a.sort b.sort)) (literal_in (signal_of c.signal)) (signal_of a.signal) (signal_of b.signal) g.old) g.new p.signal) }
     ensures sort { IfOk result (λ p. p.sort ≡ joined_sort a.sort b.sort) }
 {
-    let sort = joined_sort(a.sort, b.sort);
-    let width = sort_width(names.symbols, sort);
+    let width = sort_width(names.symbols, joined_sort(a.sort, b.sort));
     let l = c.signal.literal(g);
     let signal = choice(alloc, g, width, l, a.signal, b.signal)?;
-    Ok(Part { signal, sort })
+    Ok(Part {
+        signal,
+        sort: joined_sort(a.sort, b.sort),
+    })
 }
 
 /// Whether what is asked for is one of the numbers from `lo` to `hi`, which have no one value.

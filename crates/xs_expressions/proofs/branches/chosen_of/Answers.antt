@@ -10,9 +10,9 @@ returns c = record {
   grows = c.in_ok-signal.ensures.grows;
   right = λ long. (
     subst (λ k. chosen_gates k c.args.parts.now.conditions (signals_of c.args.parts.now.values) c.args.g.now ≡ (c.choices.new.g, signal_of c.in_ok-signal.signal))
-        (c.sort_width-width.ensures.value ∙ ap (sort_width c.args.names.now.symbols) c.sort_or_truth-sort.ensures)
-        (subst (λ x. chosen_gates c.sort_width-width.result x (signals_of c.args.parts.now.values) c.args.g.now ≡ (c.choices.new.g, signal_of c.in_ok-signal.signal)) c.as_slice.ensures
-        (subst (λ x. chosen_gates c.sort_width-width.result c.as_slice.result.now (signals_of x) c.args.g.now ≡ (c.choices.new.g, signal_of c.in_ok-signal.signal)) c.as_slice-2.ensures c.in_ok-signal.ensures.exact)),
-    c.sort_or_truth-sort.ensures,
+        (c.sort_width-width.ensures.value ∙ ap (sort_width c.args.names.now.symbols) c.sort_or_truth.ensures)
+        (subst (λ x. chosen_gates c.sort_width-width.result x (signals_of c.args.parts.now.values) c.args.g.now ≡ (c.choices.new.g, signal_of c.in_ok-signal.signal)) c.as_slice-conditions.ensures
+        (subst (λ x. chosen_gates c.sort_width-width.result c.as_slice-conditions.result.now (signals_of x) c.args.g.now ≡ (c.choices.new.g, signal_of c.in_ok-signal.signal)) c.as_slice-values.ensures c.in_ok-signal.ensures.exact)),
+    c.sort_or_truth-2.ensures,
   );
 }
