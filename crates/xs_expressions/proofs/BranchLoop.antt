@@ -9,7 +9,7 @@ use Rattle.xs_tree.specs.declared.expr.Expr.{Expr}
 use Rattle.xs_flattening.specs.Flat.{FlatLeaf}
 use Rattle.xs_scope.specs.declared.model.Flat.{Flat}
 use Rattle.xs_scope.specs.ModelTree.{leaf_of, flat_tree}
-use Rattle.xs_kinds.specs.Judged.{Kind, judge_conditions, judge_values, broken_in, kinds_in}
+use Rattle.xs_kinds.specs.Judged.{judge_conditions, judge_values, broken_in, kinds_in}
 use Rattle.xs_kinds.specs.Models.{judged_in, kind_of_leaf}
 use Rattle.xs_kinds.proofs.Parts.{none_first, none_second}
 use Rattle.xs_lits.specs.Literal.{Literal}
@@ -21,8 +21,6 @@ use Rattle.xs_encoding.specs.Signals.{Signal, literal_in}
 use Rattle.xs_encoding.specs.Expressions.{Asked as TheAsked, its_value, whether_has, encoded}
 use Rattle.xs_encoding.specs.Meanings.{IsSignal}
 use Rattle.xs_encoding.proofs.NameMeans.{each_joined}
-use Rattle.xs_types.specs.Answers.{told_sort}
-use Rattle.xs_types.specs.declared.sort.Sort.{Sort}
 use Rattle.xs_signals.specs.Built.{signal_of, signals_of}
 use Rattle.xs_signals.proofs.ChoiceLoop.{usable_later}
 use Rattle.xs_expressions.specs.Naming.{model_of, names_in}

@@ -1,7 +1,6 @@
 -- The members of a set, one after another.
-use Rattle.std.proofs.Common.{◌≡◌, ℕ, ◌+◌, ◌<◌, ◌≤◌, false, List, [], ◌∷◌, length, get_or, drop, refl, sym, ◌∙◌, ap, subst, arith}
+use Rattle.std.proofs.Common.{◌≡◌, ℕ, ◌+◌, ◌<◌, ◌≤◌, false, List, [], ◌∷◌, length, get_or, drop, sym, ◌∙◌, ap, subst, arith}
 use Rattle.std.proofs.lemmas.List.{drop_more, drop_all}
-use Rattle.xs_tree.specs.Trace.{Each}
 use Rattle.xs_tree.specs.Tree.{Tree, Trees, no_tree, tree_then}
 use Rattle.xs_tree.specs.Written.{trees_of}
 use Rattle.xs_tree.specs.Leaves.{trees_map}
@@ -19,7 +18,7 @@ use Rattle.xs_gates.specs.Gates.{constant_lit, or_gate}
 use Rattle.xs_kinds.specs.Intervals.{Interval}
 use Rattle.xs_encoding.specs.Widths.{word_width, symbol_interval}
 use Rattle.xs_encoding.specs.Signals.{literal_in}
-use Rattle.xs_encoding.specs.Expressions.{Asked as TheAsked, its_value, whether_has, encoded, encoded_members}
+use Rattle.xs_encoding.specs.Expressions.{Asked as TheAsked, its_value, whether_has, encoded_members}
 use Rattle.xs_encoding.specs.Meanings.{IsSignal}
 use Rattle.xs_encoding.specs.Laws.{IsAskedIn}
 use Rattle.xs_signals.specs.declared.signal.Signal.{Signal as Built}
@@ -29,7 +28,7 @@ use Rattle.xs_expressions.specs.declared.names.Names.{Names}
 use Rattle.xs_expressions.specs.declared.part.Asked.{Asked}
 use Rattle.xs_expressions.specs.declared.part.Asked.TheVariants.{ItsValue, WhetherHas}
 use Rattle.xs_expressions.specs.declared.part.Part.{Part}
-use Rattle.xs_expressions.specs.Naming.{model_of, names_in, IsCopied, IsNamed, moved}
+use Rattle.xs_expressions.specs.Naming.{model_of, names_in, IsNamed, moved}
 use Rattle.xs_expressions.specs.Parts.{asked_of, IsRight, AreRight, BuildsPart, BuildsSome, BuildsMembers}
 
 -- ---- what may be used may be used later

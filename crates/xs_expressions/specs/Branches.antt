@@ -1,7 +1,7 @@
 -- The branches of a case, in two passes: the conditions and values in written order, and then the choices.
 use Rattle.std.specs.Prelude.{◌≡◌, ℕ, ◌≤◌, ◌+◌, Bool, false, Option, Some, None, List, [], ◌∷◌, ◌++◌, length}
 use Rattle.xs_tree.specs.Trace.{Each}
-use Rattle.xs_tree.specs.Tree.{Tree, Branches, no_branch, branch_then}
+use Rattle.xs_tree.specs.Tree.{Branches, no_branch, branch_then}
 use Rattle.xs_flattening.specs.Flat.{FlatLeaf, FlatModel}
 use Rattle.xs_kinds.specs.Judged.{Kind, judge_conditions, judge_values, broken_in, kinds_in}
 use Rattle.xs_kinds.specs.Models.{kind_of_leaf}

@@ -8,7 +8,7 @@ use Rattle.xs_kinds.specs.Intervals.{Interval}
 use Rattle.xs_encoding.specs.Widths.{word_width}
 use Rattle.xs_types.specs.declared.sort.Sort.{Sort}
 use Rattle.xs_types.specs.declared.sort.Class.{Class}
-use Rattle.xs_types.specs.declared.sort.Class.TheVariants.{Truth, Number, Symbol}
+use Rattle.xs_types.specs.declared.sort.Class.TheVariants.{Number}
 
 -- the bits of the word of any of so many symbols
 abbrev pub symbols_width : ℕ → ℕ

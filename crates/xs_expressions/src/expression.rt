@@ -12,8 +12,8 @@ ghost use Rattle.xs_expressions.specs.Branches.{BuildsBranches};
 use crate::branches::{Parts, first_of, no_parts, with_condition, with_value};
 use crate::names::Names;
 use crate::part::{
-    Asked, Form, Part, answer, applied_part, as_truth, chosen_part, form_of, leaf_part, negated_part,
-    not_part, number_part, or_part, span_part, truth, truth_part, union_part,
+    Asked, Form, Part, answer, applied_part, as_truth, chosen_part, form_of, leaf_part,
+    negated_part, not_part, number_part, or_part, span_part, truth, truth_part, union_part,
 };
 use std::alloc::Global;
 use xs_flat::Flat;

@@ -177,12 +177,7 @@ pub fn leaf_part(
 }
 
 /// The value of a name.
-fn named_part(
-    alloc: Global,
-    g: &Gates,
-    names: &Names<'_>,
-    name: Flat,
-) -> Result<Part, OutOfMemory>
+fn named_part(alloc: Global, g: &Gates, names: &Names<'_>, name: Flat) -> Result<Part, OutOfMemory>
     requires { IsNamed g.now names.now }
     ensures signal { IfOk result (λ p. signal_of p.signal ≡ (names_in names.now).now (leaf_of name)) }
     ensures usable { IfOk result (λ p. IsSignal g.now (signal_of p.signal)) }

@@ -1,4 +1,4 @@
-use Rattle.std.proofs.Common.{◌≡◌, ◌≤◌, ◌<◌, ◌+◌, ◌-◌, ◌*◌, rules, to_z, of_z, w64, IfOk, refl, sym, ◌∙◌, ap, subst, arith, length}
+use Rattle.std.proofs.Common.{◌≡◌, ◌≤◌, ◌<◌, ◌+◌, ◌-◌, ◌*◌, rules, to_z, of_z, w64, IfOk, refl, sym, ◌∙◌, subst, arith, length}
 use Rattle.std.proofs.lemmas.Int.{to_z-of_z}
 use Rattle.xs_tree.specs.Written.{trees_of, branches_of}
 use Rattle.xs_tree.specs.Leaves.{trees_map, branches_map}
@@ -227,12 +227,12 @@ some_member-loop-member-init t c =
 pub some_member-expression-requires : goal.some_member-expression-requires
 some_member-expression-requires t c =
     let smaller : 2 * nodes c.member-item.result < 2 * members_nodes c.args.members.now + 1 = of_members c.args.members.now c.loop-member.member-index c.member-item.result c.loop-member-test.true c.member-item.is in (
-  search (rules, smaller),
-  (
-    named_later c.args.names.now c.args.g.now c.loop-member.g c.loop-member.invariant.grows c.requires.named,
-    asked_later c.args.asked c.args.g.now c.loop-member.g c.loop-member.invariant.grows c.requires.asked,
-  ),
-)
+      search (rules, smaller),
+      (
+        named_later c.args.names.now c.args.g.now c.loop-member.g c.loop-member.invariant.grows c.requires.named,
+        asked_later c.args.asked c.args.g.now c.loop-member.g c.loop-member.invariant.grows c.requires.asked,
+      ),
+    )
 
 pub some_member-or_part-requires-clause-left : goal.some_member-or_part-requires-clause-left
 some_member-or_part-requires-clause-left t c = omega (arith, c.loop-member.invariant.below, c.in_ok-here.ensures.grows)
@@ -283,17 +283,17 @@ each_branch-loop-condition-preserved t c =
     let count : (c.loop-condition.left - 1) + (c.loop-condition.condition-index + 1) ≡ length c.args.branches.now = omega (arith, c.loop-condition.invariant.1, c.loop-condition-test.true) in
     elim c.if-left-gt0.branch [
       | each_branch-then-left-gt0+in_ok-c+in_ok-parts w ↦ (
-          branches_step c.args.names.now (asked_of c.args.asked) c.args.branches.now c.loop-condition.condition-index c.loop-condition-item.result c.args.g.now c.loop-condition.g w.expression.new.g c.if-left-gt0.g c.expression-in-loop-condition.new.g
-              c.loop-condition.parts c.if-left-gt0.parts c.in_ok-parts-2.parts w.in_ok-c.c c.in_ok-value.value c.loop-condition-test.true c.loop-condition-item.is (omega (arith, count, w.if-left-gt0.true)) c.loop-condition.invariant.0
-              w.in_ok-c.ensures w.with_condition.ensures.below (w.parts-is ∙ w.in_ok-parts.ensures.made) w.g-is c.in_ok-value.ensures c.in_ok-parts-2.ensures.conditions c.in_ok-parts-2.ensures.values c.in_ok-parts-2.ensures.sort,
-          count,
-        )
+        branches_step c.args.names.now (asked_of c.args.asked) c.args.branches.now c.loop-condition.condition-index c.loop-condition-item.result c.args.g.now c.loop-condition.g w.expression.new.g c.if-left-gt0.g c.expression-in-loop-condition.new.g
+            c.loop-condition.parts c.if-left-gt0.parts c.in_ok-parts-2.parts w.in_ok-c.c c.in_ok-value.value c.loop-condition-test.true c.loop-condition-item.is (omega (arith, count, w.if-left-gt0.true)) c.loop-condition.invariant.0
+            w.in_ok-c.ensures w.with_condition.ensures.below (w.parts-is ∙ w.in_ok-parts.ensures.made) w.g-is c.in_ok-value.ensures c.in_ok-parts-2.ensures.conditions c.in_ok-parts-2.ensures.values c.in_ok-parts-2.ensures.sort,
+        count,
+      )
       | each_branch-else-left-gt0 w ↦ (
-          branches_last c.args.names.now (asked_of c.args.asked) c.args.branches.now c.loop-condition.condition-index c.loop-condition-item.result c.args.g.now c.loop-condition.g c.if-left-gt0.g c.expression-in-loop-condition.new.g
-              c.loop-condition.parts c.if-left-gt0.parts c.in_ok-parts-2.parts c.in_ok-value.value c.loop-condition-test.true c.loop-condition-item.is (omega (arith, count, w.if-left-gt0.false)) c.loop-condition.invariant.0
-              w.parts-is w.g-is c.in_ok-value.ensures c.in_ok-parts-2.ensures.conditions c.in_ok-parts-2.ensures.values c.in_ok-parts-2.ensures.sort,
-          count,
-        )
+        branches_last c.args.names.now (asked_of c.args.asked) c.args.branches.now c.loop-condition.condition-index c.loop-condition-item.result c.args.g.now c.loop-condition.g c.if-left-gt0.g c.expression-in-loop-condition.new.g
+            c.loop-condition.parts c.if-left-gt0.parts c.in_ok-parts-2.parts c.in_ok-value.value c.loop-condition-test.true c.loop-condition-item.is (omega (arith, count, w.if-left-gt0.false)) c.loop-condition.invariant.0
+            w.parts-is w.g-is c.in_ok-value.ensures c.in_ok-parts-2.ensures.conditions c.in_ok-parts-2.ensures.values c.in_ok-parts-2.ensures.sort,
+        count,
+      )
     ]
 
 pub each_branch-returns : goal.each_branch-returns

@@ -1,4 +1,4 @@
-use Rattle.std.proofs.Common.{◌<◌, sym, subst, ap, arith}
+use Rattle.std.proofs.Common.{sym, subst, ap, arith}
 use Rattle.xs_lits.specs.Literal.{Literal}
 use Rattle.xs_scope.specs.ModelTree.{leaf_of}
 use Rattle.xs_encoding.specs.Meanings.{IsSignal, IsReady}
