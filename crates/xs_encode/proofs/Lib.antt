@@ -1,0 +1,4 @@
+pub mod DomainLaws
+pub mod ModelParts
+pub mod ReadLaws
+pub mod LoopLaws

@@ -1,7 +1,18 @@
 //! Which variables of the clause lists are the bits of a model's variables.
 
+ghost use Rattle.std.specs.Prelude.{◌≡◌, ◌≤◌, ◌<◌, ◌+◌, ◌^◌, pos, None, Some, map, IfOk, OnOk};
+ghost use Rattle.xs_kinds.specs.Costs.{width_of, width_in};
+ghost use Rattle.xs_types.specs.Types.{widened, spread};
+ghost use Rattle.xs_scope.specs.ModelTree.{model_tree, role_of};
+ghost use Rattle.xs_encoding.specs.Widths.{symbol_width};
+ghost use Rattle.xs_encoding.specs.Encodable.{IsEncodable};
+ghost use Rattle.xs_encoding.specs.Layout.{literals_from, with_sign, number_signal, place_of, width_as_input, variable_signals, input_bits, input_place, next_place};
+ghost use Rattle.xs_signals.specs.Built.{signal_of, signals_of};
+ghost use Rattle.xs_encode.specs.Domains.{domain_interval, domain_width, value_width, domain_signal, places_after};
+
 use std::alloc::Global;
-use xs_arith::word::fitted;
+use std::marker::Model;
+use xs_arith::word::{Word, fitted};
 use xs_expressions::names::SignalList;
 use xs_expressions::width::word_width;
 use xs_flat::Role;
@@ -17,8 +28,20 @@ pub(crate) struct Ends {
     pub hi: i64,
 }
 
+impl Model for Ends {
+    ghost use Rattle.xs_kinds.specs.Intervals.{Interval};
+
+    ghost Value = { Interval };
+
+    ghost view = { λ e. record { lo = e.lo; hi = e.hi } };
+
+    ghost inverse = { λ e. record { lo = e.lo; hi = e.hi } };
+}
+
 /// The least and the greatest number of a domain, where symbols are their numbers. Truth values have none.
-pub(crate) fn ends_of(domain: &Domain) -> Option<Ends> {
+pub(crate) fn ends_of(domain: &Domain) -> Option<Ends>
+    ensures { result ≡ domain_interval domain.now }
+{
     match domain {
         Domain::Boolean => None,
         Domain::Range { lo, hi } => Some(Ends { lo: *lo, hi: *hi }),
@@ -27,7 +50,9 @@ pub(crate) fn ends_of(domain: &Domain) -> Option<Ends> {
     }
 }
 
-fn number_ends(numbers: &[i64]) -> Option<Ends> {
+fn number_ends(numbers: &[i64]) -> Option<Ends>
+    ensures { result ≡ spread None numbers.now }
+{
     let mut ends = None;
     for n in numbers {
         ends = Some(widened(ends, *n));
@@ -35,7 +60,9 @@ fn number_ends(numbers: &[i64]) -> Option<Ends> {
     ends
 }
 
-fn symbol_ends(symbols: &[u32]) -> Option<Ends> {
+fn symbol_ends(symbols: &[u32]) -> Option<Ends>
+    ensures { result ≡ spread None (map pos symbols.now) }
+{
     let mut ends = None;
     for symbol in symbols {
         ends = Some(widened(ends, *symbol as i64));
@@ -44,7 +71,9 @@ fn symbol_ends(symbols: &[u32]) -> Option<Ends> {
 }
 
 /// The ends with one more number.
-fn widened(ends: Option<Ends>, n: i64) -> Ends {
+fn widened(ends: Option<Ends>, n: i64) -> Ends
+    ensures { result ≡ widened ends n }
+{
     match ends {
         Some(ends) => Ends {
             lo: ends.lo.min(n),
@@ -55,14 +84,18 @@ fn widened(ends: Option<Ends>, n: i64) -> Ends {
 }
 
 /// The bits of a variable with this domain.
-pub(crate) fn domain_width(domain: &Domain) -> u32 {
+pub(crate) fn domain_width(domain: &Domain) -> u32
+    ensures { result ≡ domain_width domain.now }
+{
     match domain {
         Domain::Boolean => 1,
         _ => ends_width(ends_of(domain)),
     }
 }
 
-fn ends_width(ends: Option<Ends>) -> u32 {
+fn ends_width(ends: Option<Ends>) -> u32
+    ensures { result ≡ width_in ends }
+{
     match ends {
         Some(ends) => width(ends.lo, ends.hi),
         None => 0,
@@ -78,7 +111,9 @@ pub(crate) struct Places {
 
 impl Places {
     /// Where the bits of a variable of this role begin.
-    pub(crate) fn of(self, role: Role) -> u64 {
+    pub(crate) fn of(self, role: Role) -> u64
+        ensures { result ≡ place_of (role_of role) self.state self.input }
+    {
         match role {
             Role::State | Role::Frozen => self.state,
             Role::Input => self.input,
@@ -86,7 +121,11 @@ impl Places {
     }
 
     /// The places after a variable of so many bits.
-    pub(crate) fn after(self, role: Role, bits: u32) -> Places {
+    pub(crate) fn after(self, role: Role, bits: u32) -> Places
+        requires state { self.state < 2 ^ 32 }
+        requires input { self.input < 2 ^ 32 }
+        ensures { result ≡ places_after self (role_of role) bits }
+    {
         match role {
             Role::State | Role::Frozen => Places {
                 state: self.state + bits as u64,
@@ -98,21 +137,53 @@ impl Places {
             },
         }
     }
-}
 
-/// The bits of a model's inputs.
-pub(crate) fn input_bits(t: &Typed) -> u64 {
-    let mut bits = 0;
-    for (i, variable) in t.model().variables.as_slice().iter().enumerate() {
-        if matches!(variable.role, Role::Input) {
-            bits += domain_width(t.domain(i)) as u64;
+    /// The places are those of variables that there may be.
+    fn check(self) -> Result<(), OutOfMemory>
+        ensures state { OnOk result (self.state < 2 ^ 32) }
+        ensures input { OnOk result (self.input < 2 ^ 32) }
+    {
+        if self.state < 4294967296 && self.input < 4294967296 {
+            Ok(())
+        } else {
+            Err(OutOfMemory)
         }
     }
-    bits
+}
+
+/// The bits of a model's inputs; of more than 2^31 none.
+pub(crate) fn input_bits(t: &Typed) -> Result<u32, OutOfMemory>
+    requires { IsEncodable (model_tree t.now.model) }
+    ensures bits { IfOk result (λ n. n ≡ input_bits (model_tree t.now.model)) }
+    ensures few { IfOk result (λ n. n ≤ 2 ^ 31) }
+{
+    let mut bits: u64 = 0;
+    for i in 0..t.model().variables.len() {
+        let variable = t.model().variables.at(i);
+        bits += width_as_input(variable.role, domain_width(t.domain(i)));
+        if bits > 2147483648 {
+            return Err(OutOfMemory);
+        }
+    }
+    Ok(bits as u32)
+}
+
+/// The bits of a variable of this role among those of the inputs.
+fn width_as_input(role: Role, bits: u32) -> u64
+    ensures value { result ≡ width_as_input (role_of role) bits }
+    ensures few { result ≤ bits }
+{
+    match role {
+        Role::State | Role::Frozen => 0,
+        Role::Input => bits as u64,
+    }
 }
 
 /// The places of the state now and of the inputs.
-pub(crate) fn places_now(t: &Typed) -> Places {
+pub(crate) fn places_now(t: &Typed) -> Places
+    ensures state { result.state ≡ 2 }
+    ensures input { result.input ≡ input_place (model_tree t.now.model) }
+{
     Places {
         state: 2,
         input: 2 * t.bits() as u64 + 2,
@@ -120,7 +191,10 @@ pub(crate) fn places_now(t: &Typed) -> Places {
 }
 
 /// The places of the next state and of the inputs.
-pub(crate) fn places_next(t: &Typed) -> Places {
+pub(crate) fn places_next(t: &Typed) -> Places
+    ensures state { result.state ≡ next_place (model_tree t.now.model) }
+    ensures input { result.input ≡ input_place (model_tree t.now.model) }
+{
     let bits = t.bits() as u64;
     Places {
         state: bits + 2,
@@ -134,13 +208,22 @@ pub(crate) fn variable_signals(
     t: &Typed,
     first: Places,
     symbols: u32,
-) -> Result<SignalList, OutOfMemory> {
+) -> Result<SignalList, OutOfMemory>
+    requires encodable { IsEncodable (model_tree t.now.model) }
+    requires symbols { symbols ≡ symbol_width (model_tree t.now.model).symbols }
+    requires state { 1 ≤ first.state }
+    requires input { 1 ≤ first.input }
+    ensures { IfOk result (λ es. signals_of es ≡ variable_signals (model_tree t.now.model).symbols first.state first.input (model_tree t.now.model).variables) }
+{
     let mut signals = Items::new(alloc);
     let mut places = first;
-    for (i, variable) in t.model().variables.as_slice().iter().enumerate() {
+    for i in 0..t.model().variables.len() {
+        places.check()?;
+        let role = t.model().variables.at(i).role;
         let domain = t.domain(i);
-        signals.push(variable_signal(alloc, domain, places.of(variable.role), symbols)?)?;
-        places = places.after(variable.role, domain_width(domain));
+        let signal = variable_signal(alloc, domain, places.of(role), symbols)?;
+        signals.push(signal)?;
+        places = places.after(role, domain_width(domain));
     }
     Ok(signals)
 }
@@ -151,7 +234,11 @@ fn variable_signal(
     domain: &Domain,
     place: u64,
     symbols: u32,
-) -> Result<Signal, OutOfMemory> {
+) -> Result<Signal, OutOfMemory>
+    requires least { 1 ≤ place }
+    requires greatest { place < 2 ^ 32 }
+    ensures { IfOk result (λ e. signal_of e ≡ domain_signal symbols domain.now place) }
+{
     match ends_of(domain) {
         Some(ends) => number_signal(alloc, ends, place, value_width(domain, ends, symbols)),
         None => Ok(Signal::Bit(Lit::new(place, false))),
@@ -159,7 +246,9 @@ fn variable_signal(
 }
 
 /// The width of the word of a domain's values.
-fn value_width(domain: &Domain, ends: Ends, symbols: u32) -> u32 {
+fn value_width(domain: &Domain, ends: Ends, symbols: u32) -> u32
+    ensures { result ≡ value_width symbols domain.now ends }
+{
     match domain {
         Domain::Symbols(_) => symbols,
         _ => word_width(ends.lo, ends.hi),
@@ -167,14 +256,37 @@ fn value_width(domain: &Domain, ends: Ends, symbols: u32) -> u32 {
 }
 
 /// The word of numbers between these ends whose bits begin at `place`, at that width.
-fn number_signal(alloc: Global, ends: Ends, place: u64, wide: u32) -> Result<Signal, OutOfMemory> {
+fn number_signal(alloc: Global, ends: Ends, place: u64, wide: u32) -> Result<Signal, OutOfMemory>
+    requires least { 1 ≤ place }
+    requires greatest { place < 2 ^ 32 }
+    ensures { IfOk result (λ e. signal_of e ≡ number_signal wide (Some ends) place) }
+{
+    let bits = literals_from(alloc, width(ends.lo, ends.hi), place)?;
+    let word = with_sign(ends.lo, bits)?;
+    let fitted = fitted(alloc, &word, wide)?;
+    Ok(Signal::Word(fitted))
+}
+
+/// So many variables from one on.
+fn literals_from(alloc: Global, count: u32, place: u64) -> Result<Word, OutOfMemory>
+    requires least { 1 ≤ place }
+    requires greatest { place < 2 ^ 32 }
+    ensures { IfOk result (λ w. w ≡ literals_from count place) }
+{
     let mut word = Items::new(alloc);
-    for i in 0..width(ends.lo, ends.hi) {
+    for i in 0..count {
         word.push(Lit::new(place + i as u64, false))?;
     }
-    // Numbers that are never below 0 have no bit for the sign.
-    if ends.lo >= 0 {
+    Ok(word)
+}
+
+/// Numbers that are never below 0 have no bit for the sign.
+fn with_sign(lo: i64, word: Word) -> Result<Word, OutOfMemory>
+    ensures { IfOk result (λ w. w ≡ with_sign lo word) }
+{
+    let mut word = word;
+    if lo >= 0 {
         word.push(Lit::new(1, true))?;
     }
-    Ok(Signal::Word(fitted(alloc, &word, wide)?))
+    Ok(word)
 }
