@@ -1,5 +1,5 @@
 -- What a variable of a domain becomes, as the domain tells it: a symbol by its number.
-use Rattle.std.specs.Prelude.{ℕ, ◌+◌, ℤ, pos, false, Option, Some, None, List, [], ◌∷◌, map}
+use Rattle.std.specs.Prelude.{ℕ, ◌+◌, ◌^◌, min, ℤ, pos, false, Option, Some, None, List, [], ◌∷◌, map}
 use Rattle.xs_value.specs.declared.domain.Domain.{Domain}
 use Rattle.xs_value.specs.declared.domain.Domain.TheVariants as domain
 use Rattle.xs_tree.specs.Scope.{Role}
@@ -46,6 +46,10 @@ domain_signal symbols d n = ends_signal symbols d n (domain_interval d)
 -- where the bits of the next variables begin, after one of this role and width
 abbrev pub places_after : Places → Role → ℕ → Places
 places_after p r n = record { state = p.state + role_width r n; input = p.input + width_as_input r n }
+
+-- a place, where all that are past those of any variable are one
+abbrev pub capped : ℕ → ℕ
+capped n = min n (2 ^ 62)
 
 -- whether the literal is TRUE or the signal has the value of one of the words
 unfoldable pub some_gates : Signal → List (List Literal) → Literal → Circuit → Circuit × Literal

@@ -1,16 +1,24 @@
 -- Values as the code has them beside those of the definitions, and their bits in an assignment.
-use Rattle.std.specs.Prelude.{◌≡◌, ◌⊎◌, ℕ, ◌+◌, ◌*◌, ◌≤◌, ◌<◌, Bool, false, Option, Some, None, unwrap_or, List, [], ◌∷◌, slice_index_or}
+use Rattle.std.specs.Prelude.{◌≡◌, ◌≢◌, ℕ, zero, suc, ◌+◌, ◌*◌, ◌≤◌, ◌<◌, ◌^◌, nat_lt, nat_eq, not, ◌&&◌, min, ℤ, pos, negsuc, neg_ℤ, ◌+ℤ◌, Bool, true, false, Option, Some, None, unwrap_or, List, [], ◌∷◌, slice_index_or, if◌then◌else◌}
 use Rattle.xs_tree.specs.ProgramTree.{Text}
 use Rattle.xs_tree.specs.Values as told
 use Rattle.xs_value.specs.declared.value.Value.{Value}
+use Rattle.xs_value.specs.declared.value.Value.TheVariants as value
+use Rattle.xs_value.specs.declared.domain.Domain.{Domain}
+use Rattle.xs_value.specs.declared.domain.Domain.TheVariants as domain
 use Rattle.xs_flattening.specs.Flat.{FlatModel}
 use Rattle.xs_flattening.specs.FlatTrace.{AreInDomains}
-use Rattle.xs_types.specs.Types.{StandsFor}
-use Rattle.xs_kinds.specs.Costs.{state_bits}
+use Rattle.xs_types.specs.Types.{StandsFor, variable_domain}
+use Rattle.xs_scope.specs.declared.model.Variable.{Variable}
+use Rattle.xs_scope.specs.ModelTree.{role_of}
+use Rattle.xs_kinds.specs.Intervals.{Interval}
+use Rattle.xs_kinds.specs.Costs.{state_bits, role_width}
 use Rattle.xs_lits.specs.Assignment.{Assignment}
 use Rattle.xs_lits.specs.Models.{TotalAssignment}
 use Rattle.xs_system.specs.States.{Agrees}
-use Rattle.xs_encoding.specs.Layout.{input_bits, input_place}
+use Rattle.xs_encoding.specs.Inputs.{is_input}
+use Rattle.xs_encoding.specs.Layout.{input_bits, input_place, place_of, width_as_input}
+use Rattle.xs_encode.specs.Domains.{domain_interval, domain_width, capped}
 use Rattle.xs_encoding.specs.Bits.{state_of, inputs_of}
 
 -- each value stands for that of the definitions, a symbol by its number
@@ -47,3 +55,60 @@ Gives a n (b ∷ bs) = (slice_index_or a n None ≡ Some b) × Gives a (n + 1) b
 pub record IsFreeMoment (m : FlatModel) (a : Assignment) : Type 0 where
   pub state : AreFree a 2 (state_bits m)
   pub inputs : AreFree a (input_place m) (input_bits m)
+
+-- ---- values of bits
+
+-- the values of so many variables from n on
+abbrev pub bits_at : Assignment → ℕ → ℕ → List Bool
+bits_at a n zero = []
+bits_at a n (suc k) = values_in a n ∷ bits_at a (n + 1) k
+
+-- the value of the last bit, which is a sign where numbers have one
+abbrev pub last_digit : Bool → Bool → ℤ
+last_digit signed b = if b then (if signed then negsuc 0 else pos 1) else pos 0
+
+-- the number of bits in two's complement, or without a sign
+abbrev pub bits_number : Bool → List Bool → ℤ
+bits_number signed [] = pos 0
+bits_number signed (b ∷ []) = last_digit signed b
+bits_number signed (b ∷ c ∷ bs) = (if b then pos 1 else pos 0) +ℤ (bits_number signed (c ∷ bs) +ℤ bits_number signed (c ∷ bs))
+
+-- the numbers of an interval go below 0
+abbrev pub is_below : ℤ → Bool
+is_below (pos n) = false
+is_below (negsuc n) = true
+
+abbrev pub has_sign : Option Interval → Bool
+has_sign None = false
+has_sign (Some i) = is_below i.lo
+
+-- the number of a symbol, of which there are no more than 2 ^ 32
+abbrev pub as_symbol : ℤ → ℕ
+as_symbol (pos n) = if nat_lt n 4294967296 then n else 0
+as_symbol (negsuc n) = 0
+
+abbrev pub is_nonzero : ℤ → Bool
+is_nonzero (pos n) = not (nat_eq n 0)
+is_nonzero (negsuc n) = true
+
+-- the value of a domain that has this number
+abbrev pub value_of : Domain → ℤ → Value
+value_of domain.Boolean z = value.Bool (is_nonzero z)
+value_of (domain.Symbols is) z = value.Sym (as_symbol z)
+value_of d z = value.Num z
+
+-- the value of a domain whose bits begin at n
+abbrev pub domain_read : Domain → Assignment → ℕ → Value
+domain_read d a n = value_of d (bits_number (has_sign (domain_interval d)) (bits_at a n (min (domain_width d) 62)))
+
+-- the value of a domain's least number, and FALSE
+abbrev pub least_in : Domain → Option Interval → Value
+least_in d None = value.Bool false
+least_in d (Some i) = value_of d i.lo
+
+-- the values of variables whose bits begin at these places; those of inputs, where so asked, are the least
+abbrev pub values_read : List Text → Bool → Assignment → ℕ → ℕ → List Variable → List Value
+values_read symbols least a p q [] = []
+values_read symbols least a p q (x ∷ xs) =
+    (if least && is_input (role_of x.role) then least_in (variable_domain symbols x) (domain_interval (variable_domain symbols x)) else domain_read (variable_domain symbols x) a (place_of (role_of x.role) p q))
+    ∷ values_read symbols least a (capped (p + role_width (role_of x.role) (domain_width (variable_domain symbols x)))) (capped (q + width_as_input (role_of x.role) (domain_width (variable_domain symbols x)))) xs

@@ -8,7 +8,7 @@ ghost use Rattle.xs_encoding.specs.Widths.{symbol_width};
 ghost use Rattle.xs_encoding.specs.Encodable.{IsEncodable};
 ghost use Rattle.xs_encoding.specs.Layout.{literals_from, with_sign, number_signal, place_of, width_as_input, variable_signals, input_bits, input_place, next_place};
 ghost use Rattle.xs_signals.specs.Built.{signal_of, signals_of};
-ghost use Rattle.xs_encode.specs.Domains.{domain_interval, domain_width, value_width, domain_signal, places_after};
+ghost use Rattle.xs_encode.specs.Domains.{domain_interval, domain_width, value_width, domain_signal, places_after, capped};
 
 use std::alloc::Global;
 use std::marker::Model;
@@ -122,8 +122,8 @@ impl Places {
 
     /// The places after a variable of so many bits.
     pub(crate) fn after(self, role: Role, bits: u32) -> Places
-        requires state { self.state < 2 ^ 32 }
-        requires input { self.input < 2 ^ 32 }
+        requires state { self.state ≤ 2 ^ 62 }
+        requires input { self.input ≤ 2 ^ 62 }
         ensures { result ≡ places_after self (role_of role) bits }
     {
         match role {
@@ -135,6 +135,16 @@ impl Places {
                 state: self.state,
                 input: self.input + bits as u64,
             },
+        }
+    }
+
+    /// The same, where all places past those of any variable are one.
+    pub(crate) fn capped(self) -> Places
+        ensures { result ≡ record { state = capped self.state; input = capped self.input } }
+    {
+        Places {
+            state: self.state.min(4611686018427387904),
+            input: self.input.min(4611686018427387904),
         }
     }
 
@@ -151,7 +161,7 @@ impl Places {
     }
 }
 
-/// The bits of a model's inputs; of more than 2^31 none.
+/// The bits of a model's inputs. More than 2^31 are too many for any list.
 pub(crate) fn input_bits(t: &Typed) -> Result<u32, OutOfMemory>
     requires { IsEncodable (model_tree t.now.model) }
     ensures bits { IfOk result (λ n. n ≡ input_bits (model_tree t.now.model)) }
