@@ -1,13 +1,15 @@
 -- The literals of the history bits, and the counters of those that are true.
-use Rattle.std.proofs.Common.{◌≡◌, ℕ, zero, suc, ◌+◌, ◌-◌, ◌*◌, ◌≤◌, List, [], ◌∷◌, ◌++◌, length, map, refl, sym, ◌∙◌, ap, subst, arith, append_assoc, mul-le-mul}
+use Rattle.std.proofs.Common.{◌≡◌, ℕ, zero, suc, ◌+◌, ◌-◌, ◌*◌, ◌<◌, ◌≤◌, List, [], ◌∷◌, ◌++◌, length, map, refl, sym, ◌∙◌, ap, subst, arith, append_assoc, mul-le-mul, lt-ltb}
 use Rattle.std.proofs.lemmas.List.{append-nil}
 use Rattle.std.specs.List.{range_with_len}
 use Rattle.std.specs.Prelude.{slice_get, Some, nat_lt, if◌then◌else◌}
 use Rattle.xs_lits.specs.Literal.{Literal}
 use Rattle.xs_lits.specs.Models.{IsBelow}
+use Rattle.xs_gates.specs.Circuit.{Circuit}
+use Rattle.xs_arith.specs.Counts.{at_most_gates}
 use Rattle.xs_gates.specs.Meaning.{AllBelow}
-use Rattle.xs_encoding.specs.Signals.{Signal, literal_in}
-use Rattle.xs_encoding.specs.Lists.{signal_or_false}
+use Rattle.xs_encoding.specs.Signals.{Signal, literal_in, as_bit}
+use Rattle.xs_encoding.specs.Lists.{signal_or_false, asserted, asserted_signal, size_gates}
 use Rattle.xs_encode.specs.History.{literal_of}
 
 -- the literals of the numbers that are left begin with that of the next
@@ -33,3 +35,9 @@ below_end n (x ∷ w) l h k = (h.0, below_end n w l h.1 k)
 -- two numbers below a limit have no great product
 pub product_small : (a b n : ℕ) → a ≤ n → b ≤ n → a * b ≤ n * n
 product_small a b n h k = mul-le-mul h k
+
+-- the counters of more literals than the size
+pub few_is : (bits : List Literal) (size : ℕ) (s t u : Circuit) (l : Literal) → size < length bits → at_most_gates bits size s ≡ (t, l) → u ≡ record { clauses = t.clauses ++ (l ∷ []) ∷ []; free = t.free } → size_gates bits size s ≡ u
+unfolding asserted
+few_is bits size s t u l less counted is =
+    ap (λ b. if b then asserted_signal (as_bit (at_most_gates bits size s)) else s) (lt-ltb size (length bits) less) ∙ ap (λ (r : Circuit × Literal). asserted r.1 r.0) counted ∙ sym is

@@ -39,16 +39,20 @@ variables_usable m is s p q truth least placed es e =
     let ready : IsReady s = record { truth = truth; least = least } in
     subst (λ (xs : List Signal). Each (IsSignal s) xs) (sym e) (signals_below m.symbols is.symbols s ready m.variables (model_types m is) p q placed.state placed.inputs)
 
+abbrev made_copy : FlatModel → Bool → List Signal → List Signal → Circuit → Circuit × Copy
+made_copy m all xs ds t = (moment_gates m (the_copy xs ds) all t, the_copy xs ds)
+
+abbrev with_copy : Copy → Circuit → Circuit × Copy
+with_copy v t = (t, v)
+
 pub copy_is : (m : FlatModel) (all : Bool) (vs es : List Signal) (s t u : Circuit) (c : Copied) → es ≡ vs → BuildsDefinitions es s (definitions_gates m es all s) t c → Builds t (moment_gates m (copy_of c) all t) u
     → BuildsCopy s (copy_gates m vs all s) u c
 unfolding after
 copy_is m all vs es s t u c e defs made =
-    let whole = λ (r : Circuit × List Signal). (moment_gates m (the_copy es r.1) all r.0, the_copy es r.1) in
     record {
       exact =
-          sym (ap (λ xs. copy_gates m xs all s) e) ∙ ap whole defs.exact
-          ∙ sym (ap (λ xs. (moment_gates m (the_copy xs (signals_of c.definitions)) all t, the_copy xs (signals_of c.definitions))) defs.variables)
-          ∙ ap (λ v. (v, copy_of c)) made.exact;
+          sym (ap (λ xs. copy_gates m xs all s) e) ∙ ap (λ (r : Circuit × List Signal). made_copy m all es r.1 r.0) defs.exact
+          ∙ sym (ap (λ xs. made_copy m all xs (signals_of c.definitions) t) defs.variables) ∙ ap (with_copy (copy_of c)) made.exact;
       usable = copied_later c t u made.grows defs.usable;
       grows = omega (arith, defs.grows, made.grows);
     }

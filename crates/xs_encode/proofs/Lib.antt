@@ -6,3 +6,7 @@ pub mod ValueLaws
 pub mod ReadModels
 pub mod CopyLaws
 pub mod BadLaws
+pub mod NumberLaws
+pub mod SettingLaws
+pub mod SomeLaws
+pub mod ListLaws

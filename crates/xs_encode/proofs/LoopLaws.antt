@@ -13,17 +13,24 @@ use Rattle.xs_scope.specs.ModelTree.{variable_tree, model_tree, role_of}
 use Rattle.xs_kinds.specs.Costs.{declared_width, role_width}
 use Rattle.xs_types.specs.Types.{variable_domain}
 use Rattle.xs_gates.specs.Circuit.{Circuit, after, fold_gates}
-use Rattle.xs_gates.specs.Gates.{constant_lit}
+use Rattle.xs_gates.specs.Gates.{constant_lit, or_gate}
+use Rattle.xs_lits.specs.Literal.{Literal}
+use Rattle.xs_tree.specs.Tree.{Tree}
+use Rattle.xs_kinds.specs.Models.{judged_in}
+use Rattle.xs_expressions.specs.declared.names.Names.{Names}
+use Rattle.xs_expressions.specs.declared.part.Part.{Part}
+use Rattle.xs_expressions.specs.Naming.{model_of, names_in}
+use Rattle.xs_expressions.specs.Parts.{BuildsPart}
 use Rattle.xs_encoding.specs.Widths.{symbol_width}
-use Rattle.xs_encoding.specs.Signals.{Signal, bit}
+use Rattle.xs_encoding.specs.Signals.{Signal, bit, literal_in}
 use Rattle.xs_encoding.specs.Expressions.{its_value, Names as TheNames, encoded}
 use Rattle.xs_encoding.specs.Inputs.{is_input, reads_input}
 use Rattle.xs_encoding.specs.Layout.{width_as_input, input_width, place_of, variable_signal, variable_signals}
-use Rattle.xs_encoding.specs.Lists.{Copy, copy_of as the_copy, names_of, asserted_signal, definition_gates, formulas_gates, type_gates, domains_gates}
+use Rattle.xs_encoding.specs.Lists.{Copy, copy_of as the_copy, names_of, asserted, asserted_signal, definition_gates, formulas_gates, type_gates, domains_gates}
 use Rattle.xs_encoding.specs.Encodable.{IsEncodable}
 use Rattle.xs_signals.specs.declared.signal.Signal.{Signal as Built}
-use Rattle.xs_signals.specs.Built.{signal_of, signals_of, BuildsSignal}
-use Rattle.xs_encode.specs.Domains.{domain_width, domain_signal, domain_gates}
+use Rattle.xs_signals.specs.Built.{signal_of, signals_of, BuildsLiteral, BuildsSignal}
+use Rattle.xs_encode.specs.Domains.{domain_width, domain_signal, asserted_literal, domain_gates}
 use Rattle.xs_encode.specs.Copies.{Builds, definition_signal}
 use Rattle.xs_encode.proofs.ModelParts.{drop_at, at_mapped, width_at, signal_at, gates_at, rest_at}
 
@@ -90,15 +97,15 @@ domains_end m c all i n k xs es g whole hn hk end before = by n k hn hk end
     no_signal : length es ≤ i → g ≡ whole
     no_signal h = sym (ap (λ l. domains_gates m c all (drop i xs) l g) (drop_all i es h) ∙ domains_none m c all (drop i xs) g) ∙ before
 
-    by : (n k : ℕ) → length xs ≡ n → length es ≡ k → min n k ≤ i → g ≡ whole
-    by n k hn hk end = ⊎_elim (λ h. no_variable h) (λ h. no_signal h) (least (length xs) (length es) i (omega (arith, hn, hk, end)))
-
     least : (a b i : ℕ) → min a b ≤ i → (a ≤ i) ⊎ (b ≤ i)
     least a b i h = grind arith
 
+    by : (n k : ℕ) → length xs ≡ n → length es ≡ k → min n k ≤ i → g ≡ whole
+    by n k hn hk end = ⊎_elim (λ h. no_variable h) (λ h. no_signal h) (least (length xs) (length es) i (omega (arith, hn, hk, end)))
+
 -- ---- formulas
 
-module _ (c : TheNames FlatLeaf) (fs : List FlatFormula) (s : Circuit) where
+module _ (c : TheNames FlatLeaf) (fs : List FlatFormula) where
   pub formulas_next : (i : ℕ) (f : FlatFormula) (g t whole : Circuit) → slice_get fs i ≡ Some f → Builds g (asserted_signal (encoded c its_value f.value g)) t
       → formulas_gates c (drop i fs) g ≡ whole → formulas_gates c (drop (i + 1) fs) t ≡ whole
   formulas_next i f g t whole at built before =
@@ -110,15 +117,18 @@ module _ (c : TheNames FlatLeaf) (fs : List FlatFormula) (s : Circuit) where
 -- ---- definitions
 
 module _ (m : FlatModel) (variables : List Signal) (all : Bool) where
-  one_definition : (d : FlatFormula) (done : List Signal) (s : Circuit) → definition_gates m variables all d done s ≡ after (definition_signal m variables all d done s) (λ e t. (t, done ++ e ∷ []))
+  abbrev pair_of : Circuit → Signal → Circuit × Signal
+  pair_of s e = (s, e)
+
+  abbrev with_done : List Signal → Circuit × Signal → Circuit × List Signal
+  with_done done r = (r.0, done ++ r.1 ∷ [])
+
+  one_definition : (d : FlatFormula) (done : List Signal) (s : Circuit) → definition_gates m variables all d done s ≡ with_done done (definition_signal m variables all d done s)
   unfolding after
   one_definition d done s = by (reads_input m d.value && not all)
     where
-      whole : Circuit × Signal
-      whole = encoded (names_of m (the_copy variables done) (the_copy variables done)) its_value d.value s
-
-      by : (b : Bool) → (if b then (s, done ++ bit (constant_lit false) ∷ []) else (whole.0, done ++ whole.1 ∷ []))
-          ≡ ((if b then (s, bit (constant_lit false)) else whole).0, done ++ (if b then (s, bit (constant_lit false)) else whole).1 ∷ [])
+      by : (b : Bool) → (if b then with_done done (pair_of s (bit (constant_lit false))) else with_done done (encoded (names_of m (the_copy variables done) (the_copy variables done)) its_value d.value s))
+          ≡ with_done done (if b then pair_of s (bit (constant_lit false)) else encoded (names_of m (the_copy variables done) (the_copy variables done)) its_value d.value s)
       by true = refl
       by false = refl
 
@@ -139,3 +149,21 @@ module _ (m : FlatModel) (variables : List Signal) (all : Bool) where
       → whole ≡ fold_gates (definition_gates m variables all) (drop i ds) (signals_of done) g → whole ≡ (g, signals_of done)
   unfolding fold_gates
   definitions_end ds i done g whole end before = before ∙ ap (λ l. fold_gates (definition_gates m variables all) l (signals_of done) g) (drop_all i ds end)
+
+-- ---- what holds
+
+pub holds_is : (n : Names) (e : Tree FlatLeaf) (s h t : Circuit) (p : Part) (l : Literal) → BuildsPart n its_value e s h p → (judged_in (model_of n) false e).broken ≡ [] → l ≡ literal_in (signal_of p.signal)
+    → t ≡ record { clauses = h.clauses ++ (l ∷ []) ∷ []; free = h.free } → Builds s (asserted_signal (encoded (names_in n) its_value e s)) t
+unfolding asserted
+holds_is n e s h t p l part right same is = record {
+  exact = ap asserted_signal (part.right right).exact ∙ ap (λ x. asserted x h) (sym same) ∙ sym is;
+  grows = omega (arith, part.grows, ap (λ (u : Circuit). u.free) is);
+}
+
+pub literal_is : (s h t : Circuit) (r : Circuit × Literal) (l : Literal) → BuildsLiteral s r h l → t ≡ record { clauses = h.clauses ++ (l ∷ []) ∷ []; free = h.free } → Builds s (asserted_literal r) t
+unfolding asserted
+literal_is s h t r l built is = record { exact = ap asserted_literal built.exact ∙ sym is; grows = omega (arith, built.grows, ap (λ (u : Circuit). u.free) is) }
+
+pub or_same_is : (s h t : Circuit) (r : Circuit × Literal) (found here made : Literal) → BuildsLiteral s r h here → BuildsLiteral h (or_gate found here h) t made → BuildsLiteral s (after r (λ x u. or_gate found x u)) t made
+unfolding after
+or_same_is s h t r found here made a b = record { exact = ap (λ (q : Circuit × Literal). or_gate found q.1 q.0) a.exact ∙ b.exact; below = b.below; grows = omega (arith, a.grows, b.grows) }

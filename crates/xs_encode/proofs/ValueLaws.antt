@@ -59,7 +59,7 @@ bits_agree a n (b ∷ bs) h = (λ i. h.0 i ∷ bits_agree a (n + 1) bs h.1 i)
 past_false : (a : Assignment) (x : ℕ) → length a ≤ x → values_in a x ≡ false
 past_false a x h = ap (λ o. unwrap_or o false) (get_or_past a x None h)
 
-falses : ℕ → List Bool
+abbrev falses : ℕ → List Bool
 falses zero = []
 falses (suc k) = false ∷ falses k
 

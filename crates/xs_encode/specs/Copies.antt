@@ -41,16 +41,16 @@ definition_signal m variables all d done s =
     if reads_input m d.value && not all then (s, bit (constant_lit false)) else encoded (names_of m (the_copy variables done) (the_copy variables done)) its_value d.value s
 
 -- r, which was built onto s, is t with these definitions over the given variables
-pub record BuildsDefinitions (variables : List Signal) (s : Circuit) (r : Circuit × List Signal) (t : Circuit) (c : Copied) : Type 0 where
+pub record BuildsDefinitions (over : List Signal) (s : Circuit) (r : Circuit × List Signal) (t : Circuit) (c : Copied) : Type 0 where
   pub exact : r ≡ (t, signals_of c.definitions)
-  pub variables : signals_of c.variables ≡ variables
+  pub variables : signals_of c.variables ≡ over
   pub usable : IsCopied t c
   pub grows : s.free ≤ t.free
 
 -- the definitions so far are built, and those that are left build the whole
-pub record Defines (m : FlatModel) (variables : List Signal) (s : Circuit) (r rest : Circuit × List Signal) (t : Circuit) (c : Copied) : Type 0 where
+pub record Defines (m : FlatModel) (over : List Signal) (s : Circuit) (r rest : Circuit × List Signal) (t : Circuit) (c : Copied) : Type 0 where
   pub left : r ≡ rest
-  pub variables : signals_of c.variables ≡ variables
+  pub variables : signals_of c.variables ≡ over
   pub usable : IsCopied t c
   pub grows : s.free ≤ t.free
 

@@ -1,5 +1,5 @@
 -- Values as the code has them beside those of the definitions, and their bits in an assignment.
-use Rattle.std.specs.Prelude.{◌≡◌, ◌≢◌, ℕ, zero, suc, ◌+◌, ◌*◌, ◌≤◌, ◌<◌, ◌^◌, nat_lt, nat_eq, not, ◌&&◌, min, ℤ, pos, negsuc, neg_ℤ, ◌+ℤ◌, Bool, true, false, Option, Some, None, unwrap_or, List, [], ◌∷◌, slice_index_or, if◌then◌else◌}
+use Rattle.std.specs.Prelude.{◌≡◌, ◌≢◌, ℕ, zero, suc, ◌+◌, ◌*◌, ◌≤◌, ◌<◌, ◌^◌, nat_lt, nat_eq, not, ◌&&◌, min, ℤ, pos, negsuc, neg_ℤ, ◌+ℤ◌, Bool, true, false, Option, Some, None, unwrap_or, List, [], ◌∷◌, slice_index_or, slice_set, map, sum_by, if◌then◌else◌}
 use Rattle.xs_tree.specs.ProgramTree.{Text}
 use Rattle.xs_tree.specs.Values as told
 use Rattle.xs_value.specs.declared.value.Value.{Value}
@@ -10,16 +10,16 @@ use Rattle.xs_flattening.specs.Flat.{FlatModel}
 use Rattle.xs_flattening.specs.FlatTrace.{AreInDomains}
 use Rattle.xs_types.specs.Types.{StandsFor, variable_domain}
 use Rattle.xs_scope.specs.declared.model.Variable.{Variable}
-use Rattle.xs_scope.specs.ModelTree.{role_of}
+use Rattle.xs_scope.specs.ModelTree.{role_of, variable_tree}
 use Rattle.xs_kinds.specs.Intervals.{Interval}
 use Rattle.xs_kinds.specs.Costs.{state_bits, role_width}
 use Rattle.xs_lits.specs.Assignment.{Assignment}
 use Rattle.xs_lits.specs.Models.{TotalAssignment}
 use Rattle.xs_system.specs.States.{Agrees}
 use Rattle.xs_encoding.specs.Inputs.{is_input}
-use Rattle.xs_encoding.specs.Layout.{input_bits, input_place, place_of, width_as_input}
+use Rattle.xs_encoding.specs.Layout.{state_width, input_width, input_bits, input_place, place_of, width_as_input}
 use Rattle.xs_encode.specs.Domains.{domain_interval, domain_width, capped}
-use Rattle.xs_encoding.specs.Bits.{state_of, inputs_of}
+use Rattle.xs_encoding.specs.Bits.{natural_bits, number_bits, state_of, inputs_of}
 
 -- each value stands for that of the definitions, a symbol by its number
 abbrev pub StandFor : List Text → List Value → List told.Value → Type 0
@@ -112,3 +112,43 @@ values_read symbols least a p q [] = []
 values_read symbols least a p q (x ∷ xs) =
     (if least && is_input (role_of x.role) then least_in (variable_domain symbols x) (domain_interval (variable_domain symbols x)) else domain_read (variable_domain symbols x) a (place_of (role_of x.role) p q))
     ∷ values_read symbols least a (capped (p + role_width (role_of x.role) (domain_width (variable_domain symbols x)))) (capped (q + width_as_input (role_of x.role) (domain_width (variable_domain symbols x)))) xs
+
+-- ---- bits of values
+
+-- a value as a number: FALSE is 0, TRUE is 1, and a symbol its number
+abbrev pub number_of : Value → ℤ
+number_of (value.Bool b) = if b then pos 1 else pos 0
+number_of (value.Num n) = n
+number_of (value.Sym i) = pos i
+
+-- the lowest binary digits of a number, or these turned over
+abbrev pub turned_bits : Bool → ℕ → ℕ → List Bool
+turned_bits turned k n = if turned then map not (natural_bits k n) else natural_bits k n
+
+-- the variables from n on have these values
+abbrev pub with_bits : Assignment → ℕ → List Bool → Assignment
+with_bits a n [] = a
+with_bits a n (b ∷ bs) = with_bits (slice_set a n (Some b)) (n + 1) bs
+
+-- the variables of these places have the bits of the values
+abbrev pub bits_set : List Text → Assignment → ℕ → ℕ → List Variable → List Value → Assignment
+bits_set symbols a p q (x ∷ xs) (v ∷ vs) =
+    bits_set symbols (with_bits a (place_of (role_of x.role) p q) (number_bits (domain_width (variable_domain symbols x)) (number_of v)))
+    (p + role_width (role_of x.role) (domain_width (variable_domain symbols x))) (q + width_as_input (role_of x.role) (domain_width (variable_domain symbols x))) xs vs
+bits_set symbols a p q _ _ = a
+
+-- the bits of these variables among those of the state, and among those of the inputs
+abbrev pub state_size : List Text → List Variable → ℕ
+state_size symbols xs = sum_by (state_width symbols) (map variable_tree xs)
+
+abbrev pub input_size : List Text → List Variable → ℕ
+input_size symbols xs = sum_by (input_width symbols) (map variable_tree xs)
+
+-- the places of the variables that are left are free, and stand where those of all end
+pub record AreLeft (symbols : List Text) (a : Assignment) (p q ends_p ends_q : ℕ) (xs : List Variable) : Type 0 where
+  pub state : p + state_size symbols xs ≡ ends_p
+  pub inputs : q + input_size symbols xs ≡ ends_q
+  pub apart : ends_p ≤ q
+  pub free_state : AreFree a p (state_size symbols xs)
+  pub free_inputs : AreFree a q (input_size symbols xs)
+  pub least : 2 ≤ p

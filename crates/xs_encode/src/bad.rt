@@ -43,7 +43,8 @@ pub fn bad_clauses(
 {
     let source = source_of(alloc, t)?;
     let (clauses, history) = counted(alloc, &source, top, faults, size)?;
-    unlisted(alloc, clauses, history.as_slice(), listed)
+    let bad = unlisted(alloc, clauses, history.as_slice(), listed)?;
+    Ok(bad)
 }
 
 /// The clauses of the states at which the top event is TRUE, and at most so many faults have failed; and

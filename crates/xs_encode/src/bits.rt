@@ -1,6 +1,6 @@
 //! The bits of values, and the values of bits.
 
-ghost use Rattle.std.specs.Prelude.{◌≡◌, ◌≤◌, ◌<◌, ◌^◌, ◌≤ℤ◌, ◌<ℤ◌, ◌+ℤ◌, neg_ℤ, pos, List, length, if◌then◌else◌};
+ghost use Rattle.std.specs.Prelude.{◌≡◌, ◌≤◌, ◌<◌, ◌+◌, ◌^◌, ◌&&◌, nat_eq, ◌≤ℤ◌, ◌<ℤ◌, ◌+ℤ◌, neg_ℤ, pos, List, length, if◌then◌else◌};
 ghost use Rattle.xs_tree.specs.Values.{Value as Told};
 ghost use Rattle.xs_least.specs.Least.{with_inputs, least_values};
 ghost use Rattle.xs_scope.specs.ModelTree.{model_tree, role_of};
@@ -24,6 +24,8 @@ pub fn valuation_of(t: &Typed, a: &Assign, into: &mut Valuation)
     ensures same { length into.new ≡ length into.old }
     ensures values { (values : List Told) → HasMoment (model_tree t.now.model) a.now values → StandFor t.now.model.symbols into.new values }
 {
+    // No variable is past 2^62.
+    let _highest = a.vars();
     read_into(t, a, false, into);
 }
 
@@ -35,6 +37,8 @@ pub fn state_of(t: &Typed, a: &Assign, into: &mut Valuation)
     ensures same { length into.new ≡ length into.old }
     ensures values { (values : List Told) → HasState (model_tree t.now.model) a.now values → StandFor t.now.model.symbols into.new (with_inputs (model_tree t.now.model).variables values (least_values (model_tree t.now.model).symbols (model_tree t.now.model).variables)) }
 {
+    // No variable is past 2^62.
+    let _highest = a.vars();
     read_into(t, a, true, into);
 }
 
@@ -48,20 +52,30 @@ fn read_into(t: &Typed, a: &Assign, least: bool, into: &mut Valuation)
     for i in 0..t.model().variables.len() {
         let role = t.model().variables.at(i).role;
         let domain = t.domain(i);
-        let value = if least && is_input(role) {
-            least_in(domain)
-        } else {
-            domain_read(domain, a, places.of(role))
-        };
+        let value = value_read(domain, a, places.of(role), is_least(least, role));
         into.set(i, value);
         places = places.after(role, domain_width(domain)).capped();
     }
 }
 
-fn is_input(role: Role) -> bool
-    ensures { result ≡ is_input (role_of role) }
+/// The least value is asked for, of an input.
+fn is_least(least: bool, role: Role) -> bool
+    ensures { result ≡ (least && is_input (role_of role)) }
 {
-    matches!(role, Role::Input)
+    least && matches!(role, Role::Input)
+}
+
+/// The value of a domain whose bits begin at `place`, or the least.
+fn value_read(domain: &Domain, a: &Assign, place: u64, least: bool) -> Value
+    requires least { 1 ≤ place }
+    requires greatest { place ≤ 2 ^ 62 }
+    ensures { result ≡ (if least then least_in domain.now (domain_interval domain.now) else domain_read domain.now a.now place) }
+{
+    if least {
+        least_in(domain)
+    } else {
+        domain_read(domain, a, place)
+    }
 }
 
 /// The value of a domain's least number, and FALSE.
@@ -128,18 +142,19 @@ fn number_at(a: &Assign, place: u64, width: u32, signed: bool) -> i64
     while left > 0 {
         left -= 1;
         let bit = is_true(a, place + left as u64);
-        n = with_digit(n, left + 1 == width, signed, bit);
+        n = with_digit(n, left, width, signed, bit);
     }
     n
 }
 
-/// The number with one digit more in front of its others; the first of all may be a sign.
-fn with_digit(n: i64, is_last: bool, signed: bool, bit: bool) -> i64
+/// The number with one digit more behind its others, of which `left` are left; the last of all may be a sign.
+fn with_digit(n: i64, left: u32, width: u32, signed: bool, bit: bool) -> i64
+    requires narrow { left < 4294967295 }
     requires low { neg_ℤ (pos (2 ^ 61)) ≤ℤ n }
     requires high { n <ℤ pos (2 ^ 61) }
-    ensures { result ≡ (if is_last then last_digit signed bit else (if bit then pos 1 else pos 0) +ℤ (n +ℤ n)) }
+    ensures { result ≡ (if nat_eq (left + 1) width then last_digit signed bit else (if bit then pos 1 else pos 0) +ℤ (n +ℤ n)) }
 {
-    if is_last {
+    if left + 1 == width {
         return if bit {
             if signed { -1 } else { 1 }
         } else {

@@ -1,6 +1,6 @@
 //! The domains of a model's variables as gates.
 
-ghost use Rattle.std.specs.Prelude.{◌≡◌, ◌≤◌, false, IfOk, OnOk, map, if◌then◌else◌};
+ghost use Rattle.std.specs.Prelude.{◌≡◌, ◌≤◌, ◌||◌, not, false, IfOk, OnOk, map, if◌then◌else◌};
 ghost use Rattle.xs_tree.specs.Trace.{Each};
 ghost use Rattle.xs_scope.specs.ModelTree.{model_tree, role_of};
 ghost use Rattle.xs_encoding.specs.Inputs.{is_input};
@@ -46,16 +46,17 @@ pub(crate) fn domains(
 {
     let count = t.model().variables.len().min(signals.len());
     for i in 0..count {
-        let role = t.model().variables.at(i).role;
-        domain_if(alloc, g, t.domain(i), signals.at(i), symbols, all || !is_input(role))?;
+        let asked = is_asked(all, t.model().variables.at(i).role);
+        domain_if(alloc, g, t.domain(i), signals.at(i), symbols, asked)?;
     }
     Ok(())
 }
 
-fn is_input(role: Role) -> bool
-    ensures { result ≡ is_input (role_of role) }
+/// All domains are asked for, or this is no input's.
+fn is_asked(all: bool, role: Role) -> bool
+    ensures { result ≡ (all || not (is_input (role_of role))) }
 {
-    matches!(role, Role::Input)
+    all || !matches!(role, Role::Input)
 }
 
 /// A signal has a value of the domain, where that is asked.
@@ -95,7 +96,8 @@ fn range(
 {
     let word = signal.to_word(alloc)?;
     let found = between(alloc, g, &word, lo, hi)?;
-    g.assert_true(found)
+    g.assert_true(found)?;
+    Ok(())
 }
 
 /// A signal is one of the numbers.
@@ -113,7 +115,8 @@ fn some_number(
         let word = number(alloc, g, *n)?;
         found = or_same(alloc, g, found, signal, word)?;
     }
-    g.assert_true(found)
+    g.assert_true(found)?;
+    Ok(())
 }
 
 /// A signal is one of the symbols.
@@ -133,7 +136,8 @@ fn some_symbol(
         let word = number_at(alloc, g, *symbol as i64, symbols)?;
         found = or_same(alloc, g, found, signal, word)?;
     }
-    g.assert_true(found)
+    g.assert_true(found)?;
+    Ok(())
 }
 
 /// Whether the literal is TRUE, or a signal has the value of a word.
@@ -150,5 +154,6 @@ fn or_same(
     ensures { IfOk result (BuildsLiteral g.old (after (same_gates (signal_of signal.now) (word value) g.old) (λ x t. or_gate found x t)) g.new) }
 {
     let here = same(alloc, g, signal, &Signal::Word(value))?;
-    either(g, found, here)
+    let made = either(g, found, here)?;
+    Ok(made)
 }

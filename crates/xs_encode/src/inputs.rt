@@ -76,7 +76,7 @@ pub(crate) fn reads_input(reading: &Reading<'_>, e: &Expr<Flat>) -> bool
         Expr::Not(a) | Expr::Negate(a) | Expr::Next(a) => reads_input(reading, a),
         Expr::Binary(_, a, b) => reads_input(reading, a) || reads_input(reading, b),
         Expr::Choice(c, a, b) => {
-            reads_input(reading, c) || reads_input(reading, a) || reads_input(reading, b)
+            reads_input(reading, c) | (reads_input(reading, a) | reads_input(reading, b))
         }
         Expr::Case(branches) => branch_reads(reading, branches.as_slice()),
         Expr::SetOf(members) => member_reads(reading, members.as_slice()),

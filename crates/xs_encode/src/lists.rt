@@ -182,7 +182,8 @@ fn moment(
 {
     domains(alloc, g, source.model, &copy.variables, source.symbols, all)?;
     let names = Names::at(source.model, copy, source.symbols);
-    formulas(alloc, g, &names, source.model.model().invar.as_slice())
+    formulas(alloc, g, &names, source.model.model().invar.as_slice())?;
+    Ok(())
 }
 
 /// The definitions over these variables, each over those before it. One that reads an input may be left out.
@@ -261,5 +262,6 @@ pub(crate) fn holds(
 {
     let part = expression(alloc, g, names, Asked::ItsValue, e)?;
     let l = part.signal.literal(g);
-    g.assert_true(l)
+    g.assert_true(l)?;
+    Ok(())
 }

@@ -7,6 +7,6 @@ use Rattle.xs_encode.proofs.layout.variable_signals.Given as goal
 abbrev pub invariant-loop-i : goal.invariant-loop-i
 invariant-loop-i l =
     (signals_of l.signals ++ variable_signals l.t.model.symbols l.places.state l.places.input (drop l.i (map variable_tree l.t.model.variables))
-    ≡ variable_signals l.t.model.symbols l.first.state l.first.input (map variable_tree l.t.model.variables))
+    ≡ variable_signals l.t.model.symbols l.fn.first.state l.fn.first.input (map variable_tree l.t.model.variables))
     × (1 ≤ l.places.state)
     × (1 ≤ l.places.input)
