@@ -10,3 +10,4 @@ pub mod NumberLaws
 pub mod SettingLaws
 pub mod SomeLaws
 pub mod ListLaws
+pub mod SetModels

@@ -79,6 +79,9 @@ pub is_part : (left width : ℕ) → 0 < left → nat_eq ((left - 1) + 1) width 
 is_part left width some e same = let yes : nat_eq ((left - 1) + 1) width ≡ true = eq-eqb ((left - 1) + 1) width (omega (arith, some, same)) in cc (yes, e)
 
 -- so many variables from one on, and the next
+literals_more : (i n : ℕ) → literals_from (suc i) n ≡ literals_from i n ++ plain (n + i) ∷ []
+literals_more zero n = let at : n ≡ n + 0 = omega arith in ap (λ k. plain k ∷ []) at
+literals_more (suc i) n = let at : (n + 1) + i ≡ n + suc i = omega arith in ap (λ l. plain n ∷ l) (literals_more i (n + 1) ∙ ap (λ k. literals_from i (n + 1) ++ plain k ∷ []) at)
+
 pub literals_last : (i n : ℕ) → literals_from (i + 1) n ≡ literals_from i n ++ plain (n + i) ∷ []
-literals_last zero n = let at : n ≡ n + 0 = omega arith in ap (λ k. plain k ∷ []) at
-literals_last (suc i) n = let at : (n + 1) + i ≡ n + suc i = omega arith in ap (λ l. plain n ∷ l) (literals_last i (n + 1) ∙ ap (λ k. literals_from i (n + 1) ++ plain k ∷ []) at)
+literals_last i n = let on : i + 1 ≡ suc i = omega arith in ap (λ k. literals_from k n) on ∙ literals_more i n

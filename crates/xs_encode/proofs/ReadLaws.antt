@@ -2,6 +2,14 @@
 use Rattle.std.proofs.Common.{◌≡◌, Bool, true, false, ◌||◌, List, [], ◌∷◌, ◌++◌, refl, sym, ◌∙◌, ap}
 use Rattle.std.specs.List.{list_any}
 use Rattle.xs_tree.specs.Tree.{Tree, Trees, Branches, truth, number, leaf, not_of, negate, next_of, binary, choice, case_of, set_of, span, no_tree, tree_then, no_branch, branch_then}
+use Rattle.std.specs.declared.boxed.Box.{Box}
+use Rattle.std.specs.declared.alloc.Global.{Global}
+use Rattle.xs_tree.specs.declared.expr.Expr.{Expr}
+use Rattle.xs_tree.specs.declared.expr.Expr.TheVariants.{Choice}
+use Rattle.xs_scope.specs.declared.model.Flat.{Flat}
+use Rattle.xs_scope.specs.ModelTree.{flat_tree}
+use Rattle.xs_expressions.proofs.Forms.{form_choice}
+use Rattle.xs_flattening.specs.Flat.{FlatLeaf}
 use Rattle.xs_flattening.specs.Resolved.{leaves_in, trees_leaves, branches_leaves}
 use Rattle.xs_encode.specs.Reading.{tree_any, trees_any, branches_any}
 
@@ -45,3 +53,8 @@ mutual
   branches_any_is test (branch_then c a bs) =
       both test (leaves_in c) (leaves_in a ++ branches_leaves bs) (tree_any test c) (tree_any test a || branches_any test bs) (tree_any_is test c)
       (both test (leaves_in a) (branches_leaves bs) (tree_any test a) (branches_any test bs) (tree_any_is test a) (branches_any_is test bs))
+
+-- a choice has the names of its parts
+pub choice_any : (test : FlatLeaf → Bool) (e d d' d'' : Expr Flat) (c a b : Box (Expr Flat) Global) (r r' r'' : Bool) → d ≡ c.value → d' ≡ a.value → d'' ≡ b.value → e ≡ Choice c a b → r ≡ tree_any test (flat_tree d)
+    → r' ≡ tree_any test (flat_tree d') → r'' ≡ tree_any test (flat_tree d'') → (r || (r' || r'')) ≡ tree_any test (flat_tree e)
+choice_any test e d d' d'' c a b r r' r'' f g h is x y z = (λ i. x i || (y i || z i)) ∙ sym (ap (tree_any test) (form_choice e d d' d'' c a b f g h is))

@@ -37,6 +37,8 @@ fn set_all(t: &Typed, v: &Valuation, into: &mut Assign)
     requires free { IsFreeMoment (model_tree t.now.model) into.old }
     ensures { into.new ≡ bits_set t.now.model.symbols into.old 2 (input_place (model_tree t.now.model)) t.now.model.variables v.now }
 {
+    // No variable is past 2^62.
+    let _highest = into.vars();
     let mut places = places_now(t);
     for i in 0..t.model().variables.len() {
         let role = t.model().variables.at(i).role;

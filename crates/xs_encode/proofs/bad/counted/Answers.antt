@@ -2,7 +2,9 @@ use Rattle.std.proofs.Common.{◌≡◌, ◌-◌, ◌∙◌, List, length, map, 
 use Rattle.std.specs.List.{range_with_len}
 use Rattle.std.proofs.lemmas.List.{length-map}
 use Rattle.xs_scope.specs.ModelTree.{flat_tree, variable_tree}
+use Rattle.xs_lits.specs.Literal.{Literal}
 use Rattle.xs_gates.specs.Circuit.{Circuit}
+use Rattle.xs_encoding.specs.Lists.{size_gates}
 use Rattle.xs_encoding.specs.Signals.{Signal}
 use Rattle.xs_encoding.specs.Layout.{input_place, signals_now}
 use Rattle.xs_signals.specs.Built.{signals_of}
@@ -28,7 +30,7 @@ returns-clause-clauses c =
     let literals = c.in_ok-history.ensures.literals ∙ (λ i. map (literal_of (c.in_ok-g.ensures.variables i)) (range_with_len (long i - c.args.faults) c.args.faults)) in
     c.in_ok-clauses.ensures ∙ c.clauses.ensures
     ∙ sym (ap (λ (s : Circuit). s.clauses) (counted_is m (flat_tree c.args.top.now) (last_numbers m c.args.faults) c.args.size c.at-names.result c.in_ok-g.g c.holds.new.g c.few.new.g c.in_ok-g.now c.in_ok-history.history c.in_ok-g.ensures.copy.exact
-    (ap names_in c.at-names.ensures) c.in_ok-holds.ensures literals c.in_ok-few.ensures))
+    (ap names_in c.at-names.ensures) c.in_ok-holds.ensures literals (ap (λ (bs : List Literal). size_gates bs c.args.size c.holds.new.g) (sym c.as_slice.ensures) ∙ c.in_ok-few.ensures)))
 
 pub returns-clause-history : goal.returns-clause-history
 returns-clause-history c =
