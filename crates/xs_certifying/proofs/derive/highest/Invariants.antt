@@ -1,0 +1,7 @@
+use Rattle.std.proofs.Common.{◌≡◌, drop, max}
+use Rattle.xs_certificate.specs.Accepted.{highest}
+use Rattle.xs_certifying.proofs.derive.highest.Given as goal
+
+-- with the rest's highest variable it is that of all
+abbrev pub invariant-loop-clause : goal.invariant-loop-clause
+invariant-loop-clause l = max l.most (highest (drop l.clause-index l.list)) ≡ highest l.list

@@ -1,0 +1,20 @@
+-- A derivation of one part, goal by goal.
+use Rattle.std.specs.Prelude.{◌≡◌, ◌≤◌, List, [], All}
+use Rattle.xs_lits.specs.Literal.{Literal}
+use Rattle.xs_lits.specs.StoreRecord.{StoreValue}
+use Rattle.xs_derive.specs.Steps.{with_steps}
+use Rattle.xs_derive.specs.declared.step.Step.{Step}
+use Rattle.xs_certificate.specs.Accepted.{highest}
+use Rattle.xs_certifying.specs.Queries.{IsSoFar}
+
+-- The store has the clauses given and those of the steps so far, over the variables of the former, and nothing is true there; and
+-- the steps cover the goals so far.
+pub record IsPartWay (givens : List (List Literal)) (store : StoreValue) (steps : List Step) (covered : List (List Literal)) : Type 0 where
+  pub vars : store.vars ≡ highest givens
+  pub clauses : store.clauses ≡ with_steps givens steps
+  pub empty : store.trail ≡ []
+  pub so_far : IsSoFar givens steps covered
+
+-- each variable of the step's clause is positive
+abbrev pub HasPositive : Step → Type 0
+HasPositive s = All (λ (l : Literal). 1 ≤ l.var) s.clause
