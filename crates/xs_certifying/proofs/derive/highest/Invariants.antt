@@ -4,4 +4,4 @@ use Rattle.xs_certifying.proofs.derive.highest.Given as goal
 
 -- with the rest's highest variable it is that of all
 abbrev pub invariant-loop-clause : goal.invariant-loop-clause
-invariant-loop-clause l = max l.most (highest (drop l.clause-index l.list)) ≡ highest l.list
+invariant-loop-clause l = max l.most (highest (drop l.clause-index l.clause-items)) ≡ highest l.clause-items

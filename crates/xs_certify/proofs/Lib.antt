@@ -1,0 +1,4 @@
+pub mod TextLemmas
+pub mod PrintedLemmas
+pub mod Lists
+pub mod Made
