@@ -1,28 +1,14 @@
 -- A text cut at its line feeds.
-use Rattle.std.proofs.Common.{◌≡◌, ◌≢◌, ◌⊎◌, inl, inr, ℕ, ◌+◌, ◌<◌, List, [], ◌∷◌, ◌++◌, length, take, map, get_or, refl, sym, ◌∙◌, ap, subst, append_assoc, arith}
+use Rattle.std.proofs.Common.{◌≡◌, ◌⊎◌, inl, inr, ℕ, List, [], ◌∷◌, ◌++◌, refl, sym, ◌∙◌, ap}
 use Rattle.std.specs.List.{AllByRecursion}
-use Rattle.std.proofs.lemmas.List.{take_more}
 use Rattle.xs_lines.specs.Lines.{Line, fed, IsLine}
-use Rattle.xs_lines.proofs.Separators.{fed_end, comparable}
+use Rattle.xs_lines.proofs.Separators.{comparable}
 use Rattle.xs_lines.proofs.Cuts.{no_feed}
 use Rattle.xs_certify.specs.Texts.{AreLinesIn}
 
 append_none : {A : Type 0} (xs : List A) → xs ++ [] ≡ xs
 append_none [] = refl
 append_none (x ∷ xs) = ap (λ ys. x ∷ ys) (append_none xs)
-
-pub all_push : {A : Type 0} (P : A → Type 0) (xs : List A) (y : A) → AllByRecursion P xs → P y → AllByRecursion P (xs ++ y ∷ [])
-all_push P [] y all one = (one, tt)
-all_push P (x ∷ xs) y all one = (all.0, all_push P xs y all.1 one)
-
--- a line feed ends the line
-pub line_ends : (before after : List ℕ) (lines : List Line) (line : Line) (b : ℕ) → after ≡ before ++ b ∷ [] → b ≡ 10 → before ≡ fed lines ++ line → after ≡ fed (lines ++ line ∷ []) ++ []
-line_ends before after lines line b e is lie =
-    e ∙ ap (λ c. before ++ c ∷ []) is ∙ ap (λ bs. bs ++ 10 ∷ []) lie ∙ append_assoc (fed lines) line (10 ∷ []) ∙ fed_end lines line []
-
--- and another byte goes on with it
-pub line_goes_on : (before after : List ℕ) (lines : List Line) (line : Line) (b : ℕ) → after ≡ before ++ b ∷ [] → before ≡ fed lines ++ line → after ≡ fed lines ++ (line ++ b ∷ [])
-line_goes_on before after lines line b e lie = e ∙ ap (λ bs. bs ++ b ∷ []) lie ∙ append_assoc (fed lines) line (b ∷ [])
 
 -- the lines of a text that is lines with their feeds are these
 pub lines_are : (bytes : List ℕ) (texts lines : List Line) → AllByRecursion IsLine texts → bytes ≡ fed texts → AreLinesIn bytes lines → lines ≡ texts

@@ -1,10 +1,10 @@
 -- A derivation of one part, goal by goal, and that it can be written.
-use Rattle.std.proofs.Common.{◌≡◌, ◌≢◌, ◌⊎◌, inl, inr, ℕ, ◌+◌, ◌-◌, ◌≤◌, ◌<◌, ◌^◌, Bool, true, false, nat_eq, eq-eqb, List, [], ◌∷◌, ◌++◌, length, take, get_or, Option, Some, None, refl, sym, ◌∙◌, ap, subst, arith, length-append}
+use Rattle.std.proofs.Common.{◌≡◌, ◌≢◌, ◌⊎◌, inl, inr, ℕ, suc, ◌+◌, ◌-◌, ◌≤◌, ◌<◌, ◌^◌, Bool, true, false, nat_eq, eq-eqb, List, [], ◌∷◌, ◌++◌, length, take, get_or, max, Option, Some, None, refl, sym, ◌∙◌, ap, subst, arith, length-append}
 use Rattle.std.specs.Prelude.{Contains, All, slice_get, if◌then◌else◌}
 use Rattle.std.specs.Option.{option_map}
 use Rattle.std.specs.List.{AllByRecursion}
 use Rattle.std.proofs.lemmas.Bool.{cases_eq}
-use Rattle.std.proofs.lemmas.List.{take_more}
+use Rattle.std.proofs.lemmas.List.{take_more, take_all}
 use Rattle.std.proofs.lemmas.List.Elements.{All-contains, recursion_from_All}
 use Rattle.std.proofs.lemmas.Option.{same_Some, slice_get_within, get_or_from_slice_get}
 use Rattle.xs_lits.specs.Literal.{Literal}
@@ -22,13 +22,34 @@ use Rattle.xs_solver.specs.Search.{CanSolve, Grows}
 use Rattle.xs_solver.specs.Verdict.{IsVerdict}
 use Rattle.xs_solver.specs.declared.solve.Verdict.{Verdict}
 use Rattle.xs_derive.proofs.FalseLemmas.{All-slice_get}
-use Rattle.xs_certificate.specs.Accepted.{highest}
+use Rattle.xs_certificate.specs.Accepted.{highest_in, highest}
 use Rattle.xs_certificate.specs.CertificateText.{IsCount, IsLiteral, IsHint, IsWritableStep, AreWritable}
 use Rattle.xs_certificate.specs.Derived.{asked}
 use Rattle.xs_certificate.proofs.Steps.{with_joined}
 use Rattle.xs_certifying.specs.Queries.{IsSoFar, IsOneFurther}
 use Rattle.xs_certifying.specs.Deriving.{IsPartWay, HasPositive}
 use Rattle.xs_certifying.proofs.Queries.{queries_derive}
+
+-- The highest variable so far with that of the rest.
+at_least_one : (c : List Literal) → 1 ≤ highest_in c
+at_least_one [] = omega arith
+at_least_one (l ∷ ls) = let h : 1 ≤ highest_in ls = at_least_one ls in omega (arith, h)
+
+pub begins_highest_in : (c : List Literal) → max 1 (highest_in c) ≡ highest_in c
+begins_highest_in c = let h : 1 ≤ highest_in c = at_least_one c in omega (arith, h)
+
+at_least_one_of : (cs : List (List Literal)) → 1 ≤ highest cs
+at_least_one_of [] = omega arith
+at_least_one_of (c ∷ cs) = let h : 1 ≤ highest cs = at_least_one_of cs in omega (arith, h)
+
+pub begins_highest : (cs : List (List Literal)) → max 1 (highest cs) ≡ highest cs
+begins_highest cs = let h : 1 ≤ highest cs = at_least_one_of cs in omega (arith, h)
+
+pub ends_highest : (most whole : ℕ) → 1 ≤ most → max most 1 ≡ whole → most ≡ whole
+ends_highest most whole low e = omega (arith, low, e)
+
+pub goes_on_highest : (most here rest whole : ℕ) → max most (max here rest) ≡ whole → max (max most here) rest ≡ whole
+goes_on_highest most here rest whole e = omega (arith, e)
 
 -- One goal further.
 module _ (givens goals : List (List Literal)) (place : ℕ) (goal : List Literal) (store : StoreValue) (done : List Step) (low : highest givens < 2 ^ 62) (follow : All (FollowsFrom givens) goals) (apart : All HasNoOpposites goals)
@@ -60,6 +81,23 @@ module _ (givens goals : List (List Literal)) (place : ℕ) (goal : List Literal
         empty = empty;
         so_far = subst (λ gs. IsSoFar givens kept gs) (sym next_goals) (subst (λ ss. IsSoFar givens ss (take place goals ++ goal ∷ [])) (sym kept_is) more.so_far);
       }
+
+-- The first and the last moment of the loop over goals.
+pub begins : (givens goals : List (List Literal)) (store : StoreValue) (steps : List Step) (n : ℕ) → n ≡ 0 → store.vars ≡ highest givens → store.clauses ≡ givens → store.trail ≡ [] → steps ≡ [] → IsPartWay givens store steps (take n goals)
+begins givens goals store steps n first vars clauses empty none =
+    subst (λ k. IsPartWay givens store steps (take k goals)) (sym first)
+    (subst (λ gs. IsPartWay givens store steps gs) (sym (take_none goals))
+    (record { vars = vars; clauses = clauses ∙ ap (with_steps givens) (sym none); empty = empty; so_far = subst (λ ss. IsSoFar givens ss []) (sym none) nothing }))
+  where
+    take_none : {A : Type 0} (xs : List A) → take 0 xs ≡ []
+    take_none [] = refl
+    take_none (x ∷ xs) = refl
+
+    nothing : IsSoFar givens [] []
+    nothing = record { are_steps = tt; covers = λ goal m. absurd (omega (arith, m.1)) }
+
+pub ends : (givens goals : List (List Literal)) (store : StoreValue) (steps : List Step) (n : ℕ) → length goals ≤ n → IsPartWay givens store steps (take n goals) → IsPartWay givens store steps goals
+ends givens goals store steps n over way = subst (λ gs. IsPartWay givens store steps gs) (take_all n goals over) way
 
 -- What can be written of steps.
 module _ (cs : List (List Literal)) where
@@ -117,10 +155,10 @@ steps_writable vars cs (s ∷ ss) low few are positive = (
   steps_writable vars (cs ++ s.clause ∷ []) ss low (subst (λ n. n + length ss < 2 ^ 63) (sym (length-append cs (s.clause ∷ []))) (one_on (length cs) (length ss) (2 ^ 63) few)) are.1 positive.1,
 )
   where
-    fewer : (n k m : ℕ) → n + (k + 1) < m → n < m
+    fewer : (n k m : ℕ) → n + suc k < m → n < m
     fewer n k m h = omega (arith, h)
 
-    one_on : (n k m : ℕ) → n + (k + 1) < m → n + 1 + k < m
+    one_on : (n k m : ℕ) → n + suc k < m → n + 1 + k < m
     one_on n k m h = omega (arith, h)
 
 length_with : (cs : List (List Literal)) (steps : List Step) → length (with_steps cs steps) ≡ length cs + length steps

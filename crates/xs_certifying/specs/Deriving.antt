@@ -24,10 +24,10 @@ abbrev pub HasPositive : Step → Type 0
 HasPositive s = All (λ (l : Literal). 1 ≤ l.var) s.clause
 
 -- the steps of each part go from what is given for it to what it is to show, and can be written
-pub record AreDerived (system : System) (invariant bad : List (List Literal)) (parts : Parts) : Type 0 where
+pub record AreDerived (system : System) (invariant excluded : List (List Literal)) (parts : Parts) : Type 0 where
   pub first : IsSoFar system.first parts.first invariant
   pub next : IsSoFar (system.step ++ invariant) parts.next (map (map (moved_on system.state_bits)) invariant)
-  pub bad : IsSoFar (bad ++ invariant) parts.bad ([] ∷ [])
+  pub bad : IsSoFar (excluded ++ invariant) parts.bad ([] ∷ [])
   pub first_writable : AreWritable parts.first
   pub next_writable : AreWritable parts.next
   pub bad_writable : AreWritable parts.bad
