@@ -13,10 +13,10 @@ use Rattle.xs_certificate.proofs.Made.{goals_follow}
 
 module _ (system : System) (invariant bad : List (List Literal)) (over : All (IsOverBits system) invariant) (is_one : IsInvariant system bad invariant) where
   -- a certificate of no set, judged about these clauses
-  of : Certificate
+  abbrev of : Certificate
   of = record { bits = 0; faults = 0; size = 0; sets = []; traces = []; invariant = invariant; first = []; next = []; bad = [] }
 
-  about : Subject
+  abbrev about : Subject
   about = record { system = system; faults = 0; bad = λ sets size. bad }
 
   follow_in : (part : Part) → All (FollowsFrom (givens about of part)) (goals about of part)
