@@ -1,5 +1,5 @@
 pub mod TextLemmas
 pub mod PrintedLemmas
-pub mod Lists
+pub mod Places
 pub mod Made
-pub mod Given
+pub mod InCode

@@ -64,7 +64,7 @@ use Rattle.xs_subject.specs.Subject.{subject_of}
 use Rattle.xs_subject.proofs.Subjects.{subjects_right}
 use Rattle.xs_certify.specs.Texts.{text_lines, CanBePrinted}
 use Rattle.xs_certify.specs.Certifiable.{IsCertifiable, IsCompleteAnswer, IsProof, bad_of, certificate_of}
-use Rattle.xs_certify.proofs.Lists.{all_by_place, each_weaker, recursion_from_each, recursion_from_all, pair_at, both_mapped, get_map, same_maps}
+use Rattle.xs_certify.proofs.Places.{all_by_place, each_weaker, recursion_from_each, recursion_from_all, pair_at, both_mapped, get_map, same_maps}
 
 -- Values by number, in two ways of saying them.
 symbol_read : (symbols : List Text) (i : ℕ) → text_at (slice_get symbols i) ≡ slice_index_or symbols i []

@@ -5,7 +5,7 @@
 //! (`specs/Certifiable.antt` says of what one can be made). Nothing here is trusted: what an accepted certificate shows is a law of
 //! `xs_certified`, which uses nothing of the search.
 //!
-//! The files: `texts` (the lines of traces), `lists` (the lists of a model and the derivations over them), and `certify`.
+//! The files: `texts` (the lines of traces), `lists` (the lists of a model and the derivations over them), and `making` (the whole).
 //!
 //! ```text
 //! let certificate = certify(alloc, &full, &plain, &faults, &top, &analysis, &mut panel)?;
@@ -13,8 +13,8 @@
 //! ```
 #![tactic(auto)]
 
-mod certify;
 mod lists;
+mod making;
 mod texts;
 
-pub use certify::certify;
+pub use making::certify;

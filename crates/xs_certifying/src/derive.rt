@@ -163,7 +163,15 @@ pub fn derive(
     let mut store = filled(alloc, vars, givens)?;
     let mut recorder = KeepAll::new(alloc);
     for place in 0..goals.len() {
-        cover(alloc, givens, goals, place, &mut store, panel, &mut recorder)?;
+        cover(
+            alloc,
+            givens,
+            goals,
+            place,
+            &mut store,
+            panel,
+            &mut recorder,
+        )?;
     }
     finished(givens, goals, &store, &recorder)
 }

@@ -3,8 +3,8 @@ use Rattle.xs_scope.specs.ModelTree.{model_tree, flat_tree, mode_of}
 use Rattle.xs_certificate.specs.Certificate.{Certificate}
 use Rattle.xs_certify.specs.Texts.{CanBePrinted}
 use Rattle.xs_certify.proofs.Made.{all_print}
-use Rattle.xs_certify.proofs.Given.{few, given_proof, given_certified, given_writable}
-use Rattle.xs_certify.proofs.certify.made.Goals as goal
+use Rattle.xs_certify.proofs.InCode.{few, given_proof, given_certified, given_writable}
+use Rattle.xs_certify.proofs.making.made.Goals as goal
 
 pub overflow_cast-count : goal.overflow_cast-count
 overflow_cast-count g c = ?
