@@ -7,7 +7,6 @@ use Rattle.xs_lits.specs.Literal.{Literal}
 use Rattle.xs_derive.specs.Hints.{HasNoOpposites}
 use Rattle.xs_system.specs.States.{IsOverBits, IsInvariant}
 use Rattle.xs_lines.specs.Lines.{Line}
-use Rattle.xs_encoded.specs.Laws.{AreOwn}
 use Rattle.xs_encoding.specs.Bits.{state_of, inputs_of}
 use Rattle.xs_encoding.specs.Lists.{system_of, bad_list}
 use Rattle.xs_encoding.specs.Encodable.{IsEncodable, IsFitTop}
@@ -20,9 +19,8 @@ use Rattle.xs_cuts.specs.declared.answer.Analysis.{Analysis}
 use Rattle.xs_cuts.specs.declared.answer.End.TheVariants.{Complete}
 
 module _ (m : FlatModel) (fs : List Mode) (top : Tree FlatLeaf) where
-  -- the model reads its own variables, as do its faults and the top event; with history it is encodable, and the top event fits it
+  -- the model with the history of its faults is encodable, and the top event fits it
   pub record IsCertifiable : Type 0 where
-    pub own : AreOwn m fs top
     pub encodable : IsEncodable (with_history m fs)
     pub fits : IsFitTop (with_history m fs) top
 
