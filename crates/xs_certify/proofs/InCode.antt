@@ -1,5 +1,5 @@
 -- The same, in the words of the code that makes the certificate.
-use Rattle.std.proofs.Common.{◌≡◌, ◌≤◌, ◌<◌, ◌^◌, ℕ, List, length, map, sym, ◌∙◌, ap, subst, arith}
+use Rattle.std.proofs.Common.{◌≡◌, ◌≤◌, ◌<◌, ◌^◌, ℕ, List, length, map, sym, ◌∙◌, ap, subst}
 use Rattle.std.specs.Prelude.{All}
 use Rattle.std.proofs.lemmas.List.{length-map}
 use Rattle.xs_tree.specs.Tree.{Tree}
@@ -13,7 +13,6 @@ use Rattle.xs_lits.specs.Literal.{Literal}
 use Rattle.xs_lines.specs.Lines.{Line}
 use Rattle.xs_encoding.specs.Lists.{system_of}
 use Rattle.xs_cuts.specs.declared.answer.Analysis.{Analysis}
-use Rattle.xs_cuts.specs.declared.answer.End.{End}
 use Rattle.xs_cuts.specs.declared.answer.End.TheVariants.{Complete}
 use Rattle.xs_trace_text.specs.Given.{GivesTrace}
 use Rattle.xs_certificate.specs.Certificate.{Certificate}

@@ -8,7 +8,7 @@ use Rattle.std.proofs.lemmas.List.Elements.{recursion_from_All}
 use Rattle.xs_tree.specs.Tree.{Tree}
 use Rattle.xs_tree.specs.ProgramTree.{Text}
 use Rattle.xs_tree.specs.Values.{Value as Told}
-use Rattle.xs_tree.specs.Trace.{Each, AtFirst, EachPair}
+use Rattle.xs_tree.specs.Trace.{Each}
 use Rattle.xs_value.specs.declared.value.Value.{Value}
 use Rattle.xs_value.specs.declared.value.Value.TheVariants as value
 use Rattle.xs_flattening.specs.Flat.{FlatLeaf, FlatModel}
@@ -16,12 +16,9 @@ use Rattle.xs_flattening.specs.FlatTrace.{AreInDomains, IsFlatMoment, IsFlatTrac
 use Rattle.xs_flattening.specs.History.{Mode, with_history, bit_variables}
 use Rattle.xs_flattening.proofs.HistoryLaws.{length_bits}
 use Rattle.xs_scope.specs.declared.model.FlatModel.{FlatModel as Model}
-use Rattle.xs_scope.specs.ModelTree.{model_tree, variable_tree}
+use Rattle.xs_scope.specs.ModelTree.{model_tree}
 use Rattle.xs_kinds.specs.Costs.{model_cost, state_bits}
-use Rattle.xs_kinds.specs.Models.{is_too_large}
 use Rattle.xs_lits.specs.Literal.{Literal}
-use Rattle.xs_derive.specs.Hints.{HasNoOpposites}
-use Rattle.xs_system.specs.declared.system.System.{System}
 use Rattle.xs_system.specs.States.{State, IsBad, InFrame, IsOverBits, IsInvariant}
 use Rattle.xs_right.specs.Sets.{IsRising, stands_before}
 use Rattle.xs_right.specs.Right.{Shows}
@@ -35,29 +32,26 @@ use Rattle.xs_encoding.specs.Encodable.{IsEncodable}
 use Rattle.xs_encoding.proofs.EncodingLaws.{bad_states_encoded}
 use Rattle.xs_encoding.proofs.HistoryPlaces.{history_last}
 use Rattle.xs_encode.specs.History.{last_numbers}
-use Rattle.xs_cutting.specs.Found.{sets_of, traces_of}
+use Rattle.xs_cutting.specs.Found.{traces_of}
 use Rattle.xs_cutting.proofs.FoundLaws.{each_at}
 use Rattle.xs_cuts.specs.Answer.{IsEnd}
 use Rattle.xs_cuts.specs.Progress.{CodeFound}
 use Rattle.xs_cuts.specs.Values.{value_of, values_of, trace_of, all_found}
 use Rattle.xs_cuts.specs.declared.answer.Analysis.{Analysis}
-use Rattle.xs_cuts.specs.declared.answer.End.{End}
 use Rattle.xs_cuts.specs.declared.answer.End.TheVariants.{Complete}
 use Rattle.xs_cuts.proofs.SearchLemmas.{sets_same, sets_numbered}
-use Rattle.xs_lines.specs.Lines.{Line}
-use Rattle.xs_trace_text.specs.Given.{IsPrintable, GivesTrace}
+use Rattle.xs_trace_text.specs.Given.{GivesTrace}
 use Rattle.xs_trace_text.specs.TraceText.{trace_lines}
 use Rattle.xs_trace_text.proofs.Printed.{printed_gives_alone}
 use Rattle.xs_report.specs.Told.{text_at, told_value, told_moment, told_trace}
 use Rattle.xs_certificate.specs.Certificate.{Certificate, Part, part_first, part_next, part_bad, steps_in}
 use Rattle.xs_certificate.specs.Accepted.{Subject, givens, goals}
 use Rattle.xs_certificate.specs.CertificateText.{IsLiteral, IsSmall, IsWritableText, IsWritable}
-use Rattle.xs_certificate.specs.Derived.{IsDerived}
 use Rattle.xs_certifying.specs.Queries.{IsSoFar}
 use Rattle.xs_certifying.specs.Deriving.{AreDerived}
 use Rattle.xs_certifying.specs.declared.parts.Parts.{Parts}
 use Rattle.xs_certifying.proofs.Queries.{all_covered_derived}
-use Rattle.xs_certified.specs.Certified.{IsSubjectOf, IsCertified}
+use Rattle.xs_certified.specs.Certified.{IsCertified}
 use Rattle.xs_certified.specs.Analysed.{GivesAlone, IsOfAnalysis}
 use Rattle.xs_certified.proofs.Analysed.{analysed_is_accepted}
 use Rattle.xs_subject.specs.Subject.{subject_of}

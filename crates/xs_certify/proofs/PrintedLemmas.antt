@@ -4,7 +4,7 @@ use Rattle.std.specs.List.{AllByRecursion}
 use Rattle.xs_value.specs.declared.value.Value.{Value}
 use Rattle.xs_scope.specs.declared.model.FlatModel.{FlatModel}
 use Rattle.xs_scope.specs.ModelTree.{model_tree}
-use Rattle.xs_lines.specs.Lines.{Line, fed, IsLine}
+use Rattle.xs_lines.specs.Lines.{Line, IsLine}
 use Rattle.xs_trace_text.specs.TraceText.{trace_text}
 use Rattle.xs_trace_text.proofs.Printed.{printed_lines}
 use Rattle.xs_certificate.specs.CertificateText.{IsWritableText}

@@ -5,7 +5,7 @@ use Rattle.xs_tree.specs.Trace.{Each}
 use Rattle.xs_flattening.specs.FlatTrace.{AreInDomains}
 use Rattle.xs_value.specs.declared.value.Value.{Value}
 use Rattle.xs_scope.specs.declared.model.FlatModel.{FlatModel}
-use Rattle.xs_scope.specs.ModelTree.{model_tree, variable_tree}
+use Rattle.xs_scope.specs.ModelTree.{model_tree}
 use Rattle.xs_lines.specs.Lines.{Line, fed, IsLine}
 use Rattle.xs_trace_text.specs.Given.{IsPrintable}
 use Rattle.xs_trace_text.specs.TraceText.{trace_lines}

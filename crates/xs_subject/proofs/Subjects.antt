@@ -1,5 +1,5 @@
 -- The exact lists are those of a model.
-use Rattle.std.proofs.Common.{◌≡◌, refl}
+use Rattle.std.proofs.Common.{refl}
 use Rattle.xs_flattening.specs.History.{with_history}
 use Rattle.xs_encoded.specs.FlatTraces.{history_of}
 use Rattle.xs_encoding.specs.Bits.{state_of, inputs_of}

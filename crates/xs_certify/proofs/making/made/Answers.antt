@@ -1,6 +1,5 @@
-use Rattle.std.proofs.Common.{◌≡◌, ◌≤◌, ◌<◌, ◌^◌, ◌∙◌, ℕ, List, All, length, map, ap, sym, subst, arith}
+use Rattle.std.proofs.Common.{◌≡◌, ◌≤◌, ◌∙◌, All, length, map, ap, sym, subst, arith}
 use Rattle.xs_scope.specs.ModelTree.{model_tree, flat_tree, mode_of}
-use Rattle.xs_lines.specs.Lines.{Line}
 use Rattle.xs_cert.specs.Seen.{seen}
 use Rattle.xs_certificate.specs.Certificate.{Certificate}
 use Rattle.xs_certify.specs.Texts.{text_lines, CanBePrinted}

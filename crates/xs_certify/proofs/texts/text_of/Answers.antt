@@ -1,4 +1,4 @@
-use Rattle.std.proofs.Common.{◌≡◌, ◌<◌, ◌^◌, ◌∙◌, ℕ, List, length, subst, arith}
+use Rattle.std.proofs.Common.{◌≡◌, ◌<◌, ◌^◌, ◌∙◌, length, arith}
 use Rattle.xs_scope.specs.ModelTree.{model_tree}
 use Rattle.xs_trace_text.specs.TraceText.{trace_text}
 use Rattle.xs_report.specs.Told.{told_trace}
