@@ -1,0 +1,182 @@
+-- A derivation of one part, goal by goal, and that it can be written.
+use Rattle.std.proofs.Common.{◌≡◌, ◌≢◌, ◌⊎◌, inl, inr, ℕ, suc, ◌+◌, ◌-◌, ◌≤◌, ◌<◌, ◌^◌, Bool, true, false, nat_eq, eq-eqb, List, [], ◌∷◌, ◌++◌, length, take, get_or, max, Option, Some, None, refl, sym, ◌∙◌, ap, subst, arith, length-append}
+use Rattle.std.specs.Prelude.{Contains, All, slice_get, if◌then◌else◌}
+use Rattle.std.specs.Option.{option_map}
+use Rattle.std.specs.List.{AllByRecursion}
+use Rattle.std.proofs.lemmas.Bool.{cases_eq}
+use Rattle.std.proofs.lemmas.List.{take_more, take_all}
+use Rattle.std.proofs.lemmas.List.Elements.{All-contains, recursion_from_All}
+use Rattle.std.proofs.lemmas.Option.{same_Some, slice_get_within, get_or_from_slice_get}
+use Rattle.xs_lits.specs.Literal.{Literal}
+use Rattle.xs_lits.specs.Assignment.{Assignment, made_true}
+use Rattle.xs_lits.specs.Models.{FollowsFrom}
+use Rattle.xs_lits.specs.StoreRecord.{StoreValue}
+use Rattle.xs_lits.specs.Truth.{truth_of}
+use Rattle.xs_lits.specs.declared.clause.Truth.{Truth}
+use Rattle.xs_lits.specs.declared.clause.Truth.TheVariants.{False, Unit as UnitClause}
+use Rattle.xs_derive.specs.Derivation.{IsUpTo}
+use Rattle.xs_derive.specs.Hints.{HasNoOpposites, LeadsTo, EndsFalse, truth_at, assumed_false}
+use Rattle.xs_derive.specs.Steps.{AreSteps, with_steps}
+use Rattle.xs_derive.specs.declared.step.Step.{Step}
+use Rattle.xs_solver.specs.Search.{CanSolve, Grows}
+use Rattle.xs_solver.specs.Verdict.{IsVerdict}
+use Rattle.xs_solver.specs.declared.solve.Verdict.{Verdict}
+use Rattle.xs_derive.proofs.FalseLemmas.{All-slice_get}
+use Rattle.xs_certificate.specs.Accepted.{highest_in, highest}
+use Rattle.xs_certificate.specs.CertificateText.{IsCount, IsLiteral, IsHint, IsWritableStep, AreWritable}
+use Rattle.xs_certificate.specs.Derived.{asked}
+use Rattle.xs_certificate.proofs.Steps.{with_joined}
+use Rattle.xs_certifying.specs.Queries.{IsSoFar, IsOneFurther}
+use Rattle.xs_certifying.specs.Deriving.{IsPartWay, HasPositive}
+use Rattle.xs_certifying.proofs.Queries.{queries_derive}
+
+-- The highest variable so far with that of the rest.
+at_least_one : (c : List Literal) → 1 ≤ highest_in c
+at_least_one [] = omega arith
+at_least_one (l ∷ ls) = let h : 1 ≤ highest_in ls = at_least_one ls in omega (arith, h)
+
+pub begins_highest_in : (c : List Literal) → max 1 (highest_in c) ≡ highest_in c
+begins_highest_in c = let h : 1 ≤ highest_in c = at_least_one c in omega (arith, h)
+
+at_least_one_of : (cs : List (List Literal)) → 1 ≤ highest cs
+at_least_one_of [] = omega arith
+at_least_one_of (c ∷ cs) = let h : 1 ≤ highest cs = at_least_one_of cs in omega (arith, h)
+
+pub begins_highest : (cs : List (List Literal)) → max 1 (highest cs) ≡ highest cs
+begins_highest cs = let h : 1 ≤ highest cs = at_least_one_of cs in omega (arith, h)
+
+pub ends_highest : (most whole : ℕ) → 1 ≤ most → max most 1 ≡ whole → most ≡ whole
+ends_highest most whole low e = omega (arith, low, e)
+
+pub goes_on_highest : (most here rest whole : ℕ) → max most (max here rest) ≡ whole → max (max most here) rest ≡ whole
+goes_on_highest most here rest whole e = omega (arith, e)
+
+-- One goal further.
+module _ (givens goals : List (List Literal)) (place : ℕ) (goal : List Literal) (store : StoreValue) (done : List Step) (low : highest givens < 2 ^ 62) (follow : All (FollowsFrom givens) goals) (apart : All HasNoOpposites goals)
+    (at : slice_get goals place ≡ Some goal) (way : IsPartWay givens store done (take place goals)) where
+  pub can_be_asked : CanSolve store.vars store.clauses (asked store.vars goal)
+  can_be_asked =
+      subst (λ n. CanSolve n store.clauses (asked n goal)) (sym way.vars)
+      (subst (λ cs. CanSolve (highest givens) cs (asked (highest givens) goal)) (sym way.clauses)
+      (queries_derive givens done (take place goals) goal low way.so_far (All-slice_get HasNoOpposites goals place goal at apart) (All-slice_get (FollowsFrom givens) goals place goal at follow)).0)
+
+  one_more : (kept : List Step) (verdict : Verdict) → IsVerdict store.vars store.clauses (asked store.vars goal) (Some done) (Some kept) verdict → IsOneFurther givens done (take place goals) goal (Some done) (Some kept) verdict
+  one_more kept verdict is =
+      (queries_derive givens done (take place goals) goal low way.so_far (All-slice_get HasNoOpposites goals place goal at apart) (All-slice_get (FollowsFrom givens) goals place goal at follow)).1 (Some done) (Some kept) verdict
+      (subst (λ cs. IsVerdict (highest givens) cs (asked (highest givens) goal) (Some done) (Some kept) verdict) way.clauses
+      (subst (λ n. IsVerdict n store.clauses (asked n goal) (Some done) (Some kept) verdict) way.vars is))
+
+  next_goals : take (place + 1) goals ≡ take place goals ++ goal ∷ []
+  next_goals = take_more goals place goal (slice_get_within goals place goal at) ∙ ap (λ g. take place goals ++ g ∷ []) (get_or_from_slice_get goals place goal goal at)
+
+  pub further : (new : StoreValue) (kept : List Step) (verdict : Verdict) → IsVerdict store.vars store.clauses (asked store.vars goal) (Some done) (Some kept) verdict →
+      Grows store.vars store.clauses (Some done) new.clauses (Some kept) → new.vars ≡ store.vars → new.trail ≡ [] → IsPartWay givens new kept (take (place + 1) goals)
+  further new kept verdict is grows same empty =
+      let more : IsOneFurther givens done (take place goals) goal (Some done) (Some kept) verdict = one_more kept verdict is in
+      let kept_is : kept ≡ done ++ more.steps = same_Some kept (done ++ more.steps) more.kept in
+      let grown_is : kept ≡ done ++ grows.steps = same_Some kept (done ++ grows.steps) grows.kept in
+      record {
+        vars = same ∙ way.vars;
+        clauses = grows.clauses ∙ ap (λ cs. with_steps cs grows.steps) way.clauses ∙ sym (with_joined givens done grows.steps) ∙ ap (with_steps givens) (sym grown_is);
+        empty = empty;
+        so_far = subst (λ gs. IsSoFar givens kept gs) (sym next_goals) (subst (λ ss. IsSoFar givens ss (take place goals ++ goal ∷ [])) (sym kept_is) more.so_far);
+      }
+
+-- The first and the last moment of the loop over goals.
+pub begins : (givens goals : List (List Literal)) (store : StoreValue) (steps : List Step) (n : ℕ) → n ≡ 0 → store.vars ≡ highest givens → store.clauses ≡ givens → store.trail ≡ [] → steps ≡ [] → IsPartWay givens store steps (take n goals)
+begins givens goals store steps n first vars clauses empty none =
+    subst (λ k. IsPartWay givens store steps (take k goals)) (sym first)
+    (subst (λ gs. IsPartWay givens store steps gs) (sym (take_none goals))
+    (record { vars = vars; clauses = clauses ∙ ap (with_steps givens) (sym none); empty = empty; so_far = subst (λ ss. IsSoFar givens ss []) (sym none) nothing }))
+  where
+    take_none : {A : Type 0} (xs : List A) → take 0 xs ≡ []
+    take_none [] = refl
+    take_none (x ∷ xs) = refl
+
+    nothing : IsSoFar givens [] []
+    nothing = record { are_steps = tt; covers = λ goal m. absurd (omega (arith, m.1)) }
+
+pub ends : (givens goals : List (List Literal)) (store : StoreValue) (steps : List Step) (n : ℕ) → length goals ≤ n → IsPartWay givens store steps (take n goals) → IsPartWay givens store steps goals
+ends givens goals store steps n over way = subst (λ gs. IsPartWay givens store steps gs) (take_all n goals over) way
+
+-- What can be written of steps.
+module _ (cs : List (List Literal)) where
+  -- a hint names one of the clauses
+  named : (hint : ℕ) (a : Assignment) (t : Truth) → truth_at cs a hint ≡ Some t → (1 ≤ hint) × (hint ≤ length cs)
+  named hint a t e = by_test (nat_eq hint 0) refl e
+    where
+      positive : nat_eq hint 0 ≡ false → (hint ≡ 0) ⊎ (hint ≢ 0) → 1 ≤ hint
+      positive f (inl z) = let bad : true ≡ false = sym (eq-eqb hint 0 z) ∙ f in cc
+      positive f (inr n) = omega (arith, n)
+
+      by_clause : (o : Option (List Literal)) → slice_get cs (hint - 1) ≡ o → 1 ≤ hint → option_map (truth_of a) o ≡ Some t → (1 ≤ hint) × (hint ≤ length cs)
+      by_clause None is low f = cc
+      by_clause (Some c) is low f = let within : hint - 1 < length cs = slice_get_within cs (hint - 1) c is in (low, omega (arith, within, low))
+
+      by_test : (b : Bool) → nat_eq hint 0 ≡ b → option_map (truth_of a) (if b then None else slice_get cs (hint - 1)) ≡ Some t → (1 ≤ hint) × (hint ≤ length cs)
+      by_test true z f = cc
+      by_test false z f = by_clause (slice_get cs (hint - 1)) refl (positive z (cases_eq hint 0)) f
+
+  abbrev IsNamed : ℕ → Type 0
+  IsNamed hint = (1 ≤ hint) × (hint ≤ length cs)
+
+  units_named : (units : List ℕ) (a b : Assignment) → LeadsTo cs a units b → AllByRecursion IsNamed units
+  units_named [] a b h = tt
+  units_named (hint ∷ hints) a b h = (named hint a (UnitClause h.0) h.1, units_named hints (made_true a h.0) b h.2)
+
+  and_last : (xs : List ℕ) (y : ℕ) → AllByRecursion IsNamed xs → IsNamed y → AllByRecursion IsNamed (xs ++ y ∷ [])
+  and_last [] y all one = (one, tt)
+  and_last (x ∷ xs) y all one = (all.0, and_last xs y all.1 one)
+
+  hints_named : (a : Assignment) (hints : List ℕ) → EndsFalse cs a hints → AllByRecursion IsNamed hints
+  hints_named a hints ends =
+      subst (AllByRecursion IsNamed) (sym ends.in_turn) (and_last ends.units ends.last (units_named ends.units a ends.at_last ends.all_unit) (named ends.last ends.at_last False ends.is_false))
+
+  hints_writable : (hints : List ℕ) → IsCount (length cs) → AllByRecursion IsNamed hints → AllByRecursion IsHint hints
+  hints_writable [] few all = tt
+  hints_writable (hint ∷ hints) few all = ((all.0.0, below hint (length cs) (2 ^ 63) all.0.1 few), hints_writable hints few all.1)
+    where
+      below : (n k m : ℕ) → n ≤ k → k < m → n < m
+      below n k m h l = omega (arith, h, l)
+
+literals_writable : (vars : ℕ) (c : List Literal) → IsCount vars → All (IsUpTo vars) c → All (λ (l : Literal). 1 ≤ l.var) c → AllByRecursion IsLiteral c
+literals_writable vars c few in_range positive = recursion_from_All IsLiteral c (λ k d within. (positive k d within, below (get_or c k d).var vars (2 ^ 63) (in_range k d within) few))
+  where
+    below : (n k m : ℕ) → n ≤ k → k < m → n < m
+    below n k m h l = omega (arith, h, l)
+
+steps_writable : (vars : ℕ) (cs : List (List Literal)) (steps : List Step) → IsCount vars → IsCount (length cs + length steps) → AreSteps vars cs steps → AllByRecursion HasPositive steps → AllByRecursion IsWritableStep steps
+steps_writable vars cs [] low few are positive = tt
+steps_writable vars cs (s ∷ ss) low few are positive = (
+  record {
+    clause = literals_writable vars s.clause low are.0.in_range positive.0;
+    hints = hints_writable cs s.hints (fewer (length cs) (length ss) (2 ^ 63) few) (hints_named cs (assumed_false vars s.clause) s.hints are.0.ends);
+  },
+  steps_writable vars (cs ++ s.clause ∷ []) ss low (subst (λ n. n + length ss < 2 ^ 63) (sym (length-append cs (s.clause ∷ []))) (one_on (length cs) (length ss) (2 ^ 63) few)) are.1 positive.1,
+)
+  where
+    fewer : (n k m : ℕ) → n + suc k < m → n < m
+    fewer n k m h = omega (arith, h)
+
+    one_on : (n k m : ℕ) → n + suc k < m → n + 1 + k < m
+    one_on n k m h = omega (arith, h)
+
+length_with : (cs : List (List Literal)) (steps : List Step) → length (with_steps cs steps) ≡ length cs + length steps
+length_with cs [] = omega arith
+length_with cs (s ∷ ss) = length_with (cs ++ s.clause ∷ []) ss ∙ (let e : length (cs ++ s.clause ∷ []) ≡ length cs + 1 = length-append cs (s.clause ∷ []) in omega (arith, e))
+
+-- the steps of a derivation of fewer than 2^63 clauses, over fewer variables
+pub writable : (givens : List (List Literal)) (store : StoreValue) (steps : List Step) (covered : List (List Literal)) → IsPartWay givens store steps covered → highest givens < 2 ^ 62 → length store.clauses < 2 ^ 63 →
+    All HasPositive steps → AreWritable steps
+writable givens store steps covered way low few positive =
+    let whole : length givens + length steps < 2 ^ 63 = subst (λ n. n < 2 ^ 63) (ap length way.clauses ∙ length_with givens steps) few in
+    record {
+      count = fewer (length givens) (length steps) (2 ^ 63) whole;
+      each = steps_writable (highest givens) givens steps (lower (highest givens) low) whole way.so_far.are_steps (recursion_from_All HasPositive steps positive);
+    }
+  where
+    fewer : (n k m : ℕ) → n + k < m → k < m
+    fewer n k m h = omega (arith, h)
+
+    lower : (n : ℕ) → n < 2 ^ 62 → n < 2 ^ 63
+    lower n h = omega (arith, h)

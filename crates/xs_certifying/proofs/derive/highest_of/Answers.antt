@@ -1,0 +1,15 @@
+use Rattle.std.proofs.Common.{◌≡◌, ◌≤◌, ◌∙◌, max, drop, get_or, length, sym, ap, arith}
+use Rattle.std.proofs.lemmas.List.{at_drop_more, at_drop_all}
+use Rattle.xs_lits.specs.Literal.{Literal}
+use Rattle.xs_certificate.specs.Accepted.{highest_in}
+use Rattle.xs_certifying.proofs.DeriveLemmas.{begins_highest_in, ends_highest}
+use Rattle.xs_certifying.proofs.derive.highest_of.Goals as goal
+
+pub loop-lit-init : goal.loop-lit-init
+loop-lit-init c = record { positive = omega arith; all = begins_highest_in c.args.lits.now }
+
+pub returns : goal.returns
+returns c =
+    let over : length c.args.lits.now ≤ c.loop-lit.lit-index = omega arith in
+    ends_highest c.loop-lit.most (highest_in c.args.lits.now) c.loop-lit.invariant.positive
+    (sym (ap (max c.loop-lit.most) (at_drop_all highest_in c.args.lits.now c.loop-lit.lit-index over)) ∙ c.loop-lit.invariant.all)

@@ -1,0 +1,33 @@
+-- A derivation of one part, goal by goal, and those of all parts.
+use Rattle.std.specs.Prelude.{◌≡◌, ◌≤◌, List, [], ◌∷◌, ◌++◌, map, All}
+use Rattle.xs_lits.specs.Literal.{Literal}
+use Rattle.xs_lits.specs.StoreRecord.{StoreValue}
+use Rattle.xs_derive.specs.Steps.{with_steps}
+use Rattle.xs_derive.specs.declared.step.Step.{Step}
+use Rattle.xs_system.specs.States.{moved_on}
+use Rattle.xs_system.specs.declared.system.System.{System}
+use Rattle.xs_certificate.specs.Accepted.{highest}
+use Rattle.xs_certificate.specs.CertificateText.{AreWritable}
+use Rattle.xs_certifying.specs.Queries.{IsSoFar}
+use Rattle.xs_certifying.specs.declared.parts.Parts.{Parts}
+
+-- The store has the clauses given and those of the steps so far, over the variables of the former, and nothing is true there; and
+-- the steps cover the goals so far.
+pub record IsPartWay (givens : List (List Literal)) (store : StoreValue) (steps : List Step) (covered : List (List Literal)) : Type 0 where
+  pub vars : store.vars ≡ highest givens
+  pub clauses : store.clauses ≡ with_steps givens steps
+  pub empty : store.trail ≡ []
+  pub so_far : IsSoFar givens steps covered
+
+-- each variable of the step's clause is positive
+abbrev pub HasPositive : Step → Type 0
+HasPositive s = All (λ (l : Literal). 1 ≤ l.var) s.clause
+
+-- the steps of each part go from what is given for it to what it is to show, and can be written
+pub record AreDerived (system : System) (invariant excluded : List (List Literal)) (parts : Parts) : Type 0 where
+  pub first : IsSoFar system.first parts.first invariant
+  pub next : IsSoFar (system.step ++ invariant) parts.next (map (map (moved_on system.state_bits)) invariant)
+  pub bad : IsSoFar (excluded ++ invariant) parts.bad ([] ∷ [])
+  pub first_writable : AreWritable parts.first
+  pub next_writable : AreWritable parts.next
+  pub bad_writable : AreWritable parts.bad

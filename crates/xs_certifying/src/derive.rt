@@ -1,0 +1,177 @@
+//! The derivation of one part of a certificate.
+//!
+//! [`derive`] is the main function. It puts the clauses given into a store, once, and then asks the search for each goal in turn,
+//! which appends the clauses of its steps to the same store and hands the steps to a recorder. Between the goals stands `IsPartWay`:
+//! what the store has, and that the steps so far cover the goals so far.
+ghost use Rattle.std.specs.Prelude.{◌≡◌, ◌+◌, ◌<◌, ◌≤◌, ◌^◌, [], length, take, All, IfOk, OnOk};
+ghost use Rattle.xs_lits.specs.Literal.{Literal};
+ghost use Rattle.xs_lits.specs.Models.{FollowsFrom};
+ghost use Rattle.xs_derive.specs.Derivation.{IsUpTo};
+ghost use Rattle.xs_derive.specs.Hints.{HasNoOpposites};
+ghost use Rattle.xs_certificate.specs.Accepted.{highest_in, highest};
+ghost use Rattle.xs_certificate.specs.CertificateText.{AreWritable};
+ghost use Rattle.xs_certificate.specs.Derived.{asked};
+ghost use Rattle.xs_certifying.specs.Queries.{IsSoFar};
+ghost use Rattle.xs_certifying.specs.Deriving.{IsPartWay, HasPositive};
+
+use std::alloc::Global;
+use xs_adviser::Panel;
+use xs_derive::recorder::{KeepAll, StepsList};
+use xs_lits::clause::ClauseList;
+use xs_lits::lit::Lit;
+use xs_lits::store::Store;
+use xs_solver::solve::solve_in;
+use xs_value::OutOfMemory;
+use xs_watch::arena::Arena;
+
+// The first number that no variable of a search has.
+const END_OF_VARIABLES: u64 = 4611686018427387904;
+
+// The first number that no count of a certificate's text has.
+const END_OF_COUNTS: u64 = 9223372036854775808;
+
+// The highest variable of literals, at least 1.
+fn highest_of(lits: &[Lit]) -> u64
+    ensures { result ≡ highest_in lits.now }
+{
+    let mut most = 1;
+    for lit in lits {
+        most = most.max(lit.var());
+    }
+    most
+}
+
+/// The highest variable of clauses, at least 1.
+pub fn highest(list: &ClauseList) -> u64
+    ensures { result ≡ highest list.now }
+{
+    let mut most = 1;
+    for clause in list.as_slice() {
+        most = most.max(highest_of(clause.lits()));
+    }
+    most
+}
+
+// What a search is asked to derive a clause: the opposites of its literals up to the highest variable.
+fn question(alloc: Global, vars: u64, goal: &[Lit]) -> Result<Vec<Lit>, OutOfMemory>
+    ensures { IfOk result (λ lits. lits.items ≡ asked vars goal.now) }
+{
+    let mut lits = Vec::new(alloc);
+    for lit in goal {
+        if lit.var() <= vars {
+            lits.push(lit.neg())?;
+        }
+    }
+    Ok(lits)
+}
+
+// A store of the clauses given.
+fn filled(alloc: Global, vars: u64, givens: &ClauseList) -> Result<Arena, OutOfMemory>
+    requires small { vars < 2 ^ 62 }
+    requires in_range { All (All (IsUpTo vars)) givens.now }
+    ensures { IfOk result (λ store. store ≡ record { vars = vars; clauses = givens.now; trail = []; found = [] }) }
+{
+    let mut store = Arena::new(alloc, vars)?;
+    for clause in givens.as_slice() {
+        store.push(clause.lits())?;
+    }
+    Ok(store)
+}
+
+// Derives one more goal.
+fn cover(
+    alloc: Global,
+    givens: &ClauseList,
+    goals: &ClauseList,
+    place: usize,
+    store: &mut Arena,
+    panel: &mut Panel,
+    recorder: &mut KeepAll,
+) -> Result<(), OutOfMemory>
+    requires small { highest givens.now < 2 ^ 62 }
+    requires follow { All (FollowsFrom givens.now) goals.now }
+    requires apart { All HasNoOpposites goals.now }
+    requires place { place < length goals.now }
+    requires before { IsPartWay givens.now store.old recorder.old (take place goals.now) }
+    ensures { OnOk result (IsPartWay givens.now store.new recorder.new (take (place + 1) goals.now)) }
+{
+    let vars = store.vars();
+    let assumed = question(alloc, vars, goals.at(place).lits())?;
+    let _verdict = solve_in(alloc, store, assumed.as_slice(), panel, recorder)?;
+    Ok(())
+}
+
+// Sees that the variables of literals are positive.
+fn see_positive(lits: &[Lit])
+    ensures { All (λ (l : Literal). 1 ≤ l.var) lits.now }
+{
+    for lit in lits {
+        let _var = lit.var();
+    }
+}
+
+// Sees that the variables of the steps' clauses are positive.
+fn see_all_positive(steps: &StepsList)
+    ensures { All HasPositive steps.now }
+{
+    let mut i = 0;
+    while i < steps.len() {
+        see_positive(steps.at(i).clause.lits());
+        i += 1;
+    }
+}
+
+// The steps of a derivation that is done. A derivation of 2^63 or more clauses has no text, and there is no memory for one.
+fn finished(
+    givens: &ClauseList,
+    goals: &ClauseList,
+    store: &Arena,
+    recorder: &KeepAll,
+) -> Result<StepsList, OutOfMemory>
+    requires small { highest givens.now < 2 ^ 62 }
+    requires done { IsPartWay givens.now store.now recorder.now goals.now }
+    ensures derived { IfOk result (λ steps. IsSoFar givens.now steps goals.now) }
+    ensures writable { IfOk result (λ steps. AreWritable steps) }
+{
+    if store.count() >= END_OF_COUNTS {
+        return Err(OutOfMemory);
+    }
+    see_all_positive(recorder.steps());
+    let steps = recorder.steps().copy()?;
+    Ok(steps)
+}
+
+/// Steps that each follow from the clauses given and the steps before them, and cover each goal: a given clause or a step's has
+/// literals of the goal alone. They are made by searches over the clauses given and the steps so far, one for each goal, that keep all
+/// their steps. Where a variable is 2^62 or more, it answers want of memory.
+pub fn derive(
+    alloc: Global,
+    givens: &ClauseList,
+    goals: &ClauseList,
+    panel: &mut Panel,
+) -> Result<StepsList, OutOfMemory>
+    requires follow { All (FollowsFrom givens.now) goals.now }
+    requires apart { All HasNoOpposites goals.now }
+    ensures derived { IfOk result (λ steps. IsSoFar givens.now steps goals.now) }
+    ensures writable { IfOk result (λ steps. AreWritable steps) }
+{
+    let vars = highest(givens);
+    if vars >= END_OF_VARIABLES {
+        return Err(OutOfMemory);
+    }
+    panel.ready(vars)?;
+    let mut store = filled(alloc, vars, givens)?;
+    let mut recorder = KeepAll::new(alloc);
+    for place in 0..goals.len() {
+        cover(
+            alloc,
+            givens,
+            goals,
+            place,
+            &mut store,
+            panel,
+            &mut recorder,
+        )?;
+    }
+    finished(givens, goals, &store, &recorder)
+}
