@@ -55,7 +55,7 @@ fn append_fault(
 
 /// Appends a fault's name: its path, slice and mode, with dots between.
 #[tactic(auto, using(crate::proofs::ReportLaws::report_rules))]
-fn append_name(text: &mut ByteList, fault: &WovenFault) -> Result<(), OutOfMemory>
+pub(crate) fn append_name(text: &mut ByteList, fault: &WovenFault) -> Result<(), OutOfMemory>
     ensures { OnOk result (text.new ≡ text.old ++ name_text (fault_tree fault.now)) }
 {
     append_path(text, &fault.path)?;
