@@ -20,12 +20,12 @@ use Rattle.xs_words.proofs.SeenLemmas.{same_fault}
 use Rattle.xs_words.proofs.ReadingLaws.{one_command, one_fault, commands_have_no_fault}
 use Rattle.xsap_program.specs.Asked.{AsksToExtend, IsNotBuilt, RefusesWords, wrong_words, not_built}
 use Rattle.xsap_program.specs.Inputs.{HoldsModel, HoldsFaults}
-use Rattle.xsap_program.specs.Runs.{Outcome, ComesTo, refuses_model, refuses_faults, is_extended, Means, refuses_words, asked, IsAnswer, outcome_status, IsDelivered, HasAnswered, CommandComesTo}
+use Rattle.xsap_program.specs.Runs.{Outcome, ComesTo, refuses_model, refuses_faults, is_extended, Means, refuses_words, asked, IsAnswer, IsDelivered, HasAnswered, CommandComesTo}
 use Rattle.xsap_program.specs.Extension.{IsExtended}
 use Rattle.xsap_program.proofs.WovenSpells.{woven_text_spells}
 
 -- no refusal ends as done
-never_done : (r : Refusal) → status.Done ≡ status_of r → ⊥
+pub never_done : (r : Refusal) → status.Done ≡ status_of r → ⊥
 never_done (refusal.NotBuilt b) e = cc
 never_done (refusal.Words fault) e = cc
 never_done (refusal.Model fault) e = cc
@@ -80,19 +80,19 @@ files_extended before after said now model faults extended p text report holds h
       are_faults = made.are_faults;
     }
 
-comes_extended : (files : List NamedFile) (model faults extended : Text) (o : Outcome) (after : Option (List NamedFile)) (said now : Option (List ℕ)) → ComesTo files model faults extended o →
-    IsDelivered o (Some files) after said now → status.Done ≡ outcome_status o → IsSomeAnd after (λ new. IsExtended files new said now model faults extended)
-comes_extended files model faults extended o after said now (refuses_model r no_model) stands ended = absurd (never_done r ended)
-comes_extended files model faults extended o after said now (refuses_faults p r holds no_faults) stands ended = absurd (never_done r ended)
-comes_extended files model faults extended o after said now (is_extended p text report holds have) stands ended =
-    subst (λ told. IsSomeAnd told (λ new. IsExtended files new said now model faults extended)) (sym stands.0)
-    (files_extended files (with_file files extended text) said now model faults extended p text report holds have (file_of-with_file files extended text) stands.1)
+comes_extended : (files : List NamedFile) (model faults extended : Text) (o : Outcome) (s : Status) (after : Option (List NamedFile)) (said now : Option (List ℕ)) → ComesTo files model faults extended o →
+    IsDelivered o s (Some files) after said now → s ≡ status.Done → IsSomeAnd after (λ new. IsExtended files new said now model faults extended)
+comes_extended files model faults extended o s after said now (refuses_model r no_model) stands done = absurd (never_done r (sym done ∙ stands.0))
+comes_extended files model faults extended o s after said now (refuses_faults p r holds no_faults) stands done = absurd (never_done r (sym done ∙ stands.0))
+comes_extended files model faults extended o s after said now (is_extended p text report holds have) stands done =
+    subst (λ told. IsSomeAnd told (λ new. IsExtended files new said now model faults extended)) (sym stands.1)
+    (files_extended files (with_file files extended text) said now model faults extended p text report holds have (file_of-with_file files extended text) stands.2)
 
-means_extended : (files : List NamedFile) (words : List Text) (model faults extended : Text) (o : Outcome) (after : Option (List NamedFile)) (said now : Option (List ℕ)) → Means files words o →
-    AsksToExtend words model faults extended → IsDelivered o (Some files) after said now → status.Done ≡ outcome_status o → IsSomeAnd after (λ new. IsExtended files new said now model faults extended)
-means_extended files words model faults extended o after said now (refuses_words r refused) asks stands ended = absurd (never_done r ended)
-means_extended files words model faults extended o after said now (asked c o' named comes) asks stands ended =
-    comes_extended files model faults extended o' after said now (subst (λ d. CommandComesTo files d o') (one_command words c (extend model faults extended) named asks) comes) stands ended
+means_extended : (files : List NamedFile) (words : List Text) (model faults extended : Text) (o : Outcome) (s : Status) (after : Option (List NamedFile)) (said now : Option (List ℕ)) → Means files words o →
+    AsksToExtend words model faults extended → IsDelivered o s (Some files) after said now → s ≡ status.Done → IsSomeAnd after (λ new. IsExtended files new said now model faults extended)
+means_extended files words model faults extended o s after said now (refuses_words r refused) asks stands done = absurd (never_done r (sym done ∙ stands.0))
+means_extended files words model faults extended o s after said now (asked c o' named comes) asks stands done =
+    comes_extended files model faults extended o' s after said now (subst (λ d. CommandComesTo files d o') (one_command words c (extend model faults extended) named asks) comes) stands done
 
 -- a run that answers that it is done has extended the model
 pub done_extends : (told after : Option (List NamedFile)) (said now : Option (List ℕ)) (words : List Text) (s : Status) (model faults extended : Text) →
@@ -101,4 +101,4 @@ pub done_extends : (told after : Option (List NamedFile)) (said now : Option (Li
 done_extends None after said now words s model faults extended answered done asks = tt
 done_extends (Some files) after said now words s model faults extended answered done asks =
     let answer = answered (subst IsAnswer (sym done) tt) in
-    means_extended files words model faults extended answer.outcome after said now answer.means asks answer.delivered (sym done ∙ answer.ended)
+    means_extended files words model faults extended answer.outcome s after said now answer.means asks answer.delivered done

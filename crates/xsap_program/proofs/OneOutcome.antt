@@ -6,7 +6,7 @@ use Rattle.xs_words.specs.Commands.{Command, extend, replay, analyse, check, fme
 use Rattle.xs_words.proofs.ReadingLaws.{one_command}
 use Rattle.xsap_program.specs.declared.status.Status.{Status}
 use Rattle.xsap_program.specs.Inputs.{HoldsFaults, RefusesFaults}
-use Rattle.xsap_program.specs.Runs.{Outcome, refuses, extends, ComesTo, refuses_model, refuses_faults, is_extended, CommandComesTo, Means, refuses_words, asked, IsAnswer, outcome_status, IsDelivered, HasAnswered}
+use Rattle.xsap_program.specs.Runs.{Outcome, refuses, extends, ComesTo, refuses_model, refuses_faults, is_extended, CommandComesTo, Means, refuses_words, asked, IsAnswer, IsDelivered, HasAnswered}
 use Rattle.xsap_program.proofs.ExtensionLemmas.{refused_not_asked, one_refused_words}
 use Rattle.xsap_program.proofs.OneExtending.{one_refused_faults, taken_not_refused, one_taken}
 use Rattle.xsap_program.proofs.OneModelFault.{one_refused_model, held_not_refused, one_held_model}
@@ -49,10 +49,8 @@ one_outcome files words o q (asked c o' means comes) (asked d q' means' comes') 
 -- so that a run that has answered stands by whatever its words and files come to
 pub answers_exactly : (told after : Option (List NamedFile)) (said now : Option (List ℕ)) (words : List Text) (s : Status) →
     (IsAnswer s → IfSome told (λ files. HasAnswered files words s told after said now)) → IsAnswer s →
-    IfSome told (λ files. (o : Outcome) → Means files words o → (s ≡ outcome_status o) × IsDelivered o told after said now)
+    IfSome told (λ files. (o : Outcome) → Means files words o → IsDelivered o s told after said now)
 answers_exactly None after said now words s answered answer = tt
 answers_exactly (Some files) after said now words s answered answer =
     let given = answered answer in
-    λ o means.
-    let same : given.outcome ≡ o = one_outcome files words given.outcome o given.means means in
-    (given.ended ∙ ap outcome_status same, subst (λ q. IsDelivered q (Some files) after said now) same given.delivered)
+    λ o means. subst (λ q. IsDelivered q s (Some files) after said now) (one_outcome files words given.outcome o given.means means) given.delivered

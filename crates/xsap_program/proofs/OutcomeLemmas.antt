@@ -1,5 +1,5 @@
 -- From the parts of a run to its outcome.
-use Rattle.std.proofs.Common.{◌≡◌, ◌⊎◌, inl, inr, ⊎_elim, ℕ, List, Option, Some, None, IfSome, refl, sym, ap, subst, ◌∙◌}
+use Rattle.std.proofs.Common.{◌≡◌, ◌⊎◌, inl, inr, ⊎_elim, ℕ, List, Option, Some, None, IfSome, Result, Ok, Err, OnOk, refl, sym, ap, subst, ◌∙◌}
 use Rattle.xs_desk.specs.declared.files.NamedFile.{NamedFile}
 use Rattle.xs_desk.specs.Desk.{told_with, said_more, SaysPrefix, WritesPrefix}
 use Rattle.xs_tree.specs.ProgramTree.{Text, ProgramTree}
@@ -8,15 +8,14 @@ use Rattle.xs_flattening.specs.Flat.{FlatLeaf}
 use Rattle.xs_words.specs.Commands.{Command}
 use Rattle.xs_words.specs.Meaning.{Means as WordsMean}
 use Rattle.xsap_program.specs.declared.faults.Made.{Made}
-use Rattle.xsap_program.specs.Delivered.{Stopped}
+use Rattle.xs_desk.specs.declared.desk.WriteStop.{WriteStop}
+use Rattle.xs_desk.specs.declared.desk.WriteStop.TheVariants as write_stop
+use Rattle.xsap_program.specs.Delivered.{ended_as, Stopped}
 use Rattle.xsap_program.specs.Inputs.{RefusesModel, HoldsModel, RefusesFaults, HoldsExtension}
 use Rattle.xsap_program.specs.Cases.{Case, HoldsCase, IsWrongWord}
 use Rattle.xsap_program.specs.Loaded.{case_of, HoldsLoaded, IsTopIn}
-use Rattle.xsap_program.specs.Prepared.{outcome_of}
-use Rattle.xsap_program.specs.Runs.{Outcome, refuses, extends, ComesTo, refuses_model, refuses_faults, is_extended, TraceComesTo, ReplayComesTo, refuses_its_model, refuses_its_faults, refuses_its_top, reads_its_trace, CommandComesTo, Means, asked, refuses_words, IsAnswer, outcome_status, IsDelivered, IsDeliveredInPart, HasAnswered, HasStopped}
+use Rattle.xsap_program.specs.Runs.{Outcome, refuses, extends, ComesTo, refuses_model, refuses_faults, is_extended, TraceComesTo, ReplayComesTo, refuses_its_model, refuses_its_faults, refuses_its_top, reads_its_trace, CommandComesTo, Means, asked, refuses_words, IsAnswer, IsDelivered, IsDeliveredInPart, HasAnswered, HasStopped}
 use Rattle.xsap_program.specs.declared.loaded.LoadedCase.{LoadedCase}
-use Rattle.xsap_program.specs.declared.run.Prepared.{Prepared}
-use Rattle.xsap_program.specs.declared.run.Prepared.TheVariants as prepared
 use Rattle.xsap_program.specs.declared.status.InputFault.{InputFault}
 use Rattle.xsap_program.specs.declared.status.Refusal.{Refusal}
 use Rattle.xsap_program.specs.declared.status.Refusal.TheVariants as refusal
@@ -111,7 +110,7 @@ module _ (words : List Text) (told mid after : Option (List NamedFile)) (said mi
     at_told : (t : Option (List NamedFile)) → IfSome t (λ files. Means files words (refuses r)) → after ≡ told → s ≡ status_of r → IfSome t (λ files. HasAnswered files words s told after said now)
     at_told None means whole is = tt
     at_told (Some files) means whole is =
-        record { outcome = refuses r; means = means; ended = is; delivered = (whole, said_line is ∙ ap (λ t. said_more t (refusal_text r)) same_said) }
+        record { outcome = refuses r; means = means; delivered = (is, whole, said_line is ∙ ap (λ t. said_more t (refusal_text r)) same_said) }
 
   pub stops_at_refusal : (r : Refusal) → IfSome told (λ files. Means files words (refuses r)) → SaysPrefix mid_said now (refusal_text r) → after ≡ mid →
       IfSome told (λ files. HasStopped files words told after said now)
@@ -135,18 +134,16 @@ module _ (words : List Text) (told mid after : Option (List NamedFile)) (said mi
   leaves_stop stopped.Memory s means ended = inl (ended.kept ∙ same, ended.silent ∙ same_said)
 
   -- what was prepared was written and said
-  pub answers_prepared : (o : Outcome) (s : Status) → outcome_status o ≡ status.Done → IfSome told (λ files. Means files words o) →
-      (s ≡ status.Done) ⊎ ((s ≡ status.Desk) ⊎ (s ≡ status.Memory)) → (s ≡ status.Done → IsDelivered o mid after mid_said now) → IsAnswer s →
+  pub answers_prepared : (o : Outcome) (s : Status) → IfSome told (λ files. Means files words o) → (IsAnswer s → IsDelivered o s mid after mid_said now) → IsAnswer s →
       IfSome told (λ files. HasAnswered files words s told after said now)
-  answers_prepared o s done means ends delivered answer = ⊎_elim (λ is. at_told told means is) (λ other. no_answer other answer) ends where
-    at_told : (t : Option (List NamedFile)) → IfSome t (λ files. Means files words o) → s ≡ status.Done → IfSome t (λ files. HasAnswered files words s told after said now)
-    at_told None means is = tt
-    at_told (Some files) means is =
+  answers_prepared o s means delivered answer = at_told told means where
+    at_told : (t : Option (List NamedFile)) → IfSome t (λ files. Means files words o) → IfSome t (λ files. HasAnswered files words s told after said now)
+    at_told None means = tt
+    at_told (Some files) means =
         record {
           outcome = o;
           means = means;
-          ended = is ∙ sym done;
-          delivered = subst (λ t. IsDelivered o t after said now) same (subst (λ t. IsDelivered o mid after t now) same_said (delivered is));
+          delivered = subst (λ t. IsDelivered o s t after said now) same (subst (λ t. IsDelivered o s mid after t now) same_said (delivered answer));
         }
 
   pub stops_at_prepared : (o : Outcome) → IfSome told (λ files. Means files words o) → IsDeliveredInPart o mid after mid_said now → IfSome told (λ files. HasStopped files words told after said now)
@@ -160,10 +157,11 @@ module _ (words : List Text) (told mid after : Option (List NamedFile)) (said mi
           in_part = subst (λ t. IsDeliveredInPart o t after said now) same (subst (λ t. IsDeliveredInPart o mid after t now) same_said part);
         }
 
--- what is prepared ends as done
-pub prepared_is_done : (made : Prepared) → outcome_status (outcome_of made) ≡ status.Done
-prepared_is_done (prepared.Extension file made) = refl
-prepared_is_done (prepared.Report text) = refl
+-- where writing and saying were done the run is, and else it has no answer
+pub ended_answers : (P : Type 0) (written : Result (Unit {0}) WriteStop) (s : Status) → s ≡ ended_as status.Done written → OnOk written P → IsAnswer s → (s ≡ status.Done) × P
+ended_answers P (Ok done) s is so answer = (is, so)
+ended_answers P (Err write_stop.Failed) s is so answer = absurd (subst IsAnswer is answer)
+ended_answers P (Err write_stop.OutOfMemory) s is so answer = absurd (subst IsAnswer is answer)
 
 -- words that are refused
 pub means_refused : (told : Option (List NamedFile)) (words : List Text) (r : Refusal) → RefusesWords words r → IfSome told (λ files. Means files words (refuses r))

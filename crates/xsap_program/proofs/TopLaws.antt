@@ -83,7 +83,7 @@ unbroken (r ∷ rs) large e = by_least (least rs) e
     by_least (Some q) e = cc
 
 module _ (c : Case) (is : IsCase c) (m : FlatModel) (lawful : IsLawful c.program m) where
-  have_models : (e : Formula) (top : IsTop c.program e) → HaveFlatModels c.program top.flat c.instructions c.flat
+  pub have_models : (e : Formula) (top : IsTop c.program e) → HaveFlatModels c.program top.flat c.instructions c.flat
   have_models e top =
       record {
         weavable = is.taken.weavable;

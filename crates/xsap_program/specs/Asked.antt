@@ -12,6 +12,10 @@ use Rattle.xsap_program.specs.declared.status.Refusal.TheVariants as refusal
 abbrev pub AsksToExtend : List Text → Text → Text → Text → Type 0
 AsksToExtend words model faults extended = Means words (extend model faults extended)
 
+-- the words ask to replay the trace of a file over the extension of the model by the instructions, for a top event
+abbrev pub AsksToReplay : List Text → Text → Text → Text → Text → Type 0
+AsksToReplay words model faults trace top = Means words (replay model faults trace top)
+
 -- every verb but `extend` and `replay`
 abbrev pub IsNotBuilt : Command → Type 0
 IsNotBuilt (extend model faults extended) = ⊥

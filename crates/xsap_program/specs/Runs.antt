@@ -1,5 +1,5 @@
 -- What a run comes to, and what it leaves behind.
-use Rattle.std.specs.Prelude.{ℕ, ◌≡◌, List, Option}
+use Rattle.std.specs.Prelude.{◌≡◌, List}
 use Rattle.xs_desk.specs.declared.files.NamedFile.{NamedFile}
 use Rattle.xs_desk.specs.Desk.{told_with, said_more, SaysPrefix, WritesPrefix}
 use Rattle.xs_tree.specs.ProgramTree.{Text, Formula, ProgramTree}
@@ -19,7 +19,7 @@ use Rattle.xsap_program.specs.Asked.{RefusesWords}
 use Rattle.xsap_program.specs.Inputs.{RefusesModel, HoldsModel, RefusesFaults, HoldsFaults}
 use Rattle.xsap_program.specs.Cases.{Case, HoldsCase, IsTopWord, IsWrongWord}
 use Rattle.xsap_program.specs.Tasks.{IsTopTree}
-use Rattle.xsap_program.specs.Answered.{replay_text}
+use Rattle.xsap_program.specs.Answered.{Told, Said, replay_text}
 use Rattle.xsap_program.specs.Replays.{RefusesTrace, HoldsTrace, RefusesMoment}
 
 -- a run refuses something, it writes a text to a file and says a report, or it says a report alone
@@ -67,34 +67,27 @@ IsAnswer status.Desk = ⊥
 IsAnswer status.Memory = ⊥
 IsAnswer _ = Unit {0}
 
--- the status that an outcome has
-abbrev pub outcome_status : Outcome → Status
-outcome_status (refuses r) = status_of r
-outcome_status (extends file text report) = status.Done
-outcome_status (says report) = status.Done
-
--- the outcome stands in full: a refusal has changed no file and said its one line; an extension has
--- written its whole text to its one file and said its report; a report alone has changed no file
-abbrev pub IsDelivered : Outcome → Option (List NamedFile) → Option (List NamedFile) → Option (List ℕ) → Option (List ℕ) → Type 0
-IsDelivered (refuses r) before after said now = (after ≡ before) × (now ≡ said_more said (refusal_text r))
-IsDelivered (extends file text report) before after said now = (after ≡ told_with before file text) × (now ≡ said_more said report)
-IsDelivered (says report) before after said now = (after ≡ before) × (now ≡ said_more said report)
+-- The outcome stands in full, and the run has its status: a refusal has changed no file and said its one line; an extension has
+-- written its whole text to its one file and said its report; a report alone has changed no file.
+abbrev pub IsDelivered : Outcome → Status → Told → Told → Said → Said → Type 0
+IsDelivered (refuses r) ended before after said now = (ended ≡ status_of r) × (after ≡ before) × (now ≡ said_more said (refusal_text r))
+IsDelivered (extends file text report) ended before after said now = (ended ≡ status.Done) × (after ≡ told_with before file text) × (now ≡ said_more said report)
+IsDelivered (says report) ended before after said now = (ended ≡ status.Done) × (after ≡ before) × (now ≡ said_more said report)
 
 -- a part of the outcome stands: at most a prefix of what would be written and said
-abbrev pub IsDeliveredInPart : Outcome → Option (List NamedFile) → Option (List NamedFile) → Option (List ℕ) → Option (List ℕ) → Type 0
+abbrev pub IsDeliveredInPart : Outcome → Told → Told → Said → Said → Type 0
 IsDeliveredInPart (refuses r) before after said now = (after ≡ before) × SaysPrefix said now (refusal_text r)
 IsDeliveredInPart (extends file text report) before after said now = WritesPrefix before after file text × SaysPrefix said now report
 IsDeliveredInPart (says report) before after said now = (after ≡ before) × SaysPrefix said now report
 
 -- the run has answered: what stands is the whole outcome of the words and files at entry
-pub record HasAnswered (files : List NamedFile) (words : List Text) (answer : Status) (before after : Option (List NamedFile)) (said now : Option (List ℕ)) : Type 0 where
+pub record HasAnswered (files : List NamedFile) (words : List Text) (answer : Status) (before after : Told) (said now : Said) : Type 0 where
   pub outcome : Outcome
   pub means : Means files words outcome
-  pub ended : answer ≡ outcome_status outcome
-  pub delivered : IsDelivered outcome before after said now
+  pub delivered : IsDelivered outcome answer before after said now
 
 -- the run has stopped on the way: what stands is a part of that outcome
-pub record HasStopped (files : List NamedFile) (words : List Text) (before after : Option (List NamedFile)) (said now : Option (List ℕ)) : Type 0 where
+pub record HasStopped (files : List NamedFile) (words : List Text) (before after : Told) (said now : Said) : Type 0 where
   pub outcome : Outcome
   pub means : Means files words outcome
   pub in_part : IsDeliveredInPart outcome before after said now

@@ -34,6 +34,8 @@ pub mod loaded;
 pub mod model;
 mod real_desk;
 mod replay;
+#[cfg(test)]
+mod replay_tests;
 mod report;
 pub mod run;
 pub mod status;

@@ -5,12 +5,13 @@ ghost use Rattle.xs_tree.specs.ProgramTree.{Text};
 ghost use Rattle.xsap_program.specs.declared.status.Refusal.{Refusal};
 ghost use Rattle.xsap_program.specs.declared.input.Stop.TheVariants as stops;
 ghost use Rattle.xsap_program.specs.Statuses.{status_of, refusal_text};
-ghost use Rattle.xsap_program.specs.Runs.{Outcome, refuses, extends, says, ComesTo, ReplayComesTo, CommandComesTo, Means, IsAnswer, outcome_status, IsDelivered, IsDeliveredInPart, HasAnswered, HasStopped};
+ghost use Rattle.xsap_program.specs.Runs.{Outcome, refuses, extends, says, ComesTo, ReplayComesTo, CommandComesTo, Means, IsAnswer, IsDelivered, IsDeliveredInPart, HasAnswered, HasStopped};
 ghost use Rattle.xsap_program.specs.Prepared.{command_of, outcome_of};
 ghost use Rattle.xs_words.specs.Meaning.{Means as WordsMean};
 ghost use Rattle.xs_words.specs.Seen.{seen};
-ghost use Rattle.xsap_program.specs.Asked.{AsksToExtend, IsNotBuilt, RefusesWords};
+ghost use Rattle.xsap_program.specs.Asked.{AsksToExtend, AsksToReplay, IsNotBuilt, RefusesWords};
 ghost use Rattle.xsap_program.specs.Extension.{IsExtended};
+ghost use Rattle.xsap_program.specs.Replayed.{HoldsReaching, IsReplayed};
 ghost use Rattle.xsap_program.specs.Delivered.{ended_as, Stopped};
 ghost use Rattle.xs_desk.specs.declared.desk.WriteStop.TheVariants as write_stop;
 
@@ -71,11 +72,18 @@ pub fn run<D: Desk>(alloc: Global, words: &[&str], desk: &mut D) -> Status
     // place, the first moment that stops the trace from reaching the event, the extension and its report, or the report of a
     // trace that reaches it.
     ensures exact { IsAnswer result → IfSome (D.files desk.old) (λ files. (o : Outcome) → Means files (map (λ w. w.now) words.now) o →
-        (result ≡ outcome_status o) × IsDelivered o (D.files desk.old) (D.files desk.new) (D.said desk.old) (D.said desk.new)) }
+        IsDelivered o result (D.files desk.old) (D.files desk.new) (D.said desk.old) (D.said desk.new)) }
     // A run that is done has written the woven program, as the one program that the model spells and the instructions make it:
     // its traces are the extended traces, and its faultless ones the model's. It has said the list of its faults.
     ensures extended { (model faults extended : Text) → result ≡ Status.Done → AsksToExtend (map (λ w. w.now) words.now) model faults extended →
         IfSome (D.files desk.old) (λ before. IsSomeAnd (D.files desk.new) (λ after. IsExtended before after (D.said desk.old) (D.said desk.new) model faults extended)) }
+    // A run that is done has replayed the trace: its values are cut to an extended trace that reaches the event, and the names of
+    // exactly the faults that it has failed were said; no file was changed.
+    ensures replayed { (model faults trace top : Text) → result ≡ Status.Done → AsksToReplay (map (λ w. w.now) words.now) model faults trace top →
+        IfSome (D.files desk.old) (λ files. IsReplayed files (D.said desk.old) (D.said desk.new) model faults trace top × (D.files desk.new ≡ D.files desk.old)) }
+    // And such a trace is refused for nothing.
+    ensures reaching { (model faults trace top : Text) → IsAnswer result → AsksToReplay (map (λ w. w.now) words.now) model faults trace top →
+        IfSome (D.files desk.old) (λ files. HoldsReaching files model faults trace top → result ≡ Status.Done) }
     // However it ends, nothing was done, or a part of that stands: a prefix of what would be written and said.
     ensures left { ((D.files desk.new ≡ D.files desk.old) × (D.said desk.new ≡ D.said desk.old)) ⊎ IfSome (D.files desk.old) (λ files.
         HasStopped files (map (λ w. w.now) words.now) (D.files desk.old) (D.files desk.new) (D.said desk.old) (D.said desk.new)) }
@@ -220,9 +228,8 @@ fn prepare_replay<D: Desk>(alloc: Global, desk: &mut D, asked: &Replay) -> Resul
 
 /// Writes and says what was made.
 fn deliver<D: Desk>(desk: &mut D, done: &Prepared) -> Status
-    ensures done { result ≡ Status.Done → IsDelivered (outcome_of done.now) (D.files desk.old) (D.files desk.new) (D.said desk.old) (D.said desk.new) }
+    ensures done { IsAnswer result → IsDelivered (outcome_of done.now) result (D.files desk.old) (D.files desk.new) (D.said desk.old) (D.said desk.new) }
     ensures part { IsDeliveredInPart (outcome_of done.now) (D.files desk.old) (D.files desk.new) (D.said desk.old) (D.said desk.new) }
-    ensures ends { (result ≡ Status.Done) ⊎ ((result ≡ Status.Desk) ⊎ (result ≡ Status.Memory)) }
     ensures failed { result ≡ Status.Desk → Rose (D.faults desk.old) (D.faults desk.new) }
     ensures later { D.faults desk.old ≤ D.faults desk.new }
     ensures quiet { D.quiet desk.old → D.quiet desk.new × (D.faults desk.new ≡ D.faults desk.old) }

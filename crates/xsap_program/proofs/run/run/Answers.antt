@@ -1,9 +1,10 @@
 use Rattle.std.proofs.Common.{Err, inr, refl, ap}
 use Rattle.xsap_program.specs.Runs.{refuses}
 use Rattle.xsap_program.specs.Prepared.{command_of, outcome_of}
-use Rattle.xsap_program.proofs.OutcomeLemmas.{means_asked, means_refused, answers_refusal, stops_at_refusal, answers_prepared, stops_at_prepared, prepared_is_done, answers_stop, leaves_stop}
+use Rattle.xsap_program.proofs.OutcomeLemmas.{means_asked, means_refused, answers_refusal, stops_at_refusal, answers_prepared, stops_at_prepared, answers_stop, leaves_stop}
 use Rattle.xsap_program.proofs.ExtensionLemmas.{done_extends}
 use Rattle.xsap_program.proofs.OneOutcome.{answers_exactly}
+use Rattle.xsap_program.proofs.ReplayedLaws.{done_replays, reaching_is_done}
 use Rattle.xsap_program.proofs.run.run.Goals as goal
 
 pub returns-in-Err-clause-answered : goal.returns-in-Err-clause-answered
@@ -19,7 +20,7 @@ returns-in-Err-clause-left g c =
 pub returns-in-Ok-prepare-clause-answered : goal.returns-in-Ok-prepare-clause-answered
 returns-in-Ok-prepare-clause-answered g c answer =
     let means = means_asked _ _ (command_of c.in-Ok.command) (outcome_of c.in-Ok-prepare.done) c.in-Ok.ensures.found c.in-Ok-prepare.ensures.ok in
-    answers_prepared _ _ _ _ _ _ _ c.prepare.ensures.files c.prepare.ensures.said (outcome_of c.in-Ok-prepare.done) c.deliver.result (prepared_is_done c.in-Ok-prepare.done) means c.deliver.ensures.ends c.deliver.ensures.done answer
+    answers_prepared _ _ _ _ _ _ _ c.prepare.ensures.files c.prepare.ensures.said (outcome_of c.in-Ok-prepare.done) c.deliver.result means c.deliver.ensures.done answer
 
 pub returns-in-Ok-prepare-clause-left : goal.returns-in-Ok-prepare-clause-left
 returns-in-Ok-prepare-clause-left g c =
@@ -53,3 +54,21 @@ returns-in-Ok-prepare-clause-exact g c = answers_exactly _ _ _ _ _ _ (returns-in
 
 pub returns-in-Err-prepare-clause-exact : goal.returns-in-Err-prepare-clause-exact
 returns-in-Err-prepare-clause-exact g c = answers_exactly _ _ _ _ _ _ (returns-in-Err-prepare-clause-answered g c)
+
+pub returns-in-Err-clause-replayed : goal.returns-in-Err-clause-replayed
+returns-in-Err-clause-replayed g c model faults trace top = done_replays _ _ _ _ _ _ model faults trace top (returns-in-Err-clause-answered g c)
+
+pub returns-in-Err-clause-reaching : goal.returns-in-Err-clause-reaching
+returns-in-Err-clause-reaching g c model faults trace top = reaching_is_done _ _ _ _ _ _ model faults trace top (returns-in-Err-clause-answered g c)
+
+pub returns-in-Ok-prepare-clause-replayed : goal.returns-in-Ok-prepare-clause-replayed
+returns-in-Ok-prepare-clause-replayed g c model faults trace top = done_replays _ _ _ _ _ _ model faults trace top (returns-in-Ok-prepare-clause-answered g c)
+
+pub returns-in-Ok-prepare-clause-reaching : goal.returns-in-Ok-prepare-clause-reaching
+returns-in-Ok-prepare-clause-reaching g c model faults trace top = reaching_is_done _ _ _ _ _ _ model faults trace top (returns-in-Ok-prepare-clause-answered g c)
+
+pub returns-in-Err-prepare-clause-replayed : goal.returns-in-Err-prepare-clause-replayed
+returns-in-Err-prepare-clause-replayed g c model faults trace top = done_replays _ _ _ _ _ _ model faults trace top (returns-in-Err-prepare-clause-answered g c)
+
+pub returns-in-Err-prepare-clause-reaching : goal.returns-in-Err-prepare-clause-reaching
+returns-in-Err-prepare-clause-reaching g c model faults trace top = reaching_is_done _ _ _ _ _ _ model faults trace top (returns-in-Err-prepare-clause-answered g c)
