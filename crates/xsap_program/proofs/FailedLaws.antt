@@ -1,11 +1,10 @@
 -- The names of the faults that a trace has failed, fault by fault.
-use Rattle.std.proofs.Common.{arith, ◌≡◌, ℕ, suc, ◌-◌, ◌+◌, Bool, true, false, List, [], ◌∷◌, ◌++◌, length, Option, Some, None, refl, sym, ap, subst, ◌∙◌, append_assoc}
+use Rattle.std.proofs.Common.{arith, ◌≡◌, suc, ◌-◌, ◌+◌, Bool, true, false, List, [], ◌∷◌, ◌++◌, length, refl, sym, ap, subst, ◌∙◌, append_assoc}
 use Rattle.std.specs.Prelude.{slice_get, codes, if◌then◌else◌}
 use Rattle.std.proofs.lemmas.List.{length-append}
 use Rattle.xs_flattening.specs.History.{Mode}
 use Rattle.xs_flattening.specs.FlatTrace.{stands_in_some}
 use Rattle.xs_flattening.proofs.HistoryTraces.{get_middle}
-use Rattle.xs_tree.specs.ProgramTree.{Text}
 use Rattle.xs_tree.specs.Values.{Value}
 use Rattle.xs_weave.specs.Faults.{Fault}
 use Rattle.xs_encoded.specs.FlatTraces as flat

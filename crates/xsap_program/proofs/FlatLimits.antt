@@ -1,5 +1,5 @@
 -- An extension that passes no limit with all bits passes none without them.
-use Rattle.std.proofs.Common.{arith, ◌≡◌, ◌≤◌, ◌<◌, ◌+◌, ℕ, Bool, true, false, List, ◌++◌, refl, sym, ap, subst, ◌∙◌}
+use Rattle.std.proofs.Common.{arith, ◌≡◌, ◌≤◌, ◌<◌, ◌+◌, ℕ, Bool, true, false, List, ◌++◌, refl, ap, subst, ◌∙◌}
 use Rattle.std.specs.Prelude.{nat_lt, ◌||◌, sum_by, length}
 use Rattle.std.proofs.lemmas.List.Sums.{sum_by-append}
 use Rattle.std.proofs.lemmas.Bool.{ltb-false, le-ltb}
@@ -7,17 +7,15 @@ use Rattle.xs_tree.specs.ProgramTree.{ProgramTree}
 use Rattle.xs_fei.specs.Instructions.{InstructionTree}
 use Rattle.xs_flattening.specs.Flat.{FlatVariable, FlatFormula, FlatModel}
 use Rattle.xs_flattening.specs.History.{Mode, with_history, bit_variables, bits_at_first, bits_at_step}
-use Rattle.xs_flattening.specs.Rules.{IsAccepted}
-use Rattle.xs_kinds.specs.Costs.{cost_of, declared_cost, formulas_cost, model_cost, role_width, declared_width, state_bits}
-use Rattle.xs_kinds.specs.Judged.{KindRule}
-use Rattle.xs_kinds.specs.Models.{IsFault, at_an_item, of_its_size, is_too_large, IsTyped}
+use Rattle.xs_kinds.specs.Costs.{cost_of, declared_cost, model_cost, role_width, declared_width, state_bits}
+use Rattle.xs_kinds.specs.Models.{is_too_large, IsTyped}
 use Rattle.xs_kinds.proofs.Typed.{typed_has_none}
 use Rattle.xs_woven_kinds.proofs.WovenLaws.{woven_none}
 use Rattle.xs_weave.specs.Faults.{Fault, HasFaults}
 use Rattle.xs_weave.specs.Woven.{woven}
 use Rattle.xsap_program.specs.declared.status.InputFault.{InputFault}
 use Rattle.xsap_program.specs.Models.{IsLawful, IsModelOf}
-use Rattle.xsap_program.specs.Wholes.{IsWhole, BreaksKinds, IsWrongWhole, IsWithinLimits}
+use Rattle.xsap_program.specs.Wholes.{IsWrongWhole, IsWithinLimits}
 use Rattle.xsap_program.specs.Inputs.{AreTaken}
 use Rattle.xsap_program.specs.Loaded.{IsWrongLimited, whole_is_wrong, flat_is_wrong}
 use Rattle.xsap_program.proofs.LimitLaws.{are_woven}

@@ -1,6 +1,6 @@
 -- The lines of an extension's faults, as they are printed by their names.
 use Rattle.std.proofs.Common.{◌≡◌, ℕ, ◌+◌, List, [], ◌∷◌, ◌++◌, map, length, Option, Some, None, refl, sym, ap, ◌∙◌, append_assoc, append-nil}
-use Rattle.std.specs.Prelude.{codes, reverse}
+use Rattle.std.specs.Prelude.{codes}
 use Rattle.std.specs.Fmt.{decimal}
 use Rattle.std.proofs.lemmas.List.{length-map, reverse-reverse}
 use Rattle.xs_tree.specs.ProgramTree.{Text, Path}
@@ -41,23 +41,18 @@ lines_are : (n : ℕ) (ws : List WovenFault) → lines.fault_lines n (map path_o
 lines_are n [] = refl
 lines_are n (w ∷ ws) = λ j. (codes "fault " ++ (decimal n ++ (codes " " ++ (name_is w.path w.slice w.mode j ++ codes "\n")))) ++ lines_are (n + 1) ws j
 
--- the lines of faults with these names, and the last line, are the report of the woven ones
+counts : (ws : List WovenFault) → length (map path_of ws) ≡ length (map fault_tree ws)
+counts ws = length-map path_of ws ∙ sym (length-map fault_tree ws)
+
+pieces : (a b c d e : Text) → (a ++ (b ++ (c ++ d))) ++ e ≡ a ++ (b ++ (c ++ (d ++ e)))
+pieces a b c d e = append_assoc a (b ++ (c ++ d)) e ∙ ap (λ t. a ++ t) (append_assoc b (c ++ d) e ∙ ap (λ t. b ++ t) (append_assoc c d e))
+
+-- the number and the lines of faults with these names, and the last line, are the report
+named_report : (ws : List WovenFault) →
+    codes "faults " ++ (decimal (length (map path_of ws)) ++ (codes "\n" ++ (lines.fault_lines 1 (map path_of ws) ++ codes "extended\n"))) ≡ report_text (map fault_tree ws)
+named_report ws = λ j. codes "faults " ++ (decimal (counts ws j) ++ (codes "\n" ++ (lines_are 1 ws j ++ codes "extended\n")))
+
 pub report_is : (ws : List WovenFault) (fs : List Fault) → AreListed ws fs → lines.faults_text (map name_of fs) ++ codes "extended\n" ≡ report_text (map fault_tree ws)
-report_is ws fs listed = ap (λ names. lines.faults_text names ++ codes "extended\n") listed ∙ apart ∙ whole
-  where
-    counts : length (map path_of ws) ≡ length (map fault_tree ws)
-    counts = length-map path_of ws ∙ sym (length-map fault_tree ws)
-
-    rest : Text
-    rest = lines.fault_lines 1 (map path_of ws)
-
-    count : Text
-    count = decimal (length (map path_of ws))
-
-    apart : (codes "faults " ++ (count ++ (codes "\n" ++ rest))) ++ codes "extended\n" ≡ codes "faults " ++ (count ++ (codes "\n" ++ (rest ++ codes "extended\n")))
-    apart =
-        append_assoc (codes "faults ") (count ++ (codes "\n" ++ rest)) (codes "extended\n")
-        ∙ ap (λ t. codes "faults " ++ t) (append_assoc count (codes "\n" ++ rest) (codes "extended\n") ∙ ap (λ t. count ++ t) (append_assoc (codes "\n") rest (codes "extended\n")))
-
-    whole : codes "faults " ++ (count ++ (codes "\n" ++ (rest ++ codes "extended\n"))) ≡ report_text (map fault_tree ws)
-    whole = λ j. codes "faults " ++ (decimal (counts j) ++ (codes "\n" ++ (lines_are 1 ws j ++ codes "extended\n")))
+report_is ws fs listed =
+    ap (λ names. lines.faults_text names ++ codes "extended\n") listed
+    ∙ pieces (codes "faults ") (decimal (length (map path_of ws))) (codes "\n") (lines.fault_lines 1 (map path_of ws)) (codes "extended\n") ∙ named_report ws

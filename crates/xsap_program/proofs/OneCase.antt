@@ -1,5 +1,5 @@
 -- What the files of a model and of instructions hold is one case, and neither is then refused.
-use Rattle.std.proofs.Common.{◌≡◌, ℕ, List, refl, sym, ap, subst, ◌∙◌}
+use Rattle.std.proofs.Common.{◌≡◌, List, refl, sym, ap, subst, ◌∙◌}
 use Rattle.xs_desk.specs.declared.files.NamedFile.{NamedFile}
 use Rattle.xs_tree.specs.ProgramTree.{Text, ProgramTree}
 use Rattle.xs_tree.specs.Text.{program_text}
@@ -7,9 +7,9 @@ use Rattle.xs_tree.specs.WritableProgram.{IsWritableProgram}
 use Rattle.xs_tree.proofs.Spelled.{program_writable}
 use Rattle.xs_flattening.specs.Flat.{FlatModel}
 use Rattle.xs_flattening.specs.History.{Mode}
-use Rattle.xs_flattening.specs.Model.{EachBoth, IsFlatOf}
+use Rattle.xs_flattening.specs.Model.{EachBoth}
 use Rattle.xs_fei.specs.Instructions.{InstructionTree}
-use Rattle.xs_weave.specs.Faults.{Fault, HasFaults}
+use Rattle.xs_weave.specs.Faults.{Fault}
 use Rattle.xs_weave.specs.Woven.{woven}
 use Rattle.xs_trace_text.specs.Given.{IsPrintable}
 use Rattle.xs_trace_text.proofs.Named.{named_is_printable}

@@ -6,7 +6,6 @@ use Rattle.xs_tree.specs.ProgramTree.{Text}
 use Rattle.xs_tree.specs.Tree.{Tree}
 use Rattle.xs_tree.specs.Values.{Value}
 use Rattle.xs_flattening.specs.Flat.{FlatLeaf, FlatModel}
-use Rattle.xs_eval.specs.Stops.{Stops}
 use Rattle.xs_eval.specs.Replayed.{IsReaching}
 use Rattle.xs_eval.proofs.StopLaws.{one_stop, reaching_does_not}
 use Rattle.xs_trace_text.specs.Given.{IsPrintable, BytesGive}
@@ -20,10 +19,10 @@ use Rattle.xsap_program.specs.declared.status.Why.TheVariants as why
 use Rattle.xsap_program.specs.declared.status.Objection.TheVariants as objection
 use Rattle.xsap_program.specs.declared.status.Refusal.{Refusal}
 use Rattle.xsap_program.specs.declared.status.Refusal.TheVariants as refusal
-use Rattle.xsap_program.specs.Cases.{Case, extension_of, HoldsCase, IsWrongWord, IsTopWord}
+use Rattle.xsap_program.specs.Cases.{Case, extension_of, IsWrongWord, IsTopWord}
 use Rattle.xsap_program.specs.Tasks.{IsRefusedAbove, HasAtMost, IsTopTree}
 use Rattle.xsap_program.specs.Answered.{replay_text}
-use Rattle.xsap_program.specs.Inputs.{HoldsModel, RefusesFaults}
+use Rattle.xsap_program.specs.Inputs.{RefusesFaults}
 use Rattle.xsap_program.specs.Replays.{text_fault, RefusesTrace, trace_file, trace_bytes, HoldsTrace, reason_of, RefusesMoment, at_moment}
 use Rattle.xsap_program.specs.Runs.{Outcome, refuses, says, TraceComesTo, refuses_trace, refuses_moment, is_reached, ReplayComesTo, refuses_its_model, refuses_its_faults, refuses_its_top, reads_its_trace}
 use Rattle.xsap_program.proofs.OneCase.{case_not_refused, case_printable, one_case}

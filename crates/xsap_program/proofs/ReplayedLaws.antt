@@ -17,7 +17,6 @@ use Rattle.xs_flattening.specs.History.{Mode}
 use Rattle.xs_flattening.specs.Model.{EachBoth}
 use Rattle.xs_kinds.specs.Laws.{values_by_number}
 use Rattle.xs_kinds.proofs.TraceLaws.{traces_are}
-use Rattle.xs_weave.specs.Conservative.{IsCut}
 use Rattle.xs_weave.specs.Extended.{Moment, IsExtended, Reaches}
 use Rattle.xs_weave.specs.Faults.{Fault}
 use Rattle.xs_weave.proofs.WovenNominal.{woven_extends}

@@ -1,5 +1,5 @@
 -- A top event of a model over the flat model of its extension, and the rule for which it is refused, as it is told.
-use Rattle.std.proofs.Common.{◌≡◌, ℕ, Bool, true, false, List, [], ◌∷◌, Option, Some, None, IfSome, Result, Ok, Err, refl, sym, ap, subst, ◌∙◌}
+use Rattle.std.proofs.Common.{◌≡◌, Bool, false, List, [], ◌∷◌, Option, Some, None, IfSome, Result, Ok, Err, refl, ap, ◌∙◌}
 use Rattle.std.specs.Prelude.{slice_get, codes, nat_lt}
 use Rattle.xs_tree.specs.Tree.{Tree}
 use Rattle.xs_tree.specs.ProgramTree.{Text, Formula, ProgramTree}
@@ -12,22 +12,20 @@ use Rattle.xs_flattening.proofs.Walkable.{accepted_walkable}
 use Rattle.xs_flat.specs.ResolvedAt.{IsAt, IsValueFault}
 use Rattle.xs_scope.specs.Faults.{rule_of}
 use Rattle.xs_scope.specs.declared.fault.FlatFault.{FlatFault}
-use Rattle.xs_kinds.specs.Judged.{KindRule, Judged}
-use Rattle.xs_kinds.specs.Laws.{ReadsOwn}
+use Rattle.xs_kinds.specs.Judged.{KindRule}
 use Rattle.xs_kinds.specs.Models.{judged_in, broken_condition, least, least_after, size_fault, top_fault}
 use Rattle.xs_kinds.specs.Costs.{cost_of}
 use Rattle.xs_types.specs.Answers.{told_rule}
 use Rattle.xs_types.specs.Calls.{top_answer}
 use Rattle.xs_types.specs.declared.fault.TypeFault.{TypeFault}
-use Rattle.xs_weave.specs.Woven.{woven}
 use Rattle.xs_woven_tops.specs.Tops.{KeepsValue, HaveFlatModels, IsReadAs}
 use Rattle.xs_woven_tops.proofs.Judging.{woven_own, none_refused}
 use Rattle.xs_woven_tops.proofs.Names.{values_kept}
 use Rattle.xsap_program.specs.declared.status.InputFault.{InputFault}
 use Rattle.xsap_program.specs.declared.wrong.Wrong.TheVariants as wrong
-use Rattle.xsap_program.specs.Wrongs.{flat_rule, flat_wrong, type_rule, type_wrong, names_fault, kinds_fault}
+use Rattle.xsap_program.specs.Wrongs.{flat_wrong, type_wrong, names_fault}
 use Rattle.xsap_program.specs.Models.{IsLawful}
-use Rattle.xsap_program.specs.Cases.{Case, extension_of, IsCase, IsTop, IsWrongTop, by_names, by_kinds, IsTopWord}
+use Rattle.xsap_program.specs.Cases.{Case, extension_of, IsCase, IsTop, IsWrongTop, by_names, by_kinds}
 use Rattle.xsap_program.specs.Loaded.{IsTopIn, IsTopText}
 use Rattle.xsap_program.proofs.Told.{one_refusal, names_wrong, flat_is, type_is}
 

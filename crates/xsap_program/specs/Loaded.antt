@@ -5,7 +5,7 @@ use Rattle.xs_tree.specs.Tree.{Tree}
 use Rattle.xs_tree.specs.ProgramTree.{Text, Formula, ProgramTree, program_tree}
 use Rattle.xs_scope.specs.ModelTree.{model_tree, mode_of}
 use Rattle.xs_flattening.specs.Flat.{FlatLeaf, FlatModel}
-use Rattle.xs_fei.specs.Instructions.{InstructionTree, instruction_tree}
+use Rattle.xs_fei.specs.Instructions.{instruction_tree}
 use Rattle.xs_kinds.specs.Laws.{ReadsOwn}
 use Rattle.xs_kinds.specs.Models.{judged_in, broken_condition}
 use Rattle.xs_weave.specs.Faults.{Fault}

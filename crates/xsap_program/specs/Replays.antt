@@ -1,15 +1,13 @@
 -- What the file of a trace comes to, and what a replay of it does.
 use Rattle.std.specs.Prelude.{◌≡◌, ℕ, ◌<◌, ◌^◌, ◌++◌, List, [], ◌∷◌, Bool, if◌then◌else◌, codes, length}
 use Rattle.xs_desk.specs.declared.files.NamedFile.{NamedFile}
-use Rattle.xs_tree.specs.ProgramTree.{Text, Formula}
+use Rattle.xs_tree.specs.ProgramTree.{Text}
 use Rattle.xs_tree.specs.Tree.{Tree}
 use Rattle.xs_tree.specs.Trace.{Each}
 use Rattle.xs_tree.specs.Values.{Value}
 use Rattle.xs_value.specs.declared.value.Value.{Value as Numbered}
 use Rattle.xs_flattening.specs.Flat.{FlatLeaf, FlatModel}
-use Rattle.xs_flattening.specs.FlatTrace.{IsFlatTrace}
 use Rattle.xs_flattening.specs.History.{Mode}
-use Rattle.xs_encoded.specs.FlatTraces.{ReachesTop}
 use Rattle.xs_eval.specs.Named.{IsLawful}
 use Rattle.xs_eval.specs.Stops as stops
 use Rattle.xs_trace_text.specs.Given.{BytesGive}

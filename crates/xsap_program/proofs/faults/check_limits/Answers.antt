@@ -3,7 +3,7 @@ use Rattle.std.proofs.lemmas.Result.{err_from_is_err_and}
 use Rattle.xs_tree.specs.ProgramTree.{program_tree}
 use Rattle.xs_scope.specs.ModelTree.{model_tree}
 use Rattle.xs_extend.specs.WovenFaults.{fault_tree}
-use Rattle.xsap_program.specs.Wholes.{IsWhole, BreaksNames, BreaksKinds, IsWrongWhole, by_names, by_kinds}
+use Rattle.xsap_program.specs.Wholes.{IsWhole, BreaksKinds, IsWrongWhole, by_kinds}
 use Rattle.xsap_program.proofs.ListedLaws.{are_listed}
 use Rattle.xsap_program.proofs.Told.{refused_weaker}
 use Rattle.xsap_program.proofs.WholeLemmas.{is_whole}

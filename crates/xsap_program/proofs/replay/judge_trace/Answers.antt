@@ -1,4 +1,4 @@
-use Rattle.std.proofs.Common.{sym, ap, subst, ◌-◌, ◌∙◌}
+use Rattle.std.proofs.Common.{sym, subst, ◌-◌, ◌∙◌}
 use Rattle.std.specs.Prelude.{length}
 use Rattle.xs_scope.specs.ModelTree.{model_tree, flat_tree}
 use Rattle.xs_eval.specs.Named.{named_trace}

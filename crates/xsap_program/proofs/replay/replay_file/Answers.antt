@@ -1,5 +1,5 @@
 use Rattle.std.proofs.Common.{Err, IsErrOf, sym, ap, ◌∙◌}
-use Rattle.std.proofs.lemmas.Result.{err_from_is_err_and, IfOk-weaker}
+use Rattle.std.proofs.lemmas.Result.{err_from_is_err_and}
 use Rattle.xs_tree.specs.ProgramTree.{program_tree}
 use Rattle.xs_scope.specs.ModelTree.{flat_tree}
 use Rattle.xsap_program.specs.declared.input.Stop.TheVariants as stop

@@ -1,4 +1,4 @@
-use Rattle.std.proofs.Common.{List, map, refl, subst}
+use Rattle.std.proofs.Common.{map, refl, subst}
 use Rattle.xs_words.specs.Commands.{Command}
 use Rattle.xs_words.specs.Meaning.{Means}
 use Rattle.xs_words.specs.Seen.{seen}

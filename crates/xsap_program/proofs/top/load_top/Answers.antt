@@ -1,9 +1,7 @@
-use Rattle.std.proofs.Common.{IfOk, IsErrOf, sym, ap, subst, ◌∙◌}
+use Rattle.std.proofs.Common.{sym, subst, ◌∙◌}
 use Rattle.xs_tree.specs.ProgramTree.{program_tree}
-use Rattle.xs_scope.specs.ModelTree.{flat_tree}
 use Rattle.xsap_program.specs.Wrongs.{IfRefused}
 use Rattle.xsap_program.specs.Cases.{IsWrongWord}
-use Rattle.xsap_program.specs.Loaded.{case_of, IsTopIn}
 use Rattle.xsap_program.proofs.InputLemmas.{same_error}
 use Rattle.xsap_program.proofs.ReplayLemmas.{refuses_top, no_desk_at_top}
 use Rattle.xsap_program.proofs.top.load_top.Goals as goal

@@ -1,4 +1,4 @@
-use Rattle.std.proofs.Common.{refl, ◌∙◌}
+use Rattle.std.proofs.Common.{◌∙◌}
 use Rattle.std.proofs.lemmas.Result.{err_from_is_err_and}
 use Rattle.xsap_program.specs.Loaded.{IsWrongTopText, not_a_top}
 use Rattle.xsap_program.proofs.Told.{if_refused}

@@ -1,14 +1,11 @@
-use Rattle.std.proofs.Common.{Err, IsErrOf, IfSome, sym, ap, subst, ◌∙◌}
-use Rattle.std.specs.Prelude.{length}
+use Rattle.std.proofs.Common.{Err, IsErrOf, sym, ap, subst, ◌∙◌}
 use Rattle.std.proofs.lemmas.Result.{err_from_is_err_and}
 use Rattle.xs_scope.specs.ModelTree.{model_tree}
-use Rattle.xs_report.specs.Told.{told_trace}
 use Rattle.xs_trace_text.specs.Given.{BytesGive}
 use Rattle.xs_report.specs.Faults.{IsFaultOf}
-use Rattle.xsap_program.specs.Tasks.{HasAtMost}
 use Rattle.xsap_program.specs.declared.input.Stop.TheVariants as stop
 use Rattle.xsap_program.proofs.InputLemmas.{same_error}
-use Rattle.xsap_program.proofs.ReplayLemmas.{refuses_trace_file, refuses_trace_text, no_desk_at_text, holds_trace}
+use Rattle.xsap_program.proofs.ReplayLemmas.{refuses_trace_file, refuses_trace_text, holds_trace}
 use Rattle.xsap_program.proofs.TraceLaws.{fit_trace}
 use Rattle.xsap_program.proofs.trace.load_trace.Goals as goal
 
