@@ -19,7 +19,7 @@ module _ (test : Mode → Bool) where
   named_from before [] [] e = refl
   named_from before [] (m ∷ modes) e = cc
   named_from before (f ∷ faults) [] e = cc
-  named_from before (f ∷ faults) (m ∷ modes) e = by_test (test m) refl
+  named_from before (f ∷ faults) (m ∷ modes) e = by_test (test m) refl (rest (named_from (before ++ f ∷ []) faults modes shorter))
     where
       shorter : length faults ≡ length modes
       shorter = omega (arith, e)
@@ -27,11 +27,11 @@ module _ (test : Mode → Bool) where
       count : length (before ++ f ∷ []) ≡ suc (length before)
       count = length-append before (f ∷ []) ∙ omega arith
 
-      rest : failed_names (before ++ f ∷ faults) (flat.numbers_where test (suc (suc (length before))) modes) ≡ names_where test faults modes
-      rest =
+      rest : failed_names ((before ++ f ∷ []) ++ faults) (flat.numbers_where test (suc (length (before ++ f ∷ []))) modes) ≡ names_where test faults modes →
+          failed_names (before ++ f ∷ faults) (flat.numbers_where test (suc (suc (length before))) modes) ≡ names_where test faults modes
+      rest h =
           subst (λ n. failed_names (before ++ f ∷ faults) (flat.numbers_where test (suc n) modes) ≡ names_where test faults modes) count
-          (subst (λ all. failed_names all (flat.numbers_where test (suc (length (before ++ f ∷ []))) modes) ≡ names_where test faults modes) (append_assoc before (f ∷ []) faults)
-          (named_from (before ++ f ∷ []) faults modes shorter))
+          (subst (λ all. failed_names all (flat.numbers_where test (suc (length (before ++ f ∷ []))) modes) ≡ names_where test faults modes) (append_assoc before (f ∷ []) faults) h)
 
       place : suc (length before) - 1 ≡ length before
       place = omega arith
@@ -39,9 +39,10 @@ module _ (test : Mode → Bool) where
       name : name_or_none (slice_get (before ++ f ∷ faults) (suc (length before) - 1)) ≡ name_text f
       name = ap (λ n. name_or_none (slice_get (before ++ f ∷ faults) n)) place ∙ ap name_or_none (get_middle before faults f)
 
-      by_test : (b : Bool) → test m ≡ b → failed_names (before ++ f ∷ faults) (flat.numbers_where test (suc (length before)) (m ∷ modes)) ≡ names_where test (f ∷ faults) (m ∷ modes)
-      by_test true t = rw t (λ j. codes " " ++ (name j ++ rest j))
-      by_test false t = rw t rest
+      by_test : (b : Bool) → test m ≡ b → failed_names (before ++ f ∷ faults) (flat.numbers_where test (suc (suc (length before))) modes) ≡ names_where test faults modes →
+          failed_names (before ++ f ∷ faults) (flat.numbers_where test (suc (length before)) (m ∷ modes)) ≡ names_where test (f ∷ faults) (m ∷ modes)
+      by_test true t more = rw t (λ j. codes " " ++ (name j ++ more j))
+      by_test false t more = rw t more
 
 -- what is said of a replay
 pub said_of_replay : (c : Case) (trace : List (List Value)) → length c.faults ≡ length c.modes →

@@ -42,7 +42,7 @@ lines_are n [] = refl
 lines_are n (w ∷ ws) = λ j. (codes "fault " ++ (decimal n ++ (codes " " ++ (name_is w.path w.slice w.mode j ++ codes "\n")))) ++ lines_are (n + 1) ws j
 
 counts : (ws : List WovenFault) → length (map path_of ws) ≡ length (map fault_tree ws)
-counts ws = length-map path_of ws ∙ sym (length-map fault_tree ws)
+counts ws = length-map ws path_of ∙ sym (length-map ws fault_tree)
 
 pieces : (a b c d e : Text) → (a ++ (b ++ (c ++ d))) ++ e ≡ a ++ (b ++ (c ++ (d ++ e)))
 pieces a b c d e = append_assoc a (b ++ (c ++ d)) e ∙ ap (λ t. a ++ t) (append_assoc b (c ++ d) e ∙ ap (λ t. b ++ t) (append_assoc c d e))

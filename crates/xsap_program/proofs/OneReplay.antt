@@ -119,7 +119,7 @@ module _ (files : List NamedFile) (model faults trace top : Text) where
       absurd (case_not_refused files model faults c p r held (one_held_model files model p c.program holds held.program) wrong)
   replay_comes_to_one o q (refuses_its_faults p r holds wrong) (reads_its_trace c e tree q' held word is comes) =
       absurd (case_not_refused files model faults c p r held (one_held_model files model p c.program holds held.program) wrong)
-  replay_comes_to_one o q (refuses_its_top c a held bad) (refuses_its_model s no) = absurd (held_not_refused files model c.program s held.program no)
+  replay_comes_to_one o q (refuses_its_top c a held bad) (refuses_its_model s gone) = absurd (held_not_refused files model c.program s held.program gone)
   replay_comes_to_one o q (refuses_its_top c a held bad) (refuses_its_faults p s holds wrong) =
       absurd (case_not_refused files model faults c p s held (one_held_model files model p c.program holds held.program) wrong)
   replay_comes_to_one o q (refuses_its_top c a held bad) (refuses_its_top d b other also) =
@@ -127,7 +127,7 @@ module _ (files : List NamedFile) (model faults trace top : Text) where
       (one_wrong_word c.program held.program.lawful.accepted top a b bad (subst (λ p. IsWrongWord p top b) (one_held_model files model c.program d.program held.program other.program) also))
   replay_comes_to_one o q (refuses_its_top c a held bad) (reads_its_trace d e tree q' other word is comes) =
       absurd (word_not_wrong c.program held.program.lawful.accepted top e a (subst (λ p. IsTopWord p top e) (one_held_model files model c.program d.program held.program other.program) word) bad)
-  replay_comes_to_one o q (reads_its_trace c e tree o' held word is comes) (refuses_its_model s no) = absurd (held_not_refused files model c.program s held.program no)
+  replay_comes_to_one o q (reads_its_trace c e tree o' held word is comes) (refuses_its_model s gone) = absurd (held_not_refused files model c.program s held.program gone)
   replay_comes_to_one o q (reads_its_trace c e tree o' held word is comes) (refuses_its_faults p s holds wrong) =
       absurd (case_not_refused files model faults c p s held (one_held_model files model p c.program holds held.program) wrong)
   replay_comes_to_one o q (reads_its_trace c e tree o' held word is comes) (refuses_its_top d b other bad) =

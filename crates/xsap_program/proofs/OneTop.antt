@@ -65,7 +65,7 @@ module _ (p : ProgramTree) (accepted : IsAccepted p) (e : Formula) (place : ℕ)
 
 module _ (p : ProgramTree) (accepted : IsAccepted p) (bytes : Text) where
   one_spelled : (e f : Formula) → BytesSpellExpr bytes e → BytesSpellExpr bytes f → e ≡ f
-  one_spelled e f h g = one_expression h.2 (subst (λ (ts : List Token). SpellsExpr (lexemes_of bytes ts) f) (one_answer bytes g.0 h.0 g.1 h.1) g.2)
+  one_spelled e f h g = one_expression h.2 (subst (λ (ts : List Token). SpellsExpr (lexemes_of bytes ts) f) (one_answer bytes h.0 g.0 h.1 g.1) g.2)
 
   not_deep : (e : Formula) → BytesSpellExpr bytes e → HasDepths bytes e → IsTooDeep bytes → ⊥
   not_deep e spelled depths d = d.deep (subst (HasDepths bytes) (one_spelled e d.tree spelled d.spelled) depths)

@@ -76,11 +76,11 @@ module _ (told : Option (List NamedFile)) (name : Text) (m : FlatModel) (bytes :
       at_told (Some files) has = trace_bytes bytes f is has first
 
   pub refuses_trace_text : (f : read.TraceFault) (r : Refusal) → stop.Refused r ≡ stop_at_text f → IsFaultOf m bytes f → IfSome told (λ files. RefusesTrace files name m r)
-  refuses_trace_text (fault.BadLine n) r is first = at_first_fault (wrong_line bad_line n) r cc first
-  refuses_trace_text (fault.UnknownName n) r is first = at_first_fault (wrong_line unknown_name n) r cc first
-  refuses_trace_text (fault.Outside n) r is first = at_first_fault (wrong_line outside n) r cc first
-  refuses_trace_text (fault.MissingValue k) r is first = at_first_fault (missing_value k) r cc first
-  refuses_trace_text (fault.Twice n) r is first = at_first_fault (wrong_line twice n) r cc first
+  refuses_trace_text (fault.BadLine n) r is first = let same : r ≡ refusal.NotAccepted (objection.Trace (text_fault (wrong_line bad_line n))) = cc in at_first_fault (wrong_line bad_line n) r same first
+  refuses_trace_text (fault.UnknownName n) r is first = let same : r ≡ refusal.NotAccepted (objection.Trace (text_fault (wrong_line unknown_name n))) = cc in at_first_fault (wrong_line unknown_name n) r same first
+  refuses_trace_text (fault.Outside n) r is first = let same : r ≡ refusal.NotAccepted (objection.Trace (text_fault (wrong_line outside n))) = cc in at_first_fault (wrong_line outside n) r same first
+  refuses_trace_text (fault.MissingValue k) r is first = let same : r ≡ refusal.NotAccepted (objection.Trace (text_fault (missing_value k))) = cc in at_first_fault (missing_value k) r same first
+  refuses_trace_text (fault.Twice n) r is first = let same : r ≡ refusal.NotAccepted (objection.Trace (text_fault (wrong_line twice n))) = cc in at_first_fault (wrong_line twice n) r same first
   refuses_trace_text fault.OutOfMemory r is first = cc
 
 -- text that gives a trace
@@ -146,7 +146,7 @@ module _ (told : Option (List NamedFile)) (p : ProgramTree) (l : LoadedCase) (tr
     trace_reaches text numbered reaching is = at_told told (held told holds)
       where
         counts : length (map fault_tree l.limited.woven.faults) ≡ length (map mode_of l.limited.faults)
-        counts = length-map fault_tree l.limited.woven.faults ∙ same_counts l.limited.typed.model l.limited.woven.faults l.limited.faults numbered ∙ sym (length-map mode_of l.limited.faults)
+        counts = length-map l.limited.woven.faults fault_tree ∙ same_counts l.limited.typed.model l.limited.woven.faults l.limited.faults numbered ∙ sym (length-map l.limited.faults mode_of)
 
         whole : text ≡ replay_text (case_of p l) (named_trace l.limited.typed.model.symbols trace)
         whole = is ∙ said_of_replay (case_of p l) (named_trace l.limited.typed.model.symbols trace) counts
@@ -164,4 +164,4 @@ moment_told m top trace i w r is stops = let same : r ≡ refusal.NotAccepted (o
 
 -- so many moments, named or not
 pub as_many : (symbols : List Text) (trace : List (List Numbered)) → length (named_trace symbols trace) ≡ length trace
-as_many symbols trace = length-map (named_all symbols) trace
+as_many symbols trace = length-map trace (named_all symbols)

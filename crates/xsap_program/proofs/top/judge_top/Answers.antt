@@ -1,4 +1,4 @@
-use Rattle.std.proofs.Common.{sym, subst, ◌∙◌}
+use Rattle.std.proofs.Common.{[], sym, subst, ◌∙◌}
 use Rattle.std.proofs.lemmas.Result.{err_from_is_err_and}
 use Rattle.xs_tree.specs.ProgramTree.{program_tree}
 use Rattle.xs_tree.specs.Written.{tree_of}
@@ -17,7 +17,7 @@ returns-in_err-flat-clause-wrong c =
     let e = tree_of c.args.top.now in
     let m = model_tree c.args.model.now.typed.model in
     let lawful = c.requires.lawful in
-    let here : IsAt p (model_tree c.model-typed.result.now) 0 main_instance = subst (λ k. IsAt p (model_tree k) 0 main_instance) (sym c.model-typed.ensures.model) (main_is_at p m lawful.accepted lawful.model.is) in
+    let here : IsAt p (model_tree c.model.result.now) 0 main_instance = subst (λ k. IsAt p (model_tree k) 0 main_instance) (sym c.model.ensures.model) (main_is_at p m lawful.accepted lawful.model.is) in
     rw exit.1 (if_refused (IsWrongTop p e 0) _ (λ told is. wrong_by_names p e c.in_err-flat.field-0.0 told (c.in_err-flat.ensures.fault main_instance here) (is ∙ exit.2)))
 
 pub returns-in_err-check_top-clause-wrong : goal.returns-in_err-check_top-clause-wrong
@@ -27,8 +27,8 @@ returns-in_err-check_top-clause-wrong c =
     let e = tree_of c.args.top.now in
     let m = model_tree c.args.model.now.typed.model in
     let lawful = c.requires.lawful in
-    let here : IsAt p (model_tree c.model-typed.result.now) 0 main_instance = subst (λ k. IsAt p (model_tree k) 0 main_instance) (sym c.model-typed.ensures.model) (main_is_at p m lawful.accepted lawful.model.is) in
-    let resolved = subst (λ k. IsResolvedAt p (model_tree k) _ e (flat_tree c.in_ok-flat.flat)) c.model-typed.ensures.model (c.in_ok-flat.ensures.resolved main_instance here) in
+    let here : IsAt p (model_tree c.model.result.now) 0 main_instance = subst (λ k. IsAt p (model_tree k) 0 main_instance) (sym c.model.ensures.model) (main_is_at p m lawful.accepted lawful.model.is) in
+    let resolved = subst (λ k. IsResolvedAt p (model_tree k) [] e (flat_tree c.in_ok-flat.flat)) c.model.ensures.model (c.in_ok-flat.ensures.resolved main_instance here) in
     rw exit.1 (if_refused (IsWrongTop p e 0) _ (λ told is.
     wrong_by_kinds p e m (flat_tree c.in_ok-flat.flat) c.in_err-check_top.field-0.0 told lawful (c.in_ok-flat.ensures.kept main_instance here) resolved (sym c.in_err-check_top.was ∙ c.check_top.ensures.answer) (is ∙ exit.2)))
 
@@ -38,6 +38,6 @@ returns-clause-ok c =
     let e = tree_of c.args.top.now in
     let m = model_tree c.args.model.now.typed.model in
     let lawful = c.requires.lawful in
-    let here : IsAt p (model_tree c.model-typed.result.now) 0 main_instance = subst (λ k. IsAt p (model_tree k) 0 main_instance) (sym c.model-typed.ensures.model) (main_is_at p m lawful.accepted lawful.model.is) in
-    let resolved = subst (λ k. IsResolvedAt p (model_tree k) _ e (flat_tree c.in_ok-flat.flat)) c.model-typed.ensures.model (c.in_ok-flat.ensures.resolved main_instance here) in
+    let here : IsAt p (model_tree c.model.result.now) 0 main_instance = subst (λ k. IsAt p (model_tree k) 0 main_instance) (sym c.model.ensures.model) (main_is_at p m lawful.accepted lawful.model.is) in
+    let resolved = subst (λ k. IsResolvedAt p (model_tree k) [] e (flat_tree c.in_ok-flat.flat)) c.model.ensures.model (c.in_ok-flat.ensures.resolved main_instance here) in
     top_of_parts p e m (flat_tree c.in_ok-flat.flat) lawful (c.in_ok-flat.ensures.kept main_instance here) resolved (kinds_kept _ _ (sym c.in_ok-check_top.was ∙ c.check_top.ensures.answer))

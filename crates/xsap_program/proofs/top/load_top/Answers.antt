@@ -6,11 +6,11 @@ use Rattle.xsap_program.proofs.InputLemmas.{same_error}
 use Rattle.xsap_program.proofs.ReplayLemmas.{refuses_top, no_desk_at_top}
 use Rattle.xsap_program.proofs.top.load_top.Goals as goal
 
-pub returns-clause-refused : goal.returns-clause-refused
-returns-clause-refused c r e =
+pub returns-in-Err-clause-refused : goal.returns-in-Err-clause-refused
+returns-in-Err-clause-refused c r e =
     let p = program_tree c.args.model.now.program in
     refuses_top (IsWrongWord p c.args.word.now) c.in-Err.wrong r (sym (same_error e) ∙ c.top_stop.ensures)
     (subst (λ b. IfRefused (IsWrongWord p b) c.in-Err.wrong) c.as_bytes.ensures c.in-Err.ensures.wrong)
 
-pub returns-clause-desk : goal.returns-clause-desk
-returns-clause-desk c e = no_desk_at_top c.in-Err.wrong (sym (same_error e) ∙ c.top_stop.ensures)
+pub returns-in-Err-clause-desk : goal.returns-in-Err-clause-desk
+returns-in-Err-clause-desk c e = no_desk_at_top c.in-Err.wrong (sym (same_error e) ∙ c.top_stop.ensures)

@@ -1,4 +1,4 @@
-use Rattle.std.proofs.Common.{sym, subst, ◌∙◌}
+use Rattle.std.proofs.Common.{[], false, sym, subst, ◌∙◌}
 use Rattle.std.proofs.lemmas.Result.{err_from_is_err_and, IfOk-weaker, IfErr-weaker}
 use Rattle.xs_tree.specs.ProgramTree.{program_tree}
 use Rattle.xs_tree.specs.Written.{tree_of}
@@ -35,7 +35,7 @@ over_extension-requires-clause-accepted c = subst IsAccepted (sym c.requires.loa
 pub over_extension-requires-clause-flat : goal.over_extension-requires-clause-flat
 over_extension-requires-clause-flat c =
     let l = c.args.case.now in
-    subst (λ m. IsFlatOf (program_tree l.limited.woven.program) (model_tree m)) (sym c.model-typed.ensures.model)
+    subst (λ m. IsFlatOf (program_tree l.limited.woven.program) (model_tree m)) (sym c.model.ensures.model)
     (subst (λ q. IsFlatOf q (model_tree l.limited.typed.model)) (sym c.requires.loaded.program) c.requires.loaded.is_case.is_flat.is)
 
 pub over_extension-requires-clause-names : goal.over_extension-requires-clause-names
@@ -43,7 +43,7 @@ over_extension-requires-clause-names c =
     let p = program_tree c.args.model.now.program in
     let e = tree_of c.in_ok-written.written in
     let l = c.args.case.now in
-    subst (λ q. KeepsValue q _ _ e) (sym c.requires.loaded.program)
+    subst (λ q. KeepsValue q [] false e) (sym c.requires.loaded.program)
     (names_over (case_of p l) c.requires.loaded.is_case (model_tree c.args.model.now.typed.model) c.requires.lawful e c.in_ok-judge_top.ensures.ok)
 
 pub returns-clause-wrong : goal.returns-clause-wrong
@@ -57,8 +57,8 @@ returns-clause-ok c =
     let e = tree_of c.in_ok-written.written in
     let l = c.args.case.now in
     IfOk-weaker c.over_extension.result
-    (λ made. IsResolvedAt (program_tree l.limited.woven.program) (model_tree c.model-typed.result.now) _ e (flat_tree made))
+    (λ made. IsResolvedAt (program_tree l.limited.woven.program) (model_tree c.model.result.now) [] e (flat_tree made))
     (λ made. IsTopIn (case_of p l) c.args.bytes.now (flat_tree made))
     (λ made resolved. top_over (case_of p l) c.requires.loaded.is_case (model_tree c.args.model.now.typed.model) c.requires.lawful c.args.bytes.now e (flat_tree made) c.in_ok-written.ensures.ok c.in_ok-judge_top.ensures.ok
-    (subst (λ q. IsResolvedAt q (model_tree l.limited.typed.model) _ e (flat_tree made)) c.requires.loaded.program (subst (λ m. IsResolvedAt (program_tree l.limited.woven.program) (model_tree m) _ e (flat_tree made)) c.model-typed.ensures.model resolved)))
+    (subst (λ q. IsResolvedAt q (model_tree l.limited.typed.model) [] e (flat_tree made)) c.requires.loaded.program (subst (λ m. IsResolvedAt (program_tree l.limited.woven.program) (model_tree m) [] e (flat_tree made)) c.model.ensures.model resolved)))
     c.over_extension.ensures.ok

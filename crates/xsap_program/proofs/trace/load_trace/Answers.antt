@@ -2,6 +2,7 @@ use Rattle.std.proofs.Common.{Err, IsErrOf, sym, ap, subst, ◌∙◌}
 use Rattle.std.proofs.lemmas.Result.{err_from_is_err_and}
 use Rattle.xs_scope.specs.ModelTree.{model_tree}
 use Rattle.xs_trace_text.specs.Given.{BytesGive}
+use Rattle.xs_report.specs.Told.{told_trace}
 use Rattle.xs_report.specs.Faults.{IsFaultOf}
 use Rattle.xsap_program.specs.declared.input.Stop.TheVariants as stop
 use Rattle.xsap_program.proofs.InputLemmas.{same_error}
@@ -18,10 +19,10 @@ returns-in_err-bytes-clause-refused g c r e =
 
 pub returns-clause-refused : goal.returns-clause-refused
 returns-clause-refused g c r e =
-    refuses_trace_text _ _ _ _ c.in_ok-bytes.ensures.bytes c.in-Err.fault r (sym (same_error e) ∙ c.text_stop.ensures) (subst (λ b. IsFaultOf _ b c.in-Err.fault) c.deref.ensures.value c.in-Err.ensures.fault)
+    refuses_trace_text _ _ _ _ c.in_ok-bytes.ensures.bytes c.in-Err.fault r (sym (same_error e) ∙ c.text_stop.ensures) (subst (λ b. IsFaultOf (model_tree c.args.typed.now.model) b c.in-Err.fault) c.deref.ensures.value c.in-Err.ensures.fault)
 
-pub returns-clause-ok : goal.returns-clause-ok
-returns-clause-ok g c = holds_trace _ _ _ _ _ c.in_ok-bytes.ensures.bytes (subst (λ b. BytesGive _ b _) c.deref.ensures.value c.in-Ok.ensures.trace)
+pub returns-in-Ok-clause-ok : goal.returns-in-Ok-clause-ok
+returns-in-Ok-clause-ok g c = holds_trace _ _ _ _ _ c.in_ok-bytes.ensures.bytes (subst (λ b. BytesGive (model_tree c.args.typed.now.model) b (told_trace c.args.typed.now.model.symbols c.in-Ok.trace)) c.deref.ensures.value c.in-Ok.ensures.trace)
 
-pub returns-clause-fit : goal.returns-clause-fit
-returns-clause-fit g c = fit_trace (model_tree c.args.typed.now.model) c.requires.printable c.in_ok-bytes.bytes.items c.in-Ok.trace c.in_ok-bytes.ensures.short (subst (λ b. BytesGive _ b _) c.deref.ensures.value c.in-Ok.ensures.trace)
+pub returns-in-Ok-clause-fit : goal.returns-in-Ok-clause-fit
+returns-in-Ok-clause-fit g c = fit_trace (model_tree c.args.typed.now.model) c.requires.printable c.in_ok-bytes.bytes.items c.in-Ok.trace c.in_ok-bytes.ensures.short (subst (λ b. BytesGive (model_tree c.args.typed.now.model) b (told_trace c.args.typed.now.model.symbols c.in-Ok.trace)) c.deref.ensures.value c.in-Ok.ensures.trace)
