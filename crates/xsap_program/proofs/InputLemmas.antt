@@ -12,6 +12,8 @@ use Rattle.xs_extend.specs.Refused.{modules_in}
 use Rattle.xs_desk.specs.declared.files.NamedFile.{NamedFile}
 use Rattle.xsap_program.specs.declared.status.InputFault.{InputFault}
 use Rattle.xsap_program.specs.declared.status.Refusal.{Refusal}
+use Rattle.xsap_program.specs.declared.loaded.LoadedCase.{LoadedCase}
+use Rattle.xsap_program.specs.Loaded.{IsLoaded, IsLoadedFrom, HoldsLoaded}
 use Rattle.xsap_program.specs.declared.status.Refusal.TheVariants as refusal
 use Rattle.xsap_program.specs.declared.wrong.Wrong.{Wrong}
 use Rattle.xsap_program.specs.declared.wrong.Wrong.TheVariants as wrong
@@ -76,3 +78,9 @@ modules_are p m is = twice m.instances ∙ ap (map (λ (at : FlatInstance). at.m
 -- what is so of the modes over a lawful program's flat model is so over each of its flat models, since it has one
 pub all_uses : (p : ProgramTree) (m : ModelTree) (i : InstructionTree) → IsLawful p m → AllUsesKept p m i → (n : ModelTree) → IsFlatOf p n → AllUsesKept p n i
 all_uses p m i lawful kept n is = subst (λ o. AllUsesKept p o i) (sym (lawful.model.only n is)) kept
+
+-- bytes that are taken, as the extension in memory
+pub holds_loaded : (told : Option (List NamedFile)) (name : Text) (p : ProgramTree) (bytes : List ℕ) (l : LoadedCase) → IfSome told (λ files. HasBytes files name bytes) → IsLoadedFrom bytes l → IsLoaded p l →
+    IfSome told (λ files. HoldsLoaded files name p l)
+holds_loaded None name p bytes l has text loaded = tt
+holds_loaded (Some files) name p bytes l has text loaded = record { bytes = bytes; has = has; is_text = text; is_case = loaded.is_case }

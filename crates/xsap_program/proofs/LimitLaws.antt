@@ -88,7 +88,7 @@ module _ (p : ProgramTree) (m : FlatModel) (i : InstructionTree) (faults : List 
     names_kept = each_more (KeepsUse p m) (KeepsNames p) (uses p i) (λ u k. k.names) (taken.uses m lawful.model.is);
   }
 
-  are_woven : (whole : FlatModel) (is : IsWhole (woven p i) faults whole) → IsAccepted (woven p i) → AreWoven p m i is.flat
+  pub are_woven : (whole : FlatModel) (is : IsWhole (woven p i) faults whole) → IsAccepted (woven p i) → AreWoven p m i is.flat
   are_woven whole is accepted = record {
     program = accepted_walkable p lawful.accepted;
     flat = lawful.model.is;

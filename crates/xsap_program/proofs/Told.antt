@@ -31,11 +31,11 @@ refused_weaker P Q h (wrong.Refused fault) so = h fault so
 refused_weaker P Q h wrong.Memory so = tt
 
 -- a rule of names where one is told
-abbrev names_wrong : Option Rule → ℕ → Wrong
+abbrev pub names_wrong : Option Rule → ℕ → Wrong
 names_wrong None place = wrong.Memory
 names_wrong (Some r) place = wrong.Refused (names_fault r place)
 
-flat_is : (c : FlatRule) (place : ℕ) → flat_rule c place ≡ names_wrong (rule_of c) place
+pub flat_is : (c : FlatRule) (place : ℕ) → flat_rule c place ≡ names_wrong (rule_of c) place
 flat_is flat.NoMain place = refl
 flat_is flat.MainHasParameters place = refl
 flat_is flat.DoubleModule place = refl
@@ -71,7 +71,7 @@ pub record IsKind (m : FlatModel) (item place : ℕ) (told : InputFault) : Type 
   pub broken : IsFault m rule item
   pub is : told ≡ kinds_fault rule place
 
-type_is : (r : KindRule) (place : ℕ) → type_rule (told_rule r) place ≡ wrong.Refused (kinds_fault r place)
+pub type_is : (r : KindRule) (place : ℕ) → type_rule (told_rule r) place ≡ wrong.Refused (kinds_fault r place)
 type_is kinds.mismatch place = refl
 type_is kinds.not_boolean place = refl
 type_is kinds.set_here place = refl

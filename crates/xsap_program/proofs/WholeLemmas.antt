@@ -35,7 +35,7 @@ numbered_variable m path x i has =
       same_name = ap name_in back;
     }
 
-numbered_modes : (m : FlatModel) (ws : List WovenFault) (fs : List Fault) → AreNumbered m ws fs → EachBoth (IsModeOf (model_tree m)) (map fault_tree ws) (map mode_of fs)
+pub numbered_modes : (m : FlatModel) (ws : List WovenFault) (fs : List Fault) → AreNumbered m ws fs → EachBoth (IsModeOf (model_tree m)) (map fault_tree ws) (map mode_of fs)
 numbered_modes m [] [] h = tt
 numbered_modes m [] (f ∷ fs) h = absurd h
 numbered_modes m (w ∷ ws) [] h = absurd h

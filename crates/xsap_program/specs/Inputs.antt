@@ -1,8 +1,8 @@
 -- What the two input files come to: what is wrong with a file, and what it holds.
-use Rattle.std.specs.Prelude.{ℕ, ◌≡◌, ◌⊎◌, ◌≤◌, ◌<◌, List, length, map, Some, None}
+use Rattle.std.specs.Prelude.{ℕ, ◌≡◌, ◌⊎◌, ◌≤◌, ◌<◌, List, [], ◌∷◌, ◌++◌, length, map, Some, None}
 use Rattle.xs_desk.specs.declared.files.NamedFile.{NamedFile}
 use Rattle.xs_desk.specs.Files.{file_of, content_of}
-use Rattle.xs_tree.specs.ProgramTree.{Text, ProgramTree, program_tree}
+use Rattle.xs_tree.specs.ProgramTree.{Text, Path, ProgramTree}
 use Rattle.xs_tree.specs.Text.{program_text}
 use Rattle.xs_parse.specs.declared.fault.ParseFault.{ParseFault}
 use Rattle.xs_parse.specs.Stops.{FaultMeans}
@@ -18,8 +18,10 @@ use Rattle.xs_weave.specs.Faults.{Fault, HasFaults}
 use Rattle.xs_weave.specs.Woven.{woven}
 use Rattle.xs_weave.specs.Weavable.{IsWeavable}
 use Rattle.xs_extend.specs.Refused.{KeepsRules, IsTold}
-use Rattle.xs_extend.specs.WovenFaults.{fault_tree}
-use Rattle.xs_extend.specs.declared.faults.Woven.{Woven}
+use Rattle.xs_extend.specs.NumberedFaults.{parts_of}
+use Rattle.xs_extend.specs.declared.faults.WovenFault.{WovenFault}
+use Rattle.xs_report.specs.FaultText.{name_of}
+use Rattle.xs_scope.specs.declared.model.Fault.{Fault as Numbered}
 use Rattle.xs_extend.specs.declared.fault.WeaveFault.{WeaveFault}
 use Rattle.xsap_program.specs.declared.status.InputFault.{InputFault}
 use Rattle.xsap_program.specs.declared.status.Refusal.{Refusal}
@@ -127,7 +129,10 @@ IsMade p bytes made = IsExtensionText p bytes made.text.items made.report
 abbrev pub HoldsExtension : List NamedFile → Text → ProgramTree → Made → Type 0
 HoldsExtension files name p made = HoldsFaults files name p made.text.items made.report
 
--- the text of a woven program, and what is said of its faults
-pub record IsMadeOf (w : Woven) (made : Made) : Type 0 where
-  pub text : made.text.items ≡ program_text (program_tree w.program)
-  pub report : made.report ≡ report_text (map fault_tree w.faults)
+-- a fault's name is its path, slice and mode
+abbrev pub path_of : WovenFault → Path
+path_of w = parts_of w.path ++ (w.slice ∷ w.mode ∷ [])
+
+-- the faults have the names of the woven ones, in their order
+abbrev pub AreListed : List WovenFault → List Numbered → Type 0
+AreListed woven faults = map name_of faults ≡ map path_of woven

@@ -45,3 +45,8 @@ pub data IsWrongModel (bytes : List ℕ) (fault : InputFault) : Type 0 where
   not_flat : (p : ProgramTree) (r : Rule) (item : ℕ) → IsModelText bytes p → IsFirstBroken p r item → fault ≡ names_fault r item → IsWrongModel bytes fault
   not_typed : (p : ProgramTree) (m : FlatModel) (r : KindRule) (item : ℕ) → IsModelText bytes p → IsAccepted p → IsModelOf p m → IsFault m r item → fault ≡ kinds_fault r item →
       IsWrongModel bytes fault
+
+-- some bytes spell the program
+pub record IsSpelled (p : ProgramTree) : Type 0 where
+  pub bytes : List ℕ
+  pub spelled : BytesSpellProgram bytes p

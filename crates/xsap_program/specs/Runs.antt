@@ -1,28 +1,32 @@
 -- What a run comes to, and what it leaves behind.
-use Rattle.std.specs.Prelude.{ℕ, ◌≡◌, List, Option}
+use Rattle.std.specs.Prelude.{◌≡◌, List}
 use Rattle.xs_desk.specs.declared.files.NamedFile.{NamedFile}
 use Rattle.xs_desk.specs.Desk.{told_with, said_more, SaysPrefix, WritesPrefix}
-use Rattle.xs_tree.specs.ProgramTree.{Text, ProgramTree}
-use Rattle.xsap_program.specs.declared.status.Built.TheVariants as built
+use Rattle.xs_tree.specs.ProgramTree.{Text, Formula, ProgramTree}
+use Rattle.xs_tree.specs.Tree.{Tree}
+use Rattle.xs_tree.specs.Values.{Value}
+use Rattle.xs_flattening.specs.Flat.{FlatLeaf}
+use Rattle.xs_eval.specs.Replayed.{IsReaching}
+use Rattle.xs_words.specs.Commands.{Command, extend, replay}
+use Rattle.xs_words.specs.Meaning.{Means as WordsMean}
 use Rattle.xsap_program.specs.declared.status.Refusal.{Refusal}
 use Rattle.xsap_program.specs.declared.status.Refusal.TheVariants as refusal
 use Rattle.xsap_program.specs.declared.status.Status.{Status}
 use Rattle.xsap_program.specs.declared.status.Status.TheVariants as status
-use Rattle.xs_parse.specs.declared.fault.ParseFault.{ParseFault}
-use Rattle.xs_fei.specs.Instructions.{InstructionTree}
-use Rattle.xs_weave_rules.specs.declared.fault.Rule.{Rule}
-use Rattle.xs_extend.specs.Refused.{IsFirstOfGroups}
-use Rattle.xsap_program.specs.declared.wrong.Wrong.TheVariants as wrong
 use Rattle.xsap_program.specs.declared.status.InputFault.{InputFault}
-use Rattle.xsap_program.specs.Wrongs.{parse_wrong, weave_rule}
 use Rattle.xsap_program.specs.Statuses.{status_of, refusal_text}
-use Rattle.xsap_program.specs.Commands.{AsksToExtend, AsksForMore}
-use Rattle.xsap_program.specs.Inputs.{IsRefusedFile, HasBytes, RefusesModel, HoldsModel, IsInstructionText, IsFaultOfInstructions, modules_named, RefusesFaults, HoldsFaults}
+use Rattle.xsap_program.specs.Asked.{RefusesWords}
+use Rattle.xsap_program.specs.Inputs.{RefusesModel, HoldsModel, RefusesFaults, HoldsFaults}
+use Rattle.xsap_program.specs.Cases.{Case, HoldsCase, IsTopWord, IsWrongWord}
+use Rattle.xsap_program.specs.Tasks.{IsTopTree}
+use Rattle.xsap_program.specs.Answered.{Told, Said, replay_text}
+use Rattle.xsap_program.specs.Replays.{RefusesTrace, HoldsTrace, RefusesMoment}
 
--- a run refuses something, or it writes a text to a file and says a report
+-- a run refuses something, it writes a text to a file and says a report, or it says a report alone
 pub data Outcome : Type 0 where
   refuses : Refusal → Outcome
   extends : Text → Text → Text → Outcome
+  says : Text → Outcome
 
 -- what the two files come to, with the file for the extension, in the order of the work
 pub data ComesTo (files : List NamedFile) (model faults extended : Text) : Outcome → Type 0 where
@@ -31,10 +35,31 @@ pub data ComesTo (files : List NamedFile) (model faults extended : Text) : Outco
   is_extended : (p : ProgramTree) (text report : Text) → HoldsModel files model p → HoldsFaults files faults p text report →
       ComesTo files model faults extended (extends extended text report)
 
+-- what the file of a trace comes to over the extension, where the event is this expression there: it is refused, its moments are
+-- no trace that reaches the event, or they are one, and the names of the faults that it has failed are said
+pub data TraceComesTo (files : List NamedFile) (c : Case) (tree : Tree FlatLeaf) (trace : Text) : Outcome → Type 0 where
+  refuses_trace : (r : Refusal) → RefusesTrace files trace c.flat r → TraceComesTo files c tree trace (refuses r)
+  refuses_moment : (moments : List (List Value)) (r : Refusal) → HoldsTrace files trace c.flat moments → RefusesMoment c.flat tree moments r → TraceComesTo files c tree trace (refuses r)
+  is_reached : (moments : List (List Value)) → HoldsTrace files trace c.flat moments → IsReaching c.flat tree moments → TraceComesTo files c tree trace (says (replay_text c moments))
+
+-- what the files and the word of a replay come to, in the order of the work
+pub data ReplayComesTo (files : List NamedFile) (model faults trace top : Text) : Outcome → Type 0 where
+  refuses_its_model : (r : Refusal) → RefusesModel files model r → ReplayComesTo files model faults trace top (refuses r)
+  refuses_its_faults : (p : ProgramTree) (r : Refusal) → HoldsModel files model p → RefusesFaults files faults p r → ReplayComesTo files model faults trace top (refuses r)
+  refuses_its_top : (c : Case) (fault : InputFault) → HoldsCase files model faults c → IsWrongWord c.program top fault → ReplayComesTo files model faults trace top (refuses (refusal.Top fault))
+  reads_its_trace : (c : Case) (e : Formula) (tree : Tree FlatLeaf) (o : Outcome) → HoldsCase files model faults c → IsTopWord c.program top e → IsTopTree c e tree →
+      TraceComesTo files c tree trace o → ReplayComesTo files model faults trace top o
+
+-- what a command that is built comes to
+abbrev pub CommandComesTo : List NamedFile → Command → Outcome → Type 0
+CommandComesTo files (extend model faults extended) o = ComesTo files model faults extended o
+CommandComesTo files (replay model faults trace top) o = ReplayComesTo files model faults trace top o
+CommandComesTo files _ o = ⊥
+
 -- what a run over these files with these words comes to
 pub data Means (files : List NamedFile) (words : List Text) : Outcome → Type 0 where
-  other_words : AsksForMore words → Means files words (refuses (refusal.NotBuilt built.Words))
-  asked : (model faults extended : Text) (o : Outcome) → AsksToExtend words model faults extended → ComesTo files model faults extended o → Means files words o
+  refuses_words : (r : Refusal) → RefusesWords words r → Means files words (refuses r)
+  asked : (c : Command) (o : Outcome) → WordsMean words c → CommandComesTo files c o → Means files words o
 
 -- a status that is neither a failure of the desk nor want of memory
 abbrev pub IsAnswer : Status → Type 0
@@ -42,31 +67,27 @@ IsAnswer status.Desk = ⊥
 IsAnswer status.Memory = ⊥
 IsAnswer _ = Unit {0}
 
--- the status that an outcome has
-abbrev pub outcome_status : Outcome → Status
-outcome_status (refuses r) = status_of r
-outcome_status (extends file text report) = status.Done
-
--- the outcome stands in full: a refusal has changed no file and said its one line; an extension has
--- written its whole text to its one file and said its report
-abbrev pub IsDelivered : Outcome → Option (List NamedFile) → Option (List NamedFile) → Option (List ℕ) → Option (List ℕ) → Type 0
-IsDelivered (refuses r) before after said now = (after ≡ before) × (now ≡ said_more said (refusal_text r))
-IsDelivered (extends file text report) before after said now = (after ≡ told_with before file text) × (now ≡ said_more said report)
+-- The outcome stands in full, and the run has its status: a refusal has changed no file and said its one line; an extension has
+-- written its whole text to its one file and said its report; a report alone has changed no file.
+abbrev pub IsDelivered : Outcome → Status → Told → Told → Said → Said → Type 0
+IsDelivered (refuses r) ended before after said now = (ended ≡ status_of r) × (after ≡ before) × (now ≡ said_more said (refusal_text r))
+IsDelivered (extends file text report) ended before after said now = (ended ≡ status.Done) × (after ≡ told_with before file text) × (now ≡ said_more said report)
+IsDelivered (says report) ended before after said now = (ended ≡ status.Done) × (after ≡ before) × (now ≡ said_more said report)
 
 -- a part of the outcome stands: at most a prefix of what would be written and said
-abbrev pub IsDeliveredInPart : Outcome → Option (List NamedFile) → Option (List NamedFile) → Option (List ℕ) → Option (List ℕ) → Type 0
+abbrev pub IsDeliveredInPart : Outcome → Told → Told → Said → Said → Type 0
 IsDeliveredInPart (refuses r) before after said now = (after ≡ before) × SaysPrefix said now (refusal_text r)
 IsDeliveredInPart (extends file text report) before after said now = WritesPrefix before after file text × SaysPrefix said now report
+IsDeliveredInPart (says report) before after said now = (after ≡ before) × SaysPrefix said now report
 
 -- the run has answered: what stands is the whole outcome of the words and files at entry
-pub record HasAnswered (files : List NamedFile) (words : List Text) (answer : Status) (before after : Option (List NamedFile)) (said now : Option (List ℕ)) : Type 0 where
+pub record HasAnswered (files : List NamedFile) (words : List Text) (answer : Status) (before after : Told) (said now : Said) : Type 0 where
   pub outcome : Outcome
   pub means : Means files words outcome
-  pub ended : answer ≡ outcome_status outcome
-  pub delivered : IsDelivered outcome before after said now
+  pub delivered : IsDelivered outcome answer before after said now
 
 -- the run has stopped on the way: what stands is a part of that outcome
-pub record HasStopped (files : List NamedFile) (words : List Text) (before after : Option (List NamedFile)) (said now : Option (List ℕ)) : Type 0 where
+pub record HasStopped (files : List NamedFile) (words : List Text) (before after : Told) (said now : Said) : Type 0 where
   pub outcome : Outcome
   pub means : Means files words outcome
   pub in_part : IsDeliveredInPart outcome before after said now

@@ -1,5 +1,5 @@
 // An instruction file as the extension of a model: the text that is written, and what is said.
-ghost use Rattle.std.specs.Prelude.{◌≡◌, ◌≤◌, length, map, IfOk, OnOk, IfErr, IfSome, IsErrOf};
+ghost use Rattle.std.specs.Prelude.{◌≡◌, ◌≤◌, ◌++◌, codes, length, map, IfOk, OnOk, IfErr, IfSome, IsErrOf};
 ghost use Rattle.xs_desk.specs.Desk.{Rose};
 ghost use Rattle.xs_tree.specs.ProgramTree.{program_tree};
 ghost use Rattle.xs_scope.specs.ModelTree.{model_tree};
@@ -7,10 +7,12 @@ ghost use Rattle.xs_flattening.specs.Rules.{IsAccepted};
 ghost use Rattle.xs_extend.specs.InstanceLaws.{HasInstancesInVar};
 ghost use Rattle.xs_extend.specs.WovenFaults.{fault_tree};
 ghost use Rattle.xsap_program.specs.Wrongs.{IfRefused};
+ghost use Rattle.xs_tree.specs.Text.{program_text};
+ghost use Rattle.xs_report.specs.FaultText.{name_of, faults_text};
 ghost use Rattle.xsap_program.specs.Models.{IsModelOf, IsLawful};
 ghost use Rattle.xs_kinds.specs.Models.{IsTyped};
 ghost use Rattle.xsap_program.specs.Wholes.{BreaksNames, BreaksKinds, IsWrongWhole, IsWithinLimits};
-ghost use Rattle.xsap_program.specs.Inputs.{IsWrongFaults, RefusesFaults, HoldsExtension, IsMade, IsMadeOf};
+ghost use Rattle.xsap_program.specs.Inputs.{IsWrongFaults, RefusesFaults, HoldsExtension, IsMade, AreListed};
 ghost use Rattle.xsap_program.specs.declared.status.Refusal.{Refusal};
 ghost use Rattle.xsap_program.specs.declared.input.Stop.TheVariants as stop;
 
@@ -22,7 +24,7 @@ use std::alloc::Global;
 use xs_desk::Desk;
 use xs_extend::{Woven, fault_list, weave_typed};
 use xs_fei_reader::instructions;
-use xs_flat::{FlatFault, FlatModel, flatten, with_history};
+use xs_flat::{FaultList, FlatFault, FlatModel, flatten, with_history};
 use xs_tree::{Program, print_program};
 use xs_types::{TypeFault, check_model};
 use xs_value::{ByteList, OutOfMemory};
@@ -69,23 +71,26 @@ fn extension_of(alloc: Global, bytes: &[u8], model: &LoadedModel) -> Result<Made
 {
     let instructions = instructions(alloc, bytes)?;
     let woven = weave_typed(alloc, &model.program, &model.typed, &instructions)?;
-    check_limits(alloc, &woven)?;
-    Ok(made_of(alloc, &woven)?)
+    let faults = check_limits(alloc, &woven)?;
+    Ok(made_of(alloc, &woven.program, &faults)?)
 }
 
-/// Refuses an extension that passes a limit of size, as no item of either file does alone.
-fn check_limits(alloc: Global, woven: &Woven) -> Result<(), Wrong>
+/// Refuses an extension that passes a limit of size, as no item of either file does alone, and else gives its
+/// faults with their names.
+fn check_limits(alloc: Global, woven: &Woven) -> Result<FaultList, Wrong>
     ensures ok { OnOk result (IsWithinLimits (program_tree woven.now.program) (map fault_tree woven.now.faults)) }
+    ensures listed { IfOk result (AreListed woven.now.faults) }
     ensures wrong { IfErr result (IfRefused (IsWrongWhole (program_tree woven.now.program) (map fault_tree woven.now.faults))) }
 {
     let flat = flat_whole(alloc, &woven.program)?;
     let faults = fault_list(alloc, woven, &flat)?;
     let full = with_history(alloc, &flat, &faults)?;
-    check_whole(alloc, full)
+    check_whole(alloc, full)?;
+    Ok(faults)
 }
 
 /// The flat model of an extension. What is wrong with it is wrong with the whole.
-fn flat_whole(alloc: Global, program: &Program) -> Result<FlatModel, Wrong>
+pub(crate) fn flat_whole(alloc: Global, program: &Program) -> Result<FlatModel, Wrong>
     ensures accepted { OnOk result (IsAccepted (program_tree program.now)) }
     ensures model { IfOk result (λ flat. IsModelOf (program_tree program.now) (model_tree flat)) }
     ensures wrong { IfErr result (IfRefused (BreaksNames (program_tree program.now))) }
@@ -100,7 +105,7 @@ fn flat_whole(alloc: Global, program: &Program) -> Result<FlatModel, Wrong>
 }
 
 /// Refuses a flat model of an extension by its kinds and its size.
-fn check_whole(alloc: Global, flat: FlatModel) -> Result<(), Wrong>
+pub(crate) fn check_whole(alloc: Global, flat: FlatModel) -> Result<(), Wrong>
     ensures typed { OnOk result (IsTyped (model_tree flat)) }
     ensures wrong { IfErr result (IfRefused (BreaksKinds (model_tree flat))) }
 {
@@ -114,10 +119,11 @@ fn check_whole(alloc: Global, flat: FlatModel) -> Result<(), Wrong>
 }
 
 /// The text of an extension, and what is said of its faults.
-fn made_of(alloc: Global, woven: &Woven) -> Result<Made, OutOfMemory>
-    ensures { IfOk result (λ made. IsMadeOf woven.now made) }
+fn made_of(alloc: Global, program: &Program, faults: &FaultList) -> Result<Made, OutOfMemory>
+    ensures text { IfOk result (λ made. made.text.items ≡ program_text (program_tree program.now)) }
+    ensures report { IfOk result (λ made. made.report ≡ faults_text (map name_of faults.now) ++ codes "extended\n") }
 {
-    let text = print_program(alloc, &woven.program)?;
-    let report = report(alloc, woven.faults.as_slice())?;
+    let text = print_program(alloc, program)?;
+    let report = report(alloc, faults)?;
     Ok(Made { text, report })
 }

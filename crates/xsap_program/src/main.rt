@@ -1,18 +1,22 @@
-//! Extends SMV models with faults: the program over the crates below it.
+//! Extends SMV models with faults, and replays traces of the extensions: the program over the crates below it.
 //!
-//! [`run::run`] is the whole program over any desk: it reads the words, a model and instructions, and
+//! [`run::run`] is the whole program over any desk: it reads the words and the files that they name, and
 //! writes and says the answer. Its contract says what a run comes to (`specs/Runs.antt`): the one line of
-//! the first refusal, or the extension and its fault list, and what is left where the desk fails on the
-//! way. What is wrong with a file and what it holds stands in `specs/Inputs.antt`, the numbers and lines of
+//! the first refusal; the extension and its fault list; or that a trace reaches the top event and what it
+//! has failed; and what is left where the desk fails on the way. What words ask for stands in `specs/Asked.antt`, what is wrong with a file and what it holds stands in `specs/Inputs.antt`,
+//! top events in `specs/Cases.antt`, traces in `specs/Replays.antt`, the numbers and lines of
 //! refusals in `specs/Wrongs.antt` and `specs/Statuses.antt`, and that the written file is the extension in
 //! `specs/Extension.antt`. `main` hands `run` the words of the command line and a desk over real files.
 //!
-//! The files stand in the order of the work: `command` (the words), `input` (a file's bytes), `model`
-//! (program, flat model, kinds), `faults` (instructions, the weave, the limits of the whole), `report`
-//! (what is said) and `run`. `wrong` and `status` have what each refusal says.
+//! The files stand in the order of the work: `input` (a file's bytes), `model`
+//! (program, flat model, kinds), `faults` (instructions, the weave, the limits of the whole, as a text that
+//! is written), `loaded` (the same, with the flat model in memory), `top` (the top event), `trace` (the file
+//! of a trace), `replay` (what a trace comes to), `report` (what is said) and `run`. `wrong` and `status`
+//! have what each refusal says.
 //!
 //! ```text
 //! xsap_program extend --model lamp.smv --faults lamp.fei --extended out.smv
+//! xsap_program replay --model lamp.smv --faults lamp.fei --trace dark.trace --top '!on'
 //! ```
 #![tactic(auto)]
 
@@ -24,16 +28,21 @@ use std::env;
 use std::io::ErrorKind;
 use std::process::ExitCode;
 
-pub mod command;
 pub mod faults;
 pub mod input;
+pub mod loaded;
 pub mod model;
 mod real_desk;
+mod replay;
+#[cfg(test)]
+mod replay_tests;
 mod report;
 pub mod run;
 pub mod status;
 #[cfg(test)]
 mod tests;
+mod top;
+mod trace;
 pub mod wrong;
 
 /// The number that the program ends with where a word is not text, which no status has.

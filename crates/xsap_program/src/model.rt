@@ -5,7 +5,7 @@ ghost use Rattle.xs_tree.specs.ProgramTree.{program_tree};
 ghost use Rattle.xs_scope.specs.ModelTree.{model_tree};
 ghost use Rattle.xs_extend.specs.InstanceLaws.{HasInstancesInVar};
 ghost use Rattle.xsap_program.specs.Wrongs.{IfRefused};
-ghost use Rattle.xsap_program.specs.Models.{IsModelText, IsLawful, IsWrongModel};
+ghost use Rattle.xsap_program.specs.Models.{IsModelText, IsLawful, IsSpelled, IsWrongModel};
 ghost use Rattle.xsap_program.specs.Inputs.{RefusesModel, HoldsModel};
 ghost use Rattle.xsap_program.specs.declared.status.Refusal.{Refusal};
 ghost use Rattle.xsap_program.specs.declared.input.Stop.TheVariants as stop;
@@ -35,6 +35,7 @@ pub(crate) fn load_model<D: Desk>(
     ensures ok { IfOk result (λ l. IfSome (D.files desk.old) (λ files. HoldsModel files name.now (program_tree l.program))) }
     ensures lawful { IfOk result (λ l. IsLawful (program_tree l.program) (model_tree l.typed.model)) }
     ensures in_var { IfOk result (λ l. HasInstancesInVar (program_tree l.program)) }
+    ensures spelled { IfOk result (λ l. IsSpelled (program_tree l.program)) }
     ensures refused { (r : Refusal) → IsErrOf result (stop.Refused r) → IfSome (D.files desk.old) (λ files. RefusesModel files name.now r) }
     ensures failed { IsErrOf result stop.Desk → Rose (D.faults desk.old) (D.faults desk.new) }
 
@@ -56,6 +57,7 @@ fn model_of(alloc: Global, bytes: &[u8]) -> Result<LoadedModel, Wrong>
     ensures ok { IfOk result (λ l. IsModelText bytes.now (program_tree l.program)) }
     ensures lawful { IfOk result (λ l. IsLawful (program_tree l.program) (model_tree l.typed.model)) }
     ensures in_var { IfOk result (λ l. HasInstancesInVar (program_tree l.program)) }
+    ensures spelled { IfOk result (λ l. IsSpelled (program_tree l.program)) }
     ensures wrong { IfErr result (IfRefused (IsWrongModel bytes.now)) }
 {
     let program = program(alloc, bytes)?;

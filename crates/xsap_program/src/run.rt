@@ -1,41 +1,89 @@
 // The top call.
-ghost use Rattle.std.specs.Prelude.{◌≡◌, ◌≤◌, ◌⊎◌, IfOk, OnOk, OnErr, IfSome, IsSomeAnd, IsErrOf, ℕ, List, map};
+ghost use Rattle.std.specs.Prelude.{◌≡◌, ◌≤◌, ◌⊎◌, IfOk, IfErr, OnOk, OnErr, IfSome, IsNone, IsSomeAnd, IsErrOf, ℕ, List, map};
 ghost use Rattle.xs_desk.specs.Desk.{Rose, told_with, WritesPrefix, said_more, SaysPrefix};
 ghost use Rattle.xs_tree.specs.ProgramTree.{Text};
 ghost use Rattle.xsap_program.specs.declared.status.Refusal.{Refusal};
 ghost use Rattle.xsap_program.specs.declared.input.Stop.TheVariants as stops;
 ghost use Rattle.xsap_program.specs.Statuses.{status_of, refusal_text};
-ghost use Rattle.xsap_program.specs.Runs.{Outcome, refuses, extends, ComesTo, Means, IsAnswer, outcome_status, IsDelivered, HasAnswered, HasStopped};
-ghost use Rattle.xsap_program.specs.Commands.{AsksToExtend};
+ghost use Rattle.xsap_program.specs.Runs.{Outcome, refuses, extends, says, ComesTo, ReplayComesTo, CommandComesTo, Means, IsAnswer, IsDelivered, IsDeliveredInPart, HasAnswered, HasStopped};
+ghost use Rattle.xsap_program.specs.Prepared.{command_of, outcome_of};
+ghost use Rattle.xs_words.specs.Meaning.{Means as WordsMean};
+ghost use Rattle.xs_words.specs.Seen.{seen};
+ghost use Rattle.xsap_program.specs.Asked.{AsksToExtend, AsksToReplay, IsNotBuilt, RefusesWords};
 ghost use Rattle.xsap_program.specs.Extension.{IsExtended};
+ghost use Rattle.xsap_program.specs.Replayed.{HoldsReaching, IsReplayed};
 ghost use Rattle.xsap_program.specs.Delivered.{ended_as, Stopped};
 ghost use Rattle.xs_desk.specs.declared.desk.WriteStop.TheVariants as write_stop;
 
-use crate::command::{Extend, command};
 use crate::faults::{Made, load_extension};
 use crate::input::Stop;
+use crate::loaded::load_case;
 use crate::model::load_model;
+use crate::replay::replay_file;
 use crate::status::{Built, Refusal, Status};
+use crate::top::load_top;
 use std::alloc::Global;
 use xs_desk::{Desk, WriteStop, say_whole, write_whole};
-use xs_value::OutOfMemory;
+use xs_value::{ByteList, OutOfMemory};
+use xs_words::{Command, read_words};
 
-/// Does what the words ask for: `extend` reads a model and instructions, writes the model extended with
-/// the faults, and says the faults. Both files are read, and every refusal is tried, before anything is
-/// written or said. A refusal says its one line and changes no file. The words are those of the command
-/// line without the program's own name.
+/// The files of `extend`: the model, the instructions, and the extension that is written.
+#[derive(Clone, Copy)]
+struct Extend<'a> {
+    model: &'a str,
+    faults: &'a str,
+    extended: &'a str,
+}
+
+/// The files of `replay`: the model, the instructions and the trace; and the word of the top event.
+#[derive(Clone, Copy)]
+struct Replay<'a> {
+    model: &'a str,
+    faults: &'a str,
+    trace: &'a str,
+    top: &'a str,
+}
+
+/// A command that is built.
+#[derive(Clone, Copy)]
+enum Asked<'a> {
+    Extend(Extend<'a>),
+    Replay(Replay<'a>),
+}
+
+/// What is to be written and said once every refusal was tried: an extension to a file, and its report; or a
+/// report alone.
+#[derive(Drop)]
+enum Prepared<'a> {
+    Extension(&'a str, Made),
+    Report(ByteList),
+}
+
+/// Does what the words ask for. `extend` reads a model and instructions, writes the model extended with
+/// the faults, and says the faults. `replay` reads a model, instructions, a top event and a trace of the
+/// extension, and says that the trace reaches the event, and which faults it has failed; it writes nothing.
+/// All files are read, and every refusal is tried, before anything is written or said. A refusal says its one
+/// line and changes no file. The words are those of the command line without the program's own name.
 pub fn run<D: Desk>(alloc: Global, words: &[&str], desk: &mut D) -> Status
     // Unless the desk failed or memory ran out, the whole of what words and files come to stands.
     ensures answered { IsAnswer result → IfSome (D.files desk.old) (λ files.
         HasAnswered files (map (λ w. w.now) words.now) result (D.files desk.old) (D.files desk.new) (D.said desk.old) (D.said desk.new)) }
     // What the words and files come to is one, and it is the answer and what stands: the first rule that is broken, at its
-    // place, or the extension and its report.
+    // place, the first moment that stops the trace from reaching the event, the extension and its report, or the report of a
+    // trace that reaches it.
     ensures exact { IsAnswer result → IfSome (D.files desk.old) (λ files. (o : Outcome) → Means files (map (λ w. w.now) words.now) o →
-        (result ≡ outcome_status o) × IsDelivered o (D.files desk.old) (D.files desk.new) (D.said desk.old) (D.said desk.new)) }
+        IsDelivered o result (D.files desk.old) (D.files desk.new) (D.said desk.old) (D.said desk.new)) }
     // A run that is done has written the woven program, as the one program that the model spells and the instructions make it:
     // its traces are the extended traces, and its faultless ones the model's. It has said the list of its faults.
     ensures extended { (model faults extended : Text) → result ≡ Status.Done → AsksToExtend (map (λ w. w.now) words.now) model faults extended →
         IfSome (D.files desk.old) (λ before. IsSomeAnd (D.files desk.new) (λ after. IsExtended before after (D.said desk.old) (D.said desk.new) model faults extended)) }
+    // A run that is done has replayed the trace: its values are cut to an extended trace that reaches the event, and the names of
+    // exactly the faults that it has failed were said; no file was changed.
+    ensures replayed { (model faults trace top : Text) → result ≡ Status.Done → AsksToReplay (map (λ w. w.now) words.now) model faults trace top →
+        IfSome (D.files desk.old) (λ files. IsReplayed files (D.said desk.old) (D.said desk.new) model faults trace top × (D.files desk.new ≡ D.files desk.old)) }
+    // And such a trace is refused for nothing.
+    ensures reaching { (model faults trace top : Text) → IsAnswer result → AsksToReplay (map (λ w. w.now) words.now) model faults trace top →
+        IfSome (D.files desk.old) (λ files. HoldsReaching files model faults trace top → result ≡ Status.Done) }
     // However it ends, nothing was done, or a part of that stands: a prefix of what would be written and said.
     ensures left { ((D.files desk.new ≡ D.files desk.old) × (D.said desk.new ≡ D.said desk.old)) ⊎ IfSome (D.files desk.old) (λ files.
         HasStopped files (map (λ w. w.now) words.now) (D.files desk.old) (D.files desk.new) (D.said desk.old) (D.said desk.new)) }
@@ -44,12 +92,60 @@ pub fn run<D: Desk>(alloc: Global, words: &[&str], desk: &mut D) -> Status
     ensures later { D.faults desk.old ≤ D.faults desk.new }
     ensures quiet { D.quiet desk.old → D.quiet desk.new × (D.faults desk.new ≡ D.faults desk.old) }
 {
-    let Some(files) = command(words) else {
-        return refuse(alloc, desk, Refusal::NotBuilt(Built::Words));
+    let command = match command_asked(words) {
+        Ok(command) => command,
+        Err(refusal) => return refuse(alloc, desk, refusal),
     };
-    match prepare(alloc, desk, &files) {
-        Ok(made) => deliver(desk, files.extended, &made),
+    match prepare(alloc, desk, &command) {
+        Ok(done) => deliver(desk, &done),
         Err(stop) => stopped(alloc, desk, stop),
+    }
+}
+
+/// What the words ask for, where it is built.
+fn command_asked<'a>(words: &'a [&'a str]) -> Result<Asked<'a>, Refusal>
+    ensures found { IfOk result (λ c. WordsMean (map (λ w. w.now) words.now) (command_of c)) }
+    ensures refused { IfErr result (λ r. RefusesWords (map (λ w. w.now) words.now) r) }
+{
+    match read_words(words) {
+        Ok(command) => match built(command) {
+            Some(command) => Ok(command),
+            None => Err(Refusal::NotBuilt(Built::Words)),
+        },
+        Err(fault) => Err(Refusal::Words(fault)),
+    }
+}
+
+/// A command, where it is built.
+fn built<'a>(command: Command<'a>) -> Option<Asked<'a>>
+    ensures found { IfSome result (λ c. seen command.entry ≡ command_of c) }
+    ensures none { IsNone result → IsNotBuilt (seen command.entry) }
+{
+    match command {
+        Command::Extend {
+            model,
+            faults,
+            extended,
+        } => Some(Asked::Extend(Extend {
+            model,
+            faults,
+            extended,
+        })),
+        Command::Replay {
+            model,
+            faults,
+            trace,
+            top,
+        } => Some(Asked::Replay(Replay {
+            model,
+            faults,
+            trace,
+            top,
+        })),
+        Command::Analyse { .. } => None,
+        Command::Check { .. } => None,
+        Command::Fmea { .. } => None,
+        Command::Make { .. } => None,
     }
 }
 
@@ -67,8 +163,35 @@ fn stopped<D: Desk>(alloc: Global, desk: &mut D, stop: Stop) -> Status
     }
 }
 
+/// Reads the files of a command, tries every refusal, and makes what is to be written and said.
+fn prepare<'a, D: Desk>(
+    alloc: Global,
+    desk: &mut D,
+    asked: &Asked<'a>,
+) -> Result<Prepared<'a>, Stop>
+    ensures ok { IfOk result (λ done. IfSome (D.files desk.old) (λ files. CommandComesTo files (command_of asked.now) (outcome_of done))) }
+    ensures refused { (r : Refusal) → IsErrOf result (stops.Refused r) → IfSome (D.files desk.old) (λ files. CommandComesTo files (command_of asked.now) (refuses r)) }
+    ensures failed { IsErrOf result stops.Desk → Rose (D.faults desk.old) (D.faults desk.new) }
+
+    ensures files { D.files desk.new ≡ D.files desk.old }
+    ensures said { D.said desk.new ≡ D.said desk.old }
+    ensures later { D.faults desk.old ≤ D.faults desk.new }
+    ensures quiet { D.quiet desk.old → D.quiet desk.new × (D.faults desk.new ≡ D.faults desk.old) }
+{
+    match asked {
+        Asked::Extend(files) => {
+            let made = prepare_extension(alloc, desk, files)?;
+            Ok(Prepared::Extension(files.extended, made))
+        }
+        Asked::Replay(files) => {
+            let report = prepare_replay(alloc, desk, files)?;
+            Ok(Prepared::Report(report))
+        }
+    }
+}
+
 /// Reads both files, and makes what is to be written and said.
-fn prepare<D: Desk>(alloc: Global, desk: &mut D, asked: &Extend) -> Result<Made, Stop>
+fn prepare_extension<D: Desk>(alloc: Global, desk: &mut D, asked: &Extend) -> Result<Made, Stop>
     ensures ok { IfOk result (λ made. IfSome (D.files desk.old) (λ files.
         ComesTo files asked.now.model.now asked.now.faults.now asked.now.extended.now (extends asked.now.extended.now made.text.items made.report))) }
     ensures refused { (r : Refusal) → IsErrOf result (stops.Refused r) → IfSome (D.files desk.old) (λ files.
@@ -84,16 +207,37 @@ fn prepare<D: Desk>(alloc: Global, desk: &mut D, asked: &Extend) -> Result<Made,
     load_extension(alloc, desk, asked.faults, &model)
 }
 
-/// Writes the extension, and then says the report.
-fn deliver<D: Desk>(desk: &mut D, file: &str, made: &Made) -> Status
-    ensures done { result ≡ Status.Done → (D.files desk.new ≡ told_with (D.files desk.old) file.now made.now.text.items) × (D.said desk.new ≡ said_more (D.said desk.old) made.now.report) }
-    ensures part { WritesPrefix (D.files desk.old) (D.files desk.new) file.now made.now.text.items × SaysPrefix (D.said desk.old) (D.said desk.new) made.now.report }
-    ensures ends { (result ≡ Status.Done) ⊎ ((result ≡ Status.Desk) ⊎ (result ≡ Status.Memory)) }
+/// Reads the three files and the top event, and makes what is to be said of the trace.
+fn prepare_replay<D: Desk>(alloc: Global, desk: &mut D, asked: &Replay) -> Result<ByteList, Stop>
+    ensures ok { IfOk result (λ report. IfSome (D.files desk.old) (λ files.
+        ReplayComesTo files asked.now.model.now asked.now.faults.now asked.now.trace.now asked.now.top.now (says report))) }
+    ensures refused { (r : Refusal) → IsErrOf result (stops.Refused r) → IfSome (D.files desk.old) (λ files.
+        ReplayComesTo files asked.now.model.now asked.now.faults.now asked.now.trace.now asked.now.top.now (refuses r)) }
+    ensures failed { IsErrOf result stops.Desk → Rose (D.faults desk.old) (D.faults desk.new) }
+
+    ensures files { D.files desk.new ≡ D.files desk.old }
+    ensures said { D.said desk.new ≡ D.said desk.old }
+    ensures later { D.faults desk.old ≤ D.faults desk.new }
+    ensures quiet { D.quiet desk.old → D.quiet desk.new × (D.faults desk.new ≡ D.faults desk.old) }
+{
+    let model = load_model(alloc, desk, asked.model)?;
+    let case = load_case(alloc, desk, asked.faults, &model)?;
+    let top = load_top(alloc, asked.top, &model, &case)?;
+    replay_file(alloc, desk, asked.trace, &model, &case, &top)
+}
+
+/// Writes and says what was made.
+fn deliver<D: Desk>(desk: &mut D, done: &Prepared) -> Status
+    ensures done { IsAnswer result → IsDelivered (outcome_of done.now) result (D.files desk.old) (D.files desk.new) (D.said desk.old) (D.said desk.new) }
+    ensures part { IsDeliveredInPart (outcome_of done.now) (D.files desk.old) (D.files desk.new) (D.said desk.old) (D.said desk.new) }
     ensures failed { result ≡ Status.Desk → Rose (D.faults desk.old) (D.faults desk.new) }
     ensures later { D.faults desk.old ≤ D.faults desk.new }
     ensures quiet { D.quiet desk.old → D.quiet desk.new × (D.faults desk.new ≡ D.faults desk.old) }
 {
-    ended(Status::Done, write_and_say(desk, file, made))
+    match done {
+        Prepared::Extension(file, made) => { ended(Status::Done, write_and_say(desk, file, made)) }
+        Prepared::Report(report) => ended(Status::Done, say_whole(desk, report.as_slice())),
+    }
 }
 
 /// The status of work that ends with this one where no call failed.

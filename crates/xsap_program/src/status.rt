@@ -1,15 +1,16 @@
 // How a run ends, and the line that a refusal says.
 ghost use Rattle.std.specs.Prelude.{◌≡◌, ◌≤ℤ◌, pos, ◌++◌, IfOk, OnOk, codes};
 ghost use Rattle.std.specs.Fmt.{decimal};
-ghost use Rattle.xsap_program.specs.Statuses.{number_of, status_of, part_text, fault_text, refusal_text};
+ghost use Rattle.xsap_program.specs.Statuses.{number_of, status_of, part_text, fault_text, words_text, refusal_text, why_text, moment_text};
 
 use std::alloc::Global;
 use xs_value::{ByteList, OutOfMemory};
+use xs_words::WordFault;
 
 /// What this program can't do yet.
 #[derive(Clone, Copy, Debug, PartialEq, Eq)]
 pub enum Built {
-    /// The words ask for more than `extend` in its fixed order of options.
+    /// The words mean a command other than `extend` and `replay`.
     Words,
 }
 
@@ -32,11 +33,14 @@ pub enum Part {
     Weave,
     /// The effect of a mode is not allowed at its variable.
     Effect,
+    /// The text gives no trace.
+    Read,
 }
 
 /// Why an input is refused: the part, its rule's number, and the place. The place is a byte, counted from
 /// 0, where the text is wrong; the limit in bytes, where it is too long; and an item of the program or of the
-/// instructions, counted from 1 in written order, where a rule is broken. It is 0 where it says nothing.
+/// instructions, counted from 1 in written order, where a rule is broken. In the text of a trace it is a line,
+/// counted from 1, or for a value that is missing a moment, counted from 0. It is 0 where it says nothing.
 #[derive(Clone, Copy, Debug, PartialEq, Eq)]
 pub struct InputFault {
     pub part: Part,
@@ -44,12 +48,31 @@ pub struct InputFault {
     pub place: u64,
 }
 
+/// Why a moment is not accepted: it is no first moment, no step leads to it, or it is the last one and the top
+/// event is FALSE there.
+#[derive(Clone, Copy, Debug, PartialEq, Eq)]
+pub enum Why {
+    First,
+    Step,
+    Top,
+}
+
+/// What is not accepted: a trace's file or its text, or the moment of this number, from 0.
+#[derive(Clone, Copy, Debug, PartialEq, Eq)]
+pub enum Objection {
+    Trace(InputFault),
+    Moment(u32, Why),
+}
+
 /// What is refused, each with its one line.
 #[derive(Clone, Copy, Debug, PartialEq, Eq)]
 pub enum Refusal {
     NotBuilt(Built),
+    Words(WordFault),
     Model(InputFault),
     Faults(InputFault),
+    Top(InputFault),
+    NotAccepted(Objection),
 }
 
 /// How a run ends.
@@ -59,10 +82,16 @@ pub enum Status {
     Done,
     /// A part of the work is not built yet.
     NotBuilt(Built),
+    /// The words mean no command.
+    Words(WordFault),
     /// The model is refused.
     Model(InputFault),
     /// The instructions are refused.
     Faults(InputFault),
+    /// The top event is refused.
+    Top(InputFault),
+    /// The trace is not accepted.
+    NotAccepted(Objection),
     /// A call of the desk failed.
     Desk,
     /// There was no memory.
@@ -77,9 +106,11 @@ impl Status {
     {
         match self {
             Status::Done => 0,
-            Status::NotBuilt(Built::Words) => 2,
+            Status::NotBuilt(Built::Words) | Status::Words(_) => 2,
             Status::Model(_) => 3,
             Status::Faults(_) => 4,
+            Status::Top(_) => 5,
+            Status::NotAccepted(_) => 6,
             Status::Desk => 7,
             Status::Memory => 8,
         }
@@ -93,8 +124,11 @@ impl Refusal {
     {
         match self {
             Refusal::NotBuilt(built) => Status::NotBuilt(built),
+            Refusal::Words(fault) => Status::Words(fault),
             Refusal::Model(fault) => Status::Model(fault),
             Refusal::Faults(fault) => Status::Faults(fault),
+            Refusal::Top(fault) => Status::Top(fault),
+            Refusal::NotAccepted(objection) => Status::NotAccepted(objection),
         }
     }
 
@@ -106,10 +140,27 @@ impl Refusal {
             Refusal::NotBuilt(Built::Words) => {
                 ByteList::from_slice(alloc, b"refused words 0 at 1\n")
             }
+            Refusal::Words(fault) => words_line(alloc, fault),
             Refusal::Model(fault) => fault_line(alloc, b"refused model ", fault),
             Refusal::Faults(fault) => fault_line(alloc, b"refused faults ", fault),
+            Refusal::Top(fault) => fault_line(alloc, b"refused top ", fault),
+            Refusal::NotAccepted(Objection::Trace(fault)) => {
+                fault_line(alloc, b"refused trace ", fault)
+            }
+            Refusal::NotAccepted(Objection::Moment(number, why)) => {
+                moment_line(alloc, number, why)
+            }
         }
     }
+}
+
+/// The line of refused words.
+fn words_line(alloc: Global, fault: WordFault) -> Result<ByteList, OutOfMemory>
+    ensures { IfOk result (λ line. line ≡ codes "refused words " ++ words_text fault) }
+{
+    let mut line = ByteList::from_slice(alloc, b"refused words ")?;
+    append_place(alloc, &mut line, fault.number(), u64::from(fault.place()))?;
+    Ok(line)
 }
 
 /// The line of a refused input, after its beginning.
@@ -120,6 +171,28 @@ fn fault_line(alloc: Global, begin: &[u8], fault: InputFault) -> Result<ByteList
     line.append(part_name(fault.part))?;
     append_place(alloc, &mut line, fault.number, fault.place)?;
     Ok(line)
+}
+
+/// The line of a moment that is not accepted.
+fn moment_line(alloc: Global, number: u32, why: Why) -> Result<ByteList, OutOfMemory>
+    ensures { IfOk result (λ line. line ≡ moment_text number why) }
+{
+    let mut line = ByteList::from_slice(alloc, b"not accepted moment ")?;
+    let text = format!(in alloc; "{number}")?;
+    line.append(text.as_bytes())?;
+    line.append(why_name(why))?;
+    Ok(line)
+}
+
+/// The reason as the line names it, with a space before it and the end of the line.
+fn why_name(why: Why) -> &'static [u8]
+    ensures { result.now ≡ why_text why }
+{
+    match why {
+        Why::First => b" first\n",
+        Why::Step => b" step\n",
+        Why::Top => b" top\n",
+    }
 }
 
 /// Appends the rule's number and the place, and ends the line.
@@ -148,5 +221,6 @@ fn part_name(part: Part) -> &'static [u8]
         Part::Kinds => b"type ",
         Part::Weave => b"weave ",
         Part::Effect => b"effect ",
+        Part::Read => b"read ",
     }
 }

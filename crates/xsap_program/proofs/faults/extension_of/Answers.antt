@@ -12,6 +12,7 @@ use Rattle.xsap_program.specs.Inputs.{IsInstructionText, AreTaken, IsWrongFaults
 use Rattle.xsap_program.proofs.Told.{if_refused, refused_weaker}
 use Rattle.xsap_program.proofs.InputLemmas.{modules_are, all_uses}
 use Rattle.xsap_program.proofs.LimitLaws.{passes_limit}
+use Rattle.xsap_program.proofs.ListedLaws.{report_is}
 use Rattle.xsap_program.proofs.faults.extension_of.Goals as goal
 
 pub returns-in_err-instructions-clause-wrong : goal.returns-in_err-instructions-clause-wrong
@@ -29,34 +30,34 @@ returns-in_err-woven-clause-wrong c =
     let text : IsInstructionText c.args.bytes.now i = record { spelled = c.in_ok-instructions.ensures.spelled; only = c.in_ok-instructions.ensures.only; depths = c.in_ok-instructions.ensures.depths } in
     rw exit.1 (if_refused (IsWrongFaults p c.args.bytes.now) _ (λ fault e. not_woven i m c.in_err-woven.field-0.0 text c.requires.lawful.model.is told (e ∙ exit.2)))
 
-pub returns-in_err-check_limits-clause-wrong : goal.returns-in_err-check_limits-clause-wrong
-returns-in_err-check_limits-clause-wrong c =
-    let exit = err_from_is_err_and c.from_residual-in_err-check_limits.result c.from_residual-in_err-check_limits.ensures.1 in
+pub returns-in_err-faults-clause-wrong : goal.returns-in_err-faults-clause-wrong
+returns-in_err-faults-clause-wrong c =
+    let exit = err_from_is_err_and c.from_residual-in_err-faults.result c.from_residual-in_err-faults.ensures.1 in
     let p = program_tree c.args.model.now.program in
     let m = c.args.model.now.typed.model in
     let i = instruction_tree c.in_ok-instructions.instructions in
-    let faults = map fault_tree c.in_ok-woven.woven.faults in
+    let listed = map fault_tree c.in_ok-woven.woven.faults in
     let lawful = c.requires.lawful in
     let text : IsInstructionText c.args.bytes.now i = record { spelled = c.in_ok-instructions.ensures.spelled; only = c.in_ok-instructions.ensures.only; depths = c.in_ok-instructions.ensures.depths } in
     let taken : AreTaken p i = record { weavable = c.in_ok-woven.ensures.weavable lawful.accepted lawful.model.is lawful.meant; kept = subst (KeepsRules p i) (modules_are p m lawful.model.is) c.in_ok-woven.ensures.kept; uses = all_uses p (model_tree m) i lawful (c.in_ok-woven.ensures.uses lawful.accepted lawful.model.is) } in
     let are = c.in_ok-woven.ensures.faults (instances_listed p m.instances lawful.accepted c.requires.in_var lawful.model.is.instances) in
-    rw (exit.1, exit.2) (refused_weaker (IsWrongWhole (program_tree c.in_ok-woven.woven.program) faults) (IsWrongFaults p c.args.bytes.now)
-    (λ told bad. past_limit i faults text taken are (passes_limit p (model_tree m) i faults lawful taken are told (subst (λ q. IsWrongWhole q faults told) c.in_ok-woven.ensures.program bad))) _ c.in_err-check_limits.ensures.wrong)
+    rw (exit.1, exit.2) (refused_weaker (IsWrongWhole (program_tree c.in_ok-woven.woven.program) listed) (IsWrongFaults p c.args.bytes.now)
+    (λ told bad. past_limit i listed text taken are (passes_limit p (model_tree m) i listed lawful taken are told (subst (λ q. IsWrongWhole q listed told) c.in_ok-woven.ensures.program bad))) _ c.in_err-faults.ensures.wrong)
 
 pub returns-clause-ok : goal.returns-clause-ok
 returns-clause-ok c =
     let p = program_tree c.args.model.now.program in
     let m = c.args.model.now.typed.model in
     let i = instruction_tree c.in_ok-instructions.instructions in
-    let faults = map fault_tree c.in_ok-woven.woven.faults in
+    let listed = map fault_tree c.in_ok-woven.woven.faults in
     let lawful = c.requires.lawful in
     record {
       instructions = i;
-      faults = faults;
+      faults = listed;
       is_text = record { spelled = c.in_ok-instructions.ensures.spelled; only = c.in_ok-instructions.ensures.only; depths = c.in_ok-instructions.ensures.depths };
       taken = record { weavable = c.in_ok-woven.ensures.weavable lawful.accepted lawful.model.is lawful.meant; kept = subst (KeepsRules p i) (modules_are p m lawful.model.is) c.in_ok-woven.ensures.kept; uses = all_uses p (model_tree m) i lawful (c.in_ok-woven.ensures.uses lawful.accepted lawful.model.is) };
       are_faults = c.in_ok-woven.ensures.faults (instances_listed p m.instances lawful.accepted c.requires.in_var lawful.model.is.instances);
-      within = subst (λ q. IsWithinLimits q faults) c.in_ok-woven.ensures.program c.in_ok-check_limits.ensures.ok;
+      within = subst (λ q. IsWithinLimits q listed) c.in_ok-woven.ensures.program c.in_ok-faults.ensures.ok;
       printed = c.in_ok-made_of.ensures.text ∙ ap program_text c.in_ok-woven.ensures.program;
-      told = c.in_ok-made_of.ensures.report;
+      told = c.in_ok-made_of.ensures.report ∙ report_is c.in_ok-woven.woven.faults c.in_ok-faults.faults c.in_ok-faults.ensures.listed;
     }

@@ -1,21 +1,19 @@
-use Rattle.std.proofs.Common.{Err, IsErrOf, sym, ap, ◌∙◌}
-use Rattle.std.proofs.lemmas.Result.{err_from_is_err_and, IfOk-weaker}
-use Rattle.xsap_program.specs.declared.input.Stop.TheVariants as stop
+use Rattle.std.proofs.Common.{Err, IfSome, IsErrOf, sym, ap, subst, ◌∙◌}
+use Rattle.std.proofs.lemmas.Result.{err_from_is_err_and}
+use Rattle.xsap_program.specs.declared.input.Stop.TheVariants as stops
+use Rattle.xsap_program.specs.Prepared.{command_of}
+use Rattle.xsap_program.specs.Runs.{refuses, CommandComesTo}
 use Rattle.xsap_program.proofs.InputLemmas.{same_error}
-use Rattle.xsap_program.proofs.OutcomeLemmas.{comes_to_no_model, comes_to_no_faults, comes_to_extension}
 use Rattle.xsap_program.proofs.run.prepare.Goals as goal
 
-pub returns-in_err-model-clause-refused : goal.returns-in_err-model-clause-refused
-returns-in_err-model-clause-refused g c r e =
+pub returns-in_err-made-in-Extend-clause-refused : goal.returns-in_err-made-in-Extend-clause-refused
+returns-in_err-made-in-Extend-clause-refused g c r e =
     let exit = err_from_is_err_and c.from_residual.result c.from_residual.ensures.1 in
-    let refused : IsErrOf c.load_model.result (stop.Refused r) = c.in_err-model.was ∙ ap (λ stop. Err stop) (sym exit.2 ∙ same_error (sym exit.1 ∙ e)) in
-    comes_to_no_model _ _ _ _ r (c.load_model.ensures.refused r refused)
+    let refused : IsErrOf c.prepare_extension.result (stops.Refused r) = c.in_err-made-in-Extend.was ∙ ap (λ s. Err s) (sym exit.2 ∙ same_error (sym exit.1 ∙ e)) in
+    subst (λ a. IfSome (g.D.Desk.files c.args.desk.now) (λ files. CommandComesTo files (command_of a) (refuses r))) (sym c.in-Extend.is) (c.prepare_extension.ensures.refused r refused)
 
-pub returns-clause-refused : goal.returns-clause-refused
-returns-clause-refused g c r e =
-    comes_to_no_faults _ _ _ _ _ _ r c.load_model.ensures.files c.in_ok-model.ensures.ok (c.load_extension.ensures.refused r e)
-
-pub returns-clause-ok : goal.returns-clause-ok
-returns-clause-ok g c =
-    IfOk-weaker c.load_extension.result _ _
-    (λ made has. comes_to_extension _ _ _ _ _ _ made c.load_model.ensures.files c.in_ok-model.ensures.ok has) c.load_extension.ensures.ok
+pub returns-in_err-report-in-Replay-clause-refused : goal.returns-in_err-report-in-Replay-clause-refused
+returns-in_err-report-in-Replay-clause-refused g c r e =
+    let exit = err_from_is_err_and c.from_residual-in_err-report-in-Replay.result c.from_residual-in_err-report-in-Replay.ensures.1 in
+    let refused : IsErrOf c.prepare_replay.result (stops.Refused r) = c.in_err-report-in-Replay.was ∙ ap (λ s. Err s) (sym exit.2 ∙ same_error (sym exit.1 ∙ e)) in
+    subst (λ a. IfSome (g.D.Desk.files c.args.desk.now) (λ files. CommandComesTo files (command_of a) (refuses r))) (sym c.in-Replay.is) (c.prepare_replay.ensures.refused r refused)

@@ -1,0 +1,15 @@
+-- What the code of a run has in memory: the command that it was asked for, and what it is to write and say.
+use Rattle.xs_words.specs.Commands.{Command, extend, replay}
+use Rattle.xsap_program.specs.declared.run.Asked.{Asked}
+use Rattle.xsap_program.specs.declared.run.Asked.TheVariants as ask
+use Rattle.xsap_program.specs.declared.run.Prepared.{Prepared}
+use Rattle.xsap_program.specs.declared.run.Prepared.TheVariants as prepared
+use Rattle.xsap_program.specs.Runs.{Outcome, extends, says}
+
+abbrev pub command_of : Asked → Command
+command_of (ask.Extend e) = extend e.model.now e.faults.now e.extended.now
+command_of (ask.Replay r) = replay r.model.now r.faults.now r.trace.now r.top.now
+
+abbrev pub outcome_of : Prepared → Outcome
+outcome_of (prepared.Extension file made) = extends file.now made.text.items made.report
+outcome_of (prepared.Report text) = says text
