@@ -1,5 +1,5 @@
 -- Steps of the loop that adds stages.
-use Rattle.std.proofs.Common.{◌≡◌, ℕ, zero, suc, ◌+◌, ◌-◌, ◌<◌, ◌≤◌, Bool, refl, sym, ◌∙◌, ap, subst, arith}
+use Rattle.std.proofs.Common.{◌≡◌, ℕ, suc, ◌+◌, ◌-◌, ◌<◌, Bool, refl, sym, ◌∙◌, ap, arith}
 use Rattle.xs_generate.specs.Generator.{next_number, is_on_rail_a, rails_after, Rails, with_stage, with_stages}
 
 rest_of : (i stages : ℕ) → i < stages → stages - i ≡ suc (stages - (i + 1))

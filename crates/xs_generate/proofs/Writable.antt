@@ -6,13 +6,11 @@ use Rattle.std.specs.Fmt.{decimal}
 use Rattle.std.proofs.lemmas.Bool.Decides.{nat_tests}
 use Rattle.xs_lexer.specs.Bytes.{is_word_byte}
 use Rattle.xs_lexer.specs.Runs.{Runs, takes_word, takes_digit}
-use Rattle.xs_lexer.specs.Tokens.{IsWord}
-use Rattle.xs_tree.specs.ProgramTree.{DeclTree}
 use Rattle.xs_tree.specs.Trace.{Each}
 use Rattle.xs_tree.specs.Lexemes.{is_reserved}
 use Rattle.xs_tree.specs.Printed.{IsName, IsWritable}
 use Rattle.xs_tree.specs.WritableProgram.{IsWritableDecl, IsWritableSection, IsWritableModule, IsWritableProgram}
-use Rattle.xs_tree.proofs.TokenTexts.{AreDigits, decimal_digits}
+use Rattle.xs_tree.proofs.TokenTexts.{decimal_digits}
 use Rattle.xs_fei.specs.WritableInstructions.{IsWritableMode, IsWritableSlice, IsWritableInstructions}
 use Rattle.xs_generate.specs.Generator.{next_number, stage_name, output_of, stage, with_stage, with_stages, rails_after, rails_of, Rails, relay_variables, relay_assignments, relay_module, dead_section, main_module, generated_model, off_mode, relay_slice, generated_instructions, generated_top}
 

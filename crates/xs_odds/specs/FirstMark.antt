@@ -1,5 +1,5 @@
 -- The first fault of marks as it is found in order, and the units of a mode by its slice and name.
-use Rattle.std.specs.Prelude.{◌≡◌, ℕ, suc, List, [], ◌∷◌, Option, Some, None, if◌then◌else◌}
+use Rattle.std.specs.Prelude.{◌≡◌, ◌⊎◌, ℕ, suc, List, [], ◌∷◌, Option, Some, None, if◌then◌else◌}
 use Rattle.xs_tree.specs.ProgramTree.{Text}
 use Rattle.xs_tree.specs.Texts.{same_text}
 use Rattle.xs_fei.specs.Instructions.{ModeTree, SliceTree, ExtensionTree, InstructionTree}
@@ -18,11 +18,16 @@ abbrev pub fault_at : MarkFault → ℕ → OddsFault
 fault_at wrong.NoMark n = fault.NoMark n
 fault_at wrong.BadMark n = fault.BadMark n
 
--- what is wrong first after so many items
-abbrev pub first_of : ℕ → List (Option MarkFault) → Option OddsFault
+-- the number of the first item whose mark is wrong, after so many items, and what is wrong with it
+abbrev pub first_of : ℕ → List (Option MarkFault) → Option (ℕ × MarkFault)
 first_of n [] = None
 first_of n (None ∷ more) = first_of (suc n) more
-first_of n (Some f ∷ more) = Some (fault_at f (suc n))
+first_of n (Some f ∷ more) = Some (suc n, f)
+
+-- the fault is told of the first wrong mark, or is want of memory
+abbrev pub IsFaultOf : Option (ℕ × MarkFault) → OddsFault → Type 0
+IsFaultOf None e = ⊥
+IsFaultOf (Some w) e = IsWant e ⊎ (e ≡ fault_at w.1 w.0)
 
 -- what a fault says of the instructions
 abbrev pub IsMarkFault : InstructionTree → OddsFault → Type 0

@@ -1,7 +1,6 @@
 //! The marks of modes as probabilities in units, and the first mode whose mark is none.
 
-ghost use Rattle.std.specs.Prelude.{◌≡◌, ◌<◌, ◌≤◌, ◌^◌, ◌++◌, flat_map, length, map, IfOk, IfErr, OnOk};
-ghost use Rattle.std.specs.Result.{result_err};
+ghost use Rattle.std.specs.Prelude.{◌≡◌, ◌≤◌, ◌⊎◌, ◌++◌, flat_map, map, None, IfOk, IfErr, OnOk};
 ghost use Rattle.xs_tree.specs.ProgramTree.{ProgramTree};
 ghost use Rattle.xs_tree.specs.Texts.{same_text};
 ghost use Rattle.xs_fei.specs.Instructions.{instruction_tree, extension_tree, slice_tree, mode_tree};
@@ -9,7 +8,7 @@ ghost use Rattle.xs_weave.specs.Faults.{HasFaults};
 ghost use Rattle.xs_extend.specs.WovenFaults.{fault_tree};
 ghost use Rattle.xs_odds.specs.Units.{one_in_units};
 ghost use Rattle.xs_odds.specs.Marks.{item_marks as marks_of_items, extension_marks, slice_marks, fault_of_mark, fault_of_units as fault_of_number, HasProbabilities, AreOdds};
-ghost use Rattle.xs_odds.specs.FirstMark.{IsWant, IsMarkFault, fault_at as fault_at_item, first_of, mark_units, mode_units as units_of_modes, units_in_slice as units_of_slice, slice_units as units_of_slices, extension_units as units_of_extensions, units_at};
+ghost use Rattle.xs_odds.specs.FirstMark.{IsWant, IsMarkFault, IsFaultOf, fault_at as fault_at_item, first_of, mark_units, mode_units as units_of_modes, units_in_slice as units_of_slice, slice_units as units_of_slices, extension_units as units_of_extensions, units_at};
 
 use crate::odds::OddsList;
 use crate::units::units_of_mark;
@@ -47,7 +46,6 @@ impl From<OutOfMemory> for OddsFault {
 /// probability; else the first mode that has none.
 pub fn marks(alloc: Global, i: &Instructions, faults: &[WovenFault]) -> Result<OddsList, OddsFault>
     requires woven { (p : ProgramTree) × HasFaults p (instruction_tree i.now) (map fault_tree faults.now) }
-    requires items { length (marks_of_items (instruction_tree i.now)) < 2 ^ 32 }
     ensures odds { IfOk result (λ odds. AreOdds (instruction_tree i.now) (map fault_tree faults.now) odds) }
     ensures all { IfOk result (λ odds. HasProbabilities (instruction_tree i.now)) }
     ensures fault { IfErr result (IsMarkFault (instruction_tree i.now)) }
@@ -59,25 +57,44 @@ pub fn marks(alloc: Global, i: &Instructions, faults: &[WovenFault]) -> Result<O
 
 /// Whether every mode has a mark that is a probability; else the first that has none.
 fn judge(alloc: Global, i: &Instructions) -> Result<(), OddsFault>
-    requires items { length (marks_of_items (instruction_tree i.now)) < 2 ^ 32 }
     ensures all { OnOk result (HasProbabilities (instruction_tree i.now)) }
     ensures fault { IfErr result (IsMarkFault (instruction_tree i.now)) }
 {
     let marks = item_marks(alloc, i)?;
-    first_fault(marks.as_slice())
+    judged(first_wrong(marks.as_slice()))
 }
 
-/// The first fault, by its number from 1.
-fn first_fault(marks: &[Option<MarkFault>]) -> Result<(), OddsFault>
-    requires { length marks.now < 2 ^ 32 }
-    ensures { result_err result ≡ first_of 0 marks.now }
+/// The number of the first item whose mark is wrong, from 1, and what is wrong with it.
+fn first_wrong(marks: &[Option<MarkFault>]) -> Option<(usize, MarkFault)>
+    ensures { result ≡ first_of 0 marks.now }
 {
     for (i, mark) in marks.iter().enumerate() {
         if let Some(fault) = mark {
-            return Err(fault_at(*fault, i as u32 + 1));
+            return Some((i + 1, *fault));
         }
     }
-    Ok(())
+    None
+}
+
+/// What is told of the first wrong mark.
+fn judged(first: Option<(usize, MarkFault)>) -> Result<(), OddsFault>
+    ensures all { OnOk result (first ≡ None) }
+    ensures fault { IfErr result (IsFaultOf first) }
+{
+    match first {
+        Some((number, fault)) => Err(wrong_at(fault, number)),
+        None => Ok(()),
+    }
+}
+
+/// The fault of an item. More than 2^32 items are too many to be told.
+fn wrong_at(fault: MarkFault, number: usize) -> OddsFault
+    ensures { IsWant result ⊎ (result ≡ fault_at_item fault number) }
+{
+    match u32::try_from(number) {
+        Ok(item) => fault_at(fault, item),
+        Err(_) => OddsFault::OutOfMemory,
+    }
 }
 
 fn fault_at(fault: MarkFault, item: u32) -> OddsFault

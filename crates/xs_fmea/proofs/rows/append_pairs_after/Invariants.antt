@@ -1,5 +1,5 @@
 -- the rows and the fault's pairs that are left are all of them
-use Rattle.std.proofs.Common.{◌≡◌, ◌≤◌, ◌++◌, ◌-◌}
+use Rattle.std.proofs.Common.{◌≡◌, ◌≤◌, ◌++◌}
 use Rattle.xs_fmea.specs.Tables.{pairs_after}
 use Rattle.xs_fmea.proofs.RowLemmas.{after_left}
 use Rattle.xs_fmea.proofs.rows.append_pairs_after.Given as goal
