@@ -1,0 +1,13 @@
+pub mod DomainLaws
+pub mod ModelParts
+pub mod ReadLaws
+pub mod LoopLaws
+pub mod ValueLaws
+pub mod ReadModels
+pub mod CopyLaws
+pub mod BadLaws
+pub mod NumberLaws
+pub mod SettingLaws
+pub mod SomeLaws
+pub mod ListLaws
+pub mod SetModels

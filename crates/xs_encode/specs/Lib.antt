@@ -1,0 +1,5 @@
+pub mod Values
+pub mod History
+pub mod Domains
+pub mod Reading
+pub mod Copies

@@ -1,0 +1,62 @@
+-- What the passes of a copy build together.
+use Rattle.std.proofs.Common.{◌≡◌, ℕ, ◌+◌, ◌<◌, ◌≤◌, Bool, true, false, List, [], length, refl, sym, ◌∙◌, ap, subst, arith}
+use Rattle.xs_tree.specs.Trace.{Each}
+use Rattle.xs_flattening.specs.Flat.{FlatModel}
+use Rattle.xs_kinds.specs.Costs.{state_bits}
+use Rattle.xs_gates.specs.Circuit.{Circuit, after}
+use Rattle.xs_gates.specs.Meaning.{HasTruth}
+use Rattle.xs_encoding.specs.Signals.{Signal}
+use Rattle.xs_encoding.specs.Layout.{input_bits, input_place, next_place, gates_place, variable_signals}
+use Rattle.xs_encoding.specs.Lists.{Copy, copy_of as the_copy, names_of, formulas_gates, domains_gates, definitions_gates, moment_gates, copy_gates, start_of}
+use Rattle.xs_encoding.specs.Meanings.{IsSignal, IsReady}
+use Rattle.xs_encoding.specs.Encodable.{IsEncodable}
+use Rattle.xs_encoding.proofs.MomentMeans.{model_types}
+use Rattle.xs_encoding.proofs.Readings.{signals_below}
+use Rattle.xs_signals.specs.Built.{signals_of}
+use Rattle.xs_signals.proofs.ChoiceLoop.{usable_later}
+use Rattle.xs_expressions.specs.declared.names.Copied.{Copied}
+use Rattle.xs_expressions.specs.Naming.{copy_of, IsCopied}
+use Rattle.xs_encode.specs.Copies.{BuildsDefinitions, BuildsCopy, Builds, IsPlaced}
+
+pub copied_later : (c : Copied) (s t : Circuit) → s.free ≤ t.free → IsCopied s c → IsCopied t c
+copied_later c s t h k = record { variables = usable_later s t h c.variables k.variables; definitions = usable_later s t h c.definitions k.definitions }
+
+pub builds_then : (s t u r q : Circuit) (f : Circuit → Circuit) → Builds s r t → Builds t (f t) u → q ≡ f r → Builds s q u
+builds_then s t u r q f a b e = record { exact = e ∙ ap f a.exact ∙ b.exact; grows = omega (arith, a.grows, b.grows) }
+
+pub placed_later : (m : FlatModel) (s t : Circuit) (p q : ℕ) → s.free ≤ t.free → IsPlaced m s p q → IsPlaced m t p q
+placed_later m s t p q h k = record { state = omega (arith, h, k.state); inputs = omega (arith, h, k.inputs) }
+
+pub placed_now : (m : FlatModel) (s : Circuit) (p q : ℕ) → gates_place m ≤ s.free → p ≡ 2 → q ≡ input_place m → IsPlaced m s p q
+placed_now m s p q h e f = record { state = omega (arith, h, e); inputs = omega (arith, h, f) }
+
+pub placed_next : (m : FlatModel) (s : Circuit) (p q : ℕ) → gates_place m ≤ s.free → p ≡ next_place m → q ≡ input_place m → IsPlaced m s p q
+placed_next m s p q h e f = record { state = omega (arith, h, e); inputs = omega (arith, h, f) }
+
+-- the bits of a copy may be used
+pub variables_usable : (m : FlatModel) → IsEncodable m → (s : Circuit) (p q : ℕ) → HasTruth s → 1 < s.free → IsPlaced m s p q → (es : List Signal) → es ≡ variable_signals m.symbols p q m.variables → Each (IsSignal s) es
+variables_usable m is s p q truth least placed es e =
+    let ready : IsReady s = record { truth = truth; least = least } in
+    subst (λ (xs : List Signal). Each (IsSignal s) xs) (sym e) (signals_below m.symbols is.symbols s ready m.variables (model_types m is) p q placed.state placed.inputs)
+
+abbrev made_copy : FlatModel → Bool → List Signal → List Signal → Circuit → Circuit × Copy
+made_copy m all xs ds t = (moment_gates m (the_copy xs ds) all t, the_copy xs ds)
+
+abbrev with_copy : Copy → Circuit → Circuit × Copy
+with_copy v t = (t, v)
+
+pub copy_is : (m : FlatModel) (all : Bool) (vs es : List Signal) (s t u : Circuit) (c : Copied) → es ≡ vs → BuildsDefinitions es s (definitions_gates m es all s) t c → Builds t (moment_gates m (copy_of c) all t) u
+    → BuildsCopy s (copy_gates m vs all s) u c
+unfolding after
+copy_is m all vs es s t u c e defs made =
+    record {
+      exact =
+          sym (ap (λ xs. copy_gates m xs all s) e) ∙ ap (λ (r : Circuit × List Signal). made_copy m all es r.1 r.0) defs.exact
+          ∙ sym (ap (λ xs. made_copy m all xs (signals_of c.definitions) t) defs.variables) ∙ ap (with_copy (copy_of c)) made.exact;
+      usable = copied_later c t u made.grows defs.usable;
+      grows = omega (arith, defs.grows, made.grows);
+    }
+
+pub moment_is : (m : FlatModel) (c : Copied) (all : Bool) (s t u : Circuit) → ((now next : Copy) → Builds s (domains_gates m (names_of m now next) all m.variables (signals_of c.variables) s) t)
+    → Builds t (formulas_gates (names_of m (copy_of c) (copy_of c)) m.at_each t) u → Builds s (moment_gates m (copy_of c) all s) u
+moment_is m c all s t u domains formulas = builds_then s t u _ _ (formulas_gates (names_of m (copy_of c) (copy_of c)) m.at_each) (domains (copy_of c) (copy_of c)) formulas refl

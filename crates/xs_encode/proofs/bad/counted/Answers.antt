@@ -1,0 +1,39 @@
+use Rattle.std.proofs.Common.{◌≡◌, ◌-◌, ◌∙◌, List, length, map, sym, ap, arith}
+use Rattle.std.specs.List.{range_with_len}
+use Rattle.std.proofs.lemmas.List.{length-map}
+use Rattle.xs_scope.specs.ModelTree.{flat_tree, variable_tree}
+use Rattle.xs_lits.specs.Literal.{Literal}
+use Rattle.xs_gates.specs.Circuit.{Circuit}
+use Rattle.xs_encoding.specs.Lists.{size_gates}
+use Rattle.xs_encoding.specs.Signals.{Signal}
+use Rattle.xs_encoding.specs.Layout.{input_place, signals_now}
+use Rattle.xs_signals.specs.Built.{signals_of}
+use Rattle.xs_signals.proofs.ChoiceLoop.{usable_later, length_signals}
+use Rattle.xs_expressions.specs.Naming.{names_in}
+use Rattle.xs_encode.specs.Copies.{source_model}
+use Rattle.xs_encode.specs.History.{last_numbers, literal_of}
+use Rattle.xs_encode.proofs.ListLaws.{length_signals_now, counted_is}
+use Rattle.xs_encode.proofs.bad.counted.Goals as goal
+
+pub last_literals-requires-clause-usable : goal.last_literals-requires-clause-usable
+last_literals-requires-clause-usable c = usable_later c.in_ok-g.g c.holds.new.g c.in_ok-holds.ensures.grows c.in_ok-g.now.variables c.in_ok-g.ensures.copy.usable.variables
+
+pub last_literals-requires-clause-few : goal.last_literals-requires-clause-few
+last_literals-requires-clause-few c =
+    let m = source_model c.args.source.now in
+    omega (arith, length_signals c.in_ok-g.now.variables, ap (λ (es : List Signal). length es) c.in_ok-g.ensures.variables, length_signals_now m.symbols 2 (input_place m) m.variables, length-map c.args.source.now.model.now.model.variables variable_tree, c.requires.faults)
+
+pub returns-clause-clauses : goal.returns-clause-clauses
+returns-clause-clauses c =
+    let m = source_model c.args.source.now in
+    let long : length c.in_ok-g.now.variables ≡ length m.variables = sym (length_signals c.in_ok-g.now.variables) ∙ ap (λ (es : List Signal). length es) c.in_ok-g.ensures.variables ∙ length_signals_now m.symbols 2 (input_place m) m.variables in
+    let literals = c.in_ok-history.ensures.literals ∙ (λ i. map (literal_of (c.in_ok-g.ensures.variables i)) (range_with_len (long i - c.args.faults) c.args.faults)) in
+    c.in_ok-clauses.ensures ∙ c.clauses.ensures
+    ∙ sym (ap (λ (s : Circuit). s.clauses) (counted_is m (flat_tree c.args.top.now) (last_numbers m c.args.faults) c.args.size c.at-names.result c.in_ok-g.g c.holds.new.g c.few.new.g c.in_ok-g.now c.in_ok-history.history c.in_ok-g.ensures.copy.exact
+    (ap names_in c.at-names.ensures) c.in_ok-holds.ensures literals (ap (λ (bs : List Literal). size_gates bs c.args.size c.holds.new.g) (sym c.as_slice.ensures) ∙ c.in_ok-few.ensures)))
+
+pub returns-clause-history : goal.returns-clause-history
+returns-clause-history c =
+    let m = source_model c.args.source.now in
+    let long : length c.in_ok-g.now.variables ≡ length m.variables = sym (length_signals c.in_ok-g.now.variables) ∙ ap (λ (es : List Signal). length es) c.in_ok-g.ensures.variables ∙ length_signals_now m.symbols 2 (input_place m) m.variables in
+    c.in_ok-history.ensures.literals ∙ (λ i. map (literal_of (c.in_ok-g.ensures.variables i)) (range_with_len (long i - c.args.faults) c.args.faults))

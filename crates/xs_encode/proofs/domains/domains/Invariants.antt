@@ -1,0 +1,12 @@
+use Rattle.std.proofs.Common.{◌≡◌, ◌≤◌, drop, map}
+use Rattle.xs_scope.specs.ModelTree.{model_tree, variable_tree}
+use Rattle.xs_encoding.specs.Lists.{Copy, names_of, domains_gates}
+use Rattle.xs_signals.specs.Built.{signals_of}
+use Rattle.xs_encode.proofs.domains.domains.Given as goal
+
+abbrev pub invariant-loop-i : goal.invariant-loop-i
+invariant-loop-i l =
+    ((now next : Copy) →
+    domains_gates (model_tree l.t.model) (names_of (model_tree l.t.model) now next) l.all (drop l.i (map variable_tree l.t.model.variables)) (drop l.i (signals_of l.signals)) l.g
+    ≡ domains_gates (model_tree l.t.model) (names_of (model_tree l.t.model) now next) l.all (map variable_tree l.t.model.variables) (signals_of l.signals) l.fn.g)
+    × (l.fn.g.free ≤ l.g.free)

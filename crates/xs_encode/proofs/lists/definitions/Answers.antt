@@ -1,0 +1,31 @@
+use Rattle.std.proofs.Common.{◌≡◌, ◌≤◌, ◌∙◌, List, Some, length, map, ap, arith}
+use Rattle.std.specs.Prelude.{slice_get}
+use Rattle.std.proofs.lemmas.List.{length-map}
+use Rattle.xs_scope.specs.declared.model.Formula.{Formula}
+use Rattle.xs_scope.specs.declared.model.FlatModel.{FlatModel as Model}
+use Rattle.xs_scope.specs.ModelTree.{formula_tree}
+use Rattle.xs_signals.specs.Built.{signals_of}
+use Rattle.xs_encode.specs.Copies.{source_model}
+use Rattle.xs_encode.proofs.ModelParts.{definition_right, at_mapped, got_in}
+use Rattle.xs_encode.proofs.ListLaws.{defines_next, defines_end}
+use Rattle.xs_encode.proofs.lists.definitions.Goals as goal
+
+pub definition-requires-clause-right : goal.definition-requires-clause-right
+definition-requires-clause-right c =
+    definition_right (source_model c.args.source.now) c.requires.encodable c.loop-d.d-index (formula_tree c.d-item.result)
+    (at_mapped formula_tree c.args.source.now.model.now.model.definitions c.loop-d.d-index c.d-item.result
+    (got_in c.as_slice-d-items.result.now c.args.source.now.model.now.model.definitions c.loop-d.d-index c.d-item.result (c.as_slice-d-items.ensures ∙ ap (λ (m : Model). m.definitions) c.model.ensures.model) (omega arith) c.d-item.is))
+
+pub loop-d-preserved : goal.loop-d-preserved
+loop-d-preserved c =
+    defines_next (source_model c.args.source.now) (signals_of c.args.variables) c.args.all (map formula_tree c.args.source.now.model.now.model.definitions) c.args.g.now _ c.loop-d.d-index (formula_tree c.d-item.result) c.loop-d.copy c.in_ok-signal.signal _
+    c.loop-d.g c.definition.new.g
+    (at_mapped formula_tree c.args.source.now.model.now.model.definitions c.loop-d.d-index c.d-item.result
+    (got_in c.as_slice-d-items.result.now c.args.source.now.model.now.model.definitions c.loop-d.d-index c.d-item.result (c.as_slice-d-items.ensures ∙ ap (λ (m : Model). m.definitions) c.model.ensures.model) (omega arith) c.d-item.is))
+    c.in_ok-signal.ensures c.in_ok-push.ensures.ok c.loop-d.invariant
+
+pub returns : goal.returns
+returns c =
+    let end : length (map formula_tree c.args.source.now.model.now.model.definitions) ≤ c.loop-d.d-index =
+    omega (arith, length-map c.args.source.now.model.now.model.definitions formula_tree, ap (λ (l : List Formula). length l) (c.as_slice-d-items.ensures ∙ ap (λ (m : Model). m.definitions) c.model.ensures.model)) in
+    defines_end (source_model c.args.source.now) (signals_of c.args.variables) c.args.all (map formula_tree c.args.source.now.model.now.model.definitions) c.args.g.now _ c.loop-d.d-index c.loop-d.copy c.loop-d.g end c.loop-d.invariant

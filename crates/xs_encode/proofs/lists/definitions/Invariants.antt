@@ -1,0 +1,13 @@
+use Rattle.std.proofs.Common.{drop, map}
+use Rattle.xs_scope.specs.ModelTree.{model_tree, formula_tree}
+use Rattle.xs_gates.specs.Circuit.{fold_gates}
+use Rattle.xs_encoding.specs.Lists.{definition_gates, definitions_gates}
+use Rattle.xs_signals.specs.Built.{signals_of}
+use Rattle.xs_encode.specs.Copies.{source_model, Defines}
+use Rattle.xs_encode.proofs.lists.definitions.Given as goal
+
+abbrev pub invariant-loop-d : goal.invariant-loop-d
+invariant-loop-d l =
+    Defines (source_model l.source) (signals_of l.fn.variables) l.fn.g (definitions_gates (source_model l.source) (signals_of l.fn.variables) l.all l.fn.g)
+    (fold_gates (definition_gates (source_model l.source) (signals_of l.fn.variables) l.all) (drop l.d-index (map formula_tree l.source.model.now.model.definitions)) (signals_of l.copy.definitions) l.g)
+    l.g l.copy

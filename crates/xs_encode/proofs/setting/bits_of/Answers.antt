@@ -1,0 +1,24 @@
+use Rattle.std.proofs.Common.{◌∙◌, length, sym, ap, subst, arith}
+use Rattle.xs_lits.specs.Assignment.{Assignment}
+use Rattle.xs_scope.specs.ModelTree.{model_tree}
+use Rattle.xs_encoding.specs.Layout.{input_place}
+use Rattle.xs_encoding.specs.Bits.{state_of, inputs_of}
+use Rattle.xs_encoding.proofs.MomentMeans.{model_types}
+use Rattle.xs_encode.specs.Values.{Gives}
+use Rattle.xs_encode.proofs.SettingLaws.{set_long, set_gives}
+use Rattle.xs_encode.proofs.setting.bits_of.Goals as goal
+
+pub returns-clause-same : goal.returns-clause-same
+returns-clause-same c = ap length c.set_all.ensures ∙ set_long c.args.t.now.model.symbols c.args.t.now.model.variables c.args.v.now c.args.into.now 2 (input_place (model_tree c.args.t.now.model))
+
+pub returns-clause-state : goal.returns-clause-state
+returns-clause-state c = λ values inside stand.
+    let m = model_tree c.args.t.now.model in
+    subst (λ (a : Assignment). Gives a 2 (state_of m values)) (sym c.set_all.ensures)
+    (set_gives m.symbols c.args.t.now.model.variables (model_types m c.requires.encodable) c.args.v.now values stand c.args.into.now 2 (input_place m) (omega arith) (omega (arith, c.requires.places))).state
+
+pub returns-clause-inputs : goal.returns-clause-inputs
+returns-clause-inputs c = λ values inside stand.
+    let m = model_tree c.args.t.now.model in
+    subst (λ (a : Assignment). Gives a (input_place m) (inputs_of m values)) (sym c.set_all.ensures)
+    (set_gives m.symbols c.args.t.now.model.variables (model_types m c.requires.encodable) c.args.v.now values stand c.args.into.now 2 (input_place m) (omega arith) (omega (arith, c.requires.places))).inputs

@@ -1,0 +1,4 @@
+pub mod Sorts
+pub mod Naming
+pub mod Parts
+pub mod Branches
