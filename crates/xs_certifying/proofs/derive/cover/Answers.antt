@@ -1,5 +1,4 @@
-use Rattle.std.proofs.Common.{◌≡◌, ◌∙◌, Some, List, ap, sym, subst}
-use Rattle.xs_lits.specs.Literal.{Literal}
+use Rattle.std.proofs.Common.{◌≡◌, ◌∙◌, Some, ap, sym, subst}
 use Rattle.xs_solver.specs.Search.{CanSolve}
 use Rattle.xs_solver.specs.Verdict.{IsVerdict}
 use Rattle.xs_certificate.specs.Derived.{asked}

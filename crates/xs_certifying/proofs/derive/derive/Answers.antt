@@ -1,5 +1,4 @@
-use Rattle.std.proofs.Common.{◌≡◌, ◌≤◌, ◌∙◌, ℕ, List, All, length, refl, ap, sym, subst, arith}
-use Rattle.xs_lits.specs.Literal.{Literal}
+use Rattle.std.proofs.Common.{◌≤◌, ◌∙◌, ℕ, All, length, refl, ap, sym, subst, arith}
 use Rattle.xs_lits.specs.StoreRecord.{StoreValue}
 use Rattle.xs_derive.specs.Derivation.{IsUpTo}
 use Rattle.xs_certifying.proofs.Queries.{clauses_bounded}

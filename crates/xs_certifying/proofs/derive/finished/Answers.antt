@@ -1,4 +1,4 @@
-use Rattle.std.proofs.Common.{◌≡◌, ◌<◌, ◌^◌, ◌∙◌, All, length, sym, subst, arith}
+use Rattle.std.proofs.Common.{◌<◌, ◌^◌, ◌∙◌, All, length, sym, subst, arith}
 use Rattle.xs_certificate.specs.CertificateText.{AreWritable}
 use Rattle.xs_certifying.specs.Deriving.{HasPositive}
 use Rattle.xs_certifying.proofs.DeriveLemmas.{writable}

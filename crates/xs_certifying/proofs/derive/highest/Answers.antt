@@ -1,4 +1,4 @@
-use Rattle.std.proofs.Common.{◌≤◌, arith}
+use Rattle.std.proofs.Common.{arith}
 use Rattle.xs_certifying.proofs.DeriveLemmas.{begins_highest}
 use Rattle.xs_certifying.proofs.derive.highest.Goals as goal
 

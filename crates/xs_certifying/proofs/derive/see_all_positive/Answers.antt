@@ -1,9 +1,8 @@
-use Rattle.std.proofs.Common.{◌≡◌, ◌≤◌, List, All, length, get_or, sym, subst, arith}
+use Rattle.std.proofs.Common.{◌≡◌, ◌≤◌, All, length, get_or, sym, subst, arith}
 use Rattle.std.proofs.lemmas.List.{take_all}
 use Rattle.std.proofs.lemmas.List.Elements.{All-more}
 use Rattle.std.proofs.lemmas.Option.{get_or_from_slice_get}
 use Rattle.xs_lits.specs.Literal.{Literal}
-use Rattle.xs_derive.specs.declared.step.Step.{Step}
 use Rattle.xs_certifying.specs.Deriving.{HasPositive}
 use Rattle.xs_certifying.proofs.derive.see_all_positive.Goals as goal
 

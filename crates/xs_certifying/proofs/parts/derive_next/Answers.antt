@@ -1,4 +1,4 @@
-use Rattle.std.proofs.Common.{◌++◌, List, All, map, sym, subst}
+use Rattle.std.proofs.Common.{List, All, map, sym, subst}
 use Rattle.xs_lits.specs.Literal.{Literal}
 use Rattle.xs_lits.specs.Models.{FollowsFrom}
 use Rattle.xs_derive.specs.Hints.{HasNoOpposites}
