@@ -155,11 +155,7 @@ fn with_digit(n: i64, left: u32, width: u32, signed: bool, bit: bool) -> i64
     ensures { result ≡ (if nat_eq (left + 1) width then last_digit signed bit else (if bit then pos 1 else pos 0) +ℤ (n +ℤ n)) }
 {
     if left + 1 == width {
-        return if bit {
-            if signed { -1 } else { 1 }
-        } else {
-            0
-        };
+        return if bit { if signed { -1 } else { 1 } } else { 0 };
     }
     2 * n + i64::from(bit)
 }

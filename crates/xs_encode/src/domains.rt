@@ -84,13 +84,7 @@ fn domain_if(
 }
 
 /// A signal is a number from `lo` to `hi`.
-fn range(
-    alloc: Global,
-    g: &mut Gates,
-    signal: &Signal,
-    lo: i64,
-    hi: i64,
-) -> Result<(), OutOfMemory>
+fn range(alloc: Global, g: &mut Gates, signal: &Signal, lo: i64, hi: i64) -> Result<(), OutOfMemory>
     requires { IsSignal g.old (signal_of signal.now) }
     ensures { OnOk result (Builds g.old (asserted_literal (between_gates (word_in (signal_of signal.now)) lo hi g.old)) g.new) }
 {

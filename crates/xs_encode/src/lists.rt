@@ -76,10 +76,7 @@ pub fn encode(alloc: Global, t: &Typed) -> Result<System, OutOfMemory>
 }
 
 /// The clauses of the states, and those of the first states.
-fn state_lists(
-    alloc: Global,
-    source: &Source<'_>,
-) -> Result<(ClauseList, ClauseList), OutOfMemory>
+fn state_lists(alloc: Global, source: &Source<'_>) -> Result<(ClauseList, ClauseList), OutOfMemory>
     requires source { IsSource source.now }
     requires encodable { IsEncodable (source_model source.now) }
     ensures state { IfOk result (λ lists. lists.0 ≡ state_list (source_model source.now)) }

@@ -1,4 +1,4 @@
-use Rattle.std.proofs.Common.{◌≡◌, ◌≤◌, ◌∙◌, Bool, Some, length, map, min, refl, sym, ap, subst, arith}
+use Rattle.std.proofs.Common.{◌≡◌, ◌≤◌, Bool, Some, length, map, min, refl, sym, ap, subst, arith}
 use Rattle.std.specs.Prelude.{slice_get, if◌then◌else◌}
 use Rattle.std.proofs.lemmas.List.{length-map}
 use Rattle.xs_scope.specs.declared.model.FlatModel.{FlatModel as Model}
@@ -20,9 +20,9 @@ loop-i-preserved c =
     let at : slice_get c.args.t.now.model.variables c.loop-i.i ≡ Some c.at.result.now = subst (λ (m : Model). slice_get m.variables c.loop-i.i ≡ Some c.at.result.now) c.model-in-loop-i.ensures.model c.at.ensures in (
       (λ now next.
           domains_next c.args.t.now.model c.requires.encodable c.loop-i.i c.at.result.now c.domain.result.now at c.domain.ensures.domain now next c.args.all c.args.signals.now c.at-in-loop-i.result.now c.args.symbols c.args.g.now c.loop-i.g c.domain_if.new.g _
-              c.requires.symbols c.at-in-loop-i.ensures
-              (subst (λ (b : Bool). Builds c.loop-i.g (if b then domain_gates c.args.symbols c.domain.result.now (signal_of c.at-in-loop-i.result.now) c.loop-i.g else c.loop-i.g) c.domain_if.new.g) c.is_asked-asked.ensures c.in_ok-domain_if.ensures)
-              (c.loop-i.invariant.0 now next)),
+          c.requires.symbols c.at-in-loop-i.ensures
+          (subst (λ (b : Bool). Builds c.loop-i.g (if b then domain_gates c.args.symbols c.domain.result.now (signal_of c.at-in-loop-i.result.now) c.loop-i.g else c.loop-i.g) c.domain_if.new.g) c.is_asked-asked.ensures c.in_ok-domain_if.ensures)
+          (c.loop-i.invariant.0 now next)),
       omega (arith, c.loop-i.invariant.1, c.in_ok-domain_if.ensures.grows),
     )
 
