@@ -1,4 +1,4 @@
--- Values as the code has them beside those of the definitions, and their bits in an assignment.
+-- Values as the code has them beside those of the definitions, their bits in an assignment, and what is read and set.
 use Rattle.std.specs.Prelude.{◌≡◌, ℕ, zero, suc, ◌+◌, ◌≤◌, ◌<◌, nat_lt, nat_eq, not, ◌&&◌, min, ℤ, pos, negsuc, ◌+ℤ◌, Bool, true, false, Option, Some, None, unwrap_or, List, [], ◌∷◌, slice_index_or, slice_set, map, sum_by, if◌then◌else◌}
 use Rattle.xs_tree.specs.ProgramTree.{Text}
 use Rattle.xs_tree.specs.Values as told
