@@ -107,7 +107,7 @@ module _ (symbols : List Text) where
   back p w s t y e (inl h) = inl (omega (arith, h))
   back p w s t y e (inr h) = inr (omega (arith, h, e))
 
-  set_keeps : (xs : List Variable) → Each (IsRightType symbols) (map variable_tree xs) → (vs : List Value) (a : Assignment) (p q y : ℕ) → IsOutside p q xs y → get_or (bits_set symbols a p q xs vs) y None ≡ get_or a y None
+  pub set_keeps : (xs : List Variable) → Each (IsRightType symbols) (map variable_tree xs) → (vs : List Value) (a : Assignment) (p q y : ℕ) → IsOutside p q xs y → get_or (bits_set symbols a p q xs vs) y None ≡ get_or a y None
   set_keeps [] right vs a p q y out = refl
   set_keeps (x ∷ xs) right [] a p q y out = refl
   set_keeps (x ∷ xs) right (v ∷ vs) a p q y out =
