@@ -1,13 +1,12 @@
 -- What the passes of a copy build together.
-use Rattle.std.proofs.Common.{◌≡◌, ℕ, ◌+◌, ◌<◌, ◌≤◌, Bool, true, false, List, [], length, refl, sym, ◌∙◌, ap, subst, arith}
+use Rattle.std.proofs.Common.{◌≡◌, ℕ, ◌<◌, ◌≤◌, Bool, List, refl, sym, ◌∙◌, ap, subst, arith}
 use Rattle.xs_tree.specs.Trace.{Each}
 use Rattle.xs_flattening.specs.Flat.{FlatModel}
-use Rattle.xs_kinds.specs.Costs.{state_bits}
 use Rattle.xs_gates.specs.Circuit.{Circuit, after}
 use Rattle.xs_gates.specs.Meaning.{HasTruth}
 use Rattle.xs_encoding.specs.Signals.{Signal}
-use Rattle.xs_encoding.specs.Layout.{input_bits, input_place, next_place, gates_place, variable_signals}
-use Rattle.xs_encoding.specs.Lists.{Copy, copy_of as the_copy, names_of, formulas_gates, domains_gates, definitions_gates, moment_gates, copy_gates, start_of}
+use Rattle.xs_encoding.specs.Layout.{input_place, next_place, gates_place, variable_signals}
+use Rattle.xs_encoding.specs.Lists.{Copy, copy_of as the_copy, names_of, formulas_gates, domains_gates, definitions_gates, moment_gates, copy_gates}
 use Rattle.xs_encoding.specs.Meanings.{IsSignal, IsReady}
 use Rattle.xs_encoding.specs.Encodable.{IsEncodable}
 use Rattle.xs_encoding.proofs.MomentMeans.{model_types}

@@ -3,11 +3,11 @@ use Rattle.std.proofs.Common.{◌≡◌, ℕ, ℤ, pos, false, List, [], ◌∷�
 use Rattle.xs_tree.specs.declared.program.Member.{Member}
 use Rattle.xs_tree.specs.declared.program.Member.TheVariants as member
 use Rattle.xs_tree.specs.ProgramTree.{Text, DeclaredTree, boolean, range, members, instance}
-use Rattle.xs_tree.specs.Tree.{Tree, trees_from}
+use Rattle.xs_tree.specs.Tree.{trees_from}
 use Rattle.xs_value.specs.declared.domain.Domain.TheVariants as domain
-use Rattle.xs_flattening.specs.Flat.{FlatLeaf, FlatModel}
+use Rattle.xs_flattening.specs.Flat.{FlatModel}
 use Rattle.xs_kinds.specs.Intervals.{Interval, just, hull}
-use Rattle.xs_kinds.specs.Judged.{KindRule, number_class, symbol_class, empty_range, mixed_enum, rule_if, unless_class, wide, hull_of, where_kept}
+use Rattle.xs_kinds.specs.Judged.{KindRule, number_class, symbol_class, mixed_enum, unless_class, hull_of}
 use Rattle.xs_kinds.specs.Declared.{member_kind, judged_declared}
 use Rattle.xs_kinds.specs.Costs.{member_number, symbol_number, number_kind, width_in, declared_width}
 use Rattle.xs_kinds.proofs.Parts.{none_first}
@@ -19,13 +19,13 @@ use Rattle.xs_gates.specs.Gates.{constant_lit, or_gate}
 use Rattle.xs_arith.specs.Numbers.{number_word}
 use Rattle.xs_encoding.specs.Widths.{word_width, symbol_width, kind_width, width_by}
 use Rattle.xs_encoding.specs.Signals.{Signal, word, as_bit, same_gates}
-use Rattle.xs_encoding.specs.Expressions.{whether_has, Names, encoded, encoded_members}
+use Rattle.xs_encoding.specs.Expressions.{whether_has, encoded, encoded_members}
 use Rattle.xs_encoding.specs.Layout.{declared_interval, number_signal, variable_signal}
 use Rattle.xs_encoding.specs.Lists.{Copy, names_of, asserted_signal, member_tree, type_gates}
 use Rattle.xs_encoding.specs.Encodable.{IsListedType}
 use Rattle.xs_encoding.proofs.Answering.{kept_interval}
 use Rattle.xs_encoding.proofs.TypeMeans.{members_kept}
-use Rattle.xs_encode.specs.Domains.{domain_interval, domain_width, ends_signal, domain_signal, some_gates, asserted_literal, symbol_word, domain_gates}
+use Rattle.xs_encode.specs.Domains.{domain_interval, domain_width, ends_signal, domain_signal, some_gates, symbol_word, domain_gates}
 
 own_none : (own : List KindRule) → own ++ [] ≡ [] → own ≡ []
 own_none own e = none_first own [] e

@@ -1,21 +1,18 @@
 -- What the passes over a whole model build: its lists.
-use Rattle.std.proofs.Common.{◌≡◌, ℕ, ◌+◌, ◌<◌, ◌≤◌, Bool, true, false, not, ◌&&◌, List, [], ◌∷◌, ◌++◌, length, drop, map, Some, refl, sym, ◌∙◌, ap, subst, arith}
+use Rattle.std.proofs.Common.{◌≡◌, ℕ, ◌+◌, ◌≤◌, Bool, true, false, not, ◌&&◌, List, [], ◌∷◌, ◌++◌, length, drop, map, Some, refl, sym, ◌∙◌, ap, subst, arith}
 use Rattle.std.specs.Prelude.{slice_get, if◌then◌else◌}
 use Rattle.std.specs.List.{list_any}
-use Rattle.std.proofs.lemmas.List.{length-map}
 use Rattle.xs_tree.specs.Trace.{Each}
 use Rattle.xs_tree.specs.Tree.{Tree}
-use Rattle.xs_tree.specs.declared.expr.Expr.{Expr}
 use Rattle.xs_flattening.specs.Flat.{FlatLeaf, FlatVariable, FlatFormula, FlatModel}
 use Rattle.xs_flattening.specs.Resolved.{leaves_in}
-use Rattle.xs_scope.specs.declared.model.Flat.{Flat}
 use Rattle.xs_scope.specs.declared.model.Formula.{Formula}
 use Rattle.xs_scope.specs.ModelTree.{flat_tree, formula_tree, variable_tree}
 use Rattle.xs_lits.specs.Literal.{Literal}
 use Rattle.xs_gates.specs.Circuit.{Circuit, fold_gates}
 use Rattle.xs_gates.specs.Gates.{constant_lit}
-use Rattle.xs_encoding.specs.Inputs.{names_input, tree_reads_input, reading_after, reads_input}
-use Rattle.xs_encoding.specs.Signals.{Signal, bit, literal_in}
+use Rattle.xs_encoding.specs.Inputs.{names_input, reading_after, reads_input}
+use Rattle.xs_encoding.specs.Signals.{Signal, bit}
 use Rattle.xs_encoding.specs.Expressions.{its_value, Names as TheNames, encoded}
 use Rattle.xs_encoding.specs.Layout.{state_width, input_width, variable_signals, signals_now, signals_next}
 use Rattle.xs_encoding.specs.Lists.{Copy, names_of, asserted_signal, definition_gates, formulas_gates, copy_gates, start_of, state_circuit, first_circuit, step_circuit, history_literals, size_gates}
@@ -26,7 +23,7 @@ use Rattle.xs_signals.proofs.ChoiceLoop.{usable_later}
 use Rattle.xs_expressions.specs.declared.names.Copied.{Copied}
 use Rattle.xs_expressions.specs.declared.names.Names.{Names}
 use Rattle.xs_expressions.specs.declared.part.Part.{Part}
-use Rattle.xs_expressions.specs.Naming.{model_of, names_in, copy_of, IsCopied}
+use Rattle.xs_expressions.specs.Naming.{model_of, names_in, copy_of}
 use Rattle.xs_expressions.specs.Parts.{BuildsPart}
 use Rattle.xs_encode.specs.declared.lists.Source.{Source}
 use Rattle.xs_encode.specs.Reading.{names_read, tree_any}

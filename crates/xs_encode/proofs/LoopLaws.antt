@@ -1,9 +1,8 @@
 -- The loops over variables, definitions and formulas: each turn builds what is next, and leaves the rest.
-use Rattle.std.proofs.Common.{◌≡◌, ℕ, zero, suc, ◌+◌, ◌≤◌, Bool, true, false, not, ◌&&◌, ◌||◌, List, [], ◌∷◌, ◌++◌, length, drop, map, min, Some, refl, sym, ◌∙◌, ap, subst, arith, append_assoc, ◌⊎◌, ⊎_elim}
+use Rattle.std.proofs.Common.{◌≡◌, ℕ, ◌+◌, ◌≤◌, Bool, true, false, not, ◌&&◌, ◌||◌, List, [], ◌∷◌, ◌++◌, length, drop, map, min, Some, refl, sym, ◌∙◌, ap, arith, append_assoc, ◌⊎◌, ⊎_elim}
 use Rattle.std.specs.Prelude.{slice_get, sum_by, if◌then◌else◌}
 use Rattle.std.proofs.lemmas.List.{drop_all, map-append}
 use Rattle.std.proofs.lemmas.List.Sums.{sum_by-cons}
-use Rattle.xs_tree.specs.Trace.{Each}
 use Rattle.xs_tree.specs.ProgramTree.{declared_tree}
 use Rattle.xs_value.specs.declared.domain.Domain.{Domain}
 use Rattle.xs_flattening.specs.Flat.{FlatLeaf, FlatVariable, FlatFormula, FlatModel}

@@ -1,5 +1,5 @@
 -- What is read from an assignment that has the bits of a moment, or of a state.
-use Rattle.std.proofs.Common.{◌≡◌, ℕ, ◌+◌, ◌*◌, ◌^◌, ◌<◌, ◌≤◌, Bool, true, false, ◌&&◌, ◌||◌, ltb, List, [], ◌∷◌, ◌++◌, length, map, set, take, drop, Some, append_assoc, refl, sym, ◌∙◌, ap, subst, arith}
+use Rattle.std.proofs.Common.{◌≡◌, ℕ, ◌+◌, ◌^◌, ◌<◌, ◌≤◌, Bool, true, false, ◌&&◌, ◌||◌, List, [], ◌∷◌, ◌++◌, length, set, take, drop, Some, append_assoc, refl, sym, ◌∙◌, ap, subst, arith}
 use Rattle.std.specs.Prelude.{nat_lt, slice_get, if◌then◌else◌}
 use Rattle.std.proofs.lemmas.List.{take_more_set}
 use Rattle.xs_tree.specs.ProgramTree.{Text}
@@ -11,7 +11,7 @@ use Rattle.std.proofs.lemmas.Bool.{ltb-false}
 use Rattle.xs_tree.specs.Values.{Value}
 use Rattle.xs_value.specs.declared.value.Value.{Value as AValue}
 use Rattle.xs_scope.specs.declared.model.FlatModel.{FlatModel as Model}
-use Rattle.xs_scope.specs.ModelTree.{model_tree, variable_tree, role_of}
+use Rattle.xs_scope.specs.ModelTree.{model_tree, role_of}
 use Rattle.xs_flattening.specs.Flat.{FlatModel}
 use Rattle.xs_kinds.specs.Costs.{model_cost, state_bits, role_width}
 use Rattle.xs_kinds.specs.Models.{IsTyped}

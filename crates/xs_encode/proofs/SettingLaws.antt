@@ -1,9 +1,9 @@
 -- Setting the bits of values gives the assignment these bits, and keeps all else.
-use Rattle.std.proofs.Common.{◌≡◌, ◌≢◌, ◌⊎◌, inl, inr, ℕ, zero, suc, ◌+◌, ◌-◌, ◌*◌, ◌/◌, ◌%◌, ◌<◌, ◌≤◌, eqb, Bool, true, false, not, ◌&&◌, ℤ, pos, negsuc, List, [], ◌∷◌, ◌++◌, length, map, get_or, set, Option, Some, None, refl, sym, ◌∙◌, ap, subst, arith}
-use Rattle.std.specs.Prelude.{slice_get, sum_by, if◌then◌else◌}
-use Rattle.std.proofs.lemmas.List.{get_or-set_same, get_or-set_other, length-set, length-append, append-nil}
+use Rattle.std.proofs.Common.{◌≡◌, ◌⊎◌, inl, inr, ℕ, ◌+◌, ◌<◌, ◌≤◌, Bool, true, false, pos, List, [], ◌∷◌, ◌++◌, length, map, get_or, set, Some, None, refl, sym, ◌∙◌, ap, subst, arith}
+use Rattle.std.specs.Prelude.{if◌then◌else◌}
+use Rattle.std.proofs.lemmas.List.{get_or-set_same, get_or-set_other, length-set}
 use Rattle.std.proofs.lemmas.List.Sums.{sum_by-cons}
-use Rattle.xs_tree.specs.ProgramTree.{Text, DeclaredTree, declared_tree}
+use Rattle.xs_tree.specs.ProgramTree.{Text, declared_tree}
 use Rattle.xs_tree.specs.Scope.{Role, state, input, frozen_role}
 use Rattle.xs_tree.specs.Trace.{Each}
 use Rattle.xs_tree.specs.Values as told
@@ -12,15 +12,15 @@ use Rattle.xs_value.specs.declared.value.Value.TheVariants as value
 use Rattle.xs_scope.specs.declared.model.Variable.{Variable}
 use Rattle.xs_scope.specs.ModelTree.{variable_tree, role_of}
 use Rattle.xs_kinds.specs.Costs.{declared_width, role_width}
-use Rattle.xs_types.specs.Types.{StandsFor, variable_domain, domain_of}
+use Rattle.xs_types.specs.Types.{StandsFor, variable_domain}
 use Rattle.xs_lits.specs.Assignment.{Assignment}
 use Rattle.xs_encoding.specs.Inputs.{is_input}
 use Rattle.xs_encoding.specs.Layout.{state_width, input_width, width_as_input, place_of}
-use Rattle.xs_encoding.specs.Bits.{natural_bits, number_bits, value_number, value_bits, bits_of}
+use Rattle.xs_encoding.specs.Bits.{number_bits, value_number, value_bits, bits_of}
 use Rattle.xs_encoding.proofs.TypeBits.{length-number}
 use Rattle.xs_encoding.proofs.Readings.{IsRightType}
 use Rattle.xs_encode.specs.Domains.{domain_width}
-use Rattle.xs_encode.specs.Values.{StandFor, Gives, AreFree, number_of, turned_bits, with_bits, bits_set, state_size, input_size, AreLeft}
+use Rattle.xs_encode.specs.Values.{StandFor, Gives, AreFree, number_of, with_bits, bits_set, state_size, input_size, AreLeft}
 use Rattle.xs_encode.proofs.DomainLaws.{width_is}
 
 -- ---- the bits of one value
@@ -107,7 +107,7 @@ module _ (symbols : List Text) where
   back p w s t y e (inl h) = inl (omega (arith, h))
   back p w s t y e (inr h) = inr (omega (arith, h, e))
 
-  set_keeps : (xs : List Variable) → Each (IsRightType symbols) (map variable_tree xs) → (vs : List Value) (a : Assignment) (p q y : ℕ) → IsOutside p q xs y → get_or (bits_set symbols a p q xs vs) y None ≡ get_or a y None
+  pub set_keeps : (xs : List Variable) → Each (IsRightType symbols) (map variable_tree xs) → (vs : List Value) (a : Assignment) (p q y : ℕ) → IsOutside p q xs y → get_or (bits_set symbols a p q xs vs) y None ≡ get_or a y None
   set_keeps [] right vs a p q y out = refl
   set_keeps (x ∷ xs) right [] a p q y out = refl
   set_keeps (x ∷ xs) right (v ∷ vs) a p q y out =

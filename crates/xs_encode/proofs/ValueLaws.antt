@@ -1,6 +1,6 @@
 -- What is read from bits is the value that has them.
-use Rattle.std.proofs.Common.{◌≡◌, ◌≢◌, ◌⊎◌, inl, inr, ⊎_elim, ℕ, zero, suc, ◌+◌, ◌-◌, ◌*◌, ◌^◌, ◌<◌, ◌≤◌, Bool, true, false, not, cond, ◌&&◌, ◌||◌, ltb, ℤ, pos, negsuc, ◌+ℤ◌, ◌-ℤ◌, ◌≤ℤ◌, List, [], ◌∷◌, ◌++◌, length, map, flat_map, get_or, min, Option, Some, None, refl, sym, ◌∙◌, ap, subst, arith, int_lt, lt-ltb}
-use Rattle.std.specs.Prelude.{slice_get, slice_index_or, unwrap_or, if◌then◌else◌, nat_lt, IsTrue}
+use Rattle.std.proofs.Common.{◌≡◌, ◌⊎◌, inl, inr, ⊎_elim, ℕ, zero, suc, ◌+◌, ◌*◌, ◌^◌, ◌<◌, ◌≤◌, Bool, true, false, not, cond, ◌&&◌, ltb, ℤ, pos, negsuc, ◌+ℤ◌, ◌-ℤ◌, ◌≤ℤ◌, List, [], ◌∷◌, length, map, flat_map, min, Option, Some, None, refl, sym, ◌∙◌, ap, subst, arith, int_lt, lt-ltb}
+use Rattle.std.specs.Prelude.{slice_get, unwrap_or, if◌then◌else◌, nat_lt}
 use Rattle.std.proofs.lemmas.Int.{ints}
 use Rattle.std.proofs.lemmas.Bool.{ltb-true, ltb-false}
 use Rattle.std.proofs.lemmas.List.{get_or_past}
@@ -12,14 +12,13 @@ use Rattle.xs_tree.specs.Texts.{same_text}
 use Rattle.xs_tree.specs.Scope.{Role, state, input, frozen_role}
 use Rattle.xs_value.specs.declared.value.Value.{Value as AValue}
 use Rattle.xs_tree.specs.Trace.{Each, is_member, in_domain}
-use Rattle.xs_tree.specs.Values.{Value, truth, number, symbol, same_int, one}
+use Rattle.xs_tree.specs.Values.{Value, truth, number, symbol, one}
 use Rattle.xs_tree.proofs.ValueLaws.{same_text_equal}
-use Rattle.xs_value.specs.declared.domain.Domain.{Domain}
 use Rattle.xs_value.specs.declared.domain.Domain.TheVariants as domain
 use Rattle.xs_flattening.specs.FlatTrace.{AreInDomains}
 use Rattle.xs_scope.specs.declared.model.Variable.{Variable}
 use Rattle.xs_scope.specs.ModelTree.{variable_tree, role_of}
-use Rattle.xs_kinds.specs.Intervals.{Interval, IsIn, just, hull, fits, fits_number}
+use Rattle.xs_kinds.specs.Intervals.{Interval, just, hull, fits, fits_number}
 use Rattle.xs_kinds.specs.Judged.{number_class, symbol_class, mixed_enum, unless_class}
 use Rattle.xs_kinds.specs.Declared.{member_kind, judged_declared}
 use Rattle.xs_kinds.specs.Costs.{width_of, symbol_number, declared_width, role_width}
@@ -29,10 +28,10 @@ use Rattle.xs_kinds.proofs.Parts.{or_true}
 use Rattle.xs_kinds.proofs.VariableLaws.{variable_holds}
 use Rattle.xs_kinds.proofs.Widths.{widths_least}
 use Rattle.xs_lexer.proofs.SignLemmas.{both_true}
-use Rattle.xs_types.specs.Types.{spread, numbers_in, symbols_in, domain_of, variable_domain, StandsFor}
+use Rattle.xs_types.specs.Types.{spread, numbers_in, symbols_in, domain_of, StandsFor}
 use Rattle.xs_system.specs.States.{Agrees}
 use Rattle.xs_lits.specs.Assignment.{Assignment}
-use Rattle.xs_arith.specs.Bits.{bit_value, natural_value, last_from, last_bit, signed_value}
+use Rattle.xs_arith.specs.Bits.{bit_value, natural_value, last_bit, signed_value}
 use Rattle.xs_arith.proofs.Orders.{Fits}
 use Rattle.xs_least.specs.Least.{value_of_member, least_member, least_value, least_values, by_role, with_inputs}
 use Rattle.xs_encoding.specs.Layout.{declared_interval, state_width, input_width, width_as_input, place_of}

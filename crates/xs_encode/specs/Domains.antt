@@ -1,5 +1,5 @@
 -- What a variable of a domain becomes, as the domain tells it: a symbol by its number.
-use Rattle.std.specs.Prelude.{ℕ, ◌+◌, ◌^◌, min, ℤ, pos, false, Option, Some, None, List, [], ◌∷◌, map}
+use Rattle.std.specs.Prelude.{ℕ, ◌+◌, ◌^◌, min, pos, false, Option, Some, None, List, [], ◌∷◌, map}
 use Rattle.xs_value.specs.declared.domain.Domain.{Domain}
 use Rattle.xs_value.specs.declared.domain.Domain.TheVariants as domain
 use Rattle.xs_tree.specs.Scope.{Role}

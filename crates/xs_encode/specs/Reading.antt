@@ -1,5 +1,5 @@
 -- Which names an expression has, asked node by node.
-use Rattle.std.specs.Prelude.{Bool, true, false, ◌||◌}
+use Rattle.std.specs.Prelude.{Bool, false, ◌||◌}
 use Rattle.xs_tree.specs.Tree.{Tree, Trees, Branches, truth, number, leaf, not_of, negate, next_of, binary, choice, case_of, set_of, span, no_tree, tree_then, no_branch, branch_then}
 use Rattle.xs_flattening.specs.Flat.{FlatLeaf}
 use Rattle.xs_scope.specs.ModelTree.{variable_tree}

@@ -1,5 +1,5 @@
--- Values as the code has them beside those of the definitions, and their bits in an assignment.
-use Rattle.std.specs.Prelude.{◌≡◌, ◌≢◌, ℕ, zero, suc, ◌+◌, ◌*◌, ◌≤◌, ◌<◌, ◌^◌, nat_lt, nat_eq, not, ◌&&◌, min, ℤ, pos, negsuc, neg_ℤ, ◌+ℤ◌, Bool, true, false, Option, Some, None, unwrap_or, List, [], ◌∷◌, slice_index_or, slice_set, map, sum_by, if◌then◌else◌}
+-- Values as the code has them beside those of the definitions, their bits in an assignment, and what is read and set.
+use Rattle.std.specs.Prelude.{◌≡◌, ◌⊎◌, ℕ, zero, suc, ◌+◌, ◌≤◌, ◌<◌, nat_lt, nat_eq, not, ◌&&◌, min, ℤ, pos, negsuc, ◌+ℤ◌, Bool, true, false, Option, Some, None, unwrap_or, List, [], ◌∷◌, slice_index_or, slice_set, map, sum_by, if◌then◌else◌}
 use Rattle.xs_tree.specs.ProgramTree.{Text}
 use Rattle.xs_tree.specs.Values as told
 use Rattle.xs_value.specs.declared.value.Value.{Value}
@@ -51,7 +51,11 @@ abbrev pub Gives : Assignment → ℕ → List Bool → Type 0
 Gives a n [] = Unit {0}
 Gives a n (b ∷ bs) = (slice_index_or a n None ≡ Some b) × Gives a (n + 1) bs
 
--- the assignment has a place for each bit of a moment, and these are free
+-- the number is no variable of the state now or of the inputs
+abbrev pub IsElsewhere : FlatModel → ℕ → Type 0
+IsElsewhere m x = ((x < 2) ⊎ (2 + state_bits m ≤ x)) × ((x < input_place m) ⊎ (input_place m + input_bits m ≤ x))
+
+-- the bits of a moment are free
 pub record IsFreeMoment (m : FlatModel) (a : Assignment) : Type 0 where
   pub state : AreFree a 2 (state_bits m)
   pub inputs : AreFree a (input_place m) (input_bits m)

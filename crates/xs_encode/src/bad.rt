@@ -27,7 +27,8 @@ use xs_value::{Items, OutOfMemory, SetList};
 
 /// The clauses that are true with the states at which the top event is TRUE, that have failed at most
 /// `size` of the faults, whose history bits are the last `faults` variables, and all of none of the listed
-/// sets. A size of as many as there are faults or more asks nothing.
+/// sets. A size of as many as there are faults or more asks nothing. Where gates would pass the highest
+/// variable the answer is want of memory, too.
 pub fn bad_clauses(
     alloc: Global,
     t: &Typed,

@@ -58,7 +58,8 @@ pub(crate) fn source_of<'a>(alloc: Global, t: &'a Typed) -> Result<Source<'a>, O
 }
 
 /// The clause lists of a model: its first states, its steps and its states, with the exact variables and
-/// clauses that `system_of` of `xs_encoding` says.
+/// clauses that `system_of` of `xs_encoding` says. Where they would pass the highest variable the answer is
+/// want of memory, too.
 pub fn encode(alloc: Global, t: &Typed) -> Result<System, OutOfMemory>
     requires encodable { IsEncodable (model_tree t.now.model) }
     ensures exact { IfOk result (λ s. s ≡ system_of (model_tree t.now.model)) }

@@ -1,13 +1,13 @@
 //! The bits of values as those of an assignment.
 
-ghost use Rattle.std.specs.Prelude.{◌≡◌, ◌≤◌, ◌<◌, ◌+◌, ◌^◌, List, length};
+ghost use Rattle.std.specs.Prelude.{ℕ, None, slice_index_or, ◌≡◌, ◌≤◌, ◌<◌, ◌+◌, ◌^◌, List, length};
 ghost use Rattle.xs_tree.specs.Values.{Value as Told};
 ghost use Rattle.xs_flattening.specs.FlatTrace.{AreInDomains};
 ghost use Rattle.xs_scope.specs.ModelTree.{model_tree};
 ghost use Rattle.xs_encoding.specs.Layout.{input_place, gates_place};
 ghost use Rattle.xs_encoding.specs.Bits.{number_bits, state_of, inputs_of};
 ghost use Rattle.xs_encoding.specs.Encodable.{IsEncodable};
-ghost use Rattle.xs_encode.specs.Values.{StandFor, Gives, AreFree, IsFreeMoment, number_of, with_bits, bits_set};
+ghost use Rattle.xs_encode.specs.Values.{StandFor, IsElsewhere, Gives, AreFree, IsFreeMoment, number_of, with_bits, bits_set};
 
 use crate::layout::{domain_width, places_now};
 use xs_lits::assign::Assign;
@@ -23,6 +23,7 @@ pub fn bits_of(t: &Typed, v: &Valuation, into: &mut Assign)
     requires places { gates_place (model_tree t.now.model) ≤ length into.old }
     requires free { IsFreeMoment (model_tree t.now.model) into.old }
     ensures same { length into.new ≡ length into.old }
+    ensures kept { (x : ℕ) → IsElsewhere (model_tree t.now.model) x → slice_index_or into.new x None ≡ slice_index_or into.old x None }
     ensures state { (values : List Told) → AreInDomains (model_tree t.now.model).variables values → StandFor t.now.model.symbols v.now values → Gives into.new 2 (state_of (model_tree t.now.model) values) }
     ensures inputs { (values : List Told) → AreInDomains (model_tree t.now.model).variables values → StandFor t.now.model.symbols v.now values → Gives into.new (input_place (model_tree t.now.model)) (inputs_of (model_tree t.now.model) values) }
 {

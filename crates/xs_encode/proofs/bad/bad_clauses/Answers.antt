@@ -1,4 +1,4 @@
-use Rattle.std.proofs.Common.{◌≡◌, ◌++◌, ◌∙◌, List, map, ap}
+use Rattle.std.proofs.Common.{◌++◌, ◌∙◌, List, map, ap}
 use Rattle.xs_lits.specs.Literal.{Literal}
 use Rattle.xs_scope.specs.declared.model.FlatModel.{FlatModel as Model}
 use Rattle.xs_scope.specs.ModelTree.{model_tree, flat_tree}

@@ -6,8 +6,7 @@ use Rattle.xs_lits.specs.Literal.{Literal}
 use Rattle.xs_gates.specs.Circuit.{Circuit}
 use Rattle.xs_encoding.specs.Lists.{size_gates}
 use Rattle.xs_encoding.specs.Signals.{Signal}
-use Rattle.xs_encoding.specs.Layout.{input_place, signals_now}
-use Rattle.xs_signals.specs.Built.{signals_of}
+use Rattle.xs_encoding.specs.Layout.{input_place}
 use Rattle.xs_signals.proofs.ChoiceLoop.{usable_later, length_signals}
 use Rattle.xs_expressions.specs.Naming.{names_in}
 use Rattle.xs_encode.specs.Copies.{source_model}

@@ -1,4 +1,4 @@
-use Rattle.std.proofs.Common.{◌≡◌, ◌+◌, ◌∙◌, Bool, [], ap, arith, drop, map, List}
+use Rattle.std.proofs.Common.{◌+◌, ◌∙◌, Bool, ap, arith, drop, map, List}
 use Rattle.xs_scope.specs.declared.model.Variable.{Variable}
 use Rattle.xs_scope.specs.ModelTree.{flat_tree, variable_tree, formula_tree}
 use Rattle.xs_encoding.specs.Inputs.{names_input, reading_after}

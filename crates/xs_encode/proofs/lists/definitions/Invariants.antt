@@ -1,5 +1,5 @@
 use Rattle.std.proofs.Common.{drop, map}
-use Rattle.xs_scope.specs.ModelTree.{model_tree, formula_tree}
+use Rattle.xs_scope.specs.ModelTree.{formula_tree}
 use Rattle.xs_gates.specs.Circuit.{fold_gates}
 use Rattle.xs_encoding.specs.Lists.{definition_gates, definitions_gates}
 use Rattle.xs_signals.specs.Built.{signals_of}

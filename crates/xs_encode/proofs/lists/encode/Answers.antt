@@ -1,5 +1,4 @@
 use Rattle.std.proofs.Common.{◌∙◌, ap}
-use Rattle.xs_flattening.specs.Flat.{FlatModel}
 use Rattle.xs_scope.specs.ModelTree.{model_tree}
 use Rattle.xs_encoding.specs.Layout.{input_bits}
 use Rattle.xs_encoding.specs.Lists.{state_list, first_list, step_list}

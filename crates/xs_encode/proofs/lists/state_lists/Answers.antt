@@ -1,4 +1,4 @@
-use Rattle.std.proofs.Common.{◌≡◌, ◌∙◌, List, map, sym, ap}
+use Rattle.std.proofs.Common.{◌∙◌, List, map, sym, ap}
 use Rattle.xs_scope.specs.declared.model.Formula.{Formula}
 use Rattle.xs_scope.specs.declared.model.FlatModel.{FlatModel as Model}
 use Rattle.xs_scope.specs.ModelTree.{formula_tree}

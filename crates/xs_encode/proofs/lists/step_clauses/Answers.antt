@@ -1,4 +1,4 @@
-use Rattle.std.proofs.Common.{◌≡◌, ◌∙◌, List, true, false, map, sym, ap, subst}
+use Rattle.std.proofs.Common.{◌∙◌, List, true, false, map, sym, ap, subst}
 use Rattle.xs_tree.specs.Trace.{Each}
 use Rattle.xs_scope.specs.declared.model.Formula.{Formula}
 use Rattle.xs_scope.specs.declared.model.FlatModel.{FlatModel as Model}

@@ -1,15 +1,21 @@
-use Rattle.std.proofs.Common.{◌∙◌, length, sym, ap, subst, arith}
+use Rattle.std.proofs.Common.{None, ◌∙◌, length, sym, ap, subst, arith}
+use Rattle.std.specs.Prelude.{slice_index_or}
 use Rattle.xs_lits.specs.Assignment.{Assignment}
 use Rattle.xs_scope.specs.ModelTree.{model_tree}
 use Rattle.xs_encoding.specs.Layout.{input_place}
 use Rattle.xs_encoding.specs.Bits.{state_of, inputs_of}
 use Rattle.xs_encoding.proofs.MomentMeans.{model_types}
 use Rattle.xs_encode.specs.Values.{Gives}
-use Rattle.xs_encode.proofs.SettingLaws.{set_long, set_gives}
+use Rattle.xs_encode.proofs.SettingLaws.{set_keeps, set_long, set_gives}
 use Rattle.xs_encode.proofs.setting.bits_of.Goals as goal
 
 pub returns-clause-same : goal.returns-clause-same
 returns-clause-same c = ap length c.set_all.ensures ∙ set_long c.args.t.now.model.symbols c.args.t.now.model.variables c.args.v.now c.args.into.now 2 (input_place (model_tree c.args.t.now.model))
+
+pub returns-clause-kept : goal.returns-clause-kept
+returns-clause-kept c = λ x out.
+    let m = model_tree c.args.t.now.model in
+    ap (λ (a : Assignment). slice_index_or a x None) c.set_all.ensures ∙ set_keeps m.symbols c.args.t.now.model.variables (model_types m c.requires.encodable) c.args.v.now c.args.into.now 2 (input_place m) x out
 
 pub returns-clause-state : goal.returns-clause-state
 returns-clause-state c = λ values inside stand.
