@@ -8,7 +8,7 @@
 //!
 //! The modules from below: `texts` has what the others share, the programs, instructions and expressions
 //! that texts spell. Then come `lists`, `tokens`, `printing`, `programs` and `instructions` (reading),
-//! `flat`, `kinds`, `effects`, `rules`, `weaving`, `reports` and `desk`.
+//! `flat`, `kinds`, `effects`, `rules`, `weaving` and `desk`.
 #![tactic(auto)]
 
 #[cfg(test)]
@@ -27,8 +27,6 @@ mod lists;
 mod printing;
 #[cfg(test)]
 mod programs;
-#[cfg(test)]
-mod reports;
 #[cfg(test)]
 mod rules;
 #[cfg(test)]
