@@ -1,2 +1,9 @@
 mod Finding
 mod SiteLaws
+mod Loops
+mod SetLaws
+mod StepLaws
+mod Traces
+mod Exactly
+mod Lines
+mod Spelled

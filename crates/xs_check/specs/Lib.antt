@@ -4,4 +4,4 @@ pub mod Asked
 pub mod Fit
 pub mod Moments
 pub mod Order
-pub mod Steps
+pub mod Parts

@@ -10,6 +10,8 @@ use Rattle.xs_encoded.specs.FlatTraces.{ReachesTop, HasFailedNumber}
 use Rattle.xs_eval.specs.Named.{IsLawful}
 use Rattle.xs_right.specs.Sets.{has_number}
 use Rattle.xs_right.specs.Right.{HasFailedExactly, Shows}
+use Rattle.xs_report.specs.declared.fault.TraceFault.{TraceFault}
+use Rattle.xs_report.specs.declared.fault.TraceFault.TheVariants as fault
 use Rattle.xs_check.specs.Matter.{Matter}
 
 -- moments by number that can be replayed: there are some, fewer than 2^32, and each has a value of its type for each variable
@@ -40,3 +42,8 @@ is_same b c = if b then c else not c
 abbrev pub are_those_of : (Mode → Bool) → List ℕ → ℕ → List Mode → Bool
 are_those_of test set n [] = true
 are_those_of test set n (f ∷ fs) = is_same (test f) (has_number set n) && are_those_of test set (suc n) fs
+
+-- something is wrong with a text, and it was not memory that was wanting
+abbrev pub IsTextFault : TraceFault → Type 0
+IsTextFault fault.OutOfMemory = ⊥
+IsTextFault _ = Unit {0}

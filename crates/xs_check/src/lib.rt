@@ -21,6 +21,7 @@
 mod clauses;
 mod judge;
 mod judged;
+mod laws;
 mod lines;
 mod listed;
 mod parts;
@@ -31,3 +32,4 @@ mod traces;
 
 pub use judge::check;
 pub use judged::Judged;
+pub use laws::spelled_are_checkable;

@@ -3,7 +3,7 @@
 ghost use Rattle.std.specs.Prelude.{◌≡◌};
 ghost use Rattle.xs_certificate.specs.Certificate.{steps_in};
 ghost use Rattle.xs_check.specs.Asked.{asked};
-ghost use Rattle.xs_check.specs.Steps.{part_of};
+ghost use Rattle.xs_check.specs.Parts.{part_of};
 
 use xs_cert::Certificate;
 use xs_derive::recorder::StepsList;

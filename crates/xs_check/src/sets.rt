@@ -34,7 +34,7 @@ pub(crate) fn set_rule(q: &Question<'_>, k: usize, set: &[u32]) -> Option<u32>
     if !is_set_at(q, k, set) {
         return Some(2);
     }
-    if !is_apart(&q.certificate.sets.as_slice()[..k], set) {
+    if !is_apart(q.certificate.sets.as_slice(), k, set) {
         return Some(3);
     }
     None
@@ -79,9 +79,10 @@ fn is_after(sets: &[FaultSet], k: usize, set: &[u32]) -> bool
     stands_before(sets[k - 1].as_slice(), set)
 }
 
-/// Whether none of the sets before contains a set or is contained in it.
-fn is_apart(before: &[FaultSet], set: &[u32]) -> bool
-    ensures { result ≡ list_all (λ other. apart other set.now) before.now }
+/// Whether none of the sets before a place contains a set or is contained in it.
+fn is_apart(sets: &[FaultSet], k: usize, set: &[u32]) -> bool
+    requires { k ≤ length sets.now }
+    ensures { result ≡ list_all (λ other. apart other set.now) (take k sets.now) }
 {
-    before.iter().all(|other| are_apart(other.as_slice(), set))
+    sets[..k].iter().all(|other| are_apart(other.as_slice(), set))
 }

@@ -1,6 +1,6 @@
 //! The trace texts of a certificate: rules 4 to 7.
 
-ghost use Rattle.std.specs.Prelude.{◌≡◌, ◌↔◌, ◌<◌, ◌++◌, [], IsTrue, IfOk, length, map};
+ghost use Rattle.std.specs.Prelude.{◌≡◌, ◌↔◌, ◌<◌, ◌++◌, [], Some, IsTrue, IfOk, length, map};
 ghost use Rattle.xs_lines.specs.Lines.{fed};
 ghost use Rattle.xs_scope.specs.ModelTree.{model_tree, mode_of};
 ghost use Rattle.xs_flattening.specs.FlatTrace.{stands_in_some};
@@ -10,7 +10,7 @@ ghost use Rattle.xs_certificate.specs.Certificate.{a_trace};
 ghost use Rattle.xs_check.specs.Asked.{asked};
 ghost use Rattle.xs_check.specs.Fit.{IsFit, IsShortText};
 ghost use Rattle.xs_check.specs.Found.{FindsAt};
-ghost use Rattle.xs_check.specs.Moments.{CanBeReplayed, FindsMoments, FailsExactly, are_those_of};
+ghost use Rattle.xs_check.specs.Moments.{CanBeReplayed, FindsMoments, FailsExactly, IsTextFault, are_those_of};
 
 use crate::question::Question;
 use crate::sets::are_faults;
@@ -36,8 +36,21 @@ pub(crate) fn trace_rule(
     let bytes = joined(alloc, text.as_slice())?;
     match read_trace(alloc, q.plain, bytes.as_slice()) {
         Ok(trace) => moments_rule(alloc, q, set, &trace),
-        Err(TraceFault::OutOfMemory) => Err(OutOfMemory),
-        Err(_) => Ok(Some(4)),
+        Err(fault) => text_rule(fault),
+    }
+}
+
+/// Rule 4, where something is wrong with a text.
+fn text_rule(fault: TraceFault) -> Result<Option<u32>, OutOfMemory>
+    ensures { IfOk result (λ rule. (rule ≡ Some 4) × IsTextFault fault) }
+{
+    match fault {
+        TraceFault::OutOfMemory => Err(OutOfMemory),
+        TraceFault::BadLine(_)
+        | TraceFault::UnknownName(_)
+        | TraceFault::Outside(_)
+        | TraceFault::MissingValue(_)
+        | TraceFault::Twice(_) => Ok(Some(4)),
     }
 }
 
