@@ -1,8 +1,9 @@
 -- The faults that moments have failed are those of a set, as it is tested.
 use Rattle.std.proofs.Common.{◌≡◌, ℕ, zero, suc, ◌+◌, ◌-◌, ◌<◌, ◌≤◌, Bool, true, false, not, List, [], ◌∷◌, length, drop, get_or, Option, Some, None, refl, sym, ap, subst, ◌∙◌, arith}
+use Rattle.std.specs.Bool.{beq}
 use Rattle.std.specs.Prelude.{◌&&◌, map, All, Contains, IsTrue, slice_get}
 use Rattle.std.proofs.lemmas.List.{length-map, drop_more, drop_all}
-use Rattle.std.proofs.lemmas.Option.{slice_get_within, slice_get-get_or}
+use Rattle.std.proofs.lemmas.Option.{slice_get_within, slice_get-get_or, get_or_from_slice_get}
 use Rattle.xs_tree.specs.Trace.{Each}
 use Rattle.xs_tree.specs.Values.{Value}
 use Rattle.xs_scope.specs.ModelTree.{model_tree, variable_tree, mode_of}
@@ -134,7 +135,7 @@ each_at P (g ∷ fs) (suc i) f h at = each_at P fs i f h.1 at
 pub variable_in : (m : Model) (fs : List Fault) (i : ℕ) (f : Fault) → Each (IsModeOf (model_tree m)) (map mode_of fs) → slice_get fs i ≡ Some f → f.variable < length m.variables
 variable_in m fs i f h at =
     let is = each_at (IsModeOf (model_tree m)) fs i f h at in
-    subst (λ n. f.variable < n) (length-map variable_tree m.variables) (slice_get_within (map variable_tree m.variables) f.variable is.variable is.is_variable)
+    subst (λ n. f.variable < n) (length-map m.variables variable_tree) (slice_get_within (map variable_tree m.variables) f.variable is.variable is.is_variable)
 
 pub symbol_in : (m : Model) (fs : List Fault) (i : ℕ) (f : Fault) → Each (IsModeOf (model_tree m)) (map mode_of fs) → slice_get fs i ≡ Some f → f.symbol < length m.symbols
 symbol_in m fs i f h at = let is = each_at (IsModeOf (model_tree m)) fs i f h at in slice_get_within m.symbols f.symbol is.text is.is_symbol

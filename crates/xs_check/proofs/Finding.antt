@@ -47,14 +47,13 @@ module _ (a : Matter) where
   }
 
   -- what is found at all sites is what is answered
+  law : FirstBrokenIsObjection (List (List Value)) (GivesTrace a.model) (IsFlatTrace a.model) (ReachesTop a.model a.top) (HasFailedNumber a.model a.modes) a.subject a.certificate
+  law = first_broken (List (List Value)) (GivesTrace a.model) (IsFlatTrace a.model) (ReachesTop a.model a.top) (HasFailedNumber a.model a.modes) a.subject a.certificate
+
   pub judged_of_all : length a.certificate.traces ≡ length a.certificate.sets → (j : Judged) → Finds a (sites_of a.certificate) j → IsJudged a j
-  judged_of_all one Yes f = law.0 f.each
-    where
-      law = first_broken (List (List Value)) (GivesTrace a.model) (IsFlatTrace a.model) (ReachesTop a.model a.top) (HasFailedNumber a.model a.modes) a.subject a.certificate one
+  judged_of_all one Yes f = (law one).0 f.each
   judged_of_all one (No line number) f = record {
     rule = f.broken.rule;
     has_number = f.broken.has_number;
-    objection = subst (λ k. IsObjectionIn a k f.broken.rule) f.at_line (law.1 f.before f.after f.site f.broken.rule f.lie f.kept f.broken.first);
+    objection = subst (λ k. IsObjectionIn a k f.broken.rule) f.at_line ((law one).1 f.before f.after f.site f.broken.rule f.lie f.kept f.broken.first);
   }
-    where
-      law = first_broken (List (List Value)) (GivesTrace a.model) (IsFlatTrace a.model) (ReachesTop a.model a.top) (HasFailedNumber a.model a.modes) a.subject a.certificate one

@@ -3,7 +3,8 @@ mod SiteLaws
 mod Loops
 mod SetLaws
 mod StepLaws
-mod Traces
+mod TraceLaws
 mod Exactly
-mod Lines
+mod LineCounts
 mod Spelled
+mod HistoryPlaces

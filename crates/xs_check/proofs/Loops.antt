@@ -18,7 +18,7 @@ use Rattle.xs_check.proofs.Finding.{kept_none, kept_then, broken_here, kept_both
 next : (k : ℕ) → suc k ≡ k + 1
 next k = omega arith
 
-pub drop_here : {A : Type 0} (xs : List A) (i : ℕ) (x : A) → i < length xs → x ≡ get_or xs i x → drop i xs ≡ x ∷ drop (i + 1) xs
+drop_here : {A : Type 0} (xs : List A) (i : ℕ) (x : A) → i < length xs → x ≡ get_or xs i x → drop i xs ≡ x ∷ drop (i + 1) xs
 drop_here xs i x l e = drop_more xs i x l ∙ ap (λ y. y ∷ drop (i + 1) xs) (sym e)
 
 pub drop_there : {A : Type 0} (xs : List A) (i : ℕ) (x : A) → slice_get xs i ≡ Some x → drop i xs ≡ x ∷ drop (i + 1) xs
@@ -60,19 +60,19 @@ module _ (a : Matter) where
   sets_over k sets texts all l g = goes_over (set_sites k (drop k sets) (drop k texts)) all (ap (λ xs. set_sites k xs (drop k texts)) (drop_all k sets l)) g
 
   -- Clauses.
-  clause_next : (i : ℕ) (clauses : List (List Literal)) (clause : List Literal) → i < length clauses → clause ≡ get_or clauses i clause →
+  clause_next : (i : ℕ) (clauses : List (List Literal)) (clause : List Literal) → slice_get clauses i ≡ Some clause →
       clause_sites i (drop i clauses) ≡ a_clause i clause ∷ clause_sites (i + 1) (drop (i + 1) clauses)
-  clause_next i clauses clause l e = ap (clause_sites i) (drop_here clauses i clause l e) ∙ ap (λ n. a_clause i clause ∷ clause_sites n (drop (i + 1) clauses)) (next i)
+  clause_next i clauses clause e = ap (clause_sites i) (drop_there clauses i clause e) ∙ ap (λ n. a_clause i clause ∷ clause_sites n (drop (i + 1) clauses)) (next i)
 
-  pub clause_goes_on : (i : ℕ) (clauses : List (List Literal)) (clause : List Literal) (all : List Site) → i < length clauses → clause ≡ get_or clauses i clause →
+  pub clause_goes_on : (i : ℕ) (clauses : List (List Literal)) (clause : List Literal) (all : List Site) → slice_get clauses i ≡ Some clause →
       GoesOn a (clause_sites i (drop i clauses)) all → IsKeptAt a (a_clause i clause) → GoesOn a (clause_sites (i + 1) (drop (i + 1) clauses)) all
-  clause_goes_on i clauses clause all l e g k =
-      goes_kept (a_clause i clause) (clause_sites (i + 1) (drop (i + 1) clauses)) all (subst (λ xs. GoesOn a xs all) (clause_next i clauses clause l e) g) k
+  clause_goes_on i clauses clause all e g k =
+      goes_kept (a_clause i clause) (clause_sites (i + 1) (drop (i + 1) clauses)) all (subst (λ xs. GoesOn a xs all) (clause_next i clauses clause e) g) k
 
-  pub clause_ends : (i : ℕ) (clauses : List (List Literal)) (clause : List Literal) (all : List Site) (line number : ℕ) → i < length clauses → clause ≡ get_or clauses i clause →
+  pub clause_ends : (i : ℕ) (clauses : List (List Literal)) (clause : List Literal) (all : List Site) (line number : ℕ) → slice_get clauses i ≡ Some clause →
       GoesOn a (clause_sites i (drop i clauses)) all → line_of a.certificate (a_clause i clause) ≡ line → IsBrokenAt a (a_clause i clause) number → Finds a all (No line number)
-  clause_ends i clauses clause all line number l e g at b =
-      goes_broken (a_clause i clause) (clause_sites (i + 1) (drop (i + 1) clauses)) all line number (subst (λ xs. GoesOn a xs all) (clause_next i clauses clause l e) g) at b
+  clause_ends i clauses clause all line number e g at b =
+      goes_broken (a_clause i clause) (clause_sites (i + 1) (drop (i + 1) clauses)) all line number (subst (λ xs. GoesOn a xs all) (clause_next i clauses clause e) g) at b
 
   pub clauses_over : (i : ℕ) (clauses : List (List Literal)) (all : List Site) → length clauses ≤ i → GoesOn a (clause_sites i (drop i clauses)) all → Finds a all Yes
   clauses_over i clauses all l g = goes_over (clause_sites i (drop i clauses)) all (ap (clause_sites i) (drop_all i clauses l)) g

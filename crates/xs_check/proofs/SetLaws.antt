@@ -4,12 +4,12 @@ use Rattle.std.specs.Prelude.{◌&&◌, All, Contains, IsTrue, slice_get, slice_
 use Rattle.std.specs.List.{list_all}
 use Rattle.std.proofs.lemmas.List.Elements.{All-contains, Contains-get_or}
 use Rattle.std.proofs.lemmas.Option.{slice_get_within}
-use Rattle.xs_right.specs.Sets.{is_contained, stands_before}
+use Rattle.xs_right.specs.Sets.{IsRising, is_contained, stands_before}
 use Rattle.xs_right.specs.Right.{IsContained}
 use Rattle.xs_encoded.proofs.SetLaws.{has_contains, contains_has, contained_has, contained_from, and_parts, and_both}
 use Rattle.xs_sets.specs.Tests.{are_apart}
 use Rattle.xs_certificate.specs.Certificate.{Certificate}
-use Rattle.xs_certificate.specs.Accepted.{IsApart}
+use Rattle.xs_certificate.specs.Accepted.{Subject, IsSetAt, IsApart}
 use Rattle.xs_check.specs.Order.{stands_after, is_after_in}
 
 -- All of a list, by its members.
@@ -62,11 +62,11 @@ passes p [] (suc k) f = refl
 passes p (y ∷ ys) zero f = refl
 passes p (y ∷ ys) (suc k) f = and_both (p y) (list_all p (take k ys)) (f 0 y (omega arith) refl) (passes p ys k (λ j x l at. f (suc j) x (omega (arith, l)) at))
 
-pub apart_from_test : (c : Certificate) (k : ℕ) (set : List ℕ) → list_all (λ other. are_apart other set) (take k c.sets) ≡ true → IsApart c k set
-apart_from_test c k set e j other l at = apart_then other set (passed (λ o. are_apart o set) c.sets k j other e l at)
+pub apart_from_test : (subject : Subject) (c : Certificate) (k : ℕ) (set : List ℕ) → list_all (λ other. are_apart other set) (take k c.sets) ≡ true → IsApart subject c k set
+apart_from_test subject c k set e j other l at = apart_then other set (passed (λ o. are_apart o set) c.sets k j other e l at)
 
-pub test_from_apart : (c : Certificate) (k : ℕ) (set : List ℕ) → IsApart c k set → list_all (λ other. are_apart other set) (take k c.sets) ≡ true
-test_from_apart c k set f = passes (λ o. are_apart o set) c.sets k (λ j other l at. apart_where other set (f j other l at))
+pub test_from_apart : (subject : Subject) (c : Certificate) (k : ℕ) (set : List ℕ) → IsApart subject c k set → list_all (λ other. are_apart other set) (take k c.sets) ≡ true
+test_from_apart subject c k set f = passes (λ o. are_apart o set) c.sets k (λ j other l at. apart_where other set (f j other l at))
 
 -- Order.
 pub after_then : (sets : List (List ℕ)) (k : ℕ) (set : List ℕ) → is_after_in sets k set ≡ true → (j : ℕ) (before : List ℕ) → k ≡ suc j → slice_get sets j ≡ Some before → IsTrue (stands_before before set)
@@ -89,3 +89,10 @@ after_where sets (suc k) set l f = by_place (slice_get sets k) refl
     by_place : (o : Option (List ℕ)) → slice_get sets k ≡ o → stands_after set o ≡ true
     by_place None e = absurd (past sets k l e)
     by_place (Some before) e = f k before refl e
+
+-- What is asked of a set, from its tests.
+pub set_from : (subject : Subject) (c : Certificate) (k : ℕ) (set : List ℕ) → IsRising set → All (λ i. (1 ≤ i) × (i ≤ subject.faults)) set → length set ≤ c.size → is_after_in c.sets k set ≡ true → IsSetAt subject c k set
+set_from subject c k set rises names small after = record { rises = rises; names = λ i m. each_in (λ i. (1 ≤ i) × (i ≤ subject.faults)) set names i m; small = small; after = after_then c.sets k set after }
+
+pub names_in : (subject : Subject) (c : Certificate) (k : ℕ) (set : List ℕ) → IsSetAt subject c k set → All (λ i. (1 ≤ i) × (i ≤ subject.faults)) set
+names_in subject c k set h = all_from (λ i. (1 ≤ i) × (i ≤ subject.faults)) set (λ i m. h.names i m)

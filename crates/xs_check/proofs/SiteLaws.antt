@@ -1,6 +1,8 @@
 -- Which rule is broken first at a site, or that all are kept, from what each test finds.
-use Rattle.std.proofs.Common.{◌≡◌, ℕ, ◌<◌, List, refl, sym, subst, arith}
-use Rattle.std.specs.Prelude.{length}
+use Rattle.std.proofs.Common.{◌≡◌, ℕ, suc, ◌<◌, List, [], ◌∷◌, Option, Some, None, refl, sym, subst, arith}
+use Rattle.std.specs.Prelude.{length, All}
+use Rattle.std.proofs.lemmas.List.Elements.{All-nil, All-cons}
+use Rattle.xs_certificate.specs.Sites.{clause_sites}
 use Rattle.xs_tree.specs.Values.{Value}
 use Rattle.xs_lines.specs.Lines.{Line}
 use Rattle.xs_lits.specs.Literal.{Literal}
@@ -15,8 +17,8 @@ use Rattle.xs_trace_text.proofs.OneTrace.{one_trace}
 use Rattle.xs_certificate.specs.Certificate.{Part, Site, the_numbers, a_set, a_trace, a_clause, a_step, an_end}
 use Rattle.xs_certificate.specs.Accepted.{Rule, other_numbers, no_set, contains_a_set, no_text, no_trace, does_not_reach, other_faults, foreign_literal, bad_hint, no_conflict, not_covered, number_of, Keeps, HasNumbers, IsSetAt, IsApart, HasLiterals, HasGoodHints, HasConflict, IsCovered}
 use Rattle.xs_check.specs.Matter.{Matter}
-use Rattle.xs_check.specs.Found.{IsKeptAt, IsBrokenAt}
-use Rattle.xs_check.specs.Moments.{BreaksMoments, not_a_trace, not_reaching, not_exactly}
+use Rattle.xs_check.specs.Found.{IsKeptAt, IsBrokenAt, AreKept, FindsAt}
+use Rattle.xs_check.specs.Moments.{FindsMoments, BreaksMoments, not_a_trace, not_reaching, not_exactly}
 
 module _ (a : Matter) where
   -- what a rule asks at a site
@@ -40,7 +42,7 @@ module _ (a : Matter) where
 
   -- A set.
   module _ (k : ℕ) (set : List ℕ) where
-    pub set_kept : IsSetAt a.subject a.certificate k set → IsApart a.certificate k set → IsKeptAt a (a_set k set)
+    pub set_kept : IsSetAt a.subject a.certificate k set → IsApart a.subject a.certificate k set → IsKeptAt a (a_set k set)
     set_kept h f = record { all = each }
       where
         each : (r : Rule) → Kept (a_set k set) r
@@ -56,7 +58,7 @@ module _ (a : Matter) where
         less contains_a_set l = absurd (omega (arith, l))
         less _ l = tt
 
-    pub apart_broken : IsSetAt a.subject a.certificate k set → (IsApart a.certificate k set → ⊥) → IsBrokenAt a (a_set k set) 3
+    pub apart_broken : IsSetAt a.subject a.certificate k set → (IsApart a.subject a.certificate k set → ⊥) → IsBrokenAt a (a_set k set) 3
     apart_broken h f = record { rule = contains_a_set; has_number = refl; first = record { broken = f; smaller = less } }
       where
         less : (r : Rule) → number_of r < 3 → Kept (a_set k set) r
@@ -191,3 +193,13 @@ module _ (a : Matter) where
         less : (r : Rule) → number_of r < 11 → Kept (an_end part) r
         less not_covered l = absurd (omega (arith, l))
         less _ l = tt
+
+-- Where every clause keeps the rules, all are over the state bits now.
+pub over_bits : (a : Matter) (i : ℕ) (clauses : List (List Literal)) → AreKept a (clause_sites i clauses) → All (IsOverBits a.subject.system) clauses
+over_bits a i [] k = All-nil (IsOverBits a.subject.system)
+over_bits a i (clause ∷ clauses) k = All-cons (IsOverBits a.subject.system) clause clauses (k.each.0 foreign_literal).0 (over_bits a (suc i) clauses (record { each = k.each.1 }))
+
+-- What moments find is what their text finds.
+pub moments_found : (a : Matter) (k : ℕ) (set : List ℕ) (text : List Line) → IsPrintable a.model → (t : List (List Value)) → GivesTrace a.model text t → (o : Option ℕ) → FindsMoments a set t o → FindsAt a (a_trace k set text) o
+moments_found a k set text printable t gives None h = trace_kept a k set text printable t gives h
+moments_found a k set text printable t gives (Some n) h = trace_broken a k set text printable t gives n h

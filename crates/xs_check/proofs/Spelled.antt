@@ -7,7 +7,7 @@ use Rattle.xs_derive.specs.declared.step.Step.{Step}
 use Rattle.xs_certificate.specs.Certificate.{Certificate, part_bad, an_end, line_of, lines_of_sets}
 use Rattle.xs_certificate.specs.CertificateText.{Version, lines_of, set_lines, part_lines, clause_line, step_line, IsWritableText, SpellsCertificate}
 use Rattle.xs_check.specs.Fit.{IsShortText, IsCheckable, SpelledAreCheckable}
-use Rattle.xs_check.proofs.Lines.{lines_first}
+use Rattle.xs_check.proofs.LineCounts.{lines_first}
 
 -- no more lines than bytes
 few_lines : (lines : List Line) → length lines ≤ length (fed lines)
@@ -29,7 +29,7 @@ set_length (set ∷ sets) (text ∷ texts) e =
     omega (arith, more, joined, first)
 
 part_length : (word : Line) (steps : List Step) → length (part_lines word steps) ≡ suc (length steps)
-part_length word steps = ap suc (length-map step_line steps)
+part_length word steps = ap suc (length-map steps step_line)
 
 all_lines : (version : Version) (c : Certificate) → length c.traces ≡ length c.sets → length (lines_of version c) ≡ line_of c (an_end part_bad)
 all_lines version c one =
@@ -43,7 +43,7 @@ all_lines version c one =
     let e = length-append (part_lines (codes "next") c.next) bads in
     let f = length-append (part_lines (codes "bad") c.bad) (codes "end" ∷ []) in
     let g = set_length c.sets c.traces one in
-    let h = length-map clause_line c.invariant in
+    let h = length-map c.invariant clause_line in
     let i = part_length (codes "first") c.first in
     let j = part_length (codes "next") c.next in
     let k = part_length (codes "bad") c.bad in
@@ -56,7 +56,7 @@ short_texts (text ∷ texts) w l =
     (record { few = omega (arith, first, l); lines = w.0.each }, short_texts texts w.1 (omega (arith, first, l)))
 
 pub spelled_checkable : SpelledAreCheckable
-spelled_checkable bytes c short (lines, is, w, version, says, are) =
+spelled_checkable bytes c short (lines, is, (w, (version, says, are))) =
     let whole : length lines ≡ line_of c (an_end part_bad) = ap length are ∙ all_lines version c w.one_each in
     let fewer = few_lines lines in
     let all : length bytes ≡ length (fed lines) = ap length is in

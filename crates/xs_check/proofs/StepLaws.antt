@@ -1,5 +1,5 @@
 -- What is found of a step, as the rules ask it of a derivation.
-use Rattle.std.proofs.Common.{◌≡◌, ℕ, suc, ◌+◌, ◌<◌, List, [], ◌∷◌, ◌++◌, length, take, get_or, Some, refl, sym, ap, subst, ◌∙◌, arith, append_assoc, append-nil}
+use Rattle.std.proofs.Common.{◌≡◌, ℕ, suc, ◌+◌, ◌≤◌, ◌<◌, List, [], ◌∷◌, ◌++◌, length, take, get_or, Option, Some, None, refl, sym, ap, subst, ◌∙◌, arith, append_assoc, append-nil}
 use Rattle.std.specs.Prelude.{map, All, Contains, slice_get}
 use Rattle.std.proofs.lemmas.List.{map_more, take_all}
 use Rattle.std.proofs.lemmas.Option.{slice_get_within, get_or_from_slice_get}
@@ -7,47 +7,34 @@ use Rattle.xs_lits.specs.Literal.{Literal}
 use Rattle.xs_derive.specs.Derivation.{Derivation, IsUpTo}
 use Rattle.xs_derive.specs.Hints.{HasNoOpposites, FailsAt, EndsOpen, assumed_false}
 use Rattle.xs_derive.specs.declared.step.Step.{Step}
-use Rattle.xs_certificate.specs.Certificate.{Part, part_first, part_next, part_bad, a_step, an_end, steps_in}
-use Rattle.xs_certificate.specs.Accepted.{Covers, known_before, known_at, vars_of, givens, goals, IsCovered, HasLiterals, HasGoodHints, HasConflict}
+use Rattle.xs_certificate.specs.Certificate.{Certificate, Part, part_first, part_next, part_bad, a_step, an_end, steps_in, head_line, line_of}
+use Rattle.xs_certificate.specs.Accepted.{Covers, highest, known_before, known_at, vars_of, givens, goals, IsCovered, HasLiterals, HasGoodHints, HasConflict}
 use Rattle.xs_check.specs.Matter.{Matter}
-use Rattle.xs_check.specs.Found.{IsKeptAt, IsBrokenAt}
-use Rattle.xs_derivations.specs.Steps.{HasItsLiterals, HasNoBadHint, HasFalseHint, BreaksStep, foreign, hint, no_false, IsTaken}
+use Rattle.xs_check.specs.Found.{IsKeptAt, IsBrokenAt, Finds}
+use Rattle.xs_check.specs.declared.judged.Judged.TheVariants.{Yes, No}
+use Rattle.xs_check.proofs.Finding.{kept_none, kept_then, broken_here}
+use Rattle.xs_derivations.specs.Steps.{BreaksStep, foreign, hint, no_false, IsTaken, FindsStep}
 use Rattle.xs_check.specs.Parts.{list_of, also_given}
 use Rattle.xs_check.proofs.SiteLaws.{step_kept, literals_broken, hints_broken, conflict_broken, end_kept, end_broken}
 use Rattle.xs_check.proofs.SetLaws.{each_in, all_from}
 
-module _ (a : Matter) (part : Part) (i : ℕ) (d : Derivation) (s : Step) (vars : d.vars ≡ vars_of a.subject a.certificate part) (clauses : d.clauses ≡ known_at a.subject a.certificate part i) where
-  literals_same : HasItsLiterals d s → HasLiterals a.subject a.certificate part s
-  literals_same h = subst (λ v. All (IsUpTo v) s.clause × HasNoOpposites s.clause) vars h
+module _ (a : Matter) (part : Part) (i : ℕ) (s : Step) (most : ℕ) (known : List (List Literal)) (vars : most ≡ vars_of a.subject a.certificate part) (clauses : known ≡ known_at a.subject a.certificate part i) where
+  found_same : (new : Derivation) (o : Option ℕ) → FindsStep most known s new o → FindsStep (vars_of a.subject a.certificate part) (known_at a.subject a.certificate part i) s new o
+  found_same new o f = subst (λ v. FindsStep v (known_at a.subject a.certificate part i) s new o) vars (subst (λ k. FindsStep most k s new o) clauses f)
 
-  literals_back : HasLiterals a.subject a.certificate part s → HasItsLiterals d s
-  literals_back h = subst (λ v. All (IsUpTo v) s.clause × HasNoOpposites s.clause) (sym vars) h
+  kept_there : (new : Derivation) → IsTaken (vars_of a.subject a.certificate part) (known_at a.subject a.certificate part i) s new → IsKeptAt a (a_step part i s)
+  kept_there new t = step_kept a part i s t.literals t.hints t.conflict
 
-  abbrev NoBad : ℕ → List (List Literal) → Type 0
-  NoBad v known = (n : ℕ) → FailsAt known (assumed_false v s.clause) s.hints n → ⊥
+  broken_there : (n : ℕ) → BreaksStep (vars_of a.subject a.certificate part) (known_at a.subject a.certificate part i) s n → IsBrokenAt a (a_step part i s) n
+  broken_there n (foreign f) = literals_broken a part i s f
+  broken_there n (hint l f) = hints_broken a part i s l f
+  broken_there n (no_false l g f) = conflict_broken a part i s l g f
 
-  hints_same : HasNoBadHint d s → HasGoodHints a.subject a.certificate part i s
-  hints_same h = subst (λ v. NoBad v (known_at a.subject a.certificate part i)) vars (subst (NoBad d.vars) clauses h)
+  pub taken_is_kept : (new : Derivation) → IsTaken most known s new → IsKeptAt a (a_step part i s)
+  taken_is_kept new t = kept_there new (found_same new None t)
 
-  hints_back : HasGoodHints a.subject a.certificate part i s → HasNoBadHint d s
-  hints_back h = subst (NoBad d.vars) (sym clauses) (subst (λ v. NoBad v (known_at a.subject a.certificate part i)) (sym vars) h)
-
-  abbrev NotOpen : ℕ → List (List Literal) → Type 0
-  NotOpen v known = EndsOpen known (assumed_false v s.clause) s.hints → ⊥
-
-  conflict_same : HasFalseHint d s → HasConflict a.subject a.certificate part i s
-  conflict_same h = subst (λ v. NotOpen v (known_at a.subject a.certificate part i)) vars (subst (NotOpen d.vars) clauses h)
-
-  conflict_back : HasConflict a.subject a.certificate part i s → HasFalseHint d s
-  conflict_back h = subst (NotOpen d.vars) (sym clauses) (subst (λ v. NotOpen v (known_at a.subject a.certificate part i)) (sym vars) h)
-
-  pub taken_is_kept : (new : Derivation) → IsTaken d s new → IsKeptAt a (a_step part i s)
-  taken_is_kept new t = step_kept a part i s (literals_same t.literals) (hints_same t.hints) (conflict_same t.conflict)
-
-  pub step_is_broken : (n : ℕ) → BreaksStep d s n → IsBrokenAt a (a_step part i s) n
-  step_is_broken n (foreign f) = literals_broken a part i s (λ h. f (literals_back h))
-  step_is_broken n (hint l f) = hints_broken a part i s (literals_same l) (λ h. f (hints_back h))
-  step_is_broken n (no_false l g f) = conflict_broken a part i s (literals_same l) (hints_same g) (λ h. f (conflict_back h))
+  pub step_is_broken : (new : Derivation) (n : ℕ) → BreaksStep most known s n → IsBrokenAt a (a_step part i s) n
+  step_is_broken new n b = broken_there n (found_same new (Some n) b)
 
 -- One more clause is known after a step.
 pub known_more : (known : List (List Literal)) (steps : List Step) (i : ℕ) (s : Step) → slice_get steps i ≡ Some s → known_before known steps (i + 1) ≡ known_before known steps i ++ s.clause ∷ []
@@ -77,3 +64,30 @@ module _ (a : Matter) (part : Part) (known : List (List Literal)) (clauses : kno
 
   pub uncovered_is_broken : (All (Covers known) needed → ⊥) → IsBrokenAt a (an_end part) 11
   uncovered_is_broken f = end_broken a part (λ h. f (covered_back h))
+
+-- What the end finds, where the first step has a line and so many come.
+pub uncovered_ends : (a : Matter) (part : Part) (known : List (List Literal)) → known ≡ known_at a.subject a.certificate part (length (steps_in a.certificate part)) →
+    (needed : List (List Literal)) → needed ≡ goals a.subject a.certificate part → (line n : ℕ) → line ≡ head_line a.certificate part + 1 → n ≡ length (steps_in a.certificate part) →
+    (All (Covers known) needed → ⊥) → Finds a (an_end part ∷ []) (No (line + n) 11)
+uncovered_ends a part known clauses needed are line n p q f = broken_here a (an_end part) [] (line + n) 11 (λ j. sym p j + sym q j) (uncovered_is_broken a part known clauses needed are f)
+
+pub covered_ends : (a : Matter) (part : Part) (known : List (List Literal)) → known ≡ known_at a.subject a.certificate part (length (steps_in a.certificate part)) →
+    (needed : List (List Literal)) → needed ≡ goals a.subject a.certificate part → All (Covers known) needed → Finds a (an_end part ∷ []) Yes
+covered_ends a part known clauses needed are h = kept_then a (an_end part) [] (covered_is_kept a part known clauses needed are h) Yes (kept_none a)
+
+-- A checker's variables and clauses are those that a derivation starts with.
+module _ (a : Matter) (part : Part) (given more : List (List Literal)) (p : given ≡ list_of a part) (q : more ≡ also_given a part) where
+  both : given ++ more ≡ givens a.subject a.certificate part
+  both = (λ j. p j ++ q j) ∙ givens_are a part
+
+  pub vars_begin : highest (given ++ more) ≡ vars_of a.subject a.certificate part
+  vars_begin = ap highest both
+
+  pub known_begin : given ++ more ≡ known_at a.subject a.certificate part 0
+  known_begin = both ∙ sym (known_none (givens a.subject a.certificate part) (steps_in a.certificate part))
+
+-- All lines are below the last.
+pub lines_within : (c : Certificate) (part : Part) → head_line c part + 1 + length (steps_in c part) ≤ line_of c (an_end part_bad)
+lines_within c part_first = omega arith
+lines_within c part_next = omega arith
+lines_within c part_bad = omega arith

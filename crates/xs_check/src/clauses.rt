@@ -11,7 +11,7 @@ ghost use Rattle.xs_check.specs.Found.{Finds};
 use crate::judged::Judged;
 use crate::question::Question;
 use xs_derive::hints::has_no_opposites;
-use xs_lits::clause::Clause;
+use xs_lits::clause::ClauseList;
 use xs_lits::lit::Lit;
 
 /// Judges the clauses of the invariant, the first of which has this line.
@@ -20,9 +20,9 @@ pub(crate) fn judge_clauses(q: &Question<'_>, line: u64) -> Judged
     requires room { line + length q.now.certificate.now.invariant < 2 ^ 64 }
     ensures { Finds (asked q.now) (clause_sites 0 q.now.certificate.now.invariant) result }
 {
-    let clauses: &[Clause] = q.certificate.invariant.as_slice();
-    for (i, clause) in clauses.iter().enumerate() {
-        if !is_invariant_clause(q, clause.lits()) {
+    let clauses: &ClauseList = &q.certificate.invariant;
+    for i in 0..clauses.len() {
+        if !is_invariant_clause(q, clauses.at(i).lits()) {
             return Judged::No(line + i as u64, 8);
         }
     }

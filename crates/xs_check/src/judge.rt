@@ -75,10 +75,10 @@ fn judge_listed(alloc: Global, q: &Question<'_>) -> Result<Judged, OutOfMemory>
     requires numbers { HasNumbers (asked q.now).subject (asked q.now).certificate }
     ensures { IfOk result (Finds (asked q.now) (set_sites 0 q.now.certificate.now.sets q.now.certificate.now.traces ++ proof_sites (asked q.now).certificate)) }
 {
-    if let Judged::No(line, rule) = judge_sets(alloc, q)? {
-        return Ok(Judged::No(line, rule));
+    match judge_sets(alloc, q)? {
+        Judged::Yes => judge_proof(alloc, q),
+        Judged::No(line, rule) => Ok(Judged::No(line, rule)),
     }
-    judge_proof(alloc, q)
 }
 
 /// Judges the invariant, and then the derivations.
@@ -88,8 +88,8 @@ fn judge_proof(alloc: Global, q: &Question<'_>) -> Result<Judged, OutOfMemory>
     ensures { IfOk result (Finds (asked q.now) (proof_sites (asked q.now).certificate)) }
 {
     let line = invariant_line(q);
-    if let Judged::No(line, rule) = judge_clauses(q, line + 1) {
-        return Ok(Judged::No(line, rule));
+    match judge_clauses(q, line + 1) {
+        Judged::Yes => judge_parts(alloc, q, line + q.certificate.invariant.len() as u64 + 1),
+        Judged::No(at, rule) => Ok(Judged::No(at, rule)),
     }
-    judge_parts(alloc, q, line + q.certificate.invariant.len() as u64 + 1)
 }

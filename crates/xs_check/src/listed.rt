@@ -13,22 +13,23 @@ use crate::question::Question;
 use crate::sets::set_rule;
 use crate::traces::trace_rule;
 use std::alloc::Global;
-use xs_cert::LineList;
-use xs_value::{FaultSet, OutOfMemory};
+use xs_cert::{LineList, TextList};
+use xs_value::{FaultSet, OutOfMemory, SetList};
 
 /// Judges each set and its trace.
 pub(crate) fn judge_sets(alloc: Global, q: &Question<'_>) -> Result<Judged, OutOfMemory>
     requires { CanBeJudged (model_tree q.now.full.now.model) (asked q.now) }
     ensures { IfOk result (Finds (asked q.now) (set_sites 0 q.now.certificate.now.sets q.now.certificate.now.traces)) }
 {
-    let sets: &[FaultSet] = q.certificate.sets.as_slice();
-    let texts: &[LineList] = q.certificate.traces.as_slice();
+    let sets: &SetList = &q.certificate.sets;
+    let texts: &TextList = &q.certificate.traces;
     let mut line = 4;
     for k in 0..sets.len() {
-        if let Judged::No(at, rule) = judge_set(alloc, q, k, &sets[k], &texts[k], line)? {
+        let text = texts.at(k);
+        if let Judged::No(at, rule) = judge_set(alloc, q, k, sets.at(k), text, line)? {
             return Ok(Judged::No(at, rule));
         }
-        line += texts[k].len() as u64 + 2;
+        line += text.len() as u64 + 2;
     }
     Ok(Judged::Yes)
 }

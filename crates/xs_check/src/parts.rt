@@ -3,7 +3,7 @@
 ghost use Rattle.std.specs.Prelude.{◌≡◌, ◌++◌, IfOk, All};
 ghost use Rattle.xs_system.specs.States.{IsOverBits};
 ghost use Rattle.xs_scope.specs.ModelTree.{model_tree};
-ghost use Rattle.xs_certificate.specs.Certificate.{part_first, part_next, part_bad, head_line, steps_in, first_line, next_line};
+ghost use Rattle.xs_certificate.specs.Certificate.{part_first, part_next, part_bad, head_line, steps_in, first_line, next_line, bad_line};
 ghost use Rattle.xs_certificate.specs.Sites.{step_sites};
 ghost use Rattle.xs_certificate.specs.Accepted.{HasNumbers, goals};
 ghost use Rattle.xs_check.specs.Asked.{asked};
@@ -29,11 +29,11 @@ pub(crate) fn judge_parts(alloc: Global, q: &Question<'_>, line: u64) -> Result<
     ensures { IfOk result (Finds (asked q.now) (step_sites part_first 0 q.now.certificate.now.first ++ (step_sites part_next 0 q.now.certificate.now.next ++ step_sites part_bad 0 q.now.certificate.now.bad))) }
 {
     let system = encode(alloc, q.full)?;
-    if let Judged::No(at, rule) = judge_part(alloc, q, Part::First, &system.first, line)? {
-        return Ok(Judged::No(at, rule));
-    }
     let next = line + q.certificate.first.len() as u64 + 1;
-    judge_later(alloc, q, &system.step, next)
+    match judge_part(alloc, q, Part::First, &system.first, line)? {
+        Judged::Yes => judge_later(alloc, q, &system.step, next),
+        Judged::No(at, rule) => Ok(Judged::No(at, rule)),
+    }
 }
 
 /// Judges the second and the third derivation, the former from the list of steps.
@@ -50,12 +50,23 @@ fn judge_later(
     requires line { line ≡ next_line (asked q.now).certificate }
     ensures { IfOk result (Finds (asked q.now) (step_sites part_next 0 q.now.certificate.now.next ++ step_sites part_bad 0 q.now.certificate.now.bad)) }
 {
-    if let Judged::No(at, rule) = judge_part(alloc, q, Part::Next, step, line)? {
-        return Ok(Judged::No(at, rule));
-    }
-    let bad = bad_list(alloc, q)?;
     let next = line + q.certificate.next.len() as u64 + 1;
-    judge_part(alloc, q, Part::Bad, &bad, next)
+    match judge_part(alloc, q, Part::Next, step, line)? {
+        Judged::Yes => judge_last(alloc, q, next),
+        Judged::No(at, rule) => Ok(Judged::No(at, rule)),
+    }
+}
+
+/// Judges the third derivation.
+fn judge_last(alloc: Global, q: &Question<'_>, line: u64) -> Result<Judged, OutOfMemory>
+    requires fit { CanBeJudged (model_tree q.now.full.now.model) (asked q.now) }
+    requires numbers { HasNumbers (asked q.now).subject (asked q.now).certificate }
+    requires over_bits { All (IsOverBits (asked q.now).subject.system) q.now.certificate.now.invariant }
+    requires line { line ≡ bad_line (asked q.now).certificate }
+    ensures { IfOk result (Finds (asked q.now) (step_sites part_bad 0 q.now.certificate.now.bad)) }
+{
+    let bad = bad_list(alloc, q)?;
+    judge_part(alloc, q, Part::Bad, &bad, line)
 }
 
 /// The list of the bad states that the certificate's sets and size leave.

@@ -20,7 +20,10 @@ pub(crate) fn has_numbers(q: &Question<'_>) -> bool
     ensures { IsTrue result ↔ HasNumbers (asked q.now).subject (asked q.now).certificate }
 {
     let c = q.certificate;
-    if c.bits != q.full.bits() || c.faults as usize != q.faults.len() {
+    if c.bits != q.full.bits() {
+        return false;
+    }
+    if c.faults as usize != q.faults.len() {
         return false;
     }
     c.size <= c.faults
@@ -45,7 +48,10 @@ fn is_set_at(q: &Question<'_>, k: usize, set: &[u32]) -> bool
     requires { slice_get q.now.certificate.now.sets k ≡ Some set.now }
     ensures { IsTrue result ↔ IsSetAt (asked q.now).subject (asked q.now).certificate k set.now }
 {
-    if !is_rising(set) || !are_faults(set, q.faults.len()) {
+    if !is_rising(set) {
+        return false;
+    }
+    if !are_faults(set, q.faults.len()) {
         return false;
     }
     if set.len() > q.certificate.size as usize {

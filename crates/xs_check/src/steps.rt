@@ -1,7 +1,7 @@
 //! One derivation of a certificate: rules 8 to 11.
 
-ghost use Rattle.std.specs.Prelude.{◌≡◌, ◌+◌, ◌<◌, ◌^◌, IfOk, length};
-ghost use Rattle.xs_certificate.specs.Certificate.{head_line, steps_in};
+ghost use Rattle.std.specs.Prelude.{◌≡◌, ◌+◌, ◌<◌, ◌^◌, [], ◌∷◌, IfOk, length};
+ghost use Rattle.xs_certificate.specs.Certificate.{an_end, head_line, steps_in};
 ghost use Rattle.xs_certificate.specs.Sites.{step_sites};
 ghost use Rattle.xs_certificate.specs.Accepted.{known_at, vars_of, goals};
 ghost use Rattle.xs_check.specs.Asked.{asked};
@@ -32,13 +32,30 @@ pub(crate) fn judge_derivation(
     ensures { IfOk result (Finds (asked q.now) (step_sites (part_of part) 0 (steps_in (asked q.now).certificate (part_of part)))) }
 {
     let mut checker = checker;
-    if let Judged::No(at, rule) = judge_steps(q, part, &mut checker, line)? {
-        return Ok(Judged::No(at, rule));
+    match judge_steps(q, part, &mut checker, line)? {
+        Judged::Yes => Ok(judge_end(q, part, &checker, needed, line)),
+        Judged::No(at, rule) => Ok(Judged::No(at, rule)),
     }
-    if covers_all(&checker, needed) {
-        return Ok(Judged::Yes);
+}
+
+/// Judges the end of a derivation whose first step has this line. The checker has the clauses of all steps.
+fn judge_end(
+    q: &Question<'_>,
+    part: Part,
+    checker: &Checker,
+    needed: &[Clause],
+    line: u64,
+) -> Judged
+    requires clauses { checker.now.clauses ≡ known_at (asked q.now).subject (asked q.now).certificate (part_of part) (length (steps_in (asked q.now).certificate (part_of part))) }
+    requires needed { needed.now ≡ goals (asked q.now).subject (asked q.now).certificate (part_of part) }
+    requires line { line ≡ head_line (asked q.now).certificate (part_of part) + 1 }
+    requires room { line + length (steps_in (asked q.now).certificate (part_of part)) < 2 ^ 64 }
+    ensures { Finds (asked q.now) (an_end (part_of part) ∷ []) result }
+{
+    if covers_all(checker, needed) {
+        return Judged::Yes;
     }
-    Ok(Judged::No(line + steps_of(q, part).len() as u64, 11))
+    Judged::No(line + steps_of(q, part).len() as u64, 11)
 }
 
 /// Judges the steps. Where every rule is kept, the checker has all of their clauses.

@@ -81,7 +81,8 @@ fn moments_rule(
     let mut now = Table::for_model(alloc, q.plain)?;
     let mut next = Table::for_model(alloc, q.plain)?;
     match replay(q.plain, trace, q.top, &mut now, &mut next) {
-        Replayed::BadFirst | Replayed::BadStep(_) => Ok(Some(5)),
+        Replayed::BadFirst => Ok(Some(5)),
+        Replayed::BadStep(_number) => Ok(Some(5)),
         Replayed::NoTop => Ok(Some(6)),
         Replayed::Reaches => Ok(failed_rule(q, set, trace)),
     }
@@ -119,8 +120,9 @@ fn are_failed(q: &Question<'_>, set: &[u32], trace: &MomentList) -> bool
     requires replayed { CanBeReplayed (asked q.now).model trace.now }
     ensures { result ≡ are_those_of (λ f. stands_in_some (asked q.now).model f (named_trace q.now.plain.now.model.symbols trace.now)) set.now 1 (map mode_of q.now.faults.now) }
 {
-    for (i, fault) in q.faults.as_slice().iter().enumerate() {
-        if has_failed(q.plain, fault, trace) != has_number(set, i as u64 + 1) {
+    for i in 0..q.faults.len() {
+        let failed = has_failed(q.plain, q.faults.at(i), trace);
+        if failed != has_number(set, i as u64 + 1) {
             return false;
         }
     }

@@ -10,7 +10,7 @@ use Rattle.xs_check.proofs.steps.judge_steps.Given as goal
 
 abbrev pub invariant-loop-i : goal.invariant-loop-i
 invariant-loop-i l = record {
-  rest : GoesOn (asked l.q) (step_sites (part_of l.part) l.i (drop l.i (steps_in (asked l.q).certificate (part_of l.part)))) (step_sites (part_of l.part) 0 (steps_in (asked l.q).certificate (part_of l.part)));
-  vars : l.checker.vars ≡ vars_of (asked l.q).subject (asked l.q).certificate (part_of l.part);
-  clauses : l.checker.clauses ≡ known_at (asked l.q).subject (asked l.q).certificate (part_of l.part) l.i;
+  rest : GoesOn (asked l.q) (step_sites (part_of l.fn.part) l.i (drop l.i (steps_in (asked l.q).certificate (part_of l.fn.part)))) (step_sites (part_of l.fn.part) 0 (steps_in (asked l.q).certificate (part_of l.fn.part)));
+  vars : l.checker.vars ≡ vars_of (asked l.q).subject (asked l.q).certificate (part_of l.fn.part);
+  clauses : l.checker.clauses ≡ known_at (asked l.q).subject (asked l.q).certificate (part_of l.fn.part) l.i;
 }

@@ -10,5 +10,5 @@ use Rattle.xs_check.proofs.traces.are_failed.Given as goal
 
 abbrev pub invariant-loop-i : goal.invariant-loop-i
 invariant-loop-i l =
-    let fails = λ f. stands_in_some (asked l.q).model f (named_trace l.q.plain.now.model.symbols l.trace) in
-    are_those_of fails l.set (l.i + 1) (map mode_of (drop l.i l.q.faults.now)) ≡ are_those_of fails l.set 1 (map mode_of l.q.faults.now)
+    are_those_of (λ f. stands_in_some (asked l.q).model f (named_trace l.q.plain.now.model.symbols l.trace)) l.set (l.i + 1) (map mode_of (drop l.i l.q.faults.now))
+    ≡ are_those_of (λ f. stands_in_some (asked l.q).model f (named_trace l.q.plain.now.model.symbols l.trace)) l.set 1 (map mode_of l.q.faults.now)

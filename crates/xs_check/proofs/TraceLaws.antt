@@ -50,7 +50,7 @@ trace_is_told symbols (v ∷ vs) = λ j. all_are_told symbols v j ∷ trace_is_t
 
 -- The empty text is no value of a type that can be written.
 never : {P : Type 0} → IsTrue false → P
-never h = absurd h
+never h = cc
 
 no_empty_member : (ms : List Member) → Each IsWritableMember ms → is_member ms (told.symbol []) ≡ true → ⊥
 no_empty_member [] w e = cc
@@ -65,8 +65,7 @@ no_empty_symbol (members ms) w e = no_empty_member ms w.1 e
 no_empty_symbol (instance m actuals) w e = cc
 
 is_true : (b : Bool) → IsTrue b → b ≡ true
-is_true true h = refl
-is_true false h = absurd h
+is_true b h = h
 
 -- A value of such a type has the number of a symbol, where it is one.
 numbered : (symbols : List Text) (d : DeclaredTree) → IsWritableType d → (v : Value) → IsTrue (in_domain d (told_value symbols v)) → IsNumbered symbols v

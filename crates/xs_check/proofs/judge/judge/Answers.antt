@@ -1,0 +1,14 @@
+use Rattle.std.proofs.Common.{◌≡◌, ◌∙◌, ◌+◌, ◌-◌, ◌<◌, ◌≤◌, ◌^◌, ℕ, true, false, IsTrue, Ok, Err, Some, None, List, [], ◌∷◌, ◌++◌, length, take, drop, refl, sym, ap, subst, arith}
+use Rattle.std.specs.Prelude.{All, map, IfOk, slice_get}
+use Rattle.std.proofs.lemmas.Bool.{both_ways, false≢true}
+use Rattle.std.proofs.lemmas.Result.{IfOk-weaker}
+use Rattle.xs_check.specs.Asked.{asked}
+use Rattle.xs_certificate.specs.Sites.{sites_of}
+use Rattle.xs_check.specs.Found.{Finds, IsJudged}
+use Rattle.xs_check.proofs.Finding.{judged_of_all}
+use Rattle.xs_check.proofs.judge.judge.Goals as goal
+
+pub returns : goal.returns
+returns c =
+    let a = asked c.args.q.now in
+    IfOk-weaker c.judge_sites.result (Finds a (sites_of a.certificate)) (IsJudged a) (judged_of_all a c.requires.certificate.one_each) c.judge_sites.ensures

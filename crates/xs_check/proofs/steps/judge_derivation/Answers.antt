@@ -1,0 +1,16 @@
+use Rattle.std.proofs.Common.{◌≡◌, ◌∙◌, ◌+◌, ◌-◌, ◌<◌, ◌≤◌, ◌^◌, ℕ, true, false, IsTrue, Ok, Err, Some, None, List, [], ◌∷◌, ◌++◌, length, take, drop, refl, sym, ap, subst, arith}
+use Rattle.std.specs.Prelude.{All, map, IfOk, slice_get}
+use Rattle.std.proofs.lemmas.Bool.{both_ways, false≢true}
+use Rattle.std.proofs.lemmas.Result.{IfOk-weaker}
+use Rattle.xs_check.specs.Asked.{asked}
+use Rattle.xs_check.specs.Parts.{part_of, FindsSteps}
+use Rattle.xs_check.proofs.steps.judge_derivation.Goals as goal
+
+pub judge_end-requires-clause-clauses : goal.judge_end-requires-clause-clauses
+judge_end-requires-clause-clauses c = c.judge_steps.ensures.known (c.in_ok-judge_steps.was ∙ ap Ok c.in-Yes.is)
+
+pub returns-in-Yes : goal.returns-in-Yes
+returns-in-Yes c = (subst (FindsSteps (asked c.args.q.now) (part_of c.args.part)) c.in-Yes.is c.in_ok-judge_steps.ensures.found).on c.judge_end.result c.judge_end.ensures
+
+pub returns : goal.returns
+returns c = subst (FindsSteps (asked c.args.q.now) (part_of c.args.part)) c.in-No.is c.in_ok-judge_steps.ensures.found

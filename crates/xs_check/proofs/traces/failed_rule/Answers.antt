@@ -1,0 +1,18 @@
+use Rattle.std.proofs.Common.{◌≡◌, ◌∙◌, ◌+◌, ◌-◌, ◌<◌, ◌≤◌, ◌^◌, ℕ, true, false, IsTrue, Ok, Err, Some, None, List, [], ◌∷◌, ◌++◌, length, take, drop, refl, sym, ap, subst, arith}
+use Rattle.std.specs.Prelude.{All, map, IfOk, slice_get}
+use Rattle.std.proofs.lemmas.Bool.{both_ways, false≢true}
+use Rattle.std.proofs.lemmas.Result.{IfOk-weaker}
+use Rattle.xs_check.specs.Asked.{asked}
+use Rattle.xs_eval.specs.Named.{named_trace}
+use Rattle.xs_check.specs.Moments.{not_exactly}
+use Rattle.xs_check.proofs.traces.failed_rule.Goals as goal
+
+pub returns-then-has_failed_exactly : goal.returns-then-has_failed_exactly
+returns-then-has_failed_exactly c =
+    let is : IsTrue c.has_failed_exactly.result = grind arith in
+    record { is_one = c.requires.reaching.is_trace; reaching = c.requires.reaching.reaches; exactly = c.has_failed_exactly.ensures.0 is }
+
+pub returns-else-has_failed_exactly : goal.returns-else-has_failed_exactly
+returns-else-has_failed_exactly c =
+    let is_not : c.has_failed_exactly.result ≡ false = grind arith in
+    not_exactly c.requires.reaching.is_trace c.requires.reaching.reaches (λ h. both_ways _ is_not (c.has_failed_exactly.ensures.1 h))
