@@ -161,3 +161,33 @@ pub top_parts : (a : Matter) (trace : List (List Value)) (i : ℕ) (why : Why) �
 top_parts a trace i why (bad_first v more e f) p = cc
 top_parts a trace i why (bad_step before v w after e t f) p = cc
 top_parts a trace i why (no_top is f) p = (is, f)
+
+-- One fault more.
+module _ (test : Mode → Bool) (set : List ℕ) (fs : List Fault) (i : ℕ) (f : Fault) (at : slice_get fs i ≡ Some f) where
+  those_step : are_those_of test set (i + 1) (map mode_of (drop i fs)) ≡ (is_same (test (mode_of f)) (has_number set (i + 1)) && are_those_of test set (i + 1 + 1) (map mode_of (drop (i + 1) fs)))
+  those_step =
+      those_more test set fs i f (slice_get_within fs i f at)
+      ∙ ap (λ (g : Fault). is_same (test (mode_of g)) (has_number set (i + 1)) && are_those_of test set (i + 1 + 1) (map mode_of (drop (i + 1) fs))) (get_or_from_slice_get fs i f f at)
+
+  pub those_here : test (mode_of f) ≡ has_number set (i + 1) → are_those_of test set (i + 1) (map mode_of (drop i fs)) ≡ are_those_of test set (i + 1 + 1) (map mode_of (drop (i + 1) fs))
+  those_here e = those_step ∙ ap (λ b. b && are_those_of test set (i + 1 + 1) (map mode_of (drop (i + 1) fs))) (same_where (test (mode_of f)) (has_number set (i + 1)) e)
+
+  pub those_not : (test (mode_of f) ≡ has_number set (i + 1) → ⊥) → are_those_of test set (i + 1) (map mode_of (drop i fs)) ≡ false
+  those_not n = those_step ∙ by_test (is_same (test (mode_of f)) (has_number set (i + 1))) refl
+    where
+      by_test : (b : Bool) → is_same (test (mode_of f)) (has_number set (i + 1)) ≡ b → (b && are_those_of test set (i + 1 + 1) (map mode_of (drop (i + 1) fs))) ≡ false
+      by_test true e = absurd (n (same_then (test (mode_of f)) (has_number set (i + 1)) e))
+      by_test false e = refl
+
+-- Two truth values, as they are compared.
+pub differ_then : (b c : Bool) → not (beq b c) ≡ true → b ≡ c → ⊥
+differ_then true true e p = cc
+differ_then true false e p = cc
+differ_then false true e p = cc
+differ_then false false e p = cc
+
+pub same_by : (b c : Bool) → not (beq b c) ≡ false → b ≡ c
+same_by true true e = refl
+same_by true false e = cc
+same_by false true e = cc
+same_by false false e = refl

@@ -13,7 +13,7 @@ use Rattle.xs_check.proofs.parts.goals_of.Goals as goal
 pub moved-requires : goal.moved-requires
 moved-requires c =
     subst (All (All (λ (l : Literal). (2 ≤ l.var) × (l.var < c.bits.result + 2)))) (sym c.as_slice.ensures)
-    (subst (λ n. All (All (λ (l : Literal). (2 ≤ l.var) × (l.var < n + 2))) c.args.q.now.certificate.now.invariant) (sym c.bits.ensures.bits) c.requires)
+    (subst (λ n. All (All (λ (l : Literal). (2 ≤ l.var) × (l.var < n + 2))) c.args.q.now.certificate.now.invariant) (sym c.bits.ensures.bits) c.requires.over_bits)
 
 pub returns-in-First : goal.returns-in-First
 returns-in-First c =
