@@ -1,22 +1,20 @@
 -- The faults that moments have failed are those of a set, as it is tested.
-use Rattle.std.proofs.Common.{◌≡◌, ℕ, zero, suc, ◌+◌, ◌-◌, ◌<◌, ◌≤◌, Bool, true, false, not, List, [], ◌∷◌, length, drop, get_or, Option, Some, None, refl, sym, ap, subst, ◌∙◌, arith}
+use Rattle.std.proofs.Common.{◌≡◌, ℕ, zero, suc, ◌+◌, ◌-◌, ◌<◌, ◌≤◌, Bool, true, false, not, List, [], ◌∷◌, length, drop, get_or, Some, None, refl, sym, ap, subst, ◌∙◌, arith}
 use Rattle.std.specs.Bool.{beq}
-use Rattle.std.specs.Prelude.{◌&&◌, map, All, Contains, IsTrue, slice_get}
+use Rattle.std.specs.Prelude.{◌&&◌, map, All, Contains, slice_get}
 use Rattle.std.proofs.lemmas.List.{length-map, drop_more, drop_all}
-use Rattle.std.proofs.lemmas.Option.{slice_get_within, slice_get-get_or, get_or_from_slice_get}
+use Rattle.std.proofs.lemmas.Option.{slice_get_within, get_or_from_slice_get}
 use Rattle.xs_tree.specs.Trace.{Each}
 use Rattle.xs_tree.specs.Values.{Value}
 use Rattle.xs_scope.specs.ModelTree.{model_tree, variable_tree, mode_of}
 use Rattle.xs_scope.specs.declared.model.FlatModel.{FlatModel as Model}
 use Rattle.xs_scope.specs.declared.model.Fault.{Fault}
-use Rattle.xs_flattening.specs.Flat.{FlatModel}
 use Rattle.xs_flattening.specs.FlatTrace.{IsFlatTrace, IsModeOf, stands_in_some}
 use Rattle.xs_flattening.specs.History.{Mode}
 use Rattle.xs_encoded.specs.FlatTraces.{ReachesTop, HasFailedNumber}
 use Rattle.xs_encoded.proofs.SetLaws.{has_contains, contains_has, and_parts, and_both}
 use Rattle.xs_right.specs.Sets.{has_number}
 use Rattle.xs_eval.specs.Stops.{Why, Stops, bad_first, bad_step, no_top, at_first, at_step, at_top}
-use Rattle.xs_eval.specs.Replayed.{IsReaching}
 use Rattle.xs_eval.proofs.StopLaws.{one_stop, reaching_does_not}
 use Rattle.xs_check.specs.Matter.{Matter}
 use Rattle.xs_check.specs.Moments.{FailsExactly, is_same, are_those_of}

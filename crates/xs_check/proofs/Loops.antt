@@ -1,5 +1,5 @@
 -- What is found in the rest of a part's sites is found in all of them, site after site.
-use Rattle.std.proofs.Common.{◌≡◌, ℕ, zero, suc, ◌+◌, ◌<◌, ◌≤◌, List, [], ◌∷◌, ◌++◌, length, drop, get_or, Some, refl, sym, ap, subst, ◌∙◌, arith}
+use Rattle.std.proofs.Common.{◌≡◌, ℕ, suc, ◌+◌, ◌<◌, ◌≤◌, List, [], ◌∷◌, length, drop, get_or, Some, sym, ap, subst, ◌∙◌, arith}
 use Rattle.std.specs.Prelude.{slice_get}
 use Rattle.std.proofs.lemmas.List.{drop_more, drop_all}
 use Rattle.std.proofs.lemmas.Option.{slice_get_within, get_or_from_slice_get}
@@ -10,7 +10,6 @@ use Rattle.xs_certificate.specs.Certificate.{Part, Site, a_set, a_trace, a_claus
 use Rattle.xs_certificate.specs.Sites.{set_sites, clause_sites, step_sites}
 use Rattle.xs_check.specs.Matter.{Matter}
 use Rattle.xs_check.specs.Found.{IsKeptAt, IsBrokenAt, AreKept, IsFirstBroken, Finds, GoesOn}
-use Rattle.xs_check.specs.declared.judged.Judged.{Judged}
 use Rattle.xs_check.specs.declared.judged.Judged.TheVariants.{Yes, No}
 use Rattle.xs_check.proofs.Finding.{kept_none, kept_then, broken_here, kept_both, broken_front}
 

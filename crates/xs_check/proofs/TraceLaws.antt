@@ -1,11 +1,10 @@
 -- Moments that a text gives can be replayed, and which rule is broken where it gives none.
-use Rattle.std.proofs.Common.{arith, ◌≡◌, ◌≢◌, ◌≤◌, ◌<◌, ◌+◌, ◌^◌, ℕ, zero, suc, Bool, true, false, List, [], ◌∷◌, ◌++◌, map, length, Option, Some, None, refl, sym, ap, subst, ◌∙◌}
+use Rattle.std.proofs.Common.{arith, ◌≡◌, ◌≢◌, ◌≤◌, ◌<◌, ℕ, suc, Bool, true, false, List, [], ◌∷◌, ◌++◌, length, Option, Some, None, refl, sym, ap, subst}
 use Rattle.std.specs.Prelude.{slice_get, IsTrue}
-use Rattle.std.proofs.lemmas.List.{length-append, length-map}
+use Rattle.std.proofs.lemmas.List.{length-append}
 use Rattle.xs_tree.specs.declared.program.Member.{Member}
 use Rattle.xs_tree.specs.declared.program.Member.TheVariants as member
 use Rattle.xs_tree.specs.ProgramTree.{Text, DeclaredTree, boolean, range, members, instance}
-use Rattle.xs_tree.specs.Texts.{same_text}
 use Rattle.xs_tree.specs.Trace.{Each, in_domain, is_member}
 use Rattle.xs_tree.specs.Values as told
 use Rattle.xs_tree.specs.WritableProgram.{IsWritableType, IsWritableMember}
@@ -17,8 +16,7 @@ use Rattle.xs_lines.specs.Lines.{Line, fed}
 use Rattle.xs_eval.specs.Named as eval
 use Rattle.xs_eval.specs.Named.{named, named_all, named_trace, IsPlaceOf, IsNumbered, IsLawful}
 use Rattle.xs_report.specs.Told.{text_at, told_value, told_moment, told_trace}
-use Rattle.xs_trace_text.specs.Given.{IsPrintable, GivesMoment, GivesMoments, GivesTrace, BytesGive}
-use Rattle.xs_trace_text.specs.TraceText.{moment_line}
+use Rattle.xs_trace_text.specs.Given.{IsPrintable, GivesMoments, GivesTrace, BytesGive}
 use Rattle.std.specs.List.{AllByRecursion}
 use Rattle.xs_lines.specs.Lines.{IsLine}
 use Rattle.xs_lines.proofs.Cuts.{same_fed}

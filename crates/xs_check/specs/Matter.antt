@@ -1,5 +1,5 @@
 -- What a certificate is judged about: a model with its faults and a top event, and the clause lists that encode them.
-use Rattle.std.specs.Prelude.{◌≡◌, ℕ, List, length, map}
+use Rattle.std.specs.Prelude.{ℕ, List, length, map}
 use Rattle.xs_tree.specs.Tree.{Tree}
 use Rattle.xs_tree.specs.Values.{Value}
 use Rattle.xs_tree.specs.declared.expr.Expr.{Expr}

@@ -1,5 +1,5 @@
 -- What is found of a trace that a text gives.
-use Rattle.std.specs.Prelude.{◌≡◌, ◌&&◌, ℕ, ◌<◌, ◌^◌, Bool, true, not, List, [], ◌∷◌, suc, Option, Some, None, if◌then◌else◌, length}
+use Rattle.std.specs.Prelude.{◌&&◌, ℕ, ◌<◌, ◌^◌, Bool, true, not, List, [], ◌∷◌, suc, Option, Some, None, if◌then◌else◌, length}
 use Rattle.xs_tree.specs.Values.{Value}
 use Rattle.xs_tree.specs.Trace.{Each}
 use Rattle.xs_value.specs.declared.value.Value.{Value as Numbered}

@@ -90,5 +90,7 @@ fn is_apart(sets: &[FaultSet], k: usize, set: &[u32]) -> bool
     requires { k ≤ length sets.now }
     ensures { result ≡ list_all (λ other. apart other set.now) (take k sets.now) }
 {
-    sets[..k].iter().all(|other| are_apart(other.as_slice(), set))
+    sets[..k]
+        .iter()
+        .all(|other| are_apart(other.as_slice(), set))
 }

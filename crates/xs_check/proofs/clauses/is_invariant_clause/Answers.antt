@@ -1,10 +1,7 @@
-use Rattle.std.proofs.Common.{◌≡◌, ◌∙◌, ◌+◌, ◌-◌, ◌<◌, ◌≤◌, ◌^◌, ℕ, true, false, IsTrue, Ok, Err, Some, None, List, [], ◌∷◌, ◌++◌, length, take, drop, refl, sym, ap, subst, arith}
-use Rattle.std.specs.Prelude.{All, map, IfOk, slice_get}
+use Rattle.std.proofs.Common.{◌∙◌, ◌+◌, ◌<◌, ◌≤◌, IsTrue, sym, subst, arith}
+use Rattle.std.specs.Prelude.{All}
 use Rattle.std.proofs.lemmas.Bool.{both_ways, false≢true}
-use Rattle.std.proofs.lemmas.Result.{IfOk-weaker}
-use Rattle.xs_check.specs.Asked.{asked}
 use Rattle.xs_lits.specs.Literal.{Literal}
-use Rattle.xs_derive.specs.Hints.{HasNoOpposites}
 use Rattle.xs_check.proofs.clauses.is_invariant_clause.Goals as goal
 
 pub returns-then-not-are_over_bits : goal.returns-then-not-are_over_bits

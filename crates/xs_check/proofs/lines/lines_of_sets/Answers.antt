@@ -1,8 +1,4 @@
-use Rattle.std.proofs.Common.{◌≡◌, ◌∙◌, ◌+◌, ◌-◌, ◌<◌, ◌≤◌, ◌^◌, ℕ, true, false, IsTrue, Ok, Err, Some, None, List, [], ◌∷◌, ◌++◌, length, take, drop, refl, sym, ap, subst, arith}
-use Rattle.std.specs.Prelude.{All, map, IfOk, slice_get}
-use Rattle.std.proofs.lemmas.Bool.{both_ways, false≢true}
-use Rattle.std.proofs.lemmas.Result.{IfOk-weaker}
-use Rattle.xs_check.specs.Asked.{asked}
+use Rattle.std.proofs.Common.{◌≡◌, ◌∙◌, ◌+◌, take, arith}
 use Rattle.xs_certificate.specs.Certificate.{lines_of_sets}
 use Rattle.xs_check.proofs.LineCounts.{lines_more, lines_few, lines_all}
 use Rattle.xs_check.proofs.lines.lines_of_sets.Goals as goal

@@ -1,8 +1,5 @@
-use Rattle.std.proofs.Common.{◌≡◌, ◌∙◌, ◌+◌, ◌-◌, ◌<◌, ◌≤◌, ◌^◌, ℕ, true, false, IsTrue, Ok, Err, Some, None, List, [], ◌∷◌, ◌++◌, length, take, drop, refl, sym, ap, subst, arith}
-use Rattle.std.specs.Prelude.{All, map, IfOk, slice_get}
-use Rattle.std.proofs.lemmas.Bool.{both_ways, false≢true}
-use Rattle.std.proofs.lemmas.Result.{IfOk-weaker}
-use Rattle.xs_check.specs.Asked.{asked}
+use Rattle.std.proofs.Common.{◌≤◌, sym, subst}
+use Rattle.std.specs.Prelude.{map}
 use Rattle.std.proofs.lemmas.List.{length-map}
 use Rattle.xs_scope.specs.ModelTree.{model_tree, flat_tree, variable_tree, mode_of}
 use Rattle.xs_encoding.specs.Encodable.{IsEncodable, IsFitTop}

@@ -1,13 +1,10 @@
-use Rattle.std.proofs.Common.{◌≡◌, ◌∙◌, ◌+◌, ◌-◌, ◌<◌, ◌≤◌, ◌^◌, ℕ, true, false, IsTrue, Ok, Err, Some, None, List, [], ◌∷◌, ◌++◌, length, take, drop, refl, sym, ap, subst, arith}
-use Rattle.std.specs.Prelude.{All, map, IfOk, slice_get}
-use Rattle.std.proofs.lemmas.Bool.{both_ways, false≢true}
-use Rattle.std.proofs.lemmas.Result.{IfOk-weaker}
+use Rattle.std.proofs.Common.{◌≡◌, ◌+◌, ◌<◌, ◌≤◌, sym, subst}
+use Rattle.std.specs.Prelude.{All, map, IfOk}
 use Rattle.xs_check.specs.Asked.{asked}
 use Rattle.xs_lits.specs.Literal.{Literal}
 use Rattle.xs_system.specs.States.{moved_on}
 use Rattle.xs_certificate.specs.Accepted.{goals}
 use Rattle.xs_check.specs.Parts.{part_of}
-use Rattle.xs_check.specs.declared.question.Part.TheVariants.{First, Next, Bad}
 use Rattle.xs_check.proofs.parts.goals_of.Goals as goal
 
 pub moved-requires : goal.moved-requires

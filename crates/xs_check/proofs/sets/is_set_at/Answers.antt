@@ -1,10 +1,9 @@
-use Rattle.std.proofs.Common.{◌≡◌, ◌∙◌, ◌+◌, ◌-◌, ◌<◌, ◌≤◌, ◌^◌, ℕ, true, false, IsTrue, Ok, Err, Some, None, List, [], ◌∷◌, ◌++◌, length, take, drop, refl, sym, ap, subst, arith}
-use Rattle.std.specs.Prelude.{All, map, IfOk, slice_get}
+use Rattle.std.proofs.Common.{◌≡◌, ◌∙◌, ◌≤◌, false, IsTrue, length, sym, ap, subst, arith}
+use Rattle.std.specs.Prelude.{All}
 use Rattle.std.proofs.lemmas.Bool.{both_ways, false≢true}
-use Rattle.std.proofs.lemmas.Result.{IfOk-weaker}
 use Rattle.xs_check.specs.Asked.{asked}
 use Rattle.std.proofs.lemmas.List.{length-map}
-use Rattle.xs_scope.specs.ModelTree.{model_tree, flat_tree, mode_of}
+use Rattle.xs_scope.specs.ModelTree.{mode_of}
 use Rattle.std.proofs.lemmas.Option.{slice_get_within}
 use Rattle.xs_check.specs.Order.{is_after_in}
 use Rattle.xs_check.proofs.SetLaws.{set_from, names_in, after_where}

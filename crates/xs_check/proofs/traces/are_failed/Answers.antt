@@ -1,9 +1,5 @@
-use Rattle.std.proofs.Common.{◌≡◌, ◌∙◌, ◌+◌, ◌-◌, ◌<◌, ◌≤◌, ◌^◌, ℕ, true, false, IsTrue, Ok, Err, Some, None, List, [], ◌∷◌, ◌++◌, length, take, drop, refl, sym, ap, subst, arith}
-use Rattle.std.specs.Prelude.{All, map, IfOk, slice_get}
-use Rattle.std.proofs.lemmas.Bool.{both_ways, false≢true}
-use Rattle.std.proofs.lemmas.Result.{IfOk-weaker}
+use Rattle.std.proofs.Common.{◌∙◌, sym, arith}
 use Rattle.xs_check.specs.Asked.{asked}
-use Rattle.xs_scope.specs.ModelTree.{mode_of}
 use Rattle.xs_flattening.specs.FlatTrace.{stands_in_some}
 use Rattle.xs_eval.specs.Named.{named_trace}
 use Rattle.xs_check.proofs.Exactly.{variable_in, symbol_in, those_here, those_not, those_none, same_by, differ_then}

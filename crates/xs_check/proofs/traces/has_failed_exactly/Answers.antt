@@ -1,10 +1,9 @@
-use Rattle.std.proofs.Common.{◌≡◌, ◌∙◌, ◌+◌, ◌-◌, ◌<◌, ◌≤◌, ◌^◌, ℕ, true, false, IsTrue, Ok, Err, Some, None, List, [], ◌∷◌, ◌++◌, length, take, drop, refl, sym, ap, subst, arith}
-use Rattle.std.specs.Prelude.{All, map, IfOk, slice_get}
+use Rattle.std.proofs.Common.{◌≡◌, ◌∙◌, ◌≤◌, false, IsTrue, length, sym, subst, arith}
+use Rattle.std.specs.Prelude.{All}
 use Rattle.std.proofs.lemmas.Bool.{both_ways, false≢true}
-use Rattle.std.proofs.lemmas.Result.{IfOk-weaker}
 use Rattle.xs_check.specs.Asked.{asked}
 use Rattle.std.proofs.lemmas.List.{length-map}
-use Rattle.xs_scope.specs.ModelTree.{model_tree, flat_tree, mode_of}
+use Rattle.xs_scope.specs.ModelTree.{mode_of}
 use Rattle.xs_eval.specs.Named.{named_trace}
 use Rattle.xs_check.proofs.Exactly.{exactly_where, numbers_from, those_from}
 use Rattle.xs_check.proofs.traces.has_failed_exactly.Goals as goal
@@ -16,7 +15,7 @@ returns-then-not-are_faults c =
     let is_not : c.are_faults.result ≡ false = grind arith in (
       (λ e. absurd (false≢true e)),
       (λ h. absurd (both_ways _ is_not (c.are_faults.ensures.1
-      (subst (λ n. All (λ i. (1 ≤ i) × (i ≤ n)) c.args.set.now) (sym many) (numbers_from a c.args.set.now (named_trace c.args.q.now.plain.now.model.symbols c.args.trace.now) h))))),
+          (subst (λ n. All (λ i. (1 ≤ i) × (i ≤ n)) c.args.set.now) (sym many) (numbers_from a c.args.set.now (named_trace c.args.q.now.plain.now.model.symbols c.args.trace.now) h))))),
     )
 
 pub returns : goal.returns

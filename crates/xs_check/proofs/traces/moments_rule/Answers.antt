@@ -1,10 +1,5 @@
-use Rattle.std.proofs.Common.{◌≡◌, ◌∙◌, ◌+◌, ◌-◌, ◌<◌, ◌≤◌, ◌^◌, ℕ, true, false, IsTrue, Ok, Err, Some, None, List, [], ◌∷◌, ◌++◌, length, take, drop, refl, sym, ap, subst, arith}
-use Rattle.std.specs.Prelude.{All, map, IfOk, slice_get}
-use Rattle.std.proofs.lemmas.Bool.{both_ways, false≢true}
-use Rattle.std.proofs.lemmas.Result.{IfOk-weaker}
+use Rattle.std.proofs.Common.{◌-◌, length, refl, subst}
 use Rattle.xs_check.specs.Asked.{asked}
-use Rattle.std.proofs.lemmas.List.{length-map}
-use Rattle.xs_scope.specs.ModelTree.{model_tree, flat_tree, mode_of}
 use Rattle.xs_eval.specs.Named.{named_trace}
 use Rattle.xs_eval.specs.Replayed.{IsReplayed}
 use Rattle.xs_eval.specs.Stops.{at_top}
