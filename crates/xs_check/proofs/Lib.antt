@@ -1,0 +1,10 @@
+mod Finding
+mod SiteLaws
+mod Loops
+mod SetLaws
+mod StepLaws
+mod TraceLaws
+mod Exactly
+mod LineCounts
+mod Spelled
+mod HistoryPlaces

@@ -1,0 +1,125 @@
+-- Moments that a text gives can be replayed, and which rule is broken where it gives none.
+use Rattle.std.proofs.Common.{arith, ◌≡◌, ◌≢◌, ◌≤◌, ◌<◌, ℕ, suc, Bool, true, false, List, [], ◌∷◌, ◌++◌, length, Option, Some, None, refl, sym, ap, subst}
+use Rattle.std.specs.Prelude.{slice_get, IsTrue}
+use Rattle.std.proofs.lemmas.List.{length-append}
+use Rattle.xs_tree.specs.declared.program.Member.{Member}
+use Rattle.xs_tree.specs.declared.program.Member.TheVariants as member
+use Rattle.xs_tree.specs.ProgramTree.{Text, DeclaredTree, boolean, range, members, instance}
+use Rattle.xs_tree.specs.Trace.{Each, in_domain, is_member}
+use Rattle.xs_tree.specs.Values as told
+use Rattle.xs_tree.specs.WritableProgram.{IsWritableType, IsWritableMember}
+use Rattle.xs_value.specs.declared.value.Value.{Value}
+use Rattle.xs_value.specs.declared.value.Value.TheVariants.{Bool as ABool, Num, Sym}
+use Rattle.xs_flattening.specs.Flat.{FlatVariable, FlatModel}
+use Rattle.xs_flattening.specs.FlatTrace.{AreInDomains}
+use Rattle.xs_lines.specs.Lines.{Line, fed}
+use Rattle.xs_eval.specs.Named as eval
+use Rattle.xs_eval.specs.Named.{named, named_all, named_trace, IsPlaceOf, IsNumbered, IsLawful}
+use Rattle.xs_report.specs.Told.{text_at, told_value, told_moment, told_trace}
+use Rattle.xs_trace_text.specs.Given.{IsPrintable, GivesMoments, GivesTrace, BytesGive}
+use Rattle.std.specs.List.{AllByRecursion}
+use Rattle.xs_lines.specs.Lines.{IsLine}
+use Rattle.xs_lines.proofs.Cuts.{same_fed}
+use Rattle.xs_trace_text.specs.Wrong.{wrong_line, missing_value, bad_line, unknown_name, outside, twice}
+use Rattle.xs_trace_text.proofs.GivenHasNone.{given_has_none}
+use Rattle.xs_report.specs.Faults.{IsFaultOf}
+use Rattle.xs_report.specs.declared.fault.TraceFault.{TraceFault}
+use Rattle.xs_report.specs.declared.fault.TraceFault.TheVariants as fault
+use Rattle.xs_check.specs.Fit.{IsShortText}
+use Rattle.xs_check.specs.Moments.{CanBeReplayed, IsTextFault}
+
+-- Both layers name values alike.
+same_text_at : (o : Option Text) → eval.text_at o ≡ text_at o
+same_text_at None = refl
+same_text_at (Some x) = refl
+
+named_is_told : (symbols : List Text) (v : Value) → named symbols v ≡ told_value symbols v
+named_is_told symbols (ABool b) = refl
+named_is_told symbols (Num n) = refl
+named_is_told symbols (Sym i) = ap told.symbol (same_text_at (slice_get symbols i))
+
+all_are_told : (symbols : List Text) (vs : List Value) → named_all symbols vs ≡ told_moment symbols vs
+all_are_told symbols [] = refl
+all_are_told symbols (v ∷ vs) = λ j. named_is_told symbols v j ∷ all_are_told symbols vs j
+
+pub trace_is_told : (symbols : List Text) (trace : List (List Value)) → named_trace symbols trace ≡ told_trace symbols trace
+trace_is_told symbols [] = refl
+trace_is_told symbols (v ∷ vs) = λ j. all_are_told symbols v j ∷ trace_is_told symbols vs j
+
+-- The empty text is no value of a type that can be written.
+never : {P : Type 0} → IsTrue false → P
+never h = cc
+
+no_empty_member : (ms : List Member) → Each IsWritableMember ms → is_member ms (told.symbol []) ≡ true → ⊥
+no_empty_member [] w e = cc
+no_empty_member (member.Number n ∷ ms) w e = no_empty_member ms w.1 e
+no_empty_member (member.Symbol [] ∷ ms) w e = w.0.1
+no_empty_member (member.Symbol (b ∷ x) ∷ ms) w e = no_empty_member ms w.1 e
+
+no_empty_symbol : (d : DeclaredTree) → IsWritableType d → in_domain d (told.symbol []) ≡ true → ⊥
+no_empty_symbol boolean w e = cc
+no_empty_symbol (range lo hi) w e = cc
+no_empty_symbol (members ms) w e = no_empty_member ms w.1 e
+no_empty_symbol (instance m actuals) w e = cc
+
+is_true : (b : Bool) → IsTrue b → b ≡ true
+is_true b h = h
+
+-- A value of such a type has the number of a symbol, where it is one.
+numbered : (symbols : List Text) (d : DeclaredTree) → IsWritableType d → (v : Value) → IsTrue (in_domain d (told_value symbols v)) → IsNumbered symbols v
+numbered symbols d w (ABool b) h = tt
+numbered symbols d w (Num n) h = tt
+numbered symbols d w (Sym i) h = by_text (slice_get symbols i) refl (is_true (in_domain d (told_value symbols (Sym i))) h)
+  where
+    by_text : (o : Option Text) → slice_get symbols i ≡ o → in_domain d (told.symbol (text_at o)) ≡ true → IsPlaceOf symbols i
+    by_text None e f = absurd (no_empty_symbol d w f)
+    by_text (Some x) e f = record { text = x; there = e }
+
+all_numbered : (symbols : List Text) (xs : List FlatVariable) → ((i : ℕ) (x : FlatVariable) → slice_get xs i ≡ Some x → IsWritableType x.declared) → (vs : List Value) →
+    AreInDomains xs (told_moment symbols vs) → Each (IsNumbered symbols) vs
+all_numbered symbols [] w [] h = tt
+all_numbered symbols [] w (v ∷ vs) h = absurd h
+all_numbered symbols (x ∷ xs) w [] h = absurd h
+all_numbered symbols (x ∷ xs) w (v ∷ vs) h = (numbered symbols x.declared (w 0 x refl) v h.0, all_numbered symbols xs (λ i y e. w (suc i) y e) vs h.1)
+
+module _ (m : FlatModel) (printable : IsPrintable m) where
+  lawful_moment : (v : List Value) → AreInDomains m.variables (told_moment m.symbols v) → IsLawful m v
+  lawful_moment v h = record { domains = subst (AreInDomains m.variables) (sym (all_are_told m.symbols v)) h; numbered = all_numbered m.symbols m.variables printable.types v h }
+
+  all_lawful : (n : ℕ) (lines : List Line) (trace : List (List Value)) → GivesMoments m n lines (told_trace m.symbols trace) → Each (IsLawful m) trace
+  all_lawful n lines [] h = tt
+  all_lawful n lines (v ∷ vs) h = (lawful_moment v h.3.domains, all_lawful (suc n) h.1 vs h.4)
+
+  -- there are no more moments than lines
+  few_moments : (n : ℕ) (lines : List Line) (trace : List (List Value)) → GivesMoments m n lines (told_trace m.symbols trace) → length trace ≤ length lines
+  few_moments n lines [] h = omega arith
+  few_moments n lines (v ∷ vs) h =
+      let more = few_moments (suc n) h.1 vs h.4 in
+      let whole : length lines ≡ suc (length (h.0 ++ h.1)) = ap length h.2 in
+      let joined = length-append h.0 h.1 in
+      omega (arith, more, whole, joined)
+
+  some_moments : (trace : List (List Value)) → told_trace m.symbols trace ≢ [] → 0 < length trace
+  some_moments [] h = absurd (h refl)
+  some_moments (v ∷ vs) h = omega arith
+
+  -- the lines of a short text are those that its bytes have
+  pub lines_give : (text : List Line) (trace : List (List told.Value)) → AllByRecursion IsLine text → BytesGive m (fed text) trace → GivesTrace m text trace
+  lines_give text trace are (lines, is, lie, gives) = subst (λ ls. GivesTrace m ls trace) (same_fed (fed text) lines text lie are is refl) gives
+
+  pub can_be_replayed : (text : List Line) (trace : List (List Value)) → IsShortText text → GivesTrace m text (told_trace m.symbols trace) → CanBeReplayed m trace
+  can_be_replayed text trace short gives =
+      let moments = few_moments 0 gives.rest trace gives.moments in
+      let rest : length text ≡ length (gives.blank ++ gives.rest) = ap length gives.lie in
+      let joined = length-append gives.blank gives.rest in
+      let limit = short.few in
+      record { some = some_moments trace gives.some; few = omega (arith, moments, rest, joined, limit); lawful = all_lawful 0 gives.rest trace gives.moments }
+
+  -- where something is wrong with the bytes the lines give no trace
+  pub gives_none : (text : List Line) (f : TraceFault) → AllByRecursion IsLine text → IsTextFault f → IsFaultOf m (fed text) f → (trace : List (List told.Value)) → GivesTrace m text trace → ⊥
+  gives_none text (fault.BadLine n) are is wrong trace g = given_has_none m printable (fed text) trace (wrong_line bad_line n) (text, refl, are, g) wrong
+  gives_none text (fault.UnknownName n) are is wrong trace g = given_has_none m printable (fed text) trace (wrong_line unknown_name n) (text, refl, are, g) wrong
+  gives_none text (fault.Outside n) are is wrong trace g = given_has_none m printable (fed text) trace (wrong_line outside n) (text, refl, are, g) wrong
+  gives_none text (fault.MissingValue k) are is wrong trace g = given_has_none m printable (fed text) trace (missing_value k) (text, refl, are, g) wrong
+  gives_none text (fault.Twice n) are is wrong trace g = given_has_none m printable (fed text) trace (wrong_line twice n) (text, refl, are, g) wrong
+  gives_none text fault.OutOfMemory are is wrong trace g = is

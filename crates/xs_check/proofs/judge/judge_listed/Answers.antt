@@ -1,0 +1,21 @@
+use Rattle.std.proofs.Common.{◌++◌, subst}
+use Rattle.std.proofs.lemmas.Result.{IfOk-weaker}
+use Rattle.xs_check.specs.Asked.{asked}
+use Rattle.xs_certificate.specs.Sites.{set_sites}
+use Rattle.xs_check.specs.Asked.{proof_sites}
+use Rattle.xs_check.specs.Found.{Finds}
+use Rattle.xs_check.proofs.Finding.{kept_both, broken_front}
+use Rattle.xs_check.proofs.judge.judge_listed.Goals as goal
+
+pub returns-in-Yes : goal.returns-in-Yes
+returns-in-Yes c =
+    let a = asked c.args.q.now in
+    let sets = set_sites 0 a.certificate.sets a.certificate.traces in
+    let rest = proof_sites a.certificate in
+    IfOk-weaker c.judge_proof.result (Finds a rest) (Finds a (sets ++ rest)) (kept_both a sets rest (subst (Finds a sets) c.in-Yes.is c.in_ok-judge_sets.ensures)) c.judge_proof.ensures
+
+pub returns-in-No : goal.returns-in-No
+returns-in-No c =
+    let a = asked c.args.q.now in
+    let sets = set_sites 0 a.certificate.sets a.certificate.traces in
+    broken_front a sets (proof_sites a.certificate) c.in-No.line c.in-No.rule (subst (Finds a sets) c.in-No.is c.in_ok-judge_sets.ensures)

@@ -1,0 +1,29 @@
+use Rattle.std.proofs.Common.{◌≡◌, ◌∙◌, false, IsTrue, take, sym, ap, arith}
+use Rattle.std.proofs.lemmas.Bool.{both_ways}
+use Rattle.xs_check.specs.Asked.{asked}
+use Rattle.std.specs.List.{list_all}
+use Rattle.xs_sets.specs.Tests.{are_apart}
+use Rattle.xs_check.proofs.SiteLaws.{set_kept, set_broken, apart_broken}
+use Rattle.xs_check.proofs.SetLaws.{apart_from_test, test_from_apart}
+use Rattle.xs_check.proofs.sets.set_rule.Goals as goal
+
+pub returns-then-not-is_set_at : goal.returns-then-not-is_set_at
+returns-then-not-is_set_at c =
+    let is_not : c.is_set_at.result ≡ false = grind arith in
+    set_broken (asked c.args.q.now) c.args.k c.args.set.now (λ h. both_ways _ is_not (c.is_set_at.ensures.1 h))
+
+pub returns-then-not-is_apart : goal.returns-then-not-is_apart
+returns-then-not-is_apart c =
+    let a = asked c.args.q.now in
+    let is : IsTrue c.is_set_at.result = grind arith in
+    let is_not : c.is_apart.result ≡ false = grind arith in
+    let test : c.is_apart.result ≡ list_all (λ other. are_apart other c.args.set.now) (take c.args.k a.certificate.sets) = c.is_apart.ensures ∙ ap (λ xs. list_all (λ other. are_apart other c.args.set.now) (take c.args.k xs)) c.as_slice.ensures in
+    apart_broken a c.args.k c.args.set.now (c.is_set_at.ensures.0 is) (λ h. both_ways _ is_not (test ∙ test_from_apart a.subject a.certificate c.args.k c.args.set.now h))
+
+pub returns : goal.returns
+returns c =
+    let a = asked c.args.q.now in
+    let is : IsTrue c.is_set_at.result = grind arith in
+    let apart : IsTrue c.is_apart.result = grind arith in
+    let test : c.is_apart.result ≡ list_all (λ other. are_apart other c.args.set.now) (take c.args.k a.certificate.sets) = c.is_apart.ensures ∙ ap (λ xs. list_all (λ other. are_apart other c.args.set.now) (take c.args.k xs)) c.as_slice.ensures in
+    set_kept a c.args.k c.args.set.now (c.is_set_at.ensures.0 is) (apart_from_test a.subject a.certificate c.args.k c.args.set.now (sym test ∙ apart))

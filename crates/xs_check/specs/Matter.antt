@@ -1,0 +1,61 @@
+-- What a certificate is judged about: a model with its faults and a top event, and the clause lists that encode them.
+use Rattle.std.specs.Prelude.{ℕ, List, length, map}
+use Rattle.xs_tree.specs.Tree.{Tree}
+use Rattle.xs_tree.specs.Values.{Value}
+use Rattle.xs_tree.specs.declared.expr.Expr.{Expr}
+use Rattle.xs_flattening.specs.Flat.{FlatLeaf, FlatModel}
+use Rattle.xs_flattening.specs.FlatTrace.{IsFlatTrace}
+use Rattle.xs_flattening.specs.History.{Mode}
+use Rattle.xs_scope.specs.declared.model.Flat.{Flat}
+use Rattle.xs_scope.specs.declared.model.FlatModel.{FlatModel as Model}
+use Rattle.xs_scope.specs.declared.model.Fault.{Fault}
+use Rattle.xs_scope.specs.ModelTree.{model_tree, flat_tree, mode_of}
+use Rattle.xs_encoded.specs.FlatTraces.{ReachesTop, HasFailedNumber, history_of}
+use Rattle.xs_encoding.specs.Lists.{system_of, bad_list}
+use Rattle.xs_trace_text.specs.Given.{GivesTrace}
+use Rattle.xs_certificate.specs.Certificate.{Certificate, Site}
+use Rattle.xs_certificate.specs.Accepted.{Subject, Rule, IsAccepted, IsObjection}
+use Rattle.xs_certificate.specs.Sites.{KeepsAll, BreaksFirst}
+
+-- the lists of the model with history, its number of faults, and the list of bad states
+abbrev pub subject_of : FlatModel → FlatModel → List Mode → Tree FlatLeaf → Subject
+subject_of full m fs top =
+    record { system = system_of full; faults = length fs; bad = λ sets size. bad_list full top (history_of m fs) sets size }
+
+-- a model without history, its faults, a top event, a subject and a certificate
+pub record Matter : Type 0 where
+  pub model : FlatModel
+  pub modes : List Mode
+  pub top : Tree FlatLeaf
+  pub subject : Subject
+  pub certificate : Certificate
+
+-- the matter of what the code has in memory
+abbrev pub matter_of : Model → Model → List Fault → Expr Flat → Certificate → Matter
+matter_of full plain faults top c =
+    record {
+      model = model_tree plain;
+      modes = map mode_of faults;
+      top = flat_tree top;
+      subject = subject_of (model_tree full) (model_tree plain) (map mode_of faults) (flat_tree top);
+      certificate = c;
+    }
+
+module _ (a : Matter) where
+  -- no rule is broken, by texts of flat traces that reach the top event
+  abbrev pub IsAcceptedIn : Type 0
+  IsAcceptedIn = IsAccepted (List (List Value)) (GivesTrace a.model) (IsFlatTrace a.model) (ReachesTop a.model a.top) (HasFailedNumber a.model a.modes) a.subject a.certificate
+
+  -- a rule is the first that is broken
+  abbrev pub IsObjectionIn : ℕ → Rule → Type 0
+  IsObjectionIn line rule =
+      IsObjection (List (List Value)) (GivesTrace a.model) (IsFlatTrace a.model) (ReachesTop a.model a.top) (HasFailedNumber a.model a.modes) a.subject a.certificate line rule
+
+  -- every rule is kept at a site
+  abbrev pub KeepsAllIn : Site → Type 0
+  KeepsAllIn site = KeepsAll (List (List Value)) (GivesTrace a.model) (IsFlatTrace a.model) (ReachesTop a.model a.top) (HasFailedNumber a.model a.modes) a.subject a.certificate site
+
+  -- a rule is the first that is broken at a site
+  abbrev pub BreaksFirstIn : Site → Rule → Type 0
+  BreaksFirstIn site rule =
+      BreaksFirst (List (List Value)) (GivesTrace a.model) (IsFlatTrace a.model) (ReachesTop a.model a.top) (HasFailedNumber a.model a.modes) a.subject a.certificate site rule

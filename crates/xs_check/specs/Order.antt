@@ -1,0 +1,11 @@
+-- Whether a set stands after the one before it, as it is computed.
+use Rattle.std.specs.Prelude.{ℕ, zero, suc, Bool, true, false, List, Option, Some, None, slice_get}
+use Rattle.xs_right.specs.Sets.{stands_before}
+
+abbrev pub stands_after : List ℕ → Option (List ℕ) → Bool
+stands_after set None = false
+stands_after set (Some before) = stands_before before set
+
+abbrev pub is_after_in : List (List ℕ) → ℕ → List ℕ → Bool
+is_after_in sets zero set = true
+is_after_in sets (suc k) set = stands_after set (slice_get sets k)

@@ -1,0 +1,8 @@
+//! The law of which certificates can be checked, which the layer above cites.
+
+ghost use Rattle.xs_check.specs.Fit.{SpelledAreCheckable};
+
+/// A certificate that fewer than 2^32 bytes spell can be checked.
+pub fn spelled_are_checkable()
+    ensures { SpelledAreCheckable }
+{}

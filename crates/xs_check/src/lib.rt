@@ -1,0 +1,35 @@
+//! The checker of certificates, which stands on no solver.
+//!
+//! [`check`] answers whether a certificate is accepted for a model with its faults and a top event, or the
+//! objection to it ([`Judged`]). The eleven rules and the objection are defined in `xs_certificate`; what they
+//! speak of here are the clause lists of the model with history (`xs_encoding`) and the flat traces that the
+//! texts give (`xs_trace_text`), as `specs/Matter.antt` says. What an accepted certificate shows, whoever
+//! wrote it, is a law of `xs_certified`.
+//!
+//! The sites of a certificate are judged in the order of their lines, and each function here answers for the
+//! sites of a part what is found at them (`specs/Found.antt`). The files from below: `judged` (the answer),
+//! `question` (what is asked), `lines` (where its parts stand), `sets` (the numbers and the sets), `traces` (the
+//! texts of traces), `listed` (each set with its trace), `clauses` (the invariant), `steps` (one derivation),
+//! `parts` (the three), and `judge` (all sites). A step costs what its
+//! hints name; each clause is kept once.
+//!
+//! ```text
+//! check(alloc, &full, &plain, &faults, &top, &certificate)    // Yes, or No(7, 10): at line 7 no hint was false
+//! ```
+#![tactic(auto)]
+
+mod clauses;
+mod judge;
+mod judged;
+mod laws;
+mod lines;
+mod listed;
+mod parts;
+mod question;
+mod sets;
+mod steps;
+mod traces;
+
+pub use judge::check;
+pub use judged::Judged;
+pub use laws::spelled_are_checkable;

@@ -1,0 +1,121 @@
+//! The three derivations of a certificate, each from the clauses that it is given.
+
+ghost use Rattle.std.specs.Prelude.{◌≡◌, ◌++◌, IfOk, All};
+ghost use Rattle.xs_system.specs.States.{IsOverBits};
+ghost use Rattle.xs_scope.specs.ModelTree.{model_tree};
+ghost use Rattle.xs_certificate.specs.Certificate.{part_first, part_next, part_bad, head_line, steps_in, first_line, next_line, bad_line};
+ghost use Rattle.xs_certificate.specs.Sites.{step_sites};
+ghost use Rattle.xs_certificate.specs.Accepted.{HasNumbers, goals};
+ghost use Rattle.xs_check.specs.Asked.{asked};
+ghost use Rattle.xs_check.specs.Fit.{CanBeJudged};
+ghost use Rattle.xs_check.specs.Found.{Finds};
+ghost use Rattle.xs_check.specs.Parts.{part_of, list_of, also_given};
+
+use crate::judged::Judged;
+use crate::question::{Part, Question};
+use crate::steps::judge_derivation;
+use std::alloc::Global;
+use xs_derivations::{checker_of, moved, only_empty};
+use xs_encode::{bad_clauses, encode};
+use xs_lits::clause::{Clause, ClauseList};
+use xs_value::OutOfMemory;
+
+/// Judges the three derivations, the first of which begins at this line.
+pub(crate) fn judge_parts(alloc: Global, q: &Question<'_>, line: u64) -> Result<Judged, OutOfMemory>
+    requires fit { CanBeJudged (model_tree q.now.full.now.model) (asked q.now) }
+    requires numbers { HasNumbers (asked q.now).subject (asked q.now).certificate }
+    requires over_bits { All (IsOverBits (asked q.now).subject.system) q.now.certificate.now.invariant }
+    requires line { line ≡ first_line (asked q.now).certificate }
+    ensures { IfOk result (Finds (asked q.now) (step_sites part_first 0 q.now.certificate.now.first ++ (step_sites part_next 0 q.now.certificate.now.next ++ step_sites part_bad 0 q.now.certificate.now.bad))) }
+{
+    let system = encode(alloc, q.full)?;
+    let next = line + q.certificate.first.len() as u64 + 1;
+    match judge_part(alloc, q, Part::First, &system.first, line)? {
+        Judged::Yes => judge_later(alloc, q, &system.step, next),
+        Judged::No(at, rule) => Ok(Judged::No(at, rule)),
+    }
+}
+
+/// Judges the second and the third derivation, the former from the list of steps.
+fn judge_later(
+    alloc: Global,
+    q: &Question<'_>,
+    step: &ClauseList,
+    line: u64,
+) -> Result<Judged, OutOfMemory>
+    requires fit { CanBeJudged (model_tree q.now.full.now.model) (asked q.now) }
+    requires numbers { HasNumbers (asked q.now).subject (asked q.now).certificate }
+    requires over_bits { All (IsOverBits (asked q.now).subject.system) q.now.certificate.now.invariant }
+    requires given { step.now ≡ (asked q.now).subject.system.step }
+    requires line { line ≡ next_line (asked q.now).certificate }
+    ensures { IfOk result (Finds (asked q.now) (step_sites part_next 0 q.now.certificate.now.next ++ step_sites part_bad 0 q.now.certificate.now.bad)) }
+{
+    let next = line + q.certificate.next.len() as u64 + 1;
+    match judge_part(alloc, q, Part::Next, step, line)? {
+        Judged::Yes => judge_last(alloc, q, next),
+        Judged::No(at, rule) => Ok(Judged::No(at, rule)),
+    }
+}
+
+/// Judges the third derivation.
+fn judge_last(alloc: Global, q: &Question<'_>, line: u64) -> Result<Judged, OutOfMemory>
+    requires fit { CanBeJudged (model_tree q.now.full.now.model) (asked q.now) }
+    requires numbers { HasNumbers (asked q.now).subject (asked q.now).certificate }
+    requires over_bits { All (IsOverBits (asked q.now).subject.system) q.now.certificate.now.invariant }
+    requires line { line ≡ bad_line (asked q.now).certificate }
+    ensures { IfOk result (Finds (asked q.now) (step_sites part_bad 0 q.now.certificate.now.bad)) }
+{
+    let bad = bad_list(alloc, q)?;
+    judge_part(alloc, q, Part::Bad, &bad, line)
+}
+
+/// The list of the bad states that the certificate's sets and size leave.
+fn bad_list(alloc: Global, q: &Question<'_>) -> Result<ClauseList, OutOfMemory>
+    requires fit { CanBeJudged (model_tree q.now.full.now.model) (asked q.now) }
+    requires numbers { HasNumbers (asked q.now).subject (asked q.now).certificate }
+    ensures { IfOk result (λ list. list ≡ list_of (asked q.now) part_bad) }
+{
+    let c = q.certificate;
+    bad_clauses(alloc, q.full, q.top, &c.sets, c.faults, c.size)
+}
+
+/// Judges one derivation from a list of the model, whose head has this line.
+fn judge_part(
+    alloc: Global,
+    q: &Question<'_>,
+    part: Part,
+    given: &ClauseList,
+    line: u64,
+) -> Result<Judged, OutOfMemory>
+    requires fit { CanBeJudged (model_tree q.now.full.now.model) (asked q.now) }
+    requires over_bits { All (IsOverBits (asked q.now).subject.system) q.now.certificate.now.invariant }
+    requires given { given.now ≡ list_of (asked q.now) (part_of part) }
+    requires line { line ≡ head_line (asked q.now).certificate (part_of part) }
+    ensures { IfOk result (Finds (asked q.now) (step_sites (part_of part) 0 (steps_in (asked q.now).certificate (part_of part)))) }
+{
+    let checker = checker_of(alloc, given.as_slice(), also_given(q, part))?;
+    let goals = goals_of(alloc, q, part)?;
+    judge_derivation(q, part, checker, goals.as_slice(), line + 1)
+}
+
+/// The clauses that a derivation is given besides the list of the model.
+fn also_given<'a>(q: &'a Question<'_>, part: Part) -> &'a [Clause]
+    ensures { result.now ≡ also_given (asked q.now) (part_of part) }
+{
+    match part {
+        Part::First => &[],
+        Part::Next | Part::Bad => q.certificate.invariant.as_slice(),
+    }
+}
+
+/// What a derivation is to show.
+fn goals_of(alloc: Global, q: &Question<'_>, part: Part) -> Result<ClauseList, OutOfMemory>
+    requires over_bits { All (IsOverBits (asked q.now).subject.system) q.now.certificate.now.invariant }
+    ensures { IfOk result (λ list. list ≡ goals (asked q.now).subject (asked q.now).certificate (part_of part)) }
+{
+    match part {
+        Part::First => q.certificate.invariant.copy(),
+        Part::Next => moved(alloc, q.certificate.invariant.as_slice(), q.full.bits()),
+        Part::Bad => only_empty(alloc),
+    }
+}

@@ -1,0 +1,75 @@
+-- The highest variable of clauses.
+use Rattle.std.proofs.Common.{◌≡◌, ℕ, zero, suc, ◌+◌, ◌<◌, ◌≤◌, List, [], ◌∷◌, ◌++◌, length, drop, get_or, sym, ap, subst, ◌∙◌, arith}
+use Rattle.std.specs.Prelude.{max, All}
+use Rattle.std.proofs.lemmas.List.{drop_more, drop_all}
+use Rattle.std.proofs.lemmas.List.Elements.{All-nil, All-cons}
+use Rattle.xs_lits.specs.Literal.{Literal}
+use Rattle.xs_derive.specs.Derivation.{IsUpTo}
+use Rattle.xs_certificate.specs.Accepted.{highest, highest_in}
+
+left : (a b n : ℕ) → max a b ≤ n → a ≤ n
+left a b n h = omega (arith, h)
+
+right : (a b n : ℕ) → max a b ≤ n → b ≤ n
+right a b n h = omega (arith, h)
+
+above : (a b : ℕ) → 1 ≤ b → 1 ≤ max a b
+above a b h = omega (arith, h)
+
+all_below : (n : ℕ) (ls : List Literal) → highest_in ls ≤ n → All (IsUpTo n) ls
+all_below n [] h = All-nil (IsUpTo n)
+all_below n (l ∷ ls) h = All-cons (IsUpTo n) l ls (left l.var (highest_in ls) n h) (all_below n ls (right l.var (highest_in ls) n h))
+
+-- each clause's variables are at most the highest of all
+pub each_below : (n : ℕ) (cs : List (List Literal)) (i : ℕ) (x : List Literal) → highest cs ≤ n → i < length cs → x ≡ get_or cs i x → All (IsUpTo n) x
+each_below n [] i x h l e = absurd (omega (arith, l))
+each_below n (c ∷ cs) zero x h l e = subst (All (IsUpTo n)) (sym e) (all_below n c (left (highest_in c) (highest cs) n h))
+each_below n (c ∷ cs) (suc i) x h l e = each_below n cs i x (right (highest_in c) (highest cs) n h) (omega (arith, l)) e
+
+pub least_in : (ls : List Literal) → 1 ≤ highest_in ls
+least_in [] = omega arith
+least_in (l ∷ ls) = above l.var (highest_in ls) (least_in ls)
+
+pub least : (cs : List (List Literal)) → 1 ≤ highest cs
+least [] = omega arith
+least (c ∷ cs) = above (highest_in c) (highest cs) (least cs)
+
+-- from 1 on
+from_one : (n : ℕ) → 1 ≤ n → max 1 n ≡ n
+from_one n h = omega (arith, h)
+
+pub begin_in : (ls : List Literal) → max 1 (highest_in (drop 0 ls)) ≡ highest_in ls
+begin_in ls = from_one (highest_in ls) (least_in ls)
+
+pub begin : (cs : List (List Literal)) → max 1 (highest (drop 0 cs)) ≡ highest cs
+begin cs = from_one (highest cs) (least cs)
+
+-- one more
+grouped : (a b c : ℕ) → max (max a b) c ≡ max a (max b c)
+grouped a b c = omega arith
+
+pub more_in : (most : ℕ) (ls : List Literal) (i : ℕ) (d : Literal) → i < length ls → d ≡ get_or ls i d → max (max most d.var) (highest_in (drop (i + 1) ls)) ≡ max most (highest_in (drop i ls))
+more_in most ls i d l e =
+    grouped most d.var (highest_in (drop (i + 1) ls)) ∙ ap (λ xs. max most (highest_in xs)) (sym (drop_more ls i d l ∙ ap (λ x. x ∷ drop (i + 1) ls) (sym e)))
+
+pub more : (most : ℕ) (cs : List (List Literal)) (i : ℕ) (d : List Literal) → i < length cs → d ≡ get_or cs i d → max (max most (highest_in d)) (highest (drop (i + 1) cs)) ≡ max most (highest (drop i cs))
+more most cs i d l e =
+    grouped most (highest_in d) (highest (drop (i + 1) cs)) ∙ ap (λ xs. max most (highest xs)) (sym (drop_more cs i d l ∙ ap (λ x. x ∷ drop (i + 1) cs) (sym e)))
+
+-- nothing is left
+to_one : (n : ℕ) → 1 ≤ n → max n 1 ≡ n
+to_one n h = omega (arith, h)
+
+pub end_in : (most : ℕ) (ls : List Literal) (i : ℕ) → length ls ≤ i → 1 ≤ most → max most (highest_in (drop i ls)) ≡ most
+end_in most ls i l h = ap (λ xs. max most (highest_in xs)) (drop_all i ls l) ∙ to_one most h
+
+pub end : (most : ℕ) (cs : List (List Literal)) (i : ℕ) → length cs ≤ i → 1 ≤ most → max most (highest (drop i cs)) ≡ most
+end most cs i l h = ap (λ xs. max most (highest xs)) (drop_all i cs l) ∙ to_one most h
+
+-- two lists
+joined : (a b c : ℕ) → 1 ≤ c → max a c ≡ c → max a c ≡ c
+joined a b c h e = e
+
+pub of_both : (cs ds : List (List Literal)) → highest (cs ++ ds) ≡ max (highest cs) (highest ds)
+of_both [] ds = sym (from_one (highest ds) (least ds))
+of_both (c ∷ cs) ds = ap (max (highest_in c)) (of_both cs ds) ∙ sym (grouped (highest_in c) (highest cs) (highest ds))

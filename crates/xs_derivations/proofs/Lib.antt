@@ -1,0 +1,2 @@
+mod Highest
+mod StepLemmas
