@@ -1,22 +1,25 @@
-//! Extends SMV models with faults, and replays traces of the extensions: the program over the crates below it.
+//! Extends SMV models with faults, replays traces of the extensions, and finds their minimal cut sets: the program over
+//! the crates below it.
 //!
 //! [`run::run`] is the whole program over any desk: it reads the words and the files that they name, and
 //! writes and says the answer. Its contract says what a run comes to (`specs/Runs.antt`): the one line of
-//! the first refusal; the extension and its fault list; or that a trace reaches the top event and what it
-//! has failed; and what is left where the desk fails on the way. What words ask for stands in `specs/Asked.antt`, what is wrong with a file and what it holds stands in `specs/Inputs.antt`,
-//! top events in `specs/Cases.antt`, traces in `specs/Replays.antt`, the numbers and lines of
+//! the first refusal; the extension and its fault list; that a trace reaches the top event and what it
+//! has failed; or the analysis of a case; and what is left where the desk fails on the way. What words ask for stands in `specs/Asked.antt`, what is wrong with a file and what it holds stands in `specs/Inputs.antt`,
+//! top events in `specs/Cases.antt`, traces in `specs/Replays.antt`, analyses in `specs/Analyses.antt` and `specs/Headline.antt`, the numbers and lines of
 //! refusals in `specs/Wrongs.antt` and `specs/Statuses.antt`, and that the written file is the extension in
 //! `specs/Extension.antt`. `main` hands `run` the words of the command line and a desk over real files.
 //!
 //! The files stand in the order of the work: `input` (a file's bytes), `model`
 //! (program, flat model, kinds), `faults` (instructions, the weave, the limits of the whole, as a text that
 //! is written), `loaded` (the same, with the flat model in memory), `top` (the top event), `trace` (the file
-//! of a trace), `replay` (what a trace comes to), `report` (what is said) and `run`. `wrong` and `status`
+//! of a trace), `replay` (what a trace comes to), `report` (what is said), `event` (model, extension and top event
+//! together), `search` (what a search finds), `analysis` (what is written and said of it) and `run`. `wrong` and `status`
 //! have what each refusal says.
 //!
 //! ```text
 //! xsap_program extend --model lamp.smv --faults lamp.fei --extended out.smv
 //! xsap_program replay --model lamp.smv --faults lamp.fei --trace dark.trace --top '!on'
+//! xsap_program analyse --model lamp.smv --faults lamp.fei --top '!on' --depth 4 --extended out.smv --cert out.cert
 //! ```
 #![tactic(auto)]
 
@@ -27,7 +30,13 @@ use std::alloc::{AllocError, Global};
 use std::env;
 use std::io::ErrorKind;
 use std::process::ExitCode;
+use xs_adviser::{Active, Adviser, InOrder};
+use xs_value::OutOfMemory;
 
+pub mod analysis;
+#[cfg(test)]
+mod analysis_tests;
+pub mod event;
 pub mod faults;
 pub mod input;
 pub mod loaded;
@@ -38,6 +47,7 @@ mod replay;
 mod replay_tests;
 mod report;
 pub mod run;
+pub mod search;
 pub mod status;
 #[cfg(test)]
 mod tests;
@@ -68,9 +78,20 @@ fn status_of(rt: HostRuntime, alloc: Global, words: &[String]) -> Status {
         .map(|word| word.as_str())
         .collect::<Vec<&str>>(alloc)
     {
-        Ok(words) => run(alloc, &words, &mut RealDesk::new(rt)),
+        Ok(words) => match advisers(alloc) {
+            Ok(advisers) => run(alloc, &words, &mut RealDesk::new(rt), advisers),
+            Err(OutOfMemory) => Status::Memory,
+        },
         Err(AllocError) => Status::Memory,
     }
+}
+
+/// The advisers of a run: in the order of the variables, and by how often clauses failed.
+fn advisers(alloc: Global) -> Result<Vec<Box<dyn Adviser>>, OutOfMemory> {
+    let mut advisers: Vec<Box<dyn Adviser>> = Vec::new(alloc);
+    advisers.push(Box::new(alloc, InOrder::new())?)?;
+    advisers.push(Box::new(alloc, Active::new(alloc))?)?;
+    Ok(advisers)
 }
 
 /// The number of a status, as the system takes it.
