@@ -128,7 +128,7 @@ module _ (p : ProgramTree) (l : LoadedCase) (word : Text) (tree : Tree FlatLeaf)
   -- the report of what was found is that of the analysis
   report_is : (size : ℕ) (a : Searched) (ending : Printed) → a.size ≡ size → told_ending ending ≡ ending_of a.end →
       analysis_text (lines.faults_text (map name_of l.limited.faults)) the_case.flat (state_bits (model_tree l.limited.full.model)) (length l.limited.faults) a.size
-          (told_analysis symbols a.sets a.traces a.first ending)
+      (told_analysis symbols a.sets a.traces a.first ending)
       ≡ report_of the_case size (analysis_of symbols a)
   report_is size a ending sizes told = λ j.
       analysis_text (fault_lines_are j) the_case.flat (state_bits (is.loaded.full j)) (sym (case_counts p l word tree is) j) (sizes j) (answers_printed symbols a ending told j)
@@ -137,7 +137,7 @@ module _ (p : ProgramTree) (l : LoadedCase) (word : Text) (tree : Tree FlatLeaf)
       IsAnswer the_case.flat the_case.modes tree (system_of (whole_of the_case)) (state_of (whole_of the_case)) (inputs_of (whole_of the_case)) depth size a →
       HasCertificate the_case.flat the_case.modes tree symbols a a.end cert → told_ending ending ≡ ending_of a.end →
       report ≡ analysis_text (lines.faults_text (map name_of l.limited.faults)) the_case.flat (state_bits (model_tree l.limited.full.model)) (length l.limited.faults) a.size
-          (told_analysis symbols a.sets a.traces a.first ending) →
+      (told_analysis symbols a.sets a.traces a.first ending) →
       IsFinding the_case word depth size (record { cert = cert; report = report; ending = ending })
   finding depth size a cert report ending answer has told printed =
       let c : Case = the_case in

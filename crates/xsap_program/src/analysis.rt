@@ -27,11 +27,7 @@ pub struct Analysing<'a> {
 }
 
 /// Writes the text, where there is one.
-fn write_maybe<D: Desk>(
-    desk: &mut D,
-    name: &str,
-    text: &Option<ByteList>,
-) -> Result<(), WriteStop>
+fn write_maybe<D: Desk>(desk: &mut D, name: &str, text: &Option<ByteList>) -> Result<(), WriteStop>
     ensures ok { OnOk result (D.files desk.new ≡ told_maybe (D.files desk.old) name.now text.now) }
     ensures err { OnErr result (WritesPrefixMaybe (D.files desk.old) (D.files desk.new) name.now text.now) }
     ensures said { D.said desk.new ≡ D.said desk.old }

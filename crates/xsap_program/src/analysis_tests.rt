@@ -31,8 +31,19 @@ fn holds(alloc: Global, row: &Row) -> Result<bool, OutOfMemory> {
     files.push(NamedFile::new(alloc, "f", b"")?)?;
     let mut desk = MemoryDesk::new(alloc, files, FailList::new(alloc));
     let words = [
-        "analyse", "--model", "m", "--faults", "f", "--top", row.top, "--depth", row.depth,
-        "--extended", "x", "--cert", "c",
+        "analyse",
+        "--model",
+        "m",
+        "--faults",
+        "f",
+        "--top",
+        row.top,
+        "--depth",
+        row.depth,
+        "--extended",
+        "x",
+        "--cert",
+        "c",
     ];
     let status = run(alloc, &words, &mut desk, Vec::new(alloc));
     let certified = desk.file("c").is_some();

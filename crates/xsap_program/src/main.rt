@@ -4,10 +4,12 @@
 //! [`run::run`] is the whole program over any desk: it reads the words and the files that they name, and
 //! writes and says the answer. Its contract says what a run comes to (`specs/Runs.antt`): the one line of
 //! the first refusal; the extension and its fault list; that a trace reaches the top event and what it
-//! has failed; or the analysis of a case; and what is left where the desk fails on the way. What words ask for stands in `specs/Asked.antt`, what is wrong with a file and what it holds stands in `specs/Inputs.antt`,
-//! top events in `specs/Cases.antt`, traces in `specs/Replays.antt`, analyses in `specs/Analyses.antt` and `specs/Headline.antt`, the numbers and lines of
-//! refusals in `specs/Wrongs.antt` and `specs/Statuses.antt`, and that the written file is the extension in
-//! `specs/Extension.antt`. `main` hands `run` the words of the command line and a desk over real files.
+//! has failed; or the analysis of a case; and what is left where the desk fails on the way. What words ask
+//! for stands in `specs/Asked.antt`, what is wrong with a file and what it holds stands in `specs/Inputs.antt`,
+//! top events in `specs/Cases.antt`, traces in `specs/Replays.antt`, analyses in `specs/Analyses.antt` and
+//! `specs/Headline.antt`, the numbers and lines of refusals in `specs/Wrongs.antt` and `specs/Statuses.antt`,
+//! and that the written file is the extension in `specs/Extension.antt`. `main` hands `run` the words of the
+//! command line, a desk over real files, and the advisers of the search.
 //!
 //! The files stand in the order of the work: `input` (a file's bytes), `model`
 //! (program, flat model, kinds), `faults` (instructions, the weave, the limits of the whole, as a text that

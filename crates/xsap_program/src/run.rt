@@ -313,12 +313,7 @@ fn prepare_analysis<'a, D: Desk>(
 }
 
 /// Writes and says what was made, or searches first.
-fn deliver<D: Desk>(
-    alloc: Global,
-    desk: &mut D,
-    done: &Prepared,
-    panel: &mut Panel,
-) -> Status
+fn deliver<D: Desk>(alloc: Global, desk: &mut D, done: &Prepared, panel: &mut Panel) -> Status
     requires { IsWorkable done.now }
     ensures done { IsAnswer result → IsDelivered (outcome_of done.now) result (D.files desk.old) (D.files desk.new) (D.said desk.old) (D.said desk.new) }
     ensures part { IsDeliveredInPart (outcome_of done.now) (D.files desk.old) (D.files desk.new) (D.said desk.old) (D.said desk.new) }
