@@ -1,8 +1,8 @@
 -- A case with a top event can be searched, and a complete answer certified.
-use Rattle.std.proofs.Common.{arith, ◌≡◌, ◌<◌, ◌≤◌, ◌^◌, ℕ, false, List, [], length, map, refl, sym, ap, subst, ◌∙◌}
+use Rattle.std.proofs.Common.{arith, ◌≡◌, ◌<◌, ◌≤◌, ◌^◌, [], length, map, subst, ◌∙◌}
 use Rattle.std.proofs.lemmas.List.{length-map}
 use Rattle.xs_tree.specs.Tree.{Tree}
-use Rattle.xs_tree.specs.ProgramTree.{Text, Formula, ProgramTree}
+use Rattle.xs_tree.specs.ProgramTree.{Text, ProgramTree}
 use Rattle.xs_scope.specs.ModelTree.{mode_of}
 use Rattle.xs_flattening.specs.Flat.{FlatLeaf}
 use Rattle.xs_kinds.specs.Models.{IsTyped}

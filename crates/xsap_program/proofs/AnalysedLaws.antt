@@ -3,13 +3,12 @@ use Rattle.std.proofs.Common.{◌≡◌, inl, inr, ℕ, List, [], ◌∷◌, Opt
 use Rattle.std.specs.Prelude.{codes}
 use Rattle.xs_desk.specs.declared.files.NamedFile.{NamedFile}
 use Rattle.xs_desk.specs.Files.{with_file}
-use Rattle.xs_desk.specs.Desk.{told_with}
 use Rattle.xs_tree.specs.ProgramTree.{Text}
 use Rattle.xs_words.specs.declared.choice.Kind.TheVariants as kind
 use Rattle.xs_words.specs.declared.verb.Verb.TheVariants as verb
-use Rattle.xs_words.specs.Commands.{Given, Command, analyse}
+use Rattle.xs_words.specs.Commands.{Given, analyse}
 use Rattle.xs_words.specs.Table.{Choice, options_of, kind_in}
-use Rattle.xs_words.specs.Meaning.{Each, Gives, SameFile, AreDifferent, Makes, analyses as makes_analysis, Means as WordsMean}
+use Rattle.xs_words.specs.Meaning.{Each, Gives, SameFile, AreDifferent, Makes, analyses as makes_analysis}
 use Rattle.xs_words.proofs.ReadingLaws.{one_command}
 use Rattle.xsap_program.specs.declared.status.Refusal.{Refusal}
 use Rattle.xsap_program.specs.declared.status.Refusal.TheVariants as refusal

@@ -1,5 +1,5 @@
 -- An extension in memory, as a case.
-use Rattle.std.proofs.Common.{◌≡◌, ℕ, List, [], ◌∷◌, map, sym, ap, subst, ◌∙◌}
+use Rattle.std.proofs.Common.{◌≡◌, ℕ, List, map, sym, ap, subst, ◌∙◌}
 use Rattle.xs_tree.specs.ProgramTree.{ProgramTree, program_tree}
 use Rattle.xs_tree.specs.Text.{program_text}
 use Rattle.xs_tree.proofs.Spelled.{program_writable}

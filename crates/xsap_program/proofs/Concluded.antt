@@ -1,20 +1,19 @@
 -- From what is written and said of an analysis to what stands, whole or in part.
-use Rattle.std.proofs.Common.{arith, ◌≡◌, ◌⊎◌, inl, inr, ◌≤◌, ℕ, List, Option, Some, None, Result, Ok, Err, IfOk, OnOk, length, take, refl, sym, ap, subst, ◌∙◌}
+use Rattle.std.proofs.Common.{arith, ◌≡◌, inl, inr, ◌≤◌, ℕ, List, Option, Some, None, Result, Ok, Err, IfOk, OnOk, length, refl, sym, ap, subst, ◌∙◌}
 use Rattle.std.proofs.Math.Seq.{take-length}
 use Rattle.xs_desk.specs.Desk.{told_with, WritesPrefix, SaysPrefix, said_more}
 use Rattle.xs_desk.specs.declared.desk.WriteStop.{WriteStop}
 use Rattle.xs_desk.specs.declared.desk.WriteStop.TheVariants as write_stop
-use Rattle.xs_tree.specs.ProgramTree.{Text, Formula, program_tree}
+use Rattle.xs_tree.specs.ProgramTree.{Text, program_tree}
 use Rattle.xs_tree.specs.Text.{program_text}
 use Rattle.xs_report.specs.Analysed.{told_ending}
-use Rattle.xs_reporting.specs.ExtendedTraces.{Ending, complete, bounded, Analysis}
+use Rattle.xs_reporting.specs.ExtendedTraces.{Ending, complete, bounded}
 use Rattle.xsap_program.specs.declared.search.Found.{Found}
 use Rattle.xsap_program.specs.declared.analysis.Analysing.{Analysing}
 use Rattle.xsap_program.specs.declared.status.Status.{Status}
-use Rattle.xsap_program.specs.declared.status.Status.TheVariants as status
 use Rattle.xsap_program.specs.Cases.{Case, extension_of}
 use Rattle.xsap_program.specs.Answered.{Told, Said, extension_text}
-use Rattle.xsap_program.specs.Analyses.{ended_with, AreWritten, report_of, HasAnalysed, AnalysesInPart, part_of_extension, part_of_certificate, part_of_report}
+use Rattle.xsap_program.specs.Analyses.{ended_with, AreWritten, HasAnalysed, AnalysesInPart, part_of_extension, part_of_certificate, part_of_report}
 use Rattle.xsap_program.specs.Searches.{IsCertifiedAs, IsFinding, analysed_case, told_maybe, WritesPrefixMaybe, ConcludesInPart, finished_as}
 use Rattle.xsap_program.specs.Runs.{IsAnswer}
 

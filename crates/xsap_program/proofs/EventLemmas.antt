@@ -11,7 +11,7 @@ use Rattle.xsap_program.specs.Cases.{Case, HoldsCase, IsWrongWord}
 use Rattle.xsap_program.specs.Events.{RefusesEvent, at_model, at_faults, at_top}
 use Rattle.xsap_program.specs.Analyses.{size_for}
 use Rattle.xsap_program.specs.Searches.{case_in, IsEvent}
-use Rattle.xsap_program.specs.Runs.{Outcome, refuses, analyses, AnalysisComesTo, refuses_event, is_analysed}
+use Rattle.xsap_program.specs.Runs.{refuses, analyses, AnalysisComesTo, refuses_event, is_analysed}
 
 module _ (model faults top : Text) where
   pub event_no_model : (told : Option (List NamedFile)) (r : Refusal) → IfSome told (λ files. RefusesModel files model r) → IfSome told (λ files. RefusesEvent files model faults top r)

@@ -1,6 +1,6 @@
 -- The names of the faults that a trace has failed, fault by fault.
-use Rattle.std.proofs.Common.{arith, ◌≡◌, suc, ◌-◌, ◌+◌, Bool, true, false, List, [], ◌∷◌, ◌++◌, length, refl, sym, ap, subst, ◌∙◌, append_assoc}
-use Rattle.std.specs.Prelude.{slice_get, codes, if◌then◌else◌}
+use Rattle.std.proofs.Common.{arith, ◌≡◌, suc, ◌-◌, Bool, true, false, List, [], ◌∷◌, ◌++◌, length, refl, sym, ap, subst, ◌∙◌, append_assoc}
+use Rattle.std.specs.Prelude.{slice_get, codes}
 use Rattle.std.proofs.lemmas.List.{length-append}
 use Rattle.xs_flattening.specs.History.{Mode}
 use Rattle.xs_flattening.specs.FlatTrace.{stands_in_some}

@@ -1,7 +1,5 @@
 -- From the answer of a search to the analysis of a case, its report and its certificate.
-use Rattle.std.proofs.Common.{arith, ◌≡◌, ◌<◌, ◌≤◌, ◌^◌, ℕ, Bool, List, [], ◌∷◌, ◌++◌, Option, Some, None, length, map, refl, sym, ap, subst, ◌∙◌}
-use Rattle.std.specs.Prelude.{codes}
-use Rattle.std.specs.Fmt.{decimal}
+use Rattle.std.proofs.Common.{arith, ◌≡◌, ◌<◌, ◌≤◌, ◌^◌, ℕ, Bool, List, [], ◌∷◌, Option, Some, None, length, map, refl, sym, ap, subst, ◌∙◌}
 use Rattle.std.proofs.Math.Nat.{min-le_right}
 use Rattle.std.proofs.lemmas.List.{length-map}
 use Rattle.xs_tree.specs.Tree.{Tree}
@@ -9,7 +7,6 @@ use Rattle.xs_tree.specs.ProgramTree.{Text, Formula, ProgramTree}
 use Rattle.xs_tree.specs.Values.{Value}
 use Rattle.xs_value.specs.declared.value.Value.{Value as Numbered}
 use Rattle.xs_kinds.specs.Costs.{state_bits}
-use Rattle.xs_lines.specs.Lines.{Line}
 use Rattle.xs_scope.specs.ModelTree.{model_tree, mode_of}
 use Rattle.xs_scope.specs.declared.model.FlatModel.{FlatModel as Made}
 use Rattle.xs_flattening.specs.Flat.{FlatLeaf, FlatModel}
@@ -18,8 +15,6 @@ use Rattle.xs_encoding.specs.Bits.{state_of, inputs_of}
 use Rattle.xs_encoding.specs.Lists.{system_of}
 use Rattle.xs_encoded_search.specs.Searchable.{IsSearchable}
 use Rattle.xs_extend.specs.WovenFaults.{fault_tree}
-use Rattle.xs_extend.specs.declared.faults.WovenFault.{WovenFault}
-use Rattle.xs_scope.specs.declared.model.Fault.{Fault as FaultOf}
 use Rattle.xs_trace_text.specs.TraceText.{trace_lines}
 use Rattle.xs_trace_text.specs.Given.{GivesTrace}
 use Rattle.xs_cert.specs.Seen.{seen}
@@ -42,16 +37,14 @@ use Rattle.xs_cuts_extended.specs.Answered as found
 use Rattle.xs_cuts_extended.specs.Answered.{ending_of, analysis_of}
 use Rattle.xs_cuts_extended.proofs.Analyses.{answers_are_analyses}
 use Rattle.xs_cuts_extended.proofs.Printed.{answers_printed}
-use Rattle.xs_reporting.specs.ExtendedTraces.{Ending, complete, bounded, Analysis, IsAnalysisOf}
+use Rattle.xs_reporting.specs.ExtendedTraces.{Ending, complete, bounded, Analysis}
 use Rattle.xs_reporting.specs.AnalysisText.{analysis_text}
 use Rattle.xsap_program.specs.declared.loaded.LoadedCase.{LoadedCase}
-use Rattle.xsap_program.specs.declared.search.Found.{Found}
 use Rattle.xsap_program.specs.Cases.{Case, whole_of}
 use Rattle.xsap_program.specs.Tasks.{IsTopTree}
-use Rattle.xsap_program.specs.Inputs.{path_of, AreListed}
 use Rattle.xsap_program.specs.Loaded.{case_of}
-use Rattle.xsap_program.specs.Answered.{faults_text, bits_of}
-use Rattle.xsap_program.specs.Analyses.{size_for, EndsBy, IsFound, IsCertificateFor, report_of}
+use Rattle.xsap_program.specs.Answered.{faults_text}
+use Rattle.xsap_program.specs.Analyses.{size_for, EndsBy, IsCertificateFor, report_of}
 use Rattle.xsap_program.specs.Searches.{IsAnalysable, IsSearched, HasCertificate, IsCertifiedAs, IsFinding}
 use Rattle.xsap_program.proofs.Analysable.{model_of_case, case_searchable, case_counts}
 use Rattle.xsap_program.proofs.ListedLaws.{are_listed, named_lines}

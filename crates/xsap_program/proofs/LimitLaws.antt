@@ -1,5 +1,5 @@
 -- An extension of a lawful program by instructions that are taken breaks no rule but a limit.
-use Rattle.std.proofs.Common.{◌≡◌, ℕ, List, [], ◌∷◌, map, Option, Some, None, inl, inr, refl, sym, ap, subst, ◌∙◌}
+use Rattle.std.proofs.Common.{◌≡◌, List, [], ◌∷◌, map, Option, Some, None, inl, inr, refl, sym, ap, subst, ◌∙◌}
 use Rattle.std.specs.Prelude.{flat_map}
 use Rattle.xs_tree.specs.ProgramTree.{ModuleTree, ProgramTree}
 use Rattle.xs_tree.specs.Scope.{Place, module_at}
@@ -14,11 +14,11 @@ use Rattle.xs_weave.proofs.Added.{contains_among}
 use Rattle.xs_flattening.specs.Flat.{FlatModel}
 use Rattle.xs_flattening.specs.History.{Mode}
 use Rattle.xs_flattening.specs.Model.{IsVariableNumber, EachBoth}
-use Rattle.xs_flattening.specs.Rules.{Rule, too_many, IsFirstBroken, IsAccepted}
+use Rattle.xs_flattening.specs.Rules.{too_many, IsFirstBroken, IsAccepted}
 use Rattle.xs_flattening.proofs.Conditions.{each_flat}
 use Rattle.xs_flattening.proofs.Lists.{each_more}
 use Rattle.xs_flattening.proofs.Walkable.{accepted_walkable}
-use Rattle.xs_kinds.specs.Judged.{KindRule, too_large}
+use Rattle.xs_kinds.specs.Judged.{too_large}
 use Rattle.xs_kinds.specs.Models.{IsFault}
 use Rattle.xs_extending.specs.Uses.{uses}
 use Rattle.xs_extending.specs.Expressions.{KeepsNames, KeepsUse}

@@ -1,5 +1,5 @@
 -- What the files and the top event of a replay come to is one.
-use Rattle.std.proofs.Common.{arith, ◌≡◌, inl, inr, ◌<◌, ◌≤◌, ℕ, List, [], length, Option, Some, None, unwrap_or, sym, ap, subst, ◌∙◌}
+use Rattle.std.proofs.Common.{arith, ◌≡◌, inl, inr, ◌<◌, ℕ, List, [], length, Option, Some, None, unwrap_or, sym, ap, subst, ◌∙◌}
 use Rattle.xs_desk.specs.declared.files.NamedFile.{NamedFile}
 use Rattle.xs_desk.specs.Files.{file_of, content_of}
 use Rattle.xs_tree.specs.ProgramTree.{Text}

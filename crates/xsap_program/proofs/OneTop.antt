@@ -1,5 +1,5 @@
 -- What is wrong with the word of a top event is one thing, and nothing is where it spells one.
-use Rattle.std.proofs.Common.{arith, ◌≡◌, ⊎_elim, ◌<◌, ℕ, false, List, [], Option, Some, None, sym, ap, subst, ◌∙◌}
+use Rattle.std.proofs.Common.{arith, ◌≡◌, ⊎_elim, ℕ, false, List, [], Option, Some, None, sym, ap, subst, ◌∙◌}
 use Rattle.std.proofs.lemmas.Bool.{cases_lt}
 use Rattle.xs_lexer.specs.declared.token.Token.{Token}
 use Rattle.xs_lexer.specs.Tokens.{HasTokens}

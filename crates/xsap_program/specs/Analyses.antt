@@ -1,6 +1,6 @@
 -- What an analysis is, and what stands after it. Its report and certificate may be one of many texts, since the shown traces and
 -- the invariant are free: so what answers is a relation between a case and what stands.
-use Rattle.std.specs.Prelude.{◌≡◌, ◌⊎◌, ℕ, List, Option, Some, None, map, length, min}
+use Rattle.std.specs.Prelude.{◌≡◌, ℕ, List, Option, Some, None, map, length, min}
 use Rattle.xs_desk.specs.Desk.{told_with, said_more, SaysPrefix, WritesPrefix}
 use Rattle.xs_tree.specs.Tree.{Tree}
 use Rattle.xs_tree.specs.ProgramTree.{Text, Formula}

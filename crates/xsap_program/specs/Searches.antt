@@ -5,7 +5,7 @@ use Rattle.xs_desk.specs.declared.desk.WriteStop.{WriteStop}
 use Rattle.xs_desk.specs.declared.desk.WriteStop.TheVariants as stop
 use Rattle.xs_tree.specs.Tree.{Tree}
 use Rattle.xs_tree.specs.ProgramTree.{Text, Formula, ProgramTree, program_tree}
-use Rattle.xs_scope.specs.ModelTree.{model_tree, mode_of, flat_tree}
+use Rattle.xs_scope.specs.ModelTree.{flat_tree}
 use Rattle.xs_flattening.specs.Flat.{FlatLeaf, FlatModel}
 use Rattle.xs_flattening.specs.History.{Mode, with_history}
 use Rattle.xs_encoded.specs.Laws.{AreOwn}

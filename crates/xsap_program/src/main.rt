@@ -36,8 +36,6 @@ use xs_adviser::{Active, Adviser, InOrder};
 use xs_value::OutOfMemory;
 
 pub mod analysis;
-#[cfg(test)]
-mod analysis_tests;
 pub mod event;
 pub mod faults;
 pub mod input;
@@ -80,20 +78,17 @@ fn status_of(rt: HostRuntime, alloc: Global, words: &[String]) -> Status {
         .map(|word| word.as_str())
         .collect::<Vec<&str>>(alloc)
     {
-        Ok(words) => match advisers(alloc) {
-            Ok(advisers) => run(alloc, &words, &mut RealDesk::new(rt), advisers),
-            Err(OutOfMemory) => Status::Memory,
-        },
+        Ok(words) => advised(rt, alloc, &words).unwrap_or(Status::Memory),
         Err(AllocError) => Status::Memory,
     }
 }
 
-/// The advisers of a run: in the order of the variables, and by how often clauses failed.
-fn advisers(alloc: Global) -> Result<Vec<Box<dyn Adviser>>, OutOfMemory> {
+/// How a run ends that two advisers serve: one in the order of the variables, one by how often clauses failed.
+fn advised(rt: HostRuntime, alloc: Global, words: &[&str]) -> Result<Status, OutOfMemory> {
     let mut advisers: Vec<Box<dyn Adviser>> = Vec::new(alloc);
     advisers.push(Box::new(alloc, InOrder::new())?)?;
     advisers.push(Box::new(alloc, Active::new(alloc))?)?;
-    Ok(advisers)
+    Ok(run(alloc, words, &mut RealDesk::new(rt), advisers))
 }
 
 /// The number of a status, as the system takes it.

@@ -1,6 +1,3 @@
-use Rattle.std.proofs.Common.{◌≡◌, IfOk, inl, sym, ap, ◌∙◌}
-use Rattle.xs_desk.specs.Desk.{told_with}
-use Rattle.xs_tree.specs.Text.{program_text}
 use Rattle.xsap_program.specs.Answered.{extension_text}
 use Rattle.xsap_program.specs.Searches.{analysed_case}
 use Rattle.xsap_program.specs.Analyses.{part_of_extension}

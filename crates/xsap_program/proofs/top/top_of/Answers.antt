@@ -1,4 +1,4 @@
-use Rattle.std.proofs.Common.{[], false, sym, subst, ◌∙◌}
+use Rattle.std.proofs.Common.{[], false, sym, subst}
 use Rattle.std.proofs.lemmas.Result.{err_from_is_err_and, IfOk-weaker, IfErr-weaker}
 use Rattle.xs_tree.specs.ProgramTree.{program_tree}
 use Rattle.xs_tree.specs.Written.{tree_of}
