@@ -3,7 +3,7 @@ use Rattle.xsap_program.proofs.Findings.{complete_answer, certificate_for}
 use Rattle.xsap_program.proofs.search.certificate_text.Goals as goal
 
 pub certify-requires-clause-model : goal.certify-requires-clause-model
-certify-requires-clause-model g c = record { own = c.requires.searched.own; encodable = c.requires.searched.encodable; fits = c.requires.searched.fits }
+certify-requires-clause-model g c = record { encodable = c.requires.searched.encodable; fits = c.requires.searched.fits }
 
 pub certify-requires-clause-answer : goal.certify-requires-clause-answer
 certify-requires-clause-answer g c = complete_answer _ _ _ c.args.depth c.args.a.now c.requires.searched c.requires.complete
