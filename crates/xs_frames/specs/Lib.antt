@@ -7,6 +7,7 @@ pub mod Numbered
 pub mod Bits
 pub mod Path
 pub mod Query
+pub mod Guards
 pub mod Looked
 pub mod Advance
 pub mod FramesRecord
