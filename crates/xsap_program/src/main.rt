@@ -31,6 +31,7 @@ use xs_adviser::{Active, Adviser, InOrder};
 use xs_value::OutOfMemory;
 
 pub mod analysis;
+pub mod certificate;
 pub mod event;
 pub mod faults;
 pub mod input;
