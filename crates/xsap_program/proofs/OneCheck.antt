@@ -21,6 +21,7 @@ use Rattle.xsap_program.specs.Cases.{Case, extension_of, HoldsCase, IsTopWord}
 use Rattle.xsap_program.specs.Tasks.{HasAtMost, IsTopTree}
 use Rattle.xsap_program.specs.Answered.{check_text}
 use Rattle.xsap_program.specs.Certificates.{text_fault, IsWrongText, a_bad_line, a_missing_line, RefusesCertificate, certificate_file, certificate_bytes, HoldsCertificate, subject_in, RefusesLine, at_line, IsAcceptedFor, CertRefuses, no_certificate, not_accepted, CertSays, CheckRefuses, no_event, its_certificate, CheckSays}
+use Rattle.xsap_program.specs.Runs.{Outcome, refuses, says, CheckComesTo, refuses_check, is_checked}
 use Rattle.xsap_program.proofs.OneCase.{one_case}
 use Rattle.xsap_program.proofs.OneEvent.{one_refused_event, event_not_refused}
 use Rattle.xsap_program.proofs.OneReplay.{no_bytes_within, one_fault_above, same_bytes_within}
@@ -117,3 +118,9 @@ module _ (files : List NamedFile) (model faults top cert : Text) where
   one_check_report report other h g =
       one_cert_report files h.c h.tree cert report other h.says
       (moved (λ k v. CertSays files k v cert other) h.c g.c h.event g.event h.tree g.tree h.holds h.is_event h.is_tree g.holds g.is_event g.is_tree g.says)
+
+  pub check_comes_to_one : (o q : Outcome) → CheckComesTo files model faults top cert o → CheckComesTo files model faults top cert q → o ≡ q
+  check_comes_to_one o q (refuses_check r bad) (refuses_check s also) = ap refuses (one_check_refusal r s bad also)
+  check_comes_to_one o q (refuses_check r bad) (is_checked report h) = absurd (check_not_refused report r h bad)
+  check_comes_to_one o q (is_checked report h) (refuses_check s bad) = absurd (check_not_refused report s h bad)
+  check_comes_to_one o q (is_checked report h) (is_checked other g) = ap says (one_check_report report other h g)

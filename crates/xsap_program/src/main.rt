@@ -4,19 +4,20 @@
 //! writes and says the answer. Its contract says what a run comes to (`specs/Runs.antt`): the one line of
 //! the first refusal; the extension and its fault list; or that a trace reaches the top event and what it
 //! has failed; and what is left where the desk fails on the way. What words ask for stands in `specs/Asked.antt`, what is wrong with a file and what it holds stands in `specs/Inputs.antt`,
-//! top events in `specs/Cases.antt`, traces in `specs/Replays.antt`, the numbers and lines of
+//! top events in `specs/Cases.antt`, traces in `specs/Replays.antt`, certificates in `specs/Certificates.antt`, the numbers and lines of
 //! refusals in `specs/Wrongs.antt` and `specs/Statuses.antt`, and that the written file is the extension in
 //! `specs/Extension.antt`. `main` hands `run` the words of the command line and a desk over real files.
 //!
 //! The files stand in the order of the work: `input` (a file's bytes), `model`
 //! (program, flat model, kinds), `faults` (instructions, the weave, the limits of the whole, as a text that
 //! is written), `loaded` (the same, with the flat model in memory), `top` (the top event), `trace` (the file
-//! of a trace), `replay` (what a trace comes to), `report` (what is said) and `run`. `wrong` and `status`
+//! of a trace), `replay` (what a trace comes to), `certificate` (what a certificate comes to), `report` (what is said) and `run`. `wrong` and `status`
 //! have what each refusal says.
 //!
 //! ```text
 //! xsap_program extend --model lamp.smv --faults lamp.fei --extended out.smv
 //! xsap_program replay --model lamp.smv --faults lamp.fei --trace dark.trace --top '!on'
+//! xsap_program check --model lamp.smv --faults lamp.fei --top '!on' --cert lamp.cert
 //! ```
 #![tactic(auto)]
 
