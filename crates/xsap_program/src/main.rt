@@ -33,6 +33,8 @@ use xs_value::OutOfMemory;
 
 pub mod analysis;
 pub mod certificate;
+#[cfg(test)]
+mod check_tests;
 pub mod event;
 pub mod faults;
 pub mod input;
