@@ -1,18 +1,17 @@
 -- What is accepted is right for all extended traces, and what was loaded can be judged.
-use Rattle.std.proofs.Common.{arith, ◌≡◌, ◌<◌, ◌≤◌, ◌^◌, ℕ, List, Option, Some, None, IfSome, length, map, refl, sym, ap, subst, ◌∙◌}
+use Rattle.std.proofs.Common.{arith, ◌≡◌, ◌<◌, ◌≤◌, ◌^◌, ℕ, List, Option, Some, None, IfSome, length, map, sym, ap, subst, ◌∙◌}
 use Rattle.xs_desk.specs.declared.files.NamedFile.{NamedFile}
 use Rattle.xs_desk.specs.Desk.{said_more}
 use Rattle.xs_tree.specs.Tree.{Tree}
-use Rattle.xs_tree.specs.ProgramTree.{Text, Formula, ProgramTree}
+use Rattle.xs_tree.specs.ProgramTree.{Text}
 use Rattle.xs_tree.specs.Values.{Value}
 use Rattle.xs_scope.specs.ModelTree.{model_tree, mode_of, flat_tree}
 use Rattle.xs_flattening.specs.Flat.{FlatLeaf}
 use Rattle.xs_flattening.specs.FlatTrace.{IsFlatTrace}
 use Rattle.xs_encoded.specs.FlatTraces.{ReachesTop, HasFailedNumber}
 use Rattle.xs_trace_text.specs.Given.{GivesTrace}
-use Rattle.xs_cert.specs.declared.certificate.CertFault.{CertFault}
 use Rattle.xs_certificate.specs.Certificate.{Certificate}
-use Rattle.xs_certificate.specs.CertificateText.{SpellsCertificate, IsBadLine, EndsBefore}
+use Rattle.xs_certificate.specs.CertificateText.{SpellsCertificate}
 use Rattle.xs_certificate.specs.Accepted.{IsAccepted, IsObjection}
 use Rattle.xs_certified.specs.Completeness.{Certifies}
 use Rattle.xs_certified.proofs.Completeness.{certified_completeness, certified_minimal}
@@ -20,8 +19,7 @@ use Rattle.xs_subject.specs.Subject.{subject_of}
 use Rattle.xs_subject.proofs.Subjects.{subjects_right}
 use Rattle.xs_check.specs.Matter.{matter_of, IsAcceptedIn}
 use Rattle.xs_check.specs.Found.{IsObjectionOf}
-use Rattle.xs_check.specs.Fit.{IsFit, IsCheckable}
-use Rattle.xs_check.proofs.Spelled.{spelled_checkable}
+use Rattle.xs_check.specs.Fit.{IsFit, IsCheckable, SpelledAreCheckable}
 use Rattle.xsap_program.specs.declared.status.InputFault.{InputFault}
 use Rattle.xsap_program.specs.declared.status.Objection.TheVariants as objection
 use Rattle.xsap_program.specs.declared.status.Refusal.{Refusal}
@@ -31,7 +29,7 @@ use Rattle.xsap_program.specs.Cases.{Case}
 use Rattle.xsap_program.specs.Tasks.{IsRefusedAbove, HasAtMost}
 use Rattle.xsap_program.specs.Answered.{Said, check_text}
 use Rattle.xsap_program.specs.Searches.{case_in}
-use Rattle.xsap_program.specs.Certificates.{text_fault, IsWrongText, a_bad_line, a_missing_line, RefusesCertificate, certificate_file, certificate_bytes, HoldsCertificate, subject_in, RefusesLine, at_line, IsAcceptedFor, CertRefuses, no_certificate, not_accepted, CertSays, CheckSays, IsChecked, IsSomeEvent}
+use Rattle.xsap_program.specs.Certificates.{IsWrongText, RefusesCertificate, certificate_file, certificate_bytes, HoldsCertificate, subject_in, RefusesLine, at_line, IsAcceptedFor, CertRefuses, no_certificate, not_accepted, CertSays, CheckSays, IsChecked, IsSomeEvent}
 use Rattle.xsap_program.proofs.Analysable.{case_searchable}
 use Rattle.xsap_program.proofs.ReplayLemmas.{loaded_printable, loaded_symbols, loaded_evaluable}
 use Rattle.xsap_program.proofs.ReplayedLaws.{extension_model}
@@ -137,10 +135,10 @@ module _ (told : Option (List NamedFile)) (name : Text) where
         at_told None has = tt
         at_told (Some files) has = record { bytes = bytes; has = has; spells = spells }
 
-pub short_is_checkable : (bytes : List ℕ) (a : Certificate) → length bytes ≤ 268435456 → SpellsCertificate bytes a → IsCheckable a
-short_is_checkable bytes a short spells =
+pub short_is_checkable : SpelledAreCheckable → (bytes : List ℕ) (a : Certificate) → length bytes ≤ 268435456 → SpellsCertificate bytes a → IsCheckable a
+short_is_checkable law bytes a short spells =
     let limit : 268435456 < 2 ^ 32 = omega arith in
-    spelled_checkable bytes a (omega (arith, short, limit)) spells
+    law bytes a (omega (arith, short, limit)) spells
 
 -- What the file comes to.
 module _ (told : Option (List NamedFile)) (c : Case) (tree : Tree FlatLeaf) (name : Text) where

@@ -93,10 +93,6 @@ too_long = record { part = part.Length; number = 1; place = 1048576 }
 abbrev pub trace_too_long : InputFault
 trace_too_long = record { part = part.Length; number = 1; place = 16777216 }
 
--- the certificate's file has more than 268,435,456 bytes
-abbrev pub cert_too_long : InputFault
-cert_too_long = record { part = part.Length; number = 1; place = 268435456 }
-
 -- the text of a top event has more than 65,536 bytes
 abbrev pub top_too_long : InputFault
 top_too_long = record { part = part.Length; number = 1; place = 65536 }

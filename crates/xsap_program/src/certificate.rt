@@ -19,7 +19,7 @@ use crate::input::Stop;
 use crate::status::{InputFault, Objection, Part, Refusal};
 use std::alloc::Global;
 use xs_cert::{CertFault, Certificate, read};
-use xs_check::{Judged, check};
+use xs_check::{Judged, check, spelled_are_checkable};
 use xs_desk::{Desk, DeskFault, read_whole};
 use xs_value::{ByteList, OutOfMemory};
 
@@ -68,6 +68,8 @@ fn load_certificate<D: Desk>(alloc: Global, desk: &mut D, name: &str) -> Result<
     ensures quiet { D.quiet desk.old → D.quiet desk.new × (D.faults desk.new ≡ D.faults desk.old) }
 {
     let bytes = read_certificate_file(alloc, desk, name)?;
+    // The law by which what is read can be judged.
+    spelled_are_checkable();
     match read(alloc, &bytes) {
         Ok(certificate) => Ok(certificate),
         Err(CertFault::BadLine(line)) => Err(cert_stop(Part::Read, 1, line)),

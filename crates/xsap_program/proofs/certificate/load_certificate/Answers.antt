@@ -21,16 +21,16 @@ returns-in-Ok-clause-ok g c =
 
 pub returns-in-Ok-clause-checkable : goal.returns-in-Ok-clause-checkable
 returns-in-Ok-clause-checkable g c =
-    short_is_checkable c.in_ok-bytes.bytes.items (seen c.in-Ok.certificate) c.in_ok-bytes.ensures.short (subst (λ b. SpellsCertificate b (seen c.in-Ok.certificate)) c.deref.ensures.value c.in-Ok.ensures.ok)
+    short_is_checkable c.spelled_are_checkable.ensures c.in_ok-bytes.bytes.items (seen c.in-Ok.certificate) c.in_ok-bytes.ensures.short (subst (λ b. SpellsCertificate b (seen c.in-Ok.certificate)) c.deref.ensures.value c.in-Ok.ensures.ok)
 
 pub returns-in-Err-BadLine-clause-refused : goal.returns-in-Err-BadLine-clause-refused
 returns-in-Err-BadLine-clause-refused g c r e =
     let n = c.in-Err-BadLine.line in
     refuses_certificate_text _ _ c.in_ok-bytes.bytes.items c.in_ok-bytes.ensures.bytes r (text_fault 1 n) (same_refusal (sym c.cert_stop.ensures ∙ same_error e))
-    (a_bad_line n refl (subst (λ b. IsBadLine b n) c.deref.ensures.value (c.in-Err-BadLine.ensures.bad n refl)))
+    (a_bad_line n refl (subst (λ b. IsBadLine b n) c.deref.ensures.value (c.read.ensures.bad n (c.in-Err-BadLine.is ∙ ap Err c.in-Err-BadLine.field-0-is))))
 
 pub returns-in-Err-Ends-clause-refused : goal.returns-in-Err-Ends-clause-refused
 returns-in-Err-Ends-clause-refused g c r e =
     let n = c.in-Err-Ends.line in
     refuses_certificate_text _ _ c.in_ok-bytes.bytes.items c.in_ok-bytes.ensures.bytes r (text_fault 2 n) (same_refusal (sym c.cert_stop-in-Err-Ends.ensures ∙ same_error e))
-    (a_missing_line n refl (subst (λ b. EndsBefore b n) c.deref.ensures.value (c.in-Err-Ends.ensures.ends n refl)))
+    (a_missing_line n refl (subst (λ b. EndsBefore b n) c.deref.ensures.value (c.read.ensures.ends n (c.in-Err-Ends.is ∙ ap Err c.in-Err-Ends.field-0-is))))
