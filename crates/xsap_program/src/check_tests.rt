@@ -76,6 +76,7 @@ fn certificates_are_judged(rt: HostRuntime) -> Result<(), OutOfMemory> {
     let mut desk = desk_of(alloc, b"")?;
     let status = run(alloc, &words, &mut desk, Vec::new(alloc));
     assert!(rt; status.number() == 6);
-    assert!(rt; desk.said() == b"refused cert absent 1 at 0\n");
+    let absent: &[u8] = b"refused cert absent 1 at 0\n";
+    assert!(rt; desk.said() == absent);
     Ok(())
 }
