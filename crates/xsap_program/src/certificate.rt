@@ -48,11 +48,7 @@ pub(crate) fn check_file<D: Desk>(
 {
     let certificate = load_certificate(alloc, desk, name)?;
     judge_certificate(alloc, loaded, &certificate)?;
-    Ok(accepted_report(
-        alloc,
-        certificate.size,
-        loaded.case.limited.faults.len(),
-    )?)
+    Ok(accepted_report(alloc, certificate.size, loaded.case.limited.faults.len())?)
 }
 
 /// The certificate that the file spells.
@@ -79,11 +75,7 @@ fn load_certificate<D: Desk>(alloc: Global, desk: &mut D, name: &str) -> Result<
 }
 
 /// The bytes of the file of a certificate.
-fn read_certificate_file<D: Desk>(
-    alloc: Global,
-    desk: &mut D,
-    name: &str,
-) -> Result<Vec<u8>, Stop>
+fn read_certificate_file<D: Desk>(alloc: Global, desk: &mut D, name: &str) -> Result<Vec<u8>, Stop>
     ensures bytes { IfOk result (λ bytes. IfSome (D.files desk.old) (λ files. HasAtMost 268435456 files name.now bytes.items)) }
     ensures short { IfOk result (λ bytes. length bytes.items ≤ 268435456) }
     ensures refused { (r : Refusal) → IsErrOf result (stop.Refused r) →

@@ -68,7 +68,8 @@ fn certificates_are_judged(rt: HostRuntime) -> Result<(), OutOfMemory> {
     assert!(rt; checks(alloc, none.as_slice(), 0, b"accepted\nsize 0\n")?);
     assert!(rt; checks(alloc, b"", 6, b"refused cert read 2 at 1\n")?);
     assert!(rt; checks(alloc, b"set 1\n", 6, b"refused cert read 1 at 1\n")?);
-    let foreign: &[u8] = b"xsap-certificate 1\nbits 1 faults 9\nsets 0\ninvariant 0\nfirst 0\nnext 0\nbad 0\nend\n";
+    let foreign: &[u8] =
+        b"xsap-certificate 1\nbits 1 faults 9\nsets 0\ninvariant 0\nfirst 0\nnext 0\nbad 0\nend\n";
     assert!(rt; checks(alloc, foreign, 6, b"not accepted line 2 rule 1\n")?);
     let words = [
         "check", "--model", "m", "--faults", "f", "--top", "!on", "--cert", "z",
