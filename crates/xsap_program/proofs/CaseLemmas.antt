@@ -51,4 +51,5 @@ is_loaded p bytes i w l spelled text taken faults program limited =
       program = ap (λ v. program_tree v.program) kept ∙ program;
       numbered = subst (λ v. AreNumbered l.typed.model v.faults l.faults) (sym kept) limited.numbered;
       writable = program_writable (program_text extension) extension (woven_text_spells spelled.bytes bytes p (instruction_tree i) spelled.spelled text.spelled);
+      full = limited.full;
     }

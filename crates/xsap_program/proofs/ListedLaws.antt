@@ -14,6 +14,7 @@ use Rattle.xs_report.specs.FaultText as lines
 use Rattle.xs_report.specs.FaultText.{name_of}
 use Rattle.xsap_program.specs.Reports.{parts_text, place_text, fault_lines, report_text}
 use Rattle.xsap_program.specs.Inputs.{path_of, AreListed}
+use Rattle.xsap_program.specs.Answered.{faults_text}
 
 pub are_listed : (m : FlatModel) (ws : List WovenFault) (fs : List Fault) → AreNumbered m ws fs → AreListed ws fs
 are_listed m [] [] h = refl
@@ -56,3 +57,7 @@ pub report_is : (ws : List WovenFault) (fs : List Fault) → AreListed ws fs →
 report_is ws fs listed =
     ap (λ names. lines.faults_text names ++ codes "extended\n") listed
     ∙ pieces (codes "faults ") (decimal (length (map path_of ws))) (codes "\n") (lines.fault_lines 1 (map path_of ws)) (codes "extended\n") ∙ named_report ws
+
+-- the number and the lines of faults alone
+pub named_lines : (ws : List WovenFault) (fs : List Fault) → AreListed ws fs → lines.faults_text (map name_of fs) ≡ faults_text (map fault_tree ws)
+named_lines ws fs listed = ap lines.faults_text listed ∙ (λ j. codes "faults " ++ (decimal (counts ws j) ++ (codes "\n" ++ lines_are 1 ws j)))

@@ -44,7 +44,7 @@ use Rattle.xsap_program.proofs.OneOutcome.{one_outcome}
 use Rattle.xsap_program.proofs.TopLaws.{have_models}
 
 -- the modes of faults, as the layer below says it
-modes_of_faults : (m : FlatModel) (faults : List Fault) (modes : List Mode) → EachBoth (IsModeOf m) faults modes → EachBoth (IsModeOfFault m) faults modes
+pub modes_of_faults : (m : FlatModel) (faults : List Fault) (modes : List Mode) → EachBoth (IsModeOf m) faults modes → EachBoth (IsModeOfFault m) faults modes
 modes_of_faults m [] [] h = tt
 modes_of_faults m [] (mode ∷ modes) h = absurd h
 modes_of_faults m (fault ∷ faults) [] h = absurd h

@@ -1,7 +1,7 @@
--- What the words of a command line ask for: an extension, a replay, a command that is not built yet, or none.
-use Rattle.std.specs.Prelude.{List}
+-- What the words of a command line ask for: an extension, a replay, an analysis, a command that is not built yet, or none.
+use Rattle.std.specs.Prelude.{ℕ, List, Option}
 use Rattle.xs_words.specs.declared.fault.WordFault.{WordFault}
-use Rattle.xs_words.specs.Commands.{Text, Command, extend, replay}
+use Rattle.xs_words.specs.Commands.{Text, Command, extend, replay, analyse}
 use Rattle.xs_words.specs.Meaning.{Means, BreaksFirst}
 use Rattle.xs_words.specs.Seen.{rule_of, place_of}
 use Rattle.xsap_program.specs.declared.status.Built.TheVariants as built
@@ -16,10 +16,16 @@ AsksToExtend words model faults extended = Means words (extend model faults exte
 abbrev pub AsksToReplay : List Text → Text → Text → Text → Text → Type 0
 AsksToReplay words model faults trace top = Means words (replay model faults trace top)
 
--- every verb but `extend` and `replay`
+-- the words ask to analyse the extension of the model by the instructions for a top event, by so many steps and of at most so many
+-- faults where a size is given, into a file for the extension and one for a certificate
+abbrev pub AsksToAnalyse : List Text → (model faults top : Text) → ℕ → (extended cert : Text) → Option ℕ → Type 0
+AsksToAnalyse words model faults top depth extended cert size = Means words (analyse model faults top depth extended cert size)
+
+-- every verb but `extend`, `replay` and `analyse`
 abbrev pub IsNotBuilt : Command → Type 0
 IsNotBuilt (extend model faults extended) = ⊥
 IsNotBuilt (replay model faults trace top) = ⊥
+IsNotBuilt (analyse model faults top depth extended cert size) = ⊥
 IsNotBuilt _ = Unit {0}
 
 -- the words are refused: by the rule that they break first, or since they mean a command that is not built

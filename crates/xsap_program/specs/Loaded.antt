@@ -5,6 +5,7 @@ use Rattle.xs_tree.specs.Tree.{Tree}
 use Rattle.xs_tree.specs.ProgramTree.{Text, Formula, ProgramTree, program_tree}
 use Rattle.xs_scope.specs.ModelTree.{model_tree, mode_of}
 use Rattle.xs_flattening.specs.Flat.{FlatLeaf, FlatModel}
+use Rattle.xs_flattening.specs.History.{with_history}
 use Rattle.xs_fei.specs.Instructions.{instruction_tree}
 use Rattle.xs_kinds.specs.Laws.{ReadsOwn}
 use Rattle.xs_kinds.specs.Models.{judged_in, broken_condition}
@@ -26,7 +27,7 @@ use Rattle.xsap_program.specs.declared.loaded.Limited.{Limited}
 use Rattle.xsap_program.specs.Models.{IsModelOf}
 use Rattle.xsap_program.specs.Wholes.{BreaksKinds, IsWrongWhole, IsWithinLimits}
 use Rattle.xsap_program.specs.Inputs.{HasBytes, IsInstructionText}
-use Rattle.xsap_program.specs.Cases.{Case, IsCase, IsTopWord}
+use Rattle.xsap_program.specs.Cases.{Case, whole_of, IsCase, IsTopWord}
 use Rattle.xsap_program.specs.Tasks.{IsTopTree}
 
 -- the extension of a program, as a case
@@ -40,12 +41,14 @@ case_of p l =
       modes = map mode_of l.limited.faults;
     }
 
--- it is one, the program in memory is the woven one, and its faults have their numbers in the flat model
+-- it is one, the program in memory is the woven one, its faults have their numbers in the flat model, and the one with history is
+-- in memory too
 pub record IsLoaded (p : ProgramTree) (l : LoadedCase) : Type 0 where
   pub is_case : IsCase (case_of p l)
   pub program : program_tree l.limited.woven.program ≡ woven p (instruction_tree l.instructions)
   pub numbered : AreNumbered l.limited.typed.model l.limited.woven.faults l.limited.faults
   pub writable : IsWritableProgram (woven p (instruction_tree l.instructions))
+  pub full : model_tree l.limited.full.model ≡ whole_of (case_of p l)
 
 -- the bytes spell its instructions
 abbrev pub IsLoadedFrom : List ℕ → LoadedCase → Type 0
@@ -64,6 +67,7 @@ pub record IsLimited (w : Woven) (l : Limited) : Type 0 where
   pub within : IsWithinLimits (program_tree w.program) (map fault_tree w.faults)
   pub is_flat : IsModelOf (program_tree w.program) (model_tree l.typed.model)
   pub numbered : AreNumbered l.typed.model w.faults l.faults
+  pub full : model_tree l.full.model ≡ with_history (model_tree l.typed.model) (map mode_of l.faults)
 
 -- It passes a limit; or it passes none with all bits, and its flat model without them breaks a rule of kinds, as none of a
 -- lawful program does.

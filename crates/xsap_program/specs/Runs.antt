@@ -1,5 +1,5 @@
 -- What a run comes to, and what it leaves behind.
-use Rattle.std.specs.Prelude.{◌≡◌, List}
+use Rattle.std.specs.Prelude.{◌≡◌, ℕ, List, Option, length}
 use Rattle.xs_desk.specs.declared.files.NamedFile.{NamedFile}
 use Rattle.xs_desk.specs.Desk.{told_with, said_more, SaysPrefix, WritesPrefix}
 use Rattle.xs_tree.specs.ProgramTree.{Text, Formula, ProgramTree}
@@ -7,7 +7,7 @@ use Rattle.xs_tree.specs.Tree.{Tree}
 use Rattle.xs_tree.specs.Values.{Value}
 use Rattle.xs_flattening.specs.Flat.{FlatLeaf}
 use Rattle.xs_eval.specs.Replayed.{IsReaching}
-use Rattle.xs_words.specs.Commands.{Command, extend, replay}
+use Rattle.xs_words.specs.Commands.{Command, extend, replay, analyse}
 use Rattle.xs_words.specs.Meaning.{Means as WordsMean}
 use Rattle.xsap_program.specs.declared.status.Refusal.{Refusal}
 use Rattle.xsap_program.specs.declared.status.Refusal.TheVariants as refusal
@@ -20,13 +20,17 @@ use Rattle.xsap_program.specs.Inputs.{RefusesModel, HoldsModel, RefusesFaults, H
 use Rattle.xsap_program.specs.Cases.{Case, HoldsCase, IsTopWord, IsWrongWord}
 use Rattle.xsap_program.specs.Tasks.{IsTopTree}
 use Rattle.xsap_program.specs.Answered.{Told, Said, replay_text}
+use Rattle.xsap_program.specs.Events.{RefusesEvent}
+use Rattle.xsap_program.specs.Analyses.{size_for, HasAnalysed, AnalysesInPart}
 use Rattle.xsap_program.specs.Replays.{RefusesTrace, HoldsTrace, RefusesMoment}
 
--- a run refuses something, it writes a text to a file and says a report, or it says a report alone
+-- a run refuses something, it writes a text to a file and says a report, it says a report alone, or it analyses a case for the top
+-- event that a word spells
 pub data Outcome : Type 0 where
   refuses : Refusal → Outcome
   extends : Text → Text → Text → Outcome
   says : Text → Outcome
+  analyses : (c : Case) (word : Text) (depth size : ℕ) (extended cert : Text) → Outcome
 
 -- what the two files come to, with the file for the extension, in the order of the work
 pub data ComesTo (files : List NamedFile) (model faults extended : Text) : Outcome → Type 0 where
@@ -50,10 +54,17 @@ pub data ReplayComesTo (files : List NamedFile) (model faults trace top : Text) 
   reads_its_trace : (c : Case) (e : Formula) (tree : Tree FlatLeaf) (o : Outcome) → HoldsCase files model faults c → IsTopWord c.program top e → IsTopTree c e tree →
       TraceComesTo files c tree trace o → ReplayComesTo files model faults trace top o
 
+-- what the files and the word of an analysis come to
+pub data AnalysisComesTo (files : List NamedFile) (model faults top : Text) (depth : ℕ) (extended cert : Text) (size : Option ℕ) : Outcome → Type 0 where
+  refuses_event : (r : Refusal) → RefusesEvent files model faults top r → AnalysisComesTo files model faults top depth extended cert size (refuses r)
+  is_analysed : (c : Case) (e : Formula) → HoldsCase files model faults c → IsTopWord c.program top e →
+      AnalysisComesTo files model faults top depth extended cert size (analyses c top depth (size_for size (length c.faults)) extended cert)
+
 -- what a command that is built comes to
 abbrev pub CommandComesTo : List NamedFile → Command → Outcome → Type 0
 CommandComesTo files (extend model faults extended) o = ComesTo files model faults extended o
 CommandComesTo files (replay model faults trace top) o = ReplayComesTo files model faults trace top o
+CommandComesTo files (analyse model faults top depth extended cert size) o = AnalysisComesTo files model faults top depth extended cert size o
 CommandComesTo files _ o = ⊥
 
 -- what a run over these files with these words comes to
@@ -68,17 +79,20 @@ IsAnswer status.Memory = ⊥
 IsAnswer _ = Unit {0}
 
 -- The outcome stands in full, and the run has its status: a refusal has changed no file and said its one line; an extension has
--- written its whole text to its one file and said its report; a report alone has changed no file.
+-- written its whole text to its one file and said its report; a report alone has changed no file; an analysis has written the
+-- extension, and for a complete answer a certificate, and said its report.
 abbrev pub IsDelivered : Outcome → Status → Told → Told → Said → Said → Type 0
 IsDelivered (refuses r) ended before after said now = (ended ≡ status_of r) × (after ≡ before) × (now ≡ said_more said (refusal_text r))
 IsDelivered (extends file text report) ended before after said now = (ended ≡ status.Done) × (after ≡ told_with before file text) × (now ≡ said_more said report)
 IsDelivered (says report) ended before after said now = (ended ≡ status.Done) × (after ≡ before) × (now ≡ said_more said report)
+IsDelivered (analyses c word depth size extended cert) ended before after said now = HasAnalysed c word depth size extended cert ended before after said now
 
 -- a part of the outcome stands: at most a prefix of what would be written and said
 abbrev pub IsDeliveredInPart : Outcome → Told → Told → Said → Said → Type 0
 IsDeliveredInPart (refuses r) before after said now = (after ≡ before) × SaysPrefix said now (refusal_text r)
 IsDeliveredInPart (extends file text report) before after said now = WritesPrefix before after file text × SaysPrefix said now report
 IsDeliveredInPart (says report) before after said now = (after ≡ before) × SaysPrefix said now report
+IsDeliveredInPart (analyses c word depth size extended cert) before after said now = AnalysesInPart c word depth size extended cert before after said now
 
 -- the run has answered: what stands is the whole outcome of the words and files at entry
 pub record HasAnswered (files : List NamedFile) (words : List Text) (answer : Status) (before after : Told) (said now : Said) : Type 0 where

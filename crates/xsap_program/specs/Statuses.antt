@@ -18,6 +18,7 @@ use Rattle.xsap_program.specs.declared.status.Status.TheVariants as status
 
 abbrev pub number_of : Status → ℤ
 number_of status.Done = pos 0
+number_of (status.Bounded k) = pos 1
 number_of (status.NotBuilt built.Words) = pos 2
 number_of (status.Words fault) = pos 2
 number_of (status.Model fault) = pos 3

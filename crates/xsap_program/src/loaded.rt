@@ -14,7 +14,7 @@ ghost use Rattle.xsap_program.specs.Loaded.{IsLoaded, HoldsLoaded, IsLoadedFrom,
 ghost use Rattle.xsap_program.specs.declared.status.Refusal.{Refusal};
 ghost use Rattle.xsap_program.specs.declared.input.Stop.TheVariants as stop;
 
-use crate::faults::{check_whole, flat_whole};
+use crate::faults::flat_whole;
 use crate::input::{Input, Stop, read_input};
 use crate::model::LoadedModel;
 use crate::wrong::Wrong;
@@ -40,6 +40,8 @@ pub struct Limited {
     pub woven: Woven,
     pub faults: FaultList,
     pub typed: Typed,
+    /// The flat model with a history bit for each fault.
+    pub full: Typed,
 }
 
 /// The extension of a model by the instructions of a file.
@@ -95,13 +97,14 @@ fn within_limits(alloc: Global, woven: Woven) -> Result<Limited, Wrong>
 {
     let flat = flat_whole(alloc, &woven.program)?;
     let faults = fault_list(alloc, &woven, &flat)?;
-    let full = with_history(alloc, &flat, &faults)?;
-    check_whole(alloc, full)?;
+    let whole = with_history(alloc, &flat, &faults)?;
+    let full = typed_whole(alloc, whole)?;
     let typed = typed_whole(alloc, flat)?;
     Ok(Limited {
         woven,
         faults,
         typed,
+        full,
     })
 }
 

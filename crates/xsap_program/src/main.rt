@@ -27,7 +27,11 @@ use std::alloc::{AllocError, Global};
 use std::env;
 use std::io::ErrorKind;
 use std::process::ExitCode;
+use xs_adviser::{Active, Adviser, InOrder};
+use xs_value::OutOfMemory;
 
+pub mod analysis;
+pub mod event;
 pub mod faults;
 pub mod input;
 pub mod loaded;
@@ -38,6 +42,7 @@ mod replay;
 mod replay_tests;
 mod report;
 pub mod run;
+pub mod search;
 pub mod status;
 #[cfg(test)]
 mod tests;
@@ -68,9 +73,20 @@ fn status_of(rt: HostRuntime, alloc: Global, words: &[String]) -> Status {
         .map(|word| word.as_str())
         .collect::<Vec<&str>>(alloc)
     {
-        Ok(words) => run(alloc, &words, &mut RealDesk::new(rt)),
+        Ok(words) => match advisers(alloc) {
+            Ok(advisers) => run(alloc, &words, &mut RealDesk::new(rt), advisers),
+            Err(OutOfMemory) => Status::Memory,
+        },
         Err(AllocError) => Status::Memory,
     }
+}
+
+/// The advisers of a run: in the order of the variables, and by how often clauses failed.
+fn advisers(alloc: Global) -> Result<Vec<Box<dyn Adviser>>, OutOfMemory> {
+    let mut advisers: Vec<Box<dyn Adviser>> = Vec::new(alloc);
+    advisers.push(Box::new(alloc, InOrder::new())?)?;
+    advisers.push(Box::new(alloc, Active::new(alloc))?)?;
+    Ok(advisers)
 }
 
 /// The number of a status, as the system takes it.

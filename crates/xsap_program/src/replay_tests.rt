@@ -54,7 +54,7 @@ fn desk_of(
 /// Whether a run over this desk ends with this number and says this text.
 fn ends(alloc: Global, desk: MemoryDesk, words: &[&str], number: i32, said: &[u8]) -> bool {
     let mut desk = desk;
-    let status = run(alloc, words, &mut desk);
+    let status = run(alloc, words, &mut desk, Vec::new(alloc));
     status.number() == number && desk.said() == said
 }
 

@@ -1,20 +1,26 @@
 // The top call.
-ghost use Rattle.std.specs.Prelude.{◌≡◌, ◌≤◌, ◌⊎◌, IfOk, IfErr, OnOk, OnErr, IfSome, IsNone, IsSomeAnd, IsErrOf, ℕ, List, map};
+ghost use Rattle.std.specs.Prelude.{◌≡◌, ◌≤◌, ◌⊎◌, IfOk, IfErr, OnOk, OnErr, IfSome, IsNone, IsSomeAnd, IsErrOf, ℕ, List, Option, map};
 ghost use Rattle.xs_desk.specs.Desk.{Rose, told_with, WritesPrefix, said_more, SaysPrefix};
 ghost use Rattle.xs_tree.specs.ProgramTree.{Text};
 ghost use Rattle.xsap_program.specs.declared.status.Refusal.{Refusal};
 ghost use Rattle.xsap_program.specs.declared.input.Stop.TheVariants as stops;
 ghost use Rattle.xsap_program.specs.Statuses.{status_of, refusal_text};
 ghost use Rattle.xsap_program.specs.Runs.{Outcome, refuses, extends, says, ComesTo, ReplayComesTo, CommandComesTo, Means, IsAnswer, IsDelivered, IsDeliveredInPart, HasAnswered, HasStopped};
-ghost use Rattle.xsap_program.specs.Prepared.{command_of, outcome_of};
+ghost use Rattle.xsap_program.specs.Prepared.{command_of, outcome_of, IsWorkable};
+ghost use Rattle.xsap_program.specs.Searches.{IsEvent, finished_as};
+ghost use Rattle.xsap_program.specs.Headline.{IsComplete, IsBounded};
+ghost use Rattle.xsap_program.specs.declared.run.Asked.TheVariants as ask;
+ghost use Rattle.xsap_program.specs.declared.run.Prepared.TheVariants as prepared;
 ghost use Rattle.xs_words.specs.Meaning.{Means as WordsMean};
 ghost use Rattle.xs_words.specs.Seen.{seen};
-ghost use Rattle.xsap_program.specs.Asked.{AsksToExtend, AsksToReplay, IsNotBuilt, RefusesWords};
+ghost use Rattle.xsap_program.specs.Asked.{AsksToExtend, AsksToReplay, AsksToAnalyse, IsNotBuilt, RefusesWords};
 ghost use Rattle.xsap_program.specs.Extension.{IsExtended};
 ghost use Rattle.xsap_program.specs.Replayed.{HoldsReaching, IsReplayed};
 ghost use Rattle.xsap_program.specs.Delivered.{ended_as, Stopped};
 ghost use Rattle.xs_desk.specs.declared.desk.WriteStop.TheVariants as write_stop;
 
+use crate::analysis::{Analysing, deliver_analysis};
+use crate::event::load_event;
 use crate::faults::{Made, load_extension};
 use crate::input::Stop;
 use crate::loaded::load_case;
@@ -23,6 +29,7 @@ use crate::replay::replay_file;
 use crate::status::{Built, Refusal, Status};
 use crate::top::load_top;
 use std::alloc::Global;
+use xs_adviser::{Adviser, Panel};
 use xs_desk::{Desk, WriteStop, say_whole, write_whole};
 use xs_value::{ByteList, OutOfMemory};
 use xs_words::{Command, read_words};
@@ -44,33 +51,57 @@ struct Replay<'a> {
     top: &'a str,
 }
 
+/// The files and the words of `analyse`: the model, the instructions, the extension and the certificate that are
+/// written; the top event, and how far the search goes.
+#[derive(Clone, Copy)]
+struct Analyse<'a> {
+    model: &'a str,
+    faults: &'a str,
+    top: &'a str,
+    depth: u32,
+    extended: &'a str,
+    cert: &'a str,
+    size: Option<u32>,
+}
+
 /// A command that is built.
 #[derive(Clone, Copy)]
 enum Asked<'a> {
     Extend(Extend<'a>),
     Replay(Replay<'a>),
+    Analyse(Analyse<'a>),
 }
 
-/// What is to be written and said once every refusal was tried: an extension to a file, and its report; or a
-/// report alone.
+/// What is to be written and said once every refusal was tried: an extension to a file, and its report; a
+/// report alone; or what an analysis comes to.
 #[derive(Drop)]
 enum Prepared<'a> {
     Extension(&'a str, Made),
     Report(ByteList),
+    Analysis(Analysing<'a>),
 }
 
 /// Does what the words ask for. `extend` reads a model and instructions, writes the model extended with
 /// the faults, and says the faults. `replay` reads a model, instructions, a top event and a trace of the
 /// extension, and says that the trace reaches the event, and which faults it has failed; it writes nothing.
+/// `analyse` reads a model, instructions and a top event, writes the extension, searches it for the minimal cut
+/// sets of the event, writes a certificate of a complete answer, and says the report; an answer that holds for the
+/// traces of at most so many steps as the depth ends bounded, and has no certificate.
 /// All files are read, and every refusal is tried, before anything is written or said. A refusal says its one
-/// line and changes no file. The words are those of the command line without the program's own name.
-pub fn run<D: Desk>(alloc: Global, words: &[&str], desk: &mut D) -> Status
+/// line and changes no file. The words are those of the command line without the program's own name. The advisers
+/// say what the search tries first; no answer is trusted to them.
+pub fn run<D: Desk>(
+    alloc: Global,
+    words: &[&str],
+    desk: &mut D,
+    advisers: Vec<Box<dyn Adviser>>,
+) -> Status
     // Unless the desk failed or memory ran out, the whole of what words and files come to stands.
     ensures answered { IsAnswer result → IfSome (D.files desk.old) (λ files.
         HasAnswered files (map (λ w. w.now) words.now) result (D.files desk.old) (D.files desk.new) (D.said desk.old) (D.said desk.new)) }
     // What the words and files come to is one, and it is the answer and what stands: the first rule that is broken, at its
-    // place, the first moment that stops the trace from reaching the event, the extension and its report, or the report of a
-    // trace that reaches it.
+    // place, the first moment that stops the trace from reaching the event, the extension and its report, the report of a
+    // trace that reaches it, or the case and the event that were analysed.
     ensures exact { IsAnswer result → IfSome (D.files desk.old) (λ files. (o : Outcome) → Means files (map (λ w. w.now) words.now) o →
         IsDelivered o result (D.files desk.old) (D.files desk.new) (D.said desk.old) (D.said desk.new)) }
     // A run that is done has written the woven program, as the one program that the model spells and the instructions make it:
@@ -84,6 +115,13 @@ pub fn run<D: Desk>(alloc: Global, words: &[&str], desk: &mut D) -> Status
     // And such a trace is refused for nothing.
     ensures reaching { (model faults trace top : Text) → IsAnswer result → AsksToReplay (map (λ w. w.now) words.now) model faults trace top →
         IfSome (D.files desk.old) (λ files. HoldsReaching files model faults trace top → result ≡ Status.Done) }
+    // A run that is done has analysed the extended traces, of every length: it has written the extension, found exactly the sets
+    // that the headline says, shown a trace for each, and written an accepted certificate.
+    ensures complete { (model faults top extended cert : Text) (depth : ℕ) (size : Option ℕ) → result ≡ Status.Done → AsksToAnalyse (map (λ w. w.now) words.now) model faults top depth extended cert size →
+        IfSome (D.files desk.old) (λ before. IsSomeAnd (D.files desk.new) (λ after. IsComplete before after (D.said desk.old) (D.said desk.new) model faults top extended cert size)) }
+    // And one that is bounded has analysed those of at most so many steps as the depth.
+    ensures bounded { (model faults top extended cert : Text) (depth : ℕ) (size : Option ℕ) (k : ℕ) → result ≡ Status.Bounded k → AsksToAnalyse (map (λ w. w.now) words.now) model faults top depth extended cert size →
+        IfSome (D.files desk.old) (λ before. IsSomeAnd (D.files desk.new) (λ after. (k ≡ depth) × IsBounded before after (D.said desk.old) (D.said desk.new) model faults top extended cert depth size)) }
     // However it ends, nothing was done, or a part of that stands: a prefix of what would be written and said.
     ensures left { ((D.files desk.new ≡ D.files desk.old) × (D.said desk.new ≡ D.said desk.old)) ⊎ IfSome (D.files desk.old) (λ files.
         HasStopped files (map (λ w. w.now) words.now) (D.files desk.old) (D.files desk.new) (D.said desk.old) (D.said desk.new)) }
@@ -97,7 +135,7 @@ pub fn run<D: Desk>(alloc: Global, words: &[&str], desk: &mut D) -> Status
         Err(refusal) => return refuse(alloc, desk, refusal),
     };
     match prepare(alloc, desk, &command) {
-        Ok(done) => deliver(desk, &done),
+        Ok(done) => deliver(alloc, desk, &done, &mut Panel::new(advisers)),
         Err(stop) => stopped(alloc, desk, stop),
     }
 }
@@ -142,7 +180,23 @@ fn built<'a>(command: Command<'a>) -> Option<Asked<'a>>
             trace,
             top,
         })),
-        Command::Analyse { .. } => None,
+        Command::Analyse {
+            model,
+            faults,
+            top,
+            depth,
+            extended,
+            cert,
+            size,
+        } => Some(Asked::Analyse(Analyse {
+            model,
+            faults,
+            top,
+            depth,
+            extended,
+            cert,
+            size,
+        })),
         Command::Check { .. } => None,
         Command::Fmea { .. } => None,
         Command::Make { .. } => None,
@@ -170,6 +224,7 @@ fn prepare<'a, D: Desk>(
     asked: &Asked<'a>,
 ) -> Result<Prepared<'a>, Stop>
     ensures ok { IfOk result (λ done. IfSome (D.files desk.old) (λ files. CommandComesTo files (command_of asked.now) (outcome_of done))) }
+    ensures workable { IfOk result IsWorkable }
     ensures refused { (r : Refusal) → IsErrOf result (stops.Refused r) → IfSome (D.files desk.old) (λ files. CommandComesTo files (command_of asked.now) (refuses r)) }
     ensures failed { IsErrOf result stops.Desk → Rose (D.faults desk.old) (D.faults desk.new) }
 
@@ -186,6 +241,10 @@ fn prepare<'a, D: Desk>(
         Asked::Replay(files) => {
             let report = prepare_replay(alloc, desk, files)?;
             Ok(Prepared::Report(report))
+        }
+        Asked::Analyse(asked) => {
+            let analysing = prepare_analysis(alloc, desk, asked)?;
+            Ok(Prepared::Analysis(analysing))
         }
     }
 }
@@ -226,8 +285,41 @@ fn prepare_replay<D: Desk>(alloc: Global, desk: &mut D, asked: &Replay) -> Resul
     replay_file(alloc, desk, asked.trace, &model, &case, &top)
 }
 
-/// Writes and says what was made.
-fn deliver<D: Desk>(desk: &mut D, done: &Prepared) -> Status
+/// Reads both files and the top event of an analysis.
+fn prepare_analysis<'a, D: Desk>(
+    alloc: Global,
+    desk: &mut D,
+    asked: &Analyse<'a>,
+) -> Result<Analysing<'a>, Stop>
+    ensures ok { IfOk result (λ a. IfSome (D.files desk.old) (λ files. CommandComesTo files (command_of (ask.Analyse asked.now)) (outcome_of (prepared.Analysis a)))) }
+    ensures event { IfOk result (λ a. IsEvent a.word.now a.loaded) }
+    ensures refused { (r : Refusal) → IsErrOf result (stops.Refused r) → IfSome (D.files desk.old) (λ files. CommandComesTo files (command_of (ask.Analyse asked.now)) (refuses r)) }
+    ensures failed { IsErrOf result stops.Desk → Rose (D.faults desk.old) (D.faults desk.new) }
+
+    ensures files { D.files desk.new ≡ D.files desk.old }
+    ensures said { D.said desk.new ≡ D.said desk.old }
+    ensures later { D.faults desk.old ≤ D.faults desk.new }
+    ensures quiet { D.quiet desk.old → D.quiet desk.new × (D.faults desk.new ≡ D.faults desk.old) }
+{
+    let loaded = load_event(alloc, desk, asked.model, asked.faults, asked.top)?;
+    Ok(Analysing {
+        loaded,
+        word: asked.top,
+        depth: asked.depth,
+        size: asked.size,
+        extended: asked.extended,
+        cert: asked.cert,
+    })
+}
+
+/// Writes and says what was made, or searches first.
+fn deliver<D: Desk>(
+    alloc: Global,
+    desk: &mut D,
+    done: &Prepared,
+    panel: &mut Panel,
+) -> Status
+    requires { IsWorkable done.now }
     ensures done { IsAnswer result → IsDelivered (outcome_of done.now) result (D.files desk.old) (D.files desk.new) (D.said desk.old) (D.said desk.new) }
     ensures part { IsDeliveredInPart (outcome_of done.now) (D.files desk.old) (D.files desk.new) (D.said desk.old) (D.said desk.new) }
     ensures failed { result ≡ Status.Desk → Rose (D.faults desk.old) (D.faults desk.new) }
@@ -237,6 +329,18 @@ fn deliver<D: Desk>(desk: &mut D, done: &Prepared) -> Status
     match done {
         Prepared::Extension(file, made) => { ended(Status::Done, write_and_say(desk, file, made)) }
         Prepared::Report(report) => ended(Status::Done, say_whole(desk, report.as_slice())),
+        Prepared::Analysis(asked) => finished(deliver_analysis(alloc, desk, asked, panel)),
+    }
+}
+
+/// The status of work that ends with its own where no call failed.
+fn finished(done: Result<Status, WriteStop>) -> Status
+    ensures { result ≡ finished_as done }
+{
+    match done {
+        Ok(status) => status,
+        Err(WriteStop::Failed) => Status::Desk,
+        Err(WriteStop::OutOfMemory) => Status::Memory,
     }
 }
 

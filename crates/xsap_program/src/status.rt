@@ -80,6 +80,8 @@ pub enum Refusal {
 pub enum Status {
     /// The work is done.
     Done,
+    /// The work is done, and right for the traces of at most so many steps.
+    Bounded(u32),
     /// A part of the work is not built yet.
     NotBuilt(Built),
     /// The words mean no command.
@@ -106,6 +108,7 @@ impl Status {
     {
         match self {
             Status::Done => 0,
+            Status::Bounded(_) => 1,
             Status::NotBuilt(Built::Words) | Status::Words(_) => 2,
             Status::Model(_) => 3,
             Status::Faults(_) => 4,

@@ -5,6 +5,7 @@ use Rattle.xsap_program.proofs.OutcomeLemmas.{means_asked, means_refused, answer
 use Rattle.xsap_program.proofs.ExtensionLemmas.{done_extends}
 use Rattle.xsap_program.proofs.OneOutcome.{answers_exactly}
 use Rattle.xsap_program.proofs.ReplayedLaws.{done_replays, reaching_is_done}
+use Rattle.xsap_program.proofs.AnalysedLaws.{done_analyses, bounded_analyses}
 use Rattle.xsap_program.proofs.run.run.Goals as goal
 
 pub returns-in-Err-clause-answered : goal.returns-in-Err-clause-answered
@@ -72,3 +73,21 @@ returns-in-Err-prepare-clause-replayed g c model faults trace top = done_replays
 
 pub returns-in-Err-prepare-clause-reaching : goal.returns-in-Err-prepare-clause-reaching
 returns-in-Err-prepare-clause-reaching g c model faults trace top = reaching_is_done _ _ _ _ _ _ model faults trace top (returns-in-Err-prepare-clause-answered g c)
+
+pub returns-in-Err-clause-complete : goal.returns-in-Err-clause-complete
+returns-in-Err-clause-complete g c model faults top extended cert depth size = done_analyses _ _ _ _ _ _ model faults top extended cert depth size (returns-in-Err-clause-answered g c)
+
+pub returns-in-Err-clause-bounded : goal.returns-in-Err-clause-bounded
+returns-in-Err-clause-bounded g c model faults top extended cert depth size k = bounded_analyses _ _ _ _ _ _ model faults top extended cert depth size k (returns-in-Err-clause-answered g c)
+
+pub returns-in-Ok-prepare-clause-complete : goal.returns-in-Ok-prepare-clause-complete
+returns-in-Ok-prepare-clause-complete g c model faults top extended cert depth size = done_analyses _ _ _ _ _ _ model faults top extended cert depth size (returns-in-Ok-prepare-clause-answered g c)
+
+pub returns-in-Ok-prepare-clause-bounded : goal.returns-in-Ok-prepare-clause-bounded
+returns-in-Ok-prepare-clause-bounded g c model faults top extended cert depth size k = bounded_analyses _ _ _ _ _ _ model faults top extended cert depth size k (returns-in-Ok-prepare-clause-answered g c)
+
+pub returns-in-Err-prepare-clause-complete : goal.returns-in-Err-prepare-clause-complete
+returns-in-Err-prepare-clause-complete g c model faults top extended cert depth size = done_analyses _ _ _ _ _ _ model faults top extended cert depth size (returns-in-Err-prepare-clause-answered g c)
+
+pub returns-in-Err-prepare-clause-bounded : goal.returns-in-Err-prepare-clause-bounded
+returns-in-Err-prepare-clause-bounded g c model faults top extended cert depth size k = bounded_analyses _ _ _ _ _ _ model faults top extended cert depth size k (returns-in-Err-prepare-clause-answered g c)
