@@ -47,6 +47,7 @@ pub mod status;
 #[cfg(test)]
 mod tests;
 mod top;
+mod tops;
 mod trace;
 pub mod wrong;
 
