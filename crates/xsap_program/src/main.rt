@@ -35,6 +35,7 @@ pub mod event;
 pub mod faults;
 pub mod input;
 pub mod loaded;
+mod make;
 pub mod model;
 mod real_desk;
 mod replay;
