@@ -7,7 +7,20 @@ use Rattle.std.proofs.lemmas.List.{drop_more}
 use Rattle.std.proofs.lemmas.List.Elements.{All-weaker, All-contains, All-contains_itself, All-append}
 use Rattle.xs_desk.specs.declared.files.NamedFile.{NamedFile}
 use Rattle.xs_desk.specs.Desk.{said_more, SaysPrefix}
-use Rattle.xs_tree.specs.ProgramTree.{Text, Formula}
+use Rattle.xs_tree.specs.ProgramTree.{Text, Formula, ProgramTree}
+use Rattle.xs_tree.specs.Tree.{Tree}
+use Rattle.xs_flattening.specs.Flat.{FlatLeaf}
+use Rattle.xs_encoding.specs.Bits.{state_of, inputs_of}
+use Rattle.xs_encoding.specs.Lists.{system_of}
+use Rattle.xs_cuts.specs.Answer.{IsAnswer}
+use Rattle.xs_cuts.specs.declared.answer.Analysis.{Analysis as Searched}
+use Rattle.xs_cuts_extended.specs.Answered.{ending_of, analysis_of}
+use Rattle.xs_fmea.specs.declared.columns.Ending.{Ending as Ended}
+use Rattle.xsap_program.specs.declared.loaded.LoadedCase.{LoadedCase}
+use Rattle.xsap_program.specs.Loaded.{case_of}
+use Rattle.xsap_program.specs.Cases.{whole_of}
+use Rattle.xsap_program.specs.Tables.{IsExtensible, IsEventOf}
+use Rattle.xsap_program.proofs.TopEvents.{counts_in_case, event_found}
 use Rattle.xs_right.specs.Right.{Shows}
 use Rattle.xs_weave.specs.Extended.{Moment}
 use Rattle.xs_flattening.specs.Model.{EachBoth}
@@ -53,6 +66,21 @@ names_faults c e size depth a found =
     let within = slice_get_within c.faults (i - 1) failed.0 failed.2.0 in
     let above = failed.1 in
     (above, omega (arith, within, above))) set (All-contains_itself set))
+
+-- what a search of an event found, as a column
+pub column_found : (p : ProgramTree) (l : LoadedCase) (is : IsExtensible p l) (e : Formula) (tree : Tree FlatLeaf) → IsEventOf (case_of p l) e tree → (depth : ℕ) (a : Searched) (len size : ℕ) →
+    len ≡ length l.limited.faults → size ≡ len →
+    IsAnswer (case_of p l).flat (case_of p l).modes tree (system_of (whole_of (case_of p l))) (state_of (whole_of (case_of p l))) (inputs_of (whole_of (case_of p l))) depth size a →
+    (ending : Ended) → told_ending ending ≡ ending_of a.end → IsColumn (case_of p l) depth e (record { sets = a.sets; ending = ending })
+column_found p l is e tree event depth a len size counted sized answer ending told =
+    let c : Case = case_of p l in
+    let symbols = l.limited.typed.model.symbols in
+    record {
+      analysis = analysis_of symbols a;
+      found = subst (λ n. IsFound c e n depth (analysis_of symbols a)) (sized ∙ counted ∙ sym (counts_in_case p l is)) (event_found p l is e tree event depth size a answer);
+      sets = refl;
+      ending = sym told;
+    }
 
 -- columns of all events, one for each
 pub are_columns : (c : Case) (depth : ℕ) (es : List Formula) (columns : List Column) → EachBoth (IsColumn c depth) es columns → AreColumns c depth es columns
