@@ -42,7 +42,7 @@ refused_not_asked files words r c o (not_built d also other) means comes = built
     built (extend model faults extended) other comes = other
     built (replay model faults trace top) other comes = other
     built (analyse model faults top depth extended cert size) other comes = other
-    built (check model faults top cert) other comes = comes
+    built (check model faults top cert) other comes = other
     built (fmea model faults tops size depth) other comes = comes
     built (make number stages depth model faults) other comes = comes
 

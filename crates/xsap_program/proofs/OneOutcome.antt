@@ -12,6 +12,7 @@ use Rattle.xsap_program.proofs.OneExtending.{one_refused_faults, taken_not_refus
 use Rattle.xsap_program.proofs.OneModelFault.{one_refused_model, held_not_refused, one_held_model}
 use Rattle.xsap_program.proofs.OneReplay.{replay_comes_to_one}
 use Rattle.xsap_program.proofs.OneEvent.{analysis_comes_to_one}
+use Rattle.xsap_program.proofs.OneCheck.{check_comes_to_one}
 
 module _ (files : List NamedFile) (model faults extended : Text) where
   comes_to_one : (o q : Outcome) → ComesTo files model faults extended o → ComesTo files model faults extended q → o ≡ q
@@ -35,7 +36,7 @@ command_comes_to_one : (files : List NamedFile) (c : Command) (o q : Outcome) �
 command_comes_to_one files (extend model faults extended) o q h g = comes_to_one files model faults extended o q h g
 command_comes_to_one files (replay model faults trace top) o q h g = replay_comes_to_one files model faults trace top o q h g
 command_comes_to_one files (analyse model faults top depth extended cert size) o q h g = analysis_comes_to_one files model faults top depth extended cert size o q h g
-command_comes_to_one files (check model faults top cert) o q h g = absurd h
+command_comes_to_one files (check model faults top cert) o q h g = check_comes_to_one files model faults top cert o q h g
 command_comes_to_one files (fmea model faults tops size depth) o q h g = absurd h
 command_comes_to_one files (make number stages depth model faults) o q h g = absurd h
 

@@ -59,7 +59,7 @@ module _ (files : List NamedFile) (model faults : Text) (c : Case) (holds : Hold
       woven_resolves c.program top.flat c.instructions c.flat (have_models c holds.is_case holds.program.flat holds.program.lawful e top) [] e top.tree top.resolved in
       (read.0, read.1.after)
 
-  extension_model : (tree : Tree FlatLeaf) → IsTopTree c e tree → IsExtensionModel c.program c.instructions c.faults e c.flat c.modes tree
+  pub extension_model : (tree : Tree FlatLeaf) → IsTopTree c e tree → IsExtensionModel c.program c.instructions c.faults e c.flat c.modes tree
   extension_model tree resolved =
       let top = event.is_top in
       tops_of_extensions c.program top.flat c.instructions c.flat (have_models c holds.is_case holds.program.flat holds.program.lawful e top) holds.is_case.within.accepted c.faults c.modes

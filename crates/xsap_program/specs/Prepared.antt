@@ -1,5 +1,5 @@
 -- What the code of a run has in memory: the command that it was asked for, and what it is to write and say.
-use Rattle.xs_words.specs.Commands.{Command, extend, replay, analyse}
+use Rattle.xs_words.specs.Commands.{Command, extend, replay, analyse, check}
 use Rattle.xsap_program.specs.declared.run.Asked.{Asked}
 use Rattle.xsap_program.specs.declared.run.Asked.TheVariants as ask
 use Rattle.xsap_program.specs.declared.run.Prepared.{Prepared}
@@ -11,6 +11,7 @@ abbrev pub command_of : Asked → Command
 command_of (ask.Extend e) = extend e.model.now e.faults.now e.extended.now
 command_of (ask.Replay r) = replay r.model.now r.faults.now r.trace.now r.top.now
 command_of (ask.Analyse a) = analyse a.model.now a.faults.now a.top.now a.depth a.extended.now a.cert.now a.size
+command_of (ask.Check k) = check k.model.now k.faults.now k.top.now k.cert.now
 
 abbrev pub outcome_of : Prepared → Outcome
 outcome_of (prepared.Extension file made) = extends file.now made.text.items made.report

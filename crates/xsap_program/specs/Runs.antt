@@ -7,7 +7,7 @@ use Rattle.xs_tree.specs.Tree.{Tree}
 use Rattle.xs_tree.specs.Values.{Value}
 use Rattle.xs_flattening.specs.Flat.{FlatLeaf}
 use Rattle.xs_eval.specs.Replayed.{IsReaching}
-use Rattle.xs_words.specs.Commands.{Command, extend, replay, analyse}
+use Rattle.xs_words.specs.Commands.{Command, extend, replay, analyse, check}
 use Rattle.xs_words.specs.Meaning.{Means as WordsMean}
 use Rattle.xsap_program.specs.declared.status.Refusal.{Refusal}
 use Rattle.xsap_program.specs.declared.status.Refusal.TheVariants as refusal
@@ -22,6 +22,7 @@ use Rattle.xsap_program.specs.Tasks.{IsTopTree}
 use Rattle.xsap_program.specs.Answered.{Told, Said, replay_text}
 use Rattle.xsap_program.specs.Events.{RefusesEvent}
 use Rattle.xsap_program.specs.Analyses.{size_for, HasAnalysed, AnalysesInPart}
+use Rattle.xsap_program.specs.Certificates.{CheckRefuses, CheckSays}
 use Rattle.xsap_program.specs.Replays.{RefusesTrace, HoldsTrace, RefusesMoment}
 
 -- a run refuses something, it writes a text to a file and says a report, it says a report alone, or it analyses a case for the top
@@ -60,11 +61,17 @@ pub data AnalysisComesTo (files : List NamedFile) (model faults top : Text) (dep
   is_analysed : (c : Case) (e : Formula) → HoldsCase files model faults c → IsTopWord c.program top e →
       AnalysisComesTo files model faults top depth extended cert size (analyses c top depth (size_for size (length c.faults)) extended cert)
 
+-- what the files and the word of a check come to
+pub data CheckComesTo (files : List NamedFile) (model faults top cert : Text) : Outcome → Type 0 where
+  refuses_check : (r : Refusal) → CheckRefuses files model faults top cert r → CheckComesTo files model faults top cert (refuses r)
+  is_checked : (report : Text) → CheckSays files model faults top cert report → CheckComesTo files model faults top cert (says report)
+
 -- what a command that is built comes to
 abbrev pub CommandComesTo : List NamedFile → Command → Outcome → Type 0
 CommandComesTo files (extend model faults extended) o = ComesTo files model faults extended o
 CommandComesTo files (replay model faults trace top) o = ReplayComesTo files model faults trace top o
 CommandComesTo files (analyse model faults top depth extended cert size) o = AnalysisComesTo files model faults top depth extended cert size o
+CommandComesTo files (check model faults top cert) o = CheckComesTo files model faults top cert o
 CommandComesTo files _ o = ⊥
 
 -- what a run over these files with these words comes to

@@ -65,6 +65,10 @@ why_text why.Top = codes " top\n"
 abbrev pub moment_text : ℕ → Why → Text
 moment_text i w = codes "not accepted moment " ++ (decimal i ++ why_text w)
 
+-- the rule of this number is broken at a line of a certificate
+abbrev pub line_text : ℕ → ℕ → Text
+line_text line rule = codes "not accepted line " ++ (decimal line ++ (codes " rule " ++ (decimal rule ++ codes "\n")))
+
 -- the one line of a refusal
 abbrev pub refusal_text : Refusal → Text
 refusal_text (refusal.NotBuilt built.Words) = codes "refused words 0 at 1\n"
@@ -73,7 +77,9 @@ refusal_text (refusal.Model fault) = codes "refused model " ++ fault_text fault
 refusal_text (refusal.Faults fault) = codes "refused faults " ++ fault_text fault
 refusal_text (refusal.Top fault) = codes "refused top " ++ fault_text fault
 refusal_text (refusal.NotAccepted (objection.Trace fault)) = codes "refused trace " ++ fault_text fault
+refusal_text (refusal.NotAccepted (objection.Cert fault)) = codes "refused cert " ++ fault_text fault
 refusal_text (refusal.NotAccepted (objection.Moment i w)) = moment_text i w
+refusal_text (refusal.NotAccepted (objection.Line line rule)) = line_text line rule
 
 -- the file is not there
 abbrev pub absent : InputFault

@@ -7,7 +7,7 @@
 //! has failed; or the analysis of a case; and what is left where the desk fails on the way. What words ask
 //! for stands in `specs/Asked.antt`, what is wrong with a file and what it holds stands in `specs/Inputs.antt`,
 //! top events in `specs/Cases.antt`, traces in `specs/Replays.antt`, analyses in `specs/Analyses.antt` and
-//! `specs/Headline.antt`, the numbers and lines of refusals in `specs/Wrongs.antt` and `specs/Statuses.antt`,
+//! `specs/Headline.antt`, certificates in `specs/Certificates.antt`, the numbers and lines of refusals in `specs/Wrongs.antt` and `specs/Statuses.antt`,
 //! and that the written file is the extension in `specs/Extension.antt`. `main` hands `run` the words of the
 //! command line, a desk over real files, and the advisers of the search.
 //!
@@ -15,13 +15,15 @@
 //! (program, flat model, kinds), `faults` (instructions, the weave, the limits of the whole, as a text that
 //! is written), `loaded` (the same, with the flat model in memory), `top` (the top event), `trace` (the file
 //! of a trace), `replay` (what a trace comes to), `report` (what is said), `event` (model, extension and top event
-//! together), `search` (what a search finds), `analysis` (what is written and said of it) and `run`. `wrong` and `status`
+//! together), `search` (what a search finds), `analysis` (what is written and said of it), `certificate` (what a
+//! certificate comes to) and `run`. `wrong` and `status`
 //! have what each refusal says.
 //!
 //! ```text
 //! xsap_program extend --model lamp.smv --faults lamp.fei --extended out.smv
 //! xsap_program replay --model lamp.smv --faults lamp.fei --trace dark.trace --top '!on'
 //! xsap_program analyse --model lamp.smv --faults lamp.fei --top '!on' --depth 4 --extended out.smv --cert out.cert
+//! xsap_program check --model lamp.smv --faults lamp.fei --top '!on' --cert lamp.cert
 //! ```
 #![tactic(auto)]
 
@@ -36,6 +38,9 @@ use xs_adviser::{Active, Adviser, InOrder};
 use xs_value::OutOfMemory;
 
 pub mod analysis;
+pub mod certificate;
+#[cfg(test)]
+mod check_tests;
 pub mod event;
 pub mod faults;
 pub mod input;

@@ -213,7 +213,8 @@ fn a_top_event_or_words_are_refused(rt: HostRuntime) -> Result<(), OutOfMemory> 
         (&["fmea", "--size", "3"], b"refused words 7 at 3\n"),
         (
             &[
-                "check", "--model", "m", "--faults", "f", "--top", "on", "--cert", "c",
+                "fmea", "--model", "m", "--faults", "f", "--tops", "t", "--size", "1", "--depth",
+                "1",
             ],
             b"refused words 0 at 1\n",
         ),

@@ -5,7 +5,7 @@ ghost use Rattle.xs_tree.specs.ProgramTree.{Text};
 ghost use Rattle.xsap_program.specs.declared.status.Refusal.{Refusal};
 ghost use Rattle.xsap_program.specs.declared.input.Stop.TheVariants as stops;
 ghost use Rattle.xsap_program.specs.Statuses.{status_of, refusal_text};
-ghost use Rattle.xsap_program.specs.Runs.{Outcome, refuses, extends, says, ComesTo, ReplayComesTo, CommandComesTo, Means, IsAnswer, IsDelivered, IsDeliveredInPart, HasAnswered, HasStopped};
+ghost use Rattle.xsap_program.specs.Runs.{Outcome, refuses, extends, says, ComesTo, ReplayComesTo, CheckComesTo, CommandComesTo, Means, IsAnswer, IsDelivered, IsDeliveredInPart, HasAnswered, HasStopped};
 ghost use Rattle.xsap_program.specs.Prepared.{command_of, outcome_of, IsWorkable};
 ghost use Rattle.xsap_program.specs.Searches.{IsEvent, finished_as};
 ghost use Rattle.xsap_program.specs.Headline.{IsComplete, IsBounded};
@@ -13,13 +13,15 @@ ghost use Rattle.xsap_program.specs.declared.run.Asked.TheVariants as ask;
 ghost use Rattle.xsap_program.specs.declared.run.Prepared.TheVariants as prepared;
 ghost use Rattle.xs_words.specs.Meaning.{Means as WordsMean};
 ghost use Rattle.xs_words.specs.Seen.{seen};
-ghost use Rattle.xsap_program.specs.Asked.{AsksToExtend, AsksToReplay, AsksToAnalyse, IsNotBuilt, RefusesWords};
+ghost use Rattle.xsap_program.specs.Asked.{AsksToExtend, AsksToReplay, AsksToAnalyse, AsksToCheck, IsNotBuilt, RefusesWords};
 ghost use Rattle.xsap_program.specs.Extension.{IsExtended};
 ghost use Rattle.xsap_program.specs.Replayed.{HoldsReaching, IsReplayed};
+ghost use Rattle.xsap_program.specs.Certificates.{IsChecked};
 ghost use Rattle.xsap_program.specs.Delivered.{ended_as, Stopped};
 ghost use Rattle.xs_desk.specs.declared.desk.WriteStop.TheVariants as write_stop;
 
 use crate::analysis::{Analysing, deliver_analysis};
+use crate::certificate::check_file;
 use crate::event::load_event;
 use crate::faults::{Made, load_extension};
 use crate::input::Stop;
@@ -64,12 +66,22 @@ struct Analyse<'a> {
     size: Option<u32>,
 }
 
+/// The files of `check`: the model, the instructions and the certificate; and the word of the top event.
+#[derive(Clone, Copy)]
+struct Check<'a> {
+    model: &'a str,
+    faults: &'a str,
+    top: &'a str,
+    cert: &'a str,
+}
+
 /// A command that is built.
 #[derive(Clone, Copy)]
 enum Asked<'a> {
     Extend(Extend<'a>),
     Replay(Replay<'a>),
     Analyse(Analyse<'a>),
+    Check(Check<'a>),
 }
 
 /// What is to be written and said once every refusal was tried: an extension to a file, and its report; a
@@ -87,6 +99,8 @@ enum Prepared<'a> {
 /// `analyse` reads a model, instructions and a top event, writes the extension, searches it for the minimal cut
 /// sets of the event, writes a certificate of a complete answer, and says the report; an answer that holds for the
 /// traces of at most so many steps as the depth ends bounded, and has no certificate.
+/// `check` reads a model, instructions, a top event and a certificate, and says that the certificate is accepted, and its
+/// size where that is below the number of faults; it writes nothing.
 /// All files are read, and every refusal is tried, before anything is written or said. A refusal says its one
 /// line and changes no file. The words are those of the command line without the program's own name. The advisers
 /// say what the search tries first; no answer is trusted to them.
@@ -122,6 +136,10 @@ pub fn run<D: Desk>(
     // And one that is bounded has analysed those of at most so many steps as the depth.
     ensures bounded { (model faults top extended cert : Text) (depth : ℕ) (size : Option ℕ) (k : ℕ) → result ≡ Status.Bounded k → AsksToAnalyse (map (λ w. w.now) words.now) model faults top depth extended cert size →
         IfSome (D.files desk.old) (λ before. IsSomeAnd (D.files desk.new) (λ after. (k ≡ depth) × IsBounded before after (D.said desk.old) (D.said desk.new) model faults top extended cert depth size)) }
+    // A run that is done has checked the certificate: the sets that its bytes spell are right for all extended traces, of every
+    // length, with the traces that its texts give; no file was changed.
+    ensures accepted { (model faults top cert : Text) → result ≡ Status.Done → AsksToCheck (map (λ w. w.now) words.now) model faults top cert →
+        IfSome (D.files desk.old) (λ files. IsChecked files (D.said desk.old) (D.said desk.new) model faults top cert × (D.files desk.new ≡ D.files desk.old)) }
     // However it ends, nothing was done, or a part of that stands: a prefix of what would be written and said.
     ensures left { ((D.files desk.new ≡ D.files desk.old) × (D.said desk.new ≡ D.said desk.old)) ⊎ IfSome (D.files desk.old) (λ files.
         HasStopped files (map (λ w. w.now) words.now) (D.files desk.old) (D.files desk.new) (D.said desk.old) (D.said desk.new)) }
@@ -197,7 +215,17 @@ fn built<'a>(command: Command<'a>) -> Option<Asked<'a>>
             cert,
             size,
         })),
-        Command::Check { .. } => None,
+        Command::Check {
+            model,
+            faults,
+            top,
+            cert,
+        } => Some(Asked::Check(Check {
+            model,
+            faults,
+            top,
+            cert,
+        })),
         Command::Fmea { .. } => None,
         Command::Make { .. } => None,
     }
@@ -245,6 +273,10 @@ fn prepare<'a, D: Desk>(
         Asked::Analyse(asked) => {
             let analysing = prepare_analysis(alloc, desk, asked)?;
             Ok(Prepared::Analysis(analysing))
+        }
+        Asked::Check(files) => {
+            let report = prepare_check(alloc, desk, files)?;
+            Ok(Prepared::Report(report))
         }
     }
 }
@@ -310,6 +342,23 @@ fn prepare_analysis<'a, D: Desk>(
         extended: asked.extended,
         cert: asked.cert,
     })
+}
+
+/// Reads the three files and the top event, and makes what is to be said of the certificate.
+fn prepare_check<D: Desk>(alloc: Global, desk: &mut D, asked: &Check) -> Result<ByteList, Stop>
+    ensures ok { IfOk result (λ report. IfSome (D.files desk.old) (λ files.
+        CheckComesTo files asked.now.model.now asked.now.faults.now asked.now.top.now asked.now.cert.now (says report))) }
+    ensures refused { (r : Refusal) → IsErrOf result (stops.Refused r) → IfSome (D.files desk.old) (λ files.
+        CheckComesTo files asked.now.model.now asked.now.faults.now asked.now.top.now asked.now.cert.now (refuses r)) }
+    ensures failed { IsErrOf result stops.Desk → Rose (D.faults desk.old) (D.faults desk.new) }
+
+    ensures files { D.files desk.new ≡ D.files desk.old }
+    ensures said { D.said desk.new ≡ D.said desk.old }
+    ensures later { D.faults desk.old ≤ D.faults desk.new }
+    ensures quiet { D.quiet desk.old → D.quiet desk.new × (D.faults desk.new ≡ D.faults desk.old) }
+{
+    let loaded = load_event(alloc, desk, asked.model, asked.faults, asked.top)?;
+    check_file(alloc, desk, asked.cert, &loaded)
 }
 
 /// Writes and says what was made, or searches first.

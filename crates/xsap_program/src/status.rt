@@ -1,7 +1,7 @@
 // How a run ends, and the line that a refusal says.
 ghost use Rattle.std.specs.Prelude.{◌≡◌, ◌≤ℤ◌, pos, ◌++◌, IfOk, OnOk, codes};
 ghost use Rattle.std.specs.Fmt.{decimal};
-ghost use Rattle.xsap_program.specs.Statuses.{number_of, status_of, part_text, fault_text, words_text, refusal_text, why_text, moment_text};
+ghost use Rattle.xsap_program.specs.Statuses.{number_of, status_of, part_text, fault_text, words_text, refusal_text, why_text, moment_text, line_text};
 
 use std::alloc::Global;
 use xs_value::{ByteList, OutOfMemory};
@@ -33,14 +33,14 @@ pub enum Part {
     Weave,
     /// The effect of a mode is not allowed at its variable.
     Effect,
-    /// The text gives no trace.
+    /// The text gives no trace, or spells no certificate.
     Read,
 }
 
 /// Why an input is refused: the part, its rule's number, and the place. The place is a byte, counted from
 /// 0, where the text is wrong; the limit in bytes, where it is too long; and an item of the program or of the
-/// instructions, counted from 1 in written order, where a rule is broken. In the text of a trace it is a line,
-/// counted from 1, or for a value that is missing a moment, counted from 0. It is 0 where it says nothing.
+/// instructions, counted from 1 in written order, where a rule is broken. In the text of a trace or a certificate it
+/// is a line, counted from 1, or for a value that is missing a moment, counted from 0. It is 0 where it says nothing.
 #[derive(Clone, Copy, Debug, PartialEq, Eq)]
 pub struct InputFault {
     pub part: Part,
@@ -57,11 +57,14 @@ pub enum Why {
     Top,
 }
 
-/// What is not accepted: a trace's file or its text, or the moment of this number, from 0.
+/// What is not accepted: a trace's file or its text, or the moment of this number, from 0; a certificate's file or its
+/// text, or a line of it, from 1, by the rule of this number.
 #[derive(Clone, Copy, Debug, PartialEq, Eq)]
 pub enum Objection {
     Trace(InputFault),
+    Cert(InputFault),
     Moment(u32, Why),
+    Line(u64, u32),
 }
 
 /// What is refused, each with its one line.
@@ -92,7 +95,7 @@ pub enum Status {
     Faults(InputFault),
     /// The top event is refused.
     Top(InputFault),
-    /// The trace is not accepted.
+    /// The trace or the certificate is not accepted.
     NotAccepted(Objection),
     /// A call of the desk failed.
     Desk,
@@ -150,9 +153,13 @@ impl Refusal {
             Refusal::NotAccepted(Objection::Trace(fault)) => {
                 fault_line(alloc, b"refused trace ", fault)
             }
+            Refusal::NotAccepted(Objection::Cert(fault)) => {
+                fault_line(alloc, b"refused cert ", fault)
+            }
             Refusal::NotAccepted(Objection::Moment(number, why)) => {
                 moment_line(alloc, number, why)
             }
+            Refusal::NotAccepted(Objection::Line(line, rule)) => broken_line(alloc, line, rule),
         }
     }
 }
@@ -185,6 +192,16 @@ fn moment_line(alloc: Global, number: u32, why: Why) -> Result<ByteList, OutOfMe
     line.append(text.as_bytes())?;
     line.append(why_name(why))?;
     Ok(line)
+}
+
+/// The line of a rule that a certificate breaks.
+fn broken_line(alloc: Global, line: u64, rule: u32) -> Result<ByteList, OutOfMemory>
+    ensures { IfOk result (λ text. text ≡ line_text line rule) }
+{
+    let mut text = ByteList::from_slice(alloc, b"not accepted line ")?;
+    let rest = format!(in alloc; "{line} rule {rule}\n")?;
+    text.append(rest.as_bytes())?;
+    Ok(text)
 }
 
 /// The reason as the line names it, with a space before it and the end of the line.

@@ -6,6 +6,7 @@ use Rattle.xsap_program.proofs.ExtensionLemmas.{done_extends}
 use Rattle.xsap_program.proofs.OneOutcome.{answers_exactly}
 use Rattle.xsap_program.proofs.ReplayedLaws.{done_replays, reaching_is_done}
 use Rattle.xsap_program.proofs.AnalysedLaws.{done_analyses, bounded_analyses}
+use Rattle.xsap_program.proofs.CheckedLaws.{done_checks}
 use Rattle.xsap_program.proofs.run.run.Goals as goal
 
 pub returns-in-Err-clause-answered : goal.returns-in-Err-clause-answered
@@ -91,3 +92,12 @@ returns-in-Err-prepare-clause-complete g c model faults top extended cert depth 
 
 pub returns-in-Err-prepare-clause-bounded : goal.returns-in-Err-prepare-clause-bounded
 returns-in-Err-prepare-clause-bounded g c model faults top extended cert depth size k = bounded_analyses _ _ _ _ _ _ model faults top extended cert depth size k (returns-in-Err-prepare-clause-answered g c)
+
+pub returns-in-Err-clause-accepted : goal.returns-in-Err-clause-accepted
+returns-in-Err-clause-accepted g c model faults top cert = done_checks _ _ _ _ _ _ model faults top cert (returns-in-Err-clause-answered g c)
+
+pub returns-in-Ok-prepare-clause-accepted : goal.returns-in-Ok-prepare-clause-accepted
+returns-in-Ok-prepare-clause-accepted g c model faults top cert = done_checks _ _ _ _ _ _ model faults top cert (returns-in-Ok-prepare-clause-answered g c)
+
+pub returns-in-Err-prepare-clause-accepted : goal.returns-in-Err-prepare-clause-accepted
+returns-in-Err-prepare-clause-accepted g c model faults top cert = done_checks _ _ _ _ _ _ model faults top cert (returns-in-Err-prepare-clause-answered g c)
