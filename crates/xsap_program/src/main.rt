@@ -1,23 +1,8 @@
-//! Extends SMV models with faults, replays traces of the extensions, and finds their minimal cut sets: the program over
-//! the crates below it.
+//! Extends SMV models with faults, replays traces of the extensions, finds their minimal cut sets, and checks
+//! certificates of them.
 //!
-//! [`run::run`] is the whole program over any desk: it reads the words and the files that they name, and
-//! writes and says the answer. Its contract says what a run comes to (`specs/Runs.antt`): the one line of
-//! the first refusal; the extension and its fault list; that a trace reaches the top event and what it
-//! has failed; or the analysis of a case; and what is left where the desk fails on the way. What words ask
-//! for stands in `specs/Asked.antt`, what is wrong with a file and what it holds stands in `specs/Inputs.antt`,
-//! top events in `specs/Cases.antt`, traces in `specs/Replays.antt`, analyses in `specs/Analyses.antt` and
-//! `specs/Headline.antt`, certificates in `specs/Certificates.antt`, the numbers and lines of refusals in `specs/Wrongs.antt` and `specs/Statuses.antt`,
-//! and that the written file is the extension in `specs/Extension.antt`. `main` hands `run` the words of the
-//! command line, a desk over real files, and the advisers of the search.
-//!
-//! The files stand in the order of the work: `input` (a file's bytes), `model`
-//! (program, flat model, kinds), `faults` (instructions, the weave, the limits of the whole, as a text that
-//! is written), `loaded` (the same, with the flat model in memory), `top` (the top event), `trace` (the file
-//! of a trace), `replay` (what a trace comes to), `report` (what is said), `event` (model, extension and top event
-//! together), `search` (what a search finds), `analysis` (what is written and said of it), `certificate` (what a
-//! certificate comes to) and `run`. `wrong` and `status`
-//! have what each refusal says.
+//! `main` hands [`xs_run::run::run`] the words of the command line, a desk over real files, and the advisers of the
+//! search; all that is promised of a run stands at that call.
 //!
 //! ```text
 //! xsap_program extend --model lamp.smv --faults lamp.fei --extended out.smv
@@ -28,37 +13,16 @@
 #![tactic(auto)]
 
 use real_desk::RealDesk;
-use run::run;
-use status::Status;
 use std::alloc::{AllocError, Global};
 use std::env;
 use std::io::ErrorKind;
 use std::process::ExitCode;
 use xs_adviser::{Active, Adviser, InOrder};
+use xs_run::run::run;
+use xs_run::status::Status;
 use xs_value::OutOfMemory;
 
-pub mod analysis;
-pub mod certificate;
-#[cfg(test)]
-mod check_tests;
-pub mod event;
-pub mod faults;
-pub mod input;
-pub mod loaded;
-pub mod model;
 mod real_desk;
-mod replay;
-#[cfg(test)]
-mod replay_tests;
-mod report;
-pub mod run;
-pub mod search;
-pub mod status;
-#[cfg(test)]
-mod tests;
-mod top;
-mod trace;
-pub mod wrong;
 
 /// The number that the program ends with where a word is not text, which no status has.
 const NOT_TEXT: u8 = 11;

@@ -1,0 +1,104 @@
+-- From an answered run to the extension that it has written.
+use Rattle.std.proofs.Common.{◌≡◌, ℕ, List, Option, Some, None, IfSome, IsSomeAnd, sym, ap, subst, ◌∙◌, refl}
+use Rattle.xs_desk.specs.declared.files.NamedFile.{NamedFile}
+use Rattle.xs_desk.specs.Files.{file_of, with_file}
+use Rattle.xs_desk.specs.Desk.{said_more}
+use Rattle.xs_desk.proofs.Writing.{file_of-with_file}
+use Rattle.xs_tree.specs.ProgramTree.{Text, ProgramTree}
+use Rattle.xs_tree.specs.Bytes.{BytesSpellProgram}
+use Rattle.xs_weave.specs.Woven.{woven}
+use Rattle.xs_weave.proofs.WovenNominal.{woven_extends}
+use Rattle.xs_run.specs.declared.status.Refusal.{Refusal}
+use Rattle.xs_run.specs.declared.status.Refusal.TheVariants as refusal
+use Rattle.xs_run.specs.declared.status.Status.{Status}
+use Rattle.xs_run.specs.declared.status.Status.TheVariants as status
+use Rattle.xs_run.specs.Statuses.{status_of}
+use Rattle.xs_words.specs.Commands.{Command, extend, replay, analyse, check, fmea, make}
+use Rattle.xs_words.specs.Meaning.{Means as WordsMean}
+use Rattle.xs_words.specs.Seen.{rule_of, place_of}
+use Rattle.xs_words.proofs.SeenLemmas.{same_fault}
+use Rattle.xs_words.proofs.ReadingLaws.{one_command, one_fault, commands_have_no_fault}
+use Rattle.xs_run.specs.Asked.{AsksToExtend, IsNotBuilt, RefusesWords, wrong_words, not_built}
+use Rattle.xs_run.specs.Inputs.{HoldsModel, HoldsFaults}
+use Rattle.xs_run.specs.Runs.{Outcome, ComesTo, refuses_model, refuses_faults, is_extended, Means, refuses_words, asked, IsAnswer, IsDelivered, HasAnswered, CommandComesTo}
+use Rattle.xs_run.specs.Extension.{IsExtended}
+use Rattle.xs_run.proofs.WovenSpells.{woven_text_spells}
+
+-- no refusal ends as done
+pub never_done : (r : Refusal) → status.Done ≡ status_of r → ⊥
+never_done (refusal.NotBuilt b) e = cc
+never_done (refusal.Words fault) e = cc
+never_done (refusal.Model fault) e = cc
+never_done (refusal.Faults fault) e = cc
+never_done (refusal.Top fault) e = cc
+never_done (refusal.NotAccepted o) e = cc
+
+-- words that are refused ask for nothing that is built
+pub refused_not_asked : (files : List NamedFile) (words : List Text) (r : Refusal) (c : Command) (o : Outcome) → RefusesWords words r → WordsMean words c → CommandComesTo files c o → ⊥
+refused_not_asked files words r c o (wrong_words f broken) means comes = commands_have_no_fault words c (rule_of f) (place_of f) means broken
+refused_not_asked files words r c o (not_built d also other) means comes = built c (subst IsNotBuilt (one_command words d c also means) other) comes
+  where
+    built : (e : Command) → IsNotBuilt e → CommandComesTo files e o → ⊥
+    built (extend model faults extended) other comes = other
+    built (replay model faults trace top) other comes = other
+    built (analyse model faults top depth extended cert size) other comes = other
+    built (check model faults top cert) other comes = other
+    built (fmea model faults tops size depth) other comes = comes
+    built (make number stages depth model faults) other comes = comes
+
+-- and they are refused once
+pub one_refused_words : (words : List Text) (r s : Refusal) → RefusesWords words r → RefusesWords words s → r ≡ s
+one_refused_words words r s (wrong_words f broken) (wrong_words g also) =
+    let one = one_fault words (rule_of f) (place_of f) (rule_of g) (place_of g) broken also in ap (λ h. refusal.Words h) (same_fault f g one.0 one.1)
+one_refused_words words r s (wrong_words f broken) (not_built c means other) = absurd (commands_have_no_fault words c (rule_of f) (place_of f) means broken)
+one_refused_words words r s (not_built c means other) (wrong_words f broken) = absurd (commands_have_no_fault words c (rule_of f) (place_of f) means broken)
+one_refused_words words r s (not_built c means other) (not_built d also another) = refl
+
+-- two files whose extension was written, and its report said
+files_extended : (before after : List NamedFile) (said now : Option (List ℕ)) (model faults extended : Text) (p : ProgramTree) (text report : Text) → HoldsModel before model p →
+    HoldsFaults before faults p text report → file_of after extended ≡ Some text → now ≡ said_more said report → IsExtended before after said now model faults extended
+files_extended before after said now model faults extended p text report holds have written line =
+    let made = have.extension in
+    record {
+      model_bytes = holds.bytes;
+      fault_bytes = have.bytes;
+      written_bytes = text;
+      program = p;
+      instructions = made.instructions;
+      listed = made.faults;
+      had_model = holds.has.held;
+      had_faults = have.has.held;
+      has_written = written;
+      has_said = line ∙ ap (said_more said) made.told;
+      spells_program = holds.is_text.spelled;
+      only_program = holds.is_text.only;
+      spells_instructions = made.is_text.spelled;
+      only_instructions = made.is_text.only;
+      spells_written = subst (λ t. BytesSpellProgram t (woven p made.instructions)) (sym made.printed) (woven_text_spells holds.bytes have.bytes p made.instructions holds.is_text.spelled made.is_text.spelled);
+      weavable = made.taken.weavable;
+      extension = woven_extends p made.instructions made.taken.weavable;
+      are_faults = made.are_faults;
+    }
+
+comes_extended : (files : List NamedFile) (model faults extended : Text) (o : Outcome) (s : Status) (after : Option (List NamedFile)) (said now : Option (List ℕ)) → ComesTo files model faults extended o →
+    IsDelivered o s (Some files) after said now → s ≡ status.Done → IsSomeAnd after (λ new. IsExtended files new said now model faults extended)
+comes_extended files model faults extended o s after said now (refuses_model r no_model) stands done = absurd (never_done r (sym done ∙ stands.0))
+comes_extended files model faults extended o s after said now (refuses_faults p r holds no_faults) stands done = absurd (never_done r (sym done ∙ stands.0))
+comes_extended files model faults extended o s after said now (is_extended p text report holds have) stands done =
+    subst (λ told. IsSomeAnd told (λ new. IsExtended files new said now model faults extended)) (sym stands.1)
+    (files_extended files (with_file files extended text) said now model faults extended p text report holds have (file_of-with_file files extended text) stands.2)
+
+means_extended : (files : List NamedFile) (words : List Text) (model faults extended : Text) (o : Outcome) (s : Status) (after : Option (List NamedFile)) (said now : Option (List ℕ)) → Means files words o →
+    AsksToExtend words model faults extended → IsDelivered o s (Some files) after said now → s ≡ status.Done → IsSomeAnd after (λ new. IsExtended files new said now model faults extended)
+means_extended files words model faults extended o s after said now (refuses_words r refused) asks stands done = absurd (never_done r (sym done ∙ stands.0))
+means_extended files words model faults extended o s after said now (asked c o' named comes) asks stands done =
+    comes_extended files model faults extended o' s after said now (subst (λ d. CommandComesTo files d o') (one_command words c (extend model faults extended) named asks) comes) stands done
+
+-- a run that answers that it is done has extended the model
+pub done_extends : (told after : Option (List NamedFile)) (said now : Option (List ℕ)) (words : List Text) (s : Status) (model faults extended : Text) →
+    (IsAnswer s → IfSome told (λ files. HasAnswered files words s told after said now)) → s ≡ status.Done → AsksToExtend words model faults extended →
+    IfSome told (λ before. IsSomeAnd after (λ new. IsExtended before new said now model faults extended))
+done_extends None after said now words s model faults extended answered done asks = tt
+done_extends (Some files) after said now words s model faults extended answered done asks =
+    let answer = answered (subst IsAnswer (sym done) tt) in
+    means_extended files words model faults extended answer.outcome s after said now answer.means asks answer.delivered done

@@ -1,0 +1,58 @@
+-- What words and files come to is one.
+use Rattle.std.proofs.Common.{◌≡◌, ℕ, List, Option, Some, None, IfSome, ap, subst, ◌∙◌}
+use Rattle.xs_desk.specs.declared.files.NamedFile.{NamedFile}
+use Rattle.xs_tree.specs.ProgramTree.{Text}
+use Rattle.xs_words.specs.Commands.{Command, extend, replay, analyse, check, fmea, make}
+use Rattle.xs_words.proofs.ReadingLaws.{one_command}
+use Rattle.xs_run.specs.declared.status.Status.{Status}
+use Rattle.xs_run.specs.Inputs.{HoldsFaults, RefusesFaults}
+use Rattle.xs_run.specs.Runs.{Outcome, refuses, extends, ComesTo, refuses_model, refuses_faults, is_extended, CommandComesTo, Means, refuses_words, asked, IsAnswer, IsDelivered, HasAnswered}
+use Rattle.xs_run.proofs.ExtensionLemmas.{refused_not_asked, one_refused_words}
+use Rattle.xs_run.proofs.OneExtending.{one_refused_faults, taken_not_refused, one_taken}
+use Rattle.xs_run.proofs.OneModelFault.{one_refused_model, held_not_refused, one_held_model}
+use Rattle.xs_run.proofs.OneReplay.{replay_comes_to_one}
+use Rattle.xs_run.proofs.OneEvent.{analysis_comes_to_one}
+use Rattle.xs_run.proofs.OneCheck.{check_comes_to_one}
+
+module _ (files : List NamedFile) (model faults extended : Text) where
+  comes_to_one : (o q : Outcome) → ComesTo files model faults extended o → ComesTo files model faults extended q → o ≡ q
+  comes_to_one o q (refuses_model r bad) (refuses_model s also) = ap refuses (one_refused_model files model r s bad also)
+  comes_to_one o q (refuses_model r bad) (refuses_faults p s holds wrong) = absurd (held_not_refused files model p r holds bad)
+  comes_to_one o q (refuses_model r bad) (is_extended p text report holds have) = absurd (held_not_refused files model p r holds bad)
+  comes_to_one o q (refuses_faults p r holds wrong) (refuses_model s bad) = absurd (held_not_refused files model p s holds bad)
+  comes_to_one o q (refuses_faults p r holds wrong) (refuses_faults t s other also) =
+      ap refuses (one_refused_faults files faults p holds.flat holds.lawful r s wrong (subst (λ u. RefusesFaults files faults u s) (one_held_model files model p t holds other) also))
+  comes_to_one o q (refuses_faults p r holds wrong) (is_extended t text report other have) =
+      absurd (taken_not_refused files faults p holds.flat holds.lawful text report r (subst (λ u. HoldsFaults files faults u text report) (one_held_model files model p t holds other) have) wrong)
+  comes_to_one o q (is_extended p text report holds have) (refuses_model s bad) = absurd (held_not_refused files model p s holds bad)
+  comes_to_one o q (is_extended p text report holds have) (refuses_faults t s other wrong) =
+      absurd (taken_not_refused files faults p holds.flat holds.lawful text report s have (subst (λ u. RefusesFaults files faults u s) (one_held_model files model p t holds other) wrong))
+  comes_to_one o q (is_extended p text report holds have) (is_extended t text' report' other have') =
+      let same = one_taken files faults p holds.flat holds.lawful text report text' report' have (subst (λ u. HoldsFaults files faults u text' report') (one_held_model files model p t holds other) have') in
+      ap (λ t. extends extended t report) same.0 ∙ ap (extends extended text') same.1
+
+-- what a command comes to is one
+command_comes_to_one : (files : List NamedFile) (c : Command) (o q : Outcome) → CommandComesTo files c o → CommandComesTo files c q → o ≡ q
+command_comes_to_one files (extend model faults extended) o q h g = comes_to_one files model faults extended o q h g
+command_comes_to_one files (replay model faults trace top) o q h g = replay_comes_to_one files model faults trace top o q h g
+command_comes_to_one files (analyse model faults top depth extended cert size) o q h g = analysis_comes_to_one files model faults top depth extended cert size o q h g
+command_comes_to_one files (check model faults top cert) o q h g = check_comes_to_one files model faults top cert o q h g
+command_comes_to_one files (fmea model faults tops size depth) o q h g = absurd h
+command_comes_to_one files (make number stages depth model faults) o q h g = absurd h
+
+-- two outcomes of the same words and files are one: the same refusal, the same text and report, or the same report
+pub one_outcome : (files : List NamedFile) (words : List Text) (o q : Outcome) → Means files words o → Means files words q → o ≡ q
+one_outcome files words o q (refuses_words r refused) (refuses_words s also) = ap refuses (one_refused_words words r s refused also)
+one_outcome files words o q (refuses_words r refused) (asked c q' means comes) = absurd (refused_not_asked files words r c q' refused means comes)
+one_outcome files words o q (asked c o' means comes) (refuses_words r refused) = absurd (refused_not_asked files words r c o' refused means comes)
+one_outcome files words o q (asked c o' means comes) (asked d q' means' comes') =
+    command_comes_to_one files c o' q' comes (subst (λ e. CommandComesTo files e q') (one_command words d c means' means) comes')
+
+-- so that a run that has answered stands by whatever its words and files come to
+pub answers_exactly : (told after : Option (List NamedFile)) (said now : Option (List ℕ)) (words : List Text) (s : Status) →
+    (IsAnswer s → IfSome told (λ files. HasAnswered files words s told after said now)) → IsAnswer s →
+    IfSome told (λ files. (o : Outcome) → Means files words o → IsDelivered o s told after said now)
+answers_exactly None after said now words s answered answer = tt
+answers_exactly (Some files) after said now words s answered answer =
+    let given = answered answer in
+    λ o means. subst (λ q. IsDelivered q s (Some files) after said now) (one_outcome files words given.outcome o given.means means) given.delivered

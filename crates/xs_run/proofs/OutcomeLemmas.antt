@@ -1,0 +1,169 @@
+-- From the parts of a run to its outcome.
+use Rattle.std.proofs.Common.{◌≡◌, ◌⊎◌, inl, inr, ⊎_elim, ℕ, List, Option, Some, None, IfSome, Result, Ok, Err, OnOk, refl, sym, ap, subst, ◌∙◌}
+use Rattle.xs_desk.specs.declared.files.NamedFile.{NamedFile}
+use Rattle.xs_desk.specs.Desk.{said_more, SaysPrefix}
+use Rattle.xs_tree.specs.ProgramTree.{Text, ProgramTree}
+use Rattle.xs_tree.specs.Tree.{Tree}
+use Rattle.xs_flattening.specs.Flat.{FlatLeaf}
+use Rattle.xs_words.specs.Commands.{Command}
+use Rattle.xs_words.specs.Meaning.{Means as WordsMean}
+use Rattle.xs_run.specs.declared.faults.Made.{Made}
+use Rattle.xs_desk.specs.declared.desk.WriteStop.{WriteStop}
+use Rattle.xs_desk.specs.declared.desk.WriteStop.TheVariants as write_stop
+use Rattle.xs_run.specs.Delivered.{ended_as, Stopped}
+use Rattle.xs_run.specs.Inputs.{RefusesModel, HoldsModel, RefusesFaults, HoldsExtension}
+use Rattle.xs_run.specs.Cases.{Case, HoldsCase, IsWrongWord}
+use Rattle.xs_run.specs.Loaded.{case_of, HoldsLoaded, IsTopIn}
+use Rattle.xs_run.specs.Runs.{Outcome, refuses, extends, ComesTo, refuses_model, refuses_faults, is_extended, TraceComesTo, ReplayComesTo, refuses_its_model, refuses_its_faults, refuses_its_top, reads_its_trace, CommandComesTo, Means, asked, refuses_words, IsAnswer, IsDelivered, IsDeliveredInPart, HasAnswered, HasStopped}
+use Rattle.xs_run.specs.declared.loaded.LoadedCase.{LoadedCase}
+use Rattle.xs_run.specs.declared.status.InputFault.{InputFault}
+use Rattle.xs_run.specs.declared.status.Refusal.{Refusal}
+use Rattle.xs_run.specs.declared.status.Refusal.TheVariants as refusal
+use Rattle.xs_run.specs.declared.status.Status.{Status}
+use Rattle.xs_run.specs.declared.status.Status.TheVariants as status
+use Rattle.xs_run.specs.declared.input.Stop.{Stop}
+use Rattle.xs_run.specs.declared.input.Stop.TheVariants as stopped
+use Rattle.xs_run.specs.Statuses.{status_of, refusal_text}
+use Rattle.xs_run.specs.Asked.{RefusesWords}
+
+module _ (model faults extended : Text) where
+  -- the model is refused
+  pub comes_to_no_model : (told : Option (List NamedFile)) (r : Refusal) → IfSome told (λ files. RefusesModel files model r) →
+      IfSome told (λ files. ComesTo files model faults extended (refuses r))
+  comes_to_no_model None r no_model = tt
+  comes_to_no_model (Some files) r no_model = refuses_model r no_model
+
+  -- the instructions are refused
+  pub comes_to_no_faults : (told mid : Option (List NamedFile)) (p : ProgramTree) (r : Refusal) → mid ≡ told → IfSome told (λ files. HoldsModel files model p) →
+      IfSome mid (λ files. RefusesFaults files faults p r) → IfSome told (λ files. ComesTo files model faults extended (refuses r))
+  comes_to_no_faults told mid p r same holds no_faults = at_told told holds (subst (λ t. IfSome t (λ files. RefusesFaults files faults p r)) same no_faults) where
+    at_told : (t : Option (List NamedFile)) → IfSome t (λ files. HoldsModel files model p) → IfSome t (λ files. RefusesFaults files faults p r) →
+        IfSome t (λ files. ComesTo files model faults extended (refuses r))
+    at_told None holds no_faults = tt
+    at_told (Some files) holds no_faults = refuses_faults p r holds no_faults
+
+  -- both are taken: the extension of the one by the other
+  pub comes_to_extension : (told mid : Option (List NamedFile)) (p : ProgramTree) (made : Made) → mid ≡ told → IfSome told (λ files. HoldsModel files model p) →
+      IfSome mid (λ files. HoldsExtension files faults p made) →
+      IfSome told (λ files. ComesTo files model faults extended (extends extended made.text.items made.report))
+  comes_to_extension told mid p made same holds has = at_told told holds (subst (λ t. IfSome t (λ files. HoldsExtension files faults p made)) same has) where
+    at_told : (t : Option (List NamedFile)) → IfSome t (λ files. HoldsModel files model p) → IfSome t (λ files. HoldsExtension files faults p made) →
+        IfSome t (λ files. ComesTo files model faults extended (extends extended made.text.items made.report))
+    at_told None holds has = tt
+    at_told (Some files) holds has = is_extended p made.text.items made.report holds has
+
+module _ (model faults trace top : Text) where
+  -- the model of a replay is refused
+  pub replays_no_model : (told : Option (List NamedFile)) (r : Refusal) → IfSome told (λ files. RefusesModel files model r) →
+      IfSome told (λ files. ReplayComesTo files model faults trace top (refuses r))
+  replays_no_model None r no_model = tt
+  replays_no_model (Some files) r no_model = refuses_its_model r no_model
+
+  -- its instructions are
+  pub replays_no_faults : (told mid : Option (List NamedFile)) (p : ProgramTree) (r : Refusal) → mid ≡ told → IfSome told (λ files. HoldsModel files model p) →
+      IfSome mid (λ files. RefusesFaults files faults p r) → IfSome told (λ files. ReplayComesTo files model faults trace top (refuses r))
+  replays_no_faults told mid p r same holds no_faults = at_told told holds (subst (λ t. IfSome t (λ files. RefusesFaults files faults p r)) same no_faults) where
+    at_told : (t : Option (List NamedFile)) → IfSome t (λ files. HoldsModel files model p) → IfSome t (λ files. RefusesFaults files faults p r) →
+        IfSome t (λ files. ReplayComesTo files model faults trace top (refuses r))
+    at_told None holds no_faults = tt
+    at_told (Some files) holds no_faults = refuses_its_faults p r holds no_faults
+
+  -- both are taken
+  pub holds_case : (told mid : Option (List NamedFile)) (p : ProgramTree) (l : LoadedCase) → mid ≡ told → IfSome told (λ files. HoldsModel files model p) →
+      IfSome mid (λ files. HoldsLoaded files faults p l) → IfSome told (λ files. HoldsCase files model faults (case_of p l))
+  holds_case told mid p l same holds loaded = at_told told holds (subst (λ t. IfSome t (λ files. HoldsLoaded files faults p l)) same loaded) where
+    at_told : (t : Option (List NamedFile)) → IfSome t (λ files. HoldsModel files model p) → IfSome t (λ files. HoldsLoaded files faults p l) →
+        IfSome t (λ files. HoldsCase files model faults (case_of p l))
+    at_told None holds loaded = tt
+    at_told (Some files) holds loaded = record { program = holds; bytes = loaded.bytes; has = loaded.has; is_text = loaded.is_text; is_case = loaded.is_case }
+
+  -- its top event is refused
+  pub replays_no_top : (told : Option (List NamedFile)) (c : Case) (r : Refusal) → IfSome told (λ files. HoldsCase files model faults c) →
+      (fault : InputFault) × (r ≡ refusal.Top fault) × IsWrongWord c.program top fault → IfSome told (λ files. ReplayComesTo files model faults trace top (refuses r))
+  replays_no_top None c r holds wrong = tt
+  replays_no_top (Some files) c r holds (fault, is, wrong) = subst (λ s. ReplayComesTo files model faults trace top (refuses s)) (sym is) (refuses_its_top c fault holds wrong)
+
+  -- its trace is read
+  pub replays_trace : (told mid : Option (List NamedFile)) (c : Case) (tree : Tree FlatLeaf) (o : Outcome) → mid ≡ told → IfSome told (λ files. HoldsCase files model faults c) → IsTopIn c top tree →
+      IfSome mid (λ files. TraceComesTo files c tree trace o) → IfSome told (λ files. ReplayComesTo files model faults trace top o)
+  replays_trace told mid c tree o same holds event comes = at_told told holds (subst (λ t. IfSome t (λ files. TraceComesTo files c tree trace o)) same comes) where
+    at_told : (t : Option (List NamedFile)) → IfSome t (λ files. HoldsCase files model faults c) → IfSome t (λ files. TraceComesTo files c tree trace o) →
+        IfSome t (λ files. ReplayComesTo files model faults trace top o)
+    at_told None holds comes = tt
+    at_told (Some files) holds comes = reads_its_trace c event.top tree o holds event.is_word event.is_tree comes
+
+-- what a command comes to is what the words mean
+pub means_asked : (told : Option (List NamedFile)) (words : List Text) (c : Command) (o : Outcome) → WordsMean words c → IfSome told (λ files. CommandComesTo files c o) →
+    IfSome told (λ files. Means files words o)
+means_asked None words c o means comes = tt
+means_asked (Some files) words c o means comes = asked c o means comes
+
+no_answer : {s : Status} {P : Type 0} → (s ≡ status.Desk) ⊎ (s ≡ status.Memory) → IsAnswer s → P
+no_answer (inl desk) answer = absurd (subst IsAnswer desk answer)
+no_answer (inr memory) answer = absurd (subst IsAnswer memory answer)
+
+module _ (words : List Text) (told mid after : Option (List NamedFile)) (said mid_said now : Option (List ℕ)) (same : mid ≡ told) (same_said : mid_said ≡ said) where
+  -- a refusal that was said
+  pub answers_refusal : (r : Refusal) (s : Status) → IfSome told (λ files. Means files words (refuses r)) → (s ≡ status_of r) ⊎ ((s ≡ status.Desk) ⊎ (s ≡ status.Memory)) →
+      (s ≡ status_of r → now ≡ said_more mid_said (refusal_text r)) → after ≡ mid → IsAnswer s → IfSome told (λ files. HasAnswered files words s told after said now)
+  answers_refusal r s means ends said_line kept answer = ⊎_elim (λ is. at_told told means (kept ∙ same) is) (λ other. no_answer other answer) ends where
+    at_told : (t : Option (List NamedFile)) → IfSome t (λ files. Means files words (refuses r)) → after ≡ told → s ≡ status_of r → IfSome t (λ files. HasAnswered files words s told after said now)
+    at_told None means whole is = tt
+    at_told (Some files) means whole is =
+        record { outcome = refuses r; means = means; delivered = (is, whole, said_line is ∙ ap (λ t. said_more t (refusal_text r)) same_said) }
+
+  pub stops_at_refusal : (r : Refusal) → IfSome told (λ files. Means files words (refuses r)) → SaysPrefix mid_said now (refusal_text r) → after ≡ mid →
+      IfSome told (λ files. HasStopped files words told after said now)
+  stops_at_refusal r means front kept = at_told told means (kept ∙ same) where
+    at_told : (t : Option (List NamedFile)) → IfSome t (λ files. Means files words (refuses r)) → after ≡ told → IfSome t (λ files. HasStopped files words told after said now)
+    at_told None means whole = tt
+    at_told (Some files) means whole = record { outcome = refuses r; means = means; in_part = (whole, subst (λ t. SaysPrefix t now (refusal_text r)) same_said front) }
+
+  -- a run that could not go on
+  pub answers_stop : (stop : Stop) (s : Status) → ((r : Refusal) → stop ≡ stopped.Refused r → IfSome told (λ files. Means files words (refuses r))) →
+      Stopped stop s mid after mid_said now → IsAnswer s → IfSome told (λ files. HasAnswered files words s told after said now)
+  answers_stop (stopped.Refused r) s means ended answer = answers_refusal r s (means r refl) ended.ends ended.line ended.kept answer
+  answers_stop stopped.Desk s means ended answer = no_answer (inl ended.ends) answer
+  answers_stop stopped.Memory s means ended answer = no_answer (inr ended.ends) answer
+
+  pub leaves_stop : (stop : Stop) (s : Status) → ((r : Refusal) → stop ≡ stopped.Refused r → IfSome told (λ files. Means files words (refuses r))) →
+      Stopped stop s mid after mid_said now →
+      ((after ≡ told) × (now ≡ said)) ⊎ IfSome told (λ files. HasStopped files words told after said now)
+  leaves_stop (stopped.Refused r) s means ended = inr (stops_at_refusal r (means r refl) ended.part ended.kept)
+  leaves_stop stopped.Desk s means ended = inl (ended.kept ∙ same, ended.silent ∙ same_said)
+  leaves_stop stopped.Memory s means ended = inl (ended.kept ∙ same, ended.silent ∙ same_said)
+
+  -- what was prepared was written and said
+  pub answers_prepared : (o : Outcome) (s : Status) → IfSome told (λ files. Means files words o) → (IsAnswer s → IsDelivered o s mid after mid_said now) → IsAnswer s →
+      IfSome told (λ files. HasAnswered files words s told after said now)
+  answers_prepared o s means delivered answer = at_told told means where
+    at_told : (t : Option (List NamedFile)) → IfSome t (λ files. Means files words o) → IfSome t (λ files. HasAnswered files words s told after said now)
+    at_told None means = tt
+    at_told (Some files) means =
+        record {
+          outcome = o;
+          means = means;
+          delivered = subst (λ t. IsDelivered o s t after said now) same (subst (λ t. IsDelivered o s mid after t now) same_said (delivered answer));
+        }
+
+  pub stops_at_prepared : (o : Outcome) → IfSome told (λ files. Means files words o) → IsDeliveredInPart o mid after mid_said now → IfSome told (λ files. HasStopped files words told after said now)
+  stops_at_prepared o means part = at_told told means where
+    at_told : (t : Option (List NamedFile)) → IfSome t (λ files. Means files words o) → IfSome t (λ files. HasStopped files words told after said now)
+    at_told None means = tt
+    at_told (Some files) means =
+        record {
+          outcome = o;
+          means = means;
+          in_part = subst (λ t. IsDeliveredInPart o t after said now) same (subst (λ t. IsDeliveredInPart o mid after t now) same_said part);
+        }
+
+-- where writing and saying were done the run is, and else it has no answer
+pub ended_answers : (P : Type 0) (written : Result (Unit {0}) WriteStop) (s : Status) → s ≡ ended_as status.Done written → OnOk written P → IsAnswer s → (s ≡ status.Done) × P
+ended_answers P (Ok done) s is so answer = (is, so)
+ended_answers P (Err write_stop.Failed) s is so answer = absurd (subst IsAnswer is answer)
+ended_answers P (Err write_stop.OutOfMemory) s is so answer = absurd (subst IsAnswer is answer)
+
+-- words that are refused
+pub means_refused : (told : Option (List NamedFile)) (words : List Text) (r : Refusal) → RefusesWords words r → IfSome told (λ files. Means files words (refuses r))
+means_refused None words r refused = tt
+means_refused (Some files) words r refused = refuses_words r refused

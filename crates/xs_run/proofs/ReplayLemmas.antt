@@ -1,0 +1,167 @@
+-- From what is in memory to what a replay comes to.
+use Rattle.std.proofs.Common.{◌≡◌, ℕ, suc, ◌++◌, List, [], ◌∷◌, Option, Some, None, IfSome, refl, sym, ap, subst, ◌∙◌}
+use Rattle.std.specs.Prelude.{codes, length, map}
+use Rattle.std.proofs.lemmas.List.{length-map}
+use Rattle.xs_desk.specs.declared.files.NamedFile.{NamedFile}
+use Rattle.xs_tree.specs.ProgramTree.{Text, ProgramTree}
+use Rattle.xs_tree.specs.Tree.{Tree}
+use Rattle.xs_tree.specs.Values.{Value}
+use Rattle.xs_value.specs.declared.value.Value.{Value as Numbered}
+use Rattle.xs_scope.specs.ModelTree.{model_tree, mode_of}
+use Rattle.xs_scope.specs.declared.model.FlatModel.{FlatModel as Flat}
+use Rattle.xs_scope.specs.declared.model.Fault.{Fault as FaultOf}
+use Rattle.xs_flattening.specs.Flat.{FlatLeaf, FlatModel}
+use Rattle.xs_flattening.specs.FlatTrace.{stands_in_some}
+use Rattle.xs_eval.specs.Named.{named_all, named_trace, IsEvaluable}
+use Rattle.xs_eval.specs.Replayed.{IsReaching}
+use Rattle.xs_eval.specs.Stops.{Stops}
+use Rattle.xs_eval.proofs.ModelLaws.{evaluable}
+use Rattle.xs_extend.specs.WovenFaults.{fault_tree}
+use Rattle.xs_extend.specs.NumberedFaults.{AreNumbered}
+use Rattle.xs_extend.specs.declared.faults.WovenFault.{WovenFault}
+use Rattle.xs_report.specs.Told.{told_trace}
+use Rattle.xs_report.specs.Faults.{IsFaultOf}
+use Rattle.xs_report.specs.declared.fault.TraceFault as read
+use Rattle.xs_report.specs.declared.fault.TraceFault.TheVariants as fault
+use Rattle.xs_trace_text.specs.Given.{IsPrintable, HasItsSymbols, BytesGive}
+use Rattle.xs_trace_text.specs.Wrong.{TraceFault, wrong_line, missing_value, bad_line, unknown_name, outside, twice, IsFirstFault}
+use Rattle.xs_trace_text.proofs.Named.{named_is_printable}
+use Rattle.xs_trace_text.proofs.FlatNames.{flat_models_named}
+use Rattle.xs_trace_text.proofs.FlatSymbols.{flat_models_have_symbols}
+use Rattle.xs_run.specs.declared.loaded.LoadedCase.{LoadedCase}
+use Rattle.xs_run.specs.declared.status.InputFault.{InputFault}
+use Rattle.xs_run.specs.declared.status.Why.{Why}
+use Rattle.xs_run.specs.declared.status.Objection.TheVariants as objection
+use Rattle.xs_run.specs.declared.status.Refusal.{Refusal}
+use Rattle.xs_run.specs.declared.status.Refusal.TheVariants as refusal
+use Rattle.xs_run.specs.declared.wrong.Wrong.{Wrong}
+use Rattle.xs_run.specs.declared.wrong.Wrong.TheVariants as wrong
+use Rattle.xs_run.specs.declared.input.Stop.TheVariants as stop
+use Rattle.xs_run.specs.Wrongs.{IfRefused}
+use Rattle.xs_run.specs.Cases.{extension_of, IsWrongWord, too_long, not_spelled}
+use Rattle.xs_run.specs.Tasks.{IsRefusedAbove, HasAtMost}
+use Rattle.xs_run.specs.Answered.{replay_text}
+use Rattle.xs_run.specs.Loaded.{case_of, IsLoaded, IsWrongTopText, too_long_top, not_a_top}
+use Rattle.xs_run.specs.Tops.{stop_at_top}
+use Rattle.xs_run.specs.Replays.{text_fault, stop_at_text, RefusesTrace, trace_file, trace_bytes, HoldsTrace, reason_of, RefusesMoment, at_moment, names_where}
+use Rattle.xs_run.specs.Runs.{refuses, says, TraceComesTo, refuses_trace, refuses_moment, is_reached}
+use Rattle.xs_run.proofs.FailedLaws.{said_of_replay}
+use Rattle.xs_run.proofs.TraceLaws.{trace_is_told}
+
+-- Top events.
+pub wrong_text : (p : ProgramTree) (bytes : Text) (told : InputFault) → IsWrongTopText bytes told → IsWrongWord p bytes told
+wrong_text p bytes told (too_long_top more is) = too_long more is
+wrong_text p bytes told (not_a_top f few means is) = not_spelled f few means is
+
+pub refuses_top : (P : InputFault → Type 0) (w : Wrong) (r : Refusal) → stop.Refused r ≡ stop_at_top w → IfRefused P w → (told : InputFault) × (r ≡ refusal.Top told) × P told
+refuses_top P (wrong.Refused told) r is bad = let same : r ≡ refusal.Top told = cc in (told, same, bad)
+refuses_top P wrong.Memory r is bad = cc
+
+pub no_desk_at_top : (w : Wrong) → stop.Desk ≡ stop_at_top w → ⊥
+no_desk_at_top (wrong.Refused told) is = cc
+no_desk_at_top wrong.Memory is = cc
+
+-- The file of a trace.
+pub refuses_trace_file : (told : Option (List NamedFile)) (name : Text) (m : FlatModel) (r : Refusal) (a : InputFault) → r ≡ refusal.NotAccepted (objection.Trace a) →
+    IfSome told (λ files. IsRefusedAbove 16777216 files name a) → IfSome told (λ files. RefusesTrace files name m r)
+refuses_trace_file None name m r a is refused = tt
+refuses_trace_file (Some files) name m r a is refused = trace_file a is refused
+
+module _ (told : Option (List NamedFile)) (name : Text) (m : FlatModel) (bytes : List ℕ) (has : IfSome told (λ files. HasAtMost 16777216 files name bytes)) where
+  at_first_fault : (f : TraceFault) (r : Refusal) → r ≡ refusal.NotAccepted (objection.Trace (text_fault f)) → IsFirstFault m bytes f → IfSome told (λ files. RefusesTrace files name m r)
+  at_first_fault f r is first = at_told told has
+    where
+      at_told : (t : Option (List NamedFile)) → IfSome t (λ files. HasAtMost 16777216 files name bytes) → IfSome t (λ files. RefusesTrace files name m r)
+      at_told None has = tt
+      at_told (Some files) has = trace_bytes bytes f is has first
+
+  pub refuses_trace_text : (f : read.TraceFault) (r : Refusal) → stop.Refused r ≡ stop_at_text f → IsFaultOf m bytes f → IfSome told (λ files. RefusesTrace files name m r)
+  refuses_trace_text (fault.BadLine n) r is first = let same : r ≡ refusal.NotAccepted (objection.Trace (text_fault (wrong_line bad_line n))) = cc in at_first_fault (wrong_line bad_line n) r same first
+  refuses_trace_text (fault.UnknownName n) r is first = let same : r ≡ refusal.NotAccepted (objection.Trace (text_fault (wrong_line unknown_name n))) = cc in at_first_fault (wrong_line unknown_name n) r same first
+  refuses_trace_text (fault.Outside n) r is first = let same : r ≡ refusal.NotAccepted (objection.Trace (text_fault (wrong_line outside n))) = cc in at_first_fault (wrong_line outside n) r same first
+  refuses_trace_text (fault.MissingValue k) r is first = let same : r ≡ refusal.NotAccepted (objection.Trace (text_fault (missing_value k))) = cc in at_first_fault (missing_value k) r same first
+  refuses_trace_text (fault.Twice n) r is first = let same : r ≡ refusal.NotAccepted (objection.Trace (text_fault (wrong_line twice n))) = cc in at_first_fault (wrong_line twice n) r same first
+  refuses_trace_text fault.OutOfMemory r is first = cc
+
+-- text that gives a trace
+pub holds_trace : (told : Option (List NamedFile)) (name : Text) (m : FlatModel) (bytes : List ℕ) (trace : List (List Value)) → IfSome told (λ files. HasAtMost 16777216 files name bytes) →
+    BytesGive m bytes trace → IfSome told (λ files. HoldsTrace files name m trace)
+holds_trace None name m bytes trace has gives = tt
+holds_trace (Some files) name m bytes trace has gives = record { bytes = bytes; has = has; gives = gives }
+
+pub no_desk_at_text : (f : read.TraceFault) → stop.Desk ≡ stop_at_text f → ⊥
+no_desk_at_text (fault.BadLine n) is = cc
+no_desk_at_text (fault.UnknownName n) is = cc
+no_desk_at_text (fault.Outside n) is = cc
+no_desk_at_text (fault.MissingValue k) is = cc
+no_desk_at_text (fault.Twice n) is = cc
+no_desk_at_text fault.OutOfMemory is = cc
+
+-- The extension in memory.
+module _ (p : ProgramTree) (l : LoadedCase) (loaded : IsLoaded p l) where
+  pub loaded_printable : IsPrintable (model_tree l.limited.typed.model)
+  loaded_printable =
+      named_is_printable (model_tree l.limited.typed.model)
+      (flat_models_named (extension_of (case_of p l)) (model_tree l.limited.typed.model) loaded.is_case.within.accepted loaded.is_case.is_flat.is loaded.writable)
+
+  pub loaded_symbols : HasItsSymbols (model_tree l.limited.typed.model)
+  loaded_symbols = flat_models_have_symbols (extension_of (case_of p l)) (model_tree l.limited.typed.model) loaded.is_case.within.accepted loaded.is_case.is_flat.is
+
+  pub loaded_evaluable : IsEvaluable (model_tree l.limited.typed.model)
+  loaded_evaluable = evaluable (extension_of (case_of p l)) (model_tree l.limited.typed.model) loaded.is_case.is_flat.is
+
+pub same_counts : (m : Flat) (ws : List WovenFault) (fs : List FaultOf) → AreNumbered m ws fs → length ws ≡ length fs
+same_counts m [] [] h = refl
+same_counts m [] (f ∷ fs) h = absurd h
+same_counts m (w ∷ ws) [] h = absurd h
+same_counts m (w ∷ ws) (f ∷ fs) h = ap suc (same_counts m ws fs h.1)
+
+-- A trace that was read.
+module _ (told : Option (List NamedFile)) (p : ProgramTree) (l : LoadedCase) (tree : Tree FlatLeaf) (name : Text) where
+  pub trace_refused : (r : Refusal) → IfSome told (λ files. RefusesTrace files name (model_tree l.limited.typed.model) r) → IfSome told (λ files. TraceComesTo files (case_of p l) tree name (refuses r))
+  trace_refused r bad = at_told told bad
+    where
+      at_told : (t : Option (List NamedFile)) → IfSome t (λ files. RefusesTrace files name (model_tree l.limited.typed.model) r) → IfSome t (λ files. TraceComesTo files (case_of p l) tree name (refuses r))
+      at_told None bad = tt
+      at_told (Some files) bad = refuses_trace r bad
+
+  module _ (trace : List (List Numbered)) (holds : IfSome told (λ files. HoldsTrace files name (model_tree l.limited.typed.model) (told_trace l.limited.typed.model.symbols trace))) where
+    held : (t : Option (List NamedFile)) → IfSome t (λ files. HoldsTrace files name (model_tree l.limited.typed.model) (told_trace l.limited.typed.model.symbols trace)) →
+        IfSome t (λ files. HoldsTrace files name (model_tree l.limited.typed.model) (named_trace l.limited.typed.model.symbols trace))
+    held t h = subst (λ u. IfSome t (λ files. HoldsTrace files name (model_tree l.limited.typed.model) u)) (sym (trace_is_told l.limited.typed.model.symbols trace)) h
+
+    pub moment_refused : (r : Refusal) → RefusesMoment (model_tree l.limited.typed.model) tree (named_trace l.limited.typed.model.symbols trace) r →
+        IfSome told (λ files. TraceComesTo files (case_of p l) tree name (refuses r))
+    moment_refused r bad = at_told told (held told holds)
+      where
+        at_told : (t : Option (List NamedFile)) → IfSome t (λ files. HoldsTrace files name (model_tree l.limited.typed.model) (named_trace l.limited.typed.model.symbols trace)) →
+            IfSome t (λ files. TraceComesTo files (case_of p l) tree name (refuses r))
+        at_told None h = tt
+        at_told (Some files) h = refuses_moment (named_trace l.limited.typed.model.symbols trace) r h bad
+
+    pub trace_reaches : (text : Text) → AreNumbered l.limited.typed.model l.limited.woven.faults l.limited.faults →
+        IsReaching (model_tree l.limited.typed.model) tree (named_trace l.limited.typed.model.symbols trace) →
+        text ≡ codes "reaches\nfailed" ++ (names_where (λ f. stands_in_some (model_tree l.limited.typed.model) f (named_trace l.limited.typed.model.symbols trace)) (map fault_tree l.limited.woven.faults) (map mode_of l.limited.faults) ++ codes "\n") →
+        IfSome told (λ files. TraceComesTo files (case_of p l) tree name (says text))
+    trace_reaches text numbered reaching is = at_told told (held told holds)
+      where
+        counts : length (map fault_tree l.limited.woven.faults) ≡ length (map mode_of l.limited.faults)
+        counts = length-map l.limited.woven.faults fault_tree ∙ same_counts l.limited.typed.model l.limited.woven.faults l.limited.faults numbered ∙ sym (length-map l.limited.faults mode_of)
+
+        whole : text ≡ replay_text (case_of p l) (named_trace l.limited.typed.model.symbols trace)
+        whole = is ∙ said_of_replay (case_of p l) (named_trace l.limited.typed.model.symbols trace) counts
+
+        at_told : (t : Option (List NamedFile)) → IfSome t (λ files. HoldsTrace files name (model_tree l.limited.typed.model) (named_trace l.limited.typed.model.symbols trace)) →
+            IfSome t (λ files. TraceComesTo files (case_of p l) tree name (says text))
+        at_told None h = tt
+        at_told (Some files) h =
+            subst (λ said. TraceComesTo files (case_of p l) tree name (says said)) (sym whole) (is_reached (named_trace l.limited.typed.model.symbols trace) h reaching)
+
+-- A moment that is not accepted.
+pub moment_told : (m : FlatModel) (top : Tree FlatLeaf) (trace : List (List Value)) (i : ℕ) (w : Why) (r : Refusal) → stop.Refused r ≡ stop.Refused (refusal.NotAccepted (objection.Moment i w)) →
+    Stops m top trace i (reason_of w) → RefusesMoment m top trace r
+moment_told m top trace i w r is stops = let same : r ≡ refusal.NotAccepted (objection.Moment i w) = cc in at_moment i w same stops
+
+-- so many moments, named or not
+pub as_many : (symbols : List Text) (trace : List (List Numbered)) → length (named_trace symbols trace) ≡ length trace
+as_many symbols trace = length-map trace (named_all symbols)

@@ -1,0 +1,23 @@
+use Rattle.xs_run.specs.Answered.{extension_text}
+use Rattle.xs_run.specs.Searches.{analysed_case}
+use Rattle.xs_run.specs.Analyses.{part_of_extension}
+use Rattle.xs_run.proofs.Concluded.{whole_prefix, written_extension, has_analysed_if, analyses_in_part}
+use Rattle.xs_run.proofs.analysis.deliver_analysis.Goals as goal
+
+pub returns-in_err-found-clause-part : goal.returns-in_err-found-clause-part
+returns-in_err-found-clause-part g c =
+    let a = c.args.asked.now in
+    let first = written_extension a c.requires.loaded.program _ _ _ _ c.in_ok-text.ensures.text c.deref.ensures.value c.in_ok-write_whole.ensures.ok in
+    part_of_extension (whole_prefix _ _ a.extended.now (extension_text (analysed_case a)) first) c.write_whole.ensures.said
+
+pub returns-clause-ok : goal.returns-clause-ok
+returns-clause-ok g c =
+    let a = c.args.asked.now in
+    let first = written_extension a c.requires.loaded.program _ _ _ _ c.in_ok-text.ensures.text c.deref.ensures.value c.in_ok-write_whole.ensures.ok in
+    has_analysed_if _ _ _ _ _ a.cert.now c.in_ok-found.found c.in_ok-found.ensures _ _ _ _ _ _ first c.write_whole.ensures.said c.conclude.result c.conclude.ensures.ends c.conclude.ensures.ok
+
+pub returns-clause-part : goal.returns-clause-part
+returns-clause-part g c =
+    let a = c.args.asked.now in
+    let first = written_extension a c.requires.loaded.program _ _ _ _ c.in_ok-text.ensures.text c.deref.ensures.value c.in_ok-write_whole.ensures.ok in
+    analyses_in_part _ _ _ _ _ a.cert.now c.in_ok-found.found c.in_ok-found.ensures _ _ _ _ _ first _ c.write_whole.ensures.said c.conclude.ensures.part

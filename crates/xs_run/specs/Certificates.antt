@@ -1,0 +1,118 @@
+-- What the file of a certificate comes to, and what it shows where it is accepted.
+use Rattle.std.specs.Prelude.{◌≡◌, ◌↔◌, ℕ, List}
+use Rattle.xs_desk.specs.declared.files.NamedFile.{NamedFile}
+use Rattle.xs_desk.specs.Desk.{said_more}
+use Rattle.xs_tree.specs.Tree.{Tree}
+use Rattle.xs_tree.specs.ProgramTree.{Text, Formula}
+use Rattle.xs_tree.specs.Values.{Value}
+use Rattle.xs_flattening.specs.Flat.{FlatLeaf}
+use Rattle.xs_flattening.specs.FlatTrace.{IsFlatTrace}
+use Rattle.xs_encoded.specs.FlatTraces.{ReachesTop, HasFailedNumber}
+use Rattle.xs_weave.specs.Extended.{Moment, IsExtended, Reaches}
+use Rattle.xs_right.specs.Laws.{AreBoth}
+use Rattle.xs_right.specs.Right.{HasAtMost as HasFew, IsMinimalCutSet, IsListed}
+use Rattle.xs_extended_right.specs.ExtendedTraces.{HasFailedFault, IsRightExtended}
+use Rattle.xs_trace_text.specs.Given.{GivesTrace}
+use Rattle.xs_certificate.specs.Certificate.{Certificate}
+use Rattle.xs_certificate.specs.CertificateText.{SpellsCertificate, IsBadLine, EndsBefore}
+use Rattle.xs_certificate.specs.Accepted.{Subject, Rule, number_of, IsObjection}
+use Rattle.xs_certified.specs.Certified.{IsSubjectOf, IsCertified}
+use Rattle.xs_certified.specs.Completeness.{GivesExtended}
+use Rattle.xs_subject.specs.Subject.{subject_of}
+use Rattle.xs_run.specs.declared.event.LoadedEvent.{LoadedEvent}
+use Rattle.xs_run.specs.declared.status.InputFault.{InputFault}
+use Rattle.xs_run.specs.declared.status.Part.TheVariants as part
+use Rattle.xs_run.specs.declared.status.Objection.TheVariants as objection
+use Rattle.xs_run.specs.declared.status.Refusal.{Refusal}
+use Rattle.xs_run.specs.declared.status.Refusal.TheVariants as refusal
+use Rattle.xs_run.specs.Cases.{Case, whole_of, HoldsCase, IsTopWord}
+use Rattle.xs_run.specs.Tasks.{IsRefusedAbove, HasAtMost, IsTopTree}
+use Rattle.xs_run.specs.Answered.{Said, check_text}
+use Rattle.xs_run.specs.Events.{RefusesEvent}
+use Rattle.xs_run.specs.Searches.{IsEvent}
+
+-- what is wrong first with bytes that spell no certificate, as it is told: a line, from 1, that is wrong or that is missing
+abbrev pub text_fault : ℕ → ℕ → InputFault
+text_fault number line = record { part = part.Read; number = number; place = line }
+
+pub data IsWrongText (bytes : List ℕ) (fault : InputFault) : Type 0 where
+  a_bad_line : (n : ℕ) → fault ≡ text_fault 1 n → IsBadLine bytes n → IsWrongText bytes fault
+  a_missing_line : (n : ℕ) → fault ≡ text_fault 2 n → EndsBefore bytes n → IsWrongText bytes fault
+
+-- the file of a certificate is refused, or its text
+pub data RefusesCertificate (files : List NamedFile) (name : Text) (r : Refusal) : Type 0 where
+  certificate_file : (fault : InputFault) → r ≡ refusal.NotAccepted (objection.Cert fault) → IsRefusedAbove 268435456 files name fault → RefusesCertificate files name r
+  certificate_bytes : (bytes : List ℕ) (fault : InputFault) → r ≡ refusal.NotAccepted (objection.Cert fault) → HasAtMost 268435456 files name bytes → IsWrongText bytes fault →
+      RefusesCertificate files name r
+
+-- the file holds a text that spells this certificate
+pub record HoldsCertificate (files : List NamedFile) (name : Text) (a : Certificate) : Type 0 where
+  pub bytes : List ℕ
+  pub has : HasAtMost 268435456 files name bytes
+  pub spells : SpellsCertificate bytes a
+
+-- what is judged is about the case: the clause lists of its flat model with history, and those of its bad states for the event
+abbrev pub subject_in : Case → Tree FlatLeaf → Subject
+subject_in c tree = subject_of (whole_of c) c.flat c.modes tree
+
+-- the certificate breaks a rule: the first line where one is broken, and the first rule there, are told
+pub data RefusesLine (c : Case) (tree : Tree FlatLeaf) (a : Certificate) (r : Refusal) : Type 0 where
+  at_line : (line : ℕ) (rule : Rule) → r ≡ refusal.NotAccepted (objection.Line line (number_of rule)) →
+      IsObjection (List (List Value)) (GivesTrace c.flat) (IsFlatTrace c.flat) (ReachesTop c.flat tree) (HasFailedNumber c.flat c.modes) (subject_in c tree) a line rule → RefusesLine c tree a r
+
+-- It is accepted, and the clause lists are those of the case: they encode the flat model with history, and its bad states.
+pub record IsAcceptedFor (c : Case) (tree : Tree FlatLeaf) (a : Certificate) : Type 0 where
+  pub is_subject : IsSubjectOf c.flat c.modes tree (subject_in c tree)
+  pub certified : IsCertified c.flat c.modes tree (GivesTrace c.flat) (subject_in c tree) a
+
+-- what the file of a certificate comes to over the case, where the event is this expression there: it is refused, its text, or a line
+pub data CertRefuses (files : List NamedFile) (c : Case) (tree : Tree FlatLeaf) (name : Text) (r : Refusal) : Type 0 where
+  no_certificate : RefusesCertificate files name r → CertRefuses files c tree name r
+  not_accepted : (a : Certificate) → HoldsCertificate files name a → RefusesLine c tree a r → CertRefuses files c tree name r
+
+-- or it is accepted, which is said with its size
+pub record CertSays (files : List NamedFile) (c : Case) (tree : Tree FlatLeaf) (name report : Text) : Type 0 where
+  pub certificate : Certificate
+  pub holds : HoldsCertificate files name certificate
+  pub accepted : IsAcceptedFor c tree certificate
+  pub is : report ≡ check_text c certificate.size
+
+-- What the files and the word of a check come to, in the order of the work: the model, the instructions or the top event is
+-- refused, or these hold and the certificate is,
+pub data CheckRefuses (files : List NamedFile) (model faults top cert : Text) (r : Refusal) : Type 0 where
+  no_event : RefusesEvent files model faults top r → CheckRefuses files model faults top cert r
+  its_certificate : (c : Case) (e : Formula) (tree : Tree FlatLeaf) → HoldsCase files model faults c → IsTopWord c.program top e → IsTopTree c e tree → CertRefuses files c tree cert r →
+      CheckRefuses files model faults top cert r
+
+-- or the certificate is accepted.
+pub record CheckSays (files : List NamedFile) (model faults top cert report : Text) : Type 0 where
+  pub c : Case
+  pub event : Formula
+  pub tree : Tree FlatLeaf
+  pub holds : HoldsCase files model faults c
+  pub is_event : IsTopWord c.program top event
+  pub is_tree : IsTopTree c event tree
+  pub says : CertSays files c tree cert report
+
+-- The files hold a model, instructions and a certificate, the word is a top event of the model, and the certificate shows its sets:
+-- its texts give extended traces; with any that they give, its sets are right for all extended traces, of every length, with its size;
+-- and these are exactly the minimal cut sets of at most so many faults. So it was said.
+pub record IsChecked (files : List NamedFile) (said now : Said) (model faults top cert : Text) : Type 0 where
+  pub c : Case
+  pub event : Formula
+  pub holds : HoldsCase files model faults c
+  pub is_event : IsTopWord c.program top event
+  pub certificate : Certificate
+  pub has_certificate : HoldsCertificate files cert certificate
+  pub gives : (traces : List (List Moment)) × AreBoth (GivesExtended (GivesTrace c.flat) c.program c.instructions c.flat) certificate.traces traces
+  pub right : (traces : List (List Moment)) → AreBoth (GivesExtended (GivesTrace c.flat) c.program c.instructions c.flat) certificate.traces traces →
+      IsRightExtended c.program c.instructions c.faults event certificate.size (IsExtended c.program c.instructions) certificate.sets traces
+  pub minimal : (set : List ℕ) →
+      (IsListed (List Moment) (IsExtended c.program c.instructions) (Reaches c.program event) (HasFailedFault c.faults) certificate.sets set
+      ↔ (IsMinimalCutSet (List Moment) (IsExtended c.program c.instructions) (Reaches c.program event) (HasFailedFault c.faults) set × HasFew certificate.size set))
+  pub has_said : now ≡ said_more said (check_text c certificate.size)
+
+-- the event in memory is one that some word spells
+pub record IsSomeEvent (l : LoadedEvent) : Type 0 where
+  pub word : Text
+  pub is_event : IsEvent word l

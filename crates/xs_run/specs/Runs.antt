@@ -1,0 +1,114 @@
+-- What a run comes to, and what it leaves behind.
+use Rattle.std.specs.Prelude.{◌≡◌, ℕ, List, Option, length}
+use Rattle.xs_desk.specs.declared.files.NamedFile.{NamedFile}
+use Rattle.xs_desk.specs.Desk.{told_with, said_more, SaysPrefix, WritesPrefix}
+use Rattle.xs_tree.specs.ProgramTree.{Text, Formula, ProgramTree}
+use Rattle.xs_tree.specs.Tree.{Tree}
+use Rattle.xs_tree.specs.Values.{Value}
+use Rattle.xs_flattening.specs.Flat.{FlatLeaf}
+use Rattle.xs_eval.specs.Replayed.{IsReaching}
+use Rattle.xs_words.specs.Commands.{Command, extend, replay, analyse, check}
+use Rattle.xs_words.specs.Meaning.{Means as WordsMean}
+use Rattle.xs_run.specs.declared.status.Refusal.{Refusal}
+use Rattle.xs_run.specs.declared.status.Refusal.TheVariants as refusal
+use Rattle.xs_run.specs.declared.status.Status.{Status}
+use Rattle.xs_run.specs.declared.status.Status.TheVariants as status
+use Rattle.xs_run.specs.declared.status.InputFault.{InputFault}
+use Rattle.xs_run.specs.Statuses.{status_of, refusal_text}
+use Rattle.xs_run.specs.Asked.{RefusesWords}
+use Rattle.xs_run.specs.Inputs.{RefusesModel, HoldsModel, RefusesFaults, HoldsFaults}
+use Rattle.xs_run.specs.Cases.{Case, HoldsCase, IsTopWord, IsWrongWord}
+use Rattle.xs_run.specs.Tasks.{IsTopTree}
+use Rattle.xs_run.specs.Answered.{Told, Said, replay_text}
+use Rattle.xs_run.specs.Events.{RefusesEvent}
+use Rattle.xs_run.specs.Analyses.{size_for, HasAnalysed, AnalysesInPart}
+use Rattle.xs_run.specs.Certificates.{CheckRefuses, CheckSays}
+use Rattle.xs_run.specs.Replays.{RefusesTrace, HoldsTrace, RefusesMoment}
+
+-- a run refuses something, it writes a text to a file and says a report, it says a report alone, or it analyses a case for the top
+-- event that a word spells
+pub data Outcome : Type 0 where
+  refuses : Refusal → Outcome
+  extends : Text → Text → Text → Outcome
+  says : Text → Outcome
+  analyses : (c : Case) (word : Text) (depth size : ℕ) (extended cert : Text) → Outcome
+
+-- what the two files come to, with the file for the extension, in the order of the work
+pub data ComesTo (files : List NamedFile) (model faults extended : Text) : Outcome → Type 0 where
+  refuses_model : (r : Refusal) → RefusesModel files model r → ComesTo files model faults extended (refuses r)
+  refuses_faults : (p : ProgramTree) (r : Refusal) → HoldsModel files model p → RefusesFaults files faults p r → ComesTo files model faults extended (refuses r)
+  is_extended : (p : ProgramTree) (text report : Text) → HoldsModel files model p → HoldsFaults files faults p text report →
+      ComesTo files model faults extended (extends extended text report)
+
+-- what the file of a trace comes to over the extension, where the event is this expression there: it is refused, its moments are
+-- no trace that reaches the event, or they are one, and the names of the faults that it has failed are said
+pub data TraceComesTo (files : List NamedFile) (c : Case) (tree : Tree FlatLeaf) (trace : Text) : Outcome → Type 0 where
+  refuses_trace : (r : Refusal) → RefusesTrace files trace c.flat r → TraceComesTo files c tree trace (refuses r)
+  refuses_moment : (moments : List (List Value)) (r : Refusal) → HoldsTrace files trace c.flat moments → RefusesMoment c.flat tree moments r → TraceComesTo files c tree trace (refuses r)
+  is_reached : (moments : List (List Value)) → HoldsTrace files trace c.flat moments → IsReaching c.flat tree moments → TraceComesTo files c tree trace (says (replay_text c moments))
+
+-- what the files and the word of a replay come to, in the order of the work
+pub data ReplayComesTo (files : List NamedFile) (model faults trace top : Text) : Outcome → Type 0 where
+  refuses_its_model : (r : Refusal) → RefusesModel files model r → ReplayComesTo files model faults trace top (refuses r)
+  refuses_its_faults : (p : ProgramTree) (r : Refusal) → HoldsModel files model p → RefusesFaults files faults p r → ReplayComesTo files model faults trace top (refuses r)
+  refuses_its_top : (c : Case) (fault : InputFault) → HoldsCase files model faults c → IsWrongWord c.program top fault → ReplayComesTo files model faults trace top (refuses (refusal.Top fault))
+  reads_its_trace : (c : Case) (e : Formula) (tree : Tree FlatLeaf) (o : Outcome) → HoldsCase files model faults c → IsTopWord c.program top e → IsTopTree c e tree →
+      TraceComesTo files c tree trace o → ReplayComesTo files model faults trace top o
+
+-- what the files and the word of an analysis come to
+pub data AnalysisComesTo (files : List NamedFile) (model faults top : Text) (depth : ℕ) (extended cert : Text) (size : Option ℕ) : Outcome → Type 0 where
+  refuses_event : (r : Refusal) → RefusesEvent files model faults top r → AnalysisComesTo files model faults top depth extended cert size (refuses r)
+  is_analysed : (c : Case) (e : Formula) → HoldsCase files model faults c → IsTopWord c.program top e →
+      AnalysisComesTo files model faults top depth extended cert size (analyses c top depth (size_for size (length c.faults)) extended cert)
+
+-- what the files and the word of a check come to
+pub data CheckComesTo (files : List NamedFile) (model faults top cert : Text) : Outcome → Type 0 where
+  refuses_check : (r : Refusal) → CheckRefuses files model faults top cert r → CheckComesTo files model faults top cert (refuses r)
+  is_checked : (report : Text) → CheckSays files model faults top cert report → CheckComesTo files model faults top cert (says report)
+
+-- what a command that is built comes to
+abbrev pub CommandComesTo : List NamedFile → Command → Outcome → Type 0
+CommandComesTo files (extend model faults extended) o = ComesTo files model faults extended o
+CommandComesTo files (replay model faults trace top) o = ReplayComesTo files model faults trace top o
+CommandComesTo files (analyse model faults top depth extended cert size) o = AnalysisComesTo files model faults top depth extended cert size o
+CommandComesTo files (check model faults top cert) o = CheckComesTo files model faults top cert o
+CommandComesTo files _ o = ⊥
+
+-- what a run over these files with these words comes to
+pub data Means (files : List NamedFile) (words : List Text) : Outcome → Type 0 where
+  refuses_words : (r : Refusal) → RefusesWords words r → Means files words (refuses r)
+  asked : (c : Command) (o : Outcome) → WordsMean words c → CommandComesTo files c o → Means files words o
+
+-- a status that is neither a failure of the desk nor want of memory
+abbrev pub IsAnswer : Status → Type 0
+IsAnswer status.Desk = ⊥
+IsAnswer status.Memory = ⊥
+IsAnswer _ = Unit {0}
+
+-- The outcome stands in full, and the run has its status: a refusal has changed no file and said its one line; an extension has
+-- written its whole text to its one file and said its report; a report alone has changed no file; an analysis has written the
+-- extension, and for a complete answer a certificate, and said its report.
+abbrev pub IsDelivered : Outcome → Status → Told → Told → Said → Said → Type 0
+IsDelivered (refuses r) ended before after said now = (ended ≡ status_of r) × (after ≡ before) × (now ≡ said_more said (refusal_text r))
+IsDelivered (extends file text report) ended before after said now = (ended ≡ status.Done) × (after ≡ told_with before file text) × (now ≡ said_more said report)
+IsDelivered (says report) ended before after said now = (ended ≡ status.Done) × (after ≡ before) × (now ≡ said_more said report)
+IsDelivered (analyses c word depth size extended cert) ended before after said now = HasAnalysed c word depth size extended cert ended before after said now
+
+-- a part of the outcome stands: at most a prefix of what would be written and said
+abbrev pub IsDeliveredInPart : Outcome → Told → Told → Said → Said → Type 0
+IsDeliveredInPart (refuses r) before after said now = (after ≡ before) × SaysPrefix said now (refusal_text r)
+IsDeliveredInPart (extends file text report) before after said now = WritesPrefix before after file text × SaysPrefix said now report
+IsDeliveredInPart (says report) before after said now = (after ≡ before) × SaysPrefix said now report
+IsDeliveredInPart (analyses c word depth size extended cert) before after said now = AnalysesInPart c word depth size extended cert before after said now
+
+-- the run has answered: what stands is the whole outcome of the words and files at entry
+pub record HasAnswered (files : List NamedFile) (words : List Text) (answer : Status) (before after : Told) (said now : Said) : Type 0 where
+  pub outcome : Outcome
+  pub means : Means files words outcome
+  pub delivered : IsDelivered outcome answer before after said now
+
+-- the run has stopped on the way: what stands is a part of that outcome
+pub record HasStopped (files : List NamedFile) (words : List Text) (before after : Told) (said now : Said) : Type 0 where
+  pub outcome : Outcome
+  pub means : Means files words outcome
+  pub in_part : IsDeliveredInPart outcome before after said now

@@ -1,0 +1,12 @@
+//! The tests of the whole program over desks in memory.
+//!
+//! A crate with tests is proved a second time with them, so the crate of the top call has none: they stand here. The
+//! modules: `extensions` (models that are extended, and every kind of refusal), `replays` and `certificates`.
+#![tactic(auto)]
+
+#[cfg(test)]
+mod certificates;
+#[cfg(test)]
+mod extensions;
+#[cfg(test)]
+mod replays;
