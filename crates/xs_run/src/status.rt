@@ -33,6 +33,8 @@ pub enum Part {
     Weave,
     /// The effect of a mode is not allowed at its variable.
     Effect,
+    /// There are too many.
+    Count,
     /// The text gives no trace, or spells no certificate.
     Read,
 }
@@ -241,6 +243,7 @@ fn part_name(part: Part) -> &'static [u8]
         Part::Kinds => b"type ",
         Part::Weave => b"weave ",
         Part::Effect => b"effect ",
+        Part::Count => b"count ",
         Part::Read => b"read ",
     }
 }

@@ -1,0 +1,174 @@
+-- From the searches of all events to the table of their analyses, and what its entries mean.
+use Rattle.std.proofs.Common.{arith, ◌≡◌, inl, inr, ⊎_elim, ℕ, zero, suc, ◌+◌, ◌-◌, ◌<◌, ◌≤◌, ◌++◌, List, [], ◌∷◌, All, Option, Some, None, length, map, drop, get_or, refl, sym, ap, subst, ◌∙◌}
+use Rattle.std.specs.Prelude.{slice_get, Contains}
+use Rattle.std.specs.List.{range_with_len}
+use Rattle.std.proofs.lemmas.Option.{slice_get_within}
+use Rattle.std.proofs.lemmas.List.{drop_more}
+use Rattle.std.proofs.lemmas.List.Elements.{All-weaker, All-contains, All-contains_itself, All-append}
+use Rattle.xs_desk.specs.declared.files.NamedFile.{NamedFile}
+use Rattle.xs_desk.specs.Desk.{said_more, SaysPrefix}
+use Rattle.xs_tree.specs.ProgramTree.{Text, Formula, ProgramTree}
+use Rattle.xs_tree.specs.Tree.{Tree}
+use Rattle.xs_flattening.specs.Flat.{FlatLeaf}
+use Rattle.xs_encoding.specs.Bits.{state_of, inputs_of}
+use Rattle.xs_encoding.specs.Lists.{system_of}
+use Rattle.xs_cuts.specs.Answer.{IsAnswer}
+use Rattle.xs_cuts.specs.declared.answer.Analysis.{Analysis as Searched}
+use Rattle.xs_cuts_extended.specs.Answered.{ending_of, analysis_of}
+use Rattle.xs_fmea.specs.declared.columns.Ending.{Ending as Ended}
+use Rattle.xs_run.specs.declared.loaded.LoadedCase.{LoadedCase}
+use Rattle.xs_run.specs.Loaded.{case_of}
+use Rattle.xs_run.specs.Cases.{whole_of}
+use Rattle.xs_run.specs.Tables.{IsExtensible, IsEventOf}
+use Rattle.xs_run.proofs.TopEvents.{counts_in_case, event_found}
+use Rattle.xs_right.specs.Right.{Shows}
+use Rattle.xs_weave.specs.Extended.{Moment}
+use Rattle.xs_flattening.specs.Model.{EachBoth}
+use Rattle.xs_fmea.specs.Columns.{AreTold, NamesFaults, told_ending}
+use Rattle.xs_fmea.specs.declared.columns.Column.{Column}
+use Rattle.xs_fmea.specs.declared.columns.Ending.TheVariants as ended
+use Rattle.xs_fmea.specs.Tables.{rows_of, entry_of, pairs_after, pairs_from}
+use Rattle.xs_reporting.specs.ExtendedTraces.{Ending, complete, bounded, Analysis, IsOfClass, IsAnalysisOf}
+use Rattle.xs_reporting.specs.Tables.{IsEntry}
+use Rattle.xs_reporting.proofs.EntryLaws.{entries_are_right}
+use Rattle.xs_run.specs.declared.status.Status.{Status}
+use Rattle.xs_run.specs.Cases.{Case, HoldsCase, HoldsTops}
+use Rattle.xs_run.specs.Answered.{Told, Said}
+use Rattle.xs_run.specs.Analyses.{IsFound}
+use Rattle.xs_run.specs.Tables.{IsColumn, AreColumns, AreFound, HasTabulated, TabulatesInPart, MeansColumn, IsTabulated, table_of, after_column, ended_with_all}
+
+-- what is so at each place is so of all
+all_at : {A : Type 0} (P : A → Type 0) (xs : List A) → ((k : ℕ) (x : A) → slice_get xs k ≡ Some x → P x) → All P xs
+all_at P [] h = tt
+all_at P (x ∷ xs) h = (h 0 x refl, all_at P xs (λ k y there. h (suc k) y there))
+
+no_place : {A : Type 0} (k : ℕ) (x : A) → slice_get [] k ≡ Some x → ⊥
+no_place k x e = cc
+
+-- a list that is as long has something there
+there_too : {A B : Type 0} (xs : List A) (ys : List B) (k : ℕ) (x : A) → slice_get xs k ≡ Some x → length ys ≡ length xs → (y : B) × (slice_get ys k ≡ Some y)
+there_too [] ys k x e h = absurd (no_place k x e)
+there_too (x' ∷ xs) [] k x e h = absurd (omega (arith, h))
+there_too (x' ∷ xs) (y ∷ ys) zero x e h = (y, refl)
+there_too (x' ∷ xs) (y ∷ ys) (suc k) x e h = there_too xs ys k x e (omega (arith, h))
+
+-- the sets of an analysis name the case's faults
+pub names_faults : (c : Case) (e : Formula) (size depth : ℕ) (a : Analysis) → IsFound c e size depth a → All (All (λ i. (0 < i) × (i ≤ length c.faults))) a.sets
+names_faults c e size depth a found =
+    all_at (All (λ i. (0 < i) × (i ≤ length c.faults))) a.sets
+    (λ k set there.
+    let right = found.right.right in
+    let trace = there_too a.sets found.right.traces k set there right.one_each in
+    let shows = right.shown k set trace.0 there trace.1 in
+    All-weaker (Contains set) (λ i. (0 < i) × (i ≤ length c.faults))
+    (λ i member.
+    let failed = (shows.exactly i).1 member in
+    let within = slice_get_within c.faults (i - 1) failed.0 failed.2.0 in
+    let above = failed.1 in
+    (above, omega (arith, within, above))) set (All-contains_itself set))
+
+-- what a search of an event found, as a column
+pub column_found : (p : ProgramTree) (l : LoadedCase) (is : IsExtensible p l) (e : Formula) (tree : Tree FlatLeaf) → IsEventOf (case_of p l) e tree → (depth : ℕ) (a : Searched) (len size : ℕ) →
+    len ≡ length l.limited.faults → size ≡ len →
+    IsAnswer (case_of p l).flat (case_of p l).modes tree (system_of (whole_of (case_of p l))) (state_of (whole_of (case_of p l))) (inputs_of (whole_of (case_of p l))) depth size a →
+    (ending : Ended) → told_ending ending ≡ ending_of a.end → IsColumn (case_of p l) depth e (record { sets = a.sets; ending = ending })
+column_found p l is e tree event depth a len size counted sized answer ending told =
+    let c : Case = case_of p l in
+    let symbols = l.limited.typed.model.symbols in
+    record {
+      analysis = analysis_of symbols a;
+      found = subst (λ n. IsFound c e n depth (analysis_of symbols a)) (sized ∙ counted ∙ sym (counts_in_case p l is)) (event_found p l is e tree event depth size a answer);
+      sets = refl;
+      ending = sym told;
+    }
+
+-- columns of all events, one for each
+pub are_columns : (c : Case) (depth : ℕ) (es : List Formula) (columns : List Column) → EachBoth (IsColumn c depth) es columns → AreColumns c depth es columns
+are_columns c depth [] [] h = record { analyses = []; found = tt; told = (refl, refl); named = tt }
+are_columns c depth [] (b ∷ bs) h = absurd h
+are_columns c depth (e ∷ es) [] h = absurd h
+are_columns c depth (e ∷ es) (b ∷ bs) h =
+    let more = are_columns c depth es bs h.1 in
+    let one = h.0 in
+    record {
+      analyses = one.analysis ∷ more.analyses;
+      found = (one.found, more.found);
+      told = ((λ j. one.sets j ∷ more.told.0 j), (λ j. one.ending j ∷ more.told.1 j));
+      named = (subst (All (All (λ i. (0 < i) × (i ≤ length c.faults)))) one.sets (names_faults c e (length c.faults) depth one.analysis one.found), more.named);
+    }
+
+-- a table that was said, and its parts
+pub has_tabulated : (c : Case) (es : List Formula) (size depth : ℕ) (columns : List Column) (is : AreColumns c depth es columns) (text : Text) →
+    ((found : List Analysis) → AreTold found columns → text ≡ table_of c size found) → (s : Status) → s ≡ ended_with_all (map (λ column. told_ending column.ending) columns) →
+    (before after : Told) (said now : Said) → after ≡ before → now ≡ said_more said text → HasTabulated c es size depth s before after said now
+has_tabulated c es size depth columns is text printed s ends before after said now kept line =
+    record {
+      columns = is.analyses;
+      found = is.found;
+      ends = ends ∙ ap ended_with_all (sym is.told.1);
+      kept = kept;
+      reported = line ∙ ap (said_more said) (printed is.analyses is.told);
+    }
+
+pub tabulates_begun : (c : Case) (es : List Formula) (size depth : ℕ) (columns : List Column) (is : AreColumns c depth es columns) (text : Text) →
+    ((found : List Analysis) → AreTold found columns → text ≡ table_of c size found) → (before after : Told) (said now : Said) → after ≡ before → SaysPrefix said now text →
+    TabulatesInPart c es size depth before after said now
+tabulates_begun c es size depth columns is text printed before after said now kept front =
+    (kept, inr (is.analyses, is.found, subst (SaysPrefix said now) (printed is.analyses is.told) front))
+
+-- What the entries mean.
+-- rows have at most as many faults as there are
+abbrev IsSmall : ℕ → List ℕ → Type 0
+IsSmall n row = length row ≤ n
+
+small_singles : (n a k : ℕ) → 1 ≤ n → All (IsSmall n) (map (λ i. i ∷ []) (range_with_len a k))
+small_singles n a zero some = tt
+small_singles n a (suc k) some = (some, small_singles n (a + 1) k some)
+
+small_after : (n i a k : ℕ) → 2 ≤ n → All (IsSmall n) (map (λ j. i ∷ j ∷ []) (range_with_len a k))
+small_after n i a zero two = tt
+small_after n i a (suc k) two = (two, small_after n i (a + 1) k two)
+
+small_pairs : (n i k : ℕ) → k ≤ n → All (IsSmall n) (pairs_from i k)
+small_pairs n i zero fits = tt
+small_pairs n i (suc zero) fits = tt
+small_pairs n i (suc (suc k)) fits =
+    All-append (IsSmall n) (pairs_after i (suc k)) (pairs_from (suc i) (suc k)) (small_after n i (suc i) (suc k) (omega (arith, fits))) (small_pairs n (suc i) (suc k) (omega (arith, fits)))
+
+all_singles : (n : ℕ) → All (IsSmall n) (map (λ i. i ∷ []) (range_with_len 1 n))
+all_singles zero = tt
+all_singles (suc n) = small_singles (suc n) 1 (suc n) (omega arith)
+
+all_small : (size n : ℕ) → All (IsSmall n) (rows_of size n)
+all_small zero n = (omega arith, tt)
+all_small (suc zero) n = (omega arith, all_singles n)
+all_small (suc (suc more)) n = (omega arith, All-append (IsSmall n) (map (λ i. i ∷ []) (range_with_len 1 n)) (pairs_from 1 n) (all_singles n) (small_pairs n 1 n (omega arith)))
+
+module _ (c : Case) (size : ℕ) where
+  small_rows : (row : List ℕ) → Contains (rows_of size (length c.faults)) row → length row ≤ length c.faults
+  small_rows row member = All-contains (IsSmall (length c.faults)) (rows_of size (length c.faults)) row (all_small size (length c.faults)) member
+
+  means_column : (depth : ℕ) (e : Formula) (a : Analysis) → IsFound c e (length c.faults) depth a → MeansColumn c size e a
+  means_column depth e a found row member =
+      entries_are_right c.program c.instructions c.faults e (length c.faults) a found.right.traces row found.right.right (small_rows row member)
+
+  pub mean_columns : (depth : ℕ) (es : List Formula) (columns : List Analysis) → AreFound c depth es columns → EachBoth (MeansColumn c size) es columns
+  mean_columns depth [] [] h = tt
+  mean_columns depth [] (a ∷ as') h = absurd h
+  mean_columns depth (e ∷ es) [] h = absurd h
+  mean_columns depth (e ∷ es) (a ∷ as') h = (means_column depth e a h.0, mean_columns depth es as' h.1)
+
+-- a table that was said means what it says
+pub table_means : (files : List NamedFile) (after : Told) (said now : Said) (model faults tops : Text) (size depth : ℕ) (s : Status) (c : Case) (es : List Formula) →
+    HoldsCase files model faults c → HoldsTops files tops c.program es → HasTabulated c es size depth s (Some files) after said now → IsTabulated files said now model faults tops size depth
+table_means files after said now model faults tops size depth s c es holds are did =
+    record {
+      c = c;
+      events = es;
+      holds = holds;
+      are_tops = are;
+      columns = did.columns;
+      found = did.found;
+      means = mean_columns c size depth es did.columns did.found;
+      reported = did.reported;
+    }
