@@ -2,6 +2,9 @@
 use Rattle.std.proofs.Common.{◌≡◌, ◌≤◌, inl, inr, ℕ, List, [], ◌∷◌, Option, Some, refl, subst}
 use Rattle.std.specs.Prelude.{codes}
 use Rattle.xs_tree.specs.ProgramTree.{Text}
+use Rattle.xs_run.specs.declared.run.Asked.{Asked}
+use Rattle.xs_run.specs.declared.run.Asked.TheVariants as ask
+use Rattle.xs_run.specs.Prepared.{command_of, IsAskable}
 use Rattle.xs_words.specs.declared.choice.Kind.{Kind}
 use Rattle.xs_words.specs.declared.choice.Kind.TheVariants as kind
 use Rattle.xs_words.specs.declared.verb.Verb.TheVariants as verb
@@ -25,3 +28,12 @@ asked_small words model faults tops size depth asks = by_verb asks.verb asks.mak
     by_verb : (v : _) → Makes asks.pairs v (fmea model faults tops size depth) → AreLawful (options_of v) asks.pairs → size ≤ 2
     by_verb v (makes_table _ _ _ _ _ m f t s d) lawful =
         subst (λ n. n ≤ 2) s.is (given_fits (options_of verb.Fmea) asks.pairs (codes "--size") s.value lawful.each s.given (kind.Number 0 2) refl).below
+
+-- so that what is asked for can be done
+pub askable : (words : List Text) (a : Asked) → WordsMean words (command_of a) → IsAskable a
+askable words (ask.Extend e) means = tt
+askable words (ask.Replay r) means = tt
+askable words (ask.Analyse a) means = tt
+askable words (ask.Check k) means = tt
+askable words (ask.Fmea f) means = asked_small words f.model.now f.faults.now f.tops.now f.size f.depth means
+askable words (ask.Make m) means = tt

@@ -160,7 +160,7 @@ module _ (c : Case) (size : ℕ) where
 
 -- a table that was said means what it says
 pub table_means : (files : List NamedFile) (after : Told) (said now : Said) (model faults tops : Text) (size depth : ℕ) (s : Status) (c : Case) (es : List Formula) →
-    HoldsCase files model faults c → HoldsTops files tops c.program es → HasTabulated c es size depth s (Some files) after said now → IsTabulated files said now model faults tops size depth
+    HoldsCase files model faults c → HoldsTops files tops c.program es → HasTabulated c es size depth s (Some files) after said now → IsTabulated files said now model faults tops size depth s
 table_means files after said now model faults tops size depth s c es holds are did =
     record {
       c = c;
@@ -170,5 +170,6 @@ table_means files after said now model faults tops size depth s c es holds are d
       columns = did.columns;
       found = did.found;
       means = mean_columns c size depth es did.columns did.found;
+      ends = did.ends;
       reported = did.reported;
     }

@@ -1,6 +1,8 @@
 -- A generated case: what it is, the files and the summary that it leaves.
-use Rattle.std.specs.Prelude.{◌≡◌, ℕ, List, ◌++◌, codes, length}
+use Rattle.std.specs.Prelude.{◌≡◌, ℕ, List, Some, ◌++◌, codes, length}
 use Rattle.std.specs.Fmt.{decimal}
+use Rattle.xs_desk.specs.declared.files.NamedFile.{NamedFile}
+use Rattle.xs_desk.specs.Files.{file_of}
 use Rattle.xs_desk.specs.Desk.{told_with, said_more, SaysPrefix, WritesPrefix}
 use Rattle.xs_tree.specs.ProgramTree.{Text, Formula}
 use Rattle.xs_tree.specs.Text.{program_text}
@@ -38,6 +40,20 @@ pub record HasMade (c : Case) (stages depth : ℕ) (model faults : Text) (s : St
   pub found : IsFound c event (length c.faults) depth analysis
   pub ends : s ≡ ended_with analysis.ending
   pub written : after ≡ both_written c model faults before
+  pub reported : now ≡ said_more said (summary_text c stages analysis)
+
+-- What a generated case has done that was said: both files hold the generator's texts, which spell its model and its instructions,
+-- and the summary tells the numbers of the woven model and of an analysis that is right for its class.
+pub record IsMade (after : List NamedFile) (said now : Said) (number stages depth : ℕ) (model faults : Text) (s : Status) : Type 0 where
+  pub c : Case
+  pub generated : IsGenerated number stages c
+  pub has_model : file_of after model ≡ Some (program_text (generated_model number stages))
+  pub has_faults : file_of after faults ≡ Some (instructions_text generated_instructions)
+  pub event : Formula
+  pub is_event : IsTopWord c.program dead_word event
+  pub analysis : Analysis
+  pub found : IsFound c event (length c.faults) depth analysis
+  pub ends : s ≡ ended_with analysis.ending
   pub reported : now ≡ said_more said (summary_text c stages analysis)
 
 -- A part of it, in the order of the work: of the model; of the instructions, where the model is written; of the summary, where

@@ -117,8 +117,9 @@ TabulatesInPart c events size depth before after said now =
 abbrev pub MeansColumn : Case → ℕ → Formula → Analysis → Type 0
 MeansColumn c size e a = (row : List ℕ) → Contains (rows_of size (length c.faults)) row → IsEntry c.program c.instructions c.faults e a.ending row (entry_of row a)
 
--- What a table has done that was said: the files hold a case with top events, and each entry that is said means what it says.
-pub record IsTabulated (files : List NamedFile) (said now : Said) (model faults tops : Text) (size depth : ℕ) : Type 0 where
+-- What a table has done that was said: the files hold a case with top events, each entry that is said means what it says, and the
+-- run is bounded where some column is, by the depth.
+pub record IsTabulated (files : List NamedFile) (said now : Said) (model faults tops : Text) (size depth : ℕ) (s : Status) : Type 0 where
   pub c : Case
   pub events : List Formula
   pub holds : HoldsCase files model faults c
@@ -126,6 +127,7 @@ pub record IsTabulated (files : List NamedFile) (said now : Said) (model faults 
   pub columns : List Analysis
   pub found : AreFound c depth events columns
   pub means : EachBoth (MeansColumn c size) events columns
+  pub ends : s ≡ ended_with_all (map (λ a. a.ending) columns)
   pub reported : now ≡ said_more said (table_of c size columns)
 
 -- In memory.

@@ -7,13 +7,6 @@ use std::alloc::Global;
 use xs_value::{ByteList, OutOfMemory};
 use xs_words::WordFault;
 
-/// What this program can't do yet.
-#[derive(Clone, Copy, Debug, PartialEq, Eq)]
-pub enum Built {
-    /// The words mean a command other than `extend` and `replay`.
-    Words,
-}
-
 /// What is wrong with an input: how far the work on it came.
 #[derive(Clone, Copy, Debug, PartialEq, Eq)]
 pub enum Part {
@@ -72,7 +65,6 @@ pub enum Objection {
 /// What is refused, each with its one line.
 #[derive(Clone, Copy, Debug, PartialEq, Eq)]
 pub enum Refusal {
-    NotBuilt(Built),
     Words(WordFault),
     Model(InputFault),
     Faults(InputFault),
@@ -87,8 +79,6 @@ pub enum Status {
     Done,
     /// The work is done, and right for the traces of at most so many steps.
     Bounded(u32),
-    /// A part of the work is not built yet.
-    NotBuilt(Built),
     /// The words mean no command.
     Words(WordFault),
     /// The model is refused.
@@ -114,7 +104,7 @@ impl Status {
         match self {
             Status::Done => 0,
             Status::Bounded(_) => 1,
-            Status::NotBuilt(Built::Words) | Status::Words(_) => 2,
+            Status::Words(_) => 2,
             Status::Model(_) => 3,
             Status::Faults(_) => 4,
             Status::Top(_) => 5,
@@ -131,7 +121,6 @@ impl Refusal {
         ensures { result ≡ status_of self }
     {
         match self {
-            Refusal::NotBuilt(built) => Status::NotBuilt(built),
             Refusal::Words(fault) => Status::Words(fault),
             Refusal::Model(fault) => Status::Model(fault),
             Refusal::Faults(fault) => Status::Faults(fault),
@@ -145,9 +134,6 @@ impl Refusal {
         ensures { IfOk result (λ line. line ≡ refusal_text self) }
     {
         match self {
-            Refusal::NotBuilt(Built::Words) => {
-                ByteList::from_slice(alloc, b"refused words 0 at 1\n")
-            }
             Refusal::Words(fault) => words_line(alloc, fault),
             Refusal::Model(fault) => fault_line(alloc, b"refused model ", fault),
             Refusal::Faults(fault) => fault_line(alloc, b"refused faults ", fault),
