@@ -205,7 +205,7 @@ fn summarise(alloc: Global, asked: &Making, panel: &mut Panel) -> Result<Summary
     let size = size_of(None, limited.faults.len());
     let a = analysed(alloc, &loaded.case, &loaded.top, asked.depth, size, panel)?;
     let ending = told(&a.end);
-    let line = summary(
+    let line = summary_of(
         alloc,
         asked.stages,
         limited.typed.model().variables.len(),
@@ -218,7 +218,7 @@ fn summarise(alloc: Global, asked: &Making, panel: &mut Panel) -> Result<Summary
 }
 
 /// The one line of a summary.
-fn summary(
+fn summary_of(
     alloc: Global,
     stages: u32,
     variables: usize,
