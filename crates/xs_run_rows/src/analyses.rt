@@ -32,6 +32,10 @@ const BOTH: &[u8] =
 const COUNTER: &[u8] =
     b"MODULE main VAR c : 0..7; ASSIGN init(c) := 0; next(c) := case c = 5 : 0; TRUE : c + 1; esac;";
 
+/// A lamp that may be dark from the first moment on.
+const BORN_DARK: &[u8] =
+    b"EXTENSION OF MODULE main SLICE Lamp AFFECTS on INITIALLY ANY WITH MODE dark : Permanent StuckAt(FALSE);";
+
 const HELD: &[u8] = b"faults 0\nsets 1\nset\ntrace 1\nmoment 0\non = TRUE\n";
 
 /// The files of a case, its top event and a depth; and how an analysis ends: its number, how what it says begins and
@@ -84,10 +88,12 @@ fn holds(alloc: Global, row: &Row) -> Result<bool, OutOfMemory> {
     advisers.push(Box::new(alloc, InOrder::new())?)?;
     let status = run(alloc, &words, &mut desk, advisers);
     let said = desk.said();
-    Ok(status.number() == row.number
-        && said.starts_with(row.begins)
-        && said.ends_with(row.ends)
-        && desk.file("c").is_some() == row.certified)
+    Ok(
+        status.number() == row.number
+            && said.starts_with(row.begins)
+            && said.ends_with(row.ends)
+            && desk.file("c").is_some() == row.certified,
+    )
 }
 
 /// Whether each does.
@@ -101,13 +107,7 @@ fn all_hold(alloc: Global, rows: &[Row]) -> Result<bool, OutOfMemory> {
 }
 
 /// Whether a run with these words ends with this number and says this text.
-fn says(
-    alloc: Global,
-    desk: MemoryDesk,
-    words: &[&str],
-    number: i32,
-    said: &[u8],
-) -> bool {
+fn says(alloc: Global, desk: MemoryDesk, words: &[&str], number: i32, said: &[u8]) -> bool {
     let mut desk = desk;
     let status = run(alloc, words, &mut desk, Vec::new(alloc));
     status.number() == number && desk.said() == said
@@ -197,6 +197,16 @@ fn an_analysis_is_bounded_or_complete(rt: HostRuntime) -> Result<(), OutOfMemory
             certified: false,
         },
         Row {
+            model: LAMP,
+            faults: BORN_DARK,
+            top: "!on",
+            depth: "0",
+            number: 1,
+            begins: b"faults 1\nfault 1 Lamp.dark\nsets 1\nset 1\ntrace 1\nmoment 0\non = FALSE\non#nominal = TRUE\n",
+            ends: b"Lamp#mode = Lamp#dark\nbounded 0 bits 4\n",
+            certified: false,
+        },
+        Row {
             model: COUNTER,
             faults: b"",
             top: "c = 7",
@@ -228,7 +238,8 @@ fn tables_and_generated_cases_are_said(rt: HostRuntime) -> Result<(), OutOfMemor
         "fmea", "--model", "m", "--faults", "f", "--tops", "t", "--size", "2", "--depth", "2050",
     ];
     let desk = desk_of(alloc, PAIR, BOTH, b"a & b; n = 3")?;
-    let rows: &[u8] = b"faults 2\nfault 1 A.on\nfault 2 B.on\ntops 2\ntop 1 complete\ntop 2 complete\nrow : no no\nrow 1 : no yes\nrow 2 : no no\nrow 1 2 : yes yes\n";
+    let rows: &[u8] =
+        b"faults 2\nfault 1 A.on\nfault 2 B.on\ntops 2\ntop 1 complete\ntop 2 complete\nrow : no no\nrow 1 : no yes\nrow 2 : no no\nrow 1 2 : yes yes\n";
     assert!(rt; says(alloc, desk, &table, 0, rows));
     let desk = desk_of(alloc, PAIR, BOTH, b"a & b; next(a)")?;
     assert!(rt; says(alloc, desk, &table, 5, b"refused top flat 12 at 2\n"));

@@ -60,8 +60,7 @@ fn written(alloc: Global, size: &str) -> Result<Vec<u8>, OutOfMemory> {
 }
 
 /// A model whose one variable stays FALSE, and the lines of a certificate that it is never TRUE.
-const TINY: &[u8] =
-    b"MODULE main VAR x : boolean; ASSIGN init(x) := FALSE; next(x) := x;";
+const TINY: &[u8] = b"MODULE main VAR x : boolean; ASSIGN init(x) := FALSE; next(x) := x;";
 
 const HEAD: &[u8] = b"xsap-certificate 1\n";
 
@@ -117,7 +116,15 @@ fn each_line_of_a_certificate_is_judged(rt: HostRuntime) -> Result<(), OutOfMemo
             said: b"accepted\n",
         },
         Judged {
-            pieces: [b"xsap-certificate 2\n", b"bits 1 faults 0 size 0\n", CLAUSES, FIRST, NEXT, BAD, END],
+            pieces: [
+                b"xsap-certificate 2\n",
+                b"bits 1 faults 0 size 0\n",
+                CLAUSES,
+                FIRST,
+                NEXT,
+                BAD,
+                END,
+            ],
             number: 0,
             said: b"accepted\n",
         },
@@ -127,12 +134,28 @@ fn each_line_of_a_certificate_is_judged(rt: HostRuntime) -> Result<(), OutOfMemo
             said: b"not accepted line 7 rule 10\n",
         },
         Judged {
-            pieces: [HEAD, BITS, CLAUSES, FIRST, b"next 1\nstep -3 : 6 7 4\nbad 1\n", BAD, END],
+            pieces: [
+                HEAD,
+                BITS,
+                CLAUSES,
+                FIRST,
+                b"next 1\nstep -3 : 6 7 4\nbad 1\n",
+                BAD,
+                END,
+            ],
             number: 0,
             said: b"accepted\n",
         },
         Judged {
-            pieces: [HEAD, BITS, b"sets 0\ninvariant 0\nfirst 1\n", FIRST, NEXT, BAD, END],
+            pieces: [
+                HEAD,
+                BITS,
+                b"sets 0\ninvariant 0\nfirst 1\n",
+                FIRST,
+                NEXT,
+                BAD,
+                END,
+            ],
             number: 6,
             said: b"not accepted line 8 rule 9\n",
         },
