@@ -10,3 +10,4 @@ pub mod PushLemmas
 pub mod OwedLemmas
 pub mod AdvanceLemmas
 pub mod QueryLemmas
+pub mod GuardLaws

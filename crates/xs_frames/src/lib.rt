@@ -24,6 +24,7 @@ mod bits;
 mod clear;
 mod condition;
 mod frames;
+mod guarded;
 mod query;
 mod steps;
 

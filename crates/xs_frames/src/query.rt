@@ -28,7 +28,7 @@ fn highest_of(lits: &[Lit]) -> u64
 }
 
 /// The highest variable of clauses.
-fn highest(list: &ClauseList) -> u64
+pub(crate) fn highest(list: &ClauseList) -> u64
     requires { All (All IsLow) list.now }
     ensures up_to { All (All (IsUpTo result)) list.now }
     ensures low { result < 2 ^ 31 }
