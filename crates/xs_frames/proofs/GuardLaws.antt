@@ -235,9 +235,9 @@ module _ (vars : ℕ) (list : List (List Literal)) (frames : List (List (List Li
       kind d (of_frame j c e s) = of_frame j c e (stands j c s)
       kind d (of_next j e) = of_next j e
 
-      by_push : (d : List Literal) → Contains added d ⊎ (d ≡ guards_next vars (length frames - 1)) → IsGuarded vars list (frames ++ [] ∷ []) d
+      by_push : (d : List Literal) → Contains added d ⊎ (guards_next vars (length frames - 1) ≡ d) → IsGuarded vars list (frames ++ [] ∷ []) d
       by_push d (inl m) = kind d (are.each d m)
-      by_push d (inr e) = of_next (length frames - 1) e
+      by_push d (inr e) = of_next (length frames - 1) (sym e)
 
       under : {i : ℕ} {c : List Literal} → IsUnder vars frames added i c → IsUnder vars (frames ++ [] ∷ []) (added ++ guards_next vars (length frames - 1) ∷ []) i c
       under {i} {c} u = record {
@@ -280,9 +280,9 @@ module _ (vars : ℕ) (list : List (List Literal)) (frames : List (List (List Li
       kind d (of_frame k e f s) = of_frame k e f (λ i le. put.stays i e (s i le))
       kind d (of_next k e) = of_next k e
 
-      by_push : (d : List Literal) → Contains added d ⊎ (d ≡ under_guard vars j c) → IsGuarded vars list now d
+      by_push : (d : List Literal) → Contains added d ⊎ (under_guard vars j c ≡ d) → IsGuarded vars list now d
       by_push d (inl m) = kind d (are.each d m)
-      by_push d (inr e) = of_frame j c e put.here
+      by_push d (inr e) = of_frame j c (sym e) put.here
 
       under : (i : ℕ) (d : List Literal) → IsOld j c frames i d → IsUnder vars now (added ++ under_guard vars j c ∷ []) i d
       under i d (inl m) = let u = are.has_frames i d m in record {

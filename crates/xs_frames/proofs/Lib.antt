@@ -11,3 +11,5 @@ pub mod OwedLemmas
 pub mod AdvanceLemmas
 pub mod QueryLemmas
 pub mod GuardLaws
+pub mod GuardingLemmas
+pub mod GuardedSteps

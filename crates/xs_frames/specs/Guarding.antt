@@ -22,12 +22,19 @@ pub record IsWell (g : Guarded) : Type 0 where
   pub guards : (i : ℕ) (l : Literal) → i < length g.guards.items → slice_index_or g.guards.items i l ≡ guard_of g.vars i
   pub marked : length g.search.kept.marks ≡ length g.search.kept.clauses
 
--- a clause was added
-pub record HasPut (old new : Guarded) (c : List Literal) : Type 0 where
+-- clauses were added
+pub record HasPut (old new : Guarded) (cs : List (List Literal)) : Type 0 where
   pub well : IsWell new
   pub vars : new.vars ≡ old.vars
   pub guards : new.guards.items ≡ old.guards.items
-  pub added : added_in new ≡ added_in old ++ c ∷ []
+  pub added : added_in new ≡ added_in old ++ cs
+
+-- the guard of one frame, and no clause
+pub record IsEmpty (vars : ℕ) (g : Guarded) : Type 0 where
+  pub well : IsWell g
+  pub is_over : g.vars ≡ vars
+  pub count : length g.guards.items ≡ 1
+  pub added : added_in g ≡ []
 
 -- a guard was added, and that the last one implies it
 pub record HasGuard (old new : Guarded) : Type 0 where

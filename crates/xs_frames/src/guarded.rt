@@ -9,7 +9,7 @@ ghost use Rattle.xs_derive.specs.Derivation.{IsUpTo};
 ghost use Rattle.xs_derive.specs.Hints.{HasNoOpposites};
 ghost use Rattle.xs_frames.specs.Condition.{IsLow, IsFit};
 ghost use Rattle.xs_frames.specs.Guards.{unguarded, under_guard, guards_next};
-ghost use Rattle.xs_frames.specs.Guarding.{IsWell, HasPut, HasGuard, HasAsked, Tells, IsGuarding, AreGuarding};
+ghost use Rattle.xs_frames.specs.Guarding.{IsWell, IsEmpty, HasPut, HasGuard, HasAsked, Tells, IsGuarding, AreGuarding};
 
 use crate::query::highest;
 use std::alloc::Global;
@@ -71,8 +71,7 @@ impl Guarded {
     /// A search with no clause, over the variables up to one and the guard of one frame.
     fn empty(alloc: Global, vars: u64) -> Result<Guarded, OutOfMemory>
         requires { vars < 2 ^ 31 }
-        ensures vars { IfOk result (λ g. g.vars ≡ vars) }
-        ensures guarding { IfOk result (λ g. IsGuarding [] ([] ∷ []) g) }
+        ensures { IfOk result (λ g. IsEmpty vars g) }
     {
         let search = Search::new(alloc, vars + 1, KeepNone)?;
         let mut guards = Vec::new(alloc);
@@ -86,10 +85,9 @@ impl Guarded {
 
     /// Adds the clauses of a list without a guard.
     fn fill(&mut self, list: &ClauseList) -> Result<(), OutOfMemory>
-        requires guarding { IsGuarding [] ([] ∷ []) self.old }
-        requires up_to { All (All (IsUpTo self.old.vars)) list.now }
-        ensures vars { OnOk result (self.new.vars ≡ self.old.vars) }
-        ensures guarding { OnOk result (IsGuarding list.now ([] ∷ []) self.new) }
+        requires well { IsWell self.old }
+        requires up_to { All (All (IsUpTo self.old.search.kept.vars)) list.now }
+        ensures { OnOk result (HasPut self.old self.new list.now) }
     {
         for clause in list.as_slice() {
             self.put(clause)?;
@@ -101,7 +99,7 @@ impl Guarded {
     fn put(&mut self, clause: &Clause) -> Result<(), OutOfMemory>
         requires well { IsWell self.old }
         requires up_to { All (IsUpTo self.old.search.kept.vars) clause.now }
-        ensures { OnOk result (HasPut self.old self.new clause.now) }
+        ensures { OnOk result (HasPut self.old self.new (clause.now ∷ [])) }
     {
         self.search.add(clause)
     }
@@ -111,7 +109,7 @@ impl Guarded {
         requires well { IsWell self.old }
         requires frame { frame < length self.old.guards.items }
         requires up_to { All (IsUpTo self.old.vars) clause.now }
-        ensures { OnOk result (HasPut self.old self.new (under_guard self.old.vars frame clause.now)) }
+        ensures { OnOk result (HasPut self.old self.new (under_guard self.old.vars frame clause.now ∷ [])) }
     {
         let alloc = *self.guards.allocator();
         let under = implied_by(alloc, self.guards[frame], clause.lits())?;
