@@ -1,5 +1,5 @@
 -- What a search over guarded clauses answers says the same of the list and one frame.
-use Rattle.std.proofs.Common.{◌≡◌, ◌⊎◌, inl, inr, ◌≤◌, ◌<◌, ℕ, zero, suc, ◌+◌, ◌-◌, nat_le, Bool, true, false, not, List, [], ◌∷◌, ◌++◌, refl, sym, ◌∙◌, ap, subst, arith, length, if◌then◌else◌, Some, absurd}
+use Rattle.std.proofs.Common.{◌≡◌, ◌⊎◌, inl, inr, ◌≤◌, ◌<◌, ℕ, zero, suc, ◌+◌, ◌-◌, nat_le, Bool, true, false, not, List, [], ◌∷◌, ◌++◌, refl, sym, ◌∙◌, ap, subst, arith, length, if◌then◌else◌, Some, length-append}
 use Rattle.std.specs.Prelude.{slice_index_or, Contains, IsTrue, All, filter}
 use Rattle.std.proofs.lemmas.Bool.{le-leb, lt-leb}
 use Rattle.std.proofs.lemmas.Bool.Decides.{leb_tells}
@@ -32,7 +32,7 @@ below_next : (vars : ℕ) (c : List Literal) → All (IsUpTo vars) c → All (Is
 below_next vars c low = λ k d lt. omega (arith, low k d lt)
 
 -- the values where the guards from that of a frame on are true
-guarded_values : ℕ → ℕ → TotalAssignment → TotalAssignment
+abbrev guarded_values : ℕ → ℕ → TotalAssignment → TotalAssignment
 guarded_values vars i v x = if nat_le x vars then v x else nat_le (vars + 1 + i) x
 
 same_values : (vars i : ℕ) (v : TotalAssignment) → SameBelow (vars + 1) v (guarded_values vars i v)
@@ -216,7 +216,7 @@ module _ (vars : ℕ) (list : List (List Literal)) (frames : List (List (List Li
   }
     where
       lengths : length (frames ++ [] ∷ []) ≡ length frames + 1
-      lengths = grind arith
+      lengths = length-append frames ([] ∷ [])
 
       same_or_none : (fs : List (List (List Literal))) (i : ℕ) → (frame_at (fs ++ [] ∷ []) i ≡ frame_at fs i)
       same_or_none [] zero = refl

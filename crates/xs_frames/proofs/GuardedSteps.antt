@@ -19,26 +19,6 @@ use Rattle.xs_frames.specs.declared.guarded.Guarded.{Guarded}
 use Rattle.xs_frames.proofs.GuardLaws.{guarded_solution, guarded_core}
 use Rattle.xs_frames.proofs.GuardingLemmas.{added_push, added_learned, marked_push, marked_learned}
 
--- the next literal of a core is kept, where it is no guard
-pub unguarded_kept : (vars : ℕ) (xs : List Literal) (i : ℕ) (d : Literal) → i < length xs → (slice_index_or xs i d).var ≤ vars → nat_le (slice_index_or xs i d).var vars ≡ true →
-    unguarded vars (take (i + 1) xs) ≡ unguarded vars (take i xs) ++ slice_index_or xs i d ∷ []
-unguarded_kept vars [] i d lt le e = absurd (omega (arith, lt))
-unguarded_kept vars (x ∷ xs) zero d lt le e = rw e refl
-unguarded_kept vars (x ∷ xs) (suc i) d lt le e = go (nat_le x.var vars) refl (unguarded_kept vars xs i d (omega (arith, lt)) le e) where
-  go : (b : Bool) → nat_le x.var vars ≡ b → unguarded vars (take (i + 1) xs) ≡ unguarded vars (take i xs) ++ slice_index_or xs i d ∷ [] →
-      unguarded vars (x ∷ take (i + 1) xs) ≡ unguarded vars (x ∷ take i xs) ++ slice_index_or xs i d ∷ []
-  go true q r = rw q (ap (λ ls. x ∷ ls) r)
-  go false q r = rw q r
-
-pub unguarded_dropped : (vars : ℕ) (xs : List Literal) (i : ℕ) (d : Literal) → i < length xs → nat_le (slice_index_or xs i d).var vars ≡ false →
-    unguarded vars (take (i + 1) xs) ≡ unguarded vars (take i xs)
-unguarded_dropped vars [] i d lt e = absurd (omega (arith, lt))
-unguarded_dropped vars (x ∷ xs) zero d lt e = rw e refl
-unguarded_dropped vars (x ∷ xs) (suc i) d lt e = go (nat_le x.var vars) refl (unguarded_dropped vars xs i d (omega (arith, lt)) e) where
-  go : (b : Bool) → nat_le x.var vars ≡ b → unguarded vars (take (i + 1) xs) ≡ unguarded vars (take i xs) → unguarded vars (x ∷ take (i + 1) xs) ≡ unguarded vars (x ∷ take i xs)
-  go true q r = rw q (ap (λ ls. x ∷ ls) r)
-  go false q r = rw q r
-
 -- after a clause was added to the search
 pub put_well : (old new : Guarded) (c : List Literal) → IsWell old → new.vars ≡ old.vars → new.guards.items ≡ old.guards.items →
     new.search.kept ≡ record old.search.kept { clauses = old.search.kept.clauses ++ c ∷ []; marks = old.search.kept.marks ++ false ∷ [] } → HasPut old new (c ∷ [])

@@ -101,7 +101,8 @@ impl Guarded {
         requires up_to { All (IsUpTo self.old.search.kept.vars) clause.now }
         ensures { OnOk result (HasPut self.old self.new (clause.now ∷ [])) }
     {
-        self.search.add(clause)
+        self.search.add(clause)?;
+        Ok(())
     }
 
     /// Adds a clause that holds in the frames up to a number.
