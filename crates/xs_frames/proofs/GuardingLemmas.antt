@@ -16,6 +16,7 @@ use Rattle.xs_frames.specs.Framed.{frame_at, strengthened, IsFramed, Linked}
 use Rattle.xs_frames.specs.Guards.{guard_of, under_guard, guards_next, StandsUpTo, IsOld, IsPut, AreGuarded}
 use Rattle.xs_frames.specs.Guarding.{added_in, IsWell, IsEmpty, HasPut, HasGuard, HasAsked, IsGuarding, AreGuarding, IsEnding, HasPlaces}
 use Rattle.xs_frames.specs.declared.guarded.Guarded.{Guarded}
+use Rattle.xs_frames.specs.declared.guarded.Queries.{Queries}
 use Rattle.xs_frames.proofs.Links.{length_strengthened, touched, untouched, link_at}
 use Rattle.xs_frames.proofs.GuardLaws.{guarded_new, guarded_put, guarded_more}
 
@@ -231,3 +232,30 @@ last_untouched n c fs lt = ap (λ k. frame_at (strengthened n c fs) (k - 1)) (le
 
 pub last_touched : (n : ℕ) (c : List Literal) (fs : List (List (List Literal))) → 0 < length fs → length fs ≤ n → frame_at (strengthened n c fs) (length (strengthened n c fs) - 1) ≡ frame_at fs (length fs - 1) ++ c ∷ []
 last_touched n c fs some le = ap (λ k. frame_at (strengthened n c fs) (k - 1)) (length_strengthened n c fs) ∙ touched n (length fs - 1) c fs (omega (arith, some, le)) (omega (arith, some))
+
+-- the searches of a system after a question to one of them
+pub kept_first : (system : System) (frames : List (List (List Literal))) (q : Queries) (first : Guarded) → AreGuarding system frames q → HasAsked q.first first → AreGuarding system frames (record { first = first; step = q.step })
+kept_first system frames q first k a = record {
+  first = guarding_asked system.first ([] ∷ []) q.first first k.first a;
+  first_places = places_stay system q.first first a.vars k.first_places;
+  step = k.step;
+  step_places = k.step_places;
+}
+
+pub kept_step : (system : System) (frames : List (List (List Literal))) (q : Queries) (step : Guarded) → AreGuarding system frames q → HasAsked q.step step → AreGuarding system frames (record { first = q.first; step = step })
+kept_step system frames q step k a = record {
+  first = k.first;
+  first_places = k.first_places;
+  step = guarding_asked system.step frames q.step step k.step a;
+  step_places = places_stay system q.step step a.vars k.step_places;
+}
+
+-- and after a clause was put into the frames up to a number
+pub kept_put : (system : System) (j : ℕ) (c : List Literal) (frames : List (List (List Literal))) (q : Queries) (step : Guarded) → j < length frames → AreGuarding system frames q → IsOverBits system c →
+    HasPut q.step step (under_guard q.step.vars j c ∷ []) → AreGuarding system (strengthened (j + 1) c frames) (record { first = q.first; step = step })
+kept_put system j c frames q step lt k over p = record {
+  first = k.first;
+  first_places = k.first_places;
+  step = guarding_put system.step frames (strengthened (j + 1) c frames) q.step step j c k.step (bits_up_to system q.step c k.step_places over) (put_strengthened j c frames lt) p;
+  step_places = places_stay system q.step step p.vars k.step_places;
+}
