@@ -1,16 +1,16 @@
 -- What a search over guarded clauses answers says the same of the list and one frame.
 use Rattle.std.proofs.Common.{◌≡◌, ◌⊎◌, inl, inr, ◌≤◌, ◌<◌, ℕ, zero, suc, ◌+◌, ◌-◌, nat_le, Bool, true, false, not, List, [], ◌∷◌, ◌++◌, refl, sym, ◌∙◌, ap, subst, arith, length, if◌then◌else◌, Some, length-append}
-use Rattle.std.specs.Prelude.{slice_index_or, Contains, IsTrue, All, filter}
+use Rattle.std.specs.Prelude.{slice_index_or, Contains, IsTrue, All}
 use Rattle.std.proofs.lemmas.Bool.{le-leb, lt-leb}
 use Rattle.std.proofs.lemmas.Bool.Decides.{leb_tells}
 use Rattle.std.proofs.lemmas.List.Elements.{All-contains, Contains-get_or, Contains-push, Contains-push_cases, Contains-append_left, Contains-append_right, Contains-append_cases}
 use Rattle.xs_lits.specs.Literal.{Literal, opposite}
 use Rattle.xs_lits.specs.Assignment.{Assignment, value_of}
-use Rattle.xs_lits.specs.Models.{TotalAssignment, literal_value, clause_value, all_true, Satisfies, FollowsFrom, SameBelow, IsBelow}
+use Rattle.xs_lits.specs.Models.{TotalAssignment, literal_value, clause_value, Satisfies, SameBelow, IsBelow}
 use Rattle.xs_lits.proofs.ModelLemmas.{clause_value-same, literal_value-same, Satisfies-from_All, All-from_Satisfies, literal_value-opposite}
 use Rattle.xs_derive.specs.Derivation.{IsUpTo}
 use Rattle.xs_solver.specs.Search.{IsSolution}
-use Rattle.xs_solver.specs.Kept.{IsAnswer, IsRefuted}
+use Rattle.xs_solver.specs.Kept.{IsRefuted}
 use Rattle.xs_frames.specs.Framed.{frame_at}
 use Rattle.xs_frames.specs.Bits.{values_of}
 use Rattle.xs_frames.specs.Query.{IsModel, IsCore}

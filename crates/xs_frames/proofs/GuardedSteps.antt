@@ -1,9 +1,9 @@
 -- What each call of a search over guarded clauses leaves.
-use Rattle.std.proofs.Common.{◌≡◌, ◌⊎◌, inl, inr, ◌≤◌, ◌<◌, ℕ, zero, suc, ◌+◌, ◌-◌, ◌^◌, Bool, true, false, nat_le, List, [], ◌∷◌, ◌++◌, length, refl, sym, ◌∙◌, ap, subst, arith, length-append, take, Option, Some, replicate}
+use Rattle.std.proofs.Common.{◌≡◌, ◌⊎◌, inl, inr, ◌≤◌, ◌<◌, ℕ, zero, suc, ◌+◌, ◌-◌, ◌^◌, Bool, true, false, List, [], ◌∷◌, ◌++◌, length, refl, sym, ◌∙◌, ap, subst, arith, length-append, Option, replicate}
 use Rattle.std.specs.Prelude.{slice_index_or, Contains, All}
 use Rattle.std.proofs.lemmas.Bool.{cases_lt}
 use Rattle.std.proofs.lemmas.List.{get_or_append_left, get_or-append_right}
-use Rattle.std.proofs.lemmas.List.Elements.{All-contains, All-cons, Contains-get_or}
+use Rattle.std.proofs.lemmas.List.Elements.{All-contains, All-cons}
 use Rattle.xs_lits.specs.Literal.{Literal, opposite}
 use Rattle.xs_lits.specs.Assignment.{Assignment}
 use Rattle.xs_derive.specs.Derivation.{IsUpTo}
@@ -13,8 +13,8 @@ use Rattle.xs_solver.specs.KeptRecord.{KeptValue}
 use Rattle.xs_solver.specs.Kept.{added_of, HasLearned, IsRefuted}
 use Rattle.xs_solver.specs.Search.{IsSolution}
 use Rattle.xs_solver.specs.declared.solve.Verdict.TheVariants.{Sat, Unsat}
-use Rattle.xs_frames.specs.Guards.{guard_of, under_guard, guards_next, unguarded, AreGuarded}
-use Rattle.xs_frames.specs.Guarding.{added_in, IsWell, HasPut, HasGuard, HasAsked, Tells}
+use Rattle.xs_frames.specs.Guards.{guard_of, under_guard, unguarded}
+use Rattle.xs_frames.specs.Guarding.{added_in, IsWell, HasPut, HasAsked, Tells}
 use Rattle.xs_frames.specs.declared.guarded.Guarded.{Guarded}
 use Rattle.xs_frames.proofs.GuardLaws.{guarded_solution, guarded_core}
 use Rattle.xs_frames.proofs.GuardingLemmas.{added_push, added_learned, marked_push, marked_learned}

@@ -1,5 +1,5 @@
 -- What a search over guarded clauses is over, after each change of it and of the frames.
-use Rattle.std.proofs.Common.{◌≡◌, ◌≢◌, ◌⊎◌, inl, inr, ◌≤◌, ◌<◌, ℕ, zero, suc, ◌+◌, ◌-◌, ◌*◌, ◌^◌, Bool, true, false, List, [], ◌∷◌, ◌++◌, length, replicate, refl, sym, ◌∙◌, ap, subst, arith, append_assoc, length-append, take}
+use Rattle.std.proofs.Common.{◌≡◌, ◌≢◌, ◌⊎◌, inl, inr, ◌≤◌, ◌<◌, ℕ, zero, suc, ◌+◌, ◌-◌, ◌*◌, Bool, true, false, List, [], ◌∷◌, ◌++◌, length, replicate, refl, sym, ◌∙◌, ap, subst, arith, append_assoc, length-append}
 use Rattle.std.specs.Prelude.{slice_index_or, slice_set, Contains, All}
 use Rattle.std.proofs.lemmas.Bool.{cases_lt, cases_eq}
 use Rattle.std.proofs.lemmas.List.{append-nil, length-replicate, length-set, get_or-set_same, get_or-set_other}
@@ -13,7 +13,7 @@ use Rattle.xs_solver.proofs.KeptLemmas.{length_with_steps}
 use Rattle.xs_system.specs.declared.system.System.{System}
 use Rattle.xs_frames.specs.Chain.{IsOverBits}
 use Rattle.xs_frames.specs.Framed.{frame_at, strengthened, IsFramed, Linked}
-use Rattle.xs_frames.specs.Guards.{guard_of, under_guard, guards_next, StandsUpTo, IsOld, IsPut, AreGuarded}
+use Rattle.xs_frames.specs.Guards.{under_guard, guards_next, IsOld, IsPut, AreGuarded}
 use Rattle.xs_frames.specs.Guarding.{added_in, IsWell, IsEmpty, HasPut, HasGuard, HasAsked, IsGuarding, AreGuarding, IsEnding, HasPlaces}
 use Rattle.xs_frames.specs.declared.guarded.Guarded.{Guarded}
 use Rattle.xs_frames.specs.declared.guarded.Queries.{Queries}

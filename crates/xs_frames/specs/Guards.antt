@@ -1,6 +1,6 @@
 -- What a search over one list keeps of frames: each clause of a frame stands under the frame's guard, and each guard implies
 -- that of the next frame.
-use Rattle.std.specs.Prelude.{◌≡◌, ◌⊎◌, ℕ, suc, ◌+◌, ◌≤◌, ◌<◌, false, List, [], ◌∷◌, ◌++◌, All, Contains, length, filter, nat_le}
+use Rattle.std.specs.Prelude.{◌≡◌, ◌⊎◌, ℕ, suc, ◌+◌, ◌≤◌, ◌<◌, false, List, [], ◌∷◌, All, Contains, length, filter, nat_le}
 use Rattle.xs_lits.specs.Literal.{Literal, opposite}
 use Rattle.xs_derive.specs.Derivation.{IsUpTo}
 use Rattle.xs_frames.specs.Framed.{frame_at}

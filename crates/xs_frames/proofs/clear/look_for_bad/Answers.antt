@@ -1,7 +1,5 @@
-use Rattle.std.proofs.Common.{◌≡◌, ◌++◌, ◌∷◌, [], subst, arith, length, ◌-◌, List, ℕ, All}
-use Rattle.std.proofs.lemmas.Grind.{common_steps}
+use Rattle.std.proofs.Common.{◌++◌, ◌∷◌, [], subst, arith, length, ◌-◌, ℕ, All}
 use Rattle.xs_frames.specs.Chain.{IsOverBits}
-use Rattle.xs_lits.specs.Literal.{Literal}
 use Rattle.xs_frames.specs.Framed.{frame_at}
 use Rattle.xs_frames.specs.Query.{IsVerdict, IsModel, IsCore}
 use Rattle.xs_frames.proofs.GuardingLemmas.{ending_asked}

@@ -3,7 +3,6 @@ use Rattle.std.proofs.lemmas.Grind.{common_steps}
 use Rattle.xs_frames.specs.Chain.{IsState}
 use Rattle.xs_frames.specs.Bits.{read_from}
 use Rattle.xs_frames.specs.Path.{state_in}
-use Rattle.xs_frames.specs.Looked.{IsLook}
 use Rattle.xs_frames.proofs.BitLemmas.{length_read}
 use Rattle.xs_frames.proofs.OwedLemmas.{look_newest}
 use Rattle.xs_frames.proofs.clear.look_once.Goals as goal

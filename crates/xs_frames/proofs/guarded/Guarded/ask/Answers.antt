@@ -5,7 +5,7 @@ use Rattle.xs_lits.specs.Literal.{Literal}
 use Rattle.xs_solver.specs.Kept.{IsAnswer}
 use Rattle.xs_frames.specs.Guards.{guard_of}
 use Rattle.xs_frames.specs.Guarding.{added_in, Tells}
-use Rattle.xs_solver.specs.declared.solve.Verdict.TheVariants.{Sat, Unsat}
+use Rattle.xs_solver.specs.declared.solve.Verdict.TheVariants.{Unsat}
 use Rattle.xs_frames.proofs.GuardedSteps.{asked_well, tells_sat, tells_unsat, under_apart}
 use Rattle.xs_frames.proofs.guarded.Guarded.ask.Goals as goal
 
