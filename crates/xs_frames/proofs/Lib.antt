@@ -10,3 +10,6 @@ pub mod PushLemmas
 pub mod OwedLemmas
 pub mod AdvanceLemmas
 pub mod QueryLemmas
+pub mod GuardLaws
+pub mod GuardingLemmas
+pub mod GuardedSteps

@@ -7,6 +7,8 @@ pub mod Numbered
 pub mod Bits
 pub mod Path
 pub mod Query
+pub mod Guards
+pub mod Guarding
 pub mod Looked
 pub mod Advance
 pub mod FramesRecord

@@ -10,6 +10,10 @@
 //! `specs/Chain.antt` and `specs/Framed.antt`; which systems frames are made of, and which lists they
 //! clear, in `specs/Condition.antt`.
 //!
+//! The queries go to searches that are kept: one over the first states, one over the steps with each clause
+//! once under the guard of the last frame in which it holds, and one over the bad states of a call of `clear`.
+//! So what they learn stays (`src/guarded.rt`, `specs/Guarding.antt`).
+//!
 //! ```text
 //! let mut frames = Frames::new(alloc, system)?;    // one bit that is false first and stays
 //! frames.clear(&bad, &mut panel)?                  // Clear: the bit is not true in a first state
@@ -24,6 +28,7 @@ mod bits;
 mod clear;
 mod condition;
 mod frames;
+mod guarded;
 mod query;
 mod steps;
 

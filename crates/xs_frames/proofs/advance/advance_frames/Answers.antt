@@ -4,6 +4,8 @@ use Rattle.xs_lits.specs.Literal.{Literal}
 use Rattle.xs_frames.specs.Framed.{IsFramed, AreStronger, ArePushed, frame_at}
 use Rattle.xs_frames.specs.Growing.{IsFixedAt, AllLoseBelow}
 use Rattle.xs_frames.specs.Advance.{IsFixed, IsFurther}
+use Rattle.xs_frames.specs.Guarding.{IsGuarding}
+use Rattle.xs_frames.proofs.GuardingLemmas.{guarding_more, places_stay}
 use Rattle.xs_frames.proofs.Framing.{framed_grown}
 use Rattle.xs_frames.proofs.AdvanceLemmas.{written, is_fixed, is_further, all_pushed, stronger_grown}
 use Rattle.xs_frames.proofs.advance.advance_frames.Goals as goal
@@ -101,3 +103,38 @@ returns-in-None-clause-pushed g c =
     let now : take c.push.new.self.len (c.push_all.new.frames ++ drop (length c.push_all.new.frames) c.push.new.self.items) ≡ c.push_all.new.frames =
     subst (λ (n : ℕ). take n (c.push_all.new.frames ++ drop (length c.push_all.new.frames) c.push.new.self.items) ≡ c.push_all.new.frames) (sym len) (written c.push_all.new.frames c.push.new.self.items items) in
     subst (ArePushed c.args.system.now) (sym now) (all_pushed c.args.system.now c.push_all.new.frames c.in_ok-push_all.ensures.pushed)
+
+pub returns-in_ok-copy_list-in-Some-clause-step : goal.returns-in_ok-copy_list-in-Some-clause-step
+returns-in_ok-copy_list-in-Some-clause-step g c =
+    let grown : c.as_mut_slice.result.now ≡ c.args.frames.now.items ++ [] ∷ [] = grind (arith, common_steps) in
+    let same : length c.push_all.new.frames ≡ length c.as_mut_slice.result.now = c.push_all.ensures.same in
+    let items : length c.push.new.self.items ≡ length c.push_all.new.frames = grind (arith, common_steps) in
+    let len : c.push.new.self.len ≡ length c.push_all.new.frames = grind (arith, common_steps) in
+    let now : take c.push.new.self.len (c.push_all.new.frames ++ drop (length c.push_all.new.frames) c.push.new.self.items) ≡ c.push_all.new.frames =
+    subst (λ (n : ℕ). take n (c.push_all.new.frames ++ drop (length c.push_all.new.frames) c.push.new.self.items) ≡ c.push_all.new.frames) (sym len) (written c.push_all.new.frames c.push.new.self.items items) in
+    subst (λ (fs : List (List (List Literal))). IsGuarding c.args.system.now.step fs c.push_all.new.step) (sym now) c.in_ok-push_all.ensures.step
+
+pub returns-in_ok-copy_list-in-Some-clause-places : goal.returns-in_ok-copy_list-in-Some-clause-places
+returns-in_ok-copy_list-in-Some-clause-places g c = c.in_ok-push_all.ensures.places
+
+pub returns-in-None-clause-step : goal.returns-in-None-clause-step
+returns-in-None-clause-step g c =
+    let grown : c.as_mut_slice.result.now ≡ c.args.frames.now.items ++ [] ∷ [] = grind (arith, common_steps) in
+    let same : length c.push_all.new.frames ≡ length c.as_mut_slice.result.now = c.push_all.ensures.same in
+    let items : length c.push.new.self.items ≡ length c.push_all.new.frames = grind (arith, common_steps) in
+    let len : c.push.new.self.len ≡ length c.push_all.new.frames = grind (arith, common_steps) in
+    let now : take c.push.new.self.len (c.push_all.new.frames ++ drop (length c.push_all.new.frames) c.push.new.self.items) ≡ c.push_all.new.frames =
+    subst (λ (n : ℕ). take n (c.push_all.new.frames ++ drop (length c.push_all.new.frames) c.push.new.self.items) ≡ c.push_all.new.frames) (sym len) (written c.push_all.new.frames c.push.new.self.items items) in
+    subst (λ (fs : List (List (List Literal))). IsGuarding c.args.system.now.step fs c.push_all.new.step) (sym now) c.in_ok-push_all.ensures.step
+
+pub returns-in-None-clause-places : goal.returns-in-None-clause-places
+returns-in-None-clause-places g c = c.in_ok-push_all.ensures.places
+
+pub push_all-requires-clause-step : goal.push_all-requires-clause-step
+push_all-requires-clause-step g c =
+    let grown : c.as_mut_slice.result.now ≡ c.args.frames.now.items ++ [] ∷ [] = grind (arith, common_steps) in
+    subst (λ (fs : List (List (List Literal))). IsGuarding c.args.system.now.step fs c.grow.new.self) (sym grown)
+    (guarding_more c.args.system.now.step c.args.frames.now.items c.args.step.now c.grow.new.self c.requires.framed.some c.requires.step c.in_ok-grow.ensures)
+
+pub push_all-requires-clause-places : goal.push_all-requires-clause-places
+push_all-requires-clause-places g c = places_stay c.args.system.now c.args.step.now c.grow.new.self c.in_ok-grow.ensures.vars c.requires.places

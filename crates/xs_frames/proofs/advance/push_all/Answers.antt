@@ -15,4 +15,12 @@ frames-preserved g c =
       stronger = stronger_more c.args.system.now c.args.frames.now c.frames.frames c.push_frame.new.frames c.frames.invariant.same c.frames.invariant.stronger
           (grown_stronger c.args.system.now c.frames.frames c.push_frame.new.frames c.frames.i c.push_frame.ensures.grown);
       pushed = pushed_more c.args.system.now c.frames.frames c.push_frame.new.frames c.frames.i c.push_frame.ensures.grown c.frames.invariant.pushed c.in_ok-push_frame.ensures.pushed;
+      step = c.in_ok-push_frame.ensures.step;
+      places = c.in_ok-push_frame.ensures.places;
     }
+
+pub returns-clause-step : goal.returns-clause-step
+returns-clause-step g c = c.frames.invariant.step
+
+pub returns-clause-places : goal.returns-clause-places
+returns-clause-places g c = c.frames.invariant.places

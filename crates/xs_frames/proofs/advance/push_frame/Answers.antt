@@ -12,6 +12,8 @@ clauses-preserved g c =
       framed = c.push_clause.ensures.framed;
       grown = grown_more c.args.system.now c.args.frames.now c.clauses.frames c.push_clause.new.frames c.args.i inv.grown c.push_clause.ensures.grown;
       pushed = places_more c.args.system.now c.args.frames.now c.clauses.frames c.push_clause.new.frames c.args.i c.clauses.k inv.grown c.push_clause.ensures.grown inv.pushed c.in_ok-push_clause.ensures.pushed;
+      step = c.in_ok-push_clause.ensures.step;
+      places = c.in_ok-push_clause.ensures.places;
     }
 
 pub returns-clause-pushed : goal.returns-clause-pushed
@@ -21,3 +23,9 @@ returns-clause-pushed g c =
     let count : length c.as_slice-count.result.now ≡ length (frame_at c.args.frames.now c.args.i) = ap (λ (f : List (List Literal)). length f) frame in
     let over : (k : ℕ) → k < length (frame_at c.args.frames.now c.args.i) → k < c.clauses.k = λ k lt. omega (arith, lt, count, c.clauses-test.false) in
     all_places c.args.system.now c.args.frames.now c.clauses.frames c.args.i inv.grown (λ k lt. inv.pushed k (over k lt))
+
+pub returns-clause-step : goal.returns-clause-step
+returns-clause-step g c = c.clauses.invariant.step
+
+pub returns-clause-places : goal.returns-clause-places
+returns-clause-places g c = c.clauses.invariant.places
