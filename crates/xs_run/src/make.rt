@@ -68,11 +68,7 @@ pub struct Summary {
 }
 
 /// Generates a case of a number and so many stages.
-pub(crate) fn generate(
-    alloc: Global,
-    number: u32,
-    stages: u32,
-) -> Result<Generated, OutOfMemory>
+pub(crate) fn generate(alloc: Global, number: u32, stages: u32) -> Result<Generated, OutOfMemory>
     ensures event { IfOk result (λ g. IsEvent dead_word g.loaded) }
     ensures program { IfOk result (λ g. (case_in g.loaded).program ≡ generator.generated_model number stages) }
     ensures instructions { IfOk result (λ g. (case_in g.loaded).instructions ≡ generator.generated_instructions) }
@@ -108,11 +104,7 @@ fn instruction_text(alloc: Global) -> Result<Vec<u8>, OutOfMemory>
 }
 
 /// The case of two texts, with the top event `dead`.
-fn read_back(
-    alloc: Global,
-    program: &[u8],
-    instructions: &[u8],
-) -> Result<LoadedEvent, OutOfMemory>
+fn read_back(alloc: Global, program: &[u8], instructions: &[u8]) -> Result<LoadedEvent, OutOfMemory>
     ensures event { IfOk result (IsEvent dead_word) }
     ensures program { IfOk result (λ l. IsModelText program.now (program_tree l.model.program)) }
     ensures instructions { IfOk result (λ l. IsInstructionText instructions.now (instruction_tree l.case.instructions)) }
@@ -229,7 +221,9 @@ fn summary_of(
 ) -> Result<ByteList, OutOfMemory>
     ensures { IfOk result (λ line. line ≡ summary_line stages variables faults bits sets (told_ending ending)) }
 {
-    let begin = format!(in alloc; "stages {stages} variables {variables} faults {faults} bits {bits} sets {sets} ")?;
+    let begin = format!(in alloc;
+        "stages {stages} variables {variables} faults {faults} bits {bits} sets {sets} "
+    )?;
     let mut line = ByteList::from_slice(alloc, begin.as_bytes())?;
     append_ending(alloc, &mut line, ending)?;
     Ok(line)

@@ -327,11 +327,7 @@ fn column_ending(end: &End) -> Ending
 }
 
 /// The text of the table of these columns.
-fn text_of(
-    alloc: Global,
-    asked: &Tabulating,
-    columns: &ColumnList,
-) -> Result<Vec<u8>, OutOfMemory>
+fn text_of(alloc: Global, asked: &Tabulating, columns: &ColumnList) -> Result<Vec<u8>, OutOfMemory>
     requires able { IsTabulable asked.now }
     requires named { All (NamesFaults (length (tabulated_case asked.now).faults)) columns.now }
     ensures { IfOk result (λ text. (found : List Analysis) → AreTold found columns.now → text.items ≡ table_of (tabulated_case asked.now) asked.now.size found) }

@@ -1,11 +1,12 @@
+// Rows of extensions, of every kind of refusal, and of desks that fail on the way.
 ghost use Rattle.std.specs.Prelude.{◌<◌, ◌^◌, length};
 
-use xs_run::run::run;
-use xs_run::status::Status;
 use std::alloc::Global;
 use std::test::Fail as TestFail;
 use xs_desk::{CallKind, Fail, FailList, FileList, MemoryDesk, NamedFile};
 use xs_parse::expression;
+use xs_run::run::run;
+use xs_run::status::Status;
 use xs_tree::print_expr;
 use xs_value::OutOfMemory;
 

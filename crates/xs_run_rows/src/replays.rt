@@ -1,8 +1,8 @@
 // Rows of replays, of top events and of words that are refused, over desks in memory.
 
-use xs_run::run::run;
 use std::alloc::Global;
 use xs_desk::{FailList, FileList, MemoryDesk, NamedFile};
+use xs_run::run::run;
 use xs_value::OutOfMemory;
 
 const LAMP: &[u8] =
