@@ -3,7 +3,8 @@ use Rattle.std.proofs.Common.{arith, ◌≡◌, inl, inr, ⊎_elim, ℕ, zero, s
 use Rattle.std.specs.Prelude.{slice_get, Contains}
 use Rattle.std.specs.List.{range_with_len}
 use Rattle.std.proofs.lemmas.Option.{slice_get_within}
-use Rattle.std.proofs.lemmas.List.{drop_more}
+use Rattle.std.proofs.Math.Seq.{take-length}
+use Rattle.std.proofs.lemmas.List.{at_drop_more, at_drop_all}
 use Rattle.std.proofs.lemmas.List.Elements.{All-weaker, All-contains, All-contains_itself, All-append}
 use Rattle.xs_desk.specs.declared.files.NamedFile.{NamedFile}
 use Rattle.xs_desk.specs.Desk.{said_more, SaysPrefix}
@@ -24,16 +25,25 @@ use Rattle.xs_run.proofs.TopEvents.{counts_in_case, event_found}
 use Rattle.xs_right.specs.Right.{Shows}
 use Rattle.xs_weave.specs.Extended.{Moment}
 use Rattle.xs_flattening.specs.Model.{EachBoth}
-use Rattle.xs_fmea.specs.Columns.{AreTold, NamesFaults, told_ending}
+use Rattle.xs_scope.specs.ModelTree.{model_tree}
+use Rattle.xs_kinds.specs.Costs.{state_bits}
+use Rattle.xs_extend.specs.WovenFaults.{fault_tree}
+use Rattle.xs_report.specs.FaultText as lines
+use Rattle.xs_report.specs.FaultText.{name_of}
+use Rattle.xs_fmea.specs.Columns.{AreTold, NamesFaults, IsTableOf, told_ending}
+use Rattle.xs_fmea.specs.declared.columns.FmeaTable.{FmeaTable}
 use Rattle.xs_fmea.specs.declared.columns.Column.{Column}
 use Rattle.xs_fmea.specs.declared.columns.Ending.TheVariants as ended
-use Rattle.xs_fmea.specs.Tables.{rows_of, entry_of, pairs_after, pairs_from}
+use Rattle.xs_fmea.specs.Tables.{rows_of, entry_of, pairs_after, pairs_from, table_text}
 use Rattle.xs_reporting.specs.ExtendedTraces.{Ending, complete, bounded, Analysis, IsOfClass, IsAnalysisOf}
 use Rattle.xs_reporting.specs.Tables.{IsEntry}
 use Rattle.xs_reporting.proofs.EntryLaws.{entries_are_right}
 use Rattle.xs_run.specs.declared.status.Status.{Status}
+use Rattle.xs_run.specs.declared.status.Status.TheVariants as status
 use Rattle.xs_run.specs.Cases.{Case, HoldsCase, HoldsTops}
-use Rattle.xs_run.specs.Answered.{Told, Said}
+use Rattle.xs_run.specs.Answered.{Told, Said, faults_text}
+use Rattle.xs_run.proofs.ListedLaws.{are_listed, named_lines}
+use Rattle.xs_run.proofs.TableLemmas.{both_over, both_back}
 use Rattle.xs_run.specs.Analyses.{IsFound}
 use Rattle.xs_run.specs.Tables.{IsColumn, AreColumns, AreFound, HasTabulated, TabulatesInPart, MeansColumn, IsTabulated, table_of, after_column, ended_with_all}
 
@@ -96,6 +106,47 @@ are_columns c depth (e ∷ es) (b ∷ bs) h =
       told = ((λ j. one.sets j ∷ more.told.0 j), (λ j. one.ending j ∷ more.told.1 j));
       named = (subst (All (All (λ i. (0 < i) × (i ≤ length c.faults)))) one.sets (names_faults c e (length c.faults) depth one.analysis one.found), more.named);
     }
+
+-- what was found of each event, with the events of the expressions
+pub columns_of_events : (c : Case) (depth : ℕ) {A : Type 0} (g : A → Tree FlatLeaf) (es : List Formula) (trees : List A) (columns : List Column) → EachBoth (IsEventOf c) es (map g trees) →
+    EachBoth (λ tree column. (e : Formula) → IsEventOf c e (g tree) → IsColumn c depth e column) trees columns → AreColumns c depth es columns
+columns_of_events c depth g es trees columns events found =
+    are_columns c depth es columns
+    (both_over (λ e tree. IsEventOf c e (g tree)) (λ tree column. (e : Formula) → IsEventOf c e (g tree) → IsColumn c depth e column) (IsColumn c depth) (λ e tree column is so. so e is) es trees columns
+    (both_back (IsEventOf c) g es trees events) found)
+
+-- The text of a table of the case.
+module _ (p : ProgramTree) (l : LoadedCase) (is : IsExtensible p l) (len count : ℕ) (counted : len ≡ length l.limited.faults) (sized : count ≡ len) where
+  counts_as : count ≡ length (case_of p l).faults
+  counts_as = sized ∙ counted ∙ sym (counts_in_case p l is)
+
+  pub named_in_case : (columns : List Column) → All (NamesFaults (length (case_of p l).faults)) columns → All (NamesFaults count) columns
+  named_in_case columns named = subst (λ n. All (NamesFaults n) columns) (sym counts_as) named
+
+  lines_in_case : lines.faults_text (map name_of l.limited.faults) ≡ faults_text (map fault_tree l.limited.woven.faults)
+  lines_in_case = named_lines l.limited.woven.faults l.limited.faults (are_listed l.limited.typed.model l.limited.woven.faults l.limited.faults is.loaded.numbered)
+
+  pub text_in_case : (size bits : ℕ) (front shown : Text) (columns : List Column) (t : FmeaTable) (text : Text) → bits ≡ state_bits (model_tree l.limited.full.model) →
+      front ≡ lines.faults_text (map name_of l.limited.faults) → shown ≡ front → ((found : List Analysis) → AreTold found columns → IsTableOf count size found t) →
+      ((faults most : ℕ) (found : List Analysis) → IsTableOf faults most found t → text ≡ table_text shown bits faults most found) →
+      (found : List Analysis) → AreTold found columns → text ≡ table_of (case_of p l) size found
+  text_in_case size bits front shown columns t text counts printed same made told found are =
+      told count size found (made found are)
+      ∙ (λ j. table_text ((same ∙ printed ∙ lines_in_case) j) ((counts ∙ ap state_bits is.loaded.full) j) (counts_as j) size found)
+
+-- a text that was said whole
+pub whole_said : (said now : Said) (text : Text) → now ≡ said_more said text → SaysPrefix said now text
+whole_said said now text is = let fits : length text ≤ length text = omega arith in (length text, fits, is ∙ ap (said_more said) (sym (take-length text)))
+
+-- how a run ends, from a column on
+pub ends_here : (columns : List Column) (i : ℕ) (column : Column) → i < length columns → column ≡ get_or columns i column →
+    ended_with_all (map (λ x. told_ending x.ending) (drop i columns)) ≡ after_column (told_ending column.ending) (ended_with_all (map (λ x. told_ending x.ending) (drop (i + 1) columns)))
+ends_here columns i column below here =
+    at_drop_more (λ xs. ended_with_all (map (λ x. told_ending x.ending) xs)) columns i column below
+    ∙ ap (λ (x : Column). after_column (told_ending x.ending) (ended_with_all (map (λ x. told_ending x.ending) (drop (i + 1) columns)))) (sym here)
+
+pub ends_after : (columns : List Column) (i : ℕ) → length columns ≤ i → ended_with_all (map (λ x. told_ending x.ending) (drop i columns)) ≡ status.Done
+ends_after columns i past = at_drop_all (λ xs. ended_with_all (map (λ x. told_ending x.ending) xs)) columns i past
 
 -- a table that was said, and its parts
 pub has_tabulated : (c : Case) (es : List Formula) (size depth : ℕ) (columns : List Column) (is : AreColumns c depth es columns) (text : Text) →
