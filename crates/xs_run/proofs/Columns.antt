@@ -2,10 +2,10 @@
 use Rattle.std.proofs.Common.{arith, ◌≡◌, inl, inr, ⊎_elim, ℕ, zero, suc, ◌+◌, ◌-◌, ◌<◌, ◌≤◌, ◌++◌, List, [], ◌∷◌, All, Option, Some, None, length, map, drop, get_or, refl, sym, ap, subst, ◌∙◌}
 use Rattle.std.specs.Prelude.{slice_get, Contains}
 use Rattle.std.specs.List.{range_with_len}
-use Rattle.std.proofs.lemmas.Option.{slice_get_within}
+use Rattle.std.proofs.lemmas.Option.{slice_get_within, slice_get-get_or}
 use Rattle.std.proofs.Math.Seq.{take-length}
 use Rattle.std.proofs.lemmas.List.{at_drop_more, at_drop_all}
-use Rattle.std.proofs.lemmas.List.Elements.{All-weaker, All-contains, All-contains_itself, All-append}
+use Rattle.std.proofs.lemmas.List.Elements.{All-nil, All-cons, All-weaker, All-contains, All-contains_itself, All-append}
 use Rattle.xs_desk.specs.declared.files.NamedFile.{NamedFile}
 use Rattle.xs_desk.specs.Desk.{said_more, SaysPrefix}
 use Rattle.xs_tree.specs.ProgramTree.{Text, Formula, ProgramTree}
@@ -49,8 +49,7 @@ use Rattle.xs_run.specs.Tables.{IsColumn, AreColumns, AreFound, HasTabulated, Ta
 
 -- what is so at each place is so of all
 all_at : {A : Type 0} (P : A → Type 0) (xs : List A) → ((k : ℕ) (x : A) → slice_get xs k ≡ Some x → P x) → All P xs
-all_at P [] h = tt
-all_at P (x ∷ xs) h = (h 0 x refl, all_at P xs (λ k y there. h (suc k) y there))
+all_at P xs h k d below = h k (get_or xs k d) (slice_get-get_or xs k d below)
 
 no_place : {A : Type 0} (k : ℕ) (x : A) → slice_get [] k ≡ Some x → ⊥
 no_place k x e = cc
@@ -73,7 +72,7 @@ names_faults c e size depth a found =
     All-weaker (Contains set) (λ i. (0 < i) × (i ≤ length c.faults))
     (λ i member.
     let failed = (shows.exactly i).1 member in
-    let within = slice_get_within c.faults (i - 1) failed.0 failed.2.0 in
+    let within = slice_get_within c.faults (i - 1) failed.0 failed.2 in
     let above = failed.1 in
     (above, omega (arith, within, above))) set (All-contains_itself set))
 
@@ -94,7 +93,7 @@ column_found p l is e tree event depth a len size counted sized answer ending to
 
 -- columns of all events, one for each
 pub are_columns : (c : Case) (depth : ℕ) (es : List Formula) (columns : List Column) → EachBoth (IsColumn c depth) es columns → AreColumns c depth es columns
-are_columns c depth [] [] h = record { analyses = []; found = tt; told = (refl, refl); named = tt }
+are_columns c depth [] [] h = record { analyses = []; found = tt; told = (refl, refl); named = All-nil (NamesFaults (length c.faults)) }
 are_columns c depth [] (b ∷ bs) h = absurd h
 are_columns c depth (e ∷ es) [] h = absurd h
 are_columns c depth (e ∷ es) (b ∷ bs) h =
@@ -104,7 +103,7 @@ are_columns c depth (e ∷ es) (b ∷ bs) h =
       analyses = one.analysis ∷ more.analyses;
       found = (one.found, more.found);
       told = ((λ j. one.sets j ∷ more.told.0 j), (λ j. one.ending j ∷ more.told.1 j));
-      named = (subst (All (All (λ i. (0 < i) × (i ≤ length c.faults)))) one.sets (names_faults c e (length c.faults) depth one.analysis one.found), more.named);
+      named = All-cons (NamesFaults (length c.faults)) b bs (subst (All (All (λ i. (0 < i) × (i ≤ length c.faults)))) one.sets (names_faults c e (length c.faults) depth one.analysis one.found)) more.named;
     }
 
 -- what was found of each event, with the events of the expressions
@@ -173,27 +172,29 @@ abbrev IsSmall : ℕ → List ℕ → Type 0
 IsSmall n row = length row ≤ n
 
 small_singles : (n a k : ℕ) → 1 ≤ n → All (IsSmall n) (map (λ i. i ∷ []) (range_with_len a k))
-small_singles n a zero some = tt
-small_singles n a (suc k) some = (some, small_singles n (a + 1) k some)
+small_singles n a zero some = All-nil (IsSmall n)
+small_singles n a (suc k) some = All-cons (IsSmall n) (a ∷ []) (map (λ i. i ∷ []) (range_with_len (a + 1) k)) some (small_singles n (a + 1) k some)
 
 small_after : (n i a k : ℕ) → 2 ≤ n → All (IsSmall n) (map (λ j. i ∷ j ∷ []) (range_with_len a k))
-small_after n i a zero two = tt
-small_after n i a (suc k) two = (two, small_after n i (a + 1) k two)
+small_after n i a zero two = All-nil (IsSmall n)
+small_after n i a (suc k) two = All-cons (IsSmall n) (i ∷ a ∷ []) (map (λ j. i ∷ j ∷ []) (range_with_len (a + 1) k)) two (small_after n i (a + 1) k two)
 
 small_pairs : (n i k : ℕ) → k ≤ n → All (IsSmall n) (pairs_from i k)
-small_pairs n i zero fits = tt
-small_pairs n i (suc zero) fits = tt
+small_pairs n i zero fits = All-nil (IsSmall n)
+small_pairs n i (suc zero) fits = All-nil (IsSmall n)
 small_pairs n i (suc (suc k)) fits =
     All-append (IsSmall n) (pairs_after i (suc k)) (pairs_from (suc i) (suc k)) (small_after n i (suc i) (suc k) (omega (arith, fits))) (small_pairs n (suc i) (suc k) (omega (arith, fits)))
 
 all_singles : (n : ℕ) → All (IsSmall n) (map (λ i. i ∷ []) (range_with_len 1 n))
-all_singles zero = tt
+all_singles zero = All-nil (IsSmall zero)
 all_singles (suc n) = small_singles (suc n) 1 (suc n) (omega arith)
 
 all_small : (size n : ℕ) → All (IsSmall n) (rows_of size n)
-all_small zero n = (omega arith, tt)
-all_small (suc zero) n = (omega arith, all_singles n)
-all_small (suc (suc more)) n = (omega arith, All-append (IsSmall n) (map (λ i. i ∷ []) (range_with_len 1 n)) (pairs_from 1 n) (all_singles n) (small_pairs n 1 n (omega arith)))
+all_small zero n = All-cons (IsSmall n) [] [] (omega arith) (All-nil (IsSmall n))
+all_small (suc zero) n = All-cons (IsSmall n) [] (map (λ i. i ∷ []) (range_with_len 1 n)) (omega arith) (all_singles n)
+all_small (suc (suc more)) n =
+    All-cons (IsSmall n) [] (map (λ i. i ∷ []) (range_with_len 1 n) ++ pairs_from 1 n) (omega arith)
+    (All-append (IsSmall n) (map (λ i. i ∷ []) (range_with_len 1 n)) (pairs_from 1 n) (all_singles n) (small_pairs n 1 n (omega arith)))
 
 module _ (c : Case) (size : ℕ) where
   small_rows : (row : List ℕ) → Contains (rows_of size (length c.faults)) row → length row ≤ length c.faults
