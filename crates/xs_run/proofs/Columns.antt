@@ -134,15 +134,25 @@ module _ (p : ProgramTree) (l : LoadedCase) (is : IsExtensible p l) (len count :
       ∙ (λ j. table_text ((same ∙ printed ∙ lines_in_case) j) ((counts ∙ ap state_bits is.loaded.full) j) (counts_as j) size found)
 
 -- a text that was said whole
-pub whole_said : (said now : Said) (text : Text) → now ≡ said_more said text → SaysPrefix said now text
-whole_said said now text is = let fits : length text ≤ length text = omega arith in (length text, fits, is ∙ ap (said_more said) (sym (take-length text)))
+pub whole_said : (said now : Said) (bytes text : Text) → now ≡ said_more said bytes → bytes ≡ text → SaysPrefix said now text
+whole_said said now bytes text is same = let fits : length text ≤ length text = omega arith in (length text, fits, is ∙ ap (said_more said) (same ∙ sym (take-length text)))
 
 -- how a run ends, from a column on
-pub ends_here : (columns : List Column) (i : ℕ) (column : Column) → i < length columns → column ≡ get_or columns i column →
+ends_here : (columns : List Column) (i : ℕ) (column : Column) → i < length columns → column ≡ get_or columns i column →
     ended_with_all (map (λ x. told_ending x.ending) (drop i columns)) ≡ after_column (told_ending column.ending) (ended_with_all (map (λ x. told_ending x.ending) (drop (i + 1) columns)))
 ends_here columns i column below here =
     at_drop_more (λ xs. ended_with_all (map (λ x. told_ending x.ending) xs)) columns i column below
     ∙ ap (λ (x : Column). after_column (told_ending x.ending) (ended_with_all (map (λ x. told_ending x.ending) (drop (i + 1) columns)))) (sym here)
+
+pub ends_bounded : (columns : List Column) (i : ℕ) (column : Column) (k : ℕ) → i < length columns → column ≡ get_or columns i column → column.ending ≡ ended.Bounded k → (whole : Status) →
+    ended_with_all (map (λ x. told_ending x.ending) (drop i columns)) ≡ whole → status.Bounded k ≡ whole
+ends_bounded columns i column k below here is whole so =
+    sym (ap (λ (e : Ended). after_column (told_ending e) (ended_with_all (map (λ x. told_ending x.ending) (drop (i + 1) columns)))) is) ∙ sym (ends_here columns i column below here) ∙ so
+
+pub ends_on : (columns : List Column) (i : ℕ) (column : Column) → i < length columns → column ≡ get_or columns i column → column.ending ≡ ended.Complete → (whole : Status) →
+    ended_with_all (map (λ x. told_ending x.ending) (drop i columns)) ≡ whole → ended_with_all (map (λ x. told_ending x.ending) (drop (i + 1) columns)) ≡ whole
+ends_on columns i column below here is whole so =
+    sym (ap (λ (e : Ended). after_column (told_ending e) (ended_with_all (map (λ x. told_ending x.ending) (drop (i + 1) columns)))) is) ∙ sym (ends_here columns i column below here) ∙ so
 
 pub ends_after : (columns : List Column) (i : ℕ) → length columns ≤ i → ended_with_all (map (λ x. told_ending x.ending) (drop i columns)) ≡ status.Done
 ends_after columns i past = at_drop_all (λ xs. ended_with_all (map (λ x. told_ending x.ending) xs)) columns i past

@@ -31,4 +31,4 @@ pub returns-clause-part : goal.returns-clause-part
 returns-clause-part g c =
     let a = c.args.asked.now in
     tabulates_begun (tabulated_case a) (tabulated_events a) a.size a.depth c.in_ok-columns.columns c.in_ok-columns.ensures c.in_ok-text.text.items c.in_ok-text.ensures _ _ _ _ c.say_whole.ensures.files
-    (whole_said _ _ _ (c.in_ok-say_whole.ensures.ok ∙ ap (said_more (g.D.Desk.said c.args.desk.now)) c.deref.ensures.value))
+    (whole_said _ _ _ _ c.in_ok-say_whole.ensures.ok c.deref.ensures.value)

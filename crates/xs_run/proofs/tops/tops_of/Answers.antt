@@ -1,4 +1,4 @@
-use Rattle.std.proofs.Common.{[], ◌<◌, ◌≤◌, length, false, map, sym, ap, subst, ◌∙◌}
+use Rattle.std.proofs.Common.{[], ◌≤◌, length, false, map, sym, subst}
 use Rattle.std.proofs.lemmas.Result.{err_from_is_err_and}
 use Rattle.std.proofs.lemmas.List.{length-map}
 use Rattle.xs_tree.specs.ProgramTree.{Formula, program_tree}
@@ -32,7 +32,7 @@ pub returns-in_err-judge_tops-clause-wrong : goal.returns-in_err-judge_tops-clau
 returns-in_err-judge_tops-clause-wrong c =
     let exit = err_from_is_err_and c.from_residual-in_err-judge_tops.result c.from_residual-in_err-judge_tops.ensures.1 in
     let p = program_tree c.args.model.now.program in
-    let bad = subst (λ xs. IfRefused (IsFirstNoTop p (map tree_of xs)) c.in_err-judge_tops.field-0) c.as_slice.ensures c.in_err-judge_tops.ensures.wrong in
+    let bad = subst (λ xs. IfRefused (IsFirstNoTop p (map tree_of xs)) c.in_err-judge_tops.field-0.0) c.as_slice.ensures c.in_err-judge_tops.ensures.wrong in
     rw (exit.1, exit.2) (refused_weaker (IsFirstNoTop p (map tree_of c.in_ok-written.written)) (IsWrongTops p c.args.bytes.now) (λ told first. wrong_event (map tree_of c.in_ok-written.written) c.in_ok-written.ensures.ok first) _ bad)
 
 pub over_case-requires-clause-accepted : goal.over_case-requires-clause-accepted

@@ -11,13 +11,13 @@ returns-in_err-written-clause-wrong c =
     let exit = err_from_is_err_and c.from_residual.result c.from_residual.ensures.1 in
     rw exit.1 (if_refused (IsWrongList c.args.bytes.now) _ (λ told e. no_list c.in_err-written.field-0.0 c.in_err-written.ensures.fault (e ∙ exit.2)))
 
-pub returns-then-written-gt-MOST_TOPS-clause-wrong : goal.returns-then-written-gt-MOST_TOPS-clause-wrong
-returns-then-written-gt-MOST_TOPS-clause-wrong c =
+pub returns-then-len-gt-MOST_TOPS-clause-wrong : goal.returns-then-len-gt-MOST_TOPS-clause-wrong
+returns-then-len-gt-MOST_TOPS-clause-wrong c =
     let es = map tree_of c.in_ok-written.written in
     let text : IsListText c.args.bytes.now es = record { spelled = c.in_ok-written.ensures.spelled; only = c.in_ok-written.ensures.only; depths = c.in_ok-written.ensures.depths } in
     let long = length-map c.in_ok-written.written tree_of in
     let counted = c.len.ensures in
-    let more = c.if-written-gt-MOST_TOPS.true in
+    let more = c.if-len-gt-MOST_TOPS.true in
     long_list es text (omega (arith, long, counted, more)) refl
 
 pub returns-clause-ok : goal.returns-clause-ok
@@ -26,5 +26,5 @@ returns-clause-ok c =
     let text : IsListText c.args.bytes.now es = record { spelled = c.in_ok-written.ensures.spelled; only = c.in_ok-written.ensures.only; depths = c.in_ok-written.ensures.depths } in
     let long = length-map c.in_ok-written.written tree_of in
     let counted = c.len.ensures in
-    let few = c.if-written-gt-MOST_TOPS.false in
+    let few = c.if-len-gt-MOST_TOPS.false in
     record { text = text; few = omega (arith, long, counted, few) }
