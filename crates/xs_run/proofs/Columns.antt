@@ -1,5 +1,5 @@
 -- From the searches of all events to the table of their analyses, and what its entries mean.
-use Rattle.std.proofs.Common.{arith, ◌≡◌, inl, inr, ⊎_elim, ℕ, zero, suc, ◌+◌, ◌-◌, ◌<◌, ◌≤◌, ◌++◌, List, [], ◌∷◌, All, Option, Some, None, length, map, drop, get_or, refl, sym, ap, subst, ◌∙◌}
+use Rattle.std.proofs.Common.{arith, ◌≡◌, inr, ℕ, zero, suc, ◌+◌, ◌-◌, ◌<◌, ◌≤◌, ◌++◌, List, [], ◌∷◌, All, Some, length, map, drop, get_or, refl, sym, ap, subst, ◌∙◌}
 use Rattle.std.specs.Prelude.{slice_get, Contains}
 use Rattle.std.specs.List.{range_with_len}
 use Rattle.std.proofs.lemmas.Option.{slice_get_within, slice_get-get_or}
@@ -22,8 +22,6 @@ use Rattle.xs_run.specs.Loaded.{case_of}
 use Rattle.xs_run.specs.Cases.{whole_of}
 use Rattle.xs_run.specs.Tables.{IsExtensible, IsEventOf}
 use Rattle.xs_run.proofs.TopEvents.{counts_in_case, event_found}
-use Rattle.xs_right.specs.Right.{Shows}
-use Rattle.xs_weave.specs.Extended.{Moment}
 use Rattle.xs_flattening.specs.Model.{EachBoth}
 use Rattle.xs_scope.specs.ModelTree.{model_tree}
 use Rattle.xs_kinds.specs.Costs.{state_bits}
@@ -34,9 +32,8 @@ use Rattle.xs_fmea.specs.Columns.{AreTold, NamesFaults, IsTableOf, told_ending}
 use Rattle.xs_fmea.specs.declared.columns.FmeaTable.{FmeaTable}
 use Rattle.xs_fmea.specs.declared.columns.Column.{Column}
 use Rattle.xs_fmea.specs.declared.columns.Ending.TheVariants as ended
-use Rattle.xs_fmea.specs.Tables.{rows_of, entry_of, pairs_after, pairs_from, table_text}
-use Rattle.xs_reporting.specs.ExtendedTraces.{Ending, complete, bounded, Analysis, IsOfClass, IsAnalysisOf}
-use Rattle.xs_reporting.specs.Tables.{IsEntry}
+use Rattle.xs_fmea.specs.Tables.{rows_of, pairs_after, pairs_from, table_text}
+use Rattle.xs_reporting.specs.ExtendedTraces.{Analysis}
 use Rattle.xs_reporting.proofs.EntryLaws.{entries_are_right}
 use Rattle.xs_run.specs.declared.status.Status.{Status}
 use Rattle.xs_run.specs.declared.status.Status.TheVariants as status

@@ -1,5 +1,5 @@
 -- Top events one after the other: what is so of each, and the first that is none.
-use Rattle.std.proofs.Common.{arith, ◌≡◌, ⊎_elim, ℕ, zero, suc, ◌+◌, ◌<◌, ◌≤◌, ◌++◌, false, List, [], ◌∷◌, Option, Some, None, IfSome, length, map, take, get_or, refl, sym, ap, subst, ◌∙◌}
+use Rattle.std.proofs.Common.{arith, ◌≡◌, ⊎_elim, ℕ, zero, suc, ◌+◌, ◌<◌, ◌≤◌, ◌++◌, List, [], ◌∷◌, Option, Some, None, IfSome, length, map, take, get_or, refl, sym, ap, subst, ◌∙◌}
 use Rattle.std.specs.Prelude.{slice_get}
 use Rattle.std.proofs.lemmas.Bool.{cases_lt}
 use Rattle.std.proofs.lemmas.List.{take_more, take_all}
@@ -8,21 +8,20 @@ use Rattle.xs_tree.specs.Tree.{Tree}
 use Rattle.xs_tree.specs.Trace.{Each}
 use Rattle.xs_tree.specs.ProgramTree.{Text, Formula, ProgramTree}
 use Rattle.xs_extend.proofs.EachItem.{item_there}
-use Rattle.xs_flattening.specs.Flat.{FlatLeaf, FlatModel}
+use Rattle.xs_flattening.specs.Flat.{FlatLeaf}
 use Rattle.xs_flattening.specs.Model.{EachBoth}
-use Rattle.xs_flattening.specs.ResolvedAt.{IsResolvedAt}
 use Rattle.xs_run.specs.declared.status.InputFault.{InputFault}
 use Rattle.xs_run.specs.declared.status.Refusal.{Refusal}
 use Rattle.xs_run.specs.declared.status.Refusal.TheVariants as refusal
 use Rattle.xs_run.specs.declared.wrong.Wrong.{Wrong}
 use Rattle.xs_run.specs.declared.wrong.Wrong.TheVariants as wrong
 use Rattle.xs_run.specs.declared.input.Stop.TheVariants as stop
-use Rattle.xs_run.specs.Wrongs.{IfRefused, names_fault, kinds_fault}
+use Rattle.xs_run.specs.Wrongs.{IfRefused}
 use Rattle.xs_run.specs.Inputs.{IsRefusedFile, HasBytes, RefusesModel, HoldsModel, RefusesFaults}
 use Rattle.xs_run.specs.Cases.{Case, HoldsCase, IsTop, IsWrongTop, by_names, by_kinds, HoldsTops}
 use Rattle.xs_run.specs.Tasks.{IsTopTree}
 use Rattle.xs_run.specs.Tops.{stop_at_top}
-use Rattle.xs_run.specs.Tables.{IsEventOf, told_at, AreTopTexts, IsFirstNoTop, IsWrongTops, RefusesTops, tops_file, tops_bytes, RefusesTable, table_no_model, table_no_faults, table_no_tops}
+use Rattle.xs_run.specs.Tables.{IsEventOf, told_at, AreTopTexts, IsWrongTops, RefusesTops, tops_file, tops_bytes, RefusesTable, table_no_model, table_no_faults, table_no_tops}
 
 -- what is wrong with an event is told at any place
 pub wrong_at : (p : ProgramTree) (e : Formula) (a : InputFault) (place : ℕ) → IsWrongTop p e 0 a → IsWrongTop p e place (record { part = a.part; number = a.number; place = place })

@@ -1,7 +1,7 @@
 -- From what was loaded to what a table comes to, and from an answered run to the table that it has said.
-use Rattle.std.proofs.Common.{◌≡◌, ◌≤◌, ℕ, List, Option, Some, None, IfSome, Result, Ok, Err, IfOk, sym, subst}
+use Rattle.std.proofs.Common.{◌≡◌, ℕ, List, Option, Some, None, IfSome, Result, Ok, Err, IfOk, sym, subst}
 use Rattle.xs_desk.specs.declared.files.NamedFile.{NamedFile}
-use Rattle.xs_tree.specs.ProgramTree.{Text, Formula, program_tree}
+use Rattle.xs_tree.specs.ProgramTree.{Text, program_tree}
 use Rattle.xs_words.specs.Commands.{fmea}
 use Rattle.xs_words.proofs.ReadingLaws.{one_command}
 use Rattle.xs_run.specs.declared.input.Stop.{Stop}
@@ -12,7 +12,7 @@ use Rattle.xs_run.specs.declared.status.Status.{Status}
 use Rattle.xs_run.specs.declared.status.Status.TheVariants as status
 use Rattle.xs_run.specs.Statuses.{status_of}
 use Rattle.xs_run.specs.Asked.{AsksToTabulate}
-use Rattle.xs_run.specs.Cases.{Case, HoldsCase, HoldsTops}
+use Rattle.xs_run.specs.Cases.{HoldsCase, HoldsTops}
 use Rattle.xs_run.specs.Tables.{RefusesTable, IsTabulated, tabulated_case, tabulated_events}
 use Rattle.xs_run.specs.Runs.{Outcome, refuses, tabulates, TableComesTo, refuses_table, is_tabulated, CommandComesTo, Means, refuses_words, asked, IsAnswer, IsFinished, IsDelivered, HasAnswered}
 use Rattle.xs_run.proofs.Columns.{table_means}

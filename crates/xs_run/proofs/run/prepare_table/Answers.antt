@@ -1,4 +1,3 @@
-use Rattle.xs_run.proofs.OneTables.{one_refused_table}
 use Rattle.xs_run.proofs.TabulatedLaws.{no_table, a_table_if}
 use Rattle.xs_run.proofs.run.prepare_table.Goals as goal
 

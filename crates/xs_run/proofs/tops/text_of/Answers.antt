@@ -1,4 +1,4 @@
-use Rattle.std.proofs.Common.{arith, All, length, sym}
+use Rattle.std.proofs.Common.{arith}
 use Rattle.std.proofs.lemmas.Result.{IfOk-weaker}
 use Rattle.xs_tree.specs.ProgramTree.{program_tree}
 use Rattle.xs_run.proofs.TopEvents.{few_in_case}

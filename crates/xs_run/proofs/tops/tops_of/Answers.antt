@@ -1,7 +1,7 @@
 use Rattle.std.proofs.Common.{[], ◌≤◌, length, false, map, sym, subst}
 use Rattle.std.proofs.lemmas.Result.{err_from_is_err_and}
 use Rattle.std.proofs.lemmas.List.{length-map}
-use Rattle.xs_tree.specs.ProgramTree.{Formula, program_tree}
+use Rattle.xs_tree.specs.ProgramTree.{program_tree}
 use Rattle.xs_tree.specs.Trace.{Each}
 use Rattle.xs_tree.specs.Written.{tree_of}
 use Rattle.xs_scope.specs.ModelTree.{flat_tree, model_tree}
@@ -12,7 +12,7 @@ use Rattle.xs_woven_tops.specs.Tops.{KeepsValue}
 use Rattle.xs_run.specs.Wrongs.{IfRefused}
 use Rattle.xs_run.specs.Cases.{IsTop}
 use Rattle.xs_run.specs.Loaded.{case_of}
-use Rattle.xs_run.specs.Tables.{AreTopTexts, IsWrongList, IsFirstNoTop, IsWrongTops, wrong_list, wrong_event, IsEventOf}
+use Rattle.xs_run.specs.Tables.{IsWrongList, IsFirstNoTop, IsWrongTops, wrong_list, wrong_event}
 use Rattle.xs_run.proofs.Told.{refused_weaker}
 use Rattle.xs_run.proofs.TopLaws.{names_over}
 use Rattle.xs_run.proofs.TableLemmas.{each_map, each_weaker, are_events}
