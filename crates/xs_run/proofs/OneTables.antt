@@ -18,7 +18,7 @@ use Rattle.xs_run.specs.declared.status.Refusal.{Refusal}
 use Rattle.xs_run.specs.declared.status.Refusal.TheVariants as refusal
 use Rattle.xs_run.specs.declared.wrong.Wrong.TheVariants as wrong
 use Rattle.xs_run.specs.Wrongs.{parse_wrong}
-use Rattle.xs_run.specs.Inputs.{RefusesFaults, HasBytes}
+use Rattle.xs_run.specs.Inputs.{RefusesFaults}
 use Rattle.xs_run.specs.Cases.{Case, HoldsCase, IsTop, IsWrongTop, HoldsTops}
 use Rattle.xs_run.specs.Tables.{IsListText, AreTopTexts, IsWrongList, no_list, long_list, IsFirstNoTop, IsWrongTops, wrong_list, wrong_event, RefusesTops, tops_file, tops_bytes, RefusesTable, table_no_model, table_no_faults, table_no_tops}
 use Rattle.xs_run.proofs.Told.{one_refusal}

@@ -1,26 +1,27 @@
 -- Top events one after the other: what is so of each, and the first that is none.
-use Rattle.std.proofs.Common.{arith, ◌≡◌, ⊎_elim, ℕ, zero, suc, ◌+◌, ◌<◌, ◌≤◌, ◌++◌, false, List, [], ◌∷◌, Option, Some, None, IfSome, length, map, take, get_or, refl, sym, ap, subst, ◌∙◌}
+use Rattle.std.proofs.Common.{arith, ◌≡◌, ⊎_elim, ℕ, zero, suc, ◌+◌, ◌<◌, ◌≤◌, ◌++◌, List, [], ◌∷◌, Option, Some, None, IfSome, length, map, take, get_or, refl, sym, ap, subst, ◌∙◌}
 use Rattle.std.specs.Prelude.{slice_get}
 use Rattle.std.proofs.lemmas.Bool.{cases_lt}
+use Rattle.std.proofs.lemmas.List.{take_more, take_all}
 use Rattle.xs_desk.specs.declared.files.NamedFile.{NamedFile}
 use Rattle.xs_tree.specs.Tree.{Tree}
 use Rattle.xs_tree.specs.Trace.{Each}
 use Rattle.xs_tree.specs.ProgramTree.{Text, Formula, ProgramTree}
 use Rattle.xs_extend.proofs.EachItem.{item_there}
-use Rattle.xs_flattening.specs.Flat.{FlatLeaf, FlatModel}
+use Rattle.xs_flattening.specs.Flat.{FlatLeaf}
 use Rattle.xs_flattening.specs.Model.{EachBoth}
-use Rattle.xs_flattening.specs.ResolvedAt.{IsResolvedAt}
 use Rattle.xs_run.specs.declared.status.InputFault.{InputFault}
 use Rattle.xs_run.specs.declared.status.Refusal.{Refusal}
 use Rattle.xs_run.specs.declared.status.Refusal.TheVariants as refusal
 use Rattle.xs_run.specs.declared.wrong.Wrong.{Wrong}
 use Rattle.xs_run.specs.declared.wrong.Wrong.TheVariants as wrong
 use Rattle.xs_run.specs.declared.input.Stop.TheVariants as stop
-use Rattle.xs_run.specs.Wrongs.{IfRefused, names_fault, kinds_fault}
+use Rattle.xs_run.specs.Wrongs.{IfRefused}
 use Rattle.xs_run.specs.Inputs.{IsRefusedFile, HasBytes, RefusesModel, HoldsModel, RefusesFaults}
 use Rattle.xs_run.specs.Cases.{Case, HoldsCase, IsTop, IsWrongTop, by_names, by_kinds, HoldsTops}
+use Rattle.xs_run.specs.Tasks.{IsTopTree}
 use Rattle.xs_run.specs.Tops.{stop_at_top}
-use Rattle.xs_run.specs.Tables.{told_at, AreTopTexts, IsFirstNoTop, IsWrongTops, RefusesTops, tops_file, tops_bytes, RefusesTable, table_no_model, table_no_faults, table_no_tops}
+use Rattle.xs_run.specs.Tables.{IsEventOf, told_at, AreTopTexts, IsWrongTops, RefusesTops, tops_file, tops_bytes, RefusesTable, table_no_model, table_no_faults, table_no_tops}
 
 -- what is wrong with an event is told at any place
 pub wrong_at : (p : ProgramTree) (e : Formula) (a : InputFault) (place : ℕ) → IsWrongTop p e 0 a → IsWrongTop p e place (record { part = a.part; number = a.number; place = place })
@@ -70,6 +71,22 @@ both_push R [] (b ∷ ys) x y h is = absurd h
 both_push R (a ∷ xs) [] x y h is = absurd h
 both_push R (a ∷ xs) (b ∷ ys) x y h is = (h.0, both_push R xs ys x y h.1 is)
 
+-- one pair more, where the first list is read place by place
+pub both_next : {A B : Type 0} (R : A → B → Type 0) (xs : List A) (ys more : List B) (i : ℕ) (x : A) (y : B) → i < length xs → x ≡ get_or xs i x → EachBoth R (take i xs) ys → R x y → more ≡ ys ++ y ∷ [] →
+    EachBoth R (take (i + 1) xs) more
+both_next R xs ys more i x y below here h is pushed =
+    subst (EachBoth R (take (i + 1) xs)) (sym pushed)
+    (subst (λ l. EachBoth R l (ys ++ y ∷ [])) (ap (λ z. take i xs ++ z ∷ []) here ∙ sym (take_more xs i x below)) (both_push R (take i xs) ys x y h is))
+
+pub both_whole : {A B : Type 0} (R : A → B → Type 0) (xs : List A) (ys : List B) (i : ℕ) → length xs ≤ i → EachBoth R (take i xs) ys → EachBoth R xs ys
+both_whole R xs ys i past h = subst (λ l. EachBoth R l ys) (take_all i xs past) h
+
+pub both_back : {A B C : Type 0} (R : A → C → Type 0) (g : B → C) (xs : List A) (ys : List B) → EachBoth R xs (map g ys) → EachBoth (λ x y. R x (g y)) xs ys
+both_back R g [] [] h = tt
+both_back R g [] (b ∷ ys) h = absurd h
+both_back R g (a ∷ xs) [] h = absurd h
+both_back R g (a ∷ xs) (b ∷ ys) h = (h.0, both_back R g xs ys h.1)
+
 pub both_of : {A B C D : Type 0} (R : C → D → Type 0) (f : A → C) (g : B → D) (xs : List A) (ys : List B) → EachBoth (λ x y. R (f x) (g y)) xs ys → EachBoth R (map f xs) (map g ys)
 both_of R f g [] [] h = tt
 both_of R f g [] (b ∷ ys) h = absurd h
@@ -99,6 +116,13 @@ first_at R f [] (b ∷ ys) i y h below here = absurd h
 first_at R f (a ∷ xs) [] i y h below here = absurd (omega (arith, below))
 first_at R f (a ∷ xs) (b ∷ ys) zero y h below here = (a, subst (λ c. R a (f c)) (sym here) h.0)
 first_at R f (a ∷ xs) (b ∷ ys) (suc i) y h below here = first_at R f xs ys i y h.1 (omega (arith, below)) here
+
+-- top events of the program, with their expressions over the flat model of the extension
+pub are_events : (c : Case) {A B : Type 0} (f : A → Formula) (g : B → Tree FlatLeaf) (xs : List A) (ys : List B) → Each (IsTop c.program) (map f xs) → EachBoth (λ x y. IsTopTree c (f x) (g y)) xs ys →
+    EachBoth (IsEventOf c) (map f xs) (map g ys)
+are_events c f g xs ys tops trees =
+    both_of (IsEventOf c) f g xs ys
+    (both_zip (λ x. IsTop c.program (f x)) (λ x y. IsTopTree c (f x) (g y)) (λ x y. IsEventOf c (f x) (g y)) (λ x y top tree. record { is_top = top; is_tree = tree }) xs ys (each_map (IsTop c.program) f xs tops) trees)
 
 -- The file.
 pub refuses_tops_file : (told : Option (List NamedFile)) (name : Text) (p : ProgramTree) (r : Refusal) (a : InputFault) → r ≡ refusal.Top a → IfSome told (λ files. IsRefusedFile files name a) →

@@ -1,9 +1,10 @@
 -- From what was loaded to what a table comes to, and from an answered run to the table that it has said.
-use Rattle.std.proofs.Common.{◌≡◌, ◌≤◌, ℕ, List, Option, Some, None, IfSome, sym, subst}
+use Rattle.std.proofs.Common.{◌≡◌, ℕ, List, Option, Some, None, IfSome, Result, Ok, Err, IfOk, sym, subst}
 use Rattle.xs_desk.specs.declared.files.NamedFile.{NamedFile}
-use Rattle.xs_tree.specs.ProgramTree.{Text, Formula, program_tree}
+use Rattle.xs_tree.specs.ProgramTree.{Text, program_tree}
 use Rattle.xs_words.specs.Commands.{fmea}
 use Rattle.xs_words.proofs.ReadingLaws.{one_command}
+use Rattle.xs_run.specs.declared.input.Stop.{Stop}
 use Rattle.xs_run.specs.declared.tops.Tabulating.{Tabulating}
 use Rattle.xs_run.specs.declared.status.Refusal.{Refusal}
 use Rattle.xs_run.specs.declared.status.Refusal.TheVariants as refusal
@@ -11,7 +12,7 @@ use Rattle.xs_run.specs.declared.status.Status.{Status}
 use Rattle.xs_run.specs.declared.status.Status.TheVariants as status
 use Rattle.xs_run.specs.Statuses.{status_of}
 use Rattle.xs_run.specs.Asked.{AsksToTabulate}
-use Rattle.xs_run.specs.Cases.{Case, HoldsCase, HoldsTops}
+use Rattle.xs_run.specs.Cases.{HoldsCase, HoldsTops}
 use Rattle.xs_run.specs.Tables.{RefusesTable, IsTabulated, tabulated_case, tabulated_events}
 use Rattle.xs_run.specs.Runs.{Outcome, refuses, tabulates, TableComesTo, refuses_table, is_tabulated, CommandComesTo, Means, refuses_words, asked, IsAnswer, IsFinished, IsDelivered, HasAnswered}
 use Rattle.xs_run.proofs.Columns.{table_means}
@@ -53,6 +54,13 @@ module _ (model faults tops : Text) (size depth : ℕ) where
       subst (λ n. TableComesTo files model faults tops size depth (tabulates (tabulated_case a) (tabulated_events a) n a.depth)) (sym same_size)
       (subst (λ d. TableComesTo files model faults tops size depth (tabulates (tabulated_case a) (tabulated_events a) size d)) (sym same_depth)
       (is_tabulated (tabulated_case a) (tabulated_events a) holds are))
+
+  pub a_table_if : (told : Option (List NamedFile)) (done : Result Tabulating Stop) → IfOk done (λ a. (a.size ≡ size) × (a.depth ≡ depth)) →
+      IfOk done (λ a. IfSome told (λ files. HoldsCase files model faults (tabulated_case a))) →
+      IfOk done (λ a. IfSome told (λ files. HoldsTops files tops (program_tree a.model.program) (tabulated_events a))) →
+      IfOk done (λ a. IfSome told (λ files. TableComesTo files model faults tops size depth (tabulates (tabulated_case a) (tabulated_events a) a.size a.depth)))
+  a_table_if told (Ok a) same holds are = a_table told a same.0 same.1 holds are
+  a_table_if told (Err stop) same holds are = tt
 
 module _ (files : List NamedFile) (model faults tops : Text) (size depth : ℕ) (s : Status) (after : Option (List NamedFile)) (said now : Option (List ℕ)) (done : IsFinished s) where
   comes_tabulated : (o : Outcome) → TableComesTo files model faults tops size depth o → IsDelivered o s (Some files) after said now →

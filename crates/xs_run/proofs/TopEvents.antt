@@ -1,8 +1,6 @@
 -- A case with a top event can be searched, and what answers a search is an analysis of it.
-use Rattle.std.proofs.Common.{arith, ◌≡◌, ◌<◌, ◌≤◌, ◌^◌, ℕ, List, [], ◌∷◌, All, Some, length, map, refl, sym, ap, subst, ◌∙◌}
-use Rattle.std.specs.Prelude.{slice_get, Contains}
+use Rattle.std.proofs.Common.{arith, ◌≡◌, ◌<◌, ◌≤◌, ◌^◌, ℕ, List, [], length, map, subst, ◌∙◌}
 use Rattle.std.proofs.lemmas.List.{length-map}
-use Rattle.std.proofs.lemmas.Option.{slice_get_within}
 use Rattle.xs_tree.specs.Tree.{Tree}
 use Rattle.xs_tree.specs.ProgramTree.{Formula, ProgramTree}
 use Rattle.xs_scope.specs.ModelTree.{mode_of}
@@ -24,10 +22,9 @@ use Rattle.xs_extended_right.specs.ExtendedTraces.{IsExtensionModel}
 use Rattle.xs_woven_tops.specs.Tops.{IsReadAs, IsTopOf}
 use Rattle.xs_woven_tops.proofs.Fits.{tops_fit}
 use Rattle.xs_woven_tops.proofs.Meanings.{tops_of_extensions}
-use Rattle.xs_reporting.specs.ExtendedTraces.{Ending, complete, bounded, Analysis}
+use Rattle.xs_reporting.specs.ExtendedTraces.{Ending, complete, bounded}
 use Rattle.xs_run.specs.declared.loaded.LoadedCase.{LoadedCase}
 use Rattle.xs_run.specs.Cases.{Case, whole_of}
-use Rattle.xs_run.specs.Tasks.{IsTopTree}
 use Rattle.xs_run.specs.Loaded.{case_of}
 use Rattle.xs_run.specs.Analyses.{EndsBy, IsFound}
 use Rattle.xs_run.specs.Tables.{IsExtensible, IsEventOf}

@@ -6,5 +6,5 @@ use Rattle.xs_run.specs.Tables.{IsEventOf, IsColumn, tabulated_case}
 use Rattle.xs_run.proofs.tops.columns_of.Given as goal
 
 abbrev pub invariant-loop-top : goal.invariant-loop-top
-invariant-loop-top l =
+invariant-loop-top g l =
     EachBoth (λ tree column. (e : Formula) → IsEventOf (tabulated_case l.asked) e (flat_tree tree) → IsColumn (tabulated_case l.asked) l.asked.depth e column) (take l.top-index l.top-items) l.columns
