@@ -1,4 +1,4 @@
-use Rattle.std.proofs.Common.{ap, subst, sym, ◌∙◌}
+use Rattle.std.proofs.Common.{ap, subst, ◌∙◌}
 use Rattle.std.proofs.lemmas.Result.{IfOk-weaker}
 use Rattle.xs_fei.specs.InstructionText.{instructions_text}
 use Rattle.xs_fei.specs.SpellsInstructions.{BytesSpellInstructions}
