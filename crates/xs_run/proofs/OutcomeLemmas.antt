@@ -1,5 +1,6 @@
 -- From the parts of a run to its outcome.
-use Rattle.std.proofs.Common.{◌≡◌, ◌⊎◌, inl, inr, ⊎_elim, ℕ, List, Option, Some, None, IfSome, Result, Ok, Err, OnOk, refl, sym, ap, subst, ◌∙◌}
+use Rattle.std.proofs.Common.{arith, ◌≡◌, ◌≤◌, ◌⊎◌, inl, inr, ⊎_elim, ℕ, List, Option, Some, None, IfSome, Result, Ok, Err, OnOk, OnErr, length, refl, sym, ap, subst, ◌∙◌}
+use Rattle.std.proofs.Math.Seq.{take-length}
 use Rattle.xs_desk.specs.declared.files.NamedFile.{NamedFile}
 use Rattle.xs_desk.specs.Desk.{said_more, SaysPrefix}
 use Rattle.xs_tree.specs.ProgramTree.{Text, ProgramTree}
@@ -25,6 +26,13 @@ use Rattle.xs_run.specs.declared.input.Stop.{Stop}
 use Rattle.xs_run.specs.declared.input.Stop.TheVariants as stopped
 use Rattle.xs_run.specs.Statuses.{status_of, refusal_text}
 use Rattle.xs_run.specs.Asked.{RefusesWords}
+
+-- what was said whole, or up to a refusal, is a part of the text
+pub says_in_part : {A E : Type 0} (done : Result A E) (old new : Option (List ℕ)) (bytes text : List ℕ) → bytes ≡ text → OnOk done (new ≡ said_more old bytes) → OnErr done (SaysPrefix old new bytes) →
+    SaysPrefix old new text
+says_in_part (Ok x) old new bytes text same whole part =
+    let fits : length text ≤ length text = omega arith in (length text, fits, whole ∙ ap (said_more old) (same ∙ sym (take-length text)))
+says_in_part (Err e) old new bytes text same whole part = subst (SaysPrefix old new) same part
 
 module _ (model faults extended : Text) where
   -- the model is refused
