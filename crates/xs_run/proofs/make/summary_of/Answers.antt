@@ -27,5 +27,5 @@ returns c =
     let n = decimal c.args.sets in
     let end = summary_ending (told_ending c.args.ending) in
     let begun : c.in_ok-line.line ≡ codes "stages " ++ (s ++ (codes " variables " ++ (v ++ (codes " faults " ++ (f ++ (codes " bits " ++ (b ++ (codes " sets " ++ (n ++ codes " ")))))))))
-      = c.in_ok-line.ensures ∙ c.as_bytes.ensures.value ∙ c.in_ok-begin.ensures.ok in
+    = c.in_ok-line.ensures ∙ c.as_bytes.ensures.value ∙ c.in_ok-begin.ensures.ok in
     c.in_ok-append_ending.ensures ∙ ap (λ t. t ++ end) begun ∙ ap (λ t. codes "stages " ++ t) (line_joined s v f b n end)
