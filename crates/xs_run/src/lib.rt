@@ -15,13 +15,15 @@
 //! is written), `loaded` (the same, with the flat model in memory), `top` (the top event), `trace` (the file
 //! of a trace), `replay` (what a trace comes to), `report` (what is said), `event` (model, extension and top event
 //! together), `search` (what a search finds), `analysis` (what is written and said of it), `certificate` (what a
-//! certificate comes to), `tops` (tables of top events), `make` (generated cases) and `run`. `wrong` and `status` have what each refusal says.
+//! certificate comes to) and `run`. Beside the top call stand `tops` (tables of top events), `make` (generated cases)
+//! and `further`, which asks for one of the two. `wrong` and `status` have what each refusal says.
 #![tactic(auto)]
 
 pub mod analysis;
 pub mod certificate;
 pub mod event;
 pub mod faults;
+pub mod further;
 pub mod input;
 pub mod loaded;
 pub mod make;
@@ -31,7 +33,7 @@ mod report;
 pub mod run;
 pub mod search;
 pub mod status;
-pub mod top;
+mod top;
 pub mod tops;
 mod trace;
 pub mod wrong;

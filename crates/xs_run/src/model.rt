@@ -27,7 +27,11 @@ pub struct LoadedModel {
 }
 
 /// The model of a file.
-pub fn load_model<D: Desk>(alloc: Global, desk: &mut D, name: &str) -> Result<LoadedModel, Stop>
+pub(crate) fn load_model<D: Desk>(
+    alloc: Global,
+    desk: &mut D,
+    name: &str,
+) -> Result<LoadedModel, Stop>
     ensures ok { IfOk result (λ l. IfSome (D.files desk.old) (λ files. HoldsModel files name.now (program_tree l.program))) }
     ensures lawful { IfOk result (λ l. IsLawful (program_tree l.program) (model_tree l.typed.model)) }
     ensures in_var { IfOk result (λ l. HasInstancesInVar (program_tree l.program)) }

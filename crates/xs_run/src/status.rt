@@ -7,6 +7,13 @@ use std::alloc::Global;
 use xs_value::{ByteList, OutOfMemory};
 use xs_words::WordFault;
 
+/// What this program can't do yet.
+#[derive(Clone, Copy, Debug, PartialEq, Eq)]
+pub enum Built {
+    /// The words mean `fmea` or `make`, which [`crate::further::run_further`] does.
+    Words,
+}
+
 /// What is wrong with an input: how far the work on it came.
 #[derive(Clone, Copy, Debug, PartialEq, Eq)]
 pub enum Part {
@@ -65,6 +72,7 @@ pub enum Objection {
 /// What is refused, each with its one line.
 #[derive(Clone, Copy, Debug, PartialEq, Eq)]
 pub enum Refusal {
+    NotBuilt(Built),
     Words(WordFault),
     Model(InputFault),
     Faults(InputFault),
@@ -79,6 +87,8 @@ pub enum Status {
     Done,
     /// The work is done, and right for the traces of at most so many steps.
     Bounded(u32),
+    /// A part of the work is not built yet.
+    NotBuilt(Built),
     /// The words mean no command.
     Words(WordFault),
     /// The model is refused.
@@ -104,7 +114,7 @@ impl Status {
         match self {
             Status::Done => 0,
             Status::Bounded(_) => 1,
-            Status::Words(_) => 2,
+            Status::NotBuilt(Built::Words) | Status::Words(_) => 2,
             Status::Model(_) => 3,
             Status::Faults(_) => 4,
             Status::Top(_) => 5,
@@ -121,6 +131,7 @@ impl Refusal {
         ensures { result ≡ status_of self }
     {
         match self {
+            Refusal::NotBuilt(built) => Status::NotBuilt(built),
             Refusal::Words(fault) => Status::Words(fault),
             Refusal::Model(fault) => Status::Model(fault),
             Refusal::Faults(fault) => Status::Faults(fault),
@@ -134,6 +145,9 @@ impl Refusal {
         ensures { IfOk result (λ line. line ≡ refusal_text self) }
     {
         match self {
+            Refusal::NotBuilt(Built::Words) => {
+                ByteList::from_slice(alloc, b"refused words 0 at 1\n")
+            }
             Refusal::Words(fault) => words_line(alloc, fault),
             Refusal::Model(fault) => fault_line(alloc, b"refused model ", fault),
             Refusal::Faults(fault) => fault_line(alloc, b"refused faults ", fault),
@@ -217,7 +231,7 @@ fn append_place(
 }
 
 /// The part as the line names it, with a space after it.
-pub fn part_name(part: Part) -> &'static [u8]
+fn part_name(part: Part) -> &'static [u8]
     ensures { result.now ≡ part_text part }
 {
     match part {

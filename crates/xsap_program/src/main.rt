@@ -2,7 +2,8 @@
 //! certificates of them, makes tables of them, and generates cases.
 //!
 //! `main` hands [`xs_run::run::run`] the words of the command line, a desk over real files, and the advisers of the
-//! search; all that is promised of a run stands at that call.
+//! search; all that is promised of a run stands at that call. Two verbs, `fmea` and `make`, stand beside it, in
+//! [`xs_run::further`].
 //!
 //! ```text
 //! xsap_program extend --model lamp.smv --faults lamp.fei --extended out.smv
@@ -20,6 +21,7 @@ use std::env;
 use std::io::ErrorKind;
 use std::process::ExitCode;
 use xs_adviser::{Active, Adviser, InOrder};
+use xs_run::further::{is_further, run_further};
 use xs_run::run::run;
 use xs_run::status::Status;
 use xs_value::OutOfMemory;
@@ -59,7 +61,12 @@ fn advised(rt: HostRuntime, alloc: Global, words: &[&str]) -> Result<Status, Out
     let mut advisers: Vec<Box<dyn Adviser>> = Vec::new(alloc);
     advisers.push(Box::new(alloc, InOrder::new())?)?;
     advisers.push(Box::new(alloc, Active::new(alloc))?)?;
-    Ok(run(alloc, words, &mut RealDesk::new(rt), advisers))
+    let mut desk = RealDesk::new(rt);
+    if is_further(words) {
+        Ok(run_further(alloc, words, &mut desk, advisers))
+    } else {
+        Ok(run(alloc, words, &mut desk, advisers))
+    }
 }
 
 /// The number of a status, as the system takes it.
