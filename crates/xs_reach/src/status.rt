@@ -1,4 +1,7 @@
 // How a run of a further verb ends, and the line that a refusal says.
+ghost use Rattle.std.specs.Prelude.{◌≡◌, ◌≤ℤ◌, pos, ◌++◌, IfOk, OnOk, codes};
+ghost use Rattle.std.specs.Fmt.{decimal};
+ghost use Rattle.xs_reach.specs.Statuses.{number_of, refusal_number, part_text, fault_text, words_text, refusal_text};
 
 use std::alloc::Global;
 use xs_reach_words::WordFault;
@@ -54,7 +57,10 @@ pub enum Status {
 
 impl Status {
     /// The number that the program ends with, from 0 to 10.
-    pub fn number(&self) -> i32 {
+    pub fn number(&self) -> i32
+        ensures number { result ≡ number_of self.now }
+        ensures within { (pos 0 ≤ℤ result) × (result ≤ℤ pos 10) }
+    {
         match self {
             Status::Done => 0,
             Status::Bounded(_) => 1,
@@ -67,7 +73,10 @@ impl Status {
 
 impl Refusal {
     /// The number that the program ends with after it has said this refusal.
-    pub fn number(self) -> i32 {
+    pub fn number(self) -> i32
+        ensures number { result ≡ refusal_number self }
+        ensures within { (pos 0 ≤ℤ result) × (result ≤ℤ pos 10) }
+    {
         match self {
             Refusal::Words(_) => 2,
             Refusal::Shared(refusal) => refusal.status().number(),
@@ -78,7 +87,9 @@ impl Refusal {
     }
 
     /// The line that it says, with its line feed.
-    pub fn line(self, alloc: Global) -> Result<ByteList, OutOfMemory> {
+    pub fn line(self, alloc: Global) -> Result<ByteList, OutOfMemory>
+        ensures { IfOk result (λ line. line ≡ refusal_text self) }
+    {
         match self {
             Refusal::Words(fault) => words_line(alloc, fault),
             Refusal::Shared(refusal) => refusal.line(alloc),
@@ -90,14 +101,18 @@ impl Refusal {
 }
 
 /// The line of refused words.
-fn words_line(alloc: Global, fault: WordFault) -> Result<ByteList, OutOfMemory> {
+fn words_line(alloc: Global, fault: WordFault) -> Result<ByteList, OutOfMemory>
+    ensures { IfOk result (λ line. line ≡ codes "refused words " ++ words_text fault) }
+{
     let mut line = ByteList::from_slice(alloc, b"refused words ")?;
     append_place(alloc, &mut line, fault.number(), u64::from(fault.place()))?;
     Ok(line)
 }
 
 /// The line of a refused input, after its beginning.
-fn fault_line(alloc: Global, begin: &[u8], fault: InputFault) -> Result<ByteList, OutOfMemory> {
+fn fault_line(alloc: Global, begin: &[u8], fault: InputFault) -> Result<ByteList, OutOfMemory>
+    ensures { IfOk result (λ line. line ≡ begin.now ++ fault_text fault) }
+{
     let mut line = ByteList::from_slice(alloc, begin)?;
     line.append(part_name(fault.part))?;
     append_place(alloc, &mut line, fault.number, fault.place)?;
@@ -110,13 +125,17 @@ fn append_place(
     line: &mut ByteList,
     number: u32,
     place: u64,
-) -> Result<(), OutOfMemory> {
+) -> Result<(), OutOfMemory>
+    ensures { OnOk result (line.new ≡ line.old ++ (decimal number ++ (codes " at " ++ (decimal place ++ codes "\n")))) }
+{
     let text = format!(in alloc; "{number} at {place}\n")?;
     line.append(text.as_bytes())
 }
 
 /// The part as the line names it, with a space after it.
-fn part_name(part: Part) -> &'static [u8] {
+fn part_name(part: Part) -> &'static [u8]
+    ensures { result.now ≡ part_text part }
+{
     match part {
         Part::Shared(part) => shared::part_name(part),
         Part::Mark => b"mark ",

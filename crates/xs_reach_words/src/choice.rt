@@ -1,4 +1,6 @@
 // The options of verbs, and what their values may be.
+ghost use Rattle.std.specs.Prelude.{◌≡◌};
+ghost use Rattle.xs_reach_words.specs.Reading.{fits, is_claim as is_claim_text, is_file_kind};
 
 use crate::number::number;
 use crate::set::is_set;
@@ -20,7 +22,9 @@ pub enum Kind {
 
 impl Kind {
     /// Whether the word may be the value.
-    pub(crate) fn takes(self, word: &str) -> bool {
+    pub(crate) fn takes(self, word: &str) -> bool
+        ensures { result ≡ fits self word.now }
+    {
         match self {
             Kind::File | Kind::Event => true,
             Kind::Number { least, most } => match number(word) {
@@ -33,13 +37,17 @@ impl Kind {
     }
 
     /// Whether the value is the name of a file.
-    pub(crate) fn is_file(self) -> bool {
+    pub(crate) fn is_file(self) -> bool
+        ensures { result ≡ is_file_kind self }
+    {
         self == Kind::File
     }
 }
 
 /// Whether the word is a claim.
-fn is_claim(word: &str) -> bool {
+fn is_claim(word: &str) -> bool
+    ensures { result ≡ is_claim_text word.now }
+{
     match word {
         "before" | "after" | "together" | "none" => true,
         _ => false,

@@ -1,4 +1,6 @@
 // The rules that words may break.
+ghost use Rattle.std.specs.Prelude.{◌≡◌};
+ghost use Rattle.xs_reach_words.specs.Seen.{rule_of, place_of};
 
 use thiserror::Error;
 
@@ -37,7 +39,9 @@ pub enum WordFault {
 
 impl WordFault {
     /// The number of the rule, from 1 to 9.
-    pub fn number(&self) -> u32 {
+    pub fn number(&self) -> u32
+        ensures { result ≡ rule_of self.now }
+    {
         match self {
             WordFault::NoVerb { .. } => 1,
             WordFault::UnknownVerb { .. } => 2,
@@ -52,7 +56,9 @@ impl WordFault {
     }
 
     /// The place of the word that breaks it.
-    pub fn place(&self) -> u32 {
+    pub fn place(&self) -> u32
+        ensures { result ≡ place_of self.now }
+    {
         match self {
             WordFault::NoVerb { at }
             | WordFault::UnknownVerb { at }

@@ -1,13 +1,19 @@
 // The rules of the options, in the order in which they are tried.
+ghost use Rattle.std.specs.Prelude.{◌≡◌, ◌+◌, ◌*◌, ◌<◌, ◌≤◌, ◌^◌, ◌&&◌, [], map, length, IsNone};
+ghost use Rattle.std.specs.Option.{option_map};
+ghost use Rattle.xs_reach_words.specs.Table.{kind_in};
+ghost use Rattle.xs_reach_words.specs.Reading.{pairs_of, value_in, fault_by, pair_fault, missing_from, same_from, has_file, is_file_in, option_fault};
+ghost use Rattle.xs_reach_words.specs.Seen.{texts, viewed};
 
 use crate::choice::{Choice, Kind};
 use crate::fault::WordFault;
-use crate::number::small_number;
-use crate::pairs::{place_of, value_of};
-use crate::set::has_number;
+use crate::pairs::value_of;
 
 /// The first rule that the words break, as pairs of these options and their values.
-pub(crate) fn fault_in(options: &[Choice], words: &[&str]) -> Option<WordFault> {
+pub(crate) fn fault_in(options: &[Choice], words: &[&str]) -> Option<WordFault>
+    requires { length options.now ≤ 8 }
+    ensures { result ≡ option_fault (map viewed options.now) (texts words.now) }
+{
     let fault = pair_fault(options, words);
     if fault.is_some() {
         return fault;
@@ -16,15 +22,14 @@ pub(crate) fn fault_in(options: &[Choice], words: &[&str]) -> Option<WordFault> 
     if fault.is_some() {
         return fault;
     }
-    let fault = same_name(options, words);
-    if fault.is_some() {
-        return fault;
-    }
-    not_in_set(words)
+    same_name(options, words)
 }
 
 /// The first fault of an option or its value, from left to right.
-fn pair_fault(options: &[Choice], words: &[&str]) -> Option<WordFault> {
+fn pair_fault(options: &[Choice], words: &[&str]) -> Option<WordFault>
+    requires { length options.now ≤ 8 }
+    ensures { result ≡ pair_fault (map viewed options.now) [] (texts words.now) }
+{
     let mut rest = words;
     let mut at = 0;
     while let [option, value, after @ ..] = rest {
@@ -48,7 +53,10 @@ fn fault_here(
     option: &str,
     value: Option<&str>,
     at: u32,
-) -> Option<WordFault> {
+) -> Option<WordFault>
+    requires { at + 1 < 2 ^ 32 }
+    ensures { result ≡ fault_by (kind_in (map viewed options.now) option.now) (value_in (pairs_of (texts before.now)) option.now) (option_map (λ w. w.now) value.entry) at }
+{
     let Some(kind) = kind_of(options, option) else {
         return Some(WordFault::UnknownOption { at });
     };
@@ -63,7 +71,9 @@ fn fault_here(
 }
 
 /// What the values of an option are, where it is one of these.
-fn kind_of(options: &[Choice], name: &str) -> Option<Kind> {
+fn kind_of(options: &[Choice], name: &str) -> Option<Kind>
+    ensures { result ≡ kind_in (map viewed options.now) name.now }
+{
     for choice in options {
         if choice.name == name {
             return Some(choice.kind);
@@ -72,8 +82,11 @@ fn kind_of(options: &[Choice], name: &str) -> Option<Kind> {
     None
 }
 
-/// The first option that may not be left out and is.
-fn missing(options: &[Choice], words: &[&str]) -> Option<WordFault> {
+/// The first option that is left out.
+fn missing(options: &[Choice], words: &[&str]) -> Option<WordFault>
+    requires { length options.now ≤ 8 }
+    ensures { result ≡ missing_from 1 (map viewed options.now) (pairs_of (texts words.now)) }
+{
     for (i, choice) in options.iter().enumerate() {
         if value_of(words, choice.name).is_none() {
             return Some(WordFault::Missing { at: i as u32 + 1 });
@@ -83,7 +96,10 @@ fn missing(options: &[Choice], words: &[&str]) -> Option<WordFault> {
 }
 
 /// The first file that has the name of an earlier one.
-fn same_name(options: &[Choice], words: &[&str]) -> Option<WordFault> {
+fn same_name(options: &[Choice], words: &[&str]) -> Option<WordFault>
+    requires { length words.now ≤ 16 }
+    ensures { result ≡ same_from (map viewed options.now) [] (pairs_of (texts words.now)) }
+{
     let mut rest = words;
     let mut at = 0;
     while let [option, value, after @ ..] = rest {
@@ -97,12 +113,16 @@ fn same_name(options: &[Choice], words: &[&str]) -> Option<WordFault> {
 }
 
 /// Whether an option with this value is a file that has the name of one of these words'.
-fn repeats_file(options: &[Choice], before: &[&str], option: &str, value: &str) -> bool {
+fn repeats_file(options: &[Choice], before: &[&str], option: &str, value: &str) -> bool
+    ensures { result ≡ (is_file_in (map viewed options.now) option.now && has_file (map viewed options.now) (pairs_of (texts before.now)) value.now) }
+{
     is_file(options, option) && names_file(options, before, value)
 }
 
 /// Whether the words give a file this name.
-fn names_file(options: &[Choice], words: &[&str], name: &str) -> bool {
+fn names_file(options: &[Choice], words: &[&str], name: &str) -> bool
+    ensures { result ≡ has_file (map viewed options.now) (pairs_of (texts words.now)) name.now }
+{
     let mut rest = words;
     while let [option, value, after @ ..] = rest {
         if is_file(options, option) && *value == name {
@@ -114,58 +134,11 @@ fn names_file(options: &[Choice], words: &[&str], name: &str) -> bool {
 }
 
 /// Whether the values of an option are files.
-fn is_file(options: &[Choice], option: &str) -> bool {
+fn is_file(options: &[Choice], option: &str) -> bool
+    ensures { result ≡ is_file_in (map viewed options.now) option.now }
+{
     match kind_of(options, option) {
         Some(kind) => kind.is_file(),
         None => false,
     }
-}
-
-/// The first of the two faults that is not in the set, by its place in the words; or the second, where both are one.
-fn not_in_set(words: &[&str]) -> Option<WordFault> {
-    let set = value_of(words, "--set")?;
-    if let Some(at) = outside_set(words, set) {
-        return Some(WordFault::NotInSet { at });
-    }
-    if number_of(words, "--first") == number_of(words, "--second") {
-        let at = place_of(words, "--second")?;
-        return Some(WordFault::NotInSet { at });
-    }
-    None
-}
-
-/// The place of the first of the two faults that is not in the set.
-fn outside_set(words: &[&str], set: &str) -> Option<u32> {
-    let mut rest = words;
-    let mut at = 3;
-    while let [option, value, after @ ..] = rest {
-        if is_of_pair(option) && !is_in_set(value, set) {
-            return Some(at);
-        }
-        rest = after;
-        at += 2;
-    }
-    None
-}
-
-/// Whether the option is one of the two faults.
-fn is_of_pair(option: &str) -> bool {
-    match option {
-        "--first" | "--second" => true,
-        _ => false,
-    }
-}
-
-/// Whether the number that the word spells is one of the set's.
-fn is_in_set(word: &str, set: &str) -> bool {
-    match small_number(word) {
-        Some(number) => has_number(set, number),
-        None => false,
-    }
-}
-
-/// The number that the words give an option.
-fn number_of(words: &[&str], option: &str) -> Option<u32> {
-    let value = value_of(words, option)?;
-    small_number(value)
 }

@@ -1,4 +1,8 @@
 // The verbs and their options.
+ghost use Rattle.std.specs.Prelude.{◌≡◌, map};
+ghost use Rattle.xs_reach_words.specs.Table.{options_of};
+ghost use Rattle.xs_reach_words.specs.Reading.{verb_in};
+ghost use Rattle.xs_reach_words.specs.Seen.{viewed};
 
 use crate::choice::{Choice, Kind};
 
@@ -73,7 +77,9 @@ const CERT: Choice = Choice {
 
 impl Verb {
     /// The verb of this name.
-    pub(crate) fn named(name: &str) -> Option<Verb> {
+    pub(crate) fn named(name: &str) -> Option<Verb>
+        ensures { result ≡ verb_in name.now }
+    {
         match name {
             "causes" => Some(Verb::Causes),
             "check-causes" => Some(Verb::CheckCauses),
@@ -85,7 +91,9 @@ impl Verb {
     }
 
     /// Its options, in the order in which a missing one is told.
-    pub(crate) fn options(self) -> &'static [Choice] {
+    pub(crate) fn options(self) -> &'static [Choice]
+        ensures { map viewed result.now ≡ options_of self }
+    {
         match self {
             Verb::Causes => &[MODEL, FAULTS, CAUSES, TOP, DEPTH, CERT],
             Verb::CheckCauses => &[MODEL, FAULTS, CAUSES, TOP, CERT],
