@@ -2,7 +2,7 @@
 ghost use Rattle.std.specs.Prelude.{◌≡◌, ◌≤◌, ◌⊎◌, ℕ, IfOk, IfSome, IsErrOf, OnOk};
 ghost use Rattle.xs_desk.specs.Desk.{Rose, said_more};
 ghost use Rattle.xs_desk.specs.declared.desk.WriteStop.TheVariants as write_stop;
-ghost use Rattle.xs_reach_words.specs.Commands.{Command};
+ghost use Rattle.xs_reach_words.specs.Commands.{Command as Asked};
 ghost use Rattle.xs_reach_words.specs.Meaning.{Means, BreaksFirst};
 ghost use Rattle.xs_reach_words.specs.Reading.{begins_further};
 ghost use Rattle.xs_reach_words.specs.Seen.{texts, seen, rule_of, place_of};
@@ -44,10 +44,10 @@ pub fn run<D: Desk>(
     advisers: Vec<Box<dyn Adviser>>,
 ) -> Status
     // A run that has finished has done what the words ask for.
-    ensures finished { (c : Command) → Means (texts words.now) c → IsFinished result →
+    ensures finished { (c : Asked) → Means (texts words.now) c → IsFinished result →
         IfSome (D.files desk.old) (λ files. IsDone c files result (D.files desk.old) (D.files desk.new) (D.said desk.old) (D.said desk.new)) }
     // One that is refused has said the line of the rule that is broken first, and changed no file.
-    ensures refused { (c : Command) (r : Refusal) → Means (texts words.now) c → result ≡ Status.Refused r → IfSome (D.files desk.old) (λ files. RefusesCommand c files r) }
+    ensures refused { (c : Asked) (r : Refusal) → Means (texts words.now) c → result ≡ Status.Refused r → IfSome (D.files desk.old) (λ files. RefusesCommand c files r) }
     ensures told { (r : Refusal) → result ≡ Status.Refused r → (D.files desk.new ≡ D.files desk.old) × (D.said desk.new ≡ said_more (D.said desk.old) (refusal_text r)) }
     // Words that mean nothing are refused by the rule that they break first, at its place.
     ensures words { (rule place : ℕ) → BreaksFirst (texts words.now) rule place → IsAnswer result →

@@ -8,7 +8,7 @@ use Rattle.xs_reach_words.specs.declared.fault.WordFault.{WordFault}
 use Rattle.xs_reach_words.specs.declared.fault.WordFault.TheVariants as fault
 use Rattle.xs_reach_words.specs.Commands.{Text}
 use Rattle.xs_reach_words.specs.Table.{options_of}
-use Rattle.xs_reach_words.specs.Reading.{pairs_of, first_of, pair_fault, missing_from, same_from, option_fault, is_outside, outside_here, outside_from}
+use Rattle.xs_reach_words.specs.Reading.{pairs_of, first_of, pair_fault, missing_from, same_from, option_fault, is_outside, outside_here, outside_from, set_fault, fault_after}
 use Rattle.xs_reach_words.specs.Seen.{texts}
 use Rattle.xs_reach_words.proofs.PairLemmas.{no_pair}
 use Rattle.xs_reach_words.proofs.SoundLemmas.{first_none}
@@ -69,3 +69,13 @@ few_after v words None finds off =
     first_none (pair_fault (options_of v) [] (texts words)) (first_of (missing_from 1 (options_of v) (pairs_of (texts words))) (same_from (options_of v) [] (pairs_of (texts words)))) (sym finds) in
     let most = few_words (options_of v) (texts words) none.0 in let few = few_options v in let all = length-map words (λ w. w.now) in omega (arith, most, few, all)
 few_after v words (Some f) finds off = absurd (false≢true (sym off))
+
+-- the first fault of the words after a verb, as the code finds it
+pub after_some : (v : Verb) (words : List Text) (found : Option WordFault) → found ≡ option_fault (options_of v) words → is_some found ≡ true → found ≡ fault_after v words
+after_some v words None e on = absurd (false≢true on)
+after_some v words (Some f) e on = ap (λ o. first_of o (set_fault (pairs_of words))) e
+
+pub after_none : (v : Verb) (words : List Text) (found other : Option WordFault) → found ≡ option_fault (options_of v) words → is_some found ≡ false → other ≡ set_fault (pairs_of words) →
+    other ≡ fault_after v words
+after_none v words None other e off is = is ∙ ap (λ o. first_of o (set_fault (pairs_of words))) e
+after_none v words (Some f) other e off is = absurd (false≢true (sym off))

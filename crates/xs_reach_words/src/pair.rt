@@ -23,7 +23,7 @@ fn first_outside(words: &[&str], set: &str, first: &str) -> Option<WordFault>
     ensures { result ≡ outside_from set.now first.now [] (pairs_of (texts words.now)) }
 {
     let mut rest = words;
-    let mut at = 0;
+    let mut at: usize = 0;
     while let [option, value, after @ ..] = rest {
         if is_outside(option, value, set, first) {
             return Some(WordFault::NotInSet { at: at as u32 + 3 });
