@@ -1,14 +1,16 @@
 -- From the parts of a run of a further verb to its outcome.
-use Rattle.std.proofs.Common.{◌≡◌, ◌⊎◌, inl, inr, ⊎_elim, ℕ, List, Option, Some, None, IfSome, subst, sym, ◌∙◌, refl}
+use Rattle.std.proofs.Common.{◌≡◌, ◌⊎◌, inl, inr, ⊎_elim, ℕ, List, Option, Some, None, Result, Ok, Err, IfOk, IfSome, subst, sym, ◌∙◌, refl}
 use Rattle.xs_desk.specs.declared.files.NamedFile.{NamedFile}
 use Rattle.xs_tree.specs.ProgramTree.{Text}
-use Rattle.xs_reach_words.specs.Commands.{Command}
+use Rattle.xs_reach_words.specs.Commands.{Command, odds}
 use Rattle.xs_reach_words.specs.Meaning.{Means}
 use Rattle.xs_reach_words.specs.Laws.{OneCommand}
 use Rattle.xs_run.specs.Answered.{Told, Said}
 use Rattle.xs_reach.specs.declared.status.Refusal.{Refusal}
 use Rattle.xs_reach.specs.declared.status.Status.{Status}
 use Rattle.xs_reach.specs.declared.status.Status.TheVariants as status
+use Rattle.xs_reach.specs.declared.stop.Stop.{Stop}
+use Rattle.xs_reach.specs.Odds.{HasOdds}
 use Rattle.xs_reach.specs.Runs.{IsFinished, IsAnswer, IsDone, RefusesCommand}
 
 -- what was done for the command that was read was done for each that the words mean
@@ -54,3 +56,24 @@ pub told_after : {A : Type 0} (Q : Refusal → A → A → Type 0) (s : Status) 
 told_after Q s q before after h (inl e) r is = let both : status.Refused q ≡ status.Refused r = sym e ∙ is in subst (λ (x : Refusal). Q x before after) (same_refusal q r both) (h e)
 told_after Q s q before after h (inr (inl e)) r is = let both : status.Desk ≡ status.Refused r = sym e ∙ is in cc
 told_after Q s q before after h (inr (inr e)) r is = let both : status.Memory ≡ status.Refused r = sym e ∙ is in cc
+
+-- What the verbs do, for the command that was read.
+module _ (told : Option (List NamedFile)) (r : Result Status Stop) (before after : Told) (said now : Said) where
+  pub done_as : (c d : Command) → c ≡ d → IfOk r (λ s. IfSome told (λ files. IsDone d files s before after said now)) → IfOk r (λ s. IfSome told (λ files. IsDone c files s before after said now))
+  done_as c d e h = subst (λ (x : Command). IfOk r (λ s. IfSome told (λ files. IsDone x files s before after said now))) (sym e) h
+
+pub odds_done : (told : Option (List NamedFile)) (r : Result Status Stop) (before after : Told) (said now : Said) (model faults top : Text) (depth : ℕ) →
+    IfOk r (λ s. IfSome told (λ files. HasOdds files model faults top depth s said now)) → after ≡ before →
+    IfOk r (λ s. IfSome told (λ files. IsDone (odds model faults top depth) files s before after said now))
+odds_done None (Ok s) before after said now model faults top depth h e = tt
+odds_done (Some files) (Ok s) before after said now model faults top depth h e = (h, e)
+odds_done told (Err x) before after said now model faults top depth h e = tt
+
+pub nothing_done : (told : Option (List NamedFile)) (r : Result Status Stop) → IfOk r (λ s. IfSome told (λ files. Unit {0}))
+nothing_done None (Ok s) = tt
+nothing_done (Some files) (Ok s) = tt
+nothing_done told (Err x) = tt
+
+pub nothing_refused : (told : Option (List NamedFile)) → IfSome told (λ files. Unit {0})
+nothing_refused None = tt
+nothing_refused (Some files) = tt

@@ -15,6 +15,7 @@ ghost use Rattle.xs_run.specs.Cases.{HoldsCase};
 ghost use Rattle.xs_reach.specs.declared.status.Refusal.{Refusal};
 ghost use Rattle.xs_reach.specs.declared.stop.Stop.TheVariants as stop;
 ghost use Rattle.xs_reach.specs.Reports.{sets_text, ending_line};
+ghost use Rattle.xs_reach.specs.Runs.{IsFinished};
 ghost use Rattle.xs_reach.specs.Odds.{mark_rule, mark_refusal, RefusesOdds, RefusesMark, IsMarked, IsOddsFinding, HasOdds, ended_with};
 
 use crate::report::{append_ending, append_sets};
@@ -59,6 +60,7 @@ pub(crate) fn find_odds<D: Desk>(
     panel: &mut Panel,
 ) -> Result<Status, Stop>
     ensures ok { IfOk result (λ s. IfSome (D.files desk.old) (λ files. HasOdds files asked.now.model.now asked.now.faults.now asked.now.top.now asked.now.depth s (D.said desk.old) (D.said desk.new))) }
+    ensures finished { IfOk result IsFinished }
     ensures refused { (r : Refusal) → IsErrOf result (stop.Refused r) →
         IfSome (D.files desk.old) (λ files. RefusesOdds files asked.now.model.now asked.now.faults.now asked.now.top.now r) }
     ensures silent { (r : Refusal) → IsErrOf result (stop.Refused r) → D.said desk.new ≡ D.said desk.old }
@@ -184,7 +186,8 @@ fn report_of(
 
 /// The status of a run whose analysis ends so.
 fn status_of(ending: Ending) -> Status
-    ensures { result ≡ ended_with (told_ending ending) }
+    ensures ends { result ≡ ended_with (told_ending ending) }
+    ensures finished { IsFinished result }
 {
     match ending {
         Ending::Complete => Status::Done,

@@ -8,4 +8,4 @@ use Rattle.xs_reach.proofs.odds.find_odds.Goals as goal
 pub returns-clause-ok : goal.returns-clause-ok
 returns-clause-ok g c =
     has_odds _ _ _ _ c.in_ok-marked.marked _ c.in_ok-found.found _ _ _ c.in_ok-marked.ensures.ok c.in_ok-marked.ensures.marked c.in_ok-marked.ensures.asked c.in_ok-found.ensures
-    c.status_of.ensures c.in_ok-say_whole.ensures.ok
+    c.status_of.ensures.ends c.in_ok-say_whole.ensures.ok
