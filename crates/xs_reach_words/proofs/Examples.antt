@@ -1,5 +1,5 @@
 -- What the definitions give for a few words.
-use Rattle.std.proofs.Common.{◌≡◌, ℕ, [], ◌∷◌, Ok, Err, None, Some, refl, codes}
+use Rattle.std.proofs.Common.{◌≡◌, [], ◌∷◌, refl, codes}
 use Rattle.xs_reach_words.specs.declared.fault.WordFault.TheVariants as fault
 use Rattle.xs_reach_words.specs.Commands.{odds}
 use Rattle.xs_reach_words.specs.Sets.{numbers_of}

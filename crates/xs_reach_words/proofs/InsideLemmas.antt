@@ -1,7 +1,6 @@
 -- The two faults of a set, as they are tested.
-use Rattle.std.proofs.Common.{◌≡◌, ◌≢◌, ◌⊎◌, inl, inr, ⊎_elim, ℕ, ◌+◌, ◌*◌, ◌&&◌, ◌||◌, Bool, true, false, not, List, [], ◌∷◌, ◌++◌, length, map, Option, Some, None, codes, unwrap_or, if◌then◌else◌, sym, subst, ap, ◌∙◌, refl, append_assoc, arith}
+use Rattle.std.proofs.Common.{◌≡◌, ◌⊎◌, inl, inr, ⊎_elim, ℕ, ◌+◌, Bool, true, false, not, List, [], ◌∷◌, ◌++◌, map, Option, Some, None, codes, if◌then◌else◌, sym, subst, ap, ◌∙◌, refl, append_assoc, arith}
 use Rattle.std.specs.Prelude.{nat_eq}
-use Rattle.std.specs.Str.{bytes_eq}
 use Rattle.std.proofs.lemmas.Bool.Decides.{nat_tests}
 use Rattle.std.proofs.lemmas.List.{append-nil}
 use Rattle.std.proofs.lemmas.Bool.{false≢true, and_parts, and_from, or_cases, or_left, or_right}
@@ -11,13 +10,13 @@ use Rattle.xs_reach_words.specs.declared.verb.Verb.TheVariants as verb
 use Rattle.xs_reach_words.specs.declared.fault.WordFault.{WordFault}
 use Rattle.xs_reach_words.specs.declared.fault.WordFault.TheVariants as fault
 use Rattle.xs_reach_words.specs.Commands.{Text, Given}
-use Rattle.xs_reach_words.specs.Sets.{Each, number_of, IsNumeral, words_of, numbers_of, IsSet}
+use Rattle.xs_reach_words.specs.Sets.{Each, number_of, IsNumeral, words_of, IsSet}
 use Rattle.xs_reach_words.specs.Table.{Choice, options_of, kind_in, IsWithin, Fits}
 use Rattle.xs_reach_words.specs.Meaning.{Gives, IsGiven, IsLawful, AreLawful, AreThere, IsOneOf, IsOfPair, IsOutside, not_of_set, both_one, IsInside, AreInside, option_place}
 use Rattle.xs_reach_words.specs.Reading.{number_in, value_in, text_in, first_of, same_number, has_number, is_second, is_of_pair, is_outside, outside_here, outside_from, set_fault_by, set_fault}
 use Rattle.xs_reach_words.proofs.ListLemmas.{bytes_same, same_bytes, Each-append, is_false}
 use Rattle.xs_reach_words.proofs.NumberLemmas.{numbered, true-is_numeral}
-use Rattle.xs_reach_words.proofs.PairLemmas.{value-given, none-not, given-value, given-some, not_given}
+use Rattle.xs_reach_words.proofs.PairLemmas.{value-given, given-value}
 use Rattle.xs_reach_words.proofs.SoundLemmas.{first_none}
 use Rattle.xs_reach_words.proofs.MadeLemmas.{fits_given, text_given, text_is}
 

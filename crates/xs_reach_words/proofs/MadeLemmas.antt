@@ -1,5 +1,5 @@
 -- The command that is made of the values is the one that they mean.
-use Rattle.std.proofs.Common.{◌≡◌, ◌≢◌, inl, inr, ℕ, ◌+◌, ◌^◌, ◌<◌, ◌≤◌, Bool, true, false, List, [], ◌∷◌, length, Option, Some, None, codes, unwrap_or, option_and_then, if◌then◌else◌, sym, subst, ap, ◌∙◌, refl, arith}
+use Rattle.std.proofs.Common.{◌≡◌, inl, inr, ℕ, ◌^◌, ◌<◌, List, [], ◌∷◌, Option, Some, None, codes, unwrap_or, option_and_then, if◌then◌else◌, sym, subst, ap, ◌∙◌, refl, arith}
 use Rattle.std.proofs.lemmas.Bool.{lt-ltb}
 use Rattle.xs_reach_words.specs.declared.choice.Kind.{Kind}
 use Rattle.xs_reach_words.specs.declared.choice.Kind.TheVariants as kind
@@ -8,10 +8,10 @@ use Rattle.xs_reach_words.specs.declared.verb.Verb.TheVariants as verb
 use Rattle.xs_reach_words.specs.Commands.{Text, Command, Given}
 use Rattle.xs_reach_words.specs.Sets.{number_of}
 use Rattle.xs_reach_words.specs.Table.{Choice, options_of, kind_in, IsWithin, Fits}
-use Rattle.xs_reach_words.specs.Meaning.{Each, Gives, IsGiven, IsNotGiven, IsLawful, AreLawful, AreThere, GivesNumber, Makes, finds_causes, checks_causes, finds_orders, checks_orders, finds_odds}
-use Rattle.xs_reach_words.specs.Reading.{value_in, text_in, if_small, small_number_in, small_number_at, number_at, made}
+use Rattle.xs_reach_words.specs.Meaning.{Each, Gives, IsGiven, IsLawful, AreLawful, AreThere, GivesNumber, Makes, finds_causes, checks_causes, finds_orders, checks_orders, finds_odds}
+use Rattle.xs_reach_words.specs.Reading.{text_in, if_small, small_number_in, small_number_at, number_at, made}
 use Rattle.xs_reach_words.proofs.NumberLemmas.{true-is_numeral, numbered}
-use Rattle.xs_reach_words.proofs.PairLemmas.{value-given, none-not, not-none, given-value, given-some}
+use Rattle.xs_reach_words.proofs.PairLemmas.{value-given, given-value, given-some}
 
 -- a number within limits of 32 bits has 32 bits
 small_number : (least most : ℕ) (word : Text) → IsWithin least most word → most < 2 ^ 32 → small_number_in word ≡ Some (number_of word)

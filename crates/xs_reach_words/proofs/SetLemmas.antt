@@ -1,5 +1,5 @@
 -- Sets of numbers and claims, as they are tested.
-use Rattle.std.proofs.Common.{◌≡◌, ◌⊎◌, inl, inr, ⊎_elim, ℕ, ◌<◌, ◌≤◌, ◌+◌, ◌&&◌, Bool, true, false, List, [], ◌∷◌, length, map, Option, Some, None, ◌^◌, codes, is_some, Bor, if◌then◌else◌, sym, subst, ◌∙◌, ap, refl, arith}
+use Rattle.std.proofs.Common.{◌≡◌, inl, inr, ⊎_elim, ℕ, ◌<◌, ◌≤◌, ◌+◌, Bool, true, false, List, [], ◌∷◌, length, map, Option, Some, None, ◌^◌, codes, is_some, Bor, if◌then◌else◌, sym, subst, ◌∙◌, ap, refl, arith}
 use Rattle.std.specs.Prelude.{nat_lt, nat_le, ◌==◌}
 use Rattle.std.specs.Str.{bytes_eq}
 use Rattle.std.specs.List.{position_or_len, before_first, after_first, count_by}
@@ -12,7 +12,7 @@ use Rattle.std.specs.Option.{option_map}
 use Rattle.xs_reach_words.specs.Commands.{Text}
 use Rattle.xs_reach_words.specs.Sets.{Each, number_of, IsNumeral, words_of, numbers_of, AreRising, IsSet}
 use Rattle.xs_reach_words.specs.Table.{IsClaim}
-use Rattle.xs_reach_words.specs.Reading.{is_numeral, number_in, small_number_in, if_small, rises_by, is_rising, is_set_text, is_claim, words_left, smalls, small_then}
+use Rattle.xs_reach_words.specs.Reading.{is_numeral, number_in, if_small, rises_by, is_rising, is_set_text, is_claim, words_left, smalls, small_then}
 use Rattle.xs_reach_words.proofs.ListLemmas.{bytes_same, same_bytes}
 use Rattle.xs_reach_words.proofs.NumberLemmas.{is_numeral-true, true-is_numeral, numbered}
 

@@ -1,5 +1,5 @@
 -- The command that words mean, and the rule that they break first, with its place. Places of words count from 1.
-use Rattle.std.specs.Prelude.{◌≡◌, ◌≢◌, ◌⊎◌, ℕ, ◌+◌, ◌*◌, List, [], ◌∷◌, ◌++◌, Option, Some, None, length, codes}
+use Rattle.std.specs.Prelude.{◌≡◌, ◌≢◌, ◌⊎◌, ℕ, ◌+◌, ◌*◌, List, [], ◌∷◌, ◌++◌, Some, None, length, codes}
 use Rattle.xs_reach_words.specs.declared.choice.Kind.{Kind}
 use Rattle.xs_reach_words.specs.declared.choice.Kind.TheVariants as kind
 use Rattle.xs_reach_words.specs.declared.verb.Verb.{Verb}

@@ -1,4 +1,4 @@
-use Rattle.std.proofs.Common.{◌≤◌, [], sym, ◌∙◌, arith}
+use Rattle.std.proofs.Common.{[], arith}
 use Rattle.xs_reach_words.specs.Seen.{texts}
 use Rattle.xs_reach_words.proofs.OutsideLoop.{passed_none, outside_on, outside_out, outside_end}
 use Rattle.xs_reach_words.proofs.StepLemmas.{fewer_left, at_within}

@@ -1,5 +1,4 @@
-use Rattle.std.proofs.Common.{ℕ, ◌-◌, List, [], length, take, drop, Some, None, Ok, Bor, sym, ap, ◌∙◌}
-use Rattle.xs_reach_words.specs.Seen.{texts}
+use Rattle.std.proofs.Common.{[], Some, None, Ok, sym, ap, ◌∙◌}
 use Rattle.xs_reach_words.proofs.ReadingLaws.{verb_then}
 use Rattle.xs_reach_words.proofs.read.read.Goals as goal
 
