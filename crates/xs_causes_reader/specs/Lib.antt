@@ -1,0 +1,4 @@
+pub mod CausesRead
+pub mod ReadView
+pub mod Named
+pub mod Taken

@@ -11,7 +11,7 @@ use xs_tree::{Decl, Declared, Define, Member, Module, Program, Section};
 use xs_value::{Name, OutOfMemory};
 
 /// The names of a program.
-#[tactic(auto, using(xs_weave_rules::proofs::KeyedLaws::keyed_rules))]
+#[tactic(auto, using(crate::proofs::Keyed::keyed_rules))]
 pub(crate) fn program_names(alloc: Global, p: &Program) -> Result<Texts, OutOfMemory>
     ensures { IfOk result (λ names. names ≡ with_texts [] (program_names_of (program_tree p.now))) }
 {
@@ -20,7 +20,7 @@ pub(crate) fn program_names(alloc: Global, p: &Program) -> Result<Texts, OutOfMe
     Ok(names)
 }
 
-#[tactic(auto, using(xs_weave_rules::proofs::KeyedLaws::keyed_rules))]
+#[tactic(auto, using(crate::proofs::Keyed::keyed_rules))]
 fn add_modules(alloc: Global, names: &mut Texts, modules: &[Module]) -> Result<(), OutOfMemory>
     ensures { OnOk result (names.new ≡ with_texts names.old (flat_map module_names (map module_tree modules.now))) }
 {
@@ -30,7 +30,7 @@ fn add_modules(alloc: Global, names: &mut Texts, modules: &[Module]) -> Result<(
     Ok(())
 }
 
-#[tactic(auto, using(xs_weave_rules::proofs::KeyedLaws::keyed_rules))]
+#[tactic(auto, using(crate::proofs::Keyed::keyed_rules))]
 fn add_module(alloc: Global, names: &mut Texts, module: &Module) -> Result<(), OutOfMemory>
     ensures { OnOk result (names.new ≡ with_texts names.old (module_names (module_tree «module».now))) }
 {
@@ -39,7 +39,7 @@ fn add_module(alloc: Global, names: &mut Texts, module: &Module) -> Result<(), O
     add_sections(alloc, names, module.sections.as_slice())
 }
 
-#[tactic(auto, using(xs_weave_rules::proofs::KeyedLaws::keyed_rules))]
+#[tactic(auto, using(crate::proofs::Keyed::keyed_rules))]
 fn add_names(alloc: Global, names: &mut Texts, more: &[Name]) -> Result<(), OutOfMemory>
     ensures { OnOk result (names.new ≡ with_texts names.old more.now) }
 {
@@ -49,7 +49,7 @@ fn add_names(alloc: Global, names: &mut Texts, more: &[Name]) -> Result<(), OutO
     Ok(())
 }
 
-#[tactic(auto, using(xs_weave_rules::proofs::KeyedLaws::keyed_rules))]
+#[tactic(auto, using(crate::proofs::Keyed::keyed_rules))]
 fn add_sections(alloc: Global, names: &mut Texts, sections: &[Section]) -> Result<(), OutOfMemory>
     ensures { OnOk result (names.new ≡ with_texts names.old (flat_map section_names (map section_tree sections.now))) }
 {
@@ -72,7 +72,7 @@ fn add_section(alloc: Global, names: &mut Texts, section: &Section) -> Result<()
     }
 }
 
-#[tactic(auto, using(xs_weave_rules::proofs::KeyedLaws::keyed_rules))]
+#[tactic(auto, using(crate::proofs::Keyed::keyed_rules))]
 fn add_decls(alloc: Global, names: &mut Texts, decls: &[Decl]) -> Result<(), OutOfMemory>
     ensures { OnOk result (names.new ≡ with_texts names.old (flat_map decl_names (map decl_tree decls.now))) }
 {
@@ -98,7 +98,7 @@ fn add_symbols(alloc: Global, names: &mut Texts, what: &Declared) -> Result<(), 
     }
 }
 
-#[tactic(auto, using(xs_weave_rules::proofs::KeyedLaws::keyed_rules))]
+#[tactic(auto, using(crate::proofs::Keyed::keyed_rules))]
 fn add_members(alloc: Global, names: &mut Texts, members: &[Member]) -> Result<(), OutOfMemory>
     ensures { OnOk result (names.new ≡ with_texts names.old (flat_map member_names members.now)) }
 {
@@ -117,7 +117,7 @@ fn add_member(alloc: Global, names: &mut Texts, member: &Member) -> Result<(), O
     }
 }
 
-#[tactic(auto, using(xs_weave_rules::proofs::KeyedLaws::keyed_rules))]
+#[tactic(auto, using(crate::proofs::Keyed::keyed_rules))]
 fn add_defines(alloc: Global, names: &mut Texts, defines: &[Define]) -> Result<(), OutOfMemory>
     ensures { OnOk result (names.new ≡ with_texts names.old (map define_name (map define_tree defines.now))) }
 {

@@ -1,5 +1,13 @@
 //! The events of faults that begin by themselves.
 
+ghost use Rattle.std.specs.Prelude.{◌≡◌, ◌<◌, ◌≤◌, ◌×◌, ◌++◌, suc, length, map, option_map, IfOk, OnOk};
+ghost use Rattle.xs_tree.specs.Tree.{choice as choice_tree, leaf};
+ghost use Rattle.xs_flattening.specs.Flat.{flat_symbol};
+ghost use Rattle.xs_right.specs.Sets.{has_number as has_number_of};
+ghost use Rattle.xs_scope.specs.ModelTree.{model_tree, formula_tree, flat_tree, mode_of};
+ghost use Rattle.xs_causes.specs.Staged.{with_own as own_with, with_owns, own_events, own_at_first as own_first, own_at_step as own_step, stands_of, joined as windows_of, windows_on as windows_on_of, only as only_tree};
+ghost use Rattle.xs_staging.specs.CauseOf.{cause_of, either_tree};
+
 use crate::build::{
     binary, choice, next, only, opposite, state, symbol, two_symbols, within, within_next,
 };
@@ -21,6 +29,9 @@ pub(crate) fn add_own_events(
     causes: &[Cause],
     ages: &[u32],
 ) -> Result<(), OutOfMemory>
+    requires ages { length ages.now ≡ length causes.now }
+    ensures model { OnOk result (model_tree made.new ≡ with_owns (map mode_of faults.now) (map cause_of causes.now) ages.now 1 (map mode_of faults.now) (model_tree made.old)) }
+    ensures events { OnOk result (map mode_of events.new ≡ map mode_of events.old ++ own_events (length made.old.variables) (length made.old.symbols) (map mode_of faults.now)) }
 {
     for i in 0..faults.len() {
         let number = number_of(i + 1)?;
@@ -38,7 +49,10 @@ fn add_own_event(
     ages: &[u32],
     number: u32,
 ) -> Result<Fault, OutOfMemory>
-    requires { (0 < number) × (number ≤ length faults.now) }
+    requires number { (0 < number) × (number ≤ length faults.now) }
+    requires ages { length ages.now ≡ length causes.now }
+    ensures model { OnOk result (model_tree made.new ≡ own_with (map mode_of faults.now) (map cause_of causes.now) ages.now number (model_tree made.old)) }
+    ensures event { IfOk result (λ f. mode_of f ≡ record { variable = length made.old.variables; symbol = suc (length made.old.symbols) }) }
 {
     let own = number_of(made.variables.len())?;
     let none = number_of(made.symbols.len())?;
@@ -81,7 +95,10 @@ fn own_at_first(
     number: u32,
     mark: Marked,
 ) -> Result<Formula, OutOfMemory>
-    requires { (0 < number) × (number ≤ length faults.now) }
+    requires number { (0 < number) × (number ≤ length faults.now) }
+    requires ages { length ages.now ≡ length causes.now }
+    requires symbols { mark.itself ≡ suc mark.none }
+    ensures { IfOk result (λ f. formula_tree f ≡ own_first (stands_of (map mode_of faults.now) number) (windows_of (windows_on_of number (map cause_of causes.now) ages.now)) mark.own mark.none) }
 {
     let begins = stands(alloc, faults, number)?;
     let free = opposite(alloc, windows_on(alloc, causes, ages, number)?)?;
@@ -98,7 +115,10 @@ fn own_at_step(
     number: u32,
     mark: Marked,
 ) -> Result<Formula, OutOfMemory>
-    requires { (0 < number) × (number ≤ length faults.now) }
+    requires number { (0 < number) × (number ≤ length faults.now) }
+    requires ages { length ages.now ≡ length causes.now }
+    requires symbols { mark.itself ≡ suc mark.none }
+    ensures { IfOk result (λ f. formula_tree f ≡ own_step (stands_of (map mode_of faults.now) number) (windows_of (windows_on_of number (map cause_of causes.now) ages.now)) mark.own mark.none) }
 {
     let then = next(alloc, stands(alloc, faults, number)?)?;
     let before = opposite(alloc, stands(alloc, faults, number)?)?;
@@ -110,6 +130,7 @@ fn own_at_step(
 
 /// The symbol that tells the event where a condition is TRUE, and the other one elsewhere.
 fn told(alloc: Global, condition: Expr<Flat>, mark: Marked) -> Result<Expr<Flat>, OutOfMemory>
+    ensures { IfOk result (λ e. flat_tree e ≡ choice_tree (flat_tree condition) (only_tree (leaf (flat_symbol mark.itself))) (only_tree (leaf (flat_symbol mark.none)))) }
 {
     let begins = only(alloc, symbol(mark.itself))?;
     let rests = only(alloc, symbol(mark.none))?;
@@ -124,6 +145,7 @@ fn windows_on(
     fault: u32,
 ) -> Result<Expr<Flat>, OutOfMemory>
     requires { length ages.now ≡ length causes.now }
+    ensures { IfOk result (λ e. flat_tree e ≡ windows_of (windows_on_of fault (map cause_of causes.now) ages.now)) }
 {
     let mut windows = None;
     for (k, cause) in causes.iter().enumerate() {
@@ -143,6 +165,7 @@ fn either(
     before: Option<Expr<Flat>>,
     e: Expr<Flat>,
 ) -> Result<Expr<Flat>, OutOfMemory>
+    ensures { IfOk result (λ made. flat_tree made ≡ either_tree (option_map flat_tree before) (flat_tree e)) }
 {
     match before {
         Some(before) => binary(alloc, Op::Or, before, e),
@@ -152,6 +175,7 @@ fn either(
 
 /// Whether a list has a number.
 fn has_number(numbers: &NumberList, number: u32) -> bool
+    ensures { result ≡ has_number_of numbers.now number }
 {
     numbers.as_slice().iter().any(|n| *n == number)
 }

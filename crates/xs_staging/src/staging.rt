@@ -1,11 +1,11 @@
 //! The model with causes: each cause's variables, one after another.
 
-ghost use Rattle.std.specs.Prelude.{◌≡◌, ◌<◌, ◌≤◌, ◌+◌, ◌×◌, ◌∷◌, ◌++◌, [], length, map, IfOk, OnOk};
+ghost use Rattle.std.specs.Prelude.{◌≡◌, ◌<◌, ◌≤◌, ◌×◌, suc, length, map, IfOk, OnOk};
 ghost use Rattle.xs_tree.specs.Trace.{Each};
 ghost use Rattle.xs_scope.specs.ModelTree.{model_tree, formula_tree, flat_tree, mode_of};
 ghost use Rattle.xs_causes.specs.Causes.{IsCauseOf};
-ghost use Rattle.xs_causes.specs.Staged.{with_age as age_of, with_event as event_of, with_hit as hit_of, with_hits as hits_of, with_cause as cause_with, with_causes as causes_with, with_each_cause, stands_of, in_window as window_of, age_at_step as age_step, event_at_each as event_each, hit_at_first as hit_first, hit_at_step as hit_step, landed_at_each as landed_each, events_of, cause_events, age_numbers};
-ghost use Rattle.xs_staging.specs.CauseOf.{cause_of};
+ghost use Rattle.xs_causes.specs.Staged.{with_age as age_of, with_event as event_of, with_hit as hit_of, with_cause as cause_with, with_causes as causes_with, stands_of, in_window as window_of, age_at_step as age_step, event_at_each as event_each, hit_at_first as hit_first, hit_at_step as hit_step, landed_at_each as landed_each, events_of};
+ghost use Rattle.xs_staging.specs.CauseOf.{cause_of, event_mode};
 
 use crate::build::{
     added, binary, choice, next, only, state, symbol, two_symbols, value, whole,
@@ -34,6 +34,9 @@ pub fn with_causes(
     faults: &FaultList,
     causes: &CauseList,
 ) -> Result<Staged, OutOfMemory>
+    requires causes { Each (IsCauseOf (length faults.now)) (map cause_of causes.now) }
+    ensures model { IfOk result (λ s. model_tree s.model ≡ causes_with (model_tree m.now) (map mode_of faults.now) (map cause_of causes.now)) }
+    ensures events { IfOk result (λ s. map mode_of s.events ≡ events_of (model_tree m.now) (map mode_of faults.now) (map cause_of causes.now)) }
 {
     let mut model = m.copy(alloc)?;
     let mut happenings = FaultList::new(alloc);
@@ -64,6 +67,9 @@ fn add_cause(
     faults: &[Fault],
     cause: &Cause,
 ) -> Result<Fault, OutOfMemory>
+    requires { IsCauseOf (length faults.now) (cause_of cause.now) }
+    ensures model { OnOk result (model_tree made.new ≡ cause_with (map mode_of faults.now) (model_tree made.old) (cause_of cause.now)) }
+    ensures event { IfOk result (λ f. mode_of f ≡ event_mode (model_tree made.old)) }
 {
     let age = number_of(made.variables.len())?;
     add_age(alloc, made, cause, age)?;
@@ -76,6 +82,8 @@ fn add_cause(
 
 /// Adds a cause's age.
 fn add_age(alloc: Global, made: &mut FlatModel, cause: &Cause, age: u32) -> Result<(), OutOfMemory>
+    requires { age ≡ length made.old.variables }
+    ensures { OnOk result (model_tree made.new ≡ age_of (model_tree made.old) (cause_of cause.now)) }
 {
     let name = joined(alloc, cause.name.text(), b"#age")?;
     let last = (u64::from(cause.to) + 2) as i64;
@@ -87,6 +95,7 @@ fn add_age(alloc: Global, made: &mut FlatModel, cause: &Cause, age: u32) -> Resu
 
 /// How an age goes on.
 fn age_at_step(alloc: Global, cause: &Cause, age: u32) -> Result<Formula, OutOfMemory>
+    ensures { IfOk result (λ f. formula_tree f ≡ age_step (cause_of cause.now) age) }
 {
     let last = u64::from(cause.to) + 2;
     let waits = binary(alloc, Op::Equal, value(age), whole(0))?;
@@ -104,6 +113,8 @@ fn add_event(
     cause: &Cause,
     age: u32,
 ) -> Result<Fault, OutOfMemory>
+    ensures model { OnOk result (model_tree made.new ≡ event_of (model_tree made.old) (cause_of cause.now) age) }
+    ensures event { IfOk result (λ f. mode_of f ≡ record { variable = length made.old.variables; symbol = suc (length made.old.symbols) }) }
 {
     let event = number_of(made.variables.len())?;
     let quiet = number_of(made.symbols.len())?;
@@ -135,6 +146,8 @@ fn event_at_each(
     quiet: u32,
     now: u32,
 ) -> Result<Formula, OutOfMemory>
+    requires { now ≡ suc quiet }
+    ensures { IfOk result (λ f. formula_tree f ≡ event_each event age quiet) }
 {
     let is_one = binary(alloc, Op::Equal, value(age), whole(1))?;
     let happens = only(alloc, symbol(now))?;
@@ -153,6 +166,7 @@ fn add_hit(
     fault: u32,
 ) -> Result<(), OutOfMemory>
     requires { (0 < fault) × (fault ≤ length faults.now) }
+    ensures { OnOk result (model_tree made.new ≡ hit_of (map mode_of faults.now) (cause_of cause.now) age number fault (model_tree made.old)) }
 {
     let hit = number_of(made.variables.len())?;
     let name = numbered(alloc, cause.name.text(), b"#hit#", number)?;
@@ -172,6 +186,7 @@ fn hit_at_first(
     fault: u32,
 ) -> Result<Formula, OutOfMemory>
     requires { (0 < fault) × (fault ≤ length faults.now) }
+    ensures { IfOk result (λ f. formula_tree f ≡ hit_first (map mode_of faults.now) (cause_of cause.now) hit age fault) }
 {
     let window = in_window(alloc, cause, age)?;
     let stands = stands(alloc, faults, fault)?;
@@ -180,6 +195,7 @@ fn hit_at_first(
 
 /// That a hit is TRUE at the window's end.
 fn landed_at_each(alloc: Global, cause: &Cause, hit: u32, age: u32) -> Result<Formula, OutOfMemory>
+    ensures { IfOk result (λ f. formula_tree f ≡ landed_each (cause_of cause.now) hit age) }
 {
     let end = whole(u64::from(cause.to) + 1);
     let is_end = binary(alloc, Op::Equal, value(age), end)?;
@@ -196,6 +212,7 @@ fn hit_at_step(
     fault: u32,
 ) -> Result<Formula, OutOfMemory>
     requires { (0 < fault) × (fault ≤ length faults.now) }
+    ensures { IfOk result (λ f. formula_tree f ≡ hit_step (map mode_of faults.now) (cause_of cause.now) hit age fault) }
 {
     let window = next(alloc, in_window(alloc, cause, age)?)?;
     let stands = next(alloc, stands(alloc, faults, fault)?)?;
@@ -205,6 +222,7 @@ fn hit_at_step(
 
 /// That an age lies in the cause's window.
 pub(crate) fn in_window(alloc: Global, cause: &Cause, age: u32) -> Result<Expr<Flat>, OutOfMemory>
+    ensures { IfOk result (λ e. flat_tree e ≡ window_of (cause_of cause.now) age) }
 {
     let first = whole(u64::from(cause.from) + 1);
     let last = whole(u64::from(cause.to) + 1);
@@ -216,6 +234,7 @@ pub(crate) fn in_window(alloc: Global, cause: &Cause, age: u32) -> Result<Expr<F
 /// That the mode of the fault of a number stands.
 pub(crate) fn stands(alloc: Global, faults: &[Fault], number: u32) -> Result<Expr<Flat>, OutOfMemory>
     requires { (0 < number) × (number ≤ length faults.now) }
+    ensures { IfOk result (λ e. flat_tree e ≡ stands_of (map mode_of faults.now) number) }
 {
     let fault = &faults[number as usize - 1];
     binary(alloc, Op::Equal, value(fault.variable), symbol(fault.symbol))
