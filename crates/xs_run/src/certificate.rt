@@ -138,7 +138,7 @@ fn cert_stop(part: Part, number: u32, place: u64) -> Stop
 }
 
 /// The end of the work where a line of a certificate breaks a rule.
-fn line_stop(line: u64, rule: u32) -> Stop
+pub fn line_stop(line: u64, rule: u32) -> Stop
     ensures { result ≡ stop.Refused (refusal.NotAccepted (objection.Line line rule)) }
 {
     Stop::Refused(Refusal::NotAccepted(Objection::Line(line, rule)))
