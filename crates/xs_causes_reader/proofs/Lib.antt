@@ -1,2 +1,5 @@
 mod Keyed
 mod ProgramNames
+mod CausesReads
+mod CausesSpelled
+mod CausesStops

@@ -1,5 +1,5 @@
 -- What is read of causes so far, and what one more lexeme makes of it.
-use Rattle.std.specs.Prelude.{◌≡◌, ℕ, ◌+◌, ◌<◌, Bool, true, false, List, [], ◌∷◌, ◌++◌, Option, Some, None, codes, length, take}
+use Rattle.std.specs.Prelude.{ℕ, Bool, true, false, List, [], ◌∷◌, ◌++◌, Option, Some, None, codes}
 use Rattle.xs_tree.specs.ProgramTree.{Text, Path}
 use Rattle.xs_tree.specs.Lexemes.{Lexeme}
 use Rattle.xs_parse.specs.Build.{name_in, number_in}
@@ -27,29 +27,49 @@ pub record ReadSoFar : Type 0 where
 abbrev pub so_far : Stage → List WrittenCause → ReadSoFar
 so_far s cs = record { stage = s; causes = cs }
 
-abbrev pub where_so : Bool → Stage → List WrittenCause → Option ReadSoFar
-where_so true s cs = Some (so_far s cs)
-where_so false s cs = None
+-- a stage with these causes, where there is one
+abbrev pub keep : List WrittenCause → Option Stage → Option ReadSoFar
+keep cs None = None
+keep cs (Some s) = Some (so_far s cs)
 
-abbrev pub name_read : Mark → Lexeme → List WrittenCause → Option ReadSoFar
-name_read a_name t cs = Some (so_far (within (name_in t)) cs)
-name_read c t cs = None
+abbrev pub stage_where : Bool → Stage → Option Stage
+stage_where true s = Some s
+stage_where false s = None
 
-abbrev pub first_read : Mark → Text → Lexeme → List WrittenCause → Option ReadSoFar
-first_read a_number x t cs = Some (so_far (dots x (number_in t)) cs)
-first_read c x t cs = None
+abbrev pub name_stage : Mark → Lexeme → Option Stage
+name_stage a_name t = Some (within (name_in t))
+name_stage c t = None
+
+abbrev pub first_stage : Mark → Text → Lexeme → Option Stage
+first_stage a_number x t = Some (dots x (number_in t))
+first_stage c x t = None
 
 abbrev pub is_dots : Mark → Bool
 is_dots s_dots = true
 is_dots _ = false
 
+abbrev pub last_stage : Mark → Text → ℕ → Lexeme → Option Stage
+last_stage a_number x a t = Some (strikes x a (number_in t))
+last_stage c x a t = None
+
+abbrev pub part_stage : Mark → Text → ℕ → ℕ → List Path → Path → Lexeme → Option Stage
+part_stage a_name x a b done path t = Some (after x a b done (path ++ name_in t ∷ []))
+part_stage c x a b done path t = None
+
+abbrev pub where_so : Bool → Stage → List WrittenCause → Option ReadSoFar
+where_so b s cs = keep cs (stage_where b s)
+
+abbrev pub name_read : Mark → Lexeme → List WrittenCause → Option ReadSoFar
+name_read c t cs = keep cs (name_stage c t)
+
+abbrev pub first_read : Mark → Text → Lexeme → List WrittenCause → Option ReadSoFar
+first_read c x t cs = keep cs (first_stage c x t)
+
 abbrev pub last_read : Mark → Text → ℕ → Lexeme → List WrittenCause → Option ReadSoFar
-last_read a_number x a t cs = Some (so_far (strikes x a (number_in t)) cs)
-last_read c x a t cs = None
+last_read c x a t cs = keep cs (last_stage c x a t)
 
 abbrev pub part_read : Mark → Text → ℕ → ℕ → List Path → Path → Lexeme → List WrittenCause → Option ReadSoFar
-part_read a_name x a b done path t cs = Some (so_far (after x a b done (path ++ name_in t ∷ [])) cs)
-part_read c x a b done path t cs = None
+part_read c x a b done path t cs = keep cs (part_stage c x a b done path t)
 
 abbrev pub cause_read : Text → ℕ → ℕ → List Path → WrittenCause
 cause_read x a b done = record { name = x; from = a; to = b; strikes = done }

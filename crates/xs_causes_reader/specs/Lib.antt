@@ -1,4 +1,2 @@
 pub mod CausesRead
 pub mod ReadView
-pub mod Named
-pub mod Taken

@@ -1,6 +1,5 @@
 -- What the code keeps of causes that it reads, as the recogniser's stages, and how far it reads.
-use Rattle.std.specs.Prelude.{◌≡◌, ℕ, ◌+◌, ◌<◌, Bool, true, false, List, [], ◌∷◌, Option, Some, None, length, take, map}
-use Rattle.xs_tree.specs.ProgramTree.{Path}
+use Rattle.std.specs.Prelude.{◌≡◌, ◌+◌, ◌<◌, Bool, true, false, List, Option, Some, None, length, take, map, option_map}
 use Rattle.xs_tree.specs.Lexemes.{Lexeme}
 use Rattle.xs_parse.specs.declared.expected.Reading.{Reading}
 use Rattle.xs_parse.specs.declared.expected.Reading.TheVariants as reading
@@ -8,7 +7,7 @@ use Rattle.xs_causes.specs.CausesText.{WrittenCause}
 use Rattle.xs_causes_reader.specs.declared.step.State.{State}
 use Rattle.xs_causes_reader.specs.declared.step.State.TheVariants as s
 use Rattle.xs_causes_reader.specs.declared.written.Written.{Written}
-use Rattle.xs_causes_reader.specs.CausesRead.{Stage, start, named, within, first, dots, last, strikes, part, after, ReadSoFar, so_far, read_of}
+use Rattle.xs_causes_reader.specs.CausesRead.{Stage, start, named, within, first, dots, last, strikes, part, after, ReadSoFar, so_far, keep, read_of}
 
 abbrev pub written_tree : Written → WrittenCause
 written_tree c = record { name = c.name; from = c.from; to = c.to; strikes = c.strikes }
@@ -29,8 +28,7 @@ stage_of (s.After h done path) = after h.name h.from h.to done path
 
 -- what is read so far, where it goes on
 abbrev pub read_view : Option State → List Written → Option ReadSoFar
-read_view None cs = None
-read_view (Some state) cs = Some (so_far (stage_of state) (written_trees cs))
+read_view o cs = keep (written_trees cs) (option_map stage_of o)
 
 -- reading may end here
 abbrev pub is_start : Stage → Bool

@@ -1,6 +1,10 @@
 //! The call: tokens, then the causes that they spell, then the rules.
 
-ghost use Rattle.std.specs.Prelude.{◌≡◌, ◌<◌, ◌^◌, length};
+ghost use Rattle.std.specs.Prelude.{◌≡◌, ◌<◌, ◌^◌, List, [], length, IfOk, IfErr};
+ghost use Rattle.xs_parse.specs.Stops.{FaultMeans};
+ghost use Rattle.xs_causes.specs.CausesText.{WrittenCause, BytesSpellCauses};
+ghost use Rattle.xs_causes_reader.specs.CausesRead.{IsCauses};
+ghost use Rattle.xs_causes_reader.specs.ReadView.{written_trees, ReadsTo};
 
 use crate::fault::CauseFault;
 use crate::rules::lawful;
@@ -21,7 +25,10 @@ fn read_through(
     alloc: Global,
     tokens: &[TokenText],
     causes: &mut WrittenList,
-) -> Result<Reading, OutOfMemory> {
+) -> Result<Reading, OutOfMemory>
+    requires { causes.old ≡ [] }
+    ensures { IfOk result (ReadsTo tokens.now (written_trees causes.new)) }
+{
     let mut state = State::Start;
     for (i, token) in tokens.iter().enumerate() {
         match step(alloc, state, causes, token)? {
@@ -38,6 +45,9 @@ fn read_through(
 /// The causes that the bytes spell.
 fn written_causes(alloc: Global, bytes: &[u8]) -> Result<WrittenList, ParseFault>
     requires { length bytes.now < 2 ^ 32 }
+    ensures spelled { IfOk result (λ cs. BytesSpellCauses bytes.now (written_trees cs)) }
+    ensures only { IfOk result (λ cs. (ds : List WrittenCause) → BytesSpellCauses bytes.now ds → written_trees cs ≡ ds) }
+    ensures fault { IfErr result (FaultMeans IsCauses ⊥ bytes.now) }
 {
     let tokens = split(alloc, bytes)?;
     let texts = token_texts(alloc, bytes, &tokens)?;

@@ -1,5 +1,11 @@
 //! What is read of a cause so far, and what one more token makes of it.
 
+ghost use Rattle.std.specs.Prelude.{◌≡◌, [], codes, option_map, IfOk};
+ghost use Rattle.xs_parse.specs.ProgramRead.{mark_of};
+ghost use Rattle.xs_parse.specs.Places.{is_word};
+ghost use Rattle.xs_causes_reader.specs.CausesRead.{part, stepped, stage_where, name_stage, first_stage, is_dots as is_dots_mark, last_stage, part_stage, after_read, cause_read};
+ghost use Rattle.xs_causes_reader.specs.ReadView.{stage_of, read_view, written_tree, written_trees};
+
 use crate::written::{PathList, Written, WrittenList};
 use std::alloc::Global;
 use xs_parse::mark::Mark;
@@ -39,7 +45,9 @@ pub(crate) fn step(
     state: State,
     causes: &mut WrittenList,
     token: &TokenText,
-) -> Result<Option<State>, OutOfMemory> {
+) -> Result<Option<State>, OutOfMemory>
+    ensures { IfOk result (λ next. read_view next causes.new ≡ stepped (stage_of state) (written_trees causes.old) token.now) }
+{
     match state {
         State::Start => Ok(where_so(token.is_word(b"CAUSE"), State::Named)),
         State::Named => name_step(alloc, token),
@@ -56,11 +64,15 @@ pub(crate) fn step(
 }
 
 /// This state, where the token leads to it.
-fn where_so(fits: bool, to: State) -> Option<State> {
+fn where_so(fits: bool, to: State) -> Option<State>
+    ensures { option_map stage_of result ≡ stage_where fits (stage_of to) }
+{
     if fits { Some(to) } else { None }
 }
 
-fn is_dots(token: &TokenText) -> bool {
+fn is_dots(token: &TokenText) -> bool
+    ensures { result ≡ is_dots_mark (mark_of token.now) }
+{
     match token.mark() {
         Mark::Dots => true,
         _ => false,
@@ -68,7 +80,9 @@ fn is_dots(token: &TokenText) -> bool {
 }
 
 /// After the token where a cause's name comes.
-fn name_step(alloc: Global, token: &TokenText) -> Result<Option<State>, OutOfMemory> {
+fn name_step(alloc: Global, token: &TokenText) -> Result<Option<State>, OutOfMemory>
+    ensures { IfOk result (λ next. option_map stage_of next ≡ name_stage (mark_of token.now) token.now) }
+{
     match token.mark() {
         Mark::Name => Ok(Some(State::Within(token.name(alloc)?))),
         _ => Ok(None),
@@ -76,7 +90,9 @@ fn name_step(alloc: Global, token: &TokenText) -> Result<Option<State>, OutOfMem
 }
 
 /// After the token where the window's first number comes.
-fn from_step(name: Name, token: &TokenText) -> Option<State> {
+fn from_step(name: Name, token: &TokenText) -> Option<State>
+    ensures { option_map stage_of result ≡ first_stage (mark_of token.now) name token.now }
+{
     match token.mark() {
         Mark::Number => Some(State::Dots(name, token.digits().value)),
         _ => None,
@@ -84,7 +100,9 @@ fn from_step(name: Name, token: &TokenText) -> Option<State> {
 }
 
 /// After the token where the window's last number comes.
-fn to_step(name: Name, from: u64, token: &TokenText) -> Option<State> {
+fn to_step(name: Name, from: u64, token: &TokenText) -> Option<State>
+    ensures { option_map stage_of result ≡ last_stage (mark_of token.now) name from token.now }
+{
     match token.mark() {
         Mark::Number => Some(State::Strikes(Head {
             name,
@@ -100,7 +118,9 @@ fn strikes_step(
     alloc: Global,
     head: Head,
     token: &TokenText,
-) -> Result<Option<State>, OutOfMemory> {
+) -> Result<Option<State>, OutOfMemory>
+    ensures { IfOk result (λ next. option_map stage_of next ≡ stage_where (is_word token.now (codes "STRIKES")) (part head.name head.from head.to [] [])) }
+{
     let to = State::Part(head, PathList::new(alloc), NameList::new(alloc));
     Ok(where_so(token.is_word(b"STRIKES"), to))
 }
@@ -112,7 +132,9 @@ fn part_step(
     strikes: PathList,
     mut parts: NameList,
     token: &TokenText,
-) -> Result<Option<State>, OutOfMemory> {
+) -> Result<Option<State>, OutOfMemory>
+    ensures { IfOk result (λ next. option_map stage_of next ≡ part_stage (mark_of token.now) head.name head.from head.to strikes parts token.now) }
+{
     match token.mark() {
         Mark::Name => {
             parts.push(token.name(alloc)?)?;
@@ -130,7 +152,9 @@ fn after_step(
     parts: NameList,
     causes: &mut WrittenList,
     token: &TokenText,
-) -> Result<Option<State>, OutOfMemory> {
+) -> Result<Option<State>, OutOfMemory>
+    ensures { IfOk result (λ next. read_view next causes.new ≡ after_read (mark_of token.now) head.name head.from head.to strikes parts (written_trees causes.old)) }
+{
     match token.mark() {
         Mark::Dot => Ok(Some(State::Part(head, strikes, parts))),
         Mark::Comma => {
@@ -146,7 +170,9 @@ fn after_step(
     }
 }
 
-fn written(head: Head, strikes: PathList) -> Written {
+fn written(head: Head, strikes: PathList) -> Written
+    ensures { written_tree result ≡ cause_read head.name head.from head.to strikes }
+{
     let Head { name, from, to } = head;
     Written {
         name,

@@ -1,10 +1,10 @@
 //! The model with causes: each cause's variables, one after another.
 
-ghost use Rattle.std.specs.Prelude.{◌≡◌, ◌<◌, ◌≤◌, ◌×◌, suc, length, map, IfOk, OnOk};
+ghost use Rattle.std.specs.Prelude.{◌≡◌, ◌<◌, ◌≤◌, ◌×◌, ◌++◌, suc, length, map, IfOk, OnOk};
 ghost use Rattle.xs_tree.specs.Trace.{Each};
 ghost use Rattle.xs_scope.specs.ModelTree.{model_tree, formula_tree, flat_tree, mode_of};
 ghost use Rattle.xs_causes.specs.Causes.{IsCauseOf};
-ghost use Rattle.xs_causes.specs.Staged.{with_age as age_of, with_event as event_of, with_hit as hit_of, with_cause as cause_with, with_causes as causes_with, stands_of, in_window as window_of, age_at_step as age_step, event_at_each as event_each, hit_at_first as hit_first, hit_at_step as hit_step, landed_at_each as landed_each, events_of};
+ghost use Rattle.xs_causes.specs.Staged.{with_age as age_of, with_event as event_of, with_hit as hit_of, with_hits, with_cause as cause_with, with_each_cause, age_numbers, cause_events, with_causes as causes_with, stands_of, in_window as window_of, age_at_step as age_step, event_at_each as event_each, hit_at_first as hit_first, hit_at_step as hit_step, landed_at_each as landed_each, events_of};
 ghost use Rattle.xs_staging.specs.CauseOf.{cause_of, event_mode};
 
 use crate::build::{
@@ -39,12 +39,16 @@ pub fn with_causes(
     ensures events { IfOk result (λ s. map mode_of s.events ≡ events_of (model_tree m.now) (map mode_of faults.now) (map cause_of causes.now)) }
 {
     let mut model = m.copy(alloc)?;
-    let mut happenings = FaultList::new(alloc);
     let mut ages = Vec::new(alloc);
-    for cause in causes.as_slice() {
-        ages.push(number_of(model.variables.len())?)?;
-        happenings.push(add_cause(alloc, &mut model, faults.as_slice(), cause)?)?;
-    }
+    let mut happenings = FaultList::new(alloc);
+    add_causes(
+        alloc,
+        &mut model,
+        &mut ages,
+        &mut happenings,
+        faults.as_slice(),
+        causes.as_slice(),
+    )?;
     let mut events = FaultList::new(alloc);
     add_own_events(
         alloc,
@@ -54,10 +58,39 @@ pub fn with_causes(
         causes.as_slice(),
         &ages,
     )?;
-    for happening in happenings.into_vec() {
-        events.push(happening)?;
-    }
+    append_copies(alloc, &mut events, happenings.as_slice())?;
     Ok(Staged { model, events })
+}
+
+/// Appends copies of events.
+fn append_copies(alloc: Global, events: &mut FaultList, more: &[Fault]) -> Result<(), OutOfMemory>
+    ensures { OnOk result (events.new ≡ events.old ++ more.now) }
+{
+    for event in more {
+        events.push(event.copy(alloc)?)?;
+    }
+    Ok(())
+}
+
+/// Adds causes, one after another, and tells the numbers of their ages and their events.
+fn add_causes(
+    alloc: Global,
+    made: &mut FlatModel,
+    ages: &mut Vec<u32>,
+    events: &mut FaultList,
+    faults: &[Fault],
+    causes: &[Cause],
+) -> Result<(), OutOfMemory>
+    requires { Each (IsCauseOf (length faults.now)) (map cause_of causes.now) }
+    ensures model { OnOk result (model_tree made.new ≡ with_each_cause (map mode_of faults.now) (model_tree made.old) (map cause_of causes.now)) }
+    ensures ages { OnOk result (ages.new.items ≡ ages.old.items ++ age_numbers (length made.old.variables) (map cause_of causes.now)) }
+    ensures events { OnOk result (map mode_of events.new ≡ map mode_of events.old ++ cause_events (length made.old.variables) (length made.old.symbols) (map cause_of causes.now)) }
+{
+    for cause in causes {
+        ages.push(number_of(made.variables.len())?)?;
+        events.push(add_cause(alloc, made, faults, cause)?)?;
+    }
+    Ok(())
 }
 
 /// Adds a cause's age, event and hits, and gives its event.
@@ -74,10 +107,28 @@ fn add_cause(
     let age = number_of(made.variables.len())?;
     add_age(alloc, made, cause, age)?;
     let event = add_event(alloc, made, cause, age)?;
-    for (k, strike) in cause.strikes.as_slice().iter().enumerate() {
-        add_hit(alloc, made, faults, cause, age, k + 1, *strike)?;
-    }
+    add_hits(alloc, made, faults, cause, age, cause.strikes.as_slice())?;
     Ok(event)
+}
+
+/// Adds the hits of faults, which are the cause's strikes.
+fn add_hits(
+    alloc: Global,
+    made: &mut FlatModel,
+    faults: &[Fault],
+    cause: &Cause,
+    age: u32,
+    strikes: &[u32],
+) -> Result<(), OutOfMemory>
+    requires { Each (λ i. (0 < i) × (i ≤ length faults.now)) strikes.now }
+    ensures { OnOk result (model_tree made.new ≡ with_hits (map mode_of faults.now) (cause_of cause.now) age 1 strikes.now (model_tree made.old)) }
+{
+    let mut number = 0;
+    for strike in strikes {
+        number += 1;
+        add_hit(alloc, made, faults, cause, age, number, *strike)?;
+    }
+    Ok(())
 }
 
 /// Adds a cause's age.
