@@ -1,2 +1,3 @@
 pub mod CausesRead
 pub mod ReadView
+pub mod FaultPaths

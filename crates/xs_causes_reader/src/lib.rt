@@ -15,8 +15,10 @@
 //! ```
 #![tactic(auto)]
 
+mod added;
 mod fault;
 mod names;
+mod paths;
 mod reader;
 mod rules;
 mod step;

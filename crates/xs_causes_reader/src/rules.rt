@@ -1,12 +1,13 @@
 //! The rules of causes, over the faults of an extension and the names of the woven program.
 
+use crate::added::{add_names, cause_names, is_any_taken, own_names};
 use crate::fault::{CauseFault, CauseRule};
 use crate::names::program_names;
+use crate::paths::{has_double, has_text, is_same_path, names_no_fault};
 use crate::texts::Texts;
-use crate::written::{PathList, Written, WrittenList};
+use crate::written::{Written, WrittenList};
 use std::alloc::Global;
 use xs_flat::{Fault, FaultList};
-use xs_staging::names::{joined, numbered};
 use xs_staging::{Cause, CauseList, NumberList};
 use xs_tree::Program;
 use xs_value::{Name, NameList, OutOfMemory};
@@ -25,168 +26,83 @@ pub(crate) fn lawful(
     written: &WrittenList,
 ) -> Result<CauseList, CauseFault> {
     let mut names = program_names(alloc, w)?;
-    let mut causes = CauseList::new(alloc);
-    for (before, cause) in written.as_slice().iter().enumerate() {
-        let made = judged(alloc, faults, causes.as_slice(), &mut names, before, cause)?;
-        causes.push(made)?;
-    }
+    judge_causes(alloc, faults.as_slice(), written.as_slice(), &mut names)?;
     judge_owns(alloc, faults.len(), &names)?;
-    Ok(causes)
+    Ok(read_causes(alloc, faults.as_slice(), written.as_slice())?)
 }
 
-/// A cause as it is written, after so many others. Its names are put to those that are taken.
-fn judged(
+/// Refuses the first cause that breaks a rule. The names that causes add are put to those that are taken.
+fn judge_causes(
     alloc: Global,
-    faults: &FaultList,
-    causes: &[Cause],
+    faults: &[Fault],
+    written: &[Written],
     names: &mut Texts,
-    before: usize,
-    cause: &Written,
-) -> Result<Cause, CauseFault> {
-    let number = number_of(before)?;
-    let strikes = match strikes_of(alloc, faults, &cause.strikes)? {
-        Some(strikes) => strikes,
-        None => return Err(CauseFault::Broken(CauseRule::NoSuchFault, number)),
-    };
-    if let Some(rule) = broken(faults.len(), causes, before, &strikes, cause) {
-        return Err(CauseFault::Broken(rule, number));
+) -> Result<(), CauseFault> {
+    for i in 0..written.len() {
+        if let Some(rule) = broken(alloc, faults, &written[..i], names, &written[i])? {
+            return Err(CauseFault::Broken(rule, number_of(i + 1)?));
+        }
+        add_names(alloc, names, &cause_names(alloc, &written[i])?)?;
     }
-    let added = names_of(alloc, cause)?;
-    if is_any_taken(names, &added) {
-        return Err(CauseFault::Broken(CauseRule::NameTaken, number));
-    }
-    add_names(alloc, names, &added)?;
-    made(alloc, cause, strikes)
+    Ok(())
 }
 
-/// The number of the cause before which so many stand.
-fn number_of(before: usize) -> Result<u32, OutOfMemory> {
-    match u32::try_from(before) {
-        Ok(before) => before.checked_add(1).ok_or(OutOfMemory),
+/// A count as a number of 32 bits. A larger one counts as want of memory.
+fn number_of(count: usize) -> Result<u32, OutOfMemory> {
+    match u32::try_from(count) {
+        Ok(number) => Ok(number),
         Err(_too_large) => Err(OutOfMemory),
     }
 }
 
-/// The first of the rules from 2 to 6 that a cause breaks.
+/// The first rule that a cause breaks after others.
 fn broken(
-    faults: usize,
-    causes: &[Cause],
-    before: usize,
-    strikes: &NumberList,
-    cause: &Written,
-) -> Option<CauseRule> {
-    if has_cause(causes, &cause.name) {
-        Some(CauseRule::DoubleCause)
-    } else if has_double(strikes.as_slice()) {
-        Some(CauseRule::DoubleStrike)
-    } else if cause.to < cause.from {
-        Some(CauseRule::EmptyWindow)
-    } else if cause.to > WIDEST {
-        Some(CauseRule::TooWide)
-    } else if faults >= MOST_EVENTS || before >= MOST_EVENTS - faults {
-        Some(CauseRule::TooMany)
-    } else {
-        None
-    }
-}
-
-/// A cause that keeps all rules.
-fn made(alloc: Global, cause: &Written, strikes: NumberList) -> Result<Cause, CauseFault> {
-    Ok(Cause {
-        name: cause.name.copy(alloc)?,
-        from: cause.from as u32,
-        to: cause.to as u32,
-        strikes,
-    })
-}
-
-/// The numbers of the faults with these names, where each name is one of a fault.
-fn strikes_of(
     alloc: Global,
-    faults: &FaultList,
-    names: &PathList,
-) -> Result<Option<NumberList>, OutOfMemory> {
-    let mut strikes = NumberList::new(alloc);
-    for name in names.as_slice() {
-        match number_named(faults.as_slice(), name) {
-            Some(number) => strikes.push(number)?,
-            None => return Ok(None),
-        }
+    faults: &[Fault],
+    before: &[Written],
+    names: &Texts,
+    cause: &Written,
+) -> Result<Option<CauseRule>, OutOfMemory> {
+    if names_no_fault(faults, cause.strikes.as_slice()) {
+        Ok(Some(CauseRule::NoSuchFault))
+    } else if has_cause(before, &cause.name) {
+        Ok(Some(CauseRule::DoubleCause))
+    } else if has_double(cause.strikes.as_slice()) {
+        Ok(Some(CauseRule::DoubleStrike))
+    } else {
+        broken_bound(alloc, faults.len(), before.len(), names, cause)
     }
-    Ok(Some(strikes))
 }
 
-/// The number of the fault with this name.
-fn number_named(faults: &[Fault], name: &NameList) -> Option<u32> {
-    for (place, fault) in faults.iter().enumerate() {
-        if is_same_path(fault.name.parts(), name.as_slice()) {
-            return u32::try_from(place + 1).ok();
-        }
+/// The first of the rules from 4 to 7 that a cause breaks, after so many others.
+fn broken_bound(
+    alloc: Global,
+    faults: usize,
+    before: usize,
+    names: &Texts,
+    cause: &Written,
+) -> Result<Option<CauseRule>, OutOfMemory> {
+    if cause.to < cause.from {
+        Ok(Some(CauseRule::EmptyWindow))
+    } else if cause.to > WIDEST {
+        Ok(Some(CauseRule::TooWide))
+    } else if before >= MOST_EVENTS || faults >= MOST_EVENTS - before {
+        Ok(Some(CauseRule::TooMany))
+    } else if is_any_taken(names, &cause_names(alloc, cause)?) {
+        Ok(Some(CauseRule::NameTaken))
+    } else {
+        Ok(None)
     }
-    None
-}
-
-/// Whether both are the same names.
-fn is_same_path(x: &[Name], y: &[Name]) -> bool {
-    if x.len() != y.len() {
-        return false;
-    }
-    for i in 0..x.len() {
-        if !x[i].is_same(&y[i]) {
-            return false;
-        }
-    }
-    true
 }
 
 /// Whether a cause has the name.
-fn has_cause(causes: &[Cause], name: &Name) -> bool {
-    causes.iter().any(|cause| cause.name.is_same(name))
-}
-
-/// Whether a number stands twice.
-fn has_double(numbers: &[u32]) -> bool {
-    for i in 0..numbers.len() {
-        if has_number(&numbers[..i], numbers[i]) {
+fn has_cause(causes: &[Written], name: &Name) -> bool {
+    for cause in causes {
+        if has_text(&cause.name, name) {
             return true;
         }
     }
     false
-}
-
-fn has_number(numbers: &[u32], number: u32) -> bool {
-    numbers.iter().any(|n| *n == number)
-}
-
-/// The names that a cause adds.
-fn names_of(alloc: Global, cause: &Written) -> Result<NameList, OutOfMemory> {
-    let mut names = NameList::new(alloc);
-    let text = cause.name.text();
-    names.push(joined(alloc, text, b"#age")?)?;
-    names.push(joined(alloc, text, b"#event")?)?;
-    names.push(joined(alloc, text, b"#quiet")?)?;
-    names.push(joined(alloc, text, b"#now")?)?;
-    for k in 0..cause.strikes.len() {
-        names.push(numbered(alloc, text, b"#hit#", k + 1)?)?;
-    }
-    Ok(names)
-}
-
-/// Whether some name is among the texts.
-fn is_any_taken(taken: &Texts, names: &NameList) -> bool {
-    for name in names.as_slice() {
-        if taken.has(name.text()) {
-            return true;
-        }
-    }
-    false
-}
-
-fn add_names(alloc: Global, taken: &mut Texts, names: &NameList) -> Result<(), OutOfMemory> {
-    for name in names.as_slice() {
-        taken.add(alloc, name.text())?;
-    }
-    Ok(())
 }
 
 /// Refuses names that are added after all causes, for so many faults, where one is taken.
@@ -199,11 +115,57 @@ fn judge_owns(alloc: Global, faults: usize, taken: &Texts) -> Result<(), CauseFa
     Ok(())
 }
 
-/// The names that are added for the fault of a number.
-fn own_names(alloc: Global, number: usize) -> Result<NameList, OutOfMemory> {
-    let mut names = NameList::new(alloc);
-    names.push(numbered(alloc, b"own#", b"", number)?)?;
-    names.push(numbered(alloc, b"none#", b"", number)?)?;
-    names.push(numbered(alloc, b"self#", b"", number)?)?;
-    Ok(names)
+/// Causes that break no rule, with the faults that they strike by their numbers.
+fn read_causes(
+    alloc: Global,
+    faults: &[Fault],
+    written: &[Written],
+) -> Result<CauseList, OutOfMemory> {
+    let mut causes = CauseList::new(alloc);
+    for cause in written {
+        causes.push(read_cause(alloc, faults, cause)?)?;
+    }
+    Ok(causes)
+}
+
+/// A cause that breaks no rule. A number beyond 32 bits, which such a cause does not have, is want of memory.
+fn read_cause(alloc: Global, faults: &[Fault], cause: &Written) -> Result<Cause, OutOfMemory> {
+    Ok(Cause {
+        name: cause.name.copy(alloc)?,
+        from: small(cause.from)?,
+        to: small(cause.to)?,
+        strikes: strikes_of(alloc, faults, cause.strikes.as_slice())?,
+    })
+}
+
+/// A number of 32 bits.
+fn small(number: u64) -> Result<u32, OutOfMemory> {
+    match u32::try_from(number) {
+        Ok(number) => Ok(number),
+        Err(_too_large) => Err(OutOfMemory),
+    }
+}
+
+/// The numbers of the faults with these names.
+fn strikes_of(
+    alloc: Global,
+    faults: &[Fault],
+    names: &[NameList],
+) -> Result<NumberList, OutOfMemory> {
+    let mut strikes = NumberList::new(alloc);
+    for name in names {
+        strikes.push(fault_named(faults, name)?)?;
+    }
+    Ok(strikes)
+}
+
+/// The number of the fault with this name. A name of no fault, which a cause that breaks no rule does not have, is want of
+/// memory.
+fn fault_named(faults: &[Fault], name: &NameList) -> Result<u32, OutOfMemory> {
+    for (place, fault) in faults.iter().enumerate() {
+        if is_same_path(fault.name.parts(), name.as_slice()) {
+            return number_of(place + 1);
+        }
+    }
+    Err(OutOfMemory)
 }

@@ -1,6 +1,6 @@
 //! The events of faults that begin by themselves.
 
-ghost use Rattle.std.specs.Prelude.{◌≡◌, ◌<◌, ◌≤◌, ◌×◌, ◌++◌, suc, length, map, option_map, IfOk, OnOk};
+ghost use Rattle.std.specs.Prelude.{◌≡◌, ◌<◌, ◌≤◌, ◌++◌, suc, length, map, option_map, IfOk, OnOk};
 ghost use Rattle.xs_tree.specs.Tree.{choice as choice_tree, leaf};
 ghost use Rattle.xs_flattening.specs.Flat.{flat_symbol};
 ghost use Rattle.xs_right.specs.Sets.{has_number as has_number_of};

@@ -1,6 +1,6 @@
 //! The model with causes: each cause's variables, one after another.
 
-ghost use Rattle.std.specs.Prelude.{◌≡◌, ◌<◌, ◌≤◌, ◌×◌, ◌++◌, suc, length, map, IfOk, OnOk};
+ghost use Rattle.std.specs.Prelude.{◌≡◌, ◌<◌, ◌≤◌, ◌++◌, suc, length, map, IfOk, OnOk};
 ghost use Rattle.xs_tree.specs.Trace.{Each};
 ghost use Rattle.xs_scope.specs.ModelTree.{model_tree, formula_tree, flat_tree, mode_of};
 ghost use Rattle.xs_causes.specs.Causes.{IsCauseOf};
