@@ -3,3 +3,5 @@ mod ProgramNames
 mod CausesReads
 mod CausesSpelled
 mod CausesStops
+mod RuleLaws
+mod PathLaws

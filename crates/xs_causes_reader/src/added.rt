@@ -44,13 +44,7 @@ pub(crate) fn own_names(alloc: Global, number: usize) -> Result<NameList, OutOfM
 pub(crate) fn is_any_taken(taken: &Texts, names: &NameList) -> bool
     ensures { result ≡ list_any (λ x. is_among taken.now x) names.now }
 {
-    let names = names.as_slice();
-    for i in 0..names.len() {
-        if taken.has(names[i].text()) {
-            return true;
-        }
-    }
-    false
+    names.as_slice().iter().any(|name| taken.has(name.text()))
 }
 
 /// Adds names to the texts.

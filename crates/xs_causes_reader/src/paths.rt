@@ -35,24 +35,18 @@ pub(crate) fn is_same_path(x: &[Name], y: &[Name]) -> bool
 pub(crate) fn is_path_of(paths: &[NameList], path: &NameList) -> bool
     ensures { result ≡ is_path_among paths.now path.now }
 {
-    for other in paths {
-        if is_same_path(other.as_slice(), path.as_slice()) {
-            return true;
-        }
-    }
-    false
+    paths
+        .iter()
+        .any(|other| is_same_path(other.as_slice(), path.as_slice()))
 }
 
 /// Whether a path is a fault's name.
 pub(crate) fn is_fault_name(faults: &[Fault], path: &NameList) -> bool
     ensures { result ≡ is_path_among (paths_of faults.now) path.now }
 {
-    for fault in faults {
-        if is_same_path(fault.name.parts(), path.as_slice()) {
-            return true;
-        }
-    }
-    false
+    faults
+        .iter()
+        .any(|fault| is_same_path(fault.name.parts(), path.as_slice()))
 }
 
 /// Whether some path stands twice.
@@ -71,10 +65,5 @@ pub(crate) fn has_double(paths: &[NameList]) -> bool
 pub(crate) fn names_no_fault(faults: &[Fault], paths: &[NameList]) -> bool
     ensures { result ≡ list_any (λ p. not (is_path_among (paths_of faults.now) p)) paths.now }
 {
-    for path in paths {
-        if !is_fault_name(faults, path) {
-            return true;
-        }
-    }
-    false
+    paths.iter().any(|path| !is_fault_name(faults, path))
 }

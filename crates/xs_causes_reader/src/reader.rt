@@ -1,10 +1,14 @@
 //! The call: tokens, then the causes that they spell, then the rules.
 
-ghost use Rattle.std.specs.Prelude.{◌≡◌, ◌<◌, ◌^◌, List, [], length, IfOk, IfErr};
+ghost use Rattle.std.specs.Prelude.{◌≡◌, ◌<◌, ◌^◌, List, [], length, map, IfOk, IfErr};
+ghost use Rattle.xs_tree.specs.ProgramTree.{program_tree};
+ghost use Rattle.xs_weave.specs.Faults.{Fault as WovenFault};
 ghost use Rattle.xs_parse.specs.Stops.{FaultMeans};
 ghost use Rattle.xs_causes.specs.CausesText.{WrittenCause, BytesSpellCauses};
+ghost use Rattle.xs_staging.specs.CauseOf.{cause_of};
 ghost use Rattle.xs_causes_reader.specs.CausesRead.{IsCauses};
 ghost use Rattle.xs_causes_reader.specs.ReadView.{written_trees, ReadsTo};
+ghost use Rattle.xs_causes_reader.specs.Read.{AreNamed, AreRead, FaultSays};
 
 use crate::fault::CauseFault;
 use crate::rules::lawful;
@@ -67,6 +71,8 @@ pub fn read_causes(
     w: &Program,
 ) -> Result<CauseList, CauseFault>
     requires { length bytes.now < 2 ^ 32 }
+    ensures read { IfOk result (λ causes. (woven : List WovenFault) → AreNamed faults.now woven → AreRead woven (program_tree w.now) bytes.now (map cause_of causes)) }
+    ensures fault { IfErr result (λ fault. (woven : List WovenFault) → AreNamed faults.now woven → FaultSays woven (program_tree w.now) bytes.now fault) }
 {
     match written_causes(alloc, bytes) {
         Ok(written) => lawful(alloc, faults, w, &written),
