@@ -224,11 +224,11 @@ module _ (all : List WrittenCause) where
       let w = n.behind in let f = w.behind in let d = f.behind in let l = d.behind in let s = l.behind in let p = s.behind in let r = p.behind in
       let c : WrittenCause = cause_read n.name f.number l.number (p.more ∷ p.others) in
       let one : SpellsCause (word (codes "CAUSE") ∷ word n.name ∷ word (codes "WITHIN") ∷ num f.number f.digits ∷ sign k.Dots ∷ num l.number l.digits ∷ word (codes "STRIKES") ∷ (p.front ++ sign k.Semicolon ∷ [])) c =
-          a_cause n.plain (commas_of p.left) in
+      a_cause n.plain (commas_of p.left) in
       let behind : p.front ++ sign k.Semicolon ∷ p.rest ≡ (p.front ++ sign k.Semicolon ∷ []) ++ p.rest = sym (append_assoc p.front (sign k.Semicolon ∷ []) p.rest) in
       let order : ts ≡ word n.name ∷ word (codes "WITHIN") ∷ num f.number f.digits ∷ sign k.Dots ∷ num l.number l.digits ∷ word (codes "STRIKES") ∷ ((p.front ++ sign k.Semicolon ∷ []) ++ p.rest) =
-          n.in_order ∙ ap (λ z. word n.name ∷ z) (w.in_order ∙ ap (λ z. word (codes "WITHIN") ∷ z) (f.in_order ∙ ap (λ z. num f.number f.digits ∷ z) (d.in_order ∙ ap (λ z. sign k.Dots ∷ z)
-          (l.in_order ∙ ap (λ z. num l.number l.digits ∷ z) (s.in_order ∙ ap (λ z. word (codes "STRIKES") ∷ z) (p.in_order ∙ behind)))))) in
+      n.in_order ∙ ap (λ z. word n.name ∷ z) (w.in_order ∙ ap (λ z. word (codes "WITHIN") ∷ z) (f.in_order ∙ ap (λ z. num f.number f.digits ∷ z) (d.in_order ∙ ap (λ z. sign k.Dots ∷ z)
+      (l.in_order ∙ ap (λ z. num l.number l.digits ∷ z) (s.in_order ∙ ap (λ z. word (codes "STRIKES") ∷ z) (p.in_order ∙ behind)))))) in
       record {
         causes = c ∷ r.causes;
         spelled = subst (λ z. SpellsCauses (word (codes "CAUSE") ∷ z) (c ∷ r.causes)) (sym order) (one_more one r.spelled);

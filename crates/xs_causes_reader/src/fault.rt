@@ -1,5 +1,8 @@
 //! Why bytes are no causes of an extension.
 
+ghost use Rattle.std.specs.Prelude.{◌≡◌};
+ghost use Rattle.xs_causes_reader.specs.declared.fault.CauseFault.TheVariants as fault;
+
 use xs_parse::ParseFault;
 use xs_value::OutOfMemory;
 
@@ -32,6 +35,8 @@ pub enum CauseFault {
 }
 
 impl From<OutOfMemory> for CauseFault {
+    ghost from_gives = { λ _ made. made ≡ fault.OutOfMemory };
+
     fn from(_refused: OutOfMemory) -> CauseFault {
         CauseFault::OutOfMemory
     }

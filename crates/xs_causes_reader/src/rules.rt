@@ -47,7 +47,7 @@ pub(crate) fn lawful(
     let mut names = program_names(alloc, w)?;
     judge_causes(alloc, faults.as_slice(), written.as_slice(), &mut names)?;
     judge_owns(alloc, faults.len(), &names)?;
-    Ok(read_causes(alloc, faults.as_slice(), written.as_slice())?)
+    Ok(numbered_causes(alloc, faults.as_slice(), written.as_slice())?)
 }
 
 /// Refuses the first cause that breaks a rule. The names that causes add are put to those that are taken.
@@ -145,7 +145,7 @@ fn judge_owns(alloc: Global, faults: usize, taken: &Texts) -> Result<(), CauseFa
 }
 
 /// Causes that break no rule, with the faults that they strike by their numbers.
-fn read_causes(
+fn numbered_causes(
     alloc: Global,
     faults: &[Fault],
     written: &[Written],
@@ -154,13 +154,13 @@ fn read_causes(
 {
     let mut causes = CauseList::new(alloc);
     for cause in written {
-        causes.push(read_cause(alloc, faults, cause)?)?;
+        causes.push(numbered_cause(alloc, faults, cause)?)?;
     }
     Ok(causes)
 }
 
 /// A cause that breaks no rule. A number beyond 32 bits, which such a cause does not have, is want of memory.
-fn read_cause(alloc: Global, faults: &[Fault], cause: &Written) -> Result<Cause, OutOfMemory>
+fn numbered_cause(alloc: Global, faults: &[Fault], cause: &Written) -> Result<Cause, OutOfMemory>
     ensures { IfOk result (λ made. IsReadIn (paths_of faults.now) (written_tree cause.now) (cause_of made)) }
 {
     Ok(Cause {

@@ -114,11 +114,7 @@ fn to_step(name: Name, from: u64, token: &TokenText) -> Option<State>
 }
 
 /// After the token where `STRIKES` comes.
-fn strikes_step(
-    alloc: Global,
-    head: Head,
-    token: &TokenText,
-) -> Result<Option<State>, OutOfMemory>
+fn strikes_step(alloc: Global, head: Head, token: &TokenText) -> Result<Option<State>, OutOfMemory>
     ensures { IfOk result (λ next. option_map stage_of next ≡ stage_where (is_word token.now (codes "STRIKES")) (part head.name head.from head.to [] [])) }
 {
     let to = State::Part(head, PathList::new(alloc), NameList::new(alloc));

@@ -73,11 +73,7 @@ pub(crate) fn choice(
 ) -> Result<Expr<Flat>, OutOfMemory>
     ensures { IfOk result (λ made. flat_tree made ≡ choice_tree (flat_tree condition) (flat_tree a) (flat_tree b)) }
 {
-    Ok(Expr::Choice(
-        boxed(alloc, condition)?,
-        boxed(alloc, a)?,
-        boxed(alloc, b)?,
-    ))
+    Ok(Expr::Choice(boxed(alloc, condition)?, boxed(alloc, a)?, boxed(alloc, b)?))
 }
 
 /// The set of one expression.

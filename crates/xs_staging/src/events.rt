@@ -68,8 +68,10 @@ fn add_own_event(
     made.symbols.push(numbered(alloc, b"none#", b"", place)?)?;
     made.symbols.push(numbered(alloc, b"self#", b"", place)?)?;
     let mark = Marked { own, none, itself };
-    made.init.push(own_at_first(alloc, faults, causes, ages, number, mark)?)?;
-    made.trans.push(own_at_step(alloc, faults, causes, ages, number, mark)?)?;
+    made.init
+        .push(own_at_first(alloc, faults, causes, ages, number, mark)?)?;
+    made.trans
+        .push(own_at_step(alloc, faults, causes, ages, number, mark)?)?;
     Ok(Fault {
         name: faults[number as usize - 1].name.copy(alloc)?,
         variable: own,

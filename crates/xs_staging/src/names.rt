@@ -16,12 +16,7 @@ pub fn joined(alloc: Global, text: &[u8], end: &[u8]) -> Result<Name, OutOfMemor
 }
 
 /// A text with another and a number behind it, as a name.
-pub fn numbered(
-    alloc: Global,
-    text: &[u8],
-    end: &[u8],
-    number: usize,
-) -> Result<Name, OutOfMemory>
+pub fn numbered(alloc: Global, text: &[u8], end: &[u8], number: usize) -> Result<Name, OutOfMemory>
     ensures { IfOk result (λ made. made ≡ text.now ++ (end.now ++ decimal number)) }
 {
     let mut bytes = Items::from_slice(alloc, text)?;

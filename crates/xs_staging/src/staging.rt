@@ -8,12 +8,12 @@ ghost use Rattle.xs_causes.specs.Staged.{with_age as age_of, with_event as event
 ghost use Rattle.xs_staging.specs.CauseOf.{cause_of, event_mode};
 
 use crate::build::{
-    added, binary, choice, next, only, state, symbol, two_symbols, value, whole,
-    within, within_next, zero_or_one,
+    added, binary, choice, next, only, state, symbol, two_symbols, value, whole, within,
+    within_next, zero_or_one,
 };
 use crate::cause::{Cause, CauseList};
-use crate::names::{joined, numbered};
 use crate::events::add_own_events;
+use crate::names::{joined, numbered};
 use std::alloc::Global;
 use xs_flat::{Fault, FaultList, Flat, FlatModel, Formula};
 use xs_scope::items::number_of;
@@ -180,7 +180,8 @@ fn add_event(
     made.variables.push(variable)?;
     made.symbols.push(joined(alloc, text, b"#quiet")?)?;
     made.symbols.push(joined(alloc, text, b"#now")?)?;
-    made.invar.push(event_at_each(alloc, event, age, quiet, now)?)?;
+    made.invar
+        .push(event_at_each(alloc, event, age, quiet, now)?)?;
     let name = Dotted::new(alloc, cause.name.copy(alloc)?)?;
     Ok(Fault {
         name,
@@ -222,9 +223,11 @@ fn add_hit(
     let hit = number_of(made.variables.len())?;
     let name = numbered(alloc, cause.name.text(), b"#hit#", number)?;
     made.variables.push(state(alloc, name, Declared::Boolean)?)?;
-    made.init.push(hit_at_first(alloc, faults, cause, hit, age, fault)?)?;
+    made.init
+        .push(hit_at_first(alloc, faults, cause, hit, age, fault)?)?;
     made.invar.push(landed_at_each(alloc, cause, hit, age)?)?;
-    made.trans.push(hit_at_step(alloc, faults, cause, hit, age, fault)?)
+    made.trans
+        .push(hit_at_step(alloc, faults, cause, hit, age, fault)?)
 }
 
 /// That a hit is TRUE at first where the fault stands in the window.
@@ -283,10 +286,19 @@ pub(crate) fn in_window(alloc: Global, cause: &Cause, age: u32) -> Result<Expr<F
 }
 
 /// That the mode of the fault of a number stands.
-pub(crate) fn stands(alloc: Global, faults: &[Fault], number: u32) -> Result<Expr<Flat>, OutOfMemory>
+pub(crate) fn stands(
+    alloc: Global,
+    faults: &[Fault],
+    number: u32,
+) -> Result<Expr<Flat>, OutOfMemory>
     requires { (0 < number) × (number ≤ length faults.now) }
     ensures { IfOk result (λ e. flat_tree e ≡ stands_of (map mode_of faults.now) number) }
 {
     let fault = &faults[number as usize - 1];
-    binary(alloc, Op::Equal, value(fault.variable), symbol(fault.symbol))
+    binary(
+        alloc,
+        Op::Equal,
+        value(fault.variable),
+        symbol(fault.symbol),
+    )
 }
