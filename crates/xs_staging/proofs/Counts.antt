@@ -104,10 +104,12 @@ module _ (fs : List Mode) (cs : List CommonCause) (ages : List ℕ) where
         ∙ sym (ap (λ z. events ++ own_events (length m.variables) (length m.symbols) z) own_left) ∙ rest
 
 -- a hit more
-pub hits_next : (fs : List Mode) (c : CommonCause) (age : ℕ) (is : List ℕ) (i d : ℕ) (m m' all : FlatModel) → i < length is → m' ≡ with_hit fs c age (suc i) (get_or is i d) m →
-    with_hits fs c age (suc i) (drop i is) m ≡ all → with_hits fs c age (suc (suc i)) (drop (i + 1) is) m' ≡ all
+pub hits_next : (fs : List Mode) (c : CommonCause) (age : ℕ) (is : List ℕ) (i d : ℕ) (m m' all : FlatModel) → i < length is → m' ≡ with_hit fs c age (i + 1) (get_or is i d) m →
+    with_hits fs c age (i + 1) (drop i is) m ≡ all → with_hits fs c age (i + 1 + 1) (drop (i + 1) is) m' ≡ all
 hits_next fs c age is i d m m' all within step rest =
-    ap (λ z. with_hits fs c age (suc (suc i)) (drop (i + 1) is) z) step ∙ sym (ap (λ z. with_hits fs c age (suc i) z m) (drop_more is i d within)) ∙ rest
+    let one : i + 1 + 1 ≡ suc (i + 1) = omega arith in
+    ap (λ z. with_hits fs c age (i + 1 + 1) (drop (i + 1) is) z) step ∙ ap (λ n. with_hits fs c age n (drop (i + 1) is) (with_hit fs c age (i + 1) (get_or is i d) m)) one
+    ∙ sym (ap (λ z. with_hits fs c age (i + 1) z m) (drop_more is i d within)) ∙ rest
 
 -- a window more
 module _ (fault : ℕ) {A : Type 0} (f : A → CommonCause) (xs : List A) (ages : List ℕ) (i : ℕ) (d : A) (e : ℕ) (within : i < length xs) (within_ages : i < length ages) where
@@ -148,3 +150,12 @@ pub each_map_get : {A B : Type 0} (P : B → Type 0) (f : A → B) (xs : List A)
 each_map_get P f [] i d e h = absurd (omega (arith, h))
 each_map_get P f (x ∷ xs) 0 d e h = e.0
 each_map_get P f (x ∷ xs) (suc i) d e h = each_map_get P f xs i d e.1 (omega (arith, h))
+
+pub map_push : {A B : Type 0} (f : A → B) (xs : List A) (x : A) → map f (xs ++ x ∷ []) ≡ map f xs ++ f x ∷ []
+map_push f [] x = refl
+map_push f (y ∷ xs) x = ap (λ ys. f y ∷ ys) (map_push f xs x)
+
+-- a member of a list that has a place
+pub first_of : {A : Type 0} (xs : List A) (i : ℕ) → i < length xs → A
+first_of [] i h = absurd (omega (arith, h))
+first_of (x ∷ xs) i h = x

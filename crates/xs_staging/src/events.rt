@@ -31,7 +31,7 @@ pub(crate) fn add_own_events(
 ) -> Result<(), OutOfMemory>
     requires ages { length ages.now ≡ length causes.now }
     ensures model { OnOk result (model_tree made.new ≡ with_owns (map mode_of faults.now) (map cause_of causes.now) ages.now 1 (map mode_of faults.now) (model_tree made.old)) }
-    ensures events { OnOk result (map mode_of events.new ≡ map mode_of events.old ++ own_events (length made.old.variables) (length made.old.symbols) (map mode_of faults.now)) }
+    ensures events { OnOk result (map mode_of events.new ≡ map mode_of events.old ++ own_events (length (model_tree made.old).variables) (length (model_tree made.old).symbols) (map mode_of faults.now)) }
 {
     for i in 0..faults.len() {
         let number = number_of(i + 1)?;
@@ -52,7 +52,7 @@ fn add_own_event(
     requires number { (0 < number) × (number ≤ length faults.now) }
     requires ages { length ages.now ≡ length causes.now }
     ensures model { OnOk result (model_tree made.new ≡ own_with (map mode_of faults.now) (map cause_of causes.now) ages.now number (model_tree made.old)) }
-    ensures event { IfOk result (λ f. mode_of f ≡ record { variable = length made.old.variables; symbol = suc (length made.old.symbols) }) }
+    ensures event { IfOk result (λ f. mode_of f ≡ record { variable = length (model_tree made.old).variables; symbol = suc (length (model_tree made.old).symbols) }) }
 {
     let own = number_of(made.variables.len())?;
     let none = number_of(made.symbols.len())?;

@@ -83,8 +83,8 @@ fn add_causes(
 ) -> Result<(), OutOfMemory>
     requires { Each (IsCauseOf (length faults.now)) (map cause_of causes.now) }
     ensures model { OnOk result (model_tree made.new ≡ with_each_cause (map mode_of faults.now) (model_tree made.old) (map cause_of causes.now)) }
-    ensures ages { OnOk result (ages.new.items ≡ ages.old.items ++ age_numbers (length made.old.variables) (map cause_of causes.now)) }
-    ensures events { OnOk result (map mode_of events.new ≡ map mode_of events.old ++ cause_events (length made.old.variables) (length made.old.symbols) (map cause_of causes.now)) }
+    ensures ages { OnOk result (ages.new.items ≡ ages.old.items ++ age_numbers (length (model_tree made.old).variables) (map cause_of causes.now)) }
+    ensures events { OnOk result (map mode_of events.new ≡ map mode_of events.old ++ cause_events (length (model_tree made.old).variables) (length (model_tree made.old).symbols) (map cause_of causes.now)) }
 {
     for cause in causes {
         ages.push(number_of(made.variables.len())?)?;
@@ -123,17 +123,15 @@ fn add_hits(
     requires { Each (λ i. (0 < i) × (i ≤ length faults.now)) strikes.now }
     ensures { OnOk result (model_tree made.new ≡ with_hits (map mode_of faults.now) (cause_of cause.now) age 1 strikes.now (model_tree made.old)) }
 {
-    let mut number = 0;
-    for strike in strikes {
-        number += 1;
-        add_hit(alloc, made, faults, cause, age, number, *strike)?;
+    for i in 0..strikes.len() {
+        add_hit(alloc, made, faults, cause, age, i + 1, strikes[i])?;
     }
     Ok(())
 }
 
 /// Adds a cause's age.
 fn add_age(alloc: Global, made: &mut FlatModel, cause: &Cause, age: u32) -> Result<(), OutOfMemory>
-    requires { age ≡ length made.old.variables }
+    requires { age ≡ length (model_tree made.old).variables }
     ensures { OnOk result (model_tree made.new ≡ age_of (model_tree made.old) (cause_of cause.now)) }
 {
     let name = joined(alloc, cause.name.text(), b"#age")?;
@@ -165,7 +163,7 @@ fn add_event(
     age: u32,
 ) -> Result<Fault, OutOfMemory>
     ensures model { OnOk result (model_tree made.new ≡ event_of (model_tree made.old) (cause_of cause.now) age) }
-    ensures event { IfOk result (λ f. mode_of f ≡ record { variable = length made.old.variables; symbol = suc (length made.old.symbols) }) }
+    ensures event { IfOk result (λ f. mode_of f ≡ record { variable = length (model_tree made.old).variables; symbol = suc (length (model_tree made.old).symbols) }) }
 {
     let event = number_of(made.variables.len())?;
     let quiet = number_of(made.symbols.len())?;
