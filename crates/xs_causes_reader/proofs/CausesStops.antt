@@ -132,7 +132,7 @@ check_stops bytes tokens ts i f split same within on off fault = go (slice_get t
 -- the answer where reading stops at no token, and nothing is spelled
 pub check_ends : (bytes : List ℕ) (tokens : List Token) (ts : List Lexeme) (at : ℕ) (r : ReadSoFar) → HasTokens bytes tokens → ts ≡ lexemes_of bytes tokens → at ≡ length bytes →
     read_of ts ≡ Some r → is_start r.stage ≡ false → Unfinished IsCauses bytes at
-check_ends bytes tokens ts at r split same place reads open =
+check_ends bytes tokens ts at r split same place reads unended =
     let here : read_of (lexemes_of bytes tokens) ≡ Some r = subst (λ z. read_of z ≡ Some r) same reads in
     record {
       tokens = tokens;
@@ -143,7 +143,7 @@ check_ends bytes tokens ts at r split same place reads open =
           let whole : read_of (lexemes_of bytes tokens) ≡ Some (so_far start spelled.0) = causes_are_read [] spelled.1 in
           let both : Some r ≡ Some (so_far start spelled.0) = sym here ∙ whole in
           let one : r ≡ so_far start spelled.0 = cc in
-          let clash : false ≡ true = sym open ∙ ap (λ z. is_start z.stage) one in cc;
+          let clash : false ≡ true = sym unended ∙ ap (λ z. is_start z.stage) one in cc;
     }
 
 -- a text that is read to its end spells the causes, and no others
