@@ -1,5 +1,5 @@
 -- How many variables and symbols causes add, and one cause more.
-use Rattle.std.proofs.Common.{◌≡◌, ℕ, suc, ◌+◌, ◌<◌, Bool, true, false, List, [], ◌∷◌, ◌++◌, Option, Some, None, length, map, drop, get_or, refl, sym, ◌∙◌, ap, arith}
+use Rattle.std.proofs.Common.{◌≡◌, ℕ, zero, suc, ◌+◌, ◌<◌, Bool, true, false, List, [], ◌∷◌, ◌++◌, Option, Some, None, length, map, drop, get_or, refl, sym, ◌∙◌, ap, arith}
 use Rattle.std.specs.Prelude.{if◌then◌else◌}
 use Rattle.std.proofs.lemmas.List.{length-append, append-nil, append_assoc, drop_more}
 use Rattle.xs_tree.specs.Tree.{Tree}
@@ -42,7 +42,7 @@ module _ (fs : List Mode) (c : CommonCause) where
 -- a fact of each member holds of the one at a place
 pub each_get : {A : Type 0} (P : A → Type 0) (xs : List A) (i : ℕ) (d : A) → Each P xs → i < length xs → P (get_or xs i d)
 each_get P [] i d e h = absurd (omega (arith, h))
-each_get P (x ∷ xs) 0 d e h = e.0
+each_get P (x ∷ xs) zero d e h = e.0
 each_get P (x ∷ xs) (suc i) d e h = each_get P xs i d e.1 (omega (arith, h))
 
 -- one cause more in the loop over causes
@@ -148,7 +148,7 @@ module _ (fault : ℕ) {A : Type 0} (f : A → CommonCause) (xs : List A) (ages 
 -- a fact of what is made of each member holds at a place
 pub each_map_get : {A B : Type 0} (P : B → Type 0) (f : A → B) (xs : List A) (i : ℕ) (d : A) → Each P (map f xs) → i < length xs → P (f (get_or xs i d))
 each_map_get P f [] i d e h = absurd (omega (arith, h))
-each_map_get P f (x ∷ xs) 0 d e h = e.0
+each_map_get P f (x ∷ xs) zero d e h = e.0
 each_map_get P f (x ∷ xs) (suc i) d e h = each_map_get P f xs i d e.1 (omega (arith, h))
 
 pub map_push : {A B : Type 0} (f : A → B) (xs : List A) (x : A) → map f (xs ++ x ∷ []) ≡ map f xs ++ f x ∷ []

@@ -123,8 +123,8 @@ fn add_hits(
     requires { Each (λ i. (0 < i) × (i ≤ length faults.now)) strikes.now }
     ensures { OnOk result (model_tree made.new ≡ with_hits (map mode_of faults.now) (cause_of cause.now) age 1 strikes.now (model_tree made.old)) }
 {
-    for i in 0..strikes.len() {
-        add_hit(alloc, made, faults, cause, age, i + 1, strikes[i])?;
+    for (k, strike) in strikes.iter().enumerate() {
+        add_hit(alloc, made, faults, cause, age, k + 1, *strike)?;
     }
     Ok(())
 }
