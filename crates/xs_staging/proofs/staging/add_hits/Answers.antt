@@ -16,4 +16,4 @@ loop-k-preserved c =
     ≡ with_hit (map mode_of c.args.faults.now) (cause_of c.args.cause.now) c.args.age (c.loop-k.k + 1) (get_or c.args.strikes.now c.loop-k.k c.index-strikes-k.result) (model_tree c.loop-k.made) =
     c.in_ok-add_hit.ensures ∙ ap (λ z. with_hit (map mode_of c.args.faults.now) (cause_of c.args.cause.now) c.args.age (c.loop-k.k + 1) z (model_tree c.loop-k.made)) c.index-strikes-k.is in
     hits_next (map mode_of c.args.faults.now) (cause_of c.args.cause.now) c.args.age c.args.strikes.now c.loop-k.k c.index-strikes-k.result (model_tree c.loop-k.made) (model_tree c.add_hit.new.made)
-    (with_hits (map mode_of c.args.faults.now) (cause_of c.args.cause.now) c.args.age 1 c.args.strikes.now (model_tree c.args.made.now)) c.loop-k-test.true step c.loop-k.knvariant
+    (with_hits (map mode_of c.args.faults.now) (cause_of c.args.cause.now) c.args.age 1 c.args.strikes.now (model_tree c.args.made.now)) c.loop-k-test.true step c.loop-k.invariant
