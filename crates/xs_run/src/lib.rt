@@ -31,7 +31,7 @@ mod report;
 pub mod run;
 pub mod search;
 pub mod status;
-mod top;
+pub mod top;
 pub mod tops;
 mod trace;
 pub mod wrong;

@@ -45,7 +45,7 @@ pub struct Limited {
 }
 
 /// The extension of a model by the instructions of a file.
-pub(crate) fn load_case<D: Desk>(
+pub fn load_case<D: Desk>(
     alloc: Global,
     desk: &mut D,
     name: &str,
@@ -109,7 +109,7 @@ fn within_limits(alloc: Global, woven: Woven) -> Result<Limited, Wrong>
 }
 
 /// The flat model of an extension with its kinds.
-fn typed_whole(alloc: Global, flat: FlatModel) -> Result<Typed, Wrong>
+pub fn typed_whole(alloc: Global, flat: FlatModel) -> Result<Typed, Wrong>
     ensures model { IfOk result (λ t. t.model ≡ flat) }
     ensures typed { OnOk result (IsTyped (model_tree flat)) }
     ensures wrong { IfErr result (IfRefused (BreaksKinds (model_tree flat))) }

@@ -27,7 +27,7 @@ pub struct LoadedModel {
 }
 
 /// The model of a file.
-pub(crate) fn load_model<D: Desk>(
+pub fn load_model<D: Desk>(
     alloc: Global,
     desk: &mut D,
     name: &str,

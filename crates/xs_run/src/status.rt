@@ -217,7 +217,7 @@ fn append_place(
 }
 
 /// The part as the line names it, with a space after it.
-fn part_name(part: Part) -> &'static [u8]
+pub fn part_name(part: Part) -> &'static [u8]
     ensures { result.now ≡ part_text part }
 {
     match part {

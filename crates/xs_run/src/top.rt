@@ -33,7 +33,7 @@ use xs_value::Dotted;
 const TOP_LIMIT: usize = 65_536;
 
 /// The top event that a word spells, over the flat model of the extension.
-pub(crate) fn load_top(
+pub fn load_top(
     alloc: Global,
     word: &str,
     model: &LoadedModel,
