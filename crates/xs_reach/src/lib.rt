@@ -5,7 +5,8 @@
 //!
 //! The files stand in the order of the work: `status` (how a run ends, and what a refusal says), `stop` (why the work
 //! can't go on), `report` (what is said), `odds` (bounds on probabilities), `causes` (common causes), `orders` (orders
-//! of faults) and `reach`. The words are read in `xs_reach_words`.
+//! of faults, with `pair`, what is asked of two faults, and `verdict`, what is said of them) and `reach`. The words are read
+//! in `xs_reach_words`.
 //!
 //! ```text
 //! odds --model lamp.smv --faults lamp.fei --top '!on' --depth 4
@@ -15,7 +16,9 @@
 pub mod causes;
 pub mod odds;
 pub mod orders;
+mod pair;
 pub mod reach;
 pub mod report;
 pub mod status;
 pub mod stop;
+mod verdict;

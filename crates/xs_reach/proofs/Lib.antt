@@ -1,0 +1,2 @@
+mod StagedCases
+mod PairLaws
