@@ -102,7 +102,14 @@ fn answer_of(
     let other = search(alloc, staged, Some(relation), depth, panel)?;
     let traces: &TraceList = &other.analysis.traces;
     if traces.is_empty() {
-        return concluded(alloc, staged, depth, &Verdict::Each(relation), &other, panel);
+        return concluded(
+            alloc,
+            staged,
+            depth,
+            &Verdict::Each(relation),
+            &other,
+            panel,
+        );
     }
     differing(alloc, staged, trace, traces.at(0))
 }
@@ -214,7 +221,12 @@ fn differing(
     let variables = staged.case.limited.typed.model().variables.len();
     let one = cut(alloc, one, variables)?;
     let other = cut(alloc, other, variables)?;
-    let report = report(alloc, staged, &Verdict::Either(one, other), Ending::Complete)?;
+    let report = report(
+        alloc,
+        staged,
+        &Verdict::Either(one, other),
+        Ending::Complete,
+    )?;
     Ok(Answer {
         cert: None,
         report,
@@ -360,7 +372,7 @@ fn judged(
 
 /// The end of the work where a line of a certificate breaks a rule.
 fn line_stop(line: u64, rule: u32) -> Stop {
-    Stop::Refused(Refusal::Shared(shared::Refusal::NotAccepted(
-        shared::Objection::Line(line, rule),
-    )))
+    Stop::Refused(Refusal::Shared(shared::Refusal::NotAccepted(shared::Objection::Line(
+        line, rule,
+    ))))
 }
