@@ -5,6 +5,7 @@ use Rattle.std.proofs.lemmas.List.{length-map}
 use Rattle.xs_tree.specs.Tree.{Tree}
 use Rattle.xs_scope.specs.ModelTree.{model_tree, mode_of, flat_tree, variable_tree}
 use Rattle.xs_scope.specs.declared.model.Fault.{Fault}
+use Rattle.xs_scope.specs.declared.model.FlatModel.{FlatModel as Model}
 use Rattle.xs_flattening.specs.Flat.{FlatLeaf, FlatModel}
 use Rattle.xs_flattening.specs.History.{Mode, with_history}
 use Rattle.xs_flattening.proofs.HistoryLaws.{no_bits}
@@ -24,7 +25,9 @@ use Rattle.xs_encoding.specs.Lists.{system_of}
 use Rattle.xs_cutting.specs.Found.{sets_of, traces_of}
 use Rattle.xs_cuts.specs.Answer.{IsAnswer}
 use Rattle.xs_cuts.specs.Progress.{CodeFound}
-use Rattle.xs_cuts.specs.declared.answer.End.TheVariants.{Complete}
+use Rattle.xs_cuts.specs.declared.answer.End.TheVariants.{Complete, Bounded}
+use Rattle.xs_cuts.specs.declared.answer.End.{End}
+use Rattle.xs_check.specs.Fit.{IsProvable}
 use Rattle.xs_certify.specs.Certifiable.{IsCertifiable, IsCompleteAnswer}
 use Rattle.xs_reach.specs.declared.orders.Searched.{Searched}
 use Rattle.xs_reach.specs.Claimed.{HasFew, SpeaksFor, IsSomeSearch}
@@ -99,3 +102,36 @@ module _ (s : StagedCase) (depth : ℕ) (r : Searched) (is : IsSomeSearch s dept
         small = omega (arith, answer.size_is);
         printable = λ some. absurd (some no_sets);
       }
+
+-- an end that is not bounded is complete
+complete_end : (e : End) → ((k : ℕ) → e ≡ Bounded k → ⊥) → (clauses : List (List Literal)) × (e ≡ Complete clauses)
+complete_end (Complete clauses) h = (clauses, refl)
+complete_end (Bounded k) h = absurd (h k refl)
+
+-- ---- a model without faults
+
+pub alone : (m : FlatModel) (faults : List Fault) → faults ≡ [] → m ≡ with_history m (map mode_of faults)
+alone m faults none = subst (λ (fs : List Fault). m ≡ with_history m (map mode_of fs)) (sym none) (sym (no_bits m))
+
+pub searchable_alone : (m : FlatModel) (e : Tree FlatLeaf) (faults : List Fault) → faults ≡ [] → IsSearchable m [] e → IsSearchable m (map mode_of faults) e
+searchable_alone m e faults none h = subst (λ (fs : List Fault). IsSearchable m (map mode_of fs) e) (sym none) h
+
+pub provable_alone : (m : FlatModel) (e : Tree FlatLeaf) (faults : List Fault) → faults ≡ [] → IsSearchable m [] e → IsProvable m (map mode_of faults) e
+provable_alone m e faults none h = subst (λ (fs : List Fault). IsProvable m (map mode_of fs) e) (sym none) (record { encodable = h.encodable; fits = h.fits })
+
+module _ (s : StagedCase) (depth : ℕ) (r : Searched) (is : IsSomeSearch s depth r) (none : length r.analysis.traces ≡ 0) where
+  pub certifiable_alone : (faults : List Fault) → faults ≡ [] → IsCertifiable (model_tree s.typed.model) (map mode_of faults) (flat_tree r.top)
+  certifiable_alone faults empty = subst (λ (fs : List Fault). IsCertifiable (model_tree s.typed.model) (map mode_of fs) (flat_tree r.top)) (sym empty) (is_certifiable s depth r is none)
+
+  pub complete_alone : (faults : List Fault) → faults ≡ [] → ((k : ℕ) → r.analysis.end ≡ Bounded k → ⊥) → IsCompleteAnswer (model_tree s.typed.model) (map mode_of faults) (flat_tree r.top) r.analysis
+  complete_alone faults empty complete =
+      let clauses = complete_end r.analysis.end complete in
+      subst (λ (fs : List Fault). IsCompleteAnswer (model_tree s.typed.model) (map mode_of fs) (flat_tree r.top) r.analysis) (sym empty) (is_complete s depth r is none clauses.0 clauses.1)
+
+-- what was made of a staged case speaks against the claim
+pub speaks_of : (s : StagedCase) (claim : Option Relation) (m : Model) (n : ℕ) (set : List ℕ) → m ≡ s.typed.model → n ≡ length s.case.limited.faults → set ≡ s.set.items → (e : Tree FlatLeaf) →
+    e ≡ against (model_tree m) n (flat_tree s.top) set claim → SpeaksFor s claim e
+speaks_of s claim m n set is_model is_count is_set e is =
+    is ∙ ap (λ (k : Model). against (model_tree k) n (flat_tree s.top) set claim) is_model
+    ∙ ap (λ k. against (model_tree s.typed.model) k (flat_tree s.top) set claim) is_count
+    ∙ ap (λ k. against (model_tree s.typed.model) (length s.case.limited.faults) (flat_tree s.top) k claim) is_set

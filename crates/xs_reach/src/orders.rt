@@ -138,8 +138,13 @@ fn search(
 fn are_few(staged: &StagedCase) -> bool
     ensures { IsTrue result → HasFew staged.now }
 {
-    staged.case.limited.typed.model().symbols.len() < MOST_SYMBOLS
-        && staged.case.limited.faults.len() <= MOST_FAULTS
+    if staged.case.limited.typed.model().symbols.len() >= MOST_SYMBOLS {
+        return false;
+    }
+    if staged.case.limited.faults.len() > MOST_FAULTS {
+        return false;
+    }
+    true
 }
 
 /// What speaks against a claim.

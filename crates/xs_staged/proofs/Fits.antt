@@ -49,11 +49,11 @@ got_judged (y ∷ xs) (suc i) x e = got_judged xs i x e
 
 any_joined : {A : Type 0} (f : A → Bool) (xs ys : List A) → list_any f xs ≡ false → list_any f ys ≡ false → list_any f (xs ++ ys) ≡ false
 any_joined f [] ys h k = k
-any_joined f (x ∷ xs) ys h k = by (f x) refl h
+any_joined f (x ∷ xs) ys h k = by (f x) refl h (λ rest. any_joined f xs ys rest k)
   where
-    by : (b : Bool) → f x ≡ b → (b || list_any f xs) ≡ false → (f x || list_any f (xs ++ ys)) ≡ false
-    by true e h = cc
-    by false e h = (λ j. e j || any_joined f xs ys h k j)
+    by : (b : Bool) → f x ≡ b → (b || list_any f xs) ≡ false → (list_any f xs ≡ false → list_any f (xs ++ ys) ≡ false) → (f x || list_any f (xs ++ ys)) ≡ false
+    by true e h more = cc
+    by false e h more = (λ j. e j || more h j)
 
 module _ (n : FlatModel) where
   pub fit_not : (a : Tree FlatLeaf) → IsFitTop n a → IsFitTop n (not_of a)
