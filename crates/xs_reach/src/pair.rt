@@ -122,8 +122,7 @@ fn staged_model(alloc: Global, limited: &Limited, first: u32, second: u32) -> Re
     requires first { IsFaultNumber (length limited.now.faults) first }
     requires second { IsFaultNumber (length limited.now.faults) second }
     requires apart { first ≢ second }
-    ensures model { IfOk result (λ t. model_tree t.model ≡ stage_of (model_tree limited.now.typed.model) (map mode_of limited.now.faults) first second) }
-    ensures typed { IfOk result (λ t. IsTyped (model_tree t.model)) }
+    ensures { IfOk result (λ t. (model_tree t.model ≡ stage_of (model_tree limited.now.typed.model) (map mode_of limited.now.faults) first second) × IsTyped (model_tree t.model)) }
 {
     let model = stage(alloc, limited.typed.model(), &limited.faults, first, second)?;
     match typed_whole(alloc, model) {
@@ -137,7 +136,10 @@ fn judge_set(set: &[u32], faults: usize) -> Result<(), Stop>
     ensures { OnOk result (IsNumbered faults set.now) }
 {
     for (k, number) in set.iter().enumerate() {
-        if *number < 1 || *number as usize > faults {
+        if *number < 1 {
+            return Err(set_stop(k as u64 + 1));
+        }
+        if *number as usize > faults {
             return Err(set_stop(k as u64 + 1));
         }
     }
