@@ -45,7 +45,7 @@ struct Searched {
 
 /// What is written and said: a certificate of a complete answer, and the report; and how the search ended.
 #[derive(Drop)]
-struct Answer {
+struct Conclusion {
     cert: Option<ByteList>,
     report: ByteList,
     ending: Ending,
@@ -77,7 +77,7 @@ fn answer(
     staged: &StagedCase,
     depth: u32,
     panel: &mut Panel,
-) -> Result<Answer, OutOfMemory>
+) -> Result<Conclusion, OutOfMemory>
     requires { IsStagedCase staged.now }
 {
     let some = search(alloc, staged, None, depth, panel)?;
@@ -95,7 +95,7 @@ fn answer_of(
     depth: u32,
     trace: &MomentList,
     panel: &mut Panel,
-) -> Result<Answer, OutOfMemory>
+) -> Result<Conclusion, OutOfMemory>
     requires { IsStagedCase staged.now }
 {
     let relation = relation_of(trace);
@@ -201,7 +201,7 @@ fn concluded(
     verdict: &Verdict,
     searched: &Searched,
     panel: &mut Panel,
-) -> Result<Answer, OutOfMemory>
+) -> Result<Conclusion, OutOfMemory>
     requires staged { IsStagedCase staged.now }
     requires searched { IsSomeSearch staged.now depth searched.now }
     requires none { length searched.now.analysis.traces ≡ 0 }
@@ -209,7 +209,7 @@ fn concluded(
     let cert = certificate(alloc, staged, depth, searched, panel)?;
     let ending = told(&searched.analysis.end);
     let report = report(alloc, staged, verdict, ending)?;
-    Ok(Answer {
+    Ok(Conclusion {
         cert,
         report,
         ending,
@@ -222,7 +222,7 @@ fn differing(
     staged: &StagedCase,
     one: &MomentList,
     other: &MomentList,
-) -> Result<Answer, OutOfMemory> {
+) -> Result<Conclusion, OutOfMemory> {
     let variables = staged.case.limited.typed.model().variables.len();
     let one = cut(alloc, one, variables)?;
     let other = cut(alloc, other, variables)?;
@@ -232,7 +232,7 @@ fn differing(
         &Verdict::Either(one, other),
         Ending::Complete,
     )?;
-    Ok(Answer {
+    Ok(Conclusion {
         cert: None,
         report,
         ending: Ending::Complete,
@@ -286,7 +286,7 @@ fn certificate_text(
 }
 
 /// Writes the certificate, where there is one, and says the report.
-fn conclude<D: Desk>(desk: &mut D, name: &str, answer: &Answer) -> Result<Status, Stop> {
+fn conclude<D: Desk>(desk: &mut D, name: &str, answer: &Conclusion) -> Result<Status, Stop> {
     if let Some(bytes) = &answer.cert {
         write_whole(desk, name, bytes.as_slice())?;
     }
