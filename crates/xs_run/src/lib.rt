@@ -15,15 +15,14 @@
 //! is written), `loaded` (the same, with the flat model in memory), `top` (the top event), `trace` (the file
 //! of a trace), `replay` (what a trace comes to), `report` (what is said), `event` (model, extension and top event
 //! together), `search` (what a search finds), `analysis` (what is written and said of it), `certificate` (what a
-//! certificate comes to) and `run`. Beside the top call stand `tops` (tables of top events), `make` (generated cases)
-//! and `further`, which asks for one of the two. `wrong` and `status` have what each refusal says.
+//! certificate comes to) and `run`. `tops` (tables of top events) and `make` (generated cases) wait
+//! for their place in it. `wrong` and `status` have what each refusal says.
 #![tactic(auto)]
 
 pub mod analysis;
 pub mod certificate;
 pub mod event;
 pub mod faults;
-pub mod further;
 pub mod input;
 pub mod loaded;
 pub mod make;

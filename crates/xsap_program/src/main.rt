@@ -1,17 +1,14 @@
-//! Extends SMV models with faults, replays traces of the extensions, finds their minimal cut sets, checks
-//! certificates of them, makes tables of them, and generates cases.
+//! Extends SMV models with faults, replays traces of the extensions, finds their minimal cut sets, and checks
+//! certificates of them.
 //!
 //! `main` hands [`xs_run::run::run`] the words of the command line, a desk over real files, and the advisers of the
-//! search; all that is promised of a run stands at that call. Two verbs, `fmea` and `make`, stand beside it, in
-//! [`xs_run::further`].
+//! search; all that is promised of a run stands at that call.
 //!
 //! ```text
 //! xsap_program extend --model lamp.smv --faults lamp.fei --extended out.smv
 //! xsap_program replay --model lamp.smv --faults lamp.fei --trace dark.trace --top '!on'
 //! xsap_program analyse --model lamp.smv --faults lamp.fei --top '!on' --depth 4 --extended out.smv --cert out.cert
 //! xsap_program check --model lamp.smv --faults lamp.fei --top '!on' --cert out.cert
-//! xsap_program fmea --model lamp.smv --faults lamp.fei --tops lamp.tops --size 1 --depth 4
-//! xsap_program make --number 1 --stages 8 --depth 50 --model rails.smv --faults rails.fei
 //! ```
 #![tactic(auto)]
 
@@ -21,7 +18,6 @@ use std::env;
 use std::io::ErrorKind;
 use std::process::ExitCode;
 use xs_adviser::{Active, Adviser, InOrder};
-use xs_run::further::{is_further, run_further};
 use xs_run::run::run;
 use xs_run::status::Status;
 use xs_value::OutOfMemory;
@@ -61,12 +57,7 @@ fn advised(rt: HostRuntime, alloc: Global, words: &[&str]) -> Result<Status, Out
     let mut advisers: Vec<Box<dyn Adviser>> = Vec::new(alloc);
     advisers.push(Box::new(alloc, InOrder::new())?)?;
     advisers.push(Box::new(alloc, Active::new(alloc))?)?;
-    let mut desk = RealDesk::new(rt);
-    if is_further(words) {
-        Ok(run_further(alloc, words, &mut desk, advisers))
-    } else {
-        Ok(run(alloc, words, &mut desk, advisers))
-    }
+    Ok(run(alloc, words, &mut RealDesk::new(rt), advisers))
 }
 
 /// The number of a status, as the system takes it.
