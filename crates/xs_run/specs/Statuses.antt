@@ -45,7 +45,6 @@ part_text part.Flat = codes "flat "
 part_text part.Kinds = codes "type "
 part_text part.Weave = codes "weave "
 part_text part.Effect = codes "effect "
-part_text part.Count = codes "count "
 part_text part.Read = codes "read "
 
 -- the part, the number of its rule, and the place

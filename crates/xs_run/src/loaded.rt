@@ -72,7 +72,7 @@ pub(crate) fn load_case<D: Desk>(
 }
 
 /// The extension of the model by the instructions that the bytes spell.
-pub(crate) fn case_of(alloc: Global, bytes: &[u8], model: &LoadedModel) -> Result<LoadedCase, Wrong>
+fn case_of(alloc: Global, bytes: &[u8], model: &LoadedModel) -> Result<LoadedCase, Wrong>
     requires length { length bytes.now ≤ 1048576 }
     requires lawful { IsLawful (program_tree model.now.program) (model_tree model.now.typed.model) }
     requires in_var { HasInstancesInVar (program_tree model.now.program) }

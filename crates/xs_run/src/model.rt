@@ -52,7 +52,7 @@ pub(crate) fn load_model<D: Desk>(
 }
 
 /// The model that the bytes spell.
-pub(crate) fn model_of(alloc: Global, bytes: &[u8]) -> Result<LoadedModel, Wrong>
+fn model_of(alloc: Global, bytes: &[u8]) -> Result<LoadedModel, Wrong>
     requires { length bytes.now ≤ 1048576 }
     ensures ok { IfOk result (λ l. IsModelText bytes.now (program_tree l.program)) }
     ensures lawful { IfOk result (λ l. IsLawful (program_tree l.program) (model_tree l.typed.model)) }

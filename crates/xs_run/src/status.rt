@@ -10,7 +10,7 @@ use xs_words::WordFault;
 /// What this program can't do yet.
 #[derive(Clone, Copy, Debug, PartialEq, Eq)]
 pub enum Built {
-    /// The words mean `fmea` or `make`.
+    /// The words mean a command other than `extend` and `replay`.
     Words,
 }
 
@@ -33,8 +33,6 @@ pub enum Part {
     Weave,
     /// The effect of a mode is not allowed at its variable.
     Effect,
-    /// There are too many.
-    Count,
     /// The text gives no trace, or spells no certificate.
     Read,
 }
@@ -243,7 +241,6 @@ fn part_name(part: Part) -> &'static [u8]
         Part::Kinds => b"type ",
         Part::Weave => b"weave ",
         Part::Effect => b"effect ",
-        Part::Count => b"count ",
         Part::Read => b"read ",
     }
 }
