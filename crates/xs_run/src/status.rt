@@ -10,7 +10,7 @@ use xs_words::WordFault;
 /// What this program can't do yet.
 #[derive(Clone, Copy, Debug, PartialEq, Eq)]
 pub enum Built {
-    /// The words mean a command other than `extend` and `replay`.
+    /// The words mean `fmea` or `make`.
     Words,
 }
 
