@@ -32,7 +32,7 @@ picked P (p ∷ ps) o v each (inl is) = (p, is.0, is.1, each.0)
 picked P (p ∷ ps) o v each (inr more) = picked P ps o v each.1 more
 
 module _ (options : List Choice) (a b : Text) (differ : a ≡ b → ⊥) (first : kind_in options a ≡ Some kind.File) (second : kind_in options b ≡ Some kind.File) where
-  apart : (pairs : List Given) (x y : Text) → x ≡ y → AreDifferent options pairs → Gives pairs a x → Gives pairs b y → ⊥
+  pub apart : (pairs : List Given) (x y : Text) → x ≡ y → AreDifferent options pairs → Gives pairs a x → Gives pairs b y → ⊥
   apart [] x y same different h g = h
   apart (p ∷ ps) x y same different (inl h) (inl g) = differ (sym h.0 ∙ g.0)
   apart (p ∷ ps) x y same different (inl h) (inr g) =
@@ -53,8 +53,7 @@ files_differ words model faults top depth extended cert size asks same = by_verb
     by_verb v (makes_analysis _ _ _ _ _ _ _ m f t d e c s) different = apart (options_of verb.Analyse) (codes "--extended") (codes "--cert") options_differ refl refl asks.pairs extended cert same different e c
 
 -- no refusal ends as bounded
-never_bounded : (r : Refusal) (k : ℕ) → status.Bounded k ≡ status_of r → ⊥
-never_bounded (refusal.NotBuilt b) k e = cc
+pub never_bounded : (r : Refusal) (k : ℕ) → status.Bounded k ≡ status_of r → ⊥
 never_bounded (refusal.Words fault) k e = cc
 never_bounded (refusal.Model fault) k e = cc
 never_bounded (refusal.Faults fault) k e = cc

@@ -1,5 +1,5 @@
 -- From an answered run to the extension that it has written.
-use Rattle.std.proofs.Common.{◌≡◌, ℕ, List, Option, Some, None, IfSome, IsSomeAnd, sym, ap, subst, ◌∙◌, refl}
+use Rattle.std.proofs.Common.{◌≡◌, ℕ, List, Option, Some, None, IfSome, IsSomeAnd, sym, ap, subst, ◌∙◌}
 use Rattle.xs_desk.specs.declared.files.NamedFile.{NamedFile}
 use Rattle.xs_desk.specs.Files.{file_of, with_file}
 use Rattle.xs_desk.specs.Desk.{said_more}
@@ -13,12 +13,12 @@ use Rattle.xs_run.specs.declared.status.Refusal.TheVariants as refusal
 use Rattle.xs_run.specs.declared.status.Status.{Status}
 use Rattle.xs_run.specs.declared.status.Status.TheVariants as status
 use Rattle.xs_run.specs.Statuses.{status_of}
-use Rattle.xs_words.specs.Commands.{Command, extend, replay, analyse, check, fmea, make}
+use Rattle.xs_words.specs.Commands.{Command, extend}
 use Rattle.xs_words.specs.Meaning.{Means as WordsMean}
 use Rattle.xs_words.specs.Seen.{rule_of, place_of}
 use Rattle.xs_words.proofs.SeenLemmas.{same_fault}
 use Rattle.xs_words.proofs.ReadingLaws.{one_command, one_fault, commands_have_no_fault}
-use Rattle.xs_run.specs.Asked.{AsksToExtend, IsNotBuilt, RefusesWords, wrong_words, not_built}
+use Rattle.xs_run.specs.Asked.{AsksToExtend, RefusesWords, wrong_words}
 use Rattle.xs_run.specs.Inputs.{HoldsModel, HoldsFaults}
 use Rattle.xs_run.specs.Runs.{Outcome, ComesTo, refuses_model, refuses_faults, is_extended, Means, refuses_words, asked, IsAnswer, IsDelivered, HasAnswered, CommandComesTo}
 use Rattle.xs_run.specs.Extension.{IsExtended}
@@ -26,33 +26,20 @@ use Rattle.xs_run.proofs.WovenSpells.{woven_text_spells}
 
 -- no refusal ends as done
 pub never_done : (r : Refusal) → status.Done ≡ status_of r → ⊥
-never_done (refusal.NotBuilt b) e = cc
 never_done (refusal.Words fault) e = cc
 never_done (refusal.Model fault) e = cc
 never_done (refusal.Faults fault) e = cc
 never_done (refusal.Top fault) e = cc
 never_done (refusal.NotAccepted o) e = cc
 
--- words that are refused ask for nothing that is built
-pub refused_not_asked : (files : List NamedFile) (words : List Text) (r : Refusal) (c : Command) (o : Outcome) → RefusesWords words r → WordsMean words c → CommandComesTo files c o → ⊥
-refused_not_asked files words r c o (wrong_words f broken) means comes = commands_have_no_fault words c (rule_of f) (place_of f) means broken
-refused_not_asked files words r c o (not_built d also other) means comes = built c (subst IsNotBuilt (one_command words d c also means) other) comes
-  where
-    built : (e : Command) → IsNotBuilt e → CommandComesTo files e o → ⊥
-    built (extend model faults extended) other comes = other
-    built (replay model faults trace top) other comes = other
-    built (analyse model faults top depth extended cert size) other comes = other
-    built (check model faults top cert) other comes = other
-    built (fmea model faults tops size depth) other comes = comes
-    built (make number stages depth model faults) other comes = comes
+-- words that are refused ask for nothing
+pub refused_not_asked : (words : List Text) (r : Refusal) (c : Command) → RefusesWords words r → WordsMean words c → ⊥
+refused_not_asked words r c (wrong_words f broken) means = commands_have_no_fault words c (rule_of f) (place_of f) means broken
 
 -- and they are refused once
 pub one_refused_words : (words : List Text) (r s : Refusal) → RefusesWords words r → RefusesWords words s → r ≡ s
 one_refused_words words r s (wrong_words f broken) (wrong_words g also) =
     let one = one_fault words (rule_of f) (place_of f) (rule_of g) (place_of g) broken also in ap (λ h. refusal.Words h) (same_fault f g one.0 one.1)
-one_refused_words words r s (wrong_words f broken) (not_built c means other) = absurd (commands_have_no_fault words c (rule_of f) (place_of f) means broken)
-one_refused_words words r s (not_built c means other) (wrong_words f broken) = absurd (commands_have_no_fault words c (rule_of f) (place_of f) means broken)
-one_refused_words words r s (not_built c means other) (not_built d also another) = refl
 
 -- two files whose extension was written, and its report said
 files_extended : (before after : List NamedFile) (said now : Option (List ℕ)) (model faults extended : Text) (p : ProgramTree) (text report : Text) → HoldsModel before model p →

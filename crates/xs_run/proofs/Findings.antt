@@ -93,7 +93,7 @@ is_searched p l word tree is able depth size a small answer =
 
 module _ (c : Case) (e : Formula) (tree : Tree FlatLeaf) (is_tree : IsTopTree c e tree) where
   -- how it ends
-  ends_by : (depth size : ℕ) (sets : List (List ℕ)) (ending : Ending) →
+  pub ends_by : (depth size : ℕ) (sets : List (List ℕ)) (ending : Ending) →
       found.EndsBy c.flat c.modes tree (system_of (whole_of c)) (state_of (whole_of c)) (inputs_of (whole_of c)) depth size sets ending → EndsBy c e size depth sets ending
   ends_by depth size sets complete h = h
   ends_by depth size sets (bounded k) h = (h.0, (tree, is_tree, h.1))

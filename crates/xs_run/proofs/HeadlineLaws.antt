@@ -25,7 +25,7 @@ different a b n = by (bytes_eq a b) refl
     by false e = e
 
 -- a file that was not written has what it had
-other_file : (files : List NamedFile) (name other bytes : Text) → (name ≡ other → ⊥) → file_of (with_file files name bytes) other ≡ file_of files other
+pub other_file : (files : List NamedFile) (name other bytes : Text) → (name ≡ other → ⊥) → file_of (with_file files name bytes) other ≡ file_of files other
 other_file [] name other bytes n = rw (different name other n) refl
 other_file (file ∷ files) name other bytes n = by_name (bytes_eq file.name name) refl (other_file files name other bytes n)
   where

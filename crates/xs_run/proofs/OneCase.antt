@@ -62,7 +62,7 @@ module _ (files : List NamedFile) (model faults : Text) where
   same_parts p i fs gs m n ms ns a b c = λ j. record { program = p; instructions = i; faults = a j; flat = b j; modes = c j }
 
   -- two cases of one program and one list of instructions
-  same_case : (p : ProgramTree) (i : InstructionTree) (fs gs : List Fault) (m n : FlatModel) (ms ns : List Mode) →
+  pub same_case : (p : ProgramTree) (i : InstructionTree) (fs gs : List Fault) (m n : FlatModel) (ms ns : List Mode) →
       IsCase (record { program = p; instructions = i; faults = fs; flat = m; modes = ms }) → IsCase (record { program = p; instructions = i; faults = gs; flat = n; modes = ns }) →
       ◌≡◌ {A = Case} (record { program = p; instructions = i; faults = fs; flat = m; modes = ms }) (record { program = p; instructions = i; faults = gs; flat = n; modes = ns })
   same_case p i fs gs m n ms ns a b =

@@ -1,18 +1,22 @@
 -- What words and files come to is one.
-use Rattle.std.proofs.Common.{◌≡◌, ℕ, List, Option, Some, None, IfSome, ap, subst, ◌∙◌}
+use Rattle.std.proofs.Common.{◌≡◌, ℕ, List, Option, Some, None, IfSome, sym, ap, subst, ◌∙◌}
 use Rattle.xs_desk.specs.declared.files.NamedFile.{NamedFile}
 use Rattle.xs_tree.specs.ProgramTree.{Text}
 use Rattle.xs_words.specs.Commands.{Command, extend, replay, analyse, check, fmea, make}
 use Rattle.xs_words.proofs.ReadingLaws.{one_command}
 use Rattle.xs_run.specs.declared.status.Status.{Status}
 use Rattle.xs_run.specs.Inputs.{HoldsFaults, RefusesFaults}
-use Rattle.xs_run.specs.Runs.{Outcome, refuses, extends, ComesTo, refuses_model, refuses_faults, is_extended, CommandComesTo, Means, refuses_words, asked, IsAnswer, IsDelivered, HasAnswered}
+use Rattle.xs_run.specs.Cases.{HoldsTops}
+use Rattle.xs_run.specs.Runs.{Outcome, refuses, extends, tabulates, makes, TableComesTo, refuses_table, is_tabulated, MakeComesTo, is_made, ComesTo, refuses_model, refuses_faults, is_extended, CommandComesTo, Means, refuses_words, asked, IsAnswer, IsDelivered, HasAnswered}
 use Rattle.xs_run.proofs.ExtensionLemmas.{refused_not_asked, one_refused_words}
 use Rattle.xs_run.proofs.OneExtending.{one_refused_faults, taken_not_refused, one_taken}
 use Rattle.xs_run.proofs.OneModelFault.{one_refused_model, held_not_refused, one_held_model}
 use Rattle.xs_run.proofs.OneReplay.{replay_comes_to_one}
 use Rattle.xs_run.proofs.OneEvent.{analysis_comes_to_one}
 use Rattle.xs_run.proofs.OneCheck.{check_comes_to_one}
+use Rattle.xs_run.proofs.OneCase.{one_case}
+use Rattle.xs_run.proofs.OneTables.{one_refused_table, table_not_refused, one_held_tops}
+use Rattle.xs_run.proofs.OneMade.{one_generated}
 
 module _ (files : List NamedFile) (model faults extended : Text) where
   comes_to_one : (o q : Outcome) → ComesTo files model faults extended o → ComesTo files model faults extended q → o ≡ q
@@ -31,20 +35,32 @@ module _ (files : List NamedFile) (model faults extended : Text) where
       let same = one_taken files faults p holds.flat holds.lawful text report text' report' have (subst (λ u. HoldsFaults files faults u text' report') (one_held_model files model p t holds other) have') in
       ap (λ t. extends extended t report) same.0 ∙ ap (extends extended text') same.1
 
+table_comes_to_one : (files : List NamedFile) (model faults tops : Text) (size depth : ℕ) (o q : Outcome) → TableComesTo files model faults tops size depth o → TableComesTo files model faults tops size depth q → o ≡ q
+table_comes_to_one files model faults tops size depth o q (refuses_table r bad) (refuses_table s also) = ap refuses (one_refused_table files model faults tops r s bad also)
+table_comes_to_one files model faults tops size depth o q (refuses_table r bad) (is_tabulated c es holds are) = absurd (table_not_refused files model faults tops c es r holds are bad)
+table_comes_to_one files model faults tops size depth o q (is_tabulated c es holds are) (refuses_table r bad) = absurd (table_not_refused files model faults tops c es r holds are bad)
+table_comes_to_one files model faults tops size depth o q (is_tabulated c es holds are) (is_tabulated d fs other also) =
+    let same : d ≡ c = sym (one_case files model faults c d holds other) in
+    let events : es ≡ fs = one_held_tops c.program holds.program.lawful.accepted files tops es fs are (subst (λ e. HoldsTops files tops e.program fs) same also) in
+    ap (λ e. tabulates e es size depth) (sym same) ∙ ap (λ xs. tabulates d xs size depth) events
+
+made_comes_to_one : (number stages depth : ℕ) (model faults : Text) (o q : Outcome) → MakeComesTo number stages depth model faults o → MakeComesTo number stages depth model faults q → o ≡ q
+made_comes_to_one number stages depth model faults o q (is_made c h) (is_made d g) = ap (λ e. makes e stages depth model faults) (one_generated number stages c d h g)
+
 -- what a command comes to is one
 command_comes_to_one : (files : List NamedFile) (c : Command) (o q : Outcome) → CommandComesTo files c o → CommandComesTo files c q → o ≡ q
 command_comes_to_one files (extend model faults extended) o q h g = comes_to_one files model faults extended o q h g
 command_comes_to_one files (replay model faults trace top) o q h g = replay_comes_to_one files model faults trace top o q h g
 command_comes_to_one files (analyse model faults top depth extended cert size) o q h g = analysis_comes_to_one files model faults top depth extended cert size o q h g
 command_comes_to_one files (check model faults top cert) o q h g = check_comes_to_one files model faults top cert o q h g
-command_comes_to_one files (fmea model faults tops size depth) o q h g = absurd h
-command_comes_to_one files (make number stages depth model faults) o q h g = absurd h
+command_comes_to_one files (fmea model faults tops size depth) o q h g = table_comes_to_one files model faults tops size depth o q h g
+command_comes_to_one files (make number stages depth model faults) o q h g = made_comes_to_one number stages depth model faults o q h g
 
 -- two outcomes of the same words and files are one: the same refusal, the same text and report, or the same report
 pub one_outcome : (files : List NamedFile) (words : List Text) (o q : Outcome) → Means files words o → Means files words q → o ≡ q
 one_outcome files words o q (refuses_words r refused) (refuses_words s also) = ap refuses (one_refused_words words r s refused also)
-one_outcome files words o q (refuses_words r refused) (asked c q' means comes) = absurd (refused_not_asked files words r c q' refused means comes)
-one_outcome files words o q (asked c o' means comes) (refuses_words r refused) = absurd (refused_not_asked files words r c o' refused means comes)
+one_outcome files words o q (refuses_words r refused) (asked c q' means comes) = absurd (refused_not_asked words r c refused means)
+one_outcome files words o q (asked c o' means comes) (refuses_words r refused) = absurd (refused_not_asked words r c refused means)
 one_outcome files words o q (asked c o' means comes) (asked d q' means' comes') =
     command_comes_to_one files c o' q' comes (subst (λ e. CommandComesTo files e q') (one_command words d c means' means) comes')
 

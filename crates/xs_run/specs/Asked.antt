@@ -1,10 +1,9 @@
--- What the words of a command line ask for: an extension, a replay, an analysis, a check, a command that is not built yet, or none.
+-- What the words of a command line ask for: an extension, a replay, an analysis, a check, a table, a generated case, or none.
 use Rattle.std.specs.Prelude.{ℕ, List, Option}
 use Rattle.xs_words.specs.declared.fault.WordFault.{WordFault}
-use Rattle.xs_words.specs.Commands.{Text, Command, extend, replay, analyse, check}
+use Rattle.xs_words.specs.Commands.{Text, extend, replay, analyse, check, fmea, make}
 use Rattle.xs_words.specs.Meaning.{Means, BreaksFirst}
 use Rattle.xs_words.specs.Seen.{rule_of, place_of}
-use Rattle.xs_run.specs.declared.status.Built.TheVariants as built
 use Rattle.xs_run.specs.declared.status.Refusal.{Refusal}
 use Rattle.xs_run.specs.declared.status.Refusal.TheVariants as refusal
 
@@ -25,15 +24,14 @@ AsksToAnalyse words model faults top depth extended cert size = Means words (ana
 abbrev pub AsksToCheck : List Text → Text → Text → Text → Text → Type 0
 AsksToCheck words model faults top cert = Means words (check model faults top cert)
 
--- every verb but `extend`, `replay`, `analyse` and `check`
-abbrev pub IsNotBuilt : Command → Type 0
-IsNotBuilt (extend model faults extended) = ⊥
-IsNotBuilt (replay model faults trace top) = ⊥
-IsNotBuilt (analyse model faults top depth extended cert size) = ⊥
-IsNotBuilt (check model faults top cert) = ⊥
-IsNotBuilt _ = Unit {0}
+-- the words ask for the table of the top events of a file, with a row for each set of at most so many faults, by so many steps
+abbrev pub AsksToTabulate : List Text → (model faults tops : Text) → (size depth : ℕ) → Type 0
+AsksToTabulate words model faults tops size depth = Means words (fmea model faults tops size depth)
 
--- the words are refused: by the rule that they break first, or since they mean a command that is not built
+-- the words ask to generate the case of a number and so many stages into two files, and to analyse it by so many steps
+abbrev pub AsksToMake : List Text → (number stages depth : ℕ) → (model faults : Text) → Type 0
+AsksToMake words number stages depth model faults = Means words (make number stages depth model faults)
+
+-- the words are refused by the rule that they break first
 pub data RefusesWords (words : List Text) : Refusal → Type 0 where
   wrong_words : (f : WordFault) → BreaksFirst words (rule_of f) (place_of f) → RefusesWords words (refusal.Words f)
-  not_built : (c : Command) → Means words c → IsNotBuilt c → RefusesWords words (refusal.NotBuilt built.Words)

@@ -7,7 +7,7 @@ use Rattle.xs_tree.specs.Tree.{Tree}
 use Rattle.xs_tree.specs.Values.{Value}
 use Rattle.xs_flattening.specs.Flat.{FlatLeaf}
 use Rattle.xs_eval.specs.Replayed.{IsReaching}
-use Rattle.xs_words.specs.Commands.{Command, extend, replay, analyse, check}
+use Rattle.xs_words.specs.Commands.{Command, extend, replay, analyse, check, fmea, make}
 use Rattle.xs_words.specs.Meaning.{Means as WordsMean}
 use Rattle.xs_run.specs.declared.status.Refusal.{Refusal}
 use Rattle.xs_run.specs.declared.status.Refusal.TheVariants as refusal
@@ -17,21 +17,25 @@ use Rattle.xs_run.specs.declared.status.InputFault.{InputFault}
 use Rattle.xs_run.specs.Statuses.{status_of, refusal_text}
 use Rattle.xs_run.specs.Asked.{RefusesWords}
 use Rattle.xs_run.specs.Inputs.{RefusesModel, HoldsModel, RefusesFaults, HoldsFaults}
-use Rattle.xs_run.specs.Cases.{Case, HoldsCase, IsTopWord, IsWrongWord}
+use Rattle.xs_run.specs.Cases.{Case, HoldsCase, HoldsTops, IsTopWord, IsWrongWord}
 use Rattle.xs_run.specs.Tasks.{IsTopTree}
 use Rattle.xs_run.specs.Answered.{Told, Said, replay_text}
 use Rattle.xs_run.specs.Events.{RefusesEvent}
 use Rattle.xs_run.specs.Analyses.{size_for, HasAnalysed, AnalysesInPart}
 use Rattle.xs_run.specs.Certificates.{CheckRefuses, CheckSays}
+use Rattle.xs_run.specs.Tables.{RefusesTable, HasTabulated, TabulatesInPart}
+use Rattle.xs_run.specs.Made.{IsGenerated, HasMade, MakesInPart}
 use Rattle.xs_run.specs.Replays.{RefusesTrace, HoldsTrace, RefusesMoment}
 
--- a run refuses something, it writes a text to a file and says a report, it says a report alone, or it analyses a case for the top
--- event that a word spells
+-- a run refuses something, it writes a text to a file and says a report, it says a report alone, it analyses a case for the top
+-- event that a word spells, it makes a table of a case for some top events, or it makes a generated case
 pub data Outcome : Type 0 where
   refuses : Refusal → Outcome
   extends : Text → Text → Text → Outcome
   says : Text → Outcome
   analyses : (c : Case) (word : Text) (depth size : ℕ) (extended cert : Text) → Outcome
+  tabulates : (c : Case) (events : List Formula) (size depth : ℕ) → Outcome
+  makes : (c : Case) (stages depth : ℕ) (model faults : Text) → Outcome
 
 -- what the two files come to, with the file for the extension, in the order of the work
 pub data ComesTo (files : List NamedFile) (model faults extended : Text) : Outcome → Type 0 where
@@ -66,13 +70,24 @@ pub data CheckComesTo (files : List NamedFile) (model faults top cert : Text) : 
   refuses_check : (r : Refusal) → CheckRefuses files model faults top cert r → CheckComesTo files model faults top cert (refuses r)
   is_checked : (report : Text) → CheckSays files model faults top cert report → CheckComesTo files model faults top cert (says report)
 
--- what a command that is built comes to
+-- what the three files of a table come to
+pub data TableComesTo (files : List NamedFile) (model faults tops : Text) (size depth : ℕ) : Outcome → Type 0 where
+  refuses_table : (r : Refusal) → RefusesTable files model faults tops r → TableComesTo files model faults tops size depth (refuses r)
+  is_tabulated : (c : Case) (events : List Formula) → HoldsCase files model faults c → HoldsTops files tops c.program events →
+      TableComesTo files model faults tops size depth (tabulates c events size depth)
+
+-- what a number and stages come to, whatever the files hold
+pub data MakeComesTo (number stages depth : ℕ) (model faults : Text) : Outcome → Type 0 where
+  is_made : (c : Case) → IsGenerated number stages c → MakeComesTo number stages depth model faults (makes c stages depth model faults)
+
+-- what a command comes to
 abbrev pub CommandComesTo : List NamedFile → Command → Outcome → Type 0
 CommandComesTo files (extend model faults extended) o = ComesTo files model faults extended o
 CommandComesTo files (replay model faults trace top) o = ReplayComesTo files model faults trace top o
 CommandComesTo files (analyse model faults top depth extended cert size) o = AnalysisComesTo files model faults top depth extended cert size o
 CommandComesTo files (check model faults top cert) o = CheckComesTo files model faults top cert o
-CommandComesTo files _ o = ⊥
+CommandComesTo files (fmea model faults tops size depth) o = TableComesTo files model faults tops size depth o
+CommandComesTo files (make number stages depth model faults) o = MakeComesTo number stages depth model faults o
 
 -- what a run over these files with these words comes to
 pub data Means (files : List NamedFile) (words : List Text) : Outcome → Type 0 where
@@ -87,12 +102,15 @@ IsAnswer _ = Unit {0}
 
 -- The outcome stands in full, and the run has its status: a refusal has changed no file and said its one line; an extension has
 -- written its whole text to its one file and said its report; a report alone has changed no file; an analysis has written the
--- extension, and for a complete answer a certificate, and said its report.
+-- extension, and for a complete answer a certificate, and said its report; a table has changed no file and was said; a generated case
+-- has written its two files, and its summary was said.
 abbrev pub IsDelivered : Outcome → Status → Told → Told → Said → Said → Type 0
 IsDelivered (refuses r) ended before after said now = (ended ≡ status_of r) × (after ≡ before) × (now ≡ said_more said (refusal_text r))
 IsDelivered (extends file text report) ended before after said now = (ended ≡ status.Done) × (after ≡ told_with before file text) × (now ≡ said_more said report)
 IsDelivered (says report) ended before after said now = (ended ≡ status.Done) × (after ≡ before) × (now ≡ said_more said report)
 IsDelivered (analyses c word depth size extended cert) ended before after said now = HasAnalysed c word depth size extended cert ended before after said now
+IsDelivered (tabulates c events size depth) ended before after said now = HasTabulated c events size depth ended before after said now
+IsDelivered (makes c stages depth model faults) ended before after said now = HasMade c stages depth model faults ended before after said now
 
 -- a part of the outcome stands: at most a prefix of what would be written and said
 abbrev pub IsDeliveredInPart : Outcome → Told → Told → Said → Said → Type 0
@@ -100,6 +118,8 @@ IsDeliveredInPart (refuses r) before after said now = (after ≡ before) × Says
 IsDeliveredInPart (extends file text report) before after said now = WritesPrefix before after file text × SaysPrefix said now report
 IsDeliveredInPart (says report) before after said now = (after ≡ before) × SaysPrefix said now report
 IsDeliveredInPart (analyses c word depth size extended cert) before after said now = AnalysesInPart c word depth size extended cert before after said now
+IsDeliveredInPart (tabulates c events size depth) before after said now = TabulatesInPart c events size depth before after said now
+IsDeliveredInPart (makes c stages depth model faults) before after said now = MakesInPart c stages depth model faults before after said now
 
 -- the run has answered: what stands is the whole outcome of the words and files at entry
 pub record HasAnswered (files : List NamedFile) (words : List Text) (answer : Status) (before after : Told) (said now : Said) : Type 0 where
@@ -112,3 +132,9 @@ pub record HasStopped (files : List NamedFile) (words : List Text) (before after
   pub outcome : Outcome
   pub means : Means files words outcome
   pub in_part : IsDeliveredInPart outcome before after said now
+
+-- the work of an analysis, a table or a generated case was done, for all traces or for those of at most so many steps
+abbrev pub IsFinished : Status → Type 0
+IsFinished status.Done = Unit {0}
+IsFinished (status.Bounded k) = Unit {0}
+IsFinished _ = ⊥

@@ -4,7 +4,6 @@ use Rattle.std.specs.Fmt.{decimal}
 use Rattle.xs_tree.specs.ProgramTree.{Text}
 use Rattle.xs_words.specs.declared.fault.WordFault.{WordFault}
 use Rattle.xs_words.specs.Seen.{rule_of, place_of}
-use Rattle.xs_run.specs.declared.status.Built.TheVariants as built
 use Rattle.xs_run.specs.declared.status.Part.{Part}
 use Rattle.xs_run.specs.declared.status.Part.TheVariants as part
 use Rattle.xs_run.specs.declared.status.InputFault.{InputFault}
@@ -19,7 +18,6 @@ use Rattle.xs_run.specs.declared.status.Status.TheVariants as status
 abbrev pub number_of : Status → ℤ
 number_of status.Done = pos 0
 number_of (status.Bounded k) = pos 1
-number_of (status.NotBuilt built.Words) = pos 2
 number_of (status.Words fault) = pos 2
 number_of (status.Model fault) = pos 3
 number_of (status.Faults fault) = pos 4
@@ -29,7 +27,6 @@ number_of status.Desk = pos 7
 number_of status.Memory = pos 8
 
 abbrev pub status_of : Refusal → Status
-status_of (refusal.NotBuilt b) = status.NotBuilt b
 status_of (refusal.Words fault) = status.Words fault
 status_of (refusal.Model fault) = status.Model fault
 status_of (refusal.Faults fault) = status.Faults fault
@@ -45,6 +42,7 @@ part_text part.Flat = codes "flat "
 part_text part.Kinds = codes "type "
 part_text part.Weave = codes "weave "
 part_text part.Effect = codes "effect "
+part_text part.Count = codes "count "
 part_text part.Read = codes "read "
 
 -- the part, the number of its rule, and the place
@@ -71,7 +69,6 @@ line_text line rule = codes "not accepted line " ++ (decimal line ++ (codes " ru
 
 -- the one line of a refusal
 abbrev pub refusal_text : Refusal → Text
-refusal_text (refusal.NotBuilt built.Words) = codes "refused words 0 at 1\n"
 refusal_text (refusal.Words fault) = codes "refused words " ++ words_text fault
 refusal_text (refusal.Model fault) = codes "refused model " ++ fault_text fault
 refusal_text (refusal.Faults fault) = codes "refused faults " ++ fault_text fault

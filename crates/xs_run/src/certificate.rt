@@ -30,7 +30,7 @@ const CERT_LIMIT: u64 = 268_435_456;
 const MOST_SYMBOLS: usize = 2_147_483_648;
 
 /// Judges the certificate of a file over the extension, for its top event, and makes what is to be said of it.
-pub(crate) fn check_file<D: Desk>(
+pub fn check_file<D: Desk>(
     alloc: Global,
     desk: &mut D,
     name: &str,
@@ -52,7 +52,11 @@ pub(crate) fn check_file<D: Desk>(
 }
 
 /// The certificate that the file spells.
-fn load_certificate<D: Desk>(alloc: Global, desk: &mut D, name: &str) -> Result<Certificate, Stop>
+pub fn load_certificate<D: Desk>(
+    alloc: Global,
+    desk: &mut D,
+    name: &str,
+) -> Result<Certificate, Stop>
     ensures ok { IfOk result (λ a. IfSome (D.files desk.old) (λ files. HoldsCertificate files name.now (seen a))) }
     ensures checkable { IfOk result (λ a. IsCheckable (seen a)) }
     ensures refused { (r : Refusal) → IsErrOf result (stop.Refused r) → IfSome (D.files desk.old) (λ files. RefusesCertificate files name.now r) }
@@ -138,14 +142,14 @@ fn cert_stop(part: Part, number: u32, place: u64) -> Stop
 }
 
 /// The end of the work where a line of a certificate breaks a rule.
-fn line_stop(line: u64, rule: u32) -> Stop
+pub fn line_stop(line: u64, rule: u32) -> Stop
     ensures { result ≡ stop.Refused (refusal.NotAccepted (objection.Line line rule)) }
 {
     Stop::Refused(Refusal::NotAccepted(Objection::Line(line, rule)))
 }
 
 /// What is said of an accepted certificate: that it is, and its size where that is below the number of faults.
-fn accepted_report(alloc: Global, size: u32, faults: usize) -> Result<ByteList, OutOfMemory>
+pub fn accepted_report(alloc: Global, size: u32, faults: usize) -> Result<ByteList, OutOfMemory>
     ensures { IfOk result (λ text. text ≡ codes "accepted\n" ++ size_line size faults) }
 {
     let mut text = ByteList::from_slice(alloc, b"accepted\n")?;

@@ -25,7 +25,7 @@ pub struct LoadedEvent {
 }
 
 /// The model and the instructions of two files, with the top event that a word spells.
-pub(crate) fn load_event<D: Desk>(
+pub fn load_event<D: Desk>(
     alloc: Global,
     desk: &mut D,
     model: &str,

@@ -90,7 +90,7 @@ fn check_limits(alloc: Global, woven: &Woven) -> Result<FaultList, Wrong>
 }
 
 /// The flat model of an extension. What is wrong with it is wrong with the whole.
-pub(crate) fn flat_whole(alloc: Global, program: &Program) -> Result<FlatModel, Wrong>
+pub fn flat_whole(alloc: Global, program: &Program) -> Result<FlatModel, Wrong>
     ensures accepted { OnOk result (IsAccepted (program_tree program.now)) }
     ensures model { IfOk result (λ flat. IsModelOf (program_tree program.now) (model_tree flat)) }
     ensures wrong { IfErr result (IfRefused (BreaksNames (program_tree program.now))) }
@@ -105,7 +105,7 @@ pub(crate) fn flat_whole(alloc: Global, program: &Program) -> Result<FlatModel, 
 }
 
 /// Refuses a flat model of an extension by its kinds and its size.
-pub(crate) fn check_whole(alloc: Global, flat: FlatModel) -> Result<(), Wrong>
+pub fn check_whole(alloc: Global, flat: FlatModel) -> Result<(), Wrong>
     ensures typed { OnOk result (IsTyped (model_tree flat)) }
     ensures wrong { IfErr result (IfRefused (BreaksKinds (model_tree flat))) }
 {

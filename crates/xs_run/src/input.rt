@@ -50,7 +50,7 @@ impl Input {
     }
 
     /// The end of the work where this is wrong with the file.
-    pub(crate) fn stop(self, wrong: Wrong) -> Stop
+    pub fn stop(self, wrong: Wrong) -> Stop
         ensures { result ≡ stop_at self wrong }
     {
         match wrong {

@@ -15,7 +15,7 @@
 //! is written), `loaded` (the same, with the flat model in memory), `top` (the top event), `trace` (the file
 //! of a trace), `replay` (what a trace comes to), `report` (what is said), `event` (model, extension and top event
 //! together), `search` (what a search finds), `analysis` (what is written and said of it), `certificate` (what a
-//! certificate comes to) and `run`. `wrong` and `status` have what each refusal says.
+//! certificate comes to), `tops` (tables of top events), `make` (generated cases) and `run`. `wrong` and `status` have what each refusal says.
 #![tactic(auto)]
 
 pub mod analysis;
@@ -24,12 +24,14 @@ pub mod event;
 pub mod faults;
 pub mod input;
 pub mod loaded;
+pub mod make;
 pub mod model;
 mod replay;
 mod report;
 pub mod run;
 pub mod search;
 pub mod status;
-mod top;
+pub mod top;
+pub mod tops;
 mod trace;
 pub mod wrong;

@@ -45,7 +45,7 @@ pub struct Limited {
 }
 
 /// The extension of a model by the instructions of a file.
-pub(crate) fn load_case<D: Desk>(
+pub fn load_case<D: Desk>(
     alloc: Global,
     desk: &mut D,
     name: &str,
@@ -72,7 +72,7 @@ pub(crate) fn load_case<D: Desk>(
 }
 
 /// The extension of the model by the instructions that the bytes spell.
-fn case_of(alloc: Global, bytes: &[u8], model: &LoadedModel) -> Result<LoadedCase, Wrong>
+pub(crate) fn case_of(alloc: Global, bytes: &[u8], model: &LoadedModel) -> Result<LoadedCase, Wrong>
     requires length { length bytes.now ≤ 1048576 }
     requires lawful { IsLawful (program_tree model.now.program) (model_tree model.now.typed.model) }
     requires in_var { HasInstancesInVar (program_tree model.now.program) }
@@ -109,7 +109,7 @@ fn within_limits(alloc: Global, woven: Woven) -> Result<Limited, Wrong>
 }
 
 /// The flat model of an extension with its kinds.
-fn typed_whole(alloc: Global, flat: FlatModel) -> Result<Typed, Wrong>
+pub fn typed_whole(alloc: Global, flat: FlatModel) -> Result<Typed, Wrong>
     ensures model { IfOk result (λ t. t.model ≡ flat) }
     ensures typed { OnOk result (IsTyped (model_tree flat)) }
     ensures wrong { IfErr result (IfRefused (BreaksKinds (model_tree flat))) }

@@ -27,11 +27,7 @@ pub struct LoadedModel {
 }
 
 /// The model of a file.
-pub(crate) fn load_model<D: Desk>(
-    alloc: Global,
-    desk: &mut D,
-    name: &str,
-) -> Result<LoadedModel, Stop>
+pub fn load_model<D: Desk>(alloc: Global, desk: &mut D, name: &str) -> Result<LoadedModel, Stop>
     ensures ok { IfOk result (λ l. IfSome (D.files desk.old) (λ files. HoldsModel files name.now (program_tree l.program))) }
     ensures lawful { IfOk result (λ l. IsLawful (program_tree l.program) (model_tree l.typed.model)) }
     ensures in_var { IfOk result (λ l. HasInstancesInVar (program_tree l.program)) }
@@ -52,7 +48,7 @@ pub(crate) fn load_model<D: Desk>(
 }
 
 /// The model that the bytes spell.
-fn model_of(alloc: Global, bytes: &[u8]) -> Result<LoadedModel, Wrong>
+pub(crate) fn model_of(alloc: Global, bytes: &[u8]) -> Result<LoadedModel, Wrong>
     requires { length bytes.now ≤ 1048576 }
     ensures ok { IfOk result (λ l. IsModelText bytes.now (program_tree l.program)) }
     ensures lawful { IfOk result (λ l. IsLawful (program_tree l.program) (model_tree l.typed.model)) }

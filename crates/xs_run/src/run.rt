@@ -5,18 +5,20 @@ ghost use Rattle.xs_tree.specs.ProgramTree.{Text};
 ghost use Rattle.xs_run.specs.declared.status.Refusal.{Refusal};
 ghost use Rattle.xs_run.specs.declared.input.Stop.TheVariants as stops;
 ghost use Rattle.xs_run.specs.Statuses.{status_of, refusal_text};
-ghost use Rattle.xs_run.specs.Runs.{Outcome, refuses, extends, says, ComesTo, ReplayComesTo, CheckComesTo, CommandComesTo, Means, IsAnswer, IsDelivered, IsDeliveredInPart, HasAnswered, HasStopped};
-ghost use Rattle.xs_run.specs.Prepared.{command_of, outcome_of, IsWorkable};
+ghost use Rattle.xs_run.specs.Runs.{Outcome, refuses, extends, says, tabulates, makes, ComesTo, ReplayComesTo, CheckComesTo, TableComesTo, MakeComesTo, CommandComesTo, Means, IsAnswer, IsFinished, IsDelivered, IsDeliveredInPart, HasAnswered, HasStopped};
+ghost use Rattle.xs_run.specs.Prepared.{command_of, outcome_of, IsAskable, IsWorkable};
 ghost use Rattle.xs_run.specs.Searches.{IsEvent, finished_as};
 ghost use Rattle.xs_run.specs.Headline.{IsComplete, IsBounded};
 ghost use Rattle.xs_run.specs.declared.run.Asked.TheVariants as ask;
 ghost use Rattle.xs_run.specs.declared.run.Prepared.TheVariants as prepared;
 ghost use Rattle.xs_words.specs.Meaning.{Means as WordsMean};
 ghost use Rattle.xs_words.specs.Seen.{seen};
-ghost use Rattle.xs_run.specs.Asked.{AsksToExtend, AsksToReplay, AsksToAnalyse, AsksToCheck, IsNotBuilt, RefusesWords};
+ghost use Rattle.xs_run.specs.Asked.{AsksToExtend, AsksToReplay, AsksToAnalyse, AsksToCheck, AsksToTabulate, AsksToMake, RefusesWords};
 ghost use Rattle.xs_run.specs.Extension.{IsExtended};
 ghost use Rattle.xs_run.specs.Replayed.{HoldsReaching, IsReplayed};
 ghost use Rattle.xs_run.specs.Certificates.{IsChecked};
+ghost use Rattle.xs_run.specs.Tables.{IsTabulable, IsTabulated, tabulated_case, tabulated_events};
+ghost use Rattle.xs_run.specs.Made.{IsMade, IsMaking, made_case};
 ghost use Rattle.xs_run.specs.Delivered.{ended_as, Stopped};
 ghost use Rattle.xs_desk.specs.declared.desk.WriteStop.TheVariants as write_stop;
 
@@ -26,10 +28,12 @@ use crate::event::load_event;
 use crate::faults::{Made, load_extension};
 use crate::input::Stop;
 use crate::loaded::load_case;
+use crate::make::{Making, deliver_made, generate};
 use crate::model::load_model;
 use crate::replay::replay_file;
-use crate::status::{Built, Refusal, Status};
+use crate::status::{Refusal, Status};
 use crate::top::load_top;
+use crate::tops::{Tabulating, deliver_table, load_table};
 use std::alloc::Global;
 use xs_adviser::{Adviser, Panel};
 use xs_desk::{Desk, WriteStop, say_whole, write_whole};
@@ -75,22 +79,47 @@ struct Check<'a> {
     cert: &'a str,
 }
 
-/// A command that is built.
+/// The files and the words of `fmea`: the model, the instructions and the top events; how many faults a row has at most,
+/// and how far the searches go.
+#[derive(Clone, Copy)]
+struct Fmea<'a> {
+    model: &'a str,
+    faults: &'a str,
+    tops: &'a str,
+    size: u32,
+    depth: u32,
+}
+
+/// The words of `make`: the number and the stages of a case, how far the search goes, and the two files that are written.
+#[derive(Clone, Copy)]
+struct Make<'a> {
+    number: u32,
+    stages: u32,
+    depth: u32,
+    model: &'a str,
+    faults: &'a str,
+}
+
+/// What the words ask for.
 #[derive(Clone, Copy)]
 enum Asked<'a> {
     Extend(Extend<'a>),
     Replay(Replay<'a>),
     Analyse(Analyse<'a>),
     Check(Check<'a>),
+    Fmea(Fmea<'a>),
+    Make(Make<'a>),
 }
 
 /// What is to be written and said once every refusal was tried: an extension to a file, and its report; a
-/// report alone; or what an analysis comes to.
+/// report alone; what an analysis comes to, or a table of them; or a generated case.
 #[derive(Drop)]
 enum Prepared<'a> {
     Extension(&'a str, Made),
     Report(ByteList),
     Analysis(Analysing<'a>),
+    Table(Tabulating),
+    Generated(Making<'a>),
 }
 
 /// Does what the words ask for. `extend` reads a model and instructions, writes the model extended with
@@ -101,6 +130,9 @@ enum Prepared<'a> {
 /// traces of at most so many steps as the depth ends bounded, and has no certificate.
 /// `check` reads a model, instructions, a top event and a certificate, and says that the certificate is accepted, and its
 /// size where that is below the number of faults; it writes nothing.
+/// `fmea` reads a model, instructions and a file of top events, analyses each event, and says a table with a row for each
+/// set of at most so many faults; it writes nothing. `make` writes a generated model and its instructions, analyses them,
+/// and says one line.
 /// All files are read, and every refusal is tried, before anything is written or said. A refusal says its one
 /// line and changes no file. The words are those of the command line without the program's own name. The advisers
 /// say what the search tries first; no answer is trusted to them.
@@ -140,6 +172,13 @@ pub fn run<D: Desk>(
     // length, with the traces that its texts give; no file was changed.
     ensures accepted { (model faults top cert : Text) → result ≡ Status.Done → AsksToCheck (map (λ w. w.now) words.now) model faults top cert →
         IfSome (D.files desk.old) (λ files. IsChecked files (D.said desk.old) (D.said desk.new) model faults top cert × (D.files desk.new ≡ D.files desk.old)) }
+    // A run that has finished a table has said it: each entry means what it says of the extended traces; no file was changed.
+    ensures tabulated { (model faults tops : Text) (size depth : ℕ) → IsFinished result → AsksToTabulate (map (λ w. w.now) words.now) model faults tops size depth →
+        IfSome (D.files desk.old) (λ files. IsTabulated files (D.said desk.old) (D.said desk.new) model faults tops size depth result × (D.files desk.new ≡ D.files desk.old)) }
+    // A run that has finished a generated case has written the generator's model and instructions, and said what they are and what
+    // an analysis of them found.
+    ensures made { (number stages depth : ℕ) (model faults : Text) → IsFinished result → AsksToMake (map (λ w. w.now) words.now) number stages depth model faults →
+        IfSome (D.files desk.old) (λ files. IsSomeAnd (D.files desk.new) (λ after. IsMade after (D.said desk.old) (D.said desk.new) number stages depth model faults result)) }
     // However it ends, nothing was done, or a part of that stands: a prefix of what would be written and said.
     ensures left { ((D.files desk.new ≡ D.files desk.old) × (D.said desk.new ≡ D.said desk.old)) ⊎ IfSome (D.files desk.old) (λ files.
         HasStopped files (map (λ w. w.now) words.now) (D.files desk.old) (D.files desk.new) (D.said desk.old) (D.said desk.new)) }
@@ -158,46 +197,43 @@ pub fn run<D: Desk>(
     }
 }
 
-/// What the words ask for, where it is built.
+/// What the words ask for.
 fn command_asked<'a>(words: &'a [&'a str]) -> Result<Asked<'a>, Refusal>
     ensures found { IfOk result (λ c. WordsMean (map (λ w. w.now) words.now) (command_of c)) }
+    ensures askable { IfOk result IsAskable }
     ensures refused { IfErr result (λ r. RefusesWords (map (λ w. w.now) words.now) r) }
 {
     match read_words(words) {
-        Ok(command) => match built(command) {
-            Some(command) => Ok(command),
-            None => Err(Refusal::NotBuilt(Built::Words)),
-        },
+        Ok(command) => Ok(asked_of(command)),
         Err(fault) => Err(Refusal::Words(fault)),
     }
 }
 
-/// A command, where it is built.
-fn built<'a>(command: Command<'a>) -> Option<Asked<'a>>
-    ensures found { IfSome result (λ c. seen command.entry ≡ command_of c) }
-    ensures none { IsNone result → IsNotBuilt (seen command.entry) }
+/// A command, with the words of each verb together.
+fn asked_of<'a>(command: Command<'a>) -> Asked<'a>
+    ensures { command_of result ≡ seen command.entry }
 {
     match command {
         Command::Extend {
             model,
             faults,
             extended,
-        } => Some(Asked::Extend(Extend {
+        } => Asked::Extend(Extend {
             model,
             faults,
             extended,
-        })),
+        }),
         Command::Replay {
             model,
             faults,
             trace,
             top,
-        } => Some(Asked::Replay(Replay {
+        } => Asked::Replay(Replay {
             model,
             faults,
             trace,
             top,
-        })),
+        }),
         Command::Analyse {
             model,
             faults,
@@ -206,7 +242,7 @@ fn built<'a>(command: Command<'a>) -> Option<Asked<'a>>
             extended,
             cert,
             size,
-        } => Some(Asked::Analyse(Analyse {
+        } => Asked::Analyse(Analyse {
             model,
             faults,
             top,
@@ -214,20 +250,44 @@ fn built<'a>(command: Command<'a>) -> Option<Asked<'a>>
             extended,
             cert,
             size,
-        })),
+        }),
         Command::Check {
             model,
             faults,
             top,
             cert,
-        } => Some(Asked::Check(Check {
+        } => Asked::Check(Check {
             model,
             faults,
             top,
             cert,
-        })),
-        Command::Fmea { .. } => None,
-        Command::Make { .. } => None,
+        }),
+        Command::Fmea {
+            model,
+            faults,
+            tops,
+            size,
+            depth,
+        } => Asked::Fmea(Fmea {
+            model,
+            faults,
+            tops,
+            size,
+            depth,
+        }),
+        Command::Make {
+            number,
+            stages,
+            depth,
+            model,
+            faults,
+        } => Asked::Make(Make {
+            number,
+            stages,
+            depth,
+            model,
+            faults,
+        }),
     }
 }
 
@@ -251,6 +311,7 @@ fn prepare<'a, D: Desk>(
     desk: &mut D,
     asked: &Asked<'a>,
 ) -> Result<Prepared<'a>, Stop>
+    requires { IsAskable asked.now }
     ensures ok { IfOk result (λ done. IfSome (D.files desk.old) (λ files. CommandComesTo files (command_of asked.now) (outcome_of done))) }
     ensures workable { IfOk result IsWorkable }
     ensures refused { (r : Refusal) → IsErrOf result (stops.Refused r) → IfSome (D.files desk.old) (λ files. CommandComesTo files (command_of asked.now) (refuses r)) }
@@ -277,6 +338,14 @@ fn prepare<'a, D: Desk>(
         Asked::Check(files) => {
             let report = prepare_check(alloc, desk, files)?;
             Ok(Prepared::Report(report))
+        }
+        Asked::Fmea(asked) => {
+            let tabulating = prepare_table(alloc, desk, asked)?;
+            Ok(Prepared::Table(tabulating))
+        }
+        Asked::Make(asked) => {
+            let making = prepare_made(alloc, asked)?;
+            Ok(Prepared::Generated(making))
         }
     }
 }
@@ -361,6 +430,49 @@ fn prepare_check<D: Desk>(alloc: Global, desk: &mut D, asked: &Check) -> Result<
     check_file(alloc, desk, asked.cert, &loaded)
 }
 
+/// Reads the three files of a table.
+fn prepare_table<D: Desk>(alloc: Global, desk: &mut D, asked: &Fmea) -> Result<Tabulating, Stop>
+    requires { asked.now.size ≤ 2 }
+    ensures ok { IfOk result (λ a. IfSome (D.files desk.old) (λ files.
+        TableComesTo files asked.now.model.now asked.now.faults.now asked.now.tops.now asked.now.size asked.now.depth
+        (tabulates (tabulated_case a) (tabulated_events a) a.size a.depth))) }
+    ensures able { IfOk result IsTabulable }
+    ensures refused { (r : Refusal) → IsErrOf result (stops.Refused r) → IfSome (D.files desk.old) (λ files.
+        TableComesTo files asked.now.model.now asked.now.faults.now asked.now.tops.now asked.now.size asked.now.depth (refuses r)) }
+    ensures failed { IsErrOf result stops.Desk → Rose (D.faults desk.old) (D.faults desk.new) }
+
+    ensures files { D.files desk.new ≡ D.files desk.old }
+    ensures said { D.said desk.new ≡ D.said desk.old }
+    ensures later { D.faults desk.old ≤ D.faults desk.new }
+    ensures quiet { D.quiet desk.old → D.quiet desk.new × (D.faults desk.new ≡ D.faults desk.old) }
+{
+    load_table(
+        alloc,
+        desk,
+        asked.model,
+        asked.faults,
+        asked.tops,
+        asked.size,
+        asked.depth,
+    )
+}
+
+/// Generates a case, with where its files go.
+fn prepare_made<'a>(alloc: Global, asked: &Make<'a>) -> Result<Making<'a>, OutOfMemory>
+    ensures ok { IfOk result (λ m. MakeComesTo asked.now.number asked.now.stages asked.now.depth asked.now.model.now asked.now.faults.now
+        (makes (made_case m) m.stages m.depth m.model.now m.faults.now)) }
+    ensures making { IfOk result IsMaking }
+{
+    let made = generate(alloc, asked.number, asked.stages)?;
+    Ok(Making {
+        made,
+        stages: asked.stages,
+        depth: asked.depth,
+        model: asked.model,
+        faults: asked.faults,
+    })
+}
+
 /// Writes and says what was made, or searches first.
 fn deliver<D: Desk>(alloc: Global, desk: &mut D, done: &Prepared, panel: &mut Panel) -> Status
     requires { IsWorkable done.now }
@@ -374,6 +486,8 @@ fn deliver<D: Desk>(alloc: Global, desk: &mut D, done: &Prepared, panel: &mut Pa
         Prepared::Extension(file, made) => { ended(Status::Done, write_and_say(desk, file, made)) }
         Prepared::Report(report) => ended(Status::Done, say_whole(desk, report.as_slice())),
         Prepared::Analysis(asked) => finished(deliver_analysis(alloc, desk, asked, panel)),
+        Prepared::Table(asked) => finished(deliver_table(alloc, desk, asked, panel)),
+        Prepared::Generated(asked) => finished(deliver_made(alloc, desk, asked, panel)),
     }
 }
 

@@ -39,7 +39,7 @@ pub struct Found {
 }
 
 /// The size with which so many faults are searched.
-pub(crate) fn size_of(size: Option<u32>, faults: usize) -> u32
+pub fn size_of(size: Option<u32>, faults: usize) -> u32
     requires { faults < 2 ^ 32 }
     ensures { result ≡ size_for size faults }
 {
@@ -60,7 +60,7 @@ pub(crate) fn status_of(ending: Ending) -> Status
 }
 
 /// The analysis of a case for a top event. More symbols than numbers of them are want of memory.
-pub(crate) fn analysed(
+pub fn analysed(
     alloc: Global,
     case: &LoadedCase,
     top: &Expr<Flat>,

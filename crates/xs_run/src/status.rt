@@ -7,13 +7,6 @@ use std::alloc::Global;
 use xs_value::{ByteList, OutOfMemory};
 use xs_words::WordFault;
 
-/// What this program can't do yet.
-#[derive(Clone, Copy, Debug, PartialEq, Eq)]
-pub enum Built {
-    /// The words mean `fmea` or `make`.
-    Words,
-}
-
 /// What is wrong with an input: how far the work on it came.
 #[derive(Clone, Copy, Debug, PartialEq, Eq)]
 pub enum Part {
@@ -33,6 +26,8 @@ pub enum Part {
     Weave,
     /// The effect of a mode is not allowed at its variable.
     Effect,
+    /// There are too many.
+    Count,
     /// The text gives no trace, or spells no certificate.
     Read,
 }
@@ -70,7 +65,6 @@ pub enum Objection {
 /// What is refused, each with its one line.
 #[derive(Clone, Copy, Debug, PartialEq, Eq)]
 pub enum Refusal {
-    NotBuilt(Built),
     Words(WordFault),
     Model(InputFault),
     Faults(InputFault),
@@ -85,8 +79,6 @@ pub enum Status {
     Done,
     /// The work is done, and right for the traces of at most so many steps.
     Bounded(u32),
-    /// A part of the work is not built yet.
-    NotBuilt(Built),
     /// The words mean no command.
     Words(WordFault),
     /// The model is refused.
@@ -112,7 +104,7 @@ impl Status {
         match self {
             Status::Done => 0,
             Status::Bounded(_) => 1,
-            Status::NotBuilt(Built::Words) | Status::Words(_) => 2,
+            Status::Words(_) => 2,
             Status::Model(_) => 3,
             Status::Faults(_) => 4,
             Status::Top(_) => 5,
@@ -129,7 +121,6 @@ impl Refusal {
         ensures { result ≡ status_of self }
     {
         match self {
-            Refusal::NotBuilt(built) => Status::NotBuilt(built),
             Refusal::Words(fault) => Status::Words(fault),
             Refusal::Model(fault) => Status::Model(fault),
             Refusal::Faults(fault) => Status::Faults(fault),
@@ -143,9 +134,6 @@ impl Refusal {
         ensures { IfOk result (λ line. line ≡ refusal_text self) }
     {
         match self {
-            Refusal::NotBuilt(Built::Words) => {
-                ByteList::from_slice(alloc, b"refused words 0 at 1\n")
-            }
             Refusal::Words(fault) => words_line(alloc, fault),
             Refusal::Model(fault) => fault_line(alloc, b"refused model ", fault),
             Refusal::Faults(fault) => fault_line(alloc, b"refused faults ", fault),
@@ -229,7 +217,7 @@ fn append_place(
 }
 
 /// The part as the line names it, with a space after it.
-fn part_name(part: Part) -> &'static [u8]
+pub fn part_name(part: Part) -> &'static [u8]
     ensures { result.now ≡ part_text part }
 {
     match part {
@@ -241,6 +229,7 @@ fn part_name(part: Part) -> &'static [u8]
         Part::Kinds => b"type ",
         Part::Weave => b"weave ",
         Part::Effect => b"effect ",
+        Part::Count => b"count ",
         Part::Read => b"read ",
     }
 }

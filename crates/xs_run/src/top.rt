@@ -33,7 +33,7 @@ use xs_value::Dotted;
 const TOP_LIMIT: usize = 65_536;
 
 /// The top event that a word spells, over the flat model of the extension.
-pub(crate) fn load_top(
+pub fn load_top(
     alloc: Global,
     word: &str,
     model: &LoadedModel,
@@ -52,7 +52,7 @@ pub(crate) fn load_top(
 }
 
 /// The end of the work where this is wrong with the top event.
-fn top_stop(wrong: Wrong) -> Stop
+pub(crate) fn top_stop(wrong: Wrong) -> Stop
     ensures { result ≡ stop_at_top wrong }
 {
     match wrong {
@@ -100,7 +100,7 @@ fn written_top(alloc: Global, bytes: &[u8]) -> Result<Expr<Dotted>, Wrong>
 }
 
 /// Refuses an expression that is no top event of the model.
-fn judge_top(alloc: Global, model: &LoadedModel, top: &Expr<Dotted>) -> Result<(), Wrong>
+pub(crate) fn judge_top(alloc: Global, model: &LoadedModel, top: &Expr<Dotted>) -> Result<(), Wrong>
     requires lawful { IsLawful (program_tree model.now.program) (model_tree model.now.typed.model) }
     ensures ok { OnOk result (IsTop (program_tree model.now.program) (tree_of top.now)) }
     ensures wrong { IfErr result (IfRefused (IsWrongTop (program_tree model.now.program) (tree_of top.now) 0)) }
@@ -111,7 +111,7 @@ fn judge_top(alloc: Global, model: &LoadedModel, top: &Expr<Dotted>) -> Result<(
 }
 
 /// A top event that breaks no rule of names over a program, over its flat model.
-fn over_extension(
+pub(crate) fn over_extension(
     alloc: Global,
     program: &Program,
     flat: &FlatModel,

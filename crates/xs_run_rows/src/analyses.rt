@@ -1,4 +1,5 @@
-// Rows of analyses over desks in memory: how each run ends, and what it says but for the traces, which are free.
+// Rows of analyses, tables and generated cases over desks in memory: how each run ends, and what it says but for the traces, which
+// are free.
 
 use std::alloc::Global;
 use xs_adviser::{Adviser, InOrder};
@@ -103,6 +104,13 @@ fn all_hold(alloc: Global, rows: &[Row]) -> Result<bool, OutOfMemory> {
         }
     }
     Ok(true)
+}
+
+/// Whether a run with these words ends with this number and says this text.
+fn says(alloc: Global, desk: MemoryDesk, words: &[&str], number: i32, said: &[u8]) -> bool {
+    let mut desk = desk;
+    let status = run(alloc, words, &mut desk, Vec::new(alloc));
+    status.number() == number && desk.said() == said
 }
 
 #[test]
@@ -220,5 +228,26 @@ fn an_analysis_is_bounded_or_complete(rt: HostRuntime) -> Result<(), OutOfMemory
         },
     ];
     assert!(rt; all_hold(rt.alloc(), &rows)?);
+    Ok(())
+}
+
+#[test]
+fn tables_and_generated_cases_are_said(rt: HostRuntime) -> Result<(), OutOfMemory> {
+    let alloc = rt.alloc();
+    let table = [
+        "fmea", "--model", "m", "--faults", "f", "--tops", "t", "--size", "2", "--depth", "2050",
+    ];
+    let desk = desk_of(alloc, PAIR, BOTH, b"a & b; n = 3")?;
+    let rows: &[u8] =
+        b"faults 2\nfault 1 A.on\nfault 2 B.on\ntops 2\ntop 1 complete\ntop 2 complete\nrow : no no\nrow 1 : no yes\nrow 2 : no no\nrow 1 2 : yes yes\n";
+    assert!(rt; says(alloc, desk, &table, 0, rows));
+    let desk = desk_of(alloc, PAIR, BOTH, b"a & b; next(a)")?;
+    assert!(rt; says(alloc, desk, &table, 5, b"refused top flat 12 at 2\n"));
+    let make = [
+        "make", "--number", "1", "--stages", "3", "--depth", "50", "--model", "a", "--faults", "b",
+    ];
+    let desk = desk_of(alloc, PAIR, BOTH, b"")?;
+    let summary: &[u8] = b"stages 3 variables 9 faults 3 bits 12 sets 2 complete\n";
+    assert!(rt; says(alloc, desk, &make, 0, summary));
     Ok(())
 }

@@ -1,8 +1,8 @@
 //! The tests of the whole program over desks in memory.
 //!
 //! A crate with tests is proved a second time with them, so the crate of the top call has none: they stand here. The
-//! modules: `extensions` (models that are extended, and every kind of refusal), `replays`, `analyses` and
-//! `certificates`.
+//! modules: `extensions` (models that are extended, and every kind of refusal), `replays`, `analyses` (with tables and
+//! generated cases) and `certificates`.
 #![tactic(auto)]
 
 #[cfg(test)]

@@ -1,5 +1,5 @@
-//! Extends SMV models with faults, replays traces of the extensions, finds their minimal cut sets, and checks
-//! certificates of them.
+//! Extends SMV models with faults, replays traces of the extensions, finds their minimal cut sets, checks
+//! certificates of them, makes tables of them, and generates cases.
 //!
 //! `main` hands [`xs_run::run::run`] the words of the command line, a desk over real files, and the advisers of the
 //! search; all that is promised of a run stands at that call.
@@ -9,6 +9,8 @@
 //! xsap_program replay --model lamp.smv --faults lamp.fei --trace dark.trace --top '!on'
 //! xsap_program analyse --model lamp.smv --faults lamp.fei --top '!on' --depth 4 --extended out.smv --cert out.cert
 //! xsap_program check --model lamp.smv --faults lamp.fei --top '!on' --cert out.cert
+//! xsap_program fmea --model lamp.smv --faults lamp.fei --tops lamp.tops --size 1 --depth 4
+//! xsap_program make --number 1 --stages 8 --depth 50 --model rails.smv --faults rails.fei
 //! ```
 #![tactic(auto)]
 

@@ -29,3 +29,9 @@ returns-in_err-report-in-Check-clause-refused g c r e =
     let exit = err_from_is_err_and c.from_residual-in_err-report-in-Check.result c.from_residual-in_err-report-in-Check.ensures.1 in
     let refused : IsErrOf c.prepare_check.result (stops.Refused r) = c.in_err-report-in-Check.was ∙ ap (λ s. Err s) (sym exit.2 ∙ same_error (sym exit.1 ∙ e)) in
     subst (λ a. IfSome (g.D.Desk.files c.args.desk.now) (λ files. CommandComesTo files (command_of a) (refuses r))) (sym c.in-Check.is) (c.prepare_check.ensures.refused r refused)
+
+pub returns-in_err-tabulating-in-Fmea-clause-refused : goal.returns-in_err-tabulating-in-Fmea-clause-refused
+returns-in_err-tabulating-in-Fmea-clause-refused g c r e =
+    let exit = err_from_is_err_and c.from_residual-in_err-tabulating-in-Fmea.result c.from_residual-in_err-tabulating-in-Fmea.ensures.1 in
+    let refused : IsErrOf c.prepare_table.result (stops.Refused r) = c.in_err-tabulating-in-Fmea.was ∙ ap (λ s. Err s) (sym exit.2 ∙ same_error (sym exit.1 ∙ e)) in
+    subst (λ a. IfSome (g.D.Desk.files c.args.desk.now) (λ files. CommandComesTo files (command_of a) (refuses r))) (sym c.in-Fmea.is) (c.prepare_table.ensures.refused r refused)

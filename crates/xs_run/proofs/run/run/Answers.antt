@@ -7,6 +7,8 @@ use Rattle.xs_run.proofs.OneOutcome.{answers_exactly}
 use Rattle.xs_run.proofs.ReplayedLaws.{done_replays, reaching_is_done}
 use Rattle.xs_run.proofs.AnalysedLaws.{done_analyses, bounded_analyses}
 use Rattle.xs_run.proofs.CheckedLaws.{done_checks}
+use Rattle.xs_run.proofs.TabulatedLaws.{finished_tabulates}
+use Rattle.xs_run.proofs.MadeLaws.{finished_makes}
 use Rattle.xs_run.proofs.run.run.Goals as goal
 
 pub returns-in-Err-clause-answered : goal.returns-in-Err-clause-answered
@@ -101,3 +103,21 @@ returns-in-Ok-prepare-clause-accepted g c model faults top cert = done_checks _ 
 
 pub returns-in-Err-prepare-clause-accepted : goal.returns-in-Err-prepare-clause-accepted
 returns-in-Err-prepare-clause-accepted g c model faults top cert = done_checks _ _ _ _ _ _ model faults top cert (returns-in-Err-prepare-clause-answered g c)
+
+pub returns-in-Err-clause-tabulated : goal.returns-in-Err-clause-tabulated
+returns-in-Err-clause-tabulated g c model faults tops size depth = finished_tabulates _ _ _ _ _ _ model faults tops size depth (returns-in-Err-clause-answered g c)
+
+pub returns-in-Err-clause-made : goal.returns-in-Err-clause-made
+returns-in-Err-clause-made g c number stages depth model faults = finished_makes _ _ _ _ _ _ number stages depth model faults (returns-in-Err-clause-answered g c)
+
+pub returns-in-Ok-prepare-clause-tabulated : goal.returns-in-Ok-prepare-clause-tabulated
+returns-in-Ok-prepare-clause-tabulated g c model faults tops size depth = finished_tabulates _ _ _ _ _ _ model faults tops size depth (returns-in-Ok-prepare-clause-answered g c)
+
+pub returns-in-Ok-prepare-clause-made : goal.returns-in-Ok-prepare-clause-made
+returns-in-Ok-prepare-clause-made g c number stages depth model faults = finished_makes _ _ _ _ _ _ number stages depth model faults (returns-in-Ok-prepare-clause-answered g c)
+
+pub returns-in-Err-prepare-clause-tabulated : goal.returns-in-Err-prepare-clause-tabulated
+returns-in-Err-prepare-clause-tabulated g c model faults tops size depth = finished_tabulates _ _ _ _ _ _ model faults tops size depth (returns-in-Err-prepare-clause-answered g c)
+
+pub returns-in-Err-prepare-clause-made : goal.returns-in-Err-prepare-clause-made
+returns-in-Err-prepare-clause-made g c number stages depth model faults = finished_makes _ _ _ _ _ _ number stages depth model faults (returns-in-Err-prepare-clause-answered g c)

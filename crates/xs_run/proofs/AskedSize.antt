@@ -1,0 +1,39 @@
+-- The size that words ask a table for is at most two.
+use Rattle.std.proofs.Common.{◌≡◌, ◌≤◌, inl, inr, ℕ, List, [], ◌∷◌, Option, Some, refl, subst}
+use Rattle.std.specs.Prelude.{codes}
+use Rattle.xs_tree.specs.ProgramTree.{Text}
+use Rattle.xs_run.specs.declared.run.Asked.{Asked}
+use Rattle.xs_run.specs.declared.run.Asked.TheVariants as ask
+use Rattle.xs_run.specs.Prepared.{command_of, IsAskable}
+use Rattle.xs_words.specs.declared.choice.Kind.{Kind}
+use Rattle.xs_words.specs.declared.choice.Kind.TheVariants as kind
+use Rattle.xs_words.specs.declared.verb.Verb.TheVariants as verb
+use Rattle.xs_words.specs.Commands.{Given, fmea}
+use Rattle.xs_words.specs.Table.{Choice, options_of, kind_in, Fits}
+use Rattle.xs_words.specs.Meaning.{Each, Gives, IsLawful, AreLawful, Makes, tabulates as makes_table, Means as WordsMean}
+
+same_kind : {o : Option Kind} {j k : Kind} → o ≡ Some j → o ≡ Some k → j ≡ k
+same_kind h g = cc
+
+-- a value that lawful pairs give an option fits it
+given_fits : (options : List Choice) (pairs : List Given) (option value : Text) → Each (IsLawful options) pairs → Gives pairs option value → (k : Kind) → kind_in options option ≡ Some k → Fits k value
+given_fits options [] option value h gives k known = absurd gives
+given_fits options (p ∷ ps) option value h (inl is) k known =
+    subst (Fits k) is.1 (subst (λ j. Fits j p.value) (same_kind (subst (λ o. kind_in options o ≡ Some h.0.kind) is.0 h.0.known) known) h.0.fits)
+given_fits options (p ∷ ps) option value h (inr more) k known = given_fits options ps option value h.1 more k known
+
+pub asked_small : (words : List Text) (model faults tops : Text) (size depth : ℕ) → WordsMean words (fmea model faults tops size depth) → size ≤ 2
+asked_small words model faults tops size depth asks = by_verb asks.verb asks.makes asks.lawful
+  where
+    by_verb : (v : _) → Makes asks.pairs v (fmea model faults tops size depth) → AreLawful (options_of v) asks.pairs → size ≤ 2
+    by_verb v (makes_table _ _ _ _ _ m f t s d) lawful =
+        subst (λ n. n ≤ 2) s.is (given_fits (options_of verb.Fmea) asks.pairs (codes "--size") s.value lawful.each s.given (kind.Number 0 2) refl).below
+
+-- so that what is asked for can be done
+pub askable : (words : List Text) (a : Asked) → WordsMean words (command_of a) → IsAskable a
+askable words (ask.Extend e) means = tt
+askable words (ask.Replay r) means = tt
+askable words (ask.Analyse a) means = tt
+askable words (ask.Check k) means = tt
+askable words (ask.Fmea f) means = asked_small words f.model.now f.faults.now f.tops.now f.size f.depth means
+askable words (ask.Make m) means = tt

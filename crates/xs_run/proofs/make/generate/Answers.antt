@@ -1,0 +1,8 @@
+use Rattle.xs_run.proofs.MakeLaws.{model_read, instructions_read}
+use Rattle.xs_run.proofs.make.generate.Goals as goal
+
+pub returns-clause-program : goal.returns-clause-program
+returns-clause-program c = model_read _ _ _ _ c.deref.ensures.value c.in_ok-loaded.ensures.program c.in_ok-program.ensures.spells
+
+pub returns-clause-instructions : goal.returns-clause-instructions
+returns-clause-instructions c = instructions_read _ _ _ _ c.deref-2.ensures.value c.in_ok-loaded.ensures.instructions c.in_ok-instructions.ensures.spells
