@@ -2,9 +2,9 @@
 use Rattle.std.proofs.Common.{◌≡◌, ◌≤◌, inl, inr, ℕ, List, [], ◌∷◌, Option, Some, refl, subst}
 use Rattle.std.specs.Prelude.{codes}
 use Rattle.xs_tree.specs.ProgramTree.{Text}
-use Rattle.xs_run.specs.declared.run.Asked.{Asked}
-use Rattle.xs_run.specs.declared.run.Asked.TheVariants as ask
-use Rattle.xs_run.specs.Prepared.{command_of, IsAskable}
+use Rattle.xs_run.specs.declared.asked.Asked.{Asked}
+use Rattle.xs_run.specs.declared.asked.Asked.TheVariants as ask
+use Rattle.xs_run.specs.Commanded.{command_of, IsAskable}
 use Rattle.xs_words.specs.declared.choice.Kind.{Kind}
 use Rattle.xs_words.specs.declared.choice.Kind.TheVariants as kind
 use Rattle.xs_words.specs.declared.verb.Verb.TheVariants as verb

@@ -1,5 +1,5 @@
 -- From the parts of a run to its outcome.
-use Rattle.std.proofs.Common.{arith, ◌≡◌, ◌≤◌, ◌⊎◌, inl, inr, ⊎_elim, ℕ, List, Option, Some, None, IfSome, Result, Ok, Err, OnOk, OnErr, length, refl, sym, ap, subst, ◌∙◌}
+use Rattle.std.proofs.Common.{arith, ◌≡◌, ◌≤◌, ◌⊎◌, inl, inr, ⊎_elim, ℕ, List, Option, Some, None, IfSome, Result, Ok, Err, IfOk, OnOk, OnErr, length, refl, sym, ap, subst, ◌∙◌}
 use Rattle.std.proofs.Math.Seq.{take-length}
 use Rattle.xs_desk.specs.declared.files.NamedFile.{NamedFile}
 use Rattle.xs_desk.specs.Desk.{said_more, SaysPrefix}
@@ -12,10 +12,11 @@ use Rattle.xs_run.specs.declared.faults.Made.{Made}
 use Rattle.xs_desk.specs.declared.desk.WriteStop.{WriteStop}
 use Rattle.xs_desk.specs.declared.desk.WriteStop.TheVariants as write_stop
 use Rattle.xs_run.specs.Delivered.{ended_as, Stopped}
+use Rattle.xs_run.specs.Searches.{finished_as}
 use Rattle.xs_run.specs.Inputs.{RefusesModel, HoldsModel, RefusesFaults, HoldsExtension}
 use Rattle.xs_run.specs.Cases.{Case, HoldsCase, IsWrongWord}
 use Rattle.xs_run.specs.Loaded.{case_of, HoldsLoaded, IsTopIn}
-use Rattle.xs_run.specs.Runs.{Outcome, refuses, extends, ComesTo, refuses_model, refuses_faults, is_extended, TraceComesTo, ReplayComesTo, refuses_its_model, refuses_its_faults, refuses_its_top, reads_its_trace, CommandComesTo, Means, asked, refuses_words, IsAnswer, IsDelivered, IsDeliveredInPart, HasAnswered, HasStopped}
+use Rattle.xs_run.specs.Runs.{Outcome, refuses, extends, ComesTo, refuses_model, refuses_faults, is_extended, TraceComesTo, ReplayComesTo, refuses_its_model, refuses_its_faults, refuses_its_top, reads_its_trace, CommandComesTo, Means, asked, refuses_words, IsAnswer, IsDelivered, IsDeliveredInPart, Stands, StandsInPart, IsCarriedOut, IsLeftInPart, HasAnswered, HasStopped}
 use Rattle.xs_run.specs.declared.loaded.LoadedCase.{LoadedCase}
 use Rattle.xs_run.specs.declared.status.InputFault.{InputFault}
 use Rattle.xs_run.specs.declared.status.Refusal.{Refusal}
@@ -110,42 +111,42 @@ no_answer : {s : Status} {P : Type 0} → (s ≡ status.Desk) ⊎ (s ≡ status.
 no_answer (inl desk) answer = absurd (subst IsAnswer desk answer)
 no_answer (inr memory) answer = absurd (subst IsAnswer memory answer)
 
-module _ (words : List Text) (told mid after : Option (List NamedFile)) (said mid_said now : Option (List ℕ)) (same : mid ≡ told) (same_said : mid_said ≡ said) where
+module _ (Comes : List NamedFile → Outcome → Type 0) (told mid after : Option (List NamedFile)) (said mid_said now : Option (List ℕ)) (same : mid ≡ told) (same_said : mid_said ≡ said) where
   -- a refusal that was said
-  pub answers_refusal : (r : Refusal) (s : Status) → IfSome told (λ files. Means files words (refuses r)) → (s ≡ status_of r) ⊎ ((s ≡ status.Desk) ⊎ (s ≡ status.Memory)) →
-      (s ≡ status_of r → now ≡ said_more mid_said (refusal_text r)) → after ≡ mid → IsAnswer s → IfSome told (λ files. HasAnswered files words s told after said now)
+  pub answers_refusal : (r : Refusal) (s : Status) → IfSome told (λ files. Comes files (refuses r)) → (s ≡ status_of r) ⊎ ((s ≡ status.Desk) ⊎ (s ≡ status.Memory)) →
+      (s ≡ status_of r → now ≡ said_more mid_said (refusal_text r)) → after ≡ mid → IsAnswer s → IfSome told (λ files. Stands (Comes files) s told after said now)
   answers_refusal r s means ends said_line kept answer = ⊎_elim (λ is. at_told told means (kept ∙ same) is) (λ other. no_answer other answer) ends where
-    at_told : (t : Option (List NamedFile)) → IfSome t (λ files. Means files words (refuses r)) → after ≡ told → s ≡ status_of r → IfSome t (λ files. HasAnswered files words s told after said now)
+    at_told : (t : Option (List NamedFile)) → IfSome t (λ files. Comes files (refuses r)) → after ≡ told → s ≡ status_of r → IfSome t (λ files. Stands (Comes files) s told after said now)
     at_told None means whole is = tt
     at_told (Some files) means whole is =
         record { outcome = refuses r; means = means; delivered = (is, whole, said_line is ∙ ap (λ t. said_more t (refusal_text r)) same_said) }
 
-  pub stops_at_refusal : (r : Refusal) → IfSome told (λ files. Means files words (refuses r)) → SaysPrefix mid_said now (refusal_text r) → after ≡ mid →
-      IfSome told (λ files. HasStopped files words told after said now)
+  pub stops_at_refusal : (r : Refusal) → IfSome told (λ files. Comes files (refuses r)) → SaysPrefix mid_said now (refusal_text r) → after ≡ mid →
+      IfSome told (λ files. StandsInPart (Comes files) told after said now)
   stops_at_refusal r means front kept = at_told told means (kept ∙ same) where
-    at_told : (t : Option (List NamedFile)) → IfSome t (λ files. Means files words (refuses r)) → after ≡ told → IfSome t (λ files. HasStopped files words told after said now)
+    at_told : (t : Option (List NamedFile)) → IfSome t (λ files. Comes files (refuses r)) → after ≡ told → IfSome t (λ files. StandsInPart (Comes files) told after said now)
     at_told None means whole = tt
     at_told (Some files) means whole = record { outcome = refuses r; means = means; in_part = (whole, subst (λ t. SaysPrefix t now (refusal_text r)) same_said front) }
 
   -- a run that could not go on
-  pub answers_stop : (stop : Stop) (s : Status) → ((r : Refusal) → stop ≡ stopped.Refused r → IfSome told (λ files. Means files words (refuses r))) →
-      Stopped stop s mid after mid_said now → IsAnswer s → IfSome told (λ files. HasAnswered files words s told after said now)
+  pub answers_stop : (stop : Stop) (s : Status) → ((r : Refusal) → stop ≡ stopped.Refused r → IfSome told (λ files. Comes files (refuses r))) →
+      Stopped stop s mid after mid_said now → IsAnswer s → IfSome told (λ files. Stands (Comes files) s told after said now)
   answers_stop (stopped.Refused r) s means ended answer = answers_refusal r s (means r refl) ended.ends ended.line ended.kept answer
   answers_stop stopped.Desk s means ended answer = no_answer (inl ended.ends) answer
   answers_stop stopped.Memory s means ended answer = no_answer (inr ended.ends) answer
 
-  pub leaves_stop : (stop : Stop) (s : Status) → ((r : Refusal) → stop ≡ stopped.Refused r → IfSome told (λ files. Means files words (refuses r))) →
+  pub leaves_stop : (stop : Stop) (s : Status) → ((r : Refusal) → stop ≡ stopped.Refused r → IfSome told (λ files. Comes files (refuses r))) →
       Stopped stop s mid after mid_said now →
-      ((after ≡ told) × (now ≡ said)) ⊎ IfSome told (λ files. HasStopped files words told after said now)
+      ((after ≡ told) × (now ≡ said)) ⊎ IfSome told (λ files. StandsInPart (Comes files) told after said now)
   leaves_stop (stopped.Refused r) s means ended = inr (stops_at_refusal r (means r refl) ended.part ended.kept)
   leaves_stop stopped.Desk s means ended = inl (ended.kept ∙ same, ended.silent ∙ same_said)
   leaves_stop stopped.Memory s means ended = inl (ended.kept ∙ same, ended.silent ∙ same_said)
 
   -- what was prepared was written and said
-  pub answers_prepared : (o : Outcome) (s : Status) → IfSome told (λ files. Means files words o) → (IsAnswer s → IsDelivered o s mid after mid_said now) → IsAnswer s →
-      IfSome told (λ files. HasAnswered files words s told after said now)
+  pub answers_prepared : (o : Outcome) (s : Status) → IfSome told (λ files. Comes files o) → (IsAnswer s → IsDelivered o s mid after mid_said now) → IsAnswer s →
+      IfSome told (λ files. Stands (Comes files) s told after said now)
   answers_prepared o s means delivered answer = at_told told means where
-    at_told : (t : Option (List NamedFile)) → IfSome t (λ files. Means files words o) → IfSome t (λ files. HasAnswered files words s told after said now)
+    at_told : (t : Option (List NamedFile)) → IfSome t (λ files. Comes files o) → IfSome t (λ files. Stands (Comes files) s told after said now)
     at_told None means = tt
     at_told (Some files) means =
         record {
@@ -154,9 +155,9 @@ module _ (words : List Text) (told mid after : Option (List NamedFile)) (said mi
           delivered = subst (λ t. IsDelivered o s t after said now) same (subst (λ t. IsDelivered o s mid after t now) same_said (delivered answer));
         }
 
-  pub stops_at_prepared : (o : Outcome) → IfSome told (λ files. Means files words o) → IsDeliveredInPart o mid after mid_said now → IfSome told (λ files. HasStopped files words told after said now)
+  pub stops_at_prepared : (o : Outcome) → IfSome told (λ files. Comes files o) → IsDeliveredInPart o mid after mid_said now → IfSome told (λ files. StandsInPart (Comes files) told after said now)
   stops_at_prepared o means part = at_told told means where
-    at_told : (t : Option (List NamedFile)) → IfSome t (λ files. Means files words o) → IfSome t (λ files. HasStopped files words told after said now)
+    at_told : (t : Option (List NamedFile)) → IfSome t (λ files. Comes files o) → IfSome t (λ files. StandsInPart (Comes files) told after said now)
     at_told None means = tt
     at_told (Some files) means =
         record {
@@ -171,7 +172,31 @@ ended_answers P (Ok done) s is so answer = (is, so)
 ended_answers P (Err write_stop.Failed) s is so answer = absurd (subst IsAnswer is answer)
 ended_answers P (Err write_stop.OutOfMemory) s is so answer = absurd (subst IsAnswer is answer)
 
+-- work that ends with its own status has it where there is an answer
+pub finished_answers : (P : Status → Type 0) (done : Result Status WriteStop) (s : Status) → s ≡ finished_as done → IfOk done P → IsAnswer s → P s
+finished_answers P (Ok t) s is so answer = subst P (sym is) so
+finished_answers P (Err write_stop.Failed) s is so answer = absurd (subst IsAnswer is answer)
+finished_answers P (Err write_stop.OutOfMemory) s is so answer = absurd (subst IsAnswer is answer)
+
+-- what holds whatever the files are
+pub for_files : (P : Type 0) (told : Option (List NamedFile)) → P → IfSome told (λ files. P)
+for_files P None so = tt
+for_files P (Some files) so = so
+
 -- words that are refused
 pub means_refused : (told : Option (List NamedFile)) (words : List Text) (r : Refusal) → RefusesWords words r → IfSome told (λ files. Means files words (refuses r))
 means_refused None words r refused = tt
 means_refused (Some files) words r refused = refuses_words r refused
+
+-- a command that was carried out is the answer to the words that mean it
+pub answers_carried : (told after : Option (List NamedFile)) (said now : Option (List ℕ)) (words : List Text) (c : Command) (s : Status) → WordsMean words c → IsCarriedOut c s told after said now →
+    IsAnswer s → IfSome told (λ files. HasAnswered files words s told after said now)
+answers_carried None after said now words c s means carried answer = tt
+answers_carried (Some files) after said now words c s means carried answer =
+    let given = carried answer in record { outcome = given.outcome; means = asked c given.outcome means given.means; delivered = given.delivered }
+
+pub stops_carried : (told after : Option (List NamedFile)) (said now : Option (List ℕ)) (words : List Text) (c : Command) → WordsMean words c → IsLeftInPart c told after said now →
+    ((after ≡ told) × (now ≡ said)) ⊎ IfSome told (λ files. HasStopped files words told after said now)
+stops_carried told after said now words c means (inl same) = inl same
+stops_carried None after said now words c means (inr part) = inr tt
+stops_carried (Some files) after said now words c means (inr part) = inr (record { outcome = part.outcome; means = asked c part.outcome means part.means; in_part = part.in_part })

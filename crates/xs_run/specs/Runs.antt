@@ -1,5 +1,5 @@
 -- What a run comes to, and what it leaves behind.
-use Rattle.std.specs.Prelude.{◌≡◌, ℕ, List, Option, length}
+use Rattle.std.specs.Prelude.{◌≡◌, ◌⊎◌, ℕ, List, Option, IfSome, length}
 use Rattle.xs_desk.specs.declared.files.NamedFile.{NamedFile}
 use Rattle.xs_desk.specs.Desk.{told_with, said_more, SaysPrefix, WritesPrefix}
 use Rattle.xs_tree.specs.ProgramTree.{Text, Formula, ProgramTree}
@@ -121,17 +121,33 @@ IsDeliveredInPart (analyses c word depth size extended cert) before after said n
 IsDeliveredInPart (tabulates c events size depth) before after said now = TabulatesInPart c events size depth before after said now
 IsDeliveredInPart (makes c stages depth model faults) before after said now = MakesInPart c stages depth model faults before after said now
 
--- the run has answered: what stands is the whole outcome of the words and files at entry
-pub record HasAnswered (files : List NamedFile) (words : List Text) (answer : Status) (before after : Told) (said now : Said) : Type 0 where
+-- what stands is the whole of an outcome that something comes to
+pub record Stands (Comes : Outcome → Type 0) (answer : Status) (before after : Told) (said now : Said) : Type 0 where
   pub outcome : Outcome
-  pub means : Means files words outcome
+  pub means : Comes outcome
   pub delivered : IsDelivered outcome answer before after said now
 
--- the run has stopped on the way: what stands is a part of that outcome
-pub record HasStopped (files : List NamedFile) (words : List Text) (before after : Told) (said now : Said) : Type 0 where
+-- what stands is a part of it
+pub record StandsInPart (Comes : Outcome → Type 0) (before after : Told) (said now : Said) : Type 0 where
   pub outcome : Outcome
-  pub means : Means files words outcome
+  pub means : Comes outcome
   pub in_part : IsDeliveredInPart outcome before after said now
+
+-- the run has answered: what stands is the whole outcome of the words and files at entry
+abbrev pub HasAnswered : List NamedFile → List Text → Status → Told → Told → Said → Said → Type 0
+HasAnswered files words answer before after said now = Stands (Means files words) answer before after said now
+
+-- the run has stopped on the way: what stands is a part of that outcome
+abbrev pub HasStopped : List NamedFile → List Text → Told → Told → Said → Said → Type 0
+HasStopped files words before after said now = StandsInPart (Means files words) before after said now
+
+-- a command was carried out, over the files as they were: where there is an answer, the whole outcome stands
+abbrev pub IsCarriedOut : Command → Status → Told → Told → Said → Said → Type 0
+IsCarriedOut command answer before after said now = IsAnswer answer → IfSome before (λ files. Stands (CommandComesTo files command) answer before after said now)
+
+-- and however it ended, nothing was done, or a part of the outcome stands
+abbrev pub IsLeftInPart : Command → Told → Told → Said → Said → Type 0
+IsLeftInPart command before after said now = ((after ≡ before) × (now ≡ said)) ⊎ IfSome before (λ files. StandsInPart (CommandComesTo files command) before after said now)
 
 -- the work of an analysis, a table or a generated case was done, for all traces or for those of at most so many steps
 abbrev pub IsFinished : Status → Type 0

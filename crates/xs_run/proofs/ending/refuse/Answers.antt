@@ -1,7 +1,7 @@
 use Rattle.std.proofs.Common.{◌∙◌}
 use Rattle.xs_run.specs.Statuses.{refusal_text}
 use Rattle.xs_run.proofs.OutcomeLemmas.{says_in_part}
-use Rattle.xs_run.proofs.run.refuse.Goals as goal
+use Rattle.xs_run.proofs.ending.refuse.Goals as goal
 
 pub returns-in-Ok-clause-part : goal.returns-in-Ok-clause-part
 returns-in-Ok-clause-part g c =

@@ -7,7 +7,7 @@ use Rattle.xs_run.specs.Runs.{refuses, says}
 use Rattle.xs_run.specs.declared.input.Stop.TheVariants as stop
 use Rattle.xs_run.proofs.InputLemmas.{same_error}
 use Rattle.xs_run.proofs.OutcomeLemmas.{replays_no_model, replays_no_faults, holds_case, replays_no_top, replays_trace}
-use Rattle.xs_run.proofs.run.prepare_replay.Goals as goal
+use Rattle.xs_run.proofs.verbs.prepare_replay.Goals as goal
 
 pub returns-in_err-model-clause-refused : goal.returns-in_err-model-clause-refused
 returns-in_err-model-clause-refused g c r e =

@@ -3,7 +3,7 @@ use Rattle.xs_words.specs.Commands.{Command}
 use Rattle.xs_words.specs.Meaning.{Means}
 use Rattle.xs_run.specs.Asked.{wrong_words}
 use Rattle.xs_run.proofs.AskedSize.{askable}
-use Rattle.xs_run.proofs.run.command_asked.Goals as goal
+use Rattle.xs_run.proofs.asked.command_asked.Goals as goal
 
 pub returns-in-Ok-clause-found : goal.returns-in-Ok-clause-found
 returns-in-Ok-clause-found c = subst (λ (d : Command). Means (map (λ w. w.now) c.args.words.now) d) (sym c.asked_of.ensures) c.in-Ok.ensures.ok

@@ -3,7 +3,7 @@ use Rattle.std.proofs.lemmas.Result.{err_from_is_err_and, IfOk-weaker}
 use Rattle.xs_run.specs.declared.input.Stop.TheVariants as stop
 use Rattle.xs_run.proofs.InputLemmas.{same_error}
 use Rattle.xs_run.proofs.OutcomeLemmas.{comes_to_no_model, comes_to_no_faults, comes_to_extension}
-use Rattle.xs_run.proofs.run.prepare_extension.Goals as goal
+use Rattle.xs_run.proofs.verbs.prepare_extension.Goals as goal
 
 pub returns-in_err-model-clause-refused : goal.returns-in_err-model-clause-refused
 returns-in_err-model-clause-refused g c r e =

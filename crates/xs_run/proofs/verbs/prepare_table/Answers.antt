@@ -1,5 +1,5 @@
 use Rattle.xs_run.proofs.TabulatedLaws.{no_table, a_table_if}
-use Rattle.xs_run.proofs.run.prepare_table.Goals as goal
+use Rattle.xs_run.proofs.verbs.prepare_table.Goals as goal
 
 pub returns-clause-refused : goal.returns-clause-refused
 returns-clause-refused g c r e = no_table _ _ _ _ _ _ r (c.load_table.ensures.refused r e)

@@ -3,7 +3,7 @@ use Rattle.xs_tree.specs.Text.{program_text}
 use Rattle.xs_fei.specs.InstructionText.{instructions_text}
 use Rattle.xs_run.specs.Searches.{case_in}
 use Rattle.xs_run.specs.Runs.{is_made}
-use Rattle.xs_run.proofs.run.prepare_made.Goals as goal
+use Rattle.xs_run.proofs.verbs.prepare_made.Goals as goal
 
 pub returns-clause-ok : goal.returns-clause-ok
 returns-clause-ok c =

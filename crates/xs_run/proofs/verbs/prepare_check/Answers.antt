@@ -3,7 +3,7 @@ use Rattle.std.proofs.lemmas.Result.{err_from_is_err_and, IfOk-weaker}
 use Rattle.xs_run.specs.declared.input.Stop.TheVariants as stop
 use Rattle.xs_run.proofs.InputLemmas.{same_error}
 use Rattle.xs_run.proofs.CheckedLaws.{check_has_no_event, check_refused, check_says}
-use Rattle.xs_run.proofs.run.prepare_check.Goals as goal
+use Rattle.xs_run.proofs.verbs.prepare_check.Goals as goal
 
 pub returns-in_err-loaded-clause-refused : goal.returns-in_err-loaded-clause-refused
 returns-in_err-loaded-clause-refused g c r e =
