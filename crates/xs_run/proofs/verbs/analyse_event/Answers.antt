@@ -12,7 +12,7 @@ returns-in-Ok-clause-answered g c answer =
     answers_prepared (λ files o. CommandComesTo files (command_of (ask.Analyse c.args.asked.now)) o) _ _ _ _ _ _ c.prepare_analysis.ensures.files c.prepare_analysis.ensures.said
     (analyses (analysed_case a) a.word.now a.depth (analysed_size a) a.extended.now a.cert.now) c.finished.result c.in-Ok.ensures.ok
     (finished_answers
-    (λ s. IsDelivered (analyses (analysed_case a) a.word.now a.depth (analysed_size a) a.extended.now a.cert.now) s (g.D.Desk.files c.deliver_analysis.old.desk) (g.D.Desk.files c.deliver_analysis.new.desk) (g.D.Desk.said c.deliver_analysis.old.desk) (g.D.Desk.said c.deliver_analysis.new.desk))
+    (λ s. IsDelivered (analyses (analysed_case a) a.word.now a.depth (analysed_size a) a.extended.now a.cert.now) s (g.D.Desk.files c.prepare_analysis.new.desk) (g.D.Desk.files c.deliver_analysis.new.desk) (g.D.Desk.said c.prepare_analysis.new.desk) (g.D.Desk.said c.deliver_analysis.new.desk))
     c.deliver_analysis.result c.finished.result c.finished.ensures c.deliver_analysis.ensures.ok)
     answer
 

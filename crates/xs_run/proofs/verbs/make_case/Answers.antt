@@ -12,7 +12,7 @@ returns-in-Ok-clause-answered g c answer =
     answers_prepared (λ files o. CommandComesTo files (command_of (ask.Make c.args.asked.now)) o) _ _ _ _ _ _ refl refl
     (makes (made_case a) a.stages a.depth a.model.now a.faults.now) c.finished.result (for_files (MakeComesTo c.args.asked.now.number c.args.asked.now.stages c.args.asked.now.depth c.args.asked.now.model.now c.args.asked.now.faults.now (makes (made_case a) a.stages a.depth a.model.now a.faults.now)) (g.D.Desk.files c.args.desk.now) c.in-Ok.ensures.ok)
     (finished_answers
-    (λ s. IsDelivered (makes (made_case a) a.stages a.depth a.model.now a.faults.now) s (g.D.Desk.files c.deliver_made.old.desk) (g.D.Desk.files c.deliver_made.new.desk) (g.D.Desk.said c.deliver_made.old.desk) (g.D.Desk.said c.deliver_made.new.desk))
+    (λ s. IsDelivered (makes (made_case a) a.stages a.depth a.model.now a.faults.now) s (g.D.Desk.files c.args.desk.now) (g.D.Desk.files c.deliver_made.new.desk) (g.D.Desk.said c.args.desk.now) (g.D.Desk.said c.deliver_made.new.desk))
     c.deliver_made.result c.finished.result c.finished.ensures c.deliver_made.ensures.ok)
     answer
 

@@ -12,7 +12,7 @@ returns-in-Ok-clause-answered g c answer =
     answers_prepared (λ files o. CommandComesTo files (command_of (ask.Fmea c.args.asked.now)) o) _ _ _ _ _ _ c.prepare_table.ensures.files c.prepare_table.ensures.said
     (tabulates (tabulated_case a) (tabulated_events a) a.size a.depth) c.finished.result c.in-Ok.ensures.ok
     (finished_answers
-    (λ s. IsDelivered (tabulates (tabulated_case a) (tabulated_events a) a.size a.depth) s (g.D.Desk.files c.deliver_table.old.desk) (g.D.Desk.files c.deliver_table.new.desk) (g.D.Desk.said c.deliver_table.old.desk) (g.D.Desk.said c.deliver_table.new.desk))
+    (λ s. IsDelivered (tabulates (tabulated_case a) (tabulated_events a) a.size a.depth) s (g.D.Desk.files c.prepare_table.new.desk) (g.D.Desk.files c.deliver_table.new.desk) (g.D.Desk.said c.prepare_table.new.desk) (g.D.Desk.said c.deliver_table.new.desk))
     c.deliver_table.result c.finished.result c.finished.ensures c.deliver_table.ensures.ok)
     answer
 
