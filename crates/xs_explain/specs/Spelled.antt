@@ -64,3 +64,7 @@ place_of (refusal.Words number place) = place
 place_of (refusal.File subject part number place) = place
 place_of (refusal.Moment moment why) = moment
 place_of (refusal.Line line rule) = line
+
+-- the two lines that an explanation begins with
+abbrev pub head_text : List ℕ → ℕ → List ℕ → List ℕ
+head_text meaning place found = codes "means: " ++ (meaning ++ (codes "\nplace " ++ (decimal place ++ (codes ": " ++ (found ++ codes "\n")))))

@@ -4,7 +4,7 @@
 use crate::finding::Items;
 
 /// What a token is to the items of its file.
-#[derive(Clone, Copy, Debug, PartialEq, Eq)]
+#[derive(Clone, Copy)]
 pub(crate) enum Role {
     /// It is the first one of an item.
     First,
@@ -15,7 +15,7 @@ pub(crate) enum Role {
 }
 
 /// How far the items of a file were counted.
-#[derive(Clone, Copy, Debug)]
+#[derive(Clone, Copy)]
 pub(crate) enum Counter {
     /// Outside items: before the first header, in a specification, and behind the words that begin a file of instructions.
     Outside,

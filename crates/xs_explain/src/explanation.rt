@@ -1,30 +1,35 @@
 // The text that explains a refusal.
 
-use crate::finding::{Finding, Items, Shown, finding_of, shown_of};
+ghost use Rattle.std.specs.Prelude.{◌≡◌, ◌++◌, IfOk, IfSome, List, ℕ, string_bytes};
+ghost use Rattle.xs_explain.specs.Spelled.{head_text, place_of};
+
+use crate::finding::{Items, Shown, finding_of, shown_of};
 use crate::items::{between, find_item};
-use crate::lines::{Spot, spot_of};
+use crate::lines::spot_of;
 use crate::meanings::meaning;
 use crate::refusal::Refusal;
 use crate::showing::{append_line, append_spot, append_text, line_of_moment, line_of_number};
 use std::alloc::Global;
 use xs_lexer::OutOfMemory;
 
-/// What a refusal means, how its place is found, and what is shown of the file that was refused.
-#[derive(Clone, Copy, Debug)]
+/// What a refusal means, the place that it tells, how that is found, and what is shown of the file that was refused.
+#[derive(Clone, Copy)]
 pub struct Explanation {
-    meaning: &'static str,
-    finding: Finding,
-    place: u64,
+    pub meaning: &'static str,
+    pub place: u64,
+    pub found: &'static str,
     shown: Shown,
 }
 
 /// What a refusal means, where it is one that the program says.
-pub fn look_up(refusal: &Refusal) -> Option<Explanation> {
+pub fn look_up(refusal: &Refusal) -> Option<Explanation>
+    ensures { IfSome result (λ explanation. explanation.place ≡ place_of refusal.now) }
+{
     let meaning = meaning(refusal)?;
     Some(Explanation {
         meaning,
-        finding: finding_of(refusal),
         place: refusal.place(),
+        found: finding_of(refusal).sentence(),
         shown: shown_of(refusal),
     })
 }
@@ -32,26 +37,41 @@ pub fn look_up(refusal: &Refusal) -> Option<Explanation> {
 impl Explanation {
     /// Whether the place lies in the file, so that the text needs its bytes.
     pub fn needs_file(&self) -> bool {
-        self.shown != Shown::Nothing
+        !matches!(self.shown, Shown::Nothing)
     }
 
-    /// The meaning, how the place is found, and the place in the file with these bytes, where it lies there; each line ends with a
-    /// line feed.
-    pub fn text(&self, alloc: Global, file: &[u8]) -> Result<Vec<u8>, OutOfMemory> {
-        let meaning = self.meaning;
-        let place = self.place;
-        let sentence = self.finding.sentence();
-        let head = format!(in alloc; "means: {meaning}\nplace {place}: {sentence}\n")?;
+    /// The meaning, the place, how it is found, and the place in the file with these bytes, where it lies there; each line ends with
+    /// a line feed.
+    pub fn text(&self, alloc: Global, file: &[u8]) -> Result<Vec<u8>, OutOfMemory>
+        ensures { IfOk result (λ text. (more : List ℕ) × (text.items ≡ head_text self.now.meaning.now self.now.place self.now.found.now ++ more)) }
+    {
+        let head = head(alloc, self.meaning, self.place, self.found)?;
+        let more = place_text(alloc, &self.shown, file)?;
         let mut text = Vec::from_slice(alloc, head.as_bytes())?;
-        match self.shown {
-            Shown::Nothing => {}
-            Shown::Byte(at) => append_byte(alloc, &mut text, file, at)?,
-            Shown::Item(items, number) => append_item(alloc, &mut text, file, items, number)?,
-            Shown::Line(number) => append_numbered(alloc, &mut text, file, number)?,
-            Shown::Moment(number) => append_moment(alloc, &mut text, file, number)?,
-        }
+        text.extend_from_slice(&more)?;
         Ok(text)
     }
+}
+
+/// The two lines that stand before every place.
+fn head(alloc: Global, meaning: &str, place: u64, found: &str) -> Result<String, OutOfMemory>
+    ensures { IfOk result (λ head. string_bytes head ≡ head_text meaning.now place found.now) }
+{
+    let head = format!(in alloc; "means: {meaning}\nplace {place}: {found}\n")?;
+    Ok(head)
+}
+
+/// The lines that show a place in a file.
+fn place_text(alloc: Global, shown: &Shown, file: &[u8]) -> Result<Vec<u8>, OutOfMemory> {
+    let mut text = Vec::new(alloc);
+    match *shown {
+        Shown::Nothing => {}
+        Shown::Byte(at) => append_byte(alloc, &mut text, file, at)?,
+        Shown::Item(items, number) => append_item(alloc, &mut text, file, items, number)?,
+        Shown::Line(number) => append_numbered(alloc, &mut text, file, number)?,
+        Shown::Moment(number) => append_moment(alloc, &mut text, file, number)?,
+    }
+    Ok(text)
 }
 
 /// Appends the line of a byte, with a caret under it.

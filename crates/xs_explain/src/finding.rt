@@ -4,7 +4,7 @@
 use crate::refusal::{Part, Refusal, Subject};
 
 /// How a place is found: a row of the manual's table.
-#[derive(Clone, Copy, Debug, PartialEq, Eq)]
+#[derive(Clone, Copy)]
 pub(crate) enum Finding {
     Absent,
     Length,
@@ -22,7 +22,7 @@ pub(crate) enum Finding {
 }
 
 /// What the items of a file are.
-#[derive(Clone, Copy, Debug, PartialEq, Eq)]
+#[derive(Clone, Copy)]
 pub(crate) enum Items {
     /// Headers, declarations, defines, assignments and sections of a model.
     Model,
@@ -33,7 +33,7 @@ pub(crate) enum Items {
 }
 
 /// What is shown of a file: a byte, counted from 0, an item or a line, from 1, or the line at which a moment begins, from 0.
-#[derive(Clone, Copy, Debug, PartialEq, Eq)]
+#[derive(Clone, Copy)]
 pub(crate) enum Shown {
     Nothing,
     Byte(u64),

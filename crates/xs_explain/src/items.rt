@@ -1,5 +1,5 @@
 // Finds the item of a number in a file, by its tokens.
-ghost use Rattle.std.specs.Prelude.{◌≡◌, ◌≤◌, ◌<◌, ◌^◌, length, slice_range};
+ghost use Rattle.std.specs.Prelude.{◌≡◌, ◌≤◌, length, slice_range};
 
 use crate::counting::{Counter, Role};
 use crate::finding::Items;
@@ -7,7 +7,7 @@ use std::alloc::Global;
 use xs_lexer::{LexFault, OutOfMemory, Token, tokens};
 
 /// Where an item stands in its file, in bytes from 0.
-#[derive(Clone, Copy, Debug)]
+#[derive(Clone, Copy)]
 pub(crate) struct Item {
     pub(crate) start: usize,
     pub(crate) end: usize,
@@ -39,10 +39,10 @@ fn item_among(bytes: &[u8], tokens: &[Token], items: Items, number: u64) -> Opti
         let start = token.start as usize;
         let end = token.end as usize;
         let role = counter.take(items, between(bytes, start, end));
-        if role == Role::First {
+        if matches!(role, Role::First) {
             count = count.saturating_add(1);
         }
-        if count == number && role != Role::Outer {
+        if count == number && !matches!(role, Role::Outer) {
             found = Some(grown(found, start, end));
         }
     }

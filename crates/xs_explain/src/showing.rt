@@ -1,5 +1,5 @@
 // Lines and items of a file as they are shown, and the lines that are looked for by a number or by a moment.
-ghost use Rattle.std.specs.Prelude.{◌≡◌, IfOk, IfSome};
+ghost use Rattle.std.specs.Prelude.{◌≡◌, IfSome};
 
 use crate::lines::{Spot, spot_of, until_feed};
 use std::alloc::Global;

@@ -25,7 +25,7 @@ const LONGEST_LINE: u64 = 256;
 const LONGEST_FILE: u64 = 268_435_456;
 
 /// How a run ends, by the number that the system gets; from 7 on as for `xsap_program`.
-#[derive(Clone, Copy, Debug, PartialEq, Eq)]
+#[derive(Clone, Copy)]
 enum End {
     /// The line is explained.
     Explained = 0,
@@ -44,7 +44,7 @@ enum End {
 }
 
 /// Why a run could not go on.
-#[derive(Clone, Copy, Debug, PartialEq, Eq)]
+#[derive(Clone, Copy)]
 enum Stop {
     Failed,
     Memory,
@@ -136,12 +136,12 @@ fn explained<R: Files + Print>(
 ) -> Result<End, Stop> {
     if !explanation.needs_file() {
         let text = explanation.text(alloc, b"")?;
-        return ended(rt, End::Explained, &text);
+        return ended(rt, End::Explained, text.as_slice());
     }
     match bytes_of(rt, alloc, name) {
         Ok(file) => {
-            let text = explanation.text(alloc, &file)?;
-            ended(rt, End::Explained, &text)
+            let text = explanation.text(alloc, file.as_slice())?;
+            ended(rt, End::Explained, text.as_slice())
         }
         Err(error) if error.kind() == ErrorKind::OutOfMemory => Err(Stop::Memory),
         Err(error) if error.kind() == ErrorKind::NotFound => {
@@ -168,7 +168,7 @@ fn bytes_of<R: Files>(rt: &R, alloc: Global, name: &str) -> io::Result<Vec<u8>> 
 fn explanation_of<R: Input>(rt: &R, alloc: Global) -> Result<Option<Explanation>, Stop> {
     let mut bytes = Vec::new(alloc);
     rt.reader().take(LONGEST_LINE).read_to_end(&mut bytes)?;
-    let Ok(line) = from_utf8(first_line(&bytes)) else {
+    let Ok(line) = from_utf8(first_line(bytes.as_slice())) else {
         return Ok(None);
     };
     match read_refusal(alloc, line)? {
