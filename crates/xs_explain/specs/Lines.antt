@@ -1,5 +1,5 @@
 -- Lines of a file, and where a byte stands in them.
-use Rattle.std.specs.Prelude.{ℕ, ◌==◌, Bool, List, take, drop, length, count_by, reverse}
+use Rattle.std.specs.Prelude.{ℕ, ◌+◌, ◌<◌, ◌≡◌, ◌==◌, Bool, List, take, drop, length, count_by, reverse}
 use Rattle.std.specs.List.{position}
 use Rattle.std.specs.Option.{unwrap_or}
 
@@ -26,3 +26,7 @@ from_feed bytes at = since_feed (take at bytes)
 -- how far it is from a place to the next line feed, or to the end
 abbrev pub to_feed : List ℕ → ℕ → ℕ
 to_feed bytes at = until_feed (drop at bytes)
+
+-- no byte stands in the line of this number, from 1
+abbrev pub HasNoLine : List ℕ → ℕ → Type 0
+HasNoLine bytes number = (at : ℕ) → at < length bytes → feeds_before bytes at + 1 ≡ number → ⊥

@@ -1,5 +1,6 @@
 // Lines and items of a file as they are shown, and the lines that are looked for by a number or by a moment.
-ghost use Rattle.std.specs.Prelude.{◌≡◌, IfSome};
+ghost use Rattle.std.specs.Prelude.{◌≡◌, ◌+◌, ◌<◌, length, IfSome, IsNone};
+ghost use Rattle.xs_explain.specs.Lines.{is_feed, feeds_before, HasNoLine};
 
 use crate::lines::{Spot, spot_of, until_feed};
 use std::alloc::Global;
@@ -52,29 +53,36 @@ fn shown_byte(byte: u8) -> u8 {
 
 /// The line of a number, from 1. A line is there where it has a byte, be it its line feed alone.
 pub(crate) fn line_of_number(bytes: &[u8], number: u64) -> Option<Spot<'_>>
-    ensures { IfSome result (λ spot. spot.line ≡ number) }
+    ensures found { IfSome result (λ spot. spot.line ≡ number) }
+    ensures none { IsNone result → HasNoLine bytes.now number }
 {
-    let start = line_start(bytes, number)?;
-    let spot = spot_of(bytes, start)?;
-    if spot.line as u64 == number {
-        Some(spot)
-    } else {
-        None
+    match line_start(bytes, number) {
+        Some(place) => spot_of(bytes, place),
+        None => None,
     }
 }
 
-/// The place at which the line of a number begins.
-fn line_start(bytes: &[u8], number: u64) -> Option<usize> {
+/// The first place of the line of a number.
+fn line_start(bytes: &[u8], number: u64) -> Option<usize>
+    ensures found { IfSome result (λ place. (place < length bytes.now) × (feeds_before bytes.now place + 1 ≡ number)) }
+    ensures none { IsNone result → HasNoLine bytes.now number }
+{
     let mut line: u64 = 1;
     for (place, byte) in bytes.iter().enumerate() {
         if line == number {
             return Some(place);
         }
-        if *byte == b'\n' {
-            line = line.saturating_add(1);
+        if is_feed(*byte) {
+            line += 1;
         }
     }
     None
+}
+
+fn is_feed(byte: u8) -> bool
+    ensures { result ≡ is_feed byte }
+{
+    byte == b'\n'
 }
 
 /// The line at which the moment of a number begins, from 0.
