@@ -1,0 +1,243 @@
+// What each refusal means: one sentence for each part and number. The tables of refusals in docs/MANUAL.md have the same sentences
+// under the same parts and numbers, word for word and in this order; `tools/meanings` compares the two.
+
+use crate::refusal::{Part, Refusal, Subject, Why};
+
+/// What a refusal means, where the program says this number of this part.
+pub(crate) fn meaning(refusal: &Refusal) -> Option<&'static str> {
+    match *refusal {
+        Refusal::Words { number, .. } => words(number),
+        Refusal::File {
+            subject,
+            part,
+            number,
+            ..
+        } => of_subject(subject, part, number),
+        Refusal::Moment { why, .. } => Some(moment(why)),
+        Refusal::Line { rule, .. } => line(rule),
+    }
+}
+
+/// What a number of a part means where an input is refused.
+fn of_subject(subject: Subject, part: Part, number: u32) -> Option<&'static str> {
+    match subject {
+        Subject::Model => model(part, number),
+        Subject::Faults => faults(part, number),
+        Subject::Top => top(part, number),
+        Subject::Trace => trace(part, number),
+        Subject::Cert => cert(part, number),
+        Subject::Causes => causes(part, number),
+        Subject::Set => set(part, number),
+    }
+}
+
+/// Words of the command line.
+fn words(number: u32) -> Option<&'static str> {
+    match number {
+        1 => Some("there are no words"),
+        2 => Some("the verb is unknown"),
+        3 => Some("the verb has no such option"),
+        4 => Some("the option came before"),
+        5 => Some("an option is missing"),
+        6 => Some("no word follows the option"),
+        7 => Some("a number is no number of at most ten digits, or lies outside its limits"),
+        8 => Some("two files have one name"),
+        9 => Some("a fault of an order is not in its set, or both are one"),
+        _ => None,
+    }
+}
+
+/// The model.
+fn model(part: Part, number: u32) -> Option<&'static str> {
+    match (part, number) {
+        (Part::Absent, 1) => Some("there is no such file"),
+        (Part::Length, 1) => Some("the file has more than 1,048,576 bytes"),
+        (Part::Lex, 1) => Some("no token and no blank begins here"),
+        (Part::Lex, 2) => Some("a comment is not closed"),
+        (Part::Lex, 3) => Some("a number is too big"),
+        (Part::Parse, 1) => Some("this token can't stand here"),
+        (Part::Parse, 2) => Some("the file ends too soon"),
+        (Part::Parse, 3) => Some(
+            "an expression is higher, or parentheses are nested deeper, than 1,000",
+        ),
+        (Part::Parse, 4) => Some("this word is left out of the language"),
+        (Part::Flat, 1) => Some("no module is `main`"),
+        (Part::Flat, 2) => Some("`main` has parameters"),
+        (Part::Flat, 3) => Some("a second module of the name"),
+        (Part::Flat, 4) => Some(
+            "a second formal, variable, define or instance of the name in the module",
+        ),
+        (Part::Flat, 5) => Some("no such module"),
+        (Part::Flat, 6) => Some("another number of actuals than formals"),
+        (Part::Flat, 7) => Some("the module holds itself"),
+        (Part::Flat, 8) => Some(
+            "a name means nothing, or an instance stands where a value is needed",
+        ),
+        (Part::Flat, 9) => Some(
+            "the target is no single name of the module's own state variable, or, with `init`, frozen variable",
+        ),
+        (Part::Flat, 10) => Some("the target is assigned already for that time"),
+        (Part::Flat, 11) => Some("a definition needs itself, or a formal leads back to itself"),
+        (Part::Flat, 12) => Some(
+            "`next` where it may not stand: in INIT, INVAR, DEFINE, an actual, `init` and `:=`, or under `next`",
+        ),
+        (Part::Flat, 13) => Some(
+            "an input where it may not stand, also through definitions: in INIT, INVAR, `init` and `:=`, or under `next`",
+        ),
+        (Part::Flat, 14) => Some("more than 1,000 instances or 2,000 variables"),
+        (Part::Kinds, 1) => Some("classes do not go together, or a number is needed"),
+        (Part::Kinds, 2) => Some("a truth value is needed"),
+        (Part::Kinds, 3) => Some("a set where one value is needed"),
+        (Part::Kinds, 4) => Some("the divisor may be 0"),
+        (Part::Kinds, 5) => Some("a value may be beyond 32 bits"),
+        (Part::Kinds, 6) => Some("a range is empty"),
+        (Part::Kinds, 7) => Some("members are symbols and numbers"),
+        (Part::Kinds, 8) => Some("the last condition of a `case` is not the word TRUE"),
+        (Part::Kinds, 9) => Some(
+            "the model costs more than 50,000 or has more than 4,096 state bits",
+        ),
+        (Part::Kinds, 10) => Some("a member stands twice"),
+        _ => None,
+    }
+}
+
+/// The instructions.
+fn faults(part: Part, number: u32) -> Option<&'static str> {
+    match (part, number) {
+        (Part::Absent, 1) => Some("there is no such file"),
+        (Part::Length, 1) => Some("the file has more than 1,048,576 bytes"),
+        (Part::Lex, 1) => Some("no token and no blank begins here"),
+        (Part::Lex, 2) => Some("a comment is not closed"),
+        (Part::Lex, 3) => Some("a number is too big"),
+        (Part::Parse, 1) => Some("this token can't stand here"),
+        (Part::Parse, 2) => Some("the file ends too soon"),
+        (Part::Parse, 3) => Some("a guard or `Follows` is too high or too deeply nested"),
+        (Part::Parse, 4) => Some("this word is left out of the language"),
+        (Part::Weave, 1) => Some("no such module"),
+        (Part::Weave, 2) => Some("the target is no declared name of the module"),
+        (Part::Weave, 3) => Some("the target is no variable of a VAR section with a finite type"),
+        (Part::Weave, 4) => Some("an earlier slice of the file has this name"),
+        (Part::Weave, 5) => Some("an earlier mode of the slice has this name"),
+        (Part::Weave, 6) => Some("an earlier slice affects the variable"),
+        (Part::Effect, 1) => Some(
+            "the effect is not for this type, or the constant of another class",
+        ),
+        (Part::Effect, 2) => Some("a number of the effect lies outside"),
+        (Part::Effect, 3) => Some("the type has one value only"),
+        (Part::Weave, 8) => Some("a name that is added is taken"),
+        (Part::Weave, 9) => Some("more than 256 modes in a slice, or more than 256 faults"),
+        (Part::Flat, 8) => Some("a name of a guard or `Follows` means nothing"),
+        (Part::Flat, 12) => Some("`next` in a guard or `Follows`"),
+        (Part::Flat, 13) => Some("a `Follows` reaches an input"),
+        (Part::Kinds, 1) => Some(
+            "classes do not go together, or a number is needed; or what is followed is of another class than the variable",
+        ),
+        (Part::Kinds, 2) => Some("a truth value is needed, as of a guard"),
+        (Part::Kinds, 3) => Some("a set where one value is needed, as behind `Follows`"),
+        (Part::Kinds, 4) => Some("the divisor may be 0"),
+        (Part::Kinds, 5) => Some("a value may be beyond 32 bits"),
+        (Part::Kinds, 6) => Some("a range is empty"),
+        (Part::Kinds, 8) => Some("the last condition of a `case` is not the word TRUE"),
+        (Part::Flat, 14) => Some("the extension has too many instances or variables"),
+        (Part::Kinds, 9) => Some("the extension costs too much or has too many state bits"),
+        _ => None,
+    }
+}
+
+/// The top event, or the file of top events.
+fn top(part: Part, number: u32) -> Option<&'static str> {
+    match (part, number) {
+        (Part::Absent, 1) => Some("there is no such file of top events"),
+        (Part::Length, 1) => Some(
+            "the word has more than 65,536 bytes, or the file more than 1,048,576",
+        ),
+        (Part::Lex, 1) => Some("no token and no blank begins here"),
+        (Part::Lex, 2) => Some("a comment is not closed"),
+        (Part::Lex, 3) => Some("a number is too big"),
+        (Part::Parse, 1) => Some("this token can't stand here"),
+        (Part::Parse, 2) => Some("the word or file ends too soon"),
+        (Part::Parse, 3) => Some(
+            "the event is higher, or its parentheses are nested deeper, than 1,000",
+        ),
+        (Part::Parse, 4) => Some("this word is left out of the language"),
+        (Part::Count, 1) => Some("the file has more than 64 top events"),
+        (Part::Flat, 8) => Some("a name means nothing in the model"),
+        (Part::Flat, 12) => Some("`next` stands in the event"),
+        (Part::Flat, 13) => Some("the event reaches an input"),
+        (Part::Kinds, 1) => Some("classes do not go together, or a number is needed"),
+        (Part::Kinds, 2) => Some("a truth value is needed, as of the event"),
+        (Part::Kinds, 3) => Some("a set where one value is needed, as of the event"),
+        (Part::Kinds, 4) => Some("the divisor may be 0"),
+        (Part::Kinds, 5) => Some("a value may be beyond 32 bits"),
+        (Part::Kinds, 6) => Some("a range is empty"),
+        (Part::Kinds, 8) => Some("the last condition of a `case` is not the word TRUE"),
+        (Part::Kinds, 9) => Some("the event costs more than 50,000"),
+        _ => None,
+    }
+}
+
+/// The file and the text of a trace.
+fn trace(part: Part, number: u32) -> Option<&'static str> {
+    match (part, number) {
+        (Part::Absent, 1) => Some("there is no such file"),
+        (Part::Length, 1) => Some("the file has more than 16,777,216 bytes"),
+        (Part::Read, 1) => Some(
+            "a line is neither the next moment nor a value of one, or the last line has no line feed; or there is none",
+        ),
+        (Part::Read, 2) => Some("no variable has the name"),
+        (Part::Read, 3) => Some("the variable has no such value"),
+        (Part::Read, 4) => Some("a value is missing, where all lines are right"),
+        (Part::Read, 5) => Some("the variable has a value at this moment already"),
+        _ => None,
+    }
+}
+
+/// A moment of a trace.
+fn moment(why: Why) -> &'static str {
+    match why {
+        Why::First => "the first moment is none that a trace can begin with",
+        Why::Step => "no step leads to the moment",
+        Why::Top => "the event is FALSE at the last moment",
+    }
+}
+
+/// The file and the text of a certificate.
+fn cert(part: Part, number: u32) -> Option<&'static str> {
+    match (part, number) {
+        (Part::Absent, 1) => Some("there is no such file"),
+        (Part::Length, 1) => Some("the file has more than 268,435,456 bytes"),
+        (Part::Read, 1) => Some(
+            "the line does not have its form, or stands behind the end, or is the last one and has no line feed",
+        ),
+        (Part::Read, 2) => Some("this line is missing"),
+        _ => None,
+    }
+}
+
+/// A line of a certificate.
+fn line(rule: u32) -> Option<&'static str> {
+    match rule {
+        1 => Some(
+            "the number of bits or of faults is not the model's, or the size is above the number of faults",
+        ),
+        2 => Some(
+            "a set does not rise, names no fault, has more faults than the size, or does not stand after the one before it",
+        ),
+        3 => Some("of this set and one before it, one contains the other"),
+        4 => Some("the text of a trace is refused, as by `replay`"),
+        5 => Some("the trace is none of the extension"),
+        6 => Some("the trace does not reach the top event"),
+        7 => Some("the trace has not failed exactly the faults of its set"),
+        8 => Some(
+            "a literal of the invariant is no bit of a state, one of a step is above the highest variable that the step may have, or a literal stands beside its opposite",
+        ),
+        9 => Some(
+            "a hint names no earlier clause, or one that is neither unit nor false at its turn, or one after the false one",
+        ),
+        10 => Some("all hints are used, and none was false"),
+        11 => Some(
+            "the steps of a part do not show what the part is for; told at the line after its last step",
+        ),
+        _ => None,
+    }
+}

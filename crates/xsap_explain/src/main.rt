@@ -1,0 +1,186 @@
+//! Explains the line by which `xsap_program` refuses an input.
+//!
+//! The words are `explain FILE`, and the line stands on standard input. What it means, how its place is found, and the place in FILE go
+//! to standard output; [`xs_explain`] makes that text. FILE is read only where the place lies in a file. Where nothing can be explained
+//! one sentence says why, and the status is not 0.
+//!
+//! ```text
+//! xsap_program extend --model m.smv --faults m.fei --extended out.smv | xsap_explain explain m.smv
+//! ```
+#![tactic(auto)]
+
+use std::alloc::{AllocError, Global};
+use std::io::{ErrorKind, Read};
+use std::process::ExitCode;
+use std::rt::Files;
+use std::str::from_utf8;
+use std::{env, io};
+use xs_explain::{Explanation, look_up, read_refusal};
+use xs_lexer::OutOfMemory;
+
+/// No line of a refusal has so many bytes.
+const LONGEST_LINE: u64 = 256;
+
+/// The program reads no longer file.
+const LONGEST_FILE: u64 = 268_435_456;
+
+/// How a run ends, by the number that the system gets; from 7 on as for `xsap_program`.
+#[derive(Clone, Copy)]
+enum End {
+    /// The line is explained.
+    Explained = 0,
+    /// The words are not `explain FILE`.
+    Words = 2,
+    /// The line is no refusal.
+    NoRefusal = 3,
+    /// The file is not there, or can't be read.
+    NoFile = 4,
+    /// Standard input or output failed.
+    Failed = 7,
+    /// There was no memory.
+    Memory = 8,
+    /// A word is no text.
+    NotText = 11,
+}
+
+/// Why a run could not go on.
+#[derive(Clone, Copy)]
+enum Stop {
+    Failed,
+    Memory,
+}
+
+impl From<io::Error> for Stop {
+    fn from(error: io::Error) -> Stop {
+        if error.kind() == ErrorKind::OutOfMemory {
+            Stop::Memory
+        } else {
+            Stop::Failed
+        }
+    }
+}
+
+impl From<AllocError> for Stop {
+    fn from(_refused: AllocError) -> Stop {
+        Stop::Memory
+    }
+}
+
+impl From<OutOfMemory> for Stop {
+    fn from(_refused: OutOfMemory) -> Stop {
+        Stop::Memory
+    }
+}
+
+fn main(rt: HostRuntime) -> ExitCode {
+    let alloc = rt.alloc();
+    let end = match env::args(&rt) {
+        Ok(args) => match args.skip(1).collect::<Vec<String>>(alloc) {
+            Ok(words) => end_of(&rt, alloc, &words),
+            Err(AllocError) => End::Memory,
+        },
+        Err(error) if error.kind() == ErrorKind::OutOfMemory => End::Memory,
+        Err(_) => End::NotText,
+    };
+    ExitCode::from(end as u8)
+}
+
+/// How a run with these words ends.
+fn end_of<R: Files + Input + Print>(rt: &R, alloc: Global, words: &[String]) -> End {
+    match run(rt, alloc, words) {
+        Ok(end) => end,
+        Err(Stop::Failed) => End::Failed,
+        Err(Stop::Memory) => End::Memory,
+    }
+}
+
+/// Explains the line on standard input, or says why it can't.
+fn run<R: Files + Input + Print>(rt: &R, alloc: Global, words: &[String]) -> Result<End, Stop> {
+    let Some(name) = name_in(words) else {
+        return ended(
+            rt,
+            End::Words,
+            b"The words are `explain FILE`, where FILE is what was refused.\n",
+        );
+    };
+    match explanation_of(rt, alloc)? {
+        Some(explanation) => explained(rt, alloc, &explanation, name),
+        None => ended(
+            rt,
+            End::NoRefusal,
+            b"The line on standard input is no refusal of xsap_program.\n",
+        ),
+    }
+}
+
+/// The name in `explain FILE`.
+fn name_in(words: &[String]) -> Option<&str> {
+    match words {
+        [verb, name] if verb.as_str() == "explain" => Some(name.as_str()),
+        _ => None,
+    }
+}
+
+/// Says a text, after which the run ends so.
+fn ended<R: Print>(rt: &R, end: End, text: &[u8]) -> Result<End, Stop> {
+    rt.write_all(text)?;
+    Ok(end)
+}
+
+/// Says what an explanation has to say of the file of this name.
+fn explained<R: Files + Print>(
+    rt: &R,
+    alloc: Global,
+    explanation: &Explanation,
+    name: &str,
+) -> Result<End, Stop> {
+    if !explanation.needs_file() {
+        let text = explanation.text(alloc, b"")?;
+        return ended(rt, End::Explained, text.as_slice());
+    }
+    match bytes_of(rt, alloc, name) {
+        Ok(file) => {
+            let text = explanation.text(alloc, file.as_slice())?;
+            ended(rt, End::Explained, text.as_slice())
+        }
+        Err(error) if error.kind() == ErrorKind::OutOfMemory => Err(Stop::Memory),
+        Err(error) if error.kind() == ErrorKind::NotFound => {
+            let text = format!(in alloc; "There is no file {name}.\n")?;
+            ended(rt, End::NoFile, text.as_bytes())
+        }
+        Err(_) => {
+            let text = format!(in alloc; "The file {name} can't be read.\n")?;
+            ended(rt, End::NoFile, text.as_bytes())
+        }
+    }
+}
+
+/// The bytes of a file, as far as the program would read it.
+fn bytes_of<R: Files>(rt: &R, alloc: Global, name: &str) -> io::Result<Vec<u8>> {
+    let mut bytes = Vec::new(alloc);
+    std::fs::open(rt, name)?
+        .take(LONGEST_FILE)
+        .read_to_end(&mut bytes)?;
+    Ok(bytes)
+}
+
+/// The explanation of the first line on standard input, where it is a refusal.
+fn explanation_of<R: Input>(rt: &R, alloc: Global) -> Result<Option<Explanation>, Stop> {
+    let mut bytes = Vec::new(alloc);
+    rt.reader().take(LONGEST_LINE).read_to_end(&mut bytes)?;
+    let Ok(line) = from_utf8(first_line(bytes.as_slice())) else {
+        return Ok(None);
+    };
+    match read_refusal(alloc, line)? {
+        Some(refusal) => Ok(look_up(&refusal)),
+        None => Ok(None),
+    }
+}
+
+/// The bytes before the first line feed.
+fn first_line(bytes: &[u8]) -> &[u8] {
+    match bytes.iter().position(|byte| *byte == b'\n') {
+        Some(end) => &bytes[..end],
+        None => bytes,
+    }
+}
