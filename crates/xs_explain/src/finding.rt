@@ -58,7 +58,8 @@ impl Finding {
                 "bytes from the beginning of the word, or of the file, the first being 0; for `parse 2` the number of bytes; for `parse 3` it is 0",
             Finding::Event => "0 for a word; in a file the number of the top event, from 1",
             Finding::Count => "65; of a set the position of the number in it, from 1",
-            Finding::Cause => "the number of the cause, from 1; 0 for a name of an event of a fault",
+            Finding::Cause =>
+                "the number of the cause, from 1; 0 for a name of an event of a fault",
             Finding::TraceLine => "the line, from 1; for `read 4` the moment, from 0",
             Finding::CertLine => "the line, from 1, also for one that is missing",
             Finding::Moment => "the moment, from 0",

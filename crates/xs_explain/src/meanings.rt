@@ -140,6 +140,8 @@ fn faults(part: Part, number: u32) -> Option<&'static str> {
         (Part::Kinds, 8) => Some("the last condition of a `case` is not the word TRUE"),
         (Part::Flat, 14) => Some("the extension has too many instances or variables"),
         (Part::Kinds, 9) => Some("the extension costs too much or has too many state bits"),
+        (Part::Mark, 1) => Some("a mode has no mark, and the verb is odds"),
+        (Part::Mark, 2) => Some("a mark is no probability, and the verb is odds"),
         _ => None,
     }
 }
@@ -214,6 +216,36 @@ fn cert(part: Part, number: u32) -> Option<&'static str> {
     }
 }
 
+/// The file of causes, and the model that is staged for it.
+fn causes(part: Part, number: u32) -> Option<&'static str> {
+    match (part, number) {
+        (Part::Absent, 1) => Some("there is no such file"),
+        (Part::Length, 1) => Some("the file has more than 1,048,576 bytes"),
+        (Part::Lex, 1) => Some("no token and no blank begins here"),
+        (Part::Lex, 2) => Some("a comment is not closed"),
+        (Part::Lex, 3) => Some("a number is too big"),
+        (Part::Parse, 1) => Some("this token can't stand here"),
+        (Part::Parse, 2) => Some("the file ends too soon"),
+        (Part::Cause, 1) => Some("a name is that of no fault"),
+        (Part::Cause, 2) => Some("an earlier cause has this name"),
+        (Part::Cause, 3) => Some("a fault is named twice"),
+        (Part::Cause, 4) => Some("a window is empty"),
+        (Part::Cause, 5) => Some("a window ends after 100"),
+        (Part::Cause, 6) => Some("more than 256 faults and causes"),
+        (Part::Cause, 7) => Some("a name that is added is taken"),
+        (Part::Kinds, 9) => Some("the staged model costs too much or has too many state bits"),
+        _ => None,
+    }
+}
+
+/// The set of an order.
+fn set(part: Part, number: u32) -> Option<&'static str> {
+    match (part, number) {
+        (Part::Count, 1) => Some("a number of the set is that of no fault"),
+        _ => None,
+    }
+}
+
 /// A line of a certificate.
 fn line(rule: u32) -> Option<&'static str> {
     match rule {
@@ -238,6 +270,7 @@ fn line(rule: u32) -> Option<&'static str> {
         11 => Some(
             "the steps of a part do not show what the part is for; told at the line after its last step",
         ),
+        12 => Some("a set is listed in a certificate of an order"),
         _ => None,
     }
 }
