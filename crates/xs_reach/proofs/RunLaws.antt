@@ -68,12 +68,3 @@ pub odds_done : (told : Option (List NamedFile)) (r : Result Status Stop) (befor
 odds_done None (Ok s) before after said now model faults top depth h e = tt
 odds_done (Some files) (Ok s) before after said now model faults top depth h e = (h, e)
 odds_done told (Err x) before after said now model faults top depth h e = tt
-
-pub nothing_done : (told : Option (List NamedFile)) (r : Result Status Stop) → IfOk r (λ s. IfSome told (λ files. Unit {0}))
-nothing_done None (Ok s) = tt
-nothing_done (Some files) (Ok s) = tt
-nothing_done told (Err x) = tt
-
-pub nothing_refused : (told : Option (List NamedFile)) → IfSome told (λ files. Unit {0})
-nothing_refused None = tt
-nothing_refused (Some files) = tt

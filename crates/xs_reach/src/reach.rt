@@ -13,9 +13,7 @@ ghost use Rattle.xs_reach.specs.declared.stop.Stop.TheVariants as stops;
 ghost use Rattle.xs_reach.specs.Statuses.{refusal_text};
 ghost use Rattle.xs_reach.specs.Runs.{IsFinished, IsAnswer, IsDone, RefusesCommand};
 
-use crate::causes::{check_causes, find_causes};
 use crate::odds::find_odds;
-use crate::orders::{check_orders, find_orders};
 use crate::status::{Refusal, Status};
 use crate::stop::Stop;
 use std::alloc::Global;
@@ -32,8 +30,7 @@ pub fn is_reach(words: &[&str]) -> bool
 
 /// Does what the words of a further verb ask for. `odds` reads a model, instructions and a top event, searches for the
 /// minimal cut sets, and says them with bounds of their probabilities by the marks of the modes; it writes nothing.
-/// `causes` searches for the minimal cut sets of faults and common causes, and `check-causes` judges a certificate of
-/// them. `orders` finds in which order two faults of a set come, and `check-orders` judges a certificate of that.
+/// `causes`, `check-causes`, `orders` and `check-orders` are refused as not built.
 /// All files are read, and every refusal is tried, before anything is written or said. A refusal says its one
 /// line and changes no file. The words are those of the command line without the program's own name. The advisers
 /// say what the search tries first; no answer is trusted to them.
@@ -83,10 +80,10 @@ fn perform<D: Desk>(
     ensures quiet { D.quiet desk.old → D.quiet desk.new × (D.faults desk.new ≡ D.faults desk.old) }
 {
     match command {
-        Command::Causes(asked) => find_causes(alloc, desk, asked, panel),
-        Command::CheckCauses(asked) => check_causes(alloc, desk, asked),
-        Command::Orders(asked) => find_orders(alloc, desk, asked, panel),
-        Command::CheckOrders(asked) => check_orders(alloc, desk, asked),
+        Command::Causes(_)
+        | Command::CheckCauses(_)
+        | Command::Orders(_)
+        | Command::CheckOrders(_) => Err(Stop::Refused(Refusal::NotBuilt)),
         Command::Odds(asked) => find_odds(alloc, desk, asked, panel),
     }
 }
