@@ -1,0 +1,10 @@
+mod Keyed
+mod ProgramNames
+mod CausesReads
+mod CausesSpelled
+mod CausesStops
+mod RuleLaws
+mod PathLaws
+mod RuleSteps
+mod ReadLaws
+mod BrokenSteps
