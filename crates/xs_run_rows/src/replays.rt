@@ -211,13 +211,7 @@ fn a_top_event_or_words_are_refused(rt: HostRuntime) -> Result<(), OutOfMemory> 
             b"refused words 8 at 7\n",
         ),
         (&["fmea", "--size", "3"], b"refused words 7 at 3\n"),
-        (
-            &[
-                "fmea", "--model", "m", "--faults", "f", "--tops", "t", "--size", "1", "--depth",
-                "1",
-            ],
-            b"refused words 0 at 1\n",
-        ),
+        (&["weave"], b"refused words 2 at 1\n"),
     ];
     assert!(rt; words_hold(alloc, &words)?);
     Ok(())
