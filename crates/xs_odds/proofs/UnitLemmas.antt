@@ -15,6 +15,7 @@ use Rattle.xs_extend.specs.declared.faults.WovenFault.{WovenFault}
 use Rattle.xs_extend.specs.WovenFaults.{fault_tree}
 use Rattle.xs_odds.specs.Units.{one_in_units, is_fraction, whole_units, at_most_one, with_fraction, units_of}
 use Rattle.xs_odds.specs.Marks.{fault_of_units, fault_of_mark, slice_marks, extension_marks, HasProbabilities, HasUnits, AreOdds}
+use Rattle.xs_odds.specs.Laws.{AreAtMostOne}
 use Rattle.xs_odds.specs.FirstMark.{mark_units, or_else, mode_units, units_in_slice, slice_units, extension_units, or_zero, units_at}
 
 -- where no mark is wrong, a mark gives units
@@ -322,3 +323,10 @@ zero_small (Some n) h = h
 
 pub units_at_most_one : (i : InstructionTree) (slice mode : Text) → units_at i slice mode ≤ one_in_units
 units_at_most_one i slice mode = zero_small (extension_units slice mode i.extensions) (extensions_small slice mode i.extensions)
+
+-- so the units of faults are at most one
+pub odds_at_most_one : (i : InstructionTree) (faults : List Fault) (odds : List ℕ) → AreOdds i faults odds → AreAtMostOne odds
+odds_at_most_one i [] [] h = tt
+odds_at_most_one i [] (n ∷ ns) h = absurd h
+odds_at_most_one i (f ∷ fs) [] h = absurd h
+odds_at_most_one i (f ∷ fs) (n ∷ ns) h = (subst IsSmall h.0.has_units (units_of_small h.0.mark), odds_at_most_one i fs ns h.1)

@@ -1,16 +1,21 @@
 //! Extends SMV models with faults, replays traces of the extensions, finds their minimal cut sets, checks
 //! certificates of them, makes tables of them, and generates cases.
 //!
-//! `main` hands [`xs_run::run::run`] the words of the command line, a desk over real files, and the advisers of the
-//! search; all that is promised of a run stands at that call.
+//! `main` hands [`xs_run::run::run`], or for a further verb [`xs_reach::reach::run`], the words of the command line, a desk
+//! over real files, and the advisers of the search; all that is promised of a run stands at these calls.
 //!
 //! ```text
 //! xsap_program extend --model lamp.smv --faults lamp.fei --extended out.smv
 //! xsap_program replay --model lamp.smv --faults lamp.fei --trace dark.trace --top '!on'
 //! xsap_program analyse --model lamp.smv --faults lamp.fei --top '!on' --depth 4 --extended out.smv --cert out.cert
+<<<<<<< ours
 //! xsap_program check --model lamp.smv --faults lamp.fei --top '!on' --cert out.cert
 //! xsap_program fmea --model lamp.smv --faults lamp.fei --tops lamp.tops --size 1 --depth 4
 //! xsap_program make --number 1 --stages 8 --depth 50 --model rails.smv --faults rails.fei
+=======
+//! xsap_program check --model lamp.smv --faults lamp.fei --top '!on' --cert lamp.cert
+//! xsap_program odds --model lamp.smv --faults lamp.fei --top '!on' --depth 4
+>>>>>>> theirs
 //! ```
 #![tactic(auto)]
 
@@ -20,6 +25,7 @@ use std::env;
 use std::io::ErrorKind;
 use std::process::ExitCode;
 use xs_adviser::{Active, Adviser, InOrder};
+use xs_reach::reach::{self, is_reach};
 use xs_run::run::run;
 use xs_run::status::Status;
 use xs_value::OutOfMemory;
@@ -33,36 +39,45 @@ fn main(rt: HostRuntime) -> ExitCode {
     let alloc = rt.alloc();
     let number = match env::args(&rt) {
         Ok(args) => match args.skip(1).collect::<Vec<String>>(alloc) {
-            Ok(words) => exit_number(&status_of(rt, alloc, &words)),
-            Err(AllocError) => exit_number(&Status::Memory),
+            Ok(words) => number_of(rt, alloc, &words),
+            Err(AllocError) => exit_number(Status::Memory.number()),
         },
-        Err(error) if error.kind() == ErrorKind::OutOfMemory => exit_number(&Status::Memory),
+        Err(error) if error.kind() == ErrorKind::OutOfMemory => {
+            exit_number(Status::Memory.number())
+        }
         Err(_) => NOT_TEXT,
     };
     ExitCode::from(number)
 }
 
-/// How a run with these words over real files ends.
-fn status_of(rt: HostRuntime, alloc: Global, words: &[String]) -> Status {
+/// The number with which a run with these words over real files ends.
+fn number_of(rt: HostRuntime, alloc: Global, words: &[String]) -> u8 {
     match words
         .iter()
         .map(|word| word.as_str())
         .collect::<Vec<&str>>(alloc)
     {
-        Ok(words) => advised(rt, alloc, &words).unwrap_or(Status::Memory),
-        Err(AllocError) => Status::Memory,
+        Ok(words) => match advised(rt, alloc, &words) {
+            Ok(number) => exit_number(number),
+            Err(OutOfMemory) => exit_number(Status::Memory.number()),
+        },
+        Err(AllocError) => exit_number(Status::Memory.number()),
     }
 }
 
-/// How a run ends that two advisers serve: one in the order of the variables, one by how often clauses failed.
-fn advised(rt: HostRuntime, alloc: Global, words: &[&str]) -> Result<Status, OutOfMemory> {
+/// The number of a run that two advisers serve: one in the order of the variables, one by how often clauses failed.
+fn advised(rt: HostRuntime, alloc: Global, words: &[&str]) -> Result<i32, OutOfMemory> {
     let mut advisers: Vec<Box<dyn Adviser>> = Vec::new(alloc);
     advisers.push(Box::new(alloc, InOrder::new())?)?;
     advisers.push(Box::new(alloc, Active::new(alloc))?)?;
-    Ok(run(alloc, words, &mut RealDesk::new(rt), advisers))
+    let mut desk = RealDesk::new(rt);
+    if is_reach(words) {
+        return Ok(reach::run(alloc, words, &mut desk, advisers).number());
+    }
+    Ok(run(alloc, words, &mut desk, advisers).number())
 }
 
 /// The number of a status, as the system takes it.
-fn exit_number(status: &Status) -> u8 {
-    status.number() as u8
+fn exit_number(number: i32) -> u8 {
+    number as u8
 }

@@ -1,0 +1,5 @@
+pub mod TextLaws
+pub mod StopLaws
+pub mod OddsLaws
+pub mod FoundLaws
+pub mod RunLaws

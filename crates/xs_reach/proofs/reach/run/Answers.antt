@@ -1,0 +1,52 @@
+use Rattle.std.proofs.Common.{Err, ◌≡◌, ap, ◌∙◌}
+use Rattle.xs_desk.specs.Desk.{said_more}
+use Rattle.xs_reach_words.specs.Seen.{texts, seen}
+use Rattle.xs_reach.specs.Statuses.{refusal_text}
+use Rattle.xs_reach.specs.declared.status.Refusal.TheVariants as refused
+use Rattle.xs_reach.proofs.RunLaws.{done_for, refused_for, refused_unfinished, answer_refused, finished_kept, told_after}
+use Rattle.xs_reach.proofs.reach.run.Goals as goal
+
+pub returns-in-Err-clause-finished : goal.returns-in-Err-clause-finished
+returns-in-Err-clause-finished g c command means finished = absurd (refused_unfinished c.refuse.result (refused.Words c.in-Err.fault) c.refuse.ensures.ends finished)
+
+pub returns-in-Err-clause-refused : goal.returns-in-Err-clause-refused
+returns-in-Err-clause-refused g c command r means is = absurd (c.read_words.ensures.apart command _ _ means c.in-Err.ensures.fault)
+
+pub returns-in-Err-clause-told : goal.returns-in-Err-clause-told
+returns-in-Err-clause-told g c r is =
+    (c.refuse.ensures.files, told_after (λ q said now. now ≡ said_more said (refusal_text q)) c.refuse.result (refused.Words c.in-Err.fault) _ _ c.refuse.ensures.said c.refuse.ensures.ends r is)
+
+pub returns-in-Err-clause-words : goal.returns-in-Err-clause-words
+returns-in-Err-clause-words g c rule place broken answer =
+    let same = c.read_words.ensures.one_fault _ _ rule place c.in-Err.ensures.fault broken in
+    (c.in-Err.fault, same.0, same.1, answer_refused c.refuse.result (refused.Words c.in-Err.fault) c.refuse.ensures.ends answer)
+
+pub returns-in-Ok-perform-clause-finished : goal.returns-in-Ok-perform-clause-finished
+returns-in-Ok-perform-clause-finished g c command means finished =
+    done_for _ (texts c.args.words.now) (seen c.in-Ok.command) command c.in-Ok-perform.status _ _ _ _ c.read_words.ensures.one_command c.in-Ok.ensures.ok means c.in-Ok-perform.ensures.done
+
+pub returns-in-Ok-perform-clause-refused : goal.returns-in-Ok-perform-clause-refused
+returns-in-Ok-perform-clause-refused g c command r means is = absurd (finished_kept c.in-Ok-perform.status r c.in-Ok-perform.ensures.finished is)
+
+pub returns-in-Ok-perform-clause-told : goal.returns-in-Ok-perform-clause-told
+returns-in-Ok-perform-clause-told g c r is = absurd (finished_kept c.in-Ok-perform.status r c.in-Ok-perform.ensures.finished is)
+
+pub returns-in-Ok-perform-clause-words : goal.returns-in-Ok-perform-clause-words
+returns-in-Ok-perform-clause-words g c rule place broken answer = absurd (c.read_words.ensures.apart (seen c.in-Ok.command) rule place c.in-Ok.ensures.ok broken)
+
+pub returns-in-Err-perform-clause-finished : goal.returns-in-Err-perform-clause-finished
+returns-in-Err-perform-clause-finished g c command means finished = absurd (c.stopped.ensures.ended finished)
+
+pub returns-in-Err-perform-clause-refused : goal.returns-in-Err-perform-clause-refused
+returns-in-Err-perform-clause-refused g c command r means is =
+    let stop = c.stopped.ensures.refused r is in
+    refused_for _ (texts c.args.words.now) (seen c.in-Ok.command) command r c.read_words.ensures.one_command c.in-Ok.ensures.ok means (c.in-Err-perform.ensures.refused r (ap (λ s. Err s) stop.0))
+
+pub returns-in-Err-perform-clause-told : goal.returns-in-Err-perform-clause-told
+returns-in-Err-perform-clause-told g c r is =
+    let stop = c.stopped.ensures.refused r is in
+    let kept = c.in-Err-perform.ensures.untouched r (ap (λ s. Err s) stop.0) in
+    (stop.1 ∙ kept.0, stop.2 ∙ ap (λ said. said_more said (refusal_text r)) kept.1)
+
+pub returns-in-Err-perform-clause-words : goal.returns-in-Err-perform-clause-words
+returns-in-Err-perform-clause-words g c rule place broken answer = absurd (c.read_words.ensures.apart (seen c.in-Ok.command) rule place c.in-Ok.ensures.ok broken)

@@ -1,0 +1,104 @@
+-- What bounds on probabilities come to: the refusals, and what is said of an analysis.
+use Rattle.std.specs.Prelude.{◌≡◌, ◌≤◌, ℕ, ◌+◌, ◌*◌, ◌^◌, List, ◌++◌, codes, length, map}
+use Rattle.xs_desk.specs.declared.files.NamedFile.{NamedFile}
+use Rattle.xs_desk.specs.Desk.{said_more}
+use Rattle.xs_tree.specs.ProgramTree.{Text, Formula, ProgramTree}
+use Rattle.xs_tree.specs.Trace.{Each}
+use Rattle.xs_odds.specs.declared.mode_marks.MarkFault.{MarkFault}
+use Rattle.xs_odds.specs.declared.mode_marks.MarkFault.TheVariants as wrong
+use Rattle.xs_odds.specs.Units.{one_in_units}
+use Rattle.xs_odds.specs.Marks.{IsFirstMarkFault, HasProbabilities, AreOdds}
+use Rattle.xs_odds.specs.Bounds.{Bounds, bound_of, bound_sum, slack_of, exact_sum, units_in}
+use Rattle.xs_odds.specs.OddsText.{odds_text}
+use Rattle.xs_report.specs.Analysed.{told_ending}
+use Rattle.xs_reporting.specs.ExtendedTraces.{Ending, complete, bounded, Analysis}
+use Rattle.xs_run.specs.declared.status.InputFault.{InputFault as SharedFault}
+use Rattle.xs_run.specs.declared.status.Refusal.{Refusal as SharedRefusal}
+use Rattle.xs_run.specs.declared.status.Refusal.TheVariants as shared_refusal
+use Rattle.xs_run.specs.Inputs.{RefusesModel, HoldsModel, RefusesFaults}
+use Rattle.xs_run.specs.Cases.{Case, HoldsCase, IsTopWord, IsWrongWord}
+use Rattle.xs_run.specs.Answered.{Said, faults_text, bits_of}
+use Rattle.xs_run.specs.Analyses.{IsFound}
+use Rattle.xs_run.specs.Searches.{case_in, IsEvent}
+use Rattle.xs_reach.specs.declared.status.Part.TheVariants as part
+use Rattle.xs_reach.specs.declared.status.InputFault.{InputFault}
+use Rattle.xs_reach.specs.declared.status.Refusal.{Refusal}
+use Rattle.xs_reach.specs.declared.status.Refusal.TheVariants as refusal
+use Rattle.xs_reach.specs.declared.status.Status.{Status}
+use Rattle.xs_reach.specs.declared.status.Status.TheVariants as status
+use Rattle.xs_reach.specs.declared.odds.Marked.{Marked}
+use Rattle.xs_reach.specs.declared.odds.FoundOdds.{FoundOdds}
+use Rattle.xs_reach.specs.Reports.{sets_text, ending_line}
+
+-- the number of the rule that a mark breaks
+abbrev pub mark_rule : MarkFault → ℕ
+mark_rule wrong.NoMark = 1
+mark_rule wrong.BadMark = 2
+
+-- the mark of the mode at an item is absent, or no probability
+abbrev pub mark_refusal : MarkFault → ℕ → Refusal
+mark_refusal fault item = refusal.Faults (record { part = part.Mark; number = mark_rule fault; place = item })
+
+-- The model is refused; or it holds, and the instructions are; or these hold too, and the first mode whose mark is no probability
+-- is told; or all marks are probabilities, and the top event is refused.
+pub data RefusesOdds (files : List NamedFile) (model faults top : Text) (r : Refusal) : Type 0 where
+  at_model : (s : SharedRefusal) → r ≡ refusal.Shared s → RefusesModel files model s → RefusesOdds files model faults top r
+  at_faults : (p : ProgramTree) (s : SharedRefusal) → r ≡ refusal.Shared s → HoldsModel files model p → RefusesFaults files faults p s → RefusesOdds files model faults top r
+  at_mark : (c : Case) (fault : MarkFault) (item : ℕ) → r ≡ mark_refusal fault item → HoldsCase files model faults c → IsFirstMarkFault c.instructions fault item →
+      RefusesOdds files model faults top r
+  at_top : (c : Case) (fault : SharedFault) → r ≡ refusal.Shared (shared_refusal.Top fault) → HoldsCase files model faults c → HasProbabilities c.instructions → IsWrongWord c.program top fault →
+      RefusesOdds files model faults top r
+
+-- the mark of the first mode that has no probability is told
+abbrev pub RefusesMark : Case → Refusal → Type 0
+RefusesMark c r = (fault : MarkFault) × (item : ℕ) × (r ≡ mark_refusal fault item) × IsFirstMarkFault c.instructions fault item
+
+-- what was loaded is a case with a top event that the word spells, and with the units of its faults
+pub record IsMarked (l : Marked) : Type 0 where
+  pub event : IsEvent l.word.now l.loaded
+  pub odds : AreOdds (case_in l.loaded).instructions (case_in l.loaded).faults l.odds
+  pub all : HasProbabilities (case_in l.loaded).instructions
+
+-- Each listed set's bound bounds its exact product, and the sum of the bounds is not below the sum of the exact products, in parts
+-- of a unit as small as the largest set needs, and above it by at most the slack.
+pub record AreBounded (odds : List ℕ) (sets : List (List ℕ)) : Type 0 where
+  pub each : Each (λ set. Bounds (units_in odds set) (bound_of (units_in odds set))) sets
+  pub sum : (scale : ℕ) → Each (λ set. length set ≤ scale + 1) sets →
+      (exact_sum scale (map (units_in odds) sets) ≤ bound_sum (map (units_in odds) sets) * one_in_units ^ scale)
+      × (bound_sum (map (units_in odds) sets) * one_in_units ^ scale ≤ exact_sum scale (map (units_in odds) sets) + slack_of (map (units_in odds) sets) * one_in_units ^ scale)
+
+-- what is said of an analysis by the units of its faults
+abbrev pub odds_report : Case → List ℕ → Analysis → Text
+odds_report c odds a = faults_text c.faults ++ (sets_text a.sets ++ (odds_text odds a.sets ++ ending_line a.ending (bits_of c)))
+
+-- what a search found of a case: an analysis with the size of all faults, its ending, and its report, whose bounds are right
+pub record IsOddsFinding (c : Case) (word : Text) (depth : ℕ) (odds : List ℕ) (f : FoundOdds) : Type 0 where
+  pub event : Formula
+  pub is_event : IsTopWord c.program word event
+  pub analysis : Analysis
+  pub found : IsFound c event (length c.faults) depth analysis
+  pub bounded : AreBounded odds analysis.sets
+  pub ends : told_ending f.ending ≡ analysis.ending
+  pub reported : f.report ≡ odds_report c odds analysis
+
+-- a run ends done where its analysis is complete, and else bounded
+abbrev pub ended_with : Ending → Status
+ended_with complete = status.Done
+ended_with (bounded k) = status.Bounded k
+
+-- The files hold a case whose modes all have probabilities, and the word spells an event of it. An analysis of it was said that is
+-- right with the size of all faults, for all traces or for those of at most as many steps as the depth, with the bounds of its
+-- sets by the units of the faults.
+pub record HasOdds (files : List NamedFile) (model faults top : Text) (depth : ℕ) (s : Status) (said now : Said) : Type 0 where
+  pub c : Case
+  pub holds : HoldsCase files model faults c
+  pub all : HasProbabilities c.instructions
+  pub event : Formula
+  pub is_event : IsTopWord c.program top event
+  pub odds : List ℕ
+  pub are_odds : AreOdds c.instructions c.faults odds
+  pub analysis : Analysis
+  pub found : IsFound c event (length c.faults) depth analysis
+  pub bounded : AreBounded odds analysis.sets
+  pub ends : s ≡ ended_with analysis.ending
+  pub reported : now ≡ said_more said (odds_report c odds analysis)

@@ -1,0 +1,105 @@
+// The verbs and their options.
+ghost use Rattle.std.specs.Prelude.{◌≡◌, map};
+ghost use Rattle.xs_reach_words.specs.Table.{options_of};
+ghost use Rattle.xs_reach_words.specs.Reading.{verb_in};
+ghost use Rattle.xs_reach_words.specs.Seen.{viewed};
+
+use crate::choice::{Choice, Kind};
+
+/// What is to be done.
+#[derive(Clone, Copy, Debug, PartialEq, Eq)]
+pub enum Verb {
+    Causes,
+    CheckCauses,
+    Orders,
+    CheckOrders,
+    Odds,
+}
+
+const MODEL: Choice = Choice {
+    name: "--model",
+    kind: Kind::File,
+};
+
+const FAULTS: Choice = Choice {
+    name: "--faults",
+    kind: Kind::File,
+};
+
+const CAUSES: Choice = Choice {
+    name: "--causes",
+    kind: Kind::File,
+};
+
+const TOP: Choice = Choice {
+    name: "--top",
+    kind: Kind::Event,
+};
+
+const SET: Choice = Choice {
+    name: "--set",
+    kind: Kind::Set,
+};
+
+const FIRST: Choice = Choice {
+    name: "--first",
+    kind: Kind::Number {
+        least: 1,
+        most: 256,
+    },
+};
+
+const SECOND: Choice = Choice {
+    name: "--second",
+    kind: Kind::Number {
+        least: 1,
+        most: 256,
+    },
+};
+
+const CLAIM: Choice = Choice {
+    name: "--claim",
+    kind: Kind::Claim,
+};
+
+const DEPTH: Choice = Choice {
+    name: "--depth",
+    kind: Kind::Number {
+        least: 0,
+        most: 1_000_000_000,
+    },
+};
+
+const CERT: Choice = Choice {
+    name: "--cert",
+    kind: Kind::File,
+};
+
+impl Verb {
+    /// The verb of this name.
+    pub(crate) fn named(name: &str) -> Option<Verb>
+        ensures { result ≡ verb_in name.now }
+    {
+        match name {
+            "causes" => Some(Verb::Causes),
+            "check-causes" => Some(Verb::CheckCauses),
+            "orders" => Some(Verb::Orders),
+            "check-orders" => Some(Verb::CheckOrders),
+            "odds" => Some(Verb::Odds),
+            _ => None,
+        }
+    }
+
+    /// Its options, in the order in which a missing one is told.
+    pub(crate) fn options(self) -> &'static [Choice]
+        ensures { map viewed result.now ≡ options_of self }
+    {
+        match self {
+            Verb::Causes => &[MODEL, FAULTS, CAUSES, TOP, DEPTH, CERT],
+            Verb::CheckCauses => &[MODEL, FAULTS, CAUSES, TOP, CERT],
+            Verb::Orders => &[MODEL, FAULTS, TOP, SET, FIRST, SECOND, DEPTH, CERT],
+            Verb::CheckOrders => &[MODEL, FAULTS, TOP, SET, FIRST, SECOND, CLAIM, CERT],
+            Verb::Odds => &[MODEL, FAULTS, TOP, DEPTH],
+        }
+    }
+}
