@@ -8,3 +8,4 @@ mod Exactly
 mod LineCounts
 mod Spelled
 mod HistoryPlaces
+mod NoSets

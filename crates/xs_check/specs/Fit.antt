@@ -42,6 +42,17 @@ pub record IsFit (m : FlatModel) (fs : List Mode) (top : Tree FlatLeaf) : Type 0
   pub encodable : IsEncodable (with_history m fs)
   pub fits : IsFitTop (with_history m fs) top
 
+-- With the history of its faults the model is encodable, and the top event fits.
+pub record IsProvable (m : FlatModel) (fs : List Mode) (top : Tree FlatLeaf) : Type 0 where
+  pub encodable : IsEncodable (with_history m fs)
+  pub fits : IsFitTop (with_history m fs) top
+
+-- the subject has the lists of the model with history, and the derivations of the certificate can be judged
+pub record CanBeProved (full : FlatModel) (a : Matter) : Type 0 where
+  pub history : full ≡ with_history a.model a.modes
+  pub model : IsProvable a.model a.modes a.top
+  pub certificate : IsCheckable a.certificate
+
 -- the subject has the lists of the model with history, and the matter can be judged
 pub record CanBeJudged (full : FlatModel) (a : Matter) : Type 0 where
   pub history : full ≡ with_history a.model a.modes

@@ -1,5 +1,5 @@
 -- What is found at the sites of a certificate: that every rule is kept at all of them, or which is broken first.
-use Rattle.std.specs.Prelude.{◌≡◌, ℕ, List, ◌∷◌, ◌++◌, Option, Some, None}
+use Rattle.std.specs.Prelude.{◌≡◌, ◌≢◌, ◌⊎◌, ◌≤◌, ◌<◌, ℕ, List, [], ◌∷◌, ◌++◌, Option, Some, None}
 use Rattle.std.specs.List.{AllByRecursion}
 use Rattle.xs_certificate.specs.Certificate.{Site, line_of}
 use Rattle.xs_certificate.specs.Accepted.{Rule, number_of}
@@ -22,6 +22,11 @@ module _ (a : Matter) where
   abbrev pub FindsAt : Site → Option ℕ → Type 0
   FindsAt site None = IsKeptAt site
   FindsAt site (Some number) = IsBrokenAt site number
+
+  -- which rule is broken first there, where rule 12 is broken last
+  pub data FindsUnlisted (site : Site) : ℕ → Type 0 where
+    one_before : (number : ℕ) → IsBrokenAt site number → FindsUnlisted site number
+    none_before : IsKeptAt site → FindsUnlisted site 12
 
   -- every rule is kept at all sites
   pub record AreKept (sites : List Site) : Type 0 where
@@ -52,6 +57,17 @@ module _ (a : Matter) where
   abbrev pub IsJudged : Judged → Type 0
   IsJudged Yes = IsAcceptedIn a
   IsJudged (No line number) = IsObjectionOf line number
+
+  -- The objection where no set may be listed: rule 12 is broken at line 4, that of the first set, where there is one, and comes
+  -- after the other rules of that line.
+  pub data IsObjectionUnlisted : ℕ → ℕ → Type 0 where
+    of_another : (line number : ℕ) → IsObjectionOf line number → (a.certificate.sets ≡ []) ⊎ (line ≤ 4) → IsObjectionUnlisted line number
+    of_its_set : a.certificate.sets ≢ [] → ((line number : ℕ) → IsObjectionOf line number → 4 < line) → IsObjectionUnlisted 4 12
+
+  -- what is answered where no set may be listed
+  abbrev pub IsJudgedUnlisted : Judged → Type 0
+  IsJudgedUnlisted Yes = IsAcceptedIn a × (a.certificate.sets ≡ [])
+  IsJudgedUnlisted (No line number) = IsObjectionUnlisted line number
 
   -- what is found in the rest is found in all: all before the rest is kept
   pub record GoesOn (rest all : List Site) : Type 0 where

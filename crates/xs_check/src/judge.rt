@@ -9,7 +9,7 @@ ghost use Rattle.xs_certificate.specs.Sites.{sites_of, set_sites};
 ghost use Rattle.xs_check.specs.Matter.{matter_of};
 ghost use Rattle.xs_check.specs.Found.{Finds, IsJudged};
 ghost use Rattle.xs_check.specs.Asked.{asked, proof_sites};
-ghost use Rattle.xs_check.specs.Fit.{IsFit, IsCheckable, CanBeJudged};
+ghost use Rattle.xs_check.specs.Fit.{IsFit, IsCheckable, CanBeJudged, CanBeProved};
 
 use crate::clauses::judge_clauses;
 use crate::judged::Judged;
@@ -82,8 +82,8 @@ fn judge_listed(alloc: Global, q: &Question<'_>) -> Result<Judged, OutOfMemory>
 }
 
 /// Judges the invariant, and then the derivations.
-fn judge_proof(alloc: Global, q: &Question<'_>) -> Result<Judged, OutOfMemory>
-    requires fit { CanBeJudged (model_tree q.now.full.now.model) (asked q.now) }
+pub(crate) fn judge_proof(alloc: Global, q: &Question<'_>) -> Result<Judged, OutOfMemory>
+    requires fit { CanBeProved (model_tree q.now.full.now.model) (asked q.now) }
     requires numbers { HasNumbers (asked q.now).subject (asked q.now).certificate }
     ensures { IfOk result (Finds (asked q.now) (proof_sites (asked q.now).certificate)) }
 {

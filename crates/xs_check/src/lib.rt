@@ -10,7 +10,7 @@
 //! sites of a part what is found at them (`specs/Found.antt`). The files from below: `judged` (the answer),
 //! `question` (what is asked), `lines` (where its parts stand), `sets` (the numbers and the sets), `traces` (the
 //! texts of traces), `listed` (each set with its trace), `clauses` (the invariant), `steps` (one derivation),
-//! `parts` (the three), and `judge` (all sites). A step costs what its
+//! `parts` (the three), `judge` (all sites), and `unlisted` ([`check_unlisted`], for certificates that may list no set). A step costs what its
 //! hints name; each clause is kept once.
 //!
 //! ```text
@@ -29,7 +29,9 @@ mod question;
 mod sets;
 mod steps;
 mod traces;
+mod unlisted;
 
 pub use judge::check;
 pub use judged::Judged;
 pub use laws::spelled_are_checkable;
+pub use unlisted::check_unlisted;

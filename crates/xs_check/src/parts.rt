@@ -7,7 +7,7 @@ ghost use Rattle.xs_certificate.specs.Certificate.{part_first, part_next, part_b
 ghost use Rattle.xs_certificate.specs.Sites.{step_sites};
 ghost use Rattle.xs_certificate.specs.Accepted.{HasNumbers, goals};
 ghost use Rattle.xs_check.specs.Asked.{asked};
-ghost use Rattle.xs_check.specs.Fit.{CanBeJudged};
+ghost use Rattle.xs_check.specs.Fit.{CanBeProved};
 ghost use Rattle.xs_check.specs.Found.{Finds};
 ghost use Rattle.xs_check.specs.Parts.{part_of, list_of, also_given};
 
@@ -22,7 +22,7 @@ use xs_value::OutOfMemory;
 
 /// Judges the three derivations, the first of which begins at this line.
 pub(crate) fn judge_parts(alloc: Global, q: &Question<'_>, line: u64) -> Result<Judged, OutOfMemory>
-    requires fit { CanBeJudged (model_tree q.now.full.now.model) (asked q.now) }
+    requires fit { CanBeProved (model_tree q.now.full.now.model) (asked q.now) }
     requires numbers { HasNumbers (asked q.now).subject (asked q.now).certificate }
     requires over_bits { All (IsOverBits (asked q.now).subject.system) q.now.certificate.now.invariant }
     requires line { line ≡ first_line (asked q.now).certificate }
@@ -43,7 +43,7 @@ fn judge_later(
     step: &ClauseList,
     line: u64,
 ) -> Result<Judged, OutOfMemory>
-    requires fit { CanBeJudged (model_tree q.now.full.now.model) (asked q.now) }
+    requires fit { CanBeProved (model_tree q.now.full.now.model) (asked q.now) }
     requires numbers { HasNumbers (asked q.now).subject (asked q.now).certificate }
     requires over_bits { All (IsOverBits (asked q.now).subject.system) q.now.certificate.now.invariant }
     requires given { step.now ≡ (asked q.now).subject.system.step }
@@ -59,7 +59,7 @@ fn judge_later(
 
 /// Judges the third derivation.
 fn judge_last(alloc: Global, q: &Question<'_>, line: u64) -> Result<Judged, OutOfMemory>
-    requires fit { CanBeJudged (model_tree q.now.full.now.model) (asked q.now) }
+    requires fit { CanBeProved (model_tree q.now.full.now.model) (asked q.now) }
     requires numbers { HasNumbers (asked q.now).subject (asked q.now).certificate }
     requires over_bits { All (IsOverBits (asked q.now).subject.system) q.now.certificate.now.invariant }
     requires line { line ≡ bad_line (asked q.now).certificate }
@@ -71,7 +71,7 @@ fn judge_last(alloc: Global, q: &Question<'_>, line: u64) -> Result<Judged, OutO
 
 /// The list of the bad states that the certificate's sets and size leave.
 fn bad_list(alloc: Global, q: &Question<'_>) -> Result<ClauseList, OutOfMemory>
-    requires fit { CanBeJudged (model_tree q.now.full.now.model) (asked q.now) }
+    requires fit { CanBeProved (model_tree q.now.full.now.model) (asked q.now) }
     requires numbers { HasNumbers (asked q.now).subject (asked q.now).certificate }
     ensures { IfOk result (λ list. list ≡ list_of (asked q.now) part_bad) }
 {
@@ -87,7 +87,7 @@ fn judge_part(
     given: &ClauseList,
     line: u64,
 ) -> Result<Judged, OutOfMemory>
-    requires fit { CanBeJudged (model_tree q.now.full.now.model) (asked q.now) }
+    requires fit { CanBeProved (model_tree q.now.full.now.model) (asked q.now) }
     requires over_bits { All (IsOverBits (asked q.now).subject.system) q.now.certificate.now.invariant }
     requires given { given.now ≡ list_of (asked q.now) (part_of part) }
     requires line { line ≡ head_line (asked q.now).certificate (part_of part) }

@@ -1,5 +1,5 @@
 //! Extends SMV models with faults, replays traces of the extensions, finds their minimal cut sets, checks
-//! certificates of them, makes tables of them, and generates cases.
+//! certificates of them, makes tables of them, generates cases, and bounds probabilities.
 //!
 //! `main` hands [`xs_run::run::run`], or for a further verb [`xs_reach::reach::run`], the words of the command line, a desk
 //! over real files, and the advisers of the search; all that is promised of a run stands at these calls.
@@ -8,14 +8,10 @@
 //! xsap_program extend --model lamp.smv --faults lamp.fei --extended out.smv
 //! xsap_program replay --model lamp.smv --faults lamp.fei --trace dark.trace --top '!on'
 //! xsap_program analyse --model lamp.smv --faults lamp.fei --top '!on' --depth 4 --extended out.smv --cert out.cert
-<<<<<<< ours
 //! xsap_program check --model lamp.smv --faults lamp.fei --top '!on' --cert out.cert
 //! xsap_program fmea --model lamp.smv --faults lamp.fei --tops lamp.tops --size 1 --depth 4
 //! xsap_program make --number 1 --stages 8 --depth 50 --model rails.smv --faults rails.fei
-=======
-//! xsap_program check --model lamp.smv --faults lamp.fei --top '!on' --cert lamp.cert
 //! xsap_program odds --model lamp.smv --faults lamp.fei --top '!on' --depth 4
->>>>>>> theirs
 //! ```
 #![tactic(auto)]
 

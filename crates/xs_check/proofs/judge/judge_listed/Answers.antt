@@ -19,3 +19,7 @@ returns-in-No c =
     let a = asked c.args.q.now in
     let sets = set_sites 0 a.certificate.sets a.certificate.traces in
     broken_front a sets (proof_sites a.certificate) c.in-No.line c.in-No.rule (subst (Finds a sets) c.in-No.is c.in_ok-judge_sets.ensures)
+
+pub judge_proof-requires-clause-fit : goal.judge_proof-requires-clause-fit
+judge_proof-requires-clause-fit c =
+    let fit = c.requires.fit in record { history = fit.history; model = record { encodable = fit.model.encodable; fits = fit.model.fits }; certificate = fit.certificate }

@@ -1,0 +1,7 @@
+mod Keyed
+mod ProgramNames
+mod CausesReads
+mod CausesSpelled
+mod CausesStops
+mod RuleLaws
+mod PathLaws

@@ -1,0 +1,13 @@
+use Rattle.std.proofs.Common.{arith, ◌<◌, length, map}
+use Rattle.std.specs.Prelude.{flat_map}
+use Rattle.xs_tree.specs.ProgramTree.{section_tree}
+use Rattle.xs_weave_rules.specs.Keyed.{with_texts}
+use Rattle.xs_weave_rules.specs.Names.{section_names}
+use Rattle.xs_causes_reader.proofs.Keyed.{texts_next}
+use Rattle.xs_causes_reader.proofs.names.add_sections.Goals as goal
+
+pub loop-section-preserved : goal.loop-section-preserved
+loop-section-preserved c =
+    let below : c.loop-section.section-index < length c.args.sections.now = omega arith in
+    texts_next section_names section_tree c.loop-section.names c.add_section.new.names (with_texts c.args.names.now (flat_map section_names (map section_tree c.args.sections.now))) c.args.sections.now c.loop-section.section-index c.section-item.result below c.section-item.is
+    c.in_ok-add_section.ensures c.loop-section.invariant

@@ -1,0 +1,45 @@
+-- What the code keeps of causes that it reads, as the recogniser's stages, and how far it reads.
+use Rattle.std.specs.Prelude.{◌≡◌, ◌+◌, ◌<◌, Bool, true, false, List, Option, Some, None, length, take, map, option_map}
+use Rattle.xs_tree.specs.Lexemes.{Lexeme}
+use Rattle.xs_parse.specs.declared.expected.Reading.{Reading}
+use Rattle.xs_parse.specs.declared.expected.Reading.TheVariants as reading
+use Rattle.xs_causes.specs.CausesText.{WrittenCause}
+use Rattle.xs_causes_reader.specs.declared.step.State.{State}
+use Rattle.xs_causes_reader.specs.declared.step.State.TheVariants as s
+use Rattle.xs_causes_reader.specs.declared.written.Written.{Written}
+use Rattle.xs_causes_reader.specs.CausesRead.{Stage, start, named, within, first, dots, last, strikes, part, after, ReadSoFar, so_far, keep, read_of}
+
+abbrev pub written_tree : Written → WrittenCause
+written_tree c = record { name = c.name; from = c.from; to = c.to; strikes = c.strikes }
+
+abbrev pub written_trees : List Written → List WrittenCause
+written_trees cs = map written_tree cs
+
+abbrev pub stage_of : State → Stage
+stage_of s.Start = start
+stage_of s.Named = named
+stage_of (s.Within x) = within x
+stage_of (s.From x) = first x
+stage_of (s.Dots x a) = dots x a
+stage_of (s.To x a) = last x a
+stage_of (s.Strikes h) = strikes h.name h.from h.to
+stage_of (s.Part h done path) = part h.name h.from h.to done path
+stage_of (s.After h done path) = after h.name h.from h.to done path
+
+-- what is read so far, where it goes on
+abbrev pub read_view : Option State → List Written → Option ReadSoFar
+read_view o cs = keep (written_trees cs) (option_map stage_of o)
+
+-- reading may end here
+abbrev pub is_start : Stage → Bool
+is_start start = true
+is_start _ = false
+
+abbrev pub Goes : Option ReadSoFar → Type 0
+Goes o = (r : ReadSoFar) × (o ≡ Some r)
+
+-- how far the lexemes can be read, with the causes that they then are
+abbrev pub ReadsTo : List Lexeme → List WrittenCause → Reading → Type 0
+ReadsTo ts cs reading.Whole = read_of ts ≡ Some (so_far start cs)
+ReadsTo ts cs reading.Unfinished = (r : ReadSoFar) × (read_of ts ≡ Some r) × (is_start r.stage ≡ false)
+ReadsTo ts cs (reading.Stopped i) = (i < length ts) × Goes (read_of (take i ts)) × (read_of (take (i + 1) ts) ≡ None)

@@ -1,0 +1,128 @@
+//! The names of a program: of its modules, their formals, what they declare, and symbols.
+
+ghost use Rattle.std.specs.Prelude.{◌≡◌, [], IfOk, OnOk, map, flat_map};
+ghost use Rattle.xs_tree.specs.ProgramTree.{program_tree, module_tree, section_tree, decl_tree, define_tree, declared_tree};
+ghost use Rattle.xs_weave_rules.specs.Keyed.{with_texts};
+ghost use Rattle.xs_weave_rules.specs.Names.{member_names, type_names, decl_names, define_name, section_names, module_names, program_names as program_names_of};
+
+use crate::texts::Texts;
+use std::alloc::Global;
+use xs_tree::{Decl, Declared, Define, Member, Module, Program, Section};
+use xs_value::{Name, OutOfMemory};
+
+/// The names of a program.
+#[tactic(auto, using(crate::proofs::Keyed::keyed_rules))]
+pub(crate) fn program_names(alloc: Global, p: &Program) -> Result<Texts, OutOfMemory>
+    ensures { IfOk result (λ names. names ≡ with_texts [] (program_names_of (program_tree p.now))) }
+{
+    let mut names = Texts::new(alloc);
+    add_modules(alloc, &mut names, p.modules.as_slice())?;
+    Ok(names)
+}
+
+#[tactic(auto, using(crate::proofs::Keyed::keyed_rules))]
+fn add_modules(alloc: Global, names: &mut Texts, modules: &[Module]) -> Result<(), OutOfMemory>
+    ensures { OnOk result (names.new ≡ with_texts names.old (flat_map module_names (map module_tree modules.now))) }
+{
+    for module in modules {
+        add_module(alloc, names, module)?;
+    }
+    Ok(())
+}
+
+#[tactic(auto, using(crate::proofs::Keyed::keyed_rules))]
+fn add_module(alloc: Global, names: &mut Texts, module: &Module) -> Result<(), OutOfMemory>
+    ensures { OnOk result (names.new ≡ with_texts names.old (module_names (module_tree «module».now))) }
+{
+    names.add(alloc, module.name.text())?;
+    add_names(alloc, names, module.formals.as_slice())?;
+    add_sections(alloc, names, module.sections.as_slice())
+}
+
+#[tactic(auto, using(crate::proofs::Keyed::keyed_rules))]
+fn add_names(alloc: Global, names: &mut Texts, more: &[Name]) -> Result<(), OutOfMemory>
+    ensures { OnOk result (names.new ≡ with_texts names.old more.now) }
+{
+    for name in more {
+        names.add(alloc, name.text())?;
+    }
+    Ok(())
+}
+
+#[tactic(auto, using(crate::proofs::Keyed::keyed_rules))]
+fn add_sections(alloc: Global, names: &mut Texts, sections: &[Section]) -> Result<(), OutOfMemory>
+    ensures { OnOk result (names.new ≡ with_texts names.old (flat_map section_names (map section_tree sections.now))) }
+{
+    for section in sections {
+        add_section(alloc, names, section)?;
+    }
+    Ok(())
+}
+
+fn add_section(alloc: Global, names: &mut Texts, section: &Section) -> Result<(), OutOfMemory>
+    ensures { OnOk result (names.new ≡ with_texts names.old (section_names (section_tree section.now))) }
+{
+    match section {
+        Section::Var(list) => add_decls(alloc, names, list.as_slice()),
+        Section::Ivar(list) => add_decls(alloc, names, list.as_slice()),
+        Section::Frozen(list) => add_decls(alloc, names, list.as_slice()),
+        Section::Define(list) => add_defines(alloc, names, list.as_slice()),
+        Section::Constants(list) => add_names(alloc, names, list.as_slice()),
+        Section::Assign(_) | Section::Init(_) | Section::Invar(_) | Section::Trans(_) => Ok(()),
+    }
+}
+
+#[tactic(auto, using(crate::proofs::Keyed::keyed_rules))]
+fn add_decls(alloc: Global, names: &mut Texts, decls: &[Decl]) -> Result<(), OutOfMemory>
+    ensures { OnOk result (names.new ≡ with_texts names.old (flat_map decl_names (map decl_tree decls.now))) }
+{
+    for decl in decls {
+        add_decl(alloc, names, decl)?;
+    }
+    Ok(())
+}
+
+fn add_decl(alloc: Global, names: &mut Texts, decl: &Decl) -> Result<(), OutOfMemory>
+    ensures { OnOk result (names.new ≡ with_texts names.old (decl_names (decl_tree decl.now))) }
+{
+    names.add(alloc, decl.name.text())?;
+    add_symbols(alloc, names, &decl.what)
+}
+
+fn add_symbols(alloc: Global, names: &mut Texts, what: &Declared) -> Result<(), OutOfMemory>
+    ensures { OnOk result (names.new ≡ with_texts names.old (type_names (declared_tree what.now))) }
+{
+    match what {
+        Declared::Members(list) => add_members(alloc, names, list.as_slice()),
+        Declared::Boolean | Declared::Range(_, _) | Declared::Instance(_, _) => Ok(()),
+    }
+}
+
+#[tactic(auto, using(crate::proofs::Keyed::keyed_rules))]
+fn add_members(alloc: Global, names: &mut Texts, members: &[Member]) -> Result<(), OutOfMemory>
+    ensures { OnOk result (names.new ≡ with_texts names.old (flat_map member_names members.now)) }
+{
+    for member in members {
+        add_member(alloc, names, member)?;
+    }
+    Ok(())
+}
+
+fn add_member(alloc: Global, names: &mut Texts, member: &Member) -> Result<(), OutOfMemory>
+    ensures { OnOk result (names.new ≡ with_texts names.old (member_names member.now)) }
+{
+    match member {
+        Member::Symbol(name) => names.add(alloc, name.text()),
+        Member::Number(_) => Ok(()),
+    }
+}
+
+#[tactic(auto, using(crate::proofs::Keyed::keyed_rules))]
+fn add_defines(alloc: Global, names: &mut Texts, defines: &[Define]) -> Result<(), OutOfMemory>
+    ensures { OnOk result (names.new ≡ with_texts names.old (map define_name (map define_tree defines.now))) }
+{
+    for define in defines {
+        names.add(alloc, define.name.text())?;
+    }
+    Ok(())
+}

@@ -1,0 +1,82 @@
+//! The call: tokens, then the causes that they spell, then the rules.
+
+ghost use Rattle.std.specs.Prelude.{◌≡◌, ◌<◌, ◌^◌, List, [], length, map, IfOk, IfErr};
+ghost use Rattle.xs_tree.specs.ProgramTree.{program_tree};
+ghost use Rattle.xs_weave.specs.Faults.{Fault as WovenFault};
+ghost use Rattle.xs_parse.specs.Stops.{FaultMeans};
+ghost use Rattle.xs_causes.specs.CausesText.{WrittenCause, BytesSpellCauses};
+ghost use Rattle.xs_staging.specs.CauseOf.{cause_of};
+ghost use Rattle.xs_causes_reader.specs.CausesRead.{IsCauses};
+ghost use Rattle.xs_causes_reader.specs.ReadView.{written_trees, ReadsTo};
+ghost use Rattle.xs_causes_reader.specs.Read.{AreNamed, AreRead, FaultSays};
+
+use crate::fault::CauseFault;
+use crate::rules::lawful;
+use crate::step::{State, step};
+use crate::written::WrittenList;
+use std::alloc::Global;
+use xs_flat::FaultList;
+use xs_parse::ParseFault;
+use xs_parse::expected::Reading;
+use xs_parse::reader::{split, stop_at};
+use xs_parse::token::{TokenText, token_texts};
+use xs_staging::CauseList;
+use xs_tree::Program;
+use xs_value::OutOfMemory;
+
+/// How far the tokens can be read as causes, which are put into the list.
+fn read_through(
+    alloc: Global,
+    tokens: &[TokenText],
+    causes: &mut WrittenList,
+) -> Result<Reading, OutOfMemory>
+    requires { causes.old ≡ [] }
+    ensures { IfOk result (ReadsTo tokens.now (written_trees causes.new)) }
+{
+    let mut state = State::Start;
+    for (i, token) in tokens.iter().enumerate() {
+        match step(alloc, state, causes, token)? {
+            Some(next) => state = next,
+            None => return Ok(Reading::Stopped(i)),
+        }
+    }
+    match state {
+        State::Start => Ok(Reading::Whole),
+        _ => Ok(Reading::Unfinished),
+    }
+}
+
+/// The causes that the bytes spell.
+fn written_causes(alloc: Global, bytes: &[u8]) -> Result<WrittenList, ParseFault>
+    requires { length bytes.now < 2 ^ 32 }
+    ensures spelled { IfOk result (λ cs. BytesSpellCauses bytes.now (written_trees cs)) }
+    ensures only { IfOk result (λ cs. (ds : List WrittenCause) → BytesSpellCauses bytes.now ds → written_trees cs ≡ ds) }
+    ensures fault { IfErr result (FaultMeans IsCauses ⊥ bytes.now) }
+{
+    let tokens = split(alloc, bytes)?;
+    let texts = token_texts(alloc, bytes, &tokens)?;
+    let mut causes = WrittenList::new(alloc);
+    match read_through(alloc, &texts, &mut causes)? {
+        Reading::Whole => Ok(causes),
+        Reading::Unfinished => Err(ParseFault::End(bytes.len() as u32)),
+        Reading::Stopped(i) => Err(stop_at(&tokens, &texts, i)),
+    }
+}
+
+/// The causes that the bytes spell, for these faults of an extension and its woven program, where they break no rule.
+pub fn read_causes(
+    alloc: Global,
+    bytes: &[u8],
+    faults: &FaultList,
+    w: &Program,
+) -> Result<CauseList, CauseFault>
+    requires { length bytes.now < 2 ^ 32 }
+    ensures read { IfOk result (λ causes. (woven : List WovenFault) → AreNamed faults.now woven → AreRead woven (program_tree w.now) bytes.now (map cause_of causes)) }
+    ensures fault { IfErr result (λ fault. (woven : List WovenFault) → AreNamed faults.now woven → FaultSays woven (program_tree w.now) bytes.now fault) }
+{
+    match written_causes(alloc, bytes) {
+        Ok(written) => lawful(alloc, faults, w, &written),
+        Err(ParseFault::OutOfMemory) => Err(CauseFault::OutOfMemory),
+        Err(fault) => Err(CauseFault::Parse(fault)),
+    }
+}

@@ -1,0 +1,9 @@
+use Rattle.xs_check.specs.Asked.{asked}
+use Rattle.xs_check.specs.Found.{one_before, none_before}
+use Rattle.xs_check.proofs.unlisted.listed_rule.Goals as goal
+
+pub returns-in-Some : goal.returns-in-Some
+returns-in-Some c = one_before c.in-Some.rule c.in-Some.ensures
+
+pub returns-in-None : goal.returns-in-None
+returns-in-None c = none_before c.in-None.ensures

@@ -1,0 +1,149 @@
+//! A model with the history of its faults and two more booleans, of which each tells that one of two faults came before the
+//! other.
+
+ghost use Rattle.std.specs.Prelude.{◌≡◌, ◌≢◌, ◌≤◌, length, map, IfOk, OnOk};
+ghost use Rattle.xs_tree.specs.Tree.{binary, not_of, next_of};
+ghost use Rattle.xs_tree.specs.declared.expr.Op.TheVariants as op;
+ghost use Rattle.xs_scope.specs.ModelTree.{variable_tree, formula_tree, flat_tree, model_tree, mode_of};
+ghost use Rattle.xs_flattening.specs.History.{added as added_tree};
+ghost use Rattle.xs_orders.specs.Stage.{stage as stage_of, with_order, order_variable as variable_of, order_at_first as first_of, order_at_step as step_of, now_of, later_of, bit_number as bit_of};
+
+use std::alloc::Global;
+use xs_flat::{FaultList, Flat, FlatModel, Formula, Role, Variable, with_history};
+use xs_scope::copy::boxed;
+use xs_scope::items::number_of;
+use xs_tree::{Declared, Expr, Op};
+use xs_value::{Dotted, Name, OutOfMemory};
+
+/// A copy of a model with a history bit for each fault, and after these `ahead` and `behind`: `ahead` is TRUE from a moment on
+/// at which the first fault has come and the second has not, and `behind` the other way round. The two faults go by their
+/// numbers, from 1 on.
+pub fn stage(
+    alloc: Global,
+    m: &FlatModel,
+    faults: &FaultList,
+    first: u32,
+    second: u32,
+) -> Result<FlatModel, OutOfMemory>
+    requires first { (1 ≤ first) × (first ≤ length faults.now) }
+    requires second { (1 ≤ second) × (second ≤ length faults.now) }
+    requires apart { first ≢ second }
+    ensures { IfOk result (λ made. model_tree made ≡ stage_of (model_tree m.now) (map mode_of faults.now) first second) }
+{
+    let one = bit_number(m, first)?;
+    let other = bit_number(m, second)?;
+    let mut made = with_history(alloc, m, faults)?;
+    add_order(alloc, &mut made, b"ahead", one, other)?;
+    add_order(alloc, &mut made, b"behind", other, one)?;
+    Ok(made)
+}
+
+/// The number of the history bit of a fault, which follows the model's own variables.
+fn bit_number(m: &FlatModel, fault: u32) -> Result<u32, OutOfMemory>
+    requires { 1 ≤ fault }
+    ensures { IfOk result (λ bit. bit ≡ bit_of (model_tree m.now) fault) }
+{
+    let own = number_of(m.variables.len())?;
+    own.checked_add(fault - 1).ok_or(OutOfMemory)
+}
+
+/// Adds a boolean that tells that the one variable was TRUE before the other.
+#[tactic(auto, using(crate::proofs::Parts::nothing_more))]
+fn add_order(
+    alloc: Global,
+    made: &mut FlatModel,
+    name: &[u8],
+    one: u32,
+    other: u32,
+) -> Result<(), OutOfMemory>
+    ensures { OnOk result (model_tree made.new ≡ with_order name.now one other (model_tree made.old)) }
+{
+    let bit = number_of(made.variables.len())?;
+    made.variables.push(order_variable(alloc, name)?)?;
+    made.init.push(order_at_first(alloc, bit, one, other)?)?;
+    made.trans.push(order_at_step(alloc, bit, one, other)?)
+}
+
+/// A boolean state variable of `main` with this name.
+fn order_variable(alloc: Global, name: &[u8]) -> Result<Variable, OutOfMemory>
+    ensures { IfOk result (λ made. variable_tree made ≡ variable_of name.now) }
+{
+    let name = Name::new(alloc, name)?;
+    Ok(Variable {
+        path: Dotted::new(alloc, name)?,
+        role: Role::State,
+        declared: Declared::Boolean,
+        item: 0,
+        instance: 0,
+    })
+}
+
+/// `bit in (one & (!other))`.
+fn order_at_first(alloc: Global, bit: u32, one: u32, other: u32) -> Result<Formula, OutOfMemory>
+    ensures { IfOk result (λ made. formula_tree made ≡ first_of bit one other) }
+{
+    let value = alone(alloc, now(one), now(other))?;
+    Ok(added(joined(alloc, Op::Within, now(bit), value)?))
+}
+
+/// `next(bit) in (bit | (next(one) & (!next(other))))`.
+fn order_at_step(alloc: Global, bit: u32, one: u32, other: u32) -> Result<Formula, OutOfMemory>
+    ensures { IfOk result (λ made. formula_tree made ≡ step_of bit one other) }
+{
+    let comes = alone(alloc, later(alloc, one)?, later(alloc, other)?)?;
+    let value = joined(alloc, Op::Or, now(bit), comes)?;
+    let target = later(alloc, bit)?;
+    Ok(added(joined(alloc, Op::Within, target, value)?))
+}
+
+/// The one and not the other.
+fn alone(alloc: Global, one: Expr<Flat>, other: Expr<Flat>) -> Result<Expr<Flat>, OutOfMemory>
+    ensures { IfOk result (λ made. flat_tree made ≡ binary op.And (flat_tree one) (not_of (flat_tree other))) }
+{
+    let other = negated(alloc, other)?;
+    joined(alloc, Op::And, one, other)
+}
+
+/// Two expressions with an operator between.
+pub(crate) fn joined(
+    alloc: Global,
+    op: Op,
+    one: Expr<Flat>,
+    other: Expr<Flat>,
+) -> Result<Expr<Flat>, OutOfMemory>
+    ensures { IfOk result (λ made. flat_tree made ≡ binary op (flat_tree one) (flat_tree other)) }
+{
+    Ok(Expr::Binary(op, boxed(alloc, one)?, boxed(alloc, other)?))
+}
+
+/// That an expression is not TRUE.
+pub(crate) fn negated(alloc: Global, e: Expr<Flat>) -> Result<Expr<Flat>, OutOfMemory>
+    ensures { IfOk result (λ made. flat_tree made ≡ not_of (flat_tree e)) }
+{
+    Ok(Expr::Not(boxed(alloc, e)?))
+}
+
+/// The variable of a number.
+pub(crate) fn now(number: u32) -> Expr<Flat>
+    ensures { flat_tree result ≡ now_of number }
+{
+    Expr::Leaf(Flat::Var(number))
+}
+
+/// The variable of a number at the next moment.
+fn later(alloc: Global, number: u32) -> Result<Expr<Flat>, OutOfMemory>
+    ensures { IfOk result (λ made. flat_tree made ≡ later_of number) }
+{
+    Ok(Expr::Next(boxed(alloc, now(number))?))
+}
+
+/// A formula that no item has.
+fn added(value: Expr<Flat>) -> Formula
+    ensures { formula_tree result ≡ added_tree (flat_tree value) }
+{
+    Formula {
+        value,
+        item: 0,
+        instance: 0,
+    }
+}

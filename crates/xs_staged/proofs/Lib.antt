@@ -1,0 +1,4 @@
+pub mod Grown
+pub mod Fits
+pub mod Ordered
+pub mod Staged

@@ -1,0 +1,13 @@
+use Rattle.std.proofs.Common.{◌≡◌, ◌+◌, ◌++◌, length, map, drop}
+use Rattle.xs_scope.specs.ModelTree.{model_tree, mode_of}
+use Rattle.xs_causes.specs.Staged.{with_owns, own_events}
+use Rattle.xs_staging.specs.CauseOf.{cause_of}
+use Rattle.xs_staging.proofs.events.add_own_events.Given as goal
+
+abbrev pub invariant-loop-i : goal.invariant-loop-i
+invariant-loop-i l = record {
+  made : with_owns (map mode_of l.faults) (map cause_of l.causes) l.ages (l.i + 1) (map mode_of (drop l.i l.faults)) (model_tree l.made)
+      ≡ with_owns (map mode_of l.faults) (map cause_of l.causes) l.ages 1 (map mode_of l.faults) (model_tree l.fn.made);
+  events : map mode_of l.events ++ own_events (length (model_tree l.made).variables) (length (model_tree l.made).symbols) (map mode_of (drop l.i l.faults))
+      ≡ map mode_of l.fn.events ++ own_events (length (model_tree l.fn.made).variables) (length (model_tree l.fn.made).symbols) (map mode_of l.faults);
+}

@@ -1,0 +1,10 @@
+use Rattle.std.proofs.Common.{◌≡◌, ◌+◌, map, drop}
+use Rattle.xs_scope.specs.ModelTree.{model_tree, mode_of}
+use Rattle.xs_causes.specs.Staged.{with_hits}
+use Rattle.xs_staging.specs.CauseOf.{cause_of}
+use Rattle.xs_staging.proofs.staging.add_hits.Given as goal
+
+abbrev pub invariant-loop-k : goal.invariant-loop-k
+invariant-loop-k l =
+    with_hits (map mode_of l.faults) (cause_of l.cause) l.age (l.k + 1) (drop l.k l.strikes) (model_tree l.made)
+    ≡ with_hits (map mode_of l.faults) (cause_of l.cause) l.age 1 l.strikes (model_tree l.fn.made)

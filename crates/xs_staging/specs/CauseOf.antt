@@ -1,0 +1,26 @@
+-- Causes of the code as definitions see them, and what is added for one.
+use Rattle.std.specs.Prelude.{suc, List, Option, Some, None, length}
+use Rattle.xs_tree.specs.declared.expr.Op.TheVariants as op
+use Rattle.xs_tree.specs.Tree.{Tree, binary}
+use Rattle.xs_flattening.specs.Flat.{FlatLeaf, FlatModel}
+use Rattle.xs_flattening.specs.History.{Mode}
+use Rattle.xs_causes.specs.Causes.{CommonCause}
+use Rattle.xs_causes.specs.Staged.{joined, joined_after}
+use Rattle.xs_staging.specs.declared.cause.Cause.{Cause}
+
+abbrev pub cause_of : Cause → CommonCause
+cause_of c = record { name = c.name; from = c.from; to = c.to; strikes = c.strikes }
+
+-- the event of a cause that is added to a model, as a mode: its variable comes after the age
+abbrev pub event_mode : FlatModel → Mode
+event_mode m = record { variable = suc (length m.variables); symbol = suc (length m.symbols) }
+
+-- an expression, or one before it
+abbrev pub either_tree : Option (Tree FlatLeaf) → Tree FlatLeaf → Tree FlatLeaf
+either_tree None e = e
+either_tree (Some before) e = binary op.Or before e
+
+-- expressions joined by `|` behind one, where there is one
+abbrev pub joined_from : Option (Tree FlatLeaf) → List (Tree FlatLeaf) → Tree FlatLeaf
+joined_from None es = joined es
+joined_from (Some e) es = joined_after e es
