@@ -2,4 +2,10 @@ pub mod TextLaws
 pub mod StopLaws
 pub mod OddsLaws
 pub mod FoundLaws
+pub mod StagedCases
+pub mod PairLaws
+pub mod AskedLaws
+pub mod ShownLaws
+pub mod OrderLaws
+pub mod ClaimLaws
 pub mod RunLaws

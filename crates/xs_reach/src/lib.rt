@@ -4,8 +4,9 @@
 //! whether the first word is one of these verbs; every other first word is for `xs_run::run::run`.
 //!
 //! The files stand in the order of the work: `status` (how a run ends, and what a refusal says), `stop` (why the work
-//! can't go on), `report` (what is said), `odds` (bounds on probabilities), `causes` (common causes), `orders` (orders
-//! of faults) and `reach`. The words are read in `xs_reach_words`.
+//! can't go on), `report` (what is said), `odds` (bounds on probabilities), `causes` (common causes), `pair` (a set of
+//! faults with two of them), `searched`, `verdict`, `orders` and `claims` (orders of faults and their certificates), and
+//! `reach`. The words are read in `xs_reach_words`.
 //!
 //! ```text
 //! odds --model lamp.smv --faults lamp.fei --top '!on' --depth 4
@@ -13,9 +14,13 @@
 #![tactic(auto)]
 
 pub mod causes;
+pub mod claims;
 pub mod odds;
 pub mod orders;
+pub mod pair;
 pub mod reach;
 pub mod report;
+pub mod searched;
 pub mod status;
 pub mod stop;
+pub mod verdict;

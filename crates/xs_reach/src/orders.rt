@@ -1,54 +1,44 @@
-// Orders of two faults of a set, and certificates of them.
-ghost use Rattle.std.specs.Prelude.{◌≡◌, ℕ, [], IsTrue, IfOk, length};
-ghost use Rattle.xs_scope.specs.ModelTree.{model_tree, flat_tree};
-ghost use Rattle.xs_encoded_search.specs.Searchable.{IsSearchable};
-ghost use Rattle.xs_cert.specs.Seen.{seen};
-ghost use Rattle.xs_check.specs.Fit.{IsCheckable};
+// Orders of two faults of a set: what is found, written and said.
+ghost use Rattle.std.specs.Prelude.{◌≡◌, ◌≤◌, ℕ, Some, None, IfOk, IfSome, IsErrOf, OnOk, length};
+ghost use Rattle.xs_desk.specs.Desk.{Rose, said_more};
+ghost use Rattle.xs_desk.specs.declared.desk.WriteStop.TheVariants as write_stop;
+ghost use Rattle.xs_scope.specs.ModelTree.{flat_tree};
+ghost use Rattle.xs_report.specs.Analysed.{told_ending};
 ghost use Rattle.xs_cuts.specs.declared.answer.End.TheVariants as ends;
-ghost use Rattle.xs_reach.specs.Pairs.{IsStagedCase};
-ghost use Rattle.xs_reach.specs.Claimed.{HasFew, SpeaksFor, IsAnswerAlone, IsSearchOf, IsSomeSearch};
+ghost use Rattle.xs_run.specs.Searches.{case_in, told_maybe};
+ghost use Rattle.xs_reach_words.specs.Sets.{numbers_of};
+ghost use Rattle.xs_reach.specs.declared.status.Refusal.{Refusal};
+ghost use Rattle.xs_reach.specs.declared.stop.Stop.TheVariants as stop;
+ghost use Rattle.xs_reach.specs.Runs.{IsFinished};
+ghost use Rattle.xs_reach.specs.Pairs.{IsAskedPair, RefusesPair, IsStagedCase};
+ghost use Rattle.xs_reach.specs.Orders.{CertifiesClaim, HasOrder, ended_by};
+ghost use Rattle.xs_reach.specs.Claimed.{IsSearchOf, IsTraceAgainst, IsToldBy, HasClaimCertificate, IsConclusion, relation_in};
 
 use crate::pair::{PairWords, StagedCase, load_pair};
-use crate::status::{Refusal, Status};
+use crate::searched::{Searched, search};
+use crate::status::Status;
 use crate::stop::Stop;
-use crate::verdict::{Verdict, cut, relation_of, report};
+use crate::verdict::{cut, relation_of, report_claim, report_either};
 use std::alloc::Global;
 use xs_adviser::Panel;
-use xs_analysis::analyse;
-use xs_cert::{Certificate, write};
+use xs_cert::write;
 use xs_certify::certify;
-use xs_check::{Judged, check_unlisted};
-use xs_cuts::answer::{Analysis, End};
+use xs_cuts::answer::End;
 use xs_cuts_extended::told;
-use xs_desk::{Desk, say_whole, write_whole};
-use xs_flat::Flat;
-use xs_orders::{Relation, against};
-use xs_reach_words::{CheckOrders, FindOrders};
+use xs_desk::{Desk, WriteStop, say_whole, write_whole};
+use xs_orders::Relation;
+use xs_reach_words::FindOrders;
 use xs_report::Ending;
-use xs_run::certificate::load_certificate;
-use xs_run::status as shared;
-use xs_tree::Expr;
 use xs_value::{ByteList, MomentList, OutOfMemory, TraceList};
 
-/// A search gives each symbol a number below this. A model of two files within their limits has far fewer.
-const MOST_SYMBOLS: usize = 2_147_483_648;
+pub(crate) use crate::claims::check_orders;
 
-/// A weave takes no more faults.
-const MOST_FAULTS: usize = 256;
-
-/// The expression of a claim, and what a search for a trace of it came to.
+/// What is written and said: a certificate of a complete claim, and the report; and how the search ended.
 #[derive(Drop)]
-struct Searched {
-    top: Expr<Flat>,
-    analysis: Analysis,
-}
-
-/// What is written and said: a certificate of a complete answer, and the report; and how the search ended.
-#[derive(Drop)]
-struct Conclusion {
-    cert: Option<ByteList>,
-    report: ByteList,
-    ending: Ending,
+pub struct Conclusion {
+    pub cert: Option<ByteList>,
+    pub report: ByteList,
+    pub ending: Ending,
 }
 
 /// Searches for the order of the two faults, writes a certificate of a complete answer, and says the line of the pair.
@@ -57,7 +47,18 @@ pub(crate) fn find_orders<D: Desk>(
     desk: &mut D,
     asked: &FindOrders,
     panel: &mut Panel,
-) -> Result<Status, Stop> {
+) -> Result<Status, Stop>
+    ensures ok { IsAskedPair asked.now.set.now asked.now.first asked.now.second → IfOk result (λ s. IfSome (D.files desk.old) (λ files.
+        HasOrder files asked.now.model.now asked.now.faults.now asked.now.top.now (numbers_of asked.now.set.now) asked.now.first asked.now.second asked.now.depth asked.now.cert.now
+        s (D.files desk.old) (D.files desk.new) (D.said desk.old) (D.said desk.new))) }
+    ensures finished { IfOk result IsFinished }
+    ensures refused { (r : Refusal) → IsErrOf result (stop.Refused r) → IsAskedPair asked.now.set.now asked.now.first asked.now.second → IfSome (D.files desk.old) (λ files.
+        RefusesPair files asked.now.model.now asked.now.faults.now asked.now.top.now (numbers_of asked.now.set.now) asked.now.first asked.now.second r) }
+    ensures untouched { (r : Refusal) → IsErrOf result (stop.Refused r) → (D.files desk.new ≡ D.files desk.old) × (D.said desk.new ≡ D.said desk.old) }
+    ensures failed { IsErrOf result stop.Desk → Rose (D.faults desk.old) (D.faults desk.new) }
+    ensures later { D.faults desk.old ≤ D.faults desk.new }
+    ensures quiet { D.quiet desk.old → D.quiet desk.new × (D.faults desk.new ≡ D.faults desk.old) }
+{
     let words = PairWords {
         model: asked.model,
         faults: asked.faults,
@@ -68,7 +69,8 @@ pub(crate) fn find_orders<D: Desk>(
     };
     let staged = load_pair(alloc, desk, &words)?;
     let answer = answer(alloc, &staged, asked.depth, panel)?;
-    conclude(desk, asked.cert, &answer)
+    let status = conclude(desk, asked.cert, &answer)?;
+    Ok(status)
 }
 
 /// The order of the two faults. Where no trace reaches the event with exactly the set there is none.
@@ -79,11 +81,12 @@ fn answer(
     panel: &mut Panel,
 ) -> Result<Conclusion, OutOfMemory>
     requires { IsStagedCase staged.now }
+    ensures { IfOk result (IsConclusion staged.now depth) }
 {
     let some = search(alloc, staged, None, depth, panel)?;
     let traces: &TraceList = &some.analysis.traces;
     if traces.is_empty() {
-        return concluded(alloc, staged, depth, &Verdict::None, &some, panel);
+        return concluded(alloc, staged, None, depth, &some, panel);
     }
     answer_of(alloc, staged, depth, traces.at(0), panel)
 }
@@ -96,119 +99,37 @@ fn answer_of(
     trace: &MomentList,
     panel: &mut Panel,
 ) -> Result<Conclusion, OutOfMemory>
-    requires { IsStagedCase staged.now }
+    requires staged { IsStagedCase staged.now }
+    requires trace { IsTraceAgainst staged.now None trace.now }
+    ensures { IfOk result (IsConclusion staged.now depth) }
 {
     let relation = relation_of(trace);
     let other = search(alloc, staged, Some(relation), depth, panel)?;
     let traces: &TraceList = &other.analysis.traces;
     if traces.is_empty() {
-        return concluded(
-            alloc,
-            staged,
-            depth,
-            &Verdict::Each(relation),
-            &other,
-            panel,
-        );
+        return concluded(alloc, staged, Some(relation), depth, &other, panel);
     }
     differing(alloc, staged, trace, traces.at(0))
-}
-
-/// The search for a trace that reaches the top event with exactly the set, against a claim where there is one. More symbols
-/// than numbers of them are want of memory, and so are more faults than a weave takes.
-fn search(
-    alloc: Global,
-    staged: &StagedCase,
-    claim: Option<Relation>,
-    depth: u32,
-    panel: &mut Panel,
-) -> Result<Searched, OutOfMemory>
-    requires { IsStagedCase staged.now }
-    ensures { IfOk result (IsSearchOf staged.now claim depth) }
-{
-    if !are_few(staged) {
-        return Err(OutOfMemory);
-    }
-    let top = expression(alloc, staged, claim)?;
-    let analysis = analysed(alloc, staged, &top, depth, panel)?;
-    Ok(Searched { top, analysis })
-}
-
-/// Whether there are as few symbols as a search can number, and no more faults than a weave takes.
-fn are_few(staged: &StagedCase) -> bool
-    ensures { IsTrue result → HasFew staged.now }
-{
-    if staged.case.limited.typed.model().symbols.len() >= MOST_SYMBOLS {
-        return false;
-    }
-    if staged.case.limited.faults.len() > MOST_FAULTS {
-        return false;
-    }
-    true
-}
-
-/// What speaks against a claim.
-fn expression(
-    alloc: Global,
-    staged: &StagedCase,
-    claim: Option<Relation>,
-) -> Result<Expr<Flat>, OutOfMemory>
-    requires staged { IsStagedCase staged.now }
-    requires few { HasFew staged.now }
-    ensures speaks { IfOk result (λ e. SpeaksFor staged.now claim (flat_tree e)) }
-    ensures searchable { IfOk result (λ e. IsSearchable (model_tree staged.now.typed.model) [] (flat_tree e)) }
-{
-    let faults = staged.case.limited.faults.len() as u32;
-    against(
-        alloc,
-        staged.typed.model(),
-        faults,
-        &staged.top,
-        &staged.set,
-        claim,
-    )
-}
-
-/// The analysis of a staged model for an expression.
-fn analysed(
-    alloc: Global,
-    staged: &StagedCase,
-    top: &Expr<Flat>,
-    depth: u32,
-    panel: &mut Panel,
-) -> Result<Analysis, OutOfMemory>
-    requires none { staged.now.none ≡ [] }
-    requires searchable { IsSearchable (model_tree staged.now.typed.model) [] (flat_tree top.now) }
-    ensures { IfOk result (IsAnswerAlone (model_tree staged.now.typed.model) (flat_tree top.now) depth) }
-{
-    analyse(
-        alloc,
-        &staged.typed,
-        &staged.typed,
-        &staged.none,
-        top,
-        depth,
-        0,
-        panel,
-    )
 }
 
 /// The answer of a search that found no trace.
 fn concluded(
     alloc: Global,
     staged: &StagedCase,
+    claim: Option<Relation>,
     depth: u32,
-    verdict: &Verdict,
     searched: &Searched,
     panel: &mut Panel,
 ) -> Result<Conclusion, OutOfMemory>
     requires staged { IsStagedCase staged.now }
-    requires searched { IsSomeSearch staged.now depth searched.now }
+    requires searched { IsSearchOf staged.now claim depth searched.now }
     requires none { length searched.now.analysis.traces ≡ 0 }
+    requires told { IsToldBy staged.now claim }
+    ensures { IfOk result (IsConclusion staged.now depth) }
 {
-    let cert = certificate(alloc, staged, depth, searched, panel)?;
+    let cert = certificate(alloc, staged, claim, depth, searched, panel)?;
     let ending = told(&searched.analysis.end);
-    let report = report(alloc, staged, verdict, ending)?;
+    let report = report_claim(alloc, staged, claim, ending, staged.typed.bits())?;
     Ok(Conclusion {
         cert,
         report,
@@ -222,16 +143,16 @@ fn differing(
     staged: &StagedCase,
     one: &MomentList,
     other: &MomentList,
-) -> Result<Conclusion, OutOfMemory> {
-    let variables = staged.case.limited.typed.model().variables.len();
+) -> Result<Conclusion, OutOfMemory>
+    requires staged { IsStagedCase staged.now }
+    requires one { IsTraceAgainst staged.now None one.now }
+    requires other { IsTraceAgainst staged.now (Some (relation_in one.now)) other.now }
+    ensures { (depth : ℕ) → IfOk result (IsConclusion staged.now depth) }
+{
+    let variables = staged.loaded.case.limited.typed.model().variables.len();
     let one = cut(alloc, one, variables)?;
     let other = cut(alloc, other, variables)?;
-    let report = report(
-        alloc,
-        staged,
-        &Verdict::Either(one, other),
-        Ending::Complete,
-    )?;
+    let report = report_either(alloc, staged, &one, &other)?;
     Ok(Conclusion {
         cert: None,
         report,
@@ -243,17 +164,19 @@ fn differing(
 fn certificate(
     alloc: Global,
     staged: &StagedCase,
+    claim: Option<Relation>,
     depth: u32,
     searched: &Searched,
     panel: &mut Panel,
 ) -> Result<Option<ByteList>, OutOfMemory>
     requires staged { IsStagedCase staged.now }
-    requires searched { IsSomeSearch staged.now depth searched.now }
+    requires searched { IsSearchOf staged.now claim depth searched.now }
     requires none { length searched.now.analysis.traces ≡ 0 }
+    ensures { IfOk result (HasClaimCertificate staged.now claim searched.now.analysis.end) }
 {
     match &searched.analysis.end {
         End::Complete(_clauses) => {
-            let text = certificate_text(alloc, staged, depth, searched, panel)?;
+            let text = certificate_text(alloc, staged, claim, depth, searched, panel)?;
             Ok(Some(text))
         }
         End::Bounded(_steps) => Ok(None),
@@ -264,14 +187,16 @@ fn certificate(
 fn certificate_text(
     alloc: Global,
     staged: &StagedCase,
+    claim: Option<Relation>,
     depth: u32,
     searched: &Searched,
     panel: &mut Panel,
 ) -> Result<ByteList, OutOfMemory>
     requires staged { IsStagedCase staged.now }
-    requires searched { IsSomeSearch staged.now depth searched.now }
+    requires searched { IsSearchOf staged.now claim depth searched.now }
     requires none { length searched.now.analysis.traces ≡ 0 }
     requires complete { (k : ℕ) → searched.now.analysis.end ≡ ends.Bounded k → ⊥ }
+    ensures { IfOk result (CertifiesClaim (case_in staged.now.loaded) staged.now.set.items staged.now.asked.first staged.now.asked.second (flat_tree staged.now.loaded.top) claim) }
 {
     let certificate = certify(
         alloc,
@@ -285,99 +210,41 @@ fn certificate_text(
     write(alloc, &certificate)
 }
 
-/// Writes the certificate, where there is one, and says the report.
-fn conclude<D: Desk>(desk: &mut D, name: &str, answer: &Conclusion) -> Result<Status, Stop> {
-    if let Some(bytes) = &answer.cert {
-        write_whole(desk, name, bytes.as_slice())?;
+/// Writes the text, where there is one.
+fn write_maybe<D: Desk>(desk: &mut D, name: &str, text: &Option<ByteList>) -> Result<(), WriteStop>
+    ensures ok { OnOk result (D.files desk.new ≡ told_maybe (D.files desk.old) name.now text.now) }
+    ensures said { D.said desk.new ≡ D.said desk.old }
+    ensures later { D.faults desk.old ≤ D.faults desk.new }
+    ensures failed { IsErrOf result write_stop.Failed → Rose (D.faults desk.old) (D.faults desk.new) }
+    ensures quiet { D.quiet desk.old → D.quiet desk.new × (D.faults desk.new ≡ D.faults desk.old) }
+{
+    match text {
+        Some(bytes) => write_whole(desk, name, bytes.as_slice()),
+        None => Ok(()),
     }
+}
+
+/// Writes the certificate, where there is one, and says the report.
+fn conclude<D: Desk>(desk: &mut D, name: &str, answer: &Conclusion) -> Result<Status, WriteStop>
+    ensures ends { IfOk result (λ s. s ≡ ended_by (told_ending answer.now.ending)) }
+    ensures finished { IfOk result IsFinished }
+    ensures ok { OnOk result ((D.files desk.new ≡ told_maybe (D.files desk.old) name.now answer.now.cert) × (D.said desk.new ≡ said_more (D.said desk.old) answer.now.report)) }
+    ensures later { D.faults desk.old ≤ D.faults desk.new }
+    ensures failed { IsErrOf result write_stop.Failed → Rose (D.faults desk.old) (D.faults desk.new) }
+    ensures quiet { D.quiet desk.old → D.quiet desk.new × (D.faults desk.new ≡ D.faults desk.old) }
+{
+    write_maybe(desk, name, &answer.cert)?;
     say_whole(desk, answer.report.as_slice())?;
     Ok(status_of(answer.ending))
 }
 
 /// The status of a run whose search ends so.
-fn status_of(ending: Ending) -> Status {
+fn status_of(ending: Ending) -> Status
+    ensures ends { result ≡ ended_by (told_ending ending) }
+    ensures finished { IsFinished result }
+{
     match ending {
         Ending::Complete => Status::Done,
         Ending::Bounded(k) => Status::Bounded(k),
     }
-}
-
-/// Judges a certificate of an order, and says that it is accepted.
-pub(crate) fn check_orders<D: Desk>(
-    alloc: Global,
-    desk: &mut D,
-    asked: &CheckOrders,
-) -> Result<Status, Stop> {
-    let words = PairWords {
-        model: asked.model,
-        faults: asked.faults,
-        top: asked.top,
-        set: asked.set,
-        first: asked.first,
-        second: asked.second,
-    };
-    let staged = load_pair(alloc, desk, &words)?;
-    let certificate = load_certificate(alloc, desk, asked.cert)?;
-    judge(alloc, &staged, claim_of(asked.claim), &certificate)?;
-    say_whole(desk, b"accepted\n")?;
-    Ok(Status::Done)
-}
-
-/// What a word claims: one of the relations, or that there is no trace.
-fn claim_of(word: &str) -> Option<Relation> {
-    match word {
-        "before" => Some(Relation::Before),
-        "after" => Some(Relation::After),
-        "together" => Some(Relation::Together),
-        _ => None,
-    }
-}
-
-/// Refuses a certificate that breaks a rule, or lists a set. More symbols than numbers of them are want of memory, and so are
-/// more faults than a weave takes.
-fn judge(
-    alloc: Global,
-    staged: &StagedCase,
-    claim: Option<Relation>,
-    certificate: &Certificate,
-) -> Result<(), Stop>
-    requires staged { IsStagedCase staged.now }
-    requires checkable { IsCheckable (seen certificate.now) }
-{
-    if !are_few(staged) {
-        return Err(Stop::Memory);
-    }
-    let top = expression(alloc, staged, claim)?;
-    match judged(alloc, staged, &top, certificate)? {
-        Judged::Yes => Ok(()),
-        Judged::No(line, rule) => Err(line_stop(line, rule)),
-    }
-}
-
-/// What is found of a certificate for an expression over the staged model.
-fn judged(
-    alloc: Global,
-    staged: &StagedCase,
-    top: &Expr<Flat>,
-    certificate: &Certificate,
-) -> Result<Judged, OutOfMemory>
-    requires none { staged.now.none ≡ [] }
-    requires searchable { IsSearchable (model_tree staged.now.typed.model) [] (flat_tree top.now) }
-    requires checkable { IsCheckable (seen certificate.now) }
-{
-    check_unlisted(
-        alloc,
-        &staged.typed,
-        &staged.typed,
-        &staged.none,
-        top,
-        certificate,
-    )
-}
-
-/// The end of the work where a line of a certificate breaks a rule.
-fn line_stop(line: u64, rule: u32) -> Stop {
-    Stop::Refused(Refusal::Shared(shared::Refusal::NotAccepted(shared::Objection::Line(
-        line, rule,
-    ))))
 }

@@ -1,59 +1,79 @@
 // A set of faults with two of them, and the extension staged for these two.
-ghost use Rattle.std.specs.Prelude.{◌≡◌, ◌≢◌, ◌≤◌, length, map, IfOk, OnOk};
+ghost use Rattle.std.specs.Prelude.{◌≡◌, ◌≢◌, ◌≤◌, ℕ, false, IsTrue, length, map, IfOk, IfSome, IsErrOf, OnOk};
+ghost use Rattle.xs_desk.specs.Desk.{Rose};
 ghost use Rattle.xs_scope.specs.ModelTree.{model_tree, mode_of};
 ghost use Rattle.xs_kinds.specs.Models.{IsTyped};
 ghost use Rattle.xs_encoded.specs.FlatTraces.{IsNumbered};
 ghost use Rattle.xs_orders.specs.Stage.{stage as stage_of};
 ghost use Rattle.xs_staged.specs.Laws.{IsFaultNumber};
-ghost use Rattle.xs_reach.specs.Pairs.{IsPair, IsStaged, IsStagedCase};
+ghost use Rattle.xs_reach_words.specs.Sets.{numbers_of, IsSet};
+ghost use Rattle.xs_run.specs.declared.input.Input.TheVariants as input;
+ghost use Rattle.xs_run.specs.declared.status.InputFault.{InputFault as SharedFault};
+ghost use Rattle.xs_run.specs.Inputs.{stop_at};
+ghost use Rattle.xs_run.specs.Wholes.{BreaksKinds};
+ghost use Rattle.xs_run.specs.Searches.{case_in};
+ghost use Rattle.xs_run.specs.Cases.{HoldsCase};
+ghost use Rattle.xs_reach.specs.declared.status.Refusal.{Refusal};
+ghost use Rattle.xs_reach.specs.declared.stop.Stop.TheVariants as stops;
+ghost use Rattle.xs_reach.specs.Statuses.{stop_of};
+ghost use Rattle.xs_reach.specs.Pairs.{IsPair, IsAsked, IsFirstOutside, outside_refusal, stage_refusal, RefusesStage, RefusesAsked, IsStaged, IsStagedCase};
 
 use crate::status::{InputFault, Part, Refusal};
 use crate::stop::Stop;
 use std::alloc::Global;
 use xs_desk::Desk;
-use xs_flat::{FaultList, Flat};
+use xs_flat::FaultList;
 use xs_orders::stage;
 use xs_reach_words::{WordFault, set_numbers};
+use xs_run::event::LoadedEvent;
 use xs_run::input::Input;
-use xs_run::loaded::{Limited, LoadedCase, load_case, typed_whole};
+use xs_run::loaded::{Limited, load_case, typed_whole};
 use xs_run::model::load_model;
 use xs_run::status as shared;
 use xs_run::top::load_top;
+use xs_run::wrong::Wrong;
 use xs_sets::has_number;
-use xs_tree::Expr;
 use xs_types::Typed;
 
 /// The files of a model and its instructions, and the words of a top event, a set of faults, and two of its numbers.
 #[derive(Clone, Copy)]
-pub(crate) struct PairWords<'a> {
-    pub(crate) model: &'a str,
-    pub(crate) faults: &'a str,
-    pub(crate) top: &'a str,
-    pub(crate) set: &'a str,
-    pub(crate) first: u32,
-    pub(crate) second: u32,
+pub struct PairWords<'a> {
+    pub model: &'a str,
+    pub faults: &'a str,
+    pub top: &'a str,
+    pub set: &'a str,
+    pub first: u32,
+    pub second: u32,
 }
 
 /// An extension with a top event, a set of its faults, and its flat model staged for two faults of the set. The staged model
 /// has no faults of its own.
 #[derive(Drop)]
-pub(crate) struct StagedCase {
-    pub(crate) case: LoadedCase,
-    pub(crate) typed: Typed,
-    pub(crate) none: FaultList,
-    pub(crate) top: Expr<Flat>,
-    pub(crate) set: Vec<u32>,
-    pub(crate) first: u32,
-    pub(crate) second: u32,
+pub struct StagedCase<'a> {
+    pub asked: PairWords<'a>,
+    pub loaded: LoadedEvent,
+    pub set: Vec<u32>,
+    pub typed: Typed,
+    pub none: FaultList,
 }
 
 /// The extension of two files, staged for two faults of a set, with a top event.
-pub(crate) fn load_pair<D: Desk>(
+pub(crate) fn load_pair<'a, D: Desk>(
     alloc: Global,
     desk: &mut D,
-    asked: &PairWords,
-) -> Result<StagedCase, Stop>
-    ensures { IfOk result IsStagedCase }
+    asked: &PairWords<'a>,
+) -> Result<StagedCase<'a>, Stop>
+    ensures ok { IfOk result (λ s. IfSome (D.files desk.old) (λ files. HoldsCase files asked.now.model.now asked.now.faults.now (case_in s.loaded))) }
+    ensures staged { IfOk result IsStagedCase }
+    ensures asked { IfOk result (λ s. s.asked ≡ asked.now) }
+    ensures numbers { IsAsked asked.now → IfOk result (λ s. s.set.items ≡ numbers_of asked.now.set.now) }
+    ensures refused { (r : Refusal) → IsErrOf result (stops.Refused r) → IsAsked asked.now → IfSome (D.files desk.old) (λ files. RefusesAsked files asked.now r) }
+    ensures failed { IsErrOf result stops.Desk → Rose (D.faults desk.old) (D.faults desk.new) }
+
+    ensures files { D.files desk.new ≡ D.files desk.old }
+    ensures said { D.said desk.new ≡ D.said desk.old }
+    ensures later { D.faults desk.old ≤ D.faults desk.new }
+    ensures quiet { D.quiet desk.old → D.quiet desk.new × (D.faults desk.new ≡ D.faults desk.old) }
 {
     let set = pair_set(alloc, asked)?;
     let model = load_model(alloc, desk, asked.model)?;
@@ -61,19 +81,20 @@ pub(crate) fn load_pair<D: Desk>(
     let typed = staged(alloc, &case.limited, &set, asked.first, asked.second)?;
     let top = load_top(alloc, asked.top, &model, &case)?;
     Ok(StagedCase {
-        case,
+        asked: *asked,
+        loaded: LoadedEvent { model, case, top },
+        set,
         typed,
         none: FaultList::new(alloc),
-        top,
-        set,
-        first: asked.first,
-        second: asked.second,
     })
 }
 
 /// The numbers of the set, of which the two are different ones.
 fn pair_set(alloc: Global, asked: &PairWords) -> Result<Vec<u32>, Stop>
-    ensures { IfOk result (λ set. IsPair set.items asked.now.first asked.now.second) }
+    ensures pair { IfOk result (λ set. IsPair set.items asked.now.first asked.now.second) }
+    ensures numbers { IsAsked asked.now → IfOk result (λ set. set.items ≡ numbers_of asked.now.set.now) }
+    ensures kept { (r : Refusal) → IsErrOf result (stops.Refused r) → IsAsked asked.now → ⊥ }
+    ensures desk { IsErrOf result stops.Desk → ⊥ }
 {
     let set = set_numbers(alloc, asked.set)?;
     judge_pair(&set, asked.first, asked.second)?;
@@ -82,23 +103,28 @@ fn pair_set(alloc: Global, asked: &PairWords) -> Result<Vec<u32>, Stop>
 
 /// Refuses two numbers that are no two of the set, as the words of a command never are.
 fn judge_pair(set: &[u32], first: u32, second: u32) -> Result<(), Stop>
-    ensures { OnOk result (IsPair set.now first second) }
+    ensures ok { OnOk result (IsPair set.now first second) }
+    ensures kept { (r : Refusal) → IsErrOf result (stops.Refused r) → IsPair set.now first second → ⊥ }
+    ensures desk { IsErrOf result stops.Desk → ⊥ }
 {
-    if first == second {
-        return Err(pair_stop());
+    if is_pair(set, first, second) {
+        return Ok(());
     }
-    if !has_number(set, u64::from(first)) {
-        return Err(pair_stop());
-    }
-    if !has_number(set, u64::from(second)) {
-        return Err(pair_stop());
-    }
-    Ok(())
+    Err(Stop::Refused(Refusal::Words(WordFault::NotInSet { at: 0 })))
 }
 
-/// The end of the work where two numbers are no two of a set.
-fn pair_stop() -> Stop {
-    Stop::Refused(Refusal::Words(WordFault::NotInSet { at: 0 }))
+/// Whether the two numbers are different ones of the set.
+fn is_pair(set: &[u32], first: u32, second: u32) -> bool
+    ensures yes { IsTrue result → IsPair set.now first second }
+    ensures no { result ≡ false → IsPair set.now first second → ⊥ }
+{
+    if first == second {
+        return false;
+    }
+    if !has_number(set, u64::from(first)) {
+        return false;
+    }
+    has_number(set, u64::from(second))
 }
 
 /// The flat model of an extension staged for two faults of a set, with its kinds. A number of the set that is none of a fault
@@ -111,7 +137,9 @@ fn staged(
     second: u32,
 ) -> Result<Typed, Stop>
     requires { IsPair set.now first second }
-    ensures { IfOk result (IsStaged limited.now set.now first second) }
+    ensures ok { IfOk result (IsStaged limited.now set.now first second) }
+    ensures refused { (r : Refusal) → IsErrOf result (stops.Refused r) → RefusesStage limited.now set.now first second r }
+    ensures desk { IsErrOf result stops.Desk → ⊥ }
 {
     judge_set(set, limited.faults.len())?;
     staged_model(alloc, limited, first, second)
@@ -122,32 +150,51 @@ fn staged_model(alloc: Global, limited: &Limited, first: u32, second: u32) -> Re
     requires first { IsFaultNumber (length limited.now.faults) first }
     requires second { IsFaultNumber (length limited.now.faults) second }
     requires apart { first ≢ second }
-    ensures { IfOk result (λ t. (model_tree t.model ≡ stage_of (model_tree limited.now.typed.model) (map mode_of limited.now.faults) first second) × IsTyped (model_tree t.model)) }
+    ensures ok { IfOk result (λ t. (model_tree t.model ≡ stage_of (model_tree limited.now.typed.model) (map mode_of limited.now.faults) first second) × IsTyped (model_tree t.model)) }
+    ensures refused { (r : Refusal) → IsErrOf result (stops.Refused r) →
+        (fault : SharedFault) × (r ≡ stage_refusal fault) × BreaksKinds (stage_of (model_tree limited.now.typed.model) (map mode_of limited.now.faults) first second) fault }
+    ensures desk { IsErrOf result stops.Desk → ⊥ }
 {
     let model = stage(alloc, limited.typed.model(), &limited.faults, first, second)?;
     match typed_whole(alloc, model) {
         Ok(typed) => Ok(typed),
-        Err(wrong) => Err(Stop::from(Input::Faults.stop(wrong))),
+        Err(wrong) => Err(stage_stop(wrong)),
     }
+}
+
+/// The end of the work where this is wrong with a staged model.
+fn stage_stop(wrong: Wrong) -> Stop
+    ensures { result ≡ stop_of (stop_at input.Faults wrong) }
+{
+    Stop::from(Input::Faults.stop(wrong))
 }
 
 /// Refuses a set with a number that is none of a fault, by the position of the first such number, from 1.
 fn judge_set(set: &[u32], faults: usize) -> Result<(), Stop>
-    ensures { OnOk result (IsNumbered faults set.now) }
+    ensures ok { OnOk result (IsNumbered faults set.now) }
+    ensures refused { (r : Refusal) → IsErrOf result (stops.Refused r) → (position : ℕ) × (r ≡ outside_refusal position) × IsFirstOutside faults set.now position }
+    ensures desk { IsErrOf result stops.Desk → ⊥ }
 {
     for (k, number) in set.iter().enumerate() {
-        if *number < 1 {
-            return Err(set_stop(k as u64 + 1));
-        }
-        if *number as usize > faults {
+        if !is_fault(*number, faults) {
             return Err(set_stop(k as u64 + 1));
         }
     }
     Ok(())
 }
 
+/// Whether the number is that of one of so many faults.
+fn is_fault(number: u32, faults: usize) -> bool
+    ensures yes { IsTrue result → IsFaultNumber faults number }
+    ensures no { result ≡ false → IsFaultNumber faults number → ⊥ }
+{
+    1 <= number && number as usize <= faults
+}
+
 /// The end of the work where the number at a position of the set is none of a fault.
-fn set_stop(position: u64) -> Stop {
+fn set_stop(position: u64) -> Stop
+    ensures { result ≡ stops.Refused (outside_refusal position) }
+{
     Stop::Refused(Refusal::Set(InputFault {
         part: Part::Shared(shared::Part::Count),
         number: 1,

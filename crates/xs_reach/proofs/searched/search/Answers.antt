@@ -1,5 +1,5 @@
 use Rattle.std.proofs.Common.{IsTrue, arith}
-use Rattle.xs_reach.proofs.orders.search.Goals as goal
+use Rattle.xs_reach.proofs.searched.search.Goals as goal
 
 pub expression-requires-clause-few : goal.expression-requires-clause-few
 expression-requires-clause-few g c = let is : IsTrue c.are_few.result = grind arith in c.are_few.ensures is

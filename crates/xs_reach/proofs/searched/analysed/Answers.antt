@@ -7,7 +7,7 @@ use Rattle.xs_encoding.specs.Bits.{state_of, inputs_of}
 use Rattle.xs_encoding.specs.Lists.{system_of}
 use Rattle.xs_cuts.specs.Answer.{IsAnswer}
 use Rattle.xs_reach.proofs.StagedCases.{alone, searchable_alone}
-use Rattle.xs_reach.proofs.orders.analysed.Goals as goal
+use Rattle.xs_reach.proofs.searched.analysed.Goals as goal
 
 pub analyse-requires-clause-whole : goal.analyse-requires-clause-whole
 analyse-requires-clause-whole g c = alone (model_tree c.args.staged.now.typed.model) c.args.staged.now.none c.requires.none

@@ -4,7 +4,7 @@ use Rattle.xs_scope.specs.ModelTree.{flat_tree}
 use Rattle.xs_scope.specs.declared.model.FlatModel.{FlatModel}
 use Rattle.xs_encoded.specs.FlatTraces.{IsNumbered}
 use Rattle.xs_reach.proofs.StagedCases.{has_room, claim_searchable, speaks_of}
-use Rattle.xs_reach.proofs.orders.expression.Goals as goal
+use Rattle.xs_reach.proofs.searched.expression.Goals as goal
 
 pub overflow_cast-faults : goal.overflow_cast-faults
 overflow_cast-faults c = let few = c.requires.few.faults in omega (arith, few)
