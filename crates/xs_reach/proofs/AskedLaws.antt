@@ -125,10 +125,10 @@ module _ (s : StagedCase) (is : IsStagedCase s) where
   pub claim_of_class : (claim : Option Relation) (class : ℕ → Bool) (ending : Ending) → ((trace : List Moment) → IsOfEnding ending trace → IsTrue (class (length trace))) →
       NoneReaches (staged_of c s.asked.first s.asked.second) (against_of c s.set.items s.asked.first s.asked.second tree claim) class →
       IsClaimed c event_of s.set.items the_faults.one the_faults.other ending claim
-  claim_of_class None class ending short none trace such of =
+  claim_of_class None class ending short none = λ trace such of.
       none_said c.program c.instructions c.faults event_of c.flat c.modes tree the_model s.set.items s.asked.first s.asked.second the_faults.f the_faults.g the_faults.one the_faults.other the_faults.asked class none trace such
       (short trace of)
-  claim_of_class (Some r) class ending short none trace such of =
+  claim_of_class (Some r) class ending short none = λ trace such of.
       said c.program c.instructions c.faults event_of c.flat c.modes tree the_model s.set.items s.asked.first s.asked.second the_faults.f the_faults.g the_faults.one the_faults.other the_faults.asked class r none trace such
       (short trace of)
 

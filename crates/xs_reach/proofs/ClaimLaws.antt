@@ -30,6 +30,8 @@ use Rattle.xs_orders.specs.declared.Relation.{Relation}
 use Rattle.xs_faultless.specs.Laws.{NoneReaches}
 use Rattle.xs_faultless.proofs.Refuted.{accepted_refute}
 use Rattle.xs_reporting.specs.ExtendedTraces.{complete}
+use Rattle.xs_run.specs.declared.input.Stop.{Stop as SharedStop}
+use Rattle.xs_run.specs.declared.input.Stop.TheVariants as shared_stop
 use Rattle.xs_run.specs.declared.status.Refusal.{Refusal as SharedRefusal}
 use Rattle.xs_run.specs.declared.status.Refusal.TheVariants as shared_refusal
 use Rattle.xs_run.specs.declared.status.Objection.TheVariants as objection
@@ -41,12 +43,25 @@ use Rattle.xs_reach_words.specs.Sets.{numbers_of}
 use Rattle.xs_reach.specs.declared.status.Refusal.{Refusal}
 use Rattle.xs_reach.specs.declared.status.Refusal.TheVariants as refusal
 use Rattle.xs_reach.specs.declared.status.Status.TheVariants as status
+use Rattle.xs_reach.specs.declared.stop.Stop.TheVariants as stop
+use Rattle.xs_reach.specs.Statuses.{stop_of}
 use Rattle.xs_reach.specs.declared.pair.PairWords.{PairWords}
 use Rattle.xs_reach.specs.declared.pair.StagedCase.{StagedCase}
 use Rattle.xs_reach.specs.Pairs.{IsAsked, IsStagedCase, RefusesPair}
 use Rattle.xs_reach.specs.Orders.{IsClaimed, staged_of, against_of, staged_matter, claim_in, RefusesClaim, at_line, IsAcceptedClaim, RefusesCheck, no_pair, no_certificate, not_accepted, HasCheckedOrder}
 use Rattle.xs_reach.specs.Claimed.{SpeaksFor}
 use Rattle.xs_reach.proofs.AskedLaws.{the_faults, are_faults, at_stage, claim_of_class}
+
+-- a line that breaks a rule, as a refusal
+pub line_refused : (line rule : ℕ) (t : SharedStop) (r : Refusal) → t ≡ shared_stop.Refused (shared_refusal.NotAccepted (objection.Line line rule)) → stop_of t ≡ stop.Refused r →
+    r ≡ refusal.Shared (shared_refusal.NotAccepted (objection.Line line rule))
+line_refused line rule t r is e = let both : stop.Refused (refusal.Shared (shared_refusal.NotAccepted (objection.Line line rule))) ≡ stop.Refused r = sym (ap stop_of is) ∙ e in sym (one_refusal _ r both)
+  where
+    one_refusal : (a b : Refusal) → stop.Refused a ≡ stop.Refused b → a ≡ b
+    one_refusal a b e = cc
+
+pub line_no_desk : (line rule : ℕ) (t : SharedStop) → t ≡ shared_stop.Refused (shared_refusal.NotAccepted (objection.Line line rule)) → stop_of t ≡ stop.Desk → ⊥
+line_no_desk line rule t is e = let both : stop.Refused (refusal.Shared (shared_refusal.NotAccepted (objection.Line line rule))) ≡ stop.Desk = sym (ap stop_of is) ∙ e in cc
 
 -- what is found of a certificate for a model without faults
 pub judged_alone : (m : Model) (e : Expr Flat) (x : Written) (faults : List FaultOf) → faults ≡ [] → (done : Result Judged OutOfMemory) → IfOk done (IsJudgedUnlisted (matter_of m m faults e (seen x))) →

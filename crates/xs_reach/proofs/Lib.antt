@@ -4,6 +4,7 @@ pub mod OddsLaws
 pub mod FoundLaws
 pub mod StagedCases
 pub mod PairLaws
+pub mod AskedWords
 pub mod AskedLaws
 pub mod ShownLaws
 pub mod OrderLaws

@@ -34,7 +34,7 @@ use Rattle.xs_certify.specs.Texts.{text_lines}
 use Rattle.xs_orders.specs.declared.Relation.{Relation}
 use Rattle.xs_cutting.specs.Found.{sets_of}
 use Rattle.xs_faultless.specs.Laws.{class_of, NoneReaches}
-use Rattle.xs_faultless.proofs.Refuted.{empty_refute}
+use Rattle.xs_faultless.proofs.Refuted.{empty_refute, found_reach}
 use Rattle.xs_reporting.specs.ExtendedTraces.{Ending, complete, bounded}
 use Rattle.xs_run.specs.Analyses.{IsCertificateFor}
 use Rattle.xs_run.specs.Cases.{Case, HoldsCase}
@@ -226,3 +226,11 @@ claim_certified s is claim depth r search none faults alone x bytes certified se
     no_trace : (ts : List (List (List Numbered))) → length ts ≡ 0 → ts ≡ []
     no_trace [] h = refl
     no_trace (t ∷ ts) h = absurd (omega (arith, h))
+
+-- the first trace of a search is one against its claim
+pub trace_found : (s : StagedCase) (claim : Option Relation) (depth : ℕ) (r : Searched) → IsSearchOf s claim depth r → (trace : List (List Numbered)) → slice_get r.analysis.traces 0 ≡ Some trace → IsTraceAgainst s claim trace
+trace_found s claim depth r search trace at =
+    let both =
+    found_reach (model_tree s.typed.model) (flat_tree r.top) (system_of (with_history (model_tree s.typed.model) [])) (state_of (with_history (model_tree s.typed.model) []))
+    (inputs_of (with_history (model_tree s.typed.model) [])) depth 0 r.analysis search.answer trace at in
+    record { e = flat_tree r.top; speaks = search.speaks; is_trace = both.0; reaching = both.1 }

@@ -6,6 +6,8 @@ use Rattle.xs_desk.specs.declared.files.NamedFile.{NamedFile}
 use Rattle.xs_tree.specs.ProgramTree.{Text, ProgramTree}
 use Rattle.xs_tree.specs.Trace.{Each}
 use Rattle.xs_scope.specs.ModelTree.{model_tree, mode_of}
+use Rattle.xs_scope.specs.declared.model.FlatModel.{FlatModel as Model}
+use Rattle.xs_flattening.specs.Flat.{FlatModel}
 use Rattle.xs_right.specs.Sets.{has_number}
 use Rattle.xs_encoded.specs.FlatTraces.{IsNumbered}
 use Rattle.xs_encoded.proofs.Numbers.{each_has}
@@ -68,6 +70,10 @@ stage_refused P wrongs.Memory r e bad = cc
 pub stage_no_desk : (w : Wrong) → stop_of (stop_at input.Faults w) ≡ stops.Desk → ⊥
 stage_no_desk (wrongs.Refused fault) e = cc
 stage_no_desk wrongs.Memory e = cc
+
+-- what is wrong with a model that was made is wrong with what it is
+pub stage_wrong : (made : Model) (w : Wrong) (m : FlatModel) → model_tree made ≡ m → IfRefused (BreaksKinds (model_tree made)) w → IfRefused (BreaksKinds m) w
+stage_wrong made w m is h = subst (λ x. IfRefused (BreaksKinds x) w) is h
 
 -- the faults of a case are as many as its modes
 pub count_of_faults : (p : ProgramTree) (l : LoadedCase) → IsLoaded p l → length (case_of p l).faults ≡ length l.limited.faults

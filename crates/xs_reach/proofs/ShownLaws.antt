@@ -49,17 +49,17 @@ module _ (symbols : List Text) where
   value_true (Sym i) a e = cc
 
   -- the last two of the values
-  last_two : (v : List Numbered) (front : List Value) (a b : Bool) → values_of symbols v ≡ front ++ (truth a ∷ truth b ∷ []) →
+  last_two : (front : List Value) (a b : Bool) (v : List Numbered) → values_of symbols v ≡ front ++ (truth a ∷ truth b ∷ []) →
       (is_true_value (slice_get v (length v - 2)) ≡ a) × (is_true_value (slice_get v (length v - 1)) ≡ b)
-  last_two [] [] a b e = cc
-  last_two [] (p ∷ front) a b e = cc
-  last_two (x ∷ []) [] a b e = cc
-  last_two (x ∷ y ∷ []) [] a b e = let one : value_of symbols x ≡ truth a = cc in let other : value_of symbols y ≡ truth b = cc in (value_true x a one, value_true y b other)
-  last_two (x ∷ y ∷ z ∷ v) [] a b e = cc
-  last_two (x ∷ v) (p ∷ front) a b e =
+  last_two [] a b [] e = cc
+  last_two [] a b (x ∷ []) e = cc
+  last_two [] a b (x ∷ y ∷ []) e = let one : value_of symbols x ≡ truth a = cc in let other : value_of symbols y ≡ truth b = cc in (value_true x a one, value_true y b other)
+  last_two [] a b (x ∷ y ∷ z ∷ v) e = cc
+  last_two (p ∷ front) a b [] e = cc
+  last_two (p ∷ front) a b (x ∷ v) e =
       let rest : values_of symbols v ≡ front ++ (truth a ∷ truth b ∷ []) = cc in
       let long : length v ≡ length front + 2 = sym (length-map v (value_of symbols)) ∙ ap length rest ∙ length-append front (truth a ∷ truth b ∷ []) in
-      let h = last_two v front a b rest in
+      let h = last_two front a b v rest in
       let first : length (x ∷ v) - 2 ≡ suc (length v - 2) = omega (arith, long) in
       let second : length (x ∷ v) - 1 ≡ suc (length v - 1) = omega (arith, long) in
       (ap (λ n. is_true_value (slice_get (x ∷ v) n)) first ∙ h.0, ap (λ n. is_true_value (slice_get (x ∷ v) n)) second ∙ h.1)
@@ -80,7 +80,7 @@ module _ (symbols : List Text) where
   told_by_values (v ∷ vs) front a b e =
       let last = last_there v vs in
       let at : length (v ∷ vs) - 1 ≡ length vs = omega arith in
-      let two = last_two last.moment front a b (sym last.is_last ∙ e) in
+      let two = last_two front a b last.moment (sym last.is_last ∙ e) in
       ap (λ n. relation_of_last (slice_get (v ∷ vs) n)) at ∙ ap relation_of_last last.there
       ∙ ap (λ x. told_relation x (is_true_value (slice_get last.moment (length last.moment - 1)))) two.0 ∙ ap (told_relation a) two.1
 
@@ -100,7 +100,7 @@ taken symbols n (v ∷ vs) = both (map_take (value_of symbols) n v) (taken symbo
 
 same_told : (symbols : List Text) (trace : List (List Numbered)) → told_trace symbols trace ≡ trace_of symbols trace
 same_told symbols trace =
-    let a : Analysis = record { sets = []; traces = trace ∷ []; first = true; «end» = Complete []; size = 0 } in
+    let a : Analysis = record { sets = []; traces = trace ∷ []; first = true; end = Complete []; size = 0 } in
     let shown : told_traces symbols (trace ∷ []) ≡ trace_of symbols trace ∷ [] = ap (λ (x : Told). x.shown) (answers_printed symbols a printed.Complete refl) in
     cc
 

@@ -10,6 +10,8 @@ use Rattle.xs_types.specs.declared.typed.Typed.{Typed}
 use Rattle.xs_orders.specs.Stage.{stage}
 use Rattle.xs_staged.specs.Laws.{IsFaultNumber}
 use Rattle.xs_reach_words.specs.Sets.{numbers_of, IsSet}
+use Rattle.xs_reach_words.specs.Commands.{orders, check_orders}
+use Rattle.xs_reach_words.specs.Meaning.{Means}
 use Rattle.xs_run.specs.declared.status.InputFault.{InputFault as SharedFault}
 use Rattle.xs_run.specs.declared.status.Part.TheVariants as shared_part
 use Rattle.xs_run.specs.declared.status.Refusal.{Refusal as SharedRefusal}
@@ -94,3 +96,10 @@ IsAsked asked = IsAskedPair asked.set.now asked.first asked.second
 
 abbrev pub RefusesAsked : List NamedFile → PairWords → Refusal → Type 0
 RefusesAsked files asked r = RefusesPair files asked.model.now asked.faults.now asked.top.now (numbers_of asked.set.now) asked.first asked.second r
+
+-- the words of an order, or of a check of one, ask for two numbers of a set
+abbrev pub OrdersAskPairs : Type 0
+OrdersAskPairs = (words : List Text) (model faults top set : Text) (first second depth : ℕ) (cert : Text) → Means words (orders model faults top set first second depth cert) → IsAskedPair set first second
+
+abbrev pub ChecksAskPairs : Type 0
+ChecksAskPairs = (words : List Text) (model faults top set : Text) (first second : ℕ) (claim cert : Text) → Means words (check_orders model faults top set first second claim cert) → IsAskedPair set first second

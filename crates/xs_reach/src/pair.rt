@@ -16,7 +16,7 @@ ghost use Rattle.xs_run.specs.Cases.{HoldsCase};
 ghost use Rattle.xs_reach.specs.declared.status.Refusal.{Refusal};
 ghost use Rattle.xs_reach.specs.declared.stop.Stop.TheVariants as stops;
 ghost use Rattle.xs_reach.specs.Statuses.{stop_of};
-ghost use Rattle.xs_reach.specs.Pairs.{IsPair, IsAsked, IsFirstOutside, outside_refusal, stage_refusal, RefusesStage, RefusesAsked, IsStaged, IsStagedCase};
+ghost use Rattle.xs_reach.specs.Pairs.{ChecksAskPairs, OrdersAskPairs, IsPair, IsAsked, IsFirstOutside, outside_refusal, stage_refusal, RefusesStage, RefusesAsked, IsStaged, IsStagedCase};
 
 use crate::status::{InputFault, Part, Refusal};
 use crate::stop::Stop;
@@ -56,6 +56,12 @@ pub struct StagedCase<'a> {
     pub typed: Typed,
     pub none: FaultList,
 }
+
+/// The words of an order, or of a check of one, always ask for two numbers of a set.
+pub fn words_ask_pairs()
+    ensures orders { OrdersAskPairs }
+    ensures checks { ChecksAskPairs }
+{}
 
 /// The extension of two files, staged for two faults of a set, with a top event.
 pub(crate) fn load_pair<'a, D: Desk>(
