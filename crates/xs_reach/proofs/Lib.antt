@@ -3,6 +3,7 @@ pub mod StopLaws
 pub mod OddsLaws
 pub mod FoundLaws
 pub mod StagedCases
+pub mod VerdictLaws
 pub mod PairLaws
 pub mod AskedWords
 pub mod AskedLaws
