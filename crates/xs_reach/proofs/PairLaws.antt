@@ -62,6 +62,13 @@ first_outside n set k position within at kept out =
     let long : length (take k set) ≡ k = length-take-le set k (omega (arith, within)) in
     record { before = take k set; number = get_or set k 0; after = drop (suc k) set; lie = around set k within; kept = kept; outside = out; at_position = omega (arith, at, long) }
 
+-- a stop is at one refusal
+pub one_stop : (a r : Refusal) (s : Stop) → s ≡ stops.Refused a → s ≡ stops.Refused r → r ≡ a
+one_stop a r s is e = let both : stops.Refused a ≡ stops.Refused r = sym is ∙ e in sym (same a r both)
+  where
+    same : (a r : Refusal) → stops.Refused a ≡ stops.Refused r → a ≡ r
+    same a r e = cc
+
 -- which refusal a staged model that is wrong gives
 pub stage_refused : (P : SharedFault → Type 0) (w : Wrong) (r : Refusal) → stop_of (stop_at input.Faults w) ≡ stops.Refused r → IfRefused P w → (fault : SharedFault) × (r ≡ stage_refusal fault) × P fault
 stage_refused P (wrongs.Refused fault) r e bad = let same : stage_refusal fault ≡ r = cc in (fault, sym same, bad)

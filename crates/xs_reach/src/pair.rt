@@ -1,5 +1,5 @@
 // A set of faults with two of them, and the extension staged for these two.
-ghost use Rattle.std.specs.Prelude.{◌≡◌, ◌≢◌, ◌≤◌, ℕ, false, IsTrue, length, map, IfOk, IfSome, IsErrOf, OnOk};
+ghost use Rattle.std.specs.Prelude.{◌≡◌, ◌≢◌, ◌≤◌, ◌↔◌, ℕ, false, IsTrue, length, map, IfOk, IfSome, IsErrOf, OnOk};
 ghost use Rattle.xs_desk.specs.Desk.{Rose};
 ghost use Rattle.xs_scope.specs.ModelTree.{model_tree, mode_of};
 ghost use Rattle.xs_kinds.specs.Models.{IsTyped};
@@ -191,8 +191,7 @@ fn judge_set(set: &[u32], faults: usize) -> Result<(), Stop>
 
 /// Whether the number is that of one of so many faults.
 fn is_fault(number: u32, faults: usize) -> bool
-    ensures yes { IsTrue result → IsFaultNumber faults number }
-    ensures no { result ≡ false → IsFaultNumber faults number → ⊥ }
+    ensures { IsTrue result ↔ ((1 ≤ number) × (number ≤ faults)) }
 {
     1 <= number && number as usize <= faults
 }

@@ -10,8 +10,16 @@ use Rattle.xs_reach.proofs.pair.staged.Goals as goal
 
 pub returns-in_err-judge_set-clause-refused : goal.returns-in_err-judge_set-clause-refused
 returns-in_err-judge_set-clause-refused c r e =
-    let bad = c.judge_set.ensures.refused r (c.in_err-judge_set.was ∙ e) in
+    let exit = err_from_is_err_and c.from_residual.result c.from_residual.ensures.1 in
+    let refused : IsErrOf c.judge_set.result (stops.Refused r) = c.in_err-judge_set.was ∙ ap (λ s. Err s) (sym exit.2 ∙ same_error (sym exit.1 ∙ e)) in
+    let bad = c.judge_set.ensures.refused r refused in
     outside bad.0 bad.1 (subst (λ n. IsFirstOutside n c.args.set.now bad.0) c.len.ensures bad.2)
+
+pub returns-in_err-judge_set-clause-desk : goal.returns-in_err-judge_set-clause-desk
+returns-in_err-judge_set-clause-desk c e =
+    let exit = err_from_is_err_and c.from_residual.result c.from_residual.ensures.1 in
+    let refused : IsErrOf c.judge_set.result stops.Desk = c.in_err-judge_set.was ∙ ap (λ s. Err s) (sym exit.2 ∙ same_error (sym exit.1 ∙ e)) in
+    c.judge_set.ensures.desk refused
 
 pub staged_model-requires-clause-first : goal.staged_model-requires-clause-first
 staged_model-requires-clause-first c =
