@@ -57,7 +57,8 @@ pub(crate) fn check_orders<D: Desk>(
     };
     let staged = load_pair(alloc, desk, &words)?;
     let certificate = load_certificate(alloc, desk, asked.cert)?;
-    judge(alloc, &staged, claim_of(asked.claim), &certificate)?;
+    let claim = claim_of(asked.claim);
+    judge(alloc, &staged, claim, &certificate)?;
     say_whole(desk, b"accepted\n")?;
     Ok(Status::Done)
 }
