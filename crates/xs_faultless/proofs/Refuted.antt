@@ -27,7 +27,7 @@ in_none set h = let l = h.1 in omega (arith, l)
 module _ (m : FlatModel) (e : Tree FlatLeaf) where
   -- of no faults none has failed
   none_failed : (size : ℕ) (trace : List (List Value)) → HasFailedAtMost (List (List Value)) (IsFlatTrace m) (ReachesTop m e) (HasFailedNumber m []) size trace
-  none_failed size trace = ([], omega arith, λ i h. let bad = h.2 in cc)
+  none_failed size trace = ([], omega arith, λ i h. let bad : None ≡ Some h.0 = h.2 in cc)
 
   -- no set is right where no trace of the class reaches
   refuted : (class : List (List Value) → Type 0) (size : ℕ) (sets : List (List ℕ)) (traces : List (List (List Value))) → sets ≡ [] → IsRightFlat m [] e size class sets traces →

@@ -114,7 +114,8 @@ pub(crate) fn report_either(
         (either (told_trace staged.now.loaded.case.limited.typed.model.symbols one.now) (told_trace staged.now.loaded.case.limited.typed.model.symbols other.now)) (told_ending Ending.Complete) bits) }
 {
     let mut text = pair(alloc, staged.asked.first, staged.asked.second)?;
-    text.append(b"either\n")?;
+    text.append(b"either")?;
+    text.append(b"\n")?;
     append_traces(
         alloc,
         &mut text,
