@@ -21,7 +21,7 @@ use Rattle.xs_orders.specs.declared.Relation.{Relation}
 use Rattle.xs_orders.specs.declared.Relation.TheVariants.{Before, After, Together}
 use Rattle.xs_orders.specs.Relations.{BeginsAt, Stands, HasRelation}
 use Rattle.xs_orders.specs.Stage.{stage, against}
-use Rattle.xs_orders.specs.Told.{ordered_told}
+use Rattle.xs_orders.specs.Told.{ordered_told, told_relation}
 use Rattle.xs_orders.specs.Laws.{SpeaksAgainst, TellsOrder}
 use Rattle.xs_orders.proofs.Ordered.{orders_told}
 use Rattle.xs_orders.proofs.Begins.{Stood, begins_somewhere}
@@ -121,7 +121,7 @@ module _ (p : ProgramTree) (i : InstructionTree) (faults : List Fault) (top : Fo
           ahead = t.ahead;
           behind = t.behind;
           ends = subst (λ us. last_of us ≡ t.front ++ (truth t.ahead ∷ truth t.behind ∷ [])) (sym (told None long is reach).2) t.ends;
-          relation = relation_cut (told None long is reach).0 (cut_of None long is reach).0 (cut_of None long is reach).1 _ t.relation;
+          relation = relation_cut (told None long is reach).0 (cut_of None long is reach).0 (cut_of None long is reach).1 (told_relation t.ahead t.behind) t.relation;
         },
       )
 
