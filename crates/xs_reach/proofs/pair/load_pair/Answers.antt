@@ -29,7 +29,7 @@ pub returns-in_err-model-clause-refused : goal.returns-in_err-model-clause-refus
 returns-in_err-model-clause-refused g c r e asked =
     let exit = err_from_is_err_and c.from_residual-in_err-model.result c.from_residual-in_err-model.ensures.1 in
     let is = stop_refused _ r (sym exit.2 ∙ same_error (sym exit.1 ∙ e)) in
-    pair_no_model _ _ _ _ _ _ _ r is.refused is.told (c.load_model.ensures.refused is.refused (c.in_err-model.was ∙ ap (λ s. Err s) is.is))
+    pair_no_model c.args.asked.now.model.now c.args.asked.now.faults.now c.args.asked.now.top.now (numbers_of c.args.asked.now.set.now) c.args.asked.now.first c.args.asked.now.second _ r is.refused is.told (c.load_model.ensures.refused is.refused (c.in_err-model.was ∙ ap (λ s. Err s) is.is))
 
 pub returns-in_err-model-clause-failed : goal.returns-in_err-model-clause-failed
 returns-in_err-model-clause-failed g c e =
@@ -41,7 +41,7 @@ pub returns-in_err-case-clause-refused : goal.returns-in_err-case-clause-refused
 returns-in_err-case-clause-refused g c r e asked =
     let exit = err_from_is_err_and c.from_residual-in_err-case.result c.from_residual-in_err-case.ensures.1 in
     let is = stop_refused _ r (sym exit.2 ∙ same_error (sym exit.1 ∙ e)) in
-    pair_no_faults _ _ _ _ _ _ _ _ _ r is.refused is.told c.load_model.ensures.files c.in_ok-model.ensures.ok (c.load_case.ensures.refused is.refused (c.in_err-case.was ∙ ap (λ s. Err s) is.is))
+    pair_no_faults c.args.asked.now.model.now c.args.asked.now.faults.now c.args.asked.now.top.now (numbers_of c.args.asked.now.set.now) c.args.asked.now.first c.args.asked.now.second _ _ _ r is.refused is.told c.load_model.ensures.files c.in_ok-model.ensures.ok (c.load_case.ensures.refused is.refused (c.in_err-case.was ∙ ap (λ s. Err s) is.is))
 
 pub returns-in_err-typed-clause-refused : goal.returns-in_err-typed-clause-refused
 returns-in_err-typed-clause-refused g c r e asked =
@@ -50,7 +50,7 @@ returns-in_err-typed-clause-refused g c r e asked =
     let p = program_tree c.in_ok-model.model.program in
     let holds = holds_case _ _ c.args.asked.now.top.now c.args.asked.now.top.now _ _ p c.in_ok-case.case c.load_model.ensures.files c.in_ok-model.ensures.ok c.in_ok-case.ensures.ok in
     let numbers : c.in_ok-set.set.items ≡ numbers_of c.args.asked.now.set.now = c.in_ok-set.ensures.numbers asked in
-    pair_no_stage _ _ _ (numbers_of c.args.asked.now.set.now) _ _ _ p c.in_ok-case.case r c.in_ok-case.ensures.loaded holds
+    pair_no_stage c.args.asked.now.model.now c.args.asked.now.faults.now c.args.asked.now.top.now (numbers_of c.args.asked.now.set.now) c.args.asked.now.first c.args.asked.now.second _ p c.in_ok-case.case r c.in_ok-case.ensures.loaded holds
     (subst (λ set. RefusesStage c.in_ok-case.case.limited set c.args.asked.now.first c.args.asked.now.second r) (c.deref.ensures.value ∙ numbers) (c.staged.ensures.refused r refused))
 
 pub returns-in_err-typed-clause-failed : goal.returns-in_err-typed-clause-failed
@@ -67,7 +67,7 @@ returns-in_err-top-clause-refused g c r e asked =
     let holds = holds_case _ _ c.args.asked.now.top.now c.args.asked.now.top.now _ _ p c.in_ok-case.case c.load_model.ensures.files c.in_ok-model.ensures.ok c.in_ok-case.ensures.ok in
     let numbers : c.in_ok-set.set.items ≡ numbers_of c.args.asked.now.set.now = c.in_ok-set.ensures.numbers asked in
     let of = c.in_ok-typed.ensures in
-    pair_no_top _ _ _ (numbers_of c.args.asked.now.set.now) _ _ _ p c.in_ok-case.case r is.refused is.told c.in_ok-case.ensures.loaded holds
+    pair_no_top c.args.asked.now.model.now c.args.asked.now.faults.now c.args.asked.now.top.now (numbers_of c.args.asked.now.set.now) c.args.asked.now.first c.args.asked.now.second _ p c.in_ok-case.case r is.refused is.told c.in_ok-case.ensures.loaded holds
     (subst (IsNumbered (length c.in_ok-case.case.limited.faults)) (c.deref.ensures.value ∙ numbers) of.numbered) (subst IsTyped of.model of.typed)
     (c.load_top.ensures.refused is.refused (c.in_err-top.was ∙ ap (λ s. Err s) is.is))
 
