@@ -88,19 +88,17 @@ module _ (s : StagedCase) (is : IsStagedCase s) (claim : Option Relation) (e : T
   claim_refused line number r told bad = at_stage s is (λ m e. RefusesClaim m e (seen x) r) claim e speaks (at_line line number told bad)
 
 -- an accepted certificate means that the claim holds
-pub claim_is_so : (s : StagedCase) (is : IsStagedCase s) (claim : Option Relation) (a : Certificate) →
-    IsAcceptedClaim (staged_of (case_in s.loaded) s.asked.first s.asked.second) (against_of (case_in s.loaded) s.set.items s.asked.first s.asked.second (flat_tree s.loaded.top) claim) a →
-    IsClaimed (case_in s.loaded) is.event.event.top s.set.items (the_faults s is).one (the_faults s is).other complete claim
-claim_is_so s is claim a accepted = claim_of_class s is claim (λ n. true) complete (λ trace of. refl) none
-  where
-    abbrev staged : FlatModel
-    staged = staged_of (case_in s.loaded) s.asked.first s.asked.second
+module _ (s : StagedCase) (is : IsStagedCase s) (claim : Option Relation) (a : Certificate) where
+  abbrev staged_model : FlatModel
+  staged_model = staged_of (case_in s.loaded) s.asked.first s.asked.second
 
-    abbrev e : Tree FlatLeaf
-    e = against_of (case_in s.loaded) s.set.items s.asked.first s.asked.second (flat_tree s.loaded.top) claim
+  abbrev speaking : Tree FlatLeaf
+  speaking = against_of (case_in s.loaded) s.set.items s.asked.first s.asked.second (flat_tree s.loaded.top) claim
 
-    none : NoneReaches staged e (λ n. true)
-    none = accepted_refute staged e accepted.own (subject_of staged staged [] e) accepted.is_subject a accepted.certified accepted.no_set
+  pub claim_is_so : IsAcceptedClaim staged_model speaking a → IsClaimed (case_in s.loaded) is.event.event.top s.set.items (the_faults s is).one (the_faults s is).other complete claim
+  claim_is_so accepted =
+      claim_of_class s is claim (λ n. true) complete (λ trace of. refl)
+      (accepted_refute staged_model speaking accepted.own (subject_of staged_model staged_model [] speaking) accepted.is_subject a accepted.certified accepted.no_set)
 
 module _ (w : PairWords) (claim cert : Text) where
   -- no pair, or no certificate

@@ -197,35 +197,33 @@ either_concluded s is n counted one other h g depth report says =
 
 -- ---- the certificate
 
+no_trace : (ts : List (List (List Numbered))) → length ts ≡ 0 → ts ≡ []
+no_trace [] h = refl
+no_trace (t ∷ ts) h = absurd (omega (arith, h))
+
 -- what was certified of the staged model is a certificate of the claim
-pub claim_certified : (s : StagedCase) → IsStagedCase s → (claim : Option Relation) (depth : ℕ) (r : Searched) → IsSearchOf s claim depth r → length r.analysis.traces ≡ 0 → (faults : List FaultOf) → faults ≡ [] → (x : Written) (bytes : List ℕ) →
-    IsCertified (model_tree s.typed.model) (map mode_of faults) (flat_tree r.top) (GivesTrace (model_tree s.typed.model))
-    (subject_of (model_tree s.typed.model) (model_tree s.typed.model) (map mode_of faults) (flat_tree r.top)) (seen x) →
-    x.sets ≡ r.analysis.sets → x.size ≡ r.analysis.size → x.traces ≡ map (text_lines s.typed.model) r.analysis.traces → SpellsCertificate bytes (seen x) →
-    CertifiesClaim (case_in s.loaded) s.set.items s.asked.first s.asked.second (flat_tree s.loaded.top) claim bytes
-claim_certified s is claim depth r search none faults alone x bytes certified sets size traces spells =
-    at_stage s is (λ m e. IsCertificateFor m [] e 0 [] [] bytes) claim (flat_tree r.top) search.speaks
-    (record {
-      certificate = seen x;
-      spells = spells;
-      accepted = subst (λ whole. IsCertified m [] e (GivesTrace m) (subject_of whole m [] e) (seen x)) (sym (no_bits m)) here;
-      has_size = size ∙ search.answer.size_is;
-      has_sets = sets ∙ no_sets s claim depth r search none;
-      has_texts = traces ∙ ap (map (text_lines s.typed.model)) (no_trace r.analysis.traces none);
-    })
-  where
-    abbrev m : FlatModel
-    m = model_tree s.typed.model
+module _ (s : StagedCase) (is : IsStagedCase s) (claim : Option Relation) (depth : ℕ) (r : Searched) (search : IsSearchOf s claim depth r) (none : length r.analysis.traces ≡ 0) (faults : List FaultOf) (alone : faults ≡ []) (x : Written) (bytes : List ℕ) where
+  abbrev made : FlatModel
+  made = model_tree s.typed.model
 
-    abbrev e : Tree FlatLeaf
-    e = flat_tree r.top
+  abbrev spoken : Tree FlatLeaf
+  spoken = flat_tree r.top
 
-    here : IsCertified m [] e (GivesTrace m) (subject_of m m [] e) (seen x)
-    here = subst (λ (fs : List FaultOf). IsCertified m (map mode_of fs) e (GivesTrace m) (subject_of m m (map mode_of fs) e) (seen x)) alone certified
+  abbrev IsCertifiedWith : FlatModel → List FaultOf → Type 0
+  IsCertifiedWith whole fs = IsCertified made (map mode_of fs) spoken (GivesTrace made) (subject_of whole made (map mode_of fs) spoken) (seen x)
 
-    no_trace : (ts : List (List (List Numbered))) → length ts ≡ 0 → ts ≡ []
-    no_trace [] h = refl
-    no_trace (t ∷ ts) h = absurd (omega (arith, h))
+  pub claim_certified : IsCertifiedWith made faults → x.sets ≡ r.analysis.sets → x.size ≡ r.analysis.size → x.traces ≡ map (text_lines s.typed.model) r.analysis.traces → SpellsCertificate bytes (seen x) →
+      CertifiesClaim (case_in s.loaded) s.set.items s.asked.first s.asked.second (flat_tree s.loaded.top) claim bytes
+  claim_certified certified sets size traces spells =
+      at_stage s is (λ m e. IsCertificateFor m [] e 0 [] [] bytes) claim spoken search.speaks
+      (record {
+        certificate = seen x;
+        spells = spells;
+        accepted = subst (λ whole. IsCertifiedWith whole []) (sym (no_bits made)) (subst (λ (fs : List FaultOf). IsCertifiedWith made fs) alone certified);
+        has_size = size ∙ search.answer.size_is;
+        has_sets = sets ∙ no_sets s claim depth r search none;
+        has_texts = traces ∙ ap (map (text_lines s.typed.model)) (no_trace r.analysis.traces none);
+      })
 
 -- the first trace of a search is one against its claim
 pub trace_found : (s : StagedCase) (claim : Option Relation) (depth : ℕ) (r : Searched) → IsSearchOf s claim depth r → (trace : List (List Numbered)) → slice_get r.analysis.traces 0 ≡ Some trace → IsTraceAgainst s claim trace

@@ -14,6 +14,7 @@ ghost use Rattle.xs_reach.specs.Pairs.{IsAskedPair, RefusesPair, IsStagedCase};
 ghost use Rattle.xs_reach.specs.Orders.{CertifiesClaim, HasOrder, ended_by};
 ghost use Rattle.xs_reach.specs.Claimed.{IsSearchOf, IsTraceAgainst, IsToldBy, HasClaimCertificate, IsConclusion, relation_in};
 
+pub(crate) use crate::claims::check_orders;
 use crate::pair::{PairWords, StagedCase, load_pair};
 use crate::searched::{Searched, search};
 use crate::status::Status;
@@ -30,8 +31,6 @@ use xs_orders::Relation;
 use xs_reach_words::FindOrders;
 use xs_report::Ending;
 use xs_value::{ByteList, MomentList, OutOfMemory, TraceList};
-
-pub(crate) use crate::claims::check_orders;
 
 /// What is written and said: a certificate of a complete claim, and the report; and how the search ended.
 #[derive(Drop)]

@@ -71,11 +71,7 @@ pub(crate) fn cut(
 }
 
 /// The first values of a moment, so many as there are.
-fn cut_moment(
-    alloc: Global,
-    moment: &Valuation,
-    variables: usize,
-) -> Result<Valuation, OutOfMemory>
+fn cut_moment(alloc: Global, moment: &Valuation, variables: usize) -> Result<Valuation, OutOfMemory>
     ensures { IfOk result (λ cut. cut ≡ take variables moment.now) }
 {
     let mut cut = Valuation::new(alloc);
