@@ -76,9 +76,9 @@ pub data RefusesPair (files : List NamedFile) (model faults top : Text) (set : L
       IsTyped (stage c.flat c.modes first second) → IsWrongWord c.program top fault → RefusesPair files model faults top set first second r
 
 -- the set is of an extension's faults, and the model is the extension's staged for two of them
-pub record IsStaged (limited : Limited) (set : List ℕ) (first second : ℕ) (typed : Typed) : Type 0 where
-  pub model : model_tree typed.model ≡ stage (model_tree limited.typed.model) (map mode_of limited.faults) first second
-  pub typed : IsTyped (model_tree typed.model)
+pub record IsStaged (limited : Limited) (set : List ℕ) (first second : ℕ) (made : Typed) : Type 0 where
+  pub model : model_tree made.model ≡ stage (model_tree limited.typed.model) (map mode_of limited.faults) first second
+  pub typed : IsTyped (model_tree made.model)
   pub one : IsFaultNumber (length limited.faults) first
   pub other : IsFaultNumber (length limited.faults) second
   pub numbered : IsNumbered (length limited.faults) set

@@ -35,7 +35,7 @@ pub(crate) fn check_orders<D: Desk>(
     desk: &mut D,
     asked: &CheckOrders,
 ) -> Result<Status, Stop>
-    ensures ok { IsAskedPair asked.now.set.now asked.now.first asked.now.second → IfOk result (λ s. IfSome (D.files desk.old) (λ files.
+    ensures ok { IfOk result (λ s. IsAskedPair asked.now.set.now asked.now.first asked.now.second → IfSome (D.files desk.old) (λ files.
         HasCheckedOrder files asked.now.model.now asked.now.faults.now asked.now.top.now (numbers_of asked.now.set.now) asked.now.first asked.now.second asked.now.claim.now asked.now.cert.now
         s (D.said desk.old) (D.said desk.new))) }
     ensures finished { IfOk result IsFinished }

@@ -47,7 +47,7 @@ pub(crate) fn find_orders<D: Desk>(
     asked: &FindOrders,
     panel: &mut Panel,
 ) -> Result<Status, Stop>
-    ensures ok { IsAskedPair asked.now.set.now asked.now.first asked.now.second → IfOk result (λ s. IfSome (D.files desk.old) (λ files.
+    ensures ok { IfOk result (λ s. IsAskedPair asked.now.set.now asked.now.first asked.now.second → IfSome (D.files desk.old) (λ files.
         HasOrder files asked.now.model.now asked.now.faults.now asked.now.top.now (numbers_of asked.now.set.now) asked.now.first asked.now.second asked.now.depth asked.now.cert.now
         s (D.files desk.old) (D.files desk.new) (D.said desk.old) (D.said desk.new))) }
     ensures finished { IfOk result IsFinished }
@@ -146,7 +146,7 @@ fn differing(
     requires staged { IsStagedCase staged.now }
     requires one { IsTraceAgainst staged.now None one.now }
     requires other { IsTraceAgainst staged.now (Some (relation_in one.now)) other.now }
-    ensures { (depth : ℕ) → IfOk result (IsConclusion staged.now depth) }
+    ensures { IfOk result (λ k. (depth : ℕ) → IsConclusion staged.now depth k) }
 {
     let variables = staged.loaded.case.limited.typed.model().variables.len();
     let one = cut(alloc, one, variables)?;

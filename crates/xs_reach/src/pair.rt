@@ -72,7 +72,7 @@ pub(crate) fn load_pair<'a, D: Desk>(
     ensures ok { IfOk result (λ s. IfSome (D.files desk.old) (λ files. HoldsCase files asked.now.model.now asked.now.faults.now (case_in s.loaded))) }
     ensures staged { IfOk result IsStagedCase }
     ensures asked { IfOk result (λ s. s.asked ≡ asked.now) }
-    ensures numbers { IsAsked asked.now → IfOk result (λ s. s.set.items ≡ numbers_of asked.now.set.now) }
+    ensures numbers { IfOk result (λ s. IsAsked asked.now → s.set.items ≡ numbers_of asked.now.set.now) }
     ensures refused { (r : Refusal) → IsErrOf result (stops.Refused r) → IsAsked asked.now → IfSome (D.files desk.old) (λ files. RefusesAsked files asked.now r) }
     ensures failed { IsErrOf result stops.Desk → Rose (D.faults desk.old) (D.faults desk.new) }
 
@@ -98,7 +98,7 @@ pub(crate) fn load_pair<'a, D: Desk>(
 /// The numbers of the set, of which the two are different ones.
 fn pair_set(alloc: Global, asked: &PairWords) -> Result<Vec<u32>, Stop>
     ensures pair { IfOk result (λ set. IsPair set.items asked.now.first asked.now.second) }
-    ensures numbers { IsAsked asked.now → IfOk result (λ set. set.items ≡ numbers_of asked.now.set.now) }
+    ensures numbers { IfOk result (λ set. IsAsked asked.now → set.items ≡ numbers_of asked.now.set.now) }
     ensures kept { (r : Refusal) → IsErrOf result (stops.Refused r) → IsAsked asked.now → ⊥ }
     ensures desk { IsErrOf result stops.Desk → ⊥ }
 {

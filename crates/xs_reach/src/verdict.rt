@@ -106,7 +106,7 @@ pub(crate) fn report_either(
     one: &MomentList,
     other: &MomentList,
 ) -> Result<ByteList, OutOfMemory>
-    ensures { (bits : ℕ) → IfOk result (λ text. text ≡ order_text (model_tree staged.now.loaded.case.limited.typed.model) staged.now.asked.first staged.now.asked.second
+    ensures { IfOk result (λ text. (bits : ℕ) → text ≡ order_text (model_tree staged.now.loaded.case.limited.typed.model) staged.now.asked.first staged.now.asked.second
         (either (told_trace staged.now.loaded.case.limited.typed.model.symbols one.now) (told_trace staged.now.loaded.case.limited.typed.model.symbols other.now)) (told_ending Ending.Complete) bits) }
 {
     let mut text = pair(alloc, staged.asked.first, staged.asked.second)?;

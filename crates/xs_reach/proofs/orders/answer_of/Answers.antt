@@ -1,5 +1,6 @@
 use Rattle.std.proofs.Common.{◌≡◌, Some, IsTrue, sym, subst, refl, arith}
-use Rattle.xs_reach.specs.Claimed.{IsSearchOf, IsTraceAgainst, relation_in}
+use Rattle.std.proofs.lemmas.Result.{IfOk-weaker}
+use Rattle.xs_reach.specs.Claimed.{IsTraceAgainst, IsConclusion, relation_in}
 use Rattle.xs_reach.proofs.OrderLaws.{trace_found}
 use Rattle.xs_reach.proofs.orders.answer_of.Goals as goal
 
@@ -15,4 +16,4 @@ differing-requires-clause-other g c =
     (trace_found c.args.staged.now (Some c.relation_of-relation.result) c.args.depth c.in_ok-other.other c.in_ok-other.ensures c.at.result.now c.at.ensures)
 
 pub returns : goal.returns
-returns g c = c.differing.ensures c.args.depth
+returns g c = IfOk-weaker c.differing.result _ (IsConclusion c.args.staged.now c.args.depth) (λ k h. h c.args.depth) c.differing.ensures
