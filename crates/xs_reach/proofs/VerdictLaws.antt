@@ -49,7 +49,6 @@ pub all_taken : (v : List Numbered) (n i : ℕ) → i ≡ min n (length v) → t
 all_taken v n i e = ap (λ k. take k v) e ∙ both n v
   where
     both : (n : ℕ) (v : List Numbered) → take (min n (length v)) v ≡ take n v
-    both zero [] = refl
-    both zero (x ∷ v) = refl
-    both (suc n) [] = refl
+    both zero v = let none : min 0 (length v) ≡ 0 = omega arith in ap (λ k. take k v) none
+    both (suc n) [] = let none : min (suc n) (length {A = Numbered} []) ≡ 0 = omega arith in ap (λ k. take {A = Numbered} k []) none
     both (suc n) (x ∷ v) = let more : min (suc n) (length (x ∷ v)) ≡ suc (min n (length v)) = omega arith in ap (λ k. take k (x ∷ v)) more ∙ ap (λ xs. x ∷ xs) (both n v)
