@@ -1,5 +1,5 @@
 -- From the answers of searches to an order of two faults, its certificate and its report.
-use Rattle.std.proofs.Common.{◌≡◌, ℕ, zero, suc, ◌+◌, ◌-◌, ◌<◌, ◌≤◌, Bool, true, IsTrue, List, [], ◌∷◌, ◌++◌, length, map, take, Option, Some, None, Result, Ok, Err, IfOk, IfSome, refl, sym, ap, subst, ◌∙◌, arith}
+use Rattle.std.proofs.Common.{◌≡◌, ℕ, zero, suc, ◌+◌, ◌-◌, ◌<◌, ◌≤◌, ◌↔◌, Bool, true, false, IsTrue, List, [], ◌∷◌, ◌++◌, length, map, take, Option, Some, None, Result, Ok, Err, IfOk, IfSome, refl, sym, ap, subst, ◌∙◌, arith}
 use Rattle.std.specs.Prelude.{slice_get}
 use Rattle.xs_desk.specs.declared.files.NamedFile.{NamedFile}
 use Rattle.xs_desk.specs.Desk.{told_with, said_more}
@@ -232,3 +232,8 @@ trace_found s claim depth r search trace at =
     found_reach (model_tree s.typed.model) (flat_tree r.top) (system_of (with_history (model_tree s.typed.model) [])) (state_of (with_history (model_tree s.typed.model) []))
     (inputs_of (with_history (model_tree s.typed.model) [])) depth 0 r.analysis search.answer trace at in
     record { e = flat_tree r.top; speaks = search.speaks; is_trace = both.0; reaching = both.1 }
+
+-- a list that is not empty has a first member
+pub some_trace : (ts : List (List (List Numbered))) (b : Bool) → (IsTrue b ↔ (length ts ≡ 0)) → b ≡ false → 0 < length ts
+some_trace [] b tells e = let bad : true ≡ false = sym (tells.1 refl) ∙ e in cc
+some_trace (t ∷ ts) b tells e = omega arith
