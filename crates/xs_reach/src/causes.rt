@@ -1,4 +1,19 @@
 // Common causes: their minimal cut sets, and certificates of them.
+ghost use Rattle.std.specs.Prelude.{◌≡◌, ◌<◌, ◌≤◌, ◌^◌, ℕ, length, map, IfOk, OnOk, IfSome, IsErrOf};
+ghost use Rattle.xs_desk.specs.Desk.{Rose};
+ghost use Rattle.xs_scope.specs.ModelTree.{model_tree, mode_of, flat_tree};
+ghost use Rattle.xs_report.specs.Analysed.{told_ending};
+ghost use Rattle.xs_cert.specs.Seen.{seen};
+ghost use Rattle.xs_check.specs.Fit.{IsCheckable};
+ghost use Rattle.xs_cuts.specs.declared.answer.End.TheVariants as ends;
+ghost use Rattle.xs_report.specs.Told.{told_trace};
+ghost use Rattle.xs_run.specs.Analyses.{IsCertificateFor};
+ghost use Rattle.xs_run.specs.Searches.{IsSearched, HasCertificate};
+ghost use Rattle.xs_reach.specs.declared.status.Refusal.{Refusal};
+ghost use Rattle.xs_reach.specs.declared.stop.Stop.TheVariants as stop;
+ghost use Rattle.xs_reach.specs.Runs.{IsFinished};
+ghost use Rattle.xs_reach.specs.Odds.{ended_with};
+ghost use Rattle.xs_reach.specs.Causes.{staged_in, events_in, IsStagedEvent, CertifiesStaged, HasCheckedCauses, IsCausesFinding};
 
 use crate::staged::{StagedEvent, load_staged};
 use crate::status::Status;
@@ -22,10 +37,10 @@ const MOST_SYMBOLS: usize = 2_147_483_648;
 
 /// What a search found: the report, how it ended, and for a complete answer the text of a certificate.
 #[derive(Drop)]
-struct Found {
-    cert: Option<ByteList>,
-    report: ByteList,
-    ending: Ending,
+pub struct FoundCauses {
+    pub cert: Option<ByteList>,
+    pub report: ByteList,
+    pub ending: Ending,
 }
 
 /// Searches for the minimal cut sets of faults and common causes, writes a certificate of a complete answer, and says the
@@ -35,7 +50,13 @@ pub(crate) fn find_causes<D: Desk>(
     desk: &mut D,
     asked: &FindCauses,
     panel: &mut Panel,
-) -> Result<Status, Stop> {
+) -> Result<Status, Stop>
+    ensures finished { IfOk result IsFinished }
+    ensures untouched { (r : Refusal) → IsErrOf result (stop.Refused r) → (D.files desk.new ≡ D.files desk.old) × (D.said desk.new ≡ D.said desk.old) }
+    ensures failed { IsErrOf result stop.Desk → Rose (D.faults desk.old) (D.faults desk.new) }
+    ensures later { D.faults desk.old ≤ D.faults desk.new }
+    ensures quiet { D.quiet desk.old → D.quiet desk.new × (D.faults desk.new ≡ D.faults desk.old) }
+{
     let staged = load_staged(
         alloc,
         desk,
@@ -53,7 +74,14 @@ pub(crate) fn check_causes<D: Desk>(
     alloc: Global,
     desk: &mut D,
     asked: &CheckCauses,
-) -> Result<Status, Stop> {
+) -> Result<Status, Stop>
+    ensures ok { IfOk result (λ s. IfSome (D.files desk.old) (λ files. HasCheckedCauses files asked.now.model.now asked.now.faults.now asked.now.causes.now asked.now.top.now asked.now.cert.now (D.said desk.old) (D.said desk.new))) }
+    ensures finished { IfOk result IsFinished }
+    ensures untouched { (r : Refusal) → IsErrOf result (stop.Refused r) → (D.files desk.new ≡ D.files desk.old) × (D.said desk.new ≡ D.said desk.old) }
+    ensures failed { IsErrOf result stop.Desk → Rose (D.faults desk.old) (D.faults desk.new) }
+    ensures later { D.faults desk.old ≤ D.faults desk.new }
+    ensures quiet { D.quiet desk.old → D.quiet desk.new × (D.faults desk.new ≡ D.faults desk.old) }
+{
     let staged = load_staged(
         alloc,
         desk,
@@ -69,8 +97,13 @@ pub(crate) fn check_causes<D: Desk>(
     Ok(Status::Done)
 }
 
-/// Refuses a certificate that breaks a rule.
-fn judge(alloc: Global, staged: &StagedEvent, certificate: &Certificate) -> Result<(), Stop> {
+/// Refuses a certificate that breaks a rule. More symbols than numbers of them are want of memory.
+fn judge(alloc: Global, staged: &StagedEvent, certificate: &Certificate) -> Result<(), Stop>
+    requires event { IsStagedEvent staged.now }
+    requires checkable { IsCheckable (seen certificate.now) }
+    ensures ok { OnOk result (CertifiesStaged staged.now (seen certificate.now)) }
+    ensures desk { IsErrOf result stop.Desk → ⊥ }
+{
     if staged.typed.model().symbols.len() >= MOST_SYMBOLS {
         return Err(Stop::Memory);
     }
@@ -79,7 +112,7 @@ fn judge(alloc: Global, staged: &StagedEvent, certificate: &Certificate) -> Resu
         &staged.full,
         &staged.typed,
         &staged.events,
-        &staged.top,
+        &staged.loaded.top,
         certificate,
     )?;
     match judged {
@@ -94,9 +127,12 @@ fn search(
     staged: &StagedEvent,
     depth: u32,
     panel: &mut Panel,
-) -> Result<Found, OutOfMemory> {
+) -> Result<FoundCauses, OutOfMemory>
+    requires { IsStagedEvent staged.now }
+    ensures { IfOk result (IsCausesFinding staged.now depth) }
+{
     let a = analysed(alloc, staged, depth, panel)?;
-    let cert = certificate(alloc, staged, &a, panel)?;
+    let cert = certificate(alloc, staged, depth, &a, panel)?;
     let ending = told(&a.end);
     let report = print_analysis(
         alloc,
@@ -109,7 +145,7 @@ fn search(
         a.size,
         ending,
     )?;
-    Ok(Found {
+    Ok(FoundCauses {
         cert,
         report,
         ending,
@@ -123,7 +159,10 @@ fn analysed(
     staged: &StagedEvent,
     depth: u32,
     panel: &mut Panel,
-) -> Result<Analysis, OutOfMemory> {
+) -> Result<Analysis, OutOfMemory>
+    requires { IsStagedEvent staged.now }
+    ensures { IfOk result (IsSearched (staged_in staged.now) (events_in staged.now) (flat_tree staged.now.loaded.top) depth (length (events_in staged.now))) }
+{
     if staged.typed.model().symbols.len() >= MOST_SYMBOLS {
         return Err(OutOfMemory);
     }
@@ -133,7 +172,7 @@ fn analysed(
         &staged.typed,
         &staged.full,
         &staged.events,
-        &staged.top,
+        &staged.loaded.top,
         depth,
         size,
         panel,
@@ -144,12 +183,17 @@ fn analysed(
 fn certificate(
     alloc: Global,
     staged: &StagedEvent,
+    depth: u32,
     a: &Analysis,
     panel: &mut Panel,
-) -> Result<Option<ByteList>, OutOfMemory> {
+) -> Result<Option<ByteList>, OutOfMemory>
+    requires staged { IsStagedEvent staged.now }
+    requires searched { IsSearched (staged_in staged.now) (events_in staged.now) (flat_tree staged.now.loaded.top) depth a.now.size a.now }
+    ensures { IfOk result (HasCertificate (staged_in staged.now) (events_in staged.now) (flat_tree staged.now.loaded.top) staged.now.typed.model.symbols a.now a.now.end) }
+{
     match &a.end {
         End::Complete(_clauses) => {
-            let text = certificate_text(alloc, staged, a, panel)?;
+            let text = certificate_text(alloc, staged, depth, a, panel)?;
             Ok(Some(text))
         }
         End::Bounded(_steps) => Ok(None),
@@ -160,15 +204,21 @@ fn certificate(
 fn certificate_text(
     alloc: Global,
     staged: &StagedEvent,
+    depth: u32,
     a: &Analysis,
     panel: &mut Panel,
-) -> Result<ByteList, OutOfMemory> {
+) -> Result<ByteList, OutOfMemory>
+    requires staged { IsStagedEvent staged.now }
+    requires searched { IsSearched (staged_in staged.now) (events_in staged.now) (flat_tree staged.now.loaded.top) depth a.now.size a.now }
+    requires complete { (k : ℕ) → a.now.end ≡ ends.Bounded k → ⊥ }
+    ensures { IfOk result (IsCertificateFor (staged_in staged.now) (events_in staged.now) (flat_tree staged.now.loaded.top) a.now.size a.now.sets (map (told_trace staged.now.typed.model.symbols) a.now.traces)) }
+{
     let certificate = certify(
         alloc,
         &staged.full,
         &staged.typed,
         &staged.events,
-        &staged.top,
+        &staged.loaded.top,
         a,
         panel,
     )?;
@@ -176,7 +226,14 @@ fn certificate_text(
 }
 
 /// Writes the certificate, where there is one, and says the report.
-fn conclude<D: Desk>(desk: &mut D, name: &str, found: &Found) -> Result<Status, Stop> {
+fn conclude<D: Desk>(desk: &mut D, name: &str, found: &FoundCauses) -> Result<Status, Stop>
+    ensures ends { IfOk result (λ s. s ≡ ended_with (told_ending found.now.ending)) }
+    ensures finished { IfOk result IsFinished }
+    ensures never { (r : Refusal) → IsErrOf result (stop.Refused r) → ⊥ }
+    ensures failed { IsErrOf result stop.Desk → Rose (D.faults desk.old) (D.faults desk.new) }
+    ensures later { D.faults desk.old ≤ D.faults desk.new }
+    ensures quiet { D.quiet desk.old → D.quiet desk.new × (D.faults desk.new ≡ D.faults desk.old) }
+{
     if let Some(text) = &found.cert {
         write_whole(desk, name, text.as_slice())?;
     }

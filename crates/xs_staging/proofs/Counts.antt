@@ -75,10 +75,10 @@ module _ {A : Type 0} (fs : List Mode) (f : A → CommonCause) (xs : List A) (i 
 
 -- an own event more
 module _ (fs : List Mode) (cs : List CommonCause) (ages : List ℕ) where
-  own_count : (i : ℕ) (m : FlatModel) → length (with_own fs cs ages i m).variables ≡ suc (length m.variables)
+  pub own_count : (i : ℕ) (m : FlatModel) → length (with_own fs cs ages i m).variables ≡ suc (length m.variables)
   own_count i m = let e : length (with_own fs cs ages i m).variables ≡ length m.variables + 1 = length-append m.variables _ in omega arith
 
-  own_symbols : (i : ℕ) (m : FlatModel) → length (with_own fs cs ages i m).symbols ≡ suc (suc (length m.symbols))
+  pub own_symbols : (i : ℕ) (m : FlatModel) → length (with_own fs cs ages i m).symbols ≡ suc (suc (length m.symbols))
   own_symbols i m = let e : length (with_own fs cs ages i m).symbols ≡ length m.symbols + 2 = length-append m.symbols _ in omega arith
 
   module _ {A : Type 0} (f : A → Mode) (xs : List A) (i : ℕ) (d : A) (within : i < length xs) where

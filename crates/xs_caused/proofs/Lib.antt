@@ -1,0 +1,10 @@
+pub mod Counts
+pub mod Widened
+pub mod Carried
+pub mod Events
+pub mod Naming
+pub mod Words
+pub mod Lawful
+pub mod Shown
+pub mod Loaded
+pub mod NamedLaws
