@@ -31,12 +31,16 @@ use Rattle.xs_caused.proofs.Widened.{IsStateVariable, IsStateName, HasClauses, I
 
 -- ---- the bits of inputs
 
+-- the number of a symbol, where it is the first or not
+abbrev number_by : Bool → ℕ → ℕ
+number_by t n = elim t [ true ↦ 0 | false ↦ suc n ]
+
 same_symbol : (symbols more : List Text) (x : Text) (i : ℕ) → slice_get symbols i ≡ Some x → symbol_number (symbols ++ more) x ≡ symbol_number symbols x
 same_symbol [] more x i e = cc
 same_symbol (y ∷ ys) more x i e = by (same_text y x) refl i e (λ j. same_symbol ys more x j)
   where
     by : (t : Bool) → same_text y x ≡ t → (i : ℕ) → slice_get (y ∷ ys) i ≡ Some x → ((j : ℕ) → slice_get ys j ≡ Some x → symbol_number (ys ++ more) x ≡ symbol_number ys x) →
-        elim t [ true ↦ 0 | false ↦ suc (symbol_number (ys ++ more) x) ] ≡ elim t [ true ↦ 0 | false ↦ suc (symbol_number ys x) ]
+        number_by t (symbol_number (ys ++ more) x) ≡ number_by t (symbol_number ys x)
     by true t i e rest = refl
     by false t zero e rest = let same : y ≡ x = cc in cc (t, ap (λ z. same_text z x) same ∙ same_text_refl x)
     by false t (suc i) e rest = ap suc (rest i e)
@@ -77,9 +81,9 @@ no_widths symbols (x ∷ xs) h =
     omega (arith, here, rest, sum)
 
 pub same_inputs : (n : FlatModel) (a : Addition) → Each (λ x. IsListedType n.symbols x.declared) n.variables → Each (λ x. is_input x.role ≡ false) a.variables → input_bits (with_addition n a) ≡ input_bits n
-same_inputs n a types state =
+same_inputs n a types quiet =
     let own = same_widths n.symbols a.symbols n.variables types in
-    let none = no_widths (n.symbols ++ a.symbols) a.variables state in
+    let none = no_widths (n.symbols ++ a.symbols) a.variables quiet in
     let all = sum_by-append (input_width (n.symbols ++ a.symbols)) n.variables a.variables in
     omega (arith, own, none, all)
 

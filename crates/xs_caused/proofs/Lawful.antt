@@ -29,7 +29,7 @@ use Rattle.xs_weave_rules.specs.Rules.{is_name_of_decls, is_name_of_section, is_
 use Rattle.xs_causes.specs.Causes.{CommonCause, IsCauseOf}
 use Rattle.xs_causes.specs.CausesText.{WrittenCause}
 use Rattle.xs_causes.specs.Staged.{age_name, event_name, quiet_name, now_name, hit_name, own_name, none_name, self_name}
-use Rattle.xs_causes.specs.CauseRules.{fault_path, same_path, is_path_among, has_double, hit_names, names_of_cause, own_names, is_any_taken, CauseRule, first_of, broken_at, AllKept, are_owns_taken, AreLawful, IsStrikeOf, IsReadAs, AreReadAs}
+use Rattle.xs_causes.specs.CauseRules.{fault_path, same_path, is_path_among, has_double, hit_names, names_of_cause, own_names, is_any_taken, CauseRule, no_such_fault, double_cause, double_strike, empty_window, too_wide, too_many, name_taken, first_of, broken_at, AllKept, are_owns_taken, AreLawful, IsStrikeOf, IsReadAs, AreReadAs}
 use Rattle.xs_caused.specs.Names.{AreDistinct, IsNewName, hit_names_of, names_added_by, names_of_each, own_names_from, names_added, AreNewNames}
 use Rattle.xs_lexer.specs.Tokens.{IsWord}
 use Rattle.xs_tree.specs.Printed.{IsName}
@@ -151,9 +151,24 @@ module _ (x : Text) where
 
 -- ---- rules, taken apart
 
-rule_kept : (b : Bool) (r : CauseRule) (rs : List (Bool × CauseRule)) → first_of ((b, r) ∷ rs) ≡ None → (b ≡ false) × (first_of rs ≡ None)
-rule_kept true r rs h = cc
-rule_kept false r rs h = (refl, h)
+-- seven tests of which none passes
+record AreSeven (a b c d e f g : Bool) : Type 0 where
+  apart : c ≡ false
+  window : d ≡ false
+  narrow : e ≡ false
+  few : f ≡ false
+  free : g ≡ false
+
+seven_kept : (a b c d e f g : Bool) →
+    first_of ((a, no_such_fault) ∷ (b, double_cause) ∷ (c, double_strike) ∷ (d, empty_window) ∷ (e, too_wide) ∷ (f, too_many) ∷ (g, name_taken) ∷ []) ≡ None → AreSeven a b c d e f g
+seven_kept true b c d e f g h = cc
+seven_kept false true c d e f g h = cc
+seven_kept false false true d e f g h = cc
+seven_kept false false false true e f g h = cc
+seven_kept false false false false true f g h = cc
+seven_kept false false false false false true g h = cc
+seven_kept false false false false false false true h = cc
+seven_kept false false false false false false false h = record { apart = refl; window = refl; narrow = refl; few = refl; free = refl }
 
 -- what a cause that breaks no rule is
 record IsKeptCause (faults : List Fault) (w : ProgramTree) (before : List WrittenCause) (c : WrittenCause) : Type 0 where
@@ -165,14 +180,9 @@ record IsKeptCause (faults : List Fault) (w : ProgramTree) (before : List Writte
 
 kept_cause : (faults : List Fault) (w : ProgramTree) (before : List WrittenCause) (c : WrittenCause) → broken_at faults w before c ≡ None → IsKeptCause faults w before c
 kept_cause faults w before c h =
-    let one = rule_kept _ _ _ h in
-    let two = rule_kept _ _ _ one.1 in
-    let three = rule_kept _ _ _ two.1 in
-    let four = rule_kept _ _ _ three.1 in
-    let five = rule_kept _ _ _ four.1 in
-    let six = rule_kept _ _ _ five.1 in
-    let seven = rule_kept _ _ _ six.1 in
-    record { apart = three.0; window = four.0; narrow = five.0; few = six.0; free = seven.0 }
+    let all = seven_kept (list_any (λ p. not (is_path_among (map fault_path faults) p)) c.strikes) (list_any (λ (b : WrittenCause). same_text b.name c.name) before) (has_double c.strikes) (nat_lt c.to c.from)
+    (nat_lt 100 c.to) (nat_lt 256 (length faults + (length before + 1))) (is_any_taken w (flat_map names_of_cause before) (names_of_cause c)) h in
+    record { apart = all.apart; window = all.window; narrow = all.narrow; few = all.few; free = all.free }
 
 -- names of which none is one of the program or was added before
 record AreFree (w : ProgramTree) (before names : List Text) : Type 0 where
@@ -233,15 +243,15 @@ got_within [] i x e = cc
 got_within (y ∷ xs) zero x e = omega arith
 got_within (y ∷ xs) (suc i) x e = let more = got_within xs i x e in omega (arith, more)
 
-module _ (faults : List Fault) where
-  same_names : (w : WrittenCause) (c : CommonCause) → IsReadAs faults w c → names_added_by c ≡ names_of_cause w
+module _ (faults : List Fault) (prog : ProgramTree) where
+  same_names : (w : WrittenCause) (c : CommonCause) → IsReadAs faults prog w c → names_added_by c ≡ names_of_cause w
   same_names w c is =
-      let long : length w.strikes ≡ length c.strikes = both_long (IsStrikeOf faults) w.strikes c.strikes is.strikes in
+      let long : length w.strikes ≡ length c.strikes = both_long (IsStrikeOf faults prog) w.strikes c.strikes is.strikes in
       let n = is.name in
       let hits = same_hits c.name w.name 1 w.strikes c.strikes long n in
       (λ j. age_name (n j) ∷ event_name (n j) ∷ quiet_name (n j) ∷ now_name (n j) ∷ hits j)
 
-  strikes_within : (ps : List Path) (is : List ℕ) → EachBoth (IsStrikeOf faults) ps is → Each (λ i. (0 < i) × (i ≤ length faults)) is
+  strikes_within : (ps : List Path) (is : List ℕ) → EachBoth (IsStrikeOf faults prog) ps is → Each (λ i. (0 < i) × (i ≤ length faults)) is
   strikes_within [] [] h = tt
   strikes_within [] (i ∷ is) h = absurd h
   strikes_within (p ∷ ps) [] h = absurd h
@@ -255,7 +265,7 @@ module _ (faults : List Fault) where
   same_path_refl [] = refl
   same_path_refl (x ∷ p) = let a = same_text_refl x in let b = same_path_refl p in (λ j. a j && b j)
 
-  not_again : (p : Path) (i : ℕ) (ps : List Path) (is : List ℕ) → IsStrikeOf faults p i → is_path_among ps p ≡ false → EachBoth (IsStrikeOf faults) ps is → AllByRecursion (λ j. eqb i j ≡ false) is
+  not_again : (p : Path) (i : ℕ) (ps : List Path) (is : List ℕ) → IsStrikeOf faults prog p i → is_path_among ps p ≡ false → EachBoth (IsStrikeOf faults prog) ps is → AllByRecursion (λ j. eqb i j ≡ false) is
   not_again p i [] [] s h e = tt
   not_again p i [] (j ∷ is) s h e = absurd e
   not_again p i (q ∷ ps) [] s h e = absurd e
@@ -272,7 +282,7 @@ module _ (faults : List Fault) where
           let path : q ≡ p = sym e.0.3 ∙ ap fault_path (sym fault) ∙ s.3 in
           let clash : false ≡ true = sym g ∙ ap (λ r. same_path r p) path ∙ same_path_refl p in cc
 
-  numbers_distinct : (ps : List Path) (is : List ℕ) → has_double ps ≡ false → EachBoth (IsStrikeOf faults) ps is → IsDistinct eqb is
+  numbers_distinct : (ps : List Path) (is : List ℕ) → has_double ps ≡ false → EachBoth (IsStrikeOf faults prog) ps is → IsDistinct eqb is
   unfolding IsDistinct
   numbers_distinct [] [] h e = tt
   numbers_distinct [] (i ∷ is) h e = absurd e
@@ -288,11 +298,11 @@ module _ (faults : List Fault) where
       by true t g rest = let same : q ≡ i = eqb-true q i t in let most = h.0.1 in omega (arith, same, most)
       by false t g rest = rest g
 
-  few_strikes : (w : WrittenCause) (c : CommonCause) → has_double w.strikes ≡ false → IsReadAs faults w c → length c.strikes ≤ length faults + 1
+  few_strikes : (w : WrittenCause) (c : CommonCause) → has_double w.strikes ≡ false → IsReadAs faults prog w c → length c.strikes ≤ length faults + 1
   few_strikes w c h is =
       length-le_from_distinct_below c.strikes (length faults + 1) (numbers_distinct w.strikes c.strikes h is.strikes) (below_all c.strikes (length faults) (strikes_within w.strikes c.strikes is.strikes))
 
-  module _ (p : ProgramTree) (m : FlatModel) (accepted : IsAccepted p) (flat : IsFlatOf p m) (few : length faults < 2 ^ 62) where
+  module _ (m : FlatModel) (accepted : IsAccepted prog) (flat : IsFlatOf prog m) (few : length faults < 2 ^ 62) where
     -- what is known of names: each is new to the model, they differ, and they are words
     record AreGood (before names : List Text) : Type 0 where
       new : Each (IsNewName m) names
@@ -300,15 +310,15 @@ module _ (faults : List Fault) where
       words : Each IsName names
       beside : AreBeside before names
 
-    all_new : (names : List Text) → Each (λ x. is_program_name p x ≡ false) names → Each (IsNewName m) names
-    all_new names h = each_more (λ x. is_program_name p x ≡ false) (IsNewName m) names (λ x k. new_name x p m accepted flat k) h
+    all_new : (names : List Text) → Each (λ x. is_program_name prog x ≡ false) names → Each (IsNewName m) names
+    all_new names h = each_more (λ x. is_program_name prog x ≡ false) (IsNewName m) names (λ x k. new_name x prog m accepted flat k) h
 
     -- what is asked of a cause
     record IsGoodCause (c : CommonCause) : Type 0 where
       is_cause : IsCauseOf (length faults) c
       narrow : c.to ≤ 100
 
-    good_cause : (before : List WrittenCause) (w : WrittenCause) (c : CommonCause) → IsKeptCause faults p before w → IsReadAs faults w c → IsGoodCause c
+    good_cause : (before : List WrittenCause) (w : WrittenCause) (c : CommonCause) → IsKeptCause faults prog before w → IsReadAs faults prog w c → IsGoodCause c
     good_cause before w c kept is =
         let window = kept.window in
         let narrow = kept.narrow in
@@ -318,15 +328,15 @@ module _ (faults : List Fault) where
         let t = is.to in
         record { is_cause = record { window = omega (arith, a, f, t); numbers = strikes_within w.strikes c.strikes is.strikes }; narrow = omega (arith, b, t) }
 
-    cause_good : (before : List WrittenCause) (w : WrittenCause) (c : CommonCause) → IsKeptCause faults p before w → IsReadAs faults w c → IsWord w.name [] →
+    cause_good : (before : List WrittenCause) (w : WrittenCause) (c : CommonCause) → IsKeptCause faults prog before w → IsReadAs faults prog w c → IsWord w.name [] →
         AreGood (flat_map names_of_cause before) (names_added_by c)
     cause_good before w c kept is word =
         let strikes = few_strikes w c kept.apart is in
         let small : length c.strikes < 2 ^ 63 = omega (arith, strikes, few) in
-        let free : AreFree p (flat_map names_of_cause before) (names_of_cause w) = are_free p (flat_map names_of_cause before) (names_of_cause w) kept.free in
+        let free : AreFree prog (flat_map names_of_cause before) (names_of_cause w) = are_free prog (flat_map names_of_cause before) (names_of_cause w) kept.free in
         let e : names_added_by c ≡ names_of_cause w = same_names w c is in
         record {
-          new = all_new (names_added_by c) (subst (Each (λ x. is_program_name p x ≡ false)) (sym e) free.new);
+          new = all_new (names_added_by c) (subst (Each (λ x. is_program_name prog x ≡ false)) (sym e) free.new);
           distinct = cause_distinct c small;
           words = cause_words c (subst (λ x. IsWord x []) (sym is.name) word) small;
           beside = beside_of (flat_map names_of_cause before) (names_added_by c) (subst (Each (λ x. is_among (flat_map names_of_cause before) x ≡ false)) (sym e) free.apart);
@@ -342,13 +352,13 @@ module _ (faults : List Fault) where
     }
 
     module _ (owns : List Text) where
-      all_good : (before ws : List WrittenCause) (cs : List CommonCause) → AllKept faults p before ws → AreReadAs faults ws cs → Each (λ w. IsWord w.name []) ws →
+      all_good : (before ws : List WrittenCause) (cs : List CommonCause) → AllKept faults prog before ws → AreReadAs faults prog ws cs → Each (λ w. IsWord w.name []) ws →
           AreGood (flat_map names_of_cause (before ++ ws)) owns → AreGood (flat_map names_of_cause before) (names_of_each cs owns) × Each IsGoodCause cs
       all_good before [] [] kept read words last = (subst (λ z. AreGood (flat_map names_of_cause z) owns) (append-nil before) last, tt)
       all_good before [] (c ∷ cs) kept read words last = absurd read
       all_good before (w ∷ ws) [] kept read words last = absurd read
       all_good before (w ∷ ws) (c ∷ cs) kept read words last =
-          let here : IsKeptCause faults p before w = kept_cause faults p before w kept.0 in
+          let here : IsKeptCause faults prog before w = kept_cause faults prog before w kept.0 in
           let rest = all_good (before ++ w ∷ []) ws cs kept.1 read.1 words.1 (subst (λ z. AreGood (flat_map names_of_cause z) owns) (sym (append_assoc before (w ∷ []) ws)) last) in
           let after : AreGood (flat_map names_of_cause before ++ names_added_by c) (names_of_each cs owns) =
           subst (λ z. AreGood z (names_of_each cs owns)) (names_end before w ∙ ap (λ xs. flat_map names_of_cause before ++ xs) (sym (same_names w c read.0))) rest.0 in
@@ -360,19 +370,19 @@ module _ (faults : List Fault) where
     same_owns i (f ∷ fs) zero e = cc
     same_owns i (f ∷ fs) (suc n) e = let g : n ≡ length fs = omega (arith, e) in ap (λ xs. own_name i ∷ none_name i ∷ self_name i ∷ xs) (same_owns (suc i) fs n g)
 
-    owns_good : (written : List WrittenCause) (fs : List Mode) → length faults ≡ length fs → are_owns_taken faults p written ≡ false → AreGood (flat_map names_of_cause written) (own_names_from 1 fs)
+    owns_good : (written : List WrittenCause) (fs : List Mode) → length faults ≡ length fs → are_owns_taken faults prog written ≡ false → AreGood (flat_map names_of_cause written) (own_names_from 1 fs)
     owns_good written fs same taken =
-        let free : AreFree p (flat_map names_of_cause written) (own_names 1 (length faults)) = are_free p (flat_map names_of_cause written) (own_names 1 (length faults)) taken in
+        let free : AreFree prog (flat_map names_of_cause written) (own_names 1 (length faults)) = are_free prog (flat_map names_of_cause written) (own_names 1 (length faults)) taken in
         let e : own_names 1 (length faults) ≡ own_names_from 1 fs = same_owns 1 fs (length faults) same in
         let small : 1 + length fs ≤ 2 ^ 64 = omega (arith, same, few) in
         record {
-          new = all_new (own_names_from 1 fs) (subst (Each (λ x. is_program_name p x ≡ false)) e free.new);
+          new = all_new (own_names_from 1 fs) (subst (Each (λ x. is_program_name prog x ≡ false)) e free.new);
           distinct = owns_distinct 1 fs small;
           words = own_words 1 fs small;
           beside = beside_of (flat_map names_of_cause written) (own_names_from 1 fs) (subst (Each (λ x. is_among (flat_map names_of_cause written) x ≡ false)) e free.apart);
         }
 
-    pub lawful_good : (written : List WrittenCause) (cs : List CommonCause) (fs : List Mode) → length faults ≡ length fs → AreLawful faults p written → AreReadAs faults written cs → Each (λ w. IsWord w.name []) written →
+    pub lawful_good : (written : List WrittenCause) (cs : List CommonCause) (fs : List Mode) → length faults ≡ length fs → AreLawful faults prog written → AreReadAs faults prog written cs → Each (λ w. IsWord w.name []) written →
         AreNewNames m (names_added fs cs) × Each (IsCauseOf (length faults)) cs × Each (λ c. c.to ≤ 100) cs
     lawful_good written cs fs same lawful read words =
         let all = all_good (own_names_from 1 fs) [] written cs lawful.kept read words (owns_good written fs same lawful.free) in (

@@ -1,5 +1,5 @@
 -- An accepted certificate of the model with causes is right for all caused traces, and lists the minimal sets.
-use Rattle.std.proofs.Common.{◌≡◌, List, [], ◌∷◌, refl}
+use Rattle.std.proofs.Common.{◌≡◌, List, [], ◌∷◌, length, refl}
 use Rattle.xs_tree.specs.Tree.{Tree}
 use Rattle.xs_tree.specs.ProgramTree.{Formula, ProgramTree}
 use Rattle.xs_tree.specs.Trace.{Each}

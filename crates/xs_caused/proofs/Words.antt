@@ -1,5 +1,5 @@
 -- The names that causes add are words that are not reserved, and those of one cause, or of the events of faults, differ.
-use Rattle.std.proofs.Common.{◌≡◌, ◌≢◌, ℕ, zero, suc, ◌+◌, ◌^◌, ◌<◌, ◌≤◌, Bool, true, false, List, [], ◌∷◌, ◌++◌, length, codes, refl, sym, ◌∙◌, ap, subst, arith, append_assoc}
+use Rattle.std.proofs.Common.{◌≡◌, ◌≢◌, ℕ, zero, suc, ◌+◌, ◌^◌, ◌<◌, ◌≤◌, Bool, true, false, List, [], ◌∷◌, ◌++◌, length, get_or, codes, refl, sym, ◌∙◌, ap, subst, arith, append_assoc}
 use Rattle.std.specs.Prelude.{not, nat_eq, ◌&&◌, ◌||◌, ◌==◌}
 use Rattle.std.specs.Char.{is_ascii_digit}
 use Rattle.std.specs.Fmt.{decimal}
@@ -169,34 +169,34 @@ hits_distinct x k [] small = tt
 hits_distinct x k (i ∷ is) small = (hit_later x k (suc k) is (omega arith) (omega (arith, small)), hits_distinct x (suc k) is (omega (arith, small)))
 
 age_event : codes "#age" ≢ codes "#event"
-age_event e = cc
+age_event e = let c : 97 ≡ 101 = ap (λ t. get_or t 1 0) e in omega (arith, c)
 
 age_quiet : codes "#age" ≢ codes "#quiet"
-age_quiet e = cc
+age_quiet e = let c : 97 ≡ 113 = ap (λ t. get_or t 1 0) e in omega (arith, c)
 
 age_now : codes "#age" ≢ codes "#now"
-age_now e = cc
+age_now e = let c : 97 ≡ 110 = ap (λ t. get_or t 1 0) e in omega (arith, c)
 
 age_hit : (k : ℕ) → codes "#age" ≢ codes "#hit#" ++ decimal k
-age_hit k e = cc
+age_hit k e = let c : 97 ≡ 104 = ap (λ t. get_or t 1 0) e in omega (arith, c)
 
 event_quiet : codes "#event" ≢ codes "#quiet"
-event_quiet e = cc
+event_quiet e = let c : 101 ≡ 113 = ap (λ t. get_or t 1 0) e in omega (arith, c)
 
 event_now : codes "#event" ≢ codes "#now"
-event_now e = cc
+event_now e = let c : 101 ≡ 110 = ap (λ t. get_or t 1 0) e in omega (arith, c)
 
 event_hit : (k : ℕ) → codes "#event" ≢ codes "#hit#" ++ decimal k
-event_hit k e = cc
+event_hit k e = let c : 101 ≡ 104 = ap (λ t. get_or t 1 0) e in omega (arith, c)
 
 quiet_now : codes "#quiet" ≢ codes "#now"
-quiet_now e = cc
+quiet_now e = let c : 113 ≡ 110 = ap (λ t. get_or t 1 0) e in omega (arith, c)
 
 quiet_hit : (k : ℕ) → codes "#quiet" ≢ codes "#hit#" ++ decimal k
-quiet_hit k e = cc
+quiet_hit k e = let c : 113 ≡ 104 = ap (λ t. get_or t 1 0) e in omega (arith, c)
 
 now_hit : (k : ℕ) → codes "#now" ≢ codes "#hit#" ++ decimal k
-now_hit k e = cc
+now_hit k e = let c : 110 ≡ 104 = ap (λ t. get_or t 1 0) e in omega (arith, c)
 
 pub cause_distinct : (c : CommonCause) → length c.strikes < 2 ^ 63 → AreDistinct (names_added_by c)
 cause_distinct c small =
@@ -216,13 +216,13 @@ cause_distinct c small =
     )
 
 own_none : (i j : ℕ) → own_name i ≢ none_name j
-own_none i j e = cc
+own_none i j e = let c : 111 ≡ 110 = ap (λ t. get_or t 0 0) e in omega (arith, c)
 
 own_self : (i j : ℕ) → own_name i ≢ self_name j
-own_self i j e = cc
+own_self i j e = let c : 111 ≡ 115 = ap (λ t. get_or t 0 0) e in omega (arith, c)
 
 none_self : (i j : ℕ) → none_name i ≢ self_name j
-none_self i j e = cc
+none_self i j e = let c : 110 ≡ 115 = ap (λ t. get_or t 0 0) e in omega (arith, c)
 
 record IsLater (j : ℕ) (names : List Text) : Type 0 where
   own : Each (λ y. own_name j ≢ y) names

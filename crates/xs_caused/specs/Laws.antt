@@ -61,4 +61,4 @@ pub record AreNamed (m : FlatModel) (fs : List Mode) (cs : List CommonCause) : T
 abbrev pub CausedAreNamed : Type 0
 CausedAreNamed =
     (faults : List Fault) (w : ProgramTree) (m : FlatModel) (fs : List Mode) (written : List WrittenCause) (cs : List CommonCause) → IsAccepted w → IsFlatOf w m → IsNamed m → AreApart m.symbols →
-    length faults < 2 ^ 62 → length faults ≡ length fs → AreLawful faults w written → AreReadAs faults written cs → Each (λ c. IsWord c.name []) written → AreNamed m fs cs
+    length faults < 2 ^ 62 → length faults ≡ length fs → AreLawful faults w written → AreReadAs faults w written cs → Each (λ c. IsWord c.name []) written → AreNamed m fs cs

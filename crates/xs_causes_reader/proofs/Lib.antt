@@ -5,3 +5,5 @@ mod CausesSpelled
 mod CausesStops
 mod RuleLaws
 mod PathLaws
+mod RuleSteps
+mod ReadLaws

@@ -157,22 +157,22 @@ module _ (faults : List Fault) (w : ProgramTree) where
       record { kept = all_kept cs none; taken = sym (owns_same cs) ∙ h.0; at_none = h.2; is_taken = h.1 }
 
   -- numbers of paths are numbers of faults
-  strike_of : (p : Path) (i : ℕ) → IsNumberOf paths p i → IsStrikeOf faults p i
+  strike_of : (p : Path) (i : ℕ) → IsNumberOf paths p i → IsStrikeOf faults w p i
   strike_of p i n = go (slice_get faults (i - 1)) refl
     where
-      go : (o : Option Fault) → slice_get faults (i - 1) ≡ o → IsStrikeOf faults p i
+      go : (o : Option Fault) → slice_get faults (i - 1) ≡ o → IsStrikeOf faults w p i
       go None e = let clash : None ≡ Some p = sym (slice_get-map fault_path faults (i - 1) ∙ ap (option_map fault_path) e) ∙ n.1 in cc
       go (Some f) e =
           let both : Some (fault_path f) ≡ Some p = sym (slice_get-map fault_path faults (i - 1) ∙ ap (option_map fault_path) e) ∙ n.1 in
           let same : fault_path f ≡ p = cc in (f, n.0, e, same)
 
-  strikes_of : (ps : List Path) (is : List ℕ) → EachBoth (IsNumberOf paths) ps is → EachBoth (IsStrikeOf faults) ps is
+  strikes_of : (ps : List Path) (is : List ℕ) → EachBoth (IsNumberOf paths) ps is → EachBoth (IsStrikeOf faults w) ps is
   strikes_of [] [] h = tt
   strikes_of (p ∷ ps) (i ∷ is) h = (strike_of p i h.0, strikes_of ps is h.1)
   strikes_of [] (i ∷ is) h = absurd h
   strikes_of (p ∷ ps) [] h = absurd h
 
-  pub read_as : (written : List WrittenCause) (cs : List CommonCause) → EachBoth (IsReadIn paths) written cs → AreReadAs faults written cs
+  pub read_as : (written : List WrittenCause) (cs : List CommonCause) → EachBoth (IsReadIn paths) written cs → AreReadAs faults w written cs
   read_as [] [] h = tt
   read_as (x ∷ xs) (c ∷ cs) h =
       (record { name = h.0.name; from = h.0.from; to = h.0.to; strikes = strikes_of x.strikes c.strikes h.0.strikes }, read_as xs cs h.1)

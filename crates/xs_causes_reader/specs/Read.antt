@@ -23,7 +23,7 @@ pub record AreRead (faults : List WovenFault) (w : ProgramTree) (bytes : List �
   pub written : List WrittenCause
   pub spelled : BytesSpellCauses bytes written
   pub lawful : AreLawful faults w written
-  pub read_as : AreReadAs faults written causes
+  pub read_as : AreReadAs faults w written causes
 
 -- the bytes spell causes of which the one of this number, or for 0 what is added after all, is the first to break this rule
 pub record BreakRule (faults : List WovenFault) (w : ProgramTree) (bytes : List ℕ) (rule : Rule) (number : ℕ) : Type 0 where
@@ -36,6 +36,13 @@ abbrev pub FaultSays : List WovenFault → ProgramTree → List ℕ → CauseFau
 FaultSays faults w bytes (f.Parse fault) = FaultMeans IsCauses ⊥ bytes fault
 FaultSays faults w bytes (f.Broken rule number) = BreakRule faults w bytes (rule_of rule) number
 FaultSays faults w bytes f.OutOfMemory = Unit {0}
+
+-- so it is for each extension whose faults have these names
+pub record IsReading (faults : List Fault) (w : ProgramTree) (bytes : List ℕ) (causes : List CommonCause) : Type 0 where
+  pub of_each : (woven : List WovenFault) → AreNamed faults woven → AreRead woven w bytes causes
+
+pub record IsRefusal (faults : List Fault) (w : ProgramTree) (bytes : List ℕ) (fault : CauseFault) : Type 0 where
+  pub of_each : (woven : List WovenFault) → AreNamed faults woven → FaultSays woven w bytes fault
 
 -- the number, from one on, is that of a path of the list
 abbrev pub IsNumberOf : List Path → Path → ℕ → Type 0

@@ -1,14 +1,16 @@
 //! The call: tokens, then the causes that they spell, then the rules.
 
 ghost use Rattle.std.specs.Prelude.{◌≡◌, ◌<◌, ◌^◌, List, [], length, map, IfOk, IfErr};
+ghost use Rattle.xs_lexer.specs.declared.token.Token.{Token};
+ghost use Rattle.xs_lexer.specs.Tokens.{HasTokens};
+ghost use Rattle.xs_tree.specs.Lexemes.{lexemes_of};
 ghost use Rattle.xs_tree.specs.ProgramTree.{program_tree};
-ghost use Rattle.xs_weave.specs.Faults.{Fault as WovenFault};
 ghost use Rattle.xs_parse.specs.Stops.{FaultMeans};
 ghost use Rattle.xs_causes.specs.CausesText.{WrittenCause, BytesSpellCauses};
 ghost use Rattle.xs_staging.specs.CauseOf.{cause_of};
 ghost use Rattle.xs_causes_reader.specs.CausesRead.{IsCauses};
 ghost use Rattle.xs_causes_reader.specs.ReadView.{written_trees, ReadsTo};
-ghost use Rattle.xs_causes_reader.specs.Read.{AreNamed, AreRead, FaultSays};
+ghost use Rattle.xs_causes_reader.specs.Read.{IsReading, IsRefusal};
 
 use crate::fault::CauseFault;
 use crate::rules::lawful;
@@ -16,6 +18,7 @@ use crate::step::{State, step};
 use crate::written::WrittenList;
 use std::alloc::Global;
 use xs_flat::FaultList;
+use xs_lexer::TokenList;
 use xs_parse::ParseFault;
 use xs_parse::expected::Reading;
 use xs_parse::reader::{split, stop_at};
@@ -46,7 +49,31 @@ fn read_through(
     }
 }
 
+/// The causes that the tokens of bytes spell.
+fn written_of(
+    alloc: Global,
+    bytes: &[u8],
+    tokens: &TokenList,
+    texts: &[TokenText],
+) -> Result<WrittenList, ParseFault>
+    requires short { length bytes.now < 2 ^ 32 }
+    requires split { HasTokens bytes.now tokens.now }
+    requires only { (others : List Token) → HasTokens bytes.now others → others ≡ tokens.now }
+    requires same { texts.now ≡ lexemes_of bytes.now tokens.now }
+    ensures spelled { IfOk result (λ cs. BytesSpellCauses bytes.now (written_trees cs)) }
+    ensures only { IfOk result (λ cs. (ds : List WrittenCause) → BytesSpellCauses bytes.now ds → written_trees cs ≡ ds) }
+    ensures fault { IfErr result (FaultMeans IsCauses ⊥ bytes.now) }
+{
+    let mut causes = WrittenList::new(alloc);
+    match read_through(alloc, texts, &mut causes)? {
+        Reading::Whole => Ok(causes),
+        Reading::Unfinished => Err(ParseFault::End(bytes.len() as u32)),
+        Reading::Stopped(i) => Err(stop_at(tokens, texts, i)),
+    }
+}
+
 /// The causes that the bytes spell.
+#[tactic(auto, using(xs_parse::proofs::FaultLaws::of_tokens))]
 fn written_causes(alloc: Global, bytes: &[u8]) -> Result<WrittenList, ParseFault>
     requires { length bytes.now < 2 ^ 32 }
     ensures spelled { IfOk result (λ cs. BytesSpellCauses bytes.now (written_trees cs)) }
@@ -55,12 +82,7 @@ fn written_causes(alloc: Global, bytes: &[u8]) -> Result<WrittenList, ParseFault
 {
     let tokens = split(alloc, bytes)?;
     let texts = token_texts(alloc, bytes, &tokens)?;
-    let mut causes = WrittenList::new(alloc);
-    match read_through(alloc, &texts, &mut causes)? {
-        Reading::Whole => Ok(causes),
-        Reading::Unfinished => Err(ParseFault::End(bytes.len() as u32)),
-        Reading::Stopped(i) => Err(stop_at(&tokens, &texts, i)),
-    }
+    written_of(alloc, bytes, &tokens, &texts)
 }
 
 /// The causes that the bytes spell, for these faults of an extension and its woven program, where they break no rule.
@@ -71,12 +93,16 @@ pub fn read_causes(
     w: &Program,
 ) -> Result<CauseList, CauseFault>
     requires { length bytes.now < 2 ^ 32 }
-    ensures read { IfOk result (λ causes. (woven : List WovenFault) → AreNamed faults.now woven → AreRead woven (program_tree w.now) bytes.now (map cause_of causes)) }
-    ensures fault { IfErr result (λ fault. (woven : List WovenFault) → AreNamed faults.now woven → FaultSays woven (program_tree w.now) bytes.now fault) }
+    ensures read { IfOk result (λ causes. IsReading faults.now (program_tree w.now) bytes.now (map cause_of causes)) }
+    ensures fault { IfErr result (IsRefusal faults.now (program_tree w.now) bytes.now) }
 {
-    match written_causes(alloc, bytes) {
-        Ok(written) => lawful(alloc, faults, w, &written),
-        Err(ParseFault::OutOfMemory) => Err(CauseFault::OutOfMemory),
-        Err(fault) => Err(CauseFault::Parse(fault)),
+    let written = match written_causes(alloc, bytes) {
+        Ok(written) => written,
+        Err(ParseFault::OutOfMemory) => return Err(CauseFault::OutOfMemory),
+        Err(fault) => return Err(CauseFault::Parse(fault)),
+    };
+    match lawful(alloc, faults, w, &written) {
+        Ok(causes) => Ok(causes),
+        Err(fault) => Err(fault),
     }
 }

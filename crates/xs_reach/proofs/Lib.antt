@@ -3,3 +3,5 @@ pub mod StopLaws
 pub mod OddsLaws
 pub mod FoundLaws
 pub mod RunLaws
+mod StagedLaws
+mod CausesLaws

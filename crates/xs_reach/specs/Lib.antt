@@ -2,3 +2,4 @@ pub mod Statuses
 pub mod Reports
 pub mod Odds
 pub mod Runs
+pub mod Causes

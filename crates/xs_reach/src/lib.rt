@@ -4,8 +4,8 @@
 //! whether the first word is one of these verbs; every other first word is for `xs_run::run::run`.
 //!
 //! The files stand in the order of the work: `status` (how a run ends, and what a refusal says), `stop` (why the work
-//! can't go on), `report` (what is said), `odds` (bounds on probabilities), `causes` (common causes), `orders` (orders
-//! of faults) and `reach`. The words are read in `xs_reach_words`.
+//! can't go on), `report` (what is said), `odds` (bounds on probabilities), `staged` (an extension with common causes),
+//! `causes` (their verbs), `orders` (orders of faults) and `reach`. The words are read in `xs_reach_words`.
 //!
 //! ```text
 //! odds --model lamp.smv --faults lamp.fei --top '!on' --depth 4
@@ -17,5 +17,6 @@ pub mod odds;
 pub mod orders;
 pub mod reach;
 pub mod report;
+pub mod staged;
 pub mod status;
 pub mod stop;

@@ -1,0 +1,65 @@
+-- From the rules that are tried to what the reading of a causes file says.
+use Rattle.std.proofs.Common.{◌≡◌, ◌⊎◌, inl, inr, ℕ, List, [], Option, Some, None, length, map, refl, sym, ap, ◌∙◌, subst, false}
+use Rattle.std.specs.Prelude.{Bool, flat_map}
+use Rattle.std.proofs.lemmas.List.{length-map}
+use Rattle.xs_tree.specs.ProgramTree.{Text, Path, ProgramTree}
+use Rattle.xs_flattening.specs.Model.{EachBoth}
+use Rattle.xs_weave.specs.Faults.{Fault as WovenFault}
+use Rattle.xs_weave_rules.specs.Keyed.{with_texts}
+use Rattle.xs_scope.specs.declared.model.Fault.{Fault}
+use Rattle.xs_parse.specs.declared.fault.ParseFault.{ParseFault}
+use Rattle.xs_parse.specs.Stops.{FaultMeans}
+use Rattle.xs_causes.specs.Causes.{CommonCause}
+use Rattle.xs_causes.specs.CausesText.{WrittenCause, BytesSpellCauses}
+use Rattle.xs_causes.specs.CauseRules.{fault_path, names_of_cause, CauseRule, are_owns_taken}
+use Rattle.xs_causes_reader.specs.declared.fault.CauseFault.{CauseFault}
+use Rattle.xs_causes_reader.specs.declared.fault.CauseFault.TheVariants as f
+use Rattle.xs_causes_reader.specs.CausesRead.{IsCauses}
+use Rattle.xs_causes_reader.specs.FaultPaths.{path_of, paths_of}
+use Rattle.xs_causes_reader.specs.Broken.{rule_of, first_broken, are_owns_among, owns_told, TellsFirst, taken_in}
+use Rattle.xs_causes_reader.specs.Read.{AreNamed, AreRead, BreakRule, FaultSays, IsReadIn, IsReading, IsRefusal}
+use Rattle.xs_causes_reader.proofs.RuleLaws.{all_kept, is_broken, owns_same, owns_taken, read_as}
+
+-- what is taken once all causes were read
+abbrev all_taken : ProgramTree → List WrittenCause → List Text
+all_taken w written = with_texts (taken_in w) (flat_map names_of_cause written)
+
+module _ (faults : List Fault) (w : ProgramTree) (bytes : List ℕ) (written : List WrittenCause) (spelled : BytesSpellCauses bytes written) where
+  counted : (woven : List WovenFault) → AreNamed faults woven → length faults ≡ length (map fault_path woven)
+  counted woven named = sym (length-map faults path_of) ∙ ap length named
+
+  pub is_reading : (causes : List CommonCause) → first_broken (paths_of faults) (taken_in w) [] written ≡ None → are_owns_among (all_taken w written) (length faults) ≡ false →
+      EachBoth (IsReadIn (paths_of faults)) written causes → IsReading faults w bytes causes
+  is_reading causes kept free read = record {
+    of_each = λ woven named.
+        let paths = subst (λ ps. first_broken ps (taken_in w) [] written ≡ None) named kept in
+        let owns : are_owns_among (all_taken w written) (length (map fault_path woven)) ≡ false = ap (are_owns_among (all_taken w written)) (sym (counted woven named)) ∙ free in
+        record {
+          written = written;
+          spelled = spelled;
+          lawful = record { kept = all_kept woven w written paths; free = sym (owns_same woven w written) ∙ owns };
+          read_as = read_as woven w written causes (subst (λ ps. EachBoth (IsReadIn ps) written causes) named read);
+        };
+  }
+
+  refused_by : (woven : List WovenFault) (fault : CauseFault) → TellsFirst fault (first_broken (map fault_path woven) (taken_in w) [] written) (are_owns_among (all_taken w written) (length (map fault_path woven))) →
+      FaultSays woven w bytes fault
+  refused_by woven (f.Parse fault) told = absurd told
+  refused_by woven (f.Broken rule number) (inl told) = record { written = written; spelled = spelled; broken = inl (is_broken woven w written (rule_of rule) number told) }
+  refused_by woven (f.Broken rule number) (inr told) = record { written = written; spelled = spelled; broken = inr (owns_taken woven w written (rule_of rule) number told.0 told.1) }
+  refused_by woven f.OutOfMemory told = tt
+
+  pub is_refusal : (fault : CauseFault) → TellsFirst fault (first_broken (paths_of faults) (taken_in w) [] written) (are_owns_among (all_taken w written) (length faults)) → IsRefusal faults w bytes fault
+  is_refusal fault told = record {
+    of_each = λ woven named.
+        refused_by woven fault
+        (subst (λ n. TellsFirst fault (first_broken (map fault_path woven) (taken_in w) [] written) (are_owns_among (all_taken w written) n)) (counted woven named)
+        (subst (λ ps. TellsFirst fault (first_broken ps (taken_in w) [] written) (are_owns_among (all_taken w written) (length faults))) named told));
+  }
+
+-- bytes that spell no causes
+pub no_causes : (faults : List Fault) (w : ProgramTree) (bytes : List ℕ) (fault : ParseFault) → FaultMeans IsCauses ⊥ bytes fault → IsRefusal faults w bytes (f.Parse fault)
+no_causes faults w bytes fault means = record { of_each = λ woven named. means }
+
+pub no_memory : (faults : List Fault) (w : ProgramTree) (bytes : List ℕ) → IsRefusal faults w bytes f.OutOfMemory
+no_memory faults w bytes = record { of_each = λ woven named. tt }
