@@ -8,3 +8,4 @@ pub mod Lawful
 pub mod Shown
 pub mod Loaded
 pub mod NamedLaws
+pub mod Answered

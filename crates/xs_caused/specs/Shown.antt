@@ -1,5 +1,5 @@
 -- What an accepted certificate, and what an analysis, of the model with causes shows of caused traces.
-use Rattle.std.specs.Prelude.{◌≡◌, ◌↔◌, ℕ, Bool, true, List, map, length}
+use Rattle.std.specs.Prelude.{◌≡◌, ◌↔◌, ℕ, Bool, List, map, length}
 use Rattle.xs_tree.specs.Tree.{Tree}
 use Rattle.xs_tree.specs.ProgramTree.{Text, Formula, ProgramTree}
 use Rattle.xs_tree.specs.Values.{Value}
@@ -17,10 +17,16 @@ use Rattle.xs_lines.specs.Lines.{Line}
 use Rattle.xs_certificate.specs.Certificate.{Certificate}
 use Rattle.xs_certificate.specs.Accepted.{Subject}
 use Rattle.xs_certified.specs.Certified.{IsSubjectOf, IsCertified}
+use Rattle.xs_system.specs.declared.system.System.{System}
+use Rattle.xs_cuts.specs.Values.{trace_of}
+use Rattle.xs_cuts.specs.Answer.{IsAnswer}
+use Rattle.xs_cuts.specs.declared.answer.Analysis.{Analysis}
+use Rattle.xs_cuts.specs.declared.answer.End.{End}
+use Rattle.xs_cuts.specs.declared.answer.End.TheVariants.{Complete, Bounded}
 use Rattle.xs_causes.specs.Causes.{CommonCause, IsCauseOf}
 use Rattle.xs_causes.specs.Staged.{with_causes, events_of}
 use Rattle.xs_causes_right.specs.Laws.{Caused, Tells}
-use Rattle.xs_causes_extended.specs.CausedTraces.{CausedTrace, IsCausedExtended, CausedReachesTop, HasEvent, IsRightCausedExtended}
+use Rattle.xs_causes_extended.specs.CausedTraces.{CausedTrace, IsCausedExtended, IsShortCausedExtended, CausedReachesTop, HasEvent, IsRightCausedExtended}
 use Rattle.xs_causes_extended.specs.Laws.{IsCausedCut}
 
 module _ (p : ProgramTree) (i : InstructionTree) (m : FlatModel) (fs : List Mode) (cs : List CommonCause) where
@@ -52,3 +58,22 @@ AcceptedCertifiesCauses =
     (cs : List CommonCause) → Each (IsCauseOf (length fs)) cs → AreOwn (with_causes m fs cs) (events_of m fs cs) flat_top → (subject : Subject) →
     IsSubjectOf (with_causes m fs cs) (events_of m fs cs) flat_top subject → (c : Certificate) →
     IsCertified (with_causes m fs cs) (events_of m fs cs) flat_top (GivesTrace (with_causes m fs cs)) subject c → CertifiesCauses p i faults top m fs cs c
+
+-- the caused traces that an ending speaks of: all, or those of at most so many steps
+abbrev pub IsOfEnd : ProgramTree → InstructionTree → List Fault → List CommonCause → End → CausedTrace → Type 0
+IsOfEnd p i faults cs (Complete clauses) c = IsCausedExtended p i faults cs c
+IsOfEnd p i faults cs (Bounded k) c = IsShortCausedExtended p i faults cs k c
+
+-- The traces of an analysis of the model with causes show caused traces, and with these its sets are right for the caused traces that
+-- its ending speaks of.
+pub record IsCausedAnalysis (p : ProgramTree) (i : InstructionTree) (faults : List Fault) (top : Formula) (m : FlatModel) (fs : List Mode) (cs : List CommonCause) (size : ℕ) (a : Analysis) : Type 0 where
+  pub traces : List CausedTrace
+  pub show : AreBoth (ShowsCaused p i m fs cs) (map (trace_of (with_causes m fs cs).symbols) a.traces) traces
+  pub right : IsRightCausedExtended p i faults cs top size (IsOfEnd p i faults cs a.end) a.sets traces
+
+-- So it is for what answers a search of the model with causes of an extension.
+abbrev pub AnswersAreCaused : Type 0
+AnswersAreCaused =
+    (p : ProgramTree) (i : InstructionTree) (faults : List Fault) (top : Formula) (m : FlatModel) (fs : List Mode) (flat_top : Tree FlatLeaf) → IsExtensionModel p i faults top m fs flat_top →
+    (cs : List CommonCause) → Each (IsCauseOf (length fs)) cs → (system : System) (state_of inputs_of : List Value → List Bool) (depth size : ℕ) (a : Analysis) →
+    IsAnswer (with_causes m fs cs) (events_of m fs cs) flat_top system state_of inputs_of depth size a → IsCausedAnalysis p i faults top m fs cs size a

@@ -11,7 +11,7 @@
 #![tactic(auto)]
 
 ghost use Rattle.xs_caused.specs.Laws.{CausedAreSearchable, CausedAreNamed, SpelledAreWords};
-ghost use Rattle.xs_caused.specs.Shown.{AcceptedCertifiesCauses};
+ghost use Rattle.xs_caused.specs.Shown.{AcceptedCertifiesCauses, AnswersAreCaused};
 
 /// The model with causes can be searched with its events.
 pub fn caused_are_searchable()
@@ -27,4 +27,9 @@ pub fn caused_are_named()
 /// A certificate that is accepted for the model with causes shows its sets for all caused traces.
 pub fn accepted_certifies_causes()
     ensures { AcceptedCertifiesCauses }
+{}
+
+/// What answers a search of the model with causes is right for the caused traces that its ending speaks of.
+pub fn answers_are_caused()
+    ensures { AnswersAreCaused }
 {}

@@ -14,7 +14,13 @@ use Rattle.xs_run.specs.Searches.{case_in}
 use Rattle.xs_run.specs.Answered.{Said}
 use Rattle.xs_run.specs.Certificates.{HoldsCertificate}
 use Rattle.xs_reach.specs.declared.staged.StagedEvent.{StagedEvent}
-use Rattle.xs_reach.specs.Causes.{AreCausesOf, HoldsCauses, causes_in, events_in, CertifiesStaged, HasCheckedCauses}
+use Rattle.xs_report.specs.Analysed.{told_ending}
+use Rattle.xs_run.specs.Answered.{Told}
+use Rattle.xs_run.specs.Searches.{told_maybe}
+use Rattle.xs_reach.specs.declared.causes.FoundCauses.{FoundCauses}
+use Rattle.xs_reach.specs.declared.status.Status.{Status}
+use Rattle.xs_reach.specs.Odds.{ended_with}
+use Rattle.xs_reach.specs.Causes.{AreCausesOf, HoldsCauses, causes_in, events_in, CertifiesStaged, HasCheckedCauses, IsCausesFinding, HasFoundCauses}
 
 -- the file holds causes that were read
 pub holds_causes : (told : Option (List NamedFile)) (name : Text) (case : LoadedCase) (causes : List CommonCause) (bytes : List ℕ) → IfSome told (λ files. HasAtMost 1048576 files name bytes) →
@@ -44,3 +50,12 @@ has_checked told mid model faults causes top cert l a said now report same holds
           certifies = certifies;
           reported = says ∙ ap (λ t. said_more said t) line;
         }
+
+-- what was found, written and said
+pub has_found : (told : Option (List NamedFile)) (model faults causes top cert : Text) (depth : ℕ) (l : StagedEvent) (f : FoundCauses) (s : Status) (before after : Told) (said now : Said) →
+    IfSome told (λ files. HoldsCase files model faults (case_in l.loaded)) → IfSome told (λ files. HoldsCauses files causes l.loaded.case (causes_in l)) → l.word.now ≡ top → IsCausesFinding l depth f →
+    s ≡ ended_with (told_ending f.ending) → after ≡ told_maybe before cert f.cert → now ≡ said_more said f.report →
+    IfSome told (λ files. HasFoundCauses files model faults causes top cert depth s before after said now)
+has_found None model faults causes top cert depth l f s before after said now holds has word finding ends written says = tt
+has_found (Some files) model faults causes top cert depth l f s before after said now holds has word finding ends written says =
+    record { loaded = l; holds = holds; has_causes = has; is_word = word; found = f; finding = finding; ends = ends; written = written; reported = says }

@@ -49,11 +49,12 @@ use Rattle.xs_causes.specs.Staged.{with_causes, events_of}
 use Rattle.xs_causes_reader.specs.FaultPaths.{path_of, paths_of}
 use Rattle.xs_causes_reader.specs.Read.{AreNamed as AreFaultNames}
 use Rattle.xs_caused.specs.Laws.{CanHaveCauses, IsSearchableStaged, AreNamed}
-use Rattle.xs_caused.specs.Shown.{CertifiesCauses}
+use Rattle.xs_caused.specs.Shown.{CertifiesCauses, IsCausedAnalysis}
 use Rattle.xs_caused.proofs.Events.{caused_searchable}
 use Rattle.xs_caused.proofs.Loaded.{state_modes, history_inputs, staged_symbols}
 use Rattle.xs_caused.proofs.NamedLaws.{caused_named, spelled_words}
 use Rattle.xs_caused.proofs.Shown.{accepted_certifies}
+use Rattle.xs_caused.proofs.Answered.{answers_caused}
 use Rattle.xs_run.specs.declared.loaded.LoadedCase.{LoadedCase}
 use Rattle.xs_run.specs.Cases.{Case, extension_of}
 use Rattle.xs_run.specs.Loaded.{case_of, IsLoaded}
@@ -264,3 +265,12 @@ module _ (l : StagedEvent) (is : IsStagedEvent l) where
               (inputs_of (with_history (staged_in l) (events_in l))) depth n a) same answer;
           small = omega arith;
         }
+
+    -- and is right for caused traces
+    pub event_right : (depth size : ℕ) (a : Searched) → IsSearched (staged_in l) (events_in l) tree depth size a →
+        IsCausedAnalysis (case_of program case).program (case_of program case).instructions (case_of program case).faults is.event.event.top m fs cs size a
+    event_right depth size a searched =
+        let c : Case = case_of program case in
+        answers_caused c.program c.instructions c.faults is.event.event.top m fs tree (model_of_case program case l.word.now tree is.event) cs is.staged.names.strikes
+        (system_of (with_history (staged_in l) (events_in l))) (state_of (with_history (staged_in l) (events_in l))) (inputs_of (with_history (staged_in l) (events_in l))) depth size a
+        (taken (λ n es. IsAnswer n es tree (system_of (with_history (staged_in l) (events_in l))) (state_of (with_history (staged_in l) (events_in l))) (inputs_of (with_history (staged_in l) (events_in l))) depth size a) searched.answer)

@@ -25,20 +25,22 @@ use Rattle.xs_staging.specs.CauseOf.{cause_of}
 use Rattle.xs_causes_reader.specs.Read.{AreRead}
 use Rattle.xs_caused.specs.Names.{AreApart}
 use Rattle.xs_caused.specs.Laws.{AreNamed}
-use Rattle.xs_caused.specs.Shown.{CertifiesCauses}
+use Rattle.xs_caused.specs.Shown.{CertifiesCauses, IsCausedAnalysis}
 use Rattle.xs_run.specs.declared.loaded.LoadedCase.{LoadedCase}
 use Rattle.xs_run.specs.declared.status.InputFault.{InputFault as SharedFault}
 use Rattle.xs_run.specs.Cases.{Case, HoldsCase, IsTopWord}
 use Rattle.xs_run.specs.Tasks.{HasAtMost}
 use Rattle.xs_run.specs.Loaded.{case_of, IsLoaded}
-use Rattle.xs_run.specs.Searches.{case_in, IsEvent, IsSearched, HasCertificate}
-use Rattle.xs_run.specs.Answered.{Said}
+use Rattle.xs_run.specs.Searches.{case_in, IsEvent, IsSearched, HasCertificate, told_maybe}
+use Rattle.xs_run.specs.Answered.{Told, Said}
 use Rattle.xs_run.specs.Certificates.{HoldsCertificate}
 use Rattle.xs_reach.specs.declared.status.InputFault.{InputFault}
 use Rattle.xs_reach.specs.declared.status.Part.TheVariants as part
 use Rattle.xs_reach.specs.declared.staged.StagedCase.{StagedCase}
 use Rattle.xs_reach.specs.declared.staged.StagedEvent.{StagedEvent}
 use Rattle.xs_reach.specs.declared.causes.FoundCauses.{FoundCauses}
+use Rattle.xs_reach.specs.declared.status.Status.{Status}
+use Rattle.xs_reach.specs.Odds.{ended_with}
 
 -- a fault that other files have too, told of the causes
 abbrev pub shared_fault : SharedFault → InputFault
@@ -110,13 +112,28 @@ pub record HasCheckedCauses (files : List NamedFile) (model faults causes top ce
   pub certifies : CertifiesStaged loaded certificate
   pub reported : now ≡ said_more said (codes "accepted\n" ++ size_line certificate.size (length (events_in loaded)))
 
--- what a search of the staged model found: an answer with as many events in a set as there are, its report, and for a complete one
--- a certificate
+-- What a search of the staged model found: an answer with as many events in a set as there are, which is right for caused traces; its
+-- report; and for a complete one a certificate.
 pub record IsCausesFinding (l : StagedEvent) (depth : ℕ) (f : FoundCauses) : Type 0 where
+  pub event : Formula
+  pub is_event : IsTopWord (case_in l.loaded).program l.word.now event
   pub analysis : Searched
   pub searched : IsSearched (staged_in l) (events_in l) (flat_tree l.loaded.top) depth (length (events_in l)) analysis
+  pub right : IsCausedAnalysis (case_in l.loaded).program (case_in l.loaded).instructions (case_in l.loaded).faults event (case_in l.loaded).flat (case_in l.loaded).modes (causes_in l) (length (events_in l)) analysis
   pub ends : told_ending f.ending ≡ ending_of analysis.end
   pub certified : HasCertificate (staged_in l) (events_in l) (flat_tree l.loaded.top) l.typed.model.symbols analysis analysis.end f.cert
   pub reported : f.report ≡
       analysis_text (faults_text (map name_of l.events)) (staged_in l) (state_bits (model_tree l.full.model)) (length l.events) analysis.size
       (told_analysis l.typed.model.symbols analysis.sets analysis.traces analysis.first f.ending)
+
+-- The files hold a case and causes of it, and the word spells a top event. What was found of them was written and said.
+pub record HasFoundCauses (files : List NamedFile) (model faults causes top cert : Text) (depth : ℕ) (s : Status) (before after : Told) (said now : Said) : Type 0 where
+  pub loaded : StagedEvent
+  pub holds : HoldsCase files model faults (case_in loaded.loaded)
+  pub has_causes : HoldsCauses files causes loaded.loaded.case (causes_in loaded)
+  pub is_word : loaded.word.now ≡ top
+  pub found : FoundCauses
+  pub finding : IsCausesFinding loaded depth found
+  pub ends : s ≡ ended_with (told_ending found.ending)
+  pub written : after ≡ told_maybe before cert found.cert
+  pub reported : now ≡ said_more said found.report

@@ -1,6 +1,7 @@
 // Common causes: their minimal cut sets, and certificates of them.
 ghost use Rattle.std.specs.Prelude.{◌≡◌, ◌<◌, ◌≤◌, ◌^◌, ℕ, length, map, IfOk, OnOk, IfSome, IsErrOf};
-ghost use Rattle.xs_desk.specs.Desk.{Rose};
+ghost use Rattle.xs_desk.specs.Desk.{Rose, said_more};
+ghost use Rattle.xs_desk.specs.declared.desk.WriteStop.TheVariants as write_stop;
 ghost use Rattle.xs_scope.specs.ModelTree.{model_tree, mode_of, flat_tree};
 ghost use Rattle.xs_report.specs.Analysed.{told_ending};
 ghost use Rattle.xs_cert.specs.Seen.{seen};
@@ -8,12 +9,12 @@ ghost use Rattle.xs_check.specs.Fit.{IsCheckable};
 ghost use Rattle.xs_cuts.specs.declared.answer.End.TheVariants as ends;
 ghost use Rattle.xs_report.specs.Told.{told_trace};
 ghost use Rattle.xs_run.specs.Analyses.{IsCertificateFor};
-ghost use Rattle.xs_run.specs.Searches.{IsSearched, HasCertificate};
+ghost use Rattle.xs_run.specs.Searches.{IsSearched, HasCertificate, told_maybe};
 ghost use Rattle.xs_reach.specs.declared.status.Refusal.{Refusal};
 ghost use Rattle.xs_reach.specs.declared.stop.Stop.TheVariants as stop;
 ghost use Rattle.xs_reach.specs.Runs.{IsFinished};
 ghost use Rattle.xs_reach.specs.Odds.{ended_with};
-ghost use Rattle.xs_reach.specs.Causes.{staged_in, events_in, IsStagedEvent, CertifiesStaged, HasCheckedCauses, IsCausesFinding};
+ghost use Rattle.xs_reach.specs.Causes.{staged_in, events_in, IsStagedEvent, CertifiesStaged, HasCheckedCauses, IsCausesFinding, HasFoundCauses};
 
 use crate::staged::{StagedEvent, load_staged};
 use crate::status::Status;
@@ -26,7 +27,7 @@ use xs_certify::certify;
 use xs_check::{Judged, check};
 use xs_cuts::answer::{Analysis, End};
 use xs_cuts_extended::told;
-use xs_desk::{Desk, say_whole, write_whole};
+use xs_desk::{Desk, WriteStop, say_whole, write_whole};
 use xs_reach_words::{CheckCauses, FindCauses};
 use xs_report::{Ending, print_analysis};
 use xs_run::certificate::{accepted_report, line_stop, load_certificate};
@@ -51,6 +52,7 @@ pub(crate) fn find_causes<D: Desk>(
     asked: &FindCauses,
     panel: &mut Panel,
 ) -> Result<Status, Stop>
+    ensures ok { IfOk result (λ s. IfSome (D.files desk.old) (λ files. HasFoundCauses files asked.now.model.now asked.now.faults.now asked.now.causes.now asked.now.top.now asked.now.cert.now asked.now.depth s (D.files desk.old) (D.files desk.new) (D.said desk.old) (D.said desk.new))) }
     ensures finished { IfOk result IsFinished }
     ensures untouched { (r : Refusal) → IsErrOf result (stop.Refused r) → (D.files desk.new ≡ D.files desk.old) × (D.said desk.new ≡ D.said desk.old) }
     ensures failed { IsErrOf result stop.Desk → Rose (D.faults desk.old) (D.faults desk.new) }
@@ -66,7 +68,8 @@ pub(crate) fn find_causes<D: Desk>(
         asked.top,
     )?;
     let found = search(alloc, &staged, asked.depth, panel)?;
-    conclude(desk, asked.cert, &found)
+    let status = conclude(desk, asked.cert, &found)?;
+    Ok(status)
 }
 
 /// Judges a certificate of faults and common causes, and says that it is accepted.
@@ -226,20 +229,40 @@ fn certificate_text(
 }
 
 /// Writes the certificate, where there is one, and says the report.
-fn conclude<D: Desk>(desk: &mut D, name: &str, found: &FoundCauses) -> Result<Status, Stop>
+fn conclude<D: Desk>(desk: &mut D, name: &str, found: &FoundCauses) -> Result<Status, WriteStop>
     ensures ends { IfOk result (λ s. s ≡ ended_with (told_ending found.now.ending)) }
     ensures finished { IfOk result IsFinished }
-    ensures never { (r : Refusal) → IsErrOf result (stop.Refused r) → ⊥ }
-    ensures failed { IsErrOf result stop.Desk → Rose (D.faults desk.old) (D.faults desk.new) }
+    ensures ok { OnOk result ((D.files desk.new ≡ told_maybe (D.files desk.old) name.now found.now.cert) × (D.said desk.new ≡ said_more (D.said desk.old) found.now.report)) }
     ensures later { D.faults desk.old ≤ D.faults desk.new }
+    ensures failed { IsErrOf result write_stop.Failed → Rose (D.faults desk.old) (D.faults desk.new) }
     ensures quiet { D.quiet desk.old → D.quiet desk.new × (D.faults desk.new ≡ D.faults desk.old) }
 {
-    if let Some(text) = &found.cert {
-        write_whole(desk, name, text.as_slice())?;
-    }
+    write_maybe(desk, name, &found.cert)?;
     say_whole(desk, found.report.as_slice())?;
-    match found.ending {
-        Ending::Complete => Ok(Status::Done),
-        Ending::Bounded(k) => Ok(Status::Bounded(k)),
+    Ok(status_of(found.ending))
+}
+
+/// Writes a text where there is one.
+fn write_maybe<D: Desk>(desk: &mut D, name: &str, text: &Option<ByteList>) -> Result<(), WriteStop>
+    ensures ok { OnOk result (D.files desk.new ≡ told_maybe (D.files desk.old) name.now text.now) }
+    ensures said { D.said desk.new ≡ D.said desk.old }
+    ensures later { D.faults desk.old ≤ D.faults desk.new }
+    ensures failed { IsErrOf result write_stop.Failed → Rose (D.faults desk.old) (D.faults desk.new) }
+    ensures quiet { D.quiet desk.old → D.quiet desk.new × (D.faults desk.new ≡ D.faults desk.old) }
+{
+    match text {
+        Some(text) => write_whole(desk, name, text.as_slice()),
+        None => Ok(()),
+    }
+}
+
+/// The status of a run whose analysis ends so.
+fn status_of(ending: Ending) -> Status
+    ensures ends { result ≡ ended_with (told_ending ending) }
+    ensures finished { IsFinished result }
+{
+    match ending {
+        Ending::Complete => Status::Done,
+        Ending::Bounded(k) => Status::Bounded(k),
     }
 }
