@@ -22,7 +22,7 @@ any_same : {A : Type 0} (t u : A → Bool) → ((a : A) → t a ≡ u a) → (xs
 any_same t u same [] = refl
 any_same t u same (x ∷ xs) = λ i. same x i || any_same t u same xs i
 
-flat_append : {A B : Type 0} (f : A → List B) (xs ys : List A) → flat_map f (xs ++ ys) ≡ flat_map f xs ++ flat_map f ys
+pub flat_append : {A B : Type 0} (f : A → List B) (xs ys : List A) → flat_map f (xs ++ ys) ≡ flat_map f xs ++ flat_map f ys
 flat_append f [] ys = refl
 flat_append f (x ∷ xs) ys = ap (λ z. f x ++ z) (flat_append f xs ys) ∙ sym (append_assoc (f x) (flat_map f xs) (flat_map f ys))
 

@@ -1,13 +1,13 @@
 -- The loops over causes, strikes and faults, one on.
 use Rattle.std.proofs.Common.{◌≡◌, ℕ, zero, suc, ◌+◌, ◌-◌, ◌<◌, ◌≤◌, Bool, true, false, ◌||◌, List, [], ◌∷◌, ◌++◌, Option, Some, None, length, map, take, drop, get_or, refl, sym, ap, ◌∙◌, subst, arith}
-use Rattle.std.specs.Prelude.{◌&&◌, flat_map, slice_get, option_map}
+use Rattle.std.specs.Prelude.{◌&&◌, ◌↔◌, IsTrue, flat_map, slice_get}
 use Rattle.std.specs.List.{list_any}
 use Rattle.std.proofs.lemmas.List.{drop_more, take_more, append-nil, append_assoc, length-map, length-take-le}
 use Rattle.xs_tree.specs.ProgramTree.{Text, Path}
 use Rattle.xs_tree.specs.Texts.{same_text, is_among}
-use Rattle.xs_tree.proofs.ValueLaws.{same_text_equal}
+use Rattle.xs_tree.proofs.ValueLaws.{same_text_equal, same_text_refl}
 use Rattle.xs_flattening.specs.Model.{EachBoth}
-use Rattle.xs_weave_rules.specs.Keyed.{with_texts}
+use Rattle.xs_weave_rules.specs.Keyed.{with_text, with_texts}
 use Rattle.xs_causes.specs.CausesText.{WrittenCause}
 use Rattle.xs_causes.specs.CauseRules.{CauseRule, hit_names, names_of_cause, own_names, same_path}
 use Rattle.xs_causes.specs.Staged.{hit_name, own_name, none_name, self_name}
@@ -52,7 +52,7 @@ module _ {A : Type 0} (paths : List Path) (g : A → WrittenCause) (xs : List A)
   done = ap (map g) (take_more xs i x below ∙ ap (λ z. take i xs ++ z ∷ []) (sym is)) ∙ map_end g (take i xs) x
 
   number : length (map g (take i xs)) ≡ i
-  number = length-map (take i xs) g ∙ length-take-le xs i (omega (arith, below))
+  number = length-map (take i xs) g ∙ length-take-le i xs (omega (arith, below))
 
   opened : (taken : List Text) (all : Option (CauseRule × ℕ)) → first_broken paths taken (map g (take i xs)) (map g (drop i xs)) ≡ all →
       told_at (broken_by paths taken (map g (take i xs)) (g x)) (suc i) (first_broken paths (with_texts taken (names_of_cause (g x))) (map g (take (i + 1) xs)) (map g (drop (i + 1) xs))) ≡ all
@@ -100,10 +100,19 @@ hits_more x names names' all ps i d below pushed rest =
     ∙ sym (ap (λ qs. names ++ hit_names x (i + 1) qs) (drop_more ps i d below)) ∙ rest
 
 -- one text more
-pub texts_on : (taken taken' all : List Text) (names : List Text) (i : ℕ) (d : Text) → i < length names → taken' ≡ with_texts taken (get_or names i d ∷ []) → with_texts taken (drop i names) ≡ all →
+pub texts_on : (taken taken' all : List Text) (names : List Text) (i : ℕ) (x : Text) → i < length names → x ≡ get_or names i x → taken' ≡ with_text taken x → with_texts taken (drop i names) ≡ all →
     with_texts taken' (drop (i + 1) names) ≡ all
-texts_on taken taken' all names i d below step rest =
-    ap (λ t. with_texts t (drop (i + 1) names)) step ∙ sym (ap (with_texts taken) (drop_more names i d below)) ∙ rest
+texts_on taken taken' all names i x below is step rest =
+    ap (λ t. with_texts t (drop (i + 1) names)) (step ∙ ap (with_text taken) is) ∙ sym (ap (with_texts taken) (drop_more names i x below)) ∙ rest
+
+-- whether texts are the same
+pub same_test : (b : Bool) (x y : Text) → (IsTrue b ↔ (x ≡ y)) → b ≡ same_text x y
+same_test true x y h = sym (ap (λ z. same_text z y) (h.0 refl) ∙ same_text_refl y)
+same_test false x y h = by (same_text x y) refl
+  where
+    by : (t : Bool) → same_text x y ≡ t → false ≡ t
+    by false e = refl
+    by true e = sym (h.1 (same_text_equal x y e))
 
 -- the names of one fault more
 any_join : (taken xs ys : List Text) → is_any_among taken (xs ++ ys) ≡ (is_any_among taken xs || is_any_among taken ys)

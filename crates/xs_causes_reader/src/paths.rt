@@ -41,6 +41,7 @@ pub(crate) fn is_path_of(paths: &[NameList], path: &NameList) -> bool
 }
 
 /// Whether a path is a fault's name.
+#[tactic(auto, using(crate::proofs::PathLaws::any_map))]
 pub(crate) fn is_fault_name(faults: &[Fault], path: &NameList) -> bool
     ensures { result ≡ is_path_among (paths_of faults.now) path.now }
 {

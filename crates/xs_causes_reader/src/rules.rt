@@ -125,6 +125,7 @@ fn broken_bound(
 }
 
 /// Whether a cause has the name.
+#[tactic(auto, using(crate::proofs::PathLaws::any_map))]
 fn has_cause(causes: &[Written], name: &Name) -> bool
     ensures { result ≡ list_any (λ b. same_text b.name name.now) (written_trees causes.now) }
 {
