@@ -2,12 +2,11 @@
 use Rattle.std.proofs.Common.{◌≡◌, ℕ, List, Option, Some, None, IfSome, IsSomeAnd, refl, sym, ap, subst, ◌∙◌}
 use Rattle.std.specs.Prelude.{codes}
 use Rattle.xs_desk.specs.declared.files.NamedFile.{NamedFile}
-use Rattle.xs_desk.specs.Files.{file_of, with_file}
+use Rattle.xs_desk.specs.Files.{with_file}
 use Rattle.xs_desk.proofs.Writing.{file_of-with_file}
 use Rattle.xs_tree.specs.ProgramTree.{Text}
 use Rattle.xs_tree.specs.Text.{program_text}
 use Rattle.xs_fei.specs.InstructionText.{instructions_text}
-use Rattle.xs_generate.specs.Generator.{generated_model, generated_instructions}
 use Rattle.xs_words.specs.declared.verb.Verb.TheVariants as verb
 use Rattle.xs_words.specs.Commands.{make}
 use Rattle.xs_words.specs.Table.{options_of}

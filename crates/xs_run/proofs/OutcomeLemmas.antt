@@ -1,8 +1,8 @@
 -- From the parts of a run to its outcome.
-use Rattle.std.proofs.Common.{arith, ◌≡◌, ◌≤◌, ◌⊎◌, inl, inr, ⊎_elim, ℕ, List, Option, Some, None, IfSome, Result, Ok, Err, IfOk, OnOk, OnErr, length, refl, sym, ap, subst, ◌∙◌}
+use Rattle.std.proofs.Common.{arith, ◌≡◌, ◌≤◌, ◌⊎◌, inl, inr, ⊎_elim, ℕ, List, [], ◌∷◌, Option, Some, None, IfSome, Result, Ok, Err, IfOk, IsErrOf, OnOk, OnErr, length, refl, sym, ap, subst, ◌∙◌}
 use Rattle.std.proofs.Math.Seq.{take-length}
 use Rattle.xs_desk.specs.declared.files.NamedFile.{NamedFile}
-use Rattle.xs_desk.specs.Desk.{said_more, SaysPrefix}
+use Rattle.xs_desk.specs.Desk.{Rose, said_more, SaysPrefix}
 use Rattle.xs_tree.specs.ProgramTree.{Text, ProgramTree}
 use Rattle.xs_tree.specs.Tree.{Tree}
 use Rattle.xs_flattening.specs.Flat.{FlatLeaf}
@@ -13,6 +13,9 @@ use Rattle.xs_desk.specs.declared.desk.WriteStop.{WriteStop}
 use Rattle.xs_desk.specs.declared.desk.WriteStop.TheVariants as write_stop
 use Rattle.xs_run.specs.Delivered.{ended_as, Stopped}
 use Rattle.xs_run.specs.Searches.{finished_as}
+use Rattle.xs_run.specs.Analyses.{ended_with}
+use Rattle.xs_run.specs.Tables.{ended_with_all}
+use Rattle.xs_reporting.specs.ExtendedTraces.{Ending, complete, bounded}
 use Rattle.xs_run.specs.Inputs.{RefusesModel, HoldsModel, RefusesFaults, HoldsExtension}
 use Rattle.xs_run.specs.Cases.{Case, HoldsCase, IsWrongWord}
 use Rattle.xs_run.specs.Loaded.{case_of, HoldsLoaded, IsTopIn}
@@ -177,6 +180,27 @@ pub finished_answers : (P : Status → Type 0) (done : Result Status WriteStop) 
 finished_answers P (Ok t) s is so answer = subst P (sym is) so
 finished_answers P (Err write_stop.Failed) s is so answer = absurd (subst IsAnswer is answer)
 finished_answers P (Err write_stop.OutOfMemory) s is so answer = absurd (subst IsAnswer is answer)
+
+-- and it has the desk's only where a call of the desk failed, if that is not its own
+pub failed_finish : (P : Status → Type 0) (R : Type 0) (done : Result Status WriteStop) (s : Status) → s ≡ finished_as done → IfOk done P → (P status.Desk → ⊥) → (IsErrOf done write_stop.Failed → R) →
+    s ≡ status.Desk → R
+failed_finish P R (Ok t) s is so none fails desk = absurd (none (subst P (sym is ∙ desk) so))
+failed_finish P R (Err write_stop.Failed) s is so none fails desk = fails refl
+failed_finish P R (Err write_stop.OutOfMemory) s is so none fails desk = cc
+
+-- an analysis does not end with it
+pub not_desk : (e : Ending) → status.Desk ≡ ended_with e → ⊥
+not_desk complete h = cc
+not_desk (bounded k) h = cc
+
+pub no_column_desk : (es : List Ending) → status.Desk ≡ ended_with_all es → ⊥
+no_column_desk [] h = cc
+no_column_desk (complete ∷ es) h = no_column_desk es h
+no_column_desk (bounded k ∷ es) h = cc
+
+-- a count that rose from a later one rose
+pub rose_later : (a b c : ℕ) → a ≤ b → Rose b c → Rose a c
+rose_later a b c later rose = omega (arith, later, rose)
 
 -- what holds whatever the files are
 pub for_files : (P : Type 0) (told : Option (List NamedFile)) → P → IfSome told (λ files. P)

@@ -2,7 +2,7 @@
 //!
 //! A crate with tests is proved a second time with them, so the crate of the top call has none: they stand here. The
 //! modules: `extensions` (models that are extended, and every kind of refusal), `replays`, `analyses` (with tables and
-//! generated cases) and `certificates`.
+//! generated cases), `certificates` and `hostile` (failing desks, cut files, altered certificates).
 #![tactic(auto)]
 
 #[cfg(test)]
@@ -11,5 +11,7 @@ mod analyses;
 mod certificates;
 #[cfg(test)]
 mod extensions;
+#[cfg(test)]
+mod hostile;
 #[cfg(test)]
 mod replays;

@@ -1,9 +1,9 @@
-use Rattle.std.proofs.Common.{Err, inr, ap}
+use Rattle.std.proofs.Common.{Err, inr, ap, ◌∙◌}
 use Rattle.xs_run.specs.declared.asked.Asked.TheVariants as ask
 use Rattle.xs_run.specs.Commanded.{command_of}
 use Rattle.xs_run.specs.Searches.{analysed_case, analysed_size}
 use Rattle.xs_run.specs.Runs.{analyses, CommandComesTo, IsDelivered}
-use Rattle.xs_run.proofs.OutcomeLemmas.{answers_prepared, stops_at_prepared, finished_answers, answers_stop, leaves_stop}
+use Rattle.xs_run.proofs.OutcomeLemmas.{answers_prepared, stops_at_prepared, finished_answers, failed_finish, not_desk, rose_later, answers_stop, leaves_stop}
 use Rattle.xs_run.proofs.verbs.analyse_event.Goals as goal
 
 pub returns-in-Ok-clause-answered : goal.returns-in-Ok-clause-answered
@@ -12,7 +12,7 @@ returns-in-Ok-clause-answered g c answer =
     answers_prepared (λ files o. CommandComesTo files (command_of (ask.Analyse c.args.asked.now)) o) _ _ _ _ _ _ c.prepare_analysis.ensures.files c.prepare_analysis.ensures.said
     (analyses (analysed_case a) a.word.now a.depth (analysed_size a) a.extended.now a.cert.now) c.finished.result c.in-Ok.ensures.ok
     (finished_answers
-    (λ s. IsDelivered (analyses (analysed_case a) a.word.now a.depth (analysed_size a) a.extended.now a.cert.now) s (g.D.Desk.files c.deliver_analysis.old.desk) (g.D.Desk.files c.deliver_analysis.new.desk) (g.D.Desk.said c.deliver_analysis.old.desk) (g.D.Desk.said c.deliver_analysis.new.desk))
+    (λ s. IsDelivered (analyses (analysed_case a) a.word.now a.depth (analysed_size a) a.extended.now a.cert.now) s (g.D.Desk.files c.prepare_analysis.new.desk) (g.D.Desk.files c.deliver_analysis.new.desk) (g.D.Desk.said c.prepare_analysis.new.desk) (g.D.Desk.said c.deliver_analysis.new.desk))
     c.deliver_analysis.result c.finished.result c.finished.ensures c.deliver_analysis.ensures.ok)
     answer
 
@@ -33,3 +33,17 @@ pub returns-in-Err-clause-left : goal.returns-in-Err-clause-left
 returns-in-Err-clause-left g c =
     leaves_stop (λ files o. CommandComesTo files (command_of (ask.Analyse c.args.asked.now)) o) _ _ _ _ _ _ c.prepare_analysis.ensures.files c.prepare_analysis.ensures.said c.in-Err.stop c.stopped.result
     (λ r is. c.in-Err.ensures.refused r (ap (λ s. Err s) is)) c.stopped.ensures.stopped
+
+pub returns-in-Ok-clause-failed : goal.returns-in-Ok-clause-failed
+returns-in-Ok-clause-failed g c desk =
+    let a = c.in-Ok.analysing in
+    rose_later _ _ _ c.prepare_analysis.ensures.later
+    (failed_finish
+    (λ s. IsDelivered (analyses (analysed_case a) a.word.now a.depth (analysed_size a) a.extended.now a.cert.now) s (g.D.Desk.files c.prepare_analysis.new.desk) (g.D.Desk.files c.deliver_analysis.new.desk) (g.D.Desk.said c.prepare_analysis.new.desk) (g.D.Desk.said c.deliver_analysis.new.desk))
+    _ c.deliver_analysis.result c.finished.result c.finished.ensures c.deliver_analysis.ensures.ok (λ h. not_desk h.analysis.ending h.ends) c.deliver_analysis.ensures.failed desk)
+
+pub returns-in-Ok-clause-quiet : goal.returns-in-Ok-clause-quiet
+returns-in-Ok-clause-quiet g c quiet =
+    let first = c.prepare_analysis.ensures.quiet quiet in
+    let then = c.deliver_analysis.ensures.quiet first.0 in
+    (then.0, then.1 ∙ first.1)

@@ -1,7 +1,7 @@
-use Rattle.std.proofs.Common.{Err, inr, refl, ap}
+use Rattle.std.proofs.Common.{Err, inr, ap}
 use Rattle.xs_run.specs.declared.asked.Asked.TheVariants as ask
 use Rattle.xs_run.specs.Commanded.{command_of}
-use Rattle.xs_run.specs.Runs.{extends, CommandComesTo, refuses}
+use Rattle.xs_run.specs.Runs.{extends, CommandComesTo}
 use Rattle.xs_run.proofs.OutcomeLemmas.{answers_prepared, stops_at_prepared, answers_stop, leaves_stop}
 use Rattle.xs_run.proofs.verbs.extend_model.Goals as goal
 

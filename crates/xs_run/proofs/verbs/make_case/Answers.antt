@@ -3,7 +3,7 @@ use Rattle.xs_run.specs.declared.asked.Asked.TheVariants as ask
 use Rattle.xs_run.specs.Commanded.{command_of}
 use Rattle.xs_run.specs.Made.{made_case}
 use Rattle.xs_run.specs.Runs.{makes, MakeComesTo, CommandComesTo, IsDelivered}
-use Rattle.xs_run.proofs.OutcomeLemmas.{answers_prepared, stops_at_prepared, finished_answers, for_files}
+use Rattle.xs_run.proofs.OutcomeLemmas.{answers_prepared, stops_at_prepared, finished_answers, failed_finish, not_desk, for_files}
 use Rattle.xs_run.proofs.verbs.make_case.Goals as goal
 
 pub returns-in-Ok-clause-answered : goal.returns-in-Ok-clause-answered
@@ -12,7 +12,7 @@ returns-in-Ok-clause-answered g c answer =
     answers_prepared (λ files o. CommandComesTo files (command_of (ask.Make c.args.asked.now)) o) _ _ _ _ _ _ refl refl
     (makes (made_case a) a.stages a.depth a.model.now a.faults.now) c.finished.result (for_files (MakeComesTo c.args.asked.now.number c.args.asked.now.stages c.args.asked.now.depth c.args.asked.now.model.now c.args.asked.now.faults.now (makes (made_case a) a.stages a.depth a.model.now a.faults.now)) (g.D.Desk.files c.args.desk.now) c.in-Ok.ensures.ok)
     (finished_answers
-    (λ s. IsDelivered (makes (made_case a) a.stages a.depth a.model.now a.faults.now) s (g.D.Desk.files c.deliver_made.old.desk) (g.D.Desk.files c.deliver_made.new.desk) (g.D.Desk.said c.deliver_made.old.desk) (g.D.Desk.said c.deliver_made.new.desk))
+    (λ s. IsDelivered (makes (made_case a) a.stages a.depth a.model.now a.faults.now) s (g.D.Desk.files c.args.desk.now) (g.D.Desk.files c.deliver_made.new.desk) (g.D.Desk.said c.args.desk.now) (g.D.Desk.said c.deliver_made.new.desk))
     c.deliver_made.result c.finished.result c.finished.ensures c.deliver_made.ensures.ok)
     answer
 
@@ -26,3 +26,10 @@ returns-in-Ok-clause-left g c =
 
 pub returns-in-Err-clause-left : goal.returns-in-Err-clause-left
 returns-in-Err-clause-left g c = inl (refl, refl)
+
+pub returns-in-Ok-clause-failed : goal.returns-in-Ok-clause-failed
+returns-in-Ok-clause-failed g c =
+    let a = c.in-Ok.making in
+    failed_finish
+    (λ s. IsDelivered (makes (made_case a) a.stages a.depth a.model.now a.faults.now) s (g.D.Desk.files c.args.desk.now) (g.D.Desk.files c.deliver_made.new.desk) (g.D.Desk.said c.args.desk.now) (g.D.Desk.said c.deliver_made.new.desk))
+    _ c.deliver_made.result c.finished.result c.finished.ensures c.deliver_made.ensures.ok (λ h. not_desk h.analysis.ending h.ends) c.deliver_made.ensures.failed

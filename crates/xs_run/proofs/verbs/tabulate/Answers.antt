@@ -1,9 +1,9 @@
-use Rattle.std.proofs.Common.{Err, inr, ap}
+use Rattle.std.proofs.Common.{Err, inr, map, ap}
 use Rattle.xs_run.specs.declared.asked.Asked.TheVariants as ask
 use Rattle.xs_run.specs.Commanded.{command_of}
 use Rattle.xs_run.specs.Tables.{tabulated_case, tabulated_events}
 use Rattle.xs_run.specs.Runs.{tabulates, CommandComesTo, IsDelivered}
-use Rattle.xs_run.proofs.OutcomeLemmas.{answers_prepared, stops_at_prepared, finished_answers, answers_stop, leaves_stop}
+use Rattle.xs_run.proofs.OutcomeLemmas.{answers_prepared, stops_at_prepared, finished_answers, failed_finish, no_column_desk, rose_later, answers_stop, leaves_stop}
 use Rattle.xs_run.proofs.verbs.tabulate.Goals as goal
 
 pub returns-in-Ok-clause-answered : goal.returns-in-Ok-clause-answered
@@ -12,7 +12,7 @@ returns-in-Ok-clause-answered g c answer =
     answers_prepared (λ files o. CommandComesTo files (command_of (ask.Fmea c.args.asked.now)) o) _ _ _ _ _ _ c.prepare_table.ensures.files c.prepare_table.ensures.said
     (tabulates (tabulated_case a) (tabulated_events a) a.size a.depth) c.finished.result c.in-Ok.ensures.ok
     (finished_answers
-    (λ s. IsDelivered (tabulates (tabulated_case a) (tabulated_events a) a.size a.depth) s (g.D.Desk.files c.deliver_table.old.desk) (g.D.Desk.files c.deliver_table.new.desk) (g.D.Desk.said c.deliver_table.old.desk) (g.D.Desk.said c.deliver_table.new.desk))
+    (λ s. IsDelivered (tabulates (tabulated_case a) (tabulated_events a) a.size a.depth) s (g.D.Desk.files c.prepare_table.new.desk) (g.D.Desk.files c.deliver_table.new.desk) (g.D.Desk.said c.prepare_table.new.desk) (g.D.Desk.said c.deliver_table.new.desk))
     c.deliver_table.result c.finished.result c.finished.ensures c.deliver_table.ensures.ok)
     answer
 
@@ -33,3 +33,11 @@ pub returns-in-Err-clause-left : goal.returns-in-Err-clause-left
 returns-in-Err-clause-left g c =
     leaves_stop (λ files o. CommandComesTo files (command_of (ask.Fmea c.args.asked.now)) o) _ _ _ _ _ _ c.prepare_table.ensures.files c.prepare_table.ensures.said c.in-Err.stop c.stopped.result
     (λ r is. c.in-Err.ensures.refused r (ap (λ s. Err s) is)) c.stopped.ensures.stopped
+
+pub returns-in-Ok-clause-failed : goal.returns-in-Ok-clause-failed
+returns-in-Ok-clause-failed g c desk =
+    let a = c.in-Ok.tabulating in
+    rose_later _ _ _ c.prepare_table.ensures.later
+    (failed_finish
+    (λ s. IsDelivered (tabulates (tabulated_case a) (tabulated_events a) a.size a.depth) s (g.D.Desk.files c.prepare_table.new.desk) (g.D.Desk.files c.deliver_table.new.desk) (g.D.Desk.said c.prepare_table.new.desk) (g.D.Desk.said c.deliver_table.new.desk))
+    _ c.deliver_table.result c.finished.result c.finished.ensures c.deliver_table.ensures.ok (λ h. no_column_desk (map (λ e. e.ending) h.columns) h.ends) c.deliver_table.ensures.failed desk)
