@@ -7,3 +7,4 @@ mod RuleLaws
 mod PathLaws
 mod RuleSteps
 mod ReadLaws
+mod BrokenSteps

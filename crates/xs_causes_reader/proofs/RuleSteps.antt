@@ -9,11 +9,12 @@ use Rattle.xs_tree.proofs.ValueLaws.{same_text_equal, same_text_refl}
 use Rattle.xs_flattening.specs.Model.{EachBoth}
 use Rattle.xs_weave_rules.specs.Keyed.{with_text, with_texts}
 use Rattle.xs_causes.specs.CausesText.{WrittenCause}
-use Rattle.xs_causes.specs.CauseRules.{CauseRule, hit_names, names_of_cause, own_names, same_path}
+use Rattle.xs_causes.specs.CauseRules.{CauseRule, hit_names, names_of_cause, own_names, same_path, is_path_among, has_double}
 use Rattle.xs_causes.specs.Staged.{hit_name, own_name, none_name, self_name}
 use Rattle.xs_causes_reader.specs.Broken.{is_any_among, broken_by, told_at, first_broken}
 use Rattle.xs_causes_reader.proofs.Keyed.{texts_more}
 use Rattle.xs_causes_reader.proofs.RuleLaws.{flat_append}
+use Rattle.xs_causes_reader.proofs.PathLaws.{same_next, double_next}
 
 -- ---- lists of members that are related
 
@@ -156,6 +157,31 @@ same_path_equal (a ∷ x) (b ∷ y) h =
     let first = same_text_equal a b parts.0 in
     let rest = same_path_equal x y parts.1 in
     (λ j. first j ∷ rest j)
+
+-- parts that differ, and parts that don't
+module _ (x y : Path) (i : ℕ) (a b : Text) (all : Bool) (h : i < length x) (g : i < length y) (is_a : a ≡ get_or x i a) (is_b : b ≡ get_or y i b) (rest : same_path (drop i x) (drop i y) ≡ all) where
+  parts_opened : (t : Bool) → same_text a b ≡ t → (t && same_path (drop (i + 1) x) (drop (i + 1) y)) ≡ all
+  parts_opened t e =
+      sym (same_next x y i a b h g ∙ ap (λ z. same_text z (get_or y i b) && same_path (drop (i + 1) x) (drop (i + 1) y)) (sym is_a)
+      ∙ ap (λ z. same_text a z && same_path (drop (i + 1) x) (drop (i + 1) y)) (sym is_b) ∙ ap (λ z. z && same_path (drop (i + 1) x) (drop (i + 1) y)) e) ∙ rest
+
+  pub parts_differ : same_text a b ≡ false → false ≡ all
+  parts_differ e = parts_opened false e
+
+  pub parts_same : same_text a b ≡ true → same_path (drop (i + 1) x) (drop (i + 1) y) ≡ all
+  parts_same e = parts_opened true e
+
+-- a path that stands again behind, or doesn't
+module _ (ps : List Path) (i : ℕ) (p : Path) (all : Bool) (h : i < length ps) (is : p ≡ get_or ps i p) (rest : has_double (drop i ps) ≡ all) where
+  double_opened : (t : Bool) → is_path_among (drop (i + 1) ps) p ≡ t → (t || has_double (drop (i + 1) ps)) ≡ all
+  double_opened t e =
+      sym (double_next ps i p h ∙ ap (λ q. is_path_among (drop (i + 1) ps) q || has_double (drop (i + 1) ps)) (sym is) ∙ ap (λ z. z || has_double (drop (i + 1) ps)) e) ∙ rest
+
+  pub double_here : is_path_among (drop (i + 1) ps) p ≡ true → true ≡ all
+  double_here e = double_opened true e
+
+  pub double_later : is_path_among (drop (i + 1) ps) p ≡ false → has_double (drop (i + 1) ps) ≡ all
+  double_later e = double_opened false e
 
 -- the path of a place is got there
 pub get_place : {A : Type 0} (g : A → Path) (xs : List A) (i : ℕ) (x : A) → i < length xs → x ≡ get_or xs i x → slice_get (map g xs) i ≡ Some (g x)

@@ -8,6 +8,9 @@ use Rattle.xs_analysis_text.specs.AnalysisText.{size_line}
 use Rattle.xs_certificate.specs.Certificate.{Certificate}
 use Rattle.xs_causes.specs.Causes.{CommonCause}
 use Rattle.xs_run.specs.declared.loaded.LoadedCase.{LoadedCase}
+use Rattle.xs_run.specs.declared.wrong.Wrong.{Wrong}
+use Rattle.xs_run.specs.declared.wrong.Wrong.TheVariants as wrong
+use Rattle.xs_reach.specs.declared.stop.Stop.TheVariants as stop
 use Rattle.xs_run.specs.Cases.{HoldsCase}
 use Rattle.xs_run.specs.Tasks.{HasAtMost}
 use Rattle.xs_run.specs.Searches.{case_in}
@@ -20,7 +23,7 @@ use Rattle.xs_run.specs.Searches.{told_maybe}
 use Rattle.xs_reach.specs.declared.causes.FoundCauses.{FoundCauses}
 use Rattle.xs_reach.specs.declared.status.Status.{Status}
 use Rattle.xs_reach.specs.Odds.{ended_with}
-use Rattle.xs_reach.specs.Causes.{AreCausesOf, HoldsCauses, causes_in, events_in, CertifiesStaged, HasCheckedCauses, IsCausesFinding, HasFoundCauses}
+use Rattle.xs_reach.specs.Causes.{stop_at_causes, AreCausesOf, HoldsCauses, causes_in, events_in, CertifiesStaged, HasCheckedCauses, IsCausesFinding, HasFoundCauses}
 
 -- the file holds causes that were read
 pub holds_causes : (told : Option (List NamedFile)) (name : Text) (case : LoadedCase) (causes : List CommonCause) (bytes : List ℕ) → IfSome told (λ files. HasAtMost 1048576 files name bytes) →
@@ -59,3 +62,8 @@ pub has_found : (told : Option (List NamedFile)) (model faults causes top cert :
 has_found None model faults causes top cert depth l f s before after said now holds has word finding ends written says = tt
 has_found (Some files) model faults causes top cert depth l f s before after said now holds has word finding ends written says =
     record { loaded = l; holds = holds; has_causes = has; is_word = word; found = f; finding = finding; ends = ends; written = written; reported = says }
+
+-- what is wrong with the causes is no end of the desk
+pub no_desk_at_causes : (w : Wrong) → stop.Desk ≡ stop_at_causes w → ⊥
+no_desk_at_causes (wrong.Refused fault) e = cc
+no_desk_at_causes wrong.Memory e = cc

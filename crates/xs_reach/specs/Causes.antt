@@ -28,6 +28,8 @@ use Rattle.xs_caused.specs.Laws.{AreNamed}
 use Rattle.xs_caused.specs.Shown.{CertifiesCauses, IsCausedAnalysis}
 use Rattle.xs_run.specs.declared.loaded.LoadedCase.{LoadedCase}
 use Rattle.xs_run.specs.declared.status.InputFault.{InputFault as SharedFault}
+use Rattle.xs_run.specs.declared.wrong.Wrong.{Wrong}
+use Rattle.xs_run.specs.declared.wrong.Wrong.TheVariants as wrong
 use Rattle.xs_run.specs.Cases.{Case, HoldsCase, IsTopWord}
 use Rattle.xs_run.specs.Tasks.{HasAtMost}
 use Rattle.xs_run.specs.Loaded.{case_of, IsLoaded}
@@ -36,6 +38,9 @@ use Rattle.xs_run.specs.Answered.{Told, Said}
 use Rattle.xs_run.specs.Certificates.{HoldsCertificate}
 use Rattle.xs_reach.specs.declared.status.InputFault.{InputFault}
 use Rattle.xs_reach.specs.declared.status.Part.TheVariants as part
+use Rattle.xs_reach.specs.declared.status.Refusal.TheVariants as refusal
+use Rattle.xs_reach.specs.declared.stop.Stop.{Stop}
+use Rattle.xs_reach.specs.declared.stop.Stop.TheVariants as stop
 use Rattle.xs_reach.specs.declared.staged.StagedCase.{StagedCase}
 use Rattle.xs_reach.specs.declared.staged.StagedEvent.{StagedEvent}
 use Rattle.xs_reach.specs.declared.causes.FoundCauses.{FoundCauses}
@@ -45,6 +50,11 @@ use Rattle.xs_reach.specs.Odds.{ended_with}
 -- a fault that other files have too, told of the causes
 abbrev pub shared_fault : SharedFault → InputFault
 shared_fault fault = record { part = part.Shared fault.part; number = fault.number; place = fault.place }
+
+-- the end of the work where something is wrong with the causes that may be wrong with other files too
+abbrev pub stop_at_causes : Wrong → Stop
+stop_at_causes (wrong.Refused fault) = stop.Refused (refusal.Causes (shared_fault fault))
+stop_at_causes wrong.Memory = stop.Memory
 
 -- the faults of what was loaded, as modes of its flat model
 abbrev pub modes_in : LoadedCase → List Mode

@@ -5,8 +5,9 @@ ghost use Rattle.xs_staging.specs.CauseOf.{cause_of};
 ghost use Rattle.xs_run.specs.Cases.{HoldsCase};
 ghost use Rattle.xs_run.specs.Tasks.{HasAtMost};
 ghost use Rattle.xs_run.specs.Searches.{case_in};
+ghost use Rattle.xs_reach.specs.declared.status.Refusal.TheVariants as refusal;
 ghost use Rattle.xs_reach.specs.declared.stop.Stop.TheVariants as stop;
-ghost use Rattle.xs_reach.specs.Causes.{IsSomeCase, AreCausesOf, HoldsCauses, IsStagedCase, IsStagedEvent};
+ghost use Rattle.xs_reach.specs.Causes.{stop_at_causes, IsSomeCase, AreCausesOf, HoldsCauses, IsStagedCase, IsStagedEvent};
 
 use crate::status::{InputFault, Part, Refusal};
 use crate::stop::Stop;
@@ -175,7 +176,7 @@ fn staged_of(alloc: Global, case: &LoadedCase, causes: CauseList) -> Result<Stag
 
 /// The end of the work where this is wrong with the causes.
 fn causes_stop(wrong: Wrong) -> Stop
-    ensures { result ≡ stop.Desk → ⊥ }
+    ensures { result ≡ stop_at_causes wrong }
 {
     match wrong {
         Wrong::Refused(fault) => refused(Part::Shared(fault.part), fault.number, fault.place),
@@ -185,7 +186,7 @@ fn causes_stop(wrong: Wrong) -> Stop
 
 /// The end of the work where a rule of the causes is broken.
 fn refused(part: Part, number: u32, place: u64) -> Stop
-    ensures { result ≡ stop.Desk → ⊥ }
+    ensures { result ≡ stop.Refused (refusal.Causes (record { part = part; number = number; place = place })) }
 {
     Stop::Refused(Refusal::Causes(InputFault {
         part,
