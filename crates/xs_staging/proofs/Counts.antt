@@ -39,6 +39,10 @@ module _ (fs : List Mode) (c : CommonCause) where
       let aged : length (with_age m c).symbols ≡ length m.symbols = ap length (append-nil m.symbols) in
       omega arith
 
+pub length_ages : (cs : List CommonCause) (n : ℕ) → length (age_numbers n cs) ≡ length cs
+length_ages [] n = refl
+length_ages (c ∷ cs) n = ap suc (length_ages cs (n + (2 + length c.strikes)))
+
 -- a fact of each member holds of the one at a place
 pub each_get : {A : Type 0} (P : A → Type 0) (xs : List A) (i : ℕ) (d : A) → Each P xs → i < length xs → P (get_or xs i d)
 each_get P [] i d e h = absurd (omega (arith, h))

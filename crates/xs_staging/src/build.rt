@@ -1,9 +1,9 @@
 //! Expressions, formulas and variables that are added to a flat model.
 
-ghost use Rattle.std.specs.Prelude.{◌≡◌, ◌<◌, ◌^◌, ◌∷◌, [], IfOk};
+ghost use Rattle.std.specs.Prelude.{◌≡◌, ◌<◌, ◌^◌, ◌∷◌, [], false, IfOk};
 ghost use Rattle.xs_tree.specs.declared.expr.Op.TheVariants as op;
 ghost use Rattle.xs_tree.specs.declared.program.Member.TheVariants as member;
-ghost use Rattle.xs_tree.specs.Tree.{not_of, next_of, binary as binary_tree, choice as choice_tree, leaf};
+ghost use Rattle.xs_tree.specs.Tree.{not_of, next_of, binary as binary_tree, choice as choice_tree, leaf, truth};
 ghost use Rattle.xs_tree.specs.ProgramTree.{declared_tree, members};
 ghost use Rattle.xs_flattening.specs.Flat.{flat_symbol};
 ghost use Rattle.xs_flattening.specs.History.{added as added_tree};
@@ -28,6 +28,13 @@ pub(crate) fn symbol(number: u32) -> Expr<Flat>
     ensures { flat_tree result ≡ leaf (flat_symbol number) }
 {
     Expr::Leaf(Flat::Symbol(number))
+}
+
+/// FALSE.
+pub(crate) fn falsehood() -> Expr<Flat>
+    ensures { flat_tree result ≡ truth false }
+{
+    Expr::Truth(false)
 }
 
 /// A number.

@@ -9,7 +9,7 @@ ghost use Rattle.xs_causes.specs.Staged.{with_own as own_with, with_owns, own_ev
 ghost use Rattle.xs_staging.specs.CauseOf.{cause_of, either_tree};
 
 use crate::build::{
-    binary, choice, next, only, opposite, state, symbol, two_symbols, within, within_next,
+    binary, choice, falsehood, next, only, opposite, state, symbol, two_symbols, within, within_next,
 };
 use crate::cause::{Cause, NumberList};
 use crate::names::numbered;
@@ -157,7 +157,7 @@ fn windows_on(
     }
     match windows {
         Some(windows) => Ok(windows),
-        None => Ok(Expr::Truth(false)),
+        None => Ok(falsehood()),
     }
 }
 
