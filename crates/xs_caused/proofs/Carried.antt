@@ -26,7 +26,7 @@ use Rattle.xs_encoding.specs.HistoryBits.{IsStateMode}
 use Rattle.xs_right.specs.Sets.{has_number}
 use Rattle.xs_causes.specs.Causes.{CommonCause, IsCauseOf}
 use Rattle.xs_causes.specs.Staged.{age_name, event_name, quiet_name, now_name, hit_name, own_name, none_name, self_name, added_variable, mode_of, stands_of, in_window, age_at_first, age_at_step, with_age, event_at_each, with_event, hit_at_first, landed_at_each, hit_at_step, with_hit, with_hits, with_cause, with_each_cause, age_numbers, windows_on, joined_after, joined, own_at_first, own_at_step, with_own, with_owns, with_causes, own_events, cause_events, events_of}
-use Rattle.xs_caused.proofs.Counts.{cause_count, cause_symbols, own_count, own_symbols, each_get}
+use Rattle.xs_staging.proofs.Counts.{cause_count, cause_symbols, own_count, own_symbols, each_get}
 use Rattle.xs_caused.proofs.Widened.{IsStateVariable, IsStateName, HasClauses, IsOfState, variable_kept, more_symbols, mode_kept, fit_wide, clauses_wide}
 
 -- ---- the bits of inputs

@@ -1,4 +1,3 @@
-pub mod Counts
 pub mod Widened
 pub mod Carried
 pub mod Events

@@ -13,7 +13,7 @@ use Rattle.xs_encoding.specs.HistoryBits.{IsStateMode}
 use Rattle.xs_encoding.proofs.TypeMeans.{got_below}
 use Rattle.xs_causes.specs.Causes.{CommonCause}
 use Rattle.xs_causes.specs.Staged.{with_cause, with_each_cause, with_own, with_owns, age_numbers, with_causes}
-use Rattle.xs_caused.proofs.Counts.{cause_symbols, own_symbols}
+use Rattle.xs_staging.proofs.Counts.{cause_symbols, own_symbols}
 use Rattle.xs_caused.proofs.Carried.{same_inputs}
 use Rattle.xs_caused.proofs.Events.{history_addition, history_is, bits_of_state}
 

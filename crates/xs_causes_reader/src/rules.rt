@@ -1,6 +1,6 @@
 //! The rules of causes, over the faults of an extension and the names of the woven program.
 
-ghost use Rattle.std.specs.Prelude.{◌≡◌, None, [], false, flat_map, option_map, IfOk, IfErr, OnOk};
+ghost use Rattle.std.specs.Prelude.{◌≡◌, None, [], false, length, map, flat_map, option_map, IfOk, IfErr, OnOk};
 ghost use Rattle.std.specs.List.{list_any};
 ghost use Rattle.xs_tree.specs.Texts.{same_text};
 ghost use Rattle.xs_tree.specs.ProgramTree.{program_tree};
