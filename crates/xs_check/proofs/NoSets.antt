@@ -1,7 +1,6 @@
 -- What is answered of a certificate that may list no set.
-use Rattle.std.proofs.Common.{◌≡◌, ◌≢◌, ◌⊎◌, inl, inr, ℕ, zero, suc, ◌+◌, ◌<◌, ◌≤◌, List, [], ◌∷◌, ◌++◌, length, take, Some, refl, sym, ap, ◌∙◌, subst, arith}
+use Rattle.std.proofs.Common.{◌≡◌, ◌≢◌, inl, inr, ℕ, zero, suc, ◌+◌, ◌<◌, ◌≤◌, List, [], ◌∷◌, ◌++◌, length, take, Some, refl, sym, ap, ◌∙◌, subst, arith}
 use Rattle.std.specs.Prelude.{slice_get}
-use Rattle.std.specs.List.{sum_by}
 use Rattle.std.proofs.lemmas.List.Sums.{sum_by-cons}
 use Rattle.xs_lines.specs.Lines.{Line}
 use Rattle.xs_tree.specs.Values.{Value}
@@ -13,7 +12,7 @@ use Rattle.xs_certificate.specs.Accepted.{Rule, HasNumbers, Keeps}
 use Rattle.xs_certificate.specs.Sites.{set_sites, sites_of}
 use Rattle.xs_check.specs.Asked.{proof_sites}
 use Rattle.xs_check.specs.Matter.{Matter, KeepsAllIn}
-use Rattle.xs_check.specs.Found.{IsKeptAt, IsBrokenAt, Finds, IsObjectionOf, FindsUnlisted, one_before, none_before, IsObjectionUnlisted, of_another, of_its_set, IsJudged, IsJudgedUnlisted}
+use Rattle.xs_check.specs.Found.{IsKeptAt, IsBrokenAt, Finds, IsObjectionOf, FindsUnlisted, one_before, none_before, of_another, of_its_set, IsJudged, IsJudgedUnlisted}
 use Rattle.xs_check.specs.declared.judged.Judged.{Judged}
 use Rattle.xs_check.specs.declared.judged.Judged.TheVariants.{Yes, No}
 use Rattle.xs_check.proofs.Finding.{kept_then, broken_here, judged_of_all}
@@ -71,6 +70,7 @@ module _ (a : Matter) (one_each : length a.certificate.traces ≡ length a.certi
 
     -- a rule is broken at the first set
     by_a_rule : (number : ℕ) → IsBrokenAt a (a_set 0 set) number → IsJudgedUnlisted a (No 4 number)
+    unfolding sites
     by_a_rule number broken = of_another 4 number (judged_of_all a one_each (No 4 number) found) (inr (omega arith))
       where
         at_line : line_of a.certificate (a_set 0 set) ≡ 4

@@ -1,7 +1,8 @@
-use Rattle.std.proofs.Common.{◌≡◌, [], IsTrue, arith}
+use Rattle.std.proofs.Common.{◌≡◌, [], IsTrue, arith, subst}
 use Rattle.std.proofs.lemmas.Result.{IfOk-weaker}
 use Rattle.xs_check.specs.Asked.{asked, proof_sites}
-use Rattle.xs_check.specs.Found.{Finds, IsJudgedUnlisted}
+use Rattle.xs_certificate.specs.Certificate.{a_set}
+use Rattle.xs_check.specs.Found.{Finds, FindsUnlisted, IsJudgedUnlisted}
 use Rattle.xs_check.proofs.NoSets.{no_item, unlisted_none, unlisted_some}
 use Rattle.xs_check.proofs.unlisted.judge_numbered.Goals as goal
 
@@ -15,4 +16,5 @@ returns-then-is_empty c =
 pub returns : goal.returns
 returns c =
     let a = asked c.args.q.now in
-    unlisted_some a c.requires.fit.certificate.one_each c.at-set.result.now c.at-set.ensures c.requires.numbers c.listed_rule-rule.result c.listed_rule-rule.ensures
+    let found = subst (λ set. FindsUnlisted a (a_set 0 set) c.listed_rule-rule.result) c.as_slice.ensures c.listed_rule-rule.ensures in
+    unlisted_some a c.requires.fit.certificate.one_each c.at-set.result.now c.at-set.ensures c.requires.numbers c.listed_rule-rule.result found

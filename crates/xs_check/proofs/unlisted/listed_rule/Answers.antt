@@ -1,4 +1,3 @@
-use Rattle.xs_check.specs.Asked.{asked}
 use Rattle.xs_check.specs.Found.{one_before, none_before}
 use Rattle.xs_check.proofs.unlisted.listed_rule.Goals as goal
 
