@@ -1,11 +1,35 @@
 use Rattle.std.proofs.Common.{Err, sym, ap, ◌∙◌}
 use Rattle.std.proofs.lemmas.Result.{err_from_is_err_and}
+use Rattle.xs_desk.specs.Desk.{said_more}
 use Rattle.xs_run.proofs.InputLemmas.{same_error}
+use Rattle.xs_run.proofs.OutcomeLemmas.{rose_later}
 use Rattle.xs_reach.proofs.StopLaws.{write_refused, write_desk}
 use Rattle.xs_reach.proofs.OddsLaws.{has_odds}
 use Rattle.xs_reach.proofs.odds.find_odds.Goals as goal
 
+pub returns-in_err-say_whole-clause-refused : goal.returns-in_err-say_whole-clause-refused
+returns-in_err-say_whole-clause-refused g c r e =
+    let exit = err_from_is_err_and c.from_residual-in_err-say_whole.result c.from_residual-in_err-say_whole.ensures.1 in
+    absurd (write_refused _ r (sym exit.2 ∙ same_error (sym exit.1 ∙ e)))
+
+pub returns-in_err-say_whole-clause-silent : goal.returns-in_err-say_whole-clause-silent
+returns-in_err-say_whole-clause-silent g c r e =
+    let exit = err_from_is_err_and c.from_residual-in_err-say_whole.result c.from_residual-in_err-say_whole.ensures.1 in
+    absurd (write_refused _ r (sym exit.2 ∙ same_error (sym exit.1 ∙ e)))
+
+pub returns-in_err-say_whole-clause-failed : goal.returns-in_err-say_whole-clause-failed
+returns-in_err-say_whole-clause-failed g c e =
+    let exit = err_from_is_err_and c.from_residual-in_err-say_whole.result c.from_residual-in_err-say_whole.ensures.1 in
+    let is = write_desk _ (sym exit.2 ∙ same_error (sym exit.1 ∙ e)) in
+    rose_later _ _ _ c.load_marked.ensures.later (c.say_whole.ensures.failed (c.in_err-say_whole.was ∙ ap (λ s. Err s) is))
+
 pub returns-clause-ok : goal.returns-clause-ok
 returns-clause-ok g c =
     has_odds _ _ _ _ c.in_ok-marked.marked _ c.in_ok-found.found _ _ _ c.in_ok-marked.ensures.ok c.in_ok-marked.ensures.marked c.in_ok-marked.ensures.asked c.in_ok-found.ensures
-    c.status_of.ensures.ends c.in_ok-say_whole.ensures.ok
+    c.status_of.ensures.ends (c.in_ok-say_whole.ensures.ok ∙ ap (said_more (g.D.Desk.said c.load_marked.new.desk)) c.as_slice.ensures ∙ ap (λ t. said_more t c.in_ok-found.found.report) c.load_marked.ensures.said)
+
+pub returns-clause-quiet : goal.returns-clause-quiet
+returns-clause-quiet g c quiet =
+    let first = c.load_marked.ensures.quiet quiet in
+    let then = c.say_whole.ensures.quiet first.0 in
+    (then.0, then.1 ∙ first.1)

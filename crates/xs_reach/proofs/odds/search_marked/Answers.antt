@@ -16,10 +16,10 @@ pub analysed-requires-clause-searchable : goal.analysed-requires-clause-searchab
 analysed-requires-clause-searchable g c =
     let a = c.args.marked.now in case_searchable (program_tree a.loaded.model.program) a.loaded.case a.word.now (flat_tree a.loaded.top) c.requires.event
 
-pub report_of-requires-clause-named : goal.report_of-requires-clause-named
-report_of-requires-clause-named g c =
+pub report_of-requires : goal.report_of-requires
+report_of-requires g c =
     let a = c.args.marked.now in
-    sets_named (program_tree a.loaded.model.program) a.loaded.case a.word.now (flat_tree a.loaded.top) c.requires.event a.odds c.requires.odds a.depth c.size_of-size.result c.in_ok-a.a c.in_ok-a.ensures.answer
+    record { named = sets_named (program_tree a.loaded.model.program) a.loaded.case a.word.now (flat_tree a.loaded.top) c.requires.event a.odds c.requires.odds a.depth c.size_of-size.result c.in_ok-a.a c.in_ok-a.ensures.answer }
 
 pub returns : goal.returns
 returns g c =

@@ -34,19 +34,19 @@ returns-in-Ok-perform-clause-told g c r is = absurd (finished_kept c.in-Ok-perfo
 pub returns-in-Ok-perform-clause-words : goal.returns-in-Ok-perform-clause-words
 returns-in-Ok-perform-clause-words g c rule place broken answer = absurd (c.read_words.ensures.apart (seen c.in-Ok.command) rule place c.in-Ok.ensures.ok broken)
 
-pub returns-in-Err-perform-clause-finished : goal.returns-in-Err-perform-clause-finished
-returns-in-Err-perform-clause-finished g c command means finished = absurd (c.stopped.ensures.ended finished)
+pub returns-clause-finished : goal.returns-clause-finished
+returns-clause-finished g c command means finished = absurd (c.stopped.ensures.ended finished)
 
-pub returns-in-Err-perform-clause-refused : goal.returns-in-Err-perform-clause-refused
-returns-in-Err-perform-clause-refused g c command r means is =
+pub returns-clause-refused : goal.returns-clause-refused
+returns-clause-refused g c command r means is =
     let stop = c.stopped.ensures.refused r is in
     refused_for _ (texts c.args.words.now) (seen c.in-Ok.command) command r c.read_words.ensures.one_command c.in-Ok.ensures.ok means (c.in-Err-perform.ensures.refused r (ap (λ s. Err s) stop.0))
 
-pub returns-in-Err-perform-clause-told : goal.returns-in-Err-perform-clause-told
-returns-in-Err-perform-clause-told g c r is =
+pub returns-clause-told : goal.returns-clause-told
+returns-clause-told g c r is =
     let stop = c.stopped.ensures.refused r is in
     let kept = c.in-Err-perform.ensures.untouched r (ap (λ s. Err s) stop.0) in
     (stop.1 ∙ kept.0, stop.2 ∙ ap (λ said. said_more said (refusal_text r)) kept.1)
 
-pub returns-in-Err-perform-clause-words : goal.returns-in-Err-perform-clause-words
-returns-in-Err-perform-clause-words g c rule place broken answer = absurd (c.read_words.ensures.apart (seen c.in-Ok.command) rule place c.in-Ok.ensures.ok broken)
+pub returns-clause-words : goal.returns-clause-words
+returns-clause-words g c rule place broken answer = absurd (c.read_words.ensures.apart (seen c.in-Ok.command) rule place c.in-Ok.ensures.ok broken)
