@@ -28,8 +28,8 @@ module _ (x : Text) (a b : ℕ) (cs : List WrittenCause) where
   -- a fault's name, behind the parts before it
   dotted_read : (done : List Path) (path : Path) {ts : List Lexeme} {p : Path} → SpellsDotted ts p → (us : List Lexeme) →
       run (Some (so_far (part x a b done path) cs)) (ts ++ us) ≡ run (Some (so_far (after x a b done (path ++ p)) cs)) us
-  dotted_read done path (one_name {y} h) us = ap (λ o. run o us) (name_part done path y h)
-  dotted_read done path (more_names {y} {ts} {p} h d) us =
+  dotted_read done path (one_name {x = y} h) us = ap (λ o. run o us) (name_part done path y h)
+  dotted_read done path (more_names {x = y} {ts = ts} {p = p} h d) us =
       ap (λ o. run o (sign k.Dot ∷ (ts ++ us))) (name_part done path y h)
       ∙ dotted_read done (path ++ y ∷ []) d us
       ∙ ap (λ q. run (Some (so_far (after x a b done q) cs)) us) (append_assoc path (y ∷ []) p)
@@ -38,7 +38,7 @@ module _ (x : Text) (a b : ℕ) (cs : List WrittenCause) where
   commas_read : (done : List Path) {ts : List Lexeme} {ps : List Path} → SpellsCommas SpellsDotted ts ps → (us : List Lexeme) →
       run (Some (so_far (part x a b done []) cs)) (ts ++ sign k.Semicolon ∷ us) ≡ run (Some (so_far start (cs ++ cause_read x a b (done ++ ps) ∷ []))) us
   commas_read done (last_one d) us = dotted_read done [] d (sign k.Semicolon ∷ us)
-  commas_read done (one_comma {ts} {vs} {p} {ps} d q) us =
+  commas_read done (one_comma {ts = ts} {us = vs} {a = p} {more = ps} d q) us =
       ap (run (Some (so_far (part x a b done []) cs))) (append_assoc ts (sign k.Comma ∷ vs) (sign k.Semicolon ∷ us))
       ∙ dotted_read done [] d (sign k.Comma ∷ (vs ++ sign k.Semicolon ∷ us))
       ∙ commas_read (done ++ p ∷ []) q us
@@ -58,5 +58,5 @@ cause_is_read cs (a_cause {x} {a} {b} {from} {to} {ts} {strikes} h q) us =
 -- causes, behind those before them
 pub causes_are_read : (cs : List WrittenCause) {ts : List Lexeme} {ds : List WrittenCause} → SpellsCauses ts ds → run (Some (so_far start cs)) ts ≡ Some (so_far start (cs ++ ds))
 causes_are_read cs no_more = ap (λ z. Some (so_far start z)) (sym (append-nil cs))
-causes_are_read cs (one_more {ts} {us} {d} {ds} p q) =
+causes_are_read cs (one_more {ts = ts} {us = us} {a = d} {more = ds} p q) =
     cause_is_read cs p us ∙ causes_are_read (cs ++ d ∷ []) q ∙ ap (λ z. Some (so_far start z)) (append_assoc cs (d ∷ []) ds)

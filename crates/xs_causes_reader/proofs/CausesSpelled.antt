@@ -16,6 +16,10 @@ use Rattle.xs_causes.specs.CausesText.{WrittenCause, SpellsCause, a_cause, Spell
 use Rattle.xs_causes_reader.specs.CausesRead.{Stage, start, named, within, first, dots, last, strikes, part, after, ReadSoFar, so_far, where_so, name_read, first_read, is_dots, last_read, part_read, cause_read, after_read, stepped, run}
 use Rattle.xs_causes_reader.proofs.CausesReads.{run_none}
 
+-- what two answers have is the same
+pub some_same : {A : Type 0} (x y : A) → Some x ≡ Some y → x ≡ y
+some_same x y e = cc
+
 -- the rest of a fault's name, with the names behind it
 data PartLeft : List Lexeme → Path → List Path → Type 0 where
   last_part : {ts : List Lexeme} {p : Path} → SpellsDotted ts p → PartLeft ts p []
@@ -270,16 +274,19 @@ module _ (all : List WrittenCause) where
       go (at_end is more) = subst (λ z. AfterRest x a b done path bs (z ∷ ts)) (sym is) (end_rest x a b done path bs ts (rest start (bs ++ cause_read x a b (done ++ path ∷ []) ∷ []) more))
 
   -- at the end of the list
+  ended_at : (s : Stage) (bs : List WrittenCause) → s ≡ start → bs ≡ all → Left s bs []
+  ended_at start bs e same = record { causes = []; spelled = no_more; whole = sym same ∙ sym (append-nil bs) }
+  ended_at named bs e same = cc
+  ended_at (within x) bs e same = cc
+  ended_at (first x) bs e same = cc
+  ended_at (dots x a) bs e same = cc
+  ended_at (last x a) bs e same = cc
+  ended_at (strikes x a b) bs e same = cc
+  ended_at (part x a b done path) bs e same = cc
+  ended_at (after x a b done path) bs e same = cc
+
   left_end : (s : Stage) (bs : List WrittenCause) → Some (so_far s bs) ≡ Some (so_far start all) → Left s bs []
-  left_end start bs e = let same : bs ≡ all = cc in record { causes = []; spelled = no_more; whole = sym same ∙ sym (append-nil bs) }
-  left_end named bs e = cc
-  left_end (within x) bs e = cc
-  left_end (first x) bs e = cc
-  left_end (dots x a) bs e = cc
-  left_end (last x a) bs e = cc
-  left_end (strikes x a b) bs e = cc
-  left_end (part x a b done path) bs e = cc
-  left_end (after x a b done path) bs e = cc
+  left_end s bs e = let is = some_same (so_far s bs) (so_far start all) e in ended_at s bs (ap (λ z. z.stage) is) (ap (λ z. z.causes) is)
 
   left_of : (s : Stage) (bs : List WrittenCause) (ts : List Lexeme) → Ends (Some (so_far s bs)) ts → Left s bs ts
   left_of s bs [] e = left_end s bs e

@@ -1,8 +1,8 @@
 -- What reading says of a text: where it stops, that it is unfinished, or that it spells causes.
-use Rattle.std.proofs.Common.{◌≡◌, ℕ, ◌+◌, ◌<◌, Bool, true, false, List, [], ◌∷◌, ◌++◌, Option, Some, None, length, take, get_or, refl, sym, ap, ◌∙◌, subst, arith}
+use Rattle.std.proofs.Common.{◌≡◌, ℕ, ◌+◌, ◌<◌, ◌≤◌, Bool, true, false, List, [], ◌∷◌, ◌++◌, Option, Some, None, length, take, get_or, refl, sym, ap, ◌∙◌, subst, arith}
 use Rattle.std.specs.Prelude.{codes, slice_get}
 use Rattle.std.specs.Option.{option_map}
-use Rattle.std.proofs.lemmas.List.{take_more, length-map, append-nil}
+use Rattle.std.proofs.lemmas.List.{take_more, take_all, length-map, append-nil}
 use Rattle.std.proofs.lemmas.Option.{slice_get-map}
 use Rattle.xs_lexer.specs.declared.token.TokenKind.TheVariants as k
 use Rattle.xs_lexer.specs.declared.token.Token.{Token}
@@ -10,14 +10,15 @@ use Rattle.xs_lexer.specs.Tokens.{HasTokens}
 use Rattle.xs_tree.specs.ProgramTree.{Path}
 use Rattle.xs_tree.specs.Lexemes.{Lexeme, word, num, sign, lexemes_of}
 use Rattle.xs_parse.specs.declared.fault.ParseFault.{ParseFault}
+use Rattle.xs_parse.specs.declared.expected.Reading.{Reading}
 use Rattle.xs_parse.specs.Places.{lexeme_at}
 use Rattle.xs_parse.specs.Stops.{IsFrontOf, Unfinished, FaultMeans, is_left_out, stop_fault}
 use Rattle.xs_parse.proofs.ExpressionLaws.{none_within}
 use Rattle.xs_causes.specs.CausesText.{WrittenCause, SpellsCauses, BytesSpellCauses}
 use Rattle.xs_causes_reader.specs.CausesRead.{Stage, start, named, within, first, dots, last, strikes, part, after, ReadSoFar, so_far, read_more, run, read_of, IsCauses}
-use Rattle.xs_causes_reader.specs.ReadView.{Goes, is_start}
+use Rattle.xs_causes_reader.specs.ReadView.{Goes, is_start, reading_at, ReadsTo}
 use Rattle.xs_causes_reader.proofs.CausesReads.{run_append, run_none, causes_are_read}
-use Rattle.xs_causes_reader.proofs.CausesSpelled.{spelled_of}
+use Rattle.xs_causes_reader.proofs.CausesSpelled.{spelled_of, some_same}
 
 -- a text that ends what is begun
 abbrev from_part : List Lexeme
@@ -116,13 +117,13 @@ stops bytes tokens i token split stands on off = go (is_left_out (lexeme_at byte
 pub check_stops : (bytes : List ℕ) (tokens : List Token) (ts : List Lexeme) (i : ℕ) (f : ParseFault) → HasTokens bytes tokens → ts ≡ lexemes_of bytes tokens → i < length ts →
     Goes (read_of (take i ts)) → read_of (take (i + 1) ts) ≡ None →
     ((token : Token) (lexeme : Lexeme) → slice_get tokens i ≡ Some token → slice_get ts i ≡ Some lexeme → f ≡ stop_fault (is_left_out lexeme) token.start) → FaultMeans IsCauses ⊥ bytes f
-check_stops bytes tokens ts i f split same within on off fault = go (slice_get tokens i) refl
+check_stops bytes tokens ts i f split same inside on off fault = go (slice_get tokens i) refl
   where
     size : length ts ≡ length tokens
     size = ap length same ∙ length-map tokens (lexeme_at bytes)
 
     go : (found : Option Token) → slice_get tokens i ≡ found → FaultMeans IsCauses ⊥ bytes f
-    go None e = absurd (none_within tokens i (omega (arith, size, within)) e)
+    go None e = absurd (none_within tokens i (omega (arith, size, inside)) e)
     go (Some token) e =
         let lexeme : slice_get ts i ≡ Some (lexeme_at bytes token) = ap (λ z. slice_get z i) same ∙ slice_get-map (lexeme_at bytes) tokens i ∙ ap (option_map (lexeme_at bytes)) e in
         let on' = subst (λ z. Goes (read_of (take i z))) same on in
@@ -142,7 +143,7 @@ check_ends bytes tokens ts at r split same place reads unended =
       incomplete = λ spelled.
           let whole : read_of (lexemes_of bytes tokens) ≡ Some (so_far start spelled.0) = causes_are_read [] spelled.1 in
           let both : Some r ≡ Some (so_far start spelled.0) = sym here ∙ whole in
-          let one : r ≡ so_far start spelled.0 = cc in
+          let one : r ≡ so_far start spelled.0 = some_same r (so_far start spelled.0) both in
           let clash : false ≡ true = sym unended ∙ ap (λ z. is_start z.stage) one in cc;
     }
 
@@ -156,4 +157,20 @@ pub only_spelled : (bytes : List ℕ) (tokens : List Token) (ts : List Lexeme) (
 only_spelled bytes tokens ts cs only same reads ds spelled =
     let there : SpellsCauses (lexemes_of bytes tokens) ds = subst (λ z. SpellsCauses (lexemes_of bytes z) ds) (only spelled.0 spelled.1) spelled.2 in
     let read : read_of (lexemes_of bytes tokens) ≡ Some (so_far start ds) = causes_are_read [] there in
-    let both : Some (so_far start cs) ≡ Some (so_far start ds) = sym reads ∙ ap read_of same ∙ read in cc
+    let both : Some (so_far start cs) ≡ Some (so_far start ds) = sym reads ∙ ap read_of same ∙ read in
+    ap (λ z. z.causes) (some_same (so_far start cs) (so_far start ds) both)
+
+-- where the lexemes end, reading is whole at the start of a cause only
+pub ended : (ts : List Lexeme) (cs : List WrittenCause) (s : Stage) (i : ℕ) (r : Reading) → length ts ≤ i → read_of (take i ts) ≡ Some (so_far s cs) → r ≡ reading_at (is_start s) → ReadsTo ts cs r
+ended ts cs s i r past reads is = subst (ReadsTo ts cs) (sym is) (at s (ap read_of (sym (take_all i ts past)) ∙ reads))
+  where
+    at : (s : Stage) → read_of ts ≡ Some (so_far s cs) → ReadsTo ts cs (reading_at (is_start s))
+    at start e = e
+    at named e = (so_far named cs, e, refl)
+    at (within x) e = (so_far (within x) cs, e, refl)
+    at (first x) e = (so_far (first x) cs, e, refl)
+    at (dots x a) e = (so_far (dots x a) cs, e, refl)
+    at (last x a) e = (so_far (last x a) cs, e, refl)
+    at (strikes x a b) e = (so_far (strikes x a b) cs, e, refl)
+    at (part x a b done path) e = (so_far (part x a b done path) cs, e, refl)
+    at (after x a b done path) e = (so_far (after x a b done path) cs, e, refl)

@@ -1,5 +1,5 @@
 -- Paths compared part by part, and paths that stand twice.
-use Rattle.std.proofs.Common.{◌≡◌, ℕ, suc, ◌+◌, ◌<◌, Bool, true, false, List, [], ◌∷◌, length, map, drop, get_or, refl, sym, ap, ◌∙◌, arith}
+use Rattle.std.proofs.Common.{◌≡◌, ℕ, suc, ◌+◌, ◌<◌, ◌≤◌, Bool, true, false, List, [], ◌∷◌, length, map, drop, get_or, refl, sym, ap, ◌∙◌, arith}
 use Rattle.std.specs.Prelude.{◌&&◌, ◌||◌}
 use Rattle.std.specs.List.{list_any}
 use Rattle.std.proofs.lemmas.List.{drop_more, drop_all}
@@ -23,9 +23,9 @@ pub same_next : (x y : Path) (i : ℕ) (a b : List ℕ) → i < length x → i <
     same_path (drop i x) (drop i y) ≡ (same_text (get_or x i a) (get_or y i b) && same_path (drop (i + 1) x) (drop (i + 1) y))
 same_next x y i a b h g = (λ k. same_path (drop_more x i a h k) (drop_more y i b g k))
 
-pub both_done : (x y : Path) (i : ℕ) → (i < length x → ⊥) → length x ≡ length y → same_path (drop i x) (drop i y) ≡ true
+pub both_done : (x y : Path) (i : ℕ) → length x ≤ i → length x ≡ length y → same_path (drop i x) (drop i y) ≡ true
 both_done x y i h e =
-    (λ k. same_path (drop_all i x h k) (drop_all i y (λ g. h (omega (arith, g, e))) k))
+    (λ k. same_path (drop_all i x h k) (drop_all i y (omega (arith, h, e)) k))
 
 -- one path more
 pub double_next : (ps : List Path) (i : ℕ) (d : Path) → i < length ps → has_double (drop i ps) ≡ (is_path_among (drop (i + 1) ps) (get_or ps i d) || has_double (drop (i + 1) ps))

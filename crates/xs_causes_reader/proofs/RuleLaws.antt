@@ -15,6 +15,7 @@ use Rattle.xs_causes.specs.CausesText.{WrittenCause}
 use Rattle.xs_causes.specs.CauseRules.{fault_path, is_path_among, has_double, names_of_cause, own_names, is_any_taken, CauseRule, no_such_fault, double_cause, double_strike, empty_window, too_wide, too_many, name_taken, first_of, broken_at, AllKept, are_owns_taken, IsBrokenAt, AreOwnsTaken, IsStrikeOf, IsReadAs, AreReadAs}
 use Rattle.xs_causes_reader.specs.Broken.{is_any_among, broken_by, told_at, first_broken, are_owns_among, owns_told, taken_in}
 use Rattle.xs_causes_reader.specs.Read.{IsNumberOf, IsReadIn}
+use Rattle.xs_causes_reader.proofs.CausesSpelled.{some_same}
 use Rattle.xs_causes_reader.proofs.Keyed.{or_assoc, among_append, among_texts}
 use Rattle.xs_causes_reader.proofs.ProgramNames.{program_has}
 
@@ -127,8 +128,9 @@ module _ (faults : List Fault) (w : ProgramTree) where
           told_at o (suc (length before)) (first_broken paths (with_texts taken (names_of_cause c)) (before ++ c ∷ []) cs) ≡ Some (rule, number) → Breaks before (c ∷ cs) rule number
       go None same more h = breaks_later before c cs rule number (sym same) (more h)
       go (Some r) same more h =
-          let is_rule : r ≡ rule = cc in
-          let is_number : number ≡ suc (length before) = cc in
+          let is = some_same (r, suc (length before)) (rule, number) h in
+          let is_rule : r ≡ rule = ap (λ z. z.0) is in
+          let is_number : number ≡ suc (length before) = sym (ap (λ z. z.1) is) in
           breaks_here before c cs rule number (sym same ∙ ap Some is_rule) is_number
 
   pub is_broken : (cs : List WrittenCause) (rule : CauseRule) (number : ℕ) → first_broken paths (taken_in w) [] cs ≡ Some (rule, number) → IsBrokenAt faults w cs rule number
@@ -147,7 +149,7 @@ module _ (faults : List Fault) (w : ProgramTree) where
       ∙ any_taken (with_texts (taken_in w) (flat_map names_of_cause cs)) cs (own_names 1 (length faults)) (taken_all cs)
 
   owns_of : (b : Bool) (rule : CauseRule) (number : ℕ) → owns_told b ≡ Some (rule, number) → (b ≡ true) × (rule ≡ name_taken) × (number ≡ 0)
-  owns_of true rule number e = let r : rule ≡ name_taken = cc in let n : number ≡ 0 = cc in (refl, r, n)
+  owns_of true rule number e = let is = some_same (name_taken, 0) (rule, number) e in (refl, sym (ap (λ z. z.0) is), sym (ap (λ z. z.1) is))
   owns_of false rule number e = cc
 
   pub owns_taken : (cs : List WrittenCause) (rule : CauseRule) (number : ℕ) → first_broken paths (taken_in w) [] cs ≡ None →

@@ -11,6 +11,7 @@ use Rattle.xs_weave_rules.specs.Keyed.{with_text, with_texts}
 use Rattle.xs_causes.specs.CausesText.{WrittenCause}
 use Rattle.xs_causes.specs.CauseRules.{CauseRule, hit_names, names_of_cause, own_names, same_path, is_path_among, has_double}
 use Rattle.xs_causes.specs.Staged.{hit_name, own_name, none_name, self_name}
+use Rattle.xs_causes_reader.specs.Read.{IsNumberOf}
 use Rattle.xs_causes_reader.specs.Broken.{is_any_among, broken_by, told_at, first_broken}
 use Rattle.xs_causes_reader.proofs.Keyed.{texts_more}
 use Rattle.xs_causes_reader.proofs.RuleLaws.{flat_append}
@@ -113,7 +114,7 @@ same_test false x y h = by (same_text x y) refl
   where
     by : (t : Bool) → same_text x y ≡ t → false ≡ t
     by false e = refl
-    by true e = sym (h.1 (same_text_equal x y e))
+    by true e = h.1 (same_text_equal x y e)
 
 -- the names of one fault more
 any_join : (taken xs ys : List Text) → is_any_among taken (xs ++ ys) ≡ (is_any_among taken xs || is_any_among taken ys)
@@ -188,3 +189,14 @@ pub get_place : {A : Type 0} (g : A → Path) (xs : List A) (i : ℕ) (x : A) �
 get_place g [] i x below is = absurd (omega (arith, below))
 get_place g (y ∷ xs) zero x below is = ap (λ z. Some (g z)) (sym is)
 get_place g (y ∷ xs) (suc i) x below is = get_place g xs i x (omega (arith, below)) is
+
+-- the number of a path that stands at a place
+pub is_number : (paths : List Path) (p q : Path) (i n : ℕ) → n ≡ i + 1 → same_path q p ≡ true → slice_get paths i ≡ Some q → IsNumberOf paths p n
+is_number paths p q i n is same got =
+    let before : n - 1 ≡ i = omega (arith, is) in
+    (omega (arith, is), ap (slice_get paths) before ∙ got ∙ ap Some (same_path_equal q p same))
+
+-- no rule, where none is told
+pub none_left : {A : Type 0} (o : Option A) → ((r : A) → o ≡ Some r → ⊥) → o ≡ None
+none_left None h = refl
+none_left (Some r) h = absurd (h r refl)

@@ -35,6 +35,11 @@ abbrev pub is_start : Stage → Bool
 is_start start = true
 is_start _ = false
 
+-- how reading ends where the lexemes do
+abbrev pub reading_at : Bool → Reading
+reading_at true = reading.Whole
+reading_at false = reading.Unfinished
+
 abbrev pub Goes : Option ReadSoFar → Type 0
 Goes o = (r : ReadSoFar) × (o ≡ Some r)
 

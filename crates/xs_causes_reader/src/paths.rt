@@ -3,7 +3,8 @@
 ghost use Rattle.std.specs.Prelude.{◌≡◌, not};
 ghost use Rattle.std.specs.List.{list_any};
 ghost use Rattle.xs_tree.specs.Texts.{same_text};
-ghost use Rattle.xs_causes_reader.specs.FaultPaths.{paths_of};
+ghost use Rattle.xs_scope.specs.declared.model.Fault.{Fault};
+ghost use Rattle.xs_causes_reader.specs.FaultPaths.{path_of, paths_of};
 ghost use Rattle.xs_causes.specs.CauseRules.{same_path, is_path_among, has_double as has_double_path};
 
 use xs_flat::Fault;
@@ -41,9 +42,15 @@ pub(crate) fn is_path_of(paths: &[NameList], path: &NameList) -> bool
 }
 
 /// Whether a path is a fault's name.
-#[tactic(auto, using(crate::proofs::PathLaws::any_map))]
 pub(crate) fn is_fault_name(faults: &[Fault], path: &NameList) -> bool
     ensures { result ≡ is_path_among (paths_of faults.now) path.now }
+{
+    has_path(faults, path)
+}
+
+/// Whether some fault has the name.
+fn has_path(faults: &[Fault], path: &NameList) -> bool
+    ensures { result ≡ list_any (λ (f : Fault). same_path (path_of f) path.now) faults.now }
 {
     faults
         .iter()

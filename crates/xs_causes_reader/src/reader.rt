@@ -9,7 +9,7 @@ ghost use Rattle.xs_parse.specs.Stops.{FaultMeans};
 ghost use Rattle.xs_causes.specs.CausesText.{WrittenCause, BytesSpellCauses};
 ghost use Rattle.xs_staging.specs.CauseOf.{cause_of};
 ghost use Rattle.xs_causes_reader.specs.CausesRead.{IsCauses};
-ghost use Rattle.xs_causes_reader.specs.ReadView.{written_trees, ReadsTo};
+ghost use Rattle.xs_causes_reader.specs.ReadView.{stage_of, is_start, reading_at, written_trees, ReadsTo};
 ghost use Rattle.xs_causes_reader.specs.Read.{IsReading, IsRefusal};
 
 use crate::fault::CauseFault;
@@ -43,9 +43,16 @@ fn read_through(
             None => return Ok(Reading::Stopped(i)),
         }
     }
+    Ok(ending(state))
+}
+
+/// How reading ends where the tokens do.
+fn ending(state: State) -> Reading
+    ensures { result ≡ reading_at (is_start (stage_of state)) }
+{
     match state {
-        State::Start => Ok(Reading::Whole),
-        _ => Ok(Reading::Unfinished),
+        State::Start => Reading::Whole,
+        _ => Reading::Unfinished,
     }
 }
 

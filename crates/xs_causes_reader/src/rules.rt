@@ -9,6 +9,7 @@ ghost use Rattle.xs_weave_rules.specs.Keyed.{with_texts};
 ghost use Rattle.xs_causes.specs.CauseRules.{names_of_cause};
 ghost use Rattle.xs_staging.specs.CauseOf.{cause_of};
 ghost use Rattle.xs_causes_reader.specs.FaultPaths.{paths_of};
+ghost use Rattle.xs_causes_reader.specs.declared.written.Written.{Written};
 ghost use Rattle.xs_causes_reader.specs.ReadView.{written_tree, written_trees};
 ghost use Rattle.xs_causes_reader.specs.Broken.{rule_of, bound_broken, broken_by, first_broken, are_owns_among, owns_told, Tells, TellsFirst, taken_in};
 ghost use Rattle.xs_causes_reader.specs.Read.{IsNumberOf, IsReadIn};
@@ -62,10 +63,11 @@ fn judge_causes(
     ensures told { IfErr result (λ fault. Tells fault (first_broken (paths_of faults.now) names.old [] (written_trees written.now))) }
 {
     for i in 0..written.len() {
-        if let Some(rule) = broken(alloc, faults, &written[..i], names, &written[i])? {
+        let cause = &written[i];
+        if let Some(rule) = broken(alloc, faults, &written[..i], names, cause)? {
             return Err(CauseFault::Broken(rule, number_of(i + 1)?));
         }
-        add_names(alloc, names, &cause_names(alloc, &written[i])?)?;
+        add_names(alloc, names, &cause_names(alloc, cause)?)?;
     }
     Ok(())
 }
@@ -125,9 +127,15 @@ fn broken_bound(
 }
 
 /// Whether a cause has the name.
-#[tactic(auto, using(crate::proofs::PathLaws::any_map))]
 fn has_cause(causes: &[Written], name: &Name) -> bool
     ensures { result ≡ list_any (λ b. same_text b.name name.now) (written_trees causes.now) }
+{
+    has_name(causes, name)
+}
+
+/// Whether some cause, as it is kept, has the name.
+fn has_name(causes: &[Written], name: &Name) -> bool
+    ensures { result ≡ list_any (λ (c : Written). same_text c.name name.now) causes.now }
 {
     causes.iter().any(|cause| has_text(&cause.name, name))
 }
@@ -204,7 +212,8 @@ fn fault_named(faults: &[Fault], name: &NameList) -> Result<u32, OutOfMemory>
 {
     for (place, fault) in faults.iter().enumerate() {
         if is_same_path(fault.name.parts(), name.as_slice()) {
-            return number_of(place + 1);
+            let number = number_of(place + 1)?;
+            return Ok(number);
         }
     }
     Err(OutOfMemory)
