@@ -164,7 +164,8 @@ fn analysed(
     panel: &mut Panel,
 ) -> Result<Analysis, OutOfMemory>
     requires { IsStagedEvent staged.now }
-    ensures { IfOk result (IsSearched (staged_in staged.now) (events_in staged.now) (flat_tree staged.now.loaded.top) depth (length (events_in staged.now))) }
+    ensures few { OnOk result (length staged.now.typed.model.symbols < 2 ^ 31) }
+    ensures searched { IfOk result (IsSearched (staged_in staged.now) (events_in staged.now) (flat_tree staged.now.loaded.top) depth (length (events_in staged.now))) }
 {
     if staged.typed.model().symbols.len() >= MOST_SYMBOLS {
         return Err(OutOfMemory);
