@@ -35,7 +35,7 @@ use Rattle.xs_trace_text.specs.Given.{GivesTrace}
 use Rattle.xs_trace_text.proofs.FlatNames.{flat_models_named}
 use Rattle.xs_trace_text.proofs.Named.{named_is_printable}
 use Rattle.xs_certificate.specs.Certificate.{Certificate}
-use Rattle.xs_certificate.specs.Accepted.{Subject, IsAccepted}
+use Rattle.xs_certificate.specs.Accepted.{Subject, IsAccepted as Accepts}
 use Rattle.xs_certified.specs.Certified.{IsSubjectOf, IsCertified}
 use Rattle.xs_subject.specs.Subject.{subject_of}
 use Rattle.xs_subject.proofs.Subjects.{subjects_right}
@@ -231,7 +231,7 @@ module _ (l : StagedEvent) (is : IsStagedEvent l) where
           one_each = checkable.one_each;
           accepted =
               subst
-              (λ whole. IsAccepted (List (List Value)) (GivesTrace (staged_in l)) (IsFlatTrace (staged_in l)) (ReachesTop (staged_in l) tree) (HasFailedNumber (staged_in l) (events_in l))
+              (λ whole. Accepts (List (List Value)) (GivesTrace (staged_in l)) (IsFlatTrace (staged_in l)) (ReachesTop (staged_in l) tree) (HasFailedNumber (staged_in l) (events_in l))
               (subject_of whole (staged_in l) (events_in l) tree) a)
               is.staged.full accepted;
         } in

@@ -78,13 +78,13 @@ pub record HoldsCauses (files : List NamedFile) (name : Text) (case : LoadedCase
   pub are : AreCausesOf case bytes causes
 
 -- The model with the causes of what was loaded, which keeps its names apart, and with the history of its events: both are typed.
-pub record IsStagedOf (case : LoadedCase) (causes : List CommonCause) (staged full : FlatModel) (events : List Mode) : Type 0 where
+pub record IsStagedOf (case : LoadedCase) (causes : List CommonCause) (staged kept : FlatModel) (es : List Mode) : Type 0 where
   pub names : AreNamed (flat_in case) (modes_in case) causes
   pub model : staged ≡ with_causes (flat_in case) (modes_in case) causes
-  pub events : events ≡ events_of (flat_in case) (modes_in case) causes
-  pub full : full ≡ with_history staged events
+  pub events : es ≡ events_of (flat_in case) (modes_in case) causes
+  pub full : kept ≡ with_history staged es
   pub typed : IsTyped staged
-  pub whole : IsTyped full
+  pub whole : IsTyped kept
 
 abbrev pub IsStagedCase : LoadedCase → StagedCase → Type 0
 IsStagedCase case l = IsStagedOf case (map cause_of l.causes) (model_tree l.typed.model) (model_tree l.full.model) (map mode_of l.events)

@@ -31,6 +31,7 @@ use xs_desk::{Desk, WriteStop, say_whole, write_whole};
 use xs_reach_words::{CheckCauses, FindCauses};
 use xs_report::{Ending, print_analysis};
 use xs_run::certificate::{accepted_report, line_stop, load_certificate};
+use xs_scope::items::number_of;
 use xs_value::{ByteList, OutOfMemory};
 
 /// A search gives each symbol a number below this. A model of three files within their limits has far fewer.
@@ -170,7 +171,7 @@ fn analysed(
     if staged.typed.model().symbols.len() >= MOST_SYMBOLS {
         return Err(OutOfMemory);
     }
-    let size = staged.events.len() as u32;
+    let size = number_of(staged.events.len())?;
     analyse(
         alloc,
         &staged.typed,

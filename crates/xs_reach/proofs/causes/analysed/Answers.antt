@@ -3,7 +3,7 @@ use Rattle.std.proofs.lemmas.List.{length-map}
 use Rattle.std.proofs.lemmas.Result.{IfOk-weaker}
 use Rattle.xs_scope.specs.ModelTree.{mode_of}
 use Rattle.xs_reach.specs.Causes.{staged_in, events_in}
-use Rattle.xs_reach.proofs.StagedLaws.{event_searchable, event_searched, few_events}
+use Rattle.xs_reach.proofs.StagedLaws.{event_searchable, event_searched}
 use Rattle.xs_reach.proofs.causes.analysed.Goals as goal
 
 pub analyse-requires-clause-searchable : goal.analyse-requires-clause-searchable
@@ -12,4 +12,8 @@ analyse-requires-clause-searchable g c =
     event_searchable c.args.staged.now c.requires few
 
 pub returns-clause-searched : goal.returns-clause-searched
-returns-clause-searched g c = ?
+returns-clause-searched g c =
+    let l = c.args.staged.now in
+    let few : length l.typed.model.symbols < 2 ^ 31 = search rules in
+    IfOk-weaker c.analyse.result _ _
+    (λ a answer. event_searched l c.requires few c.args.depth c.in_ok-size.size a (c.in_ok-size.ensures ∙ c.len-2.ensures ∙ sym (length-map l.events mode_of)) answer) c.analyse.ensures
