@@ -1,5 +1,5 @@
 -- From what the tests find out of models, values and top events to what the calls ask of them.
-use Rattle.std.proofs.Common.{arith, ◌≡◌, ℕ, zero, suc, ◌<◌, Bool, true, false, ◌&&◌, ◌||◌, IsTrue, List, [], ◌∷◌, All, length, map, Option, Some, refl, sym, ap, subst, ◌∙◌}
+use Rattle.std.proofs.Common.{arith, ◌≡◌, ℕ, zero, suc, ◌<◌, ◌^◌, Bool, true, false, ◌&&◌, ◌||◌, IsTrue, List, [], ◌∷◌, All, length, map, Option, Some, refl, sym, ap, subst, ◌∙◌}
 use Rattle.std.specs.Prelude.{slice_get}
 use Rattle.std.specs.List.{list_any, AllByRecursion}
 use Rattle.std.proofs.lemmas.Bool.{ltb-true}
@@ -48,6 +48,9 @@ members_by (x ∷ xs) h = (h.0, members_by xs h.1)
 pub each_has_member : (xs : List Variable) → All (λ x. HasMember (declared_tree x.declared)) xs → Each (λ x. HasMember x.declared) (map variable_tree xs)
 each_has_member xs h = members_by xs (recursion_from_All (λ x. HasMember (declared_tree x.declared)) xs h)
 
+pub many : (n : ℕ) → n < 1000 → n < 2 ^ 31
+many n h = omega (arith, h)
+
 -- Values that lie in their domains.
 some_at : {A : Type 0} (xs : List A) (i : ℕ) → i < length xs → (x : A) × (slice_get xs i ≡ Some x)
 some_at [] i h = absurd (omega (arith, h))
@@ -59,7 +62,6 @@ stands symbols are (truth b) k = refl
 stands symbols are (Num n) k = refl
 stands symbols are (Sym i) k =
     let at = some_at symbols i k in
-    let same : symbol_found symbols at.0 i at.1 ≡ symbol_found symbols at.0 i at.1 = refl in
     rw at.1 (refl, are.apart _ i at.0 (symbol_found symbols at.0 i at.1) at.1)
 
 numbered : (symbols : List Text) (v : Value) → IsKnownSymbol (length symbols) v → IsNumbered symbols v

@@ -1,5 +1,6 @@
 //! The lists of bad states over all patterns of bits, and the lists of one model that were worked out by hand.
-ghost use Rattle.std.specs.Prelude.{◌≡◌, ◌↔◌, false, IsTrue, IfOk, All};
+ghost use Rattle.std.specs.Prelude.{◌≡◌, ◌↔◌, false, true, IsTrue, IfOk, All, length};
+ghost use Rattle.xs_scope.specs.Closed.{is_closed, bounds_of};
 ghost use Rattle.xs_scope.specs.ModelTree.{model_tree, flat_tree, role_of};
 ghost use Rattle.xs_encoding.specs.Inputs.{is_input};
 ghost use Rattle.xs_encoding.specs.Encodable.{IsEncodable, IsFitTop};
@@ -11,12 +12,12 @@ use std::alloc::Global;
 use std::process::Abort;
 use std::test::Fail;
 use xs_encode::{bad_clauses, encode};
-use xs_flat::{Flat, Role, Variable, resolve_top};
+use xs_flat::{Flat, FlatFault, FlatModel, Role, Variable, resolve_top};
 use xs_lits::clause::ClauseList;
 use xs_parse::expression;
 use xs_tree::{Expr, Program};
-use xs_types::{Typed, check_top};
-use xs_value::{FaultSet, OutOfMemory, SetList};
+use xs_types::{TypeFault, Typed, check_top};
+use xs_value::{Dotted, FaultSet, OutOfMemory, SetList};
 
 /// A number and three switches, which are the history bits: of three bits by their variables, those of the number two.
 const SWITCHES: &[u8] =
@@ -36,18 +37,59 @@ struct Question<'a> {
     count: u32,
 }
 
-/// Whether a variable is of the state.
-fn is_of_state(role: Role) -> bool
-    ensures { IsTrue result → is_input (role_of role) ≡ false }
+/// Whether a variable is no input.
+fn is_no_input(role: Role) -> bool
+    ensures { IsTrue result ↔ (is_input (role_of role) ≡ false) }
 {
-    role == Role::State
+    !matches!(role, Role::Input)
 }
 
-/// Whether all variables are.
-fn are_of_state(variables: &[Variable]) -> bool
-    ensures { IsTrue result → All (λ x. is_input (role_of x.role) ≡ false) variables.now }
+/// Whether no variable is one.
+fn have_no_input(variables: &[Variable]) -> bool
+    ensures { IsTrue result ↔ All (λ x. is_input (role_of x.role) ≡ false) variables.now }
 {
-    variables.iter().all(|x| is_of_state(x.role))
+    variables.iter().all(|x| is_no_input(x.role))
+}
+
+/// Whether a model has neither inputs nor definitions.
+fn is_plain_model(m: &FlatModel) -> bool
+    ensures definitions { IsTrue result → (length m.now.definitions ≡ 0) }
+    ensures inputs { IsTrue result → All (λ x. is_input (role_of x.role) ≡ false) m.now.variables }
+{
+    m.definitions.is_empty() && have_no_input(m.variables.as_slice())
+}
+
+/// The same of a typed model.
+fn is_plain(t: &Typed) -> bool
+    ensures definitions { IsTrue result → (length t.now.model.definitions ≡ 0) }
+    ensures inputs { IsTrue result → All (λ x. is_input (role_of x.role) ≡ false) t.now.model.variables }
+{
+    is_plain_model(t.model())
+}
+
+/// A top event over the numbers of a model's names.
+fn resolved(
+    alloc: Global,
+    p: &Program,
+    t: &Typed,
+    read: &Expr<Dotted>,
+) -> Result<Expr<Flat>, FlatFault>
+    ensures { IfOk result (λ top. is_closed (bounds_of t.now.model) top ≡ true) }
+{
+    resolve_top(alloc, p, t.model(), read)
+}
+
+/// A top event that breaks no rule.
+fn judged(t: &Typed, top: Expr<Flat>) -> Result<Expr<Flat>, TypeFault>
+    requires closed { is_closed (bounds_of t.now.model) top ≡ true }
+    requires definitions { length t.now.model.definitions ≡ 0 }
+    requires inputs { All (λ x. is_input (role_of x.role) ≡ false) t.now.model.variables }
+    ensures { IfOk result (λ made. IsFitTop (model_tree t.now.model) (flat_tree made)) }
+{
+    match check_top(t, &top) {
+        Ok(()) => Ok(top),
+        Err(fault) => Err(fault),
+    }
 }
 
 /// The top event of a text, over a model without inputs and definitions.
@@ -61,11 +103,10 @@ fn top_of(
     ensures { IfOk result (λ top. IsFitTop (model_tree t.now.model) (flat_tree top)) }
 {
     assert!(rt; text.len() < 1000);
-    assert!(rt; t.model().definitions.is_empty());
-    assert!(rt; are_of_state(t.model().variables.as_slice()));
     let read = expression(alloc, text)?;
-    let top = resolve_top(alloc, p, t.model(), &read)?;
-    check_top(t, &top)?;
+    let made = resolved(alloc, p, t, &read)?;
+    assert!(rt; is_plain(t));
+    let top = judged(t, made)?;
     Ok(top)
 }
 

@@ -1,6 +1,8 @@
 //! The typed models of texts, and the moments that patterns of bits stand for.
 ghost use Rattle.std.specs.Prelude.{◌<◌, ◌↔◌, IsTrue, IfOk, IfSome, All, length};
-ghost use Rattle.xs_tree.specs.ProgramTree.{declared_tree};
+ghost use Rattle.xs_tree.specs.ProgramTree.{declared_tree, program_tree};
+ghost use Rattle.xs_flattening.specs.Rules.{IsAccepted};
+ghost use Rattle.xs_flattening.specs.Model.{IsFlatOf};
 ghost use Rattle.xs_scope.specs.ModelTree.{model_tree};
 ghost use Rattle.xs_encoding.specs.Encodable.{IsEncodable};
 ghost use Rattle.xs_encoding.specs.Laws.{HasMember};
@@ -10,9 +12,8 @@ ghost use Rattle.xs_encode_rows.specs.Values.{HasAt, IsKnownSymbol};
 use std::alloc::Global;
 use std::process::Abort;
 use std::test::Fail;
-use xs_encoding::flat_models_are_encodable;
-use xs_eval::{Table, fill, flat_models_are_evaluable, holds_first, holds_step};
-use xs_flat::{Variable, flatten};
+use xs_eval::{Table, fill, holds_first, holds_step};
+use xs_flat::{FlatModel, Variable, flatten};
 use xs_parse::program;
 use xs_tree::{Declared, Program};
 use xs_types::{Typed, check_model};
@@ -89,16 +90,25 @@ fn have_members(variables: &[Variable]) -> bool
     variables.iter().all(|x| has_member(&x.declared))
 }
 
+/// The flat model of a program, with few symbols and no empty type.
+fn flat_of(rt: &impl Abort, alloc: Global, p: &Program) -> Result<FlatModel, Fail>
+    ensures accepted { IfOk result (λ m. IsAccepted (program_tree p.now)) }
+    ensures flat { IfOk result (λ m. IsFlatOf (program_tree p.now) (model_tree m)) }
+    ensures few { IfOk result (λ m. length m.symbols < 1000) }
+    ensures members { IfOk result (λ m. All (λ x. HasMember (declared_tree x.declared)) m.variables) }
+{
+    let model = flatten(alloc, p)?;
+    assert!(rt; model.symbols.len() < 1000);
+    assert!(rt; have_members(model.variables.as_slice()));
+    Ok(model)
+}
+
 /// The typed model of a program.
 pub fn typed_of(rt: &impl Abort, alloc: Global, p: &Program) -> Result<Typed, Fail>
     ensures encodable { IfOk result (λ t. IsEncodable (model_tree t.model)) }
     ensures evaluable { IfOk result (λ t. IsEvaluable (model_tree t.model)) }
 {
-    flat_models_are_encodable();
-    flat_models_are_evaluable();
-    let model = flatten(alloc, p)?;
-    assert!(rt; model.symbols.len() < 1000);
-    assert!(rt; have_members(model.variables.as_slice()));
+    let model = flat_of(rt, alloc, p)?;
     let typed = check_model(alloc, model)?;
     Ok(typed)
 }
