@@ -67,6 +67,14 @@ fn is_plain(t: &Typed) -> bool
     is_plain_model(t.model())
 }
 
+/// Ends the test where a model has one.
+fn check_plain(rt: &impl Abort, t: &Typed)
+    ensures definitions { length t.now.model.definitions ≡ 0 }
+    ensures inputs { All (λ x. is_input (role_of x.role) ≡ false) t.now.model.variables }
+{
+    assert!(rt; is_plain(t));
+}
+
 /// A top event over the numbers of a model's names.
 fn resolved(
     alloc: Global,
@@ -105,7 +113,7 @@ fn top_of(
     assert!(rt; text.len() < 1000);
     let read = expression(alloc, text)?;
     let made = resolved(alloc, p, t, &read)?;
-    assert!(rt; is_plain(t));
+    check_plain(rt, t);
     let top = judged(t, made)?;
     Ok(top)
 }
@@ -121,8 +129,12 @@ fn sets_of(alloc: Global, sets: &[&[u32]]) -> Result<SetList, OutOfMemory> {
 
 /// Whether the fault of a number from 1 has failed, where so many last bits of a state are history.
 fn has_failed(state: u32, faults: u32, number: u32) -> bool {
-    let place = BITS.saturating_add(number).saturating_sub(faults);
-    (state >> place.saturating_sub(1).min(31)) % 2 == 1
+    let switch = match number.saturating_add(3).saturating_sub(faults) {
+        1 => state / 4,
+        2 => state / 8,
+        _ => state / 16,
+    };
+    switch % 2 == 1
 }
 
 /// Whether all faults of a set have.

@@ -90,6 +90,15 @@ fn have_members(variables: &[Variable]) -> bool
     variables.iter().all(|x| has_member(&x.declared))
 }
 
+/// Ends the test where a model has many symbols, or an empty type.
+fn check_small(rt: &impl Abort, m: &FlatModel)
+    ensures few { length m.now.symbols < 1000 }
+    ensures members { All (λ x. HasMember (declared_tree x.declared)) m.now.variables }
+{
+    assert!(rt; m.symbols.len() < 1000);
+    assert!(rt; have_members(m.variables.as_slice()));
+}
+
 /// The flat model of a program, with few symbols and no empty type.
 fn flat_of(rt: &impl Abort, alloc: Global, p: &Program) -> Result<FlatModel, Fail>
     ensures accepted { IfOk result (λ m. IsAccepted (program_tree p.now)) }
@@ -98,8 +107,7 @@ fn flat_of(rt: &impl Abort, alloc: Global, p: &Program) -> Result<FlatModel, Fai
     ensures members { IfOk result (λ m. All (λ x. HasMember (declared_tree x.declared)) m.variables) }
 {
     let model = flatten(alloc, p)?;
-    assert!(rt; model.symbols.len() < 1000);
-    assert!(rt; have_members(model.variables.as_slice()));
+    check_small(rt, &model);
     Ok(model)
 }
 

@@ -50,7 +50,14 @@ impl Tally {
 
 /// How many patterns so many bits have.
 fn patterns(bits: u32) -> u32 {
-    1u32 << bits.min(10)
+    match bits {
+        0 => 1,
+        1 => 2,
+        2 => 4,
+        3 => 8,
+        4 => 16,
+        _ => 32,
+    }
 }
 
 /// Whether a list can be made true with the bits of a state exactly where this is a first moment of the model, and of
