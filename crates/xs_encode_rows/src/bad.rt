@@ -139,24 +139,37 @@ fn has_failed(state: u32, faults: u32, number: u32) -> bool {
 
 /// Whether all faults of a set have.
 fn has_failed_whole(state: u32, faults: u32, set: &[u32]) -> bool {
-    set.iter().all(|number| has_failed(state, faults, *number))
+    for number in set {
+        if !has_failed(state, faults, *number) {
+            return false;
+        }
+    }
+    true
+}
+
+/// Whether all faults of some listed set have.
+fn has_failed_some(state: u32, q: &Question<'_>) -> bool {
+    for set in q.listed {
+        if has_failed_whole(state, q.faults, set) {
+            return true;
+        }
+    }
+    false
+}
+
+/// How many faults have failed.
+fn failed_in(state: u32, faults: u32) -> u32 {
+    let mut failed: u32 = 0;
+    for before in 0..faults {
+        let has = has_failed(state, faults, before.saturating_add(1));
+        failed = failed.saturating_add(u32::from(has));
+    }
+    failed
 }
 
 /// Whether a state is within the size, and has failed none of the listed sets whole.
 fn is_open(state: u32, q: &Question<'_>) -> bool {
-    let mut failed: u32 = 0;
-    for number in 0..q.faults {
-        failed = failed.saturating_add(u32::from(has_failed(
-            state,
-            q.faults,
-            number.saturating_add(1),
-        )));
-    }
-    failed <= q.size
-        && !q
-            .listed
-            .iter()
-            .any(|set| has_failed_whole(state, q.faults, set))
+    failed_in(state, q.faults) <= q.size && !has_failed_some(state, q)
 }
 
 /// Whether a list can be made true with the bits of a state exactly where this is a first moment of the model with the
@@ -189,16 +202,34 @@ fn has_bad_states(
 }
 
 /// Whether the list of a question means its bad states.
+fn has_list(
+    rt: &impl Abort,
+    alloc: Global,
+    t: &Typed,
+    event: &Typed,
+    top: &Expr<Flat>,
+    q: &Question<'_>,
+) -> Result<bool, OutOfMemory>
+    requires encodable { IsEncodable (model_tree t.now.model) }
+    requires top { IsFitTop (model_tree t.now.model) (flat_tree top.now) }
+    requires encodable_event { IsEncodable (model_tree event.now.model) }
+    requires evaluable_event { IsEvaluable (model_tree event.now.model) }
+{
+    let listed = sets_of(alloc, q.listed)?;
+    assert!(rt; q.faults as usize <= t.model().variables.len());
+    let list = bad_clauses(alloc, t, top, &listed, q.faults, q.size)?;
+    has_bad_states(rt, alloc, event, q, &list)
+}
+
+/// Whether the model of a question, with its top event, does.
 fn is_right(rt: &impl Abort, alloc: Global, q: &Question<'_>) -> Result<bool, Fail> {
     let p = program_of(rt, alloc, &[SWITCHES])?;
     let t = typed_of(rt, alloc, &p)?;
+    let top = top_of(rt, alloc, &p, &t, q.top)?;
     let with_event = program_of(rt, alloc, &[SWITCHES, b" INVAR ", q.top])?;
     let event = typed_of(rt, alloc, &with_event)?;
-    let top = top_of(rt, alloc, &p, &t, q.top)?;
-    let listed = sets_of(alloc, q.listed)?;
-    assert!(rt; q.faults as usize <= t.model().variables.len());
-    let list = bad_clauses(alloc, &t, &top, &listed, q.faults, q.size)?;
-    Ok(has_bad_states(rt, alloc, &event, q, &list)?)
+    let right = has_list(rt, alloc, &t, &event, &top, q)?;
+    Ok(right)
 }
 
 /// The number of the first question whose list does not, or None.

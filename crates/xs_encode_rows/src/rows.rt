@@ -11,6 +11,7 @@ use std::test::Fail;
 use xs_encode::encode;
 use xs_lits::clause::ClauseList;
 use xs_lits::lit::Lit;
+use xs_system::System;
 use xs_types::Typed;
 use xs_value::OutOfMemory;
 
@@ -159,20 +160,59 @@ fn has_steps(
     Ok(tally.is(count))
 }
 
+/// Whether the lists of states and of first states mean these models.
+fn have_states(
+    rt: &impl Abort,
+    alloc: Global,
+    models: (&Typed, &Typed),
+    row: &Row<'_>,
+    lists: &System,
+) -> Result<bool, OutOfMemory>
+    requires encodable { IsEncodable (model_tree models.0.now.model) }
+    requires evaluable { IsEvaluable (model_tree models.0.now.model) }
+    requires encodable_still { IsEncodable (model_tree models.1.now.model) }
+    requires evaluable_still { IsEvaluable (model_tree models.1.now.model) }
+{
+    let (whole, still) = models;
+    let right = has_firsts(rt, alloc, still, row, &lists.state, row.counts[0])?;
+    if !right {
+        return Ok(false);
+    }
+    has_firsts(rt, alloc, whole, row, &lists.first, row.counts[1])
+}
+
+/// Whether all lists do.
+fn have_lists(
+    rt: &impl Abort,
+    alloc: Global,
+    whole: &Typed,
+    still: &Typed,
+    row: &Row<'_>,
+) -> Result<bool, OutOfMemory>
+    requires encodable { IsEncodable (model_tree whole.now.model) }
+    requires evaluable { IsEvaluable (model_tree whole.now.model) }
+    requires encodable_still { IsEncodable (model_tree still.now.model) }
+    requires evaluable_still { IsEvaluable (model_tree still.now.model) }
+{
+    let lists = encode(alloc, whole)?;
+    if lists.state_bits != row.bits || lists.input_bits != row.inputs {
+        return Ok(false);
+    }
+    let right = have_states(rt, alloc, (whole, still), row, &lists)?;
+    if !right {
+        return Ok(false);
+    }
+    has_steps(rt, alloc, (whole, still), row, &lists.step, row.counts[2])
+}
+
 /// Whether the lists of a row's model mean it.
 fn is_right(rt: &impl Abort, alloc: Global, row: &Row<'_>) -> Result<bool, Fail> {
-    let whole = typed_of(rt, alloc, &program_of(rt, alloc, &[row.still, row.moves])?)?;
-    let still = typed_of(rt, alloc, &program_of(rt, alloc, &[row.still])?)?;
-    let lists = encode(alloc, &whole)?;
-    let [states, firsts, steps] = row.counts;
-    let models = (&whole, &still);
-    Ok(
-        lists.state_bits == row.bits
-            && lists.input_bits == row.inputs
-            && has_firsts(rt, alloc, &still, row, &lists.state, states)?
-            && has_firsts(rt, alloc, &whole, row, &lists.first, firsts)?
-            && has_steps(rt, alloc, models, row, &lists.step, steps)?,
-    )
+    let p = program_of(rt, alloc, &[row.still, row.moves])?;
+    let whole = typed_of(rt, alloc, &p)?;
+    let q = program_of(rt, alloc, &[row.still])?;
+    let still = typed_of(rt, alloc, &q)?;
+    let right = have_lists(rt, alloc, &whole, &still, row)?;
+    Ok(right)
 }
 
 /// The number of the first row whose lists do not, or None.
