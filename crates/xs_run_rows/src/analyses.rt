@@ -2,7 +2,7 @@
 // are free.
 
 use std::alloc::Global;
-use xs_adviser::{Adviser, InOrder};
+use xs_adviser::{Active, Adviser, CodeList, InOrder, Scripted};
 use xs_desk::{FailList, FileList, MemoryDesk, NamedFile};
 use xs_run::run::run;
 use xs_value::OutOfMemory;
@@ -249,5 +249,55 @@ fn tables_and_generated_cases_are_said(rt: HostRuntime) -> Result<(), OutOfMemor
     let desk = desk_of(alloc, PAIR, BOTH, b"")?;
     let summary: &[u8] = b"stages 3 variables 9 faults 3 bits 12 sets 2 complete\n";
     assert!(rt; says(alloc, desk, &make, 0, summary));
+    Ok(())
+}
+
+/// Whether the analysis of the pair ends as it does with every adviser.
+fn finds_the_same(alloc: Global, advisers: Vec<Box<dyn Adviser>>) -> Result<bool, OutOfMemory> {
+    let words = [
+        "analyse",
+        "--model",
+        "m",
+        "--faults",
+        "f",
+        "--top",
+        "a & b | n = 3",
+        "--depth",
+        "2050",
+        "--extended",
+        "x",
+        "--cert",
+        "c",
+    ];
+    let mut desk = desk_of(alloc, PAIR, BOTH, b"")?;
+    let status = run(alloc, &words, &mut desk, advisers);
+    let said = desk.said();
+    Ok(
+        status.number() == 0
+            && said.starts_with(b"faults 2\nfault 1 A.on\nfault 2 B.on\nsets 1\nset 1\ntrace 1\n")
+            && said.ends_with(b"complete\n"),
+    )
+}
+
+/// An adviser that picks a small number, it again, and one beyond all.
+fn picking(alloc: Global) -> Result<Scripted, OutOfMemory> {
+    let mut codes = CodeList::new(alloc);
+    codes.push(7)?;
+    codes.push(7)?;
+    codes.push(4_000_000_000)?;
+    Ok(Scripted::new(codes))
+}
+
+#[test]
+fn every_adviser_serves(rt: HostRuntime) -> Result<(), OutOfMemory> {
+    let alloc = rt.alloc();
+    let mut one: Vec<Box<dyn Adviser>> = Vec::new(alloc);
+    one.push(Box::new(alloc, picking(alloc)?)?)?;
+    assert!(rt; finds_the_same(alloc, one)?);
+    let mut two: Vec<Box<dyn Adviser>> = Vec::new(alloc);
+    two.push(Box::new(alloc, InOrder::new())?)?;
+    two.push(Box::new(alloc, Active::new(alloc))?)?;
+    assert!(rt; finds_the_same(alloc, two)?);
+    assert!(rt; finds_the_same(alloc, Vec::new(alloc))?);
     Ok(())
 }
