@@ -36,11 +36,9 @@ fn main(rt: HostRuntime) -> ExitCode {
     let number = match env::args(&rt) {
         Ok(args) => match args.skip(1).collect::<Vec<String>>(alloc) {
             Ok(words) => number_of(rt, alloc, &words),
-            Err(AllocError) => exit_number(Status::Memory.number()),
+            Err(AllocError) => exit_number(&Status::Memory),
         },
-        Err(error) if error.kind() == ErrorKind::OutOfMemory => {
-            exit_number(Status::Memory.number())
-        }
+        Err(error) if error.kind() == ErrorKind::OutOfMemory => exit_number(&Status::Memory),
         Err(_) => NOT_TEXT,
     };
     ExitCode::from(number)
@@ -54,26 +52,28 @@ fn number_of(rt: HostRuntime, alloc: Global, words: &[String]) -> u8 {
         .collect::<Vec<&str>>(alloc)
     {
         Ok(words) => match advised(rt, alloc, &words) {
-            Ok(number) => exit_number(number),
-            Err(OutOfMemory) => exit_number(Status::Memory.number()),
+            Ok(number) => number,
+            Err(OutOfMemory) => exit_number(&Status::Memory),
         },
-        Err(AllocError) => exit_number(Status::Memory.number()),
+        Err(AllocError) => exit_number(&Status::Memory),
     }
 }
 
 /// The number of a run that two advisers serve: one in the order of the variables, one by how often clauses failed.
-fn advised(rt: HostRuntime, alloc: Global, words: &[&str]) -> Result<i32, OutOfMemory> {
+fn advised(rt: HostRuntime, alloc: Global, words: &[&str]) -> Result<u8, OutOfMemory> {
     let mut advisers: Vec<Box<dyn Adviser>> = Vec::new(alloc);
     advisers.push(Box::new(alloc, InOrder::new())?)?;
     advisers.push(Box::new(alloc, Active::new(alloc))?)?;
     let mut desk = RealDesk::new(rt);
     if is_reach(words) {
-        return Ok(reach::run(alloc, words, &mut desk, advisers).number());
+        let status = reach::run(alloc, words, &mut desk, advisers);
+        return Ok(status.number() as u8);
     }
-    Ok(run(alloc, words, &mut desk, advisers).number())
+    let status = run(alloc, words, &mut desk, advisers);
+    Ok(exit_number(&status))
 }
 
 /// The number of a status, as the system takes it.
-fn exit_number(number: i32) -> u8 {
-    number as u8
+fn exit_number(status: &Status) -> u8 {
+    status.number() as u8
 }
