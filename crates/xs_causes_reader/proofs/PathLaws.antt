@@ -23,10 +23,6 @@ pub same_next : (x y : Path) (i : ℕ) (a b : List ℕ) → i < length x → i <
     same_path (drop i x) (drop i y) ≡ (same_text (get_or x i a) (get_or y i b) && same_path (drop (i + 1) x) (drop (i + 1) y))
 same_next x y i a b h g = (λ k. same_path (drop_more x i a h k) (drop_more y i b g k))
 
-pub both_done : (x y : Path) (i : ℕ) → length x ≤ i → length x ≡ length y → same_path (drop i x) (drop i y) ≡ true
-both_done x y i h e =
-    (λ k. same_path (drop_all i x h k) (drop_all i y (omega (arith, h, e)) k))
-
 -- one path more
 pub double_next : (ps : List Path) (i : ℕ) (d : Path) → i < length ps → has_double (drop i ps) ≡ (is_path_among (drop (i + 1) ps) (get_or ps i d) || has_double (drop (i + 1) ps))
 double_next ps i d h = ap has_double (drop_more ps i d h)

@@ -56,10 +56,3 @@ module _ (faults : List Fault) (w : ProgramTree) (bytes : List ℕ) (written : L
         (subst (λ n. TellsFirst fault (first_broken (map fault_path woven) (taken_in w) [] written) (are_owns_among (all_taken w written) n)) (counted woven named)
         (subst (λ ps. TellsFirst fault (first_broken ps (taken_in w) [] written) (are_owns_among (all_taken w written) (length faults))) named told));
   }
-
--- bytes that spell no causes
-pub no_causes : (faults : List Fault) (w : ProgramTree) (bytes : List ℕ) (fault : ParseFault) → FaultMeans IsCauses ⊥ bytes fault → IsRefusal faults w bytes (f.Parse fault)
-no_causes faults w bytes fault means = record { of_each = λ woven named. means }
-
-pub no_memory : (faults : List Fault) (w : ProgramTree) (bytes : List ℕ) → IsRefusal faults w bytes f.OutOfMemory
-no_memory faults w bytes = record { of_each = λ woven named. tt }

@@ -101,12 +101,6 @@ hits_more x names names' all ps i d below pushed rest =
     ∙ ap (λ k. names ++ hit_name x (i + 1) ∷ hit_names x k (drop (i + 1) ps)) one
     ∙ sym (ap (λ qs. names ++ hit_names x (i + 1) qs) (drop_more ps i d below)) ∙ rest
 
--- one text more
-pub texts_on : (taken taken' all : List Text) (names : List Text) (i : ℕ) (x : Text) → i < length names → x ≡ get_or names i x → taken' ≡ with_text taken x → with_texts taken (drop i names) ≡ all →
-    with_texts taken' (drop (i + 1) names) ≡ all
-texts_on taken taken' all names i x below is step rest =
-    ap (λ t. with_texts t (drop (i + 1) names)) (step ∙ ap (with_text taken) is) ∙ sym (ap (with_texts taken) (drop_more names i x below)) ∙ rest
-
 -- whether texts are the same
 pub same_test : (b : Bool) (x y : Text) → (IsTrue b ↔ (x ≡ y)) → b ≡ same_text x y
 same_test true x y h = sym (ap (λ z. same_text z y) (h.0 refl) ∙ same_text_refl y)
@@ -133,10 +127,6 @@ owns_opened taken i faults below =
     ap (λ n. is_any_among taken (own_names (i + 1) n)) more
     ∙ ap (λ k. is_any_among taken (own_name (i + 1) ∷ none_name (i + 1) ∷ self_name (i + 1) ∷ own_names k (faults - (i + 1)))) one
     ∙ any_join taken (own_name (i + 1) ∷ none_name (i + 1) ∷ self_name (i + 1) ∷ []) (own_names (i + 1 + 1) (faults - (i + 1)))
-
-pub owns_here : (taken : List Text) (i faults : ℕ) (all : Bool) → i < faults → is_any_among taken (own_names (i + 1) 1) ≡ true → is_any_among taken (own_names (i + 1) (faults - i)) ≡ all → all ≡ true
-owns_here taken i faults all below here rest =
-    sym rest ∙ owns_opened taken i faults below ∙ ap (λ b. b || is_any_among taken (own_names (i + 1 + 1) (faults - (i + 1)))) here
 
 pub owns_later : (taken : List Text) (i faults : ℕ) (all : Bool) → i < faults → is_any_among taken (own_names (i + 1) 1) ≡ false → is_any_among taken (own_names (i + 1) (faults - i)) ≡ all →
     is_any_among taken (own_names (i + 1 + 1) (faults - (i + 1))) ≡ all

@@ -48,9 +48,6 @@ begins_highest cs = let h : 1 ≤ highest cs = at_least_one_of cs in omega (arit
 pub ends_highest : (most whole : ℕ) → 1 ≤ most → max most 1 ≡ whole → most ≡ whole
 ends_highest most whole low e = omega (arith, low, e)
 
-pub goes_on_highest : (most here rest whole : ℕ) → max most (max here rest) ≡ whole → max (max most here) rest ≡ whole
-goes_on_highest most here rest whole e = omega (arith, e)
-
 -- One goal further.
 module _ (givens goals : List (List Literal)) (place : ℕ) (goal : List Literal) (store : StoreValue) (done : List Step) (low : highest givens < 2 ^ 62) (follow : All (FollowsFrom givens) goals) (apart : All HasNoOpposites goals)
     (at : slice_get goals place ≡ Some goal) (way : IsPartWay givens store done (take place goals)) where

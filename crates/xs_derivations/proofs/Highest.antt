@@ -48,20 +48,9 @@ begin cs = from_one (highest cs) (least cs)
 grouped : (a b c : ℕ) → max (max a b) c ≡ max a (max b c)
 grouped a b c = omega arith
 
-pub more_in : (most : ℕ) (ls : List Literal) (i : ℕ) (d : Literal) → i < length ls → d ≡ get_or ls i d → max (max most d.var) (highest_in (drop (i + 1) ls)) ≡ max most (highest_in (drop i ls))
-more_in most ls i d l e =
-    grouped most d.var (highest_in (drop (i + 1) ls)) ∙ ap (λ xs. max most (highest_in xs)) (sym (drop_more ls i d l ∙ ap (λ x. x ∷ drop (i + 1) ls) (sym e)))
-
-pub more : (most : ℕ) (cs : List (List Literal)) (i : ℕ) (d : List Literal) → i < length cs → d ≡ get_or cs i d → max (max most (highest_in d)) (highest (drop (i + 1) cs)) ≡ max most (highest (drop i cs))
-more most cs i d l e =
-    grouped most (highest_in d) (highest (drop (i + 1) cs)) ∙ ap (λ xs. max most (highest xs)) (sym (drop_more cs i d l ∙ ap (λ x. x ∷ drop (i + 1) cs) (sym e)))
-
 -- nothing is left
 to_one : (n : ℕ) → 1 ≤ n → max n 1 ≡ n
 to_one n h = omega (arith, h)
-
-pub end_in : (most : ℕ) (ls : List Literal) (i : ℕ) → length ls ≤ i → 1 ≤ most → max most (highest_in (drop i ls)) ≡ most
-end_in most ls i l h = ap (λ xs. max most (highest_in xs)) (drop_all i ls l) ∙ to_one most h
 
 pub end : (most : ℕ) (cs : List (List Literal)) (i : ℕ) → length cs ≤ i → 1 ≤ most → max most (highest (drop i cs)) ≡ most
 end most cs i l h = ap (λ xs. max most (highest xs)) (drop_all i cs l) ∙ to_one most h

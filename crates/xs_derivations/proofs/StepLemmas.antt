@@ -40,10 +40,6 @@ module _ {A : Type 0} (d : Derivation) (s : Step) (can : CanTake d s.clause) (r 
   breaks (BadHint n) e = hint its_literals (λ good. good n ((bad n).0 e))
   breaks NoConflict e = no_false its_literals (λ n f. differ n e ((bad n).1 f)) (λ closed. closed (opened.0 e))
 
--- only the highest variable and the clauses count
-pub same_step : (d e : Derivation) (s : Step) (new : Derivation) (o : Option ℕ) → e.vars ≡ d.vars → e.clauses ≡ d.clauses → FindsStep e.vars e.clauses s new o → FindsStep d.vars d.clauses s new o
-same_step d e s new o p q h = subst (λ v. FindsStep v d.clauses s new o) p (subst (λ k. FindsStep e.vars k s new o) q h)
-
 -- what can't be taken where there is room has other literals
 pub no_room : (d e : Derivation) (s : Step) → e.vars ≡ d.vars → 1 ≤ e.spare_clauses → length s.clause ≤ e.spare_lits → (CanTake e s.clause → ⊥) → BreaksStep d.vars d.clauses s 8
 no_room d e s p room lits cannot =

@@ -23,18 +23,9 @@ literals_next es made l e i n whole below at is before =
     ∙ sym (ap (λ k. made ++ map (literal_of es) (range_with_len i k)) size)
     ∙ before
 
-pub literals_end : (es : List Signal) (made : List Literal) (i n : ℕ) (whole : List Literal) → n ≤ i → made ++ map (literal_of es) (range_with_len i (n - i)) ≡ whole → made ≡ whole
-literals_end es made i n whole past before =
-    let none : n - i ≡ 0 = omega (arith, past) in
-    sym (append-nil made) ∙ sym (ap (λ k. made ++ map (literal_of es) (range_with_len i k)) none) ∙ before
-
 pub below_end : (n : ℕ) (w : List Literal) (l : Literal) → AllBelow n w → IsBelow n l → AllBelow n (w ++ l ∷ [])
 below_end n [] l h k = (k, tt)
 below_end n (x ∷ w) l h k = (h.0, below_end n w l h.1 k)
-
--- two numbers below a limit have no great product
-pub product_small : (a b n : ℕ) → a ≤ n → b ≤ n → a * b ≤ n * n
-product_small a b n h k = mul-le-mul h k
 
 -- the counters of more literals than the size
 pub few_is : (bits : List Literal) (size : ℕ) (s t u : Circuit) (l : Literal) → size < length bits → at_most_gates bits size s ≡ (t, l) → u ≡ record { clauses = t.clauses ++ (l ∷ []) ∷ []; free = t.free } → size_gates bits size s ≡ u

@@ -23,15 +23,6 @@ copied_later c s t h k = record { variables = usable_later s t h c.variables k.v
 pub builds_then : (s t u r q : Circuit) (f : Circuit → Circuit) → Builds s r t → Builds t (f t) u → q ≡ f r → Builds s q u
 builds_then s t u r q f a b e = record { exact = e ∙ ap f a.exact ∙ b.exact; grows = omega (arith, a.grows, b.grows) }
 
-pub placed_later : (m : FlatModel) (s t : Circuit) (p q : ℕ) → s.free ≤ t.free → IsPlaced m s p q → IsPlaced m t p q
-placed_later m s t p q h k = record { state = omega (arith, h, k.state); inputs = omega (arith, h, k.inputs) }
-
-pub placed_now : (m : FlatModel) (s : Circuit) (p q : ℕ) → gates_place m ≤ s.free → p ≡ 2 → q ≡ input_place m → IsPlaced m s p q
-placed_now m s p q h e f = record { state = omega (arith, h, e); inputs = omega (arith, h, f) }
-
-pub placed_next : (m : FlatModel) (s : Circuit) (p q : ℕ) → gates_place m ≤ s.free → p ≡ next_place m → q ≡ input_place m → IsPlaced m s p q
-placed_next m s p q h e f = record { state = omega (arith, h, e); inputs = omega (arith, h, f) }
-
 -- the bits of a copy may be used
 pub variables_usable : (m : FlatModel) → IsEncodable m → (s : Circuit) (p q : ℕ) → HasTruth s → 1 < s.free → IsPlaced m s p q → (es : List Signal) → es ≡ variable_signals m.symbols p q m.variables → Each (IsSignal s) es
 variables_usable m is s p q truth least placed es e =

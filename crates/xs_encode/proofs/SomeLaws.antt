@@ -10,10 +10,6 @@ use Rattle.xs_signals.specs.Built.{BuildsLiteral}
 use Rattle.xs_encode.specs.Domains.{some_gates, asserted_literal}
 use Rattle.xs_encode.specs.Copies.{Builds}
 
--- what is left of a list begins with the next item
-pub rest_more : {A : Type 0} (xs : List A) (i : ℕ) (x : A) → i < length xs → x ≡ get_or xs i x → drop i xs ≡ x ∷ drop (i + 1) xs
-rest_more xs i x h is = drop_more xs i x h ∙ ap (λ y. y ∷ drop (i + 1) xs) (sym is)
-
 module _ {X : Type 0} (f : X → List Literal) (e : Signal) (xs : List X) where
   pub some_next : (i : ℕ) (d : X) (w : List Literal) (found made : Literal) (g t : Circuit) (whole : Circuit × Literal) → i < length xs → w ≡ f (get_or xs i d)
       → BuildsLiteral g (after (same_gates e (word w) g) (λ y u. or_gate found y u)) t made → some_gates e (map f (drop i xs)) found g ≡ whole

@@ -21,8 +21,8 @@ use Rattle.xs_scope.specs.declared.walk.Meaning.{Meaning as Found}
 use Rattle.xs_scope.specs.declared.walk.Meaning.TheVariants as found
 use Rattle.xs_scope.specs.declared.names.Scene.{Scene}
 use Rattle.xs_scope.specs.declared.needs.Needs.{Needs}
-use Rattle.xs_flat.specs.declared.build.Asked.{Asked}
-use Rattle.xs_flat.specs.declared.build.Asked.TheVariants as asked
+use Rattle.xs_flat.specs.declared.clauses.Asked.{Asked}
+use Rattle.xs_flat.specs.declared.clauses.Asked.TheVariants as asked
 use Rattle.xs_scope.specs.ModelTree.{role_of, flat_tree, formula_tree}
 use Rattle.xs_scope.specs.SceneTree.{Denotes, IsFound, program_of, IsScene, items_of_instance}
 use Rattle.xs_scope.specs.NeedsTree.{AreNeeds}

@@ -39,12 +39,6 @@ get_none (y ∷ xs) (suc k) e = let less : length xs ≤ k = get_none xs k e in 
 pub appended : {A : Type 0} (new old more rest left all : List A) → new ≡ old ++ more → left ≡ more ++ rest → old ++ left ≡ all → new ++ rest ≡ all
 appended new old more rest left all e f g = ap (λ xs. xs ++ rest) e ∙ append_assoc old more rest ∙ ap (λ xs. old ++ xs) (sym f) ∙ g
 
-pub flat_step : {A B : Type 0} (f : A → List B) (xs : List A) (k : ℕ) (x : A) → slice_get xs k ≡ Some x → flat_map f (drop k xs) ≡ f x ++ flat_map f (drop (k + 1) xs)
-flat_step f xs k x e = ap (flat_map f) (drop_at xs k x e)
-
-pub flat_end : {A B : Type 0} (f : A → List B) (xs : List A) (k : ℕ) → length xs ≤ k → flat_map f (drop k xs) ≡ []
-flat_end f xs k h = ap (flat_map f) (drop_past xs k h)
-
 module _ (s : Scene) (n : Needs) (what : Item → List Condition) where
   -- the item at a place, if there is one, and then the rest
   pub items_step : (spot k : ℕ) (is : List NumberedItem) → asked_items s n what spot (drop k is) ≡ asked_items s n what spot (item_listed (slice_get is k)) ++ asked_items s n what spot (drop (k + 1) is)

@@ -28,8 +28,8 @@ use Rattle.xs_scope.specs.declared.walk.Spot.{Spot}
 use Rattle.xs_scope.specs.declared.names.Defined.{Defined}
 use Rattle.xs_scope.specs.declared.names.Scene.{Scene}
 use Rattle.xs_scope.specs.declared.needs.Needs.{Needs}
-use Rattle.xs_flat.specs.declared.build.Asked.{Asked}
-use Rattle.xs_flat.specs.declared.build.Asked.TheVariants as asked
+use Rattle.xs_flat.specs.declared.clauses.Asked.{Asked}
+use Rattle.xs_flat.specs.declared.clauses.Asked.TheVariants as asked
 use Rattle.xs_scope.specs.Closed.{is_within, tree_all, trees_all, branches_all, is_closed, are_earlier}
 use Rattle.xs_scope.specs.ModelTree.{leaf_of, flat_tree, place_of, instance_tree, variable_tree, formula_tree, model_tree}
 use Rattle.xs_scope.specs.Symbols.{texts}

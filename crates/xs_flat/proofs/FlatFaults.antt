@@ -30,10 +30,6 @@ pub ok_always : {T E : Type 0} (r : Result T E) (A : Type 0) → A → IfOk r (�
 ok_always (Ok x) A a = a
 ok_always (Err e) A a = tt
 
-pub ok_both : {T E : Type 0} (r : Result T E) (A : Type 0) → IfOk r (λ _. A) → (B : Type 0) → (A → B) → IfOk r (λ _. B)
-ok_both (Ok x) A a B f = f a
-ok_both (Err e) A a B f = tt
-
 pub no_place : (k : ℕ) (p : ProgramTree) (x : Text) → module_from k p x ≡ None → find_module p x ≡ None
 no_place k [] x e = refl
 no_place k (m ∷ ms) x e = by_name (same_text m.name x) refl (λ h. no_place (suc k) ms x h)

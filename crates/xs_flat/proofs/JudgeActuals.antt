@@ -17,7 +17,7 @@ use Rattle.xs_scope.specs.SceneTree.{Denotes, IsKnown}
 use Rattle.xs_scope.specs.NeedsTree.{AreNeeds, HasCircle}
 use Rattle.xs_flat.specs.Judging.{IsJudged}
 use Rattle.xs_flat.specs.Verdicts.{is_circle_found, is_nothing_known, is_circle_known, is_circle_meant, LoopsAt, IsActualJudged}
-use Rattle.xs_flat.specs.declared.judge.Judged.{Judged}
+use Rattle.xs_flat.specs.declared.values.Judged.{Judged}
 use Rattle.xs_scope.specs.declared.names.Formal.{Formal}
 use Rattle.xs_scope.specs.declared.names.Formal.TheVariants as known
 use Rattle.xs_scope.specs.declared.needs.Needs.{Needs}

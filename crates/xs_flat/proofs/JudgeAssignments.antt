@@ -17,7 +17,7 @@ use Rattle.xs_scope.specs.SceneTree.{IsScene, program_of}
 use Rattle.xs_flat.specs.Verdicts.{IsTold}
 use Rattle.xs_scope.specs.declared.fault.Rule.{Rule as Code}
 use Rattle.xs_scope.specs.declared.fault.Rule.TheVariants as code
-use Rattle.xs_flat.specs.declared.judge.Judged.{Judged}
+use Rattle.xs_flat.specs.declared.values.Judged.{Judged}
 use Rattle.xs_flat.specs.declared.judge.Times.{Times}
 use Rattle.xs_scope.specs.declared.names.Scene.{Scene}
 use Rattle.xs_flat.proofs.JudgeItems.{Judges, code_of, told_tests, told_names, told_target, told_item, nowhere}

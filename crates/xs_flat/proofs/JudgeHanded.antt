@@ -17,8 +17,8 @@ use Rattle.xs_scope.specs.SceneTree.{IsKnown, IsScene, program_of}
 use Rattle.xs_scope.specs.NeedsTree.{AreNeeds}
 use Rattle.xs_flat.specs.Verdicts.{is_nothing_known, is_circle_known, is_circle_meant, IsHanded, LoopsAt, IsActualJudged, AreActualsJudged, joined_actual, JudgesActual, JudgesActuals, IsTold}
 use Rattle.xs_scope.specs.declared.fault.Rule.TheVariants as code
-use Rattle.xs_flat.specs.declared.judge.Judged.{Judged}
-use Rattle.xs_flat.specs.declared.judge.JudgedActual.{JudgedActual}
+use Rattle.xs_flat.specs.declared.values.Judged.{Judged}
+use Rattle.xs_flat.specs.declared.values.JudgedActual.{JudgedActual}
 use Rattle.xs_scope.specs.declared.names.Formal.{Formal}
 use Rattle.xs_scope.specs.declared.names.Scene.{Scene}
 use Rattle.xs_scope.specs.declared.needs.Needs.{Needs}

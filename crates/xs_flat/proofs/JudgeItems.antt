@@ -12,7 +12,7 @@ use Rattle.xs_flat.specs.Judging.{IsJudged}
 use Rattle.xs_flat.specs.Verdicts.{IsTold, IsToldOf}
 use Rattle.xs_scope.specs.declared.fault.Rule.{Rule as Code}
 use Rattle.xs_scope.specs.declared.fault.Rule.TheVariants as code
-use Rattle.xs_flat.specs.declared.judge.Judged.{Judged}
+use Rattle.xs_flat.specs.declared.values.Judged.{Judged}
 
 -- What an item keeps of the rules below a number.
 pub record KeepsBelow (p : ProgramTree) (at : FlatInstance) (i : NumberedItem) (k : ℕ) : Type 0 where

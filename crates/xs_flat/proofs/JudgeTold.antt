@@ -24,8 +24,8 @@ use Rattle.xs_scope.specs.declared.fault.Rule.{Rule as Code}
 use Rattle.xs_scope.specs.declared.fault.Rule.TheVariants as code
 use Rattle.xs_scope.specs.declared.items.Item.{Item as ItemCode}
 use Rattle.xs_scope.specs.declared.items.Item.TheVariants as items
-use Rattle.xs_flat.specs.declared.judge.Judged.{Judged}
-use Rattle.xs_flat.specs.declared.judge.JudgedActual.{JudgedActual}
+use Rattle.xs_flat.specs.declared.values.Judged.{Judged}
+use Rattle.xs_flat.specs.declared.values.JudgedActual.{JudgedActual}
 use Rattle.xs_flat.specs.declared.judge.Times.{Times}
 use Rattle.xs_scope.specs.declared.names.Scene.{Scene}
 use Rattle.xs_scope.specs.declared.needs.Needs.{Needs}

@@ -14,7 +14,7 @@ use Rattle.xs_scope.specs.NeedsTree.{AreNeeds}
 use Rattle.xs_scope.specs.Flagged.{flagged}
 use Rattle.xs_flat.specs.Judging.{IsJudged}
 use Rattle.xs_flat.specs.Verdicts.{is_without_value, is_input_found, names_in, names_under, with_flags, AreNoted, AreJudged}
-use Rattle.xs_flat.specs.declared.judge.Judged.{Judged}
+use Rattle.xs_flat.specs.declared.values.Judged.{Judged}
 use Rattle.xs_scope.specs.declared.names.Scene.{Scene}
 use Rattle.xs_scope.specs.declared.needs.Needs.{Needs}
 use Rattle.xs_scope.specs.declared.walk.Meaning.{Meaning as Found}

@@ -16,7 +16,7 @@ use Rattle.xs_scope.specs.declared.bounds.Bounds.{Bounds}
 use Rattle.xs_scope.specs.declared.fault.Rule.{Rule}
 use Rattle.xs_scope.specs.declared.fault.Rule.TheVariants.{NoSuchName, NextHere, InputHere}
 use Rattle.xs_scope.specs.declared.fault.FlatFault.{FlatFault}
-use Rattle.xs_flat.specs.declared.judge.Judged.{Judged}
+use Rattle.xs_flat.specs.declared.values.Judged.{Judged}
 use Rattle.xs_scope.specs.declared.model.FlatModel.{FlatModel as FlatModelOf}
 use Rattle.xs_scope.specs.declared.names.Scene.{Scene}
 use Rattle.xs_scope.specs.declared.needs.Needs.{Needs}

@@ -19,10 +19,10 @@ use Rattle.xs_scope.specs.declared.walk.Spot.{Spot}
 use Rattle.xs_scope.specs.declared.names.Defined.{Defined}
 use Rattle.xs_scope.specs.declared.names.Scene.{Scene}
 use Rattle.xs_scope.specs.declared.needs.Needs.{Needs}
-use Rattle.xs_flat.specs.declared.build.Asked.{Asked}
-use Rattle.xs_flat.specs.declared.build.Asked.TheVariants as asked
-use Rattle.xs_flat.specs.declared.build.Clause.{Clause}
-use Rattle.xs_flat.specs.declared.build.Clause.TheVariants as clause
+use Rattle.xs_flat.specs.declared.clauses.Asked.{Asked}
+use Rattle.xs_flat.specs.declared.clauses.Asked.TheVariants as asked
+use Rattle.xs_flat.specs.declared.clauses.Clause.{Clause}
+use Rattle.xs_flat.specs.declared.clauses.Clause.TheVariants as clause
 
 -- a formula with what its names got, its item, and the number of its instance
 pub record Told : Type 0 where

@@ -14,7 +14,7 @@ use Rattle.xs_flat.specs.Verdicts.{IsTold}
 use Rattle.xs_scope.specs.declared.fault.FlatFault.{FlatFault}
 use Rattle.xs_scope.specs.declared.fault.Rule.{Rule}
 use Rattle.xs_scope.specs.declared.fault.Rule.TheVariants.{NoSuchName, DoubleAssign, NextHere, InputHere}
-use Rattle.xs_flat.specs.declared.judge.Judged.{Judged}
+use Rattle.xs_flat.specs.declared.values.Judged.{Judged}
 use Rattle.xs_flat.specs.declared.judge.Times.{Times}
 use Rattle.xs_scope.specs.declared.model.Role.TheVariants.{State, Input, Frozen}
 use Rattle.xs_scope.specs.declared.modules.Local.{Local}

@@ -5,7 +5,7 @@ use Rattle.xs_tree.specs.Scope.{Place}
 use Rattle.xs_tree.specs.Trace.{AtSome}
 use Rattle.xs_flattening.specs.Resolved.{leaves_in, has_next}
 use Rattle.xs_flattening.specs.Rules.{SomeHasNoValue, GivesInput, next_under_next, leaves_under}
-use Rattle.xs_flat.specs.declared.judge.Judged.{Judged}
+use Rattle.xs_flat.specs.declared.values.Judged.{Judged}
 
 pub record IsJudged (p : ProgramTree) (at : Place) (e : Formula) (j : Judged) : Type 0 where
   pub no_value : (j.no_value ≡ true) ↔ SomeHasNoValue p at e

@@ -14,8 +14,8 @@ use Rattle.xs_flattening.specs.Rules.{ActualHasNoMeaning, ActualLoops, SomeActua
 use Rattle.xs_scope.specs.Faults.{rule_of}
 use Rattle.xs_scope.specs.declared.fault.FlatFault.{FlatFault}
 use Rattle.xs_scope.specs.declared.fault.Rule.{Rule}
-use Rattle.xs_flat.specs.declared.judge.Judged.{Judged}
-use Rattle.xs_flat.specs.declared.judge.JudgedActual.{JudgedActual}
+use Rattle.xs_flat.specs.declared.values.Judged.{Judged}
+use Rattle.xs_flat.specs.declared.values.JudgedActual.{JudgedActual}
 use Rattle.xs_scope.specs.declared.model.Role.TheVariants.{State, Input, Frozen}
 use Rattle.xs_scope.specs.declared.names.Formal.{Formal}
 use Rattle.xs_scope.specs.declared.names.Formal.TheVariants as known

@@ -5,10 +5,9 @@ ghost use Rattle.xs_tree.specs.declared.expr.Op.TheVariants as op;
 ghost use Rattle.xs_tree.specs.Tree.{binary, next_of, leaf as leaf_tree};
 ghost use Rattle.xs_tree.specs.Trace.{Each};
 ghost use Rattle.xs_tree.specs.Written.{tree_of};
-ghost use Rattle.xs_tree.specs.ProgramTree.{declared_tree};
-ghost use Rattle.xs_tree.specs.declared.program.Moment.TheVariants.{Always, First, After};
+ghost use Rattle.xs_tree.specs.declared.program.Moment.TheVariants.{First};
 ghost use Rattle.xs_flattening.specs.Items.{instances_of};
-ghost use Rattle.xs_flattening.specs.Model.{IsFlatOf, now_among, next_among, kept, kept_declared, assigned_first, assigned_each, assigned_step, first_conditions, each_conditions, step_conditions, kept_conditions};
+ghost use Rattle.xs_flattening.specs.Model.{IsFlatOf, now_among, next_among, kept};
 ghost use Rattle.xs_flattening.specs.Rules.{IsAccepted};
 ghost use Rattle.xs_scope.specs.Closed.{is_within, is_closed, are_closed, are_earlier, AreVariables, IsClosedModel};
 ghost use Rattle.xs_scope.specs.Faults.{IsWant};
@@ -19,44 +18,23 @@ ghost use Rattle.xs_scope.specs.ItemTree.{item_tree};
 ghost use Rattle.xs_scope.specs.Symbols.{texts};
 ghost use Rattle.xs_scope.specs.ModelTree.{instance_tree, leaf_of, model_tree};
 ghost use Rattle.xs_flat.specs.ResolverOf.{leaf_at, told_tree};
-ghost use Rattle.xs_flat.specs.Asked.{told, asked_definition, IsReady, AreReady, conditions_asked, clause_tree, clauses_told, asked_condition, is_variable_within, IsConditionKnown, AreConditionsKnown, asked_conditions, asked_items, asked_from, item_listed, instance_in, instance_told};
+ghost use Rattle.xs_flat.specs.Asked.{told, asked_definition, IsReady, AreReady, conditions_asked, clause_tree, asked_condition, is_variable_within, IsConditionKnown, AreConditionsKnown, asked_conditions, asked_items, asked_from, item_listed, instance_in, instance_told};
 
+use crate::clauses::{Asked, Clause, clause_of};
 use crate::resolve::{Source, resolve};
 use std::alloc::Global;
 use xs_scope::bounds::Bounds;
 use xs_scope::copy::{boxed, copy_path};
 use xs_scope::fault::FlatFault;
 use xs_scope::items::{Item, number_of};
-use xs_scope::model::{
-    Flat, FlatList, FlatModel, Formula, Instance, InstanceList, Role, VariableList,
-};
+use xs_scope::model::{Flat, FlatList, FlatModel, Formula, Instance, InstanceList, VariableList};
 use xs_scope::modules::Names;
 use xs_scope::names::Scene;
 use xs_scope::needs::Needs;
 use xs_scope::symbols::symbol_names;
 use xs_scope::walk::{Meaning, Spot};
-use xs_tree::{Assignment, Decl, Declared, Expr, Moment, Op};
+use xs_tree::{Expr, Op};
 use xs_value::{Dotted, Items, Name, NameList, OutOfMemory};
-
-/// Which formulas are asked for: those of the first moment, those of each, those of each step, or those
-/// that keep frozen variables as they are.
-#[derive(Clone, Copy)]
-pub(crate) enum Asked {
-    First,
-    Each,
-    Step,
-    Kept,
-}
-
-/// What an item asks: that an expression is TRUE, that a variable has now or next one of an expression's
-/// values, or that it keeps its own.
-#[derive(Clone, Copy)]
-pub(crate) enum Clause<'a> {
-    Plain(&'a Expr<Dotted>),
-    Now(&'a Name, &'a Expr<Dotted>),
-    Next(&'a Name, &'a Expr<Dotted>),
-    Kept(&'a Name),
-}
 
 /// The flat model of a scene with these variables.
 pub(crate) fn build(
@@ -363,99 +341,6 @@ fn add_of_item(
     match clause_of(asked, item) {
         Some(clause) => add_clause(alloc, scene, needs, source, clause, list),
         None => Ok(()),
-    }
-}
-
-/// What an item asks, of the formulas that are asked for.
-fn clause_of<'a>(asked: Asked, item: Item<'a>) -> Option<Clause<'a>>
-    ensures { clauses_told result ≡ conditions_asked asked (item_tree item.entry) }
-{
-    match asked {
-        Asked::First => first_clause(item),
-        Asked::Each => each_clause(item),
-        Asked::Step => step_clause(item),
-        Asked::Kept => kept_clause(item),
-    }
-}
-
-fn first_clause<'a>(item: Item<'a>) -> Option<Clause<'a>>
-    ensures { clauses_told result ≡ first_conditions (item_tree item.entry) }
-{
-    match item {
-        Item::Init(e) => Some(Clause::Plain(e)),
-        Item::Assigned(assignment) => match assignment.when {
-            Moment::First => now_clause(assignment),
-            Moment::Always | Moment::After => None,
-        },
-        _ => None,
-    }
-}
-
-fn each_clause<'a>(item: Item<'a>) -> Option<Clause<'a>>
-    ensures { clauses_told result ≡ each_conditions (item_tree item.entry) }
-{
-    match item {
-        Item::Invar(e) => Some(Clause::Plain(e)),
-        Item::Assigned(assignment) => match assignment.when {
-            Moment::Always => now_clause(assignment),
-            Moment::First | Moment::After => None,
-        },
-        _ => None,
-    }
-}
-
-fn step_clause<'a>(item: Item<'a>) -> Option<Clause<'a>>
-    ensures { clauses_told result ≡ step_conditions (item_tree item.entry) }
-{
-    match item {
-        Item::Trans(e) => Some(Clause::Plain(e)),
-        Item::Assigned(assignment) => match assignment.when {
-            Moment::After => next_clause(assignment),
-            Moment::First | Moment::Always => None,
-        },
-        _ => None,
-    }
-}
-
-fn kept_clause<'a>(item: Item<'a>) -> Option<Clause<'a>>
-    ensures { clauses_told result ≡ kept_conditions (item_tree item.entry) }
-{
-    match item {
-        Item::Declared(Role::Frozen, decl) => kept_of(decl),
-        _ => None,
-    }
-}
-
-fn kept_of<'a>(decl: &'a Decl) -> Option<Clause<'a>>
-    ensures { clauses_told result ≡ kept_declared decl.now.name (declared_tree decl.now.what) }
-{
-    match decl.what {
-        Declared::Instance(_, _) => None,
-        Declared::Boolean | Declared::Range(_, _) | Declared::Members(_) => {
-            Some(Clause::Kept(&decl.name))
-        }
-    }
-}
-
-/// That the target of an assignment has one of the values now. A target of several parts asks nothing.
-fn now_clause<'a>(assignment: &'a Assignment) -> Option<Clause<'a>>
-    ensures first { clauses_told result ≡ assigned_first First assignment.now.target (tree_of assignment.now.value) }
-    ensures each { clauses_told result ≡ assigned_each Always assignment.now.target (tree_of assignment.now.value) }
-{
-    match assignment.target.parts() {
-        [] => None,
-        [target] => Some(Clause::Now(target, &assignment.value)),
-        [_, _, ..] => None,
-    }
-}
-
-fn next_clause<'a>(assignment: &'a Assignment) -> Option<Clause<'a>>
-    ensures { clauses_told result ≡ assigned_step After assignment.now.target (tree_of assignment.now.value) }
-{
-    match assignment.target.parts() {
-        [] => None,
-        [target] => Some(Clause::Next(target, &assignment.value)),
-        [_, _, ..] => None,
     }
 }
 

@@ -25,8 +25,9 @@ ghost use Rattle.xs_flattening.specs.Resolved.{has_next};
 ghost use Rattle.xs_tree.specs.Written.{tree_of};
 
 use crate::build::build;
-use crate::judge::{Judged, judge, judge_value};
+use crate::judge::judge;
 use crate::resolve::{Source, resolve};
+use crate::values::{Judged, judge_value};
 use std::alloc::Global;
 use xs_scope::bounds::Bounds;
 use xs_scope::fault::{FlatFault, Rule};

@@ -7,8 +7,8 @@
 //! above never see a dotted name or an instance's parameters. [`resolve_top`] and [`resolve_at`] do the
 //! same for an expression that is not part of the program, and a [`Scope`] keeps the tables for many of them.
 //!
-//! The tables of instances, names and definitions are made below, in `xs_scope`. Here stand `judge` (all
-//! other rules) and `build` with `resolve`. Each pass is linear in what it reads or makes.
+//! The tables of instances, names and definitions are made below, in `xs_scope`. Here stand `judge` with
+//! `values` (all other rules) and `build` with `clauses` and `resolve`. Each pass is linear in what it reads or makes.
 //!
 //! ```text
 //! // MODULE main VAR on : boolean; ASSIGN next(on) := !on;
@@ -18,10 +18,12 @@
 #![tactic(auto)]
 
 mod build;
+mod clauses;
 mod flattening;
 mod history;
 mod judge;
 mod resolve;
+mod values;
 
 pub use flattening::{Scope, flatten, resolve_at, resolve_top};
 pub use history::with_history;

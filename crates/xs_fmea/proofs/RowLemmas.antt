@@ -9,10 +9,6 @@ use Rattle.xs_fmea.specs.Tables.{pairs_after, pairs_from}
 pub step : {A : Type 0} (rows whole left rest : List A) (x : A) → rows ++ left ≡ whole → left ≡ x ∷ rest → (rows ++ x ∷ []) ++ rest ≡ whole
 step rows whole left rest x h e = append_assoc rows (x ∷ []) rest ∙ (ap (λ l. rows ++ l) (sym e) ∙ h)
 
--- and so are several
-pub steps : {A : Type 0} (rows whole left rest more : List A) → rows ++ left ≡ whole → left ≡ more ++ rest → (rows ++ more) ++ rest ≡ whole
-steps rows whole left rest more h e = append_assoc rows more rest ∙ (ap (λ l. rows ++ l) (sym e) ∙ h)
-
 before : (n : ℕ) → suc n - 1 ≡ n
 before n = omega arith
 
@@ -29,9 +25,6 @@ left_more faults (suc n) p h =
     here : (faults n : ℕ) → suc n ≤ faults → faults - suc n + 1 ≡ faults - n
     here faults n h = omega (arith, h)
 
-pub first_left : (faults : ℕ) → faults - faults + 1 ≡ 1
-first_left faults = omega arith
-
 -- the sets of one fault each that are left
 abbrev pub singles_left : ℕ → ℕ → List (List ℕ)
 singles_left faults left = map (λ i. i ∷ []) (numbers_left faults left)
@@ -39,40 +32,16 @@ singles_left faults left = map (λ i. i ∷ []) (numbers_left faults left)
 pub singles_more : (faults left : ℕ) → 0 < left → left ≤ faults → singles_left faults left ≡ ((faults - (left - 1)) ∷ []) ∷ singles_left faults (left - 1)
 singles_more faults left p h = ap (map (λ i. i ∷ [])) (left_more faults left p h)
 
-pub singles_first : (faults : ℕ) → singles_left faults faults ≡ map (λ i. i ∷ []) (range_with_len 1 faults)
-singles_first faults = ap (λ k. map (λ i. i ∷ []) (range_with_len k faults)) (first_left faults)
-
 -- the pairs of one fault that are left
 abbrev pub after_left : ℕ → ℕ → ℕ → List (List ℕ)
 after_left first faults left = map (λ j. first ∷ j ∷ []) (numbers_left faults left)
-
-pub after_more : (first faults left : ℕ) → 0 < left → left ≤ faults → after_left first faults left ≡ (first ∷ (faults - (left - 1)) ∷ []) ∷ after_left first faults (left - 1)
-after_more first faults left p h = ap (map (λ j. first ∷ j ∷ [])) (left_more faults left p h)
-
-pub after_first : (faults after : ℕ) → after_left (faults - after) faults after ≡ pairs_after (faults - after) after
-after_first faults after = ap (λ k. map (λ j. (faults - after) ∷ j ∷ []) (range_with_len k after)) (next faults after)
-  where
-    next : (faults after : ℕ) → faults - after + 1 ≡ suc (faults - after)
-    next faults after = omega arith
 
 -- the pairs that are left
 abbrev pub pairs_left : ℕ → ℕ → List (List ℕ)
 pairs_left faults left = pairs_from (faults - left + 1) left
 
-pub pairs_more : (faults left : ℕ) → 0 < left → left ≤ faults → pairs_left faults left ≡ pairs_after (faults - (left - 1)) (left - 1) ++ pairs_left faults (left - 1)
-pairs_more faults zero p h = absurd (omega (arith, p))
-pairs_more faults (suc n) p h =
-    subst (λ m. pairs_left faults (suc n) ≡ pairs_after (faults - m) m ++ pairs_left faults m) (sym (before n))
-    (ap (λ k. pairs_from k (suc n)) (here faults n h) ∙ ap (λ k. pairs_after (faults - n) n ++ pairs_from k n) (after faults n))
-  where
-    here : (faults n : ℕ) → suc n ≤ faults → faults - suc n + 1 ≡ faults - n
-    here faults n h = omega (arith, h)
-
     after : (faults n : ℕ) → suc (faults - n) ≡ faults - n + 1
     after faults n = omega arith
-
-pub pairs_first : (faults : ℕ) → pairs_left faults faults ≡ pairs_from 1 faults
-pairs_first faults = ap (λ k. pairs_from k faults) (first_left faults)
 
 -- a set that is appended is the first of those that are left
 pub single_on : (faults left : ℕ) (rows new whole : List (List ℕ)) (set : List ℕ) → 0 < left → left ≤ faults → new ≡ rows ++ set ∷ [] → set ≡ (faults - (left - 1)) ∷ [] →

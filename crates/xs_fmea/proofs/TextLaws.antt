@@ -83,8 +83,3 @@ row_on rows entries i row given text more whole l e same g h =
     ap (λ t. t ++ lines_left rows entries (i + 1)) grown
     ∙ (append_assoc text (line_at row (map (map told_entry) entries) i) (lines_left rows entries (i + 1))
     ∙ (ap (λ t. text ++ t) (sym (ap (λ rs. entry_lines rs (map (map told_entry) (drop i entries))) here ∙ line_on_rows row (drop (i + 1) rows) entries i)) ∙ h))
-
--- the lines of the endings from a place on
-pub ending_on : (bits : ℕ) (endings : List Ended) (i : ℕ) (e : Ended) → i < length endings →
-    ending_lines bits (i + 1) (map told_ending (drop i endings)) ≡ ending_line bits (i + 1) (told_ending (get_or endings i e)) ++ ending_lines bits (suc (i + 1)) (map told_ending (drop (i + 1) endings))
-ending_on bits endings i e l = ap (λ z. ending_lines bits (i + 1) (map told_ending z)) (drop_more endings i e l)

@@ -101,18 +101,6 @@ tells_unsat g i all assumptions under core low e h = λ list frames count are.
 up_to_room : (l : Literal) (vars n k : ℕ) → k ≡ vars + n → l.var ≤ vars → l.var ≤ k
 up_to_room l vars n k e le = omega (arith, e, le)
 
-pub under_up_to : (vars n i k : ℕ) (assumptions : List Literal) → k ≡ vars + n → i < n → All (IsUpTo vars) assumptions → All (IsUpTo k) (guard_of vars i ∷ assumptions)
-under_up_to vars n i k assumptions e lt low = All-cons (IsUpTo k) (guard_of vars i) assumptions (here vars n i k e lt) (λ j d jt. up_to_room (slice_index_or assumptions j d) vars n k e (low j d jt))
-  where
-    here : (vars n i k : ℕ) → k ≡ vars + n → i < n → vars + 1 + i ≤ k
-    here vars n i k e lt = omega (arith, e, lt)
-
-pub guarded_up_to : (vars n i k : ℕ) (c : List Literal) → k ≡ vars + n → i < n → All (IsUpTo vars) c → All (IsUpTo k) (under_guard vars i c)
-guarded_up_to vars n i k c e lt low = All-cons (IsUpTo k) (opposite (guard_of vars i)) c (here vars n i k e lt) (λ j d jt. up_to_room (slice_index_or c j d) vars n k e (low j d jt))
-  where
-    here : (vars n i k : ℕ) → k ≡ vars + n → i < n → vars + 1 + i ≤ k
-    here vars n i k e lt = omega (arith, e, lt)
-
 pub under_apart : (vars i : ℕ) (assumptions : List Literal) → All (IsUpTo vars) assumptions → HasNoOpposites assumptions → HasNoOpposites (guard_of vars i ∷ assumptions)
 under_apart vars i assumptions low apart = All-cons (LacksOpposite (guard_of vars i ∷ assumptions)) (guard_of vars i) assumptions (record { absent = λ o. guard_absent o })
     (λ k d lt. record { absent = λ o. other_absent (slice_index_or assumptions k d) (low k d lt) (apart k d lt).absent o })

@@ -191,10 +191,6 @@ guarding_new vars list empty g e p low = record {
       (subst (AreGuarded vars list ([] ∷ [])) (sym (p.added ∙ ap (λ (cs : List (List Literal)). cs ++ list) e.added)) (guarded_new vars list low));
 }
 
--- one clause list after another
-pub put_none : (g : Guarded) → IsWell g → HasPut g g []
-put_none g w = record { well = w; vars = refl; guards = refl; added = sym (append-nil (added_in g)) }
-
 pub put_both : (a b c : Guarded) (cs ds : List (List Literal)) → HasPut a b cs → HasPut b c ds → HasPut a c (cs ++ ds)
 put_both a b c cs ds p q = record {
   well = q.well;

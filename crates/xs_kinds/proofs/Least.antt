@@ -74,25 +74,3 @@ lesser_swap r q = by (nat_lt (number_of q) (number_of r)) refl (nat_lt (number_o
     by true e false f = second r q e ∙ sym (first q r f)
     by false e true f = first r q e ∙ sym (second q r f)
     by false e false f = first r q e ∙ same_number r q (omega (arith, ltb-false _ _ e, ltb-false _ _ f)) ∙ sym (first q r f)
-
-pub both_swap : (a b : Option KindRule) → least_of_both a b ≡ least_of_both b a
-both_swap None None = refl
-both_swap None (Some q) = refl
-both_swap (Some r) None = refl
-both_swap (Some r) (Some q) = ap Some (lesser_swap r q)
-
-pub both_again : (a b c : Option KindRule) → least_of_both a (least_of_both b c) ≡ least_of_both (least_of_both a b) c
-both_again None b c = refl
-both_again (Some r) b c = after_both r b c
-
-pub both_same : (a : Option KindRule) → least_of_both a a ≡ a
-both_same None = refl
-both_same (Some r) = ap Some (by (nat_lt (number_of r) (number_of r)))
-  where
-    by : (b : Bool) → cond b r r ≡ r
-    by true = refl
-    by false = refl
-
--- a list may be joined in any order
-pub least_swap : (rs qs : List KindRule) → least (rs ++ qs) ≡ least (qs ++ rs)
-least_swap rs qs = least_join rs qs ∙ both_swap (least rs) (least qs) ∙ sym (least_join qs rs)

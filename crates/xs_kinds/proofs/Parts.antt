@@ -99,10 +99,6 @@ Within i j = (v : Value) → LiesIn i v → LiesIn j v
 abbrev pub Inside : Option Interval → Kind → Type 0
 Inside j k = Within k.interval j
 
-pub each_map : {A : Type 0} (P Q : A → Type 0) → ((a : A) → P a → Q a) → (xs : List A) → Each P xs → Each Q xs
-each_map P Q f [] h = tt
-each_map P Q f (x ∷ xs) h = (f x h.0, each_map P Q f xs h.1)
-
 pub hull_from_holds : (i : Option Interval) (ks : List Kind) → Within i (hull_from i ks) × Each (Inside (hull_from i ks)) ks
 hull_from_holds i [] = (λ v h. h, tt)
 hull_from_holds i (k ∷ ks) =

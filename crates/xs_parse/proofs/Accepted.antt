@@ -236,10 +236,6 @@ mutual
       (then_takes xs (sign k.Semicolon) (ys ++ word (codes "esac") ∷ []) (wants_branch s) (takes (outcome ∷ s) q) (after_outcome s)
       (branch_too s s (ys ++ word (codes "esac") ∷ []) (takes_branches s m))))
 
--- what spells an expression is taken to an operand over the same stack
-pub expression_taken : {xs : List Lexeme} {a : Tree Path} (s : List Frame) → Spells at_expr xs a → Takes (wants s) xs s
-expression_taken s p = takes s p
-
 -- what spells an expression is accepted
 pub spelled_accepted : {xs : List Lexeme} {a : Tree Path} → Spells at_expr xs a → is_whole (run start xs) ≡ true
 spelled_accepted p = let taken = takes [] p in ap is_whole taken.path

@@ -30,15 +30,6 @@ stuck_run : (st : State) (ts : List Lexeme) → is_stuck st ≡ true → is_stuc
 stuck_run stuck ts h = ap is_stuck (run_stuck ts)
 stuck_run st ts h = cc
 
--- a list that goes on is reached whole
-pub reaches_all : (st : State) (ts : List Lexeme) → is_stuck (run st ts) ≡ false → reach_of st ts ≡ length ts
-reaches_all st [] h = refl
-reaches_all st (t ∷ ts) h = go (is_stuck (step st (role_of t))) refl (reaches_all (step st (role_of t)) ts h)
-  where
-    go : (b : Bool) → is_stuck (step st (role_of t)) ≡ b → reach_of (step st (role_of t)) ts ≡ length ts → (if b then 0 else reach_of (step st (role_of t)) ts + 1) ≡ length (t ∷ ts)
-    go true e rest = let clash : true ≡ false = sym (stuck_run (step st (role_of t)) ts e) ∙ h in cc
-    go false e rest = omega (arith, rest)
-
 -- a list that is reached whole goes on
 pub all_reached : (st : State) (ts : List Lexeme) → is_stuck st ≡ false → length ts ≤ reach_of st ts → is_stuck (run st ts) ≡ false
 all_reached st [] s h = s

@@ -66,22 +66,6 @@ after_more : (c : Role) (o : Option (List Sym)) → taken Sym formulas (after_se
 after_more a_semicolon o = refl
 after_more c o = refl
 
-pub goes_again : (st new : State) (r : Role) (t : Lexeme) → is_stuck st ≡ false → r ≡ role_of t → new ≡ machine.step st r → is_stuck new ≡ true → is_whole st ≡ true → is_semicolon r ≡ true →
-    Some (again ∷ []) ≡ stepped (live st (more ∷ [])) t
-goes_again st new r t h role path stop whole semicolon =
-    let mark : is_semicolon (role_of t) ≡ true = ap is_semicolon (sym role) ∙ semicolon in
-    sym (past st new r t h role path stop ∙ ap (λ b. if b then step Sym formulas (more ∷ []) t else None) whole ∙ after_more (role_of t) None ∙ ap (λ b. if b then Some (again ∷ []) else None) mark)
-
-pub goes_nowhere : (st new : State) (r : Role) (t : Lexeme) → is_stuck st ≡ false → r ≡ role_of t → new ≡ machine.step st r → is_stuck new ≡ true → (is_whole st && is_semicolon r) ≡ false →
-    None ≡ stepped (live st (more ∷ [])) t
-goes_nowhere st new r t h role path stop no_more = sym (past st new r t h role path stop ∙ go (is_whole st) no_more)
-  where
-    go : (b : Bool) → (b && is_semicolon r) ≡ false → (if b then step Sym formulas (more ∷ []) t else None) ≡ None
-    go true e =
-        let mark : is_semicolon (role_of t) ≡ false = ap is_semicolon (sym role) ∙ e in
-        after_more (role_of t) None ∙ ap (λ b. if b then Some (again ∷ []) else None) mark
-    go false e = refl
-
 and_true : (b : Bool) → b ≡ (b && (true && true))
 and_true true = refl
 and_true false = refl

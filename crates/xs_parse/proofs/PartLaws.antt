@@ -19,10 +19,6 @@ pub skipped_end : (ts : List Lexeme) → is_past ts ≡ true → past_skipped ts
 skipped_end [] h = refl
 skipped_end (t ∷ ts) h = ap (λ b. if b then t ∷ ts else past_skipped ts) h
 
-pub rest_length : (ts : List Lexeme) (i most : ℕ) → length ts + i ≤ most → is_past ts ≡ false → length (rest_of ts) + (i + 1) ≤ most
-rest_length [] i most h p = cc
-rest_length (t ∷ ts) i most h p = omega (arith, h)
-
 pub skipped_spent : (ts : List Lexeme) (i most : ℕ) → length ts + i ≤ most → most ≤ i → past_skipped ts ≡ ts
 skipped_spent [] i most h e = refl
 skipped_spent (t ∷ ts) i most h e = absurd (omega (arith, h, e))

@@ -145,10 +145,6 @@ build_tallest st (x ∷ ts) t e =
         let top = tallest_highest (build_step st x (role_of x)) in
         omega (arith, some, grown, top, a)
 
--- the tree that a list spells is at least as high as each tree that was made of a front of it
-pub no_higher : (xs ys : List Lexeme) (t : Tree Path) → built (xs ++ ys) ≡ Some t → highest (build (ready []) xs) ≤ height_of t
-no_higher xs ys t e = build_tallest (build (ready []) xs) ys t (ap finish (sym (build_append (ready []) xs ys)) ∙ e)
-
 -- an operand that was made too high by what waits for it
 pub reduced_high : (l : ℕ) (p : Part) (t : Tree Path) (ps : List Part) → 1000 < height_of (joined p t) → 1000 < held_height (reduce l (joined p t) ps)
 reduced_high l p t ps h = let grows = reduce_grows l (joined p t) ps in omega (arith, h, grows)

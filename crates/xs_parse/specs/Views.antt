@@ -64,15 +64,6 @@ state_with m.Stuck s = machine.stuck
 abbrev pub state_of : Mode → List Frame → machine.State
 state_of mode frames = state_with mode (stack_of frames)
 
--- where the machine is stuck first
-abbrev pub stop_at : machine.State → List Role → ℕ → Option ℕ
-stop_at st [] i = None
-stop_at st (x ∷ xs) i = stop_by (machine.is_stuck (machine.step st (role_view x))) i (stop_at (machine.step st (role_view x)) xs (i + 1))
-  where
-    stop_by : Bool → ℕ → Option ℕ → Option ℕ
-    stop_by true i rest = Some i
-    stop_by false i rest = rest
-
 abbrev pub has_no_frame : List machine.Frame → Bool
 has_no_frame [] = true
 has_no_frame (f ∷ s) = false

@@ -61,10 +61,3 @@ told_after Q s q before after h (inr (inr e)) r is = let both : status.Memory �
 module _ (told : Option (List NamedFile)) (r : Result Status Stop) (before after : Told) (said now : Said) where
   pub done_as : (c d : Command) → c ≡ d → IfOk r (λ s. IfSome told (λ files. IsDone d files s before after said now)) → IfOk r (λ s. IfSome told (λ files. IsDone c files s before after said now))
   done_as c d e h = subst (λ (x : Command). IfOk r (λ s. IfSome told (λ files. IsDone x files s before after said now))) (sym e) h
-
-pub odds_done : (told : Option (List NamedFile)) (r : Result Status Stop) (before after : Told) (said now : Said) (model faults top : Text) (depth : ℕ) →
-    IfOk r (λ s. IfSome told (λ files. HasOdds files model faults top depth s said now)) → after ≡ before →
-    IfOk r (λ s. IfSome told (λ files. IsDone (odds model faults top depth) files s before after said now))
-odds_done None (Ok s) before after said now model faults top depth h e = tt
-odds_done (Some files) (Ok s) before after said now model faults top depth h e = (h, e)
-odds_done told (Err x) before after said now model faults top depth h e = tt

@@ -57,15 +57,7 @@ no_words line name rest value e f b r none n w q =
     let values : w ≡ value = tail_of 32 32 w value (tail_of 61 61 (32 ∷ w) (32 ∷ value) (tail_of 32 32 (61 ∷ 32 ∷ w) (61 ∷ 32 ∷ value) (sym same.1 ∙ r))) in
     none (subst IsSpaceless (sym same.0) (q.name_word.some, q.name_word.free)) (subst IsSpaceless values (q.value_word.some, q.value_word.free))
 
--- a byte before all of whose places no space stands
-pub all_free : (b : ℕ) (bytes : List ℕ) (n : ℕ) → n ≡ length bytes → ((k : ℕ) → k < n → get_or bytes k 0 ≢ b) → Lacks b bytes
-all_free b [] n e f = tt
-all_free b (c ∷ bytes) n e f = (f 0 (omega (arith, e)), all_free b bytes (length bytes) refl (λ k g. f (suc k) (omega (arith, e, g))))
-
 -- The line of a moment.
 same_after : (front xs ys : List ℕ) → front ++ xs ≡ front ++ ys → xs ≡ ys
 same_after [] xs ys e = e
 same_after (x ∷ front) xs ys e = same_after front xs ys (tail_of x x (front ++ xs) (front ++ ys) e)
-
-pub same_moment : (line digits : List ℕ) (n : ℕ) → line ≡ codes "moment " ++ digits → line ≡ moment_line n → digits ≡ decimal n
-same_moment line digits n e f = same_after (codes "moment ") digits (decimal n) (sym e ∙ f)

@@ -67,12 +67,6 @@ line_past symbols xs v i h = ap (λ u. fed (value_lines (map variable_tree (drop
 abbrev pub moments_from : FlatModel → List Text → List (List Numbered) → ℕ → List ℕ
 moments_from m symbols trace i = fed (trace_lines m i (told_trace symbols (drop i trace)))
 
-pub moment_more : (m : FlatModel) (symbols : List Text) (trace : List (List Numbered)) (i : ℕ) (v : List Numbered) → slice_get trace i ≡ Some v →
-    moments_from m symbols trace i ≡ fed (moment_line i ∷ value_lines m.variables (told_moment symbols v)) ++ moments_from m symbols trace (suc i)
-moment_more m symbols trace i v e =
-    ap (λ t. fed (trace_lines m i (told_trace symbols t))) (drop_item trace i v e)
-    ∙ fed_joined (moment_line i ∷ value_lines m.variables (told_moment symbols v)) (trace_lines m (suc i) (told_trace symbols (drop (suc i) trace)))
-
 -- one line on, and past the last value
 pub values_on : (symbols : List Text) (xs : List Variable) (v : List Numbered) (i : ℕ) (x : Variable) (w : Numbered) (before after whole : List ℕ) → slice_get xs i ≡ Some x → slice_get v i ≡ Some w →
     after ≡ before ++ (value_line (variable_tree x) (told_value symbols w) ++ 10 ∷ []) → before ++ lines_from symbols xs v i ≡ whole → after ++ lines_from symbols xs v (i + 1) ≡ whole
@@ -82,11 +76,3 @@ values_on symbols xs v i x w before after whole e f a b =
 
 pub values_past : (symbols : List Text) (xs : List Variable) (v : List Numbered) (i : ℕ) (before whole : List ℕ) → length v ≤ i → before ++ lines_from symbols xs v i ≡ whole → before ++ lines_from symbols xs v (i + 1) ≡ whole
 values_past symbols xs v i before whole h b = ap (λ t. before ++ t) (line_past symbols xs v (i + 1) (omega (arith, h)) ∙ sym (line_past symbols xs v i h)) ∙ b
-
--- one moment on
-pub moments_on : (m : FlatModel) (symbols : List Text) (trace : List (List Numbered)) (i : ℕ) (v : List Numbered) (before after whole : List ℕ) → slice_get trace i ≡ Some v →
-    after ≡ before ++ fed (moment_line i ∷ value_lines m.variables (told_moment symbols v)) → before ++ moments_from m symbols trace i ≡ whole → after ++ moments_from m symbols trace (i + 1) ≡ whole
-moments_on m symbols trace i v before after whole e a b =
-    ap (λ k. after ++ moments_from m symbols trace k) (add-one i) ∙ ap (λ t. t ++ moments_from m symbols trace (suc i)) a
-    ∙ append_assoc before (fed (moment_line i ∷ value_lines m.variables (told_moment symbols v))) (moments_from m symbols trace (suc i))
-    ∙ ap (λ t. before ++ t) (sym (moment_more m symbols trace i v e)) ∙ b

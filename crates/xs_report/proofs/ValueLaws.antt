@@ -20,36 +20,11 @@ use Rattle.xs_types.proofs.NumberingLaws.{number_told}
 use Rattle.xs_report.specs.Told.{text_at}
 use Rattle.xs_report.specs.ValueReading.{HasText, IsTruth, IsNumber, IsSymbol, IsReadOf, IsParsed, IsAmong, IsShort, IsReadIn}
 
--- Truth values.
-pub read_truth : (b : Bool) (symbols : List Text) (text : Text) → text ≡ value_text (truth b) → IsReadOf IsTruth symbols text (Some (ABool b))
-read_truth b symbols text e = (tt, record { stands = refl; same = sym e })
-
-pub no_truth : (symbols : List Text) (text : Text) → text ≢ codes "TRUE" → text ≢ codes "FALSE" → IsReadOf IsTruth symbols text None
-no_truth symbols text f g (ABool true) p h = f (sym h.same)
-no_truth symbols text f g (ABool false) p h = g (sym h.same)
-no_truth symbols text f g (Num n) p h = p
-no_truth symbols text f g (Sym i) p h = p
-
--- Numbers.
-pub read_number : (symbols : List Text) (text : Text) (n : ℤ) → mag n < 2 ^ 63 → signed_decimal n ≡ text → IsReadOf IsNumber symbols text (Some (Num n))
-read_number symbols text n small e = (small, record { stands = refl; same = e })
-
 some_same : {A : Type 0} (x y : A) → Some x ≡ Some y → x ≡ y
 some_same x y e = cc
 
 never : {A : Type 0} (x : A) → None ≡ Some x → ⊥
 never x e = cc
-
-pub no_number : (symbols : List Text) (text : Text) → ((n : ℤ) → mag n < 2 ^ 63 → signed_decimal n ≡ text → ⊥) → IsReadOf IsNumber symbols text None
-no_number symbols text f (Num n) p h = f n p h.same
-no_number symbols text f (ABool b) p h = p
-no_number symbols text f (Sym i) p h = p
-
-pub none_parsed : (symbols : List Text) (text : Text) → ((n : ℤ) → mag n < 2 ^ 63 → signed_decimal n ≡ text → None ≡ Some n) → IsReadOf IsNumber symbols text None
-none_parsed symbols text f = no_number symbols text (λ n p e. never n (f n p e))
-
-pub other_printed : (symbols : List Text) (text : Text) (k : ℤ) → ((n : ℤ) → mag n < 2 ^ 63 → signed_decimal n ≡ text → Some k ≡ Some n) → signed_decimal k ≢ text → IsReadOf IsNumber symbols text None
-other_printed symbols text k f g = no_number symbols text (λ n p e. g (ap signed_decimal (some_same k n (f n p e)) ∙ e))
 
 -- Symbols.
 -- where a text stands that has a number

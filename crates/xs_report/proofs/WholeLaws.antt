@@ -87,17 +87,6 @@ line_wrong m bytes rest line after lines f sound e ls l least = record {
   cause = inl (after, refl, least);
 }
 
-pub cause_wrong : (m : FlatModel) (bytes rest line after : List ℕ) (lines : List Line) (r : Reading) (c : Cause) (number : ℕ) → IsAfter m lines r → bytes ≡ fed lines ++ rest → AllByRecursion IsLine lines → IsLineThen rest line after → number ≡ suc (length lines) →
-    IsCauseOf m lines line c → IsFaultOf m bytes (fault_at c number)
-cause_wrong m bytes rest line after lines r c number h e ls l count f = subst (λ n. IsFaultOf m bytes (fault_at c n)) (sym count) (by c f)
-  where
-    by : (c : Cause) → IsCauseOf m lines line c → IsFaultOf m bytes (fault_at c (suc (length lines)))
-    by cause.BadLine f = inl (line_wrong m bytes rest line after lines bad_line h.sound e ls l f)
-    by cause.UnknownName f = inl (line_wrong m bytes rest line after lines unknown_name h.sound e ls l f)
-    by cause.Outside f = inl (line_wrong m bytes rest line after lines outside h.sound e ls l f)
-    by cause.Twice f = inl (line_wrong m bytes rest line after lines twice h.sound e ls l f)
-    by cause.OutOfMemory f = tt
-
 -- bytes after the last line feed
 pub tail_wrong : (m : FlatModel) (bytes rest : List ℕ) (lines : List Line) (r : Reading) (number : ℕ) → IsAfter m lines r → bytes ≡ fed lines ++ rest → AllByRecursion IsLine lines → IsLine rest → rest ≢ [] → number ≡ suc (length lines) →
     IsFaultOf m bytes (fault.BadLine number)
@@ -283,11 +272,6 @@ read_few m bytes rest line after number r h l =
 
 pub begun_fewer : (m : FlatModel) (bytes rest : List ℕ) (number : ℕ) (r : Reading) → IsRead m bytes rest number r → r.begun < number
 begun_fewer m bytes rest number r h = let few : moments_after 0 h.lines ≤ 0 + length h.lines = begun_few 0 h.lines in omega (arith, few, h.count, h.after.begun)
-
--- its ends
-pub read_cause : (m : FlatModel) (bytes rest line after : List ℕ) (number : ℕ) (r : Reading) (c : Cause) → IsRead m bytes rest number r → IsLineThen rest line after → ((lines : List Line) → IsAfter m lines r → IsCauseOf m lines line c) →
-    IsFaultOf m bytes (fault_at c number)
-read_cause m bytes rest line after number r c h l f = cause_wrong m bytes rest line after h.lines r c number h.after h.lie h.are_lines l h.count (f h.lines h.after)
 
 pub read_tail : (m : FlatModel) (bytes rest : List ℕ) (number : ℕ) (r : Reading) → IsRead m bytes rest number r → IsLine rest → rest ≢ [] → IsFaultOf m bytes (fault.BadLine number)
 read_tail m bytes rest number r h l some = tail_wrong m bytes rest h.lines r number h.after h.lie h.are_lines l some h.count

@@ -26,12 +26,6 @@ pub written_extension : (a : Analysing) → program_tree a.loaded.case.limited.w
     text ≡ program_text (program_tree a.loaded.case.limited.woven.program) → bytes ≡ text → after ≡ told_with before a.extended.now bytes → after ≡ told_with before a.extended.now (extension_text (analysed_case a))
 written_extension a program before after text bytes printed same written = written ∙ ap (told_with before a.extended.now) (same ∙ printed ∙ ap program_text program)
 
--- a work that ends as it should, where it has an answer
-pub finished_answers : (P : Status → Type 0) (done : Result Status WriteStop) (s : Status) → s ≡ finished_as done → IfOk done P → IsAnswer s → P s
-finished_answers P (Ok t) s is so answer = subst P (sym is) so
-finished_answers P (Err write_stop.Failed) s is so answer = absurd (subst IsAnswer is answer)
-finished_answers P (Err write_stop.OutOfMemory) s is so answer = absurd (subst IsAnswer is answer)
-
 module _ (c : Case) (word : Text) (depth size : ℕ) (extended cert : Text) (f : Found) (found : IsFinding c word depth size f) (before mid after : Told) (said now : Said)
     (first : mid ≡ told_with before extended (extension_text c)) where
   files_written : (ending : Ending) (o : Option (List ℕ)) → IsCertifiedAs c found.event size found.analysis ending o → after ≡ told_maybe mid cert o →

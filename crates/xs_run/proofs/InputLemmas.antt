@@ -41,12 +41,6 @@ refuses_model_bytes None name bytes w r is has bad = tt
 refuses_model_bytes (Some files) name bytes (wrong.Refused fault) r is has bad = let same : r ≡ refusal.Model fault = cc in model_bytes bytes fault same has bad
 refuses_model_bytes (Some files) name bytes wrong.Memory r is has bad = cc
 
--- bytes that are taken, as the model of the file
-pub holds_model : (told : Option (List NamedFile)) (name : Text) (bytes : List ℕ) (p : ProgramTree) (m : ModelTree) → IfSome told (λ files. HasBytes files name bytes) → IsModelText bytes p →
-    IsLawful p m → IfSome told (λ files. HoldsModel files name p)
-holds_model None name bytes p m has text lawful = tt
-holds_model (Some files) name bytes p m has text lawful = record { bytes = bytes; has = has; is_text = text; flat = m; lawful = lawful }
-
 pub refuses_faults_file : (told : Option (List NamedFile)) (name : Text) (p : ProgramTree) (r : Refusal) (fault : InputFault) → r ≡ refusal_at input.Faults fault →
     IfSome told (λ files. IsRefusedFile files name fault) → IfSome told (λ files. RefusesFaults files name p r)
 refuses_faults_file None name p r fault is refused = tt
@@ -57,12 +51,6 @@ pub refuses_faults_bytes : (told : Option (List NamedFile)) (name : Text) (p : P
 refuses_faults_bytes None name p bytes w r is has bad = tt
 refuses_faults_bytes (Some files) name p bytes (wrong.Refused fault) r is has bad = let same : r ≡ refusal.Faults fault = cc in faults_bytes bytes fault same has bad
 refuses_faults_bytes (Some files) name p bytes wrong.Memory r is has bad = cc
-
--- bytes that are taken, as the extension by the file's instructions
-pub holds_extension : (told : Option (List NamedFile)) (name : Text) (p : ProgramTree) (bytes : List ℕ) (made : Made) → IfSome told (λ files. HasBytes files name bytes) → IsMade p bytes made →
-    IfSome told (λ files. HoldsExtension files name p made)
-holds_extension None name p bytes made has is = tt
-holds_extension (Some files) name p bytes made has is = record { bytes = bytes; has = has; extension = is }
 
 pub same_error : {T E : Type 0} {a b : E} → Path (Result T E) (Err a) (Err b) → a ≡ b
 same_error e = cc

@@ -104,12 +104,6 @@ module _ (model faults trace top : Text) where
     at_told None holds comes = tt
     at_told (Some files) holds comes = reads_its_trace c event.top tree o holds event.is_word event.is_tree comes
 
--- what a command comes to is what the words mean
-pub means_asked : (told : Option (List NamedFile)) (words : List Text) (c : Command) (o : Outcome) → WordsMean words c → IfSome told (λ files. CommandComesTo files c o) →
-    IfSome told (λ files. Means files words o)
-means_asked None words c o means comes = tt
-means_asked (Some files) words c o means comes = asked c o means comes
-
 no_answer : {s : Status} {P : Type 0} → (s ≡ status.Desk) ⊎ (s ≡ status.Memory) → IsAnswer s → P
 no_answer (inl desk) answer = absurd (subst IsAnswer desk answer)
 no_answer (inr memory) answer = absurd (subst IsAnswer memory answer)
@@ -168,12 +162,6 @@ module _ (Comes : List NamedFile → Outcome → Type 0) (told mid after : Optio
           means = means;
           in_part = subst (λ t. IsDeliveredInPart o t after said now) same (subst (λ t. IsDeliveredInPart o mid after t now) same_said part);
         }
-
--- where writing and saying were done the run is, and else it has no answer
-pub ended_answers : (P : Type 0) (written : Result (Unit {0}) WriteStop) (s : Status) → s ≡ ended_as status.Done written → OnOk written P → IsAnswer s → (s ≡ status.Done) × P
-ended_answers P (Ok done) s is so answer = (is, so)
-ended_answers P (Err write_stop.Failed) s is so answer = absurd (subst IsAnswer is answer)
-ended_answers P (Err write_stop.OutOfMemory) s is so answer = absurd (subst IsAnswer is answer)
 
 -- work that ends with its own status has it where there is an answer
 pub finished_answers : (P : Status → Type 0) (done : Result Status WriteStop) (s : Status) → s ≡ finished_as done → IfOk done P → IsAnswer s → P s

@@ -89,14 +89,6 @@ pub holds_trace : (told : Option (List NamedFile)) (name : Text) (m : FlatModel)
 holds_trace None name m bytes trace has gives = tt
 holds_trace (Some files) name m bytes trace has gives = record { bytes = bytes; has = has; gives = gives }
 
-pub no_desk_at_text : (f : read.TraceFault) → stop.Desk ≡ stop_at_text f → ⊥
-no_desk_at_text (fault.BadLine n) is = cc
-no_desk_at_text (fault.UnknownName n) is = cc
-no_desk_at_text (fault.Outside n) is = cc
-no_desk_at_text (fault.MissingValue k) is = cc
-no_desk_at_text (fault.Twice n) is = cc
-no_desk_at_text fault.OutOfMemory is = cc
-
 -- The extension in memory.
 module _ (p : ProgramTree) (l : LoadedCase) (loaded : IsLoaded p l) where
   pub loaded_printable : IsPrintable (model_tree l.limited.typed.model)

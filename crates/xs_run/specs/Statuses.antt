@@ -86,10 +86,6 @@ absent = record { part = part.Absent; number = 1; place = 0 }
 abbrev pub too_long : InputFault
 too_long = record { part = part.Length; number = 1; place = 1048576 }
 
--- the trace's file has more than 16,777,216 bytes
-abbrev pub trace_too_long : InputFault
-trace_too_long = record { part = part.Length; number = 1; place = 16777216 }
-
 -- the text of a top event has more than 65,536 bytes
 abbrev pub top_too_long : InputFault
 top_too_long = record { part = part.Length; number = 1; place = 65536 }

@@ -113,12 +113,3 @@ gone_none ms w spot items meanings e = record {
   gone = record { walked = walked_none ms w; own = subst (λ (fs : List Found). EachBoth (λ (i : ℕ × ItemOf). IsOwnIn (calls_of ms w) (variables_of_walk w) (place_at w spot) i.1) [] fs) (sym e) tt };
   told = refl;
 }
-
-pub gone_all : (ms : Modules) (w0 w1 : Walk) (spot : ℕ) (items : List Numbered) (k : ℕ) (meanings : List Found) → length items ≤ k → GoneSoFar ms w0 spot items k w1 meanings →
-    HasGone ms w0 spot (map numbered_tree items) w1 meanings
-gone_all ms w0 w1 spot items k meanings past far =
-    subst (λ (ns : List Numbered). HasGone ms w0 spot (map numbered_tree ns) w1 meanings) (take_all k items past) far.gone
-
-pub gone_kept : (ms : Modules) (w0 w1 : Walk) (spot : ℕ) (items : List Numbered) (k : ℕ) (meanings : List Found) → length items ≤ k → GoneSoFar ms w0 spot items k w1 meanings →
-    told_from ms w0 (visits_here ms w0 spot (map numbered_tree items)) ≡ None
-gone_kept ms w0 w1 spot items k meanings past far = sym far.told ∙ ap (λ ns. told_from ms w1 (visits_here ms w0 spot (map numbered_tree ns))) (drop_all k items past)

@@ -257,6 +257,3 @@ module _ (g : Graph) (count : ℕ) (into : IsInto g count) (ms : List Mark) (ord
       by_mark Ended e = rw e (visit_ended k e h)
       by_mark Begun e = rw e (visit_begun k e h)
       by_mark Unmet e = rw e (visit_unmet k e h)
-
-pub laid_all : (g : Graph) (count : ℕ) (s : Lay) → s.tasks ≡ [] → IsLaying g count s → IsLaid g count s.circle s.order
-laid_all g count s e h = record { laid = λ c. h.rest c s.order (subst (λ ts. Ends g s.order ts s.order) (sym e) refl); shown = h.shown }

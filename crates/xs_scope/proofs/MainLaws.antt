@@ -35,15 +35,6 @@ skipped_at ms k d x within other =
     ∙ skipped k (module_tree (get_or ms k d)) (map module_tree (drop (k + 1) ms)) x other
     ∙ sym (ap (λ ys. module_from k (map module_tree ys) x) (drop_more ms k d within))
 
--- a module that has no place isn't there, and one that isn't there has none
-pub no_place : (k : ℕ) (ms : ProgramTree) (x : Text) → module_from k ms x ≡ None → find_module ms x ≡ None
-no_place k [] x e = refl
-no_place k (m ∷ ms) x e = by_test (same_text m.name x) refl (no_place (suc k) ms x)
-  where
-    by_test : (b : Bool) → same_text m.name x ≡ b → (module_from (suc k) ms x ≡ None → find_module ms x ≡ None) → find_module (m ∷ ms) x ≡ None
-    by_test true t rest = let bad : Some k ≡ None = rw t at e in cc
-    by_test false t rest = rw t (rest (rw t at e))
-
 pub nowhere : (k : ℕ) (ms : ProgramTree) (x : Text) → find_module ms x ≡ None → module_from k ms x ≡ None
 nowhere k [] x e = refl
 nowhere k (m ∷ ms) x e = by_test (same_text m.name x) refl (nowhere (suc k) ms x)

@@ -181,11 +181,6 @@ once_none i j k e f = cc
 pub grown : (g : Graph) (ks order : List ℕ) → LaysAll g [] ks order → Grows g ks [] order
 grown g ks order all = grows_all g [] order ks (λ a b h. absurd h) once_none all
 
--- what is reached inside the count is inside
-pub reached_within : (g : Graph) (count : ℕ) (starts : List ℕ) (k : ℕ) → IsInto g count → ((j : ℕ) → Has starts j → j < count) → Reaches g starts k → k < count
-reached_within g count starts k into each (start h) = each k h
-reached_within g count starts k into each (further {a = a} from to) = into a k to
-
 upto_has : (from n k : ℕ) → k < n → Has (upto_from from n) (from + k)
 upto_has from zero k h = absurd (omega (arith, h))
 upto_has from (suc n) zero h = inl same

@@ -23,12 +23,6 @@ pub written_past : (fs : List (Vec Formal Global)) (k : ℕ) (v : Vec Formal Glo
     rows_of (slice_set fs k v) ≡ rows_with (rows_of fs) k i f
 written_past fs k v i f is past = written fs k v v i f is (sym (set_past v.items i f past))
 
-pub no_row : (fs : List (Vec Formal Global)) (k i : ℕ) (f : Formal) → length fs ≤ k → rows_of fs ≡ rows_with (rows_of fs) k i f
-no_row fs k i f past = sym (set_past (rows_of fs) k (slice_set (row_or (slice_get (rows_of fs) k)) i f) longer)
-  where
-    longer : length (rows_of fs) ≤ k
-    longer = subst (λ n. n ≤ k) (sym (length-map fs items_of_row)) past
-
 pub get_there : {A : Type 0} (xs : List A) (k : ℕ) (v : A) → k < length xs → v ≡ get_or xs k v → slice_get xs k ≡ Some v
 get_there [] k v within e = absurd (omega (arith, within))
 get_there (x ∷ xs) zero v within e = ap Some (sym e)

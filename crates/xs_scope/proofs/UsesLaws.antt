@@ -301,16 +301,3 @@ some_kept_back P [] h = absurd h
 some_kept_back P ((l, true) ∷ us) (inl h) = inl (record { is_under = refl; holds = h })
 some_kept_back P ((l, true) ∷ us) (inr h) = inr (some_kept_back P us h)
 some_kept_back P ((l, false) ∷ us) h = inr (some_kept_back P us h)
-
--- some name of an expression, and some name under its `next`
-pub some_leaf : {L : Type 0} (P : L → Type 0) (t : Tree L) → AtSome (λ u. P u.0) (flagged false t) → AtSome P (leaves_in t)
-some_leaf P t h = subst (AtSome P) (flagged_leaves false t) (some_first P (flagged false t) h)
-
-pub some_leaf_back : {L : Type 0} (P : L → Type 0) (t : Tree L) → AtSome P (leaves_in t) → AtSome (λ u. P u.0) (flagged false t)
-some_leaf_back P t h = some_first_back P (flagged false t) (subst (AtSome P) (sym (flagged_leaves false t)) h)
-
-pub some_under : {L : Type 0} (P : L → Type 0) (t : Tree L) → AtSome (IsFlagged P) (flagged false t) → AtSome P (leaves_under t)
-some_under P t h = subst (AtSome P) (flagged_are_under t) (some_kept P (flagged false t) h)
-
-pub some_under_back : {L : Type 0} (P : L → Type 0) (t : Tree L) → AtSome P (leaves_under t) → AtSome (IsFlagged P) (flagged false t)
-some_under_back P t h = some_kept_back P (flagged false t) (subst (AtSome P) (sym (flagged_are_under t)) h)

@@ -13,19 +13,6 @@ abbrev pub first_of : List (Bool × Rule) → Option Rule
 first_of [] = None
 first_of (r ∷ rs) = if r.0 then Some r.1 else first_of rs
 
--- the rule that wants a module `main`
-abbrev pub wants_main : Rule → Bool
-wants_main NoMain = true
-wants_main _ = false
-
--- the fault of a program that has a module `main`
-abbrev pub IsPastMain : FlatFault → Type 0
-IsPastMain f = wants_main f.rule ≡ false
-
--- the rule, where there is one, is another than that there is a module `main`
-abbrev pub IsRulePastMain : Option Rule → Type 0
-IsRulePastMain r = IfSome r (λ rule. wants_main rule ≡ false)
-
 -- the rule that a told one is; want of memory is none
 abbrev pub rule_of : Rule → Option rules.Rule
 rule_of code.NoMain = Some rules.no_main

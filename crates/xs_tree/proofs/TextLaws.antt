@@ -10,11 +10,6 @@ use Rattle.xs_tree.proofs.WrittenLaws.{tree_of_set}
 use Rattle.xs_tree.specs.Written.{tree_of}
 use Rattle.std.specs.Prelude.{codes}
 
--- what is left of texts after a mark, one text on
-pub each_after_more : {A : Type 0} (shown : A → Text) (mark : Text) (xs : List A) (i : ℕ) (d : A) → i < length xs →
-    each_after mark (map shown (drop i xs)) ≡ mark ++ (shown (get_or xs i d) ++ each_after mark (map shown (drop (i + 1) xs)))
-each_after_more shown mark xs i d h = ap (λ ys. each_after mark (map shown ys)) (drop_more xs i d h)
-
 -- the texts of the members of a set are those of a list of trees
 pub trees_texts_from : (ts : List (Tree Path)) → trees_texts (trees_from ts) ≡ map text_of ts
 trees_texts_from [] = refl

@@ -9,16 +9,6 @@ use Rattle.xs_tree.specs.Values.{Value, truth, number, Values, no_value, one, fr
 abbrev pub Leaves : Type 0 → Type 0
 Leaves L = L → Option Values
 
--- the only value
-abbrev pub only : Option Values → Option Value
-only (Some (one v)) = Some v
-only _ = None
-
--- the only value, where it is a truth value
-abbrev pub only_truth : Option Values → Option Bool
-only_truth (Some (one (truth b))) = Some b
-only_truth _ = None
-
 -- a result as values
 abbrev pub gives_one : Option Value → Option Values
 gives_one (Some v) = Some (one v)

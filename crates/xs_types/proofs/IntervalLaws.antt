@@ -6,9 +6,6 @@ use mir.Syntax.{w64}
 use Rattle.xs_kinds.specs.Intervals.{Interval, just, hull}
 use Rattle.xs_types.specs.Told.{fitting, IsSmall}
 
-pub by_ends : {r : Option Interval} {a b : ℤ} (c d : ℤ) → r ≡ fitting (record { lo = a; hi = b }) → a ≡ c → b ≡ d → r ≡ fitting (record { lo = c; hi = d })
-by_ends {b = b} c d e p q = e ∙ ap (λ x. fitting (record { lo = x; hi = b })) p ∙ ap (λ y. fitting (record { lo = c; hi = y })) q
-
 small_size : (a : ℤ) → IsSmall a → unsigned_abs a ≤ 2147483648
 small_size a s = omega (arith, ints, s.0, s.1)
 

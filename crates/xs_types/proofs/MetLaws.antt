@@ -23,10 +23,6 @@ pub int_itself : (a : ℤ) → same_int a a ≡ true
 int_itself (pos n) = eq-eqb n n refl
 int_itself (negsuc n) = eq-eqb n n refl
 
--- both tests of numbers answer the same
-pub same_numbers : (a b : ℤ) → int_eq a b ≡ same_int a b
-same_numbers a b = same_from_decides (int_eq a b) (same_int a b) (Decides-int_eq a b) (same_int_equal a b, λ e. subst (λ x. same_int a x ≡ true) e (int_itself a))
-
 among_last : (ts : List (List ℕ)) (x y : List ℕ) → is_among (ts ++ x ∷ []) y ≡ (same_text x y || is_among ts y)
 among_last [] x y = refl
 among_last (t ∷ ts) x y = ap (λ b. same_text t y || b) (among_last ts x y) ∙ swapped (same_text t y) (same_text x y) (is_among ts y)

@@ -42,16 +42,6 @@ pub whole_cost : (m : FlatModel) →
 whole_cost m =
     omega (arith, variables_same m.variables, formulas_same m.definitions, formulas_same m.init, formulas_same m.invar, formulas_same m.trans)
 
--- the bits of a model's states
-pub whole_bits : (m : FlatModel) → state_bits (model_tree m) ≡ variables_bits m.symbols m.variables
-whole_bits m = go m.variables
-  where
-    go : (vs : List Variable) → sum_by (λ (x : FlatVariable). role_width x.role (declared_width m.symbols x.declared)) (map variable_tree vs) ≡ variables_bits m.symbols vs
-    go [] = refl
-    go (v ∷ vs) =
-        sum_by-cons (λ (x : FlatVariable). role_width x.role (declared_width m.symbols x.declared)) (variable_tree v) (map variable_tree vs) ∙ ap (λ n. variable_bits m.symbols v + n) (go vs)
-        ∙ sym (sum_by-cons (variable_bits m.symbols) v vs)
-
 -- a number above the limit of costs counts as one more than it
 pub below_cap : (limit n : ℕ) → limit ≤ 50000 → nat_lt limit (min n 50001) ≡ nat_lt limit n
 below_cap limit n h = by (nat_lt limit (min n 50001)) (nat_lt limit n) refl refl

@@ -241,29 +241,9 @@ first_entries es (f ∷ fs) x =
     first_entries (with_entry es f) fs x ∙ ap (λ o. or_first o (first_with fs x)) (first_entry es f x) ∙ first_assoc (first_with es x) (first_with (f ∷ []) x) (first_with fs x)
     ∙ ap (or_first (first_with es x)) (sym (first_cons f fs x))
 
--- one element on
-pub texts_step : (ts : List Text) (xs : List Text) (i : ℕ) (d : Text) → i < length xs → with_texts ts (drop i xs) ≡ with_texts (with_text ts (get_or xs i d)) (drop (i + 1) xs)
-texts_step ts xs i d h = ap (with_texts ts) (drop_more xs i d h)
-
-pub texts_flat_step : {A : Type 0} (f : A → List Text) (ts : List Text) (xs : List A) (i : ℕ) (d : A) → i < length xs →
-    with_texts ts (flat_map f (drop i xs)) ≡ with_texts (with_texts ts (f (get_or xs i d))) (flat_map f (drop (i + 1) xs))
-texts_flat_step f ts xs i d h = ap (λ ys. with_texts ts (flat_map f ys)) (drop_more xs i d h) ∙ texts_more ts (f (get_or xs i d)) (flat_map f (drop (i + 1) xs))
-
 pub texts_tree_step : {A B : Type 0} (f : B → List Text) (g : A → B) (ts : List Text) (xs : List A) (i : ℕ) (d : A) → i < length xs →
     with_texts ts (flat_map f (map g (drop i xs))) ≡ with_texts (with_texts ts (f (g (get_or xs i d)))) (flat_map f (map g (drop (i + 1) xs)))
 texts_tree_step f g ts xs i d h = ap (λ ys. with_texts ts (flat_map f (map g ys))) (drop_more xs i d h) ∙ texts_more ts (f (g (get_or xs i d))) (flat_map f (map g (drop (i + 1) xs)))
-
-pub texts_map_step : {A B : Type 0} (f : B → Text) (g : A → B) (ts : List Text) (xs : List A) (i : ℕ) (d : A) → i < length xs →
-    with_texts ts (map f (map g (drop i xs))) ≡ with_texts (with_text ts (f (g (get_or xs i d)))) (map f (map g (drop (i + 1) xs)))
-texts_map_step f g ts xs i d h = ap (λ ys. with_texts ts (map f (map g ys))) (drop_more xs i d h)
-
-pub entries_step : {A B : Type 0} (f : A → Text × B) (es : List (Text × B)) (xs : List A) (i : ℕ) (d : A) → i < length xs →
-    with_entries es (map f (drop i xs)) ≡ with_entries (with_entry es (f (get_or xs i d))) (map f (drop (i + 1) xs))
-entries_step f es xs i d h = ap (λ ys. with_entries es (map f ys)) (drop_more xs i d h)
-
-pub entries_map_step : {A B C : Type 0} (f : B → Text × C) (g : A → B) (es : List (Text × C)) (xs : List A) (i : ℕ) (d : A) → i < length xs →
-    with_entries es (map f (map g (drop i xs))) ≡ with_entries (with_entry es (f (g (get_or xs i d)))) (map f (map g (drop (i + 1) xs)))
-entries_map_step f g es xs i d h = ap (λ ys. with_entries es (map f (map g ys))) (drop_more xs i d h)
 
 pub entries_flat_step : {A B C : Type 0} (f : B → List (Text × C)) (g : A → B) (es : List (Text × C)) (xs : List A) (i : ℕ) (d : A) → i < length xs →
     with_entries es (flat_map f (map g (drop i xs))) ≡ with_entries (with_entries es (f (g (get_or xs i d)))) (flat_map f (map g (drop (i + 1) xs)))

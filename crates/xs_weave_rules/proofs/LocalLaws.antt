@@ -104,15 +104,6 @@ missing_first (m ∷ p) owner = go (same_text m.name owner) (missing_first p own
 pub missing_is : (p : ProgramTree) (owner : Text) → is_missing (find_module p owner) ≡ opposite_of (is_some (first_with (with_entries [] (scopes_of p)) owner))
 missing_is p owner = missing_first p owner ∙ ap (λ o. opposite_of (is_some o)) (sym (first_entries [] (scopes_of p) owner))
 
-pub known_seen : (k : Kind) → is_known k ≡ is_some (seen_kind k)
-known_seen undeclared = refl
-known_seen (a_formal i) = refl
-known_seen (a_variable state type) = refl
-known_seen (a_variable input type) = refl
-known_seen (a_variable frozen_role type) = refl
-known_seen (a_define e) = refl
-known_seen (an_instance m actuals) = refl
-
 -- the names of a program
 module _ (x : Text) where
   flat_names : {A : Type 0} (f : A → List Text) (test : A → Bool) → ((a : A) → is_among (f a) x ≡ test a) → (xs : List A) → is_among (flat_map f xs) x ≡ list_any test xs

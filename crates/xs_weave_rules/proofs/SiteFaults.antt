@@ -155,9 +155,6 @@ module _ (p : ProgramTree) (old now : Met) (all sites rest : List Site) (slices 
   pub left_stops : (f : RuleFault) → IsLeft p old now all (sites ++ rest) slices (more ++ more_left) → first_fault (broken_at p) now.last sites ≡ Some f → first_fault (broken_at p) old.last all ≡ Some f
   left_stops f left told = sym left.faults ∙ faults_some (broken_at p) now.last sites rest f told
 
-pub left_first : (p : ProgramTree) (old : Met) (all : List Site) (slices : List OwnedSlice) → IsMet old → IsLeft p old old all all slices slices
-left_first p old all slices met = record { faults = refl; last = refl; slices_are = refl; met = met }
-
 pub left_done : (p : ProgramTree) (old now : Met) (all : List Site) (slices : List OwnedSlice) → IsLeft p old now all [] slices [] → IsTaken p old.last old now all slices
 left_done p old now all slices left = record {
   kept = sym left.faults;
@@ -266,15 +263,6 @@ module _ (met : Met) (is : IsMet met) where
   slice_broken p o type h =
       (λ i. slice_rule (slice_names_have o.slice.name i) (targets_have o i) (adds_same p o i) (hides_symbol (find_module p o.owner) type))
       ∙ sym (typed_rule p o (target_kind p o) type (is_slice_name (slices_in met) o.slice.name) (is_affected_already (slices_in met) o) (slice_adds_taken p (slices_in met) o) h)
-
-pub type_seen : (k : Kind) (type : DeclaredTree) → seen_kind k ≡ Some (variable type) → type ≡ type_of_kind k
-type_seen undeclared type h = cc
-type_seen (a_formal j) type h = cc
-type_seen (a_define e) type h = cc
-type_seen (an_instance m actuals) type h = cc
-type_seen (a_variable input t) type h = cc
-type_seen (a_variable frozen_role t) type h = cc
-type_seen (a_variable state t) type h = cc
 
 -- what is met after a slice
 flat_push : {A B : Type 0} (f : A → List B) (xs : List A) (x : A) → flat_map f (xs ++ x ∷ []) ≡ flat_map f xs ++ f x

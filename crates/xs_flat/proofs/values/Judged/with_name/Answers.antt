@@ -1,6 +1,6 @@
 -- A name is judged by what it means.
 use Rattle.xs_flat.proofs.JudgeValues.{judge_told}
-use Rattle.xs_flat.proofs.judge.Judged.with_name.Goals as goal
+use Rattle.xs_flat.proofs.values.Judged.with_name.Goals as goal
 
 pub returns : goal.returns
 returns c =

@@ -3,7 +3,7 @@ use Rattle.std.proofs.Common.{map}
 use Rattle.xs_tree.specs.Written.{tree_of}
 use Rattle.xs_scope.specs.SceneTree.{program_of}
 use Rattle.xs_flat.proofs.JudgeHanded.{no_actuals, actuals_step, actuals_end}
-use Rattle.xs_flat.proofs.judge.judge_actuals.Goals as goal
+use Rattle.xs_flat.proofs.values.judge_actuals.Goals as goal
 
 pub loop-formal-init : goal.loop-formal-init
 loop-formal-init c = no_actuals (program_of c.args.scene.now) c.args.spot c.args.inner (map tree_of c.args.actuals.now)

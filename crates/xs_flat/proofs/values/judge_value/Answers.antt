@@ -3,7 +3,7 @@ use Rattle.std.proofs.Common.{rules}
 use Rattle.xs_tree.specs.Written.{tree_of}
 use Rattle.xs_scope.specs.SceneTree.{program_of}
 use Rattle.xs_flat.proofs.JudgeValues.{value_judged}
-use Rattle.xs_flat.proofs.judge.judge_value.Goals as goal
+use Rattle.xs_flat.proofs.values.judge_value.Goals as goal
 
 pub returns : goal.returns
 returns c = record {

@@ -5,7 +5,7 @@ use Rattle.xs_scope.specs.SceneTree.{program_of}
 use Rattle.xs_flat.specs.Verdicts.{AreJudged}
 use Rattle.xs_flat.proofs.JudgeLists.{take_step, take_end}
 use Rattle.xs_flat.proofs.JudgeValues.{no_names}
-use Rattle.xs_flat.proofs.judge.judge_names.Goals as goal
+use Rattle.xs_flat.proofs.values.judge_names.Goals as goal
 
 pub loop-each-init : goal.loop-each-init
 loop-each-init c = no_names (program_of c.args.scene.now) c.args.spot c.args.next c.args.nested_next

@@ -2,7 +2,7 @@
 use Rattle.std.proofs.Common.{sym, ◌∙◌}
 use Rattle.xs_tree.specs.Written.{tree_of}
 use Rattle.xs_flat.proofs.JudgeHanded.{plain_actual, value_actual}
-use Rattle.xs_flat.proofs.judge.judge_actual.Goals as goal
+use Rattle.xs_flat.proofs.values.judge_actual.Goals as goal
 
 pub returns-then-is_plain : goal.returns-then-is_plain
 returns-then-is_plain c =
