@@ -15,12 +15,8 @@ use Rattle.xs_encoding.specs.Lists.{system_of, bad_list}
 use Rattle.xs_trace_text.specs.Given.{GivesTrace}
 use Rattle.xs_certificate.specs.Certificate.{Certificate, Site}
 use Rattle.xs_certificate.specs.Accepted.{Subject, Rule, IsAccepted, IsObjection}
+use Rattle.xs_subject.specs.Subject.{subject_of}
 use Rattle.xs_certificate.specs.Sites.{KeepsAll, BreaksFirst}
-
--- the lists of the model with history, its number of faults, and the list of bad states
-abbrev pub subject_of : FlatModel → FlatModel → List Mode → Tree FlatLeaf → Subject
-subject_of full m fs top =
-    record { system = system_of full; faults = length fs; bad = λ sets size. bad_list full top (history_of m fs) sets size }
 
 -- a model without history, its faults, a top event, a subject and a certificate
 pub record Matter : Type 0 where

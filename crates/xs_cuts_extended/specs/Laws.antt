@@ -12,8 +12,9 @@ use Rattle.xs_extended_right.specs.ExtendedTraces.{IsExtensionModel}
 use Rattle.xs_reporting.specs.ExtendedTraces.{IsAnalysisOf}
 use Rattle.xs_cuts.specs.declared.answer.Analysis.{Analysis as Found}
 use Rattle.xs_cuts.specs.Answer.{IsAnswer}
-use Rattle.xs_report.specs.declared.analysis.Ending.{Ending as Printed}
-use Rattle.xs_report.specs.Analysed.{told_ending, told_analysis}
+use Rattle.xs_value.specs.declared.ending.Ending.{Ending as Printed}
+use Rattle.xs_report.specs.Analysed.{told_analysis}
+use Rattle.xs_analysis_text.specs.Analysis.{told_ending}
 use Rattle.xs_cuts_extended.specs.Answered.{ending_of, analysis_of, EndsBy}
 
 -- An answer for the flat model of an extension is an analysis of the extension: its sets are right for all extended traces, or

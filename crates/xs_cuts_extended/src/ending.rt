@@ -1,11 +1,11 @@
 //! How a report tells the answer of a search.
 
 ghost use Rattle.std.specs.Prelude.{◌≡◌};
-ghost use Rattle.xs_report.specs.Analysed.{told_ending};
+ghost use Rattle.xs_analysis_text.specs.Analysis.{told_ending};
 ghost use Rattle.xs_cuts_extended.specs.Answered.{ending_of};
 
 use xs_cuts::answer::End;
-use xs_report::Ending;
+use xs_value::Ending;
 
 /// How a report tells the ending of a search.
 pub fn told(end: &End) -> Ending

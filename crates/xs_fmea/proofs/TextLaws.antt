@@ -7,10 +7,11 @@ use Rattle.xs_tree.specs.ProgramTree.{Text}
 use Rattle.xs_analysis_text.specs.Analysis.{Analysis}
 use Rattle.xs_analysis_text.specs.AnalysisText.{numbers_text, ending_text}
 use Rattle.xs_fmea.specs.Tables.{entry_of, rows_of, entries_text, column_lines, row_lines, table_text}
-use Rattle.xs_fmea.specs.Columns.{told_entry, told_ending, IsTableOf, ending_line, ending_lines, entry_lines, line_at, printed_table}
+use Rattle.xs_fmea.specs.Columns.{told_entry, IsTableOf, ending_line, ending_lines, entry_lines, line_at, printed_table}
+use Rattle.xs_analysis_text.specs.Analysis.{told_ending}
 use Rattle.xs_fmea.specs.declared.columns.FmeaTable.{FmeaTable}
 use Rattle.xs_fmea.specs.declared.columns.Entry.{Entry as Entered}
-use Rattle.xs_fmea.specs.declared.columns.Ending.{Ending as Ended}
+use Rattle.xs_value.specs.declared.ending.Ending.{Ending as Ended}
 
 pub ruleset text_rules = (append_assoc, append-nil, length-map)
 

@@ -2,13 +2,11 @@
 use Rattle.std.specs.Prelude.{◌≡◌, ◌<◌, ◌≤◌, ℕ, suc, true, List, [], ◌∷◌, ◌++◌, All, Option, Some, None, slice_get, codes, length, map}
 use Rattle.std.specs.Fmt.{decimal}
 use Rattle.xs_tree.specs.ProgramTree.{Text}
-use Rattle.xs_analysis_text.specs.Analysis.{Ending, complete, bounded, Analysis}
+use Rattle.xs_analysis_text.specs.Analysis.{Analysis, told_ending}
 use Rattle.xs_analysis_text.specs.AnalysisText.{numbers_text, ending_text}
 use Rattle.xs_fmea.specs.Tables.{Entry, yes, no, unknown, entry_of, rows_of, entries_text}
 use Rattle.xs_fmea.specs.declared.columns.Entry.{Entry as Entered}
 use Rattle.xs_fmea.specs.declared.columns.Entry.TheVariants as entered
-use Rattle.xs_fmea.specs.declared.columns.Ending.{Ending as Ended}
-use Rattle.xs_fmea.specs.declared.columns.Ending.TheVariants as ended
 use Rattle.xs_fmea.specs.declared.columns.Column.{Column}
 use Rattle.xs_fmea.specs.declared.columns.FmeaTable.{FmeaTable}
 
@@ -16,10 +14,6 @@ abbrev pub told_entry : Entered → Entry
 told_entry entered.Yes = yes
 told_entry entered.No = no
 told_entry entered.Unknown = unknown
-
-abbrev pub told_ending : Ended → Ending
-told_ending ended.Complete = complete
-told_ending (ended.Bounded k) = bounded k
 
 -- a column as an analysis of which only the sets and the ending are told
 abbrev pub told_column : Column → Analysis

@@ -1,13 +1,6 @@
 //! Columns, which are answers of analyses, and the table that is made of them.
 
-use xs_value::{Items, SetList};
-
-/// How an analysis ended: for all traces, or for those of at most so many steps.
-#[derive(Clone, Copy)]
-pub enum Ending {
-    Complete,
-    Bounded(u32),
-}
+use xs_value::{Ending, Items, SetList};
 
 /// What an analysis found for a top event: the sets that reach it, and how it ended.
 #[derive(Drop)]

@@ -5,14 +5,13 @@ ghost use Rattle.std.specs.List.{list_any};
 ghost use Rattle.xs_right.specs.Sets.{has_number, is_contained as contained};
 ghost use Rattle.xs_analysis_text.specs.Analysis.{Analysis};
 ghost use Rattle.xs_fmea.specs.Tables.{entry_of, absent_entry, rows_of as rows_within};
-ghost use Rattle.xs_fmea.specs.Columns.{told_entry, told_ending, told_column, AreTold, NamesFaults, IsTableOf};
+ghost use Rattle.xs_fmea.specs.Columns.{told_entry, told_column, AreTold, NamesFaults, IsTableOf};
+ghost use Rattle.xs_analysis_text.specs.Analysis.{told_ending};
 
-use crate::columns::{
-    Column, ColumnList, Ending, EndingList, Entry, EntryList, EntryRows, FmeaTable,
-};
+use crate::columns::{Column, ColumnList, EndingList, Entry, EntryList, EntryRows, FmeaTable};
 use crate::rows::rows_of;
 use std::alloc::Global;
-use xs_value::{FaultSet, OutOfMemory, SetList};
+use xs_value::{Ending, FaultSet, OutOfMemory, SetList};
 
 /// The table of rows of at most so many faults: what each column says of each.
 pub fn table(

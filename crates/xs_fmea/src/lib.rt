@@ -21,7 +21,7 @@ mod entries;
 mod print;
 mod rows;
 
-pub use columns::{Column, ColumnList, Ending, EndingList, Entry, EntryList, EntryRows, FmeaTable};
+pub use columns::{Column, ColumnList, EndingList, Entry, EntryList, EntryRows, FmeaTable};
 pub use entries::table;
 pub use print::print_table;
 

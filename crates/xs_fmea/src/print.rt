@@ -5,11 +5,12 @@ ghost use Rattle.std.specs.Fmt.{decimal};
 ghost use Rattle.xs_analysis_text.specs.Analysis.{Analysis};
 ghost use Rattle.xs_analysis_text.specs.AnalysisText.{numbers_text, ending_text as text_of_ending};
 ghost use Rattle.xs_fmea.specs.Tables.{entry_text as text_of_entry, entries_text, table_text};
-ghost use Rattle.xs_fmea.specs.Columns.{told_entry, told_ending, IsTableOf, ending_line, ending_lines, entry_line, entry_lines, line_at, printed_table};
+ghost use Rattle.xs_fmea.specs.Columns.{told_entry, IsTableOf, ending_line, ending_lines, entry_line, entry_lines, line_at, printed_table};
+ghost use Rattle.xs_analysis_text.specs.Analysis.{told_ending};
 
-use crate::columns::{Ending, Entry, EntryList, FmeaTable};
+use crate::columns::{Entry, EntryList, FmeaTable};
 use std::alloc::Global;
-use xs_value::{ByteList, FaultSet, OutOfMemory};
+use xs_value::{ByteList, Ending, FaultSet, OutOfMemory};
 
 /// The text of a table after the lines of the faults, which the caller gives: how many columns there are, how each
 /// ends, and a line for each row. The bits are those of a state.

@@ -16,7 +16,7 @@ use Rattle.xs_reach.specs.declared.status.Refusal.TheVariants as refusal
 use Rattle.xs_reach.specs.declared.status.Status.{Status}
 use Rattle.xs_reach.specs.declared.odds.Marked.{Marked}
 use Rattle.xs_reach.specs.declared.odds.FoundOdds.{FoundOdds}
-use Rattle.xs_report.specs.Analysed.{told_ending}
+use Rattle.xs_analysis_text.specs.Analysis.{told_ending}
 use Rattle.xs_reach.specs.Odds.{RefusesOdds, at_model, at_faults, at_mark, at_top, RefusesMark, IsMarked, IsOddsFinding, ended_with, HasOdds}
 
 module _ (model faults top : Text) where

@@ -6,7 +6,7 @@ ghost use Rattle.xs_scope.specs.ModelTree.{model_tree};
 ghost use Rattle.xs_fei.specs.Instructions.{instruction_tree};
 ghost use Rattle.xs_odds.specs.Marks.{HasProbabilities, AreOdds};
 ghost use Rattle.xs_odds.specs.OddsText.{odds_text};
-ghost use Rattle.xs_report.specs.Analysed.{told_ending};
+ghost use Rattle.xs_analysis_text.specs.Analysis.{told_ending};
 ghost use Rattle.xs_report.specs.FaultText.{name_of, faults_text};
 ghost use Rattle.xs_kinds.specs.Costs.{state_bits};
 ghost use Rattle.xs_run.specs.Loaded.{case_of, IsLoaded};
@@ -28,13 +28,13 @@ use xs_cuts_extended::told;
 use xs_desk::{Desk, say_whole};
 use xs_odds::{MarkFault, OddsFault, OddsList, marks, print_odds};
 use xs_reach_words::FindOdds;
-use xs_report::{Ending, print_faults};
+use xs_report::print_faults;
 use xs_run::event::LoadedEvent;
 use xs_run::loaded::{LoadedCase, load_case};
 use xs_run::model::load_model;
 use xs_run::search::{analysed, size_of};
 use xs_run::top::load_top;
-use xs_value::{ByteList, OutOfMemory};
+use xs_value::{ByteList, Ending, OutOfMemory};
 
 /// A case with a top event and its word, the units of each of its faults, and how far it is to be searched.
 #[derive(Drop)]

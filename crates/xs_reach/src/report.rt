@@ -2,12 +2,11 @@
 ghost use Rattle.std.specs.Prelude.{◌≡◌, ◌++◌, codes, OnOk};
 ghost use Rattle.std.specs.Fmt.{decimal};
 ghost use Rattle.xs_analysis_text.specs.AnalysisText.{numbers_text, set_lines};
-ghost use Rattle.xs_report.specs.Analysed.{told_ending};
+ghost use Rattle.xs_analysis_text.specs.Analysis.{told_ending};
 ghost use Rattle.xs_reach.specs.Reports.{sets_text, ending_line};
 
 use std::alloc::Global;
-use xs_report::Ending;
-use xs_value::{ByteList, FaultSet, OutOfMemory};
+use xs_value::{ByteList, Ending, FaultSet, OutOfMemory};
 
 /// Appends the number of the sets, and a line for each with its numbers.
 #[tactic(auto, using(crate::proofs::TextLaws::text_rules))]

@@ -3,15 +3,9 @@ use Rattle.std.specs.Prelude.{ℕ, Bool, List, map}
 use Rattle.xs_tree.specs.ProgramTree.{Text}
 use Rattle.xs_tree.specs.Values.{Value}
 use Rattle.xs_value.specs.declared.value.Value.{Value as Numbered}
-use Rattle.xs_analysis_text.specs.Analysis.{Ending, complete, bounded, Analysis}
-use Rattle.xs_report.specs.declared.analysis.Ending.{Ending as CodeEnding}
-use Rattle.xs_report.specs.declared.analysis.Ending.TheVariants.{Complete, Bounded}
+use Rattle.xs_analysis_text.specs.Analysis.{Analysis, told_ending}
+use Rattle.xs_value.specs.declared.ending.Ending.{Ending as CodeEnding}
 use Rattle.xs_report.specs.Told.{told_trace}
-
--- how it ends
-abbrev pub told_ending : CodeEnding → Ending
-told_ending Complete = complete
-told_ending (Bounded k) = bounded k
 
 -- the values of its traces
 abbrev pub told_traces : List Text → List (List (List Numbered)) → List (List (List Value))

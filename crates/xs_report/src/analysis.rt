@@ -7,7 +7,8 @@ ghost use Rattle.xs_analysis_text.specs.AnalysisText.{numbers_text, set_lines, t
 ghost use Rattle.xs_trace_text.specs.TraceText.{trace_text};
 ghost use Rattle.xs_report.specs.FaultText.{name_of, faults_text};
 ghost use Rattle.xs_report.specs.Told.{told_trace};
-ghost use Rattle.xs_report.specs.Analysed.{told_ending, told_analysis, told_traces};
+ghost use Rattle.xs_report.specs.Analysed.{told_analysis, told_traces};
+ghost use Rattle.xs_analysis_text.specs.Analysis.{told_ending};
 
 use crate::fault_list::print_faults;
 use crate::text::append_count;
@@ -15,16 +16,7 @@ use crate::traces::print_trace;
 use std::alloc::Global;
 use xs_flat::FaultList;
 use xs_types::Typed;
-use xs_value::{ByteList, FaultSet, MomentList, OutOfMemory, SetList, TraceList};
-
-/// How an analysis ends.
-#[derive(Clone, Copy, Debug, PartialEq, Eq)]
-pub enum Ending {
-    /// Its sets are right for all traces.
-    Complete,
-    /// They are right for the traces of at most so many steps.
-    Bounded(u32),
-}
+use xs_value::{ByteList, Ending, FaultSet, MomentList, OutOfMemory, SetList, TraceList};
 
 /// The report of an analysis of the model with these faults: the lines of the faults; `sets` and their number, and a
 /// line for each set with its numbers; each trace under its number, from 1; `no first moment` where there is none; how

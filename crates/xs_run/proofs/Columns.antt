@@ -16,7 +16,7 @@ use Rattle.xs_encoding.specs.Lists.{system_of}
 use Rattle.xs_cuts.specs.Answer.{IsAnswer}
 use Rattle.xs_cuts.specs.declared.answer.Analysis.{Analysis as Searched}
 use Rattle.xs_cuts_extended.specs.Answered.{ending_of, analysis_of}
-use Rattle.xs_fmea.specs.declared.columns.Ending.{Ending as Ended}
+use Rattle.xs_value.specs.declared.ending.Ending.{Ending as Ended}
 use Rattle.xs_run.specs.declared.loaded.LoadedCase.{LoadedCase}
 use Rattle.xs_run.specs.Loaded.{case_of}
 use Rattle.xs_run.specs.Cases.{whole_of}
@@ -28,10 +28,11 @@ use Rattle.xs_kinds.specs.Costs.{state_bits}
 use Rattle.xs_extend.specs.WovenFaults.{fault_tree}
 use Rattle.xs_report.specs.FaultText as lines
 use Rattle.xs_report.specs.FaultText.{name_of}
-use Rattle.xs_fmea.specs.Columns.{AreTold, NamesFaults, IsTableOf, told_ending}
+use Rattle.xs_fmea.specs.Columns.{AreTold, NamesFaults, IsTableOf}
+use Rattle.xs_analysis_text.specs.Analysis.{told_ending}
 use Rattle.xs_fmea.specs.declared.columns.FmeaTable.{FmeaTable}
 use Rattle.xs_fmea.specs.declared.columns.Column.{Column}
-use Rattle.xs_fmea.specs.declared.columns.Ending.TheVariants as ended
+use Rattle.xs_value.specs.declared.ending.Ending.TheVariants as ended
 use Rattle.xs_fmea.specs.Tables.{rows_of, pairs_after, pairs_from, table_text}
 use Rattle.xs_reporting.specs.ExtendedTraces.{Analysis}
 use Rattle.xs_reporting.proofs.EntryLaws.{entries_are_right}

@@ -27,8 +27,9 @@ use Rattle.xs_certify.specs.Texts.{text_lines}
 use Rattle.xs_report.specs.FaultText as lines
 use Rattle.xs_report.specs.FaultText.{name_of}
 use Rattle.xs_report.specs.Told.{told_trace}
-use Rattle.xs_report.specs.Analysed.{told_ending, told_analysis}
-use Rattle.xs_report.specs.declared.analysis.Ending.{Ending as Printed}
+use Rattle.xs_report.specs.Analysed.{told_analysis}
+use Rattle.xs_analysis_text.specs.Analysis.{told_ending}
+use Rattle.xs_value.specs.declared.ending.Ending.{Ending as Printed}
 use Rattle.xs_cuts.specs.Answer.{IsAnswer}
 use Rattle.xs_cuts.specs.declared.answer.Analysis.{Analysis as Searched}
 use Rattle.xs_cuts.specs.declared.answer.End.{End}

@@ -15,8 +15,8 @@ use Rattle.xs_flattening.specs.Flat.{FlatLeaf}
 use Rattle.xs_kinds.specs.Costs.{state_bits}
 use Rattle.xs_encoding.specs.Bits.{state_of, inputs_of}
 use Rattle.xs_encoding.specs.Lists.{system_of}
-use Rattle.xs_report.specs.Analysed.{told_ending}
-use Rattle.xs_report.specs.declared.analysis.Ending.{Ending as Printed}
+use Rattle.xs_analysis_text.specs.Analysis.{told_ending}
+use Rattle.xs_value.specs.declared.ending.Ending.{Ending as Printed}
 use Rattle.xs_cuts.specs.Answer.{IsAnswer}
 use Rattle.xs_cuts.specs.declared.answer.Analysis.{Analysis as Searched}
 use Rattle.xs_cuts_extended.specs.Answered.{ending_of, analysis_of}

@@ -14,7 +14,7 @@ use Rattle.xs_encoding.specs.Encodable.{IsEncodable, IsFitTop}
 use Rattle.xs_encoding.specs.Lists.{system_of}
 use Rattle.xs_trace_text.specs.Given.{IsPrintable}
 use Rattle.xs_report.specs.Told.{told_trace}
-use Rattle.xs_report.specs.Analysed.{told_ending}
+use Rattle.xs_analysis_text.specs.Analysis.{told_ending}
 use Rattle.xs_cuts.specs.Answer.{IsAnswer}
 use Rattle.xs_cuts.specs.declared.answer.Analysis.{Analysis as Searched}
 use Rattle.xs_cuts.specs.declared.answer.End.{End}

@@ -14,7 +14,8 @@ use Rattle.xs_flattening.specs.Flat.{FlatLeaf, FlatModel}
 use Rattle.xs_flattening.specs.Model.{EachBoth}
 use Rattle.xs_scope.specs.ModelTree.{flat_tree}
 use Rattle.xs_fmea.specs.Tables.{table_text, rows_of, entry_of}
-use Rattle.xs_fmea.specs.Columns.{AreTold, NamesFaults, told_ending}
+use Rattle.xs_fmea.specs.Columns.{AreTold, NamesFaults}
+use Rattle.xs_analysis_text.specs.Analysis.{told_ending}
 use Rattle.xs_fmea.specs.declared.columns.Column.{Column}
 use Rattle.xs_reporting.specs.ExtendedTraces.{Ending, complete, bounded, Analysis}
 use Rattle.xs_reporting.specs.Tables.{IsEntry}

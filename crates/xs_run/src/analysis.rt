@@ -2,7 +2,7 @@
 ghost use Rattle.std.specs.Prelude.{◌≡◌, ◌≤◌, IfOk, OnOk, OnErr, IsErrOf};
 ghost use Rattle.xs_desk.specs.Desk.{Rose, said_more};
 ghost use Rattle.xs_desk.specs.declared.desk.WriteStop.TheVariants as write_stop;
-ghost use Rattle.xs_report.specs.Analysed.{told_ending};
+ghost use Rattle.xs_analysis_text.specs.Analysis.{told_ending};
 ghost use Rattle.xs_run.specs.Analyses.{ended_with, HasAnalysed, AnalysesInPart};
 ghost use Rattle.xs_run.specs.Searches.{IsEvent, analysed_case, analysed_size, told_maybe, WritesPrefixMaybe, ConcludesInPart};
 

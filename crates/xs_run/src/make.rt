@@ -14,7 +14,7 @@ ghost use Rattle.xs_fei.specs.SpellsInstructions.{BytesSpellInstructions};
 ghost use Rattle.xs_scope.specs.ModelTree.{model_tree, flat_tree};
 ghost use Rattle.xs_extend.specs.InstanceLaws.{HasInstancesInVar};
 ghost use Rattle.xs_generate.specs.Generator as generator;
-ghost use Rattle.xs_report.specs.Analysed.{told_ending};
+ghost use Rattle.xs_analysis_text.specs.Analysis.{told_ending};
 ghost use Rattle.xs_run.specs.Answered.{summary_ending};
 ghost use Rattle.xs_run.specs.Models.{IsModelText, IsLawful, IsSpelled};
 ghost use Rattle.xs_run.specs.Inputs.{IsInstructionText};
@@ -35,9 +35,8 @@ use xs_desk::{Desk, WriteStop, say_whole, write_whole};
 use xs_fei::print_instructions;
 use xs_flat::Flat;
 use xs_generate::{generated_instructions, generated_model};
-use xs_report::Ending;
 use xs_tree::{Expr, print_program};
-use xs_value::{ByteList, OutOfMemory};
+use xs_value::{ByteList, Ending, OutOfMemory};
 
 /// The limit of a file of a case, in bytes.
 const LIMIT: usize = 1_048_576;

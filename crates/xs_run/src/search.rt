@@ -5,7 +5,7 @@ ghost use Rattle.xs_flattening.specs.History.{with_history};
 ghost use Rattle.xs_encoding.specs.Bits.{state_of, inputs_of};
 ghost use Rattle.xs_encoding.specs.Lists.{system_of};
 ghost use Rattle.xs_encoded_search.specs.Searchable.{IsSearchable};
-ghost use Rattle.xs_report.specs.Analysed.{told_ending};
+ghost use Rattle.xs_analysis_text.specs.Analysis.{told_ending};
 ghost use Rattle.xs_report.specs.Told.{told_trace};
 ghost use Rattle.xs_cuts.specs.Answer.{IsAnswer};
 ghost use Rattle.xs_cuts.specs.declared.answer.End.TheVariants as ends;
@@ -23,9 +23,9 @@ use xs_certify::certify;
 use xs_cuts::answer::{Analysis, End};
 use xs_cuts_extended::told;
 use xs_flat::Flat;
-use xs_report::{Ending, print_analysis};
+use xs_report::print_analysis;
 use xs_tree::Expr;
-use xs_value::{ByteList, OutOfMemory};
+use xs_value::{ByteList, Ending, OutOfMemory};
 
 /// A search gives each symbol a number below this. A model of two files within their limits has far fewer.
 const MOST_SYMBOLS: usize = 2_147_483_648;

@@ -1,5 +1,5 @@
 // A file of top events, and the table of their analyses.
-ghost use Rattle.std.specs.Prelude.{◌≡◌, ◌≤◌, ◌<◌, ◌^◌, ℕ, List, All, [], false, length, map, IfOk, OnOk, IfErr, IfSome, IsErrOf};
+ghost use Rattle.std.specs.Prelude.{◌≡◌, ◌≤◌, ◌<◌, List, All, [], false, length, map, IfOk, OnOk, IfErr, IfSome, IsErrOf};
 ghost use Rattle.xs_desk.specs.Desk.{Rose};
 ghost use Rattle.xs_desk.specs.declared.desk.WriteStop.TheVariants as write_stop;
 ghost use Rattle.xs_tree.specs.ProgramTree.{Formula, program_tree};
@@ -10,8 +10,8 @@ ghost use Rattle.xs_flattening.specs.Model.{IsFlatOf, EachBoth};
 ghost use Rattle.xs_flattening.specs.ResolvedAt.{IsResolvedAt};
 ghost use Rattle.xs_flattening.specs.Rules.{IsAccepted};
 ghost use Rattle.xs_woven_tops.specs.Tops.{KeepsValue};
-ghost use Rattle.xs_fmea.specs.Columns.{AreTold, NamesFaults, told_ending};
-ghost use Rattle.xs_cuts_extended.specs.Answered.{ending_of};
+ghost use Rattle.xs_fmea.specs.Columns.{AreTold, NamesFaults};
+ghost use Rattle.xs_analysis_text.specs.Analysis.{told_ending};
 ghost use Rattle.xs_reporting.specs.ExtendedTraces.{Analysis};
 ghost use Rattle.xs_run.specs.Wrongs.{IfRefused};
 ghost use Rattle.xs_run.specs.Models.{IsLawful};
@@ -34,14 +34,14 @@ use crate::top::{judge_top, over_extension, top_stop};
 use crate::wrong::Wrong;
 use std::alloc::Global;
 use xs_adviser::Panel;
-use xs_cuts::answer::End;
+use xs_cuts_extended::told;
 use xs_desk::{Desk, DeskFault, WriteStop, read_whole, say_whole};
 use xs_flat::Flat;
-use xs_fmea::{Column, ColumnList, Ending, print_table, table};
+use xs_fmea::{Column, ColumnList, print_table, table};
 use xs_parse::expressions;
 use xs_report::print_faults;
 use xs_tree::{Expr, ExprList};
-use xs_value::{Dotted, Items, OutOfMemory};
+use xs_value::{Dotted, Ending, Items, OutOfMemory};
 
 /// The limit of a file of top events, in bytes.
 const LIMIT: u64 = 1_048_576;
@@ -309,21 +309,11 @@ fn column_of(
 {
     let size = size_of(None, asked.case.limited.faults.len());
     let a = analysed(alloc, &asked.case, top, asked.depth, size, panel)?;
-    let ending = column_ending(&a.end);
+    let ending = told(&a.end);
     Ok(Column {
         sets: a.sets,
         ending,
     })
-}
-
-/// How a search ended, as columns name it.
-fn column_ending(end: &End) -> Ending
-    ensures { told_ending result ≡ ending_of end.now }
-{
-    match end {
-        End::Complete(_clauses) => Ending::Complete,
-        End::Bounded(steps) => Ending::Bounded(*steps),
-    }
 }
 
 /// The text of the table of these columns.

@@ -4,8 +4,8 @@ ghost use Rattle.std.specs.Prelude.{◌≡◌, [], ◌∷◌, IfOk};
 
 use std::alloc::Global;
 use std::test::Fail;
-use xs_fmea::{Column, ColumnList, Ending, print_table, table};
-use xs_value::{FaultSet, OutOfMemory, SetList};
+use xs_fmea::{Column, ColumnList, print_table, table};
+use xs_value::{Ending, FaultSet, OutOfMemory, SetList};
 
 const PRINTED: &[u8] =
     b"faults 2\ntops 2\ntop 1 complete\ntop 2 bounded 7 bits 11\nrow : no unknown\nrow 1 : no yes\nrow 2 : no unknown\nrow 1 2 : yes yes\n";

@@ -15,12 +15,14 @@
 #![tactic(auto)]
 
 mod domain;
+mod ending;
 mod items;
 mod memory;
 mod name;
 mod value;
 
 pub use domain::{Domain, NumList, SymList};
+pub use ending::Ending;
 pub use items::Items;
 pub use memory::OutOfMemory;
 pub use name::{Dotted, Name, NameList};

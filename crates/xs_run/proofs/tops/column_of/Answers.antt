@@ -21,4 +21,4 @@ pub returns : goal.returns
 returns g c e event =
     let a = c.args.asked.now in
     column_found (program_tree a.model.program) a.case c.requires.able e (flat_tree c.args.top.now) event a.depth c.in_ok-a.a c.len.result c.size_of-size.result c.len.ensures c.size_of-size.ensures
-    c.in_ok-a.ensures.answer c.column_ending-ending.result c.column_ending-ending.ensures
+    c.in_ok-a.ensures.answer c.told-ending.result c.told-ending.ensures
