@@ -1,5 +1,5 @@
 -- What a certificate is judged about: a model with its faults and a top event, and the clause lists that encode them.
-use Rattle.std.specs.Prelude.{ℕ, List, length, map}
+use Rattle.std.specs.Prelude.{ℕ, List, map}
 use Rattle.xs_tree.specs.Tree.{Tree}
 use Rattle.xs_tree.specs.Values.{Value}
 use Rattle.xs_tree.specs.declared.expr.Expr.{Expr}
@@ -10,8 +10,7 @@ use Rattle.xs_scope.specs.declared.model.Flat.{Flat}
 use Rattle.xs_scope.specs.declared.model.FlatModel.{FlatModel as Model}
 use Rattle.xs_scope.specs.declared.model.Fault.{Fault}
 use Rattle.xs_scope.specs.ModelTree.{model_tree, flat_tree, mode_of}
-use Rattle.xs_encoded.specs.FlatTraces.{ReachesTop, HasFailedNumber, history_of}
-use Rattle.xs_encoding.specs.Lists.{system_of, bad_list}
+use Rattle.xs_encoded.specs.FlatTraces.{ReachesTop, HasFailedNumber}
 use Rattle.xs_trace_text.specs.Given.{GivesTrace}
 use Rattle.xs_certificate.specs.Certificate.{Certificate, Site}
 use Rattle.xs_certificate.specs.Accepted.{Subject, Rule, IsAccepted, IsObjection}
