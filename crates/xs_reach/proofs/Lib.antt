@@ -1,5 +1,1 @@
-pub mod TextLaws
-pub mod StopLaws
-pub mod OddsLaws
-pub mod FoundLaws
 pub mod RunLaws

@@ -1,17 +1,17 @@
 -- From the parts of a run of a further verb to its outcome.
-use Rattle.std.proofs.Common.{◌≡◌, ◌⊎◌, inl, inr, ⊎_elim, ℕ, List, Option, Some, None, Result, Ok, Err, IfOk, IfSome, subst, sym, ◌∙◌, refl}
+use Rattle.std.proofs.Common.{◌≡◌, ◌⊎◌, inl, inr, List, Option, Result, IfOk, IfSome, subst, sym, ◌∙◌}
 use Rattle.xs_desk.specs.declared.files.NamedFile.{NamedFile}
 use Rattle.xs_tree.specs.ProgramTree.{Text}
-use Rattle.xs_reach_words.specs.Commands.{Command, odds}
+use Rattle.xs_reach_words.specs.Commands.{Command}
 use Rattle.xs_reach_words.specs.Meaning.{Means}
 use Rattle.xs_reach_words.specs.Laws.{OneCommand}
 use Rattle.xs_run.specs.Answered.{Told, Said}
-use Rattle.xs_reach.specs.declared.status.Refusal.{Refusal}
-use Rattle.xs_reach.specs.declared.status.Status.{Status}
-use Rattle.xs_reach.specs.declared.status.Status.TheVariants as status
-use Rattle.xs_reach.specs.declared.stop.Stop.{Stop}
-use Rattle.xs_reach.specs.Odds.{HasOdds}
-use Rattle.xs_reach.specs.Runs.{IsFinished, IsAnswer, IsDone, RefusesCommand}
+use Rattle.xs_reach_status.specs.declared.status.Refusal.{Refusal}
+use Rattle.xs_reach_status.specs.declared.status.Status.{Status}
+use Rattle.xs_reach_status.specs.declared.status.Status.TheVariants as status
+use Rattle.xs_reach_status.specs.declared.stop.Stop.{Stop}
+use Rattle.xs_reach_status.specs.Finished.{IsFinished, IsAnswer}
+use Rattle.xs_reach.specs.Runs.{IsDone, RefusesCommand}
 
 -- what was done for the command that was read was done for each that the words mean
 pub done_for : (told : Option (List NamedFile)) (words : List Text) (c d : Command) (s : Status) (before after : Told) (said now : Said) → OneCommand words → Means words c → Means words d →

@@ -1,24 +1,12 @@
 -- What a run of a further verb comes to: what words ask for is done, or is refused.
-use Rattle.std.specs.Prelude.{◌≡◌, ◌⊎◌, ℕ, List, Result, Ok, Err}
+use Rattle.std.specs.Prelude.{◌≡◌, List}
 use Rattle.xs_desk.specs.declared.files.NamedFile.{NamedFile}
-use Rattle.xs_tree.specs.ProgramTree.{Text}
 use Rattle.xs_reach_words.specs.Commands.{Command, odds}
 use Rattle.xs_run.specs.Answered.{Told, Said}
-use Rattle.xs_reach.specs.declared.status.Refusal.{Refusal}
-use Rattle.xs_reach.specs.declared.status.Refusal.TheVariants as refusal
-use Rattle.xs_reach.specs.declared.status.Status.{Status}
-use Rattle.xs_reach.specs.declared.status.Status.TheVariants as status
-use Rattle.xs_reach.specs.Odds.{RefusesOdds, HasOdds}
-
--- the work is done, for all traces or for those of at most so many steps
-abbrev pub IsFinished : Status → Type 0
-IsFinished s = (s ≡ status.Done) ⊎ ((k : ℕ) × (s ≡ status.Bounded k))
-
--- no call of the desk failed, and there was memory
-abbrev pub IsAnswer : Status → Type 0
-IsAnswer status.Desk = ⊥
-IsAnswer status.Memory = ⊥
-IsAnswer s = Unit {0}
+use Rattle.xs_reach_status.specs.declared.status.Refusal.{Refusal}
+use Rattle.xs_reach_status.specs.declared.status.Refusal.TheVariants as refusal
+use Rattle.xs_reach_status.specs.declared.status.Status.{Status}
+use Rattle.xs_find_odds.specs.Odds.{RefusesOdds, HasOdds}
 
 -- What the command asks for was done. The verbs of causes and of orders are not built, so they are never done.
 abbrev pub IsDone : Command → List NamedFile → Status → Told → Told → Said → Said → Type 0

@@ -3,17 +3,12 @@
 //! [`reach::run`] reads the words and the files that they name, and writes and says the answer. [`reach::is_reach`] says
 //! whether the first word is one of these verbs; every other first word is for `xs_run::run::run`.
 //!
-//! The files stand in the order of the work: `status` (how a run ends, and what a refusal says), `stop` (why the work
-//! can't go on), `report` (what is said), `odds` (bounds on probabilities) and `reach`. The words are read in
-//! `xs_reach_words`; the verbs of common causes and of orders of faults are told as not built.
+//! The words are read in `xs_reach_words`, how a run ends stands in `xs_reach_status`, and each verb has a crate of its own
+//! (`xs_find_odds`); the verbs of common causes and of orders of faults are told as not built.
 //!
 //! ```text
 //! odds --model lamp.smv --faults lamp.fei --top '!on' --depth 4
 //! ```
 #![tactic(auto)]
 
-pub mod odds;
 pub mod reach;
-pub mod report;
-pub mod status;
-pub mod stop;

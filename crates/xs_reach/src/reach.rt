@@ -7,18 +7,19 @@ ghost use Rattle.xs_reach_words.specs.Meaning.{Means, BreaksFirst};
 ghost use Rattle.xs_reach_words.specs.Reading.{begins_further};
 ghost use Rattle.xs_reach_words.specs.Seen.{texts, seen, rule_of, place_of};
 ghost use Rattle.xs_reach_words.specs.declared.fault.WordFault.{WordFault};
-ghost use Rattle.xs_reach.specs.declared.status.Refusal.{Refusal};
-ghost use Rattle.xs_reach.specs.declared.status.Refusal.TheVariants as refused;
-ghost use Rattle.xs_reach.specs.declared.stop.Stop.TheVariants as stops;
-ghost use Rattle.xs_reach.specs.Statuses.{refusal_text};
-ghost use Rattle.xs_reach.specs.Runs.{IsFinished, IsAnswer, IsDone, RefusesCommand};
+ghost use Rattle.xs_reach_status.specs.declared.status.Refusal.{Refusal};
+ghost use Rattle.xs_reach_status.specs.declared.status.Refusal.TheVariants as refused;
+ghost use Rattle.xs_reach_status.specs.declared.stop.Stop.TheVariants as stops;
+ghost use Rattle.xs_reach_status.specs.Statuses.{refusal_text};
+ghost use Rattle.xs_reach_status.specs.Finished.{IsFinished, IsAnswer};
+ghost use Rattle.xs_reach.specs.Runs.{IsDone, RefusesCommand};
 
-use crate::odds::find_odds;
-use crate::status::{Refusal, Status};
-use crate::stop::Stop;
 use std::alloc::Global;
 use xs_adviser::{Adviser, Panel};
 use xs_desk::{Desk, WriteStop, say_whole};
+use xs_find_odds::odds::find_odds;
+use xs_reach_status::status::{Refusal, Status};
+use xs_reach_status::stop::Stop;
 use xs_reach_words::{Command, is_further, read_words};
 
 /// Whether the first word is one of the further verbs.

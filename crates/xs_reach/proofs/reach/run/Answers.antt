@@ -1,8 +1,8 @@
 use Rattle.std.proofs.Common.{Err, ◌≡◌, ap, ◌∙◌}
 use Rattle.xs_desk.specs.Desk.{said_more}
 use Rattle.xs_reach_words.specs.Seen.{texts, seen}
-use Rattle.xs_reach.specs.Statuses.{refusal_text}
-use Rattle.xs_reach.specs.declared.status.Refusal.TheVariants as refused
+use Rattle.xs_reach_status.specs.Statuses.{refusal_text}
+use Rattle.xs_reach_status.specs.declared.status.Refusal.TheVariants as refused
 use Rattle.xs_reach.proofs.RunLaws.{done_for, refused_for, refused_unfinished, answer_refused, finished_kept, told_after}
 use Rattle.xs_reach.proofs.reach.run.Goals as goal
 

@@ -1,7 +1,7 @@
 // Bounds on the probabilities of minimal cut sets, by the marks of modes.
 ghost use Rattle.std.specs.Prelude.{◌≡◌, ◌≤◌, ◌<◌, ◌++◌, All, length, map, IfOk, IfSome, IsErrOf};
-ghost use Rattle.xs_desk.specs.Desk.{Rose, SaysPrefix};
-ghost use Rattle.xs_tree.specs.ProgramTree.{Text, ProgramTree, program_tree};
+ghost use Rattle.xs_desk.specs.Desk.{Rose};
+ghost use Rattle.xs_tree.specs.ProgramTree.{ProgramTree};
 ghost use Rattle.xs_scope.specs.ModelTree.{model_tree};
 ghost use Rattle.xs_fei.specs.Instructions.{instruction_tree};
 ghost use Rattle.xs_odds.specs.Marks.{HasProbabilities, AreOdds};
@@ -10,23 +10,23 @@ ghost use Rattle.xs_analysis_text.specs.Analysis.{told_ending};
 ghost use Rattle.xs_report.specs.FaultText.{name_of, faults_text};
 ghost use Rattle.xs_kinds.specs.Costs.{state_bits};
 ghost use Rattle.xs_run.specs.Loaded.{case_of, IsLoaded};
-ghost use Rattle.xs_run.specs.Searches.{case_in, IsEvent};
+ghost use Rattle.xs_run.specs.Searches.{case_in};
 ghost use Rattle.xs_run.specs.Cases.{HoldsCase};
-ghost use Rattle.xs_reach.specs.declared.status.Refusal.{Refusal};
-ghost use Rattle.xs_reach.specs.declared.stop.Stop.TheVariants as stop;
-ghost use Rattle.xs_reach.specs.Reports.{sets_text, ending_line};
+ghost use Rattle.xs_reach_status.specs.declared.status.Refusal.{Refusal};
+ghost use Rattle.xs_reach_status.specs.declared.stop.Stop.TheVariants as stop;
+ghost use Rattle.xs_reach_status.specs.Reports.{sets_text, ending_line};
 ghost use Rattle.xs_reach.specs.Runs.{IsFinished};
-ghost use Rattle.xs_reach.specs.Odds.{mark_rule, mark_refusal, RefusesOdds, RefusesMark, IsMarked, IsOddsFinding, HasOdds, ended_with};
+ghost use Rattle.xs_find_odds.specs.Odds.{mark_rule, mark_refusal, RefusesOdds, RefusesMark, IsMarked, IsOddsFinding, HasOdds};
 
-use crate::report::{append_ending, append_sets};
-use crate::status::{InputFault, Part, Refusal, Status};
-use crate::stop::Stop;
 use std::alloc::Global;
 use xs_adviser::Panel;
 use xs_cuts::answer::Analysis;
 use xs_cuts_extended::told;
 use xs_desk::{Desk, say_whole};
 use xs_odds::{MarkFault, OddsFault, OddsList, marks, print_odds};
+use xs_reach_status::report::{append_ending, append_sets};
+use xs_reach_status::status::{InputFault, Part, Refusal, Status, ended_as};
+use xs_reach_status::stop::Stop;
 use xs_reach_words::FindOdds;
 use xs_report::print_faults;
 use xs_run::event::LoadedEvent;
@@ -53,7 +53,7 @@ pub struct FoundOdds {
 }
 
 /// Searches for the minimal cut sets, and says them with the bounds of their probabilities.
-pub(crate) fn find_odds<D: Desk>(
+pub fn find_odds<D: Desk>(
     alloc: Global,
     desk: &mut D,
     asked: &FindOdds,
@@ -73,7 +73,7 @@ pub(crate) fn find_odds<D: Desk>(
     let marked = load_marked(alloc, desk, asked)?;
     let found = search_marked(alloc, &marked, panel)?;
     say_whole(desk, found.report.as_slice())?;
-    Ok(status_of(found.ending))
+    Ok(ended_as(found.ending))
 }
 
 /// The model and the instructions of two files, whose marks are probabilities, with the top event.
@@ -165,7 +165,7 @@ fn search_marked(
 }
 
 /// The lines of the faults, of the sets, of their bounds, and of how the analysis ended.
-#[tactic(auto, using(crate::proofs::TextLaws::text_rules))]
+#[tactic(auto, using(xs_reach_status::proofs::TextLaws::text_rules))]
 fn report_of(
     alloc: Global,
     case: &LoadedCase,
@@ -182,15 +182,4 @@ fn report_of(
     text.append(&bounds)?;
     append_ending(alloc, &mut text, ending, case.limited.full.bits())?;
     Ok(text)
-}
-
-/// The status of a run whose analysis ends so.
-fn status_of(ending: Ending) -> Status
-    ensures ends { result ≡ ended_with (told_ending ending) }
-    ensures finished { IsFinished result }
-{
-    match ending {
-        Ending::Complete => Status::Done,
-        Ending::Bounded(k) => Status::Bounded(k),
-    }
 }

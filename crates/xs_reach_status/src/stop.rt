@@ -1,6 +1,6 @@
 // Why the work can't go on.
-ghost use Rattle.xs_reach.specs.declared.stop.Stop.TheVariants as stop;
-ghost use Rattle.xs_reach.specs.Statuses.{stop_of, stop_of_write};
+ghost use Rattle.xs_reach_status.specs.declared.stop.Stop.TheVariants as stop;
+ghost use Rattle.xs_reach_status.specs.Statuses.{stop_of, stop_of_write};
 ghost use Rattle.std.specs.Prelude.{◌≡◌};
 
 use crate::status::Refusal;

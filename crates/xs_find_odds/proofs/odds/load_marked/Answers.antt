@@ -5,10 +5,10 @@ use Rattle.xs_scope.specs.ModelTree.{model_tree}
 use Rattle.xs_run.specs.Loaded.{case_of}
 use Rattle.xs_run.proofs.InputLemmas.{same_error}
 use Rattle.xs_run.proofs.OutcomeLemmas.{holds_case}
-use Rattle.xs_reach.specs.declared.stop.Stop.TheVariants as stop
-use Rattle.xs_reach.proofs.StopLaws.{stop_refused, stop_desk}
-use Rattle.xs_reach.proofs.OddsLaws.{odds_no_model, odds_no_faults, odds_no_mark, odds_no_top}
-use Rattle.xs_reach.proofs.odds.load_marked.Goals as goal
+use Rattle.xs_reach_status.specs.declared.stop.Stop.TheVariants as stop
+use Rattle.xs_reach_status.proofs.StopLaws.{stop_refused, stop_desk}
+use Rattle.xs_find_odds.proofs.OddsLaws.{odds_no_model, odds_no_faults, odds_no_mark, odds_no_top}
+use Rattle.xs_find_odds.proofs.odds.load_marked.Goals as goal
 
 pub returns-in_err-model-clause-refused : goal.returns-in_err-model-clause-refused
 returns-in_err-model-clause-refused g c r e =

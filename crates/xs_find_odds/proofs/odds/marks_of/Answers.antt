@@ -1,6 +1,6 @@
 use Rattle.std.proofs.Common.{map, ap, ◌∙◌}
 use Rattle.xs_extend.specs.WovenFaults.{fault_tree}
-use Rattle.xs_reach.proofs.odds.marks_of.Goals as goal
+use Rattle.xs_find_odds.proofs.odds.marks_of.Goals as goal
 
 pub marks-requires : goal.marks-requires
 marks-requires c =

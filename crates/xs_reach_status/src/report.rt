@@ -3,18 +3,14 @@ ghost use Rattle.std.specs.Prelude.{◌≡◌, ◌++◌, codes, OnOk};
 ghost use Rattle.std.specs.Fmt.{decimal};
 ghost use Rattle.xs_analysis_text.specs.AnalysisText.{numbers_text, set_lines};
 ghost use Rattle.xs_analysis_text.specs.Analysis.{told_ending};
-ghost use Rattle.xs_reach.specs.Reports.{sets_text, ending_line};
+ghost use Rattle.xs_reach_status.specs.Reports.{sets_text, ending_line};
 
 use std::alloc::Global;
 use xs_value::{ByteList, Ending, FaultSet, OutOfMemory};
 
 /// Appends the number of the sets, and a line for each with its numbers.
 #[tactic(auto, using(crate::proofs::TextLaws::text_rules))]
-pub(crate) fn append_sets(
-    alloc: Global,
-    text: &mut ByteList,
-    sets: &[FaultSet],
-) -> Result<(), OutOfMemory>
+pub fn append_sets(alloc: Global, text: &mut ByteList, sets: &[FaultSet]) -> Result<(), OutOfMemory>
     ensures { OnOk result (text.new ≡ text.old ++ sets_text sets.now) }
 {
     text.append(b"sets ")?;
@@ -62,7 +58,7 @@ fn append_numbers(alloc: Global, text: &mut ByteList, numbers: &[u32]) -> Result
 
 /// Appends the line of how an analysis ended, with the bits of a state where it is bounded.
 #[tactic(auto, using(crate::proofs::TextLaws::text_rules))]
-pub(crate) fn append_ending(
+pub fn append_ending(
     alloc: Global,
     text: &mut ByteList,
     ending: Ending,
@@ -94,11 +90,7 @@ fn append_bounded(
 }
 
 /// Appends the digits of a number.
-pub(crate) fn append_count(
-    alloc: Global,
-    text: &mut ByteList,
-    count: usize,
-) -> Result<(), OutOfMemory>
+pub fn append_count(alloc: Global, text: &mut ByteList, count: usize) -> Result<(), OutOfMemory>
     ensures { OnOk result (text.new ≡ text.old ++ decimal count) }
 {
     let digits = format!(in alloc; "{count}")?;

@@ -2,8 +2,8 @@ use Rattle.std.proofs.Common.{arith}
 use Rattle.xs_tree.specs.ProgramTree.{program_tree}
 use Rattle.xs_scope.specs.ModelTree.{flat_tree}
 use Rattle.xs_run.proofs.Analysable.{case_few, case_searchable}
-use Rattle.xs_reach.proofs.FoundLaws.{sets_named, odds_found}
-use Rattle.xs_reach.proofs.odds.search_marked.Goals as goal
+use Rattle.xs_find_odds.proofs.FoundLaws.{sets_named, odds_found}
+use Rattle.xs_find_odds.proofs.odds.search_marked.Goals as goal
 
 pub size_of-size-requires : goal.size_of-size-requires
 size_of-size-requires g c =

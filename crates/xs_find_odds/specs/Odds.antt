@@ -1,5 +1,5 @@
 -- What bounds on probabilities come to: the refusals, and what is said of an analysis.
-use Rattle.std.specs.Prelude.{◌≡◌, ◌≤◌, ℕ, ◌+◌, ◌*◌, ◌^◌, List, ◌++◌, codes, length, map}
+use Rattle.std.specs.Prelude.{◌≡◌, ◌≤◌, ℕ, ◌+◌, ◌*◌, ◌^◌, List, ◌++◌, length, map}
 use Rattle.xs_desk.specs.declared.files.NamedFile.{NamedFile}
 use Rattle.xs_desk.specs.Desk.{said_more}
 use Rattle.xs_tree.specs.ProgramTree.{Text, Formula, ProgramTree}
@@ -11,7 +11,7 @@ use Rattle.xs_odds.specs.Marks.{IsFirstMarkFault, HasProbabilities, AreOdds}
 use Rattle.xs_odds.specs.Bounds.{Bounds, bound_of, bound_sum, slack_of, exact_sum, units_in}
 use Rattle.xs_odds.specs.OddsText.{odds_text}
 use Rattle.xs_analysis_text.specs.Analysis.{told_ending}
-use Rattle.xs_reporting.specs.ExtendedTraces.{Ending, complete, bounded, Analysis}
+use Rattle.xs_reporting.specs.ExtendedTraces.{Analysis}
 use Rattle.xs_run.specs.declared.status.InputFault.{InputFault as SharedFault}
 use Rattle.xs_run.specs.declared.status.Refusal.{Refusal as SharedRefusal}
 use Rattle.xs_run.specs.declared.status.Refusal.TheVariants as shared_refusal
@@ -20,15 +20,14 @@ use Rattle.xs_run.specs.Cases.{Case, HoldsCase, IsTopWord, IsWrongWord}
 use Rattle.xs_run.specs.Answered.{Said, faults_text, bits_of}
 use Rattle.xs_run.specs.Analyses.{IsFound}
 use Rattle.xs_run.specs.Searches.{case_in, IsEvent}
-use Rattle.xs_reach.specs.declared.status.Part.TheVariants as part
-use Rattle.xs_reach.specs.declared.status.InputFault.{InputFault}
-use Rattle.xs_reach.specs.declared.status.Refusal.{Refusal}
-use Rattle.xs_reach.specs.declared.status.Refusal.TheVariants as refusal
-use Rattle.xs_reach.specs.declared.status.Status.{Status}
-use Rattle.xs_reach.specs.declared.status.Status.TheVariants as status
-use Rattle.xs_reach.specs.declared.odds.Marked.{Marked}
-use Rattle.xs_reach.specs.declared.odds.FoundOdds.{FoundOdds}
-use Rattle.xs_reach.specs.Reports.{sets_text, ending_line}
+use Rattle.xs_reach_status.specs.declared.status.Part.TheVariants as part
+use Rattle.xs_reach_status.specs.declared.status.Refusal.{Refusal}
+use Rattle.xs_reach_status.specs.declared.status.Refusal.TheVariants as refusal
+use Rattle.xs_reach_status.specs.declared.status.Status.{Status}
+use Rattle.xs_find_odds.specs.declared.odds.Marked.{Marked}
+use Rattle.xs_find_odds.specs.declared.odds.FoundOdds.{FoundOdds}
+use Rattle.xs_reach_status.specs.Reports.{sets_text, ending_line}
+use Rattle.xs_reach_status.specs.Finished.{ended_with}
 
 -- the number of the rule that a mark breaks
 abbrev pub mark_rule : MarkFault → ℕ
@@ -80,11 +79,6 @@ pub record IsOddsFinding (c : Case) (word : Text) (depth : ℕ) (odds : List ℕ
   pub bounded : AreBounded odds analysis.sets
   pub ends : told_ending f.ending ≡ analysis.ending
   pub reported : f.report ≡ odds_report c odds analysis
-
--- a run ends done where its analysis is complete, and else bounded
-abbrev pub ended_with : Ending → Status
-ended_with complete = status.Done
-ended_with (bounded k) = status.Bounded k
 
 -- The files hold a case whose modes all have probabilities, and the word spells an event of it. An analysis of it was said that is
 -- right with the size of all faults, for all traces or for those of at most as many steps as the depth, with the bounds of its

@@ -1,12 +1,14 @@
 // How a run of a further verb ends, and the line that a refusal says.
 ghost use Rattle.std.specs.Prelude.{◌≡◌, ◌≤ℤ◌, pos, ◌++◌, IfOk, OnOk, codes};
 ghost use Rattle.std.specs.Fmt.{decimal};
-ghost use Rattle.xs_reach.specs.Statuses.{number_of, refusal_number, part_text, fault_text, words_text, refusal_text};
+ghost use Rattle.xs_analysis_text.specs.Analysis.{told_ending};
+ghost use Rattle.xs_reach_status.specs.Finished.{IsFinished, ended_with};
+ghost use Rattle.xs_reach_status.specs.Statuses.{number_of, refusal_number, part_text, fault_text, words_text, refusal_text};
 
 use std::alloc::Global;
 use xs_reach_words::WordFault;
 use xs_run::status as shared;
-use xs_value::{ByteList, OutOfMemory};
+use xs_value::{ByteList, Ending, OutOfMemory};
 
 /// What is wrong with an input: how far the work on it came.
 #[derive(Clone, Copy, Debug, PartialEq, Eq)]
@@ -143,5 +145,16 @@ fn part_name(part: Part) -> &'static [u8]
         Part::Shared(part) => shared::part_name(part),
         Part::Mark => b"mark ",
         Part::Cause => b"cause ",
+    }
+}
+
+/// The status of a run whose analysis ends so.
+pub fn ended_as(ending: Ending) -> Status
+    ensures ends { result ≡ ended_with (told_ending ending) }
+    ensures finished { IsFinished result }
+{
+    match ending {
+        Ending::Complete => Status::Done,
+        Ending::Bounded(k) => Status::Bounded(k),
     }
 }

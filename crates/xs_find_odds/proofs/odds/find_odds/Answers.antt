@@ -3,9 +3,9 @@ use Rattle.std.proofs.lemmas.Result.{err_from_is_err_and}
 use Rattle.xs_desk.specs.Desk.{said_more}
 use Rattle.xs_run.proofs.InputLemmas.{same_error}
 use Rattle.xs_run.proofs.OutcomeLemmas.{rose_later}
-use Rattle.xs_reach.proofs.StopLaws.{write_refused, write_desk}
-use Rattle.xs_reach.proofs.OddsLaws.{has_odds}
-use Rattle.xs_reach.proofs.odds.find_odds.Goals as goal
+use Rattle.xs_reach_status.proofs.StopLaws.{write_refused, write_desk}
+use Rattle.xs_find_odds.proofs.OddsLaws.{has_odds}
+use Rattle.xs_find_odds.proofs.odds.find_odds.Goals as goal
 
 pub returns-in_err-say_whole-clause-refused : goal.returns-in_err-say_whole-clause-refused
 returns-in_err-say_whole-clause-refused g c r e =
@@ -26,7 +26,7 @@ returns-in_err-say_whole-clause-failed g c e =
 pub returns-clause-ok : goal.returns-clause-ok
 returns-clause-ok g c =
     has_odds _ _ _ _ c.in_ok-marked.marked _ c.in_ok-found.found _ _ _ c.in_ok-marked.ensures.ok c.in_ok-marked.ensures.marked c.in_ok-marked.ensures.asked c.in_ok-found.ensures
-    c.status_of.ensures.ends (c.in_ok-say_whole.ensures.ok ∙ ap (said_more (g.D.Desk.said c.load_marked.new.desk)) c.as_slice.ensures ∙ ap (λ t. said_more t c.in_ok-found.found.report) c.load_marked.ensures.said)
+    c.ended_as.ensures.ends (c.in_ok-say_whole.ensures.ok ∙ ap (said_more (g.D.Desk.said c.load_marked.new.desk)) c.as_slice.ensures ∙ ap (λ t. said_more t c.in_ok-found.found.report) c.load_marked.ensures.said)
 
 pub returns-clause-quiet : goal.returns-clause-quiet
 returns-clause-quiet g c quiet =

@@ -45,9 +45,9 @@ use Rattle.xs_run.specs.Analyses.{EndsBy}
 use Rattle.xs_run.specs.Searches.{IsAnalysable}
 use Rattle.xs_run.proofs.Analysable.{model_of_case, case_counts}
 use Rattle.xs_run.proofs.ListedLaws.{are_listed, named_lines}
-use Rattle.xs_reach.specs.declared.odds.FoundOdds.{FoundOdds}
-use Rattle.xs_reach.specs.Reports.{sets_text, ending_line}
-use Rattle.xs_reach.specs.Odds.{AreBounded, IsOddsFinding, odds_report}
+use Rattle.xs_find_odds.specs.declared.odds.FoundOdds.{FoundOdds}
+use Rattle.xs_reach_status.specs.Reports.{sets_text, ending_line}
+use Rattle.xs_find_odds.specs.Odds.{AreBounded, IsOddsFinding, odds_report}
 
 by_recursion : {A : Type 0} (P : A → Type 0) (xs : List A) → Each P xs → AllByRecursion P xs
 by_recursion P [] h = tt

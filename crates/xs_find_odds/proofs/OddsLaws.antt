@@ -11,13 +11,13 @@ use Rattle.xs_run.specs.Inputs.{RefusesModel, HoldsModel, RefusesFaults}
 use Rattle.xs_run.specs.Cases.{Case, HoldsCase, IsWrongWord}
 use Rattle.xs_run.specs.Answered.{Said}
 use Rattle.xs_run.specs.Searches.{case_in}
-use Rattle.xs_reach.specs.declared.status.Refusal.{Refusal}
-use Rattle.xs_reach.specs.declared.status.Refusal.TheVariants as refusal
-use Rattle.xs_reach.specs.declared.status.Status.{Status}
-use Rattle.xs_reach.specs.declared.odds.Marked.{Marked}
-use Rattle.xs_reach.specs.declared.odds.FoundOdds.{FoundOdds}
+use Rattle.xs_reach_status.specs.declared.status.Refusal.{Refusal}
+use Rattle.xs_reach_status.specs.declared.status.Refusal.TheVariants as refusal
+use Rattle.xs_reach_status.specs.declared.status.Status.{Status}
+use Rattle.xs_find_odds.specs.declared.odds.Marked.{Marked}
+use Rattle.xs_find_odds.specs.declared.odds.FoundOdds.{FoundOdds}
 use Rattle.xs_analysis_text.specs.Analysis.{told_ending}
-use Rattle.xs_reach.specs.Odds.{RefusesOdds, at_model, at_faults, at_mark, at_top, RefusesMark, IsMarked, IsOddsFinding, ended_with, HasOdds}
+use Rattle.xs_find_odds.specs.Odds.{RefusesOdds, at_model, at_faults, at_mark, at_top, RefusesMark, IsMarked, IsOddsFinding, ended_with, HasOdds}
 
 module _ (model faults top : Text) where
   pub odds_no_model : (told : Option (List NamedFile)) (r : Refusal) (s : SharedRefusal) → r ≡ refusal.Shared s → IfSome told (λ files. RefusesModel files model s) →

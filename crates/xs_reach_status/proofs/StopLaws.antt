@@ -5,11 +5,11 @@ use Rattle.xs_desk.specs.declared.desk.WriteStop.TheVariants as write_stop
 use Rattle.xs_run.specs.declared.input.Stop.{Stop as SharedStop}
 use Rattle.xs_run.specs.declared.input.Stop.TheVariants as shared_stop
 use Rattle.xs_run.specs.declared.status.Refusal.{Refusal as SharedRefusal}
-use Rattle.xs_reach.specs.declared.status.Refusal.{Refusal}
-use Rattle.xs_reach.specs.declared.status.Refusal.TheVariants as refusal
-use Rattle.xs_reach.specs.declared.stop.Stop.{Stop}
-use Rattle.xs_reach.specs.declared.stop.Stop.TheVariants as stop
-use Rattle.xs_reach.specs.Statuses.{stop_of, stop_of_write}
+use Rattle.xs_reach_status.specs.declared.status.Refusal.{Refusal}
+use Rattle.xs_reach_status.specs.declared.status.Refusal.TheVariants as refusal
+use Rattle.xs_reach_status.specs.declared.stop.Stop.{Stop}
+use Rattle.xs_reach_status.specs.declared.stop.Stop.TheVariants as stop
+use Rattle.xs_reach_status.specs.Statuses.{stop_of, stop_of_write}
 
 -- work that other verbs do too is refused
 pub record IsShared (s : SharedStop) (r : Refusal) : Type 0 where

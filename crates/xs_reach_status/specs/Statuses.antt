@@ -9,15 +9,15 @@ use Rattle.xs_reach_words.specs.Seen.{rule_of, place_of}
 use Rattle.xs_run.specs.Statuses as shared
 use Rattle.xs_run.specs.declared.input.Stop.{Stop as SharedStop}
 use Rattle.xs_run.specs.declared.input.Stop.TheVariants as shared_stop
-use Rattle.xs_reach.specs.declared.status.Part.{Part}
-use Rattle.xs_reach.specs.declared.status.Part.TheVariants as part
-use Rattle.xs_reach.specs.declared.status.InputFault.{InputFault}
-use Rattle.xs_reach.specs.declared.status.Refusal.{Refusal}
-use Rattle.xs_reach.specs.declared.status.Refusal.TheVariants as refusal
-use Rattle.xs_reach.specs.declared.status.Status.{Status}
-use Rattle.xs_reach.specs.declared.status.Status.TheVariants as status
-use Rattle.xs_reach.specs.declared.stop.Stop.{Stop}
-use Rattle.xs_reach.specs.declared.stop.Stop.TheVariants as stop
+use Rattle.xs_reach_status.specs.declared.status.Part.{Part}
+use Rattle.xs_reach_status.specs.declared.status.Part.TheVariants as part
+use Rattle.xs_reach_status.specs.declared.status.InputFault.{InputFault}
+use Rattle.xs_reach_status.specs.declared.status.Refusal.{Refusal}
+use Rattle.xs_reach_status.specs.declared.status.Refusal.TheVariants as refusal
+use Rattle.xs_reach_status.specs.declared.status.Status.{Status}
+use Rattle.xs_reach_status.specs.declared.status.Status.TheVariants as status
+use Rattle.xs_reach_status.specs.declared.stop.Stop.{Stop}
+use Rattle.xs_reach_status.specs.declared.stop.Stop.TheVariants as stop
 
 abbrev pub refusal_number : Refusal → ℤ
 refusal_number refusal.NotBuilt = pos 2

@@ -1,6 +1,6 @@
 use Rattle.std.proofs.Common.{◌≡◌, ◌++◌, drop}
 use Rattle.xs_analysis_text.specs.AnalysisText.{set_lines}
-use Rattle.xs_reach.proofs.report.append_set_lines.Given as goal
+use Rattle.xs_reach_status.proofs.report.append_set_lines.Given as goal
 
 abbrev pub invariant-loop-set : goal.invariant-loop-set
 invariant-loop-set l = l.text ++ set_lines (drop l.set-index l.sets) ≡ l.initial.text ++ set_lines l.sets

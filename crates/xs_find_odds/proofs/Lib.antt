@@ -1,0 +1,2 @@
+pub mod OddsLaws
+pub mod FoundLaws
