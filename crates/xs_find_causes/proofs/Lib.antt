@@ -1,0 +1,2 @@
+mod StagedLaws
+mod CausesLaws

@@ -1,0 +1,19 @@
+use Rattle.std.proofs.Common.{rules, ◌≡◌, ◌<◌, ◌≤◌, ◌^◌, length, arith, sym, ◌∙◌}
+use Rattle.std.proofs.lemmas.List.{length-map}
+use Rattle.std.proofs.lemmas.Result.{IfOk-weaker}
+use Rattle.xs_scope.specs.ModelTree.{mode_of}
+use Rattle.xs_find_causes.specs.Causes.{staged_in, events_in}
+use Rattle.xs_find_causes.proofs.StagedLaws.{event_searchable, event_searched}
+use Rattle.xs_find_causes.proofs.causes.analysed.Goals as goal
+
+pub analyse-requires-clause-searchable : goal.analyse-requires-clause-searchable
+analyse-requires-clause-searchable g c =
+    let few : length c.args.staged.now.typed.model.symbols < 2 ^ 31 = search rules in
+    event_searchable c.args.staged.now c.requires few
+
+pub returns-clause-searched : goal.returns-clause-searched
+returns-clause-searched g c =
+    let l = c.args.staged.now in
+    let few : length l.typed.model.symbols < 2 ^ 31 = search rules in
+    IfOk-weaker c.analyse.result _ _
+    (λ a answer. event_searched l c.requires few c.args.depth c.in_ok-size.size a (c.in_ok-size.ensures ∙ c.len-2.ensures ∙ sym (length-map l.events mode_of)) answer) c.analyse.ensures

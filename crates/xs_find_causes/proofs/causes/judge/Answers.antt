@@ -1,0 +1,18 @@
+use Rattle.std.proofs.Common.{rules, ◌<◌, ◌^◌, length, sym, subst, ◌∙◌}
+use Rattle.xs_cert.specs.Seen.{seen}
+use Rattle.xs_check.specs.Matter.{matter_of}
+use Rattle.xs_check.specs.Found.{IsJudged}
+use Rattle.xs_find_causes.proofs.StagedLaws.{event_fits, event_certifies}
+use Rattle.xs_find_causes.proofs.causes.judge.Goals as goal
+
+pub check-requires-clause-fit : goal.check-requires-clause-fit
+check-requires-clause-fit c =
+    let few : length c.args.staged.now.typed.model.symbols < 2 ^ 31 = search rules in
+    event_fits c.args.staged.now c.requires.event few
+
+pub returns-in-Yes-clause-ok : goal.returns-in-Yes-clause-ok
+returns-in-Yes-clause-ok c =
+    let l = c.args.staged.now in
+    let few : length l.typed.model.symbols < 2 ^ 31 = search rules in
+    event_certifies l c.requires.event few (seen c.args.certificate.now) c.requires.checkable
+    (subst (λ j. IsJudged (matter_of l.full.model l.typed.model l.events l.loaded.top (seen c.args.certificate.now)) j) c.in-Yes.is c.in_ok-judged.ensures)

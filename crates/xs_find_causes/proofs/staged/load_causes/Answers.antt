@@ -1,0 +1,32 @@
+use Rattle.std.proofs.Common.{◌≡◌, Err, IsErrOf, sym, ap, map, subst, ◌∙◌}
+use Rattle.std.proofs.lemmas.Result.{err_from_is_err_and}
+use Rattle.xs_staging.specs.CauseOf.{cause_of}
+use Rattle.xs_run.proofs.InputLemmas.{same_error}
+use Rattle.xs_reach_status.specs.declared.stop.Stop.TheVariants as stop
+use Rattle.xs_find_causes.specs.Causes.{AreCausesOf}
+use Rattle.xs_find_causes.proofs.CausesLaws.{holds_causes, no_desk_at_causes}
+use Rattle.xs_find_causes.proofs.staged.load_causes.Goals as goal
+
+pub staged_of-requires-clause-causes : goal.staged_of-requires-clause-causes
+staged_of-requires-clause-causes g c = (c.deref.result.now, c.in_ok-causes.ensures.read)
+
+pub returns-in-Ok-clause-ok : goal.returns-in-Ok-clause-ok
+returns-in-Ok-clause-ok g c =
+    let case = c.args.case.now in
+    holds_causes _ c.args.name.now case (map cause_of c.in-Ok.staged.causes) c.in_ok-bytes.bytes.items c.in_ok-bytes.ensures.bytes
+    (subst (λ bs. AreCausesOf case bs (map cause_of c.in-Ok.staged.causes)) c.deref.ensures.value
+    (subst (λ cs. AreCausesOf case c.deref.result.now (map cause_of cs)) (sym c.in-Ok.ensures.kept) c.in_ok-causes.ensures.read))
+
+pub returns-in_err-bytes-clause-failed : goal.returns-in_err-bytes-clause-failed
+returns-in_err-bytes-clause-failed g c e =
+    let exit = err_from_is_err_and c.from_residual.result c.from_residual.ensures.1 in
+    c.read_causes_file.ensures.failed (c.in_err-bytes.was ∙ ap (λ s. Err s) (sym exit.2 ∙ same_error (sym exit.1 ∙ e)))
+
+pub returns-in_err-causes-clause-failed : goal.returns-in_err-causes-clause-failed
+returns-in_err-causes-clause-failed g c e =
+    let exit = err_from_is_err_and c.from_residual-in_err-causes.result c.from_residual-in_err-causes.ensures.1 in
+    let refused : IsErrOf c.causes_of.result stop.Desk = c.in_err-causes.was ∙ ap (λ s. Err s) (sym exit.2 ∙ same_error (sym exit.1 ∙ e)) in
+    absurd (c.causes_of.ensures.desk refused)
+
+pub returns-clause-failed : goal.returns-clause-failed
+returns-clause-failed g c e = absurd (no_desk_at_causes _ (sym (same_error e) ∙ c.causes_stop.ensures))

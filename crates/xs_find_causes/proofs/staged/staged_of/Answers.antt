@@ -1,0 +1,32 @@
+use Rattle.std.proofs.Common.{◌≡◌, sym, ap, map, length, subst, ◌∙◌}
+use Rattle.std.proofs.lemmas.List.{length-map}
+use Rattle.xs_tree.specs.Trace.{Each}
+use Rattle.xs_scope.specs.ModelTree.{model_tree, mode_of}
+use Rattle.xs_scope.specs.declared.model.FlatModel.{FlatModel as Made}
+use Rattle.xs_flattening.specs.History.{with_history}
+use Rattle.xs_kinds.specs.Models.{IsTyped}
+use Rattle.xs_causes.specs.Causes.{IsCauseOf}
+use Rattle.xs_causes.specs.Staged.{with_causes, events_of}
+use Rattle.xs_staging.specs.CauseOf.{cause_of}
+use Rattle.xs_find_causes.proofs.StagedLaws.{causes_named}
+use Rattle.xs_find_causes.proofs.staged.staged_of.Goals as goal
+
+pub with_causes-requires : goal.with_causes-requires
+with_causes-requires c =
+    let case = c.args.case.now in
+    let named = causes_named c.requires.case.0 case c.requires.case.1 c.requires.causes.0 (map cause_of c.args.causes) c.requires.causes.1 in
+    record { causes = subst (λ k. Each (IsCauseOf k) (map cause_of c.args.causes)) (length-map case.limited.faults mode_of) named.strikes }
+
+pub returns-clause-staged : goal.returns-clause-staged
+returns-clause-staged c =
+    let case = c.args.case.now in
+    let cs = map cause_of c.args.causes in
+    let modes = map mode_of case.limited.faults in
+    record {
+      names = causes_named c.requires.case.0 case c.requires.case.1 c.requires.causes.0 cs c.requires.causes.1;
+      model = ap model_tree c.in_ok-typed.ensures.model ∙ c.in_ok-staged.ensures.model ∙ ap (λ (m : Made). with_causes (model_tree m) modes cs) c.model.ensures.model;
+      events = c.in_ok-staged.ensures.events ∙ ap (λ (m : Made). events_of (model_tree m) modes cs) c.model.ensures.model;
+      full = ap model_tree c.in_ok-full.ensures.model ∙ c.in_ok-whole.ensures.model ∙ ap (λ (m : Made). with_history (model_tree m) (map mode_of c.in_ok-staged.staged.events)) (sym c.in_ok-typed.ensures.model);
+      typed = subst (λ (m : Made). IsTyped (model_tree m)) (sym c.in_ok-typed.ensures.model) c.in_ok-typed.ensures.typed;
+      whole = subst (λ (m : Made). IsTyped (model_tree m)) (sym c.in_ok-full.ensures.model) c.in_ok-full.ensures.typed;
+    }

@@ -1,0 +1,150 @@
+-- What common causes come to: a case with causes in memory, and what its search and its certificates are about.
+use Rattle.std.specs.Prelude.{◌≡◌, ◌++◌, ℕ, List, codes, map, length}
+use Rattle.xs_desk.specs.declared.files.NamedFile.{NamedFile}
+use Rattle.xs_desk.specs.Desk.{said_more}
+use Rattle.xs_tree.specs.Tree.{Tree}
+use Rattle.xs_tree.specs.ProgramTree.{Text, Formula, ProgramTree, program_tree}
+use Rattle.xs_tree.specs.Trace.{Each}
+use Rattle.xs_scope.specs.ModelTree.{model_tree, mode_of, flat_tree}
+use Rattle.xs_flattening.specs.Flat.{FlatLeaf, FlatModel}
+use Rattle.xs_flattening.specs.History.{Mode, with_history}
+use Rattle.xs_kinds.specs.Models.{IsTyped}
+use Rattle.xs_extend.specs.WovenFaults.{fault_tree}
+use Rattle.xs_trace_text.specs.Laws.{IsNamed}
+use Rattle.xs_certificate.specs.Certificate.{Certificate}
+use Rattle.xs_cuts.specs.declared.answer.Analysis.{Analysis as Searched}
+use Rattle.xs_cuts_extended.specs.Answered.{ending_of}
+use Rattle.xs_analysis_text.specs.AnalysisText.{size_line, analysis_text}
+use Rattle.xs_report.specs.Analysed.{told_analysis}
+use Rattle.xs_analysis_text.specs.Analysis.{told_ending}
+use Rattle.xs_report.specs.FaultText.{name_of, faults_text}
+use Rattle.xs_kinds.specs.Costs.{state_bits}
+use Rattle.xs_causes.specs.Causes.{CommonCause, IsCauseOf}
+use Rattle.xs_causes.specs.Staged.{with_causes, events_of}
+use Rattle.xs_staging.specs.declared.cause.Cause.{Cause}
+use Rattle.xs_staging.specs.CauseOf.{cause_of}
+use Rattle.xs_causes_reader.specs.Read.{AreRead}
+use Rattle.xs_caused.specs.Names.{AreApart}
+use Rattle.xs_caused.specs.Laws.{AreNamed}
+use Rattle.xs_caused.specs.Shown.{CertifiesCauses, IsCausedAnalysis}
+use Rattle.xs_run.specs.declared.loaded.LoadedCase.{LoadedCase}
+use Rattle.xs_run.specs.declared.status.InputFault.{InputFault as SharedFault}
+use Rattle.xs_run.specs.declared.wrong.Wrong.{Wrong}
+use Rattle.xs_run.specs.declared.wrong.Wrong.TheVariants as wrong
+use Rattle.xs_run.specs.Cases.{Case, HoldsCase, IsTopWord}
+use Rattle.xs_run.specs.Tasks.{HasAtMost}
+use Rattle.xs_run.specs.Loaded.{case_of, IsLoaded}
+use Rattle.xs_run.specs.Searches.{case_in, IsEvent, IsSearched, HasCertificate, told_maybe}
+use Rattle.xs_run.specs.Answered.{Told, Said}
+use Rattle.xs_run.specs.Certificates.{HoldsCertificate}
+use Rattle.xs_reach_status.specs.declared.status.InputFault.{InputFault}
+use Rattle.xs_reach_status.specs.declared.status.Part.TheVariants as part
+use Rattle.xs_reach_status.specs.declared.status.Refusal.TheVariants as refusal
+use Rattle.xs_reach_status.specs.declared.stop.Stop.{Stop}
+use Rattle.xs_reach_status.specs.declared.stop.Stop.TheVariants as stop
+use Rattle.xs_find_causes.specs.declared.staged.StagedCase.{StagedCase}
+use Rattle.xs_find_causes.specs.declared.staged.StagedEvent.{StagedEvent}
+use Rattle.xs_find_causes.specs.declared.causes.FoundCauses.{FoundCauses}
+use Rattle.xs_reach_status.specs.declared.status.Status.{Status}
+use Rattle.xs_reach_status.specs.Finished.{ended_with}
+
+-- a fault that other files have too, told of the causes
+abbrev pub shared_fault : SharedFault → InputFault
+shared_fault fault = record { part = part.Shared fault.part; number = fault.number; place = fault.place }
+
+-- the end of the work where something is wrong with the causes that may be wrong with other files too
+abbrev pub stop_at_causes : Wrong → Stop
+stop_at_causes (wrong.Refused fault) = stop.Refused (refusal.Causes (shared_fault fault))
+stop_at_causes wrong.Memory = stop.Memory
+
+-- the faults of what was loaded, as modes of its flat model
+abbrev pub modes_in : LoadedCase → List Mode
+modes_in case = map mode_of case.limited.faults
+
+abbrev pub flat_in : LoadedCase → FlatModel
+flat_in case = model_tree case.limited.typed.model
+
+-- some program has this extension
+abbrev pub IsSomeCase : LoadedCase → Type 0
+IsSomeCase case = (p : ProgramTree) × IsLoaded p case
+
+-- the bytes spell causes that break no rule of the extension, and these are they
+abbrev pub AreCausesOf : LoadedCase → List ℕ → List CommonCause → Type 0
+AreCausesOf case bytes causes = AreRead (map fault_tree case.limited.woven.faults) (program_tree case.limited.woven.program) bytes causes
+
+-- the file has these bytes
+pub record HoldsCauses (files : List NamedFile) (name : Text) (case : LoadedCase) (causes : List CommonCause) : Type 0 where
+  pub bytes : List ℕ
+  pub has : HasAtMost 1048576 files name bytes
+  pub are : AreCausesOf case bytes causes
+
+-- The model with the causes of what was loaded, which keeps its names apart, and with the history of its events: both are typed.
+pub record IsStagedOf (case : LoadedCase) (causes : List CommonCause) (staged kept : FlatModel) (es : List Mode) : Type 0 where
+  pub names : AreNamed (flat_in case) (modes_in case) causes
+  pub model : staged ≡ with_causes (flat_in case) (modes_in case) causes
+  pub events : es ≡ events_of (flat_in case) (modes_in case) causes
+  pub full : kept ≡ with_history staged es
+  pub typed : IsTyped staged
+  pub whole : IsTyped kept
+
+abbrev pub IsStagedCase : LoadedCase → StagedCase → Type 0
+IsStagedCase case l = IsStagedOf case (map cause_of l.causes) (model_tree l.typed.model) (model_tree l.full.model) (map mode_of l.events)
+
+-- the causes of what was loaded, its staged model, and the events of that
+abbrev pub causes_in : StagedEvent → List CommonCause
+causes_in l = map cause_of l.causes
+
+abbrev pub staged_in : StagedEvent → FlatModel
+staged_in l = model_tree l.typed.model
+
+abbrev pub events_in : StagedEvent → List Mode
+events_in l = map mode_of l.events
+
+-- what was loaded is a case with a top event that its word spells, and is staged for its causes
+pub record IsStagedEvent (l : StagedEvent) : Type 0 where
+  pub event : IsEvent l.word.now l.loaded
+  pub staged : IsStagedOf l.loaded.case (causes_in l) (staged_in l) (model_tree l.full.model) (events_in l)
+
+-- The certificate shows its sets of events for all caused traces of the case, for the top event that the word spells.
+pub record CertifiesStaged (l : StagedEvent) (certificate : Certificate) : Type 0 where
+  pub event : Formula
+  pub is_event : IsTopWord (case_in l.loaded).program l.word.now event
+  pub shows : CertifiesCauses (case_in l.loaded).program (case_in l.loaded).instructions (case_in l.loaded).faults event (case_in l.loaded).flat (case_in l.loaded).modes (causes_in l) certificate
+
+-- The files hold a case, causes of it and a certificate, and the word spells a top event. The certificate shows its sets of events for
+-- all caused traces, and it was said that it is accepted.
+pub record HasCheckedCauses (files : List NamedFile) (model faults causes top cert : Text) (said now : Said) : Type 0 where
+  pub loaded : StagedEvent
+  pub holds : HoldsCase files model faults (case_in loaded.loaded)
+  pub has_causes : HoldsCauses files causes loaded.loaded.case (causes_in loaded)
+  pub is_word : loaded.word.now ≡ top
+  pub certificate : Certificate
+  pub has_certificate : HoldsCertificate files cert certificate
+  pub certifies : CertifiesStaged loaded certificate
+  pub reported : now ≡ said_more said (codes "accepted\n" ++ size_line certificate.size (length (events_in loaded)))
+
+-- What a search of the staged model found: an answer with as many events in a set as there are, which is right for caused traces; its
+-- report; and for a complete one a certificate.
+pub record IsCausesFinding (l : StagedEvent) (depth : ℕ) (f : FoundCauses) : Type 0 where
+  pub event : Formula
+  pub is_event : IsTopWord (case_in l.loaded).program l.word.now event
+  pub analysis : Searched
+  pub searched : IsSearched (staged_in l) (events_in l) (flat_tree l.loaded.top) depth (length (events_in l)) analysis
+  pub right : IsCausedAnalysis (case_in l.loaded).program (case_in l.loaded).instructions (case_in l.loaded).faults event (case_in l.loaded).flat (case_in l.loaded).modes (causes_in l) (length (events_in l)) analysis
+  pub ends : told_ending f.ending ≡ ending_of analysis.end
+  pub certified : HasCertificate (staged_in l) (events_in l) (flat_tree l.loaded.top) l.typed.model.symbols analysis analysis.end f.cert
+  pub reported : f.report ≡
+      analysis_text (faults_text (map name_of l.events)) (staged_in l) (state_bits (model_tree l.full.model)) (length l.events) analysis.size
+      (told_analysis l.typed.model.symbols analysis.sets analysis.traces analysis.first f.ending)
+
+-- The files hold a case and causes of it, and the word spells a top event. What was found of them was written and said.
+pub record HasFoundCauses (files : List NamedFile) (model faults causes top cert : Text) (depth : ℕ) (s : Status) (before after : Told) (said now : Said) : Type 0 where
+  pub loaded : StagedEvent
+  pub holds : HoldsCase files model faults (case_in loaded.loaded)
+  pub has_causes : HoldsCauses files causes loaded.loaded.case (causes_in loaded)
+  pub is_word : loaded.word.now ≡ top
+  pub found : FoundCauses
+  pub finding : IsCausesFinding loaded depth found
+  pub ends : s ≡ ended_with (told_ending found.ending)
+  pub written : after ≡ told_maybe before cert found.cert
+  pub reported : now ≡ said_more said found.report

@@ -1,0 +1,270 @@
+// Common causes: their minimal cut sets, and certificates of them.
+ghost use Rattle.std.specs.Prelude.{◌≡◌, ◌<◌, ◌≤◌, ◌^◌, ℕ, length, map, IfOk, OnOk, IfSome, IsErrOf};
+ghost use Rattle.xs_desk.specs.Desk.{Rose, said_more};
+ghost use Rattle.xs_desk.specs.declared.desk.WriteStop.TheVariants as write_stop;
+ghost use Rattle.xs_scope.specs.ModelTree.{model_tree, mode_of, flat_tree};
+ghost use Rattle.xs_analysis_text.specs.Analysis.{told_ending};
+ghost use Rattle.xs_cert.specs.Seen.{seen};
+ghost use Rattle.xs_check.specs.Fit.{IsCheckable};
+ghost use Rattle.xs_cuts.specs.declared.answer.End.TheVariants as ends;
+ghost use Rattle.xs_report.specs.Told.{told_trace};
+ghost use Rattle.xs_run.specs.Analyses.{IsCertificateFor};
+ghost use Rattle.xs_run.specs.Searches.{IsSearched, HasCertificate, told_maybe};
+ghost use Rattle.xs_reach_status.specs.declared.status.Refusal.{Refusal};
+ghost use Rattle.xs_reach_status.specs.declared.stop.Stop.TheVariants as stop;
+ghost use Rattle.xs_reach_status.specs.Finished.{IsFinished};
+ghost use Rattle.xs_reach_status.specs.Finished.{ended_with};
+ghost use Rattle.xs_find_causes.specs.Causes.{staged_in, events_in, IsStagedEvent, CertifiesStaged, HasCheckedCauses, IsCausesFinding, HasFoundCauses};
+
+use crate::staged::{StagedEvent, load_staged};
+use std::alloc::Global;
+use xs_adviser::Panel;
+use xs_analysis::analyse;
+use xs_cert::{Certificate, write};
+use xs_certify::certify;
+use xs_check::{Judged, check};
+use xs_cuts::answer::{Analysis, End};
+use xs_cuts_extended::told;
+use xs_desk::{Desk, WriteStop, say_whole, write_whole};
+use xs_reach_status::status::Status;
+use xs_reach_status::stop::Stop;
+use xs_reach_words::{CheckCauses, FindCauses};
+use xs_report::print_analysis;
+use xs_run::certificate::{accepted_report, line_stop, load_certificate};
+use xs_scope::items::number_of;
+use xs_value::{ByteList, Ending, OutOfMemory};
+
+/// A search gives each symbol a number below this. A model of three files within their limits has far fewer.
+const MOST_SYMBOLS: usize = 2_147_483_648;
+
+/// What a search found: the report, how it ended, and for a complete answer the text of a certificate.
+#[derive(Drop)]
+pub struct FoundCauses {
+    pub cert: Option<ByteList>,
+    pub report: ByteList,
+    pub ending: Ending,
+}
+
+/// Searches for the minimal cut sets of faults and common causes, writes a certificate of a complete answer, and says the
+/// report.
+pub fn find_causes<D: Desk>(
+    alloc: Global,
+    desk: &mut D,
+    asked: &FindCauses,
+    panel: &mut Panel,
+) -> Result<Status, Stop>
+    ensures ok { IfOk result (λ s. IfSome (D.files desk.old) (λ files. HasFoundCauses files asked.now.model.now asked.now.faults.now asked.now.causes.now asked.now.top.now asked.now.cert.now asked.now.depth s (D.files desk.old) (D.files desk.new) (D.said desk.old) (D.said desk.new))) }
+    ensures finished { IfOk result IsFinished }
+    ensures untouched { (r : Refusal) → IsErrOf result (stop.Refused r) → (D.files desk.new ≡ D.files desk.old) × (D.said desk.new ≡ D.said desk.old) }
+    ensures failed { IsErrOf result stop.Desk → Rose (D.faults desk.old) (D.faults desk.new) }
+    ensures later { D.faults desk.old ≤ D.faults desk.new }
+    ensures quiet { D.quiet desk.old → D.quiet desk.new × (D.faults desk.new ≡ D.faults desk.old) }
+{
+    let staged = load_staged(
+        alloc,
+        desk,
+        asked.model,
+        asked.faults,
+        asked.causes,
+        asked.top,
+    )?;
+    let found = search(alloc, &staged, asked.depth, panel)?;
+    let status = conclude(desk, asked.cert, &found)?;
+    Ok(status)
+}
+
+/// Judges a certificate of faults and common causes, and says that it is accepted.
+pub fn check_causes<D: Desk>(
+    alloc: Global,
+    desk: &mut D,
+    asked: &CheckCauses,
+) -> Result<Status, Stop>
+    ensures ok { IfOk result (λ s. IfSome (D.files desk.old) (λ files. HasCheckedCauses files asked.now.model.now asked.now.faults.now asked.now.causes.now asked.now.top.now asked.now.cert.now (D.said desk.old) (D.said desk.new))) }
+    ensures finished { IfOk result IsFinished }
+    ensures untouched { (r : Refusal) → IsErrOf result (stop.Refused r) → (D.files desk.new ≡ D.files desk.old) × (D.said desk.new ≡ D.said desk.old) }
+    ensures failed { IsErrOf result stop.Desk → Rose (D.faults desk.old) (D.faults desk.new) }
+    ensures later { D.faults desk.old ≤ D.faults desk.new }
+    ensures quiet { D.quiet desk.old → D.quiet desk.new × (D.faults desk.new ≡ D.faults desk.old) }
+{
+    let staged = load_staged(
+        alloc,
+        desk,
+        asked.model,
+        asked.faults,
+        asked.causes,
+        asked.top,
+    )?;
+    let certificate = load_certificate(alloc, desk, asked.cert)?;
+    judge(alloc, &staged, &certificate)?;
+    let report = accepted_report(alloc, certificate.size, staged.events.len())?;
+    say_whole(desk, report.as_slice())?;
+    Ok(Status::Done)
+}
+
+/// Refuses a certificate that breaks a rule. More symbols than numbers of them are want of memory.
+fn judge(alloc: Global, staged: &StagedEvent, certificate: &Certificate) -> Result<(), Stop>
+    requires event { IsStagedEvent staged.now }
+    requires checkable { IsCheckable (seen certificate.now) }
+    ensures ok { OnOk result (CertifiesStaged staged.now (seen certificate.now)) }
+    ensures desk { IsErrOf result stop.Desk → ⊥ }
+{
+    if staged.typed.model().symbols.len() >= MOST_SYMBOLS {
+        return Err(Stop::Memory);
+    }
+    let judged = check(
+        alloc,
+        &staged.full,
+        &staged.typed,
+        &staged.events,
+        &staged.loaded.top,
+        certificate,
+    )?;
+    match judged {
+        Judged::Yes => Ok(()),
+        Judged::No(line, rule) => Err(Stop::from(line_stop(line, rule))),
+    }
+}
+
+/// Searches for the minimal cut sets of the top event among the events, and makes what is to be written and said.
+fn search(
+    alloc: Global,
+    staged: &StagedEvent,
+    depth: u32,
+    panel: &mut Panel,
+) -> Result<FoundCauses, OutOfMemory>
+    requires { IsStagedEvent staged.now }
+    ensures { IfOk result (IsCausesFinding staged.now depth) }
+{
+    let a = analysed(alloc, staged, depth, panel)?;
+    let cert = certificate(alloc, staged, depth, &a, panel)?;
+    let ending = told(&a.end);
+    let report = print_analysis(
+        alloc,
+        &staged.typed,
+        &staged.events,
+        &a.sets,
+        &a.traces,
+        a.first,
+        staged.full.bits(),
+        a.size,
+        ending,
+    )?;
+    Ok(FoundCauses {
+        cert,
+        report,
+        ending,
+    })
+}
+
+/// The analysis of the staged model, with as many events in a set as there are. More symbols than numbers of them are want
+/// of memory.
+fn analysed(
+    alloc: Global,
+    staged: &StagedEvent,
+    depth: u32,
+    panel: &mut Panel,
+) -> Result<Analysis, OutOfMemory>
+    requires { IsStagedEvent staged.now }
+    ensures few { OnOk result (length staged.now.typed.model.symbols < 2 ^ 31) }
+    ensures searched { IfOk result (IsSearched (staged_in staged.now) (events_in staged.now) (flat_tree staged.now.loaded.top) depth (length (events_in staged.now))) }
+{
+    if staged.typed.model().symbols.len() >= MOST_SYMBOLS {
+        return Err(OutOfMemory);
+    }
+    let size = number_of(staged.events.len())?;
+    analyse(
+        alloc,
+        &staged.typed,
+        &staged.full,
+        &staged.events,
+        &staged.loaded.top,
+        depth,
+        size,
+        panel,
+    )
+}
+
+/// The text of a certificate, where the analysis is complete.
+fn certificate(
+    alloc: Global,
+    staged: &StagedEvent,
+    depth: u32,
+    a: &Analysis,
+    panel: &mut Panel,
+) -> Result<Option<ByteList>, OutOfMemory>
+    requires staged { IsStagedEvent staged.now }
+    requires searched { IsSearched (staged_in staged.now) (events_in staged.now) (flat_tree staged.now.loaded.top) depth a.now.size a.now }
+    ensures { IfOk result (HasCertificate (staged_in staged.now) (events_in staged.now) (flat_tree staged.now.loaded.top) staged.now.typed.model.symbols a.now a.now.end) }
+{
+    match &a.end {
+        End::Complete(_clauses) => {
+            let text = certificate_text(alloc, staged, depth, a, panel)?;
+            Ok(Some(text))
+        }
+        End::Bounded(_steps) => Ok(None),
+    }
+}
+
+/// The text of a certificate of a complete analysis.
+fn certificate_text(
+    alloc: Global,
+    staged: &StagedEvent,
+    depth: u32,
+    a: &Analysis,
+    panel: &mut Panel,
+) -> Result<ByteList, OutOfMemory>
+    requires staged { IsStagedEvent staged.now }
+    requires searched { IsSearched (staged_in staged.now) (events_in staged.now) (flat_tree staged.now.loaded.top) depth a.now.size a.now }
+    requires complete { (k : ℕ) → a.now.end ≡ ends.Bounded k → ⊥ }
+    ensures { IfOk result (IsCertificateFor (staged_in staged.now) (events_in staged.now) (flat_tree staged.now.loaded.top) a.now.size a.now.sets (map (told_trace staged.now.typed.model.symbols) a.now.traces)) }
+{
+    let certificate = certify(
+        alloc,
+        &staged.full,
+        &staged.typed,
+        &staged.events,
+        &staged.loaded.top,
+        a,
+        panel,
+    )?;
+    write(alloc, &certificate)
+}
+
+/// Writes the certificate, where there is one, and says the report.
+fn conclude<D: Desk>(desk: &mut D, name: &str, found: &FoundCauses) -> Result<Status, WriteStop>
+    ensures ends { IfOk result (λ s. s ≡ ended_with (told_ending found.now.ending)) }
+    ensures finished { IfOk result IsFinished }
+    ensures ok { OnOk result ((D.files desk.new ≡ told_maybe (D.files desk.old) name.now found.now.cert) × (D.said desk.new ≡ said_more (D.said desk.old) found.now.report)) }
+    ensures later { D.faults desk.old ≤ D.faults desk.new }
+    ensures failed { IsErrOf result write_stop.Failed → Rose (D.faults desk.old) (D.faults desk.new) }
+    ensures quiet { D.quiet desk.old → D.quiet desk.new × (D.faults desk.new ≡ D.faults desk.old) }
+{
+    write_maybe(desk, name, &found.cert)?;
+    say_whole(desk, found.report.as_slice())?;
+    Ok(status_of(found.ending))
+}
+
+/// Writes a text where there is one.
+fn write_maybe<D: Desk>(desk: &mut D, name: &str, text: &Option<ByteList>) -> Result<(), WriteStop>
+    ensures ok { OnOk result (D.files desk.new ≡ told_maybe (D.files desk.old) name.now text.now) }
+    ensures said { D.said desk.new ≡ D.said desk.old }
+    ensures later { D.faults desk.old ≤ D.faults desk.new }
+    ensures failed { IsErrOf result write_stop.Failed → Rose (D.faults desk.old) (D.faults desk.new) }
+    ensures quiet { D.quiet desk.old → D.quiet desk.new × (D.faults desk.new ≡ D.faults desk.old) }
+{
+    match text {
+        Some(text) => write_whole(desk, name, text.as_slice()),
+        None => Ok(()),
+    }
+}
+
+/// The status of a run whose analysis ends so.
+fn status_of(ending: Ending) -> Status
+    ensures ends { result ≡ ended_with (told_ending ending) }
+    ensures finished { IsFinished result }
+{
+    match ending {
+        Ending::Complete => Status::Done,
+        Ending::Bounded(k) => Status::Bounded(k),
+    }
+}

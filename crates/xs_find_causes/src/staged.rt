@@ -1,0 +1,196 @@
+// A model, its extension with common causes, and a top event, as the work on them has them in memory.
+ghost use Rattle.std.specs.Prelude.{◌≡◌, ◌≤◌, List, ℕ, length, map, IfOk, IfSome, IsErrOf};
+ghost use Rattle.xs_desk.specs.Desk.{Rose};
+ghost use Rattle.xs_staging.specs.CauseOf.{cause_of};
+ghost use Rattle.xs_run.specs.Cases.{HoldsCase};
+ghost use Rattle.xs_run.specs.Tasks.{HasAtMost};
+ghost use Rattle.xs_run.specs.Searches.{case_in};
+ghost use Rattle.xs_reach_status.specs.declared.status.Refusal.TheVariants as refusal;
+ghost use Rattle.xs_reach_status.specs.declared.stop.Stop.TheVariants as stop;
+ghost use Rattle.xs_find_causes.specs.Causes.{stop_at_causes, IsSomeCase, AreCausesOf, HoldsCauses, IsStagedCase, IsStagedEvent};
+
+use std::alloc::Global;
+use xs_causes_reader::{CauseFault, read_causes};
+use xs_desk::{Desk, DeskFault, read_whole};
+use xs_flat::{FaultList, with_history};
+use xs_reach_status::status::{InputFault, Part, Refusal};
+use xs_reach_status::stop::Stop;
+use xs_run::event::LoadedEvent;
+use xs_run::loaded::{LoadedCase, load_case, typed_whole};
+use xs_run::model::load_model;
+use xs_run::status as shared;
+use xs_run::top::load_top;
+use xs_run::wrong::Wrong;
+use xs_staging::{CauseList, with_causes};
+use xs_types::Typed;
+
+/// The limit of a causes file, in bytes.
+const LIMIT: u64 = 1_048_576;
+
+/// An extension with common causes, and a top event over it.
+#[derive(Drop)]
+pub struct StagedEvent<'a> {
+    pub loaded: LoadedEvent,
+    pub word: &'a str,
+    pub causes: CauseList,
+    /// The staged model.
+    pub typed: Typed,
+    /// The staged model with a history bit for each event.
+    pub full: Typed,
+    /// The events: the faults that begin by themselves, and then the causes.
+    pub events: FaultList,
+}
+
+/// An extension with common causes: these, the staged model without and with a history bit for each event, and the
+/// events.
+#[derive(Drop)]
+pub struct StagedCase {
+    pub causes: CauseList,
+    pub typed: Typed,
+    pub full: Typed,
+    pub events: FaultList,
+}
+
+/// The model, the instructions and the causes of three files, with the top event that a word spells.
+pub(crate) fn load_staged<'a, D: Desk>(
+    alloc: Global,
+    desk: &mut D,
+    model: &str,
+    faults: &str,
+    causes: &str,
+    word: &'a str,
+) -> Result<StagedEvent<'a>, Stop>
+    ensures case { IfOk result (λ l. IfSome (D.files desk.old) (λ files. HoldsCase files model.now faults.now (case_in l.loaded))) }
+    ensures causes { IfOk result (λ l. IfSome (D.files desk.old) (λ files. HoldsCauses files causes.now l.loaded.case (map cause_of l.causes))) }
+    ensures asked { IfOk result (λ l. l.word.now ≡ word.now) }
+    ensures staged { IfOk result IsStagedEvent }
+    ensures failed { IsErrOf result stop.Desk → Rose (D.faults desk.old) (D.faults desk.new) }
+
+    ensures files { D.files desk.new ≡ D.files desk.old }
+    ensures said { D.said desk.new ≡ D.said desk.old }
+    ensures later { D.faults desk.old ≤ D.faults desk.new }
+    ensures quiet { D.quiet desk.old → D.quiet desk.new × (D.faults desk.new ≡ D.faults desk.old) }
+{
+    let model = load_model(alloc, desk, model)?;
+    let case = load_case(alloc, desk, faults, &model)?;
+    let staged = load_causes(alloc, desk, causes, &case)?;
+    let top = load_top(alloc, word, &model, &case)?;
+    let StagedCase {
+        causes,
+        typed,
+        full,
+        events,
+    } = staged;
+    Ok(StagedEvent {
+        loaded: LoadedEvent { model, case, top },
+        word,
+        causes,
+        typed,
+        full,
+        events,
+    })
+}
+
+/// The extension with the causes of a file.
+fn load_causes<D: Desk>(
+    alloc: Global,
+    desk: &mut D,
+    name: &str,
+    case: &LoadedCase,
+) -> Result<StagedCase, Stop>
+    requires { IsSomeCase case.now }
+    ensures ok { IfOk result (λ l. IfSome (D.files desk.old) (λ files. HoldsCauses files name.now case.now (map cause_of l.causes))) }
+    ensures staged { IfOk result (IsStagedCase case.now) }
+    ensures failed { IsErrOf result stop.Desk → Rose (D.faults desk.old) (D.faults desk.new) }
+
+    ensures files { D.files desk.new ≡ D.files desk.old }
+    ensures said { D.said desk.new ≡ D.said desk.old }
+    ensures later { D.faults desk.old ≤ D.faults desk.new }
+    ensures quiet { D.quiet desk.old → D.quiet desk.new × (D.faults desk.new ≡ D.faults desk.old) }
+{
+    let bytes = read_causes_file(alloc, desk, name)?;
+    let causes = causes_of(alloc, &bytes, case)?;
+    match staged_of(alloc, case, causes) {
+        Ok(staged) => Ok(staged),
+        Err(wrong) => Err(causes_stop(wrong)),
+    }
+}
+
+/// The bytes of a causes file.
+fn read_causes_file<D: Desk>(alloc: Global, desk: &mut D, name: &str) -> Result<Vec<u8>, Stop>
+    ensures bytes { IfOk result (λ bytes. IfSome (D.files desk.old) (λ files. HasAtMost 1048576 files name.now bytes.items)) }
+    ensures short { IfOk result (λ bytes. length bytes.items ≤ 1048576) }
+    ensures failed { IsErrOf result stop.Desk → Rose (D.faults desk.old) (D.faults desk.new) }
+
+    ensures files { D.files desk.new ≡ D.files desk.old }
+    ensures said { D.said desk.new ≡ D.said desk.old }
+    ensures later { D.faults desk.old ≤ D.faults desk.new }
+    ensures quiet { D.quiet desk.old → D.quiet desk.new × (D.faults desk.new ≡ D.faults desk.old) }
+{
+    match read_whole(alloc, desk, name, LIMIT) {
+        Ok(bytes) => Ok(bytes),
+        Err(DeskFault::Absent) => Err(refused(Part::Shared(shared::Part::Absent), 1, 0)),
+        Err(DeskFault::TooLong) => Err(refused(Part::Shared(shared::Part::Length), 1, LIMIT)),
+        Err(DeskFault::Failed) => Err(Stop::Desk),
+        Err(DeskFault::OutOfMemory) => Err(Stop::Memory),
+    }
+}
+
+/// The causes that the bytes spell for the extension.
+fn causes_of(alloc: Global, bytes: &[u8], case: &LoadedCase) -> Result<CauseList, Stop>
+    requires case { IsSomeCase case.now }
+    requires short { length bytes.now ≤ 1048576 }
+    ensures read { IfOk result (λ causes. AreCausesOf case.now bytes.now (map cause_of causes)) }
+    ensures desk { IsErrOf result stop.Desk → ⊥ }
+{
+    let limited = &case.limited;
+    match read_causes(alloc, bytes, &limited.faults, &limited.woven.program) {
+        Ok(causes) => Ok(causes),
+        Err(CauseFault::Parse(fault)) => Err(causes_stop(Wrong::from(fault))),
+        Err(CauseFault::Broken(rule, number)) => {
+            Err(refused(Part::Cause, rule as u32, u64::from(number)))
+        }
+        Err(CauseFault::OutOfMemory) => Err(Stop::Memory),
+    }
+}
+
+/// The extension with causes, where it passes no limit.
+fn staged_of(alloc: Global, case: &LoadedCase, causes: CauseList) -> Result<StagedCase, Wrong>
+    requires case { IsSomeCase case.now }
+    requires causes { (bytes : List ℕ) × AreCausesOf case.now bytes (map cause_of causes) }
+    ensures staged { IfOk result (IsStagedCase case.now) }
+    ensures kept { IfOk result (λ l. l.causes ≡ causes) }
+{
+    let limited = &case.limited;
+    let staged = with_causes(alloc, limited.typed.model(), &limited.faults, &causes)?;
+    let whole = with_history(alloc, &staged.model, &staged.events)?;
+    let full = typed_whole(alloc, whole)?;
+    let typed = typed_whole(alloc, staged.model)?;
+    Ok(StagedCase {
+        causes,
+        typed,
+        full,
+        events: staged.events,
+    })
+}
+
+/// The end of the work where this is wrong with the causes.
+fn causes_stop(wrong: Wrong) -> Stop
+    ensures { result ≡ stop_at_causes wrong }
+{
+    match wrong {
+        Wrong::Refused(fault) => refused(Part::Shared(fault.part), fault.number, fault.place),
+        Wrong::Memory => Stop::Memory,
+    }
+}
+
+/// The end of the work where a rule of the causes is broken.
+fn refused(part: Part, number: u32, place: u64) -> Stop
+    ensures { result ≡ stop.Refused (refusal.Causes (record { part = part; number = number; place = place })) }
+{
+    Stop::Refused(Refusal::Causes(InputFault {
+        part,
+        number,
+        place,
+    }))
+}

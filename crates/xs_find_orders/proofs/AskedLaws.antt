@@ -1,0 +1,145 @@
+-- The two faults of a staged case, and what staged traces show of them.
+use Rattle.std.proofs.Common.{◌≡◌, ℕ, zero, suc, ◌+◌, ◌-◌, ◌<◌, ◌≤◌, Bool, true, false, IsTrue, List, [], ◌∷◌, length, map, Option, Some, None, refl, sym, ap, subst, ◌∙◌, arith, ◌⊎◌, inl, inr}
+use Rattle.std.specs.Prelude.{slice_get, nat_le}
+use Rattle.std.proofs.lemmas.Bool.Decides.{leb_tells}
+use Rattle.std.proofs.lemmas.List.{length-map}
+use Rattle.xs_tree.specs.Tree.{Tree}
+use Rattle.xs_tree.specs.ProgramTree.{Text, Formula, ProgramTree, program_tree}
+use Rattle.xs_scope.specs.ModelTree.{model_tree, mode_of, flat_tree}
+use Rattle.xs_flattening.specs.Flat.{FlatLeaf, FlatModel}
+use Rattle.xs_flattening.specs.History.{Mode}
+use Rattle.xs_kinds.specs.Laws.{IsClosed}
+use Rattle.xs_kinds.specs.Models.{IsTyped}
+use Rattle.xs_kinds.proofs.ClosedLaws.{models_closed}
+use Rattle.xs_weave.specs.Woven.{woven}
+use Rattle.xs_weave.specs.Faults.{Fault}
+use Rattle.xs_weave.specs.Extended.{Moment}
+use Rattle.xs_right.specs.Sets.{has_number}
+use Rattle.xs_encoded.specs.FlatTraces.{IsNumbered}
+use Rattle.xs_flattening.proofs.Lists.{get_within}
+use Rattle.xs_extended_right.specs.ExtendedTraces.{IsExtensionModel}
+use Rattle.xs_cuts.specs.declared.answer.End.{End}
+use Rattle.xs_cuts.specs.declared.answer.End.TheVariants.{Complete, Bounded}
+use Rattle.xs_cuts_extended.specs.Answered.{ending_of}
+use Rattle.xs_reporting.specs.ExtendedTraces.{Ending, complete, bounded}
+use Rattle.xs_orders.specs.declared.Relation.{Relation}
+use Rattle.xs_orders.specs.Stage.{stage, against}
+use Rattle.xs_orders.specs.Laws.{IsTruth}
+use Rattle.xs_orders_extended.specs.Laws.{IsAsked, NoneAgainst}
+use Rattle.xs_orders_extended.proofs.Said.{said, none_said}
+use Rattle.xs_orders_extended.proofs.Truths.{condition_truth}
+use Rattle.xs_faultless.specs.Laws.{class_of, NoneReaches}
+use Rattle.xs_staged.specs.Laws.{IsFaultNumber}
+use Rattle.xs_run.specs.Cases.{Case}
+use Rattle.xs_run.specs.Loaded.{case_of}
+use Rattle.xs_run.specs.Searches.{case_in}
+use Rattle.xs_run.proofs.Analysable.{model_of_case}
+use Rattle.xs_run.proofs.FlatLimits.{flat_typed}
+use Rattle.xs_find_orders.specs.declared.pair.StagedCase.{StagedCase}
+use Rattle.xs_find_orders.specs.Pairs.{IsPair, IsStagedCase}
+use Rattle.xs_find_orders.specs.Orders.{AreFaults, IsOfEnding, IsClaimed, staged_of, against_of}
+use Rattle.xs_find_orders.specs.Claimed.{SpeaksFor}
+use Rattle.xs_find_orders.proofs.PairLaws.{count_of_faults}
+
+-- two faults of a case, with their modes
+pub record TheFaults (c : Case) (tree : Tree FlatLeaf) (set : List ℕ) (first second : ℕ) : Type 0 where
+  pub f : Mode
+  pub g : Mode
+  pub one : Fault
+  pub other : Fault
+  pub asked : IsAsked c.faults c.flat c.modes tree set first second f g one other
+
+module _ (s : StagedCase) (is : IsStagedCase s) where
+  abbrev c : Case
+  c = case_in s.loaded
+
+  abbrev tree : Tree FlatLeaf
+  tree = flat_tree s.loaded.top
+
+  abbrev event_of : Formula
+  event_of = is.event.event.top
+
+  pub the_model : IsExtensionModel c.program c.instructions c.faults event_of c.flat c.modes tree
+  the_model = model_of_case (program_tree s.loaded.model.program) s.loaded.case s.asked.top.now tree is.event
+
+  typed : IsTyped c.flat
+  typed = let h = is.event.loaded.is_case in flat_typed c.program is.event.flat c.instructions c.faults is.event.lawful h.taken h.are_faults c.flat h.is_flat h.within
+
+  closed : IsClosed c.flat
+  closed = models_closed (woven c.program c.instructions) c.flat the_model.flat
+
+  truth_of : IsTruth c.flat tree
+  truth_of = condition_truth c.flat closed typed tree is.event.event.own is.event.event.kept
+
+  faults_counted : length c.faults ≡ length s.loaded.case.limited.faults
+  faults_counted = count_of_faults c.program s.loaded.case is.event.loaded
+
+  pub modes_counted : length c.modes ≡ length s.loaded.case.limited.faults
+  modes_counted = length-map s.loaded.case.limited.faults mode_of
+
+  below_count : (i : ℕ) → IsFaultNumber (length s.loaded.case.limited.faults) i → i - 1 < length s.loaded.case.limited.faults
+  below_count i of = let a = of.counts in let b = of.within in omega (arith, a, b)
+
+  pub the_faults : TheFaults c tree s.set.items s.asked.first s.asked.second
+  the_faults =
+      let first : s.asked.first - 1 < length s.loaded.case.limited.faults = below_count s.asked.first is.staged.one in
+      let second : s.asked.second - 1 < length s.loaded.case.limited.faults = below_count s.asked.second is.staged.other in
+      let f : (x : Mode) × (slice_get c.modes (s.asked.first - 1) ≡ Some x) = get_within c.modes (s.asked.first - 1) (omega (arith, first, modes_counted)) in
+      let g : (x : Mode) × (slice_get c.modes (s.asked.second - 1) ≡ Some x) = get_within c.modes (s.asked.second - 1) (omega (arith, second, modes_counted)) in
+      let one : (x : Fault) × (slice_get c.faults (s.asked.first - 1) ≡ Some x) = get_within c.faults (s.asked.first - 1) (omega (arith, first, faults_counted)) in
+      let other : (x : Fault) × (slice_get c.faults (s.asked.second - 1) ≡ Some x) = get_within c.faults (s.asked.second - 1) (omega (arith, second, faults_counted)) in
+      let first_counts = is.staged.one.counts in
+      let second_counts = is.staged.other.counts in
+      record {
+        f = f.0;
+        g = g.0;
+        one = one.0;
+        other = other.0;
+        asked = record {
+          pair = record { first_counts = omega (arith, first_counts); second_counts = omega (arith, second_counts); is_first = f.1; is_second = g.1 };
+          is_one = one.1;
+          is_other = other.1;
+          numbered = subst (λ n. IsNumbered n s.set.items) (sym modes_counted) is.staged.numbered;
+          first_in = is.pair.one;
+          second_in = is.pair.other;
+          truth = truth_of;
+        };
+      }
+
+  pub are_faults : AreFaults c s.asked.first s.asked.second the_faults.one the_faults.other
+  are_faults = record { is_one = the_faults.asked.is_one; is_other = the_faults.asked.is_other }
+
+  -- what was made of the staged case is over the model staged of the case
+  pub tree_is : (claim : Option Relation) (e : Tree FlatLeaf) → SpeaksFor s claim e → e ≡ against_of c s.set.items s.asked.first s.asked.second tree claim
+  tree_is claim e speaks =
+      speaks
+      ∙ ap (λ m. against m (length s.loaded.case.limited.faults) tree s.set.items claim) is.staged.model
+      ∙ ap (λ n. against (staged_of c s.asked.first s.asked.second) n tree s.set.items claim) (sym modes_counted)
+
+  pub at_stage : (P : FlatModel → Tree FlatLeaf → Type 0) (claim : Option Relation) (e : Tree FlatLeaf) → SpeaksFor s claim e → P (model_tree s.typed.model) e →
+      P (staged_of c s.asked.first s.asked.second) (against_of c s.set.items s.asked.first s.asked.second tree claim)
+  at_stage P claim e speaks h =
+      subst (λ m. P m (against_of c s.set.items s.asked.first s.asked.second tree claim)) is.staged.model (subst (P (model_tree s.typed.model)) (tree_is claim e speaks) h)
+
+  -- where no staged trace of a class speaks against a claim, the claim holds of the class
+  pub claim_of_class : (claim : Option Relation) (class : ℕ → Bool) (ending : Ending) → ((trace : List Moment) → IsOfEnding ending trace → IsTrue (class (length trace))) →
+      NoneReaches (staged_of c s.asked.first s.asked.second) (against_of c s.set.items s.asked.first s.asked.second tree claim) class →
+      IsClaimed c event_of s.set.items the_faults.one the_faults.other ending claim
+  claim_of_class None class ending short none = λ trace such of.
+      none_said c.program c.instructions c.faults event_of c.flat c.modes tree the_model s.set.items s.asked.first s.asked.second the_faults.f the_faults.g the_faults.one the_faults.other the_faults.asked class none trace such
+      (short trace of)
+  claim_of_class (Some r) class ending short none = λ trace such of.
+      said c.program c.instructions c.faults event_of c.flat c.modes tree the_model s.set.items s.asked.first s.asked.second the_faults.f the_faults.g the_faults.one the_faults.other the_faults.asked class r none trace such
+      (short trace of)
+
+-- the traces that an ending speaks of have the lengths of its class
+passes : (n k : ℕ) → n ≤ k + 1 → nat_le n (k + 1) ≡ true
+passes n k l = by (leb_tells n (k + 1))
+  where
+    by : ((nat_le n (k + 1) ≡ true) × (n ≤ k + 1)) ⊎ ((nat_le n (k + 1) ≡ false) × (k + 1 < n)) → nat_le n (k + 1) ≡ true
+    by (inl h) = h.0
+    by (inr h) = let past = h.1 in absurd (omega (arith, l, past))
+
+pub of_class : (end : End) (trace : List Moment) → IsOfEnding (ending_of end) trace → IsTrue (class_of end (length trace))
+of_class (Complete clauses) trace h = refl
+of_class (Bounded k) trace h = passes (length trace) k h

@@ -1,0 +1,129 @@
+-- The words of an order ask for two numbers of a set.
+use Rattle.std.proofs.Common.{◌≡◌, ◌⊎◌, inl, inr, ℕ, Bool, true, false, ◌||◌, List, [], ◌∷◌, Option, Some, None, refl, sym, ap, subst, ◌∙◌}
+use Rattle.std.specs.Prelude.{codes, nat_eq, IsTrue}
+use Rattle.std.proofs.lemmas.Bool.{eq-eqb}
+use Rattle.xs_right.specs.Sets.{has_number}
+use Rattle.xs_reach_words.specs.declared.choice.Kind.{Kind}
+use Rattle.xs_reach_words.specs.declared.choice.Kind.TheVariants as kind
+use Rattle.xs_reach_words.specs.declared.verb.Verb.{Verb}
+use Rattle.xs_reach_words.specs.declared.verb.Verb.TheVariants as verb
+use Rattle.xs_reach_words.specs.Commands.{Text, Command, Given, causes, check_causes, orders, check_orders, odds}
+use Rattle.xs_reach_words.specs.Sets.{number_of, numbers_of, IsSet, Each}
+use Rattle.xs_reach_words.specs.Table.{options_of, kind_in, Fits}
+use Rattle.xs_reach_words.specs.Meaning.{Means, Makes, finds_causes, checks_causes, finds_orders, checks_orders, finds_odds, Gives, GivesNumber, IsLawful, AreLawful, IsOfPair, IsOneOf, IsOutside, not_of_set, both_one, IsInside, AreInside}
+use Rattle.xs_find_orders.specs.Pairs.{IsPair, IsAskedPair, OrdersAskPairs, ChecksAskPairs}
+
+-- a pair of the list that gives an option this value, and what holds of each pair
+record At (P : Given → Type 0) (option value : Text) : Type 0 where
+  pair : Given
+  option_is : pair.option ≡ option
+  value_is : pair.value ≡ value
+  holds : P pair
+
+given_at : (P : Given → Type 0) (pairs : List Given) (option value : Text) → Gives pairs option value → Each P pairs → At P option value
+given_at P [] option value g h = absurd g
+given_at P (p ∷ ps) option value (inl e) h = record { pair = p; option_is = e.0; value_is = e.1; holds = h.0 }
+given_at P (p ∷ ps) option value (inr g) h = given_at P ps option value g h.1
+
+one_has : (set : List ℕ) (n : ℕ) → IsOneOf set n → has_number set n ≡ true
+one_has [] n h = absurd h
+one_has (m ∷ ms) n (inl e) = ap (λ b. b || has_number ms n) (eq-eqb m n e)
+one_has (m ∷ ms) n (inr h) = last (nat_eq m n) (one_has ms n h)
+  where
+    last : (b : Bool) → has_number ms n ≡ true → (b || has_number ms n) ≡ true
+    last true e = refl
+    last false e = e
+
+module _ (pairs : List Given) (set value other : Text) (has_set : Gives pairs (codes "--set") set) (has_first : Gives pairs (codes "--first") value) (has_second : Gives pairs (codes "--second") other) (inside : AreInside pairs) where
+  in_set : (option word : Text) → IsOfPair option → Gives pairs option word → has_number (numbers_of set) (number_of word) ≡ true
+  in_set option word of given = by (has_number (numbers_of set) (number_of word)) refl
+    where
+      at : At (IsInside set value) option word
+      at = given_at (IsInside set value) pairs option word given (inside set value has_set has_first)
+
+      by : (b : Bool) → has_number (numbers_of set) (number_of word) ≡ b → has_number (numbers_of set) (number_of word) ≡ true
+      by true e = e
+      by false e =
+          absurd
+          (at.holds
+          (not_of_set (subst IsOfPair (sym at.option_is) of)
+          (λ one. let bad : false ≡ true = sym e ∙ one_has (numbers_of set) (number_of word) (subst (λ w. IsOneOf (numbers_of set) (number_of w)) at.value_is one) in cc)))
+
+  pub words_pair : (first second : ℕ) → number_of value ≡ first → number_of other ≡ second → IsPair (numbers_of set) first second
+  words_pair first second is_first is_second =
+      record {
+        one = subst (λ n. IsTrue (has_number (numbers_of set) n)) is_first (in_set (codes "--first") value (inl refl) has_first);
+        other = subst (λ n. IsTrue (has_number (numbers_of set) n)) is_second (in_set (codes "--second") other (inr refl) has_second);
+        apart = λ same.
+            let at : At (IsInside set value) (codes "--second") other = given_at (IsInside set value) pairs (codes "--second") other has_second (inside set value has_set has_first) in
+            at.holds (both_one at.option_is (is_first ∙ same ∙ sym is_second ∙ ap number_of (sym at.value_is)));
+      }
+
+same_kind : (k : Kind) (word : Text) → Some kind.Set ≡ Some k → Fits k word → IsSet word
+same_kind k word e h = let same : kind.Set ≡ k = cc in subst (λ x. Fits x word) (sym same) h
+
+-- what the pairs give where the verb is one of the two
+record GivesPair (pairs : List Given) (set : Text) (first second : ℕ) : Type 0 where
+  has_set : Gives pairs (codes "--set") set
+  has_first : GivesNumber pairs (codes "--first") first
+  has_second : GivesNumber pairs (codes "--second") second
+
+of_orders : (pairs : List Given) (v : Verb) (c : Command) → Makes pairs v c → (model faults top set : Text) (first second depth : ℕ) (cert : Text) → c ≡ orders model faults top set first second depth cert →
+    (v ≡ verb.Orders) × GivesPair pairs set first second
+of_orders pairs v c (finds_causes m f k t d x a b o p q r) model faults top set first second depth cert e = cc
+of_orders pairs v c (checks_causes m f k t x a b o p q) model faults top set first second depth cert e = cc
+of_orders pairs v c (finds_orders m f t s i j d x a b o p q r u w) model faults top set first second depth cert e =
+    let one : s ≡ set = cc in
+    let two : i ≡ first = cc in
+    let three : j ≡ second = cc in (
+      refl,
+      record {
+        has_set = subst (λ y. Gives pairs (codes "--set") y) one p;
+        has_first = subst (λ y. GivesNumber pairs (codes "--first") y) two q;
+        has_second = subst (λ y. GivesNumber pairs (codes "--second") y) three r;
+      },
+    )
+of_orders pairs v c (checks_orders m f t s i j k x a b o p q r u w) model faults top set first second depth cert e = cc
+of_orders pairs v c (finds_odds m f t d a b o p) model faults top set first second depth cert e = cc
+
+of_checks : (pairs : List Given) (v : Verb) (c : Command) → Makes pairs v c → (model faults top set : Text) (first second : ℕ) (claim cert : Text) → c ≡ check_orders model faults top set first second claim cert →
+    (v ≡ verb.CheckOrders) × GivesPair pairs set first second
+of_checks pairs v c (finds_causes m f k t d x a b o p q r) model faults top set first second claim cert e = cc
+of_checks pairs v c (checks_causes m f k t x a b o p q) model faults top set first second claim cert e = cc
+of_checks pairs v c (finds_orders m f t s i j d x a b o p q r u w) model faults top set first second claim cert e = cc
+of_checks pairs v c (checks_orders m f t s i j k x a b o p q r u w) model faults top set first second claim cert e =
+    let one : s ≡ set = cc in
+    let two : i ≡ first = cc in
+    let three : j ≡ second = cc in (
+      refl,
+      record {
+        has_set = subst (λ y. Gives pairs (codes "--set") y) one p;
+        has_first = subst (λ y. GivesNumber pairs (codes "--first") y) two q;
+        has_second = subst (λ y. GivesNumber pairs (codes "--second") y) three r;
+      },
+    )
+of_checks pairs v c (finds_odds m f t d a b o p) model faults top set first second claim cert e = cc
+
+asked_pair : (v : Verb) (pairs : List Given) (set : Text) (first second : ℕ) → kind_in (options_of v) (codes "--set") ≡ Some kind.Set → AreLawful (options_of v) pairs → AreInside pairs → GivesPair pairs set first second →
+    IsAskedPair set first second
+asked_pair v pairs set first second known lawful inside g =
+    let at : At (IsLawful (options_of v)) (codes "--set") set = given_at (IsLawful (options_of v)) pairs (codes "--set") set g.has_set lawful.each in
+    record {
+      is_set =
+          same_kind at.holds.kind set (sym known ∙ ap (kind_in (options_of v)) (sym at.option_is) ∙ at.holds.known) (subst (Fits at.holds.kind) at.value_is at.holds.fits);
+      pair = words_pair pairs set g.has_first.value g.has_second.value g.has_set g.has_first.given g.has_second.given inside first second g.has_first.is g.has_second.is;
+    }
+
+set_known : (v : Verb) → (v ≡ verb.Orders) ⊎ (v ≡ verb.CheckOrders) → kind_in (options_of v) (codes "--set") ≡ Some kind.Set
+set_known v (inl e) = subst (λ x. kind_in (options_of x) (codes "--set") ≡ Some kind.Set) (sym e) refl
+set_known v (inr e) = subst (λ x. kind_in (options_of x) (codes "--set") ≡ Some kind.Set) (sym e) refl
+
+pub orders_ask : OrdersAskPairs
+orders_ask words model faults top set first second depth cert means =
+    let of = of_orders means.pairs means.verb (orders model faults top set first second depth cert) means.makes model faults top set first second depth cert refl in
+    asked_pair means.verb means.pairs set first second (set_known means.verb (inl of.0)) means.lawful means.inside of.1
+
+pub checks_ask : ChecksAskPairs
+checks_ask words model faults top set first second claim cert means =
+    let of = of_checks means.pairs means.verb (check_orders model faults top set first second claim cert) means.makes model faults top set first second claim cert refl in
+    asked_pair means.verb means.pairs set first second (set_known means.verb (inr of.0)) means.lawful means.inside of.1

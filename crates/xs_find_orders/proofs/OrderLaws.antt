@@ -1,0 +1,239 @@
+-- From the answers of searches to an order of two faults, its certificate and its report.
+use Rattle.std.proofs.Common.{◌≡◌, ℕ, zero, suc, ◌+◌, ◌-◌, ◌<◌, ◌≤◌, ◌↔◌, Bool, true, false, IsTrue, List, [], ◌∷◌, ◌++◌, length, map, take, Option, Some, None, Result, Ok, Err, IfOk, IfSome, refl, sym, ap, subst, ◌∙◌, arith}
+use Rattle.std.specs.Prelude.{slice_get}
+use Rattle.xs_desk.specs.declared.files.NamedFile.{NamedFile}
+use Rattle.xs_desk.specs.Desk.{told_with, said_more}
+use Rattle.xs_tree.specs.Tree.{Tree}
+use Rattle.xs_tree.specs.ProgramTree.{Text, Formula, program_tree}
+use Rattle.xs_tree.specs.Values.{Value}
+use Rattle.xs_value.specs.declared.value.Value.{Value as Numbered}
+use Rattle.xs_scope.specs.ModelTree.{model_tree, mode_of, flat_tree}
+use Rattle.xs_scope.specs.declared.model.Fault.{Fault as FaultOf}
+use Rattle.xs_flattening.specs.Flat.{FlatLeaf, FlatModel}
+use Rattle.xs_flattening.specs.History.{with_history}
+use Rattle.xs_flattening.proofs.HistoryLaws.{no_bits}
+use Rattle.xs_kinds.specs.Costs.{state_bits}
+use Rattle.xs_encoding.specs.Bits.{state_of, inputs_of}
+use Rattle.xs_encoding.specs.Lists.{system_of}
+use Rattle.xs_trace_text.specs.Given.{GivesTrace}
+use Rattle.xs_report.specs.Told.{told_trace}
+use Rattle.xs_analysis_text.specs.Analysis.{told_ending}
+use Rattle.xs_value.specs.declared.ending.Ending.{Ending as Printed}
+use Rattle.xs_value.specs.declared.ending.Ending.TheVariants as printed
+use Rattle.xs_cuts.specs.Progress.{HasChainFor}
+use Rattle.xs_cuts.specs.Answer.{IsEnd}
+use Rattle.xs_cuts.specs.declared.answer.End.{End}
+use Rattle.xs_cuts.specs.declared.answer.End.TheVariants.{Complete, Bounded}
+use Rattle.xs_cuts_extended.specs.Answered.{ending_of}
+use Rattle.xs_cert.specs.Seen.{seen}
+use Rattle.xs_cert.specs.declared.certificate.Certificate.{Certificate as Written}
+use Rattle.xs_certificate.specs.CertificateText.{SpellsCertificate}
+use Rattle.xs_certified.specs.Certified.{IsCertified}
+use Rattle.xs_subject.specs.Subject.{subject_of}
+use Rattle.xs_certify.specs.Texts.{text_lines}
+use Rattle.xs_orders.specs.declared.Relation.{Relation}
+use Rattle.xs_cutting.specs.Found.{sets_of}
+use Rattle.xs_faultless.specs.Laws.{class_of, NoneReaches}
+use Rattle.xs_faultless.proofs.Refuted.{empty_refute, found_reach}
+use Rattle.xs_reporting.specs.ExtendedTraces.{Ending, complete, bounded}
+use Rattle.xs_run.specs.Analyses.{IsCertificateFor}
+use Rattle.xs_run.specs.Cases.{Case, HoldsCase}
+use Rattle.xs_run.specs.Answered.{Told, Said}
+use Rattle.xs_run.specs.Searches.{case_in, told_maybe}
+use Rattle.xs_reach_status.specs.declared.status.Status.{Status}
+use Rattle.xs_find_orders.specs.declared.pair.PairWords.{PairWords}
+use Rattle.xs_find_orders.specs.declared.pair.StagedCase.{StagedCase}
+use Rattle.xs_find_orders.specs.declared.searched.Searched.{Searched}
+use Rattle.xs_find_orders.specs.declared.orders.Conclusion.{Conclusion}
+use Rattle.xs_reach_words.specs.Sets.{numbers_of}
+use Rattle.xs_find_orders.specs.Pairs.{IsAsked, IsStagedCase}
+use Rattle.xs_find_orders.specs.Orders.{Order, claimed, either, IsClaimed, IsShown, IsOrder, EndsOrder, CertifiesClaim, IsClaimWritten, order_text, staged_of, against_of, ended_by, HasOrder}
+use Rattle.xs_find_orders.specs.Claimed.{SpeaksFor, IsAnswerAlone, IsSearchOf, IsTraceAgainst, IsToldBy, IsCertifiedOrder, HasClaimCertificate, IsConclusion, relation_in}
+use Rattle.xs_find_orders.proofs.StagedCases.{empty_sets, no_sets}
+use Rattle.xs_find_orders.proofs.AskedLaws.{the_faults, are_faults, at_stage, claim_of_class, of_class}
+use Rattle.xs_find_orders.proofs.ShownLaws.{shown_such, traces_differ}
+
+-- ---- what is written and said
+
+module _ (files : List NamedFile) (s : StagedCase) (depth : ℕ) (cert : Text) (k : Conclusion) (st : Status) (before after : Told) (said now : Said) where
+  written_of : (order : Order) (ending : Ending) (o : Option (List ℕ)) → IsCertifiedOrder s order ending o → after ≡ told_maybe before cert o →
+      IsClaimWritten (case_in s.loaded) s.set.items s.asked.first s.asked.second (flat_tree s.loaded.top) order ending cert before after
+  written_of (claimed claim) complete None h is = absurd h
+  written_of (claimed claim) complete (Some bytes) h is = (bytes, h, is)
+  written_of (claimed claim) (bounded n) None h is = is
+  written_of (claimed claim) (bounded n) (Some bytes) h is = absurd h
+  written_of (either values others) complete None h is = is
+  written_of (either values others) complete (Some bytes) h is = absurd h
+  written_of (either values others) (bounded n) None h is = is
+  written_of (either values others) (bounded n) (Some bytes) h is = absurd h
+
+  order_of_case : HoldsCase files s.asked.model.now s.asked.faults.now (case_in s.loaded) → IsConclusion s depth k → st ≡ ended_by (told_ending k.ending) → after ≡ told_maybe before cert k.cert →
+      now ≡ said_more said k.report →
+      HasOrder files s.asked.model.now s.asked.faults.now s.asked.top.now s.set.items s.asked.first s.asked.second depth cert st before after said now
+  order_of_case holds found ends written says =
+      record {
+        c = case_in s.loaded;
+        holds = holds;
+        event = found.event;
+        is_event = found.is_event;
+        tree = flat_tree s.loaded.top;
+        is_tree = found.is_tree;
+        one = found.one;
+        other = found.other;
+        are = found.are;
+        order = found.order;
+        ending = found.ending;
+        right = found.right;
+        ends_by = found.ends_by;
+        ends = ends ∙ ap ended_by found.ends;
+        written = written_of found.order found.ending k.cert found.certified written;
+        reported = says ∙ ap (λ t. said_more said t) found.reported;
+      }
+
+pub has_order : (told : Option (List NamedFile)) (s : StagedCase) (w : PairWords) (depth : ℕ) (cert : Text) (k : Conclusion) (st : Status) (before mid after : Told) (said mid_said now : Said) →
+    IfSome told (λ files. HoldsCase files w.model.now w.faults.now (case_in s.loaded)) → s.asked ≡ w → (IsAsked w → s.set.items ≡ numbers_of w.set.now) → IsConclusion s depth k → st ≡ ended_by (told_ending k.ending) →
+    mid ≡ before → mid_said ≡ said → after ≡ told_maybe mid cert k.cert → now ≡ said_more mid_said k.report → IsAsked w →
+    IfSome told (λ files. HasOrder files w.model.now w.faults.now w.top.now (numbers_of w.set.now) w.first w.second depth cert st before after said now)
+has_order None s w depth cert k st before mid after said mid_said now holds same numbers found ends kept silent written says asked = tt
+has_order (Some files) s w depth cert k st before mid after said mid_said now holds same numbers found ends kept silent written says asked =
+    subst (λ (x : PairWords). HasOrder files x.model.now x.faults.now x.top.now (numbers_of w.set.now) x.first x.second depth cert st before after said now) same
+    (subst (λ set. HasOrder files s.asked.model.now s.asked.faults.now s.asked.top.now set s.asked.first s.asked.second depth cert st before after said now) (numbers asked)
+    (order_of_case files s depth cert k st before after said now (subst (λ (x : PairWords). HoldsCase files x.model.now x.faults.now (case_in s.loaded)) (sym same) holds) found ends
+    (written ∙ ap (λ t. told_maybe t cert k.cert) kept) (says ∙ ap (λ t. said_more t k.report) silent)))
+
+-- ---- a claim without a trace against it
+
+module _ (s : StagedCase) (is : IsStagedCase s) (claim : Option Relation) (depth : ℕ) (r : Searched) (search : IsSearchOf s claim depth r) (none : length r.analysis.traces ≡ 0) where
+  abbrev m : FlatModel
+  m = model_tree s.typed.model
+
+  abbrev e : Tree FlatLeaf
+  e = flat_tree r.top
+
+  -- the claim holds of the traces that the search speaks of
+  pub claim_holds : IsClaimed (case_in s.loaded) is.event.event.top s.set.items (the_faults s is).one (the_faults s is).other (ending_of r.analysis.end) claim
+  claim_holds =
+      claim_of_class s is claim (class_of r.analysis.end) (ending_of r.analysis.end) (of_class r.analysis.end)
+      (at_stage s is (λ m e. NoneReaches m e (class_of r.analysis.end)) claim e search.speaks
+      (empty_refute m e (system_of (with_history m [])) (state_of (with_history m [])) (inputs_of (with_history m [])) depth 0 r.analysis search.answer none))
+
+  -- how it ends
+  pub claim_ends : EndsOrder (case_in s.loaded) s.set.items s.asked.first s.asked.second (flat_tree s.loaded.top) depth (claimed claim) (ending_of r.analysis.end)
+  claim_ends = by r.analysis.end search.answer.ends
+    where
+      empty : sets_of search.answer.found ≡ []
+      empty = empty_sets search.answer.found (sym (ap length search.answer.traces) ∙ none)
+
+      by : (end : End) → IsEnd m [] e (system_of (with_history m [])) (state_of (with_history m [])) (inputs_of (with_history m [])) depth 0 search.answer.found end →
+          EndsOrder (case_in s.loaded) s.set.items s.asked.first s.asked.second (flat_tree s.loaded.top) depth (claimed claim) (ending_of end)
+      by (Complete clauses) h = tt
+      by (Bounded k) h = (
+        h.0,
+        at_stage s is (λ m e. HasChainFor m [] e (system_of (with_history m [])) (state_of (with_history m [])) (inputs_of (with_history m [])) 0 [] k) claim e search.speaks
+            (subst (λ sets. HasChainFor m [] e (system_of (with_history m [])) (state_of (with_history m [])) (inputs_of (with_history m [])) 0 sets k) empty h.1),
+      )
+
+  -- a trace that tells the relation shows that there is one
+  pub claim_shown : IsToldBy s claim → IsShown (case_in s.loaded) is.event.event.top s.set.items (the_faults s is).one (the_faults s is).other claim
+  claim_shown = by claim
+    where
+      by : (x : Option Relation) → IsToldBy s x → IsShown (case_in s.loaded) is.event.event.top s.set.items (the_faults s is).one (the_faults s is).other x
+      by None h = tt
+      by (Some relation) h = let one = shown_such s is h.0 h.1 in (one.0.trace, one.0.such)
+
+  -- the certificate of a complete claim
+  certified_order : (end : End) (o : Option (List ℕ)) → HasClaimCertificate s claim end o → IsCertifiedOrder s (claimed claim) (ending_of end) o
+  certified_order (Complete clauses) None h = absurd h
+  certified_order (Complete clauses) (Some bytes) h = h
+  certified_order (Bounded k) None h = tt
+  certified_order (Bounded k) (Some bytes) h = absurd h
+
+  pub claim_concluded : (cert : Option (List ℕ)) (report : Text) (ending : Printed) (bits : ℕ) → IsToldBy s claim → HasClaimCertificate s claim r.analysis.end cert → told_ending ending ≡ ending_of r.analysis.end →
+      bits ≡ state_bits (model_tree s.typed.model) →
+      report ≡ order_text (case_in s.loaded).flat s.asked.first s.asked.second (claimed claim) (told_ending ending) bits → IsConclusion s depth (record { cert = cert; report = report; ending = ending })
+  claim_concluded cert report ending bits told has ends counted says =
+      record {
+        event = is.event.event.top;
+        is_event = is.event.event.is_word;
+        is_tree = is.event.event.is_tree;
+        one = (the_faults s is).one;
+        other = (the_faults s is).other;
+        are = are_faults s is;
+        order = claimed claim;
+        ending = ending_of r.analysis.end;
+        right = (claim_holds, claim_shown told);
+        ends_by = claim_ends;
+        ends = ends;
+        certified = certified_order r.analysis.end cert has;
+        reported =
+            says ∙ ap (λ x. order_text (case_in s.loaded).flat s.asked.first s.asked.second (claimed claim) x bits) ends
+            ∙ ap (λ n. order_text (case_in s.loaded).flat s.asked.first s.asked.second (claimed claim) (ending_of r.analysis.end) n) (counted ∙ ap state_bits is.staged.model);
+      }
+
+-- ---- two traces that differ
+
+pub either_concluded : (s : StagedCase) → IsStagedCase s → (n : ℕ) → n ≡ length s.loaded.case.limited.typed.model.variables → (one other : List (List Numbered)) → IsTraceAgainst s None one →
+    IsTraceAgainst s (Some (relation_in one)) other → (depth : ℕ) (report : Text) →
+    report ≡ order_text (case_in s.loaded).flat s.asked.first s.asked.second
+    (either (told_trace s.loaded.case.limited.typed.model.symbols (map (take n) one)) (told_trace s.loaded.case.limited.typed.model.symbols (map (take n) other))) complete
+    (state_bits (staged_of (case_in s.loaded) s.asked.first s.asked.second)) →
+    IsConclusion s depth (record { cert = None; report = report; ending = printed.Complete })
+either_concluded s is n counted one other h g depth report says =
+    record {
+      event = is.event.event.top;
+      is_event = is.event.event.is_word;
+      is_tree = is.event.event.is_tree;
+      one = (the_faults s is).one;
+      other = (the_faults s is).other;
+      are = are_faults s is;
+      order = either (told_trace s.loaded.case.limited.typed.model.symbols (map (take n) one)) (told_trace s.loaded.case.limited.typed.model.symbols (map (take n) other));
+      ending = complete;
+      right = traces_differ s is n counted one other h g;
+      ends_by = tt;
+      ends = refl;
+      certified = tt;
+      reported = says;
+    }
+
+-- ---- the certificate
+
+no_trace : (ts : List (List (List Numbered))) → length ts ≡ 0 → ts ≡ []
+no_trace [] h = refl
+no_trace (t ∷ ts) h = absurd (omega (arith, h))
+
+-- what was certified of the staged model is a certificate of the claim
+module _ (s : StagedCase) (is : IsStagedCase s) (claim : Option Relation) (depth : ℕ) (r : Searched) (search : IsSearchOf s claim depth r) (none : length r.analysis.traces ≡ 0) (faults : List FaultOf) (alone : faults ≡ []) (x : Written) (bytes : List ℕ) where
+  abbrev made : FlatModel
+  made = model_tree s.typed.model
+
+  abbrev spoken : Tree FlatLeaf
+  spoken = flat_tree r.top
+
+  abbrev IsCertifiedWith : FlatModel → List FaultOf → Type 0
+  IsCertifiedWith whole fs = IsCertified made (map mode_of fs) spoken (GivesTrace made) (subject_of whole made (map mode_of fs) spoken) (seen x)
+
+  pub claim_certified : IsCertifiedWith made faults → x.sets ≡ r.analysis.sets → x.size ≡ r.analysis.size → x.traces ≡ map (text_lines s.typed.model) r.analysis.traces → SpellsCertificate bytes (seen x) →
+      CertifiesClaim (case_in s.loaded) s.set.items s.asked.first s.asked.second (flat_tree s.loaded.top) claim bytes
+  claim_certified certified sets size traces spells =
+      at_stage s is (λ m e. IsCertificateFor m [] e 0 [] [] bytes) claim spoken search.speaks
+      (record {
+        certificate = seen x;
+        spells = spells;
+        accepted = subst (λ whole. IsCertifiedWith whole []) (sym (no_bits made)) (subst (λ (fs : List FaultOf). IsCertifiedWith made fs) alone certified);
+        has_size = size ∙ search.answer.size_is;
+        has_sets = sets ∙ no_sets s claim depth r search none;
+        has_texts = traces ∙ ap (map (text_lines s.typed.model)) (no_trace r.analysis.traces none);
+      })
+
+-- the first trace of a search is one against its claim
+pub trace_found : (s : StagedCase) (claim : Option Relation) (depth : ℕ) (r : Searched) → IsSearchOf s claim depth r → (trace : List (List Numbered)) → slice_get r.analysis.traces 0 ≡ Some trace → IsTraceAgainst s claim trace
+trace_found s claim depth r search trace at =
+    let both =
+    found_reach (model_tree s.typed.model) (flat_tree r.top) (system_of (with_history (model_tree s.typed.model) [])) (state_of (with_history (model_tree s.typed.model) []))
+    (inputs_of (with_history (model_tree s.typed.model) [])) depth 0 r.analysis search.answer trace at in
+    record { e = flat_tree r.top; speaks = search.speaks; is_trace = both.0; reaching = both.1 }
+
+-- a list that is not empty has a first member
+pub some_trace : (ts : List (List (List Numbered))) (b : Bool) → (IsTrue b ↔ (length ts ≡ 0)) → b ≡ false → 0 < length ts
+some_trace [] b tells e = let bad : true ≡ false = sym (tells.1 refl) ∙ e in cc
+some_trace (t ∷ ts) b tells e = omega arith

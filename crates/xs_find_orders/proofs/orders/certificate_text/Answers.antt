@@ -1,0 +1,27 @@
+use Rattle.std.proofs.lemmas.Result.{IfOk-weaker}
+use Rattle.xs_scope.specs.ModelTree.{model_tree, flat_tree}
+use Rattle.xs_run.specs.Searches.{case_in}
+use Rattle.xs_cert.specs.Seen.{seen}
+use Rattle.xs_certificate.specs.CertificateText.{SpellsCertificate}
+use Rattle.xs_find_orders.specs.Orders.{CertifiesClaim}
+use Rattle.xs_find_orders.proofs.StagedCases.{alone, certifiable_alone, complete_alone}
+use Rattle.xs_find_orders.proofs.OrderLaws.{claim_certified}
+use Rattle.xs_find_orders.proofs.orders.certificate_text.Goals as goal
+
+pub certify-requires-clause-history : goal.certify-requires-clause-history
+certify-requires-clause-history g c = alone (model_tree c.args.staged.now.typed.model) c.args.staged.now.none c.requires.staged.none
+
+pub certify-requires-clause-model : goal.certify-requires-clause-model
+certify-requires-clause-model g c = certifiable_alone c.args.staged.now c.args.claim c.args.depth c.args.searched.now c.requires.searched c.requires.none c.args.staged.now.none c.requires.staged.none
+
+pub certify-requires-clause-answer : goal.certify-requires-clause-answer
+certify-requires-clause-answer g c = complete_alone c.args.staged.now c.args.claim c.args.depth c.args.searched.now c.requires.searched c.requires.none c.args.staged.now.none c.requires.staged.none c.requires.complete
+
+pub returns : goal.returns
+returns g c =
+    let s = c.args.staged.now in
+    let x = c.in_ok-certificate.certificate in
+    IfOk-weaker c.write.result (λ text. SpellsCertificate text (seen x)) (CertifiesClaim (case_in s.loaded) s.set.items s.asked.first s.asked.second (flat_tree s.loaded.top) c.args.claim)
+    (λ text spells. claim_certified s c.requires.staged c.args.claim c.args.depth c.args.searched.now c.requires.searched c.requires.none s.none c.requires.staged.none x text c.in_ok-certificate.ensures.certified
+    c.in_ok-certificate.ensures.sets c.in_ok-certificate.ensures.size c.in_ok-certificate.ensures.traces spells)
+    c.write.ensures.spells

@@ -1,0 +1,16 @@
+use Rattle.std.proofs.Common.{◌≡◌, ◌∙◌, sym, ap, subst, map}
+use Rattle.xs_scope.specs.ModelTree.{model_tree, mode_of}
+use Rattle.xs_kinds.specs.Models.{IsTyped}
+use Rattle.xs_orders.specs.Stage.{stage}
+use Rattle.xs_run.proofs.InputLemmas.{same_error}
+use Rattle.xs_run.specs.Wholes.{BreaksKinds}
+use Rattle.xs_find_orders.proofs.PairLaws.{stage_refused, stage_no_desk, stage_wrong}
+use Rattle.xs_find_orders.proofs.pair.staged_model.Goals as goal
+
+pub returns-in-Err-clause-refused : goal.returns-in-Err-clause-refused
+returns-in-Err-clause-refused c r e =
+    stage_refused (BreaksKinds (stage (model_tree c.args.limited.now.typed.model) (map mode_of c.args.limited.now.faults) c.args.first c.args.second)) c.in-Err.wrong r (sym c.stage_stop.ensures ∙ same_error e)
+    (stage_wrong c.in_ok-model.model c.in-Err.wrong _ (c.in_ok-model.ensures ∙ ap (λ m. stage (model_tree m) (map mode_of c.args.limited.now.faults) c.args.first c.args.second) c.model.ensures.model) c.in-Err.ensures.wrong)
+
+pub returns-in-Err-clause-desk : goal.returns-in-Err-clause-desk
+returns-in-Err-clause-desk c e = stage_no_desk c.in-Err.wrong (sym c.stage_stop.ensures ∙ same_error e)

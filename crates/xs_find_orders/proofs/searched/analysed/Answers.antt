@@ -1,0 +1,22 @@
+use Rattle.std.proofs.Common.{subst, map, List}
+use Rattle.std.specs.Prelude.{IfOk}
+use Rattle.xs_scope.specs.declared.model.Fault.{Fault}
+use Rattle.xs_scope.specs.ModelTree.{model_tree, mode_of, flat_tree}
+use Rattle.xs_flattening.specs.History.{with_history}
+use Rattle.xs_encoding.specs.Bits.{state_of, inputs_of}
+use Rattle.xs_encoding.specs.Lists.{system_of}
+use Rattle.xs_cuts.specs.Answer.{IsAnswer}
+use Rattle.xs_find_orders.proofs.StagedCases.{alone, searchable_alone}
+use Rattle.xs_find_orders.proofs.searched.analysed.Goals as goal
+
+pub analyse-requires-clause-whole : goal.analyse-requires-clause-whole
+analyse-requires-clause-whole g c = alone (model_tree c.args.staged.now.typed.model) c.args.staged.now.none c.requires.none
+
+pub analyse-requires-clause-searchable : goal.analyse-requires-clause-searchable
+analyse-requires-clause-searchable g c = searchable_alone (model_tree c.args.staged.now.typed.model) (flat_tree c.args.top.now) c.args.staged.now.none c.requires.none c.requires.searchable
+
+pub returns : goal.returns
+returns g c =
+    let m = model_tree c.args.staged.now.typed.model in
+    subst (λ (fs : List Fault). IfOk c.analyse.result (IsAnswer m (map mode_of fs) (flat_tree c.args.top.now) (system_of (with_history m (map mode_of fs))) (state_of (with_history m (map mode_of fs))) (inputs_of (with_history m (map mode_of fs))) c.args.depth 0))
+    c.requires.none c.analyse.ensures

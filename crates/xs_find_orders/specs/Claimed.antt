@@ -1,0 +1,115 @@
+-- A search over a staged model for a trace that speaks against a claim, and what is concluded of it.
+use Rattle.std.specs.Prelude.{◌≡◌, ℕ, ◌-◌, ◌<◌, ◌≤◌, ◌^◌, List, [], ◌∷◌, Option, Some, None, Bool, false, length, map, take, slice_get}
+use Rattle.xs_tree.specs.Tree.{Tree}
+use Rattle.xs_tree.specs.ProgramTree.{Formula}
+use Rattle.xs_value.specs.declared.value.Value.{Value as Numbered}
+use Rattle.xs_value.specs.declared.value.Value.TheVariants.{Bool as ABool, Num, Sym}
+use Rattle.xs_scope.specs.ModelTree.{model_tree, flat_tree}
+use Rattle.xs_flattening.specs.Flat.{FlatLeaf, FlatModel}
+use Rattle.xs_flattening.specs.FlatTrace.{IsFlatTrace}
+use Rattle.xs_flattening.specs.History.{with_history}
+use Rattle.xs_kinds.specs.Costs.{state_bits}
+use Rattle.xs_weave.specs.Faults.{Fault}
+use Rattle.xs_encoding.specs.Bits.{state_of, inputs_of}
+use Rattle.xs_encoding.specs.Lists.{system_of}
+use Rattle.xs_encoded.specs.FlatTraces.{ReachesTop}
+use Rattle.xs_encoded_search.specs.Searchable.{IsSearchable}
+use Rattle.xs_analysis_text.specs.Analysis.{told_ending}
+use Rattle.xs_cuts.specs.Answer.{IsAnswer}
+use Rattle.xs_cuts.specs.Values.{trace_of}
+use Rattle.xs_cuts.specs.declared.answer.Analysis.{Analysis}
+use Rattle.xs_cuts.specs.declared.answer.End.{End}
+use Rattle.xs_cuts.specs.declared.answer.End.TheVariants.{Complete, Bounded}
+use Rattle.xs_orders.specs.declared.Relation.{Relation}
+use Rattle.xs_orders.specs.declared.Relation.TheVariants.{Together}
+use Rattle.xs_orders.specs.Stage.{against}
+use Rattle.xs_orders.specs.Told.{told_relation}
+use Rattle.xs_reporting.specs.ExtendedTraces.{Ending, complete, bounded}
+use Rattle.xs_run.specs.Searches.{case_in}
+use Rattle.xs_run.specs.Cases.{IsTopWord}
+use Rattle.xs_run.specs.Tasks.{IsTopTree}
+use Rattle.xs_find_orders.specs.declared.pair.StagedCase.{StagedCase}
+use Rattle.xs_find_orders.specs.declared.searched.Searched.{Searched}
+use Rattle.xs_find_orders.specs.declared.orders.Conclusion.{Conclusion}
+use Rattle.xs_find_orders.specs.Orders.{Order, claimed, either, AreFaults, IsOrder, EndsOrder, CertifiesClaim, order_text, staged_of}
+
+-- there are as few symbols as a search can number, and no more faults than a weave takes
+pub record HasFew (s : StagedCase) : Type 0 where
+  pub symbols : length s.loaded.case.limited.typed.model.symbols < 2 ^ 31
+  pub faults : length s.loaded.case.limited.faults ≤ 256
+
+-- the expression is what speaks against the claim over the staged model
+abbrev pub SpeaksFor : StagedCase → Option Relation → Tree FlatLeaf → Type 0
+SpeaksFor s claim e = e ≡ against (model_tree s.typed.model) (length s.loaded.case.limited.faults) (flat_tree s.loaded.top) s.set.items claim
+
+-- this answers a search of a model without faults
+abbrev pub IsAnswerAlone : FlatModel → Tree FlatLeaf → ℕ → Analysis → Type 0
+IsAnswerAlone m e depth a = IsAnswer m [] e (system_of (with_history m [])) (state_of (with_history m [])) (inputs_of (with_history m [])) depth 0 a
+
+-- what speaks against the claim was searched for
+pub record IsSearchOf (s : StagedCase) (claim : Option Relation) (depth : ℕ) (r : Searched) : Type 0 where
+  pub speaks : SpeaksFor s claim (flat_tree r.top)
+  pub searchable : IsSearchable (model_tree s.typed.model) [] (flat_tree r.top)
+  pub answer : IsAnswerAlone (model_tree s.typed.model) (flat_tree r.top) depth r.analysis
+
+-- a value is TRUE
+abbrev pub is_true_value : Option Numbered → Bool
+is_true_value None = false
+is_true_value (Some (ABool b)) = b
+is_true_value (Some (Num n)) = false
+is_true_value (Some (Sym i)) = false
+
+-- the relation that the last two values of a moment tell
+abbrev pub relation_at : List Numbered → Relation
+relation_at v = told_relation (is_true_value (slice_get v (length v - 2))) (is_true_value (slice_get v (length v - 1)))
+
+abbrev pub relation_of_last : Option (List Numbered) → Relation
+relation_of_last None = Together
+relation_of_last (Some v) = relation_at v
+
+-- the relation that the last moment of a trace tells
+abbrev pub relation_in : List (List Numbered) → Relation
+relation_in trace = relation_of_last (slice_get trace (length trace - 1))
+
+-- a trace of the staged model that makes what speaks against the claim TRUE at its end, by its values
+pub record IsTraceAgainst (s : StagedCase) (claim : Option Relation) (trace : List (List Numbered)) : Type 0 where
+  pub e : Tree FlatLeaf
+  pub speaks : SpeaksFor s claim e
+  pub is_trace : IsFlatTrace (model_tree s.typed.model) (trace_of s.typed.model.symbols trace)
+  pub reaching : ReachesTop (model_tree s.typed.model) e (trace_of s.typed.model.symbols trace)
+
+-- where a relation is claimed, a trace that reaches the event with exactly the set tells it
+abbrev pub IsToldBy : StagedCase → Option Relation → Type 0
+IsToldBy s None = Unit {0}
+IsToldBy s (Some r) = (trace : List (List Numbered)) × IsTraceAgainst s None trace × (relation_in trace ≡ r)
+
+-- the certificate of a complete claim, and else none
+abbrev pub IsCertifiedOrder : StagedCase → Order → Ending → Option (List ℕ) → Type 0
+IsCertifiedOrder s (claimed claim) complete (Some bytes) =
+    CertifiesClaim (case_in s.loaded) s.set.items s.asked.first s.asked.second (flat_tree s.loaded.top) claim bytes
+IsCertifiedOrder s (claimed claim) (bounded k) None = Unit {0}
+IsCertifiedOrder s (either values others) ending None = Unit {0}
+IsCertifiedOrder s _ _ _ = ⊥
+
+-- a complete search without a trace has a certificate of the claim, and a bounded one none
+abbrev pub HasClaimCertificate : StagedCase → Option Relation → End → Option (List ℕ) → Type 0
+HasClaimCertificate s claim (Complete clauses) (Some bytes) =
+    CertifiesClaim (case_in s.loaded) s.set.items s.asked.first s.asked.second (flat_tree s.loaded.top) claim bytes
+HasClaimCertificate s claim (Bounded k) None = Unit {0}
+HasClaimCertificate s claim _ _ = ⊥
+
+-- What was found of the two faults of an event: an order that is so, its ending and its report, and for a complete claim a certificate.
+pub record IsConclusion (s : StagedCase) (depth : ℕ) (k : Conclusion) : Type 0 where
+  pub event : Formula
+  pub is_event : IsTopWord (case_in s.loaded).program s.asked.top.now event
+  pub is_tree : IsTopTree (case_in s.loaded) event (flat_tree s.loaded.top)
+  pub one : Fault
+  pub other : Fault
+  pub are : AreFaults (case_in s.loaded) s.asked.first s.asked.second one other
+  pub order : Order
+  pub ending : Ending
+  pub right : IsOrder (case_in s.loaded) event s.set.items one other ending order
+  pub ends_by : EndsOrder (case_in s.loaded) s.set.items s.asked.first s.asked.second (flat_tree s.loaded.top) depth order ending
+  pub ends : told_ending k.ending ≡ ending
+  pub certified : IsCertifiedOrder s order ending k.cert
+  pub reported : k.report ≡ order_text (case_in s.loaded).flat s.asked.first s.asked.second order ending (state_bits (staged_of (case_in s.loaded) s.asked.first s.asked.second))

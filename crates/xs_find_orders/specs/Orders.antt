@@ -1,0 +1,221 @@
+-- What orders of two faults come to: what is said of them, what that means, and what an accepted claim means.
+use Rattle.std.specs.Prelude.{◌≡◌, ℕ, ◌+◌, ◌-◌, ◌≤◌, List, [], ◌++◌, Option, Some, None, codes, length, slice_get, if◌then◌else◌}
+use Rattle.std.specs.Fmt.{decimal}
+use Rattle.std.specs.Str.{bytes_eq}
+use Rattle.xs_desk.specs.declared.files.NamedFile.{NamedFile}
+use Rattle.xs_desk.specs.Desk.{told_with, said_more}
+use Rattle.xs_tree.specs.Tree.{Tree}
+use Rattle.xs_tree.specs.ProgramTree.{Text, Formula}
+use Rattle.xs_tree.specs.Values.{Value}
+use Rattle.xs_flattening.specs.Flat.{FlatLeaf, FlatModel}
+use Rattle.xs_flattening.specs.History.{with_history}
+use Rattle.xs_kinds.specs.Costs.{state_bits}
+use Rattle.xs_weave.specs.Extended.{Moment}
+use Rattle.xs_weave.specs.Faults.{Fault}
+use Rattle.xs_encoding.specs.Bits.{state_of, inputs_of}
+use Rattle.xs_encoding.specs.Lists.{system_of}
+use Rattle.xs_encoded.specs.Laws.{AreOwn}
+use Rattle.xs_extended_right.specs.ExtendedTraces.{IsFlatCut}
+use Rattle.xs_trace_text.specs.TraceText.{trace_text}
+use Rattle.xs_trace_text.specs.Given.{GivesTrace}
+use Rattle.xs_cuts.specs.Progress.{HasChainFor}
+use Rattle.xs_certificate.specs.Certificate.{Certificate}
+use Rattle.xs_certified.specs.Certified.{IsSubjectOf, IsCertified}
+use Rattle.xs_subject.specs.Subject.{subject_of}
+use Rattle.xs_check.specs.Matter.{Matter}
+use Rattle.xs_check.specs.Found.{IsObjectionUnlisted}
+use Rattle.xs_orders.specs.declared.Relation.{Relation}
+use Rattle.xs_orders.specs.declared.Relation.TheVariants.{Before, After, Together}
+use Rattle.xs_orders.specs.Relations.{HasRelation}
+use Rattle.xs_orders.specs.Stage.{stage, against}
+use Rattle.xs_orders_extended.specs.Laws.{FaultStands, IsSuch}
+use Rattle.xs_reporting.specs.ExtendedTraces.{Ending, complete, bounded}
+use Rattle.xs_run.specs.declared.status.Refusal.{Refusal as SharedRefusal}
+use Rattle.xs_run.specs.declared.status.Refusal.TheVariants as shared_refusal
+use Rattle.xs_run.specs.declared.status.Objection.TheVariants as objection
+use Rattle.xs_run.specs.Cases.{Case, HoldsCase, IsTopWord}
+use Rattle.xs_run.specs.Tasks.{IsTopTree}
+use Rattle.xs_run.specs.Answered.{Told, Said}
+use Rattle.xs_run.specs.Analyses.{IsCertificateFor}
+use Rattle.xs_run.specs.Certificates.{RefusesCertificate, HoldsCertificate}
+use Rattle.xs_reach_status.specs.declared.status.Refusal.{Refusal}
+use Rattle.xs_reach_status.specs.declared.status.Refusal.TheVariants as refusal
+use Rattle.xs_reach_status.specs.declared.status.Status.{Status}
+use Rattle.xs_reach_status.specs.declared.status.Status.TheVariants as status
+use Rattle.xs_find_orders.specs.Pairs.{RefusesPair}
+
+-- What is found of the order of two faults: that no trace reaches the event with exactly the set, or that each has a relation; or two
+-- traces that differ, by the values of their moments.
+pub data Order : Type 0 where
+  claimed : Option Relation → Order
+  either : List (List Value) → List (List Value) → Order
+
+-- two faults of a case by their numbers, from one on
+pub record AreFaults (c : Case) (first second : ℕ) (one other : Fault) : Type 0 where
+  pub is_one : slice_get c.faults (first - 1) ≡ Some one
+  pub is_other : slice_get c.faults (second - 1) ≡ Some other
+
+-- the traces that an ending speaks of: all, or those of at most so many steps
+abbrev pub IsOfEnding : Ending → List Moment → Type 0
+IsOfEnding complete trace = Unit {0}
+IsOfEnding (bounded k) trace = length trace ≤ k + 1
+
+module _ (c : Case) (event : Formula) (set : List ℕ) (one other : Fault) where
+  -- an extended trace of the case that reaches the event and has failed exactly the set
+  abbrev pub IsSuchTrace : List Moment → Type 0
+  IsSuchTrace trace = IsSuch c.program c.instructions c.faults event set trace
+
+  -- the relation of the two faults in it
+  abbrev pub Relates : Relation → List Moment → Type 0
+  Relates r trace = HasRelation Moment r (FaultStands one) (FaultStands other) trace
+
+  -- there is no such trace, or each has the relation
+  abbrev pub IsClaimed : Ending → Option Relation → Type 0
+  IsClaimed ending None = (trace : List Moment) → IsSuchTrace trace → IsOfEnding ending trace → ⊥
+  IsClaimed ending (Some r) = (trace : List Moment) → IsSuchTrace trace → IsOfEnding ending trace → Relates r trace
+
+  -- where a relation is claimed there is such a trace
+  abbrev pub IsShown : Option Relation → Type 0
+  IsShown None = Unit {0}
+  IsShown (Some r) = (trace : List Moment) × IsSuchTrace trace
+
+  -- two such traces, whose values these are, of which one has a relation that the other has not
+  pub record Differ (values others : List (List Value)) : Type 0 where
+    pub trace : List Moment
+    pub is_such : IsSuchTrace trace
+    pub cut : IsFlatCut c.program c.instructions c.flat values trace
+    pub second : List Moment
+    pub second_such : IsSuchTrace second
+    pub second_cut : IsFlatCut c.program c.instructions c.flat others second
+    pub relation : Relation
+    pub has : Relates relation trace
+    pub has_not : Relates relation second → ⊥
+
+  -- what an order means
+  abbrev pub IsOrder : Ending → Order → Type 0
+  IsOrder ending (claimed claim) = IsClaimed ending claim × IsShown claim
+  IsOrder ending (either values others) = Differ values others
+
+-- the model of a case staged for two faults, and what speaks against a claim there
+abbrev pub staged_of : Case → ℕ → ℕ → FlatModel
+staged_of c first second = stage c.flat c.modes first second
+
+abbrev pub against_of : Case → List ℕ → ℕ → ℕ → Tree FlatLeaf → Option Relation → Tree FlatLeaf
+against_of c set first second tree claim = against (staged_of c first second) (length c.modes) tree set claim
+
+-- for all traces, or for those of at most as many steps as the depth, where a chain as long as the depth exists without any listed set
+abbrev pub EndsOrder : Case → List ℕ → ℕ → ℕ → Tree FlatLeaf → ℕ → Order → Ending → Type 0
+EndsOrder c set first second tree depth order complete = Unit {0}
+EndsOrder c set first second tree depth (claimed claim) (bounded k) =
+    (k ≡ depth)
+    × HasChainFor (staged_of c first second) [] (against_of c set first second tree claim) (system_of (with_history (staged_of c first second) [])) (state_of (with_history (staged_of c first second) []))
+    (inputs_of (with_history (staged_of c first second) [])) 0 [] k
+EndsOrder c set first second tree depth (either values others) (bounded k) = ⊥
+
+-- the bytes spell a certificate with no fault, size 0 and no set, which is accepted for the staged model and what speaks against the claim
+abbrev pub CertifiesClaim : Case → List ℕ → ℕ → ℕ → Tree FlatLeaf → Option Relation → List ℕ → Type 0
+CertifiesClaim c set first second tree claim bytes = IsCertificateFor (staged_of c first second) [] (against_of c set first second tree claim) 0 [] [] bytes
+
+-- what was written: the certificate of a complete claim, and else nothing
+abbrev pub IsClaimWritten : Case → List ℕ → ℕ → ℕ → Tree FlatLeaf → Order → Ending → Text → Told → Told → Type 0
+IsClaimWritten c set first second tree (claimed claim) complete cert before after = (bytes : List ℕ) × CertifiesClaim c set first second tree claim bytes × (after ≡ told_with before cert bytes)
+IsClaimWritten c set first second tree _ _ cert before after = after ≡ before
+
+-- ---- the line that is said
+
+abbrev pub claim_word : Option Relation → Text
+claim_word None = codes "none"
+claim_word (Some Before) = codes "before"
+claim_word (Some After) = codes "after"
+claim_word (Some Together) = codes "together"
+
+abbrev pub order_word : Order → Text
+order_word (claimed claim) = claim_word claim
+order_word (either values others) = codes "either"
+
+-- how far the search went, where it was bounded, and over how many bits
+abbrev pub reach_text : Ending → ℕ → Text
+reach_text complete bits = codes "\n"
+reach_text (bounded k) bits = codes " to " ++ (decimal k ++ (codes " bits " ++ (decimal bits ++ codes "\n")))
+
+-- the two traces, where they differ
+abbrev pub traces_text : FlatModel → Order → Text
+traces_text m (claimed claim) = []
+traces_text m (either values others) = codes "trace 1\n" ++ (trace_text m values ++ (codes "trace 2\n" ++ trace_text m others))
+
+abbrev pub order_text : FlatModel → ℕ → ℕ → Order → Ending → ℕ → Text
+order_text m first second order ending bits =
+    codes "pair " ++ (decimal first ++ (codes " " ++ (decimal second ++ (codes " " ++ (order_word order ++ (reach_text ending bits ++ traces_text m order))))))
+
+-- a run ends done where its answer is complete, and else bounded
+abbrev pub ended_by : Ending → Status
+ended_by complete = status.Done
+ended_by (bounded k) = status.Bounded k
+
+-- The files hold a case, and the word spells an event of it. The order of the two faults was found, said, and where it is complete and
+-- claimed certified.
+pub record HasOrder (files : List NamedFile) (model faults top : Text) (set : List ℕ) (first second depth : ℕ) (cert : Text) (s : Status) (before after : Told) (said now : Said) : Type 0 where
+  pub c : Case
+  pub holds : HoldsCase files model faults c
+  pub event : Formula
+  pub is_event : IsTopWord c.program top event
+  pub tree : Tree FlatLeaf
+  pub is_tree : IsTopTree c event tree
+  pub one : Fault
+  pub other : Fault
+  pub are : AreFaults c first second one other
+  pub order : Order
+  pub ending : Ending
+  pub right : IsOrder c event set one other ending order
+  pub ends_by : EndsOrder c set first second tree depth order ending
+  pub ends : s ≡ ended_by ending
+  pub written : IsClaimWritten c set first second tree order ending cert before after
+  pub reported : now ≡ said_more said (order_text c.flat first second order ending (state_bits (staged_of c first second)))
+
+-- ---- certificates
+
+-- what a word claims: one of the relations, or that there is no trace
+abbrev pub claim_in : Text → Option Relation
+claim_in word = if bytes_eq word (codes "before") then Some Before else (if bytes_eq word (codes "after") then Some After else (if bytes_eq word (codes "together") then Some Together else None))
+
+-- what is judged: the staged model, which has no faults of its own, with what speaks against the claim
+abbrev pub staged_matter : FlatModel → Tree FlatLeaf → Certificate → Matter
+staged_matter m e a = record { model = m; modes = []; top = e; subject = subject_of m m [] e; certificate = a }
+
+-- the certificate breaks a rule, where listing a set breaks the last one
+pub data RefusesClaim (m : FlatModel) (e : Tree FlatLeaf) (a : Certificate) (r : Refusal) : Type 0 where
+  at_line : (line number : ℕ) → r ≡ refusal.Shared (shared_refusal.NotAccepted (objection.Line line number)) → IsObjectionUnlisted (staged_matter m e a) line number → RefusesClaim m e a r
+
+-- it is accepted for the staged model, and lists no set
+pub record IsAcceptedClaim (m : FlatModel) (e : Tree FlatLeaf) (a : Certificate) : Type 0 where
+  pub own : AreOwn m [] e
+  pub is_subject : IsSubjectOf m [] e (subject_of m m [] e)
+  pub certified : IsCertified m [] e (GivesTrace m) (subject_of m m [] e) a
+  pub no_set : a.sets ≡ []
+
+-- What a check of an order is refused for, in the order of the work: the pair, the file of the certificate, or a line of it.
+pub data RefusesCheck (files : List NamedFile) (model faults top : Text) (set : List ℕ) (first second : ℕ) (claim cert : Text) (r : Refusal) : Type 0 where
+  no_pair : RefusesPair files model faults top set first second r → RefusesCheck files model faults top set first second claim cert r
+  no_certificate : (s : SharedRefusal) → r ≡ refusal.Shared s → RefusesCertificate files cert s → RefusesCheck files model faults top set first second claim cert r
+  not_accepted : (c : Case) (event : Formula) (tree : Tree FlatLeaf) (a : Certificate) → HoldsCase files model faults c → IsTopWord c.program top event → IsTopTree c event tree →
+      HoldsCertificate files cert a → RefusesClaim (staged_of c first second) (against_of c set first second tree (claim_in claim)) a r →
+      RefusesCheck files model faults top set first second claim cert r
+
+-- The files hold a case and a certificate, and the word spells an event of the case. The certificate is accepted for the claim, and the
+-- claim holds: of all extended traces that reach the event and have failed exactly the set, of whatever length. So it was said.
+pub record HasCheckedOrder (files : List NamedFile) (model faults top : Text) (set : List ℕ) (first second : ℕ) (claim cert : Text) (s : Status) (said now : Said) : Type 0 where
+  pub c : Case
+  pub holds : HoldsCase files model faults c
+  pub event : Formula
+  pub is_event : IsTopWord c.program top event
+  pub tree : Tree FlatLeaf
+  pub is_tree : IsTopTree c event tree
+  pub one : Fault
+  pub other : Fault
+  pub are : AreFaults c first second one other
+  pub certificate : Certificate
+  pub has_certificate : HoldsCertificate files cert certificate
+  pub accepted : IsAcceptedClaim (staged_of c first second) (against_of c set first second tree (claim_in claim)) certificate
+  pub right : IsClaimed c event set one other complete (claim_in claim)
+  pub ends : s ≡ status.Done
+  pub reported : now ≡ said_more said (codes "accepted\n")

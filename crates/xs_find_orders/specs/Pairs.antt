@@ -1,0 +1,105 @@
+-- A set of faults with two of them, and the extension staged for these two.
+use Rattle.std.specs.Prelude.{◌≡◌, ◌≢◌, ℕ, ◌+◌, ◌≤◌, IsTrue, List, [], ◌∷◌, ◌++◌, length, map}
+use Rattle.xs_desk.specs.declared.files.NamedFile.{NamedFile}
+use Rattle.xs_tree.specs.ProgramTree.{Text, ProgramTree}
+use Rattle.xs_scope.specs.ModelTree.{model_tree, mode_of}
+use Rattle.xs_right.specs.Sets.{has_number}
+use Rattle.xs_encoded.specs.FlatTraces.{IsNumbered}
+use Rattle.xs_kinds.specs.Models.{IsTyped}
+use Rattle.xs_types.specs.declared.typed.Typed.{Typed}
+use Rattle.xs_orders.specs.Stage.{stage}
+use Rattle.xs_staged.specs.Laws.{IsFaultNumber}
+use Rattle.xs_reach_words.specs.Sets.{numbers_of, IsSet}
+use Rattle.xs_reach_words.specs.Commands.{orders, check_orders}
+use Rattle.xs_reach_words.specs.Meaning.{Means}
+use Rattle.xs_run.specs.declared.status.InputFault.{InputFault as SharedFault}
+use Rattle.xs_run.specs.declared.status.Part.TheVariants as shared_part
+use Rattle.xs_run.specs.declared.status.Refusal.{Refusal as SharedRefusal}
+use Rattle.xs_run.specs.declared.status.Refusal.TheVariants as shared_refusal
+use Rattle.xs_run.specs.declared.loaded.Limited.{Limited}
+use Rattle.xs_run.specs.Inputs.{RefusesModel, HoldsModel, RefusesFaults}
+use Rattle.xs_run.specs.Wholes.{BreaksKinds}
+use Rattle.xs_run.specs.Cases.{Case, HoldsCase, IsWrongWord}
+use Rattle.xs_run.specs.Searches.{IsEvent}
+use Rattle.xs_reach_status.specs.declared.status.Part.TheVariants as part
+use Rattle.xs_reach_status.specs.declared.status.Refusal.{Refusal}
+use Rattle.xs_reach_status.specs.declared.status.Refusal.TheVariants as refusal
+use Rattle.xs_find_orders.specs.declared.pair.PairWords.{PairWords}
+use Rattle.xs_find_orders.specs.declared.pair.StagedCase.{StagedCase}
+
+-- two different numbers of a set
+pub record IsPair (set : List ℕ) (first second : ℕ) : Type 0 where
+  pub one : IsTrue (has_number set first)
+  pub other : IsTrue (has_number set second)
+  pub apart : first ≢ second
+
+-- the word is a set, and the numbers are two of it, as the words of a command always are
+pub record IsAskedPair (set : Text) (first second : ℕ) : Type 0 where
+  pub is_set : IsSet set
+  pub pair : IsPair (numbers_of set) first second
+
+-- the number at this position, from 1, is the first of the set that is none of a fault
+pub record IsFirstOutside (faults : ℕ) (set : List ℕ) (position : ℕ) : Type 0 where
+  pub before : List ℕ
+  pub number : ℕ
+  pub after : List ℕ
+  pub lie : set ≡ before ++ number ∷ after
+  pub kept : IsNumbered faults before
+  pub outside : IsFaultNumber faults number → ⊥
+  pub at_position : position ≡ length before + 1
+
+-- a number of the set is that of no fault
+abbrev pub outside_refusal : ℕ → Refusal
+outside_refusal position = refusal.Set (record { part = part.Shared shared_part.Count; number = 1; place = position })
+
+-- the instructions are refused for what only the staged model breaks
+abbrev pub stage_refusal : SharedFault → Refusal
+stage_refusal fault = refusal.Shared (shared_refusal.Faults fault)
+
+-- A number of the set is that of no fault; or all are, and the model staged for the two is refused by a rule of kinds, or by its
+-- limit of size.
+pub data RefusesStage (limited : Limited) (set : List ℕ) (first second : ℕ) (r : Refusal) : Type 0 where
+  outside : (position : ℕ) → r ≡ outside_refusal position → IsFirstOutside (length limited.faults) set position → RefusesStage limited set first second r
+  unlawful : (fault : SharedFault) → r ≡ stage_refusal fault → IsNumbered (length limited.faults) set →
+      BreaksKinds (stage (model_tree limited.typed.model) (map mode_of limited.faults) first second) fault → RefusesStage limited set first second r
+
+-- What a pair of faults of a set is refused for, in the order of the work: the model; the instructions; a number of the set; the
+-- staged model; and the top event.
+pub data RefusesPair (files : List NamedFile) (model faults top : Text) (set : List ℕ) (first second : ℕ) (r : Refusal) : Type 0 where
+  at_model : (s : SharedRefusal) → r ≡ refusal.Shared s → RefusesModel files model s → RefusesPair files model faults top set first second r
+  at_faults : (p : ProgramTree) (s : SharedRefusal) → r ≡ refusal.Shared s → HoldsModel files model p → RefusesFaults files faults p s → RefusesPair files model faults top set first second r
+  at_set : (c : Case) (position : ℕ) → r ≡ outside_refusal position → HoldsCase files model faults c → IsFirstOutside (length c.faults) set position →
+      RefusesPair files model faults top set first second r
+  at_stage : (c : Case) (fault : SharedFault) → r ≡ stage_refusal fault → HoldsCase files model faults c → IsNumbered (length c.faults) set →
+      BreaksKinds (stage c.flat c.modes first second) fault → RefusesPair files model faults top set first second r
+  at_top : (c : Case) (fault : SharedFault) → r ≡ refusal.Shared (shared_refusal.Top fault) → HoldsCase files model faults c → IsNumbered (length c.faults) set →
+      IsTyped (stage c.flat c.modes first second) → IsWrongWord c.program top fault → RefusesPair files model faults top set first second r
+
+-- the set is of an extension's faults, and the model is the extension's staged for two of them
+pub record IsStaged (limited : Limited) (set : List ℕ) (first second : ℕ) (made : Typed) : Type 0 where
+  pub model : model_tree made.model ≡ stage (model_tree limited.typed.model) (map mode_of limited.faults) first second
+  pub typed : IsTyped (model_tree made.model)
+  pub one : IsFaultNumber (length limited.faults) first
+  pub other : IsFaultNumber (length limited.faults) second
+  pub numbered : IsNumbered (length limited.faults) set
+
+-- the extension of a lawful program with a top event of it, staged so
+pub record IsStagedCase (s : StagedCase) : Type 0 where
+  pub event : IsEvent s.asked.top.now s.loaded
+  pub pair : IsPair s.set.items s.asked.first s.asked.second
+  pub staged : IsStaged s.loaded.case.limited s.set.items s.asked.first s.asked.second s.typed
+  pub none : s.none ≡ []
+
+-- the words ask for two numbers of a set
+abbrev pub IsAsked : PairWords → Type 0
+IsAsked asked = IsAskedPair asked.set.now asked.first asked.second
+
+abbrev pub RefusesAsked : List NamedFile → PairWords → Refusal → Type 0
+RefusesAsked files asked r = RefusesPair files asked.model.now asked.faults.now asked.top.now (numbers_of asked.set.now) asked.first asked.second r
+
+-- the words of an order, or of a check of one, ask for two numbers of a set
+abbrev pub OrdersAskPairs : Type 0
+OrdersAskPairs = (words : List Text) (model faults top set : Text) (first second depth : ℕ) (cert : Text) → Means words (orders model faults top set first second depth cert) → IsAskedPair set first second
+
+abbrev pub ChecksAskPairs : Type 0
+ChecksAskPairs = (words : List Text) (model faults top set : Text) (first second : ℕ) (claim cert : Text) → Means words (check_orders model faults top set first second claim cert) → IsAskedPair set first second

@@ -1,0 +1,124 @@
+// Certificates of an order of two faults.
+ghost use Rattle.std.specs.Prelude.{◌≡◌, ◌≤◌, [], IfOk, IfSome, IsErrOf, OnOk};
+ghost use Rattle.xs_desk.specs.Desk.{Rose};
+ghost use Rattle.xs_scope.specs.ModelTree.{model_tree, flat_tree};
+ghost use Rattle.xs_encoded_search.specs.Searchable.{IsSearchable};
+ghost use Rattle.xs_cert.specs.Seen.{seen};
+ghost use Rattle.xs_check.specs.Fit.{IsCheckable};
+ghost use Rattle.xs_check.specs.Found.{IsJudgedUnlisted};
+ghost use Rattle.xs_run.specs.Searches.{case_in};
+ghost use Rattle.xs_reach_words.specs.Sets.{numbers_of};
+ghost use Rattle.xs_reach_status.specs.declared.status.Refusal.{Refusal};
+ghost use Rattle.xs_reach_status.specs.declared.stop.Stop.TheVariants as stop;
+ghost use Rattle.xs_reach_status.specs.Finished.{IsFinished};
+ghost use Rattle.xs_find_orders.specs.Pairs.{IsAskedPair, IsStagedCase};
+ghost use Rattle.xs_find_orders.specs.Orders.{RefusesCheck, HasCheckedOrder, RefusesClaim, IsAcceptedClaim, claim_in, staged_of, against_of, staged_matter};
+
+use crate::pair::{PairWords, StagedCase, load_pair};
+use crate::searched::{are_few, expression};
+use std::alloc::Global;
+use xs_cert::Certificate;
+use xs_check::{Judged, check_unlisted};
+use xs_desk::{Desk, say_whole};
+use xs_flat::Flat;
+use xs_orders::Relation;
+use xs_reach_status::status::Status;
+use xs_reach_status::stop::Stop;
+use xs_reach_words::CheckOrders;
+use xs_run::certificate::{line_stop, load_certificate};
+use xs_tree::Expr;
+use xs_value::OutOfMemory;
+
+/// Judges a certificate of an order, and says that it is accepted.
+pub fn check_orders<D: Desk>(
+    alloc: Global,
+    desk: &mut D,
+    asked: &CheckOrders,
+) -> Result<Status, Stop>
+    ensures ok { IfOk result (λ s. IsAskedPair asked.now.set.now asked.now.first asked.now.second → IfSome (D.files desk.old) (λ files.
+        HasCheckedOrder files asked.now.model.now asked.now.faults.now asked.now.top.now (numbers_of asked.now.set.now) asked.now.first asked.now.second asked.now.claim.now asked.now.cert.now
+        s (D.said desk.old) (D.said desk.new))) }
+    ensures finished { IfOk result IsFinished }
+    ensures refused { (r : Refusal) → IsErrOf result (stop.Refused r) → IsAskedPair asked.now.set.now asked.now.first asked.now.second → IfSome (D.files desk.old) (λ files.
+        RefusesCheck files asked.now.model.now asked.now.faults.now asked.now.top.now (numbers_of asked.now.set.now) asked.now.first asked.now.second asked.now.claim.now asked.now.cert.now r) }
+    ensures untouched { (r : Refusal) → IsErrOf result (stop.Refused r) → (D.files desk.new ≡ D.files desk.old) × (D.said desk.new ≡ D.said desk.old) }
+    ensures files { D.files desk.new ≡ D.files desk.old }
+    ensures failed { IsErrOf result stop.Desk → Rose (D.faults desk.old) (D.faults desk.new) }
+    ensures later { D.faults desk.old ≤ D.faults desk.new }
+    ensures quiet { D.quiet desk.old → D.quiet desk.new × (D.faults desk.new ≡ D.faults desk.old) }
+{
+    let words = PairWords {
+        model: asked.model,
+        faults: asked.faults,
+        top: asked.top,
+        set: asked.set,
+        first: asked.first,
+        second: asked.second,
+    };
+    let staged = load_pair(alloc, desk, &words)?;
+    let certificate = load_certificate(alloc, desk, asked.cert)?;
+    let claim = claim_of(asked.claim);
+    judge(alloc, &staged, claim, &certificate)?;
+    say_whole(desk, b"accepted\n")?;
+    Ok(Status::Done)
+}
+
+/// What a word claims: one of the relations, or that there is no trace.
+fn claim_of(word: &str) -> Option<Relation>
+    ensures { result ≡ claim_in word.now }
+{
+    match word {
+        "before" => Some(Relation::Before),
+        "after" => Some(Relation::After),
+        "together" => Some(Relation::Together),
+        _ => None,
+    }
+}
+
+/// Refuses a certificate that breaks a rule, or lists a set. More symbols than numbers of them are want of memory, and so are
+/// more faults than a weave takes.
+fn judge(
+    alloc: Global,
+    staged: &StagedCase,
+    claim: Option<Relation>,
+    certificate: &Certificate,
+) -> Result<(), Stop>
+    requires staged { IsStagedCase staged.now }
+    requires checkable { IsCheckable (seen certificate.now) }
+    ensures ok { OnOk result (IsAcceptedClaim (staged_of (case_in staged.now.loaded) staged.now.asked.first staged.now.asked.second)
+        (against_of (case_in staged.now.loaded) staged.now.set.items staged.now.asked.first staged.now.asked.second (flat_tree staged.now.loaded.top) claim) (seen certificate.now)) }
+    ensures refused { (r : Refusal) → IsErrOf result (stop.Refused r) → RefusesClaim (staged_of (case_in staged.now.loaded) staged.now.asked.first staged.now.asked.second)
+        (against_of (case_in staged.now.loaded) staged.now.set.items staged.now.asked.first staged.now.asked.second (flat_tree staged.now.loaded.top) claim) (seen certificate.now) r }
+    ensures desk { IsErrOf result stop.Desk → ⊥ }
+{
+    if !are_few(staged) {
+        return Err(Stop::Memory);
+    }
+    let top = expression(alloc, staged, claim)?;
+    match judged(alloc, staged, &top, certificate)? {
+        Judged::Yes => Ok(()),
+        Judged::No(line, rule) => Err(Stop::from(line_stop(line, rule))),
+    }
+}
+
+/// What is found of a certificate for an expression over the staged model.
+fn judged(
+    alloc: Global,
+    staged: &StagedCase,
+    top: &Expr<Flat>,
+    certificate: &Certificate,
+) -> Result<Judged, OutOfMemory>
+    requires none { staged.now.none ≡ [] }
+    requires searchable { IsSearchable (model_tree staged.now.typed.model) [] (flat_tree top.now) }
+    requires checkable { IsCheckable (seen certificate.now) }
+    ensures { IfOk result (IsJudgedUnlisted (staged_matter (model_tree staged.now.typed.model) (flat_tree top.now) (seen certificate.now))) }
+{
+    check_unlisted(
+        alloc,
+        &staged.typed,
+        &staged.typed,
+        &staged.none,
+        top,
+        certificate,
+    )
+}

@@ -1,0 +1,247 @@
+// Orders of two faults of a set: what is found, written and said.
+ghost use Rattle.std.specs.Prelude.{◌≡◌, ◌≤◌, ℕ, Some, None, IfOk, IfSome, IsErrOf, OnOk, length};
+ghost use Rattle.xs_desk.specs.Desk.{Rose, said_more};
+ghost use Rattle.xs_desk.specs.declared.desk.WriteStop.TheVariants as write_stop;
+ghost use Rattle.xs_scope.specs.ModelTree.{flat_tree};
+ghost use Rattle.xs_analysis_text.specs.Analysis.{told_ending};
+ghost use Rattle.xs_cuts.specs.declared.answer.End.TheVariants as ends;
+ghost use Rattle.xs_run.specs.Searches.{case_in, told_maybe};
+ghost use Rattle.xs_reach_words.specs.Sets.{numbers_of};
+ghost use Rattle.xs_reach_status.specs.declared.status.Refusal.{Refusal};
+ghost use Rattle.xs_reach_status.specs.declared.stop.Stop.TheVariants as stop;
+ghost use Rattle.xs_reach_status.specs.Finished.{IsFinished};
+ghost use Rattle.xs_find_orders.specs.Pairs.{IsAskedPair, RefusesPair, IsStagedCase};
+ghost use Rattle.xs_find_orders.specs.Orders.{CertifiesClaim, HasOrder, ended_by};
+ghost use Rattle.xs_find_orders.specs.Claimed.{IsSearchOf, IsTraceAgainst, IsToldBy, HasClaimCertificate, IsConclusion, relation_in};
+
+use crate::pair::{PairWords, StagedCase, load_pair};
+use crate::searched::{Searched, search};
+use crate::verdict::{cut, relation_of, report_claim, report_either};
+use std::alloc::Global;
+use xs_adviser::Panel;
+use xs_cert::write;
+use xs_certify::certify;
+use xs_cuts::answer::End;
+use xs_cuts_extended::told;
+use xs_desk::{Desk, WriteStop, say_whole, write_whole};
+use xs_orders::Relation;
+use xs_reach_status::status::Status;
+use xs_reach_status::stop::Stop;
+use xs_reach_words::FindOrders;
+use xs_value::{ByteList, Ending, MomentList, OutOfMemory, TraceList};
+
+/// What is written and said: a certificate of a complete claim, and the report; and how the search ended.
+#[derive(Drop)]
+pub struct Conclusion {
+    pub cert: Option<ByteList>,
+    pub report: ByteList,
+    pub ending: Ending,
+}
+
+/// Searches for the order of the two faults, writes a certificate of a complete answer, and says the line of the pair.
+pub fn find_orders<D: Desk>(
+    alloc: Global,
+    desk: &mut D,
+    asked: &FindOrders,
+    panel: &mut Panel,
+) -> Result<Status, Stop>
+    ensures ok { IfOk result (λ s. IsAskedPair asked.now.set.now asked.now.first asked.now.second → IfSome (D.files desk.old) (λ files.
+        HasOrder files asked.now.model.now asked.now.faults.now asked.now.top.now (numbers_of asked.now.set.now) asked.now.first asked.now.second asked.now.depth asked.now.cert.now
+        s (D.files desk.old) (D.files desk.new) (D.said desk.old) (D.said desk.new))) }
+    ensures finished { IfOk result IsFinished }
+    ensures refused { (r : Refusal) → IsErrOf result (stop.Refused r) → IsAskedPair asked.now.set.now asked.now.first asked.now.second → IfSome (D.files desk.old) (λ files.
+        RefusesPair files asked.now.model.now asked.now.faults.now asked.now.top.now (numbers_of asked.now.set.now) asked.now.first asked.now.second r) }
+    ensures untouched { (r : Refusal) → IsErrOf result (stop.Refused r) → (D.files desk.new ≡ D.files desk.old) × (D.said desk.new ≡ D.said desk.old) }
+    ensures failed { IsErrOf result stop.Desk → Rose (D.faults desk.old) (D.faults desk.new) }
+    ensures later { D.faults desk.old ≤ D.faults desk.new }
+    ensures quiet { D.quiet desk.old → D.quiet desk.new × (D.faults desk.new ≡ D.faults desk.old) }
+{
+    let words = PairWords {
+        model: asked.model,
+        faults: asked.faults,
+        top: asked.top,
+        set: asked.set,
+        first: asked.first,
+        second: asked.second,
+    };
+    let staged = load_pair(alloc, desk, &words)?;
+    let answer = answer(alloc, &staged, asked.depth, panel)?;
+    let status = conclude(desk, asked.cert, &answer)?;
+    Ok(status)
+}
+
+/// The order of the two faults. Where no trace reaches the event with exactly the set there is none.
+fn answer(
+    alloc: Global,
+    staged: &StagedCase,
+    depth: u32,
+    panel: &mut Panel,
+) -> Result<Conclusion, OutOfMemory>
+    requires { IsStagedCase staged.now }
+    ensures { IfOk result (IsConclusion staged.now depth) }
+{
+    let some = search(alloc, staged, None, depth, panel)?;
+    let traces: &TraceList = &some.analysis.traces;
+    if traces.is_empty() {
+        return concluded(alloc, staged, None, depth, &some, panel);
+    }
+    answer_of(alloc, staged, depth, traces.at(0), panel)
+}
+
+/// The order of the two faults: the one that a trace shows, unless another trace speaks against that.
+fn answer_of(
+    alloc: Global,
+    staged: &StagedCase,
+    depth: u32,
+    trace: &MomentList,
+    panel: &mut Panel,
+) -> Result<Conclusion, OutOfMemory>
+    requires staged { IsStagedCase staged.now }
+    requires trace { IsTraceAgainst staged.now None trace.now }
+    ensures { IfOk result (IsConclusion staged.now depth) }
+{
+    let relation = relation_of(trace);
+    let other = search(alloc, staged, Some(relation), depth, panel)?;
+    let traces: &TraceList = &other.analysis.traces;
+    if traces.is_empty() {
+        return concluded(alloc, staged, Some(relation), depth, &other, panel);
+    }
+    differing(alloc, staged, trace, traces.at(0))
+}
+
+/// The answer of a search that found no trace.
+fn concluded(
+    alloc: Global,
+    staged: &StagedCase,
+    claim: Option<Relation>,
+    depth: u32,
+    searched: &Searched,
+    panel: &mut Panel,
+) -> Result<Conclusion, OutOfMemory>
+    requires staged { IsStagedCase staged.now }
+    requires searched { IsSearchOf staged.now claim depth searched.now }
+    requires none { length searched.now.analysis.traces ≡ 0 }
+    requires told { IsToldBy staged.now claim }
+    ensures { IfOk result (IsConclusion staged.now depth) }
+{
+    let cert = certificate(alloc, staged, claim, depth, searched, panel)?;
+    let ending = told(&searched.analysis.end);
+    let report = report_claim(alloc, staged, claim, ending, staged.typed.bits())?;
+    Ok(Conclusion {
+        cert,
+        report,
+        ending,
+    })
+}
+
+/// The answer of two traces that differ, which has no certificate.
+fn differing(
+    alloc: Global,
+    staged: &StagedCase,
+    one: &MomentList,
+    other: &MomentList,
+) -> Result<Conclusion, OutOfMemory>
+    requires staged { IsStagedCase staged.now }
+    requires one { IsTraceAgainst staged.now None one.now }
+    requires other { IsTraceAgainst staged.now (Some (relation_in one.now)) other.now }
+    ensures { IfOk result (λ k. (depth : ℕ) → IsConclusion staged.now depth k) }
+{
+    let variables = staged.loaded.case.limited.typed.model().variables.len();
+    let one = cut(alloc, one, variables)?;
+    let other = cut(alloc, other, variables)?;
+    let report = report_either(alloc, staged, &one, &other)?;
+    Ok(Conclusion {
+        cert: None,
+        report,
+        ending: Ending::Complete,
+    })
+}
+
+/// The text of a certificate, where the search is complete.
+fn certificate(
+    alloc: Global,
+    staged: &StagedCase,
+    claim: Option<Relation>,
+    depth: u32,
+    searched: &Searched,
+    panel: &mut Panel,
+) -> Result<Option<ByteList>, OutOfMemory>
+    requires staged { IsStagedCase staged.now }
+    requires searched { IsSearchOf staged.now claim depth searched.now }
+    requires none { length searched.now.analysis.traces ≡ 0 }
+    ensures { IfOk result (HasClaimCertificate staged.now claim searched.now.analysis.end) }
+{
+    match &searched.analysis.end {
+        End::Complete(_clauses) => {
+            let text = certificate_text(alloc, staged, claim, depth, searched, panel)?;
+            Ok(Some(text))
+        }
+        End::Bounded(_steps) => Ok(None),
+    }
+}
+
+/// The text of a certificate of a complete search that found no trace.
+fn certificate_text(
+    alloc: Global,
+    staged: &StagedCase,
+    claim: Option<Relation>,
+    depth: u32,
+    searched: &Searched,
+    panel: &mut Panel,
+) -> Result<ByteList, OutOfMemory>
+    requires staged { IsStagedCase staged.now }
+    requires searched { IsSearchOf staged.now claim depth searched.now }
+    requires none { length searched.now.analysis.traces ≡ 0 }
+    requires complete { (k : ℕ) → searched.now.analysis.end ≡ ends.Bounded k → ⊥ }
+    ensures { IfOk result (CertifiesClaim (case_in staged.now.loaded) staged.now.set.items staged.now.asked.first staged.now.asked.second (flat_tree staged.now.loaded.top) claim) }
+{
+    let certificate = certify(
+        alloc,
+        &staged.typed,
+        &staged.typed,
+        &staged.none,
+        &searched.top,
+        &searched.analysis,
+        panel,
+    )?;
+    write(alloc, &certificate)
+}
+
+/// Writes the text, where there is one.
+fn write_maybe<D: Desk>(desk: &mut D, name: &str, text: &Option<ByteList>) -> Result<(), WriteStop>
+    ensures ok { OnOk result (D.files desk.new ≡ told_maybe (D.files desk.old) name.now text.now) }
+    ensures said { D.said desk.new ≡ D.said desk.old }
+    ensures later { D.faults desk.old ≤ D.faults desk.new }
+    ensures failed { IsErrOf result write_stop.Failed → Rose (D.faults desk.old) (D.faults desk.new) }
+    ensures quiet { D.quiet desk.old → D.quiet desk.new × (D.faults desk.new ≡ D.faults desk.old) }
+{
+    match text {
+        Some(bytes) => write_whole(desk, name, bytes.as_slice()),
+        None => Ok(()),
+    }
+}
+
+/// Writes the certificate, where there is one, and says the report.
+fn conclude<D: Desk>(desk: &mut D, name: &str, answer: &Conclusion) -> Result<Status, WriteStop>
+    ensures ends { IfOk result (λ s. s ≡ ended_by (told_ending answer.now.ending)) }
+    ensures finished { IfOk result IsFinished }
+    ensures ok { OnOk result ((D.files desk.new ≡ told_maybe (D.files desk.old) name.now answer.now.cert) × (D.said desk.new ≡ said_more (D.said desk.old) answer.now.report)) }
+    ensures later { D.faults desk.old ≤ D.faults desk.new }
+    ensures failed { IsErrOf result write_stop.Failed → Rose (D.faults desk.old) (D.faults desk.new) }
+    ensures quiet { D.quiet desk.old → D.quiet desk.new × (D.faults desk.new ≡ D.faults desk.old) }
+{
+    write_maybe(desk, name, &answer.cert)?;
+    say_whole(desk, answer.report.as_slice())?;
+    Ok(status_of(answer.ending))
+}
+
+/// The status of a run whose search ends so.
+fn status_of(ending: Ending) -> Status
+    ensures ends { result ≡ ended_by (told_ending ending) }
+    ensures finished { IsFinished result }
+{
+    match ending {
+        Ending::Complete => Status::Done,
+        Ending::Bounded(k) => Status::Bounded(k),
+    }
+}

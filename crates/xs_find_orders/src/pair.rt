@@ -1,0 +1,208 @@
+// A set of faults with two of them, and the extension staged for these two.
+ghost use Rattle.std.specs.Prelude.{◌≡◌, ◌≢◌, ◌≤◌, ◌↔◌, ℕ, false, IsTrue, length, map, IfOk, IfSome, IsErrOf, OnOk};
+ghost use Rattle.xs_desk.specs.Desk.{Rose};
+ghost use Rattle.xs_scope.specs.ModelTree.{model_tree, mode_of};
+ghost use Rattle.xs_kinds.specs.Models.{IsTyped};
+ghost use Rattle.xs_encoded.specs.FlatTraces.{IsNumbered};
+ghost use Rattle.xs_orders.specs.Stage.{stage as stage_of};
+ghost use Rattle.xs_staged.specs.Laws.{IsFaultNumber};
+ghost use Rattle.xs_reach_words.specs.Sets.{numbers_of, IsSet};
+ghost use Rattle.xs_run.specs.declared.input.Input.TheVariants as input;
+ghost use Rattle.xs_run.specs.declared.status.InputFault.{InputFault as SharedFault};
+ghost use Rattle.xs_run.specs.Inputs.{stop_at};
+ghost use Rattle.xs_run.specs.Wholes.{BreaksKinds};
+ghost use Rattle.xs_run.specs.Searches.{case_in};
+ghost use Rattle.xs_run.specs.Cases.{HoldsCase};
+ghost use Rattle.xs_reach_status.specs.declared.status.Refusal.{Refusal};
+ghost use Rattle.xs_reach_status.specs.declared.stop.Stop.TheVariants as stops;
+ghost use Rattle.xs_reach_status.specs.Statuses.{stop_of};
+ghost use Rattle.xs_find_orders.specs.Pairs.{ChecksAskPairs, OrdersAskPairs, IsPair, IsAsked, IsFirstOutside, outside_refusal, stage_refusal, RefusesStage, RefusesAsked, IsStaged, IsStagedCase};
+
+use std::alloc::Global;
+use xs_desk::Desk;
+use xs_flat::FaultList;
+use xs_orders::stage;
+use xs_reach_status::status::{InputFault, Part, Refusal};
+use xs_reach_status::stop::Stop;
+use xs_reach_words::{WordFault, set_numbers};
+use xs_run::event::LoadedEvent;
+use xs_run::input::Input;
+use xs_run::loaded::{Limited, load_case, typed_whole};
+use xs_run::model::load_model;
+use xs_run::status as shared;
+use xs_run::top::load_top;
+use xs_run::wrong::Wrong;
+use xs_sets::has_number;
+use xs_types::Typed;
+
+/// The files of a model and its instructions, and the words of a top event, a set of faults, and two of its numbers.
+#[derive(Clone, Copy)]
+pub struct PairWords<'a> {
+    pub model: &'a str,
+    pub faults: &'a str,
+    pub top: &'a str,
+    pub set: &'a str,
+    pub first: u32,
+    pub second: u32,
+}
+
+/// An extension with a top event, a set of its faults, and its flat model staged for two faults of the set. The staged model
+/// has no faults of its own.
+#[derive(Drop)]
+pub struct StagedCase<'a> {
+    pub asked: PairWords<'a>,
+    pub loaded: LoadedEvent,
+    pub set: Vec<u32>,
+    pub typed: Typed,
+    pub none: FaultList,
+}
+
+/// The words of an order, or of a check of one, always ask for two numbers of a set.
+pub fn words_ask_pairs()
+    ensures orders { OrdersAskPairs }
+    ensures checks { ChecksAskPairs }
+{}
+
+/// The extension of two files, staged for two faults of a set, with a top event.
+pub(crate) fn load_pair<'a, D: Desk>(
+    alloc: Global,
+    desk: &mut D,
+    asked: &PairWords<'a>,
+) -> Result<StagedCase<'a>, Stop>
+    ensures ok { IfOk result (λ s. IfSome (D.files desk.old) (λ files. HoldsCase files asked.now.model.now asked.now.faults.now (case_in s.loaded))) }
+    ensures staged { IfOk result IsStagedCase }
+    ensures asked { IfOk result (λ s. s.asked ≡ asked.now) }
+    ensures numbers { IfOk result (λ s. IsAsked asked.now → s.set.items ≡ numbers_of asked.now.set.now) }
+    ensures refused { (r : Refusal) → IsErrOf result (stops.Refused r) → IsAsked asked.now → IfSome (D.files desk.old) (λ files. RefusesAsked files asked.now r) }
+    ensures failed { IsErrOf result stops.Desk → Rose (D.faults desk.old) (D.faults desk.new) }
+
+    ensures files { D.files desk.new ≡ D.files desk.old }
+    ensures said { D.said desk.new ≡ D.said desk.old }
+    ensures later { D.faults desk.old ≤ D.faults desk.new }
+    ensures quiet { D.quiet desk.old → D.quiet desk.new × (D.faults desk.new ≡ D.faults desk.old) }
+{
+    let set = pair_set(alloc, asked)?;
+    let model = load_model(alloc, desk, asked.model)?;
+    let case = load_case(alloc, desk, asked.faults, &model)?;
+    let typed = staged(alloc, &case.limited, &set, asked.first, asked.second)?;
+    let top = load_top(alloc, asked.top, &model, &case)?;
+    Ok(StagedCase {
+        asked: *asked,
+        loaded: LoadedEvent { model, case, top },
+        set,
+        typed,
+        none: FaultList::new(alloc),
+    })
+}
+
+/// The numbers of the set, of which the two are different ones.
+fn pair_set(alloc: Global, asked: &PairWords) -> Result<Vec<u32>, Stop>
+    ensures pair { IfOk result (λ set. IsPair set.items asked.now.first asked.now.second) }
+    ensures numbers { IfOk result (λ set. IsAsked asked.now → set.items ≡ numbers_of asked.now.set.now) }
+    ensures kept { (r : Refusal) → IsErrOf result (stops.Refused r) → IsAsked asked.now → ⊥ }
+    ensures desk { IsErrOf result stops.Desk → ⊥ }
+{
+    let set = set_numbers(alloc, asked.set)?;
+    judge_pair(&set, asked.first, asked.second)?;
+    Ok(set)
+}
+
+/// Refuses two numbers that are no two of the set, as the words of a command never are.
+fn judge_pair(set: &[u32], first: u32, second: u32) -> Result<(), Stop>
+    ensures ok { OnOk result (IsPair set.now first second) }
+    ensures kept { (r : Refusal) → IsErrOf result (stops.Refused r) → IsPair set.now first second → ⊥ }
+    ensures desk { IsErrOf result stops.Desk → ⊥ }
+{
+    if is_pair(set, first, second) {
+        return Ok(());
+    }
+    Err(Stop::Refused(Refusal::Words(WordFault::NotInSet { at: 0 })))
+}
+
+/// Whether the two numbers are different ones of the set.
+fn is_pair(set: &[u32], first: u32, second: u32) -> bool
+    ensures yes { IsTrue result → IsPair set.now first second }
+    ensures no { result ≡ false → IsPair set.now first second → ⊥ }
+{
+    if first == second {
+        return false;
+    }
+    if !has_number(set, u64::from(first)) {
+        return false;
+    }
+    has_number(set, u64::from(second))
+}
+
+/// The flat model of an extension staged for two faults of a set, with its kinds. A number of the set that is none of a fault
+/// is refused first. Where the staged model passes a limit, the instructions are refused.
+fn staged(
+    alloc: Global,
+    limited: &Limited,
+    set: &[u32],
+    first: u32,
+    second: u32,
+) -> Result<Typed, Stop>
+    requires { IsPair set.now first second }
+    ensures ok { IfOk result (IsStaged limited.now set.now first second) }
+    ensures refused { (r : Refusal) → IsErrOf result (stops.Refused r) → RefusesStage limited.now set.now first second r }
+    ensures desk { IsErrOf result stops.Desk → ⊥ }
+{
+    judge_set(set, limited.faults.len())?;
+    staged_model(alloc, limited, first, second)
+}
+
+/// The flat model of an extension staged for two faults, with its kinds.
+fn staged_model(alloc: Global, limited: &Limited, first: u32, second: u32) -> Result<Typed, Stop>
+    requires first { IsFaultNumber (length limited.now.faults) first }
+    requires second { IsFaultNumber (length limited.now.faults) second }
+    requires apart { first ≢ second }
+    ensures ok { IfOk result (λ t. (model_tree t.model ≡ stage_of (model_tree limited.now.typed.model) (map mode_of limited.now.faults) first second) × IsTyped (model_tree t.model)) }
+    ensures refused { (r : Refusal) → IsErrOf result (stops.Refused r) →
+        (fault : SharedFault) × (r ≡ stage_refusal fault) × BreaksKinds (stage_of (model_tree limited.now.typed.model) (map mode_of limited.now.faults) first second) fault }
+    ensures desk { IsErrOf result stops.Desk → ⊥ }
+{
+    let model = stage(alloc, limited.typed.model(), &limited.faults, first, second)?;
+    match typed_whole(alloc, model) {
+        Ok(typed) => Ok(typed),
+        Err(wrong) => Err(stage_stop(wrong)),
+    }
+}
+
+/// The end of the work where this is wrong with a staged model.
+fn stage_stop(wrong: Wrong) -> Stop
+    ensures { result ≡ stop_of (stop_at input.Faults wrong) }
+{
+    Stop::from(Input::Faults.stop(wrong))
+}
+
+/// Refuses a set with a number that is none of a fault, by the position of the first such number, from 1.
+fn judge_set(set: &[u32], faults: usize) -> Result<(), Stop>
+    ensures ok { OnOk result (IsNumbered faults set.now) }
+    ensures refused { (r : Refusal) → IsErrOf result (stops.Refused r) → (position : ℕ) × (r ≡ outside_refusal position) × IsFirstOutside faults set.now position }
+    ensures desk { IsErrOf result stops.Desk → ⊥ }
+{
+    for (k, number) in set.iter().enumerate() {
+        if !is_fault(*number, faults) {
+            return Err(set_stop(k as u64 + 1));
+        }
+    }
+    Ok(())
+}
+
+/// Whether the number is that of one of so many faults.
+fn is_fault(number: u32, faults: usize) -> bool
+    ensures { IsTrue result ↔ ((1 ≤ number) × (number ≤ faults)) }
+{
+    1 <= number && number as usize <= faults
+}
+
+/// The end of the work where the number at a position of the set is none of a fault.
+fn set_stop(position: u64) -> Stop
+    ensures { result ≡ stops.Refused (outside_refusal position) }
+{
+    Stop::Refused(Refusal::Set(InputFault {
+        part: Part::Shared(shared::Part::Count),
+        number: 1,
+        place: position,
+    }))
+}
