@@ -10,7 +10,7 @@ use Rattle.xs_tree.specs.SpellsProgram.{SpellsCommas, last_one, one_comma, Spell
 use Rattle.xs_parse.specs.Build.{name_in, number_in}
 use Rattle.xs_parse.specs.Places.{is_word}
 use Rattle.xs_parse.specs.ProgramRead.{Mark, a_name, a_number, s_dots, s_dot, s_comma, s_semicolon, mark_of}
-use Rattle.xs_parse.proofs.ProgramReads.{Marked, marked}
+use Rattle.xs_parse.proofs.Marks.{Marked, marked}
 use Rattle.xs_parse.proofs.Rest.{same_word}
 use Rattle.xs_causes.specs.CausesText.{WrittenCause, SpellsCause, a_cause, SpellsCauses}
 use Rattle.xs_causes_reader.specs.CausesRead.{Stage, start, named, within, first, dots, last, strikes, part, after, ReadSoFar, so_far, where_so, name_read, first_read, is_dots, last_read, part_read, cause_read, after_read, stepped, run}

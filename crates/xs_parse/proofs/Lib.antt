@@ -7,6 +7,9 @@ pub mod Predicted
 pub mod FormulasRead
 pub mod Tallest
 pub mod Peaks
+pub mod Marks
+pub mod ProgramSound
+pub mod ProgramComplete
 pub mod ProgramReads
 pub mod ReaderExamples
 pub mod Stacks

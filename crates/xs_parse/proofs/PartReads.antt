@@ -23,7 +23,8 @@ use Rattle.xs_parse.specs.Within.{Spelling, AreWithin, is_too_deep, are_too_deep
 use Rattle.xs_parse.specs.Reads.{Read, got, deep, none, and_then, answer, with_front, mark_at, rest_of, has_next, expect_at, named_at, name_at, expr_at, each_at, some_at, past_semicolon, is_past}
 use Rattle.xs_parse.specs.ProgramParts.{int_at, next_name, dotted_at, names_at, member_at, members_at, braced_at, type_at, commas_at, closed_at, bracketed_at, instance_at, declared_at, decl_at, decls_at, value_at, define_at, defines_at, moment_at, past_moment, target_at, assignment_at, begins_assignment, assigns_at, constants_at, formula_at, past_skipped, section_at, is_kept, sections_at, next_module, program_at}
 use Rattle.xs_parse.proofs.Accepted.{run_stuck, spelled_accepted}
-use Rattle.xs_parse.proofs.ProgramReads.{Marked, marked, mark_of_name, mark_of_skipped, skipped_section, section_ends, begins_section, section_mark, is_sectional, section_marks}
+use Rattle.xs_parse.proofs.Marks.{Marked, marked, mark_of_name, mark_of_skipped, skipped_section, begins_section, section_mark}
+use Rattle.xs_parse.proofs.ProgramReads.{section_ends, is_sectional, section_marks}
 use Rattle.xs_parse.proofs.ReadLaws.{ends_expr, read_expr, are_within, within_are}
 
 or_false : (b : Bool) → (b || false) ≡ b
