@@ -166,7 +166,7 @@ section_mark w_trans t m h = ap is_section m
 section_mark c t m h = cc
 
 -- single lexemes
-pub That : Single → Lexeme → Type 0
+unfoldable pub That : Single → Lexeme → Type 0
 That the_name t = (x : List ℕ) × (t ≡ word x) × (is_reserved x ≡ false)
 That the_number t = (n : ℕ) × (d : List ℕ) × (t ≡ num n d)
 That the_colon t = t ≡ sign k.Colon
@@ -247,6 +247,6 @@ tail_commas P {end = end} xs a p (tail_more {xs = ys} {ys = zs} q t) =
     (xs ++ sign k.Comma ∷ r.0, ap (λ z. xs ++ sign k.Comma ∷ z) r.1 ∙ sym (append_assoc xs (sign k.Comma ∷ r.0) (end ∷ [])), a ∷ r.2, one_comma p r.3)
 
 -- what a choice of symbols stands for
-pub Through : Option (List Sym) → List Lexeme → Type 0
+unfoldable pub Through : Option (List Sym) → List Lexeme → Type 0
 Through (Some syms) ts = Means_of syms ts
 Through None ts = ⊥
