@@ -91,23 +91,54 @@ fn takes_what_follows_by_hints(rt: HostRuntime) -> Result<(), Fail> {
     Ok(())
 }
 
-// A chain of 100,001 clauses, 1 and then -i or i + 1, and 100,000 steps i + 1, each by the step before.
+// The links of a long chain.
+const LINKS: u64 = 100_000;
+
+// The clauses of the chain: 1, and then -i or i + 1 for each link.
+fn give_chain(rt: &impl Abort, alloc: Global, checker: &mut Checker) -> Result<(), OutOfMemory> {
+    give(rt, alloc, checker, &[1])?;
+    for i in 1..=LINKS as i64 {
+        give(rt, alloc, checker, &[-i, i + 1])?;
+    }
+    Ok(())
+}
+
+// The step of a link, i + 1, by the step before it.
+fn link(rt: &impl Abort, alloc: Global, i: u64) -> Result<Step, OutOfMemory> {
+    assert!(rt; 0 < i && i <= LINKS);
+    let before = if i == 1 { 1 } else { LINKS + i };
+    step_of(rt, alloc, &[i as i64 + 1], &[before, i + 1])
+}
+
+// Takes the step of each link, and tells the first one that is not taken.
+fn take_chain(
+    rt: &impl Abort,
+    alloc: Global,
+    checker: &mut Checker,
+) -> Result<Option<u64>, OutOfMemory> {
+    for i in 1..=LINKS {
+        if answer(rt, checker, &link(rt, alloc, i)?).is_err() {
+            return Ok(Some(i));
+        }
+    }
+    Ok(None)
+}
+
+// A chain of 100,001 clauses, and 100,000 steps, each by the step before.
 #[test]
 fn a_long_derivation_is_checked_at_once(rt: HostRuntime) -> Result<(), Fail> {
     let alloc = rt.alloc();
-    let steps: u64 = 100_000;
-    let mut checker = Checker::new(alloc, steps + 1)?;
-    give(&rt, alloc, &mut checker, &[1])?;
-    for i in 1..=steps {
-        give(&rt, alloc, &mut checker, &[-(i as i64), i as i64 + 1])?;
-    }
-    checker.reserve(steps as usize, steps as usize)?;
-    for i in 1..=steps {
-        let before = if i == 1 { 1 } else { steps + i };
-        let step = step_of(&rt, alloc, &[i as i64 + 1], &[before, i + 1])?;
-        assert_eq!(rt; answer(&rt, &mut checker, &step), Ok(()), "step {i}");
-    }
+    let mut checker = Checker::new(alloc, LINKS + 1)?;
+    give_chain(&rt, alloc, &mut checker)?;
+    checker.reserve(LINKS as usize, LINKS as usize)?;
+    assert_eq!(rt; take_chain(&rt, alloc, &mut checker)?, None);
     assert_eq!(rt; checker.len(), 200_001);
+    Ok(())
+}
+
+#[test]
+fn a_recorder_keeps_all_steps_or_none(rt: HostRuntime) -> Result<(), Fail> {
+    let alloc = rt.alloc();
     assert_eq!(rt; kept(alloc, &step_of(&rt, alloc, &[2], &[1, 2])?)?, 1);
     Ok(())
 }

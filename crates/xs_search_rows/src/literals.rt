@@ -8,6 +8,15 @@ use xs_lits::lit::Lit;
 use xs_lits::truth::truth;
 use xs_value::OutOfMemory;
 
+// The clause of the literals, after it went through a list and through copies.
+fn copied(rt: &impl Abort, alloc: Global, lits: &[Lit]) -> Result<Clause, OutOfMemory> {
+    let mut list = ClauseList::new(alloc);
+    list.push(Clause::from_lits(alloc, lits)?.copy()?)?;
+    let list = list.copy()?;
+    assert!(rt; list.len() == 1);
+    list.at(0).copy()
+}
+
 // What the clause of the literals is where nothing has a value, then where `first` is true too, then
 // `second` too, and last where the variable of `first` is free again.
 fn passed_through(
@@ -17,11 +26,7 @@ fn passed_through(
     first: Lit,
     second: Lit,
 ) -> Result<[Truth; 4], OutOfMemory> {
-    let mut list = ClauseList::new(alloc);
-    list.push(Clause::from_lits(alloc, lits)?.copy()?)?;
-    let list = list.copy()?;
-    assert!(rt; list.len() == 1);
-    let clause = list.at(0);
+    let clause = &copied(rt, alloc, lits)?;
     let mut assign = Assign::with_vars(alloc, 8)?;
     let vars = assign.vars();
     assert!(rt; clause.lits().iter().all(|lit| lit.var() <= vars));

@@ -86,17 +86,30 @@ fn result_of(alloc: Global, operation: Operation, a: i64, b: i64) -> Result<i64,
 }
 
 fn order_of(alloc: Global, a: i64, b: i64) -> Result<(Option<bool>, Option<bool>), OutOfMemory> {
+    Ok((is_less(alloc, a, b)?, is_same(alloc, a, b)?))
+}
+
+fn is_less(alloc: Global, a: i64, b: i64) -> Result<Option<bool>, OutOfMemory> {
     let mut g = Gates::new(alloc, 2)?;
     let x = number_at(alloc, &g, a, 4)?;
     let y = number_at(alloc, &g, b, 4)?;
     let below = less(alloc, &mut g, &x, &y)?;
+    told_by(alloc, &g, below)
+}
+
+fn is_same(alloc: Global, a: i64, b: i64) -> Result<Option<bool>, OutOfMemory> {
+    let mut g = Gates::new(alloc, 2)?;
+    let x = number_at(alloc, &g, a, 4)?;
+    let y = number_at(alloc, &g, b, 4)?;
+    let same = equal(alloc, &mut g, &x, &y)?;
+    told_by(alloc, &g, same)
+}
+
+/// What the clauses of gates without inputs make of a literal.
+fn told_by(alloc: Global, g: &Gates, lit: Lit) -> Result<Option<bool>, OutOfMemory> {
     let mut values = vec![in alloc; None; 256]?;
     propagate(g.clauses(), &mut values);
-    let mut h = Gates::new(alloc, 2)?;
-    let same = equal(alloc, &mut h, &x, &y)?;
-    let mut others = vec![in alloc; None; 256]?;
-    propagate(h.clauses(), &mut others);
-    Ok((value_of(&values, below), value_of(&others, same)))
+    Ok(value_of(&values, lit))
 }
 
 /// Whether at most `n` of the variables 2, 3 and 4 are true.
