@@ -17,6 +17,9 @@ certify-requires-clause-model g c = certifiable_alone c.args.staged.now c.args.c
 pub certify-requires-clause-answer : goal.certify-requires-clause-answer
 certify-requires-clause-answer g c = complete_alone c.args.staged.now c.args.claim c.args.depth c.args.searched.now c.requires.searched c.requires.none c.args.staged.now.none c.requires.staged.none c.requires.complete
 
+pub write-requires : goal.write-requires
+write-requires g c = c.in_ok-certificate.ensures.writable
+
 pub returns : goal.returns
 returns g c =
     let s = c.args.staged.now in
@@ -24,4 +27,5 @@ returns g c =
     IfOk-weaker c.write.result (λ text. SpellsCertificate text (seen x)) (CertifiesClaim (case_in s.loaded) s.set.items s.asked.first s.asked.second (flat_tree s.loaded.top) c.args.claim)
     (λ text spells. claim_certified s c.requires.staged c.args.claim c.args.depth c.args.searched.now c.requires.searched c.requires.none s.none c.requires.staged.none x text c.in_ok-certificate.ensures.certified
     c.in_ok-certificate.ensures.sets c.in_ok-certificate.ensures.size c.in_ok-certificate.ensures.traces spells)
+    c.write.ensures.spells
     c.write.ensures.spells
