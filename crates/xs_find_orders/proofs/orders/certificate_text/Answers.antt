@@ -28,4 +28,3 @@ returns g c =
     (λ text spells. claim_certified s c.requires.staged c.args.claim c.args.depth c.args.searched.now c.requires.searched c.requires.none s.none c.requires.staged.none x text c.in_ok-certificate.ensures.certified
     c.in_ok-certificate.ensures.sets c.in_ok-certificate.ensures.size c.in_ok-certificate.ensures.traces spells)
     c.write.ensures.spells
-    c.write.ensures.spells
