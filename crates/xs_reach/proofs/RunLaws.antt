@@ -1,5 +1,5 @@
 -- From the parts of a run of a further verb to its outcome.
-use Rattle.std.proofs.Common.{◌≡◌, ◌⊎◌, inl, inr, List, Option, Result, IfOk, IfSome, subst, sym, ◌∙◌}
+use Rattle.std.proofs.Common.{◌≡◌, ◌⊎◌, inl, inr, List, Option, Some, None, IfSome, refl, subst, sym, ◌∙◌}
 use Rattle.xs_desk.specs.declared.files.NamedFile.{NamedFile}
 use Rattle.xs_tree.specs.ProgramTree.{Text}
 use Rattle.xs_reach_words.specs.Commands.{Command}
@@ -65,8 +65,10 @@ told_after Q s q before after h (inr (inr e)) r is = let both : status.Memory �
 
 -- a run that has finished was not stopped
 pub unstopped : (s : Status) → IsFinished s → (s ≡ status.Desk) ⊎ (s ≡ status.Memory) → ⊥
-unstopped s f (inl e) = refused_unfinished status.Desk (refusal.NotBuilt) (inr (inl refl)) (subst IsFinished e f)
-unstopped s f (inr e) = refused_unfinished status.Memory (refusal.NotBuilt) (inr (inr refl)) (subst IsFinished e f)
+unstopped s (inl d) (inl e) = let bad : status.Done ≡ status.Desk = sym d ∙ e in cc
+unstopped s (inl d) (inr e) = let bad : status.Done ≡ status.Memory = sym d ∙ e in cc
+unstopped s (inr d) (inl e) = let bad : status.Bounded d.0 ≡ status.Desk = sym d.1 ∙ e in cc
+unstopped s (inr d) (inr e) = let bad : status.Bounded d.0 ≡ status.Memory = sym d.1 ∙ e in cc
 
 pub desk_unrefused : (r : Refusal) → stops.Desk ≡ stops.Refused r → ⊥
 desk_unrefused r e = cc
