@@ -270,6 +270,7 @@ fn line(rule: u32) -> Option<&'static str> {
         11 => Some(
             "the steps of a part do not show what the part is for; told at the line after its last step",
         ),
+        12 => Some("a certificate of an order lists a set"),
         _ => None,
     }
 }
