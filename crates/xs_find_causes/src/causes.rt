@@ -76,6 +76,7 @@ pub fn check_causes<D: Desk>(
     asked: &CheckCauses,
 ) -> Result<Status, Stop>
     ensures ok { IfOk result (λ s. IfSome (D.files desk.old) (λ files. HasCheckedCauses files asked.now.model.now asked.now.faults.now asked.now.causes.now asked.now.top.now asked.now.cert.now (D.said desk.old) (D.said desk.new))) }
+    ensures ends { IfOk result (λ s. s ≡ Status.Done) }
     ensures finished { IfOk result IsFinished }
     ensures refused { (r : Refusal) → IsErrOf result (stop.Refused r) →
         IfSome (D.files desk.old) (λ files. RefusesCauseCheck files asked.now.model.now asked.now.faults.now asked.now.causes.now asked.now.top.now asked.now.cert.now r) }

@@ -72,11 +72,7 @@ fn causes<D: Desk>(
 }
 
 /// Judges a certificate of faults and common causes.
-fn checked_causes<D: Desk>(
-    alloc: Global,
-    desk: &mut D,
-    asked: &CheckCauses,
-) -> Result<Status, Stop>
+fn checked_causes<D: Desk>(alloc: Global, desk: &mut D, asked: &CheckCauses) -> Result<Status, Stop>
     ensures done { IfOk result (λ s. IfSome (D.files desk.old) (λ files. IsDone (seen (asks.CheckCauses asked.now)) files s (D.files desk.old) (D.files desk.new) (D.said desk.old) (D.said desk.new))) }
     ensures finished { IfOk result IsFinished }
     ensures refused { (r : Refusal) → IsErrOf result (stops.Refused r) → IfSome (D.files desk.old) (λ files. RefusesCommand (seen (asks.CheckCauses asked.now)) files r) }
@@ -113,11 +109,7 @@ fn orders<D: Desk>(
 }
 
 /// Judges a certificate of such an order.
-fn checked_orders<D: Desk>(
-    alloc: Global,
-    desk: &mut D,
-    asked: &CheckOrders,
-) -> Result<Status, Stop>
+fn checked_orders<D: Desk>(alloc: Global, desk: &mut D, asked: &CheckOrders) -> Result<Status, Stop>
     requires { (words : List Text) × Means words (seen (asks.CheckOrders asked.now)) }
     ensures done { IfOk result (λ s. IfSome (D.files desk.old) (λ files. IsDone (seen (asks.CheckOrders asked.now)) files s (D.files desk.old) (D.files desk.new) (D.said desk.old) (D.said desk.new))) }
     ensures finished { IfOk result IsFinished }
