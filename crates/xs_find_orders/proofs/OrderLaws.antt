@@ -126,9 +126,10 @@ module _ (model faults top : Text) (set : List ℕ) (first second depth : ℕ) (
         c = from.c;
         holds = from.holds;
         found = found;
-        part = inr
-            (written_of from.c set first second found.tree cert before after found.order found.ending k.cert from.is.certified (part.0 ∙ ap (λ t. told_maybe t cert k.cert) kept),
-            subst (λ t. SaysPrefix said now t) from.is.reported (subst (λ t. SaysPrefix t now k.report) silent part.1));
+        part = inr (
+          written_of from.c set first second found.tree cert before after found.order found.ending k.cert from.is.certified (part.0 ∙ ap (λ t. told_maybe t cert k.cert) kept),
+          subst (λ t. SaysPrefix said now t) from.is.reported (subst (λ t. SaysPrefix t now k.report) silent part.1),
+        );
       }
 
   -- and a part

@@ -34,9 +34,11 @@ returns-in_err-say_whole-clause-failed g c e =
 
 pub returns-in_err-say_whole-clause-left : goal.returns-in_err-say_whole-clause-left
 returns-in_err-say_whole-clause-left g c =
-    inr
-    (subst (λ t. SaysPrefix t (g.D.Desk.said c.say_whole.new.desk) (codes "accepted\n")) c.prepare.ensures.said
-    (says_in_part c.say_whole.result _ _ _ (codes "accepted\n") refl c.say_whole.ensures.ok c.say_whole.ensures.err), c.in_ok-prepare.ensures.ok)
+    inr (
+      subst (λ t. SaysPrefix t (g.D.Desk.said c.say_whole.new.desk) (codes "accepted\n")) c.prepare.ensures.said
+          (says_in_part c.say_whole.result _ _ _ (codes "accepted\n") refl c.say_whole.ensures.ok c.say_whole.ensures.err),
+      c.in_ok-prepare.ensures.ok,
+    )
 
 pub returns-clause-ok : goal.returns-clause-ok
 returns-clause-ok g c asked =
@@ -45,9 +47,11 @@ returns-clause-ok g c asked =
 
 pub returns-clause-left : goal.returns-clause-left
 returns-clause-left g c =
-    inr
-    (subst (λ t. SaysPrefix t (g.D.Desk.said c.say_whole.new.desk) (codes "accepted\n")) c.prepare.ensures.said
-    (says_in_part c.say_whole.result _ _ _ (codes "accepted\n") refl c.say_whole.ensures.ok c.say_whole.ensures.err), c.in_ok-prepare.ensures.ok)
+    inr (
+      subst (λ t. SaysPrefix t (g.D.Desk.said c.say_whole.new.desk) (codes "accepted\n")) c.prepare.ensures.said
+          (says_in_part c.say_whole.result _ _ _ (codes "accepted\n") refl c.say_whole.ensures.ok c.say_whole.ensures.err),
+      c.in_ok-prepare.ensures.ok,
+    )
 
 pub returns-clause-quiet : goal.returns-clause-quiet
 returns-clause-quiet g c quiet =
