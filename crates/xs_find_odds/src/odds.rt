@@ -15,7 +15,7 @@ ghost use Rattle.xs_run.specs.Cases.{HoldsCase};
 ghost use Rattle.xs_reach_status.specs.declared.status.Refusal.{Refusal};
 ghost use Rattle.xs_reach_status.specs.declared.stop.Stop.TheVariants as stop;
 ghost use Rattle.xs_reach_status.specs.Reports.{sets_text, ending_line};
-ghost use Rattle.xs_reach.specs.Runs.{IsFinished};
+ghost use Rattle.xs_reach_status.specs.Finished.{IsFinished};
 ghost use Rattle.xs_find_odds.specs.Odds.{mark_rule, mark_refusal, RefusesOdds, RefusesMark, IsMarked, IsOddsFinding, HasOdds, SaysOddsInPart};
 
 use std::alloc::Global;
