@@ -19,7 +19,7 @@ use Rattle.xs_find_odds.specs.declared.odds.Marked.{Marked}
 use Rattle.xs_find_odds.specs.declared.odds.FoundOdds.{FoundOdds}
 use Rattle.xs_analysis_text.specs.Analysis.{told_ending}
 use Rattle.xs_reach_status.specs.Finished.{ended_with}
-use Rattle.xs_find_odds.specs.Odds.{RefusesOdds, at_model, at_faults, at_mark, at_top, RefusesMark, IsMarked, IsOddsFinding, IsOddsAnswer, HasOdds, SaysOddsInPart}
+use Rattle.xs_find_odds.specs.Odds.{RefusesOdds, at_model, at_faults, at_mark, at_top, RefusesMark, IsMarked, IsOddsFinding, IsOddsAnswer, FindsOdds, HasOdds, SaysOddsInPart}
 
 module _ (model faults top : Text) where
   pub odds_no_model : (told : Option (List NamedFile)) (r : Refusal) (s : SharedRefusal) → r ≡ refusal.Shared s → IfSome told (λ files. RefusesModel files model s) →
@@ -46,40 +46,36 @@ module _ (model faults top : Text) where
   odds_no_top (Some files) c r s e holds all wrong = at_top c wrong.0 (e ∙ ap (λ t. refusal.Shared t) wrong.1) holds all wrong.2
 
   -- what was found of a case that the files hold
-  answered : (files : List NamedFile) (l : Marked) (depth : ℕ) (f : FoundOdds) → HoldsCase files model faults (case_in l.loaded) → IsMarked l → (l.word.now ≡ top) × (l.depth ≡ depth) →
-      (found : IsOddsFinding (case_in l.loaded) l.word.now l.depth l.odds f) → IsOddsAnswer files model faults top depth found.analysis f.report
-  answered files l depth f holds marked asked found =
+  pub finds_odds : (told : Option (List NamedFile)) (l : Marked) (depth : ℕ) (f : FoundOdds) → IfSome told (λ files. HoldsCase files model faults (case_in l.loaded)) → IsMarked l →
+      (l.word.now ≡ top) × (l.depth ≡ depth) → IsOddsFinding (case_in l.loaded) l.word.now l.depth l.odds f → IfSome told (λ files. FindsOdds files model faults top depth f)
+  finds_odds None l depth f holds marked asked found = tt
+  finds_odds (Some files) l depth f holds marked asked found =
       record {
-        c = case_in l.loaded;
-        holds = holds;
-        all = marked.all;
-        event = found.event;
-        is_event = subst (λ (w : Text). IsTopWord (case_in l.loaded).program w found.event) asked.0 found.is_event;
-        odds = l.odds;
-        are_odds = marked.odds;
-        found = subst (λ (k : ℕ). IsFound (case_in l.loaded) found.event (length (case_in l.loaded).faults) k found.analysis) asked.1 found.found;
-        bounded = found.bounded;
-        reports = found.reported;
+        analysis = found.analysis;
+        answer = record {
+          c = case_in l.loaded;
+          holds = holds;
+          all = marked.all;
+          event = found.event;
+          is_event = subst (λ (w : Text). IsTopWord (case_in l.loaded).program w found.event) asked.0 found.is_event;
+          odds = l.odds;
+          are_odds = marked.odds;
+          found = subst (λ (k : ℕ). IsFound (case_in l.loaded) found.event (length (case_in l.loaded).faults) k found.analysis) asked.1 found.found;
+          bounded = found.bounded;
+          reports = found.reported;
+        };
+        ends = found.ends;
       }
 
   -- and said
-  pub has_odds : (told : Option (List NamedFile)) (l : Marked) (depth : ℕ) (f : FoundOdds) (s : Status) (said now : Said) → IfSome told (λ files. HoldsCase files model faults (case_in l.loaded)) →
-      IsMarked l → (l.word.now ≡ top) × (l.depth ≡ depth) → IsOddsFinding (case_in l.loaded) l.word.now l.depth l.odds f → s ≡ ended_with (told_ending f.ending) → now ≡ said_more said f.report →
-      IfSome told (λ files. HasOdds files model faults top depth s said now)
-  has_odds None l depth f s said now holds marked asked found ends says = tt
-  has_odds (Some files) l depth f s said now holds marked asked found ends says =
-      record {
-        analysis = found.analysis;
-        report = f.report;
-        answer = answered files l depth f holds marked asked found;
-        ends = ends ∙ ap ended_with found.ends;
-        reported = says;
-      }
+  pub has_odds : (told : Option (List NamedFile)) (depth : ℕ) (f : FoundOdds) (s : Status) (said now : Said) → IfSome told (λ files. FindsOdds files model faults top depth f) →
+      s ≡ ended_with (told_ending f.ending) → now ≡ said_more said f.report → IfSome told (λ files. HasOdds files model faults top depth s said now)
+  has_odds None depth f s said now found ends says = tt
+  has_odds (Some files) depth f s said now found ends says =
+      record { analysis = found.analysis; report = f.report; answer = found.answer; ends = ends ∙ ap ended_with found.ends; reported = says }
 
   -- or a beginning of it
-  pub odds_in_part : (told : Option (List NamedFile)) (l : Marked) (depth : ℕ) (f : FoundOdds) (said now : Said) → IfSome told (λ files. HoldsCase files model faults (case_in l.loaded)) →
-      IsMarked l → (l.word.now ≡ top) × (l.depth ≡ depth) → IsOddsFinding (case_in l.loaded) l.word.now l.depth l.odds f → SaysPrefix said now f.report →
+  pub odds_in_part : (told : Option (List NamedFile)) (depth : ℕ) (f : FoundOdds) (said now : Said) → IfSome told (λ files. FindsOdds files model faults top depth f) → SaysPrefix said now f.report →
       IfSome told (λ files. SaysOddsInPart files model faults top depth said now)
-  odds_in_part None l depth f said now holds marked asked found says = tt
-  odds_in_part (Some files) l depth f said now holds marked asked found says =
-      record { analysis = found.analysis; report = f.report; answer = answered files l depth f holds marked asked found; part = says }
+  odds_in_part None depth f said now found says = tt
+  odds_in_part (Some files) depth f said now found says = record { analysis = found.analysis; report = f.report; answer = found.answer; part = says }

@@ -95,6 +95,12 @@ pub record IsOddsAnswer (files : List NamedFile) (model faults top : Text) (dept
   pub bounded : AreBounded odds analysis.sets
   pub reports : report ≡ odds_report c odds analysis
 
+-- this was found of them
+pub record FindsOdds (files : List NamedFile) (model faults top : Text) (depth : ℕ) (f : FoundOdds) : Type 0 where
+  pub analysis : Analysis
+  pub answer : IsOddsAnswer files model faults top depth analysis f.report
+  pub ends : told_ending f.ending ≡ analysis.ending
+
 -- such an analysis was said
 pub record HasOdds (files : List NamedFile) (model faults top : Text) (depth : ℕ) (s : Status) (said now : Said) : Type 0 where
   pub analysis : Analysis

@@ -16,7 +16,7 @@ ghost use Rattle.xs_reach_status.specs.declared.status.Refusal.{Refusal};
 ghost use Rattle.xs_reach_status.specs.declared.stop.Stop.TheVariants as stop;
 ghost use Rattle.xs_reach_status.specs.Reports.{sets_text, ending_line};
 ghost use Rattle.xs_reach_status.specs.Finished.{IsFinished};
-ghost use Rattle.xs_find_odds.specs.Odds.{mark_rule, mark_refusal, RefusesOdds, RefusesMark, IsMarked, IsOddsFinding, HasOdds, SaysOddsInPart};
+ghost use Rattle.xs_find_odds.specs.Odds.{mark_rule, mark_refusal, RefusesOdds, RefusesMark, IsMarked, IsOddsFinding, FindsOdds, HasOdds, SaysOddsInPart};
 
 use std::alloc::Global;
 use xs_adviser::Panel;
@@ -72,11 +72,39 @@ pub fn find_odds<D: Desk>(
     ensures later { D.faults desk.old ≤ D.faults desk.new }
     ensures quiet { D.quiet desk.old → D.quiet desk.new × (D.faults desk.new ≡ D.faults desk.old) }
 {
-    let marked = load_marked(alloc, desk, asked)?;
-    let found = search_marked(alloc, &marked, panel)?;
+    let found = prepare_odds(alloc, desk, asked, panel)?;
     say_whole(desk, found.report.as_slice())?;
     Ok(ended_as(found.ending))
 }
+
+/// Reads both files and the top event, searches, and makes what is to be said.
+fn prepare_odds<D: Desk>(
+    alloc: Global,
+    desk: &mut D,
+    asked: &FindOdds,
+    panel: &mut Panel,
+) -> Result<FoundOdds, Stop>
+    ensures ok { IfOk result (λ found. IfSome (D.files desk.old) (λ files. FindsOdds files asked.now.model.now asked.now.faults.now asked.now.top.now asked.now.depth found)) }
+    ensures refused { (r : Refusal) → IsErrOf result (stop.Refused r) →
+        IfSome (D.files desk.old) (λ files. RefusesOdds files asked.now.model.now asked.now.faults.now asked.now.top.now r) }
+    ensures failed { IsErrOf result stop.Desk → Rose (D.faults desk.old) (D.faults desk.new) }
+
+    ensures files { D.files desk.new ≡ D.files desk.old }
+    ensures said { D.said desk.new ≡ D.said desk.old }
+    ensures later { D.faults desk.old ≤ D.faults desk.new }
+    ensures quiet { D.quiet desk.old → D.quiet desk.new × (D.faults desk.new ≡ D.faults desk.old) }
+{
+    let marked = load_marked(alloc, desk, asked)?;
+    let found = search_marked(alloc, &marked, panel);
+    discard(marked);
+    match found {
+        Ok(found) => Ok(found),
+        Err(OutOfMemory) => Err(Stop::Memory),
+    }
+}
+
+/// Lets a case go.
+fn discard(_marked: Marked<'_>) {}
 
 /// The model and the instructions of two files, whose marks are probabilities, with the top event.
 fn load_marked<'a, D: Desk>(
