@@ -44,7 +44,15 @@ each_second : {A : Type 0} (P : A → Type 0) (xs ys : List A) → Each P (xs ++
 each_second P [] ys h = h
 each_second P (x ∷ xs) ys h = each_second P xs ys h.1
 
+-- the modes of a model whose history is encodable are of the state
+pub state_modes : (m : FlatModel) (fs : List Mode) → Each (IsModeOf m) fs → IsEncodable (with_history m fs) → Each (IsStateMode m) fs
+state_modes m fs are is =
+    modes_from m fs (length m.variables) fs are (each_second (λ f. reads_input (with_history m fs) f.value ≡ false) m.at_first (bits_at_first (length m.variables) fs) is.at_first)
+
 -- ---- inputs
+
+pub history_inputs : (m : FlatModel) (fs : List Mode) → IsEncodable m → input_bits (with_history m fs) ≡ input_bits m
+history_inputs m fs is = sym (ap input_bits (history_is m fs)) ∙ same_inputs m (history_addition m fs) is.types (bits_of_state 0 fs)
 
 -- ---- symbols
 
@@ -61,3 +69,9 @@ owns_more fs cs ages (f ∷ more) i m =
     let one : length (with_own fs cs ages i m).symbols ≡ suc (suc (length m.symbols)) = own_symbols fs cs ages i m in
     let rest = owns_more fs cs ages more (suc i) (with_own fs cs ages i m) in
     omega (arith, one, rest)
+
+pub staged_symbols : (m : FlatModel) (fs : List Mode) (cs : List CommonCause) → length m.symbols ≤ length (with_causes m fs cs).symbols
+staged_symbols m fs cs =
+    let one = causes_more fs cs m in
+    let two = owns_more fs cs (age_numbers (length m.variables) cs) fs 1 (with_each_cause fs m cs) in
+    omega (arith, one, two)

@@ -34,7 +34,6 @@ fn of_subject(subject: Subject, part: Part, number: u32) -> Option<&'static str>
 /// Words of the command line.
 fn words(number: u32) -> Option<&'static str> {
     match number {
-        0 => Some("the verb is not in this build"),
         1 => Some("there are no words"),
         2 => Some("the verb is unknown"),
         3 => Some("the verb has no such option"),
@@ -271,6 +270,7 @@ fn line(rule: u32) -> Option<&'static str> {
         11 => Some(
             "the steps of a part do not show what the part is for; told at the line after its last step",
         ),
+        12 => Some("a certificate of an order lists a set"),
         _ => None,
     }
 }

@@ -1,69 +1,287 @@
 -- From the parts of the work on common causes to what it comes to.
-use Rattle.std.proofs.Common.{◌≡◌, ℕ, List, Option, Some, None, IfSome, map, length, ◌++◌, refl, sym, subst, ap, ◌∙◌}
+use Rattle.std.proofs.Common.{◌≡◌, inl, inr, ℕ, List, Option, Some, None, Result, OnOk, OnErr, IfSome, map, length, ◌++◌, refl, sym, subst, ap, ◌∙◌}
 use Rattle.std.specs.Prelude.{codes}
 use Rattle.xs_desk.specs.declared.files.NamedFile.{NamedFile}
-use Rattle.xs_desk.specs.Desk.{said_more}
-use Rattle.xs_tree.specs.ProgramTree.{Text}
+use Rattle.xs_desk.specs.Desk.{said_more, SaysPrefix}
+use Rattle.xs_tree.specs.Tree.{Tree}
+use Rattle.xs_tree.specs.ProgramTree.{Text, ProgramTree}
+use Rattle.xs_flattening.specs.Flat.{FlatLeaf, FlatModel}
+use Rattle.xs_flattening.specs.History.{Mode, with_history}
+use Rattle.xs_scope.specs.ModelTree.{flat_tree}
+use Rattle.xs_kinds.specs.Models.{IsTyped}
+use Rattle.xs_weave.specs.Faults.{Fault}
 use Rattle.xs_analysis_text.specs.AnalysisText.{size_line}
+use Rattle.xs_analysis_text.specs.Analysis.{told_ending}
 use Rattle.xs_certificate.specs.Certificate.{Certificate}
 use Rattle.xs_causes.specs.Causes.{CommonCause}
+use Rattle.xs_causes.specs.Staged.{with_causes, events_of}
+use Rattle.xs_causes_reader.specs.declared.fault.CauseFault.{CauseFault}
+use Rattle.xs_causes_reader.specs.declared.fault.CauseFault.TheVariants as cause_fault
+use Rattle.xs_causes_reader.specs.Broken.{rule_of}
+use Rattle.xs_causes_reader.specs.Read.{AreRead, FaultSays}
 use Rattle.xs_run.specs.declared.loaded.LoadedCase.{LoadedCase}
+use Rattle.xs_run.specs.declared.status.InputFault.{InputFault as SharedFault}
+use Rattle.xs_run.specs.declared.status.Refusal.{Refusal as SharedRefusal}
+use Rattle.xs_run.specs.declared.status.Refusal.TheVariants as shared_refusal
+use Rattle.xs_run.specs.declared.input.Stop.{Stop as SharedStop}
+use Rattle.xs_run.specs.declared.input.Stop.TheVariants as shared_stop
 use Rattle.xs_run.specs.declared.wrong.Wrong.{Wrong}
 use Rattle.xs_run.specs.declared.wrong.Wrong.TheVariants as wrong
-use Rattle.xs_reach_status.specs.declared.stop.Stop.TheVariants as stop
-use Rattle.xs_run.specs.Cases.{HoldsCase}
+use Rattle.xs_run.specs.Wrongs.{parse_wrong, IfRefused}
+use Rattle.xs_run.specs.Wholes.{BreaksKinds}
+use Rattle.xs_run.specs.Inputs.{RefusesModel, HoldsModel, RefusesFaults}
+use Rattle.xs_run.specs.Cases.{Case, extension_of, HoldsCase, IsTopWord, IsWrongWord}
 use Rattle.xs_run.specs.Tasks.{HasAtMost}
-use Rattle.xs_run.specs.Searches.{case_in}
-use Rattle.xs_run.specs.Answered.{Said}
-use Rattle.xs_run.specs.Certificates.{HoldsCertificate}
-use Rattle.xs_find_causes.specs.declared.staged.StagedEvent.{StagedEvent}
-use Rattle.xs_analysis_text.specs.Analysis.{told_ending}
-use Rattle.xs_run.specs.Answered.{Told}
-use Rattle.xs_run.specs.Searches.{told_maybe}
-use Rattle.xs_find_causes.specs.declared.causes.FoundCauses.{FoundCauses}
+use Rattle.xs_run.specs.Loaded.{case_of, IsLoaded}
+use Rattle.xs_run.specs.Searches.{case_in, told_maybe}
+use Rattle.xs_run.specs.Answered.{Told, Said}
+use Rattle.xs_run.specs.Certificates.{RefusesCertificate, HoldsCertificate}
+use Rattle.xs_run.proofs.OutcomeLemmas.{says_in_part}
+use Rattle.xs_reach_status.specs.declared.status.InputFault.{InputFault}
+use Rattle.xs_reach_status.specs.declared.status.Refusal.{Refusal}
+use Rattle.xs_reach_status.specs.declared.status.Refusal.TheVariants as refusal
 use Rattle.xs_reach_status.specs.declared.status.Status.{Status}
+use Rattle.xs_reach_status.specs.declared.stop.Stop.{Stop}
+use Rattle.xs_reach_status.specs.declared.stop.Stop.TheVariants as stop
+use Rattle.xs_reach_status.specs.Statuses.{stop_of}
 use Rattle.xs_reach_status.specs.Finished.{ended_with}
-use Rattle.xs_find_causes.specs.Causes.{stop_at_causes, AreCausesOf, HoldsCauses, causes_in, events_in, CertifiesStaged, HasCheckedCauses, IsCausesFinding, HasFoundCauses}
+use Rattle.xs_find_causes.specs.declared.staged.StagedEvent.{StagedEvent}
+use Rattle.xs_find_causes.specs.declared.causes.FoundCauses.{FoundCauses}
+use Rattle.xs_find_causes.specs.Causes.{shared_fault, stop_at_causes, flat_in, modes_in, faults_in, extension_in, AreCausesOf, HoldsCauses, HasCauses, IsStagedOf, causes_in, staged_in, events_in, IsStagedEvent, CertifiesStaged, AcceptsStaged, HoldsStaged, AcceptsCauses, HasCheckedCauses, ChecksCausesInPart, LeavesCheck, IsCausesFinding, FindsCauses, HasFoundCauses, ConcludesInPart, FindsCausesInPart, LeavesCauses}
+use Rattle.xs_find_causes.specs.Refusals.{broken_cause, stop_of_causes, IsRefusedCausesFile, KeepsLimits, BreaksStaged, whole_breaks, model_breaks, not_spelled, rule_broken, past_limit, RefusesBytes, RefusesCauses, causes_file, causes_bytes, RefusesStaged, at_model, at_faults, at_causes, at_top, BreaksLine, RefusesJudged, no_certificate, not_accepted, RefusesCauseCheck, at_staged, at_certificate}
 
--- the file holds causes that were read
-pub holds_causes : (told : Option (List NamedFile)) (name : Text) (case : LoadedCase) (causes : List CommonCause) (bytes : List ℕ) → IfSome told (λ files. HasAtMost 1048576 files name bytes) →
-    AreCausesOf case bytes causes → IfSome told (λ files. HoldsCauses files name case causes)
-holds_causes None name case causes bytes has are = tt
-holds_causes (Some files) name case causes bytes has are = record { bytes = bytes; has = has; are = are }
+-- ---- why the work can't go on
 
--- a certificate that was judged and said
-pub has_checked : (told mid : Option (List NamedFile)) (model faults causes top cert : Text) (l : StagedEvent) (a : Certificate) (said now : Said) (report : List ℕ) → mid ≡ told →
-    IfSome told (λ files. HoldsCase files model faults (case_in l.loaded)) → IfSome told (λ files. HoldsCauses files causes l.loaded.case (causes_in l)) → l.word.now ≡ top →
-    IfSome mid (λ files. HoldsCertificate files cert a) → CertifiesStaged l a → report ≡ codes "accepted\n" ++ size_line a.size (length (events_in l)) → now ≡ said_more said report →
-    IfSome told (λ files. HasCheckedCauses files model faults causes top cert said now)
-has_checked told mid model faults causes top cert l a said now report same holds has word certificate certifies line says =
-    at_told told holds has (subst (λ t. IfSome t (λ files. HoldsCertificate files cert a)) same certificate)
-  where
-    at_told : (t : Option (List NamedFile)) → IfSome t (λ files. HoldsCase files model faults (case_in l.loaded)) → IfSome t (λ files. HoldsCauses files causes l.loaded.case (causes_in l)) →
-        IfSome t (λ files. HoldsCertificate files cert a) → IfSome t (λ files. HasCheckedCauses files model faults causes top cert said now)
-    at_told None holds has certificate = tt
-    at_told (Some files) holds has certificate =
-        record {
-          loaded = l;
-          holds = holds;
-          has_causes = has;
-          is_word = word;
-          certificate = a;
-          has_certificate = certificate;
-          certifies = certifies;
-          reported = says ∙ ap (λ t. said_more said t) line;
-        }
+-- a stop at the one refusal is a stop at no other
+pub one_refusal : {x r : Refusal} → stop.Refused r ≡ stop.Refused x → r ≡ x
+one_refusal e = cc
 
--- what was found, written and said
-pub has_found : (told : Option (List NamedFile)) (model faults causes top cert : Text) (depth : ℕ) (l : StagedEvent) (f : FoundCauses) (s : Status) (before after : Told) (said now : Said) →
-    IfSome told (λ files. HoldsCase files model faults (case_in l.loaded)) → IfSome told (λ files. HoldsCauses files causes l.loaded.case (causes_in l)) → l.word.now ≡ top → IsCausesFinding l depth f →
-    s ≡ ended_with (told_ending f.ending) → after ≡ told_maybe before cert f.cert → now ≡ said_more said f.report →
-    IfSome told (λ files. HasFoundCauses files model faults causes top cert depth s before after said now)
-has_found None model faults causes top cert depth l f s before after said now holds has word finding ends written says = tt
-has_found (Some files) model faults causes top cert depth l f s before after said now holds has word finding ends written says =
-    record { loaded = l; holds = holds; has_causes = has; is_word = word; found = f; finding = finding; ends = ends; written = written; reported = says }
+-- a refusal of other verbs, taken over
+pub shared_refused : (s : SharedStop) (t : Stop) (r : Refusal) {x : SharedRefusal} → stop.Refused r ≡ t → t ≡ stop_of s → s ≡ shared_stop.Refused x → r ≡ refusal.Shared x
+shared_refused s t r {x} e told is = let all : stop.Refused r ≡ stop.Refused (refusal.Shared x) = e ∙ told ∙ ap stop_of is in one_refusal all
+
+-- what was said whole, or up to a failure, is a part of the text
+pub says_part : {A E : Type 0} (done : Result A E) (before mid now : Said) (bytes text : List ℕ) → mid ≡ before → bytes ≡ text → OnOk done (now ≡ said_more mid bytes) → OnErr done (SaysPrefix mid now bytes) →
+    SaysPrefix before now text
+says_part done before mid now bytes text silent same whole part = subst (λ t. SaysPrefix t now text) silent (says_in_part done mid now bytes text same whole part)
 
 -- what is wrong with the causes is no end of the desk
 pub no_desk_at_causes : (w : Wrong) → stop.Desk ≡ stop_at_causes w → ⊥
 no_desk_at_causes (wrong.Refused fault) e = cc
 no_desk_at_causes wrong.Memory e = cc
+
+pub no_desk_of_causes : (f : CauseFault) → stop.Desk ≡ stop_of_causes f → ⊥
+no_desk_of_causes (cause_fault.Parse fault) e = no_desk_at_causes (parse_wrong fault) e
+no_desk_of_causes (cause_fault.Broken rule number) e = cc
+no_desk_of_causes cause_fault.OutOfMemory e = cc
+
+-- something that may be wrong with other files too is refused
+record IsTold (w : Wrong) (r : Refusal) : Type 0 where
+  fault : SharedFault
+  is : wrong.Refused fault ≡ w
+  told : r ≡ refusal.Causes (shared_fault fault)
+
+told_at_causes : (w : Wrong) (r : Refusal) → stop.Refused r ≡ stop_at_causes w → IsTold w r
+told_at_causes (wrong.Refused fault) r e = record { fault = fault; is = refl; told = one_refusal e }
+told_at_causes wrong.Memory r e = cc
+
+-- ---- the bytes of causes, and their file
+
+module _ (faults : List Fault) (w : ProgramTree) (m : FlatModel) (fs : List Mode) where
+  pub refuses_bytes : (bytes : List ℕ) (f : CauseFault) (r : Refusal) → stop.Refused r ≡ stop_of_causes f → FaultSays faults w bytes f → RefusesBytes faults w m fs bytes r
+  refuses_bytes bytes (cause_fault.Parse f) r e says =
+      let is = told_at_causes (parse_wrong f) r e in (shared_fault is.fault, is.told, not_spelled f is.fault says is.is refl)
+  refuses_bytes bytes (cause_fault.Broken rule number) r e says = (broken_cause (rule_of rule) number, one_refusal e, rule_broken (rule_of rule) number says refl)
+  refuses_bytes bytes cause_fault.OutOfMemory r e says = cc
+
+  pub refuses_limit : (bytes : List ℕ) (cs : List CommonCause) → AreRead faults w bytes cs → (wr : Wrong) (r : Refusal) → stop.Refused r ≡ stop_at_causes wr → IfRefused (BreaksStaged m fs cs) wr →
+      RefusesBytes faults w m fs bytes r
+  refuses_limit bytes cs are (wrong.Refused fault) r e bad = (shared_fault fault, one_refusal e, past_limit cs fault are bad refl)
+  refuses_limit bytes cs are wrong.Memory r e bad = cc
+
+  pub file_refused : (told : Option (List NamedFile)) (name : Text) (r : Refusal) →
+      (fault : InputFault) × (r ≡ refusal.Causes fault) × IfSome told (λ files. IsRefusedCausesFile files name fault) → IfSome told (λ files. RefusesCauses files name faults w m fs r)
+  file_refused None name r bad = tt
+  file_refused (Some files) name r bad = causes_file bad.0 bad.1 bad.2
+
+  pub bytes_refused : (told : Option (List NamedFile)) (name : Text) (bytes : List ℕ) (r : Refusal) → IfSome told (λ files. HasAtMost 1048576 files name bytes) → RefusesBytes faults w m fs bytes r →
+      IfSome told (λ files. RefusesCauses files name faults w m fs r)
+  bytes_refused None name bytes r has bad = tt
+  bytes_refused (Some files) name bytes r has bad = causes_bytes bytes has bad
+
+-- the file holds causes that were read
+pub holds_causes : (told : Option (List NamedFile)) (name : Text) (case : LoadedCase) (causes : List CommonCause) (bytes : List ℕ) → IfSome told (λ files. HasAtMost 1048576 files name bytes) →
+    AreCausesOf case bytes causes → IfSome told (λ files. HoldsCauses files name (faults_in case) (extension_in case) causes)
+holds_causes None name case causes bytes has are = tt
+holds_causes (Some files) name case causes bytes has are = record { bytes = bytes; has = has; are = are }
+
+-- they are those of the case
+pub has_causes : (told mid : Option (List NamedFile)) (p : ProgramTree) (l : LoadedCase) (name : Text) (cs : List CommonCause) → IsLoaded p l → mid ≡ told →
+    IfSome mid (λ files. HoldsCauses files name (faults_in l) (extension_in l) cs) → IfSome told (λ files. HasCauses files name (case_of p l) cs)
+has_causes told mid p l name cs is same has =
+    subst (λ w. IfSome told (λ files. HoldsCauses files name (faults_in l) w cs)) is.program
+    (subst (λ t. IfSome t (λ files. HoldsCauses files name (faults_in l) (extension_in l) cs)) same has)
+
+-- ---- the limits of the staged model
+
+module _ (m : FlatModel) (fs : List Mode) (cs : List CommonCause) (n whole : FlatModel) (es : List Mode) (model : n ≡ with_causes m fs cs) (events : es ≡ events_of m fs cs) (full : whole ≡ with_history n es) where
+  whole_is : whole ≡ with_history (with_causes m fs cs) (events_of m fs cs)
+  whole_is = full ∙ (λ j. with_history (model j) (events j))
+
+  pub whole_past_limit : (wr : Wrong) → IfRefused (BreaksKinds whole) wr → IfRefused (BreaksStaged m fs cs) wr
+  whole_past_limit (wrong.Refused fault) bad = whole_breaks (subst (λ k. BreaksKinds k fault) whole_is bad)
+  whole_past_limit wrong.Memory bad = tt
+
+  pub model_past_limit : IsTyped whole → (wr : Wrong) → IfRefused (BreaksKinds n) wr → IfRefused (BreaksStaged m fs cs) wr
+  model_past_limit typed (wrong.Refused fault) bad = model_breaks (subst IsTyped whole_is typed) (subst (λ k. BreaksKinds k fault) model bad)
+  model_past_limit typed wrong.Memory bad = tt
+
+pub keeps_limits : (case : LoadedCase) (cs : List CommonCause) (n whole : FlatModel) (es : List Mode) → IsStagedOf case cs n whole es → KeepsLimits (flat_in case) (modes_in case) cs
+keeps_limits case cs n whole es is =
+    record { whole = subst IsTyped (whole_is (flat_in case) (modes_in case) cs n whole es is.model is.events is.full) is.whole; typed = subst IsTyped is.model is.typed }
+
+-- ---- what the three files and the word come to
+
+module _ (model faults causes top : Text) where
+  pub staged_no_model : (told : Option (List NamedFile)) (r : Refusal) (s : SharedRefusal) → r ≡ refusal.Shared s → IfSome told (λ files. RefusesModel files model s) →
+      IfSome told (λ files. RefusesStaged files model faults causes top r)
+  staged_no_model None r s e bad = tt
+  staged_no_model (Some files) r s e bad = at_model s e bad
+
+  pub staged_no_faults : (told mid : Option (List NamedFile)) (p : ProgramTree) (r : Refusal) (s : SharedRefusal) → r ≡ refusal.Shared s → mid ≡ told → IfSome told (λ files. HoldsModel files model p) →
+      IfSome mid (λ files. RefusesFaults files faults p s) → IfSome told (λ files. RefusesStaged files model faults causes top r)
+  staged_no_faults told mid p r s e same holds bad = at_told told holds (subst (λ t. IfSome t (λ files. RefusesFaults files faults p s)) same bad) where
+    at_told : (t : Option (List NamedFile)) → IfSome t (λ files. HoldsModel files model p) → IfSome t (λ files. RefusesFaults files faults p s) →
+        IfSome t (λ files. RefusesStaged files model faults causes top r)
+    at_told None holds bad = tt
+    at_told (Some files) holds bad = at_faults p s e holds bad
+
+  pub staged_no_causes : (told mid : Option (List NamedFile)) (p : ProgramTree) (l : LoadedCase) (r : Refusal) → IsLoaded p l → mid ≡ told → IfSome told (λ files. HoldsCase files model faults (case_of p l)) →
+      IfSome mid (λ files. RefusesCauses files causes (faults_in l) (extension_in l) (flat_in l) (modes_in l) r) → IfSome told (λ files. RefusesStaged files model faults causes top r)
+  staged_no_causes told mid p l r is same holds bad =
+      at_told told holds
+      (subst (λ w. IfSome told (λ files. RefusesCauses files causes (faults_in l) w (flat_in l) (modes_in l) r)) is.program
+      (subst (λ t. IfSome t (λ files. RefusesCauses files causes (faults_in l) (extension_in l) (flat_in l) (modes_in l) r)) same bad))
+    where
+      at_told : (t : Option (List NamedFile)) → IfSome t (λ files. HoldsCase files model faults (case_of p l)) →
+          IfSome t (λ files. RefusesCauses files causes (case_of p l).faults (extension_of (case_of p l)) (flat_in l) (modes_in l) r) → IfSome t (λ files. RefusesStaged files model faults causes top r)
+      at_told None holds bad = tt
+      at_told (Some files) holds bad = at_causes (case_of p l) holds bad
+
+  pub staged_no_top : (told : Option (List NamedFile)) (c : Case) (cs : List CommonCause) (r : Refusal) (s : SharedRefusal) → r ≡ refusal.Shared s → IfSome told (λ files. HoldsCase files model faults c) →
+      IfSome told (λ files. HasCauses files causes c cs) → KeepsLimits c.flat c.modes cs → (fault : SharedFault) × (s ≡ shared_refusal.Top fault) × IsWrongWord c.program top fault →
+      IfSome told (λ files. RefusesStaged files model faults causes top r)
+  staged_no_top None c cs r s e holds has keeps bad = tt
+  staged_no_top (Some files) c cs r s e holds has keeps bad = at_top c cs bad.0 (e ∙ ap (λ t. refusal.Shared t) bad.1) holds has keeps bad.2
+
+  -- they hold what was loaded
+  pub holds_staged : (told : Option (List NamedFile)) (l : StagedEvent) → IfSome told (λ files. HoldsCase files model faults (case_in l.loaded)) →
+      IfSome told (λ files. HasCauses files causes (case_in l.loaded) (causes_in l)) → l.word.now ≡ top → IsStagedEvent l → IfSome told (λ files. HoldsStaged files model faults causes top l)
+  holds_staged None l holds has word staged = tt
+  holds_staged (Some files) l holds has word staged = record { holds = holds; has_causes = has; is_word = word; staged = staged }
+
+  -- ---- a search
+
+  pub finds_causes : (told : Option (List NamedFile)) (depth : ℕ) (l : StagedEvent) (f : FoundCauses) → IfSome told (λ files. HoldsStaged files model faults causes top l) → IsCausesFinding l depth f →
+      IfSome told (λ files. FindsCauses files model faults causes top depth f)
+  finds_causes None depth l f holds finding = tt
+  finds_causes (Some files) depth l f holds finding = record { loaded = l; holds = holds; finding = finding }
+
+  module _ (cert : Text) (depth : ℕ) (told : Option (List NamedFile)) (f : FoundCauses) (finds : IfSome told (λ files. FindsCauses files model faults causes top depth f)) where
+    -- what was found, written and said
+    pub has_found : (s : Status) (before after : Told) (said now : Said) → s ≡ ended_with (told_ending f.ending) → after ≡ told_maybe before cert f.cert → now ≡ said_more said f.report →
+        IfSome told (λ files. HasFoundCauses files model faults causes top cert depth s before after said now)
+    has_found s before after said now ends written says = at_told told finds
+      where
+        at_told : (t : Option (List NamedFile)) → IfSome t (λ files. FindsCauses files model faults causes top depth f) →
+            IfSome t (λ files. HasFoundCauses files model faults causes top cert depth s before after said now)
+        at_told None finds = tt
+        at_told (Some files) finds = record { found = f; finds = finds; ends = ends; written = written; reported = says }
+
+    -- or a part of it
+    pub leaves_found : (mid after : Told) (mid_said said now : Said) → mid ≡ told → mid_said ≡ said → ConcludesInPart cert f mid after mid_said now →
+        LeavesCauses model faults causes top cert depth told after said now
+    leaves_found mid after mid_said said now same silent part =
+        inr (at_told told finds (subst (λ t. ConcludesInPart cert f t after said now) same (subst (λ t. ConcludesInPart cert f mid after t now) silent part)))
+      where
+        at_told : (t : Option (List NamedFile)) → IfSome t (λ files. FindsCauses files model faults causes top depth f) → ConcludesInPart cert f told after said now →
+            IfSome t (λ files. FindsCausesInPart files model faults causes top cert depth told after said now)
+        at_told None finds part = tt
+        at_told (Some files) finds part = record { found = f; finds = finds; in_part = part }
+
+  -- ---- a check
+
+  pub check_no_staged : (cert : Text) (told : Option (List NamedFile)) (r : Refusal) → IfSome told (λ files. RefusesStaged files model faults causes top r) →
+      IfSome told (λ files. RefusesCauseCheck files model faults causes top cert r)
+  check_no_staged cert None r bad = tt
+  check_no_staged cert (Some files) r bad = at_staged bad
+
+  module _ (cert : Text) (told mid : Option (List NamedFile)) (l : StagedEvent) (same : mid ≡ told) (holds : IfSome told (λ files. HoldsStaged files model faults causes top l)) where
+    pub check_no_certificate : (r : Refusal) → IfSome mid (λ files. RefusesJudged files (staged_in l) (events_in l) (flat_tree l.loaded.top) cert r) →
+        IfSome told (λ files. RefusesCauseCheck files model faults causes top cert r)
+    check_no_certificate r bad = at_told told holds (subst (λ t. IfSome t (λ files. RefusesJudged files (staged_in l) (events_in l) (flat_tree l.loaded.top) cert r)) same bad)
+      where
+        at_told : (t : Option (List NamedFile)) → IfSome t (λ files. HoldsStaged files model faults causes top l) →
+            IfSome t (λ files. RefusesJudged files (staged_in l) (events_in l) (flat_tree l.loaded.top) cert r) → IfSome t (λ files. RefusesCauseCheck files model faults causes top cert r)
+        at_told None holds bad = tt
+        at_told (Some files) holds bad =
+            let c : Case = case_in l.loaded in
+            let tree : Tree FlatLeaf = flat_tree l.loaded.top in
+            let event = holds.staged.event.event in
+            let is = holds.staged.staged in
+            at_certificate c (causes_in l) event.top tree holds.holds holds.has_causes (keeps_limits l.loaded.case (causes_in l) _ _ _ is)
+            (subst (λ (word : Text). IsTopWord c.program word event.top) holds.is_word event.is_word) event.is_tree
+            (subst (λ (n : FlatModel). RefusesJudged files n (events_of c.flat c.modes (causes_in l)) tree cert r) is.model
+            (subst (λ (es : List Mode). RefusesJudged files (staged_in l) es tree cert r) is.events bad))
+
+    pub accepts_causes : (report : Text) → IfSome mid (λ files. AcceptsStaged files l cert report) → IfSome told (λ files. AcceptsCauses files model faults causes top cert report)
+    accepts_causes report accepts = at_told told holds (subst (λ t. IfSome t (λ files. AcceptsStaged files l cert report)) same accepts)
+      where
+        at_told : (t : Option (List NamedFile)) → IfSome t (λ files. HoldsStaged files model faults causes top l) → IfSome t (λ files. AcceptsStaged files l cert report) →
+            IfSome t (λ files. AcceptsCauses files model faults causes top cert report)
+        at_told None holds accepts = tt
+        at_told (Some files) holds accepts = record { loaded = l; holds = holds; accepts = accepts }
+
+  module _ (cert : Text) (told : Option (List NamedFile)) (report : Text) (accepts : IfSome told (λ files. AcceptsCauses files model faults causes top cert report)) where
+    pub has_checked : (said now : Said) → now ≡ said_more said report → IfSome told (λ files. HasCheckedCauses files model faults causes top cert said now)
+    has_checked said now says = at_told told accepts
+      where
+        at_told : (t : Option (List NamedFile)) → IfSome t (λ files. AcceptsCauses files model faults causes top cert report) → IfSome t (λ files. HasCheckedCauses files model faults causes top cert said now)
+        at_told None accepts = tt
+        at_told (Some files) accepts = record { report = report; accepts = accepts; reported = says }
+
+    pub leaves_checked : (said now : Said) → SaysPrefix said now report → LeavesCheck model faults causes top cert told said now
+    leaves_checked said now part = inr (at_told told accepts)
+      where
+        at_told : (t : Option (List NamedFile)) → IfSome t (λ files. AcceptsCauses files model faults causes top cert report) →
+            IfSome t (λ files. ChecksCausesInPart files model faults causes top cert said now)
+        at_told None accepts = tt
+        at_told (Some files) accepts = record { report = report; accepts = accepts; in_part = part }
+
+-- the certificate of a file, judged over what was loaded
+module _ (l : StagedEvent) (name : Text) (told : Option (List NamedFile)) where
+  pub no_file : (r : Refusal) (s : SharedRefusal) → r ≡ refusal.Shared s → IfSome told (λ files. RefusesCertificate files name s) →
+      IfSome told (λ files. RefusesJudged files (staged_in l) (events_in l) (flat_tree l.loaded.top) name r)
+  no_file r s e bad = at_told told bad
+    where
+      at_told : (t : Option (List NamedFile)) → IfSome t (λ files. RefusesCertificate files name s) →
+          IfSome t (λ files. RefusesJudged files (staged_in l) (events_in l) (flat_tree l.loaded.top) name r)
+      at_told None bad = tt
+      at_told (Some files) bad = no_certificate s e bad
+
+  module _ (a : Certificate) (has : IfSome told (λ files. HoldsCertificate files name a)) where
+    pub line_refused : (r : Refusal) → BreaksLine (staged_in l) (events_in l) (flat_tree l.loaded.top) a r →
+        IfSome told (λ files. RefusesJudged files (staged_in l) (events_in l) (flat_tree l.loaded.top) name r)
+    line_refused r bad = at_told told has
+      where
+        at_told : (t : Option (List NamedFile)) → IfSome t (λ files. HoldsCertificate files name a) →
+            IfSome t (λ files. RefusesJudged files (staged_in l) (events_in l) (flat_tree l.loaded.top) name r)
+        at_told None has = tt
+        at_told (Some files) has = not_accepted a has bad
+
+    pub accepts_staged : (report : Text) → CertifiesStaged l a → report ≡ codes "accepted\n" ++ size_line a.size (length (events_in l)) → IfSome told (λ files. AcceptsStaged files l name report)
+    accepts_staged report certifies line = at_told told has
+      where
+        at_told : (t : Option (List NamedFile)) → IfSome t (λ files. HoldsCertificate files name a) → IfSome t (λ files. AcceptsStaged files l name report)
+        at_told None has = tt
+        at_told (Some files) has = record { certificate = a; has_certificate = has; certifies = certifies; is = line }

@@ -1,2 +1,2 @@
-mod StagedLaws
-mod CausesLaws
+pub mod CausesLaws
+pub mod StagedLaws

@@ -35,11 +35,12 @@ use Rattle.xs_trace_text.specs.Given.{GivesTrace}
 use Rattle.xs_trace_text.proofs.FlatNames.{flat_models_named}
 use Rattle.xs_trace_text.proofs.Named.{named_is_printable}
 use Rattle.xs_certificate.specs.Certificate.{Certificate}
-use Rattle.xs_certificate.specs.Accepted.{Subject, IsAccepted as Accepts}
+use Rattle.xs_certificate.specs.Accepted.{Subject, IsAccepted as Accepts, IsObjection}
 use Rattle.xs_certified.specs.Certified.{IsSubjectOf, IsCertified}
 use Rattle.xs_subject.specs.Subject.{subject_of}
 use Rattle.xs_subject.proofs.Subjects.{subjects_right}
 use Rattle.xs_check.specs.Matter.{matter_of, IsAcceptedIn}
+use Rattle.xs_check.specs.Found.{IsObjectionOf}
 use Rattle.xs_check.specs.Fit.{IsFit, IsCheckable}
 use Rattle.xs_woven_tops.specs.Tops.{IsReadAs, IsTopOf}
 use Rattle.xs_woven_tops.proofs.Fits.{tops_fit}
@@ -56,6 +57,8 @@ use Rattle.xs_caused.proofs.NamedLaws.{caused_named, spelled_words}
 use Rattle.xs_caused.proofs.Shown.{accepted_certifies}
 use Rattle.xs_caused.proofs.Answered.{answers_caused}
 use Rattle.xs_run.specs.declared.loaded.LoadedCase.{LoadedCase}
+use Rattle.xs_run.specs.declared.status.Objection.TheVariants as objection
+use Rattle.xs_run.specs.declared.status.Refusal.TheVariants as shared_refusal
 use Rattle.xs_run.specs.Cases.{Case, extension_of}
 use Rattle.xs_run.specs.Loaded.{case_of, IsLoaded}
 use Rattle.xs_run.specs.Searches.{IsSearched}
@@ -63,8 +66,11 @@ use Rattle.xs_run.proofs.Analysable.{model_of_case, case_searchable}
 use Rattle.xs_run.proofs.FlatLimits.{flat_typed}
 use Rattle.xs_run.proofs.ReplayLemmas.{same_counts, loaded_evaluable}
 use Rattle.xs_run.proofs.TopLaws.{have_models}
+use Rattle.xs_reach_status.specs.declared.status.Refusal.{Refusal}
+use Rattle.xs_reach_status.specs.declared.status.Refusal.TheVariants as refusal
 use Rattle.xs_find_causes.specs.declared.staged.StagedEvent.{StagedEvent}
 use Rattle.xs_find_causes.specs.Causes.{modes_in, flat_in, AreCausesOf, causes_in, staged_in, events_in, IsStagedEvent, CertifiesStaged}
+use Rattle.xs_find_causes.specs.Refusals.{BreaksLine, at_line}
 
 -- ---- the names of faults
 
@@ -157,6 +163,16 @@ module _ (l : StagedEvent) (is : IsStagedEvent l) where
       let read : IsReadAs c.program top.flat c.instructions c.flat [] is.event.event.top top.tree tree = record { before = top.resolved; after = is.event.event.is_tree } in
       (tops_fit c.program top.flat c.instructions c.flat (have_models c loaded.is_case is.event.flat is.event.lawful is.event.event.top top) loaded.is_case.within.accepted [] is.event.event.top top.tree tree
       read top.names top.kinds).0
+
+  -- what is told of a certificate is told of it over the staged model
+  pub event_not_accepted : (a : Certificate) (line number : ℕ) (r : Refusal) → r ≡ refusal.Shared (shared_refusal.NotAccepted (objection.Line line number)) →
+      IsObjectionOf (matter_of l.full.model l.typed.model l.events l.loaded.top a) line number → BreaksLine (staged_in l) (events_in l) tree a r
+  event_not_accepted a line number r told bad =
+      at_line line bad.rule (told ∙ ap (λ n. refusal.Shared (shared_refusal.NotAccepted (objection.Line line n))) (sym bad.has_number))
+      (subst
+      (λ whole. IsObjection (List (List Value)) (GivesTrace (staged_in l)) (IsFlatTrace (staged_in l)) (ReachesTop (staged_in l) tree) (HasFailedNumber (staged_in l) (events_in l))
+      (subject_of whole (staged_in l) (events_in l) tree) a line bad.rule)
+      is.staged.full bad.objection)
 
   module _ (small : length (staged_in l).symbols < 2 ^ 31) where
     few_staged : length (with_causes m fs cs).symbols < 2 ^ 31

@@ -1,7 +1,7 @@
 -- What common causes come to: a case with causes in memory, and what its search and its certificates are about.
-use Rattle.std.specs.Prelude.{◌≡◌, ◌++◌, ℕ, List, codes, map, length}
+use Rattle.std.specs.Prelude.{◌≡◌, ◌⊎◌, ◌++◌, ℕ, List, IfSome, codes, map, length}
 use Rattle.xs_desk.specs.declared.files.NamedFile.{NamedFile}
-use Rattle.xs_desk.specs.Desk.{said_more}
+use Rattle.xs_desk.specs.Desk.{said_more, SaysPrefix}
 use Rattle.xs_tree.specs.Tree.{Tree}
 use Rattle.xs_tree.specs.ProgramTree.{Text, Formula, ProgramTree, program_tree}
 use Rattle.xs_tree.specs.Trace.{Each}
@@ -9,6 +9,7 @@ use Rattle.xs_scope.specs.ModelTree.{model_tree, mode_of, flat_tree}
 use Rattle.xs_flattening.specs.Flat.{FlatLeaf, FlatModel}
 use Rattle.xs_flattening.specs.History.{Mode, with_history}
 use Rattle.xs_kinds.specs.Models.{IsTyped}
+use Rattle.xs_weave.specs.Faults.{Fault}
 use Rattle.xs_extend.specs.WovenFaults.{fault_tree}
 use Rattle.xs_trace_text.specs.Laws.{IsNamed}
 use Rattle.xs_certificate.specs.Certificate.{Certificate}
@@ -31,10 +32,10 @@ use Rattle.xs_run.specs.declared.loaded.LoadedCase.{LoadedCase}
 use Rattle.xs_run.specs.declared.status.InputFault.{InputFault as SharedFault}
 use Rattle.xs_run.specs.declared.wrong.Wrong.{Wrong}
 use Rattle.xs_run.specs.declared.wrong.Wrong.TheVariants as wrong
-use Rattle.xs_run.specs.Cases.{Case, HoldsCase, IsTopWord}
+use Rattle.xs_run.specs.Cases.{Case, extension_of, HoldsCase, IsTopWord}
 use Rattle.xs_run.specs.Tasks.{HasAtMost}
 use Rattle.xs_run.specs.Loaded.{case_of, IsLoaded}
-use Rattle.xs_run.specs.Searches.{case_in, IsEvent, IsSearched, HasCertificate, told_maybe}
+use Rattle.xs_run.specs.Searches.{case_in, IsEvent, IsSearched, HasCertificate, told_maybe, WritesPrefixMaybe}
 use Rattle.xs_run.specs.Answered.{Told, Said}
 use Rattle.xs_run.specs.Certificates.{HoldsCertificate}
 use Rattle.xs_reach_status.specs.declared.status.InputFault.{InputFault}
@@ -64,19 +65,30 @@ modes_in case = map mode_of case.limited.faults
 abbrev pub flat_in : LoadedCase → FlatModel
 flat_in case = model_tree case.limited.typed.model
 
+-- its faults, and the woven program
+abbrev pub faults_in : LoadedCase → List Fault
+faults_in case = map fault_tree case.limited.woven.faults
+
+abbrev pub extension_in : LoadedCase → ProgramTree
+extension_in case = program_tree case.limited.woven.program
+
 -- some program has this extension
 abbrev pub IsSomeCase : LoadedCase → Type 0
 IsSomeCase case = (p : ProgramTree) × IsLoaded p case
 
 -- the bytes spell causes that break no rule of the extension, and these are they
 abbrev pub AreCausesOf : LoadedCase → List ℕ → List CommonCause → Type 0
-AreCausesOf case bytes causes = AreRead (map fault_tree case.limited.woven.faults) (program_tree case.limited.woven.program) bytes causes
+AreCausesOf case bytes causes = AreRead (faults_in case) (extension_in case) bytes causes
 
--- the file has these bytes
-pub record HoldsCauses (files : List NamedFile) (name : Text) (case : LoadedCase) (causes : List CommonCause) : Type 0 where
+-- the file has bytes that spell causes which break no rule of these faults of a woven program, and these are they
+pub record HoldsCauses (files : List NamedFile) (name : Text) (faults : List Fault) (w : ProgramTree) (causes : List CommonCause) : Type 0 where
   pub bytes : List ℕ
   pub has : HasAtMost 1048576 files name bytes
-  pub are : AreCausesOf case bytes causes
+  pub are : AreRead faults w bytes causes
+
+-- the file has causes of the case
+abbrev pub HasCauses : List NamedFile → Text → Case → List CommonCause → Type 0
+HasCauses files name c causes = HoldsCauses files name c.faults (extension_of c) causes
 
 -- The model with the causes of what was loaded, which keeps its names apart, and with the history of its events: both are typed.
 pub record IsStagedOf (case : LoadedCase) (causes : List CommonCause) (staged kept : FlatModel) (es : List Mode) : Type 0 where
@@ -111,17 +123,42 @@ pub record CertifiesStaged (l : StagedEvent) (certificate : Certificate) : Type 
   pub is_event : IsTopWord (case_in l.loaded).program l.word.now event
   pub shows : CertifiesCauses (case_in l.loaded).program (case_in l.loaded).instructions (case_in l.loaded).faults event (case_in l.loaded).flat (case_in l.loaded).modes (causes_in l) certificate
 
--- The files hold a case, causes of it and a certificate, and the word spells a top event. The certificate shows its sets of events for
--- all caused traces, and it was said that it is accepted.
-pub record HasCheckedCauses (files : List NamedFile) (model faults causes top cert : Text) (said now : Said) : Type 0 where
-  pub loaded : StagedEvent
-  pub holds : HoldsCase files model faults (case_in loaded.loaded)
-  pub has_causes : HoldsCauses files causes loaded.loaded.case (causes_in loaded)
-  pub is_word : loaded.word.now ≡ top
+-- the file holds a certificate that shows its sets for all caused traces, and this says that it is accepted
+pub record AcceptsStaged (files : List NamedFile) (l : StagedEvent) (name report : Text) : Type 0 where
   pub certificate : Certificate
-  pub has_certificate : HoldsCertificate files cert certificate
-  pub certifies : CertifiesStaged loaded certificate
-  pub reported : now ≡ said_more said (codes "accepted\n" ++ size_line certificate.size (length (events_in loaded)))
+  pub has_certificate : HoldsCertificate files name certificate
+  pub certifies : CertifiesStaged l certificate
+  pub is : report ≡ codes "accepted\n" ++ size_line certificate.size (length (events_in l))
+
+-- the files hold a case and causes of it, the word spells a top event, and these were loaded
+pub record HoldsStaged (files : List NamedFile) (model faults causes top : Text) (l : StagedEvent) : Type 0 where
+  pub holds : HoldsCase files model faults (case_in l.loaded)
+  pub has_causes : HasCauses files causes (case_in l.loaded) (causes_in l)
+  pub is_word : l.word.now ≡ top
+  pub staged : IsStagedEvent l
+
+-- What is to be said of the files of a check: they hold a case, causes of it and a certificate, and the word spells a top event. The
+-- certificate shows its sets of events for all caused traces.
+pub record AcceptsCauses (files : List NamedFile) (model faults causes top cert report : Text) : Type 0 where
+  pub loaded : StagedEvent
+  pub holds : HoldsStaged files model faults causes top loaded
+  pub accepts : AcceptsStaged files loaded cert report
+
+-- so it was said
+pub record HasCheckedCauses (files : List NamedFile) (model faults causes top cert : Text) (said now : Said) : Type 0 where
+  pub report : Text
+  pub accepts : AcceptsCauses files model faults causes top cert report
+  pub reported : now ≡ said_more said report
+
+-- or a part of it
+pub record ChecksCausesInPart (files : List NamedFile) (model faults causes top cert : Text) (said now : Said) : Type 0 where
+  pub report : Text
+  pub accepts : AcceptsCauses files model faults causes top cert report
+  pub in_part : SaysPrefix said now report
+
+-- however a check ended, nothing was said, or that
+abbrev pub LeavesCheck : Text → Text → Text → Text → Text → Told → Said → Said → Type 0
+LeavesCheck model faults causes top cert before said now = (now ≡ said) ⊎ IfSome before (λ files. ChecksCausesInPart files model faults causes top cert said now)
 
 -- What a search of the staged model found: an answer with as many events in a set as there are, which is right for caused traces; its
 -- report; and for a complete one a certificate.
@@ -137,14 +174,32 @@ pub record IsCausesFinding (l : StagedEvent) (depth : ℕ) (f : FoundCauses) : T
       analysis_text (faults_text (map name_of l.events)) (staged_in l) (state_bits (model_tree l.full.model)) (length l.events) analysis.size
       (told_analysis l.typed.model.symbols analysis.sets analysis.traces analysis.first f.ending)
 
--- The files hold a case and causes of it, and the word spells a top event. What was found of them was written and said.
-pub record HasFoundCauses (files : List NamedFile) (model faults causes top cert : Text) (depth : ℕ) (s : Status) (before after : Told) (said now : Said) : Type 0 where
+-- The files hold a case and causes of it, and the word spells a top event: this was found of them.
+pub record FindsCauses (files : List NamedFile) (model faults causes top : Text) (depth : ℕ) (f : FoundCauses) : Type 0 where
   pub loaded : StagedEvent
-  pub holds : HoldsCase files model faults (case_in loaded.loaded)
-  pub has_causes : HoldsCauses files causes loaded.loaded.case (causes_in loaded)
-  pub is_word : loaded.word.now ≡ top
+  pub holds : HoldsStaged files model faults causes top loaded
+  pub finding : IsCausesFinding loaded depth f
+
+-- It was written and said.
+pub record HasFoundCauses (files : List NamedFile) (model faults causes top cert : Text) (depth : ℕ) (s : Status) (before after : Told) (said now : Said) : Type 0 where
   pub found : FoundCauses
-  pub finding : IsCausesFinding loaded depth found
+  pub finds : FindsCauses files model faults causes top depth found
   pub ends : s ≡ ended_with (told_ending found.ending)
   pub written : after ≡ told_maybe before cert found.cert
   pub reported : now ≡ said_more said found.report
+
+-- a part of the certificate was written and nothing said, or the whole, and a part of the report said
+abbrev pub ConcludesInPart : Text → FoundCauses → Told → Told → Said → Said → Type 0
+ConcludesInPart name f before after said now =
+    (WritesPrefixMaybe before after name f.cert × (now ≡ said)) ⊎ ((after ≡ told_maybe before name f.cert) × SaysPrefix said now f.report)
+
+-- so it is of what was found
+pub record FindsCausesInPart (files : List NamedFile) (model faults causes top cert : Text) (depth : ℕ) (before after : Told) (said now : Said) : Type 0 where
+  pub found : FoundCauses
+  pub finds : FindsCauses files model faults causes top depth found
+  pub in_part : ConcludesInPart cert found before after said now
+
+-- and however a run ended, nothing was done, or that stands
+abbrev pub LeavesCauses : Text → Text → Text → Text → Text → ℕ → Told → Told → Said → Said → Type 0
+LeavesCauses model faults causes top cert depth before after said now =
+    ((after ≡ before) × (now ≡ said)) ⊎ IfSome before (λ files. FindsCausesInPart files model faults causes top cert depth before after said now)

@@ -1,5 +1,5 @@
 // Common causes: their minimal cut sets, and certificates of them.
-ghost use Rattle.std.specs.Prelude.{◌≡◌, ◌<◌, ◌≤◌, ◌^◌, ℕ, length, map, IfOk, OnOk, IfSome, IsErrOf};
+ghost use Rattle.std.specs.Prelude.{◌≡◌, ◌<◌, ◌≤◌, ◌^◌, ℕ, length, map, IfOk, OnOk, OnErr, IfSome, IsErrOf};
 ghost use Rattle.xs_desk.specs.Desk.{Rose, said_more};
 ghost use Rattle.xs_desk.specs.declared.desk.WriteStop.TheVariants as write_stop;
 ghost use Rattle.xs_scope.specs.ModelTree.{model_tree, mode_of, flat_tree};
@@ -9,14 +9,15 @@ ghost use Rattle.xs_check.specs.Fit.{IsCheckable};
 ghost use Rattle.xs_cuts.specs.declared.answer.End.TheVariants as ends;
 ghost use Rattle.xs_report.specs.Told.{told_trace};
 ghost use Rattle.xs_run.specs.Analyses.{IsCertificateFor};
-ghost use Rattle.xs_run.specs.Searches.{IsSearched, HasCertificate, told_maybe};
+ghost use Rattle.xs_run.specs.Searches.{IsSearched, HasCertificate, told_maybe, WritesPrefixMaybe};
 ghost use Rattle.xs_reach_status.specs.declared.status.Refusal.{Refusal};
 ghost use Rattle.xs_reach_status.specs.declared.stop.Stop.TheVariants as stop;
 ghost use Rattle.xs_reach_status.specs.Finished.{IsFinished};
 ghost use Rattle.xs_reach_status.specs.Finished.{ended_with};
-ghost use Rattle.xs_find_causes.specs.Causes.{staged_in, events_in, IsStagedEvent, CertifiesStaged, HasCheckedCauses, IsCausesFinding, HasFoundCauses};
+ghost use Rattle.xs_find_causes.specs.Causes.{staged_in, events_in, IsStagedEvent, CertifiesStaged, AcceptsStaged, AcceptsCauses, HasCheckedCauses, LeavesCheck, IsCausesFinding, FindsCauses, HasFoundCauses, ConcludesInPart, LeavesCauses};
+ghost use Rattle.xs_find_causes.specs.Refusals.{RefusesStaged, BreaksLine, RefusesJudged, RefusesCauseCheck};
 
-use crate::staged::{StagedEvent, load_staged};
+use crate::staged::{StagedEvent, discard, load_staged};
 use std::alloc::Global;
 use xs_adviser::Panel;
 use xs_analysis::analyse;
@@ -26,7 +27,7 @@ use xs_check::{Judged, check};
 use xs_cuts::answer::{Analysis, End};
 use xs_cuts_extended::told;
 use xs_desk::{Desk, WriteStop, say_whole, write_whole};
-use xs_reach_status::status::Status;
+use xs_reach_status::status::{Status, ended_as};
 use xs_reach_status::stop::Stop;
 use xs_reach_words::{CheckCauses, FindCauses};
 use xs_report::print_analysis;
@@ -55,20 +56,15 @@ pub fn find_causes<D: Desk>(
 ) -> Result<Status, Stop>
     ensures ok { IfOk result (λ s. IfSome (D.files desk.old) (λ files. HasFoundCauses files asked.now.model.now asked.now.faults.now asked.now.causes.now asked.now.top.now asked.now.cert.now asked.now.depth s (D.files desk.old) (D.files desk.new) (D.said desk.old) (D.said desk.new))) }
     ensures finished { IfOk result IsFinished }
+    ensures refused { (r : Refusal) → IsErrOf result (stop.Refused r) →
+        IfSome (D.files desk.old) (λ files. RefusesStaged files asked.now.model.now asked.now.faults.now asked.now.causes.now asked.now.top.now r) }
     ensures untouched { (r : Refusal) → IsErrOf result (stop.Refused r) → (D.files desk.new ≡ D.files desk.old) × (D.said desk.new ≡ D.said desk.old) }
+    ensures left { LeavesCauses asked.now.model.now asked.now.faults.now asked.now.causes.now asked.now.top.now asked.now.cert.now asked.now.depth (D.files desk.old) (D.files desk.new) (D.said desk.old) (D.said desk.new) }
     ensures failed { IsErrOf result stop.Desk → Rose (D.faults desk.old) (D.faults desk.new) }
     ensures later { D.faults desk.old ≤ D.faults desk.new }
     ensures quiet { D.quiet desk.old → D.quiet desk.new × (D.faults desk.new ≡ D.faults desk.old) }
 {
-    let staged = load_staged(
-        alloc,
-        desk,
-        asked.model,
-        asked.faults,
-        asked.causes,
-        asked.top,
-    )?;
-    let found = search(alloc, &staged, asked.depth, panel)?;
+    let found = prepare_causes(alloc, desk, asked, panel)?;
     let status = conclude(desk, asked.cert, &found)?;
     Ok(status)
 }
@@ -80,9 +76,37 @@ pub fn check_causes<D: Desk>(
     asked: &CheckCauses,
 ) -> Result<Status, Stop>
     ensures ok { IfOk result (λ s. IfSome (D.files desk.old) (λ files. HasCheckedCauses files asked.now.model.now asked.now.faults.now asked.now.causes.now asked.now.top.now asked.now.cert.now (D.said desk.old) (D.said desk.new))) }
+    ensures ends { IfOk result (λ s. s ≡ Status.Done) }
     ensures finished { IfOk result IsFinished }
+    ensures refused { (r : Refusal) → IsErrOf result (stop.Refused r) →
+        IfSome (D.files desk.old) (λ files. RefusesCauseCheck files asked.now.model.now asked.now.faults.now asked.now.causes.now asked.now.top.now asked.now.cert.now r) }
     ensures untouched { (r : Refusal) → IsErrOf result (stop.Refused r) → (D.files desk.new ≡ D.files desk.old) × (D.said desk.new ≡ D.said desk.old) }
+    ensures left { LeavesCheck asked.now.model.now asked.now.faults.now asked.now.causes.now asked.now.top.now asked.now.cert.now (D.files desk.old) (D.said desk.old) (D.said desk.new) }
     ensures failed { IsErrOf result stop.Desk → Rose (D.faults desk.old) (D.faults desk.new) }
+
+    ensures files { D.files desk.new ≡ D.files desk.old }
+    ensures later { D.faults desk.old ≤ D.faults desk.new }
+    ensures quiet { D.quiet desk.old → D.quiet desk.new × (D.faults desk.new ≡ D.faults desk.old) }
+{
+    let report = prepare_check(alloc, desk, asked)?;
+    say_whole(desk, report.as_slice())?;
+    Ok(Status::Done)
+}
+
+/// Reads the three files and the top event, searches, and makes what is to be written and said.
+fn prepare_causes<D: Desk>(
+    alloc: Global,
+    desk: &mut D,
+    asked: &FindCauses,
+    panel: &mut Panel,
+) -> Result<FoundCauses, Stop>
+    ensures ok { IfOk result (λ found. IfSome (D.files desk.old) (λ files. FindsCauses files asked.now.model.now asked.now.faults.now asked.now.causes.now asked.now.top.now asked.now.depth found)) }
+    ensures refused { (r : Refusal) → IsErrOf result (stop.Refused r) →
+        IfSome (D.files desk.old) (λ files. RefusesStaged files asked.now.model.now asked.now.faults.now asked.now.causes.now asked.now.top.now r) }
+    ensures failed { IsErrOf result stop.Desk → Rose (D.faults desk.old) (D.faults desk.new) }
+
+    ensures files { D.files desk.new ≡ D.files desk.old }
+    ensures said { D.said desk.new ≡ D.said desk.old }
     ensures later { D.faults desk.old ≤ D.faults desk.new }
     ensures quiet { D.quiet desk.old → D.quiet desk.new × (D.faults desk.new ≡ D.faults desk.old) }
 {
@@ -94,11 +118,65 @@ pub fn check_causes<D: Desk>(
         asked.causes,
         asked.top,
     )?;
-    let certificate = load_certificate(alloc, desk, asked.cert)?;
-    judge(alloc, &staged, &certificate)?;
+    let found = search(alloc, &staged, asked.depth, panel);
+    discard(staged);
+    match found {
+        Ok(found) => Ok(found),
+        Err(OutOfMemory) => Err(Stop::Memory),
+    }
+}
+
+/// Reads the four files and the top event, and makes what is to be said of the certificate.
+fn prepare_check<D: Desk>(
+    alloc: Global,
+    desk: &mut D,
+    asked: &CheckCauses,
+) -> Result<ByteList, Stop>
+    ensures ok { IfOk result (λ report. IfSome (D.files desk.old) (λ files. AcceptsCauses files asked.now.model.now asked.now.faults.now asked.now.causes.now asked.now.top.now asked.now.cert.now report)) }
+    ensures refused { (r : Refusal) → IsErrOf result (stop.Refused r) →
+        IfSome (D.files desk.old) (λ files. RefusesCauseCheck files asked.now.model.now asked.now.faults.now asked.now.causes.now asked.now.top.now asked.now.cert.now r) }
+    ensures failed { IsErrOf result stop.Desk → Rose (D.faults desk.old) (D.faults desk.new) }
+
+    ensures files { D.files desk.new ≡ D.files desk.old }
+    ensures said { D.said desk.new ≡ D.said desk.old }
+    ensures later { D.faults desk.old ≤ D.faults desk.new }
+    ensures quiet { D.quiet desk.old → D.quiet desk.new × (D.faults desk.new ≡ D.faults desk.old) }
+{
+    let staged = load_staged(
+        alloc,
+        desk,
+        asked.model,
+        asked.faults,
+        asked.causes,
+        asked.top,
+    )?;
+    let report = judge_file(alloc, desk, &staged, asked.cert);
+    discard(staged);
+    report
+}
+
+/// Judges the certificate of a file over the staged model, and makes what is to be said of it.
+fn judge_file<D: Desk>(
+    alloc: Global,
+    desk: &mut D,
+    staged: &StagedEvent,
+    name: &str,
+) -> Result<ByteList, Stop>
+    requires { IsStagedEvent staged.now }
+    ensures ok { IfOk result (λ report. IfSome (D.files desk.old) (λ files. AcceptsStaged files staged.now name.now report)) }
+    ensures refused { (r : Refusal) → IsErrOf result (stop.Refused r) →
+        IfSome (D.files desk.old) (λ files. RefusesJudged files (staged_in staged.now) (events_in staged.now) (flat_tree staged.now.loaded.top) name.now r) }
+    ensures failed { IsErrOf result stop.Desk → Rose (D.faults desk.old) (D.faults desk.new) }
+
+    ensures files { D.files desk.new ≡ D.files desk.old }
+    ensures said { D.said desk.new ≡ D.said desk.old }
+    ensures later { D.faults desk.old ≤ D.faults desk.new }
+    ensures quiet { D.quiet desk.old → D.quiet desk.new × (D.faults desk.new ≡ D.faults desk.old) }
+{
+    let certificate = load_certificate(alloc, desk, name)?;
+    judge(alloc, staged, &certificate)?;
     let report = accepted_report(alloc, certificate.size, staged.events.len())?;
-    say_whole(desk, report.as_slice())?;
-    Ok(Status::Done)
+    Ok(report)
 }
 
 /// Refuses a certificate that breaks a rule. More symbols than numbers of them are want of memory.
@@ -106,6 +184,7 @@ fn judge(alloc: Global, staged: &StagedEvent, certificate: &Certificate) -> Resu
     requires event { IsStagedEvent staged.now }
     requires checkable { IsCheckable (seen certificate.now) }
     ensures ok { OnOk result (CertifiesStaged staged.now (seen certificate.now)) }
+    ensures refused { (r : Refusal) → IsErrOf result (stop.Refused r) → BreaksLine (staged_in staged.now) (events_in staged.now) (flat_tree staged.now.loaded.top) (seen certificate.now) r }
     ensures desk { IsErrOf result stop.Desk → ⊥ }
 {
     if staged.typed.model().symbols.len() >= MOST_SYMBOLS {
@@ -235,18 +314,20 @@ fn conclude<D: Desk>(desk: &mut D, name: &str, found: &FoundCauses) -> Result<St
     ensures ends { IfOk result (λ s. s ≡ ended_with (told_ending found.now.ending)) }
     ensures finished { IfOk result IsFinished }
     ensures ok { OnOk result ((D.files desk.new ≡ told_maybe (D.files desk.old) name.now found.now.cert) × (D.said desk.new ≡ said_more (D.said desk.old) found.now.report)) }
+    ensures part { ConcludesInPart name.now found.now (D.files desk.old) (D.files desk.new) (D.said desk.old) (D.said desk.new) }
     ensures later { D.faults desk.old ≤ D.faults desk.new }
     ensures failed { IsErrOf result write_stop.Failed → Rose (D.faults desk.old) (D.faults desk.new) }
     ensures quiet { D.quiet desk.old → D.quiet desk.new × (D.faults desk.new ≡ D.faults desk.old) }
 {
     write_maybe(desk, name, &found.cert)?;
     say_whole(desk, found.report.as_slice())?;
-    Ok(status_of(found.ending))
+    Ok(ended_as(found.ending))
 }
 
 /// Writes a text where there is one.
 fn write_maybe<D: Desk>(desk: &mut D, name: &str, text: &Option<ByteList>) -> Result<(), WriteStop>
     ensures ok { OnOk result (D.files desk.new ≡ told_maybe (D.files desk.old) name.now text.now) }
+    ensures err { OnErr result (WritesPrefixMaybe (D.files desk.old) (D.files desk.new) name.now text.now) }
     ensures said { D.said desk.new ≡ D.said desk.old }
     ensures later { D.faults desk.old ≤ D.faults desk.new }
     ensures failed { IsErrOf result write_stop.Failed → Rose (D.faults desk.old) (D.faults desk.new) }
@@ -255,16 +336,5 @@ fn write_maybe<D: Desk>(desk: &mut D, name: &str, text: &Option<ByteList>) -> Re
     match text {
         Some(text) => write_whole(desk, name, text.as_slice()),
         None => Ok(()),
-    }
-}
-
-/// The status of a run whose analysis ends so.
-fn status_of(ending: Ending) -> Status
-    ensures ends { result ≡ ended_with (told_ending ending) }
-    ensures finished { IsFinished result }
-{
-    match ending {
-        Ending::Complete => Status::Done,
-        Ending::Bounded(k) => Status::Bounded(k),
     }
 }

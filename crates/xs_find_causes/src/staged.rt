@@ -1,16 +1,21 @@
 // A model, its extension with common causes, and a top event, as the work on them has them in memory.
-ghost use Rattle.std.specs.Prelude.{◌≡◌, ◌≤◌, List, ℕ, length, map, IfOk, IfSome, IsErrOf};
+ghost use Rattle.std.specs.Prelude.{◌≡◌, ◌≤◌, List, ℕ, length, map, IfOk, IfErr, IfSome, IsErrOf};
 ghost use Rattle.xs_desk.specs.Desk.{Rose};
 ghost use Rattle.xs_staging.specs.CauseOf.{cause_of};
 ghost use Rattle.xs_run.specs.Cases.{HoldsCase};
 ghost use Rattle.xs_run.specs.Tasks.{HasAtMost};
+ghost use Rattle.xs_run.specs.Wrongs.{IfRefused};
 ghost use Rattle.xs_run.specs.Searches.{case_in};
+ghost use Rattle.xs_causes_reader.specs.Broken.{rule_of};
+ghost use Rattle.xs_reach_status.specs.declared.status.Refusal.{Refusal};
 ghost use Rattle.xs_reach_status.specs.declared.status.Refusal.TheVariants as refusal;
+ghost use Rattle.xs_reach_status.specs.declared.status.InputFault.{InputFault};
 ghost use Rattle.xs_reach_status.specs.declared.stop.Stop.TheVariants as stop;
-ghost use Rattle.xs_find_causes.specs.Causes.{stop_at_causes, IsSomeCase, AreCausesOf, HoldsCauses, IsStagedCase, IsStagedEvent};
+ghost use Rattle.xs_find_causes.specs.Causes.{stop_at_causes, flat_in, modes_in, faults_in, extension_in, IsSomeCase, AreCausesOf, HoldsCauses, HasCauses, IsStagedCase, IsStagedEvent};
+ghost use Rattle.xs_find_causes.specs.Refusals.{cause_number, stop_of_causes, IsRefusedCausesFile, BreaksStaged, RefusesBytes, RefusesCauses, RefusesStaged};
 
 use std::alloc::Global;
-use xs_causes_reader::{CauseFault, read_causes};
+use xs_causes_reader::{CauseFault, CauseRule, read_causes};
 use xs_desk::{Desk, DeskFault, read_whole};
 use xs_flat::{FaultList, with_history};
 use xs_reach_status::status::{InputFault, Part, Refusal};
@@ -61,9 +66,11 @@ pub(crate) fn load_staged<'a, D: Desk>(
     word: &'a str,
 ) -> Result<StagedEvent<'a>, Stop>
     ensures case { IfOk result (λ l. IfSome (D.files desk.old) (λ files. HoldsCase files model.now faults.now (case_in l.loaded))) }
-    ensures causes { IfOk result (λ l. IfSome (D.files desk.old) (λ files. HoldsCauses files causes.now l.loaded.case (map cause_of l.causes))) }
+    ensures causes { IfOk result (λ l. IfSome (D.files desk.old) (λ files. HasCauses files causes.now (case_in l.loaded) (map cause_of l.causes))) }
     ensures asked { IfOk result (λ l. l.word.now ≡ word.now) }
     ensures staged { IfOk result IsStagedEvent }
+    ensures refused { (r : Refusal) → IsErrOf result (stop.Refused r) →
+        IfSome (D.files desk.old) (λ files. RefusesStaged files model.now faults.now causes.now word.now r) }
     ensures failed { IsErrOf result stop.Desk → Rose (D.faults desk.old) (D.faults desk.new) }
 
     ensures files { D.files desk.new ≡ D.files desk.old }
@@ -91,6 +98,9 @@ pub(crate) fn load_staged<'a, D: Desk>(
     })
 }
 
+/// Lets go of what was loaded.
+pub(crate) fn discard(_staged: StagedEvent<'_>) {}
+
 /// The extension with the causes of a file.
 fn load_causes<D: Desk>(
     alloc: Global,
@@ -99,8 +109,10 @@ fn load_causes<D: Desk>(
     case: &LoadedCase,
 ) -> Result<StagedCase, Stop>
     requires { IsSomeCase case.now }
-    ensures ok { IfOk result (λ l. IfSome (D.files desk.old) (λ files. HoldsCauses files name.now case.now (map cause_of l.causes))) }
+    ensures ok { IfOk result (λ l. IfSome (D.files desk.old) (λ files. HoldsCauses files name.now (faults_in case.now) (extension_in case.now) (map cause_of l.causes))) }
     ensures staged { IfOk result (IsStagedCase case.now) }
+    ensures refused { (r : Refusal) → IsErrOf result (stop.Refused r) →
+        IfSome (D.files desk.old) (λ files. RefusesCauses files name.now (faults_in case.now) (extension_in case.now) (flat_in case.now) (modes_in case.now) r) }
     ensures failed { IsErrOf result stop.Desk → Rose (D.faults desk.old) (D.faults desk.new) }
 
     ensures files { D.files desk.new ≡ D.files desk.old }
@@ -120,6 +132,8 @@ fn load_causes<D: Desk>(
 fn read_causes_file<D: Desk>(alloc: Global, desk: &mut D, name: &str) -> Result<Vec<u8>, Stop>
     ensures bytes { IfOk result (λ bytes. IfSome (D.files desk.old) (λ files. HasAtMost 1048576 files name.now bytes.items)) }
     ensures short { IfOk result (λ bytes. length bytes.items ≤ 1048576) }
+    ensures refused { (r : Refusal) → IsErrOf result (stop.Refused r) →
+        (told : InputFault) × (r ≡ refusal.Causes told) × IfSome (D.files desk.old) (λ files. IsRefusedCausesFile files name.now told) }
     ensures failed { IsErrOf result stop.Desk → Rose (D.faults desk.old) (D.faults desk.new) }
 
     ensures files { D.files desk.new ≡ D.files desk.old }
@@ -141,16 +155,13 @@ fn causes_of(alloc: Global, bytes: &[u8], case: &LoadedCase) -> Result<CauseList
     requires case { IsSomeCase case.now }
     requires short { length bytes.now ≤ 1048576 }
     ensures read { IfOk result (λ causes. AreCausesOf case.now bytes.now (map cause_of causes)) }
+    ensures refused { (r : Refusal) → IsErrOf result (stop.Refused r) → RefusesBytes (faults_in case.now) (extension_in case.now) (flat_in case.now) (modes_in case.now) bytes.now r }
     ensures desk { IsErrOf result stop.Desk → ⊥ }
 {
     let limited = &case.limited;
     match read_causes(alloc, bytes, &limited.faults, &limited.woven.program) {
         Ok(causes) => Ok(causes),
-        Err(CauseFault::Parse(fault)) => Err(causes_stop(Wrong::from(fault))),
-        Err(CauseFault::Broken(rule, number)) => {
-            Err(refused(Part::Cause, rule as u32, u64::from(number)))
-        }
-        Err(CauseFault::OutOfMemory) => Err(Stop::Memory),
+        Err(fault) => Err(fault_stop(fault)),
     }
 }
 
@@ -160,6 +171,7 @@ fn staged_of(alloc: Global, case: &LoadedCase, causes: CauseList) -> Result<Stag
     requires causes { (bytes : List ℕ) × AreCausesOf case.now bytes (map cause_of causes) }
     ensures staged { IfOk result (IsStagedCase case.now) }
     ensures kept { IfOk result (λ l. l.causes ≡ causes) }
+    ensures wrong { IfErr result (IfRefused (BreaksStaged (flat_in case.now) (modes_in case.now) (map cause_of causes))) }
 {
     let limited = &case.limited;
     let staged = with_causes(alloc, limited.typed.model(), &limited.faults, &causes)?;
@@ -172,6 +184,26 @@ fn staged_of(alloc: Global, case: &LoadedCase, causes: CauseList) -> Result<Stag
         full,
         events: staged.events,
     })
+}
+
+/// The end of the work where bytes are no causes.
+fn fault_stop(fault: CauseFault) -> Stop
+    ensures { result ≡ stop_of_causes fault }
+{
+    match fault {
+        CauseFault::Parse(fault) => causes_stop(Wrong::from(fault)),
+        CauseFault::Broken(rule, number) => {
+            refused(Part::Cause, number_of(rule), u64::from(number))
+        }
+        CauseFault::OutOfMemory => Stop::Memory,
+    }
+}
+
+/// The number of a rule of causes.
+fn number_of(rule: CauseRule) -> u32
+    ensures { result ≡ cause_number (rule_of rule) }
+{
+    rule as u32
 }
 
 /// The end of the work where this is wrong with the causes.

@@ -1,14 +1,15 @@
 -- From the parts of the work on bounds to what it comes to.
 use Rattle.std.proofs.Common.{◌≡◌, ℕ, List, Option, Some, None, IfSome, length, refl, sym, subst, ap, ◌∙◌}
 use Rattle.xs_desk.specs.declared.files.NamedFile.{NamedFile}
-use Rattle.xs_desk.specs.Desk.{said_more}
+use Rattle.xs_desk.specs.Desk.{said_more, SaysPrefix}
 use Rattle.xs_tree.specs.ProgramTree.{Text, ProgramTree}
 use Rattle.xs_odds.specs.Marks.{HasProbabilities}
 use Rattle.xs_run.specs.declared.status.Refusal.{Refusal as SharedRefusal}
 use Rattle.xs_run.specs.declared.status.Refusal.TheVariants as shared_refusal
 use Rattle.xs_run.specs.declared.status.InputFault.{InputFault as SharedFault}
 use Rattle.xs_run.specs.Inputs.{RefusesModel, HoldsModel, RefusesFaults}
-use Rattle.xs_run.specs.Cases.{Case, HoldsCase, IsWrongWord}
+use Rattle.xs_run.specs.Cases.{Case, HoldsCase, IsTopWord, IsWrongWord}
+use Rattle.xs_run.specs.Analyses.{IsFound}
 use Rattle.xs_run.specs.Answered.{Said}
 use Rattle.xs_run.specs.Searches.{case_in}
 use Rattle.xs_reach_status.specs.declared.status.Refusal.{Refusal}
@@ -17,7 +18,8 @@ use Rattle.xs_reach_status.specs.declared.status.Status.{Status}
 use Rattle.xs_find_odds.specs.declared.odds.Marked.{Marked}
 use Rattle.xs_find_odds.specs.declared.odds.FoundOdds.{FoundOdds}
 use Rattle.xs_analysis_text.specs.Analysis.{told_ending}
-use Rattle.xs_find_odds.specs.Odds.{RefusesOdds, at_model, at_faults, at_mark, at_top, RefusesMark, IsMarked, IsOddsFinding, ended_with, HasOdds}
+use Rattle.xs_reach_status.specs.Finished.{ended_with}
+use Rattle.xs_find_odds.specs.Odds.{RefusesOdds, at_model, at_faults, at_mark, at_top, RefusesMark, IsMarked, IsOddsFinding, IsOddsAnswer, HasOdds, SaysOddsInPart}
 
 module _ (model faults top : Text) where
   pub odds_no_model : (told : Option (List NamedFile)) (r : Refusal) (s : SharedRefusal) → r ≡ refusal.Shared s → IfSome told (λ files. RefusesModel files model s) →
@@ -43,25 +45,41 @@ module _ (model faults top : Text) where
   odds_no_top None c r s e holds all wrong = tt
   odds_no_top (Some files) c r s e holds all wrong = at_top c wrong.0 (e ∙ ap (λ t. refusal.Shared t) wrong.1) holds all wrong.2
 
-  -- what was found and said of a case that the files hold
+  -- what was found of a case that the files hold
+  answered : (files : List NamedFile) (l : Marked) (depth : ℕ) (f : FoundOdds) → HoldsCase files model faults (case_in l.loaded) → IsMarked l → (l.word.now ≡ top) × (l.depth ≡ depth) →
+      (found : IsOddsFinding (case_in l.loaded) l.word.now l.depth l.odds f) → IsOddsAnswer files model faults top depth found.analysis f.report
+  answered files l depth f holds marked asked found =
+      record {
+        c = case_in l.loaded;
+        holds = holds;
+        all = marked.all;
+        event = found.event;
+        is_event = subst (λ (w : Text). IsTopWord (case_in l.loaded).program w found.event) asked.0 found.is_event;
+        odds = l.odds;
+        are_odds = marked.odds;
+        found = subst (λ (k : ℕ). IsFound (case_in l.loaded) found.event (length (case_in l.loaded).faults) k found.analysis) asked.1 found.found;
+        bounded = found.bounded;
+        reports = found.reported;
+      }
+
+  -- and said
   pub has_odds : (told : Option (List NamedFile)) (l : Marked) (depth : ℕ) (f : FoundOdds) (s : Status) (said now : Said) → IfSome told (λ files. HoldsCase files model faults (case_in l.loaded)) →
       IsMarked l → (l.word.now ≡ top) × (l.depth ≡ depth) → IsOddsFinding (case_in l.loaded) l.word.now l.depth l.odds f → s ≡ ended_with (told_ending f.ending) → now ≡ said_more said f.report →
       IfSome told (λ files. HasOdds files model faults top depth s said now)
   has_odds None l depth f s said now holds marked asked found ends says = tt
   has_odds (Some files) l depth f s said now holds marked asked found ends says =
-      let here : IsOddsFinding (case_in l.loaded) top depth l.odds f =
-      subst (λ (w : Text). IsOddsFinding (case_in l.loaded) w depth l.odds f) asked.0 (subst (λ (k : ℕ). IsOddsFinding (case_in l.loaded) l.word.now k l.odds f) asked.1 found) in
       record {
-        c = case_in l.loaded;
-        holds = holds;
-        all = marked.all;
-        event = here.event;
-        is_event = here.is_event;
-        odds = l.odds;
-        are_odds = marked.odds;
-        analysis = here.analysis;
-        found = here.found;
-        bounded = here.bounded;
-        ends = ends ∙ ap ended_with here.ends;
-        reported = says ∙ ap (λ t. said_more said t) here.reported;
+        analysis = found.analysis;
+        report = f.report;
+        answer = answered files l depth f holds marked asked found;
+        ends = ends ∙ ap ended_with found.ends;
+        reported = says;
       }
+
+  -- or a beginning of it
+  pub odds_in_part : (told : Option (List NamedFile)) (l : Marked) (depth : ℕ) (f : FoundOdds) (said now : Said) → IfSome told (λ files. HoldsCase files model faults (case_in l.loaded)) →
+      IsMarked l → (l.word.now ≡ top) × (l.depth ≡ depth) → IsOddsFinding (case_in l.loaded) l.word.now l.depth l.odds f → SaysPrefix said now f.report →
+      IfSome told (λ files. SaysOddsInPart files model faults top depth said now)
+  odds_in_part None l depth f said now holds marked asked found says = tt
+  odds_in_part (Some files) l depth f said now holds marked asked found says =
+      record { analysis = found.analysis; report = f.report; answer = answered files l depth f holds marked asked found; part = says }

@@ -1,7 +1,7 @@
 -- What bounds on probabilities come to: the refusals, and what is said of an analysis.
 use Rattle.std.specs.Prelude.{◌≡◌, ◌≤◌, ℕ, ◌+◌, ◌*◌, ◌^◌, List, ◌++◌, length, map}
 use Rattle.xs_desk.specs.declared.files.NamedFile.{NamedFile}
-use Rattle.xs_desk.specs.Desk.{said_more}
+use Rattle.xs_desk.specs.Desk.{said_more, SaysPrefix}
 use Rattle.xs_tree.specs.ProgramTree.{Text, Formula, ProgramTree}
 use Rattle.xs_tree.specs.Trace.{Each}
 use Rattle.xs_odds.specs.declared.mode_marks.MarkFault.{MarkFault}
@@ -80,10 +80,10 @@ pub record IsOddsFinding (c : Case) (word : Text) (depth : ℕ) (odds : List ℕ
   pub ends : told_ending f.ending ≡ analysis.ending
   pub reported : f.report ≡ odds_report c odds analysis
 
--- The files hold a case whose modes all have probabilities, and the word spells an event of it. An analysis of it was said that is
--- right with the size of all faults, for all traces or for those of at most as many steps as the depth, with the bounds of its
--- sets by the units of the faults.
-pub record HasOdds (files : List NamedFile) (model faults top : Text) (depth : ℕ) (s : Status) (said now : Said) : Type 0 where
+-- The files hold a case whose modes all have probabilities, and the word spells an event of it. The analysis of it is right with the
+-- size of all faults, for all traces or for those of at most as many steps as the depth, and the report tells it with the bounds of
+-- its sets by the units of the faults.
+pub record IsOddsAnswer (files : List NamedFile) (model faults top : Text) (depth : ℕ) (analysis : Analysis) (report : Text) : Type 0 where
   pub c : Case
   pub holds : HoldsCase files model faults c
   pub all : HasProbabilities c.instructions
@@ -91,8 +91,21 @@ pub record HasOdds (files : List NamedFile) (model faults top : Text) (depth : �
   pub is_event : IsTopWord c.program top event
   pub odds : List ℕ
   pub are_odds : AreOdds c.instructions c.faults odds
-  pub analysis : Analysis
   pub found : IsFound c event (length c.faults) depth analysis
   pub bounded : AreBounded odds analysis.sets
+  pub reports : report ≡ odds_report c odds analysis
+
+-- such an analysis was said
+pub record HasOdds (files : List NamedFile) (model faults top : Text) (depth : ℕ) (s : Status) (said now : Said) : Type 0 where
+  pub analysis : Analysis
+  pub report : Text
+  pub answer : IsOddsAnswer files model faults top depth analysis report
   pub ends : s ≡ ended_with analysis.ending
-  pub reported : now ≡ said_more said (odds_report c odds analysis)
+  pub reported : now ≡ said_more said report
+
+-- a beginning of the report of such an analysis was said
+pub record SaysOddsInPart (files : List NamedFile) (model faults top : Text) (depth : ℕ) (said now : Said) : Type 0 where
+  pub analysis : Analysis
+  pub report : Text
+  pub answer : IsOddsAnswer files model faults top depth analysis report
+  pub part : SaysPrefix said now report

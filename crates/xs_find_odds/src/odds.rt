@@ -1,5 +1,5 @@
 // Bounds on the probabilities of minimal cut sets, by the marks of modes.
-ghost use Rattle.std.specs.Prelude.{◌≡◌, ◌≤◌, ◌<◌, ◌++◌, All, length, map, IfOk, IfSome, IsErrOf};
+ghost use Rattle.std.specs.Prelude.{◌≡◌, ◌≤◌, ◌<◌, ◌++◌, ◌⊎◌, OnErr, All, length, map, IfOk, IfSome, IsErrOf};
 ghost use Rattle.xs_desk.specs.Desk.{Rose};
 ghost use Rattle.xs_tree.specs.ProgramTree.{ProgramTree};
 ghost use Rattle.xs_scope.specs.ModelTree.{model_tree};
@@ -15,8 +15,8 @@ ghost use Rattle.xs_run.specs.Cases.{HoldsCase};
 ghost use Rattle.xs_reach_status.specs.declared.status.Refusal.{Refusal};
 ghost use Rattle.xs_reach_status.specs.declared.stop.Stop.TheVariants as stop;
 ghost use Rattle.xs_reach_status.specs.Reports.{sets_text, ending_line};
-ghost use Rattle.xs_reach.specs.Runs.{IsFinished};
-ghost use Rattle.xs_find_odds.specs.Odds.{mark_rule, mark_refusal, RefusesOdds, RefusesMark, IsMarked, IsOddsFinding, HasOdds};
+ghost use Rattle.xs_reach_status.specs.Finished.{IsFinished};
+ghost use Rattle.xs_find_odds.specs.Odds.{mark_rule, mark_refusal, RefusesOdds, RefusesMark, IsMarked, IsOddsFinding, HasOdds, SaysOddsInPart};
 
 use std::alloc::Global;
 use xs_adviser::Panel;
@@ -64,6 +64,8 @@ pub fn find_odds<D: Desk>(
     ensures refused { (r : Refusal) → IsErrOf result (stop.Refused r) →
         IfSome (D.files desk.old) (λ files. RefusesOdds files asked.now.model.now asked.now.faults.now asked.now.top.now r) }
     ensures silent { (r : Refusal) → IsErrOf result (stop.Refused r) → D.said desk.new ≡ D.said desk.old }
+    ensures left { OnErr result ((D.said desk.new ≡ D.said desk.old) ⊎ IfSome (D.files desk.old) (λ files.
+        SaysOddsInPart files asked.now.model.now asked.now.faults.now asked.now.top.now asked.now.depth (D.said desk.old) (D.said desk.new))) }
     ensures failed { IsErrOf result stop.Desk → Rose (D.faults desk.old) (D.faults desk.new) }
 
     ensures files { D.files desk.new ≡ D.files desk.old }

@@ -1,5 +1,5 @@
 -- What a judged certificate says of a claim.
-use Rattle.std.proofs.Common.{◌≡◌, ℕ, true, IsTrue, List, [], map, Option, Some, None, Result, Ok, Err, IfOk, IfSome, refl, sym, ap, subst, ◌∙◌}
+use Rattle.std.proofs.Common.{◌≡◌, ℕ, true, IsTrue, List, [], map, Option, Some, None, Result, Ok, Err, IfOk, OnOk, IfSome, refl, sym, ap, subst, ◌∙◌}
 use Rattle.std.specs.Prelude.{codes}
 use Rattle.xs_desk.specs.declared.files.NamedFile.{NamedFile}
 use Rattle.xs_desk.specs.Desk.{said_more}
@@ -48,8 +48,8 @@ use Rattle.xs_reach_status.specs.Statuses.{stop_of}
 use Rattle.xs_find_orders.specs.declared.pair.PairWords.{PairWords}
 use Rattle.xs_find_orders.specs.declared.pair.StagedCase.{StagedCase}
 use Rattle.xs_find_orders.specs.Pairs.{IsAsked, IsStagedCase, RefusesPair}
-use Rattle.xs_find_orders.specs.Orders.{IsClaimed, staged_of, against_of, staged_matter, claim_in, RefusesClaim, at_line, IsAcceptedClaim, RefusesCheck, no_pair, no_certificate, not_accepted, HasCheckedOrder}
-use Rattle.xs_find_orders.specs.Claimed.{SpeaksFor}
+use Rattle.xs_find_orders.specs.Orders.{IsClaimed, staged_of, against_of, staged_matter, claim_in, RefusesClaim, at_line, IsAcceptedClaim, RefusesFile, unread, unfit, AcceptsFile, RefusesCheck, no_pair, no_certificate, not_accepted, AcceptsOrder, HasCheckedOrder}
+use Rattle.xs_find_orders.specs.Claimed.{SpeaksFor, staged_in, against_in}
 use Rattle.xs_find_orders.proofs.AskedLaws.{the_faults, are_faults, at_stage, claim_of_class}
 
 -- a line that breaks a rule, as a refusal
@@ -100,71 +100,99 @@ module _ (s : StagedCase) (is : IsStagedCase s) (claim : Option Relation) (a : C
       claim_of_class s is claim (λ n. true) complete (λ trace of. refl)
       (accepted_refute staged_model speaking accepted.own (subject_of staged_model staged_model [] speaking) accepted.is_subject a accepted.certified accepted.no_set)
 
+-- what the file of a certificate comes to
+module _ (cert : Text) (m : FlatModel) (e : Tree FlatLeaf) where
+  pub file_unread : (told : Option (List NamedFile)) (r : Refusal) (t : SharedRefusal) → r ≡ refusal.Shared t → IfSome told (λ files. RefusesCertificate files cert t) →
+      IfSome told (λ files. RefusesFile files cert m e r)
+  file_unread None r t is bad = tt
+  file_unread (Some files) r t is bad = unread t is bad
+
+  pub file_unfit : (told : Option (List NamedFile)) (a : Certificate) (r : Refusal) → IfSome told (λ files. HoldsCertificate files cert a) → RefusesClaim m e a r → IfSome told (λ files. RefusesFile files cert m e r)
+  file_unfit None a r has bad = tt
+  file_unfit (Some files) a r has bad = unfit a has bad
+
+  pub file_accepted : {A E : Type 0} (told : Option (List NamedFile)) (a : Certificate) (done : Result A E) → IfSome told (λ files. HoldsCertificate files cert a) → OnOk done (IsAcceptedClaim m e a) →
+      OnOk done (IfSome told (λ files. AcceptsFile files cert m e))
+  file_accepted None a (Ok x) has accepted = tt
+  file_accepted (Some files) a (Ok x) has accepted = record { certificate = a; has_certificate = has; accepted = accepted }
+  file_accepted told a (Err stop) has accepted = tt
+
 module _ (w : PairWords) (claim cert : Text) where
-  -- no pair, or no certificate
+  -- the pair is refused
   pub check_no_pair : (told : Option (List NamedFile)) (r : Refusal) → IfSome told (λ files. RefusesPair files w.model.now w.faults.now w.top.now (numbers_of w.set.now) w.first w.second r) →
       IfSome told (λ files. RefusesCheck files w.model.now w.faults.now w.top.now (numbers_of w.set.now) w.first w.second claim cert r)
   check_no_pair None r bad = tt
   check_no_pair (Some files) r bad = no_pair bad
 
-  pub check_no_certificate : (told mid : Option (List NamedFile)) (r : Refusal) (t : SharedRefusal) → r ≡ refusal.Shared t → mid ≡ told → IfSome mid (λ files. RefusesCertificate files cert t) →
-      IfSome told (λ files. RefusesCheck files w.model.now w.faults.now w.top.now (numbers_of w.set.now) w.first w.second claim cert r)
-  check_no_certificate told mid r t e same bad = at_told told (subst (λ x. IfSome x (λ files. RefusesCertificate files cert t)) same bad)
-    where
-      at_told : (x : Option (List NamedFile)) → IfSome x (λ files. RefusesCertificate files cert t) →
-          IfSome x (λ files. RefusesCheck files w.model.now w.faults.now w.top.now (numbers_of w.set.now) w.first w.second claim cert r)
-      at_told None bad = tt
-      at_told (Some files) bad = no_certificate t e bad
-
-  module _ (s : StagedCase) (is : IsStagedCase s) (same : s.asked ≡ w) (numbers : s.set.items ≡ numbers_of w.set.now) (a : Certificate) where
+  module _ (s : StagedCase) (is : IsStagedCase s) (same : s.asked ≡ w) (numbers : s.set.items ≡ numbers_of w.set.now) where
     -- what is said of the model and the expression of the case is said of those of the words
-    over_words : (P : FlatModel → Tree FlatLeaf → Type 0) →
-        P (staged_of (case_in s.loaded) s.asked.first s.asked.second) (against_of (case_in s.loaded) s.set.items s.asked.first s.asked.second (flat_tree s.loaded.top) (claim_in claim)) →
+    over_words : (P : FlatModel → Tree FlatLeaf → Type 0) → P (staged_in s) (against_in s (claim_in claim)) →
         P (staged_of (case_in s.loaded) w.first w.second) (against_of (case_in s.loaded) (numbers_of w.set.now) w.first w.second (flat_tree s.loaded.top) (claim_in claim))
     over_words P h =
         subst (λ (x : PairWords). P (staged_of (case_in s.loaded) x.first x.second) (against_of (case_in s.loaded) (numbers_of w.set.now) x.first x.second (flat_tree s.loaded.top) (claim_in claim))) same
         (subst (λ set. P (staged_of (case_in s.loaded) s.asked.first s.asked.second) (against_of (case_in s.loaded) set s.asked.first s.asked.second (flat_tree s.loaded.top) (claim_in claim))) numbers h)
 
-    pub check_not_accepted : (told mid : Option (List NamedFile)) (r : Refusal) → mid ≡ told → IfSome told (λ files. HoldsCase files w.model.now w.faults.now (case_in s.loaded)) → IfSome mid (λ files. HoldsCertificate files cert a) →
-        RefusesClaim (staged_of (case_in s.loaded) s.asked.first s.asked.second) (against_of (case_in s.loaded) s.set.items s.asked.first s.asked.second (flat_tree s.loaded.top) (claim_in claim)) a r →
-        IfSome told (λ files. RefusesCheck files w.model.now w.faults.now w.top.now (numbers_of w.set.now) w.first w.second claim cert r)
-    check_not_accepted told mid r kept holds has bad = at_told told holds (subst (λ x. IfSome x (λ files. HoldsCertificate files cert a)) kept has)
-      where
-        at_told : (x : Option (List NamedFile)) → IfSome x (λ files. HoldsCase files w.model.now w.faults.now (case_in s.loaded)) → IfSome x (λ files. HoldsCertificate files cert a) →
-            IfSome x (λ files. RefusesCheck files w.model.now w.faults.now w.top.now (numbers_of w.set.now) w.first w.second claim cert r)
-        at_told None holds has = tt
-        at_told (Some files) holds has =
-            not_accepted (case_in s.loaded) is.event.event.top (flat_tree s.loaded.top) a holds
-            (subst (λ (x : PairWords). IsTopWord (case_in s.loaded).program x.top.now is.event.event.top) same is.event.event.is_word) is.event.event.is_tree has
-            (over_words (λ m e. RefusesClaim m e a r) bad)
+    abbrev Refuses : List NamedFile → Refusal → Type 0
+    Refuses files r = RefusesCheck files w.model.now w.faults.now w.top.now (numbers_of w.set.now) w.first w.second claim cert r
 
-    pub check_accepted : (told mid : Option (List NamedFile)) (said mid_said now : Said) → mid ≡ told → mid_said ≡ said → IfSome told (λ files. HoldsCase files w.model.now w.faults.now (case_in s.loaded)) →
-        IfSome mid (λ files. HoldsCertificate files cert a) →
-        IsAcceptedClaim (staged_of (case_in s.loaded) s.asked.first s.asked.second) (against_of (case_in s.loaded) s.set.items s.asked.first s.asked.second (flat_tree s.loaded.top) (claim_in claim)) a →
-        now ≡ said_more mid_said (codes "accepted\n") →
-        IfSome told (λ files. HasCheckedOrder files w.model.now w.faults.now w.top.now (numbers_of w.set.now) w.first w.second claim cert status.Done said now)
-    check_accepted told mid said mid_said now kept silent holds has accepted says = at_told told holds (subst (λ x. IfSome x (λ files. HoldsCertificate files cert a)) kept has)
+    file_refused : (files : List NamedFile) (r : Refusal) → HoldsCase files w.model.now w.faults.now (case_in s.loaded) →
+        RefusesFile files cert (staged_of (case_in s.loaded) w.first w.second) (against_of (case_in s.loaded) (numbers_of w.set.now) w.first w.second (flat_tree s.loaded.top) (claim_in claim)) r → Refuses files r
+    file_refused files r holds (unread t told bad) = no_certificate t told bad
+    file_refused files r holds (unfit a has bad) =
+        not_accepted (case_in s.loaded) is.event.event.top (flat_tree s.loaded.top) a holds
+        (subst (λ (x : PairWords). IsTopWord (case_in s.loaded).program x.top.now is.event.event.top) same is.event.event.is_word) is.event.event.is_tree has bad
+
+    -- its file is
+    pub check_refused : (told mid : Option (List NamedFile)) (r : Refusal) → mid ≡ told → IfSome told (λ files. HoldsCase files w.model.now w.faults.now (case_in s.loaded)) →
+        IfSome mid (λ files. RefusesFile files cert (staged_in s) (against_in s (claim_in claim)) r) → IfSome told (λ files. Refuses files r)
+    check_refused told mid r kept holds bad = at_told told holds (subst (λ x. IfSome x (λ files. RefusesFile files cert (staged_in s) (against_in s (claim_in claim)) r)) kept bad)
       where
-        at_told : (x : Option (List NamedFile)) → IfSome x (λ files. HoldsCase files w.model.now w.faults.now (case_in s.loaded)) → IfSome x (λ files. HoldsCertificate files cert a) →
-            IfSome x (λ files. HasCheckedOrder files w.model.now w.faults.now w.top.now (numbers_of w.set.now) w.first w.second claim cert status.Done said now)
-        at_told None holds has = tt
-        at_told (Some files) holds has =
-            subst (λ (x : PairWords). HasCheckedOrder files x.model.now x.faults.now x.top.now (numbers_of w.set.now) x.first x.second claim cert status.Done said now) same
-            (subst (λ set. HasCheckedOrder files s.asked.model.now s.asked.faults.now s.asked.top.now set s.asked.first s.asked.second claim cert status.Done said now) numbers
-            (record {
-              c = case_in s.loaded;
-              holds = subst (λ (x : PairWords). HoldsCase files x.model.now x.faults.now (case_in s.loaded)) (sym same) holds;
-              event = is.event.event.top;
-              is_event = is.event.event.is_word;
-              tree = flat_tree s.loaded.top;
-              is_tree = is.event.event.is_tree;
-              one = (the_faults s is).one;
-              other = (the_faults s is).other;
-              are = are_faults s is;
-              certificate = a;
-              has_certificate = has;
-              accepted = accepted;
-              right = claim_is_so s is (claim_in claim) a accepted;
-              ends = refl;
-              reported = says ∙ ap (λ t. said_more t (codes "accepted\n")) silent;
-            }))
+        at_told : (x : Option (List NamedFile)) → IfSome x (λ files. HoldsCase files w.model.now w.faults.now (case_in s.loaded)) →
+            IfSome x (λ files. RefusesFile files cert (staged_in s) (against_in s (claim_in claim)) r) → IfSome x (λ files. Refuses files r)
+        at_told None holds bad = tt
+        at_told (Some files) holds bad = file_refused files r holds (over_words (λ m e. RefusesFile files cert m e r) bad)
+
+    abbrev Accepts : List NamedFile → Type 0
+    Accepts files = AcceptsOrder files w.model.now w.faults.now w.top.now (numbers_of w.set.now) w.first w.second claim cert
+
+    file_accepts : (files : List NamedFile) → HoldsCase files w.model.now w.faults.now (case_in s.loaded) → AcceptsFile files cert (staged_in s) (against_in s (claim_in claim)) → Accepts files
+    file_accepts files holds accepts =
+        subst (λ (x : PairWords). AcceptsOrder files x.model.now x.faults.now x.top.now (numbers_of w.set.now) x.first x.second claim cert) same
+        (subst (λ set. AcceptsOrder files s.asked.model.now s.asked.faults.now s.asked.top.now set s.asked.first s.asked.second claim cert) numbers
+        (record {
+          c = case_in s.loaded;
+          holds = subst (λ (x : PairWords). HoldsCase files x.model.now x.faults.now (case_in s.loaded)) (sym same) holds;
+          event = is.event.event.top;
+          is_event = is.event.event.is_word;
+          tree = flat_tree s.loaded.top;
+          is_tree = is.event.event.is_tree;
+          one = (the_faults s is).one;
+          other = (the_faults s is).other;
+          are = are_faults s is;
+          accepts = accepts;
+          right = claim_is_so s is (claim_in claim) accepts.certificate accepts.accepted;
+        }))
+
+    -- or it is accepted
+    pub check_accepts : (told mid : Option (List NamedFile)) → mid ≡ told → IfSome told (λ files. HoldsCase files w.model.now w.faults.now (case_in s.loaded)) →
+        IfSome mid (λ files. AcceptsFile files cert (staged_in s) (against_in s (claim_in claim))) → IfSome told Accepts
+    check_accepts told mid kept holds accepts = at_told told holds (subst (λ x. IfSome x (λ files. AcceptsFile files cert (staged_in s) (against_in s (claim_in claim)))) kept accepts)
+      where
+        at_told : (x : Option (List NamedFile)) → IfSome x (λ files. HoldsCase files w.model.now w.faults.now (case_in s.loaded)) →
+            IfSome x (λ files. AcceptsFile files cert (staged_in s) (against_in s (claim_in claim))) → IfSome x Accepts
+        at_told None holds accepts = tt
+        at_told (Some files) holds accepts = file_accepts files holds accepts
+
+-- so it is, where the judgement is done
+pub check_done : {A E : Type 0} (w : PairWords) (claim cert : Text) (s : StagedCase) → IsStagedCase s → s.asked ≡ w → (IsAsked w → s.set.items ≡ numbers_of w.set.now) → (told mid : Option (List NamedFile)) → mid ≡ told →
+    IfSome told (λ files. HoldsCase files w.model.now w.faults.now (case_in s.loaded)) → (done : Result A E) → OnOk done (IfSome mid (λ files. AcceptsFile files cert (staged_in s) (against_in s (claim_in claim)))) →
+    OnOk done (IsAsked w → IfSome told (λ files. AcceptsOrder files w.model.now w.faults.now w.top.now (numbers_of w.set.now) w.first w.second claim cert))
+check_done w claim cert s is same numbers told mid kept holds (Ok x) accepts = λ asked. check_accepts w claim cert s is same (numbers asked) told mid kept holds accepts
+check_done w claim cert s is same numbers told mid kept holds (Err stop) accepts = tt
+
+module _ (model faults top : Text) (set : List ℕ) (first second : ℕ) (claim cert : Text) where
+  -- an accepted claim was said
+  pub check_said : (told : Option (List NamedFile)) (said mid now : Said) → mid ≡ said → IfSome told (λ files. AcceptsOrder files model faults top set first second claim cert) → now ≡ said_more mid (codes "accepted\n") →
+      IfSome told (λ files. HasCheckedOrder files model faults top set first second claim cert status.Done said now)
+  check_said None said mid now silent accepts says = tt
+  check_said (Some files) said mid now silent accepts says = record { accepts = accepts; ends = refl; reported = says ∙ ap (λ t. said_more t (codes "accepted\n")) silent }

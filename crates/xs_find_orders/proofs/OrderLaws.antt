@@ -1,8 +1,8 @@
 -- From the answers of searches to an order of two faults, its certificate and its report.
-use Rattle.std.proofs.Common.{◌≡◌, ℕ, zero, suc, ◌+◌, ◌-◌, ◌<◌, ◌≤◌, ◌↔◌, Bool, true, false, IsTrue, List, [], ◌∷◌, ◌++◌, length, map, take, Option, Some, None, Result, Ok, Err, IfOk, IfSome, refl, sym, ap, subst, ◌∙◌, arith}
+use Rattle.std.proofs.Common.{◌≡◌, ◌⊎◌, inl, inr, ℕ, zero, suc, ◌+◌, ◌-◌, ◌<◌, ◌≤◌, ◌↔◌, Bool, true, false, IsTrue, List, [], ◌∷◌, ◌++◌, length, map, take, Option, Some, None, Result, Ok, Err, IfOk, IfSome, refl, sym, ap, subst, ◌∙◌, arith}
 use Rattle.std.specs.Prelude.{slice_get}
 use Rattle.xs_desk.specs.declared.files.NamedFile.{NamedFile}
-use Rattle.xs_desk.specs.Desk.{told_with, said_more}
+use Rattle.xs_desk.specs.Desk.{told_with, said_more, WritesPrefix, SaysPrefix}
 use Rattle.xs_tree.specs.Tree.{Tree}
 use Rattle.xs_tree.specs.ProgramTree.{Text, Formula, program_tree}
 use Rattle.xs_tree.specs.Values.{Value}
@@ -39,25 +39,40 @@ use Rattle.xs_reporting.specs.ExtendedTraces.{Ending, complete, bounded}
 use Rattle.xs_run.specs.Analyses.{IsCertificateFor}
 use Rattle.xs_run.specs.Cases.{Case, HoldsCase}
 use Rattle.xs_run.specs.Answered.{Told, Said}
-use Rattle.xs_run.specs.Searches.{case_in, told_maybe}
+use Rattle.xs_run.specs.Searches.{case_in, told_maybe, WritesPrefixMaybe}
 use Rattle.xs_reach_status.specs.declared.status.Status.{Status}
+use Rattle.xs_reach_status.specs.Finished.{ended_with}
 use Rattle.xs_find_orders.specs.declared.pair.PairWords.{PairWords}
 use Rattle.xs_find_orders.specs.declared.pair.StagedCase.{StagedCase}
 use Rattle.xs_find_orders.specs.declared.searched.Searched.{Searched}
 use Rattle.xs_find_orders.specs.declared.orders.Conclusion.{Conclusion}
 use Rattle.xs_reach_words.specs.Sets.{numbers_of}
 use Rattle.xs_find_orders.specs.Pairs.{IsAsked, IsStagedCase}
-use Rattle.xs_find_orders.specs.Orders.{Order, claimed, either, IsClaimed, IsShown, IsOrder, EndsOrder, CertifiesClaim, IsClaimWritten, order_text, staged_of, against_of, ended_by, HasOrder}
-use Rattle.xs_find_orders.specs.Claimed.{SpeaksFor, IsAnswerAlone, IsSearchOf, IsTraceAgainst, IsToldBy, IsCertifiedOrder, HasClaimCertificate, IsConclusion, relation_in}
+use Rattle.xs_find_orders.specs.Orders.{Order, claimed, either, IsClaimed, IsShown, IsOrder, EndsOrder, CertifiesClaim, IsClaimWritten, IsClaimBegun, order_text, order_report, staged_of, against_of, HasOrder, OrdersInPart}
+use Rattle.xs_find_orders.specs.Claimed.{SpeaksFor, IsAnswerAlone, IsSearchOf, IsTraceAgainst, IsToldBy, IsCertifiedOrder, HasClaimCertificate, Concludes, IsConclusion, ConcludesFrom, ConcludesInPart, relation_in}
 use Rattle.xs_find_orders.proofs.StagedCases.{empty_sets, no_sets}
 use Rattle.xs_find_orders.proofs.AskedLaws.{the_faults, are_faults, at_stage, claim_of_class, of_class}
 use Rattle.xs_find_orders.proofs.ShownLaws.{shown_such, traces_differ}
 
 -- ---- what is written and said
 
-module _ (files : List NamedFile) (s : StagedCase) (depth : ℕ) (cert : Text) (k : Conclusion) (st : Status) (before after : Told) (said now : Said) where
-  written_of : (order : Order) (ending : Ending) (o : Option (List ℕ)) → IsCertifiedOrder s order ending o → after ≡ told_maybe before cert o →
-      IsClaimWritten (case_in s.loaded) s.set.items s.asked.first s.asked.second (flat_tree s.loaded.top) order ending cert before after
+-- what was concluded of a staged case, over the words
+pub concludes_from : (told : Option (List NamedFile)) (s : StagedCase) (w : PairWords) (depth : ℕ) (k : Conclusion) → IfSome told (λ files. HoldsCase files w.model.now w.faults.now (case_in s.loaded)) → s.asked ≡ w →
+    (IsAsked w → s.set.items ≡ numbers_of w.set.now) → IsConclusion s depth k → IsAsked w →
+    IfSome told (λ files. ConcludesFrom files w.model.now w.faults.now w.top.now (numbers_of w.set.now) w.first w.second depth k)
+concludes_from None s w depth k holds same numbers is asked = tt
+concludes_from (Some files) s w depth k holds same numbers is asked =
+    record {
+      c = case_in s.loaded;
+      holds = holds;
+      is =
+          subst (λ (x : PairWords). Concludes (case_in s.loaded) x.top.now (numbers_of w.set.now) x.first x.second depth k) same
+          (subst (λ set. Concludes (case_in s.loaded) s.asked.top.now set s.asked.first s.asked.second depth k) (numbers asked) is);
+    }
+
+module _ (c : Case) (set : List ℕ) (first second : ℕ) (tree : Tree FlatLeaf) (cert : Text) (before after : Told) where
+  written_of : (order : Order) (ending : Ending) (o : Option (List ℕ)) → IsCertifiedOrder c set first second tree order ending o → after ≡ told_maybe before cert o →
+      IsClaimWritten c set first second tree order ending cert before after
   written_of (claimed claim) complete None h is = absurd h
   written_of (claimed claim) complete (Some bytes) h is = (bytes, h, is)
   written_of (claimed claim) (bounded n) None h is = is
@@ -67,39 +82,61 @@ module _ (files : List NamedFile) (s : StagedCase) (depth : ℕ) (cert : Text) (
   written_of (either values others) (bounded n) None h is = is
   written_of (either values others) (bounded n) (Some bytes) h is = absurd h
 
-  order_of_case : HoldsCase files s.asked.model.now s.asked.faults.now (case_in s.loaded) → IsConclusion s depth k → st ≡ ended_by (told_ending k.ending) → after ≡ told_maybe before cert k.cert →
-      now ≡ said_more said k.report →
-      HasOrder files s.asked.model.now s.asked.faults.now s.asked.top.now s.set.items s.asked.first s.asked.second depth cert st before after said now
-  order_of_case holds found ends written says =
+  begun_of : (order : Order) (ending : Ending) (o : Option (List ℕ)) → IsCertifiedOrder c set first second tree order ending o → WritesPrefixMaybe before after cert o →
+      IsClaimBegun c set first second tree order ending cert before after
+  begun_of (claimed claim) complete None h is = absurd h
+  begun_of (claimed claim) complete (Some bytes) h is = (bytes, h, is)
+  begun_of (claimed claim) (bounded n) None h is = is
+  begun_of (claimed claim) (bounded n) (Some bytes) h is = absurd h
+  begun_of (either values others) complete None h is = is
+  begun_of (either values others) complete (Some bytes) h is = absurd h
+  begun_of (either values others) (bounded n) None h is = is
+  begun_of (either values others) (bounded n) (Some bytes) h is = absurd h
+
+module _ (model faults top : Text) (set : List ℕ) (first second depth : ℕ) (cert : Text) (k : Conclusion) (before mid after : Told) (said mid_said now : Said) (kept : mid ≡ before) (silent : mid_said ≡ said) where
+  -- all of it
+  pub has_order : (told : Option (List NamedFile)) (st : Status) → IfSome told (λ files. ConcludesFrom files model faults top set first second depth k) → st ≡ ended_with (told_ending k.ending) →
+      after ≡ told_maybe mid cert k.cert → now ≡ said_more mid_said k.report → IfSome told (λ files. HasOrder files model faults top set first second depth cert st before after said now)
+  has_order None st from ends written says = tt
+  has_order (Some files) st from ends written says =
+      let found = from.is.found in
       record {
-        c = case_in s.loaded;
-        holds = holds;
-        event = found.event;
-        is_event = found.is_event;
-        tree = flat_tree s.loaded.top;
-        is_tree = found.is_tree;
-        one = found.one;
-        other = found.other;
-        are = found.are;
-        order = found.order;
-        ending = found.ending;
-        right = found.right;
-        ends_by = found.ends_by;
-        ends = ends ∙ ap ended_by found.ends;
-        written = written_of found.order found.ending k.cert found.certified written;
-        reported = says ∙ ap (λ t. said_more said t) found.reported;
+        c = from.c;
+        holds = from.holds;
+        found = found;
+        ends = ends ∙ ap ended_with from.is.ends;
+        written = written_of from.c set first second found.tree cert before after found.order found.ending k.cert from.is.certified (written ∙ ap (λ t. told_maybe t cert k.cert) kept);
+        reported = says ∙ ap (λ t. said_more t k.report) silent ∙ ap (λ t. said_more said t) from.is.reported;
       }
 
-pub has_order : (told : Option (List NamedFile)) (s : StagedCase) (w : PairWords) (depth : ℕ) (cert : Text) (k : Conclusion) (st : Status) (before mid after : Told) (said mid_said now : Said) →
-    IfSome told (λ files. HoldsCase files w.model.now w.faults.now (case_in s.loaded)) → s.asked ≡ w → (IsAsked w → s.set.items ≡ numbers_of w.set.now) → IsConclusion s depth k → st ≡ ended_by (told_ending k.ending) →
-    mid ≡ before → mid_said ≡ said → after ≡ told_maybe mid cert k.cert → now ≡ said_more mid_said k.report → IsAsked w →
-    IfSome told (λ files. HasOrder files w.model.now w.faults.now w.top.now (numbers_of w.set.now) w.first w.second depth cert st before after said now)
-has_order None s w depth cert k st before mid after said mid_said now holds same numbers found ends kept silent written says asked = tt
-has_order (Some files) s w depth cert k st before mid after said mid_said now holds same numbers found ends kept silent written says asked =
-    subst (λ (x : PairWords). HasOrder files x.model.now x.faults.now x.top.now (numbers_of w.set.now) x.first x.second depth cert st before after said now) same
-    (subst (λ set. HasOrder files s.asked.model.now s.asked.faults.now s.asked.top.now set s.asked.first s.asked.second depth cert st before after said now) (numbers asked)
-    (order_of_case files s depth cert k st before after said now (subst (λ (x : PairWords). HoldsCase files x.model.now x.faults.now (case_in s.loaded)) (sym same) holds) found ends
-    (written ∙ ap (λ t. told_maybe t cert k.cert) kept) (says ∙ ap (λ t. said_more t k.report) silent)))
+  part_of : (files : List NamedFile) → ConcludesFrom files model faults top set first second depth k → ConcludesInPart cert k mid after mid_said now →
+      OrdersInPart files model faults top set first second depth cert before after said now
+  part_of files from (inl part) =
+      let found = from.is.found in
+      record {
+        c = from.c;
+        holds = from.holds;
+        found = found;
+        part = inl
+            (begun_of from.c set first second found.tree cert before after found.order found.ending k.cert from.is.certified (subst (λ t. WritesPrefixMaybe t after cert k.cert) kept part.0), part.1 ∙ silent);
+      }
+  part_of files from (inr part) =
+      let found = from.is.found in
+      record {
+        c = from.c;
+        holds = from.holds;
+        found = found;
+        part = inr (
+          written_of from.c set first second found.tree cert before after found.order found.ending k.cert from.is.certified (part.0 ∙ ap (λ t. told_maybe t cert k.cert) kept),
+          subst (λ t. SaysPrefix said now t) from.is.reported (subst (λ t. SaysPrefix t now k.report) silent part.1),
+        );
+      }
+
+  -- and a part
+  pub orders_in_part : (told : Option (List NamedFile)) → IfSome told (λ files. ConcludesFrom files model faults top set first second depth k) → ConcludesInPart cert k mid after mid_said now →
+      IfSome told (λ files. OrdersInPart files model faults top set first second depth cert before after said now)
+  orders_in_part None from part = tt
+  orders_in_part (Some files) from part = part_of files from part
 
 -- ---- a claim without a trace against it
 
@@ -142,7 +179,8 @@ module _ (s : StagedCase) (is : IsStagedCase s) (claim : Option Relation) (depth
       by (Some relation) h = let one = shown_such s is h.0 h.1 in (one.0.trace, one.0.such)
 
   -- the certificate of a complete claim
-  certified_order : (end : End) (o : Option (List ℕ)) → HasClaimCertificate s claim end o → IsCertifiedOrder s (claimed claim) (ending_of end) o
+  certified_order : (end : End) (o : Option (List ℕ)) → HasClaimCertificate s claim end o →
+      IsCertifiedOrder (case_in s.loaded) s.set.items s.asked.first s.asked.second (flat_tree s.loaded.top) (claimed claim) (ending_of end) o
   certified_order (Complete clauses) None h = absurd h
   certified_order (Complete clauses) (Some bytes) h = h
   certified_order (Bounded k) None h = tt
@@ -153,16 +191,19 @@ module _ (s : StagedCase) (is : IsStagedCase s) (claim : Option Relation) (depth
       report ≡ order_text (case_in s.loaded).flat s.asked.first s.asked.second (claimed claim) (told_ending ending) bits → IsConclusion s depth (record { cert = cert; report = report; ending = ending })
   claim_concluded cert report ending bits told has ends counted says =
       record {
-        event = is.event.event.top;
-        is_event = is.event.event.is_word;
-        is_tree = is.event.event.is_tree;
-        one = (the_faults s is).one;
-        other = (the_faults s is).other;
-        are = are_faults s is;
-        order = claimed claim;
-        ending = ending_of r.analysis.end;
-        right = (claim_holds, claim_shown told);
-        ends_by = claim_ends;
+        found = record {
+          event = is.event.event.top;
+          is_event = is.event.event.is_word;
+          tree = flat_tree s.loaded.top;
+          is_tree = is.event.event.is_tree;
+          one = (the_faults s is).one;
+          other = (the_faults s is).other;
+          are = are_faults s is;
+          order = claimed claim;
+          ending = ending_of r.analysis.end;
+          right = (claim_holds, claim_shown told);
+          ends_by = claim_ends;
+        };
         ends = ends;
         certified = certified_order r.analysis.end cert has;
         reported =
@@ -174,22 +215,24 @@ module _ (s : StagedCase) (is : IsStagedCase s) (claim : Option Relation) (depth
 
 pub either_concluded : (s : StagedCase) → IsStagedCase s → (n : ℕ) → n ≡ length s.loaded.case.limited.typed.model.variables → (one other : List (List Numbered)) → IsTraceAgainst s None one →
     IsTraceAgainst s (Some (relation_in one)) other → (depth : ℕ) (report : Text) →
-    report ≡ order_text (case_in s.loaded).flat s.asked.first s.asked.second
-    (either (told_trace s.loaded.case.limited.typed.model.symbols (map (take n) one)) (told_trace s.loaded.case.limited.typed.model.symbols (map (take n) other))) complete
-    (state_bits (staged_of (case_in s.loaded) s.asked.first s.asked.second)) →
+    report ≡ order_report (case_in s.loaded) s.asked.first s.asked.second
+    (either (told_trace s.loaded.case.limited.typed.model.symbols (map (take n) one)) (told_trace s.loaded.case.limited.typed.model.symbols (map (take n) other))) complete →
     IsConclusion s depth (record { cert = None; report = report; ending = printed.Complete })
 either_concluded s is n counted one other h g depth report says =
     record {
-      event = is.event.event.top;
-      is_event = is.event.event.is_word;
-      is_tree = is.event.event.is_tree;
-      one = (the_faults s is).one;
-      other = (the_faults s is).other;
-      are = are_faults s is;
-      order = either (told_trace s.loaded.case.limited.typed.model.symbols (map (take n) one)) (told_trace s.loaded.case.limited.typed.model.symbols (map (take n) other));
-      ending = complete;
-      right = traces_differ s is n counted one other h g;
-      ends_by = tt;
+      found = record {
+        event = is.event.event.top;
+        is_event = is.event.event.is_word;
+        tree = flat_tree s.loaded.top;
+        is_tree = is.event.event.is_tree;
+        one = (the_faults s is).one;
+        other = (the_faults s is).other;
+        are = are_faults s is;
+        order = either (told_trace s.loaded.case.limited.typed.model.symbols (map (take n) one)) (told_trace s.loaded.case.limited.typed.model.symbols (map (take n) other));
+        ending = complete;
+        right = traces_differ s is n counted one other h g;
+        ends_by = tt;
+      };
       ends = refl;
       certified = tt;
       reported = says;

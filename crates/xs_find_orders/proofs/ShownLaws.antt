@@ -98,11 +98,14 @@ taken symbols n (v ∷ vs) = both (map_take (value_of symbols) n v) (taken symbo
     both : {x y : List Value} {xs ys : List (List Value)} → x ≡ y → xs ≡ ys → (x ∷ xs) ≡ (y ∷ ys)
     both e g = cc
 
+one_of : (a b : List (List Value)) → (a ∷ []) ≡ (b ∷ []) → a ≡ b
+one_of a b e = cc
+
 same_told : (symbols : List Text) (trace : List (List Numbered)) → told_trace symbols trace ≡ trace_of symbols trace
 same_told symbols trace =
     let a : Analysis = record { sets = []; traces = trace ∷ []; first = true; end = Complete []; size = 0 } in
     let shown : told_traces symbols (trace ∷ []) ≡ trace_of symbols trace ∷ [] = ap (λ (x : Told). x.shown) (answers_printed symbols a printed.Complete refl) in
-    cc
+    one_of (told_trace symbols trace) (trace_of symbols trace) shown
 
 -- the staged model has the symbols of the case
 staged_symbols : (m : FlatModel) (fs : List Mode) (i j : ℕ) → (stage m fs i j).symbols ≡ m.symbols

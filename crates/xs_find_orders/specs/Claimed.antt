@@ -1,15 +1,15 @@
 -- A search over a staged model for a trace that speaks against a claim, and what is concluded of it.
-use Rattle.std.specs.Prelude.{◌≡◌, ℕ, ◌-◌, ◌<◌, ◌≤◌, ◌^◌, List, [], ◌∷◌, Option, Some, None, Bool, false, length, map, take, slice_get}
+use Rattle.std.specs.Prelude.{◌≡◌, ◌⊎◌, ℕ, ◌-◌, ◌<◌, ◌≤◌, ◌^◌, List, [], ◌∷◌, Option, Some, None, Bool, false, length, map, take, slice_get}
+use Rattle.xs_desk.specs.declared.files.NamedFile.{NamedFile}
+use Rattle.xs_desk.specs.Desk.{SaysPrefix}
 use Rattle.xs_tree.specs.Tree.{Tree}
-use Rattle.xs_tree.specs.ProgramTree.{Formula}
+use Rattle.xs_tree.specs.ProgramTree.{Text}
 use Rattle.xs_value.specs.declared.value.Value.{Value as Numbered}
 use Rattle.xs_value.specs.declared.value.Value.TheVariants.{Bool as ABool, Num, Sym}
 use Rattle.xs_scope.specs.ModelTree.{model_tree, flat_tree}
 use Rattle.xs_flattening.specs.Flat.{FlatLeaf, FlatModel}
 use Rattle.xs_flattening.specs.FlatTrace.{IsFlatTrace}
 use Rattle.xs_flattening.specs.History.{with_history}
-use Rattle.xs_kinds.specs.Costs.{state_bits}
-use Rattle.xs_weave.specs.Faults.{Fault}
 use Rattle.xs_encoding.specs.Bits.{state_of, inputs_of}
 use Rattle.xs_encoding.specs.Lists.{system_of}
 use Rattle.xs_encoded.specs.FlatTraces.{ReachesTop}
@@ -25,13 +25,13 @@ use Rattle.xs_orders.specs.declared.Relation.TheVariants.{Together}
 use Rattle.xs_orders.specs.Stage.{against}
 use Rattle.xs_orders.specs.Told.{told_relation}
 use Rattle.xs_reporting.specs.ExtendedTraces.{Ending, complete, bounded}
-use Rattle.xs_run.specs.Searches.{case_in}
-use Rattle.xs_run.specs.Cases.{IsTopWord}
-use Rattle.xs_run.specs.Tasks.{IsTopTree}
+use Rattle.xs_run.specs.Cases.{Case, HoldsCase}
+use Rattle.xs_run.specs.Answered.{Told, Said}
+use Rattle.xs_run.specs.Searches.{case_in, told_maybe, WritesPrefixMaybe}
 use Rattle.xs_find_orders.specs.declared.pair.StagedCase.{StagedCase}
 use Rattle.xs_find_orders.specs.declared.searched.Searched.{Searched}
 use Rattle.xs_find_orders.specs.declared.orders.Conclusion.{Conclusion}
-use Rattle.xs_find_orders.specs.Orders.{Order, claimed, either, AreFaults, IsOrder, EndsOrder, CertifiesClaim, order_text, staged_of}
+use Rattle.xs_find_orders.specs.Orders.{Order, claimed, either, CertifiesClaim, FoundOrder, order_report, staged_of, against_of}
 
 -- there are as few symbols as a search can number, and no more faults than a weave takes
 pub record HasFew (s : StagedCase) : Type 0 where
@@ -83,13 +83,19 @@ abbrev pub IsToldBy : StagedCase → Option Relation → Type 0
 IsToldBy s None = Unit {0}
 IsToldBy s (Some r) = (trace : List (List Numbered)) × IsTraceAgainst s None trace × (relation_in trace ≡ r)
 
+-- the model of a case staged for its two faults, and what speaks against a claim there
+abbrev pub staged_in : StagedCase → FlatModel
+staged_in s = staged_of (case_in s.loaded) s.asked.first s.asked.second
+
+abbrev pub against_in : StagedCase → Option Relation → Tree FlatLeaf
+against_in s claim = against_of (case_in s.loaded) s.set.items s.asked.first s.asked.second (flat_tree s.loaded.top) claim
+
 -- the certificate of a complete claim, and else none
-abbrev pub IsCertifiedOrder : StagedCase → Order → Ending → Option (List ℕ) → Type 0
-IsCertifiedOrder s (claimed claim) complete (Some bytes) =
-    CertifiesClaim (case_in s.loaded) s.set.items s.asked.first s.asked.second (flat_tree s.loaded.top) claim bytes
-IsCertifiedOrder s (claimed claim) (bounded k) None = Unit {0}
-IsCertifiedOrder s (either values others) ending None = Unit {0}
-IsCertifiedOrder s _ _ _ = ⊥
+abbrev pub IsCertifiedOrder : Case → List ℕ → ℕ → ℕ → Tree FlatLeaf → Order → Ending → Option (List ℕ) → Type 0
+IsCertifiedOrder c set first second tree (claimed claim) complete (Some bytes) = CertifiesClaim c set first second tree claim bytes
+IsCertifiedOrder c set first second tree (claimed claim) (bounded k) None = Unit {0}
+IsCertifiedOrder c set first second tree (either values others) ending None = Unit {0}
+IsCertifiedOrder c set first second tree _ _ _ = ⊥
 
 -- a complete search without a trace has a certificate of the claim, and a bounded one none
 abbrev pub HasClaimCertificate : StagedCase → Option Relation → End → Option (List ℕ) → Type 0
@@ -98,18 +104,23 @@ HasClaimCertificate s claim (Complete clauses) (Some bytes) =
 HasClaimCertificate s claim (Bounded k) None = Unit {0}
 HasClaimCertificate s claim _ _ = ⊥
 
--- What was found of the two faults of an event: an order that is so, its ending and its report, and for a complete claim a certificate.
-pub record IsConclusion (s : StagedCase) (depth : ℕ) (k : Conclusion) : Type 0 where
-  pub event : Formula
-  pub is_event : IsTopWord (case_in s.loaded).program s.asked.top.now event
-  pub is_tree : IsTopTree (case_in s.loaded) event (flat_tree s.loaded.top)
-  pub one : Fault
-  pub other : Fault
-  pub are : AreFaults (case_in s.loaded) s.asked.first s.asked.second one other
-  pub order : Order
-  pub ending : Ending
-  pub right : IsOrder (case_in s.loaded) event s.set.items one other ending order
-  pub ends_by : EndsOrder (case_in s.loaded) s.set.items s.asked.first s.asked.second (flat_tree s.loaded.top) depth order ending
-  pub ends : told_ending k.ending ≡ ending
-  pub certified : IsCertifiedOrder s order ending k.cert
-  pub reported : k.report ≡ order_text (case_in s.loaded).flat s.asked.first s.asked.second order ending (state_bits (staged_of (case_in s.loaded) s.asked.first s.asked.second))
+-- What was found of the two faults: an order that is so, its ending and its report, and for a complete claim a certificate.
+pub record Concludes (c : Case) (top : Text) (set : List ℕ) (first second depth : ℕ) (k : Conclusion) : Type 0 where
+  pub found : FoundOrder c top set first second depth
+  pub ends : told_ending k.ending ≡ found.ending
+  pub certified : IsCertifiedOrder c set first second found.tree found.order found.ending k.cert
+  pub reported : k.report ≡ order_report c first second found.order found.ending
+
+abbrev pub IsConclusion : StagedCase → ℕ → Conclusion → Type 0
+IsConclusion s depth k = Concludes (case_in s.loaded) s.asked.top.now s.set.items s.asked.first s.asked.second depth k
+
+-- the files hold a case of which this is concluded
+pub record ConcludesFrom (files : List NamedFile) (model faults top : Text) (set : List ℕ) (first second depth : ℕ) (k : Conclusion) : Type 0 where
+  pub c : Case
+  pub holds : HoldsCase files model faults c
+  pub is : Concludes c top set first second depth k
+
+-- a part of the certificate was written and nothing said, or the whole, and a part of the report said
+abbrev pub ConcludesInPart : Text → Conclusion → Told → Told → Said → Said → Type 0
+ConcludesInPart name k before after said now =
+    (WritesPrefixMaybe before after name k.cert × (now ≡ said)) ⊎ ((after ≡ told_maybe before name k.cert) × SaysPrefix said now k.report)

@@ -1,9 +1,9 @@
 -- What orders of two faults come to: what is said of them, what that means, and what an accepted claim means.
-use Rattle.std.specs.Prelude.{◌≡◌, ℕ, ◌+◌, ◌-◌, ◌≤◌, List, [], ◌++◌, Option, Some, None, codes, length, slice_get, if◌then◌else◌}
+use Rattle.std.specs.Prelude.{◌≡◌, ◌⊎◌, ℕ, ◌+◌, ◌-◌, ◌≤◌, List, [], ◌++◌, Option, Some, None, codes, length, slice_get, if◌then◌else◌}
 use Rattle.std.specs.Fmt.{decimal}
 use Rattle.std.specs.Str.{bytes_eq}
 use Rattle.xs_desk.specs.declared.files.NamedFile.{NamedFile}
-use Rattle.xs_desk.specs.Desk.{told_with, said_more}
+use Rattle.xs_desk.specs.Desk.{told_with, said_more, WritesPrefix, SaysPrefix}
 use Rattle.xs_tree.specs.Tree.{Tree}
 use Rattle.xs_tree.specs.ProgramTree.{Text, Formula}
 use Rattle.xs_tree.specs.Values.{Value}
@@ -42,6 +42,7 @@ use Rattle.xs_reach_status.specs.declared.status.Refusal.{Refusal}
 use Rattle.xs_reach_status.specs.declared.status.Refusal.TheVariants as refusal
 use Rattle.xs_reach_status.specs.declared.status.Status.{Status}
 use Rattle.xs_reach_status.specs.declared.status.Status.TheVariants as status
+use Rattle.xs_reach_status.specs.Finished.{ended_with}
 use Rattle.xs_find_orders.specs.Pairs.{RefusesPair}
 
 -- What is found of the order of two faults: that no trace reaches the event with exactly the set, or that each has a relation; or two
@@ -121,6 +122,11 @@ abbrev pub IsClaimWritten : Case → List ℕ → ℕ → ℕ → Tree FlatLeaf 
 IsClaimWritten c set first second tree (claimed claim) complete cert before after = (bytes : List ℕ) × CertifiesClaim c set first second tree claim bytes × (after ≡ told_with before cert bytes)
 IsClaimWritten c set first second tree _ _ cert before after = after ≡ before
 
+-- a part of it was
+abbrev pub IsClaimBegun : Case → List ℕ → ℕ → ℕ → Tree FlatLeaf → Order → Ending → Text → Told → Told → Type 0
+IsClaimBegun c set first second tree (claimed claim) complete cert before after = (bytes : List ℕ) × CertifiesClaim c set first second tree claim bytes × WritesPrefix before after cert bytes
+IsClaimBegun c set first second tree _ _ cert before after = after ≡ before
+
 -- ---- the line that is said
 
 abbrev pub claim_word : Option Relation → Text
@@ -147,16 +153,13 @@ abbrev pub order_text : FlatModel → ℕ → ℕ → Order → Ending → ℕ �
 order_text m first second order ending bits =
     codes "pair " ++ (decimal first ++ (codes " " ++ (decimal second ++ (codes " " ++ (order_word order ++ (reach_text ending bits ++ traces_text m order))))))
 
--- a run ends done where its answer is complete, and else bounded
-abbrev pub ended_by : Ending → Status
-ended_by complete = status.Done
-ended_by (bounded k) = status.Bounded k
+-- what is said of an order of two faults of a case
+abbrev pub order_report : Case → ℕ → ℕ → Order → Ending → Text
+order_report c first second order ending = order_text c.flat first second order ending (state_bits (staged_of c first second))
 
--- The files hold a case, and the word spells an event of it. The order of the two faults was found, said, and where it is complete and
--- claimed certified.
-pub record HasOrder (files : List NamedFile) (model faults top : Text) (set : List ℕ) (first second depth : ℕ) (cert : Text) (s : Status) (before after : Told) (said now : Said) : Type 0 where
-  pub c : Case
-  pub holds : HoldsCase files model faults c
+-- An event that the word spells, as an expression over the flat model; the two faults; and an order of them that is so, and that ends
+-- by the depth.
+pub record FoundOrder (c : Case) (top : Text) (set : List ℕ) (first second depth : ℕ) : Type 0 where
   pub event : Formula
   pub is_event : IsTopWord c.program top event
   pub tree : Tree FlatLeaf
@@ -168,9 +171,25 @@ pub record HasOrder (files : List NamedFile) (model faults top : Text) (set : Li
   pub ending : Ending
   pub right : IsOrder c event set one other ending order
   pub ends_by : EndsOrder c set first second tree depth order ending
-  pub ends : s ≡ ended_by ending
-  pub written : IsClaimWritten c set first second tree order ending cert before after
-  pub reported : now ≡ said_more said (order_text c.flat first second order ending (state_bits (staged_of c first second)))
+
+-- The files hold a case, and the word spells an event of it. The order of the two faults was found, said, and where it is complete and
+-- claimed certified.
+pub record HasOrder (files : List NamedFile) (model faults top : Text) (set : List ℕ) (first second depth : ℕ) (cert : Text) (s : Status) (before after : Told) (said now : Said) : Type 0 where
+  pub c : Case
+  pub holds : HoldsCase files model faults c
+  pub found : FoundOrder c top set first second depth
+  pub ends : s ≡ ended_with found.ending
+  pub written : IsClaimWritten c set first second found.tree found.order found.ending cert before after
+  pub reported : now ≡ said_more said (order_report c first second found.order found.ending)
+
+-- A part of that, in the order of the work: of the certificate, where nothing was said; or of the report, where the certificate is
+-- written.
+pub record OrdersInPart (files : List NamedFile) (model faults top : Text) (set : List ℕ) (first second depth : ℕ) (cert : Text) (before after : Told) (said now : Said) : Type 0 where
+  pub c : Case
+  pub holds : HoldsCase files model faults c
+  pub found : FoundOrder c top set first second depth
+  pub part : (IsClaimBegun c set first second found.tree found.order found.ending cert before after × (now ≡ said))
+      ⊎ (IsClaimWritten c set first second found.tree found.order found.ending cert before after × SaysPrefix said now (order_report c first second found.order found.ending))
 
 -- ---- certificates
 
@@ -193,6 +212,17 @@ pub record IsAcceptedClaim (m : FlatModel) (e : Tree FlatLeaf) (a : Certificate)
   pub certified : IsCertified m [] e (GivesTrace m) (subject_of m m [] e) a
   pub no_set : a.sets ≡ []
 
+-- the file of a certificate holds none, or one that breaks a rule
+pub data RefusesFile (files : List NamedFile) (cert : Text) (m : FlatModel) (e : Tree FlatLeaf) (r : Refusal) : Type 0 where
+  unread : (s : SharedRefusal) → r ≡ refusal.Shared s → RefusesCertificate files cert s → RefusesFile files cert m e r
+  unfit : (a : Certificate) → HoldsCertificate files cert a → RefusesClaim m e a r → RefusesFile files cert m e r
+
+-- or one that is accepted
+pub record AcceptsFile (files : List NamedFile) (cert : Text) (m : FlatModel) (e : Tree FlatLeaf) : Type 0 where
+  pub certificate : Certificate
+  pub has_certificate : HoldsCertificate files cert certificate
+  pub accepted : IsAcceptedClaim m e certificate
+
 -- What a check of an order is refused for, in the order of the work: the pair, the file of the certificate, or a line of it.
 pub data RefusesCheck (files : List NamedFile) (model faults top : Text) (set : List ℕ) (first second : ℕ) (claim cert : Text) (r : Refusal) : Type 0 where
   no_pair : RefusesPair files model faults top set first second r → RefusesCheck files model faults top set first second claim cert r
@@ -202,8 +232,8 @@ pub data RefusesCheck (files : List NamedFile) (model faults top : Text) (set : 
       RefusesCheck files model faults top set first second claim cert r
 
 -- The files hold a case and a certificate, and the word spells an event of the case. The certificate is accepted for the claim, and the
--- claim holds: of all extended traces that reach the event and have failed exactly the set, of whatever length. So it was said.
-pub record HasCheckedOrder (files : List NamedFile) (model faults top : Text) (set : List ℕ) (first second : ℕ) (claim cert : Text) (s : Status) (said now : Said) : Type 0 where
+-- claim holds: of all extended traces that reach the event and have failed exactly the set, of whatever length.
+pub record AcceptsOrder (files : List NamedFile) (model faults top : Text) (set : List ℕ) (first second : ℕ) (claim cert : Text) : Type 0 where
   pub c : Case
   pub holds : HoldsCase files model faults c
   pub event : Formula
@@ -213,9 +243,11 @@ pub record HasCheckedOrder (files : List NamedFile) (model faults top : Text) (s
   pub one : Fault
   pub other : Fault
   pub are : AreFaults c first second one other
-  pub certificate : Certificate
-  pub has_certificate : HoldsCertificate files cert certificate
-  pub accepted : IsAcceptedClaim (staged_of c first second) (against_of c set first second tree (claim_in claim)) certificate
+  pub accepts : AcceptsFile files cert (staged_of c first second) (against_of c set first second tree (claim_in claim))
   pub right : IsClaimed c event set one other complete (claim_in claim)
+
+-- so it was said
+pub record HasCheckedOrder (files : List NamedFile) (model faults top : Text) (set : List ℕ) (first second : ℕ) (claim cert : Text) (s : Status) (said now : Said) : Type 0 where
+  pub accepts : AcceptsOrder files model faults top set first second claim cert
   pub ends : s ≡ status.Done
   pub reported : now ≡ said_more said (codes "accepted\n")

@@ -1,6 +1,6 @@
 // Certificates of an order of two faults.
-ghost use Rattle.std.specs.Prelude.{◌≡◌, ◌≤◌, [], IfOk, IfSome, IsErrOf, OnOk};
-ghost use Rattle.xs_desk.specs.Desk.{Rose};
+ghost use Rattle.std.specs.Prelude.{◌≡◌, ◌≤◌, ◌⊎◌, [], codes, IfOk, IfSome, IsErrOf, OnOk};
+ghost use Rattle.xs_desk.specs.Desk.{Rose, SaysPrefix};
 ghost use Rattle.xs_scope.specs.ModelTree.{model_tree, flat_tree};
 ghost use Rattle.xs_encoded_search.specs.Searchable.{IsSearchable};
 ghost use Rattle.xs_cert.specs.Seen.{seen};
@@ -12,9 +12,10 @@ ghost use Rattle.xs_reach_status.specs.declared.status.Refusal.{Refusal};
 ghost use Rattle.xs_reach_status.specs.declared.stop.Stop.TheVariants as stop;
 ghost use Rattle.xs_reach_status.specs.Finished.{IsFinished};
 ghost use Rattle.xs_find_orders.specs.Pairs.{IsAskedPair, IsStagedCase};
-ghost use Rattle.xs_find_orders.specs.Orders.{RefusesCheck, HasCheckedOrder, RefusesClaim, IsAcceptedClaim, claim_in, staged_of, against_of, staged_matter};
+ghost use Rattle.xs_find_orders.specs.Orders.{RefusesCheck, AcceptsOrder, HasCheckedOrder, RefusesFile, AcceptsFile, RefusesClaim, IsAcceptedClaim, claim_in, staged_of, against_of, staged_matter};
+ghost use Rattle.xs_find_orders.specs.Claimed.{staged_in, against_in};
 
-use crate::pair::{PairWords, StagedCase, load_pair};
+use crate::pair::{PairWords, StagedCase, discard_case, load_pair};
 use crate::searched::{are_few, expression};
 use std::alloc::Global;
 use xs_cert::Certificate;
@@ -46,6 +47,27 @@ pub fn check_orders<D: Desk>(
     ensures failed { IsErrOf result stop.Desk → Rose (D.faults desk.old) (D.faults desk.new) }
     ensures later { D.faults desk.old ≤ D.faults desk.new }
     ensures quiet { D.quiet desk.old → D.quiet desk.new × (D.faults desk.new ≡ D.faults desk.old) }
+    // However it ends, nothing was said, or the certificate is accepted, and a part of that was said.
+    ensures left { (D.said desk.new ≡ D.said desk.old) ⊎ (SaysPrefix (D.said desk.old) (D.said desk.new) (codes "accepted\n") × (IsAskedPair asked.now.set.now asked.now.first asked.now.second → IfSome (D.files desk.old) (λ files.
+        AcceptsOrder files asked.now.model.now asked.now.faults.now asked.now.top.now (numbers_of asked.now.set.now) asked.now.first asked.now.second asked.now.claim.now asked.now.cert.now))) }
+{
+    prepare(alloc, desk, asked)?;
+    say_whole(desk, b"accepted\n")?;
+    Ok(Status::Done)
+}
+
+/// Reads the model, the instructions and the certificate, and judges it. Nothing is written or said.
+fn prepare<D: Desk>(alloc: Global, desk: &mut D, asked: &CheckOrders) -> Result<(), Stop>
+    ensures ok { OnOk result (IsAskedPair asked.now.set.now asked.now.first asked.now.second → IfSome (D.files desk.old) (λ files.
+        AcceptsOrder files asked.now.model.now asked.now.faults.now asked.now.top.now (numbers_of asked.now.set.now) asked.now.first asked.now.second asked.now.claim.now asked.now.cert.now)) }
+    ensures refused { (r : Refusal) → IsErrOf result (stop.Refused r) → IsAskedPair asked.now.set.now asked.now.first asked.now.second → IfSome (D.files desk.old) (λ files.
+        RefusesCheck files asked.now.model.now asked.now.faults.now asked.now.top.now (numbers_of asked.now.set.now) asked.now.first asked.now.second asked.now.claim.now asked.now.cert.now r) }
+    ensures failed { IsErrOf result stop.Desk → Rose (D.faults desk.old) (D.faults desk.new) }
+
+    ensures files { D.files desk.new ≡ D.files desk.old }
+    ensures said { D.said desk.new ≡ D.said desk.old }
+    ensures later { D.faults desk.old ≤ D.faults desk.new }
+    ensures quiet { D.quiet desk.old → D.quiet desk.new × (D.faults desk.new ≡ D.faults desk.old) }
 {
     let words = PairWords {
         model: asked.model,
@@ -56,11 +78,31 @@ pub fn check_orders<D: Desk>(
         second: asked.second,
     };
     let staged = load_pair(alloc, desk, &words)?;
-    let certificate = load_certificate(alloc, desk, asked.cert)?;
-    let claim = claim_of(asked.claim);
-    judge(alloc, &staged, claim, &certificate)?;
-    say_whole(desk, b"accepted\n")?;
-    Ok(Status::Done)
+    let judged = judge_file(alloc, desk, &staged, asked.claim, asked.cert);
+    discard_case(staged);
+    judged
+}
+
+/// Judges the certificate of a file for what a word claims of a staged case.
+fn judge_file<D: Desk>(
+    alloc: Global,
+    desk: &mut D,
+    staged: &StagedCase,
+    claim: &str,
+    cert: &str,
+) -> Result<(), Stop>
+    requires { IsStagedCase staged.now }
+    ensures ok { OnOk result (IfSome (D.files desk.old) (λ files. AcceptsFile files cert.now (staged_in staged.now) (against_in staged.now (claim_in claim.now)))) }
+    ensures refused { (r : Refusal) → IsErrOf result (stop.Refused r) → IfSome (D.files desk.old) (λ files. RefusesFile files cert.now (staged_in staged.now) (against_in staged.now (claim_in claim.now)) r) }
+    ensures failed { IsErrOf result stop.Desk → Rose (D.faults desk.old) (D.faults desk.new) }
+
+    ensures files { D.files desk.new ≡ D.files desk.old }
+    ensures said { D.said desk.new ≡ D.said desk.old }
+    ensures later { D.faults desk.old ≤ D.faults desk.new }
+    ensures quiet { D.quiet desk.old → D.quiet desk.new × (D.faults desk.new ≡ D.faults desk.old) }
+{
+    let certificate = load_certificate(alloc, desk, cert)?;
+    judge(alloc, staged, claim_of(claim), &certificate)
 }
 
 /// What a word claims: one of the relations, or that there is no trace.

@@ -1,21 +1,21 @@
 // Orders of two faults of a set: what is found, written and said.
-ghost use Rattle.std.specs.Prelude.{◌≡◌, ◌≤◌, ℕ, Some, None, IfOk, IfSome, IsErrOf, OnOk, length};
+ghost use Rattle.std.specs.Prelude.{◌≡◌, ◌≤◌, ◌⊎◌, ℕ, Some, None, IfOk, IfSome, IsErrOf, OnOk, OnErr, length};
 ghost use Rattle.xs_desk.specs.Desk.{Rose, said_more};
 ghost use Rattle.xs_desk.specs.declared.desk.WriteStop.TheVariants as write_stop;
 ghost use Rattle.xs_scope.specs.ModelTree.{flat_tree};
 ghost use Rattle.xs_analysis_text.specs.Analysis.{told_ending};
 ghost use Rattle.xs_cuts.specs.declared.answer.End.TheVariants as ends;
-ghost use Rattle.xs_run.specs.Searches.{case_in, told_maybe};
+ghost use Rattle.xs_run.specs.Searches.{case_in, told_maybe, WritesPrefixMaybe};
 ghost use Rattle.xs_reach_words.specs.Sets.{numbers_of};
 ghost use Rattle.xs_reach_status.specs.declared.status.Refusal.{Refusal};
 ghost use Rattle.xs_reach_status.specs.declared.stop.Stop.TheVariants as stop;
-ghost use Rattle.xs_reach_status.specs.Finished.{IsFinished};
+ghost use Rattle.xs_reach_status.specs.Finished.{IsFinished, ended_with};
 ghost use Rattle.xs_find_orders.specs.Pairs.{IsAskedPair, RefusesPair, IsStagedCase};
-ghost use Rattle.xs_find_orders.specs.Orders.{CertifiesClaim, HasOrder, ended_by};
-ghost use Rattle.xs_find_orders.specs.Claimed.{IsSearchOf, IsTraceAgainst, IsToldBy, HasClaimCertificate, IsConclusion, relation_in};
+ghost use Rattle.xs_find_orders.specs.Orders.{CertifiesClaim, HasOrder, OrdersInPart};
+ghost use Rattle.xs_find_orders.specs.Claimed.{IsSearchOf, IsTraceAgainst, IsToldBy, HasClaimCertificate, IsConclusion, ConcludesFrom, ConcludesInPart, relation_in};
 
-use crate::pair::{PairWords, StagedCase, load_pair};
-use crate::searched::{Searched, search};
+use crate::pair::{PairWords, StagedCase, discard_case, load_pair};
+use crate::searched::{Searched, discard_search, search};
 use crate::verdict::{cut, relation_of, report_claim, report_either};
 use std::alloc::Global;
 use xs_adviser::Panel;
@@ -25,7 +25,7 @@ use xs_cuts::answer::End;
 use xs_cuts_extended::told;
 use xs_desk::{Desk, WriteStop, say_whole, write_whole};
 use xs_orders::Relation;
-use xs_reach_status::status::Status;
+use xs_reach_status::status::{Status, ended_as};
 use xs_reach_status::stop::Stop;
 use xs_reach_words::FindOrders;
 use xs_value::{ByteList, Ending, MomentList, OutOfMemory, TraceList};
@@ -55,6 +55,33 @@ pub fn find_orders<D: Desk>(
     ensures failed { IsErrOf result stop.Desk → Rose (D.faults desk.old) (D.faults desk.new) }
     ensures later { D.faults desk.old ≤ D.faults desk.new }
     ensures quiet { D.quiet desk.old → D.quiet desk.new × (D.faults desk.new ≡ D.faults desk.old) }
+    // However it ends, nothing was done, or a part of that stands: a prefix of what would be written and said.
+    ensures left { ((D.files desk.new ≡ D.files desk.old) × (D.said desk.new ≡ D.said desk.old)) ⊎ (IsAskedPair asked.now.set.now asked.now.first asked.now.second → IfSome (D.files desk.old) (λ files.
+        OrdersInPart files asked.now.model.now asked.now.faults.now asked.now.top.now (numbers_of asked.now.set.now) asked.now.first asked.now.second asked.now.depth asked.now.cert.now
+        (D.files desk.old) (D.files desk.new) (D.said desk.old) (D.said desk.new))) }
+{
+    let found = prepare(alloc, desk, asked, panel)?;
+    let status = conclude(desk, asked.cert, &found)?;
+    Ok(status)
+}
+
+/// Reads the model and the instructions, and searches for the order of the two faults. Nothing is written or said.
+fn prepare<D: Desk>(
+    alloc: Global,
+    desk: &mut D,
+    asked: &FindOrders,
+    panel: &mut Panel,
+) -> Result<Conclusion, Stop>
+    ensures ok { IfOk result (λ k. IsAskedPair asked.now.set.now asked.now.first asked.now.second → IfSome (D.files desk.old) (λ files.
+        ConcludesFrom files asked.now.model.now asked.now.faults.now asked.now.top.now (numbers_of asked.now.set.now) asked.now.first asked.now.second asked.now.depth k)) }
+    ensures refused { (r : Refusal) → IsErrOf result (stop.Refused r) → IsAskedPair asked.now.set.now asked.now.first asked.now.second → IfSome (D.files desk.old) (λ files.
+        RefusesPair files asked.now.model.now asked.now.faults.now asked.now.top.now (numbers_of asked.now.set.now) asked.now.first asked.now.second r) }
+    ensures failed { IsErrOf result stop.Desk → Rose (D.faults desk.old) (D.faults desk.new) }
+
+    ensures files { D.files desk.new ≡ D.files desk.old }
+    ensures said { D.said desk.new ≡ D.said desk.old }
+    ensures later { D.faults desk.old ≤ D.faults desk.new }
+    ensures quiet { D.quiet desk.old → D.quiet desk.new × (D.faults desk.new ≡ D.faults desk.old) }
 {
     let words = PairWords {
         model: asked.model,
@@ -65,12 +92,12 @@ pub fn find_orders<D: Desk>(
         second: asked.second,
     };
     let staged = load_pair(alloc, desk, &words)?;
-    let answer = answer(alloc, &staged, asked.depth, panel)?;
-    let status = conclude(desk, asked.cert, &answer)?;
-    Ok(status)
+    let found = answer(alloc, &staged, asked.depth, panel);
+    discard_case(staged);
+    Ok(found?)
 }
 
-/// The order of the two faults. Where no trace reaches the event with exactly the set there is none.
+/// The order of the two faults: a first search looks for any trace that reaches the event with exactly the set.
 fn answer(
     alloc: Global,
     staged: &StagedCase,
@@ -81,14 +108,32 @@ fn answer(
     ensures { IfOk result (IsConclusion staged.now depth) }
 {
     let some = search(alloc, staged, None, depth, panel)?;
+    let found = answer_from(alloc, staged, depth, &some, panel);
+    discard_search(some);
+    found
+}
+
+/// The order of the two faults, by what the first search came to. Where no trace reaches the event with exactly the set there is
+/// none.
+fn answer_from(
+    alloc: Global,
+    staged: &StagedCase,
+    depth: u32,
+    some: &Searched,
+    panel: &mut Panel,
+) -> Result<Conclusion, OutOfMemory>
+    requires staged { IsStagedCase staged.now }
+    requires searched { IsSearchOf staged.now None depth some.now }
+    ensures { IfOk result (IsConclusion staged.now depth) }
+{
     let traces: &TraceList = &some.analysis.traces;
     if traces.is_empty() {
-        return concluded(alloc, staged, None, depth, &some, panel);
+        return concluded(alloc, staged, None, depth, some, panel);
     }
     answer_of(alloc, staged, depth, traces.at(0), panel)
 }
 
-/// The order of the two faults: the one that a trace shows, unless another trace speaks against that.
+/// The order of the two faults, of which a trace shows one: a second search looks for another trace that speaks against that.
 fn answer_of(
     alloc: Global,
     staged: &StagedCase,
@@ -102,9 +147,30 @@ fn answer_of(
 {
     let relation = relation_of(trace);
     let other = search(alloc, staged, Some(relation), depth, panel)?;
+    let found = answer_against(alloc, staged, depth, trace, &other, panel);
+    discard_search(other);
+    found
+}
+
+/// The order of the two faults, by what the second search came to: the one that the trace shows, unless another trace speaks
+/// against that.
+fn answer_against(
+    alloc: Global,
+    staged: &StagedCase,
+    depth: u32,
+    trace: &MomentList,
+    other: &Searched,
+    panel: &mut Panel,
+) -> Result<Conclusion, OutOfMemory>
+    requires staged { IsStagedCase staged.now }
+    requires trace { IsTraceAgainst staged.now None trace.now }
+    requires searched { IsSearchOf staged.now (Some (relation_in trace.now)) depth other.now }
+    ensures { IfOk result (IsConclusion staged.now depth) }
+{
     let traces: &TraceList = &other.analysis.traces;
     if traces.is_empty() {
-        return concluded(alloc, staged, Some(relation), depth, &other, panel);
+        let relation = relation_of(trace);
+        return concluded(alloc, staged, Some(relation), depth, other, panel);
     }
     differing(alloc, staged, trace, traces.at(0))
 }
@@ -210,6 +276,7 @@ fn certificate_text(
 /// Writes the text, where there is one.
 fn write_maybe<D: Desk>(desk: &mut D, name: &str, text: &Option<ByteList>) -> Result<(), WriteStop>
     ensures ok { OnOk result (D.files desk.new ≡ told_maybe (D.files desk.old) name.now text.now) }
+    ensures err { OnErr result (WritesPrefixMaybe (D.files desk.old) (D.files desk.new) name.now text.now) }
     ensures said { D.said desk.new ≡ D.said desk.old }
     ensures later { D.faults desk.old ≤ D.faults desk.new }
     ensures failed { IsErrOf result write_stop.Failed → Rose (D.faults desk.old) (D.faults desk.new) }
@@ -222,26 +289,16 @@ fn write_maybe<D: Desk>(desk: &mut D, name: &str, text: &Option<ByteList>) -> Re
 }
 
 /// Writes the certificate, where there is one, and says the report.
-fn conclude<D: Desk>(desk: &mut D, name: &str, answer: &Conclusion) -> Result<Status, WriteStop>
-    ensures ends { IfOk result (λ s. s ≡ ended_by (told_ending answer.now.ending)) }
+fn conclude<D: Desk>(desk: &mut D, name: &str, found: &Conclusion) -> Result<Status, WriteStop>
+    ensures ends { IfOk result (λ s. s ≡ ended_with (told_ending found.now.ending)) }
     ensures finished { IfOk result IsFinished }
-    ensures ok { OnOk result ((D.files desk.new ≡ told_maybe (D.files desk.old) name.now answer.now.cert) × (D.said desk.new ≡ said_more (D.said desk.old) answer.now.report)) }
+    ensures ok { OnOk result ((D.files desk.new ≡ told_maybe (D.files desk.old) name.now found.now.cert) × (D.said desk.new ≡ said_more (D.said desk.old) found.now.report)) }
+    ensures part { ConcludesInPart name.now found.now (D.files desk.old) (D.files desk.new) (D.said desk.old) (D.said desk.new) }
     ensures later { D.faults desk.old ≤ D.faults desk.new }
     ensures failed { IsErrOf result write_stop.Failed → Rose (D.faults desk.old) (D.faults desk.new) }
     ensures quiet { D.quiet desk.old → D.quiet desk.new × (D.faults desk.new ≡ D.faults desk.old) }
 {
-    write_maybe(desk, name, &answer.cert)?;
-    say_whole(desk, answer.report.as_slice())?;
-    Ok(status_of(answer.ending))
-}
-
-/// The status of a run whose search ends so.
-fn status_of(ending: Ending) -> Status
-    ensures ends { result ≡ ended_by (told_ending ending) }
-    ensures finished { IsFinished result }
-{
-    match ending {
-        Ending::Complete => Status::Done,
-        Ending::Bounded(k) => Status::Bounded(k),
-    }
+    write_maybe(desk, name, &found.cert)?;
+    say_whole(desk, found.report.as_slice())?;
+    Ok(ended_as(found.ending))
 }

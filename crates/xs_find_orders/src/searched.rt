@@ -28,6 +28,9 @@ pub struct Searched {
     pub analysis: Analysis,
 }
 
+/// Lets a search go. Its expression is taken apart here, once for all that had it.
+pub(crate) fn discard_search(_searched: Searched) {}
+
 /// The search for a trace that reaches the top event with exactly the set, against a claim where there is one. More symbols
 /// than numbers of them are want of memory, and so are more faults than a weave takes.
 pub(crate) fn search(

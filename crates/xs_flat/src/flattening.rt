@@ -8,7 +8,7 @@ ghost use Rattle.xs_flat.specs.Shape.{shape};
 ghost use Rattle.xs_scope.specs.Closed.{is_closed, bounds_of, IsClosedModel};
 ghost use Rattle.xs_scope.specs.ModelTree.{model_tree, flat_tree};
 ghost use Rattle.xs_flattening.specs.FlatTrace.{NamesOwn};
-ghost use Rattle.xs_scope.specs.Faults.{first_of, IsPastMain, IsFaultOf};
+ghost use Rattle.xs_scope.specs.Faults.{first_of, IsFaultOf};
 ghost use Rattle.std.specs.Prelude.{Some};
 ghost use Rattle.xs_flattening.specs.Rules.{IsAccepted};
 ghost use Rattle.xs_flattening.specs.Model.{IsFlatOf};

@@ -17,7 +17,7 @@ ghost use Rattle.xs_flat.specs.Verdicts.{IsToldOf, IsToldHere, IsInstanceTold, A
 ghost use Rattle.xs_scope.specs.Faults.{first_of, IsFaultOf};
 ghost use Rattle.xs_scope.specs.declared.fault.Rule.TheVariants.{NoSuchName, DefineLoop, NextHere, InputHere};
 
-use crate::values::{Judged, JudgedActual, judge_actuals, judge_value};
+use crate::values::{Judged, JudgedActual, is_on_meaning_circle, judge_actuals, judge_value};
 use indexmap::IndexMap;
 use std::alloc::Global;
 use xs_scope::fault::{FlatFault, Rule};

@@ -230,7 +230,7 @@ fn is_no_value(meaning: Meaning) -> bool
 }
 
 /// Whether a meaning is a definition that is needed by itself.
-fn is_on_meaning_circle(needs: &Needs, meaning: Meaning) -> bool
+pub(crate) fn is_on_meaning_circle(needs: &Needs, meaning: Meaning) -> bool
     ensures { result ≡ is_circle_found needs.now meaning }
 {
     match meaning {

@@ -40,9 +40,6 @@ after_left first faults left = map (λ j. first ∷ j ∷ []) (numbers_left faul
 abbrev pub pairs_left : ℕ → ℕ → List (List ℕ)
 pairs_left faults left = pairs_from (faults - left + 1) left
 
-    after : (faults n : ℕ) → suc (faults - n) ≡ faults - n + 1
-    after faults n = omega arith
-
 -- a set that is appended is the first of those that are left
 pub single_on : (faults left : ℕ) (rows new whole : List (List ℕ)) (set : List ℕ) → 0 < left → left ≤ faults → new ≡ rows ++ set ∷ [] → set ≡ (faults - (left - 1)) ∷ [] →
     rows ++ singles_left faults left ≡ whole → new ++ singles_left faults (left - 1) ≡ whole

@@ -1,6 +1,6 @@
 // The top call of the further verbs.
 ghost use Rattle.std.specs.Prelude.{◌≡◌, ◌≤◌, ◌⊎◌, ℕ, IfOk, IfSome, IsErrOf, OnOk};
-ghost use Rattle.xs_desk.specs.Desk.{Rose, said_more};
+ghost use Rattle.xs_desk.specs.Desk.{Rose, said_more, SaysPrefix};
 ghost use Rattle.xs_desk.specs.declared.desk.WriteStop.TheVariants as write_stop;
 ghost use Rattle.xs_reach_words.specs.Commands.{Command as Asked};
 ghost use Rattle.xs_reach_words.specs.Meaning.{Means, BreaksFirst};
@@ -12,15 +12,15 @@ ghost use Rattle.xs_reach_status.specs.declared.status.Refusal.TheVariants as re
 ghost use Rattle.xs_reach_status.specs.declared.stop.Stop.TheVariants as stops;
 ghost use Rattle.xs_reach_status.specs.Statuses.{refusal_text};
 ghost use Rattle.xs_reach_status.specs.Finished.{IsFinished, IsAnswer};
-ghost use Rattle.xs_reach.specs.Runs.{IsDone, RefusesCommand};
+ghost use Rattle.xs_reach.specs.Runs.{IsDone, RefusesCommand, IsLeft};
 
+use crate::verbs::carry_out;
 use std::alloc::Global;
 use xs_adviser::{Adviser, Panel};
 use xs_desk::{Desk, WriteStop, say_whole};
-use xs_find_odds::odds::find_odds;
 use xs_reach_status::status::{Refusal, Status};
 use xs_reach_status::stop::Stop;
-use xs_reach_words::{Command, is_further, read_words};
+use xs_reach_words::{is_further, read_words};
 
 /// Whether the first word is one of the further verbs.
 pub fn is_reach(words: &[&str]) -> bool
@@ -31,7 +31,8 @@ pub fn is_reach(words: &[&str]) -> bool
 
 /// Does what the words of a further verb ask for. `odds` reads a model, instructions and a top event, searches for the
 /// minimal cut sets, and says them with bounds of their probabilities by the marks of the modes; it writes nothing.
-/// `causes`, `check-causes`, `orders` and `check-orders` are refused as not built.
+/// `causes` searches for the minimal cut sets of faults and common causes, and `check-causes` judges a certificate of
+/// them. `orders` finds in which order two faults of a set come, and `check-orders` judges a certificate of that.
 /// All files are read, and every refusal is tried, before anything is written or said. A refusal says its one
 /// line and changes no file. The words are those of the command line without the program's own name. The advisers
 /// say what the search tries first; no answer is trusted to them.
@@ -50,6 +51,8 @@ pub fn run<D: Desk>(
     // Words that mean nothing are refused by the rule that they break first, at its place.
     ensures words { (rule place : ℕ) → BreaksFirst (texts words.now) rule place → IsAnswer result →
         (f : WordFault) × (rule_of f ≡ rule) × (place_of f ≡ place) × (result ≡ Status.Refused (refused.Words f)) }
+    // One that is stopped has left nothing, or a beginning of what it would write and say.
+    ensures left { (result ≡ Status.Desk) ⊎ (result ≡ Status.Memory) → IfSome (D.files desk.old) (λ files. IsLeft files (texts words.now) (D.files desk.old) (D.files desk.new) (D.said desk.old) (D.said desk.new)) }
     // The desk's status comes only where its count of faults rose.
     ensures failed { result ≡ Status.Desk → Rose (D.faults desk.old) (D.faults desk.new) }
     ensures later { D.faults desk.old ≤ D.faults desk.new }
@@ -59,33 +62,9 @@ pub fn run<D: Desk>(
         Ok(command) => command,
         Err(fault) => return refuse(alloc, desk, Refusal::Words(fault)),
     };
-    match perform(alloc, desk, &command, &mut Panel::new(advisers)) {
+    match carry_out(alloc, desk, &command, &mut Panel::new(advisers)) {
         Ok(status) => status,
         Err(stop) => stopped(alloc, desk, stop),
-    }
-}
-
-/// Does what a command asks for.
-fn perform<D: Desk>(
-    alloc: Global,
-    desk: &mut D,
-    command: &Command,
-    panel: &mut Panel,
-) -> Result<Status, Stop>
-    ensures done { IfOk result (λ s. IfSome (D.files desk.old) (λ files. IsDone (seen command.now) files s (D.files desk.old) (D.files desk.new) (D.said desk.old) (D.said desk.new))) }
-    ensures finished { IfOk result IsFinished }
-    ensures refused { (r : Refusal) → IsErrOf result (stops.Refused r) → IfSome (D.files desk.old) (λ files. RefusesCommand (seen command.now) files r) }
-    ensures untouched { (r : Refusal) → IsErrOf result (stops.Refused r) → (D.files desk.new ≡ D.files desk.old) × (D.said desk.new ≡ D.said desk.old) }
-    ensures failed { IsErrOf result stops.Desk → Rose (D.faults desk.old) (D.faults desk.new) }
-    ensures later { D.faults desk.old ≤ D.faults desk.new }
-    ensures quiet { D.quiet desk.old → D.quiet desk.new × (D.faults desk.new ≡ D.faults desk.old) }
-{
-    match command {
-        Command::Causes(_)
-        | Command::CheckCauses(_)
-        | Command::Orders(_)
-        | Command::CheckOrders(_) => Err(Stop::Refused(Refusal::NotBuilt)),
-        Command::Odds(asked) => find_odds(alloc, desk, asked, panel),
     }
 }
 
@@ -94,6 +73,8 @@ fn stopped<D: Desk>(alloc: Global, desk: &mut D, stop: Stop) -> Status
     ensures refused { (r : Refusal) → result ≡ Status.Refused r →
         (stop ≡ stops.Refused r) × (D.files desk.new ≡ D.files desk.old) × (D.said desk.new ≡ said_more (D.said desk.old) (refusal_text r)) }
     ensures ended { IsFinished result → ⊥ }
+    ensures files { D.files desk.new ≡ D.files desk.old }
+    ensures part { ((D.said desk.new ≡ D.said desk.old) × ((r : Refusal) → stop ≡ stops.Refused r → ⊥)) ⊎ ((r : Refusal) × (stop ≡ stops.Refused r) × SaysPrefix (D.said desk.old) (D.said desk.new) (refusal_text r)) }
     ensures failed { result ≡ Status.Desk → (stop ≡ stops.Desk) ⊎ Rose (D.faults desk.old) (D.faults desk.new) }
     ensures later { D.faults desk.old ≤ D.faults desk.new }
     ensures quiet { D.quiet desk.old → D.quiet desk.new × (D.faults desk.new ≡ D.faults desk.old) }
@@ -109,6 +90,7 @@ fn stopped<D: Desk>(alloc: Global, desk: &mut D, stop: Stop) -> Status
 fn refuse<D: Desk>(alloc: Global, desk: &mut D, refusal: Refusal) -> Status
     ensures said { result ≡ Status.Refused refusal → D.said desk.new ≡ said_more (D.said desk.old) (refusal_text refusal) }
     ensures ends { (result ≡ Status.Refused refusal) ⊎ ((result ≡ Status.Desk) ⊎ (result ≡ Status.Memory)) }
+    ensures part { SaysPrefix (D.said desk.old) (D.said desk.new) (refusal_text refusal) }
     ensures files { D.files desk.new ≡ D.files desk.old }
     ensures failed { result ≡ Status.Desk → Rose (D.faults desk.old) (D.faults desk.new) }
     ensures later { D.faults desk.old ≤ D.faults desk.new }
@@ -124,6 +106,7 @@ fn refuse<D: Desk>(alloc: Global, desk: &mut D, refusal: Refusal) -> Status
 /// Says the line of a refusal, or why that can't be done.
 fn say_refusal<D: Desk>(alloc: Global, desk: &mut D, refusal: Refusal) -> Result<(), WriteStop>
     ensures ok { OnOk result (D.said desk.new ≡ said_more (D.said desk.old) (refusal_text refusal)) }
+    ensures part { SaysPrefix (D.said desk.old) (D.said desk.new) (refusal_text refusal) }
     ensures files { D.files desk.new ≡ D.files desk.old }
     ensures failed { IsErrOf result write_stop.Failed → Rose (D.faults desk.old) (D.faults desk.new) }
     ensures later { D.faults desk.old ≤ D.faults desk.new }

@@ -20,7 +20,6 @@ use Rattle.xs_reach_status.specs.declared.stop.Stop.{Stop}
 use Rattle.xs_reach_status.specs.declared.stop.Stop.TheVariants as stop
 
 abbrev pub refusal_number : Refusal → ℤ
-refusal_number refusal.NotBuilt = pos 2
 refusal_number (refusal.Words fault) = pos 2
 refusal_number (refusal.Shared r) = shared.number_of (shared.status_of r)
 refusal_number (refusal.Faults fault) = pos 4
@@ -49,7 +48,6 @@ words_text fault = decimal (rule_of fault) ++ (codes " at " ++ (decimal (place_o
 
 -- the one line of a refusal
 abbrev pub refusal_text : Refusal → Text
-refusal_text refusal.NotBuilt = codes "refused words 0 at 1\n"
 refusal_text (refusal.Words fault) = codes "refused words " ++ words_text fault
 refusal_text (refusal.Shared r) = shared.refusal_text r
 refusal_text (refusal.Faults fault) = codes "refused faults " ++ fault_text fault

@@ -33,8 +33,6 @@ pub struct InputFault {
 /// What is refused, each with its one line.
 #[derive(Clone, Copy, Debug, PartialEq, Eq)]
 pub enum Refusal {
-    /// The verb is not built yet.
-    NotBuilt,
     Words(WordFault),
     /// What other verbs refuse too: the model, the instructions, the top event or a certificate.
     Shared(shared::Refusal),
@@ -82,7 +80,7 @@ impl Refusal {
         ensures within { (pos 0 ≤ℤ result) × (result ≤ℤ pos 10) }
     {
         match self {
-            Refusal::NotBuilt | Refusal::Words(_) => 2,
+            Refusal::Words(_) => 2,
             Refusal::Shared(refusal) => refusal.status().number(),
             Refusal::Faults(_) => 4,
             Refusal::Causes(_) => 9,
@@ -95,7 +93,6 @@ impl Refusal {
         ensures { IfOk result (λ line. line ≡ refusal_text self) }
     {
         match self {
-            Refusal::NotBuilt => ByteList::from_slice(alloc, b"refused words 0 at 1\n"),
             Refusal::Words(fault) => words_line(alloc, fault),
             Refusal::Shared(refusal) => refusal.line(alloc),
             Refusal::Faults(fault) => fault_line(alloc, b"refused faults ", fault),

@@ -30,6 +30,12 @@ use Rattle.xs_staged.proofs.Ordered.{boolean_kept, boolean_added, clauses_kept, 
 with_bits : (m : FlatModel) (fs : List Mode) → length (with_history m fs).variables ≡ length m.variables + length fs
 with_bits m fs = length-append {A = FlatVariable} m.variables (bit_variables 0 fs) ∙ ap (λ n. length m.variables + n) (length_bits 0 fs)
 
+pub staged_length : (m : FlatModel) (fs : List Mode) (i j : ℕ) → length (stage m fs i j).variables ≡ suc (suc (length m.variables + length fs))
+staged_length m fs i j =
+    length_end (with_order (codes "ahead") (bit_number m i) (bit_number m j) (with_history m fs)).variables (order_variable (codes "behind"))
+    ∙ ap suc (length_end (with_history m fs).variables (order_variable (codes "ahead")))
+    ∙ ap (λ n. suc (suc n)) (with_bits m fs)
+
 module _ (m : FlatModel) (fs : List Mode) (top : Tree FlatLeaf) (is : IsSearchable m fs top) (first second : ℕ) (one : IsFaultNumber (length fs) first) (other : IsFaultNumber (length fs) second) where
   abbrev base : FlatModel
   base = with_history m fs

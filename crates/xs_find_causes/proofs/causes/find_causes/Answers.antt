@@ -1,33 +1,48 @@
-use Rattle.std.proofs.Common.{Err, sym, ap, ◌∙◌}
+use Rattle.std.proofs.Common.{Err, IsErrOf, inl, sym, ap, ◌∙◌}
 use Rattle.std.proofs.lemmas.Result.{err_from_is_err_and}
 use Rattle.xs_desk.specs.Desk.{said_more}
 use Rattle.xs_run.specs.Searches.{told_maybe}
 use Rattle.xs_run.proofs.InputLemmas.{same_error}
 use Rattle.xs_run.proofs.OutcomeLemmas.{rose_later}
 use Rattle.xs_reach_status.proofs.StopLaws.{write_refused, write_desk}
-use Rattle.xs_find_causes.proofs.CausesLaws.{has_found}
+use Rattle.xs_find_causes.proofs.CausesLaws.{has_found, leaves_found}
 use Rattle.xs_find_causes.proofs.causes.find_causes.Goals as goal
+
+pub returns-in_err-found-clause-left : goal.returns-in_err-found-clause-left
+returns-in_err-found-clause-left g c = inl (c.prepare_causes.ensures.files, c.prepare_causes.ensures.said)
+
+pub returns-in_err-status-clause-refused : goal.returns-in_err-status-clause-refused
+returns-in_err-status-clause-refused g c r e =
+    let exit = err_from_is_err_and c.from_residual-in_err-status.result c.from_residual-in_err-status.ensures.1 in
+    absurd (write_refused _ r (sym exit.2 ∙ same_error (sym exit.1 ∙ e)))
 
 pub returns-in_err-status-clause-untouched : goal.returns-in_err-status-clause-untouched
 returns-in_err-status-clause-untouched g c r e =
     let exit = err_from_is_err_and c.from_residual-in_err-status.result c.from_residual-in_err-status.ensures.1 in
     absurd (write_refused _ r (sym exit.2 ∙ same_error (sym exit.1 ∙ e)))
 
+pub returns-in_err-status-clause-left : goal.returns-in_err-status-clause-left
+returns-in_err-status-clause-left g c =
+    leaves_found _ _ _ _ c.args.asked.now.cert.now c.args.asked.now.depth _ c.in_ok-found.found c.in_ok-found.ensures _ _ _ _ _ c.prepare_causes.ensures.files c.prepare_causes.ensures.said c.conclude.ensures.part
+
 pub returns-in_err-status-clause-failed : goal.returns-in_err-status-clause-failed
 returns-in_err-status-clause-failed g c e =
     let exit = err_from_is_err_and c.from_residual-in_err-status.result c.from_residual-in_err-status.ensures.1 in
     let is = write_desk _ (sym exit.2 ∙ same_error (sym exit.1 ∙ e)) in
-    rose_later _ _ _ c.load_staged.ensures.later (c.conclude.ensures.failed (c.in_err-status.was ∙ ap (λ s. Err s) is))
+    rose_later _ _ _ c.prepare_causes.ensures.later (c.conclude.ensures.failed (c.in_err-status.was ∙ ap (λ s. Err s) is))
 
 pub returns-clause-ok : goal.returns-clause-ok
 returns-clause-ok g c =
-    has_found _ _ _ _ _ _ _ c.in_ok-staged.staged c.in_ok-found.found c.in_ok-status.status _ _ _ _ c.in_ok-staged.ensures.case c.in_ok-staged.ensures.causes c.in_ok-staged.ensures.asked c.in_ok-found.ensures
-    c.in_ok-status.ensures.ends
-    (c.in_ok-status.ensures.ok.0 ∙ ap (λ t. told_maybe t c.args.asked.now.cert.now c.in_ok-found.found.cert) c.load_staged.ensures.files)
-    (c.in_ok-status.ensures.ok.1 ∙ ap (λ t. said_more t c.in_ok-found.found.report) c.load_staged.ensures.said)
+    has_found _ _ _ _ c.args.asked.now.cert.now c.args.asked.now.depth _ c.in_ok-found.found c.in_ok-found.ensures c.in_ok-status.status _ _ _ _ c.in_ok-status.ensures.ends
+    (c.in_ok-status.ensures.ok.0 ∙ ap (λ t. told_maybe t c.args.asked.now.cert.now c.in_ok-found.found.cert) c.prepare_causes.ensures.files)
+    (c.in_ok-status.ensures.ok.1 ∙ ap (λ t. said_more t c.in_ok-found.found.report) c.prepare_causes.ensures.said)
+
+pub returns-clause-left : goal.returns-clause-left
+returns-clause-left g c =
+    leaves_found _ _ _ _ c.args.asked.now.cert.now c.args.asked.now.depth _ c.in_ok-found.found c.in_ok-found.ensures _ _ _ _ _ c.prepare_causes.ensures.files c.prepare_causes.ensures.said c.conclude.ensures.part
 
 pub returns-clause-quiet : goal.returns-clause-quiet
 returns-clause-quiet g c quiet =
-    let first = c.load_staged.ensures.quiet quiet in
+    let first = c.prepare_causes.ensures.quiet quiet in
     let then = c.conclude.ensures.quiet first.0 in
     (then.0, then.1 ∙ first.1)

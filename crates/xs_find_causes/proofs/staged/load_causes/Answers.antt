@@ -3,8 +3,9 @@ use Rattle.std.proofs.lemmas.Result.{err_from_is_err_and}
 use Rattle.xs_staging.specs.CauseOf.{cause_of}
 use Rattle.xs_run.proofs.InputLemmas.{same_error}
 use Rattle.xs_reach_status.specs.declared.stop.Stop.TheVariants as stop
-use Rattle.xs_find_causes.specs.Causes.{AreCausesOf}
-use Rattle.xs_find_causes.proofs.CausesLaws.{holds_causes, no_desk_at_causes}
+use Rattle.xs_find_causes.specs.Causes.{flat_in, modes_in, faults_in, extension_in, AreCausesOf}
+use Rattle.xs_find_causes.specs.Refusals.{RefusesBytes}
+use Rattle.xs_find_causes.proofs.CausesLaws.{holds_causes, no_desk_at_causes, file_refused, bytes_refused, refuses_limit}
 use Rattle.xs_find_causes.proofs.staged.load_causes.Goals as goal
 
 pub staged_of-requires-clause-causes : goal.staged_of-requires-clause-causes
@@ -17,16 +18,39 @@ returns-in-Ok-clause-ok g c =
     (subst (λ bs. AreCausesOf case bs (map cause_of c.in-Ok.staged.causes)) c.deref.ensures.value
     (subst (λ cs. AreCausesOf case c.deref.result.now (map cause_of cs)) (sym c.in-Ok.ensures.kept) c.in_ok-causes.ensures.read))
 
+pub returns-in_err-bytes-clause-refused : goal.returns-in_err-bytes-clause-refused
+returns-in_err-bytes-clause-refused g c r e =
+    let exit = err_from_is_err_and c.from_residual.result c.from_residual.ensures.1 in
+    let refused : IsErrOf c.read_causes_file.result (stop.Refused r) = c.in_err-bytes.was ∙ ap (λ s. Err s) (sym exit.2 ∙ same_error (sym exit.1 ∙ e)) in
+    let case = c.args.case.now in
+    file_refused (faults_in case) (extension_in case) (flat_in case) (modes_in case) _ _ r (c.read_causes_file.ensures.refused r refused)
+
 pub returns-in_err-bytes-clause-failed : goal.returns-in_err-bytes-clause-failed
 returns-in_err-bytes-clause-failed g c e =
     let exit = err_from_is_err_and c.from_residual.result c.from_residual.ensures.1 in
     c.read_causes_file.ensures.failed (c.in_err-bytes.was ∙ ap (λ s. Err s) (sym exit.2 ∙ same_error (sym exit.1 ∙ e)))
+
+pub returns-in_err-causes-clause-refused : goal.returns-in_err-causes-clause-refused
+returns-in_err-causes-clause-refused g c r e =
+    let exit = err_from_is_err_and c.from_residual-in_err-causes.result c.from_residual-in_err-causes.ensures.1 in
+    let refused : IsErrOf c.causes_of.result (stop.Refused r) = c.in_err-causes.was ∙ ap (λ s. Err s) (sym exit.2 ∙ same_error (sym exit.1 ∙ e)) in
+    let case = c.args.case.now in
+    bytes_refused (faults_in case) (extension_in case) (flat_in case) (modes_in case) _ _ c.in_ok-bytes.bytes.items r c.in_ok-bytes.ensures.bytes
+    (subst (λ bs. RefusesBytes (faults_in case) (extension_in case) (flat_in case) (modes_in case) bs r) c.deref.ensures.value (c.causes_of.ensures.refused r refused))
 
 pub returns-in_err-causes-clause-failed : goal.returns-in_err-causes-clause-failed
 returns-in_err-causes-clause-failed g c e =
     let exit = err_from_is_err_and c.from_residual-in_err-causes.result c.from_residual-in_err-causes.ensures.1 in
     let refused : IsErrOf c.causes_of.result stop.Desk = c.in_err-causes.was ∙ ap (λ s. Err s) (sym exit.2 ∙ same_error (sym exit.1 ∙ e)) in
     absurd (c.causes_of.ensures.desk refused)
+
+pub returns-clause-refused : goal.returns-clause-refused
+returns-clause-refused g c r e =
+    let case = c.args.case.now in
+    let cs = map cause_of c.in_ok-causes.causes in
+    let are = subst (λ bs. AreCausesOf case bs cs) c.deref.ensures.value c.in_ok-causes.ensures.read in
+    bytes_refused (faults_in case) (extension_in case) (flat_in case) (modes_in case) _ _ c.in_ok-bytes.bytes.items r c.in_ok-bytes.ensures.bytes
+    (refuses_limit (faults_in case) (extension_in case) (flat_in case) (modes_in case) c.in_ok-bytes.bytes.items cs are c.in-Err.wrong r (sym (same_error e) ∙ c.causes_stop.ensures) c.in-Err.ensures.wrong)
 
 pub returns-clause-failed : goal.returns-clause-failed
 returns-clause-failed g c e = absurd (no_desk_at_causes _ (sym (same_error e) ∙ c.causes_stop.ensures))

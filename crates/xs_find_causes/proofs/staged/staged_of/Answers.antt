@@ -1,5 +1,6 @@
 use Rattle.std.proofs.Common.{◌≡◌, sym, ap, map, length, subst, ◌∙◌}
 use Rattle.std.proofs.lemmas.List.{length-map}
+use Rattle.std.proofs.lemmas.Result.{err_from_is_err_and}
 use Rattle.xs_tree.specs.Trace.{Each}
 use Rattle.xs_scope.specs.ModelTree.{model_tree, mode_of}
 use Rattle.xs_scope.specs.declared.model.FlatModel.{FlatModel as Made}
@@ -9,6 +10,8 @@ use Rattle.xs_causes.specs.Causes.{IsCauseOf}
 use Rattle.xs_causes.specs.Staged.{with_causes, events_of}
 use Rattle.xs_staging.specs.CauseOf.{cause_of}
 use Rattle.xs_find_causes.proofs.StagedLaws.{causes_named}
+use Rattle.xs_find_causes.specs.Causes.{flat_in, modes_in}
+use Rattle.xs_find_causes.proofs.CausesLaws.{whole_past_limit, model_past_limit}
 use Rattle.xs_find_causes.proofs.staged.staged_of.Goals as goal
 
 pub with_causes-requires : goal.with_causes-requires
@@ -30,3 +33,25 @@ returns-clause-staged c =
       typed = subst (λ (m : Made). IsTyped (model_tree m)) (sym c.in_ok-typed.ensures.model) c.in_ok-typed.ensures.typed;
       whole = subst (λ (m : Made). IsTyped (model_tree m)) (sym c.in_ok-full.ensures.model) c.in_ok-full.ensures.typed;
     }
+
+pub returns-in_err-full-clause-wrong : goal.returns-in_err-full-clause-wrong
+returns-in_err-full-clause-wrong c =
+    let exit = err_from_is_err_and c.from_residual-in_err-full.result c.from_residual-in_err-full.ensures.1 in
+    let case = c.args.case.now in
+    let cs = map cause_of c.args.causes in
+    let modes = map mode_of case.limited.faults in
+    let model = c.in_ok-staged.ensures.model ∙ ap (λ (m : Made). with_causes (model_tree m) modes cs) c.model.ensures.model in
+    let events = c.in_ok-staged.ensures.events ∙ ap (λ (m : Made). events_of (model_tree m) modes cs) c.model.ensures.model in
+    rw (exit.1, exit.2) (whole_past_limit (flat_in case) (modes_in case) cs (model_tree c.in_ok-staged.staged.model) (model_tree c.in_ok-whole.whole) (map mode_of c.in_ok-staged.staged.events)
+    model events c.in_ok-whole.ensures.model _ c.in_err-full.ensures.wrong)
+
+pub returns-in_err-typed-clause-wrong : goal.returns-in_err-typed-clause-wrong
+returns-in_err-typed-clause-wrong c =
+    let exit = err_from_is_err_and c.from_residual-in_err-typed.result c.from_residual-in_err-typed.ensures.1 in
+    let case = c.args.case.now in
+    let cs = map cause_of c.args.causes in
+    let modes = map mode_of case.limited.faults in
+    let model = c.in_ok-staged.ensures.model ∙ ap (λ (m : Made). with_causes (model_tree m) modes cs) c.model.ensures.model in
+    let events = c.in_ok-staged.ensures.events ∙ ap (λ (m : Made). events_of (model_tree m) modes cs) c.model.ensures.model in
+    rw (exit.1, exit.2) (model_past_limit (flat_in case) (modes_in case) cs (model_tree c.in_ok-staged.staged.model) (model_tree c.in_ok-whole.whole) (map mode_of c.in_ok-staged.staged.events)
+    model events c.in_ok-whole.ensures.model c.in_ok-full.ensures.typed _ c.in_err-typed.ensures.wrong)

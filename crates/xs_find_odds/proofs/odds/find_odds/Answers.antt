@@ -1,10 +1,10 @@
-use Rattle.std.proofs.Common.{Err, sym, ap, ◌∙◌}
+use Rattle.std.proofs.Common.{Err, inl, inr, sym, ap, subst, ◌∙◌}
 use Rattle.std.proofs.lemmas.Result.{err_from_is_err_and}
-use Rattle.xs_desk.specs.Desk.{said_more}
+use Rattle.xs_desk.specs.Desk.{said_more, SaysPrefix}
 use Rattle.xs_run.proofs.InputLemmas.{same_error}
 use Rattle.xs_run.proofs.OutcomeLemmas.{rose_later}
 use Rattle.xs_reach_status.proofs.StopLaws.{write_refused, write_desk}
-use Rattle.xs_find_odds.proofs.OddsLaws.{has_odds}
+use Rattle.xs_find_odds.proofs.OddsLaws.{has_odds, odds_in_part}
 use Rattle.xs_find_odds.proofs.odds.find_odds.Goals as goal
 
 pub returns-in_err-say_whole-clause-refused : goal.returns-in_err-say_whole-clause-refused
@@ -33,3 +33,15 @@ returns-clause-quiet g c quiet =
     let first = c.load_marked.ensures.quiet quiet in
     let then = c.say_whole.ensures.quiet first.0 in
     (then.0, then.1 ∙ first.1)
+
+pub returns-in_err-marked-clause-left : goal.returns-in_err-marked-clause-left
+returns-in_err-marked-clause-left g c = inl c.load_marked.ensures.said
+
+pub returns-in_err-found-clause-left : goal.returns-in_err-found-clause-left
+returns-in_err-found-clause-left g c = inl c.load_marked.ensures.said
+
+pub returns-in_err-say_whole-clause-left : goal.returns-in_err-say_whole-clause-left
+returns-in_err-say_whole-clause-left g c =
+    inr (odds_in_part _ _ _ _ c.in_ok-marked.marked _ c.in_ok-found.found _ _ c.in_ok-marked.ensures.ok c.in_ok-marked.ensures.marked c.in_ok-marked.ensures.asked c.in_ok-found.ensures
+    (subst (λ said. SaysPrefix said (g.D.Desk.said c.say_whole.new.desk) c.in_ok-found.found.report) c.load_marked.ensures.said
+    (subst (λ bytes. SaysPrefix (g.D.Desk.said c.load_marked.new.desk) (g.D.Desk.said c.say_whole.new.desk) bytes) c.as_slice.ensures c.in_err-say_whole.ensures.err)))

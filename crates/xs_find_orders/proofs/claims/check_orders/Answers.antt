@@ -1,59 +1,22 @@
-use Rattle.std.proofs.Common.{Err, IsErrOf, sym, ap, subst, ◌∙◌}
+use Rattle.std.proofs.Common.{Err, IsErrOf, inl, inr, refl, sym, ap, subst, ◌∙◌}
+use Rattle.std.specs.Prelude.{codes}
 use Rattle.std.proofs.lemmas.Result.{err_from_is_err_and}
-use Rattle.xs_scope.specs.ModelTree.{flat_tree}
-use Rattle.xs_cert.specs.Seen.{seen}
-use Rattle.xs_run.specs.Searches.{case_in}
+use Rattle.xs_desk.specs.Desk.{SaysPrefix}
+use Rattle.xs_reach_words.specs.Sets.{numbers_of}
 use Rattle.xs_run.proofs.InputLemmas.{same_error}
+use Rattle.xs_run.proofs.OutcomeLemmas.{rose_later, says_in_part}
 use Rattle.xs_reach_status.specs.declared.stop.Stop.TheVariants as stop
-use Rattle.xs_find_orders.specs.declared.pair.PairWords.{PairWords}
-use Rattle.xs_find_orders.specs.Orders.{staged_of, against_of, RefusesClaim, IsAcceptedClaim}
-use Rattle.xs_reach_status.proofs.StopLaws.{stop_refused, write_refused}
-use Rattle.xs_find_orders.proofs.ClaimLaws.{check_no_pair, check_no_certificate, check_not_accepted, check_accepted}
+use Rattle.xs_reach_status.proofs.StopLaws.{write_refused, write_desk}
+use Rattle.xs_find_orders.proofs.ClaimLaws.{check_said}
 use Rattle.xs_find_orders.proofs.claims.check_orders.Goals as goal
 
-pub returns-in_err-staged-clause-refused : goal.returns-in_err-staged-clause-refused
-returns-in_err-staged-clause-refused g c r e asked =
+pub returns-in_err-prepare-clause-refused : goal.returns-in_err-prepare-clause-refused
+returns-in_err-prepare-clause-refused g c r e asked =
     let exit = err_from_is_err_and c.from_residual.result c.from_residual.ensures.1 in
-    let refused : IsErrOf c.load_pair.result (stop.Refused r) = c.in_err-staged.was ∙ ap (λ s. Err s) (sym exit.2 ∙ same_error (sym exit.1 ∙ e)) in
-    let w : PairWords = record { model = c.args.asked.now.model; faults = c.args.asked.now.faults; top = c.args.asked.now.top; set = c.args.asked.now.set; first = c.args.asked.now.first; second = c.args.asked.now.second } in
-    check_no_pair w c.args.asked.now.claim.now c.args.asked.now.cert.now _ r (c.load_pair.ensures.refused r refused asked)
+    c.prepare.ensures.refused r (c.in_err-prepare.was ∙ ap (λ s. Err s) (sym exit.2 ∙ same_error (sym exit.1 ∙ e))) asked
 
-pub returns-in_err-certificate-clause-refused : goal.returns-in_err-certificate-clause-refused
-returns-in_err-certificate-clause-refused g c r e asked =
-    let exit = err_from_is_err_and c.from_residual-in_err-certificate.result c.from_residual-in_err-certificate.ensures.1 in
-    let is = stop_refused _ r (sym exit.2 ∙ same_error (sym exit.1 ∙ e)) in
-    let w : PairWords = record { model = c.args.asked.now.model; faults = c.args.asked.now.faults; top = c.args.asked.now.top; set = c.args.asked.now.set; first = c.args.asked.now.first; second = c.args.asked.now.second } in
-    check_no_certificate w c.args.asked.now.claim.now c.args.asked.now.cert.now _ _ r is.refused is.told c.load_pair.ensures.files
-    (c.load_certificate.ensures.refused is.refused (c.in_err-certificate.was ∙ ap (λ s. Err s) is.is))
-
-pub returns-in_err-judge-clause-refused : goal.returns-in_err-judge-clause-refused
-returns-in_err-judge-clause-refused g c r e asked =
-    let exit = err_from_is_err_and c.from_residual-in_err-judge.result c.from_residual-in_err-judge.ensures.1 in
-    let refused : IsErrOf c.judge.result (stop.Refused r) = c.in_err-judge.was ∙ ap (λ s. Err s) (sym exit.2 ∙ same_error (sym exit.1 ∙ e)) in
-    let s = c.in_ok-staged.staged in
-    let a = seen c.in_ok-certificate.certificate in
-    let w : PairWords = record { model = c.args.asked.now.model; faults = c.args.asked.now.faults; top = c.args.asked.now.top; set = c.args.asked.now.set; first = c.args.asked.now.first; second = c.args.asked.now.second } in
-    check_not_accepted w c.args.asked.now.claim.now c.args.asked.now.cert.now s c.in_ok-staged.ensures.staged c.in_ok-staged.ensures.asked (c.in_ok-staged.ensures.numbers asked) a _ _ r c.load_pair.ensures.files c.in_ok-staged.ensures.ok
-    c.in_ok-certificate.ensures.ok
-    (subst (λ claim. RefusesClaim (staged_of (case_in s.loaded) s.asked.first s.asked.second) (against_of (case_in s.loaded) s.set.items s.asked.first s.asked.second (flat_tree s.loaded.top) claim) a r) c.claim_of-claim.ensures
-    (c.judge.ensures.refused r refused))
-
-pub returns-in_err-judge-clause-failed : goal.returns-in_err-judge-clause-failed
-returns-in_err-judge-clause-failed g c e =
-    let exit = err_from_is_err_and c.from_residual-in_err-judge.result c.from_residual-in_err-judge.ensures.1 in
-    let refused : IsErrOf c.judge.result stop.Desk = c.in_err-judge.was ∙ ap (λ s. Err s) (sym exit.2 ∙ same_error (sym exit.1 ∙ e)) in
-    absurd (c.judge.ensures.desk refused)
-
-pub returns-clause-ok : goal.returns-clause-ok
-returns-clause-ok g c asked =
-    let s = c.in_ok-staged.staged in
-    let a = seen c.in_ok-certificate.certificate in
-    let w : PairWords = record { model = c.args.asked.now.model; faults = c.args.asked.now.faults; top = c.args.asked.now.top; set = c.args.asked.now.set; first = c.args.asked.now.first; second = c.args.asked.now.second } in
-    check_accepted w c.args.asked.now.claim.now c.args.asked.now.cert.now s c.in_ok-staged.ensures.staged c.in_ok-staged.ensures.asked (c.in_ok-staged.ensures.numbers asked) a _ _ _ _ _ c.load_pair.ensures.files
-    (c.load_certificate.ensures.said ∙ c.load_pair.ensures.said) c.in_ok-staged.ensures.ok c.in_ok-certificate.ensures.ok
-    (subst (λ claim. IsAcceptedClaim (staged_of (case_in s.loaded) s.asked.first s.asked.second) (against_of (case_in s.loaded) s.set.items s.asked.first s.asked.second (flat_tree s.loaded.top) claim) a) c.claim_of-claim.ensures
-    c.in_ok-judge.ensures.ok)
-    c.in_ok-say_whole.ensures.ok
+pub returns-in_err-prepare-clause-left : goal.returns-in_err-prepare-clause-left
+returns-in_err-prepare-clause-left g c = inl c.prepare.ensures.said
 
 pub returns-in_err-say_whole-clause-refused : goal.returns-in_err-say_whole-clause-refused
 returns-in_err-say_whole-clause-refused g c r e asked =
@@ -62,3 +25,36 @@ returns-in_err-say_whole-clause-refused g c r e asked =
 pub returns-in_err-say_whole-clause-untouched : goal.returns-in_err-say_whole-clause-untouched
 returns-in_err-say_whole-clause-untouched g c r e =
     let exit = err_from_is_err_and c.from_residual-in_err-say_whole.result c.from_residual-in_err-say_whole.ensures.1 in absurd (write_refused _ r (sym exit.2 ∙ same_error (sym exit.1 ∙ e)))
+
+pub returns-in_err-say_whole-clause-failed : goal.returns-in_err-say_whole-clause-failed
+returns-in_err-say_whole-clause-failed g c e =
+    let exit = err_from_is_err_and c.from_residual-in_err-say_whole.result c.from_residual-in_err-say_whole.ensures.1 in
+    let is = write_desk _ (sym exit.2 ∙ same_error (sym exit.1 ∙ e)) in
+    rose_later _ _ _ c.prepare.ensures.later (c.say_whole.ensures.failed (c.in_err-say_whole.was ∙ ap (λ s. Err s) is))
+
+pub returns-in_err-say_whole-clause-left : goal.returns-in_err-say_whole-clause-left
+returns-in_err-say_whole-clause-left g c =
+    inr (
+      subst (λ t. SaysPrefix t (g.D.Desk.said c.say_whole.new.desk) (codes "accepted\n")) c.prepare.ensures.said
+          (says_in_part c.say_whole.result _ _ _ (codes "accepted\n") refl c.say_whole.ensures.ok c.say_whole.ensures.err),
+      c.in_ok-prepare.ensures.ok,
+    )
+
+pub returns-clause-ok : goal.returns-clause-ok
+returns-clause-ok g c asked =
+    let a = c.args.asked.now in
+    check_said a.model.now a.faults.now a.top.now (numbers_of a.set.now) a.first a.second a.claim.now a.cert.now _ _ _ _ c.prepare.ensures.said (c.in_ok-prepare.ensures.ok asked) c.in_ok-say_whole.ensures.ok
+
+pub returns-clause-left : goal.returns-clause-left
+returns-clause-left g c =
+    inr (
+      subst (λ t. SaysPrefix t (g.D.Desk.said c.say_whole.new.desk) (codes "accepted\n")) c.prepare.ensures.said
+          (says_in_part c.say_whole.result _ _ _ (codes "accepted\n") refl c.say_whole.ensures.ok c.say_whole.ensures.err),
+      c.in_ok-prepare.ensures.ok,
+    )
+
+pub returns-clause-quiet : goal.returns-clause-quiet
+returns-clause-quiet g c quiet =
+    let first = c.prepare.ensures.quiet quiet in
+    let then = c.say_whole.ensures.quiet first.0 in
+    (then.0, then.1 ∙ first.1)

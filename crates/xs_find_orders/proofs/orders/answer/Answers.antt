@@ -1,30 +1,13 @@
-use Rattle.std.proofs.Common.{None}
-use Rattle.xs_find_orders.proofs.OrderLaws.{trace_found, some_trace}
 use Rattle.xs_find_orders.proofs.orders.answer.Goals as goal
 
-pub concluded-requires-clause-staged : goal.concluded-requires-clause-staged
-concluded-requires-clause-staged g c = c.requires
+pub search-requires : goal.search-requires
+search-requires g c = c.requires
 
-pub concluded-requires-clause-searched : goal.concluded-requires-clause-searched
-concluded-requires-clause-searched g c = c.in_ok-some.ensures
+pub answer_from-found-requires-clause-staged : goal.answer_from-found-requires-clause-staged
+answer_from-found-requires-clause-staged g c = c.requires
 
-pub concluded-requires-clause-none : goal.concluded-requires-clause-none
-concluded-requires-clause-none g c = c.is_empty.ensures.0 c.if-is_empty.true
-
-pub concluded-requires-clause-told : goal.concluded-requires-clause-told
-concluded-requires-clause-told g c = tt
-
-pub returns-then-is_empty : goal.returns-then-is_empty
-returns-then-is_empty g c = c.concluded.ensures
-
-pub at-requires : goal.at-requires
-at-requires g c = some_trace c.in_ok-some.some.analysis.traces c.is_empty.result c.is_empty.ensures c.if-is_empty.false
-
-pub answer_of-requires-clause-staged : goal.answer_of-requires-clause-staged
-answer_of-requires-clause-staged g c = c.requires
-
-pub answer_of-requires-clause-trace : goal.answer_of-requires-clause-trace
-answer_of-requires-clause-trace g c = trace_found c.args.staged.now None c.args.depth c.in_ok-some.some c.in_ok-some.ensures c.at.result.now c.at.ensures
+pub answer_from-found-requires-clause-searched : goal.answer_from-found-requires-clause-searched
+answer_from-found-requires-clause-searched g c = c.in_ok-some.ensures
 
 pub returns : goal.returns
-returns g c = c.answer_of.ensures
+returns g c = c.answer_from-found.ensures

@@ -17,6 +17,9 @@ certify-requires-clause-model g c = certifiable_alone c.args.staged.now c.args.c
 pub certify-requires-clause-answer : goal.certify-requires-clause-answer
 certify-requires-clause-answer g c = complete_alone c.args.staged.now c.args.claim c.args.depth c.args.searched.now c.requires.searched c.requires.none c.args.staged.now.none c.requires.staged.none c.requires.complete
 
+pub write-requires : goal.write-requires
+write-requires g c = c.in_ok-certificate.ensures.writable
+
 pub returns : goal.returns
 returns g c =
     let s = c.args.staged.now in

@@ -1,21 +1,19 @@
-use Rattle.std.proofs.Common.{Err, sym, ap, ◌∙◌}
+use Rattle.std.proofs.Common.{Err, inl, inr, sym, ap, ◌∙◌}
 use Rattle.std.proofs.lemmas.Result.{err_from_is_err_and}
+use Rattle.xs_reach_words.specs.Sets.{numbers_of}
 use Rattle.xs_run.proofs.InputLemmas.{same_error}
-use Rattle.xs_find_orders.specs.declared.pair.PairWords.{PairWords}
-use Rattle.xs_reach_status.proofs.StopLaws.{write_refused}
-use Rattle.xs_find_orders.proofs.OrderLaws.{has_order}
+use Rattle.xs_run.proofs.OutcomeLemmas.{rose_later}
+use Rattle.xs_reach_status.proofs.StopLaws.{write_refused, write_desk}
+use Rattle.xs_find_orders.proofs.OrderLaws.{has_order, orders_in_part}
 use Rattle.xs_find_orders.proofs.orders.find_orders.Goals as goal
 
-pub returns-clause-ok : goal.returns-clause-ok
-returns-clause-ok g c asked =
-    let w : PairWords = record { model = c.args.asked.now.model; faults = c.args.asked.now.faults; top = c.args.asked.now.top; set = c.args.asked.now.set; first = c.args.asked.now.first; second = c.args.asked.now.second } in
-    has_order _ c.in_ok-staged.staged w c.args.asked.now.depth c.args.asked.now.cert.now c.in_ok-answer.answer c.in_ok-status.status _ _ _ _ _ _ c.in_ok-staged.ensures.ok c.in_ok-staged.ensures.asked
-    c.in_ok-staged.ensures.numbers c.in_ok-answer.ensures c.in_ok-status.ensures.ends c.load_pair.ensures.files c.load_pair.ensures.said c.in_ok-status.ensures.ok.0 c.in_ok-status.ensures.ok.1 asked
-
-pub returns-in_err-staged-clause-refused : goal.returns-in_err-staged-clause-refused
-returns-in_err-staged-clause-refused g c r e asked =
+pub returns-in_err-found-clause-refused : goal.returns-in_err-found-clause-refused
+returns-in_err-found-clause-refused g c r e asked =
     let exit = err_from_is_err_and c.from_residual.result c.from_residual.ensures.1 in
-    c.load_pair.ensures.refused r (c.in_err-staged.was ∙ ap (λ s. Err s) (sym exit.2 ∙ same_error (sym exit.1 ∙ e))) asked
+    c.prepare.ensures.refused r (c.in_err-found.was ∙ ap (λ s. Err s) (sym exit.2 ∙ same_error (sym exit.1 ∙ e))) asked
+
+pub returns-in_err-found-clause-left : goal.returns-in_err-found-clause-left
+returns-in_err-found-clause-left g c = inl (c.prepare.ensures.files, c.prepare.ensures.said)
 
 pub returns-in_err-status-clause-refused : goal.returns-in_err-status-clause-refused
 returns-in_err-status-clause-refused g c r e asked =
@@ -24,3 +22,35 @@ returns-in_err-status-clause-refused g c r e asked =
 pub returns-in_err-status-clause-untouched : goal.returns-in_err-status-clause-untouched
 returns-in_err-status-clause-untouched g c r e =
     let exit = err_from_is_err_and c.from_residual-in_err-status.result c.from_residual-in_err-status.ensures.1 in absurd (write_refused _ r (sym exit.2 ∙ same_error (sym exit.1 ∙ e)))
+
+pub returns-in_err-status-clause-failed : goal.returns-in_err-status-clause-failed
+returns-in_err-status-clause-failed g c e =
+    let exit = err_from_is_err_and c.from_residual-in_err-status.result c.from_residual-in_err-status.ensures.1 in
+    let is = write_desk _ (sym exit.2 ∙ same_error (sym exit.1 ∙ e)) in
+    rose_later _ _ _ c.prepare.ensures.later (c.conclude.ensures.failed (c.in_err-status.was ∙ ap (λ s. Err s) is))
+
+pub returns-in_err-status-clause-left : goal.returns-in_err-status-clause-left
+returns-in_err-status-clause-left g c =
+    let a = c.args.asked.now in
+    inr
+    (λ asked. orders_in_part a.model.now a.faults.now a.top.now (numbers_of a.set.now) a.first a.second a.depth a.cert.now c.in_ok-found.found _ _ _ _ _ _ c.prepare.ensures.files c.prepare.ensures.said _
+    (c.in_ok-found.ensures.ok asked) c.conclude.ensures.part)
+
+pub returns-clause-ok : goal.returns-clause-ok
+returns-clause-ok g c asked =
+    let a = c.args.asked.now in
+    has_order a.model.now a.faults.now a.top.now (numbers_of a.set.now) a.first a.second a.depth a.cert.now c.in_ok-found.found _ _ _ _ _ _ c.prepare.ensures.files c.prepare.ensures.said _ c.in_ok-status.status
+    (c.in_ok-found.ensures.ok asked) c.in_ok-status.ensures.ends c.in_ok-status.ensures.ok.0 c.in_ok-status.ensures.ok.1
+
+pub returns-clause-left : goal.returns-clause-left
+returns-clause-left g c =
+    let a = c.args.asked.now in
+    inr
+    (λ asked. orders_in_part a.model.now a.faults.now a.top.now (numbers_of a.set.now) a.first a.second a.depth a.cert.now c.in_ok-found.found _ _ _ _ _ _ c.prepare.ensures.files c.prepare.ensures.said _
+    (c.in_ok-found.ensures.ok asked) c.conclude.ensures.part)
+
+pub returns-clause-quiet : goal.returns-clause-quiet
+returns-clause-quiet g c quiet =
+    let first = c.prepare.ensures.quiet quiet in
+    let then = c.conclude.ensures.quiet first.0 in
+    (then.0, then.1 ∙ first.1)

@@ -3,7 +3,7 @@ use Rattle.xs_desk.specs.Desk.{said_more}
 use Rattle.xs_reach_words.specs.Seen.{texts, seen}
 use Rattle.xs_reach_status.specs.Statuses.{refusal_text}
 use Rattle.xs_reach_status.specs.declared.status.Refusal.TheVariants as refused
-use Rattle.xs_reach.proofs.RunLaws.{done_for, refused_for, refused_unfinished, answer_refused, finished_kept, told_after}
+use Rattle.xs_reach.proofs.RunLaws.{done_for, refused_for, refused_unfinished, answer_refused, finished_kept, told_after, unstopped, left_at_words, left_at_stop}
 use Rattle.xs_reach.proofs.reach.run.Goals as goal
 
 pub returns-in-Err-clause-finished : goal.returns-in-Err-clause-finished
@@ -21,18 +21,18 @@ returns-in-Err-clause-words g c rule place broken answer =
     let same = c.read_words.ensures.one_fault _ _ rule place c.in-Err.ensures.fault broken in
     (c.in-Err.fault, same.0, same.1, answer_refused c.refuse.result (refused.Words c.in-Err.fault) c.refuse.ensures.ends answer)
 
-pub returns-in-Ok-perform-clause-finished : goal.returns-in-Ok-perform-clause-finished
-returns-in-Ok-perform-clause-finished g c command means finished =
-    done_for _ (texts c.args.words.now) (seen c.in-Ok.command) command c.in-Ok-perform.status _ _ _ _ c.read_words.ensures.one_command c.in-Ok.ensures.ok means c.in-Ok-perform.ensures.done
+pub returns-in-Ok-carry_out-clause-finished : goal.returns-in-Ok-carry_out-clause-finished
+returns-in-Ok-carry_out-clause-finished g c command means finished =
+    done_for _ (texts c.args.words.now) (seen c.in-Ok.command) command c.in-Ok-carry_out.status _ _ _ _ c.read_words.ensures.one_command c.in-Ok.ensures.ok means c.in-Ok-carry_out.ensures.done
 
-pub returns-in-Ok-perform-clause-refused : goal.returns-in-Ok-perform-clause-refused
-returns-in-Ok-perform-clause-refused g c command r means is = absurd (finished_kept c.in-Ok-perform.status r c.in-Ok-perform.ensures.finished is)
+pub returns-in-Ok-carry_out-clause-refused : goal.returns-in-Ok-carry_out-clause-refused
+returns-in-Ok-carry_out-clause-refused g c command r means is = absurd (finished_kept c.in-Ok-carry_out.status r c.in-Ok-carry_out.ensures.finished is)
 
-pub returns-in-Ok-perform-clause-told : goal.returns-in-Ok-perform-clause-told
-returns-in-Ok-perform-clause-told g c r is = absurd (finished_kept c.in-Ok-perform.status r c.in-Ok-perform.ensures.finished is)
+pub returns-in-Ok-carry_out-clause-told : goal.returns-in-Ok-carry_out-clause-told
+returns-in-Ok-carry_out-clause-told g c r is = absurd (finished_kept c.in-Ok-carry_out.status r c.in-Ok-carry_out.ensures.finished is)
 
-pub returns-in-Ok-perform-clause-words : goal.returns-in-Ok-perform-clause-words
-returns-in-Ok-perform-clause-words g c rule place broken answer = absurd (c.read_words.ensures.apart (seen c.in-Ok.command) rule place c.in-Ok.ensures.ok broken)
+pub returns-in-Ok-carry_out-clause-words : goal.returns-in-Ok-carry_out-clause-words
+returns-in-Ok-carry_out-clause-words g c rule place broken answer = absurd (c.read_words.ensures.apart (seen c.in-Ok.command) rule place c.in-Ok.ensures.ok broken)
 
 pub returns-clause-finished : goal.returns-clause-finished
 returns-clause-finished g c command means finished = absurd (c.stopped.ensures.ended finished)
@@ -40,13 +40,27 @@ returns-clause-finished g c command means finished = absurd (c.stopped.ensures.e
 pub returns-clause-refused : goal.returns-clause-refused
 returns-clause-refused g c command r means is =
     let stop = c.stopped.ensures.refused r is in
-    refused_for _ (texts c.args.words.now) (seen c.in-Ok.command) command r c.read_words.ensures.one_command c.in-Ok.ensures.ok means (c.in-Err-perform.ensures.refused r (ap (λ s. Err s) stop.0))
+    refused_for _ (texts c.args.words.now) (seen c.in-Ok.command) command r c.read_words.ensures.one_command c.in-Ok.ensures.ok means (c.in-Err-carry_out.ensures.refused r (ap (λ s. Err s) stop.0))
 
 pub returns-clause-told : goal.returns-clause-told
 returns-clause-told g c r is =
     let stop = c.stopped.ensures.refused r is in
-    let kept = c.in-Err-perform.ensures.untouched r (ap (λ s. Err s) stop.0) in
+    let kept = c.in-Err-carry_out.ensures.untouched r (ap (λ s. Err s) stop.0) in
     (stop.1 ∙ kept.0, stop.2 ∙ ap (λ said. said_more said (refusal_text r)) kept.1)
 
 pub returns-clause-words : goal.returns-clause-words
 returns-clause-words g c rule place broken answer = absurd (c.read_words.ensures.apart (seen c.in-Ok.command) rule place c.in-Ok.ensures.ok broken)
+
+pub carry_out-requires : goal.carry_out-requires
+carry_out-requires g c = (texts c.args.words.now, c.in-Ok.ensures.ok)
+
+pub returns-in-Err-clause-left : goal.returns-in-Err-clause-left
+returns-in-Err-clause-left g c stops = left_at_words _ (texts c.args.words.now) c.in-Err.fault _ _ _ _ c.in-Err.ensures.fault c.refuse.ensures.files c.refuse.ensures.part
+
+pub returns-in-Ok-carry_out-clause-left : goal.returns-in-Ok-carry_out-clause-left
+returns-in-Ok-carry_out-clause-left g c stops = absurd (unstopped c.in-Ok-carry_out.status c.in-Ok-carry_out.ensures.finished stops)
+
+pub returns-clause-left : goal.returns-clause-left
+returns-clause-left g c stops =
+    left_at_stop _ (texts c.args.words.now) (seen c.in-Ok.command) c.in-Err-carry_out.stop _ _ _ _ _ _ c.in-Ok.ensures.ok c.in-Err-carry_out.ensures.left
+    (λ r e. c.in-Err-carry_out.ensures.refused r (ap (λ s. Err s) e)) (λ r e. c.in-Err-carry_out.ensures.untouched r (ap (λ s. Err s) e)) c.stopped.ensures.files c.stopped.ensures.part

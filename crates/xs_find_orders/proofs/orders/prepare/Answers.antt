@@ -1,0 +1,22 @@
+use Rattle.std.proofs.Common.{Err, sym, ap, subst, ◌∙◌}
+use Rattle.std.specs.Prelude.{IfOk}
+use Rattle.std.proofs.lemmas.Result.{err_from_is_err_and}
+use Rattle.xs_run.proofs.InputLemmas.{same_error}
+use Rattle.xs_find_orders.specs.declared.pair.PairWords.{PairWords}
+use Rattle.xs_find_orders.specs.Claimed.{IsConclusion}
+use Rattle.xs_find_orders.proofs.OrderLaws.{concludes_from}
+use Rattle.xs_find_orders.proofs.orders.prepare.Goals as goal
+
+pub answer-found-requires : goal.answer-found-requires
+answer-found-requires g c = c.in_ok-staged.ensures.staged
+
+pub returns-in_err-staged-clause-refused : goal.returns-in_err-staged-clause-refused
+returns-in_err-staged-clause-refused g c r e asked =
+    let exit = err_from_is_err_and c.from_residual.result c.from_residual.ensures.1 in
+    c.load_pair.ensures.refused r (c.in_err-staged.was ∙ ap (λ s. Err s) (sym exit.2 ∙ same_error (sym exit.1 ∙ e))) asked
+
+pub returns-clause-ok : goal.returns-clause-ok
+returns-clause-ok g c asked =
+    let a = c.args.asked.now in
+    let w : PairWords = record { model = a.model; faults = a.faults; top = a.top; set = a.set; first = a.first; second = a.second } in
+    concludes_from _ c.in_ok-staged.staged w a.depth c.in_ok-found.field-0 c.in_ok-staged.ensures.ok c.in_ok-staged.ensures.asked c.in_ok-staged.ensures.numbers c.in_ok-found.ensures asked
