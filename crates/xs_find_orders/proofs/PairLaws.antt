@@ -59,7 +59,7 @@ around (x ∷ set) (suc k) within = ap (λ xs. x ∷ xs) (around set k (omega (a
 -- the first number that is none of a fault
 pub first_outside : (n : ℕ) (set : List ℕ) (k position : ℕ) → k < length set → position ≡ k + 1 → IsNumbered n (take k set) → (IsFaultNumber n (get_or set k 0) → ⊥) → IsFirstOutside n set position
 first_outside n set k position within at kept out =
-    let long : length (take k set) ≡ k = length-take-le set k (omega (arith, within)) in
+    let long : length (take k set) ≡ k = length-take-le k set (omega (arith, within)) in
     record { before = take k set; number = get_or set k 0; after = drop (suc k) set; lie = around set k within; kept = kept; outside = out; at_position = omega (arith, at, long) }
 
 -- a stop is at one refusal

@@ -22,7 +22,7 @@ returns-in_err-say_whole-clause-untouched g c r e =
 
 pub returns-in_err-say_whole-clause-left : goal.returns-in_err-say_whole-clause-left
 returns-in_err-say_whole-clause-left g c =
-    leaves_checked _ _ _ _ _ _ c.in_ok-report.report c.in_ok-report.ensures _ _
+    leaves_checked _ _ _ _ _ _ c.in_ok-report.report c.in_ok-report.ensures.ok _ _
     (says_part c.say_whole.result _ _ _ _ _ c.prepare_check.ensures.said c.as_slice.ensures c.say_whole.ensures.ok c.say_whole.ensures.err)
 
 pub returns-in_err-say_whole-clause-failed : goal.returns-in_err-say_whole-clause-failed
@@ -33,12 +33,12 @@ returns-in_err-say_whole-clause-failed g c e =
 
 pub returns-clause-ok : goal.returns-clause-ok
 returns-clause-ok g c =
-    has_checked _ _ _ _ _ _ c.in_ok-report.report c.in_ok-report.ensures _ _
+    has_checked _ _ _ _ _ _ c.in_ok-report.report c.in_ok-report.ensures.ok _ _
     (c.in_ok-say_whole.ensures.ok ∙ ap (said_more (g.D.Desk.said c.prepare_check.new.desk)) c.as_slice.ensures ∙ ap (λ t. said_more t c.in_ok-report.report) c.prepare_check.ensures.said)
 
 pub returns-clause-left : goal.returns-clause-left
 returns-clause-left g c =
-    leaves_checked _ _ _ _ _ _ c.in_ok-report.report c.in_ok-report.ensures _ _
+    leaves_checked _ _ _ _ _ _ c.in_ok-report.report c.in_ok-report.ensures.ok _ _
     (says_part c.say_whole.result _ _ _ _ _ c.prepare_check.ensures.said c.as_slice.ensures c.say_whole.ensures.ok c.say_whole.ensures.err)
 
 pub returns-clause-quiet : goal.returns-clause-quiet

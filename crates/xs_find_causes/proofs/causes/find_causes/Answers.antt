@@ -23,7 +23,7 @@ returns-in_err-status-clause-untouched g c r e =
 
 pub returns-in_err-status-clause-left : goal.returns-in_err-status-clause-left
 returns-in_err-status-clause-left g c =
-    leaves_found _ _ _ _ c.args.asked.now.cert.now c.args.asked.now.depth _ c.in_ok-found.found c.in_ok-found.ensures _ _ _ _ _ c.prepare_causes.ensures.files c.prepare_causes.ensures.said c.conclude.ensures.part
+    leaves_found _ _ _ _ c.args.asked.now.cert.now c.args.asked.now.depth _ c.in_ok-found.found c.in_ok-found.ensures.ok _ _ _ _ _ c.prepare_causes.ensures.files c.prepare_causes.ensures.said c.conclude.ensures.part
 
 pub returns-in_err-status-clause-failed : goal.returns-in_err-status-clause-failed
 returns-in_err-status-clause-failed g c e =
@@ -33,13 +33,13 @@ returns-in_err-status-clause-failed g c e =
 
 pub returns-clause-ok : goal.returns-clause-ok
 returns-clause-ok g c =
-    has_found _ _ _ _ c.args.asked.now.cert.now c.args.asked.now.depth _ c.in_ok-found.found c.in_ok-found.ensures c.in_ok-status.status _ _ _ _ c.in_ok-status.ensures.ends
+    has_found _ _ _ _ c.args.asked.now.cert.now c.args.asked.now.depth _ c.in_ok-found.found c.in_ok-found.ensures.ok c.in_ok-status.status _ _ _ _ c.in_ok-status.ensures.ends
     (c.in_ok-status.ensures.ok.0 ∙ ap (λ t. told_maybe t c.args.asked.now.cert.now c.in_ok-found.found.cert) c.prepare_causes.ensures.files)
     (c.in_ok-status.ensures.ok.1 ∙ ap (λ t. said_more t c.in_ok-found.found.report) c.prepare_causes.ensures.said)
 
 pub returns-clause-left : goal.returns-clause-left
 returns-clause-left g c =
-    leaves_found _ _ _ _ c.args.asked.now.cert.now c.args.asked.now.depth _ c.in_ok-found.found c.in_ok-found.ensures _ _ _ _ _ c.prepare_causes.ensures.files c.prepare_causes.ensures.said c.conclude.ensures.part
+    leaves_found _ _ _ _ c.args.asked.now.cert.now c.args.asked.now.depth _ c.in_ok-found.found c.in_ok-found.ensures.ok _ _ _ _ _ c.prepare_causes.ensures.files c.prepare_causes.ensures.said c.conclude.ensures.part
 
 pub returns-clause-quiet : goal.returns-clause-quiet
 returns-clause-quiet g c quiet =

@@ -19,12 +19,12 @@ returns-in-Yes-clause-ok c =
     let found = subst (IsJudgedUnlisted (staged_matter (model_tree s.typed.model) (flat_tree c.in_ok-top.top) (seen c.args.certificate.now))) c.in-Yes.is c.in_ok-judged.ensures in
     claim_accepted s c.requires.staged c.args.claim (flat_tree c.in_ok-top.top) c.in_ok-top.ensures.speaks c.in_ok-top.ensures.searchable c.args.certificate.now c.requires.checkable found.0 found.1
 
-pub returns-in-No-clause-refused : goal.returns-in-No-clause-refused
-returns-in-No-clause-refused c r e =
+pub returns-clause-refused : goal.returns-clause-refused
+returns-clause-refused c r e =
     let s = c.args.staged.now in
     let found = subst (IsJudgedUnlisted (staged_matter (model_tree s.typed.model) (flat_tree c.in_ok-top.top) (seen c.args.certificate.now))) c.in-No.is c.in_ok-judged.ensures in
     claim_refused s c.requires.staged c.args.claim (flat_tree c.in_ok-top.top) c.in_ok-top.ensures.speaks c.in_ok-top.ensures.searchable c.args.certificate.now c.in-No.line c.in-No.rule r
     (line_refused c.in-No.line c.in-No.rule _ r c.line_stop.ensures (sym c.from.ensures ∙ same_error e)) found
 
-pub returns-in-No-clause-desk : goal.returns-in-No-clause-desk
-returns-in-No-clause-desk c e = line_no_desk c.in-No.line c.in-No.rule _ c.line_stop.ensures (sym c.from.ensures ∙ same_error e)
+pub returns-clause-desk : goal.returns-clause-desk
+returns-clause-desk c e = line_no_desk c.in-No.line c.in-No.rule _ c.line_stop.ensures (sym c.from.ensures ∙ same_error e)

@@ -66,7 +66,7 @@ returns-in_err-top-clause-refused g c r e asked =
     let p = program_tree c.in_ok-model.model.program in
     let holds = holds_case _ _ c.args.asked.now.top.now c.args.asked.now.top.now _ _ p c.in_ok-case.case c.load_model.ensures.files c.in_ok-model.ensures.ok c.in_ok-case.ensures.ok in
     let numbers : c.in_ok-set.set.items ≡ numbers_of c.args.asked.now.set.now = c.in_ok-set.ensures.numbers asked in
-    let of = c.in_ok-typed.ensures in
+    let of = c.in_ok-typed.ensures.ok in
     pair_no_top c.args.asked.now.model.now c.args.asked.now.faults.now c.args.asked.now.top.now (numbers_of c.args.asked.now.set.now) c.args.asked.now.first c.args.asked.now.second _ p c.in_ok-case.case r is.refused is.told c.in_ok-case.ensures.loaded holds
     (subst (IsNumbered (length c.in_ok-case.case.limited.faults)) (c.deref.ensures.value ∙ numbers) of.numbered) (subst IsTyped of.model of.typed)
     (c.load_top.ensures.refused is.refused (c.in_err-top.was ∙ ap (λ s. Err s) is.is))
@@ -77,8 +77,8 @@ returns-in_err-top-clause-failed g c e =
     let is = stop_desk _ (sym exit.2 ∙ same_error (sym exit.1 ∙ e)) in
     absurd (c.load_top.ensures.desk (c.in_err-top.was ∙ ap (λ s. Err s) is))
 
-pub staged-typed-requires : goal.staged-typed-requires
-staged-typed-requires g c = subst (λ set. IsPair set c.args.asked.now.first c.args.asked.now.second) (sym c.deref.ensures.value) c.in_ok-set.ensures.pair
+pub staged-requires : goal.staged-requires
+staged-requires g c = subst (λ set. IsPair set c.args.asked.now.first c.args.asked.now.second) (sym c.deref.ensures.value) c.in_ok-set.ensures.pair
 
 pub returns-clause-ok : goal.returns-clause-ok
 returns-clause-ok g c =
@@ -90,7 +90,7 @@ returns-clause-staged g c =
     record {
       event = record { flat = model_tree c.in_ok-model.model.typed.model; lawful = c.in_ok-model.ensures.lawful; loaded = c.in_ok-case.ensures.loaded; event = c.in_ok-top.ensures.ok };
       pair = c.in_ok-set.ensures.pair;
-      staged = subst (λ set. IsStaged c.in_ok-case.case.limited set c.args.asked.now.first c.args.asked.now.second c.in_ok-typed.typed) c.deref.ensures.value c.in_ok-typed.ensures;
+      staged = subst (λ set. IsStaged c.in_ok-case.case.limited set c.args.asked.now.first c.args.asked.now.second c.in_ok-typed.typed) c.deref.ensures.value c.in_ok-typed.ensures.ok;
       none = c.new.ensures;
     }
 

@@ -17,17 +17,17 @@ against-requires-clause-staged c =
 
 pub against-requires-clause-set : goal.against-requires-clause-set
 against-requires-clause-set c =
-    subst (IsNumbered c.len.result) (sym c.deref.ensures.value) (subst (λ n. IsNumbered n c.args.staged.now.set.items) (sym c.len.ensures) c.requires.staged.staged.numbered)
+    subst (IsNumbered c.len-faults.result) (sym c.deref.ensures.value) (subst (λ n. IsNumbered n c.args.staged.now.set.items) (sym c.len-faults.ensures) c.requires.staged.staged.numbered)
 
 pub returns-clause-speaks : goal.returns-clause-speaks
 returns-clause-speaks c =
     IfOk-weaker c.against.result _ _
-    (λ e is. speaks_of c.args.staged.now c.args.claim c.model.result.now c.len.result c.deref.result.now c.model.ensures.model c.len.ensures c.deref.ensures.value (flat_tree e) is)
+    (λ e is. speaks_of c.args.staged.now c.args.claim c.model.result.now c.len-faults.result c.deref.result.now c.model.ensures.model c.len-faults.ensures c.deref.ensures.value (flat_tree e) is)
     c.against.ensures
 
 pub returns-clause-searchable : goal.returns-clause-searchable
 returns-clause-searchable c =
     IfOk-weaker c.against.result _ _
     (λ e is. claim_searchable c.args.staged.now c.requires.staged c.requires.few c.args.claim (flat_tree e)
-    (speaks_of c.args.staged.now c.args.claim c.model.result.now c.len.result c.deref.result.now c.model.ensures.model c.len.ensures c.deref.ensures.value (flat_tree e) is))
+    (speaks_of c.args.staged.now c.args.claim c.model.result.now c.len-faults.result c.deref.result.now c.model.ensures.model c.len-faults.ensures c.deref.ensures.value (flat_tree e) is))
     c.against.ensures
