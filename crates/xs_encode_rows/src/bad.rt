@@ -26,12 +26,12 @@ const SWITCHES: &[u8] =
 /// The bits of the number and of the switches.
 const BITS: u32 = 5;
 
-/// A top event, the sets that are listed, how many of the last bits are history and how many faults may have failed;
-/// and how many states are bad.
+/// A top event, the sets that are listed, each with a 0 after it, how many of the last bits are history and how many
+/// faults may have failed; and how many states are bad.
 #[derive(Clone, Copy)]
 struct Question<'a> {
     top: &'a [u8],
-    listed: &'a [&'a [u32]],
+    listed: &'a [u32],
     faults: u32,
     size: u32,
     count: u32,
@@ -119,10 +119,16 @@ fn top_of(
 }
 
 /// These sets as a list.
-fn sets_of(alloc: Global, sets: &[&[u32]]) -> Result<SetList, OutOfMemory> {
+fn sets_of(alloc: Global, listed: &[u32]) -> Result<SetList, OutOfMemory> {
     let mut list = SetList::new(alloc);
-    for set in sets {
-        list.push(FaultSet::from_slice(alloc, set)?)?;
+    let mut set = FaultSet::new(alloc);
+    for number in listed {
+        if *number == 0 {
+            list.push(set)?;
+            set = FaultSet::new(alloc);
+        } else {
+            set.push(*number)?;
+        }
     }
     Ok(list)
 }
@@ -137,21 +143,16 @@ fn has_failed(state: u32, faults: u32, number: u32) -> bool {
     switch % 2 == 1
 }
 
-/// Whether all faults of a set have.
-fn has_failed_whole(state: u32, faults: u32, set: &[u32]) -> bool {
-    for number in set {
-        if !has_failed(state, faults, *number) {
-            return false;
-        }
-    }
-    true
-}
-
 /// Whether all faults of some listed set have.
 fn has_failed_some(state: u32, q: &Question<'_>) -> bool {
-    for set in q.listed {
-        if has_failed_whole(state, q.faults, set) {
+    let mut whole = true;
+    for number in q.listed {
+        if *number > 0 {
+            whole = whole && has_failed(state, q.faults, *number);
+        } else if whole {
             return true;
+        } else {
+            whole = true;
         }
     }
     false
@@ -281,14 +282,14 @@ fn lists_mean_their_bad_states(rt: HostRuntime) -> Result<(), Fail> {
         // the sets of one fault and of two
         Question {
             top: b"x = 2 | a & c",
-            listed: &[&[1]],
+            listed: &[1, 0],
             faults: 3,
             size: 3,
             count: 2,
         },
         Question {
             top: b"x = 2 | a & c",
-            listed: &[&[1, 3], &[2]],
+            listed: &[1, 3, 0, 2, 0],
             faults: 3,
             size: 4,
             count: 1,
@@ -296,7 +297,7 @@ fn lists_mean_their_bad_states(rt: HostRuntime) -> Result<(), Fail> {
         // the empty set has failed whole in every state
         Question {
             top: b"x = 2 | a & c",
-            listed: &[&[]],
+            listed: &[0],
             faults: 3,
             size: 3,
             count: 0,
@@ -304,7 +305,7 @@ fn lists_mean_their_bad_states(rt: HostRuntime) -> Result<(), Fail> {
         // the last two bits alone are history
         Question {
             top: b"x > 0",
-            listed: &[&[1, 2]],
+            listed: &[1, 2, 0],
             faults: 2,
             size: 1,
             count: 8,
