@@ -226,7 +226,7 @@ fn first_wrong(rt: &impl Abort, alloc: Global, rows: &[Row<'_>]) -> Result<Optio
 }
 
 #[test]
-fn lists_mean_their_models(rt: HostRuntime) -> Result<(), Fail> {
+fn lists_of_truths_numbers_symbols_and_inputs(rt: HostRuntime) -> Result<(), Fail> {
     let rows = [
         // truth values
         Row {
@@ -264,6 +264,14 @@ fn lists_mean_their_models(rt: HostRuntime) -> Result<(), Fail> {
             inputs: 2,
             counts: [4, 1, 12],
         },
+    ];
+    assert_eq!(rt; first_wrong(&rt, rt.alloc(), &rows)?, None);
+    Ok(())
+}
+
+#[test]
+fn lists_of_definitions_cases_and_quotients(rt: HostRuntime) -> Result<(), Fail> {
+    let rows = [
         // definitions, one of which reads an input
         Row {
             still: b"MODULE main VAR n : 0..3; a : boolean; IVAR i : boolean; DEFINE both := a & i; low := n < 2; INVAR low | a;",
@@ -291,6 +299,14 @@ fn lists_mean_their_models(rt: HostRuntime) -> Result<(), Fail> {
             inputs: 0,
             counts: [32, 7, 32],
         },
+    ];
+    assert_eq!(rt; first_wrong(&rt, rt.alloc(), &rows)?, None);
+    Ok(())
+}
+
+#[test]
+fn lists_of_sums_and_sets(rt: HostRuntime) -> Result<(), Fail> {
+    let rows = [
         // sums, products and comparisons
         Row {
             still: b"MODULE main VAR x : 0..5; y : 0..3; INVAR x + y <= 7 & x * y != 6;",
@@ -309,6 +325,14 @@ fn lists_mean_their_models(rt: HostRuntime) -> Result<(), Fail> {
             inputs: 0,
             counts: [8, 2, 13],
         },
+    ];
+    assert_eq!(rt; first_wrong(&rt, rt.alloc(), &rows)?, None);
+    Ok(())
+}
+
+#[test]
+fn lists_of_frozen_variables_and_counters(rt: HostRuntime) -> Result<(), Fail> {
+    let rows = [
         // no first moment, and a variable that is frozen
         Row {
             still: b"MODULE main FROZENVAR f : boolean; VAR x : 0..2;",
