@@ -1,10 +1,9 @@
 -- What the last values of a trace tell, and its first ones.
-use Rattle.std.proofs.Common.{◌≡◌, ℕ, zero, suc, ◌+◌, ◌-◌, ◌<◌, ◌≤◌, Bool, true, false, List, [], ◌∷◌, ◌++◌, length, map, take, get_or, min, Option, Some, None, refl, sym, ap, ◌∙◌, arith}
+use Rattle.std.proofs.Common.{◌≡◌, ℕ, zero, suc, ◌+◌, ◌-◌, ◌<◌, ◌≤◌, Bool, true, false, List, [], ◌∷◌, ◌++◌, length, take, min, Some, refl, sym, ap, ◌∙◌, arith}
 use Rattle.std.specs.Prelude.{slice_get}
 use Rattle.std.proofs.lemmas.List.{append_assoc, take_more}
 use Rattle.std.proofs.lemmas.Option.{slice_get_past, get_or_from_slice_get}
 use Rattle.xs_value.specs.declared.value.Value.{Value as Numbered}
-use Rattle.xs_orders.specs.declared.Relation.{Relation}
 use Rattle.xs_orders.specs.declared.Relation.TheVariants.{Before, After, Together}
 use Rattle.xs_orders.specs.Told.{told_relation}
 use Rattle.xs_find_orders.specs.Claimed.{is_true_value, relation_at, relation_of_last, relation_in}
