@@ -1,10 +1,10 @@
 -- The two faults of a staged case, and what staged traces show of them.
-use Rattle.std.proofs.Common.{◌≡◌, ℕ, zero, suc, ◌+◌, ◌-◌, ◌<◌, ◌≤◌, Bool, true, false, IsTrue, List, [], ◌∷◌, length, map, Option, Some, None, refl, sym, ap, subst, ◌∙◌, arith, ◌⊎◌, inl, inr}
+use Rattle.std.proofs.Common.{◌≡◌, ℕ, ◌+◌, ◌-◌, ◌<◌, ◌≤◌, Bool, true, false, IsTrue, List, length, Option, Some, None, refl, sym, ap, subst, ◌∙◌, arith, ◌⊎◌, inl, inr}
 use Rattle.std.specs.Prelude.{slice_get, nat_le}
 use Rattle.std.proofs.lemmas.Bool.Decides.{leb_tells}
 use Rattle.std.proofs.lemmas.List.{length-map}
 use Rattle.xs_tree.specs.Tree.{Tree}
-use Rattle.xs_tree.specs.ProgramTree.{Text, Formula, ProgramTree, program_tree}
+use Rattle.xs_tree.specs.ProgramTree.{Formula, program_tree}
 use Rattle.xs_scope.specs.ModelTree.{model_tree, mode_of, flat_tree}
 use Rattle.xs_flattening.specs.Flat.{FlatLeaf, FlatModel}
 use Rattle.xs_flattening.specs.History.{Mode}
@@ -14,29 +14,27 @@ use Rattle.xs_kinds.proofs.ClosedLaws.{models_closed}
 use Rattle.xs_weave.specs.Woven.{woven}
 use Rattle.xs_weave.specs.Faults.{Fault}
 use Rattle.xs_weave.specs.Extended.{Moment}
-use Rattle.xs_right.specs.Sets.{has_number}
 use Rattle.xs_encoded.specs.FlatTraces.{IsNumbered}
 use Rattle.xs_flattening.proofs.Lists.{get_within}
 use Rattle.xs_extended_right.specs.ExtendedTraces.{IsExtensionModel}
 use Rattle.xs_cuts.specs.declared.answer.End.{End}
 use Rattle.xs_cuts.specs.declared.answer.End.TheVariants.{Complete, Bounded}
 use Rattle.xs_cuts_extended.specs.Answered.{ending_of}
-use Rattle.xs_reporting.specs.ExtendedTraces.{Ending, complete, bounded}
+use Rattle.xs_reporting.specs.ExtendedTraces.{Ending}
 use Rattle.xs_orders.specs.declared.Relation.{Relation}
-use Rattle.xs_orders.specs.Stage.{stage, against}
+use Rattle.xs_orders.specs.Stage.{against}
 use Rattle.xs_orders.specs.Laws.{IsTruth}
-use Rattle.xs_orders_extended.specs.Laws.{IsAsked, NoneAgainst}
+use Rattle.xs_orders_extended.specs.Laws.{IsAsked}
 use Rattle.xs_orders_extended.proofs.Said.{said, none_said}
 use Rattle.xs_orders_extended.proofs.Truths.{condition_truth}
 use Rattle.xs_faultless.specs.Laws.{class_of, NoneReaches}
 use Rattle.xs_staged.specs.Laws.{IsFaultNumber}
 use Rattle.xs_run.specs.Cases.{Case}
-use Rattle.xs_run.specs.Loaded.{case_of}
 use Rattle.xs_run.specs.Searches.{case_in}
 use Rattle.xs_run.proofs.Analysable.{model_of_case}
 use Rattle.xs_run.proofs.FlatLimits.{flat_typed}
 use Rattle.xs_find_orders.specs.declared.pair.StagedCase.{StagedCase}
-use Rattle.xs_find_orders.specs.Pairs.{IsPair, IsStagedCase}
+use Rattle.xs_find_orders.specs.Pairs.{IsStagedCase}
 use Rattle.xs_find_orders.specs.Orders.{AreFaults, IsOfEnding, IsClaimed, staged_of, against_of}
 use Rattle.xs_find_orders.specs.Claimed.{SpeaksFor}
 use Rattle.xs_find_orders.proofs.PairLaws.{count_of_faults}

@@ -1,5 +1,5 @@
 -- The words of an order ask for two numbers of a set.
-use Rattle.std.proofs.Common.{◌≡◌, ◌⊎◌, inl, inr, ℕ, Bool, true, false, ◌||◌, List, [], ◌∷◌, Option, Some, None, refl, sym, ap, subst, ◌∙◌}
+use Rattle.std.proofs.Common.{◌≡◌, ◌⊎◌, inl, inr, ℕ, Bool, true, false, ◌||◌, List, [], ◌∷◌, Some, refl, sym, ap, subst, ◌∙◌}
 use Rattle.std.specs.Prelude.{codes, nat_eq, IsTrue}
 use Rattle.std.proofs.lemmas.Bool.{eq-eqb}
 use Rattle.xs_right.specs.Sets.{has_number}
@@ -7,10 +7,10 @@ use Rattle.xs_reach_words.specs.declared.choice.Kind.{Kind}
 use Rattle.xs_reach_words.specs.declared.choice.Kind.TheVariants as kind
 use Rattle.xs_reach_words.specs.declared.verb.Verb.{Verb}
 use Rattle.xs_reach_words.specs.declared.verb.Verb.TheVariants as verb
-use Rattle.xs_reach_words.specs.Commands.{Text, Command, Given, causes, check_causes, orders, check_orders, odds}
+use Rattle.xs_reach_words.specs.Commands.{Text, Command, Given, orders, check_orders}
 use Rattle.xs_reach_words.specs.Sets.{number_of, numbers_of, IsSet, Each}
 use Rattle.xs_reach_words.specs.Table.{options_of, kind_in, Fits}
-use Rattle.xs_reach_words.specs.Meaning.{Means, Makes, finds_causes, checks_causes, finds_orders, checks_orders, finds_odds, Gives, GivesNumber, IsLawful, AreLawful, IsOfPair, IsOneOf, IsOutside, not_of_set, both_one, IsInside, AreInside}
+use Rattle.xs_reach_words.specs.Meaning.{Makes, finds_causes, checks_causes, finds_orders, checks_orders, finds_odds, Gives, GivesNumber, IsLawful, AreLawful, IsOfPair, IsOneOf, not_of_set, both_one, IsInside, AreInside}
 use Rattle.xs_find_orders.specs.Pairs.{IsPair, IsAskedPair, OrdersAskPairs, ChecksAskPairs}
 
 -- a pair of the list that gives an option this value, and what holds of each pair

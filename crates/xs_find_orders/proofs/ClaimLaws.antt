@@ -1,21 +1,19 @@
 -- What a judged certificate says of a claim.
-use Rattle.std.proofs.Common.{◌≡◌, ℕ, true, IsTrue, List, [], map, Option, Some, None, Result, Ok, Err, IfOk, OnOk, IfSome, refl, sym, ap, subst, ◌∙◌}
+use Rattle.std.proofs.Common.{◌≡◌, ℕ, true, List, [], Option, Some, None, Result, Ok, Err, IfOk, OnOk, IfSome, refl, sym, ap, subst, ◌∙◌}
 use Rattle.std.specs.Prelude.{codes}
 use Rattle.xs_desk.specs.declared.files.NamedFile.{NamedFile}
 use Rattle.xs_desk.specs.Desk.{said_more}
 use Rattle.xs_value.specs.declared.memory.OutOfMemory.{OutOfMemory}
 use Rattle.xs_tree.specs.Tree.{Tree}
-use Rattle.xs_tree.specs.ProgramTree.{Text, program_tree}
+use Rattle.xs_tree.specs.ProgramTree.{Text}
 use Rattle.xs_tree.specs.declared.expr.Expr.{Expr}
-use Rattle.xs_scope.specs.ModelTree.{model_tree, mode_of, flat_tree}
+use Rattle.xs_scope.specs.ModelTree.{model_tree, flat_tree}
 use Rattle.xs_scope.specs.declared.model.Flat.{Flat}
 use Rattle.xs_scope.specs.declared.model.FlatModel.{FlatModel as Model}
 use Rattle.xs_scope.specs.declared.model.Fault.{Fault as FaultOf}
 use Rattle.xs_flattening.specs.Flat.{FlatLeaf, FlatModel}
-use Rattle.xs_flattening.specs.History.{with_history}
 use Rattle.xs_flattening.proofs.HistoryLaws.{no_bits}
 use Rattle.xs_encoded_search.specs.Searchable.{IsSearchable}
-use Rattle.xs_trace_text.specs.Given.{GivesTrace}
 use Rattle.xs_cert.specs.Seen.{seen}
 use Rattle.xs_cert.specs.declared.certificate.Certificate.{Certificate as Written}
 use Rattle.xs_certificate.specs.Certificate.{Certificate}
@@ -27,7 +25,6 @@ use Rattle.xs_check.specs.Fit.{IsCheckable}
 use Rattle.xs_check.specs.Found.{IsJudgedUnlisted, IsObjectionUnlisted}
 use Rattle.xs_check.specs.declared.judged.Judged.{Judged}
 use Rattle.xs_orders.specs.declared.Relation.{Relation}
-use Rattle.xs_faultless.specs.Laws.{NoneReaches}
 use Rattle.xs_faultless.proofs.Refuted.{accepted_refute}
 use Rattle.xs_reporting.specs.ExtendedTraces.{complete}
 use Rattle.xs_run.specs.declared.input.Stop.{Stop as SharedStop}

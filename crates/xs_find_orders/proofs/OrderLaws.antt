@@ -1,11 +1,10 @@
 -- From the answers of searches to an order of two faults, its certificate and its report.
-use Rattle.std.proofs.Common.{◌≡◌, ◌⊎◌, inl, inr, ℕ, zero, suc, ◌+◌, ◌-◌, ◌<◌, ◌≤◌, ◌↔◌, Bool, true, false, IsTrue, List, [], ◌∷◌, ◌++◌, length, map, take, Option, Some, None, Result, Ok, Err, IfOk, IfSome, refl, sym, ap, subst, ◌∙◌, arith}
+use Rattle.std.proofs.Common.{◌≡◌, inl, inr, ℕ, ◌<◌, ◌↔◌, Bool, true, false, IsTrue, List, [], ◌∷◌, length, map, take, Option, Some, None, IfSome, refl, sym, ap, subst, ◌∙◌, arith}
 use Rattle.std.specs.Prelude.{slice_get}
 use Rattle.xs_desk.specs.declared.files.NamedFile.{NamedFile}
-use Rattle.xs_desk.specs.Desk.{told_with, said_more, WritesPrefix, SaysPrefix}
+use Rattle.xs_desk.specs.Desk.{said_more, SaysPrefix}
 use Rattle.xs_tree.specs.Tree.{Tree}
-use Rattle.xs_tree.specs.ProgramTree.{Text, Formula, program_tree}
-use Rattle.xs_tree.specs.Values.{Value}
+use Rattle.xs_tree.specs.ProgramTree.{Text}
 use Rattle.xs_value.specs.declared.value.Value.{Value as Numbered}
 use Rattle.xs_scope.specs.ModelTree.{model_tree, mode_of, flat_tree}
 use Rattle.xs_scope.specs.declared.model.Fault.{Fault as FaultOf}
@@ -48,8 +47,8 @@ use Rattle.xs_find_orders.specs.declared.searched.Searched.{Searched}
 use Rattle.xs_find_orders.specs.declared.orders.Conclusion.{Conclusion}
 use Rattle.xs_reach_words.specs.Sets.{numbers_of}
 use Rattle.xs_find_orders.specs.Pairs.{IsAsked, IsStagedCase}
-use Rattle.xs_find_orders.specs.Orders.{Order, claimed, either, IsClaimed, IsShown, IsOrder, EndsOrder, CertifiesClaim, IsClaimWritten, IsClaimBegun, order_text, order_report, staged_of, against_of, HasOrder, OrdersInPart}
-use Rattle.xs_find_orders.specs.Claimed.{SpeaksFor, IsAnswerAlone, IsSearchOf, IsTraceAgainst, IsToldBy, IsCertifiedOrder, HasClaimCertificate, Concludes, IsConclusion, ConcludesFrom, ConcludesInPart, relation_in}
+use Rattle.xs_find_orders.specs.Orders.{Order, claimed, either, IsClaimed, IsShown, EndsOrder, CertifiesClaim, IsClaimWritten, IsClaimBegun, order_text, order_report, HasOrder, OrdersInPart}
+use Rattle.xs_find_orders.specs.Claimed.{IsSearchOf, IsTraceAgainst, IsToldBy, IsCertifiedOrder, HasClaimCertificate, Concludes, IsConclusion, ConcludesFrom, ConcludesInPart, relation_in}
 use Rattle.xs_find_orders.proofs.StagedCases.{empty_sets, no_sets}
 use Rattle.xs_find_orders.proofs.AskedLaws.{the_faults, are_faults, at_stage, claim_of_class, of_class}
 use Rattle.xs_find_orders.proofs.ShownLaws.{shown_such, traces_differ}

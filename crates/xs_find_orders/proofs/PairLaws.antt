@@ -1,11 +1,9 @@
 -- Numbers of a set that are those of faults, and what a pair of them is refused for.
-use Rattle.std.proofs.Common.{◌≡◌, ℕ, zero, suc, ◌+◌, ◌<◌, ◌≤◌, IsTrue, List, [], ◌∷◌, ◌++◌, take, drop, length, map, get_or, Option, Some, None, Result, Ok, Err, IfSome, refl, sym, ap, subst, ◌∙◌, arith}
-use Rattle.std.specs.Prelude.{IsErrOf}
+use Rattle.std.proofs.Common.{◌≡◌, ℕ, zero, suc, ◌+◌, ◌<◌, ◌≤◌, IsTrue, List, [], ◌∷◌, ◌++◌, take, drop, length, get_or, Option, Some, None, IfSome, refl, sym, ap, subst, ◌∙◌, arith}
 use Rattle.std.proofs.lemmas.List.{take_more, length-map, length-take-le}
 use Rattle.xs_desk.specs.declared.files.NamedFile.{NamedFile}
 use Rattle.xs_tree.specs.ProgramTree.{Text, ProgramTree}
-use Rattle.xs_tree.specs.Trace.{Each}
-use Rattle.xs_scope.specs.ModelTree.{model_tree, mode_of}
+use Rattle.xs_scope.specs.ModelTree.{model_tree}
 use Rattle.xs_scope.specs.declared.model.FlatModel.{FlatModel as Model}
 use Rattle.xs_flattening.specs.Flat.{FlatModel}
 use Rattle.xs_right.specs.Sets.{has_number}
@@ -16,7 +14,6 @@ use Rattle.xs_kinds.specs.Models.{IsTyped}
 use Rattle.xs_extend.specs.WovenFaults.{fault_tree}
 use Rattle.xs_orders.specs.Stage.{stage}
 use Rattle.xs_staged.specs.Laws.{IsFaultNumber}
-use Rattle.xs_reach_words.specs.Sets.{numbers_of}
 use Rattle.xs_run.specs.declared.status.Refusal.{Refusal as SharedRefusal}
 use Rattle.xs_run.specs.declared.status.Refusal.TheVariants as shared_refusal
 use Rattle.xs_run.specs.declared.status.InputFault.{InputFault as SharedFault}
@@ -24,20 +21,18 @@ use Rattle.xs_run.specs.declared.input.Input.TheVariants as input
 use Rattle.xs_run.specs.declared.wrong.Wrong.{Wrong}
 use Rattle.xs_run.specs.declared.wrong.Wrong.TheVariants as wrongs
 use Rattle.xs_run.specs.declared.loaded.LoadedCase.{LoadedCase}
-use Rattle.xs_run.specs.declared.loaded.Limited.{Limited}
 use Rattle.xs_run.specs.Inputs.{stop_at, RefusesModel, HoldsModel, RefusesFaults}
 use Rattle.xs_run.specs.Wrongs.{IfRefused}
 use Rattle.xs_run.specs.Wholes.{BreaksKinds}
-use Rattle.xs_run.specs.Cases.{Case, HoldsCase, IsWrongWord}
+use Rattle.xs_run.specs.Cases.{HoldsCase, IsWrongWord}
 use Rattle.xs_run.specs.Loaded.{case_of, IsLoaded}
 use Rattle.xs_run.proofs.ReplayLemmas.{same_counts}
 use Rattle.xs_reach_status.specs.declared.status.Refusal.{Refusal}
 use Rattle.xs_reach_status.specs.declared.status.Refusal.TheVariants as refusal
 use Rattle.xs_reach_status.specs.declared.stop.Stop.{Stop}
 use Rattle.xs_reach_status.specs.declared.stop.Stop.TheVariants as stops
-use Rattle.xs_find_orders.specs.declared.pair.PairWords.{PairWords}
 use Rattle.xs_reach_status.specs.Statuses.{stop_of}
-use Rattle.xs_find_orders.specs.Pairs.{IsPair, IsFirstOutside, outside_refusal, stage_refusal, RefusesStage, outside, unlawful, RefusesPair, at_model, at_faults, at_set, at_stage, at_top, IsStaged, RefusesAsked}
+use Rattle.xs_find_orders.specs.Pairs.{IsFirstOutside, stage_refusal, RefusesStage, outside, unlawful, RefusesPair, at_model, at_faults, at_set, at_stage, at_top}
 
 -- a number of the set is that of a fault where all are
 pub number_of_fault : (n : ℕ) (set : List ℕ) (i : ℕ) → IsNumbered n set → IsTrue (has_number set i) → IsFaultNumber n i

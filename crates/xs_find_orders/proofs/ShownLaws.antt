@@ -1,15 +1,14 @@
 -- What the traces of a search over a staged case show: extended traces, their relation, and the values that are printed.
-use Rattle.std.proofs.Common.{◌≡◌, ℕ, zero, suc, ◌+◌, ◌-◌, ◌<◌, ◌≤◌, Bool, true, List, [], ◌∷◌, ◌++◌, length, map, take, Option, Some, None, refl, sym, ap, subst, ◌∙◌, arith}
+use Rattle.std.proofs.Common.{◌≡◌, ℕ, zero, suc, ◌+◌, ◌-◌, Bool, true, List, [], ◌∷◌, ◌++◌, length, map, take, Some, None, refl, sym, ap, subst, ◌∙◌, arith}
 use Rattle.std.specs.Prelude.{slice_get}
 use Rattle.std.proofs.lemmas.List.{length-map, length-append, append-nil}
-use Rattle.xs_tree.specs.Tree.{Tree}
-use Rattle.xs_tree.specs.ProgramTree.{Text, Formula, program_tree}
+use Rattle.xs_tree.specs.ProgramTree.{Text}
 use Rattle.xs_tree.specs.Values.{Value, truth}
 use Rattle.xs_value.specs.declared.value.Value.{Value as Numbered}
 use Rattle.xs_value.specs.declared.value.Value.TheVariants.{Bool as ABool, Num, Sym}
-use Rattle.xs_scope.specs.ModelTree.{model_tree, mode_of, flat_tree, variable_tree}
-use Rattle.xs_flattening.specs.Flat.{FlatLeaf, FlatModel}
-use Rattle.xs_flattening.specs.History.{Mode, with_history}
+use Rattle.xs_scope.specs.ModelTree.{flat_tree, variable_tree}
+use Rattle.xs_flattening.specs.Flat.{FlatModel}
+use Rattle.xs_flattening.specs.History.{Mode}
 use Rattle.xs_flattening.specs.FlatTrace.{IsFlatTrace}
 use Rattle.xs_encoded.specs.FlatTraces.{ReachesTop, last_of}
 use Rattle.xs_extended_right.specs.ExtendedTraces.{IsFlatCut}
@@ -23,18 +22,16 @@ use Rattle.xs_cuts_extended.proofs.Printed.{answers_printed}
 use Rattle.xs_analysis_text.specs.Analysis.{Analysis as Told}
 use Rattle.xs_orders.specs.declared.Relation.{Relation}
 use Rattle.xs_orders.specs.Stage.{stage}
-use Rattle.xs_orders.specs.Told.{ordered_told, told_relation}
+use Rattle.xs_orders.specs.Told.{told_relation}
 use Rattle.xs_orders.proofs.Ends.{own_kept}
 use Rattle.xs_orders_extended.specs.Laws.{ShowsSuch, TellsRelation}
 use Rattle.xs_orders_extended.proofs.Such.{found_such, others_such}
-use Rattle.xs_weave.specs.Extended.{Moment}
-use Rattle.xs_reporting.specs.ExtendedTraces.{complete}
 use Rattle.xs_run.specs.Cases.{Case}
 use Rattle.xs_run.specs.Searches.{case_in}
 use Rattle.xs_find_orders.specs.declared.pair.StagedCase.{StagedCase}
 use Rattle.xs_find_orders.specs.Pairs.{IsStagedCase}
-use Rattle.xs_find_orders.specs.Orders.{Relates, Differ, staged_of}
-use Rattle.xs_find_orders.specs.Claimed.{SpeaksFor, IsTraceAgainst, is_true_value, relation_at, relation_of_last, relation_in}
+use Rattle.xs_find_orders.specs.Orders.{Relates, Differ}
+use Rattle.xs_find_orders.specs.Claimed.{IsTraceAgainst, is_true_value, relation_of_last, relation_in}
 use Rattle.xs_find_orders.proofs.AskedLaws.{the_model, the_faults, at_stage}
 
 -- ---- the relation that values tell

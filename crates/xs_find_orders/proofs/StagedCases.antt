@@ -1,5 +1,5 @@
 -- A staged case can be searched with what speaks against a claim, and what was searched for can be certified.
-use Rattle.std.proofs.Common.{◌≡◌, ℕ, suc, ◌+◌, ◌<◌, ◌≤◌, List, [], ◌∷◌, length, map, refl, sym, ap, ◌∙◌, subst, arith}
+use Rattle.std.proofs.Common.{◌≡◌, ℕ, ◌+◌, ◌≤◌, List, [], ◌∷◌, length, map, refl, sym, ap, ◌∙◌, subst, arith}
 use Rattle.std.specs.Prelude.{Option}
 use Rattle.std.proofs.lemmas.List.{length-map}
 use Rattle.xs_tree.specs.Tree.{Tree}
@@ -10,7 +10,6 @@ use Rattle.xs_scope.specs.declared.model.FlatModel.{FlatModel as Model}
 use Rattle.xs_flattening.specs.Flat.{FlatLeaf, FlatModel}
 use Rattle.xs_flattening.specs.History.{Mode, with_history}
 use Rattle.xs_flattening.proofs.HistoryLaws.{no_bits}
-use Rattle.xs_kinds.specs.Costs.{cost_of}
 use Rattle.xs_kinds.specs.Models.{IsTyped}
 use Rattle.xs_encoded_search.specs.Searchable.{IsSearchable}
 use Rattle.xs_orders.specs.declared.Relation.{Relation}

@@ -1,10 +1,9 @@
 -- What the last values of a trace tell, and its first ones.
-use Rattle.std.proofs.Common.{◌≡◌, ℕ, zero, suc, ◌+◌, ◌-◌, ◌<◌, ◌≤◌, Bool, true, false, List, [], ◌∷◌, ◌++◌, length, map, take, get_or, min, Option, Some, None, refl, sym, ap, ◌∙◌, arith}
+use Rattle.std.proofs.Common.{◌≡◌, ℕ, zero, suc, ◌+◌, ◌-◌, ◌<◌, ◌≤◌, Bool, true, false, List, [], ◌∷◌, ◌++◌, length, take, min, Some, refl, sym, ap, ◌∙◌, arith}
 use Rattle.std.specs.Prelude.{slice_get}
-use Rattle.std.proofs.lemmas.List.{take_more}
+use Rattle.std.proofs.lemmas.List.{append_assoc, take_more}
 use Rattle.std.proofs.lemmas.Option.{slice_get_past, get_or_from_slice_get}
 use Rattle.xs_value.specs.declared.value.Value.{Value as Numbered}
-use Rattle.xs_orders.specs.declared.Relation.{Relation}
 use Rattle.xs_orders.specs.declared.Relation.TheVariants.{Before, After, Together}
 use Rattle.xs_orders.specs.Told.{told_relation}
 use Rattle.xs_find_orders.specs.Claimed.{is_true_value, relation_at, relation_of_last, relation_in}
@@ -52,3 +51,17 @@ all_taken v n i e = ap (λ k. take k v) e ∙ both n v
     both zero v = let none : min 0 (length v) ≡ 0 = omega arith in ap (λ k. take k v) none
     both (suc n) [] = let none : min (suc n) (length {A = Numbered} []) ≡ 0 = omega arith in ap (λ k. take {A = Numbered} k []) none
     both (suc n) (x ∷ v) = let more : min (suc n) (length (x ∷ v)) ≡ suc (min n (length v)) = omega arith in ap (λ k. take k (x ∷ v)) more ∙ ap (λ xs. x ∷ xs) (both n v)
+
+-- a text that is appended piece by piece to the line of a pair
+module _ (p i s j : List ℕ) where
+  abbrev line : List ℕ
+  line = p ++ (i ++ (s ++ (j ++ s)))
+
+  joined : (rest : List ℕ) → line ++ rest ≡ p ++ (i ++ (s ++ (j ++ (s ++ rest))))
+  joined rest =
+      append_assoc p (i ++ (s ++ (j ++ s))) rest
+      ∙ ap (λ x. p ++ x) (append_assoc i (s ++ (j ++ s)) rest ∙ ap (λ x. i ++ x) (append_assoc s (j ++ s) rest ∙ ap (λ x. s ++ x) (append_assoc j s rest)))
+
+  pub appended : (e n t said worded ended whole : List ℕ) → said ≡ line → worded ≡ said ++ e → ended ≡ worded ++ n → whole ≡ ended ++ t → whole ≡ p ++ (i ++ (s ++ (j ++ (s ++ (e ++ (n ++ t))))))
+  appended e n t said worded ended whole h word end rest =
+      rest ∙ ap (λ x. x ++ t) (end ∙ ap (λ x. x ++ n) (word ∙ ap (λ x. x ++ e) h) ∙ append_assoc line e n) ∙ append_assoc line (e ++ n) t ∙ ap (λ x. line ++ x) (append_assoc e n t) ∙ joined (e ++ (n ++ t))

@@ -1,5 +1,5 @@
 -- A set of faults with two of them, and the extension staged for these two.
-use Rattle.std.specs.Prelude.{◌≡◌, ◌≢◌, ℕ, ◌+◌, ◌≤◌, IsTrue, List, [], ◌∷◌, ◌++◌, length, map}
+use Rattle.std.specs.Prelude.{◌≡◌, ◌≢◌, ℕ, ◌+◌, IsTrue, List, [], ◌∷◌, ◌++◌, length, map}
 use Rattle.xs_desk.specs.declared.files.NamedFile.{NamedFile}
 use Rattle.xs_tree.specs.ProgramTree.{Text, ProgramTree}
 use Rattle.xs_scope.specs.ModelTree.{model_tree, mode_of}

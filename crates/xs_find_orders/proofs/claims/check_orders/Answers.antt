@@ -1,11 +1,10 @@
-use Rattle.std.proofs.Common.{Err, IsErrOf, inl, inr, refl, sym, ap, subst, ◌∙◌}
+use Rattle.std.proofs.Common.{Err, inl, inr, refl, sym, ap, subst, ◌∙◌}
 use Rattle.std.specs.Prelude.{codes}
 use Rattle.std.proofs.lemmas.Result.{err_from_is_err_and}
 use Rattle.xs_desk.specs.Desk.{SaysPrefix}
 use Rattle.xs_reach_words.specs.Sets.{numbers_of}
 use Rattle.xs_run.proofs.InputLemmas.{same_error}
 use Rattle.xs_run.proofs.OutcomeLemmas.{rose_later, says_in_part}
-use Rattle.xs_reach_status.specs.declared.stop.Stop.TheVariants as stop
 use Rattle.xs_reach_status.proofs.StopLaws.{write_refused, write_desk}
 use Rattle.xs_find_orders.proofs.ClaimLaws.{check_said}
 use Rattle.xs_find_orders.proofs.claims.check_orders.Goals as goal

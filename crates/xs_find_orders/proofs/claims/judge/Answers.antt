@@ -1,4 +1,4 @@
-use Rattle.std.proofs.Common.{Err, IsTrue, sym, ap, ◌∙◌, subst, arith}
+use Rattle.std.proofs.Common.{IsTrue, sym, ◌∙◌, subst, arith}
 use Rattle.xs_scope.specs.ModelTree.{model_tree, flat_tree}
 use Rattle.xs_cert.specs.Seen.{seen}
 use Rattle.xs_check.specs.Found.{IsJudgedUnlisted}

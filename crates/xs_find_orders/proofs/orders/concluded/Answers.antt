@@ -1,4 +1,3 @@
-use Rattle.std.proofs.Common.{◌∙◌, ap}
 use Rattle.xs_find_orders.proofs.OrderLaws.{claim_concluded}
 use Rattle.xs_find_orders.proofs.orders.concluded.Goals as goal
 

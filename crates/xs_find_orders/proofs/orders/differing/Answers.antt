@@ -1,4 +1,4 @@
-use Rattle.std.proofs.Common.{◌≡◌, length, map, take, ◌∙◌, sym, ap}
+use Rattle.std.proofs.Common.{◌≡◌, length, map, take, ◌∙◌, ap}
 use Rattle.xs_scope.specs.declared.model.FlatModel.{FlatModel}
 use Rattle.xs_kinds.specs.Costs.{state_bits}
 use Rattle.xs_run.specs.Searches.{case_in}

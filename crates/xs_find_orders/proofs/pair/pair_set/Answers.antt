@@ -1,4 +1,4 @@
-use Rattle.std.proofs.Common.{◌≡◌, Err, IsErrOf, sym, subst, ap, ◌∙◌}
+use Rattle.std.proofs.Common.{Err, IsErrOf, sym, subst, ap, ◌∙◌}
 use Rattle.std.proofs.lemmas.Result.{err_from_is_err_and}
 use Rattle.xs_run.proofs.InputLemmas.{same_error}
 use Rattle.xs_find_orders.specs.Pairs.{IsPair}

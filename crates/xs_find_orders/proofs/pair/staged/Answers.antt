@@ -1,4 +1,4 @@
-use Rattle.std.proofs.Common.{◌≡◌, Err, IsErrOf, length, subst, sym, ap, ◌∙◌}
+use Rattle.std.proofs.Common.{Err, IsErrOf, length, subst, sym, ap, ◌∙◌}
 use Rattle.std.proofs.lemmas.Result.{IfOk-weaker, err_from_is_err_and}
 use Rattle.xs_encoded.specs.FlatTraces.{IsNumbered}
 use Rattle.xs_staged.specs.Laws.{IsFaultNumber}

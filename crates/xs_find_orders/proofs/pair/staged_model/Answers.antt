@@ -1,6 +1,5 @@
-use Rattle.std.proofs.Common.{◌≡◌, ◌∙◌, sym, ap, subst, map}
+use Rattle.std.proofs.Common.{◌∙◌, sym, ap, map}
 use Rattle.xs_scope.specs.ModelTree.{model_tree, mode_of}
-use Rattle.xs_kinds.specs.Models.{IsTyped}
 use Rattle.xs_orders.specs.Stage.{stage}
 use Rattle.xs_run.proofs.InputLemmas.{same_error}
 use Rattle.xs_run.specs.Wholes.{BreaksKinds}

@@ -1,4 +1,4 @@
-use Rattle.std.proofs.Common.{◌≡◌, length, ◌-◌, ◌∙◌, sym, arith}
+use Rattle.std.proofs.Common.{◌∙◌, arith}
 use Rattle.xs_find_orders.proofs.VerdictLaws.{no_moment, last_moment}
 use Rattle.xs_find_orders.proofs.verdict.relation_of.Goals as goal
 
