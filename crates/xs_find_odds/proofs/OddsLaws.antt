@@ -1,5 +1,7 @@
 -- From the parts of the work on bounds to what it comes to.
-use Rattle.std.proofs.Common.{◌≡◌, ℕ, List, Option, Some, None, IfSome, length, refl, sym, subst, ap, ◌∙◌}
+use Rattle.std.proofs.Common.{◌≡◌, ℕ, List, Option, Some, None, IfSome, length, refl, sym, subst, ap, ◌∙◌, Result, Ok, Err}
+use Rattle.std.specs.Prelude.{OnErr}
+use Rattle.xs_reach_status.specs.declared.stop.Stop.{Stop}
 use Rattle.xs_desk.specs.declared.files.NamedFile.{NamedFile}
 use Rattle.xs_desk.specs.Desk.{said_more, SaysPrefix}
 use Rattle.xs_tree.specs.ProgramTree.{Text, ProgramTree}
@@ -79,3 +81,8 @@ module _ (model faults top : Text) where
       IfSome told (λ files. SaysOddsInPart files model faults top depth said now)
   odds_in_part None depth f said now found says = tt
   odds_in_part (Some files) depth f said now found says = record { analysis = found.analysis; report = f.report; answer = found.answer; part = says }
+
+-- what holds however a call ends holds where it is stopped
+pub on_stop : (r : Result Status Stop) (P : Type 0) → P → OnErr r P
+on_stop (Ok s) P h = tt
+on_stop (Err e) P h = h

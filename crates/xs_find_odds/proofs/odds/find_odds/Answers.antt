@@ -4,11 +4,11 @@ use Rattle.xs_desk.specs.Desk.{said_more, SaysPrefix}
 use Rattle.xs_run.proofs.InputLemmas.{same_error}
 use Rattle.xs_run.proofs.OutcomeLemmas.{rose_later}
 use Rattle.xs_reach_status.proofs.StopLaws.{write_refused, write_desk}
-use Rattle.xs_find_odds.proofs.OddsLaws.{has_odds, odds_in_part}
+use Rattle.xs_find_odds.proofs.OddsLaws.{has_odds, odds_in_part, on_stop}
 use Rattle.xs_find_odds.proofs.odds.find_odds.Goals as goal
 
 pub returns-in_err-found-clause-left : goal.returns-in_err-found-clause-left
-returns-in_err-found-clause-left g c = inl c.prepare_odds.ensures.said
+returns-in_err-found-clause-left g c = on_stop c.from_residual.result _ (inl c.prepare_odds.ensures.said)
 
 pub returns-in_err-say_whole-clause-refused : goal.returns-in_err-say_whole-clause-refused
 returns-in_err-say_whole-clause-refused g c r e =
@@ -22,9 +22,10 @@ returns-in_err-say_whole-clause-silent g c r e =
 
 pub returns-in_err-say_whole-clause-left : goal.returns-in_err-say_whole-clause-left
 returns-in_err-say_whole-clause-left g c =
-    inr (odds_in_part _ _ _ _ _ c.in_ok-found.found _ _ c.in_ok-found.ensures.ok
+    on_stop c.from_residual-in_err-say_whole.result _
+    (inr (odds_in_part _ _ _ _ _ c.in_ok-found.found _ _ c.in_ok-found.ensures.ok
     (subst (λ said. SaysPrefix said (g.D.Desk.said c.say_whole.new.desk) c.in_ok-found.found.report) c.prepare_odds.ensures.said
-    (subst (λ bytes. SaysPrefix (g.D.Desk.said c.prepare_odds.new.desk) (g.D.Desk.said c.say_whole.new.desk) bytes) c.as_slice.ensures c.in_err-say_whole.ensures.err)))
+    (subst (λ bytes. SaysPrefix (g.D.Desk.said c.prepare_odds.new.desk) (g.D.Desk.said c.say_whole.new.desk) bytes) c.as_slice.ensures c.in_err-say_whole.ensures.err))))
 
 pub returns-in_err-say_whole-clause-failed : goal.returns-in_err-say_whole-clause-failed
 returns-in_err-say_whole-clause-failed g c e =
