@@ -174,6 +174,12 @@ module _ (model faults causes top : Text) where
   staged_no_top None c cs r s e holds has keeps bad = tt
   staged_no_top (Some files) c cs r s e holds has keeps bad = at_top c cs bad.0 (e ∙ ap (λ t. refusal.Shared t) bad.1) holds has keeps bad.2
 
+  -- what is told of a case is told of the files that hold it
+  pub staged_no_rest : (told mid : Option (List NamedFile)) (c : Case) (r : Refusal) → mid ≡ told → IfSome told (λ files. HoldsCase files model faults c) →
+      (IfSome mid (λ files. HoldsCase files model faults c) → IfSome mid (λ files. RefusesStaged files model faults causes top r)) → IfSome told (λ files. RefusesStaged files model faults causes top r)
+  staged_no_rest told mid c r same holds bad =
+      subst (λ t. IfSome t (λ files. RefusesStaged files model faults causes top r)) same (bad (subst (λ t. IfSome t (λ files. HoldsCase files model faults c)) (sym same) holds))
+
   -- they hold what was loaded
   pub holds_staged : (told : Option (List NamedFile)) (l : StagedEvent) → IfSome told (λ files. HoldsCase files model faults (case_in l.loaded)) →
       IfSome told (λ files. HasCauses files causes (case_in l.loaded) (causes_in l)) → l.word.now ≡ top → IsStagedEvent l → IfSome told (λ files. HoldsStaged files model faults causes top l)

@@ -6,6 +6,10 @@ ghost use Rattle.xs_run.specs.Cases.{HoldsCase};
 ghost use Rattle.xs_run.specs.Tasks.{HasAtMost};
 ghost use Rattle.xs_run.specs.Wrongs.{IfRefused};
 ghost use Rattle.xs_run.specs.Searches.{case_in};
+ghost use Rattle.xs_run.specs.Models.{IsLawful};
+ghost use Rattle.xs_run.specs.Loaded.{case_of, IsLoaded, IsTopIn};
+ghost use Rattle.xs_tree.specs.ProgramTree.{Text, program_tree};
+ghost use Rattle.xs_scope.specs.ModelTree.{model_tree, flat_tree};
 ghost use Rattle.xs_causes_reader.specs.Broken.{rule_of};
 ghost use Rattle.xs_reach_status.specs.declared.status.Refusal.{Refusal};
 ghost use Rattle.xs_reach_status.specs.declared.status.Refusal.TheVariants as refusal;
@@ -17,16 +21,17 @@ ghost use Rattle.xs_find_causes.specs.Refusals.{cause_number, stop_of_causes, Is
 use std::alloc::Global;
 use xs_causes_reader::{CauseFault, CauseRule, read_causes};
 use xs_desk::{Desk, DeskFault, read_whole};
-use xs_flat::{FaultList, with_history};
+use xs_flat::{FaultList, Flat, with_history};
 use xs_reach_status::status::{InputFault, Part, Refusal};
 use xs_reach_status::stop::Stop;
 use xs_run::event::LoadedEvent;
 use xs_run::loaded::{LoadedCase, load_case, typed_whole};
-use xs_run::model::load_model;
+use xs_run::model::{LoadedModel, load_model};
 use xs_run::status as shared;
 use xs_run::top::load_top;
 use xs_run::wrong::Wrong;
 use xs_staging::{CauseList, with_causes};
+use xs_tree::Expr;
 use xs_types::Typed;
 
 /// The limit of a causes file, in bytes.
@@ -56,6 +61,13 @@ pub struct StagedCase {
     pub events: FaultList,
 }
 
+/// An extension with common causes, and a top event over the extension.
+#[derive(Drop)]
+struct StagedTop {
+    staged: StagedCase,
+    top: Expr<Flat>,
+}
+
 /// The model, the instructions and the causes of three files, with the top event that a word spells.
 pub(crate) fn load_staged<'a, D: Desk>(
     alloc: Global,
@@ -80,8 +92,8 @@ pub(crate) fn load_staged<'a, D: Desk>(
 {
     let model = load_model(alloc, desk, model)?;
     let case = load_case(alloc, desk, faults, &model)?;
-    let staged = load_causes(alloc, desk, causes, &case)?;
-    let top = load_top(alloc, word, &model, &case)?;
+    let found = load_causes_and_top(alloc, desk, causes, word, &model, &case)?;
+    let StagedTop { staged, top } = found;
     let StagedCase {
         causes,
         typed,
@@ -100,6 +112,43 @@ pub(crate) fn load_staged<'a, D: Desk>(
 
 /// Lets go of what was loaded.
 pub(crate) fn discard(_staged: StagedEvent<'_>) {}
+
+/// The extension with the causes of a file, and the top event that a word spells over it.
+fn load_causes_and_top<D: Desk>(
+    alloc: Global,
+    desk: &mut D,
+    name: &str,
+    word: &str,
+    model: &LoadedModel,
+    case: &LoadedCase,
+) -> Result<StagedTop, Stop>
+    requires lawful { IsLawful (program_tree model.now.program) (model_tree model.now.typed.model) }
+    requires loaded { IsLoaded (program_tree model.now.program) case.now }
+    ensures causes { IfOk result (λ l. IfSome (D.files desk.old) (λ files. HoldsCauses files name.now (faults_in case.now) (extension_in case.now) (map cause_of l.staged.causes))) }
+    ensures staged { IfOk result (λ l. IsStagedCase case.now l.staged) }
+    ensures top { IfOk result (λ l. IsTopIn (case_of (program_tree model.now.program) case.now) word.now (flat_tree l.top)) }
+    ensures refused { (r : Refusal) → IsErrOf result (stop.Refused r) → (of_model : Text) → (of_faults : Text) →
+        IfSome (D.files desk.old) (λ files. HoldsCase files of_model of_faults (case_of (program_tree model.now.program) case.now)) →
+        IfSome (D.files desk.old) (λ files. RefusesStaged files of_model of_faults name.now word.now r) }
+    ensures failed { IsErrOf result stop.Desk → Rose (D.faults desk.old) (D.faults desk.new) }
+
+    ensures files { D.files desk.new ≡ D.files desk.old }
+    ensures said { D.said desk.new ≡ D.said desk.old }
+    ensures later { D.faults desk.old ≤ D.faults desk.new }
+    ensures quiet { D.quiet desk.old → D.quiet desk.new × (D.faults desk.new ≡ D.faults desk.old) }
+{
+    let staged = load_causes(alloc, desk, name, case)?;
+    match load_top(alloc, word, model, case) {
+        Ok(top) => Ok(StagedTop { staged, top }),
+        Err(stop) => {
+            discard_case(staged);
+            Err(Stop::from(stop))
+        }
+    }
+}
+
+/// Lets go of an extension with common causes.
+fn discard_case(_staged: StagedCase) {}
 
 /// The extension with the causes of a file.
 fn load_causes<D: Desk>(

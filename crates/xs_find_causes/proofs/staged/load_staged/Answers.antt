@@ -1,18 +1,15 @@
-use Rattle.std.proofs.Common.{Err, IsErrOf, sym, ap, map, ◌∙◌}
+use Rattle.std.proofs.Common.{arith, Err, IsErrOf, IfSome, sym, ap, subst, map, ◌∙◌}
 use Rattle.std.proofs.lemmas.Result.{err_from_is_err_and}
 use Rattle.xs_tree.specs.ProgramTree.{program_tree}
 use Rattle.xs_scope.specs.ModelTree.{model_tree}
 use Rattle.xs_staging.specs.CauseOf.{cause_of}
 use Rattle.xs_run.specs.Loaded.{case_of}
 use Rattle.xs_run.proofs.InputLemmas.{same_error}
-use Rattle.xs_run.proofs.OutcomeLemmas.{holds_case}
+use Rattle.xs_run.proofs.OutcomeLemmas.{holds_case, rose_later}
 use Rattle.xs_reach_status.specs.declared.stop.Stop.TheVariants as stop
 use Rattle.xs_reach_status.proofs.StopLaws.{stop_refused, stop_desk}
-use Rattle.xs_find_causes.proofs.CausesLaws.{has_causes, keeps_limits, staged_no_model, staged_no_faults, staged_no_causes, staged_no_top}
+use Rattle.xs_find_causes.proofs.CausesLaws.{has_causes, staged_no_model, staged_no_faults, staged_no_rest}
 use Rattle.xs_find_causes.proofs.staged.load_staged.Goals as goal
-
-pub load_causes-requires : goal.load_causes-requires
-load_causes-requires g c = (program_tree c.in_ok-model.model.program, c.in_ok-case.ensures.loaded)
 
 pub returns-clause-case : goal.returns-clause-case
 returns-clause-case g c =
@@ -21,14 +18,14 @@ returns-clause-case g c =
 
 pub returns-clause-causes : goal.returns-clause-causes
 returns-clause-causes g c =
-    has_causes _ _ (program_tree c.in_ok-model.model.program) c.in_ok-case.case _ (map cause_of c.in_ok-staged.staged.causes) c.in_ok-case.ensures.loaded
-    (c.load_case.ensures.files ∙ c.load_model.ensures.files) c.in_ok-staged.ensures.ok
+    has_causes _ _ (program_tree c.in_ok-model.model.program) c.in_ok-case.case _ (map cause_of c.in_ok-found.found.staged.causes) c.in_ok-case.ensures.loaded
+    (c.load_case.ensures.files ∙ c.load_model.ensures.files) c.in_ok-found.ensures.causes
 
 pub returns-clause-staged : goal.returns-clause-staged
 returns-clause-staged g c =
     record {
-      event = record { flat = model_tree c.in_ok-model.model.typed.model; lawful = c.in_ok-model.ensures.lawful; loaded = c.in_ok-case.ensures.loaded; event = c.in_ok-top.ensures.ok };
-      staged = c.in_ok-staged.ensures.staged;
+      event = record { flat = model_tree c.in_ok-model.model.typed.model; lawful = c.in_ok-model.ensures.lawful; loaded = c.in_ok-case.ensures.loaded; event = c.in_ok-found.ensures.top };
+      staged = c.in_ok-found.ensures.staged;
     }
 
 pub returns-in_err-model-clause-refused : goal.returns-in_err-model-clause-refused
@@ -49,27 +46,81 @@ returns-in_err-case-clause-refused g c r e =
     let is = stop_refused _ r (sym exit.2 ∙ same_error (sym exit.1 ∙ e)) in
     staged_no_faults _ _ _ _ _ _ _ r is.refused is.told c.load_model.ensures.files c.in_ok-model.ensures.ok (c.load_case.ensures.refused is.refused (c.in_err-case.was ∙ ap (λ s. Err s) is.is))
 
-pub returns-in_err-staged-clause-refused : goal.returns-in_err-staged-clause-refused
-returns-in_err-staged-clause-refused g c r e =
-    let exit = err_from_is_err_and c.from_residual-in_err-staged.result c.from_residual-in_err-staged.ensures.1 in
-    let refused : IsErrOf c.load_causes.result (stop.Refused r) = c.in_err-staged.was ∙ ap (λ s. Err s) (sym exit.2 ∙ same_error (sym exit.1 ∙ e)) in
-    let p = program_tree c.in_ok-model.model.program in
-    let holds = holds_case _ _ c.args.word.now c.args.word.now _ _ p c.in_ok-case.case c.load_model.ensures.files c.in_ok-model.ensures.ok c.in_ok-case.ensures.ok in
-    staged_no_causes _ _ _ _ _ _ p c.in_ok-case.case r c.in_ok-case.ensures.loaded (c.load_case.ensures.files ∙ c.load_model.ensures.files) holds (c.load_causes.ensures.refused r refused)
-
-pub returns-in_err-top-clause-refused : goal.returns-in_err-top-clause-refused
-returns-in_err-top-clause-refused g c r e =
-    let exit = err_from_is_err_and c.from_residual-in_err-top.result c.from_residual-in_err-top.ensures.1 in
-    let is = stop_refused _ r (sym exit.2 ∙ same_error (sym exit.1 ∙ e)) in
-    let p = program_tree c.in_ok-model.model.program in
-    let cs = map cause_of c.in_ok-staged.staged.causes in
-    let holds = holds_case _ _ c.args.word.now c.args.word.now _ _ p c.in_ok-case.case c.load_model.ensures.files c.in_ok-model.ensures.ok c.in_ok-case.ensures.ok in
-    let has = has_causes _ _ p c.in_ok-case.case _ cs c.in_ok-case.ensures.loaded (c.load_case.ensures.files ∙ c.load_model.ensures.files) c.in_ok-staged.ensures.ok in
-    staged_no_top _ _ _ _ _ (case_of p c.in_ok-case.case) cs r is.refused is.told holds has (keeps_limits c.in_ok-case.case cs _ _ _ c.in_ok-staged.ensures.staged)
-    (c.load_top.ensures.refused is.refused (c.in_err-top.was ∙ ap (λ s. Err s) is.is))
-
-pub returns-in_err-top-clause-failed : goal.returns-in_err-top-clause-failed
-returns-in_err-top-clause-failed g c e =
-    let exit = err_from_is_err_and c.from_residual-in_err-top.result c.from_residual-in_err-top.ensures.1 in
+pub returns-in_err-case-clause-failed : goal.returns-in_err-case-clause-failed
+returns-in_err-case-clause-failed g c e =
+    let exit = err_from_is_err_and c.from_residual-in_err-case.result c.from_residual-in_err-case.ensures.1 in
     let is = stop_desk _ (sym exit.2 ∙ same_error (sym exit.1 ∙ e)) in
-    absurd (c.load_top.ensures.desk (c.in_err-top.was ∙ ap (λ s. Err s) is))
+    rose_later _ _ _ c.load_model.ensures.later (c.load_case.ensures.failed (c.in_err-case.was ∙ ap (λ s. Err s) is))
+
+pub returns-in_err-found-clause-refused : goal.returns-in_err-found-clause-refused
+returns-in_err-found-clause-refused g c r e =
+    let exit = err_from_is_err_and c.from_residual-in_err-found.result c.from_residual-in_err-found.ensures.1 in
+    let refused : IsErrOf c.load_causes_and_top.result (stop.Refused r) = c.in_err-found.was ∙ ap (λ s. Err s) (sym exit.2 ∙ same_error (sym exit.1 ∙ e)) in
+    let p = program_tree c.in_ok-model.model.program in
+    let holds = holds_case _ _ c.args.word.now c.args.word.now _ _ p c.in_ok-case.case c.load_model.ensures.files c.in_ok-model.ensures.ok c.in_ok-case.ensures.ok in
+    staged_no_rest _ _ _ _ _ _ (case_of p c.in_ok-case.case) r (c.load_case.ensures.files ∙ c.load_model.ensures.files) holds (c.load_causes_and_top.ensures.refused r refused _ _)
+
+pub returns-in_err-found-clause-failed : goal.returns-in_err-found-clause-failed
+returns-in_err-found-clause-failed g c e =
+    let exit = err_from_is_err_and c.from_residual-in_err-found.result c.from_residual-in_err-found.ensures.1 in
+    let failed : IsErrOf c.load_causes_and_top.result stop.Desk = c.in_err-found.was ∙ ap (λ s. Err s) (sym exit.2 ∙ same_error (sym exit.1 ∙ e)) in
+    rose_later _ _ _ c.load_model.ensures.later (rose_later _ _ _ c.load_case.ensures.later (c.load_causes_and_top.ensures.failed failed))
+
+pub returns-in_err-model-clause-files : goal.returns-in_err-model-clause-files
+returns-in_err-model-clause-files g c = c.load_model.ensures.files
+
+pub returns-in_err-model-clause-said : goal.returns-in_err-model-clause-said
+returns-in_err-model-clause-said g c = c.load_model.ensures.said
+
+pub returns-in_err-model-clause-later : goal.returns-in_err-model-clause-later
+returns-in_err-model-clause-later g c = c.load_model.ensures.later
+
+pub returns-in_err-model-clause-quiet : goal.returns-in_err-model-clause-quiet
+returns-in_err-model-clause-quiet g c quiet = c.load_model.ensures.quiet quiet
+
+pub returns-in_err-case-clause-files : goal.returns-in_err-case-clause-files
+returns-in_err-case-clause-files g c = c.load_case.ensures.files ∙ c.load_model.ensures.files
+
+pub returns-in_err-case-clause-said : goal.returns-in_err-case-clause-said
+returns-in_err-case-clause-said g c = c.load_case.ensures.said ∙ c.load_model.ensures.said
+
+pub returns-in_err-case-clause-later : goal.returns-in_err-case-clause-later
+returns-in_err-case-clause-later g c = omega (arith, c.load_model.ensures.later, c.load_case.ensures.later)
+
+pub returns-in_err-case-clause-quiet : goal.returns-in_err-case-clause-quiet
+returns-in_err-case-clause-quiet g c quiet =
+    let first = c.load_model.ensures.quiet quiet in
+    let second = c.load_case.ensures.quiet first.0 in
+    (second.0, second.1 ∙ first.1)
+
+pub returns-in_err-found-clause-files : goal.returns-in_err-found-clause-files
+returns-in_err-found-clause-files g c = c.load_causes_and_top.ensures.files ∙ c.load_case.ensures.files ∙ c.load_model.ensures.files
+
+pub returns-in_err-found-clause-said : goal.returns-in_err-found-clause-said
+returns-in_err-found-clause-said g c = c.load_causes_and_top.ensures.said ∙ c.load_case.ensures.said ∙ c.load_model.ensures.said
+
+pub returns-in_err-found-clause-later : goal.returns-in_err-found-clause-later
+returns-in_err-found-clause-later g c = omega (arith, c.load_model.ensures.later, c.load_case.ensures.later, c.load_causes_and_top.ensures.later)
+
+pub returns-in_err-found-clause-quiet : goal.returns-in_err-found-clause-quiet
+returns-in_err-found-clause-quiet g c quiet =
+    let first = c.load_model.ensures.quiet quiet in
+    let second = c.load_case.ensures.quiet first.0 in
+    let third = c.load_causes_and_top.ensures.quiet second.0 in
+    (third.0, third.1 ∙ second.1 ∙ first.1)
+
+pub returns-clause-files : goal.returns-clause-files
+returns-clause-files g c = c.load_causes_and_top.ensures.files ∙ c.load_case.ensures.files ∙ c.load_model.ensures.files
+
+pub returns-clause-said : goal.returns-clause-said
+returns-clause-said g c = c.load_causes_and_top.ensures.said ∙ c.load_case.ensures.said ∙ c.load_model.ensures.said
+
+pub returns-clause-later : goal.returns-clause-later
+returns-clause-later g c = omega (arith, c.load_model.ensures.later, c.load_case.ensures.later, c.load_causes_and_top.ensures.later)
+
+pub returns-clause-quiet : goal.returns-clause-quiet
+returns-clause-quiet g c quiet =
+    let first = c.load_model.ensures.quiet quiet in
+    let second = c.load_case.ensures.quiet first.0 in
+    let third = c.load_causes_and_top.ensures.quiet second.0 in
+    (third.0, third.1 ∙ second.1 ∙ first.1)
