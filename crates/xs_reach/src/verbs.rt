@@ -31,12 +31,11 @@ pub(crate) fn carry_out<D: Desk>(
     command: &Command,
     panel: &mut Panel,
 ) -> Result<Status, Stop>
-    requires { (words : List Text) × Means words (seen command.now) }
-    ensures done { IfOk result (λ s. IfSome (D.files desk.old) (λ files. IsDone (seen command.now) files s (D.files desk.old) (D.files desk.new) (D.said desk.old) (D.said desk.new))) }
+    ensures done { (words : List Text) → Means words (seen command.now) → IfOk result (λ s. IfSome (D.files desk.old) (λ files. IsDone (seen command.now) files s (D.files desk.old) (D.files desk.new) (D.said desk.old) (D.said desk.new))) }
     ensures finished { IfOk result IsFinished }
-    ensures refused { (r : Refusal) → IsErrOf result (stops.Refused r) → IfSome (D.files desk.old) (λ files. RefusesCommand (seen command.now) files r) }
+    ensures refused { (words : List Text) → Means words (seen command.now) → (r : Refusal) → IsErrOf result (stops.Refused r) → IfSome (D.files desk.old) (λ files. RefusesCommand (seen command.now) files r) }
     ensures untouched { (r : Refusal) → IsErrOf result (stops.Refused r) → (D.files desk.new ≡ D.files desk.old) × (D.said desk.new ≡ D.said desk.old) }
-    ensures left { OnErr result (((D.files desk.new ≡ D.files desk.old) × (D.said desk.new ≡ D.said desk.old)) ⊎ IfSome (D.files desk.old) (λ files.
+    ensures left { (words : List Text) → Means words (seen command.now) → OnErr result (((D.files desk.new ≡ D.files desk.old) × (D.said desk.new ≡ D.said desk.old)) ⊎ IfSome (D.files desk.old) (λ files.
         IsDoneInPart (seen command.now) files (D.files desk.old) (D.files desk.new) (D.said desk.old) (D.said desk.new))) }
     ensures failed { IsErrOf result stops.Desk → Rose (D.faults desk.old) (D.faults desk.new) }
     ensures later { D.faults desk.old ≤ D.faults desk.new }
@@ -93,12 +92,11 @@ fn orders<D: Desk>(
     asked: &FindOrders,
     panel: &mut Panel,
 ) -> Result<Status, Stop>
-    requires { (words : List Text) × Means words (seen (asks.Orders asked.now)) }
-    ensures done { IfOk result (λ s. IfSome (D.files desk.old) (λ files. IsDone (seen (asks.Orders asked.now)) files s (D.files desk.old) (D.files desk.new) (D.said desk.old) (D.said desk.new))) }
+    ensures done { (words : List Text) → Means words (seen (asks.Orders asked.now)) → IfOk result (λ s. IfSome (D.files desk.old) (λ files. IsDone (seen (asks.Orders asked.now)) files s (D.files desk.old) (D.files desk.new) (D.said desk.old) (D.said desk.new))) }
     ensures finished { IfOk result IsFinished }
-    ensures refused { (r : Refusal) → IsErrOf result (stops.Refused r) → IfSome (D.files desk.old) (λ files. RefusesCommand (seen (asks.Orders asked.now)) files r) }
+    ensures refused { (words : List Text) → Means words (seen (asks.Orders asked.now)) → (r : Refusal) → IsErrOf result (stops.Refused r) → IfSome (D.files desk.old) (λ files. RefusesCommand (seen (asks.Orders asked.now)) files r) }
     ensures untouched { (r : Refusal) → IsErrOf result (stops.Refused r) → (D.files desk.new ≡ D.files desk.old) × (D.said desk.new ≡ D.said desk.old) }
-    ensures left { OnErr result (((D.files desk.new ≡ D.files desk.old) × (D.said desk.new ≡ D.said desk.old)) ⊎ IfSome (D.files desk.old) (λ files.
+    ensures left { (words : List Text) → Means words (seen (asks.Orders asked.now)) → OnErr result (((D.files desk.new ≡ D.files desk.old) × (D.said desk.new ≡ D.said desk.old)) ⊎ IfSome (D.files desk.old) (λ files.
         IsDoneInPart (seen (asks.Orders asked.now)) files (D.files desk.old) (D.files desk.new) (D.said desk.old) (D.said desk.new))) }
     ensures failed { IsErrOf result stops.Desk → Rose (D.faults desk.old) (D.faults desk.new) }
     ensures later { D.faults desk.old ≤ D.faults desk.new }
@@ -110,12 +108,11 @@ fn orders<D: Desk>(
 
 /// Judges a certificate of such an order.
 fn checked_orders<D: Desk>(alloc: Global, desk: &mut D, asked: &CheckOrders) -> Result<Status, Stop>
-    requires { (words : List Text) × Means words (seen (asks.CheckOrders asked.now)) }
-    ensures done { IfOk result (λ s. IfSome (D.files desk.old) (λ files. IsDone (seen (asks.CheckOrders asked.now)) files s (D.files desk.old) (D.files desk.new) (D.said desk.old) (D.said desk.new))) }
+    ensures done { (words : List Text) → Means words (seen (asks.CheckOrders asked.now)) → IfOk result (λ s. IfSome (D.files desk.old) (λ files. IsDone (seen (asks.CheckOrders asked.now)) files s (D.files desk.old) (D.files desk.new) (D.said desk.old) (D.said desk.new))) }
     ensures finished { IfOk result IsFinished }
-    ensures refused { (r : Refusal) → IsErrOf result (stops.Refused r) → IfSome (D.files desk.old) (λ files. RefusesCommand (seen (asks.CheckOrders asked.now)) files r) }
+    ensures refused { (words : List Text) → Means words (seen (asks.CheckOrders asked.now)) → (r : Refusal) → IsErrOf result (stops.Refused r) → IfSome (D.files desk.old) (λ files. RefusesCommand (seen (asks.CheckOrders asked.now)) files r) }
     ensures untouched { (r : Refusal) → IsErrOf result (stops.Refused r) → (D.files desk.new ≡ D.files desk.old) × (D.said desk.new ≡ D.said desk.old) }
-    ensures left { OnErr result (((D.files desk.new ≡ D.files desk.old) × (D.said desk.new ≡ D.said desk.old)) ⊎ IfSome (D.files desk.old) (λ files.
+    ensures left { (words : List Text) → Means words (seen (asks.CheckOrders asked.now)) → OnErr result (((D.files desk.new ≡ D.files desk.old) × (D.said desk.new ≡ D.said desk.old)) ⊎ IfSome (D.files desk.old) (λ files.
         IsDoneInPart (seen (asks.CheckOrders asked.now)) files (D.files desk.old) (D.files desk.new) (D.said desk.old) (D.said desk.new))) }
     ensures failed { IsErrOf result stops.Desk → Rose (D.faults desk.old) (D.faults desk.new) }
     ensures later { D.faults desk.old ≤ D.faults desk.new }

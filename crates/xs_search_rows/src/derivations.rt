@@ -97,8 +97,8 @@ const LINKS: u64 = 100_000;
 // The clauses of the chain: 1, and then -i or i + 1 for each link.
 fn give_chain(rt: &impl Abort, alloc: Global, checker: &mut Checker) -> Result<(), OutOfMemory> {
     give(rt, alloc, checker, &[1])?;
-    for i in 1..=LINKS as i64 {
-        give(rt, alloc, checker, &[-i, i + 1])?;
+    for i in 1..=LINKS {
+        give(rt, alloc, checker, &[-(i as i64), i as i64 + 1])?;
     }
     Ok(())
 }

@@ -23,7 +23,7 @@ returns-in-Err-clause-words g c rule place broken answer =
 
 pub returns-in-Ok-carry_out-clause-finished : goal.returns-in-Ok-carry_out-clause-finished
 returns-in-Ok-carry_out-clause-finished g c command means finished =
-    done_for _ (texts c.args.words.now) (seen c.in-Ok.command) command c.in-Ok-carry_out.status _ _ _ _ c.read_words.ensures.one_command c.in-Ok.ensures.ok means c.in-Ok-carry_out.ensures.done
+    done_for _ (texts c.args.words.now) (seen c.in-Ok.command) command c.in-Ok-carry_out.status _ _ _ _ c.read_words.ensures.one_command c.in-Ok.ensures.ok means (c.in-Ok-carry_out.ensures.done (texts c.args.words.now) c.in-Ok.ensures.ok)
 
 pub returns-in-Ok-carry_out-clause-refused : goal.returns-in-Ok-carry_out-clause-refused
 returns-in-Ok-carry_out-clause-refused g c command r means is = absurd (finished_kept c.in-Ok-carry_out.status r c.in-Ok-carry_out.ensures.finished is)
@@ -40,7 +40,7 @@ returns-clause-finished g c command means finished = absurd (c.stopped.ensures.e
 pub returns-clause-refused : goal.returns-clause-refused
 returns-clause-refused g c command r means is =
     let stop = c.stopped.ensures.refused r is in
-    refused_for _ (texts c.args.words.now) (seen c.in-Ok.command) command r c.read_words.ensures.one_command c.in-Ok.ensures.ok means (c.in-Err-carry_out.ensures.refused r (ap (λ s. Err s) stop.0))
+    refused_for _ (texts c.args.words.now) (seen c.in-Ok.command) command r c.read_words.ensures.one_command c.in-Ok.ensures.ok means (c.in-Err-carry_out.ensures.refused (texts c.args.words.now) c.in-Ok.ensures.ok r (ap (λ s. Err s) stop.0))
 
 pub returns-clause-told : goal.returns-clause-told
 returns-clause-told g c r is =
@@ -51,9 +51,6 @@ returns-clause-told g c r is =
 pub returns-clause-words : goal.returns-clause-words
 returns-clause-words g c rule place broken answer = absurd (c.read_words.ensures.apart (seen c.in-Ok.command) rule place c.in-Ok.ensures.ok broken)
 
-pub carry_out-requires : goal.carry_out-requires
-carry_out-requires g c = (texts c.args.words.now, c.in-Ok.ensures.ok)
-
 pub returns-in-Err-clause-left : goal.returns-in-Err-clause-left
 returns-in-Err-clause-left g c stops = left_at_words _ (texts c.args.words.now) c.in-Err.fault _ _ _ _ c.in-Err.ensures.fault c.refuse.ensures.files c.refuse.ensures.part
 
@@ -62,5 +59,5 @@ returns-in-Ok-carry_out-clause-left g c stops = absurd (unstopped c.in-Ok-carry_
 
 pub returns-clause-left : goal.returns-clause-left
 returns-clause-left g c stops =
-    left_at_stop _ (texts c.args.words.now) (seen c.in-Ok.command) c.in-Err-carry_out.stop _ _ _ _ _ _ c.in-Ok.ensures.ok c.in-Err-carry_out.ensures.left
-    (λ r e. c.in-Err-carry_out.ensures.refused r (ap (λ s. Err s) e)) (λ r e. c.in-Err-carry_out.ensures.untouched r (ap (λ s. Err s) e)) c.stopped.ensures.files c.stopped.ensures.part
+    left_at_stop _ (texts c.args.words.now) (seen c.in-Ok.command) c.in-Err-carry_out.stop _ _ _ _ _ _ c.in-Ok.ensures.ok (c.in-Err-carry_out.ensures.left (texts c.args.words.now) c.in-Ok.ensures.ok)
+    (λ r e. c.in-Err-carry_out.ensures.refused (texts c.args.words.now) c.in-Ok.ensures.ok r (ap (λ s. Err s) e)) (λ r e. c.in-Err-carry_out.ensures.untouched r (ap (λ s. Err s) e)) c.stopped.ensures.files c.stopped.ensures.part

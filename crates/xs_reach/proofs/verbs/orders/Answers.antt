@@ -2,10 +2,10 @@ use Rattle.xs_reach.proofs.VerbLaws.{on_stop, given_done, given_left}
 use Rattle.xs_reach.proofs.verbs.orders.Goals as goal
 
 pub returns-clause-done : goal.returns-clause-done
-returns-clause-done g c = given_done c.find_orders.result _ _ c.find_orders.ensures.ok (c.words_ask_pairs.ensures.orders _ _ _ _ _ _ _ _ _ c.requires.1)
+returns-clause-done g c words means = given_done c.find_orders.result _ _ c.find_orders.ensures.ok (c.words_ask_pairs.ensures.orders _ _ _ _ _ _ _ _ _ means)
 
 pub returns-clause-refused : goal.returns-clause-refused
-returns-clause-refused g c r e = c.find_orders.ensures.refused r e (c.words_ask_pairs.ensures.orders _ _ _ _ _ _ _ _ _ c.requires.1)
+returns-clause-refused g c words means r e = c.find_orders.ensures.refused r e (c.words_ask_pairs.ensures.orders _ _ _ _ _ _ _ _ _ means)
 
 pub returns-clause-left : goal.returns-clause-left
-returns-clause-left g c = on_stop c.find_orders.result _ (given_left _ _ _ c.find_orders.ensures.left (c.words_ask_pairs.ensures.orders _ _ _ _ _ _ _ _ _ c.requires.1))
+returns-clause-left g c words means = on_stop c.find_orders.result _ (given_left _ _ _ c.find_orders.ensures.left (c.words_ask_pairs.ensures.orders _ _ _ _ _ _ _ _ _ means))
