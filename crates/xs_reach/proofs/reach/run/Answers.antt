@@ -34,22 +34,22 @@ returns-in-Ok-carry_out-clause-told g c r is = absurd (finished_kept c.in-Ok-car
 pub returns-in-Ok-carry_out-clause-words : goal.returns-in-Ok-carry_out-clause-words
 returns-in-Ok-carry_out-clause-words g c rule place broken answer = absurd (c.read_words.ensures.apart (seen c.in-Ok.command) rule place c.in-Ok.ensures.ok broken)
 
-pub returns-clause-finished : goal.returns-clause-finished
-returns-clause-finished g c command means finished = absurd (c.stopped.ensures.ended finished)
+pub returns-in-Err-carry_out-clause-finished : goal.returns-in-Err-carry_out-clause-finished
+returns-in-Err-carry_out-clause-finished g c command means finished = absurd (c.stopped.ensures.ended finished)
 
-pub returns-clause-refused : goal.returns-clause-refused
-returns-clause-refused g c command r means is =
+pub returns-in-Err-carry_out-clause-refused : goal.returns-in-Err-carry_out-clause-refused
+returns-in-Err-carry_out-clause-refused g c command r means is =
     let stop = c.stopped.ensures.refused r is in
     refused_for _ (texts c.args.words.now) (seen c.in-Ok.command) command r c.read_words.ensures.one_command c.in-Ok.ensures.ok means (c.in-Err-carry_out.ensures.refused (texts c.args.words.now) c.in-Ok.ensures.ok r (ap (λ s. Err s) stop.0))
 
-pub returns-clause-told : goal.returns-clause-told
-returns-clause-told g c r is =
+pub returns-in-Err-carry_out-clause-told : goal.returns-in-Err-carry_out-clause-told
+returns-in-Err-carry_out-clause-told g c r is =
     let stop = c.stopped.ensures.refused r is in
     let kept = c.in-Err-carry_out.ensures.untouched r (ap (λ s. Err s) stop.0) in
     (stop.1 ∙ kept.0, stop.2 ∙ ap (λ said. said_more said (refusal_text r)) kept.1)
 
-pub returns-clause-words : goal.returns-clause-words
-returns-clause-words g c rule place broken answer = absurd (c.read_words.ensures.apart (seen c.in-Ok.command) rule place c.in-Ok.ensures.ok broken)
+pub returns-in-Err-carry_out-clause-words : goal.returns-in-Err-carry_out-clause-words
+returns-in-Err-carry_out-clause-words g c rule place broken answer = absurd (c.read_words.ensures.apart (seen c.in-Ok.command) rule place c.in-Ok.ensures.ok broken)
 
 pub returns-in-Err-clause-left : goal.returns-in-Err-clause-left
 returns-in-Err-clause-left g c stops = left_at_words _ (texts c.args.words.now) c.in-Err.fault _ _ _ _ c.in-Err.ensures.fault c.refuse.ensures.files c.refuse.ensures.part
@@ -57,7 +57,7 @@ returns-in-Err-clause-left g c stops = left_at_words _ (texts c.args.words.now) 
 pub returns-in-Ok-carry_out-clause-left : goal.returns-in-Ok-carry_out-clause-left
 returns-in-Ok-carry_out-clause-left g c stops = absurd (unstopped c.in-Ok-carry_out.status c.in-Ok-carry_out.ensures.finished stops)
 
-pub returns-clause-left : goal.returns-clause-left
-returns-clause-left g c stops =
+pub returns-in-Err-carry_out-clause-left : goal.returns-in-Err-carry_out-clause-left
+returns-in-Err-carry_out-clause-left g c stops =
     left_at_stop _ (texts c.args.words.now) (seen c.in-Ok.command) c.in-Err-carry_out.stop _ _ _ _ _ _ c.in-Ok.ensures.ok (c.in-Err-carry_out.ensures.left (texts c.args.words.now) c.in-Ok.ensures.ok)
     (λ r e. c.in-Err-carry_out.ensures.refused (texts c.args.words.now) c.in-Ok.ensures.ok r (ap (λ s. Err s) e)) (λ r e. c.in-Err-carry_out.ensures.untouched r (ap (λ s. Err s) e)) c.stopped.ensures.files c.stopped.ensures.part
