@@ -30,6 +30,7 @@ pub mod UsesLaws
 pub mod LinkLaws
 pub mod ReachLaws
 pub mod LayLaws
+pub mod LeftLaws
 pub mod NamingLaws
 pub mod OrderLaws
 pub mod KeyLaws
