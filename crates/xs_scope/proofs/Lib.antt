@@ -48,6 +48,8 @@ pub mod MetLaws
 pub mod VisitFaults
 pub mod WholeLaws
 pub mod Stacks
+pub mod Work
 pub mod Turns
+pub mod Answered
 pub mod SceneSymbols
 pub mod Starting
