@@ -51,6 +51,33 @@ answered_more mid new spot n before settled here = one_more (λ i. IsOpen (forma
 pub answered_already : (s : Scene) (spot n : ℕ) → AnsweredTo s spot n → is_open (formal_at s spot n) ≡ false → AnsweredTo s spot (n + 1)
 answered_already s spot n before told = answered_more s s spot n before (λ k i is. is) (λ is. not_open (formal_at s spot n) told (subst IsOpen (sym (formal_by_rows s spot n)) is))
 
+-- the formals of an instance are answered up to one, and all tables but that of formals are the same
+pub record RowTo (old s : Scene) (spot n : ℕ) : Type 0 where
+  pub same : IsSameButFormals old s
+  pub ready : IsReady s
+  pub settled : AreSettled (rows old) (rows s)
+  pub answered : AnsweredTo s spot n
+
+pub row_more : (old mid new s : Scene) (spot n : ℕ) → RowTo old mid spot n → IsSameButFormals mid new → IsReady new → AreSettled (rows mid) (rows new) → (IsOpen (formal_of (rows new) spot n) → ⊥) → new ≡ s → RowTo old s spot (n + 1)
+row_more old mid new s spot n before same ready settled here is =
+    subst (λ t. RowTo old t spot (n + 1)) is
+    (record {
+      same = record {
+        modules = same.modules ∙ before.same.modules;
+        spots = same.spots ∙ before.same.spots;
+        symbols = same.symbols ∙ before.same.symbols;
+        definitions = same.definitions ∙ before.same.definitions;
+      };
+      ready = ready;
+      settled = settled_then (rows old) (rows mid) (rows new) before.settled settled;
+      answered = answered_more mid new spot n before.answered settled here;
+    })
+
+pub row_kept : (old mid s : Scene) (spot n : ℕ) → RowTo old mid spot n → is_open (formal_at mid spot n) ≡ false → mid ≡ s → RowTo old s spot (n + 1)
+row_kept old mid s spot n before told is =
+    subst (λ t. RowTo old t spot (n + 1)) is
+    (record { same = before.same; ready = before.ready; settled = before.settled; answered = answered_already mid spot n before.answered told })
+
 none_open : (o : Option Formal) → o ≡ None → IsOpen (formal_or o) → ⊥
 none_open o none is = subst (λ q. IsOpen (formal_or q)) none is
 
