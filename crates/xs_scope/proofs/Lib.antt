@@ -26,6 +26,7 @@ pub mod NamingItems
 pub mod Unknowns
 pub mod LookAfter
 pub mod Frames
+pub mod Actuals
 pub mod UsesLaws
 pub mod LinkLaws
 pub mod ReachLaws

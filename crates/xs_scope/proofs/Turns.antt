@@ -5,6 +5,7 @@ use Rattle.std.specs.declared.alloc.Global.{Global}
 use Rattle.std.proofs.lemmas.List.{length-map}
 use Rattle.xs_tree.specs.ProgramTree.{Text, ModuleTree, ProgramTree}
 use Rattle.xs_tree.specs.Scope.{Place, find_module}
+use Rattle.xs_tree.specs.Trace.{Each}
 use Rattle.xs_flattening.specs.Flat.{FlatInstance}
 use Rattle.xs_flattening.specs.Items.{instances_of}
 use Rattle.xs_flattening.specs.Rules.{IsWalkable}
@@ -14,7 +15,7 @@ use Rattle.xs_scope.specs.Symbols.{texts}
 use Rattle.xs_scope.specs.SceneTree.{AreModules, IsSpot, IsDefined, IsKnown, formals_of, AreKnown, program_of, IsSet, IsScene}
 use Rattle.xs_scope.specs.FoundAt.{formal_or, formal_at}
 use Rattle.xs_scope.specs.Steps.{is_open, is_begun, row_count_in, row_count}
-use Rattle.xs_scope.specs.Known.{rows, row_or, rows_with, formal_of, IsHead, IsOpen, IsTold, IsSized, AreTold, IsSameButFormals}
+use Rattle.xs_scope.specs.Known.{rows, row_or, rows_with, formal_of, IsHead, IsOpen, IsTold, IsSized, AreTold, IsActualTold, IsSameButFormals}
 use Rattle.xs_scope.specs.Waiting.{IsFormal, IsFrame, LastWaits, IsStack, IsReady, has_frame, IsWaiting, IsAnswer, GoesOn, Waits, circled, IsCircled, AreSettled, IsRowAnswered, IsTurn}
 use Rattle.xs_scope.specs.declared.walk.Meaning.{Meaning as Found}
 use Rattle.xs_scope.specs.declared.walk.Spot.{Spot}
@@ -26,7 +27,7 @@ use Rattle.xs_scope.specs.declared.formals.Frame.{Frame}
 use Rattle.xs_scope.proofs.LookSplit.{never, of_some}
 use Rattle.xs_scope.proofs.SceneItems.{get_map}
 use Rattle.xs_scope.proofs.Told.{IsNoMoreOpen, no_more_open, IsChanged, changed, in_row, begun_one, answered_one}
-use Rattle.xs_scope.proofs.Naming.{program_same}
+use Rattle.xs_scope.proofs.Naming.{still_answered, program_same}
 use Rattle.xs_scope.proofs.NamingItems.{both_from, get_within}
 use Rattle.xs_scope.proofs.Frames.{formal_by_rows}
 use Rattle.xs_scope.proofs.Stacks.{frame_on, stack_on, stack_pop, stack_push, last_waits, circled_less, own_circle, circle_told}
@@ -87,11 +88,15 @@ fresh_after rs fs f g spot formal fresh =
     fresh_pushed rs fs g (fresh_below rs fs f fresh)
     (λ unknown. true_false (has_frame (fs ++ f ∷ []) g.spot g.formal) (has_last fs f g.spot g.formal (sym spot) (sym formal)) (fresh g.spot g.formal unknown))
 
-pub waiting_made : (old new : Scene) → IsSameButFormals old new → IsSet old → (rs : List (List Formal)) → rows new ≡ rs → AreTold (program_of old) rs → (fs : List Frame) → IsStack (program_of old) rs fs → AreFresh rs fs → IsWaiting new fs
-waiting_made old new same set rs are told fs stack fresh = record {
+pub waiting_made : (old new : Scene) → IsSameButFormals old new → IsReady old → (rs : List (List Formal)) → rows new ≡ rs → AreSettled (rows old) rs → AreTold (program_of old) rs →
+    (fs : List Frame) → IsStack (program_of old) rs fs → AreFresh rs fs → IsWaiting new fs
+waiting_made old new same ready rs are settled told fs stack fresh = record {
   ready = record {
-    set = set_same old new same set;
+    set = set_same old new same ready.set;
     told = subst (λ p. AreTold p (rows new)) same_p (subst (AreTold (program_of old)) (sym are) told);
+    actuals =
+        subst (λ p. Each (IsActualTold p (rows new)) (roots_of p)) same_p
+        (subst (λ r. Each (IsActualTold (program_of old) r) (roots_of (program_of old))) (sym are) (still_answered (program_of old) (rows old) rs (roots_of (program_of old)) settled ready.actuals));
   };
   stack = subst (λ p. IsStack p (rows new) fs) same_p (subst (λ r. IsStack (program_of old) r fs) (sym are) stack);
   fresh = subst (λ r. AreFresh r fs) (sym are) fresh;
@@ -120,7 +125,7 @@ pub begun : (old new : Scene) (fs fs' : List Frame) (f : Frame) (k i : ℕ) → 
     IsSameButFormals old new → rows new ≡ rows_with (rows old) k i known.Begun → fs' ≡ fs ++ f ∷ [] → IsWaiting new fs'
 begun old new fs fs' f k i waiting last formal open' frame at_spot at_formal same made pushed =
     subst (IsWaiting new) (sym pushed)
-    (waiting_made old new same waiting.ready.set (rows_with (rows old) k i known.Begun) made
+    (waiting_made old new same waiting.ready (rows_with (rows old) k i known.Begun) made (settled_with (rows old) k i known.Begun (λ h. open_row))
     (begun_one (program_of old) (rows old) waiting.ready.told k i open_row) (fs ++ f ∷ [])
     (stack_push (program_of old) (rows_with (rows old) k i known.Begun) fs f (stack_on (program_of old) (rows old) (rows_with (rows old) k i known.Begun) less fs waiting.stack)
     (subst (λ n. LastWaits (program_of old) fs n f.formal) (sym at_spot) (subst (λ n. LastWaits (program_of old) fs k n) (sym at_formal) last))
@@ -170,7 +175,7 @@ is_there false b h = let bad : false ≡ true = h in cc
 -- a circle closes
 pub circle_closed : (old new : Scene) (fs : List Frame) (k i : ℕ) → IsWaiting old fs → LastWaits (program_of old) fs k i → IsSameButFormals old new → IsCircled (rows old) (rows new) fs k i → IsWaiting new fs
 circle_closed old new fs k i waiting last same c =
-    waiting_made old new same waiting.ready.set (circled (rows old) (c.first ∷ c.circle)) c.made
+    waiting_made old new same waiting.ready (circled (rows old) (c.first ∷ c.circle)) c.made (settled_circled (rows old) (c.first ∷ c.circle))
     (circle_told (program_of old) (rows old) waiting.ready.told waiting.ready.set.walkable c.first c.circle c.before
     (subst (IsStack (program_of old) (rows old)) c.split waiting.stack)
     (subst (λ n. LastWaits (program_of old) (c.before ++ c.first ∷ c.circle) n c.first.formal) (sym c.first_spot)
@@ -230,7 +235,7 @@ waits_open s f i w = subst IsOpen (sym (formal_by_rows s f.here i)) w.unanswered
 pub ended_turn : (old new : Scene) (fs : List Frame) (f : Frame) (m : Found) → IsWaiting old (fs ++ f ∷ []) → IsOpen (formal_at old f.spot f.formal) → IsAnswer (program_of old) (rows old) f.spot f.formal m →
     IsSameButFormals old new → rows new ≡ rows_with (rows old) f.spot f.formal (known.Means m) → IsWaiting new fs
 ended_turn old new fs f m w open' a same made =
-    waiting_made old new same w.ready.set (rows_with (rows old) f.spot f.formal (known.Means m)) made
+    waiting_made old new same w.ready (rows_with (rows old) f.spot f.formal (known.Means m)) made (settled_with (rows old) f.spot f.formal (known.Means m) (λ h. absurd h))
     (answered_one (program_of old) w.ready.set.walkable (rows old) w.ready.told f.spot f.formal a.at a.name (known.Means m) a.head (λ h. h) (a.found, stays) a.shut (λ k s. (k, s)))
     fs (stack_on (program_of old) (rows old) (rows_with (rows old) f.spot f.formal (known.Means m)) less fs (taken old fs f w).0.stack)
     (fresh_with (rows old) fs f.spot f.formal (known.Means m) (taken old fs f w).0.fresh (λ h. means_known h))

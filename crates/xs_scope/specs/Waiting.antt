@@ -3,12 +3,14 @@ use Rattle.std.specs.Prelude.{◌≡◌, ℕ, suc, ◌+◌, ◌<◌, ◌==◌, B
 use Rattle.std.specs.List.{list_any}
 use Rattle.xs_tree.specs.ProgramTree.{Text, Path, ProgramTree}
 use Rattle.xs_tree.specs.Scope.{Place}
+use Rattle.xs_tree.specs.Trace.{Each}
 use Rattle.xs_flattening.specs.Flat.{FlatInstance}
 use Rattle.xs_flattening.specs.Items.{instances_of}
 use Rattle.xs_flattening.specs.Looks.{look_after}
+use Rattle.xs_flattening.specs.Model.{roots_of}
 use Rattle.xs_scope.specs.SceneTree.{IsFound, IsSet, program_of}
 use Rattle.xs_scope.specs.Steps.{is_open}
-use Rattle.xs_scope.specs.Known.{rows, rows_with, formal_of, IsHead, IsOpen, ShutAt, ShutBeyond, AreTold}
+use Rattle.xs_scope.specs.Known.{rows, rows_with, formal_of, IsHead, IsOpen, ShutAt, ShutBeyond, AreTold, IsActualTold}
 use Rattle.xs_scope.specs.declared.walk.Meaning.{Meaning}
 use Rattle.xs_scope.specs.declared.names.Formal.{Formal}
 use Rattle.xs_scope.specs.declared.names.Formal.TheVariants as known
@@ -58,10 +60,11 @@ IsStack p rs [] = Unit {0}
 IsStack p rs (f ∷ []) = IsFrame p rs f
 IsStack p rs (f ∷ (g ∷ fs)) = IsFrame p rs f × WaitsFor p f g.spot g.formal × IsStack p rs (g ∷ fs)
 
--- a scene in which formals are looked up
+-- a scene in which formals are looked up: those whose actuals are definitions have answers from the start
 pub record IsReady (s : Scene) : Type 0 where
   pub set : IsSet s
   pub told : AreTold (program_of s) (rows s)
+  pub actuals : Each (IsActualTold (program_of s) (rows s)) (roots_of (program_of s))
 
 -- it is the look-up of this formal
 abbrev pub is_of : ℕ → ℕ → Frame → Bool

@@ -4,7 +4,7 @@
 //! a formal whose own look-up waits below it, those from that one on are a circle. Their formals are
 //! answered at once, and they are taken from the stack as their turns come.
 
-ghost use Rattle.std.specs.Prelude.{◌≡◌, true, false, ◌&&◌, [], ◌∷◌, ◌++◌, IfSome, OnOk};
+ghost use Rattle.std.specs.Prelude.{◌≡◌, true, false, ◌&&◌, [], ◌∷◌, ◌++◌, OnOk};
 ghost use Rattle.xs_scope.specs.SceneTree.{IsScene, program_of};
 ghost use Rattle.xs_scope.specs.FoundAt.{formal_at};
 ghost use Rattle.xs_scope.specs.Steps.{known_at, is_open as is_open_of, is_begun as is_begun_of, row_count, gone_inside};
@@ -125,31 +125,34 @@ impl<'a> Scene<'a> {
         ensures begun { OnOk result (frame_of_it waiting.new.items spot formal ≡ true) }
         ensures turn { OnOk result (IsTurn (rows self.old) (rows self.new) waiting.old.items waiting.new.items) }
     {
-        let Some(frame) = self.frame_of(spot, formal) else {
-            return Err(OutOfMemory);
-        };
+        let frame = self.frame_of(spot, formal);
         self.set_formal(spot, formal, Formal::Begun);
         waiting.push(frame)?;
         Ok(())
     }
 
-    /// The look-up of a formal, at its actual's first part.
-    fn frame_of(&self, spot: usize, formal: usize) -> Option<Frame<'a>>
+    /// The look-up of a formal that has no answer, at its actual's first part.
+    fn frame_of(&self, spot: usize, formal: usize) -> Frame<'a>
         requires ready { IsReady self.now }
         requires formal { IsFormal (program_of self.now) spot formal }
-        ensures frame { IfSome result (IsFrame (program_of self.now) (rows self.now)) }
-        ensures spot { IfSome result (λ f. f.spot ≡ spot) }
-        ensures formal { IfSome result (λ f. f.formal ≡ formal) }
+        requires unanswered { IsOpen (formal_at self.now spot formal) }
+        ensures frame { IsFrame (program_of self.now) (rows self.now) result }
+        ensures spot { result.spot ≡ spot }
+        ensures formal { result.formal ≡ formal }
     {
-        let own = self.spots.as_slice().get(spot)?;
-        let value = own.actuals.get(formal)?;
-        let name = plain_name_of(value)?;
-        Some(Frame {
+        let own = &self.spots[spot];
+        let Some(value) = own.actuals.get(formal) else {
+            unreachable!()
+        };
+        let Some(name) = plain_name_of(value) else {
+            unreachable!()
+        };
+        Frame {
             spot,
             formal,
             here: own.caller,
             rest: name.parts(),
-        })
+        }
     }
 
     /// Goes on with the topmost look-up. One whose formal has got its answer is done.
