@@ -1,5 +1,5 @@
 -- A formal without an answer has a plain name as its actual, so that its look-up can begin there.
-use Rattle.std.proofs.Common.{◌≡◌, ℕ, zero, suc, ◌+◌, ◌<◌, arith, Bool, true, false, ◌&&◌, List, [], ◌∷◌, ◌++◌, length, map, Option, Some, None, refl, sym, ◌∙◌, ap, subst}
+use Rattle.std.proofs.Common.{◌≡◌, ℕ, suc, ◌+◌, ◌<◌, arith, Bool, true, false, ◌&&◌, List, [], ◌∷◌, ◌++◌, length, map, Option, Some, None, refl, sym, ◌∙◌, ap, subst}
 use Rattle.std.specs.Prelude.{codes, slice_get, option_map}
 use Rattle.std.proofs.lemmas.List.{length-map}
 use Rattle.xs_tree.specs.declared.expr.Expr.{Expr}
@@ -8,7 +8,6 @@ use Rattle.xs_tree.specs.Texts.{same_text}
 use Rattle.xs_tree.specs.Written.{tree_of}
 use Rattle.xs_tree.specs.Scope.{Place, an_instance, undeclared, actual_key, find_module, kind_in, kind_at, module_at, plain_name}
 use Rattle.xs_tree.specs.Trace.{Each, IsInstance}
-use Rattle.xs_flattening.specs.Flat.{FlatInstance}
 use Rattle.xs_flattening.specs.Items.{a_declaration, NumberedModule, items_of, modules_from, modules_of, numbered_items}
 use Rattle.xs_flattening.specs.Rules.{main_has_parameters, a_header, an_item, has_formals, IsKept, IsWalkable}
 use Rattle.xs_flattening.specs.Model.{Root, roots_of_type, roots_of}

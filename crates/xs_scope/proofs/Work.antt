@@ -1,11 +1,10 @@
 -- Each turn of the look-ups leaves less to do.
 use Rattle.std.proofs.Common.{◌≡◌, ℕ, zero, suc, ◌+◌, ◌<◌, ◌≤◌, arith, Bool, true, false, ◌||◌, ◌&&◌, eqb-true, eq-eqb, ◌==◌, if◌then◌else◌, List, [], ◌∷◌, ◌++◌, length, refl, sym, ◌∙◌, ap, subst, ◌⊎◌, inl, inr}
-use Rattle.std.specs.Prelude.{slice_get, slice_set}
+use Rattle.std.specs.Prelude.{slice_get}
 use Rattle.std.proofs.lemmas.List.{length-set}
 use Rattle.std.proofs.lemmas.List.Folds.{list_any-append}
 use Rattle.xs_scope.specs.FoundAt.{formal_or}
-use Rattle.xs_scope.specs.Steps.{is_open}
-use Rattle.xs_scope.specs.Known.{row_or, rows_with, formal_of, IsOpen}
+use Rattle.xs_scope.specs.Known.{rows_with, formal_of, IsOpen}
 use Rattle.xs_scope.specs.Waiting.{is_of, has_frame, circled, AreSettled, left_of, row_left, rows_left, work, IsTurn}
 use Rattle.xs_scope.specs.declared.names.Formal.{Formal}
 use Rattle.xs_scope.specs.declared.names.Formal.TheVariants as known

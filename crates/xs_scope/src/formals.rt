@@ -267,12 +267,7 @@ impl<'a> Scene<'a> {
 
     /// Answers the look-ups from that of a formal to the topmost one, each of which leads to the next and
     /// the last one back to the first.
-    fn close_circle(
-        &mut self,
-        waiting: &[Frame<'a>],
-        spot: usize,
-        formal: usize,
-    )
+    fn close_circle(&mut self, waiting: &[Frame<'a>], spot: usize, formal: usize)
         requires { frame_of_it waiting.now spot formal ≡ true }
         ensures same { IsSameButFormals self.old self.new }
         ensures circle { IsCircled (rows self.old) (rows self.new) waiting.now spot formal }

@@ -1,5 +1,5 @@
 -- One turn of the topmost look-up.
-use Rattle.std.proofs.Common.{◌≡◌, [], ◌∷◌, ◌++◌, true, false, rules, sym, ◌∙◌, subst}
+use Rattle.std.proofs.Common.{◌≡◌, [], ◌∷◌, ◌++◌, true, false, rules}
 use Rattle.std.proofs.lemmas.Result.{on_ok_weaker}
 use Rattle.xs_scope.specs.FoundAt.{formal_at}
 use Rattle.xs_scope.specs.Steps.{is_open}
