@@ -275,9 +275,15 @@ module _ (s : Scene) (ready : IsReady s) (f : Frame) (is : IsFrame (program_of s
       by_meaning (an_instance_at inside) means d = at_instance d.0 d.1 (subst (λ a. Means (program_of s) is.here.place (is.part ∷ []) (an_instance_at a)) (sym d.2) means)
       by_meaning (a_symbol z) means d = absurd d
 
+  shorter : (y : Text) (rest : Path) → is.more ≡ y ∷ rest → (left : Bor Path) → left.now ≡ y ∷ rest → length left.now < length f.rest.now
+  shorter y rest more left is_left =
+      let new : length left.now ≡ suc (length rest) = ap (λ (ws : Path). length ws) is_left in
+      let old : length f.rest.now ≡ suc (suc (length rest)) = ap (λ (ws : Path). length ws) (is.rest ∙ ap (λ ws. is.part ∷ ws) more) in
+      omega (arith, new, old)
+
   pub advance_more : (y : Text) (rest : Path) → is.more ≡ y ∷ rest → (m : Found) → known_at s f.here is.part ≡ part.Known m → (left : Bor Path) → left.now ≡ y ∷ rest →
       IsProgress (program_of s) (rows s) f (gone_inside f left m)
-  advance_more y rest more (found.Instance k) e left is_left = goes_inside y rest more k e left is_left
+  advance_more y rest more (found.Instance k) e left is_left = (goes_inside y rest more k e left is_left, shorter y rest more left is_left)
   advance_more y rest more found.Loop e left is_left = ends_here y rest more found.Loop e (λ k h. loop_other k h)
     where
       loop_other : (k : ℕ) → found.Loop ≡ found.Instance k → ⊥
@@ -298,6 +304,17 @@ module _ (s : Scene) (ready : IsReady s) (f : Frame) (is : IsFrame (program_of s
     where
       symbol_other : (k : ℕ) → found.Symbol n ≡ found.Instance k → ⊥
       symbol_other k h = cc
+
+-- a look-up that has gone on goes on further
+pub on_itself : (p : ProgramTree) (rs : List (List Formal)) (f : Frame) → IsFrame p rs f → GoesOn p rs f f
+on_itself p rs f is = record { frame = is; spot = refl; formal = refl }
+
+pub on_then : (p : ProgramTree) (rs : List (List Formal)) (f g h : Frame) → GoesOn p rs f g → GoesOn p rs g h → GoesOn p rs f h
+on_then p rs f g h a b = record { frame = b.frame; spot = b.spot ∙ a.spot; formal = b.formal ∙ a.formal }
+
+-- the answer of a look-up that has gone on
+pub answer_after : (p : ProgramTree) (rs : List (List Formal)) (f g : Frame) (m : Found) → GoesOn p rs f g → IsAnswer p rs g.spot g.formal m → IsAnswer p rs f.spot f.formal m
+answer_after p rs f g m on a = subst (λ k. IsAnswer p rs k f.formal m) on.spot (subst (λ i. IsAnswer p rs g.spot i m) on.formal a)
 
 -- the look-up of a formal begins at its actual
 pub actual_there : (es : List Formula) (k : ℕ) (e : Formula) → slice_get es k ≡ Some e → nth_formula es k ≡ Some e

@@ -1,6 +1,6 @@
 -- The items of an instance, one after another.
-use Rattle.std.proofs.Common.{◌≡◌, ℕ, ◌+◌, ◌<◌, ◌≤◌, List, [], ◌∷◌, ◌++◌, length, map, get_or, take, drop, None, refl, ap, ◌∙◌, sym, subst}
-use Rattle.std.proofs.lemmas.List.{take_more, take_all, drop_more, drop_all, map-append}
+use Rattle.std.proofs.Common.{◌≡◌, ℕ, ◌+◌, ◌<◌, List, [], ◌∷◌, ◌++◌, length, map, get_or, take, drop, None, refl, ap, ◌∙◌, sym, subst}
+use Rattle.std.proofs.lemmas.List.{take_more, drop_more, map-append}
 use Rattle.xs_tree.specs.Scope.{Place}
 use Rattle.xs_flattening.specs.Flat.{FlatVariable}
 use Rattle.xs_flattening.specs.Items.{Item as ItemOf, Visit, visits_of}

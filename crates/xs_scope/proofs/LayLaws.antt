@@ -8,7 +8,7 @@ use Rattle.xs_scope.specs.declared.needs.Mark.TheVariants.{Unmet, Begun, Ended}
 use Rattle.xs_scope.specs.declared.needs.Task.{Task}
 use Rattle.xs_scope.specs.declared.needs.Task.TheVariants.{Visit, End}
 use Rattle.xs_scope.specs.Links.{Graph, Has, Reaches, start, further}
-use Rattle.xs_scope.specs.Laying.{upto, upto_from, IsInto, Lays, stands, comes, LaysAll, no_more, one_more, IsLaid, Lay, mark_at, visits, visit_by, lay_by, Ends, number_of, HasEnd, IsFor, Hangs, IsLaying}
+use Rattle.xs_scope.specs.Laying.{upto, upto_from, IsInto, Lays, stands, comes, LaysAll, no_more, one_more, Lay, mark_at, visits, visit_by, lay_by, Ends, number_of, HasEnd, IsFor, Hangs, IsLaying}
 use Rattle.xs_scope.proofs.LinkLaws.{has_left, has_right, has_either}
 
 -- visits in front of other tasks

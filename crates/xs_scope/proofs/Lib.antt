@@ -26,10 +26,12 @@ pub mod NamingItems
 pub mod Unknowns
 pub mod LookAfter
 pub mod Frames
+pub mod Actuals
 pub mod UsesLaws
 pub mod LinkLaws
 pub mod ReachLaws
 pub mod LayLaws
+pub mod LeftLaws
 pub mod NamingLaws
 pub mod OrderLaws
 pub mod KeyLaws
@@ -47,6 +49,8 @@ pub mod MetLaws
 pub mod VisitFaults
 pub mod WholeLaws
 pub mod Stacks
+pub mod Work
 pub mod Turns
+pub mod Answered
 pub mod SceneSymbols
 pub mod Starting

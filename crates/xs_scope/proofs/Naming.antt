@@ -7,6 +7,7 @@ use Rattle.xs_tree.specs.declared.expr.Expr.{Expr}
 use Rattle.xs_tree.specs.ProgramTree.{Text, Path, Formula, ProgramTree, program_tree}
 use Rattle.xs_tree.specs.Written.{tree_of}
 use Rattle.xs_tree.specs.Scope.{Place, a_formal, actual_key, Meaning, an_expression_at, plain_name, through_plain, through_actual, by_kind, kind_at, module_at, actual_of_kind, means_in, Means}
+use Rattle.xs_tree.specs.Trace.{Each}
 use Rattle.xs_flattening.specs.Flat.{FlatInstance}
 use Rattle.xs_flattening.specs.Items.{instances_of}
 use Rattle.xs_flattening.specs.Looks.{Look, at_actual, plain_of, step_kind, step_of, step_on, look_after, ComesBack}
@@ -14,8 +15,9 @@ use Rattle.xs_flattening.specs.Rules.{IsWalkable, expression_of, expression_in}
 use Rattle.xs_flattening.specs.Model.{EachBoth, Root, root_of_actual, roots_of}
 use Rattle.xs_flattening.proofs.LookLaws.{comes_back_nothing}
 use Rattle.xs_scope.specs.SceneTree.{AreModules, Denotes, IsKnown, IsDefined, program_of}
-use Rattle.xs_scope.specs.Known.{rows, rows_with, IsHead, IsTold, ShutAt, ShutBeyond, AreTold, IsSameButFormals}
+use Rattle.xs_scope.specs.Known.{rows, rows_with, formal_of, IsHead, IsOpen, IsTold, ShutAt, ShutBeyond, AreTold, IsActualTold, IsSameButFormals}
 use Rattle.xs_scope.specs.Laid.{IsLaidSpot, IsLaid, IsLeft, IsNaming, IsSameProgram, IsActualAt, NamesActual}
+use Rattle.xs_scope.specs.Waiting.{AreSettled}
 use Rattle.xs_scope.specs.declared.modules.Modules.{Modules}
 use Rattle.xs_scope.specs.declared.walk.Meaning.{Meaning as Found}
 use Rattle.xs_scope.specs.declared.walk.Meaning.TheVariants as found
@@ -26,9 +28,13 @@ use Rattle.xs_scope.specs.declared.names.Defined.{Defined}
 use Rattle.xs_scope.specs.declared.names.Scene.{Scene}
 use Rattle.xs_scope.proofs.LookSplit.{never, of_some}
 use Rattle.xs_scope.proofs.SceneItems.{both_length}
-use Rattle.xs_scope.proofs.Told.{told_one, answered_one, in_row}
+use Rattle.xs_scope.proofs.Told.{told_one, answered_one, in_row, told_there}
+use Rattle.xs_scope.proofs.Work.{settled_with}
 use Rattle.xs_scope.proofs.HeadKinds.{head_kind}
+use Rattle.xs_flattening.proofs.Conditions.{each_join}
+use Rattle.xs_flattening.proofs.KeysApart.{one_number}
 use Rattle.xs_flattening.proofs.KindLaws.{joined_more}
+use Rattle.xs_flattening.proofs.Lists.{each_more}
 
 pub both_push : {A B : Type 0} (R : A → B → Type 0) (xs : List A) (ys : List B) (x : A) (y : B) → EachBoth R xs ys → R x y → EachBoth R (xs ++ x ∷ []) (ys ++ y ∷ [])
 both_push R [] [] x y h r = (r, tt)
@@ -40,15 +46,21 @@ get_mid : {A : Type 0} (xs : List A) (y : A) (zs : List A) → slice_get (xs ++ 
 get_mid [] y zs = refl
 get_mid (x ∷ xs) y zs = get_mid xs y zs
 
-pub left_one : (p : ProgramTree) (ds : List Defined) (r : Root) (rest : List Root) (d : Defined) → IsLeft p ds (r ∷ rest) → IsDefined p r d → IsLeft p (ds ++ d ∷ []) rest
-left_one p ds r rest d left is = record {
+-- formals whose actuals are definitions keep their answers
+pub still_answered : (p : ProgramTree) (rs rs' : List (List Formal)) (roots : List Root) → AreSettled rs rs' → Each (IsActualTold p rs) roots → Each (IsActualTold p rs') roots
+still_answered p rs rs' roots settled told = each_more (IsActualTold p rs) (IsActualTold p rs') roots (λ r h spot i at e key is. h spot i at e key (settled spot i is)) told
+
+pub left_one : (p : ProgramTree) (rs rs' : List (List Formal)) (ds : List Defined) (r : Root) (rest : List Root) (d : Defined) → IsLeft p rs ds (r ∷ rest) → IsDefined p r d →
+    AreSettled rs rs' → IsActualTold p rs' r → IsLeft p rs' (ds ++ d ∷ []) rest
+left_one p rs rs' ds r rest d left is settled told = record {
   before = left.before ++ r ∷ [];
   roots = left.roots ∙ joined_more left.before r rest;
   numbered = both_push (IsDefined p) left.before ds r d left.numbered is;
+  actuals = each_join (IsActualTold p rs') left.before (r ∷ []) (still_answered p rs rs' left.before settled left.actuals) (told, tt);
 }
 
-pub left_number : (p : ProgramTree) (ds : List Defined) (r : Root) (rest : List Root) → IsLeft p ds (r ∷ rest) → slice_get (roots_of p) (length ds) ≡ Some r
-left_number p ds r rest left =
+pub left_number : (p : ProgramTree) (rs : List (List Formal)) (ds : List Defined) (r : Root) (rest : List Root) → IsLeft p rs ds (r ∷ rest) → slice_get (roots_of p) (length ds) ≡ Some r
+left_number p rs ds r rest left =
     ap (λ rs. slice_get rs (length ds)) left.roots
     ∙ ap (λ n. slice_get (left.before ++ r ∷ rest) n) (both_length (IsDefined p) left.before ds left.numbered)
     ∙ get_mid left.before r rest
@@ -67,21 +79,24 @@ laid_same old new same laid = record {
 
 -- what is known of the old program is known of the new one
 pub naming_at : (old new : Scene) → new.modules ≡ old.modules → IsLaid new → (ds : List Defined) (rs : List (List Formal)) (rest : List Root) → new.definitions.items ≡ ds → rows new ≡ rs →
-    IsLeft (program_of old) ds rest → AreTold (program_of old) rs → IsNaming new rest
+    IsLeft (program_of old) rs ds rest → AreTold (program_of old) rs → IsNaming new rest
 naming_at old new same laid ds rs rest are_ds are_rs left told = record {
   laid = laid;
-  left = subst (λ p. IsLeft p new.definitions.items rest) (sym (program_same old new same)) (subst (λ xs. IsLeft (program_of old) xs rest) (sym are_ds) left);
+  left =
+      subst (λ p. IsLeft p (rows new) new.definitions.items rest) (sym (program_same old new same))
+      (subst (λ r. IsLeft (program_of old) r new.definitions.items rest) (sym are_rs) (subst (λ xs. IsLeft (program_of old) rs xs rest) (sym are_ds) left));
   told = subst (λ p. AreTold p (rows new)) (sym (program_same old new same)) (subst (AreTold (program_of old)) (sym are_rs) told);
 }
 
 pub naming_made : (old new : Scene) → IsSameProgram old new → IsLaid old → (ds : List Defined) (rs : List (List Formal)) (rest : List Root) → new.definitions.items ≡ ds → rows new ≡ rs →
-    IsLeft (program_of old) ds rest → AreTold (program_of old) rs → IsNaming new rest
+    IsLeft (program_of old) rs ds rest → AreTold (program_of old) rs → IsNaming new rest
 naming_made old new same laid ds rs rest = naming_at old new same.modules (laid_same old new same laid) ds rs rest
 
 pub naming_pushed : (old new : Scene) → IsSameProgram old new → rows new ≡ rows old → (d : Defined) → new.definitions.items ≡ old.definitions.items ++ d ∷ [] → (r : Root) (rest : List Root) →
-    IsNaming old (r ∷ rest) → IsDefined (program_of old) r d → IsNaming new rest
-naming_pushed old new same are_rows d pushed r rest n is =
-    naming_made old new same n.laid (old.definitions.items ++ d ∷ []) (rows old) rest pushed are_rows (left_one (program_of old) old.definitions.items r rest d n.left is) n.told
+    IsNaming old (r ∷ rest) → IsDefined (program_of old) r d → IsActualTold (program_of old) (rows old) r → IsNaming new rest
+naming_pushed old new same are_rows d pushed r rest n is told =
+    naming_made old new same n.laid (old.definitions.items ++ d ∷ []) (rows old) rest pushed are_rows
+    (left_one (program_of old) (rows old) (rows old) old.definitions.items r rest d n.left is (λ k i open'. open') told) n.told
 
 -- a formal whose actual is no plain name means that actual
 module _ (p : ProgramTree) (own : Text) (caller : Place) (i : ℕ) (x : Text) (e : Formula) (kind : kind_at (module_at p (own ∷ caller)) x ≡ a_formal i)
@@ -127,10 +142,10 @@ module _ (old mid new : Scene) (spot item inner formal made : ℕ) (value : Bor 
   expression : (at inside : FlatInstance) → IsActualAt (program_of old) spot inner formal e at inside → expression_of (program_of old) (actual_key inside.place formal) ≡ Some (at.place, e)
   expression at inside a = ap (λ q. expression_of (program_of old) (actual_key q formal)) a.below ∙ ap (expression_in at.place) a.actual
 
-  denotes : (at inside : FlatInstance) (rest : List Root) → IsActualAt (program_of old) spot inner formal e at inside → IsLeft (program_of old) old.definitions.items (root inside ∷ rest) →
+  denotes : (at inside : FlatInstance) (rest : List Root) → IsActualAt (program_of old) spot inner formal e at inside → IsLeft (program_of old) (rows old) old.definitions.items (root inside ∷ rest) →
       Denotes (program_of old) f (an_expression_at (actual_key inside.place formal) at.place e)
   denotes at inside rest a left =
-      (root inside, ap (slice_get (roots_of (program_of old))) number ∙ left_number (program_of old) old.definitions.items (root inside) rest left, refl, expression at inside a)
+      (root inside, ap (slice_get (roots_of (program_of old))) number ∙ left_number (program_of old) (rows old) old.definitions.items (root inside) rest left, refl, expression at inside a)
 
   told_here : (at inside : FlatInstance) (rest : List Root) → IsActualAt (program_of old) spot inner formal e at inside → IsNaming old (root inside ∷ rest) → (x : Text) → IsHead (program_of old) inner formal inside.place x →
       IsKnown (program_of old) inside.place x (known.Means f) × ShutBeyond (program_of old) (rows old) inside.place (x ∷ [])
@@ -164,6 +179,17 @@ module _ (old mid new : Scene) (spot item inner formal made : ℕ) (value : Bor 
       subst (IsTold (program_of old) (rows_with (rows old) inner formal (known.Means f)) at' x) (in_row (program_of old) (rows old) n.told inner formal at' x (known.Means f) head)
       (are.told inner formal at' x head))
 
+  -- its formal has an answer
+  told_root : (at inside : FlatInstance) (rest : List Root) → IsActualAt (program_of old) spot inner formal e at inside → IsNaming old (root inside ∷ rest) →
+      IsActualTold (program_of old) (rows_with (rows old) inner formal (known.Means f)) (root inside)
+  told_root at inside rest a n k i at' is key open' =
+      let same_place : at'.place ≡ inside.place = cc in
+      let same_formal : i ≡ formal = cc in
+      let same_spot : k ≡ inner = one_number (program_of old) n.laid.walkable k inner at' inside is a.instance same_place in
+      told_there (rows old) inner formal f
+      (subst (λ j. IsOpen (formal_of (rows_with (rows old) inner formal (known.Means f)) inner j)) same_formal
+      (subst (λ j. IsOpen (formal_of (rows_with (rows old) inner formal (known.Means f)) j i)) same_spot open'))
+
   pub actual_named : NamesActual old new spot item inner formal e
   actual_named at inside rest a n =
       let n' : IsNaming old (root inside ∷ rest) = subst (λ o. IsNaming old (root_of_actual inside.place formal item o ++ rest)) none n in
@@ -172,7 +198,8 @@ module _ (old mid new : Scene) (spot item inner formal made : ℕ) (value : Bor 
       naming_made old new all_same n.laid (old.definitions.items ++ record { spot = spot; item = item; value = value } ∷ []) (rows_with (rows old) inner formal (known.Means f)) rest
       (ap (λ (v : Vec Defined Global). v.items) but.definitions ∙ pushed)
       (set ∙ ap (λ rs. rows_with rs inner formal (known.Means f)) same_rows)
-      (left_one (program_of old) old.definitions.items (root inside) rest (record { spot = spot; item = item; value = value }) n'.left defined)
+      (left_one (program_of old) (rows old) (rows_with (rows old) inner formal (known.Means f)) old.definitions.items (root inside) rest (record { spot = spot; item = item; value = value }) n'.left defined
+      (settled_with (rows old) inner formal (known.Means f) (λ h. absurd h)) (told_root at inside rest a n'))
       (told_all at inside rest a n')
 
 pub same_start : (s : Scene) → IsSameProgram s s

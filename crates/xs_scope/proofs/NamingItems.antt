@@ -10,7 +10,7 @@ use Rattle.xs_tree.specs.declared.program.Decl.{Decl}
 use Rattle.xs_tree.specs.declared.program.Define.{Define}
 use Rattle.xs_tree.specs.ProgramTree.{Text, Path, Formula, instance, DeclTree, DefineTree, ProgramTree}
 use Rattle.xs_tree.specs.Written.{tree_of}
-use Rattle.xs_tree.specs.Scope.{Role, kind_declared, a_define, define_key, an_instance_at, plain_name, kind_at, module_at, actual_of_kind}
+use Rattle.xs_tree.specs.Scope.{Place, Role, kind_declared, a_define, define_key, actual_key, an_instance_at, plain_name, kind_at, module_at, actual_of_kind}
 use Rattle.xs_flattening.specs.Flat.{FlatInstance}
 use Rattle.xs_flattening.specs.Items.{Item as ItemOf, a_declaration, a_definition, an_assignment, some_constants, an_init, an_invar, a_trans, NumberedItem, items_named, instances_of}
 use Rattle.xs_flattening.specs.Rules.{IsWalkable, expression_of, expression_of_kind}
@@ -68,13 +68,16 @@ define_named old new spot place made n d def walked same same_rows pushed number
         IsItemAt old spot place at (record { number = number'; before = before; item = y }) walked →
         IsNaming old (roots_of_item at.place number' y ++ rest) → IsNaming new rest × IsOwn (program_of old) at.place (record { number = number'; before = before; item = y }) (found.Definition made)
     by_item at number' before y same_y same_number rest ia naming = (
-      naming_pushed old new same same_rows def pushed root rest naming' defined,
+      naming_pushed old new same same_rows def pushed root rest naming' defined (λ k i b e key open'. no_actual b.place i key),
       subst (λ z. IsOwn (program_of old) at.place (record { number = number'; before = before; item = z }) (found.Definition made)) (sym same_y)
-          (root, ap (slice_get (roots_of (program_of old))) number ∙ left_number (program_of old) old.definitions.items root rest naming'.left, refl, expression),
+          (root, ap (slice_get (roots_of (program_of old))) number ∙ left_number (program_of old) (rows old) old.definitions.items root rest naming'.left, refl, expression),
     )
       where
         root : Root
         root = record { key = define_key at.place d.name; item = number' }
+
+        no_actual : (b : Place) (i : ℕ) → actual_key b i ≡ define_key at.place d.name → ⊥
+        no_actual b i key = cc
 
         naming' : IsNaming old (root ∷ rest)
         naming' = subst (λ z. IsNaming old (roots_of_item at.place number' z ++ rest)) same_y naming
@@ -396,6 +399,13 @@ module _ (old mid new : Scene) (k : ℕ) (own : Vec Found Global) (named : IsNam
       next = omega arith
 
 -- all instances
+pub all_roots : (s : Scene) → (named : IsNamedTo s (length (instances_of (program_of s)))) → roots_of (program_of s) ≡ named.naming.left.before
+all_roots s named =
+    named.naming.left.roots ∙ ap (λ xs. named.naming.left.before ++ roots_by (program_of s) xs) none ∙ append-nil named.naming.left.before
+  where
+    none : drop (length (instances_of (program_of s))) (instances_of (program_of s)) ≡ []
+    none = drop_all (length (instances_of (program_of s))) (instances_of (program_of s)) (omega arith)
+
 pub named_set : (s : Scene) → IsNamedTo s (length (instances_of (program_of s))) → texts s.symbols.keys ≡ symbols_of (program_of s) → length s.symbols.keys < 4294967296 → IsSet s
 named_set s named symbols few = record {
   modules = named.naming.laid.modules;
@@ -405,14 +415,8 @@ named_set s named symbols few = record {
       (λ j at e. let by : IsSpotBy (program_of s) (length (instances_of (program_of s))) j at s.spots.items = named.spots j at e in (by.spot, by.is, by.done (get_less (instances_of (program_of s)) j at e)));
   symbols = symbols;
   few_symbols = few;
-  definitions = subst (λ rs. EachBoth (IsDefined (program_of s)) rs s.definitions.items) (sym all_roots) named.naming.left.numbered;
+  definitions = subst (λ rs. EachBoth (IsDefined (program_of s)) rs s.definitions.items) (sym (all_roots s named)) named.naming.left.numbered;
 }
-  where
-    none : drop (length (instances_of (program_of s))) (instances_of (program_of s)) ≡ []
-    none = drop_all (length (instances_of (program_of s))) (instances_of (program_of s)) (omega arith)
-
-    all_roots : roots_of (program_of s) ≡ named.naming.left.before
-    all_roots = named.naming.left.roots ∙ ap (λ xs. named.naming.left.before ++ roots_by (program_of s) xs) none ∙ append-nil named.naming.left.before
 
 -- none yet
 pub none_named : (s : Scene) → AreModules s.modules → IsWalkable (program_of s) → EachBoth (IsSpotWalked (program_of s)) (instances_of (program_of s)) s.spots.items → s.definitions.items ≡ [] →
@@ -422,7 +426,7 @@ none_named s modules walkable spots none told = record {
   spots = by;
   naming = record {
     laid = spots_laid s 0 modules walkable (both_length (IsSpotWalked (program_of s)) (instances_of (program_of s)) s.spots.items spots) by;
-    left = record { before = []; roots = refl; numbered = subst (EachBoth (IsDefined (program_of s)) []) (sym none) tt };
+    left = record { before = []; roots = refl; numbered = subst (EachBoth (IsDefined (program_of s)) []) (sym none) tt; actuals = tt };
     told = told;
   };
 }

@@ -8,10 +8,6 @@ use Rattle.xs_scope.specs.declared.needs.Links.{Links}
 use Rattle.xs_scope.specs.Links.{Has, Graph, graph_of, row_of, Reaches, start, further, IsWithin, AreReached, is_marked, told_mark, spread_by, IsSpreading}
 use Rattle.xs_scope.proofs.LinkLaws.{has_left, has_right, has_either}
 
-pub no_items : {A : Type 0} (xs : List A) → length xs ≡ 0 → xs ≡ []
-no_items [] e = refl
-no_items (x ∷ xs) e = absurd (omega (arith, e))
-
 row_within : (vs : List (Vec ℕ Global)) (a b : ℕ) → Has (row_of (slice_get vs a)) b → a < length vs
 row_within [] a b h = absurd h
 row_within (v ∷ vs) zero b h = omega arith

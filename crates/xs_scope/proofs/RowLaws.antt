@@ -1,8 +1,8 @@
 -- What is known of formals, after one of them is told.
-use Rattle.std.proofs.Common.{◌≡◌, ℕ, zero, suc, ◌<◌, ◌≤◌, arith, get_or, List, [], ◌∷◌, length, Some, None, Vec, refl, sym, ◌∙◌, ap, subst}
+use Rattle.std.proofs.Common.{◌≡◌, ℕ, zero, suc, ◌<◌, ◌≤◌, arith, get_or, List, [], ◌∷◌, length, Some, None, Vec, refl, sym, ◌∙◌, ap}
 use Rattle.std.specs.Prelude.{slice_get, slice_set, option_map}
 use Rattle.std.specs.declared.alloc.Global.{Global}
-use Rattle.std.proofs.lemmas.List.{map-set, set_past, length-map}
+use Rattle.std.proofs.lemmas.List.{map-set, set_past}
 use Rattle.xs_scope.specs.Known.{rows_of, row_or, rows_with}
 use Rattle.xs_scope.specs.declared.names.Formal.{Formal}
 use Rattle.xs_scope.proofs.SceneItems.{get_map}

@@ -267,10 +267,10 @@ member_frame p (g ∷ fs) (x ∷ hs) are h (inr m) =
     let r : (f : Frame) × Member f fs × HeadOf p f h = member_frame p fs hs are.1 h m in (r.0, inr r.1, r.2)
 
 module _ (p : ProgramTree) (rs : List (List Formal)) where
-  abbrev IsMarked : List Frame → ℕ → ℕ → Type 0
+  abbrev pub IsMarked : List Frame → ℕ → ℕ → Type 0
   IsMarked fs k i = (f : Frame) × Member f fs × (k ≡ f.spot) × (i ≡ f.formal) × (formal_of (circled rs fs) k i ≡ known.Circle)
 
-  marked : (fs : List Frame) (k i : ℕ) → (formal_of (circled rs fs) k i ≡ formal_of rs k i) ⊎ IsMarked fs k i
+  pub marked : (fs : List Frame) (k i : ℕ) → (formal_of (circled rs fs) k i ≡ formal_of rs k i) ⊎ IsMarked fs k i
   marked [] k i = inl refl
   marked (f ∷ fs) k i = by_change (changed (circled rs fs) f.spot f.formal known.Circle k i) (marked fs k i)
     where
@@ -296,7 +296,7 @@ module _ (p : ProgramTree) (rs : List (List Formal)) where
     circled_many (f ∷ fs) = length-set (circled rs fs) f.spot _ ∙ circled_many fs
 
     -- a formal that is told stays told
-    own_circle : (fs : List Frame) (f : Frame) (at : Place) (x : Text) → IsHead p f.spot f.formal at x → formal_of (circled rs (f ∷ fs)) f.spot f.formal ≡ known.Circle
+    pub own_circle : (fs : List Frame) (f : Frame) (at : Place) (x : Text) → IsHead p f.spot f.formal at x → formal_of (circled rs (f ∷ fs)) f.spot f.formal ≡ known.Circle
     own_circle fs f at x head =
         ap (λ o. formal_or (slice_get (row_or o) f.formal)) (set_own (circled rs fs) f.spot _ (get_less (circled rs fs) f.spot sized.row sized.is))
         ∙ ap formal_or (set_own (row_or (slice_get (circled rs fs) f.spot)) f.formal known.Circle within)

@@ -2,12 +2,13 @@
 use Rattle.std.proofs.Common.{◌≡◌, ◌<◌, [], length, Vec, sym, ◌∙◌, ap, subst}
 use Rattle.std.specs.declared.alloc.Global.{Global}
 use Rattle.xs_tree.specs.ProgramTree.{ProgramTree}
+use Rattle.xs_tree.specs.Trace.{Each}
 use Rattle.xs_flattening.specs.Items.{NumberedItem, items_named, instances_of}
 use Rattle.xs_flattening.specs.Rules.{IsWalkable}
 use Rattle.xs_flattening.specs.Model.{EachBoth, symbols_of}
 use Rattle.xs_scope.specs.Symbols.{texts}
 use Rattle.xs_scope.specs.SceneTree.{AreModules, IsWalked, IsSpotWalked, program_of}
-use Rattle.xs_scope.specs.Known.{rows, AreTold, IsSameButFormals}
+use Rattle.xs_scope.specs.Known.{rows, AreTold, IsActualTold, IsSameButFormals}
 use Rattle.xs_scope.specs.Laid.{IsLaidSpot, IsLaid, IsNamedTo}
 use Rattle.xs_scope.specs.Waiting.{IsReady}
 use Rattle.xs_scope.specs.declared.walk.Spot.{Spot}
@@ -15,7 +16,7 @@ use Rattle.xs_scope.specs.declared.names.Defined.{Defined}
 use Rattle.xs_scope.specs.declared.names.Scene.{Scene}
 use Rattle.xs_scope.proofs.SceneItems.{both_length, both_more}
 use Rattle.xs_scope.proofs.Naming.{program_same}
-use Rattle.xs_scope.proofs.NamingItems.{none_named, named_set}
+use Rattle.xs_scope.proofs.NamingItems.{all_roots, none_named, named_set}
 
 pub laid_start : (s : Scene) → AreModules s.modules → IsWalkable (program_of s) → EachBoth (IsSpotWalked (program_of s)) (instances_of (program_of s)) s.spots.items → IsLaid s
 laid_start s modules walkable spots = record {
@@ -40,7 +41,11 @@ named_start old new same modules walkable spots none told =
     same_p = sym (program_same old new same.modules)
 
 pub ready_start : (s : Scene) → IsNamedTo s (length (instances_of (program_of s))) → texts s.symbols.keys ≡ symbols_of (program_of s) → length s.symbols.keys < 4294967296 → IsReady s
-ready_start s named symbols few = record { set = named_set s named symbols few; told = named.naming.told }
+ready_start s named symbols few = record {
+  set = named_set s named symbols few;
+  told = named.naming.told;
+  actuals = subst (Each (IsActualTold (program_of s) (rows s))) (sym (all_roots s named)) named.naming.left.actuals;
+}
 
 -- the symbols stay
 pub symbols_by : (s : Scene) (q : _) → q ≡ s.symbols → q.keys ≡ s.symbols.keys

@@ -10,6 +10,7 @@ use Rattle.xs_flattening.specs.Rules.{IsWalkable}
 use Rattle.xs_scope.specs.SceneTree.{IsKnown, formals_of}
 use Rattle.xs_scope.specs.FoundAt.{formal_or}
 use Rattle.xs_scope.specs.Known.{row_or, rows_with, formal_of, IsHead, IsOpen, IsOpenAt, ShutAt, Shut, ShutBeyond, IsTold, IsSized, AreTold}
+use Rattle.xs_scope.specs.declared.walk.Meaning.{Meaning as Found}
 use Rattle.xs_scope.specs.declared.names.Formal.{Formal}
 use Rattle.xs_scope.specs.declared.names.Formal.TheVariants as known
 use Rattle.xs_scope.proofs.LookSplit.{of_some}
@@ -51,6 +52,17 @@ changed rs k i f k' i' = by_row (set_get rs k k' (slice_set (row_or (slice_get r
         IsChanged rs k i f k' i'
     by_row (inl e) = inl (ap (λ o. formal_or (slice_get (row_or o) i')) e)
     by_row (inr e) = by_formal e.0 e.1 (set_get (row_or (slice_get rs k)) i i' f)
+
+-- a formal that means something has an answer, wherever it stands
+told_in_row : (fs : List Formal) (i : ℕ) (m : Found) → IsOpen (formal_or (slice_get (slice_set fs i (known.Means m)) i)) → ⊥
+told_in_row [] i m h = h
+told_in_row (f ∷ fs) zero m h = h
+told_in_row (f ∷ fs) (suc i) m h = told_in_row fs i m h
+
+pub told_there : (rs : List (List Formal)) (k i : ℕ) (m : Found) → IsOpen (formal_of (rows_with rs k i (known.Means m)) k i) → ⊥
+told_there [] k i m h = h
+told_there (r ∷ rs) zero i m h = told_in_row r i m h
+told_there (r ∷ rs) (suc k) i m h = told_there rs k i m h
 
 -- an open formal is open before too
 abbrev pub IsNoMoreOpen : ProgramTree → List (List Formal) → List (List Formal) → Type 0

@@ -1,5 +1,5 @@
 -- Which rule is told of several.
-use Rattle.std.specs.Prelude.{◌≡◌, Bool, true, false, if◌then◌else◌, List, [], ◌∷◌, Option, Some, None, IfSome}
+use Rattle.std.specs.Prelude.{◌≡◌, Bool, if◌then◌else◌, List, [], ◌∷◌, Option, Some, None, IfSome}
 use Rattle.xs_scope.specs.declared.fault.Rule.{Rule}
 use Rattle.xs_scope.specs.declared.fault.Rule.TheVariants as code
 use Rattle.xs_scope.specs.declared.fault.Rule.TheVariants.{NoMain}

@@ -2,10 +2,11 @@
 use Rattle.std.specs.Prelude.{◌≡◌, ℕ, zero, suc, List, [], ◌∷◌, ◌++◌, replicate, length, map, Option, Some, None, slice_get, slice_set, Vec}
 use Rattle.std.specs.declared.alloc.Global.{Global}
 use Rattle.xs_tree.specs.ProgramTree.{Text, Path, ModuleTree, ProgramTree}
-use Rattle.xs_tree.specs.Scope.{Place, find_module}
+use Rattle.xs_tree.specs.Scope.{Place, actual_key, find_module}
 use Rattle.xs_flattening.specs.Flat.{FlatInstance}
 use Rattle.xs_flattening.specs.Items.{instances_of}
 use Rattle.xs_flattening.specs.Looks.{Look, look_after}
+use Rattle.xs_flattening.specs.Model.{Root}
 use Rattle.xs_scope.specs.SceneTree.{IsKnown, formals_of}
 use Rattle.xs_scope.specs.FoundAt.{names_of_spot, formal_or}
 use Rattle.xs_scope.specs.declared.modules.Names.{Names}
@@ -100,3 +101,7 @@ pub record AreTold (p : ProgramTree) (rs : List (List Formal)) : Type 0 where
   pub many : length rs ≡ length (instances_of p)
   pub sized : (spot : ℕ) (at : FlatInstance) → slice_get (instances_of p) spot ≡ Some at → IsSized p rs spot at
   pub told : (spot i : ℕ) (at : Place) (x : Text) → IsHead p spot i at x → IsTold p rs at x (formal_of rs spot i)
+
+-- the formal whose actual is this definition has an answer
+abbrev pub IsActualTold : ProgramTree → List (List Formal) → Root → Type 0
+IsActualTold p rs r = (spot i : ℕ) (at : FlatInstance) → slice_get (instances_of p) spot ≡ Some at → actual_key at.place i ≡ r.key → IsOpen (formal_of rs spot i) → ⊥

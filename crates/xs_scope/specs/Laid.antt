@@ -3,14 +3,16 @@ use Rattle.std.specs.Prelude.{◌≡◌, ℕ, ◌<◌, ◌≤◌, List, ◌∷�
 use Rattle.std.specs.declared.alloc.Global.{Global}
 use Rattle.xs_tree.specs.ProgramTree.{Text, Formula, DeclTree, ProgramTree}
 use Rattle.xs_tree.specs.Scope.{Role, kind_declared, an_instance, kind_at, module_at, actual_of_kind, plain_name}
+use Rattle.xs_tree.specs.Trace.{Each}
 use Rattle.xs_flattening.specs.Flat.{FlatInstance}
 use Rattle.xs_flattening.specs.Items.{NumberedItem, items_named, instances_of}
 use Rattle.xs_flattening.specs.Rules.{IsWalkable}
 use Rattle.xs_flattening.specs.Model.{EachBoth, Root, root_of_actual, roots_of_actuals, roots_of_type, roots_of_item, roots_of}
 use Rattle.xs_scope.specs.SceneTree.{AreModules, IsPlaced, IsWalked, IsOwn, IsSpotWalked, IsSpot, IsDefined, Denotes, meaning_of_declared, program_of}
-use Rattle.xs_scope.specs.Known.{rows, AreTold}
+use Rattle.xs_scope.specs.Known.{rows, AreTold, IsActualTold}
 use Rattle.xs_scope.specs.declared.walk.Meaning.{Meaning}
 use Rattle.xs_scope.specs.declared.walk.Spot.{Spot}
+use Rattle.xs_scope.specs.declared.names.Formal.{Formal}
 use Rattle.xs_scope.specs.declared.names.Defined.{Defined}
 use Rattle.xs_scope.specs.declared.names.Scene.{Scene}
 
@@ -25,16 +27,17 @@ pub record IsLaid (s : Scene) : Type 0 where
   pub walkable : IsWalkable (program_of s)
   pub spots : EachBoth (IsLaidSpot (program_of s)) (instances_of (program_of s)) s.spots.items
 
--- the definitions so far are those of the first roots, and these are left
-pub record IsLeft (p : ProgramTree) (definitions : List Defined) (rest : List Root) : Type 0 where
+-- the definitions so far are those of the first roots, the formals that they are for have answers, and these are left
+pub record IsLeft (p : ProgramTree) (rs : List (List Formal)) (definitions : List Defined) (rest : List Root) : Type 0 where
   pub before : List Root
   pub roots : roots_of p ≡ before ++ rest
   pub numbered : EachBoth (IsDefined p) before definitions
+  pub actuals : Each (IsActualTold p rs) before
 
 -- a scene whose definitions are numbered but for these
 pub record IsNaming (s : Scene) (rest : List Root) : Type 0 where
   pub laid : IsLaid s
-  pub left : IsLeft (program_of s) s.definitions.items rest
+  pub left : IsLeft (program_of s) (rows s) s.definitions.items rest
   pub told : AreTold (program_of s) (rows s)
 
 -- modules, instances and symbols are the same

@@ -17,5 +17,6 @@ pub mod Seen
 pub mod Links
 pub mod Spreads
 pub mod Laying
+pub mod Left
 pub mod Naming
 pub mod Walking

@@ -1,5 +1,5 @@
 -- One step of a look-up: what a part of a name means, or which formal it is; and the items of an instance.
-use Rattle.std.specs.Prelude.{ℕ, Bool, true, false, if◌then◌else◌, List, [], ◌∷◌, Option, Some, None, slice_get, length, Vec}
+use Rattle.std.specs.Prelude.{ℕ, Bool, true, false, if◌then◌else◌, Option, Some, None, slice_get, length, Vec}
 use Rattle.std.specs.Borrow.{Bor}
 use Rattle.std.specs.declared.alloc.Global.{Global}
 use Rattle.xs_tree.specs.ProgramTree.{Text, Path}
@@ -55,14 +55,12 @@ is_open known.Begun = true
 is_open known.Circle = false
 is_open (known.Means f) = false
 
--- no formal of these is left without an answer
-abbrev pub row_answered : List Formal → Bool
-row_answered [] = true
-row_answered (f ∷ fs) = if is_open f then false else row_answered fs
-
-abbrev pub all_answered : List (Vec Formal Global) → Bool
-all_answered [] = true
-all_answered (r ∷ rs) = if row_answered r.items then all_answered rs else false
+-- the look-up has begun
+abbrev pub is_begun : Formal → Bool
+is_begun known.Begun = true
+is_begun known.Unknown = false
+is_begun known.Circle = false
+is_begun (known.Means f) = false
 
 abbrev pub row_count_in : Option (Vec Formal Global) → ℕ
 row_count_in None = 0

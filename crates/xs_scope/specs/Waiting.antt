@@ -1,12 +1,16 @@
 -- The look-ups of formals that wait for one another.
-use Rattle.std.specs.Prelude.{◌≡◌, ℕ, suc, ◌<◌, List, [], ◌∷◌, ◌++◌, slice_get, Some}
+use Rattle.std.specs.Prelude.{◌≡◌, ℕ, suc, ◌+◌, ◌<◌, ◌==◌, Bool, true, false, ◌&&◌, if◌then◌else◌, List, [], ◌∷◌, ◌++◌, length, slice_get, Some}
+use Rattle.std.specs.List.{list_any}
 use Rattle.xs_tree.specs.ProgramTree.{Text, Path, ProgramTree}
 use Rattle.xs_tree.specs.Scope.{Place}
+use Rattle.xs_tree.specs.Trace.{Each}
 use Rattle.xs_flattening.specs.Flat.{FlatInstance}
 use Rattle.xs_flattening.specs.Items.{instances_of}
 use Rattle.xs_flattening.specs.Looks.{look_after}
+use Rattle.xs_flattening.specs.Model.{roots_of}
 use Rattle.xs_scope.specs.SceneTree.{IsFound, IsSet, program_of}
-use Rattle.xs_scope.specs.Known.{rows, rows_with, formal_of, IsHead, IsOpen, ShutAt, ShutBeyond, AreTold}
+use Rattle.xs_scope.specs.Steps.{is_open}
+use Rattle.xs_scope.specs.Known.{rows, rows_with, formal_of, IsHead, IsOpen, ShutAt, ShutBeyond, AreTold, IsActualTold}
 use Rattle.xs_scope.specs.declared.walk.Meaning.{Meaning}
 use Rattle.xs_scope.specs.declared.names.Formal.{Formal}
 use Rattle.xs_scope.specs.declared.names.Formal.TheVariants as known
@@ -14,6 +18,8 @@ use Rattle.xs_scope.specs.declared.names.Scene.{Scene}
 use Rattle.xs_scope.specs.declared.formals.Frame.{Frame}
 use Rattle.xs_scope.specs.declared.formals.Progress.{Progress}
 use Rattle.xs_scope.specs.declared.formals.Progress.TheVariants as progress
+use Rattle.xs_scope.specs.declared.formals.Stop.{Stop}
+use Rattle.xs_scope.specs.declared.formals.Stop.TheVariants as stop
 
 -- there is such a formal
 abbrev pub IsFormal : ProgramTree → ℕ → ℕ → Type 0
@@ -54,14 +60,25 @@ IsStack p rs [] = Unit {0}
 IsStack p rs (f ∷ []) = IsFrame p rs f
 IsStack p rs (f ∷ (g ∷ fs)) = IsFrame p rs f × WaitsFor p f g.spot g.formal × IsStack p rs (g ∷ fs)
 
--- a scene in which formals are looked up
+-- a scene in which formals are looked up: those whose actuals are definitions have answers from the start
 pub record IsReady (s : Scene) : Type 0 where
   pub set : IsSet s
   pub told : AreTold (program_of s) (rows s)
+  pub actuals : Each (IsActualTold (program_of s) (rows s)) (roots_of (program_of s))
 
+-- it is the look-up of this formal
+abbrev pub is_of : ℕ → ℕ → Frame → Bool
+is_of spot i f = (f.spot == spot) && (f.formal == i)
+
+-- a look-up of this formal waits
+abbrev pub has_frame : List Frame → ℕ → ℕ → Bool
+has_frame fs spot i = list_any (is_of spot i) fs
+
+-- of the formals whose look-ups wait something is known
 pub record IsWaiting (s : Scene) (fs : List Frame) : Type 0 where
   pub ready : IsReady s
   pub stack : IsStack (program_of s) (rows s) fs
+  pub fresh : (spot i : ℕ) → formal_of (rows s) spot i ≡ known.Unknown → has_frame fs spot i ≡ false
 
 -- what a formal is found to mean, past no formal without an answer
 pub record IsAnswer (p : ProgramTree) (rs : List (List Formal)) (spot i : ℕ) (f : Meaning) : Type 0 where
@@ -82,9 +99,13 @@ pub record Waits (p : ProgramTree) (rs : List (List Formal)) (f : Frame) (i : �
   pub unanswered : IsOpen (formal_of rs f.here i)
 
 abbrev pub IsProgress : ProgramTree → List (List Formal) → Frame → Progress → Type 0
-IsProgress p rs f (progress.Further g) = GoesOn p rs f g
+IsProgress p rs f (progress.Further g) = GoesOn p rs f g × (length g.rest.now < length f.rest.now)
 IsProgress p rs f (progress.Ended m) = IsAnswer p rs f.spot f.formal m
 IsProgress p rs f (progress.Waits i) = Waits p rs f i
+
+abbrev pub IsStop : ProgramTree → List (List Formal) → Frame → Stop → Type 0
+IsStop p rs f (stop.Ended m) = IsAnswer p rs f.spot f.formal m
+IsStop p rs f (stop.Waits g i) = GoesOn p rs f g × Waits p rs g i
 
 -- the formals of these look-ups come back
 abbrev pub circled : List (List Formal) → List Frame → List (List Formal)
@@ -106,3 +127,33 @@ pub record IsClosing (rs rs' : List (List Formal)) (fs left : List Frame) : Type
   pub after : List Frame
   pub split : fs ≡ left ++ after
   pub made : rs' ≡ circled rs after
+
+-- a formal that is answered stays so
+abbrev pub AreSettled : List (List Formal) → List (List Formal) → Type 0
+AreSettled rs rs' = (spot i : ℕ) → IsOpen (formal_of rs' spot i) → IsOpen (formal_of rs spot i)
+
+-- no formal of the instance is without an answer
+abbrev pub IsRowAnswered : List (List Formal) → ℕ → Type 0
+IsRowAnswered rs spot = (i : ℕ) → IsOpen (formal_of rs spot i) → ⊥
+
+-- what a formal still takes: a look-up that is to begin and to end, one that is to end, or nothing
+abbrev pub left_of : Bool → Formal → ℕ
+left_of waits f = if is_open f then (if waits then 1 else 3) else 0
+
+abbrev pub row_left : (ℕ → Formal → ℕ) → List Formal → ℕ
+row_left each [] = 0
+row_left each (f ∷ fs) = each 0 f + row_left (λ i. each (suc i)) fs
+
+abbrev pub rows_left : (ℕ → ℕ → Formal → ℕ) → List (List Formal) → ℕ
+rows_left each [] = 0
+rows_left each (r ∷ rs) = row_left (each 0) r + rows_left (λ spot. each (suc spot)) rs
+
+-- what all formals still take, and the look-ups that are to be taken from the stack
+abbrev pub work : List (List Formal) → List Frame → ℕ
+work rs fs = rows_left (λ spot i f. left_of (has_frame fs spot i) f) rs + length fs
+
+-- a turn of the look-ups: those without an answer still wait, and less is left to do
+pub record IsTurn (rs rs' : List (List Formal)) (fs fs' : List Frame) : Type 0 where
+  pub settled : AreSettled rs rs'
+  pub waits : (spot i : ℕ) → IsOpen (formal_of rs' spot i) → has_frame fs spot i ≡ true → has_frame fs' spot i ≡ true
+  pub less : work rs' fs' < work rs fs

@@ -4,12 +4,12 @@
 //! a formal whose own look-up waits below it, those from that one on are a circle. Their formals are
 //! answered at once, and they are taken from the stack as their turns come.
 
-ghost use Rattle.std.specs.Prelude.{◌≡◌, [], ◌∷◌, ◌++◌, IfSome, OnOk};
+ghost use Rattle.std.specs.Prelude.{◌≡◌, true, false, ◌&&◌, [], ◌∷◌, ◌++◌, OnOk};
 ghost use Rattle.xs_scope.specs.SceneTree.{IsScene, program_of};
 ghost use Rattle.xs_scope.specs.FoundAt.{formal_at};
-ghost use Rattle.xs_scope.specs.Steps.{known_at, is_open as is_open_of, row_count, row_answered as answered_row, all_answered as answered_all, gone_inside};
-ghost use Rattle.xs_scope.specs.Known.{rows, IsOpen, IsSameButFormals};
-ghost use Rattle.xs_scope.specs.Waiting.{IsFormal, IsFrame, LastWaits, IsReady, IsWaiting, IsProgress, IsCircled};
+ghost use Rattle.xs_scope.specs.Steps.{known_at, is_open as is_open_of, is_begun as is_begun_of, row_count, gone_inside};
+ghost use Rattle.xs_scope.specs.Known.{rows, formal_of, IsOpen, IsSameButFormals};
+ghost use Rattle.xs_scope.specs.Waiting.{IsFormal, IsFrame, LastWaits, IsReady, has_frame as frame_of_it, IsWaiting, IsProgress, IsStop, IsCircled, AreSettled, IsRowAnswered, IsTurn};
 
 use crate::names::{Formal, Scene, Step, plain_name_of, told};
 use crate::walk::Meaning;
@@ -34,6 +34,12 @@ pub enum Progress<'a> {
     Waits(usize),
 }
 
+/// How a look-up stops: at an answer, or before a formal that has none itself.
+pub enum Stop<'a> {
+    Ended(Meaning),
+    Waits(Frame<'a>, usize),
+}
+
 /// What a part of a name means, or the formal that it is, if that has no answer yet.
 pub enum Part {
     Known(Meaning),
@@ -50,11 +56,7 @@ impl<'a> Scene<'a> {
         for spot in 0..self.formals.len() {
             self.answer_row(alloc, spot)?;
         }
-        if self.all_answered() {
-            Ok(())
-        } else {
-            Err(OutOfMemory)
-        }
+        Ok(())
     }
 
     /// Looks up the formals of an instance.
@@ -62,6 +64,8 @@ impl<'a> Scene<'a> {
         requires { IsReady self.old }
         ensures same { IsSameButFormals self.old self.new }
         ensures ready { OnOk result (IsReady self.new) }
+        ensures settled { OnOk result (AreSettled (rows self.old) (rows self.new)) }
+        ensures answered { OnOk result (IsRowAnswered (rows self.new) spot) }
     {
         for formal in 0..self.formal_count(spot) {
             if is_open(self.formal(spot, formal)) {
@@ -80,19 +84,7 @@ impl<'a> Scene<'a> {
         }
     }
 
-    /// Whether no formal is left without an answer.
-    fn all_answered(&self) -> bool
-        ensures { result ≡ answered_all self.now.formals.items }
-    {
-        for formals in self.formals.as_slice() {
-            if !row_answered(formals.as_slice()) {
-                return false;
-            }
-        }
-        true
-    }
-
-    /// Looks up a formal and all that it needs. The look-ups end long before the turns do.
+    /// Looks up a formal and all that it needs.
     fn answer_formal(
         &mut self,
         alloc: Global,
@@ -104,20 +96,19 @@ impl<'a> Scene<'a> {
         requires unanswered { IsOpen (formal_at self.old spot formal) }
         ensures same { IsSameButFormals self.old self.new }
         ensures ready { OnOk result (IsReady self.new) }
+        ensures settled { OnOk result (AreSettled (rows self.old) (rows self.new)) }
+        ensures answered { OnOk result (IsOpen (formal_of (rows self.new) spot formal) → ⊥) }
     {
         let mut waiting = Vec::new(alloc);
         self.begin(&mut waiting, spot, formal)?;
-        for _turn in 0..usize::MAX {
-            let Some(frame) = waiting.pop() else {
-                return Ok(());
-            };
+        while let Some(frame) = waiting.pop() {
             self.take_turn(&mut waiting, frame)?;
         }
-        Err(OutOfMemory)
+        Ok(())
     }
 
-    /// Puts the look-up of a formal that has no answer on the stack. Its actual is a plain name, since other
-    /// actuals are answered already.
+    /// Puts the look-up of a formal that has no answer on the stack, where it isn't yet. Its actual is a plain
+    /// name, since other actuals are answered already.
     fn begin(
         &mut self,
         waiting: &mut Vec<Frame<'a>>,
@@ -128,37 +119,43 @@ impl<'a> Scene<'a> {
         requires last { LastWaits (program_of self.old) waiting.old.items spot formal }
         requires formal { IsFormal (program_of self.old) spot formal }
         requires unanswered { IsOpen (formal_at self.old spot formal) }
+        requires fresh { frame_of_it waiting.old.items spot formal ≡ false }
         ensures same { IsSameButFormals self.old self.new }
         ensures waiting { OnOk result (IsWaiting self.new waiting.new.items) }
+        ensures begun { OnOk result (frame_of_it waiting.new.items spot formal ≡ true) }
+        ensures turn { OnOk result (IsTurn (rows self.old) (rows self.new) waiting.old.items waiting.new.items) }
     {
-        let Some(frame) = self.frame_of(spot, formal) else {
-            return Err(OutOfMemory);
-        };
+        let frame = self.frame_of(spot, formal);
         self.set_formal(spot, formal, Formal::Begun);
         waiting.push(frame)?;
         Ok(())
     }
 
-    /// The look-up of a formal, at its actual's first part.
-    fn frame_of(&self, spot: usize, formal: usize) -> Option<Frame<'a>>
+    /// The look-up of a formal that has no answer, at its actual's first part.
+    fn frame_of(&self, spot: usize, formal: usize) -> Frame<'a>
         requires ready { IsReady self.now }
         requires formal { IsFormal (program_of self.now) spot formal }
-        ensures frame { IfSome result (IsFrame (program_of self.now) (rows self.now)) }
-        ensures spot { IfSome result (λ f. f.spot ≡ spot) }
-        ensures formal { IfSome result (λ f. f.formal ≡ formal) }
+        requires unanswered { IsOpen (formal_at self.now spot formal) }
+        ensures frame { IsFrame (program_of self.now) (rows self.now) result }
+        ensures spot { result.spot ≡ spot }
+        ensures formal { result.formal ≡ formal }
     {
-        let own = self.spots.as_slice().get(spot)?;
-        let value = own.actuals.get(formal)?;
-        let name = plain_name_of(value)?;
-        Some(Frame {
+        let own = &self.spots[spot];
+        let Some(value) = own.actuals.get(formal) else {
+            unreachable!()
+        };
+        let Some(name) = plain_name_of(value) else {
+            unreachable!()
+        };
+        Frame {
             spot,
             formal,
             here: own.caller,
             rest: name.parts(),
-        })
+        }
     }
 
-    /// Goes on with the topmost look-up by one part. One whose formal has got its answer is done.
+    /// Goes on with the topmost look-up. One whose formal has got its answer is done.
     fn take_turn(
         &mut self,
         waiting: &mut Vec<Frame<'a>>,
@@ -167,22 +164,19 @@ impl<'a> Scene<'a> {
         requires { IsWaiting self.old (waiting.old.items ++ frame ∷ []) }
         ensures same { IsSameButFormals self.old self.new }
         ensures waiting { OnOk result (IsWaiting self.new waiting.new.items) }
+        ensures turn { OnOk result (IsTurn (rows self.old) (rows self.new) (waiting.old.items ++ frame.entry ∷ []) waiting.new.items) }
     {
         if !is_open(self.formal(frame.spot, frame.formal)) {
             return Ok(());
         }
-        match self.advance(frame) {
-            Progress::Further(next) => {
-                waiting.push(next)?;
-                Ok(())
-            }
-            Progress::Ended(meaning) => {
+        match self.go_on(frame) {
+            Stop::Ended(meaning) => {
                 self.set_formal(frame.spot, frame.formal, Formal::Means(meaning));
                 Ok(())
             }
-            Progress::Waits(formal) => {
-                waiting.push(frame)?;
-                self.wait_for(waiting, frame.here, formal)
+            Stop::Waits(next, formal) => {
+                waiting.push(next)?;
+                self.wait_for(waiting, next.here, formal)
             }
         }
     }
@@ -200,13 +194,36 @@ impl<'a> Scene<'a> {
         requires unanswered { IsOpen (formal_at self.old spot formal) }
         ensures same { IsSameButFormals self.old self.new }
         ensures waiting { OnOk result (IsWaiting self.new waiting.new.items) }
+        ensures turn { OnOk result (IsTurn (rows self.old) (rows self.new) waiting.old.items waiting.new.items) }
     {
-        match self.formal(spot, formal) {
-            Formal::Begun => {
-                self.close_circle(waiting, spot, formal)?;
-                Ok(())
+        if self.comes_back(waiting, spot, formal) {
+            self.close_circle(waiting, spot, formal);
+            Ok(())
+        } else {
+            self.begin(waiting, spot, formal)
+        }
+    }
+
+    /// Whether the look-up of a formal stands on the stack. Only one that has begun is looked for there.
+    fn comes_back(&self, waiting: &[Frame<'a>], spot: usize, formal: usize) -> bool
+        ensures { result ≡ (is_begun_of (formal_at self.now spot formal) && frame_of_it waiting.now spot formal) }
+    {
+        is_begun(self.formal(spot, formal)) && has_frame(waiting, spot, formal)
+    }
+
+    /// Goes on with a look-up until it has an answer, or has to wait for one.
+    fn go_on(&self, frame: Frame<'a>) -> Stop<'a>
+        requires ready { IsReady self.now }
+        requires frame { IsFrame (program_of self.now) (rows self.now) frame }
+        ensures { IsStop (program_of self.now) (rows self.now) frame.entry result }
+    {
+        let mut at = frame;
+        'parts: loop {
+            match self.advance(at) {
+                Progress::Further(next) => at = next,
+                Progress::Ended(meaning) => return Stop::Ended(meaning),
+                Progress::Waits(formal) => return Stop::Waits(at, formal),
             }
-            _ => self.begin(waiting, spot, formal),
         }
     }
 
@@ -250,24 +267,19 @@ impl<'a> Scene<'a> {
 
     /// Answers the look-ups from that of a formal to the topmost one, each of which leads to the next and
     /// the last one back to the first.
-    fn close_circle(
-        &mut self,
-        waiting: &[Frame<'a>],
-        spot: usize,
-        formal: usize,
-    ) -> Result<(), OutOfMemory>
+    fn close_circle(&mut self, waiting: &[Frame<'a>], spot: usize, formal: usize)
+        requires { frame_of_it waiting.now spot formal ≡ true }
         ensures same { IsSameButFormals self.old self.new }
-        ensures circle { OnOk result (IsCircled (rows self.old) (rows self.new) waiting.now spot formal) }
+        ensures circle { IsCircled (rows self.old) (rows self.new) waiting.now spot formal }
     {
         let mut left = waiting;
         while let [below @ .., frame] = left {
             self.set_formal(frame.spot, frame.formal, Formal::Circle);
             if frame.spot == spot && frame.formal == formal {
-                return Ok(());
+                return;
             }
             left = below;
         }
-        Err(OutOfMemory)
     }
 }
 
@@ -297,14 +309,21 @@ fn is_open(known: Formal) -> bool
     }
 }
 
-/// Whether no formal of these is left without an answer.
-fn row_answered(formals: &[Formal]) -> bool
-    ensures { result ≡ answered_row formals.now }
+/// Whether the look-up of a formal has begun and has no answer.
+fn is_begun(known: Formal) -> bool
+    ensures { result ≡ is_begun_of known }
 {
-    for known in formals {
-        if is_open(*known) {
-            return false;
-        }
+    match known {
+        Formal::Begun => true,
+        Formal::Unknown | Formal::Circle | Formal::Means(_) => false,
     }
-    true
+}
+
+/// Whether a look-up of the formal stands on the stack.
+fn has_frame(waiting: &[Frame], spot: usize, formal: usize) -> bool
+    ensures { result ≡ frame_of_it waiting.now spot formal }
+{
+    waiting
+        .iter()
+        .any(|frame| frame.spot == spot && frame.formal == formal)
 }

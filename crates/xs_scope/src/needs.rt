@@ -27,7 +27,6 @@ use xs_value::{Dotted, OutOfMemory};
 #[derive(Drop)]
 struct Links {
     of: Vec<Vec<usize>>,
-    count: usize,
 }
 
 /// What the definitions of a scene need of one another.
@@ -105,14 +104,13 @@ impl Links {
         for _each in 0..count {
             of.push(Vec::new(alloc))?;
         }
-        Ok(Links { of, count: 0 })
+        Ok(Links { of })
     }
 
     /// Adds a definition with its links.
     fn push(&mut self, row: Vec<usize>) -> Result<(), OutOfMemory>
         ensures { OnOk result (rows self.new ≡ rows self.old ++ row.items ∷ []) }
     {
-        self.count = self.count.saturating_add(row.len());
         self.of.push(row)?;
         Ok(())
     }
@@ -121,10 +119,10 @@ impl Links {
     fn add(&mut self, from: usize, to: usize) -> Result<(), OutOfMemory>
         ensures { OnOk result (rows self.new ≡ linked_to (rows self.old) from to) }
     {
-        if let Some(links) = self.of.get_mut(from) {
-            links.push(to)?;
-        }
-        self.count = self.count.saturating_add(1);
+        let Some(links) = self.of.get_mut(from) else {
+            return Ok(());
+        };
+        links.push(to)?;
         Ok(())
     }
 
@@ -136,11 +134,6 @@ impl Links {
             Some(links) => links.as_slice(),
             None => &[],
         }
-    }
-
-    /// Enough turns to visit each definition and to follow each link, twice.
-    fn turns(&self) -> usize {
-        self.count.saturating_add(self.of.len()).saturating_mul(2)
     }
 
     /// Adds a link from each of these.
@@ -170,17 +163,10 @@ fn reached_from(alloc: Global, links: &Links, starts: &[usize]) -> Result<Vec<bo
     ensures reached { IfOk result (λ marks. AreReached (graph_of links.now) starts.now (length links.now.of.items) marks.items) }
 {
     let mut spread = Spread::of_starts(alloc, links.of.len(), starts)?;
-    for _turn in 0..links.turns() {
-        let Some(definition) = spread.waiting.pop() else {
-            return Ok(spread.reached);
-        };
+    while let Some(definition) = spread.waiting.pop() {
         spread.by(links, definition)?;
     }
-    if spread.waiting.is_empty() {
-        Ok(spread.reached)
-    } else {
-        Err(OutOfMemory)
-    }
+    Ok(spread.reached)
 }
 
 impl Spread {
@@ -342,17 +328,10 @@ fn order_of(alloc: Global, links: &Links) -> Result<Laying, OutOfMemory>
     ensures laid { IfOk result (λ l. IsLaid (graph_of links.now) (length links.now.of.items) l.circle l.order.items) }
 {
     let mut laying = Laying::of_all(alloc, links.of.len())?;
-    for _turn in 0..links.turns() {
-        let Some(task) = laying.tasks.pop() else {
-            return Ok(laying);
-        };
+    while let Some(task) = laying.tasks.pop() {
         laying.by(links, task)?;
     }
-    if laying.tasks.is_empty() {
-        Ok(laying)
-    } else {
-        Err(OutOfMemory)
-    }
+    Ok(laying)
 }
 
 /// Of each of so many definitions its place in an order.

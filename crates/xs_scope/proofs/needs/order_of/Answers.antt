@@ -1,4 +1,4 @@
--- Each task keeps the invariant.
+-- Each task keeps the invariant, and leaves less to do.
 use Rattle.std.proofs.Common.{rules, ◌≡◌, ℕ, List, false, [], ◌∷◌, ◌++◌, length, replicate, reverse, ◌∙◌, sym, subst, ap}
 use Rattle.std.proofs.lemmas.List.{reverse-append}
 use Rattle.xs_scope.specs.declared.needs.Mark.TheVariants.{Unmet}
@@ -6,23 +6,31 @@ use Rattle.xs_scope.specs.declared.needs.Task.{Task}
 use Rattle.xs_scope.specs.Links.{graph_of}
 use Rattle.xs_scope.specs.Laying.{upto, visits, Lay, lay_of, lay_by, IsLaying}
 use Rattle.xs_scope.proofs.LayLaws.{laying_first, laying_by}
+use Rattle.xs_scope.proofs.LeftLaws.{laying_less}
 use Rattle.xs_scope.proofs.needs.order_of.Goals as goal
 
 abbrev first_lay : ℕ → Lay
 first_lay n = record { marks = replicate n Unmet; order = []; tasks = visits (upto n); circle = false }
 
-pub loop-turn-init : goal.loop-turn-init
-loop-turn-init c =
+pub loop-task-init : goal.loop-task-init
+loop-task-init c =
     let count : c.len.result ≡ length c.args.links.now.of.items = search rules in
     let is : lay_of c.in_ok-laying.laying ≡ first_lay c.len.result = search rules in
     subst (λ (s : Lay). IsLaying (graph_of c.args.links.now) (length c.args.links.now.of.items) s) (sym (is ∙ ap first_lay count))
     (laying_first (graph_of c.args.links.now) (length c.args.links.now.of.items))
 
-pub loop-turn-preserved : goal.loop-turn-preserved
-loop-turn-preserved c =
-    let more : c.loop-turn.laying.tasks.items ≡ c.pop.new.self.items ++ c.in-Some.task ∷ [] = search rules in
-    let first : reverse c.loop-turn.laying.tasks.items ≡ c.in-Some.task ∷ reverse c.pop.new.self.items = ap (λ (ts : List Task). reverse ts) more ∙ reverse-append c.pop.new.self.items (c.in-Some.task ∷ []) in
-    let is : lay_of c.by.new.self ≡ lay_by (graph_of c.args.links.now) (record { marks = c.loop-turn.laying.marks.items; order = c.loop-turn.laying.order.items; tasks = reverse c.pop.new.self.items; circle = c.loop-turn.laying.circle }) c.in-Some.task = search rules in
+pub loop-task-smaller : goal.loop-task-smaller
+loop-task-smaller c =
+    let more : c.loop-task.laying.tasks.items ≡ c.pop.new.self.items ++ c.in-Some.task ∷ [] = search rules in
+    let first : reverse c.loop-task.laying.tasks.items ≡ c.in-Some.task ∷ reverse c.pop.new.self.items = ap (λ (ts : List Task). reverse ts) more ∙ reverse-append c.pop.new.self.items (c.in-Some.task ∷ []) in
+    let is : lay_of c.by.new.self ≡ lay_by (graph_of c.args.links.now) (record { marks = c.loop-task.laying.marks.items; order = c.loop-task.laying.order.items; tasks = reverse c.pop.new.self.items; circle = c.loop-task.laying.circle }) c.in-Some.task = search rules in
+    laying_less (graph_of c.args.links.now) (length c.args.links.now.of.items) (lay_of c.loop-task.laying) (lay_of c.by.new.self) c.in-Some.task (reverse c.pop.new.self.items) c.loop-task.invariant first is
+
+pub loop-task-preserved : goal.loop-task-preserved
+loop-task-preserved c =
+    let more : c.loop-task.laying.tasks.items ≡ c.pop.new.self.items ++ c.in-Some.task ∷ [] = search rules in
+    let first : reverse c.loop-task.laying.tasks.items ≡ c.in-Some.task ∷ reverse c.pop.new.self.items = ap (λ (ts : List Task). reverse ts) more ∙ reverse-append c.pop.new.self.items (c.in-Some.task ∷ []) in
+    let is : lay_of c.by.new.self ≡ lay_by (graph_of c.args.links.now) (record { marks = c.loop-task.laying.marks.items; order = c.loop-task.laying.order.items; tasks = reverse c.pop.new.self.items; circle = c.loop-task.laying.circle }) c.in-Some.task = search rules in
     subst (λ (s : Lay). IsLaying (graph_of c.args.links.now) (length c.args.links.now.of.items) s) (sym is)
-    (laying_by (graph_of c.args.links.now) (length c.args.links.now.of.items) (c.requires) c.loop-turn.laying.marks.items c.loop-turn.laying.order.items (reverse c.pop.new.self.items) c.loop-turn.laying.circle c.in-Some.task
-    (subst (λ (ts : List Task). IsLaying (graph_of c.args.links.now) (length c.args.links.now.of.items) (record { marks = c.loop-turn.laying.marks.items; order = c.loop-turn.laying.order.items; tasks = ts; circle = c.loop-turn.laying.circle })) first c.loop-turn.invariant))
+    (laying_by (graph_of c.args.links.now) (length c.args.links.now.of.items) (c.requires) c.loop-task.laying.marks.items c.loop-task.laying.order.items (reverse c.pop.new.self.items) c.loop-task.laying.circle c.in-Some.task
+    (subst (λ (ts : List Task). IsLaying (graph_of c.args.links.now) (length c.args.links.now.of.items) (record { marks = c.loop-task.laying.marks.items; order = c.loop-task.laying.order.items; tasks = ts; circle = c.loop-task.laying.circle })) first c.loop-task.invariant))

@@ -1,7 +1,11 @@
 -- All formals are answered.
-use Rattle.std.proofs.Common.{sym, ◌∙◌}
+use Rattle.std.proofs.Common.{◌≤◌, length, rules}
 use Rattle.xs_scope.proofs.Turns.{scene_made}
+use Rattle.xs_scope.proofs.Answered.{rows_done}
 use Rattle.xs_scope.proofs.names.Scene.answer_formals.Goals as goal
 
-pub returns-then-all_answered-clause-scene : goal.returns-then-all_answered-clause-scene
-returns-then-all_answered-clause-scene c = scene_made c.loop-spot.self c.loop-spot.invariant.ready (sym c.all_answered.ensures ∙ c.if-all_answered.true)
+pub returns-clause-scene : goal.returns-clause-scene
+returns-clause-scene c =
+    let all : length c.args.self.now.formals.items ≤ c.loop-spot.spot = search rules in
+    scene_made c.loop-spot.self c.loop-spot.invariant.ready
+    (rows_done c.args.self.now c.loop-spot.self c.loop-spot.spot c.loop-spot.invariant.same c.requires c.loop-spot.invariant.ready all c.loop-spot.invariant.answered)

@@ -1,10 +1,12 @@
--- All answers so far are right.
-use Rattle.xs_scope.specs.Known.{IsSameButFormals}
-use Rattle.xs_scope.specs.Waiting.{IsReady}
+-- The formals of the instances so far are answered.
+use Rattle.std.proofs.Common.{ℕ, ◌<◌}
+use Rattle.xs_scope.specs.Known.{rows, IsSameButFormals}
+use Rattle.xs_scope.specs.Waiting.{IsReady, IsRowAnswered}
 use Rattle.xs_scope.proofs.names.Scene.answer_formals.Given as goal
 
 abbrev pub invariant-loop-spot : goal.invariant-loop-spot
 invariant-loop-spot l = record {
   same : IsSameButFormals l.initial.self l.self;
   ready : IsReady l.self;
+  answered : (k : ℕ) → k < l.spot → IsRowAnswered (rows l.self) k;
 }

@@ -1,10 +1,13 @@
--- All answers so far are right.
-use Rattle.xs_scope.specs.Known.{IsSameButFormals}
-use Rattle.xs_scope.specs.Waiting.{IsReady}
+-- The formals so far are answered.
+use Rattle.std.proofs.Common.{ℕ, ◌<◌}
+use Rattle.xs_scope.specs.Known.{rows, formal_of, IsOpen, IsSameButFormals}
+use Rattle.xs_scope.specs.Waiting.{IsReady, AreSettled}
 use Rattle.xs_scope.proofs.names.Scene.answer_row.Given as goal
 
 abbrev pub invariant-loop-formal : goal.invariant-loop-formal
 invariant-loop-formal l = record {
   same : IsSameButFormals l.initial.self l.self;
   ready : IsReady l.self;
+  settled : AreSettled (rows l.initial.self) (rows l.self);
+  answered : (i : ℕ) → i < l.formal → IsOpen (formal_of (rows l.self) l.spot i) → ⊥;
 }

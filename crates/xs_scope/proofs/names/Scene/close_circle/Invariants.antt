@@ -1,7 +1,7 @@
--- The look-ups that are taken off so far are answered.
-use Rattle.std.proofs.Common.{length}
+-- The look-ups that are taken off so far are answered, and that of the formal stands below.
+use Rattle.std.proofs.Common.{◌≡◌, true, length}
 use Rattle.xs_scope.specs.Known.{rows, IsSameButFormals}
-use Rattle.xs_scope.specs.Waiting.{IsClosing}
+use Rattle.xs_scope.specs.Waiting.{has_frame, IsClosing}
 use Rattle.xs_scope.proofs.names.Scene.close_circle.Given as goal
 
 abbrev pub decreases-loop-left : goal.decreases-loop-left
@@ -11,4 +11,5 @@ abbrev pub invariant-loop-left : goal.invariant-loop-left
 invariant-loop-left l = record {
   same : IsSameButFormals l.initial.self l.self;
   closing : IsClosing (rows l.initial.self) (rows l.self) l.waiting l.left;
+  there : has_frame l.left l.spot l.formal ≡ true;
 }
