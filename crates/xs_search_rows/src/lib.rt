@@ -7,7 +7,8 @@
 //! by hand; what no clause says, as what an adviser suggests; and that nothing takes long.
 //!
 //! The modules from below: `clauses` has what the others share, clauses of plain numbers. Then come
-//! `literals`, `derivations`, `stores`, `circuits`, `words`, `advisers`, `choices`, `searches` and `frames`.
+//! `literals`, `derivations`, `stores`, `circuits`, `words`, `advisers`, `choices`, `searches`, `lessons` and
+//! `frames`.
 #![tactic(auto)]
 
 #[cfg(test)]
@@ -22,6 +23,8 @@ mod clauses;
 mod derivations;
 #[cfg(test)]
 mod frames;
+#[cfg(test)]
+mod lessons;
 #[cfg(test)]
 mod literals;
 #[cfg(test)]
