@@ -7,4 +7,5 @@ mod RuleLaws
 mod PathLaws
 mod RuleSteps
 mod ReadLaws
+pub mod OneReading
 mod BrokenSteps

@@ -1,5 +1,5 @@
 -- From the rules that are tried to what the reading of a causes file says.
-use Rattle.std.proofs.Common.{◌≡◌, ◌⊎◌, inl, inr, ℕ, List, [], Option, Some, None, length, map, refl, sym, ap, ◌∙◌, subst, false}
+use Rattle.std.proofs.Common.{◌≡◌, ◌⊎◌, inl, inr, ℕ, List, [], ◌∷◌, Option, Some, None, length, map, refl, sym, ap, ◌∙◌, subst, false}
 use Rattle.std.specs.Prelude.{Bool, flat_map}
 use Rattle.std.proofs.lemmas.List.{length-map}
 use Rattle.xs_tree.specs.ProgramTree.{Text, Path, ProgramTree}
@@ -17,12 +17,18 @@ use Rattle.xs_causes_reader.specs.declared.fault.CauseFault.TheVariants as f
 use Rattle.xs_causes_reader.specs.CausesRead.{IsCauses}
 use Rattle.xs_causes_reader.specs.FaultPaths.{path_of, paths_of}
 use Rattle.xs_causes_reader.specs.Broken.{rule_of, first_broken, are_owns_among, owns_told, TellsFirst, taken_in}
-use Rattle.xs_causes_reader.specs.Read.{AreNamed, AreRead, BreakRule, FaultSays, IsReadIn, IsReading, IsRefusal}
+use Rattle.xs_causes_reader.specs.Read.{AreNamed, AreStrikes, AreRead, BreakRule, FaultSays, IsReadIn, IsReading, IsRefusal}
 use Rattle.xs_causes_reader.proofs.RuleLaws.{all_kept, is_broken, owns_same, owns_taken, read_as}
 
 -- what is taken once all causes were read
 abbrev all_taken : ProgramTree → List WrittenCause → List Text
 all_taken w written = with_texts (taken_in w) (flat_map names_of_cause written)
+
+strikes_read : (paths : List Path) (written : List WrittenCause) (cs : List CommonCause) → EachBoth (IsReadIn paths) written cs → EachBoth (AreStrikes paths) written cs
+strikes_read paths [] [] h = tt
+strikes_read paths (x ∷ xs) (c ∷ cs) h = (h.0.strikes, strikes_read paths xs cs h.1)
+strikes_read paths [] (c ∷ cs) h = absurd h
+strikes_read paths (x ∷ xs) [] h = absurd h
 
 module _ (faults : List Fault) (w : ProgramTree) (bytes : List ℕ) (written : List WrittenCause) (spelled : BytesSpellCauses bytes written) where
   counted : (woven : List WovenFault) → AreNamed faults woven → length faults ≡ length (map fault_path woven)
@@ -34,11 +40,13 @@ module _ (faults : List Fault) (w : ProgramTree) (bytes : List ℕ) (written : L
     of_each = λ woven named.
         let paths = subst (λ ps. first_broken ps (taken_in w) [] written ≡ None) named kept in
         let owns : are_owns_among (all_taken w written) (length (map fault_path woven)) ≡ false = ap (are_owns_among (all_taken w written)) (sym (counted woven named)) ∙ free in
+        let read_in = subst (λ ps. EachBoth (IsReadIn ps) written causes) named read in
         record {
           written = written;
           spelled = spelled;
           lawful = record { kept = all_kept woven w written paths; free = sym (owns_same woven w written) ∙ owns };
-          read_as = read_as woven w written causes (subst (λ ps. EachBoth (IsReadIn ps) written causes) named read);
+          read_as = read_as woven w written causes read_in;
+          strikes = strikes_read (map fault_path woven) written causes read_in;
         };
   }
 

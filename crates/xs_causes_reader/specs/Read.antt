@@ -1,5 +1,5 @@
 -- What the reading of a causes file says: the causes that the bytes spell, or why they are none.
-use Rattle.std.specs.Prelude.{◌≡◌, ◌⊎◌, ℕ, ◌-◌, ◌<◌, List, Some, map, slice_get}
+use Rattle.std.specs.Prelude.{◌≡◌, ◌⊎◌, ℕ, ◌-◌, ◌<◌, false, List, Some, map, take, slice_get}
 use Rattle.xs_tree.specs.ProgramTree.{Path, ProgramTree}
 use Rattle.xs_flattening.specs.Model.{EachBoth}
 use Rattle.xs_weave.specs.Faults.{Fault as WovenFault}
@@ -7,7 +7,7 @@ use Rattle.xs_scope.specs.declared.model.Fault.{Fault}
 use Rattle.xs_parse.specs.Stops.{FaultMeans}
 use Rattle.xs_causes.specs.Causes.{CommonCause}
 use Rattle.xs_causes.specs.CausesText.{WrittenCause, BytesSpellCauses}
-use Rattle.xs_causes.specs.CauseRules.{CauseRule as Rule, fault_path, IsBrokenAt, AreOwnsTaken, AreLawful, AreReadAs}
+use Rattle.xs_causes.specs.CauseRules.{CauseRule as Rule, fault_path, is_path_among, IsBrokenAt, AreOwnsTaken, AreLawful, AreReadAs}
 use Rattle.xs_causes_reader.specs.declared.fault.CauseFault.{CauseFault}
 use Rattle.xs_causes_reader.specs.declared.fault.CauseFault.TheVariants as f
 use Rattle.xs_causes_reader.specs.CausesRead.{IsCauses}
@@ -18,12 +18,21 @@ use Rattle.xs_causes_reader.specs.Broken.{rule_of}
 abbrev pub AreNamed : List Fault → List WovenFault → Type 0
 AreNamed faults woven = paths_of faults ≡ map fault_path woven
 
+-- the number, from one on, is that of the first path of the list that is this one
+abbrev pub IsNumberOf : List Path → Path → ℕ → Type 0
+IsNumberOf paths p i = (0 < i) × (slice_get paths (i - 1) ≡ Some p) × (is_path_among (take (i - 1) paths) p ≡ false)
+
+-- the strikes are the numbers of the faults that the written ones name
+abbrev pub AreStrikes : List Path → WrittenCause → CommonCause → Type 0
+AreStrikes paths written c = EachBoth (IsNumberOf paths) written.strikes c.strikes
+
 -- the bytes spell causes that break no rule, and these are the causes, with faults by their numbers
 pub record AreRead (faults : List WovenFault) (w : ProgramTree) (bytes : List ℕ) (causes : List CommonCause) : Type 0 where
   pub written : List WrittenCause
   pub spelled : BytesSpellCauses bytes written
   pub lawful : AreLawful faults w written
   pub read_as : AreReadAs faults w written causes
+  pub strikes : EachBoth (AreStrikes (map fault_path faults)) written causes
 
 -- the bytes spell causes of which the one of this number, or for 0 what is added after all, is the first to break this rule
 pub record BreakRule (faults : List WovenFault) (w : ProgramTree) (bytes : List ℕ) (rule : Rule) (number : ℕ) : Type 0 where
@@ -44,13 +53,9 @@ pub record IsReading (faults : List Fault) (w : ProgramTree) (bytes : List ℕ) 
 pub record IsRefusal (faults : List Fault) (w : ProgramTree) (bytes : List ℕ) (fault : CauseFault) : Type 0 where
   pub of_each : (woven : List WovenFault) → AreNamed faults woven → FaultSays woven w bytes fault
 
--- the number, from one on, is that of a path of the list
-abbrev pub IsNumberOf : List Path → Path → ℕ → Type 0
-IsNumberOf paths p i = (0 < i) × (slice_get paths (i - 1) ≡ Some p)
-
 -- the cause that is written, with paths by their numbers
 pub record IsReadIn (paths : List Path) (written : WrittenCause) (c : CommonCause) : Type 0 where
   pub name : c.name ≡ written.name
   pub from : c.from ≡ written.from
   pub to : c.to ≡ written.to
-  pub strikes : EachBoth (IsNumberOf paths) written.strikes c.strikes
+  pub strikes : AreStrikes paths written c

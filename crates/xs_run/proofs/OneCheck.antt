@@ -42,7 +42,7 @@ module _ (files : List NamedFile) (name : Text) where
   same_bytes : (a b : List ℕ) → HasAtMost 268435456 files name a → HasAtMost 268435456 files name b → a ≡ b
   same_bytes a b has holds = same_bytes_within 268435456 files name a b has holds
 
-  one_refused_certificate : (r s : Refusal) → RefusesCertificate files name r → RefusesCertificate files name s → r ≡ s
+  pub one_refused_certificate : (r s : Refusal) → RefusesCertificate files name r → RefusesCertificate files name s → r ≡ s
   one_refused_certificate r s (certificate_file a is refused) (certificate_file b was also) =
       is ∙ ap (λ f. refusal.NotAccepted (objection.Cert f)) (one_fault_above 268435456 files name a b refused also) ∙ sym was
   one_refused_certificate r s (certificate_file a is refused) (certificate_bytes bytes b was has bad) = absurd (no_bytes_within 268435456 files name a bytes refused has)
@@ -52,12 +52,12 @@ module _ (files : List NamedFile) (name : Text) where
       ∙ ap (λ f. refusal.NotAccepted (objection.Cert f)) (one_wrong_text bytes a b bad (subst (λ t. IsWrongText t b) (same_bytes others bytes holds has) also))
       ∙ sym was
 
-  held_certificate_not_refused : (a : Certificate) (r : Refusal) → HoldsCertificate files name a → RefusesCertificate files name r → ⊥
+  pub held_certificate_not_refused : (a : Certificate) (r : Refusal) → HoldsCertificate files name a → RefusesCertificate files name r → ⊥
   held_certificate_not_refused a r h (certificate_file fault is refused) = no_bytes_within 268435456 files name fault h.bytes refused h.has
   held_certificate_not_refused a r h (certificate_bytes bytes fault is has bad) =
       spelled_not_wrong h.bytes a fault h.spells (subst (λ t. IsWrongText t fault) (same_bytes bytes h.bytes has h.has) bad)
 
-  one_held_certificate : (a b : Certificate) → HoldsCertificate files name a → HoldsCertificate files name b → a ≡ b
+  pub one_held_certificate : (a b : Certificate) → HoldsCertificate files name a → HoldsCertificate files name b → a ≡ b
   one_held_certificate a b h g = one_spelled h.bytes a b h.spells (subst (λ t. SpellsCertificate t b) (same_bytes g.bytes h.bytes g.has h.has) g.spells)
 
 -- A certificate has one objection, and none where it is accepted.
@@ -93,7 +93,7 @@ module _ (files : List NamedFile) (c : Case) (tree : Tree FlatLeaf) (name : Text
 
 module _ (files : List NamedFile) (model faults top cert : Text) where
   -- what is so over one case and expression of the event is so over another, since these are one
-  moved : (P : Case → Tree FlatLeaf → Type 0) (c d : Case) (e f : Formula) (t u : Tree FlatLeaf) → HoldsCase files model faults c → IsTopWord c.program top e → IsTopTree c e t →
+  pub moved : (P : Case → Tree FlatLeaf → Type 0) (c d : Case) (e f : Formula) (t u : Tree FlatLeaf) → HoldsCase files model faults c → IsTopWord c.program top e → IsTopTree c e t →
       HoldsCase files model faults d → IsTopWord d.program top f → IsTopTree d f u → P d u → P c t
   moved P c d e f t u held word is other word' is' h =
       let cases : d ≡ c = one_case files model faults d c other held in

@@ -159,6 +159,13 @@ pub map_push : {A B : Type 0} (f : A → B) (xs : List A) (x : A) → map f (xs 
 map_push f [] x = refl
 map_push f (y ∷ xs) x = ap (λ ys. f y ∷ ys) (map_push f xs x)
 
+-- one name more is told
+pub told_next : {A B : Type 0} (g : A → B) (xs : List A) (i : ℕ) (d : A) → i < length xs → (names all : List B) → names ++ map g (drop i xs) ≡ all →
+    (names ++ g (get_or xs i d) ∷ []) ++ map g (drop (i + 1) xs) ≡ all
+told_next g xs i d within names all rest =
+    append_assoc names (g (get_or xs i d) ∷ []) (map g (drop (i + 1) xs))
+    ∙ sym (ap (λ z. names ++ map g z) (drop_more xs i d within)) ∙ rest
+
 -- a member of a list that has a place
 pub first_of : {A : Type 0} (xs : List A) (i : ℕ) → i < length xs → A
 first_of [] i h = absurd (omega (arith, h))

@@ -1,7 +1,9 @@
 -- Causes of the code as definitions see them, and what is added for one.
-use Rattle.std.specs.Prelude.{suc, List, Option, Some, None, length}
+use Rattle.std.specs.Prelude.{suc, List, [], ◌∷◌, Option, Some, None, length}
 use Rattle.xs_tree.specs.declared.expr.Op.TheVariants as op
 use Rattle.xs_tree.specs.Tree.{Tree, binary}
+use Rattle.xs_tree.specs.ProgramTree.{Path}
+use Rattle.xs_scope.specs.declared.model.Fault.{Fault}
 use Rattle.xs_flattening.specs.Flat.{FlatLeaf, FlatModel}
 use Rattle.xs_flattening.specs.History.{Mode}
 use Rattle.xs_causes.specs.Causes.{CommonCause}
@@ -10,6 +12,13 @@ use Rattle.xs_staging.specs.declared.cause.Cause.{Cause}
 
 abbrev pub cause_of : Cause → CommonCause
 cause_of c = record { name = c.name; from = c.from; to = c.to; strikes = c.strikes }
+
+-- the name by which an event is told, and the one by which a cause's event is
+abbrev pub told_name : Fault → Path
+told_name f = f.name
+
+abbrev pub told_cause : Cause → Path
+told_cause c = c.name ∷ []
 
 -- the event of a cause that is added to a model, as a mode: its variable comes after the age
 abbrev pub event_mode : FlatModel → Mode

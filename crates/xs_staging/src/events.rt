@@ -6,7 +6,7 @@ ghost use Rattle.xs_flattening.specs.Flat.{flat_symbol};
 ghost use Rattle.xs_right.specs.Sets.{has_number as has_number_of};
 ghost use Rattle.xs_scope.specs.ModelTree.{model_tree, formula_tree, flat_tree, mode_of};
 ghost use Rattle.xs_causes.specs.Staged.{with_own as own_with, with_owns, own_events, own_at_first as own_first, own_at_step as own_step, stands_of, joined as windows_of, windows_on as windows_on_of, only as only_tree};
-ghost use Rattle.xs_staging.specs.CauseOf.{cause_of, either_tree};
+ghost use Rattle.xs_staging.specs.CauseOf.{cause_of, told_name, either_tree};
 
 use crate::build::{
     binary, choice, falsehood, next, only, opposite, state, symbol, two_symbols, within,
@@ -19,7 +19,7 @@ use std::alloc::Global;
 use xs_flat::{Fault, FaultList, Flat, FlatModel, Formula};
 use xs_scope::items::number_of;
 use xs_tree::{Expr, Op};
-use xs_value::OutOfMemory;
+use xs_value::{Dotted, OutOfMemory};
 
 /// Adds the event of each fault, under the causes with the numbers of their ages.
 pub(crate) fn add_own_events(
@@ -33,27 +33,31 @@ pub(crate) fn add_own_events(
     requires ages { length ages.now ≡ length causes.now }
     ensures model { OnOk result (model_tree made.new ≡ with_owns (map mode_of faults.now) (map cause_of causes.now) ages.now 1 (map mode_of faults.now) (model_tree made.old)) }
     ensures events { OnOk result (map mode_of events.new ≡ map mode_of events.old ++ own_events (length (model_tree made.old).variables) (length (model_tree made.old).symbols) (map mode_of faults.now)) }
+    ensures names { OnOk result (map told_name events.new ≡ map told_name events.old ++ map told_name faults.now) }
 {
-    for i in 0..faults.len() {
+    for (i, fault) in faults.iter().enumerate() {
         let number = number_of(i + 1)?;
-        events.push(add_own_event(alloc, made, faults, causes, ages, number)?)?;
+        let event = add_own_event(alloc, made, faults, causes, ages, &fault.name, number)?;
+        events.push(event)?;
     }
     Ok(())
 }
 
-/// Adds the event of the fault of a number, which is told with the fault's name.
+/// Adds the event of the fault of a number, which is told with this name.
 fn add_own_event(
     alloc: Global,
     made: &mut FlatModel,
     faults: &[Fault],
     causes: &[Cause],
     ages: &[u32],
+    name: &Dotted,
     number: u32,
 ) -> Result<Fault, OutOfMemory>
     requires number { (0 < number) × (number ≤ length faults.now) }
     requires ages { length ages.now ≡ length causes.now }
     ensures model { OnOk result (model_tree made.new ≡ own_with (map mode_of faults.now) (map cause_of causes.now) ages.now number (model_tree made.old)) }
     ensures event { IfOk result (λ f. mode_of f ≡ record { variable = length (model_tree made.old).variables; symbol = suc (length (model_tree made.old).symbols) }) }
+    ensures name { IfOk result (λ f. told_name f ≡ name.now) }
 {
     let own = number_of(made.variables.len())?;
     let none = number_of(made.symbols.len())?;
@@ -74,7 +78,7 @@ fn add_own_event(
     made.trans
         .push(own_at_step(alloc, faults, causes, ages, number, mark)?)?;
     Ok(Fault {
-        name: faults[number as usize - 1].name.copy(alloc)?,
+        name: name.copy(alloc)?,
         variable: own,
         symbol: itself,
     })

@@ -1,7 +1,7 @@
 use Rattle.std.proofs.Common.{◌≡◌, ◌+◌, ◌++◌, length, map, drop}
 use Rattle.xs_scope.specs.ModelTree.{model_tree, mode_of}
 use Rattle.xs_causes.specs.Staged.{with_owns, own_events}
-use Rattle.xs_staging.specs.CauseOf.{cause_of}
+use Rattle.xs_staging.specs.CauseOf.{cause_of, told_name}
 use Rattle.xs_staging.proofs.events.add_own_events.Given as goal
 
 abbrev pub invariant-loop-i : goal.invariant-loop-i
@@ -10,4 +10,5 @@ invariant-loop-i l = record {
       ≡ with_owns (map mode_of l.faults) (map cause_of l.causes) l.ages 1 (map mode_of l.faults) (model_tree l.fn.made);
   events : map mode_of l.events ++ own_events (length (model_tree l.made).variables) (length (model_tree l.made).symbols) (map mode_of (drop l.i l.faults))
       ≡ map mode_of l.fn.events ++ own_events (length (model_tree l.fn.made).variables) (length (model_tree l.fn.made).symbols) (map mode_of l.faults);
+  names : map told_name l.events ++ map told_name (drop l.i l.faults) ≡ map told_name l.fn.events ++ map told_name l.faults;
 }

@@ -3,8 +3,8 @@ use Rattle.std.proofs.lemmas.List.{length-map}
 use Rattle.xs_scope.specs.ModelTree.{model_tree, mode_of, variable_tree}
 use Rattle.xs_causes.specs.Causes.{IsCauseOf}
 use Rattle.xs_causes.specs.Staged.{with_cause, with_each_cause, age_numbers, cause_events}
-use Rattle.xs_staging.specs.CauseOf.{cause_of}
-use Rattle.xs_staging.proofs.Counts.{each_map_get, causes_next, ages_next, events_next, map_push}
+use Rattle.xs_staging.specs.CauseOf.{cause_of, told_name, told_cause}
+use Rattle.xs_staging.proofs.Counts.{each_map_get, causes_next, ages_next, events_next, told_next, map_push}
 use Rattle.xs_staging.proofs.staging.add_causes.Goals as goal
 
 pub add_cause-requires : goal.add_cause-requires
@@ -34,4 +34,9 @@ loop-cause-preserved c =
           (map mode_of c.loop-cause.events)
           (map mode_of c.args.events.now ++ cause_events (length (model_tree c.args.made.now).variables) (length (model_tree c.args.made.now).symbols) (map cause_of c.args.causes.now)) step
           c.loop-cause.invariant.events;
+      names = ap (λ z. z ++ map told_cause (drop (c.loop-cause.cause-index + 1) c.args.causes.now))
+          (ap (map told_name) c.in_ok-push-2.ensures.ok ∙ map_push told_name c.loop-cause.events c.in_ok-add_cause.field-0
+          ∙ ap (λ f. map told_name c.loop-cause.events ++ f ∷ []) (c.in_ok-add_cause.ensures.name ∙ ap told_cause c.cause-item.is))
+          ∙ told_next told_cause c.args.causes.now c.loop-cause.cause-index c.cause-item.result below (map told_name c.loop-cause.events)
+          (map told_name c.args.events.now ++ map told_cause c.args.causes.now) c.loop-cause.invariant.names;
     }

@@ -1,7 +1,7 @@
 use Rattle.std.proofs.Common.{◌≡◌, ◌++◌, length, map, drop}
 use Rattle.xs_scope.specs.ModelTree.{model_tree, mode_of}
 use Rattle.xs_causes.specs.Staged.{with_each_cause, age_numbers, cause_events}
-use Rattle.xs_staging.specs.CauseOf.{cause_of}
+use Rattle.xs_staging.specs.CauseOf.{cause_of, told_name, told_cause}
 use Rattle.xs_staging.proofs.staging.add_causes.Given as goal
 
 abbrev pub invariant-loop-cause : goal.invariant-loop-cause
@@ -10,4 +10,5 @@ invariant-loop-cause l = record {
   ages : l.ages.items ++ age_numbers (length (model_tree l.made).variables) (map cause_of (drop l.cause-index l.causes)) ≡ l.fn.ages.items ++ age_numbers (length (model_tree l.fn.made).variables) (map cause_of l.causes);
   events : map mode_of l.events ++ cause_events (length (model_tree l.made).variables) (length (model_tree l.made).symbols) (map cause_of (drop l.cause-index l.causes))
       ≡ map mode_of l.fn.events ++ cause_events (length (model_tree l.fn.made).variables) (length (model_tree l.fn.made).symbols) (map cause_of l.causes);
+  names : map told_name l.events ++ map told_cause (drop l.cause-index l.causes) ≡ map told_name l.fn.events ++ map told_cause l.causes;
 }
