@@ -1,2 +1,3 @@
 pub mod CausesLaws
 pub mod StagedLaws
+pub mod OneRefusal

@@ -36,6 +36,7 @@ use Rattle.xs_trace_text.proofs.FlatNames.{flat_models_named}
 use Rattle.xs_trace_text.proofs.Named.{named_is_printable}
 use Rattle.xs_certificate.specs.Certificate.{Certificate}
 use Rattle.xs_certificate.specs.Accepted.{Subject, IsAccepted as Accepts, IsObjection}
+use Rattle.xs_certificate.proofs.Objections.{accepted_has_none}
 use Rattle.xs_certified.specs.Certified.{IsSubjectOf, IsCertified}
 use Rattle.xs_subject.specs.Subject.{subject_of}
 use Rattle.xs_subject.proofs.Subjects.{subjects_right}
@@ -47,6 +48,8 @@ use Rattle.xs_woven_tops.proofs.Fits.{tops_fit}
 use Rattle.xs_causes.specs.Causes.{CommonCause, IsCauseOf}
 use Rattle.xs_causes.specs.CauseRules.{fault_path}
 use Rattle.xs_causes.specs.Staged.{with_causes, events_of}
+use Rattle.xs_staging.specs.declared.cause.Cause.{Cause}
+use Rattle.xs_staging.specs.CauseOf.{cause_of, told_name, told_cause}
 use Rattle.xs_causes_reader.specs.FaultPaths.{path_of, paths_of}
 use Rattle.xs_causes_reader.specs.Read.{AreNamed as AreFaultNames}
 use Rattle.xs_caused.specs.Laws.{CanHaveCauses, IsSearchableStaged, AreNamed}
@@ -69,7 +72,7 @@ use Rattle.xs_run.proofs.TopLaws.{have_models}
 use Rattle.xs_reach_status.specs.declared.status.Refusal.{Refusal}
 use Rattle.xs_reach_status.specs.declared.status.Refusal.TheVariants as refusal
 use Rattle.xs_find_causes.specs.declared.staged.StagedEvent.{StagedEvent}
-use Rattle.xs_find_causes.specs.Causes.{modes_in, flat_in, AreCausesOf, causes_in, staged_in, events_in, IsStagedEvent, CertifiesStaged}
+use Rattle.xs_find_causes.specs.Causes.{modes_in, flat_in, faults_in, cause_path, AreToldEvents, AreCausesOf, causes_in, staged_in, events_in, IsStagedEvent, CertifiesStaged}
 use Rattle.xs_find_causes.specs.Refusals.{BreaksLine, at_line}
 
 -- ---- the names of faults
@@ -86,6 +89,11 @@ paths_are m [] [] h = refl
 paths_are m [] (f ∷ fs) h = absurd h
 paths_are m (w ∷ ws) [] h = absurd h
 paths_are m (w ∷ ws) (f ∷ fs) h = let one = path_is m w f h.0.name in let rest = paths_are m ws fs h.1 in (λ j. one j ∷ rest j)
+
+-- events that have the names of faults and of causes are told by them
+causes_told : (cs : List Cause) → map told_cause cs ≡ map cause_path (map cause_of cs)
+causes_told [] = refl
+causes_told (c ∷ cs) = ap (λ names. (c.name ∷ []) ∷ names) (causes_told cs)
 
 -- ---- the extension
 
@@ -108,6 +116,9 @@ module _ (p : ProgramTree) (l : LoadedCase) (is : IsLoaded p l) where
 
   pub faults_named : AreFaultNames l.limited.faults (map fault_tree l.limited.woven.faults)
   faults_named = paths_are l.limited.typed.model l.limited.woven.faults l.limited.faults is.numbered
+
+  pub events_told : (cs : List Cause) (events : List Fault) → map told_name events ≡ map told_name l.limited.faults ++ map told_cause cs → AreToldEvents (faults_in l) (map cause_of cs) events
+  events_told cs events e = e ∙ ap (λ names. names ++ map told_cause cs) faults_named ∙ ap (λ names. map fault_path (faults_in l) ++ names) (causes_told cs)
 
   many : length (map fault_tree l.limited.woven.faults) ≡ length (modes_in l)
   many =
@@ -254,6 +265,9 @@ module _ (l : StagedEvent) (is : IsStagedEvent l) where
         record {
           event = is.event.event.top;
           is_event = is.event.event.is_word;
+          unbroken = λ line rule bad.
+              accepted_has_none (List (List Value)) (GivesTrace (staged_in l)) (IsFlatTrace (staged_in l)) (ReachesTop (staged_in l) tree) (HasFailedNumber (staged_in l) (events_in l)) subject a line rule
+              certified.accepted bad;
           shows =
               accepted_certifies c.program c.instructions c.faults is.event.event.top m fs tree (model_of_case program case l.word.now tree is.event) cs is.staged.names.strikes
               (taken (λ n es. AreOwn n es tree) fits.own) subject (taken (λ n es. IsSubjectOf n es tree subject) is_subject) a

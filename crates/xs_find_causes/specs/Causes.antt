@@ -1,18 +1,25 @@
 -- What common causes come to: a case with causes in memory, and what its search and its certificates are about.
-use Rattle.std.specs.Prelude.{◌≡◌, ◌⊎◌, ◌++◌, ℕ, List, IfSome, codes, map, length}
+use Rattle.std.specs.Prelude.{◌≡◌, ◌⊎◌, ◌++◌, ℕ, List, [], ◌∷◌, IfSome, codes, map, length}
 use Rattle.xs_desk.specs.declared.files.NamedFile.{NamedFile}
 use Rattle.xs_desk.specs.Desk.{said_more, SaysPrefix}
 use Rattle.xs_tree.specs.Tree.{Tree}
-use Rattle.xs_tree.specs.ProgramTree.{Text, Formula, ProgramTree, program_tree}
+use Rattle.xs_tree.specs.ProgramTree.{Text, Path, Formula, ProgramTree, program_tree}
+use Rattle.xs_tree.specs.Values.{Value}
 use Rattle.xs_tree.specs.Trace.{Each}
 use Rattle.xs_scope.specs.ModelTree.{model_tree, mode_of, flat_tree}
 use Rattle.xs_flattening.specs.Flat.{FlatLeaf, FlatModel}
+use Rattle.xs_flattening.specs.FlatTrace.{IsFlatTrace}
 use Rattle.xs_flattening.specs.History.{Mode, with_history}
+use Rattle.xs_scope.specs.declared.model.Fault.{Fault as Event}
+use Rattle.xs_encoded.specs.FlatTraces.{ReachesTop, HasFailedNumber}
 use Rattle.xs_kinds.specs.Models.{IsTyped}
 use Rattle.xs_weave.specs.Faults.{Fault}
 use Rattle.xs_extend.specs.WovenFaults.{fault_tree}
 use Rattle.xs_trace_text.specs.Laws.{IsNamed}
+use Rattle.xs_trace_text.specs.Given.{GivesTrace}
 use Rattle.xs_certificate.specs.Certificate.{Certificate}
+use Rattle.xs_certificate.specs.Accepted.{Rule, IsObjection}
+use Rattle.xs_subject.specs.Subject.{subject_of}
 use Rattle.xs_cuts.specs.declared.answer.Analysis.{Analysis as Searched}
 use Rattle.xs_cuts_extended.specs.Answered.{ending_of}
 use Rattle.xs_analysis_text.specs.AnalysisText.{size_line, analysis_text}
@@ -21,6 +28,7 @@ use Rattle.xs_analysis_text.specs.Analysis.{told_ending}
 use Rattle.xs_report.specs.FaultText.{name_of, faults_text}
 use Rattle.xs_kinds.specs.Costs.{state_bits}
 use Rattle.xs_causes.specs.Causes.{CommonCause, IsCauseOf}
+use Rattle.xs_causes.specs.CauseRules.{fault_path}
 use Rattle.xs_causes.specs.Staged.{with_causes, events_of}
 use Rattle.xs_staging.specs.declared.cause.Cause.{Cause}
 use Rattle.xs_staging.specs.CauseOf.{cause_of}
@@ -99,8 +107,18 @@ pub record IsStagedOf (case : LoadedCase) (causes : List CommonCause) (staged ke
   pub typed : IsTyped staged
   pub whole : IsTyped kept
 
-abbrev pub IsStagedCase : LoadedCase → StagedCase → Type 0
-IsStagedCase case l = IsStagedOf case (map cause_of l.causes) (model_tree l.typed.model) (model_tree l.full.model) (map mode_of l.events)
+-- the name by which a cause is told
+abbrev pub cause_path : CommonCause → Path
+cause_path c = c.name ∷ []
+
+-- events are told by the names of the faults, in their order, and then by those of the causes
+abbrev pub AreToldEvents : List Fault → List CommonCause → List Event → Type 0
+AreToldEvents faults causes events = map name_of events ≡ map fault_path faults ++ map cause_path causes
+
+-- the extension in memory with its causes, and its events by their names
+pub record IsStagedCase (case : LoadedCase) (l : StagedCase) : Type 0 where
+  pub staged : IsStagedOf case (map cause_of l.causes) (model_tree l.typed.model) (model_tree l.full.model) (map mode_of l.events)
+  pub told : AreToldEvents (faults_in case) (map cause_of l.causes) l.events
 
 -- the causes of what was loaded, its staged model, and the events of that
 abbrev pub causes_in : StagedEvent → List CommonCause
@@ -116,12 +134,21 @@ events_in l = map mode_of l.events
 pub record IsStagedEvent (l : StagedEvent) : Type 0 where
   pub event : IsEvent l.word.now l.loaded
   pub staged : IsStagedOf l.loaded.case (causes_in l) (staged_in l) (model_tree l.full.model) (events_in l)
+  pub told : AreToldEvents (faults_in l.loaded.case) (causes_in l) l.events
 
--- The certificate shows its sets of events for all caused traces of the case, for the top event that the word spells.
+-- no line of the certificate breaks a rule over a model with its events and a top event
+abbrev pub BreaksNoLine : FlatModel → List Mode → Tree FlatLeaf → Certificate → Type 0
+BreaksNoLine m es tree a =
+    (line : ℕ) (rule : Rule) →
+    IsObjection (List (List Value)) (GivesTrace m) (IsFlatTrace m) (ReachesTop m tree) (HasFailedNumber m es) (subject_of (with_history m es) m es tree) a line rule → ⊥
+
+-- The certificate shows its sets of events for all caused traces of the case, for the top event that the word spells, and no line of
+-- it breaks a rule.
 pub record CertifiesStaged (l : StagedEvent) (certificate : Certificate) : Type 0 where
   pub event : Formula
   pub is_event : IsTopWord (case_in l.loaded).program l.word.now event
   pub shows : CertifiesCauses (case_in l.loaded).program (case_in l.loaded).instructions (case_in l.loaded).faults event (case_in l.loaded).flat (case_in l.loaded).modes (causes_in l) certificate
+  pub unbroken : BreaksNoLine (staged_in l) (events_in l) (flat_tree l.loaded.top) certificate
 
 -- the file holds a certificate that shows its sets for all caused traces, and this says that it is accepted
 pub record AcceptsStaged (files : List NamedFile) (l : StagedEvent) (name report : Text) : Type 0 where

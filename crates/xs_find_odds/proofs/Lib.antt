@@ -1,2 +1,3 @@
 pub mod OddsLaws
 pub mod FoundLaws
+pub mod OneRefusal

@@ -41,6 +41,8 @@ pub fn run<D: Desk>(alloc: Global, words: &[&str], desk: &mut D) -> Status
         IfSome (D.files desk.old) (λ files. IsDone c files result (D.files desk.old) (D.files desk.new) (D.said desk.old) (D.said desk.new)) }
     // One that is refused has said the line of the rule that is broken first, and changed no file.
     ensures refused { (c : Asked) (r : Refusal) → Means (texts words.now) c → result ≡ Status.Refused r → IfSome (D.files desk.old) (λ files. RefusesCommand c files r) }
+    // No other rule is: words whose files break one are refused by it, unless the desk fails or memory runs out.
+    ensures exact { (c : Asked) (r : Refusal) → Means (texts words.now) c → IsAnswer result → IfSome (D.files desk.old) (λ files. RefusesCommand c files r → result ≡ Status.Refused r) }
     ensures told { (r : Refusal) → result ≡ Status.Refused r → (D.files desk.new ≡ D.files desk.old) × (D.said desk.new ≡ said_more (D.said desk.old) (refusal_text r)) }
     // Words that mean nothing are refused by the rule that they break first, at its place.
     ensures words { (rule place : ℕ) → BreaksFirst (texts words.now) rule place → IsAnswer result →

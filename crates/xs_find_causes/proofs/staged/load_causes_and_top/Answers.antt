@@ -38,7 +38,7 @@ returns-in-Err-clause-refused g c r e of_model of_faults holds =
     let p = program_tree c.args.model.now.program in
     let cs = map cause_of c.in_ok-staged.staged.causes in
     let has = has_causes _ _ p c.args.case.now _ cs c.requires.loaded refl c.in_ok-staged.ensures.ok in
-    staged_no_top of_model of_faults _ _ _ (case_of p c.args.case.now) cs r is.refused is.told holds has (keeps_limits c.args.case.now cs _ _ _ c.in_ok-staged.ensures.staged)
+    staged_no_top of_model of_faults _ _ _ (case_of p c.args.case.now) cs r is.refused is.told holds has (keeps_limits c.args.case.now cs _ _ _ c.in_ok-staged.ensures.staged.staged)
     (c.load_top.ensures.refused is.refused (c.in-Err.is ∙ ap (λ s. Err s) is.is))
 
 pub returns-in-Err-clause-failed : goal.returns-in-Err-clause-failed

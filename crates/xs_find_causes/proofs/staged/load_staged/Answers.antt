@@ -25,7 +25,8 @@ pub returns-clause-staged : goal.returns-clause-staged
 returns-clause-staged g c =
     record {
       event = record { flat = model_tree c.in_ok-model.model.typed.model; lawful = c.in_ok-model.ensures.lawful; loaded = c.in_ok-case.ensures.loaded; event = c.in_ok-found.ensures.top };
-      staged = c.in_ok-found.ensures.staged;
+      staged = c.in_ok-found.ensures.staged.staged;
+      told = c.in_ok-found.ensures.staged.told;
     }
 
 pub returns-in_err-model-clause-refused : goal.returns-in_err-model-clause-refused

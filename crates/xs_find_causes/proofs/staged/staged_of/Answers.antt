@@ -9,7 +9,7 @@ use Rattle.xs_kinds.specs.Models.{IsTyped}
 use Rattle.xs_causes.specs.Causes.{IsCauseOf}
 use Rattle.xs_causes.specs.Staged.{with_causes, events_of}
 use Rattle.xs_staging.specs.CauseOf.{cause_of}
-use Rattle.xs_find_causes.proofs.StagedLaws.{causes_named}
+use Rattle.xs_find_causes.proofs.StagedLaws.{causes_named, events_told}
 use Rattle.xs_find_causes.specs.Causes.{flat_in, modes_in}
 use Rattle.xs_find_causes.proofs.CausesLaws.{whole_past_limit, model_past_limit}
 use Rattle.xs_find_causes.proofs.staged.staged_of.Goals as goal
@@ -26,12 +26,17 @@ returns-clause-staged c =
     let cs = map cause_of c.args.causes in
     let modes = map mode_of case.limited.faults in
     record {
-      names = causes_named c.requires.case.0 case c.requires.case.1 c.requires.causes.0 cs c.requires.causes.1;
-      model = ap model_tree c.in_ok-typed.ensures.model ∙ c.in_ok-staged.ensures.model ∙ ap (λ (m : Made). with_causes (model_tree m) modes cs) c.model.ensures.model;
-      events = c.in_ok-staged.ensures.events ∙ ap (λ (m : Made). events_of (model_tree m) modes cs) c.model.ensures.model;
-      full = ap model_tree c.in_ok-full.ensures.model ∙ c.in_ok-whole.ensures.model ∙ ap (λ (m : Made). with_history (model_tree m) (map mode_of c.in_ok-staged.staged.events)) (sym c.in_ok-typed.ensures.model);
-      typed = subst (λ (m : Made). IsTyped (model_tree m)) (sym c.in_ok-typed.ensures.model) c.in_ok-typed.ensures.typed;
-      whole = subst (λ (m : Made). IsTyped (model_tree m)) (sym c.in_ok-full.ensures.model) c.in_ok-full.ensures.typed;
+      staged = record {
+        names = causes_named c.requires.case.0 case c.requires.case.1 c.requires.causes.0 cs c.requires.causes.1;
+        model = ap model_tree c.in_ok-typed.ensures.model ∙ c.in_ok-staged.ensures.model ∙ ap (λ (m : Made). with_causes (model_tree m) modes cs) c.model.ensures.model;
+        events = c.in_ok-staged.ensures.events ∙ ap (λ (m : Made). events_of (model_tree m) modes cs) c.model.ensures.model;
+        full =
+            ap model_tree c.in_ok-full.ensures.model ∙ c.in_ok-whole.ensures.model
+            ∙ ap (λ (m : Made). with_history (model_tree m) (map mode_of c.in_ok-staged.staged.events)) (sym c.in_ok-typed.ensures.model);
+        typed = subst (λ (m : Made). IsTyped (model_tree m)) (sym c.in_ok-typed.ensures.model) c.in_ok-typed.ensures.typed;
+        whole = subst (λ (m : Made). IsTyped (model_tree m)) (sym c.in_ok-full.ensures.model) c.in_ok-full.ensures.typed;
+      };
+      told = events_told c.requires.case.0 case c.requires.case.1 c.args.causes c.in_ok-staged.staged.events c.in_ok-staged.ensures.names;
     }
 
 pub returns-in_err-full-clause-wrong : goal.returns-in_err-full-clause-wrong

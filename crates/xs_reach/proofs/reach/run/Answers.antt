@@ -4,6 +4,7 @@ use Rattle.xs_reach_words.specs.Seen.{texts, seen}
 use Rattle.xs_reach_status.specs.Statuses.{refusal_text}
 use Rattle.xs_reach_status.specs.declared.status.Refusal.TheVariants as refused
 use Rattle.xs_reach.proofs.RunLaws.{done_for, refused_for, refused_unfinished, answer_refused, finished_kept, told_after, unstopped, left_at_words, left_at_stop}
+use Rattle.xs_reach.proofs.OneAnswer.{refused_exactly}
 use Rattle.xs_reach.proofs.reach.run.Goals as goal
 
 pub returns-in-Err-clause-finished : goal.returns-in-Err-clause-finished
@@ -11,6 +12,9 @@ returns-in-Err-clause-finished g c command means finished = absurd (refused_unfi
 
 pub returns-in-Err-clause-refused : goal.returns-in-Err-clause-refused
 returns-in-Err-clause-refused g c command r means is = absurd (c.read_words.ensures.apart command _ _ means c.in-Err.ensures.fault)
+
+pub returns-in-Err-clause-exact : goal.returns-in-Err-clause-exact
+returns-in-Err-clause-exact g c command r means answer = absurd (c.read_words.ensures.apart command _ _ means c.in-Err.ensures.fault)
 
 pub returns-in-Err-clause-told : goal.returns-in-Err-clause-told
 returns-in-Err-clause-told g c r is =
@@ -28,6 +32,13 @@ returns-in-Ok-carry_out-clause-finished g c command means finished =
 pub returns-in-Ok-carry_out-clause-refused : goal.returns-in-Ok-carry_out-clause-refused
 returns-in-Ok-carry_out-clause-refused g c command r means is = absurd (finished_kept c.in-Ok-carry_out.status r c.in-Ok-carry_out.ensures.finished is)
 
+pub returns-in-Ok-carry_out-clause-exact : goal.returns-in-Ok-carry_out-clause-exact
+returns-in-Ok-carry_out-clause-exact g c command r means answer =
+    refused_exactly _ command c.in-Ok-carry_out.status _ _ _ _
+    (λ finished. done_for _ (texts c.args.words.now) (seen c.in-Ok.command) command c.in-Ok-carry_out.status _ _ _ _ c.read_words.ensures.one_command c.in-Ok.ensures.ok means
+    (c.in-Ok-carry_out.ensures.done (texts c.args.words.now) c.in-Ok.ensures.ok))
+    (λ q is. absurd (finished_kept c.in-Ok-carry_out.status q c.in-Ok-carry_out.ensures.finished is)) r answer
+
 pub returns-in-Ok-carry_out-clause-told : goal.returns-in-Ok-carry_out-clause-told
 returns-in-Ok-carry_out-clause-told g c r is = absurd (finished_kept c.in-Ok-carry_out.status r c.in-Ok-carry_out.ensures.finished is)
 
@@ -41,6 +52,13 @@ pub returns-in-Err-carry_out-clause-refused : goal.returns-in-Err-carry_out-clau
 returns-in-Err-carry_out-clause-refused g c command r means is =
     let stop = c.stopped.ensures.refused r is in
     refused_for _ (texts c.args.words.now) (seen c.in-Ok.command) command r c.read_words.ensures.one_command c.in-Ok.ensures.ok means (c.in-Err-carry_out.ensures.refused (texts c.args.words.now) c.in-Ok.ensures.ok r (ap (λ s. Err s) stop.0))
+
+pub returns-in-Err-carry_out-clause-exact : goal.returns-in-Err-carry_out-clause-exact
+returns-in-Err-carry_out-clause-exact g c command r means answer =
+    refused_exactly _ command c.stopped.result (g.D.Desk.files c.args.desk.now) (g.D.Desk.files c.args.desk.now) (g.D.Desk.said c.args.desk.now) (g.D.Desk.said c.args.desk.now)
+    (λ finished. absurd (c.stopped.ensures.ended finished))
+    (λ q is. refused_for _ (texts c.args.words.now) (seen c.in-Ok.command) command q c.read_words.ensures.one_command c.in-Ok.ensures.ok means
+    (c.in-Err-carry_out.ensures.refused (texts c.args.words.now) c.in-Ok.ensures.ok q (ap (λ s. Err s) (c.stopped.ensures.refused q is).0))) r answer
 
 pub returns-in-Err-carry_out-clause-told : goal.returns-in-Err-carry_out-clause-told
 returns-in-Err-carry_out-clause-told g c r is =
