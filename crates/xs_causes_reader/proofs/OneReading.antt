@@ -49,7 +49,7 @@ among_those (x ∷ paths) zero (suc n) p less e =
 among_those (x ∷ paths) (suc k) (suc n) p less e = or_second (same_path x p) (is_path_among (take n paths) p) (among_those paths k n p (omega (arith, less)) e)
 
 no_earlier : (paths : List Path) (p : Path) (i j : ℕ) → IsNumberOf paths p i → IsNumberOf paths p j → i - 1 < j - 1 → ⊥
-no_earlier paths p i j h g less = let bad : true ≡ false = sym (among_those paths (i - 1) (j - 1) p less h.1.0) ∙ g.1.1 in cc
+no_earlier paths p i j h g less = let bad : true ≡ false = sym (among_those paths (i - 1) (j - 1) p less h.1) ∙ g.2 in cc
 
 one_number : (paths : List Path) (p : Path) (i j : ℕ) → IsNumberOf paths p i → IsNumberOf paths p j → i ≡ j
 one_number paths p i j h g =

@@ -163,9 +163,9 @@ module _ (faults : List Fault) (w : ProgramTree) where
   strike_of p i n = go (slice_get faults (i - 1)) refl
     where
       go : (o : Option Fault) → slice_get faults (i - 1) ≡ o → IsStrikeOf faults w p i
-      go None e = let clash : None ≡ Some p = sym (slice_get-map fault_path faults (i - 1) ∙ ap (option_map fault_path) e) ∙ n.1.0 in cc
+      go None e = let clash : None ≡ Some p = sym (slice_get-map fault_path faults (i - 1) ∙ ap (option_map fault_path) e) ∙ n.1 in cc
       go (Some f) e =
-          let both : Some (fault_path f) ≡ Some p = sym (slice_get-map fault_path faults (i - 1) ∙ ap (option_map fault_path) e) ∙ n.1.0 in
+          let both : Some (fault_path f) ≡ Some p = sym (slice_get-map fault_path faults (i - 1) ∙ ap (option_map fault_path) e) ∙ n.1 in
           let same : fault_path f ≡ p = cc in (f, n.0, e, same)
 
   strikes_of : (ps : List Path) (is : List ℕ) → EachBoth (IsNumberOf paths) ps is → EachBoth (IsStrikeOf faults w) ps is

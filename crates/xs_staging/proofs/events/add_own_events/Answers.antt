@@ -24,7 +24,7 @@ loop-i-preserved c =
           c.loop-i.invariant.events;
       names = ap (λ z. z ++ map told_name (drop (c.loop-i.i + 1) c.args.faults.now))
           (ap (map told_name) c.in_ok-push.ensures.ok ∙ map_push told_name c.loop-i.events c.in_ok-event.event
-          ∙ ap (λ f. map told_name c.loop-i.events ++ f ∷ []) (c.in_ok-event.ensures.name ∙ ap told_name c.fault-item.is))
-          ∙ told_next told_name c.args.faults.now c.loop-i.i c.fault-item.result c.loop-i-test.true (map told_name c.loop-i.events)
+          ∙ ap (λ f. map told_name c.loop-i.events ++ f ∷ []) (c.in_ok-event.ensures.name ∙ ap told_name c.index-faults-i.is))
+          ∙ told_next told_name c.args.faults.now c.loop-i.i c.index-faults-i.result c.loop-i-test.true (map told_name c.loop-i.events)
           (map told_name c.args.events.now ++ map told_name c.args.faults.now) c.loop-i.invariant.names;
     }
