@@ -100,7 +100,7 @@ fn in_causes(before: Counter, token: &[u8]) -> (Counter, Role)
     };
     match token {
         b";" => (Counter::List, role),
-        _ => (Counter::Section, role),
+        _ => (Counter::Listed(0), role),
     }
 }
 
