@@ -1,5 +1,8 @@
 // Which tokens begin the items of a file, and which belong to them. A file whose items are counted was read as a whole, so that its
-// tokens spell a model, instructions or top events; and then a few words tell where each item begins.
+// tokens spell a model, instructions, top events or causes; and then a few words tell where each item begins.
+
+ghost use Rattle.std.specs.Prelude.{◌≡◌, ◌↔◌, codes};
+ghost use Rattle.xs_explain.specs.Items.{IsBetween, IsFirst};
 
 use crate::finding::Items;
 
@@ -45,7 +48,7 @@ impl Counter {
         match items {
             Items::Model => Counter::Outside,
             Items::Faults => Counter::Between,
-            Items::Events => Counter::List,
+            Items::Events | Items::Causes => Counter::List,
         }
     }
 
@@ -55,6 +58,7 @@ impl Counter {
             Items::Model => in_model(*self, token),
             Items::Faults => in_faults(*self, token),
             Items::Events => in_list(*self, token),
+            Items::Causes => in_causes(*self, token),
         };
         *self = next;
         role
@@ -80,6 +84,23 @@ fn in_list(before: Counter, token: &[u8]) -> (Counter, Role) {
         Counter::Listed(depth) => (in_item(depth, token), Role::Inner),
         Counter::Section => (Counter::Section, Role::Inner),
         _ => (Counter::Outside, Role::Outer),
+    }
+}
+
+/// A token of a file of causes. No cause has a `case`, and each ends at its `;`.
+fn in_causes(before: Counter, token: &[u8]) -> (Counter, Role)
+    // The token behind begins a cause exactly where this one is a `;`.
+    ensures ends { IsBetween result.0 ↔ (token.now ≡ codes ";") }
+    // This token begins one exactly where one could begin.
+    ensures first { IsFirst result.1 ↔ IsBetween before }
+{
+    let role = match before {
+        Counter::List => Role::First,
+        _ => Role::Inner,
+    };
+    match token {
+        b";" => (Counter::List, role),
+        _ => (Counter::Listed(0), role),
     }
 }
 

@@ -102,6 +102,7 @@ fn append_item(
     let name = match items {
         Items::Model | Items::Faults => "item",
         Items::Events => "top event",
+        Items::Causes => "cause",
     };
     let Some(item) = find_item(alloc, file, items, number)? else {
         let head = format!(in alloc; "the file has no {name} {number}\n")?;

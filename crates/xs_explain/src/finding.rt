@@ -1,6 +1,9 @@
 // How the place of a refusal is found, and what is shown of a file there. The table in docs/MANUAL.md on how a place is found has
 // the same sentences, word for word and in this order; `tools/meanings` compares the two.
 
+ghost use Rattle.std.specs.Prelude.{◌≡◌, ◌<◌};
+ghost use Rattle.xs_explain.specs.declared.finding.Shown.TheVariants as shown;
+
 use crate::refusal::{Part, Refusal, Subject};
 
 /// How a place is found: a row of the manual's table.
@@ -31,6 +34,8 @@ pub(crate) enum Items {
     Faults,
     /// The top events of a file.
     Events,
+    /// The causes of a file.
+    Causes,
 }
 
 /// What is shown of a file: a byte, counted from 0, an item or a line, from 1, or the line at which a moment begins, from 0.
@@ -59,13 +64,13 @@ impl Finding {
             Finding::Event => "0 for a word; in a file the number of the top event, from 1",
             Finding::Count => "65; of a set the position of the number in it, from 1",
             Finding::Cause =>
-                "the number of the cause, from 1; 0 for a name of an event of a fault",
+                "the number of the cause, from 1; 0 where a name that is added for a fault is taken: `own#i`, `self#i` or `none#i`",
             Finding::TraceLine => "the line, from 1; for `read 4` the moment, from 0",
             Finding::CertLine => "the line, from 1, also for one that is missing",
             Finding::Moment => "the moment, from 0",
             Finding::CertRule => "the line of the certificate, from 1",
             Finding::Word =>
-                "the word, from 1, the verb being 1; for `words 5` the option's place in the verb's row",
+                "the word, from 1, the verb being 1; for `words 5` the option's place in the verb's row of the table of verbs",
         }
     }
 }
@@ -127,19 +132,19 @@ fn shown_at(finding: Finding, part: Part, number: u32, place: u64) -> Shown {
         Finding::ModelItem => shown_item(Items::Model, place),
         Finding::FaultsItem => shown_item(Items::Faults, place),
         Finding::Event | Finding::Count => shown_item(Items::Events, place),
+        Finding::Cause => shown_item(Items::Causes, place),
         Finding::TraceLine if number == 4 => Shown::Moment(place),
         Finding::TraceLine | Finding::CertLine => Shown::Line(place),
-        Finding::Absent
-        | Finding::Length
-        | Finding::Cause
-        | Finding::Moment
-        | Finding::CertRule
-        | Finding::Word => Shown::Nothing,
+        Finding::Absent | Finding::Length | Finding::Moment | Finding::CertRule | Finding::Word =>
+            Shown::Nothing,
     }
 }
 
 /// The item of a number, and nothing for 0.
-fn shown_item(items: Items, number: u64) -> Shown {
+fn shown_item(items: Items, number: u64) -> Shown
+    ensures none { number ≡ 0 → result ≡ shown.Nothing }
+    ensures item { 0 < number → result ≡ shown.Item items number }
+{
     if number == 0 {
         Shown::Nothing
     } else {

@@ -4,8 +4,8 @@
 //! [`look_up`] finds what it means and how its place is found, in the words of docs/MANUAL.md, where the program says such a line at
 //! all; and [`Explanation::text`] makes the text, with the place in the bytes of the file that was refused. [`spot_of`] is the one
 //! rule on lines and columns. Items are counted by tokens (`counting`): that is right for files that the program could read, since
-//! only these are refused at an item. What contracts cite stands in `specs/`: `Spelled` has the line of each refusal, and `Lines`
-//! what a line and a column are.
+//! only these are refused at an item. What contracts cite stands in `specs/`: `Spelled` has the line of each refusal, `Lines` what a
+//! line and a column are, and `Items` where a cause begins.
 //!
 //! ```text
 //! read_refusal(alloc, "refused model flat 8 at 2")   // Some(File { subject: Model, part: Flat, number: 8, place: 2 })
