@@ -4,7 +4,7 @@ use Rattle.std.specs.Prelude.{slice_get, nat_le}
 use Rattle.std.proofs.lemmas.Bool.Decides.{leb_tells}
 use Rattle.std.proofs.lemmas.List.{length-map}
 use Rattle.xs_tree.specs.Tree.{Tree}
-use Rattle.xs_tree.specs.ProgramTree.{Formula, program_tree}
+use Rattle.xs_tree.specs.ProgramTree.{Text, Formula, program_tree}
 use Rattle.xs_scope.specs.ModelTree.{model_tree, mode_of, flat_tree}
 use Rattle.xs_flattening.specs.Flat.{FlatLeaf, FlatModel}
 use Rattle.xs_flattening.specs.History.{Mode}
@@ -29,12 +29,14 @@ use Rattle.xs_orders_extended.proofs.Said.{said, none_said}
 use Rattle.xs_orders_extended.proofs.Truths.{condition_truth}
 use Rattle.xs_faultless.specs.Laws.{class_of, NoneReaches}
 use Rattle.xs_staged.specs.Laws.{IsFaultNumber}
-use Rattle.xs_run.specs.Cases.{Case}
+use Rattle.xs_desk.specs.declared.files.NamedFile.{NamedFile}
+use Rattle.xs_run.specs.Cases.{Case, HoldsCase}
 use Rattle.xs_run.specs.Searches.{case_in}
 use Rattle.xs_run.proofs.Analysable.{model_of_case}
 use Rattle.xs_run.proofs.FlatLimits.{flat_typed}
 use Rattle.xs_find_orders.specs.declared.pair.StagedCase.{StagedCase}
-use Rattle.xs_find_orders.specs.Pairs.{IsStagedCase}
+use Rattle.xs_find_orders.specs.declared.pair.PairWords.{PairWords}
+use Rattle.xs_find_orders.specs.Pairs.{IsStagedCase, HoldsPair}
 use Rattle.xs_find_orders.specs.Orders.{AreFaults, IsOfEnding, IsClaimed, staged_of, against_of}
 use Rattle.xs_find_orders.specs.Claimed.{SpeaksFor}
 use Rattle.xs_find_orders.proofs.PairLaws.{count_of_faults}
@@ -106,6 +108,18 @@ module _ (s : StagedCase) (is : IsStagedCase s) where
 
   pub are_faults : AreFaults c s.asked.first s.asked.second the_faults.one the_faults.other
   are_faults = record { is_one = the_faults.asked.is_one; is_other = the_faults.asked.is_other }
+
+  -- nothing of the two faults of the case is to be refused
+  pub holds_pair : (files : List NamedFile) (model faults : Text) → HoldsCase files model faults c → HoldsPair files model faults s.set.items s.asked.first s.asked.second c
+  holds_pair files model faults holds =
+      record { holds = holds; numbered = subst (λ n. IsNumbered n s.set.items) (sym faults_counted) is.staged.numbered; typed = subst IsTyped is.staged.model is.staged.typed }
+
+  -- nor of those that the words ask for
+  pub holds_asked : (files : List NamedFile) (w : PairWords) (set : List ℕ) → s.asked ≡ w → s.set.items ≡ set → HoldsCase files w.model.now w.faults.now c →
+      HoldsPair files w.model.now w.faults.now set w.first w.second c
+  holds_asked files w set same numbers holds =
+      subst (λ (x : PairWords). HoldsPair files w.model.now w.faults.now set x.first x.second c) same
+      (subst (λ is. HoldsPair files w.model.now w.faults.now is s.asked.first s.asked.second c) numbers (holds_pair files w.model.now w.faults.now holds))
 
   -- what was made of the staged case is over the model staged of the case
   pub tree_is : (claim : Option Relation) (e : Tree FlatLeaf) → SpeaksFor s claim e → e ≡ against_of c s.set.items s.asked.first s.asked.second tree claim

@@ -47,7 +47,7 @@ use Rattle.xs_find_orders.specs.declared.pair.StagedCase.{StagedCase}
 use Rattle.xs_find_orders.specs.Pairs.{IsAsked, IsStagedCase, RefusesPair}
 use Rattle.xs_find_orders.specs.Orders.{IsClaimed, staged_of, against_of, staged_matter, claim_in, RefusesClaim, at_line, IsAcceptedClaim, RefusesFile, unread, unfit, AcceptsFile, RefusesCheck, no_pair, no_certificate, not_accepted, AcceptsOrder, HasCheckedOrder}
 use Rattle.xs_find_orders.specs.Claimed.{SpeaksFor, staged_in, against_in}
-use Rattle.xs_find_orders.proofs.AskedLaws.{the_faults, are_faults, at_stage, claim_of_class}
+use Rattle.xs_find_orders.proofs.AskedLaws.{the_faults, are_faults, holds_pair, holds_asked, at_stage, claim_of_class}
 
 -- a line that breaks a rule, as a refusal
 pub line_refused : (line rule : ℕ) (t : SharedStop) (r : Refusal) → t ≡ shared_stop.Refused (shared_refusal.NotAccepted (objection.Line line rule)) → stop_of t ≡ stop.Refused r →
@@ -132,12 +132,15 @@ module _ (w : PairWords) (claim cert : Text) where
     abbrev Refuses : List NamedFile → Refusal → Type 0
     Refuses files r = RefusesCheck files w.model.now w.faults.now w.top.now (numbers_of w.set.now) w.first w.second claim cert r
 
+    word_spelled : IsTopWord (case_in s.loaded).program w.top.now is.event.event.top
+    word_spelled = subst (λ (x : PairWords). IsTopWord (case_in s.loaded).program x.top.now is.event.event.top) same is.event.event.is_word
+
     file_refused : (files : List NamedFile) (r : Refusal) → HoldsCase files w.model.now w.faults.now (case_in s.loaded) →
         RefusesFile files cert (staged_of (case_in s.loaded) w.first w.second) (against_of (case_in s.loaded) (numbers_of w.set.now) w.first w.second (flat_tree s.loaded.top) (claim_in claim)) r → Refuses files r
-    file_refused files r holds (unread t told bad) = no_certificate t told bad
+    file_refused files r holds (unread t told bad) =
+        no_certificate (case_in s.loaded) is.event.event.top t told (holds_asked s is files w (numbers_of w.set.now) same numbers holds) word_spelled bad
     file_refused files r holds (unfit a has bad) =
-        not_accepted (case_in s.loaded) is.event.event.top (flat_tree s.loaded.top) a holds
-        (subst (λ (x : PairWords). IsTopWord (case_in s.loaded).program x.top.now is.event.event.top) same is.event.event.is_word) is.event.event.is_tree has bad
+        not_accepted (case_in s.loaded) is.event.event.top (flat_tree s.loaded.top) a (holds_asked s is files w (numbers_of w.set.now) same numbers holds) word_spelled is.event.event.is_tree has bad
 
     -- its file is
     pub check_refused : (told mid : Option (List NamedFile)) (r : Refusal) → mid ≡ told → IfSome told (λ files. HoldsCase files w.model.now w.faults.now (case_in s.loaded)) →
@@ -158,7 +161,7 @@ module _ (w : PairWords) (claim cert : Text) where
         (subst (λ set. AcceptsOrder files s.asked.model.now s.asked.faults.now s.asked.top.now set s.asked.first s.asked.second claim cert) numbers
         (record {
           c = case_in s.loaded;
-          holds = subst (λ (x : PairWords). HoldsCase files x.model.now x.faults.now (case_in s.loaded)) (sym same) holds;
+          holds = holds_pair s is files s.asked.model.now s.asked.faults.now (subst (λ (x : PairWords). HoldsCase files x.model.now x.faults.now (case_in s.loaded)) (sym same) holds);
           event = is.event.event.top;
           is_event = is.event.event.is_word;
           tree = flat_tree s.loaded.top;

@@ -6,3 +6,4 @@ pub mod AskedLaws
 pub mod ShownLaws
 pub mod OrderLaws
 pub mod ClaimLaws
+pub mod OneRefusal

@@ -50,20 +50,20 @@ use Rattle.xs_find_orders.specs.Pairs.{IsAsked, IsStagedCase}
 use Rattle.xs_find_orders.specs.Orders.{Order, claimed, either, IsClaimed, IsShown, EndsOrder, CertifiesClaim, IsClaimWritten, IsClaimBegun, order_text, order_report, HasOrder, OrdersInPart}
 use Rattle.xs_find_orders.specs.Claimed.{IsSearchOf, IsTraceAgainst, IsToldBy, IsCertifiedOrder, HasClaimCertificate, Concludes, IsConclusion, ConcludesFrom, ConcludesInPart, relation_in}
 use Rattle.xs_find_orders.proofs.StagedCases.{empty_sets, no_sets}
-use Rattle.xs_find_orders.proofs.AskedLaws.{the_faults, are_faults, at_stage, claim_of_class, of_class}
+use Rattle.xs_find_orders.proofs.AskedLaws.{the_faults, are_faults, holds_asked, at_stage, claim_of_class, of_class}
 use Rattle.xs_find_orders.proofs.ShownLaws.{shown_such, traces_differ}
 
 -- ---- what is written and said
 
 -- what was concluded of a staged case, over the words
-pub concludes_from : (told : Option (List NamedFile)) (s : StagedCase) (w : PairWords) (depth : ℕ) (k : Conclusion) → IfSome told (λ files. HoldsCase files w.model.now w.faults.now (case_in s.loaded)) → s.asked ≡ w →
+pub concludes_from : (told : Option (List NamedFile)) (s : StagedCase) → IsStagedCase s → (w : PairWords) (depth : ℕ) (k : Conclusion) → IfSome told (λ files. HoldsCase files w.model.now w.faults.now (case_in s.loaded)) → s.asked ≡ w →
     (IsAsked w → s.set.items ≡ numbers_of w.set.now) → IsConclusion s depth k → IsAsked w →
     IfSome told (λ files. ConcludesFrom files w.model.now w.faults.now w.top.now (numbers_of w.set.now) w.first w.second depth k)
-concludes_from None s w depth k holds same numbers is asked = tt
-concludes_from (Some files) s w depth k holds same numbers is asked =
+concludes_from None s of w depth k holds same numbers is asked = tt
+concludes_from (Some files) s of w depth k holds same numbers is asked =
     record {
       c = case_in s.loaded;
-      holds = holds;
+      holds = holds_asked s of files w (numbers_of w.set.now) same (numbers asked) holds;
       is =
           subst (λ (x : PairWords). Concludes (case_in s.loaded) x.top.now (numbers_of w.set.now) x.first x.second depth k) same
           (subst (λ set. Concludes (case_in s.loaded) s.asked.top.now set s.asked.first s.asked.second depth k) (numbers asked) is);

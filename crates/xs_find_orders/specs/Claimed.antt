@@ -25,12 +25,13 @@ use Rattle.xs_orders.specs.declared.Relation.TheVariants.{Together}
 use Rattle.xs_orders.specs.Stage.{against}
 use Rattle.xs_orders.specs.Told.{told_relation}
 use Rattle.xs_reporting.specs.ExtendedTraces.{Ending, complete, bounded}
-use Rattle.xs_run.specs.Cases.{Case, HoldsCase}
+use Rattle.xs_run.specs.Cases.{Case}
 use Rattle.xs_run.specs.Answered.{Told, Said}
 use Rattle.xs_run.specs.Searches.{case_in, told_maybe, WritesPrefixMaybe}
 use Rattle.xs_find_orders.specs.declared.pair.StagedCase.{StagedCase}
 use Rattle.xs_find_orders.specs.declared.searched.Searched.{Searched}
 use Rattle.xs_find_orders.specs.declared.orders.Conclusion.{Conclusion}
+use Rattle.xs_find_orders.specs.Pairs.{HoldsPair}
 use Rattle.xs_find_orders.specs.Orders.{Order, claimed, either, CertifiesClaim, FoundOrder, order_report, staged_of, against_of}
 
 -- there are as few symbols as a search can number, and no more faults than a weave takes
@@ -114,10 +115,10 @@ pub record Concludes (c : Case) (top : Text) (set : List ℕ) (first second dept
 abbrev pub IsConclusion : StagedCase → ℕ → Conclusion → Type 0
 IsConclusion s depth k = Concludes (case_in s.loaded) s.asked.top.now s.set.items s.asked.first s.asked.second depth k
 
--- the files hold a case of which this is concluded
+-- the files hold a case with the two faults, of which this is concluded
 pub record ConcludesFrom (files : List NamedFile) (model faults top : Text) (set : List ℕ) (first second depth : ℕ) (k : Conclusion) : Type 0 where
   pub c : Case
-  pub holds : HoldsCase files model faults c
+  pub holds : HoldsPair files model faults set first second c
   pub is : Concludes c top set first second depth k
 
 -- a part of the certificate was written and nothing said, or the whole, and a part of the report said

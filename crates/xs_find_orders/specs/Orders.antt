@@ -33,7 +33,7 @@ use Rattle.xs_reporting.specs.ExtendedTraces.{Ending, complete, bounded}
 use Rattle.xs_run.specs.declared.status.Refusal.{Refusal as SharedRefusal}
 use Rattle.xs_run.specs.declared.status.Refusal.TheVariants as shared_refusal
 use Rattle.xs_run.specs.declared.status.Objection.TheVariants as objection
-use Rattle.xs_run.specs.Cases.{Case, HoldsCase, IsTopWord}
+use Rattle.xs_run.specs.Cases.{Case, IsTopWord}
 use Rattle.xs_run.specs.Tasks.{IsTopTree}
 use Rattle.xs_run.specs.Answered.{Told, Said}
 use Rattle.xs_run.specs.Analyses.{IsCertificateFor}
@@ -43,7 +43,7 @@ use Rattle.xs_reach_status.specs.declared.status.Refusal.TheVariants as refusal
 use Rattle.xs_reach_status.specs.declared.status.Status.{Status}
 use Rattle.xs_reach_status.specs.declared.status.Status.TheVariants as status
 use Rattle.xs_reach_status.specs.Finished.{ended_with}
-use Rattle.xs_find_orders.specs.Pairs.{RefusesPair}
+use Rattle.xs_find_orders.specs.Pairs.{HoldsPair, RefusesPair}
 
 -- What is found of the order of two faults: that no trace reaches the event with exactly the set, or that each has a relation; or two
 -- traces that differ, by the values of their moments.
@@ -172,11 +172,11 @@ pub record FoundOrder (c : Case) (top : Text) (set : List ℕ) (first second dep
   pub right : IsOrder c event set one other ending order
   pub ends_by : EndsOrder c set first second tree depth order ending
 
--- The files hold a case, and the word spells an event of it. The order of the two faults was found, said, and where it is complete and
--- claimed certified.
+-- The files hold a case with the two faults, of which nothing is to be refused, and the word spells an event of it. The order of the
+-- two was found, said, and where it is complete and claimed certified.
 pub record HasOrder (files : List NamedFile) (model faults top : Text) (set : List ℕ) (first second depth : ℕ) (cert : Text) (s : Status) (before after : Told) (said now : Said) : Type 0 where
   pub c : Case
-  pub holds : HoldsCase files model faults c
+  pub holds : HoldsPair files model faults set first second c
   pub found : FoundOrder c top set first second depth
   pub ends : s ≡ ended_with found.ending
   pub written : IsClaimWritten c set first second found.tree found.order found.ending cert before after
@@ -186,7 +186,7 @@ pub record HasOrder (files : List NamedFile) (model faults top : Text) (set : Li
 -- written.
 pub record OrdersInPart (files : List NamedFile) (model faults top : Text) (set : List ℕ) (first second depth : ℕ) (cert : Text) (before after : Told) (said now : Said) : Type 0 where
   pub c : Case
-  pub holds : HoldsCase files model faults c
+  pub holds : HoldsPair files model faults set first second c
   pub found : FoundOrder c top set first second depth
   pub part : (IsClaimBegun c set first second found.tree found.order found.ending cert before after × (now ≡ said))
       ⊎ (IsClaimWritten c set first second found.tree found.order found.ending cert before after × SaysPrefix said now (order_report c first second found.order found.ending))
@@ -223,19 +223,22 @@ pub record AcceptsFile (files : List NamedFile) (cert : Text) (m : FlatModel) (e
   pub has_certificate : HoldsCertificate files cert certificate
   pub accepted : IsAcceptedClaim m e certificate
 
--- What a check of an order is refused for, in the order of the work: the pair, the file of the certificate, or a line of it.
+-- What a check of an order is refused for, in the order of the work: the pair; or else, where nothing of that is to be refused, the
+-- file of the certificate, or a line of it.
 pub data RefusesCheck (files : List NamedFile) (model faults top : Text) (set : List ℕ) (first second : ℕ) (claim cert : Text) (r : Refusal) : Type 0 where
   no_pair : RefusesPair files model faults top set first second r → RefusesCheck files model faults top set first second claim cert r
-  no_certificate : (s : SharedRefusal) → r ≡ refusal.Shared s → RefusesCertificate files cert s → RefusesCheck files model faults top set first second claim cert r
-  not_accepted : (c : Case) (event : Formula) (tree : Tree FlatLeaf) (a : Certificate) → HoldsCase files model faults c → IsTopWord c.program top event → IsTopTree c event tree →
+  no_certificate : (c : Case) (event : Formula) (s : SharedRefusal) → r ≡ refusal.Shared s → HoldsPair files model faults set first second c → IsTopWord c.program top event →
+      RefusesCertificate files cert s → RefusesCheck files model faults top set first second claim cert r
+  not_accepted : (c : Case) (event : Formula) (tree : Tree FlatLeaf) (a : Certificate) → HoldsPair files model faults set first second c → IsTopWord c.program top event → IsTopTree c event tree →
       HoldsCertificate files cert a → RefusesClaim (staged_of c first second) (against_of c set first second tree (claim_in claim)) a r →
       RefusesCheck files model faults top set first second claim cert r
 
--- The files hold a case and a certificate, and the word spells an event of the case. The certificate is accepted for the claim, and the
--- claim holds: of all extended traces that reach the event and have failed exactly the set, of whatever length.
+-- The files hold a case with the two faults, of which nothing is to be refused, and a certificate, and the word spells an event of
+-- the case. The certificate is accepted for the claim, and the claim holds: of all extended traces that reach the event and have
+-- failed exactly the set, of whatever length.
 pub record AcceptsOrder (files : List NamedFile) (model faults top : Text) (set : List ℕ) (first second : ℕ) (claim cert : Text) : Type 0 where
   pub c : Case
-  pub holds : HoldsCase files model faults c
+  pub holds : HoldsPair files model faults set first second c
   pub event : Formula
   pub is_event : IsTopWord c.program top event
   pub tree : Tree FlatLeaf

@@ -63,6 +63,12 @@ pub data RefusesStage (limited : Limited) (set : List ℕ) (first second : ℕ) 
   unlawful : (fault : SharedFault) → r ≡ stage_refusal fault → IsNumbered (length limited.faults) set →
       BreaksKinds (stage (model_tree limited.typed.model) (map mode_of limited.faults) first second) fault → RefusesStage limited set first second r
 
+-- The files hold a case; the numbers of the set are those of its faults; and the model staged for the two breaks no rule of kinds.
+pub record HoldsPair (files : List NamedFile) (model faults : Text) (set : List ℕ) (first second : ℕ) (c : Case) : Type 0 where
+  pub holds : HoldsCase files model faults c
+  pub numbered : IsNumbered (length c.faults) set
+  pub typed : IsTyped (stage c.flat c.modes first second)
+
 -- What a pair of faults of a set is refused for, in the order of the work: the model; the instructions; a number of the set; the
 -- staged model; and the top event.
 pub data RefusesPair (files : List NamedFile) (model faults top : Text) (set : List ℕ) (first second : ℕ) (r : Refusal) : Type 0 where

@@ -17,4 +17,4 @@ pub returns-clause-ok : goal.returns-clause-ok
 returns-clause-ok g c asked =
     let a = c.args.asked.now in
     let w : PairWords = record { model = a.model; faults = a.faults; top = a.top; set = a.set; first = a.first; second = a.second } in
-    concludes_from _ c.in_ok-staged.staged w a.depth c.in_ok-found.field-0 c.in_ok-staged.ensures.ok c.in_ok-staged.ensures.asked c.in_ok-staged.ensures.numbers c.in_ok-found.ensures asked
+    concludes_from _ c.in_ok-staged.staged c.in_ok-staged.ensures.staged w a.depth c.in_ok-found.field-0 c.in_ok-staged.ensures.ok c.in_ok-staged.ensures.asked c.in_ok-staged.ensures.numbers c.in_ok-found.ensures asked
