@@ -180,18 +180,18 @@ get_place g [] i x below is = absurd (omega (arith, below))
 get_place g (y ∷ xs) zero x below is = ap (λ z. Some (g z)) (sym is)
 get_place g (y ∷ xs) (suc i) x below is = get_place g xs i x (omega (arith, below)) is
 
+neither : (a b : Bool) → (a || b) ≡ false → (a ≡ false) × (b ≡ false)
+neither true b e = let bad : true ≡ false = e in cc
+neither false b e = (refl, e)
+
 -- one path more that is another one
 pub none_more : {A : Type 0} (g : A → Path) (xs : List A) (i : ℕ) (x : A) (p : Path) → i < length xs → x ≡ get_or xs i x → is_path_among (take i (map g xs)) p ≡ false → same_path (g x) p ≡ false →
     is_path_among (take (suc i) (map g xs)) p ≡ false
 none_more g [] i x p below is none other = absurd (omega (arith, below))
 none_more g (y ∷ xs) zero x p below is none other = ap (λ b. b || false) (subst (λ z. same_path (g z) p ≡ false) is other)
-none_more g (y ∷ xs) (suc i) x p below is none other = by_first (same_path (g y) p) refl
-  where
-    by_first : (b : Bool) → same_path (g y) p ≡ b → (same_path (g y) p || is_path_among (take (suc i) (map g xs)) p) ≡ false
-    by_first true e = let bad : true ≡ false = sym (ap (λ b. b || is_path_among (take i (map g xs)) p) e) ∙ none in cc
-    by_first false e =
-        let rest : is_path_among (take i (map g xs)) p ≡ false = sym (ap (λ b. b || is_path_among (take i (map g xs)) p) e) ∙ none in
-        ap (λ b. b || is_path_among (take (suc i) (map g xs)) p) e ∙ none_more g xs i x p (omega (arith, below)) is rest other
+none_more g (y ∷ xs) (suc i) x p below is none other =
+    let parts = neither (same_path (g y) p) (is_path_among (take i (map g xs)) p) none in
+    ap (λ b. b || is_path_among (take (suc i) (map g xs)) p) parts.0 ∙ none_more g xs i x p (omega (arith, below)) is parts.1 other
 
 -- the number of a path that stands at a place, and at none before it
 pub is_number : (paths : List Path) (p q : Path) (i n : ℕ) → n ≡ i + 1 → same_path q p ≡ true → slice_get paths i ≡ Some q → is_path_among (take i paths) p ≡ false → IsNumberOf paths p n
