@@ -1,4 +1,4 @@
-use Rattle.std.proofs.Common.{◌≡◌, ◌+◌, ◌<◌, ◌++◌, ◌∷◌, [], ◌∙◌, sym, ap, subst, take, drop, length, arith}
+use Rattle.std.proofs.Common.{◌≡◌, ◌+◌, ◌<◌, ◌++◌, ◌∷◌, [], ◌∙◌, sym, ap, subst, take, length, arith}
 use Rattle.std.proofs.lemmas.List.{take_more, drop_more}
 use Rattle.xs_extend.specs.NumberedFaults.{HasMode, HaveModes, AreNumbered}
 use Rattle.xs_extend.proofs.NumberLaws.{numbered_push}

@@ -1,4 +1,4 @@
-use Rattle.std.proofs.Common.{◌≡◌, ◌+◌, ◌<◌, ◌++◌, ◌∷◌, [], ◌∙◌, sym, ap, subst, take, length, arith}
+use Rattle.std.proofs.Common.{◌≡◌, ◌+◌, ◌<◌, ◌++◌, ◌∷◌, [], ◌∙◌, sym, ap, subst, take, length}
 use Rattle.std.proofs.lemmas.List.{take_more}
 use Rattle.xs_tree.specs.Trace.{Each}
 use Rattle.xs_extend.specs.NumberedFaults.{KnowsSymbol}
