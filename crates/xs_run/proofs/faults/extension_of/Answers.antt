@@ -16,16 +16,15 @@ use Rattle.xs_run.proofs.LimitLaws.{passes_limit}
 use Rattle.xs_run.proofs.ListedLaws.{report_is}
 use Rattle.xs_run.proofs.faults.extension_of.Goals as goal
 
-pub check_limits-requires-clause-modes : goal.check_limits-requires-clause-modes
-check_limits-requires-clause-modes c =
+pub check_limits-requires : goal.check_limits-requires
+check_limits-requires c =
     let p = program_tree c.args.model.now.program in
     let m = c.args.model.now.typed.model in
     let i = instruction_tree c.in_ok-instructions.instructions in
     let faults = map fault_tree c.in_ok-woven.woven.faults in
     let lawful = c.requires.lawful in
     let are = c.in_ok-woven.ensures.faults (instances_listed p m.instances lawful.accepted c.requires.in_var lawful.model.is.instances) in
-    subst (λ q. HasItsModes q faults) (sym c.in_ok-woven.ensures.program)
-    (has_its_modes p i faults (c.in_ok-woven.ensures.weavable lawful.accepted lawful.model.is lawful.meant) are)
+    record { modes = subst (λ q. HasItsModes q faults) (sym c.in_ok-woven.ensures.program) (has_its_modes p i faults (c.in_ok-woven.ensures.weavable lawful.accepted lawful.model.is lawful.meant) are) }
 
 pub returns-in_err-instructions-clause-wrong : goal.returns-in_err-instructions-clause-wrong
 returns-in_err-instructions-clause-wrong c =
