@@ -1,23 +1,43 @@
--- Faults with their numbers, one on, and the symbols by their texts.
-use Rattle.std.proofs.Common.{◌≡◌, ℕ, Bool, true, false, List, [], ◌∷◌, ◌++◌, Some, refl, sym, ◌∙◌, ap, nat_eq}
+-- Faults with their numbers, one on, the symbols by their texts, and the place of a variable, one on.
+use Rattle.std.proofs.Common.{arith, inl, inr, ◌≡◌, ℕ, zero, suc, ◌+◌, ◌<◌, length, Bool, true, false, List, [], ◌∷◌, ◌++◌, Some, None, refl, sym, ◌∙◌, ap, subst, nat_eq}
+use Rattle.std.proofs.lemmas.Bool.Decides.{nat_tests}
 use Rattle.std.specs.Prelude.{slice_get, cond, if◌then◌else◌, IfSome}
 use Rattle.std.specs.Cmp.Lexicographic.{pointwise}
 use Rattle.std.specs.Map.{lookup}
 use Rattle.indexmap.specs.IndexMap.{insert_entry}
-use Rattle.xs_tree.specs.ProgramTree.{Text}
-use Rattle.xs_tree.specs.Trace.{Each}
+use Rattle.xs_tree.specs.ProgramTree.{Text, Path}
+use Rattle.xs_tree.specs.Trace.{Each, AtSome}
 use Rattle.xs_tree.proofs.ValueLaws.{both_true}
 use Rattle.xs_scope.specs.declared.model.FlatModel.{FlatModel}
+use Rattle.xs_scope.specs.declared.model.Variable.{Variable}
 use Rattle.xs_scope.specs.declared.model.Fault.{Fault}
 use Rattle.xs_extend.specs.declared.faults.WovenFault.{WovenFault}
-use Rattle.xs_extend.specs.NumberedFaults.{IsNumbered, AreNumbered}
-use borrow.Author.Tests.{eqb-true}
+use Rattle.xs_extend.specs.NumberedFaults.{IsThere, IsNumbered, AreNumbered}
+use borrow.Author.Tests.{eqb-true, eq-eqb}
 
 pub numbered_push : (m : FlatModel) (ws : List WovenFault) (fs : List Fault) (w : WovenFault) (f : Fault) → AreNumbered m ws fs → IsNumbered m w f → AreNumbered m (ws ++ w ∷ []) (fs ++ f ∷ [])
 numbered_push m [] [] w f h n = (n, tt)
 numbered_push m [] (g ∷ fs) w f h n = absurd h
 numbered_push m (x ∷ ws) [] w f h n = absurd h
 numbered_push m (x ∷ ws) (g ∷ fs) w f h n = (h.0, numbered_push m ws fs w f h.1 n)
+
+-- a place that has a member is within the list
+pub within : {A : Type 0} (xs : List A) (n : ℕ) (x : A) → slice_get xs n ≡ Some x → n < length xs
+within [] n x e = cc
+within (y ∷ ys) zero x e = omega arith
+within (y ∷ ys) (suc n) x e = let rest : n < length ys = within ys n x e in omega (arith, rest)
+
+-- where the variable at a place has another path, the one that has it stands later
+pub there_later : (vs : List Variable) (place : ℕ) (path : Path) (v : Variable) → IsThere vs place path → slice_get vs place ≡ Some v → (v.path ≡ path → ⊥) → IsThere vs (place + 1) path
+there_later vs place path v there is other = by_test (nat_eq place there.number) refl
+  where
+    by_test : (b : Bool) → nat_eq place there.number ≡ b → IsThere vs (place + 1) path
+    by_test true t =
+        let here : place ≡ there.number = eqb-true place there.number t in
+        let both : Some v ≡ Some there.has.variable = sym is ∙ ap (slice_get vs) here ∙ there.has.is in
+        let same : v ≡ there.has.variable = cc in
+        absurd (other (ap (λ (w : Variable). w.path) same ∙ there.has.same))
+    by_test false t = record { number = there.number; after = grind (arith, nat_tests, there.after, t); has = there.has }
 
 pub same_bytes : (x y : Text) → pointwise nat_eq x y ≡ true → x ≡ y
 same_bytes [] [] h = refl
@@ -27,6 +47,10 @@ same_bytes (c ∷ cs) (d ∷ ds) h =
     let parts : (nat_eq c d ≡ true) × (pointwise nat_eq cs ds ≡ true) = both_true (nat_eq c d) (pointwise nat_eq cs ds) h in
     let first : c ≡ d = eqb-true c d parts.0 in
     let rest : cs ≡ ds = same_bytes cs ds parts.1 in cc
+
+pub bytes_same : (x : Text) → pointwise nat_eq x x ≡ true
+bytes_same [] = refl
+bytes_same (c ∷ cs) = rw (eq-eqb c c refl, bytes_same cs) refl
 
 module _ {K : Type 0} (text : K → Text) (names : List Text) where
   abbrev Right : K × ℕ → Type 0
@@ -49,3 +73,54 @@ module _ {K : Type 0} (text : K → Text) (names : List Text) where
           IfSome (cond b (Some e.1) (lookup (λ k. pointwise nat_eq x (text k)) es)) (λ n. slice_get names n ≡ Some x)
       go true same more = h.0 ∙ ap Some (sym (same refl))
       go false same more = more
+
+  abbrev IsKey : Text → K × ℕ → Type 0
+  IsKey x e = text e.0 ≡ x
+
+  -- a text that is there stays, and that of the key that is put is there
+  pub known_kept : (es : List (K × ℕ)) (k : K) (n : ℕ) (x : Text) → AtSome (IsKey x) es → AtSome (IsKey x) (insert_entry (λ i j. pointwise nat_eq (text i) (text j)) es k n)
+  known_kept [] k n x h = absurd h
+  known_kept (e ∷ es) k n x h = go (pointwise nat_eq (text k) (text e.0)) h (known_kept es k n x)
+    where
+      go : (b : Bool) → AtSome (IsKey x) (e ∷ es) → (AtSome (IsKey x) es → AtSome (IsKey x) (insert_entry (λ i j. pointwise nat_eq (text i) (text j)) es k n)) →
+          AtSome (IsKey x) (if b then (e.0, n) ∷ es else e ∷ insert_entry (λ i j. pointwise nat_eq (text i) (text j)) es k n)
+      go true (inl same) more = inl same
+      go true (inr rest) more = inr rest
+      go false (inl same) more = inl same
+      go false (inr rest) more = inr (more rest)
+
+  pub known_put : (es : List (K × ℕ)) (k : K) (n : ℕ) → AtSome (IsKey (text k)) (insert_entry (λ i j. pointwise nat_eq (text i) (text j)) es k n)
+  known_put [] k n = inl refl
+  known_put (e ∷ es) k n = go (pointwise nat_eq (text k) (text e.0)) (same_bytes (text k) (text e.0)) (known_put es k n)
+    where
+      go : (b : Bool) → (b ≡ true → text k ≡ text e.0) → AtSome (IsKey (text k)) (insert_entry (λ i j. pointwise nat_eq (text i) (text j)) es k n) →
+          AtSome (IsKey (text k)) (if b then (e.0, n) ∷ es else e ∷ insert_entry (λ i j. pointwise nat_eq (text i) (text j)) es k n)
+      go true same more = inl (sym (same refl))
+      go false same more = inr more
+
+  -- a text that is there is found
+  pub known_found : (es : List (K × ℕ)) (x : Text) → AtSome (IsKey x) es → lookup (λ k. pointwise nat_eq x (text k)) es ≡ None → ⊥
+  known_found [] x h e = h
+  known_found (e ∷ es) x (inl same) none =
+      let equal : pointwise nat_eq x (text e.0) ≡ true = subst (λ y. pointwise nat_eq y (text e.0) ≡ true) same (bytes_same (text e.0)) in
+      let found : Some e.1 ≡ None = rw equal at none in cc
+  known_found (e ∷ es) x (inr rest) none = go (pointwise nat_eq x (text e.0)) none (known_found es x rest)
+    where
+      go : (b : Bool) → cond b (Some e.1) (lookup (λ k. pointwise nat_eq x (text k)) es) ≡ None → (lookup (λ k. pointwise nat_eq x (text k)) es ≡ None → ⊥) → ⊥
+      go true none more = cc
+      go false none more = more none
+
+-- what every symbol has, the symbol at a place has
+pub each_symbol : (P : Text → Type 0) (xs : List Text) (n : ℕ) (x : Text) → Each P xs → slice_get xs n ≡ Some x → P x
+each_symbol P [] n x h e = cc
+each_symbol P (y ∷ ys) zero x h e = let same : y ≡ x = cc in subst P same h.0
+each_symbol P (y ∷ ys) (suc n) x h e = each_symbol P ys n x h.1 e
+
+-- what each had, each has still
+pub each_kept : (P Q : Text → Type 0) (xs : List Text) → ((x : Text) → P x → Q x) → Each P xs → Each Q xs
+each_kept P Q [] more h = tt
+each_kept P Q (x ∷ xs) more h = (more x h.0, each_kept P Q xs more h.1)
+
+pub each_last : (P : Text → Type 0) (xs : List Text) (x : Text) → Each P xs → P x → Each P (xs ++ x ∷ [])
+each_last P [] x h last = (last, tt)
+each_last P (y ∷ ys) x h last = (h.0, each_last P ys x h.1 last)

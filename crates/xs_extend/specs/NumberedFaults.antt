@@ -1,11 +1,11 @@
 -- The numbers that faults have in a flat model.
-use Rattle.std.specs.Prelude.{◌≡◌, ℕ, List, [], ◌∷◌, ◌++◌, Option, Some, None, slice_get}
-use Rattle.xs_tree.specs.ProgramTree.{Path}
+use Rattle.std.specs.Prelude.{◌≡◌, ◌≤◌, ℕ, List, [], ◌∷◌, ◌++◌, Option, Some, None, slice_get}
+use Rattle.xs_tree.specs.ProgramTree.{Text, Path}
 use Rattle.xs_effects.specs.AddedNames.{mode_variable, mode_symbol}
 use Rattle.xs_scope.specs.declared.model.Variable.{Variable}
 use Rattle.xs_scope.specs.declared.model.FlatModel.{FlatModel}
 use Rattle.xs_scope.specs.declared.model.Fault.{Fault}
-use Rattle.xs_tree.specs.Trace.{Each}
+use Rattle.xs_tree.specs.Trace.{Each, AtSome}
 use Rattle.xs_extend.specs.declared.faults.WovenFault.{WovenFault}
 use Rattle.xs_extend.specs.declared.list.Symbols.{Symbols}
 
@@ -19,6 +19,23 @@ pub record HasPath (variables : List Variable) (number : ℕ) (path : Path) : Ty
   pub variable : Variable
   pub is : slice_get variables number ≡ Some variable
   pub same : variable.path ≡ path
+
+-- a variable from this number on has this path
+pub record IsThere (variables : List Variable) (from : ℕ) (path : Path) : Type 0 where
+  pub number : ℕ
+  pub after : from ≤ number
+  pub has : HasPath variables number path
+
+-- the model has the variable that holds the state of the fault's slice at its instance, and the symbol of its mode
+pub record HasMode (m : FlatModel) (w : WovenFault) : Type 0 where
+  pub number : ℕ
+  pub variable : HasPath m.variables number (parts_of w.path ++ mode_variable w.slice ∷ [])
+  pub symbol : ℕ
+  pub is_symbol : slice_get m.symbols symbol ≡ Some (mode_symbol w.slice (Some w.mode))
+
+-- of each of these faults
+abbrev pub HaveModes : FlatModel → List WovenFault → Type 0
+HaveModes m ws = Each (HasMode m) ws
 
 -- The fault's name is its path, slice and mode; its variable is the one that holds the slice's state at its instance,
 -- and its symbol is that of its mode.
@@ -37,3 +54,7 @@ AreNumbered m (w ∷ ws) [] = ⊥
 -- each kept number is that of the symbol beside it
 abbrev pub AreSymbols : Symbols → Type 0
 AreSymbols s = Each (λ e. slice_get s.names.now e.1 ≡ Some e.0.now) s.numbers.entries
+
+-- the number of this symbol is kept
+abbrev pub KnowsSymbol : Symbols → Text → Type 0
+KnowsSymbol s x = AtSome (λ e. e.0.now ≡ x) s.numbers.entries

@@ -1,8 +1,10 @@
 //! The faults with the numbers that they have in the woven program's flat model.
 
-ghost use Rattle.std.specs.Prelude.{◌≡◌, ◌∷◌, ◌++◌, [], IfOk, OnOk, IfSome, Some, IsTrue, slice_get};
+ghost use Rattle.std.specs.Prelude.{◌≡◌, ◌↔◌, ◌∷◌, ◌++◌, [], ℕ, IfOk, OnOk, Some, IsTrue, slice_get};
+ghost use Rattle.xs_tree.specs.Trace.{Each};
+ghost use Rattle.xs_tree.specs.ProgramTree.{Text};
 ghost use Rattle.xs_effects.specs.AddedNames.{mode_variable as mode_variable_of, mode_symbol as mode_symbol_of};
-ghost use Rattle.xs_extend.specs.NumberedFaults.{parts_of, IsNumbered, AreNumbered, AreSymbols, HasPath};
+ghost use Rattle.xs_extend.specs.NumberedFaults.{parts_of, HasMode, HaveModes, IsNumbered, AreNumbered, AreSymbols, KnowsSymbol, HasPath, IsThere};
 
 use crate::faults::{Woven, WovenFault};
 use indexmap::IndexMap;
@@ -19,9 +21,10 @@ pub(crate) struct Symbols<'a> {
 }
 
 /// The faults of a woven program, each with the number of the variable that holds its slice's state and of
-/// the symbol of its mode. `w` is an answer of the weave, and `m` is the flat model of `w.program`; for
-/// another model, that lacks one of these, the answer is want of memory.
+/// the symbol of its mode. The model has both of each fault, as the flat model of `w.program` does where `w`
+/// is an answer of the weave.
 pub fn fault_list(alloc: Global, w: &Woven, m: &FlatModel) -> Result<FaultList, OutOfMemory>
+    requires modes { HaveModes m.now w.now.faults }
     ensures { IfOk result (λ list. AreNumbered m.now w.now.faults list) }
 {
     numbered_list(alloc, m, w.faults.as_slice())
@@ -32,6 +35,7 @@ fn numbered_list(
     m: &FlatModel,
     woven: &[WovenFault],
 ) -> Result<FaultList, OutOfMemory>
+    requires modes { HaveModes m.now woven.now }
     ensures { IfOk result (λ list. AreNumbered m.now woven.now list) }
 {
     let symbols = Symbols::of_names(alloc, m.symbols.as_slice())?;
@@ -50,6 +54,8 @@ fn numbered(
 ) -> Result<Fault, OutOfMemory>
     requires own { symbols.now.names.now ≡ m.now.symbols }
     requires symbols { AreSymbols symbols.now }
+    requires known { Each (KnowsSymbol symbols.now) symbols.now.names.now }
+    requires mode { HasMode m.now fault.now }
     ensures { IfOk result (λ made. IsNumbered m.now fault.now made) }
 {
     let variable = variable_of(alloc, m, fault)?;
@@ -88,31 +94,30 @@ fn path_below(alloc: Global, path: &Option<Dotted>, name: Name) -> Result<Dotted
 
 /// The number of the variable that holds the state of the fault's slice.
 fn variable_of(alloc: Global, m: &FlatModel, fault: &WovenFault) -> Result<u32, OutOfMemory>
+    requires { IsThere m.now.variables 0 (parts_of fault.now.path ++ mode_variable_of fault.now.slice ∷ []) }
     ensures { IfOk result (λ number. HasPath m.now.variables number (parts_of fault.now.path ++ mode_variable_of fault.now.slice ∷ [])) }
 {
     let state = mode_variable(alloc, &fault.slice)?;
     let path = path_below(alloc, &fault.path, state)?;
-    match place_of(m.variables.as_slice(), &path) {
-        Some(place) => number_of(place),
-        None => Err(OutOfMemory),
-    }
+    number_of(place_of(m.variables.as_slice(), &path))
 }
 
-/// The place of the variable of a name. There are few faults and few variables.
-fn place_of(variables: &[Variable], path: &Dotted) -> Option<usize>
-    ensures { IfSome result (λ place. HasPath variables.now place path.now) }
+/// The place of the variable of a name, which one of them has. There are few faults and few variables.
+fn place_of(variables: &[Variable], path: &Dotted) -> usize
+    requires { IsThere variables.now 0 path.now }
+    ensures { HasPath variables.now result path.now }
 {
-    for (place, variable) in variables.iter().enumerate() {
-        if is_same(variable.path.parts(), path.parts()) {
-            return Some(place);
+    for place in 0..variables.len() {
+        if is_same(variables[place].path.parts(), path.parts()) {
+            return place;
         }
     }
-    None
+    unreachable!()
 }
 
 /// Whether both are the same names.
 fn is_same(x: &[Name], y: &[Name]) -> bool
-    ensures { IsTrue result → x.now ≡ y.now }
+    ensures { IsTrue result ↔ (x.now ≡ y.now) }
 {
     if x.len() != y.len() {
         return false;
@@ -129,6 +134,7 @@ impl<'a> Symbols<'a> {
     fn of_names(alloc: Global, names: &'a [Name]) -> Result<Symbols<'a>, OutOfMemory>
         ensures own { IfOk result (λ symbols. symbols.names.now ≡ names.now) }
         ensures symbols { IfOk result AreSymbols }
+        ensures known { IfOk result (λ symbols. Each (KnowsSymbol symbols) names.now) }
     {
         let mut symbols = Symbols {
             names,
@@ -145,6 +151,8 @@ impl<'a> Symbols<'a> {
         requires symbols { AreSymbols self.old }
         ensures own { OnOk result (self.new.names ≡ self.old.names) }
         ensures symbols { OnOk result (AreSymbols self.new) }
+        ensures kept { (x : Text) → KnowsSymbol self.old x → OnOk result (KnowsSymbol self.new x) }
+        ensures added { OnOk result (KnowsSymbol self.new symbol.now) }
     {
         self.numbers.insert(symbol.text(), number)?;
         Ok(())
@@ -152,24 +160,23 @@ impl<'a> Symbols<'a> {
 
     /// The number of the symbol of a fault's mode.
     fn of_fault(&self, alloc: Global, fault: &WovenFault) -> Result<u32, OutOfMemory>
-        requires { AreSymbols self.now }
+        requires symbols { AreSymbols self.now }
+        requires known { KnowsSymbol self.now (mode_symbol_of fault.now.slice (Some fault.now.mode)) }
         ensures { IfOk result (λ number. slice_get self.now.names.now number ≡ Some (mode_symbol_of fault.now.slice (Some fault.now.mode))) }
     {
         let symbol = mode_symbol(alloc, &fault.slice, &fault.mode)?;
-        match self.number_of(&symbol) {
-            Some(number) => Ok(number),
-            None => Err(OutOfMemory),
-        }
+        Ok(self.number_of(&symbol))
     }
 
-    fn number_of(&self, symbol: &Name) -> Option<u32>
-        requires { AreSymbols self.now }
-        ensures { IfSome result (λ number. slice_get self.now.names.now number ≡ Some symbol.now) }
+    fn number_of(&self, symbol: &Name) -> u32
+        requires symbols { AreSymbols self.now }
+        requires known { KnowsSymbol self.now symbol.now }
+        ensures { slice_get self.now.names.now result ≡ Some symbol.now }
     {
-        match self.numbers.get(symbol.text()) {
-            Some(number) => Some(*number),
-            None => None,
-        }
+        let Some(number) = self.numbers.get(symbol.text()) else {
+            unreachable!();
+        };
+        *number
     }
 }
 

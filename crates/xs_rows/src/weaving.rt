@@ -1,11 +1,11 @@
-//! The order and the numbers of a woven program's faults, and how guards are judged.
+//! The order of a woven program's faults with the variables and symbols of their modes, and how guards are judged.
 use crate::texts::{instructions_of, joined, program_of};
 use std::alloc::Global;
 use std::process::Abort;
 use std::test::Fail;
-use xs_extend::{Cause, WeaveFault, fault_list, weave};
+use xs_extend::{Cause, WeaveFault, Woven, weave};
 use xs_fei::Instructions;
-use xs_flat::{FaultList, FlatFault, flatten};
+use xs_flat::{FlatFault, FlatModel, flatten};
 use xs_types::TypeFault;
 use xs_value::OutOfMemory;
 
@@ -25,15 +25,36 @@ fn both_off(rt: &impl Abort, alloc: Global, guard: &[u8]) -> Result<Instructions
     Ok(instructions_of(rt, alloc, &text))
 }
 
-/// Whether the fault at a place has this slice and these numbers.
-fn has_numbers(list: &FaultList, place: usize, slice: &[u8], variable: u32, symbol: u32) -> bool {
-    match list.as_slice().get(place) {
-        Some(fault) => match fault.name.parts() {
-            [_, name, _] => {
-                name.text() == slice && fault.variable == variable && fault.symbol == symbol
-            }
+/// A fault's slice, and the variable of its states and the symbol of its mode, by number.
+struct FaultRow<'a> {
+    slice: &'a [u8],
+    variable: usize,
+    state: &'a [u8],
+    symbol: usize,
+    mode: &'a [u8],
+}
+
+/// Whether the fault at a place is of this slice, and the model has these names at these numbers.
+fn is_fault(w: &Woven, m: &FlatModel, place: usize, row: &FaultRow<'_>) -> bool {
+    let Some(fault) = w.faults.as_slice().get(place) else {
+        return false;
+    };
+    has_state(m, row) && has_mode(m, row) && fault.slice.text() == row.slice
+}
+
+fn has_state(m: &FlatModel, row: &FaultRow<'_>) -> bool {
+    match m.variables.as_slice().get(row.variable) {
+        Some(variable) => match variable.path.parts() {
+            [_, name] => name.text() == row.state,
             _ => false,
         },
+        None => false,
+    }
+}
+
+fn has_mode(m: &FlatModel, row: &FaultRow<'_>) -> bool {
+    match m.symbols.as_slice().get(row.symbol) {
+        Some(symbol) => symbol.text() == row.mode,
         None => false,
     }
 }
@@ -44,10 +65,26 @@ fn faults_stand_by_instances(rt: HostRuntime) -> Result<(), Fail> {
     let p = program_of(&rt, alloc, LEFT_AND_RIGHT);
     let w = weave(alloc, &p, &both_off(&rt, alloc, b"")?)?;
     let model = flatten(alloc, &w.program)?;
-    let list = fault_list(alloc, &w, &model)?;
-    assert_eq!(rt; list.len(), 2);
-    assert!(rt; has_numbers(&list, 0, b"SA", 2, 1));
-    assert!(rt; has_numbers(&list, 1, b"SB", 5, 3));
+    let rows = [
+        FaultRow {
+            slice: b"SA",
+            variable: 2,
+            state: b"SA#mode",
+            symbol: 1,
+            mode: b"SA#off",
+        },
+        FaultRow {
+            slice: b"SB",
+            variable: 5,
+            state: b"SB#mode",
+            symbol: 3,
+            mode: b"SB#off",
+        },
+    ];
+    assert_eq!(rt; w.faults.len(), rows.len());
+    for (place, row) in rows.iter().enumerate() {
+        assert!(rt; is_fault(&w, &model, place, row), "fault {place}");
+    }
     Ok(())
 }
 

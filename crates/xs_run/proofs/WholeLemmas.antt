@@ -21,7 +21,7 @@ mapped_at f (y ∷ xs) zero x e = cc
 mapped_at f (y ∷ xs) (suc i) x e = mapped_at f xs i x e
 
 -- the path of a name at an instance, turned
-turned : (path : Option Path) (x : Text) → reverse (parts_of path ++ x ∷ []) ≡ x ∷ place_of path
+pub turned : (path : Option Path) (x : Text) → reverse (parts_of path ++ x ∷ []) ≡ x ∷ place_of path
 turned None x = refl
 turned (Some path) x = reverse-append path (x ∷ [])
 

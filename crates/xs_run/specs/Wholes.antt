@@ -1,10 +1,11 @@
 -- An extension as a whole: it is flattened and typed with a bit for each fault, and may pass a limit.
 use Rattle.std.specs.Prelude.{ℕ, ◌≡◌, List, Some, slice_get}
 use Rattle.xs_tree.specs.ProgramTree.{ProgramTree}
+use Rattle.xs_tree.specs.Trace.{Each}
 use Rattle.xs_flattening.specs.Flat.{FlatModel}
 use Rattle.xs_flattening.specs.History.{Mode, with_history}
 use Rattle.xs_flattening.specs.Rules.{Rule, too_many, IsFirstBroken, IsAccepted}
-use Rattle.xs_flattening.specs.Model.{IsVariableNumber, EachBoth}
+use Rattle.xs_flattening.specs.Model.{IsVariableNumber, EachBoth, IsFlatOf}
 use Rattle.xs_kinds.specs.Judged.{KindRule, too_large}
 use Rattle.xs_kinds.specs.Models.{IsTyped, IsFault}
 use Rattle.xs_effects.specs.AddedNames.{mode_variable, mode_symbol}
@@ -17,6 +18,14 @@ use Rattle.xs_run.specs.Models.{IsModelOf}
 pub record IsModeOf (m : FlatModel) (fault : Fault) (mode : Mode) : Type 0 where
   pub variable : IsVariableNumber m fault.place (mode_variable fault.slice) mode.variable
   pub symbol : slice_get m.symbols mode.symbol ≡ Some (mode_symbol fault.slice (Some fault.mode))
+
+-- the model has the fault's mode
+abbrev pub HasModeOf : FlatModel → Fault → Type 0
+HasModeOf m fault = (mode : Mode) × IsModeOf m fault mode
+
+-- where the extension breaks no rule of names, its flat model has the mode of each of these faults
+abbrev pub HasItsModes : ProgramTree → List Fault → Type 0
+HasItsModes extension faults = (m : FlatModel) → IsAccepted extension → IsFlatOf extension m → Each (HasModeOf m) faults
 
 -- the flat model of an extension with a bit for each of its faults
 pub record IsWhole (extension : ProgramTree) (faults : List Fault) (whole : FlatModel) : Type 0 where

@@ -11,7 +11,7 @@ ghost use Rattle.xs_tree.specs.Text.{program_text};
 ghost use Rattle.xs_report.specs.FaultText.{name_of, faults_text};
 ghost use Rattle.xs_run.specs.Models.{IsModelOf, IsLawful};
 ghost use Rattle.xs_kinds.specs.Models.{IsTyped};
-ghost use Rattle.xs_run.specs.Wholes.{BreaksNames, BreaksKinds, IsWrongWhole, IsWithinLimits};
+ghost use Rattle.xs_run.specs.Wholes.{BreaksNames, BreaksKinds, HasItsModes, IsWrongWhole, IsWithinLimits};
 ghost use Rattle.xs_run.specs.Inputs.{IsWrongFaults, RefusesFaults, HoldsExtension, IsMade, AreListed};
 ghost use Rattle.xs_run.specs.declared.status.Refusal.{Refusal};
 ghost use Rattle.xs_run.specs.declared.input.Stop.TheVariants as stop;
@@ -78,6 +78,7 @@ fn extension_of(alloc: Global, bytes: &[u8], model: &LoadedModel) -> Result<Made
 /// Refuses an extension that passes a limit of size, as no item of either file does alone, and else gives its
 /// faults with their names.
 fn check_limits(alloc: Global, woven: &Woven) -> Result<FaultList, Wrong>
+    requires modes { HasItsModes (program_tree woven.now.program) (map fault_tree woven.now.faults) }
     ensures ok { OnOk result (IsWithinLimits (program_tree woven.now.program) (map fault_tree woven.now.faults)) }
     ensures listed { IfOk result (AreListed woven.now.faults) }
     ensures wrong { IfErr result (IfRefused (IsWrongWhole (program_tree woven.now.program) (map fault_tree woven.now.faults))) }

@@ -8,7 +8,7 @@ ghost use Rattle.xs_extend.specs.WovenFaults.{fault_tree};
 ghost use Rattle.xs_kinds.specs.Models.{IsTyped};
 ghost use Rattle.xs_run.specs.Wrongs.{IfRefused};
 ghost use Rattle.xs_run.specs.Models.{IsLawful, IsSpelled};
-ghost use Rattle.xs_run.specs.Wholes.{BreaksKinds};
+ghost use Rattle.xs_run.specs.Wholes.{BreaksKinds, HasItsModes};
 ghost use Rattle.xs_run.specs.Inputs.{IsWrongFaults, RefusesFaults};
 ghost use Rattle.xs_run.specs.Loaded.{IsLoaded, HoldsLoaded, IsLoadedFrom, IsLimited, IsWrongLimited};
 ghost use Rattle.xs_run.specs.declared.status.Refusal.{Refusal};
@@ -92,6 +92,7 @@ pub(crate) fn case_of(alloc: Global, bytes: &[u8], model: &LoadedModel) -> Resul
 
 /// Refuses an extension that passes a limit of size, and else gives its flat model.
 fn within_limits(alloc: Global, woven: Woven) -> Result<Limited, Wrong>
+    requires modes { HasItsModes (program_tree woven.program) (map fault_tree woven.faults) }
     ensures ok { IfOk result (IsLimited woven) }
     ensures wrong { IfErr result (IfRefused (IsWrongLimited (program_tree woven.program) (map fault_tree woven.faults))) }
 {

@@ -7,7 +7,12 @@ use Rattle.xs_run.specs.Wholes.{IsWhole, BreaksKinds, IsWrongWhole, by_kinds}
 use Rattle.xs_run.proofs.ListedLaws.{are_listed}
 use Rattle.xs_run.proofs.Told.{refused_weaker}
 use Rattle.xs_run.proofs.WholeLemmas.{is_whole}
+use Rattle.xs_run.proofs.FaultModes.{have_modes}
 use Rattle.xs_run.proofs.faults.check_limits.Goals as goal
+
+pub fault_list-requires : goal.fault_list-requires
+fault_list-requires c =
+    record { modes = have_modes c.in_ok-flat.flat c.args.woven.now.faults (c.requires.modes (model_tree c.in_ok-flat.flat) c.in_ok-flat.ensures.accepted c.in_ok-flat.ensures.model.is) }
 
 pub returns-in_err-check_whole-clause-wrong : goal.returns-in_err-check_whole-clause-wrong
 returns-in_err-check_whole-clause-wrong c =

@@ -1,4 +1,4 @@
-use Rattle.std.proofs.Common.{map, subst, ◌∙◌}
+use Rattle.std.proofs.Common.{map, sym, subst, ◌∙◌}
 use Rattle.std.proofs.lemmas.Result.{err_from_is_err_and}
 use Rattle.xs_fei.specs.Instructions.{instruction_tree}
 use Rattle.xs_tree.specs.ProgramTree.{program_tree}
@@ -6,14 +6,26 @@ use Rattle.xs_scope.specs.ModelTree.{model_tree}
 use Rattle.xs_extend.specs.Refused.{KeepsRules, IsTold}
 use Rattle.xs_extend.specs.WovenFaults.{fault_tree}
 use Rattle.xs_extend.proofs.InstanceLaws.{instances_listed}
+use Rattle.xs_run.specs.Wholes.{HasItsModes}
 use Rattle.xs_run.specs.Loaded.{IsWrongLimited}
 use Rattle.xs_run.proofs.FlatLimits.{whole_wrong}
 use Rattle.xs_run.proofs.CaseLemmas.{is_loaded}
 use Rattle.xs_run.specs.Inputs.{IsInstructionText, AreTaken, IsWrongFaults, not_spelled, not_woven, past_limit}
 use Rattle.xs_run.proofs.Told.{if_refused, refused_weaker}
 use Rattle.xs_run.proofs.InputLemmas.{modules_are, all_uses}
+use Rattle.xs_run.proofs.FaultModes.{has_its_modes}
 use Rattle.xs_run.proofs.LimitLaws.{passes_limit}
 use Rattle.xs_run.proofs.loaded.case_of.Goals as goal
+
+pub within_limits-requires : goal.within_limits-requires
+within_limits-requires c =
+    let p = program_tree c.args.model.now.program in
+    let m = c.args.model.now.typed.model in
+    let i = instruction_tree c.in_ok-instructions.instructions in
+    let faults = map fault_tree c.in_ok-woven.woven.faults in
+    let lawful = c.requires.lawful in
+    let are = c.in_ok-woven.ensures.faults (instances_listed p m.instances lawful.accepted c.requires.in_var lawful.model.is.instances) in
+    record { modes = subst (λ q. HasItsModes q faults) (sym c.in_ok-woven.ensures.program) (has_its_modes p i faults (c.in_ok-woven.ensures.weavable lawful.accepted lawful.model.is lawful.meant) are) }
 
 pub returns-in_err-instructions-clause-wrong : goal.returns-in_err-instructions-clause-wrong
 returns-in_err-instructions-clause-wrong c =

@@ -10,7 +10,12 @@ use Rattle.xs_run.specs.Wholes.{IsWhole, BreaksNames, BreaksKinds, by_names, by_
 use Rattle.xs_run.specs.Loaded.{IsWrongLimited, whole_is_wrong, flat_is_wrong}
 use Rattle.xs_run.proofs.Told.{refused_weaker}
 use Rattle.xs_run.proofs.WholeLemmas.{is_whole}
+use Rattle.xs_run.proofs.FaultModes.{have_modes}
 use Rattle.xs_run.proofs.loaded.within_limits.Goals as goal
+
+pub fault_list-requires : goal.fault_list-requires
+fault_list-requires c =
+    record { modes = have_modes c.in_ok-flat.flat c.args.woven.faults (c.requires.modes (model_tree c.in_ok-flat.flat) c.in_ok-flat.ensures.accepted c.in_ok-flat.ensures.model.is) }
 
 pub returns-in_err-flat-clause-wrong : goal.returns-in_err-flat-clause-wrong
 returns-in_err-flat-clause-wrong c =
