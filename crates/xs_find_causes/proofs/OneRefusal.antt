@@ -9,8 +9,6 @@ use Rattle.xs_flattening.specs.Flat.{FlatLeaf, FlatModel}
 use Rattle.xs_flattening.specs.FlatTrace.{IsFlatTrace}
 use Rattle.xs_flattening.specs.History.{Mode, with_history}
 use Rattle.xs_encoded.specs.FlatTraces.{ReachesTop, HasFailedNumber}
-use Rattle.xs_kinds.specs.Models.{IsTyped}
-use Rattle.xs_kinds.proofs.Typed.{typed_has_none}
 use Rattle.xs_weave.specs.Faults.{Fault}
 use Rattle.xs_trace_text.specs.Given.{GivesTrace}
 use Rattle.xs_certificate.specs.Certificate.{Certificate}
@@ -26,7 +24,6 @@ use Rattle.xs_run.specs.declared.status.InputFault.{InputFault as SharedFault}
 use Rattle.xs_run.specs.declared.status.Objection.TheVariants as objection
 use Rattle.xs_run.specs.declared.status.Refusal.{Refusal as SharedRefusal}
 use Rattle.xs_run.specs.declared.status.Refusal.TheVariants as shared_refusal
-use Rattle.xs_run.specs.Wholes.{BreaksKinds}
 use Rattle.xs_run.specs.Inputs.{RefusesFaults}
 use Rattle.xs_run.specs.Cases.{Case, extension_of, HoldsCase, IsTopWord, IsWrongWord}
 use Rattle.xs_run.specs.Tasks.{IsRefusedAbove, HasAtMost, IsTopTree}
@@ -35,7 +32,7 @@ use Rattle.xs_run.specs.Searches.{case_in}
 use Rattle.xs_run.proofs.Told.{one_refusal}
 use Rattle.xs_run.proofs.TextFaults.{reason, of_this_kind, same_reason}
 use Rattle.xs_run.proofs.OneExtending.{one_refused_faults}
-use Rattle.xs_run.proofs.OneModelFault.{one_kind, one_refused_model, held_not_refused, one_held_model}
+use Rattle.xs_run.proofs.OneModelFault.{one_breach, typed_breaks_none, one_refused_model, held_not_refused, one_held_model}
 use Rattle.xs_run.proofs.OneCase.{case_not_refused, one_case}
 use Rattle.xs_run.proofs.OneTop.{one_wrong_word, word_not_wrong}
 use Rattle.xs_run.proofs.OneReplay.{no_bytes_within, one_fault_above, same_bytes_within}
@@ -49,12 +46,6 @@ use Rattle.xs_find_causes.specs.Refusals.{broken_cause, IsRefusedCausesFile, Kee
 use Rattle.xs_find_causes.proofs.CausesLaws.{keeps_limits}
 
 -- ---- the limits of a staged model
-
-one_breach : (m : FlatModel) (a b : SharedFault) → BreaksKinds m a → BreaksKinds m b → a ≡ b
-one_breach m a b h g = h.is ∙ one_kind m h.rule g.rule h.item g.item h.broken g.broken (λ _. 0) ∙ sym g.is
-
-typed_breaks_none : (m : FlatModel) (a : SharedFault) → IsTyped m → BreaksKinds m a → ⊥
-typed_breaks_none m a typed h = typed_has_none m h.rule h.item typed h.broken
 
 module _ (m : FlatModel) (fs : List Mode) (cs : List CommonCause) where
   one_limit : (a b : SharedFault) → BreaksStaged m fs cs a → BreaksStaged m fs cs b → a ≡ b

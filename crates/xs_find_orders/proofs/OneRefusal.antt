@@ -7,7 +7,6 @@ use Rattle.xs_tree.specs.Values.{Value}
 use Rattle.xs_flattening.specs.Flat.{FlatLeaf, FlatModel}
 use Rattle.xs_flattening.specs.FlatTrace.{IsFlatTrace}
 use Rattle.xs_kinds.specs.Models.{IsTyped}
-use Rattle.xs_kinds.proofs.Typed.{typed_has_none}
 use Rattle.xs_encoded.specs.FlatTraces.{IsNumbered, ReachesTop, HasFailedNumber}
 use Rattle.xs_extending.proofs.Splits.{one_split, none_broken}
 use Rattle.xs_trace_text.specs.Given.{GivesTrace}
@@ -29,7 +28,7 @@ use Rattle.xs_run.specs.Wholes.{BreaksKinds}
 use Rattle.xs_run.proofs.OneCase.{case_not_refused, one_case}
 use Rattle.xs_run.proofs.OneCheck.{one_refused_certificate, held_certificate_not_refused, one_held_certificate, moved}
 use Rattle.xs_run.proofs.OneExtending.{one_refused_faults}
-use Rattle.xs_run.proofs.OneModelFault.{one_refused_model, held_not_refused, one_held_model, one_kind}
+use Rattle.xs_run.proofs.OneModelFault.{one_breach, typed_breaks_none, one_refused_model, held_not_refused, one_held_model}
 use Rattle.xs_run.proofs.OneTop.{one_wrong_word, word_not_wrong}
 use Rattle.xs_reach_status.specs.declared.status.Refusal.{Refusal}
 use Rattle.xs_reach_status.specs.declared.status.Refusal.TheVariants as refusal
@@ -51,13 +50,6 @@ module _ (n : ℕ) where
 
   none_outside : (set : List ℕ) (p : ℕ) → IsNumbered n set → IsFirstOutside n set p → ⊥
   none_outside set p numbered a = none_broken (λ i. (1 ≤ i) × (i ≤ n)) (λ i. IsFaultNumber n i → ⊥) inside_or_out a.before a.number a.after (subst (IsNumbered n) a.lie numbered) a.outside
-
-module _ (m : FlatModel) where
-  one_breach : (a b : SharedFault) → BreaksKinds m a → BreaksKinds m b → a ≡ b
-  one_breach a b h g = h.is ∙ one_kind m h.rule g.rule h.item g.item h.broken g.broken (λ k. 0) ∙ sym g.is
-
-  typed_breaks_none : (a : SharedFault) → IsTyped m → BreaksKinds m a → ⊥
-  typed_breaks_none a typed h = typed_has_none m h.rule h.item typed h.broken
 
 -- ---- a pair
 
