@@ -1,5 +1,5 @@
 -- What is refused of causes is refused for one reason, and nothing is where they were searched or judged.
-use Rattle.std.proofs.Common.{◌≡◌, ◌⊎◌, inl, inr, ℕ, List, refl, sym, ap, subst, ◌∙◌}
+use Rattle.std.proofs.Common.{◌≡◌, inl, inr, ℕ, List, refl, sym, ap, subst, ◌∙◌}
 use Rattle.xs_desk.specs.declared.files.NamedFile.{NamedFile}
 use Rattle.xs_tree.specs.Tree.{Tree}
 use Rattle.xs_tree.specs.ProgramTree.{Text, Formula, ProgramTree}
@@ -22,7 +22,6 @@ use Rattle.xs_causes_reader.specs.Read.{AreRead}
 use Rattle.xs_causes_reader.proofs.OneReading.{one_reading, one_broken, read_unbroken}
 use Rattle.xs_run.specs.declared.status.InputFault.{InputFault as SharedFault}
 use Rattle.xs_run.specs.declared.status.Objection.TheVariants as objection
-use Rattle.xs_run.specs.declared.status.Refusal.{Refusal as SharedRefusal}
 use Rattle.xs_run.specs.declared.status.Refusal.TheVariants as shared_refusal
 use Rattle.xs_run.specs.Inputs.{RefusesFaults}
 use Rattle.xs_run.specs.Cases.{Case, extension_of, HoldsCase, IsTopWord, IsWrongWord}

@@ -1,5 +1,5 @@
 -- A command is refused for one reason, and is not where it was done; so an answer stands by what its files come to.
-use Rattle.std.proofs.Common.{◌≡◌, inl, inr, ℕ, List, Option, Some, None, IfSome, refl, ap}
+use Rattle.std.proofs.Common.{◌≡◌, inl, inr, List, Option, Some, None, IfSome, refl, ap}
 use Rattle.xs_desk.specs.declared.files.NamedFile.{NamedFile}
 use Rattle.xs_reach_words.specs.Commands.{Command, causes, check_causes, orders, check_orders, odds}
 use Rattle.xs_reach_words.specs.Sets.{numbers_of}
