@@ -26,6 +26,7 @@ fn both_off(rt: &impl Abort, alloc: Global, guard: &[u8]) -> Result<Instructions
 }
 
 /// A fault's slice, and the variable of its states and the symbol of its mode, by number.
+#[derive(Drop)]
 struct FaultRow<'a> {
     slice: &'a [u8],
     variable: usize,
