@@ -8,9 +8,11 @@
 //!
 //! The modules from below: `texts` has what the others share, the programs, instructions and expressions
 //! that texts spell. Then come `lists`, `tokens`, `printing`, `programs` and `instructions` (reading),
-//! `flat`, `kinds`, `effects`, `rules`, `weaving` and `desk`.
+//! `flat`, `copies`, `kinds`, `effects`, `rules`, `weaving` and `desk`.
 #![tactic(auto)]
 
+#[cfg(test)]
+mod copies;
 #[cfg(test)]
 mod desk;
 #[cfg(test)]
