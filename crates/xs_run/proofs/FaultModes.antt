@@ -1,6 +1,6 @@
 -- Each fault of an extension has its mode in the extension's flat model: the variable that holds the state of its slice at its
 -- instance, which the weave declared, and the symbol of the mode, which is a member of that variable's type.
-use Rattle.std.proofs.Common.{◌≡◌, ◌≢◌, ℕ, zero, suc, Bool, true, false, ◌||◌, List, [], ◌∷◌, ◌++◌, map, Option, Some, None, refl, sym, ap, subst, ◌∙◌}
+use Rattle.std.proofs.Common.{◌≡◌, ◌≢◌, ℕ, zero, suc, Bool, true, false, List, [], ◌∷◌, ◌++◌, map, Option, Some, refl, sym, ap, subst, ◌∙◌}
 use Rattle.std.specs.Prelude.{slice_get, reverse}
 use Rattle.std.specs.Option.{option_map}
 use Rattle.std.proofs.lemmas.List.{reverse-reverse}
@@ -10,7 +10,7 @@ use Rattle.xs_tree.proofs.ValueLaws.{same_text_equal}
 use Rattle.xs_tree.specs.Scope.{Place, state, kind_at, module_at, is_symbol}
 use Rattle.xs_tree.specs.Trace.{Each, IsInstance, IsVariable}
 use Rattle.xs_flattening.specs.Flat.{FlatVariable, FlatModel as ModelTree}
-use Rattle.xs_flattening.specs.Model.{IsVariableNumber, symbols_of, IsFlatOf}
+use Rattle.xs_flattening.specs.Model.{IsVariableNumber, IsFlatOf}
 use Rattle.xs_flattening.specs.Rules.{IsAccepted}
 use Rattle.xs_flattening.proofs.Lists.{each_more}
 use Rattle.xs_flattening.proofs.Variables.{variables_are}
@@ -30,7 +30,7 @@ use Rattle.xs_weave.proofs.Meanings.{module_woven}
 use Rattle.xs_extended_right.proofs.Modes.{IsOfSlice, of_program}
 use Rattle.xs_extend.specs.declared.faults.WovenFault.{WovenFault}
 use Rattle.xs_extend.specs.WovenFaults.{place_of, fault_tree}
-use Rattle.xs_extend.specs.NumberedFaults.{parts_of, HasPath, HasMode, HaveModes}
+use Rattle.xs_extend.specs.NumberedFaults.{parts_of, HasPath, HaveModes}
 use Rattle.xs_run.specs.Wholes.{HasModeOf, HasItsModes}
 use Rattle.xs_run.proofs.WholeLemmas.{turned}
 
