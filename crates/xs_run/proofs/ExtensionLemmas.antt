@@ -4,7 +4,12 @@ use Rattle.xs_desk.specs.declared.files.NamedFile.{NamedFile}
 use Rattle.xs_desk.specs.Files.{file_of, with_file}
 use Rattle.xs_desk.specs.Desk.{said_more}
 use Rattle.xs_desk.proofs.Writing.{file_of-with_file}
+use Rattle.xs_lexer.specs.declared.token.Token.{Token}
+use Rattle.xs_lexer.proofs.SplitLemmas.{one_answer}
 use Rattle.xs_tree.specs.ProgramTree.{Text, ProgramTree}
+use Rattle.xs_tree.specs.Lexemes.{lexemes_of}
+use Rattle.xs_tree.specs.SpellsProgram.{SpellsProgram}
+use Rattle.xs_tree.proofs.OneProgram.{one_program}
 use Rattle.xs_tree.specs.Bytes.{BytesSpellProgram}
 use Rattle.xs_weave.specs.Woven.{woven}
 use Rattle.xs_weave.proofs.WovenNominal.{woven_extends}
@@ -41,11 +46,17 @@ pub one_refused_words : (words : List Text) (r s : Refusal) → RefusesWords wor
 one_refused_words words r s (wrong_words f broken) (wrong_words g also) =
     let one = one_fault words (rule_of f) (place_of f) (rule_of g) (place_of g) broken also in ap (λ h. refusal.Words h) (same_fault f g one.0 one.1)
 
+-- bytes spell one program
+one_text : (bytes : List ℕ) (p q : ProgramTree) → BytesSpellProgram bytes p → BytesSpellProgram bytes q → p ≡ q
+one_text bytes p q h g = one_program (lexemes_of bytes h.0) p q h.2 (subst (λ (ts : List Token). SpellsProgram (lexemes_of bytes ts) q) (one_answer bytes h.0 g.0 h.1 g.1) g.2)
+
 -- two files whose extension was written, and its report said
 files_extended : (before after : List NamedFile) (said now : Option (List ℕ)) (model faults extended : Text) (p : ProgramTree) (text report : Text) → HoldsModel before model p →
     HoldsFaults before faults p text report → file_of after extended ≡ Some text → now ≡ said_more said report → IsExtended before after said now model faults extended
 files_extended before after said now model faults extended p text report holds have written line =
     let made = have.extension in
+    let spelled : BytesSpellProgram text (woven p made.instructions) =
+    subst (λ t. BytesSpellProgram t (woven p made.instructions)) (sym made.printed) (woven_text_spells holds.bytes have.bytes p made.instructions holds.is_text.spelled made.is_text.spelled) in
     record {
       model_bytes = holds.bytes;
       fault_bytes = have.bytes;
@@ -61,7 +72,8 @@ files_extended before after said now model faults extended p text report holds h
       only_program = holds.is_text.only;
       spells_instructions = made.is_text.spelled;
       only_instructions = made.is_text.only;
-      spells_written = subst (λ t. BytesSpellProgram t (woven p made.instructions)) (sym made.printed) (woven_text_spells holds.bytes have.bytes p made.instructions holds.is_text.spelled made.is_text.spelled);
+      spells_written = spelled;
+      only_written = λ q other. one_text text (woven p made.instructions) q spelled other;
       weavable = made.taken.weavable;
       extension = woven_extends p made.instructions made.taken.weavable;
       are_faults = made.are_faults;

@@ -13,7 +13,7 @@ use Rattle.xs_weave.specs.Weavable.{IsWeavable}
 use Rattle.xs_weave.specs.Woven.{woven}
 use Rattle.xs_run.specs.Reports.{report_text}
 
--- The file that is written spells the program that the weave makes of the program that the model's bytes at
+-- The file that is written spells the program, and no other, that the weave makes of the program that the model's bytes at
 -- entry spell and of the instructions that the other file's bytes at entry spell. The program and the
 -- instructions are such as a weave takes, and what is written is their extension: its traces, cut, are exactly
 -- the extended traces, and the faultless ones, hidden, are exactly the traces of the program. What is said is the
@@ -34,6 +34,7 @@ pub record IsExtended (before after : List NamedFile) (said now : Option (List �
   pub spells_instructions : BytesSpellInstructions fault_bytes instructions
   pub only_instructions : (j : InstructionTree) → BytesSpellInstructions fault_bytes j → instructions ≡ j
   pub spells_written : BytesSpellProgram written_bytes (woven program instructions)
+  pub only_written : (q : ProgramTree) → BytesSpellProgram written_bytes q → woven program instructions ≡ q
   pub weavable : IsWeavable program instructions
   pub extension : IsExtensionOf program instructions (woven program instructions)
   pub are_faults : HasFaults program instructions listed
