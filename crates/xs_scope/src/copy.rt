@@ -75,11 +75,11 @@ fn copy_branches(
 
 impl Instance {
     /// A copy of its own, which is the same instance.
-    pub fn copy(&self, alloc: Global) -> Result<Instance, OutOfMemory>
+    pub fn copy(&self) -> Result<Instance, OutOfMemory>
         ensures { IfOk result (λ made. made ≡ self.now) }
     {
-        let path = copy_path(alloc, &self.path)?;
-        let module = self.module.copy(alloc)?;
+        let path = copy_path(self.module.allocator(), &self.path)?;
+        let module = self.module.copy()?;
         Ok(Instance { path, module })
     }
 }
@@ -89,18 +89,18 @@ pub fn copy_path(alloc: Global, path: &Option<Dotted>) -> Result<Option<Dotted>,
     ensures { IfOk result (λ made. made ≡ path.now) }
 {
     match path {
-        Some(path) => Ok(Some(path.copy(alloc)?)),
+        Some(path) => Ok(Some(path.copy()?)),
         None => Ok(None),
     }
 }
 
 impl Variable {
     /// A copy of its own, which is the same variable.
-    pub fn copy(&self, alloc: Global) -> Result<Variable, OutOfMemory>
+    pub fn copy(&self) -> Result<Variable, OutOfMemory>
         ensures { IfOk result (λ made. variable_tree made ≡ variable_tree self.now) }
     {
-        let path = self.path.copy(alloc)?;
-        let declared = self.declared.copy(alloc)?;
+        let path = self.path.copy()?;
+        let declared = self.declared.copy(self.path.allocator())?;
         Ok(Variable {
             path,
             role: self.role,
@@ -127,19 +127,19 @@ impl Formula {
 
 impl FlatModel {
     /// A copy of its own, which is the same model.
-    pub fn copy(&self, alloc: Global) -> Result<FlatModel, OutOfMemory>
+    pub fn copy(&self) -> Result<FlatModel, OutOfMemory>
         ensures { IfOk result (λ made. model_tree made ≡ model_tree self.now) }
     {
+        let alloc = self.instances.allocator();
         let instances = copy_instances(alloc, self.instances.as_slice())?;
         let variables = copy_variables(alloc, self.variables.as_slice())?;
-        let symbols = self.symbols.copy(alloc)?;
-        self.with_lists(alloc, instances, variables, symbols)
+        let symbols = self.symbols.copy()?;
+        self.with_lists(instances, variables, symbols)
     }
 
     /// A model of these lists with copies of the definitions and formulas of another one.
     fn with_lists(
         &self,
-        alloc: Global,
         instances: InstanceList,
         variables: VariableList,
         symbols: NameList,
@@ -149,6 +149,7 @@ impl FlatModel {
         requires symbols { symbols ≡ self.now.symbols }
         ensures { IfOk result (λ made. model_tree made ≡ model_tree self.now) }
     {
+        let alloc = self.instances.allocator();
         let definitions = copy_formulas(alloc, self.definitions.as_slice())?;
         let init = copy_formulas(alloc, self.init.as_slice())?;
         let invar = copy_formulas(alloc, self.invar.as_slice())?;
@@ -170,7 +171,7 @@ fn copy_instances(alloc: Global, instances: &[Instance]) -> Result<InstanceList,
 {
     let mut made = Items::new(alloc);
     for instance in instances {
-        made.push(instance.copy(alloc)?)?;
+        made.push(instance.copy()?)?;
     }
     Ok(made)
 }
@@ -180,7 +181,7 @@ fn copy_variables(alloc: Global, variables: &[Variable]) -> Result<VariableList,
 {
     let mut made = Items::new(alloc);
     for variable in variables {
-        made.push(variable.copy(alloc)?)?;
+        made.push(variable.copy()?)?;
     }
     Ok(made)
 }
@@ -197,11 +198,11 @@ fn copy_formulas(alloc: Global, formulas: &[Formula]) -> Result<FlatList, OutOfM
 
 impl Fault {
     /// A copy of its own, which is the same fault.
-    pub fn copy(&self, alloc: Global) -> Result<Fault, OutOfMemory>
+    pub fn copy(&self) -> Result<Fault, OutOfMemory>
         ensures { IfOk result (λ made. made ≡ self.now) }
     {
         Ok(Fault {
-            name: self.name.copy(alloc)?,
+            name: self.name.copy()?,
             variable: self.variable,
             symbol: self.symbol,
         })
@@ -214,7 +215,7 @@ pub fn copy_faults(alloc: Global, faults: &[Fault]) -> Result<FaultList, OutOfMe
 {
     let mut made = Items::new(alloc);
     for fault in faults {
-        made.push(fault.copy(alloc)?)?;
+        made.push(fault.copy()?)?;
     }
     Ok(made)
 }

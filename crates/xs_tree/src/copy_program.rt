@@ -11,22 +11,22 @@ use xs_value::{Items, OutOfMemory};
 
 impl Program {
     /// A copy of its own, which is the same program.
-    pub fn copy(&self, alloc: Global) -> Result<Program, OutOfMemory>
+    pub fn copy(&self) -> Result<Program, OutOfMemory>
         ensures { IfOk result (λ made. program_tree made ≡ program_tree self.now) }
     {
-        let modules = copy_modules(alloc, self.modules.as_slice())?;
+        let modules = copy_modules(self.modules.allocator(), self.modules.as_slice())?;
         Ok(Program { modules })
     }
 }
 
 impl Module {
     /// A copy of its own, which is the same module.
-    pub fn copy(&self, alloc: Global) -> Result<Module, OutOfMemory>
+    pub fn copy(&self) -> Result<Module, OutOfMemory>
         ensures { IfOk result (λ made. module_tree made ≡ module_tree self.now) }
     {
-        let name = self.name.copy(alloc)?;
-        let formals = self.formals.copy(alloc)?;
-        let sections = copy_sections(alloc, self.sections.as_slice())?;
+        let name = self.name.copy()?;
+        let formals = self.formals.copy()?;
+        let sections = copy_sections(self.sections.allocator(), self.sections.as_slice())?;
         Ok(Module {
             name,
             formals,
@@ -45,7 +45,7 @@ impl Section {
             Section::Ivar(list) => Ok(Section::Ivar(copy_decls(alloc, list.as_slice())?)),
             Section::Frozen(list) => Ok(Section::Frozen(copy_decls(alloc, list.as_slice())?)),
             Section::Define(list) => Ok(Section::Define(copy_defines(alloc, list.as_slice())?)),
-            Section::Constants(names) => Ok(Section::Constants(names.copy(alloc)?)),
+            Section::Constants(names) => Ok(Section::Constants(names.copy()?)),
             Section::Assign(list) => {
                 Ok(Section::Assign(copy_assignments(alloc, list.as_slice())?))
             }
@@ -58,11 +58,11 @@ impl Section {
 
 impl Decl {
     /// A copy of its own, which declares the same.
-    pub fn copy(&self, alloc: Global) -> Result<Decl, OutOfMemory>
+    pub fn copy(&self) -> Result<Decl, OutOfMemory>
         ensures { IfOk result (λ made. decl_tree made ≡ decl_tree self.now) }
     {
-        let name = self.name.copy(alloc)?;
-        let what = self.what.copy(alloc)?;
+        let name = self.name.copy()?;
+        let what = self.what.copy(self.name.allocator())?;
         Ok(Decl { name, what })
     }
 }
@@ -77,7 +77,7 @@ impl Declared {
             Declared::Range(lo, hi) => Ok(Declared::Range(*lo, *hi)),
             Declared::Members(list) => Ok(Declared::Members(copy_members(alloc, list.as_slice())?)),
             Declared::Instance(module, actuals) => {
-                let module = module.copy(alloc)?;
+                let module = module.copy()?;
                 Ok(Declared::Instance(module, copy_expressions(alloc, actuals.as_slice())?))
             }
         }
@@ -91,29 +91,29 @@ impl Member {
     {
         match self {
             Member::Number(n) => Ok(Member::Number(*n)),
-            Member::Symbol(name) => Ok(Member::Symbol(name.copy(alloc)?)),
+            Member::Symbol(name) => Ok(Member::Symbol(name.copy()?)),
         }
     }
 }
 
 impl Define {
     /// A copy of its own, which is the same define.
-    pub fn copy(&self, alloc: Global) -> Result<Define, OutOfMemory>
+    pub fn copy(&self) -> Result<Define, OutOfMemory>
         ensures { IfOk result (λ made. define_tree made ≡ define_tree self.now) }
     {
-        let name = self.name.copy(alloc)?;
-        let value = self.value.copy(alloc)?;
+        let name = self.name.copy()?;
+        let value = self.value.copy(self.name.allocator())?;
         Ok(Define { name, value })
     }
 }
 
 impl Assignment {
     /// A copy of its own, which is the same assignment.
-    pub fn copy(&self, alloc: Global) -> Result<Assignment, OutOfMemory>
+    pub fn copy(&self) -> Result<Assignment, OutOfMemory>
         ensures { IfOk result (λ made. assignment_tree made ≡ assignment_tree self.now) }
     {
-        let target = self.target.copy(alloc)?;
-        let value = self.value.copy(alloc)?;
+        let target = self.target.copy()?;
+        let value = self.value.copy(self.target.allocator())?;
         Ok(Assignment {
             when: self.when,
             target,
@@ -128,7 +128,7 @@ pub fn copy_modules(alloc: Global, modules: &[Module]) -> Result<ModuleList, Out
 {
     let mut made = Items::new(alloc);
     for module in modules {
-        made.push(module.copy(alloc)?)?;
+        made.push(module.copy()?)?;
     }
     Ok(made)
 }
@@ -150,7 +150,7 @@ pub fn copy_decls(alloc: Global, decls: &[Decl]) -> Result<DeclList, OutOfMemory
 {
     let mut made = Items::new(alloc);
     for decl in decls {
-        made.push(decl.copy(alloc)?)?;
+        made.push(decl.copy()?)?;
     }
     Ok(made)
 }
@@ -161,7 +161,7 @@ pub fn copy_defines(alloc: Global, defines: &[Define]) -> Result<DefineList, Out
 {
     let mut made = Items::new(alloc);
     for define in defines {
-        made.push(define.copy(alloc)?)?;
+        made.push(define.copy()?)?;
     }
     Ok(made)
 }
@@ -175,7 +175,7 @@ pub fn copy_assignments(
 {
     let mut made = Items::new(alloc);
     for assignment in assignments {
-        made.push(assignment.copy(alloc)?)?;
+        made.push(assignment.copy()?)?;
     }
     Ok(made)
 }

@@ -32,6 +32,11 @@ impl Name {
         })
     }
 
+    /// The allocator that the name keeps.
+    pub fn allocator(&self) -> Global {
+        *self.bytes.allocator()
+    }
+
     /// The name's bytes.
     pub fn text(&self) -> &[u8]
         ensures { result.now ≡ self.now }
@@ -47,10 +52,10 @@ impl Name {
     }
 
     /// A name of its own with the same text.
-    pub fn copy(&self, alloc: Global) -> Result<Name, OutOfMemory>
+    pub fn copy(&self) -> Result<Name, OutOfMemory>
         ensures { IfOk result (λ name. name ≡ self.now) }
     {
-        Name::new(alloc, self.text())
+        Name::new(self.allocator(), self.text())
     }
 }
 
@@ -88,6 +93,11 @@ impl Dotted {
         self.parts.push(part)
     }
 
+    /// The allocator that the name keeps.
+    pub fn allocator(&self) -> Global {
+        self.parts.allocator()
+    }
+
     /// The number of parts, at least 1.
     pub fn len(&self) -> usize
         ensures length { result ≡ length self.now }
@@ -113,22 +123,22 @@ impl Dotted {
     }
 
     /// A name of its own with the same parts.
-    pub fn copy(&self, alloc: Global) -> Result<Dotted, OutOfMemory>
+    pub fn copy(&self) -> Result<Dotted, OutOfMemory>
         ensures { IfOk result (λ name. name ≡ self.now) }
     {
-        let parts = self.parts.copy(alloc)?;
+        let parts = self.parts.copy()?;
         Ok(Dotted { parts })
     }
 }
 
 impl Items<Name> {
     /// A list of its own with the same names.
-    pub fn copy(&self, alloc: Global) -> Result<NameList, OutOfMemory>
+    pub fn copy(&self) -> Result<NameList, OutOfMemory>
         ensures { IfOk result (λ names. names ≡ self.now) }
     {
-        let mut names = Items::new(alloc);
+        let mut names = Items::new(self.allocator());
         for name in self.as_slice() {
-            names.push(name.copy(alloc)?)?;
+            names.push(name.copy()?)?;
         }
         Ok(names)
     }

@@ -71,11 +71,11 @@ impl Valuation {
     }
 
     /// A valuation of its own with the same values.
-    pub fn copy(&self, alloc: Global) -> Result<Valuation, OutOfMemory>
+    pub fn copy(&self) -> Result<Valuation, OutOfMemory>
         ensures { IfOk result (λ valuation. valuation ≡ self.now) }
     {
         Ok(Valuation {
-            values: Vec::from_slice(alloc, &self.values)?,
+            values: Vec::from_slice(*self.values.allocator(), &self.values)?,
         })
     }
 }
