@@ -173,7 +173,7 @@ fn numbered_cause(alloc: Global, faults: &[Fault], cause: &Written) -> Result<Ca
     ensures { IfOk result (λ made. IsReadIn (paths_of faults.now) (written_tree cause.now) (cause_of made)) }
 {
     Ok(Cause {
-        name: cause.name.copy(alloc)?,
+        name: cause.name.copy()?,
         from: small(cause.from)?,
         to: small(cause.to)?,
         strikes: strikes_of(alloc, faults, cause.strikes.as_slice())?,

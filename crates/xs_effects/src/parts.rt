@@ -51,7 +51,7 @@ pub fn own_value(alloc: Global, variable: &Name) -> Result<Expr<Dotted>, OutOfMe
 pub fn name_of(alloc: Global, name: &Name) -> Result<Expr<Dotted>, OutOfMemory>
     ensures { IfOk result (λ made. tree_of made ≡ named_tree name.now) }
 {
-    let name = name.copy(alloc)?;
+    let name = name.copy()?;
     named(alloc, name)
 }
 

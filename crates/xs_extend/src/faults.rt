@@ -125,8 +125,8 @@ fn woven_fault(
     ensures { IfOk result (λ made. fault_tree made ≡ record { place = place_of instance.now.path; slice = slice.now; mode = mode.now.name }) }
 {
     let path = copy_path(alloc, &instance.path)?;
-    let slice = slice.copy(alloc)?;
-    let mode = mode.name.copy(alloc)?;
+    let slice = slice.copy()?;
+    let mode = mode.name.copy()?;
     Ok(WovenFault { path, slice, mode })
 }
 
@@ -134,7 +134,7 @@ fn copy_path(alloc: Global, path: &Option<Dotted>) -> Result<Option<Dotted>, Out
     ensures { IfOk result (λ made. made ≡ path.now) }
 {
     match path {
-        Some(path) => Ok(Some(path.copy(alloc)?)),
+        Some(path) => Ok(Some(path.copy()?)),
         None => Ok(None),
     }
 }

@@ -72,9 +72,9 @@ fn numbered(
 fn name_of(alloc: Global, fault: &WovenFault) -> Result<Dotted, OutOfMemory>
     ensures { IfOk result (λ name. name ≡ parts_of fault.now.path ++ (fault.now.slice ∷ fault.now.mode ∷ [])) }
 {
-    let slice = fault.slice.copy(alloc)?;
+    let slice = fault.slice.copy()?;
     let mut name = path_below(alloc, &fault.path, slice)?;
-    name.push(fault.mode.copy(alloc)?)?;
+    name.push(fault.mode.copy()?)?;
     Ok(name)
 }
 
@@ -84,7 +84,7 @@ fn path_below(alloc: Global, path: &Option<Dotted>, name: Name) -> Result<Dotted
 {
     match path {
         Some(path) => {
-            let mut below = path.copy(alloc)?;
+            let mut below = path.copy()?;
             below.push(name)?;
             Ok(below)
         }

@@ -143,7 +143,7 @@ fn push_instance(
     ensures { OnOk result (map instance_tree instances.new ≡ map instance_tree instances.old ++ instance_in spot.now (Some names.now)) }
 {
     let path = copy_path(alloc, &spot.path)?;
-    let module = names.module.name.copy(alloc)?;
+    let module = names.module.name.copy()?;
     instances.push(Instance { path, module })
 }
 

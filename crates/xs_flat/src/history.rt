@@ -29,7 +29,7 @@ pub fn with_history(
     ensures model { IfOk result (λ made. model_tree made ≡ history_of (model_tree m.now) (map mode_of faults.now)) }
     ensures traces { IfOk result (HasHistory m.now faults.now) }
 {
-    let mut made = m.copy(alloc)?;
+    let mut made = m.copy()?;
     for (k, fault) in faults.as_slice().iter().enumerate() {
         add_bit(alloc, &mut made, k + 1, fault)?;
     }

@@ -29,9 +29,9 @@ fn copies_have_what_was_copied(rt: HostRuntime) -> Result<(), Fail> {
     let alloc = rt.alloc();
     let program = program_of(&rt, alloc, POWER);
     let text = print_program(alloc, &program)?;
-    let same = print_program(alloc, &program.copy(alloc)?)?;
+    let same = print_program(alloc, &program.copy()?)?;
     assert!(rt; same.as_slice() == text.as_slice());
     let model = flatten(alloc, &program)?;
-    assert_eq!(rt; sizes(&model.copy(alloc)?), [6, 6, 3, 0, 3, 3, 3]);
+    assert_eq!(rt; sizes(&model.copy()?), [6, 6, 3, 0, 3, 3, 3]);
     Ok(())
 }

@@ -14,7 +14,7 @@ fn lists_and_names_hold_what_was_put_in(rt: HostRuntime) -> Result<(), Fail> {
 
     let mut path = Dotted::new(alloc, Name::new(alloc, b"b1")?)?;
     path.push(Name::new(alloc, b"charge")?)?;
-    let same = path.copy(alloc)?;
+    let same = path.copy()?;
     assert_eq!(rt; same.parts().len(), 2);
     assert_eq!(rt; same.at(1).text(), b"charge".as_slice());
 
@@ -30,7 +30,7 @@ fn a_valuation_gives_what_was_set(rt: HostRuntime) -> Result<(), Fail> {
     let mut moment = Valuation::new(alloc);
     moment.push(Value::Bool(true))?;
     moment.push(Value::Sym(1))?;
-    let before = moment.copy(alloc)?;
+    let before = moment.copy()?;
     moment.set(0, Value::Num(5));
     assert!(rt; moment.get(0) == Value::Num(5) && before.get(0) == Value::Bool(true));
     assert!(rt; moment.get(1) == Value::Sym(1) && moment.len() == 2);

@@ -358,10 +358,10 @@ impl<'a> Walk<'a> {
         requires { spot < length self.now.spots.items }
         ensures { IfOk result (λ path. reverse path ≡ name.now ∷ place_at self.now spot) }
     {
-        let name = name.copy(alloc)?;
+        let name = name.copy()?;
         match &self.spots[spot].path {
             Some(path) => {
-                let mut below = path.copy(alloc)?;
+                let mut below = path.copy()?;
                 below.push(name)?;
                 Ok(below)
             }

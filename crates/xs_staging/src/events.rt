@@ -78,7 +78,7 @@ fn add_own_event(
     made.trans
         .push(own_at_step(alloc, faults, causes, ages, number, mark)?)?;
     Ok(Fault {
-        name: name.copy(alloc)?,
+        name: name.copy()?,
         variable: own,
         symbol: itself,
     })

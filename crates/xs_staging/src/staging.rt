@@ -39,7 +39,7 @@ pub fn with_causes(
     ensures events { IfOk result (λ s. map mode_of s.events ≡ events_of (model_tree m.now) (map mode_of faults.now) (map cause_of causes.now)) }
     ensures names { IfOk result (λ s. map told_name s.events ≡ map told_name faults.now ++ map told_cause causes.now) }
 {
-    let mut model = m.copy(alloc)?;
+    let mut model = m.copy()?;
     let mut ages = Vec::new(alloc);
     let mut happenings = FaultList::new(alloc);
     add_causes(
@@ -59,16 +59,16 @@ pub fn with_causes(
         causes.as_slice(),
         &ages,
     )?;
-    append_copies(alloc, &mut events, happenings.as_slice())?;
+    append_copies(&mut events, happenings.as_slice())?;
     Ok(Staged { model, events })
 }
 
 /// Appends copies of events.
-fn append_copies(alloc: Global, events: &mut FaultList, more: &[Fault]) -> Result<(), OutOfMemory>
+fn append_copies(events: &mut FaultList, more: &[Fault]) -> Result<(), OutOfMemory>
     ensures { OnOk result (events.new ≡ events.old ++ more.now) }
 {
     for event in more {
-        events.push(event.copy(alloc)?)?;
+        events.push(event.copy()?)?;
     }
     Ok(())
 }
@@ -184,7 +184,7 @@ fn add_event(
     made.symbols.push(joined(alloc, text, b"#now")?)?;
     made.invar
         .push(event_at_each(alloc, event, age, quiet, now)?)?;
-    let name = Dotted::new(alloc, cause.name.copy(alloc)?)?;
+    let name = Dotted::new(alloc, cause.name.copy()?)?;
     Ok(Fault {
         name,
         variable: event,

@@ -101,6 +101,13 @@ impl<T: Copy + Drop> Items<T> {
         Ok(Items { items })
     }
 
+    /// A list of its own with the same items.
+    pub fn copy(&self) -> Result<Items<T>, OutOfMemory>
+        ensures { IfOk result (λ list. list ≡ self.now) }
+    {
+        Items::from_slice(self.allocator(), self.as_slice())
+    }
+
     /// Appends all of the items. Where there is no memory the list stays as it was.
     pub fn append(&mut self, more: &[T]) -> Result<(), OutOfMemory>
         ensures ok { OnOk result (self.new ≡ self.old ++ more.now) }
@@ -115,5 +122,18 @@ impl<T: Copy + Drop> Items<T> {
         ensures { self.new ≡ [] }
     {
         self.items.clear();
+    }
+}
+
+impl<T: Copy + Drop> Items<Items<T>> {
+    /// A list of its own with a copy of each list.
+    pub fn copy(&self) -> Result<Items<Items<T>>, OutOfMemory>
+        ensures { IfOk result (λ lists. lists ≡ self.now) }
+    {
+        let mut lists = Items::new(self.allocator());
+        for list in self.as_slice() {
+            lists.push(list.copy()?)?;
+        }
+        Ok(lists)
     }
 }

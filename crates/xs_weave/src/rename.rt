@@ -98,7 +98,7 @@ fn renamed_name(
 {
     match name.parts() {
         [single] => renamed_single(alloc, i, owner, single),
-        _ => name.copy(alloc),
+        _ => name.copy(),
     }
 }
 
@@ -114,7 +114,7 @@ fn renamed_single(
         let own = own_name(alloc, x)?;
         return Dotted::new(alloc, own);
     }
-    let same = x.copy(alloc)?;
+    let same = x.copy()?;
     Dotted::new(alloc, same)
 }
 
@@ -130,7 +130,7 @@ fn renamed_leaf(
     if owned {
         renamed_name(alloc, i, owner, name)
     } else {
-        name.copy(alloc)
+        name.copy()
     }
 }
 

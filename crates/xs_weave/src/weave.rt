@@ -48,8 +48,8 @@ fn woven_module(alloc: Global, i: &Instructions, m: &Module) -> Result<Module, O
     requires effects { All ExtensionHasNegations i.now.extensions }
     ensures { IfOk result (λ made. module_tree made ≡ woven_tree (instruction_tree i.now) (module_tree m.now)) }
 {
-    let name = m.name.copy(alloc)?;
-    let formals = m.formals.copy(alloc)?;
+    let name = m.name.copy()?;
+    let formals = m.formals.copy()?;
     let sections = woven_sections(alloc, i, m)?;
     Ok(Module {
         name,
