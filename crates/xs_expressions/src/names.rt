@@ -69,9 +69,9 @@ impl<'a> Names<'a> {
         ensures value { IfOk result (λ e. signal_of e ≡ leaf_signal (model_of self.now).symbols (copy_of self.now.current.now).variables (copy_of self.now.current.now).definitions (leaf_of name)) }
     {
         match name {
-            Flat::Var(i) => signal_at(alloc, g, &self.current.variables, i),
+            Flat::Var(i) => signal_at(g, &self.current.variables, i),
             Flat::Symbol(i) => symbol_signal(alloc, g, i, self.symbols),
-            Flat::Definition(i) => signal_at(alloc, g, &self.current.definitions, i),
+            Flat::Definition(i) => signal_at(g, &self.current.definitions, i),
         }
     }
 
@@ -84,11 +84,11 @@ impl<'a> Names<'a> {
 }
 
 /// The signal at a place, or FALSE where there is none.
-fn signal_at(alloc: Global, g: &Gates, signals: &SignalList, i: u32) -> Result<Signal, OutOfMemory>
+fn signal_at(g: &Gates, signals: &SignalList, i: u32) -> Result<Signal, OutOfMemory>
     ensures { IfOk result (λ e. signal_of e ≡ signal_or_false (slice_get (signals_of signals.now) i)) }
 {
     match signals.as_slice().get(i as usize) {
-        Some(signal) => signal.copy(alloc),
+        Some(signal) => signal.copy(),
         None => Ok(Signal::Bit(g.constant(false))),
     }
 }

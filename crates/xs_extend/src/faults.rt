@@ -2,6 +2,7 @@
 
 ghost use Rattle.std.specs.Prelude.{◌≡◌, [], ◌∷◌, ◌++◌, IfOk, OnOk, map, flat_map};
 ghost use Rattle.xs_fei.specs.Instructions.{instruction_tree, slice_tree, mode_tree, extension_tree};
+ghost use Rattle.xs_tree.specs.ProgramTree.{program_tree};
 ghost use Rattle.xs_tree.specs.Texts.{same_text};
 ghost use Rattle.xs_weave.specs.Woven.{own_slices};
 ghost use Rattle.xs_weave.specs.Faults.{slice_faults};
@@ -10,6 +11,7 @@ ghost use Rattle.xs_extend.specs.WovenFaults.{place_of, fault_tree, instance_fau
 use std::alloc::Global;
 use xs_fei::{Extension, Instructions, ModeRule, Slice};
 use xs_flat::Instance;
+use xs_scope::copy::copy_path;
 use xs_tree::Program;
 use xs_value::{Dotted, Items, Name, OutOfMemory};
 
@@ -43,7 +45,7 @@ pub fn woven_faults(
 {
     let mut faults = Items::new(alloc);
     for instance in instances {
-        add_instance(alloc, instance, i, &mut faults)?;
+        add_instance(instance, i, &mut faults)?;
     }
     Ok(faults)
 }
@@ -51,7 +53,6 @@ pub fn woven_faults(
 /// Appends the faults of an instance.
 #[tactic(auto, using(crate::proofs::FaultLaws::fault_rules))]
 fn add_instance(
-    alloc: Global,
     instance: &Instance,
     i: &Instructions,
     faults: &mut WovenFaultList,
@@ -59,14 +60,13 @@ fn add_instance(
     ensures { OnOk result (map fault_tree faults.new ≡ map fault_tree faults.old ++ instance_faults (instruction_tree i.now) instance.now) }
 {
     for extension in i.extensions.as_slice() {
-        add_extension(alloc, instance, extension, faults)?;
+        add_extension(instance, extension, faults)?;
     }
     Ok(())
 }
 
 #[tactic(auto, using(crate::proofs::FaultLaws::fault_rules))]
 fn add_extension(
-    alloc: Global,
     instance: &Instance,
     extension: &Extension,
     faults: &mut WovenFaultList,
@@ -74,7 +74,7 @@ fn add_extension(
     ensures { OnOk result (map fault_tree faults.new ≡ map fault_tree faults.old ++ flat_map (slice_faults (place_of instance.now.path)) (own_slices (extension_tree extension.now) instance.now.«module»)) }
 {
     if extends(extension, instance) {
-        return add_slices(alloc, instance, extension.slices.as_slice(), faults);
+        return add_slices(instance, extension.slices.as_slice(), faults);
     }
     Ok(())
 }
@@ -88,7 +88,6 @@ fn extends(extension: &Extension, instance: &Instance) -> bool
 
 #[tactic(auto, using(crate::proofs::FaultLaws::fault_rules))]
 fn add_slices(
-    alloc: Global,
     instance: &Instance,
     slices: &[Slice],
     faults: &mut WovenFaultList,
@@ -96,14 +95,13 @@ fn add_slices(
     ensures { OnOk result (map fault_tree faults.new ≡ map fault_tree faults.old ++ flat_map (slice_faults (place_of instance.now.path)) (map slice_tree slices.now)) }
 {
     for slice in slices {
-        add_slice(alloc, instance, slice, faults)?;
+        add_slice(instance, slice, faults)?;
     }
     Ok(())
 }
 
 #[tactic(auto, using(crate::proofs::FaultLaws::fault_rules))]
 fn add_slice(
-    alloc: Global,
     instance: &Instance,
     slice: &Slice,
     faults: &mut WovenFaultList,
@@ -111,30 +109,59 @@ fn add_slice(
     ensures { OnOk result (map fault_tree faults.new ≡ map fault_tree faults.old ++ slice_faults (place_of instance.now.path) (slice_tree slice.now)) }
 {
     for mode in slice.modes.as_slice() {
-        faults.push(woven_fault(alloc, instance, &slice.name, mode)?)?;
+        faults.push(woven_fault(instance, &slice.name, mode)?)?;
     }
     Ok(())
 }
 
 fn woven_fault(
-    alloc: Global,
     instance: &Instance,
     slice: &Name,
     mode: &ModeRule,
 ) -> Result<WovenFault, OutOfMemory>
     ensures { IfOk result (λ made. fault_tree made ≡ record { place = place_of instance.now.path; slice = slice.now; mode = mode.now.name }) }
 {
-    let path = copy_path(alloc, &instance.path)?;
+    let path = copy_path(&instance.path)?;
     let slice = slice.copy()?;
     let mode = mode.name.copy()?;
     Ok(WovenFault { path, slice, mode })
 }
 
-fn copy_path(alloc: Global, path: &Option<Dotted>) -> Result<Option<Dotted>, OutOfMemory>
-    ensures { IfOk result (λ made. made ≡ path.now) }
-{
-    match path {
-        Some(path) => Ok(Some(path.copy()?)),
-        None => Ok(None),
+impl Woven {
+    /// A copy of its own, which is the same program with the same faults.
+    pub fn copy(&self) -> Result<Woven, OutOfMemory>
+        ensures program { IfOk result (λ made. program_tree made.program ≡ program_tree self.now.program) }
+        ensures faults { IfOk result (λ made. made.faults ≡ self.now.faults) }
+    {
+        let program = self.program.copy()?;
+        let faults = copy_woven_faults(self.faults.allocator(), self.faults.as_slice())?;
+        Ok(Woven { program, faults })
     }
+}
+
+impl WovenFault {
+    /// A copy of its own, which is the same fault.
+    pub fn copy(&self) -> Result<WovenFault, OutOfMemory>
+        ensures { IfOk result (λ made. made ≡ self.now) }
+    {
+        Ok(WovenFault {
+            path: copy_path(&self.path)?,
+            slice: self.slice.copy()?,
+            mode: self.mode.copy()?,
+        })
+    }
+}
+
+/// A list of its own with a copy of each fault.
+pub fn copy_woven_faults(
+    alloc: Global,
+    faults: &[WovenFault],
+) -> Result<WovenFaultList, OutOfMemory>
+    ensures { IfOk result (λ made. made ≡ faults.now) }
+{
+    let mut made = Items::new(alloc);
+    for fault in faults {
+        made.push(fault.copy()?)?;
+    }
+    Ok(made)
 }

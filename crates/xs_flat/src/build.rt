@@ -142,7 +142,7 @@ fn push_instance(
 ) -> Result<(), OutOfMemory>
     ensures { OnOk result (map instance_tree instances.new ≡ map instance_tree instances.old ++ instance_in spot.now (Some names.now)) }
 {
-    let path = copy_path(alloc, &spot.path)?;
+    let path = copy_path(&spot.path)?;
     let module = names.module.name.copy()?;
     instances.push(Instance { path, module })
 }

@@ -78,14 +78,14 @@ impl Instance {
     pub fn copy(&self) -> Result<Instance, OutOfMemory>
         ensures { IfOk result (λ made. made ≡ self.now) }
     {
-        let path = copy_path(self.module.allocator(), &self.path)?;
+        let path = copy_path(&self.path)?;
         let module = self.module.copy()?;
         Ok(Instance { path, module })
     }
 }
 
 /// A copy of an instance's path; `main` has none.
-pub fn copy_path(alloc: Global, path: &Option<Dotted>) -> Result<Option<Dotted>, OutOfMemory>
+pub fn copy_path(path: &Option<Dotted>) -> Result<Option<Dotted>, OutOfMemory>
     ensures { IfOk result (λ made. made ≡ path.now) }
 {
     match path {
@@ -100,7 +100,7 @@ impl Variable {
         ensures { IfOk result (λ made. variable_tree made ≡ variable_tree self.now) }
     {
         let path = self.path.copy()?;
-        let declared = self.declared.copy(self.path.allocator())?;
+        let declared = self.declared.copy()?;
         Ok(Variable {
             path,
             role: self.role,

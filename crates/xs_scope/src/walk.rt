@@ -347,7 +347,7 @@ impl<'a> Walk<'a> {
         Ok(Variable {
             path: self.path_below(alloc, declaring.spot, &declaring.decl.name)?,
             role: declaring.role,
-            declared: declaring.decl.what.copy(alloc)?,
+            declared: declaring.decl.what.copy()?,
             item: declaring.item,
             instance: number_of(declaring.spot)?,
         })

@@ -28,11 +28,11 @@ pub fn choices(
     ensures { IfOk result (BuildsSignal g.old (chosen_gates width conditions.now (signals_of values.now) g.old) g.new) }
 {
     let mut left = conditions.len();
-    let last = values[left].copy(alloc)?;
+    let last = values[left].copy()?;
     let mut chosen = last.fitted(alloc, g, width)?;
     while left > 0 {
         left -= 1;
-        let value = values[left].copy(alloc)?;
+        let value = values[left].copy()?;
         chosen = choice(alloc, g, width, conditions[left], value, chosen)?;
     }
     Ok(chosen)

@@ -77,13 +77,13 @@ impl Signal {
     }
 
     /// A signal of its own with the same literals.
-    pub fn copy(&self, alloc: Global) -> Result<Signal, OutOfMemory>
+    pub fn copy(&self) -> Result<Signal, OutOfMemory>
         ensures { IfOk result (λ e. signal_of e ≡ signal_of self.now) }
     {
         match self {
             Signal::Bit(l) => Ok(Signal::Bit(*l)),
             Signal::Word(w) => {
-                let word = Items::from_slice(alloc, w.as_slice())?;
+                let word = w.copy()?;
                 Ok(Signal::Word(word))
             }
         }

@@ -62,23 +62,27 @@ impl Decl {
         ensures { IfOk result (λ made. decl_tree made ≡ decl_tree self.now) }
     {
         let name = self.name.copy()?;
-        let what = self.what.copy(self.name.allocator())?;
+        let what = self.what.copy()?;
         Ok(Decl { name, what })
     }
 }
 
 impl Declared {
     /// A copy of its own, which is the same type or instance.
-    pub fn copy(&self, alloc: Global) -> Result<Declared, OutOfMemory>
+    pub fn copy(&self) -> Result<Declared, OutOfMemory>
         ensures { IfOk result (λ made. declared_tree made ≡ declared_tree self.now) }
     {
         match self {
             Declared::Boolean => Ok(Declared::Boolean),
             Declared::Range(lo, hi) => Ok(Declared::Range(*lo, *hi)),
-            Declared::Members(list) => Ok(Declared::Members(copy_members(alloc, list.as_slice())?)),
+            Declared::Members(list) => {
+                let members = copy_members(list.allocator(), list.as_slice())?;
+                Ok(Declared::Members(members))
+            }
             Declared::Instance(module, actuals) => {
                 let module = module.copy()?;
-                Ok(Declared::Instance(module, copy_expressions(alloc, actuals.as_slice())?))
+                let actuals = copy_expressions(actuals.allocator(), actuals.as_slice())?;
+                Ok(Declared::Instance(module, actuals))
             }
         }
     }
@@ -86,7 +90,7 @@ impl Declared {
 
 impl Member {
     /// A copy of its own.
-    pub fn copy(&self, alloc: Global) -> Result<Member, OutOfMemory>
+    pub fn copy(&self) -> Result<Member, OutOfMemory>
         ensures { IfOk result (λ made. made ≡ self.now) }
     {
         match self {
@@ -186,7 +190,7 @@ pub fn copy_members(alloc: Global, members: &[Member]) -> Result<MemberList, Out
 {
     let mut made = Items::new(alloc);
     for member in members {
-        made.push(member.copy(alloc)?)?;
+        made.push(member.copy()?)?;
     }
     Ok(made)
 }

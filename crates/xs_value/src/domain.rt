@@ -1,8 +1,9 @@
-ghost use Rattle.std.specs.Prelude.{◌≡◌, ◌↔◌, IsTrue, nat_eq};
+ghost use Rattle.std.specs.Prelude.{◌≡◌, ◌↔◌, IsTrue, IfOk, nat_eq};
 ghost use Rattle.std.specs.Ordering.{int_eq};
 ghost use Rattle.xs_value.specs.Domains.{Has, IsCountable, count_of, different};
 
 use crate::items::Items;
+use crate::memory::OutOfMemory;
 use crate::value::Value;
 
 /// A list of numbers.
@@ -22,6 +23,18 @@ pub enum Domain {
 }
 
 impl Domain {
+    /// A domain of its own with the same values.
+    pub fn copy(&self) -> Result<Domain, OutOfMemory>
+        ensures { IfOk result (λ domain. domain ≡ self.now) }
+    {
+        match self {
+            Domain::Boolean => Ok(Domain::Boolean),
+            Domain::Range { lo, hi } => Ok(Domain::Range { lo: *lo, hi: *hi }),
+            Domain::Numbers(numbers) => Ok(Domain::Numbers(numbers.copy()?)),
+            Domain::Symbols(symbols) => Ok(Domain::Symbols(symbols.copy()?)),
+        }
+    }
+
     /// Whether the value is one of the domain's. Takes no memory.
     pub fn has(&self, value: Value) -> bool
         ensures { IsTrue result ↔ Has self.now value }

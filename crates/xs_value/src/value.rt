@@ -79,3 +79,29 @@ impl Valuation {
         })
     }
 }
+
+impl Items<Valuation> {
+    /// A list of its own with a copy of each moment.
+    pub fn copy(&self) -> Result<Items<Valuation>, OutOfMemory>
+        ensures { IfOk result (λ moments. moments ≡ self.now) }
+    {
+        let mut moments = Items::new(self.allocator());
+        for moment in self.as_slice() {
+            moments.push(moment.copy()?)?;
+        }
+        Ok(moments)
+    }
+}
+
+impl Items<Items<Valuation>> {
+    /// A list of its own with a copy of each trace.
+    pub fn copy(&self) -> Result<Items<Items<Valuation>>, OutOfMemory>
+        ensures { IfOk result (λ traces. traces ≡ self.now) }
+    {
+        let mut traces = Items::new(self.allocator());
+        for trace in self.as_slice() {
+            traces.push(trace.copy()?)?;
+        }
+        Ok(traces)
+    }
+}

@@ -7,7 +7,6 @@ ghost use Rattle.xs_fei.specs.Instructions.{instruction_tree, extension_tree, sl
 ghost use Rattle.xs_weave.specs.Woven.{type_of_kind};
 ghost use Rattle.xs_weave.specs.Lookups.{affects as affects_in, variable_type as variable_type_of, type_in_decls, type_in_defines, type_in_section};
 
-use std::alloc::Global;
 use xs_fei::{Extension, Instructions, Slice};
 use xs_tree::{Decl, Declared, Define, Module, Section};
 use xs_value::{Name, OutOfMemory};
@@ -57,13 +56,13 @@ fn is_target(slices: &[Slice], x: &Name) -> bool
 }
 
 /// The type of the variable that the name declares in the module.
-pub fn target_type(alloc: Global, m: &Module, x: &Name) -> Result<Declared, OutOfMemory>
+pub fn target_type(m: &Module, x: &Name) -> Result<Declared, OutOfMemory>
     ensures { IfOk result (λ made. declared_tree made ≡ type_of_kind (kind_in (module_tree m.now) x.now)) }
 {
     if has_formal(m, x) {
         return Ok(Declared::Boolean);
     }
-    declared_type(alloc, m, x)
+    declared_type(m, x)
 }
 
 fn has_formal(m: &Module, x: &Name) -> bool
@@ -72,10 +71,10 @@ fn has_formal(m: &Module, x: &Name) -> bool
     is_formal(m.formals.as_slice(), x)
 }
 
-fn declared_type(alloc: Global, m: &Module, x: &Name) -> Result<Declared, OutOfMemory>
+fn declared_type(m: &Module, x: &Name) -> Result<Declared, OutOfMemory>
     ensures { IfOk result (λ made. declared_tree made ≡ type_of_kind (kind_in_sections (map section_tree m.now.sections) x.now)) }
 {
-    type_among(alloc, m.sections.as_slice(), x)
+    type_among(m.sections.as_slice(), x)
 }
 
 #[tactic(auto, using(xs_effects::proofs::AllowedLaws::any_more))]
@@ -90,11 +89,11 @@ fn is_formal(formals: &[Name], x: &Name) -> bool
     false
 }
 
-fn type_among(alloc: Global, sections: &[Section], x: &Name) -> Result<Declared, OutOfMemory>
+fn type_among(sections: &[Section], x: &Name) -> Result<Declared, OutOfMemory>
     ensures { IfOk result (λ made. declared_tree made ≡ type_of_kind (kind_in_sections (map section_tree sections.now) x.now)) }
 {
     for section in sections {
-        let found = type_of_section(alloc, section, x)?;
+        let found = type_of_section(section, x)?;
         match found {
             Some(declared) => return Ok(declared),
             None => {}
@@ -104,17 +103,13 @@ fn type_among(alloc: Global, sections: &[Section], x: &Name) -> Result<Declared,
 }
 
 #[tactic(auto, unfolding(crate::specs::Lookups::type_in_section))]
-fn type_of_section(
-    alloc: Global,
-    section: &Section,
-    x: &Name,
-) -> Result<Option<Declared>, OutOfMemory>
+fn type_of_section(section: &Section, x: &Name) -> Result<Option<Declared>, OutOfMemory>
     ensures { IfOk result (λ found. option_map declared_tree found ≡ type_in_section (section_tree section.now) x.now) }
 {
     match section {
-        Section::Var(list) => type_of_decls(alloc, list.as_slice(), x),
-        Section::Ivar(list) => type_of_decls(alloc, list.as_slice(), x),
-        Section::Frozen(list) => type_of_decls(alloc, list.as_slice(), x),
+        Section::Var(list) => type_of_decls(list.as_slice(), x),
+        Section::Ivar(list) => type_of_decls(list.as_slice(), x),
+        Section::Frozen(list) => type_of_decls(list.as_slice(), x),
         Section::Define(list) => Ok(type_of_defines(list.as_slice(), x)),
         Section::Constants(_)
         | Section::Assign(_)
@@ -125,12 +120,12 @@ fn type_of_section(
 }
 
 #[tactic(auto, using(crate::proofs::LookupLaws::decls_more))]
-fn type_of_decls(alloc: Global, decls: &[Decl], x: &Name) -> Result<Option<Declared>, OutOfMemory>
+fn type_of_decls(decls: &[Decl], x: &Name) -> Result<Option<Declared>, OutOfMemory>
     ensures { IfOk result (λ found. option_map declared_tree found ≡ type_in_decls (map decl_tree decls.now) x.now) }
 {
     for decl in decls {
         if has_text(&decl.name, x) {
-            return Ok(Some(variable_type(alloc, &decl.what)?));
+            return Ok(Some(variable_type(&decl.what)?));
         }
     }
     Ok(None)
@@ -148,11 +143,11 @@ fn type_of_defines(defines: &[Define], x: &Name) -> Option<Declared>
     None
 }
 
-fn variable_type(alloc: Global, what: &Declared) -> Result<Declared, OutOfMemory>
+fn variable_type(what: &Declared) -> Result<Declared, OutOfMemory>
     ensures { IfOk result (λ made. declared_tree made ≡ variable_type_of (declared_tree what.now)) }
 {
     match what {
         Declared::Instance(_, _) => Ok(Declared::Boolean),
-        Declared::Boolean | Declared::Range(_, _) | Declared::Members(_) => what.copy(alloc),
+        Declared::Boolean | Declared::Range(_, _) | Declared::Members(_) => what.copy(),
     }
 }

@@ -131,7 +131,7 @@ fn add_slice(
     requires effects { SliceHasNegations s.now }
     ensures { OnOk result (map section_tree sections.new ≡ map section_tree sections.old ++ slice_sections (module_tree m.now) (slice_tree s.now)) }
 {
-    let declared = target_type(alloc, m, &s.target)?;
+    let declared = target_type(m, &s.target)?;
     let variables = slice_variables(alloc, &declared, s)?;
     let assignments = slice_assignments(alloc, &declared, s)?;
     sections.push(Section::Var(variables))?;
