@@ -25,7 +25,7 @@ mod list;
 mod weaving;
 
 pub use fault::{Cause, WeaveFault};
-pub use faults::{Woven, WovenFault, WovenFaultList, woven_faults};
+pub use faults::{Woven, WovenFault, WovenFaultList, copy_woven_faults, woven_faults};
 pub use laws::{
     good_is_judged, good_modes_are_judged, instances_are_listed, one_told, types_are_uniform,
 };

@@ -128,14 +128,13 @@ fn add_instance(
     ensures { OnOk result (map instance_tree instances.new ≡ map instance_tree instances.old ++ instance_told scene.now spot.now) }
 {
     match scene.modules.list.as_slice().get(spot.module) {
-        Some(names) => push_instance(alloc, spot, names, instances),
+        Some(names) => push_instance(spot, names, instances),
         None => Ok(()),
     }
 }
 
 /// Appends an instance of a module.
 fn push_instance(
-    alloc: Global,
     spot: &Spot<'_>,
     names: &Names<'_>,
     instances: &mut InstanceList,
