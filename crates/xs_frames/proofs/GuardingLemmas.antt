@@ -14,7 +14,7 @@ use Rattle.xs_system.specs.declared.system.System.{System}
 use Rattle.xs_frames.specs.Chain.{IsOverBits}
 use Rattle.xs_frames.specs.Framed.{frame_at, strengthened, IsFramed, Linked}
 use Rattle.xs_frames.specs.Guards.{under_guard, guards_next, IsOld, IsPut, AreGuarded}
-use Rattle.xs_frames.specs.Guarding.{added_in, IsWell, IsEmpty, HasPut, HasGuard, HasAsked, IsGuarding, AreGuarding, IsOverFrame, HasPlaces}
+use Rattle.xs_frames.specs.Guarding.{added_in, IsEmpty, HasPut, HasGuard, HasAsked, IsGuarding, AreGuarding, IsOverFrame, HasPlaces}
 use Rattle.xs_frames.specs.declared.guarded.Guarded.{Guarded}
 use Rattle.xs_frames.specs.declared.guarded.Queries.{Queries}
 use Rattle.xs_frames.proofs.Links.{length_strengthened, touched, untouched, link_at}

@@ -1,4 +1,4 @@
-use Rattle.std.proofs.Common.{◌≡◌, ◌∷◌, [], ◌∙◌, sym, ap, subst, slice_index_or, true, false, Bool, Result, Ok, Err, OnOk, List}
+use Rattle.std.proofs.Common.{◌≡◌, ◌∷◌, [], ◌∙◌, sym, ap, subst, slice_index_or, true, false, Result, Ok, Err, OnOk, List}
 use Rattle.std.specs.Result.{is_err}
 use Rattle.xs_lits.specs.Literal.{Literal}
 use Rattle.xs_frames.specs.Framed.{frame_at, IsFramed}
@@ -29,7 +29,7 @@ invariant_of-self c =
       fit = c.self.invariant.fit;
       framed = subst (IsFramed c.self.inside.system) (sym alone) (framed_first c.self.inside.system c.self.inside.frames.items c.self.invariant.framed);
       kept = λ ready.
-      subst (λ (fs : List (List (List Literal))). AreGuarding c.self.inside.system fs c.begin_again-answer.new.self)
-      (the_only c.truncate.new.self.items c.index.result.now (frame_at c.self.inside.frames.items 0) alone c.index.ensures)
-      (when_ok c.begin_again-answer.result (sym c.is_err-self-inside.ensures.value ∙ ready) c.begin_again-answer.ensures);
+          subst (λ (fs : List (List (List Literal))). AreGuarding c.self.inside.system fs c.begin_again-answer.new.self)
+          (the_only c.truncate.new.self.items c.index.result.now (frame_at c.self.inside.frames.items 0) alone c.index.ensures)
+          (when_ok c.begin_again-answer.result (sym c.is_err-self-inside.ensures.value ∙ ready) c.begin_again-answer.ensures);
     }
