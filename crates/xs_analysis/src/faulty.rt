@@ -84,6 +84,8 @@ impl<'a> Encoded for Faulty<'a> {
         Ok(system)
     }
 
+    fn is_searched(&self) {}
+
     fn bad_clauses(
         &self,
         alloc: Global,

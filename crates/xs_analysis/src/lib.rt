@@ -7,6 +7,9 @@
 //!
 //! The last moment of a trace gives no inputs: they get the least values of their domains.
 //!
+//! Frames know a model with its faults and no top event. So for many events of one model [`frames_of`] makes them once, and
+//! [`analyse_in`] searches in them for one event after another: the first states are learned once.
+//!
 //! ```text
 //! // full is plain with history for the faults; depth 4; any number of faults
 //! analyse(alloc, &plain, &full, &faults, &top, 4, faults.len() as u32, &mut panel)
@@ -16,4 +19,4 @@
 mod faulty;
 mod typed;
 
-pub use typed::analyse;
+pub use typed::{analyse, analyse_in, frames_of};

@@ -14,6 +14,7 @@ use xs_adviser::Panel;
 use xs_cuts::answer::Analysis;
 use xs_cuts::search;
 use xs_flat::{FaultList, Flat};
+use xs_frames::Frames;
 use xs_tree::Expr;
 use xs_types::Typed;
 use xs_value::OutOfMemory;
@@ -42,4 +43,55 @@ pub fn analyse(
         top,
     };
     search::analyse(alloc, &model, depth, size, panel)
+}
+
+/// The frames of a model with faults that a top event can be searched in. They know nothing of the event, and serve for
+/// every other of the model (see [`analyse_in`]).
+pub fn frames_of(
+    alloc: Global,
+    plain: &Typed,
+    full: &Typed,
+    faults: &FaultList,
+    top: &Expr<Flat>,
+) -> Result<Frames, OutOfMemory>
+    requires whole { model_tree full.now.model ≡ whole_of plain.now.model faults.now }
+    requires searchable { IsSearchable (model_tree plain.now.model) (modes_of faults.now) (flat_tree top.now) }
+    ensures { IfOk result (λ f. f.system ≡ system_of (whole_of plain.now.model faults.now)) }
+{
+    let model = Faulty {
+        plain,
+        full,
+        faults,
+        top,
+    };
+    let frames = search::frames_of(alloc, &model)?;
+    Ok(frames)
+}
+
+/// What `analyse` answers, found in frames of the model that may have served for other top events. What they learned of
+/// the first states stays, which holds whatever the top event is; the rest is learned anew.
+pub fn analyse_in(
+    alloc: Global,
+    plain: &Typed,
+    full: &Typed,
+    faults: &FaultList,
+    top: &Expr<Flat>,
+    depth: u32,
+    size: u32,
+    frames: &mut Frames,
+    panel: &mut Panel,
+) -> Result<Analysis, OutOfMemory>
+    requires whole { model_tree full.now.model ≡ whole_of plain.now.model faults.now }
+    requires searchable { IsSearchable (model_tree plain.now.model) (modes_of faults.now) (flat_tree top.now) }
+    requires system { frames.old.system ≡ system_of (whole_of plain.now.model faults.now) }
+    ensures system { frames.new.system ≡ frames.old.system }
+    ensures answer { IfOk result (IsAnswer (model_tree plain.now.model) (modes_of faults.now) (flat_tree top.now) (system_of (whole_of plain.now.model faults.now)) (state_of (whole_of plain.now.model faults.now)) (inputs_of (whole_of plain.now.model faults.now)) depth size) }
+{
+    let model = Faulty {
+        plain,
+        full,
+        faults,
+        top,
+    };
+    search::analyse_in(alloc, &model, depth, size, frames, panel)
 }

@@ -13,7 +13,7 @@ use Rattle.xs_solver.specs.KeptRecord.{KeptValue}
 use Rattle.xs_solver.specs.Kept.{added_of, HasLearned, IsRefuted}
 use Rattle.xs_solver.specs.Search.{IsSolution}
 use Rattle.xs_solver.specs.declared.solve.Verdict.TheVariants.{Sat, Unsat}
-use Rattle.xs_frames.specs.Guards.{guard_of, under_guard, unguarded}
+use Rattle.xs_frames.specs.Guards.{guard_of, unguarded}
 use Rattle.xs_frames.specs.Guarding.{added_in, IsWell, HasPut, HasAsked, Tells}
 use Rattle.xs_frames.specs.declared.guarded.Guarded.{Guarded}
 use Rattle.xs_frames.proofs.GuardLaws.{guarded_solution, guarded_core}

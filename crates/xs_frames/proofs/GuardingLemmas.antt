@@ -14,7 +14,7 @@ use Rattle.xs_system.specs.declared.system.System.{System}
 use Rattle.xs_frames.specs.Chain.{IsOverBits}
 use Rattle.xs_frames.specs.Framed.{frame_at, strengthened, IsFramed, Linked}
 use Rattle.xs_frames.specs.Guards.{under_guard, guards_next, IsOld, IsPut, AreGuarded}
-use Rattle.xs_frames.specs.Guarding.{added_in, IsWell, IsEmpty, HasPut, HasGuard, HasAsked, IsGuarding, AreGuarding, IsEnding, HasPlaces}
+use Rattle.xs_frames.specs.Guarding.{added_in, IsEmpty, HasPut, HasGuard, HasAsked, IsGuarding, AreGuarding, IsOverFrame, HasPlaces}
 use Rattle.xs_frames.specs.declared.guarded.Guarded.{Guarded}
 use Rattle.xs_frames.specs.declared.guarded.Queries.{Queries}
 use Rattle.xs_frames.proofs.Links.{length_strengthened, touched, untouched, link_at}
@@ -210,14 +210,14 @@ bits_up_to system g c p over = λ k d lt. below (slice_index_or c k d).var syste
   below x b u v le lt = omega (arith, le, lt)
 
 -- a search over bad states of one frame, with a clause more in the frame
-pub ending_put : (system : System) (bad frame : List (List Literal)) (c : List Literal) (old new : Guarded) → IsEnding system bad frame old → IsOverBits system c → HasPut old new (under_guard old.vars 0 c ∷ []) → IsEnding system bad (frame ++ c ∷ []) new
-ending_put system bad frame c old new e over p = record {
+pub over_frame_put : (system : System) (bad frame : List (List Literal)) (c : List Literal) (old new : Guarded) → IsOverFrame system bad frame old → IsOverBits system c → HasPut old new (under_guard old.vars 0 c ∷ []) → IsOverFrame system bad (frame ++ c ∷ []) new
+over_frame_put system bad frame c old new e over p = record {
   guarding = guarding_put bad (frame ∷ []) ((frame ++ c ∷ []) ∷ []) old new 0 c e.guarding (bits_up_to system old c e.places over) (put_strengthened 0 c (frame ∷ []) (omega arith)) p;
   places = places_stay system old new p.vars e.places;
 }
 
-pub ending_asked : (system : System) (bad frame : List (List Literal)) (old new : Guarded) → IsEnding system bad frame old → HasAsked old new → IsEnding system bad frame new
-ending_asked system bad frame old new e a = record {
+pub over_frame_asked : (system : System) (bad frame : List (List Literal)) (old new : Guarded) → IsOverFrame system bad frame old → HasAsked old new → IsOverFrame system bad frame new
+over_frame_asked system bad frame old new e a = record {
   guarding = guarding_asked bad (frame ∷ []) old new e.guarding a;
   places = places_stay system old new a.vars e.places;
 }

@@ -72,7 +72,7 @@ pub record AreGuarding (system : System) (frames : List (List (List Literal))) (
   pub step : IsGuarding system.step frames q.step
   pub step_places : HasPlaces system q.step
 
--- the search is over bad states of one frame
-pub record IsEnding (system : System) (bad : List (List Literal)) (frame : List (List Literal)) (g : Guarded) : Type 0 where
-  pub guarding : IsGuarding bad (frame ∷ []) g
+-- the search is over a list and one frame, and has the variables of states and inputs
+pub record IsOverFrame (system : System) (list : List (List Literal)) (frame : List (List Literal)) (g : Guarded) : Type 0 where
+  pub guarding : IsGuarding list (frame ∷ []) g
   pub places : HasPlaces system g

@@ -9,7 +9,8 @@ ghost use Rattle.xs_derive.specs.Derivation.{IsUpTo};
 ghost use Rattle.xs_derive.specs.Hints.{HasNoOpposites};
 ghost use Rattle.xs_frames.specs.Condition.{IsLow, IsFit};
 ghost use Rattle.xs_frames.specs.Guards.{unguarded, under_guard, guards_next};
-ghost use Rattle.xs_frames.specs.Guarding.{IsWell, IsEmpty, HasPut, HasGuard, HasAsked, Tells, IsGuarding, AreGuarding};
+ghost use Rattle.xs_frames.specs.Chain.{IsOverBits};
+ghost use Rattle.xs_frames.specs.Guarding.{IsWell, IsEmpty, HasPut, HasGuard, HasAsked, Tells, HasPlaces, IsGuarding, IsOverFrame, AreGuarding};
 
 use crate::query::highest;
 use std::alloc::Global;
@@ -66,6 +67,25 @@ impl Guarded {
         let mut empty = Guarded::empty(alloc, vars)?;
         empty.fill(list)?;
         Ok(empty)
+    }
+
+    /// A search over a list and the clauses of one frame.
+    pub fn over_frame(
+        alloc: Global,
+        system: &System,
+        list: &ClauseList,
+        frame: &ClauseList,
+    ) -> Result<Guarded, OutOfMemory>
+        requires fit { IsFit system.now }
+        requires list { All (All IsLow) list.now }
+        requires frame { All (IsOverBits system.now) frame.now }
+        ensures { IfOk result (λ g. IsOverFrame system.now list.now frame.now g) }
+    {
+        let mut over = Guarded::new(alloc, list, last_place(system))?;
+        for clause in frame.as_slice() {
+            over.add(0, clause)?;
+        }
+        Ok(over)
     }
 
     /// A search with no clause, over the variables up to one and the guard of one frame.
@@ -185,5 +205,23 @@ impl Queries {
             first: Guarded::new(alloc, &system.first, places)?,
             step: Guarded::new(alloc, &system.step, places)?,
         })
+    }
+
+    /// Makes the search over the steps anew, with one frame. The search over the first states knows no frame and stays, with
+    /// all that it has learned.
+    pub fn begin_again(
+        &mut self,
+        alloc: Global,
+        system: &System,
+        frame: &ClauseList,
+    ) -> Result<(), OutOfMemory>
+        requires fit { IsFit system.now }
+        requires frame { All (IsOverBits system.now) frame.now }
+        requires first { IsGuarding system.now.first ([] ∷ []) self.old.first }
+        requires places { HasPlaces system.now self.old.first }
+        ensures { OnOk result (AreGuarding system.now (frame.now ∷ []) self.new) }
+    {
+        self.step = Guarded::over_frame(alloc, system, &system.step, frame)?;
+        Ok(())
     }
 }

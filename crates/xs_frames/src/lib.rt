@@ -14,6 +14,10 @@
 //! once under the guard of the last frame in which it holds, and one over the bad states of a call of `clear`.
 //! So what they learn stays (`src/guarded.rt`, `specs/Guarding.antt`).
 //!
+//! The same frames serve for other bad states: `begin_again` goes back to the frontier 0, and keeps what was learned of the
+//! first states, in the outline and in the search over them. Both hold of every first state, whatever is bad; what was
+//! blocked in later frames goes, and so does the search over the bad states, which ends with each call of `clear`.
+//!
 //! ```text
 //! let mut frames = Frames::new(alloc, system)?;    // one bit that is false first and stays
 //! frames.clear(&bad, &mut panel)?                  // Clear: the bit is not true in a first state

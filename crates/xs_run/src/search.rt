@@ -17,12 +17,13 @@ use crate::loaded::LoadedCase;
 use crate::status::Status;
 use std::alloc::Global;
 use xs_adviser::Panel;
-use xs_analysis::analyse;
+use xs_analysis::{analyse, analyse_in, frames_of};
 use xs_cert::write;
 use xs_certify::certify;
 use xs_cuts::answer::{Analysis, End};
 use xs_cuts_extended::told;
 use xs_flat::Flat;
+use xs_frames::Frames;
 use xs_report::print_analysis;
 use xs_tree::Expr;
 use xs_value::{ByteList, Ending, OutOfMemory};
@@ -59,6 +60,16 @@ pub(crate) fn status_of(ending: Ending) -> Status
     }
 }
 
+/// Want of memory where a flat model has more symbols than a search has numbers for.
+fn count_symbols(case: &LoadedCase) -> Result<(), OutOfMemory>
+    ensures { OnOk result (length case.now.limited.typed.model.symbols < 2 ^ 31) }
+{
+    if case.limited.typed.model().symbols.len() >= MOST_SYMBOLS {
+        return Err(OutOfMemory);
+    }
+    Ok(())
+}
+
 /// The analysis of a case for a top event. More symbols than numbers of them are want of memory.
 pub fn analysed(
     alloc: Global,
@@ -76,10 +87,8 @@ pub fn analysed(
         (state_of (with_history (model_tree case.now.limited.typed.model) (map mode_of case.now.limited.faults)))
         (inputs_of (with_history (model_tree case.now.limited.typed.model) (map mode_of case.now.limited.faults))) depth size) }
 {
+    count_symbols(case)?;
     let limited = &case.limited;
-    if limited.typed.model().symbols.len() >= MOST_SYMBOLS {
-        return Err(OutOfMemory);
-    }
     analyse(
         alloc,
         &limited.typed,
@@ -88,6 +97,56 @@ pub fn analysed(
         top,
         depth,
         size,
+        panel,
+    )
+}
+
+/// Frames for the analyses of a case, one of whose top events is given. They know nothing of the event, and serve for all.
+pub(crate) fn frames_of_case(
+    alloc: Global,
+    case: &LoadedCase,
+    top: &Expr<Flat>,
+) -> Result<Frames, OutOfMemory>
+    requires whole { model_tree case.now.limited.full.model ≡ with_history (model_tree case.now.limited.typed.model) (map mode_of case.now.limited.faults) }
+    requires searchable { length case.now.limited.typed.model.symbols < 2 ^ 31 → IsSearchable (model_tree case.now.limited.typed.model) (map mode_of case.now.limited.faults) (flat_tree top.now) }
+    ensures { IfOk result (λ f. f.system ≡ system_of (with_history (model_tree case.now.limited.typed.model) (map mode_of case.now.limited.faults))) }
+{
+    count_symbols(case)?;
+    let limited = &case.limited;
+    frames_of(alloc, &limited.typed, &limited.full, &limited.faults, top)
+}
+
+/// What `analysed` answers, found in frames of the case that may have served for its other top events: only what holds of
+/// every first state is kept from these.
+pub(crate) fn analysed_in(
+    alloc: Global,
+    case: &LoadedCase,
+    top: &Expr<Flat>,
+    depth: u32,
+    size: u32,
+    frames: &mut Frames,
+    panel: &mut Panel,
+) -> Result<Analysis, OutOfMemory>
+    requires whole { model_tree case.now.limited.full.model ≡ with_history (model_tree case.now.limited.typed.model) (map mode_of case.now.limited.faults) }
+    requires searchable { length case.now.limited.typed.model.symbols < 2 ^ 31 → IsSearchable (model_tree case.now.limited.typed.model) (map mode_of case.now.limited.faults) (flat_tree top.now) }
+    requires system { frames.old.system ≡ system_of (with_history (model_tree case.now.limited.typed.model) (map mode_of case.now.limited.faults)) }
+    ensures system { frames.new.system ≡ frames.old.system }
+    ensures answer { IfOk result (IsAnswer (model_tree case.now.limited.typed.model) (map mode_of case.now.limited.faults) (flat_tree top.now)
+        (system_of (with_history (model_tree case.now.limited.typed.model) (map mode_of case.now.limited.faults)))
+        (state_of (with_history (model_tree case.now.limited.typed.model) (map mode_of case.now.limited.faults)))
+        (inputs_of (with_history (model_tree case.now.limited.typed.model) (map mode_of case.now.limited.faults))) depth size) }
+{
+    count_symbols(case)?;
+    let limited = &case.limited;
+    analyse_in(
+        alloc,
+        &limited.typed,
+        &limited.full,
+        &limited.faults,
+        top,
+        depth,
+        size,
+        frames,
         panel,
     )
 }

@@ -10,13 +10,14 @@ ghost use Rattle.xs_flattening.specs.Model.{IsFlatOf, EachBoth};
 ghost use Rattle.xs_flattening.specs.ResolvedAt.{IsResolvedAt};
 ghost use Rattle.xs_flattening.specs.Rules.{IsAccepted};
 ghost use Rattle.xs_woven_tops.specs.Tops.{KeepsValue};
+ghost use Rattle.xs_encoding.specs.Lists.{system_of};
 ghost use Rattle.xs_fmea.specs.Columns.{AreTold, NamesFaults};
 ghost use Rattle.xs_analysis_text.specs.Analysis.{told_ending};
 ghost use Rattle.xs_reporting.specs.ExtendedTraces.{Analysis};
 ghost use Rattle.xs_run.specs.Wrongs.{IfRefused};
 ghost use Rattle.xs_run.specs.Models.{IsLawful};
 ghost use Rattle.xs_run.specs.Inputs.{IsRefusedFile, HasBytes};
-ghost use Rattle.xs_run.specs.Cases.{IsTop, IsWrongTop, HoldsTops, HoldsCase};
+ghost use Rattle.xs_run.specs.Cases.{IsTop, IsWrongTop, HoldsTops, HoldsCase, whole_of};
 ghost use Rattle.xs_run.specs.Loaded.{case_of, IsLoaded};
 ghost use Rattle.xs_run.specs.Tables.{AreTopTexts, IsWrongList, IsFirstNoTop, IsWrongTops, RefusesTops, RefusesTable, IsEventOf, IsExtensible, IsColumn, AreColumns, ended_with_all, table_of, tabulated_case, tabulated_events, IsTabulable, HasTabulated, TabulatesInPart, told_at};
 ghost use Rattle.xs_run.specs.declared.status.InputFault.{InputFault};
@@ -28,7 +29,7 @@ ghost use Rattle.xs_run.specs.declared.wrong.Wrong.{Wrong};
 use crate::input::Stop;
 use crate::loaded::{LoadedCase, load_case};
 use crate::model::{LoadedModel, load_model};
-use crate::search::{analysed, size_of};
+use crate::search::{analysed_in, frames_of_case, size_of};
 use crate::status::{InputFault, Part, Refusal, Status};
 use crate::top::{judge_top, over_extension, top_stop};
 use crate::wrong::Wrong;
@@ -38,6 +39,7 @@ use xs_cuts_extended::told;
 use xs_desk::{Desk, DeskFault, WriteStop, read_whole, say_whole};
 use xs_flat::Flat;
 use xs_fmea::{Column, ColumnList, print_table, table};
+use xs_frames::Frames;
 use xs_parse::expressions;
 use xs_report::print_faults;
 use xs_tree::{Expr, ExprList};
@@ -280,7 +282,7 @@ pub(crate) fn deliver_table<D: Desk>(
     Ok(status_of_all(columns.as_slice()))
 }
 
-/// The columns of all top events, in their order.
+/// The columns of all top events, in their order. The frames in which they are searched are made once.
 fn columns_of(
     alloc: Global,
     asked: &Tabulating,
@@ -289,26 +291,49 @@ fn columns_of(
     requires { IsTabulable asked.now }
     ensures { IfOk result (AreColumns (tabulated_case asked.now) asked.now.depth (tabulated_events asked.now)) }
 {
+    let tops = asked.tops.over.as_slice();
+    if tops.is_empty() {
+        return Ok(ColumnList::new(alloc));
+    }
+    let mut frames = frames_of_case(alloc, &asked.case, &tops[0])?;
+    columns_in(alloc, asked, &mut frames, panel)
+}
+
+/// The columns of all top events, in their order, each searched in these frames.
+fn columns_in(
+    alloc: Global,
+    asked: &Tabulating,
+    frames: &mut Frames,
+    panel: &mut Panel,
+) -> Result<ColumnList, OutOfMemory>
+    requires able { IsTabulable asked.now }
+    requires system { frames.old.system ≡ system_of (whole_of (tabulated_case asked.now)) }
+    ensures { IfOk result (AreColumns (tabulated_case asked.now) asked.now.depth (tabulated_events asked.now)) }
+{
     let mut columns = ColumnList::new(alloc);
     for top in asked.tops.over.as_slice() {
-        columns.push(column_of(alloc, asked, top, panel)?)?;
+        columns.push(column_of(alloc, asked, top, frames, panel)?)?;
     }
     Ok(columns)
 }
 
-/// The column of a top event: what its analysis found, with the size of all faults.
+/// The column of a top event: what its analysis found, with the size of all faults. Of what the frames learned for other
+/// columns only what holds of every first state is used.
 fn column_of(
     alloc: Global,
     asked: &Tabulating,
     top: &Expr<Flat>,
+    frames: &mut Frames,
     panel: &mut Panel,
 ) -> Result<Column, OutOfMemory>
     requires able { IsExtensible (program_tree asked.now.model.program) asked.now.case }
     requires event { (e : Formula) × IsEventOf (tabulated_case asked.now) e (flat_tree top.now) }
-    ensures { IfOk result (λ column. (e : Formula) → IsEventOf (tabulated_case asked.now) e (flat_tree top.now) → IsColumn (tabulated_case asked.now) asked.now.depth e column) }
+    requires system { frames.old.system ≡ system_of (whole_of (tabulated_case asked.now)) }
+    ensures column { IfOk result (λ column. (e : Formula) → IsEventOf (tabulated_case asked.now) e (flat_tree top.now) → IsColumn (tabulated_case asked.now) asked.now.depth e column) }
+    ensures system { frames.new.system ≡ frames.old.system }
 {
     let size = size_of(None, asked.case.limited.faults.len());
-    let a = analysed(alloc, &asked.case, top, asked.depth, size, panel)?;
+    let a = analysed_in(alloc, &asked.case, top, asked.depth, size, frames, panel)?;
     let ending = told(&a.end);
     Ok(Column {
         sets: a.sets,

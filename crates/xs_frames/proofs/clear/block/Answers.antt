@@ -2,9 +2,9 @@ use Rattle.std.proofs.Common.{◌≡◌, ◌∷◌, [], ◌++◌, ◌+◌, ◌-�
 use Rattle.std.proofs.lemmas.Grind.{common_steps}
 use Rattle.xs_lits.specs.Literal.{Literal}
 use Rattle.xs_frames.specs.Framed.{frame_at, strengthened}
-use Rattle.xs_frames.specs.Guarding.{AreGuarding, IsEnding}
+use Rattle.xs_frames.specs.Guarding.{AreGuarding, IsOverFrame}
 use Rattle.xs_frames.proofs.Links.{length_strengthened}
-use Rattle.xs_frames.proofs.GuardingLemmas.{kept_put, ending_put, last_touched, last_untouched}
+use Rattle.xs_frames.proofs.GuardingLemmas.{kept_put, over_frame_put, last_touched, last_untouched}
 use Rattle.xs_frames.proofs.clear.block.Goals as goal
 
 some : (j n : ℕ) → j < n → 0 < n
@@ -23,7 +23,7 @@ returns-then-level-frames-clause-ends c =
     let inside : c.args.level + 1 < length c.args.frames.now = omega (arith, below, count) in
     let last : frame_at c.strengthen.new.frames (length c.strengthen.new.frames - 1) ≡ frame_at c.args.frames.now (length c.args.frames.now - 1) =
     ap (λ (fs : List (List (List Literal))). frame_at fs (length fs - 1)) ok ∙ last_untouched (c.args.level + 1) c.args.clause.now c.args.frames.now inside in
-    subst (λ (f : List (List Literal)). IsEnding c.args.system.now c.args.bad.now f c.args.ends.now) (sym last) c.requires.ends
+    subst (λ (f : List (List Literal)). IsOverFrame c.args.system.now c.args.bad.now f c.args.ends.now) (sym last) c.requires.ends
 
 pub returns-clause-kept : goal.returns-clause-kept
 returns-clause-kept c =
@@ -38,5 +38,5 @@ returns-clause-ends c =
     let all : length c.args.frames.now ≤ c.args.level + 1 = omega (arith, over, count) in
     let last : frame_at c.strengthen.new.frames (length c.strengthen.new.frames - 1) ≡ frame_at c.args.frames.now (length c.args.frames.now - 1) ++ c.args.clause.now ∷ [] =
     ap (λ (fs : List (List (List Literal))). frame_at fs (length fs - 1)) ok ∙ last_touched (c.args.level + 1) c.args.clause.now c.args.frames.now (some c.args.level (length c.args.frames.now) c.requires.level) all in
-    subst (λ (f : List (List Literal)). IsEnding c.args.system.now c.args.bad.now f c.add-2.new.self) (sym last)
-    (ending_put c.args.system.now c.args.bad.now (frame_at c.args.frames.now (length c.args.frames.now - 1)) c.args.clause.now c.args.ends.now c.add-2.new.self c.requires.ends c.requires.clause c.in_ok-add-2.ensures)
+    subst (λ (f : List (List Literal)). IsOverFrame c.args.system.now c.args.bad.now f c.add-2.new.self) (sym last)
+    (over_frame_put c.args.system.now c.args.bad.now (frame_at c.args.frames.now (length c.args.frames.now - 1)) c.args.clause.now c.args.ends.now c.add-2.new.self c.requires.ends c.requires.clause c.in_ok-add-2.ensures)

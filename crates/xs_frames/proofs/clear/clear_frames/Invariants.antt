@@ -1,6 +1,6 @@
 use Rattle.std.proofs.Common.{◌≡◌, ◌-◌, length}
 use Rattle.xs_frames.specs.Framed.{IsFramed, AreStronger, frame_at}
-use Rattle.xs_frames.specs.Guarding.{AreGuarding, IsEnding}
+use Rattle.xs_frames.specs.Guarding.{AreGuarding, IsOverFrame}
 use Rattle.xs_frames.specs.Path.{AreOwed}
 use Rattle.xs_frames.specs.Counted.{work_left}
 use Rattle.xs_frames.proofs.clear.clear_frames.Given as goal
@@ -12,7 +12,7 @@ invariant-looks g l = record {
   stronger : AreStronger l.system l.initial.frames l.frames;
   owed : AreOwed l.system l.bad l.frames l.owed;
   kept : AreGuarding l.system l.frames l.kept;
-  ends : IsEnding l.system l.bad (frame_at l.frames (length l.frames - 1)) l.ends;
+  ends : IsOverFrame l.system l.bad (frame_at l.frames (length l.frames - 1)) l.ends;
 }
 
 abbrev pub decreases-looks : goal.decreases-looks

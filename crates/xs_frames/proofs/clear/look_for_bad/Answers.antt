@@ -2,7 +2,7 @@ use Rattle.std.proofs.Common.{◌++◌, ◌∷◌, [], subst, arith, length, ◌
 use Rattle.xs_frames.specs.Chain.{IsOverBits}
 use Rattle.xs_frames.specs.Framed.{frame_at}
 use Rattle.xs_frames.specs.Query.{IsVerdict, IsModel, IsCore}
-use Rattle.xs_frames.proofs.GuardingLemmas.{ending_asked}
+use Rattle.xs_frames.proofs.GuardingLemmas.{over_frame_asked}
 use Rattle.xs_frames.proofs.LookLemmas.{bad_deeper, bad_nothing}
 use Rattle.xs_frames.proofs.clear.look_for_bad.Goals as goal
 
@@ -16,7 +16,7 @@ returns-in_ok-state_moment-in-Sat-clause-look g c =
     bad_deeper c.args.system.now (frame_at c.args.frames.now k) c.args.bad.now c.in-Sat.values c.in_ok-state_moment-in-Sat.field-0 over model c.in_ok-state_moment-in-Sat.ensures
 
 pub returns-in_ok-state_moment-in-Sat-clause-ends : goal.returns-in_ok-state_moment-in-Sat-clause-ends
-returns-in_ok-state_moment-in-Sat-clause-ends g c = ending_asked c.args.system.now c.args.bad.now (frame_at c.args.frames.now (length c.args.frames.now - 1)) c.args.ends.now c.ask.new.self c.requires.ends c.in_ok-values.ensures.asked
+returns-in_ok-state_moment-in-Sat-clause-ends g c = over_frame_asked c.args.system.now c.args.bad.now (frame_at c.args.frames.now (length c.args.frames.now - 1)) c.args.ends.now c.ask.new.self c.requires.ends c.in_ok-values.ensures.asked
 
 pub returns-in-Unsat-clause-look : goal.returns-in-Unsat-clause-look
 returns-in-Unsat-clause-look g c =
@@ -28,4 +28,4 @@ returns-in-Unsat-clause-look g c =
     bad_nothing c.args.system.now (frame_at c.args.frames.now k) c.args.bad.now c.in-Unsat._core over core
 
 pub returns-in-Unsat-clause-ends : goal.returns-in-Unsat-clause-ends
-returns-in-Unsat-clause-ends g c = ending_asked c.args.system.now c.args.bad.now (frame_at c.args.frames.now (length c.args.frames.now - 1)) c.args.ends.now c.ask.new.self c.requires.ends c.in_ok-values.ensures.asked
+returns-in-Unsat-clause-ends g c = over_frame_asked c.args.system.now c.args.bad.now (frame_at c.args.frames.now (length c.args.frames.now - 1)) c.args.ends.now c.ask.new.self c.requires.ends c.in_ok-values.ensures.asked

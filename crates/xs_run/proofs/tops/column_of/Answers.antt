@@ -12,13 +12,13 @@ size_of-size-requires g c =
     let counted = c.len.ensures in
     omega (arith, few, counted)
 
-pub analysed-requires-clause-searchable : goal.analysed-requires-clause-searchable
-analysed-requires-clause-searchable g c =
+pub analysed_in-requires-clause-searchable : goal.analysed_in-requires-clause-searchable
+analysed_in-requires-clause-searchable g c =
     let a = c.args.asked.now in
     event_searchable (program_tree a.model.program) a.case c.requires.able c.requires.event.0 (flat_tree c.args.top.now) c.requires.event.1
 
-pub returns : goal.returns
-returns g c e event =
+pub returns-clause-column : goal.returns-clause-column
+returns-clause-column g c e event =
     let a = c.args.asked.now in
     column_found (program_tree a.model.program) a.case c.requires.able e (flat_tree c.args.top.now) event a.depth c.in_ok-a.a c.len.result c.size_of-size.result c.len.ensures c.size_of-size.ensures
     c.in_ok-a.ensures.answer c.told-ending.result c.told-ending.ensures

@@ -3,7 +3,6 @@ use Rattle.xs_scope.specs.ModelTree.{model_tree, flat_tree}
 use Rattle.xs_frames.specs.Condition.{IsFit}
 use Rattle.xs_encoding.specs.Lists.{system_of}
 use Rattle.xs_encoded_search.proofs.Fitting.{lists_fit}
-use Rattle.xs_encoded_search.proofs.Serves.{lists_serve}
 use Rattle.xs_analysis.specs.Wholes.{modes_of}
 use Rattle.xs_analysis.proofs.faulty.FaultyEncoded.encode.Goals as goal
 
@@ -14,7 +13,3 @@ pub returns-clause-fit : goal.returns-clause-fit
 returns-clause-fit c =
     subst IsFit (sym (c.in_ok-system.ensures.exact ∙ ap system_of c.requires.whole))
     (lists_fit (model_tree c.args.self.now.plain.now.model) (modes_of c.args.self.now.faults.now) (flat_tree c.args.self.now.top.now) c.requires.searchable).0
-
-pub returns-clause-searched : goal.returns-clause-searched
-returns-clause-searched c =
-    (lists_serve (model_tree c.args.self.now.plain.now.model) (modes_of c.args.self.now.faults.now) (flat_tree c.args.self.now.top.now) c.requires.searchable.own c.requires.searchable.encodable).0

@@ -1,0 +1,12 @@
+use Rattle.std.proofs.Common.{◌≡◌, take}
+use Rattle.xs_tree.specs.ProgramTree.{Formula}
+use Rattle.xs_scope.specs.ModelTree.{flat_tree}
+use Rattle.xs_flattening.specs.Model.{EachBoth}
+use Rattle.xs_run.specs.Tables.{IsEventOf, IsColumn, tabulated_case}
+use Rattle.xs_run.proofs.tops.columns_in.Given as goal
+
+abbrev pub invariant-loop-top : goal.invariant-loop-top
+invariant-loop-top g l = record {
+  system : l.frames.system ≡ l.initial.frames.system;
+  columns : EachBoth (λ tree column. (e : Formula) → IsEventOf (tabulated_case l.asked) e (flat_tree tree) → IsColumn (tabulated_case l.asked) l.asked.depth e column) (take l.top-index l.top-items) l.columns;
+}
