@@ -1,0 +1,7 @@
+mod Differ
+mod Declared
+mod Places
+mod Slices
+pub mod Names
+mod Causes
+mod Examples
