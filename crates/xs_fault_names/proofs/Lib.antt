@@ -4,4 +4,5 @@ mod Places
 mod Slices
 pub mod Names
 mod Causes
+mod Accepted
 mod Examples
