@@ -15,7 +15,7 @@ use Rattle.xs_weave_rules.specs.Sites.{item_sites}
 use Rattle.xs_weave_rules.specs.Rules.{broken_at}
 use Rattle.xs_weave_rules.specs.FirstBroken.{AllKept}
 use Rattle.xs_causes.specs.CauseRules.{fault_path, IsStrikeOf}
-use Rattle.xs_fault_names.specs.Laws.{NamesDiffer, NamesTellFaults, NamesMeanOne}
+use Rattle.xs_fault_names.specs.Laws.{AreFaultsOf, NamesDiffer, NamesTellFaults, NamesMeanOne}
 use Rattle.xs_fault_names.proofs.Differ.{Differ, each_all, pairs_map, flat_differ, one_place}
 use Rattle.xs_fault_names.proofs.Places.{places_differ}
 use Rattle.xs_fault_names.proofs.Slices.{ModesDiffer, SlicesDiffer, slices_differ, modes_differ}
@@ -65,11 +65,11 @@ module _ (p : ProgramTree) (i : InstructionTree) (kept : AllKept (broken_at p) (
   faults_at places h =
       flat_differ Place Fault (λ at there. at ≢ there) IsAt (place_faults p i) place_at two_places places h (each_all (λ at. Differ (place_faults p i at)) places place_differ)
 
-pub faults_differ : (p : ProgramTree) (i : InstructionTree) (faults : List Fault) → IsAccepted p → AllKept (broken_at p) (item_sites i) → HasFaults p i faults → Differ faults
+faults_differ : (p : ProgramTree) (i : InstructionTree) (faults : List Fault) → IsAccepted p → AllKept (broken_at p) (item_sites i) → HasFaults p i faults → Differ faults
 faults_differ p i faults accepted kept h = subst (λ fs. Differ fs) (sym h.2) (faults_at p i kept h.0 (places_differ p (accepted_walkable p accepted) h.0 h.1))
 
 -- a name is the place, turned round, with a slice and a mode behind it
-turned : (f : Fault) → reverse (fault_path f) ≡ f.mode ∷ f.slice ∷ f.place
+pub turned : (f : Fault) → reverse (fault_path f) ≡ f.mode ∷ f.slice ∷ f.place
 turned f = reverse-append (reverse f.place) (f.slice ∷ f.mode ∷ []) ∙ ap (λ (at : Place). f.mode ∷ f.slice ∷ at) (reverse-reverse f.place)
 
 pub names_tell : NamesTellFaults
@@ -82,10 +82,11 @@ names_tell f g e = same (sym (turned f) ∙ ap reverse e ∙ turned g)
         let place : f.place ≡ g.place = cc in
         λ j. record { place = place j; slice = slice j; mode = mode j }
 
+pub paths_differ : (p : ProgramTree) (i : InstructionTree) (faults : List Fault) → AreFaultsOf p i faults → Differ (map fault_path faults)
+paths_differ p i faults h = pairs_map (λ f g. f ≢ g) (λ x y. x ≢ y) fault_path (λ f g n e. n (names_tell f g e)) faults (faults_differ p i faults h.accepted h.items_kept h.are_faults)
+
 pub names_differ : NamesDiffer
-names_differ p i faults h =
-    one_place (map fault_path faults)
-    (pairs_map (λ f g. f ≢ g) (λ x y. x ≢ y) fault_path (λ f g n e. n (names_tell f g e)) faults (faults_differ p i faults h.accepted h.items_kept h.are_faults))
+names_differ p i faults h = one_place (map fault_path faults) (paths_differ p i faults h)
 
 -- the name at a place
 get_map : (faults : List Fault) (k : ℕ) (f : Fault) → slice_get faults k ≡ Some f → slice_get (map fault_path faults) k ≡ Some (fault_path f)

@@ -1,7 +1,6 @@
 -- No two slices of a module have one name where no item of the instructions breaks a rule, and no two modes of a slice.
-use Rattle.std.proofs.Common.{◌≡◌, ◌≢◌, inl, Bool, true, false, List, [], ◌∷◌, ◌++◌, map, refl}
+use Rattle.std.proofs.Common.{◌≢◌, Bool, true, false, List, [], ◌∷◌, ◌++◌, map}
 use Rattle.std.specs.Prelude.{if◌then◌else◌}
-use Rattle.std.specs.List.{list_any}
 use Rattle.xs_tree.specs.ProgramTree.{Text, ProgramTree}
 use Rattle.xs_tree.specs.Texts.{same_text}
 use Rattle.xs_tree.specs.Trace.{Each}
@@ -9,35 +8,13 @@ use Rattle.xs_flattening.proofs.Lists.{each_more, each_of_map}
 use Rattle.xs_flattening.proofs.Reaches.{each_left, each_right}
 use Rattle.xs_flattening.proofs.Conditions.{each_join}
 use Rattle.xs_fei.specs.Instructions.{ModeTree, SliceTree, ExtensionTree, InstructionTree, slices_from, slices_of}
-use Rattle.xs_weave.specs.Weavable.{Among}
 use Rattle.xs_weave_rules.specs.Sites.{OwnedSlice, owned, mode_sites, item_sites}
 use Rattle.xs_weave_rules.specs.Rules.{broken_at}
 use Rattle.xs_weave_rules.specs.FirstBroken.{AllKept}
-use Rattle.xs_weave_rules.proofs.ProgramNames.{any_false}
-use Rattle.xs_weave_rules.proofs.KeptItems.{among_left, among_right, all_slices, AreKeptSlices, extensions_kept}
+use Rattle.xs_weave_rules.proofs.KeptItems.{all_slices, AreKeptSlices, extensions_kept}
 use Rattle.xs_weave_rules.proofs.KeptFacts.{slice_facts, mode_facts}
 use Rattle.xs_fault_names.proofs.Differ.{Pairwise, pairs_join, pairs_left, pairs_right, pairs_across, pairs_of_map}
-use Rattle.xs_fault_names.proofs.Declared.{differs}
-
--- each has a name that none before it has
-abbrev AreNew : {A : Type 0} → (A → Text) → List A → List A → Type 0
-AreNew name before [] = Unit {0}
-AreNew name before (x ∷ xs) = (list_any (λ b. same_text (name b) (name x)) before ≡ false) × AreNew name (before ++ x ∷ []) xs
-
--- a name that none of these has
-abbrev IsOther : {A : Type 0} → (A → Text) → List A → A → Type 0
-IsOther name before x = (b : _) → Among before b → name b ≢ name x
-
-new_differ : {A : Type 0} (name : A → Text) (before xs : List A) → AreNew name before xs → Pairwise (λ x y. name x ≢ name y) xs × Each (IsOther name before) xs
-new_differ name before [] h = (tt, tt)
-new_differ name before (x ∷ xs) h =
-    let later : Pairwise (λ x y. name x ≢ name y) xs × Each (IsOther name (before ++ x ∷ [])) xs = new_differ name (before ++ x ∷ []) xs h.1 in (
-      (each_more (IsOther name (before ++ x ∷ [])) (λ y. name x ≢ name y) xs (λ y f. f x (among_right before (x ∷ []) x (inl refl))) later.1, later.0),
-      (
-        (λ b a. differs (name b) (name x) (any_false (λ c. same_text (name c) (name x)) before b h.0 a)),
-        each_more (IsOther name (before ++ x ∷ [])) (IsOther name before) xs (λ y f b a. f b (among_left before (x ∷ []) b a)) later.1,
-      ),
-    )
+use Rattle.xs_fault_names.proofs.NewNames.{AreNew, new_differ}
 
 abbrev slice_name : OwnedSlice → Text
 slice_name o = o.slice.name

@@ -1,5 +1,5 @@
 -- That no two faults of an extension have one name, as statements.
-use Rattle.std.specs.Prelude.{◌≡◌, ℕ, List, Some, map, slice_get}
+use Rattle.std.specs.Prelude.{◌≡◌, ℕ, List, [], ◌∷◌, ◌++◌, Some, map, slice_get}
 use Rattle.xs_tree.specs.ProgramTree.{Path, ProgramTree}
 use Rattle.xs_flattening.specs.Rules.{IsAccepted}
 use Rattle.xs_fei.specs.Instructions.{InstructionTree}
@@ -9,7 +9,7 @@ use Rattle.xs_weave_rules.specs.Rules.{broken_at}
 use Rattle.xs_weave_rules.specs.FirstBroken.{AllKept}
 use Rattle.xs_causes.specs.Causes.{CommonCause}
 use Rattle.xs_causes.specs.CausesText.{WrittenCause}
-use Rattle.xs_causes.specs.CauseRules.{fault_path, IsStrikeOf, AreReadAs}
+use Rattle.xs_causes.specs.CauseRules.{fault_path, IsStrikeOf, AreReadAs, AreLawful}
 
 -- two places of the list with one path are one place
 abbrev pub StandOnce : List Path → Type 0
@@ -40,3 +40,9 @@ abbrev pub CausesReadAsOne : Type 0
 CausesReadAsOne =
     (p : ProgramTree) (i : InstructionTree) (faults : List Fault) → AreFaultsOf p i faults → (w : ProgramTree) (written : List WrittenCause) (cs ds : List CommonCause) →
     AreReadAs faults w written cs → AreReadAs faults w written ds → cs ≡ ds
+
+-- and no two events have one name, where those of causes have one part, and those of faults more
+abbrev pub EventNamesDiffer : Type 0
+EventNamesDiffer =
+    (p : ProgramTree) (i : InstructionTree) (faults : List Fault) → AreFaultsOf p i faults → (w : ProgramTree) (written : List WrittenCause) (cs : List CommonCause) →
+    AreLawful faults w written → AreReadAs faults w written cs → StandOnce (map fault_path faults ++ map (λ c. c.name ∷ []) cs)

@@ -1,5 +1,6 @@
 use Rattle.xs_fault_names.proofs.Names.{names_differ, names_tell, names_mean_one}
 use Rattle.xs_fault_names.proofs.Causes.{causes_read_as_one}
+use Rattle.xs_fault_names.proofs.Events.{event_names_differ}
 use Rattle.xs_fault_names.proofs.Examples.{lamps_have_two}
 use Rattle.xs_fault_names.proofs.names_of_faults_differ.Goals as goal
 
@@ -14,6 +15,9 @@ returns-clause-numbers c = names_mean_one
 
 pub returns-clause-causes : goal.returns-clause-causes
 returns-clause-causes c = causes_read_as_one
+
+pub returns-clause-events : goal.returns-clause-events
+returns-clause-events c = event_names_differ
 
 pub returns-clause-example : goal.returns-clause-example
 returns-clause-example c = lamps_have_two
