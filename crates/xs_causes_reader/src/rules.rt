@@ -22,9 +22,9 @@ use crate::texts::Texts;
 use crate::written::{Written, WrittenList};
 use std::alloc::Global;
 use xs_flat::{Fault, FaultList};
-use xs_staging::{Cause, CauseList, NumberList};
+use xs_staging::{Cause, CauseList};
 use xs_tree::Program;
-use xs_value::{Name, NameList, OutOfMemory};
+use xs_value::{FaultSet, Name, NameList, OutOfMemory};
 
 /// The most faults and causes together.
 const MOST_EVENTS: usize = 256;
@@ -195,10 +195,10 @@ fn strikes_of(
     alloc: Global,
     faults: &[Fault],
     names: &[NameList],
-) -> Result<NumberList, OutOfMemory>
+) -> Result<FaultSet, OutOfMemory>
     ensures { IfOk result (λ strikes. EachBoth (IsNumberOf (paths_of faults.now)) names.now strikes) }
 {
-    let mut strikes = NumberList::new(alloc);
+    let mut strikes = FaultSet::new(alloc);
     for name in names {
         strikes.push(fault_named(faults, name)?)?;
     }

@@ -1,8 +1,10 @@
 //! What a text of a certificate gives.
 
+ghost use Rattle.std.specs.Prelude.{◌≡◌, IfOk};
+
 use xs_derive::recorder::StepsList;
 use xs_lits::clause::ClauseList;
-use xs_value::{ByteList, Items, SetList};
+use xs_value::{ByteList, Items, OutOfMemory, SetList};
 
 /// The lines of one trace's text, without their line feeds.
 pub type LineList = Items<ByteList>;
@@ -24,6 +26,36 @@ pub struct Certificate {
     pub first: StepsList,
     pub next: StepsList,
     pub bad: StepsList,
+}
+
+impl Certificate {
+    /// A copy of its own, which is the same certificate.
+    pub fn copy(&self) -> Result<Certificate, OutOfMemory>
+        ensures { IfOk result (λ made. made ≡ self.now) }
+    {
+        Ok(Certificate {
+            bits: self.bits,
+            faults: self.faults,
+            size: self.size,
+            sets: self.sets.copy()?,
+            traces: copy_texts(&self.traces)?,
+            invariant: self.invariant.copy()?,
+            first: self.first.copy()?,
+            next: self.next.copy()?,
+            bad: self.bad.copy()?,
+        })
+    }
+}
+
+/// A list of its own with a copy of each text.
+pub fn copy_texts(texts: &TextList) -> Result<TextList, OutOfMemory>
+    ensures { IfOk result (λ made. made ≡ texts.now) }
+{
+    let mut made = Items::new(texts.allocator());
+    for lines in texts.as_slice() {
+        made.push(lines.copy()?)?;
+    }
+    Ok(made)
 }
 
 /// Why bytes are not taken for a certificate. Lines count from 1.

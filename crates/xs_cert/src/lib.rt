@@ -26,6 +26,6 @@ mod whole;
 mod words;
 mod writing;
 
-pub use certificate::{CertFault, Certificate, LineList, TextList};
+pub use certificate::{CertFault, Certificate, LineList, TextList, copy_texts};
 pub use whole::read;
 pub use writing::write;

@@ -1,6 +1,9 @@
 //! Columns, which are answers of analyses, and the table that is made of them.
 
-use xs_value::{Ending, Items, SetList};
+ghost use Rattle.std.specs.Prelude.{◌≡◌, IfOk};
+
+use std::alloc::Global;
+use xs_value::{Ending, Items, OutOfMemory, SetList};
 
 /// What an analysis found for a top event: the sets that reach it, and how it ended.
 #[derive(Drop)]
@@ -35,4 +38,40 @@ pub struct FmeaTable {
     pub rows: SetList,
     pub entries: EntryRows,
     pub endings: EndingList,
+}
+
+impl Column {
+    /// A copy of its own, which is the same column.
+    pub fn copy(&self) -> Result<Column, OutOfMemory>
+        ensures { IfOk result (λ made. made ≡ self.now) }
+    {
+        Ok(Column {
+            sets: self.sets.copy()?,
+            ending: self.ending,
+        })
+    }
+}
+
+/// A list of its own with a copy of each column.
+pub fn copy_columns(alloc: Global, columns: &[Column]) -> Result<ColumnList, OutOfMemory>
+    ensures { IfOk result (λ made. made ≡ columns.now) }
+{
+    let mut made = Items::new(alloc);
+    for column in columns {
+        made.push(column.copy()?)?;
+    }
+    Ok(made)
+}
+
+impl FmeaTable {
+    /// A copy of its own, which is the same table.
+    pub fn copy(&self) -> Result<FmeaTable, OutOfMemory>
+        ensures { IfOk result (λ made. made ≡ self.now) }
+    {
+        Ok(FmeaTable {
+            rows: self.rows.copy()?,
+            entries: self.entries.copy()?,
+            endings: self.endings.copy()?,
+        })
+    }
 }

@@ -21,7 +21,9 @@ mod entries;
 mod print;
 mod rows;
 
-pub use columns::{Column, ColumnList, EndingList, Entry, EntryList, EntryRows, FmeaTable};
+pub use columns::{
+    Column, ColumnList, EndingList, Entry, EntryList, EntryRows, FmeaTable, copy_columns,
+};
 pub use entries::table;
 pub use print::print_table;
 

@@ -1,6 +1,6 @@
 //! The units of faults, and the bound of a set of them.
 
-ghost use Rattle.std.specs.Prelude.{◌≡◌, ◌≤◌, ◌<◌, ◌-◌, ◌*◌, [], ◌∷◌, ◌++◌, All, length, slice_get, slice_index_or, Some, OnOk, OnErr};
+ghost use Rattle.std.specs.Prelude.{◌≡◌, ◌≤◌, ◌<◌, ◌-◌, ◌*◌, [], ◌∷◌, ◌++◌, All, length, slice_get, slice_index_or, Some, IfOk, OnOk, OnErr};
 ghost use Rattle.std.specs.Int.{div_ceil};
 ghost use Rattle.xs_odds.specs.Units.{one_in_units};
 ghost use Rattle.xs_odds.specs.Bounds.{Bounds, bound_of, multiplied, units_in};
@@ -50,6 +50,15 @@ impl OddsList {
     {
         self.units.push(units)?;
         Ok(())
+    }
+
+    /// A list of its own with the same units.
+    pub fn copy(&self) -> Result<OddsList, OutOfMemory>
+        ensures { IfOk result (λ odds. odds ≡ self.now) }
+    {
+        Ok(OddsList {
+            units: Vec::from_slice(*self.units.allocator(), &self.units)?,
+        })
     }
 
     /// For how many faults there are units.

@@ -1,9 +1,9 @@
 //! Common causes.
 
-use xs_value::{Items, Name};
+ghost use Rattle.std.specs.Prelude.{◌≡◌, IfOk};
 
-/// Numbers of faults, from 1.
-pub type NumberList = Items<u32>;
+use std::alloc::Global;
+use xs_value::{FaultSet, Items, Name, OutOfMemory};
 
 /// Common causes, in the order of their file.
 pub type CauseList = Items<Cause>;
@@ -15,5 +15,30 @@ pub struct Cause {
     pub name: Name,
     pub from: u32,
     pub to: u32,
-    pub strikes: NumberList,
+    pub strikes: FaultSet,
+}
+
+impl Cause {
+    /// A copy of its own, which is the same cause.
+    pub fn copy(&self) -> Result<Cause, OutOfMemory>
+        ensures { IfOk result (λ made. made ≡ self.now) }
+    {
+        Ok(Cause {
+            name: self.name.copy()?,
+            from: self.from,
+            to: self.to,
+            strikes: self.strikes.copy()?,
+        })
+    }
+}
+
+/// A list of its own with a copy of each cause.
+pub fn copy_causes(alloc: Global, causes: &[Cause]) -> Result<CauseList, OutOfMemory>
+    ensures { IfOk result (λ made. made ≡ causes.now) }
+{
+    let mut made = Items::new(alloc);
+    for cause in causes {
+        made.push(cause.copy()?)?;
+    }
+    Ok(made)
 }

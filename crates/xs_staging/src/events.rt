@@ -12,14 +12,14 @@ use crate::build::{
     binary, choice, falsehood, next, only, opposite, state, symbol, two_symbols, within,
     within_next,
 };
-use crate::cause::{Cause, NumberList};
+use crate::cause::Cause;
 use crate::names::numbered;
 use crate::staging::{in_window, stands};
 use std::alloc::Global;
 use xs_flat::{Fault, FaultList, Flat, FlatModel, Formula};
 use xs_scope::items::number_of;
 use xs_tree::{Expr, Op};
-use xs_value::{Dotted, OutOfMemory};
+use xs_value::{Dotted, FaultSet, OutOfMemory};
 
 /// Adds the event of each fault, under the causes with the numbers of their ages.
 pub(crate) fn add_own_events(
@@ -181,7 +181,7 @@ fn either(
 }
 
 /// Whether a list has a number.
-fn has_number(numbers: &NumberList, number: u32) -> bool
+fn has_number(numbers: &FaultSet, number: u32) -> bool
     ensures { result ≡ has_number_of numbers.now number }
 {
     numbers.as_slice().iter().any(|n| *n == number)

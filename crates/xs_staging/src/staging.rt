@@ -16,6 +16,7 @@ use crate::events::add_own_events;
 use crate::names::{joined, numbered};
 use std::alloc::Global;
 use xs_flat::{Fault, FaultList, Flat, FlatModel, Formula};
+use xs_scope::copy_faults;
 use xs_scope::items::number_of;
 use xs_tree::{Declared, Expr, Op};
 use xs_value::{Dotted, OutOfMemory};
@@ -25,6 +26,18 @@ use xs_value::{Dotted, OutOfMemory};
 pub struct Staged {
     pub model: FlatModel,
     pub events: FaultList,
+}
+
+impl Staged {
+    /// A copy of its own, which is the same model with the same events.
+    pub fn copy(&self) -> Result<Staged, OutOfMemory>
+        ensures model { IfOk result (λ made. model_tree made.model ≡ model_tree self.now.model) }
+        ensures events { IfOk result (λ made. made.events ≡ self.now.events) }
+    {
+        let model = self.model.copy()?;
+        let events = copy_faults(self.events.allocator(), self.events.as_slice())?;
+        Ok(Staged { model, events })
+    }
 }
 
 /// The model with causes that strike these faults. The events have the faults' names and the causes'.

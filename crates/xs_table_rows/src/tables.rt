@@ -25,7 +25,7 @@ fn a_table_of_two_columns_is_printed(rt: HostRuntime) -> Result<(), Fail> {
     let mut columns = ColumnList::new(rt.alloc());
     columns.push(both)?;
     columns.push(first)?;
-    let made = table(rt.alloc(), 2, 2, &columns)?;
+    let made = table(rt.alloc(), 2, 2, &columns)?.copy()?;
     let text = print_table(rt.alloc(), b"faults 2\n", 11, &made)?;
     assert_eq!(rt; text.as_slice(), PRINTED);
     Ok(())
