@@ -1,3 +1,4 @@
 pub mod RunLaws
 pub mod VerbLaws
 pub mod OneAnswer
+pub mod ShortLaws

@@ -1,24 +1,28 @@
 -- What a run of a further verb comes to: what words ask for is done, or refused, or a part of it stands.
-use Rattle.std.specs.Prelude.{◌≡◌, ◌⊎◌, List, IfSome, codes}
+use Rattle.std.specs.Prelude.{◌≡◌, ◌⊎◌, ℕ, ◌+◌, ◌^◌, ◌<◌, List, [], IfSome, codes}
 use Rattle.xs_desk.specs.declared.files.NamedFile.{NamedFile}
 use Rattle.xs_desk.specs.Desk.{SaysPrefix}
+use Rattle.xs_flattening.specs.History.{with_history}
+use Rattle.xs_kinds.specs.Costs.{state_bits}
 use Rattle.xs_tree.specs.ProgramTree.{Text}
 use Rattle.xs_reach_words.specs.Commands.{Command, causes, check_causes, orders, check_orders, odds}
 use Rattle.xs_reach_words.specs.Meaning.{Means, BreaksFirst}
 use Rattle.xs_reach_words.specs.Seen.{rule_of, place_of}
 use Rattle.xs_reach_words.specs.Sets.{numbers_of}
 use Rattle.xs_reach_words.specs.declared.fault.WordFault.{WordFault}
-use Rattle.xs_run.specs.Answered.{Told, Said}
+use Rattle.xs_run.specs.Answered.{Told, Said, bits_of}
+use Rattle.xs_run.specs.Cases.{Case, HoldsCase}
 use Rattle.xs_reach_status.specs.declared.status.Refusal.{Refusal}
 use Rattle.xs_reach_status.specs.declared.status.Refusal.TheVariants as refusal
 use Rattle.xs_reach_status.specs.declared.status.Status.{Status}
 use Rattle.xs_reach_status.specs.declared.status.Status.TheVariants as status
 use Rattle.xs_reach_status.specs.Statuses.{refusal_text}
 use Rattle.xs_find_odds.specs.Odds.{RefusesOdds, HasOdds, SaysOddsInPart}
-use Rattle.xs_find_causes.specs.Causes.{HasFoundCauses, FindsCausesInPart, HasCheckedCauses, ChecksCausesInPart}
+use Rattle.xs_find_causes.specs.declared.staged.StagedEvent.{StagedEvent}
+use Rattle.xs_find_causes.specs.Causes.{staged_in, events_in, HoldsStaged, HasFoundCauses, FindsCausesInPart, HasCheckedCauses, ChecksCausesInPart}
 use Rattle.xs_find_causes.specs.Refusals.{RefusesStaged, RefusesCauseCheck}
-use Rattle.xs_find_orders.specs.Pairs.{RefusesPair}
-use Rattle.xs_find_orders.specs.Orders.{HasOrder, OrdersInPart, RefusesCheck, AcceptsOrder, HasCheckedOrder}
+use Rattle.xs_find_orders.specs.Pairs.{RefusesPair, HoldsPair}
+use Rattle.xs_find_orders.specs.Orders.{staged_of, HasOrder, OrdersInPart, RefusesCheck, AcceptsOrder, HasCheckedOrder}
 
 -- what the command asks for was done
 abbrev pub IsDone : Command → List NamedFile → Status → Told → Told → Said → Said → Type 0
@@ -29,6 +33,17 @@ IsDone (orders model faults top set first second depth cert) files s before afte
 IsDone (check_orders model faults top set first second claim cert) files s before after said now =
     HasCheckedOrder files model faults top (numbers_of set) first second claim cert s said now × (after ≡ before)
 IsDone (odds model faults top depth) files s before after said now = HasOdds files model faults top depth s said now × (after ≡ before)
+
+-- A bounded answer is bounded by the depth that was asked for, which is below two more than the number of states that the bits of the
+-- searched model allow: of the extension with the history of its faults, or of what is staged. A check is never bounded.
+abbrev pub IsShort : Command → List NamedFile → ℕ → Type 0
+IsShort (causes model faults file top depth cert) files k =
+    (l : StagedEvent) × HoldsStaged files model faults file top l × (k ≡ depth) × (k < 2 ^ state_bits (with_history (staged_in l) (events_in l)) + 2)
+IsShort (check_causes model faults file top cert) files k = ⊥
+IsShort (orders model faults top set first second depth cert) files k =
+    (c : Case) × HoldsPair files model faults (numbers_of set) first second c × (k ≡ depth) × (k < 2 ^ state_bits (with_history (staged_of c first second) []) + 2)
+IsShort (check_orders model faults top set first second claim cert) files k = ⊥
+IsShort (odds model faults top depth) files k = (c : Case) × HoldsCase files model faults c × (k ≡ depth) × (k < 2 ^ bits_of c + 2)
 
 -- a part of that stands: at most a beginning of what would be written and said
 abbrev pub IsDoneInPart : Command → List NamedFile → Told → Told → Said → Said → Type 0

@@ -12,7 +12,7 @@ ghost use Rattle.xs_reach_status.specs.declared.status.Refusal.TheVariants as re
 ghost use Rattle.xs_reach_status.specs.declared.stop.Stop.TheVariants as stops;
 ghost use Rattle.xs_reach_status.specs.Statuses.{refusal_text};
 ghost use Rattle.xs_reach_status.specs.Finished.{IsFinished, IsAnswer};
-ghost use Rattle.xs_reach.specs.Runs.{IsDone, RefusesCommand, IsLeft};
+ghost use Rattle.xs_reach.specs.Runs.{IsDone, IsShort, RefusesCommand, IsLeft};
 
 use crate::verbs::carry_out;
 use std::alloc::Global;
@@ -39,6 +39,8 @@ pub fn run<D: Desk>(alloc: Global, words: &[&str], desk: &mut D) -> Status
     // A run that has finished has done what the words ask for.
     ensures finished { (c : Asked) → Means (texts words.now) c → IsFinished result →
         IfSome (D.files desk.old) (λ files. IsDone c files result (D.files desk.old) (D.files desk.new) (D.said desk.old) (D.said desk.new)) }
+    // It is bounded only by the depth, and never where the depth is two more than the number of states, or above that.
+    ensures bounded { (c : Asked) (k : ℕ) → Means (texts words.now) c → result ≡ Status.Bounded k → IfSome (D.files desk.old) (λ files. IsShort c files k) }
     // One that is refused has said the line of the rule that is broken first, and changed no file.
     ensures refused { (c : Asked) (r : Refusal) → Means (texts words.now) c → result ≡ Status.Refused r → IfSome (D.files desk.old) (λ files. RefusesCommand c files r) }
     // No other rule is: words whose files break one are refused by it, unless the desk fails or memory runs out.

@@ -1,14 +1,18 @@
-use Rattle.std.proofs.Common.{Err, ◌≡◌, ap, ◌∙◌}
+use Rattle.std.proofs.Common.{Err, ◌≡◌, inr, ap, ◌∙◌}
 use Rattle.xs_desk.specs.Desk.{said_more}
 use Rattle.xs_reach_words.specs.Seen.{texts, seen}
 use Rattle.xs_reach_status.specs.Statuses.{refusal_text}
 use Rattle.xs_reach_status.specs.declared.status.Refusal.TheVariants as refused
 use Rattle.xs_reach.proofs.RunLaws.{done_for, refused_for, refused_unfinished, answer_refused, finished_kept, told_after, unstopped, left_at_words, left_at_stop}
 use Rattle.xs_reach.proofs.OneAnswer.{refused_exactly}
+use Rattle.xs_reach.proofs.ShortLaws.{short_of}
 use Rattle.xs_reach.proofs.reach.run.Goals as goal
 
 pub returns-in-Err-clause-finished : goal.returns-in-Err-clause-finished
 returns-in-Err-clause-finished g c command means finished = absurd (refused_unfinished c.refuse.result (refused.Words c.in-Err.fault) c.refuse.ensures.ends finished)
+
+pub returns-in-Err-clause-bounded : goal.returns-in-Err-clause-bounded
+returns-in-Err-clause-bounded g c command k means is = absurd (refused_unfinished c.refuse.result (refused.Words c.in-Err.fault) c.refuse.ensures.ends (inr (k, is)))
 
 pub returns-in-Err-clause-refused : goal.returns-in-Err-clause-refused
 returns-in-Err-clause-refused g c command r means is = absurd (c.read_words.ensures.apart command _ _ means c.in-Err.ensures.fault)
@@ -29,6 +33,12 @@ pub returns-in-Ok-carry_out-clause-finished : goal.returns-in-Ok-carry_out-claus
 returns-in-Ok-carry_out-clause-finished g c command means finished =
     done_for _ (texts c.args.words.now) (seen c.in-Ok.command) command c.in-Ok-carry_out.status _ _ _ _ c.read_words.ensures.one_command c.in-Ok.ensures.ok means (c.in-Ok-carry_out.ensures.done (texts c.args.words.now) c.in-Ok.ensures.ok)
 
+pub returns-in-Ok-carry_out-clause-bounded : goal.returns-in-Ok-carry_out-clause-bounded
+returns-in-Ok-carry_out-clause-bounded g c command k means is =
+    short_of _ command c.in-Ok-carry_out.status _ _ _ _ k
+    (done_for _ (texts c.args.words.now) (seen c.in-Ok.command) command c.in-Ok-carry_out.status _ _ _ _ c.read_words.ensures.one_command c.in-Ok.ensures.ok means (c.in-Ok-carry_out.ensures.done (texts c.args.words.now) c.in-Ok.ensures.ok))
+    is
+
 pub returns-in-Ok-carry_out-clause-refused : goal.returns-in-Ok-carry_out-clause-refused
 returns-in-Ok-carry_out-clause-refused g c command r means is = absurd (finished_kept c.in-Ok-carry_out.status r c.in-Ok-carry_out.ensures.finished is)
 
@@ -47,6 +57,9 @@ returns-in-Ok-carry_out-clause-words g c rule place broken answer = absurd (c.re
 
 pub returns-in-Err-carry_out-clause-finished : goal.returns-in-Err-carry_out-clause-finished
 returns-in-Err-carry_out-clause-finished g c command means finished = absurd (c.stopped.ensures.ended finished)
+
+pub returns-in-Err-carry_out-clause-bounded : goal.returns-in-Err-carry_out-clause-bounded
+returns-in-Err-carry_out-clause-bounded g c command k means is = absurd (c.stopped.ensures.ended (inr (k, is)))
 
 pub returns-in-Err-carry_out-clause-refused : goal.returns-in-Err-carry_out-clause-refused
 returns-in-Err-carry_out-clause-refused g c command r means is =
