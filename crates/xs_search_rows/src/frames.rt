@@ -150,9 +150,11 @@ fn numbers_of(
 fn explore(
     rt: &impl Abort,
     alloc: Global,
-    frames: &mut Frames,
+    system: System,
     bad: &ClauseList,
 ) -> Result<Ending, OutOfMemory> {
+    assert!(rt; can_frame(&system));
+    let mut frames = Frames::new(alloc, system)?;
     let mut panel = Panel::new(Vec::new(alloc));
     for _ in 0..10 {
         assert!(rt; frames.can_clear(bad));
@@ -168,18 +170,6 @@ fn explore(
     Ok(Ending::Open)
 }
 
-// The same in new frames of a system.
-fn explore_system(
-    rt: &impl Abort,
-    alloc: Global,
-    system: System,
-    bad: &ClauseList,
-) -> Result<Ending, OutOfMemory> {
-    assert!(rt; can_frame(&system));
-    let mut frames = Frames::new(alloc, system)?;
-    explore(rt, alloc, &mut frames, bad)
-}
-
 // The search through the frames of the system of this name ends with a path of these numbers.
 fn reaches(
     rt: &impl Abort,
@@ -191,7 +181,7 @@ fn reaches(
 ) -> Result<(), OutOfMemory> {
     let bits = u64::from(system.state_bits);
     let inputs = u64::from(system.input_bits);
-    match explore_system(rt, alloc, system, bad)? {
+    match explore(rt, alloc, system, bad)? {
         Ending::Reached(path) => {
             let found = numbers_of(rt, alloc, &path, bits, inputs)?;
             assert_eq!(rt; found.as_slice(), numbers, "{name}");
@@ -211,7 +201,7 @@ fn never_reaches(
     bad: &ClauseList,
     most: usize,
 ) -> Result<(), OutOfMemory> {
-    match explore_system(rt, alloc, system, bad)? {
+    match explore(rt, alloc, system, bad)? {
         Ending::Never(frontier) => assert!(rt; frontier <= most, "{name}: {frontier}"),
         _ => assert!(rt; false, "{name} does not end"),
     }
@@ -277,29 +267,11 @@ fn try_one_bit(rt: &impl Abort, alloc: Global) -> Result<(), OutOfMemory> {
     reaches(rt, alloc, "a bit that is moved", moved, &bad, &[2, 1])
 }
 
-// The counter in frames that begin again for one number after another: each with the moments of its path, or none.
-fn try_again(rt: &impl Abort, alloc: Global) -> Result<(), OutOfMemory> {
-    let counter = by_table(rt, alloc, 3, 0, &[1, 2, 3, 4, 0, 6, 7, 0])?;
-    assert!(rt; can_frame(&counter));
-    let mut frames = Frames::new(alloc, counter)?;
-    for (number, moments) in [(6, 0), (4, 5), (0, 1), (5, 0), (3, 4)] {
-        let bad = state_is(rt, alloc, 3, number)?;
-        frames.begin_again()?;
-        assert_eq!(rt; frames.frontier(), 0, "{number}");
-        match explore(rt, alloc, &mut frames, &bad)? {
-            Ending::Reached(path) => assert_eq!(rt; path.len(), moments, "{number}"),
-            _ => assert_eq!(rt; moments, 0, "{number}"),
-        }
-    }
-    Ok(())
-}
-
 #[test]
 fn small_systems_end(rt: HostRuntime) -> Result<(), Fail> {
     let alloc = rt.alloc();
     try_tables(&rt, alloc)?;
     try_one_bit(&rt, alloc)?;
-    try_again(&rt, alloc)?;
     for cells in [8, 20, 40] {
         let lit = list_of(&rt, alloc, &[&[8]])?;
         never_reaches(&rt, alloc, "a ring", ring(&rt, alloc, cells)?, &lit, 9)?;
