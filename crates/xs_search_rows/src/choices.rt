@@ -9,7 +9,7 @@ use xs_solver::choose::{choose, least_free};
 // The code of the literal that is chosen, or 0 where no variable is free.
 fn chosen(rt: &impl Abort, panel: &mut Panel, assign: &Assign) -> u64 {
     assert!(rt; assign.vars() < 100);
-    match least_free(assign) {
+    match least_free(assign, 1) {
         Some(_) => choose(panel, assign).code(),
         None => 0,
     }
