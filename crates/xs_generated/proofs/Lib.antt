@@ -1,0 +1,9 @@
+pub mod Stages
+pub mod Meanings
+pub mod Items
+pub mod Accepted
+pub mod Truths
+pub mod Expressions
+pub mod Roots
+pub mod Typed
+pub mod Top
