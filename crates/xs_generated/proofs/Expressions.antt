@@ -1,15 +1,15 @@
 -- Every expression that a program of stages has under a key is made of names, TRUE, `!` and `&`.
 use Rattle.std.proofs.Common.{◌≡◌, ℕ, zero, suc, ◌≤◌, arith, Bool, true, false, List, [], ◌∷◌, Option, Some, None, refl, subst}
 use Rattle.std.specs.Prelude.{codes}
-use Rattle.xs_tree.specs.ProgramTree.{Text, Formula, ModuleTree, ProgramTree}
+use Rattle.xs_tree.specs.ProgramTree.{Text, Formula, DeclaredTree, boolean, range, members, instance, DeclTree, SectionTree, ModuleTree, ProgramTree}
 use Rattle.xs_tree.specs.Texts.{same_text}
-use Rattle.xs_tree.specs.Scope.{Place, Kind, a_formal, a_variable, a_define, an_instance, undeclared, state, find_module, kind_in_decls, kind_in_defines, kind_in, kind_at, module_of_kind, module_at, nth_formula, actual_of_kind, Key, define_key, actual_key}
+use Rattle.xs_tree.specs.Scope.{Place, Role, Kind, a_formal, a_variable, a_define, an_instance, undeclared, state, find_module, formal_from, kind_declared, kind_in_decls, kind_in_defines, kind_in_sections, kind_after_formals, kind_in, kind_at, module_of_kind, module_at, nth_formula, actual_of_kind, Key, define_key, actual_key}
 use Rattle.xs_tree.specs.Trace.{Each}
 use Rattle.xs_flattening.specs.Rules.{expression_of_kind, expression_in, expression_of}
 use Rattle.xs_flattening.proofs.EndLaws.{never_some}
 use Rattle.xs_kinds.specs.Costs.{cost_of}
-use Rattle.xs_generate.specs.Generator.{stage_name, output_of, relay_module, dead_formula}
-use Rattle.xs_generated.proofs.Stages.{stages_from, main_of, program_of}
+use Rattle.xs_generate.specs.Generator.{stage_name, output_of, dead_formula}
+use Rattle.xs_generated.proofs.Stages.{stages_from, main_of, relay_with, relay_sections, program_with}
 use Rattle.xs_generated.proofs.Truths.{IsLogic}
 
 abbrev pub IsCheapLogic : Formula → Type 0
@@ -25,7 +25,7 @@ output_cheap f = ((output_logic f).0, omega (arith, (output_logic f).1))
 pub dead_logic : (last_a last_b : Option ℕ) → IsCheapLogic (dead_formula last_a last_b)
 dead_logic last_a last_b = ((tt, (output_logic last_a).0, (output_logic last_b).0), omega (arith, (output_logic last_a).1, (output_logic last_b).1))
 
-abbrev IsLogicKind : Kind → Type 0
+abbrev pub IsLogicKind : Kind → Type 0
 IsLogicKind (a_define e) = IsCheapLogic e
 IsLogicKind (an_instance m actuals) = Each IsCheapLogic actuals
 IsLogicKind (a_formal i) = Unit {0}
@@ -51,16 +51,31 @@ defines_logic last_a last_b x = by_test (same_text (codes "dead") x) refl
     by_test true e = rw e (dead_logic last_a last_b)
     by_test false e = rw e tt
 
-relay_logic : (x : Text) → IsLogicKind (kind_in relay_module x)
-relay_logic x = by_formal (same_text (codes "feed") x) refl
-  where
-    by_out : (b : Bool) → same_text (codes "feed") x ≡ false → same_text (codes "out") x ≡ b → IsLogicKind (kind_in relay_module x)
-    by_out true h e = rw (h, e) tt
-    by_out false h e = rw (h, e) tt
+-- no instance
+abbrev IsOfVariable : DeclTree → Type 0
+IsOfVariable d = elim d.what [ boolean ↦ Unit {0} | range lo hi ↦ Unit {0} | members ms ↦ Unit {0} | instance m actuals ↦ ⊥ ]
 
-    by_formal : (b : Bool) → same_text (codes "feed") x ≡ b → IsLogicKind (kind_in relay_module x)
-    by_formal true e = rw e tt
-    by_formal false e = by_out (same_text (codes "out") x) e refl
+variable_logic : (role : Role) (name : Text) (what : DeclaredTree) → IsOfVariable (record { name = name; what = what }) → IsLogicKind (kind_declared role what)
+variable_logic role name boolean h = tt
+variable_logic role name (range lo hi) h = tt
+variable_logic role name (members ms) h = tt
+variable_logic role name (instance m actuals) h = absurd h
+
+pub variables_logic : (role : Role) (ds : List DeclTree) (x : Text) (otherwise : Kind) → Each IsOfVariable ds → IsLogicKind otherwise → IsLogicKind (kind_in_decls role ds x otherwise)
+variables_logic role [] x otherwise h k = k
+variables_logic role (d ∷ ds) x otherwise h k = by_test (same_text d.name x) refl (variables_logic role ds x otherwise h.1 k)
+  where
+    by_test : (b : Bool) → same_text d.name x ≡ b → IsLogicKind (kind_in_decls role ds x otherwise) → IsLogicKind (kind_in_decls role (d ∷ ds) x otherwise)
+    by_test true e later = rw e (variable_logic role d.name d.what h.0)
+    by_test false e later = rw e later
+
+pub formals_logic : (o : Option ℕ) (k : Kind) → IsLogicKind k → IsLogicKind (kind_after_formals o k)
+formals_logic None k h = h
+formals_logic (Some i) k h = tt
+
+pub relay_logic : (x : Text) → IsLogicKind (kind_in (relay_with relay_sections) x)
+relay_logic x =
+    formals_logic (formal_from 0 (codes "feed" ∷ []) x) (kind_in_sections relay_sections x) (variables_logic state (record { name = codes "out"; what = boolean } ∷ []) x undeclared (tt, tt) tt)
 
 abbrev IsCheapIn : Option (Place × Formula) → Type 0
 IsCheapIn None = ⊥
@@ -86,9 +101,9 @@ actual_logic (a_formal j) i caller at e h found = absurd (never_some (at, e) fou
 actual_logic (a_variable role type) i caller at e h found = absurd (never_some (at, e) found)
 actual_logic undeclared i caller at e h found = absurd (never_some (at, e) found)
 
-module _ (fs : List (Option ℕ)) (last_a last_b : Option ℕ) where
+module _ (sections : List SectionTree) (fs : List (Option ℕ)) (last_a last_b : Option ℕ) (relays : (x : Text) → IsLogicKind (kind_in (relay_with sections) x)) where
   abbrev p : ProgramTree
-  p = program_of fs last_a last_b
+  p = program_with sections fs last_a last_b
 
   main_logic : (x : Text) → IsLogicKind (kind_in (main_of fs last_a last_b) x)
   main_logic x = stages_logic 1 fs x (kind_in_defines (record { name = codes "dead"; value = dead_formula last_a last_b } ∷ []) x undeclared) (defines_logic last_a last_b x)
@@ -101,7 +116,7 @@ module _ (fs : List (Option ℕ)) (last_a last_b : Option ℕ) where
       by_main false h e = rw (h, e) tt
 
       by_relay : (b : Bool) → same_text (codes "Relay") x ≡ b → IsLogicModule (find_module p x)
-      by_relay true e = rw e relay_logic
+      by_relay true e = rw e relays
       by_relay false e = by_main (same_text (codes "main") x) e refl
 
   of_kind_logic : (k : Kind) → IsLogicModule (module_of_kind p k)

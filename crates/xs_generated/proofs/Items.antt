@@ -1,6 +1,6 @@
 -- No item of a program of stages breaks a rule, in its module or at an instance.
 use Rattle.std.proofs.Common.{◌≡◌, ℕ, suc, ◌<◌, ◌≤◌, ◌^◌, arith, Bool, true, false, List, [], ◌∷◌, ◌++◌, length, Option, Some, None, refl, sym, ◌∙◌, ap, inl, inr, append_assoc, append-nil}
-use Rattle.std.specs.Prelude.{codes, flat_map}
+use Rattle.std.specs.Prelude.{map, codes, flat_map}
 use Rattle.xs_tree.specs.Tree.{leaf}
 use Rattle.xs_tree.specs.ProgramTree.{Text, boolean, ModuleTree, ProgramTree}
 use Rattle.xs_tree.specs.Texts.{same_text, is_among}
@@ -11,7 +11,7 @@ use Rattle.xs_flattening.specs.Flat.{FlatInstance}
 use Rattle.xs_flattening.specs.Items.{Item, a_declaration, a_definition, an_assignment, NumberedModule}
 use Rattle.xs_flattening.specs.Rules.{no_main, main_has_parameters, double_module, double_name, no_such_name, not_a_target, double_assign, define_loop, next_here, input_here, the_program, a_header, an_item, a_use, names_of_item, HasNoValue, is_target, may_be_assigned, IsKept}
 use Rattle.xs_generate.specs.Generator.{stage_name, stage, output_of, relay_module, dead_formula}
-use Rattle.xs_generated.proofs.Stages.{IsStageBefore, main_of, program_of, AreStages, names_differ}
+use Rattle.xs_generated.proofs.Stages.{stages_from, relay_sections, IsStageBefore, main_of, program_of, AreStages, names_differ}
 use Rattle.xs_generated.proofs.Meanings.{IsStage, stage_there, relay_there, none_dead, output_has_value, output_means_something, feed_has_value, dead_is_no_loop, no_actual_loops, feed_gives_no_input}
 
 -- the items of both modules
@@ -26,6 +26,10 @@ item_stage i f = a_declaration state (stage i f)
 
 abbrev pub item_dead : Option ℕ → Option ℕ → Item
 item_dead last_a last_b = a_definition (record { name = codes "dead"; value = dead_formula last_a last_b })
+
+-- the items of `main`, from the stage of this number on
+abbrev pub items_from : Option ℕ → Option ℕ → ℕ → List (Option ℕ) → List Item
+items_from last_a last_b i fs = map (a_declaration state) (stages_from i fs) ++ item_dead last_a last_b ∷ []
 
 -- Names of items.
 among_more : (xs ys : List Text) (x : Text) → is_among xs x ≡ false → is_among ys x ≡ false → is_among (xs ++ ys) x ≡ false
@@ -108,18 +112,18 @@ module _ (fs : List (Option ℕ)) (last_a last_b : Option ℕ) (are : AreStages 
   no_next_output None = refl
   no_next_output (Some j) = refl
 
-  pub stage_used : (k i : ℕ) (f : Option ℕ) (before : List Item) → IsStage fs last_a last_b are (stage_name i) → IsStageBefore (suc (length fs)) f →
+  pub stage_used : (k i : ℕ) (f : Option ℕ) (before : List Item) → IsStage relay_sections fs last_a last_b are refl (stage_name i) → IsStageBefore (suc (length fs)) f →
       IsKept p (a_use main_is (record { number = k; before = before; item = item_stage i f }))
   stage_used k i None before s h no_such_name (inl b) = b
-  stage_used k i (Some j) before s h no_such_name (inl b) = output_means_something fs last_a last_b are j (stage_there fs last_a last_b are j h.0 (omega (arith, h.1))) b
+  stage_used k i (Some j) before s h no_such_name (inl b) = output_means_something relay_sections fs last_a last_b are refl j (stage_there relay_sections fs last_a last_b are refl j h.0 (omega (arith, h.1))) b
   stage_used k i f before s h no_such_name (inr b) = b
-  stage_used k i f before s h define_loop b = no_actual_loops fs last_a last_b are (stage_name i) s f b
+  stage_used k i f before s h define_loop b = no_actual_loops relay_sections fs last_a last_b are refl (stage_name i) s f b
   stage_used k i f before s h next_here b = let none : has_next (output_of f) ≡ false = no_next_output f in cc
   stage_used k i f before s h other b = b
 
   pub dead_used : (k : ℕ) (before : List Item) → IsKept p (a_use main_is (record { number = k; before = before; item = item_dead last_a last_b }))
-  dead_used k before no_such_name b = none_dead fs last_a last_b are (HasNoValue p []) (output_has_value fs last_a last_b are) b
-  dead_used k before define_loop b = dead_is_no_loop fs last_a last_b are b
+  dead_used k before no_such_name b = none_dead relay_sections fs last_a last_b are refl (HasNoValue p []) (output_has_value relay_sections fs last_a last_b are refl) b
+  dead_used k before define_loop b = dead_is_no_loop relay_sections fs last_a last_b are refl b
   dead_used k before next_here b =
       let none_a : has_next (output_of last_a) ≡ false = no_next_output last_a in let none_b : has_next (output_of last_b) ≡ false = no_next_output last_b in cc
   dead_used k before other b = b
@@ -128,15 +132,15 @@ module _ (fs : List (Option ℕ)) (last_a last_b : Option ℕ) (are : AreStages 
   out_used i next_here b = cc
   out_used i other b = b
 
-  pub follows_used : (i : ℕ) → IsStage fs last_a last_b are (stage_name i) → IsKept p (a_use (stage_is i) (record { number = 3; before = item_out ∷ []; item = item_follows }))
-  follows_used i s no_such_name (inl b) = feed_has_value fs last_a last_b are (stage_name i) s b
+  pub follows_used : (i : ℕ) → IsStage relay_sections fs last_a last_b are refl (stage_name i) → IsKept p (a_use (stage_is i) (record { number = 3; before = item_out ∷ []; item = item_follows }))
+  follows_used i s no_such_name (inl b) = feed_has_value relay_sections fs last_a last_b are refl (stage_name i) s b
   follows_used i s no_such_name (inr b) = b
   follows_used i s not_a_target b =
-      let is : is_target p (stage_name i ∷ []) Always (codes "out" ∷ []) ≡ true = ap (λ (m : Option ModuleTree). may_be_assigned Always (kind_at m (codes "out"))) (relay_there fs last_a last_b are (stage_name i) s) in
+      let is : is_target p (stage_name i ∷ []) Always (codes "out" ∷ []) ≡ true = ap (λ (m : Option ModuleTree). may_be_assigned Always (kind_at m (codes "out"))) (relay_there relay_sections fs last_a last_b are refl (stage_name i) s) in
       let bad : true ≡ false = sym is ∙ b in cc
   follows_used i s double_assign (inl b) = b
   follows_used i s double_assign (inr b) = b
   follows_used i s next_here b = cc
-  follows_used i s input_here (inl b) = feed_gives_no_input fs last_a last_b are (stage_name i) s b
+  follows_used i s input_here (inl b) = feed_gives_no_input relay_sections fs last_a last_b are refl (stage_name i) s b
   follows_used i s input_here (inr b) = b
   follows_used i s other b = b

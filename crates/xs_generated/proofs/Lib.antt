@@ -7,3 +7,7 @@ pub mod Expressions
 pub mod Roots
 pub mod Typed
 pub mod Top
+pub mod Instructions
+pub mod Woven
+pub mod Sizes
+pub mod Faults

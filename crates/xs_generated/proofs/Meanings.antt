@@ -2,8 +2,8 @@
 use Rattle.std.proofs.Common.{◌≡◌, ℕ, zero, suc, ◌+◌, ◌≤◌, arith, Bool, true, false, List, [], ◌∷◌, ◌++◌, length, Option, Some, None, refl, sym, ◌∙◌, ap, subst, inl, inr}
 use Rattle.std.specs.Prelude.{codes, slice_get, IsTrue}
 use Rattle.xs_tree.specs.Tree.{truth}
-use Rattle.xs_tree.specs.ProgramTree.{Text, Path, Formula, ModuleTree, ProgramTree}
-use Rattle.xs_tree.specs.Scope.{Place, Kind, a_define, undeclared, find_module, kind_in_defines, kind_at, module_of_kind, module_at, actual_of_kind, Key, define_key, actual_key, Meaning, a_variable_at, an_expression_at, an_instance_at, a_symbol, plain_name, through_plain, through_actual, by_kind, means_in, Means}
+use Rattle.xs_tree.specs.ProgramTree.{Text, Path, Formula, boolean, SectionTree, ModuleTree, ProgramTree}
+use Rattle.xs_tree.specs.Scope.{Place, Kind, state, a_variable, a_define, undeclared, find_module, kind_in_defines, kind_in_sections, kind_at, module_of_kind, module_at, actual_of_kind, Key, define_key, actual_key, Meaning, a_variable_at, an_expression_at, an_instance_at, a_symbol, plain_name, through_plain, through_actual, by_kind, means_in, Means}
 use Rattle.xs_tree.specs.Texts.{same_text}
 use Rattle.xs_tree.specs.Trace.{AtSome}
 use Rattle.xs_flattening.specs.Resolved.{leaves_in}
@@ -11,8 +11,8 @@ use Rattle.xs_flattening.specs.Looks.{Look, at_actual, plain_of, step_kind, step
 use Rattle.xs_flattening.specs.Rules.{HasNoValue, nothing, only_an_instance, expression_of_kind, expression_in, expression_of, Needs, NeedsItself, Leads, ActualLoops, LoopsInside, is_input_kind, MeansInput, ReadsInput, GivesInput}
 use Rattle.xs_flattening.proofs.EndLaws.{never_some, ended_stays}
 use Rattle.xs_flattening.proofs.Resolving.{same_meaning}
-use Rattle.xs_generate.specs.Generator.{stage_name, output_of, relay_module, dead_formula}
-use Rattle.xs_generated.proofs.Stages.{IsStageBefore, program_of, AreStages, IsFed, stage_found, no_stage_dead}
+use Rattle.xs_generate.specs.Generator.{stage_name, output_of, dead_formula}
+use Rattle.xs_generated.proofs.Stages.{IsStageBefore, relay_with, program_with, AreStages, IsFed, stage_found, no_stage_dead}
 
 -- none of one list and none of another
 pub at_neither : {A : Type 0} (P : A → Type 0) (xs ys : List A) → (AtSome P xs → ⊥) → (AtSome P ys → ⊥) → AtSome P (xs ++ ys) → ⊥
@@ -71,13 +71,13 @@ not_in_main x e = cc
 no_out_is_feed : false ≡ true → ⊥
 no_out_is_feed e = cc
 
-module _ (fs : List (Option ℕ)) (last_a last_b : Option ℕ) (are : AreStages fs last_a last_b) where
+module _ (sections : List SectionTree) (fs : List (Option ℕ)) (last_a last_b : Option ℕ) (are : AreStages fs last_a last_b) (out : kind_in_sections sections (codes "out") ≡ a_variable state boolean) where
   abbrev p : ProgramTree
-  p = program_of fs last_a last_b
+  p = program_with sections fs last_a last_b
 
   -- the text is the name of an instance of the module of relays
   abbrev pub IsStage : Text → Type 0
-  IsStage x = IsFed (suc (length fs)) (kind_at (module_at (program_of fs last_a last_b) []) x)
+  IsStage x = IsFed (suc (length fs)) (kind_at (module_at (program_with sections fs last_a last_b) []) x)
 
   pub stage_there : (j : ℕ) → 1 ≤ j → j ≤ length fs → IsStage (stage_name j)
   stage_there j h k = stage_found (suc (length fs)) 1 fs j (kind_in_defines (record { name = codes "dead"; value = dead_formula last_a last_b } ∷ []) (stage_name j) undeclared) are.fed h (omega (arith, k)) (omega (arith, k, are.few))
@@ -85,15 +85,18 @@ module _ (fs : List (Option ℕ)) (last_a last_b : Option ℕ) (are : AreStages 
   pub dead_there : kind_at (module_at p []) (codes "dead") ≡ a_define (dead_formula last_a last_b)
   dead_there = no_stage_dead 1 fs (a_define (dead_formula last_a last_b))
 
-  pub relay_there : (x : Text) → IsStage x → module_at p (x ∷ []) ≡ Some relay_module
+  pub relay_there : (x : Text) → IsStage x → module_at p (x ∷ []) ≡ Some (relay_with sections)
   relay_there x s = ap (module_of_kind p) s.kind
+
+  out_kind : (x : Text) → IsStage x → kind_at (module_at p (x ∷ [])) (codes "out") ≡ a_variable state boolean
+  out_kind x s = ap (λ (m : Option ModuleTree). kind_at m (codes "out")) (relay_there x s) ∙ out
 
   -- the output of a stage is a variable
   pub out_means : (j : ℕ) → IsStage (stage_name j) → Means p [] (stage_name j ∷ codes "out" ∷ []) (a_variable_at (stage_name j ∷ []) (codes "out"))
   out_means j s = (
     2,
     ap (λ (k : Kind). by_kind (means_in 1 p) p [] k (stage_name j) (codes "out" ∷ [])) s.kind
-        ∙ ap (λ (m : Option ModuleTree). by_kind (means_in 0 p) p (stage_name j ∷ []) (kind_at m (codes "out")) (codes "out") []) (relay_there (stage_name j) s),
+        ∙ ap (λ (k : Kind). by_kind (means_in 0 p) p (stage_name j ∷ []) k (codes "out") []) (out_kind (stage_name j) s),
   )
 
   -- what feeds a stage means TRUE, or the output of a stage
@@ -172,7 +175,7 @@ module _ (fs : List (Option ℕ)) (last_a last_b : Option ℕ) (are : AreStages 
   second_look j s = ap (λ (k : Kind). step_kind p [] k (stage_name j) (codes "out" ∷ [])) s.kind
 
   third_look : (j : ℕ) → IsStage (stage_name j) → step_on p (Some (record { place = stage_name j ∷ []; name = codes "out" ∷ [] })) ≡ None
-  third_look j s = ap (λ (m : Option ModuleTree). step_kind p (stage_name j ∷ []) (kind_at m (codes "out")) (codes "out") []) (relay_there (stage_name j) s)
+  third_look j s = ap (λ (k : Kind). step_kind p (stage_name j ∷ []) k (codes "out") []) (out_kind (stage_name j) s)
 
   pub feed_never_back : (x : Text) → IsStage x → ComesBack p (x ∷ []) (codes "feed") → ⊥
   feed_never_back x s back = by_feed s.feed s.before (first_look x s) back.0 back.1 back.2
@@ -212,7 +215,7 @@ module _ (fs : List (Option ℕ)) (last_a last_b : Option ℕ) (are : AreStages 
   no_input_meaning : (f : Option ℕ) → IsStageBefore (suc (length fs)) f → (x : Text) → IsInputMeaning p (fed_meaning x f) → ⊥
   no_input_meaning None h x b = b
   no_input_meaning (Some j) h x b =
-      let bad : IsTrue (is_input_kind (kind_at (Some relay_module) (codes "out"))) = subst (λ (m : Option ModuleTree). IsTrue (is_input_kind (kind_at m (codes "out")))) (relay_there (stage_name j) (stage_there j h.0 (omega (arith, h.1)))) b in cc
+      let bad : IsTrue (is_input_kind (a_variable state boolean)) = subst (λ (k : Kind). IsTrue (is_input_kind k)) (out_kind (stage_name j) (stage_there j h.0 (omega (arith, h.1)))) b in cc
 
   feed_means_no_input : (x : Text) → IsStage x → MeansInput p (x ∷ []) (codes "feed" ∷ []) → ⊥
   feed_means_no_input x s m =

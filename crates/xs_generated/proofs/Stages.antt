@@ -3,13 +3,13 @@ use Rattle.std.proofs.Common.{◌≡◌, ℕ, zero, suc, ◌+◌, ◌^◌, ◌<�
 use Rattle.std.specs.Prelude.{nat_eq, codes}
 use Rattle.std.proofs.lemmas.Bool.Decides.{nat_tests}
 use Rattle.std.proofs.lemmas.Fmt.{decimal_injective}
-use Rattle.xs_tree.specs.ProgramTree.{DeclTree, ModuleTree, ProgramTree}
+use Rattle.xs_tree.specs.ProgramTree.{DeclTree, SectionTree, ModuleTree, ProgramTree}
 use Rattle.xs_tree.specs.Texts.{same_text}
 use Rattle.xs_tree.specs.Trace.{Each}
 use Rattle.xs_tree.specs.Scope.{Kind, an_instance, state, kind_in_decls}
 use Rattle.xs_tree.proofs.ValueLaws.{same_text_equal, same_text_refl}
 use Rattle.xs_flattening.proofs.Lists.{each_more}
-use Rattle.xs_generate.specs.Generator.{next_number, rails_after, stage_name, output_of, Rails, stage, with_stage, with_stages, rails_of, relay_module, main_module, generated_model}
+use Rattle.xs_generate.specs.Generator.{next_number, rails_after, stage_name, output_of, Rails, stage, with_stage, with_stages, rails_of, relay_variables, relay_assignments, relay_module, main_module, generated_model}
 
 -- stages numbered from this one on, by what feeds each
 abbrev pub stages_from : ℕ → List (Option ℕ) → List DeclTree
@@ -25,8 +25,18 @@ IsStageBefore n (Some j) = (1 ≤ j) × (j < n)
 abbrev pub main_of : List (Option ℕ) → Option ℕ → Option ℕ → ModuleTree
 main_of fs last_a last_b = main_module (record { stages = stages_from 1 fs; last_a = last_a; last_b = last_b })
 
+-- the module of relays with other sections, as it is woven
+abbrev pub relay_with : List SectionTree → ModuleTree
+relay_with sections = record { name = codes "Relay"; formals = codes "feed" ∷ []; sections = sections }
+
+abbrev pub program_with : List SectionTree → List (Option ℕ) → Option ℕ → Option ℕ → ProgramTree
+program_with sections fs last_a last_b = relay_with sections ∷ main_of fs last_a last_b ∷ []
+
+abbrev pub relay_sections : List SectionTree
+relay_sections = relay_variables ∷ relay_assignments ∷ []
+
 abbrev pub program_of : List (Option ℕ) → Option ℕ → Option ℕ → ProgramTree
-program_of fs last_a last_b = relay_module ∷ main_of fs last_a last_b ∷ []
+program_of fs last_a last_b = program_with relay_sections fs last_a last_b
 
 -- so many stages, of which each is fed by one of them or by TRUE, and so are the last outputs
 pub record AreStages (fs : List (Option ℕ)) (last_a last_b : Option ℕ) : Type 0 where

@@ -15,7 +15,7 @@ use Rattle.xs_kinds.specs.Costs.{cost_of}
 use Rattle.xs_kinds.specs.Models.{judged_in, broken_condition, least, size_fault, top_fault}
 use Rattle.xs_generate.specs.Generator.{stage_name, relay_module, dead_formula, generated_top}
 use Rattle.xs_generated.specs.Laws.{GeneratedTopKeepsNames, GeneratedTopIsTyped}
-use Rattle.xs_generated.proofs.Stages.{program_of, AreStages, generated_of_stages}
+use Rattle.xs_generated.proofs.Stages.{relay_sections, program_of, AreStages, generated_of_stages}
 use Rattle.xs_generated.proofs.Meanings.{IsStage, relay_there, out_means, dead_there, dead_is, dead_needs_none, none_dead, has_value, NamesInput, IsInputMeaning}
 use Rattle.xs_generated.proofs.Truths.{IsLogical, IsTruth, logical_cost, logical_kept}
 use Rattle.xs_generated.proofs.Typed.{logical_by, of_truths}
@@ -28,15 +28,15 @@ module _ (fs : List (Option ℕ)) (last_a last_b : Option ℕ) (are : AreStages 
   p = program_of fs last_a last_b
 
   dead_means : Means p [] (codes "dead" ∷ []) (an_expression_at (define_key [] (codes "dead")) [] (dead_formula last_a last_b))
-  dead_means = (1, ap (λ (k : Kind). by_kind (means_in 0 p) p [] k (codes "dead") []) (dead_there fs last_a last_b are))
+  dead_means = (1, ap (λ (k : Kind). by_kind (means_in 0 p) p [] k (codes "dead") []) (dead_there relay_sections fs last_a last_b are refl))
 
-  output_is_no_input : (j : ℕ) → IsStage fs last_a last_b are (stage_name j) → MeansInput p [] (stage_name j ∷ codes "out" ∷ []) → ⊥
+  output_is_no_input : (j : ℕ) → IsStage relay_sections fs last_a last_b are refl (stage_name j) → MeansInput p [] (stage_name j ∷ codes "out" ∷ []) → ⊥
   output_is_no_input j s m =
-      let out = out_means fs last_a last_b are j s in
+      let out = out_means relay_sections fs last_a last_b are refl j s in
       let meant : IsInputMeaning p (a_variable_at (stage_name j ∷ []) (codes "out")) =
       subst (IsInputMeaning p) (same_meaning m.2.0 out.0 p [] (stage_name j ∷ codes "out" ∷ []) (a_variable_at m.0 m.1) (a_variable_at (stage_name j ∷ []) (codes "out")) m.2.1 out.1) m.3 in
       let bad : IsTrue (is_input_kind (kind_at (Some relay_module) (codes "out"))) =
-      subst (λ (k : Option ModuleTree). IsTrue (is_input_kind (kind_at k (codes "out")))) (relay_there fs last_a last_b are (stage_name j) s) meant in cc
+      subst (λ (k : Option ModuleTree). IsTrue (is_input_kind (kind_at k (codes "out")))) (relay_there relay_sections fs last_a last_b are refl (stage_name j) s) meant in cc
 
   dead_is_no_input : MeansInput p [] (codes "dead" ∷ []) → ⊥
   dead_is_no_input m =
@@ -55,9 +55,9 @@ module _ (fs : List (Option ℕ)) (last_a last_b : Option ℕ) (are : AreStages 
     where
       along : (n : ℕ) (first : Key) → first ≡ define_key [] (codes "dead") → Leads p n first r.last → ⊥
       along zero first k l =
-          none_dead fs last_a last_b are (MeansInput p []) output_is_no_input
-          (subst (NamesInput p) (sym r.is ∙ ap (expression_of p) (l ∙ k) ∙ dead_is fs last_a last_b are) r.names_input)
-      along (suc n) first k l = dead_needs_none fs last_a last_b are l.0 (subst (λ key. Needs p key l.0) k l.1)
+          none_dead relay_sections fs last_a last_b are refl (MeansInput p []) output_is_no_input
+          (subst (NamesInput p) (sym r.is ∙ ap (expression_of p) (l ∙ k) ∙ dead_is relay_sections fs last_a last_b are refl) r.names_input)
+      along (suc n) first k l = dead_needs_none relay_sections fs last_a last_b are refl l.0 (subst (λ key. Needs p key l.0) k l.1)
 
   pub dead_keeps_names : (rule : Rule) → BreaksValue p [] false generated_top rule → ⊥
   dead_keeps_names no_such_name (inl b) =

@@ -136,7 +136,7 @@ no_definition_breach (d ∷ ds) [] h = refl
 no_definition_breach (d ∷ ds) (j ∷ js) h = rw (h.0.kept, no_definition_breach ds js h.1) refl
 
 -- Sizes.
-sum_most : {A : Type 0} (g : A → ℕ) (n : ℕ) (xs : List A) → Each (λ x. g x ≤ n) xs → sum_by g xs ≤ length xs * n
+pub sum_most : {A : Type 0} (g : A → ℕ) (n : ℕ) (xs : List A) → Each (λ x. g x ≤ n) xs → sum_by g xs ≤ length xs * n
 sum_most g n [] h = omega arith
 sum_most g n (x ∷ xs) h = omega (arith, sum_by-cons g x xs, h.0, sum_most g n xs h.1, suc-mul (length xs) n)
 

@@ -8,7 +8,7 @@ use Rattle.xs_tree.specs.Scope.{Place, Meaning, a_variable_at, an_expression_at,
 use Rattle.xs_tree.specs.Trace.{Each}
 use Rattle.xs_flattening.specs.Flat.{FlatLeaf, flat_variable, flat_symbol, flat_definition, FlatInstance, FlatVariable, FlatFormula, FlatModel}
 use Rattle.xs_flattening.specs.Resolved.{StandsFor, Resolver, IsSound, IsResolved, Definition}
-use Rattle.xs_flattening.specs.Items.{Item, numbered_from, items_named, Visit, variable_declared, variables_of, instances_of_visit}
+use Rattle.xs_flattening.specs.Items.{instances_of, Item, numbered_from, items_named, Visit, variable_declared, variables_of, instances_of_visit}
 use Rattle.xs_flattening.specs.Model.{Condition, now_among, Written, written_at, conditions, first_conditions, each_conditions, step_conditions, kept_conditions, IsVariableOf, IsFormulaOf, EachBoth, first_appearances, symbols_of_item, symbols_of, IsDefinitionOf, IsFlatOf}
 use Rattle.xs_flattening.proofs.Conditions.{each_from}
 use Rattle.xs_flattening.proofs.EndLaws.{never_some}
@@ -16,19 +16,19 @@ use Rattle.xs_flattening.proofs.Variables.{both_at_second}
 use Rattle.xs_kinds.specs.Models.{IsTyped}
 use Rattle.xs_generate.specs.Generator.{stage_name}
 use Rattle.xs_generated.specs.Laws.{GeneratedIsTyped}
-use Rattle.xs_generated.proofs.Stages.{program_of, AreStages, generated_of_stages}
-use Rattle.xs_generated.proofs.Items.{item_out, item_follows, item_stage, item_dead, main_is}
-use Rattle.xs_generated.proofs.Accepted.{out_visit, visits_from, visits_are, items_from}
+use Rattle.xs_generated.proofs.Stages.{relay_sections, program_of, AreStages, generated_of_stages}
+use Rattle.xs_generated.proofs.Items.{items_from, item_out, item_follows, item_stage, item_dead, main_is}
+use Rattle.xs_generated.proofs.Accepted.{out_visit, visits_from, visits_are}
 use Rattle.xs_generated.proofs.Truths.{IsNoSymbol, IsLogical, IsBoolean, IsDefined, IsComparison, IsOfTruths, truths_typed}
-use Rattle.xs_generated.proofs.Expressions.{IsCheapLogic, expression_logic}
-use Rattle.xs_generated.proofs.Roots.{few_keys}
+use Rattle.xs_generated.proofs.Expressions.{IsCheapLogic, relay_logic, expression_logic}
+use Rattle.xs_generated.proofs.Roots.{stage_instances, instances_with, few_keys}
 
 both_none : {A B : Type 0} (R : A → B → Type 0) (xs : List A) (ys : List B) → xs ≡ [] → EachBoth R xs ys → ys ≡ []
 both_none R [] [] e h = refl
 both_none R [] (y ∷ ys) e h = absurd h
 both_none R (x ∷ xs) ys e h = let bad : x ∷ xs ≡ [] = e in cc
 
-both_long : {A B : Type 0} (R : A → B → Type 0) (xs : List A) (ys : List B) → EachBoth R xs ys → length ys ≡ length xs
+pub both_long : {A B : Type 0} (R : A → B → Type 0) (xs : List A) (ys : List B) → EachBoth R xs ys → length ys ≡ length xs
 both_long R [] [] h = refl
 both_long R [] (y ∷ ys) h = absurd h
 both_long R (x ∷ xs) [] h = absurd h
@@ -71,7 +71,14 @@ module _ (fs : List (Option ℕ)) (last_a last_b : Option ℕ) (are : AreStages 
   variables_are : variables_of p ≡ outs_from 1 fs
   variables_are = ap (λ vs. flat_map (λ (v : Visit). variable_declared v v.decl.what) vs) (visits_are fs last_a last_b are) ∙ outs_of 5 1 fs
 
-  stages_symbols : (i : ℕ) (gs : List (Option ℕ)) → flat_map symbols_of_item (items_from fs last_a last_b are i gs) ≡ []
+  instances_are : instances_of p ≡ instances_with fs
+  instances_are = ap (λ vs. main_is fs last_a last_b are ∷ flat_map instances_of_visit vs) (visits_are fs last_a last_b are) ∙ ap (λ (xs : List FlatInstance). main_is fs last_a last_b are ∷ xs) (stages_are 5 1 fs)
+    where
+      stages_are : (k i : ℕ) (gs : List (Option ℕ)) → flat_map instances_of_visit (visits_from k i gs) ≡ stage_instances i gs
+      stages_are k i [] = refl
+      stages_are k i (f ∷ gs) = ap (λ xs. record { place = stage_name i ∷ []; module_name = codes "Relay" } ∷ xs) (stages_are (suc k) (suc i) gs)
+
+  stages_symbols : (i : ℕ) (gs : List (Option ℕ)) → flat_map symbols_of_item (items_from last_a last_b i gs) ≡ []
   stages_symbols i [] = refl
   stages_symbols i (f ∷ gs) = stages_symbols (suc i) gs
 
@@ -82,8 +89,8 @@ module _ (fs : List (Option ℕ)) (last_a last_b : Option ℕ) (are : AreStages 
   abbrev asked : (Item → List Condition) → FlatInstance → List Written
   asked what at = flat_map (written_at what at.place) (items_named p at.module_name)
 
-  main_asks_none : (what : Item → List Condition) → ((i : ℕ) (f : Option ℕ) → what (item_stage i f) ≡ []) → what (item_dead last_a last_b) ≡ [] → (k i : ℕ) (before : List Item) (gs : List (Option ℕ)) →
-      flat_map (written_at what []) (numbered_from k before (items_from fs last_a last_b are i gs)) ≡ []
+  pub main_asks_none : (what : Item → List Condition) → ((i : ℕ) (f : Option ℕ) → what (item_stage i f) ≡ []) → what (item_dead last_a last_b) ≡ [] → (k i : ℕ) (before : List Item) (gs : List (Option ℕ)) →
+      flat_map (written_at what []) (numbered_from k before (items_from last_a last_b i gs)) ≡ []
   main_asks_none what h d k i before [] = rw d refl
   main_asks_none what h d k i before (f ∷ gs) = rw (h i f, main_asks_none what h d (suc k) (suc i) (before ++ item_stage i f ∷ []) gs) refl
 
@@ -146,7 +153,7 @@ module _ (fs : List (Option ℕ)) (last_a last_b : Option ℕ) (are : AreStages 
         let g = is.definitions i d.0 d.1 in
         let both : Some g.0 ≡ Some f = sym g.1 ∙ e in
         let same : g.0 ≡ f = cc in
-        subst IsDefined same (logical d.0.place d.0.written g.0.value g.2 (expression_logic fs last_a last_b d.0.key d.0.place d.0.written d.2.expression))
+        subst IsDefined same (logical d.0.place d.0.written g.0.value g.2 (expression_logic relay_sections fs last_a last_b relay_logic d.0.key d.0.place d.0.written d.2.expression))
 
     variables_both : EachBoth (IsVariableOf m) (outs_from 1 fs) m.variables
     variables_both = subst (λ vs. EachBoth (IsVariableOf m) vs m.variables) variables_are is.variables
@@ -158,7 +165,7 @@ module _ (fs : List (Option ℕ)) (last_a last_b : Option ℕ) (are : AreStages 
     few_written = omega (
       arith,
       both_long (IsDefinitionOf p m) is.written m.definitions is.placed,
-      few_keys fs last_a last_b are (map (λ (d : Definition). d.key) is.written) is.order,
+      few_keys relay_sections fs last_a last_b are refl (λ at. refl) instances_are (map (λ (d : Definition). d.key) is.written) is.order,
       length-map is.written (λ (d : Definition). d.key),
     )
 

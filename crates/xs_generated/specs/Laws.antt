@@ -1,13 +1,24 @@
 -- What the generator's models and instructions keep, as statements.
-use Rattle.std.specs.Prelude.{◌≡◌, ℕ, ◌≤◌, false, [], None}
+use Rattle.std.specs.Prelude.{◌≡◌, ℕ, ◌≤◌, false, List, [], None, length, map}
 use Rattle.xs_tree.specs.Tree.{Tree}
-use Rattle.xs_flattening.specs.Flat.{FlatLeaf, FlatModel}
-use Rattle.xs_flattening.specs.Rules.{Rule, IsAccepted}
+use Rattle.xs_tree.specs.ProgramTree.{Text, ProgramTree}
+use Rattle.xs_tree.specs.Trace.{Each}
+use Rattle.xs_flattening.specs.Flat.{FlatLeaf, FlatInstance, FlatModel}
+use Rattle.xs_flattening.specs.History.{Mode, with_history}
+use Rattle.xs_flattening.specs.Items.{instances_of}
+use Rattle.xs_flattening.specs.Rules.{Rule, too_many, sites, Breaks, IsAccepted}
 use Rattle.xs_flattening.specs.ValueRules.{BreaksValue}
 use Rattle.xs_flattening.specs.ResolvedAt.{IsResolvedAt}
 use Rattle.xs_flattening.specs.Model.{IsFlatOf}
-use Rattle.xs_kinds.specs.Models.{IsTyped, top_fault}
-use Rattle.xs_generate.specs.Generator.{generated_model, generated_top}
+use Rattle.xs_kinds.specs.Models.{is_too_large, IsTyped, top_fault}
+use Rattle.xs_weave.specs.Faults.{Fault, HasFaults}
+use Rattle.xs_weave.specs.Woven.{woven}
+use Rattle.xs_weave_rules.specs.Sites.{item_sites}
+use Rattle.xs_weave_rules.specs.Rules.{broken_at}
+use Rattle.xs_weave_rules.specs.Counting.{count_broken_at}
+use Rattle.xs_weave_rules.specs.FirstBroken.{AllKept}
+use Rattle.xs_extending.specs.Expressions.{AllUsesKept}
+use Rattle.xs_generate.specs.Generator.{generated_model, generated_instructions, generated_top}
 
 -- a generated model of less than 1,000 stages breaks no rule of flattening: one of 1,000 has an instance too many
 abbrev pub GeneratedIsAccepted : Type 0
@@ -26,3 +37,34 @@ abbrev pub GeneratedTopIsTyped : Type 0
 GeneratedTopIsTyped =
     (number stages : ℕ) → stages ≤ 999 → (m : FlatModel) → IsFlatOf (generated_model number stages) m → (tree : Tree FlatLeaf) →
     IsResolvedAt (generated_model number stages) m [] generated_top tree → top_fault m tree ≡ None
+
+-- the modules of a program's instances
+abbrev pub modules_of_instances : ProgramTree → List Text
+modules_of_instances p = map (λ (at : FlatInstance). at.module_name) (instances_of p)
+
+-- the generator's instructions break no rule of items at it
+abbrev pub GeneratedItemsAreKept : Type 0
+GeneratedItemsAreKept = (number stages : ℕ) → stages ≤ 999 → AllKept (broken_at (generated_model number stages)) (item_sites generated_instructions)
+
+-- nor, up to 256 stages, the rule on numbers of faults
+abbrev pub GeneratedFaultsAreFew : Type 0
+GeneratedFaultsAreFew = (number stages : ℕ) → stages ≤ 256 → AllKept (count_broken_at (modules_of_instances (generated_model number stages))) (item_sites generated_instructions)
+
+-- nor any on expressions, whatever the program: no mode has a guard or follows anything
+abbrev pub GeneratedUsesAreKept : Type 0
+GeneratedUsesAreKept = (p : ProgramTree) (m : FlatModel) → AllUsesKept p m generated_instructions
+
+-- their extension has three variables a stage, and passes no limit of numbers
+abbrev pub WovenIsWithinNumbers : Type 0
+WovenIsWithinNumbers =
+    (number stages : ℕ) → stages ≤ 256 → Each (λ site. Breaks (woven (generated_model number stages) generated_instructions) too_many site → ⊥) (sites (woven (generated_model number stages) generated_instructions))
+
+-- and its flat model, with history bits for as many faults as stages, is not too large
+abbrev pub WovenIsSmall : Type 0
+WovenIsSmall =
+    (number stages : ℕ) → stages ≤ 256 → (m : FlatModel) → IsFlatOf (woven (generated_model number stages) generated_instructions) m → (modes : List Mode) → length modes ≤ stages →
+    is_too_large (with_history m modes) ≡ false
+
+-- there are as many faults as stages
+abbrev pub GeneratedFaultsAreStages : Type 0
+GeneratedFaultsAreStages = (number stages : ℕ) → stages ≤ 999 → (faults : List Fault) → HasFaults (generated_model number stages) generated_instructions faults → length faults ≡ stages
