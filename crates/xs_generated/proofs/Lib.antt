@@ -11,3 +11,5 @@ pub mod Instructions
 pub mod Woven
 pub mod Sizes
 pub mod Faults
+pub mod Short
+pub mod Depths
