@@ -1,16 +1,16 @@
 -- A short text of a program is within the depths where no expression of the program is too high.
-use Rattle.std.proofs.Common.{◌≡◌, ℕ, zero, suc, ◌+◌, ◌*◌, ◌≤◌, arith, List, [], ◌∷◌, ◌++◌, length, Option, Some, None, refl, length-append}
+use Rattle.std.proofs.Common.{ℕ, ◌≤◌, arith, List, [], ◌∷◌, ◌++◌, length, length-append}
 use Rattle.xs_lexer.specs.declared.token.TokenKind.TheVariants as k
 use Rattle.xs_tree.specs.Tree.{height_of}
 use Rattle.xs_tree.specs.ProgramTree.{Formula, DeclaredTree, boolean, range, members, instance, DeclTree, DefineTree, AssignmentTree, SectionTree, var, ivar, frozen, define, constants, assign, init, invar, trans, ModuleTree, ProgramTree}
 use Rattle.xs_tree.specs.Trace.{Each}
-use Rattle.xs_tree.specs.Lexemes.{Lexeme, word, sign}
+use Rattle.xs_tree.specs.Lexemes.{Lexeme, sign}
 use Rattle.xs_tree.specs.SpellsProgram.{SpellsMany, no_more, one_more, SpellsCommas, last_one, one_comma, SpellsBracketed, no_brackets, brackets, SpellsExpr, SpellsFormula, open_ended, ended, SpellsDeclared, is_type, is_instance, is_empty_instance, SpellsDecl, declares, SpellsDefine, defines, SpellsAssignment, assigns, SpellsSection, a_var, an_ivar, a_frozen, a_define, some_constants, an_assign, an_init, an_invar, a_trans, SpellsSections, no_section, a_section, skipped, SpellsModule, a_module}
-use Rattle.xs_parse.specs.Within.{Spelling, IsWithin, AreWithin, spelling, in_formula, in_commas, in_actual, in_actuals, in_many, in_declared, in_decl, in_define, in_assignment, in_section, in_sections, in_module, HasProgramDepths}
+use Rattle.xs_parse.specs.Within.{Spelling, AreWithin, spelling, in_formula, in_commas, in_actual, in_actuals, in_many, in_declared, in_decl, in_define, in_assignment, in_section, in_sections, in_module, HasProgramDepths}
 use Rattle.xs_generated.proofs.Short.{spelling_long, lexemes_short}
 
 -- no expression is higher than 1,000
-abbrev IsLow : Formula → Type 0
+abbrev pub IsLow : Formula → Type 0
 IsLow e = height_of e ≤ 1000
 
 abbrev IsLowDeclared : DeclaredTree → Type 0
@@ -19,7 +19,7 @@ IsLowDeclared boolean = Unit {0}
 IsLowDeclared (range lo hi) = Unit {0}
 IsLowDeclared (members ms) = Unit {0}
 
-abbrev IsLowDecl : DeclTree → Type 0
+abbrev pub IsLowDecl : DeclTree → Type 0
 IsLowDecl d = IsLowDeclared d.what
 
 abbrev IsLowDefine : DefineTree → Type 0
@@ -46,17 +46,17 @@ abbrev pub IsLowProgram : ProgramTree → Type 0
 IsLowProgram p = Each IsLowModule p
 
 -- as short a text
-abbrev IsShort : List Lexeme → Type 0
+abbrev pub IsShort : List Lexeme → Type 0
 IsShort ts = length ts ≤ 2000
 
-within_both : (xs ys : List Spelling) → AreWithin xs → AreWithin ys → AreWithin (xs ++ ys)
+pub within_both : (xs ys : List Spelling) → AreWithin xs → AreWithin ys → AreWithin (xs ++ ys)
 within_both [] ys h k = k
 within_both (x ∷ xs) ys h k = (h.0, within_both xs ys h.1 k)
 
 front_short : (ts us : List Lexeme) → IsShort (ts ++ us) → IsShort ts
 front_short ts us h = omega (arith, h, length-append ts us)
 
-back_short : (ts us : List Lexeme) → IsShort (ts ++ us) → IsShort us
+pub back_short : (ts us : List Lexeme) → IsShort (ts ++ us) → IsShort us
 back_short ts us h = omega (arith, h, length-append ts us)
 
 expr_within : (ts : List Lexeme) (e : Formula) (p : SpellsExpr ts e) → IsShort ts → IsLow e → AreWithin (spelling p ∷ [])
@@ -66,7 +66,7 @@ formula_within : (ts : List Lexeme) (e : Formula) (p : SpellsFormula ts e) → I
 formula_within ts e (open_ended p) short low = expr_within ts e p short low
 formula_within ts e (ended {ts = us} p) short low = expr_within us e p (front_short us (sign k.Semicolon ∷ []) short) low
 
-many_within : {A : Type 0} (One : List Lexeme → A → Type 0) (within : (ts : List Lexeme) (a : A) → One ts a → List Spelling) (Low : A → Type 0) →
+pub many_within : {A : Type 0} (One : List Lexeme → A → Type 0) (within : (ts : List Lexeme) (a : A) → One ts a → List Spelling) (Low : A → Type 0) →
     ((ts : List Lexeme) (a : A) (p : One ts a) → IsShort ts → Low a → AreWithin (within ts a p)) → {ts : List Lexeme} {list : List A} (p : SpellsMany One ts list) → IsShort ts → Each Low list →
     AreWithin (in_many One within p)
 many_within One within Low each no_more short low = tt

@@ -13,3 +13,4 @@ pub mod Sizes
 pub mod Faults
 pub mod Short
 pub mod Depths
+pub mod Texts

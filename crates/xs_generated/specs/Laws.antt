@@ -1,8 +1,13 @@
 -- What the generator's models and instructions keep, as statements.
-use Rattle.std.specs.Prelude.{◌≡◌, ℕ, ◌≤◌, false, List, [], None, length, map}
+use Rattle.std.specs.Prelude.{◌≡◌, ℕ, ◌≤◌, false, List, [], None, length, map, codes}
 use Rattle.xs_tree.specs.Tree.{Tree}
 use Rattle.xs_tree.specs.ProgramTree.{Text, ProgramTree}
+use Rattle.xs_tree.specs.Text.{program_text}
 use Rattle.xs_tree.specs.Trace.{Each}
+use Rattle.xs_tree.specs.Bytes.{HasDepths}
+use Rattle.xs_fei.specs.InstructionText.{instructions_text}
+use Rattle.xs_fei_reader.specs.Within.{HaveInstructionDepths}
+use Rattle.xs_parse.specs.Within.{HasProgramDepths}
 use Rattle.xs_flattening.specs.Flat.{FlatLeaf, FlatInstance, FlatModel}
 use Rattle.xs_flattening.specs.History.{Mode, with_history}
 use Rattle.xs_flattening.specs.Items.{instances_of}
@@ -68,3 +73,23 @@ WovenIsSmall =
 -- there are as many faults as stages
 abbrev pub GeneratedFaultsAreStages : Type 0
 GeneratedFaultsAreStages = (number stages : ℕ) → stages ≤ 999 → (faults : List Fault) → HasFaults (generated_model number stages) generated_instructions faults → length faults ≡ stages
+
+-- up to 64 stages the text of a generated model has at most 2,000 bytes
+abbrev pub GeneratedTextIsShort : Type 0
+GeneratedTextIsShort = (number stages : ℕ) → stages ≤ 64 → length (program_text (generated_model number stages)) ≤ 2000
+
+-- so that its expressions are within the depths
+abbrev pub GeneratedTextHasDepths : Type 0
+GeneratedTextHasDepths = (number stages : ℕ) → stages ≤ 64 → HasProgramDepths (program_text (generated_model number stages)) (generated_model number stages)
+
+-- and so is the text of the instructions
+abbrev pub InstructionTextIsShort : Type 0
+InstructionTextIsShort = length (instructions_text generated_instructions) ≤ 2000
+
+-- with its expressions
+abbrev pub InstructionTextHasDepths : Type 0
+InstructionTextHasDepths = HaveInstructionDepths (instructions_text generated_instructions) generated_instructions
+
+-- and the word of the top event
+abbrev pub TopTextHasDepths : Type 0
+TopTextHasDepths = HasDepths (codes "dead") generated_top

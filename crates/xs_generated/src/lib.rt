@@ -11,14 +11,15 @@
 //! `Accepted` that no rule of flattening is broken at any site. `Truths` has models of truth values alone, which
 //! break no rule of kinds; by `Expressions`, `Roots` and `Typed` the generated ones are such. `Top` has the event,
 //! `Instructions` the rules of a weave, `Faults` the number of faults, and `Woven` and `Sizes` the extension's
-//! numbers and its size with history.
+//! numbers and its size with history. `Texts` has the lengths of the texts; a text of at most 2,000 bytes nests its
+//! parentheses less than 1,000 deep, by `Short` and `Depths`, whatever it spells.
 //!
 //! ```text
 //! // 999 stages are 1,000 instances with `main`; 256 stages have 256 faults, and 768 variables in the extension
 //! ```
 #![tactic(auto)]
 
-ghost use Rattle.xs_generated.specs.Laws.{GeneratedIsAccepted, GeneratedIsTyped, GeneratedTopKeepsNames, GeneratedTopIsTyped, GeneratedItemsAreKept, GeneratedFaultsAreFew, GeneratedUsesAreKept, GeneratedFaultsAreStages, WovenIsWithinNumbers, WovenIsSmall};
+ghost use Rattle.xs_generated.specs.Laws.{GeneratedIsAccepted, GeneratedIsTyped, GeneratedTopKeepsNames, GeneratedTopIsTyped, GeneratedItemsAreKept, GeneratedFaultsAreFew, GeneratedUsesAreKept, GeneratedFaultsAreStages, WovenIsWithinNumbers, WovenIsSmall, GeneratedTextIsShort, GeneratedTextHasDepths, InstructionTextIsShort, InstructionTextHasDepths, TopTextHasDepths};
 
 /// A generated model of less than 1,000 stages breaks no rule of names or of kinds, and no limit.
 pub fn generated_models_are_lawful()
@@ -46,4 +47,14 @@ pub fn generated_instructions_are_taken()
 pub fn generated_extensions_pass_no_limit()
     ensures numbers { WovenIsWithinNumbers }
     ensures size { WovenIsSmall }
+{}
+
+/// Up to 64 stages the texts of the model and of the instructions have at most 2,000 bytes, and what they spell is
+/// within the depths that are read, as is the word `dead`.
+pub fn generated_texts_are_within_depths()
+    ensures short { GeneratedTextIsShort }
+    ensures depths { GeneratedTextHasDepths }
+    ensures instructions_short { InstructionTextIsShort }
+    ensures instructions_depths { InstructionTextHasDepths }
+    ensures top_depths { TopTextHasDepths }
 {}
