@@ -14,3 +14,4 @@ pub mod Faults
 pub mod Short
 pub mod Depths
 pub mod Texts
+pub mod Readings

@@ -7,11 +7,12 @@ use Rattle.xs_tree.specs.Trace.{Each}
 use Rattle.xs_flattening.specs.Flat.{FlatInstance}
 use Rattle.xs_flattening.specs.Items.{Item, NumberedItem, NumberedModule, numbered_items, numbered_from, items_named, modules_of, Visit, walk_items, walk, visits, instances_of_visit, instances_of}
 use Rattle.xs_flattening.specs.Rules.{too_many, Site, a_header, an_item, a_visit, a_use, instances_before, variables_before, visit_sites, module_sites, use_sites, sites, Breaks}
+use Rattle.xs_flattening.proofs.Reaches.{each_right}
 use Rattle.xs_flattening.proofs.Conditions.{each_join, each_flat}
 use Rattle.xs_effects.specs.AddedNames.{own_name, mode_variable}
 use Rattle.xs_weave.specs.Woven.{mode_type, woven_module, woven}
 use Rattle.xs_generate.specs.Generator.{stage_name, relay_module, relay_slice, generated_instructions}
-use Rattle.xs_generated.specs.Laws.{WovenIsWithinNumbers}
+use Rattle.xs_generated.specs.Laws.{WovenIsWithinNumbers, WovenBreaksNoNumber}
 use Rattle.xs_generated.proofs.Stages.{program_with, program_of, generated_of_stages}
 use Rattle.xs_generated.proofs.Items.{items_from, item_stage}
 use Rattle.xs_generated.proofs.Accepted.{stage_visit, instances_and, variables_and}
@@ -155,3 +156,8 @@ pub generated_within_numbers : WovenIsWithinNumbers
 generated_within_numbers number stages few =
     let of = generated_of_stages number stages (omega (arith, few)) in
     subst (λ p. Each (λ site. Breaks (woven p generated_instructions) too_many site → ⊥) (sites (woven p generated_instructions))) of.same (woven_within of.fs of.last_a of.last_b (omega (arith, of.count, few)))
+
+pub generated_breaks_no_number : WovenBreaksNoNumber
+generated_breaks_no_number number stages few item first =
+    let w : ProgramTree = woven (generated_model number stages) generated_instructions in
+    (each_right (IsWithin w) first.before (first.site ∷ first.after) (subst (Each (IsWithin w)) first.in_order (generated_within_numbers number stages few))).0 first.broken

@@ -6,12 +6,17 @@ use Rattle.xs_tree.specs.Text.{program_text}
 use Rattle.xs_tree.specs.Trace.{Each}
 use Rattle.xs_tree.specs.Bytes.{HasDepths}
 use Rattle.xs_fei.specs.InstructionText.{instructions_text}
-use Rattle.xs_fei_reader.specs.Within.{HaveInstructionDepths}
-use Rattle.xs_parse.specs.Within.{HasProgramDepths}
+use Rattle.xs_fei_reader.specs.Within.{HaveInstructionDepths, AreInstructionsTooDeep}
+use Rattle.xs_fei_reader.specs.InstructionPlaces.{IsInstructions}
+use Rattle.xs_parse.specs.declared.fault.ParseFault.{ParseFault}
+use Rattle.xs_parse.specs.declared.fault.ParseFault.TheVariants.{OutOfMemory}
+use Rattle.xs_parse.specs.Stops.{IsExpression, IsTooDeep, FaultMeans}
+use Rattle.xs_parse.specs.Symbols.{IsProgram}
+use Rattle.xs_parse.specs.Within.{HasProgramDepths, IsProgramTooDeep}
 use Rattle.xs_flattening.specs.Flat.{FlatLeaf, FlatInstance, FlatModel}
 use Rattle.xs_flattening.specs.History.{Mode, with_history}
 use Rattle.xs_flattening.specs.Items.{instances_of}
-use Rattle.xs_flattening.specs.Rules.{Rule, too_many, sites, Breaks, IsAccepted}
+use Rattle.xs_flattening.specs.Rules.{Rule, too_many, sites, Breaks, IsFirstBroken, IsAccepted}
 use Rattle.xs_flattening.specs.ValueRules.{BreaksValue}
 use Rattle.xs_flattening.specs.ResolvedAt.{IsResolvedAt}
 use Rattle.xs_flattening.specs.Model.{IsFlatOf}
@@ -64,6 +69,11 @@ abbrev pub WovenIsWithinNumbers : Type 0
 WovenIsWithinNumbers =
     (number stages : ℕ) → stages ≤ 256 → Each (λ site. Breaks (woven (generated_model number stages) generated_instructions) too_many site → ⊥) (sites (woven (generated_model number stages) generated_instructions))
 
+-- so that it is not that limit that it breaks first
+abbrev pub WovenBreaksNoNumber : Type 0
+WovenBreaksNoNumber =
+    (number stages : ℕ) → stages ≤ 256 → (item : ℕ) → IsFirstBroken (woven (generated_model number stages) generated_instructions) too_many item → ⊥
+
 -- and its flat model, with history bits for as many faults as stages, is not too large
 abbrev pub WovenIsSmall : Type 0
 WovenIsSmall =
@@ -93,3 +103,18 @@ InstructionTextHasDepths = HaveInstructionDepths (instructions_text generated_in
 -- and the word of the top event
 abbrev pub TopTextHasDepths : Type 0
 TopTextHasDepths = HasDepths (codes "dead") generated_top
+
+-- so that reading the text of the model fails for want of memory alone
+abbrev pub GeneratedTextIsRead : Type 0
+GeneratedTextIsRead =
+    (number stages : ℕ) → stages ≤ 64 → (f : ParseFault) → FaultMeans IsProgram (IsProgramTooDeep (program_text (generated_model number stages))) (program_text (generated_model number stages)) f →
+    f ≡ OutOfMemory
+
+-- and that of the instructions
+abbrev pub InstructionTextIsRead : Type 0
+InstructionTextIsRead =
+    (f : ParseFault) → FaultMeans IsInstructions (AreInstructionsTooDeep (instructions_text generated_instructions)) (instructions_text generated_instructions) f → f ≡ OutOfMemory
+
+-- and that of the word of the top event
+abbrev pub TopTextIsRead : Type 0
+TopTextIsRead = (f : ParseFault) → FaultMeans IsExpression (IsTooDeep (codes "dead")) (codes "dead") f → f ≡ OutOfMemory

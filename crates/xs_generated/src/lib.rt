@@ -12,14 +12,15 @@
 //! break no rule of kinds; by `Expressions`, `Roots` and `Typed` the generated ones are such. `Top` has the event,
 //! `Instructions` the rules of a weave, `Faults` the number of faults, and `Woven` and `Sizes` the extension's
 //! numbers and its size with history. `Texts` has the lengths of the texts; a text of at most 2,000 bytes nests its
-//! parentheses less than 1,000 deep, by `Short` and `Depths`, whatever it spells.
+//! parentheses less than 1,000 deep, by `Short` and `Depths`, whatever it spells. So by `Readings` nothing but want
+//! of memory stops a reading of them.
 //!
 //! ```text
 //! // 999 stages are 1,000 instances with `main`; 256 stages have 256 faults, and 768 variables in the extension
 //! ```
 #![tactic(auto)]
 
-ghost use Rattle.xs_generated.specs.Laws.{GeneratedIsAccepted, GeneratedIsTyped, GeneratedTopKeepsNames, GeneratedTopIsTyped, GeneratedItemsAreKept, GeneratedFaultsAreFew, GeneratedUsesAreKept, GeneratedFaultsAreStages, WovenIsWithinNumbers, WovenIsSmall, GeneratedTextIsShort, GeneratedTextHasDepths, InstructionTextIsShort, InstructionTextHasDepths, TopTextHasDepths};
+ghost use Rattle.xs_generated.specs.Laws.{GeneratedIsAccepted, GeneratedIsTyped, GeneratedTopKeepsNames, GeneratedTopIsTyped, GeneratedItemsAreKept, GeneratedFaultsAreFew, GeneratedUsesAreKept, GeneratedFaultsAreStages, WovenIsWithinNumbers, WovenIsSmall, GeneratedTextIsShort, GeneratedTextHasDepths, InstructionTextIsShort, InstructionTextHasDepths, TopTextHasDepths, GeneratedTextIsRead, InstructionTextIsRead, TopTextIsRead, WovenBreaksNoNumber};
 
 /// A generated model of less than 1,000 stages breaks no rule of names or of kinds, and no limit.
 pub fn generated_models_are_lawful()
@@ -46,6 +47,7 @@ pub fn generated_instructions_are_taken()
 /// a history bit for each fault.
 pub fn generated_extensions_pass_no_limit()
     ensures numbers { WovenIsWithinNumbers }
+    ensures first { WovenBreaksNoNumber }
     ensures size { WovenIsSmall }
 {}
 
@@ -57,4 +59,11 @@ pub fn generated_texts_are_within_depths()
     ensures instructions_short { InstructionTextIsShort }
     ensures instructions_depths { InstructionTextHasDepths }
     ensures top_depths { TopTextHasDepths }
+{}
+
+/// Up to 64 stages nothing but want of memory stops a reading of the two texts and of the word `dead`.
+pub fn generated_texts_are_read()
+    ensures model { GeneratedTextIsRead }
+    ensures instructions { InstructionTextIsRead }
+    ensures top { TopTextIsRead }
 {}
