@@ -11,7 +11,7 @@ use Rattle.xs_flattening.proofs.Reaches.{each_right}
 use Rattle.xs_flattening.proofs.Conditions.{each_join, each_flat}
 use Rattle.xs_effects.specs.AddedNames.{own_name, mode_variable}
 use Rattle.xs_weave.specs.Woven.{mode_type, woven_module, woven}
-use Rattle.xs_generate.specs.Generator.{stage_name, relay_module, relay_slice, generated_instructions}
+use Rattle.xs_generate.specs.Generator.{stage_name, relay_module, relay_slice, generated_instructions, generated_model}
 use Rattle.xs_generated.specs.Laws.{WovenIsWithinNumbers, WovenBreaksNoNumber}
 use Rattle.xs_generated.proofs.Stages.{program_with, program_of, generated_of_stages}
 use Rattle.xs_generated.proofs.Items.{items_from, item_stage}
