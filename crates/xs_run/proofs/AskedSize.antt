@@ -1,4 +1,4 @@
--- The size that words ask a table for is at most two.
+-- The size that words ask a table for is at most two, and the stages that they ask a case for are at most 64.
 use Rattle.std.proofs.Common.{◌≡◌, ◌≤◌, inl, inr, ℕ, List, [], ◌∷◌, Option, Some, refl, subst}
 use Rattle.std.specs.Prelude.{codes}
 use Rattle.xs_tree.specs.ProgramTree.{Text}
@@ -8,9 +8,9 @@ use Rattle.xs_run.specs.Commanded.{command_of, IsAskable}
 use Rattle.xs_words.specs.declared.choice.Kind.{Kind}
 use Rattle.xs_words.specs.declared.choice.Kind.TheVariants as kind
 use Rattle.xs_words.specs.declared.verb.Verb.TheVariants as verb
-use Rattle.xs_words.specs.Commands.{Given, fmea}
+use Rattle.xs_words.specs.Commands.{Given, fmea, make}
 use Rattle.xs_words.specs.Table.{Choice, options_of, kind_in, Fits}
-use Rattle.xs_words.specs.Meaning.{Each, Gives, IsLawful, AreLawful, Makes, tabulates as makes_table, Means as WordsMean}
+use Rattle.xs_words.specs.Meaning.{Each, Gives, IsLawful, AreLawful, Makes, tabulates as makes_table, generates, Means as WordsMean}
 
 same_kind : {o : Option Kind} {j k : Kind} → o ≡ Some j → o ≡ Some k → j ≡ k
 same_kind h g = cc
@@ -29,6 +29,13 @@ asked_small words model faults tops size depth asks = by_verb asks.verb asks.mak
     by_verb v (makes_table _ _ _ _ _ m f t s d) lawful =
         subst (λ n. n ≤ 2) s.is (given_fits (options_of verb.Fmea) asks.pairs (codes "--size") s.value lawful.each s.given (kind.Number 0 2) refl).below
 
+pub asked_few : (words : List Text) (number stages depth : ℕ) (model faults : Text) → WordsMean words (make number stages depth model faults) → stages ≤ 64
+asked_few words number stages depth model faults asks = by_verb asks.verb asks.makes asks.lawful
+  where
+    by_verb : (v : _) → Makes asks.pairs v (make number stages depth model faults) → AreLawful (options_of v) asks.pairs → stages ≤ 64
+    by_verb v (generates _ _ _ _ _ n s d m f) lawful =
+        subst (λ n. n ≤ 64) s.is (given_fits (options_of verb.Make) asks.pairs (codes "--stages") s.value lawful.each s.given (kind.Number 1 64) refl).below
+
 -- so that what is asked for can be done
 pub askable : (words : List Text) (a : Asked) → WordsMean words (command_of a) → IsAskable a
 askable words (ask.Extend e) means = tt
@@ -36,4 +43,4 @@ askable words (ask.Replay r) means = tt
 askable words (ask.Analyse a) means = tt
 askable words (ask.Check k) means = tt
 askable words (ask.Fmea f) means = asked_small words f.model.now f.faults.now f.tops.now f.size f.depth means
-askable words (ask.Make m) means = tt
+askable words (ask.Make m) means = asked_few words m.number m.stages m.depth m.model.now m.faults.now means

@@ -34,7 +34,7 @@ use Rattle.xs_run.specs.Wholes.{IsModeOf, IsWhole, IsWrongWhole, by_names, by_ki
 use Rattle.xs_run.specs.Inputs.{AreTaken}
 
 -- the fault is of a slice of its instance
-record IsOfSlice (p : ProgramTree) (i : InstructionTree) (fault : Fault) : Type 0 where
+pub record IsOfSlice (p : ProgramTree) (i : InstructionTree) (fault : Fault) : Type 0 where
   pub slice : SliceTree
   pub is_slice : IsSlice p i fault.place slice
   pub name : fault.slice ≡ slice.name
@@ -56,7 +56,7 @@ module _ (p : ProgramTree) (i : InstructionTree) where
   of_module at (Some m) e = members (IsSlice p i at) (slices_of i m.name) (slices_of i m.name) (λ s h. h) (λ s h. (m, e, contains_among (slices_of i m.name) s h))
 
   -- each fault is of a slice
-  of_program : (faults : List Fault) → HasFaults p i faults → Each (IsOfSlice p i) faults
+  pub of_program : (faults : List Fault) → HasFaults p i faults → Each (IsOfSlice p i) faults
   of_program faults has =
       subst (Each (IsOfSlice p i)) (sym has.2)
       ((each_flat (IsOfSlice p i) (place_faults p i) has.0).1 (every has.0))
@@ -65,7 +65,7 @@ module _ (p : ProgramTree) (i : InstructionTree) where
       every [] = tt
       every (at ∷ places) = (of_slices at (slices_at p i at) (of_module at (module_at p at) refl), every places)
 
-  slice_modes : (w : FlatModel) (faults : List Fault) (modes : List Mode) → EachBoth (IsModeOf w) faults modes → Each (IsOfSlice p i) faults → Each (IsSliceMode p i w) modes
+  pub slice_modes : (w : FlatModel) (faults : List Fault) (modes : List Mode) → EachBoth (IsModeOf w) faults modes → Each (IsOfSlice p i) faults → Each (IsSliceMode p i w) modes
   slice_modes w [] [] are of = tt
   slice_modes w [] (f ∷ modes) are of = absurd are
   slice_modes w (a ∷ faults) [] are of = absurd are

@@ -12,7 +12,8 @@ command_of (ask.Check k) = check k.model.now k.faults.now k.top.now k.cert.now
 command_of (ask.Fmea f) = fmea f.model.now f.faults.now f.tops.now f.size f.depth
 command_of (ask.Make m) = make m.number m.stages m.depth m.model.now m.faults.now
 
--- the rows of a table that is asked for have at most two faults
+-- the rows of a table that is asked for have at most two faults, and a generated case has at most 64 stages
 abbrev pub IsAskable : Asked → Type 0
 IsAskable (ask.Fmea f) = f.size ≤ 2
+IsAskable (ask.Make m) = m.stages ≤ 64
 IsAskable _ = Unit {0}

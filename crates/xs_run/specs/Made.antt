@@ -1,10 +1,10 @@
 -- A generated case: what it is, the files and the summary that it leaves.
-use Rattle.std.specs.Prelude.{◌≡◌, ℕ, List, Some, ◌++◌, codes, length}
+use Rattle.std.specs.Prelude.{◌≡◌, ℕ, ◌≤◌, List, Some, ◌++◌, codes, length}
 use Rattle.std.specs.Fmt.{decimal}
 use Rattle.xs_desk.specs.declared.files.NamedFile.{NamedFile}
 use Rattle.xs_desk.specs.Files.{file_of}
 use Rattle.xs_desk.specs.Desk.{told_with, said_more, SaysPrefix, WritesPrefix}
-use Rattle.xs_tree.specs.ProgramTree.{Text, Formula}
+use Rattle.xs_tree.specs.ProgramTree.{Text, Formula, ProgramTree}
 use Rattle.xs_tree.specs.Text.{program_text}
 use Rattle.xs_fei.specs.InstructionText.{instructions_text}
 use Rattle.xs_generate.specs.Generator.{generated_model, generated_instructions}
@@ -23,6 +23,19 @@ pub record IsGenerated (number stages : ℕ) (c : Case) : Type 0 where
   pub is_case : IsCase c
   pub program : c.program ≡ generated_model number stages
   pub instructions : c.instructions ≡ generated_instructions
+
+-- a program of the generator, of at most 64 stages
+pub record IsOfGenerator (p : ProgramTree) : Type 0 where
+  pub number : ℕ
+  pub stages : ℕ
+  pub few : stages ≤ 64
+  pub is : p ≡ generated_model number stages
+
+-- the bytes are the text of one
+pub record IsGeneratedText (bytes : Text) : Type 0 where
+  pub program : ProgramTree
+  pub of : IsOfGenerator program
+  pub is : bytes ≡ program_text program
 
 -- the word of the generator's top event
 abbrev pub dead_word : Text

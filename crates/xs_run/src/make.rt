@@ -1,7 +1,7 @@
 // A generated case: its files, and the summary of its analysis.
 //
 // The case is read back from the two texts that are written, so that all that is known of a case from files is known of it, and
-// the files hold it. That the reading refuses none of them is not proved: where it would, the run ends for want of memory.
+// the files hold it. The reading refuses none of them, so that it ends for want of memory alone.
 ghost use Rattle.std.specs.Prelude.{◌≡◌, ◌≤◌, ◌++◌, IfOk, OnOk, IsErrOf};
 ghost use Rattle.xs_desk.specs.Desk.{Rose};
 ghost use Rattle.xs_desk.specs.declared.desk.WriteStop.TheVariants as write_stop;
@@ -20,14 +20,18 @@ ghost use Rattle.xs_run.specs.Models.{IsModelText, IsLawful, IsSpelled};
 ghost use Rattle.xs_run.specs.Inputs.{IsInstructionText};
 ghost use Rattle.xs_run.specs.Loaded.{case_of as case_with, IsLoaded, IsLoadedFrom, IsTopIn};
 ghost use Rattle.xs_run.specs.Searches.{case_in, IsEvent};
-ghost use Rattle.xs_run.specs.Made.{dead_word, HasMade, MakesInPart, summary_line, made_case, IsMaking, IsSummary};
+ghost use Rattle.xs_run.specs.declared.input.Stop.TheVariants as stops;
+ghost use Rattle.xs_run.specs.Wrongs.{IfRefused};
+ghost use Rattle.xs_run.specs.Made.{dead_word, IsOfGenerator, IsGeneratedText, HasMade, MakesInPart, summary_line, made_case, IsMaking, IsSummary};
 
 use crate::event::LoadedEvent;
+use crate::input::Stop;
 use crate::loaded::{LoadedCase, case_of};
 use crate::model::{LoadedModel, model_of};
 use crate::search::{analysed, size_of, status_of};
 use crate::status::Status;
 use crate::top::load_top;
+use crate::wrong::Wrong;
 use std::alloc::Global;
 use xs_adviser::Panel;
 use xs_cuts_extended::told;
@@ -37,9 +41,6 @@ use xs_flat::Flat;
 use xs_generate::{generated_instructions, generated_model};
 use xs_tree::{Expr, print_program};
 use xs_value::{ByteList, Ending, OutOfMemory};
-
-/// The limit of a file of a case, in bytes.
-const LIMIT: usize = 1_048_576;
 
 /// A generated case with its top event, and the texts of its model and its instructions.
 #[derive(Drop)]
@@ -68,6 +69,7 @@ pub struct Summary {
 
 /// Generates a case of a number and so many stages.
 pub(crate) fn generate(alloc: Global, number: u32, stages: u32) -> Result<Generated, OutOfMemory>
+    requires { stages ≤ 64 }
     ensures event { IfOk result (λ g. IsEvent dead_word g.loaded) }
     ensures program { IfOk result (λ g. (case_in g.loaded).program ≡ generator.generated_model number stages) }
     ensures instructions { IfOk result (λ g. (case_in g.loaded).instructions ≡ generator.generated_instructions) }
@@ -104,6 +106,8 @@ fn instruction_text(alloc: Global) -> Result<Vec<u8>, OutOfMemory>
 
 /// The case of two texts, with the top event `dead`.
 fn read_back(alloc: Global, program: &[u8], instructions: &[u8]) -> Result<LoadedEvent, OutOfMemory>
+    requires program { IsGeneratedText program.now }
+    requires instructions { instructions.now ≡ instructions_text generator.generated_instructions }
     ensures event { IfOk result (IsEvent dead_word) }
     ensures program { IfOk result (λ l. IsModelText program.now (program_tree l.model.program)) }
     ensures instructions { IfOk result (λ l. IsInstructionText instructions.now (instruction_tree l.case.instructions)) }
@@ -114,52 +118,70 @@ fn read_back(alloc: Global, program: &[u8], instructions: &[u8]) -> Result<Loade
     Ok(LoadedEvent { model, case, top })
 }
 
-/// The model that the bytes spell. One that is refused is want of memory.
+/// The model of the generator's text, which is not refused.
 fn read_model(alloc: Global, bytes: &[u8]) -> Result<LoadedModel, OutOfMemory>
+    requires { IsGeneratedText bytes.now }
     ensures text { IfOk result (λ l. IsModelText bytes.now (program_tree l.program)) }
     ensures lawful { IfOk result (λ l. IsLawful (program_tree l.program) (model_tree l.typed.model)) }
     ensures in_var { IfOk result (λ l. HasInstancesInVar (program_tree l.program)) }
     ensures spelled { IfOk result (λ l. IsSpelled (program_tree l.program)) }
 {
-    if bytes.len() > LIMIT {
-        return Err(OutOfMemory);
-    }
     match model_of(alloc, bytes) {
         Ok(model) => Ok(model),
-        Err(_wrong) => Err(OutOfMemory),
+        Err(wrong) => Err(want_of(wrong)),
     }
 }
 
-/// The extension of the model by the instructions that the bytes spell. One that is refused is want of memory.
+/// The extension of a generated model by the generator's instructions, which are not refused.
 fn read_case(alloc: Global, bytes: &[u8], model: &LoadedModel) -> Result<LoadedCase, OutOfMemory>
+    requires text { bytes.now ≡ instructions_text generator.generated_instructions }
+    requires generated { IsOfGenerator (program_tree model.now.program) }
     requires lawful { IsLawful (program_tree model.now.program) (model_tree model.now.typed.model) }
     requires in_var { HasInstancesInVar (program_tree model.now.program) }
     requires spelled { IsSpelled (program_tree model.now.program) }
     ensures text { IfOk result (IsLoadedFrom bytes.now) }
     ensures loaded { IfOk result (IsLoaded (program_tree model.now.program)) }
 {
-    if bytes.len() > LIMIT {
-        return Err(OutOfMemory);
-    }
     match case_of(alloc, bytes, model) {
         Ok(case) => Ok(case),
-        Err(_wrong) => Err(OutOfMemory),
+        Err(wrong) => Err(want_of(wrong)),
     }
 }
 
-/// The top event `dead` over the extension. One that is refused is want of memory.
+/// Want of memory, where nothing is refused.
+fn want_of(wrong: Wrong) -> OutOfMemory
+    requires { IfRefused (λ fault. ⊥) wrong }
+{
+    match wrong {
+        Wrong::Memory => OutOfMemory,
+        Wrong::Refused(_fault) => unreachable!(),
+    }
+}
+
+/// The top event `dead` over the extension of a generated model, which is not refused.
 fn read_top(
     alloc: Global,
     model: &LoadedModel,
     case: &LoadedCase,
 ) -> Result<Expr<Flat>, OutOfMemory>
+    requires generated { IsOfGenerator (program_tree model.now.program) }
     requires lawful { IsLawful (program_tree model.now.program) (model_tree model.now.typed.model) }
     requires loaded { IsLoaded (program_tree model.now.program) case.now }
     ensures { IfOk result (λ tree. IsTopIn (case_with (program_tree model.now.program) case.now) dead_word (flat_tree tree)) }
 {
     match load_top(alloc, "dead", model, case) {
         Ok(top) => Ok(top),
-        Err(_stop) => Err(OutOfMemory),
+        Err(stop) => Err(want_at(stop)),
+    }
+}
+
+/// Want of memory, where nothing else stops the work.
+fn want_at(stop: Stop) -> OutOfMemory
+    requires { stop ≡ stops.Memory }
+{
+    match stop {
+        Stop::Memory => OutOfMemory,
+        Stop::Desk | Stop::Refused(_) => unreachable!(),
     }
 }
 

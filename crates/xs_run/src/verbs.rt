@@ -129,6 +129,7 @@ fn tabulate<D: Desk>(alloc: Global, desk: &mut D, asked: &Fmea, panel: &mut Pane
 
 /// Generates a case, writes it, searches it, and says its line.
 fn make_case<D: Desk>(alloc: Global, desk: &mut D, asked: &Make, panel: &mut Panel) -> Status
+    requires { asked.now.stages ≤ 64 }
     ensures answered { IsCarriedOut (command_of (ask.Make asked.now)) result (D.files desk.old) (D.files desk.new) (D.said desk.old) (D.said desk.new) }
     ensures left { IsLeftInPart (command_of (ask.Make asked.now)) (D.files desk.old) (D.files desk.new) (D.said desk.old) (D.said desk.new) }
     ensures failed { result ≡ Status.Desk → Rose (D.faults desk.old) (D.faults desk.new) }
@@ -250,6 +251,7 @@ fn prepare_table<D: Desk>(alloc: Global, desk: &mut D, asked: &Fmea) -> Result<T
 
 /// Generates a case, with where its files go.
 fn prepare_made<'a>(alloc: Global, asked: &Make<'a>) -> Result<Making<'a>, OutOfMemory>
+    requires { asked.now.stages ≤ 64 }
     ensures ok { IfOk result (λ m. MakeComesTo asked.now.number asked.now.stages asked.now.depth asked.now.model.now asked.now.faults.now
         (makes (made_case m) m.stages m.depth m.model.now m.faults.now)) }
     ensures making { IfOk result IsMaking }

@@ -1,5 +1,13 @@
 use Rattle.xs_scope.specs.ModelTree.{model_tree}
+use Rattle.xs_tree.specs.ProgramTree.{program_tree}
+use Rattle.xs_run.proofs.GeneratedLaws.{text_of_generator}
 use Rattle.xs_run.proofs.make.read_back.Goals as goal
+
+pub read_case-requires-clause-generated : goal.read_case-requires-clause-generated
+read_case-requires-clause-generated c = text_of_generator c.args.program.now (program_tree c.in_ok-model.model.program) c.requires.program c.in_ok-model.ensures.text
+
+pub read_top-requires-clause-generated : goal.read_top-requires-clause-generated
+read_top-requires-clause-generated c = text_of_generator c.args.program.now (program_tree c.in_ok-model.model.program) c.requires.program c.in_ok-model.ensures.text
 
 pub returns-clause-event : goal.returns-clause-event
 returns-clause-event c =

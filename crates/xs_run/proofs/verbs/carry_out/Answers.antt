@@ -71,3 +71,6 @@ pub returns-in-Make-clause-left : goal.returns-in-Make-clause-left
 returns-in-Make-clause-left g c =
     subst (λ a. IsLeftInPart (command_of a) (g.D.Desk.files c.args.desk.now) (g.D.Desk.files c.make_case.new.desk) (g.D.Desk.said c.args.desk.now) (g.D.Desk.said c.make_case.new.desk))
     (sym c.in-Make.is) c.make_case.ensures.left
+
+pub make_case-requires : goal.make_case-requires
+make_case-requires g c = subst IsAskable c.in-Make.is c.requires

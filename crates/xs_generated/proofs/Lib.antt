@@ -1,0 +1,17 @@
+pub mod Stages
+pub mod Meanings
+pub mod Items
+pub mod Accepted
+pub mod Truths
+pub mod Expressions
+pub mod Roots
+pub mod Typed
+pub mod Top
+pub mod Instructions
+pub mod Woven
+pub mod Sizes
+pub mod Faults
+pub mod Short
+pub mod Depths
+pub mod Texts
+pub mod Readings
