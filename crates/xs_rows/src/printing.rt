@@ -18,7 +18,7 @@ fn a_lamp_prints_line_by_line(rt: HostRuntime) -> Result<(), Fail> {
     let alloc = rt.alloc();
     let lamp = b"MODULE main VAR on:boolean; ASSIGN init(on):=TRUE; next(on):=on;";
     let read = program_of(&rt, alloc, lamp);
-    let text = print_program(alloc, &read.copy(alloc)?)?;
+    let text = print_program(alloc, &read.copy()?)?;
     let lines =
         b"MODULE main\nVAR\n  on : boolean;\nASSIGN\n  init(on) := TRUE;\n  next(on) := on;\n";
     assert_eq!(rt; text.as_slice(), lines.as_slice());
