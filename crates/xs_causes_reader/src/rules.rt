@@ -191,11 +191,7 @@ fn small(number: u64) -> Result<u32, OutOfMemory>
 }
 
 /// The numbers of the faults with these names.
-fn strikes_of(
-    alloc: Global,
-    faults: &[Fault],
-    names: &[NameList],
-) -> Result<FaultSet, OutOfMemory>
+fn strikes_of(alloc: Global, faults: &[Fault], names: &[NameList]) -> Result<FaultSet, OutOfMemory>
     ensures { IfOk result (λ strikes. EachBoth (IsNumberOf (paths_of faults.now)) names.now strikes) }
 {
     let mut strikes = FaultSet::new(alloc);
