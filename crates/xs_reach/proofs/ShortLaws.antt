@@ -66,16 +66,19 @@ module _ (files : List NamedFile) (s : Status) (before after : Told) (said now :
   done_is_short (causes model faults file top depth cert) h is =
       let l = h.finds.loaded in
       let finding = h.finds.finding in
-      (l, h.finds.holds, staged_short l depth s k finding.searched.answer.found finding.analysis.end (h.ends ∙ same_end finding.ends) finding.searched.answer.ends is)
+      let short = staged_short l depth s k finding.searched.answer.found finding.analysis.end (h.ends ∙ same_end finding.ends) finding.searched.answer.ends is in
+      (l, h.finds.holds, short.0, short.1)
     where
       same_end : {d e : Ending} → d ≡ e → ended_with d ≡ ended_with e
       same_end e = cc
   done_is_short (check_causes model faults file top cert) h is = never h.1 is
   done_is_short (orders model faults top set first second depth cert) h is =
-      (h.c, h.holds, order_short h.c depth s k _ first second h.found.tree h.found.order h.found.ending h.ends h.found.ends_by is)
+      let short = order_short h.c depth s k _ first second h.found.tree h.found.order h.found.ending h.ends h.found.ends_by is in
+      (h.c, h.holds, short.0, short.1)
   done_is_short (check_orders model faults top set first second claim cert) h is = never h.0.ends is
   done_is_short (odds model faults top depth) h is =
-      (h.0.answer.c, h.0.answer.holds, analysis_short h.0.answer.c depth s k h.0.answer.event _ h.0.analysis.sets h.0.analysis.ending h.0.ends h.0.answer.found.ends is)
+      let short = analysis_short h.0.answer.c depth s k h.0.answer.event _ h.0.analysis.sets h.0.analysis.ending h.0.ends h.0.answer.found.ends is in
+      (h.0.answer.c, h.0.answer.holds, short.0, short.1)
 
 -- where the files are told
 pub short_of : (told : Option (List NamedFile)) (c : Command) (s : Status) (before after : Told) (said now : Said) (k : ℕ) → IfSome told (λ files. IsDone c files s before after said now) → s ≡ status.Bounded k →
