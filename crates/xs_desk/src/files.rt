@@ -28,6 +28,26 @@ impl NamedFile {
         let bytes = ByteList::from_slice(alloc, bytes)?;
         Ok(NamedFile { name, bytes })
     }
+
+    /// A copy of its own, which has the same name and holds the same bytes.
+    pub fn copy(&self) -> Result<NamedFile, OutOfMemory>
+        ensures { IfOk result (λ made. made ≡ self.now) }
+    {
+        let name = self.name.copy()?;
+        let bytes = self.bytes.copy()?;
+        Ok(NamedFile { name, bytes })
+    }
+}
+
+/// A copy of its own of these files, in their order.
+pub fn copy_files(alloc: Global, files: &[NamedFile]) -> Result<FileList, OutOfMemory>
+    ensures { IfOk result (λ made. made ≡ files.now) }
+{
+    let mut made = Items::new(alloc);
+    for file in files {
+        made.push(file.copy()?)?;
+    }
+    Ok(made)
 }
 
 /// The bytes of the file with this name.

@@ -112,10 +112,12 @@ IsDelivered (analyses c word depth size extended cert) ended before after said n
 IsDelivered (tabulates c events size depth) ended before after said now = HasTabulated c events size depth ended before after said now
 IsDelivered (makes c stages depth model faults) ended before after said now = HasMade c stages depth model faults ended before after said now
 
--- a part of the outcome stands: at most a prefix of what would be written and said
+-- A part of the outcome stands: at most a prefix of what would be written and said. Nothing of a report is said before each file is
+-- whole.
 abbrev pub IsDeliveredInPart : Outcome → Told → Told → Said → Said → Type 0
 IsDeliveredInPart (refuses r) before after said now = (after ≡ before) × SaysPrefix said now (refusal_text r)
-IsDeliveredInPart (extends file text report) before after said now = WritesPrefix before after file text × SaysPrefix said now report
+IsDeliveredInPart (extends file text report) before after said now =
+    (WritesPrefix before after file text × (now ≡ said)) ⊎ ((after ≡ told_with before file text) × SaysPrefix said now report)
 IsDeliveredInPart (says report) before after said now = (after ≡ before) × SaysPrefix said now report
 IsDeliveredInPart (analyses c word depth size extended cert) before after said now = AnalysesInPart c word depth size extended cert before after said now
 IsDeliveredInPart (tabulates c events size depth) before after said now = TabulatesInPart c events size depth before after said now

@@ -34,7 +34,7 @@ pub fn copy_flat(alloc: Global, e: &Expr<Flat>) -> Result<Expr<Flat>, OutOfMemor
             copy_boxed(alloc, b)?,
         )),
         Expr::Case(branches) => Ok(Expr::Case(copy_branches(alloc, branches.as_slice())?)),
-        Expr::SetOf(members) => Ok(Expr::SetOf(copy_members(alloc, members.as_slice())?)),
+        Expr::SetOf(members) => Ok(Expr::SetOf(copy_expressions(alloc, members.as_slice())?)),
         Expr::Span(lo, hi) => Ok(Expr::Span(*lo, *hi)),
     }
 }
@@ -47,8 +47,12 @@ fn copy_boxed(alloc: Global, e: &Expr<Flat>) -> Result<Box<Expr<Flat>>, OutOfMem
     boxed(alloc, made)
 }
 
+/// A copy of its own of these expressions, in their order.
 #[cycle(copy)]
-fn copy_members(alloc: Global, members: &[Expr<Flat>]) -> Result<ExprList<Flat>, OutOfMemory>
+pub fn copy_expressions(
+    alloc: Global,
+    members: &[Expr<Flat>],
+) -> Result<ExprList<Flat>, OutOfMemory>
     ensures { IfOk result (λ made. map tree_of made ≡ map tree_of members.now) }
 {
     let mut made = Items::new(alloc);
@@ -58,8 +62,9 @@ fn copy_members(alloc: Global, members: &[Expr<Flat>]) -> Result<ExprList<Flat>,
     Ok(made)
 }
 
+/// A copy of its own of these branches, in their order.
 #[cycle(copy)]
-fn copy_branches(
+pub fn copy_branches(
     alloc: Global,
     branches: &[(Expr<Flat>, Expr<Flat>)],
 ) -> Result<BranchList<Flat>, OutOfMemory>
@@ -166,7 +171,8 @@ impl FlatModel {
     }
 }
 
-fn copy_instances(alloc: Global, instances: &[Instance]) -> Result<InstanceList, OutOfMemory>
+/// A copy of its own of these instances, in their order.
+pub fn copy_instances(alloc: Global, instances: &[Instance]) -> Result<InstanceList, OutOfMemory>
     ensures { IfOk result (λ made. made ≡ instances.now) }
 {
     let mut made = Items::new(alloc);
@@ -176,7 +182,8 @@ fn copy_instances(alloc: Global, instances: &[Instance]) -> Result<InstanceList,
     Ok(made)
 }
 
-fn copy_variables(alloc: Global, variables: &[Variable]) -> Result<VariableList, OutOfMemory>
+/// A copy of its own of these variables, in their order.
+pub fn copy_variables(alloc: Global, variables: &[Variable]) -> Result<VariableList, OutOfMemory>
     ensures { IfOk result (λ made. map variable_tree made ≡ map variable_tree variables.now) }
 {
     let mut made = Items::new(alloc);
@@ -186,7 +193,8 @@ fn copy_variables(alloc: Global, variables: &[Variable]) -> Result<VariableList,
     Ok(made)
 }
 
-fn copy_formulas(alloc: Global, formulas: &[Formula]) -> Result<FlatList, OutOfMemory>
+/// A copy of its own of these formulas, in their order.
+pub fn copy_formulas(alloc: Global, formulas: &[Formula]) -> Result<FlatList, OutOfMemory>
     ensures { IfOk result (λ made. map formula_tree made ≡ map formula_tree formulas.now) }
 {
     let mut made = Items::new(alloc);

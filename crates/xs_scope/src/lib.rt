@@ -31,7 +31,10 @@ pub mod uses;
 pub mod walk;
 
 pub use bounds::Bounds;
-pub use copy::{copy_faults, copy_flat};
+pub use copy::{
+    copy_branches, copy_expressions, copy_faults, copy_flat, copy_formulas, copy_instances,
+    copy_variables,
+};
 pub use fault::{FlatFault, Rule};
 pub use model::{
     Fault, FaultList, Flat, FlatList, FlatModel, Formula, Instance, InstanceList, Role, Variable,
