@@ -1,7 +1,7 @@
 -- The store's trail begins with the literals that it has followed, whatever is made true or taken back.
-use Rattle.std.proofs.Common.{◌≡◌, ℕ, ◌+◌, ◌<◌, ◌≤◌, List, [], ◌∷◌, ◌++◌, length, map, take, drop, reverse, replicate, Option, None, Some, Result, Ok, Err, OnOk, refl, sym, ap, ◌∙◌, subst, arith}
+use Rattle.std.proofs.Common.{◌≡◌, ℕ, ◌+◌, ◌≤◌, List, [], ◌∷◌, ◌++◌, length, take, reverse, replicate, Option, None, Some, Result, Ok, Err, OnOk, refl, sym, ap, ◌∙◌, arith}
 use Rattle.std.specs.Prelude.{slice_get}
-use Rattle.std.proofs.lemmas.List.{map-append, take-map, take-take, take-append-le, take_all, length-map, length-take, length-append, reverse-reverse, reverse-append}
+use Rattle.std.proofs.lemmas.List.{map-append, take-map, take-take, take-append-le, take_all, replicate-append-replicate, length-map, length-take, length-append, reverse-reverse, reverse-append}
 use Rattle.xs_lits.specs.Literal.{Literal}
 use Rattle.xs_lits.specs.Assignment.{Assignment, value_of, made_true}
 use Rattle.xs_lits.specs.Trail.{assigned_from, assigned_by}
@@ -10,7 +10,7 @@ use Rattle.xs_solver.specs.declared.trail.Entry.{Entry}
 use Rattle.xs_solver.specs.TrailRecord.{TrailValue}
 use Rattle.xs_solver.specs.declared.solve.Verdict.{Verdict}
 use Rattle.xs_solver.specs.declared.solve.Verdict.TheVariants.{Sat, Unsat}
-use Rattle.xs_solver.specs.Trail.{assigned, IsFresh, below, lits_of, IsFollowed}
+use Rattle.xs_solver.specs.Trail.{assigned, IsFresh, below, lits_of, IsFollowed, IsIdle}
 use Rattle.xs_solver.specs.Search.{IsSound}
 use Rattle.xs_solver.specs.Verdict.{IsAdvance}
 use Rattle.xs_solver.proofs.TrailLemmas.{slice_push}
@@ -99,6 +99,21 @@ next_free vars n s xs i e places at fresh is =
     ap (assigned_by vars) (is ∙ ap lits_of (sym (reverse-reverse (take i xs))))
     ∙ (sym (assigned_same (vars + 1) (below xs i)) ∙ ap (λ m. assigned m (below xs i)) places) in
     ap (λ (a : Assignment). value_of a e.lit) same ∙ (fresh_at n xs i e at fresh).2
+
+-- a trail without literals, once all were taken back or one more variable came
+pub idle_undone : (vars : ℕ) (t u : TrailValue) → length t.values ≡ vars + 1 → u.values ≡ assigned (length t.values) [] → u.entries ≡ [] → u.followed ≤ 0 → IsIdle vars u
+idle_undone vars t u places values none fewer = record {
+  values = values ∙ ap (λ n. replicate n None) places;
+  entries = none;
+  followed = omega arith;
+}
+
+pub idle_more : (vars : ℕ) (t u : TrailValue) → IsIdle vars t → u.values ≡ t.values ++ None ∷ [] → u.entries ≡ t.entries → u.followed ≡ t.followed → IsIdle (vars + 1) u
+idle_more vars t u idle values entries followed = record {
+  values = values ∙ (ap (λ (a : Assignment). a ++ None ∷ []) idle.values ∙ replicate-append-replicate (vars + 1) 1 None);
+  entries = entries ∙ idle.entries;
+  followed = followed ∙ idle.followed;
+}
 
 -- how much is followed plays no part in the rest
 pub sound_followed : (clauses : List (List Literal)) (assumptions : List Literal) (t : TrailValue) (k : ℕ) → IsSound clauses assumptions t → IsSound clauses assumptions (record t { followed = k })

@@ -1,6 +1,5 @@
-use Rattle.std.proofs.Common.{◌≡◌, ◌+◌, Some, List, length, take, refl, sym, ap, ◌∙◌, subst, arith}
+use Rattle.std.proofs.Common.{◌≡◌, ◌+◌, Some, length, take, refl, sym, ap, ◌∙◌, subst, arith}
 use Rattle.std.specs.Prelude.{slice_get}
-use Rattle.xs_lits.specs.Literal.{Literal}
 use Rattle.xs_lits.specs.StoreRecord.{StoreValue}
 use Rattle.xs_solver.specs.TrailRecord.{TrailValue}
 use Rattle.xs_solver.specs.Trail.{lits_of, IsFollowed}
