@@ -132,6 +132,9 @@ fn model_holds(alloc: Global) -> Option<bool> {
 fn single_expressions(rt: HostRuntime) {
     assert!(rt; matches!(model_holds(rt.alloc()), Some(true)));
     for (i, row) in SINGLES.iter().enumerate() {
-        assert!(rt; matches!(single_holds(rt.alloc(), row), Some(true)), "row {i}");
+        assert!(rt;
+            matches!(single_holds(rt.alloc(), row), Some(true)),
+            "row {i}"
+        );
     }
 }

@@ -54,6 +54,9 @@ fn slices_text(alloc: Global, text: &[u8]) -> Option<Vec<u8>> {
 #[test]
 fn a_slice_prints_its_start_and_a_mode_its_mark_and_guard(rt: HostRuntime) {
     for (i, (text, printed)) in SLICES.iter().enumerate() {
-        assert!(rt; is_text(slices_text(rt.alloc(), text), printed), "slice {i}");
+        assert!(rt;
+            is_text(slices_text(rt.alloc(), text), printed),
+            "slice {i}"
+        );
     }
 }

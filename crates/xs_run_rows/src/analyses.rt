@@ -234,12 +234,7 @@ static SAID: [Said; 3] = [
         0,
         b"faults 2\nfault 1 A.on\nfault 2 B.on\ntops 2\ntop 1 complete\ntop 2 complete\nrow : no no\nrow 1 : no yes\nrow 2 : no no\nrow 1 2 : yes yes\n",
     ),
-    (
-        b"a & b; next(a)",
-        &TABLE,
-        5,
-        b"refused top flat 12 at 2\n",
-    ),
+    (b"a & b; next(a)", &TABLE, 5, b"refused top flat 12 at 2\n"),
     (
         b"",
         &MAKE,

@@ -330,12 +330,7 @@ fn long_files_and_wide_models_are_refused(rt: HostRuntime) -> Result<(), OutOfMe
 }
 
 /// A model, its instructions, what a run over them says, and a part of what it writes.
-type Part = (
-    &'static [u8],
-    &'static [u8],
-    &'static [u8],
-    &'static [u8],
-);
+type Part = (&'static [u8], &'static [u8], &'static [u8], &'static [u8]);
 
 static FALLING_PART: Part = (
     b"MODULE main VAR x : 0..9;",

@@ -123,12 +123,7 @@ static INSTANCES: [(u32, i32, &[u8]); 2] = [
     (1001, 3, b"refused model flat 14 at 1002\n"),
 ];
 
-fn instances_hold(
-    alloc: Global,
-    last: u32,
-    number: i32,
-    said: &[u8],
-) -> Result<bool, OutOfMemory> {
+fn instances_hold(alloc: Global, last: u32, number: i32, said: &[u8]) -> Result<bool, OutOfMemory> {
     let model = declared(alloc, b"MODULE Leaf MODULE main VAR", "e", "Leaf", 1, last)?;
     extends(alloc, &model, number, said)
 }
@@ -140,7 +135,10 @@ fn cut_models_and_limits_are_told(rt: HostRuntime) -> Result<(), OutOfMemory> {
     }
     assert!(rt; longest_model_is_read(rt.alloc())?);
     for (last, number, said) in &INSTANCES {
-        assert!(rt; instances_hold(rt.alloc(), *last, *number, said)?, "before {last}");
+        assert!(rt;
+            instances_hold(rt.alloc(), *last, *number, said)?,
+            "before {last}"
+        );
     }
     Ok(())
 }

@@ -116,12 +116,7 @@ fn a_trace_of_the_pulse_is_replayed_or_refused(rt: HostRuntime) -> Result<(), Ou
 }
 
 /// Whether a run over the lamp and an empty trace ends with this number and says this text.
-fn lamp_ends(
-    alloc: Global,
-    words: &[&str],
-    number: i32,
-    said: &[u8],
-) -> Result<bool, OutOfMemory> {
+fn lamp_ends(alloc: Global, words: &[&str], number: i32, said: &[u8]) -> Result<bool, OutOfMemory> {
     let given = [
         ("m", Some(LAMP)),
         ("f", Some(DARK)),
