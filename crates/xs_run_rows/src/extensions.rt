@@ -70,6 +70,7 @@ const LOOP_WRITTEN: &[u8] =
 static WORDS: [&str; 7] = ["extend", "--model", "m", "--faults", "f", "--extended", "x"];
 
 /// Files, and how a run over them ends: its number, what it says, and the file that it writes, if any.
+#[derive(Clone, Copy)]
 struct Row<'a> {
     model: Option<&'a [u8]>,
     faults: Option<&'a [u8]>,
