@@ -61,7 +61,7 @@ static FAILING: [Failing; 7] = [
 ];
 
 /// Whether so much of the whole stands in a file.
-fn stands(file: Option<&[u8]>, whole: &[u8], part: Stands) -> bool {
+fn is_there(file: Option<&[u8]>, whole: &[u8], part: Stands) -> bool {
     match part {
         Stands::Nothing => file.is_none(),
         Stands::First(count) => match file {
@@ -79,9 +79,9 @@ fn stops(alloc: Global, row: &Failing, extended: &[u8], cert: &[u8]) -> Result<b
     let number = ran(alloc, &ANALYSE, &mut desk, Vec::new(alloc));
     Ok(
         number == 7
-            && stands(desk.file("x"), extended, row.3)
-            && stands(desk.file("c"), cert, row.4)
-            && stands(Some(desk.said()), b"faults 1\n", Stands::First(row.5)),
+            && is_there(desk.file("x"), extended, row.3)
+            && is_there(desk.file("c"), cert, row.4)
+            && is_there(Some(desk.said()), b"faults 1\n", Stands::First(row.5)),
     )
 }
 
