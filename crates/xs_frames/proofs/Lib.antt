@@ -2,14 +2,13 @@ pub mod Count
 pub mod Sets
 pub mod MomentLemmas
 pub mod Short
-pub mod Links
 pub mod Framing
+pub mod StatesLeft
+pub mod LevelLaws
 pub mod BitLemmas
 pub mod LookLemmas
 pub mod PushLemmas
 pub mod OwedLemmas
 pub mod AdvanceLemmas
 pub mod QueryLemmas
-pub mod GuardLaws
-pub mod GuardingLemmas
-pub mod GuardedSteps
+pub mod AnswerLemmas

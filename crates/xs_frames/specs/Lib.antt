@@ -3,6 +3,7 @@ pub mod Condition
 pub mod Framed
 pub mod Counted
 pub mod Growing
+pub mod Levels
 pub mod Numbered
 pub mod Bits
 pub mod Path
