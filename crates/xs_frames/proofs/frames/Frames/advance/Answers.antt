@@ -1,4 +1,4 @@
-use Rattle.std.proofs.Common.{OnOk, subst}
+use Rattle.std.proofs.Common.{◌≡◌, ◌+◌, ◌-◌, length, OnOk, Result, Ok, Err, subst}
 use Rattle.xs_frames.specs.Framed.{ArePushed}
 use Rattle.xs_frames.specs.FramesRecord.{FramesValue}
 use Rattle.xs_frames.specs.Levels.{frames_of}
@@ -18,5 +18,11 @@ pub returns-clause-pushed : goal.returns-clause-pushed
 returns-clause-pushed g c =
     subst (λ (v : FramesValue). OnOk c.advance_frames-answer.result (ArePushed v.system (frames_of c.advance_frames-answer.new.frames))) c.self.view_is c.advance_frames-answer.ensures.pushed
 
-pub dummy : goal.dummy
-dummy g c = ?
+on_ok : {T E P Q : Type 0} (r : Result T E) → (P → Q) → OnOk r P → OnOk r Q
+on_ok (Ok x) f h = f h
+on_ok (Err x) f h = tt
+
+pub returns-clause-frontier : goal.returns-clause-frontier
+returns-clause-frontier g c =
+    subst (λ (v : FramesValue). OnOk c.advance_frames-answer.result (length (frames_of c.advance_frames-answer.new.frames) - 1 ≡ length v.frames - 1 + 1)) c.self.view_is
+    (on_ok c.advance_frames-answer.result (λ e. last_more c.self.inside.levels c.advance_frames-answer.new.frames e) c.advance_frames-answer.ensures.frontier)

@@ -1,4 +1,9 @@
-use Rattle.std.proofs.Common.{subst}
+use Rattle.std.proofs.Common.{◌≡◌, ◌∙◌, sym, subst, true, false, List, Result, Ok, Err, OnOk}
+use Rattle.std.specs.Result.{is_err}
+use Rattle.xs_lits.specs.Literal.{Literal}
+use Rattle.xs_frames.specs.Guarding.{IsHolding}
+use Rattle.xs_frames.proofs.LevelLaws.{frames_new}
+use Rattle.xs_frames.proofs.OwedLemmas.{levelled_new}
 use Rattle.xs_frames.specs.FramesRecord.{FramesValue}
 use Rattle.xs_frames.specs.Levels.{frames_of}
 use Rattle.xs_frames.specs.Numbered.{AreNumbered}
@@ -9,5 +14,20 @@ pub returns-then-self-clause-numbered : goal.returns-then-self-clause-numbered
 returns-then-self-clause-numbered c =
     subst (λ (v : FramesValue). AreNumbered v.system v.frames) c.self.view_is (numbered c.self.inside.system (frames_of c.self.inside.levels) c.self.invariant.levelled.framed)
 
-pub dummy : goal.dummy
-dummy c = ?
+when_ok : {T E P : Type 0} (r : Result T E) → is_err r ≡ false → OnOk r P → P
+when_ok (Ok x) e h = h
+when_ok (Err x) e h = absurd (differ e)
+  where
+    differ : true ≡ false → ⊥
+    differ e = cc
+
+pub invariant_of-self : goal.invariant_of-self
+invariant_of-self c =
+    record {
+      fit = c.self.invariant.fit;
+      levelled = levelled_new c.self.inside.system c.new.result c.new.ensures.held c.new.ensures.last;
+      kept = λ ready.
+          subst (λ (fs : List (List (List Literal))). IsHolding c.self.inside.system c.self.inside.bad fs c.begin_again-answer.new.self)
+          (sym (frames_new c.new.result c.new.ensures.held c.new.ensures.last))
+          (when_ok c.begin_again-answer.result (sym c.is_err-self-inside.ensures.value ∙ ready) c.begin_again-answer.ensures c.self.inside.system c.self.inside.bad (frames_of c.self.inside.levels) (c.self.invariant.kept c.if-self.false));
+    }

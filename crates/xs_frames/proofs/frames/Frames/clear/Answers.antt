@@ -16,6 +16,3 @@ returns-clause-frontier g c =
 
 pub returns-clause-numbered : goal.returns-clause-numbered
 returns-clause-numbered g c = numbered c.self.inside.system (frames_of c.clear_bad-answer.new.frames) c.clear_bad-answer.ensures.framed.framed
-
-pub dummy : goal.dummy
-dummy g c = ?
