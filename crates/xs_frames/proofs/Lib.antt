@@ -10,5 +10,12 @@ pub mod LookLemmas
 pub mod PushLemmas
 pub mod OwedLemmas
 pub mod AdvanceLemmas
-pub mod QueryLemmas
 pub mod AnswerLemmas
+pub mod QueryLemmas
+pub mod RoleLaws
+pub mod HeldLaws
+pub mod HeldSteps
+pub mod HeldLists
+pub mod GuardedLaws
+pub mod GuardedSteps
+pub mod GuardedVerdicts

@@ -1,14 +1,16 @@
 -- What holds of a search over the lists of a system and the guarded clauses of frames, and what its answers say.
-use Rattle.std.specs.Prelude.{◌≡◌, ℕ, zero, suc, ◌+◌, ◌*◌, ◌^◌, ◌<◌, ◌≤◌, List, [], ◌∷◌, ◌++◌, IsTrue, All, Contains, length}
-use Rattle.xs_lits.specs.Literal.{Literal, opposite}
+use Rattle.std.specs.Prelude.{◌≡◌, ℕ, zero, suc, ◌+◌, ◌*◌, ◌^◌, ◌<◌, ◌≤◌, false, List, [], ◌∷◌, ◌++◌, IsTrue, All, Contains, length, slice_index_or}
+use Rattle.xs_lits.specs.Literal.{Literal, plain, opposite}
 use Rattle.xs_lits.specs.Assignment.{Assignment}
 use Rattle.xs_lits.specs.Models.{TotalAssignment, literal_value, clause_value, all_true}
+use Rattle.xs_solver.specs.Kept.{added_of}
 use Rattle.xs_solver.specs.declared.solve.Verdict.{Verdict}
 use Rattle.xs_solver.specs.declared.solve.Verdict.TheVariants.{Sat, Unsat}
 use Rattle.xs_system.specs.declared.system.System.{System}
 use Rattle.xs_frames.specs.Bits.{values_of}
 use Rattle.xs_frames.specs.Framed.{frame_at}
-use Rattle.xs_frames.specs.Guards.{IsPut}
+use Rattle.xs_frames.specs.Roles.{Listed, first, step, bad, Role, renamed}
+use Rattle.xs_frames.specs.Guards.{IsPut, Layout, AreHeld}
 use Rattle.xs_frames.specs.declared.guarded.Beside.{Beside}
 use Rattle.xs_frames.specs.declared.guarded.Beside.TheVariants.{Nothing, Step, Bad}
 use Rattle.xs_frames.specs.declared.guarded.Guarded.{Guarded}
@@ -49,14 +51,114 @@ abbrev pub IsToldBy : System → List (List Literal) → List (List (List Litera
 IsToldBy system list frames beside i assumptions (Sat a) = IsModelOf system list frames beside i assumptions a
 IsToldBy system list frames beside i assumptions (Unsat core) = IsCoreOf system list frames beside i assumptions core
 
+-- the clauses that were added to the search
+abbrev pub added_in : Guarded → List (List Literal)
+added_in g = added_of g.search.kept.clauses g.search.kept.marks
+
+-- a guard is a variable above the places
+pub record IsGuardIn (places vars : ℕ) (l : Literal) : Type 0 where
+  pub positive : l.negated ≡ false
+  pub above : places < l.var
+  pub in_range : l.var ≤ vars
+
+-- the guards are variables of the search above those of states and inputs
 pub record IsWell (g : Guarded) : Type 0 where
-  pub small : g.places < 2 ^ 31
+  pub low : g.places < 2 ^ 31
+  pub vars : g.vars ≡ g.search.kept.vars
+  pub small : g.search.kept.vars < 2 ^ 62
+  pub room : g.places ≤ g.search.kept.vars
+  pub some : 0 < length g.frames.items
+  pub frames : All (IsGuardIn g.places g.search.kept.vars) g.frames.items
+  pub step : IsGuardIn g.places g.search.kept.vars g.step
+  pub bad : IsGuardIn g.places g.search.kept.vars g.bad
+  pub marked : length g.search.kept.marks ≡ length g.search.kept.clauses
+
+-- the places, the guards of the lists and those of the frames are the same
+pub record HasSameGuards (old new : Guarded) : Type 0 where
+  pub places : new.places ≡ old.places
+  pub step : new.step ≡ old.step
+  pub bad : new.bad ≡ old.bad
+  pub frames : new.frames.items ≡ old.frames.items
+
+-- clauses were added
+pub record HasPut (old new : Guarded) (cs : List (List Literal)) : Type 0 where
+  pub well : IsWell new
+  pub guards : HasSameGuards old new
+  pub vars : new.search.kept.vars ≡ old.search.kept.vars
+  pub added : added_in new ≡ added_in old ++ cs
+
+-- there are so many variables more
+pub record HasWidened (old new : Guarded) (count : ℕ) : Type 0 where
+  pub well : IsWell new
+  pub guards : HasSameGuards old new
+  pub vars : new.search.kept.vars ≡ old.search.kept.vars + count
+  pub added : added_in new ≡ added_in old
+
+-- the guard of the bad states is false from now on, and there is a new one
+pub record HasNewBad (old new : Guarded) : Type 0 where
+  pub well : IsWell new
+  pub places : new.places ≡ old.places
+  pub step : new.step ≡ old.step
+  pub bad : new.bad ≡ plain (old.search.kept.vars + 1)
+  pub frames : new.frames.items ≡ old.frames.items
+  pub vars : new.search.kept.vars ≡ old.search.kept.vars + 1
+  pub added : added_in new ≡ added_in old ++ (opposite old.bad ∷ []) ∷ []
+
+-- there is the guard of a frame more
+pub record HasNewFrame (old new : Guarded) : Type 0 where
+  pub well : IsWell new
+  pub places : new.places ≡ old.places
+  pub step : new.step ≡ old.step
+  pub bad : new.bad ≡ old.bad
+  pub frames : new.frames.items ≡ old.frames.items ++ plain (old.search.kept.vars + 1) ∷ []
+  pub vars : new.search.kept.vars ≡ old.search.kept.vars + 1
+  pub added : added_in new ≡ added_in old
+
+-- no clause, and the guards of the three lists above the places
+pub record IsEmpty (last highest : ℕ) (g : Guarded) : Type 0 where
+  pub well : IsWell g
+  pub places : g.places ≡ last
+  pub vars : g.search.kept.vars ≡ highest
+  pub frames : g.frames.items ≡ plain (last + 1) ∷ []
+  pub step : g.step ≡ plain (last + 2)
+  pub bad : g.bad ≡ plain (last + 3)
+  pub added : added_in g ≡ []
+
+-- the literal of a list has a variable in the search
+abbrev pub HasRoomFor : ℕ → ℕ → ℕ → Literal → Type 0
+HasRoomFor places base vars l = renamed places base l.var ≤ vars
+
+-- the guards under which a question is asked
+abbrev pub asked_guards : Guarded → Beside → ℕ → List Literal
+asked_guards g Nothing i = slice_index_or g.frames.items i g.step ∷ []
+asked_guards g Step i = slice_index_or g.frames.items i g.step ∷ g.step ∷ []
+asked_guards g Bad i = slice_index_or g.frames.items i g.step ∷ g.bad ∷ []
+
+-- the guard of the frame of a number
+abbrev pub guard_at : Guarded → ℕ → ℕ
+guard_at g i = (slice_index_or g.frames.items i g.step).var
+
+-- the guard of a list: that of `first` is the guard of the frame of number 0
+abbrev pub guard_of : Guarded → Listed → ℕ
+guard_of g first = guard_at g 0
+guard_of g step = g.step.var
+guard_of g bad = g.bad.var
+
+-- the lists that a search stands over
+abbrev pub lists_of : System → List (List Literal) → Listed → List (List Literal)
+lists_of system list first = system.first
+lists_of system list step = system.step
+lists_of system list bad = list
 
 -- the search holds `first`, `step`, this list of bad states and these frames from number 1 on; that of number 0 is `first`
 pub record IsHolding (system : System) (list : List (List Literal)) (frames : List (List (List Literal))) (g : Guarded) : Type 0 where
   pub well : IsWell g
   pub places : g.places ≡ places_of system
   pub count : length g.frames.items ≡ length frames
+  pub top : Listed → ℕ
+  pub base : Listed → ℕ
+  pub role : ℕ → Role
+  pub held : AreHeld (record { places = g.places; list = lists_of system list; frames = frames; guard = guard_of g; top = top; base = base; guard_at = guard_at g; role = role }) g.search.kept.vars (added_in g)
 
 -- the verdict is one on what the search holds, whatever that is
 abbrev pub Tells : Guarded → Beside → ℕ → List Literal → Verdict → Type 0

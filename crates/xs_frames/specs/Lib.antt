@@ -7,7 +7,7 @@ pub mod Levels
 pub mod Numbered
 pub mod Bits
 pub mod Path
-pub mod Query
+pub mod Roles
 pub mod Guards
 pub mod Guarding
 pub mod Looked

@@ -1,10 +1,20 @@
 //! One search over the lists of a system and the clauses of frames, each under a guard of its own.
+//!
+//! A guard is a variable above those of states and inputs. The first states, the steps and the bad states that are asked about stand
+//! in the search as `guard of the list -> clause`, with their gates renamed, so that those of two lists never meet. A clause that
+//! holds in the frames up to a number is kept once, as `guard of that frame -> clause`, and each guard implies the next frame's: so
+//! under the guard of a frame just its clauses have to hold. The frame of number 0 is the list of the first states. Bad states and
+//! frames that are not asked about any more are retired: their guard is false from then on. What the search learns stays.
 ghost use Rattle.std.specs.Prelude.{◌≡◌, ◌≤◌, ◌<◌, ◌+◌, ◌*◌, ◌-◌, ◌^◌, ◌∷◌, ◌++◌, [], IfOk, OnOk, All, length, false};
+ghost use Rattle.xs_lits.specs.Literal.{opposite, plain};
 ghost use Rattle.xs_derive.specs.Derivation.{IsUpTo};
 ghost use Rattle.xs_derive.specs.Hints.{HasNoOpposites};
 ghost use Rattle.xs_frames.specs.Condition.{IsLow, IsFit};
-ghost use Rattle.xs_frames.specs.Guarding.{IsWell, IsHolding, HasAsked, Tells, TakesBad, Puts, Grows, BeginsAgain};
+ghost use Rattle.xs_frames.specs.Roles.{renamed_literal, renamed_clause, under_list};
+ghost use Rattle.xs_frames.specs.Guards.{unguarded, guards_next};
+ghost use Rattle.xs_frames.specs.Guarding.{IsWell, IsHolding, IsGuardIn, HasRoomFor, IsEmpty, HasPut, HasWidened, HasNewBad, HasNewFrame, HasAsked, Tells, TakesBad, Puts, Grows, BeginsAgain, asked_guards};
 
+use crate::query::highest;
 use std::alloc::Global;
 use xs_adviser::Panel;
 use xs_derive::recorder::KeepNone;
@@ -39,13 +49,156 @@ pub struct Guarded {
     pub frames: Vec<Lit>,
 }
 
+/// The highest variable of states and inputs.
+pub fn last_place(system: &System) -> u64
+    requires { IsFit system.now }
+    ensures value { result ≡ 2 * system.now.state_bits + system.now.input_bits + 1 }
+    ensures low { result < 2 ^ 31 }
+{
+    2 * u64::from(system.state_bits) + u64::from(system.input_bits) + 1
+}
+
+/// That a guard implies a clause.
+fn implied_by(alloc: Global, guard: Lit, lits: &[Lit]) -> Result<Clause, OutOfMemory>
+    ensures { IfOk result (λ c. c ≡ opposite guard ∷ lits.now) }
+{
+    let mut all = Vec::new(alloc);
+    all.push(guard.neg())?;
+    all.extend_from_slice(lits)?;
+    Clause::from_lits(alloc, all.as_slice())
+}
+
+/// A literal of a list, where the list's gates stand from another number on.
+fn renamed(places: u64, base: u64, lit: Lit) -> Lit
+    requires low { IsLow lit }
+    requires base { base < 2 ^ 62 }
+    ensures { result ≡ renamed_literal places base lit }
+{
+    if lit.var() <= places {
+        lit
+    } else {
+        Lit::new(lit.var() - places + base, lit.is_negated())
+    }
+}
+
+/// That a guard implies a clause of a list, with its gates renamed.
+fn renamed_under(
+    alloc: Global,
+    guard: Lit,
+    places: u64,
+    base: u64,
+    lits: &[Lit],
+) -> Result<Clause, OutOfMemory>
+    requires low { All IsLow lits.now }
+    requires base { base < 2 ^ 62 }
+    ensures { IfOk result (λ c. c ≡ opposite guard ∷ renamed_clause places base lits.now) }
+{
+    let mut all = Vec::new(alloc);
+    all.push(guard.neg())?;
+    for lit in lits {
+        all.push(renamed(places, base, *lit))?;
+    }
+    Clause::from_lits(alloc, all.as_slice())
+}
+
+/// A core without its guards.
+fn without_guards(alloc: Global, places: u64, core: &Clause) -> Result<Clause, OutOfMemory>
+    ensures { IfOk result (λ c. c ≡ unguarded places core.now) }
+{
+    let mut kept = Vec::new(alloc);
+    for lit in core.lits() {
+        if lit.var() <= places {
+            kept.push(*lit)?;
+        }
+    }
+    Clause::from_lits(alloc, kept.as_slice())
+}
+
 impl Guarded {
     /// The search over the first states and the steps, with the frame of number 0 and no bad states.
     pub fn new(alloc: Global, system: &System) -> Result<Guarded, OutOfMemory>
         requires { IsFit system.now }
         ensures { IfOk result (λ g. IsHolding system.now [] ([] ∷ []) g) }
     {
-        Err(OutOfMemory)
+        let places = last_place(system);
+        let first = highest(&system.first).max(places) - places;
+        let step = highest(&system.step).max(places) - places;
+        let mut held = Guarded::empty(alloc, places, places + 3 + first + step)?;
+        held.fill(Lit::new(places + 1, false), places + 3, &system.first)?;
+        held.fill(Lit::new(places + 2, false), places + 3 + first, &system.step)?;
+        Ok(held)
+    }
+
+    /// A search with no clause, with the guards of the three lists above the places.
+    fn empty(alloc: Global, places: u64, vars: u64) -> Result<Guarded, OutOfMemory>
+        requires low { places < 2 ^ 31 }
+        requires room { places + 3 ≤ vars }
+        requires small { vars < 2 ^ 62 }
+        ensures { IfOk result (λ g. IsEmpty places vars g) }
+    {
+        let search = Search::new(alloc, vars, KeepNone)?;
+        let mut frames = Vec::new(alloc);
+        frames.push(Lit::new(places + 1, false))?;
+        Ok(Guarded {
+            search,
+            vars,
+            places,
+            step: Lit::new(places + 2, false),
+            bad: Lit::new(places + 3, false),
+            frames,
+        })
+    }
+
+    /// Adds a clause as it is.
+    fn put(&mut self, clause: &Clause) -> Result<(), OutOfMemory>
+        requires well { IsWell self.old }
+        requires up_to { All (IsUpTo self.old.search.kept.vars) clause.now }
+        ensures { OnOk result (HasPut self.old self.new (clause.now ∷ [])) }
+    {
+        self.search.add(clause)?;
+        Ok(())
+    }
+
+    /// Adds the clauses of a list under a guard, with its gates renamed.
+    fn fill(&mut self, guard: Lit, base: u64, list: &ClauseList) -> Result<(), OutOfMemory>
+        requires well { IsWell self.old }
+        requires guard { IsGuardIn self.old.places self.old.search.kept.vars guard }
+        requires base { base < 2 ^ 62 }
+        requires low { All (All IsLow) list.now }
+        requires room { All (All (HasRoomFor self.old.places base self.old.search.kept.vars)) list.now }
+        ensures { OnOk result (HasPut self.old self.new (under_list self.old.places base guard.var list.now)) }
+    {
+        let alloc = *self.frames.allocator();
+        for clause in list.as_slice() {
+            let under = renamed_under(alloc, guard, self.places, base, clause.lits())?;
+            self.put(&under)?;
+        }
+        Ok(())
+    }
+
+    /// So many variables more.
+    fn widen(&mut self, count: u64, panel: &mut Panel) -> Result<(), OutOfMemory>
+        requires { IsWell self.old }
+        ensures { OnOk result (HasWidened self.old self.new count) }
+    {
+        for _ in 0..count {
+            let var = self.search.fresh(panel)?;
+            self.vars = var;
+        }
+        Ok(())
+    }
+
+    /// Retires the bad states that were asked about, and makes a guard for others.
+    fn renew_bad(&mut self, panel: &mut Panel) -> Result<(), OutOfMemory>
+        requires { IsWell self.old }
+        ensures { OnOk result (HasNewBad self.old self.new) }
+    {
+        let alloc = *self.frames.allocator();
+        let past = Clause::from_lits(alloc, &[self.bad.neg()])?;
+        self.put(&past)?;
+        self.widen(1, panel)?;
+        self.bad = Lit::new(self.vars, false);
+        Ok(())
     }
 
     /// Retires the bad states that were asked about, and takes these.
@@ -54,7 +207,11 @@ impl Guarded {
         requires low { All (All IsLow) bad.now }
         ensures { OnOk result (TakesBad self.old self.new bad.now) }
     {
-        Err(OutOfMemory)
+        self.renew_bad(panel)?;
+        let base = self.vars;
+        self.widen(highest(bad).max(self.places) - self.places, panel)?;
+        self.fill(self.bad, base, bad)?;
+        Ok(())
     }
 
     /// Adds a clause that holds in the frames up to a number, at least 1.
@@ -65,7 +222,10 @@ impl Guarded {
         requires up_to { All (IsUpTo self.old.places) clause.now }
         ensures { OnOk result (Puts self.old self.new frame clause.now) }
     {
-        Err(OutOfMemory)
+        let alloc = *self.frames.allocator();
+        let under = implied_by(alloc, self.frames[frame], clause.lits())?;
+        self.put(&under)?;
+        Ok(())
     }
 
     /// A frame more, without clauses.
@@ -73,7 +233,26 @@ impl Guarded {
         requires well { IsWell self.old }
         ensures { OnOk result (Grows self.old self.new) }
     {
-        Err(OutOfMemory)
+        let alloc = *self.frames.allocator();
+        let last = self.frames.len() - 1;
+        let guard = self.frames[last];
+        self.add_guard(panel)?;
+        if last == 0 {
+            return Ok(());
+        }
+        let next = implied_by(alloc, guard, &[Lit::new(self.vars, false)])?;
+        self.put(&next)?;
+        Ok(())
+    }
+
+    /// The guard of a frame more.
+    fn add_guard(&mut self, panel: &mut Panel) -> Result<(), OutOfMemory>
+        requires { IsWell self.old }
+        ensures { OnOk result (HasNewFrame self.old self.new) }
+    {
+        self.widen(1, panel)?;
+        self.frames.push(Lit::new(self.vars, false))?;
+        Ok(())
     }
 
     /// Retires all frames but that of number 0, with their clauses.
@@ -81,7 +260,36 @@ impl Guarded {
         requires well { IsWell self.old }
         ensures { OnOk result (BeginsAgain self.old self.new) }
     {
-        Err(OutOfMemory)
+        let alloc = *self.frames.allocator();
+        let last = self.frames.len() - 1;
+        if last == 0 {
+            return Ok(());
+        }
+        let past = Clause::from_lits(alloc, &[self.frames[last].neg()])?;
+        self.put(&past)?;
+        self.frames.truncate(1);
+        Ok(())
+    }
+
+    /// The guards under which a question is asked, and its assumptions.
+    fn guards(
+        &self,
+        beside: Beside,
+        frame: usize,
+        assumptions: &[Lit],
+    ) -> Result<Vec<Lit>, OutOfMemory>
+        requires { frame < length self.now.frames.items }
+        ensures { IfOk result (λ all. all.items ≡ asked_guards self.now beside frame ++ assumptions.now) }
+    {
+        let mut all = Vec::new(*self.frames.allocator());
+        all.push(self.frames[frame])?;
+        match beside {
+            Beside::Nothing => {}
+            Beside::Step => all.push(self.step)?,
+            Beside::Bad => all.push(self.bad)?,
+        }
+        all.extend_from_slice(assumptions)?;
+        Ok(all)
     }
 
     /// Looks for an assignment that makes what is asked about, the clauses of a frame and the assumptions true.
@@ -99,6 +307,12 @@ impl Guarded {
         ensures asked { IfOk result (λ v. HasAsked self.old self.new) }
         ensures verdict { IfOk result (λ v. Tells self.old beside frame assumptions.now v) }
     {
-        Err(OutOfMemory)
+        let alloc = *self.frames.allocator();
+        let under = self.guards(beside, frame, assumptions)?;
+        panel.ready(self.vars)?;
+        match self.search.ask(under.as_slice(), panel)? {
+            Verdict::Sat(values) => Ok(Verdict::Sat(values)),
+            Verdict::Unsat(core) => Ok(Verdict::Unsat(without_guards(alloc, self.places, &core)?)),
+        }
     }
 }
