@@ -118,10 +118,10 @@ grows old a new more w n p only next system list frames h =
     longer (λ which. guards_same a new which p.guards ∙ guards_before old a (plain (old.search.kept.vars + 1)) which w n.step n.bad n.frames) (λ i lt. guard_same a new i p.guards.step p.guards.frames)
     (p.vars ∙ n.vars) (p.added ∙ ap (λ (cs : List (List Literal)). cs ++ more) n.added)
     (held_more layout old.search.kept.vars (added_in old) more (guard_at a) h.held (subst (λ (k : ℕ). 0 < k) h.count w.some)
-        (λ i lt. guard_before old a (plain (old.search.kept.vars + 1)) i n.step n.frames (subst (λ (k : ℕ). i < k) (sym h.count) lt))
-        (guard_last old a (plain (old.search.kept.vars + 1)) (length frames) n.step n.frames (sym h.count))
-        (λ d m. subst (λ (k : ℕ). (d ≡ guards_next (guard_at old (k - 1)) (old.search.kept.vars + 1)) × (0 < k - 1)) h.count (only d m))
-        (λ some. subst (λ (k : ℕ). Contains more (guards_next (guard_at old (k - 1)) (old.search.kept.vars + 1))) h.count (next (subst (λ (k : ℕ). 0 < k - 1) (sym h.count) some))))
+    (λ i lt. guard_before old a (plain (old.search.kept.vars + 1)) i n.step n.frames (subst (λ (k : ℕ). i < k) (sym h.count) lt))
+    (guard_last old a (plain (old.search.kept.vars + 1)) (length frames) n.step n.frames (sym h.count))
+    (λ d m. subst (λ (k : ℕ). (d ≡ guards_next (guard_at old (k - 1)) (old.search.kept.vars + 1)) × (0 < k - 1)) h.count (only d m))
+    (λ some. subst (λ (k : ℕ). Contains more (guards_next (guard_at old (k - 1)) (old.search.kept.vars + 1))) h.count (next (subst (λ (k : ℕ). 0 < k - 1) (sym h.count) some))))
   where
     layout : Layout
     layout = layout_of old.places system list frames (guard_of old) h.top h.base (guard_at old) h.role

@@ -206,18 +206,18 @@ module _ (system : System) (list : List (List Literal)) (frames : List (List (Li
       in_frames (suc k) m j c some on s = member_true v (frame_at frames (suc k)) c m (subst (λ (fs : List (List (List Literal))). Contains (frame_at fs (suc k)) c) same_frames (s (suc k) (omega arith) (tested (suc k) j on)))
 
       first_agrees : (i : ℕ) (m : MeetsFrame system frames i v) (x : ℕ) → asks_first i ≡ true → x ≤ places_of system → first_values i m x ≡ v x
-      first_agrees zero m x on le = m.agree x ? le
+      first_agrees zero m x on le = m.agree x le
       first_agrees (suc k) m x on le = refl
 
       step_agrees : (b : Beside) (n : MeetsBeside system list b v) (x : ℕ) → asks_step b ≡ true → x ≤ places_of system → step_values b n x ≡ v x
       step_agrees Nothing n x on le = refl
-      step_agrees Step n x on le = n.agree x ? le
+      step_agrees Step n x on le = n.agree x le
       step_agrees Bad n x on le = refl
 
       bad_agrees : (b : Beside) (n : MeetsBeside system list b v) (x : ℕ) → asks_bad b ≡ true → x ≤ places_of system → bad_values b n x ≡ v x
       bad_agrees Nothing n x on le = refl
       bad_agrees Step n x on le = refl
-      bad_agrees Bad n x on le = n.agree x ? le
+      bad_agrees Bad n x on le = n.agree x le
 
       agree : (which : Listed) (x : ℕ) → asked_list i b which ≡ true → x ≤ places_of system → asked_values i b m n which x ≡ v x
       agree first x on le = first_agrees i m x on le

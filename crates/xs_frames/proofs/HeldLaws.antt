@@ -117,7 +117,7 @@ module _ (l : Layout) (vars : ℕ) (added : List (List Literal)) (are : AreHeld 
   pub list_met : (which : Listed) (v : TotalAssignment) → Satisfies v added → v (l.guard which) ≡ true → Meets l.places (l.list which) v
   list_met which v t on = record {
     values = λ x. v (renamed l.places (l.base which) x);
-    agree = λ x two le. ap v (renamed_low l.places (l.base which) x le);
+    agree = λ x le. ap v (renamed_low l.places (l.base which) x le);
     all = Satisfies-from_All (λ x. v (renamed l.places (l.base which) x)) (l.list which) (all_of (λ c. clause_value (λ x. v (renamed l.places (l.base which) x)) c ≡ true) (l.list which) (λ c m. each c m));
   }
     where
@@ -136,7 +136,7 @@ module _ (l : Layout) (vars : ℕ) (added : List (List Literal)) (are : AreHeld 
       later (suc n) lt =
           let before = later n (omega (arith, lt)) in
           let implied = unguards v (l.guard_at (i + n)) (plain (l.guard_at (suc (i + n))) ∷ []) before
-              (member_true v added (guards_next (l.guard_at (i + n)) (l.guard_at (suc (i + n)))) t (are.has_next (i + n) (omega (arith, some)) (omega (arith, lt)))) in
+          (member_true v added (guards_next (l.guard_at (i + n)) (l.guard_at (suc (i + n)))) t (are.has_next (i + n) (omega (arith, some)) (omega (arith, lt)))) in
           let one = true_member v (plain (l.guard_at (suc (i + n))) ∷ []) implied in
           let is : one.0 ≡ plain (l.guard_at (suc (i + n))) = only_one one.0 (plain (l.guard_at (suc (i + n)))) one.1 in
           subst (λ k. v (l.guard_at k) ≡ true) (omega arith) (ap (literal_value v) (sym is) ∙ one.2)

@@ -19,3 +19,4 @@ pub mod HeldLists
 pub mod GuardedLaws
 pub mod GuardedSteps
 pub mod GuardedVerdicts
+pub mod ApartLaws

@@ -3,7 +3,7 @@ use Rattle.std.specs.Prelude.{◌≡◌, false}
 use Rattle.xs_frames.specs.FramesRecord.{FramesValue}
 use Rattle.xs_frames.specs.Condition.{IsFit}
 use Rattle.xs_frames.specs.Levels.{frames_of, IsLevelled}
-use Rattle.xs_frames.specs.Guarding.{IsHolding}
+use Rattle.xs_frames.specs.Apart.{IsKept}
 use Rattle.xs_frames.specs.declared.frames.Frames.TheInside.{Inside}
 
 abbrev pub value_of : Inside → FramesValue
@@ -12,4 +12,4 @@ value_of f = record { system = f.system; frames = frames_of f.levels; spent = f.
 pub record AreSound (f : Inside) : Type 0 where
   pub fit : IsFit f.system
   pub levelled : IsLevelled f.system f.levels
-  pub kept : f.spent ≡ false → IsHolding f.system f.bad (frames_of f.levels) f.kept
+  pub kept : f.spent ≡ false → IsKept f.system f.bad (frames_of f.levels) f.kept

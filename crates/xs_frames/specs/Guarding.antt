@@ -15,10 +15,10 @@ use Rattle.xs_frames.specs.declared.guarded.Beside.{Beside}
 use Rattle.xs_frames.specs.declared.guarded.Beside.TheVariants.{Nothing, Step, Bad}
 use Rattle.xs_frames.specs.declared.guarded.Guarded.{Guarded}
 
--- a list whose variables other than those of states and inputs are its own: some values that agree on these places make it true
+-- a list whose variables above those of states and inputs are its own: some values that agree on these places make it true
 pub record Meets (places : ℕ) (list : List (List Literal)) (v : TotalAssignment) : Type 0 where
   pub values : TotalAssignment
-  pub agree : (x : ℕ) → 2 ≤ x → x ≤ places → values x ≡ v x
+  pub agree : (x : ℕ) → x ≤ places → values x ≡ v x
   pub all : IsTrue (all_true values list)
 
 -- the highest variable of states and inputs

@@ -10,6 +10,7 @@ pub mod Path
 pub mod Roles
 pub mod Guards
 pub mod Guarding
+pub mod Apart
 pub mod Looked
 pub mod Advance
 pub mod FramesRecord

@@ -9,11 +9,13 @@ ghost use Rattle.std.specs.Prelude.{◌≡◌, ◌≤◌, ◌<◌, ◌+◌, ◌*
 ghost use Rattle.xs_lits.specs.Literal.{opposite, plain};
 ghost use Rattle.xs_derive.specs.Derivation.{IsUpTo};
 ghost use Rattle.xs_derive.specs.Hints.{HasNoOpposites};
+ghost use Rattle.xs_frames.specs.Apart.{apart_system, apart_list, IsNear};
 ghost use Rattle.xs_frames.specs.Condition.{IsLow, IsFit};
 ghost use Rattle.xs_frames.specs.Roles.{renamed_literal, renamed_clause, under_list};
 ghost use Rattle.xs_frames.specs.Guards.{unguarded, guards_next};
 ghost use Rattle.xs_frames.specs.Guarding.{IsWell, IsHolding, IsGuardIn, HasRoomFor, IsEmpty, HasPut, HasWidened, HasNewBad, HasNewFrame, HasAsked, Tells, TakesBad, Puts, Grows, BeginsAgain, asked_guards};
 
+use crate::apart::list_apart;
 use crate::query::highest;
 use std::alloc::Global;
 use xs_adviser::Panel;
@@ -70,7 +72,7 @@ fn implied_by(alloc: Global, guard: Lit, lits: &[Lit]) -> Result<Clause, OutOfMe
 
 /// A literal of a list, where the list's gates stand from another number on.
 fn renamed(places: u64, base: u64, lit: Lit) -> Lit
-    requires low { IsLow lit }
+    requires low { IsNear lit }
     requires base { base < 2 ^ 62 }
     ensures { result ≡ renamed_literal places base lit }
 {
@@ -89,7 +91,7 @@ fn renamed_under(
     base: u64,
     lits: &[Lit],
 ) -> Result<Clause, OutOfMemory>
-    requires low { All IsLow lits.now }
+    requires low { All IsNear lits.now }
     requires base { base < 2 ^ 62 }
     ensures { IfOk result (λ c. c ≡ opposite guard ∷ renamed_clause places base lits.now) }
 {
@@ -118,14 +120,16 @@ impl Guarded {
     /// The search over the first states and the steps, with the frame of number 0 and no bad states.
     pub fn new(alloc: Global, system: &System) -> Result<Guarded, OutOfMemory>
         requires { IsFit system.now }
-        ensures { IfOk result (λ g. IsHolding system.now [] ([] ∷ []) g) }
+        ensures { IfOk result (λ g. IsHolding (apart_system system.now) [] ([] ∷ []) g) }
     {
         let places = last_place(system);
-        let first = highest(&system.first).max(places) - places;
-        let step = highest(&system.step).max(places) - places;
+        let apart_first = list_apart(alloc, places, system.first.as_slice())?;
+        let apart_step = list_apart(alloc, places, system.step.as_slice())?;
+        let first = highest(&apart_first).max(places) - places;
+        let step = highest(&apart_step).max(places) - places;
         let mut held = Guarded::empty(alloc, places, places + 3 + first + step)?;
-        held.fill(Lit::new(places + 1, false), places + 3, &system.first)?;
-        held.fill(Lit::new(places + 2, false), places + 3 + first, &system.step)?;
+        held.fill(Lit::new(places + 1, false), places + 3, &apart_first)?;
+        held.fill(Lit::new(places + 2, false), places + 3 + first, &apart_step)?;
         Ok(held)
     }
 
@@ -164,7 +168,7 @@ impl Guarded {
         requires well { IsWell self.old }
         requires guard { IsGuardIn self.old.places self.old.search.kept.vars guard }
         requires base { base < 2 ^ 62 }
-        requires low { All (All IsLow) list.now }
+        requires low { All (All IsNear) list.now }
         requires room { All (All (HasRoomFor self.old.places base self.old.search.kept.vars)) list.now }
         ensures { OnOk result (HasPut self.old self.new (under_list self.old.places base guard.var list.now)) }
     {
@@ -205,12 +209,14 @@ impl Guarded {
     pub fn take_bad(&mut self, bad: &ClauseList, panel: &mut Panel) -> Result<(), OutOfMemory>
         requires well { IsWell self.old }
         requires low { All (All IsLow) bad.now }
-        ensures { OnOk result (TakesBad self.old self.new bad.now) }
+        ensures { OnOk result (TakesBad self.old self.new (apart_list self.old.places bad.now)) }
     {
+        let alloc = *self.frames.allocator();
+        let apart_bad = list_apart(alloc, self.places, bad.as_slice())?;
         self.renew_bad(panel)?;
         let base = self.vars;
-        self.widen(highest(bad).max(self.places) - self.places, panel)?;
-        self.fill(self.bad, base, bad)?;
+        self.widen(highest(&apart_bad).max(self.places) - self.places, panel)?;
+        self.fill(self.bad, base, &apart_bad)?;
         Ok(())
     }
 

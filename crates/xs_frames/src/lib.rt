@@ -27,6 +27,7 @@
 ghost use Rattle.xs_frames.specs.Chain.{ChainsAreShort};
 
 mod advance;
+mod apart;
 mod bits;
 mod clear;
 mod condition;

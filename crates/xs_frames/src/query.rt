@@ -1,15 +1,15 @@
 ghost use Rattle.std.specs.Prelude.{◌≡◌, ◌<◌, ◌^◌, ◌↔◌, IsTrue, All};
 ghost use Rattle.xs_derive.specs.Derivation.{IsUpTo};
-ghost use Rattle.xs_frames.specs.Condition.{IsLow};
+ghost use Rattle.xs_frames.specs.Apart.{IsNear};
 
 use xs_lits::clause::{Clause, ClauseList};
 use xs_lits::lit::Lit;
 
 /// The highest variable of literals.
 fn highest_of(lits: &[Lit]) -> u64
-    requires { All IsLow lits.now }
+    requires { All IsNear lits.now }
     ensures up_to { All (IsUpTo result) lits.now }
-    ensures low { result < 2 ^ 31 }
+    ensures low { result < 2 ^ 32 }
 {
     let mut most = 0;
     for lit in lits {
@@ -20,9 +20,9 @@ fn highest_of(lits: &[Lit]) -> u64
 
 /// The highest variable of clauses.
 pub fn highest(list: &ClauseList) -> u64
-    requires { All (All IsLow) list.now }
+    requires { All (All IsNear) list.now }
     ensures up_to { All (All (IsUpTo result)) list.now }
-    ensures low { result < 2 ^ 31 }
+    ensures low { result < 2 ^ 32 }
 {
     let mut most = 0;
     for clause in list.as_slice() {

@@ -5,8 +5,10 @@ use Rattle.xs_frames.specs.Levels.{frames_of}
 use Rattle.xs_frames.specs.declared.guarded.Beside.TheVariants.{Step}
 use Rattle.xs_derive.specs.Derivation.{IsUpTo}
 use Rattle.xs_derive.specs.Hints.{HasNoOpposites}
+use Rattle.xs_frames.specs.Guarding.{places_of}
+use Rattle.xs_frames.specs.Apart.{apart_system, apart_list}
 use Rattle.xs_frames.proofs.LevelLaws.{length_frames}
-use Rattle.xs_frames.proofs.LookLemmas.{sat_told, unsat_told}
+use Rattle.xs_frames.proofs.ApartLaws.{sat_told, unsat_told}
 use Rattle.xs_frames.proofs.QueryLemmas.{against_up_to, against_apart, states_low}
 use Rattle.xs_frames.proofs.PushLemmas.{kept, not_kept}
 use Rattle.xs_frames.proofs.advance.keeps.Goals as goal
@@ -44,11 +46,11 @@ returns-in-Sat-clause-answer g c =
       kept = λ e. cc;
       lost = λ e k. not_kept c.args.system.now (frames_of c.args.frames.now) c.args.i c.args.bad.now c.args.clause.now c.in-Sat._values c.requires.framed.framed c.requires.clause
           (sat_told c.args.system.now c.args.bad.now (frames_of c.args.frames.now) Step c.args.i c.as_slice.result.now (against_next c.args.system.now.state_bits c.args.clause.now) c.in_ok-_values.field-0 c.in-Sat._values assumed c.in-Sat.is
-          (c.in_ok-_values.ensures.verdict c.args.system.now c.args.bad.now (frames_of c.args.frames.now) c.requires.kept)) k;
+          (c.in_ok-_values.ensures.verdict (apart_system c.args.system.now) (apart_list (places_of c.args.system.now) c.args.bad.now) (frames_of c.args.frames.now) c.requires.kept)) k;
     }
 
 pub returns-in-Sat-clause-kept : goal.returns-in-Sat-clause-kept
-returns-in-Sat-clause-kept g c = c.in_ok-_values.ensures.asked c.args.system.now c.args.bad.now (frames_of c.args.frames.now) c.requires.kept
+returns-in-Sat-clause-kept g c = c.in_ok-_values.ensures.asked (apart_system c.args.system.now) (apart_list (places_of c.args.system.now) c.args.bad.now) (frames_of c.args.frames.now) c.requires.kept
 
 pub returns-clause-answer : goal.returns-clause-answer
 returns-clause-answer g c =
@@ -56,9 +58,9 @@ returns-clause-answer g c =
     record {
       kept = λ e. kept c.args.system.now (frames_of c.args.frames.now) c.args.i c.args.bad.now c.args.clause.now c.in-Unsat._core c.requires.fit c.requires.framed.framed c.requires.some c.requires.clause
           (unsat_told c.args.system.now c.args.bad.now (frames_of c.args.frames.now) Step c.args.i c.as_slice.result.now (against_next c.args.system.now.state_bits c.args.clause.now) c.in_ok-_values.field-0 c.in-Unsat._core assumed c.in-Unsat.is
-          (c.in_ok-_values.ensures.verdict c.args.system.now c.args.bad.now (frames_of c.args.frames.now) c.requires.kept));
+          (c.in_ok-_values.ensures.verdict (apart_system c.args.system.now) (apart_list (places_of c.args.system.now) c.args.bad.now) (frames_of c.args.frames.now) c.requires.kept));
       lost = λ e k. cc;
     }
 
 pub returns-clause-kept : goal.returns-clause-kept
-returns-clause-kept g c = c.in_ok-_values.ensures.asked c.args.system.now c.args.bad.now (frames_of c.args.frames.now) c.requires.kept
+returns-clause-kept g c = c.in_ok-_values.ensures.asked (apart_system c.args.system.now) (apart_list (places_of c.args.system.now) c.args.bad.now) (frames_of c.args.frames.now) c.requires.kept

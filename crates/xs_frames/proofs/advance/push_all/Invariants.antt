@@ -1,7 +1,7 @@
 use Rattle.std.proofs.Common.{◌≡◌}
 use Rattle.xs_frames.specs.Framed.{AreStronger}
 use Rattle.xs_frames.specs.Levels.{frames_of, IsLevelled, AreLevelsPushed}
-use Rattle.xs_frames.specs.Guarding.{IsHolding}
+use Rattle.xs_frames.specs.Apart.{IsKept, apart_system, apart_list}
 use Rattle.xs_frames.proofs.advance.push_all.Given as goal
 
 abbrev pub invariant-frames : goal.invariant-frames
@@ -10,5 +10,5 @@ invariant-frames g l = record {
   last : l.frames.last ≡ l.initial.frames.last;
   stronger : AreStronger l.system (frames_of l.initial.frames) (frames_of l.frames);
   pushed : AreLevelsPushed l.system l.frames l.i;
-  kept : IsHolding l.system l.bad (frames_of l.frames) l.kept;
+  kept : IsKept l.system l.bad (frames_of l.frames) l.kept;
 }

@@ -7,6 +7,8 @@ use Rattle.xs_frames.specs.Growing.{Keeps}
 use Rattle.xs_frames.specs.Framed.{frame_at}
 use Rattle.xs_frames.specs.Guards.{IsPut}
 use Rattle.xs_frames.specs.Levels.{frames_of, held_at}
+use Rattle.xs_frames.specs.Guarding.{places_of}
+use Rattle.xs_frames.specs.Apart.{apart_system, apart_list}
 use Rattle.xs_frames.proofs.LevelLaws.{length_frames, put_of, gained_raise}
 use Rattle.xs_frames.proofs.PushLemmas.{held_in_frame, moved_none, moved_raise, framed_raise, raised_apart}
 use Rattle.xs_frames.proofs.QueryLemmas.{bits_up_to}
@@ -77,7 +79,7 @@ returns-clause-pushed g c = λ is keeps. raised_apart c.args.frames.now c.raise.
 
 pub returns-clause-kept : goal.returns-clause-kept
 returns-clause-kept g c =
-    c.in_ok-add.ensures c.args.system.now c.args.bad.now (frames_of c.args.frames.now) (frames_of c.raise.new.self) c.in_ok-keeps.ensures.kept
+    c.in_ok-add.ensures (apart_system c.args.system.now) (apart_list (places_of c.args.system.now) c.args.bad.now) (frames_of c.args.frames.now) (frames_of c.raise.new.self) c.in_ok-keeps.ensures.kept
     (subst (λ (d : List Literal). IsPut (c.args.i + 1) d (frames_of c.args.frames.now) (frames_of c.raise.new.self)) (sym c.clause_at-2.ensures)
     (put_of (c.args.i + 1) (held_at c.args.frames.now c.args.k).clause (frames_of c.args.frames.now) (frames_of c.raise.new.self)
     (gained_raise c.args.frames.now c.raise.new.self c.args.i c.args.k (record { clause = (held_at c.args.frames.now c.args.k).clause; highest = c.args.i + 1 }) c.raise.ensures.last c.requires.next c.requires.place

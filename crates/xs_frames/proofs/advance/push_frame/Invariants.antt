@@ -1,5 +1,5 @@
 use Rattle.xs_frames.specs.Levels.{frames_of, IsLevelled, HasMoved}
-use Rattle.xs_frames.specs.Guarding.{IsHolding}
+use Rattle.xs_frames.specs.Apart.{IsKept, apart_system, apart_list}
 use Rattle.xs_frames.proofs.PushLemmas.{ArePlacesPushed}
 use Rattle.xs_frames.proofs.advance.push_frame.Given as goal
 
@@ -8,5 +8,5 @@ invariant-clauses g l = record {
   framed : IsLevelled l.system l.frames;
   moved : HasMoved l.system l.initial.frames l.frames l.i;
   pushed : ArePlacesPushed l.system l.frames l.i l.k;
-  kept : IsHolding l.system l.bad (frames_of l.frames) l.kept;
+  kept : IsKept l.system l.bad (frames_of l.frames) l.kept;
 }

@@ -1,7 +1,7 @@
 use Rattle.std.proofs.Common.{◌≡◌, length}
 use Rattle.xs_frames.specs.Framed.{AreStronger}
 use Rattle.xs_frames.specs.Levels.{frames_of, IsLevelled}
-use Rattle.xs_frames.specs.Guarding.{IsHolding}
+use Rattle.xs_frames.specs.Apart.{IsKept, apart_system, apart_list}
 use Rattle.xs_frames.specs.Path.{AreOwed}
 use Rattle.xs_frames.specs.Counted.{work_left}
 use Rattle.xs_frames.proofs.clear.clear_frames.Given as goal
@@ -12,7 +12,7 @@ invariant-looks g l = record {
   last : l.frames.last ≡ l.initial.frames.last;
   stronger : AreStronger l.system (frames_of l.initial.frames) (frames_of l.frames);
   owed : AreOwed l.system l.bad (frames_of l.frames) l.owed;
-  kept : IsHolding l.system l.bad (frames_of l.frames) l.kept;
+  kept : IsKept l.system l.bad (frames_of l.frames) l.kept;
 }
 
 abbrev pub decreases-looks : goal.decreases-looks

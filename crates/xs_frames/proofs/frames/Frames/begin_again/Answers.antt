@@ -1,7 +1,8 @@
 use Rattle.std.proofs.Common.{◌≡◌, ◌∙◌, sym, subst, true, false, List, Result, Ok, Err, OnOk}
 use Rattle.std.specs.Result.{is_err}
 use Rattle.xs_lits.specs.Literal.{Literal}
-use Rattle.xs_frames.specs.Guarding.{IsHolding}
+use Rattle.xs_frames.specs.Apart.{IsKept, apart_system, apart_list}
+use Rattle.xs_frames.specs.Guarding.{places_of}
 use Rattle.xs_frames.proofs.LevelLaws.{frames_new}
 use Rattle.xs_frames.proofs.OwedLemmas.{levelled_new}
 use Rattle.xs_frames.specs.FramesRecord.{FramesValue}
@@ -27,7 +28,7 @@ invariant_of-self c =
       fit = c.self.invariant.fit;
       levelled = levelled_new c.self.inside.system c.new.result c.new.ensures.held c.new.ensures.last;
       kept = λ ready.
-          subst (λ (fs : List (List (List Literal))). IsHolding c.self.inside.system c.self.inside.bad fs c.begin_again-answer.new.self)
+          subst (λ (fs : List (List (List Literal))). IsKept c.self.inside.system c.self.inside.bad fs c.begin_again-answer.new.self)
           (sym (frames_new c.new.result c.new.ensures.held c.new.ensures.last))
-          (when_ok c.begin_again-answer.result (sym c.is_err-self-inside.ensures.value ∙ ready) c.begin_again-answer.ensures c.self.inside.system c.self.inside.bad (frames_of c.self.inside.levels) (c.self.invariant.kept c.if-self.false));
+          (when_ok c.begin_again-answer.result (sym c.is_err-self-inside.ensures.value ∙ ready) c.begin_again-answer.ensures (apart_system c.self.inside.system) (apart_list (places_of c.self.inside.system) c.self.inside.bad) (frames_of c.self.inside.levels) (c.self.invariant.kept c.if-self.false));
     }

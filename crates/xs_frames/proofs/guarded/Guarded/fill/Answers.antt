@@ -25,7 +25,7 @@ put-requires-clause-up_to c =
     let d = c.clause-item.result in
     let s = c.args.self.now in
     let room : All (HasRoomFor s.places c.args.base s.search.kept.vars) d = subst (All (HasRoomFor s.places c.args.base s.search.kept.vars)) (sym c.clause-item.is)
-        (All-get_or (All (HasRoomFor s.places c.args.base s.search.kept.vars)) items i d c.loop-clause-test.true
-        (subst (All (All (HasRoomFor s.places c.args.base s.search.kept.vars))) (sym c.as_slice-clause-items.ensures) c.requires.room)) in
+    (All-get_or (All (HasRoomFor s.places c.args.base s.search.kept.vars)) items i d c.loop-clause-test.true
+    (subst (All (All (HasRoomFor s.places c.args.base s.search.kept.vars))) (sym c.as_slice-clause-items.ensures) c.requires.room)) in
     fill_up_to s c.loop-clause.self c.args.base c.args.guard d c.in_ok-under.under
     (c.in_ok-under.ensures ∙ ap (λ (ls : List Literal). opposite c.args.guard ∷ renamed_clause c.loop-clause.self.places c.args.base ls) c.lits.ensures) c.requires.guard room c.loop-clause.invariant.guards.places c.loop-clause.invariant.vars
