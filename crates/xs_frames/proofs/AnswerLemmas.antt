@@ -1,5 +1,5 @@
 -- Literals up to a variable, and what the values of an answer make true.
-use Rattle.std.proofs.Common.{◌≡◌, ◌≤◌, ℕ, Bool, true, false, List, ap, arith, Option, Some, None}
+use Rattle.std.proofs.Common.{◌≡◌, ◌≤◌, ℕ, Bool, true, false, List, arith, Option, Some, None}
 use Rattle.std.specs.Prelude.{slice_index_or, All, Any, unwrap_or}
 use Rattle.std.specs.Option.{option_map}
 use Rattle.std.proofs.lemmas.Option.{none-some}

@@ -1,11 +1,10 @@
 -- A list whose variables are numbered apart says what the list says.
-use Rattle.std.proofs.Common.{◌≡◌, ◌≤◌, ◌<◌, ◌⊎◌, inl, inr, ℕ, zero, suc, ◌+◌, ◌-◌, ◌^◌, Bool, true, false, List, [], ◌∷◌, refl, sym, ◌∙◌, ap, subst, arith, map, length}
-use Rattle.std.specs.Prelude.{slice_index_or, nat_le, if◌then◌else◌, IsTrue, All}
+use Rattle.std.proofs.Common.{◌≡◌, ◌≤◌, ◌<◌, ◌⊎◌, inl, inr, ℕ, zero, suc, ◌+◌, ◌-◌, ◌^◌, Bool, true, false, List, [], ◌∷◌, refl, sym, ◌∙◌, ap, subst, arith}
+use Rattle.std.specs.Prelude.{nat_le, if◌then◌else◌, All}
 use Rattle.std.proofs.lemmas.Bool.{cases_lt}
 use Rattle.std.proofs.lemmas.List.Elements.{All-nil, All-cons, All-head, All-tail}
 use Rattle.xs_lits.specs.Literal.{Literal}
-use Rattle.xs_lits.specs.Models.{TotalAssignment, literal_value, clause_value, all_true}
-use Rattle.xs_derive.specs.Derivation.{IsUpTo}
+use Rattle.xs_lits.specs.Models.{TotalAssignment, clause_value, all_true}
 use Rattle.xs_system.specs.declared.system.System.{System}
 use Rattle.xs_solver.specs.declared.solve.Verdict.{Verdict}
 use Rattle.xs_solver.specs.declared.solve.Verdict.TheVariants.{Sat, Unsat}

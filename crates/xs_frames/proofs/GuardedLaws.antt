@@ -1,34 +1,21 @@
 -- What a search over the lists of a system and frames holds after each call, and what its verdicts say.
-use Rattle.std.proofs.Common.{◌≡◌, ◌⊎◌, inl, inr, ◌≤◌, ◌<◌, ℕ, zero, suc, ◌+◌, ◌-◌, ◌*◌, ◌^◌, nat_le, Bool, true, false, not, List, [], ◌∷◌, ◌++◌, length, refl, sym, ◌∙◌, ap, subst, arith, length-append, append_assoc, take}
-use Rattle.std.specs.Prelude.{slice_index_or, All, Contains, IsTrue}
-use Rattle.std.proofs.lemmas.Bool.{cases_lt, le-leb, lt-leb}
-use Rattle.std.proofs.lemmas.Bool.Decides.{leb_tells}
+use Rattle.std.proofs.Common.{◌≡◌, ◌⊎◌, inl, inr, ◌≤◌, ◌<◌, ℕ, zero, suc, ◌+◌, ◌-◌, ◌^◌, Bool, false, List, [], ◌∷◌, ◌++◌, length, refl, sym, ◌∙◌, ap, subst, arith, length-append, take}
+use Rattle.std.specs.Prelude.{slice_index_or, All, Contains}
 use Rattle.std.proofs.lemmas.List.{get_or_append_left, get_or-append_right, append-nil, map-append}
 use Rattle.std.proofs.lemmas.List.Elements.{All-cons, All-nil, All-head, All-tail}
 use Rattle.xs_lits.specs.Literal.{Literal, plain, opposite}
-use Rattle.xs_lits.specs.Assignment.{Assignment, value_of}
-use Rattle.xs_lits.specs.Models.{TotalAssignment, literal_value, clause_value, Satisfies}
-use Rattle.xs_lits.proofs.ModelLemmas.{Satisfies-from_All}
 use Rattle.xs_derive.specs.Derivation.{IsUpTo}
 use Rattle.xs_solver.specs.Kept.{added_of}
 use Rattle.xs_solver.specs.KeptRecord.{KeptValue}
-use Rattle.xs_solver.specs.Search.{IsSolution}
-use Rattle.xs_solver.specs.declared.solve.Verdict.{Verdict}
-use Rattle.xs_solver.specs.declared.solve.Verdict.TheVariants.{Sat, Unsat}
 use Rattle.xs_system.specs.declared.system.System.{System}
-use Rattle.xs_frames.specs.Bits.{values_of}
-use Rattle.xs_frames.specs.Framed.{frame_at}
 use Rattle.xs_frames.specs.Roles.{Listed, first, step, bad, Role, renamed, renamed_literal, renamed_clause, under_guard, under_list}
-use Rattle.xs_frames.specs.Guards.{IsPut, Layout, AreHeld, StandsUpTo, guards_next, unguarded}
-use Rattle.xs_frames.specs.Guarding.{Meets, places_of, MeetsFrame, MeetsBeside, IsModelOf, IsCoreOf, IsToldBy, added_in, IsGuardIn, IsWell, HasSameGuards, HasPut, HasWidened, HasNewBad, HasNewFrame, IsEmpty, HasRoomFor, guard_at, guard_of, lists_of, IsHolding, Tells, HasAsked, TakesBad, Puts, Grows, BeginsAgain}
-use Rattle.xs_frames.specs.declared.guarded.Beside.{Beside}
-use Rattle.xs_frames.specs.declared.guarded.Beside.TheVariants.{Nothing, Step, Bad}
+use Rattle.xs_frames.specs.Guards.{Layout, AreHeld, guards_next}
+use Rattle.xs_frames.specs.Guarding.{places_of, added_in, IsGuardIn, IsWell, HasSameGuards, HasPut, HasWidened, HasNewBad, HasNewFrame, IsEmpty, HasRoomFor, guard_at, guard_of, lists_of, IsHolding, HasAsked, TakesBad, Puts, Grows, BeginsAgain}
 use Rattle.xs_frames.specs.declared.guarded.Guarded.{Guarded}
-use Rattle.xs_frames.proofs.AnswerLemmas.{true_value, true_clause}
 use Rattle.xs_frames.proofs.RoleLaws.{order, renamed_low, renamed_high}
 use Rattle.xs_frames.proofs.GuardedSteps.{equal_most, guard_raised, guards_raised, put_none, put_both}
-use Rattle.xs_frames.proofs.HeldSteps.{held_as, held_put, held_again, again_past, held_more, held_push, with_frame, retire_frames}
-use Rattle.xs_frames.proofs.HeldLists.{held_renewed, renewed, with_bad, bad_at, held_gates, with_gates, held_list, starts, no_list, held_empty}
+use Rattle.xs_frames.proofs.HeldSteps.{held_as, held_put, held_again, again_past, held_more, with_frame, retire_frames}
+use Rattle.xs_frames.proofs.HeldLists.{held_renewed, renewed, bad_at, held_gates, with_gates, held_list, starts, no_list, held_empty}
 
 -- where the lists of a system and frames stand
 abbrev pub layout_of : ℕ → System → List (List Literal) → List (List (List Literal)) → (Listed → ℕ) → (Listed → ℕ) → (Listed → ℕ) → (ℕ → ℕ) → (ℕ → Role) → Layout

@@ -1,10 +1,9 @@
 -- What each step of a search over guarded clauses leaves of its variables, guards and clauses.
-use Rattle.std.proofs.Common.{◌≡◌, ◌≤◌, ◌<◌, ℕ, ◌+◌, ◌^◌, Bool, true, false, List, [], ◌∷◌, ◌++◌, length, refl, sym, ◌∙◌, ap, subst, arith, length-append, append_assoc, Option, replicate, map}
-use Rattle.std.specs.Prelude.{slice_index_or, All, Contains}
+use Rattle.std.proofs.Common.{◌≡◌, ◌≤◌, ◌<◌, ℕ, ◌+◌, ◌^◌, Bool, true, false, List, [], ◌∷◌, ◌++◌, length, refl, sym, ◌∙◌, ap, subst, arith, length-append, append_assoc, Option, replicate}
+use Rattle.std.specs.Prelude.{slice_index_or, All}
 use Rattle.std.proofs.lemmas.List.{append-nil, length-replicate}
-use Rattle.std.proofs.lemmas.List.Elements.{All-append, All-nil, All-cons, All-contains}
+use Rattle.std.proofs.lemmas.List.Elements.{All-append, All-nil, All-cons}
 use Rattle.xs_lits.specs.Literal.{Literal, plain, opposite}
-use Rattle.xs_derive.specs.Derivation.{IsUpTo}
 use Rattle.xs_derive.specs.declared.step.Step.{Step}
 use Rattle.xs_solver.specs.KeptRecord.{KeptValue}
 use Rattle.xs_solver.specs.Kept.{added_of, HasLearned}

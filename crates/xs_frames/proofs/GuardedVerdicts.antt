@@ -1,10 +1,10 @@
 -- What the verdict of a search under guards says of what is asked about alone.
-use Rattle.std.proofs.Common.{◌≡◌, ◌⊎◌, inl, inr, ◌≤◌, ◌<◌, ℕ, zero, suc, ◌+◌, ◌*◌, nat_le, Bool, true, false, not, List, [], ◌∷◌, ◌++◌, length, refl, sym, ◌∙◌, ap, subst, arith, Some}
+use Rattle.std.proofs.Common.{◌≡◌, ◌⊎◌, inl, inr, ◌≤◌, ◌<◌, ℕ, zero, suc, nat_le, Bool, true, false, not, List, [], ◌∷◌, ◌++◌, length, refl, sym, ◌∙◌, ap, subst, arith, Some}
 use Rattle.std.specs.Prelude.{slice_index_or, All, Contains, IsTrue}
 use Rattle.std.proofs.lemmas.Bool.{le-leb}
 use Rattle.std.proofs.lemmas.Bool.Decides.{leb_tells}
 use Rattle.std.proofs.lemmas.List.Elements.{All-contains, Contains-append_left, Contains-append_right, Contains-append_cases}
-use Rattle.xs_lits.specs.Literal.{Literal, plain, opposite}
+use Rattle.xs_lits.specs.Literal.{Literal, opposite}
 use Rattle.xs_lits.specs.Assignment.{Assignment, value_of}
 use Rattle.xs_lits.specs.Models.{TotalAssignment, literal_value, clause_value, Satisfies}
 use Rattle.xs_lits.proofs.ModelLemmas.{Satisfies-from_All}
@@ -18,8 +18,8 @@ use Rattle.xs_frames.specs.Bits.{values_of}
 use Rattle.xs_frames.specs.Framed.{frame_at}
 use Rattle.xs_frames.specs.Roles.{Listed, first, step, bad, Role, list_guard}
 use Rattle.xs_frames.specs.Roles as roles
-use Rattle.xs_frames.specs.Guards.{Layout, AreHeld, StandsUpTo, unguarded}
-use Rattle.xs_frames.specs.Guarding.{Meets, places_of, MeetsFrame, MeetsBeside, IsModelOf, IsCoreOf, added_in, IsGuardIn, IsWell, asked_guards, guard_at, guard_of, lists_of, IsHolding, Tells}
+use Rattle.xs_frames.specs.Guards.{Layout, StandsUpTo, unguarded}
+use Rattle.xs_frames.specs.Guarding.{Meets, places_of, MeetsFrame, MeetsBeside, added_in, IsGuardIn, IsWell, asked_guards, guard_at, guard_of, Tells}
 use Rattle.xs_frames.specs.declared.guarded.Beside.{Beside}
 use Rattle.xs_frames.specs.declared.guarded.Beside.TheVariants.{Nothing, Step, Bad}
 use Rattle.xs_frames.specs.declared.guarded.Guarded.{Guarded}

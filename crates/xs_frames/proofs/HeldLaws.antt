@@ -1,11 +1,10 @@
 -- What a search over lists and frames under guards answers says the same of what is asked about alone.
-use Rattle.std.proofs.Common.{◌≡◌, ◌⊎◌, inl, inr, ◌≤◌, ◌<◌, ℕ, zero, suc, ◌+◌, ◌-◌, nat_le, Bool, true, false, not, List, [], ◌∷◌, ◌++◌, refl, sym, ◌∙◌, ap, subst, arith, length, if◌then◌else◌}
-use Rattle.std.specs.Prelude.{slice_index_or, Contains, IsTrue, All}
-use Rattle.std.proofs.lemmas.Bool.{le-leb, lt-leb}
+use Rattle.std.proofs.Common.{◌≡◌, ◌⊎◌, inl, inr, ◌≤◌, ◌<◌, ℕ, zero, suc, ◌+◌, ◌-◌, nat_le, Bool, true, false, not, List, [], ◌∷◌, ◌++◌, refl, sym, ◌∙◌, ap, subst, arith, length}
+use Rattle.std.specs.Prelude.{slice_index_or, Contains, All}
 use Rattle.std.proofs.lemmas.Bool.Decides.{leb_tells}
 use Rattle.std.proofs.lemmas.List.Elements.{All-contains, Contains-append_cases}
 use Rattle.xs_lits.specs.Literal.{Literal, plain, opposite}
-use Rattle.xs_lits.specs.Models.{TotalAssignment, literal_value, clause_value, Satisfies, FollowsFrom, SameBelow, IsBelow}
+use Rattle.xs_lits.specs.Models.{TotalAssignment, literal_value, clause_value, Satisfies, FollowsFrom, IsBelow}
 use Rattle.xs_lits.proofs.ModelLemmas.{clause_value-same, literal_value-same, Satisfies-from_All, literal_value-opposite}
 use Rattle.xs_derive.specs.Derivation.{IsUpTo}
 use Rattle.xs_frames.specs.Framed.{frame_at}
@@ -14,7 +13,7 @@ use Rattle.xs_frames.specs.Roles as roles
 use Rattle.xs_frames.specs.Guards.{guards_next, StandsUpTo, Layout, IsHeld, of_list, of_frame, of_next, of_retired, AreHeld, unguarded}
 use Rattle.xs_frames.specs.Guarding.{Meets}
 use Rattle.xs_frames.proofs.Sets.{from_member, true_member}
-use Rattle.xs_frames.proofs.RoleLaws.{all_of, order, first_in, later_in, member_true, renamed_low, renamed_high, renamed_value, unguards, unasked, anyway, Asked, by_role, spread, spread_at}
+use Rattle.xs_frames.proofs.RoleLaws.{all_of, order, first_in, later_in, member_true, renamed_low, renamed_high, renamed_value, unguards, unasked, anyway, Asked, spread, spread_at}
 
 -- a clause of literals up to a variable is over those below the next
 pub below_next : (vars : ℕ) (c : List Literal) → All (IsUpTo vars) c → All (IsBelow (vars + 1)) c

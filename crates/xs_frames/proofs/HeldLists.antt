@@ -1,5 +1,5 @@
 -- What a search over lists and frames under guards holds, after a list was taken.
-use Rattle.std.proofs.Common.{◌≡◌, ◌⊎◌, inl, inr, ◌≤◌, ◌<◌, ℕ, zero, suc, ◌+◌, ◌-◌, nat_le, Bool, true, false, List, [], ◌∷◌, ◌++◌, refl, sym, ◌∙◌, ap, subst, arith, length, map, if◌then◌else◌}
+use Rattle.std.proofs.Common.{◌≡◌, ◌⊎◌, inl, inr, ◌≤◌, ◌<◌, ℕ, zero, suc, ◌+◌, ◌-◌, nat_le, true, false, List, [], ◌∷◌, ◌++◌, refl, sym, ◌∙◌, ap, subst, arith, if◌then◌else◌}
 use Rattle.std.specs.Prelude.{Contains, All}
 use Rattle.std.proofs.lemmas.Bool.{le-leb, lt-leb}
 use Rattle.std.proofs.lemmas.List.Elements.{All-contains, Contains-append_left, Contains-append_right, Contains-append_cases}
@@ -10,7 +10,7 @@ use Rattle.xs_frames.specs.Roles.{Listed, first, step, bad, Role, place, list_gu
 use Rattle.xs_frames.specs.Roles as roles
 use Rattle.xs_frames.specs.Guards.{guards_next, Layout, IsHeld, of_list, of_frame, of_next, of_retired, IsUnder, AreHeld}
 use Rattle.xs_frames.proofs.RoleLaws.{first_in, to_mapped, from_mapped}
-use Rattle.xs_frames.proofs.HeldSteps.{grown, grown_low, grown_high, grown_used, grown_there, grown_above, one_more, is_used, same_role, retire_bad, held_push}
+use Rattle.xs_frames.proofs.HeldSteps.{grown, grown_high, grown_used, grown_there, grown_above, one_more, is_used, same_role, retire_bad, held_push}
 
 no_member : (cs : List (List Literal)) (c : List Literal) → cs ≡ [] → Contains cs c → ⊥
 no_member cs c e m = none (subst (λ ds. Contains ds c) e m) where

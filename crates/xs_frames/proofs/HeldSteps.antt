@@ -1,16 +1,16 @@
 -- What a search over lists and frames under guards holds, after each change of it.
-use Rattle.std.proofs.Common.{◌≡◌, ◌⊎◌, inl, inr, ◌≤◌, ◌<◌, ℕ, zero, suc, ◌+◌, ◌-◌, nat_le, Bool, true, false, List, [], ◌∷◌, ◌++◌, refl, sym, ◌∙◌, ap, subst, arith, length, map, if◌then◌else◌, length-append}
-use Rattle.std.specs.Prelude.{slice_index_or, Contains, All}
+use Rattle.std.proofs.Common.{◌≡◌, ◌⊎◌, inl, inr, ◌≤◌, ◌<◌, ℕ, zero, suc, ◌+◌, ◌-◌, nat_le, Bool, true, false, List, [], ◌∷◌, ◌++◌, refl, sym, ◌∙◌, ap, subst, arith, length, if◌then◌else◌, length-append}
+use Rattle.std.specs.Prelude.{Contains, All}
 use Rattle.std.proofs.lemmas.Bool.{le-leb, lt-leb}
 use Rattle.std.proofs.lemmas.Bool.Decides.{leb_tells}
-use Rattle.std.proofs.lemmas.List.Elements.{All-contains, Contains-push, Contains-push_cases, Contains-append_left, Contains-append_right, Contains-append_cases}
+use Rattle.std.proofs.lemmas.List.Elements.{Contains-push, Contains-push_cases, Contains-append_left, Contains-append_right, Contains-append_cases}
 use Rattle.xs_lits.specs.Literal.{Literal, plain, opposite}
 use Rattle.xs_derive.specs.Derivation.{IsUpTo}
 use Rattle.xs_frames.specs.Framed.{frame_at}
 use Rattle.xs_frames.specs.Roles.{Listed, first, step, bad, Role, place, list_guard, gate, retired, unused, renamed_clause, under_guard, under_list}
 use Rattle.xs_frames.specs.Roles as roles
 use Rattle.xs_frames.specs.Guards.{guards_next, StandsUpTo, IsOld, IsPut, Layout, IsHeld, of_list, of_frame, of_next, of_retired, IsUnder, AreHeld}
-use Rattle.xs_frames.proofs.RoleLaws.{first_in, to_mapped, from_mapped}
+use Rattle.xs_frames.proofs.RoleLaws.{first_in}
 
 -- the roles up to a variable as a function changes them, and others above it
 abbrev pub grown : ℕ → (Role → Role) → (ℕ → Role) → (ℕ → Role) → ℕ → Role

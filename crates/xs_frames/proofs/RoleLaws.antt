@@ -1,13 +1,13 @@
 -- The values that the roles of variables give where some guards are asked about, and what renamed clauses say.
-use Rattle.std.proofs.Common.{◌≡◌, ◌⊎◌, inl, inr, ◌≤◌, ◌<◌, ℕ, zero, suc, ◌+◌, ◌-◌, nat_le, Bool, true, false, not, List, [], ◌∷◌, refl, sym, ◌∙◌, ap, subst, arith, length, map, if◌then◌else◌}
-use Rattle.std.specs.Prelude.{slice_index_or, Contains, IsTrue, All}
+use Rattle.std.proofs.Common.{◌≡◌, ◌⊎◌, inl, inr, ◌≤◌, ◌<◌, ℕ, zero, suc, ◌+◌, ◌-◌, nat_le, Bool, true, false, not, List, [], ◌∷◌, refl, ap, arith, length, map}
+use Rattle.std.specs.Prelude.{slice_index_or, Contains, All}
 use Rattle.std.proofs.lemmas.Bool.{le-leb, lt-leb}
 use Rattle.std.proofs.lemmas.Bool.Decides.{leb_tells}
 use Rattle.std.proofs.lemmas.List.Elements.{All-contains, Contains-get_or}
 use Rattle.xs_lits.specs.Literal.{Literal, plain, opposite}
 use Rattle.xs_lits.specs.Models.{TotalAssignment, literal_value, clause_value, Satisfies}
-use Rattle.xs_lits.proofs.ModelLemmas.{All-from_Satisfies, literal_value-opposite}
-use Rattle.xs_frames.specs.Roles.{Listed, Role, place, frame_guard, list_guard, gate, retired, unused, renamed, renamed_literal, renamed_clause, under_guard}
+use Rattle.xs_lits.proofs.ModelLemmas.{All-from_Satisfies}
+use Rattle.xs_frames.specs.Roles.{Listed, Role, place, frame_guard, list_guard, gate, retired, unused, renamed, renamed_clause, under_guard}
 use Rattle.xs_frames.proofs.Sets.{from_member, true_member}
 
 pub all_of : {X : Type 0} (P : X → Type 0) (xs : List X) → ((x : X) → Contains xs x → P x) → All P xs

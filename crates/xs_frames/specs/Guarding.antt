@@ -10,7 +10,7 @@ use Rattle.xs_system.specs.declared.system.System.{System}
 use Rattle.xs_frames.specs.Bits.{values_of}
 use Rattle.xs_frames.specs.Framed.{frame_at}
 use Rattle.xs_frames.specs.Roles.{Listed, first, step, bad, Role, renamed}
-use Rattle.xs_frames.specs.Guards.{IsPut, Layout, AreHeld}
+use Rattle.xs_frames.specs.Guards.{IsPut, AreHeld}
 use Rattle.xs_frames.specs.declared.guarded.Beside.{Beside}
 use Rattle.xs_frames.specs.declared.guarded.Beside.TheVariants.{Nothing, Step, Bad}
 use Rattle.xs_frames.specs.declared.guarded.Guarded.{Guarded}

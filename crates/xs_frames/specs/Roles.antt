@@ -1,7 +1,6 @@
 -- The variables of a search over several lists and the frames: what each stands for, and which values that gives it.
-use Rattle.std.specs.Prelude.{ℕ, ◌+◌, ◌-◌, ◌≤◌, Bool, false, List, ◌∷◌, map, nat_le, if◌then◌else◌}
+use Rattle.std.specs.Prelude.{ℕ, ◌+◌, ◌-◌, List, ◌∷◌, map, nat_le, if◌then◌else◌}
 use Rattle.xs_lits.specs.Literal.{Literal, plain, opposite}
-use Rattle.xs_lits.specs.Models.{TotalAssignment}
 
 -- a list that stands in the search under a guard of its own
 pub data Listed : Type 0 where

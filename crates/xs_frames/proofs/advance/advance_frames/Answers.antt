@@ -1,4 +1,4 @@
-use Rattle.std.proofs.Common.{◌≡◌, ◌∙◌, sym, subst}
+use Rattle.std.proofs.Common.{◌∙◌}
 use Rattle.xs_frames.specs.Levels.{frames_of}
 use Rattle.xs_frames.proofs.AdvanceLemmas.{levelled_grown, stronger_after, is_fixed, is_further, all_pushed}
 use Rattle.xs_frames.proofs.OwedLemmas.{levelled_stays, stronger_stays}

@@ -1,4 +1,4 @@
-use Rattle.std.proofs.Common.{◌<◌, ◌≤◌, ℕ, arith}
+use Rattle.std.proofs.Common.{arith}
 use Rattle.xs_frames.proofs.PushLemmas.{filled_more}
 use Rattle.xs_frames.proofs.advance.find_fixed.Goals as goal
 

@@ -1,4 +1,4 @@
-use Rattle.std.proofs.Common.{◌≡◌, ◌+◌, ◌-◌, ◌++◌, ◌∷◌, [], refl, sym, subst, arith, length, List}
+use Rattle.std.proofs.Common.{◌≡◌, ◌-◌, refl, sym, subst, arith, length, List}
 use Rattle.std.proofs.lemmas.Grind.{common_steps}
 use Rattle.xs_lits.specs.Literal.{Literal}
 use Rattle.xs_frames.specs.Apart.{IsKept, apart_system, apart_list}

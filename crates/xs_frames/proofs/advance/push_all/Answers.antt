@@ -1,6 +1,6 @@
 use Rattle.std.proofs.Common.{◌≡◌, ◌∙◌, ℕ, ◌<◌, ◌≤◌, sym, subst, arith}
 use Rattle.xs_frames.specs.Levels.{frames_of}
-use Rattle.xs_frames.proofs.PushLemmas.{moved_stronger, stronger_more, levels_more, levels_none}
+use Rattle.xs_frames.proofs.PushLemmas.{moved_stronger, stronger_more, levels_more}
 use Rattle.xs_frames.proofs.LevelLaws.{same_length}
 use Rattle.xs_frames.proofs.advance.push_all.Goals as goal
 

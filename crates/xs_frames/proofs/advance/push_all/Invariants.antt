@@ -1,7 +1,7 @@
 use Rattle.std.proofs.Common.{◌≡◌}
 use Rattle.xs_frames.specs.Framed.{AreStronger}
 use Rattle.xs_frames.specs.Levels.{frames_of, IsLevelled, AreLevelsPushed}
-use Rattle.xs_frames.specs.Apart.{IsKept, apart_system, apart_list}
+use Rattle.xs_frames.specs.Apart.{IsKept}
 use Rattle.xs_frames.proofs.advance.push_all.Given as goal
 
 abbrev pub invariant-frames : goal.invariant-frames

@@ -1,5 +1,4 @@
-use Rattle.std.proofs.Common.{◌≡◌, refl, sym, ◌∙◌, subst, arith, List, ℕ, suc, ◌+◌, ◌<◌, length, Contains, true, false}
-use Rattle.std.proofs.lemmas.Grind.{common_steps}
+use Rattle.std.proofs.Common.{◌≡◌, refl, sym, ◌∙◌, subst, arith, List, ℕ, suc, ◌+◌, ◌<◌, length, true, false}
 use Rattle.xs_lits.specs.Literal.{Literal}
 use Rattle.xs_derive.specs.Hints.{HasNoOpposites}
 use Rattle.xs_frames.specs.Chain.{IsOverBits}

@@ -1,6 +1,6 @@
-use Rattle.std.proofs.Common.{◌≡◌, sym, ◌∙◌, ℕ, ◌<◌, arith, subst, length}
+use Rattle.std.proofs.Common.{◌≡◌, sym, ℕ, ◌<◌, arith, subst, length}
 use Rattle.std.proofs.lemmas.Grind.{common_steps}
-use Rattle.xs_frames.proofs.PushLemmas.{moved_none, moved_more, places_more}
+use Rattle.xs_frames.proofs.PushLemmas.{moved_more, places_more}
 use Rattle.xs_frames.proofs.advance.push_frame.Goals as goal
 
 pub clauses-preserved : goal.clauses-preserved

@@ -1,5 +1,5 @@
 use Rattle.xs_frames.specs.Levels.{frames_of, IsLevelled, HasMoved}
-use Rattle.xs_frames.specs.Apart.{IsKept, apart_system, apart_list}
+use Rattle.xs_frames.specs.Apart.{IsKept}
 use Rattle.xs_frames.proofs.PushLemmas.{ArePlacesPushed}
 use Rattle.xs_frames.proofs.advance.push_frame.Given as goal
 

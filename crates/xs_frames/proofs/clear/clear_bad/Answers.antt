@@ -1,6 +1,6 @@
 use Rattle.std.proofs.Common.{sym, subst, IfOk, List}
 use Rattle.xs_lits.specs.Literal.{Literal}
-use Rattle.xs_frames.specs.Apart.{IsKept, apart_system, apart_list}
+use Rattle.xs_frames.specs.Apart.{IsKept}
 use Rattle.xs_frames.specs.Levels.{frames_of}
 use Rattle.xs_frames.proofs.clear.clear_bad.Goals as goal
 

@@ -1,14 +1,12 @@
-use Rattle.std.proofs.Common.{◌≡◌, ◌++◌, ◌∷◌, [], refl, sym, ◌∙◌, ap, subst, arith, length, ◌<◌, ◌≤◌, ◌-◌, ◌+◌, List, ℕ, suc}
+use Rattle.std.proofs.Common.{◌≡◌, ◌++◌, ◌∷◌, [], sym, ◌∙◌, ap, subst, arith, length, ◌<◌, ◌≤◌, ◌-◌, ◌+◌, List, ℕ}
 use Rattle.std.proofs.lemmas.Grind.{common_steps}
 use Rattle.xs_lits.specs.Assignment.{Assignment}
-use Rattle.xs_frames.specs.Framed.{AreStronger}
 use Rattle.xs_frames.specs.Levels.{frames_of, HasGained}
-use Rattle.xs_frames.specs.Path.{AreOwed, IsPath, state_in}
+use Rattle.xs_frames.specs.Path.{AreOwed, IsPath}
 use Rattle.xs_frames.specs.Looked.{IsLook}
 use Rattle.xs_frames.specs.Counted.{work_left}
-use Rattle.xs_frames.specs.declared.levels.Held.{Held}
-use Rattle.xs_frames.specs.declared.clear.Look.TheVariants.{Nothing, IsFirst, Deeper, Blocked}
-use Rattle.xs_frames.proofs.LevelLaws.{length_frames, level_is, level_low, owed_fits, gained_push}
+use Rattle.xs_frames.specs.declared.clear.Look.TheVariants.{IsFirst, Deeper, Blocked}
+use Rattle.xs_frames.proofs.LevelLaws.{level_is, level_low, owed_fits, gained_push}
 use Rattle.xs_frames.proofs.OwedLemmas.{look_nothing, look_first, look_deeper, look_blocked, owed_less, work_deeper, work_blocked, BlocksNewest, levelled_blocked, stronger_blocked, levelled_stays, stronger_stays, level_some}
 use Rattle.xs_frames.proofs.clear.clear_frames.Goals as goal
 

@@ -1,7 +1,7 @@
-use Rattle.std.proofs.Common.{◌≡◌, length}
+use Rattle.std.proofs.Common.{◌≡◌}
 use Rattle.xs_frames.specs.Framed.{AreStronger}
 use Rattle.xs_frames.specs.Levels.{frames_of, IsLevelled}
-use Rattle.xs_frames.specs.Apart.{IsKept, apart_system, apart_list}
+use Rattle.xs_frames.specs.Apart.{IsKept}
 use Rattle.xs_frames.specs.Path.{AreOwed}
 use Rattle.xs_frames.specs.Counted.{work_left}
 use Rattle.xs_frames.proofs.clear.clear_frames.Given as goal

@@ -1,8 +1,7 @@
-use Rattle.std.proofs.Common.{◌≡◌, [], ◌∷◌, sym, ◌∙◌, ap, subst, arith, ◌<◌, ◌≤◌, ◌-◌, ◌+◌, ◌*◌, ℕ, suc, All, List, length}
+use Rattle.std.proofs.Common.{◌≡◌, sym, subst, arith, ◌<◌, ◌≤◌, ◌-◌, ◌+◌, ◌*◌, ℕ, suc, All, length}
 use Rattle.std.proofs.lemmas.Grind.{common_steps}
 use Rattle.xs_lits.specs.Literal.{Literal}
 use Rattle.xs_frames.specs.Bits.{literals_from, joined}
-use Rattle.xs_frames.specs.Framed.{InNumber}
 use Rattle.xs_frames.specs.Apart.{IsKept, apart_system, apart_list}
 use Rattle.xs_frames.specs.Levels.{frames_of}
 use Rattle.xs_frames.specs.Looked.{Blocks}

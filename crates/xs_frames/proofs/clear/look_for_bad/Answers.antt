@@ -1,13 +1,10 @@
-use Rattle.std.proofs.Common.{◌≡◌, [], refl, sym, ◌∙◌, subst, arith, ◌<◌, ◌-◌, ◌+◌, ℕ, suc, length}
-use Rattle.std.proofs.lemmas.Grind.{common_steps}
+use Rattle.std.proofs.Common.{◌≡◌, [], refl, arith, ◌<◌, ℕ, suc, length}
 use Rattle.xs_frames.specs.Levels.{frames_of}
-use Rattle.xs_frames.specs.Looked.{IsBadLook}
-use Rattle.xs_frames.specs.declared.clear.Look.TheVariants.{Nothing, Deeper}
 use Rattle.xs_frames.specs.declared.guarded.Beside.TheVariants.{Bad}
 use Rattle.xs_frames.specs.Guarding.{places_of}
 use Rattle.xs_frames.specs.Apart.{apart_system, apart_list}
 use Rattle.xs_frames.proofs.LevelLaws.{length_frames}
-use Rattle.xs_frames.proofs.LookLemmas.{bad_deeper, bad_nothing, look_at_bad, look_at_none}
+use Rattle.xs_frames.proofs.LookLemmas.{look_at_bad, look_at_none}
 use Rattle.xs_frames.proofs.ApartLaws.{sat_told, unsat_told}
 use Rattle.xs_frames.proofs.clear.look_for_bad.Goals as goal
 

@@ -1,6 +1,5 @@
-use Rattle.std.proofs.Common.{◌≡◌, [], List, ◌∙◌, sym, ap, subst, arith, ◌<◌, ◌≤◌, ◌-◌, ◌+◌, ℕ, suc, length, slice_index_or}
+use Rattle.std.proofs.Common.{◌≡◌, [], ◌∙◌, sym, ap, subst, arith, ◌<◌, ◌≤◌, ◌-◌, ◌+◌, ℕ, length, slice_index_or}
 use Rattle.std.proofs.lemmas.Grind.{common_steps}
-use Rattle.xs_lits.specs.Assignment.{Assignment}
 use Rattle.xs_frames.specs.Bits.{read_from}
 use Rattle.xs_frames.specs.Chain.{IsState}
 use Rattle.xs_frames.specs.Framed.{InNumber}
@@ -8,8 +7,8 @@ use Rattle.xs_frames.specs.Levels.{frames_of}
 use Rattle.xs_frames.specs.Looked.{IsStepLook}
 use Rattle.xs_frames.specs.Path.{state_in}
 use Rattle.xs_frames.proofs.BitLemmas.{length_read}
-use Rattle.xs_frames.proofs.LevelLaws.{length_frames, level_is, level_low, owed_fits}
-use Rattle.xs_frames.proofs.OwedLemmas.{look_newest, newest_inside, look_bad_only}
+use Rattle.xs_frames.proofs.LevelLaws.{level_is, level_low, owed_fits}
+use Rattle.xs_frames.proofs.OwedLemmas.{look_newest, newest_inside}
 use Rattle.xs_frames.proofs.clear.look_once.Goals as goal
 
 pub level_of-level-requires-clause-fits : goal.level_of-level-requires-clause-fits

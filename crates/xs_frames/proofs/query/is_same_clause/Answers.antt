@@ -1,6 +1,5 @@
-use Rattle.std.proofs.Common.{◌≡◌, ◌<◌, ◌≤◌, ◌∙◌, ℕ, List, sym, subst, arith, length, take, slice_index_or}
+use Rattle.std.proofs.Common.{◌≡◌, ◌<◌, ◌≤◌, ◌∙◌, ℕ, sym, subst, length}
 use Rattle.std.proofs.lemmas.List.{take_more_same, take_all}
-use Rattle.xs_lits.specs.Literal.{Literal}
 use Rattle.xs_frames.proofs.Sets.{same_literal, same_item}
 use Rattle.xs_frames.proofs.query.is_same_clause.Goals as goal
 

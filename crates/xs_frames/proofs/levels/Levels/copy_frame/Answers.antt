@@ -1,4 +1,4 @@
-use Rattle.std.proofs.Common.{◌≡◌, ◌∙◌, ◌++◌, ◌∷◌, [], List, ap}
+use Rattle.std.proofs.Common.{◌∙◌, ◌++◌, ◌∷◌, [], List, ap}
 use Rattle.xs_lits.specs.Literal.{Literal}
 use Rattle.xs_frames.proofs.LevelLaws.{copied_more, skipped_more}
 use Rattle.xs_frames.proofs.levels.Levels.copy_frame.Goals.{then-i-held+in_ok-copy+in_ok-push, else-i-held}

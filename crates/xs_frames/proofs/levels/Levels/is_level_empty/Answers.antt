@@ -1,4 +1,4 @@
-use Rattle.std.proofs.Common.{◌≡◌, ◌≢◌, ◌<◌, ◌∙◌, ℕ, List, All, ap, subst, sym, arith, length}
+use Rattle.std.proofs.Common.{◌≢◌, ◌∙◌, All, subst}
 use Rattle.std.proofs.lemmas.List.{take_all}
 use Rattle.std.proofs.lemmas.List.Elements.{All-more}
 use Rattle.xs_frames.specs.declared.levels.Held.{Held}
