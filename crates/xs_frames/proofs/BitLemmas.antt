@@ -1,6 +1,6 @@
 -- Literals of state bits, and the three loops over them.
 use Rattle.std.proofs.Common.{◌≡◌, ◌≤◌, ◌<◌, ℕ, zero, suc, ◌+◌, ◌-◌, Bool, true, false, not, List, [], ◌∷◌, ◌++◌, refl, sym, ◌∙◌, ap, subst, arith, length, map, take}
-use Rattle.std.specs.Prelude.{slice_index_or, slice_set, Contains, All}
+use Rattle.std.specs.Prelude.{slice_index_or, Contains, All}
 use Rattle.std.proofs.lemmas.List.Elements.{All-nil, All-cons, All-head, All-tail}
 use Rattle.xs_lits.specs.Literal.{Literal, opposite, signed}
 use Rattle.xs_lits.specs.Assignment.{Assignment}
@@ -9,7 +9,6 @@ use Rattle.xs_lits.proofs.ModelLemmas.{literal_value-opposite}
 use Rattle.xs_derive.specs.Hints.{HasNoOpposites}
 use Rattle.xs_derive.proofs.FalseLemmas.{opposite-opposite}
 use Rattle.xs_frames.specs.Chain.{State, Agrees}
-use Rattle.xs_frames.specs.Framed.{strengthened}
 use Rattle.xs_frames.specs.Bits.{literal_for, literals_from, values_of, read_from, moved_back}
 
 next_is : (n : ℕ) → n + 1 ≡ suc n
@@ -38,16 +37,6 @@ read_more n k a = subst (λ m. read_from n m a ≡ read_from n k a ++ values_of 
     go n zero a = ap (λ m. values_of a m ∷ []) (sym (add_zero n))
     go n (suc k) a =
         ap (λ r. values_of a n ∷ r) (go (n + 1) k a ∙ ap (λ m. read_from (n + 1) k a ++ values_of a m ∷ []) (move_one n k))
-
-pub strengthened_more : (i : ℕ) (c : List Literal) (fs : List (List (List Literal))) → i < length fs →
-    slice_set (strengthened i c fs) i (slice_index_or (strengthened i c fs) i [] ++ c ∷ []) ≡ strengthened (i + 1) c fs
-strengthened_more i c fs lt = subst (λ m. slice_set (strengthened i c fs) i (slice_index_or (strengthened i c fs) i [] ++ c ∷ []) ≡ strengthened m c fs) (sym (next_is i)) (go i c fs lt)
-  where
-    go : (i : ℕ) (c : List Literal) (fs : List (List (List Literal))) → i < length fs →
-        slice_set (strengthened i c fs) i (slice_index_or (strengthened i c fs) i [] ++ c ∷ []) ≡ strengthened (suc i) c fs
-    go i c [] lt = absurd (omega (arith, lt))
-    go zero c (f ∷ fs) lt = refl
-    go (suc i) c (f ∷ fs) lt = ap (λ r. (f ++ c ∷ []) ∷ r) (go i c fs (grind arith))
 
 pub length_read : (n k : ℕ) (a : Assignment) → length (read_from n k a) ≡ k
 length_read n zero a = refl

@@ -1,123 +1,237 @@
--- What each call of a search over guarded clauses leaves.
-use Rattle.std.proofs.Common.{◌≡◌, ◌⊎◌, inl, inr, ◌≤◌, ◌<◌, ℕ, zero, suc, ◌+◌, ◌-◌, ◌^◌, Bool, true, false, List, [], ◌∷◌, ◌++◌, length, refl, sym, ◌∙◌, ap, subst, arith, length-append, Option, replicate}
-use Rattle.std.specs.Prelude.{slice_index_or, Contains, All}
-use Rattle.std.proofs.lemmas.Bool.{cases_lt}
-use Rattle.std.proofs.lemmas.List.{get_or_append_left, get_or-append_right}
-use Rattle.std.proofs.lemmas.List.Elements.{All-contains, All-cons}
-use Rattle.xs_lits.specs.Literal.{Literal, opposite}
-use Rattle.xs_lits.specs.Assignment.{Assignment}
-use Rattle.xs_derive.specs.Derivation.{IsUpTo}
-use Rattle.xs_derive.specs.Hints.{HasNoOpposites, LacksOpposite}
+-- What each step of a search over guarded clauses leaves of its variables, guards and clauses.
+use Rattle.std.proofs.Common.{◌≡◌, ◌≤◌, ◌<◌, ℕ, ◌+◌, ◌^◌, Bool, true, false, List, [], ◌∷◌, ◌++◌, length, refl, sym, ◌∙◌, ap, subst, arith, length-append, append_assoc, Option, replicate}
+use Rattle.std.specs.Prelude.{slice_index_or, All}
+use Rattle.std.proofs.lemmas.List.{append-nil, length-replicate}
+use Rattle.std.proofs.lemmas.List.Elements.{All-append, All-nil, All-cons}
+use Rattle.xs_lits.specs.Literal.{Literal, plain, opposite}
 use Rattle.xs_derive.specs.declared.step.Step.{Step}
 use Rattle.xs_solver.specs.KeptRecord.{KeptValue}
-use Rattle.xs_solver.specs.Kept.{added_of, HasLearned, IsRefuted}
-use Rattle.xs_solver.specs.Search.{IsSolution}
-use Rattle.xs_solver.specs.declared.solve.Verdict.TheVariants.{Sat, Unsat}
-use Rattle.xs_frames.specs.Guards.{guard_of, unguarded}
-use Rattle.xs_frames.specs.Guarding.{added_in, IsWell, HasPut, HasAsked, Tells}
+use Rattle.xs_solver.specs.Kept.{added_of, HasLearned}
+use Rattle.xs_solver.specs.Search.{with_steps}
+use Rattle.xs_solver.proofs.KeptLemmas.{length_with_steps}
+use Rattle.xs_frames.specs.Guarding.{added_in, IsGuardIn, IsWell, HasSameGuards, HasPut, HasWidened, HasNewBad, HasNewFrame}
 use Rattle.xs_frames.specs.declared.guarded.Guarded.{Guarded}
-use Rattle.xs_frames.proofs.GuardLaws.{guarded_solution, guarded_core}
-use Rattle.xs_frames.proofs.GuardingLemmas.{added_push, added_learned, marked_push, marked_learned}
 
--- after a clause was added to the search
-pub put_well : (old new : Guarded) (c : List Literal) → IsWell old → new.vars ≡ old.vars → new.guards.items ≡ old.guards.items →
-    new.search.kept ≡ record old.search.kept { clauses = old.search.kept.clauses ++ c ∷ []; marks = old.search.kept.marks ++ false ∷ [] } → HasPut old new (c ∷ [])
-put_well old new c w vars guards kept = record {
-  well = record {
-    low = subst (λ (n : ℕ). n < 2 ^ 31) (sym vars) w.low;
-    small = subst (λ (k : KeptValue). k.vars < 2 ^ 62) (sym kept) w.small;
-    room = ap (λ (k : KeptValue). k.vars) kept ∙ w.room ∙ ap (λ (n : ℕ). n + length old.guards.items) (sym vars) ∙ ap (λ (ls : List Literal). new.vars + length ls) (sym guards);
-    guards = λ i l lt. ap (λ (ls : List Literal). slice_index_or ls i l) guards ∙ w.guards i l (subst (λ (ls : List Literal). i < length ls) guards lt) ∙ ap (λ (n : ℕ). guard_of n i) (sym vars);
-    marked = ap (λ (k : KeptValue). length k.marks) kept ∙ marked_push old.search.kept.clauses old.search.kept.marks c w.marked ∙ sym (ap (λ (k : KeptValue). length k.clauses) kept);
-  };
+-- a clause that was added stands at the end of those that were added
+added_push : (cs : List (List Literal)) (ms : List Bool) (c : List Literal) → length ms ≡ length cs → added_of (cs ++ c ∷ []) (ms ++ false ∷ []) ≡ added_of cs ms ++ c ∷ []
+added_push [] [] c e = refl
+added_push [] (m ∷ ms) c e = absurd (omega (arith, e))
+added_push (d ∷ cs) [] c e = absurd (omega (arith, e))
+added_push (d ∷ cs) (true ∷ ms) c e = added_push cs ms c (omega (arith, e))
+added_push (d ∷ cs) (false ∷ ms) c e = ap (λ ds. d ∷ ds) (added_push cs ms c (omega (arith, e)))
+
+-- a clause that was learned is none of those that were added
+added_one : (cs : List (List Literal)) (ms : List Bool) (c : List Literal) → length ms ≡ length cs → added_of (cs ++ c ∷ []) (ms ++ true ∷ []) ≡ added_of cs ms
+added_one [] [] c e = refl
+added_one [] (m ∷ ms) c e = absurd (omega (arith, e))
+added_one (d ∷ cs) [] c e = absurd (omega (arith, e))
+added_one (d ∷ cs) (true ∷ ms) c e = added_one cs ms c (omega (arith, e))
+added_one (d ∷ cs) (false ∷ ms) c e = ap (λ ds. d ∷ ds) (added_one cs ms c (omega (arith, e)))
+
+added_learned : (cs : List (List Literal)) (ms : List Bool) (ls : List Step) → length ms ≡ length cs → added_of (with_steps cs ls) (ms ++ replicate (length ls) true) ≡ added_of cs ms
+added_learned cs ms [] e = ap (added_of cs) (append-nil ms)
+added_learned cs ms (l ∷ ls) e =
+    ap (added_of (with_steps (cs ++ l.clause ∷ []) ls)) (sym (append_assoc ms (true ∷ []) (replicate (length ls) true)))
+    ∙ added_learned (cs ++ l.clause ∷ []) (ms ++ true ∷ []) ls (longer ms cs e) ∙ added_one cs ms l.clause e
+  where
+    longer : (ms : List Bool) (cs : List (List Literal)) → length ms ≡ length cs → length (ms ++ true ∷ []) ≡ length (cs ++ l.clause ∷ [])
+    longer ms cs e = omega (arith, e, length-append ms (true ∷ []), length-append cs (l.clause ∷ []))
+
+marked_learned : (cs : List (List Literal)) (ms : List Bool) (ls : List Step) → length ms ≡ length cs → length (ms ++ replicate (length ls) true) ≡ length (with_steps cs ls)
+marked_learned cs ms ls e = omega (arith, e, length-append ms (replicate (length ls) true), length-replicate (length ls) true, length_with_steps cs ls)
+
+marked_push : (cs : List (List Literal)) (ms : List Bool) (c : List Literal) → length ms ≡ length cs → length (ms ++ false ∷ []) ≡ length (cs ++ c ∷ [])
+marked_push cs ms c e = omega (arith, e, length-append ms (false ∷ []), length-append cs (c ∷ []))
+
+-- a guard is one of a search with more variables
+pub guard_raised : (p q v w : ℕ) (l : Literal) → q ≡ p → v ≤ w → IsGuardIn p v l → IsGuardIn q w l
+guard_raised p q v w l e le g = record { positive = g.positive; above = subst (λ n. n < l.var) (sym e) g.above; in_range = up l.var v w g.in_range le } where
+  up : (x v w : ℕ) → x ≤ v → v ≤ w → x ≤ w
+  up x v w a b = omega (arith, a, b)
+
+pub guards_raised : (p q v w : ℕ) (ls : List Literal) → q ≡ p → v ≤ w → All (IsGuardIn p v) ls → All (IsGuardIn q w) ls
+guards_raised p q v w ls e le a = λ k d lt. guard_raised p q v w (slice_index_or ls k d) e le (a k d lt)
+
+-- a search with the same guards, and no fewer variables
+pub well_kept : (old new : Guarded) → IsWell old → HasSameGuards old new → new.vars ≡ new.search.kept.vars → old.search.kept.vars ≤ new.search.kept.vars → new.search.kept.vars < 2 ^ 62 →
+    length new.search.kept.marks ≡ length new.search.kept.clauses → IsWell new
+well_kept old new w s vars le small marked = record {
+  low = subst (λ (n : ℕ). n < 2 ^ 31) (sym s.places) w.low;
   vars = vars;
-  guards = guards;
-  added = ap (λ (k : KeptValue). added_of k.clauses k.marks) kept ∙ added_push old.search.kept.clauses old.search.kept.marks c w.marked;
-}
-
--- after a guard was made, and before it is said that the last one implies it
-pub well_more : (old new : Guarded) (l : Literal) → IsWell old → new.vars ≡ old.vars → new.guards.items ≡ old.guards.items ++ l ∷ [] → l ≡ record { var = old.search.kept.vars + 1; negated = false } →
-    old.search.kept.vars + 1 < 2 ^ 62 → new.search.kept ≡ record old.search.kept { vars = old.search.kept.vars + 1 } → IsWell new
-well_more old new l w vars guards guard small kept = record {
-  low = subst (λ (n : ℕ). n < 2 ^ 31) (sym vars) w.low;
-  small = subst (λ (k : KeptValue). k.vars < 2 ^ 62) (sym kept) small;
-  room = ap (λ (k : KeptValue). k.vars) kept ∙ count ∙ ap (λ (n : ℕ). n + length (old.guards.items ++ l ∷ [])) (sym vars) ∙ ap (λ (ls : List Literal). new.vars + length ls) (sym guards);
-  guards = λ i d lt. ap (λ (ls : List Literal). slice_index_or ls i d) guards ∙ at i d (subst (λ (ls : List Literal). i < length ls) guards lt) (cases_lt i (length old.guards.items)) ∙ ap (λ (n : ℕ). guard_of n i) (sym vars);
-  marked = ap (λ (k : KeptValue). length k.marks) kept ∙ w.marked ∙ sym (ap (λ (k : KeptValue). length k.clauses) kept);
+  small = small;
+  room = subst (λ (n : ℕ). n ≤ new.search.kept.vars) (sym s.places) (up old.places old.search.kept.vars new.search.kept.vars w.room le);
+  some = subst (λ (ls : List Literal). 0 < length ls) (sym s.frames) w.some;
+  frames = subst (All (IsGuardIn new.places new.search.kept.vars)) (sym s.frames) (guards_raised old.places new.places old.search.kept.vars new.search.kept.vars old.frames.items s.places le w.frames);
+  step = subst (IsGuardIn new.places new.search.kept.vars) (sym s.step) (guard_raised old.places new.places old.search.kept.vars new.search.kept.vars old.step s.places le w.step);
+  bad = subst (IsGuardIn new.places new.search.kept.vars) (sym s.bad) (guard_raised old.places new.places old.search.kept.vars new.search.kept.vars old.bad s.places le w.bad);
+  marked = marked;
 }
   where
-    count : old.search.kept.vars + 1 ≡ old.vars + length (old.guards.items ++ l ∷ [])
-    count = sum old.search.kept.vars old.vars (length old.guards.items) (length (old.guards.items ++ l ∷ [])) w.room (length-append old.guards.items (l ∷ [])) where
-      sum : (k v n m : ℕ) → k ≡ v + n → m ≡ n + 1 → k + 1 ≡ v + m
-      sum k v n m e f = omega (arith, e, f)
+    up : (x v w : ℕ) → x ≤ v → v ≤ w → x ≤ w
+    up x v w a b = omega (arith, a, b)
 
-    is_guard : (i : ℕ) → i ≡ length old.guards.items → l ≡ guard_of old.vars i
-    is_guard i e = guard ∙ ap (λ (n : ℕ). record { var = n; negated = false }) (sum old.search.kept.vars old.vars (length old.guards.items) i w.room e) where
-      sum : (k v n i : ℕ) → k ≡ v + n → i ≡ n → k + 1 ≡ v + 1 + i
-      sum k v n i e f = omega (arith, e, f)
+pub equal_most : (v w : ℕ) → w ≡ v → v ≤ w
+equal_most v w e = omega (arith, e)
 
-    last : (i n m : ℕ) → i < m → m ≡ n + 1 → n ≤ i → i ≡ n
-    last i n m lt e le = omega (arith, lt, e, le)
+one_over : (v w n : ℕ) → w ≡ v + n → v ≤ w
+one_over v w n e = omega (arith, e)
 
-    none : (i n : ℕ) → i ≡ n → i - n ≡ 0
-    none i n e = omega (arith, e)
+-- after a clause was added to the search
+pub put_well : (old new : Guarded) (c : List Literal) → IsWell old → HasSameGuards old new → new.vars ≡ old.vars →
+    new.search.kept ≡ record old.search.kept { clauses = old.search.kept.clauses ++ c ∷ []; marks = old.search.kept.marks ++ false ∷ [] } → HasPut old new (c ∷ [])
+put_well old new c w s vars kept = record {
+  well = well_kept old new w s (vars ∙ w.vars ∙ sym same) (equal_most old.search.kept.vars new.search.kept.vars same) (subst (λ (n : ℕ). n < 2 ^ 62) (sym same) w.small)
+      (ap (λ (k : KeptValue). length k.marks) kept ∙ marked_push old.search.kept.clauses old.search.kept.marks c w.marked ∙ sym (ap (λ (k : KeptValue). length k.clauses) kept));
+  guards = s;
+  vars = same;
+  added = ap (λ (k : KeptValue). added_of k.clauses k.marks) kept ∙ added_push old.search.kept.clauses old.search.kept.marks c w.marked;
+}
+  where
+    same : new.search.kept.vars ≡ old.search.kept.vars
+    same = ap (λ (k : KeptValue). k.vars) kept
 
-    at : (i : ℕ) (d : Literal) → i < length (old.guards.items ++ l ∷ []) → (i < length old.guards.items) ⊎ (length old.guards.items ≤ i) → slice_index_or (old.guards.items ++ l ∷ []) i d ≡ guard_of old.vars i
-    at i d lt (inl low) = get_or_append_left old.guards.items (l ∷ []) d i low ∙ w.guards i d low
-    at i d lt (inr le) =
-        let e = last i (length old.guards.items) (length (old.guards.items ++ l ∷ [])) lt (length-append old.guards.items (l ∷ [])) le in
-        get_or-append_right old.guards.items (l ∷ []) (length old.guards.items) i d refl le
-        ∙ ap (λ (n : ℕ). slice_index_or (l ∷ []) n d) (none i (length old.guards.items) e) ∙ is_guard i e
+pub same_itself : (g : Guarded) → HasSameGuards g g
+same_itself g = record { places = refl; step = refl; bad = refl; frames = refl }
+
+pub same_both : (a b c : Guarded) → HasSameGuards a b → HasSameGuards b c → HasSameGuards a c
+same_both a b c s t = record { places = t.places ∙ s.places; step = t.step ∙ s.step; bad = t.bad ∙ s.bad; frames = t.frames ∙ s.frames }
+
+pub put_none : (g : Guarded) → IsWell g → HasPut g g []
+put_none g w = record { well = w; guards = same_itself g; vars = refl; added = sym (append-nil (added_in g)) }
+
+pub put_both : (a b c : Guarded) (cs ds : List (List Literal)) → HasPut a b cs → HasPut b c ds → HasPut a c (cs ++ ds)
+put_both a b c cs ds p q = record {
+  well = q.well;
+  guards = same_both a b c p.guards q.guards;
+  vars = q.vars ∙ p.vars;
+  added = q.added ∙ ap (λ (es : List (List Literal)). es ++ ds) p.added ∙ append_assoc (added_in a) cs ds;
+}
+
+pub widen_none : (g : Guarded) → IsWell g → HasWidened g g 0
+widen_none g w = record { well = w; guards = same_itself g; vars = none g.search.kept.vars; added = refl } where
+  none : (n : ℕ) → n ≡ n + 0
+  none n = omega arith
+
+-- after a variable more
+pub widen_more : (a b c : Guarded) (n : ℕ) → HasWidened a b n → HasSameGuards b c → c.vars ≡ b.search.kept.vars + 1 → b.search.kept.vars + 1 < 2 ^ 62 →
+    c.search.kept ≡ record b.search.kept { vars = b.search.kept.vars + 1 } → HasWidened a c (n + 1)
+widen_more a b c n h s vars small kept = record {
+  well = well_kept b c h.well s (vars ∙ sym more) (one_over b.search.kept.vars c.search.kept.vars 1 more) (subst (λ (n : ℕ). n < 2 ^ 62) (sym more) small)
+      (ap (λ (k : KeptValue). length k.marks) kept ∙ h.well.marked ∙ sym (ap (λ (k : KeptValue). length k.clauses) kept));
+  guards = same_both a b c h.guards s;
+  vars = more ∙ sum b.search.kept.vars a.search.kept.vars n h.vars;
+  added = ap (λ (k : KeptValue). added_of k.clauses k.marks) kept ∙ h.added;
+}
+  where
+    more : c.search.kept.vars ≡ b.search.kept.vars + 1
+    more = ap (λ (k : KeptValue). k.vars) kept
+
+    sum : (b a n : ℕ) → b ≡ a + n → b + 1 ≡ a + (n + 1)
+    sum b a n e = omega (arith, e)
+
+above_room : (p v : ℕ) → p ≤ v → p < v + 1
+above_room p v le = omega (arith, le)
+
+reached : (v w : ℕ) → w ≡ v + 1 → v + 1 ≤ w
+reached v w e = omega (arith, e)
+
+-- a variable that was made serves as a guard
+new_guard : (old b : Guarded) → IsWell old → b.places ≡ old.places → b.search.kept.vars ≡ old.search.kept.vars + 1 → IsGuardIn b.places b.search.kept.vars (plain (old.search.kept.vars + 1))
+new_guard old b w places vars = record {
+  positive = refl;
+  above = subst (λ (n : ℕ). n < old.search.kept.vars + 1) (sym places) (above_room old.places old.search.kept.vars w.room);
+  in_range = reached old.search.kept.vars b.search.kept.vars vars;
+}
+
+-- another guard of bad states
+pub bad_renewed : (old a b new : Guarded) → IsWell old → HasPut old a ((opposite old.bad ∷ []) ∷ []) → HasWidened a b 1 → new.search ≡ b.search → new.vars ≡ b.vars → new.places ≡ b.places → new.step ≡ b.step →
+    new.frames.items ≡ b.frames.items → new.bad ≡ plain b.vars → HasNewBad old new
+bad_renewed old a b new w p h search vars places step frames bad = record {
+  well = record {
+    low = subst (λ (n : ℕ). n < 2 ^ 31) (sym places) h.well.low;
+    vars = vars ∙ h.well.vars ∙ sym same;
+    small = subst (λ (n : ℕ). n < 2 ^ 62) (sym same) h.well.small;
+    room = subst (λ (n : ℕ). n ≤ new.search.kept.vars) (sym places) (subst (λ (n : ℕ). b.places ≤ n) (sym same) h.well.room);
+    some = subst (λ (ls : List Literal). 0 < length ls) (sym frames) h.well.some;
+    frames = subst (All (IsGuardIn new.places new.search.kept.vars)) (sym frames) (guards_raised b.places new.places b.search.kept.vars new.search.kept.vars b.frames.items places le h.well.frames);
+    step = subst (IsGuardIn new.places new.search.kept.vars) (sym step) (guard_raised b.places new.places b.search.kept.vars new.search.kept.vars b.step places le h.well.step);
+    bad = subst (IsGuardIn new.places new.search.kept.vars) (sym named) (guard_raised b.places new.places b.search.kept.vars new.search.kept.vars (plain (old.search.kept.vars + 1)) places le
+        (new_guard old b w (h.guards.places ∙ p.guards.places) risen));
+    marked = ap (λ s. length s.kept.marks) search ∙ h.well.marked ∙ sym (ap (λ s. length s.kept.clauses) search);
+  };
+  places = places ∙ h.guards.places ∙ p.guards.places;
+  step = step ∙ h.guards.step ∙ p.guards.step;
+  bad = named;
+  frames = frames ∙ h.guards.frames ∙ p.guards.frames;
+  vars = same ∙ risen;
+  added = ap (λ s. added_of s.kept.clauses s.kept.marks) search ∙ h.added ∙ p.added;
+}
+  where
+    same : new.search.kept.vars ≡ b.search.kept.vars
+    same = ap (λ s. s.kept.vars) search
+
+    le : b.search.kept.vars ≤ new.search.kept.vars
+    le = equal_most b.search.kept.vars new.search.kept.vars same
+
+    risen : b.search.kept.vars ≡ old.search.kept.vars + 1
+    risen = h.vars ∙ ap (λ (n : ℕ). n + 1) p.vars
+
+    named : new.bad ≡ plain (old.search.kept.vars + 1)
+    named = bad ∙ ap plain (h.well.vars ∙ risen)
+
+-- the guard of a frame more
+pub frame_added : (old b new : Guarded) → IsWell old → HasWidened old b 1 → new.search ≡ b.search → new.vars ≡ b.vars → new.places ≡ b.places → new.step ≡ b.step → new.bad ≡ b.bad →
+    new.frames.items ≡ b.frames.items ++ plain b.vars ∷ [] → HasNewFrame old new
+frame_added old b new w h search vars places step bad frames = record {
+  well = record {
+    low = subst (λ (n : ℕ). n < 2 ^ 31) (sym places) h.well.low;
+    vars = vars ∙ h.well.vars ∙ sym same;
+    small = subst (λ (n : ℕ). n < 2 ^ 62) (sym same) h.well.small;
+    room = subst (λ (n : ℕ). n ≤ new.search.kept.vars) (sym places) (subst (λ (n : ℕ). b.places ≤ n) (sym same) h.well.room);
+    some = subst (λ (ls : List Literal). 0 < length ls) (sym named) (longer old.frames.items (plain (old.search.kept.vars + 1)));
+    frames = subst (All (IsGuardIn new.places new.search.kept.vars)) (sym named) (All-append (IsGuardIn new.places new.search.kept.vars) old.frames.items (plain (old.search.kept.vars + 1) ∷ []) before
+        (All-cons (IsGuardIn new.places new.search.kept.vars) (plain (old.search.kept.vars + 1)) [] here (All-nil (IsGuardIn new.places new.search.kept.vars))));
+    step = subst (IsGuardIn new.places new.search.kept.vars) (sym step) (guard_raised b.places new.places b.search.kept.vars new.search.kept.vars b.step places le h.well.step);
+    bad = subst (IsGuardIn new.places new.search.kept.vars) (sym bad) (guard_raised b.places new.places b.search.kept.vars new.search.kept.vars b.bad places le h.well.bad);
+    marked = ap (λ s. length s.kept.marks) search ∙ h.well.marked ∙ sym (ap (λ s. length s.kept.clauses) search);
+  };
+  places = places ∙ h.guards.places;
+  step = step ∙ h.guards.step;
+  bad = bad ∙ h.guards.bad;
+  frames = named;
+  vars = same ∙ h.vars;
+  added = ap (λ s. added_of s.kept.clauses s.kept.marks) search ∙ h.added;
+}
+  where
+    same : new.search.kept.vars ≡ b.search.kept.vars
+    same = ap (λ s. s.kept.vars) search
+
+    le : b.search.kept.vars ≤ new.search.kept.vars
+    le = equal_most b.search.kept.vars new.search.kept.vars same
+
+    named : new.frames.items ≡ old.frames.items ++ plain (old.search.kept.vars + 1) ∷ []
+    named = frames ∙ ap (λ (ls : List Literal). ls ++ plain b.vars ∷ []) h.guards.frames ∙ ap (λ (n : ℕ). old.frames.items ++ plain n ∷ []) (h.well.vars ∙ h.vars)
+
+    before : All (IsGuardIn new.places new.search.kept.vars) old.frames.items
+    before = subst (All (IsGuardIn new.places new.search.kept.vars)) h.guards.frames (guards_raised b.places new.places b.search.kept.vars new.search.kept.vars b.frames.items places le h.well.frames)
+
+    here : IsGuardIn new.places new.search.kept.vars (plain (old.search.kept.vars + 1))
+    here = guard_raised b.places new.places b.search.kept.vars new.search.kept.vars (plain (old.search.kept.vars + 1)) places le (new_guard old b w h.guards.places h.vars)
+
+    longer : (ls : List Literal) (l : Literal) → 0 < length (ls ++ l ∷ [])
+    longer ls l = omega (arith, length-append ls (l ∷ []))
 
 -- after a question
-pub asked_well : (old new : Guarded) (vars : ℕ) (k k' : Option (List Step)) → IsWell old → new.vars ≡ old.vars → new.guards.items ≡ old.guards.items → new.search.kept.vars ≡ old.search.kept.vars →
-    HasLearned vars old.search.kept.clauses old.search.kept.marks k new.search.kept.clauses new.search.kept.marks k' → HasAsked old new
-asked_well old new v k k' w vars guards same h = record {
-  well = record {
-    low = subst (λ (n : ℕ). n < 2 ^ 31) (sym vars) w.low;
-    small = subst (λ (n : ℕ). n < 2 ^ 62) (sym same) w.small;
-    room = same ∙ w.room ∙ ap (λ (n : ℕ). n + length old.guards.items) (sym vars) ∙ ap (λ (ls : List Literal). new.vars + length ls) (sym guards);
-    guards = λ i l lt. ap (λ (ls : List Literal). slice_index_or ls i l) guards ∙ w.guards i l (subst (λ (ls : List Literal). i < length ls) guards lt) ∙ ap (λ (n : ℕ). guard_of n i) (sym vars);
-    marked = ap (λ (ms : List Bool). length ms) h.marks ∙ marked_learned old.search.kept.clauses old.search.kept.marks h.steps w.marked ∙ sym (ap (λ (cs : List (List Literal)). length cs) h.clauses);
-  };
-  vars = vars;
-  guards = guards;
+pub asked_well : (old new : Guarded) (vars : ℕ) (k k' : Option (List Step)) → IsWell old → HasSameGuards old new → new.vars ≡ old.vars → new.search.kept.vars ≡ old.search.kept.vars →
+    HasLearned vars old.search.kept.clauses old.search.kept.marks k new.search.kept.clauses new.search.kept.marks k' → HasPut old new []
+asked_well old new v k k' w s vars same h = record {
+  well = well_kept old new w s (vars ∙ w.vars ∙ sym same) (equal_most old.search.kept.vars new.search.kept.vars same) (subst (λ (n : ℕ). n < 2 ^ 62) (sym same) w.small)
+      (ap (λ (ms : List Bool). length ms) h.marks ∙ marked_learned old.search.kept.clauses old.search.kept.marks h.steps w.marked ∙ sym (ap (λ (cs : List (List Literal)). length cs) h.clauses));
+  guards = s;
+  vars = same;
   added = ap (λ (ms : List Bool). added_of new.search.kept.clauses ms) h.marks ∙ ap (λ (cs : List (List Literal)). added_of cs (old.search.kept.marks ++ repeated h.steps)) h.clauses
-      ∙ added_learned old.search.kept.clauses old.search.kept.marks h.steps w.marked;
+      ∙ added_learned old.search.kept.clauses old.search.kept.marks h.steps w.marked ∙ sym (append-nil (added_in old));
 }
   where
     repeated : List Step → List Bool
     repeated ls = replicate (length ls) true
-
-pub tells_sat : (g : Guarded) (i vars : ℕ) (assumptions under : List Literal) (a : Assignment) → i < length g.guards.items → under ≡ guard_of g.vars i ∷ assumptions → IsSolution vars (added_in g) under a → Tells g i assumptions (Sat a)
-tells_sat g i vars assumptions under a lt e h = λ list frames count are.
-    guarded_solution g.vars list frames (added_in g) are vars i assumptions a (subst (λ (n : ℕ). i < n) (sym count) lt) (subst (λ (ls : List Literal). IsSolution vars (added_in g) ls a) e h)
-
-pub tells_unsat : (g : Guarded) (i : ℕ) (all : List (List Literal)) (assumptions under core : List Literal) → All (IsUpTo g.vars) assumptions → under ≡ guard_of g.vars i ∷ assumptions → IsRefuted (added_in g) all under core → Tells g i assumptions (Unsat (unguarded g.vars core))
-tells_unsat g i all assumptions under core low e h = λ list frames count are.
-    guarded_core g.vars list frames (added_in g) are i all assumptions core low (subst (λ (ls : List Literal). IsRefuted (added_in g) all ls core) e h)
-
--- the literals of a question under a guard
-up_to_room : (l : Literal) (vars n k : ℕ) → k ≡ vars + n → l.var ≤ vars → l.var ≤ k
-up_to_room l vars n k e le = omega (arith, e, le)
-
-pub under_apart : (vars i : ℕ) (assumptions : List Literal) → All (IsUpTo vars) assumptions → HasNoOpposites assumptions → HasNoOpposites (guard_of vars i ∷ assumptions)
-under_apart vars i assumptions low apart = All-cons (LacksOpposite (guard_of vars i ∷ assumptions)) (guard_of vars i) assumptions (record { absent = λ o. guard_absent o })
-    (λ k d lt. record { absent = λ o. other_absent (slice_index_or assumptions k d) (low k d lt) (apart k d lt).absent o })
-  where
-    high : (x i : ℕ) → vars + 1 + i ≡ x → x ≤ vars → ⊥
-    high x i e le = omega (arith, e, le)
-
-    guard_absent : Contains (guard_of vars i ∷ assumptions) (opposite (guard_of vars i)) → ⊥
-    guard_absent o = at o.0 o.1 o.2 where
-      at : (p : ℕ) → p < length (guard_of vars i ∷ assumptions) → slice_index_or (guard_of vars i ∷ assumptions) p (opposite (guard_of vars i)) ≡ opposite (guard_of vars i) → ⊥
-      at zero lt e = differ (ap (λ (l : Literal). l.negated) e) where
-        differ : false ≡ true → ⊥
-        differ e = cc
-      at (suc p) lt e = high (vars + 1 + i) i refl (All-contains (IsUpTo vars) assumptions (opposite (guard_of vars i)) low (p, (omega (arith, lt)), e))
-
-    other_absent : (l : Literal) → l.var ≤ vars → (Contains assumptions (opposite l) → ⊥) → Contains (guard_of vars i ∷ assumptions) (opposite l) → ⊥
-    other_absent l le absent o = at o.0 o.1 o.2 where
-      at : (p : ℕ) → p < length (guard_of vars i ∷ assumptions) → slice_index_or (guard_of vars i ∷ assumptions) p (opposite l) ≡ opposite l → ⊥
-      at zero lt e = high l.var i (ap (λ (k : Literal). k.var) e) le
-      at (suc p) lt e = absent (p, (omega (arith, lt)), e)

@@ -1,5 +1,5 @@
 -- Clauses as sets of literals, and frames as sets of clauses.
-use Rattle.std.proofs.Common.{◌≡◌, ◌<◌, ℕ, zero, suc, Bool, true, false, List, [], ◌∷◌, refl, ◌∙◌, ap, arith, length}
+use Rattle.std.proofs.Common.{◌≡◌, ◌<◌, ℕ, zero, suc, Bool, true, false, List, [], ◌∷◌, refl, sym, ◌∙◌, ap, arith, length}
 use Rattle.std.specs.Prelude.{slice_index_or, Contains, All}
 use Rattle.std.proofs.lemmas.List.Elements.{All-contains, All-contains_itself}
 use Rattle.xs_lits.specs.Literal.{Literal}
@@ -39,3 +39,10 @@ stands_itself frame c m = (m.0, c, m.1, m.2, (All-contains_itself c, All-contain
 
 pub stands_grown : (f g : List (List Literal)) (c : List Literal) → ((d : List Literal) → Contains f d → Contains g d) → Stands f c → Stands g c
 stands_grown f g c w s = let m = w s.1 (s.0, s.2, s.3) in (m.0, s.1, m.1, m.2, s.4)
+
+-- literals of one variable and one sign, and items that stand at one place of two lists
+pub same_literal : (k m : Literal) → k.var ≡ m.var → k.negated ≡ m.negated → k ≡ m
+same_literal k m e f = ap (λ v. record { var = v; negated = k.negated }) e ∙ ap (λ b. record { var = m.var; negated = b }) f
+
+pub same_item : {A : Type 0} (xs ys : List A) (i : ℕ) (x y : A) → x ≡ y → x ≡ slice_index_or xs i x → y ≡ slice_index_or ys i y → slice_index_or xs i y ≡ slice_index_or ys i y
+same_item xs ys i x y e f g = ap (slice_index_or xs i) (sym e) ∙ sym f ∙ e ∙ g

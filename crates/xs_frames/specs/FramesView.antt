@@ -2,14 +2,14 @@
 use Rattle.std.specs.Prelude.{◌≡◌, false}
 use Rattle.xs_frames.specs.FramesRecord.{FramesValue}
 use Rattle.xs_frames.specs.Condition.{IsFit}
-use Rattle.xs_frames.specs.Framed.{IsFramed}
-use Rattle.xs_frames.specs.Guarding.{AreGuarding}
+use Rattle.xs_frames.specs.Levels.{frames_of, IsLevelled}
+use Rattle.xs_frames.specs.Apart.{IsKept}
 use Rattle.xs_frames.specs.declared.frames.Frames.TheInside.{Inside}
 
-abbrev pub frames_of : Inside → FramesValue
-frames_of f = record { system = f.system; frames = f.frames.items; spent = f.spent }
+abbrev pub value_of : Inside → FramesValue
+value_of f = record { system = f.system; frames = frames_of f.levels; spent = f.spent }
 
 pub record AreSound (f : Inside) : Type 0 where
   pub fit : IsFit f.system
-  pub framed : IsFramed f.system f.frames.items
-  pub kept : f.spent ≡ false → AreGuarding f.system f.frames.items f.kept
+  pub levelled : IsLevelled f.system f.levels
+  pub kept : f.spent ≡ false → IsKept f.system f.bad (frames_of f.levels) f.kept

@@ -1,60 +1,73 @@
--- What a search over one list keeps of frames: each clause of a frame stands under the frame's guard, and each guard implies
--- that of the next frame.
-use Rattle.std.specs.Prelude.{◌≡◌, ◌⊎◌, ℕ, suc, ◌+◌, ◌≤◌, ◌<◌, false, List, [], ◌∷◌, All, Contains, length, filter, nat_le}
-use Rattle.xs_lits.specs.Literal.{Literal, opposite}
+-- What a search keeps of lists and frames: each clause under the guard of its list, or of the last frame in which it holds; and
+-- each guard of a frame implies that of the next.
+use Rattle.std.specs.Prelude.{◌≡◌, ◌⊎◌, ℕ, suc, ◌+◌, ◌-◌, ◌≤◌, ◌<◌, List, [], ◌∷◌, All, Contains, length, filter, nat_le}
+use Rattle.xs_lits.specs.Literal.{Literal, plain, opposite}
 use Rattle.xs_derive.specs.Derivation.{IsUpTo}
 use Rattle.xs_frames.specs.Framed.{frame_at}
+use Rattle.xs_frames.specs.Roles.{Listed, Role, place, list_guard, gate, retired, unused, renamed, renamed_clause, under_guard}
+use Rattle.xs_frames.specs.Roles as roles
 
--- the guard of a frame, where the list and the states have variables up to this one
-abbrev pub guard_of : ℕ → ℕ → Literal
-guard_of vars i = record { var = vars + 1 + i; negated = false }
-
--- a clause under the guard of a frame
-abbrev pub under_guard : ℕ → ℕ → List Literal → List Literal
-under_guard vars i c = opposite (guard_of vars i) ∷ c
-
--- that the guard of a frame implies the next
-abbrev pub guards_next : ℕ → ℕ → List Literal
-guards_next vars i = under_guard vars i (guard_of vars (suc i) ∷ [])
-
--- the clause stands in each frame up to a number
+-- the clause stands in each frame from number 1 up to another
 abbrev pub StandsUpTo : List (List (List Literal)) → ℕ → List Literal → Type 0
-StandsUpTo frames j c = (i : ℕ) → i ≤ j → Contains (frame_at frames i) c
-
--- an added clause is one of the list, one of the frames under its guard, or says that a guard implies the next
-pub data IsGuarded (vars : ℕ) (list : List (List Literal)) (frames : List (List (List Literal))) (d : List Literal) : Type 0 where
-  of_list : Contains list d → IsGuarded vars list frames d
-  of_frame : (j : ℕ) (c : List Literal) → d ≡ under_guard vars j c → StandsUpTo frames j c → IsGuarded vars list frames d
-  of_next : (j : ℕ) → d ≡ guards_next vars j → IsGuarded vars list frames d
-
--- the clause was added for this frame or a later one
-pub record IsUnder (vars : ℕ) (frames : List (List (List Literal))) (added : List (List Literal)) (i : ℕ) (c : List Literal) : Type 0 where
-  pub at : ℕ
-  pub from : i ≤ at
-  pub within : at < length frames
-  pub is_added : Contains added (under_guard vars at c)
-
--- The added clauses are those of the list and of the frames, under their guards.
-pub record AreGuarded (vars : ℕ) (list : List (List Literal)) (frames : List (List (List Literal))) (added : List (List Literal)) : Type 0 where
-  pub list_low : (c : List Literal) → Contains list c → All (IsUpTo vars) c
-  pub frames_low : (i : ℕ) (c : List Literal) → Contains (frame_at frames i) c → All (IsUpTo vars) c
-  pub each : (d : List Literal) → Contains added d → IsGuarded vars list frames d
-  pub has_list : (c : List Literal) → Contains list c → Contains added c
-  pub has_frames : (i : ℕ) (c : List Literal) → Contains (frame_at frames i) c → IsUnder vars frames added i c
-  pub has_next : (j : ℕ) → suc j < length frames → Contains added (guards_next vars j)
+StandsUpTo frames j c = (i : ℕ) → 0 < i → i ≤ j → Contains (frame_at frames i) c
 
 -- the clause stood there, or it is the one that was put there
 abbrev pub IsOld : ℕ → List Literal → List (List (List Literal)) → ℕ → List Literal → Type 0
 IsOld j c old i d = Contains (frame_at old i) d ⊎ ((d ≡ c) × (i ≤ j))
 
--- a clause was put into the frames up to a number, and nothing else changed
+-- a clause was put into the frames from number 1 up to another, and nothing else changed there
 pub record IsPut (j : ℕ) (c : List Literal) (old now : List (List (List Literal))) : Type 0 where
   pub same : length now ≡ length old
   pub within : j < length old
   pub here : StandsUpTo now j c
-  pub stays : (i : ℕ) (d : List Literal) → Contains (frame_at old i) d → Contains (frame_at now i) d
-  pub only : (i : ℕ) (d : List Literal) → Contains (frame_at now i) d → IsOld j c old i d
+  pub stays : (i : ℕ) (d : List Literal) → 0 < i → Contains (frame_at old i) d → Contains (frame_at now i) d
+  pub only : (i : ℕ) (d : List Literal) → 0 < i → Contains (frame_at now i) d → IsOld j c old i d
+
+-- that the guard of a frame implies the next
+abbrev pub guards_next : ℕ → ℕ → List Literal
+guards_next guard next = under_guard guard (plain next ∷ [])
+
+-- Where lists and frames stand: the highest variable of states and inputs, the lists, the frames, the guard of each list, its
+-- highest variable and where its gates stand, the guard of each frame from number 1 on, and the role of each variable.
+pub record Layout : Type 0 where
+  pub places : ℕ
+  pub list : Listed → List (List Literal)
+  pub frames : List (List (List Literal))
+  pub guard : Listed → ℕ
+  pub top : Listed → ℕ
+  pub base : Listed → ℕ
+  pub guard_at : ℕ → ℕ
+  pub role : ℕ → Role
+
+-- An added clause is one of a list, renamed, under the list's guard; or one of the frames under a guard; or says that a guard
+-- implies the next; or holds since something is not asked about any more.
+pub data IsHeld (l : Layout) (d : List Literal) : Type 0 where
+  of_list : (which : Listed) (c : List Literal) → d ≡ under_guard (l.guard which) (renamed_clause l.places (l.base which) c) → Contains (l.list which) c → IsHeld l d
+  of_frame : (x j : ℕ) (c : List Literal) → d ≡ under_guard x c → l.role x ≡ roles.frame_guard j → 0 < j → StandsUpTo l.frames j c → IsHeld l d
+  of_next : (x y j : ℕ) → d ≡ guards_next x y → l.role x ≡ roles.frame_guard j → l.role y ≡ roles.frame_guard (suc j) → IsHeld l d
+  of_retired : (x : ℕ) → Contains d (opposite (plain x)) → l.role x ≡ retired → IsHeld l d
+
+-- the clause was added for this frame or a later one
+pub record IsUnder (l : Layout) (added : List (List Literal)) (i : ℕ) (c : List Literal) : Type 0 where
+  pub at : ℕ
+  pub from : i ≤ at
+  pub within : at < length l.frames
+  pub is_added : Contains added (under_guard (l.guard_at at) c)
+
+-- The added clauses are those of the lists and of the frames, under their guards.
+pub record AreHeld (l : Layout) (vars : ℕ) (added : List (List Literal)) : Type 0 where
+  pub is_place : (x : ℕ) → x ≤ l.places → l.role x ≡ place
+  pub is_unused : (x : ℕ) → vars < x → l.role x ≡ unused
+  pub is_guard : (which : Listed) → l.role (l.guard which) ≡ list_guard which
+  pub is_gate : (which : Listed) (x : ℕ) → l.places < x → x ≤ l.top which → l.role (x - l.places + l.base which) ≡ gate which x
+  pub is_frame : (i : ℕ) → 0 < i → i < length l.frames → l.role (l.guard_at i) ≡ roles.frame_guard i
+  pub list_low : (which : Listed) (c : List Literal) → Contains (l.list which) c → All (IsUpTo (l.top which)) c
+  pub frames_low : (i : ℕ) (c : List Literal) → 0 < i → Contains (frame_at l.frames i) c → All (IsUpTo l.places) c
+  pub each : (d : List Literal) → Contains added d → IsHeld l d
+  pub has_list : (which : Listed) (c : List Literal) → Contains (l.list which) c → Contains added (under_guard (l.guard which) (renamed_clause l.places (l.base which) c))
+  pub has_frames : (i : ℕ) (c : List Literal) → 0 < i → Contains (frame_at l.frames i) c → IsUnder l added i c
+  pub has_next : (j : ℕ) → 0 < j → suc j < length l.frames → Contains added (guards_next (l.guard_at j) (l.guard_at (suc j)))
 
 -- a core without its guards
 abbrev pub unguarded : ℕ → List Literal → List Literal
-unguarded vars core = filter (λ l. nat_le l.var vars) core
+unguarded places core = filter (λ l. nat_le l.var places) core

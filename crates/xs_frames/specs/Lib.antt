@@ -3,12 +3,14 @@ pub mod Condition
 pub mod Framed
 pub mod Counted
 pub mod Growing
+pub mod Levels
 pub mod Numbered
 pub mod Bits
 pub mod Path
-pub mod Query
+pub mod Roles
 pub mod Guards
 pub mod Guarding
+pub mod Apart
 pub mod Looked
 pub mod Advance
 pub mod FramesRecord

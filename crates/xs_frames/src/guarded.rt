@@ -1,17 +1,21 @@
-//! A search over one clause list that is kept over all queries, with the frames guarded.
+//! One search over the lists of a system and the clauses of frames, each under a guard of its own.
 //!
-//! Each frame has a guard, a variable above those of the list and of the states. A clause that holds in the frames up
-//! to a number is kept once, as `guard of that frame -> clause`, and each guard implies the next frame's: so under the
-//! guard of a frame just its clauses have to hold. What the search learns stays.
-ghost use Rattle.std.specs.Prelude.{◌≡◌, ◌≤◌, ◌<◌, ◌+◌, ◌*◌, ◌-◌, ◌^◌, ◌∷◌, [], IfOk, OnOk, All, length};
-ghost use Rattle.xs_lits.specs.Literal.{opposite};
+//! A guard is a variable above those of states and inputs. The first states, the steps and the bad states that are asked about stand
+//! in the search as `guard of the list -> clause`, with their gates renamed, so that those of two lists never meet. A clause that
+//! holds in the frames up to a number is kept once, as `guard of that frame -> clause`, and each guard implies the next frame's: so
+//! under the guard of a frame just its clauses have to hold. The frame of number 0 is the list of the first states. Bad states and
+//! frames that are not asked about any more are retired: their guard is false from then on. What the search learns stays.
+ghost use Rattle.std.specs.Prelude.{◌≡◌, ◌≤◌, ◌<◌, ◌+◌, ◌*◌, ◌-◌, ◌^◌, ◌∷◌, ◌++◌, [], IfOk, OnOk, All, length, false};
+ghost use Rattle.xs_lits.specs.Literal.{opposite, plain};
 ghost use Rattle.xs_derive.specs.Derivation.{IsUpTo};
 ghost use Rattle.xs_derive.specs.Hints.{HasNoOpposites};
+ghost use Rattle.xs_frames.specs.Apart.{apart_system, apart_list, IsNear};
 ghost use Rattle.xs_frames.specs.Condition.{IsLow, IsFit};
-ghost use Rattle.xs_frames.specs.Guards.{unguarded, under_guard, guards_next};
-ghost use Rattle.xs_frames.specs.Chain.{IsOverBits};
-ghost use Rattle.xs_frames.specs.Guarding.{IsWell, IsEmpty, HasPut, HasGuard, HasAsked, Tells, HasPlaces, IsGuarding, IsOverFrame, AreGuarding};
+ghost use Rattle.xs_frames.specs.Roles.{renamed_literal, renamed_clause, under_list};
+ghost use Rattle.xs_frames.specs.Guards.{unguarded, guards_next};
+ghost use Rattle.xs_frames.specs.Guarding.{IsWell, IsHolding, IsGuardIn, HasRoomFor, IsEmpty, HasPut, HasWidened, HasNewBad, HasNewFrame, HasAsked, Tells, TakesBad, Puts, Grows, BeginsAgain, asked_guards};
 
+use crate::apart::list_apart;
 use crate::query::highest;
 use std::alloc::Global;
 use xs_adviser::Panel;
@@ -23,13 +27,37 @@ use xs_solver::solve::Verdict;
 use xs_system::System;
 use xs_value::OutOfMemory;
 
-/// A search over a list and the guarded clauses of frames.
+/// What is asked about beside a frame.
+#[derive(Clone, Copy, Debug, PartialEq, Eq)]
+pub enum Beside {
+    Nothing,
+    Step,
+    Bad,
+}
+
+/// One search over the lists of a system and the clauses of frames, each under a guard of its own.
 #[derive(Drop)]
 pub struct Guarded {
     pub search: Search<KeepNone>,
-    /// The highest variable of the list and of the states; the guards are those above it.
+    /// The highest variable of the search.
     pub vars: u64,
-    pub guards: Vec<Lit>,
+    /// The highest variable of states and inputs: these have their own numbers, all above are guards and renamed gates.
+    pub places: u64,
+    /// The guard of the steps.
+    pub step: Lit,
+    /// The guard of the bad states that are asked about.
+    pub bad: Lit,
+    /// The guard of each frame; that of number 0 is the guard of the first states.
+    pub frames: Vec<Lit>,
+}
+
+/// The highest variable of states and inputs.
+pub fn last_place(system: &System) -> u64
+    requires { IsFit system.now }
+    ensures value { result ≡ 2 * system.now.state_bits + system.now.input_bits + 1 }
+    ensures low { result < 2 ^ 31 }
+{
+    2 * u64::from(system.state_bits) + u64::from(system.input_bits) + 1
 }
 
 /// That a guard implies a clause.
@@ -42,13 +70,46 @@ fn implied_by(alloc: Global, guard: Lit, lits: &[Lit]) -> Result<Clause, OutOfMe
     Clause::from_lits(alloc, all.as_slice())
 }
 
+/// A literal of a list, where the list's gates stand from another number on.
+fn renamed(places: u64, base: u64, lit: Lit) -> Lit
+    requires low { IsNear lit }
+    requires base { base < 2 ^ 62 }
+    ensures { result ≡ renamed_literal places base lit }
+{
+    if lit.var() <= places {
+        lit
+    } else {
+        Lit::new(lit.var() - places + base, lit.is_negated())
+    }
+}
+
+/// That a guard implies a clause of a list, with its gates renamed.
+fn renamed_under(
+    alloc: Global,
+    guard: Lit,
+    places: u64,
+    base: u64,
+    lits: &[Lit],
+) -> Result<Clause, OutOfMemory>
+    requires low { All IsNear lits.now }
+    requires base { base < 2 ^ 62 }
+    ensures { IfOk result (λ c. c ≡ opposite guard ∷ renamed_clause places base lits.now) }
+{
+    let mut all = Vec::new(alloc);
+    all.push(guard.neg())?;
+    for lit in lits {
+        all.push(renamed(places, base, *lit))?;
+    }
+    Clause::from_lits(alloc, all.as_slice())
+}
+
 /// A core without its guards.
-fn without_guards(alloc: Global, vars: u64, core: &Clause) -> Result<Clause, OutOfMemory>
-    ensures { IfOk result (λ c. c ≡ unguarded vars core.now) }
+fn without_guards(alloc: Global, places: u64, core: &Clause) -> Result<Clause, OutOfMemory>
+    ensures { IfOk result (λ c. c ≡ unguarded places core.now) }
 {
     let mut kept = Vec::new(alloc);
     for lit in core.lits() {
-        if lit.var() <= vars {
+        if lit.var() <= places {
             kept.push(*lit)?;
         }
     }
@@ -56,63 +117,40 @@ fn without_guards(alloc: Global, vars: u64, core: &Clause) -> Result<Clause, Out
 }
 
 impl Guarded {
-    /// A search over a list and one frame without clauses, where the states have variables up to the given one.
-    pub fn new(alloc: Global, list: &ClauseList, states: u64) -> Result<Guarded, OutOfMemory>
-        requires low { All (All IsLow) list.now }
-        requires states { states < 2 ^ 31 }
-        ensures guarding { IfOk result (λ g. IsGuarding list.now ([] ∷ []) g) }
-        ensures states { IfOk result (λ g. states ≤ g.vars) }
+    /// The search over the first states and the steps, with the frame of number 0 and no bad states.
+    pub fn new(alloc: Global, system: &System) -> Result<Guarded, OutOfMemory>
+        requires { IsFit system.now }
+        ensures { IfOk result (λ g. IsHolding (apart_system system.now) [] ([] ∷ []) g) }
     {
-        let vars = highest(list).max(states);
-        let mut empty = Guarded::empty(alloc, vars)?;
-        empty.fill(list)?;
-        Ok(empty)
+        let places = last_place(system);
+        let apart_first = list_apart(alloc, places, system.first.as_slice())?;
+        let apart_step = list_apart(alloc, places, system.step.as_slice())?;
+        let first = highest(&apart_first).max(places) - places;
+        let step = highest(&apart_step).max(places) - places;
+        let mut held = Guarded::empty(alloc, places, places + 3 + first + step)?;
+        held.fill(Lit::new(places + 1, false), places + 3, &apart_first)?;
+        held.fill(Lit::new(places + 2, false), places + 3 + first, &apart_step)?;
+        Ok(held)
     }
 
-    /// A search over a list and the clauses of one frame.
-    pub fn over_frame(
-        alloc: Global,
-        system: &System,
-        list: &ClauseList,
-        frame: &ClauseList,
-    ) -> Result<Guarded, OutOfMemory>
-        requires fit { IsFit system.now }
-        requires list { All (All IsLow) list.now }
-        requires frame { All (IsOverBits system.now) frame.now }
-        ensures { IfOk result (λ g. IsOverFrame system.now list.now frame.now g) }
+    /// A search with no clause, with the guards of the three lists above the places.
+    fn empty(alloc: Global, places: u64, vars: u64) -> Result<Guarded, OutOfMemory>
+        requires low { places < 2 ^ 31 }
+        requires room { places + 3 ≤ vars }
+        requires small { vars < 2 ^ 62 }
+        ensures { IfOk result (λ g. IsEmpty places vars g) }
     {
-        let mut over = Guarded::new(alloc, list, last_place(system))?;
-        for clause in frame.as_slice() {
-            over.add(0, clause)?;
-        }
-        Ok(over)
-    }
-
-    /// A search with no clause, over the variables up to one and the guard of one frame.
-    fn empty(alloc: Global, vars: u64) -> Result<Guarded, OutOfMemory>
-        requires { vars < 2 ^ 31 }
-        ensures { IfOk result (λ g. IsEmpty vars g) }
-    {
-        let search = Search::new(alloc, vars + 1, KeepNone)?;
-        let mut guards = Vec::new(alloc);
-        guards.push(Lit::new(vars + 1, false))?;
+        let search = Search::new(alloc, vars, KeepNone)?;
+        let mut frames = Vec::new(alloc);
+        frames.push(Lit::new(places + 1, false))?;
         Ok(Guarded {
             search,
             vars,
-            guards,
+            places,
+            step: Lit::new(places + 2, false),
+            bad: Lit::new(places + 3, false),
+            frames,
         })
-    }
-
-    /// Adds the clauses of a list without a guard.
-    fn fill(&mut self, list: &ClauseList) -> Result<(), OutOfMemory>
-        requires well { IsWell self.old }
-        requires up_to { All (All (IsUpTo self.old.search.kept.vars)) list.now }
-        ensures { OnOk result (HasPut self.old self.new list.now) }
-    {
-        for clause in list.as_slice() {
-            self.put(clause)?;
-        }
-        Ok(())
     }
 
     /// Adds a clause as it is.
@@ -125,103 +163,162 @@ impl Guarded {
         Ok(())
     }
 
-    /// Adds a clause that holds in the frames up to a number.
+    /// Adds the clauses of a list under a guard, with its gates renamed.
+    fn fill(&mut self, guard: Lit, base: u64, list: &ClauseList) -> Result<(), OutOfMemory>
+        requires well { IsWell self.old }
+        requires guard { IsGuardIn self.old.places self.old.search.kept.vars guard }
+        requires base { base < 2 ^ 62 }
+        requires low { All (All IsNear) list.now }
+        requires room { All (All (HasRoomFor self.old.places base self.old.search.kept.vars)) list.now }
+        ensures { OnOk result (HasPut self.old self.new (under_list self.old.places base guard.var list.now)) }
+    {
+        let alloc = *self.frames.allocator();
+        for clause in list.as_slice() {
+            let under = renamed_under(alloc, guard, self.places, base, clause.lits())?;
+            self.put(&under)?;
+        }
+        Ok(())
+    }
+
+    /// So many variables more.
+    fn widen(&mut self, count: u64, panel: &mut Panel) -> Result<(), OutOfMemory>
+        requires { IsWell self.old }
+        ensures { OnOk result (HasWidened self.old self.new count) }
+    {
+        for _ in 0..count {
+            let var = self.search.fresh(panel)?;
+            self.vars = var;
+        }
+        Ok(())
+    }
+
+    /// Retires the bad states that were asked about, and makes a guard for others.
+    fn renew_bad(&mut self, panel: &mut Panel) -> Result<(), OutOfMemory>
+        requires { IsWell self.old }
+        ensures { OnOk result (HasNewBad self.old self.new) }
+    {
+        let alloc = *self.frames.allocator();
+        let past = Clause::from_lits(alloc, &[self.bad.neg()])?;
+        self.put(&past)?;
+        self.widen(1, panel)?;
+        self.bad = Lit::new(self.vars, false);
+        Ok(())
+    }
+
+    /// Retires the bad states that were asked about, and takes these.
+    pub fn take_bad(&mut self, bad: &ClauseList, panel: &mut Panel) -> Result<(), OutOfMemory>
+        requires well { IsWell self.old }
+        requires low { All (All IsLow) bad.now }
+        ensures { OnOk result (TakesBad self.old self.new (apart_list self.old.places bad.now)) }
+    {
+        let alloc = *self.frames.allocator();
+        let apart_bad = list_apart(alloc, self.places, bad.as_slice())?;
+        self.renew_bad(panel)?;
+        let base = self.vars;
+        self.widen(highest(&apart_bad).max(self.places) - self.places, panel)?;
+        self.fill(self.bad, base, &apart_bad)?;
+        Ok(())
+    }
+
+    /// Adds a clause that holds in the frames up to a number, at least 1.
     pub fn add(&mut self, frame: usize, clause: &Clause) -> Result<(), OutOfMemory>
         requires well { IsWell self.old }
-        requires frame { frame < length self.old.guards.items }
-        requires up_to { All (IsUpTo self.old.vars) clause.now }
-        ensures { OnOk result (HasPut self.old self.new (under_guard self.old.vars frame clause.now ∷ [])) }
+        requires frame { 0 < frame }
+        requires within { frame < length self.old.frames.items }
+        requires up_to { All (IsUpTo self.old.places) clause.now }
+        ensures { OnOk result (Puts self.old self.new frame clause.now) }
     {
-        let alloc = *self.guards.allocator();
-        let under = implied_by(alloc, self.guards[frame], clause.lits())?;
-        self.put(&under)
+        let alloc = *self.frames.allocator();
+        let under = implied_by(alloc, self.frames[frame], clause.lits())?;
+        self.put(&under)?;
+        Ok(())
     }
 
     /// A frame more, without clauses.
     pub fn grow(&mut self, panel: &mut Panel) -> Result<(), OutOfMemory>
         requires well { IsWell self.old }
-        requires some { 0 < length self.old.guards.items }
-        ensures { OnOk result (HasGuard self.old self.new) }
+        ensures { OnOk result (Grows self.old self.new) }
     {
-        let alloc = *self.guards.allocator();
-        let last = self.guards[self.guards.len() - 1];
-        let var = self.search.fresh(panel)?;
-        let guard = Lit::new(var, false);
-        self.guards.push(guard)?;
-        let next = implied_by(alloc, last, &[guard])?;
-        self.put(&next)
+        let alloc = *self.frames.allocator();
+        let last = self.frames.len() - 1;
+        let guard = self.frames[last];
+        self.add_guard(panel)?;
+        if last == 0 {
+            return Ok(());
+        }
+        let next = implied_by(alloc, guard, &[Lit::new(self.vars, false)])?;
+        self.put(&next)?;
+        Ok(())
     }
 
-    /// Looks for an assignment that makes the list, the clauses of a frame and the assumptions true.
+    /// The guard of a frame more.
+    fn add_guard(&mut self, panel: &mut Panel) -> Result<(), OutOfMemory>
+        requires { IsWell self.old }
+        ensures { OnOk result (HasNewFrame self.old self.new) }
+    {
+        self.widen(1, panel)?;
+        self.frames.push(Lit::new(self.vars, false))?;
+        Ok(())
+    }
+
+    /// Retires all frames but that of number 0, with their clauses.
+    pub fn begin_again(&mut self) -> Result<(), OutOfMemory>
+        requires well { IsWell self.old }
+        ensures { OnOk result (BeginsAgain self.old self.new) }
+    {
+        let alloc = *self.frames.allocator();
+        let last = self.frames.len() - 1;
+        if last == 0 {
+            return Ok(());
+        }
+        let past = Clause::from_lits(alloc, &[self.frames[last].neg()])?;
+        self.put(&past)?;
+        self.frames.truncate(1);
+        Ok(())
+    }
+
+    /// The guards under which a question is asked, and its assumptions.
+    fn guards(
+        &self,
+        beside: Beside,
+        frame: usize,
+        assumptions: &[Lit],
+    ) -> Result<Vec<Lit>, OutOfMemory>
+        requires { frame < length self.now.frames.items }
+        ensures { IfOk result (λ all. all.items ≡ asked_guards self.now beside frame ++ assumptions.now) }
+    {
+        let mut all = Vec::new(*self.frames.allocator());
+        all.push(self.frames[frame])?;
+        match beside {
+            Beside::Nothing => {}
+            Beside::Step => all.push(self.step)?,
+            Beside::Bad => all.push(self.bad)?,
+        }
+        all.extend_from_slice(assumptions)?;
+        Ok(all)
+    }
+
+    /// Looks for an assignment that makes what is asked about, the clauses of a frame and the assumptions true.
     pub fn ask(
         &mut self,
+        beside: Beside,
         frame: usize,
         assumptions: &[Lit],
         panel: &mut Panel,
     ) -> Result<Verdict, OutOfMemory>
         requires well { IsWell self.old }
-        requires frame { frame < length self.old.guards.items }
-        requires up_to { All (IsUpTo self.old.vars) assumptions.now }
+        requires frame { frame < length self.old.frames.items }
+        requires up_to { All (IsUpTo self.old.places) assumptions.now }
         requires apart { HasNoOpposites assumptions.now }
         ensures asked { IfOk result (λ v. HasAsked self.old self.new) }
-        ensures verdict { IfOk result (λ v. Tells self.old frame assumptions.now v) }
+        ensures verdict { IfOk result (λ v. Tells self.old beside frame assumptions.now v) }
     {
-        let alloc = *self.guards.allocator();
-        let mut under = Vec::new(alloc);
-        under.push(self.guards[frame])?;
-        under.extend_from_slice(assumptions)?;
-        panel.ready(self.vars + self.guards.len() as u64)?;
+        let alloc = *self.frames.allocator();
+        let under = self.guards(beside, frame, assumptions)?;
+        panel.ready(self.vars)?;
         match self.search.ask(under.as_slice(), panel)? {
             Verdict::Sat(values) => Ok(Verdict::Sat(values)),
-            Verdict::Unsat(core) => Ok(Verdict::Unsat(without_guards(alloc, self.vars, &core)?)),
+            Verdict::Unsat(core) => Ok(Verdict::Unsat(without_guards(alloc, self.places, &core)?)),
         }
-    }
-}
-
-/// The searches of a system that are kept: over the first states, and over the steps with the frames.
-#[derive(Drop)]
-pub struct Queries {
-    pub first: Guarded,
-    pub step: Guarded,
-}
-
-/// The highest variable of states and inputs.
-pub fn last_place(system: &System) -> u64
-    requires { IsFit system.now }
-    ensures value { result ≡ 2 * system.now.state_bits + system.now.input_bits + 1 }
-    ensures low { result < 2 ^ 31 }
-{
-    2 * u64::from(system.state_bits) + u64::from(system.input_bits) + 1
-}
-
-impl Queries {
-    /// The searches of a system with one frame without clauses.
-    pub fn new(alloc: Global, system: &System) -> Result<Queries, OutOfMemory>
-        requires { IsFit system.now }
-        ensures { IfOk result (λ q. AreGuarding system.now ([] ∷ []) q) }
-    {
-        let places = last_place(system);
-        Ok(Queries {
-            first: Guarded::new(alloc, &system.first, places)?,
-            step: Guarded::new(alloc, &system.step, places)?,
-        })
-    }
-
-    /// Makes the search over the steps anew, with one frame. The search over the first states knows no frame and stays, with
-    /// all that it has learned.
-    pub fn begin_again(
-        &mut self,
-        alloc: Global,
-        system: &System,
-        frame: &ClauseList,
-    ) -> Result<(), OutOfMemory>
-        requires fit { IsFit system.now }
-        requires frame { All (IsOverBits system.now) frame.now }
-        requires first { IsGuarding system.now.first ([] ∷ []) self.old.first }
-        requires places { HasPlaces system.now self.old.first }
-        ensures { OnOk result (AreGuarding system.now (frame.now ∷ []) self.new) }
-    {
-        self.step = Guarded::over_frame(alloc, system, &system.step, frame)?;
-        Ok(())
     }
 }

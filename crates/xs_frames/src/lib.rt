@@ -1,8 +1,8 @@
 //! Frames of property-directed reachability: over-approximations of what a system reaches in so many steps.
 //!
 //! Contracts see [`Frames`] as the system, a list of clause lists over the state bits now, and whether
-//! memory ran out once. The frame of number 0 is the system's first states; its list is an outline of
-//! them, clauses that every first state makes true. Each frame implies the next, alone and with a step,
+//! memory ran out once. The frame of number 0 is exactly the system's first states; its list has the clauses of the
+//! later ones, which every first state makes true. Each frame implies the next, alone and with a step,
 //! from `new` on and whatever `clear` and `advance` answer (`specs/Numbered.antt`). `clear` blocks the bad
 //! states of the last frame, the frontier's, by cores, or finds a path into them, one assignment for each
 //! moment (`specs/Path.antt`); `advance` adds a frame and pushes each clause that every step keeps. Clauses
@@ -10,13 +10,12 @@
 //! `specs/Chain.antt` and `specs/Framed.antt`; which systems frames are made of, and which lists they
 //! clear, in `specs/Condition.antt`.
 //!
-//! The queries go to searches that are kept: one over the first states, one over the steps with each clause
-//! once under the guard of the last frame in which it holds, and one over the bad states of a call of `clear`.
-//! So what they learn stays (`src/guarded.rt`, `specs/Guarding.antt`).
+//! A clause is kept once, with the number of the highest frame in which it holds (`src/levels.rt`, `specs/Levels.antt`).
+//! All queries go to one search that is kept, over the first states, the steps, the frames and the bad states that
+//! are asked about, each under a guard of its own; so what it learns stays (`src/guarded.rt`, `specs/Guarding.antt`).
 //!
-//! The same frames serve for other bad states: `begin_again` goes back to the frontier 0, and keeps what was learned of the
-//! first states, in the outline and in the search over them. Both hold of every first state, whatever is bad; what was
-//! blocked in later frames goes, and so does the search over the bad states, which ends with each call of `clear`.
+//! The same frames serve for other bad states: `begin_again` goes back to the frontier 0, and keeps the search with all that it
+//! has learned; what was blocked in later frames goes.
 //!
 //! ```text
 //! let mut frames = Frames::new(alloc, system)?;    // one bit that is false first and stays
@@ -28,11 +27,13 @@
 ghost use Rattle.xs_frames.specs.Chain.{ChainsAreShort};
 
 mod advance;
+mod apart;
 mod bits;
 mod clear;
 mod condition;
 mod frames;
 mod guarded;
+mod levels;
 mod query;
 mod steps;
 

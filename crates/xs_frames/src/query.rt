@@ -1,16 +1,15 @@
-ghost use Rattle.std.specs.Prelude.{◌<◌, ◌^◌, ◌↔◌, IsTrue, All, Contains};
+ghost use Rattle.std.specs.Prelude.{◌≡◌, ◌<◌, ◌^◌, ◌↔◌, IsTrue, All};
 ghost use Rattle.xs_derive.specs.Derivation.{IsUpTo};
-ghost use Rattle.xs_frames.specs.Condition.{IsLow};
-ghost use Rattle.xs_frames.specs.Chain.{SameLiterals, Stands};
+ghost use Rattle.xs_frames.specs.Apart.{IsNear};
 
 use xs_lits::clause::{Clause, ClauseList};
-use xs_lits::lit::{Lit, contains};
+use xs_lits::lit::Lit;
 
 /// The highest variable of literals.
 fn highest_of(lits: &[Lit]) -> u64
-    requires { All IsLow lits.now }
+    requires { All IsNear lits.now }
     ensures up_to { All (IsUpTo result) lits.now }
-    ensures low { result < 2 ^ 31 }
+    ensures low { result < 2 ^ 32 }
 {
     let mut most = 0;
     for lit in lits {
@@ -21,9 +20,9 @@ fn highest_of(lits: &[Lit]) -> u64
 
 /// The highest variable of clauses.
 pub fn highest(list: &ClauseList) -> u64
-    requires { All (All IsLow) list.now }
+    requires { All (All IsNear) list.now }
     ensures up_to { All (All (IsUpTo result)) list.now }
-    ensures low { result < 2 ^ 31 }
+    ensures low { result < 2 ^ 32 }
 {
     let mut most = 0;
     for clause in list.as_slice() {
@@ -32,33 +31,39 @@ pub fn highest(list: &ClauseList) -> u64
     most
 }
 
-// Whether each literal of a clause is in another.
-fn is_part(clause: &Clause, other: &Clause) -> bool
-    ensures { IsTrue result ↔ All (Contains other.now) clause.now }
+// Whether two literals are the same.
+fn is_same_lit(lit: Lit, other: Lit) -> bool
+    ensures { IsTrue result → (lit.var ≡ other.var) × (lit.negated ≡ other.negated) }
 {
-    for lit in clause.lits() {
-        if !contains(other.lits(), *lit) {
+    lit.var() == other.var() && lit.is_negated() == other.is_negated()
+}
+
+// Whether two clauses are the same, literal by literal.
+fn is_same_clause(clause: &[Lit], other: &[Lit]) -> bool
+    ensures { IsTrue result → clause.now ≡ other.now }
+{
+    if clause.len() != other.len() {
+        return false;
+    }
+    for i in 0..clause.len() {
+        if !is_same_lit(clause[i], other[i]) {
             return false;
         }
     }
     true
 }
 
-// Whether two clauses are one set of literals.
-fn is_same(clause: &Clause, other: &Clause) -> bool
-    ensures { IsTrue result ↔ SameLiterals clause.now other.now }
+/// Whether two lists are the same, clause by clause.
+pub fn is_same_list(list: &[Clause], other: &[Clause]) -> bool
+    ensures { IsTrue result → list.now ≡ other.now }
 {
-    is_part(clause, other) && is_part(other, clause)
-}
-
-/// Whether a clause stands in a list, as a set of literals.
-pub fn has(list: &ClauseList, clause: &Clause) -> bool
-    ensures { IsTrue result ↔ Stands list.now clause.now }
-{
-    for other in list.as_slice() {
-        if is_same(clause, other) {
-            return true;
+    if list.len() != other.len() {
+        return false;
+    }
+    for i in 0..list.len() {
+        if !is_same_clause(list[i].lits(), other[i].lits()) {
+            return false;
         }
     }
-    false
+    true
 }

@@ -1,15 +1,14 @@
-use Rattle.std.proofs.Common.{◌≡◌, length}
-use Rattle.xs_frames.specs.Framed.{IsFramed, AreStronger}
-use Rattle.xs_frames.specs.Growing.{ArePushedBelow}
-use Rattle.xs_frames.specs.Guarding.{IsGuarding, HasPlaces}
+use Rattle.std.proofs.Common.{◌≡◌}
+use Rattle.xs_frames.specs.Framed.{AreStronger}
+use Rattle.xs_frames.specs.Levels.{frames_of, IsLevelled, AreLevelsPushed}
+use Rattle.xs_frames.specs.Apart.{IsKept}
 use Rattle.xs_frames.proofs.advance.push_all.Given as goal
 
 abbrev pub invariant-frames : goal.invariant-frames
 invariant-frames g l = record {
-  framed : IsFramed l.system l.frames;
-  same : length l.frames ≡ length l.initial.frames;
-  stronger : AreStronger l.system l.initial.frames l.frames;
-  pushed : ArePushedBelow l.system l.frames l.i;
-  step : IsGuarding l.system.step l.frames l.step;
-  places : HasPlaces l.system l.step;
+  framed : IsLevelled l.system l.frames;
+  last : l.frames.last ≡ l.initial.frames.last;
+  stronger : AreStronger l.system (frames_of l.initial.frames) (frames_of l.frames);
+  pushed : AreLevelsPushed l.system l.frames l.i;
+  kept : IsKept l.system l.bad (frames_of l.frames) l.kept;
 }

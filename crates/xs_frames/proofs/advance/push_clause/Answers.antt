@@ -1,111 +1,85 @@
-use Rattle.std.proofs.Common.{◌≡◌, ◌++◌, ◌∷◌, [], sym, ◌∙◌, subst, arith, slice_index_or, slice_set, List, ℕ, ◌+◌, ◌<◌, length, Contains, IsTrue, false, true}
-use Rattle.std.proofs.lemmas.List.Elements.{Contains-get_or}
-use Rattle.std.proofs.lemmas.Grind.{common_steps}
+use Rattle.std.proofs.Common.{◌≡◌, refl, sym, ◌∙◌, subst, arith, List, ℕ, suc, ◌+◌, ◌<◌, length, true, false}
 use Rattle.xs_lits.specs.Literal.{Literal}
-use Rattle.xs_frames.specs.Framed.{IsFramed, frame_at}
-use Rattle.xs_frames.specs.Growing.{Keeps}
 use Rattle.xs_derive.specs.Hints.{HasNoOpposites}
-use Rattle.xs_frames.specs.Growing.{HasGrown}
-use Rattle.xs_frames.specs.Chain.{Stands, IsOverBits}
-use Rattle.xs_frames.specs.Guarding.{IsGuarding}
-use Rattle.xs_frames.proofs.GuardingLemmas.{guarding_put, put_pushed, bits_up_to, places_stay}
-use Rattle.xs_frames.proofs.PushLemmas.{framed_added, added_stands, grown_added, grown_same}
+use Rattle.xs_frames.specs.Chain.{IsOverBits}
+use Rattle.xs_frames.specs.Growing.{Keeps}
+use Rattle.xs_frames.specs.Framed.{frame_at}
+use Rattle.xs_frames.specs.Guards.{IsPut}
+use Rattle.xs_frames.specs.Levels.{frames_of, held_at}
+use Rattle.xs_frames.specs.Guarding.{places_of}
+use Rattle.xs_frames.specs.Apart.{apart_system, apart_list}
+use Rattle.xs_frames.proofs.LevelLaws.{length_frames, put_of, gained_raise}
+use Rattle.xs_frames.proofs.PushLemmas.{held_in_frame, moved_none, moved_raise, framed_raise, raised_apart}
+use Rattle.xs_frames.proofs.QueryLemmas.{bits_up_to}
 use Rattle.xs_frames.proofs.advance.push_clause.Goals as goal
 
-pub returns-then-not-branch-clause-pushed : goal.returns-then-not-branch-clause-pushed
-returns-then-not-branch-clause-pushed g c =
-    let clause : c.in_ok-clause.clause ≡ slice_index_or (frame_at c.args.frames.now c.args.i) c.args.k [] = grind (arith, common_steps) in
-    let answer : c.in_ok-keeps.field-0 ≡ false = grind arith in
-    let lost = c.in_ok-keeps.ensures.answer.lost answer in
-    λ keeps. absurd (lost (subst (Keeps c.args.system.now (frame_at c.args.frames.now c.args.i)) (sym clause) keeps))
+inside : (i l m n : ℕ) → i < l → m ≡ suc l → n ≡ m → i + 1 < n
+inside i l m n lt e f = omega (arith, lt, e, f)
 
-pub returns-clause-framed : goal.returns-clause-framed
-returns-clause-framed g c =
-    let clause : c.in_ok-clause.clause ≡ slice_index_or (frame_at c.args.frames.now c.args.i) c.args.k [] = grind (arith, common_steps) in
-    let answer : c.in_ok-keeps.field-0 ≡ true = grind arith in
-    let kept : Keeps c.args.system.now (frame_at c.args.frames.now c.args.i) c.in_ok-clause.clause =
-    c.in_ok-keeps.ensures.answer.kept answer in
-    let stands : Contains (frame_at c.args.frames.now c.args.i) c.in_ok-clause.clause =
-    subst (Contains (frame_at c.args.frames.now c.args.i)) (sym clause) (Contains-get_or (frame_at c.args.frames.now c.args.i) c.args.k [] c.requires.place) in
-    let put : c.push.new.self ≡ frame_at c.args.frames.now (c.args.i + 1) ++ c.in_ok-clause.clause ∷ [] = grind (arith, common_steps) in
-    subst (λ (f : List (List Literal)). IsFramed c.args.system.now (slice_set c.args.frames.now (c.args.i + 1) f)) (sym put)
-    (framed_added c.args.system.now c.args.i c.in_ok-clause.clause c.args.frames.now c.requires.framed c.requires.next stands kept)
+pub returns-then-number-i-clause-moved : goal.returns-then-number-i-clause-moved
+returns-then-number-i-clause-moved g c = moved_none c.args.system.now c.args.frames.now c.args.i
 
-pub returns-clause-pushed : goal.returns-clause-pushed
-returns-clause-pushed g c =
-    let clause : c.in_ok-clause.clause ≡ slice_index_or (frame_at c.args.frames.now c.args.i) c.args.k [] = grind (arith, common_steps) in
-    let put : c.push.new.self ≡ frame_at c.args.frames.now (c.args.i + 1) ++ c.in_ok-clause.clause ∷ [] = grind (arith, common_steps) in
-    λ keeps. subst (Stands (frame_at (slice_set c.args.frames.now (c.args.i + 1) c.push.new.self) (c.args.i + 1))) clause
-    (subst (λ (f : List (List Literal)). Stands (frame_at (slice_set c.args.frames.now (c.args.i + 1) f) (c.args.i + 1)) c.in_ok-clause.clause) (sym put)
-    (added_stands c.args.system.now c.args.frames.now c.args.i c.in_ok-clause.clause c.requires.next))
+pub returns-then-number-i-clause-pushed : goal.returns-then-number-i-clause-pushed
+returns-then-number-i-clause-pushed g c = λ is keeps. c.if-number-i.true (c.number_at-number.ensures ∙ is)
 
-pub keeps-requires-clause-apart : goal.keeps-requires-clause-apart
-keeps-requires-clause-apart g c =
-    let clause : c.in_ok-clause.clause ≡ slice_index_or (frame_at c.args.frames.now c.args.i) c.args.k [] = grind (arith, common_steps) in
-    let inside : c.args.i < length c.args.frames.now = omega (arith, c.requires.next) in
-    subst HasNoOpposites (sym clause) (c.requires.framed.apart c.args.i [] inside c.args.k [] c.requires.place)
+pub returns-in_err-keeps-clause-moved : goal.returns-in_err-keeps-clause-moved
+returns-in_err-keeps-clause-moved g c = moved_none c.args.system.now c.args.frames.now c.args.i
 
-pub returns-clause-grown : goal.returns-clause-grown
-returns-clause-grown g c =
-    let put : c.push.new.self ≡ frame_at c.args.frames.now (c.args.i + 1) ++ c.in_ok-clause.clause ∷ [] = grind (arith, common_steps) in
-    subst (λ (f : List (List Literal)). HasGrown c.args.system.now c.args.frames.now (slice_set c.args.frames.now (c.args.i + 1) f) c.args.i) (sym put)
-    (grown_added c.args.system.now c.args.frames.now c.args.i c.in_ok-clause.clause c.requires.next)
-
-pub returns-then-has-clause-pushed : goal.returns-then-has-clause-pushed
-returns-then-has-clause-pushed g c =
-    let clause : c.in_ok-clause.clause ≡ slice_index_or (frame_at c.args.frames.now c.args.i) c.args.k [] = grind (arith, common_steps) in
-    let next : c.index-frames-i-2.result ≡ frame_at c.args.frames.now (c.args.i + 1) = grind (arith, common_steps) in
-    let frame : slice_index_or c.args.frames.now (c.args.i + 1) c.index-frames-i-2.result ≡ frame_at c.args.frames.now (c.args.i + 1) = sym c.index-frames-i-2.is ∙ next in
-    let found : IsTrue c.has.result = grind arith in
-    λ keeps. subst (Stands (frame_at c.args.frames.now (c.args.i + 1))) clause (subst (λ (f : List (List Literal)). Stands f c.in_ok-clause.clause) frame (c.has.ensures.0 found))
+pub returns-in_err-add-clause-moved : goal.returns-in_err-add-clause-moved
+returns-in_err-add-clause-moved g c = moved_none c.args.system.now c.args.frames.now c.args.i
 
 pub keeps-requires-clause-clause : goal.keeps-requires-clause-clause
 keeps-requires-clause-clause g c =
-    let clause : c.in_ok-clause.clause ≡ slice_index_or (frame_at c.args.frames.now c.args.i) c.args.k [] = grind (arith, common_steps) in
-    let inside : c.args.i < length c.args.frames.now = omega (arith, c.requires.next) in
-    subst (IsOverBits c.args.system.now) (sym clause) (c.requires.framed.over_bits c.args.i [] inside c.args.k [] c.requires.place)
+    subst (IsOverBits c.args.system.now) (sym c.clause_at.ensures) (c.requires.framed.framed.over_bits c.args.i (held_at c.args.frames.now c.args.k).clause
+    (held_in_frame c.args.frames.now c.args.i c.args.k c.requires.place (sym c.number_at-number.ensures ∙ c.if-number-i.false) c.requires.next))
 
-pub add-requires-clause-frame : goal.add-requires-clause-frame
-add-requires-clause-frame g c = subst (λ (n : ℕ). c.args.i + 1 < n) c.in_ok-keeps.ensures.step.count c.requires.next
+pub keeps-requires-clause-apart : goal.keeps-requires-clause-apart
+keeps-requires-clause-apart g c =
+    subst HasNoOpposites (sym c.clause_at.ensures) (c.requires.framed.framed.apart c.args.i (held_at c.args.frames.now c.args.k).clause
+    (held_in_frame c.args.frames.now c.args.i c.args.k c.requires.place (sym c.number_at-number.ensures ∙ c.if-number-i.false) c.requires.next))
+
+pub returns-then-not-branch-clause-moved : goal.returns-then-not-branch-clause-moved
+returns-then-not-branch-clause-moved g c = moved_none c.args.system.now c.args.frames.now c.args.i
+
+pub returns-then-not-branch-clause-pushed : goal.returns-then-not-branch-clause-pushed
+returns-then-not-branch-clause-pushed g c =
+    let answer : c.in_ok-keeps.field-0 ≡ false = grind arith in
+    λ is keeps. c.in_ok-keeps.ensures.answer.lost answer (subst (Keeps c.args.system.now (frame_at (frames_of c.args.frames.now) c.args.i)) (sym c.clause_at.ensures) keeps)
+
+pub returns-then-not-branch-clause-kept : goal.returns-then-not-branch-clause-kept
+returns-then-not-branch-clause-kept g c = c.in_ok-keeps.ensures.kept
+
+pub add-requires-clause-well : goal.add-requires-clause-well
+add-requires-clause-well g c = c.in_ok-keeps.ensures.kept.well
+
+pub add-requires-clause-within : goal.add-requires-clause-within
+add-requires-clause-within g c = inside c.args.i c.args.frames.now.last (length (frames_of c.args.frames.now)) (length c.keeps.new.kept.frames.items) c.requires.next (length_frames c.args.frames.now) c.in_ok-keeps.ensures.kept.count
 
 pub add-requires-clause-up_to : goal.add-requires-clause-up_to
 add-requires-clause-up_to g c =
-    let clause : c.in_ok-clause.clause ≡ slice_index_or (frame_at c.args.frames.now c.args.i) c.args.k [] = grind (arith, common_steps) in
-    let inside : c.args.i < length c.args.frames.now = omega (arith, c.requires.next) in
-    let over : IsOverBits c.args.system.now c.in_ok-clause.clause = subst (IsOverBits c.args.system.now) (sym clause) (c.requires.framed.over_bits c.args.i [] inside c.args.k [] c.requires.place) in
-    bits_up_to c.args.system.now c.keeps.new.step c.in_ok-clause.clause c.in_ok-keeps.ensures.places over
+    bits_up_to c.args.system.now c.keeps.new.kept.places c.clause_at-2.result.now c.in_ok-keeps.ensures.kept.places
+    (subst (IsOverBits c.args.system.now) (sym c.clause_at-2.ensures) (c.requires.framed.framed.over_bits c.args.i (held_at c.args.frames.now c.args.k).clause
+    (held_in_frame c.args.frames.now c.args.i c.args.k c.requires.place (sym c.number_at-number.ensures ∙ c.if-number-i.false) c.requires.next)))
 
-pub returns-then-has-clause-step : goal.returns-then-has-clause-step
-returns-then-has-clause-step g c = c.requires.step
+pub returns-clause-framed : goal.returns-clause-framed
+returns-clause-framed g c =
+    let answer : c.in_ok-keeps.field-0 ≡ true = grind arith in
+    framed_raise c.args.system.now c.args.frames.now c.raise.new.self c.args.i c.args.k (record { clause = (held_at c.args.frames.now c.args.k).clause; highest = c.args.i + 1 }) c.requires.framed c.requires.some c.raise.ensures.last c.requires.next c.requires.place
+    (sym c.number_at-number.ensures ∙ c.if-number-i.false) refl refl c.raise.ensures.items
+    (subst (Keeps c.args.system.now (frame_at (frames_of c.args.frames.now) c.args.i)) c.clause_at.ensures (c.in_ok-keeps.ensures.answer.kept answer))
 
-pub returns-then-has-clause-places : goal.returns-then-has-clause-places
-returns-then-has-clause-places g c = c.requires.places
+pub returns-clause-moved : goal.returns-clause-moved
+returns-clause-moved g c =
+    moved_raise c.args.system.now c.args.frames.now c.raise.new.self c.args.i c.args.k (record { clause = (held_at c.args.frames.now c.args.k).clause; highest = c.args.i + 1 }) c.raise.ensures.last c.requires.next c.requires.place
+    (sym c.number_at-number.ensures ∙ c.if-number-i.false) refl refl c.raise.ensures.items
 
-pub returns-then-not-branch-clause-step : goal.returns-then-not-branch-clause-step
-returns-then-not-branch-clause-step g c = c.in_ok-keeps.ensures.step
+pub returns-clause-pushed : goal.returns-clause-pushed
+returns-clause-pushed g c = λ is keeps. raised_apart c.args.frames.now c.raise.new.self c.args.i c.args.k (record { clause = (held_at c.args.frames.now c.args.k).clause; highest = c.args.i + 1 }) c.requires.place refl c.raise.ensures.items is
 
-pub returns-then-not-branch-clause-places : goal.returns-then-not-branch-clause-places
-returns-then-not-branch-clause-places g c = c.in_ok-keeps.ensures.places
-
-pub returns-clause-step : goal.returns-clause-step
-returns-clause-step g c =
-    let clause : c.in_ok-clause.clause ≡ slice_index_or (frame_at c.args.frames.now c.args.i) c.args.k [] = grind (arith, common_steps) in
-    let inside : c.args.i < length c.args.frames.now = omega (arith, c.requires.next) in
-    let over : IsOverBits c.args.system.now c.in_ok-clause.clause = subst (IsOverBits c.args.system.now) (sym clause) (c.requires.framed.over_bits c.args.i [] inside c.args.k [] c.requires.place) in
-    let low = bits_up_to c.args.system.now c.keeps.new.step c.in_ok-clause.clause c.in_ok-keeps.ensures.places over in
-    let stands : Contains (frame_at c.args.frames.now c.args.i) c.in_ok-clause.clause =
-    subst (Contains (frame_at c.args.frames.now c.args.i)) (sym clause) (Contains-get_or (frame_at c.args.frames.now c.args.i) c.args.k [] c.requires.place) in
-    let put : c.push.new.self ≡ frame_at c.args.frames.now (c.args.i + 1) ++ c.in_ok-clause.clause ∷ [] = grind (arith, common_steps) in
-    subst (λ (f : List (List Literal)). IsGuarding c.args.system.now.step (slice_set c.args.frames.now (c.args.i + 1) f) c.add.new.self) (sym put)
-    (guarding_put c.args.system.now.step c.args.frames.now (slice_set c.args.frames.now (c.args.i + 1) (frame_at c.args.frames.now (c.args.i + 1) ++ c.in_ok-clause.clause ∷ []))
-    c.keeps.new.step c.add.new.self (c.args.i + 1) c.in_ok-clause.clause c.in_ok-keeps.ensures.step low
-    (put_pushed c.args.system.now c.args.i c.in_ok-clause.clause c.args.frames.now c.requires.framed c.requires.next stands) c.in_ok-add.ensures)
-
-pub returns-clause-places : goal.returns-clause-places
-returns-clause-places g c = places_stay c.args.system.now c.keeps.new.step c.add.new.self c.in_ok-add.ensures.vars c.in_ok-keeps.ensures.places
-
-pub returns-in_err-push-clause-grown : goal.returns-in_err-push-clause-grown
-returns-in_err-push-clause-grown g c =
-    let same : c.push.new.self ≡ frame_at c.args.frames.now (c.args.i + 1) = grind (arith, common_steps) in
-    subst (λ (f : List (List Literal)). HasGrown c.args.system.now c.args.frames.now (slice_set c.args.frames.now (c.args.i + 1) f) c.args.i) (sym same)
-    (grown_same c.args.system.now c.args.frames.now c.args.i c.requires.next)
+pub returns-clause-kept : goal.returns-clause-kept
+returns-clause-kept g c =
+    c.in_ok-add.ensures (apart_system c.args.system.now) (apart_list (places_of c.args.system.now) c.args.bad.now) (frames_of c.args.frames.now) (frames_of c.raise.new.self) c.in_ok-keeps.ensures.kept
+    (subst (λ (d : List Literal). IsPut (c.args.i + 1) d (frames_of c.args.frames.now) (frames_of c.raise.new.self)) (sym c.clause_at-2.ensures)
+    (put_of (c.args.i + 1) (held_at c.args.frames.now c.args.k).clause (frames_of c.args.frames.now) (frames_of c.raise.new.self)
+    (gained_raise c.args.frames.now c.raise.new.self c.args.i c.args.k (record { clause = (held_at c.args.frames.now c.args.k).clause; highest = c.args.i + 1 }) c.raise.ensures.last c.requires.next c.requires.place
+    (sym c.number_at-number.ensures ∙ c.if-number-i.false) refl refl c.raise.ensures.items)))

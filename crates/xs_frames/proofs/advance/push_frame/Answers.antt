@@ -1,8 +1,6 @@
-use Rattle.std.proofs.Common.{◌≡◌, ap, arith, length, List, ℕ, ◌<◌}
+use Rattle.std.proofs.Common.{◌≡◌, sym, ℕ, ◌<◌, arith, subst, length}
 use Rattle.std.proofs.lemmas.Grind.{common_steps}
-use Rattle.xs_lits.specs.Literal.{Literal}
-use Rattle.xs_frames.specs.Framed.{frame_at}
-use Rattle.xs_frames.proofs.PushLemmas.{grown_more, places_more, all_places}
+use Rattle.xs_frames.proofs.PushLemmas.{moved_more, places_more}
 use Rattle.xs_frames.proofs.advance.push_frame.Goals as goal
 
 pub clauses-preserved : goal.clauses-preserved
@@ -10,22 +8,32 @@ clauses-preserved g c =
     let inv = c.clauses.invariant in
     record {
       framed = c.push_clause.ensures.framed;
-      grown = grown_more c.args.system.now c.args.frames.now c.clauses.frames c.push_clause.new.frames c.args.i inv.grown c.push_clause.ensures.grown;
-      pushed = places_more c.args.system.now c.args.frames.now c.clauses.frames c.push_clause.new.frames c.args.i c.clauses.k inv.grown c.push_clause.ensures.grown inv.pushed c.in_ok-push_clause.ensures.pushed;
-      step = c.in_ok-push_clause.ensures.step;
-      places = c.in_ok-push_clause.ensures.places;
+      moved = moved_more c.args.system.now c.args.frames.now c.clauses.frames c.push_clause.new.frames c.args.i inv.moved c.push_clause.ensures.moved;
+      pushed = places_more c.args.system.now c.clauses.frames c.push_clause.new.frames c.args.i c.clauses.k c.push_clause.ensures.moved inv.pushed c.in_ok-push_clause.ensures.pushed;
+      kept = c.in_ok-push_clause.ensures.kept;
     }
+
+pub returns-in_err-push_clause-clause-moved : goal.returns-in_err-push_clause-clause-moved
+returns-in_err-push_clause-clause-moved g c = moved_more c.args.system.now c.args.frames.now c.clauses.frames c.push_clause.new.frames c.args.i c.clauses.invariant.moved c.push_clause.ensures.moved
+
+pub push_clause-requires-clause-next : goal.push_clause-requires-clause-next
+push_clause-requires-clause-next g c = subst (λ (n : ℕ). c.args.i < n) (sym c.clauses.invariant.moved.last) c.requires.next
+
+pub push_clause-requires-clause-place : goal.push_clause-requires-clause-place
+push_clause-requires-clause-place g c =
+    let inside : c.clauses.k < length c.args.frames.now.held.items = grind (arith, common_steps) in
+    subst (λ (n : ℕ). c.clauses.k < n) (sym c.clauses.invariant.moved.count) inside
+
+pub push_clause-requires-clause-kept : goal.push_clause-requires-clause-kept
+push_clause-requires-clause-kept g c = c.clauses.invariant.kept
 
 pub returns-clause-pushed : goal.returns-clause-pushed
 returns-clause-pushed g c =
-    let inv = c.clauses.invariant in
-    let frame : c.as_slice-count.result.now ≡ frame_at c.args.frames.now c.args.i = grind (arith, common_steps) in
-    let count : length c.as_slice-count.result.now ≡ length (frame_at c.args.frames.now c.args.i) = ap (λ (f : List (List Literal)). length f) frame in
-    let over : (k : ℕ) → k < length (frame_at c.args.frames.now c.args.i) → k < c.clauses.k = λ k lt. omega (arith, lt, count, c.clauses-test.false) in
-    all_places c.args.system.now c.args.frames.now c.clauses.frames c.args.i inv.grown (λ k lt. inv.pushed k (over k lt))
+    let over : (k : ℕ) → k < length c.args.frames.now.held.items → k < c.clauses.k = λ k lt. let count : c.len-count.result ≡ length c.args.frames.now.held.items = grind (arith, common_steps) in omega (arith, lt, count, c.clauses-test.false) in
+    λ k lt. c.clauses.invariant.pushed k (over k (subst (λ (n : ℕ). k < n) c.clauses.invariant.moved.count lt))
 
-pub returns-clause-step : goal.returns-clause-step
-returns-clause-step g c = c.clauses.invariant.step
+pub returns-clause-moved : goal.returns-clause-moved
+returns-clause-moved g c = c.clauses.invariant.moved
 
-pub returns-clause-places : goal.returns-clause-places
-returns-clause-places g c = c.clauses.invariant.places
+pub returns-clause-kept : goal.returns-clause-kept
+returns-clause-kept g c = c.clauses.invariant.kept

@@ -1,19 +1,19 @@
-use Rattle.std.proofs.Common.{◌≡◌, ◌-◌, length}
-use Rattle.xs_frames.specs.Framed.{IsFramed, AreStronger, frame_at}
-use Rattle.xs_frames.specs.Guarding.{AreGuarding, IsOverFrame}
+use Rattle.std.proofs.Common.{◌≡◌}
+use Rattle.xs_frames.specs.Framed.{AreStronger}
+use Rattle.xs_frames.specs.Levels.{frames_of, IsLevelled}
+use Rattle.xs_frames.specs.Apart.{IsKept}
 use Rattle.xs_frames.specs.Path.{AreOwed}
 use Rattle.xs_frames.specs.Counted.{work_left}
 use Rattle.xs_frames.proofs.clear.clear_frames.Given as goal
 
 abbrev pub invariant-looks : goal.invariant-looks
 invariant-looks g l = record {
-  framed : IsFramed l.system l.frames;
-  same : length l.frames ≡ length l.initial.frames;
-  stronger : AreStronger l.system l.initial.frames l.frames;
-  owed : AreOwed l.system l.bad l.frames l.owed;
-  kept : AreGuarding l.system l.frames l.kept;
-  ends : IsOverFrame l.system l.bad (frame_at l.frames (length l.frames - 1)) l.ends;
+  framed : IsLevelled l.system l.frames;
+  last : l.frames.last ≡ l.initial.frames.last;
+  stronger : AreStronger l.system (frames_of l.initial.frames) (frames_of l.frames);
+  owed : AreOwed l.system l.bad (frames_of l.frames) l.owed;
+  kept : IsKept l.system l.bad (frames_of l.frames) l.kept;
 }
 
 abbrev pub decreases-looks : goal.decreases-looks
-decreases-looks g l = work_left l.system.state_bits l.frames l.owed
+decreases-looks g l = work_left l.system.state_bits (frames_of l.frames) l.owed

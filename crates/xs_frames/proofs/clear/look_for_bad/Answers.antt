@@ -1,31 +1,33 @@
-use Rattle.std.proofs.Common.{◌++◌, ◌∷◌, [], subst, arith, length, ◌-◌, ℕ, All}
-use Rattle.xs_frames.specs.Chain.{IsOverBits}
-use Rattle.xs_frames.specs.Framed.{frame_at}
-use Rattle.xs_frames.specs.Query.{IsVerdict, IsModel, IsCore}
-use Rattle.xs_frames.proofs.GuardingLemmas.{over_frame_asked}
-use Rattle.xs_frames.proofs.LookLemmas.{bad_deeper, bad_nothing}
+use Rattle.std.proofs.Common.{◌≡◌, [], refl, arith, ◌<◌, ℕ, suc, length}
+use Rattle.xs_frames.specs.Levels.{frames_of}
+use Rattle.xs_frames.specs.declared.guarded.Beside.TheVariants.{Bad}
+use Rattle.xs_frames.specs.Guarding.{places_of}
+use Rattle.xs_frames.specs.Apart.{apart_system, apart_list}
+use Rattle.xs_frames.proofs.LevelLaws.{length_frames}
+use Rattle.xs_frames.proofs.LookLemmas.{look_at_bad, look_at_none}
+use Rattle.xs_frames.proofs.ApartLaws.{sat_told, unsat_told}
 use Rattle.xs_frames.proofs.clear.look_for_bad.Goals as goal
+
+inside : (l m n : ℕ) → m ≡ suc l → n ≡ m → l < n
+inside l m n e f = omega (arith, e, f)
+
+pub ask-requires-clause-frame : goal.ask-requires-clause-frame
+ask-requires-clause-frame g c = inside c.args.frames.now.last (length (frames_of c.args.frames.now)) (length c.args.kept.now.frames.items) (length_frames c.args.frames.now) c.requires.kept.count
 
 pub returns-in_ok-state_moment-in-Sat-clause-look : goal.returns-in_ok-state_moment-in-Sat-clause-look
 returns-in_ok-state_moment-in-Sat-clause-look g c =
-    let k : ℕ = length c.args.frames.now - 1 in
-    let guarding = c.requires.ends.guarding in
-    let verdict : IsVerdict (frame_at c.args.frames.now k ++ c.args.bad.now) [] c.in_ok-values.field-0 = c.in_ok-values.ensures.verdict c.args.bad.now (frame_at c.args.frames.now k ∷ []) guarding.count guarding.are in
-    let model : IsModel (frame_at c.args.frames.now k ++ c.args.bad.now) [] c.in-Sat.values = subst (IsVerdict (frame_at c.args.frames.now k ++ c.args.bad.now) []) c.in-Sat.is verdict in
-    let over : All (IsOverBits c.args.system.now) (frame_at c.args.frames.now k) = c.requires.framed.over_bits k [] (omega (arith, c.requires.framed.some)) in
-    bad_deeper c.args.system.now (frame_at c.args.frames.now k) c.args.bad.now c.in-Sat.values c.in_ok-state_moment-in-Sat.field-0 over model c.in_ok-state_moment-in-Sat.ensures
+    look_at_bad c.args.system.now (frames_of c.args.frames.now) c.args.frames.now.last c.args.bad.now c.in-Sat.values c.in_ok-state_moment-in-Sat.field-0 (length_frames c.args.frames.now) c.requires.framed.framed
+    (sat_told c.args.system.now c.args.bad.now (frames_of c.args.frames.now) Bad c.args.frames.now.last [] [] c.in_ok-values.field-0 c.in-Sat.values refl c.in-Sat.is
+    (c.in_ok-values.ensures.verdict (apart_system c.args.system.now) (apart_list (places_of c.args.system.now) c.args.bad.now) (frames_of c.args.frames.now) c.requires.kept)) c.in_ok-state_moment-in-Sat.ensures
 
-pub returns-in_ok-state_moment-in-Sat-clause-ends : goal.returns-in_ok-state_moment-in-Sat-clause-ends
-returns-in_ok-state_moment-in-Sat-clause-ends g c = over_frame_asked c.args.system.now c.args.bad.now (frame_at c.args.frames.now (length c.args.frames.now - 1)) c.args.ends.now c.ask.new.self c.requires.ends c.in_ok-values.ensures.asked
+pub returns-in_ok-state_moment-in-Sat-clause-kept : goal.returns-in_ok-state_moment-in-Sat-clause-kept
+returns-in_ok-state_moment-in-Sat-clause-kept g c = c.in_ok-values.ensures.asked (apart_system c.args.system.now) (apart_list (places_of c.args.system.now) c.args.bad.now) (frames_of c.args.frames.now) c.requires.kept
 
 pub returns-in-Unsat-clause-look : goal.returns-in-Unsat-clause-look
 returns-in-Unsat-clause-look g c =
-    let k : ℕ = length c.args.frames.now - 1 in
-    let guarding = c.requires.ends.guarding in
-    let verdict : IsVerdict (frame_at c.args.frames.now k ++ c.args.bad.now) [] c.in_ok-values.field-0 = c.in_ok-values.ensures.verdict c.args.bad.now (frame_at c.args.frames.now k ∷ []) guarding.count guarding.are in
-    let core : IsCore (frame_at c.args.frames.now k ++ c.args.bad.now) [] c.in-Unsat._core = subst (IsVerdict (frame_at c.args.frames.now k ++ c.args.bad.now) []) c.in-Unsat.is verdict in
-    let over : All (IsOverBits c.args.system.now) (frame_at c.args.frames.now k) = c.requires.framed.over_bits k [] (omega (arith, c.requires.framed.some)) in
-    bad_nothing c.args.system.now (frame_at c.args.frames.now k) c.args.bad.now c.in-Unsat._core over core
+    look_at_none c.args.system.now (frames_of c.args.frames.now) c.args.frames.now.last c.args.bad.now c.in-Unsat._core (length_frames c.args.frames.now) c.requires.fit c.requires.framed.framed
+    (unsat_told c.args.system.now c.args.bad.now (frames_of c.args.frames.now) Bad c.args.frames.now.last [] [] c.in_ok-values.field-0 c.in-Unsat._core refl c.in-Unsat.is
+    (c.in_ok-values.ensures.verdict (apart_system c.args.system.now) (apart_list (places_of c.args.system.now) c.args.bad.now) (frames_of c.args.frames.now) c.requires.kept))
 
-pub returns-in-Unsat-clause-ends : goal.returns-in-Unsat-clause-ends
-returns-in-Unsat-clause-ends g c = over_frame_asked c.args.system.now c.args.bad.now (frame_at c.args.frames.now (length c.args.frames.now - 1)) c.args.ends.now c.ask.new.self c.requires.ends c.in_ok-values.ensures.asked
+pub returns-in-Unsat-clause-kept : goal.returns-in-Unsat-clause-kept
+returns-in-Unsat-clause-kept g c = c.in_ok-values.ensures.asked (apart_system c.args.system.now) (apart_list (places_of c.args.system.now) c.args.bad.now) (frames_of c.args.frames.now) c.requires.kept

@@ -3,4 +3,4 @@ use Rattle.xs_frames.specs.Guards.{unguarded}
 use Rattle.xs_frames.proofs.guarded.without_guards.Given as goal
 
 abbrev pub invariant-loop-lit : goal.invariant-loop-lit
-invariant-loop-lit l = l.kept.items ≡ unguarded l.vars (take l.lit-index l.lit-items)
+invariant-loop-lit l = l.kept.items ≡ unguarded l.places (take l.lit-index l.lit-items)

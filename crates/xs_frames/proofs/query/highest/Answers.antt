@@ -3,7 +3,7 @@ use Rattle.std.proofs.lemmas.List.{take_all}
 use Rattle.std.proofs.lemmas.List.Elements.{All-more}
 use Rattle.xs_lits.specs.Literal.{Literal}
 use Rattle.xs_derive.specs.Derivation.{IsUpTo}
-use Rattle.xs_frames.proofs.QueryLemmas.{all_raised, lists_raised}
+use Rattle.xs_frames.proofs.AnswerLemmas.{all_raised, lists_raised}
 use Rattle.xs_frames.proofs.query.highest.Goals as goal
 
 pub loop-clause-preserved : goal.loop-clause-preserved
@@ -12,8 +12,8 @@ loop-clause-preserved c =
     let cs = c.as_slice-clause-items.result.now in
     let more : c.loop-clause.most ≤ most = grind arith in
     let here : c.highest_of.result ≤ most = grind arith in
-    let low_here : c.highest_of.result < 2 ^ 31 = c.highest_of.ensures.low in
-    let low_before : c.loop-clause.most < 2 ^ 31 = c.loop-clause.invariant.low in
+    let low_here : c.highest_of.result < 2 ^ 32 = c.highest_of.ensures.low in
+    let low_before : c.loop-clause.most < 2 ^ 32 = c.loop-clause.invariant.low in
     record {
       up_to = All-more (All (IsUpTo most)) cs c.loop-clause.clause-index c.clause-item.result c.loop-clause-test.true
           (lists_raised c.loop-clause.most most (take c.loop-clause.clause-index cs) more c.loop-clause.invariant.up_to)

@@ -5,5 +5,5 @@ use Rattle.xs_frames.proofs.query.highest.Given as goal
 abbrev pub invariant-loop-clause : goal.invariant-loop-clause
 invariant-loop-clause l = record {
   up_to : All (All (IsUpTo l.most)) (take l.clause-index l.clause-items);
-  low : l.most < 2 ^ 31;
+  low : l.most < 2 ^ 32;
 }

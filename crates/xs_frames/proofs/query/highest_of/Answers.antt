@@ -3,7 +3,7 @@ use Rattle.std.proofs.lemmas.List.{take_all}
 use Rattle.std.proofs.lemmas.List.Elements.{All-more}
 use Rattle.xs_lits.specs.Literal.{Literal}
 use Rattle.xs_derive.specs.Derivation.{IsUpTo}
-use Rattle.xs_frames.proofs.QueryLemmas.{all_raised}
+use Rattle.xs_frames.proofs.AnswerLemmas.{all_raised}
 use Rattle.xs_frames.proofs.query.highest_of.Goals as goal
 
 pub loop-lit-preserved : goal.loop-lit-preserved
@@ -11,8 +11,8 @@ loop-lit-preserved c =
     let most = c.max-most.result in
     let more : c.loop-lit.most ≤ most = grind arith in
     let here : c.lit-item.result.var ≤ most = grind arith in
-    let low_here : c.lit-item.result.var < 2 ^ 31 = subst (λ (l : Literal). l.var < 2 ^ 31) (sym c.lit-item.is) (c.requires c.loop-lit.lit-index c.lit-item.result c.loop-lit-test.true) in
-    let low_before : c.loop-lit.most < 2 ^ 31 = c.loop-lit.invariant.low in
+    let low_here : c.lit-item.result.var < 2 ^ 32 = subst (λ (l : Literal). l.var < 2 ^ 32) (sym c.lit-item.is) (c.requires c.loop-lit.lit-index c.lit-item.result c.loop-lit-test.true) in
+    let low_before : c.loop-lit.most < 2 ^ 32 = c.loop-lit.invariant.low in
     record {
       up_to = All-more (IsUpTo most) c.args.lits.now c.loop-lit.lit-index c.lit-item.result c.loop-lit-test.true
           (all_raised c.loop-lit.most most (take c.loop-lit.lit-index c.args.lits.now) more c.loop-lit.invariant.up_to) (subst (IsUpTo most) c.lit-item.is here);

@@ -5,5 +5,5 @@ use Rattle.xs_frames.proofs.query.highest_of.Given as goal
 abbrev pub invariant-loop-lit : goal.invariant-loop-lit
 invariant-loop-lit l = record {
   up_to : All (IsUpTo l.most) (take l.lit-index l.lits);
-  low : l.most < 2 ^ 31;
+  low : l.most < 2 ^ 32;
 }

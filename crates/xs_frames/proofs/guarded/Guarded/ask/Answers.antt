@@ -1,36 +1,54 @@
-use Rattle.std.proofs.Common.{◌≡◌, ◌∷◌, List, refl, sym, subst, arith}
+use Rattle.std.proofs.Common.{◌≡◌, ◌++◌, All, List, refl, sym, subst, arith}
 use Rattle.std.proofs.lemmas.Grind.{common_steps}
+use Rattle.xs_derive.specs.Derivation.{IsUpTo}
 use Rattle.xs_derive.specs.Hints.{HasNoOpposites}
 use Rattle.xs_lits.specs.Literal.{Literal}
-use Rattle.xs_solver.specs.Kept.{IsAnswer}
-use Rattle.xs_frames.specs.Guards.{guard_of}
-use Rattle.xs_frames.specs.Guarding.{added_in, Tells}
+use Rattle.xs_solver.specs.Kept.{IsAnswer, IsRefuted}
+use Rattle.xs_solver.specs.Search.{IsSolution}
 use Rattle.xs_solver.specs.declared.solve.Verdict.TheVariants.{Unsat}
-use Rattle.xs_frames.proofs.GuardedSteps.{asked_well, tells_sat, tells_unsat, under_apart}
+use Rattle.xs_frames.specs.declared.guarded.Guarded.{Guarded}
+use Rattle.xs_frames.specs.Guarding.{added_in, asked_guards, Tells}
+use Rattle.xs_frames.proofs.GuardedSteps.{asked_well}
+use Rattle.xs_frames.proofs.GuardedLaws.{asks}
+use Rattle.xs_frames.proofs.GuardedVerdicts.{tells_sat, tells_unsat, asked_up_to, asked_apart}
 use Rattle.xs_frames.proofs.guarded.Guarded.ask.Goals as goal
+
+pub ask-requires-clause-in_range : goal.ask-requires-clause-in_range
+ask-requires-clause-in_range g c =
+    let s = c.args.self.now in
+    let under : c.as_slice.result.now ≡ asked_guards s c.args.beside c.args.frame ++ c.args.assumptions.now = grind (arith, common_steps) in
+    subst (All (IsUpTo s.search.kept.vars)) (sym under) (asked_up_to s c.args.beside c.args.frame c.args.assumptions.now c.requires.well c.requires.frame c.requires.up_to)
 
 pub ask-requires-clause-apart : goal.ask-requires-clause-apart
 ask-requires-clause-apart g c =
-    let under : c.as_slice.result.now ≡ guard_of c.args.self.now.vars c.args.frame ∷ c.args.assumptions.now = grind (arith, common_steps) in
-    subst HasNoOpposites (sym under) (under_apart c.args.self.now.vars c.args.frame c.args.assumptions.now c.requires.up_to c.requires.apart)
+    let s = c.args.self.now in
+    let under : c.as_slice.result.now ≡ asked_guards s c.args.beside c.args.frame ++ c.args.assumptions.now = grind (arith, common_steps) in
+    subst HasNoOpposites (sym under) (asked_apart s c.args.beside c.args.frame c.args.assumptions.now c.requires.well c.requires.frame c.requires.up_to c.requires.apart)
 
 pub returns-in-Sat-clause-asked : goal.returns-in-Sat-clause-asked
 returns-in-Sat-clause-asked g c =
-    asked_well c.args.self.now (record { search = c.ask.new.self; vars = c.args.self.now.vars; guards = c.args.self.now.guards }) _ _ _ c.requires.well refl refl c.in_ok-values.ensures.vars c.in_ok-values.ensures.learned
+    let s = c.args.self.now in
+    let t : Guarded = record { search = c.ask.new.self; vars = s.vars; places = s.places; step = s.step; bad = s.bad; frames = s.frames } in
+    asks s t (asked_well s t _ _ _ c.requires.well (record { places = refl; step = refl; bad = refl; frames = refl }) refl c.in_ok-values.ensures.vars c.in_ok-values.ensures.learned)
 
 pub returns-in-Sat-clause-verdict : goal.returns-in-Sat-clause-verdict
 returns-in-Sat-clause-verdict g c =
-    let under : c.as_slice.result.now ≡ guard_of c.args.self.now.vars c.args.frame ∷ c.args.assumptions.now = grind (arith, common_steps) in
-    let answer = subst (IsAnswer c.args.self.now.search.kept.vars (added_in c.args.self.now) c.ask.new.self.kept.clauses c.as_slice.result.now) c.in-Sat.is c.in_ok-values.ensures.answer in
-    tells_sat c.args.self.now c.args.frame c.args.self.now.search.kept.vars c.args.assumptions.now c.as_slice.result.now c.in-Sat.values c.requires.frame under answer
+    let s = c.args.self.now in
+    let under : c.as_slice.result.now ≡ asked_guards s c.args.beside c.args.frame ++ c.args.assumptions.now = grind (arith, common_steps) in
+    let answer = subst (IsAnswer s.search.kept.vars (added_in s) c.ask.new.self.kept.clauses c.as_slice.result.now) c.in-Sat.is c.in_ok-values.ensures.answer in
+    tells_sat s c.args.beside c.args.frame s.search.kept.vars c.args.assumptions.now c.in-Sat.values c.requires.well c.requires.frame (subst (λ (ls : List Literal). IsSolution s.search.kept.vars (added_in s) ls c.in-Sat.values) under answer)
 
 pub returns-clause-asked : goal.returns-clause-asked
 returns-clause-asked g c =
-    asked_well c.args.self.now (record { search = c.ask.new.self; vars = c.args.self.now.vars; guards = c.args.self.now.guards }) _ _ _ c.requires.well refl refl c.in_ok-values.ensures.vars c.in_ok-values.ensures.learned
+    let s = c.args.self.now in
+    let t : Guarded = record { search = c.ask.new.self; vars = s.vars; places = s.places; step = s.step; bad = s.bad; frames = s.frames } in
+    asks s t (asked_well s t _ _ _ c.requires.well (record { places = refl; step = refl; bad = refl; frames = refl }) refl c.in_ok-values.ensures.vars c.in_ok-values.ensures.learned)
 
 pub returns-clause-verdict : goal.returns-clause-verdict
 returns-clause-verdict g c =
-    let under : c.as_slice.result.now ≡ guard_of c.args.self.now.vars c.args.frame ∷ c.args.assumptions.now = grind (arith, common_steps) in
-    let answer = subst (IsAnswer c.args.self.now.search.kept.vars (added_in c.args.self.now) c.ask.new.self.kept.clauses c.as_slice.result.now) c.in-Unsat.is c.in_ok-values.ensures.answer in
-    subst (λ (core : List Literal). Tells c.args.self.now c.args.frame c.args.assumptions.now (Unsat core)) (sym c.in_ok-without_guards-in-Unsat.ensures)
-    (tells_unsat c.args.self.now c.args.frame c.ask.new.self.kept.clauses c.args.assumptions.now c.as_slice.result.now c.in-Unsat.core c.requires.up_to under answer)
+    let s = c.args.self.now in
+    let under : c.as_slice.result.now ≡ asked_guards s c.args.beside c.args.frame ++ c.args.assumptions.now = grind (arith, common_steps) in
+    let answer = subst (IsAnswer s.search.kept.vars (added_in s) c.ask.new.self.kept.clauses c.as_slice.result.now) c.in-Unsat.is c.in_ok-values.ensures.answer in
+    subst (λ (core : List Literal). Tells s c.args.beside c.args.frame c.args.assumptions.now (Unsat core)) (sym c.in_ok-without_guards-in-Unsat.ensures)
+    (tells_unsat s c.args.beside c.args.frame c.ask.new.self.kept.clauses c.args.assumptions.now c.in-Unsat.core c.requires.well c.requires.frame c.requires.up_to
+    (subst (λ (ls : List Literal). IsRefuted (added_in s) c.ask.new.self.kept.clauses ls c.in-Unsat.core) under answer))

@@ -1,0 +1,77 @@
+use Rattle.std.proofs.Common.{◌≡◌, ◌≤◌, ◌+◌, ◌-◌, ◌∙◌, ◌∷◌, [], ℕ, All, refl, sym, subst, ap, arith}
+use Rattle.xs_system.specs.declared.system.System.{System}
+use Rattle.xs_frames.specs.Apart.{apart_list, IsNear}
+use Rattle.xs_frames.specs.Guarding.{IsHolding, HasRoomFor}
+use Rattle.xs_frames.proofs.ApartLaws.{apart_is, near_list}
+use Rattle.xs_lits.specs.Literal.{Literal}
+use Rattle.xs_frames.proofs.AnswerLemmas.{lists_raised}
+use Rattle.xs_frames.proofs.GuardedLaws.{made_from, all_room}
+use Rattle.xs_frames.proofs.guarded.Guarded.new.Goals as goal
+
+pub returns : goal.returns
+returns c =
+    let p = c.last_place-places.result in
+    let reach : c.highest.result ≤ c.max.result = grind arith in
+    let more : p ≤ c.max.result = grind arith in
+    let reach_step : c.highest-2.result ≤ c.max-2.result = grind arith in
+    let more_step : p ≤ c.max-2.result = grind arith in
+    let lists : System = record c.args.system.now { first = c.in_ok-apart_first.apart_first; step = c.in_ok-apart_step.apart_step } in
+    let first_is : c.in_ok-apart_first.apart_first ≡ apart_list p c.args.system.now.first = c.in_ok-apart_first.ensures ∙ ap (apart_list p) c.as_slice.ensures in
+    let step_is : c.in_ok-apart_step.apart_step ≡ apart_list p c.args.system.now.step = c.in_ok-apart_step.ensures ∙ ap (apart_list p) c.as_slice-2.ensures in
+    subst (λ (s : System). IsHolding s [] ([] ∷ []) c.fill-2.new.self) (apart_is c.args.system.now p c.in_ok-apart_first.apart_first c.in_ok-apart_step.apart_step c.last_place-places.ensures.value first_is step_is)
+    (made_from lists c.in_ok-held.held c.fill.new.self c.fill-2.new.self p (c.max.result - p) (c.max-2.result - p) c.new.result.var c.new-2.result.var c.last_place-places.ensures.value c.in_ok-held.ensures
+    (lists_raised c.highest.result (p + (c.max.result - p)) c.in_ok-apart_first.apart_first (fits c.highest.result c.max.result p reach more) c.highest.ensures.up_to)
+    (lists_raised c.highest-2.result (p + (c.max-2.result - p)) c.in_ok-apart_step.apart_step (fits c.highest-2.result c.max-2.result p reach_step more_step) c.highest-2.ensures.up_to)
+    (ap (λ (l : Literal). l.var) c.new.ensures) (ap (λ (l : Literal). l.var) c.new-2.ensures) c.in_ok-fill.ensures c.in_ok-fill-2.ensures)
+  where
+    fits : (h m p : ℕ) → h ≤ m → p ≤ m → h ≤ p + (m - p)
+    fits h m p a b = omega (arith, a, b)
+
+pub highest-requires : goal.highest-requires
+highest-requires c = subst (All (All IsNear)) (sym (c.in_ok-apart_first.ensures ∙ ap (apart_list c.last_place-places.result) c.as_slice.ensures)) (near_list c.last_place-places.result c.args.system.now.first c.last_place-places.ensures.low (λ k d lt j l in_clause. (c.requires.first k d lt j l in_clause).0))
+
+pub highest-requires-2 : goal.highest-requires-2
+highest-requires-2 c = subst (All (All IsNear)) (sym (c.in_ok-apart_step.ensures ∙ ap (apart_list c.last_place-places.result) c.as_slice-2.ensures)) (near_list c.last_place-places.result c.args.system.now.step c.last_place-places.ensures.low c.requires.step)
+
+pub fill-requires-clause-low : goal.fill-requires-clause-low
+fill-requires-clause-low c = subst (All (All IsNear)) (sym (c.in_ok-apart_first.ensures ∙ ap (apart_list c.last_place-places.result) c.as_slice.ensures)) (near_list c.last_place-places.result c.args.system.now.first c.last_place-places.ensures.low (λ k d lt j l in_clause. (c.requires.first k d lt j l in_clause).0))
+
+pub fill-requires-2-clause-low : goal.fill-requires-2-clause-low
+fill-requires-2-clause-low c = subst (All (All IsNear)) (sym (c.in_ok-apart_step.ensures ∙ ap (apart_list c.last_place-places.result) c.as_slice-2.ensures)) (near_list c.last_place-places.result c.args.system.now.step c.last_place-places.ensures.low c.requires.step)
+
+sum : (h m p : ℕ) → h ≤ m → p ≤ m → h ≤ p + (m - p)
+sum h m p a b = omega (arith, a, b)
+
+low_room : (p n m v q : ℕ) → v ≡ p + 3 + n + m → q ≡ p → p + 3 + n ≤ v
+low_room p n m v q e f = omega (arith, e, f)
+
+place_room : (p n m v q : ℕ) → v ≡ p + 3 + n + m → q ≡ p → q ≤ v
+place_room p n m v q e f = omega (arith, e, f)
+
+step_room : (p n m v w : ℕ) → v ≡ p + 3 + n + m → w ≡ v → p + 3 + n + m ≤ w
+step_room p n m v w e f = omega (arith, e, f)
+
+pub fill-requires-clause-room : goal.fill-requires-clause-room
+fill-requires-clause-room c =
+    let p = c.last_place-places.result in
+    let reach : c.highest.result ≤ c.max.result = grind arith in
+    let more : p ≤ c.max.result = grind arith in
+    let empty = c.in_ok-held.ensures in
+    subst (λ (q : ℕ). All (All (HasRoomFor q (p + 3) c.in_ok-held.held.search.kept.vars)) c.in_ok-apart_first.apart_first) (sym empty.places)
+    (all_room p (p + 3) c.in_ok-held.held.search.kept.vars (c.max.result - p) c.in_ok-apart_first.apart_first
+    (lists_raised c.highest.result (p + (c.max.result - p)) c.in_ok-apart_first.apart_first (sum c.highest.result c.max.result p reach more) c.highest.ensures.up_to)
+    (low_room p (c.max.result - p) (c.max-2.result - p) c.in_ok-held.held.search.kept.vars p empty.vars refl)
+    (place_room p (c.max.result - p) (c.max-2.result - p) c.in_ok-held.held.search.kept.vars p empty.vars refl))
+
+pub fill-requires-2-clause-room : goal.fill-requires-2-clause-room
+fill-requires-2-clause-room c =
+    let p = c.last_place-places.result in
+    let reach : c.highest-2.result ≤ c.max-2.result = grind arith in
+    let more : p ≤ c.max-2.result = grind arith in
+    let empty = c.in_ok-held.ensures in
+    let put = c.in_ok-fill.ensures in
+    subst (λ (q : ℕ). All (All (HasRoomFor q (p + 3 + (c.max.result - p)) c.fill.new.self.search.kept.vars)) c.in_ok-apart_step.apart_step) (sym (put.guards.places ∙ empty.places))
+    (all_room p (p + 3 + (c.max.result - p)) c.fill.new.self.search.kept.vars (c.max-2.result - p) c.in_ok-apart_step.apart_step
+    (lists_raised c.highest-2.result (p + (c.max-2.result - p)) c.in_ok-apart_step.apart_step (sum c.highest-2.result c.max-2.result p reach more) c.highest-2.ensures.up_to)
+    (step_room p (c.max.result - p) (c.max-2.result - p) c.in_ok-held.held.search.kept.vars c.fill.new.self.search.kept.vars empty.vars put.vars)
+    (place_room p (c.max.result - p) (c.max-2.result - p) c.fill.new.self.search.kept.vars p (put.vars ∙ empty.vars) refl))
