@@ -77,10 +77,7 @@ fn picks(panel: &mut Panel, codes: &[u64]) -> bool {
 }
 
 // The first row whose picks answer other codes.
-fn first_wrong(
-    panel: &mut Panel,
-    rows: &[(Event, &[u64])],
-) -> Result<Option<usize>, OutOfMemory> {
+fn first_wrong(panel: &mut Panel, rows: &[(Event, &[u64])]) -> Result<Option<usize>, OutOfMemory> {
     for (i, row) in rows.iter().enumerate() {
         happen(panel, row.0)?;
         if !picks(panel, row.1) {

@@ -83,12 +83,7 @@ fn sits(holes: i64, p: i64, h: i64) -> i64 {
 }
 
 /// A pigeon sits in some hole.
-fn somewhere(
-    alloc: Global,
-    list: &mut ClauseList,
-    holes: i64,
-    p: i64,
-) -> Result<(), OutOfMemory> {
+fn somewhere(alloc: Global, list: &mut ClauseList, holes: i64, p: i64) -> Result<(), OutOfMemory> {
     let mut lits = Vec::new(alloc);
     for h in 0..holes {
         lits.push(literal(sits(holes, p, h)))?;

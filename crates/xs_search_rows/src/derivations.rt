@@ -10,7 +10,9 @@ use xs_value::OutOfMemory;
 
 // The answer to a step as a number: of a bad hint its place.
 const TAKEN: u64 = 0;
+
 const NO_CONFLICT: u64 = 1000;
+
 const NO_ROOM: u64 = 2000;
 
 fn hints_of(alloc: Global, hints: &[u64]) -> Result<HintList, OutOfMemory> {

@@ -32,7 +32,11 @@ struct Wanted<'a> {
 fn bit(from: u32, i: u32, number: u64) -> Lit {
     let variable = i64::from(from).wrapping_add(i64::from(i));
     let is_true = number.wrapping_shr(i) & 1 == 1;
-    literal(if is_true { variable } else { variable.wrapping_neg() })
+    literal(if is_true {
+        variable
+    } else {
+        variable.wrapping_neg()
+    })
 }
 
 // A list that says that the state now is that of a number.
@@ -88,7 +92,9 @@ fn cell(
 ) -> Result<(), OutOfMemory> {
     let not_next = next.wrapping_neg();
     let (not_now, not_before) = (now.wrapping_neg(), before.wrapping_neg());
-    let numbers = [not_next, now, 0, not_next, before, 0, next, not_now, not_before, 0];
+    let numbers = [
+        not_next, now, 0, not_next, before, 0, next, not_now, not_before, 0,
+    ];
     add(alloc, list, &numbers)
 }
 
@@ -281,8 +287,12 @@ fn systems_by_table_end(rt: HostRuntime) -> Result<(), Fail> {
 
 // One bit that is false first and keeps its value, with a gate for each comparison.
 fn kept_bit(alloc: Global) -> Result<System, OutOfMemory> {
-    let first = [1, 0, -4, 2, -1, 0, -4, -2, 1, 0, 4, -2, -1, 0, 4, 2, 1, 0, -4, 0];
-    let step = [1, 0, -4, 3, 2, 0, -4, -3, -2, 0, 4, -3, 2, 0, 4, 3, -2, 0, -4, 0];
+    let first = [
+        1, 0, -4, 2, -1, 0, -4, -2, 1, 0, 4, -2, -1, 0, 4, 2, 1, 0, -4, 0,
+    ];
+    let step = [
+        1, 0, -4, 3, 2, 0, -4, -3, -2, 0, 4, -3, 2, 0, 4, 3, -2, 0, -4, 0,
+    ];
     Ok(System {
         state_bits: 1,
         input_bits: 0,

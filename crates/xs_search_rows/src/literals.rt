@@ -1,5 +1,5 @@
 //! What a clause is while its literals get values.
-use crate::clauses::{are_up_to, lits_of, literal, make_true, number_of};
+use crate::clauses::{are_up_to, literal, lits_of, make_true, number_of};
 use std::alloc::Global;
 use std::test::Fail;
 use xs_lits::assign::Assign;
@@ -9,8 +9,11 @@ use xs_value::OutOfMemory;
 
 // What a clause is as a number: of a unit clause that of its free literal.
 const UNKNOWN: i64 = 0;
+
 const TRUE: i64 = 100;
+
 const FALSE: i64 = -100;
+
 const STRANGE: i64 = 200;
 
 // The clause of these numbers, after it went through a list and through copies.

@@ -190,8 +190,16 @@ fn holes(alloc: Global, panel: &mut Panel) -> Result<(usize, usize), OutOfMemory
 fn differ(alloc: Global, list: &mut ClauseList, i: i64) -> Result<(), OutOfMemory> {
     let next = i.wrapping_add(1);
     let other = i.wrapping_add(100);
-    let (not_i, not_next, not_other) = (i.wrapping_neg(), next.wrapping_neg(), other.wrapping_neg());
-    add(alloc, list, &[not_other, i, next, 0, not_other, not_i, not_next, 0])?;
+    let (not_i, not_next, not_other) = (
+        i.wrapping_neg(),
+        next.wrapping_neg(),
+        other.wrapping_neg(),
+    );
+    add(
+        alloc,
+        list,
+        &[not_other, i, next, 0, not_other, not_i, not_next, 0],
+    )?;
     add(alloc, list, &[other, not_i, next, 0, other, i, not_next, 0])
 }
 
@@ -323,10 +331,10 @@ fn add_to(
 {
     let lits = lits_of(alloc, numbers)?;
     let clause = Clause::from_lits(alloc, &lits)?;
-    if are_up_to(clause.lits(), vars) {
-        search.add(&clause)?;
+    if !are_up_to(clause.lits(), vars) {
+        return Ok(());
     }
-    Ok(())
+    search.add(&clause)
 }
 
 // What comes of the assumption of a number once a clause was added.
