@@ -27,85 +27,78 @@ fn texts_are_read_and_written(rt: HostRuntime) -> Result<(), Fail> {
     Ok(())
 }
 
-/// The number of the first text that is not refused with its fault, or the number of all texts.
-fn first_taken_or_misjudged(alloc: Global, table: &[(&[u8], CertFault)]) -> usize {
-    for (i, (bytes, fault)) in table.iter().enumerate() {
-        match read(alloc, bytes) {
-            Ok(_) => return i,
-            Err(found) => {
-                if found != *fault {
-                    return i;
-                }
-            }
-        }
-    }
-    table.len()
+/// Texts that are refused, and the fault of each.
+static WRONG: [(&[u8], CertFault); 18] = [
+    (b"", CertFault::Ends(1)),
+    (b"xsap-certificate 3\n", CertFault::BadLine(1)),
+    (b"xsap-certificate 1", CertFault::BadLine(1)),
+    (
+        b"xsap-certificate 1\nbits 01 faults 0\n",
+        CertFault::BadLine(2),
+    ),
+    (b"xsap-certificate 1\nbits 0 faults 0\n", CertFault::Ends(3)),
+    (
+        b"xsap-certificate 1\nbits 0 faults 2147483648\n",
+        CertFault::BadLine(2),
+    ),
+    (
+        b"xsap-certificate 1\nbits 1 faults 0 size 0\n",
+        CertFault::BadLine(2),
+    ),
+    (
+        b"xsap-certificate 2\nbits 1 faults 0 size +1\n",
+        CertFault::BadLine(2),
+    ),
+    (
+        b"xsap-certificate 2\nbits 1 faults 0\n",
+        CertFault::BadLine(2),
+    ),
+    (
+        b"xsap-certificate 1\nbits 1 faults 0\nsets 9223372036854775807\n",
+        CertFault::Ends(4),
+    ),
+    (
+        b"xsap-certificate 1\nbits 1 faults 0\nsets 9223372036854775808\n",
+        CertFault::BadLine(3),
+    ),
+    (
+        b"xsap-certificate 1\nbits 1 faults 0\nsets 1 \n",
+        CertFault::BadLine(3),
+    ),
+    (
+        b"xsap-certificate 1\nbits 1 faults 0\nsets 0\ninvariant 1\nclause -0\n",
+        CertFault::BadLine(5),
+    ),
+    (
+        b"xsap-certificate 1\nbits 1 faults 0\nsets 0\ninvariant 1\nclause  1\n",
+        CertFault::BadLine(5),
+    ),
+    (
+        b"xsap-certificate 1\nbits 1 faults 0\nsets 0\ninvariant 1\nclause 1\nfirst 1\nstep 1 2\n",
+        CertFault::BadLine(7),
+    ),
+    (
+        b"xsap-certificate 1\nbits 1 faults 0\nsets 0\ninvariant 0\nfirst 0\nnext 0\nbad 0\nend\nend\n",
+        CertFault::BadLine(9),
+    ),
+    (
+        b"xsap-certificate 1\nbits 1 faults 0\nsets 0\ninvariant 0\nfirst 0\nnext 0\nbad 0\nend\nx",
+        CertFault::BadLine(9),
+    ),
+    (
+        b"xsap-certificate 1\nbits 1 faults 0\nsets 0\ninvariant 0\nfirst 0\nnext 0\nbad 0\n",
+        CertFault::Ends(8),
+    ),
+];
+
+/// The fault of a text that is refused.
+fn refusal(alloc: Global, bytes: &[u8]) -> Option<CertFault> {
+    read(alloc, bytes).err()
 }
 
 #[test]
-fn wrong_lines_are_told(rt: HostRuntime) -> Result<(), Fail> {
-    let table: [(&[u8], CertFault); 18] = [
-        (b"", CertFault::Ends(1)),
-        (b"xsap-certificate 3\n", CertFault::BadLine(1)),
-        (b"xsap-certificate 1", CertFault::BadLine(1)),
-        (
-            b"xsap-certificate 1\nbits 01 faults 0\n",
-            CertFault::BadLine(2),
-        ),
-        (b"xsap-certificate 1\nbits 0 faults 0\n", CertFault::Ends(3)),
-        (
-            b"xsap-certificate 1\nbits 0 faults 2147483648\n",
-            CertFault::BadLine(2),
-        ),
-        (
-            b"xsap-certificate 1\nbits 1 faults 0 size 0\n",
-            CertFault::BadLine(2),
-        ),
-        (
-            b"xsap-certificate 2\nbits 1 faults 0 size +1\n",
-            CertFault::BadLine(2),
-        ),
-        (
-            b"xsap-certificate 2\nbits 1 faults 0\n",
-            CertFault::BadLine(2),
-        ),
-        (
-            b"xsap-certificate 1\nbits 1 faults 0\nsets 9223372036854775807\n",
-            CertFault::Ends(4),
-        ),
-        (
-            b"xsap-certificate 1\nbits 1 faults 0\nsets 9223372036854775808\n",
-            CertFault::BadLine(3),
-        ),
-        (
-            b"xsap-certificate 1\nbits 1 faults 0\nsets 1 \n",
-            CertFault::BadLine(3),
-        ),
-        (
-            b"xsap-certificate 1\nbits 1 faults 0\nsets 0\ninvariant 1\nclause -0\n",
-            CertFault::BadLine(5),
-        ),
-        (
-            b"xsap-certificate 1\nbits 1 faults 0\nsets 0\ninvariant 1\nclause  1\n",
-            CertFault::BadLine(5),
-        ),
-        (
-            b"xsap-certificate 1\nbits 1 faults 0\nsets 0\ninvariant 1\nclause 1\nfirst 1\nstep 1 2\n",
-            CertFault::BadLine(7),
-        ),
-        (
-            b"xsap-certificate 1\nbits 1 faults 0\nsets 0\ninvariant 0\nfirst 0\nnext 0\nbad 0\nend\nend\n",
-            CertFault::BadLine(9),
-        ),
-        (
-            b"xsap-certificate 1\nbits 1 faults 0\nsets 0\ninvariant 0\nfirst 0\nnext 0\nbad 0\nend\nx",
-            CertFault::BadLine(9),
-        ),
-        (
-            b"xsap-certificate 1\nbits 1 faults 0\nsets 0\ninvariant 0\nfirst 0\nnext 0\nbad 0\n",
-            CertFault::Ends(8),
-        ),
-    ];
-    assert!(rt; first_taken_or_misjudged(rt.alloc(), &table) == table.len());
-    Ok(())
+fn wrong_lines_are_told(rt: HostRuntime) {
+    for (i, (bytes, fault)) in WRONG.iter().enumerate() {
+        assert_eq!(rt; refusal(rt.alloc(), bytes), Some(*fault), "text {i}");
+    }
 }

@@ -1,9 +1,9 @@
 //! Copies of a program of several modules, of its flat model and of instructions: each list has what was copied.
-use crate::texts::{instructions_of, program_of};
-use std::test::Fail;
-use xs_fei::print_instructions;
-use xs_flat::{FlatModel, flatten};
-use xs_tree::print_program;
+use crate::texts::{instructions_of, is_text, model_of, program_of};
+use std::alloc::Global;
+use xs_fei::{Instructions, print_instructions};
+use xs_flat::FlatModel;
+use xs_tree::{Program, print_program};
 
 static POWER: &[u8] = b"MODULE Generator VAR live : boolean; ASSIGN live := TRUE;
     MODULE Battery VAR charge : 0..3; ASSIGN init(charge) := 3; next(charge) := charge;
@@ -29,24 +29,47 @@ fn sizes(m: &FlatModel) -> [usize; 7] {
     ]
 }
 
-#[test]
-fn copies_have_what_was_copied(rt: HostRuntime) -> Result<(), Fail> {
-    let alloc = rt.alloc();
-    let program = program_of(&rt, alloc, POWER);
-    let text = print_program(alloc, &program)?;
-    let same = print_program(alloc, &program.copy()?)?;
-    assert!(rt; same.as_slice() == text.as_slice());
-    let model = flatten(alloc, &program)?;
-    assert_eq!(rt; sizes(&model.copy()?), [6, 6, 3, 0, 3, 3, 3]);
-    Ok(())
+/// The text of a copy of a program.
+fn copied_program_text(alloc: Global, program: &Program) -> Option<Vec<u8>> {
+    let same = program.copy().ok()?;
+    print_program(alloc, &same).ok()
+}
+
+/// Whether a copy of the program has its text.
+fn program_is_copied(alloc: Global) -> Option<bool> {
+    let program = program_of(alloc, POWER)?;
+    let text = print_program(alloc, &program).ok()?;
+    Some(is_text(copied_program_text(alloc, &program), &text))
+}
+
+/// Whether a copy of the flat model has its sizes.
+fn model_is_copied(alloc: Global) -> Option<bool> {
+    let program = program_of(alloc, POWER)?;
+    let model = model_of(alloc, &program)?;
+    let same = model.copy().ok()?;
+    Some(sizes(&same) == [6, 6, 3, 0, 3, 3, 3])
 }
 
 #[test]
-fn copied_instructions_have_the_same_text(rt: HostRuntime) -> Result<(), Fail> {
-    let alloc = rt.alloc();
-    let modes = instructions_of(&rt, alloc, MODES);
-    let text = print_instructions(alloc, &modes)?;
-    let same = print_instructions(alloc, &modes.copy()?)?;
-    assert!(rt; text.len() > 200 && same.as_slice() == text.as_slice());
-    Ok(())
+fn copies_have_what_was_copied(rt: HostRuntime) {
+    assert!(rt; matches!(program_is_copied(rt.alloc()), Some(true)));
+    assert!(rt; matches!(model_is_copied(rt.alloc()), Some(true)));
+}
+
+/// The text of a copy of instructions.
+fn copied_modes_text(alloc: Global, modes: &Instructions) -> Option<Vec<u8>> {
+    let same = modes.copy().ok()?;
+    print_instructions(alloc, &same).ok()
+}
+
+/// Whether a copy of the instructions has their text, which is long.
+fn modes_are_copied(alloc: Global) -> Option<bool> {
+    let modes = instructions_of(alloc, MODES)?;
+    let text = print_instructions(alloc, &modes).ok()?;
+    Some(text.len() > 200 && is_text(copied_modes_text(alloc, &modes), &text))
+}
+
+#[test]
+fn copied_instructions_have_the_same_text(rt: HostRuntime) {
+    assert!(rt; matches!(modes_are_copied(rt.alloc()), Some(true)));
 }

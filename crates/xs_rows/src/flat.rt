@@ -1,12 +1,10 @@
 //! Which rule of names a program breaks first, and the flat models of programs of one variable.
-use crate::texts::{expression_of, program_of};
+use crate::texts::{expression_of, model_of, program_of};
 use std::alloc::Global;
-use std::process::Abort;
-use std::test::Fail;
 use xs_flat::{
     Fault, FaultList, Flat, FlatModel, copy_faults, flatten, resolve_at, resolve_top, with_history,
 };
-use xs_tree::{Expr, Op};
+use xs_tree::{Expr, Op, Program};
 use xs_value::{Dotted, Name, OutOfMemory};
 
 /// Programs, and the number of the rule that each breaks with its item.
@@ -29,36 +27,59 @@ static WRONG: [(&[u8], (u32, u32)); 9] = [
 ];
 
 /// The number of the rule that a program breaks, and its item; two zeros where it is lawful.
-fn fault(rt: &impl Abort, alloc: Global, text: &[u8]) -> (u32, u32) {
-    match flatten(alloc, &program_of(rt, alloc, text)) {
-        Ok(_model) => (0, 0),
-        Err(fault) => (fault.rule as u32, fault.item),
+fn fault(alloc: Global, text: &[u8]) -> Option<(u32, u32)> {
+    let program = program_of(alloc, text)?;
+    match flatten(alloc, &program) {
+        Ok(_model) => Some((0, 0)),
+        Err(fault) => Some((fault.rule as u32, fault.item)),
     }
 }
 
 #[test]
-fn rules_of_main(rt: HostRuntime) -> Result<(), Fail> {
+fn rules_of_main(rt: HostRuntime) {
     for (i, (text, told)) in WRONG.iter().enumerate() {
-        assert_eq!(rt; fault(&rt, rt.alloc(), text), *told, "program {i}");
+        assert_eq!(rt; fault(rt.alloc(), text), Some(*told), "program {i}");
     }
-    Ok(())
+}
+
+static ONE: &[u8] = b"MODULE main VAR x : boolean; ASSIGN next(x) := TRUE;";
+
+/// Whether an expression means the variable of number 0 on top of the model.
+fn is_first_on_top(alloc: Global, p: &Program, m: &FlatModel, e: &Expr<Dotted>) -> bool {
+    match resolve_top(alloc, p, m, e) {
+        Ok(made) => is_first(&made),
+        Err(_) => false,
+    }
+}
+
+/// Whether an expression means the variable of number 0 inside the first instance.
+fn is_first_inside(alloc: Global, p: &Program, m: &FlatModel, e: &Expr<Dotted>) -> bool {
+    match resolve_at(alloc, p, m, 0, true, e) {
+        Ok(made) => is_first(&made),
+        Err(_) => false,
+    }
+}
+
+/// Whether a model has one instance, one variable and one formula of steps.
+fn has_one_each(m: &FlatModel) -> bool {
+    m.instances.len() == 1 && m.variables.len() == 1 && m.trans.len() == 1
+}
+
+/// Whether the model of one variable has one of each, and the variable's name means it on top and inside.
+fn one_holds(alloc: Global) -> Option<bool> {
+    let program = program_of(alloc, ONE)?;
+    let model = model_of(alloc, &program)?;
+    let x = expression_of(alloc, b"x")?;
+    Some(
+        has_one_each(&model)
+            && is_first_on_top(alloc, &program, &model, &x)
+            && is_first_inside(alloc, &program, &model, &x),
+    )
 }
 
 #[test]
-fn one_variable(rt: HostRuntime) -> Result<(), Fail> {
-    let alloc = rt.alloc();
-    let text = b"MODULE main VAR x : boolean; ASSIGN next(x) := TRUE;";
-    let program = program_of(&rt, alloc, text);
-    let model = flatten(alloc, &program)?;
-    assert_eq!(rt; model.instances.len(), 1);
-    assert_eq!(rt; model.variables.len(), 1);
-    assert_eq!(rt; model.trans.len(), 1);
-    let x = expression_of(&rt, alloc, b"x");
-    let top = resolve_top(alloc, &program, &model, &x)?;
-    assert!(rt; is_first(&top));
-    let inside = resolve_at(alloc, &program, &model, 0, true, &x)?;
-    assert!(rt; is_first(&inside));
-    Ok(())
+fn one_variable(rt: HostRuntime) {
+    assert!(rt; matches!(one_holds(rt.alloc()), Some(true)));
 }
 
 /// Whether an expression is the variable of number 0.
@@ -69,35 +90,69 @@ fn is_first(e: &Expr<Flat>) -> bool {
     }
 }
 
-/// The model of `VAR x : {ok, bad}; TRANS x`, and the fault that stands where `x = bad`, twice.
-fn failing(rt: &impl Abort, alloc: Global) -> Result<(FlatModel, FaultList), Fail> {
-    let program = program_of(rt, alloc, b"MODULE main VAR x : {ok, bad}; TRANS x");
+static FAILING: &[u8] = b"MODULE main VAR x : {ok, bad}; TRANS x";
+
+/// The fault that stands where `x = bad`.
+fn failed(alloc: Global) -> Result<Fault, OutOfMemory> {
+    let name = Dotted::new(alloc, Name::new(alloc, b"x")?)?;
+    Ok(Fault {
+        name,
+        variable: 0,
+        symbol: 1,
+    })
+}
+
+/// A copy of a list that has this fault twice.
+fn failed_twice(alloc: Global) -> Result<FaultList, OutOfMemory> {
     let mut faults = FaultList::new(alloc);
     for _each in 0..2 {
-        let name = Dotted::new(alloc, Name::new(alloc, b"x")?)?;
-        faults.push(Fault {
-            name,
-            variable: 0,
-            symbol: 1,
-        })?;
+        faults.push(failed(alloc)?)?;
     }
-    let faults = copy_faults(alloc, faults.as_slice())?;
-    Ok((flatten(alloc, &program)?, faults))
+    copy_faults(alloc, faults.as_slice())
+}
+
+/// The failing model with a bit of history for each of the two faults.
+fn with_two_bits(alloc: Global) -> Option<FlatModel> {
+    let program = program_of(alloc, FAILING)?;
+    let model = model_of(alloc, &program)?;
+    let faults = failed_twice(alloc).ok()?;
+    with_history(alloc, &model, &faults).ok()
+}
+
+/// Whether the bits are the second and the third variable, each with a formula behind those of the model.
+fn has_two_bits(m: &FlatModel) -> bool {
+    has_last_variable(m) && has_last_start(m) && has_steps(m)
+}
+
+fn two_bits_hold(alloc: Global) -> Option<bool> {
+    let made = with_two_bits(alloc)?;
+    Some(has_two_bits(&made))
+}
+
+fn has_last_variable(m: &FlatModel) -> bool {
+    match m.variables.as_slice() {
+        [_, _, last] => is_named(&last.path, b"failed#2"),
+        _ => false,
+    }
+}
+
+fn has_last_start(m: &FlatModel) -> bool {
+    match m.init.as_slice() {
+        [_, last] => is_about(&last.value, 2),
+        _ => false,
+    }
+}
+
+fn has_steps(m: &FlatModel) -> bool {
+    match m.trans.as_slice() {
+        [own, _, last] => is_first(&own.value) && is_about(&last.value, 2),
+        _ => false,
+    }
 }
 
 #[test]
-fn two_bits(rt: HostRuntime) -> Result<(), Fail> {
-    let alloc = rt.alloc();
-    let (model, faults) = failing(&rt, alloc)?;
-    let made = with_history(alloc, &model, &faults)?;
-    assert_eq!(rt; made.variables.len(), 3);
-    assert!(rt; is_named(&made.variables.at(2).path, b"failed#2"));
-    assert_eq!(rt; made.init.len(), 2);
-    assert_eq!(rt; made.trans.len(), 3);
-    assert!(rt; is_about(&made.init.at(1).value, 2));
-    assert!(rt; is_about(&made.trans.at(2).value, 2));
-    assert!(rt; is_first(&made.trans.at(0).value));
-    Ok(())
+fn two_bits(rt: HostRuntime) {
+    assert!(rt; matches!(two_bits_hold(rt.alloc()), Some(true)));
 }
 
 /// Whether an expression has `in` on top, and on its left the variable of a number, now or next.

@@ -1,12 +1,10 @@
 //! Which rule of kinds and limits a model of one variable breaks, and the kinds of single expressions.
-use crate::texts::{expression_of, joined, program_of};
+use crate::texts::{expression_of, joined, model_of, program_of};
 use std::alloc::Global;
-use std::process::Abort;
-use std::test::Fail;
-use xs_flat::{Flat, flatten, resolve_top};
+use xs_flat::{Flat, FlatModel, resolve_top};
 use xs_tree::{Expr, Program};
 use xs_types::{Kind, Typed, check_model, check_top, check_value, kind_of};
-use xs_value::{OutOfMemory, Value};
+use xs_value::Value;
 
 /// The type of `x`, a formula of TRANS, and the rule that the model breaks and its item; 0 and the number
 /// of bits where it breaks none.
@@ -38,74 +36,105 @@ static ROWS: [Row; 22] = [
 ];
 
 /// `MODULE main VAR x : ..; TRANS ..`
-fn program(
-    rt: &impl Abort,
-    alloc: Global,
-    of: &[u8],
-    trans: &[u8],
-) -> Result<Program, OutOfMemory> {
-    let text = joined(alloc, &[b"MODULE main VAR x : ", of, b"; TRANS ", trans])?;
-    Ok(program_of(rt, alloc, &text))
+fn program(alloc: Global, of: &[u8], trans: &[u8]) -> Option<Program> {
+    let text = joined(alloc, &[b"MODULE main VAR x : ", of, b"; TRANS ", trans]).ok()?;
+    program_of(alloc, &text)
 }
 
-/// The rule that such a model breaks and its item; 0 and the number of bits where it breaks none.
-fn told(rt: &impl Abort, alloc: Global, of: &[u8], trans: &[u8]) -> Result<(u32, u32), Fail> {
-    let model = flatten(alloc, &program(rt, alloc, of, trans)?)?;
+/// The rule that a flat model breaks and its item; 0 and the number of bits where it breaks none.
+fn judged(alloc: Global, model: FlatModel) -> (u32, u32) {
     match check_model(alloc, model) {
-        Ok(typed) => Ok((0, typed.bits())),
-        Err(fault) => Ok((fault.rule as u32, fault.item)),
+        Ok(typed) => (0, typed.bits()),
+        Err(fault) => (fault.rule as u32, fault.item),
     }
+}
+
+/// What is told of the model with this type and this formula.
+fn told(alloc: Global, of: &[u8], trans: &[u8]) -> Option<(u32, u32)> {
+    let program = program(alloc, of, trans)?;
+    let model = model_of(alloc, &program)?;
+    Some(judged(alloc, model))
 }
 
 #[test]
-fn types_and_formulas(rt: HostRuntime) -> Result<(), Fail> {
+fn types_and_formulas(rt: HostRuntime) {
     for (i, (of, trans, wanted)) in ROWS.iter().enumerate() {
-        assert_eq!(rt; told(&rt, rt.alloc(), of, trans)?, *wanted, "row {i}");
+        assert_eq!(rt; told(rt.alloc(), of, trans), Some(*wanted), "row {i}");
     }
-    Ok(())
+}
+
+/// An expression, its kind, whether it may stand as a value, and whether as a condition: 0, or the rule.
+type Single = (&'static [u8], Kind, u32, u32);
+
+static SINGLES: [Single; 5] = [
+    (b"-7 / 2", Kind::Num(-3, -3), 0, 2),
+    (b"-7 mod 2", Kind::Num(-1, 0), 0, 2),
+    (b"x", Kind::Num(0, 3), 0, 2),
+    (b"1..3", Kind::Num(1, 3), 3, 2),
+    (b"TRUE", Kind::Bool, 0, 0),
+];
+
+fn typed_of(alloc: Global, program: &Program) -> Option<Typed> {
+    let model = model_of(alloc, program)?;
+    check_model(alloc, model).ok()
 }
 
 /// The expression of a text over a model.
-fn over(
-    rt: &impl Abort,
-    alloc: Global,
-    program: &Program,
-    typed: &Typed,
-    text: &[u8],
-) -> Result<Expr<Flat>, Fail> {
-    let read = expression_of(rt, alloc, text);
-    Ok(resolve_top(alloc, program, typed.model(), &read)?)
+fn over(alloc: Global, program: &Program, typed: &Typed, text: &[u8]) -> Option<Expr<Flat>> {
+    let read = expression_of(alloc, text)?;
+    resolve_top(alloc, program, typed.model(), &read).ok()
+}
+
+fn has_kind(typed: &Typed, e: &Expr<Flat>, kind: Kind) -> bool {
+    kind_of(typed, e) == kind
+}
+
+/// Whether an expression may stand as a value, and is then of this kind, or breaks this rule.
+fn is_value(typed: &Typed, e: &Expr<Flat>, kind: Kind, rule: u32) -> bool {
+    match check_value(typed, e) {
+        Ok(found) => found == kind && rule == 0,
+        Err(fault) => fault.rule as u32 == rule,
+    }
+}
+
+/// Whether an expression may stand as a condition, or breaks this rule.
+fn is_top(typed: &Typed, e: &Expr<Flat>, rule: u32) -> bool {
+    match check_top(typed, e) {
+        Ok(()) => rule == 0,
+        Err(fault) => fault.rule as u32 == rule,
+    }
+}
+
+/// Whether an expression over the model of `x : 0..3` is judged as its row says.
+fn single_holds(alloc: Global, row: &Single) -> Option<bool> {
+    let program = program(alloc, b"0..3", b"TRUE")?;
+    let typed = typed_of(alloc, &program)?;
+    let e = over(alloc, &program, &typed, row.0)?;
+    Some(
+        has_kind(&typed, &e, row.1)
+            && is_value(&typed, &e, row.1, row.2)
+            && is_top(&typed, &e, row.3),
+    )
+}
+
+/// Whether the model of `x : 0..3` has its cost, its one variable and that variable's domain.
+fn model_holds(alloc: Global) -> Option<bool> {
+    let program = program(alloc, b"0..3", b"TRUE")?;
+    let typed = typed_of(alloc, &program)?;
+    Some(
+        typed.cost() == 4
+            && typed.model().variables.len() == 1
+            && typed.domain(0).has(Value::Num(3)),
+    )
 }
 
 #[test]
-fn single_expressions(rt: HostRuntime) -> Result<(), Fail> {
-    let alloc = rt.alloc();
-    let program = program(&rt, alloc, b"0..3", b"TRUE")?;
-    let typed = check_model(alloc, flatten(alloc, &program)?)?;
-    assert_eq!(rt; typed.cost(), 4);
-    assert_eq!(rt; typed.model().variables.len(), 1);
-    assert!(rt; typed.domain(0).has(Value::Num(3)));
-    // The kind of each, whether it may stand as a value, and whether as a condition: 0, or the rule.
-    let rows: [(&[u8], Kind, u32, u32); 5] = [
-        (b"-7 / 2", Kind::Num(-3, -3), 0, 2),
-        (b"-7 mod 2", Kind::Num(-1, 0), 0, 2),
-        (b"x", Kind::Num(0, 3), 0, 2),
-        (b"1..3", Kind::Num(1, 3), 3, 2),
-        (b"TRUE", Kind::Bool, 0, 0),
-    ];
-    for (i, (text, kind, value, top)) in rows.iter().enumerate() {
-        let e = over(&rt, alloc, &program, &typed, text)?;
-        assert_eq!(rt; kind_of(&typed, &e), *kind, "row {i}");
-        let (found, rule) = match check_value(&typed, &e) {
-            Ok(found) => (found, 0),
-            Err(fault) => (*kind, fault.rule as u32),
-        };
-        assert!(rt; found == *kind && rule == *value, "row {i}");
-        let rule = match check_top(&typed, &e) {
-            Ok(()) => 0,
-            Err(fault) => fault.rule as u32,
-        };
-        assert_eq!(rt; rule, *top, "row {i}");
+fn single_expressions(rt: HostRuntime) {
+    assert!(rt; matches!(model_holds(rt.alloc()), Some(true)));
+    for (i, row) in SINGLES.iter().enumerate() {
+        assert!(rt;
+            matches!(single_holds(rt.alloc(), row), Some(true)),
+            "row {i}"
+        );
     }
-    Ok(())
 }

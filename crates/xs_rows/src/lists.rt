@@ -1,45 +1,101 @@
 //! Lists, names, domains and valuations.
-use std::test::Fail;
-use xs_value::{Domain, Dotted, Items, Name, NumList, SymList, Valuation, Value};
+use std::alloc::Global;
+use xs_value::{Domain, Dotted, Items, Name, NumList, OutOfMemory, SymList, Valuation, Value};
 
-#[test]
-fn lists_and_names_hold_what_was_put_in(rt: HostRuntime) -> Result<(), Fail> {
-    let alloc = rt.alloc();
-    let mut numbers = NumList::new(alloc);
-    numbers.push(3)?;
-    numbers.push(3)?;
-    numbers.push(-7)?;
-    assert_eq!(rt; numbers.len(), 3);
-    assert_eq!(rt; *numbers.at(2), -7);
+/// A list that was given these numbers.
+fn numbers_of(alloc: Global, numbers: &[i64]) -> Result<NumList, OutOfMemory> {
+    let mut list = NumList::new(alloc);
+    for number in numbers {
+        list.push(*number)?;
+    }
+    Ok(list)
+}
 
-    let mut path = Dotted::new(alloc, Name::new(alloc, b"b1")?)?;
-    path.push(Name::new(alloc, b"charge")?)?;
-    let same = path.copy()?;
-    assert_eq!(rt; same.parts().len(), 2);
-    assert_eq!(rt; same.at(1).text(), b"charge".as_slice());
+/// Whether a list is so long and ends in this number.
+fn ends_in(list: &NumList, count: usize, last: i64) -> bool {
+    count > 0 && list.len() == count && *list.at(count - 1) == last
+}
 
+/// Whether a domain has the one value and not the other.
+fn has_only(domain: &Domain, inside: Value, outside: Value) -> bool {
+    domain.has(inside) && !domain.has(outside)
+}
+
+fn numbers_hold(alloc: Global) -> Result<bool, OutOfMemory> {
+    let numbers = numbers_of(alloc, &[3, 3, -7])?;
+    let is_list = ends_in(&numbers, 3, -7);
     let domain = Domain::Numbers(numbers);
-    assert_eq!(rt; domain.count(), 2);
-    assert!(rt; domain.has(Value::Num(-7)) && !domain.has(Value::Num(0)));
-    Ok(())
+    Ok(is_list && domain.count() == 2 && has_only(&domain, Value::Num(-7), Value::Num(0)))
 }
 
 #[test]
-fn a_valuation_gives_what_was_set(rt: HostRuntime) -> Result<(), Fail> {
-    let alloc = rt.alloc();
-    let mut moment = Valuation::new(alloc);
-    moment.push(Value::Bool(true))?;
-    moment.push(Value::Sym(1))?;
-    let before = moment.copy()?;
-    moment.set(0, Value::Num(5));
-    assert!(rt; moment.get(0) == Value::Num(5) && before.get(0) == Value::Bool(true));
-    assert!(rt; moment.get(1) == Value::Sym(1) && moment.len() == 2);
+fn a_list_and_its_domain_hold_what_was_put_in(rt: HostRuntime) {
+    assert!(rt; matches!(numbers_hold(rt.alloc()), Ok(true)));
+}
 
+/// A copy of a path that was given two parts.
+fn path_of(alloc: Global, first: &[u8], second: &[u8]) -> Result<Dotted, OutOfMemory> {
+    let mut path = Dotted::new(alloc, Name::new(alloc, first)?)?;
+    path.push(Name::new(alloc, second)?)?;
+    path.copy()
+}
+
+/// Whether a path has so many parts, and this one at a place.
+fn has_part(path: &Dotted, count: usize, place: usize, text: &[u8]) -> bool {
+    path.parts().len() == count && place < path.len() && path.at(place).text() == text
+}
+
+fn paths_hold(alloc: Global) -> Result<bool, OutOfMemory> {
+    let path = path_of(alloc, b"b1", b"charge")?;
+    Ok(has_part(&path, 2, 1, b"charge"))
+}
+
+#[test]
+fn a_name_holds_its_parts(rt: HostRuntime) {
+    assert!(rt; matches!(paths_hold(rt.alloc()), Ok(true)));
+}
+
+/// A valuation that was given these values.
+fn moment_of(alloc: Global, values: &[Value]) -> Result<Valuation, OutOfMemory> {
+    let mut moment = Valuation::new(alloc);
+    for value in values {
+        moment.push(*value)?;
+    }
+    Ok(moment)
+}
+
+/// A copy whose first value, where it has one, was set.
+fn with_first(moment: &Valuation, value: Value) -> Result<Valuation, OutOfMemory> {
+    let mut moment = moment.copy()?;
+    if moment.len() > 0 {
+        moment.set(0, value);
+    }
+    Ok(moment)
+}
+
+/// Whether a valuation gives these two values and no other.
+fn gives(moment: &Valuation, first: Value, second: Value) -> bool {
+    moment.len() == 2 && moment.get(0) == first && moment.get(1) == second
+}
+
+fn valuations_hold(alloc: Global) -> Result<bool, OutOfMemory> {
+    let before = moment_of(alloc, &[Value::Bool(true), Value::Sym(1)])?;
+    let moment = with_first(&before, Value::Num(5))?;
+    Ok(
+        gives(&moment, Value::Num(5), Value::Sym(1))
+            && gives(&before, Value::Bool(true), Value::Sym(1)),
+    )
+}
+
+#[test]
+fn a_valuation_gives_what_was_set(rt: HostRuntime) {
+    assert!(rt; matches!(valuations_hold(rt.alloc()), Ok(true)));
+}
+
+#[test]
+fn domains_without_a_list_have_their_values(rt: HostRuntime) {
     let range = Domain::Range { lo: -2, hi: 2 };
-    assert_eq!(rt; range.count(), 5);
-    assert!(rt; range.has(Value::Num(-2)) && !range.has(Value::Bool(true)));
-    let symbols: SymList = Items::new(alloc);
-    assert_eq!(rt; Domain::Symbols(symbols).count(), 0);
-    assert_eq!(rt; Domain::Boolean.count(), 2);
-    Ok(())
+    assert!(rt; range.count() == 5 && has_only(&range, Value::Num(-2), Value::Bool(true)));
+    let symbols: SymList = Items::new(rt.alloc());
+    assert!(rt; Domain::Symbols(symbols).count() == 0 && Domain::Boolean.count() == 2);
 }

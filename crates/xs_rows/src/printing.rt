@@ -1,28 +1,37 @@
 //! What is printed of copies of expressions, programs and instructions.
-use crate::texts::{expression_of, instructions_of, program_of};
-use std::test::Fail;
+use crate::texts::{expression_of, instructions_of, is_text, program_of};
+use std::alloc::Global;
 use xs_fei::print_instructions;
 use xs_tree::{print_expr, print_program};
 
-#[test]
-fn a_span_under_a_minus_keeps_its_parentheses(rt: HostRuntime) -> Result<(), Fail> {
-    let alloc = rt.alloc();
-    let read = expression_of(&rt, alloc, b"-(1..3) in {a, b}");
-    let text = print_expr(alloc, &read.copy(alloc)?)?;
-    assert_eq!(rt; text.as_slice(), b"((-(1..3)) in {a, b})".as_slice());
-    Ok(())
+/// The text of a copy of the expression that a text spells.
+fn expression_text(alloc: Global, text: &[u8]) -> Option<Vec<u8>> {
+    let read = expression_of(alloc, text)?;
+    let same = read.copy(alloc).ok()?;
+    print_expr(alloc, &same).ok()
 }
 
 #[test]
-fn a_lamp_prints_line_by_line(rt: HostRuntime) -> Result<(), Fail> {
-    let alloc = rt.alloc();
-    let lamp = b"MODULE main VAR on:boolean; ASSIGN init(on):=TRUE; next(on):=on;";
-    let read = program_of(&rt, alloc, lamp);
-    let text = print_program(alloc, &read.copy()?)?;
-    let lines =
-        b"MODULE main\nVAR\n  on : boolean;\nASSIGN\n  init(on) := TRUE;\n  next(on) := on;\n";
-    assert_eq!(rt; text.as_slice(), lines.as_slice());
-    Ok(())
+fn a_span_under_a_minus_keeps_its_parentheses(rt: HostRuntime) {
+    let text = expression_text(rt.alloc(), b"-(1..3) in {a, b}");
+    assert!(rt; is_text(text, b"((-(1..3)) in {a, b})"));
+}
+
+static LAMP: &[u8] = b"MODULE main VAR on:boolean; ASSIGN init(on):=TRUE; next(on):=on;";
+
+static LINES: &[u8] =
+    b"MODULE main\nVAR\n  on : boolean;\nASSIGN\n  init(on) := TRUE;\n  next(on) := on;\n";
+
+/// The text of a copy of the program that a text spells.
+fn program_text(alloc: Global, text: &[u8]) -> Option<Vec<u8>> {
+    let read = program_of(alloc, text)?;
+    let same = read.copy().ok()?;
+    print_program(alloc, &same).ok()
+}
+
+#[test]
+fn a_lamp_prints_line_by_line(rt: HostRuntime) {
+    assert!(rt; is_text(program_text(rt.alloc(), LAMP), LINES));
 }
 
 static SLICES: [(&[u8], &[u8]); 2] = [
@@ -36,13 +45,18 @@ static SLICES: [(&[u8], &[u8]); 2] = [
     ),
 ];
 
+/// The text of the instructions that a text spells.
+fn slices_text(alloc: Global, text: &[u8]) -> Option<Vec<u8>> {
+    let read = instructions_of(alloc, text)?;
+    print_instructions(alloc, &read).ok()
+}
+
 #[test]
-fn a_slice_prints_its_start_and_a_mode_its_mark_and_guard(rt: HostRuntime) -> Result<(), Fail> {
-    let alloc = rt.alloc();
+fn a_slice_prints_its_start_and_a_mode_its_mark_and_guard(rt: HostRuntime) {
     for (i, (text, printed)) in SLICES.iter().enumerate() {
-        let read = instructions_of(&rt, alloc, text);
-        let found = print_instructions(alloc, &read)?;
-        assert!(rt; found.as_slice() == *printed, "slice {i}");
+        assert!(rt;
+            is_text(slices_text(rt.alloc(), text), printed),
+            "slice {i}"
+        );
     }
-    Ok(())
 }

@@ -1,7 +1,7 @@
 //! Where the reading of expressions, lists and programs stops, and that depth costs no stack.
 ghost use Rattle.std.specs.Prelude.{◌<◌, ◌^◌, length};
 
-use crate::texts::push_times;
+use crate::texts::nested;
 use std::alloc::Global;
 use std::test::Fail;
 use xs_parse::{ParseFault, expression, expressions, program};
@@ -298,24 +298,16 @@ static REPEATED: [Repeated; 13] = [
     ),
 ];
 
-fn repeated(alloc: Global, row: &Repeated) -> Result<Vec<u8>, OutOfMemory> {
-    let (_, front, open, times, close, back, _) = row;
-    let mut text = Vec::new(alloc);
-    text.extend_from_slice(front)?;
-    push_times(&mut text, open, *times)?;
-    text.extend_from_slice(b"a")?;
-    push_times(&mut text, close, *times)?;
-    text.extend_from_slice(back)?;
-    Ok(text)
+/// Whether the text of a row is refused as it says.
+fn is_refused(alloc: Global, row: &Repeated) -> Result<bool, OutOfMemory> {
+    let text = nested(alloc, row.1, row.2, row.3, row.4, row.5)?;
+    Ok(text.len() < 3_000_000 && refusal(alloc, row.0, &text) == row.6)
 }
 
 #[test]
 fn is_too_deep_only_where_it_is_spelled(rt: HostRuntime) -> Result<(), Fail> {
     for (i, row) in REPEATED.iter().enumerate() {
-        let text = repeated(rt.alloc(), row)?;
-        assert!(rt; text.len() < 3000000);
-        let found = refusal(rt.alloc(), row.0, &text);
-        assert!(rt; found == row.6, "case {i}");
+        assert!(rt; is_refused(rt.alloc(), row)?, "case {i}");
     }
     Ok(())
 }

@@ -68,7 +68,7 @@ pub struct Summary {
 }
 
 /// Generates a case of a number and so many stages.
-pub(crate) fn generate(alloc: Global, number: u32, stages: u32) -> Result<Generated, OutOfMemory>
+pub fn generate(alloc: Global, number: u32, stages: u32) -> Result<Generated, OutOfMemory>
     requires { stages ≤ 64 }
     ensures event { IfOk result (λ g. IsEvent dead_word g.loaded) }
     ensures program { IfOk result (λ g. (case_in g.loaded).program ≡ generator.generated_model number stages) }

@@ -102,7 +102,7 @@ pub fn analysed(
 }
 
 /// Frames for the analyses of a case, one of whose top events is given. They know nothing of the event, and serve for all.
-pub(crate) fn frames_of_case(
+pub fn frames_of_case(
     alloc: Global,
     case: &LoadedCase,
     top: &Expr<Flat>,
@@ -118,7 +118,7 @@ pub(crate) fn frames_of_case(
 
 /// What `analysed` answers, found in frames of the case that may have served for its other top events: only what holds of
 /// every first state is kept from these.
-pub(crate) fn analysed_in(
+pub fn analysed_in(
     alloc: Global,
     case: &LoadedCase,
     top: &Expr<Flat>,

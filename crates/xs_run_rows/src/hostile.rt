@@ -1,29 +1,17 @@
 // Hostile use over desks in memory: desks that fail on the way of an analysis, files that are cut or stand at a limit, and
 // certificates that were altered.
 
+use crate::desks::{
+    DARK, File, GLITCH, LAMP, PULSE, TINY, declared, desk_of, ends, joined, ran, rest_from, spaces,
+    written,
+};
 use std::alloc::Global;
-use xs_desk::{CallKind, Fail, FailList, FileList, MemoryDesk, NamedFile};
-use xs_run::run::run;
+use xs_desk::{CallKind, Fail};
 use xs_value::OutOfMemory;
-
-const LAMP: &[u8] =
-    b"MODULE main\nVAR\n  on : boolean;\nASSIGN\n  init(on) := TRUE;\n  next(on) := on;\n";
-
-const DARK: &[u8] =
-    b"FAULT EXTENSION F EXTENSION OF MODULE main SLICE Lamp AFFECTS on WITH MODE dark : Permanent StuckAt(FALSE);";
-
-const PULSE: &[u8] =
-    b"MODULE main VAR pulse : boolean; seen : boolean; ASSIGN pulse := FALSE; init(seen) := FALSE; next(seen) := seen | pulse;";
-
-const GLITCH: &[u8] =
-    b"EXTENSION OF MODULE main SLICE P AFFECTS pulse WITH MODE glitch : Transient StuckAt(TRUE);";
-
-/// A model whose one variable stays FALSE.
-const TINY: &[u8] = b"MODULE main VAR x : boolean; ASSIGN init(x) := FALSE; next(x) := x;";
 
 const PASSED: &str = "seen & !pulse";
 
-const ANALYSE: [&str; 13] = [
+static ANALYSE: [&str; 13] = [
     "analyse",
     "--model",
     "m",
@@ -39,152 +27,120 @@ const ANALYSE: [&str; 13] = [
     "c",
 ];
 
-const EXTEND: [&str; 7] = ["extend", "--model", "m", "--faults", "f", "--extended", "x"];
+static EXTEND: [&str; 7] = ["extend", "--model", "m", "--faults", "f", "--extended", "x"];
 
-/// A desk with these bytes under these names, whose call fails as told.
-fn desk_of(
-    alloc: Global,
-    given: &[(&str, &[u8])],
-    fail: Option<Fail>,
-) -> Result<MemoryDesk, OutOfMemory> {
-    let mut files = FileList::new(alloc);
-    for (name, bytes) in given {
-        files.push(NamedFile::new(alloc, name, bytes)?)?;
-    }
-    let mut fails = FailList::new(alloc);
-    if let Some(fail) = fail {
-        fails.push(fail)?;
-    }
-    Ok(MemoryDesk::new(alloc, files, fails))
-}
+static GIVEN: [File; 2] = [("m", Some(PULSE)), ("f", Some(GLITCH))];
 
-/// Whether a run with these words over these files ends with this number and says this text.
-fn ends(
-    alloc: Global,
-    given: &[(&str, &[u8])],
-    words: &[&str],
-    number: i32,
-    said: &[u8],
-) -> Result<bool, OutOfMemory> {
-    let mut desk = desk_of(alloc, given, None)?;
-    let status = run(alloc, words, &mut desk, Vec::new(alloc));
-    Ok(status.number() == number && desk.said() == said)
-}
-
-/// The bytes of the file that a run with these words over the pulse writes under this name, or none.
-fn written(alloc: Global, words: &[&str], name: &str) -> Result<Vec<u8>, OutOfMemory> {
-    let mut desk = desk_of(alloc, &[("m", PULSE), ("f", GLITCH)], None)?;
-    let _status = run(alloc, words, &mut desk, Vec::new(alloc));
-    let bytes: &[u8] = match desk.file(name) {
-        Some(bytes) => bytes,
-        None => &[],
-    };
-    Ok(Vec::from_slice(alloc, bytes)?)
-}
-
-/// A call that fails, with the bytes that it keeps; and how many bytes then stand of the extension and of the certificate, where
-/// they were begun, and of what is said.
+/// What stands of a file.
 #[derive(Clone, Copy)]
-struct Failing {
-    call: CallKind,
-    nth: u64,
-    kept: u64,
-    extended: Option<usize>,
-    cert: Option<usize>,
-    said: usize,
+enum Stands {
+    Nothing,
+    First(usize),
+    Whole,
 }
 
-/// Whether so many bytes of the whole stand in a file, or it is absent where none is counted.
-fn stands(file: Option<&[u8]>, whole: &[u8], count: Option<usize>) -> bool {
-    match file {
-        Some(bytes) => match count {
-            Some(count) => count <= whole.len() && bytes == &whole[..count],
+/// A call that fails, which of its kind it is, and the bytes that it keeps; what then stands of the extension and of the
+/// certificate, and how many bytes of what is said.
+type Failing = (CallKind, u64, u64, Stands, Stands, usize);
+
+static FAILING: [Failing; 7] = [
+    (CallKind::Read, 1, 0, Stands::Nothing, Stands::Nothing, 0),
+    (CallKind::Read, 2, 0, Stands::Nothing, Stands::Nothing, 0),
+    (CallKind::Start, 1, 0, Stands::Nothing, Stands::Nothing, 0),
+    (
+        CallKind::Append,
+        1,
+        10,
+        Stands::First(10),
+        Stands::Nothing,
+        0,
+    ),
+    (CallKind::Start, 2, 0, Stands::Whole, Stands::Nothing, 0),
+    (CallKind::Append, 2, 0, Stands::Whole, Stands::First(0), 0),
+    (CallKind::Say, 1, 5, Stands::Whole, Stands::Whole, 5),
+];
+
+/// Whether so much of the whole stands in a file.
+fn is_there(file: Option<&[u8]>, whole: &[u8], part: Stands) -> bool {
+    match part {
+        Stands::Nothing => file.is_none(),
+        Stands::First(count) => match file {
+            Some(bytes) => count <= whole.len() && bytes == &whole[..count],
             None => false,
         },
-        None => count.is_none(),
+        Stands::Whole => file == Some(whole),
     }
 }
 
 /// Whether the analysis of the pulse ends so, where its call fails and it would write these files.
 fn stops(alloc: Global, row: &Failing, extended: &[u8], cert: &[u8]) -> Result<bool, OutOfMemory> {
-    let fail = Fail {
-        call: row.call,
-        nth: row.nth,
-        kept: row.kept,
-    };
-    let mut desk = desk_of(alloc, &[("m", PULSE), ("f", GLITCH)], Some(fail))?;
-    let status = run(alloc, &ANALYSE, &mut desk, Vec::new(alloc));
+    let (call, nth, kept, _, _, _) = *row;
+    let mut desk = desk_of(alloc, &GIVEN, &[Fail { call, nth, kept }])?;
+    let number = ran(alloc, &ANALYSE, &mut desk, Vec::new(alloc));
     Ok(
-        status.number() == 7
-            && stands(desk.file("x"), extended, row.extended)
-            && stands(desk.file("c"), cert, row.cert)
-            && stands(Some(desk.said()), b"faults 1\n", Some(row.said)),
+        number == 7
+            && is_there(desk.file("x"), extended, row.3)
+            && is_there(desk.file("c"), cert, row.4)
+            && is_there(Some(desk.said()), b"faults 1\n", Stands::First(row.5)),
     )
-}
-
-/// Whether each does.
-fn all_stop(
-    alloc: Global,
-    rows: &[Failing],
-    extended: &[u8],
-    cert: &[u8],
-) -> Result<bool, OutOfMemory> {
-    for row in rows {
-        if !stops(alloc, row, extended, cert)? {
-            return Ok(false);
-        }
-    }
-    Ok(true)
-}
-
-/// A call that fails and keeps so many bytes, with so many that then stand of the extension and of the certificate.
-fn failing_call(
-    call: CallKind,
-    nth: u64,
-    kept: u64,
-    extended: Option<usize>,
-    cert: Option<usize>,
-) -> Failing {
-    Failing {
-        call,
-        nth,
-        kept,
-        extended,
-        cert,
-        said: 0,
-    }
 }
 
 #[test]
 fn a_failing_desk_leaves_a_part_of_an_analysis(rt: HostRuntime) -> Result<(), OutOfMemory> {
-    let alloc = rt.alloc();
-    let extended = written(alloc, &EXTEND, "x")?;
-    let cert = written(alloc, &ANALYSE, "c")?;
+    let extended = written(rt.alloc(), &GIVEN, &EXTEND, "x")?;
+    let cert = written(rt.alloc(), &GIVEN, &ANALYSE, "c")?;
     assert!(rt; extended.starts_with(b"MODULE mai") && !cert.is_empty());
-    let whole = Some(extended.len());
-    let mut last = failing_call(CallKind::Say, 1, 5, whole, Some(cert.len()));
-    last.said = 5;
-    let rows = [
-        failing_call(CallKind::Read, 1, 0, None, None),
-        failing_call(CallKind::Read, 2, 0, None, None),
-        failing_call(CallKind::Start, 1, 0, None, None),
-        failing_call(CallKind::Append, 1, 10, Some(10), None),
-        failing_call(CallKind::Start, 2, 0, whole, None),
-        failing_call(CallKind::Append, 2, 0, whole, Some(0)),
-        last,
-    ];
-    assert!(rt; all_stop(alloc, &rows, &extended, &cert)?);
+    for (i, row) in FAILING.iter().enumerate() {
+        assert!(rt; stops(rt.alloc(), row, &extended, &cert)?, "row {i}");
+    }
     Ok(())
 }
 
-/// A model with so many instances of a module without variables.
-fn with_instances(alloc: Global, count: u32) -> Result<Vec<u8>, OutOfMemory> {
-    let mut text = Vec::from_slice(alloc, b"MODULE Leaf MODULE main VAR")?;
-    for i in 1..=count {
-        let declared = format!(in alloc; " e{i} : Leaf;")?;
-        text.extend_from_slice(declared.as_bytes())?;
+/// Whether the model is extended by no instructions with this number and this text.
+fn extends(alloc: Global, model: &[u8], number: i32, said: &[u8]) -> Result<bool, OutOfMemory> {
+    let given = [("m", Some(model)), ("f", Some(b"".as_slice()))];
+    ends(alloc, &given, &EXTEND, number, said)
+}
+
+/// Models that are cut, and what is said of them.
+static CUT: [(&[u8], &[u8]); 2] = [
+    (b"MODULE", b"refused model parse 2 at 6\n"),
+    (
+        b"MODULE main VAR x : boolean",
+        b"refused model parse 2 at 27\n",
+    ),
+];
+
+fn longest_model_is_read(alloc: Global) -> Result<bool, OutOfMemory> {
+    let blank = spaces(alloc, 1_048_576)?;
+    extends(alloc, &blank, 3, b"refused model flat 1 at 0\n")
+}
+
+/// The number behind that of the last of a model's instances, which count from 1, the number that its extension ends
+/// with, and what it says.
+static INSTANCES: [(u32, i32, &[u8]); 2] = [
+    (1000, 0, b"faults 0\nextended\n"),
+    (1001, 3, b"refused model flat 14 at 1002\n"),
+];
+
+fn instances_hold(alloc: Global, last: u32, number: i32, said: &[u8]) -> Result<bool, OutOfMemory> {
+    let model = declared(alloc, b"MODULE Leaf MODULE main VAR", "e", "Leaf", 1, last)?;
+    extends(alloc, &model, number, said)
+}
+
+#[test]
+fn cut_models_and_limits_are_told(rt: HostRuntime) -> Result<(), OutOfMemory> {
+    for (i, (model, said)) in CUT.iter().enumerate() {
+        assert!(rt; extends(rt.alloc(), model, 3, said)?, "row {i}");
     }
-    Ok(text)
+    assert!(rt; longest_model_is_read(rt.alloc())?);
+    for (last, number, said) in &INSTANCES {
+        assert!(rt;
+            instances_hold(rt.alloc(), *last, *number, said)?,
+            "before {last}"
+        );
+    }
+    Ok(())
 }
 
 /// A text that stands so many times, joined by a sign.
@@ -199,11 +155,6 @@ fn times(alloc: Global, count: u32, text: &str, sign: &str) -> Result<String, Ou
     Ok(all)
 }
 
-/// Whether the model is extended by no instructions with this number and this text.
-fn extends(alloc: Global, model: &[u8], number: i32, said: &[u8]) -> Result<bool, OutOfMemory> {
-    ends(alloc, &[("m", model), ("f", b"")], &EXTEND, number, said)
-}
-
 /// Whether the lamp with these bytes as trace is replayed for this top event with this number and this text.
 fn replays(
     alloc: Global,
@@ -215,43 +166,40 @@ fn replays(
     let words = [
         "replay", "--model", "m", "--faults", "f", "--trace", "t", "--top", top,
     ];
-    ends(
+    let given = [("m", Some(LAMP)), ("f", Some(DARK)), ("t", Some(trace))];
+    ends(alloc, &given, &words, number, said)
+}
+
+fn long_trace_is_refused(alloc: Global) -> Result<bool, OutOfMemory> {
+    let long = spaces(alloc, 16_777_217)?;
+    replays(
         alloc,
-        &[("m", LAMP), ("f", DARK), ("t", trace)],
-        &words,
-        number,
-        said,
+        &long,
+        "on",
+        6,
+        b"refused trace length 1 at 16777216\n",
     )
 }
 
+/// How often a text stands in a top event, the text, the sign that joins them, and what is said.
+type Repeated = (u32, &'static str, &'static str, &'static [u8]);
+
+static TOPS: [Repeated; 2] = [
+    (65_537, " ", "", b"refused top length 1 at 65536\n"),
+    (725, "0*0=0", "&", b"refused top type 9 at 0\n"),
+];
+
+fn top_is_refused(alloc: Global, row: &Repeated) -> Result<bool, OutOfMemory> {
+    let top = times(alloc, row.0, row.1, row.2)?;
+    replays(alloc, b"", &top, 5, row.3)
+}
+
 #[test]
-fn cut_files_and_limits_are_told(rt: HostRuntime) -> Result<(), OutOfMemory> {
-    let alloc = rt.alloc();
-    assert!(rt; extends(alloc, b"MODULE", 3, b"refused model parse 2 at 6\n")?);
-    let cut = b"MODULE main VAR x : boolean";
-    assert!(rt; extends(alloc, cut, 3, b"refused model parse 2 at 27\n")?);
-    let mut blank: Vec<u8> = Vec::new(alloc);
-    blank.resize(1_048_576, b' ')?;
-    assert!(rt; extends(alloc, &blank, 3, b"refused model flat 1 at 0\n")?);
-    let most = with_instances(alloc, 999)?;
-    assert!(rt; extends(alloc, &most, 0, b"faults 0\nextended\n")?);
-    let more = with_instances(alloc, 1000)?;
-    assert!(rt; extends(alloc, &more, 3, b"refused model flat 14 at 1002\n")?);
-    let mut long: Vec<u8> = Vec::new(alloc);
-    long.resize(16_777_217, b' ')?;
-    assert!(rt;
-        replays(
-            alloc,
-            &long,
-            "on",
-            6,
-            b"refused trace length 1 at 16777216\n"
-        )?
-    );
-    let spaces = times(alloc, 65_537, " ", "")?;
-    assert!(rt; replays(alloc, b"", &spaces, 5, b"refused top length 1 at 65536\n")?);
-    let costly = times(alloc, 725, "0*0=0", "&")?;
-    assert!(rt; replays(alloc, b"", &costly, 5, b"refused top type 9 at 0\n")?);
+fn long_traces_and_long_or_costly_tops_are_told(rt: HostRuntime) -> Result<(), OutOfMemory> {
+    assert!(rt; long_trace_is_refused(rt.alloc())?);
+    for (i, row) in TOPS.iter().enumerate() {
+        assert!(rt; top_is_refused(rt.alloc(), row)?, "row {i}");
+    }
     Ok(())
 }
 
@@ -268,96 +216,75 @@ const SECOND: &[u8] =
 const THIRD: &[u8] =
     b"moment 2\npulse = FALSE\nseen = TRUE\npulse#nominal = FALSE\nP#mode = P#nominal\n";
 
-/// The part of a certificate from the line of its invariant on.
-fn tail_of(bytes: &[u8]) -> &[u8] {
-    for at in 0..bytes.len() {
-        let rest = &bytes[at..];
-        if rest.starts_with(b"invariant ") {
-            return rest;
-        }
-    }
-    &[]
-}
+/// The lines of a set with its trace, in pieces.
+type Set = [&'static [u8]; 4];
 
-/// The lines of a set with its trace, in pieces, and how a check of the certificate with them ends.
-#[derive(Clone, Copy)]
-struct Altered<'a> {
-    pieces: [&'a [u8]; 4],
+static TRUE_SET: Set = [b"set 1\ntrace 15\n", FIRST, SECOND, THIRD];
+
+/// Sets with which the certificate is not accepted, and the line that says it.
+static ALTERED: [(Set, &[u8]); 5] = [
+    (
+        [b"set 2\ntrace 15\n", FIRST, SECOND, THIRD],
+        b"not accepted line 4 rule 2\n",
+    ),
+    (
+        [b"set\ntrace 15\n", FIRST, SECOND, THIRD],
+        b"not accepted line 5 rule 7\n",
+    ),
+    (
+        [
+            b"set 1\ntrace 15\n",
+            FIRST,
+            b"moment 1\npulse = FALSE\nseen = FALSE\npulse#nominal = FALSE\nP#mode = P#glitch\n",
+            THIRD,
+        ],
+        b"not accepted line 5 rule 5\n",
+    ),
+    (
+        [b"set 1\ntrace 10\n", FIRST, SECOND, b""],
+        b"not accepted line 5 rule 6\n",
+    ),
+    (
+        [
+            b"set 1\ntrace 15\n",
+            b"moment 0\npulse = FALSE\nseen = 2\npulse#nominal = FALSE\nP#mode = P#nominal\n",
+            SECOND,
+            THIRD,
+        ],
+        b"not accepted line 5 rule 4\n",
+    ),
+];
+
+static CHECK: [&str; 9] = [
+    "check", "--model", "m", "--faults", "f", "--top", PASSED, "--cert", "c",
+];
+
+/// Whether the check of a certificate with this set and these lines behind it ends with this number and says this text.
+fn is_judged(
+    alloc: Global,
+    set: &Set,
+    tail: &[u8],
     number: i32,
-    said: &'a [u8],
-}
-
-/// Whether each check ends as its row says.
-fn all_judged(alloc: Global, tail: &[u8], rows: &[Altered]) -> Result<bool, OutOfMemory> {
-    let words = [
-        "check", "--model", "m", "--faults", "f", "--top", PASSED, "--cert", "c",
+    said: &[u8],
+) -> Result<bool, OutOfMemory> {
+    let set = joined(alloc, set)?;
+    let bytes = joined(alloc, &[HEAD, &set, tail])?;
+    let given = [
+        ("m", Some(PULSE)),
+        ("f", Some(GLITCH)),
+        ("c", Some(bytes.as_slice())),
     ];
-    for row in rows {
-        let mut bytes = Vec::from_slice(alloc, HEAD)?;
-        for piece in row.pieces {
-            bytes.extend_from_slice(piece)?;
-        }
-        bytes.extend_from_slice(tail)?;
-        let given = [("m", PULSE), ("f", GLITCH), ("c", bytes.as_slice())];
-        if !ends(alloc, &given, &words, row.number, row.said)? {
-            return Ok(false);
-        }
-    }
-    Ok(true)
-}
-
-/// A certificate that is not accepted.
-fn refused<'a>(pieces: [&'a [u8]; 4], said: &'a [u8]) -> Altered<'a> {
-    Altered {
-        pieces,
-        number: 6,
-        said,
-    }
+    ends(alloc, &given, &CHECK, number, said)
 }
 
 #[test]
 fn altered_certificates_are_not_accepted(rt: HostRuntime) -> Result<(), OutOfMemory> {
-    let alloc = rt.alloc();
-    let cert = written(alloc, &ANALYSE, "c")?;
-    let tail = tail_of(&cert);
-    let rows = [
-        Altered {
-            pieces: [b"set 1\ntrace 15\n", FIRST, SECOND, THIRD],
-            number: 0,
-            said: b"accepted\n",
-        },
-        refused(
-            [b"set 2\ntrace 15\n", FIRST, SECOND, THIRD],
-            b"not accepted line 4 rule 2\n",
-        ),
-        refused(
-            [b"set\ntrace 15\n", FIRST, SECOND, THIRD],
-            b"not accepted line 5 rule 7\n",
-        ),
-        refused(
-            [
-                b"set 1\ntrace 15\n",
-                FIRST,
-                b"moment 1\npulse = FALSE\nseen = FALSE\npulse#nominal = FALSE\nP#mode = P#glitch\n",
-                THIRD,
-            ],
-            b"not accepted line 5 rule 5\n",
-        ),
-        refused(
-            [b"set 1\ntrace 10\n", FIRST, SECOND, b""],
-            b"not accepted line 5 rule 6\n",
-        ),
-        refused(
-            [
-                b"set 1\ntrace 15\n",
-                b"moment 0\npulse = FALSE\nseen = 2\npulse#nominal = FALSE\nP#mode = P#nominal\n",
-                SECOND,
-                THIRD,
-            ],
-            b"not accepted line 5 rule 4\n",
-        ),
-    ];
-    assert!(rt; all_judged(alloc, tail, &rows)?);
+    let cert = written(rt.alloc(), &GIVEN, &ANALYSE, "c")?;
+    let tail = rest_from(&cert, b"invariant ");
+    assert!(rt; is_judged(rt.alloc(), &TRUE_SET, tail, 0, b"accepted\n")?);
+    for (i, (set, said)) in ALTERED.iter().enumerate() {
+        assert!(rt; is_judged(rt.alloc(), set, tail, 6, said)?, "row {i}");
+    }
     Ok(())
 }
 
@@ -369,19 +296,34 @@ const CONTAINING: &[u8] =
 const FLIPPED: &[u8] =
     b"xsap-certificate 1\nbits 1 faults 0\nsets 0\ninvariant 1\nclause 1\nfirst 1\nstep -2 : 1 6 4\nnext 1\nstep -3 : 6 4 7\nbad 1\nstep : 2 3\nend\n";
 
+/// The files of a check, its words, and what it says.
+type Judged = ([File<'static>; 3], [&'static str; 9], &'static [u8]);
+
+static JUDGED: [Judged; 2] = [
+    (
+        [
+            ("m", Some(LAMP)),
+            ("f", Some(DARK)),
+            ("c", Some(CONTAINING)),
+        ],
+        [
+            "check", "--model", "m", "--faults", "f", "--top", "on", "--cert", "c",
+        ],
+        b"not accepted line 10 rule 3\n",
+    ),
+    (
+        [("m", Some(TINY)), ("f", Some(b"")), ("c", Some(FLIPPED))],
+        [
+            "check", "--model", "m", "--faults", "f", "--top", "x", "--cert", "c",
+        ],
+        b"not accepted line 5 rule 8\n",
+    ),
+];
+
 #[test]
 fn sets_and_clauses_are_judged_in_their_lines(rt: HostRuntime) -> Result<(), OutOfMemory> {
-    let alloc = rt.alloc();
-    let lamp = [
-        "check", "--model", "m", "--faults", "f", "--top", "on", "--cert", "c",
-    ];
-    let given = [("m", LAMP), ("f", DARK), ("c", CONTAINING)];
-    assert!(rt; ends(alloc, &given, &lamp, 6, b"not accepted line 10 rule 3\n")?);
-    let tiny = [
-        "check", "--model", "m", "--faults", "f", "--top", "x", "--cert", "c",
-    ];
-    let no_faults: &[u8] = b"";
-    let given = [("m", TINY), ("f", no_faults), ("c", FLIPPED)];
-    assert!(rt; ends(alloc, &given, &tiny, 6, b"not accepted line 5 rule 8\n")?);
+    for (i, (given, words, said)) in JUDGED.iter().enumerate() {
+        assert!(rt; ends(rt.alloc(), given, words, 6, said)?, "row {i}");
+    }
     Ok(())
 }

@@ -1,14 +1,17 @@
 //! The tests of the whole program over desks in memory.
 //!
 //! A crate with tests is proved a second time with them, so the crate of the top call has none: they stand here. The
-//! modules: `extensions` (models that are extended, and every kind of refusal), `replays`, `analyses` (with tables and
-//! generated cases), `certificates` and `hostile` (failing desks, cut files, altered certificates).
+//! modules: `desks` (what the others share), `extensions` (models that are extended, and every kind of refusal), `replays`,
+//! `analyses` (with tables and generated cases), `certificates` and `hostile` (failing desks, cut files, altered
+//! certificates).
 #![tactic(auto)]
 
 #[cfg(test)]
 mod analyses;
 #[cfg(test)]
 mod certificates;
+#[cfg(test)]
+mod desks;
 #[cfg(test)]
 mod extensions;
 #[cfg(test)]

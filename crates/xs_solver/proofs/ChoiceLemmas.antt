@@ -1,7 +1,7 @@
 -- What is known of a trail from its free choices, and from a variable below which none is free.
 use Rattle.std.proofs.Common.{zero, suc, ◌≡◌, ◌≢◌, ◌<◌, ◌≤◌, ◌+◌, ◌⊎◌, inl, inr, ⊎_elim, ℕ, Bool, true, List, [], ◌∷◌, ◌++◌, All, length, reverse, replicate, get_or, set, Some, None, sym, ap, ◌∙◌, subst, arith}
 use Rattle.std.specs.Prelude.{slice_get}
-use Rattle.std.proofs.lemmas.List.{reverse-append, length-set, length-replicate, get_or-set_other}
+use Rattle.std.proofs.lemmas.List.{reverse-append, length-append, get_or_append_left, length-set, length-replicate, get_or-set_other}
 use Rattle.std.proofs.lemmas.Bool.{cases_lt, cases_eq}
 use Rattle.std.proofs.lemmas.List.Elements.{All-weaker}
 use Rattle.xs_lits.specs.Literal.{Literal}
@@ -97,6 +97,14 @@ least_kept a n v least above = record {
   where
     other : (x : ℕ) → x < n → x ≢ v
     other x lt same = omega (arith, lt, same, above)
+
+-- a variable more is free, and is not below the others
+pub least_more : (a b : Assignment) (n : ℕ) → b ≡ a ++ None ∷ [] → IsLeast a n → IsLeast b n
+least_more a b n more least = record {
+  positive = least.positive;
+  within = omega (arith, least.within, ap length more, length-append a (None ∷ []));
+  taken = λ x some lt. λ is. least.taken x some lt (sym (ap (λ (d : Assignment). get_or d x None) more ∙ get_or_append_left a (None ∷ []) None x (omega (arith, lt, least.within))) ∙ is);
+}
 
 -- a trail without literals is sound
 pub sound_first : (clauses : List (List Literal)) (assumptions : List Literal) (vars : ℕ) (t : TrailValue) → t.values ≡ all_free vars → t.entries ≡ [] → All (All (IsUpTo vars)) clauses → IsSound clauses assumptions t

@@ -8,17 +8,17 @@ use Rattle.std.proofs.lemmas.List.{get_or_append_left, length-append}
 use Rattle.std.proofs.lemmas.List.Elements.{All-nil, All-push, All-contains}
 use Rattle.std.proofs.lemmas.List.Folds.{Any-from_list_any}
 use Rattle.xs_lits.specs.Literal.{Literal, signed}
-use Rattle.xs_lits.specs.Assignment.{Assignment, value_of, is_true_in}
+use Rattle.xs_lits.specs.Assignment.{Assignment, IsInRange, value_of, is_true_in}
 use Rattle.xs_lits.specs.Truth.{truth_of}
 use Rattle.xs_lits.specs.Models.{TotalAssignment, clause_value, Satisfies}
-use Rattle.xs_lits.specs.declared.clause.Truth.TheVariants.{False}
+use Rattle.xs_lits.specs.declared.clause.Truth.{Truth}
+use Rattle.xs_lits.specs.declared.clause.Truth.TheVariants.{True, False, Unit as UnitClause, Unknown}
 use Rattle.xs_lits.proofs.ListLemmas.{All-from_list_any}
 use Rattle.xs_lits.proofs.ModelLemmas.{All-from_Satisfies, Satisfies-from_All}
-use Rattle.xs_lits.proofs.TruthLemmas.{truth_of-False, value_true}
-use Rattle.xs_derive.specs.Derivation.{IsUpTo}
+use Rattle.xs_lits.proofs.TruthLemmas.{truth_of-True, truth_of-False, value_true}
 use Rattle.xs_derive.proofs.ModelLemmas.{FollowsFrom-EndsFalse}
 use Rattle.xs_derive.specs.declared.step.Step.{Step}
-use Rattle.xs_solver.specs.Found.{IsQuiet}
+use Rattle.xs_solver.specs.Found.{IsTrueIn}
 use Rattle.xs_solver.specs.Search.{AreSteps, with_steps, Grows, IsSolution, IsRefutation}
 use Rattle.xs_solver.specs.Verdict.{IsFull, IsCore, IsAdvance, IsVerdict}
 use Rattle.xs_solver.specs.TrailRecord.{TrailValue}
@@ -45,6 +45,24 @@ has_value a l ne e = by_place (get_or a l.var None) ne e where
   by_place None ne e = ne refl
   by_place (Some b) ne e = none-some _ (sym e)
 
+-- where every variable has a value, no clause is unknown
+pub never_unknown : (a : Assignment) (c : List Literal) → All (IsInRange a) c → ((x : ℕ) → 0 < x → x < length a → get_or a x None ≢ None) → All (λ (l : Literal). 1 ≤ l.var) c → truth_of a c ≡ Unknown → ⊥
+never_unknown a c in_range taken positive is =
+    let any = clause_holds a c (λ j e lt. has_value a (get_or c j e) (taken (get_or c j e).var (positive j e lt) (in_range j e lt))) (λ f. not_false (sym f ∙ is)) in
+    not_true (sym ((truth_of-True a c).1 any) ∙ is)
+  where
+    not_false : ◌≡◌ {A = Truth} False Unknown → ⊥
+    not_false e = cc
+
+    not_true : ◌≡◌ {A = Truth} True Unknown → ⊥
+    not_true e = cc
+
+pub only_true : (t : Truth) → (t ≡ False → ⊥) → ((l : Literal) → t ≡ UnitClause l → ⊥) → (t ≡ Unknown → ⊥) → t ≡ True
+only_true True f u n = refl
+only_true False f u n = absurd (f refl)
+only_true (UnitClause l) f u n = absurd (u l refl)
+only_true Unknown f u n = absurd (n refl)
+
 All-first : (P : List Literal → Type 0) (ss : List Step) (cs : List (List Literal)) → All P (with_steps cs ss) → All P cs
 All-first P [] cs all = all
 All-first P (s ∷ ss) cs all = front cs (All-first P ss (cs ++ s.clause ∷ []) all) where
@@ -54,18 +72,10 @@ All-first P (s ∷ ss) cs all = front cs (All-first P ss (cs ++ s.clause ∷ [])
     from_front : (k : ℕ) (e : List Literal) → k < length (d ∷ ds) → P (get_or (d ∷ ds) k e)
     from_front k e lt = subst P ((get_or_append_left (d ∷ ds) (s.clause ∷ []) e k lt)) (all k e (omega (arith, length-append (d ∷ ds) (s.clause ∷ []))))
 
-pub solution : (vars : ℕ) (givens ds : List (List Literal)) (assumptions : List Literal) (a : Assignment) (kept_old kept_new : Option (List Step)) → Grows vars givens kept_old ds kept_new → All (All (λ l. 1 ≤ l.var)) givens → All (All (IsUpTo vars)) givens → length a ≡ vars + 1 → IsFull ds assumptions a → IsSolution vars givens assumptions a
-solution vars givens ds assumptions a kept_old kept_new grows positive in_range places full = record {
+pub solution : (vars : ℕ) (givens ds : List (List Literal)) (assumptions : List Literal) (a : Assignment) (kept_old kept_new : Option (List Step)) → Grows vars givens kept_old ds kept_new → length a ≡ vars + 1 → IsFull ds assumptions a → IsSolution vars givens assumptions a
+solution vars givens ds assumptions a kept_old kept_new grows places full = record {
   places = places;
-  clauses_true = λ k d lt.
-      let c = get_or givens k d in
-      let quiet = All-first (IsQuiet a) grows.steps givens (subst (All (IsQuiet a)) grows.clauses full.quiet) k d lt in
-      clause_holds a c
-      (λ j e lt'.
-      let above = positive k d lt j e lt' in
-      let below = in_range k d lt j e lt' in
-      has_value a (get_or c j e) (full.taken (get_or c j e).var above (omega (arith, below, places))))
-      quiet;
+  clauses_true = λ k d lt. (truth_of-True a (get_or givens k d)).0 (All-first (IsTrueIn a) grows.steps givens (subst (All (IsTrueIn a)) grows.clauses full.all_true) k d lt);
   assumptions_true = full.assumed;
 }
 
@@ -90,8 +100,8 @@ refutation vars givens ds assumptions c kept_old kept_new grows core =
       listed = listed;
     }
 
-pub verdict_of : (vars : ℕ) (givens ds : List (List Literal)) (assumptions : List Literal) (old new : TrailValue) (kept_old kept_new : Option (List Step)) (v : Verdict) → Grows vars givens kept_old ds kept_new → All (All (λ l. 1 ≤ l.var)) givens → All (All (IsUpTo vars)) givens → length old.values ≡ vars + 1 → IsAdvance ds assumptions old new (Some v) → IsVerdict vars givens assumptions kept_old kept_new v
-verdict_of vars givens ds assumptions old new kept_old kept_new (Sat a) grows positive in_range places h =
-    solution vars givens ds assumptions a kept_old kept_new grows positive in_range (h.1 ∙ places) h.0
-verdict_of vars givens ds assumptions old new kept_old kept_new (Unsat c) grows positive in_range places h =
+pub verdict_of : (vars : ℕ) (givens ds : List (List Literal)) (assumptions : List Literal) (old new : TrailValue) (kept_old kept_new : Option (List Step)) (v : Verdict) → Grows vars givens kept_old ds kept_new → length old.values ≡ vars + 1 → IsAdvance ds assumptions old new (Some v) → IsVerdict vars givens assumptions kept_old kept_new v
+verdict_of vars givens ds assumptions old new kept_old kept_new (Sat a) grows places h =
+    solution vars givens ds assumptions a kept_old kept_new grows (h.1 ∙ places) h.0
+verdict_of vars givens ds assumptions old new kept_old kept_new (Unsat c) grows places h =
     refutation vars givens ds assumptions c kept_old kept_new grows h

@@ -3,7 +3,7 @@ use Rattle.std.specs.Prelude.{◌≡◌, ◌≢◌, ◌<◌, ℕ, List, All, Con
 use Rattle.xs_lits.specs.Literal.{Literal}
 use Rattle.xs_lits.specs.Assignment.{Assignment, value_of}
 use Rattle.xs_lits.specs.Truth.{truth_of}
-use Rattle.xs_lits.specs.declared.clause.Truth.TheVariants.{False, Unit as UnitClause}
+use Rattle.xs_lits.specs.declared.clause.Truth.TheVariants.{True, False, Unit as UnitClause}
 use Rattle.xs_derive.specs.Hints.{truth_at}
 use Rattle.xs_solver.specs.Choice.{HasFree}
 use Rattle.xs_solver.specs.declared.find.Found.{Found}
@@ -11,15 +11,15 @@ use Rattle.xs_solver.specs.declared.find.Found.TheVariants.{Conflict, Next, Noth
 use Rattle.xs_solver.specs.declared.find.Pick.{Pick}
 use Rattle.xs_solver.specs.declared.find.Pick.TheVariants.{Assume, Refuted, Choose, Done}
 
--- the clause is not false
-abbrev pub IsQuiet : Assignment → List Literal → Type 0
-IsQuiet a c = truth_of a c ≢ False
+-- the clause is true
+abbrev pub IsTrueIn : Assignment → List Literal → Type 0
+IsTrueIn a c = truth_of a c ≡ True
 
--- what a look at all clauses finds is false or unit; where it finds nothing, no clause is false
+-- what a look at all clauses finds is false or unit; where it finds nothing, every clause is true
 abbrev pub IsFound : List (List Literal) → Assignment → Found → Type 0
 IsFound clauses a (Conflict number) = truth_at clauses a number ≡ Some False
 IsFound clauses a (Next number l) = truth_at clauses a number ≡ Some (UnitClause l)
-IsFound clauses a Nothing = All (IsQuiet a) clauses
+IsFound clauses a Nothing = All (IsTrueIn a) clauses
 
 -- what propagation finds is false or unit; where it finds nothing, nothing is said
 abbrev pub IsUseful : List (List Literal) → Assignment → Found → Type 0

@@ -1,6 +1,6 @@
 //! The model of eight stages, the instructions and the top event, as they are printed.
 
-use std::test::Fail;
+use std::alloc::Global;
 use xs_fei::print_instructions;
 use xs_generate::{generated_instructions, generated_model, generated_top};
 use xs_tree::{print_expr, print_program};
@@ -12,16 +12,32 @@ const EIGHT_STAGES: &[u8] =
 const FAULTS: &[u8] =
     b"EXTENSION OF MODULE Relay\n  SLICE R AFFECTS out WITH\n    MODE off : Permanent StuckAt(FALSE);\n";
 
+fn model_text(alloc: Global) -> Option<Vec<u8>> {
+    let model = generated_model(alloc, 1, 8).ok()?;
+    print_program(alloc, &model).ok()
+}
+
+fn faults_text(alloc: Global) -> Option<Vec<u8>> {
+    let faults = generated_instructions(alloc).ok()?;
+    print_instructions(alloc, &faults).ok()
+}
+
+fn top_text(alloc: Global) -> Option<Vec<u8>> {
+    let top = generated_top(alloc).ok()?;
+    print_expr(alloc, &top).ok()
+}
+
+/// Whether there is a text, and it is this one.
+fn is_text(found: Option<Vec<u8>>, wanted: &[u8]) -> bool {
+    match found {
+        Some(text) => text.as_slice() == wanted,
+        None => false,
+    }
+}
+
 #[test]
-fn eight_stages_are_printed(rt: HostRuntime) -> Result<(), Fail> {
-    let model = generated_model(rt.alloc(), 1, 8)?;
-    let text = print_program(rt.alloc(), &model)?;
-    assert_eq!(rt; text.as_slice(), EIGHT_STAGES);
-    let faults = generated_instructions(rt.alloc())?;
-    let text = print_instructions(rt.alloc(), &faults)?;
-    assert_eq!(rt; text.as_slice(), FAULTS);
-    let top = generated_top(rt.alloc())?;
-    let text = print_expr(rt.alloc(), &top)?;
-    assert_eq!(rt; text.as_slice(), b"dead".as_slice());
-    Ok(())
+fn eight_stages_are_printed(rt: HostRuntime) {
+    assert!(rt; is_text(model_text(rt.alloc()), EIGHT_STAGES));
+    assert!(rt; is_text(faults_text(rt.alloc()), FAULTS));
+    assert!(rt; is_text(top_text(rt.alloc()), b"dead"));
 }
