@@ -6,8 +6,8 @@ ghost use Rattle.xs_encoding.specs.Inputs.{is_input};
 ghost use Rattle.xs_encoding.specs.Encodable.{IsEncodable, IsFitTop};
 ghost use Rattle.xs_eval.specs.Named.{IsEvaluable};
 
-use crate::clauses::{can_be_true, is_list_of, push_bits};
-use crate::models::{Bits, Place, is_first, program_of, typed_of};
+use crate::clauses::{holds_in, is_list_of};
+use crate::models::{Bits, Place, is_first, model_of, program_of, typed_of};
 use std::alloc::Global;
 use std::process::Abort;
 use std::test::Fail;
@@ -25,6 +25,14 @@ const SWITCHES: &[u8] =
 
 /// The bits of the number and of the switches.
 const BITS: u32 = 5;
+
+/// How these lie.
+const PLACES: &[Place] = &[
+    Place::Plain(4),
+    Place::Plain(2),
+    Place::Plain(2),
+    Place::Plain(2),
+];
 
 /// A top event, the sets that are listed, each with a 0 after it, how many of the last bits are history and how many
 /// faults may have failed; and how many states are bad.
@@ -176,7 +184,6 @@ fn is_open(state: u32, q: &Question<'_>) -> bool {
 /// Whether a list can be made true with the bits of a state exactly where this is a first moment of the model with the
 /// top event, and is open; and of so many states.
 fn has_bad_states(
-    rt: &impl Abort,
     alloc: Global,
     event: &Typed,
     q: &Question<'_>,
@@ -185,16 +192,12 @@ fn has_bad_states(
     requires encodable { IsEncodable (model_tree event.now.model) }
     requires evaluable { IsEvaluable (model_tree event.now.model) }
 {
-    let switch = Place::plain(2);
-    let places = [Place::plain(4), switch, switch, switch];
     let mut count: u32 = 0;
     for state in 0..32u32 {
-        let mut lits = Vec::new(alloc);
-        push_bits(rt, &mut lits, 2, BITS, state)?;
-        let found = can_be_true(rt, alloc, list, &lits)?;
+        let found = holds_in(alloc, list, BITS, state)?;
         let bits = Bits { state, inputs: 0 };
-        let wanted = is_first(rt, alloc, event, &places, bits)? && is_open(state, q);
-        if found != wanted {
+        let wanted = is_first(alloc, event, PLACES, bits)? && is_open(state, q);
+        if found != Some(wanted) {
             return Ok(false);
         }
         count = count.saturating_add(u32::from(wanted));
@@ -204,7 +207,6 @@ fn has_bad_states(
 
 /// Whether the list of a question means its bad states.
 fn has_list(
-    rt: &impl Abort,
     alloc: Global,
     t: &Typed,
     event: &Typed,
@@ -216,10 +218,12 @@ fn has_list(
     requires encodable_event { IsEncodable (model_tree event.now.model) }
     requires evaluable_event { IsEvaluable (model_tree event.now.model) }
 {
+    if q.faults as usize > t.model().variables.len() {
+        return Ok(false);
+    }
     let listed = sets_of(alloc, q.listed)?;
-    assert!(rt; q.faults as usize <= t.model().variables.len());
     let list = bad_clauses(alloc, t, top, &listed, q.faults, q.size)?;
-    has_bad_states(rt, alloc, event, q, &list)
+    has_bad_states(alloc, event, q, &list)
 }
 
 /// Whether the model of a question, with its top event, does.
@@ -227,9 +231,8 @@ fn is_right(rt: &impl Abort, alloc: Global, q: &Question<'_>) -> Result<bool, Fa
     let p = program_of(rt, alloc, &[SWITCHES])?;
     let t = typed_of(rt, alloc, &p)?;
     let top = top_of(rt, alloc, &p, &t, q.top)?;
-    let with_event = program_of(rt, alloc, &[SWITCHES, b" INVAR ", q.top])?;
-    let event = typed_of(rt, alloc, &with_event)?;
-    let right = has_list(rt, alloc, &t, &event, &top, q)?;
+    let event = model_of(rt, alloc, &[SWITCHES, b" INVAR ", q.top])?;
+    let right = has_list(alloc, &t, &event, &top, q)?;
     Ok(right)
 }
 
@@ -247,111 +250,140 @@ fn first_wrong(
     Ok(None)
 }
 
+const QUESTIONS: &[Question<'static>] = &[
+    // as many as there are: nothing is asked
+    Question {
+        top: b"x = 2 | a & c",
+        listed: &[],
+        faults: 3,
+        size: 3,
+        count: 10,
+    },
+    Question {
+        top: b"x = 2 | a & c",
+        listed: &[],
+        faults: 3,
+        size: 2,
+        count: 7,
+    },
+    Question {
+        top: b"x = 2 | a & c",
+        listed: &[],
+        faults: 3,
+        size: 1,
+        count: 2,
+    },
+    Question {
+        top: b"x = 2 | a & c",
+        listed: &[],
+        faults: 3,
+        size: 0,
+        count: 0,
+    },
+    // the sets of one fault and of two
+    Question {
+        top: b"x = 2 | a & c",
+        listed: &[1, 0],
+        faults: 3,
+        size: 3,
+        count: 2,
+    },
+    Question {
+        top: b"x = 2 | a & c",
+        listed: &[1, 3, 0, 2, 0],
+        faults: 3,
+        size: 4,
+        count: 1,
+    },
+    // the empty set has failed whole in every state
+    Question {
+        top: b"x = 2 | a & c",
+        listed: &[0],
+        faults: 3,
+        size: 3,
+        count: 0,
+    },
+    // the last two bits alone are history
+    Question {
+        top: b"x > 0",
+        listed: &[1, 2, 0],
+        faults: 2,
+        size: 1,
+        count: 8,
+    },
+    // no history
+    Question {
+        top: b"TRUE",
+        listed: &[],
+        faults: 0,
+        size: 0,
+        count: 20,
+    },
+];
+
 #[test]
 fn lists_mean_their_bad_states(rt: HostRuntime) -> Result<(), Fail> {
-    let questions = [
-        // as many as there are: nothing is asked
-        Question {
-            top: b"x = 2 | a & c",
-            listed: &[],
-            faults: 3,
-            size: 3,
-            count: 10,
-        },
-        Question {
-            top: b"x = 2 | a & c",
-            listed: &[],
-            faults: 3,
-            size: 2,
-            count: 7,
-        },
-        Question {
-            top: b"x = 2 | a & c",
-            listed: &[],
-            faults: 3,
-            size: 1,
-            count: 2,
-        },
-        Question {
-            top: b"x = 2 | a & c",
-            listed: &[],
-            faults: 3,
-            size: 0,
-            count: 0,
-        },
-        // the sets of one fault and of two
-        Question {
-            top: b"x = 2 | a & c",
-            listed: &[1, 0],
-            faults: 3,
-            size: 3,
-            count: 2,
-        },
-        Question {
-            top: b"x = 2 | a & c",
-            listed: &[1, 3, 0, 2, 0],
-            faults: 3,
-            size: 4,
-            count: 1,
-        },
-        // the empty set has failed whole in every state
-        Question {
-            top: b"x = 2 | a & c",
-            listed: &[0],
-            faults: 3,
-            size: 3,
-            count: 0,
-        },
-        // the last two bits alone are history
-        Question {
-            top: b"x > 0",
-            listed: &[1, 2, 0],
-            faults: 2,
-            size: 1,
-            count: 8,
-        },
-        // no history
-        Question {
-            top: b"TRUE",
-            listed: &[],
-            faults: 0,
-            size: 0,
-            count: 20,
-        },
-    ];
-    assert_eq!(rt; first_wrong(&rt, rt.alloc(), &questions)?, None);
+    let wrong = first_wrong(&rt, rt.alloc(), QUESTIONS)?;
+    assert_eq!(rt; wrong, None);
     Ok(())
+}
+
+const FIRST: &[&[i64]] = &[
+    &[1],
+    &[-4, 2, -1],
+    &[-4, -2, 1],
+    &[4, -2, -1],
+    &[4, 2, 1],
+    &[-4],
+];
+
+const STEP: &[&[i64]] = &[
+    &[1],
+    &[-4, 3, 2],
+    &[-4, -3, -2],
+    &[4, -3, 2],
+    &[4, 3, -2],
+    &[-4],
+];
+
+const BAD: &[&[i64]] = &[&[1], &[2]];
+
+/// Whether the model's lists are those above: of first states, and of steps.
+fn has_lists(alloc: Global, t: &Typed) -> Result<(bool, bool), OutOfMemory>
+    requires { IsEncodable (model_tree t.now.model) }
+{
+    let lists = encode(alloc, t)?;
+    if lists.state_bits != 1 || lists.input_bits != 0 {
+        return Ok((false, false));
+    }
+    let is_first = is_list_of(&lists.first, FIRST);
+    Ok((is_first, is_list_of(&lists.step, STEP)))
+}
+
+/// Whether that of bad states is.
+fn has_bad_list(alloc: Global, t: &Typed, top: &Expr<Flat>) -> Result<bool, OutOfMemory>
+    requires encodable { IsEncodable (model_tree t.now.model) }
+    requires top { IsFitTop (model_tree t.now.model) (flat_tree top.now) }
+{
+    let none = SetList::new(alloc);
+    let bad = bad_clauses(alloc, t, top, &none, 0, 0)?;
+    Ok(is_list_of(&bad, BAD))
+}
+
+/// Whether the lists of first states, steps and bad states are.
+fn worked_out(rt: &impl Abort, alloc: Global) -> Result<((bool, bool), bool), Fail> {
+    let text = b"MODULE main VAR x : boolean; ASSIGN init(x) := FALSE; next(x) := x;";
+    let p = program_of(rt, alloc, &[text])?;
+    let t = typed_of(rt, alloc, &p)?;
+    let lists = has_lists(alloc, &t)?;
+    let top = top_of(rt, alloc, &p, &t, b"x")?;
+    let bad = has_bad_list(alloc, &t, &top)?;
+    Ok((lists, bad))
 }
 
 #[test]
 fn lists_are_those_worked_out(rt: HostRuntime) -> Result<(), Fail> {
-    let alloc = rt.alloc();
-    let text = b"MODULE main VAR x : boolean; ASSIGN init(x) := FALSE; next(x) := x;";
-    let p = program_of(&rt, alloc, &[text])?;
-    let t = typed_of(&rt, alloc, &p)?;
-    let lists = encode(alloc, &t)?;
-    assert_eq!(rt; (lists.state_bits, lists.input_bits), (1, 0));
-    let first: [&[i64]; 6] = [
-        &[1],
-        &[-4, 2, -1],
-        &[-4, -2, 1],
-        &[4, -2, -1],
-        &[4, 2, 1],
-        &[-4],
-    ];
-    assert!(rt; is_list_of(&lists.first, &first));
-    let step: [&[i64]; 6] = [
-        &[1],
-        &[-4, 3, 2],
-        &[-4, -3, -2],
-        &[4, -3, 2],
-        &[4, 3, -2],
-        &[-4],
-    ];
-    assert!(rt; is_list_of(&lists.step, &step));
-    let top = top_of(&rt, alloc, &p, &t, b"x")?;
-    let bad = bad_clauses(alloc, &t, &top, &SetList::new(alloc), 0, 0)?;
-    let wanted: [&[i64]; 2] = [&[1], &[2]];
-    assert!(rt; is_list_of(&bad, &wanted));
+    let found = worked_out(&rt, rt.alloc())?;
+    assert_eq!(rt; found, ((true, true), true));
     Ok(())
 }

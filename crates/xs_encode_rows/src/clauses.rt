@@ -1,6 +1,5 @@
 //! What is asked of clause lists: whether they can be made true with given bits, and whether they are those of numbers.
 use std::alloc::Global;
-use std::process::Abort;
 use xs_adviser::Panel;
 use xs_derive::recorder::KeepNone;
 use xs_lits::clause::ClauseList;
@@ -8,18 +7,22 @@ use xs_lits::lit::Lit;
 use xs_solver::solve::{Verdict, can_solve, solve};
 use xs_value::OutOfMemory;
 
+/// The literal of a variable from 1 to a thousand.
+fn literal(variable: u64, negated: bool) -> Lit {
+    Lit::new(variable.max(1).min(1000), negated)
+}
+
 /// Gives so many variables from a place on the lowest bits of a number.
 pub fn push_bits(
-    rt: &impl Abort,
     lits: &mut Vec<Lit>,
     place: u64,
     count: u32,
     bits: u32,
 ) -> Result<(), OutOfMemory> {
-    assert!(rt; place >= 1 && place < 1000);
     let mut left = bits;
     for i in 0..count {
-        lits.push(Lit::new(place + u64::from(i), left.is_multiple_of(2)))?;
+        let variable = place.wrapping_add(u64::from(i));
+        lits.push(literal(variable, left.is_multiple_of(2)))?;
         left /= 2;
     }
     Ok(())
@@ -34,23 +37,42 @@ fn highest_of(lits: &[Lit], other: u64) -> u64 {
     highest
 }
 
-/// Whether a list can be made true with these literals.
-pub fn can_be_true(
-    rt: &impl Abort,
-    alloc: Global,
-    list: &ClauseList,
-    lits: &[Lit],
-) -> Result<bool, OutOfMemory> {
+/// The highest variable of a list and of literals.
+fn vars_of(list: &ClauseList, lits: &[Lit]) -> u64 {
     let mut vars = highest_of(lits, 1);
     for clause in list.as_slice() {
         vars = highest_of(clause.lits(), vars);
     }
-    let mut panel = Panel::new(Vec::new(alloc));
-    assert!(rt; can_solve(list, vars, lits));
-    match solve(alloc, list, vars, lits, &mut panel, &mut KeepNone)? {
-        Verdict::Sat(_) => Ok(true),
-        Verdict::Unsat(_) => Ok(false),
+    vars
+}
+
+/// Whether a list can be made true with these literals, or None where this cannot be asked.
+pub fn can_be_true(
+    alloc: Global,
+    list: &ClauseList,
+    lits: &[Lit],
+) -> Result<Option<bool>, OutOfMemory> {
+    let vars = vars_of(list, lits);
+    if !can_solve(list, vars, lits) {
+        return Ok(None);
     }
+    let mut panel = Panel::new(Vec::new(alloc));
+    match solve(alloc, list, vars, lits, &mut panel, &mut KeepNone)? {
+        Verdict::Sat(_) => Ok(Some(true)),
+        Verdict::Unsat(_) => Ok(Some(false)),
+    }
+}
+
+/// Whether it can with the bits of a state.
+pub fn holds_in(
+    alloc: Global,
+    list: &ClauseList,
+    bits: u32,
+    state: u32,
+) -> Result<Option<bool>, OutOfMemory> {
+    let mut lits = Vec::new(alloc);
+    push_bits(&mut lits, 2, bits, state)?;
+    can_be_true(alloc, list, &lits)
 }
 
 /// A literal as a number: its variable, below 0 for a negation.

@@ -19,41 +19,13 @@ use xs_tree::{Declared, Program};
 use xs_types::{Typed, check_model};
 use xs_value::{Domain, OutOfMemory, Valuation, Value};
 
-/// The bits of a variable: how many patterns they have, whether the last is a sign, and whether they are an input's.
+/// The bits of a variable, by how many patterns they have: of a state variable, of one whose last bit is a sign, or of an
+/// input.
 #[derive(Clone, Copy)]
-pub struct Place {
-    pub patterns: u32,
-    pub signed: bool,
-    pub input: bool,
-}
-
-impl Place {
-    /// Bits of a state variable without a sign.
-    pub const fn plain(patterns: u32) -> Place {
-        Place {
-            patterns,
-            signed: false,
-            input: false,
-        }
-    }
-
-    /// Bits of one with a sign.
-    pub const fn signed(patterns: u32) -> Place {
-        Place {
-            patterns,
-            signed: true,
-            input: false,
-        }
-    }
-
-    /// Bits of an input.
-    pub const fn input(patterns: u32) -> Place {
-        Place {
-            patterns,
-            signed: false,
-            input: true,
-        }
-    }
+pub enum Place {
+    Plain(u32),
+    Signed(u32),
+    Input(u32),
 }
 
 /// The bits of a state and of inputs, those of the first variable lowest.
@@ -63,12 +35,18 @@ pub struct Bits {
     pub inputs: u32,
 }
 
-/// The program of a text in parts.
-pub fn program_of(rt: &impl Abort, alloc: Global, parts: &[&[u8]]) -> Result<Program, Fail> {
+/// A text in parts.
+fn joined(alloc: Global, parts: &[&[u8]]) -> Result<Vec<u8>, OutOfMemory> {
     let mut text = Vec::new(alloc);
     for part in parts {
         text.extend_from_slice(part)?;
     }
+    Ok(text)
+}
+
+/// The program of a text in parts.
+pub fn program_of(rt: &impl Abort, alloc: Global, parts: &[&[u8]]) -> Result<Program, Fail> {
+    let text = joined(alloc, parts)?;
     assert!(rt; text.len() < 10_000);
     Ok(program(alloc, &text)?)
 }
@@ -121,28 +99,46 @@ pub fn typed_of(rt: &impl Abort, alloc: Global, p: &Program) -> Result<Typed, Fa
     Ok(typed)
 }
 
+/// The typed model of a text in parts.
+pub fn model_of(rt: &impl Abort, alloc: Global, parts: &[&[u8]]) -> Result<Typed, Fail>
+    ensures encodable { IfOk result (λ t. IsEncodable (model_tree t.model)) }
+    ensures evaluable { IfOk result (λ t. IsEvaluable (model_tree t.model)) }
+{
+    let p = program_of(rt, alloc, parts)?;
+    typed_of(rt, alloc, &p)
+}
+
 impl Bits {
+    /// Takes the lowest bits of the state, as a number without a sign.
+    fn take_state(&mut self, patterns: u32) -> u32 {
+        let patterns = patterns.max(1);
+        let taken = self.state % patterns;
+        self.state /= patterns;
+        taken
+    }
+
+    /// Takes the lowest bits of the inputs, as a number without a sign.
+    fn take_inputs(&mut self, patterns: u32) -> u32 {
+        let patterns = patterns.max(1);
+        let taken = self.inputs % patterns;
+        self.inputs /= patterns;
+        taken
+    }
+
     /// Takes the lowest bits, which are those of the next variable, as a number without a sign.
     fn take(&mut self, place: Place) -> u32 {
-        let patterns = place.patterns.max(1);
-        if place.input {
-            let taken = self.inputs % patterns;
-            self.inputs /= patterns;
-            taken
-        } else {
-            let taken = self.state % patterns;
-            self.state /= patterns;
-            taken
+        match place {
+            Place::Plain(patterns) | Place::Signed(patterns) => self.take_state(patterns),
+            Place::Input(patterns) => self.take_inputs(patterns),
         }
     }
 }
 
 /// The number of bits in two's complement, where the last is a sign.
 fn number_of(place: Place, bits: u32) -> i64 {
-    if place.signed && bits >= place.patterns / 2 {
-        i64::from(bits) - i64::from(place.patterns)
-    } else {
-        i64::from(bits)
+    match place {
+        Place::Signed(patterns) if bits >= patterns / 2 => i64::from(bits) - i64::from(patterns),
+        _ => i64::from(bits),
     }
 }
 
@@ -155,20 +151,27 @@ fn value_of(domain: &Domain, place: Place, bits: u32) -> Value {
     }
 }
 
+/// The value of a variable that has these bits, or FALSE where no variable has this number.
+fn value_at(t: &Typed, i: usize, place: Place, bits: u32) -> Value {
+    if i < t.model().variables.len() {
+        value_of(t.domain(i), place, bits)
+    } else {
+        Value::Bool(false)
+    }
+}
+
 /// The values of the variables that have these bits.
-pub fn moment_of(
-    rt: &impl Abort,
+fn moment_of(
     alloc: Global,
     t: &Typed,
     places: &[Place],
     bits: Bits,
 ) -> Result<Valuation, OutOfMemory> {
-    assert!(rt; places.len() == t.model().variables.len());
     let mut left = bits;
     let mut v = Valuation::new(alloc);
     for (i, place) in places.iter().enumerate() {
         let taken = left.take(*place);
-        v.push(value_of(t.domain(i), *place, taken))?;
+        v.push(value_at(t, i, *place, taken))?;
     }
     Ok(v)
 }
@@ -222,19 +225,27 @@ fn table_of(alloc: Global, t: &Typed, v: &Valuation) -> Result<Option<Table>, Ou
     Ok(Some(table))
 }
 
-/// Whether the values of these bits are those of a first moment.
-pub fn is_first(
-    rt: &impl Abort,
+/// The table of the values of these bits; none where some value is not of its domain.
+fn table_at(
     alloc: Global,
     t: &Typed,
     places: &[Place],
     bits: Bits,
-) -> Result<bool, OutOfMemory>
+) -> Result<Option<Table>, OutOfMemory>
+    requires encodable { IsEncodable (model_tree t.now.model) }
+    requires evaluable { IsEvaluable (model_tree t.now.model) }
+    ensures { IfOk result (λ made. IfSome made (IsFilled (model_tree t.now.model))) }
+{
+    let v = moment_of(alloc, t, places, bits)?;
+    table_of(alloc, t, &v)
+}
+
+/// Whether the values of these bits are those of a first moment.
+pub fn is_first(alloc: Global, t: &Typed, places: &[Place], bits: Bits) -> Result<bool, OutOfMemory>
     requires encodable { IsEncodable (model_tree t.now.model) }
     requires evaluable { IsEvaluable (model_tree t.now.model) }
 {
-    let v = moment_of(rt, alloc, t, places, bits)?;
-    match table_of(alloc, t, &v)? {
+    match table_at(alloc, t, places, bits)? {
         Some(now) => Ok(holds_first(t, &now)),
         None => Ok(false),
     }
@@ -242,7 +253,6 @@ pub fn is_first(
 
 /// Whether a step leads from the values of these bits to those of others.
 pub fn is_step(
-    rt: &impl Abort,
     alloc: Global,
     t: &Typed,
     places: &[Place],
@@ -252,10 +262,8 @@ pub fn is_step(
     requires encodable { IsEncodable (model_tree t.now.model) }
     requires evaluable { IsEvaluable (model_tree t.now.model) }
 {
-    let v = moment_of(rt, alloc, t, places, from)?;
-    let w = moment_of(rt, alloc, t, places, to)?;
-    let now = table_of(alloc, t, &v)?;
-    let next = table_of(alloc, t, &w)?;
+    let now = table_at(alloc, t, places, from)?;
+    let next = table_at(alloc, t, places, to)?;
     match (&now, &next) {
         (Some(now), Some(next)) => Ok(holds_step(t, now, next)),
         _ => Ok(false),

@@ -1,12 +1,10 @@
 //! What advisers hear of a search: each clause that it learned, and as often as it restarted another one of
 //! them has the word.
-use crate::clauses::add;
+use crate::clauses::crowd;
 use std::alloc::Global;
-use std::process::Abort;
 use std::test::Fail;
 use xs_adviser::{Adviser, Panel};
 use xs_derive::recorder::{KeepAll, Recorder};
-use xs_lits::clause::ClauseList;
 use xs_lits::lit::Lit;
 use xs_solver::solve::{Verdict, can_solve, solve};
 use xs_value::OutOfMemory;
@@ -49,71 +47,68 @@ fn mixed(mix: u64, lits: &[Lit]) -> u64 {
     mixed.wrapping_add(1) % 1_000_003
 }
 
-// That pigeon p sits in hole h, both from 0, is the variable p * holes + h + 1.
-fn sits(holes: i64, p: i64, h: i64) -> i64 {
-    p.wrapping_mul(holes).wrapping_add(h).wrapping_add(1)
-}
-
-// So many pigeons sit in one hole less, each alone.
-fn crowd(rt: &impl Abort, alloc: Global, holes: i64) -> Result<ClauseList, OutOfMemory> {
-    let mut list = ClauseList::new(alloc);
-    for p in 0..holes.saturating_add(1) {
-        let mut numbers = Vec::new(alloc);
-        for h in 0..holes {
-            numbers.push(sits(holes, p, h))?;
-        }
-        add(rt, alloc, &mut list, &numbers)?;
-        for q in 0..p {
-            apart(rt, alloc, &mut list, holes, p, q)?;
-        }
-    }
-    Ok(list)
-}
-
-// Two pigeons sit in no hole together.
-fn apart(
-    rt: &impl Abort,
-    alloc: Global,
-    list: &mut ClauseList,
-    holes: i64,
-    p: i64,
-    q: i64,
-) -> Result<(), OutOfMemory> {
-    for h in 0..holes {
-        let both = [
-            sits(holes, p, h).wrapping_neg(),
-            sits(holes, q, h).wrapping_neg(),
-        ];
-        add(rt, alloc, list, &both)?;
-    }
-    Ok(())
-}
-
-// The lessons of a search, how often it restarted, and the mix of what was kept and of what was told.
-fn heard(rt: &impl Abort, alloc: Global, holes: i64) -> Result<(usize, u64, u64, u64), Fail> {
-    let list = crowd(rt, alloc, holes)?;
+// A panel of one adviser, which heard nothing.
+fn panel_of_hearing(alloc: Global) -> Result<Panel, OutOfMemory> {
     let mut advisers: Vec<Box<dyn Adviser>> = Vec::new(alloc);
     advisers.push(Box::new(alloc, Hearing { told: 0, mix: 0 })?)?;
-    let mut panel = Panel::new(advisers);
-    let mut kept = KeepAll::new(alloc);
-    assert!(rt; can_solve(&list, 500, &[]));
-    match solve(alloc, &list, 500, &[], &mut panel, &mut kept)? {
-        Verdict::Sat(_) => assert!(rt; false, "{holes} holes"),
-        Verdict::Unsat(clause) => assert!(rt; clause.lits().is_empty()),
+    Ok(Panel::new(advisers))
+}
+
+// Whether a search of so many holes for one pigeon more finds no places.
+fn is_crowded(
+    alloc: Global,
+    holes: i64,
+    panel: &mut Panel,
+    kept: &mut KeepAll,
+) -> Result<bool, OutOfMemory> {
+    let list = crowd(alloc, holes, holes.wrapping_add(1))?;
+    if !can_solve(&list, 500, &[]) {
+        return Ok(false);
     }
+    match solve(alloc, &list, 500, &[], panel, kept)? {
+        Verdict::Sat(_) => Ok(false),
+        Verdict::Unsat(clause) => Ok(clause.lits().is_empty()),
+    }
+}
+
+// The mix of the clauses that were kept.
+fn mix_of(kept: &KeepAll) -> u64 {
     let mut mix = 0;
     for i in 0..kept.steps().len() {
         mix = mixed(mix, kept.steps().at(i).clause.lits());
     }
-    let told = panel.pick().saturating_sub(1_000_000);
-    Ok((kept.steps().len(), panel.rotated(), mix, told))
+    mix
+}
+
+// The mix that an adviser tells by its pick.
+fn mix_told(panel: &mut Panel) -> u64 {
+    panel.pick().saturating_sub(1_000_000)
+}
+
+// The lessons of a search, how often it restarted, and whether the mix of what was kept is that of what was told.
+fn heard(alloc: Global, holes: i64) -> Result<Option<(usize, u64, bool)>, OutOfMemory> {
+    let mut panel = panel_of_hearing(alloc)?;
+    let mut kept = KeepAll::new(alloc);
+    if !is_crowded(alloc, holes, &mut panel, &mut kept)? {
+        return Ok(None);
+    }
+    let is_told = mix_of(&kept) == mix_told(&mut panel);
+    Ok(Some((kept.steps().len(), panel.rotated(), is_told)))
+}
+
+// Whether there were many lessons, a restart after each hundred, and all were told.
+fn are_told(heard: Option<(usize, u64, bool)>) -> bool {
+    match heard {
+        Some((lessons, restarts, is_told)) => {
+            lessons > 300 && restarts == lessons as u64 / 100 && is_told
+        }
+        None => false,
+    }
 }
 
 #[test]
 fn each_lesson_is_told(rt: HostRuntime) -> Result<(), Fail> {
-    let (lessons, restarts, kept, told) = heard(&rt, rt.alloc(), 7)?;
-    assert!(rt; lessons > 300, "{lessons} lessons");
-    assert_eq!(rt; restarts, lessons as u64 / 100, "of {lessons} lessons");
-    assert_eq!(rt; kept, told);
+    let heard = heard(rt.alloc(), 7)?;
+    assert!(rt; are_told(heard), "{heard:?}");
     Ok(())
 }

@@ -1,16 +1,18 @@
 //! Verdicts on formulas that were made by hand, each derivation taken by a checker, and a search that keeps
 //! what was added.
-ghost use Rattle.std.specs.Prelude.{◌≡◌, ◌≤◌, None, length, All, OnOk};
-ghost use Rattle.xs_derive.specs.Derivation.{IsUpTo};
+ghost use Rattle.std.specs.Prelude.{◌≡◌, None, OnOk};
 
-use crate::clauses::{add, are_up_to, clause_of};
+use crate::advisers::add_in_order;
+use crate::clauses::{add, are_up_to, crowd, list_of, literal, lits_of};
+use crate::stores::push;
 use std::alloc::Global;
-use std::process::Abort;
 use std::test::Fail;
-use xs_adviser::{Adviser, InOrder, Panel};
+use xs_adviser::{Adviser, Panel};
 use xs_derive::checker::Checker;
+use xs_derive::hints::has_no_opposites;
 use xs_derive::recorder::{KeepAll, KeepNone, Recorder};
 use xs_derive::step::Step;
+use xs_lits::assign::Assign;
 use xs_lits::clause::{Clause, ClauseList, Truth};
 use xs_lits::lit::Lit;
 use xs_lits::store::{PlainStore, Store};
@@ -62,284 +64,322 @@ impl Recorder for Full {
     }
 }
 
-// A checker that was given the clauses accepts each step.
-fn accepts(
-    rt: &impl Abort,
-    alloc: Global,
-    vars: u64,
-    list: &ClauseList,
-    kept: &KeepAll,
-) -> Result<(), OutOfMemory> {
-    assert!(rt; vars < 10000);
-    let mut checker = Checker::new(alloc, vars)?;
+// A checker that was given the clauses; it lacks those that are out of range.
+fn checker_of(alloc: Global, vars: u64, list: &ClauseList) -> Result<Checker, OutOfMemory> {
+    let mut checker = Checker::new(alloc, vars.min(10_000))?;
     for clause in list.as_slice() {
-        assert!(rt; are_up_to(clause.lits(), checker.vars()));
-        checker.add_given(clause)?;
+        if are_up_to(clause.lits(), checker.vars()) {
+            checker.add_given(clause)?;
+        }
     }
-    for i in 0..kept.steps().len() {
-        let step = kept.steps().at(i);
-        checker.reserve(1, step.clause.lits().len())?;
-        assert!(rt; checker.can_take(&step.clause));
-        assert_eq!(rt; checker.step(step), Ok(()));
-    }
-    Ok(())
+    Ok(checker)
 }
 
-// Solves under assumptions. The answer is the literals of the refuting clause and the steps kept, as
-// numbers, or None where an assignment makes all true.
-fn try_solve(
-    rt: &impl Abort,
+// Whether a checker takes a step.
+fn takes(checker: &mut Checker, step: &Step) -> Result<bool, OutOfMemory> {
+    checker.reserve(1, step.clause.lits().len())?;
+    Ok(checker.can_take(&step.clause) && checker.step(step).is_ok())
+}
+
+// Whether it takes each.
+fn takes_all(checker: &mut Checker, kept: &KeepAll) -> Result<bool, OutOfMemory> {
+    for i in 0..kept.steps().len() {
+        if !takes(checker, kept.steps().at(i))? {
+            return Ok(false);
+        }
+    }
+    Ok(true)
+}
+
+// Whether an assignment makes a clause true.
+fn is_true(clause: &Clause, assign: &Assign) -> bool {
+    are_up_to(clause.lits(), assign.vars()) && truth(clause, assign) == Truth::True
+}
+
+// Whether it makes all true.
+fn are_true(list: &ClauseList, assign: &Assign) -> bool {
+    list.as_slice().iter().all(|clause| is_true(clause, assign))
+}
+
+// What comes of a search, as a number: the length of a clause that refutes, or one of these.
+const MODEL: usize = 1000;
+// It could not be asked for, a step was not taken, or an assignment does not make all true.
+const WRONG: usize = 2000;
+
+fn judged(list: &ClauseList, verdict: &Verdict) -> usize {
+    match verdict {
+        Verdict::Sat(assign) if are_true(list, assign) => MODEL,
+        Verdict::Sat(_) => WRONG,
+        Verdict::Unsat(clause) => clause.lits().len(),
+    }
+}
+
+fn solved(
     alloc: Global,
     vars: u64,
     list: &ClauseList,
     assumptions: &[Lit],
     panel: &mut Panel,
-) -> Result<Option<(usize, usize)>, OutOfMemory> {
+    kept: &mut KeepAll,
+) -> Result<usize, OutOfMemory> {
+    if !can_solve(list, vars, assumptions) {
+        return Ok(WRONG);
+    }
+    let verdict = solve(alloc, list, vars, assumptions, panel, kept)?;
+    Ok(judged(list, &verdict))
+}
+
+// What comes of a search under assumptions, and how many steps were kept.
+fn search(
+    alloc: Global,
+    vars: u64,
+    list: &ClauseList,
+    assumptions: &[i64],
+    panel: &mut Panel,
+) -> Result<(usize, usize), OutOfMemory> {
+    let lits = lits_of(alloc, assumptions)?;
     let mut kept = KeepAll::new(alloc);
-    assert!(rt; can_solve(list, vars, assumptions));
-    let verdict = solve(alloc, list, vars, assumptions, panel, &mut kept)?;
-    accepts(rt, alloc, vars, list, &kept)?;
-    match verdict {
-        Verdict::Sat(assign) => {
-            for clause in list.as_slice() {
-                assert!(rt; are_up_to(clause.lits(), assign.vars()));
-                assert_eq!(rt; truth(clause, &assign), Truth::True);
-            }
-            Ok(None)
-        }
-        Verdict::Unsat(clause) => Ok(Some((clause.lits().len(), kept.steps().len()))),
-    }
-}
-
-// Pigeon p sits in one of three holes; that it sits in hole h is the variable 3p + h.
-fn sits(rt: &impl Abort, alloc: Global, list: &mut ClauseList, p: i64) -> Result<(), OutOfMemory> {
-    assert!(rt; p >= 0 && p < 100);
-    add(rt, alloc, list, &[3 * p + 1, 3 * p + 2, 3 * p + 3])
-}
-
-// Two pigeons sit in no hole together.
-fn apart(
-    rt: &impl Abort,
-    alloc: Global,
-    list: &mut ClauseList,
-    p: i64,
-    q: i64,
-) -> Result<(), OutOfMemory> {
-    assert!(rt; p >= 0 && p < 100 && q >= 0 && q < 100);
-    add(rt, alloc, list, &[-3 * p - 1, -3 * q - 1])?;
-    add(rt, alloc, list, &[-3 * p - 2, -3 * q - 2])?;
-    add(rt, alloc, list, &[-3 * p - 3, -3 * q - 3])
-}
-
-// So many pigeons sit in three holes, each alone.
-fn pigeons(
-    rt: &impl Abort,
-    alloc: Global,
-    list: &mut ClauseList,
-    count: i64,
-) -> Result<(), OutOfMemory> {
-    for p in 0..count {
-        sits(rt, alloc, list, p)?;
-        for q in 0..p {
-            apart(rt, alloc, list, p, q)?;
-        }
-    }
-    Ok(())
-}
-
-// Variable i + 1 differs from variable i exactly where variable 100 + i is true.
-fn differ(
-    rt: &impl Abort,
-    alloc: Global,
-    list: &mut ClauseList,
-    i: i64,
-) -> Result<(), OutOfMemory> {
-    assert!(rt; i >= 0 && i < 100);
-    let next = i + 1;
-    let other = i + 100;
-    add(rt, alloc, list, &[-other, i, next])?;
-    add(rt, alloc, list, &[-other, -i, -next])?;
-    add(rt, alloc, list, &[other, -i, next])?;
-    add(rt, alloc, list, &[other, i, -next])
-}
-
-// Variables i and i + 1 have one value.
-fn alike(rt: &impl Abort, alloc: Global, list: &mut ClauseList, i: i64) -> Result<(), OutOfMemory> {
-    assert!(rt; i >= 0 && i < 100);
-    add(rt, alloc, list, &[-100 - i])
-}
-
-// The length of the clause that refutes, or None.
-fn length_of(found: Option<(usize, usize)>) -> Option<usize> {
-    match found {
-        Some((length, _)) => Some(length),
-        None => None,
+    let found = solved(alloc, vars, list, &lits, panel, &mut kept)?;
+    let mut checker = checker_of(alloc, vars, list)?;
+    if takes_all(&mut checker, &kept)? {
+        Ok((found, kept.steps().len()))
+    } else {
+        Ok((WRONG, 0))
     }
 }
 
 // Nothing to make true, and the empty clause.
-fn edges(rt: &impl Abort, alloc: Global) -> Result<(), OutOfMemory> {
+fn edges(alloc: Global) -> Result<(usize, (usize, usize)), OutOfMemory> {
     let mut nobody = Panel::new(Vec::new(alloc));
-    let mut list = ClauseList::new(alloc);
-    assert_eq!(rt; try_solve(rt, alloc, 0, &list, &[], &mut nobody)?, None);
-    add(rt, alloc, &mut list, &[])?;
-    assert_eq!(rt;
-        try_solve(rt, alloc, 0, &list, &[], &mut nobody)?,
-        Some((0, 0))
+    let list = ClauseList::new(alloc);
+    let (nothing, _) = search(alloc, 0, &list, &[], &mut nobody)?;
+    let list = list_of(alloc, &[0])?;
+    Ok((nothing, search(alloc, 0, &list, &[], &mut nobody)?))
+}
+
+// [1 2] [-1 2] under the assumption -2 and under none.
+fn two_clauses(alloc: Global, panel: &mut Panel) -> Result<(usize, usize), OutOfMemory> {
+    let list = list_of(alloc, &[1, 2, 0, -1, 2, 0])?;
+    let (under, _) = search(alloc, 2, &list, &[-2], panel)?;
+    let (alone, _) = search(alloc, 2, &list, &[], panel)?;
+    Ok((under, alone))
+}
+
+// Whether a search fails for a recorder without room.
+fn fails(alloc: Global, vars: u64, list: &ClauseList, panel: &mut Panel) -> bool {
+    can_solve(list, vars, &[]) && solve(alloc, list, vars, &[], panel, &mut Full).is_err()
+}
+
+// The four clauses over two variables, of which an adviser must hear, and a recorder without room.
+fn four_clauses(alloc: Global, panel: &mut Panel) -> Result<((usize, usize), bool), OutOfMemory> {
+    let list = list_of(alloc, &[1, 2, 0, -1, 2, 0, 1, -2, 0, -1, -2, 0])?;
+    let found = search(alloc, 2, &list, &[], panel)?;
+    Ok((found, fails(alloc, 2, &list, panel)))
+}
+
+// Three pigeons in three holes, and four.
+fn holes(alloc: Global, panel: &mut Panel) -> Result<(usize, usize), OutOfMemory> {
+    let list = crowd(alloc, 3, 3)?;
+    let (three, _) = search(alloc, 9, &list, &[], panel)?;
+    let list = crowd(alloc, 3, 4)?;
+    let (four, _) = search(alloc, 12, &list, &[], panel)?;
+    Ok((three, four))
+}
+
+// Variable i + 1 differs from variable i exactly where variable 100 + i is true.
+fn differ(alloc: Global, list: &mut ClauseList, i: i64) -> Result<(), OutOfMemory> {
+    let next = i.wrapping_add(1);
+    let other = i.wrapping_add(100);
+    let (not_i, not_next, not_other) = (
+        i.wrapping_neg(),
+        next.wrapping_neg(),
+        other.wrapping_neg(),
     );
-    Ok(())
+    add(
+        alloc,
+        list,
+        &[not_other, i, next, 0, not_other, not_i, not_next, 0],
+    )?;
+    add(alloc, list, &[other, not_i, next, 0, other, i, not_next, 0])
 }
 
-// [1 2] [-1 2] under the assumption -2 and under none; then the four clauses over two variables, of
-// which an adviser must hear, and a recorder without room.
-fn two_variables(rt: &impl Abort, alloc: Global, panel: &mut Panel) -> Result<(), OutOfMemory> {
+// The clauses of a chain of 50 variables.
+fn chain(alloc: Global) -> Result<ClauseList, OutOfMemory> {
     let mut list = ClauseList::new(alloc);
-    add(rt, alloc, &mut list, &[1, 2])?;
-    add(rt, alloc, &mut list, &[-1, 2])?;
-    let under = try_solve(rt, alloc, 2, &list, &[Lit::new(2, true)], panel)?;
-    assert_eq!(rt; length_of(under), Some(1));
-    assert_eq!(rt; try_solve(rt, alloc, 2, &list, &[], panel)?, None);
-    add(rt, alloc, &mut list, &[1, -2])?;
-    add(rt, alloc, &mut list, &[-1, -2])?;
-    assert_eq!(rt; try_solve(rt, alloc, 2, &list, &[], panel)?, Some((0, 2)));
-    assert!(rt; can_solve(&list, 2, &[]));
-    assert!(rt; solve(alloc, &list, 2, &[], panel, &mut Full).is_err());
-    Ok(())
+    for i in 1..50i64 {
+        differ(alloc, &mut list, i)?;
+    }
+    Ok(list)
 }
 
-// Three pigeons sit in three holes, four don't.
-fn holes(rt: &impl Abort, alloc: Global, panel: &mut Panel) -> Result<(), OutOfMemory> {
-    let mut list = ClauseList::new(alloc);
-    pigeons(rt, alloc, &mut list, 3)?;
-    assert_eq!(rt; try_solve(rt, alloc, 9, &list, &[], panel)?, None);
-    let mut list = ClauseList::new(alloc);
-    pigeons(rt, alloc, &mut list, 4)?;
-    let found = try_solve(rt, alloc, 12, &list, &[], panel)?;
-    assert_eq!(rt; length_of(found), Some(0));
+// Each two neighbours of it have one value.
+fn be_alike(alloc: Global, list: &mut ClauseList) -> Result<(), OutOfMemory> {
+    for i in 101..150i64 {
+        add(alloc, list, &[i.wrapping_neg(), 0])?;
+    }
     Ok(())
 }
 
 // The first and the last variable of a chain of 196 clauses can differ, and no longer once every
 // step must keep the value.
-fn chain(rt: &impl Abort, alloc: Global, panel: &mut Panel) -> Result<(), OutOfMemory> {
-    let mut list = ClauseList::new(alloc);
-    for i in 1..50i64 {
-        differ(rt, alloc, &mut list, i)?;
-    }
-    let ends = [Lit::new(1, false), Lit::new(50, true)];
-    assert_eq!(rt; try_solve(rt, alloc, 150, &list, &ends, panel)?, None);
-    for i in 1..50i64 {
-        alike(rt, alloc, &mut list, i)?;
-    }
-    let found = try_solve(rt, alloc, 150, &list, &ends, panel)?;
-    assert_eq!(rt; length_of(found), Some(2));
-    Ok(())
+fn ends(alloc: Global, panel: &mut Panel) -> Result<(usize, usize), OutOfMemory> {
+    let mut list = chain(alloc)?;
+    let (free, _) = search(alloc, 150, &list, &[1, -50], panel)?;
+    be_alike(alloc, &mut list)?;
+    let (alike, _) = search(alloc, 150, &list, &[1, -50], panel)?;
+    Ok((free, alike))
+}
+
+// A panel of an adviser that counts and one that answers the variables in order.
+fn panel_of_two(alloc: Global) -> Result<Panel, OutOfMemory> {
+    let mut advisers: Vec<Box<dyn Adviser>> = Vec::new(alloc);
+    advisers.push(Box::new(alloc, Counting { asked: 0, told: 0 })?)?;
+    add_in_order(alloc, &mut advisers)?;
+    Ok(Panel::new(advisers))
+}
+
+// Whether the counting adviser was asked and told, and then the other one has its turn.
+fn turn(panel: &mut Panel) -> Result<bool, OutOfMemory> {
+    let counts = panel.pick();
+    panel.rotate();
+    panel.ready(150)?;
+    Ok(counts % 1000 > 1 && counts / 1000 > 1000)
 }
 
 #[test]
 fn answers(rt: HostRuntime) -> Result<(), Fail> {
     let alloc = rt.alloc();
-    edges(&rt, alloc)?;
-    let mut advisers: Vec<Box<dyn Adviser>> = Vec::new(alloc);
-    advisers.push(Box::new(alloc, Counting { asked: 0, told: 0 })?)?;
-    advisers.push(Box::new(alloc, InOrder::new())?)?;
-    let mut panel = Panel::new(advisers);
-    two_variables(&rt, alloc, &mut panel)?;
-    let counts = panel.pick();
-    assert!(rt; counts % 1000 > 1 && counts / 1000 > 1000);
-    panel.rotate();
-    panel.ready(150)?;
-    holes(&rt, alloc, &mut panel)?;
-    chain(&rt, alloc, &mut panel)?;
+    assert_eq!(rt; edges(alloc)?, (MODEL, (0, 0)));
+    let mut panel = panel_of_two(alloc)?;
+    assert_eq!(rt; two_clauses(alloc, &mut panel)?, (1, MODEL));
+    assert_eq!(rt; four_clauses(alloc, &mut panel)?, ((0, 2), true));
+    assert!(rt; turn(&mut panel)?);
+    assert_eq!(rt; holes(alloc, &mut panel)?, (MODEL, 0));
+    assert_eq!(rt; ends(alloc, &mut panel)?, (MODEL, 2));
     Ok(())
 }
 
-// Appends the clause of these numbers to a store.
-fn pushes<S: Store>(
-    rt: &impl Abort,
+// What comes of a search in a store under assumptions.
+fn search_in<S: Store>(
     alloc: Global,
     store: &mut S,
-    numbers: &[i64],
-) -> Result<(), OutOfMemory> {
-    let clause = clause_of(rt, alloc, numbers)?;
-    assert!(rt; store.vars() < 100);
-    assert!(rt; are_up_to(clause.lits(), store.vars()));
-    store.push(clause.lits())
+    assumptions: &[Lit],
+    panel: &mut Panel,
+) -> Result<usize, OutOfMemory> {
+    let vars = store.vars();
+    if vars >= 100 || !store.trail().is_empty() {
+        return Ok(WRONG);
+    }
+    if !are_up_to(assumptions, vars) || !has_no_opposites(assumptions) {
+        return Ok(WRONG);
+    }
+    match solve_in(alloc, store, assumptions, panel, &mut KeepNone)? {
+        Verdict::Sat(_) => Ok(MODEL),
+        Verdict::Unsat(clause) => Ok(clause.lits().len()),
+    }
 }
 
-// The four clauses over two variables have no model, and two of them refute an assumption.
-fn refutes_in<S: Store>(rt: &impl Abort, alloc: Global, store: &mut S) -> Result<(), OutOfMemory> {
+// Two clauses over two variables refute an assumption, and the four have no model.
+fn refutes_in<S: Store>(alloc: Global, store: &mut S) -> Result<(usize, usize), OutOfMemory> {
     let mut panel = Panel::new(Vec::new(alloc));
-    pushes(rt, alloc, store, &[1, 2])?;
-    pushes(rt, alloc, store, &[-1, 2])?;
-    for want in [1usize, 0] {
-        assert!(rt; store.vars() < 100 && store.vars() >= 2 && store.trail().is_empty());
-        let assumptions = [Lit::new(2, true)];
-        let refuted = solve_in(
-            alloc,
-            store,
-            &assumptions[..want],
-            &mut panel,
-            &mut KeepNone,
-        )?;
-        match refuted {
-            Verdict::Sat(_) => assert!(rt; false, "{want} assumptions"),
-            Verdict::Unsat(clause) => assert_eq!(rt; clause.lits().len(), want),
-        }
-        pushes(rt, alloc, store, &[1, -2])?;
-        pushes(rt, alloc, store, &[-1, -2])?;
-    }
-    Ok(())
+    push(alloc, store, &[1, 2])?;
+    push(alloc, store, &[-1, 2])?;
+    let under = search_in(alloc, store, &[literal(-2)], &mut panel)?;
+    push(alloc, store, &[1, -2])?;
+    push(alloc, store, &[-1, -2])?;
+    let alone = search_in(alloc, store, &[], &mut panel)?;
+    Ok((under, alone))
 }
 
 #[test]
 fn searches_either_store(rt: HostRuntime) -> Result<(), Fail> {
-    let alloc = rt.alloc();
-    refutes_in(&rt, alloc, &mut PlainStore::new(alloc, 2)?)?;
-    refutes_in(&rt, alloc, &mut Arena::new(alloc, 2)?)?;
+    let mut plain = PlainStore::new(rt.alloc(), 2)?;
+    assert_eq!(rt; refutes_in(rt.alloc(), &mut plain)?, (1, 0));
+    let mut watched = Arena::new(rt.alloc(), 2)?;
+    assert_eq!(rt; refutes_in(rt.alloc(), &mut watched)?, (1, 0));
     Ok(())
 }
 
-// Adds the clause of these literals to a search.
-fn adds(alloc: Global, search: &mut Search<KeepNone>, lits: &[Lit]) -> Result<(), OutOfMemory>
-    requires { All (IsUpTo search.old.kept.vars) lits.now }
-    ensures { OnOk result (search.new.kept.vars ≡ search.old.kept.vars) }
-{
-    search.add(&Clause::from_lits(alloc, lits)?)
-}
-
-// The length of the clause that refutes one assumption or none, or None.
-fn asks(
+// What comes of one assumption or none.
+fn ask(
     search: &mut Search<KeepNone>,
+    vars: u64,
     assumptions: &[Lit],
     panel: &mut Panel,
-) -> Result<Option<usize>, OutOfMemory>
-    requires in_range { All (IsUpTo search.old.kept.vars) assumptions.now }
-    requires few { length assumptions.now ≤ 1 }
-    ensures { OnOk result (search.new.kept.vars ≡ search.old.kept.vars) }
+) -> Result<usize, OutOfMemory>
+    requires { search.old.kept.vars ≡ vars }
+    ensures { OnOk result (search.new.kept.vars ≡ vars) }
 {
-    match search.ask(assumptions, panel)? {
-        Verdict::Sat(_) => Ok(None),
-        Verdict::Unsat(clause) => Ok(Some(clause.lits().len())),
+    if !are_up_to(assumptions, vars) || !has_no_opposites(assumptions) {
+        return Ok(WRONG);
     }
+    match search.ask(assumptions, panel)? {
+        Verdict::Sat(_) => Ok(MODEL),
+        Verdict::Unsat(clause) => Ok(clause.lits().len()),
+    }
+}
+
+// Adds the clause of these numbers to a search, if its variables are in range.
+fn add_to(
+    alloc: Global,
+    search: &mut Search<KeepNone>,
+    vars: u64,
+    numbers: &[i64],
+) -> Result<(), OutOfMemory>
+    requires { search.old.kept.vars ≡ vars }
+    ensures { OnOk result (search.new.kept.vars ≡ vars) }
+{
+    let lits = lits_of(alloc, numbers)?;
+    let clause = Clause::from_lits(alloc, &lits)?;
+    if !are_up_to(clause.lits(), vars) {
+        return Ok(());
+    }
+    search.add(&clause)
+}
+
+// What comes of the assumption of a number once a clause was added.
+fn then(
+    alloc: Global,
+    search: &mut Search<KeepNone>,
+    vars: u64,
+    numbers: &[i64],
+    assumption: i64,
+    panel: &mut Panel,
+) -> Result<usize, OutOfMemory>
+    requires { search.old.kept.vars ≡ vars }
+    ensures { OnOk result (search.new.kept.vars ≡ vars) }
+{
+    add_to(alloc, search, vars, numbers)?;
+    ask(search, vars, &[literal(assumption)], panel)
+}
+
+// What comes of -1 with [1 2], and with [-2] too, and then of nothing.
+fn over_two(
+    alloc: Global,
+    search: &mut Search<KeepNone>,
+    panel: &mut Panel,
+) -> Result<(usize, usize, usize), OutOfMemory>
+    requires { search.old.kept.vars ≡ 2 }
+    ensures { OnOk result (search.new.kept.vars ≡ 2) }
+{
+    let free = then(alloc, search, 2, &[1, 2], -1, panel)?;
+    let refuted = then(alloc, search, 2, &[-2], -1, panel)?;
+    let nothing = ask(search, 2, &[], panel)?;
+    Ok((free, refuted, nothing))
+}
+
+// The same, then a variable that comes, and what comes of it with [-3 -1].
+fn over_three(alloc: Global) -> Result<((usize, usize, usize), u64, usize), OutOfMemory> {
+    let mut panel = Panel::new(Vec::new(alloc));
+    let mut search = Search::new(alloc, 2, KeepNone)?;
+    let before = over_two(alloc, &mut search, &mut panel)?;
+    let three = search.fresh(&mut panel)?;
+    let after = then(alloc, &mut search, 3, &[-3, -1], 3, &mut panel)?;
+    Ok((before, three, after))
 }
 
 #[test]
 fn keeps_what_was_added(rt: HostRuntime) -> Result<(), Fail> {
-    let alloc = rt.alloc();
-    let mut panel = Panel::new(Vec::new(alloc));
-    let mut search = Search::new(alloc, 2, KeepNone)?;
-    let one = Lit::new(1, false);
-    let two = Lit::new(2, false);
-    adds(alloc, &mut search, &[one, two])?;
-    assert_eq!(rt; asks(&mut search, &[one.neg()], &mut panel)?, None);
-    adds(alloc, &mut search, &[two.neg()])?;
-    assert_eq!(rt; asks(&mut search, &[one.neg()], &mut panel)?, Some(1));
-    assert_eq!(rt; asks(&mut search, &[], &mut panel)?, None);
-    let three = search.fresh(&mut panel)?;
-    assert_eq!(rt; three, 3);
-    adds(alloc, &mut search, &[Lit::new(3, true), one.neg()])?;
-    let under = [Lit::new(3, false)];
-    assert_eq!(rt; asks(&mut search, &under, &mut panel)?, Some(1));
+    assert_eq!(rt; over_three(rt.alloc())?, ((MODEL, 1, MODEL), 3, 1));
     Ok(())
 }
