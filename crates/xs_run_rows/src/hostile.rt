@@ -296,34 +296,33 @@ const CONTAINING: &[u8] =
 const FLIPPED: &[u8] =
     b"xsap-certificate 1\nbits 1 faults 0\nsets 0\ninvariant 1\nclause 1\nfirst 1\nstep -2 : 1 6 4\nnext 1\nstep -3 : 6 4 7\nbad 1\nstep : 2 3\nend\n";
 
-/// The files of a check, its words, and what it says.
-type Judged = ([File<'static>; 3], [&'static str; 9], &'static [u8]);
+static CONTAINING_FILES: [File; 3] = [
+    ("m", Some(LAMP)),
+    ("f", Some(DARK)),
+    ("c", Some(CONTAINING)),
+];
 
-static JUDGED: [Judged; 2] = [
-    (
-        [
-            ("m", Some(LAMP)),
-            ("f", Some(DARK)),
-            ("c", Some(CONTAINING)),
-        ],
-        [
-            "check", "--model", "m", "--faults", "f", "--top", "on", "--cert", "c",
-        ],
-        b"not accepted line 10 rule 3\n",
-    ),
-    (
-        [("m", Some(TINY)), ("f", Some(b"")), ("c", Some(FLIPPED))],
-        [
-            "check", "--model", "m", "--faults", "f", "--top", "x", "--cert", "c",
-        ],
-        b"not accepted line 5 rule 8\n",
-    ),
+static CONTAINING_WORDS: [&str; 9] = [
+    "check", "--model", "m", "--faults", "f", "--top", "on", "--cert", "c",
+];
+
+static FLIPPED_FILES: [File; 3] = [("m", Some(TINY)), ("f", Some(b"")), ("c", Some(FLIPPED))];
+
+static FLIPPED_WORDS: [&str; 9] = [
+    "check", "--model", "m", "--faults", "f", "--top", "x", "--cert", "c",
 ];
 
 #[test]
 fn sets_and_clauses_are_judged_in_their_lines(rt: HostRuntime) -> Result<(), OutOfMemory> {
-    for (i, (given, words, said)) in JUDGED.iter().enumerate() {
-        assert!(rt; ends(rt.alloc(), given, words, 6, said)?, "row {i}");
-    }
+    let line = b"not accepted line 10 rule 3\n";
+    assert!(rt;
+        ends(rt.alloc(), &CONTAINING_FILES, &CONTAINING_WORDS, 6, line)?,
+        "a set that contains another"
+    );
+    let line = b"not accepted line 5 rule 8\n";
+    assert!(rt;
+        ends(rt.alloc(), &FLIPPED_FILES, &FLIPPED_WORDS, 6, line)?,
+        "a clause that is not true first"
+    );
     Ok(())
 }
