@@ -1,5 +1,5 @@
 -- A list whose variables are numbered apart says what the list says.
-use Rattle.std.proofs.Common.{◌≡◌, ◌≤◌, ◌<◌, ◌⊎◌, inl, inr, ℕ, zero, suc, ◌+◌, ◌-◌, ◌^◌, Bool, true, false, List, [], ◌∷◌, refl, sym, ◌∙◌, ap, subst, arith}
+use Rattle.std.proofs.Common.{◌≡◌, ◌≤◌, ◌<◌, ◌⊎◌, inl, inr, ℕ, zero, suc, ◌+◌, ◌-◌, ◌^◌, Bool, true, false, List, [], ◌∷◌, refl, sym, ◌∙◌, ap, subst, arith, ◌++◌}
 use Rattle.std.specs.Prelude.{nat_le, if◌then◌else◌, All}
 use Rattle.std.proofs.lemmas.Bool.{cases_lt}
 use Rattle.std.proofs.lemmas.List.Elements.{All-nil, All-cons, All-head, All-tail}
@@ -9,9 +9,10 @@ use Rattle.xs_system.specs.declared.system.System.{System}
 use Rattle.xs_solver.specs.declared.solve.Verdict.{Verdict}
 use Rattle.xs_solver.specs.declared.solve.Verdict.TheVariants.{Sat, Unsat}
 use Rattle.xs_lits.specs.Assignment.{Assignment}
-use Rattle.xs_frames.specs.Apart.{apart, apart_literal, apart_clause, apart_list, apart_system, IsNear, IsMet, IsMetFrame, IsMetBeside, IsFound, IsExcluded}
+use Rattle.xs_frames.specs.Apart.{apart, apart_literal, apart_clause, apart_list, apart_system, IsNear, IsMet, IsMetFrame, IsMetBeside, IsFound, IsExcluded, IsPlace, IsKept}
 use Rattle.xs_frames.specs.Condition.{IsLow}
-use Rattle.xs_frames.specs.Guarding.{Meets, MeetsFrame, MeetsBeside, IsModelOf, IsCoreOf, IsToldBy, places_of}
+use Rattle.xs_frames.specs.Guarding.{Meets, MeetsFrame, MeetsBeside, IsModelOf, IsCoreOf, IsToldBy, places_of, IsHolding, AddsBad}
+use Rattle.xs_frames.specs.declared.guarded.Guarded.{Guarded}
 use Rattle.xs_frames.specs.declared.guarded.Beside.{Beside}
 use Rattle.xs_frames.specs.declared.guarded.Beside.TheVariants.{Nothing, Step, Bad}
 
@@ -23,7 +24,7 @@ apart_low p x lt = go (nat_le 2 x) refl
     go true e = absurd (grind (arith, lt, e))
     go false e = refl
 
-apart_place : (p x : ℕ) → 2 ≤ x → x ≤ p → apart p x ≡ x
+pub apart_place : (p x : ℕ) → 2 ≤ x → x ≤ p → apart p x ≡ x
 apart_place p x low high = go (nat_le 2 x) (nat_le x p) refl refl
   where
     go : (a b : Bool) → nat_le 2 x ≡ a → nat_le x p ≡ b → (if a then (if b then x else x + 2) else x + p + 1) ≡ x
@@ -172,3 +173,20 @@ near_clause p (l ∷ c) small a = All-cons IsNear (apart_literal p l) (apart_cla
 pub near_list : (p : ℕ) (list : List (List Literal)) → p < 2 ^ 31 → All (All IsLow) list → All (All IsNear) (apart_list p list)
 near_list p [] small a = All-nil (All IsNear)
 near_list p (c ∷ list) small a = All-cons (All IsNear) (apart_clause p c) (apart_list p list) (near_clause p c small (All-head (All IsLow) c list a)) (near_list p list small (All-tail (All IsLow) c list a))
+
+-- a clause over states and inputs keeps its variables
+places_apart : (p : ℕ) (c : List Literal) → All (IsPlace p) c → apart_clause p c ≡ c
+places_apart p [] a = refl
+places_apart p (l ∷ c) a =
+    let h = All-head (IsPlace p) l c a in
+    ap (λ (x : ℕ). record { var = x; negated = l.negated } ∷ apart_clause p c) (apart_place p l.var h.0 h.1) ∙ ap (λ (d : List Literal). l ∷ d) (places_apart p c (All-tail (IsPlace p) l c a))
+
+pub list_more : (p : ℕ) (list : List (List Literal)) (c : List Literal) → All (IsPlace p) c → apart_list p (list ++ c ∷ []) ≡ apart_list p list ++ c ∷ []
+list_more p [] c a = ap (λ (d : List Literal). d ∷ []) (places_apart p c a)
+list_more p (d ∷ list) c a = ap (λ (ls : List (List Literal)). apart_clause p d ∷ ls) (list_more p list c a)
+
+-- a clause over states and inputs more among the bad states' clauses, over lists whose variables are apart
+pub more_kept : (system : System) (asked : List (List Literal)) (c : List Literal) (frames : List (List (List Literal))) (old new : Guarded) → AddsBad old new c → All (IsPlace (places_of system)) c →
+    IsKept system asked frames old → IsKept system (asked ++ c ∷ []) frames new
+more_kept system asked c frames old new adds a h =
+    subst (λ (ls : List (List Literal)). IsHolding (apart_system system) ls frames new) (sym (list_more (places_of system) asked c a)) (adds (apart_system system) (apart_list (places_of system) asked) frames h)

@@ -42,10 +42,10 @@ module _ (system : System) (list : List (List Literal)) (frames : List (List (Li
   }
 
 -- the guards of frames and lists where the fields are the same
-guard_same : (old new : Guarded) (i : ℕ) → new.step ≡ old.step → new.frames.items ≡ old.frames.items → guard_at new i ≡ guard_at old i
+pub guard_same : (old new : Guarded) (i : ℕ) → new.step ≡ old.step → new.frames.items ≡ old.frames.items → guard_at new i ≡ guard_at old i
 guard_same old new i steps frames = ap (λ (ls : List Literal). (slice_index_or ls i new.step).var) frames ∙ ap (λ (s : Literal). (slice_index_or old.frames.items i s).var) steps
 
-guards_same : (old new : Guarded) (which : Listed) → HasSameGuards old new → guard_of new which ≡ guard_of old which
+pub guards_same : (old new : Guarded) (which : Listed) → HasSameGuards old new → guard_of new which ≡ guard_of old which
 guards_same old new first s = guard_same old new 0 s.step s.frames
 guards_same old new step s = ap (λ (l : Literal). l.var) s.step
 guards_same old new bad s = ap (λ (l : Literal). l.var) s.bad

@@ -19,4 +19,5 @@ pub mod HeldLists
 pub mod GuardedLaws
 pub mod GuardedSteps
 pub mod GuardedVerdicts
+pub mod HeldMore
 pub mod ApartLaws

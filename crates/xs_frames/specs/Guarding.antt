@@ -173,6 +173,10 @@ HasAsked old new = (system : System) (list : List (List Literal)) (frames : List
 abbrev pub TakesBad : Guarded → Guarded → List (List Literal) → Type 0
 TakesBad old new list = (system : System) (was : List (List Literal)) (frames : List (List (List Literal))) → IsHolding system was frames old → IsHolding system list frames new
 
+-- a clause more stands among the bad states' clauses
+abbrev pub AddsBad : Guarded → Guarded → List Literal → Type 0
+AddsBad old new c = (system : System) (list : List (List Literal)) (frames : List (List (List Literal))) → IsHolding system list frames old → IsHolding system (list ++ c ∷ []) frames new
+
 -- a clause was put into the frames up to a number
 abbrev pub Puts : Guarded → Guarded → ℕ → List Literal → Type 0
 Puts old new j c = (system : System) (list : List (List Literal)) (frames now : List (List (List Literal))) → IsHolding system list frames old → IsPut j c frames now → IsHolding system list now new

@@ -13,7 +13,7 @@ ghost use Rattle.xs_frames.specs.Apart.{apart_system, apart_list, IsNear};
 ghost use Rattle.xs_frames.specs.Condition.{IsLow, IsFit};
 ghost use Rattle.xs_frames.specs.Roles.{renamed_literal, renamed_clause, under_list};
 ghost use Rattle.xs_frames.specs.Guards.{unguarded, guards_next};
-ghost use Rattle.xs_frames.specs.Guarding.{IsWell, IsHolding, IsGuardIn, HasRoomFor, IsEmpty, HasPut, HasWidened, HasNewBad, HasNewFrame, HasAsked, Tells, TakesBad, Puts, Grows, BeginsAgain, asked_guards};
+ghost use Rattle.xs_frames.specs.Guarding.{IsWell, IsHolding, IsGuardIn, HasRoomFor, IsEmpty, HasPut, HasWidened, HasNewBad, HasNewFrame, HasAsked, Tells, TakesBad, AddsBad, Puts, Grows, BeginsAgain, asked_guards};
 
 use crate::apart::list_apart;
 use crate::query::highest;
@@ -217,6 +217,18 @@ impl Guarded {
         let base = self.vars;
         self.widen(highest(&apart_bad).max(self.places) - self.places, panel)?;
         self.fill(self.bad, base, &apart_bad)?;
+        Ok(())
+    }
+
+    /// Adds a clause over states and inputs to those of the bad states that are asked about.
+    pub fn add_bad(&mut self, clause: &Clause) -> Result<(), OutOfMemory>
+        requires well { IsWell self.old }
+        requires up_to { All (IsUpTo self.old.places) clause.now }
+        ensures { OnOk result (AddsBad self.old self.new clause.now) }
+    {
+        let alloc = *self.frames.allocator();
+        let under = implied_by(alloc, self.bad, clause.lits())?;
+        self.put(&under)?;
         Ok(())
     }
 

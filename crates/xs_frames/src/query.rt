@@ -1,6 +1,6 @@
 ghost use Rattle.std.specs.Prelude.{◌≡◌, ◌<◌, ◌^◌, ◌↔◌, IsTrue, All};
 ghost use Rattle.xs_derive.specs.Derivation.{IsUpTo};
-ghost use Rattle.xs_frames.specs.Apart.{IsNear};
+ghost use Rattle.xs_frames.specs.Apart.{IsNear, IsPlace, GoesOn};
 
 use xs_lits::clause::{Clause, ClauseList};
 use xs_lits::lit::Lit;
@@ -66,4 +66,35 @@ pub fn is_same_list(list: &[Clause], other: &[Clause]) -> bool
         }
     }
     true
+}
+
+// Whether a literal's variable is one of states and inputs.
+fn is_of_places(places: u64, lit: Lit) -> bool
+    ensures { IsTrue result ↔ IsPlace places lit }
+{
+    2 <= lit.var() && lit.var() <= places
+}
+
+fn is_clause_of_places(places: u64, clause: &Clause) -> bool
+    ensures { IsTrue result ↔ All (IsPlace places) clause.now }
+{
+    clause.lits().iter().all(|lit| is_of_places(places, *lit))
+}
+
+fn are_of_places(places: u64, list: &[Clause]) -> bool
+    ensures { IsTrue result ↔ All (All (IsPlace places)) list.now }
+{
+    list.iter()
+        .all(|clause| is_clause_of_places(places, clause))
+}
+
+/// Whether the second list is the first, clause by clause, and then clauses over states and inputs alone.
+pub fn goes_on(places: u64, list: &[Clause], other: &[Clause]) -> bool
+    ensures { IsTrue result → GoesOn places list.now other.now }
+{
+    let count = list.len();
+    if other.len() < count {
+        return false;
+    }
+    is_same_list(list, &other[..count]) && are_of_places(places, &other[count..])
 }
