@@ -1,0 +1,146 @@
+//! Measures how many clauses the search of an analysis visits, on generated cases.
+//!
+//! For each number of stages, 4, 8 and 16, the case of number 1 is analysed to its end, and one line says whether the store with two
+//! watched literals visited at least ten times fewer clauses than one that looks through all clauses for each literal that became
+//! false. With words `NUMBER STAGES` it says for this case how many clauses were visited, and how many such a store would have visited.
+//!
+//! ```text
+//! xsap_visits 7 32        stages 32 visited 1234567 listed 98765432
+//! ```
+#![tactic(auto)]
+
+ghost use Rattle.std.specs.Prelude.{◌≤◌, IfSome};
+
+use std::alloc::{AllocError, Global};
+use std::process::ExitCode;
+use std::{env, io};
+use xs_adviser::{Active, Adviser, InOrder, Panel};
+use xs_run::make::generate;
+use xs_run::search::{analysed_in, frames_of_case, size_of};
+use xs_value::OutOfMemory;
+
+/// No trace of a generated case needs so many steps.
+const DEPTH: u32 = 1_000_000_000;
+
+/// Why the measuring could not go on.
+#[derive(Clone, Copy)]
+enum Stop {
+    Failed,
+    Memory,
+}
+
+impl From<io::Error> for Stop {
+    fn from(_failed: io::Error) -> Stop {
+        Stop::Failed
+    }
+}
+
+impl From<AllocError> for Stop {
+    fn from(_refused: AllocError) -> Stop {
+        Stop::Memory
+    }
+}
+
+impl From<OutOfMemory> for Stop {
+    fn from(_refused: OutOfMemory) -> Stop {
+        Stop::Memory
+    }
+}
+
+/// How many clauses a search visited, and how many it would have where it looked through all for each literal.
+#[derive(Clone, Copy)]
+struct Visits {
+    visited: u64,
+    listed: u64,
+}
+
+fn main(rt: HostRuntime) -> ExitCode {
+    let alloc = rt.alloc();
+    let done = match env::args(&rt) {
+        Ok(args) => match args.skip(1).collect::<Vec<String>>(alloc) {
+            Ok(words) => measured(&rt, alloc, &words),
+            Err(AllocError) => Err(Stop::Memory),
+        },
+        Err(error) => Err(Stop::from(error)),
+    };
+    match done {
+        Ok(()) => ExitCode::from(0),
+        Err(Stop::Failed) => ExitCode::from(7),
+        Err(Stop::Memory) => ExitCode::from(8),
+    }
+}
+
+/// Measures the case of the words, or the three cases.
+fn measured<R: Print>(rt: &R, alloc: Global, words: &[String]) -> Result<(), Stop> {
+    if let Some((number, stages)) = case_in(words) {
+        let visits = visits_of(alloc, number, stages)?;
+        let line = format!(in alloc;
+            "stages {stages} visited {} listed {}\n",
+            visits.visited, visits.listed
+        )?;
+        rt.write_all(line.as_bytes())?;
+        return Ok(());
+    }
+    for stages in [4u32, 8, 16] {
+        let visits = visits_of(alloc, 1, stages)?;
+        let line = format!(in alloc; "stages {stages}: {}\n", told(visits))?;
+        rt.write_all(line.as_bytes())?;
+    }
+    Ok(())
+}
+
+/// Whether a store with watched literals visited so many times fewer.
+fn told(visits: Visits) -> &'static str {
+    if visits.visited <= visits.listed / 10 {
+        "at least ten times fewer"
+    } else {
+        "less than ten times fewer"
+    }
+}
+
+/// The number and the stages of two words, at most 64 stages.
+fn case_in(words: &[String]) -> Option<(u32, u32)>
+    ensures { IfSome result (λ case. case.1 ≤ 64) }
+{
+    let [number, stages] = words else {
+        return None;
+    };
+    let number = number.parse::<u32>().ok()?;
+    let stages = stages.parse::<u32>().ok()?;
+    if stages > 64 {
+        return None;
+    }
+    Some((number, stages))
+}
+
+/// The advisers that serve the program.
+fn advisers(alloc: Global) -> Result<Panel, OutOfMemory> {
+    let mut advisers: Vec<Box<dyn Adviser>> = Vec::new(alloc);
+    advisers.push(Box::new(alloc, InOrder::new())?)?;
+    advisers.push(Box::new(alloc, Active::new(alloc))?)?;
+    Ok(Panel::new(advisers))
+}
+
+/// What the analysis of a generated case visits.
+fn visits_of(alloc: Global, number: u32, stages: u32) -> Result<Visits, OutOfMemory>
+    requires { stages ≤ 64 }
+{
+    let made = generate(alloc, number, stages)?;
+    let case = &made.loaded.case;
+    let size = size_of(None, case.limited.faults.len());
+    let mut frames = frames_of_case(alloc, case, &made.loaded.top)?;
+    let mut panel = advisers(alloc)?;
+    analysed_in(
+        alloc,
+        case,
+        &made.loaded.top,
+        DEPTH,
+        size,
+        &mut frames,
+        &mut panel,
+    )?;
+    Ok(Visits {
+        visited: frames.visited(),
+        listed: frames.listed(),
+    })
+}
