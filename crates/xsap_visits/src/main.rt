@@ -1,20 +1,24 @@
-//! Measures how many clauses the search of an analysis visits, on generated cases.
+//! Measures how many clauses the search visits, on generated cases and rings.
 //!
-//! For each number of stages, 4, 8 and 16, the case of number 1 is analysed to its end, and one line says whether the store with two
-//! watched literals visited at least ten times fewer clauses than one that looks through all clauses for each literal that became
-//! false. With words `NUMBER STAGES` it says for this case how many clauses were visited, and how many such a store would have visited.
+//! Each line is about one system: the generated cases of number 1 with 4, 8 and 16 stages, analysed to their end, and a ring of 40
+//! cells, in which one cell is shown never to come true. It says whether the store with two watched literals visited at least ten
+//! times fewer clauses than one that looks through all clauses for each literal that became false. With words `NUMBER STAGES` or
+//! `ring CELLS` it says for this system how many clauses were visited, and how many such a store would have visited.
 //!
 //! ```text
-//! xsap_visits 7 32        stages 32 visited 1234567 listed 98765432
+//! xsap_visits 7 32        visited 1234567 listed 98765432
 //! ```
 #![tactic(auto)]
 
-ghost use Rattle.std.specs.Prelude.{◌≤◌, IfSome};
+ghost use Rattle.std.specs.Prelude.{◌≤◌};
+
+mod ring;
 
 use std::alloc::{AllocError, Global};
 use std::process::ExitCode;
 use std::{env, io};
 use xs_adviser::{Active, Adviser, InOrder, Panel};
+use xs_frames::Frames;
 use xs_run::make::generate;
 use xs_run::search::{analysed_in, frames_of_case, size_of};
 use xs_value::OutOfMemory;
@@ -70,22 +74,31 @@ fn main(rt: HostRuntime) -> ExitCode {
     }
 }
 
-/// Measures the case of the words, or the three cases.
+/// A system that is measured.
+#[derive(Clone, Copy)]
+enum Measured {
+    /// The generated case of a number with so many stages, at most 64.
+    Rails(u32, u32),
+    /// A ring of so many cells.
+    Ring(u32),
+}
+
+/// Measures the system of the words, or the four systems.
 fn measured<R: Print>(rt: &R, alloc: Global, words: &[String]) -> Result<(), Stop> {
-    if let Some((number, stages)) = case_in(words) {
-        let visits = visits_of(alloc, number, stages)?;
-        let line = format!(in alloc;
-            "stages {stages} visited {} listed {}\n",
-            visits.visited, visits.listed
-        )?;
+    if let Some(system) = system_in(words) {
+        let visits = visits(alloc, system)?;
+        let line = format!(in alloc; "visited {} listed {}\n", visits.visited, visits.listed)?;
         rt.write_all(line.as_bytes())?;
         return Ok(());
     }
     for stages in [4u32, 8, 16] {
-        let visits = visits_of(alloc, 1, stages)?;
-        let line = format!(in alloc; "stages {stages}: {}\n", told(visits))?;
+        let told = told(visits(alloc, Measured::Rails(1, stages))?);
+        let line = format!(in alloc; "rails of {stages} stages: {told}\n")?;
         rt.write_all(line.as_bytes())?;
     }
+    let told = told(visits(alloc, Measured::Ring(40))?);
+    let line = format!(in alloc; "ring of 40 cells: {told}\n")?;
+    rt.write_all(line.as_bytes())?;
     Ok(())
 }
 
@@ -98,19 +111,40 @@ fn told(visits: Visits) -> &'static str {
     }
 }
 
-/// The number and the stages of two words, at most 64 stages.
-fn case_in(words: &[String]) -> Option<(u32, u32)>
-    ensures { IfSome result (λ case. case.1 ≤ 64) }
-{
-    let [number, stages] = words else {
+/// The system that two words name.
+fn system_in(words: &[String]) -> Option<Measured> {
+    let [family, size] = words else {
         return None;
     };
-    let number = number.parse::<u32>().ok()?;
-    let stages = stages.parse::<u32>().ok()?;
-    if stages > 64 {
-        return None;
+    let size = size.parse::<u32>().ok()?;
+    if family.as_str() == "ring" {
+        return Some(Measured::Ring(size));
     }
-    Some((number, stages))
+    let number = family.parse::<u32>().ok()?;
+    Some(Measured::Rails(number, size))
+}
+
+/// What the search over a system visits.
+fn visits(alloc: Global, system: Measured) -> Result<Visits, OutOfMemory> {
+    match system {
+        Measured::Rails(number, stages) if stages <= 64 => visits_of(alloc, number, stages),
+        Measured::Rails(_, _) => Err(OutOfMemory),
+        Measured::Ring(cells) => {
+            let mut panel = advisers(alloc)?;
+            match ring::explored(alloc, cells, &mut panel)? {
+                Some(frames) => Ok(visited_by(&frames)),
+                None => Err(OutOfMemory),
+            }
+        }
+    }
+}
+
+/// What the search of frames has visited.
+fn visited_by(frames: &Frames) -> Visits {
+    Visits {
+        visited: frames.visited(),
+        listed: frames.listed(),
+    }
 }
 
 /// The advisers that serve the program.
@@ -139,8 +173,5 @@ fn visits_of(alloc: Global, number: u32, stages: u32) -> Result<Visits, OutOfMem
         &mut frames,
         &mut panel,
     )?;
-    Ok(Visits {
-        visited: frames.visited(),
-        listed: frames.listed(),
-    })
+    Ok(visited_by(&frames))
 }
