@@ -2,9 +2,9 @@
 use Rattle.std.proofs.Common.{◌≡◌, ℕ, true, List, ap}
 use Rattle.xs_tree.specs.Lexemes.{Lexeme, word, num, sign}
 use Rattle.xs_fei.specs.SpellsInstructions.{IsTokenText, number_text, word_text, sign_of}
-use Rattle.xs_parse.specs.Places.{is_word, text_in}
-use Rattle.xs_parse.specs.ProgramRead.{s_close_brace, mark_of}
-use Rattle.xs_parse.proofs.Rest.{same_word}
+use Rattle.xs_expression_reader.specs.Places.{is_word, text_in}
+use Rattle.xs_expression_reader.specs.Marks.{s_close_brace, mark_of}
+use Rattle.xs_expression_reader.proofs.Rest.{same_word}
 
 pub word_there : (t : Lexeme) (w : List ℕ) → is_word t w ≡ true → t ≡ word w
 word_there (word x) w h = same_word x w h

@@ -1,0 +1,59 @@
+-- Where a list of expressions is read.
+use Rattle.std.specs.Prelude.{◌≡◌, ℕ, ◌+◌, ◌<◌, Bool, true, false, List, [], ◌∷◌, Option, Some, None, take, length}
+use Rattle.xs_lexer.specs.declared.token.Token.{Token}
+use Rattle.xs_lexer.specs.Tokens.{HasTokens}
+use Rattle.xs_tree.specs.ProgramTree.{Formula}
+use Rattle.xs_tree.specs.Lexemes.{Lexeme, lexemes_of}
+use Rattle.xs_tree.specs.SpellsProgram.{SpellsExpressions}
+use Rattle.xs_expression_reader.specs.declared.list.Place.{Place}
+use Rattle.xs_expression_reader.specs.declared.list.Place.TheVariants as p
+use Rattle.xs_expression_reader.specs.declared.reading.Reading.{Reading}
+use Rattle.xs_expression_reader.specs.declared.reading.Reading.TheVariants as reading
+use Rattle.xs_expression_reader.specs.Recognise.{Frame, is_stuck}
+use Rattle.xs_expression_reader.specs.Views.{state_with}
+use Rattle.xs_expression_reader.specs.Predict.{step, run, all_empty}
+use Rattle.xs_expression_reader.specs.Formulas.{Sym, more, again, expressions, live, formulas}
+
+-- the list spells some list of expressions
+abbrev pub IsExpressions : List Lexeme → Type 0
+IsExpressions ts = (es : List Formula) × SpellsExpressions ts es
+
+-- what is still expected there
+abbrev pub place_view : Place → List Frame → Option (List Sym)
+place_view p.First s = Some (expressions ∷ [])
+place_view p.Again s = Some (again ∷ [])
+place_view (p.Inside mode) s = live (state_with mode s) (more ∷ [])
+
+abbrev pub after_view : Option Place → List Frame → Option (List Sym)
+after_view None s = None
+after_view (Some place) s = place_view place s
+
+abbrev pub stepped : Option (List Sym) → Lexeme → Option (List Sym)
+stepped None t = None
+stepped (Some s) t = step Sym formulas s t
+
+-- what is expected after these lexemes
+abbrev pub expected_after : List Lexeme → Option (List Sym)
+expected_after ts = run Sym formulas (Some (expressions ∷ [])) ts
+
+abbrev pub Goes : Option (List Sym) → Type 0
+Goes o = (s : List Sym) × (o ≡ Some s)
+
+-- the list goes on, and may end here or not
+abbrev pub Ends : Bool → List Lexeme → Type 0
+Ends may ts = (s : List Sym) × (expected_after ts ≡ Some s) × (all_empty Sym formulas s ≡ may)
+
+abbrev pub ListReads : List Lexeme → Reading → Type 0
+ListReads ts reading.Whole = Ends true ts
+ListReads ts reading.Unfinished = Ends false ts
+ListReads ts (reading.Stopped i) = (i < length ts) × Goes (expected_after (take i ts)) × (expected_after (take (i + 1) ts) ≡ None)
+
+-- what is open there: nothing, or an expression that goes on
+abbrev pub Fits : Place → List Frame → Type 0
+Fits p.First s = s ≡ []
+Fits p.Again s = s ≡ []
+Fits (p.Inside mode) s = is_stuck (state_with mode s) ≡ false
+
+-- the bytes spell this list of expressions
+abbrev pub BytesSpellExpressions : List ℕ → List Formula → Type 0
+BytesSpellExpressions bytes es = (tokens : List Token) × HasTokens bytes tokens × SpellsExpressions (lexemes_of bytes tokens) es
