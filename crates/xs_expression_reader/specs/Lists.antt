@@ -1,5 +1,5 @@
 -- Where a list of expressions is read.
-use Rattle.std.specs.Prelude.{◌≡◌, ℕ, ◌+◌, ◌<◌, Bool, true, false, List, [], ◌∷◌, Option, Some, None, take, length}
+use Rattle.std.specs.Prelude.{◌≡◌, ℕ, false, List, [], ◌∷◌, Option, Some, None}
 use Rattle.xs_lexer.specs.declared.token.Token.{Token}
 use Rattle.xs_lexer.specs.Tokens.{HasTokens}
 use Rattle.xs_tree.specs.ProgramTree.{Formula}
@@ -8,10 +8,9 @@ use Rattle.xs_tree.specs.SpellsProgram.{SpellsExpressions}
 use Rattle.xs_expression_reader.specs.declared.list.Place.{Place}
 use Rattle.xs_expression_reader.specs.declared.list.Place.TheVariants as p
 use Rattle.xs_expression_reader.specs.declared.reading.Reading.{Reading}
-use Rattle.xs_expression_reader.specs.declared.reading.Reading.TheVariants as reading
 use Rattle.xs_expression_reader.specs.Recognise.{Frame, is_stuck}
 use Rattle.xs_expression_reader.specs.Views.{state_with}
-use Rattle.xs_expression_reader.specs.Predict.{step, run, all_empty}
+use Rattle.xs_expression_reader.specs.Readings.{stepped as grammar_stepped, expected_after as grammar_expected, ReadsTo}
 use Rattle.xs_expression_reader.specs.Formulas.{Sym, more, again, expressions, live, formulas}
 
 -- the list spells some list of expressions
@@ -28,25 +27,15 @@ abbrev pub after_view : Option Place → List Frame → Option (List Sym)
 after_view None s = None
 after_view (Some place) s = place_view place s
 
+-- how far the list is read: the reading of this grammar
 abbrev pub stepped : Option (List Sym) → Lexeme → Option (List Sym)
-stepped None t = None
-stepped (Some s) t = step Sym formulas s t
+stepped = grammar_stepped Sym formulas
 
--- what is expected after these lexemes
 abbrev pub expected_after : List Lexeme → Option (List Sym)
-expected_after ts = run Sym formulas (Some (expressions ∷ [])) ts
-
-abbrev pub Goes : Option (List Sym) → Type 0
-Goes o = (s : List Sym) × (o ≡ Some s)
-
--- the list goes on, and may end here or not
-abbrev pub Ends : Bool → List Lexeme → Type 0
-Ends may ts = (s : List Sym) × (expected_after ts ≡ Some s) × (all_empty Sym formulas s ≡ may)
+expected_after = grammar_expected Sym formulas expressions
 
 abbrev pub ListReads : List Lexeme → Reading → Type 0
-ListReads ts reading.Whole = Ends true ts
-ListReads ts reading.Unfinished = Ends false ts
-ListReads ts (reading.Stopped i) = (i < length ts) × Goes (expected_after (take i ts)) × (expected_after (take (i + 1) ts) ≡ None)
+ListReads = ReadsTo Sym formulas expressions
 
 -- what is open there: nothing, or an expression that goes on
 abbrev pub Fits : Place → List Frame → Type 0

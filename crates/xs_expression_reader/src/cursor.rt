@@ -34,6 +34,7 @@ impl<'t, 'a> Model for Cursor<'t, 'a> {
 }
 
 impl<'t, 'a> Cursor<'t, 'a> {
+    /// All of a text's tokens, before any is read.
     pub fn new(rest: &'t [TokenText<'a>]) -> Cursor<'t, 'a>
         ensures { result ≡ rest.now }
     {
