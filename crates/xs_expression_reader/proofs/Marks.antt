@@ -1,4 +1,4 @@
--- Marks of lexemes, and what a lexeme with each mark is.
+-- Marks of lexemes, and what a lexeme with a mark, or of a word, is.
 use Rattle.std.proofs.Common.{◌≡◌, ℕ, Bool, true, false, List, [], ◌∷◌, refl, ◌∙◌, ap, subst}
 use Rattle.std.specs.Prelude.{◌||◌, codes, if◌then◌else◌}
 use Rattle.xs_lexer.specs.declared.token.TokenKind.TheVariants as k
@@ -6,9 +6,15 @@ use Rattle.xs_tree.specs.Lexemes.{Lexeme, word, num, sign, is_reserved, section_
 use Rattle.xs_tree.specs.Texts.{same_text, is_among}
 use Rattle.xs_tree.specs.SpellsProgram.{skipped_words}
 use Rattle.xs_expression_reader.specs.Recognise.{no_role, role_of_word}
+use Rattle.xs_expression_reader.specs.Places.{is_word}
 use Rattle.xs_expression_reader.specs.Marks.{Mark, w_module, w_var, w_ivar, w_frozen, w_define, w_constants, w_assign, w_init, w_invar, w_trans, w_skipped, w_boolean, w_first, w_after, a_name, a_number, s_becomes, s_dots, s_open, s_close, s_open_brace, s_close_brace, s_comma, s_semicolon, s_colon, s_dot, s_minus, no_mark, mark_of_word, mark_of, is_section}
 use Rattle.xs_tree.proofs.OneTree.{same_text_equal, is_none_of}
 use Rattle.xs_expression_reader.proofs.Rest.{same_word}
+
+pub word_there : (t : Lexeme) (w : List ℕ) → is_word t w ≡ true → t ≡ word w
+word_there (word x) w h = same_word x w h
+word_there (num n d) w h = cc
+word_there (sign s) w h = cc
 
 -- a word of a list has what each word of the list has
 abbrev AllOf : (List ℕ → Type 0) → List (List ℕ) → Type 0
