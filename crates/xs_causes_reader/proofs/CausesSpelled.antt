@@ -7,11 +7,10 @@ use Rattle.xs_tree.specs.ProgramTree.{Text, Path}
 use Rattle.xs_tree.specs.Lexemes.{Lexeme, word, num, sign, is_reserved}
 use Rattle.xs_tree.specs.Spells.{SpellsDotted, one_name, more_names}
 use Rattle.xs_tree.specs.SpellsProgram.{SpellsCommas, last_one, one_comma, SpellsMany, no_more, one_more}
-use Rattle.xs_parse.specs.Build.{name_in, number_in}
-use Rattle.xs_parse.specs.Places.{is_word}
-use Rattle.xs_parse.specs.ProgramRead.{Mark, a_name, a_number, s_dots, s_dot, s_comma, s_semicolon, mark_of}
-use Rattle.xs_parse.proofs.Marks.{Marked, marked}
-use Rattle.xs_parse.proofs.Rest.{same_word}
+use Rattle.xs_expression_reader.specs.Build.{name_in, number_in}
+use Rattle.xs_expression_reader.specs.Places.{is_word}
+use Rattle.xs_expression_reader.specs.Marks.{Mark, a_name, a_number, s_dots, s_dot, s_comma, s_semicolon, mark_of}
+use Rattle.xs_expression_reader.proofs.Marks.{Marked, marked, word_there}
 use Rattle.xs_causes.specs.CausesText.{WrittenCause, SpellsCause, a_cause, SpellsCauses}
 use Rattle.xs_causes_reader.specs.CausesRead.{Stage, start, named, within, first, dots, last, strikes, part, after, ReadSoFar, so_far, where_so, name_read, first_read, is_dots, last_read, part_read, cause_read, after_read, stepped, run}
 use Rattle.xs_causes_reader.proofs.CausesReads.{run_none}
@@ -124,11 +123,6 @@ module _ (all : List WrittenCause) where
   where_left : (c : Bool) (s : Stage) (bs : List WrittenCause) (ts : List Lexeme) → Ends (where_so c s bs) ts → (c ≡ true) × Ends (Some (so_far s bs)) ts
   where_left true s bs ts e = (refl, e)
   where_left false s bs ts e = absurd (never ts e)
-
-  word_there : (t : Lexeme) (w : List ℕ) → is_word t w ≡ true → t ≡ word w
-  word_there (word x) w h = same_word x w h
-  word_there (num n d) w h = cc
-  word_there (sign s) w h = cc
 
   name_left : (c : Mark) (t : Lexeme) (bs : List WrittenCause) (ts : List Lexeme) → Marked c t → Ends (name_read c t bs) ts →
       (x : Text) × (t ≡ word x) × (is_reserved x ≡ false) × Ends (Some (so_far (within x) bs)) ts

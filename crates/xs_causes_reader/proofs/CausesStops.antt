@@ -9,11 +9,11 @@ use Rattle.xs_lexer.specs.declared.token.Token.{Token}
 use Rattle.xs_lexer.specs.Tokens.{HasTokens}
 use Rattle.xs_tree.specs.ProgramTree.{Path}
 use Rattle.xs_tree.specs.Lexemes.{Lexeme, word, num, sign, lexemes_of}
-use Rattle.xs_parse.specs.declared.fault.ParseFault.{ParseFault}
-use Rattle.xs_parse.specs.declared.expected.Reading.{Reading}
-use Rattle.xs_parse.specs.Places.{lexeme_at}
-use Rattle.xs_parse.specs.Stops.{IsFrontOf, Unfinished, FaultMeans, is_left_out, stop_fault}
-use Rattle.xs_parse.proofs.ExpressionLaws.{none_within}
+use Rattle.xs_expression_reader.specs.declared.fault.ParseFault.{ParseFault}
+use Rattle.xs_expression_reader.specs.declared.reading.Reading.{Reading}
+use Rattle.xs_expression_reader.specs.Places.{lexeme_at}
+use Rattle.xs_expression_reader.specs.Stops.{IsFrontOf, Unfinished, FaultMeans, is_left_out, stop_fault}
+use Rattle.xs_expression_reader.proofs.ExpressionLaws.{none_within}
 use Rattle.xs_causes.specs.CausesText.{WrittenCause, SpellsCauses, BytesSpellCauses}
 use Rattle.xs_causes_reader.specs.CausesRead.{Stage, start, named, within, first, dots, last, strikes, part, after, ReadSoFar, so_far, read_more, run, read_of, IsCauses}
 use Rattle.xs_causes_reader.specs.ReadView.{Goes, is_start, reading_at, ReadsTo}

@@ -7,8 +7,8 @@ use Rattle.xs_flattening.specs.Model.{EachBoth}
 use Rattle.xs_weave.specs.Faults.{Fault as WovenFault}
 use Rattle.xs_weave_rules.specs.Keyed.{with_texts}
 use Rattle.xs_scope.specs.declared.model.Fault.{Fault}
-use Rattle.xs_parse.specs.declared.fault.ParseFault.{ParseFault}
-use Rattle.xs_parse.specs.Stops.{FaultMeans}
+use Rattle.xs_expression_reader.specs.declared.fault.ParseFault.{ParseFault}
+use Rattle.xs_expression_reader.specs.Stops.{FaultMeans}
 use Rattle.xs_causes.specs.Causes.{CommonCause}
 use Rattle.xs_causes.specs.CausesText.{WrittenCause, BytesSpellCauses}
 use Rattle.xs_causes.specs.CauseRules.{fault_path, names_of_cause, CauseRule, are_owns_taken}

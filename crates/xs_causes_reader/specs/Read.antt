@@ -4,7 +4,7 @@ use Rattle.xs_tree.specs.ProgramTree.{Path, ProgramTree}
 use Rattle.xs_flattening.specs.Model.{EachBoth}
 use Rattle.xs_weave.specs.Faults.{Fault as WovenFault}
 use Rattle.xs_scope.specs.declared.model.Fault.{Fault}
-use Rattle.xs_parse.specs.Stops.{FaultMeans}
+use Rattle.xs_expression_reader.specs.Stops.{FaultMeans}
 use Rattle.xs_causes.specs.Causes.{CommonCause}
 use Rattle.xs_causes.specs.CausesText.{WrittenCause, BytesSpellCauses}
 use Rattle.xs_causes.specs.CauseRules.{CauseRule as Rule, fault_path, is_path_among, IsBrokenAt, AreOwnsTaken, AreLawful, AreReadAs}

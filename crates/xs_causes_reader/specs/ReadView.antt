@@ -1,8 +1,8 @@
 -- What the code keeps of causes that it reads, as the recogniser's stages, and how far it reads.
 use Rattle.std.specs.Prelude.{◌≡◌, ◌+◌, ◌<◌, Bool, true, false, List, Option, Some, None, length, take, map, option_map}
 use Rattle.xs_tree.specs.Lexemes.{Lexeme}
-use Rattle.xs_parse.specs.declared.expected.Reading.{Reading}
-use Rattle.xs_parse.specs.declared.expected.Reading.TheVariants as reading
+use Rattle.xs_expression_reader.specs.declared.reading.Reading.{Reading}
+use Rattle.xs_expression_reader.specs.declared.reading.Reading.TheVariants as reading
 use Rattle.xs_causes.specs.CausesText.{WrittenCause}
 use Rattle.xs_causes_reader.specs.declared.step.State.{State}
 use Rattle.xs_causes_reader.specs.declared.step.State.TheVariants as s

@@ -3,7 +3,7 @@
 ghost use Rattle.std.specs.Prelude.{◌≡◌};
 ghost use Rattle.xs_causes_reader.specs.declared.fault.CauseFault.TheVariants as fault;
 
-use xs_parse::ParseFault;
+use xs_expression_reader::ParseFault;
 use xs_value::OutOfMemory;
 
 /// A rule that a cause breaks. Of those that a cause breaks, the one that stands first here is told.

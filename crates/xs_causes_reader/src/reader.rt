@@ -5,7 +5,7 @@ ghost use Rattle.xs_lexer.specs.declared.token.Token.{Token};
 ghost use Rattle.xs_lexer.specs.Tokens.{HasTokens};
 ghost use Rattle.xs_tree.specs.Lexemes.{lexemes_of};
 ghost use Rattle.xs_tree.specs.ProgramTree.{program_tree};
-ghost use Rattle.xs_parse.specs.Stops.{FaultMeans};
+ghost use Rattle.xs_expression_reader.specs.Stops.{FaultMeans};
 ghost use Rattle.xs_causes.specs.CausesText.{WrittenCause, BytesSpellCauses};
 ghost use Rattle.xs_staging.specs.CauseOf.{cause_of};
 ghost use Rattle.xs_causes_reader.specs.CausesRead.{IsCauses};
@@ -17,12 +17,12 @@ use crate::rules::lawful;
 use crate::step::{State, step};
 use crate::written::WrittenList;
 use std::alloc::Global;
+use xs_expression_reader::ParseFault;
+use xs_expression_reader::reader::{split, stop_at};
+use xs_expression_reader::reading::Reading;
+use xs_expression_reader::token::{TokenText, token_texts};
 use xs_flat::FaultList;
 use xs_lexer::TokenList;
-use xs_parse::ParseFault;
-use xs_parse::expected::Reading;
-use xs_parse::reader::{split, stop_at};
-use xs_parse::token::{TokenText, token_texts};
 use xs_staging::CauseList;
 use xs_tree::Program;
 use xs_value::OutOfMemory;
@@ -80,7 +80,7 @@ fn written_of(
 }
 
 /// The causes that the bytes spell.
-#[tactic(auto, using(xs_parse::proofs::FaultLaws::of_tokens))]
+#[tactic(auto, using(xs_expression_reader::proofs::FaultLaws::of_tokens))]
 fn written_causes(alloc: Global, bytes: &[u8]) -> Result<WrittenList, ParseFault>
     requires { length bytes.now < 2 ^ 32 }
     ensures spelled { IfOk result (λ cs. BytesSpellCauses bytes.now (written_trees cs)) }

@@ -1,15 +1,15 @@
 //! What is read of a cause so far, and what one more token makes of it.
 
 ghost use Rattle.std.specs.Prelude.{◌≡◌, [], codes, option_map, IfOk};
-ghost use Rattle.xs_parse.specs.ProgramRead.{mark_of};
-ghost use Rattle.xs_parse.specs.Places.{is_word};
+ghost use Rattle.xs_expression_reader.specs.Marks.{mark_of};
+ghost use Rattle.xs_expression_reader.specs.Places.{is_word};
 ghost use Rattle.xs_causes_reader.specs.CausesRead.{part, stepped, stage_where, name_stage, first_stage, is_dots as is_dots_mark, last_stage, part_stage, after_read, cause_read};
 ghost use Rattle.xs_causes_reader.specs.ReadView.{stage_of, read_view, written_tree, written_trees};
 
 use crate::written::{PathList, Written, WrittenList};
 use std::alloc::Global;
-use xs_parse::mark::Mark;
-use xs_parse::token::TokenText;
+use xs_expression_reader::mark::Mark;
+use xs_expression_reader::token::TokenText;
 use xs_value::{Name, NameList, OutOfMemory};
 
 /// What stands before the names of the faults that a cause strikes.

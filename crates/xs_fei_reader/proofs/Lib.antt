@@ -1,4 +1,3 @@
-pub mod CursorLaws
 pub mod FileReads
 pub mod Through
 pub mod InstructionSound

@@ -4,16 +4,15 @@ use Rattle.std.specs.Prelude.{nat_eq, if◌then◌else◌}
 use Rattle.xs_lexer.specs.declared.token.TokenKind.TheVariants as k
 use Rattle.xs_tree.specs.Lexemes.{Lexeme, word, num, sign, is_reserved}
 use Rattle.xs_tree.specs.Texts.{same_text}
-use Rattle.xs_parse.specs.Recognise.{State, stuck, is_whole}
-use Rattle.xs_parse.specs.Recognise as machine
-use Rattle.xs_parse.specs.Places.{is_word}
-use Rattle.xs_parse.specs.Predict.{Means}
-use Rattle.xs_parse.specs.ProgramRead.{Mark, a_name, a_number, s_open, s_close, s_comma, s_semicolon, s_colon, mark_of}
-use Rattle.xs_parse.proofs.Accepted.{run_stuck}
-use Rattle.xs_parse.proofs.Marks.{Marked, marked, mark_of_name}
+use Rattle.xs_expression_reader.specs.Recognise.{State, stuck, is_whole}
+use Rattle.xs_expression_reader.specs.Recognise as machine
+use Rattle.xs_expression_reader.specs.Places.{is_word}
+use Rattle.xs_expression_reader.specs.Predict.{Means}
+use Rattle.xs_expression_reader.specs.Marks.{Mark, a_name, a_number, s_open, s_close, s_comma, s_semicolon, s_colon, mark_of}
+use Rattle.xs_expression_reader.proofs.Accepted.{run_stuck}
+use Rattle.xs_expression_reader.proofs.Marks.{Marked, marked, mark_of_name, word_there}
 use Rattle.xs_fei_reader.specs.InstructionRead.{Single, the_name, the_number, the_open, the_close, the_comma, the_colon, the_semicolon, Sym, is_single, spelled, live, where_so, instructions}
 use Rattle.xs_fei_reader.specs.InstructionRead as s
-use Rattle.xs_fei_reader.proofs.CursorLaws.{word_there}
 
 -- single lexemes
 unfoldable pub That : Single → Lexeme → Type 0

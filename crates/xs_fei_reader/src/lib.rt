@@ -3,8 +3,8 @@
 //! The model: bytes have tokens, as `xs_lexer` splits them, the grammar sees each token as a lexeme, and a list of
 //! lexemes spells instructions by a relation with one case for each line of the grammar (`SpellsInstructions` of
 //! `xs_fei`). The call answers the instructions that the bytes spell, or a `ParseFault` with the first place that no
-//! text goes on from; what a refusal says of the bytes is `FaultMeans` of `xs_parse`, over `IsInstructions` of
-//! `specs/InstructionPlaces.antt`.
+//! text goes on from; what a refusal says of the bytes is `FaultMeans` of `xs_expression_reader`, over
+//! `IsInstructions` of `specs/InstructionPlaces.antt`.
 //!
 //! The words of the grammar, such as `MODE` and `Permanent`, are known by their place and are names elsewhere.
 //!
@@ -27,7 +27,6 @@
 #![tactic(auto)]
 
 mod build;
-mod cursor;
 mod place;
 mod reader;
 

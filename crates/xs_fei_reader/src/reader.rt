@@ -3,23 +3,23 @@ ghost use Rattle.std.specs.Prelude.{◌≡◌, ◌<◌, ◌^◌, IfOk, IfErr, Li
 ghost use Rattle.xs_lexer.specs.declared.token.Token.{Token};
 ghost use Rattle.xs_lexer.specs.Tokens.{HasTokens};
 ghost use Rattle.xs_tree.specs.Lexemes.{lexemes_of};
-ghost use Rattle.xs_parse.specs.Stops.{FaultMeans};
+ghost use Rattle.xs_expression_reader.specs.Stops.{FaultMeans};
 ghost use Rattle.xs_fei_reader.specs.InstructionPlaces.{IsInstructions};
 ghost use Rattle.xs_fei_reader.specs.Within.{HaveInstructionDepths, AreInstructionsTooDeep};
 ghost use Rattle.xs_fei.specs.Instructions.{InstructionTree, instruction_tree};
 ghost use Rattle.xs_fei.specs.SpellsInstructions.{BytesSpellInstructions};
 
 use crate::build::file;
-use crate::cursor::Cursor;
 use crate::place::read_through;
 use std::alloc::Global;
+use xs_expression_reader::ParseFault;
+use xs_expression_reader::cursor::Cursor;
+use xs_expression_reader::fault::BuildFault;
+use xs_expression_reader::reader::{split, stop_at};
+use xs_expression_reader::reading::Reading;
+use xs_expression_reader::token::{TokenText, token_texts};
 use xs_fei::Instructions;
 use xs_lexer::TokenList;
-use xs_parse::ParseFault;
-use xs_parse::expected::Reading;
-use xs_parse::fault::BuildFault;
-use xs_parse::reader::{split, stop_at};
-use xs_parse::token::{TokenText, token_texts};
 
 /// Refuses what is no file of instructions.
 fn check(
@@ -68,7 +68,7 @@ fn make(
 
 /// The instructions that the bytes spell, where each expression in them is at most 1,000 high and nested at most 1,000
 /// deep. It takes time in proportion to the bytes.
-#[tactic(auto, using(xs_parse::proofs::FaultLaws::of_tokens))]
+#[tactic(auto, using(xs_expression_reader::proofs::FaultLaws::of_tokens))]
 pub fn instructions(alloc: Global, bytes: &[u8]) -> Result<Instructions, ParseFault>
     requires { length bytes.now < 2 ^ 32 }
     ensures spelled { IfOk result (λ i. BytesSpellInstructions bytes.now (instruction_tree i)) }

@@ -10,8 +10,8 @@ use Rattle.xs_flattening.specs.FlatTrace.{IsFlatTrace}
 use Rattle.xs_flattening.specs.History.{Mode, with_history}
 use Rattle.xs_encoded.specs.FlatTraces.{ReachesTop, HasFailedNumber}
 use Rattle.xs_kinds.specs.Models.{IsTyped}
-use Rattle.xs_parse.specs.declared.fault.ParseFault.{ParseFault}
-use Rattle.xs_parse.specs.Stops.{FaultMeans}
+use Rattle.xs_expression_reader.specs.declared.fault.ParseFault.{ParseFault}
+use Rattle.xs_expression_reader.specs.Stops.{FaultMeans}
 use Rattle.xs_weave.specs.Faults.{Fault}
 use Rattle.xs_trace_text.specs.Given.{GivesTrace}
 use Rattle.xs_certificate.specs.Certificate.{Certificate}

@@ -6,7 +6,8 @@ use Rattle.xs_tree.specs.ProgramTree.{Formula, DeclaredTree, boolean, range, mem
 use Rattle.xs_tree.specs.Trace.{Each}
 use Rattle.xs_tree.specs.Lexemes.{Lexeme, sign}
 use Rattle.xs_tree.specs.SpellsProgram.{SpellsMany, no_more, one_more, SpellsCommas, last_one, one_comma, SpellsBracketed, no_brackets, brackets, SpellsExpr, SpellsFormula, open_ended, ended, SpellsDeclared, is_type, is_instance, is_empty_instance, SpellsDecl, declares, SpellsDefine, defines, SpellsAssignment, assigns, SpellsSection, a_var, an_ivar, a_frozen, a_define, some_constants, an_assign, an_init, an_invar, a_trans, SpellsSections, no_section, a_section, skipped, SpellsModule, a_module}
-use Rattle.xs_parse.specs.Within.{Spelling, AreWithin, spelling, in_formula, in_commas, in_actual, in_actuals, in_many, in_declared, in_decl, in_define, in_assignment, in_section, in_sections, in_module, HasProgramDepths}
+use Rattle.xs_expression_reader.specs.Within.{Spelling, AreWithin, spelling, in_formula, in_many}
+use Rattle.xs_parse.specs.Within.{in_commas, in_actual, in_actuals, in_declared, in_decl, in_define, in_assignment, in_section, in_sections, in_module, HasProgramDepths}
 use Rattle.xs_generated.proofs.Short.{spelling_long, lexemes_short}
 
 -- no expression is higher than 1,000

@@ -21,9 +21,9 @@ use Rattle.xs_fei.proofs.InstructionSpells.{instructions_spell}
 use Rattle.xs_fei.proofs.OneInstructions.{one_instructions}
 use Rattle.xs_fei_reader.specs.InstructionPlaces.{IsInstructions}
 use Rattle.xs_fei_reader.specs.Within.{HaveInstructionDepths, AreInstructionsTooDeep}
-use Rattle.xs_parse.specs.declared.fault.ParseFault.{ParseFault}
-use Rattle.xs_parse.specs.declared.fault.ParseFault.TheVariants as parse
-use Rattle.xs_parse.specs.Stops.{IsExpression, IsTooDeep, IsFrontOf, StopsAt, FaultMeans}
+use Rattle.xs_expression_reader.specs.declared.fault.ParseFault.{ParseFault}
+use Rattle.xs_expression_reader.specs.declared.fault.ParseFault.TheVariants as parse
+use Rattle.xs_expression_reader.specs.Stops.{IsExpression, IsTooDeep, IsFrontOf, StopsAt, FaultMeans}
 use Rattle.xs_parse.specs.Symbols.{IsProgram}
 use Rattle.xs_parse.specs.Within.{HasProgramDepths, IsProgramTooDeep}
 use Rattle.xs_generate.specs.Generator.{generated_model, generated_instructions, generated_top}

@@ -12,7 +12,7 @@ use Rattle.xs_tree.specs.Lexemes.{Lexeme, word, sign, lexemes_of}
 use Rattle.xs_tree.specs.Trace.{Each}
 use Rattle.xs_tree.specs.Spells.{SpellsDotted, one_name, more_names, Spells, only_iff, implies, repeated, only_or, chooses, only_not, negates, only_atom, inverts, SpellsMore, no_operator, one_operator, SpellsAtom, is_true, is_false, is_number, is_span, is_name, in_parentheses, is_next, is_set, is_case, SpellsTrees, one_tree, more_trees, SpellsBranches, one_branch, more_branches}
 use Rattle.xs_tree.proofs.ValueLaws.{both_true}
-use Rattle.xs_parse.specs.Places.{lexeme_at}
+use Rattle.xs_expression_reader.specs.Places.{lexeme_at}
 use Rattle.xs_tree.specs.Nesting.{nesting_of, more_nesting, atom_nesting, trees_nesting, branches_nesting}
 
 dotted_long : {ts : List Lexeme} {p : Path} → SpellsDotted ts p → 1 ≤ length ts

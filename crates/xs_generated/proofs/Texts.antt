@@ -12,7 +12,8 @@ use Rattle.xs_fei.specs.Instructions.{EffectTree, stuck_at, ModeTree, SliceTree,
 use Rattle.xs_fei.specs.InstructionText.{instructions_text, extension_words}
 use Rattle.xs_fei.specs.SpellsInstructions.{SpellsEffect, e_stuck, e_follows, e_inverted, e_random, e_erroneous, e_frozen, e_pick, e_offset, e_ramp, SpellsGuard, no_guard, a_guard, SpellsMode, a_mode, SpellsSlice, a_slice, SpellsExtension, an_extension, SpellsInstructions, unnamed, named}
 use Rattle.xs_fei_reader.specs.Within.{in_effect, in_guard, in_mode, in_slice, in_extension, in_instructions}
-use Rattle.xs_parse.specs.Within.{AreWithin, HasProgramDepths}
+use Rattle.xs_expression_reader.specs.Within.{AreWithin}
+use Rattle.xs_parse.specs.Within.{HasProgramDepths}
 use Rattle.xs_generate.specs.Generator.{stage_name, output_of, stage, dead_formula, dead_section, relay_module, generated_instructions}
 use Rattle.xs_generated.specs.Laws.{GeneratedTextIsShort, GeneratedTextHasDepths, InstructionTextIsShort, InstructionTextHasDepths, TopTextHasDepths}
 use Rattle.xs_generated.proofs.Stages.{IsStageBefore, stages_from, main_of, program_of, AreStages, generated_of_stages}

@@ -8,9 +8,9 @@ use Rattle.xs_tree.specs.Bytes.{HasDepths}
 use Rattle.xs_fei.specs.InstructionText.{instructions_text}
 use Rattle.xs_fei_reader.specs.Within.{HaveInstructionDepths, AreInstructionsTooDeep}
 use Rattle.xs_fei_reader.specs.InstructionPlaces.{IsInstructions}
-use Rattle.xs_parse.specs.declared.fault.ParseFault.{ParseFault}
-use Rattle.xs_parse.specs.declared.fault.ParseFault.TheVariants.{OutOfMemory}
-use Rattle.xs_parse.specs.Stops.{IsExpression, IsTooDeep, FaultMeans}
+use Rattle.xs_expression_reader.specs.declared.fault.ParseFault.{ParseFault}
+use Rattle.xs_expression_reader.specs.declared.fault.ParseFault.TheVariants.{OutOfMemory}
+use Rattle.xs_expression_reader.specs.Stops.{IsExpression, IsTooDeep, FaultMeans}
 use Rattle.xs_parse.specs.Symbols.{IsProgram}
 use Rattle.xs_parse.specs.Within.{HasProgramDepths, IsProgramTooDeep}
 use Rattle.xs_flattening.specs.Flat.{FlatLeaf, FlatInstance, FlatModel}

@@ -5,10 +5,10 @@ use Rattle.std.proofs.lemmas.List.{map-append}
 use Rattle.xs_tree.specs.declared.program.Section.{Section}
 use Rattle.xs_tree.specs.ProgramTree.{SectionTree, section_tree}
 use Rattle.xs_tree.specs.Lexemes.{Lexeme}
-use Rattle.xs_parse.specs.ProgramRead.{w_skipped}
-use Rattle.xs_parse.specs.Reads.{Read, got, deep, none, and_then, with_front, mark_at, rest_of, has_next, is_past}
+use Rattle.xs_expression_reader.specs.Marks.{w_skipped}
+use Rattle.xs_expression_reader.specs.Reads.{Read, got, deep, none, and_then, with_front, mark_at, rest_of, has_next, is_past}
 use Rattle.xs_parse.specs.ProgramParts.{past_skipped, section_at, is_kept, sections_at}
-use Rattle.xs_parse.proofs.ReadLaws.{front_next}
+use Rattle.xs_expression_reader.proofs.ReadLaws.{front_next}
 
 -- one lexeme more is passed over
 pub skipped_more : (ts : List Lexeme) → is_past ts ≡ false → past_skipped (rest_of ts) ≡ past_skipped ts

@@ -4,19 +4,20 @@ use Rattle.std.specs.Prelude.{codes, pos}
 use Rattle.xs_lexer.specs.declared.token.TokenKind.TheVariants as k
 use Rattle.xs_tree.specs.declared.program.Member.{Member}
 use Rattle.xs_tree.specs.declared.program.Member.TheVariants as mem
-use Rattle.xs_tree.specs.ProgramTree.{Text, Formula, DeclaredTree, boolean, DeclTree, DefineTree, AssignmentTree, SectionTree, init, ProgramTree}
+use Rattle.xs_tree.specs.ProgramTree.{Text, Formula, DeclaredTree, boolean, DeclTree, DefineTree, AssignmentTree, SectionTree, init, ProgramTree, Path}
 use Rattle.xs_tree.specs.Lexemes.{Lexeme, word, num, sign, is_reserved}
-use Rattle.xs_tree.specs.ProgramTree.{Path}
 use Rattle.xs_tree.specs.Spells.{SpellsInt, plain_int, minus_int, SpellsDotted, one_name, more_names}
 use Rattle.xs_tree.specs.SpellsProgram.{SpellsMany, no_more, one_more, SpellsBracketed, no_brackets, brackets, SpellsName, SpellsExpr, SpellsMember, a_symbol, SpellsType, is_boolean, is_range, is_members, SpellsDeclared, is_type, is_instance, is_empty_instance, SpellsDecl, declares, SpellsDefine, defines, always, first, SpellsAssignment, assigns, SpellsFormula, open_ended, ended, HasNoSection, a_var, an_ivar, a_frozen, a_define, some_constants, an_assign, an_init, an_invar, a_trans, SpellsSections, no_section, a_section, skipped, SpellsFormals, some_formals, empty_formals, SpellsModule, a_module}
 use Rattle.xs_tree.specs.SpellsProgram as g
-use Rattle.xs_parse.specs.Recognise.{role_of, start}
-use Rattle.xs_parse.specs.Recognise as machine
-use Rattle.xs_parse.specs.ProgramRead.{Mark, a_name, s_close, mark_of, the_name, the_number, the_colon, the_becomes, the_semicolon, the_open, the_close, the_dots, Sym, Tail, tail_end, tail_more, is_single, IsName, IsExpr, IsMember, IsFormals, IsActuals, spelled, empty, expr, live, alone, passing, after_type, after_declared, after_section, after, after_actual, next, shortest}
+use Rattle.xs_expression_reader.specs.Recognise.{role_of, start}
+use Rattle.xs_expression_reader.specs.Recognise as machine
+use Rattle.xs_expression_reader.specs.Marks.{Mark, a_name, s_close, mark_of}
+use Rattle.xs_parse.specs.ProgramRead.{the_name, the_number, the_colon, the_becomes, the_semicolon, the_open, the_close, the_dots, Sym, Tail, tail_end, tail_more, is_single, IsName, IsExpr, IsMember, IsFormals, IsActuals, spelled, empty, expr, live, alone, passing, after_type, after_declared, after_section, after, after_actual, next, shortest}
 use Rattle.xs_parse.specs.ProgramRead as s
-use Rattle.xs_parse.proofs.Accepted.{spelled_accepted}
-use Rattle.xs_parse.proofs.Exact.{completes}
-use Rattle.xs_parse.proofs.Marks.{Marked, marked, mark_of_name, mark_of_skipped, That, Means_of, as_one, as_last, an_expr, commas_tail, Through}
+use Rattle.xs_expression_reader.proofs.Accepted.{spelled_accepted}
+use Rattle.xs_expression_reader.proofs.Exact.{completes}
+use Rattle.xs_expression_reader.proofs.Marks.{Marked, marked, mark_of_name, mark_of_skipped}
+use Rattle.xs_parse.proofs.SymbolMeanings.{That, Means_of, as_one, as_last, an_expr, commas_tail, Through}
 use Rattle.xs_parse.proofs.ProgramSound.{to_assign, live_complete}
 
 -- the other way: a name

@@ -5,52 +5,21 @@ use Rattle.xs_tree.specs.ProgramTree.{ProgramTree}
 use Rattle.xs_tree.specs.Lexemes.{Lexeme, word, num, sign, is_reserved, section_words}
 use Rattle.xs_tree.specs.Texts.{is_among}
 use Rattle.xs_tree.specs.SpellsProgram.{SpellsMany, SpellsModule}
-use Rattle.xs_parse.specs.Recognise.{Role, role_of, Ended, by_number, by_name, by_other, State, had, stuck, is_whole, start}
-use Rattle.xs_parse.specs.Recognise as machine
-use Rattle.xs_parse.specs.Predict.{run, Fits, IsPredictable, can_start, all_empty, is_some}
-use Rattle.xs_parse.specs.ProgramRead.{Mark, w_module, w_var, w_ivar, w_frozen, w_define, w_constants, w_assign, w_init, w_invar, w_trans, w_skipped, w_boolean, w_first, w_after, a_name, a_number, s_becomes, s_dots, s_open, s_close, s_open_brace, s_close_brace, s_comma, s_semicolon, s_colon, s_dot, s_minus, no_mark, mark_of, the_becomes, the_semicolon, the_close, Sym, is_single, is_section, empty, live, alone, passing, after_type, after_declared, after_section, after, after_actual, next, ends_formula, ends_dots, is_word_module, is_word_semicolon, follow, programs}
+use Rattle.xs_expression_reader.specs.Recognise.{role_of, State, stuck, start}
+use Rattle.xs_expression_reader.specs.Recognise as machine
+use Rattle.xs_expression_reader.specs.Predict.{run, Fits, IsPredictable, can_start, all_empty, is_some}
+use Rattle.xs_expression_reader.specs.Marks.{Mark, w_module, w_var, w_ivar, w_frozen, w_define, w_constants, w_assign, w_init, w_invar, w_trans, w_skipped, w_boolean, w_first, w_after, a_name, a_number, s_becomes, s_dots, s_open, s_close, s_open_brace, s_close_brace, s_comma, s_semicolon, s_colon, s_dot, s_minus, no_mark, mark_of, is_section}
+use Rattle.xs_parse.specs.ProgramRead.{the_becomes, the_semicolon, the_close, Sym, is_single, empty, live, alone, passing, after_type, after_declared, after_section, after, after_actual, next, ends_formula, ends_dots, is_word_module, is_word_semicolon, follow, programs}
 use Rattle.xs_parse.specs.ProgramRead as s
-use Rattle.xs_parse.proofs.Exact.{completes}
-use Rattle.xs_parse.proofs.Predicted.{goes_on_exactly, accepts_exactly}
-use Rattle.xs_parse.proofs.Marks.{among, Marked, marked, section_no_role, begins_section, section_mark, Means_of, Through}
+use Rattle.xs_expression_reader.proofs.Exact.{completes}
+use Rattle.xs_expression_reader.proofs.Predicted.{goes_on_exactly, accepts_exactly}
+use Rattle.xs_expression_reader.proofs.Marks.{among, Marked, marked, section_no_role, begins_section, section_mark}
+use Rattle.xs_expression_reader.proofs.ReadLaws.{ends_role, whole_stops}
+use Rattle.xs_parse.proofs.SymbolMeanings.{Means_of, Through}
 use Rattle.xs_parse.proofs.ProgramSound.{sounds}
 use Rattle.xs_parse.proofs.ProgramComplete.{completed, empties, emptied, completing}
 
 -- what may follow
-abbrev pub ends_role : Role → Bool
-ends_role machine.a_semicolon = true
-ends_role machine.a_comma = true
-ends_role machine.closes = true
-ends_role machine.no_role = true
-ends_role _ = false
-
-pub whole_stops : (st : State) (c : Role) → is_whole st ≡ true → ends_role c ≡ true → machine.step st c ≡ stuck
-whole_stops (had e []) machine.a_semicolon h f = stops_semicolon e
-  where
-    stops_semicolon : (e : Ended) → machine.step (had e []) machine.a_semicolon ≡ stuck
-    stops_semicolon by_number = refl
-    stops_semicolon by_name = refl
-    stops_semicolon by_other = refl
-whole_stops (had e []) machine.a_comma h f = stops_comma e
-  where
-    stops_comma : (e : Ended) → machine.step (had e []) machine.a_comma ≡ stuck
-    stops_comma by_number = refl
-    stops_comma by_name = refl
-    stops_comma by_other = refl
-whole_stops (had e []) machine.closes h f = stops_closes e
-  where
-    stops_closes : (e : Ended) → machine.step (had e []) machine.closes ≡ stuck
-    stops_closes by_number = refl
-    stops_closes by_name = refl
-    stops_closes by_other = refl
-whole_stops (had e []) machine.no_role h f = stops_none e
-  where
-    stops_none : (e : Ended) → machine.step (had e []) machine.no_role ≡ stuck
-    stops_none by_number = refl
-    stops_none by_name = refl
-    stops_none by_other = refl
-whole_stops st c h f = cc
-
 pub section_ends : (t : Lexeme) → is_section t ≡ true → ends_role (role_of t) ≡ true
 section_ends (word x) h = ap ends_role (section_no_role x h)
 section_ends (num n d) h = cc

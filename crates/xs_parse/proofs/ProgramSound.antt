@@ -4,20 +4,21 @@ use Rattle.std.specs.Prelude.{codes, pos}
 use Rattle.xs_lexer.specs.declared.token.TokenKind.TheVariants as k
 use Rattle.xs_tree.specs.declared.program.Member.TheVariants as mem
 use Rattle.xs_tree.specs.declared.program.Moment.TheVariants as when
-use Rattle.xs_tree.specs.ProgramTree.{Formula, DeclaredTree, boolean, range, members, instance, DeclTree, SectionTree, init, invar, trans}
+use Rattle.xs_tree.specs.ProgramTree.{Formula, DeclaredTree, boolean, range, members, instance, DeclTree, SectionTree, init, invar, trans, Path}
 use Rattle.xs_tree.specs.Lexemes.{Lexeme, word, num, sign, is_reserved, section_words}
 use Rattle.xs_tree.specs.Texts.{is_among}
-use Rattle.xs_tree.specs.ProgramTree.{Path}
 use Rattle.xs_tree.specs.Spells.{minus, SpellsInt, plain_int, minus_int, SpellsDotted, one_name, more_names}
 use Rattle.xs_tree.specs.SpellsProgram.{SpellsMany, one_more, SpellsBracketed, brackets, SpellsName, SpellsExpr, SpellsMember, a_symbol, SpellsType, is_boolean, is_range, is_members, SpellsDeclared, is_type, is_instance, is_empty_instance, SpellsDecl, declares, defines, SpellsTarget, always, first, assigns, SpellsFormula, open_ended, ended, HasNoSection, SpellsSection, a_var, an_ivar, a_frozen, a_define, some_constants, an_assign, an_init, an_invar, a_trans, a_section, skipped, SpellsFormals, some_formals, empty_formals, a_module}
 use Rattle.xs_tree.specs.SpellsProgram as g
-use Rattle.xs_parse.specs.Recognise.{role_of, State, stuck, is_whole, start}
-use Rattle.xs_parse.specs.Recognise as machine
-use Rattle.xs_parse.specs.ProgramRead.{Mark, w_module, w_var, w_ivar, w_frozen, w_define, w_constants, w_assign, w_init, w_invar, w_trans, w_skipped, w_boolean, w_first, w_after, a_name, a_number, s_open, s_close, s_open_brace, s_close_brace, s_comma, s_semicolon, s_dot, s_minus, mark_of, Single, the_name, the_number, the_colon, the_becomes, the_semicolon, the_open, the_close, the_dots, Sym, Tail, tail_end, tail_more, is_single, is_section, IsName, IsExpr, IsMember, IsFormals, IsActuals, spelled, expr, live, alone, passing, after_type, after_declared, after_section, after, after_actual, next}
+use Rattle.xs_expression_reader.specs.Recognise.{role_of, State, stuck, is_whole, start}
+use Rattle.xs_expression_reader.specs.Recognise as machine
+use Rattle.xs_expression_reader.specs.Marks.{Mark, w_module, w_var, w_ivar, w_frozen, w_define, w_constants, w_assign, w_init, w_invar, w_trans, w_skipped, w_boolean, w_first, w_after, a_name, a_number, s_open, s_close, s_open_brace, s_close_brace, s_comma, s_semicolon, s_dot, s_minus, mark_of, is_section}
+use Rattle.xs_parse.specs.ProgramRead.{Single, the_name, the_number, the_colon, the_becomes, the_semicolon, the_open, the_close, the_dots, Sym, Tail, tail_end, tail_more, is_single, IsName, IsExpr, IsMember, IsFormals, IsActuals, spelled, expr, live, alone, passing, after_type, after_declared, after_section, after, after_actual, next}
 use Rattle.xs_parse.specs.ProgramRead as s
-use Rattle.xs_parse.proofs.Accepted.{run_stuck}
-use Rattle.xs_parse.proofs.Rest.{accepted_spelled}
-use Rattle.xs_parse.proofs.Marks.{Marked, marked, That, Means_of, One, one, last, tail_commas, Through}
+use Rattle.xs_expression_reader.proofs.Accepted.{run_stuck}
+use Rattle.xs_expression_reader.proofs.Rest.{accepted_spelled}
+use Rattle.xs_expression_reader.proofs.Marks.{Marked, marked}
+use Rattle.xs_parse.proofs.SymbolMeanings.{That, Means_of, One, one, last, tail_commas, Through}
 
 -- a dotted name after its first name
 dotted_sound : (x : List ℕ) (xs : List Lexeme) → is_reserved x ≡ false → spelled s.more_dots xs → (p : Path) × SpellsDotted (word x ∷ xs) p

@@ -6,11 +6,11 @@ use Rattle.xs_tree.specs.Lexemes.{Lexeme}
 use Rattle.xs_parse.specs.declared.symbols.Symbol.{Symbol}
 use Rattle.xs_parse.specs.declared.expected.Position.{Position}
 use Rattle.xs_parse.specs.declared.expected.Position.TheVariants as p
-use Rattle.xs_parse.specs.Recognise.{Role, Frame, State, stuck, role_of, is_stuck, is_whole}
-use Rattle.xs_parse.specs.Recognise as machine
-use Rattle.xs_parse.specs.Views.{state_with}
-use Rattle.xs_parse.specs.Predict.{taken, step, all_empty}
-use Rattle.xs_parse.specs.Readings.{stepped, Goes}
+use Rattle.xs_expression_reader.specs.Recognise.{Role, Frame, State, stuck, role_of, is_stuck, is_whole}
+use Rattle.xs_expression_reader.specs.Recognise as machine
+use Rattle.xs_expression_reader.specs.Views.{state_with}
+use Rattle.xs_expression_reader.specs.Predict.{taken, step, all_empty}
+use Rattle.xs_expression_reader.specs.Readings.{stepped, Goes}
 use Rattle.xs_parse.specs.ProgramRead.{Sym, formula, live, alone, programs}
 use Rattle.xs_parse.specs.Symbols.{symbol_view, position_view, between_view, Chosen, Taken, Fits}
 

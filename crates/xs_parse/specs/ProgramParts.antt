@@ -1,17 +1,13 @@
 -- What the second pass reads of a program, part by part, and what it leaves.
-use Rattle.std.specs.Prelude.{ℕ, zero, suc, ℤ, pos, Bool, true, false, List, [], ◌∷◌, length, ◌||◌, if◌then◌else◌}
+use Rattle.std.specs.Prelude.{ℕ, zero, suc, Bool, true, false, List, [], ◌∷◌, length, ◌||◌, if◌then◌else◌}
 use Rattle.xs_tree.specs.declared.program.Member.{Member}
 use Rattle.xs_tree.specs.declared.program.Member.TheVariants as member
 use Rattle.xs_tree.specs.declared.program.Moment.{Moment}
 use Rattle.xs_tree.specs.declared.program.Moment.TheVariants.{Always, First, After}
 use Rattle.xs_tree.specs.ProgramTree.{Text, Path, Formula, DeclaredTree, boolean, range, members, instance, DeclTree, DefineTree, AssignmentTree, SectionTree, var, ivar, frozen, define, constants, assign, init, invar, trans, ModuleTree, ProgramTree}
 use Rattle.xs_tree.specs.Lexemes.{Lexeme}
-use Rattle.xs_tree.specs.Spells.{minus}
-use Rattle.xs_parse.specs.ProgramRead.{Mark, w_module, w_var, w_ivar, w_frozen, w_define, w_constants, w_assign, w_init, w_invar, w_trans, w_skipped, w_boolean, w_first, w_after, a_name, s_becomes, s_dots, s_open, s_close, s_open_brace, s_close_brace, s_comma, s_semicolon, s_colon, s_dot, s_minus, is_section}
-use Rattle.xs_parse.specs.Reads.{Read, got, none, and_then, mark_at, rest_of, has_next, expect_at, name_at, number_at, expr_at, next_expr, each_at, some_at, past_semicolon}
-
-abbrev pub int_at : List Lexeme → Read ℤ
-int_at ts = if has_next s_minus ts then and_then (number_at (rest_of ts)) (λ n r. got (minus n) r) else and_then (number_at ts) (λ n r. got (pos n) r)
+use Rattle.xs_expression_reader.specs.Marks.{Mark, w_module, w_var, w_ivar, w_frozen, w_define, w_constants, w_assign, w_init, w_invar, w_trans, w_skipped, w_boolean, w_first, w_after, a_name, s_becomes, s_dots, s_open, s_close, s_open_brace, s_close_brace, s_comma, s_semicolon, s_colon, s_dot, is_section}
+use Rattle.xs_expression_reader.specs.Reads.{Read, got, int_at, none, and_then, mark_at, rest_of, has_next, expect_at, name_at, expr_at, next_expr, each_at, some_at, past_semicolon}
 
 -- a name behind a dot or a comma
 abbrev pub next_name : List Lexeme → Read Text

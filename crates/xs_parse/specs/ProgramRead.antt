@@ -1,72 +1,16 @@
 -- The grammar of programs, as one that is read by one lexeme at a time.
-use Rattle.std.specs.Prelude.{◌≡◌, ◌⊎◌, refl, ℕ, Bool, true, false, List, [], ◌∷◌, ◌++◌, Option, Some, None, ◌||◌, codes, if◌then◌else◌}
+use Rattle.std.specs.Prelude.{◌≡◌, ◌⊎◌, refl, Bool, true, false, List, [], ◌∷◌, ◌++◌, Option, Some, None, ◌||◌, codes}
 use Rattle.xs_lexer.specs.declared.token.TokenKind.TheVariants as k
-use Rattle.xs_tree.specs.ProgramTree.{Text, Formula, DeclaredTree, DeclTree, DefineTree, AssignmentTree, SectionTree, ProgramTree}
+use Rattle.xs_tree.specs.ProgramTree.{Text, Formula, DeclaredTree, DeclTree, DefineTree, AssignmentTree, SectionTree, ProgramTree, Path}
 use Rattle.xs_tree.specs.declared.program.Member.{Member}
-use Rattle.xs_tree.specs.Lexemes.{Lexeme, word, num, sign, is_reserved, section_words}
-use Rattle.xs_tree.specs.Texts.{same_text, is_among}
-use Rattle.xs_tree.specs.ProgramTree.{Path}
+use Rattle.xs_tree.specs.Lexemes.{Lexeme, word, num, sign}
 use Rattle.xs_tree.specs.Spells.{SpellsInt, SpellsDotted}
-use Rattle.xs_tree.specs.SpellsProgram.{SpellsMany, SpellsBracketed, SpellsName, SpellsExpr, SpellsMember, SpellsType, SpellsDeclared, SpellsDecl, SpellsDefine, SpellsAssignment, SpellsFormals, SpellsSections, SpellsModule, HasNoSection, skipped_words}
-use Rattle.xs_parse.specs.Recognise.{role_of, State, stuck, is_whole, is_stuck, start}
-use Rattle.xs_parse.specs.Recognise as machine
-use Rattle.xs_parse.specs.Complete.{completion}
-use Rattle.xs_parse.specs.Predict.{Grammar}
-
--- what a lexeme is outside expressions
-pub data Mark : Type 0 where
-  w_module : Mark
-  w_var : Mark
-  w_ivar : Mark
-  w_frozen : Mark
-  w_define : Mark
-  w_constants : Mark
-  w_assign : Mark
-  w_init : Mark
-  w_invar : Mark
-  w_trans : Mark
-  w_skipped : Mark
-  w_boolean : Mark
-  w_first : Mark
-  w_after : Mark
-  a_name : Mark
-  a_number : Mark
-  s_becomes : Mark
-  s_dots : Mark
-  s_open : Mark
-  s_close : Mark
-  s_open_brace : Mark
-  s_close_brace : Mark
-  s_comma : Mark
-  s_semicolon : Mark
-  s_colon : Mark
-  s_dot : Mark
-  s_minus : Mark
-  no_mark : Mark
-
-abbrev pub mark_of_word : List ℕ → Mark
-mark_of_word x =
-    if same_text x (codes "MODULE") then w_module else (if same_text x (codes "VAR") then w_var else (if same_text x (codes "IVAR") then w_ivar else
-    (if same_text x (codes "FROZENVAR") then w_frozen else (if same_text x (codes "DEFINE") then w_define else (if same_text x (codes "CONSTANTS") then w_constants else
-    (if same_text x (codes "ASSIGN") then w_assign else (if same_text x (codes "INIT") then w_init else (if same_text x (codes "INVAR") then w_invar else
-    (if same_text x (codes "TRANS") then w_trans else (if is_among skipped_words x then w_skipped else (if same_text x (codes "boolean") then w_boolean else
-    (if same_text x (codes "init") then w_first else (if same_text x (codes "next") then w_after else (if is_reserved x then no_mark else a_name))))))))))))))
-
-abbrev pub mark_of : Lexeme → Mark
-mark_of (word x) = mark_of_word x
-mark_of (num n d) = a_number
-mark_of (sign k.Becomes) = s_becomes
-mark_of (sign k.Dots) = s_dots
-mark_of (sign k.Open) = s_open
-mark_of (sign k.Close) = s_close
-mark_of (sign k.OpenBrace) = s_open_brace
-mark_of (sign k.CloseBrace) = s_close_brace
-mark_of (sign k.Comma) = s_comma
-mark_of (sign k.Semicolon) = s_semicolon
-mark_of (sign k.Colon) = s_colon
-mark_of (sign k.Dot) = s_dot
-mark_of (sign k.Minus) = s_minus
-mark_of (sign s) = no_mark
+use Rattle.xs_tree.specs.SpellsProgram.{SpellsMany, SpellsBracketed, SpellsName, SpellsExpr, SpellsMember, SpellsType, SpellsDeclared, SpellsDecl, SpellsDefine, SpellsAssignment, SpellsFormals, SpellsSections, SpellsModule, HasNoSection}
+use Rattle.xs_expression_reader.specs.Recognise.{role_of, State, stuck, is_whole, is_stuck, start}
+use Rattle.xs_expression_reader.specs.Recognise as machine
+use Rattle.xs_expression_reader.specs.Complete.{completion}
+use Rattle.xs_expression_reader.specs.Predict.{Grammar}
+use Rattle.xs_expression_reader.specs.Marks.{Mark, w_module, w_var, w_ivar, w_frozen, w_define, w_constants, w_assign, w_init, w_invar, w_trans, w_skipped, w_boolean, w_first, w_after, a_name, a_number, s_becomes, s_dots, s_open, s_close, s_open_brace, s_close_brace, s_comma, s_semicolon, s_colon, s_dot, s_minus, mark_of, is_section}
 
 -- the lexemes that stand alone between others
 pub data Single : Type 0 where
@@ -119,11 +63,6 @@ is_single the_open s_open = true
 is_single the_close s_close = true
 is_single the_dots s_dots = true
 is_single _ _ = false
-
-abbrev pub is_section : Lexeme → Bool
-is_section (word x) = is_among section_words x
-is_section (num n d) = false
-is_section (sign s) = false
 
 abbrev pub IsName : List Lexeme → Type 0
 IsName ts = (x : Text) × SpellsName ts x

@@ -7,9 +7,10 @@ use Rattle.xs_parse.specs.declared.symbols.Symbol.{Symbol}
 use Rattle.xs_parse.specs.declared.symbols.Symbol.TheVariants as s
 use Rattle.xs_parse.specs.declared.expected.Position.{Position}
 use Rattle.xs_parse.specs.declared.expected.Position.TheVariants as p
-use Rattle.xs_parse.specs.Recognise.{Frame, is_stuck}
-use Rattle.xs_parse.specs.Views.{state_with}
-use Rattle.xs_parse.specs.Predict.{taken}
+use Rattle.xs_expression_reader.specs.Recognise.{Frame, is_stuck}
+use Rattle.xs_expression_reader.specs.Views.{state_with}
+use Rattle.xs_expression_reader.specs.Predict.{taken}
+use Rattle.xs_expression_reader.specs.Marks.{Mark}
 use Rattle.xs_parse.specs.ProgramRead as read
 
 abbrev pub symbol_view : Symbol → read.Sym
@@ -53,7 +54,7 @@ unfoldable pub symbols_of : List Symbol → List read.Sym
 symbols_of xs = symbols_onto [] xs
 
 -- what comes of a symbol that a mark decides
-abbrev pub choice : read.Sym → read.Mark → Option (List read.Sym)
+abbrev pub choice : read.Sym → Mark → Option (List read.Sym)
 choice (read.single w) c = read.alone (read.is_single w c)
 choice x c = read.after x c
 

@@ -1,49 +1,12 @@
--- The expressions in a text, as it is spelled, and whether they are too deep.
-use Rattle.std.specs.Prelude.{ℕ, ◌≤◌, Bool, false, List, [], ◌∷◌, ◌++◌, nat_lt, ◌||◌}
+-- The expressions in a program, as it is spelled, and whether they are too deep.
+use Rattle.std.specs.Prelude.{ℕ, List, [], ◌∷◌, ◌++◌}
 use Rattle.xs_lexer.specs.declared.token.Token.{Token}
 use Rattle.xs_lexer.specs.Tokens.{HasTokens}
-use Rattle.xs_tree.specs.Tree.{height_of}
 use Rattle.xs_tree.specs.ProgramTree.{Formula, DeclaredTree, DeclTree, DefineTree, AssignmentTree, SectionTree, ModuleTree, ProgramTree}
 use Rattle.xs_tree.specs.Lexemes.{Lexeme, lexemes_of}
-use Rattle.xs_tree.specs.Nesting.{nesting_of}
-use Rattle.xs_tree.specs.SpellsProgram.{SpellsMany, no_more, one_more, SpellsCommas, last_one, one_comma, SpellsBracketed, no_brackets, brackets, SpellsExpr, SpellsFormula, open_ended, ended, SpellsExpressions, last_expression, more_expressions, SpellsDeclared, is_type, is_instance, is_empty_instance, SpellsDecl, declares, SpellsDefine, defines, SpellsAssignment, assigns, SpellsSection, a_var, an_ivar, a_frozen, a_define, some_constants, an_assign, an_init, an_invar, a_trans, SpellsSections, no_section, a_section, skipped, SpellsModule, a_module, SpellsProgram}
+use Rattle.xs_tree.specs.SpellsProgram.{SpellsCommas, last_one, one_comma, SpellsBracketed, no_brackets, brackets, SpellsExpr, SpellsDeclared, is_type, is_instance, is_empty_instance, SpellsDecl, declares, SpellsDefine, defines, SpellsAssignment, assigns, SpellsSection, a_var, an_ivar, a_frozen, a_define, some_constants, an_assign, an_init, an_invar, a_trans, SpellsSections, no_section, a_section, skipped, SpellsModule, a_module, SpellsProgram}
 use Rattle.xs_tree.specs.Bytes.{BytesSpellProgram}
-use Rattle.xs_parse.specs.Lists.{BytesSpellExpressions}
-
--- an expression, and how it is spelled
-pub record Spelling : Type 0 where
-  pub lexemes : List Lexeme
-  pub tree : Formula
-  pub spelled : SpellsExpr lexemes tree
-
--- the tree is at most 1,000 high, and its parentheses are nested at most 1,000 deep
-pub record IsWithin (s : Spelling) : Type 0 where
-  pub low : height_of s.tree ≤ 1000
-  pub flat : nesting_of s.spelled ≤ 1000
-
-abbrev pub AreWithin : List Spelling → Type 0
-AreWithin [] = Unit {0}
-AreWithin (s ∷ ss) = IsWithin s × AreWithin ss
-
--- the same, as a test
-abbrev pub is_too_deep : Spelling → Bool
-is_too_deep s = nat_lt 1000 (nesting_of s.spelled) || nat_lt 1000 (height_of s.tree)
-
-abbrev pub are_too_deep : List Spelling → Bool
-are_too_deep [] = false
-are_too_deep (s ∷ ss) = is_too_deep s || are_too_deep ss
-
-abbrev pub spelling : {ts : List Lexeme} {e : Formula} → SpellsExpr ts e → Spelling
-spelling {ts} {e} p = record { lexemes = ts; tree = e; spelled = p }
-
-abbrev pub in_formula : {ts : List Lexeme} {e : Formula} → SpellsFormula ts e → Spelling
-in_formula (open_ended p) = spelling p
-in_formula (ended p) = spelling p
-
--- the expressions of a list of them
-abbrev pub in_list : {ts : List Lexeme} {es : List Formula} → SpellsExpressions ts es → List Spelling
-in_list (last_expression p) = in_formula p ∷ []
-in_list (more_expressions p q) = spelling p ∷ in_list q
+use Rattle.xs_expression_reader.specs.Within.{Spelling, AreWithin, spelling, in_formula, in_many}
 
 -- those of parts with commas between
 abbrev pub in_commas : {A : Type 0} (One : List Lexeme → A → Type 0) (within : (ts : List Lexeme) (a : A) → One ts a → List Spelling) {ts : List Lexeme} {list : List A} →
@@ -57,12 +20,6 @@ in_actual ts e p = spelling p ∷ []
 abbrev pub in_actuals : {ts : List Lexeme} {es : List Formula} → SpellsBracketed SpellsExpr ts es → List Spelling
 in_actuals no_brackets = []
 in_actuals (brackets p) = in_commas SpellsExpr in_actual p
-
--- those of each of many parts
-abbrev pub in_many : {A : Type 0} (One : List Lexeme → A → Type 0) (within : (ts : List Lexeme) (a : A) → One ts a → List Spelling) {ts : List Lexeme} {list : List A} →
-    SpellsMany One ts list → List Spelling
-in_many One within no_more = []
-in_many One within (one_more {ts} {us} {a} p q) = within ts a p ++ in_many One within q
 
 abbrev pub in_declared : (ts : List Lexeme) (d : DeclaredTree) → SpellsDeclared ts d → List Spelling
 in_declared ts d (is_type p) = []
@@ -102,17 +59,7 @@ in_module ts m (a_module n fs p) = in_sections p
 abbrev pub in_program : {ts : List Lexeme} {p : ProgramTree} → SpellsProgram ts p → List Spelling
 in_program p = in_many SpellsModule in_module p
 
--- each of the expressions is within the depths, as the bytes spell them
-abbrev pub HaveDepths : List ℕ → List Formula → Type 0
-HaveDepths bytes es = (tokens : List Token) → HasTokens bytes tokens → (spelled : SpellsExpressions (lexemes_of bytes tokens) es) → AreWithin (in_list spelled)
-
--- the bytes spell a list of expressions, but not each within the depths
-pub record AreTooDeep (bytes : List ℕ) : Type 0 where
-  pub trees : List Formula
-  pub spelled : BytesSpellExpressions bytes trees
-  pub deep : HaveDepths bytes trees → ⊥
-
--- the same of a program
+-- each of the expressions of a program is within the depths, as the bytes spell them
 abbrev pub HasProgramDepths : List ℕ → ProgramTree → Type 0
 HasProgramDepths bytes p = (tokens : List Token) → HasTokens bytes tokens → (spelled : SpellsProgram (lexemes_of bytes tokens) p) → AreWithin (in_program spelled)
 

@@ -4,11 +4,11 @@
 // the other parts. One function stands for one part, as one case of `after` in `specs/ProgramRead.antt`.
 ghost use Rattle.std.specs.Prelude.{◌≡◌, IfOk};
 ghost use Rattle.xs_parse.specs.ProgramRead as read;
-ghost use Rattle.xs_parse.specs.MarkView.{mark_view};
+ghost use Rattle.xs_expression_reader.specs.MarkView.{mark_view};
 ghost use Rattle.xs_parse.specs.Symbols.{symbol_view, choice, Chosen};
 
-use crate::mark::Mark;
 use crate::symbols::{Symbol, Symbols};
+use xs_expression_reader::mark::Mark;
 use xs_value::OutOfMemory;
 
 fn is_name(mark: Mark) -> bool

@@ -3,21 +3,22 @@
 // Outside expressions one token decides what comes. So the stack holds what may still come, and beside it stands an
 // expression that has begun, in whatever state its own recogniser is.
 ghost use Rattle.std.specs.Prelude.{◌≡◌, ◌∷◌, [], List, Some, false, IfOk, IfSome};
-ghost use Rattle.xs_parse.specs.Recognise as machine;
-ghost use Rattle.xs_parse.specs.Recognise.{role_of};
-ghost use Rattle.xs_parse.specs.Views.{state_with};
+ghost use Rattle.xs_expression_reader.specs.Recognise as machine;
+ghost use Rattle.xs_expression_reader.specs.Recognise.{role_of};
+ghost use Rattle.xs_expression_reader.specs.Views.{state_with};
 ghost use Rattle.xs_parse.specs.ProgramRead as read;
-ghost use Rattle.xs_parse.specs.Predict.{step as one_step, all_empty};
-ghost use Rattle.xs_parse.specs.Readings.{stepped, ReadsTo};
+ghost use Rattle.xs_expression_reader.specs.Predict.{step as one_step, all_empty};
+ghost use Rattle.xs_expression_reader.specs.Readings.{stepped, ReadsTo};
 ghost use Rattle.xs_parse.specs.Symbols.{symbol_view, position_view, after_view, between_view, Chosen, Taken, Fits};
 
 use crate::choices::after;
-use crate::frames::Frames;
-use crate::machine::{Mode, is_stuck, is_whole, step};
-use crate::mark::Mark;
 use crate::symbols::{Symbol, Symbols, may_be_empty};
-use crate::token::TokenText;
 use std::alloc::Global;
+use xs_expression_reader::frames::Frames;
+use xs_expression_reader::machine::{Mode, is_stuck, is_whole, step};
+use xs_expression_reader::mark::Mark;
+use xs_expression_reader::reading::Reading;
+use xs_expression_reader::token::TokenText;
 use xs_value::OutOfMemory;
 
 /// Where a program is read.
@@ -208,17 +209,6 @@ fn may_end(position: Position, frames: &Frames, symbols: &mut Symbols) -> bool
         Position::Between => may_all_be_empty(symbols),
         Position::Inside(mode) => is_whole(mode, frames) && may_all_be_empty(symbols),
     }
-}
-
-/// How far a text can be read.
-#[derive(Clone, Copy, Debug, PartialEq, Eq)]
-pub enum Reading {
-    /// The tokens spell a tree.
-    Whole,
-    /// No text goes on with the token of this number, counted from 0.
-    Stopped(usize),
-    /// The tokens spell no tree, but some text goes on after them.
-    Unfinished,
 }
 
 /// How far a program can be read.

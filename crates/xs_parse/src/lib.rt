@@ -1,46 +1,31 @@
-//! Reads programs, expressions and lists of expressions.
+//! Reads programs.
 //!
-//! The model: bytes have tokens, as `xs_lexer` splits them, the grammar sees each token as a lexeme, and a list
-//! of lexemes spells a tree by a relation with one case for each line of the grammar (`Lexemes`, `Spells` and
-//! `SpellsProgram` of `xs_tree`). A call answers the tree that the bytes spell, or a [`ParseFault`] with the
-//! first place that no text goes on from; what a refusal says of the bytes is `FaultMeans` of `specs/Stops.antt`.
+//! The model is that of `xs_expression_reader`, which reads the expressions: a list of lexemes spells a program by a
+//! relation with one case for each line of the grammar (`SpellsProgram` of `xs_tree`). The call answers the program
+//! that the bytes spell, or a `ParseFault` with the first place that no text goes on from; what a refusal says of the
+//! bytes is `FaultMeans` of `xs_expression_reader`, over `IsProgram` of `specs/Symbols.antt`.
 //!
-//! A text is read twice. The first pass makes no tree: it takes one token after another with a stack of what is
-//! still open (`machine`, for expressions) and of what is still expected (`list`, `expected`), and finds where
-//! reading stops, for texts of any size and nesting. Only where the whole text spells a tree the second pass
-//! makes it (`tree`, `sections`), with a stack of what waits for an operand (`parts`), and gives up as soon as a
-//! tree would be higher than 1,000. So `TooDeep` never hides another refusal, no tree above the limit is ever
-//! made or dropped, and both passes take time in proportion to the tokens.
+//! A text is read twice, as expressions are. The first pass makes no tree: it takes one token after another with a
+//! stack of what is still expected (`expected`, `choices`, `symbols`), beside the recogniser of expressions. Only
+//! where the whole text spells a program the second pass makes it (`sections`), and gives up at the first expression
+//! that is higher than 1,000 or nested deeper. So `TooDeep` never hides another refusal, and both passes take time in
+//! proportion to the tokens.
 //!
-//! The layers above use the three calls and `ParseFault` alone. `specs/Recognise.antt` has the first pass as a
-//! function on lexemes, `specs/Build.antt` the second, `specs/Complete.antt` a text that completes what stands
-//! before it, and `proofs/` the laws by which the calls answer what the grammar says.
+//! The layers above use the call alone. `specs/ProgramRead.antt` has the grammar as one in which a token decides what
+//! is still expected, `specs/ProgramParts.antt` what the second pass reads part by part, `specs/Within.antt` which
+//! expressions a program has, as they are spelled, and `proofs/` the laws by which the call answers what the grammar
+//! says.
 //!
 //! ```text
-//! expression(alloc, b"a -> b -> c")    the tree of (a -> (b -> c))
-//! expression(alloc, b"!-1")            End(3): only a span may go on so
-//! expressions(alloc, b"a;; b")         Unexpected(2)
-//! program(alloc, b"MODULE main ISA m") LeftOut(12)
+//! program(alloc, b"MODULE main VAR x : boolean;")    the module main, with its variable x
+//! program(alloc, b"MODULE main ISA m")               LeftOut(12)
 //! ```
 #![tactic(auto)]
 
 mod choices;
-mod cursor;
-pub mod expected;
-pub mod extent;
-pub mod fault;
-pub mod frames;
-mod grown;
-mod list;
-pub mod machine;
-pub mod mark;
-mod parts;
-pub mod reader;
+mod expected;
+mod reader;
 mod sections;
 mod symbols;
-pub mod token;
-pub mod tree;
-mod words;
 
-pub use fault::ParseFault;
-pub use reader::{expression, expressions, program};
+pub use reader::program;

@@ -5,33 +5,20 @@
 ghost use Rattle.std.specs.Prelude.{◌≡◌, Err, IfOk, map, length};
 ghost use Rattle.xs_tree.specs.Written.{tree_of};
 ghost use Rattle.xs_tree.specs.ProgramTree.{declared_tree, decl_tree, define_tree, assignment_tree, section_tree, module_tree, program_tree as tree_of_program};
-ghost use Rattle.xs_parse.specs.declared.fault.BuildFault.TheVariants as stop;
-ghost use Rattle.xs_parse.specs.MarkView.{mark_view};
-ghost use Rattle.xs_parse.specs.Reads.{got, deep, none};
+ghost use Rattle.xs_expression_reader.specs.declared.fault.BuildFault.TheVariants as stop;
+ghost use Rattle.xs_expression_reader.specs.MarkView.{mark_view};
+ghost use Rattle.xs_expression_reader.specs.Reads.{got, deep, none};
 ghost use Rattle.xs_parse.specs.ProgramParts as part;
 
-use crate::cursor::Cursor;
-use crate::fault::BuildFault;
-use crate::mark::Mark;
 use std::alloc::Global;
+use xs_expression_reader::cursor::Cursor;
+use xs_expression_reader::fault::BuildFault;
+use xs_expression_reader::mark::Mark;
 use xs_tree::{
     AssignList, Assignment, Decl, DeclList, Declared, Define, DefineList, Expr, ExprList, Member,
     MemberList, Module, ModuleList, Moment, NameList, Program, Section, SectionList,
 };
 use xs_value::{Dotted, Items};
-
-fn int(cursor: &mut Cursor) -> Result<i64, BuildFault>
-    ensures ok { IfOk result (λ v. part.int_at cursor.old ≡ got v cursor.new) }
-    ensures deep { result ≡ Err stop.TooDeep → part.int_at cursor.old ≡ deep }
-    ensures none { result ≡ Err stop.NoTree → part.int_at cursor.old ≡ none }
-{
-    if cursor.is_next(Mark::Minus) {
-        cursor.skip();
-        Ok(cursor.digits()?.negated())
-    } else {
-        Ok(cursor.digits()?.plain())
-    }
-}
 
 /// One or more names with dots between.
 fn dotted(alloc: Global, cursor: &mut Cursor) -> Result<Dotted, BuildFault>
@@ -78,7 +65,7 @@ fn member(alloc: Global, cursor: &mut Cursor) -> Result<Member, BuildFault>
     if cursor.is_next(Mark::Name) {
         Ok(Member::Symbol(cursor.name(alloc)?))
     } else {
-        Ok(Member::Number(int(cursor)?))
+        Ok(Member::Number(cursor.number()?))
     }
 }
 
@@ -117,9 +104,9 @@ fn range(cursor: &mut Cursor) -> Result<Declared, BuildFault>
     ensures deep { result ≡ Err stop.TooDeep → part.range_at cursor.old ≡ deep }
     ensures none { result ≡ Err stop.NoTree → part.range_at cursor.old ≡ none }
 {
-    let lo = int(cursor)?;
+    let lo = cursor.number()?;
     cursor.expect(Mark::Dots)?;
-    let hi = int(cursor)?;
+    let hi = cursor.number()?;
     Ok(Declared::Range(lo, hi))
 }
 

@@ -4,7 +4,8 @@ ghost use Rattle.std.specs.Prelude.{◌<◌, ◌^◌, length};
 use crate::texts::nested;
 use std::alloc::Global;
 use std::test::Fail;
-use xs_parse::{ParseFault, expression, expressions, program};
+use xs_expression_reader::{ParseFault, expression, expressions};
+use xs_parse::program;
 use xs_value::OutOfMemory;
 
 /// What a text is read as.

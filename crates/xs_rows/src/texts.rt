@@ -4,10 +4,11 @@
 //! all that follows. So the tests are tables of plain data, each walked by one short function that answers with the
 //! place of the first case that fails, and a call whose contract is long stands in a function that promises nothing.
 use std::alloc::Global;
+use xs_expression_reader::expression;
 use xs_fei::Instructions;
 use xs_fei_reader::instructions;
 use xs_flat::{FlatModel, flatten};
-use xs_parse::{expression, program};
+use xs_parse::program;
 use xs_tree::{Expr, Program};
 use xs_value::{Dotted, OutOfMemory};
 

@@ -12,8 +12,8 @@ use Rattle.xs_lexer.specs.declared.token.Token.{Token}
 use Rattle.xs_lexer.proofs.SplitLemmas.{one_answer}
 use Rattle.xs_tree.specs.Lexemes.{lexemes_of}
 use Rattle.xs_tree.specs.SpellsProgram.{SpellsExpr}
-use Rattle.xs_parse.specs.declared.fault.ParseFault.{ParseFault}
-use Rattle.xs_parse.specs.declared.fault.ParseFault.TheVariants as parse
+use Rattle.xs_expression_reader.specs.declared.fault.ParseFault.{ParseFault}
+use Rattle.xs_expression_reader.specs.declared.fault.ParseFault.TheVariants as parse
 use Rattle.xs_flattening.specs.Flat.{FlatModel}
 use Rattle.xs_flattening.specs.History.{with_history}
 use Rattle.xs_flattening.specs.Model.{EachBoth, IsFlatOf}

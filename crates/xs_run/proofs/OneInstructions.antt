@@ -3,7 +3,7 @@ use Rattle.std.proofs.Common.{◌≡◌, ℕ, List, subst}
 use Rattle.xs_lexer.specs.declared.token.Token.{Token}
 use Rattle.xs_lexer.specs.Tokens.{HasTokens}
 use Rattle.xs_tree.specs.Lexemes.{lexemes_of}
-use Rattle.xs_parse.specs.declared.fault.ParseFault.{ParseFault}
+use Rattle.xs_expression_reader.specs.declared.fault.ParseFault.{ParseFault}
 use Rattle.xs_fei.specs.Instructions.{InstructionTree}
 use Rattle.xs_fei_reader.specs.InstructionPlaces.{IsInstructions}
 use Rattle.xs_fei_reader.specs.Within.{HaveInstructionDepths, AreInstructionsTooDeep}

@@ -8,10 +8,10 @@ use Rattle.xs_lexer.specs.Tokens.{HasTokens}
 use Rattle.xs_tree.specs.Lexemes.{lexemes_of}
 use Rattle.xs_tree.specs.ProgramTree.{Text, Formula, ProgramTree}
 use Rattle.xs_tree.specs.Trace.{Each}
-use Rattle.xs_parse.specs.declared.fault.ParseFault.{ParseFault}
-use Rattle.xs_parse.specs.Stops.{FaultMeans}
-use Rattle.xs_parse.specs.Lists.{IsExpressions}
-use Rattle.xs_parse.specs.Within.{HaveDepths, AreTooDeep}
+use Rattle.xs_expression_reader.specs.declared.fault.ParseFault.{ParseFault}
+use Rattle.xs_expression_reader.specs.Stops.{FaultMeans}
+use Rattle.xs_expression_reader.specs.Lists.{IsExpressions}
+use Rattle.xs_expression_reader.specs.Within.{HaveDepths, AreTooDeep}
 use Rattle.xs_flattening.specs.Rules.{IsAccepted}
 use Rattle.xs_run.specs.declared.status.InputFault.{InputFault}
 use Rattle.xs_run.specs.declared.status.Refusal.{Refusal}

@@ -10,8 +10,8 @@ use Rattle.xs_tree.specs.Bytes.{BytesSpellExpr, HasDepths}
 use Rattle.xs_tree.specs.ProgramTree.{Text, Formula, ProgramTree}
 use Rattle.xs_tree.specs.SpellsProgram.{SpellsExpr}
 use Rattle.xs_tree.proofs.OneTree.{one_expression}
-use Rattle.xs_parse.specs.declared.fault.ParseFault.{ParseFault}
-use Rattle.xs_parse.specs.Stops.{IsExpression, IsTooDeep, FaultMeans}
+use Rattle.xs_expression_reader.specs.declared.fault.ParseFault.{ParseFault}
+use Rattle.xs_expression_reader.specs.Stops.{IsExpression, IsTooDeep, FaultMeans}
 use Rattle.xs_flattening.specs.Flat.{FlatLeaf, FlatModel}
 use Rattle.xs_flattening.specs.Model.{IsFlatOf}
 use Rattle.xs_flattening.specs.ResolvedAt.{IsResolvedAt}

@@ -9,10 +9,10 @@ use Rattle.xs_lexer.specs.Faults.{HasNoSplit, IsFaultOf}
 use Rattle.xs_lexer.proofs.SplitLemmas.{one_answer}
 use Rattle.xs_lexer.proofs.FaultLemmas.{one_fault}
 use Rattle.xs_tree.specs.Lexemes.{Lexeme, lexemes_of}
-use Rattle.xs_parse.specs.declared.fault.ParseFault.{ParseFault}
-use Rattle.xs_parse.specs.declared.fault.ParseFault.TheVariants as parse
-use Rattle.xs_parse.specs.Stops.{IsFrontOf, StopsAt, Unfinished, FaultMeans, is_left_out}
-use Rattle.xs_parse.specs.Places.{lexeme_at}
+use Rattle.xs_expression_reader.specs.declared.fault.ParseFault.{ParseFault}
+use Rattle.xs_expression_reader.specs.declared.fault.ParseFault.TheVariants as parse
+use Rattle.xs_expression_reader.specs.Stops.{IsFrontOf, StopsAt, Unfinished, FaultMeans, is_left_out}
+use Rattle.xs_expression_reader.specs.Places.{lexeme_at}
 use Rattle.xs_run.specs.declared.status.InputFault.{InputFault}
 use Rattle.xs_run.specs.declared.status.Part.TheVariants as part
 use Rattle.xs_run.specs.declared.wrong.Wrong.{Wrong}

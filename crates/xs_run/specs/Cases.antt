@@ -5,10 +5,10 @@ use Rattle.xs_tree.specs.Tree.{Tree}
 use Rattle.xs_tree.specs.ProgramTree.{Text, Formula, ProgramTree}
 use Rattle.xs_tree.specs.Bytes.{BytesSpellExpr, HasDepths}
 use Rattle.xs_tree.specs.Trace.{Each}
-use Rattle.xs_parse.specs.declared.fault.ParseFault.{ParseFault}
-use Rattle.xs_parse.specs.Stops.{IsExpression, IsTooDeep, FaultMeans}
-use Rattle.xs_parse.specs.Lists.{BytesSpellExpressions}
-use Rattle.xs_parse.specs.Within.{HaveDepths}
+use Rattle.xs_expression_reader.specs.declared.fault.ParseFault.{ParseFault}
+use Rattle.xs_expression_reader.specs.Stops.{IsExpression, IsTooDeep, FaultMeans}
+use Rattle.xs_expression_reader.specs.Lists.{BytesSpellExpressions}
+use Rattle.xs_expression_reader.specs.Within.{HaveDepths}
 use Rattle.xs_flattening.specs.Flat.{FlatLeaf, FlatModel}
 use Rattle.xs_flattening.specs.History.{Mode, with_history}
 use Rattle.xs_flattening.specs.Model.{EachBoth}

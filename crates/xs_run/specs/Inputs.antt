@@ -4,8 +4,8 @@ use Rattle.xs_desk.specs.declared.files.NamedFile.{NamedFile}
 use Rattle.xs_desk.specs.Files.{file_of, content_of}
 use Rattle.xs_tree.specs.ProgramTree.{Text, Path, ProgramTree}
 use Rattle.xs_tree.specs.Text.{program_text}
-use Rattle.xs_parse.specs.declared.fault.ParseFault.{ParseFault}
-use Rattle.xs_parse.specs.Stops.{FaultMeans}
+use Rattle.xs_expression_reader.specs.declared.fault.ParseFault.{ParseFault}
+use Rattle.xs_expression_reader.specs.Stops.{FaultMeans}
 use Rattle.xs_flattening.specs.Flat.{FlatInstance, FlatModel}
 use Rattle.xs_flattening.specs.Items.{instances_of}
 use Rattle.xs_flattening.specs.Model.{IsFlatOf}

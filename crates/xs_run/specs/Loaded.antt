@@ -16,8 +16,8 @@ use Rattle.xs_extend.specs.NumberedFaults.{AreNumbered}
 use Rattle.xs_extend.specs.declared.faults.Woven.{Woven}
 use Rattle.xs_tree.specs.WritableProgram.{IsWritableProgram}
 use Rattle.xs_tree.specs.Bytes.{BytesSpellExpr, HasDepths}
-use Rattle.xs_parse.specs.declared.fault.ParseFault.{ParseFault}
-use Rattle.xs_parse.specs.Stops.{IsExpression, IsTooDeep, FaultMeans}
+use Rattle.xs_expression_reader.specs.declared.fault.ParseFault.{ParseFault}
+use Rattle.xs_expression_reader.specs.Stops.{IsExpression, IsTooDeep, FaultMeans}
 use Rattle.xs_run.specs.declared.status.InputFault.{InputFault}
 use Rattle.xs_run.specs.declared.wrong.Wrong.TheVariants as wrong
 use Rattle.xs_run.specs.Statuses.{top_too_long}

@@ -2,8 +2,8 @@
 use Rattle.std.specs.Prelude.{ℕ, ◌≡◌, List}
 use Rattle.xs_tree.specs.ProgramTree.{ProgramTree}
 use Rattle.xs_tree.specs.Bytes.{BytesSpellProgram}
-use Rattle.xs_parse.specs.declared.fault.ParseFault.{ParseFault}
-use Rattle.xs_parse.specs.Stops.{FaultMeans}
+use Rattle.xs_expression_reader.specs.declared.fault.ParseFault.{ParseFault}
+use Rattle.xs_expression_reader.specs.Stops.{FaultMeans}
 use Rattle.xs_parse.specs.Symbols.{IsProgram}
 use Rattle.xs_parse.specs.Within.{HasProgramDepths, IsProgramTooDeep}
 use Rattle.xs_flattening.specs.Flat.{FlatModel}

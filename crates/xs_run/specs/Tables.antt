@@ -6,10 +6,10 @@ use Rattle.xs_desk.specs.Desk.{said_more, SaysPrefix}
 use Rattle.xs_tree.specs.Tree.{Tree}
 use Rattle.xs_tree.specs.ProgramTree.{Text, Formula, ProgramTree, program_tree}
 use Rattle.xs_tree.specs.Written.{tree_of}
-use Rattle.xs_parse.specs.declared.fault.ParseFault.{ParseFault}
-use Rattle.xs_parse.specs.Stops.{FaultMeans}
-use Rattle.xs_parse.specs.Lists.{IsExpressions, BytesSpellExpressions}
-use Rattle.xs_parse.specs.Within.{HaveDepths, AreTooDeep}
+use Rattle.xs_expression_reader.specs.declared.fault.ParseFault.{ParseFault}
+use Rattle.xs_expression_reader.specs.Stops.{FaultMeans}
+use Rattle.xs_expression_reader.specs.Lists.{IsExpressions, BytesSpellExpressions}
+use Rattle.xs_expression_reader.specs.Within.{HaveDepths, AreTooDeep}
 use Rattle.xs_flattening.specs.Flat.{FlatLeaf, FlatModel}
 use Rattle.xs_flattening.specs.Model.{EachBoth}
 use Rattle.xs_scope.specs.ModelTree.{flat_tree}

@@ -2,8 +2,8 @@
 use Rattle.std.specs.Prelude.{ℕ}
 use Rattle.xs_lexer.specs.declared.token.LexFault.{LexFault}
 use Rattle.xs_lexer.specs.declared.token.LexFault.TheVariants as lex
-use Rattle.xs_parse.specs.declared.fault.ParseFault.{ParseFault}
-use Rattle.xs_parse.specs.declared.fault.ParseFault.TheVariants as parse
+use Rattle.xs_expression_reader.specs.declared.fault.ParseFault.{ParseFault}
+use Rattle.xs_expression_reader.specs.declared.fault.ParseFault.TheVariants as parse
 use Rattle.xs_scope.specs.declared.fault.Rule.{Rule}
 use Rattle.xs_scope.specs.declared.fault.Rule.TheVariants as rule
 use Rattle.xs_scope.specs.declared.fault.FlatFault.{FlatFault}

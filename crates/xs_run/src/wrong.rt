@@ -5,10 +5,10 @@ ghost use Rattle.xs_run.specs.Wrongs.{lex_wrong, parse_wrong, flat_wrong, type_w
 
 use crate::status::{InputFault, Part};
 use xs_effects::EffectFault;
+use xs_expression_reader::ParseFault;
 use xs_extend::{Cause, WeaveFault};
 use xs_flat::{FlatFault, Rule};
 use xs_lexer::LexFault;
-use xs_parse::ParseFault;
 use xs_types::TypeFault;
 use xs_value::OutOfMemory;
 use xs_weave_rules as weave;

@@ -4,7 +4,7 @@ ghost use Rattle.std.specs.Prelude.{◌<◌, ◌^◌, length};
 use crate::desks::{DARK, LAMP, declared, desk_of, joined, ran, rest_from};
 use std::alloc::Global;
 use xs_desk::{CallKind, Fail, MemoryDesk};
-use xs_parse::expression;
+use xs_expression_reader::expression;
 use xs_tree::print_expr;
 use xs_value::OutOfMemory;
 

@@ -1,8 +1,9 @@
 use Rattle.std.proofs.Common.{not, sym, ap, ◌∙◌}
 use Rattle.std.specs.Prelude.{Err}
 use Rattle.std.proofs.lemmas.Result.{err_from_is_err_and}
-use Rattle.xs_parse.proofs.ReadLaws.{each_pushed, each_end, each_spent, each_deep, each_none, same_fault}
-use Rattle.xs_fei_reader.specs.Reads.{in_braces, texts_at, text_at}
+use Rattle.xs_expression_reader.proofs.ReadLaws.{each_pushed, each_end, each_spent, each_deep, each_none, same_fault}
+use Rattle.xs_expression_reader.specs.Reads.{text_at}
+use Rattle.xs_fei_reader.specs.Reads.{in_braces, texts_at}
 use Rattle.xs_fei_reader.proofs.build.mark_texts.Goals as goal
 
 pub returns-then-is_next-clause-ok : goal.returns-then-is_next-clause-ok

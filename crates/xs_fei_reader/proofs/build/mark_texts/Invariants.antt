@@ -1,6 +1,6 @@
 use Rattle.std.proofs.Common.{◌≡◌, ◌-◌}
-use Rattle.xs_parse.specs.Reads.{each_at, with_front}
-use Rattle.xs_fei_reader.specs.Reads.{in_braces, texts_at, text_at}
+use Rattle.xs_expression_reader.specs.Reads.{each_at, with_front, text_at}
+use Rattle.xs_fei_reader.specs.Reads.{in_braces, texts_at}
 use Rattle.xs_fei_reader.proofs.build.mark_texts.Given as goal
 
 abbrev pub invariant-loop-round : goal.invariant-loop-round

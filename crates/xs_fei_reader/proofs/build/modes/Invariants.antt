@@ -1,8 +1,8 @@
 use Rattle.std.proofs.Common.{◌≡◌, ◌-◌, map}
 use Rattle.std.specs.Prelude.{codes}
 use Rattle.xs_fei.specs.Instructions.{mode_tree}
-use Rattle.xs_parse.specs.Reads.{each_at, with_front}
-use Rattle.xs_fei_reader.specs.Reads.{has_word, modes_at, mode_at}
+use Rattle.xs_expression_reader.specs.Reads.{each_at, with_front, has_word}
+use Rattle.xs_fei_reader.specs.Reads.{modes_at, mode_at}
 use Rattle.xs_fei_reader.proofs.build.modes.Given as goal
 
 abbrev pub invariant-loop-round : goal.invariant-loop-round

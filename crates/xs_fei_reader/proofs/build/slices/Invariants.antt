@@ -1,8 +1,8 @@
 use Rattle.std.proofs.Common.{◌≡◌, ◌-◌, map}
 use Rattle.std.specs.Prelude.{codes}
 use Rattle.xs_fei.specs.Instructions.{slice_tree}
-use Rattle.xs_parse.specs.Reads.{each_at, with_front}
-use Rattle.xs_fei_reader.specs.Reads.{has_word, slices_at, slice_at}
+use Rattle.xs_expression_reader.specs.Reads.{each_at, with_front, has_word}
+use Rattle.xs_fei_reader.specs.Reads.{slices_at, slice_at}
 use Rattle.xs_fei_reader.proofs.build.slices.Given as goal
 
 abbrev pub invariant-loop-round : goal.invariant-loop-round

@@ -1,5 +1,5 @@
 use Rattle.std.proofs.Common.{sym, ◌∙◌}
-use Rattle.xs_parse.specs.Views.{role_view, state_with}
+use Rattle.xs_expression_reader.specs.Views.{role_view, state_with}
 use Rattle.xs_fei_reader.specs.InstructionPlaces.{before_close}
 use Rattle.xs_fei_reader.proofs.PlaceLaws.{goes_inside}
 use Rattle.xs_fei_reader.proofs.place.followed_step.Goals as goal

@@ -1,8 +1,10 @@
 use Rattle.std.proofs.Common.{None, sym, ap, ◌∙◌, subst}
 use Rattle.std.specs.Prelude.{IfSome}
 use Rattle.std.proofs.lemmas.List.{take_all}
+use Rattle.xs_expression_reader.proofs.StopLaws.{path_more}
+use Rattle.xs_fei_reader.specs.InstructionRead.{Sym, file, instructions}
 use Rattle.xs_fei_reader.specs.InstructionPlaces.{expected_after, place_view, after_view, Fits}
-use Rattle.xs_fei_reader.proofs.PlaceLaws.{path_more, fits_goes, ends_law}
+use Rattle.xs_fei_reader.proofs.PlaceLaws.{fits_goes, ends_law}
 use Rattle.xs_fei_reader.proofs.place.read_through.Goals as goal
 
 pub returns-in-None : goal.returns-in-None
@@ -10,13 +12,13 @@ returns-in-None c =
     let on = fits_goes c.loop-i.place c.loop-i.frames c.loop-i.invariant.fits in (
       c.loop-i-test.true,
       (on.0, c.loop-i.invariant.path ∙ on.1),
-      path_more c.args.tokens.now c.loop-i.i c.index-tokens-i.result (place_view c.loop-i.place c.loop-i.frames) None c.loop-i-test.true c.index-tokens-i.is c.loop-i.invariant.path
+      path_more Sym instructions file c.args.tokens.now c.loop-i.i c.index-tokens-i.result (place_view c.loop-i.place c.loop-i.frames) None c.loop-i-test.true c.index-tokens-i.is c.loop-i.invariant.path
           (sym (ap (λ z. after_view z c.place_step.new.frames) c.in-None.is) ∙ c.in_ok-next.ensures.next),
     )
 
 pub loop-i-preserved : goal.loop-i-preserved
 loop-i-preserved c = record {
-  path = path_more c.args.tokens.now c.loop-i.i c.index-tokens-i.result (place_view c.loop-i.place c.loop-i.frames) (place_view c.in-Some.next c.place_step.new.frames)
+  path = path_more Sym instructions file c.args.tokens.now c.loop-i.i c.index-tokens-i.result (place_view c.loop-i.place c.loop-i.frames) (place_view c.in-Some.next c.place_step.new.frames)
       c.loop-i-test.true c.index-tokens-i.is c.loop-i.invariant.path (sym (ap (λ z. after_view z c.place_step.new.frames) c.in-Some.is) ∙ c.in_ok-next.ensures.next);
   fits = subst (λ z. IfSome z (λ p. Fits p c.place_step.new.frames)) c.in-Some.is c.in_ok-next.ensures.fits;
 }

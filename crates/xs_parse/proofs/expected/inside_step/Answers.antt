@@ -1,5 +1,5 @@
 use Rattle.std.proofs.Common.{sym, ◌∙◌}
-use Rattle.xs_parse.specs.Views.{role_view, state_with}
+use Rattle.xs_expression_reader.specs.Views.{role_view, state_with}
 use Rattle.xs_parse.proofs.ProgramStops.{goes_inside}
 use Rattle.xs_parse.proofs.expected.inside_step.Goals as goal
 

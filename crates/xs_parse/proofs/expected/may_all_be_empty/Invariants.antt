@@ -1,5 +1,5 @@
 use Rattle.std.proofs.Common.{◌≡◌, length}
-use Rattle.xs_parse.specs.Predict.{all_empty}
+use Rattle.xs_expression_reader.specs.Predict.{all_empty}
 use Rattle.xs_parse.specs.ProgramRead.{Sym, programs}
 use Rattle.xs_parse.proofs.expected.may_all_be_empty.Given as goal
 

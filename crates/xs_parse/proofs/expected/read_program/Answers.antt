@@ -2,9 +2,9 @@ use Rattle.std.proofs.Common.{None, sym, ap, ◌∙◌, subst}
 use Rattle.std.specs.Prelude.{IfSome}
 use Rattle.std.proofs.lemmas.List.{take_all}
 use Rattle.xs_parse.specs.ProgramRead.{Sym, modules, programs}
-use Rattle.xs_parse.specs.Readings.{expected_after}
+use Rattle.xs_expression_reader.specs.Readings.{expected_after}
 use Rattle.xs_parse.specs.Symbols.{position_view, after_view, Fits}
-use Rattle.xs_parse.proofs.StopLaws.{path_more}
+use Rattle.xs_expression_reader.proofs.StopLaws.{path_more}
 use Rattle.xs_parse.proofs.ProgramStops.{fits_goes}
 use Rattle.xs_parse.proofs.expected.read_program.Goals as goal
 

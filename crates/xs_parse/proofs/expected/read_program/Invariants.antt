@@ -1,6 +1,6 @@
 use Rattle.std.proofs.Common.{◌≡◌, take}
 use Rattle.xs_parse.specs.ProgramRead.{Sym, modules, programs}
-use Rattle.xs_parse.specs.Readings.{expected_after}
+use Rattle.xs_expression_reader.specs.Readings.{expected_after}
 use Rattle.xs_parse.specs.Symbols.{position_view, Fits}
 use Rattle.xs_parse.proofs.expected.read_program.Given as goal
 

@@ -1,6 +1,6 @@
 use Rattle.std.proofs.Common.{sym, ap, ◌∙◌, subst}
 use Rattle.std.specs.Prelude.{IfSome}
-use Rattle.xs_parse.specs.Predict.{step}
+use Rattle.xs_expression_reader.specs.Predict.{step}
 use Rattle.xs_parse.specs.ProgramRead.{Sym, programs}
 use Rattle.xs_parse.specs.Symbols.{symbol_view, Taken, Fits}
 use Rattle.xs_parse.proofs.ProgramStops.{symbol_goes}

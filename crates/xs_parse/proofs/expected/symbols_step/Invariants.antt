@@ -1,5 +1,5 @@
 use Rattle.std.proofs.Common.{◌≡◌, [], length}
-use Rattle.xs_parse.specs.Predict.{step}
+use Rattle.xs_expression_reader.specs.Predict.{step}
 use Rattle.xs_parse.specs.ProgramRead.{Sym, programs}
 use Rattle.xs_parse.proofs.expected.symbols_step.Given as goal
 

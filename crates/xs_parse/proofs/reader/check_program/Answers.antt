@@ -1,9 +1,9 @@
 use Rattle.std.proofs.Common.{refl, subst, length}
 use Rattle.xs_parse.specs.ProgramRead.{Sym, modules, programs}
-use Rattle.xs_parse.specs.Readings.{ReadsTo}
+use Rattle.xs_expression_reader.specs.Readings.{ReadsTo}
 use Rattle.xs_parse.specs.Within.{IsProgramTooDeep}
 use Rattle.xs_parse.proofs.ProgramReads.{programs_predictable}
-use Rattle.xs_parse.proofs.StopLaws.{is_spelled, check_ends, check_stops}
+use Rattle.xs_expression_reader.proofs.StopLaws.{is_spelled, check_ends, check_stops}
 use Rattle.xs_parse.proofs.reader.check_program.Goals as goal
 
 pub returns-in-Whole-clause-spelled : goal.returns-in-Whole-clause-spelled

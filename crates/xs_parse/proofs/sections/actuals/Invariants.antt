@@ -1,7 +1,7 @@
 use Rattle.std.proofs.Common.{◌≡◌, ◌-◌, map}
 use Rattle.xs_tree.specs.Written.{tree_of}
-use Rattle.xs_parse.specs.ProgramRead.{s_comma}
-use Rattle.xs_parse.specs.Reads.{has_next, next_expr, each_at, with_front}
+use Rattle.xs_expression_reader.specs.Marks.{s_comma}
+use Rattle.xs_expression_reader.specs.Reads.{has_next, next_expr, each_at, with_front}
 use Rattle.xs_parse.specs.ProgramParts.{commas_at}
 use Rattle.xs_parse.proofs.sections.actuals.Given as goal
 

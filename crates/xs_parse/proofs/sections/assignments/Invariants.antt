@@ -1,6 +1,6 @@
 use Rattle.std.proofs.Common.{◌≡◌, ◌-◌, map}
 use Rattle.xs_tree.specs.ProgramTree.{assignment_tree}
-use Rattle.xs_parse.specs.Reads.{each_at, with_front}
+use Rattle.xs_expression_reader.specs.Reads.{each_at, with_front}
 use Rattle.xs_parse.specs.ProgramParts.{assignment_at, assigns_at, begins_assignment}
 use Rattle.xs_parse.proofs.sections.assignments.Given as goal
 

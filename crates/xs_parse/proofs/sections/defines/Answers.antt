@@ -2,10 +2,10 @@ use Rattle.std.proofs.Common.{sym, ap, ◌∙◌, map}
 use Rattle.std.specs.Prelude.{Err}
 use Rattle.std.proofs.lemmas.Result.{err_from_is_err_and}
 use Rattle.xs_tree.specs.ProgramTree.{define_tree}
-use Rattle.xs_parse.specs.ProgramRead.{a_name}
-use Rattle.xs_parse.specs.Reads.{has_next}
+use Rattle.xs_expression_reader.specs.Marks.{a_name}
+use Rattle.xs_expression_reader.specs.Reads.{has_next}
 use Rattle.xs_parse.specs.ProgramParts.{defines_at, define_at}
-use Rattle.xs_parse.proofs.ReadLaws.{each_viewed, each_end, each_spent, each_deep, each_none, same_fault}
+use Rattle.xs_expression_reader.proofs.ReadLaws.{each_viewed, each_end, each_spent, each_deep, each_none, same_fault}
 use Rattle.xs_parse.proofs.sections.defines.Goals as goal
 
 pub returns-then-not-is_next-clause-ok : goal.returns-then-not-is_next-clause-ok

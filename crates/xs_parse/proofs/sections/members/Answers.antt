@@ -1,10 +1,10 @@
 use Rattle.std.proofs.Common.{sym, ap, ◌∙◌}
 use Rattle.std.specs.Prelude.{Err}
 use Rattle.std.proofs.lemmas.Result.{err_from_is_err_and}
-use Rattle.xs_parse.specs.ProgramRead.{s_comma}
-use Rattle.xs_parse.specs.Reads.{has_next}
+use Rattle.xs_expression_reader.specs.Marks.{s_comma}
+use Rattle.xs_expression_reader.specs.Reads.{has_next}
 use Rattle.xs_parse.specs.ProgramParts.{members_at, next_member, member_at}
-use Rattle.xs_parse.proofs.ReadLaws.{each_pushed, each_end, each_spent, each_deep, each_none, same_fault}
+use Rattle.xs_expression_reader.proofs.ReadLaws.{each_pushed, each_end, each_spent, each_deep, each_none, same_fault}
 use Rattle.xs_parse.proofs.sections.members.Goals as goal
 
 pub returns-then-not-is_next-clause-ok : goal.returns-then-not-is_next-clause-ok

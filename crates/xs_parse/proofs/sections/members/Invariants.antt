@@ -1,6 +1,6 @@
 use Rattle.std.proofs.Common.{◌≡◌, ◌-◌}
-use Rattle.xs_parse.specs.ProgramRead.{s_comma}
-use Rattle.xs_parse.specs.Reads.{has_next, each_at, with_front}
+use Rattle.xs_expression_reader.specs.Marks.{s_comma}
+use Rattle.xs_expression_reader.specs.Reads.{has_next, each_at, with_front}
 use Rattle.xs_parse.specs.ProgramParts.{members_at, next_member}
 use Rattle.xs_parse.proofs.sections.members.Given as goal
 

@@ -1,7 +1,7 @@
 use Rattle.std.proofs.Common.{◌≡◌, ◌-◌, map}
 use Rattle.xs_tree.specs.ProgramTree.{module_tree}
-use Rattle.xs_parse.specs.ProgramRead.{w_module}
-use Rattle.xs_parse.specs.Reads.{has_next, each_at, with_front}
+use Rattle.xs_expression_reader.specs.Marks.{w_module}
+use Rattle.xs_expression_reader.specs.Reads.{has_next, each_at, with_front}
 use Rattle.xs_parse.specs.ProgramParts.{next_module, program_at}
 use Rattle.xs_parse.proofs.sections.modules.Given as goal
 

@@ -1,6 +1,6 @@
 use Rattle.std.proofs.Common.{◌≡◌, ◌-◌}
-use Rattle.xs_parse.specs.ProgramRead.{s_comma}
-use Rattle.xs_parse.specs.Reads.{has_next, each_at, with_front}
+use Rattle.xs_expression_reader.specs.Marks.{s_comma}
+use Rattle.xs_expression_reader.specs.Reads.{has_next, each_at, with_front}
 use Rattle.xs_parse.specs.ProgramParts.{names_at, next_name}
 use Rattle.xs_parse.proofs.sections.names.Given as goal
 

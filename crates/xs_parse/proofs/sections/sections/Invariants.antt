@@ -1,6 +1,6 @@
 use Rattle.std.proofs.Common.{◌≡◌, ◌-◌, length, map}
 use Rattle.xs_tree.specs.ProgramTree.{section_tree}
-use Rattle.xs_parse.specs.Reads.{with_front}
+use Rattle.xs_expression_reader.specs.Reads.{with_front}
 use Rattle.xs_parse.specs.ProgramParts.{sections_at}
 use Rattle.xs_parse.proofs.sections.sections.Given as goal
 

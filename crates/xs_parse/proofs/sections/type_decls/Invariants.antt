@@ -1,7 +1,7 @@
 use Rattle.std.proofs.Common.{◌≡◌, ◌-◌, map}
 use Rattle.xs_tree.specs.ProgramTree.{decl_tree}
-use Rattle.xs_parse.specs.ProgramRead.{a_name}
-use Rattle.xs_parse.specs.Reads.{has_next, each_at, with_front}
+use Rattle.xs_expression_reader.specs.Marks.{a_name}
+use Rattle.xs_expression_reader.specs.Reads.{has_next, each_at, with_front}
 use Rattle.xs_parse.specs.ProgramParts.{decl_at, decls_at, type_at}
 use Rattle.xs_parse.proofs.sections.type_decls.Given as goal
 

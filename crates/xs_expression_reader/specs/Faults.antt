@@ -1,0 +1,9 @@
+-- Faults inside faults.
+use Rattle.xs_expression_reader.specs.declared.fault.GrowFault.{GrowFault}
+use Rattle.xs_expression_reader.specs.declared.fault.GrowFault.TheVariants as grow
+use Rattle.xs_expression_reader.specs.declared.fault.BuildFault.{BuildFault}
+use Rattle.xs_expression_reader.specs.declared.fault.BuildFault.TheVariants as stop
+
+abbrev pub build_fault : GrowFault → BuildFault
+build_fault grow.TooDeep = stop.TooDeep
+build_fault grow.OutOfMemory = stop.OutOfMemory

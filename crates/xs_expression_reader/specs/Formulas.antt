@@ -1,0 +1,67 @@
+-- The grammar of a list of expressions, as one that is read by one lexeme at a time.
+use Rattle.std.specs.Prelude.{◌≡◌, refl, ◌⊎◌, Bool, true, false, List, [], ◌∷◌, Option, Some, None}
+use Rattle.xs_lexer.specs.declared.token.TokenKind.TheVariants as k
+use Rattle.xs_tree.specs.ProgramTree.{Formula}
+use Rattle.xs_tree.specs.Lexemes.{Lexeme, num, sign}
+use Rattle.xs_tree.specs.SpellsProgram.{SpellsExpressions}
+use Rattle.xs_expression_reader.specs.Recognise.{Role, a_semicolon, role_of, State, wants, stuck, is_whole, is_stuck, start}
+use Rattle.xs_expression_reader.specs.Recognise as machine
+use Rattle.xs_expression_reader.specs.Complete.{completion}
+use Rattle.xs_expression_reader.specs.Predict.{Grammar}
+
+pub data Sym : Type 0 where
+  -- what is left of an expression
+  formula : (st : State) → is_stuck st ≡ false → Sym
+  -- what follows an expression, what follows a `;`, and the whole list
+  more : Sym
+  again : Sym
+  expressions : Sym
+
+abbrev pub is_semicolon : Role → Bool
+is_semicolon a_semicolon = true
+is_semicolon _ = false
+
+abbrev pub live : State → List Sym → Option (List Sym)
+live stuck s = None
+live st s = Some (formula st refl ∷ s)
+
+abbrev pub IsAgain : List Lexeme → Type 0
+IsAgain ts = (ts ≡ []) ⊎ ((es : List Formula) × SpellsExpressions ts es)
+
+abbrev pub IsMore : List Lexeme → Type 0
+IsMore ts = (ts ≡ []) ⊎ ((us : List Lexeme) × (ts ≡ sign k.Semicolon ∷ us) × IsAgain us)
+
+abbrev pub spelled : Sym → List Lexeme → Type 0
+spelled (formula st h) ts = is_whole (machine.run st ts) ≡ true
+spelled more ts = IsMore ts
+spelled again ts = IsAgain ts
+spelled expressions ts = (es : List Formula) × SpellsExpressions ts es
+
+abbrev pub empty : Sym → Bool
+empty (formula st h) = is_whole st
+empty more = true
+empty again = true
+empty expressions = false
+
+abbrev pub after_semicolon : Role → Option (List Sym)
+after_semicolon a_semicolon = Some (again ∷ [])
+after_semicolon _ = None
+
+abbrev pub next : Sym → Lexeme → Option (List Sym)
+next (formula st h) t = live (machine.step st (role_of t)) []
+next more t = after_semicolon (role_of t)
+next again t = live (machine.step start (role_of t)) (more ∷ [])
+next expressions t = live (machine.step start (role_of t)) (more ∷ [])
+
+abbrev pub follow : Sym → Lexeme → Bool
+follow (formula st h) t = is_semicolon (role_of t)
+follow _ t = false
+
+abbrev pub shortest : Sym → List Lexeme
+shortest (formula st h) = completion st
+shortest more = []
+shortest again = []
+shortest expressions = num 0 [] ∷ []
+
+abbrev pub formulas : Grammar Sym
+formulas = record { Spelled = spelled; empty = empty; next = next; follow = follow; shortest = shortest }

@@ -1,0 +1,50 @@
+// How far an expression reaches, and how deep its parentheses are nested.
+ghost use Rattle.std.specs.Prelude.{◌≡◌, ◌≤◌, IfOk, length};
+ghost use Rattle.xs_expression_reader.specs.Recognise as machine;
+ghost use Rattle.xs_expression_reader.specs.Extents.{reach_of, is_deep, ends_whole};
+
+use crate::frames::Frames;
+use crate::machine::{Mode, is_stuck, is_whole, step};
+use crate::token::TokenText;
+use std::alloc::Global;
+use xs_value::OutOfMemory;
+
+/// The deepest nesting of parentheses.
+const LIMIT: usize = 1000;
+
+/// How far an expression reaches.
+#[derive(Clone, Copy, Debug, PartialEq, Eq)]
+pub struct Extent {
+    /// The number of its tokens.
+    pub len: usize,
+    /// Whether parentheses are nested deeper than 1,000.
+    pub deep: bool,
+    /// Whether these tokens together are an expression.
+    pub whole: bool,
+}
+
+/// How far the expression reaches that the tokens begin with.
+#[tactic(auto, using(crate::proofs::ExtentLaws::reach_more, crate::proofs::ExtentLaws::deep_more, crate::proofs::ExtentLaws::whole_more))]
+pub fn reach(alloc: Global, tokens: &[TokenText]) -> Result<Extent, OutOfMemory>
+    ensures len { IfOk result (λ extent. extent.len ≡ reach_of machine.start tokens.now) }
+    ensures within { IfOk result (λ extent. extent.len ≤ length tokens.now) }
+    ensures deep { IfOk result (λ extent. extent.deep ≡ is_deep machine.start tokens.now) }
+    ensures whole { IfOk result (λ extent. extent.whole ≡ ends_whole machine.start tokens.now) }
+{
+    let mut frames = Frames::new(alloc);
+    let mut mode = Mode::Wants;
+    let mut deep = false;
+    for (len, token) in tokens.iter().enumerate() {
+        let whole = is_whole(mode, &frames);
+        mode = step(mode, &mut frames, token.role())?;
+        if is_stuck(mode) {
+            return Ok(Extent { len, deep, whole });
+        }
+        deep = deep || frames.groups() > LIMIT;
+    }
+    Ok(Extent {
+        len: tokens.len(),
+        deep,
+        whole: is_whole(mode, &frames),
+    })
+}

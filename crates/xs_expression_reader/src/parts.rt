@@ -1,0 +1,130 @@
+// What waits for an operand to its right, on a stack.
+ghost use Rattle.std.specs.Prelude.{◌≡◌, ◌<◌, ◌∷◌, [], None, Err, IfOk, IfSome, length};
+ghost use Rattle.xs_tree.specs.Spells.{line_of};
+ghost use Rattle.xs_tree.specs.Tree.{height_of};
+ghost use Rattle.xs_expression_reader.specs.Build as machine;
+ghost use Rattle.xs_expression_reader.specs.PartViews.{part_view, parts_of, held};
+ghost use Rattle.xs_tree.specs.Written.{tree_of};
+ghost use Rattle.xs_expression_reader.specs.Heights.{held_height};
+
+use crate::fault::GrowFault;
+use crate::grown::{Grown, GrownBranches, GrownList};
+use std::alloc::Global;
+use xs_tree::Op;
+use xs_value::OutOfMemory;
+
+/// What waits for the operand to its right.
+#[derive(Drop)]
+pub enum Part {
+    Minus,
+    Bang,
+    Left(Op, Grown),
+    Answered(Grown, Grown),
+    Asked(Grown),
+    Group,
+    Next,
+    Set(GrownList),
+    Condition(GrownBranches),
+    Outcome(GrownBranches, Grown),
+}
+
+/// One part more waits.
+#[tactic(auto, using(crate::proofs::PartStacks::pushed_part))]
+pub fn push(parts: &mut Vec<Part>, part: Part) -> Result<(), OutOfMemory>
+    ensures { IfOk result (λ _. parts_of parts.new.items ≡ part_view part ∷ parts_of parts.old.items) }
+{
+    match parts.push(part) {
+        Ok(()) => Ok(()),
+        Err(_refused) => Err(OutOfMemory),
+    }
+}
+
+/// The innermost part, taken away.
+#[tactic(auto, using(crate::proofs::PartStacks::pushed_part, crate::proofs::PartStacks::no_parts))]
+pub fn pop(parts: &mut Vec<Part>) -> Option<Part>
+    ensures some { IfSome result (λ part. parts_of parts.old.items ≡ part_view part ∷ parts_of parts.new.items) }
+    ensures none { result ≡ None → parts_of parts.old.items ≡ [] }
+    ensures gone { result ≡ None → parts_of parts.new.items ≡ [] }
+    ensures fewer { IfSome result (λ _. length parts.new.items < length parts.old.items) }
+{
+    match parts.pop() {
+        Some(part) => Some(part),
+        None => None,
+    }
+}
+
+/// The part, with its operand.
+fn join(alloc: Global, part: Part, operand: Grown) -> Result<Grown, GrowFault>
+    ensures ok { IfOk result (λ made. tree_of made.tree ≡ machine.joined (part_view part) (tree_of operand.tree)) }
+    ensures deep { result ≡ Err GrowFault.TooDeep → 1000 < height_of (machine.joined (part_view part) (tree_of operand.tree)) }
+{
+    match part {
+        Part::Minus => Grown::negate(alloc, operand),
+        Part::Bang => Grown::not(alloc, operand),
+        Part::Left(op, left) => Grown::binary(alloc, op, left, operand),
+        Part::Answered(test, first) => Grown::choice(alloc, test, first, operand),
+        _ => Ok(operand),
+    }
+}
+
+/// The line of an operator, and 0 for `->`.
+fn looseness(op: Op) -> u32
+    ensures { result ≡ machine.looseness (line_of op) }
+{
+    match op {
+        Op::Times | Op::Over | Op::Mod => 9,
+        Op::Plus | Op::Minus => 8,
+        Op::Union => 7,
+        Op::Within => 6,
+        Op::Equal | Op::Differs | Op::Less | Op::Greater | Op::AtMost | Op::AtLeast => 5,
+        Op::And => 4,
+        Op::Or | Op::Xor | Op::Xnor => 3,
+        Op::Iff => 1,
+        Op::Implies => 0,
+    }
+}
+
+/// The level to which an operator lets what waits take its operand: `->` nests to the right.
+pub fn level(op: Op) -> u32
+    ensures { result ≡ machine.level (line_of op) }
+{
+    match op {
+        Op::Implies => 1,
+        _ => looseness(op),
+    }
+}
+
+/// Whether a part takes its operand before what follows of this level.
+fn takes_operand(level: u32, part: &Part) -> bool
+    ensures { result ≡ machine.takes_operand level (part_view part.now) }
+{
+    match part {
+        Part::Minus => level <= 10,
+        Part::Bang => level <= 11,
+        Part::Left(op, _) => level <= looseness(*op),
+        Part::Answered(_, _) => level <= 2,
+        _ => false,
+    }
+}
+
+/// The operand, with each part that takes it before what follows of this level.
+#[tactic(auto, using(crate::proofs::PartStacks::takes, crate::proofs::PartStacks::stays, crate::proofs::Tallest::reduced_high))]
+pub fn reduce(
+    alloc: Global,
+    parts: &mut Vec<Part>,
+    level: u32,
+    operand: Grown,
+) -> Result<Grown, GrowFault>
+    ensures ok { IfOk result (λ made. held (tree_of made.tree) (parts_of parts.new.items) ≡ machine.reduce level (tree_of operand.tree) (parts_of parts.old.items)) }
+    ensures deep { result ≡ Err GrowFault.TooDeep → 1000 < held_height (machine.reduce level (tree_of operand.tree) (parts_of parts.old.items)) }
+{
+    let mut made = operand;
+    while let Some(part) = pop(parts) {
+        if !takes_operand(level, &part) {
+            push(parts, part)?;
+            return Ok(made);
+        }
+        made = join(alloc, part, made)?;
+    }
+    Ok(made)
+}

@@ -1,9 +1,0 @@
--- Faults inside faults.
-use Rattle.xs_parse.specs.declared.fault.GrowFault.{GrowFault}
-use Rattle.xs_parse.specs.declared.fault.GrowFault.TheVariants as grow
-use Rattle.xs_parse.specs.declared.fault.BuildFault.{BuildFault}
-use Rattle.xs_parse.specs.declared.fault.BuildFault.TheVariants as stop
-
-abbrev pub build_fault : GrowFault → BuildFault
-build_fault grow.TooDeep = stop.TooDeep
-build_fault grow.OutOfMemory = stop.OutOfMemory
