@@ -8,12 +8,12 @@ ghost use Rattle.xs_cert.specs.Seen.{seen};
 ghost use Rattle.xs_check.specs.Fit.{IsCheckable};
 ghost use Rattle.xs_cuts.specs.declared.answer.End.TheVariants as ends;
 ghost use Rattle.xs_report.specs.Told.{told_trace};
-ghost use Rattle.xs_run.specs.Analyses.{IsCertificateFor};
-ghost use Rattle.xs_run.specs.Searches.{IsSearched, HasCertificate, told_maybe, WritesPrefixMaybe};
+ghost use Rattle.xs_case_search.specs.Found.{IsCertificateFor};
+ghost use Rattle.xs_case_search.specs.Searches.{IsSearched, HasCertificate};
+ghost use Rattle.xs_loading.specs.Answered.{told_maybe, WritesPrefixMaybe};
 ghost use Rattle.xs_reach_status.specs.declared.status.Refusal.{Refusal};
 ghost use Rattle.xs_reach_status.specs.declared.stop.Stop.TheVariants as stop;
-ghost use Rattle.xs_reach_status.specs.Finished.{IsFinished};
-ghost use Rattle.xs_reach_status.specs.Finished.{ended_with};
+ghost use Rattle.xs_reach_status.specs.Finished.{IsFinished, ended_with};
 ghost use Rattle.xs_find_causes.specs.Causes.{staged_in, events_in, IsStagedEvent, CertifiesStaged, AcceptsStaged, AcceptsCauses, HasCheckedCauses, LeavesCheck, IsCausesFinding, FindsCauses, HasFoundCauses, ConcludesInPart, LeavesCauses};
 ghost use Rattle.xs_find_causes.specs.Refusals.{RefusesStaged, BreaksLine, RefusesJudged, RefusesCauseCheck};
 
@@ -31,7 +31,7 @@ use xs_reach_status::status::{Status, ended_as};
 use xs_reach_status::stop::Stop;
 use xs_reach_words::{CheckCauses, FindCauses};
 use xs_report::print_analysis;
-use xs_run::certificate::{accepted_report, line_stop, load_certificate};
+use xs_certificate_file::certificate::{accepted_report, line_stop, load_certificate};
 use xs_scope::items::number_of;
 use xs_value::{ByteList, Ending, OutOfMemory};
 

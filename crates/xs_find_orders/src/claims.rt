@@ -6,7 +6,7 @@ ghost use Rattle.xs_encoded_search.specs.Searchable.{IsSearchable};
 ghost use Rattle.xs_cert.specs.Seen.{seen};
 ghost use Rattle.xs_check.specs.Fit.{IsCheckable};
 ghost use Rattle.xs_check.specs.Found.{IsJudgedUnlisted};
-ghost use Rattle.xs_run.specs.Searches.{case_in};
+ghost use Rattle.xs_loading.specs.LoadedEvents.{case_in};
 ghost use Rattle.xs_reach_words.specs.Sets.{numbers_of};
 ghost use Rattle.xs_reach_status.specs.declared.status.Refusal.{Refusal};
 ghost use Rattle.xs_reach_status.specs.declared.stop.Stop.TheVariants as stop;
@@ -26,7 +26,7 @@ use xs_orders::Relation;
 use xs_reach_status::status::Status;
 use xs_reach_status::stop::Stop;
 use xs_reach_words::CheckOrders;
-use xs_run::certificate::{line_stop, load_certificate};
+use xs_certificate_file::certificate::{line_stop, load_certificate};
 use xs_tree::Expr;
 use xs_value::OutOfMemory;
 

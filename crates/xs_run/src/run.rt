@@ -13,7 +13,7 @@ ghost use Rattle.xs_run.specs.Made.{IsMade};
 
 use crate::asked::command_asked;
 use crate::ending::refuse;
-use crate::status::Status;
+use xs_loading::status::Status;
 use crate::verbs::carry_out;
 use std::alloc::Global;
 use xs_adviser::{Adviser, Panel};
