@@ -8,13 +8,13 @@ ghost use Rattle.xs_encoded_search.specs.Searchable.{IsSearchable};
 ghost use Rattle.xs_cuts.specs.Answer.{IsAnswer};
 ghost use Rattle.xs_case_search.specs.Found.{size_for};
 
-use xs_loading::loaded::LoadedCase;
 use std::alloc::Global;
 use xs_adviser::Panel;
 use xs_analysis::{analyse, analyse_in, frames_of};
 use xs_cuts::answer::Analysis;
 use xs_flat::Flat;
 use xs_frames::Frames;
+use xs_loading::loaded::LoadedCase;
 use xs_tree::Expr;
 use xs_value::OutOfMemory;
 

@@ -12,12 +12,12 @@ ghost use Rattle.xs_loading.specs.declared.status.Refusal.TheVariants as refusal
 ghost use Rattle.xs_loading.specs.declared.status.Objection.TheVariants as objection;
 ghost use Rattle.xs_loading.specs.declared.input.Stop.TheVariants as stop;
 
-use xs_loading::input::Stop;
-use xs_loading::status::{InputFault, Objection, Part, Refusal};
 use std::alloc::Global;
 use xs_cert::{CertFault, Certificate, read};
 use xs_check::spelled_are_checkable;
 use xs_desk::{Desk, DeskFault, read_whole};
+use xs_loading::input::Stop;
+use xs_loading::status::{InputFault, Objection, Part, Refusal};
 use xs_value::{ByteList, OutOfMemory};
 
 /// The limit of the file of a certificate, in bytes.

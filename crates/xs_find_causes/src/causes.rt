@@ -22,6 +22,7 @@ use std::alloc::Global;
 use xs_adviser::Panel;
 use xs_analysis::analyse;
 use xs_cert::{Certificate, write};
+use xs_certificate_file::certificate::{accepted_report, line_stop, load_certificate};
 use xs_certify::certify;
 use xs_check::{Judged, check};
 use xs_cuts::answer::{Analysis, End};
@@ -31,7 +32,6 @@ use xs_reach_status::status::{Status, ended_as};
 use xs_reach_status::stop::Stop;
 use xs_reach_words::{CheckCauses, FindCauses};
 use xs_report::print_analysis;
-use xs_certificate_file::certificate::{accepted_report, line_stop, load_certificate};
 use xs_scope::items::number_of;
 use xs_value::{ByteList, Ending, OutOfMemory};
 

@@ -20,20 +20,20 @@ ghost use Rattle.xs_find_odds.specs.Odds.{mark_rule, mark_refusal, RefusesOdds, 
 
 use std::alloc::Global;
 use xs_adviser::Panel;
+use xs_case_search::search::{analysed, size_of};
 use xs_cuts::answer::Analysis;
 use xs_cuts_extended::told;
 use xs_desk::{Desk, say_whole};
+use xs_loading::event::LoadedEvent;
+use xs_loading::loaded::{LoadedCase, load_case};
+use xs_loading::model::load_model;
+use xs_loading::top::load_top;
 use xs_odds::{MarkFault, OddsFault, OddsList, marks, print_odds};
 use xs_reach_status::report::{append_ending, append_sets};
 use xs_reach_status::status::{InputFault, Part, Refusal, Status, ended_as};
 use xs_reach_status::stop::Stop;
 use xs_reach_words::FindOdds;
 use xs_report::print_faults;
-use xs_loading::event::LoadedEvent;
-use xs_loading::loaded::{LoadedCase, load_case};
-use xs_loading::model::load_model;
-use xs_case_search::search::{analysed, size_of};
-use xs_loading::top::load_top;
 use xs_value::{ByteList, Ending, OutOfMemory};
 
 /// A case with a top event and its word, the units of each of its faults, and how far it is to be searched.

@@ -19,6 +19,7 @@ use crate::pair::{PairWords, StagedCase, discard_case, load_pair};
 use crate::searched::{are_few, expression};
 use std::alloc::Global;
 use xs_cert::Certificate;
+use xs_certificate_file::certificate::{line_stop, load_certificate};
 use xs_check::{Judged, check_unlisted};
 use xs_desk::{Desk, say_whole};
 use xs_flat::Flat;
@@ -26,7 +27,6 @@ use xs_orders::Relation;
 use xs_reach_status::status::Status;
 use xs_reach_status::stop::Stop;
 use xs_reach_words::CheckOrders;
-use xs_certificate_file::certificate::{line_stop, load_certificate};
 use xs_tree::Expr;
 use xs_value::OutOfMemory;
 

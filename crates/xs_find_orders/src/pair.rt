@@ -21,10 +21,6 @@ ghost use Rattle.xs_find_orders.specs.Pairs.{ChecksAskPairs, OrdersAskPairs, IsP
 use std::alloc::Global;
 use xs_desk::Desk;
 use xs_flat::FaultList;
-use xs_orders::stage;
-use xs_reach_status::status::{InputFault, Part, Refusal};
-use xs_reach_status::stop::Stop;
-use xs_reach_words::{WordFault, set_numbers};
 use xs_loading::event::LoadedEvent;
 use xs_loading::input::Input;
 use xs_loading::loaded::{Limited, load_case, typed_whole};
@@ -32,6 +28,10 @@ use xs_loading::model::load_model;
 use xs_loading::status as shared;
 use xs_loading::top::load_top;
 use xs_loading::wrong::Wrong;
+use xs_orders::stage;
+use xs_reach_status::status::{InputFault, Part, Refusal};
+use xs_reach_status::stop::Stop;
+use xs_reach_words::{WordFault, set_numbers};
 use xs_sets::has_number;
 use xs_types::Typed;
 

@@ -8,12 +8,12 @@ ghost use Rattle.xs_loading.specs.LoadedEvents.{IsEvent};
 ghost use Rattle.xs_run.specs.Findings.{analysed_case, analysed_size, ConcludesInPart};
 ghost use Rattle.xs_loading.specs.Answered.{told_maybe, WritesPrefixMaybe};
 
-use xs_loading::event::LoadedEvent;
 use crate::search::{Found, search, status_of};
-use xs_loading::status::Status;
 use std::alloc::Global;
 use xs_adviser::Panel;
 use xs_desk::{Desk, WriteStop, say_whole, write_whole};
+use xs_loading::event::LoadedEvent;
+use xs_loading::status::Status;
 use xs_tree::print_program;
 use xs_value::ByteList;
 

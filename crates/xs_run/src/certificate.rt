@@ -9,15 +9,15 @@ ghost use Rattle.xs_run.specs.Certificates.{RefusesLine, IsAcceptedFor, CertRefu
 ghost use Rattle.xs_loading.specs.declared.status.Refusal.{Refusal};
 ghost use Rattle.xs_loading.specs.declared.input.Stop.TheVariants as stop;
 
+use std::alloc::Global;
+use xs_cert::Certificate;
+use xs_certificate_file::certificate::{accepted_report, line_stop, load_certificate};
+use xs_check::{Judged, check};
+use xs_desk::Desk;
 use xs_loading::event::LoadedEvent;
 use xs_loading::input::Stop;
 use xs_loading::status::Refusal;
-use std::alloc::Global;
-use xs_cert::Certificate;
-use xs_check::{Judged, check};
-use xs_desk::Desk;
 use xs_value::ByteList;
-use xs_certificate_file::certificate::{accepted_report, line_stop, load_certificate};
 
 /// A judgement gives each symbol a number below this. A model of two files within their limits has far fewer.
 const MOST_SYMBOLS: usize = 2_147_483_648;

@@ -7,11 +7,11 @@ ghost use Rattle.xs_loading.specs.Statuses.{status_of, refusal_text};
 ghost use Rattle.xs_run.specs.Findings.{finished_as};
 ghost use Rattle.xs_run.specs.Delivered.{ended_as, Stopped};
 
+use std::alloc::Global;
+use xs_desk::{Desk, WriteStop, say_whole, write_whole};
 use xs_loading::faults::Made;
 use xs_loading::input::Stop;
 use xs_loading::status::{Refusal, Status};
-use std::alloc::Global;
-use xs_desk::{Desk, WriteStop, say_whole, write_whole};
 use xs_value::OutOfMemory;
 
 /// Ends a run that can't go on: a refusal says its line.

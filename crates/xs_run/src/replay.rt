@@ -19,17 +19,17 @@ ghost use Rattle.xs_loading.specs.declared.status.Refusal.TheVariants as refusal
 ghost use Rattle.xs_loading.specs.declared.status.Objection.TheVariants as objection;
 ghost use Rattle.xs_loading.specs.declared.input.Stop.TheVariants as stop;
 
-use xs_loading::input::Stop;
-use xs_loading::loaded::LoadedCase;
-use xs_loading::model::LoadedModel;
-use xs_loading::report::append_name;
-use xs_loading::status::{Objection, Refusal, Why};
 use crate::trace::load_trace;
 use std::alloc::Global;
 use xs_desk::Desk;
 use xs_eval::{Replayed, Table, has_failed, replay};
 use xs_extend::WovenFault;
 use xs_flat::{Fault, Flat};
+use xs_loading::input::Stop;
+use xs_loading::loaded::LoadedCase;
+use xs_loading::model::LoadedModel;
+use xs_loading::report::append_name;
+use xs_loading::status::{Objection, Refusal, Why};
 use xs_tree::Expr;
 use xs_types::Typed;
 use xs_value::{ByteList, MomentList, OutOfMemory};

@@ -12,19 +12,19 @@ ghost use Rattle.xs_case_search.specs.Searches.{IsSearched, HasCertificate};
 ghost use Rattle.xs_run.specs.Findings.{IsFinding, analysed_case, analysed_size};
 
 use crate::analysis::Analysing;
-use xs_loading::loaded::LoadedCase;
-use xs_loading::status::Status;
 use std::alloc::Global;
 use xs_adviser::Panel;
+use xs_case_search::search::{analysed, size_of};
 use xs_cert::write;
 use xs_certify::certify;
 use xs_cuts::answer::{Analysis, End};
 use xs_cuts_extended::told;
 use xs_flat::Flat;
+use xs_loading::loaded::LoadedCase;
+use xs_loading::status::Status;
 use xs_report::print_analysis;
 use xs_tree::Expr;
 use xs_value::{ByteList, Ending, OutOfMemory};
-use xs_case_search::search::{analysed, size_of};
 
 /// What a search found: the report, how it ended, and for a complete answer the text of a certificate.
 #[derive(Drop)]

@@ -26,20 +26,20 @@ ghost use Rattle.xs_loading.specs.declared.status.Refusal.TheVariants as refusal
 ghost use Rattle.xs_loading.specs.declared.input.Stop.TheVariants as stop;
 ghost use Rattle.xs_loading.specs.declared.wrong.Wrong.{Wrong};
 
-use xs_loading::input::Stop;
-use xs_loading::loaded::{LoadedCase, load_case};
-use xs_loading::model::{LoadedModel, load_model};
-use xs_case_search::search::{analysed_in, frames_of_case, size_of};
-use xs_loading::status::{InputFault, Part, Refusal, Status};
-use xs_loading::top::{judge_top, over_extension, top_stop};
-use xs_loading::wrong::Wrong;
 use std::alloc::Global;
 use xs_adviser::Panel;
+use xs_case_search::search::{analysed_in, frames_of_case, size_of};
 use xs_cuts_extended::told;
 use xs_desk::{Desk, DeskFault, WriteStop, read_whole, say_whole};
 use xs_flat::Flat;
 use xs_fmea::{Column, ColumnList, print_table, table};
 use xs_frames::Frames;
+use xs_loading::input::Stop;
+use xs_loading::loaded::{LoadedCase, load_case};
+use xs_loading::model::{LoadedModel, load_model};
+use xs_loading::status::{InputFault, Part, Refusal, Status};
+use xs_loading::top::{judge_top, over_extension, top_stop};
+use xs_loading::wrong::Wrong;
 use xs_parse::expressions;
 use xs_report::print_faults;
 use xs_tree::{Expr, ExprList};

@@ -18,19 +18,19 @@ use crate::analysis::{Analysing, deliver_analysis};
 use crate::asked::{Analyse, Asked, Check, Extend, Fmea, Make, Replay};
 use crate::certificate::check_file;
 use crate::ending::{ended, finished, stopped, write_and_say};
-use xs_loading::event::load_event;
-use xs_loading::faults::{Made, load_extension};
-use xs_loading::input::Stop;
-use xs_loading::loaded::load_case;
 use crate::make::{Making, deliver_made, generate};
-use xs_loading::model::load_model;
 use crate::replay::replay_file;
-use xs_loading::status::Status;
-use xs_loading::top::load_top;
 use crate::tops::{Tabulating, deliver_table, load_table};
 use std::alloc::Global;
 use xs_adviser::Panel;
 use xs_desk::{Desk, say_whole};
+use xs_loading::event::load_event;
+use xs_loading::faults::{Made, load_extension};
+use xs_loading::input::Stop;
+use xs_loading::loaded::load_case;
+use xs_loading::model::load_model;
+use xs_loading::status::Status;
+use xs_loading::top::load_top;
 use xs_value::{ByteList, OutOfMemory};
 
 /// Carries out what was asked for.
