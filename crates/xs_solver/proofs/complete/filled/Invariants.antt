@@ -1,0 +1,17 @@
+use Rattle.std.proofs.Common.{◌≡◌, ◌≢◌, ◌+◌, ◌<◌, ◌≤◌, ◌-◌, ◌^◌, ℕ, Bool, Some, None, length, slice_index_or}
+use Rattle.xs_solver.proofs.complete.filled.Given as goal
+
+-- the values are kept, and no variable so far is free
+abbrev pub invariant-loop-var : goal.invariant-loop-var
+invariant-loop-var l = record {
+  positive : 1 ≤ l.var;
+  within : l.var ≤ l.vars + 1;
+  small : l.vars < 2 ^ 62;
+  most : l.vars + 1 ≡ length l.assign;
+  places : length l.all ≡ length l.assign;
+  kept : (x : ℕ) (v : Bool) → slice_index_or l.assign x None ≡ Some v → slice_index_or l.all x None ≡ Some v;
+  taken : (x : ℕ) → 0 < x → x < l.var → slice_index_or l.all x None ≢ None;
+}
+
+abbrev pub decreases-loop-var : goal.decreases-loop-var
+decreases-loop-var l = l.vars + 1 - l.var
