@@ -19,24 +19,24 @@ use Rattle.xs_causes_reader.specs.declared.fault.CauseFault.{CauseFault}
 use Rattle.xs_causes_reader.specs.declared.fault.CauseFault.TheVariants as cause_fault
 use Rattle.xs_causes_reader.specs.Broken.{rule_of}
 use Rattle.xs_causes_reader.specs.Read.{AreRead, FaultSays}
-use Rattle.xs_run.specs.declared.loaded.LoadedCase.{LoadedCase}
-use Rattle.xs_run.specs.declared.status.InputFault.{InputFault as SharedFault}
-use Rattle.xs_run.specs.declared.status.Refusal.{Refusal as SharedRefusal}
-use Rattle.xs_run.specs.declared.status.Refusal.TheVariants as shared_refusal
-use Rattle.xs_run.specs.declared.input.Stop.{Stop as SharedStop}
-use Rattle.xs_run.specs.declared.input.Stop.TheVariants as shared_stop
-use Rattle.xs_run.specs.declared.wrong.Wrong.{Wrong}
-use Rattle.xs_run.specs.declared.wrong.Wrong.TheVariants as wrong
-use Rattle.xs_run.specs.Wrongs.{parse_wrong, IfRefused}
-use Rattle.xs_run.specs.Wholes.{BreaksKinds}
-use Rattle.xs_run.specs.Inputs.{RefusesModel, HoldsModel, RefusesFaults}
-use Rattle.xs_run.specs.Cases.{Case, extension_of, HoldsCase, IsTopWord, IsWrongWord}
-use Rattle.xs_run.specs.Tasks.{HasAtMost}
-use Rattle.xs_run.specs.Loaded.{case_of, IsLoaded}
-use Rattle.xs_run.specs.Searches.{case_in, told_maybe}
-use Rattle.xs_run.specs.Answered.{Told, Said}
-use Rattle.xs_run.specs.Certificates.{RefusesCertificate, HoldsCertificate}
-use Rattle.xs_run.proofs.OutcomeLemmas.{says_in_part}
+use Rattle.xs_loading.specs.declared.loaded.LoadedCase.{LoadedCase}
+use Rattle.xs_loading.specs.declared.status.InputFault.{InputFault as SharedFault}
+use Rattle.xs_loading.specs.declared.status.Refusal.{Refusal as SharedRefusal}
+use Rattle.xs_loading.specs.declared.status.Refusal.TheVariants as shared_refusal
+use Rattle.xs_loading.specs.declared.input.Stop.{Stop as SharedStop}
+use Rattle.xs_loading.specs.declared.input.Stop.TheVariants as shared_stop
+use Rattle.xs_loading.specs.declared.wrong.Wrong.{Wrong}
+use Rattle.xs_loading.specs.declared.wrong.Wrong.TheVariants as wrong
+use Rattle.xs_loading.specs.Wrongs.{parse_wrong, IfRefused}
+use Rattle.xs_loading.specs.Wholes.{BreaksKinds}
+use Rattle.xs_loading.specs.Inputs.{RefusesModel, HoldsModel, RefusesFaults}
+use Rattle.xs_loading.specs.Cases.{Case, extension_of, HoldsCase, IsTopWord, IsWrongWord}
+use Rattle.xs_loading.specs.Tasks.{HasAtMost}
+use Rattle.xs_loading.specs.Loaded.{case_of, IsLoaded}
+use Rattle.xs_loading.specs.LoadedEvents.{case_in}
+use Rattle.xs_loading.specs.Answered.{told_maybe, Told, Said}
+use Rattle.xs_certificate_file.specs.CertificateFiles.{RefusesCertificate, HoldsCertificate}
+use Rattle.xs_loading.proofs.SaidLaws.{says_in_part}
 use Rattle.xs_reach_status.specs.declared.status.InputFault.{InputFault}
 use Rattle.xs_reach_status.specs.declared.status.Refusal.{Refusal}
 use Rattle.xs_reach_status.specs.declared.status.Refusal.TheVariants as refusal

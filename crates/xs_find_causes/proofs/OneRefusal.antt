@@ -20,22 +20,22 @@ use Rattle.xs_causes.specs.Staged.{with_causes, events_of}
 use Rattle.xs_causes_reader.specs.CausesRead.{IsCauses}
 use Rattle.xs_causes_reader.specs.Read.{AreRead}
 use Rattle.xs_causes_reader.proofs.OneReading.{one_reading, one_broken, read_unbroken}
-use Rattle.xs_run.specs.declared.status.InputFault.{InputFault as SharedFault}
-use Rattle.xs_run.specs.declared.status.Objection.TheVariants as objection
-use Rattle.xs_run.specs.declared.status.Refusal.TheVariants as shared_refusal
-use Rattle.xs_run.specs.Inputs.{RefusesFaults}
-use Rattle.xs_run.specs.Cases.{Case, extension_of, HoldsCase, IsTopWord, IsWrongWord}
-use Rattle.xs_run.specs.Tasks.{IsRefusedAbove, HasAtMost, IsTopTree}
-use Rattle.xs_run.specs.Certificates.{HoldsCertificate}
-use Rattle.xs_run.specs.Searches.{case_in}
-use Rattle.xs_run.proofs.Told.{one_refusal}
-use Rattle.xs_run.proofs.TextFaults.{reason, of_this_kind, same_reason}
-use Rattle.xs_run.proofs.OneExtending.{one_refused_faults}
-use Rattle.xs_run.proofs.OneModelFault.{one_breach, typed_breaks_none, one_refused_model, held_not_refused, one_held_model}
-use Rattle.xs_run.proofs.OneCase.{case_not_refused, one_case}
-use Rattle.xs_run.proofs.OneTop.{one_wrong_word, word_not_wrong}
-use Rattle.xs_run.proofs.OneReplay.{no_bytes_within, one_fault_above, same_bytes_within}
-use Rattle.xs_run.proofs.OneCheck.{one_refused_certificate, held_certificate_not_refused, one_held_certificate, moved}
+use Rattle.xs_loading.specs.declared.status.InputFault.{InputFault as SharedFault}
+use Rattle.xs_loading.specs.declared.status.Objection.TheVariants as objection
+use Rattle.xs_loading.specs.declared.status.Refusal.TheVariants as shared_refusal
+use Rattle.xs_loading.specs.Inputs.{RefusesFaults}
+use Rattle.xs_loading.specs.Cases.{Case, extension_of, HoldsCase, IsTopWord, IsWrongWord}
+use Rattle.xs_loading.specs.Tasks.{IsRefusedAbove, HasAtMost, IsTopTree}
+use Rattle.xs_certificate_file.specs.CertificateFiles.{HoldsCertificate}
+use Rattle.xs_loading.specs.LoadedEvents.{case_in}
+use Rattle.xs_loading.proofs.Told.{one_refusal}
+use Rattle.xs_loading.proofs.TextFaults.{reason, of_this_kind, same_reason}
+use Rattle.xs_loading.proofs.OneExtending.{one_refused_faults}
+use Rattle.xs_loading.proofs.OneModelFault.{one_breach, typed_breaks_none, one_refused_model, held_not_refused, one_held_model}
+use Rattle.xs_loading.proofs.OneCase.{case_not_refused, one_case}
+use Rattle.xs_loading.proofs.OneTop.{one_wrong_word, word_not_wrong}
+use Rattle.xs_loading.proofs.FilesWithin.{no_bytes_within, one_fault_above, same_bytes_within}
+use Rattle.xs_certificate_file.proofs.OneCertificate.{one_refused_certificate, held_certificate_not_refused, one_held_certificate, moved}
 use Rattle.xs_reach_status.specs.declared.status.InputFault.{InputFault}
 use Rattle.xs_reach_status.specs.declared.status.Refusal.{Refusal}
 use Rattle.xs_reach_status.specs.declared.status.Refusal.TheVariants as refusal

@@ -59,16 +59,16 @@ use Rattle.xs_caused.proofs.Loaded.{state_modes, history_inputs, staged_symbols}
 use Rattle.xs_caused.proofs.NamedLaws.{caused_named, spelled_words}
 use Rattle.xs_caused.proofs.Shown.{accepted_certifies}
 use Rattle.xs_caused.proofs.Answered.{answers_caused}
-use Rattle.xs_run.specs.declared.loaded.LoadedCase.{LoadedCase}
-use Rattle.xs_run.specs.declared.status.Objection.TheVariants as objection
-use Rattle.xs_run.specs.declared.status.Refusal.TheVariants as shared_refusal
-use Rattle.xs_run.specs.Cases.{Case, extension_of}
-use Rattle.xs_run.specs.Loaded.{case_of, IsLoaded}
-use Rattle.xs_run.specs.Searches.{IsSearched}
-use Rattle.xs_run.proofs.Analysable.{model_of_case, case_searchable}
-use Rattle.xs_run.proofs.FlatLimits.{flat_typed}
-use Rattle.xs_run.proofs.ReplayLemmas.{same_counts, loaded_evaluable}
-use Rattle.xs_run.proofs.TopLaws.{have_models}
+use Rattle.xs_loading.specs.declared.loaded.LoadedCase.{LoadedCase}
+use Rattle.xs_loading.specs.declared.status.Objection.TheVariants as objection
+use Rattle.xs_loading.specs.declared.status.Refusal.TheVariants as shared_refusal
+use Rattle.xs_loading.specs.Cases.{Case, extension_of}
+use Rattle.xs_loading.specs.Loaded.{case_of, IsLoaded}
+use Rattle.xs_case_search.specs.Searches.{IsSearched}
+use Rattle.xs_case_search.proofs.Analysable.{model_of_case, case_searchable}
+use Rattle.xs_loading.proofs.FlatLimits.{flat_typed}
+use Rattle.xs_loading.proofs.LoadedLaws.{same_counts, loaded_evaluable}
+use Rattle.xs_loading.proofs.TopLaws.{have_models}
 use Rattle.xs_reach_status.specs.declared.status.Refusal.{Refusal}
 use Rattle.xs_reach_status.specs.declared.status.Refusal.TheVariants as refusal
 use Rattle.xs_find_causes.specs.declared.staged.StagedEvent.{StagedEvent}

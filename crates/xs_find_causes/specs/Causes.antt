@@ -36,16 +36,17 @@ use Rattle.xs_causes_reader.specs.Read.{AreRead}
 use Rattle.xs_caused.specs.Names.{AreApart}
 use Rattle.xs_caused.specs.Laws.{AreNamed}
 use Rattle.xs_caused.specs.Shown.{CertifiesCauses, IsCausedAnalysis}
-use Rattle.xs_run.specs.declared.loaded.LoadedCase.{LoadedCase}
-use Rattle.xs_run.specs.declared.status.InputFault.{InputFault as SharedFault}
-use Rattle.xs_run.specs.declared.wrong.Wrong.{Wrong}
-use Rattle.xs_run.specs.declared.wrong.Wrong.TheVariants as wrong
-use Rattle.xs_run.specs.Cases.{Case, extension_of, HoldsCase, IsTopWord}
-use Rattle.xs_run.specs.Tasks.{HasAtMost}
-use Rattle.xs_run.specs.Loaded.{case_of, IsLoaded}
-use Rattle.xs_run.specs.Searches.{case_in, IsEvent, IsSearched, HasCertificate, told_maybe, WritesPrefixMaybe}
-use Rattle.xs_run.specs.Answered.{Told, Said}
-use Rattle.xs_run.specs.Certificates.{HoldsCertificate}
+use Rattle.xs_loading.specs.declared.loaded.LoadedCase.{LoadedCase}
+use Rattle.xs_loading.specs.declared.status.InputFault.{InputFault as SharedFault}
+use Rattle.xs_loading.specs.declared.wrong.Wrong.{Wrong}
+use Rattle.xs_loading.specs.declared.wrong.Wrong.TheVariants as wrong
+use Rattle.xs_loading.specs.Cases.{Case, extension_of, HoldsCase, IsTopWord}
+use Rattle.xs_loading.specs.Tasks.{HasAtMost}
+use Rattle.xs_loading.specs.Loaded.{case_of, IsLoaded}
+use Rattle.xs_loading.specs.LoadedEvents.{case_in, IsEvent}
+use Rattle.xs_case_search.specs.Searches.{IsSearched, HasCertificate}
+use Rattle.xs_loading.specs.Answered.{told_maybe, WritesPrefixMaybe, Told, Said}
+use Rattle.xs_certificate_file.specs.CertificateFiles.{HoldsCertificate}
 use Rattle.xs_reach_status.specs.declared.status.InputFault.{InputFault}
 use Rattle.xs_reach_status.specs.declared.status.Part.TheVariants as part
 use Rattle.xs_reach_status.specs.declared.status.Refusal.TheVariants as refusal

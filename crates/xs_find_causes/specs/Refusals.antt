@@ -25,18 +25,18 @@ use Rattle.xs_causes_reader.specs.declared.fault.CauseFault.TheVariants as cause
 use Rattle.xs_causes_reader.specs.Broken.{rule_of}
 use Rattle.xs_causes_reader.specs.CausesRead.{IsCauses}
 use Rattle.xs_causes_reader.specs.Read.{AreRead, BreakRule}
-use Rattle.xs_run.specs.declared.status.InputFault.{InputFault as SharedFault}
-use Rattle.xs_run.specs.declared.status.Objection.TheVariants as objection
-use Rattle.xs_run.specs.declared.status.Refusal.{Refusal as SharedRefusal}
-use Rattle.xs_run.specs.declared.status.Refusal.TheVariants as shared_refusal
-use Rattle.xs_run.specs.declared.wrong.Wrong.TheVariants as wrong
-use Rattle.xs_run.specs.Statuses.{absent, too_long}
-use Rattle.xs_run.specs.Wrongs.{parse_wrong}
-use Rattle.xs_run.specs.Wholes.{BreaksKinds}
-use Rattle.xs_run.specs.Inputs.{RefusesModel, HoldsModel, RefusesFaults}
-use Rattle.xs_run.specs.Cases.{Case, extension_of, HoldsCase, IsTopWord, IsWrongWord}
-use Rattle.xs_run.specs.Tasks.{HasAtMost, IsTopTree}
-use Rattle.xs_run.specs.Certificates.{RefusesCertificate, HoldsCertificate}
+use Rattle.xs_loading.specs.declared.status.InputFault.{InputFault as SharedFault}
+use Rattle.xs_loading.specs.declared.status.Objection.TheVariants as objection
+use Rattle.xs_loading.specs.declared.status.Refusal.{Refusal as SharedRefusal}
+use Rattle.xs_loading.specs.declared.status.Refusal.TheVariants as shared_refusal
+use Rattle.xs_loading.specs.declared.wrong.Wrong.TheVariants as wrong
+use Rattle.xs_loading.specs.Statuses.{absent, too_long}
+use Rattle.xs_loading.specs.Wrongs.{parse_wrong}
+use Rattle.xs_loading.specs.Wholes.{BreaksKinds}
+use Rattle.xs_loading.specs.Inputs.{RefusesModel, HoldsModel, RefusesFaults}
+use Rattle.xs_loading.specs.Cases.{Case, extension_of, HoldsCase, IsTopWord, IsWrongWord}
+use Rattle.xs_loading.specs.Tasks.{HasAtMost, IsTopTree}
+use Rattle.xs_certificate_file.specs.CertificateFiles.{RefusesCertificate, HoldsCertificate}
 use Rattle.xs_reach_status.specs.declared.status.InputFault.{InputFault}
 use Rattle.xs_reach_status.specs.declared.status.Part.TheVariants as part
 use Rattle.xs_reach_status.specs.declared.status.Refusal.{Refusal}

@@ -36,15 +36,15 @@ use Rattle.xs_cuts_extended.specs.Answered as found
 use Rattle.xs_cuts_extended.specs.Answered.{ending_of, analysis_of}
 use Rattle.xs_cuts_extended.proofs.Analyses.{answers_are_analyses}
 use Rattle.xs_reporting.specs.ExtendedTraces.{Ending, complete, bounded}
-use Rattle.xs_run.specs.declared.loaded.LoadedCase.{LoadedCase}
-use Rattle.xs_run.specs.Cases.{Case, whole_of}
-use Rattle.xs_run.specs.Tasks.{IsTopTree}
-use Rattle.xs_run.specs.Loaded.{case_of}
-use Rattle.xs_run.specs.Answered.{faults_text}
-use Rattle.xs_run.specs.Analyses.{EndsBy}
-use Rattle.xs_run.specs.Searches.{IsAnalysable}
-use Rattle.xs_run.proofs.Analysable.{model_of_case, case_counts}
-use Rattle.xs_run.proofs.ListedLaws.{are_listed, named_lines}
+use Rattle.xs_loading.specs.declared.loaded.LoadedCase.{LoadedCase}
+use Rattle.xs_loading.specs.Cases.{Case, whole_of}
+use Rattle.xs_loading.specs.Tasks.{IsTopTree}
+use Rattle.xs_loading.specs.Loaded.{case_of}
+use Rattle.xs_loading.specs.Answered.{faults_text}
+use Rattle.xs_case_search.specs.Found.{EndsBy}
+use Rattle.xs_loading.specs.LoadedEvents.{IsAnalysable}
+use Rattle.xs_case_search.proofs.Analysable.{model_of_case, case_counts}
+use Rattle.xs_loading.proofs.ListedLaws.{are_listed, named_lines}
 use Rattle.xs_find_odds.specs.declared.odds.FoundOdds.{FoundOdds}
 use Rattle.xs_reach_status.specs.Reports.{sets_text, ending_line}
 use Rattle.xs_find_odds.specs.Odds.{AreBounded, IsOddsFinding, odds_report}

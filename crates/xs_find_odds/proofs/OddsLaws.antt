@@ -6,14 +6,14 @@ use Rattle.xs_desk.specs.declared.files.NamedFile.{NamedFile}
 use Rattle.xs_desk.specs.Desk.{said_more, SaysPrefix}
 use Rattle.xs_tree.specs.ProgramTree.{Text, ProgramTree}
 use Rattle.xs_odds.specs.Marks.{HasProbabilities}
-use Rattle.xs_run.specs.declared.status.Refusal.{Refusal as SharedRefusal}
-use Rattle.xs_run.specs.declared.status.Refusal.TheVariants as shared_refusal
-use Rattle.xs_run.specs.declared.status.InputFault.{InputFault as SharedFault}
-use Rattle.xs_run.specs.Inputs.{RefusesModel, HoldsModel, RefusesFaults}
-use Rattle.xs_run.specs.Cases.{Case, HoldsCase, IsTopWord, IsWrongWord}
-use Rattle.xs_run.specs.Analyses.{IsFound}
-use Rattle.xs_run.specs.Answered.{Said}
-use Rattle.xs_run.specs.Searches.{case_in}
+use Rattle.xs_loading.specs.declared.status.Refusal.{Refusal as SharedRefusal}
+use Rattle.xs_loading.specs.declared.status.Refusal.TheVariants as shared_refusal
+use Rattle.xs_loading.specs.declared.status.InputFault.{InputFault as SharedFault}
+use Rattle.xs_loading.specs.Inputs.{RefusesModel, HoldsModel, RefusesFaults}
+use Rattle.xs_loading.specs.Cases.{Case, HoldsCase, IsTopWord, IsWrongWord}
+use Rattle.xs_case_search.specs.Found.{IsFound}
+use Rattle.xs_loading.specs.Answered.{Said}
+use Rattle.xs_loading.specs.LoadedEvents.{case_in}
 use Rattle.xs_reach_status.specs.declared.status.Refusal.{Refusal}
 use Rattle.xs_reach_status.specs.declared.status.Refusal.TheVariants as refusal
 use Rattle.xs_reach_status.specs.declared.status.Status.{Status}

@@ -7,13 +7,13 @@ use Rattle.xs_fei.specs.Instructions.{InstructionTree}
 use Rattle.xs_odds.specs.declared.mode_marks.MarkFault.{MarkFault}
 use Rattle.xs_odds.specs.Marks.{IsFirstMarkFault, HasProbabilities}
 use Rattle.xs_reporting.specs.ExtendedTraces.{Analysis}
-use Rattle.xs_run.specs.declared.status.Refusal.TheVariants as shared_refusal
-use Rattle.xs_run.specs.Inputs.{RefusesFaults}
-use Rattle.xs_run.specs.Cases.{IsWrongWord}
-use Rattle.xs_run.proofs.OneExtending.{one_refused_faults}
-use Rattle.xs_run.proofs.OneModelFault.{one_refused_model, held_not_refused, one_held_model}
-use Rattle.xs_run.proofs.OneCase.{case_not_refused, one_case}
-use Rattle.xs_run.proofs.OneTop.{one_wrong_word, word_not_wrong}
+use Rattle.xs_loading.specs.declared.status.Refusal.TheVariants as shared_refusal
+use Rattle.xs_loading.specs.Inputs.{RefusesFaults}
+use Rattle.xs_loading.specs.Cases.{IsWrongWord}
+use Rattle.xs_loading.proofs.OneExtending.{one_refused_faults}
+use Rattle.xs_loading.proofs.OneModelFault.{one_refused_model, held_not_refused, one_held_model}
+use Rattle.xs_loading.proofs.OneCase.{case_not_refused, one_case}
+use Rattle.xs_loading.proofs.OneTop.{one_wrong_word, word_not_wrong}
 use Rattle.xs_reach_status.specs.declared.status.Refusal.{Refusal}
 use Rattle.xs_reach_status.specs.declared.status.Refusal.TheVariants as refusal
 use Rattle.xs_find_odds.specs.Odds.{mark_refusal, RefusesOdds, at_model, at_faults, at_mark, at_top, IsOddsAnswer}

@@ -12,14 +12,14 @@ use Rattle.xs_odds.specs.Bounds.{Bounds, bound_of, bound_sum, slack_of, exact_su
 use Rattle.xs_odds.specs.OddsText.{odds_text}
 use Rattle.xs_analysis_text.specs.Analysis.{told_ending}
 use Rattle.xs_reporting.specs.ExtendedTraces.{Analysis}
-use Rattle.xs_run.specs.declared.status.InputFault.{InputFault as SharedFault}
-use Rattle.xs_run.specs.declared.status.Refusal.{Refusal as SharedRefusal}
-use Rattle.xs_run.specs.declared.status.Refusal.TheVariants as shared_refusal
-use Rattle.xs_run.specs.Inputs.{RefusesModel, HoldsModel, RefusesFaults}
-use Rattle.xs_run.specs.Cases.{Case, HoldsCase, IsTopWord, IsWrongWord}
-use Rattle.xs_run.specs.Answered.{Said, faults_text, bits_of}
-use Rattle.xs_run.specs.Analyses.{IsFound}
-use Rattle.xs_run.specs.Searches.{case_in, IsEvent}
+use Rattle.xs_loading.specs.declared.status.InputFault.{InputFault as SharedFault}
+use Rattle.xs_loading.specs.declared.status.Refusal.{Refusal as SharedRefusal}
+use Rattle.xs_loading.specs.declared.status.Refusal.TheVariants as shared_refusal
+use Rattle.xs_loading.specs.Inputs.{RefusesModel, HoldsModel, RefusesFaults}
+use Rattle.xs_loading.specs.Cases.{Case, HoldsCase, IsTopWord, IsWrongWord}
+use Rattle.xs_loading.specs.Answered.{Said, faults_text, bits_of}
+use Rattle.xs_case_search.specs.Found.{IsFound}
+use Rattle.xs_loading.specs.LoadedEvents.{case_in, IsEvent}
 use Rattle.xs_reach_status.specs.declared.status.Part.TheVariants as part
 use Rattle.xs_reach_status.specs.declared.status.Refusal.{Refusal}
 use Rattle.xs_reach_status.specs.declared.status.Refusal.TheVariants as refusal

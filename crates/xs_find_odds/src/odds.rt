@@ -9,9 +9,9 @@ ghost use Rattle.xs_odds.specs.OddsText.{odds_text};
 ghost use Rattle.xs_analysis_text.specs.Analysis.{told_ending};
 ghost use Rattle.xs_report.specs.FaultText.{name_of, faults_text};
 ghost use Rattle.xs_kinds.specs.Costs.{state_bits};
-ghost use Rattle.xs_run.specs.Loaded.{case_of, IsLoaded};
-ghost use Rattle.xs_run.specs.Searches.{case_in};
-ghost use Rattle.xs_run.specs.Cases.{HoldsCase};
+ghost use Rattle.xs_loading.specs.Loaded.{case_of, IsLoaded};
+ghost use Rattle.xs_loading.specs.LoadedEvents.{case_in};
+ghost use Rattle.xs_loading.specs.Cases.{HoldsCase};
 ghost use Rattle.xs_reach_status.specs.declared.status.Refusal.{Refusal};
 ghost use Rattle.xs_reach_status.specs.declared.stop.Stop.TheVariants as stop;
 ghost use Rattle.xs_reach_status.specs.Reports.{sets_text, ending_line};
@@ -20,20 +20,20 @@ ghost use Rattle.xs_find_odds.specs.Odds.{mark_rule, mark_refusal, RefusesOdds, 
 
 use std::alloc::Global;
 use xs_adviser::Panel;
+use xs_case_search::search::{analysed, size_of};
 use xs_cuts::answer::Analysis;
 use xs_cuts_extended::told;
 use xs_desk::{Desk, say_whole};
+use xs_loading::event::LoadedEvent;
+use xs_loading::loaded::{LoadedCase, load_case};
+use xs_loading::model::load_model;
+use xs_loading::top::load_top;
 use xs_odds::{MarkFault, OddsFault, OddsList, marks, print_odds};
 use xs_reach_status::report::{append_ending, append_sets};
 use xs_reach_status::status::{InputFault, Part, Refusal, Status, ended_as};
 use xs_reach_status::stop::Stop;
 use xs_reach_words::FindOdds;
 use xs_report::print_faults;
-use xs_run::event::LoadedEvent;
-use xs_run::loaded::{LoadedCase, load_case};
-use xs_run::model::load_model;
-use xs_run::search::{analysed, size_of};
-use xs_run::top::load_top;
 use xs_value::{ByteList, Ending, OutOfMemory};
 
 /// A case with a top event and its word, the units of each of its faults, and how far it is to be searched.

@@ -30,10 +30,10 @@ use Rattle.xs_orders_extended.proofs.Truths.{condition_truth}
 use Rattle.xs_faultless.specs.Laws.{class_of, NoneReaches}
 use Rattle.xs_staged.specs.Laws.{IsFaultNumber}
 use Rattle.xs_desk.specs.declared.files.NamedFile.{NamedFile}
-use Rattle.xs_run.specs.Cases.{Case, HoldsCase}
-use Rattle.xs_run.specs.Searches.{case_in}
-use Rattle.xs_run.proofs.Analysable.{model_of_case}
-use Rattle.xs_run.proofs.FlatLimits.{flat_typed}
+use Rattle.xs_loading.specs.Cases.{Case, HoldsCase}
+use Rattle.xs_loading.specs.LoadedEvents.{case_in}
+use Rattle.xs_case_search.proofs.Analysable.{model_of_case}
+use Rattle.xs_loading.proofs.FlatLimits.{flat_typed}
 use Rattle.xs_find_orders.specs.declared.pair.StagedCase.{StagedCase}
 use Rattle.xs_find_orders.specs.declared.pair.PairWords.{PairWords}
 use Rattle.xs_find_orders.specs.Pairs.{IsStagedCase, HoldsPair}

@@ -27,15 +27,15 @@ use Rattle.xs_check.specs.declared.judged.Judged.{Judged}
 use Rattle.xs_orders.specs.declared.Relation.{Relation}
 use Rattle.xs_faultless.proofs.Refuted.{accepted_refute}
 use Rattle.xs_reporting.specs.ExtendedTraces.{complete}
-use Rattle.xs_run.specs.declared.input.Stop.{Stop as SharedStop}
-use Rattle.xs_run.specs.declared.input.Stop.TheVariants as shared_stop
-use Rattle.xs_run.specs.declared.status.Refusal.{Refusal as SharedRefusal}
-use Rattle.xs_run.specs.declared.status.Refusal.TheVariants as shared_refusal
-use Rattle.xs_run.specs.declared.status.Objection.TheVariants as objection
-use Rattle.xs_run.specs.Cases.{HoldsCase, IsTopWord}
-use Rattle.xs_run.specs.Certificates.{RefusesCertificate, HoldsCertificate}
-use Rattle.xs_run.specs.Answered.{Said}
-use Rattle.xs_run.specs.Searches.{case_in}
+use Rattle.xs_loading.specs.declared.input.Stop.{Stop as SharedStop}
+use Rattle.xs_loading.specs.declared.input.Stop.TheVariants as shared_stop
+use Rattle.xs_loading.specs.declared.status.Refusal.{Refusal as SharedRefusal}
+use Rattle.xs_loading.specs.declared.status.Refusal.TheVariants as shared_refusal
+use Rattle.xs_loading.specs.declared.status.Objection.TheVariants as objection
+use Rattle.xs_loading.specs.Cases.{HoldsCase, IsTopWord}
+use Rattle.xs_certificate_file.specs.CertificateFiles.{RefusesCertificate, HoldsCertificate}
+use Rattle.xs_loading.specs.Answered.{Said}
+use Rattle.xs_loading.specs.LoadedEvents.{case_in}
 use Rattle.xs_reach_words.specs.Sets.{numbers_of}
 use Rattle.xs_reach_status.specs.declared.status.Refusal.{Refusal}
 use Rattle.xs_reach_status.specs.declared.status.Refusal.TheVariants as refusal

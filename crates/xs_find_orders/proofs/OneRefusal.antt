@@ -16,20 +16,20 @@ use Rattle.xs_certificate.proofs.Objections.{one_objection, accepted_has_none}
 use Rattle.xs_check.specs.Found.{IsObjectionOf, IsObjectionUnlisted, of_another, of_its_set}
 use Rattle.xs_staged.specs.Laws.{IsFaultNumber}
 use Rattle.xs_subject.specs.Subject.{subject_of}
-use Rattle.xs_run.specs.declared.status.InputFault.{InputFault as SharedFault}
-use Rattle.xs_run.specs.declared.status.Objection.TheVariants as objection
-use Rattle.xs_run.specs.declared.status.Refusal.{Refusal as SharedRefusal}
-use Rattle.xs_run.specs.declared.status.Refusal.TheVariants as shared_refusal
-use Rattle.xs_run.specs.Answered.{Told, Said}
-use Rattle.xs_run.specs.Cases.{Case, HoldsCase, IsTopWord, IsWrongWord}
-use Rattle.xs_run.specs.Certificates.{HoldsCertificate}
-use Rattle.xs_run.specs.Inputs.{RefusesModel, HoldsModel, RefusesFaults}
-use Rattle.xs_run.specs.Wholes.{BreaksKinds}
-use Rattle.xs_run.proofs.OneCase.{case_not_refused, one_case}
-use Rattle.xs_run.proofs.OneCheck.{one_refused_certificate, held_certificate_not_refused, one_held_certificate, moved}
-use Rattle.xs_run.proofs.OneExtending.{one_refused_faults}
-use Rattle.xs_run.proofs.OneModelFault.{one_breach, typed_breaks_none, one_refused_model, held_not_refused, one_held_model}
-use Rattle.xs_run.proofs.OneTop.{one_wrong_word, word_not_wrong}
+use Rattle.xs_loading.specs.declared.status.InputFault.{InputFault as SharedFault}
+use Rattle.xs_loading.specs.declared.status.Objection.TheVariants as objection
+use Rattle.xs_loading.specs.declared.status.Refusal.{Refusal as SharedRefusal}
+use Rattle.xs_loading.specs.declared.status.Refusal.TheVariants as shared_refusal
+use Rattle.xs_loading.specs.Answered.{Told, Said}
+use Rattle.xs_loading.specs.Cases.{Case, HoldsCase, IsTopWord, IsWrongWord}
+use Rattle.xs_certificate_file.specs.CertificateFiles.{HoldsCertificate}
+use Rattle.xs_loading.specs.Inputs.{RefusesModel, HoldsModel, RefusesFaults}
+use Rattle.xs_loading.specs.Wholes.{BreaksKinds}
+use Rattle.xs_loading.proofs.OneCase.{case_not_refused, one_case}
+use Rattle.xs_certificate_file.proofs.OneCertificate.{one_refused_certificate, held_certificate_not_refused, one_held_certificate, moved}
+use Rattle.xs_loading.proofs.OneExtending.{one_refused_faults}
+use Rattle.xs_loading.proofs.OneModelFault.{one_breach, typed_breaks_none, one_refused_model, held_not_refused, one_held_model}
+use Rattle.xs_loading.proofs.OneTop.{one_wrong_word, word_not_wrong}
 use Rattle.xs_reach_status.specs.declared.status.Refusal.{Refusal}
 use Rattle.xs_reach_status.specs.declared.status.Refusal.TheVariants as refusal
 use Rattle.xs_reach_status.specs.declared.status.Status.{Status}

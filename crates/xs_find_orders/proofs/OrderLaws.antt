@@ -35,10 +35,10 @@ use Rattle.xs_cutting.specs.Found.{sets_of}
 use Rattle.xs_faultless.specs.Laws.{class_of, NoneReaches}
 use Rattle.xs_faultless.proofs.Refuted.{empty_refute, found_reach}
 use Rattle.xs_reporting.specs.ExtendedTraces.{Ending, complete, bounded}
-use Rattle.xs_run.specs.Analyses.{IsCertificateFor}
-use Rattle.xs_run.specs.Cases.{Case, HoldsCase}
-use Rattle.xs_run.specs.Answered.{Told, Said}
-use Rattle.xs_run.specs.Searches.{case_in, told_maybe, WritesPrefixMaybe}
+use Rattle.xs_case_search.specs.Found.{IsCertificateFor}
+use Rattle.xs_loading.specs.Cases.{Case, HoldsCase}
+use Rattle.xs_loading.specs.Answered.{Told, Said, told_maybe, WritesPrefixMaybe}
+use Rattle.xs_loading.specs.LoadedEvents.{case_in}
 use Rattle.xs_reach_status.specs.declared.status.Status.{Status}
 use Rattle.xs_reach_status.specs.Finished.{ended_with}
 use Rattle.xs_find_orders.specs.declared.pair.PairWords.{PairWords}

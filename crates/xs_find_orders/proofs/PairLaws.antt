@@ -14,19 +14,19 @@ use Rattle.xs_kinds.specs.Models.{IsTyped}
 use Rattle.xs_extend.specs.WovenFaults.{fault_tree}
 use Rattle.xs_orders.specs.Stage.{stage}
 use Rattle.xs_staged.specs.Laws.{IsFaultNumber}
-use Rattle.xs_run.specs.declared.status.Refusal.{Refusal as SharedRefusal}
-use Rattle.xs_run.specs.declared.status.Refusal.TheVariants as shared_refusal
-use Rattle.xs_run.specs.declared.status.InputFault.{InputFault as SharedFault}
-use Rattle.xs_run.specs.declared.input.Input.TheVariants as input
-use Rattle.xs_run.specs.declared.wrong.Wrong.{Wrong}
-use Rattle.xs_run.specs.declared.wrong.Wrong.TheVariants as wrongs
-use Rattle.xs_run.specs.declared.loaded.LoadedCase.{LoadedCase}
-use Rattle.xs_run.specs.Inputs.{stop_at, RefusesModel, HoldsModel, RefusesFaults}
-use Rattle.xs_run.specs.Wrongs.{IfRefused}
-use Rattle.xs_run.specs.Wholes.{BreaksKinds}
-use Rattle.xs_run.specs.Cases.{HoldsCase, IsWrongWord}
-use Rattle.xs_run.specs.Loaded.{case_of, IsLoaded}
-use Rattle.xs_run.proofs.ReplayLemmas.{same_counts}
+use Rattle.xs_loading.specs.declared.status.Refusal.{Refusal as SharedRefusal}
+use Rattle.xs_loading.specs.declared.status.Refusal.TheVariants as shared_refusal
+use Rattle.xs_loading.specs.declared.status.InputFault.{InputFault as SharedFault}
+use Rattle.xs_loading.specs.declared.input.Input.TheVariants as input
+use Rattle.xs_loading.specs.declared.wrong.Wrong.{Wrong}
+use Rattle.xs_loading.specs.declared.wrong.Wrong.TheVariants as wrongs
+use Rattle.xs_loading.specs.declared.loaded.LoadedCase.{LoadedCase}
+use Rattle.xs_loading.specs.Inputs.{stop_at, RefusesModel, HoldsModel, RefusesFaults}
+use Rattle.xs_loading.specs.Wrongs.{IfRefused}
+use Rattle.xs_loading.specs.Wholes.{BreaksKinds}
+use Rattle.xs_loading.specs.Cases.{HoldsCase, IsWrongWord}
+use Rattle.xs_loading.specs.Loaded.{case_of, IsLoaded}
+use Rattle.xs_loading.proofs.LoadedLaws.{same_counts}
 use Rattle.xs_reach_status.specs.declared.status.Refusal.{Refusal}
 use Rattle.xs_reach_status.specs.declared.status.Refusal.TheVariants as refusal
 use Rattle.xs_reach_status.specs.declared.stop.Stop.{Stop}

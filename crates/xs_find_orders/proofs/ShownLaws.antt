@@ -26,8 +26,8 @@ use Rattle.xs_orders.specs.Told.{told_relation}
 use Rattle.xs_orders.proofs.Ends.{own_kept}
 use Rattle.xs_orders_extended.specs.Laws.{ShowsSuch, TellsRelation}
 use Rattle.xs_orders_extended.proofs.Such.{found_such, others_such}
-use Rattle.xs_run.specs.Cases.{Case}
-use Rattle.xs_run.specs.Searches.{case_in}
+use Rattle.xs_loading.specs.Cases.{Case}
+use Rattle.xs_loading.specs.LoadedEvents.{case_in}
 use Rattle.xs_find_orders.specs.declared.pair.StagedCase.{StagedCase}
 use Rattle.xs_find_orders.specs.Pairs.{IsStagedCase}
 use Rattle.xs_find_orders.specs.Orders.{Relates, Differ}

@@ -16,7 +16,7 @@ use Rattle.xs_orders.specs.declared.Relation.{Relation}
 use Rattle.xs_orders.specs.Stage.{stage, against}
 use Rattle.xs_staged.specs.Laws.{IsFaultNumber}
 use Rattle.xs_staged.proofs.Staged.{staged_searchable, staged_length}
-use Rattle.xs_run.proofs.Analysable.{case_searchable, top_fits}
+use Rattle.xs_case_search.proofs.Analysable.{case_searchable, top_fits}
 use Rattle.xs_find_orders.specs.declared.pair.StagedCase.{StagedCase}
 use Rattle.xs_find_orders.specs.Pairs.{IsStagedCase}
 use Rattle.xs_lits.specs.Literal.{Literal}

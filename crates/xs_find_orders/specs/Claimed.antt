@@ -25,9 +25,9 @@ use Rattle.xs_orders.specs.declared.Relation.TheVariants.{Together}
 use Rattle.xs_orders.specs.Stage.{against}
 use Rattle.xs_orders.specs.Told.{told_relation}
 use Rattle.xs_reporting.specs.ExtendedTraces.{Ending, complete, bounded}
-use Rattle.xs_run.specs.Cases.{Case}
-use Rattle.xs_run.specs.Answered.{Told, Said}
-use Rattle.xs_run.specs.Searches.{case_in, told_maybe, WritesPrefixMaybe}
+use Rattle.xs_loading.specs.Cases.{Case}
+use Rattle.xs_loading.specs.Answered.{Told, Said, told_maybe, WritesPrefixMaybe}
+use Rattle.xs_loading.specs.LoadedEvents.{case_in}
 use Rattle.xs_find_orders.specs.declared.pair.StagedCase.{StagedCase}
 use Rattle.xs_find_orders.specs.declared.searched.Searched.{Searched}
 use Rattle.xs_find_orders.specs.declared.orders.Conclusion.{Conclusion}

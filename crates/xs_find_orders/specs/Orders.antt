@@ -30,14 +30,14 @@ use Rattle.xs_orders.specs.Relations.{HasRelation}
 use Rattle.xs_orders.specs.Stage.{stage, against}
 use Rattle.xs_orders_extended.specs.Laws.{FaultStands, IsSuch}
 use Rattle.xs_reporting.specs.ExtendedTraces.{Ending, complete, bounded}
-use Rattle.xs_run.specs.declared.status.Refusal.{Refusal as SharedRefusal}
-use Rattle.xs_run.specs.declared.status.Refusal.TheVariants as shared_refusal
-use Rattle.xs_run.specs.declared.status.Objection.TheVariants as objection
-use Rattle.xs_run.specs.Cases.{Case, IsTopWord}
-use Rattle.xs_run.specs.Tasks.{IsTopTree}
-use Rattle.xs_run.specs.Answered.{Told, Said}
-use Rattle.xs_run.specs.Analyses.{IsCertificateFor}
-use Rattle.xs_run.specs.Certificates.{RefusesCertificate, HoldsCertificate}
+use Rattle.xs_loading.specs.declared.status.Refusal.{Refusal as SharedRefusal}
+use Rattle.xs_loading.specs.declared.status.Refusal.TheVariants as shared_refusal
+use Rattle.xs_loading.specs.declared.status.Objection.TheVariants as objection
+use Rattle.xs_loading.specs.Cases.{Case, IsTopWord}
+use Rattle.xs_loading.specs.Tasks.{IsTopTree}
+use Rattle.xs_loading.specs.Answered.{Told, Said}
+use Rattle.xs_case_search.specs.Found.{IsCertificateFor}
+use Rattle.xs_certificate_file.specs.CertificateFiles.{RefusesCertificate, HoldsCertificate}
 use Rattle.xs_reach_status.specs.declared.status.Refusal.{Refusal}
 use Rattle.xs_reach_status.specs.declared.status.Refusal.TheVariants as refusal
 use Rattle.xs_reach_status.specs.declared.status.Status.{Status}

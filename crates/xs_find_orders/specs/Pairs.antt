@@ -12,15 +12,15 @@ use Rattle.xs_staged.specs.Laws.{IsFaultNumber}
 use Rattle.xs_reach_words.specs.Sets.{numbers_of, IsSet}
 use Rattle.xs_reach_words.specs.Commands.{orders, check_orders}
 use Rattle.xs_reach_words.specs.Meaning.{Means}
-use Rattle.xs_run.specs.declared.status.InputFault.{InputFault as SharedFault}
-use Rattle.xs_run.specs.declared.status.Part.TheVariants as shared_part
-use Rattle.xs_run.specs.declared.status.Refusal.{Refusal as SharedRefusal}
-use Rattle.xs_run.specs.declared.status.Refusal.TheVariants as shared_refusal
-use Rattle.xs_run.specs.declared.loaded.Limited.{Limited}
-use Rattle.xs_run.specs.Inputs.{RefusesModel, HoldsModel, RefusesFaults}
-use Rattle.xs_run.specs.Wholes.{BreaksKinds}
-use Rattle.xs_run.specs.Cases.{Case, HoldsCase, IsWrongWord}
-use Rattle.xs_run.specs.Searches.{IsEvent}
+use Rattle.xs_loading.specs.declared.status.InputFault.{InputFault as SharedFault}
+use Rattle.xs_loading.specs.declared.status.Part.TheVariants as shared_part
+use Rattle.xs_loading.specs.declared.status.Refusal.{Refusal as SharedRefusal}
+use Rattle.xs_loading.specs.declared.status.Refusal.TheVariants as shared_refusal
+use Rattle.xs_loading.specs.declared.loaded.Limited.{Limited}
+use Rattle.xs_loading.specs.Inputs.{RefusesModel, HoldsModel, RefusesFaults}
+use Rattle.xs_loading.specs.Wholes.{BreaksKinds}
+use Rattle.xs_loading.specs.Cases.{Case, HoldsCase, IsWrongWord}
+use Rattle.xs_loading.specs.LoadedEvents.{IsEvent}
 use Rattle.xs_reach_status.specs.declared.status.Part.TheVariants as part
 use Rattle.xs_reach_status.specs.declared.status.Refusal.{Refusal}
 use Rattle.xs_reach_status.specs.declared.status.Refusal.TheVariants as refusal

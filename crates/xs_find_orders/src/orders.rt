@@ -5,7 +5,8 @@ ghost use Rattle.xs_desk.specs.declared.desk.WriteStop.TheVariants as write_stop
 ghost use Rattle.xs_scope.specs.ModelTree.{flat_tree};
 ghost use Rattle.xs_analysis_text.specs.Analysis.{told_ending};
 ghost use Rattle.xs_cuts.specs.declared.answer.End.TheVariants as ends;
-ghost use Rattle.xs_run.specs.Searches.{case_in, told_maybe, WritesPrefixMaybe};
+ghost use Rattle.xs_loading.specs.LoadedEvents.{case_in};
+ghost use Rattle.xs_loading.specs.Answered.{told_maybe, WritesPrefixMaybe};
 ghost use Rattle.xs_reach_words.specs.Sets.{numbers_of};
 ghost use Rattle.xs_reach_status.specs.declared.status.Refusal.{Refusal};
 ghost use Rattle.xs_reach_status.specs.declared.stop.Stop.TheVariants as stop;

@@ -5,7 +5,7 @@ use Rattle.xs_tree.specs.ProgramTree.{Text}
 use Rattle.xs_reach_words.specs.Commands.{Command}
 use Rattle.xs_reach_words.specs.Meaning.{Means, BreaksFirst}
 use Rattle.xs_reach_words.specs.Laws.{OneCommand}
-use Rattle.xs_run.specs.Answered.{Told, Said}
+use Rattle.xs_loading.specs.Answered.{Told, Said}
 use Rattle.xs_reach_status.specs.declared.status.Refusal.{Refusal}
 use Rattle.xs_reach_status.specs.declared.status.Status.{Status}
 use Rattle.xs_reach_status.specs.declared.status.Status.TheVariants as status

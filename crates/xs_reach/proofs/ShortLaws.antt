@@ -15,9 +15,9 @@ use Rattle.xs_cuts.specs.declared.answer.End.{End}
 use Rattle.xs_cuts.specs.declared.answer.End.TheVariants.{Complete, Bounded}
 use Rattle.xs_cuts_extended.specs.Answered.{ending_of}
 use Rattle.xs_desk.specs.declared.files.NamedFile.{NamedFile}
-use Rattle.xs_run.specs.Answered.{Told, Said, bits_of}
-use Rattle.xs_run.specs.Cases.{Case}
-use Rattle.xs_run.specs.Analyses.{EndsBy}
+use Rattle.xs_loading.specs.Answered.{Told, Said, bits_of}
+use Rattle.xs_loading.specs.Cases.{Case}
+use Rattle.xs_case_search.specs.Found.{EndsBy}
 use Rattle.xs_reach_words.specs.Commands.{Command, causes, check_causes, orders, check_orders, odds}
 use Rattle.xs_reach_status.specs.Finished.{ended_with}
 use Rattle.xs_reach_status.specs.declared.status.Status.{Status}

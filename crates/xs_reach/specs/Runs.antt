@@ -10,8 +10,8 @@ use Rattle.xs_reach_words.specs.Meaning.{Means, BreaksFirst}
 use Rattle.xs_reach_words.specs.Seen.{rule_of, place_of}
 use Rattle.xs_reach_words.specs.Sets.{numbers_of}
 use Rattle.xs_reach_words.specs.declared.fault.WordFault.{WordFault}
-use Rattle.xs_run.specs.Answered.{Told, Said, bits_of}
-use Rattle.xs_run.specs.Cases.{Case, HoldsCase}
+use Rattle.xs_loading.specs.Answered.{Told, Said, bits_of}
+use Rattle.xs_loading.specs.Cases.{Case, HoldsCase}
 use Rattle.xs_reach_status.specs.declared.status.Refusal.{Refusal}
 use Rattle.xs_reach_status.specs.declared.status.Refusal.TheVariants as refusal
 use Rattle.xs_reach_status.specs.declared.status.Status.{Status}

@@ -2,9 +2,9 @@
 use Rattle.std.proofs.Common.{◌≡◌, refl, sym}
 use Rattle.xs_desk.specs.declared.desk.WriteStop.{WriteStop}
 use Rattle.xs_desk.specs.declared.desk.WriteStop.TheVariants as write_stop
-use Rattle.xs_run.specs.declared.input.Stop.{Stop as SharedStop}
-use Rattle.xs_run.specs.declared.input.Stop.TheVariants as shared_stop
-use Rattle.xs_run.specs.declared.status.Refusal.{Refusal as SharedRefusal}
+use Rattle.xs_loading.specs.declared.input.Stop.{Stop as SharedStop}
+use Rattle.xs_loading.specs.declared.input.Stop.TheVariants as shared_stop
+use Rattle.xs_loading.specs.declared.status.Refusal.{Refusal as SharedRefusal}
 use Rattle.xs_reach_status.specs.declared.status.Refusal.{Refusal}
 use Rattle.xs_reach_status.specs.declared.status.Refusal.TheVariants as refusal
 use Rattle.xs_reach_status.specs.declared.stop.Stop.{Stop}

@@ -6,9 +6,9 @@ use Rattle.xs_desk.specs.declared.desk.WriteStop.{WriteStop}
 use Rattle.xs_desk.specs.declared.desk.WriteStop.TheVariants as write_stop
 use Rattle.xs_reach_words.specs.declared.fault.WordFault.{WordFault}
 use Rattle.xs_reach_words.specs.Seen.{rule_of, place_of}
-use Rattle.xs_run.specs.Statuses as shared
-use Rattle.xs_run.specs.declared.input.Stop.{Stop as SharedStop}
-use Rattle.xs_run.specs.declared.input.Stop.TheVariants as shared_stop
+use Rattle.xs_loading.specs.Statuses as shared
+use Rattle.xs_loading.specs.declared.input.Stop.{Stop as SharedStop}
+use Rattle.xs_loading.specs.declared.input.Stop.TheVariants as shared_stop
 use Rattle.xs_reach_status.specs.declared.status.Part.{Part}
 use Rattle.xs_reach_status.specs.declared.status.Part.TheVariants as part
 use Rattle.xs_reach_status.specs.declared.status.InputFault.{InputFault}

@@ -6,8 +6,8 @@ ghost use Rattle.xs_reach_status.specs.Finished.{IsFinished, ended_with};
 ghost use Rattle.xs_reach_status.specs.Statuses.{number_of, refusal_number, part_text, fault_text, words_text, refusal_text};
 
 use std::alloc::Global;
+use xs_loading::status as shared;
 use xs_reach_words::WordFault;
-use xs_run::status as shared;
 use xs_value::{ByteList, Ending, OutOfMemory};
 
 /// What is wrong with an input: how far the work on it came.

@@ -5,7 +5,7 @@ ghost use Rattle.std.specs.Prelude.{◌≡◌};
 
 use crate::status::Refusal;
 use xs_desk::WriteStop;
-use xs_run::input;
+use xs_loading::input;
 use xs_value::OutOfMemory;
 
 /// Why the work can't go on.

@@ -10,15 +10,16 @@ use Rattle.xs_words.specs.Commands.{Given, analyse}
 use Rattle.xs_words.specs.Table.{Choice, options_of, kind_in}
 use Rattle.xs_words.specs.Meaning.{Each, Gives, SameFile, AreDifferent, Makes, analyses as makes_analysis}
 use Rattle.xs_words.proofs.ReadingLaws.{one_command}
-use Rattle.xs_run.specs.declared.status.Refusal.{Refusal}
-use Rattle.xs_run.specs.declared.status.Refusal.TheVariants as refusal
-use Rattle.xs_run.specs.declared.status.Status.{Status}
-use Rattle.xs_run.specs.declared.status.Status.TheVariants as status
-use Rattle.xs_run.specs.Statuses.{status_of}
+use Rattle.xs_loading.specs.declared.status.Refusal.{Refusal}
+use Rattle.xs_loading.specs.declared.status.Refusal.TheVariants as refusal
+use Rattle.xs_loading.specs.declared.status.Status.{Status}
+use Rattle.xs_loading.specs.declared.status.Status.TheVariants as status
+use Rattle.xs_loading.specs.Statuses.{status_of}
 use Rattle.xs_run.specs.Asked.{AsksToAnalyse}
-use Rattle.xs_run.specs.Cases.{Case, HoldsCase}
-use Rattle.xs_run.specs.Answered.{extension_text}
-use Rattle.xs_run.specs.Analyses.{size_for, AreWritten, HasAnalysed}
+use Rattle.xs_loading.specs.Cases.{Case, HoldsCase}
+use Rattle.xs_run.specs.AnswerTexts.{extension_text}
+use Rattle.xs_case_search.specs.Found.{size_for}
+use Rattle.xs_run.specs.Analyses.{AreWritten, HasAnalysed}
 use Rattle.xs_reporting.specs.ExtendedTraces.{Ending, complete, bounded}
 use Rattle.xs_run.specs.Headline.{IsComplete, IsBounded}
 use Rattle.xs_run.specs.Runs.{Outcome, AnalysisComesTo, refuses_event, is_analysed, CommandComesTo, Means, refuses_words, asked, IsAnswer, IsDelivered, HasAnswered}

@@ -1,5 +1,5 @@
 -- What is accepted is right for all extended traces, and what was loaded can be judged.
-use Rattle.std.proofs.Common.{arith, ◌≡◌, ◌<◌, ◌≤◌, ◌^◌, ℕ, List, Option, Some, None, IfSome, length, map, sym, ap, subst, ◌∙◌}
+use Rattle.std.proofs.Common.{◌≡◌, ◌<◌, ◌^◌, ℕ, List, Option, Some, None, IfSome, length, map, sym, ap, subst, ◌∙◌}
 use Rattle.xs_desk.specs.declared.files.NamedFile.{NamedFile}
 use Rattle.xs_desk.specs.Desk.{said_more}
 use Rattle.xs_tree.specs.Tree.{Tree}
@@ -11,7 +11,6 @@ use Rattle.xs_flattening.specs.FlatTrace.{IsFlatTrace}
 use Rattle.xs_encoded.specs.FlatTraces.{ReachesTop, HasFailedNumber}
 use Rattle.xs_trace_text.specs.Given.{GivesTrace}
 use Rattle.xs_certificate.specs.Certificate.{Certificate}
-use Rattle.xs_certificate.specs.CertificateText.{SpellsCertificate}
 use Rattle.xs_certificate.specs.Accepted.{IsAccepted, IsObjection}
 use Rattle.xs_certified.specs.Completeness.{Certifies}
 use Rattle.xs_certified.proofs.Completeness.{certified_completeness, certified_minimal}
@@ -19,19 +18,19 @@ use Rattle.xs_subject.specs.Subject.{subject_of}
 use Rattle.xs_subject.proofs.Subjects.{subjects_right}
 use Rattle.xs_check.specs.Matter.{matter_of, IsAcceptedIn}
 use Rattle.xs_check.specs.Found.{IsObjectionOf}
-use Rattle.xs_check.specs.Fit.{IsFit, IsCheckable, SpelledAreCheckable}
-use Rattle.xs_run.specs.declared.status.InputFault.{InputFault}
-use Rattle.xs_run.specs.declared.status.Objection.TheVariants as objection
-use Rattle.xs_run.specs.declared.status.Refusal.{Refusal}
-use Rattle.xs_run.specs.declared.status.Refusal.TheVariants as refusal
-use Rattle.xs_run.specs.declared.event.LoadedEvent.{LoadedEvent}
-use Rattle.xs_run.specs.Cases.{Case}
-use Rattle.xs_run.specs.Tasks.{IsRefusedAbove, HasAtMost}
-use Rattle.xs_run.specs.Answered.{Said, check_text}
-use Rattle.xs_run.specs.Searches.{case_in}
-use Rattle.xs_run.specs.Certificates.{IsWrongText, RefusesCertificate, certificate_file, certificate_bytes, HoldsCertificate, subject_in, RefusesLine, at_line, IsAcceptedFor, CertRefuses, no_certificate, not_accepted, CertSays, CheckSays, IsChecked, IsSomeEvent}
-use Rattle.xs_run.proofs.Analysable.{case_searchable}
-use Rattle.xs_run.proofs.ReplayLemmas.{loaded_printable, loaded_symbols, loaded_evaluable}
+use Rattle.xs_check.specs.Fit.{IsFit, IsCheckable}
+use Rattle.xs_loading.specs.declared.status.Objection.TheVariants as objection
+use Rattle.xs_loading.specs.declared.status.Refusal.{Refusal}
+use Rattle.xs_loading.specs.declared.status.Refusal.TheVariants as refusal
+use Rattle.xs_loading.specs.declared.event.LoadedEvent.{LoadedEvent}
+use Rattle.xs_loading.specs.Cases.{Case}
+use Rattle.xs_loading.specs.Answered.{Said}
+use Rattle.xs_run.specs.AnswerTexts.{check_text}
+use Rattle.xs_loading.specs.LoadedEvents.{case_in}
+use Rattle.xs_certificate_file.specs.CertificateFiles.{RefusesCertificate, HoldsCertificate}
+use Rattle.xs_run.specs.Certificates.{subject_in, RefusesLine, at_line, IsAcceptedFor, CertRefuses, no_certificate, not_accepted, CertSays, CheckSays, IsChecked, IsSomeEvent}
+use Rattle.xs_case_search.proofs.Analysable.{case_searchable}
+use Rattle.xs_loading.proofs.LoadedLaws.{loaded_printable, loaded_symbols, loaded_evaluable}
 use Rattle.xs_run.proofs.ReplayedLaws.{extension_model}
 
 -- An accepted certificate is one for the program, the instructions and the event.
@@ -109,36 +108,6 @@ module _ (l : LoadedEvent) (some : IsSomeEvent l) where
       (subst
       (λ whole. IsObjection (List (List Value)) (GivesTrace c.flat) (IsFlatTrace c.flat) (ReachesTop c.flat (flat_tree l.top)) (HasFailedNumber c.flat c.modes) (subject_of whole c.flat c.modes (flat_tree l.top)) a line bad.rule)
       some.is_event.loaded.full bad.objection)
-
--- The file of a certificate.
-module _ (told : Option (List NamedFile)) (name : Text) where
-  pub refuses_certificate_file : (r : Refusal) (a : InputFault) → r ≡ refusal.NotAccepted (objection.Cert a) → IfSome told (λ files. IsRefusedAbove 268435456 files name a) →
-      IfSome told (λ files. RefusesCertificate files name r)
-  refuses_certificate_file r a is refused = at_told told refused
-    where
-      at_told : (t : Option (List NamedFile)) → IfSome t (λ files. IsRefusedAbove 268435456 files name a) → IfSome t (λ files. RefusesCertificate files name r)
-      at_told None refused = tt
-      at_told (Some files) refused = certificate_file a is refused
-
-  module _ (bytes : List ℕ) (has : IfSome told (λ files. HasAtMost 268435456 files name bytes)) where
-    pub refuses_certificate_text : (r : Refusal) (a : InputFault) → r ≡ refusal.NotAccepted (objection.Cert a) → IsWrongText bytes a → IfSome told (λ files. RefusesCertificate files name r)
-    refuses_certificate_text r a is bad = at_told told has
-      where
-        at_told : (t : Option (List NamedFile)) → IfSome t (λ files. HasAtMost 268435456 files name bytes) → IfSome t (λ files. RefusesCertificate files name r)
-        at_told None has = tt
-        at_told (Some files) has = certificate_bytes bytes a is has bad
-
-    pub holds_certificate : (a : Certificate) → SpellsCertificate bytes a → IfSome told (λ files. HoldsCertificate files name a)
-    holds_certificate a spells = at_told told has
-      where
-        at_told : (t : Option (List NamedFile)) → IfSome t (λ files. HasAtMost 268435456 files name bytes) → IfSome t (λ files. HoldsCertificate files name a)
-        at_told None has = tt
-        at_told (Some files) has = record { bytes = bytes; has = has; spells = spells }
-
-pub short_is_checkable : SpelledAreCheckable → (bytes : List ℕ) (a : Certificate) → length bytes ≤ 268435456 → SpellsCertificate bytes a → IsCheckable a
-short_is_checkable law bytes a short spells =
-    let limit : 268435456 < 2 ^ 32 = omega arith in
-    law bytes a (omega (arith, short, limit)) spells
 
 -- What the file comes to.
 module _ (told : Option (List NamedFile)) (c : Case) (tree : Tree FlatLeaf) (name : Text) where

@@ -5,14 +5,14 @@ use Rattle.xs_tree.specs.ProgramTree.{Text}
 use Rattle.xs_scope.specs.ModelTree.{flat_tree}
 use Rattle.xs_words.specs.Commands.{check}
 use Rattle.xs_words.proofs.ReadingLaws.{one_command}
-use Rattle.xs_run.specs.declared.event.LoadedEvent.{LoadedEvent}
-use Rattle.xs_run.specs.declared.status.Refusal.{Refusal}
-use Rattle.xs_run.specs.declared.status.Status.{Status}
-use Rattle.xs_run.specs.declared.status.Status.TheVariants as status
+use Rattle.xs_loading.specs.declared.event.LoadedEvent.{LoadedEvent}
+use Rattle.xs_loading.specs.declared.status.Refusal.{Refusal}
+use Rattle.xs_loading.specs.declared.status.Status.{Status}
+use Rattle.xs_loading.specs.declared.status.Status.TheVariants as status
 use Rattle.xs_run.specs.Asked.{AsksToCheck}
-use Rattle.xs_run.specs.Cases.{HoldsCase}
-use Rattle.xs_run.specs.Events.{RefusesEvent}
-use Rattle.xs_run.specs.Searches.{case_in, IsEvent}
+use Rattle.xs_loading.specs.Cases.{HoldsCase}
+use Rattle.xs_loading.specs.Events.{RefusesEvent}
+use Rattle.xs_loading.specs.LoadedEvents.{case_in, IsEvent}
 use Rattle.xs_run.specs.Certificates.{CertRefuses, CertSays, no_event, its_certificate, IsChecked}
 use Rattle.xs_run.specs.Runs.{Outcome, refuses, says, CheckComesTo, refuses_check, is_checked, CommandComesTo, Means, refuses_words, asked, IsAnswer, IsDelivered, HasAnswered}
 use Rattle.xs_run.proofs.ExtensionLemmas.{never_done}

@@ -17,10 +17,10 @@ use Rattle.xs_cuts.specs.Answer.{IsAnswer}
 use Rattle.xs_cuts.specs.declared.answer.Analysis.{Analysis as Searched}
 use Rattle.xs_cuts_extended.specs.Answered.{ending_of, analysis_of}
 use Rattle.xs_value.specs.declared.ending.Ending.{Ending as Ended}
-use Rattle.xs_run.specs.declared.loaded.LoadedCase.{LoadedCase}
-use Rattle.xs_run.specs.Loaded.{case_of}
-use Rattle.xs_run.specs.Cases.{whole_of}
-use Rattle.xs_run.specs.Tables.{IsExtensible, IsEventOf}
+use Rattle.xs_loading.specs.declared.loaded.LoadedCase.{LoadedCase}
+use Rattle.xs_loading.specs.Loaded.{case_of}
+use Rattle.xs_loading.specs.Cases.{whole_of, Case, HoldsCase, HoldsTops}
+use Rattle.xs_run.specs.Tables.{IsExtensible, IsEventOf, IsColumn, AreColumns, AreFound, HasTabulated, TabulatesInPart, MeansColumn, IsTabulated, table_of, after_column, ended_with_all}
 use Rattle.xs_run.proofs.TopEvents.{counts_in_case, event_found}
 use Rattle.xs_flattening.specs.Model.{EachBoth}
 use Rattle.xs_scope.specs.ModelTree.{model_tree}
@@ -36,14 +36,12 @@ use Rattle.xs_value.specs.declared.ending.Ending.TheVariants as ended
 use Rattle.xs_fmea.specs.Tables.{rows_of, pairs_after, pairs_from, table_text}
 use Rattle.xs_reporting.specs.ExtendedTraces.{Analysis}
 use Rattle.xs_reporting.proofs.EntryLaws.{entries_are_right}
-use Rattle.xs_run.specs.declared.status.Status.{Status}
-use Rattle.xs_run.specs.declared.status.Status.TheVariants as status
-use Rattle.xs_run.specs.Cases.{Case, HoldsCase, HoldsTops}
-use Rattle.xs_run.specs.Answered.{Told, Said, faults_text}
-use Rattle.xs_run.proofs.ListedLaws.{are_listed, named_lines}
+use Rattle.xs_loading.specs.declared.status.Status.{Status}
+use Rattle.xs_loading.specs.declared.status.Status.TheVariants as status
+use Rattle.xs_loading.specs.Answered.{Told, Said, faults_text}
+use Rattle.xs_loading.proofs.ListedLaws.{are_listed, named_lines}
 use Rattle.xs_run.proofs.TableLemmas.{both_over, both_back}
-use Rattle.xs_run.specs.Analyses.{IsFound}
-use Rattle.xs_run.specs.Tables.{IsColumn, AreColumns, AreFound, HasTabulated, TabulatesInPart, MeansColumn, IsTabulated, table_of, after_column, ended_with_all}
+use Rattle.xs_case_search.specs.Found.{IsFound}
 
 -- what is so at each place is so of all
 all_at : {A : Type 0} (P : A → Type 0) (xs : List A) → ((k : ℕ) (x : A) → slice_get xs k ≡ Some x → P x) → All P xs

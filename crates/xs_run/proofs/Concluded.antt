@@ -10,11 +10,12 @@ use Rattle.xs_analysis_text.specs.Analysis.{told_ending}
 use Rattle.xs_reporting.specs.ExtendedTraces.{Ending, complete, bounded}
 use Rattle.xs_run.specs.declared.search.Found.{Found}
 use Rattle.xs_run.specs.declared.analysis.Analysing.{Analysing}
-use Rattle.xs_run.specs.declared.status.Status.{Status}
-use Rattle.xs_run.specs.Cases.{Case, extension_of}
-use Rattle.xs_run.specs.Answered.{Told, Said, extension_text}
+use Rattle.xs_loading.specs.declared.status.Status.{Status}
+use Rattle.xs_loading.specs.Cases.{Case, extension_of}
+use Rattle.xs_loading.specs.Answered.{Told, Said, told_maybe, WritesPrefixMaybe}
+use Rattle.xs_run.specs.AnswerTexts.{extension_text}
 use Rattle.xs_run.specs.Analyses.{ended_with, AreWritten, HasAnalysed, AnalysesInPart, part_of_extension, part_of_certificate, part_of_report}
-use Rattle.xs_run.specs.Searches.{IsCertifiedAs, IsFinding, analysed_case, told_maybe, WritesPrefixMaybe, ConcludesInPart, finished_as}
+use Rattle.xs_run.specs.Findings.{IsCertifiedAs, IsFinding, analysed_case, ConcludesInPart, finished_as}
 use Rattle.xs_run.specs.Runs.{IsAnswer}
 
 -- a text that was written whole

@@ -13,21 +13,21 @@ use Rattle.xs_tree.proofs.OneProgram.{one_program}
 use Rattle.xs_tree.specs.Bytes.{BytesSpellProgram}
 use Rattle.xs_weave.specs.Woven.{woven}
 use Rattle.xs_weave.proofs.WovenNominal.{woven_extends}
-use Rattle.xs_run.specs.declared.status.Refusal.{Refusal}
-use Rattle.xs_run.specs.declared.status.Refusal.TheVariants as refusal
-use Rattle.xs_run.specs.declared.status.Status.{Status}
-use Rattle.xs_run.specs.declared.status.Status.TheVariants as status
-use Rattle.xs_run.specs.Statuses.{status_of}
+use Rattle.xs_loading.specs.declared.status.Refusal.{Refusal}
+use Rattle.xs_loading.specs.declared.status.Refusal.TheVariants as refusal
+use Rattle.xs_loading.specs.declared.status.Status.{Status}
+use Rattle.xs_loading.specs.declared.status.Status.TheVariants as status
+use Rattle.xs_loading.specs.Statuses.{status_of}
 use Rattle.xs_words.specs.Commands.{Command, extend}
 use Rattle.xs_words.specs.Meaning.{Means as WordsMean}
 use Rattle.xs_words.specs.Seen.{rule_of, place_of}
 use Rattle.xs_words.proofs.SeenLemmas.{same_fault}
 use Rattle.xs_words.proofs.ReadingLaws.{one_command, one_fault, commands_have_no_fault}
 use Rattle.xs_run.specs.Asked.{AsksToExtend, RefusesWords, wrong_words}
-use Rattle.xs_run.specs.Inputs.{HoldsModel, HoldsFaults}
+use Rattle.xs_loading.specs.Inputs.{HoldsModel, HoldsFaults}
 use Rattle.xs_run.specs.Runs.{Outcome, ComesTo, refuses_model, refuses_faults, is_extended, Means, refuses_words, asked, IsAnswer, IsDelivered, HasAnswered, CommandComesTo}
 use Rattle.xs_run.specs.Extension.{IsExtended}
-use Rattle.xs_run.proofs.WovenSpells.{woven_text_spells}
+use Rattle.xs_loading.proofs.WovenSpells.{woven_text_spells}
 
 -- no refusal ends as done
 pub never_done : (r : Refusal) → status.Done ≡ status_of r → ⊥

@@ -8,9 +8,9 @@ use Rattle.xs_flattening.proofs.HistoryTraces.{get_middle}
 use Rattle.xs_tree.specs.Values.{Value}
 use Rattle.xs_weave.specs.Faults.{Fault}
 use Rattle.xs_encoded.specs.FlatTraces as flat
-use Rattle.xs_run.specs.Reports.{name_text}
-use Rattle.xs_run.specs.Cases.{Case}
-use Rattle.xs_run.specs.Answered.{name_or_none, failed_names, replay_text}
+use Rattle.xs_loading.specs.Reports.{name_text}
+use Rattle.xs_loading.specs.Cases.{Case}
+use Rattle.xs_run.specs.AnswerTexts.{name_or_none, failed_names, replay_text}
 use Rattle.xs_run.specs.Replays.{names_where}
 
 module _ (test : Mode → Bool) where

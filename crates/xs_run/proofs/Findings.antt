@@ -1,29 +1,17 @@
--- From the answer of a search to the analysis of a case, its report and its certificate.
-use Rattle.std.proofs.Common.{arith, ◌≡◌, ◌<◌, ◌≤◌, ◌^◌, ℕ, Bool, List, [], ◌∷◌, Option, Some, None, length, map, refl, sym, ap, subst, ◌∙◌}
+-- From the answer of a search to the analysis of a case and its report.
+use Rattle.std.proofs.Common.{arith, ◌≡◌, ◌<◌, ◌≤◌, ◌^◌, ℕ, Bool, List, Option, Some, None, length, map, sym, ap, subst, ◌∙◌}
 use Rattle.std.proofs.Math.Nat.{min-le_right}
 use Rattle.std.proofs.lemmas.List.{length-map}
 use Rattle.xs_tree.specs.Tree.{Tree}
 use Rattle.xs_tree.specs.ProgramTree.{Text, Formula, ProgramTree}
 use Rattle.xs_tree.specs.Values.{Value}
-use Rattle.xs_value.specs.declared.value.Value.{Value as Numbered}
 use Rattle.xs_kinds.specs.Costs.{state_bits}
 use Rattle.xs_scope.specs.ModelTree.{model_tree, mode_of}
-use Rattle.xs_scope.specs.declared.model.FlatModel.{FlatModel as Made}
-use Rattle.xs_flattening.specs.Flat.{FlatLeaf, FlatModel}
-use Rattle.xs_flattening.specs.History.{Mode, with_history}
+use Rattle.xs_flattening.specs.Flat.{FlatLeaf}
 use Rattle.xs_encoding.specs.Bits.{state_of, inputs_of}
 use Rattle.xs_encoding.specs.Lists.{system_of}
 use Rattle.xs_encoded_search.specs.Searchable.{IsSearchable}
 use Rattle.xs_extend.specs.WovenFaults.{fault_tree}
-use Rattle.xs_trace_text.specs.TraceText.{trace_lines}
-use Rattle.xs_trace_text.specs.Given.{GivesTrace}
-use Rattle.xs_cert.specs.Seen.{seen}
-use Rattle.xs_cert.specs.declared.certificate.Certificate.{Certificate as Written}
-use Rattle.xs_certificate.specs.CertificateText.{SpellsCertificate}
-use Rattle.xs_certified.specs.Certified.{IsCertified}
-use Rattle.xs_certify.specs.Certifiable.{IsCompleteAnswer}
-use Rattle.xs_subject.specs.Subject.{subject_of}
-use Rattle.xs_certify.specs.Texts.{text_lines}
 use Rattle.xs_report.specs.FaultText as lines
 use Rattle.xs_report.specs.FaultText.{name_of}
 use Rattle.xs_report.specs.Told.{told_trace}
@@ -40,44 +28,19 @@ use Rattle.xs_cuts_extended.proofs.Analyses.{answers_are_analyses}
 use Rattle.xs_cuts_extended.proofs.Printed.{answers_printed}
 use Rattle.xs_reporting.specs.ExtendedTraces.{Ending, complete, bounded, Analysis}
 use Rattle.xs_reporting.specs.AnalysisText.{analysis_text}
-use Rattle.xs_run.specs.declared.loaded.LoadedCase.{LoadedCase}
-use Rattle.xs_run.specs.Cases.{Case, whole_of}
-use Rattle.xs_run.specs.Tasks.{IsTopTree}
-use Rattle.xs_run.specs.Loaded.{case_of}
-use Rattle.xs_run.specs.Answered.{faults_text}
-use Rattle.xs_run.specs.Analyses.{size_for, EndsBy, IsCertificateFor, report_of}
-use Rattle.xs_run.specs.Searches.{IsAnalysable, IsSearched, HasCertificate, IsCertifiedAs, IsFinding}
-use Rattle.xs_run.proofs.Analysable.{model_of_case, case_searchable, case_counts}
-use Rattle.xs_run.proofs.ListedLaws.{are_listed, named_lines}
-use Rattle.xs_run.proofs.ReplayLemmas.{loaded_printable}
-
--- the lines of texts are those of the traces that are told
-pub texts_are : (m : Made) (traces : List (List (List Numbered))) → map (text_lines m) traces ≡ map (trace_lines (model_tree m) 0) (map (told_trace m.symbols) traces)
-texts_are m [] = refl
-texts_are m (t ∷ ts) = ap (λ more. text_lines m t ∷ more) (texts_are m ts)
-
--- a search that has not ended bounded is complete
-pub complete_answer : (m : FlatModel) (fs : List Mode) (tree : Tree FlatLeaf) (depth : ℕ) (a : Searched) → IsSearched m fs tree depth a.size a → ((k : ℕ) → a.end ≡ Bounded k → ⊥) → IsCompleteAnswer m fs tree a
-complete_answer m fs tree depth a is never = by_end a.end refl
-  where
-    by_end : (e : End) → a.end ≡ e → IsCompleteAnswer m fs tree a
-    by_end (Complete clauses) e = record { depth = depth; clauses = clauses; answer = is.answer; complete = e; small = is.small; printable = λ some. is.printable }
-    by_end (Bounded k) e = absurd (never k e)
-
--- a certificate that was made of it and written
-pub certificate_for : (m whole : Made) (fs : List Mode) (tree : Tree FlatLeaf) (a : Searched) (x : Written) (bytes : List ℕ) → model_tree whole ≡ with_history (model_tree m) fs →
-    IsCertified (model_tree m) fs tree (GivesTrace (model_tree m)) (subject_of (model_tree whole) (model_tree m) fs tree) (seen x) → x.size ≡ a.size → x.sets ≡ a.sets →
-    x.traces ≡ map (text_lines m) a.traces → SpellsCertificate bytes (seen x) →
-    IsCertificateFor (model_tree m) fs tree a.size a.sets (map (told_trace m.symbols) a.traces) bytes
-certificate_for m whole fs tree a x bytes history certified size sets traces spelled =
-    record {
-      certificate = seen x;
-      spells = spelled;
-      accepted = subst (λ f. IsCertified (model_tree m) fs tree (GivesTrace (model_tree m)) (subject_of f (model_tree m) fs tree) (seen x)) history certified;
-      has_size = size;
-      has_sets = sets;
-      has_texts = traces ∙ texts_are m a.traces;
-    }
+use Rattle.xs_loading.specs.declared.loaded.LoadedCase.{LoadedCase}
+use Rattle.xs_loading.specs.Cases.{Case, whole_of}
+use Rattle.xs_loading.specs.Tasks.{IsTopTree}
+use Rattle.xs_loading.specs.Loaded.{case_of}
+use Rattle.xs_loading.specs.Answered.{faults_text}
+use Rattle.xs_case_search.specs.Found.{size_for, EndsBy, IsCertificateFor}
+use Rattle.xs_run.specs.Analyses.{report_of}
+use Rattle.xs_loading.specs.LoadedEvents.{IsAnalysable}
+use Rattle.xs_case_search.specs.Searches.{IsSearched, HasCertificate}
+use Rattle.xs_run.specs.Findings.{IsCertifiedAs, IsFinding}
+use Rattle.xs_case_search.proofs.Analysable.{model_of_case, case_searchable, case_counts}
+use Rattle.xs_loading.proofs.ListedLaws.{are_listed, named_lines}
+use Rattle.xs_loading.proofs.LoadedLaws.{loaded_printable}
 
 -- at most as many faults are looked for as there are
 pub size_small : (size : Option ℕ) (n : ℕ) → size_for size n ≤ n

@@ -45,20 +45,20 @@ use Rattle.xs_generated.proofs.Woven.{generated_breaks_no_number}
 use Rattle.xs_generated.proofs.Sizes.{generated_small}
 use Rattle.xs_generated.proofs.Texts.{generated_text_short, instruction_text_short}
 use Rattle.xs_generated.proofs.Readings.{generated_text_is_read, instruction_text_is_read, top_text_is_read}
-use Rattle.xs_run.specs.declared.status.InputFault.{InputFault}
-use Rattle.xs_run.specs.declared.status.Refusal.{Refusal}
-use Rattle.xs_run.specs.declared.status.Refusal.TheVariants as refusal
-use Rattle.xs_run.specs.declared.input.Stop.{Stop}
-use Rattle.xs_run.specs.declared.input.Stop.TheVariants as stop
-use Rattle.xs_run.specs.declared.wrong.Wrong.{Wrong}
-use Rattle.xs_run.specs.declared.wrong.Wrong.TheVariants as wrong
-use Rattle.xs_run.specs.Wrongs.{parse_wrong, cause_wrong, weave_wrong, IfRefused}
-use Rattle.xs_run.specs.Models.{IsModelText, IsLawful, IsWrongModel, not_read, not_flat, not_typed}
-use Rattle.xs_run.specs.Wholes.{IsModeOf, PassesLimit, by_number, by_size}
-use Rattle.xs_run.specs.Inputs.{modules_named, AreTaken, IsWrongFaults, not_spelled, not_woven, past_limit}
-use Rattle.xs_run.specs.Cases.{IsWrongTop, by_names, by_kinds, IsWrongWord, too_long, not_spelled as no_word, not_kept}
+use Rattle.xs_loading.specs.declared.status.InputFault.{InputFault}
+use Rattle.xs_loading.specs.declared.status.Refusal.{Refusal}
+use Rattle.xs_loading.specs.declared.status.Refusal.TheVariants as refusal
+use Rattle.xs_loading.specs.declared.input.Stop.{Stop}
+use Rattle.xs_loading.specs.declared.input.Stop.TheVariants as stop
+use Rattle.xs_loading.specs.declared.wrong.Wrong.{Wrong}
+use Rattle.xs_loading.specs.declared.wrong.Wrong.TheVariants as wrong
+use Rattle.xs_loading.specs.Wrongs.{parse_wrong, cause_wrong, weave_wrong, IfRefused}
+use Rattle.xs_loading.specs.Models.{IsModelText, IsLawful, IsWrongModel, not_read, not_flat, not_typed}
+use Rattle.xs_loading.specs.Wholes.{IsModeOf, PassesLimit, by_number, by_size}
+use Rattle.xs_loading.specs.Inputs.{modules_named, AreTaken, IsWrongFaults, not_spelled, not_woven, past_limit}
+use Rattle.xs_loading.specs.Cases.{IsWrongTop, by_names, by_kinds, IsWrongWord, too_long, not_spelled as no_word, not_kept}
 use Rattle.xs_run.specs.Made.{IsOfGenerator, IsGeneratedText}
-use Rattle.xs_run.proofs.LimitLaws.{of_program, slice_modes, are_woven}
+use Rattle.xs_loading.proofs.LimitLaws.{of_program, slice_modes, are_woven}
 
 -- want of memory refuses nothing
 want_refuses_none : (f : ParseFault) (a : InputFault) → f ≡ parse.OutOfMemory → wrong.Refused a ≡ parse_wrong f → ⊥

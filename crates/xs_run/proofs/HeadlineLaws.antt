@@ -9,13 +9,15 @@ use Rattle.xs_desk.proofs.Writing.{file_of-with_file}
 use Rattle.xs_tree.specs.ProgramTree.{Text}
 use Rattle.xs_weave.proofs.WovenNominal.{woven_extends}
 use Rattle.xs_reporting.specs.ExtendedTraces.{Ending, complete, bounded}
-use Rattle.xs_run.specs.declared.status.Status.{Status}
-use Rattle.xs_run.specs.declared.status.Status.TheVariants as status
-use Rattle.xs_run.specs.Cases.{Case, HoldsCase}
-use Rattle.xs_run.specs.Answered.{Said, extension_text}
-use Rattle.xs_run.specs.Analyses.{size_for, ended_with, HasChain, Certifies, EndsBy, AreWritten, HasAnalysed}
+use Rattle.xs_loading.specs.declared.status.Status.{Status}
+use Rattle.xs_loading.specs.declared.status.Status.TheVariants as status
+use Rattle.xs_loading.specs.Cases.{Case, HoldsCase}
+use Rattle.xs_loading.specs.Answered.{Said}
+use Rattle.xs_run.specs.AnswerTexts.{extension_text}
+use Rattle.xs_case_search.specs.Found.{size_for, HasChain, EndsBy}
+use Rattle.xs_run.specs.Analyses.{ended_with, Certifies, AreWritten, HasAnalysed}
 use Rattle.xs_run.specs.Headline.{IsAnalysed, IsComplete, IsBounded, AnswersAreTheHeadline}
-use Rattle.xs_run.proofs.WovenSpells.{woven_text_spells}
+use Rattle.xs_loading.proofs.WovenSpells.{woven_text_spells}
 
 different : (a b : Text) → (a ≡ b → ⊥) → bytes_eq a b ≡ false
 different a b n = by (bytes_eq a b) refl

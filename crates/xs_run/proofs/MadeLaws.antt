@@ -12,9 +12,9 @@ use Rattle.xs_words.specs.Commands.{make}
 use Rattle.xs_words.specs.Table.{options_of}
 use Rattle.xs_words.specs.Meaning.{AreDifferent, Makes, generates as makes_case}
 use Rattle.xs_words.proofs.ReadingLaws.{one_command}
-use Rattle.xs_run.specs.declared.status.Status.{Status}
+use Rattle.xs_loading.specs.declared.status.Status.{Status}
 use Rattle.xs_run.specs.Asked.{AsksToMake}
-use Rattle.xs_run.specs.Cases.{Case}
+use Rattle.xs_loading.specs.Cases.{Case}
 use Rattle.xs_run.specs.Made.{IsGenerated, HasMade, IsMade}
 use Rattle.xs_run.specs.Runs.{Outcome, MakeComesTo, is_made, CommandComesTo, Means, refuses_words, asked, IsAnswer, IsFinished, IsDelivered, HasAnswered}
 use Rattle.xs_run.proofs.AnalysedLaws.{apart}

@@ -21,19 +21,21 @@ use Rattle.xs_cuts.specs.Answer.{IsAnswer}
 use Rattle.xs_cuts.specs.declared.answer.Analysis.{Analysis as Searched}
 use Rattle.xs_cuts_extended.specs.Answered.{ending_of, analysis_of}
 use Rattle.xs_cuts_extended.proofs.Analyses.{answers_are_analyses}
-use Rattle.xs_run.specs.declared.loaded.LoadedCase.{LoadedCase}
+use Rattle.xs_loading.specs.declared.loaded.LoadedCase.{LoadedCase}
 use Rattle.xs_run.specs.declared.make.Making.{Making}
 use Rattle.xs_run.specs.declared.make.Summary.{Summary}
-use Rattle.xs_run.specs.declared.status.Status.{Status}
-use Rattle.xs_run.specs.Models.{IsModelText}
-use Rattle.xs_run.specs.Inputs.{IsInstructionText}
-use Rattle.xs_run.specs.Cases.{Case, whole_of}
-use Rattle.xs_run.specs.Loaded.{case_of}
-use Rattle.xs_run.specs.Answered.{Told, Said, bits_of, summary_text}
-use Rattle.xs_run.specs.Analyses.{IsFound, ended_with}
-use Rattle.xs_run.specs.Searches.{IsAnalysable}
+use Rattle.xs_loading.specs.declared.status.Status.{Status}
+use Rattle.xs_loading.specs.Models.{IsModelText}
+use Rattle.xs_loading.specs.Inputs.{IsInstructionText}
+use Rattle.xs_loading.specs.Cases.{Case, whole_of}
+use Rattle.xs_loading.specs.Loaded.{case_of}
+use Rattle.xs_loading.specs.Answered.{Told, Said, bits_of}
+use Rattle.xs_run.specs.AnswerTexts.{summary_text}
+use Rattle.xs_case_search.specs.Found.{IsFound}
+use Rattle.xs_run.specs.Analyses.{ended_with}
+use Rattle.xs_loading.specs.LoadedEvents.{IsAnalysable}
 use Rattle.xs_run.specs.Made.{dead_word, both_written, HasMade, MakesInPart, part_of_model, part_of_faults, part_of_summary, summary_line, made_case, IsMaking, IsSummary}
-use Rattle.xs_run.proofs.Analysable.{model_of_case, case_counts}
+use Rattle.xs_case_search.proofs.Analysable.{model_of_case, case_counts}
 use Rattle.xs_run.proofs.Concluded.{whole_prefix}
 use Rattle.xs_run.proofs.Findings.{ends_by}
 

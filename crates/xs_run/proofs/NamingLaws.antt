@@ -10,7 +10,7 @@ use Rattle.xs_extend.specs.WovenFaults.{fault_tree}
 use Rattle.xs_extend.specs.NumberedFaults.{IsNumbered, AreNumbered}
 use Rattle.xs_extend.specs.declared.faults.WovenFault.{WovenFault}
 use Rattle.xs_report.proofs.TextLaws.{drop_item}
-use Rattle.xs_run.specs.Reports.{name_text}
+use Rattle.xs_loading.specs.Reports.{name_text}
 use Rattle.xs_run.specs.Replays.{names_where}
 
 some_same : {A : Type 0} (x y : A) → Some x ≡ Some y → x ≡ y

@@ -2,17 +2,17 @@
 use Rattle.std.proofs.Common.{◌≡◌, ℕ, List, Option, length, sym, ap, subst, ◌∙◌}
 use Rattle.xs_desk.specs.declared.files.NamedFile.{NamedFile}
 use Rattle.xs_tree.specs.ProgramTree.{Text, Formula}
-use Rattle.xs_run.specs.declared.status.Refusal.{Refusal}
-use Rattle.xs_run.specs.declared.status.Refusal.TheVariants as refusal
-use Rattle.xs_run.specs.Inputs.{RefusesFaults}
-use Rattle.xs_run.specs.Cases.{Case, HoldsCase, IsTopWord, IsWrongWord}
-use Rattle.xs_run.specs.Events.{RefusesEvent, at_model, at_faults, at_top}
-use Rattle.xs_run.specs.Analyses.{size_for}
+use Rattle.xs_loading.specs.declared.status.Refusal.{Refusal}
+use Rattle.xs_loading.specs.declared.status.Refusal.TheVariants as refusal
+use Rattle.xs_loading.specs.Inputs.{RefusesFaults}
+use Rattle.xs_loading.specs.Cases.{Case, HoldsCase, IsTopWord, IsWrongWord}
+use Rattle.xs_loading.specs.Events.{RefusesEvent, at_model, at_faults, at_top}
+use Rattle.xs_case_search.specs.Found.{size_for}
 use Rattle.xs_run.specs.Runs.{Outcome, refuses, analyses, AnalysisComesTo, refuses_event, is_analysed}
-use Rattle.xs_run.proofs.OneExtending.{one_refused_faults}
-use Rattle.xs_run.proofs.OneModelFault.{one_refused_model, held_not_refused, one_held_model}
-use Rattle.xs_run.proofs.OneCase.{case_not_refused, one_case}
-use Rattle.xs_run.proofs.OneTop.{one_wrong_word, word_not_wrong}
+use Rattle.xs_loading.proofs.OneExtending.{one_refused_faults}
+use Rattle.xs_loading.proofs.OneModelFault.{one_refused_model, held_not_refused, one_held_model}
+use Rattle.xs_loading.proofs.OneCase.{case_not_refused, one_case}
+use Rattle.xs_loading.proofs.OneTop.{one_wrong_word, word_not_wrong}
 
 module _ (files : List NamedFile) (model faults top : Text) where
   pub one_refused_event : (r s : Refusal) → RefusesEvent files model faults top r → RefusesEvent files model faults top s → r ≡ s

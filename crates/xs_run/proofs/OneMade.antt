@@ -1,8 +1,8 @@
 -- A number and stages have one generated case.
 use Rattle.std.proofs.Common.{◌≡◌, ℕ, [], sym, ap, subst, ◌∙◌}
-use Rattle.xs_run.specs.Cases.{Case, IsCase}
+use Rattle.xs_loading.specs.Cases.{Case, IsCase}
 use Rattle.xs_run.specs.Made.{IsGenerated}
-use Rattle.xs_run.proofs.OneCase.{same_case}
+use Rattle.xs_loading.proofs.OneCase.{same_case}
 
 pub one_generated : (number stages : ℕ) (c d : Case) → IsGenerated number stages c → IsGenerated number stages d → c ≡ d
 one_generated number stages c d h g =

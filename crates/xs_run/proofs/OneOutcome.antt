@@ -4,17 +4,17 @@ use Rattle.xs_desk.specs.declared.files.NamedFile.{NamedFile}
 use Rattle.xs_tree.specs.ProgramTree.{Text}
 use Rattle.xs_words.specs.Commands.{Command, extend, replay, analyse, check, fmea, make}
 use Rattle.xs_words.proofs.ReadingLaws.{one_command}
-use Rattle.xs_run.specs.declared.status.Status.{Status}
-use Rattle.xs_run.specs.Inputs.{HoldsFaults, RefusesFaults}
-use Rattle.xs_run.specs.Cases.{HoldsTops}
+use Rattle.xs_loading.specs.declared.status.Status.{Status}
+use Rattle.xs_loading.specs.Inputs.{HoldsFaults, RefusesFaults}
+use Rattle.xs_loading.specs.Cases.{HoldsTops}
 use Rattle.xs_run.specs.Runs.{Outcome, refuses, extends, tabulates, makes, TableComesTo, refuses_table, is_tabulated, MakeComesTo, is_made, ComesTo, refuses_model, refuses_faults, is_extended, CommandComesTo, Means, refuses_words, asked, IsAnswer, IsDelivered, HasAnswered}
 use Rattle.xs_run.proofs.ExtensionLemmas.{refused_not_asked, one_refused_words}
-use Rattle.xs_run.proofs.OneExtending.{one_refused_faults, taken_not_refused, one_taken}
-use Rattle.xs_run.proofs.OneModelFault.{one_refused_model, held_not_refused, one_held_model}
+use Rattle.xs_loading.proofs.OneExtending.{one_refused_faults, taken_not_refused, one_taken}
+use Rattle.xs_loading.proofs.OneModelFault.{one_refused_model, held_not_refused, one_held_model}
 use Rattle.xs_run.proofs.OneReplay.{replay_comes_to_one}
 use Rattle.xs_run.proofs.OneEvent.{analysis_comes_to_one}
 use Rattle.xs_run.proofs.OneCheck.{check_comes_to_one}
-use Rattle.xs_run.proofs.OneCase.{one_case}
+use Rattle.xs_loading.proofs.OneCase.{one_case}
 use Rattle.xs_run.proofs.OneTables.{one_refused_table, table_not_refused, one_held_tops}
 use Rattle.xs_run.proofs.OneMade.{one_generated}
 

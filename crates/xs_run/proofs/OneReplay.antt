@@ -1,7 +1,6 @@
 -- What the files and the top event of a replay come to is one.
-use Rattle.std.proofs.Common.{arith, ◌≡◌, inl, inr, ◌<◌, ℕ, List, [], length, Option, Some, None, unwrap_or, sym, ap, subst, ◌∙◌}
+use Rattle.std.proofs.Common.{◌≡◌, List, sym, ap, subst, ◌∙◌}
 use Rattle.xs_desk.specs.declared.files.NamedFile.{NamedFile}
-use Rattle.xs_desk.specs.Files.{file_of, content_of}
 use Rattle.xs_tree.specs.ProgramTree.{Text}
 use Rattle.xs_tree.specs.Tree.{Tree}
 use Rattle.xs_tree.specs.Values.{Value}
@@ -13,43 +12,22 @@ use Rattle.xs_trace_text.specs.Wrong.{IsFirstFault}
 use Rattle.xs_trace_text.proofs.OneTrace.{one_trace}
 use Rattle.xs_trace_text.proofs.OneFault.{one_fault}
 use Rattle.xs_trace_text.proofs.GivenHasNone.{given_has_none}
-use Rattle.xs_run.specs.declared.status.InputFault.{InputFault}
-use Rattle.xs_run.specs.declared.status.Why.{Why}
-use Rattle.xs_run.specs.declared.status.Why.TheVariants as why
-use Rattle.xs_run.specs.declared.status.Objection.TheVariants as objection
-use Rattle.xs_run.specs.declared.status.Refusal.{Refusal}
-use Rattle.xs_run.specs.declared.status.Refusal.TheVariants as refusal
-use Rattle.xs_run.specs.Cases.{Case, extension_of, IsWrongWord, IsTopWord}
-use Rattle.xs_run.specs.Tasks.{IsRefusedAbove, HasAtMost, IsTopTree}
-use Rattle.xs_run.specs.Answered.{replay_text}
-use Rattle.xs_run.specs.Inputs.{RefusesFaults}
+use Rattle.xs_loading.specs.declared.status.Why.{Why}
+use Rattle.xs_loading.specs.declared.status.Why.TheVariants as why
+use Rattle.xs_loading.specs.declared.status.Objection.TheVariants as objection
+use Rattle.xs_loading.specs.declared.status.Refusal.{Refusal}
+use Rattle.xs_loading.specs.declared.status.Refusal.TheVariants as refusal
+use Rattle.xs_loading.specs.Cases.{Case, extension_of, IsWrongWord, IsTopWord}
+use Rattle.xs_loading.specs.Tasks.{IsTopTree}
+use Rattle.xs_run.specs.AnswerTexts.{replay_text}
+use Rattle.xs_loading.specs.Inputs.{RefusesFaults}
 use Rattle.xs_run.specs.Replays.{text_fault, RefusesTrace, trace_file, trace_bytes, HoldsTrace, reason_of, RefusesMoment, at_moment}
 use Rattle.xs_run.specs.Runs.{Outcome, refuses, says, TraceComesTo, refuses_trace, refuses_moment, is_reached, ReplayComesTo, refuses_its_model, refuses_its_faults, refuses_its_top, reads_its_trace}
-use Rattle.xs_run.proofs.OneCase.{case_not_refused, case_printable, one_case}
-use Rattle.xs_run.proofs.OneExtending.{one_refused_faults}
-use Rattle.xs_run.proofs.OneModelFault.{one_refused_model, held_not_refused, one_held_model}
-use Rattle.xs_run.proofs.OneTop.{same_tree, one_wrong_word, word_not_wrong, one_top}
-
--- Files within a limit.
-module _ (limit : ℕ) (files : List NamedFile) (name : Text) where
-  pub no_bytes_within : (fault : InputFault) (bytes : List ℕ) → IsRefusedAbove limit files name fault → HasAtMost limit files name bytes → ⊥
-  no_bytes_within fault bytes (inl missing) has = let e : Path (Option (List ℕ)) None (Some bytes) = sym missing.1 ∙ has.held in cc
-  no_bytes_within fault bytes (inr long) has =
-      let content : content_of files name ≡ bytes = ap (λ file. unwrap_or file []) has.held in
-      omega (arith, subst (λ b. limit < length b) content long.1, has.short)
-
-  no_content_within : file_of files name ≡ None → limit < length (content_of files name) → ⊥
-  no_content_within missing long =
-      let content : content_of files name ≡ [] = ap (λ file. unwrap_or file []) missing in omega (arith, subst (λ b. limit < length b) content long)
-
-  pub one_fault_above : (a b : InputFault) → IsRefusedAbove limit files name a → IsRefusedAbove limit files name b → a ≡ b
-  one_fault_above a b (inl x) (inl y) = x.0 ∙ sym y.0
-  one_fault_above a b (inr x) (inr y) = x.0 ∙ sym y.0
-  one_fault_above a b (inl x) (inr y) = absurd (no_content_within x.1 y.1)
-  one_fault_above a b (inr x) (inl y) = absurd (no_content_within y.1 x.1)
-
-  pub same_bytes_within : (a b : List ℕ) → HasAtMost limit files name a → HasAtMost limit files name b → a ≡ b
-  same_bytes_within a b x y = let e : Path (Option (List ℕ)) (Some a) (Some b) = sym x.held ∙ y.held in cc
+use Rattle.xs_loading.proofs.OneCase.{case_not_refused, case_printable, one_case}
+use Rattle.xs_loading.proofs.OneExtending.{one_refused_faults}
+use Rattle.xs_loading.proofs.OneModelFault.{one_refused_model, held_not_refused, one_held_model}
+use Rattle.xs_loading.proofs.OneTop.{same_tree, one_wrong_word, word_not_wrong, one_top}
+use Rattle.xs_loading.proofs.FilesWithin.{no_bytes_within, one_fault_above, same_bytes_within}
 
 -- one reason for each reason
 one_reason : (w u : Why) → reason_of w ≡ reason_of u → w ≡ u

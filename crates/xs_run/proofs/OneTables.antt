@@ -13,21 +13,21 @@ use Rattle.xs_expression_reader.specs.Stops.{FaultMeans}
 use Rattle.xs_expression_reader.specs.Lists.{IsExpressions}
 use Rattle.xs_expression_reader.specs.Within.{HaveDepths, AreTooDeep}
 use Rattle.xs_flattening.specs.Rules.{IsAccepted}
-use Rattle.xs_run.specs.declared.status.InputFault.{InputFault}
-use Rattle.xs_run.specs.declared.status.Refusal.{Refusal}
-use Rattle.xs_run.specs.declared.status.Refusal.TheVariants as refusal
-use Rattle.xs_run.specs.declared.wrong.Wrong.TheVariants as wrong
-use Rattle.xs_run.specs.Wrongs.{parse_wrong}
-use Rattle.xs_run.specs.Inputs.{RefusesFaults}
-use Rattle.xs_run.specs.Cases.{Case, HoldsCase, IsTop, IsWrongTop, HoldsTops}
+use Rattle.xs_loading.specs.declared.status.InputFault.{InputFault}
+use Rattle.xs_loading.specs.declared.status.Refusal.{Refusal}
+use Rattle.xs_loading.specs.declared.status.Refusal.TheVariants as refusal
+use Rattle.xs_loading.specs.declared.wrong.Wrong.TheVariants as wrong
+use Rattle.xs_loading.specs.Wrongs.{parse_wrong}
+use Rattle.xs_loading.specs.Inputs.{RefusesFaults}
+use Rattle.xs_loading.specs.Cases.{Case, HoldsCase, IsTop, IsWrongTop, HoldsTops}
 use Rattle.xs_run.specs.Tables.{IsListText, AreTopTexts, IsWrongList, no_list, long_list, IsFirstNoTop, IsWrongTops, wrong_list, wrong_event, RefusesTops, tops_file, tops_bytes, RefusesTable, table_no_model, table_no_faults, table_no_tops}
-use Rattle.xs_run.proofs.Told.{one_refusal}
-use Rattle.xs_run.proofs.TextFaults.{reason, of_this_kind, same_reason}
-use Rattle.xs_run.proofs.FileFacts.{no_bytes, one_file_fault, same_bytes}
-use Rattle.xs_run.proofs.OneTop.{one_wrong_top, top_not_wrong}
-use Rattle.xs_run.proofs.OneExtending.{one_refused_faults}
-use Rattle.xs_run.proofs.OneModelFault.{one_refused_model, held_not_refused, one_held_model}
-use Rattle.xs_run.proofs.OneCase.{case_not_refused}
+use Rattle.xs_loading.proofs.Told.{one_refusal}
+use Rattle.xs_loading.proofs.TextFaults.{reason, of_this_kind, same_reason}
+use Rattle.xs_loading.proofs.FileFacts.{no_bytes, one_file_fault, same_bytes}
+use Rattle.xs_loading.proofs.OneTop.{one_wrong_top, top_not_wrong}
+use Rattle.xs_loading.proofs.OneExtending.{one_refused_faults}
+use Rattle.xs_loading.proofs.OneModelFault.{one_refused_model, held_not_refused, one_held_model}
+use Rattle.xs_loading.proofs.OneCase.{case_not_refused}
 
 module _ (bytes : List ℕ) where
   not_deep : (es : List Formula) → IsListText bytes es → AreTooDeep bytes → ⊥

@@ -1,42 +1,33 @@
 -- From the parts of a run to its outcome.
-use Rattle.std.proofs.Common.{arith, ◌≡◌, ◌≤◌, ◌⊎◌, inl, inr, ⊎_elim, ℕ, List, [], ◌∷◌, Option, Some, None, IfSome, Result, Ok, Err, IfOk, IsErrOf, OnOk, OnErr, length, refl, sym, ap, subst, ◌∙◌}
-use Rattle.std.proofs.Math.Seq.{take-length}
+use Rattle.std.proofs.Common.{◌≡◌, ◌⊎◌, inl, inr, ⊎_elim, ℕ, List, [], ◌∷◌, Option, Some, None, IfSome, Result, Ok, Err, IfOk, IsErrOf, refl, sym, ap, subst, ◌∙◌}
 use Rattle.xs_desk.specs.declared.files.NamedFile.{NamedFile}
-use Rattle.xs_desk.specs.Desk.{Rose, said_more, SaysPrefix}
+use Rattle.xs_desk.specs.Desk.{said_more, SaysPrefix}
 use Rattle.xs_tree.specs.ProgramTree.{Text, ProgramTree}
 use Rattle.xs_tree.specs.Tree.{Tree}
 use Rattle.xs_flattening.specs.Flat.{FlatLeaf}
 use Rattle.xs_words.specs.Commands.{Command}
 use Rattle.xs_words.specs.Meaning.{Means as WordsMean}
-use Rattle.xs_run.specs.declared.faults.Made.{Made}
+use Rattle.xs_loading.specs.declared.faults.Made.{Made}
 use Rattle.xs_desk.specs.declared.desk.WriteStop.{WriteStop}
 use Rattle.xs_desk.specs.declared.desk.WriteStop.TheVariants as write_stop
-use Rattle.xs_run.specs.Delivered.{ended_as, Stopped}
-use Rattle.xs_run.specs.Searches.{finished_as}
+use Rattle.xs_run.specs.Delivered.{Stopped}
+use Rattle.xs_run.specs.Findings.{finished_as}
 use Rattle.xs_run.specs.Analyses.{ended_with}
 use Rattle.xs_run.specs.Tables.{ended_with_all}
 use Rattle.xs_reporting.specs.ExtendedTraces.{Ending, complete, bounded}
-use Rattle.xs_run.specs.Inputs.{RefusesModel, HoldsModel, RefusesFaults, HoldsExtension}
-use Rattle.xs_run.specs.Cases.{Case, HoldsCase, IsWrongWord}
-use Rattle.xs_run.specs.Loaded.{case_of, HoldsLoaded, IsTopIn}
-use Rattle.xs_run.specs.Runs.{Outcome, refuses, extends, ComesTo, refuses_model, refuses_faults, is_extended, TraceComesTo, ReplayComesTo, refuses_its_model, refuses_its_faults, refuses_its_top, reads_its_trace, CommandComesTo, Means, asked, refuses_words, IsAnswer, IsDelivered, IsDeliveredInPart, Stands, StandsInPart, IsCarriedOut, IsLeftInPart, HasAnswered, HasStopped}
-use Rattle.xs_run.specs.declared.loaded.LoadedCase.{LoadedCase}
-use Rattle.xs_run.specs.declared.status.InputFault.{InputFault}
-use Rattle.xs_run.specs.declared.status.Refusal.{Refusal}
-use Rattle.xs_run.specs.declared.status.Refusal.TheVariants as refusal
-use Rattle.xs_run.specs.declared.status.Status.{Status}
-use Rattle.xs_run.specs.declared.status.Status.TheVariants as status
-use Rattle.xs_run.specs.declared.input.Stop.{Stop}
-use Rattle.xs_run.specs.declared.input.Stop.TheVariants as stopped
-use Rattle.xs_run.specs.Statuses.{status_of, refusal_text}
+use Rattle.xs_loading.specs.Inputs.{RefusesModel, HoldsModel, RefusesFaults, HoldsExtension}
+use Rattle.xs_loading.specs.Cases.{Case, HoldsCase, IsWrongWord}
+use Rattle.xs_loading.specs.Loaded.{IsTopIn}
+use Rattle.xs_run.specs.Runs.{Outcome, refuses, extends, ComesTo, refuses_model, refuses_faults, is_extended, TraceComesTo, ReplayComesTo, refuses_its_model, refuses_its_faults, refuses_its_top, reads_its_trace, Means, asked, refuses_words, IsAnswer, IsDelivered, IsDeliveredInPart, Stands, StandsInPart, IsCarriedOut, IsLeftInPart, HasAnswered, HasStopped}
+use Rattle.xs_loading.specs.declared.status.InputFault.{InputFault}
+use Rattle.xs_loading.specs.declared.status.Refusal.{Refusal}
+use Rattle.xs_loading.specs.declared.status.Refusal.TheVariants as refusal
+use Rattle.xs_loading.specs.declared.status.Status.{Status}
+use Rattle.xs_loading.specs.declared.status.Status.TheVariants as status
+use Rattle.xs_loading.specs.declared.input.Stop.{Stop}
+use Rattle.xs_loading.specs.declared.input.Stop.TheVariants as stopped
+use Rattle.xs_loading.specs.Statuses.{status_of, refusal_text}
 use Rattle.xs_run.specs.Asked.{RefusesWords}
-
--- what was said whole, or up to a refusal, is a part of the text
-pub says_in_part : {A E : Type 0} (done : Result A E) (old new : Option (List ℕ)) (bytes text : List ℕ) → bytes ≡ text → OnOk done (new ≡ said_more old bytes) → OnErr done (SaysPrefix old new bytes) →
-    SaysPrefix old new text
-says_in_part (Ok x) old new bytes text same whole part =
-    let fits : length text ≤ length text = omega arith in (length text, fits, whole ∙ ap (said_more old) (same ∙ sym (take-length text)))
-says_in_part (Err e) old new bytes text same whole part = subst (SaysPrefix old new) same part
 
 module _ (model faults extended : Text) where
   -- the model is refused
@@ -79,15 +70,6 @@ module _ (model faults trace top : Text) where
         IfSome t (λ files. ReplayComesTo files model faults trace top (refuses r))
     at_told None holds no_faults = tt
     at_told (Some files) holds no_faults = refuses_its_faults p r holds no_faults
-
-  -- both are taken
-  pub holds_case : (told mid : Option (List NamedFile)) (p : ProgramTree) (l : LoadedCase) → mid ≡ told → IfSome told (λ files. HoldsModel files model p) →
-      IfSome mid (λ files. HoldsLoaded files faults p l) → IfSome told (λ files. HoldsCase files model faults (case_of p l))
-  holds_case told mid p l same holds loaded = at_told told holds (subst (λ t. IfSome t (λ files. HoldsLoaded files faults p l)) same loaded) where
-    at_told : (t : Option (List NamedFile)) → IfSome t (λ files. HoldsModel files model p) → IfSome t (λ files. HoldsLoaded files faults p l) →
-        IfSome t (λ files. HoldsCase files model faults (case_of p l))
-    at_told None holds loaded = tt
-    at_told (Some files) holds loaded = record { program = holds; bytes = loaded.bytes; has = loaded.has; is_text = loaded.is_text; is_case = loaded.is_case }
 
   -- its top event is refused
   pub replays_no_top : (told : Option (List NamedFile)) (c : Case) (r : Refusal) → IfSome told (λ files. HoldsCase files model faults c) →
@@ -185,10 +167,6 @@ pub no_column_desk : (es : List Ending) → status.Desk ≡ ended_with_all es �
 no_column_desk [] h = cc
 no_column_desk (complete ∷ es) h = no_column_desk es h
 no_column_desk (bounded k ∷ es) h = cc
-
--- a count that rose from a later one rose
-pub rose_later : (a b c : ℕ) → a ≤ b → Rose b c → Rose a c
-rose_later a b c later rose = omega (arith, later, rose)
 
 -- what holds whatever the files are
 pub for_files : (P : Type 0) (told : Option (List NamedFile)) → P → IfSome told (λ files. P)

@@ -1,5 +1,5 @@
 -- From what is in memory to what a replay comes to.
-use Rattle.std.proofs.Common.{◌≡◌, ℕ, suc, ◌++◌, List, [], ◌∷◌, Option, Some, None, IfSome, refl, sym, ap, subst, ◌∙◌}
+use Rattle.std.proofs.Common.{◌≡◌, ℕ, ◌++◌, List, Option, Some, None, IfSome, sym, subst, ◌∙◌}
 use Rattle.std.specs.Prelude.{codes, length, map}
 use Rattle.std.proofs.lemmas.List.{length-map}
 use Rattle.xs_desk.specs.declared.files.NamedFile.{NamedFile}
@@ -8,58 +8,34 @@ use Rattle.xs_tree.specs.Tree.{Tree}
 use Rattle.xs_tree.specs.Values.{Value}
 use Rattle.xs_value.specs.declared.value.Value.{Value as Numbered}
 use Rattle.xs_scope.specs.ModelTree.{model_tree, mode_of}
-use Rattle.xs_scope.specs.declared.model.FlatModel.{FlatModel as Flat}
-use Rattle.xs_scope.specs.declared.model.Fault.{Fault as FaultOf}
 use Rattle.xs_flattening.specs.Flat.{FlatLeaf, FlatModel}
 use Rattle.xs_flattening.specs.FlatTrace.{stands_in_some}
-use Rattle.xs_eval.specs.Named.{named_all, named_trace, IsEvaluable}
+use Rattle.xs_eval.specs.Named.{named_all, named_trace}
 use Rattle.xs_eval.specs.Replayed.{IsReaching}
 use Rattle.xs_eval.specs.Stops.{Stops}
-use Rattle.xs_eval.proofs.ModelLaws.{evaluable}
 use Rattle.xs_extend.specs.WovenFaults.{fault_tree}
 use Rattle.xs_extend.specs.NumberedFaults.{AreNumbered}
-use Rattle.xs_extend.specs.declared.faults.WovenFault.{WovenFault}
 use Rattle.xs_report.specs.Told.{told_trace}
 use Rattle.xs_report.specs.Faults.{IsFaultOf}
 use Rattle.xs_report.specs.declared.fault.TraceFault as read
 use Rattle.xs_report.specs.declared.fault.TraceFault.TheVariants as fault
-use Rattle.xs_trace_text.specs.Given.{IsPrintable, HasItsSymbols, BytesGive}
+use Rattle.xs_trace_text.specs.Given.{BytesGive}
 use Rattle.xs_trace_text.specs.Wrong.{TraceFault, wrong_line, missing_value, bad_line, unknown_name, outside, twice, IsFirstFault}
-use Rattle.xs_trace_text.proofs.Named.{named_is_printable}
-use Rattle.xs_trace_text.proofs.FlatNames.{flat_models_named}
-use Rattle.xs_trace_text.proofs.FlatSymbols.{flat_models_have_symbols}
-use Rattle.xs_run.specs.declared.loaded.LoadedCase.{LoadedCase}
-use Rattle.xs_run.specs.declared.status.InputFault.{InputFault}
-use Rattle.xs_run.specs.declared.status.Why.{Why}
-use Rattle.xs_run.specs.declared.status.Objection.TheVariants as objection
-use Rattle.xs_run.specs.declared.status.Refusal.{Refusal}
-use Rattle.xs_run.specs.declared.status.Refusal.TheVariants as refusal
-use Rattle.xs_run.specs.declared.wrong.Wrong.{Wrong}
-use Rattle.xs_run.specs.declared.wrong.Wrong.TheVariants as wrong
-use Rattle.xs_run.specs.declared.input.Stop.TheVariants as stop
-use Rattle.xs_run.specs.Wrongs.{IfRefused}
-use Rattle.xs_run.specs.Cases.{extension_of, IsWrongWord, too_long, not_spelled}
-use Rattle.xs_run.specs.Tasks.{IsRefusedAbove, HasAtMost}
-use Rattle.xs_run.specs.Answered.{replay_text}
-use Rattle.xs_run.specs.Loaded.{case_of, IsLoaded, IsWrongTopText, too_long_top, not_a_top}
-use Rattle.xs_run.specs.Tops.{stop_at_top}
+use Rattle.xs_loading.specs.declared.loaded.LoadedCase.{LoadedCase}
+use Rattle.xs_loading.specs.declared.status.InputFault.{InputFault}
+use Rattle.xs_loading.specs.declared.status.Why.{Why}
+use Rattle.xs_loading.specs.declared.status.Objection.TheVariants as objection
+use Rattle.xs_loading.specs.declared.status.Refusal.{Refusal}
+use Rattle.xs_loading.specs.declared.status.Refusal.TheVariants as refusal
+use Rattle.xs_loading.specs.declared.input.Stop.TheVariants as stop
+use Rattle.xs_loading.specs.Tasks.{IsRefusedAbove, HasAtMost}
+use Rattle.xs_run.specs.AnswerTexts.{replay_text}
+use Rattle.xs_loading.specs.Loaded.{case_of}
 use Rattle.xs_run.specs.Replays.{text_fault, stop_at_text, RefusesTrace, trace_file, trace_bytes, HoldsTrace, reason_of, RefusesMoment, at_moment, names_where}
 use Rattle.xs_run.specs.Runs.{refuses, says, TraceComesTo, refuses_trace, refuses_moment, is_reached}
 use Rattle.xs_run.proofs.FailedLaws.{said_of_replay}
 use Rattle.xs_run.proofs.TraceLaws.{trace_is_told}
-
--- Top events.
-pub wrong_text : (p : ProgramTree) (bytes : Text) (told : InputFault) → IsWrongTopText bytes told → IsWrongWord p bytes told
-wrong_text p bytes told (too_long_top more is) = too_long more is
-wrong_text p bytes told (not_a_top f few means is) = not_spelled f few means is
-
-pub refuses_top : (P : InputFault → Type 0) (w : Wrong) (r : Refusal) → stop.Refused r ≡ stop_at_top w → IfRefused P w → (told : InputFault) × (r ≡ refusal.Top told) × P told
-refuses_top P (wrong.Refused told) r is bad = let same : r ≡ refusal.Top told = cc in (told, same, bad)
-refuses_top P wrong.Memory r is bad = cc
-
-pub no_desk_at_top : (w : Wrong) → stop.Desk ≡ stop_at_top w → ⊥
-no_desk_at_top (wrong.Refused told) is = cc
-no_desk_at_top wrong.Memory is = cc
+use Rattle.xs_loading.proofs.LoadedLaws.{same_counts}
 
 -- The file of a trace.
 pub refuses_trace_file : (told : Option (List NamedFile)) (name : Text) (m : FlatModel) (r : Refusal) (a : InputFault) → r ≡ refusal.NotAccepted (objection.Trace a) →
@@ -88,25 +64,6 @@ pub holds_trace : (told : Option (List NamedFile)) (name : Text) (m : FlatModel)
     BytesGive m bytes trace → IfSome told (λ files. HoldsTrace files name m trace)
 holds_trace None name m bytes trace has gives = tt
 holds_trace (Some files) name m bytes trace has gives = record { bytes = bytes; has = has; gives = gives }
-
--- The extension in memory.
-module _ (p : ProgramTree) (l : LoadedCase) (loaded : IsLoaded p l) where
-  pub loaded_printable : IsPrintable (model_tree l.limited.typed.model)
-  loaded_printable =
-      named_is_printable (model_tree l.limited.typed.model)
-      (flat_models_named (extension_of (case_of p l)) (model_tree l.limited.typed.model) loaded.is_case.within.accepted loaded.is_case.is_flat.is loaded.writable)
-
-  pub loaded_symbols : HasItsSymbols (model_tree l.limited.typed.model)
-  loaded_symbols = flat_models_have_symbols (extension_of (case_of p l)) (model_tree l.limited.typed.model) loaded.is_case.within.accepted loaded.is_case.is_flat.is
-
-  pub loaded_evaluable : IsEvaluable (model_tree l.limited.typed.model)
-  loaded_evaluable = evaluable (extension_of (case_of p l)) (model_tree l.limited.typed.model) loaded.is_case.is_flat.is
-
-pub same_counts : (m : Flat) (ws : List WovenFault) (fs : List FaultOf) → AreNumbered m ws fs → length ws ≡ length fs
-same_counts m [] [] h = refl
-same_counts m [] (f ∷ fs) h = absurd h
-same_counts m (w ∷ ws) [] h = absurd h
-same_counts m (w ∷ ws) (f ∷ fs) h = ap suc (same_counts m ws fs h.1)
 
 -- A trace that was read.
 module _ (told : Option (List NamedFile)) (p : ProgramTree) (l : LoadedCase) (tree : Tree FlatLeaf) (name : Text) where

@@ -1,5 +1,5 @@
 -- From an answered run to the extended trace that it has replayed, and back.
-use Rattle.std.proofs.Common.{◌≡◌, ◌↔◌, ℕ, List, [], ◌∷◌, map, Option, Some, None, IfSome, sym, subst, ◌∙◌}
+use Rattle.std.proofs.Common.{◌≡◌, ◌↔◌, ℕ, List, [], map, Option, Some, None, IfSome, sym, subst, ◌∙◌}
 use Rattle.xs_desk.specs.declared.files.NamedFile.{NamedFile}
 use Rattle.xs_desk.specs.Desk.{said_more}
 use Rattle.xs_tree.specs.Tree.{Tree}
@@ -11,16 +11,13 @@ use Rattle.xs_right.specs.Laws.{Correspond}
 use Rattle.xs_encoded.specs.FlatTraces.{ReachesTop, HasFailedNumber, failed_set}
 use Rattle.xs_encoded.proofs.HistoryFacts.{failed_exactly}
 use Rattle.xs_encoded.proofs.Numbers.{where_rising}
-use Rattle.xs_flattening.specs.Flat.{FlatLeaf, FlatModel}
+use Rattle.xs_flattening.specs.Flat.{FlatLeaf}
 use Rattle.xs_flattening.specs.FlatTrace.{IsFlatTrace, stands_in_some}
-use Rattle.xs_flattening.specs.History.{Mode}
-use Rattle.xs_flattening.specs.Model.{EachBoth}
 use Rattle.xs_kinds.specs.Laws.{values_by_number}
 use Rattle.xs_kinds.proofs.TraceLaws.{traces_are}
 use Rattle.xs_weave.specs.Extended.{Moment, IsExtended, Reaches}
-use Rattle.xs_weave.specs.Faults.{Fault}
 use Rattle.xs_weave.proofs.WovenNominal.{woven_extends}
-use Rattle.xs_extended_right.specs.ExtendedTraces.{IsModeOfFault, HasFailedFault, IsExtensionModel, IsFlatCut}
+use Rattle.xs_extended_right.specs.ExtendedTraces.{HasFailedFault, IsExtensionModel, IsFlatCut}
 use Rattle.xs_extended_right.proofs.Carried.{correspond, flat_traces_cut}
 use Rattle.xs_woven_tops.specs.Tops.{IsReadAs}
 use Rattle.xs_woven_tops.proofs.Meanings.{tops_of_extensions}
@@ -28,27 +25,20 @@ use Rattle.xs_woven_tops.proofs.Resolving.{woven_resolves}
 use Rattle.xs_eval.specs.Replayed.{IsReaching}
 use Rattle.xs_words.specs.Commands.{replay}
 use Rattle.xs_words.proofs.ReadingLaws.{one_command}
-use Rattle.xs_run.specs.declared.status.Refusal.TheVariants as refusal
-use Rattle.xs_run.specs.declared.status.Status.{Status}
-use Rattle.xs_run.specs.declared.status.Status.TheVariants as status
+use Rattle.xs_loading.specs.declared.status.Refusal.TheVariants as refusal
+use Rattle.xs_loading.specs.declared.status.Status.{Status}
+use Rattle.xs_loading.specs.declared.status.Status.TheVariants as status
 use Rattle.xs_run.specs.Asked.{AsksToReplay}
-use Rattle.xs_run.specs.Wholes.{IsModeOf}
-use Rattle.xs_run.specs.Cases.{Case, extension_of, HoldsCase, IsTopWord}
-use Rattle.xs_run.specs.Tasks.{IsTopTree}
-use Rattle.xs_run.specs.Answered.{replay_text}
+use Rattle.xs_loading.specs.Cases.{Case, extension_of, HoldsCase, IsTopWord}
+use Rattle.xs_loading.specs.Tasks.{IsTopTree}
+use Rattle.xs_run.specs.AnswerTexts.{replay_text}
 use Rattle.xs_run.specs.Replays.{HoldsTrace}
 use Rattle.xs_run.specs.Runs.{Outcome, says, TraceComesTo, refuses_trace, refuses_moment, is_reached, ReplayComesTo, refuses_its_model, refuses_its_faults, refuses_its_top, reads_its_trace, CommandComesTo, Means, refuses_words, asked, IsAnswer, IsDelivered, HasAnswered}
 use Rattle.xs_run.specs.Replayed.{HoldsReaching, IsReplayed}
 use Rattle.xs_run.proofs.ExtensionLemmas.{never_done}
 use Rattle.xs_run.proofs.OneOutcome.{one_outcome}
-use Rattle.xs_run.proofs.TopLaws.{have_models}
-
--- the modes of faults, as the layer below says it
-pub modes_of_faults : (m : FlatModel) (faults : List Fault) (modes : List Mode) → EachBoth (IsModeOf m) faults modes → EachBoth (IsModeOfFault m) faults modes
-modes_of_faults m [] [] h = tt
-modes_of_faults m [] (mode ∷ modes) h = absurd h
-modes_of_faults m (fault ∷ faults) [] h = absurd h
-modes_of_faults m (fault ∷ faults) (mode ∷ modes) h = (record { variable = h.0.variable; symbol = h.0.symbol }, modes_of_faults m faults modes h.1)
+use Rattle.xs_loading.proofs.TopLaws.{have_models}
+use Rattle.xs_loading.proofs.LoadedLaws.{modes_of_faults}
 
 module _ (files : List NamedFile) (model faults : Text) (c : Case) (holds : HoldsCase files model faults c) (word : Text) (e : Formula) (event : IsTopWord c.program word e) where
   -- the event has an expression over the extension

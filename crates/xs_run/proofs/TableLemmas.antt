@@ -10,17 +10,17 @@ use Rattle.xs_tree.specs.ProgramTree.{Text, Formula, ProgramTree}
 use Rattle.xs_extend.proofs.EachItem.{item_there}
 use Rattle.xs_flattening.specs.Flat.{FlatLeaf}
 use Rattle.xs_flattening.specs.Model.{EachBoth}
-use Rattle.xs_run.specs.declared.status.InputFault.{InputFault}
-use Rattle.xs_run.specs.declared.status.Refusal.{Refusal}
-use Rattle.xs_run.specs.declared.status.Refusal.TheVariants as refusal
-use Rattle.xs_run.specs.declared.wrong.Wrong.{Wrong}
-use Rattle.xs_run.specs.declared.wrong.Wrong.TheVariants as wrong
-use Rattle.xs_run.specs.declared.input.Stop.TheVariants as stop
-use Rattle.xs_run.specs.Wrongs.{IfRefused}
-use Rattle.xs_run.specs.Inputs.{IsRefusedFile, HasBytes, RefusesModel, HoldsModel, RefusesFaults}
-use Rattle.xs_run.specs.Cases.{Case, HoldsCase, IsTop, IsWrongTop, by_names, by_kinds, HoldsTops}
-use Rattle.xs_run.specs.Tasks.{IsTopTree}
-use Rattle.xs_run.specs.Tops.{stop_at_top}
+use Rattle.xs_loading.specs.declared.status.InputFault.{InputFault}
+use Rattle.xs_loading.specs.declared.status.Refusal.{Refusal}
+use Rattle.xs_loading.specs.declared.status.Refusal.TheVariants as refusal
+use Rattle.xs_loading.specs.declared.wrong.Wrong.{Wrong}
+use Rattle.xs_loading.specs.declared.wrong.Wrong.TheVariants as wrong
+use Rattle.xs_loading.specs.declared.input.Stop.TheVariants as stop
+use Rattle.xs_loading.specs.Wrongs.{IfRefused}
+use Rattle.xs_loading.specs.Inputs.{IsRefusedFile, HasBytes, RefusesModel, HoldsModel, RefusesFaults}
+use Rattle.xs_loading.specs.Cases.{Case, HoldsCase, IsTop, IsWrongTop, by_names, by_kinds, HoldsTops}
+use Rattle.xs_loading.specs.Tasks.{IsTopTree}
+use Rattle.xs_loading.specs.Tops.{stop_at_top}
 use Rattle.xs_run.specs.Tables.{IsEventOf, told_at, AreTopTexts, IsWrongTops, RefusesTops, tops_file, tops_bytes, RefusesTable, table_no_model, table_no_faults, table_no_tops}
 
 -- what is wrong with an event is told at any place

@@ -4,15 +4,15 @@ use Rattle.xs_desk.specs.declared.files.NamedFile.{NamedFile}
 use Rattle.xs_tree.specs.ProgramTree.{Text, program_tree}
 use Rattle.xs_words.specs.Commands.{fmea}
 use Rattle.xs_words.proofs.ReadingLaws.{one_command}
-use Rattle.xs_run.specs.declared.input.Stop.{Stop}
+use Rattle.xs_loading.specs.declared.input.Stop.{Stop}
 use Rattle.xs_run.specs.declared.tops.Tabulating.{Tabulating}
-use Rattle.xs_run.specs.declared.status.Refusal.{Refusal}
-use Rattle.xs_run.specs.declared.status.Refusal.TheVariants as refusal
-use Rattle.xs_run.specs.declared.status.Status.{Status}
-use Rattle.xs_run.specs.declared.status.Status.TheVariants as status
-use Rattle.xs_run.specs.Statuses.{status_of}
+use Rattle.xs_loading.specs.declared.status.Refusal.{Refusal}
+use Rattle.xs_loading.specs.declared.status.Refusal.TheVariants as refusal
+use Rattle.xs_loading.specs.declared.status.Status.{Status}
+use Rattle.xs_loading.specs.declared.status.Status.TheVariants as status
+use Rattle.xs_loading.specs.Statuses.{status_of}
 use Rattle.xs_run.specs.Asked.{AsksToTabulate}
-use Rattle.xs_run.specs.Cases.{HoldsCase, HoldsTops}
+use Rattle.xs_loading.specs.Cases.{HoldsCase, HoldsTops}
 use Rattle.xs_run.specs.Tables.{RefusesTable, IsTabulated, tabulated_case, tabulated_events}
 use Rattle.xs_run.specs.Runs.{Outcome, refuses, tabulates, TableComesTo, refuses_table, is_tabulated, CommandComesTo, Means, refuses_words, asked, IsAnswer, IsFinished, IsDelivered, HasAnswered}
 use Rattle.xs_run.proofs.Columns.{table_means}

@@ -23,15 +23,14 @@ use Rattle.xs_woven_tops.specs.Tops.{IsReadAs, IsTopOf}
 use Rattle.xs_woven_tops.proofs.Fits.{tops_fit}
 use Rattle.xs_woven_tops.proofs.Meanings.{tops_of_extensions}
 use Rattle.xs_reporting.specs.ExtendedTraces.{Ending, complete, bounded}
-use Rattle.xs_run.specs.declared.loaded.LoadedCase.{LoadedCase}
-use Rattle.xs_run.specs.Cases.{Case, whole_of}
-use Rattle.xs_run.specs.Loaded.{case_of}
-use Rattle.xs_run.specs.Analyses.{EndsBy, IsFound}
+use Rattle.xs_loading.specs.declared.loaded.LoadedCase.{LoadedCase}
+use Rattle.xs_loading.specs.Cases.{Case, whole_of}
+use Rattle.xs_loading.specs.Loaded.{case_of}
+use Rattle.xs_case_search.specs.Found.{EndsBy, IsFound}
 use Rattle.xs_run.specs.Tables.{IsExtensible, IsEventOf}
-use Rattle.xs_run.proofs.FlatLimits.{flat_typed}
-use Rattle.xs_run.proofs.ReplayLemmas.{same_counts}
-use Rattle.xs_run.proofs.ReplayedLaws.{modes_of_faults}
-use Rattle.xs_run.proofs.TopLaws.{have_models}
+use Rattle.xs_loading.proofs.FlatLimits.{flat_typed}
+use Rattle.xs_loading.proofs.LoadedLaws.{same_counts, modes_of_faults}
+use Rattle.xs_loading.proofs.TopLaws.{have_models}
 
 module _ (p : ProgramTree) (l : LoadedCase) (is : IsExtensible p l) where
   abbrev pub case_is : Case

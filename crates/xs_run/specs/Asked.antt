@@ -4,8 +4,8 @@ use Rattle.xs_words.specs.declared.fault.WordFault.{WordFault}
 use Rattle.xs_words.specs.Commands.{Text, extend, replay, analyse, check, fmea, make}
 use Rattle.xs_words.specs.Meaning.{Means, BreaksFirst}
 use Rattle.xs_words.specs.Seen.{rule_of, place_of}
-use Rattle.xs_run.specs.declared.status.Refusal.{Refusal}
-use Rattle.xs_run.specs.declared.status.Refusal.TheVariants as refusal
+use Rattle.xs_loading.specs.declared.status.Refusal.{Refusal}
+use Rattle.xs_loading.specs.declared.status.Refusal.TheVariants as refusal
 
 -- the words ask to extend the model by the instructions into a file
 abbrev pub AsksToExtend : List Text → Text → Text → Text → Type 0

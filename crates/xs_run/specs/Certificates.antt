@@ -1,4 +1,4 @@
--- What the file of a certificate comes to, and what it shows where it is accepted.
+-- What a certificate comes to over a case, and what it shows where it is accepted.
 use Rattle.std.specs.Prelude.{◌≡◌, ◌↔◌, ℕ, List}
 use Rattle.xs_desk.specs.declared.files.NamedFile.{NamedFile}
 use Rattle.xs_desk.specs.Desk.{said_more}
@@ -14,42 +14,21 @@ use Rattle.xs_right.specs.Right.{HasAtMost as HasFew, IsMinimalCutSet, IsListed}
 use Rattle.xs_extended_right.specs.ExtendedTraces.{HasFailedFault, IsRightExtended}
 use Rattle.xs_trace_text.specs.Given.{GivesTrace}
 use Rattle.xs_certificate.specs.Certificate.{Certificate}
-use Rattle.xs_certificate.specs.CertificateText.{SpellsCertificate, IsBadLine, EndsBefore}
 use Rattle.xs_certificate.specs.Accepted.{Subject, Rule, number_of, IsObjection}
 use Rattle.xs_certified.specs.Certified.{IsSubjectOf, IsCertified}
 use Rattle.xs_certified.specs.Completeness.{GivesExtended}
 use Rattle.xs_subject.specs.Subject.{subject_of}
-use Rattle.xs_run.specs.declared.event.LoadedEvent.{LoadedEvent}
-use Rattle.xs_run.specs.declared.status.InputFault.{InputFault}
-use Rattle.xs_run.specs.declared.status.Part.TheVariants as part
-use Rattle.xs_run.specs.declared.status.Objection.TheVariants as objection
-use Rattle.xs_run.specs.declared.status.Refusal.{Refusal}
-use Rattle.xs_run.specs.declared.status.Refusal.TheVariants as refusal
-use Rattle.xs_run.specs.Cases.{Case, whole_of, HoldsCase, IsTopWord}
-use Rattle.xs_run.specs.Tasks.{IsRefusedAbove, HasAtMost, IsTopTree}
-use Rattle.xs_run.specs.Answered.{Said, check_text}
-use Rattle.xs_run.specs.Events.{RefusesEvent}
-use Rattle.xs_run.specs.Searches.{IsEvent}
-
--- what is wrong first with bytes that spell no certificate, as it is told: a line, from 1, that is wrong or that is missing
-abbrev pub text_fault : ℕ → ℕ → InputFault
-text_fault number line = record { part = part.Read; number = number; place = line }
-
-pub data IsWrongText (bytes : List ℕ) (fault : InputFault) : Type 0 where
-  a_bad_line : (n : ℕ) → fault ≡ text_fault 1 n → IsBadLine bytes n → IsWrongText bytes fault
-  a_missing_line : (n : ℕ) → fault ≡ text_fault 2 n → EndsBefore bytes n → IsWrongText bytes fault
-
--- the file of a certificate is refused, or its text
-pub data RefusesCertificate (files : List NamedFile) (name : Text) (r : Refusal) : Type 0 where
-  certificate_file : (fault : InputFault) → r ≡ refusal.NotAccepted (objection.Cert fault) → IsRefusedAbove 268435456 files name fault → RefusesCertificate files name r
-  certificate_bytes : (bytes : List ℕ) (fault : InputFault) → r ≡ refusal.NotAccepted (objection.Cert fault) → HasAtMost 268435456 files name bytes → IsWrongText bytes fault →
-      RefusesCertificate files name r
-
--- the file holds a text that spells this certificate
-pub record HoldsCertificate (files : List NamedFile) (name : Text) (a : Certificate) : Type 0 where
-  pub bytes : List ℕ
-  pub has : HasAtMost 268435456 files name bytes
-  pub spells : SpellsCertificate bytes a
+use Rattle.xs_loading.specs.declared.event.LoadedEvent.{LoadedEvent}
+use Rattle.xs_loading.specs.declared.status.Objection.TheVariants as objection
+use Rattle.xs_loading.specs.declared.status.Refusal.{Refusal}
+use Rattle.xs_loading.specs.declared.status.Refusal.TheVariants as refusal
+use Rattle.xs_loading.specs.Cases.{Case, whole_of, HoldsCase, IsTopWord}
+use Rattle.xs_loading.specs.Tasks.{IsTopTree}
+use Rattle.xs_loading.specs.Answered.{Said}
+use Rattle.xs_run.specs.AnswerTexts.{check_text}
+use Rattle.xs_loading.specs.Events.{RefusesEvent}
+use Rattle.xs_loading.specs.LoadedEvents.{IsEvent}
+use Rattle.xs_certificate_file.specs.CertificateFiles.{RefusesCertificate, HoldsCertificate}
 
 -- what is judged is about the case: the clause lists of its flat model with history, and those of its bad states for the event
 abbrev pub subject_in : Case → Tree FlatLeaf → Subject

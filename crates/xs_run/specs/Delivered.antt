@@ -4,12 +4,12 @@ use Rattle.xs_desk.specs.declared.files.NamedFile.{NamedFile}
 use Rattle.xs_desk.specs.Desk.{said_more, SaysPrefix}
 use Rattle.xs_desk.specs.declared.desk.WriteStop.{WriteStop}
 use Rattle.xs_desk.specs.declared.desk.WriteStop.TheVariants as stop
-use Rattle.xs_run.specs.Statuses.{status_of, refusal_text}
-use Rattle.xs_run.specs.declared.status.Refusal.{Refusal}
-use Rattle.xs_run.specs.declared.input.Stop.{Stop}
-use Rattle.xs_run.specs.declared.input.Stop.TheVariants as stopped
-use Rattle.xs_run.specs.declared.status.Status.{Status}
-use Rattle.xs_run.specs.declared.status.Status.TheVariants as status
+use Rattle.xs_loading.specs.Statuses.{status_of, refusal_text}
+use Rattle.xs_loading.specs.declared.status.Refusal.{Refusal}
+use Rattle.xs_loading.specs.declared.input.Stop.{Stop}
+use Rattle.xs_loading.specs.declared.input.Stop.TheVariants as stopped
+use Rattle.xs_loading.specs.declared.status.Status.{Status}
+use Rattle.xs_loading.specs.declared.status.Status.TheVariants as status
 
 -- a status where the writing was done, and else why it was not
 abbrev pub ended_as : Status → Result (Unit {0}) WriteStop → Status

@@ -11,7 +11,7 @@ use Rattle.xs_weave.specs.Conservative.{IsExtensionOf}
 use Rattle.xs_weave.specs.Faults.{Fault, HasFaults}
 use Rattle.xs_weave.specs.Weavable.{IsWeavable}
 use Rattle.xs_weave.specs.Woven.{woven}
-use Rattle.xs_run.specs.Reports.{report_text}
+use Rattle.xs_loading.specs.Reports.{report_text}
 
 -- The file that is written spells the program, and no other, that the weave makes of the program that the model's bytes at
 -- entry spell and of the instructions that the other file's bytes at entry spell. The program and the

@@ -7,10 +7,11 @@ use Rattle.xs_tree.specs.ProgramTree.{Text, Formula}
 use Rattle.xs_tree.specs.Bytes.{BytesSpellProgram}
 use Rattle.xs_weave.specs.Conservative.{IsExtensionOf}
 use Rattle.xs_reporting.specs.ExtendedTraces.{Ending, complete, bounded, Analysis, IsAnalysisOf}
-use Rattle.xs_run.specs.declared.status.Status.TheVariants as status
-use Rattle.xs_run.specs.Cases.{Case, extension_of, HoldsCase, IsTopWord}
-use Rattle.xs_run.specs.Answered.{Said}
-use Rattle.xs_run.specs.Analyses.{size_for, HasChain, Certifies, report_of, HasAnalysed}
+use Rattle.xs_loading.specs.declared.status.Status.TheVariants as status
+use Rattle.xs_loading.specs.Cases.{Case, extension_of, HoldsCase, IsTopWord}
+use Rattle.xs_loading.specs.Answered.{Said}
+use Rattle.xs_case_search.specs.Found.{size_for, HasChain}
+use Rattle.xs_run.specs.Analyses.{Certifies, report_of, HasAnalysed}
 
 -- What an analysis has done that ended for all traces, or for those of at most so many steps: the written file spells the
 -- extension, whose faultless traces, hidden, are exactly the model's; each listed set has at most as many faults as the size

@@ -10,13 +10,15 @@ use Rattle.xs_fei.specs.InstructionText.{instructions_text}
 use Rattle.xs_generate.specs.Generator.{generated_model, generated_instructions}
 use Rattle.xs_analysis_text.specs.Analysis.{told_ending}
 use Rattle.xs_reporting.specs.ExtendedTraces.{Ending, Analysis}
-use Rattle.xs_run.specs.declared.status.Status.{Status}
+use Rattle.xs_loading.specs.declared.status.Status.{Status}
 use Rattle.xs_run.specs.declared.make.Making.{Making}
 use Rattle.xs_run.specs.declared.make.Summary.{Summary}
-use Rattle.xs_run.specs.Cases.{Case, IsCase, IsTopWord}
-use Rattle.xs_run.specs.Searches.{case_in, IsEvent}
-use Rattle.xs_run.specs.Answered.{Told, Said, summary_ending, summary_text}
-use Rattle.xs_run.specs.Analyses.{IsFound, ended_with}
+use Rattle.xs_loading.specs.Cases.{Case, IsCase, IsTopWord}
+use Rattle.xs_loading.specs.LoadedEvents.{case_in, IsEvent}
+use Rattle.xs_loading.specs.Answered.{Told, Said}
+use Rattle.xs_run.specs.AnswerTexts.{summary_ending, summary_text}
+use Rattle.xs_case_search.specs.Found.{IsFound}
+use Rattle.xs_run.specs.Analyses.{ended_with}
 
 -- the case of the generator's model of a number and so many stages, with the generator's instructions
 pub record IsGenerated (number stages : ℕ) (c : Case) : Type 0 where

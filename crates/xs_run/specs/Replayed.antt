@@ -8,8 +8,8 @@ use Rattle.xs_right.specs.Right.{Shows}
 use Rattle.xs_right.specs.Sets.{IsRising}
 use Rattle.xs_weave.specs.Extended.{Moment, IsExtended, Reaches}
 use Rattle.xs_extended_right.specs.ExtendedTraces.{HasFailedFault, IsFlatCut}
-use Rattle.xs_run.specs.Cases.{Case, HoldsCase, IsTopWord}
-use Rattle.xs_run.specs.Answered.{failed_names}
+use Rattle.xs_loading.specs.Cases.{Case, HoldsCase, IsTopWord}
+use Rattle.xs_run.specs.AnswerTexts.{failed_names}
 use Rattle.xs_run.specs.Replays.{HoldsTrace}
 
 -- Two files hold a model and its instructions, the word is a top event of the model, and the text of the third file gives each

@@ -15,17 +15,17 @@ use Rattle.xs_trace_text.specs.Wrong.{TraceFault, wrong_line, missing_value, num
 use Rattle.xs_report.specs.declared.fault.TraceFault as read
 use Rattle.xs_report.specs.declared.fault.TraceFault.TheVariants as fault
 use Rattle.xs_weave.specs.Faults.{Fault}
-use Rattle.xs_run.specs.declared.status.InputFault.{InputFault}
-use Rattle.xs_run.specs.declared.status.Part.TheVariants as part
-use Rattle.xs_run.specs.declared.status.Why.{Why}
-use Rattle.xs_run.specs.declared.status.Why.TheVariants as why
-use Rattle.xs_run.specs.declared.status.Objection.TheVariants as objection
-use Rattle.xs_run.specs.declared.status.Refusal.{Refusal}
-use Rattle.xs_run.specs.declared.status.Refusal.TheVariants as refusal
-use Rattle.xs_run.specs.declared.input.Stop.{Stop}
-use Rattle.xs_run.specs.declared.input.Stop.TheVariants as stop
-use Rattle.xs_run.specs.Reports.{name_text}
-use Rattle.xs_run.specs.Tasks.{IsRefusedAbove, HasAtMost}
+use Rattle.xs_loading.specs.declared.status.InputFault.{InputFault}
+use Rattle.xs_loading.specs.declared.status.Part.TheVariants as part
+use Rattle.xs_loading.specs.declared.status.Why.{Why}
+use Rattle.xs_loading.specs.declared.status.Why.TheVariants as why
+use Rattle.xs_loading.specs.declared.status.Objection.TheVariants as objection
+use Rattle.xs_loading.specs.declared.status.Refusal.{Refusal}
+use Rattle.xs_loading.specs.declared.status.Refusal.TheVariants as refusal
+use Rattle.xs_loading.specs.declared.input.Stop.{Stop}
+use Rattle.xs_loading.specs.declared.input.Stop.TheVariants as stop
+use Rattle.xs_loading.specs.Reports.{name_text}
+use Rattle.xs_loading.specs.Tasks.{IsRefusedAbove, HasAtMost}
 
 -- what is wrong first with the text of a trace, as it is told: its number, and the line from 1, or the moment from 0
 abbrev pub text_fault : TraceFault → InputFault

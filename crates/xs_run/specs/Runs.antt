@@ -9,19 +9,21 @@ use Rattle.xs_flattening.specs.Flat.{FlatLeaf}
 use Rattle.xs_eval.specs.Replayed.{IsReaching}
 use Rattle.xs_words.specs.Commands.{Command, extend, replay, analyse, check, fmea, make}
 use Rattle.xs_words.specs.Meaning.{Means as WordsMean}
-use Rattle.xs_run.specs.declared.status.Refusal.{Refusal}
-use Rattle.xs_run.specs.declared.status.Refusal.TheVariants as refusal
-use Rattle.xs_run.specs.declared.status.Status.{Status}
-use Rattle.xs_run.specs.declared.status.Status.TheVariants as status
-use Rattle.xs_run.specs.declared.status.InputFault.{InputFault}
-use Rattle.xs_run.specs.Statuses.{status_of, refusal_text}
+use Rattle.xs_loading.specs.declared.status.Refusal.{Refusal}
+use Rattle.xs_loading.specs.declared.status.Refusal.TheVariants as refusal
+use Rattle.xs_loading.specs.declared.status.Status.{Status}
+use Rattle.xs_loading.specs.declared.status.Status.TheVariants as status
+use Rattle.xs_loading.specs.declared.status.InputFault.{InputFault}
+use Rattle.xs_loading.specs.Statuses.{status_of, refusal_text}
 use Rattle.xs_run.specs.Asked.{RefusesWords}
-use Rattle.xs_run.specs.Inputs.{RefusesModel, HoldsModel, RefusesFaults, HoldsFaults}
-use Rattle.xs_run.specs.Cases.{Case, HoldsCase, HoldsTops, IsTopWord, IsWrongWord}
-use Rattle.xs_run.specs.Tasks.{IsTopTree}
-use Rattle.xs_run.specs.Answered.{Told, Said, replay_text}
-use Rattle.xs_run.specs.Events.{RefusesEvent}
-use Rattle.xs_run.specs.Analyses.{size_for, HasAnalysed, AnalysesInPart}
+use Rattle.xs_loading.specs.Inputs.{RefusesModel, HoldsModel, RefusesFaults, HoldsFaults}
+use Rattle.xs_loading.specs.Cases.{Case, HoldsCase, HoldsTops, IsTopWord, IsWrongWord}
+use Rattle.xs_loading.specs.Tasks.{IsTopTree}
+use Rattle.xs_loading.specs.Answered.{Told, Said}
+use Rattle.xs_run.specs.AnswerTexts.{replay_text}
+use Rattle.xs_loading.specs.Events.{RefusesEvent}
+use Rattle.xs_case_search.specs.Found.{size_for}
+use Rattle.xs_run.specs.Analyses.{HasAnalysed, AnalysesInPart}
 use Rattle.xs_run.specs.Certificates.{CheckRefuses, CheckSays}
 use Rattle.xs_run.specs.Tables.{RefusesTable, HasTabulated, TabulatesInPart}
 use Rattle.xs_run.specs.Made.{IsGenerated, HasMade, MakesInPart}

@@ -19,24 +19,24 @@ use Rattle.xs_analysis_text.specs.Analysis.{told_ending}
 use Rattle.xs_fmea.specs.declared.columns.Column.{Column}
 use Rattle.xs_reporting.specs.ExtendedTraces.{Ending, complete, bounded, Analysis}
 use Rattle.xs_reporting.specs.Tables.{IsEntry}
-use Rattle.xs_run.specs.declared.status.InputFault.{InputFault}
-use Rattle.xs_run.specs.declared.status.Part.TheVariants as part
-use Rattle.xs_run.specs.declared.status.Refusal.{Refusal}
-use Rattle.xs_run.specs.declared.status.Refusal.TheVariants as refusal
-use Rattle.xs_run.specs.declared.status.Status.{Status}
-use Rattle.xs_run.specs.declared.status.Status.TheVariants as status
-use Rattle.xs_run.specs.declared.wrong.Wrong.{Wrong}
-use Rattle.xs_run.specs.declared.wrong.Wrong.TheVariants as wrong
-use Rattle.xs_run.specs.declared.loaded.LoadedCase.{LoadedCase}
+use Rattle.xs_loading.specs.declared.status.InputFault.{InputFault}
+use Rattle.xs_loading.specs.declared.status.Part.TheVariants as part
+use Rattle.xs_loading.specs.declared.status.Refusal.{Refusal}
+use Rattle.xs_loading.specs.declared.status.Refusal.TheVariants as refusal
+use Rattle.xs_loading.specs.declared.status.Status.{Status}
+use Rattle.xs_loading.specs.declared.status.Status.TheVariants as status
+use Rattle.xs_loading.specs.declared.wrong.Wrong.{Wrong}
+use Rattle.xs_loading.specs.declared.wrong.Wrong.TheVariants as wrong
+use Rattle.xs_loading.specs.declared.loaded.LoadedCase.{LoadedCase}
 use Rattle.xs_run.specs.declared.tops.Tabulating.{Tabulating}
-use Rattle.xs_run.specs.Wrongs.{parse_wrong}
-use Rattle.xs_run.specs.Models.{IsLawful}
-use Rattle.xs_run.specs.Inputs.{IsRefusedFile, HasBytes, RefusesModel, HoldsModel, RefusesFaults}
-use Rattle.xs_run.specs.Cases.{Case, HoldsCase, IsTop, IsWrongTop, HoldsTops}
-use Rattle.xs_run.specs.Tasks.{IsTopTree}
-use Rattle.xs_run.specs.Loaded.{case_of, IsLoaded}
-use Rattle.xs_run.specs.Answered.{Told, Said, faults_text, bits_of}
-use Rattle.xs_run.specs.Analyses.{IsFound}
+use Rattle.xs_loading.specs.Wrongs.{parse_wrong}
+use Rattle.xs_loading.specs.Models.{IsLawful}
+use Rattle.xs_loading.specs.Inputs.{IsRefusedFile, HasBytes, RefusesModel, HoldsModel, RefusesFaults}
+use Rattle.xs_loading.specs.Cases.{Case, HoldsCase, IsTop, IsWrongTop, HoldsTops}
+use Rattle.xs_loading.specs.Tasks.{IsTopTree}
+use Rattle.xs_loading.specs.Loaded.{case_of, IsLoaded}
+use Rattle.xs_loading.specs.Answered.{Told, Said, faults_text, bits_of}
+use Rattle.xs_case_search.specs.Found.{IsFound}
 
 -- there are more than 64
 abbrev pub too_many_tops : InputFault

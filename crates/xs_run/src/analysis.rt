@@ -4,14 +4,16 @@ ghost use Rattle.xs_desk.specs.Desk.{Rose, said_more};
 ghost use Rattle.xs_desk.specs.declared.desk.WriteStop.TheVariants as write_stop;
 ghost use Rattle.xs_analysis_text.specs.Analysis.{told_ending};
 ghost use Rattle.xs_run.specs.Analyses.{ended_with, HasAnalysed, AnalysesInPart};
-ghost use Rattle.xs_run.specs.Searches.{IsEvent, analysed_case, analysed_size, told_maybe, WritesPrefixMaybe, ConcludesInPart};
+ghost use Rattle.xs_loading.specs.LoadedEvents.{IsEvent};
+ghost use Rattle.xs_run.specs.Findings.{analysed_case, analysed_size, ConcludesInPart};
+ghost use Rattle.xs_loading.specs.Answered.{told_maybe, WritesPrefixMaybe};
 
-use crate::event::LoadedEvent;
 use crate::search::{Found, search, status_of};
-use crate::status::Status;
 use std::alloc::Global;
 use xs_adviser::Panel;
 use xs_desk::{Desk, WriteStop, say_whole, write_whole};
+use xs_loading::event::LoadedEvent;
+use xs_loading::status::Status;
 use xs_tree::print_program;
 use xs_value::ByteList;
 

@@ -5,7 +5,7 @@ ghost use Rattle.xs_words.specs.Seen.{seen};
 ghost use Rattle.xs_run.specs.Asked.{RefusesWords};
 ghost use Rattle.xs_run.specs.Commanded.{command_of, IsAskable};
 
-use crate::status::Refusal;
+use xs_loading::status::Refusal;
 use xs_words::{Command, read_words};
 
 /// The files of `extend`: the model, the instructions, and the extension that is written.

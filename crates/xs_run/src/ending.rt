@@ -2,16 +2,16 @@
 ghost use Rattle.std.specs.Prelude.{◌≡◌, ◌≤◌, ◌⊎◌, OnOk, IsErrOf};
 ghost use Rattle.xs_desk.specs.Desk.{Rose, told_with, WritesPrefix, said_more, SaysPrefix};
 ghost use Rattle.xs_desk.specs.declared.desk.WriteStop.TheVariants as write_stop;
-ghost use Rattle.xs_run.specs.declared.input.Stop.TheVariants as stops;
-ghost use Rattle.xs_run.specs.Statuses.{status_of, refusal_text};
-ghost use Rattle.xs_run.specs.Searches.{finished_as};
+ghost use Rattle.xs_loading.specs.declared.input.Stop.TheVariants as stops;
+ghost use Rattle.xs_loading.specs.Statuses.{status_of, refusal_text};
+ghost use Rattle.xs_run.specs.Findings.{finished_as};
 ghost use Rattle.xs_run.specs.Delivered.{ended_as, Stopped};
 
-use crate::faults::Made;
-use crate::input::Stop;
-use crate::status::{Refusal, Status};
 use std::alloc::Global;
 use xs_desk::{Desk, WriteStop, say_whole, write_whole};
+use xs_loading::faults::Made;
+use xs_loading::input::Stop;
+use xs_loading::status::{Refusal, Status};
 use xs_value::OutOfMemory;
 
 /// Ends a run that can't go on: a refusal says its line.

@@ -10,26 +10,26 @@ ghost use Rattle.xs_extend.specs.WovenFaults.{fault_tree};
 ghost use Rattle.xs_extend.specs.NumberedFaults.{IsNumbered, AreNumbered};
 ghost use Rattle.xs_desk.specs.Desk.{Rose};
 ghost use Rattle.xs_tree.specs.ProgramTree.{program_tree};
-ghost use Rattle.xs_run.specs.Loaded.{case_of, IsLoaded};
+ghost use Rattle.xs_loading.specs.Loaded.{case_of, IsLoaded};
 ghost use Rattle.xs_run.specs.Runs.{refuses, says, TraceComesTo};
-ghost use Rattle.xs_run.specs.Reports.{name_text};
+ghost use Rattle.xs_loading.specs.Reports.{name_text};
 ghost use Rattle.xs_run.specs.Replays.{IsFitTrace, RefusesMoment, names_where};
-ghost use Rattle.xs_run.specs.declared.status.Refusal.{Refusal};
-ghost use Rattle.xs_run.specs.declared.status.Refusal.TheVariants as refusal;
-ghost use Rattle.xs_run.specs.declared.status.Objection.TheVariants as objection;
-ghost use Rattle.xs_run.specs.declared.input.Stop.TheVariants as stop;
+ghost use Rattle.xs_loading.specs.declared.status.Refusal.{Refusal};
+ghost use Rattle.xs_loading.specs.declared.status.Refusal.TheVariants as refusal;
+ghost use Rattle.xs_loading.specs.declared.status.Objection.TheVariants as objection;
+ghost use Rattle.xs_loading.specs.declared.input.Stop.TheVariants as stop;
 
-use crate::input::Stop;
-use crate::loaded::LoadedCase;
-use crate::model::LoadedModel;
-use crate::report::append_name;
-use crate::status::{Objection, Refusal, Why};
 use crate::trace::load_trace;
 use std::alloc::Global;
 use xs_desk::Desk;
 use xs_eval::{Replayed, Table, has_failed, replay};
 use xs_extend::WovenFault;
 use xs_flat::{Fault, Flat};
+use xs_loading::input::Stop;
+use xs_loading::loaded::LoadedCase;
+use xs_loading::model::LoadedModel;
+use xs_loading::report::append_name;
+use xs_loading::status::{Objection, Refusal, Why};
 use xs_tree::Expr;
 use xs_types::Typed;
 use xs_value::{ByteList, MomentList, OutOfMemory};
@@ -93,7 +93,7 @@ fn moment_stop(number: u32, why: Why) -> Stop
 }
 
 /// That the top event is reached, and the names of the faults that the trace has failed.
-#[tactic(auto, using(crate::proofs::ReportLaws::report_rules))]
+#[tactic(auto, using(xs_loading::proofs::ReportLaws::report_rules))]
 pub(crate) fn replay_report(
     alloc: Global,
     case: &LoadedCase,
@@ -117,7 +117,7 @@ pub(crate) fn replay_report(
 }
 
 /// Appends the names of the faults that the trace has failed, each after a space.
-#[tactic(auto, using(crate::proofs::ReportLaws::report_rules))]
+#[tactic(auto, using(xs_loading::proofs::ReportLaws::report_rules))]
 fn append_failed(
     text: &mut ByteList,
     typed: &Typed,
@@ -138,7 +138,7 @@ fn append_failed(
 }
 
 /// Appends the name of a fault after a space, where the trace has failed it.
-#[tactic(auto, using(crate::proofs::ReportLaws::report_rules))]
+#[tactic(auto, using(xs_loading::proofs::ReportLaws::report_rules))]
 fn append_if_failed(
     text: &mut ByteList,
     typed: &Typed,

@@ -13,11 +13,11 @@ ghost use Rattle.xs_run.specs.Made.{IsMade};
 
 use crate::asked::command_asked;
 use crate::ending::refuse;
-use crate::status::Status;
 use crate::verbs::carry_out;
 use std::alloc::Global;
 use xs_adviser::{Adviser, Panel};
 use xs_desk::Desk;
+use xs_loading::status::Status;
 
 /// Does what the words ask for. `extend` reads a model and instructions, writes the model extended with
 /// the faults, and says the faults. `replay` reads a model, instructions, a top event and a trace of the

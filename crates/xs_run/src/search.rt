@@ -1,35 +1,30 @@
 // The search of a case for its minimal cut sets, and the texts that are made of what it finds.
-ghost use Rattle.std.specs.Prelude.{◌≡◌, ◌<◌, ◌^◌, ℕ, IfOk, OnOk, length, map};
+ghost use Rattle.std.specs.Prelude.{◌≡◌, ◌<◌, ℕ, IfOk, map};
 ghost use Rattle.xs_scope.specs.ModelTree.{model_tree, mode_of, flat_tree};
 ghost use Rattle.xs_flattening.specs.History.{with_history};
-ghost use Rattle.xs_encoding.specs.Bits.{state_of, inputs_of};
-ghost use Rattle.xs_encoding.specs.Lists.{system_of};
-ghost use Rattle.xs_encoded_search.specs.Searchable.{IsSearchable};
 ghost use Rattle.xs_analysis_text.specs.Analysis.{told_ending};
 ghost use Rattle.xs_report.specs.Told.{told_trace};
-ghost use Rattle.xs_cuts.specs.Answer.{IsAnswer};
 ghost use Rattle.xs_cuts.specs.declared.answer.End.TheVariants as ends;
-ghost use Rattle.xs_run.specs.Analyses.{size_for, ended_with, IsCertificateFor};
-ghost use Rattle.xs_run.specs.Searches.{IsEvent, IsSearched, HasCertificate, IsFinding, analysed_case, analysed_size};
+ghost use Rattle.xs_run.specs.Analyses.{ended_with};
+ghost use Rattle.xs_case_search.specs.Found.{IsCertificateFor};
+ghost use Rattle.xs_loading.specs.LoadedEvents.{IsEvent};
+ghost use Rattle.xs_case_search.specs.Searches.{IsSearched, HasCertificate};
+ghost use Rattle.xs_run.specs.Findings.{IsFinding, analysed_case, analysed_size};
 
 use crate::analysis::Analysing;
-use crate::loaded::LoadedCase;
-use crate::status::Status;
 use std::alloc::Global;
 use xs_adviser::Panel;
-use xs_analysis::{analyse, analyse_in, frames_of};
+use xs_case_search::search::{analysed, size_of};
 use xs_cert::write;
 use xs_certify::certify;
 use xs_cuts::answer::{Analysis, End};
 use xs_cuts_extended::told;
 use xs_flat::Flat;
-use xs_frames::Frames;
+use xs_loading::loaded::LoadedCase;
+use xs_loading::status::Status;
 use xs_report::print_analysis;
 use xs_tree::Expr;
 use xs_value::{ByteList, Ending, OutOfMemory};
-
-/// A search gives each symbol a number below this. A model of two files within their limits has far fewer.
-const MOST_SYMBOLS: usize = 2_147_483_648;
 
 /// What a search found: the report, how it ended, and for a complete answer the text of a certificate.
 #[derive(Drop)]
@@ -37,17 +32,6 @@ pub struct Found {
     pub cert: Option<ByteList>,
     pub report: ByteList,
     pub ending: Ending,
-}
-
-/// The size with which so many faults are searched.
-pub fn size_of(size: Option<u32>, faults: usize) -> u32
-    requires { faults < 2 ^ 32 }
-    ensures { result ≡ size_for size faults }
-{
-    match size {
-        Some(n) => n.min(faults as u32),
-        None => faults as u32,
-    }
 }
 
 /// The status of a run whose analysis ends so.
@@ -58,97 +42,6 @@ pub(crate) fn status_of(ending: Ending) -> Status
         Ending::Complete => Status::Done,
         Ending::Bounded(k) => Status::Bounded(k),
     }
-}
-
-/// Want of memory where a flat model has more symbols than a search has numbers for.
-fn count_symbols(case: &LoadedCase) -> Result<(), OutOfMemory>
-    ensures { OnOk result (length case.now.limited.typed.model.symbols < 2 ^ 31) }
-{
-    if case.limited.typed.model().symbols.len() >= MOST_SYMBOLS {
-        return Err(OutOfMemory);
-    }
-    Ok(())
-}
-
-/// The analysis of a case for a top event. More symbols than numbers of them are want of memory.
-pub fn analysed(
-    alloc: Global,
-    case: &LoadedCase,
-    top: &Expr<Flat>,
-    depth: u32,
-    size: u32,
-    panel: &mut Panel,
-) -> Result<Analysis, OutOfMemory>
-    requires whole { model_tree case.now.limited.full.model ≡ with_history (model_tree case.now.limited.typed.model) (map mode_of case.now.limited.faults) }
-    requires searchable { length case.now.limited.typed.model.symbols < 2 ^ 31 → IsSearchable (model_tree case.now.limited.typed.model) (map mode_of case.now.limited.faults) (flat_tree top.now) }
-    ensures few { OnOk result (length case.now.limited.typed.model.symbols < 2 ^ 31) }
-    ensures answer { IfOk result (IsAnswer (model_tree case.now.limited.typed.model) (map mode_of case.now.limited.faults) (flat_tree top.now)
-        (system_of (with_history (model_tree case.now.limited.typed.model) (map mode_of case.now.limited.faults)))
-        (state_of (with_history (model_tree case.now.limited.typed.model) (map mode_of case.now.limited.faults)))
-        (inputs_of (with_history (model_tree case.now.limited.typed.model) (map mode_of case.now.limited.faults))) depth size) }
-{
-    count_symbols(case)?;
-    let limited = &case.limited;
-    analyse(
-        alloc,
-        &limited.typed,
-        &limited.full,
-        &limited.faults,
-        top,
-        depth,
-        size,
-        panel,
-    )
-}
-
-/// Frames for the analyses of a case, one of whose top events is given. They know nothing of the event, and serve for all.
-pub fn frames_of_case(
-    alloc: Global,
-    case: &LoadedCase,
-    top: &Expr<Flat>,
-) -> Result<Frames, OutOfMemory>
-    requires whole { model_tree case.now.limited.full.model ≡ with_history (model_tree case.now.limited.typed.model) (map mode_of case.now.limited.faults) }
-    requires searchable { length case.now.limited.typed.model.symbols < 2 ^ 31 → IsSearchable (model_tree case.now.limited.typed.model) (map mode_of case.now.limited.faults) (flat_tree top.now) }
-    ensures { IfOk result (λ f. f.system ≡ system_of (with_history (model_tree case.now.limited.typed.model) (map mode_of case.now.limited.faults))) }
-{
-    count_symbols(case)?;
-    let limited = &case.limited;
-    frames_of(alloc, &limited.typed, &limited.full, &limited.faults, top)
-}
-
-/// What `analysed` answers, found in frames of the case that may have served for its other top events: only what holds of
-/// every first state is kept from these.
-pub fn analysed_in(
-    alloc: Global,
-    case: &LoadedCase,
-    top: &Expr<Flat>,
-    depth: u32,
-    size: u32,
-    frames: &mut Frames,
-    panel: &mut Panel,
-) -> Result<Analysis, OutOfMemory>
-    requires whole { model_tree case.now.limited.full.model ≡ with_history (model_tree case.now.limited.typed.model) (map mode_of case.now.limited.faults) }
-    requires searchable { length case.now.limited.typed.model.symbols < 2 ^ 31 → IsSearchable (model_tree case.now.limited.typed.model) (map mode_of case.now.limited.faults) (flat_tree top.now) }
-    requires system { frames.old.system ≡ system_of (with_history (model_tree case.now.limited.typed.model) (map mode_of case.now.limited.faults)) }
-    ensures system { frames.new.system ≡ frames.old.system }
-    ensures answer { IfOk result (IsAnswer (model_tree case.now.limited.typed.model) (map mode_of case.now.limited.faults) (flat_tree top.now)
-        (system_of (with_history (model_tree case.now.limited.typed.model) (map mode_of case.now.limited.faults)))
-        (state_of (with_history (model_tree case.now.limited.typed.model) (map mode_of case.now.limited.faults)))
-        (inputs_of (with_history (model_tree case.now.limited.typed.model) (map mode_of case.now.limited.faults))) depth size) }
-{
-    count_symbols(case)?;
-    let limited = &case.limited;
-    analyse_in(
-        alloc,
-        &limited.typed,
-        &limited.full,
-        &limited.faults,
-        top,
-        depth,
-        size,
-        frames,
-        panel,
-    )
 }
 
 /// The text of a certificate of a complete analysis.

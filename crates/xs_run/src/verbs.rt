@@ -4,12 +4,13 @@
 // refuses nothing. The main function is `carry_out`.
 ghost use Rattle.std.specs.Prelude.{◌≡◌, ◌≤◌, IfOk, IfSome, IsErrOf};
 ghost use Rattle.xs_desk.specs.Desk.{Rose};
-ghost use Rattle.xs_run.specs.declared.status.Refusal.{Refusal};
-ghost use Rattle.xs_run.specs.declared.input.Stop.TheVariants as stops;
+ghost use Rattle.xs_loading.specs.declared.status.Refusal.{Refusal};
+ghost use Rattle.xs_loading.specs.declared.input.Stop.TheVariants as stops;
 ghost use Rattle.xs_run.specs.declared.asked.Asked.TheVariants as ask;
 ghost use Rattle.xs_run.specs.Runs.{refuses, extends, says, analyses, tabulates, makes, ComesTo, ReplayComesTo, CheckComesTo, TableComesTo, MakeComesTo, CommandComesTo, IsAnswer, IsDelivered, IsDeliveredInPart, IsCarriedOut, IsLeftInPart};
 ghost use Rattle.xs_run.specs.Commanded.{command_of, IsAskable};
-ghost use Rattle.xs_run.specs.Searches.{IsEvent, analysed_case, analysed_size};
+ghost use Rattle.xs_loading.specs.LoadedEvents.{IsEvent};
+ghost use Rattle.xs_run.specs.Findings.{analysed_case, analysed_size};
 ghost use Rattle.xs_run.specs.Tables.{IsTabulable, tabulated_case, tabulated_events};
 ghost use Rattle.xs_run.specs.Made.{IsMaking, made_case};
 
@@ -17,19 +18,19 @@ use crate::analysis::{Analysing, deliver_analysis};
 use crate::asked::{Analyse, Asked, Check, Extend, Fmea, Make, Replay};
 use crate::certificate::check_file;
 use crate::ending::{ended, finished, stopped, write_and_say};
-use crate::event::load_event;
-use crate::faults::{Made, load_extension};
-use crate::input::Stop;
-use crate::loaded::load_case;
 use crate::make::{Making, deliver_made, generate};
-use crate::model::load_model;
 use crate::replay::replay_file;
-use crate::status::Status;
-use crate::top::load_top;
 use crate::tops::{Tabulating, deliver_table, load_table};
 use std::alloc::Global;
 use xs_adviser::Panel;
 use xs_desk::{Desk, say_whole};
+use xs_loading::event::load_event;
+use xs_loading::faults::{Made, load_extension};
+use xs_loading::input::Stop;
+use xs_loading::loaded::load_case;
+use xs_loading::model::load_model;
+use xs_loading::status::Status;
+use xs_loading::top::load_top;
 use xs_value::{ByteList, OutOfMemory};
 
 /// Carries out what was asked for.

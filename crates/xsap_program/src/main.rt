@@ -21,9 +21,9 @@ use std::env;
 use std::io::ErrorKind;
 use std::process::ExitCode;
 use xs_adviser::{Active, Adviser, InOrder};
+use xs_loading::status::Status;
 use xs_reach::reach::{self, is_reach};
 use xs_run::run::run;
-use xs_run::status::Status;
 use xs_value::OutOfMemory;
 
 mod real_desk;

@@ -18,9 +18,9 @@ use std::alloc::{AllocError, Global};
 use std::process::ExitCode;
 use std::{env, io};
 use xs_adviser::{Active, Adviser, InOrder, Panel};
+use xs_case_search::search::{analysed_in, frames_of_case, size_of};
 use xs_frames::Frames;
 use xs_run::make::generate;
-use xs_run::search::{analysed_in, frames_of_case, size_of};
 use xs_value::OutOfMemory;
 
 /// No trace of a generated case needs so many steps.

@@ -2,7 +2,7 @@ use Rattle.std.proofs.Common.{arith}
 use Rattle.xs_tree.specs.ProgramTree.{program_tree}
 use Rattle.xs_scope.specs.ModelTree.{flat_tree}
 use Rattle.xs_run.specs.Made.{dead_word}
-use Rattle.xs_run.proofs.Analysable.{case_few, case_searchable}
+use Rattle.xs_case_search.proofs.Analysable.{case_few, case_searchable}
 use Rattle.xsap_visits.proofs.visits_of.Goals as goal
 
 pub frames_of_case-requires-clause-searchable : goal.frames_of_case-requires-clause-searchable

@@ -2,7 +2,7 @@ use Rattle.std.proofs.Common.{rules, ◌<◌, ◌^◌, length, sym, subst, ◌�
 use Rattle.xs_cert.specs.Seen.{seen}
 use Rattle.xs_check.specs.Matter.{matter_of}
 use Rattle.xs_check.specs.Found.{IsJudged}
-use Rattle.xs_run.proofs.InputLemmas.{same_error}
+use Rattle.xs_loading.proofs.InputLemmas.{same_error}
 use Rattle.xs_find_causes.proofs.StagedLaws.{event_fits, event_certifies, event_not_accepted}
 use Rattle.xs_find_causes.proofs.CausesLaws.{shared_refused}
 use Rattle.xs_find_causes.proofs.causes.judge.Goals as goal

@@ -5,7 +5,7 @@ use Rattle.std.proofs.lemmas.Result.{err_from_is_err_and}
 use Rattle.xs_scope.specs.ModelTree.{mode_of}
 use Rattle.xs_analysis_text.specs.AnalysisText.{size_line}
 use Rattle.xs_cert.specs.Seen.{seen}
-use Rattle.xs_run.proofs.InputLemmas.{same_error}
+use Rattle.xs_loading.proofs.InputLemmas.{same_error}
 use Rattle.xs_reach_status.specs.declared.stop.Stop.TheVariants as stop
 use Rattle.xs_reach_status.proofs.StopLaws.{stop_refused, stop_desk}
 use Rattle.xs_find_causes.proofs.CausesLaws.{no_file, line_refused, accepts_staged}

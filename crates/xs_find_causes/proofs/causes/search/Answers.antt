@@ -3,7 +3,7 @@ use Rattle.xs_scope.specs.ModelTree.{flat_tree}
 use Rattle.xs_analysis_text.specs.AnalysisText.{analysis_text}
 use Rattle.xs_report.specs.Analysed.{told_analysis}
 use Rattle.xs_report.specs.FaultText.{name_of, faults_text}
-use Rattle.xs_run.specs.Searches.{IsSearched}
+use Rattle.xs_case_search.specs.Searches.{IsSearched}
 use Rattle.xs_find_causes.specs.Causes.{staged_in, events_in}
 use Rattle.xs_find_causes.proofs.StagedLaws.{event_right}
 use Rattle.xs_find_causes.proofs.causes.search.Goals as goal

@@ -1,6 +1,6 @@
 use Rattle.std.proofs.Common.{sym, map, ◌∙◌}
 use Rattle.xs_extend.specs.WovenFaults.{fault_tree}
-use Rattle.xs_run.proofs.InputLemmas.{same_error}
+use Rattle.xs_loading.proofs.InputLemmas.{same_error}
 use Rattle.xs_find_causes.specs.Causes.{flat_in, modes_in, faults_in, extension_in}
 use Rattle.xs_find_causes.proofs.StagedLaws.{faults_named}
 use Rattle.xs_find_causes.proofs.CausesLaws.{no_desk_of_causes, refuses_bytes}

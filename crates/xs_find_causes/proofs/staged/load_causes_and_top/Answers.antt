@@ -2,8 +2,8 @@ use Rattle.std.proofs.Common.{Err, IsErrOf, refl, sym, ap, map, ◌∙◌}
 use Rattle.std.proofs.lemmas.Result.{err_from_is_err_and}
 use Rattle.xs_tree.specs.ProgramTree.{program_tree}
 use Rattle.xs_staging.specs.CauseOf.{cause_of}
-use Rattle.xs_run.specs.Loaded.{case_of}
-use Rattle.xs_run.proofs.InputLemmas.{same_error}
+use Rattle.xs_loading.specs.Loaded.{case_of}
+use Rattle.xs_loading.proofs.InputLemmas.{same_error}
 use Rattle.xs_reach_status.specs.declared.stop.Stop.TheVariants as stop
 use Rattle.xs_reach_status.proofs.StopLaws.{stop_refused, stop_desk}
 use Rattle.xs_find_causes.proofs.CausesLaws.{has_causes, keeps_limits, staged_no_causes, staged_no_top}

@@ -3,9 +3,10 @@ use Rattle.std.proofs.lemmas.Result.{err_from_is_err_and}
 use Rattle.xs_tree.specs.ProgramTree.{program_tree}
 use Rattle.xs_scope.specs.ModelTree.{model_tree}
 use Rattle.xs_staging.specs.CauseOf.{cause_of}
-use Rattle.xs_run.specs.Loaded.{case_of}
-use Rattle.xs_run.proofs.InputLemmas.{same_error}
-use Rattle.xs_run.proofs.OutcomeLemmas.{holds_case, rose_later}
+use Rattle.xs_loading.specs.Loaded.{case_of}
+use Rattle.xs_loading.proofs.InputLemmas.{same_error}
+use Rattle.xs_loading.proofs.LoadedLaws.{holds_case}
+use Rattle.xs_loading.proofs.SaidLaws.{rose_later}
 use Rattle.xs_reach_status.specs.declared.stop.Stop.TheVariants as stop
 use Rattle.xs_reach_status.proofs.StopLaws.{stop_refused, stop_desk}
 use Rattle.xs_find_causes.proofs.CausesLaws.{has_causes, staged_no_model, staged_no_faults, staged_no_rest}

@@ -1,8 +1,8 @@
 use Rattle.std.proofs.Common.{Err, inl, inr, sym, ap, subst, ◌∙◌}
 use Rattle.std.proofs.lemmas.Result.{err_from_is_err_and}
 use Rattle.xs_desk.specs.Desk.{said_more, SaysPrefix}
-use Rattle.xs_run.proofs.InputLemmas.{same_error}
-use Rattle.xs_run.proofs.OutcomeLemmas.{rose_later}
+use Rattle.xs_loading.proofs.InputLemmas.{same_error}
+use Rattle.xs_loading.proofs.SaidLaws.{rose_later}
 use Rattle.xs_reach_status.proofs.StopLaws.{write_refused, write_desk}
 use Rattle.xs_find_odds.proofs.OddsLaws.{has_odds, odds_in_part, on_stop}
 use Rattle.xs_find_odds.proofs.odds.find_odds.Goals as goal

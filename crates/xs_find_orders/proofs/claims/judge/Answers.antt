@@ -3,7 +3,7 @@ use Rattle.xs_scope.specs.ModelTree.{model_tree, flat_tree}
 use Rattle.xs_cert.specs.Seen.{seen}
 use Rattle.xs_check.specs.Found.{IsJudgedUnlisted}
 use Rattle.xs_find_orders.specs.Orders.{staged_matter}
-use Rattle.xs_run.proofs.InputLemmas.{same_error}
+use Rattle.xs_loading.proofs.InputLemmas.{same_error}
 use Rattle.xs_find_orders.proofs.ClaimLaws.{claim_accepted, claim_refused, line_refused, line_no_desk}
 use Rattle.xs_find_orders.proofs.claims.judge.Goals as goal
 

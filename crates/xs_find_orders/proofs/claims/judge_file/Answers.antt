@@ -1,7 +1,7 @@
 use Rattle.std.proofs.Common.{Err, sym, ap, subst, ◌∙◌, OnOk}
 use Rattle.std.proofs.lemmas.Result.{err_from_is_err_and}
 use Rattle.xs_cert.specs.Seen.{seen}
-use Rattle.xs_run.proofs.InputLemmas.{same_error}
+use Rattle.xs_loading.proofs.InputLemmas.{same_error}
 use Rattle.xs_reach_status.proofs.StopLaws.{stop_refused, stop_desk}
 use Rattle.xs_find_orders.specs.Orders.{IsAcceptedClaim, RefusesClaim, claim_in}
 use Rattle.xs_find_orders.specs.Claimed.{staged_in, against_in}

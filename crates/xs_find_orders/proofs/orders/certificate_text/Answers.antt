@@ -1,6 +1,6 @@
 use Rattle.std.proofs.lemmas.Result.{IfOk-weaker}
 use Rattle.xs_scope.specs.ModelTree.{model_tree, flat_tree}
-use Rattle.xs_run.specs.Searches.{case_in}
+use Rattle.xs_loading.specs.LoadedEvents.{case_in}
 use Rattle.xs_cert.specs.Seen.{seen}
 use Rattle.xs_certificate.specs.CertificateText.{SpellsCertificate}
 use Rattle.xs_find_orders.specs.Orders.{CertifiesClaim}

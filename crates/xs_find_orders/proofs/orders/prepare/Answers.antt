@@ -1,6 +1,6 @@
 use Rattle.std.proofs.Common.{Err, sym, ap, ◌∙◌}
 use Rattle.std.proofs.lemmas.Result.{err_from_is_err_and}
-use Rattle.xs_run.proofs.InputLemmas.{same_error}
+use Rattle.xs_loading.proofs.InputLemmas.{same_error}
 use Rattle.xs_find_orders.specs.declared.pair.PairWords.{PairWords}
 use Rattle.xs_find_orders.proofs.OrderLaws.{concludes_from}
 use Rattle.xs_find_orders.proofs.orders.prepare.Goals as goal

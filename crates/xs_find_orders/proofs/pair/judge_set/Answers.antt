@@ -1,6 +1,6 @@
 use Rattle.std.proofs.Common.{◌≡◌, ◌+◌, false, IsTrue, refl, arith}
 use Rattle.std.proofs.lemmas.Bool.{both_ways}
-use Rattle.xs_run.proofs.InputLemmas.{same_error}
+use Rattle.xs_loading.proofs.InputLemmas.{same_error}
 use Rattle.xs_find_orders.specs.Pairs.{outside_refusal}
 use Rattle.xs_find_orders.proofs.PairLaws.{one_numbered, first_outside, one_stop}
 use Rattle.xs_find_orders.proofs.pair.judge_set.Goals as goal

@@ -5,8 +5,8 @@ use Rattle.xs_scope.specs.ModelTree.{model_tree}
 use Rattle.xs_encoded.specs.FlatTraces.{IsNumbered}
 use Rattle.xs_kinds.specs.Models.{IsTyped}
 use Rattle.xs_reach_words.specs.Sets.{numbers_of}
-use Rattle.xs_run.proofs.InputLemmas.{same_error}
-use Rattle.xs_run.proofs.OutcomeLemmas.{holds_case}
+use Rattle.xs_loading.proofs.InputLemmas.{same_error}
+use Rattle.xs_loading.proofs.LoadedLaws.{holds_case}
 use Rattle.xs_reach_status.specs.declared.stop.Stop.TheVariants as stops
 use Rattle.xs_find_orders.specs.Pairs.{IsPair, IsStaged, RefusesStage}
 use Rattle.xs_reach_status.proofs.StopLaws.{stop_refused, stop_desk}

@@ -1,6 +1,6 @@
 use Rattle.std.proofs.Common.{Err, IsErrOf, sym, subst, ap, ◌∙◌}
 use Rattle.std.proofs.lemmas.Result.{err_from_is_err_and}
-use Rattle.xs_run.proofs.InputLemmas.{same_error}
+use Rattle.xs_loading.proofs.InputLemmas.{same_error}
 use Rattle.xs_find_orders.specs.Pairs.{IsPair}
 use Rattle.xs_reach_status.specs.declared.stop.Stop.TheVariants as stops
 use Rattle.xs_find_orders.proofs.pair.pair_set.Goals as goal

@@ -1,8 +1,8 @@
 use Rattle.std.proofs.Common.{◌∙◌, sym, ap, map}
 use Rattle.xs_scope.specs.ModelTree.{model_tree, mode_of}
 use Rattle.xs_orders.specs.Stage.{stage}
-use Rattle.xs_run.proofs.InputLemmas.{same_error}
-use Rattle.xs_run.specs.Wholes.{BreaksKinds}
+use Rattle.xs_loading.proofs.InputLemmas.{same_error}
+use Rattle.xs_loading.specs.Wholes.{BreaksKinds}
 use Rattle.xs_find_orders.proofs.PairLaws.{stage_refused, stage_no_desk, stage_wrong}
 use Rattle.xs_find_orders.proofs.pair.staged_model.Goals as goal
 

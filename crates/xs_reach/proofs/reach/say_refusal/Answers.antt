@@ -1,5 +1,5 @@
 use Rattle.std.proofs.Common.{◌∙◌}
-use Rattle.xs_run.proofs.OutcomeLemmas.{says_in_part}
+use Rattle.xs_loading.proofs.SaidLaws.{says_in_part}
 use Rattle.xs_reach_status.specs.Statuses.{refusal_text}
 use Rattle.xs_reach.proofs.reach.say_refusal.Goals as goal
 

@@ -1,5 +1,5 @@
-use Rattle.xs_run.specs.Answered.{extension_text}
-use Rattle.xs_run.specs.Searches.{analysed_case}
+use Rattle.xs_run.specs.AnswerTexts.{extension_text}
+use Rattle.xs_run.specs.Findings.{analysed_case}
 use Rattle.xs_run.specs.Analyses.{part_of_extension}
 use Rattle.xs_run.proofs.Concluded.{whole_prefix, written_extension, has_analysed_if, analyses_in_part}
 use Rattle.xs_run.proofs.analysis.deliver_analysis.Goals as goal

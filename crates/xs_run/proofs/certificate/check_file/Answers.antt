@@ -5,10 +5,10 @@ use Rattle.xs_tree.specs.ProgramTree.{program_tree}
 use Rattle.xs_scope.specs.ModelTree.{flat_tree}
 use Rattle.xs_cert.specs.Seen.{seen}
 use Rattle.xs_analysis_text.specs.AnalysisText.{size_line}
-use Rattle.xs_run.specs.Searches.{case_in}
-use Rattle.xs_run.specs.declared.input.Stop.TheVariants as stop
-use Rattle.xs_run.proofs.Analysable.{case_counts}
-use Rattle.xs_run.proofs.InputLemmas.{same_error}
+use Rattle.xs_loading.specs.LoadedEvents.{case_in}
+use Rattle.xs_loading.specs.declared.input.Stop.TheVariants as stop
+use Rattle.xs_case_search.proofs.Analysable.{case_counts}
+use Rattle.xs_loading.proofs.InputLemmas.{same_error}
 use Rattle.xs_run.proofs.CertificateLaws.{file_refused, line_refused, file_accepted}
 use Rattle.xs_run.proofs.certificate.check_file.Goals as goal
 

@@ -2,7 +2,7 @@ use Rattle.std.proofs.Common.{rules, ◌<◌, ◌^◌, length, sym, subst, ◌�
 use Rattle.xs_cert.specs.Seen.{seen}
 use Rattle.xs_check.specs.Matter.{matter_of}
 use Rattle.xs_check.specs.Found.{IsJudged}
-use Rattle.xs_run.proofs.InputLemmas.{same_error, same_refusal}
+use Rattle.xs_loading.proofs.InputLemmas.{same_error, same_refusal}
 use Rattle.xs_run.proofs.CertificateLaws.{event_fits, event_accepted, event_not_accepted}
 use Rattle.xs_run.proofs.certificate.judge_certificate.Goals as goal
 

@@ -1,6 +1,6 @@
 use Rattle.std.proofs.Common.{◌∙◌}
-use Rattle.xs_run.specs.Statuses.{refusal_text}
-use Rattle.xs_run.proofs.OutcomeLemmas.{says_in_part}
+use Rattle.xs_loading.specs.Statuses.{refusal_text}
+use Rattle.xs_loading.proofs.SaidLaws.{says_in_part}
 use Rattle.xs_run.proofs.ending.refuse.Goals as goal
 
 pub returns-in-Ok-clause-part : goal.returns-in-Ok-clause-part

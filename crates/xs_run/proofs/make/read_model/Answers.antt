@@ -1,4 +1,4 @@
-use Rattle.xs_run.specs.Models.{IsWrongModel}
+use Rattle.xs_loading.specs.Models.{IsWrongModel}
 use Rattle.xs_run.proofs.GeneratedLaws.{refuses_none, text_length, text_not_wrong}
 use Rattle.xs_run.proofs.make.read_model.Goals as goal
 

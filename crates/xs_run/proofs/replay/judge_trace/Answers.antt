@@ -3,9 +3,9 @@ use Rattle.xs_scope.specs.ModelTree.{model_tree, flat_tree}
 use Rattle.xs_eval.specs.Named.{named_trace}
 use Rattle.xs_eval.specs.Stops.{Stops}
 use Rattle.xs_eval.specs.Replayed.{IsReplayed}
-use Rattle.xs_run.specs.declared.status.Why.TheVariants as why
+use Rattle.xs_loading.specs.declared.status.Why.TheVariants as why
 use Rattle.xs_run.specs.Replays.{reason_of}
-use Rattle.xs_run.proofs.InputLemmas.{same_error}
+use Rattle.xs_loading.proofs.InputLemmas.{same_error}
 use Rattle.xs_run.proofs.ReplayLemmas.{moment_told, as_many}
 use Rattle.xs_run.proofs.replay.judge_trace.Goals as goal
 

@@ -2,9 +2,10 @@ use Rattle.std.proofs.Common.{Err, IsErrOf, sym, ap, ◌∙◌}
 use Rattle.std.proofs.lemmas.Result.{err_from_is_err_and}
 use Rattle.xs_tree.specs.ProgramTree.{program_tree}
 use Rattle.xs_scope.specs.ModelTree.{flat_tree}
-use Rattle.xs_run.specs.declared.input.Stop.TheVariants as stop
-use Rattle.xs_run.proofs.InputLemmas.{same_error}
-use Rattle.xs_run.proofs.ReplayLemmas.{loaded_printable, loaded_symbols, loaded_evaluable, trace_refused, moment_refused, trace_reaches}
+use Rattle.xs_loading.specs.declared.input.Stop.TheVariants as stop
+use Rattle.xs_loading.proofs.InputLemmas.{same_error}
+use Rattle.xs_loading.proofs.LoadedLaws.{loaded_printable, loaded_symbols, loaded_evaluable}
+use Rattle.xs_run.proofs.ReplayLemmas.{trace_refused, moment_refused, trace_reaches}
 use Rattle.xs_run.proofs.replay.replay_file.Goals as goal
 
 pub load_trace-requires-clause-printable : goal.load_trace-requires-clause-printable

@@ -1,5 +1,5 @@
 use Rattle.std.proofs.Common.{length, sym, ap, ◌∙◌}
-use Rattle.xs_run.proofs.ReplayLemmas.{same_counts}
+use Rattle.xs_loading.proofs.LoadedLaws.{same_counts}
 use Rattle.xs_run.proofs.replay.replay_report.Goals as goal
 
 pub append_failed-requires-clause-length : goal.append_failed-requires-clause-length

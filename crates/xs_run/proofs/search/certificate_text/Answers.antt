@@ -1,5 +1,5 @@
 use Rattle.std.proofs.lemmas.Result.{IfOk-weaker}
-use Rattle.xs_run.proofs.Findings.{complete_answer, certificate_for}
+use Rattle.xs_case_search.proofs.Certifying.{complete_answer, certificate_for}
 use Rattle.xs_run.proofs.search.certificate_text.Goals as goal
 
 pub certify-requires-clause-model : goal.certify-requires-clause-model

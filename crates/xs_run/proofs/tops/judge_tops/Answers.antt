@@ -4,9 +4,9 @@ use Rattle.std.proofs.lemmas.List.{length-map}
 use Rattle.xs_tree.specs.ProgramTree.{program_tree}
 use Rattle.xs_tree.specs.Written.{tree_of}
 use Rattle.xs_extend.proofs.EachItem.{item_there}
-use Rattle.xs_run.specs.Cases.{IsTop, IsWrongTop}
+use Rattle.xs_loading.specs.Cases.{IsTop, IsWrongTop}
 use Rattle.xs_run.specs.Tables.{IsFirstNoTop}
-use Rattle.xs_run.proofs.Told.{refused_weaker}
+use Rattle.xs_loading.proofs.Told.{refused_weaker}
 use Rattle.xs_run.proofs.TableLemmas.{one_more, each_of}
 use Rattle.xs_run.proofs.tops.judge_tops.Goals as goal
 

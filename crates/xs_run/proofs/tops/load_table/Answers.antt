@@ -3,11 +3,11 @@ use Rattle.std.proofs.lemmas.Result.{err_from_is_err_and}
 use Rattle.xs_tree.specs.ProgramTree.{program_tree}
 use Rattle.xs_tree.specs.Written.{tree_of}
 use Rattle.xs_scope.specs.ModelTree.{model_tree}
-use Rattle.xs_run.specs.Cases.{HoldsTops}
-use Rattle.xs_run.specs.Loaded.{case_of}
-use Rattle.xs_run.specs.declared.input.Stop.TheVariants as stop
-use Rattle.xs_run.proofs.InputLemmas.{same_error}
-use Rattle.xs_run.proofs.OutcomeLemmas.{holds_case}
+use Rattle.xs_loading.specs.Cases.{HoldsTops}
+use Rattle.xs_loading.specs.Loaded.{case_of}
+use Rattle.xs_loading.specs.declared.input.Stop.TheVariants as stop
+use Rattle.xs_loading.proofs.InputLemmas.{same_error}
+use Rattle.xs_loading.proofs.LoadedLaws.{holds_case}
 use Rattle.xs_run.proofs.TableLemmas.{table_model_refused, table_faults_refused, table_tops_refused}
 use Rattle.xs_run.proofs.tops.load_table.Goals as goal
 

@@ -2,10 +2,10 @@ use Rattle.std.proofs.Common.{Err, IsErrOf, map, sym, ap, subst, ◌∙◌}
 use Rattle.std.proofs.lemmas.Result.{err_from_is_err_and}
 use Rattle.xs_tree.specs.ProgramTree.{program_tree}
 use Rattle.xs_tree.specs.Written.{tree_of}
-use Rattle.xs_run.specs.declared.input.Stop.TheVariants as stop
-use Rattle.xs_run.specs.Wrongs.{IfRefused}
+use Rattle.xs_loading.specs.declared.input.Stop.TheVariants as stop
+use Rattle.xs_loading.specs.Wrongs.{IfRefused}
 use Rattle.xs_run.specs.Tables.{AreTopTexts, IsWrongTops}
-use Rattle.xs_run.proofs.InputLemmas.{same_error}
+use Rattle.xs_loading.proofs.InputLemmas.{same_error}
 use Rattle.xs_run.proofs.TableLemmas.{refuses_tops_file, refuses_tops_bytes, holds_tops}
 use Rattle.xs_run.proofs.tops.load_tops.Goals as goal
 

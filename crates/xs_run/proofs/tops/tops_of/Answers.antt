@@ -9,12 +9,12 @@ use Rattle.xs_flattening.specs.Model.{IsFlatOf, EachBoth}
 use Rattle.xs_flattening.specs.ResolvedAt.{IsResolvedAt}
 use Rattle.xs_flattening.specs.Rules.{IsAccepted}
 use Rattle.xs_woven_tops.specs.Tops.{KeepsValue}
-use Rattle.xs_run.specs.Wrongs.{IfRefused}
-use Rattle.xs_run.specs.Cases.{IsTop}
-use Rattle.xs_run.specs.Loaded.{case_of}
+use Rattle.xs_loading.specs.Wrongs.{IfRefused}
+use Rattle.xs_loading.specs.Cases.{IsTop}
+use Rattle.xs_loading.specs.Loaded.{case_of}
 use Rattle.xs_run.specs.Tables.{IsWrongList, IsFirstNoTop, IsWrongTops, wrong_list, wrong_event}
-use Rattle.xs_run.proofs.Told.{refused_weaker}
-use Rattle.xs_run.proofs.TopLaws.{names_over}
+use Rattle.xs_loading.proofs.Told.{refused_weaker}
+use Rattle.xs_loading.proofs.TopLaws.{names_over}
 use Rattle.xs_run.proofs.TableLemmas.{each_map, each_weaker, are_events}
 use Rattle.xs_run.proofs.tops.tops_of.Goals as goal
 

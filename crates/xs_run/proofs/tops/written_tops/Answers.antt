@@ -3,7 +3,7 @@ use Rattle.std.proofs.lemmas.Result.{err_from_is_err_and}
 use Rattle.std.proofs.lemmas.List.{length-map}
 use Rattle.xs_tree.specs.Written.{tree_of}
 use Rattle.xs_run.specs.Tables.{IsListText, IsWrongList, no_list, long_list}
-use Rattle.xs_run.proofs.Told.{if_refused}
+use Rattle.xs_loading.proofs.Told.{if_refused}
 use Rattle.xs_run.proofs.tops.written_tops.Goals as goal
 
 pub returns-in_err-written-clause-wrong : goal.returns-in_err-written-clause-wrong

@@ -4,8 +4,8 @@ use Rattle.xs_scope.specs.ModelTree.{model_tree}
 use Rattle.xs_trace_text.specs.Given.{BytesGive}
 use Rattle.xs_report.specs.Told.{told_trace}
 use Rattle.xs_report.specs.Faults.{IsFaultOf}
-use Rattle.xs_run.specs.declared.input.Stop.TheVariants as stop
-use Rattle.xs_run.proofs.InputLemmas.{same_error}
+use Rattle.xs_loading.specs.declared.input.Stop.TheVariants as stop
+use Rattle.xs_loading.proofs.InputLemmas.{same_error}
 use Rattle.xs_run.proofs.ReplayLemmas.{refuses_trace_file, refuses_trace_text, holds_trace}
 use Rattle.xs_run.proofs.TraceLaws.{fit_trace}
 use Rattle.xs_run.proofs.trace.load_trace.Goals as goal

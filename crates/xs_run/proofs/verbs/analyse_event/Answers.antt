@@ -1,9 +1,10 @@
 use Rattle.std.proofs.Common.{Err, inr, ap, ◌∙◌}
 use Rattle.xs_run.specs.declared.asked.Asked.TheVariants as ask
 use Rattle.xs_run.specs.Commanded.{command_of}
-use Rattle.xs_run.specs.Searches.{analysed_case, analysed_size}
+use Rattle.xs_run.specs.Findings.{analysed_case, analysed_size}
 use Rattle.xs_run.specs.Runs.{analyses, CommandComesTo, IsDelivered}
-use Rattle.xs_run.proofs.OutcomeLemmas.{answers_prepared, stops_at_prepared, finished_answers, failed_finish, not_desk, rose_later, answers_stop, leaves_stop}
+use Rattle.xs_run.proofs.OutcomeLemmas.{answers_prepared, stops_at_prepared, finished_answers, failed_finish, not_desk, answers_stop, leaves_stop}
+use Rattle.xs_loading.proofs.SaidLaws.{rose_later}
 use Rattle.xs_run.proofs.verbs.analyse_event.Goals as goal
 
 pub returns-in-Ok-clause-answered : goal.returns-in-Ok-clause-answered

@@ -1,8 +1,8 @@
 use Rattle.std.proofs.Common.{Err, IsErrOf, sym, ap, ◌∙◌}
 use Rattle.std.proofs.lemmas.Result.{err_from_is_err_and}
-use Rattle.xs_run.specs.declared.input.Stop.TheVariants as stop
-use Rattle.xs_run.proofs.InputLemmas.{same_error}
-use Rattle.xs_run.proofs.EventLemmas.{no_analysis, an_analysis}
+use Rattle.xs_loading.specs.declared.input.Stop.TheVariants as stop
+use Rattle.xs_loading.proofs.InputLemmas.{same_error}
+use Rattle.xs_run.proofs.AnalysisLemmas.{no_analysis, an_analysis}
 use Rattle.xs_run.proofs.verbs.prepare_analysis.Goals as goal
 
 pub returns-in_err-loaded-clause-refused : goal.returns-in_err-loaded-clause-refused

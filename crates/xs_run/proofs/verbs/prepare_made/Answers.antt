@@ -1,7 +1,7 @@
 use Rattle.std.proofs.Common.{sym, ap, ◌∙◌}
 use Rattle.xs_tree.specs.Text.{program_text}
 use Rattle.xs_fei.specs.InstructionText.{instructions_text}
-use Rattle.xs_run.specs.Searches.{case_in}
+use Rattle.xs_loading.specs.LoadedEvents.{case_in}
 use Rattle.xs_run.specs.Runs.{is_made}
 use Rattle.xs_run.proofs.verbs.prepare_made.Goals as goal
 

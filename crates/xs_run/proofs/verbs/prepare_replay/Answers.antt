@@ -2,11 +2,12 @@ use Rattle.std.proofs.Common.{Err, IsErrOf, sym, ap, ◌∙◌}
 use Rattle.std.proofs.lemmas.Result.{err_from_is_err_and, IfOk-weaker}
 use Rattle.xs_tree.specs.ProgramTree.{program_tree}
 use Rattle.xs_scope.specs.ModelTree.{flat_tree}
-use Rattle.xs_run.specs.Loaded.{case_of}
+use Rattle.xs_loading.specs.Loaded.{case_of}
 use Rattle.xs_run.specs.Runs.{refuses, says}
-use Rattle.xs_run.specs.declared.input.Stop.TheVariants as stop
-use Rattle.xs_run.proofs.InputLemmas.{same_error}
-use Rattle.xs_run.proofs.OutcomeLemmas.{replays_no_model, replays_no_faults, holds_case, replays_no_top, replays_trace}
+use Rattle.xs_loading.specs.declared.input.Stop.TheVariants as stop
+use Rattle.xs_loading.proofs.InputLemmas.{same_error}
+use Rattle.xs_run.proofs.OutcomeLemmas.{replays_no_model, replays_no_faults, replays_no_top, replays_trace}
+use Rattle.xs_loading.proofs.LoadedLaws.{holds_case}
 use Rattle.xs_run.proofs.verbs.prepare_replay.Goals as goal
 
 pub returns-in_err-model-clause-refused : goal.returns-in_err-model-clause-refused

@@ -3,7 +3,8 @@ use Rattle.xs_run.specs.declared.asked.Asked.TheVariants as ask
 use Rattle.xs_run.specs.Commanded.{command_of}
 use Rattle.xs_run.specs.Tables.{tabulated_case, tabulated_events}
 use Rattle.xs_run.specs.Runs.{tabulates, CommandComesTo, IsDelivered}
-use Rattle.xs_run.proofs.OutcomeLemmas.{answers_prepared, stops_at_prepared, finished_answers, failed_finish, no_column_desk, rose_later, answers_stop, leaves_stop}
+use Rattle.xs_run.proofs.OutcomeLemmas.{answers_prepared, stops_at_prepared, finished_answers, failed_finish, no_column_desk, answers_stop, leaves_stop}
+use Rattle.xs_loading.proofs.SaidLaws.{rose_later}
 use Rattle.xs_run.proofs.verbs.tabulate.Goals as goal
 
 pub returns-in-Ok-clause-answered : goal.returns-in-Ok-clause-answered

@@ -1,0 +1,2 @@
+pub mod Analysable
+pub mod Certifying

@@ -1,0 +1,2 @@
+pub mod CertificateFileLaws
+pub mod OneCertificate

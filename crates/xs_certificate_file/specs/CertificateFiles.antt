@@ -1,0 +1,32 @@
+-- What the file of a certificate holds, and what is wrong with it.
+use Rattle.std.specs.Prelude.{◌≡◌, ℕ, List}
+use Rattle.xs_desk.specs.declared.files.NamedFile.{NamedFile}
+use Rattle.xs_tree.specs.ProgramTree.{Text}
+use Rattle.xs_certificate.specs.Certificate.{Certificate}
+use Rattle.xs_certificate.specs.CertificateText.{SpellsCertificate, IsBadLine, EndsBefore}
+use Rattle.xs_loading.specs.declared.status.InputFault.{InputFault}
+use Rattle.xs_loading.specs.declared.status.Part.TheVariants as part
+use Rattle.xs_loading.specs.declared.status.Objection.TheVariants as objection
+use Rattle.xs_loading.specs.declared.status.Refusal.{Refusal}
+use Rattle.xs_loading.specs.declared.status.Refusal.TheVariants as refusal
+use Rattle.xs_loading.specs.Tasks.{IsRefusedAbove, HasAtMost}
+
+-- what is wrong first with bytes that spell no certificate, as it is told: a line, from 1, that is wrong or that is missing
+abbrev pub text_fault : ℕ → ℕ → InputFault
+text_fault number line = record { part = part.Read; number = number; place = line }
+
+pub data IsWrongText (bytes : List ℕ) (fault : InputFault) : Type 0 where
+  a_bad_line : (n : ℕ) → fault ≡ text_fault 1 n → IsBadLine bytes n → IsWrongText bytes fault
+  a_missing_line : (n : ℕ) → fault ≡ text_fault 2 n → EndsBefore bytes n → IsWrongText bytes fault
+
+-- the file of a certificate is refused, or its text
+pub data RefusesCertificate (files : List NamedFile) (name : Text) (r : Refusal) : Type 0 where
+  certificate_file : (fault : InputFault) → r ≡ refusal.NotAccepted (objection.Cert fault) → IsRefusedAbove 268435456 files name fault → RefusesCertificate files name r
+  certificate_bytes : (bytes : List ℕ) (fault : InputFault) → r ≡ refusal.NotAccepted (objection.Cert fault) → HasAtMost 268435456 files name bytes → IsWrongText bytes fault →
+      RefusesCertificate files name r
+
+-- the file holds a text that spells this certificate
+pub record HoldsCertificate (files : List NamedFile) (name : Text) (a : Certificate) : Type 0 where
+  pub bytes : List ℕ
+  pub has : HasAtMost 268435456 files name bytes
+  pub spells : SpellsCertificate bytes a

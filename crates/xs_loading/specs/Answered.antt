@@ -1,0 +1,34 @@
+-- What is said of a case, over all verbs: its faults and its bits; and told files and said bytes.
+use Rattle.std.specs.Prelude.{◌≡◌, ℕ, List, ◌++◌, Option, Some, None, length, codes}
+use Rattle.std.specs.Fmt.{decimal}
+use Rattle.xs_desk.specs.declared.files.NamedFile.{NamedFile}
+use Rattle.xs_tree.specs.ProgramTree.{Text}
+use Rattle.xs_kinds.specs.Costs.{state_bits}
+use Rattle.xs_weave.specs.Faults.{Fault}
+use Rattle.xs_loading.specs.Reports.{fault_lines}
+use Rattle.xs_loading.specs.Cases.{Case, whole_of}
+use Rattle.xs_desk.specs.Desk.{told_with, WritesPrefix}
+
+-- the number of the faults and their lines
+abbrev pub faults_text : List Fault → Text
+faults_text faults = codes "faults " ++ (decimal (length faults) ++ (codes "\n" ++ fault_lines 1 faults))
+
+-- the bits of a state with history
+abbrev pub bits_of : Case → ℕ
+bits_of c = state_bits (whole_of c)
+
+-- Told files and said bytes.
+abbrev pub Told : Type 0
+Told = Option (List NamedFile)
+
+abbrev pub Said : Type 0
+Said = Option (List ℕ)
+
+-- the files once the text was written, where there is one; and a part of that
+abbrev pub told_maybe : Told → Text → Option (List ℕ) → Told
+told_maybe told name None = told
+told_maybe told name (Some bytes) = told_with told name bytes
+
+abbrev pub WritesPrefixMaybe : Told → Told → Text → Option (List ℕ) → Type 0
+WritesPrefixMaybe before after name None = after ≡ before
+WritesPrefixMaybe before after name (Some bytes) = WritesPrefix before after name bytes

@@ -1,0 +1,13 @@
+pub mod Statuses
+pub mod Wrongs
+pub mod Reports
+pub mod Models
+pub mod Wholes
+pub mod Inputs
+pub mod Cases
+pub mod Tasks
+pub mod Answered
+pub mod Events
+pub mod Loaded
+pub mod LoadedEvents
+pub mod Tops

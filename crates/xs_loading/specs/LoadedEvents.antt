@@ -1,0 +1,24 @@
+-- What the work has in memory once a top event is loaded: the case, and that the event is one of it.
+use Rattle.xs_tree.specs.Tree.{Tree}
+use Rattle.xs_tree.specs.ProgramTree.{Text, ProgramTree, program_tree}
+use Rattle.xs_scope.specs.ModelTree.{flat_tree}
+use Rattle.xs_flattening.specs.Flat.{FlatLeaf, FlatModel}
+use Rattle.xs_loading.specs.declared.loaded.LoadedCase.{LoadedCase}
+use Rattle.xs_loading.specs.declared.event.LoadedEvent.{LoadedEvent}
+use Rattle.xs_loading.specs.Models.{IsLawful}
+use Rattle.xs_loading.specs.Cases.{Case}
+use Rattle.xs_loading.specs.Loaded.{case_of, IsLoaded, IsTopIn}
+
+-- the case is the extension of a lawful program, and the expression a top event of it that the word spells
+pub record IsAnalysable (p : ProgramTree) (l : LoadedCase) (word : Text) (tree : Tree FlatLeaf) : Type 0 where
+  pub flat : FlatModel
+  pub lawful : IsLawful p flat
+  pub loaded : IsLoaded p l
+  pub event : IsTopIn (case_of p l) word tree
+
+-- the case of what was loaded with a top event
+abbrev pub case_in : LoadedEvent → Case
+case_in l = case_of (program_tree l.model.program) l.case
+
+abbrev pub IsEvent : Text → LoadedEvent → Type 0
+IsEvent word l = IsAnalysable (program_tree l.model.program) l.case word (flat_tree l.top)

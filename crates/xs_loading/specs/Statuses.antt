@@ -1,0 +1,91 @@
+-- How a run ends: its number, and the line that a refusal says.
+use Rattle.std.specs.Prelude.{ℕ, ℤ, pos, ◌++◌, codes}
+use Rattle.std.specs.Fmt.{decimal}
+use Rattle.xs_tree.specs.ProgramTree.{Text}
+use Rattle.xs_words.specs.declared.fault.WordFault.{WordFault}
+use Rattle.xs_words.specs.Seen.{rule_of, place_of}
+use Rattle.xs_loading.specs.declared.status.Part.{Part}
+use Rattle.xs_loading.specs.declared.status.Part.TheVariants as part
+use Rattle.xs_loading.specs.declared.status.InputFault.{InputFault}
+use Rattle.xs_loading.specs.declared.status.Why.{Why}
+use Rattle.xs_loading.specs.declared.status.Why.TheVariants as why
+use Rattle.xs_loading.specs.declared.status.Objection.TheVariants as objection
+use Rattle.xs_loading.specs.declared.status.Refusal.{Refusal}
+use Rattle.xs_loading.specs.declared.status.Refusal.TheVariants as refusal
+use Rattle.xs_loading.specs.declared.status.Status.{Status}
+use Rattle.xs_loading.specs.declared.status.Status.TheVariants as status
+
+abbrev pub number_of : Status → ℤ
+number_of status.Done = pos 0
+number_of (status.Bounded k) = pos 1
+number_of (status.Words fault) = pos 2
+number_of (status.Model fault) = pos 3
+number_of (status.Faults fault) = pos 4
+number_of (status.Top fault) = pos 5
+number_of (status.NotAccepted o) = pos 6
+number_of status.Desk = pos 7
+number_of status.Memory = pos 8
+
+abbrev pub status_of : Refusal → Status
+status_of (refusal.Words fault) = status.Words fault
+status_of (refusal.Model fault) = status.Model fault
+status_of (refusal.Faults fault) = status.Faults fault
+status_of (refusal.Top fault) = status.Top fault
+status_of (refusal.NotAccepted o) = status.NotAccepted o
+
+abbrev pub part_text : Part → Text
+part_text part.Absent = codes "absent "
+part_text part.Length = codes "length "
+part_text part.Lex = codes "lex "
+part_text part.Parse = codes "parse "
+part_text part.Flat = codes "flat "
+part_text part.Kinds = codes "type "
+part_text part.Weave = codes "weave "
+part_text part.Effect = codes "effect "
+part_text part.Count = codes "count "
+part_text part.Read = codes "read "
+
+-- the part, the number of its rule, and the place
+abbrev pub fault_text : InputFault → Text
+fault_text fault = part_text fault.part ++ (decimal fault.number ++ (codes " at " ++ (decimal fault.place ++ codes "\n")))
+
+-- the number of the rule that words break, and the place
+abbrev pub words_text : WordFault → Text
+words_text fault = decimal (rule_of fault) ++ (codes " at " ++ (decimal (place_of fault) ++ codes "\n"))
+
+-- why a moment is not accepted
+abbrev pub why_text : Why → Text
+why_text why.First = codes " first\n"
+why_text why.Step = codes " step\n"
+why_text why.Top = codes " top\n"
+
+-- the moment of a number is not accepted
+abbrev pub moment_text : ℕ → Why → Text
+moment_text i w = codes "not accepted moment " ++ (decimal i ++ why_text w)
+
+-- the rule of this number is broken at a line of a certificate
+abbrev pub line_text : ℕ → ℕ → Text
+line_text line rule = codes "not accepted line " ++ (decimal line ++ (codes " rule " ++ (decimal rule ++ codes "\n")))
+
+-- the one line of a refusal
+abbrev pub refusal_text : Refusal → Text
+refusal_text (refusal.Words fault) = codes "refused words " ++ words_text fault
+refusal_text (refusal.Model fault) = codes "refused model " ++ fault_text fault
+refusal_text (refusal.Faults fault) = codes "refused faults " ++ fault_text fault
+refusal_text (refusal.Top fault) = codes "refused top " ++ fault_text fault
+refusal_text (refusal.NotAccepted (objection.Trace fault)) = codes "refused trace " ++ fault_text fault
+refusal_text (refusal.NotAccepted (objection.Cert fault)) = codes "refused cert " ++ fault_text fault
+refusal_text (refusal.NotAccepted (objection.Moment i w)) = moment_text i w
+refusal_text (refusal.NotAccepted (objection.Line line rule)) = line_text line rule
+
+-- the file is not there
+abbrev pub absent : InputFault
+absent = record { part = part.Absent; number = 1; place = 0 }
+
+-- the file has more than 1,048,576 bytes
+abbrev pub too_long : InputFault
+too_long = record { part = part.Length; number = 1; place = 1048576 }
+
+-- the text of a top event has more than 65,536 bytes
+abbrev pub top_too_long : InputFault
+top_too_long = record { part = part.Length; number = 1; place = 65536 }

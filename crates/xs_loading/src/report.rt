@@ -1,0 +1,54 @@
+// What is said once the extension is written, and the names of faults.
+ghost use Rattle.std.specs.Prelude.{◌≡◌, ◌++◌, IfOk, OnOk, codes, map};
+ghost use Rattle.xs_extend.specs.WovenFaults.{place_of, fault_tree};
+ghost use Rattle.xs_report.specs.FaultText.{name_of, faults_text};
+ghost use Rattle.xs_loading.specs.Reports.{name_text, place_text, parts_text};
+
+use std::alloc::Global;
+use xs_extend::WovenFault;
+use xs_flat::FaultList;
+use xs_report::print_faults;
+use xs_value::{ByteList, Dotted, Name, OutOfMemory};
+
+/// The number of faults, each fault with its number and name, and that the extension is written.
+pub(crate) fn report(alloc: Global, faults: &FaultList) -> Result<ByteList, OutOfMemory>
+    ensures { IfOk result (λ text. text ≡ faults_text (map name_of faults.now) ++ codes "extended\n") }
+{
+    let mut text = print_faults(alloc, faults)?;
+    text.append(b"extended\n")?;
+    Ok(text)
+}
+
+/// Appends a fault's name: its path, slice and mode, with dots between.
+#[tactic(auto, using(crate::proofs::ReportLaws::report_rules))]
+pub fn append_name(text: &mut ByteList, fault: &WovenFault) -> Result<(), OutOfMemory>
+    ensures { OnOk result (text.new ≡ text.old ++ name_text (fault_tree fault.now)) }
+{
+    append_path(text, &fault.path)?;
+    text.append(fault.slice.text())?;
+    text.append(b".")?;
+    text.append(fault.mode.text())
+}
+
+/// Appends the path of an instance, which `main` does not have, with a dot after each part.
+#[tactic(auto, using(crate::proofs::ReportLaws::report_rules))]
+fn append_path(text: &mut ByteList, path: &Option<Dotted>) -> Result<(), OutOfMemory>
+    ensures { OnOk result (text.new ≡ text.old ++ place_text (place_of path.now)) }
+{
+    match path {
+        Some(path) => append_parts(text, path.parts()),
+        None => Ok(()),
+    }
+}
+
+/// Appends names with a dot after each.
+#[tactic(auto, using(crate::proofs::ReportLaws::report_rules))]
+fn append_parts(text: &mut ByteList, parts: &[Name]) -> Result<(), OutOfMemory>
+    ensures { OnOk result (text.new ≡ text.old ++ parts_text parts.now) }
+{
+    for part in parts {
+        text.append(part.text())?;
+        text.append(b".")?;
+    }
+    Ok(())
+}
