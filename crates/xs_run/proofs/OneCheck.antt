@@ -58,17 +58,17 @@ module _ (files : List NamedFile) (model faults top cert : Text) where
   one_check_refusal r s (no_event bad) (its_certificate c e tree held word is line) = absurd (event_not_refused files model faults top c e r held word bad)
   one_check_refusal r s (its_certificate c e tree held word is line) (no_event bad) = absurd (event_not_refused files model faults top c e s held word bad)
   one_check_refusal r s (its_certificate c e t held word is bad) (its_certificate d f u other word' is' also) =
-      one_cert_refusal files c t cert r s bad (moved (λ k v. CertRefuses files k v cert s) c d e f t u held word is other word' is' also)
+      one_cert_refusal files c t cert r s bad (moved files model faults top cert (λ k v. CertRefuses files k v cert s) c d e f t u held word is other word' is' also)
 
   pub check_not_refused : (report : Text) (r : Refusal) → CheckSays files model faults top cert report → CheckRefuses files model faults top cert r → ⊥
   check_not_refused report r h (no_event bad) = event_not_refused files model faults top h.c h.event r h.holds h.is_event bad
   check_not_refused report r h (its_certificate d f u other word is bad) =
-      said_not_refused files h.c h.tree cert report r h.says (moved (λ k v. CertRefuses files k v cert r) h.c d h.event f h.tree u h.holds h.is_event h.is_tree other word is bad)
+      said_not_refused files h.c h.tree cert report r h.says (moved files model faults top cert (λ k v. CertRefuses files k v cert r) h.c d h.event f h.tree u h.holds h.is_event h.is_tree other word is bad)
 
   pub one_check_report : (report other : Text) → CheckSays files model faults top cert report → CheckSays files model faults top cert other → report ≡ other
   one_check_report report other h g =
       one_cert_report files h.c h.tree cert report other h.says
-      (moved (λ k v. CertSays files k v cert other) h.c g.c h.event g.event h.tree g.tree h.holds h.is_event h.is_tree g.holds g.is_event g.is_tree g.says)
+      (moved files model faults top cert (λ k v. CertSays files k v cert other) h.c g.c h.event g.event h.tree g.tree h.holds h.is_event h.is_tree g.holds g.is_event g.is_tree g.says)
 
   pub check_comes_to_one : (o q : Outcome) → CheckComesTo files model faults top cert o → CheckComesTo files model faults top cert q → o ≡ q
   check_comes_to_one o q (refuses_check r bad) (refuses_check s also) = ap refuses (one_check_refusal r s bad also)
