@@ -62,7 +62,7 @@ fn main(rt: HostRuntime) -> ExitCode {
     let alloc = rt.alloc();
     let done = match env::args(&rt) {
         Ok(args) => match args.skip(1).collect::<Vec<String>>(alloc) {
-            Ok(words) => measured(&rt, alloc, &words),
+            Ok(words) => measure(&rt, alloc, &words),
             Err(AllocError) => Err(Stop::Memory),
         },
         Err(error) => Err(Stop::from(error)),
@@ -84,19 +84,19 @@ enum Measured {
 }
 
 /// Measures the system of the words, or the four systems.
-fn measured<R: Print>(rt: &R, alloc: Global, words: &[String]) -> Result<(), Stop> {
+fn measure<R: Print>(rt: &R, alloc: Global, words: &[String]) -> Result<(), Stop> {
     if let Some(system) = system_in(words) {
-        let visits = visits(alloc, system)?;
+        let visits = count_visits(alloc, system)?;
         let line = format!(in alloc; "visited {} listed {}\n", visits.visited, visits.listed)?;
         rt.write_all(line.as_bytes())?;
         return Ok(());
     }
     for stages in [4u32, 8, 16] {
-        let told = told(visits(alloc, Measured::Rails(1, stages))?);
+        let told = told(count_visits(alloc, Measured::Rails(1, stages))?);
         let line = format!(in alloc; "rails of {stages} stages: {told}\n")?;
         rt.write_all(line.as_bytes())?;
     }
-    let told = told(visits(alloc, Measured::Ring(40))?);
+    let told = told(count_visits(alloc, Measured::Ring(40))?);
     let line = format!(in alloc; "ring of 40 cells: {told}\n")?;
     rt.write_all(line.as_bytes())?;
     Ok(())
@@ -125,7 +125,7 @@ fn system_in(words: &[String]) -> Option<Measured> {
 }
 
 /// What the search over a system visits.
-fn visits(alloc: Global, system: Measured) -> Result<Visits, OutOfMemory> {
+fn count_visits(alloc: Global, system: Measured) -> Result<Visits, OutOfMemory> {
     match system {
         Measured::Rails(number, stages) if stages <= 64 => visits_of(alloc, number, stages),
         Measured::Rails(_, _) => Err(OutOfMemory),
