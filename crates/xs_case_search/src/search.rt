@@ -1,5 +1,5 @@
 // The search of a case for the minimal cut sets of a top event.
-ghost use Rattle.std.specs.Prelude.{◌≡◌, ◌<◌, ◌^◌, IfOk, OnOk, length, map};
+ghost use Rattle.std.specs.Prelude.{◌≡◌, ◌<◌, ◌^◌, IfOk, IsOk, OnOk, length, map};
 ghost use Rattle.xs_scope.specs.ModelTree.{model_tree, mode_of, flat_tree};
 ghost use Rattle.xs_flattening.specs.History.{with_history};
 ghost use Rattle.xs_encoding.specs.Bits.{state_of, inputs_of};
@@ -34,7 +34,8 @@ pub fn size_of(size: Option<u32>, faults: usize) -> u32
 
 /// Want of memory where a flat model has more symbols than a search has numbers for.
 fn count_symbols(case: &LoadedCase) -> Result<(), OutOfMemory>
-    ensures { OnOk result (length case.now.limited.typed.model.symbols < 2 ^ 31) }
+    ensures few { OnOk result (length case.now.limited.typed.model.symbols < 2 ^ 31) }
+    ensures fits { length case.now.limited.typed.model.symbols < 2 ^ 31 → IsOk result }
 {
     if case.limited.typed.model().symbols.len() >= MOST_SYMBOLS {
         return Err(OutOfMemory);

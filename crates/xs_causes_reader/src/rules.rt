@@ -1,12 +1,12 @@
 //! The rules of causes, over the faults of an extension and the names of the woven program.
 
-ghost use Rattle.std.specs.Prelude.{◌≡◌, None, [], false, length, map, flat_map, option_map, IfOk, IfErr, OnOk};
+ghost use Rattle.std.specs.Prelude.{◌≡◌, ◌^◌, ◌<◌, None, [], true, false, length, map, flat_map, option_map, IfOk, IfErr, IsOk, OnOk};
 ghost use Rattle.std.specs.List.{list_any};
 ghost use Rattle.xs_tree.specs.Texts.{same_text};
 ghost use Rattle.xs_tree.specs.ProgramTree.{program_tree};
 ghost use Rattle.xs_flattening.specs.Model.{EachBoth};
 ghost use Rattle.xs_weave_rules.specs.Keyed.{with_texts};
-ghost use Rattle.xs_causes.specs.CauseRules.{names_of_cause};
+ghost use Rattle.xs_causes.specs.CauseRules.{names_of_cause, is_path_among};
 ghost use Rattle.xs_staging.specs.CauseOf.{cause_of};
 ghost use Rattle.xs_causes_reader.specs.FaultPaths.{paths_of};
 ghost use Rattle.xs_causes_reader.specs.declared.written.Written.{Written};
@@ -74,7 +74,8 @@ fn judge_causes(
 
 /// A count as a number of 32 bits. A larger one counts as want of memory.
 fn number_of(count: usize) -> Result<u32, OutOfMemory>
-    ensures { IfOk result (λ number. number ≡ count) }
+    ensures same { IfOk result (λ number. number ≡ count) }
+    ensures fits { count < 2 ^ 32 → IsOk result }
 {
     match u32::try_from(count) {
         Ok(number) => Ok(number),
@@ -182,7 +183,8 @@ fn numbered_cause(alloc: Global, faults: &[Fault], cause: &Written) -> Result<Ca
 
 /// A number of 32 bits.
 fn small(number: u64) -> Result<u32, OutOfMemory>
-    ensures { IfOk result (λ made. made ≡ number) }
+    ensures same { IfOk result (λ made. made ≡ number) }
+    ensures fits { number < 2 ^ 32 → IsOk result }
 {
     match u32::try_from(number) {
         Ok(number) => Ok(number),
@@ -204,7 +206,8 @@ fn strikes_of(alloc: Global, faults: &[Fault], names: &[NameList]) -> Result<Fau
 /// The number of the fault with this name. A name of no fault, which a cause that breaks no rule does not have, is want of
 /// memory.
 fn fault_named(faults: &[Fault], name: &NameList) -> Result<u32, OutOfMemory>
-    ensures { IfOk result (IsNumberOf (paths_of faults.now) name.now) }
+    ensures number { IfOk result (IsNumberOf (paths_of faults.now) name.now) }
+    ensures found { is_path_among (paths_of faults.now) name.now ≡ true → length faults.now < 2 ^ 32 → IsOk result }
 {
     for (place, fault) in faults.iter().enumerate() {
         if is_same_path(fault.name.parts(), name.as_slice()) {

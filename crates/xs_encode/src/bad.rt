@@ -1,6 +1,6 @@
 //! The clause list of a model's bad states.
 
-ghost use Rattle.std.specs.Prelude.{◌≡◌, ◌≤◌, ◌-◌, ◌+◌, ◌*◌, ◌^◌, ◌++◌, IfOk, OnOk, length, map};
+ghost use Rattle.std.specs.Prelude.{◌≡◌, ◌≤◌, ◌-◌, ◌+◌, ◌*◌, ◌^◌, ◌++◌, IfOk, IsOk, OnOk, length, map};
 ghost use Rattle.std.specs.List.{range_with_len};
 ghost use Rattle.xs_tree.specs.Trace.{Each};
 ghost use Rattle.xs_scope.specs.ModelTree.{model_tree, flat_tree};
@@ -107,7 +107,8 @@ fn few(alloc: Global, g: &mut Gates, history: &[Lit], size: u32) -> Result<(), O
 
 /// Counters of so many faults still have their variables.
 fn check_counters(g: &Gates, faults: usize, size: u32) -> Result<(), OutOfMemory>
-    ensures { OnOk result (g.now.free + 4 * (size + 1) * (faults + 1) ≤ 2 ^ 31) }
+    ensures room { OnOk result (g.now.free + 4 * (size + 1) * (faults + 1) ≤ 2 ^ 31) }
+    ensures fits { faults ≤ 4096 → size ≤ 4096 → g.now.free + 4 * (size + 1) * (faults + 1) ≤ 2 ^ 31 → IsOk result }
 {
     if faults > 4096 || size > 4096 {
         return Err(OutOfMemory);

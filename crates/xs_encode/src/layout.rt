@@ -1,6 +1,6 @@
 //! Which variables of the clause lists are the bits of a model's variables.
 
-ghost use Rattle.std.specs.Prelude.{◌≡◌, ◌≤◌, ◌<◌, ◌+◌, ◌^◌, pos, None, Some, map, IfOk, OnOk};
+ghost use Rattle.std.specs.Prelude.{◌≡◌, ◌≤◌, ◌<◌, ◌+◌, ◌^◌, pos, None, Some, map, IfOk, IsOk, OnOk};
 ghost use Rattle.xs_kinds.specs.Costs.{width_of, width_in};
 ghost use Rattle.xs_types.specs.Types.{widened, spread};
 ghost use Rattle.xs_scope.specs.ModelTree.{model_tree, role_of};
@@ -152,6 +152,7 @@ impl Places {
     fn check(self) -> Result<(), OutOfMemory>
         ensures state { OnOk result (self.state < 2 ^ 32) }
         ensures input { OnOk result (self.input < 2 ^ 32) }
+        ensures fits { self.state < 2 ^ 32 → self.input < 2 ^ 32 → IsOk result }
     {
         if self.state < 4294967296 && self.input < 4294967296 {
             Ok(())
@@ -166,6 +167,7 @@ pub(crate) fn input_bits(t: &Typed) -> Result<u32, OutOfMemory>
     requires { IsEncodable (model_tree t.now.model) }
     ensures bits { IfOk result (λ n. n ≡ input_bits (model_tree t.now.model)) }
     ensures few { IfOk result (λ n. n ≤ 2 ^ 31) }
+    ensures fits { input_bits (model_tree t.now.model) ≤ 2 ^ 31 → IsOk result }
 {
     let mut bits: u64 = 0;
     for i in 0..t.model().variables.len() {

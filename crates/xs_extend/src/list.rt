@@ -1,6 +1,6 @@
 //! The faults with the numbers that they have in the woven program's flat model.
 
-ghost use Rattle.std.specs.Prelude.{◌≡◌, ◌↔◌, ◌∷◌, ◌++◌, [], ℕ, IfOk, OnOk, Some, IsTrue, slice_get};
+ghost use Rattle.std.specs.Prelude.{◌≡◌, ◌↔◌, ◌∷◌, ◌++◌, ◌^◌, ◌<◌, [], ℕ, IfOk, IsOk, OnOk, Some, IsTrue, slice_get};
 ghost use Rattle.xs_tree.specs.Trace.{Each};
 ghost use Rattle.xs_tree.specs.ProgramTree.{Text};
 ghost use Rattle.xs_effects.specs.AddedNames.{mode_variable as mode_variable_of, mode_symbol as mode_symbol_of};
@@ -182,7 +182,8 @@ impl<'a> Symbols<'a> {
 
 /// A place in a list as a number of 32 bits. A longer list counts as want of memory.
 fn number_of(place: usize) -> Result<u32, OutOfMemory>
-    ensures { IfOk result (λ number. number ≡ place) }
+    ensures same { IfOk result (λ number. number ≡ place) }
+    ensures fits { place < 2 ^ 32 → IsOk result }
 {
     match u32::try_from(place) {
         Ok(number) => Ok(number),

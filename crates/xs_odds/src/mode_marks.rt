@@ -1,6 +1,6 @@
 //! The marks of modes as probabilities in units, and the first mode whose mark is none.
 
-ghost use Rattle.std.specs.Prelude.{◌≡◌, ◌≤◌, ◌⊎◌, ◌++◌, flat_map, map, None, IfOk, IfErr, OnOk};
+ghost use Rattle.std.specs.Prelude.{◌≡◌, ◌^◌, ◌<◌, ◌≤◌, ◌⊎◌, ◌++◌, flat_map, map, None, IfOk, IfErr, OnOk};
 ghost use Rattle.xs_tree.specs.ProgramTree.{ProgramTree};
 ghost use Rattle.xs_tree.specs.Texts.{same_text};
 ghost use Rattle.xs_fei.specs.Instructions.{instruction_tree, extension_tree, slice_tree, mode_tree};
@@ -89,7 +89,8 @@ fn judged(first: Option<(usize, MarkFault)>) -> Result<(), OddsFault>
 
 /// The fault of an item. More than 2^32 items are too many to be told.
 fn wrong_at(fault: MarkFault, number: usize) -> OddsFault
-    ensures { IsWant result ⊎ (result ≡ fault_at_item fault number) }
+    ensures told { IsWant result ⊎ (result ≡ fault_at_item fault number) }
+    ensures fits { number < 2 ^ 32 → result ≡ fault_at_item fault number }
 {
     match u32::try_from(number) {
         Ok(item) => fault_at(fault, item),

@@ -1,7 +1,7 @@
 //! A model with the history of its faults and two more booleans, of which each tells that one of two faults came before the
 //! other.
 
-ghost use Rattle.std.specs.Prelude.{◌≡◌, ◌≢◌, ◌≤◌, length, map, IfOk, OnOk};
+ghost use Rattle.std.specs.Prelude.{◌≡◌, ◌≢◌, ◌^◌, ◌<◌, ◌≤◌, length, map, IfOk, IsOk, OnOk};
 ghost use Rattle.xs_tree.specs.Tree.{binary, not_of, next_of};
 ghost use Rattle.xs_tree.specs.declared.expr.Op.TheVariants as op;
 ghost use Rattle.xs_scope.specs.ModelTree.{variable_tree, formula_tree, flat_tree, model_tree, mode_of};
@@ -41,7 +41,8 @@ pub fn stage(
 /// The number of the history bit of a fault, which follows the model's own variables.
 fn bit_number(m: &FlatModel, fault: u32) -> Result<u32, OutOfMemory>
     requires { 1 ≤ fault }
-    ensures { IfOk result (λ bit. bit ≡ bit_of (model_tree m.now) fault) }
+    ensures number { IfOk result (λ bit. bit ≡ bit_of (model_tree m.now) fault) }
+    ensures fits { bit_of (model_tree m.now) fault < 2 ^ 32 → IsOk result }
 {
     let own = number_of(m.variables.len())?;
     own.checked_add(fault - 1).ok_or(OutOfMemory)

@@ -1,6 +1,6 @@
 //! Texts by their numbers.
 
-ghost use Rattle.std.specs.Prelude.{◌≡◌, ◌≤◌, length, IfOk};
+ghost use Rattle.std.specs.Prelude.{◌≡◌, ◌≤◌, length, IfOk, IsOk, OnOk};
 ghost use Rattle.xs_types.specs.Numbering.{number_from, AreNumbered};
 
 use indexmap::IndexMap;
@@ -20,9 +20,7 @@ impl<'a> TextNumbers<'a> {
     pub(crate) fn of(alloc: Global, texts: &'a [Name]) -> Result<TextNumbers<'a>, OutOfMemory>
         ensures { IfOk result (λ numbers. numbers.texts.now ≡ texts.now) }
     {
-        if texts.len() > u32::MAX as usize {
-            return Err(OutOfMemory);
-        }
+        check_count(texts)?;
         let places = first_places(alloc, texts)?;
         Ok(TextNumbers { texts, places })
     }
@@ -36,6 +34,17 @@ impl<'a> TextNumbers<'a> {
             None => None,
         }
     }
+}
+
+/// Each place is a number of 32 bits. More texts than that count as want of memory.
+fn check_count(texts: &[Name]) -> Result<(), OutOfMemory>
+    ensures few { OnOk result (length texts.now ≤ 4294967295) }
+    ensures fits { length texts.now ≤ 4294967295 → IsOk result }
+{
+    if texts.len() > u32::MAX as usize {
+        return Err(OutOfMemory);
+    }
+    Ok(())
 }
 
 /// The first place of each text.

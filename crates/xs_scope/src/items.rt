@@ -1,6 +1,6 @@
 //! The items of a module, numbered as in the whole program.
 
-ghost use Rattle.std.specs.Prelude.{◌≡◌, ◌+◌, [], ◌∷◌, map, IfOk, OnOk};
+ghost use Rattle.std.specs.Prelude.{◌≡◌, ◌+◌, ◌^◌, ◌<◌, [], ◌∷◌, map, IfOk, IsOk, OnOk};
 ghost use Rattle.xs_tree.specs.ProgramTree.{module_tree, section_tree, decl_tree, define_tree, assignment_tree};
 ghost use Rattle.xs_flattening.specs.Items.{items_of, items_of_section, a_declaration, a_definition, an_assignment};
 ghost use Rattle.xs_scope.specs.ModelTree.{role_of};
@@ -119,14 +119,16 @@ impl<'a> ItemList<'a> {
 
 /// The number after another one. A list that passes the numbers of 32 bits counts as want of memory.
 pub fn number_after(number: u32) -> Result<u32, OutOfMemory>
-    ensures { IfOk result (λ after. after ≡ number + 1) }
+    ensures next { IfOk result (λ after. after ≡ number + 1) }
+    ensures fits { number + 1 < 2 ^ 32 → IsOk result }
 {
     number.checked_add(1).ok_or(OutOfMemory)
 }
 
 /// A place in a list as a number of 32 bits. A longer list counts as want of memory.
 pub fn number_of(place: usize) -> Result<u32, OutOfMemory>
-    ensures { IfOk result (λ number. number ≡ place) }
+    ensures same { IfOk result (λ number. number ≡ place) }
+    ensures fits { place < 2 ^ 32 → IsOk result }
 {
     match u32::try_from(place) {
         Ok(number) => Ok(number),

@@ -1,6 +1,6 @@
 //! The numbers of a model's symbols.
 
-ghost use Rattle.std.specs.Prelude.{◌≡◌, ◌≤◌, length, IfOk};
+ghost use Rattle.std.specs.Prelude.{◌≡◌, ◌≤◌, length, IfOk, IsOk, OnOk};
 ghost use Rattle.xs_kinds.specs.Costs.{symbol_number, member_number};
 ghost use Rattle.xs_types.specs.Numbering.{AreNumbered};
 
@@ -23,9 +23,7 @@ impl<'a> SymbolNumbers<'a> {
     pub(crate) fn of(alloc: Global, symbols: &'a [Name]) -> Result<SymbolNumbers<'a>, OutOfMemory>
         ensures { IfOk result (λ numbers. numbers.symbols.now ≡ symbols.now) }
     {
-        if symbols.len() > u32::MAX as usize {
-            return Err(OutOfMemory);
-        }
+        check_count(symbols)?;
         let places = first_places(alloc, symbols)?;
         Ok(SymbolNumbers { symbols, places })
     }
@@ -49,6 +47,17 @@ impl<'a> SymbolNumbers<'a> {
             Member::Symbol(text) => self.symbol(text) as i64,
         }
     }
+}
+
+/// Each place is a number of 32 bits. More symbols than that count as want of memory.
+fn check_count(symbols: &[Name]) -> Result<(), OutOfMemory>
+    ensures few { OnOk result (length symbols.now ≤ 4294967295) }
+    ensures fits { length symbols.now ≤ 4294967295 → IsOk result }
+{
+    if symbols.len() > u32::MAX as usize {
+        return Err(OutOfMemory);
+    }
+    Ok(())
 }
 
 /// The first place of each text.

@@ -1,4 +1,4 @@
-ghost use Rattle.std.specs.Prelude.{◌≡◌, ◌+◌, IfOk};
+ghost use Rattle.std.specs.Prelude.{◌≡◌, ◌+◌, ◌^◌, ◌<◌, IfOk, IsOk};
 
 use std::alloc::Global;
 use xs_fei::Slice;
@@ -17,7 +17,8 @@ pub struct Placed<'a> {
 
 /// The item after another one. Instructions that pass the numbers of 32 bits count as want of memory.
 pub fn item_after(item: u32) -> Result<u32, OutOfMemory>
-    ensures { IfOk result (λ next. next ≡ item + 1) }
+    ensures next { IfOk result (λ next. next ≡ item + 1) }
+    ensures fits { item + 1 < 2 ^ 32 → IsOk result }
 {
     item.checked_add(1).ok_or(OutOfMemory)
 }

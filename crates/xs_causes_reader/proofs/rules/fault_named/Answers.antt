@@ -4,11 +4,11 @@ use Rattle.xs_causes_reader.specs.FaultPaths.{path_of, paths_of}
 use Rattle.xs_causes_reader.proofs.RuleSteps.{is_number, get_place, none_more}
 use Rattle.xs_causes_reader.proofs.rules.fault_named.Goals as goal
 
-pub returns-then-is_same_path : goal.returns-then-is_same_path
-returns-then-is_same_path c =
+pub returns-then-is_same_path-clause-number : goal.returns-then-is_same_path-clause-number
+returns-then-is_same_path-clause-number c =
     let same : same_path c.index-faults-place.result.name c.args.name.now ≡ true =
     (λ j. same_path (sym c.parts.ensures.parts j) (sym c.as_slice.ensures j)) ∙ sym c.is_same_path.ensures ∙ c.if-is_same_path.true in
-    is_number (paths_of c.args.faults.now) c.args.name.now c.index-faults-place.result.name c.loop-place.place c.in_ok-number.number c.in_ok-number.ensures same
+    is_number (paths_of c.args.faults.now) c.args.name.now c.index-faults-place.result.name c.loop-place.place c.in_ok-number.number c.in_ok-number.ensures.same same
     (get_place path_of c.args.faults.now c.loop-place.place c.index-faults-place.result c.loop-place-test.true c.index-faults-place.is) c.loop-place.invariant
 
 pub loop-place-preserved : goal.loop-place-preserved

@@ -10,7 +10,7 @@ use Rattle.xs_causes_reader.proofs.rules.judge_causes.Goals as goal
 pub returns-in-Some-clause-told : goal.returns-in-Some-clause-told
 returns-in-Some-clause-told c =
     broken_here (paths_of c.args.faults.now) written_tree c.args.written.now c.loop-i.i c.index-written-i.result c.loop-i-test.true c.index-written-i.is c.loop-i.names (rule_of c.in-Some.rule) c.in_ok-number_of.field-0
-    (first_broken (paths_of c.args.faults.now) c.args.names.now [] (written_trees c.args.written.now)) (sym c.in_ok-rule.ensures ∙ ap (option_map rule_of) c.in-Some.is) c.in_ok-number_of.ensures c.loop-i.invariant.rest
+    (first_broken (paths_of c.args.faults.now) c.args.names.now [] (written_trees c.args.written.now)) (sym c.in_ok-rule.ensures ∙ ap (option_map rule_of) c.in-Some.is) c.in_ok-number_of.ensures.same c.loop-i.invariant.rest
 
 pub loop-i-preserved : goal.loop-i-preserved
 loop-i-preserved c =

@@ -38,7 +38,7 @@ loop-instance-preserved c =
     (subst (λ ys. slice_get (map instance_tree ys) c.loop-instance.instance-index ≡ Some (instance_tree c.instance-item.result)) same
     (item_there instance_tree xs c.loop-instance.instance-index c.instance-item.result c.loop-instance-test.true c.instance-item.is)) in
     record {
-      number = c.in_ok-number.ensures ∙ ap (λ n. n + 1) c.loop-instance.invariant.number;
+      number = c.in_ok-number.ensures.next ∙ ap (λ n. n + 1) c.loop-instance.invariant.number;
       decides = λ accepted flat.
           instance_next (program_in c.args.nominal) (model_in c.args.nominal) (map seen_placed c.args.slices.now) xs c.loop-instance.instance-index c.instance-item.result
           (flat_map (uses_of_slices (map seen_placed c.args.slices.now)) (map instance_tree xs)) c.loop-instance-test.true c.instance-item.is (c.loop-instance.invariant.decides accepted flat)

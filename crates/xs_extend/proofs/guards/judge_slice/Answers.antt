@@ -13,11 +13,11 @@ returns-in-Err-clause-told c = λ at is.
     IsFirstFault (program_in c.args.nominal) (model_in c.args.nominal) (modes_from at.place (declared_tree c.args.placed.declared.now) (c.args.placed.item + 1) (map mode_tree modes))
     (record { cause = c.in-Err.cause; item = c.in_ok-item.item })) c.as_slice-mode-items.ensures
     (mode_first (program_in c.args.nominal) (model_in c.args.nominal) at.place (declared_tree c.args.placed.declared.now) c.as_slice-mode-items.result.now c.loop-mode.mode-index c.mode-item.result c.loop-mode.item c.in_ok-item.item
-    (modes_from at.place (declared_tree c.args.placed.declared.now) (c.args.placed.item + 1) (map mode_tree c.as_slice-mode-items.result.now)) c.loop-mode-test.true c.mode-item.is c.in_ok-item.ensures
+    (modes_from at.place (declared_tree c.args.placed.declared.now) (c.args.placed.item + 1) (map mode_tree c.as_slice-mode-items.result.now)) c.loop-mode-test.true c.mode-item.is c.in_ok-item.ensures.next
     (c.loop-mode.invariant at is) c.in-Err.cause (c.in-Err.ensures.told at c.in_ok-item.item is))
 
 pub loop-mode-preserved : goal.loop-mode-preserved
 loop-mode-preserved c = λ at is.
     mode_next (program_in c.args.nominal) (model_in c.args.nominal) at.place (declared_tree c.args.placed.declared.now) c.as_slice-mode-items.result.now c.loop-mode.mode-index c.mode-item.result c.loop-mode.item c.in_ok-item.item
-    (modes_from at.place (declared_tree c.args.placed.declared.now) (c.args.placed.item + 1) (map mode_tree c.as_slice-mode-items.result.now)) c.loop-mode-test.true c.mode-item.is c.in_ok-item.ensures
+    (modes_from at.place (declared_tree c.args.placed.declared.now) (c.args.placed.item + 1) (map mode_tree c.as_slice-mode-items.result.now)) c.loop-mode-test.true c.mode-item.is c.in_ok-item.ensures.next
     (c.loop-mode.invariant at is) (c.in-Ok.ensures.kept at c.in_ok-item.item is)

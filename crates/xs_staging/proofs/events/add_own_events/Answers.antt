@@ -9,7 +9,7 @@ pub loop-i-preserved : goal.loop-i-preserved
 loop-i-preserved c =
     let step : model_tree c.add_own_event.new.made ≡ with_own (map mode_of c.args.faults.now) (map cause_of c.args.causes.now) c.args.ages.now (c.loop-i.i + 1) (model_tree c.loop-i.made) =
     c.in_ok-event.ensures.model
-    ∙ ap (λ n. with_own (map mode_of c.args.faults.now) (map cause_of c.args.causes.now) c.args.ages.now n (model_tree c.loop-i.made)) c.in_ok-number.ensures in
+    ∙ ap (λ n. with_own (map mode_of c.args.faults.now) (map cause_of c.args.causes.now) c.args.ages.now n (model_tree c.loop-i.made)) c.in_ok-number.ensures.same in
     let some = first_of c.args.faults.now c.loop-i.i c.loop-i-test.true in
     record {
       made = owns_next (map mode_of c.args.faults.now) (map cause_of c.args.causes.now) c.args.ages.now mode_of c.args.faults.now c.loop-i.i some c.loop-i-test.true (model_tree c.loop-i.made)

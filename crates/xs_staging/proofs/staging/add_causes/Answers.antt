@@ -19,7 +19,7 @@ loop-cause-preserved c =
     let step : model_tree c.add_cause.new.made
     ≡ with_cause (map mode_of c.args.faults.now) (model_tree c.loop-cause.made) (cause_of (get_or c.args.causes.now c.loop-cause.cause-index c.cause-item.result)) =
     c.in_ok-add_cause.ensures.model ∙ ap (λ z. with_cause (map mode_of c.args.faults.now) (model_tree c.loop-cause.made) (cause_of z)) c.cause-item.is in
-    let age = c.in_ok-number_of.ensures ∙ c.len.ensures ∙ sym (length-map c.loop-cause.made.variables variable_tree) in
+    let age = c.in_ok-number_of.ensures.same ∙ c.len.ensures ∙ sym (length-map c.loop-cause.made.variables variable_tree) in
     record {
       made = causes_next (map mode_of c.args.faults.now) cause_of c.args.causes.now c.loop-cause.cause-index c.cause-item.result below (model_tree c.loop-cause.made) (model_tree c.add_cause.new.made)
           (with_each_cause (map mode_of c.args.faults.now) (model_tree c.args.made.now) (map cause_of c.args.causes.now)) step c.loop-cause.invariant.made;

@@ -9,6 +9,6 @@ use Rattle.xs_weave_rules.proofs.items.Met.take_slice.Goals as goal
 pub returns-clause-places : goal.returns-clause-places
 returns-clause-places c =
     subst (λ ps. OnOk c.place.result (places_in c.place.new.self ≡ places_in c.args.self.now ++ ps))
-    (slice_placed (program_tree c.args.known.now.program.now) c.args.self.now.last c.in_ok-item.item (slices_in c.args.self.now) c.args.owner.now (slice_tree c.args.slice.now) (declared_tree c.in-Ok.declared.now) c.in_ok-item.ensures
+    (slice_placed (program_tree c.args.known.now.program.now) c.args.self.now.last c.in_ok-item.item (slices_in c.args.self.now) c.args.owner.now (slice_tree c.args.slice.now) (declared_tree c.in-Ok.declared.now) c.in_ok-item.ensures.next
     c.in-Ok.ensures.declared)
     c.place.ensures.places
