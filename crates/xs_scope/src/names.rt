@@ -1,7 +1,7 @@
 //! What names mean. The formals are answered first, once and for all; then a look-up goes through the
 //! parts of a name, one after another.
 
-ghost use Rattle.std.specs.Prelude.{◌≡◌, [], ◌∷◌, ◌++◌, length, map, replicate, Some, IfOk, OnOk, option_map, option_copied, slice_get};
+ghost use Rattle.std.specs.Prelude.{◌≡◌, ◌^◌, ◌<◌, [], ◌∷◌, ◌++◌, length, map, replicate, Some, IfOk, IsOk, OnOk, option_map, option_copied, slice_get};
 ghost use Rattle.xs_tree.specs.ProgramTree.{program_tree, decl_tree};
 ghost use Rattle.xs_tree.specs.Written.{tree_of};
 ghost use Rattle.xs_tree.specs.Scope.{plain_name};
@@ -74,9 +74,7 @@ impl<'a> Scene<'a> {
         ensures program { IfOk result (λ scene. scene.modules.program.now ≡ modules.entry.program.now) }
     {
         let symbols = symbols_of(alloc, &modules)?;
-        if symbols.len() >= 4_294_967_296 {
-            return Err(OutOfMemory);
-        }
+        check_count(symbols.len())?;
         let mut scene = Scene {
             modules,
             spots,
@@ -439,6 +437,17 @@ pub fn plain_name_of(value: &Expr<Dotted>) -> Option<&Dotted>
         Expr::SetOf(_) => None,
         Expr::Span(..) => None,
     }
+}
+
+/// Each symbol has a number of 32 bits. More symbols than such numbers count as want of memory.
+fn check_count(symbols: usize) -> Result<(), OutOfMemory>
+    ensures few { OnOk result (symbols < 2 ^ 32) }
+    ensures fits { symbols < 2 ^ 32 → IsOk result }
+{
+    if symbols >= 4_294_967_296 {
+        return Err(OutOfMemory);
+    }
+    Ok(())
 }
 
 /// So many formals of which nothing is known.
