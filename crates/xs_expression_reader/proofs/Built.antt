@@ -8,7 +8,7 @@ use Rattle.xs_tree.specs.declared.expr.Op.TheVariants as op
 use Rattle.xs_tree.specs.Tree.{Tree, Trees, Branches, truth, next_of, binary, case_of, set_of, span, no_tree, tree_then, no_branch, branch_then, trees_from, branches_from}
 use Rattle.xs_tree.specs.Lexemes.{Lexeme, word, num, sign, is_reserved}
 use Rattle.xs_tree.specs.ProgramTree.{Path}
-use Rattle.xs_tree.specs.Spells.{at_expr, line_of, operator, minus, begins_span, SpellsInt, plain_int, minus_int, SpellsDotted, one_name, more_names, Spells, only_iff, implies, repeated, only_or, chooses, only_not, negates, only_atom, inverts, SpellsMore, no_operator, one_operator, SpellsAtom, is_true, is_false, is_number, is_span, is_name, in_parentheses, is_next, is_set, is_case, SpellsTrees, one_tree, more_trees, SpellsBranches, one_branch, more_branches}
+use Rattle.xs_tree.specs.Spells.{at_expr, at_iff, at_choice, at_or, at_neg, at_not, line_of, operator, minus, begins_span, SpellsInt, plain_int, minus_int, SpellsDotted, one_name, more_names, Spells, only_iff, implies, repeated, only_or, chooses, only_not, negates, only_atom, inverts, SpellsMore, no_operator, one_operator, SpellsAtom, is_true, is_false, is_number, is_span, is_name, in_parentheses, is_next, is_set, is_case, SpellsTrees, one_tree, more_trees, SpellsBranches, one_branch, more_branches}
 use Rattle.xs_expression_reader.specs.Recognise.{Role, an_esac, a_colon, a_semicolon, a_comma, closes, closes_set, role_of}
 use Rattle.xs_expression_reader.specs.Build.{Part, minus_part, bang_part, left_part, answered, asked, group_part, next_part, set_part, condition_part, outcome_part, Hand, number_hand, name_hand, other_hand, Build, ready, name_on, high_on, branch_on, holds, broken, value, looseness, takes_operand, joined, reduce, shut, shut_held, left_held, asked_held, level, span_from, build_step, build, finished, finish, built}
 use Rattle.xs_expression_reader.proofs.Accepted.{role_of_name, regrouped_twice}
@@ -83,7 +83,7 @@ after_operator o (number_hand n) ps = refl
 after_operator o (name_hand p) ps = refl
 after_operator o (other_hand t) ps = refl
 
-after_question : (h : Hand) (ps : List Part) → build_step (holds h ps) (sign k.Question) (role_of (sign k.Question)) ≡ asked_held (reduce 3 (value h) ps)
+after_question : (h : Hand) (ps : List Part) → build_step (holds h ps) (sign k.Question) (role_of (sign k.Question)) ≡ asked_held (reduce at_or (value h) ps)
 after_question (number_hand n) ps = refl
 after_question (name_hand p) ps = refl
 after_question (other_hand t) ps = refl
@@ -96,7 +96,7 @@ is_closer a_colon = true
 is_closer a_semicolon = true
 is_closer _ = false
 
-after_closer : (h : Hand) (ps : List Part) (t : Lexeme) (c : Role) → is_closer c ≡ true → build_step (holds h ps) t c ≡ shut_held (reduce 0 (value h) ps) c
+after_closer : (h : Hand) (ps : List Part) (t : Lexeme) (c : Role) → is_closer c ≡ true → build_step (holds h ps) t c ≡ shut_held (reduce at_expr (value h) ps) c
 after_closer (number_hand n) ps t closes e = refl
 after_closer (number_hand n) ps t closes_set e = refl
 after_closer (number_hand n) ps t a_comma e = refl
@@ -116,11 +116,11 @@ after_closer h ps t c e = cc
 
 -- past an expression in a frame, and the lexeme that closes it
 past_closer : {st : Build} {xs : List Lexeme} {l : ℕ} {p : Part} {ps : List Part} {a : Tree Path} (t : Lexeme) (ys : List Lexeme) (next : Build) → Made st xs l (p ∷ ps) a →
-    takes_operand 0 p ≡ false → is_closer (role_of t) ≡ true → shut a (p ∷ ps) (role_of t) ≡ next → build st (xs ++ t ∷ ys) ≡ build next ys
+    takes_operand at_expr p ≡ false → is_closer (role_of t) ≡ true → shut a (p ∷ ps) (role_of t) ≡ next → build st (xs ++ t ∷ ys) ≡ build next ys
 past_closer {st} {xs} {l} {p} {ps} {a} t ys next h unheld e f = pass st xs t ys h.hand h.parts next h.path
-    (after_closer h.hand h.parts t (role_of t) e ∙ ap (λ z. shut_held z (role_of t)) (h.same 0 (omega arith) ∙ stays) ∙ f)
+    (after_closer h.hand h.parts t (role_of t) e ∙ ap (λ z. shut_held z (role_of t)) (h.same at_expr (omega arith) ∙ stays) ∙ f)
   where
-    stays : reduce 0 a (p ∷ ps) ≡ record { tree = a; parts = p ∷ ps }
+    stays : reduce at_expr a (p ∷ ps) ≡ record { tree = a; parts = p ∷ ps }
     stays = rw unheld refl
 
 -- an operand, an operator and an operand
@@ -216,36 +216,36 @@ mutual
   unfolding IsClear Fits trees_after branches_after
 
   makes : {l : ℕ} {xs : List Lexeme} {a : Tree Path} (ps : List Part) → IsClear l ps → Fits ps xs → Spells l xs a → Made (ready ps) xs l ps a
-  makes ps c f (only_iff p) = weaken 1 0 (omega arith) (makes ps (clear_up 0 1 ps (omega arith) c) f p)
+  makes ps c f (only_iff p) = weaken at_iff at_expr (omega arith) (makes ps (clear_up at_expr at_iff ps (omega arith) c) f p)
   makes ps c f (implies {xs = xs} {ys = ys} {a = a} {b = b} p q) =
-      then_operator op.Implies 1 0 1 0 refl (omega arith) (clear_reduce 0 1 a ps c (record { some = omega arith; tight = omega arith; no_choice = λ e. omega (arith, e) }) (omega arith)) (omega arith)
-      (λ m b. upto m 0 b)
-      (makes ps (clear_up 0 1 ps (omega arith) c) (fits_front ps xs (sign k.Implies ∷ ys) f) p)
-      (makes (left_part op.Implies a ∷ ps) (λ m is d. not_upto m 0 (let some = is.some in omega (arith, some))) tt q)
+      then_operator op.Implies at_iff at_expr at_iff at_expr refl (omega arith) (clear_reduce at_expr at_iff a ps c (record { some = omega arith; tight = omega arith; no_choice = λ e. omega (arith, e) }) (omega arith)) (omega arith)
+      (λ m b. upto m at_expr b)
+      (makes ps (clear_up at_expr at_iff ps (omega arith) c) (fits_front ps xs (sign k.Implies ∷ ys) f) p)
+      (makes (left_part op.Implies a ∷ ps) (λ m is d. not_upto m at_expr (let some = is.some in omega (arith, some))) tt q)
   makes ps c f (repeated {l = l} {xs = xs} {ys = ys} h p more) =
       makes_more l ps c xs (weaken (suc l) l (omega arith) (makes ps (clear_up l (suc l) ps (omega arith) c) (fits_front ps xs ys f) p)) more
-  makes ps c f (only_or p) = weaken 3 2 (omega arith) (makes ps (clear_up 2 3 ps (omega arith) c) f p)
+  makes ps c f (only_or p) = weaken at_or at_choice (omega arith) (makes ps (clear_up at_choice at_or ps (omega arith) c) f p)
   makes ps c f (chooses {zs = zs} {xs = xs} {ys = ys} {c = t} {a = a} {b = b} p q r) =
-      let x = makes ps (clear_up 2 3 ps (omega arith) c) (fits_front ps zs (sign k.Question ∷ (xs ++ sign k.Colon ∷ ys)) f) p in
+      let x = makes ps (clear_up at_choice at_or ps (omega arith) c) (fits_front ps zs (sign k.Question ∷ (xs ++ sign k.Colon ∷ ys)) f) p in
       let y = makes (asked t ∷ ps) (λ m is d. refl) tt q in
-      let z = makes (answered t a ∷ ps) (λ m is d. not_upto m 2 (let no = is.no_choice in omega (arith, d, no))) tt r in
+      let z = makes (answered t a ∷ ps) (λ m is d. not_upto m at_choice (let no = is.no_choice in omega (arith, d, no))) tt r in
       record {
         hand = z.hand;
         parts = z.parts;
         path = pass (ready ps) zs (sign k.Question) (xs ++ sign k.Colon ∷ ys) x.hand x.parts (ready (asked t ∷ ps)) x.path
-            (after_question x.hand x.parts ∙ ap asked_held (x.same 3 (omega arith) ∙
-            clear_reduce 2 3 t ps c (record { some = omega arith; tight = omega arith; no_choice = λ e. omega (arith, e) }) (omega arith))) ∙
+            (after_question x.hand x.parts ∙ ap asked_held (x.same at_or (omega arith) ∙
+            clear_reduce at_choice at_or t ps c (record { some = omega arith; tight = omega arith; no_choice = λ e. omega (arith, e) }) (omega arith))) ∙
             past_closer (sign k.Colon) ys (ready (answered t a ∷ ps)) y refl refl refl ∙ z.path;
-        same = λ m e. z.same m e ∙ takes_it m (answered t a) b ps (upto m 2 e);
+        same = λ m e. z.same m e ∙ takes_it m (answered t a) b ps (upto m at_choice e);
       }
-  makes ps c f (only_not p) = weaken 11 10 (omega arith) (makes ps (clear_up 10 11 ps (omega arith) c) f p)
+  makes ps c f (only_not p) = weaken at_not at_neg (omega arith) (makes ps (clear_up at_neg at_not ps (omega arith) c) f p)
   makes ps c f (negates {ts = ts} {t = t} n p) =
       let x = makes (minus_part ∷ ps) (λ m is d. let tight = is.tight in absurd (omega (arith, d, tight))) n p in
-      record { hand = x.hand; parts = x.parts; path = x.path; same = λ m e. x.same m e ∙ takes_it m minus_part t ps (upto m 10 e) }
+      record { hand = x.hand; parts = x.parts; path = x.path; same = λ m e. x.same m e ∙ takes_it m minus_part t ps (upto m at_neg e) }
   makes ps c f (only_atom p) = makes_atom ps f p
   makes ps c f (inverts {ts = ts} {t = t} p) =
       let x = makes (bang_part ∷ ps) (λ m is d. let tight = is.tight in absurd (omega (arith, d, tight))) tt p in
-      record { hand = x.hand; parts = x.parts; path = x.path; same = λ m e. x.same m e ∙ takes_it m bang_part t ps (upto m 11 e) }
+      record { hand = x.hand; parts = x.parts; path = x.path; same = λ m e. x.same m e ∙ takes_it m bang_part t ps (upto m at_not e) }
 
   makes_more : {ys : List Lexeme} {a t : Tree Path} (l : ℕ) (ps : List Part) → IsClear l ps → (xs : List Lexeme) → Made (ready ps) xs l ps a → SpellsMore l ys a t →
       Made (ready ps) (xs ++ ys) l ps t
@@ -297,7 +297,7 @@ mutual
 -- the tree that is built is the one that is spelled
 pub built_spelled : {xs : List Lexeme} {a : Tree Path} → Spells at_expr xs a → built xs ≡ Some a
 unfolding IsClear Fits
-built_spelled {a = a} p = let x = makes [] tt tt p in ap finish x.path ∙ ap finished (x.same 0 (omega arith))
+built_spelled {a = a} p = let x = makes [] tt tt p in ap finish x.path ∙ ap finished (x.same at_expr (omega arith))
 
 -- so no list spells two expressions
 pub one_expression : {xs : List Lexeme} {a b : Tree Path} → Spells at_expr xs a → Spells at_expr xs b → a ≡ b

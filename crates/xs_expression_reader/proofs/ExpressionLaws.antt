@@ -14,6 +14,7 @@ use Rattle.xs_tree.specs.Lexemes.{Lexeme, lexemes_of}
 use Rattle.xs_tree.specs.SpellsProgram.{SpellsExpr}
 use Rattle.xs_tree.specs.Nesting.{nesting_of}
 use Rattle.xs_tree.specs.Bytes.{BytesSpellExpr, HasDepths}
+use Rattle.xs_tree.specs.Limits.{deepest}
 use Rattle.xs_expression_reader.specs.Recognise.{run, is_stuck, is_whole, start}
 use Rattle.xs_expression_reader.specs.Build.{built}
 use Rattle.xs_expression_reader.specs.Extents.{reach_of, is_deep}
@@ -91,13 +92,13 @@ expression_deep bytes tokens split whole deep =
       deep = λ depths.
           let low = depths.1 tokens split made.1 in
           let same = deep_nesting made.1 in
-          let high : nat_lt 1000 (nesting_of made.1) ≡ true = sym same ∙ deep in
+          let high : nat_lt deepest (nesting_of made.1) ≡ true = sym same ∙ deep in
           absurd (grind (arith, nat_tests, low, high));
     }
 
 -- the answer where each tree that is made is too high
 pub expression_high : (bytes : List ℕ) (tokens : List Token) → HasTokens bytes tokens → is_whole (run start (lexemes_of bytes tokens)) ≡ true →
-    ((t : Formula) → built (lexemes_of bytes tokens) ≡ Some t → 1000 < height_of t) → IsTooDeep bytes
+    ((t : Formula) → built (lexemes_of bytes tokens) ≡ Some t → deepest < height_of t) → IsTooDeep bytes
 expression_high bytes tokens split whole high =
     let made = accepted_spelled (lexemes_of bytes tokens) whole in
     record {
@@ -129,13 +130,13 @@ expression_only bytes tokens t only e u spelled =
 
 -- within the depths
 pub expression_depths : (bytes : List ℕ) (tokens : List Token) (t : Formula) → ((others : List Token) → HasTokens bytes others → others ≡ tokens) →
-    is_deep start (lexemes_of bytes tokens) ≡ false → height_of t ≤ 1000 → HasDepths bytes t
+    is_deep start (lexemes_of bytes tokens) ≡ false → height_of t ≤ deepest → HasDepths bytes t
 expression_depths bytes tokens t only low height = (height, λ others split spelled. go others (only others split) spelled)
   where
-    go : (others : List Token) → others ≡ tokens → (spelled : SpellsExpr (lexemes_of bytes others) t) → nesting_of spelled ≤ 1000
+    go : (others : List Token) → others ≡ tokens → (spelled : SpellsExpr (lexemes_of bytes others) t) → nesting_of spelled ≤ deepest
     go others same spelled =
         let here : is_deep start (lexemes_of bytes others) ≡ false = ap (λ z. is_deep start (lexemes_of bytes z)) same ∙ low in
-        let within : nat_lt 1000 (nesting_of spelled) ≡ false = sym (deep_nesting spelled) ∙ here in
+        let within : nat_lt deepest (nesting_of spelled) ≡ false = sym (deep_nesting spelled) ∙ here in
         grind (arith, nat_tests, within)
 
 -- the same, as the code finds it

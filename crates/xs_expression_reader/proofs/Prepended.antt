@@ -8,7 +8,7 @@ use Rattle.xs_tree.specs.declared.expr.Op.TheVariants as op
 use Rattle.xs_tree.specs.Tree.{Tree, binary, choice}
 use Rattle.xs_tree.specs.Lexemes.{Lexeme, sign}
 use Rattle.xs_tree.specs.ProgramTree.{Path}
-use Rattle.xs_tree.specs.Spells.{at_expr, at_neg, line_of, operator, is_repeated, begins_span, plain_int, minus_int, one_name, more_names, Spells, only_iff, implies, repeated, only_or, chooses, only_not, negates, only_atom, inverts, SpellsMore, no_operator, one_operator, SpellsAtom, is_true, is_false, is_number, is_span, is_name, in_parentheses, is_next, is_set, is_case}
+use Rattle.xs_tree.specs.Spells.{at_expr, at_iff, at_choice, at_or, at_prod, at_neg, line_of, operator, is_repeated, begins_span, plain_int, minus_int, one_name, more_names, Spells, only_iff, implies, repeated, only_or, chooses, only_not, negates, only_atom, inverts, SpellsMore, no_operator, one_operator, SpellsAtom, is_true, is_false, is_number, is_span, is_name, in_parentheses, is_next, is_set, is_case}
 use Rattle.xs_tree.proofs.PrintedSpells.{loosened}
 
 -- some tree is spelled in a line
@@ -21,9 +21,9 @@ more_after a' no_operator = (a', no_operator)
 more_after a' (one_operator {o = o} {b = b} f p m) = let rest = more_after (binary o a' b) m in (rest.0, one_operator f p rest.1)
 
 pub record IsLine (m : ℕ) : Type 0 where
-  pub some : 1 ≤ m
-  pub tight : m ≤ 9
-  pub no_choice : m ≢ 2
+  pub some : at_iff ≤ m
+  pub tight : m ≤ at_prod
+  pub no_choice : m ≢ at_choice
 
 abbrev pub IsLineIn : Option ℕ → Type 0
 IsLineIn None = Unit {0}
@@ -34,8 +34,8 @@ line_is op.Implies = tt
 line_is o = record { some = omega arith; tight = omega arith; no_choice = λ e. omega (arith, e) }
 
 -- each line that repeats an operator
-no_choice_line : {l : ℕ} → is_repeated l ≡ true → l ≡ 2 → ⊥
-no_choice_line {l} h e = let clash : is_repeated 2 ≡ true = subst (λ z. is_repeated z ≡ true) e h in cc
+no_choice_line : {l : ℕ} → is_repeated l ≡ true → l ≡ at_choice → ⊥
+no_choice_line {l} h e = let clash : is_repeated at_choice ≡ true = subst (λ z. is_repeated z ≡ true) e h in cc
 
 prepend : {l : ℕ} {ys us : List Lexeme} {t u : Tree Path} (o : Op) (m : ℕ) → line_of o ≡ Some m → IsLine m → l ≤ m → Spells at_neg us u → Spells l ys t →
     IsSpelled l (us ++ operator o ∷ ys)
@@ -52,7 +52,7 @@ prepend {us = us} {u = u0} o m f is below u (repeated {l = l} {xs = xs} {ys = ys
         (rest.0, subst (λ z. Spells l z rest.0) (append_assoc us (operator o ∷ xs) ys) (repeated h inner.1 rest.1))
     go (inr looser) rec =
         let same : m ≡ l = omega (arith, looser, below) in
-        let first : Spells (suc l) us u0 = loosened (10 - suc l) (suc l) 10 (let tight = is.tight in omega (arith, tight, same)) (omega arith) u in
+        let first : Spells (suc l) us u0 = loosened (at_neg - suc l) (suc l) at_neg (let tight = is.tight in omega (arith, tight, same)) (omega arith) u in
         let rest = more_after (binary o u0 a) more in
         let line : line_of o ≡ Some l = f ∙ ap Some same in
         (rest.0, repeated h first (one_operator line p rest.1))
@@ -60,7 +60,7 @@ prepend o m f is below u (only_or p) =
     let inner = prepend o m f is (let no = is.no_choice in omega (arith, below, no)) u p in (inner.0, only_or inner.1)
 prepend {us = us} o m f is below u (chooses {zs = zs} {xs = xs} {ys = ys} {a = a} {b = b} p q r) =
     let inner = prepend o m f is (let no = is.no_choice in omega (arith, below, no)) u p in
-    (choice inner.0 a b, subst (λ z. Spells 2 z (choice inner.0 a b)) (append_assoc us (operator o ∷ zs) (sign k.Question ∷ (xs ++ sign k.Colon ∷ ys))) (chooses inner.1 q r))
+    (choice inner.0 a b, subst (λ z. Spells at_choice z (choice inner.0 a b)) (append_assoc us (operator o ∷ zs) (sign k.Question ∷ (xs ++ sign k.Colon ∷ ys))) (chooses inner.1 q r))
 prepend o m f is below u (only_not p) = absurd (let tight = is.tight in omega (arith, below, tight))
 prepend o m f is below u (negates n p) = absurd (let tight = is.tight in omega (arith, below, tight))
 prepend o m f is below u (only_atom p) = absurd (let tight = is.tight in omega (arith, below, tight))
@@ -78,14 +78,14 @@ prepended {us} {ys} o u e = go (line_of o) refl (line_is o)
     go (Some m) f is = prepend o m f is (omega arith) u.1 e.1
     go None f is =
         let same : o ≡ op.Implies = no_line_is o f in
-        subst (λ z. IsSpelled at_expr (us ++ operator z ∷ ys)) (sym same) (binary op.Implies u.0 e.0, implies (loosened 9 1 10 (omega arith) (omega arith) u.1) e.1)
+        subst (λ z. IsSpelled at_expr (us ++ operator z ∷ ys)) (sym same) (binary op.Implies u.0 e.0, implies (loosened (at_neg - at_iff) at_iff at_neg (omega arith) (omega arith) u.1) e.1)
 
 regrouped_choice : (zs xs ys w : List Lexeme) →
     (zs ++ sign k.Question ∷ (xs ++ sign k.Colon ∷ ys)) ++ w ≡ zs ++ sign k.Question ∷ (xs ++ sign k.Colon ∷ (ys ++ w))
 regrouped_choice zs xs ys w =
     append_assoc zs (sign k.Question ∷ (xs ++ sign k.Colon ∷ ys)) w ∙ ap (λ z. zs ++ sign k.Question ∷ z) (append_assoc xs (sign k.Colon ∷ ys) w)
 
-choose : {l : ℕ} {ys zs xs : List Lexeme} {t c a : Tree Path} → l ≤ 2 → Spells at_neg zs c → Spells at_expr xs a → Spells l ys t →
+choose : {l : ℕ} {ys zs xs : List Lexeme} {t c a : Tree Path} → l ≤ at_choice → Spells at_neg zs c → Spells at_expr xs a → Spells l ys t →
     IsSpelled l (zs ++ sign k.Question ∷ (xs ++ sign k.Colon ∷ ys))
 choose below c a (only_iff p) = let inner = choose (omega arith) c a p in (inner.0, only_iff inner.1)
 choose {zs = zs} {xs = xs} below c a (implies {xs = x0} {ys = y0} {b = b} p q) =
@@ -95,8 +95,8 @@ choose {zs = zs} {xs = xs} below c a (repeated {l = l} {xs = x0} {ys = y0} h p m
     let inner = choose (let no = no_choice_line {l = l} h in omega (arith, below, no)) c a p in
     let rest = more_after inner.0 more in
     (rest.0, subst (λ z. Spells l z rest.0) (regrouped_choice zs xs x0 y0) (repeated h inner.1 rest.1))
-choose below c a (only_or p) = (_, chooses (loosened 7 3 10 (omega arith) (omega arith) c) a (only_or p))
-choose below c a (chooses p q r) = (_, chooses (loosened 7 3 10 (omega arith) (omega arith) c) a (chooses p q r))
+choose below c a (only_or p) = (_, chooses (loosened (at_neg - at_or) at_or at_neg (omega arith) (omega arith) c) a (only_or p))
+choose below c a (chooses p q r) = (_, chooses (loosened (at_neg - at_or) at_or at_neg (omega arith) (omega arith) c) a (chooses p q r))
 choose below c a (only_not p) = absurd (omega (arith, below))
 choose below c a (negates n p) = absurd (omega (arith, below))
 choose below c a (only_atom p) = absurd (omega (arith, below))
@@ -121,10 +121,10 @@ minus_atom e (is_next p) = cc
 minus_atom e (is_set p) = cc
 minus_atom e (is_case p) = cc
 
-repeated_loose : (l : ℕ) → 10 ≤ l → is_repeated l ≡ true → ⊥
+repeated_loose : (l : ℕ) → at_neg ≤ l → is_repeated l ≡ true → ⊥
 repeated_loose l h r = grind (arith, nat_tests)
 
-minus_span : {l : ℕ} {us : List Lexeme} {a : Tree Path} → 10 ≤ l → begins_span us ≡ true → Spells l us a → IsSpelled at_neg (sign k.Minus ∷ us)
+minus_span : {l : ℕ} {us : List Lexeme} {a : Tree Path} → at_neg ≤ l → begins_span us ≡ true → Spells l us a → IsSpelled at_neg (sign k.Minus ∷ us)
 minus_span h e (only_not p) = minus_span (omega arith) e p
 minus_span h e (negates n p) = cc
 minus_span h e (only_atom p) = minus_atom e p

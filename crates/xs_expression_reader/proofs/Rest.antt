@@ -206,7 +206,7 @@ no_tail {C} {ts} c = record {
   tail = [];
   rest = ts;
   whole = refl;
-  is_tail = λ us u. (u.0, subst (λ z. Spells at_expr z u.0) (sym (append-nil us)) (loosened 10 0 10 (omega arith) (omega arith) u.1));
+  is_tail = λ us u. (u.0, subst (λ z. Spells at_expr z u.0) (sym (append-nil us)) (loosened at_neg at_expr at_neg (omega arith) (omega arith) u.1));
   closed = c;
 }
 

@@ -5,7 +5,7 @@ use Rattle.xs_tree.specs.declared.expr.Op.TheVariants as op
 use Rattle.xs_tree.specs.Tree.{Tree, truth, number, leaf, not_of, negate, next_of, binary, choice, case_of, set_of, span, trees_from, branches_from}
 use Rattle.xs_tree.specs.Lexemes.{Lexeme, word, num}
 use Rattle.xs_tree.specs.ProgramTree.{Path, Text}
-use Rattle.xs_tree.specs.Spells.{line_of, minus}
+use Rattle.xs_tree.specs.Spells.{at_expr, at_iff, at_choice, at_or, at_sum, at_neg, at_not, line_of, minus}
 use Rattle.xs_expression_reader.specs.Recognise.{Role, a_truth, a_name, a_number, a_next, a_case, an_esac, a_minus, a_bang, joins, asks, a_colon, a_semicolon, a_comma, a_dot, dots, opens, closes, opens_set, closes_set, role_of}
 
 -- what waits for the operand to its right
@@ -46,14 +46,14 @@ value (other_hand t) = t
 -- `->` is looser than each line that repeats an operator
 abbrev pub looseness : Option ℕ → ℕ
 looseness (Some l) = l
-looseness None = 0
+looseness None = at_expr
 
 -- a part takes its operand where no operator of a tighter line than its own follows
 abbrev pub takes_operand : ℕ → Part → Bool
-takes_operand l minus_part = nat_le l 10
-takes_operand l bang_part = nat_le l 11
+takes_operand l minus_part = nat_le l at_neg
+takes_operand l bang_part = nat_le l at_not
 takes_operand l (left_part o a) = nat_le l (looseness (line_of o))
-takes_operand l (answered c a) = nat_le l 2
+takes_operand l (answered c a) = nat_le l at_choice
 takes_operand l _ = false
 
 abbrev pub joined : Part → Tree Path → Tree Path
@@ -95,13 +95,13 @@ asked_held h = ready (asked h.tree ∷ h.parts)
 -- the level to which an operator lets the parts before it take their operands
 abbrev pub level : Option ℕ → ℕ
 level (Some l) = l
-level None = 1
+level None = at_iff
 
 abbrev pub go_on : Tree Path → List Part → Role → Build
 go_on t ps (joins o) = left_held o (reduce (level (line_of o)) t ps)
-go_on t ps a_minus = left_held op.Minus (reduce 8 t ps)
-go_on t ps asks = asked_held (reduce 3 t ps)
-go_on t ps c = shut_held (reduce 0 t ps) c
+go_on t ps a_minus = left_held op.Minus (reduce at_sum t ps)
+go_on t ps asks = asked_held (reduce at_or t ps)
+go_on t ps c = shut_held (reduce at_expr t ps) c
 
 -- a `-` before the first number of a span is its own
 abbrev pub span_from : ℕ → List Part → Build
@@ -162,7 +162,7 @@ finished h = if_empty h.parts (Some h.tree)
 
 -- the tree of a whole list
 abbrev pub finish : Build → Option (Tree Path)
-finish (holds h ps) = finished (reduce 0 (value h) ps)
+finish (holds h ps) = finished (reduce at_expr (value h) ps)
 finish _ = None
 
 abbrev pub built : List Lexeme → Option (Tree Path)

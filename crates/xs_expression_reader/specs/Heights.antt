@@ -1,6 +1,7 @@
 -- How high the trees are that the machine holds.
 use Rattle.std.specs.Prelude.{◌≡◌, ℕ, ◌<◌, max, Bool, true, false, List, [], ◌∷◌}
 use Rattle.xs_tree.specs.Tree.{height_of, trees_height, branches_height, trees_from, branches_from}
+use Rattle.xs_tree.specs.Limits.{deepest}
 use Rattle.xs_expression_reader.specs.Build.{Part, left_part, answered, asked, set_part, condition_part, outcome_part, other_hand, Build, ready, name_on, high_on, minus_high_on, next_on, branch_on, holds, broken, value, Held}
 
 abbrev pub part_height : Part → ℕ
@@ -41,6 +42,6 @@ abbrev pub is_whole : Build → Bool
 is_whole broken = false
 is_whole _ = true
 
--- a tree that is higher than 1,000 stands at hand, unless nothing goes on
+-- a tree that is higher than `deepest` stands at hand, unless nothing goes on
 abbrev pub TooHigh : Build → Type 0
-TooHigh st = is_whole st ≡ true → 1000 < tallest st
+TooHigh st = is_whole st ≡ true → deepest < tallest st

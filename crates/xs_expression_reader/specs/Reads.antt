@@ -4,6 +4,7 @@ use Rattle.xs_tree.specs.Tree.{height_of}
 use Rattle.xs_tree.specs.ProgramTree.{Text, Formula}
 use Rattle.xs_tree.specs.Lexemes.{Lexeme}
 use Rattle.xs_tree.specs.Spells.{minus}
+use Rattle.xs_tree.specs.Limits.{deepest}
 use Rattle.xs_expression_reader.specs.Places.{is_word, text_in}
 use Rattle.xs_expression_reader.specs.Recognise.{start}
 use Rattle.xs_expression_reader.specs.Build.{built, name_in, number_in}
@@ -36,7 +37,7 @@ with_front xs none = none
 
 abbrev pub made_of : Option Formula → List Lexeme → Read Formula
 made_of None r = none
-made_of (Some t) r = answer (nat_lt 1000 (height_of t)) t r
+made_of (Some t) r = answer (nat_lt deepest (height_of t)) t r
 
 abbrev pub front_read : Bool → Bool → Option Formula → List Lexeme → Read Formula
 front_read whole too_deep o r = if whole then (if too_deep then deep else made_of o r) else none

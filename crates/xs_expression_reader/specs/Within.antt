@@ -7,6 +7,7 @@ use Rattle.xs_tree.specs.ProgramTree.{Formula}
 use Rattle.xs_tree.specs.Lexemes.{Lexeme, lexemes_of}
 use Rattle.xs_tree.specs.Nesting.{nesting_of}
 use Rattle.xs_tree.specs.SpellsProgram.{SpellsMany, no_more, one_more, SpellsExpr, SpellsFormula, open_ended, ended, SpellsExpressions, last_expression, more_expressions}
+use Rattle.xs_tree.specs.Limits.{deepest}
 use Rattle.xs_expression_reader.specs.Lists.{BytesSpellExpressions}
 
 -- an expression, and how it is spelled
@@ -15,10 +16,10 @@ pub record Spelling : Type 0 where
   pub tree : Formula
   pub spelled : SpellsExpr lexemes tree
 
--- the tree is at most 1,000 high, and its parentheses are nested at most 1,000 deep
+-- the tree is at most `deepest` high, and its parentheses are nested at most `deepest` deep
 pub record IsWithin (s : Spelling) : Type 0 where
-  pub low : height_of s.tree ≤ 1000
-  pub flat : nesting_of s.spelled ≤ 1000
+  pub low : height_of s.tree ≤ deepest
+  pub flat : nesting_of s.spelled ≤ deepest
 
 abbrev pub AreWithin : List Spelling → Type 0
 AreWithin [] = Unit {0}
@@ -26,7 +27,7 @@ AreWithin (s ∷ ss) = IsWithin s × AreWithin ss
 
 -- the same, as a test
 abbrev pub is_too_deep : Spelling → Bool
-is_too_deep s = nat_lt 1000 (nesting_of s.spelled) || nat_lt 1000 (height_of s.tree)
+is_too_deep s = nat_lt deepest (nesting_of s.spelled) || nat_lt deepest (height_of s.tree)
 
 abbrev pub are_too_deep : List Spelling → Bool
 are_too_deep [] = false

@@ -4,20 +4,21 @@ ghost use Rattle.xs_expression_reader.specs.Recognise as machine;
 ghost use Rattle.xs_expression_reader.specs.Extents.{reach_of, is_deep, ends_whole};
 
 use crate::frames::Frames;
+use crate::grown::DEEPEST;
 use crate::machine::{Mode, is_stuck, is_whole, step};
 use crate::token::TokenText;
 use std::alloc::Global;
 use xs_value::OutOfMemory;
 
-/// The deepest nesting of parentheses.
-const LIMIT: usize = 1000;
+/// How many groups may be open at once.
+const MOST_GROUPS: usize = DEEPEST as usize;
 
 /// How far an expression reaches.
 #[derive(Clone, Copy, Debug, PartialEq, Eq)]
 pub struct Extent {
     /// The number of its tokens.
     pub len: usize,
-    /// Whether parentheses are nested deeper than 1,000.
+    /// Whether parentheses are nested deeper than [`DEEPEST`].
     pub deep: bool,
     /// Whether these tokens together are an expression.
     pub whole: bool,
@@ -40,7 +41,7 @@ pub fn reach(alloc: Global, tokens: &[TokenText]) -> Result<Extent, OutOfMemory>
         if is_stuck(mode) {
             return Ok(Extent { len, deep, whole });
         }
-        deep = deep || frames.groups() > LIMIT;
+        deep = deep || frames.groups() > MOST_GROUPS;
     }
     Ok(Extent {
         len: tokens.len(),

@@ -16,8 +16,8 @@ pub enum ParseFault {
     Unexpected(u32),
     /// The text ends before it spells a tree. The place is the number of bytes.
     End(u32),
-    /// The text spells a tree, but one that is higher than 1,000, or its parentheses are nested
-    /// deeper than 1,000.
+    /// The text spells a tree, but one that is higher than [`DEEPEST`](crate::DEEPEST), or its
+    /// parentheses are nested deeper.
     TooDeep,
     /// No text goes on with the word at this place, which stands for a part of the language that is
     /// left out.
@@ -37,7 +37,7 @@ impl From<OutOfMemory> for ParseFault {
 /// Why a tree was not made.
 #[derive(Clone, Copy, Debug, PartialEq, Eq)]
 pub enum GrowFault {
-    /// It would be higher than 1,000.
+    /// It would be higher than [`DEEPEST`](crate::DEEPEST).
     TooDeep,
     /// There was no memory.
     OutOfMemory,
@@ -54,7 +54,7 @@ impl From<OutOfMemory> for GrowFault {
 /// Why no tree was made of a list of tokens.
 #[derive(Clone, Copy, Debug, PartialEq, Eq)]
 pub enum BuildFault {
-    /// The tree is higher than 1,000, or its parentheses are nested deeper than 1,000.
+    /// The tree is higher than [`DEEPEST`](crate::DEEPEST), or its parentheses are nested deeper.
     TooDeep,
     /// The tokens spell no tree.
     NoTree,

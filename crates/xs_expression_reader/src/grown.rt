@@ -1,41 +1,42 @@
-// Trees that are at most 1,000 high, with their heights.
+// Trees that are at most `DEEPEST` high, with their heights.
 ghost use Rattle.std.specs.Prelude.{◌≡◌, ◌<◌, ◌≤◌, ◌+◌, ◌++◌, ◌∷◌, [], Err, IfOk, map};
 ghost use Rattle.xs_tree.specs.Tree.{truth, number, leaf, not_of, negate, next_of, binary, choice, case_of, set_of, span, trees_from, branches_from, height_of, trees_height, branches_height};
 ghost use Rattle.xs_tree.specs.Written.{tree_of, branch_trees};
+ghost use Rattle.xs_tree.specs.Limits.{deepest};
 
 use crate::fault::GrowFault;
 use std::alloc::Global;
 use xs_tree::{BranchList, Expr, ExprList, Op};
 use xs_value::{Dotted, Items, OutOfMemory};
 
-/// The height that no tree passes.
-pub const LIMIT: u32 = 1000;
+/// How high a tree may be, and how deep its parentheses may be nested.
+pub const DEEPEST: u32 = 1000;
 
-/// A tree that is at most 1,000 high.
+/// A tree that is at most [`DEEPEST`] high.
 #[derive(Drop)]
 pub struct Grown {
     pub tree: Expr<Dotted>,
     pub height: u32,
     ghost exact: { height ≡ height_of (tree_of tree) },
-    ghost within: { height ≤ 1000 },
+    ghost within: { height ≤ deepest },
 }
 
-/// Trees that are at most 1,000 high.
+/// Trees that are at most [`DEEPEST`] high.
 #[derive(Drop)]
 pub struct GrownList {
     pub trees: ExprList<Dotted>,
     pub height: u32,
     ghost exact: { height ≡ trees_height (trees_from (map tree_of trees)) },
-    ghost within: { height ≤ 1000 },
+    ghost within: { height ≤ deepest },
 }
 
-/// Branches whose trees are at most 1,000 high.
+/// Branches whose trees are at most [`DEEPEST`] high.
 #[derive(Drop)]
 pub struct GrownBranches {
     pub branches: BranchList<Dotted>,
     pub height: u32,
     ghost exact: { height ≡ branches_height (branches_from (map branch_trees branches)) },
-    ghost within: { height ≤ 1000 },
+    ghost within: { height ≤ deepest },
 }
 
 fn boxed(alloc: Global, tree: Expr<Dotted>) -> Result<Box<Expr<Dotted>>, OutOfMemory>
@@ -49,11 +50,11 @@ fn boxed(alloc: Global, tree: Expr<Dotted>) -> Result<Box<Expr<Dotted>>, OutOfMe
 
 /// The height of a node over children of this height.
 fn height_over(below: u32) -> Result<u32, GrowFault>
-    requires { below ≤ 1000 }
-    ensures ok { IfOk result (λ height. (height ≡ below + 1) × (height ≤ 1000)) }
-    ensures deep { result ≡ Err GrowFault.TooDeep → 1000 < below + 1 }
+    requires { below ≤ deepest }
+    ensures ok { IfOk result (λ height. (height ≡ below + 1) × (height ≤ deepest)) }
+    ensures deep { result ≡ Err GrowFault.TooDeep → deepest < below + 1 }
 {
-    if below < LIMIT {
+    if below < DEEPEST {
         Ok(below + 1)
     } else {
         Err(GrowFault::TooDeep)
@@ -99,7 +100,7 @@ impl Grown {
 
     pub fn not(alloc: Global, operand: Grown) -> Result<Grown, GrowFault>
         ensures ok { IfOk result (λ made. tree_of made.tree ≡ not_of (tree_of operand.tree)) }
-        ensures deep { result ≡ Err GrowFault.TooDeep → 1000 < height_of (not_of (tree_of operand.tree)) }
+        ensures deep { result ≡ Err GrowFault.TooDeep → deepest < height_of (not_of (tree_of operand.tree)) }
     {
         let height = height_over(operand.height)?;
         Ok(Grown {
@@ -110,7 +111,7 @@ impl Grown {
 
     pub fn negate(alloc: Global, operand: Grown) -> Result<Grown, GrowFault>
         ensures ok { IfOk result (λ made. tree_of made.tree ≡ negate (tree_of operand.tree)) }
-        ensures deep { result ≡ Err GrowFault.TooDeep → 1000 < height_of (negate (tree_of operand.tree)) }
+        ensures deep { result ≡ Err GrowFault.TooDeep → deepest < height_of (negate (tree_of operand.tree)) }
     {
         let height = height_over(operand.height)?;
         Ok(Grown {
@@ -121,7 +122,7 @@ impl Grown {
 
     pub fn next(alloc: Global, operand: Grown) -> Result<Grown, GrowFault>
         ensures ok { IfOk result (λ made. tree_of made.tree ≡ next_of (tree_of operand.tree)) }
-        ensures deep { result ≡ Err GrowFault.TooDeep → 1000 < height_of (next_of (tree_of operand.tree)) }
+        ensures deep { result ≡ Err GrowFault.TooDeep → deepest < height_of (next_of (tree_of operand.tree)) }
     {
         let height = height_over(operand.height)?;
         Ok(Grown {
@@ -132,7 +133,7 @@ impl Grown {
 
     pub fn binary(alloc: Global, op: Op, left: Grown, right: Grown) -> Result<Grown, GrowFault>
         ensures ok { IfOk result (λ made. tree_of made.tree ≡ binary op (tree_of left.tree) (tree_of right.tree)) }
-        ensures deep { result ≡ Err GrowFault.TooDeep → 1000 < height_of (binary op (tree_of left.tree) (tree_of right.tree)) }
+        ensures deep { result ≡ Err GrowFault.TooDeep → deepest < height_of (binary op (tree_of left.tree) (tree_of right.tree)) }
     {
         let height = height_over(left.height.max(right.height))?;
         let left = boxed(alloc, left.tree)?;
@@ -145,7 +146,7 @@ impl Grown {
 
     pub fn choice(alloc: Global, test: Grown, first: Grown, last: Grown) -> Result<Grown, GrowFault>
         ensures ok { IfOk result (λ made. tree_of made.tree ≡ choice (tree_of test.tree) (tree_of first.tree) (tree_of last.tree)) }
-        ensures deep { result ≡ Err GrowFault.TooDeep → 1000 < height_of (choice (tree_of test.tree) (tree_of first.tree) (tree_of last.tree)) }
+        ensures deep { result ≡ Err GrowFault.TooDeep → deepest < height_of (choice (tree_of test.tree) (tree_of first.tree) (tree_of last.tree)) }
     {
         let height = height_over(test.height.max(first.height.max(last.height)))?;
         let test = boxed(alloc, test.tree)?;
@@ -160,7 +161,7 @@ impl Grown {
     #[tactic(auto, using(xs_tree::proofs::WrittenLaws::tree_of_set))]
     pub fn set(members: GrownList) -> Result<Grown, GrowFault>
         ensures ok { IfOk result (λ made. tree_of made.tree ≡ set_of (trees_from (map tree_of members.trees))) }
-        ensures deep { result ≡ Err GrowFault.TooDeep → 1000 < height_of (set_of (trees_from (map tree_of members.trees))) }
+        ensures deep { result ≡ Err GrowFault.TooDeep → deepest < height_of (set_of (trees_from (map tree_of members.trees))) }
     {
         let height = height_over(members.height)?;
         Ok(Grown {
@@ -172,7 +173,7 @@ impl Grown {
     #[tactic(auto, using(xs_tree::proofs::WrittenLaws::tree_of_case))]
     pub fn case(branches: GrownBranches) -> Result<Grown, GrowFault>
         ensures ok { IfOk result (λ made. tree_of made.tree ≡ case_of (branches_from (map branch_trees branches.branches))) }
-        ensures deep { result ≡ Err GrowFault.TooDeep → 1000 < height_of (case_of (branches_from (map branch_trees branches.branches))) }
+        ensures deep { result ≡ Err GrowFault.TooDeep → deepest < height_of (case_of (branches_from (map branch_trees branches.branches))) }
     {
         let height = height_over(branches.height)?;
         Ok(Grown {
@@ -181,10 +182,10 @@ impl Grown {
         })
     }
 
-    /// The tree, which is at most 1,000 high.
+    /// The tree, which is at most [`DEEPEST`] high.
     pub fn into_tree(self) -> Expr<Dotted>
         ensures same { tree_of result ≡ tree_of self.tree }
-        ensures within { height_of (tree_of result) ≤ 1000 }
+        ensures within { height_of (tree_of result) ≤ deepest }
     {
         self.tree
     }

@@ -5,10 +5,15 @@ ghost use Rattle.xs_tree.specs.Tree.{height_of};
 ghost use Rattle.xs_expression_reader.specs.Build as machine;
 ghost use Rattle.xs_expression_reader.specs.PartViews.{part_view, parts_of, held};
 ghost use Rattle.xs_tree.specs.Written.{tree_of};
+ghost use Rattle.xs_tree.specs.Limits.{deepest};
 ghost use Rattle.xs_expression_reader.specs.Heights.{held_height};
 
 use crate::fault::GrowFault;
 use crate::grown::{Grown, GrownBranches, GrownList};
+use crate::lines::{
+    AT_AND, AT_CHOICE, AT_EXPR, AT_IFF, AT_NEG, AT_NOT, AT_OR, AT_PROD, AT_REL, AT_SUM, AT_UNI,
+    AT_WITHIN,
+};
 use std::alloc::Global;
 use xs_tree::Op;
 use xs_value::OutOfMemory;
@@ -56,7 +61,7 @@ pub fn pop(parts: &mut Vec<Part>) -> Option<Part>
 /// The part, with its operand.
 fn join(alloc: Global, part: Part, operand: Grown) -> Result<Grown, GrowFault>
     ensures ok { IfOk result (λ made. tree_of made.tree ≡ machine.joined (part_view part) (tree_of operand.tree)) }
-    ensures deep { result ≡ Err GrowFault.TooDeep → 1000 < height_of (machine.joined (part_view part) (tree_of operand.tree)) }
+    ensures deep { result ≡ Err GrowFault.TooDeep → deepest < height_of (machine.joined (part_view part) (tree_of operand.tree)) }
 {
     match part {
         Part::Minus => Grown::negate(alloc, operand),
@@ -67,20 +72,20 @@ fn join(alloc: Global, part: Part, operand: Grown) -> Result<Grown, GrowFault>
     }
 }
 
-/// The line of an operator, and 0 for `->`.
+/// The line of an operator, and the loosest for `->`.
 fn looseness(op: Op) -> u32
     ensures { result ≡ machine.looseness (line_of op) }
 {
     match op {
-        Op::Times | Op::Over | Op::Mod => 9,
-        Op::Plus | Op::Minus => 8,
-        Op::Union => 7,
-        Op::Within => 6,
-        Op::Equal | Op::Differs | Op::Less | Op::Greater | Op::AtMost | Op::AtLeast => 5,
-        Op::And => 4,
-        Op::Or | Op::Xor | Op::Xnor => 3,
-        Op::Iff => 1,
-        Op::Implies => 0,
+        Op::Times | Op::Over | Op::Mod => AT_PROD,
+        Op::Plus | Op::Minus => AT_SUM,
+        Op::Union => AT_UNI,
+        Op::Within => AT_WITHIN,
+        Op::Equal | Op::Differs | Op::Less | Op::Greater | Op::AtMost | Op::AtLeast => AT_REL,
+        Op::And => AT_AND,
+        Op::Or | Op::Xor | Op::Xnor => AT_OR,
+        Op::Iff => AT_IFF,
+        Op::Implies => AT_EXPR,
     }
 }
 
@@ -89,7 +94,7 @@ pub fn level(op: Op) -> u32
     ensures { result ≡ machine.level (line_of op) }
 {
     match op {
-        Op::Implies => 1,
+        Op::Implies => AT_IFF,
         _ => looseness(op),
     }
 }
@@ -99,10 +104,10 @@ fn takes_operand(level: u32, part: &Part) -> bool
     ensures { result ≡ machine.takes_operand level (part_view part.now) }
 {
     match part {
-        Part::Minus => level <= 10,
-        Part::Bang => level <= 11,
+        Part::Minus => level <= AT_NEG,
+        Part::Bang => level <= AT_NOT,
         Part::Left(op, _) => level <= looseness(*op),
-        Part::Answered(_, _) => level <= 2,
+        Part::Answered(_, _) => level <= AT_CHOICE,
         _ => false,
     }
 }
@@ -116,7 +121,7 @@ pub fn reduce(
     operand: Grown,
 ) -> Result<Grown, GrowFault>
     ensures ok { IfOk result (λ made. held (tree_of made.tree) (parts_of parts.new.items) ≡ machine.reduce level (tree_of operand.tree) (parts_of parts.old.items)) }
-    ensures deep { result ≡ Err GrowFault.TooDeep → 1000 < held_height (machine.reduce level (tree_of operand.tree) (parts_of parts.old.items)) }
+    ensures deep { result ≡ Err GrowFault.TooDeep → deepest < held_height (machine.reduce level (tree_of operand.tree) (parts_of parts.old.items)) }
 {
     let mut made = operand;
     while let Some(part) = pop(parts) {

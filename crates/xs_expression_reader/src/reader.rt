@@ -7,6 +7,7 @@ ghost use Rattle.xs_tree.specs.ProgramTree.{Formula};
 ghost use Rattle.xs_tree.specs.Written.{tree_of};
 ghost use Rattle.xs_tree.specs.Lexemes.{Lexeme, lexemes_of};
 ghost use Rattle.xs_tree.specs.Bytes.{BytesSpellExpr, HasDepths};
+ghost use Rattle.xs_tree.specs.Limits.{deepest};
 ghost use Rattle.xs_expression_reader.specs.Recognise as machine;
 ghost use Rattle.xs_expression_reader.specs.Build.{built as machine_built};
 ghost use Rattle.xs_expression_reader.specs.Extents.{is_deep};
@@ -94,7 +95,7 @@ fn make_expression(
     requires same { texts.now ≡ lexemes_of bytes.now tokens.now }
     requires whole { machine.is_whole (machine.run machine.start texts.now) ≡ true }
     ensures made { IfOk result (λ e. machine_built texts.now ≡ Some (tree_of e)) }
-    ensures within { IfOk result (λ e. height_of (tree_of e) ≤ 1000) }
+    ensures within { IfOk result (λ e. height_of (tree_of e) ≤ deepest) }
     ensures fault { IfErr result (λ fault. FaultMeans IsExpression (IsTooDeep bytes.now) bytes.now fault) }
 {
     match tree(alloc, texts) {

@@ -3,6 +3,7 @@ ghost use Rattle.std.specs.Prelude.{◌≡◌, ◌<◌, ◌≤◌, ◌∷◌, []
 ghost use Rattle.xs_tree.specs.Tree.{height_of};
 ghost use Rattle.xs_tree.specs.Written.{tree_of};
 ghost use Rattle.xs_tree.specs.ProgramTree.{Formula};
+ghost use Rattle.xs_tree.specs.Limits.{deepest};
 ghost use Rattle.xs_expression_reader.specs.Build as machine;
 ghost use Rattle.xs_expression_reader.specs.Views.{role_view};
 ghost use Rattle.xs_expression_reader.specs.PartViews.{part_view, parts_of};
@@ -11,6 +12,7 @@ ghost use Rattle.xs_expression_reader.specs.Heights.{TooHigh};
 
 use crate::fault::{BuildFault, GrowFault};
 use crate::grown::{Grown, GrownBranches, GrownList};
+use crate::lines::{AT_EXPR, AT_OR, AT_SUM};
 use crate::machine::Role;
 use crate::parts::{Part, level, pop, push, reduce};
 use crate::token::{Digits, TokenText};
@@ -163,15 +165,15 @@ fn go_on(
             Ok(wait(parts, Part::Left(op, left))?)
         }
         Role::Minus => {
-            let left = reduce(alloc, parts, 8, operand)?;
+            let left = reduce(alloc, parts, AT_SUM, operand)?;
             Ok(wait(parts, Part::Left(Op::Minus, left))?)
         }
         Role::Asks => {
-            let test = reduce(alloc, parts, 3, operand)?;
+            let test = reduce(alloc, parts, AT_OR, operand)?;
             Ok(wait(parts, Part::Asked(test))?)
         }
         _ => {
-            let operand = reduce(alloc, parts, 0, operand)?;
+            let operand = reduce(alloc, parts, AT_EXPR, operand)?;
             shut(alloc, parts, operand, role)
         }
     }
@@ -363,14 +365,14 @@ fn step(
 #[tactic(auto, using(crate::proofs::Tallest::finish_high, crate::proofs::PartStacks::finished_from, crate::proofs::PartStacks::unfinished_from))]
 fn finish(alloc: Global, build: Build, parts: Vec<Part>) -> Result<Expr<Dotted>, BuildFault>
     ensures ok { IfOk result (λ made. machine.finish (build_view build (parts_of parts.items)) ≡ Some (tree_of made)) }
-    ensures within { IfOk result (λ made. height_of (tree_of made) ≤ 1000) }
-    ensures deep { (t : Formula) → result ≡ Err BuildFault.TooDeep → machine.finish (build_view build (parts_of parts.items)) ≡ Some t → 1000 < height_of t }
+    ensures within { IfOk result (λ made. height_of (tree_of made) ≤ deepest) }
+    ensures deep { (t : Formula) → result ≡ Err BuildFault.TooDeep → machine.finish (build_view build (parts_of parts.items)) ≡ Some t → deepest < height_of t }
     ensures none { result ≡ Err BuildFault.NoTree → machine.finish (build_view build (parts_of parts.items)) ≡ None }
 {
     match build {
         Build::Holds(hand) => {
             let mut parts = parts;
-            let made = reduce(alloc, &mut parts, 0, value(hand))?;
+            let made = reduce(alloc, &mut parts, AT_EXPR, value(hand))?;
             match pop(&mut parts) {
                 None => Ok(made.into_tree()),
                 Some(_) => Err(BuildFault::NoTree),
@@ -384,8 +386,8 @@ fn finish(alloc: Global, build: Build, parts: Vec<Part>) -> Result<Expr<Dotted>,
 #[tactic(auto, using(crate::proofs::PartStacks::no_parts))]
 pub fn tree(alloc: Global, tokens: &[TokenText]) -> Result<Expr<Dotted>, BuildFault>
     ensures ok { IfOk result (λ made. machine.built tokens.now ≡ Some (tree_of made)) }
-    ensures within { IfOk result (λ made. height_of (tree_of made) ≤ 1000) }
-    ensures deep { (t : Formula) → result ≡ Err BuildFault.TooDeep → machine.built tokens.now ≡ Some t → 1000 < height_of t }
+    ensures within { IfOk result (λ made. height_of (tree_of made) ≤ deepest) }
+    ensures deep { (t : Formula) → result ≡ Err BuildFault.TooDeep → machine.built tokens.now ≡ Some t → deepest < height_of t }
     ensures none { result ≡ Err BuildFault.NoTree → machine.built tokens.now ≡ None }
 {
     let mut parts = Vec::new(alloc);

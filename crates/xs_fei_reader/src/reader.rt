@@ -66,8 +66,8 @@ fn make(
     }
 }
 
-/// The instructions that the bytes spell, where each expression in them is at most 1,000 high and nested at most 1,000
-/// deep. It takes time in proportion to the bytes.
+/// The instructions that the bytes spell, where each expression in them is at most `DEEPEST` high and nested at most
+/// as deep. It takes time in proportion to the bytes.
 #[tactic(auto, using(xs_expression_reader::proofs::FaultLaws::of_tokens))]
 pub fn instructions(alloc: Global, bytes: &[u8]) -> Result<Instructions, ParseFault>
     requires { length bytes.now < 2 ^ 32 }

@@ -5,14 +5,15 @@ use Rattle.xs_tree.specs.Tree.{height_of}
 use Rattle.xs_tree.specs.ProgramTree.{Formula, DeclaredTree, boolean, range, members, instance, DeclTree, DefineTree, AssignmentTree, SectionTree, var, ivar, frozen, define, constants, assign, init, invar, trans, ModuleTree, ProgramTree}
 use Rattle.xs_tree.specs.Trace.{Each}
 use Rattle.xs_tree.specs.Lexemes.{Lexeme, sign}
+use Rattle.xs_tree.specs.Limits.{deepest}
 use Rattle.xs_tree.specs.SpellsProgram.{SpellsMany, no_more, one_more, SpellsCommas, last_one, one_comma, SpellsBracketed, no_brackets, brackets, SpellsExpr, SpellsFormula, open_ended, ended, SpellsDeclared, is_type, is_instance, is_empty_instance, SpellsDecl, declares, SpellsDefine, defines, SpellsAssignment, assigns, SpellsSection, a_var, an_ivar, a_frozen, a_define, some_constants, an_assign, an_init, an_invar, a_trans, SpellsSections, no_section, a_section, skipped, SpellsModule, a_module}
 use Rattle.xs_expression_reader.specs.Within.{Spelling, AreWithin, spelling, in_formula, in_many}
 use Rattle.xs_parse.specs.Within.{in_commas, in_actual, in_actuals, in_declared, in_decl, in_define, in_assignment, in_section, in_sections, in_module, HasProgramDepths}
 use Rattle.xs_generated.proofs.Short.{spelling_long, lexemes_short}
 
--- no expression is higher than 1,000
+-- no expression is higher than the limit
 abbrev pub IsLow : Formula → Type 0
-IsLow e = height_of e ≤ 1000
+IsLow e = height_of e ≤ deepest
 
 abbrev IsLowDeclared : DeclaredTree → Type 0
 IsLowDeclared (instance m actuals) = Each IsLow actuals

@@ -10,7 +10,7 @@ use Rattle.xs_tree.specs.ProgramTree.{Text, Path, Formula, DeclaredTree, range, 
 use Rattle.xs_tree.specs.Lexemes.{Lexeme, word, num, sign, is_reserved, section_words}
 use Rattle.xs_tree.specs.Texts.{same_text, is_among}
 use Rattle.xs_tree.specs.Tree.{Tree}
-use Rattle.xs_tree.specs.Spells.{at_expr, SpellsInt, plain_int, minus_int, SpellsDotted, one_name, more_names, Spells, SpellsAtom, is_true, is_false, is_number, is_span, is_name, in_parentheses, is_next, is_set, is_case}
+use Rattle.xs_tree.specs.Spells.{at_expr, at_not, SpellsInt, plain_int, minus_int, SpellsDotted, one_name, more_names, Spells, SpellsAtom, is_true, is_false, is_number, is_span, is_name, in_parentheses, is_next, is_set, is_case}
 use Rattle.xs_tree.specs.SpellsProgram.{SpellsMany, no_more, one_more, SpellsCommas, last_one, one_comma, SpellsBracketed, no_brackets, brackets, SpellsName, a_name, SpellsExpr, SpellsMember, a_symbol, a_number, SpellsType, is_boolean, is_range, is_members, SpellsDeclared, is_type, is_instance, is_empty_instance, SpellsDecl, declares, SpellsDefine, defines, SpellsTarget, always, first, after, SpellsAssignment, assigns, SpellsFormula, open_ended, ended, skipped_words, HasNoSection, SpellsSection, a_var, an_ivar, a_frozen, a_define, some_constants, an_assign, an_init, an_invar, a_trans, SpellsSections, no_section, a_section, skipped, SpellsFormals, some_formals, empty_formals, SpellsModule, a_module, SpellsProgram, SpellsExpressions, last_expression, more_expressions}
 use Rattle.xs_tree.proofs.ValueLaws.{same_text_refl}
 use Rattle.xs_tree.proofs.OneTree.{op_of, Stops, ends_at, end_of_becomes, end_of_bracket, end_of_comma, end_of_semicolon, closes, no_word_operator, tails, nothing_stops, same_text_equal, not_reserved, is_none_of, Same, one_int, one_dotted, begins, some_token, regrouped, second, one_line}
@@ -75,18 +75,18 @@ no_operator_there x h =
     no_word_operator x (no_operator_word x (codes "mod") refl h) (no_operator_word x (codes "union") refl h) (no_operator_word x (codes "in") refl h)
     (no_operator_word x (codes "xor") refl h) (no_operator_word x (codes "xnor") refl h)
 
-section_stops : (x : Text) (ts : List Lexeme) → is_among section_words x ≡ true → Stops 0 (word x ∷ ts)
-section_stops x ts h = closes 0 (word x) ts (ends_at 0 (word x) (no_operator_there x h) (λ e. cc) (λ e. cc) (λ e. cc))
+section_stops : (x : Text) (ts : List Lexeme) → is_among section_words x ≡ true → Stops at_expr (word x ∷ ts)
+section_stops x ts h = closes at_expr (word x) ts (ends_at at_expr (word x) (no_operator_there x h) (λ e. cc) (λ e. cc) (λ e. cc))
 
-past_stops : (r : List Lexeme) → Past r → Stops 0 r
+past_stops : (r : List Lexeme) → Past r → Stops at_expr r
 past_stops [] u = nothing_stops 0
 past_stops (word x ∷ ts) u = section_stops x ts u
 past_stops (num n d ∷ ts) u = absurd u
 past_stops (sign s ∷ ts) u = absurd u
 
-pub semicolon_stops : (r : List Lexeme) → Semicolon r → Stops 0 r
+pub semicolon_stops : (r : List Lexeme) → Semicolon r → Stops at_expr r
 semicolon_stops [] u = absurd u
-semicolon_stops (sign k.Semicolon ∷ ts) u = end_of_semicolon 0 ts
+semicolon_stops (sign k.Semicolon ∷ ts) u = end_of_semicolon at_expr ts
 semicolon_stops (sign s ∷ ts) u = absurd u
 semicolon_stops (word x ∷ ts) u = absurd u
 semicolon_stops (num n d ∷ ts) u = absurd u
@@ -97,7 +97,7 @@ not_section x n h = let clash : is_reserved x ≡ true = among (λ w. is_reserve
 
 -- Expressions, names and members.
 
-pub one_expr : OneBefore SpellsExpr (Stops 0)
+pub one_expr : OneBefore SpellsExpr (Stops at_expr)
 one_expr xs ys a b r s p q e u v = one_line r s p q e u v
 
 pub one_word : OneBefore SpellsName Any
@@ -141,9 +141,9 @@ abbrev Braced : List Lexeme → Type 0
 Braced (sign k.CloseBrace ∷ ts) = Unit {0}
 Braced _ = ⊥
 
-closed_stops : (r : List Lexeme) → Closed r → Stops 0 r
+closed_stops : (r : List Lexeme) → Closed r → Stops at_expr r
 closed_stops [] u = absurd u
-closed_stops (sign k.Close ∷ ts) u = end_of_bracket 0 ts
+closed_stops (sign k.Close ∷ ts) u = end_of_bracket at_expr ts
 closed_stops (sign s ∷ ts) u = absurd u
 closed_stops (word x ∷ ts) u = absurd u
 closed_stops (num n d ∷ ts) u = absurd u
@@ -189,7 +189,7 @@ one_members : OneBefore (SpellsCommas SpellsMember) Braced
 one_members = one_commas SpellsMember Any Braced one_member (λ r u. tt) (λ t. tt) (λ t u. u)
 
 one_actuals : OneBefore (SpellsCommas SpellsExpr) Closed
-one_actuals = one_commas SpellsExpr (Stops 0) Closed one_expr closed_stops (end_of_comma 0) (λ t u. u)
+one_actuals = one_commas SpellsExpr (Stops at_expr) Closed one_expr closed_stops (end_of_comma at_expr) (λ t u. u)
 
 one_type : OneBefore SpellsType Any
 one_type xs ys a b r s is_boolean is_boolean e u v = (refl, refl, second e)
@@ -285,7 +285,7 @@ one_define xs ys a b r s (defines {x = x} {ts = x0} {e = f} n p) (defines {x = y
     let h : x ≡ y = cc in
     let inner : Same x0 y0 f g (sign k.Semicolon ∷ r) (sign k.Semicolon ∷ s) =
     one_expr x0 y0 f g (sign k.Semicolon ∷ r) (sign k.Semicolon ∷ s) p q (sym (append_assoc x0 (sign k.Semicolon ∷ []) r) ∙ second (tails e) ∙ append_assoc y0 (sign k.Semicolon ∷ []) s)
-    (end_of_semicolon 0 r) (end_of_semicolon 0 s) in
+    (end_of_semicolon at_expr r) (end_of_semicolon at_expr s) in
     (rw (h, inner.0) refl, rw (h, inner.1) refl, second inner.2)
 
 -- a dotted name does not begin with a word that is reserved
@@ -299,7 +299,7 @@ SameTarget xs ys w w' d d' r s = (xs ≡ ys) × (w ≡ w') × (d ≡ d') × (r �
 one_target : {xs ys : List Lexeme} {w w' : Moment} {d d' : Path} (r s : List Lexeme) → SpellsTarget xs w d → SpellsTarget ys w' d' → xs ++ sign k.Becomes ∷ r ≡ ys ++ sign k.Becomes ∷ s →
     SameTarget xs ys w w' d d' r s
 one_target {xs} {ys} r s (always {d = d} p) (always {d = d'} q) e =
-    let inner : Same xs ys d d' (sign k.Becomes ∷ r) (sign k.Becomes ∷ s) = one_dotted (sign k.Becomes ∷ r) (sign k.Becomes ∷ s) p q e (end_of_becomes 11 r) (end_of_becomes 11 s) in
+    let inner : Same xs ys d d' (sign k.Becomes ∷ r) (sign k.Becomes ∷ s) = one_dotted (sign k.Becomes ∷ r) (sign k.Becomes ∷ s) p q e (end_of_becomes at_not r) (end_of_becomes at_not s) in
     (inner.0, refl, inner.1, second inner.2)
 one_target r s (always p) (first q) e = absurd (dotted_no_word (sign k.Becomes ∷ r) _ (codes "init") p refl e)
 one_target r s (always p) (after q) e = absurd (dotted_no_word (sign k.Becomes ∷ r) _ (codes "next") p refl e)
@@ -310,12 +310,12 @@ one_target r s (after p) (first q) e = absurd (words_differ refl e)
 one_target r s (first {ts = x0} {d = d} p) (first {ts = y0} {d = d'} q) e =
     let inner : Same x0 y0 d d' (sign k.Close ∷ sign k.Becomes ∷ r) (sign k.Close ∷ sign k.Becomes ∷ s) =
     one_dotted (sign k.Close ∷ sign k.Becomes ∷ r) (sign k.Close ∷ sign k.Becomes ∷ s) p q
-    (sym (append_assoc x0 (sign k.Close ∷ []) (sign k.Becomes ∷ r)) ∙ second (second e) ∙ append_assoc y0 (sign k.Close ∷ []) (sign k.Becomes ∷ s)) (end_of_bracket 11 _) (end_of_bracket 11 _) in
+    (sym (append_assoc x0 (sign k.Close ∷ []) (sign k.Becomes ∷ r)) ∙ second (second e) ∙ append_assoc y0 (sign k.Close ∷ []) (sign k.Becomes ∷ s)) (end_of_bracket at_not _) (end_of_bracket at_not _) in
     (rw inner.0 refl, refl, inner.1, second (second inner.2))
 one_target r s (after {ts = x0} {d = d} p) (after {ts = y0} {d = d'} q) e =
     let inner : Same x0 y0 d d' (sign k.Close ∷ sign k.Becomes ∷ r) (sign k.Close ∷ sign k.Becomes ∷ s) =
     one_dotted (sign k.Close ∷ sign k.Becomes ∷ r) (sign k.Close ∷ sign k.Becomes ∷ s) p q
-    (sym (append_assoc x0 (sign k.Close ∷ []) (sign k.Becomes ∷ r)) ∙ second (second e) ∙ append_assoc y0 (sign k.Close ∷ []) (sign k.Becomes ∷ s)) (end_of_bracket 11 _) (end_of_bracket 11 _) in
+    (sym (append_assoc x0 (sign k.Close ∷ []) (sign k.Becomes ∷ r)) ∙ second (second e) ∙ append_assoc y0 (sign k.Close ∷ []) (sign k.Becomes ∷ s)) (end_of_bracket at_not _) (end_of_bracket at_not _) in
     (rw inner.0 refl, refl, inner.1, second (second inner.2))
 
 one_assignment : OneBefore SpellsAssignment Any
@@ -325,7 +325,7 @@ one_assignment xs ys a b r s (assigns {xs = x0} {ts = x1} {when = w} {d = d} {e 
     (sym (regrouped x0 (x1 ++ sign k.Semicolon ∷ []) r (sign k.Becomes)) ∙ e ∙ regrouped y0 (y1 ++ sign k.Semicolon ∷ []) s (sign k.Becomes)) in
     let inner : Same x1 y1 f g (sign k.Semicolon ∷ r) (sign k.Semicolon ∷ s) =
     one_expr x1 y1 f g (sign k.Semicolon ∷ r) (sign k.Semicolon ∷ s) p q (sym (append_assoc x1 (sign k.Semicolon ∷ []) r) ∙ target.3 ∙ append_assoc y1 (sign k.Semicolon ∷ []) s)
-    (end_of_semicolon 0 r) (end_of_semicolon 0 s) in
+    (end_of_semicolon at_expr r) (end_of_semicolon at_expr s) in
     (rw (target.0, inner.0) refl, rw (target.1, target.2, inner.1) refl, second inner.2)
 
 -- Formulas with a semicolon at their end or none.
@@ -333,15 +333,15 @@ one_assignment xs ys a b r s (assigns {xs = x0} {ts = x1} {when = w} {d = d} {e 
 one_formula : OneBefore SpellsFormula Past
 one_formula xs ys a b r s (open_ended p) (open_ended q) e u v = one_expr xs ys a b r s p q e (past_stops r u) (past_stops s v)
 one_formula xs ys a b r s (open_ended p) (ended {ts = y0} q) e u v =
-    let inner : Same xs y0 a b r (sign k.Semicolon ∷ s) = one_expr xs y0 a b r (sign k.Semicolon ∷ s) p q (e ∙ append_assoc y0 (sign k.Semicolon ∷ []) s) (past_stops r u) (end_of_semicolon 0 s) in
+    let inner : Same xs y0 a b r (sign k.Semicolon ∷ s) = one_expr xs y0 a b r (sign k.Semicolon ∷ s) p q (e ∙ append_assoc y0 (sign k.Semicolon ∷ []) s) (past_stops r u) (end_of_semicolon at_expr s) in
     absurd (subst Past inner.2 u)
 one_formula xs ys a b r s (ended {ts = x0} p) (open_ended q) e u v =
-    let inner : Same x0 ys a b (sign k.Semicolon ∷ r) s = one_expr x0 ys a b (sign k.Semicolon ∷ r) s p q (sym (append_assoc x0 (sign k.Semicolon ∷ []) r) ∙ e) (end_of_semicolon 0 r) (past_stops s v) in
+    let inner : Same x0 ys a b (sign k.Semicolon ∷ r) s = one_expr x0 ys a b (sign k.Semicolon ∷ r) s p q (sym (append_assoc x0 (sign k.Semicolon ∷ []) r) ∙ e) (end_of_semicolon at_expr r) (past_stops s v) in
     absurd (subst Past (sym inner.2) v)
 one_formula xs ys a b r s (ended {ts = x0} p) (ended {ts = y0} q) e u v =
     let inner : Same x0 y0 a b (sign k.Semicolon ∷ r) (sign k.Semicolon ∷ s) =
     one_expr x0 y0 a b (sign k.Semicolon ∷ r) (sign k.Semicolon ∷ s) p q (sym (append_assoc x0 (sign k.Semicolon ∷ []) r) ∙ e ∙ append_assoc y0 (sign k.Semicolon ∷ []) s)
-    (end_of_semicolon 0 r) (end_of_semicolon 0 s) in
+    (end_of_semicolon at_expr r) (end_of_semicolon at_expr s) in
     (rw inner.0 refl, inner.1, second inner.2)
 
 -- Sections.
@@ -586,12 +586,12 @@ no_further : {ys : List Lexeme} {es : List Formula} {xs y0 : List Lexeme} {a b :
     xs ++ r ≡ (y0 ++ sign k.Semicolon ∷ ys) ++ s → Nothing r → ⊥
 no_further {ys = ys} {y0 = y0} {a = a} {b = b} r s (open_ended {ts = xs} p) q qm e u =
     let inner : Same xs y0 a b r (sign k.Semicolon ∷ (ys ++ s)) =
-    one_expr xs y0 a b r (sign k.Semicolon ∷ (ys ++ s)) p q (e ∙ regrouped y0 ys s (sign k.Semicolon)) (past_stops r (nothing_past r u)) (end_of_semicolon 0 (ys ++ s)) in
+    one_expr xs y0 a b r (sign k.Semicolon ∷ (ys ++ s)) p q (e ∙ regrouped y0 ys s (sign k.Semicolon)) (past_stops r (nothing_past r u)) (end_of_semicolon at_expr (ys ++ s)) in
     subst Nothing inner.2 u
 no_further {ys = ys} {y0 = y0} {a = a} {b = b} r s (ended {ts = xs} p) q qm e u =
     let inner : Same xs y0 a b (sign k.Semicolon ∷ r) (sign k.Semicolon ∷ (ys ++ s)) =
     one_expr xs y0 a b (sign k.Semicolon ∷ r) (sign k.Semicolon ∷ (ys ++ s)) p q (sym (append_assoc xs (sign k.Semicolon ∷ []) r) ∙ e ∙ regrouped y0 ys s (sign k.Semicolon))
-    (end_of_semicolon 0 r) (end_of_semicolon 0 (ys ++ s)) in
+    (end_of_semicolon at_expr r) (end_of_semicolon at_expr (ys ++ s)) in
     expressions_some s qm (sym (second inner.2) ∙ nothing_is r u)
 
 one_expressions : OneBefore SpellsExpressions Nothing
@@ -602,7 +602,7 @@ one_expressions xs ys a b r s (more_expressions p pm) (last_expression q) e u v 
 one_expressions xs ys a b r s (more_expressions {ts = x0} {us = x1} {e = f} {more = m} p pm) (more_expressions {ts = y0} {us = y1} {e = g} {more = n} q qm) e u v =
     let inner : Same x0 y0 f g (sign k.Semicolon ∷ (x1 ++ r)) (sign k.Semicolon ∷ (y1 ++ s)) =
     one_expr x0 y0 f g (sign k.Semicolon ∷ (x1 ++ r)) (sign k.Semicolon ∷ (y1 ++ s)) p q (sym (regrouped x0 x1 r (sign k.Semicolon)) ∙ e ∙ regrouped y0 y1 s (sign k.Semicolon))
-    (end_of_semicolon 0 (x1 ++ r)) (end_of_semicolon 0 (y1 ++ s)) in
+    (end_of_semicolon at_expr (x1 ++ r)) (end_of_semicolon at_expr (y1 ++ s)) in
     let rest : Same x1 y1 m n r s = one_expressions x1 y1 m n r s pm qm (second inner.2) u v in
     (rw (inner.0, rest.0) refl, rw (inner.1, rest.1) refl, rest.2)
 

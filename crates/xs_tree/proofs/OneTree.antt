@@ -8,7 +8,7 @@ use Rattle.xs_tree.specs.Tree.{Tree, Trees, Branches, binary}
 use Rattle.xs_tree.specs.ProgramTree.{Path}
 use Rattle.xs_tree.specs.Lexemes.{Lexeme, word, num, sign, is_reserved}
 use Rattle.xs_tree.specs.Texts.{same_text}
-use Rattle.xs_tree.specs.Spells.{at_expr, line_of, operator, minus, SpellsInt, plain_int, minus_int, SpellsDotted, one_name, more_names, begins_span, Spells, only_iff, implies, repeated, only_or, chooses, only_not, negates, only_atom, inverts, SpellsMore, no_operator, one_operator, SpellsAtom, is_true, is_false, is_number, is_span, is_name, in_parentheses, is_next, is_set, is_case, SpellsTrees, one_tree, more_trees, SpellsBranches, one_branch, more_branches}
+use Rattle.xs_tree.specs.Spells.{at_expr, at_iff, at_choice, at_or, at_neg, at_not, line_of, operator, minus, SpellsInt, plain_int, minus_int, SpellsDotted, one_name, more_names, begins_span, Spells, only_iff, implies, repeated, only_or, chooses, only_not, negates, only_atom, inverts, SpellsMore, no_operator, one_operator, SpellsAtom, is_true, is_false, is_number, is_span, is_name, in_parentheses, is_next, is_set, is_case, SpellsTrees, one_tree, more_trees, SpellsBranches, one_branch, more_branches}
 
 -- the operator of a lexeme
 pub op_of : Lexeme → Option Op
@@ -64,8 +64,8 @@ no_operator_is o t n e = let both : Some o ≡ None = sym (op_of_operator o) ∙
 -- what may follow an expression of line l: nothing that goes on with it
 pub record Ends (l : ℕ) (t : Lexeme) : Type 0 where
   operators : (o : Op) (m : ℕ) → operator o ≡ t → line_of o ≡ Some m → m < l
-  no_arrow : t ≡ sign k.Implies → 0 < l
-  no_question : t ≡ sign k.Question → 2 < l
+  no_arrow : t ≡ sign k.Implies → at_expr < l
+  no_question : t ≡ sign k.Question → at_choice < l
   no_dot : t ≢ sign k.Dot
   no_dots : t ≢ sign k.Dots
 
@@ -78,8 +78,8 @@ unfolding Stops
 stops_tighter l m [] h u = tt
 stops_tighter l m (t ∷ ts) h u = record {
   operators = λ o n e f. let b : n < l = u.operators o n e f in omega (arith, b, h);
-  no_arrow = λ e. let b : 0 < l = u.no_arrow e in omega (arith, b, h);
-  no_question = λ e. let b : 2 < l = u.no_question e in omega (arith, b, h);
+  no_arrow = λ e. let b : at_expr < l = u.no_arrow e in omega (arith, b, h);
+  no_question = λ e. let b : at_choice < l = u.no_question e in omega (arith, b, h);
   no_dot = u.no_dot;
   no_dots = u.no_dots;
 }
@@ -95,7 +95,7 @@ ends_at l t n q d dd = record {
   no_dots = dd;
 }
 
-ends_question : Ends 3 (sign k.Question)
+ends_question : Ends at_or (sign k.Question)
 unfolding op_of
 ends_question = record {
   operators = λ o m e f. absurd (no_operator_is o (sign k.Question) refl e);
@@ -105,7 +105,7 @@ ends_question = record {
   no_dots = λ e. cc;
 }
 
-ends_arrow : Ends 1 (sign k.Implies)
+ends_arrow : Ends at_iff (sign k.Implies)
 unfolding op_of
 ends_arrow = record {
   operators = λ o m e f.
@@ -183,7 +183,7 @@ form_of is_number = 7
 form_of (in_parentheses p) = 8
 form_of (is_set p) = 9
 
-number_begins : (n : ℕ) (d : List ℕ) (r : List Lexeme) → Stops 11 r → begins_with (num n d ∷ r) ≡ 7
+number_begins : (n : ℕ) (d : List ℕ) (r : List Lexeme) → Stops at_not r → begins_with (num n d ∷ r) ≡ 7
 unfolding Stops
 number_begins n d [] u = refl
 number_begins n d (word x ∷ r) u = refl
@@ -199,7 +199,7 @@ dotted_begins : {xs : List Lexeme} {p : Path} (r : List Lexeme) → SpellsDotted
 dotted_begins r (one_name {x = x} n) = name_begins x r n
 dotted_begins r (more_names {x = x} {ts = ts} n p) = name_begins x (sign k.Dot ∷ (ts ++ r)) n
 
-atom_begins : {xs : List Lexeme} {a : Tree Path} (r : List Lexeme) (p : SpellsAtom xs a) → Stops 11 r → begins_with (xs ++ r) ≡ form_of p
+atom_begins : {xs : List Lexeme} {a : Tree Path} (r : List Lexeme) (p : SpellsAtom xs a) → Stops at_not r → begins_with (xs ++ r) ≡ form_of p
 atom_begins r is_true u = refl
 atom_begins r is_false u = refl
 atom_begins r (is_next p) u = refl
@@ -222,15 +222,15 @@ one_int r s minus_int plain_int e = cc
 one_int r s (minus_int {n = n} {d = d}) (minus_int {n = m} {d = f}) e =
     let a : n ≡ m = cc in let b : d ≡ f = cc in let c : r ≡ s = cc in (rw (a, b) refl, ap minus a, c)
 
-pub one_dotted : {xs ys : List Lexeme} {p q : Path} (r s : List Lexeme) → SpellsDotted xs p → SpellsDotted ys q → xs ++ r ≡ ys ++ s → Stops 11 r → Stops 11 s →
+pub one_dotted : {xs ys : List Lexeme} {p q : Path} (r s : List Lexeme) → SpellsDotted xs p → SpellsDotted ys q → xs ++ r ≡ ys ++ s → Stops at_not r → Stops at_not s →
     Same xs ys p q r s
 unfolding Stops
 one_dotted r s (one_name {x = x} n) (one_name {x = y} m) e u v =
     let a : x ≡ y = cc in let b : r ≡ s = cc in (rw a refl, rw a refl, b)
 one_dotted r s (one_name n) (more_names {ts = ts} m q) e u v =
-    let b : r ≡ sign k.Dot ∷ (ts ++ s) = cc in let ended : Stops 11 (sign k.Dot ∷ (ts ++ s)) = subst (Stops 11) b u in absurd (ended.no_dot refl)
+    let b : r ≡ sign k.Dot ∷ (ts ++ s) = cc in let ended : Stops at_not (sign k.Dot ∷ (ts ++ s)) = subst (Stops at_not) b u in absurd (ended.no_dot refl)
 one_dotted r s (more_names {ts = ts} n p) (one_name m) e u v =
-    let b : sign k.Dot ∷ (ts ++ r) ≡ s = cc in let ended : Stops 11 (sign k.Dot ∷ (ts ++ r)) = subst (Stops 11) (sym b) v in absurd (ended.no_dot refl)
+    let b : sign k.Dot ∷ (ts ++ r) ≡ s = cc in let ended : Stops at_not (sign k.Dot ∷ (ts ++ r)) = subst (Stops at_not) (sym b) v in absurd (ended.no_dot refl)
 one_dotted r s (more_names {x = x} {ts = xs} {p = p'} n p) (more_names {x = y} {ts = ys} {p = q'} m q) e u v =
     let a : x ≡ y = cc in
     let tails : xs ++ r ≡ ys ++ s = cc in
@@ -347,12 +347,12 @@ atom_minus r s (in_parentheses p) e = cc
 atom_minus r s (is_set p) e = cc
 
 -- so an operand of `-` and what ends it do not begin so
-ended_by_dots : (s more : List Lexeme) → Stops 10 s → s ≡ sign k.Dots ∷ more → ⊥
+ended_by_dots : (s more : List Lexeme) → Stops at_neg s → s ≡ sign k.Dots ∷ more → ⊥
 unfolding Stops
 ended_by_dots [] more v e = cc
 ended_by_dots (u ∷ us) more v e = let same : u ≡ sign k.Dots = cc in v.no_dots same
 
-span_shows : (ts s : List Lexeme) → begins_span ts ≡ false → IsSome (ts ++ []) → Stops 10 s → IsSpanNext (ts ++ s) → ⊥
+span_shows : (ts s : List Lexeme) → begins_span ts ≡ false → IsSome (ts ++ []) → Stops at_neg s → IsSpanNext (ts ++ s) → ⊥
 span_shows [] s h some v i = some refl
 span_shows (t ∷ []) s h some v (n, d, more, e) = let rest : s ≡ sign k.Dots ∷ more = cc in ended_by_dots s more v rest
 span_shows (t ∷ u ∷ us) s h some v (n, d, more, e) =
@@ -360,11 +360,11 @@ span_shows (t ∷ u ∷ us) s h some v (n, d, more, e) =
     let b : u ≡ sign k.Dots = cc in
     let shown : begins_span (num n d ∷ sign k.Dots ∷ us) ≡ false = subst (λ z. begins_span (z ∷ sign k.Dots ∷ us) ≡ false) a (subst (λ z. begins_span (t ∷ z ∷ us) ≡ false) b h) in cc
 
-no_span_next : {ts : List Lexeme} {t : Tree Path} (s : List Lexeme) → begins_span ts ≡ false → Spells 10 ts t → Stops 10 s → IsSpanNext (ts ++ s) → ⊥
+no_span_next : {ts : List Lexeme} {t : Tree Path} (s : List Lexeme) → begins_span ts ≡ false → Spells at_neg ts t → Stops at_neg s → IsSpanNext (ts ++ s) → ⊥
 no_span_next {ts} s h p v i = span_shows ts s h (some_token [] p) v i
 
 -- a `-` of its own does not begin an expression of the line `not`
-not_minus : {xs ts : List Lexeme} {a t : Tree Path} (r s : List Lexeme) → Spells 11 xs a → begins_span ts ≡ false → Spells 10 ts t → Stops 10 s →
+not_minus : {xs ts : List Lexeme} {a t : Tree Path} (r s : List Lexeme) → Spells at_not xs a → begins_span ts ≡ false → Spells at_neg ts t → Stops at_neg s →
     xs ++ r ≡ sign k.Minus ∷ (ts ++ s) → ⊥
 not_minus r s (only_atom p) h q v e = no_span_next s h q v (atom_minus r _ p e)
 not_minus r s (inverts p) h q v e = cc
@@ -413,7 +413,7 @@ no_zero h = omega (arith, h)
 pub second : {t : Lexeme} {xs ys : List Lexeme} → ◌≡◌ {A = List Lexeme} (t ∷ xs) (t ∷ ys) → xs ≡ ys
 second e = cc
 
-forms : {xs ys : List Lexeme} {a b : Tree Path} (r s : List Lexeme) (p : SpellsAtom xs a) (q : SpellsAtom ys b) → xs ++ r ≡ ys ++ s → Stops 11 r → Stops 11 s →
+forms : {xs ys : List Lexeme} {a b : Tree Path} (r s : List Lexeme) (p : SpellsAtom xs a) (q : SpellsAtom ys b) → xs ++ r ≡ ys ++ s → Stops at_not r → Stops at_not s →
     form_of p ≡ form_of q
 forms r s p q e u v = sym (atom_begins r p u) ∙ ap begins_with e ∙ atom_begins s q v
 
@@ -429,20 +429,20 @@ brace_no_comma e = cc
 mutual
   pub one_line : {l : ℕ} {xs ys : List Lexeme} {a b : Tree Path} (r s : List Lexeme) → Spells l xs a → Spells l ys b → xs ++ r ≡ ys ++ s → Stops l r → Stops l s →
       Same xs ys a b r s
-  one_line r s (only_iff p) (only_iff q) e u v = one_line r s p q e (stops_tighter 0 1 r (omega arith) u) (stops_tighter 0 1 s (omega arith) v)
+  one_line r s (only_iff p) (only_iff q) e u v = one_line r s p q e (stops_tighter at_expr at_iff r (omega arith) u) (stops_tighter at_expr at_iff s (omega arith) v)
   one_line r s (only_iff {ts = xs} {t = a} p) (implies {xs = ys} {ys = zs} {a = b} q q') e u v =
       let first : Same xs ys a b r (sign k.Implies ∷ (zs ++ s)) =
-      one_line r (sign k.Implies ∷ (zs ++ s)) p q (e ∙ regrouped ys zs s (sign k.Implies)) (stops_tighter 0 1 r (omega arith) u) (closes 1 (sign k.Implies) (zs ++ s) ends_arrow) in
-      absurd (not_below_itself 0 ((head_ends 0 r (sign k.Implies) (zs ++ s) u first.2).no_arrow refl))
+      one_line r (sign k.Implies ∷ (zs ++ s)) p q (e ∙ regrouped ys zs s (sign k.Implies)) (stops_tighter at_expr at_iff r (omega arith) u) (closes at_iff (sign k.Implies) (zs ++ s) ends_arrow) in
+      absurd (not_below_itself at_expr ((head_ends at_expr r (sign k.Implies) (zs ++ s) u first.2).no_arrow refl))
   one_line r s (implies {xs = ys} {ys = zs} {a = b} p p') (only_iff {ts = xs} {t = a} q) e u v =
       let first : Same ys xs b a (sign k.Implies ∷ (zs ++ r)) s =
-      one_line (sign k.Implies ∷ (zs ++ r)) s p q (sym (regrouped ys zs r (sign k.Implies)) ∙ e) (closes 1 (sign k.Implies) (zs ++ r) ends_arrow) (stops_tighter 0 1 s (omega arith) v) in
-      absurd (not_below_itself 0 ((head_ends 0 s (sign k.Implies) (zs ++ r) v (sym first.2)).no_arrow refl))
+      one_line (sign k.Implies ∷ (zs ++ r)) s p q (sym (regrouped ys zs r (sign k.Implies)) ∙ e) (closes at_iff (sign k.Implies) (zs ++ r) ends_arrow) (stops_tighter at_expr at_iff s (omega arith) v) in
+      absurd (not_below_itself at_expr ((head_ends at_expr s (sign k.Implies) (zs ++ r) v (sym first.2)).no_arrow refl))
   one_line r s (implies {xs = x0} {ys = x1} {a = a0} {b = a1} p p') (implies {xs = y0} {ys = y1} {a = b0} {b = b1} q q') e u v =
       let first : Same x0 y0 a0 b0 (sign k.Implies ∷ (x1 ++ r)) (sign k.Implies ∷ (y1 ++ s)) =
       one_line (sign k.Implies ∷ (x1 ++ r)) (sign k.Implies ∷ (y1 ++ s)) p q
       (sym (regrouped x0 x1 r (sign k.Implies)) ∙ e ∙ regrouped y0 y1 s (sign k.Implies))
-      (closes 1 (sign k.Implies) (x1 ++ r) ends_arrow) (closes 1 (sign k.Implies) (y1 ++ s) ends_arrow) in
+      (closes at_iff (sign k.Implies) (x1 ++ r) ends_arrow) (closes at_iff (sign k.Implies) (y1 ++ s) ends_arrow) in
       let rest : Same x1 y1 a1 b1 r s = one_line r s p' q' (second first.2) u v in
       (rw (first.0, rest.0) refl, rw (first.1, rest.1) refl, rest.2)
   one_line {l} r s (repeated {xs = x0} {ys = x1} {a = a0} {t = a} h p pm) (repeated {xs = y0} {ys = y1} {a = b0} {t = b} h' q qm) e u v =
@@ -451,31 +451,31 @@ mutual
       let qm' : SpellsMore l y1 a0 b = subst (λ c. SpellsMore l y1 c b) (sym first.1) qm in
       let rest : Same x1 y1 a b r s = one_more r s pm qm' first.2 u v in
       (rw (first.0, rest.0) refl, rest.1, rest.2)
-  one_line r s (only_or p) (only_or q) e u v = one_line r s p q e (stops_tighter 2 3 r (omega arith) u) (stops_tighter 2 3 s (omega arith) v)
+  one_line r s (only_or p) (only_or q) e u v = one_line r s p q e (stops_tighter at_choice at_or r (omega arith) u) (stops_tighter at_choice at_or s (omega arith) v)
   one_line r s (only_or {ts = xs} {t = a} p) (chooses {zs = y0} {xs = y1} {ys = y2} {c = b} q q1 q2) e u v =
       let more : List Lexeme = (y1 ++ sign k.Colon ∷ y2) ++ s in
       let first : Same xs y0 a b r (sign k.Question ∷ more) =
-      one_line r (sign k.Question ∷ more) p q (e ∙ regrouped y0 (y1 ++ sign k.Colon ∷ y2) s (sign k.Question)) (stops_tighter 2 3 r (omega arith) u) (closes 3 (sign k.Question) more ends_question) in
-      absurd (not_below_itself 2 ((head_ends 2 r (sign k.Question) more u first.2).no_question refl))
+      one_line r (sign k.Question ∷ more) p q (e ∙ regrouped y0 (y1 ++ sign k.Colon ∷ y2) s (sign k.Question)) (stops_tighter at_choice at_or r (omega arith) u) (closes at_or (sign k.Question) more ends_question) in
+      absurd (not_below_itself at_choice ((head_ends at_choice r (sign k.Question) more u first.2).no_question refl))
   one_line r s (chooses {zs = y0} {xs = y1} {ys = y2} {c = b} p p1 p2) (only_or {ts = xs} {t = a} q) e u v =
       let more : List Lexeme = (y1 ++ sign k.Colon ∷ y2) ++ r in
       let first : Same y0 xs b a (sign k.Question ∷ more) s =
-      one_line (sign k.Question ∷ more) s p q (sym (regrouped y0 (y1 ++ sign k.Colon ∷ y2) r (sign k.Question)) ∙ e) (closes 3 (sign k.Question) more ends_question) (stops_tighter 2 3 s (omega arith) v) in
-      absurd (not_below_itself 2 ((head_ends 2 s (sign k.Question) more v (sym first.2)).no_question refl))
+      one_line (sign k.Question ∷ more) s p q (sym (regrouped y0 (y1 ++ sign k.Colon ∷ y2) r (sign k.Question)) ∙ e) (closes at_or (sign k.Question) more ends_question) (stops_tighter at_choice at_or s (omega arith) v) in
+      absurd (not_below_itself at_choice ((head_ends at_choice s (sign k.Question) more v (sym first.2)).no_question refl))
   one_line r s (chooses {zs = x0} {xs = x1} {ys = x2} {c = c} {a = a} {b = b} p p1 p2) (chooses {zs = y0} {xs = y1} {ys = y2} {c = c'} {a = a'} {b = b'} q q1 q2) e u v =
       let more : List Lexeme = (x1 ++ sign k.Colon ∷ x2) ++ r in
       let more' : List Lexeme = (y1 ++ sign k.Colon ∷ y2) ++ s in
       let first : Same x0 y0 c c' (sign k.Question ∷ more) (sign k.Question ∷ more') =
       one_line (sign k.Question ∷ more) (sign k.Question ∷ more') p q
       (sym (regrouped x0 (x1 ++ sign k.Colon ∷ x2) r (sign k.Question)) ∙ e ∙ regrouped y0 (y1 ++ sign k.Colon ∷ y2) s (sign k.Question))
-      (closes 3 (sign k.Question) more ends_question) (closes 3 (sign k.Question) more' ends_question) in
+      (closes at_or (sign k.Question) more ends_question) (closes at_or (sign k.Question) more' ends_question) in
       let middle : Same x1 y1 a a' (sign k.Colon ∷ (x2 ++ r)) (sign k.Colon ∷ (y2 ++ s)) =
       one_line (sign k.Colon ∷ (x2 ++ r)) (sign k.Colon ∷ (y2 ++ s)) p1 q1
       (sym (regrouped x1 x2 r (sign k.Colon)) ∙ second first.2 ∙ regrouped y1 y2 s (sign k.Colon))
-      (end_of_colon 0 (x2 ++ r)) (end_of_colon 0 (y2 ++ s)) in
+      (end_of_colon at_expr (x2 ++ r)) (end_of_colon at_expr (y2 ++ s)) in
       let rest : Same x2 y2 b b' r s = one_line r s p2 q2 (second middle.2) u v in
       (rw (first.0, middle.0, rest.0) refl, rw (first.1, middle.1, rest.1) refl, rest.2)
-  one_line r s (only_not p) (only_not q) e u v = one_line r s p q e (stops_tighter 10 11 r (omega arith) u) (stops_tighter 10 11 s (omega arith) v)
+  one_line r s (only_not p) (only_not q) e u v = one_line r s p q e (stops_tighter at_neg at_not r (omega arith) u) (stops_tighter at_neg at_not s (omega arith) v)
   one_line r s (only_not p) (negates h q) e u v = absurd (not_minus r s p h q v e)
   one_line r s (negates h p) (only_not q) e u v = absurd (not_minus s r q h p u (sym e))
   one_line r s (negates {ts = xs} {t = a} h p) (negates {ts = ys} {t = b} h' q) e u v =
@@ -521,7 +521,7 @@ mutual
       (rw (same, first.0, rest.0) refl, rest.1, rest.2)
 
   one_form : {xs ys : List Lexeme} {a b : Tree Path} (r s : List Lexeme) (p : SpellsAtom xs a) (q : SpellsAtom ys b) → form_of p ≡ form_of q → xs ++ r ≡ ys ++ s →
-      Stops 11 r → Stops 11 s → Same xs ys a b r s
+      Stops at_not r → Stops at_not s → Same xs ys a b r s
   one_form r s is_true is_true c e u v = (refl, refl, second e)
   one_form r s is_false is_false c e u v = (refl, refl, second e)
   one_form r s (is_number {n = n} {d = d}) (is_number {n = m} {d = f}) c e u v =
@@ -535,11 +535,11 @@ mutual
       let inner : Same xs ys n m r s = one_dotted r s p q e u v in (inner.0, rw inner.1 refl, inner.2)
   one_form r s (in_parentheses {ts = xs} {t = a} p) (in_parentheses {ts = ys} {t = b} q) c e u v =
       let inner : Same xs ys a b (sign k.Close ∷ r) (sign k.Close ∷ s) =
-      one_line (sign k.Close ∷ r) (sign k.Close ∷ s) p q (sym (append_assoc xs (sign k.Close ∷ []) r) ∙ second e ∙ append_assoc ys (sign k.Close ∷ []) s) (end_of_bracket 0 r) (end_of_bracket 0 s) in
+      one_line (sign k.Close ∷ r) (sign k.Close ∷ s) p q (sym (append_assoc xs (sign k.Close ∷ []) r) ∙ second e ∙ append_assoc ys (sign k.Close ∷ []) s) (end_of_bracket at_expr r) (end_of_bracket at_expr s) in
       (rw inner.0 refl, inner.1, second inner.2)
   one_form r s (is_next {ts = xs} {t = a} p) (is_next {ts = ys} {t = b} q) c e u v =
       let inner : Same xs ys a b (sign k.Close ∷ r) (sign k.Close ∷ s) =
-      one_line (sign k.Close ∷ r) (sign k.Close ∷ s) p q (sym (append_assoc xs (sign k.Close ∷ []) r) ∙ second (second e) ∙ append_assoc ys (sign k.Close ∷ []) s) (end_of_bracket 0 r) (end_of_bracket 0 s) in
+      one_line (sign k.Close ∷ r) (sign k.Close ∷ s) p q (sym (append_assoc xs (sign k.Close ∷ []) r) ∙ second (second e) ∙ append_assoc ys (sign k.Close ∷ []) s) (end_of_bracket at_expr r) (end_of_bracket at_expr s) in
       (rw inner.0 refl, rw inner.1 refl, second inner.2)
   one_form r s (is_set {ts = xs} {us = a} p) (is_set {ts = ys} {us = b} q) c e u v =
       let inner : Same xs ys a b r s =
@@ -555,48 +555,48 @@ mutual
       Same xs ys us vs r s
   one_list r s (one_tree {ts = xs} {t = a} p) (one_tree {ts = ys} {t = b} q) e =
       let inner : Same xs ys a b (sign k.CloseBrace ∷ r) (sign k.CloseBrace ∷ s) =
-      one_line (sign k.CloseBrace ∷ r) (sign k.CloseBrace ∷ s) p q e (end_of_brace 0 r) (end_of_brace 0 s) in
+      one_line (sign k.CloseBrace ∷ r) (sign k.CloseBrace ∷ s) p q e (end_of_brace at_expr r) (end_of_brace at_expr s) in
       (inner.0, rw inner.1 refl, second inner.2)
   one_list r s (one_tree {ts = xs} {t = a} p) (more_trees {ts = y0} {us = y1} {t = b} q qm) e =
       let more : List Lexeme = y1 ++ sign k.CloseBrace ∷ s in
       let inner : Same xs y0 a b (sign k.CloseBrace ∷ r) (sign k.Comma ∷ more) =
-      one_line (sign k.CloseBrace ∷ r) (sign k.Comma ∷ more) p q (e ∙ regrouped y0 y1 (sign k.CloseBrace ∷ s) (sign k.Comma)) (end_of_brace 0 r) (end_of_comma 0 more) in
+      one_line (sign k.CloseBrace ∷ r) (sign k.Comma ∷ more) p q (e ∙ regrouped y0 y1 (sign k.CloseBrace ∷ s) (sign k.Comma)) (end_of_brace at_expr r) (end_of_comma at_expr more) in
       absurd (brace_no_comma inner.2)
   one_list r s (more_trees {ts = y0} {us = y1} {t = b} p pm) (one_tree {ts = xs} {t = a} q) e =
       let more : List Lexeme = y1 ++ sign k.CloseBrace ∷ r in
       let inner : Same y0 xs b a (sign k.Comma ∷ more) (sign k.CloseBrace ∷ s) =
-      one_line (sign k.Comma ∷ more) (sign k.CloseBrace ∷ s) p q (sym (regrouped y0 y1 (sign k.CloseBrace ∷ r) (sign k.Comma)) ∙ e) (end_of_comma 0 more) (end_of_brace 0 s) in
+      one_line (sign k.Comma ∷ more) (sign k.CloseBrace ∷ s) p q (sym (regrouped y0 y1 (sign k.CloseBrace ∷ r) (sign k.Comma)) ∙ e) (end_of_comma at_expr more) (end_of_brace at_expr s) in
       absurd (brace_no_comma (sym inner.2))
   one_list r s (more_trees {ts = x0} {us = x1} {t = a} {more = am} p pm) (more_trees {ts = y0} {us = y1} {t = b} {more = bm} q qm) e =
       let more : List Lexeme = x1 ++ sign k.CloseBrace ∷ r in
       let more' : List Lexeme = y1 ++ sign k.CloseBrace ∷ s in
       let first : Same x0 y0 a b (sign k.Comma ∷ more) (sign k.Comma ∷ more') =
       one_line (sign k.Comma ∷ more) (sign k.Comma ∷ more') p q (sym (regrouped x0 x1 (sign k.CloseBrace ∷ r) (sign k.Comma)) ∙ e ∙ regrouped y0 y1 (sign k.CloseBrace ∷ s) (sign k.Comma))
-      (end_of_comma 0 more) (end_of_comma 0 more') in
+      (end_of_comma at_expr more) (end_of_comma at_expr more') in
       let rest : Same x1 y1 am bm r s = one_list r s pm qm (second first.2) in
       (rw (first.0, rest.0) refl, rw (first.1, rest.1) refl, rest.2)
 
   one_case : {xs ys : List Lexeme} {bs cs : Branches Path} (r s : List Lexeme) → SpellsBranches xs bs → SpellsBranches ys cs →
       xs ++ word (codes "esac") ∷ r ≡ ys ++ word (codes "esac") ∷ s → Same xs ys bs cs r s
   one_case r s (one_branch {zs = x0} {xs = x1} {c = c} {a = a} p p') (one_branch {zs = y0} {xs = y1} {c = d} {a = b} q q') e =
-      let inner : Same x0 y0 c d _ _ = one_line _ _ p q (sym (regrouped x0 (x1 ++ sign k.Semicolon ∷ []) (word (codes "esac") ∷ r) (sign k.Colon)) ∙ e ∙ regrouped y0 (y1 ++ sign k.Semicolon ∷ []) (word (codes "esac") ∷ s) (sign k.Colon)) (end_of_colon 0 _) (end_of_colon 0 _) in
+      let inner : Same x0 y0 c d _ _ = one_line _ _ p q (sym (regrouped x0 (x1 ++ sign k.Semicolon ∷ []) (word (codes "esac") ∷ r) (sign k.Colon)) ∙ e ∙ regrouped y0 (y1 ++ sign k.Semicolon ∷ []) (word (codes "esac") ∷ s) (sign k.Colon)) (end_of_colon at_expr _) (end_of_colon at_expr _) in
       let rest : Same x1 y1 a b (sign k.Semicolon ∷ word (codes "esac") ∷ r) (sign k.Semicolon ∷ word (codes "esac") ∷ s) =
-      one_line _ _ p' q' (sym (regrouped x1 [] (word (codes "esac") ∷ r) (sign k.Semicolon)) ∙ second inner.2 ∙ regrouped y1 [] (word (codes "esac") ∷ s) (sign k.Semicolon)) (end_of_semicolon 0 _) (end_of_semicolon 0 _) in
+      one_line _ _ p' q' (sym (regrouped x1 [] (word (codes "esac") ∷ r) (sign k.Semicolon)) ∙ second inner.2 ∙ regrouped y1 [] (word (codes "esac") ∷ s) (sign k.Semicolon)) (end_of_semicolon at_expr _) (end_of_semicolon at_expr _) in
       (rw (inner.0, rest.0) refl, rw (inner.1, rest.1) refl, second (second rest.2))
   one_case r s (one_branch {zs = x0} {xs = x1} {c = c} {a = a} p p') (more_branches {zs = y0} {xs = y1} {ys = y2} {c = d} {a = b} q q' qm) e =
-      let inner : Same x0 y0 c d _ _ = one_line _ _ p q (sym (regrouped x0 (x1 ++ sign k.Semicolon ∷ []) (word (codes "esac") ∷ r) (sign k.Colon)) ∙ e ∙ regrouped y0 (y1 ++ sign k.Semicolon ∷ y2) (word (codes "esac") ∷ s) (sign k.Colon)) (end_of_colon 0 _) (end_of_colon 0 _) in
+      let inner : Same x0 y0 c d _ _ = one_line _ _ p q (sym (regrouped x0 (x1 ++ sign k.Semicolon ∷ []) (word (codes "esac") ∷ r) (sign k.Colon)) ∙ e ∙ regrouped y0 (y1 ++ sign k.Semicolon ∷ y2) (word (codes "esac") ∷ s) (sign k.Colon)) (end_of_colon at_expr _) (end_of_colon at_expr _) in
       let rest : Same x1 y1 a b (sign k.Semicolon ∷ word (codes "esac") ∷ r) (sign k.Semicolon ∷ (y2 ++ word (codes "esac") ∷ s)) =
-      one_line _ _ p' q' (sym (regrouped x1 [] (word (codes "esac") ∷ r) (sign k.Semicolon)) ∙ second inner.2 ∙ regrouped y1 y2 (word (codes "esac") ∷ s) (sign k.Semicolon)) (end_of_semicolon 0 _) (end_of_semicolon 0 _) in
+      one_line _ _ p' q' (sym (regrouped x1 [] (word (codes "esac") ∷ r) (sign k.Semicolon)) ∙ second inner.2 ∙ regrouped y1 y2 (word (codes "esac") ∷ s) (sign k.Semicolon)) (end_of_semicolon at_expr _) (end_of_semicolon at_expr _) in
       absurd (no_esac _ r qm (second rest.2))
   one_case r s (more_branches {zs = x0} {xs = x1} {ys = x2} {c = c} {a = a} p p' pm) (one_branch {zs = y0} {xs = y1} {c = d} {a = b} q q') e =
-      let inner : Same x0 y0 c d _ _ = one_line _ _ p q (sym (regrouped x0 (x1 ++ sign k.Semicolon ∷ x2) (word (codes "esac") ∷ r) (sign k.Colon)) ∙ e ∙ regrouped y0 (y1 ++ sign k.Semicolon ∷ []) (word (codes "esac") ∷ s) (sign k.Colon)) (end_of_colon 0 _) (end_of_colon 0 _) in
+      let inner : Same x0 y0 c d _ _ = one_line _ _ p q (sym (regrouped x0 (x1 ++ sign k.Semicolon ∷ x2) (word (codes "esac") ∷ r) (sign k.Colon)) ∙ e ∙ regrouped y0 (y1 ++ sign k.Semicolon ∷ []) (word (codes "esac") ∷ s) (sign k.Colon)) (end_of_colon at_expr _) (end_of_colon at_expr _) in
       let rest : Same x1 y1 a b (sign k.Semicolon ∷ (x2 ++ word (codes "esac") ∷ r)) (sign k.Semicolon ∷ word (codes "esac") ∷ s) =
-      one_line _ _ p' q' (sym (regrouped x1 x2 (word (codes "esac") ∷ r) (sign k.Semicolon)) ∙ second inner.2 ∙ regrouped y1 [] (word (codes "esac") ∷ s) (sign k.Semicolon)) (end_of_semicolon 0 _) (end_of_semicolon 0 _) in
+      one_line _ _ p' q' (sym (regrouped x1 x2 (word (codes "esac") ∷ r) (sign k.Semicolon)) ∙ second inner.2 ∙ regrouped y1 [] (word (codes "esac") ∷ s) (sign k.Semicolon)) (end_of_semicolon at_expr _) (end_of_semicolon at_expr _) in
       absurd (no_esac _ s pm (sym (second rest.2)))
   one_case r s (more_branches {zs = x0} {xs = x1} {ys = x2} {c = c} {a = a} {more = am} p p' pm) (more_branches {zs = y0} {xs = y1} {ys = y2} {c = d} {a = b} {more = bm} q q' qm) e =
-      let inner : Same x0 y0 c d _ _ = one_line _ _ p q (sym (regrouped x0 (x1 ++ sign k.Semicolon ∷ x2) (word (codes "esac") ∷ r) (sign k.Colon)) ∙ e ∙ regrouped y0 (y1 ++ sign k.Semicolon ∷ y2) (word (codes "esac") ∷ s) (sign k.Colon)) (end_of_colon 0 _) (end_of_colon 0 _) in
+      let inner : Same x0 y0 c d _ _ = one_line _ _ p q (sym (regrouped x0 (x1 ++ sign k.Semicolon ∷ x2) (word (codes "esac") ∷ r) (sign k.Colon)) ∙ e ∙ regrouped y0 (y1 ++ sign k.Semicolon ∷ y2) (word (codes "esac") ∷ s) (sign k.Colon)) (end_of_colon at_expr _) (end_of_colon at_expr _) in
       let rest : Same x1 y1 a b (sign k.Semicolon ∷ (x2 ++ word (codes "esac") ∷ r)) (sign k.Semicolon ∷ (y2 ++ word (codes "esac") ∷ s)) =
-      one_line _ _ p' q' (sym (regrouped x1 x2 (word (codes "esac") ∷ r) (sign k.Semicolon)) ∙ second inner.2 ∙ regrouped y1 y2 (word (codes "esac") ∷ s) (sign k.Semicolon)) (end_of_semicolon 0 _) (end_of_semicolon 0 _) in
+      one_line _ _ p' q' (sym (regrouped x1 x2 (word (codes "esac") ∷ r) (sign k.Semicolon)) ∙ second inner.2 ∙ regrouped y1 y2 (word (codes "esac") ∷ s) (sign k.Semicolon)) (end_of_semicolon at_expr _) (end_of_semicolon at_expr _) in
       let last : Same x2 y2 am bm r s = one_case r s pm qm (second rest.2) in
       (rw (inner.0, rest.0, last.0) refl, rw (inner.1, rest.1, last.1) refl, last.2)
 

@@ -7,6 +7,7 @@ use Rattle.xs_tree.specs.ProgramTree.{Formula, ProgramTree}
 use Rattle.xs_tree.specs.Lexemes.{lexemes_of}
 use Rattle.xs_tree.specs.SpellsProgram.{SpellsProgram, SpellsExpr}
 use Rattle.xs_tree.specs.Nesting.{nesting_of}
+use Rattle.xs_tree.specs.Limits.{deepest}
 
 -- the bytes have tokens that spell the program
 abbrev pub BytesSpellProgram : List ℕ → ProgramTree → Type 0
@@ -16,7 +17,7 @@ BytesSpellProgram bytes p = (tokens : List Token) × HasTokens bytes tokens × S
 abbrev pub BytesSpellExpr : List ℕ → Formula → Type 0
 BytesSpellExpr bytes e = (tokens : List Token) × HasTokens bytes tokens × SpellsExpr (lexemes_of bytes tokens) e
 
--- the tree is at most 1,000 high, and as it is spelled parentheses are nested at most 1,000 deep
+-- the tree is at most `deepest` high, and as it is spelled parentheses are nested at most `deepest` deep
 abbrev pub HasDepths : List ℕ → Formula → Type 0
 HasDepths bytes e =
-    (height_of e ≤ 1000) × ((tokens : List Token) → HasTokens bytes tokens → (spelled : SpellsExpr (lexemes_of bytes tokens) e) → nesting_of spelled ≤ 1000)
+    (height_of e ≤ deepest) × ((tokens : List Token) → HasTokens bytes tokens → (spelled : SpellsExpr (lexemes_of bytes tokens) e) → nesting_of spelled ≤ deepest)

@@ -3,6 +3,7 @@ use Rattle.std.specs.Prelude.{Err}
 use Rattle.xs_tree.specs.Tree.{height_of}
 use Rattle.xs_tree.specs.ProgramTree.{Formula}
 use Rattle.xs_tree.specs.Lexemes.{lexemes_of}
+use Rattle.xs_tree.specs.Limits.{deepest}
 use Rattle.xs_expression_reader.specs.Recognise as machine
 use Rattle.xs_expression_reader.specs.Build.{built}
 use Rattle.xs_expression_reader.proofs.ExpressionLaws.{expression_made, expression_high}
@@ -16,6 +17,6 @@ returns-in-Err-TooDeep-clause-fault c =
     let same = c.requires.same in
     let whole : machine.is_whole (machine.run machine.start (lexemes_of c.args.bytes.now c.args.tokens.now)) ≡ true =
     subst (λ ts. machine.is_whole (machine.run machine.start ts) ≡ true) same c.requires.whole in
-    let high : (t : Formula) → built (lexemes_of c.args.bytes.now c.args.tokens.now) ≡ Some t → 1000 < height_of t =
+    let high : (t : Formula) → built (lexemes_of c.args.bytes.now c.args.tokens.now) ≡ Some t → deepest < height_of t =
     λ t e. c.tree.ensures.deep t (c.in-Err-TooDeep.is ∙ ap Err c.in-Err-TooDeep.field-0-is) (ap built same ∙ e) in
     expression_high c.args.bytes.now c.args.tokens.now c.requires.split whole high

@@ -5,6 +5,7 @@ use Rattle.xs_tree.specs.Written.{tree_of}
 use Rattle.xs_tree.specs.Bytes.{BytesSpellExpr, HasDepths}
 use Rattle.xs_tree.specs.ProgramTree.{Formula}
 use Rattle.xs_tree.specs.Lexemes.{lexemes_of}
+use Rattle.xs_tree.specs.Limits.{deepest}
 use Rattle.xs_expression_reader.specs.Recognise as machine
 use Rattle.xs_expression_reader.specs.Build.{built}
 use Rattle.xs_expression_reader.specs.Extents.{is_deep}
@@ -22,7 +23,7 @@ returns-clause-spelled c =
 pub returns-clause-depths : goal.returns-clause-depths
 returns-clause-depths c =
     let low : is_deep machine.start (lexemes_of c.args.bytes.now c.args.tokens.now) ≡ false = subst (λ ts. is_deep machine.start ts ≡ false) c.requires.same c.in_ok-check_expression.ensures.flat in
-    IfOk-weaker c.make_expression.result (λ e. height_of (tree_of e) ≤ 1000) (λ e. HasDepths c.args.bytes.now (tree_of e))
+    IfOk-weaker c.make_expression.result (λ e. height_of (tree_of e) ≤ deepest) (λ e. HasDepths c.args.bytes.now (tree_of e))
     (λ e within. expression_depths c.args.bytes.now c.args.tokens.now (tree_of e) c.requires.only low within) c.make_expression.ensures.within
 
 pub returns-clause-only : goal.returns-clause-only
