@@ -3,18 +3,18 @@ use Rattle.std.proofs.Common.{arith, ◌≡◌, ◌<◌, ◌≤◌, ◌^◌, [],
 use Rattle.std.proofs.lemmas.List.{length-map}
 use Rattle.xs_tree.specs.Tree.{Tree}
 use Rattle.xs_tree.specs.ProgramTree.{Text, ProgramTree}
-use Rattle.xs_scope.specs.ModelTree.{mode_of}
-use Rattle.xs_flattening.specs.Flat.{FlatLeaf}
-use Rattle.xs_kinds.specs.Models.{IsTyped}
-use Rattle.xs_kinds.specs.Costs.{cost_of}
-use Rattle.xs_encoded_search.specs.Searchable.{IsSearchable}
-use Rattle.xs_encoded_search.proofs.Fitting.{few_faults}
-use Rattle.xs_cuts_extended.proofs.Searchables.{extensions_searchable}
+use Rattle.xs_flat_laws.specs.FaultModes.{mode_of}
+use Rattle.xs_tree.specs.Flat.{FlatLeaf}
+use Rattle.xs_type_laws.specs.Models.{IsTyped}
+use Rattle.xs_type_laws.specs.Costs.{cost_of}
+use Rattle.xs_cut_laws.specs.Searchable.{IsSearchable}
+use Rattle.xs_cut_laws.proofs.Fitting.{few_faults}
+use Rattle.xs_report_laws.proofs.Searchables.{extensions_searchable}
 use Rattle.xs_extend.specs.WovenFaults.{fault_tree}
-use Rattle.xs_extended_right.specs.ExtendedTraces.{IsExtensionModel}
-use Rattle.xs_woven_tops.specs.Tops.{IsReadAs, IsTopOf}
-use Rattle.xs_woven_tops.proofs.Fits.{tops_fit}
-use Rattle.xs_woven_tops.proofs.Meanings.{tops_of_extensions}
+use Rattle.xs_certificate_laws.specs.ExtendedTraces.{IsExtensionModel}
+use Rattle.xs_woven_laws.specs.Tops.{IsReadAs, IsTopOf}
+use Rattle.xs_woven_laws.proofs.Fits.{tops_fit}
+use Rattle.xs_woven_laws.proofs.Meanings.{tops_of_extensions}
 use Rattle.xs_loading.specs.declared.loaded.LoadedCase.{LoadedCase}
 use Rattle.xs_loading.specs.Cases.{Case, whole_of}
 use Rattle.xs_loading.specs.Loaded.{case_of}

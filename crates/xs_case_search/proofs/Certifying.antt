@@ -2,24 +2,24 @@
 use Rattle.std.proofs.Common.{◌≡◌, ℕ, List, [], ◌∷◌, map, refl, ap, subst, ◌∙◌}
 use Rattle.xs_tree.specs.Tree.{Tree}
 use Rattle.xs_value.specs.declared.value.Value.{Value as Numbered}
-use Rattle.xs_scope.specs.ModelTree.{model_tree}
-use Rattle.xs_scope.specs.declared.model.FlatModel.{FlatModel as Made}
-use Rattle.xs_flattening.specs.Flat.{FlatLeaf, FlatModel}
-use Rattle.xs_flattening.specs.History.{Mode, with_history}
-use Rattle.xs_trace_text.specs.TraceText.{trace_lines}
-use Rattle.xs_trace_text.specs.Given.{GivesTrace}
+use Rattle.xs_tree.specs.ModelTree.{model_tree}
+use Rattle.xs_tree.specs.declared.model.FlatModel.{FlatModel as Made}
+use Rattle.xs_tree.specs.Flat.{FlatLeaf, FlatModel}
+use Rattle.xs_flat_laws.specs.History.{Mode, with_history}
+use Rattle.xs_text_laws.specs.TraceText.{trace_lines}
+use Rattle.xs_text_laws.specs.Given.{GivesTrace}
 use Rattle.xs_cert.specs.Seen.{seen}
 use Rattle.xs_cert.specs.declared.certificate.Certificate.{Certificate as Written}
-use Rattle.xs_certificate.specs.CertificateText.{SpellsCertificate}
-use Rattle.xs_certified.specs.Certified.{IsCertified}
-use Rattle.xs_certify.specs.Certifiable.{IsCompleteAnswer}
-use Rattle.xs_subject.specs.Subject.{subject_of}
-use Rattle.xs_certify.specs.Texts.{text_lines}
+use Rattle.xs_certificate_laws.specs.CertificateText.{SpellsCertificate}
+use Rattle.xs_certificate_laws.specs.Certified.{IsCertified}
+use Rattle.xs_case_search.specs.Certifiable.{IsCompleteAnswer}
+use Rattle.xs_certificate_laws.specs.Subject.{subject_of}
+use Rattle.xs_case_search.specs.Texts.{text_lines}
 use Rattle.xs_report.specs.Told.{told_trace}
 use Rattle.xs_cuts.specs.declared.answer.Analysis.{Analysis as Searched}
 use Rattle.xs_cuts.specs.declared.answer.End.{End}
 use Rattle.xs_cuts.specs.declared.answer.End.TheVariants.{Complete, Bounded}
-use Rattle.xs_reporting.specs.ExtendedTraces.{complete}
+use Rattle.xs_report_laws.specs.ExtendedTraces.{complete}
 use Rattle.xs_case_search.specs.Found.{IsCertificateFor}
 use Rattle.xs_case_search.specs.Searches.{IsSearched}
 

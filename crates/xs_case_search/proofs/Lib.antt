@@ -1,2 +1,9 @@
 pub mod Analysable
 pub mod Certifying
+pub mod Readings
+pub mod BadLists
+pub mod TextLemmas
+pub mod PrintedLemmas
+pub mod Places
+pub mod Made
+pub mod InCode

@@ -3,18 +3,18 @@ use Rattle.std.specs.Prelude.{◌≡◌, ℕ, List, Option, Some, None, map, min
 use Rattle.xs_tree.specs.Tree.{Tree}
 use Rattle.xs_tree.specs.ProgramTree.{Formula}
 use Rattle.xs_tree.specs.Values.{Value}
-use Rattle.xs_flattening.specs.Flat.{FlatLeaf, FlatModel}
-use Rattle.xs_flattening.specs.History.{Mode, with_history}
-use Rattle.xs_encoding.specs.Bits.{state_of, inputs_of}
-use Rattle.xs_encoding.specs.Lists.{system_of}
+use Rattle.xs_tree.specs.Flat.{FlatLeaf, FlatModel}
+use Rattle.xs_flat_laws.specs.History.{Mode, with_history}
+use Rattle.xs_encode_laws.specs.Bits.{state_of, inputs_of}
+use Rattle.xs_encode_laws.specs.Lists.{system_of}
 use Rattle.xs_cuts.specs.Progress.{HasChainFor}
-use Rattle.xs_trace_text.specs.Given.{GivesTrace}
-use Rattle.xs_trace_text.specs.TraceText.{trace_lines}
-use Rattle.xs_certificate.specs.Certificate.{Certificate}
-use Rattle.xs_certificate.specs.CertificateText.{SpellsCertificate}
-use Rattle.xs_certified.specs.Certified.{IsCertified}
-use Rattle.xs_subject.specs.Subject.{subject_of}
-use Rattle.xs_reporting.specs.ExtendedTraces.{Ending, complete, bounded, Analysis, IsAnalysisOf}
+use Rattle.xs_text_laws.specs.Given.{GivesTrace}
+use Rattle.xs_text_laws.specs.TraceText.{trace_lines}
+use Rattle.xs_certificate_laws.specs.Certificate.{Certificate}
+use Rattle.xs_certificate_laws.specs.CertificateText.{SpellsCertificate}
+use Rattle.xs_certificate_laws.specs.Certified.{IsCertified}
+use Rattle.xs_certificate_laws.specs.Subject.{subject_of}
+use Rattle.xs_report_laws.specs.ExtendedTraces.{Ending, complete, bounded, Analysis, IsAnalysisOf}
 use Rattle.xs_loading.specs.Cases.{Case, whole_of}
 use Rattle.xs_loading.specs.Tasks.{IsTopTree}
 

@@ -2,13 +2,13 @@
 use Rattle.std.specs.Prelude.{ℕ, ◌≤◌, List, Option, Some, None, map, length}
 use Rattle.xs_tree.specs.Tree.{Tree}
 use Rattle.xs_tree.specs.ProgramTree.{Text}
-use Rattle.xs_flattening.specs.Flat.{FlatLeaf, FlatModel}
-use Rattle.xs_flattening.specs.History.{Mode, with_history}
-use Rattle.xs_encoded.specs.Laws.{AreOwn}
-use Rattle.xs_encoding.specs.Bits.{state_of, inputs_of}
-use Rattle.xs_encoding.specs.Encodable.{IsEncodable, IsFitTop}
-use Rattle.xs_encoding.specs.Lists.{system_of}
-use Rattle.xs_trace_text.specs.Given.{IsPrintable}
+use Rattle.xs_tree.specs.Flat.{FlatLeaf, FlatModel}
+use Rattle.xs_flat_laws.specs.History.{Mode, with_history}
+use Rattle.xs_encode_laws.specs.EncodedLaws.{AreOwn}
+use Rattle.xs_encode_laws.specs.Bits.{state_of, inputs_of}
+use Rattle.xs_encode_laws.specs.Encodable.{IsEncodable, IsFitTop}
+use Rattle.xs_encode_laws.specs.Lists.{system_of}
+use Rattle.xs_text_laws.specs.Given.{IsPrintable}
 use Rattle.xs_report.specs.Told.{told_trace}
 use Rattle.xs_cuts.specs.Answer.{IsAnswer}
 use Rattle.xs_cuts.specs.declared.answer.Analysis.{Analysis as Searched}

@@ -1,21 +1,22 @@
 // The search of a case for the minimal cut sets of a top event.
 ghost use Rattle.std.specs.Prelude.{◌≡◌, ◌<◌, ◌^◌, IfOk, IsOk, OnOk, length, map};
-ghost use Rattle.xs_scope.specs.ModelTree.{model_tree, mode_of, flat_tree};
-ghost use Rattle.xs_flattening.specs.History.{with_history};
-ghost use Rattle.xs_encoding.specs.Bits.{state_of, inputs_of};
-ghost use Rattle.xs_encoding.specs.Lists.{system_of};
-ghost use Rattle.xs_encoded_search.specs.Searchable.{IsSearchable};
+ghost use Rattle.xs_tree.specs.ModelTree.{model_tree, flat_tree};
+ghost use Rattle.xs_flat_laws.specs.FaultModes.{mode_of};
+ghost use Rattle.xs_flat_laws.specs.History.{with_history};
+ghost use Rattle.xs_encode_laws.specs.Bits.{state_of, inputs_of};
+ghost use Rattle.xs_encode_laws.specs.Lists.{system_of};
+ghost use Rattle.xs_cut_laws.specs.Searchable.{IsSearchable};
 ghost use Rattle.xs_cuts.specs.Answer.{IsAnswer};
 ghost use Rattle.xs_case_search.specs.Found.{size_for};
 
+use crate::{analyse, analyse_in, frames_of};
 use std::alloc::Global;
 use xs_adviser::Panel;
-use xs_analysis::{analyse, analyse_in, frames_of};
 use xs_cuts::answer::Analysis;
-use xs_flat::Flat;
 use xs_frames::Frames;
 use xs_loading::loaded::LoadedCase;
 use xs_tree::Expr;
+use xs_tree::model::Flat;
 use xs_value::OutOfMemory;
 
 /// A search gives each symbol a number below this. A model of two files within their limits has far fewer.

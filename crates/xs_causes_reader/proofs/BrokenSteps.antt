@@ -5,8 +5,8 @@ use Rattle.std.specs.List.{list_any}
 use Rattle.std.proofs.lemmas.Bool.Decides.{nat_tests}
 use Rattle.xs_tree.specs.ProgramTree.{Text, Path}
 use Rattle.xs_tree.specs.Texts.{same_text}
-use Rattle.xs_causes.specs.CausesText.{WrittenCause}
-use Rattle.xs_causes.specs.CauseRules.{CauseRule, no_such_fault, double_cause, double_strike, empty_window, too_wide, too_many, name_taken, first_of, is_path_among, has_double, names_of_cause}
+use Rattle.xs_cause_laws.specs.CausesText.{WrittenCause}
+use Rattle.xs_cause_laws.specs.CauseRules.{CauseRule, no_such_fault, double_cause, double_strike, empty_window, too_wide, too_many, name_taken, first_of, is_path_among, has_double, names_of_cause}
 use Rattle.xs_causes_reader.specs.Broken.{is_any_among, bound_broken, broken_by}
 
 lower : (a b : ℕ) → a < b → nat_lt a b ≡ true

@@ -11,7 +11,7 @@ use Rattle.xs_expression_reader.specs.Build.{name_in, number_in}
 use Rattle.xs_expression_reader.specs.Places.{is_word}
 use Rattle.xs_expression_reader.specs.Marks.{Mark, a_name, a_number, s_dots, s_dot, s_comma, s_semicolon, mark_of}
 use Rattle.xs_expression_reader.proofs.Marks.{Marked, marked, word_there}
-use Rattle.xs_causes.specs.CausesText.{WrittenCause, SpellsCause, a_cause, SpellsCauses}
+use Rattle.xs_cause_laws.specs.CausesText.{WrittenCause, SpellsCause, a_cause, SpellsCauses}
 use Rattle.xs_causes_reader.specs.CausesRead.{Stage, start, named, within, first, dots, last, strikes, part, after, ReadSoFar, so_far, where_so, name_read, first_read, is_dots, last_read, part_read, cause_read, after_read, stepped, run}
 use Rattle.xs_causes_reader.proofs.CausesReads.{run_none}
 

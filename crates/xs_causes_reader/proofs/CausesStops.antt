@@ -14,7 +14,7 @@ use Rattle.xs_expression_reader.specs.declared.reading.Reading.{Reading}
 use Rattle.xs_expression_reader.specs.Places.{lexeme_at}
 use Rattle.xs_expression_reader.specs.Stops.{IsFrontOf, Unfinished, FaultMeans, is_left_out, stop_fault}
 use Rattle.xs_expression_reader.proofs.ExpressionLaws.{none_within}
-use Rattle.xs_causes.specs.CausesText.{WrittenCause, SpellsCauses, BytesSpellCauses}
+use Rattle.xs_cause_laws.specs.CausesText.{WrittenCause, SpellsCauses, BytesSpellCauses}
 use Rattle.xs_causes_reader.specs.CausesRead.{Stage, start, named, within, first, dots, last, strikes, part, after, ReadSoFar, so_far, read_more, run, read_of, IsCauses}
 use Rattle.xs_causes_reader.specs.ReadView.{Goes, is_start, reading_at, ReadsTo}
 use Rattle.xs_causes_reader.proofs.CausesReads.{run_append, run_none, causes_are_read}

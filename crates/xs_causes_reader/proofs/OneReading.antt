@@ -8,11 +8,11 @@ use Rattle.xs_tree.specs.ProgramTree.{Path, ProgramTree}
 use Rattle.xs_tree.specs.Texts.{same_text}
 use Rattle.xs_tree.specs.Lexemes.{lexemes_of}
 use Rattle.xs_tree.proofs.ValueLaws.{same_text_refl}
-use Rattle.xs_flattening.specs.Model.{EachBoth}
+use Rattle.xs_flat_laws.specs.Model.{EachBoth}
 use Rattle.xs_weave.specs.Faults.{Fault}
-use Rattle.xs_causes.specs.Causes.{CommonCause}
-use Rattle.xs_causes.specs.CausesText.{WrittenCause, SpellsCauses, BytesSpellCauses}
-use Rattle.xs_causes.specs.CauseRules.{fault_path, same_path, is_path_among, CauseRule, broken_at, AllKept, IsBrokenAt, AreOwnsTaken, AreLawful, IsReadAs, AreReadAs}
+use Rattle.xs_cause_laws.specs.Causes.{CommonCause}
+use Rattle.xs_cause_laws.specs.CausesText.{WrittenCause, SpellsCauses, BytesSpellCauses}
+use Rattle.xs_cause_laws.specs.CauseRules.{fault_path, same_path, is_path_among, CauseRule, broken_at, AllKept, IsBrokenAt, AreOwnsTaken, AreLawful, IsReadAs, AreReadAs}
 use Rattle.xs_causes_reader.specs.CausesRead.{start, so_far}
 use Rattle.xs_causes_reader.specs.Read.{IsNumberOf, AreStrikes, AreRead, BreakRule}
 use Rattle.xs_causes_reader.proofs.CausesSpelled.{some_same}

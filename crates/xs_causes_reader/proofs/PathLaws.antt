@@ -5,7 +5,7 @@ use Rattle.std.specs.List.{list_any}
 use Rattle.std.proofs.lemmas.List.{drop_more, drop_all}
 use Rattle.xs_tree.specs.ProgramTree.{Path}
 use Rattle.xs_tree.specs.Texts.{same_text}
-use Rattle.xs_causes.specs.CauseRules.{same_path, is_path_among, has_double}
+use Rattle.xs_cause_laws.specs.CauseRules.{same_path, is_path_among, has_double}
 
 -- paths of other lengths differ
 pub other_lengths : (x y : Path) → (length x ≡ length y → ⊥) → same_path x y ≡ false

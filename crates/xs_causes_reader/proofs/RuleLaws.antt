@@ -6,13 +6,13 @@ use Rattle.std.proofs.lemmas.List.{length-map, append-nil, append_assoc, length-
 use Rattle.std.proofs.lemmas.Option.{slice_get-map}
 use Rattle.xs_tree.specs.ProgramTree.{Text, Path, ProgramTree}
 use Rattle.xs_tree.specs.Texts.{same_text, is_among}
-use Rattle.xs_flattening.specs.Model.{EachBoth}
+use Rattle.xs_flat_laws.specs.Model.{EachBoth}
 use Rattle.xs_weave.specs.Faults.{Fault}
 use Rattle.xs_weave_rules.specs.Keyed.{with_texts}
 use Rattle.xs_weave_rules.specs.Rules.{is_program_name}
-use Rattle.xs_causes.specs.Causes.{CommonCause}
-use Rattle.xs_causes.specs.CausesText.{WrittenCause}
-use Rattle.xs_causes.specs.CauseRules.{fault_path, is_path_among, has_double, names_of_cause, own_names, is_any_taken, CauseRule, no_such_fault, double_cause, double_strike, empty_window, too_wide, too_many, name_taken, first_of, broken_at, AllKept, are_owns_taken, IsBrokenAt, AreOwnsTaken, IsStrikeOf, IsReadAs, AreReadAs}
+use Rattle.xs_cause_laws.specs.Causes.{CommonCause}
+use Rattle.xs_cause_laws.specs.CausesText.{WrittenCause}
+use Rattle.xs_cause_laws.specs.CauseRules.{fault_path, is_path_among, has_double, names_of_cause, own_names, is_any_taken, CauseRule, no_such_fault, double_cause, double_strike, empty_window, too_wide, too_many, name_taken, first_of, broken_at, AllKept, are_owns_taken, IsBrokenAt, AreOwnsTaken, IsStrikeOf, IsReadAs, AreReadAs}
 use Rattle.xs_causes_reader.specs.Broken.{is_any_among, broken_by, told_at, first_broken, are_owns_among, owns_told, taken_in}
 use Rattle.xs_causes_reader.specs.Read.{IsNumberOf, IsReadIn}
 use Rattle.xs_causes_reader.proofs.CausesSpelled.{some_same}

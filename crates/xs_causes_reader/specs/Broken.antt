@@ -5,8 +5,8 @@ use Rattle.xs_tree.specs.ProgramTree.{Text, Path, ProgramTree}
 use Rattle.xs_tree.specs.Texts.{same_text, is_among}
 use Rattle.xs_weave_rules.specs.Keyed.{with_texts}
 use Rattle.xs_weave_rules.specs.Names.{program_names}
-use Rattle.xs_causes.specs.CausesText.{WrittenCause}
-use Rattle.xs_causes.specs.CauseRules.{is_path_among, has_double, names_of_cause, own_names, CauseRule as Rule, no_such_fault, double_cause, double_strike, empty_window, too_wide, too_many, name_taken, first_of}
+use Rattle.xs_cause_laws.specs.CausesText.{WrittenCause}
+use Rattle.xs_cause_laws.specs.CauseRules.{is_path_among, has_double, names_of_cause, own_names, CauseRule as Rule, no_such_fault, double_cause, double_strike, empty_window, too_wide, too_many, name_taken, first_of}
 use Rattle.xs_causes_reader.specs.declared.fault.CauseRule.{CauseRule}
 use Rattle.xs_causes_reader.specs.declared.fault.CauseRule.TheVariants as r
 use Rattle.xs_causes_reader.specs.declared.fault.CauseFault.{CauseFault}

@@ -5,7 +5,7 @@ use Rattle.xs_tree.specs.Lexemes.{Lexeme}
 use Rattle.xs_expression_reader.specs.Build.{name_in, number_in}
 use Rattle.xs_expression_reader.specs.Places.{is_word}
 use Rattle.xs_expression_reader.specs.Marks.{Mark, a_name, a_number, s_dots, s_dot, s_comma, s_semicolon, mark_of}
-use Rattle.xs_causes.specs.CausesText.{WrittenCause, SpellsCauses}
+use Rattle.xs_cause_laws.specs.CausesText.{WrittenCause, SpellsCauses}
 
 -- what comes next, with what is read of a cause so far: its name, its window, the faults named, and the parts of a name
 pub data Stage : Type 0 where

@@ -1,7 +1,7 @@
 -- The names of faults.
 use Rattle.std.specs.Prelude.{List, map}
 use Rattle.xs_tree.specs.ProgramTree.{Path}
-use Rattle.xs_scope.specs.declared.model.Fault.{Fault}
+use Rattle.xs_tree.specs.declared.model.Fault.{Fault}
 
 abbrev pub path_of : Fault → Path
 path_of f = f.name

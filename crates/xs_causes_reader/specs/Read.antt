@@ -1,13 +1,13 @@
 -- What the reading of a causes file says: the causes that the bytes spell, or why they are none.
 use Rattle.std.specs.Prelude.{◌≡◌, ◌⊎◌, ℕ, ◌-◌, ◌<◌, false, List, Some, map, take, slice_get}
 use Rattle.xs_tree.specs.ProgramTree.{Path, ProgramTree}
-use Rattle.xs_flattening.specs.Model.{EachBoth}
+use Rattle.xs_flat_laws.specs.Model.{EachBoth}
 use Rattle.xs_weave.specs.Faults.{Fault as WovenFault}
-use Rattle.xs_scope.specs.declared.model.Fault.{Fault}
+use Rattle.xs_tree.specs.declared.model.Fault.{Fault}
 use Rattle.xs_expression_reader.specs.Stops.{FaultMeans}
-use Rattle.xs_causes.specs.Causes.{CommonCause}
-use Rattle.xs_causes.specs.CausesText.{WrittenCause, BytesSpellCauses}
-use Rattle.xs_causes.specs.CauseRules.{CauseRule as Rule, fault_path, is_path_among, IsBrokenAt, AreOwnsTaken, AreLawful, AreReadAs}
+use Rattle.xs_cause_laws.specs.Causes.{CommonCause}
+use Rattle.xs_cause_laws.specs.CausesText.{WrittenCause, BytesSpellCauses}
+use Rattle.xs_cause_laws.specs.CauseRules.{CauseRule as Rule, fault_path, is_path_among, IsBrokenAt, AreOwnsTaken, AreLawful, AreReadAs}
 use Rattle.xs_causes_reader.specs.declared.fault.CauseFault.{CauseFault}
 use Rattle.xs_causes_reader.specs.declared.fault.CauseFault.TheVariants as f
 use Rattle.xs_causes_reader.specs.CausesRead.{IsCauses}

@@ -3,7 +3,7 @@ use Rattle.std.specs.Prelude.{◌≡◌, ◌+◌, ◌<◌, Bool, true, false, Li
 use Rattle.xs_tree.specs.Lexemes.{Lexeme}
 use Rattle.xs_expression_reader.specs.declared.reading.Reading.{Reading}
 use Rattle.xs_expression_reader.specs.declared.reading.Reading.TheVariants as reading
-use Rattle.xs_causes.specs.CausesText.{WrittenCause}
+use Rattle.xs_cause_laws.specs.CausesText.{WrittenCause}
 use Rattle.xs_causes_reader.specs.declared.step.State.{State}
 use Rattle.xs_causes_reader.specs.declared.step.State.TheVariants as s
 use Rattle.xs_causes_reader.specs.declared.written.Written.{Written}

@@ -4,7 +4,7 @@ ghost use Rattle.std.specs.Prelude.{◌≡◌, IfOk, OnOk};
 ghost use Rattle.std.specs.List.{list_any};
 ghost use Rattle.xs_tree.specs.Texts.{is_among};
 ghost use Rattle.xs_weave_rules.specs.Keyed.{with_texts};
-ghost use Rattle.xs_causes.specs.CauseRules.{names_of_cause, own_names as names_of_own};
+ghost use Rattle.xs_cause_laws.specs.CauseRules.{names_of_cause, own_names as names_of_own};
 ghost use Rattle.xs_causes_reader.specs.ReadView.{written_tree};
 
 use crate::texts::Texts;

@@ -1,7 +1,7 @@
 //! Reads common causes.
 //!
 //! The model: bytes have tokens, as `xs_lexer` splits them, the grammar sees each token as a lexeme, and a list of
-//! lexemes spells causes by a relation with one case for each line of the grammar (`CausesText` of `xs_causes`). What is
+//! lexemes spells causes by a relation with one case for each line of the grammar (`CausesText` of `xs_cause_laws`). What is
 //! spelled may break rules about the faults of an extension and the names of the woven program (`CauseRules` there).
 //! [`read_causes`] answers the causes that the bytes spell, with the faults that they strike by their numbers, or the
 //! first place that no text goes on from, or else the first rule that is broken, at the number of its cause.

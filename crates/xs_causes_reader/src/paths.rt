@@ -3,11 +3,11 @@
 ghost use Rattle.std.specs.Prelude.{◌≡◌, not};
 ghost use Rattle.std.specs.List.{list_any};
 ghost use Rattle.xs_tree.specs.Texts.{same_text};
-ghost use Rattle.xs_scope.specs.declared.model.Fault.{Fault};
+ghost use Rattle.xs_tree.specs.declared.model.Fault.{Fault};
 ghost use Rattle.xs_causes_reader.specs.FaultPaths.{path_of, paths_of};
-ghost use Rattle.xs_causes.specs.CauseRules.{same_path, is_path_among, has_double as has_double_path};
+ghost use Rattle.xs_cause_laws.specs.CauseRules.{same_path, is_path_among, has_double as has_double_path};
 
-use xs_flat::Fault;
+use xs_tree::model::Fault;
 use xs_value::{Name, NameList};
 
 /// Whether both names have the same text.

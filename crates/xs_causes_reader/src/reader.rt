@@ -6,7 +6,7 @@ ghost use Rattle.xs_lexer.specs.Tokens.{HasTokens};
 ghost use Rattle.xs_tree.specs.Lexemes.{lexemes_of};
 ghost use Rattle.xs_tree.specs.ProgramTree.{program_tree};
 ghost use Rattle.xs_expression_reader.specs.Stops.{FaultMeans};
-ghost use Rattle.xs_causes.specs.CausesText.{WrittenCause, BytesSpellCauses};
+ghost use Rattle.xs_cause_laws.specs.CausesText.{WrittenCause, BytesSpellCauses};
 ghost use Rattle.xs_staging.specs.CauseOf.{cause_of};
 ghost use Rattle.xs_causes_reader.specs.CausesRead.{IsCauses};
 ghost use Rattle.xs_causes_reader.specs.ReadView.{stage_of, is_start, reading_at, written_trees, ReadsTo};
@@ -21,10 +21,10 @@ use xs_expression_reader::ParseFault;
 use xs_expression_reader::reader::{split, stop_at};
 use xs_expression_reader::reading::Reading;
 use xs_expression_reader::token::{TokenText, token_texts};
-use xs_flat::FaultList;
 use xs_lexer::TokenList;
 use xs_staging::CauseList;
 use xs_tree::Program;
+use xs_tree::model::FaultList;
 use xs_value::OutOfMemory;
 
 /// How far the tokens can be read as causes, which are put into the list.

@@ -4,9 +4,9 @@ ghost use Rattle.std.specs.Prelude.{◌≡◌, ◌^◌, ◌<◌, None, [], true,
 ghost use Rattle.std.specs.List.{list_any};
 ghost use Rattle.xs_tree.specs.Texts.{same_text};
 ghost use Rattle.xs_tree.specs.ProgramTree.{program_tree};
-ghost use Rattle.xs_flattening.specs.Model.{EachBoth};
+ghost use Rattle.xs_flat_laws.specs.Model.{EachBoth};
 ghost use Rattle.xs_weave_rules.specs.Keyed.{with_texts};
-ghost use Rattle.xs_causes.specs.CauseRules.{names_of_cause, is_path_among};
+ghost use Rattle.xs_cause_laws.specs.CauseRules.{names_of_cause, is_path_among};
 ghost use Rattle.xs_staging.specs.CauseOf.{cause_of};
 ghost use Rattle.xs_causes_reader.specs.FaultPaths.{paths_of};
 ghost use Rattle.xs_causes_reader.specs.declared.written.Written.{Written};
@@ -21,9 +21,9 @@ use crate::paths::{has_double, has_text, is_same_path, names_no_fault};
 use crate::texts::Texts;
 use crate::written::{Written, WrittenList};
 use std::alloc::Global;
-use xs_flat::{Fault, FaultList};
 use xs_staging::{Cause, CauseList};
 use xs_tree::Program;
+use xs_tree::model::{Fault, FaultList};
 use xs_value::{FaultSet, Name, NameList, OutOfMemory};
 
 /// The most faults and causes together.

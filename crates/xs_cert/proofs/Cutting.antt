@@ -2,9 +2,9 @@
 use Rattle.std.proofs.Common.{◌≡◌, ◌≢◌, ℕ, zero, suc, ◌<◌, ◌≤◌, ◌+◌, ◌-◌, Bool, true, false, ◌&&◌, nat_eq, List, [], ◌∷◌, ◌++◌, length, take, drop, get_or, refl, sym, ◌∙◌, ap, arith, eq-eqb, eqb-true, length-append}
 use Rattle.std.proofs.lemmas.List.{take_rest}
 use Rattle.std.specs.Cmp.Lexicographic.{pointwise}
-use Rattle.xs_lines.specs.Lines.{Line}
-use Rattle.xs_certificate.specs.LineReading.{same_bytes, with_byte, words_in}
-use Rattle.xs_certificate.proofs.LineReading.{same_then, same_itself, taken, refused}
+use Rattle.xs_text_laws.specs.Lines.{Line}
+use Rattle.xs_certificate_laws.specs.LineReading.{same_bytes, with_byte, words_in}
+use Rattle.xs_certificate_laws.proofs.LineReading.{same_then, same_itself, taken, refused}
 use Rattle.xs_cert.specs.Cuts.{Lacks, BeginsWith, words_after, IsWordThen, LacksWord, IsAfterWord}
 
 pub front_free : (b : ℕ) (bytes : List ℕ) (n : ℕ) → n ≤ length bytes → ((k : ℕ) → k < n → get_or bytes k 0 ≢ b) → Lacks b (take n bytes)

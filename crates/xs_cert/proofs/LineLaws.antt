@@ -3,13 +3,13 @@ use Rattle.std.proofs.Common.{◌≡◌, ℕ, Bool, true, false, nat_eq, List, [
 use Rattle.std.specs.Prelude.{if◌then◌else◌}
 use Rattle.std.specs.Option.{option_map}
 use Rattle.xs_lits.specs.Literal.{Literal}
-use Rattle.xs_derive.specs.declared.step.Step.{Step}
-use Rattle.xs_lines.specs.Lines.{Line}
-use Rattle.xs_certificate.specs.LineReading.{same_bytes, with_byte, words_in, after_word, one_number}
-use Rattle.xs_certificate.specs.CertificateText.{version_one, version_two}
-use Rattle.xs_certificate.specs.CertificateText.{Version as Named}
-use Rattle.xs_certificate.specs.Expecting.{numbers_from, small_in, size_of}
-use Rattle.xs_certificate.proofs.LineReading.{same_then, same_itself, taken, refused}
+use Rattle.xs_lits.specs.declared.step.Step.{Step}
+use Rattle.xs_text_laws.specs.Lines.{Line}
+use Rattle.xs_certificate_laws.specs.LineReading.{same_bytes, with_byte, words_in, after_word, one_number}
+use Rattle.xs_certificate_laws.specs.CertificateText.{version_one, version_two}
+use Rattle.xs_certificate_laws.specs.CertificateText.{Version as Named}
+use Rattle.xs_certificate_laws.specs.Expecting.{numbers_from, small_in, size_of}
+use Rattle.xs_certificate_laws.proofs.LineReading.{same_then, same_itself, taken, refused}
 use Rattle.xs_cert.specs.Cuts.{words_after, LacksWord, IsAfterWord}
 use Rattle.xs_cert.specs.Words.{LacksName, one_small, after_bits}
 use Rattle.xs_cert.specs.declared.lines.Version.{Version}

@@ -4,9 +4,9 @@ use Rattle.std.specs.Fmt.{decimal}
 use Rattle.std.specs.Str.Parse.{AllDigits, IsNumeral, digits_value}
 use Rattle.std.proofs.lemmas.Fmt.{decimal_is_IsNumeral, decimal_digit, first_decimal, decimal-digits_value}
 use Rattle.std.proofs.lemmas.Str.Parse.{numerals_by_value, tells_digits, digit_from_value}
-use Rattle.xs_lines.specs.Lines.{Line}
-use Rattle.xs_certificate.specs.LineReading.{number_in}
-use Rattle.xs_certificate.proofs.LineReading.{number_exact}
+use Rattle.xs_text_laws.specs.Lines.{Line}
+use Rattle.xs_certificate_laws.specs.LineReading.{number_in}
+use Rattle.xs_certificate_laws.proofs.LineReading.{number_exact}
 use Rattle.xs_cert.specs.Numerals.{IsValueOf, IsNoNumeral}
 
 -- a word that is no number

@@ -1,13 +1,13 @@
 -- Text that is appended piece by piece.
 use Rattle.std.proofs.Common.{◌≡◌, ℕ, zero, suc, ◌+◌, List, [], ◌∷◌, ◌++◌, map, length, drop, Some, refl, ap, sym, ◌∙◌, arith, append_assoc, append-nil}
 use Rattle.std.specs.Prelude.{slice_get, codes, OnOk, Result, Ok, Err}
-use Rattle.xs_derive.specs.declared.step.Step.{Step}
-use Rattle.xs_certificate.proofs.LineReading.{some_same}
-use Rattle.xs_lines.specs.Lines.{Line}
-use Rattle.xs_certificate.specs.Certificate.{Certificate}
-use Rattle.xs_lines.specs.Lines.{spaced, fed}
-use Rattle.xs_certificate.specs.CertificateText.{version_line, version_two, numbers_line, set_lines, step_line, part_lines, lines_of}
-use Rattle.xs_lines.proofs.Cuts.{fed_joined}
+use Rattle.xs_lits.specs.declared.step.Step.{Step}
+use Rattle.xs_certificate_laws.proofs.LineReading.{some_same}
+use Rattle.xs_text_laws.specs.Lines.{Line}
+use Rattle.xs_certificate_laws.specs.Certificate.{Certificate}
+use Rattle.xs_text_laws.specs.Lines.{spaced, fed}
+use Rattle.xs_certificate_laws.specs.CertificateText.{version_line, version_two, numbers_line, set_lines, step_line, part_lines, lines_of}
+use Rattle.xs_text_laws.proofs.Cuts.{fed_joined}
 use Rattle.xs_cert.specs.Pieces.{after_spaces, head_text, listed_lines, invariant_lines, derived_lines}
 
 -- words with spaces between are the first one, and a space before each other

@@ -4,17 +4,17 @@ use Rattle.std.specs.Prelude.{if◌then◌else◌}
 use Rattle.std.specs.Option.{option_map}
 use Rattle.std.specs.List.{AllByRecursion}
 use Rattle.xs_lits.specs.Literal.{Literal}
-use Rattle.xs_derive.specs.declared.step.Step.{Step}
-use Rattle.xs_lines.specs.Lines.{Line, counted}
-use Rattle.xs_lines.proofs.Words.{free_by_test}
-use Rattle.xs_certificate.specs.Certificate.{Certificate}
-use Rattle.xs_certificate.specs.CertificateText.{version_one, version_two, version_line, numbers_line, set_line, set_lines, clause_line, step_line, part_lines, lines_of, IsSmall, IsLiteral, IsWritableStep, AreWritable, IsWritableText, IsWritable, CanSay}
-use Rattle.xs_certificate.specs.CertificateText.{Version as Named}
-use Rattle.xs_certificate.specs.LineReading.{same_bytes, count_in, set_in, clause_in, step_in}
-use Rattle.xs_certificate.specs.Expecting.{numbers_in, part_word, after, after_lines, then_after, a_version, sets_count, trace_count, no_line}
-use Rattle.xs_certificate.specs.Expecting.{Expect as Awaited, sets_left as sets_awaited, text_left as text_awaited, clauses_left as clauses_awaited, steps_left as steps_awaited}
-use Rattle.xs_certificate.proofs.LineReading.{counts_exact, sets_exact, clauses_exact, steps_exact}
-use Rattle.xs_certificate.proofs.Expecting.{numbers_exact, free_word, free_trace}
+use Rattle.xs_lits.specs.declared.step.Step.{Step}
+use Rattle.xs_text_laws.specs.Lines.{Line, counted}
+use Rattle.xs_text_laws.proofs.Words.{free_by_test}
+use Rattle.xs_certificate_laws.specs.Certificate.{Certificate}
+use Rattle.xs_certificate_laws.specs.CertificateText.{version_one, version_two, version_line, numbers_line, set_line, set_lines, clause_line, step_line, part_lines, lines_of, IsSmall, IsLiteral, IsWritableStep, AreWritable, IsWritableText, IsWritable, CanSay}
+use Rattle.xs_certificate_laws.specs.CertificateText.{Version as Named}
+use Rattle.xs_certificate_laws.specs.LineReading.{same_bytes, count_in, set_in, clause_in, step_in}
+use Rattle.xs_certificate_laws.specs.Expecting.{numbers_in, part_word, after, after_lines, then_after, a_version, sets_count, trace_count, no_line}
+use Rattle.xs_certificate_laws.specs.Expecting.{Expect as Awaited, sets_left as sets_awaited, text_left as text_awaited, clauses_left as clauses_awaited, steps_left as steps_awaited}
+use Rattle.xs_certificate_laws.proofs.LineReading.{counts_exact, sets_exact, clauses_exact, steps_exact}
+use Rattle.xs_certificate_laws.proofs.Expecting.{numbers_exact, free_word, free_trace}
 use Rattle.xs_cert.specs.declared.certificate.Certificate.{Certificate as Read}
 use Rattle.xs_cert.specs.declared.lines.Version.TheVariants as version
 use Rattle.xs_cert.specs.declared.reading.Part.{Part}

@@ -2,14 +2,14 @@
 use Rattle.std.proofs.Common.{◌≡◌, ◌≢◌, inl, inr, ℕ, suc, ◌+◌, ◌<◌, ◌≤◌, List, [], ◌∷◌, ◌++◌, length, Some, None, Result, Ok, Err, refl, sym, ◌∙◌, ap, subst, arith, length-append, append-nil, IfOk, IfErr, IsErrOf}
 use Rattle.std.specs.Option.{option_map}
 use Rattle.std.specs.List.{AllByRecursion}
-use Rattle.xs_lines.specs.Lines.{Line, fed, IsLine}
-use Rattle.xs_lines.proofs.Separators.{fed_end}
-use Rattle.xs_lines.proofs.Words.{all_joined}
-use Rattle.xs_certificate.specs.Certificate.{Certificate}
-use Rattle.xs_certificate.specs.CertificateText.{AreLinesOf, SpellsCertificate, BeginsOne, IsBadLine, EndsBefore}
-use Rattle.xs_certificate.specs.Expecting.{Expect as Awaited, after_lines, a_version, no_line}
-use Rattle.xs_certificate.proofs.Expecting.{not_done}
-use Rattle.xs_certificate.proofs.Judged.{taken_lines_begin}
+use Rattle.xs_text_laws.specs.Lines.{Line, fed, IsLine}
+use Rattle.xs_text_laws.proofs.Separators.{fed_end}
+use Rattle.xs_text_laws.proofs.Words.{all_joined}
+use Rattle.xs_certificate_laws.specs.Certificate.{Certificate}
+use Rattle.xs_certificate_laws.specs.CertificateText.{AreLinesOf, SpellsCertificate, BeginsOne, IsBadLine, EndsBefore}
+use Rattle.xs_certificate_laws.specs.Expecting.{Expect as Awaited, after_lines, a_version, no_line}
+use Rattle.xs_certificate_laws.proofs.Expecting.{not_done}
+use Rattle.xs_certificate_laws.proofs.Judged.{taken_lines_begin}
 use Rattle.xs_cert.specs.declared.certificate.Certificate.{Certificate as Read}
 use Rattle.xs_cert.specs.declared.certificate.CertFault.{CertFault}
 use Rattle.xs_cert.specs.declared.certificate.CertFault.TheVariants as fault

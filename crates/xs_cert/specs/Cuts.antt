@@ -1,8 +1,8 @@
 -- Bytes that are cut at a byte.
 use Rattle.std.specs.Prelude.{◌≡◌, ◌≢◌, ℕ, ◌<◌, List, [], ◌∷◌, ◌++◌, length}
 use Rattle.std.specs.List.{AllByRecursion}
-use Rattle.xs_lines.specs.Lines.{Line, IsLine}
-use Rattle.xs_certificate.specs.LineReading.{words_in}
+use Rattle.xs_text_laws.specs.Lines.{Line, IsLine}
+use Rattle.xs_certificate_laws.specs.LineReading.{words_in}
 
 -- no byte is this one
 abbrev pub Lacks : ℕ → List ℕ → Type 0

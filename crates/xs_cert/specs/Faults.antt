@@ -1,6 +1,6 @@
 -- What is wrong with bytes that spell no certificate.
 use Rattle.std.specs.Prelude.{◌≡◌, ℕ, List, Option, None}
-use Rattle.xs_certificate.specs.CertificateText.{IsBadLine, EndsBefore}
+use Rattle.xs_certificate_laws.specs.CertificateText.{IsBadLine, EndsBefore}
 use Rattle.xs_cert.specs.declared.certificate.CertFault.{CertFault}
 use Rattle.xs_cert.specs.declared.certificate.CertFault.TheVariants as fault
 use Rattle.xs_cert.specs.declared.reading.Refusal.{Refusal}

@@ -2,9 +2,9 @@
 use Rattle.std.specs.Prelude.{ℕ, List, [], ◌∷◌, ◌++◌, flat_map, length, map, codes}
 use Rattle.std.specs.Fmt.{decimal}
 use Rattle.xs_lits.specs.Literal.{Literal}
-use Rattle.xs_derive.specs.declared.step.Step.{Step}
-use Rattle.xs_lines.specs.Lines.{Line, counted}
-use Rattle.xs_certificate.specs.CertificateText.{set_line, set_lines, clause_line, part_lines}
+use Rattle.xs_lits.specs.declared.step.Step.{Step}
+use Rattle.xs_text_laws.specs.Lines.{Line, counted}
+use Rattle.xs_certificate_laws.specs.CertificateText.{set_line, set_lines, clause_line, part_lines}
 
 -- words with a space before each
 abbrev pub after_spaces : List Line → Line

@@ -2,11 +2,11 @@
 use Rattle.std.specs.Prelude.{ℕ, zero, suc, List, [], ◌∷◌, ◌++◌, Option, Some, None, codes, if◌then◌else◌}
 use Rattle.std.specs.Option.{option_map}
 use Rattle.xs_lits.specs.Literal.{Literal}
-use Rattle.xs_derive.specs.declared.step.Step.{Step}
-use Rattle.xs_lines.specs.Lines.{Line}
-use Rattle.xs_certificate.specs.CertificateText.{version_line, version_one, version_two}
-use Rattle.xs_certificate.specs.LineReading.{same_bytes, count_in, set_in, clause_in, step_in}
-use Rattle.xs_certificate.specs.Expecting.{Numbers, numbers_in, part_word}
+use Rattle.xs_lits.specs.declared.step.Step.{Step}
+use Rattle.xs_text_laws.specs.Lines.{Line}
+use Rattle.xs_certificate_laws.specs.CertificateText.{version_line, version_one, version_two}
+use Rattle.xs_certificate_laws.specs.LineReading.{same_bytes, count_in, set_in, clause_in, step_in}
+use Rattle.xs_certificate_laws.specs.Expecting.{Numbers, numbers_in, part_word}
 use Rattle.xs_cert.specs.declared.certificate.Certificate.{Certificate}
 use Rattle.xs_cert.specs.declared.lines.Version.{Version}
 use Rattle.xs_cert.specs.declared.lines.Version.TheVariants as version

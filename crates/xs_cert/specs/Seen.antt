@@ -1,5 +1,5 @@
 -- What a certificate of the code is as one of the definitions.
-use Rattle.xs_certificate.specs.Certificate.{Certificate}
+use Rattle.xs_certificate_laws.specs.Certificate.{Certificate}
 use Rattle.xs_cert.specs.declared.certificate.Certificate.{Certificate as Read}
 
 -- the certificate with the same numbers, sets, traces, clauses and steps

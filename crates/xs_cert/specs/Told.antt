@@ -1,7 +1,7 @@
 -- What the versions, parts and expectations of the code are in the definitions.
-use Rattle.xs_certificate.specs.Certificate.{Part, part_first, part_next, part_bad}
-use Rattle.xs_certificate.specs.CertificateText.{Version, version_one, version_two}
-use Rattle.xs_certificate.specs.Expecting.{Numbers, Expect, a_version, the_numbers_of, sets_count, a_set_line, trace_count, a_text_line, clauses_count, a_clause_line, steps_count, a_step_line, the_end, no_line}
+use Rattle.xs_certificate_laws.specs.Certificate.{Part, part_first, part_next, part_bad}
+use Rattle.xs_certificate_laws.specs.CertificateText.{Version, version_one, version_two}
+use Rattle.xs_certificate_laws.specs.Expecting.{Numbers, Expect, a_version, the_numbers_of, sets_count, a_set_line, trace_count, a_text_line, clauses_count, a_clause_line, steps_count, a_step_line, the_end, no_line}
 use Rattle.xs_cert.specs.declared.lines.Version.{Version as Named}
 use Rattle.xs_cert.specs.declared.lines.Version.TheVariants as version
 use Rattle.xs_cert.specs.declared.lines.Numbers.{Numbers as Given}

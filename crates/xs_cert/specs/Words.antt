@@ -1,9 +1,9 @@
 -- The words of a certificate's second line, taken one after another.
 use Rattle.std.specs.Prelude.{◌≡◌, ◌≢◌, ℕ, List, [], ◌∷◌, Option, Some, None, codes, if◌then◌else◌}
-use Rattle.xs_lines.specs.Lines.{Line}
-use Rattle.xs_certificate.specs.CertificateText.{Version}
-use Rattle.xs_certificate.specs.LineReading.{same_bytes}
-use Rattle.xs_certificate.specs.Expecting.{Numbers, numbers_from, small_in, size_of}
+use Rattle.xs_text_laws.specs.Lines.{Line}
+use Rattle.xs_certificate_laws.specs.CertificateText.{Version}
+use Rattle.xs_certificate_laws.specs.LineReading.{same_bytes}
+use Rattle.xs_certificate_laws.specs.Expecting.{Numbers, numbers_from, small_in, size_of}
 
 -- the first word is no number below 2^31
 abbrev pub LacksNumber : List Line → Type 0

@@ -2,8 +2,8 @@
 
 ghost use Rattle.std.specs.Prelude.{◌≡◌, IfOk};
 
-use xs_derive::recorder::StepsList;
 use xs_lits::clause::ClauseList;
+use xs_lits::recorder::StepsList;
 use xs_value::{ByteList, Items, OutOfMemory, SetList};
 
 /// The lines of one trace's text, without their line feeds.

@@ -2,9 +2,9 @@
 
 ghost use Rattle.std.specs.Prelude.{◌≡◌, ℕ, ◌∷◌, IfOk, Option, Some, MatchOption};
 ghost use Rattle.std.specs.Option.{option_map};
-ghost use Rattle.xs_certificate.specs.LineReading.{count_in, set_in, clause_in, step_in, each_in, literal_in, hint_in, one_number, step_of, step_of_words};
-ghost use Rattle.xs_certificate.specs.Expecting.{small_in, numbers_in, numbers_of_words, size_of};
-ghost use Rattle.xs_certificate.specs.CertificateText.{version_two};
+ghost use Rattle.xs_certificate_laws.specs.LineReading.{count_in, set_in, clause_in, step_in, each_in, literal_in, hint_in, one_number, step_of, step_of_words};
+ghost use Rattle.xs_certificate_laws.specs.Expecting.{small_in, numbers_in, numbers_of_words, size_of};
+ghost use Rattle.xs_certificate_laws.specs.CertificateText.{version_two};
 ghost use Rattle.xs_cert.specs.Cuts.{words_after};
 ghost use Rattle.xs_cert.specs.Told.{told_version, told_numbers};
 ghost use Rattle.xs_cert.specs.Reading.{version_in};
@@ -13,9 +13,9 @@ ghost use Rattle.xs_cert.specs.Words.{LacksNumber, IsNumberThen, LacksName, one_
 use crate::numbers::{count, hint, literal, small};
 use crate::words::{after_word, next_word};
 use std::alloc::Global;
-use xs_derive::step::{HintList, Step};
 use xs_lits::clause::Clause;
 use xs_lits::lit::Lit;
+use xs_lits::step::{HintList, Step};
 use xs_value::{FaultSet, Items, OutOfMemory};
 
 /// The version of a text: 2 gives the size, and 1 has the number of faults for it.

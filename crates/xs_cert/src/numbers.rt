@@ -2,8 +2,8 @@
 
 ghost use Rattle.std.specs.Prelude.{◌≡◌, ◌≢◌, ◌<◌, ◌≤◌, ◌^◌, IfSome, MatchOption, slice_index_or};
 ghost use Rattle.std.specs.Option.{option_map};
-ghost use Rattle.xs_certificate.specs.LineReading.{number_in, hint_in, literal_in};
-ghost use Rattle.xs_certificate.specs.Expecting.{small_in};
+ghost use Rattle.xs_certificate_laws.specs.LineReading.{number_in, hint_in, literal_in};
+ghost use Rattle.xs_certificate_laws.specs.Expecting.{small_in};
 ghost use Rattle.xs_cert.specs.Numerals.{IsValueOf, IsNoNumeral, literal_of};
 
 use xs_lits::lit::Lit;

@@ -3,14 +3,14 @@
 
 ghost use Rattle.std.specs.Prelude.{◌≡◌, [], ◌∷◌, ◌++◌, OnOk, map};
 ghost use Rattle.std.specs.Fmt.{decimal};
-ghost use Rattle.xs_lines.specs.Lines.{counted, fed};
-ghost use Rattle.xs_certificate.specs.CertificateText.{literal_text, set_line, clause_line, step_line};
+ghost use Rattle.xs_text_laws.specs.Lines.{counted, fed};
+ghost use Rattle.xs_certificate_laws.specs.CertificateText.{literal_text, set_line, clause_line, step_line};
 ghost use Rattle.xs_cert.specs.Pieces.{after_spaces};
 
 use std::alloc::Global;
-use xs_derive::step::Step;
 use xs_lits::clause::Clause;
 use xs_lits::lit::Lit;
+use xs_lits::step::Step;
 use xs_value::{ByteList, FaultSet, OutOfMemory};
 
 /// Appends the digits of a number.

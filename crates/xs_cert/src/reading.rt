@@ -2,8 +2,8 @@
 
 ghost use Rattle.std.specs.Prelude.{◌≡◌, IfErr, OnOk, Some, codes};
 ghost use Rattle.std.specs.Option.{option_map};
-ghost use Rattle.xs_certificate.specs.LineReading.{count_in, set_in, clause_in, step_in};
-ghost use Rattle.xs_certificate.specs.Expecting.{numbers_in, part_word};
+ghost use Rattle.xs_certificate_laws.specs.LineReading.{count_in, set_in, clause_in, step_in};
+ghost use Rattle.xs_certificate_laws.specs.Expecting.{numbers_in, part_word};
 ghost use Rattle.xs_cert.specs.Told.{told_version, told_part};
 ghost use Rattle.xs_cert.specs.Faults.{IsRefused, fault_at};
 ghost use Rattle.xs_cert.specs.Reading.{sets_left, clauses_left, steps_left, version_in, then_expecting, with_numbers, with_set, text_left, with_line, with_clause, with_step, end_in, read_line, unread};
@@ -15,9 +15,9 @@ use crate::lines::{
     Numbers, Version, clause_in, count_in, numbers_in, set_in, step_in, version_in,
 };
 use std::alloc::Global;
-use xs_derive::recorder::StepsList;
-use xs_derive::step::Step;
 use xs_lits::clause::ClauseList;
+use xs_lits::recorder::StepsList;
+use xs_lits::step::Step;
 use xs_value::{ByteList, OutOfMemory, SetList};
 
 /// The three derivations.

@@ -1,7 +1,7 @@
 //! A certificate's text read line by line.
 
 ghost use Rattle.std.specs.Prelude.{◌≡◌, ◌≢◌, ℕ, IfOk, IfErr, IsErrOf};
-ghost use Rattle.xs_certificate.specs.CertificateText.{SpellsCertificate, IsBadLine, EndsBefore};
+ghost use Rattle.xs_certificate_laws.specs.CertificateText.{SpellsCertificate, IsBadLine, EndsBefore};
 ghost use Rattle.xs_cert.specs.Seen.{seen};
 ghost use Rattle.xs_cert.specs.Faults.{IsFaultOf};
 ghost use Rattle.xs_cert.specs.declared.certificate.CertFault.TheVariants as fault;
@@ -15,7 +15,7 @@ use std::alloc::Global;
 /// The certificate that a text spells, in version 1 or 2, or the line that is wrong first or missing.
 ///
 /// Bytes spell at most one certificate, and where they spell one no line of them is wrong or missing
-/// (`xs_certificate`). So the certificate is answered exactly where the bytes spell it; where they spell none,
+/// (`xs_certificate_laws`). So the certificate is answered exactly where the bytes spell it; where they spell none,
 /// `BadLine` is answered with the first line that does not have its form, comes after the end, or lacks its
 /// line feed, and `Ends` with the line that is missing, unless memory is wanting.
 pub fn read(alloc: Global, bytes: &[u8]) -> Result<Certificate, CertFault>

@@ -1,7 +1,7 @@
 //! Bytes cut into lines, and lines into words.
 
 ghost use Rattle.std.specs.Prelude.{◌≡◌, ◌≢◌, ℕ, ◌<◌, ◌≤◌, [], ◌++◌, length, slice_index, MatchOption};
-ghost use Rattle.xs_lines.specs.Lines.{IsLine};
+ghost use Rattle.xs_text_laws.specs.Lines.{IsLine};
 ghost use Rattle.xs_cert.specs.Cuts.{Lacks, BeginsWith, IsLineThen, IsWordThen, LacksWord, IsAfterWord};
 
 /// The bytes before the first line feed and those after it, where there is one.

@@ -2,8 +2,8 @@
 
 ghost use Rattle.std.specs.Prelude.{◌≡◌, [], ◌∷◌, ◌++◌, IfOk, OnOk, codes, map};
 ghost use Rattle.std.specs.Fmt.{decimal};
-ghost use Rattle.xs_lines.specs.Lines.{fed};
-ghost use Rattle.xs_certificate.specs.CertificateText.{IsWritable, SpellsCertificate, version_two, lines_of, set_lines, clause_line, step_line, part_lines};
+ghost use Rattle.xs_text_laws.specs.Lines.{fed};
+ghost use Rattle.xs_certificate_laws.specs.CertificateText.{IsWritable, SpellsCertificate, version_two, lines_of, set_lines, clause_line, step_line, part_lines};
 ghost use Rattle.xs_cert.specs.Pieces.{head_text, traced_lines, listed_lines, invariant_lines, derived_lines};
 ghost use Rattle.xs_cert.specs.Seen.{seen};
 
@@ -12,8 +12,8 @@ use crate::pieces::{
     append_clause, append_counted, append_lines, append_number, append_set, append_step,
 };
 use std::alloc::Global;
-use xs_derive::recorder::StepsList;
 use xs_lits::clause::{Clause, ClauseList};
+use xs_lits::recorder::StepsList;
 use xs_value::{ByteList, FaultSet, OutOfMemory};
 
 /// The text of a certificate, in version 2.

@@ -3,10 +3,10 @@ use Rattle.std.proofs.Common.{◌≡◌, ℕ, List, sym, ap, subst, ◌∙◌}
 use Rattle.xs_desk.specs.declared.files.NamedFile.{NamedFile}
 use Rattle.xs_tree.specs.ProgramTree.{Text, Formula}
 use Rattle.xs_tree.specs.Tree.{Tree}
-use Rattle.xs_flattening.specs.Flat.{FlatLeaf}
-use Rattle.xs_certificate.specs.Certificate.{Certificate}
-use Rattle.xs_certificate.specs.CertificateText.{SpellsCertificate}
-use Rattle.xs_certificate.proofs.FirstWrong.{one_spelled, one_wrong_line, spelled_has_none}
+use Rattle.xs_tree.specs.Flat.{FlatLeaf}
+use Rattle.xs_certificate_laws.specs.Certificate.{Certificate}
+use Rattle.xs_certificate_laws.specs.CertificateText.{SpellsCertificate}
+use Rattle.xs_certificate_laws.proofs.FirstWrong.{one_spelled, one_wrong_line, spelled_has_none}
 use Rattle.xs_loading.specs.declared.status.InputFault.{InputFault}
 use Rattle.xs_loading.specs.declared.status.Objection.TheVariants as objection
 use Rattle.xs_loading.specs.declared.status.Refusal.{Refusal}

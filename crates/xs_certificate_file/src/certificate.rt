@@ -3,7 +3,7 @@ ghost use Rattle.std.specs.Prelude.{◌≡◌, ◌≤◌, ◌++◌, codes, lengt
 ghost use Rattle.xs_desk.specs.Desk.{Rose};
 ghost use Rattle.xs_cert.specs.Seen.{seen};
 ghost use Rattle.xs_check.specs.Fit.{IsCheckable};
-ghost use Rattle.xs_analysis_text.specs.AnalysisText.{size_line};
+ghost use Rattle.xs_text_laws.specs.AnalysisText.{size_line};
 ghost use Rattle.xs_loading.specs.Tasks.{IsRefusedAbove, HasAtMost};
 ghost use Rattle.xs_certificate_file.specs.CertificateFiles.{RefusesCertificate, HoldsCertificate};
 ghost use Rattle.xs_loading.specs.declared.status.InputFault.{InputFault};

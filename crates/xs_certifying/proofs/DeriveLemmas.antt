@@ -14,18 +14,18 @@ use Rattle.xs_lits.specs.StoreRecord.{StoreValue}
 use Rattle.xs_lits.specs.Truth.{truth_of}
 use Rattle.xs_lits.specs.declared.clause.Truth.{Truth}
 use Rattle.xs_lits.specs.declared.clause.Truth.TheVariants.{False, Unit as UnitClause}
-use Rattle.xs_derive.specs.Derivation.{IsUpTo}
-use Rattle.xs_derive.specs.Hints.{HasNoOpposites, LeadsTo, EndsFalse, truth_at, assumed_false}
-use Rattle.xs_derive.specs.Steps.{AreSteps, with_steps}
-use Rattle.xs_derive.specs.declared.step.Step.{Step}
+use Rattle.xs_lits.specs.Derivation.{IsUpTo}
+use Rattle.xs_lits.specs.Hints.{HasNoOpposites, LeadsTo, EndsFalse, truth_at, assumed_false}
+use Rattle.xs_lits.specs.Steps.{AreSteps, with_steps}
+use Rattle.xs_lits.specs.declared.step.Step.{Step}
 use Rattle.xs_solver.specs.Search.{CanSolve, Grows}
 use Rattle.xs_solver.specs.Verdict.{IsVerdict}
 use Rattle.xs_solver.specs.declared.solve.Verdict.{Verdict}
-use Rattle.xs_derive.proofs.FalseLemmas.{All-slice_get}
-use Rattle.xs_certificate.specs.Accepted.{highest_in, highest}
-use Rattle.xs_certificate.specs.CertificateText.{IsCount, IsLiteral, IsHint, IsWritableStep, AreWritable}
-use Rattle.xs_certificate.specs.Derived.{asked}
-use Rattle.xs_certificate.proofs.Steps.{with_joined}
+use Rattle.xs_lits.proofs.FalseLemmas.{All-slice_get}
+use Rattle.xs_certificate_laws.specs.Accepted.{highest_in, highest}
+use Rattle.xs_certificate_laws.specs.CertificateText.{IsCount, IsLiteral, IsHint, IsWritableStep, AreWritable}
+use Rattle.xs_certificate_laws.specs.Derived.{asked}
+use Rattle.xs_certificate_laws.proofs.Steps.{with_joined}
 use Rattle.xs_certifying.specs.Queries.{IsSoFar, IsOneFurther}
 use Rattle.xs_certifying.specs.Deriving.{IsPartWay, HasPositive}
 use Rattle.xs_certifying.proofs.Queries.{queries_derive}

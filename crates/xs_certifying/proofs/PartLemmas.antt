@@ -4,12 +4,12 @@ use Rattle.std.specs.Prelude.{Contains, All, slice_index_or}
 use Rattle.std.proofs.lemmas.List.Elements.{All-nil, All-cons, All-head, All-tail, All-contains, Contains-get_or}
 use Rattle.xs_lits.specs.Literal.{Literal, opposite}
 use Rattle.xs_lits.specs.Models.{FollowsFrom}
-use Rattle.xs_derive.specs.Hints.{HasNoOpposites, LacksOpposite}
-use Rattle.xs_system.specs.States.{moved_on, IsOverBits, IsInvariant}
-use Rattle.xs_system.specs.declared.system.System.{System}
-use Rattle.xs_certificate.specs.Certificate.{Certificate, Part, part_first, part_next, part_bad}
-use Rattle.xs_certificate.specs.Accepted.{Subject, givens, goals}
-use Rattle.xs_certificate.proofs.Made.{goals_follow}
+use Rattle.xs_lits.specs.Hints.{HasNoOpposites, LacksOpposite}
+use Rattle.xs_lits.specs.States.{moved_on, IsOverBits, IsInvariant}
+use Rattle.xs_lits.specs.declared.system.System.{System}
+use Rattle.xs_certificate_laws.specs.Certificate.{Certificate, Part, part_first, part_next, part_bad}
+use Rattle.xs_certificate_laws.specs.Accepted.{Subject, givens, goals}
+use Rattle.xs_certificate_laws.proofs.Made.{goals_follow}
 
 module _ (system : System) (invariant bad : List (List Literal)) (over : All (IsOverBits system) invariant) (is_one : IsInvariant system bad invariant) where
   -- a certificate of no set, judged about these clauses

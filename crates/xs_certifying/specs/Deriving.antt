@@ -2,12 +2,12 @@
 use Rattle.std.specs.Prelude.{◌≡◌, ◌≤◌, List, [], ◌∷◌, ◌++◌, map, All}
 use Rattle.xs_lits.specs.Literal.{Literal}
 use Rattle.xs_lits.specs.StoreRecord.{StoreValue}
-use Rattle.xs_derive.specs.Steps.{with_steps}
-use Rattle.xs_derive.specs.declared.step.Step.{Step}
-use Rattle.xs_system.specs.States.{moved_on}
-use Rattle.xs_system.specs.declared.system.System.{System}
-use Rattle.xs_certificate.specs.Accepted.{highest}
-use Rattle.xs_certificate.specs.CertificateText.{AreWritable}
+use Rattle.xs_lits.specs.Steps.{with_steps}
+use Rattle.xs_lits.specs.declared.step.Step.{Step}
+use Rattle.xs_lits.specs.States.{moved_on}
+use Rattle.xs_lits.specs.declared.system.System.{System}
+use Rattle.xs_certificate_laws.specs.Accepted.{highest}
+use Rattle.xs_certificate_laws.specs.CertificateText.{AreWritable}
 use Rattle.xs_certifying.specs.Queries.{IsSoFar}
 use Rattle.xs_certifying.specs.declared.parts.Parts.{Parts}
 

@@ -6,23 +6,23 @@
 ghost use Rattle.std.specs.Prelude.{◌≡◌, ◌+◌, ◌<◌, ◌≤◌, ◌^◌, [], length, take, All, IfOk, OnOk};
 ghost use Rattle.xs_lits.specs.Literal.{Literal};
 ghost use Rattle.xs_lits.specs.Models.{FollowsFrom};
-ghost use Rattle.xs_derive.specs.Derivation.{IsUpTo};
-ghost use Rattle.xs_derive.specs.Hints.{HasNoOpposites};
-ghost use Rattle.xs_certificate.specs.Accepted.{highest_in, highest};
-ghost use Rattle.xs_certificate.specs.CertificateText.{AreWritable};
-ghost use Rattle.xs_certificate.specs.Derived.{asked};
+ghost use Rattle.xs_lits.specs.Derivation.{IsUpTo};
+ghost use Rattle.xs_lits.specs.Hints.{HasNoOpposites};
+ghost use Rattle.xs_certificate_laws.specs.Accepted.{highest_in, highest};
+ghost use Rattle.xs_certificate_laws.specs.CertificateText.{AreWritable};
+ghost use Rattle.xs_certificate_laws.specs.Derived.{asked};
 ghost use Rattle.xs_certifying.specs.Queries.{IsSoFar};
 ghost use Rattle.xs_certifying.specs.Deriving.{IsPartWay, HasPositive};
 
 use std::alloc::Global;
 use xs_adviser::Panel;
-use xs_derive::recorder::{KeepAll, StepsList};
 use xs_lits::clause::ClauseList;
 use xs_lits::lit::Lit;
+use xs_lits::recorder::{KeepAll, StepsList};
 use xs_lits::store::Store;
+use xs_solver::arena::Arena;
 use xs_solver::solve::solve_in;
 use xs_value::OutOfMemory;
-use xs_watch::arena::Arena;
 
 // The first number that no variable of a search has.
 const END_OF_VARIABLES: u64 = 4611686018427387904;

@@ -4,19 +4,19 @@
 //! [`derive_parts`] makes them, each from the clauses given for its part to the clauses that the part is to show. For the second the
 //! invariant is to be shown of the state next, so [`moved`] writes its clauses over the bits of that state.
 ghost use Rattle.std.specs.Prelude.{◌≡◌, ◌++◌, [], ◌∷◌, map, All, IfOk, OnOk};
-ghost use Rattle.xs_derive.specs.Hints.{HasNoOpposites};
-ghost use Rattle.xs_system.specs.States.{moved_on, IsOverBits, IsInvariant};
-ghost use Rattle.xs_certificate.specs.CertificateText.{AreWritable};
+ghost use Rattle.xs_lits.specs.Hints.{HasNoOpposites};
+ghost use Rattle.xs_lits.specs.States.{moved_on, IsOverBits, IsInvariant};
+ghost use Rattle.xs_certificate_laws.specs.CertificateText.{AreWritable};
 ghost use Rattle.xs_certifying.specs.Queries.{IsSoFar};
 ghost use Rattle.xs_certifying.specs.Deriving.{AreDerived};
 
 use crate::derive::derive;
 use std::alloc::Global;
 use xs_adviser::Panel;
-use xs_derive::recorder::StepsList;
+use xs_lits::System;
 use xs_lits::clause::{Clause, ClauseList};
 use xs_lits::lit::Lit;
-use xs_system::System;
+use xs_lits::recorder::StepsList;
 use xs_value::OutOfMemory;
 
 /// The derivations of a certificate.

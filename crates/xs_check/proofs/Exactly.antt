@@ -6,14 +6,15 @@ use Rattle.std.proofs.lemmas.List.{length-map, drop_more, drop_all}
 use Rattle.std.proofs.lemmas.Option.{slice_get_within, get_or_from_slice_get}
 use Rattle.xs_tree.specs.Trace.{Each}
 use Rattle.xs_tree.specs.Values.{Value}
-use Rattle.xs_scope.specs.ModelTree.{model_tree, variable_tree, mode_of}
-use Rattle.xs_scope.specs.declared.model.FlatModel.{FlatModel as Model}
-use Rattle.xs_scope.specs.declared.model.Fault.{Fault}
-use Rattle.xs_flattening.specs.FlatTrace.{IsFlatTrace, IsModeOf, stands_in_some}
-use Rattle.xs_flattening.specs.History.{Mode}
-use Rattle.xs_encoded.specs.FlatTraces.{ReachesTop, HasFailedNumber}
-use Rattle.xs_encoded.proofs.SetLaws.{has_contains, contains_has, and_parts, and_both}
-use Rattle.xs_right.specs.Sets.{has_number}
+use Rattle.xs_tree.specs.ModelTree.{model_tree, variable_tree}
+use Rattle.xs_flat_laws.specs.FaultModes.{mode_of}
+use Rattle.xs_tree.specs.declared.model.FlatModel.{FlatModel as Model}
+use Rattle.xs_tree.specs.declared.model.Fault.{Fault}
+use Rattle.xs_flat_laws.specs.FlatTrace.{IsFlatTrace, IsModeOf, stands_in_some}
+use Rattle.xs_flat_laws.specs.History.{Mode}
+use Rattle.xs_encode_laws.specs.FlatTraces.{ReachesTop, HasFailedNumber}
+use Rattle.xs_encode_laws.proofs.SetLaws.{has_contains, contains_has, and_parts, and_both}
+use Rattle.xs_right_laws.specs.Sets.{has_number}
 use Rattle.xs_eval.specs.Stops.{Why, Stops, bad_first, bad_step, no_top, at_first, at_step, at_top}
 use Rattle.xs_eval.proofs.StopLaws.{one_stop, reaching_does_not}
 use Rattle.xs_check.specs.Matter.{Matter}

@@ -1,12 +1,12 @@
 -- What is found at sites, put together from the front on.
 use Rattle.std.proofs.Common.{◌≡◌, ℕ, List, [], ◌∷◌, ◌++◌, length, refl, ap, subst, ◌∙◌, append_assoc}
 use Rattle.xs_tree.specs.Values.{Value}
-use Rattle.xs_flattening.specs.FlatTrace.{IsFlatTrace}
-use Rattle.xs_encoded.specs.FlatTraces.{ReachesTop, HasFailedNumber}
-use Rattle.xs_trace_text.specs.Given.{GivesTrace}
-use Rattle.xs_certificate.specs.Certificate.{Site, line_of}
-use Rattle.xs_certificate.specs.Sites.{sites_of, FirstBrokenIsObjection}
-use Rattle.xs_certificate.proofs.Sites.{first_broken}
+use Rattle.xs_flat_laws.specs.FlatTrace.{IsFlatTrace}
+use Rattle.xs_encode_laws.specs.FlatTraces.{ReachesTop, HasFailedNumber}
+use Rattle.xs_text_laws.specs.Given.{GivesTrace}
+use Rattle.xs_certificate_laws.specs.Certificate.{Site, line_of}
+use Rattle.xs_certificate_laws.specs.Sites.{sites_of, FirstBrokenIsObjection}
+use Rattle.xs_certificate_laws.proofs.Sites.{first_broken}
 use Rattle.xs_check.specs.Matter.{Matter, IsObjectionIn}
 use Rattle.xs_check.specs.Found.{IsKeptAt, IsBrokenAt, AreKept, IsFirstBroken, Finds, IsJudged}
 use Rattle.xs_check.specs.declared.judged.Judged.{Judged}

@@ -5,10 +5,10 @@ use Rattle.std.proofs.lemmas.List.{length-append}
 use Rattle.std.specs.Prelude.{IfOk}
 use Rattle.xs_tree.specs.Tree.{Tree}
 use Rattle.xs_lits.specs.Literal.{Literal}
-use Rattle.xs_encoding.specs.Lists.{bad_list}
-use Rattle.xs_flattening.specs.Flat.{FlatLeaf, FlatModel}
-use Rattle.xs_flattening.specs.History.{Mode, with_history, bit_variables}
-use Rattle.xs_encoded.specs.FlatTraces.{history_of}
+use Rattle.xs_encode_laws.specs.Lists.{bad_list}
+use Rattle.xs_tree.specs.Flat.{FlatLeaf, FlatModel}
+use Rattle.xs_flat_laws.specs.History.{Mode, with_history, bit_variables}
+use Rattle.xs_encode_laws.specs.FlatTraces.{history_of}
 use Rattle.xs_encode.specs.History.{last_numbers}
 
 one_each : (i : ℕ) (fs : List Mode) → length (bit_variables i fs) ≡ length fs

@@ -3,11 +3,11 @@ use Rattle.std.proofs.Common.{◌≡◌, ℕ, suc, ◌+◌, ◌<◌, ◌≤◌, 
 use Rattle.std.specs.Prelude.{slice_get}
 use Rattle.std.proofs.lemmas.List.{drop_more, drop_all}
 use Rattle.std.proofs.lemmas.Option.{slice_get_within, get_or_from_slice_get}
-use Rattle.xs_lines.specs.Lines.{Line}
+use Rattle.xs_text_laws.specs.Lines.{Line}
 use Rattle.xs_lits.specs.Literal.{Literal}
-use Rattle.xs_derive.specs.declared.step.Step.{Step}
-use Rattle.xs_certificate.specs.Certificate.{Part, Site, a_set, a_trace, a_clause, a_step, an_end, line_of}
-use Rattle.xs_certificate.specs.Sites.{set_sites, clause_sites, step_sites}
+use Rattle.xs_lits.specs.declared.step.Step.{Step}
+use Rattle.xs_certificate_laws.specs.Certificate.{Part, Site, a_set, a_trace, a_clause, a_step, an_end, line_of}
+use Rattle.xs_certificate_laws.specs.Sites.{set_sites, clause_sites, step_sites}
 use Rattle.xs_check.specs.Matter.{Matter}
 use Rattle.xs_check.specs.Found.{IsKeptAt, IsBrokenAt, AreKept, IsFirstBroken, Finds, GoesOn}
 use Rattle.xs_check.specs.declared.judged.Judged.TheVariants.{Yes, No}

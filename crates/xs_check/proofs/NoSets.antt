@@ -2,14 +2,14 @@
 use Rattle.std.proofs.Common.{◌≡◌, ◌≢◌, inl, inr, ℕ, zero, suc, ◌+◌, ◌<◌, ◌≤◌, List, [], ◌∷◌, ◌++◌, length, take, Some, refl, sym, ap, ◌∙◌, subst, arith}
 use Rattle.std.specs.Prelude.{slice_get}
 use Rattle.std.proofs.lemmas.List.Sums.{sum_by-cons}
-use Rattle.xs_lines.specs.Lines.{Line}
+use Rattle.xs_text_laws.specs.Lines.{Line}
 use Rattle.xs_tree.specs.Values.{Value}
-use Rattle.xs_flattening.specs.FlatTrace.{IsFlatTrace}
-use Rattle.xs_encoded.specs.FlatTraces.{ReachesTop, HasFailedNumber}
-use Rattle.xs_trace_text.specs.Given.{GivesTrace}
-use Rattle.xs_certificate.specs.Certificate.{head_line, Part, part_first, part_next, part_bad, Site, the_numbers, a_set, a_trace, a_clause, a_step, an_end, lines_of_sets, line_of, IsSite}
-use Rattle.xs_certificate.specs.Accepted.{Rule, HasNumbers, Keeps}
-use Rattle.xs_certificate.specs.Sites.{set_sites, sites_of}
+use Rattle.xs_flat_laws.specs.FlatTrace.{IsFlatTrace}
+use Rattle.xs_encode_laws.specs.FlatTraces.{ReachesTop, HasFailedNumber}
+use Rattle.xs_text_laws.specs.Given.{GivesTrace}
+use Rattle.xs_certificate_laws.specs.Certificate.{head_line, Part, part_first, part_next, part_bad, Site, the_numbers, a_set, a_trace, a_clause, a_step, an_end, lines_of_sets, line_of, IsSite}
+use Rattle.xs_certificate_laws.specs.Accepted.{Rule, HasNumbers, Keeps}
+use Rattle.xs_certificate_laws.specs.Sites.{set_sites, sites_of}
 use Rattle.xs_check.specs.Asked.{proof_sites}
 use Rattle.xs_check.specs.Matter.{Matter, KeepsAllIn}
 use Rattle.xs_check.specs.Found.{IsKeptAt, IsBrokenAt, Finds, IsObjectionOf, FindsUnlisted, one_before, none_before, of_another, of_its_set, IsJudged, IsJudgedUnlisted}

@@ -3,12 +3,12 @@ use Rattle.std.proofs.Common.{◌≡◌, ℕ, zero, suc, ◌<◌, ◌≤◌, Boo
 use Rattle.std.specs.Prelude.{◌&&◌, All, Contains, IsTrue, slice_get, slice_index_or}
 use Rattle.std.specs.List.{list_all}
 use Rattle.std.proofs.lemmas.List.Elements.{All-contains, Contains-get_or}
-use Rattle.xs_right.specs.Sets.{IsRising, is_contained, stands_before}
-use Rattle.xs_right.specs.Right.{IsContained}
-use Rattle.xs_encoded.proofs.SetLaws.{has_contains, contains_has, contained_has, contained_from, and_parts, and_both}
+use Rattle.xs_right_laws.specs.Sets.{IsRising, is_contained, stands_before}
+use Rattle.xs_right_laws.specs.Right.{IsContained}
+use Rattle.xs_encode_laws.proofs.SetLaws.{has_contains, contains_has, contained_has, contained_from, and_parts, and_both}
 use Rattle.xs_sets.specs.Tests.{are_apart}
-use Rattle.xs_certificate.specs.Certificate.{Certificate}
-use Rattle.xs_certificate.specs.Accepted.{Subject, IsSetAt, IsApart}
+use Rattle.xs_certificate_laws.specs.Certificate.{Certificate}
+use Rattle.xs_certificate_laws.specs.Accepted.{Subject, IsSetAt, IsApart}
 use Rattle.xs_check.specs.Order.{stands_after, is_after_in}
 
 -- All of a list, by its members.

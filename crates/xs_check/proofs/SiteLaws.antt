@@ -2,20 +2,20 @@
 use Rattle.std.proofs.Common.{◌≡◌, ℕ, suc, ◌<◌, List, [], ◌∷◌, Option, Some, None, refl, subst, arith}
 use Rattle.std.specs.Prelude.{All}
 use Rattle.std.proofs.lemmas.List.Elements.{All-nil, All-cons}
-use Rattle.xs_certificate.specs.Sites.{clause_sites}
+use Rattle.xs_certificate_laws.specs.Sites.{clause_sites}
 use Rattle.xs_tree.specs.Values.{Value}
-use Rattle.xs_lines.specs.Lines.{Line}
+use Rattle.xs_text_laws.specs.Lines.{Line}
 use Rattle.xs_lits.specs.Literal.{Literal}
-use Rattle.xs_derive.specs.Hints.{HasNoOpposites}
-use Rattle.xs_derive.specs.declared.step.Step.{Step}
-use Rattle.xs_system.specs.States.{IsOverBits}
-use Rattle.xs_flattening.specs.FlatTrace.{IsFlatTrace}
-use Rattle.xs_encoded.specs.FlatTraces.{ReachesTop, HasFailedNumber}
-use Rattle.xs_right.specs.Right.{HasFailedExactly, Shows}
-use Rattle.xs_trace_text.specs.Given.{IsPrintable, GivesTrace}
-use Rattle.xs_trace_text.proofs.OneTrace.{one_trace}
-use Rattle.xs_certificate.specs.Certificate.{Part, Site, the_numbers, a_set, a_trace, a_clause, a_step, an_end}
-use Rattle.xs_certificate.specs.Accepted.{Rule, other_numbers, no_set, contains_a_set, no_text, no_trace, does_not_reach, other_faults, foreign_literal, bad_hint, no_conflict, not_covered, number_of, Keeps, HasNumbers, IsSetAt, IsApart, HasLiterals, HasGoodHints, HasConflict, IsCovered}
+use Rattle.xs_lits.specs.Hints.{HasNoOpposites}
+use Rattle.xs_lits.specs.declared.step.Step.{Step}
+use Rattle.xs_lits.specs.States.{IsOverBits}
+use Rattle.xs_flat_laws.specs.FlatTrace.{IsFlatTrace}
+use Rattle.xs_encode_laws.specs.FlatTraces.{ReachesTop, HasFailedNumber}
+use Rattle.xs_right_laws.specs.Right.{HasFailedExactly, Shows}
+use Rattle.xs_text_laws.specs.Given.{IsPrintable, GivesTrace}
+use Rattle.xs_text_laws.proofs.OneTrace.{one_trace}
+use Rattle.xs_certificate_laws.specs.Certificate.{Part, Site, the_numbers, a_set, a_trace, a_clause, a_step, an_end}
+use Rattle.xs_certificate_laws.specs.Accepted.{Rule, other_numbers, no_set, contains_a_set, no_text, no_trace, does_not_reach, other_faults, foreign_literal, bad_hint, no_conflict, not_covered, number_of, Keeps, HasNumbers, IsSetAt, IsApart, HasLiterals, HasGoodHints, HasConflict, IsCovered}
 use Rattle.xs_check.specs.Matter.{Matter}
 use Rattle.xs_check.specs.Found.{IsKeptAt, IsBrokenAt, AreKept, FindsAt}
 use Rattle.xs_check.specs.Moments.{FindsMoments, BreaksMoments, not_a_trace, not_reaching, not_exactly}

@@ -2,10 +2,10 @@
 use Rattle.std.proofs.Common.{◌≡◌, ℕ, suc, ◌<◌, ◌≤◌, ◌^◌, List, [], ◌∷◌, ◌++◌, length, map, codes, refl, ap, ◌∙◌, arith}
 use Rattle.std.specs.List.{AllByRecursion}
 use Rattle.std.proofs.lemmas.List.{length-append, length-map}
-use Rattle.xs_lines.specs.Lines.{Line, fed, counted}
-use Rattle.xs_derive.specs.declared.step.Step.{Step}
-use Rattle.xs_certificate.specs.Certificate.{Certificate, part_bad, an_end, line_of, lines_of_sets}
-use Rattle.xs_certificate.specs.CertificateText.{Version, lines_of, set_lines, part_lines, clause_line, step_line, IsWritableText}
+use Rattle.xs_text_laws.specs.Lines.{Line, fed, counted}
+use Rattle.xs_lits.specs.declared.step.Step.{Step}
+use Rattle.xs_certificate_laws.specs.Certificate.{Certificate, part_bad, an_end, line_of, lines_of_sets}
+use Rattle.xs_certificate_laws.specs.CertificateText.{Version, lines_of, set_lines, part_lines, clause_line, step_line, IsWritableText}
 use Rattle.xs_check.specs.Fit.{IsShortText, SpelledAreCheckable}
 use Rattle.xs_check.proofs.LineCounts.{lines_first}
 

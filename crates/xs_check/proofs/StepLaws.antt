@@ -4,10 +4,10 @@ use Rattle.std.specs.Prelude.{map, All, slice_get}
 use Rattle.std.proofs.lemmas.List.{map_more}
 use Rattle.std.proofs.lemmas.Option.{slice_get_within, get_or_from_slice_get}
 use Rattle.xs_lits.specs.Literal.{Literal}
-use Rattle.xs_derive.specs.Derivation.{Derivation}
-use Rattle.xs_derive.specs.declared.step.Step.{Step}
-use Rattle.xs_certificate.specs.Certificate.{Certificate, Part, part_first, part_next, part_bad, a_step, an_end, steps_in, head_line, line_of}
-use Rattle.xs_certificate.specs.Accepted.{Covers, highest, known_before, known_at, vars_of, givens, goals, IsCovered}
+use Rattle.xs_lits.specs.Derivation.{Derivation}
+use Rattle.xs_lits.specs.declared.step.Step.{Step}
+use Rattle.xs_certificate_laws.specs.Certificate.{Certificate, Part, part_first, part_next, part_bad, a_step, an_end, steps_in, head_line, line_of}
+use Rattle.xs_certificate_laws.specs.Accepted.{Covers, highest, known_before, known_at, vars_of, givens, goals, IsCovered}
 use Rattle.xs_check.specs.Matter.{Matter}
 use Rattle.xs_check.specs.Found.{IsKeptAt, IsBrokenAt, Finds}
 use Rattle.xs_check.specs.declared.judged.Judged.TheVariants.{Yes, No}

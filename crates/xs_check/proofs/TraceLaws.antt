@@ -10,18 +10,18 @@ use Rattle.xs_tree.specs.Values as told
 use Rattle.xs_tree.specs.WritableProgram.{IsWritableType, IsWritableMember}
 use Rattle.xs_value.specs.declared.value.Value.{Value}
 use Rattle.xs_value.specs.declared.value.Value.TheVariants.{Bool as ABool, Num, Sym}
-use Rattle.xs_flattening.specs.Flat.{FlatVariable, FlatModel}
-use Rattle.xs_flattening.specs.FlatTrace.{AreInDomains}
-use Rattle.xs_lines.specs.Lines.{Line, fed}
+use Rattle.xs_tree.specs.Flat.{FlatVariable, FlatModel}
+use Rattle.xs_flat_laws.specs.FlatTrace.{AreInDomains}
+use Rattle.xs_text_laws.specs.Lines.{Line, fed}
 use Rattle.xs_eval.specs.Named as eval
 use Rattle.xs_eval.specs.Named.{named, named_all, named_trace, IsPlaceOf, IsNumbered, IsLawful}
 use Rattle.xs_report.specs.Told.{text_at, told_value, told_moment, told_trace}
-use Rattle.xs_trace_text.specs.Given.{IsPrintable, GivesMoments, GivesTrace, BytesGive}
+use Rattle.xs_text_laws.specs.Given.{IsPrintable, GivesMoments, GivesTrace, BytesGive}
 use Rattle.std.specs.List.{AllByRecursion}
-use Rattle.xs_lines.specs.Lines.{IsLine}
-use Rattle.xs_lines.proofs.Cuts.{same_fed}
-use Rattle.xs_trace_text.specs.Wrong.{wrong_line, missing_value, bad_line, unknown_name, outside, twice}
-use Rattle.xs_trace_text.proofs.GivenHasNone.{given_has_none}
+use Rattle.xs_text_laws.specs.Lines.{IsLine}
+use Rattle.xs_text_laws.proofs.Cuts.{same_fed}
+use Rattle.xs_text_laws.specs.Wrong.{wrong_line, missing_value, bad_line, unknown_name, outside, twice}
+use Rattle.xs_text_laws.proofs.GivenHasNone.{given_has_none}
 use Rattle.xs_report.specs.Faults.{IsFaultOf}
 use Rattle.xs_report.specs.declared.fault.TraceFault.{TraceFault}
 use Rattle.xs_report.specs.declared.fault.TraceFault.TheVariants as fault

@@ -1,7 +1,7 @@
 -- The matter of a question, and which sites are judged together.
 use Rattle.std.specs.Prelude.{List, ◌++◌}
-use Rattle.xs_certificate.specs.Certificate.{Certificate, Site, part_first, part_next, part_bad}
-use Rattle.xs_certificate.specs.Sites.{clause_sites, step_sites}
+use Rattle.xs_certificate_laws.specs.Certificate.{Certificate, Site, part_first, part_next, part_bad}
+use Rattle.xs_certificate_laws.specs.Sites.{clause_sites, step_sites}
 use Rattle.xs_cert.specs.Seen.{seen}
 use Rattle.xs_check.specs.Matter.{Matter, matter_of}
 use Rattle.xs_check.specs.declared.question.Question.{Question}

@@ -2,17 +2,17 @@
 use Rattle.std.specs.Prelude.{◌≡◌, ℕ, ◌^◌, ◌<◌, false, List, [], length}
 use Rattle.std.specs.List.{AllByRecursion}
 use Rattle.xs_tree.specs.Tree.{Tree}
-use Rattle.xs_flattening.specs.Flat.{FlatLeaf, FlatModel}
-use Rattle.xs_flattening.specs.History.{Mode, with_history}
-use Rattle.xs_kinds.specs.Laws.{ReadsOwn}
-use Rattle.xs_kinds.specs.Models.{judged_in, broken_condition}
+use Rattle.xs_tree.specs.Flat.{FlatLeaf, FlatModel}
+use Rattle.xs_flat_laws.specs.History.{Mode, with_history}
+use Rattle.xs_type_laws.specs.Laws.{ReadsOwn}
+use Rattle.xs_type_laws.specs.Models.{judged_in, broken_condition}
 use Rattle.xs_eval.specs.Named.{IsEvaluable}
-use Rattle.xs_encoded.specs.Laws.{AreOwn}
-use Rattle.xs_encoding.specs.Encodable.{IsEncodable, IsFitTop}
-use Rattle.xs_trace_text.specs.Given.{IsPrintable, HasItsSymbols}
-use Rattle.xs_lines.specs.Lines.{Line, IsLine}
-use Rattle.xs_certificate.specs.Certificate.{Certificate, part_bad, an_end, line_of}
-use Rattle.xs_certificate.specs.CertificateText.{SpellsCertificate}
+use Rattle.xs_encode_laws.specs.EncodedLaws.{AreOwn}
+use Rattle.xs_encode_laws.specs.Encodable.{IsEncodable, IsFitTop}
+use Rattle.xs_text_laws.specs.Given.{IsPrintable, HasItsSymbols}
+use Rattle.xs_text_laws.specs.Lines.{Line, IsLine}
+use Rattle.xs_certificate_laws.specs.Certificate.{Certificate, part_bad, an_end, line_of}
+use Rattle.xs_certificate_laws.specs.CertificateText.{SpellsCertificate}
 use Rattle.xs_check.specs.Matter.{Matter}
 
 -- a text has fewer than 2^32 lines, and no line feed in one

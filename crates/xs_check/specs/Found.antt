@@ -1,8 +1,8 @@
 -- What is found at the sites of a certificate: that every rule is kept at all of them, or which is broken first.
 use Rattle.std.specs.Prelude.{◌≡◌, ◌≢◌, ◌⊎◌, ◌≤◌, ◌<◌, ℕ, List, [], ◌∷◌, ◌++◌, Option, Some, None}
 use Rattle.std.specs.List.{AllByRecursion}
-use Rattle.xs_certificate.specs.Certificate.{Site, line_of}
-use Rattle.xs_certificate.specs.Accepted.{Rule, number_of}
+use Rattle.xs_certificate_laws.specs.Certificate.{Site, line_of}
+use Rattle.xs_certificate_laws.specs.Accepted.{Rule, number_of}
 use Rattle.xs_check.specs.Matter.{Matter, IsAcceptedIn, IsObjectionIn, KeepsAllIn, BreaksFirstIn}
 use Rattle.xs_check.specs.declared.judged.Judged.{Judged}
 use Rattle.xs_check.specs.declared.judged.Judged.TheVariants.{Yes, No}

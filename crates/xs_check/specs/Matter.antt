@@ -3,19 +3,20 @@ use Rattle.std.specs.Prelude.{ℕ, List, map}
 use Rattle.xs_tree.specs.Tree.{Tree}
 use Rattle.xs_tree.specs.Values.{Value}
 use Rattle.xs_tree.specs.declared.expr.Expr.{Expr}
-use Rattle.xs_flattening.specs.Flat.{FlatLeaf, FlatModel}
-use Rattle.xs_flattening.specs.FlatTrace.{IsFlatTrace}
-use Rattle.xs_flattening.specs.History.{Mode}
-use Rattle.xs_scope.specs.declared.model.Flat.{Flat}
-use Rattle.xs_scope.specs.declared.model.FlatModel.{FlatModel as Model}
-use Rattle.xs_scope.specs.declared.model.Fault.{Fault}
-use Rattle.xs_scope.specs.ModelTree.{model_tree, flat_tree, mode_of}
-use Rattle.xs_encoded.specs.FlatTraces.{ReachesTop, HasFailedNumber}
-use Rattle.xs_trace_text.specs.Given.{GivesTrace}
-use Rattle.xs_certificate.specs.Certificate.{Certificate, Site}
-use Rattle.xs_certificate.specs.Accepted.{Subject, Rule, IsAccepted, IsObjection}
-use Rattle.xs_subject.specs.Subject.{subject_of}
-use Rattle.xs_certificate.specs.Sites.{KeepsAll, BreaksFirst}
+use Rattle.xs_tree.specs.Flat.{FlatLeaf, FlatModel}
+use Rattle.xs_flat_laws.specs.FlatTrace.{IsFlatTrace}
+use Rattle.xs_flat_laws.specs.History.{Mode}
+use Rattle.xs_tree.specs.declared.model.Flat.{Flat}
+use Rattle.xs_tree.specs.declared.model.FlatModel.{FlatModel as Model}
+use Rattle.xs_tree.specs.declared.model.Fault.{Fault}
+use Rattle.xs_tree.specs.ModelTree.{model_tree, flat_tree}
+use Rattle.xs_flat_laws.specs.FaultModes.{mode_of}
+use Rattle.xs_encode_laws.specs.FlatTraces.{ReachesTop, HasFailedNumber}
+use Rattle.xs_text_laws.specs.Given.{GivesTrace}
+use Rattle.xs_certificate_laws.specs.Certificate.{Certificate, Site}
+use Rattle.xs_certificate_laws.specs.Accepted.{Subject, Rule, IsAccepted, IsObjection}
+use Rattle.xs_certificate_laws.specs.Subject.{subject_of}
+use Rattle.xs_certificate_laws.specs.Sites.{KeepsAll, BreaksFirst}
 
 -- a model without history, its faults, a top event, a subject and a certificate
 pub record Matter : Type 0 where

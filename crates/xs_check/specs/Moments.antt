@@ -3,13 +3,13 @@ use Rattle.std.specs.Prelude.{◌&&◌, ℕ, ◌<◌, ◌^◌, Bool, true, not, 
 use Rattle.xs_tree.specs.Values.{Value}
 use Rattle.xs_tree.specs.Trace.{Each}
 use Rattle.xs_value.specs.declared.value.Value.{Value as Numbered}
-use Rattle.xs_flattening.specs.FlatTrace.{IsFlatTrace}
-use Rattle.xs_flattening.specs.History.{Mode}
-use Rattle.xs_flattening.specs.Flat.{FlatModel}
-use Rattle.xs_encoded.specs.FlatTraces.{ReachesTop, HasFailedNumber}
+use Rattle.xs_flat_laws.specs.FlatTrace.{IsFlatTrace}
+use Rattle.xs_flat_laws.specs.History.{Mode}
+use Rattle.xs_tree.specs.Flat.{FlatModel}
+use Rattle.xs_encode_laws.specs.FlatTraces.{ReachesTop, HasFailedNumber}
 use Rattle.xs_eval.specs.Named.{IsLawful}
-use Rattle.xs_right.specs.Sets.{has_number}
-use Rattle.xs_right.specs.Right.{HasFailedExactly, Shows}
+use Rattle.xs_right_laws.specs.Sets.{has_number}
+use Rattle.xs_right_laws.specs.Right.{HasFailedExactly, Shows}
 use Rattle.xs_report.specs.declared.fault.TraceFault.{TraceFault}
 use Rattle.xs_report.specs.declared.fault.TraceFault.TheVariants as fault
 use Rattle.xs_check.specs.Matter.{Matter}

@@ -1,6 +1,6 @@
 -- Whether a set stands after the one before it, as it is computed.
 use Rattle.std.specs.Prelude.{ℕ, zero, suc, Bool, true, false, List, Option, Some, None, slice_get}
-use Rattle.xs_right.specs.Sets.{stands_before}
+use Rattle.xs_right_laws.specs.Sets.{stands_before}
 
 abbrev pub stands_after : List ℕ → Option (List ℕ) → Bool
 stands_after set None = false

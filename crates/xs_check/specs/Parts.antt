@@ -1,8 +1,8 @@
 -- Which derivation is meant, from what it starts, and what is found at its steps.
 use Rattle.std.specs.Prelude.{List, [], ◌∷◌}
 use Rattle.xs_lits.specs.Literal.{Literal}
-use Rattle.xs_certificate.specs.Certificate.{Part, part_first, part_next, part_bad, an_end, steps_in}
-use Rattle.xs_certificate.specs.Sites.{step_sites}
+use Rattle.xs_certificate_laws.specs.Certificate.{Part, part_first, part_next, part_bad, an_end, steps_in}
+use Rattle.xs_certificate_laws.specs.Sites.{step_sites}
 use Rattle.xs_check.specs.Matter.{Matter}
 use Rattle.xs_check.specs.Found.{Finds, GoesOn}
 use Rattle.xs_check.specs.declared.judged.Judged.{Judged}

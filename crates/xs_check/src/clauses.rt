@@ -1,17 +1,17 @@
 //! The clauses of an invariant: rule 8.
 
 ghost use Rattle.std.specs.Prelude.{◌≡◌, ◌↔◌, ◌+◌, ◌<◌, ◌≤◌, ◌^◌, IsTrue, All, length};
-ghost use Rattle.xs_derive.specs.Hints.{HasNoOpposites};
-ghost use Rattle.xs_system.specs.States.{IsOverBits};
-ghost use Rattle.xs_certificate.specs.Certificate.{invariant_line};
-ghost use Rattle.xs_certificate.specs.Sites.{clause_sites};
+ghost use Rattle.xs_lits.specs.Hints.{HasNoOpposites};
+ghost use Rattle.xs_lits.specs.States.{IsOverBits};
+ghost use Rattle.xs_certificate_laws.specs.Certificate.{invariant_line};
+ghost use Rattle.xs_certificate_laws.specs.Sites.{clause_sites};
 ghost use Rattle.xs_check.specs.Asked.{asked};
 ghost use Rattle.xs_check.specs.Found.{Finds};
 
 use crate::judged::Judged;
 use crate::question::Question;
-use xs_derive::hints::has_no_opposites;
 use xs_lits::clause::ClauseList;
+use xs_lits::hints::has_no_opposites;
 use xs_lits::lit::Lit;
 
 /// Judges the clauses of the invariant, the first of which has this line.

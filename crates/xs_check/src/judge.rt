@@ -1,11 +1,12 @@
 //! All sites of a certificate judged in the order of their lines.
 
 ghost use Rattle.std.specs.Prelude.{◌≡◌, ◌++◌, map, length, IfOk};
-ghost use Rattle.xs_scope.specs.ModelTree.{model_tree, flat_tree, mode_of};
-ghost use Rattle.xs_flattening.specs.History.{with_history};
+ghost use Rattle.xs_tree.specs.ModelTree.{model_tree, flat_tree};
+ghost use Rattle.xs_flat_laws.specs.FaultModes.{mode_of};
+ghost use Rattle.xs_flat_laws.specs.History.{with_history};
 ghost use Rattle.xs_cert.specs.Seen.{seen};
-ghost use Rattle.xs_certificate.specs.Accepted.{HasNumbers};
-ghost use Rattle.xs_certificate.specs.Sites.{sites_of, set_sites};
+ghost use Rattle.xs_certificate_laws.specs.Accepted.{HasNumbers};
+ghost use Rattle.xs_certificate_laws.specs.Sites.{sites_of, set_sites};
 ghost use Rattle.xs_check.specs.Matter.{matter_of};
 ghost use Rattle.xs_check.specs.Found.{Finds, IsJudged};
 ghost use Rattle.xs_check.specs.Asked.{asked, proof_sites};
@@ -20,8 +21,8 @@ use crate::question::Question;
 use crate::sets::has_numbers;
 use std::alloc::Global;
 use xs_cert::Certificate;
-use xs_flat::{FaultList, Flat};
 use xs_tree::Expr;
+use xs_tree::model::{FaultList, Flat};
 use xs_types::Typed;
 use xs_value::OutOfMemory;
 

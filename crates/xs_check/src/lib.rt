@@ -1,10 +1,10 @@
 //! The checker of certificates, which stands on no solver.
 //!
 //! [`check`] answers whether a certificate is accepted for a model with its faults and a top event, or the
-//! objection to it ([`Judged`]). The eleven rules and the objection are defined in `xs_certificate`; what they
-//! speak of here are the clause lists of the model with history (`xs_encoding`) and the flat traces that the
-//! texts give (`xs_trace_text`), as `specs/Matter.antt` says. What an accepted certificate shows, whoever
-//! wrote it, is a law of `xs_certified`.
+//! objection to it ([`Judged`]). The eleven rules and the objection are defined in `xs_certificate_laws`; what they
+//! speak of here are the clause lists of the model with history (`xs_encode_laws`) and the flat traces that the
+//! texts give (`xs_text_laws`), as `specs/Matter.antt` says. What an accepted certificate shows, whoever
+//! wrote it, is a law of `xs_certificate_laws`.
 //!
 //! The sites of a certificate are judged in the order of their lines, and each function here answers for the
 //! sites of a part what is found at them (`specs/Found.antt`). The files from below: `judged` (the answer),

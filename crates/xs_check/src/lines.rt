@@ -1,7 +1,7 @@
 //! At which lines of its text the parts of a certificate stand.
 
 ghost use Rattle.std.specs.Prelude.{◌≡◌, ◌+◌, ◌<◌, ◌^◌, length};
-ghost use Rattle.xs_certificate.specs.Certificate.{lines_of_sets, invariant_line};
+ghost use Rattle.xs_certificate_laws.specs.Certificate.{lines_of_sets, invariant_line};
 ghost use Rattle.xs_check.specs.Asked.{asked};
 ghost use Rattle.xs_check.specs.Fit.{IsCheckable};
 

@@ -1,9 +1,9 @@
 //! The sets of a certificate, each with its trace.
 
 ghost use Rattle.std.specs.Prelude.{◌≡◌, ◌+◌, ◌<◌, ◌^◌, [], ◌∷◌, IfOk, length, slice_get, slice_index_or, take, Some};
-ghost use Rattle.xs_scope.specs.ModelTree.{model_tree};
-ghost use Rattle.xs_certificate.specs.Certificate.{a_set, a_trace, lines_of_sets};
-ghost use Rattle.xs_certificate.specs.Sites.{set_sites};
+ghost use Rattle.xs_tree.specs.ModelTree.{model_tree};
+ghost use Rattle.xs_certificate_laws.specs.Certificate.{a_set, a_trace, lines_of_sets};
+ghost use Rattle.xs_certificate_laws.specs.Sites.{set_sites};
 ghost use Rattle.xs_check.specs.Asked.{asked};
 ghost use Rattle.xs_check.specs.Fit.{CanBeJudged, IsFit, IsShortText};
 ghost use Rattle.xs_check.specs.Found.{Finds};

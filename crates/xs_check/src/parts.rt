@@ -1,11 +1,11 @@
 //! The three derivations of a certificate, each from the clauses that it is given.
 
 ghost use Rattle.std.specs.Prelude.{◌≡◌, ◌++◌, IfOk, All};
-ghost use Rattle.xs_system.specs.States.{IsOverBits};
-ghost use Rattle.xs_scope.specs.ModelTree.{model_tree};
-ghost use Rattle.xs_certificate.specs.Certificate.{part_first, part_next, part_bad, head_line, steps_in, first_line, next_line, bad_line};
-ghost use Rattle.xs_certificate.specs.Sites.{step_sites};
-ghost use Rattle.xs_certificate.specs.Accepted.{HasNumbers, goals};
+ghost use Rattle.xs_lits.specs.States.{IsOverBits};
+ghost use Rattle.xs_tree.specs.ModelTree.{model_tree};
+ghost use Rattle.xs_certificate_laws.specs.Certificate.{part_first, part_next, part_bad, head_line, steps_in, first_line, next_line, bad_line};
+ghost use Rattle.xs_certificate_laws.specs.Sites.{step_sites};
+ghost use Rattle.xs_certificate_laws.specs.Accepted.{HasNumbers, goals};
 ghost use Rattle.xs_check.specs.Asked.{asked};
 ghost use Rattle.xs_check.specs.Fit.{CanBeProved};
 ghost use Rattle.xs_check.specs.Found.{Finds};

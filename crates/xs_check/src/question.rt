@@ -1,14 +1,14 @@
 //! What is asked: a certificate with the model, the faults and the top event that it is about.
 
 ghost use Rattle.std.specs.Prelude.{◌≡◌};
-ghost use Rattle.xs_certificate.specs.Certificate.{steps_in};
+ghost use Rattle.xs_certificate_laws.specs.Certificate.{steps_in};
 ghost use Rattle.xs_check.specs.Asked.{asked};
 ghost use Rattle.xs_check.specs.Parts.{part_of};
 
 use xs_cert::Certificate;
-use xs_derive::recorder::StepsList;
-use xs_flat::{FaultList, Flat};
+use xs_lits::recorder::StepsList;
 use xs_tree::Expr;
+use xs_tree::model::{FaultList, Flat};
 use xs_types::Typed;
 
 /// A certificate, and what it is about: a model, the same with history, its faults and a top event.

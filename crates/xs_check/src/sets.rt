@@ -2,11 +2,11 @@
 
 ghost use Rattle.std.specs.Prelude.{◌≡◌, ◌↔◌, ◌<◌, ◌≤◌, ◌&&◌, IsTrue, Some, slice_get, length, All, take};
 ghost use Rattle.std.specs.List.{list_all};
-ghost use Rattle.xs_scope.specs.ModelTree.{model_tree};
-ghost use Rattle.xs_right.specs.Sets.{IsRising, stands_before as before};
+ghost use Rattle.xs_tree.specs.ModelTree.{model_tree};
+ghost use Rattle.xs_right_laws.specs.Sets.{IsRising, stands_before as before};
 ghost use Rattle.xs_sets.specs.Tests.{are_apart as apart};
-ghost use Rattle.xs_certificate.specs.Certificate.{a_set};
-ghost use Rattle.xs_certificate.specs.Accepted.{HasNumbers, IsSetAt, IsApart};
+ghost use Rattle.xs_certificate_laws.specs.Certificate.{a_set};
+ghost use Rattle.xs_certificate_laws.specs.Accepted.{HasNumbers, IsSetAt, IsApart};
 ghost use Rattle.xs_check.specs.Asked.{asked};
 ghost use Rattle.xs_check.specs.Order.{is_after_in};
 ghost use Rattle.xs_check.specs.Found.{FindsAt};

@@ -1,9 +1,9 @@
 //! One derivation of a certificate: rules 8 to 11.
 
 ghost use Rattle.std.specs.Prelude.{◌≡◌, ◌+◌, ◌<◌, ◌^◌, [], ◌∷◌, IfOk, length};
-ghost use Rattle.xs_certificate.specs.Certificate.{an_end, head_line, steps_in};
-ghost use Rattle.xs_certificate.specs.Sites.{step_sites};
-ghost use Rattle.xs_certificate.specs.Accepted.{known_at, vars_of, goals};
+ghost use Rattle.xs_certificate_laws.specs.Certificate.{an_end, head_line, steps_in};
+ghost use Rattle.xs_certificate_laws.specs.Sites.{step_sites};
+ghost use Rattle.xs_certificate_laws.specs.Accepted.{known_at, vars_of, goals};
 ghost use Rattle.xs_check.specs.Asked.{asked};
 ghost use Rattle.xs_check.specs.Found.{Finds};
 ghost use Rattle.xs_check.specs.Parts.{FindsSteps, part_of};
@@ -11,7 +11,7 @@ ghost use Rattle.xs_check.specs.Parts.{FindsSteps, part_of};
 use crate::judged::Judged;
 use crate::question::{Part, Question, steps_of};
 use xs_derivations::{covers_all, take_step};
-use xs_derive::checker::Checker;
+use xs_lits::checker::Checker;
 use xs_lits::clause::Clause;
 use xs_value::OutOfMemory;
 

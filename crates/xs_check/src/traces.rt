@@ -1,12 +1,13 @@
 //! The trace texts of a certificate: rules 4 to 7.
 
 ghost use Rattle.std.specs.Prelude.{◌≡◌, ◌↔◌, ◌<◌, ◌++◌, [], Some, IsTrue, IfOk, length, map};
-ghost use Rattle.xs_lines.specs.Lines.{fed};
-ghost use Rattle.xs_scope.specs.ModelTree.{model_tree, mode_of};
-ghost use Rattle.xs_flattening.specs.FlatTrace.{stands_in_some};
+ghost use Rattle.xs_text_laws.specs.Lines.{fed};
+ghost use Rattle.xs_tree.specs.ModelTree.{model_tree};
+ghost use Rattle.xs_flat_laws.specs.FaultModes.{mode_of};
+ghost use Rattle.xs_flat_laws.specs.FlatTrace.{stands_in_some};
 ghost use Rattle.xs_eval.specs.Named.{named_trace};
 ghost use Rattle.xs_eval.specs.Replayed.{IsReaching};
-ghost use Rattle.xs_certificate.specs.Certificate.{a_trace};
+ghost use Rattle.xs_certificate_laws.specs.Certificate.{a_trace};
 ghost use Rattle.xs_check.specs.Asked.{asked};
 ghost use Rattle.xs_check.specs.Fit.{IsFit, IsShortText};
 ghost use Rattle.xs_check.specs.Found.{FindsAt};

@@ -1,11 +1,12 @@
 //! Certificates that may list no set.
 
 ghost use Rattle.std.specs.Prelude.{◌≡◌, Some, slice_get, map, IfOk};
-ghost use Rattle.xs_scope.specs.ModelTree.{model_tree, flat_tree, mode_of};
-ghost use Rattle.xs_flattening.specs.History.{with_history};
+ghost use Rattle.xs_tree.specs.ModelTree.{model_tree, flat_tree};
+ghost use Rattle.xs_flat_laws.specs.FaultModes.{mode_of};
+ghost use Rattle.xs_flat_laws.specs.History.{with_history};
 ghost use Rattle.xs_cert.specs.Seen.{seen};
-ghost use Rattle.xs_certificate.specs.Certificate.{a_set};
-ghost use Rattle.xs_certificate.specs.Accepted.{HasNumbers};
+ghost use Rattle.xs_certificate_laws.specs.Certificate.{a_set};
+ghost use Rattle.xs_certificate_laws.specs.Accepted.{HasNumbers};
 ghost use Rattle.xs_check.specs.Asked.{asked};
 ghost use Rattle.xs_check.specs.Fit.{IsProvable, IsCheckable, CanBeProved};
 ghost use Rattle.xs_check.specs.Found.{IsJudgedUnlisted, FindsUnlisted};
@@ -17,8 +18,8 @@ use crate::question::Question;
 use crate::sets::{has_numbers, set_rule};
 use std::alloc::Global;
 use xs_cert::Certificate;
-use xs_flat::{FaultList, Flat};
 use xs_tree::Expr;
+use xs_tree::model::{FaultList, Flat};
 use xs_types::Typed;
 use xs_value::{OutOfMemory, SetList};
 

@@ -4,8 +4,8 @@ use Rattle.std.specs.Prelude.{max, All}
 use Rattle.std.proofs.lemmas.List.{drop_more, drop_all}
 use Rattle.std.proofs.lemmas.List.Elements.{All-nil, All-cons}
 use Rattle.xs_lits.specs.Literal.{Literal}
-use Rattle.xs_derive.specs.Derivation.{IsUpTo}
-use Rattle.xs_certificate.specs.Accepted.{highest, highest_in}
+use Rattle.xs_lits.specs.Derivation.{IsUpTo}
+use Rattle.xs_certificate_laws.specs.Accepted.{highest, highest_in}
 
 left : (a b n : ℕ) → max a b ≤ n → a ≤ n
 left a b n h = omega (arith, h)

@@ -2,15 +2,15 @@
 use Rattle.std.proofs.Common.{eqb, cond, Bool, true, false, ◌≡◌, ◌⊎◌, inl, inr, ℕ, suc, ◌+◌, ◌-◌, ◌<◌, arith, List, Result, Ok, Err, Option, Some, None, refl, sym, ap, subst, ◌∙◌}
 use Rattle.std.specs.Prelude.{◌↔◌, ◌≤◌, All, Contains, IsErrOf, length, slice_get}
 use Rattle.xs_lits.specs.Literal.{Literal}
-use Rattle.xs_derive.specs.CanTake.{CanTake}
-use Rattle.xs_derive.specs.Derivation.{Derivation, IsUpTo, Appends}
-use Rattle.xs_derive.specs.Hints.{clause_at, FailsAt, EndsOpen, assumed_false}
+use Rattle.xs_lits.specs.CanTake.{CanTake}
+use Rattle.xs_lits.specs.Derivation.{Derivation, IsUpTo, Appends}
+use Rattle.xs_lits.specs.Hints.{clause_at, FailsAt, EndsOpen, assumed_false}
 use Rattle.std.proofs.lemmas.Bool.{cases_eq}
 use Rattle.std.proofs.lemmas.Option.{slice_get_within, get_or_from_slice_get, slice_get_read}
-use Rattle.xs_certificate.specs.Accepted.{Covers}
-use Rattle.xs_derive.specs.declared.step.Step.{Step}
-use Rattle.xs_derive.specs.declared.step.StepFault.{StepFault}
-use Rattle.xs_derive.specs.declared.step.StepFault.TheVariants.{BadHint, NoConflict}
+use Rattle.xs_certificate_laws.specs.Accepted.{Covers}
+use Rattle.xs_lits.specs.declared.step.Step.{Step}
+use Rattle.xs_lits.specs.declared.step.StepFault.{StepFault}
+use Rattle.xs_lits.specs.declared.step.StepFault.TheVariants.{BadHint, NoConflict}
 use Rattle.xs_derivations.specs.Steps.{HasItsLiterals, BreaksStep, foreign, hint, no_false, IsTaken, FindsStep, fault_rule}
 
 module _ {A : Type 0} (d : Derivation) (s : Step) (can : CanTake d s.clause) (r : Result A StepFault)

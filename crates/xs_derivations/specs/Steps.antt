@@ -1,11 +1,11 @@
 -- What is found of one step of a derivation.
 use Rattle.std.specs.Prelude.{◌≡◌, ℕ, List, [], ◌∷◌, ◌++◌, Option, Some, None, All}
 use Rattle.xs_lits.specs.Literal.{Literal}
-use Rattle.xs_derive.specs.Derivation.{Derivation, IsUpTo}
-use Rattle.xs_derive.specs.Hints.{HasNoOpposites, FailsAt, EndsOpen, assumed_false}
-use Rattle.xs_derive.specs.declared.step.Step.{Step}
-use Rattle.xs_derive.specs.declared.step.StepFault.{StepFault}
-use Rattle.xs_derive.specs.declared.step.StepFault.TheVariants.{BadHint, NoConflict}
+use Rattle.xs_lits.specs.Derivation.{Derivation, IsUpTo}
+use Rattle.xs_lits.specs.Hints.{HasNoOpposites, FailsAt, EndsOpen, assumed_false}
+use Rattle.xs_lits.specs.declared.step.Step.{Step}
+use Rattle.xs_lits.specs.declared.step.StepFault.{StepFault}
+use Rattle.xs_lits.specs.declared.step.StepFault.TheVariants.{BadHint, NoConflict}
 
 -- over variables up to the highest, after the clauses that are known
 module _ (most : ℕ) (known : List (List Literal)) (s : Step) where

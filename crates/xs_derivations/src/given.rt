@@ -1,10 +1,10 @@
 //! A checker of derivations with the clauses that a derivation starts from.
 
 ghost use Rattle.std.specs.Prelude.{◌≡◌, ◌≤◌, ◌++◌, IfOk, OnOk};
-ghost use Rattle.xs_certificate.specs.Accepted.{highest, highest_in};
+ghost use Rattle.xs_certificate_laws.specs.Accepted.{highest, highest_in};
 
 use std::alloc::Global;
-use xs_derive::checker::Checker;
+use xs_lits::checker::Checker;
 use xs_lits::clause::Clause;
 use xs_lits::lit::Lit;
 use xs_value::OutOfMemory;

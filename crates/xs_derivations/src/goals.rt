@@ -1,7 +1,7 @@
 //! Clauses that a derivation is to show.
 
 ghost use Rattle.std.specs.Prelude.{◌≡◌, ◌+◌, ◌<◌, ◌≤◌, IfOk, All, [], ◌∷◌, map};
-ghost use Rattle.xs_system.specs.States.{moved_on};
+ghost use Rattle.xs_lits.specs.States.{moved_on};
 
 use std::alloc::Global;
 use xs_lits::clause::{Clause, ClauseList};

@@ -1,9 +1,9 @@
 //! Derivations of certificates checked step by step.
 //!
-//! [`checker_of`] gives the checker of `xs_derive` the clauses that a derivation starts from, [`take_step`]
+//! [`checker_of`] gives the checker of `xs_lits` the clauses that a derivation starts from, [`take_step`]
 //! takes a step or tells the number of the rule that it breaks first (8, 9 or 10), and [`covers_all`] tells
 //! whether the clauses so far cover those that are to be shown, such as those of [`moved`] and [`only_empty`].
-//! The rules are those of `xs_certificate`; `specs/Steps.antt` says them of the derivation as it stands. A step
+//! The rules are those of `xs_certificate_laws`; `specs/Steps.antt` says them of the derivation as it stands. A step
 //! costs the literals of its clause and of the clauses that it names.
 //!
 //! ```text

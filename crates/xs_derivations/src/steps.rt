@@ -1,14 +1,14 @@
 //! One step taken by the checker of derivations, and whether clauses are covered: rules 8 to 11.
 
 ghost use Rattle.std.specs.Prelude.{◌≡◌, ◌↔◌, IsTrue, IfOk, All, Contains};
-ghost use Rattle.xs_certificate.specs.Accepted.{Covers};
-ghost use Rattle.xs_derive.specs.CanTake.{CanTake};
+ghost use Rattle.xs_certificate_laws.specs.Accepted.{Covers};
+ghost use Rattle.xs_lits.specs.CanTake.{CanTake};
 ghost use Rattle.xs_derivations.specs.Steps.{FindsStep, fault_rule};
 
-use xs_derive::checker::Checker;
-use xs_derive::step::{Step, StepFault};
+use xs_lits::checker::Checker;
 use xs_lits::clause::Clause;
 use xs_lits::lit::{Lit, contains};
+use xs_lits::step::{Step, StepFault};
 use xs_value::OutOfMemory;
 
 /// Takes a step, or tells the rule that it breaks first.

@@ -5,11 +5,11 @@ use Rattle.std.specs.List.{range_with_len}
 use Rattle.std.specs.Prelude.{slice_get, Some, if◌then◌else◌}
 use Rattle.xs_lits.specs.Literal.{Literal}
 use Rattle.xs_lits.specs.Models.{IsBelow}
-use Rattle.xs_gates.specs.Circuit.{Circuit}
-use Rattle.xs_arith.specs.Counts.{at_most_gates}
-use Rattle.xs_gates.specs.Meaning.{AllBelow}
-use Rattle.xs_encoding.specs.Signals.{Signal, literal_in, as_bit}
-use Rattle.xs_encoding.specs.Lists.{signal_or_false, asserted, asserted_signal, size_gates}
+use Rattle.xs_circuits.specs.Circuit.{Circuit}
+use Rattle.xs_circuits.specs.Counts.{at_most_gates}
+use Rattle.xs_circuits.specs.Meaning.{AllBelow}
+use Rattle.xs_encode_laws.specs.Signals.{Signal, literal_in, as_bit}
+use Rattle.xs_encode_laws.specs.Lists.{signal_or_false, asserted, asserted_signal, size_gates}
 use Rattle.xs_encode.specs.History.{literal_of}
 
 -- the literals of the numbers that are left begin with that of the next

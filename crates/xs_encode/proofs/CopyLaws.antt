@@ -1,18 +1,18 @@
 -- What the passes of a copy build together.
 use Rattle.std.proofs.Common.{◌≡◌, ℕ, ◌<◌, ◌≤◌, Bool, List, refl, sym, ◌∙◌, ap, subst, arith}
 use Rattle.xs_tree.specs.Trace.{Each}
-use Rattle.xs_flattening.specs.Flat.{FlatModel}
-use Rattle.xs_gates.specs.Circuit.{Circuit, after}
-use Rattle.xs_gates.specs.Meaning.{HasTruth}
-use Rattle.xs_encoding.specs.Signals.{Signal}
-use Rattle.xs_encoding.specs.Layout.{input_place, next_place, gates_place, variable_signals}
-use Rattle.xs_encoding.specs.Lists.{Copy, copy_of as the_copy, names_of, formulas_gates, domains_gates, definitions_gates, moment_gates, copy_gates}
-use Rattle.xs_encoding.specs.Meanings.{IsSignal, IsReady}
-use Rattle.xs_encoding.specs.Encodable.{IsEncodable}
-use Rattle.xs_encoding.proofs.MomentMeans.{model_types}
-use Rattle.xs_encoding.proofs.Readings.{signals_below}
-use Rattle.xs_signals.specs.Built.{signals_of}
-use Rattle.xs_signals.proofs.ChoiceLoop.{usable_later}
+use Rattle.xs_tree.specs.Flat.{FlatModel}
+use Rattle.xs_circuits.specs.Circuit.{Circuit, after}
+use Rattle.xs_circuits.specs.Meaning.{HasTruth}
+use Rattle.xs_encode_laws.specs.Signals.{Signal}
+use Rattle.xs_encode_laws.specs.Layout.{input_place, next_place, gates_place, variable_signals}
+use Rattle.xs_encode_laws.specs.Lists.{Copy, copy_of as the_copy, names_of, formulas_gates, domains_gates, definitions_gates, moment_gates, copy_gates}
+use Rattle.xs_encode_laws.specs.Meanings.{IsSignal, IsReady}
+use Rattle.xs_encode_laws.specs.Encodable.{IsEncodable}
+use Rattle.xs_encode_laws.proofs.MomentMeans.{model_types}
+use Rattle.xs_encode_laws.proofs.Readings.{signals_below}
+use Rattle.xs_expressions.specs.Built.{signals_of}
+use Rattle.xs_expressions.proofs.ChoiceLoop.{usable_later}
 use Rattle.xs_expressions.specs.declared.names.Copied.{Copied}
 use Rattle.xs_expressions.specs.Naming.{copy_of, IsCopied}
 use Rattle.xs_encode.specs.Copies.{BuildsDefinitions, BuildsCopy, Builds, IsPlaced}

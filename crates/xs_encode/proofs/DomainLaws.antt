@@ -5,26 +5,26 @@ use Rattle.xs_tree.specs.declared.program.Member.TheVariants as member
 use Rattle.xs_tree.specs.ProgramTree.{Text, DeclaredTree, boolean, range, members, instance}
 use Rattle.xs_tree.specs.Tree.{trees_from}
 use Rattle.xs_value.specs.declared.domain.Domain.TheVariants as domain
-use Rattle.xs_flattening.specs.Flat.{FlatModel}
-use Rattle.xs_kinds.specs.Intervals.{Interval, just, hull}
-use Rattle.xs_kinds.specs.Judged.{KindRule, number_class, symbol_class, mixed_enum, unless_class, hull_of}
-use Rattle.xs_kinds.specs.Declared.{member_kind, judged_declared}
-use Rattle.xs_kinds.specs.Costs.{member_number, symbol_number, number_kind, width_in, declared_width}
-use Rattle.xs_kinds.proofs.Parts.{none_first}
+use Rattle.xs_tree.specs.Flat.{FlatModel}
+use Rattle.xs_type_laws.specs.Intervals.{Interval, just, hull}
+use Rattle.xs_type_laws.specs.Judged.{KindRule, number_class, symbol_class, mixed_enum, unless_class, hull_of}
+use Rattle.xs_type_laws.specs.Declared.{member_kind, judged_declared}
+use Rattle.xs_type_laws.specs.Costs.{member_number, symbol_number, number_kind, width_in, declared_width}
+use Rattle.xs_type_laws.proofs.Parts.{none_first}
 use Rattle.xs_types.specs.Types.{spread, numbers_in, symbols_in, domain_of}
 use Rattle.xs_types.proofs.TypeLaws.{hull_spread}
 use Rattle.xs_lits.specs.Literal.{Literal}
-use Rattle.xs_gates.specs.Circuit.{Circuit, after}
-use Rattle.xs_gates.specs.Gates.{constant_lit, or_gate}
-use Rattle.xs_arith.specs.Numbers.{number_word}
-use Rattle.xs_encoding.specs.Widths.{word_width, symbol_width, kind_width, width_by}
-use Rattle.xs_encoding.specs.Signals.{Signal, word, as_bit, same_gates}
-use Rattle.xs_encoding.specs.Expressions.{whether_has, encoded, encoded_members}
-use Rattle.xs_encoding.specs.Layout.{declared_interval, number_signal, variable_signal}
-use Rattle.xs_encoding.specs.Lists.{Copy, names_of, asserted_signal, member_tree, type_gates}
-use Rattle.xs_encoding.specs.Encodable.{IsListedType}
-use Rattle.xs_encoding.proofs.Answering.{kept_interval}
-use Rattle.xs_encoding.proofs.TypeMeans.{members_kept}
+use Rattle.xs_circuits.specs.Circuit.{Circuit, after}
+use Rattle.xs_circuits.specs.Gates.{constant_lit, or_gate}
+use Rattle.xs_circuits.specs.Numbers.{number_word}
+use Rattle.xs_encode_laws.specs.Widths.{word_width, symbol_width, kind_width, width_by}
+use Rattle.xs_encode_laws.specs.Signals.{Signal, word, as_bit, same_gates}
+use Rattle.xs_encode_laws.specs.Expressions.{whether_has, encoded, encoded_members}
+use Rattle.xs_encode_laws.specs.Layout.{declared_interval, number_signal, variable_signal}
+use Rattle.xs_encode_laws.specs.Lists.{Copy, names_of, asserted_signal, member_tree, type_gates}
+use Rattle.xs_encode_laws.specs.Encodable.{IsListedType}
+use Rattle.xs_encode_laws.proofs.Answering.{kept_interval}
+use Rattle.xs_encode_laws.proofs.TypeMeans.{members_kept}
 use Rattle.xs_encode.specs.Domains.{domain_interval, domain_width, ends_signal, domain_signal, some_gates, symbol_word, domain_gates}
 
 own_none : (own : List KindRule) → own ++ [] ≡ [] → own ≡ []

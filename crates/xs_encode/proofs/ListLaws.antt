@@ -4,22 +4,22 @@ use Rattle.std.specs.Prelude.{slice_get, if◌then◌else◌}
 use Rattle.std.specs.List.{list_any}
 use Rattle.xs_tree.specs.Trace.{Each}
 use Rattle.xs_tree.specs.Tree.{Tree}
-use Rattle.xs_flattening.specs.Flat.{FlatLeaf, FlatVariable, FlatFormula, FlatModel}
-use Rattle.xs_flattening.specs.Resolved.{leaves_in}
-use Rattle.xs_scope.specs.declared.model.Formula.{Formula}
-use Rattle.xs_scope.specs.ModelTree.{flat_tree, formula_tree, variable_tree}
+use Rattle.xs_tree.specs.Flat.{FlatLeaf, FlatVariable, FlatFormula, FlatModel}
+use Rattle.xs_flat_laws.specs.Resolved.{leaves_in}
+use Rattle.xs_tree.specs.declared.model.Formula.{Formula}
+use Rattle.xs_tree.specs.ModelTree.{flat_tree, formula_tree, variable_tree}
 use Rattle.xs_lits.specs.Literal.{Literal}
-use Rattle.xs_gates.specs.Circuit.{Circuit, fold_gates}
-use Rattle.xs_gates.specs.Gates.{constant_lit}
-use Rattle.xs_encoding.specs.Inputs.{names_input, reading_after, reads_input}
-use Rattle.xs_encoding.specs.Signals.{Signal, bit}
-use Rattle.xs_encoding.specs.Expressions.{its_value, Names as TheNames, encoded}
-use Rattle.xs_encoding.specs.Layout.{state_width, input_width, variable_signals, signals_now, signals_next}
-use Rattle.xs_encoding.specs.Lists.{Copy, names_of, asserted_signal, definition_gates, formulas_gates, copy_gates, start_of, state_circuit, first_circuit, step_circuit, history_literals, size_gates}
-use Rattle.xs_encoding.specs.Meanings.{IsSignal}
-use Rattle.xs_signals.specs.declared.signal.Signal.{Signal as Built}
-use Rattle.xs_signals.specs.Built.{signal_of, signals_of, BuildsSignal}
-use Rattle.xs_signals.proofs.ChoiceLoop.{usable_later}
+use Rattle.xs_circuits.specs.Circuit.{Circuit, fold_gates}
+use Rattle.xs_circuits.specs.Gates.{constant_lit}
+use Rattle.xs_encode_laws.specs.Inputs.{names_input, reading_after, reads_input}
+use Rattle.xs_encode_laws.specs.Signals.{Signal, bit}
+use Rattle.xs_encode_laws.specs.Expressions.{its_value, Names as TheNames, encoded}
+use Rattle.xs_encode_laws.specs.Layout.{state_width, input_width, variable_signals, signals_now, signals_next}
+use Rattle.xs_encode_laws.specs.Lists.{Copy, names_of, asserted_signal, definition_gates, formulas_gates, copy_gates, start_of, state_circuit, first_circuit, step_circuit, history_literals, size_gates}
+use Rattle.xs_encode_laws.specs.Meanings.{IsSignal}
+use Rattle.xs_expressions.specs.declared.signal.Signal.{Signal as Built}
+use Rattle.xs_expressions.specs.Built.{signal_of, signals_of, BuildsSignal}
+use Rattle.xs_expressions.proofs.ChoiceLoop.{usable_later}
 use Rattle.xs_expressions.specs.declared.names.Copied.{Copied}
 use Rattle.xs_expressions.specs.declared.names.Names.{Names}
 use Rattle.xs_expressions.specs.declared.part.Part.{Part}

@@ -5,30 +5,30 @@ use Rattle.std.proofs.lemmas.List.{drop_all, map-append}
 use Rattle.std.proofs.lemmas.List.Sums.{sum_by-cons}
 use Rattle.xs_tree.specs.ProgramTree.{declared_tree}
 use Rattle.xs_value.specs.declared.domain.Domain.{Domain}
-use Rattle.xs_flattening.specs.Flat.{FlatLeaf, FlatVariable, FlatFormula, FlatModel}
-use Rattle.xs_scope.specs.declared.model.Variable.{Variable}
-use Rattle.xs_scope.specs.declared.model.FlatModel.{FlatModel as Model}
-use Rattle.xs_scope.specs.ModelTree.{variable_tree, model_tree, role_of}
-use Rattle.xs_kinds.specs.Costs.{declared_width, role_width}
+use Rattle.xs_tree.specs.Flat.{FlatLeaf, FlatVariable, FlatFormula, FlatModel}
+use Rattle.xs_tree.specs.declared.model.Variable.{Variable}
+use Rattle.xs_tree.specs.declared.model.FlatModel.{FlatModel as Model}
+use Rattle.xs_tree.specs.ModelTree.{variable_tree, model_tree, role_of}
+use Rattle.xs_type_laws.specs.Costs.{declared_width, role_width}
 use Rattle.xs_types.specs.Types.{variable_domain}
-use Rattle.xs_gates.specs.Circuit.{Circuit, after, fold_gates}
-use Rattle.xs_gates.specs.Gates.{constant_lit, or_gate}
+use Rattle.xs_circuits.specs.Circuit.{Circuit, after, fold_gates}
+use Rattle.xs_circuits.specs.Gates.{constant_lit, or_gate}
 use Rattle.xs_lits.specs.Literal.{Literal}
 use Rattle.xs_tree.specs.Tree.{Tree}
-use Rattle.xs_kinds.specs.Models.{judged_in}
+use Rattle.xs_type_laws.specs.Models.{judged_in}
 use Rattle.xs_expressions.specs.declared.names.Names.{Names}
 use Rattle.xs_expressions.specs.declared.part.Part.{Part}
 use Rattle.xs_expressions.specs.Naming.{model_of, names_in}
 use Rattle.xs_expressions.specs.Parts.{BuildsPart}
-use Rattle.xs_encoding.specs.Widths.{symbol_width}
-use Rattle.xs_encoding.specs.Signals.{Signal, bit, literal_in}
-use Rattle.xs_encoding.specs.Expressions.{its_value, Names as TheNames, encoded}
-use Rattle.xs_encoding.specs.Inputs.{is_input, reads_input}
-use Rattle.xs_encoding.specs.Layout.{width_as_input, input_width, place_of, variable_signal, variable_signals}
-use Rattle.xs_encoding.specs.Lists.{Copy, copy_of as the_copy, names_of, asserted, asserted_signal, definition_gates, formulas_gates, type_gates, domains_gates}
-use Rattle.xs_encoding.specs.Encodable.{IsEncodable}
-use Rattle.xs_signals.specs.declared.signal.Signal.{Signal as Built}
-use Rattle.xs_signals.specs.Built.{signal_of, signals_of, BuildsLiteral, BuildsSignal}
+use Rattle.xs_encode_laws.specs.Widths.{symbol_width}
+use Rattle.xs_encode_laws.specs.Signals.{Signal, bit, literal_in}
+use Rattle.xs_encode_laws.specs.Expressions.{its_value, Names as TheNames, encoded}
+use Rattle.xs_encode_laws.specs.Inputs.{is_input, reads_input}
+use Rattle.xs_encode_laws.specs.Layout.{width_as_input, input_width, place_of, variable_signal, variable_signals}
+use Rattle.xs_encode_laws.specs.Lists.{Copy, copy_of as the_copy, names_of, asserted, asserted_signal, definition_gates, formulas_gates, type_gates, domains_gates}
+use Rattle.xs_encode_laws.specs.Encodable.{IsEncodable}
+use Rattle.xs_expressions.specs.declared.signal.Signal.{Signal as Built}
+use Rattle.xs_expressions.specs.Built.{signal_of, signals_of, BuildsLiteral, BuildsSignal}
 use Rattle.xs_encode.specs.Domains.{domain_width, domain_signal, asserted_literal, domain_gates}
 use Rattle.xs_encode.specs.Copies.{Builds, definition_signal}
 use Rattle.xs_encode.proofs.ModelParts.{drop_at, at_mapped, width_at, signal_at, gates_at, rest_at}

@@ -6,22 +6,22 @@ use Rattle.std.proofs.lemmas.Option.{slice_get-map, slice_get_within, get_or_fro
 use Rattle.xs_tree.specs.Trace.{Each}
 use Rattle.xs_tree.specs.ProgramTree.{declared_tree}
 use Rattle.xs_value.specs.declared.domain.Domain.{Domain}
-use Rattle.xs_flattening.specs.Flat.{FlatFormula, FlatModel}
-use Rattle.xs_scope.specs.declared.model.Variable.{Variable}
-use Rattle.xs_scope.specs.declared.model.FlatModel.{FlatModel as Model}
-use Rattle.xs_scope.specs.ModelTree.{variable_tree, model_tree}
-use Rattle.xs_kinds.specs.Costs.{declared_width}
-use Rattle.xs_kinds.specs.Models.{judged_variables}
-use Rattle.xs_kinds.proofs.Typed.{placed, parts_of}
+use Rattle.xs_tree.specs.Flat.{FlatFormula, FlatModel}
+use Rattle.xs_tree.specs.declared.model.Variable.{Variable}
+use Rattle.xs_tree.specs.declared.model.FlatModel.{FlatModel as Model}
+use Rattle.xs_tree.specs.ModelTree.{variable_tree, model_tree}
+use Rattle.xs_type_laws.specs.Costs.{declared_width}
+use Rattle.xs_type_laws.specs.Models.{judged_variables}
+use Rattle.xs_type_laws.proofs.Typed.{placed, parts_of}
 use Rattle.xs_types.specs.Types.{variable_domain, domain_of}
-use Rattle.xs_gates.specs.Circuit.{Circuit}
-use Rattle.xs_encoding.specs.Widths.{symbol_width}
-use Rattle.xs_encoding.specs.Signals.{Signal}
-use Rattle.xs_encoding.specs.Layout.{variable_signal}
-use Rattle.xs_encoding.specs.Lists.{Copy, names_of, type_gates}
-use Rattle.xs_encoding.specs.Encodable.{IsEncodable}
-use Rattle.xs_encoding.proofs.MomentMeans.{model_types, formulas_right}
-use Rattle.xs_encoding.proofs.Readings.{IsRightType}
+use Rattle.xs_circuits.specs.Circuit.{Circuit}
+use Rattle.xs_encode_laws.specs.Widths.{symbol_width}
+use Rattle.xs_encode_laws.specs.Signals.{Signal}
+use Rattle.xs_encode_laws.specs.Layout.{variable_signal}
+use Rattle.xs_encode_laws.specs.Lists.{Copy, names_of, type_gates}
+use Rattle.xs_encode_laws.specs.Encodable.{IsEncodable}
+use Rattle.xs_encode_laws.proofs.MomentMeans.{model_types, formulas_right}
+use Rattle.xs_encode_laws.proofs.Readings.{IsRightType}
 use Rattle.xs_encode.specs.Domains.{domain_width, domain_signal, domain_gates}
 use Rattle.xs_encode.specs.Copies.{IsRightFormula}
 use Rattle.xs_encode.proofs.DomainLaws.{width_is, signal_is, gates_are}

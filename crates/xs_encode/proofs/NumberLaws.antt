@@ -6,7 +6,7 @@ use Rattle.std.proofs.lemmas.Bool.{eqb-true, eq-eqb}
 use Rattle.std.proofs.Math.Nat.{pow-succ', pow-le-pow_right}
 use Rattle.xs_lits.specs.Assignment.{Assignment}
 use Rattle.xs_lits.specs.Literal.{plain}
-use Rattle.xs_encoding.specs.Layout.{literals_from}
+use Rattle.xs_encode_laws.specs.Layout.{literals_from}
 use Rattle.xs_encode.specs.Values.{values_in, bits_at, last_digit, bits_number}
 
 -- the bits from a place on, one place earlier

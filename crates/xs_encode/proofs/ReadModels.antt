@@ -3,24 +3,24 @@ use Rattle.std.proofs.Common.{◌≡◌, ℕ, ◌+◌, ◌^◌, ◌<◌, ◌≤�
 use Rattle.std.specs.Prelude.{nat_lt, slice_get, if◌then◌else◌}
 use Rattle.std.proofs.lemmas.List.{take_more_set}
 use Rattle.xs_tree.specs.ProgramTree.{Text}
-use Rattle.xs_scope.specs.declared.model.Variable.{Variable}
+use Rattle.xs_tree.specs.declared.model.Variable.{Variable}
 use Rattle.xs_types.specs.Types.{variable_domain}
-use Rattle.xs_encoding.specs.Inputs.{is_input}
+use Rattle.xs_encode_laws.specs.Inputs.{is_input}
 use Rattle.xs_encode.proofs.ModelParts.{drop_at}
 use Rattle.std.proofs.lemmas.Bool.{ltb-false}
 use Rattle.xs_tree.specs.Values.{Value}
 use Rattle.xs_value.specs.declared.value.Value.{Value as AValue}
-use Rattle.xs_scope.specs.declared.model.FlatModel.{FlatModel as Model}
-use Rattle.xs_scope.specs.ModelTree.{model_tree, role_of}
-use Rattle.xs_flattening.specs.Flat.{FlatModel}
-use Rattle.xs_kinds.specs.Costs.{model_cost, state_bits, role_width}
-use Rattle.xs_kinds.specs.Models.{IsTyped}
+use Rattle.xs_tree.specs.declared.model.FlatModel.{FlatModel as Model}
+use Rattle.xs_tree.specs.ModelTree.{model_tree, role_of}
+use Rattle.xs_tree.specs.Flat.{FlatModel}
+use Rattle.xs_type_laws.specs.Costs.{model_cost, state_bits, role_width}
+use Rattle.xs_type_laws.specs.Models.{IsTyped}
 use Rattle.xs_lits.specs.Assignment.{Assignment}
-use Rattle.xs_least.specs.Least.{with_inputs, least_values}
-use Rattle.xs_encoding.specs.Layout.{input_place, place_of, width_as_input}
-use Rattle.xs_encoding.specs.Encodable.{IsEncodable}
-use Rattle.xs_encoding.proofs.MomentMeans.{model_types}
-use Rattle.xs_encoding.proofs.StateBits.{bits_placed}
+use Rattle.xs_type_laws.specs.Least.{with_inputs, least_values}
+use Rattle.xs_encode_laws.specs.Layout.{input_place, place_of, width_as_input}
+use Rattle.xs_encode_laws.specs.Encodable.{IsEncodable}
+use Rattle.xs_encode_laws.proofs.MomentMeans.{model_types}
+use Rattle.xs_encode_laws.proofs.StateBits.{bits_placed}
 use Rattle.xs_encode.specs.Domains.{capped, domain_interval, domain_width}
 use Rattle.xs_encode.specs.Values.{StandFor, HasState, HasMoment, values_in, least_in, domain_read, values_read}
 use Rattle.xs_encode.proofs.ValueLaws.{expected, values_stand}

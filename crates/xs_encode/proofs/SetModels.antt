@@ -3,15 +3,15 @@ use Rattle.std.proofs.Common.{◌≡◌, ℕ, ◌+◌, ◌≤◌, List, ◌∷�
 use Rattle.std.specs.Prelude.{slice_get}
 use Rattle.xs_value.specs.declared.domain.Domain.{Domain}
 use Rattle.xs_value.specs.declared.value.Value.{Value}
-use Rattle.xs_scope.specs.declared.model.Variable.{Variable}
-use Rattle.xs_scope.specs.declared.model.FlatModel.{FlatModel as Model}
-use Rattle.xs_scope.specs.ModelTree.{model_tree, role_of}
-use Rattle.xs_kinds.specs.Costs.{role_width}
+use Rattle.xs_tree.specs.declared.model.Variable.{Variable}
+use Rattle.xs_tree.specs.declared.model.FlatModel.{FlatModel as Model}
+use Rattle.xs_tree.specs.ModelTree.{model_tree, role_of}
+use Rattle.xs_type_laws.specs.Costs.{role_width}
 use Rattle.xs_types.specs.Types.{variable_domain}
 use Rattle.xs_lits.specs.Assignment.{Assignment}
-use Rattle.xs_encoding.specs.Layout.{width_as_input, place_of}
-use Rattle.xs_encoding.specs.Bits.{number_bits}
-use Rattle.xs_encoding.specs.Encodable.{IsEncodable}
+use Rattle.xs_encode_laws.specs.Layout.{width_as_input, place_of}
+use Rattle.xs_encode_laws.specs.Bits.{number_bits}
+use Rattle.xs_encode_laws.specs.Encodable.{IsEncodable}
 use Rattle.xs_encode.specs.Domains.{domain_width}
 use Rattle.xs_encode.specs.Values.{AreFree, number_of, with_bits, bits_set, AreLeft}
 use Rattle.xs_encode.proofs.ModelParts.{drop_at, domain_at, right_at}

@@ -9,16 +9,16 @@ use Rattle.xs_tree.specs.Trace.{Each}
 use Rattle.xs_tree.specs.Values as told
 use Rattle.xs_value.specs.declared.value.Value.{Value}
 use Rattle.xs_value.specs.declared.value.Value.TheVariants as value
-use Rattle.xs_scope.specs.declared.model.Variable.{Variable}
-use Rattle.xs_scope.specs.ModelTree.{variable_tree, role_of}
-use Rattle.xs_kinds.specs.Costs.{declared_width, role_width}
+use Rattle.xs_tree.specs.declared.model.Variable.{Variable}
+use Rattle.xs_tree.specs.ModelTree.{variable_tree, role_of}
+use Rattle.xs_type_laws.specs.Costs.{declared_width, role_width}
 use Rattle.xs_types.specs.Types.{StandsFor, variable_domain}
 use Rattle.xs_lits.specs.Assignment.{Assignment}
-use Rattle.xs_encoding.specs.Inputs.{is_input}
-use Rattle.xs_encoding.specs.Layout.{state_width, input_width, width_as_input, place_of}
-use Rattle.xs_encoding.specs.Bits.{number_bits, value_number, value_bits, bits_of}
-use Rattle.xs_encoding.proofs.TypeBits.{length-number}
-use Rattle.xs_encoding.proofs.Readings.{IsRightType}
+use Rattle.xs_encode_laws.specs.Inputs.{is_input}
+use Rattle.xs_encode_laws.specs.Layout.{state_width, input_width, width_as_input, place_of}
+use Rattle.xs_encode_laws.specs.Bits.{number_bits, value_number, value_bits, bits_of}
+use Rattle.xs_encode_laws.proofs.TypeBits.{length-number}
+use Rattle.xs_encode_laws.proofs.Readings.{IsRightType}
 use Rattle.xs_encode.specs.Domains.{domain_width}
 use Rattle.xs_encode.specs.Values.{StandFor, Gives, AreFree, number_of, with_bits, bits_set, state_size, input_size, AreLeft}
 use Rattle.xs_encode.proofs.DomainLaws.{width_is}

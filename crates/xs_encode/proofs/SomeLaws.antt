@@ -2,11 +2,11 @@
 use Rattle.std.proofs.Common.{◌≡◌, ℕ, ◌+◌, ◌<◌, ◌≤◌, List, [], ◌∷◌, ◌++◌, length, get_or, drop, map, sym, ◌∙◌, ap, arith}
 use Rattle.std.proofs.lemmas.List.{drop_more, drop_all}
 use Rattle.xs_lits.specs.Literal.{Literal}
-use Rattle.xs_gates.specs.Circuit.{Circuit, after}
-use Rattle.xs_gates.specs.Gates.{or_gate}
-use Rattle.xs_encoding.specs.Signals.{Signal, word, same_gates}
-use Rattle.xs_encoding.specs.Lists.{asserted}
-use Rattle.xs_signals.specs.Built.{BuildsLiteral}
+use Rattle.xs_circuits.specs.Circuit.{Circuit, after}
+use Rattle.xs_circuits.specs.Gates.{or_gate}
+use Rattle.xs_encode_laws.specs.Signals.{Signal, word, same_gates}
+use Rattle.xs_encode_laws.specs.Lists.{asserted}
+use Rattle.xs_expressions.specs.Built.{BuildsLiteral}
 use Rattle.xs_encode.specs.Domains.{some_gates, asserted_literal}
 use Rattle.xs_encode.specs.Copies.{Builds}
 

@@ -15,36 +15,36 @@ use Rattle.xs_tree.specs.Trace.{Each, is_member, in_domain}
 use Rattle.xs_tree.specs.Values.{Value, truth, number, symbol, one}
 use Rattle.xs_tree.proofs.ValueLaws.{same_text_equal}
 use Rattle.xs_value.specs.declared.domain.Domain.TheVariants as domain
-use Rattle.xs_flattening.specs.FlatTrace.{AreInDomains}
-use Rattle.xs_scope.specs.declared.model.Variable.{Variable}
-use Rattle.xs_scope.specs.ModelTree.{variable_tree, role_of}
-use Rattle.xs_kinds.specs.Intervals.{Interval, just, hull, fits, fits_number}
-use Rattle.xs_kinds.specs.Judged.{number_class, symbol_class, mixed_enum, unless_class}
-use Rattle.xs_kinds.specs.Declared.{member_kind, judged_declared}
-use Rattle.xs_kinds.specs.Costs.{width_of, symbol_number, declared_width, role_width}
-use Rattle.xs_kinds.specs.Laws.{BitsHold}
-use Rattle.xs_kinds.specs.Safe.{IsOfClass}
-use Rattle.xs_kinds.proofs.Parts.{or_true}
-use Rattle.xs_kinds.proofs.VariableLaws.{variable_holds}
-use Rattle.xs_kinds.proofs.Widths.{widths_least}
+use Rattle.xs_flat_laws.specs.FlatTrace.{AreInDomains}
+use Rattle.xs_tree.specs.declared.model.Variable.{Variable}
+use Rattle.xs_tree.specs.ModelTree.{variable_tree, role_of}
+use Rattle.xs_type_laws.specs.Intervals.{Interval, just, hull, fits, fits_number}
+use Rattle.xs_type_laws.specs.Judged.{number_class, symbol_class, mixed_enum, unless_class}
+use Rattle.xs_type_laws.specs.Declared.{member_kind, judged_declared}
+use Rattle.xs_type_laws.specs.Costs.{width_of, symbol_number, declared_width, role_width}
+use Rattle.xs_type_laws.specs.Laws.{BitsHold}
+use Rattle.xs_type_laws.specs.Safe.{IsOfClass}
+use Rattle.xs_type_laws.proofs.Parts.{or_true}
+use Rattle.xs_type_laws.proofs.VariableLaws.{variable_holds}
+use Rattle.xs_type_laws.proofs.Widths.{widths_least}
 use Rattle.xs_lexer.proofs.SignLemmas.{both_true}
 use Rattle.xs_types.specs.Types.{spread, numbers_in, symbols_in, domain_of, StandsFor}
-use Rattle.xs_system.specs.States.{Agrees}
+use Rattle.xs_lits.specs.States.{Agrees}
 use Rattle.xs_lits.specs.Assignment.{Assignment}
-use Rattle.xs_arith.specs.Bits.{bit_value, natural_value, last_bit, signed_value}
-use Rattle.xs_arith.proofs.Orders.{Fits}
-use Rattle.xs_least.specs.Least.{value_of_member, least_member, least_value, least_values, by_role, with_inputs}
-use Rattle.xs_encoding.specs.Layout.{declared_interval, state_width, input_width, width_as_input, place_of}
-use Rattle.xs_encoding.specs.Inputs.{is_input}
-use Rattle.xs_encoding.specs.Bits.{natural_bits, number_bits, value_number, value_bits}
-use Rattle.xs_encoding.specs.Meanings.{AreSymbols}
-use Rattle.xs_encoding.specs.Encodable.{IsListedMember, IsListedType}
-use Rattle.xs_encoding.proofs.Answering.{one_same}
-use Rattle.xs_encoding.proofs.TypeBits.{length-number, natural-value, signed-value}
-use Rattle.xs_encoding.proofs.NumberWords.{bits_hold, some_bits}
-use Rattle.xs_encoding.proofs.TypeMeans.{IsNumbers, numbers_of, symbol_found, got_below, members_kept}
-use Rattle.xs_encoding.proofs.VariableMeans.{numbers_width}
-use Rattle.xs_encoding.proofs.Readings.{IsRightType, HasBits}
+use Rattle.xs_circuits.specs.Bits.{bit_value, natural_value, last_bit, signed_value}
+use Rattle.xs_circuits.proofs.Orders.{Fits}
+use Rattle.xs_type_laws.specs.Least.{value_of_member, least_member, least_value, least_values, by_role, with_inputs}
+use Rattle.xs_encode_laws.specs.Layout.{declared_interval, state_width, input_width, width_as_input, place_of}
+use Rattle.xs_encode_laws.specs.Inputs.{is_input}
+use Rattle.xs_encode_laws.specs.Bits.{natural_bits, number_bits, value_number, value_bits}
+use Rattle.xs_encode_laws.specs.Meanings.{AreSymbols}
+use Rattle.xs_encode_laws.specs.Encodable.{IsListedMember, IsListedType}
+use Rattle.xs_encode_laws.proofs.Answering.{one_same}
+use Rattle.xs_encode_laws.proofs.TypeBits.{length-number, natural-value, signed-value}
+use Rattle.xs_encode_laws.proofs.NumberWords.{bits_hold, some_bits}
+use Rattle.xs_encode_laws.proofs.TypeMeans.{IsNumbers, numbers_of, symbol_found, got_below, members_kept}
+use Rattle.xs_encode_laws.proofs.VariableMeans.{numbers_width}
+use Rattle.xs_encode_laws.proofs.Readings.{IsRightType, HasBits}
 use Rattle.xs_encode.specs.Domains.{domain_interval, domain_width, capped}
 use Rattle.xs_encode.specs.Values.{StandFor, values_in, bits_at, last_digit, bits_number, is_below, has_sign, as_symbol, is_nonzero, value_of, domain_read, least_in, values_read}
 use Rattle.xs_encode.proofs.DomainLaws.{interval_is, width_is}

@@ -1,18 +1,18 @@
 -- What the passes over a model build: the copies of its variables and definitions, and the lists.
 use Rattle.std.specs.Prelude.{◌≡◌, ℕ, ◌+◌, ◌≤◌, Bool, not, false, ◌&&◌, List, [], if◌then◌else◌}
-use Rattle.xs_flattening.specs.Flat.{FlatFormula, FlatModel}
-use Rattle.xs_kinds.specs.Costs.{state_bits}
-use Rattle.xs_kinds.specs.Models.{judged_in}
-use Rattle.xs_scope.specs.ModelTree.{model_tree}
-use Rattle.xs_gates.specs.Circuit.{Circuit}
-use Rattle.xs_gates.specs.Gates.{constant_lit}
-use Rattle.xs_encoding.specs.Widths.{symbol_width}
-use Rattle.xs_encoding.specs.Signals.{Signal, bit}
-use Rattle.xs_encoding.specs.Expressions.{its_value, encoded}
-use Rattle.xs_encoding.specs.Layout.{input_bits}
-use Rattle.xs_encoding.specs.Inputs.{reading_after, reads_input}
-use Rattle.xs_encoding.specs.Lists.{Copy, names_of, copy_of as the_copy}
-use Rattle.xs_signals.specs.Built.{signals_of}
+use Rattle.xs_tree.specs.Flat.{FlatFormula, FlatModel}
+use Rattle.xs_type_laws.specs.Costs.{state_bits}
+use Rattle.xs_type_laws.specs.Models.{judged_in}
+use Rattle.xs_tree.specs.ModelTree.{model_tree}
+use Rattle.xs_circuits.specs.Circuit.{Circuit}
+use Rattle.xs_circuits.specs.Gates.{constant_lit}
+use Rattle.xs_encode_laws.specs.Widths.{symbol_width}
+use Rattle.xs_encode_laws.specs.Signals.{Signal, bit}
+use Rattle.xs_encode_laws.specs.Expressions.{its_value, encoded}
+use Rattle.xs_encode_laws.specs.Layout.{input_bits}
+use Rattle.xs_encode_laws.specs.Inputs.{reading_after, reads_input}
+use Rattle.xs_encode_laws.specs.Lists.{Copy, names_of, copy_of as the_copy}
+use Rattle.xs_expressions.specs.Built.{signals_of}
 use Rattle.xs_expressions.specs.declared.names.Copied.{Copied}
 use Rattle.xs_expressions.specs.Naming.{copy_of, IsCopied}
 use Rattle.xs_encode.specs.declared.lists.Source.{Source}

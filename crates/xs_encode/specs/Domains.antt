@@ -3,18 +3,18 @@ use Rattle.std.specs.Prelude.{ℕ, ◌+◌, ◌^◌, min, pos, false, Option, So
 use Rattle.xs_value.specs.declared.domain.Domain.{Domain}
 use Rattle.xs_value.specs.declared.domain.Domain.TheVariants as domain
 use Rattle.xs_tree.specs.Scope.{Role}
-use Rattle.xs_kinds.specs.Intervals.{Interval}
-use Rattle.xs_kinds.specs.Costs.{width_in, role_width}
+use Rattle.xs_type_laws.specs.Intervals.{Interval}
+use Rattle.xs_type_laws.specs.Costs.{width_in, role_width}
 use Rattle.xs_types.specs.Types.{spread}
 use Rattle.xs_lits.specs.Literal.{Literal, plain}
-use Rattle.xs_gates.specs.Circuit.{Circuit, after}
-use Rattle.xs_gates.specs.Gates.{constant_lit, or_gate}
-use Rattle.xs_arith.specs.Words.{fit}
-use Rattle.xs_arith.specs.Numbers.{number_word}
-use Rattle.xs_encoding.specs.Widths.{word_width}
-use Rattle.xs_encoding.specs.Signals.{Signal, bit, word, word_in, same_gates, between_gates}
-use Rattle.xs_encoding.specs.Layout.{number_signal, width_as_input}
-use Rattle.xs_encoding.specs.Lists.{asserted}
+use Rattle.xs_circuits.specs.Circuit.{Circuit, after}
+use Rattle.xs_circuits.specs.Gates.{constant_lit, or_gate}
+use Rattle.xs_circuits.specs.Words.{fit}
+use Rattle.xs_circuits.specs.Numbers.{number_word}
+use Rattle.xs_encode_laws.specs.Widths.{word_width}
+use Rattle.xs_encode_laws.specs.Signals.{Signal, bit, word, word_in, same_gates, between_gates}
+use Rattle.xs_encode_laws.specs.Layout.{number_signal, width_as_input}
+use Rattle.xs_encode_laws.specs.Lists.{asserted}
 use Rattle.xs_encode.specs.declared.layout.Places.{Places}
 
 -- the least and the greatest number of a domain; truth values have none

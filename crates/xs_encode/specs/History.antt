@@ -2,14 +2,14 @@
 use Rattle.std.specs.Prelude.{◌≡◌, ◌≤◌, ℕ, ◌-◌, List, length, slice_get}
 use Rattle.std.specs.List.{range_with_len}
 use Rattle.xs_tree.specs.Tree.{Tree}
-use Rattle.xs_flattening.specs.Flat.{FlatLeaf, FlatModel}
-use Rattle.xs_flattening.specs.History.{Mode, with_history}
-use Rattle.xs_encoded.specs.FlatTraces.{history_of}
+use Rattle.xs_tree.specs.Flat.{FlatLeaf, FlatModel}
+use Rattle.xs_flat_laws.specs.History.{Mode, with_history}
+use Rattle.xs_encode_laws.specs.FlatTraces.{history_of}
 use Rattle.xs_lits.specs.Literal.{Literal}
-use Rattle.xs_gates.specs.Circuit.{Circuit}
-use Rattle.xs_encoding.specs.Signals.{Signal, literal_in}
-use Rattle.xs_encoding.specs.Expressions.{its_value, encoded}
-use Rattle.xs_encoding.specs.Lists.{signal_or_false, names_of, asserted_signal, state_circuit, history_literals, size_gates}
+use Rattle.xs_circuits.specs.Circuit.{Circuit}
+use Rattle.xs_encode_laws.specs.Signals.{Signal, literal_in}
+use Rattle.xs_encode_laws.specs.Expressions.{its_value, encoded}
+use Rattle.xs_encode_laws.specs.Lists.{signal_or_false, names_of, asserted_signal, state_circuit, history_literals, size_gates}
 
 -- the numbers of the last so many variables
 abbrev pub last_numbers : FlatModel → ℕ → List ℕ

@@ -1,10 +1,10 @@
 -- Which names an expression has, asked node by node.
 use Rattle.std.specs.Prelude.{Bool, false, ◌||◌}
 use Rattle.xs_tree.specs.Tree.{Tree, Trees, Branches, truth, number, leaf, not_of, negate, next_of, binary, choice, case_of, set_of, span, no_tree, tree_then, no_branch, branch_then}
-use Rattle.xs_flattening.specs.Flat.{FlatLeaf}
-use Rattle.xs_scope.specs.ModelTree.{variable_tree}
+use Rattle.xs_tree.specs.Flat.{FlatLeaf}
+use Rattle.xs_tree.specs.ModelTree.{variable_tree}
 use Rattle.std.specs.Prelude.{map}
-use Rattle.xs_encoding.specs.Inputs.{names_input}
+use Rattle.xs_encode_laws.specs.Inputs.{names_input}
 use Rattle.xs_encode.specs.declared.inputs.Reading.{Reading}
 
 -- some name of the tree passes the test

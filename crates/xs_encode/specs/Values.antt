@@ -6,20 +6,20 @@ use Rattle.xs_value.specs.declared.value.Value.{Value}
 use Rattle.xs_value.specs.declared.value.Value.TheVariants as value
 use Rattle.xs_value.specs.declared.domain.Domain.{Domain}
 use Rattle.xs_value.specs.declared.domain.Domain.TheVariants as domain
-use Rattle.xs_flattening.specs.Flat.{FlatModel}
-use Rattle.xs_flattening.specs.FlatTrace.{AreInDomains}
+use Rattle.xs_tree.specs.Flat.{FlatModel}
+use Rattle.xs_flat_laws.specs.FlatTrace.{AreInDomains}
 use Rattle.xs_types.specs.Types.{StandsFor, variable_domain}
-use Rattle.xs_scope.specs.declared.model.Variable.{Variable}
-use Rattle.xs_scope.specs.ModelTree.{role_of, variable_tree}
-use Rattle.xs_kinds.specs.Intervals.{Interval}
-use Rattle.xs_kinds.specs.Costs.{state_bits, role_width}
+use Rattle.xs_tree.specs.declared.model.Variable.{Variable}
+use Rattle.xs_tree.specs.ModelTree.{role_of, variable_tree}
+use Rattle.xs_type_laws.specs.Intervals.{Interval}
+use Rattle.xs_type_laws.specs.Costs.{state_bits, role_width}
 use Rattle.xs_lits.specs.Assignment.{Assignment}
 use Rattle.xs_lits.specs.Models.{TotalAssignment}
-use Rattle.xs_system.specs.States.{Agrees}
-use Rattle.xs_encoding.specs.Inputs.{is_input}
-use Rattle.xs_encoding.specs.Layout.{state_width, input_width, input_bits, input_place, place_of, width_as_input}
+use Rattle.xs_lits.specs.States.{Agrees}
+use Rattle.xs_encode_laws.specs.Inputs.{is_input}
+use Rattle.xs_encode_laws.specs.Layout.{state_width, input_width, input_bits, input_place, place_of, width_as_input}
 use Rattle.xs_encode.specs.Domains.{domain_interval, domain_width, capped}
-use Rattle.xs_encoding.specs.Bits.{natural_bits, number_bits, state_of, inputs_of}
+use Rattle.xs_encode_laws.specs.Bits.{natural_bits, number_bits, state_of, inputs_of}
 
 -- each value stands for that of the definitions, a symbol by its number
 abbrev pub StandFor : List Text → List Value → List told.Value → Type 0

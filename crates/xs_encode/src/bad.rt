@@ -3,25 +3,25 @@
 ghost use Rattle.std.specs.Prelude.{◌≡◌, ◌≤◌, ◌-◌, ◌+◌, ◌*◌, ◌^◌, ◌++◌, IfOk, IsOk, OnOk, length, map};
 ghost use Rattle.std.specs.List.{range_with_len};
 ghost use Rattle.xs_tree.specs.Trace.{Each};
-ghost use Rattle.xs_scope.specs.ModelTree.{model_tree, flat_tree};
-ghost use Rattle.xs_gates.specs.Meaning.{AllBelow};
-ghost use Rattle.xs_encoding.specs.Meanings.{IsSignal};
-ghost use Rattle.xs_encoding.specs.Encodable.{IsEncodable, IsFitTop};
-ghost use Rattle.xs_encoding.specs.Lists.{size_gates, history_literals, unlisted_clause, literal_at, bad_list};
-ghost use Rattle.xs_signals.specs.Built.{signals_of};
+ghost use Rattle.xs_tree.specs.ModelTree.{model_tree, flat_tree};
+ghost use Rattle.xs_circuits.specs.Meaning.{AllBelow};
+ghost use Rattle.xs_encode_laws.specs.Meanings.{IsSignal};
+ghost use Rattle.xs_encode_laws.specs.Encodable.{IsEncodable, IsFitTop};
+ghost use Rattle.xs_encode_laws.specs.Lists.{size_gates, history_literals, unlisted_clause, literal_at, bad_list};
+ghost use Rattle.xs_expressions.specs.Built.{signals_of};
 ghost use Rattle.xs_encode.specs.History.{last_numbers, literal_of, counted_circuit};
 ghost use Rattle.xs_encode.specs.Copies.{source_model, IsSource};
 
 use crate::lists::{Source, holds, source_of, state_gates};
 use std::alloc::Global;
-use xs_arith::counts::at_most;
-use xs_arith::word::Word;
+use xs_circuits::counts::at_most;
+use xs_circuits::gates::Gates;
+use xs_circuits::word::Word;
 use xs_expressions::names::{Names, SignalList};
-use xs_flat::Flat;
-use xs_gates::gates::Gates;
 use xs_lits::clause::ClauseList;
 use xs_lits::lit::Lit;
 use xs_tree::Expr;
+use xs_tree::model::Flat;
 use xs_types::Typed;
 use xs_value::{Items, OutOfMemory, SetList};
 

@@ -2,18 +2,18 @@
 
 ghost use Rattle.std.specs.Prelude.{◌≡◌, ◌≤◌, ◌<◌, ◌+◌, ◌^◌, ◌&&◌, nat_eq, ◌≤ℤ◌, ◌<ℤ◌, ◌+ℤ◌, neg_ℤ, pos, List, length, if◌then◌else◌};
 ghost use Rattle.xs_tree.specs.Values.{Value as Told};
-ghost use Rattle.xs_least.specs.Least.{with_inputs, least_values};
-ghost use Rattle.xs_scope.specs.ModelTree.{model_tree, role_of};
-ghost use Rattle.xs_encoding.specs.Inputs.{is_input};
-ghost use Rattle.xs_encoding.specs.Layout.{input_place};
-ghost use Rattle.xs_encoding.specs.Encodable.{IsEncodable};
+ghost use Rattle.xs_type_laws.specs.Least.{with_inputs, least_values};
+ghost use Rattle.xs_tree.specs.ModelTree.{model_tree, role_of};
+ghost use Rattle.xs_encode_laws.specs.Inputs.{is_input};
+ghost use Rattle.xs_encode_laws.specs.Layout.{input_place};
+ghost use Rattle.xs_encode_laws.specs.Encodable.{IsEncodable};
 ghost use Rattle.xs_encode.specs.Domains.{domain_interval};
 ghost use Rattle.xs_encode.specs.Values.{StandFor, HasState, HasMoment, values_in, bits_at, bits_number, has_sign, value_of, as_symbol, last_digit, domain_read, least_in, values_read};
 
 use crate::layout::{domain_width, ends_of, places_now};
-use xs_flat::Role;
 use xs_lits::assign::Assign;
 use xs_lits::lit::Lit;
+use xs_tree::model::Role;
 use xs_types::Typed;
 use xs_value::{Domain, Valuation, Value};
 

@@ -3,13 +3,13 @@
 ghost use Rattle.std.specs.Prelude.{◌≡◌, [], map, IfOk, slice_get};
 ghost use Rattle.xs_tree.specs.Written.{trees_of, branches_of};
 ghost use Rattle.xs_tree.specs.Leaves.{trees_map, branches_map};
-ghost use Rattle.xs_scope.specs.ModelTree.{leaf_of, flat_tree, model_tree, variable_tree};
-ghost use Rattle.xs_encoding.specs.Inputs.{is_input_variable, is_flagged, reading_after};
+ghost use Rattle.xs_tree.specs.ModelTree.{leaf_of, flat_tree, model_tree, variable_tree};
+ghost use Rattle.xs_encode_laws.specs.Inputs.{is_input_variable, is_flagged, reading_after};
 ghost use Rattle.xs_encode.specs.Reading.{names_read, tree_any, trees_any, branches_any};
 
 use std::alloc::Global;
-use xs_flat::{Flat, FlatModel, Role, Variable};
 use xs_tree::Expr;
+use xs_tree::model::{Flat, FlatModel, Role, Variable};
 use xs_value::OutOfMemory;
 
 /// What is known of reading inputs: the model's variables, and for each definition whether it reads one.

@@ -1,23 +1,23 @@
 //! Which variables of the clause lists are the bits of a model's variables.
 
 ghost use Rattle.std.specs.Prelude.{◌≡◌, ◌≤◌, ◌<◌, ◌+◌, ◌^◌, pos, None, Some, map, IfOk, IsOk, OnOk};
-ghost use Rattle.xs_kinds.specs.Costs.{width_of, width_in};
+ghost use Rattle.xs_type_laws.specs.Costs.{width_of, width_in};
 ghost use Rattle.xs_types.specs.Types.{widened, spread};
-ghost use Rattle.xs_scope.specs.ModelTree.{model_tree, role_of};
-ghost use Rattle.xs_encoding.specs.Widths.{symbol_width};
-ghost use Rattle.xs_encoding.specs.Encodable.{IsEncodable};
-ghost use Rattle.xs_encoding.specs.Layout.{literals_from, with_sign, number_signal, place_of, width_as_input, variable_signals, input_bits, input_place, next_place};
-ghost use Rattle.xs_signals.specs.Built.{signal_of, signals_of};
+ghost use Rattle.xs_tree.specs.ModelTree.{model_tree, role_of};
+ghost use Rattle.xs_encode_laws.specs.Widths.{symbol_width};
+ghost use Rattle.xs_encode_laws.specs.Encodable.{IsEncodable};
+ghost use Rattle.xs_encode_laws.specs.Layout.{literals_from, with_sign, number_signal, place_of, width_as_input, variable_signals, input_bits, input_place, next_place};
+ghost use Rattle.xs_expressions.specs.Built.{signal_of, signals_of};
 ghost use Rattle.xs_encode.specs.Domains.{domain_interval, domain_width, value_width, domain_signal, places_after, capped};
 
 use std::alloc::Global;
 use std::marker::Model;
-use xs_arith::word::{Word, fitted};
+use xs_circuits::word::{Word, fitted};
 use xs_expressions::names::SignalList;
+use xs_expressions::signal::Signal;
 use xs_expressions::width::word_width;
-use xs_flat::Role;
 use xs_lits::lit::Lit;
-use xs_signals::signal::Signal;
+use xs_tree::model::Role;
 use xs_types::{Typed, width};
 use xs_value::{Domain, Items, OutOfMemory};
 
@@ -29,7 +29,7 @@ pub(crate) struct Ends {
 }
 
 impl Model for Ends {
-    ghost use Rattle.xs_kinds.specs.Intervals.{Interval};
+    ghost use Rattle.xs_type_laws.specs.Intervals.{Interval};
 
     ghost Value = { Interval };
 

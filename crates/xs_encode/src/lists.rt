@@ -2,15 +2,15 @@
 
 ghost use Rattle.std.specs.Prelude.{◌≡◌, ◌≤◌, ◌<◌, [], false, IfOk, OnOk, map};
 ghost use Rattle.xs_tree.specs.Trace.{Each};
-ghost use Rattle.xs_scope.specs.ModelTree.{model_tree, formula_tree, flat_tree};
-ghost use Rattle.xs_kinds.specs.Models.{judged_in};
-ghost use Rattle.xs_encoding.specs.Widths.{symbol_width};
-ghost use Rattle.xs_encoding.specs.Layout.{variable_signals, signals_now};
-ghost use Rattle.xs_encoding.specs.Meanings.{IsSignal};
-ghost use Rattle.xs_encoding.specs.Encodable.{IsEncodable};
-ghost use Rattle.xs_encoding.specs.Expressions.{its_value, encoded};
-ghost use Rattle.xs_encoding.specs.Lists.{asserted_signal, definitions_gates, formulas_gates, moment_gates, copy_gates, start_of, state_circuit, state_list, first_list, step_list, system_of};
-ghost use Rattle.xs_signals.specs.Built.{signals_of, BuildsSignal};
+ghost use Rattle.xs_tree.specs.ModelTree.{model_tree, formula_tree, flat_tree};
+ghost use Rattle.xs_type_laws.specs.Models.{judged_in};
+ghost use Rattle.xs_encode_laws.specs.Widths.{symbol_width};
+ghost use Rattle.xs_encode_laws.specs.Layout.{variable_signals, signals_now};
+ghost use Rattle.xs_encode_laws.specs.Meanings.{IsSignal};
+ghost use Rattle.xs_encode_laws.specs.Encodable.{IsEncodable};
+ghost use Rattle.xs_encode_laws.specs.Expressions.{its_value, encoded};
+ghost use Rattle.xs_encode_laws.specs.Lists.{asserted_signal, definitions_gates, formulas_gates, moment_gates, copy_gates, start_of, state_circuit, state_list, first_list, step_list, system_of};
+ghost use Rattle.xs_expressions.specs.Built.{signals_of, BuildsSignal};
 ghost use Rattle.xs_expressions.specs.Naming.{model_of, names_in, copy_of, IsCopied, IsNamed};
 ghost use Rattle.xs_encode.specs.Copies.{source_model, IsSource, IsRightFormula, definition_signal, BuildsDefinitions, BuildsCopy, Builds, IsPlaced};
 
@@ -18,16 +18,16 @@ use crate::domains::domains;
 use crate::inputs::{Reading, reading_of, reads_input};
 use crate::layout::{Places, input_bits, places_next, places_now, variable_signals};
 use std::alloc::Global;
+use xs_circuits::gates::Gates;
 use xs_expressions::expression::expression;
 use xs_expressions::names::{Copied, Names, SignalList};
 use xs_expressions::part::Asked;
+use xs_expressions::signal::Signal;
 use xs_expressions::width::symbol_width;
-use xs_flat::{Flat, FlatModel, Formula};
-use xs_gates::gates::Gates;
+use xs_lits::System;
 use xs_lits::clause::ClauseList;
-use xs_signals::signal::Signal;
-use xs_system::System;
 use xs_tree::Expr;
+use xs_tree::model::{Flat, FlatModel, Formula};
 use xs_types::Typed;
 use xs_value::{Items, OutOfMemory};
 
@@ -58,7 +58,7 @@ pub(crate) fn source_of<'a>(alloc: Global, t: &'a Typed) -> Result<Source<'a>, O
 }
 
 /// The clause lists of a model: its first states, its steps and its states, with the exact variables and
-/// clauses that `system_of` of `xs_encoding` says. Where they would pass the highest variable the answer is
+/// clauses that `system_of` of `xs_encode_laws` says. Where they would pass the highest variable the answer is
 /// want of memory, too.
 pub fn encode(alloc: Global, t: &Typed) -> Result<System, OutOfMemory>
     requires encodable { IsEncodable (model_tree t.now.model) }

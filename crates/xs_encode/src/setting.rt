@@ -2,11 +2,11 @@
 
 ghost use Rattle.std.specs.Prelude.{ℕ, None, slice_index_or, ◌≡◌, ◌≤◌, ◌<◌, ◌+◌, ◌^◌, List, length};
 ghost use Rattle.xs_tree.specs.Values.{Value as Told};
-ghost use Rattle.xs_flattening.specs.FlatTrace.{AreInDomains};
-ghost use Rattle.xs_scope.specs.ModelTree.{model_tree};
-ghost use Rattle.xs_encoding.specs.Layout.{input_place, gates_place};
-ghost use Rattle.xs_encoding.specs.Bits.{number_bits, state_of, inputs_of};
-ghost use Rattle.xs_encoding.specs.Encodable.{IsEncodable};
+ghost use Rattle.xs_flat_laws.specs.FlatTrace.{AreInDomains};
+ghost use Rattle.xs_tree.specs.ModelTree.{model_tree};
+ghost use Rattle.xs_encode_laws.specs.Layout.{input_place, gates_place};
+ghost use Rattle.xs_encode_laws.specs.Bits.{number_bits, state_of, inputs_of};
+ghost use Rattle.xs_encode_laws.specs.Encodable.{IsEncodable};
 ghost use Rattle.xs_encode.specs.Values.{StandFor, IsElsewhere, Gives, AreFree, IsFreeMoment, number_of, with_bits, bits_set};
 
 use crate::layout::{domain_width, places_now};

@@ -18,25 +18,25 @@ use Rattle.xs_value.specs.declared.value.Value.TheVariants.{Bool as truth, Num, 
 use Rattle.xs_value.specs.declared.domain.Domain.{Domain}
 use Rattle.xs_value.specs.Domains.{Has}
 use Rattle.xs_scope.specs.declared.bounds.Bounds.{Bounds}
-use Rattle.xs_scope.specs.declared.model.Flat.{Flat}
-use Rattle.xs_scope.specs.declared.model.Flat.TheVariants.{Var, Symbol, Definition}
-use Rattle.xs_scope.specs.declared.model.Variable.{Variable}
-use Rattle.xs_scope.specs.declared.model.Formula.{Formula}
-use Rattle.xs_scope.specs.declared.model.FlatModel.{FlatModel}
+use Rattle.xs_tree.specs.declared.model.Flat.{Flat}
+use Rattle.xs_tree.specs.declared.model.Flat.TheVariants.{Var, Symbol, Definition}
+use Rattle.xs_tree.specs.declared.model.Variable.{Variable}
+use Rattle.xs_tree.specs.declared.model.Formula.{Formula}
+use Rattle.xs_tree.specs.declared.model.FlatModel.{FlatModel}
 use Rattle.xs_scope.specs.Closed.{is_within, tree_all, trees_all, branches_all, is_closed, bounds_of}
-use Rattle.xs_scope.specs.ModelTree.{leaf_of, role_of, flat_tree, variable_tree, formula_tree, model_tree}
+use Rattle.xs_tree.specs.ModelTree.{leaf_of, role_of, flat_tree, variable_tree, formula_tree, model_tree}
 use Rattle.xs_scope.proofs.ClosedLaws.{left_true, right_true}
-use Rattle.xs_flattening.specs.Flat.{FlatLeaf, flat_variable, flat_symbol, flat_definition}
-use Rattle.xs_flattening.specs.Resolved.{leaves_in}
-use Rattle.xs_flattening.specs.FlatTrace.{AreInDomains}
-use Rattle.xs_kinds.specs.Laws.{IsKnown, ReadsOwn}
-use Rattle.xs_kinds.specs.Models.{judged_in, broken_condition}
+use Rattle.xs_tree.specs.Flat.{FlatLeaf, flat_variable, flat_symbol, flat_definition}
+use Rattle.xs_flat_laws.specs.Resolved.{leaves_in}
+use Rattle.xs_flat_laws.specs.FlatTrace.{AreInDomains}
+use Rattle.xs_type_laws.specs.Laws.{IsKnown, ReadsOwn}
+use Rattle.xs_type_laws.specs.Models.{judged_in, broken_condition}
 use Rattle.xs_types.specs.Types.{StandsFor, IsType, AreValuesOf}
-use Rattle.xs_encoding.specs.Inputs.{is_input, is_input_variable, names_input, reading_after, reads_input}
-use Rattle.xs_encoding.specs.Meanings.{AreSymbols}
-use Rattle.xs_encoding.specs.Encodable.{IsListedType, IsEncodable, IsFitTop}
-use Rattle.xs_encoding.specs.Laws.{HasMember}
-use Rattle.xs_encoding.proofs.TypeMeans.{symbol_found, got_below}
+use Rattle.xs_encode_laws.specs.Inputs.{is_input, is_input_variable, names_input, reading_after, reads_input}
+use Rattle.xs_encode_laws.specs.Meanings.{AreSymbols}
+use Rattle.xs_encode_laws.specs.Encodable.{IsListedType, IsEncodable, IsFitTop}
+use Rattle.xs_encode_laws.specs.Laws.{HasMember}
+use Rattle.xs_encode_laws.proofs.TypeMeans.{symbol_found, got_below}
 use Rattle.xs_eval.specs.Named.{named, named_all, IsPlaceOf, IsNumbered, IsLawful}
 use Rattle.xs_encode_rows.specs.Values.{IsKnownSymbol, HasAt}
 

@@ -4,8 +4,8 @@ use Rattle.xs_tree.specs.ProgramTree.{declared_tree}
 use Rattle.xs_tree.specs.Trace.{in_domain}
 use Rattle.xs_value.specs.declared.value.Value.{Value}
 use Rattle.xs_value.specs.declared.value.Value.TheVariants.{Bool as truth, Num, Sym}
-use Rattle.xs_scope.specs.declared.model.Variable.{Variable}
-use Rattle.xs_scope.specs.declared.model.FlatModel.{FlatModel}
+use Rattle.xs_tree.specs.declared.model.Variable.{Variable}
+use Rattle.xs_tree.specs.declared.model.FlatModel.{FlatModel}
 use Rattle.xs_eval.specs.Named.{named, IsNumbered}
 
 -- a value that is a symbol has one of so many numbers

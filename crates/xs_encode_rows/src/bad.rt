@@ -1,9 +1,9 @@
 //! The lists of bad states over all patterns of bits, and the lists of one model that were worked out by hand.
 ghost use Rattle.std.specs.Prelude.{◌≡◌, ◌↔◌, false, true, IsTrue, IfOk, All, length};
 ghost use Rattle.xs_scope.specs.Closed.{is_closed, bounds_of};
-ghost use Rattle.xs_scope.specs.ModelTree.{model_tree, flat_tree, role_of};
-ghost use Rattle.xs_encoding.specs.Inputs.{is_input};
-ghost use Rattle.xs_encoding.specs.Encodable.{IsEncodable, IsFitTop};
+ghost use Rattle.xs_tree.specs.ModelTree.{model_tree, flat_tree, role_of};
+ghost use Rattle.xs_encode_laws.specs.Inputs.{is_input};
+ghost use Rattle.xs_encode_laws.specs.Encodable.{IsEncodable, IsFitTop};
 ghost use Rattle.xs_eval.specs.Named.{IsEvaluable};
 
 use crate::clauses::{holds_in, is_list_of};
@@ -13,8 +13,9 @@ use std::process::Abort;
 use std::test::Fail;
 use xs_encode::{bad_clauses, encode};
 use xs_expression_reader::expression;
-use xs_flat::{Flat, FlatFault, FlatModel, Role, Variable, resolve_top};
+use xs_flat::{FlatFault, resolve_top};
 use xs_lits::clause::ClauseList;
+use xs_tree::model::{Flat, FlatModel, Role, Variable};
 use xs_tree::{Expr, Program};
 use xs_types::{TypeFault, Typed, check_top};
 use xs_value::{Dotted, FaultSet, OutOfMemory, SetList};

@@ -1,9 +1,9 @@
 //! What is asked of clause lists: whether they can be made true with given bits, and whether they are those of numbers.
 use std::alloc::Global;
 use xs_adviser::Panel;
-use xs_derive::recorder::KeepNone;
 use xs_lits::clause::ClauseList;
 use xs_lits::lit::Lit;
+use xs_lits::recorder::KeepNone;
 use xs_solver::solve::{Verdict, can_solve, solve};
 use xs_value::OutOfMemory;
 

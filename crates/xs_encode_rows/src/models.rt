@@ -1,11 +1,11 @@
 //! The typed models of texts, and the moments that patterns of bits stand for.
 ghost use Rattle.std.specs.Prelude.{◌<◌, ◌↔◌, IsTrue, IfOk, IfSome, All, length};
 ghost use Rattle.xs_tree.specs.ProgramTree.{declared_tree, program_tree};
-ghost use Rattle.xs_flattening.specs.Rules.{IsAccepted};
-ghost use Rattle.xs_flattening.specs.Model.{IsFlatOf};
-ghost use Rattle.xs_scope.specs.ModelTree.{model_tree};
-ghost use Rattle.xs_encoding.specs.Encodable.{IsEncodable};
-ghost use Rattle.xs_encoding.specs.Laws.{HasMember};
+ghost use Rattle.xs_flat_laws.specs.Rules.{IsAccepted};
+ghost use Rattle.xs_flat_laws.specs.Model.{IsFlatOf};
+ghost use Rattle.xs_tree.specs.ModelTree.{model_tree};
+ghost use Rattle.xs_encode_laws.specs.Encodable.{IsEncodable};
+ghost use Rattle.xs_encode_laws.specs.Laws.{HasMember};
 ghost use Rattle.xs_eval.specs.Named.{IsEvaluable, IsLawful, IsFilled};
 ghost use Rattle.xs_encode_rows.specs.Values.{HasAt, IsKnownSymbol};
 
@@ -13,8 +13,9 @@ use std::alloc::Global;
 use std::process::Abort;
 use std::test::Fail;
 use xs_eval::{Table, fill, holds_first, holds_step};
-use xs_flat::{FlatModel, Variable, flatten};
+use xs_flat::flatten;
 use xs_parse::program;
+use xs_tree::model::{FlatModel, Variable};
 use xs_tree::{Declared, Program};
 use xs_types::{Typed, check_model};
 use xs_value::{Domain, OutOfMemory, Valuation, Value};

@@ -1,6 +1,6 @@
 //! The lists of small models over all patterns of bits: states, first states and steps.
-ghost use Rattle.xs_scope.specs.ModelTree.{model_tree};
-ghost use Rattle.xs_encoding.specs.Encodable.{IsEncodable};
+ghost use Rattle.xs_tree.specs.ModelTree.{model_tree};
+ghost use Rattle.xs_encode_laws.specs.Encodable.{IsEncodable};
 ghost use Rattle.xs_eval.specs.Named.{IsEvaluable};
 
 use crate::clauses::{can_be_true, holds_in, push_bits};
@@ -9,9 +9,9 @@ use std::alloc::Global;
 use std::process::Abort;
 use std::test::Fail;
 use xs_encode::encode;
+use xs_lits::System;
 use xs_lits::clause::ClauseList;
 use xs_lits::lit::Lit;
-use xs_system::System;
 use xs_types::Typed;
 use xs_value::OutOfMemory;
 

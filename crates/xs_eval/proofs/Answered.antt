@@ -7,7 +7,7 @@ use Rattle.xs_tree.specs.Values.{one}
 use Rattle.xs_tree.specs.Evaluate.{Leaves, evaluate, evaluate_trees, evaluate_branches}
 use Rattle.xs_value.specs.declared.value.Value.{Value}
 use Rattle.xs_value.specs.declared.value.Value.TheVariants.{Bool as truth, Num}
-use Rattle.xs_kinds.specs.Safe.{GivesSmall, IsSafe, AreSafe, AreSafeBranches}
+use Rattle.xs_type_laws.specs.Safe.{GivesSmall, IsSafe, AreSafe, AreSafeBranches}
 use Rattle.xs_eval.specs.declared.ask.Asked.{Asked}
 use Rattle.xs_eval.specs.declared.ask.Asked.TheVariants.{ItsValue}
 use Rattle.xs_eval.specs.Asked.{on_left, on_right, asked_of, members_of, taken_of}

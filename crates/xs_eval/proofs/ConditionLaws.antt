@@ -5,13 +5,13 @@ use Rattle.xs_tree.specs.Values as told
 use Rattle.xs_tree.specs.Values.{Values, one, has, same_value, same_bool}
 use Rattle.xs_tree.specs.Written.{tree_of}
 use Rattle.xs_tree.proofs.ValueLaws.{both_true}
-use Rattle.xs_flattening.specs.Flat.{FlatModel as ModelTree, Holds}
-use Rattle.xs_scope.specs.declared.model.Formula.{Formula}
-use Rattle.xs_scope.specs.declared.model.FlatModel.{FlatModel}
-use Rattle.xs_scope.specs.ModelTree.{formula_tree, model_tree}
-use Rattle.xs_kinds.specs.Laws.{ReadsOwn, ReadOwn, IsDecided}
-use Rattle.xs_kinds.specs.Models.{IsTyped}
-use Rattle.xs_kinds.proofs.Typed.{conditions_decided}
+use Rattle.xs_tree.specs.Flat.{FlatModel as ModelTree, Holds}
+use Rattle.xs_tree.specs.declared.model.Formula.{Formula}
+use Rattle.xs_tree.specs.declared.model.FlatModel.{FlatModel}
+use Rattle.xs_tree.specs.ModelTree.{formula_tree, model_tree}
+use Rattle.xs_type_laws.specs.Laws.{ReadsOwn, ReadOwn, IsDecided}
+use Rattle.xs_type_laws.specs.Models.{IsTyped}
+use Rattle.xs_type_laws.proofs.Typed.{conditions_decided}
 use Rattle.xs_eval.specs.declared.ask.Asked.TheVariants.{ItsValue}
 use Rattle.xs_eval.specs.Entries.{Entries}
 use Rattle.xs_eval.specs.Filled.{answer_in, holds, all_hold, first_holds, step_holds}

@@ -5,7 +5,7 @@ use Rattle.xs_tree.specs.Tree.{Tree, truth as is_truth, number, leaf, negate, ne
 use Rattle.xs_tree.specs.Values as told
 use Rattle.xs_value.specs.declared.value.Value.{Value}
 use Rattle.xs_value.specs.declared.value.Value.TheVariants.{Bool as truth, Num, Sym}
-use Rattle.xs_flattening.specs.Flat.{FlatLeaf, flat_variable, flat_definition}
+use Rattle.xs_tree.specs.Flat.{FlatLeaf, flat_variable, flat_definition}
 use Rattle.xs_eval.specs.declared.ask.Asked.{Asked}
 use Rattle.xs_eval.specs.declared.ask.Asked.TheVariants.{ItsValue, Whether}
 use Rattle.xs_eval.specs.Asked.{leaf_value, asked_of}

@@ -7,10 +7,10 @@ use Rattle.xs_tree.specs.Texts.{same_text}
 use Rattle.xs_tree.specs.Trace.{Each}
 use Rattle.xs_value.specs.declared.value.Value.{Value}
 use Rattle.xs_value.specs.declared.value.Value.TheVariants.{Bool as truth, Num, Sym}
-use Rattle.xs_flattening.specs.Flat.{FlatModel}
-use Rattle.xs_flattening.specs.FlatTrace.{is_symbol_value, stands, stands_in_some}
-use Rattle.xs_flattening.specs.History.{Mode}
-use Rattle.xs_flattening.proofs.Lists.{get_within}
+use Rattle.xs_tree.specs.Flat.{FlatModel}
+use Rattle.xs_flat_laws.specs.FlatTrace.{is_symbol_value, stands, stands_in_some}
+use Rattle.xs_flat_laws.specs.History.{Mode}
+use Rattle.xs_flat_laws.proofs.Lists.{get_within}
 use Rattle.xs_eval.specs.Failed.{is_symbol, has_symbol}
 use Rattle.xs_eval.specs.Named.{text_at, named, named_all, named_trace, IsNumbered, IsEvaluable, IsLawful}
 use Rattle.xs_eval.proofs.FilledLaws.{get_mapped, each_at, lawful_length}

@@ -10,21 +10,21 @@ use Rattle.xs_tree.specs.Values.{Values, one}
 use Rattle.xs_tree.specs.Evaluate.{evaluate}
 use Rattle.xs_tree.specs.Written.{tree_of}
 use Rattle.xs_value.specs.declared.value.Value.{Value}
-use Rattle.xs_flattening.specs.Flat.{FlatLeaf, flat_variable, flat_symbol, flat_definition, FlatVariable, FlatModel as ModelTree, flat_leaves, table_after}
-use Rattle.xs_flattening.specs.FlatTrace.{AreInDomains}
-use Rattle.xs_flattening.specs.Model.{EachBoth}
-use Rattle.xs_flattening.proofs.Lists.{get_within, length_end, map_joined}
-use Rattle.xs_scope.specs.declared.model.Formula.{Formula}
-use Rattle.xs_scope.specs.declared.model.FlatModel.{FlatModel}
-use Rattle.xs_scope.specs.ModelTree.{leaf_of, flat_tree, formula_tree, variable_tree, model_tree}
-use Rattle.xs_kinds.specs.Judged.{Judged, judge}
-use Rattle.xs_kinds.specs.Models.{leaf_kind, judged_variables, judged_after, IsTyped}
-use Rattle.xs_kinds.specs.Laws.{IsKnown, AreInOrder}
-use Rattle.xs_kinds.proofs.Parts.{Alone}
-use Rattle.xs_kinds.proofs.TreeLaws.{sound, single}
-use Rattle.xs_kinds.proofs.SafeLaws.{safe}
-use Rattle.xs_kinds.proofs.ModelLaws.{each_end, each_before, ValueHolds, GivenHolds, IsRight, names_hold}
-use Rattle.xs_kinds.proofs.Typed.{variables_hold, parts_of, as_many_variables}
+use Rattle.xs_tree.specs.Flat.{FlatLeaf, flat_variable, flat_symbol, flat_definition, FlatVariable, FlatModel as ModelTree, flat_leaves, table_after}
+use Rattle.xs_flat_laws.specs.FlatTrace.{AreInDomains}
+use Rattle.xs_flat_laws.specs.Model.{EachBoth}
+use Rattle.xs_flat_laws.proofs.Lists.{get_within, length_end, map_joined}
+use Rattle.xs_tree.specs.declared.model.Formula.{Formula}
+use Rattle.xs_tree.specs.declared.model.FlatModel.{FlatModel}
+use Rattle.xs_tree.specs.ModelTree.{leaf_of, flat_tree, formula_tree, variable_tree, model_tree}
+use Rattle.xs_type_laws.specs.Judged.{Judged, judge}
+use Rattle.xs_type_laws.specs.Models.{leaf_kind, judged_variables, judged_after, IsTyped}
+use Rattle.xs_type_laws.specs.Laws.{IsKnown, AreInOrder}
+use Rattle.xs_type_laws.proofs.Parts.{Alone}
+use Rattle.xs_type_laws.proofs.TreeLaws.{sound, single}
+use Rattle.xs_type_laws.proofs.SafeLaws.{safe}
+use Rattle.xs_type_laws.proofs.ModelLaws.{each_end, each_before, ValueHolds, GivenHolds, IsRight, names_hold}
+use Rattle.xs_type_laws.proofs.Typed.{variables_hold, parts_of, as_many_variables}
 use Rattle.xs_eval.specs.declared.ask.Asked.TheVariants.{ItsValue}
 use Rattle.xs_eval.specs.Asked.{leaf_value, asked_of}
 use Rattle.xs_eval.specs.Failed.{HasVariable}

@@ -3,9 +3,9 @@ use Rattle.std.proofs.Common.{◌≡◌, ℕ, ◌+◌, ◌<◌, cond, List, [], 
 use Rattle.std.proofs.lemmas.List.{drop_more, take_more, take_more_set}
 use Rattle.xs_tree.specs.Tree.{Tree}
 use Rattle.xs_value.specs.declared.value.Value.{Value}
-use Rattle.xs_scope.specs.declared.model.Flat.{Flat}
-use Rattle.xs_scope.specs.declared.model.Formula.{Formula}
-use Rattle.xs_scope.specs.declared.model.FlatModel.{FlatModel}
+use Rattle.xs_tree.specs.declared.model.Flat.{Flat}
+use Rattle.xs_tree.specs.declared.model.Formula.{Formula}
+use Rattle.xs_tree.specs.declared.model.FlatModel.{FlatModel}
 use Rattle.xs_eval.specs.declared.trace.Replayed.TheVariants.{BadStep}
 use Rattle.xs_eval.specs.Entries.{Entries}
 use Rattle.xs_eval.specs.Filled.{definition_value, definition_values, filled, step_holds}

@@ -7,17 +7,17 @@ use Rattle.xs_tree.specs.Values.{has, truth}
 use Rattle.xs_tree.specs.Written.{tree_of}
 use Rattle.xs_tree.specs.declared.expr.Expr.{Expr}
 use Rattle.xs_value.specs.declared.value.Value.{Value}
-use Rattle.xs_flattening.specs.Flat.{FlatLeaf, FlatModel as ModelTree, FlatMay}
-use Rattle.xs_flattening.specs.FlatTrace.{IsFlatMoment, IsFlatStep, IsFlatTrace}
-use Rattle.xs_flattening.proofs.Lists.{length_end}
-use Rattle.xs_scope.specs.declared.model.Flat.{Flat}
-use Rattle.xs_scope.specs.declared.model.FlatModel.{FlatModel}
-use Rattle.xs_scope.specs.declared.model.Formula.{Formula}
-use Rattle.xs_scope.specs.ModelTree.{flat_tree, formula_tree, model_tree}
-use Rattle.xs_kinds.specs.Judged.{KindRule}
-use Rattle.xs_kinds.specs.Models.{judged_in, broken_condition, breaches_at, IsTyped}
-use Rattle.xs_kinds.specs.Laws.{ReadsOwn}
-use Rattle.xs_kinds.proofs.Typed.{decided}
+use Rattle.xs_tree.specs.Flat.{FlatLeaf, FlatModel as ModelTree, FlatMay}
+use Rattle.xs_flat_laws.specs.FlatTrace.{IsFlatMoment, IsFlatStep, IsFlatTrace}
+use Rattle.xs_flat_laws.proofs.Lists.{length_end}
+use Rattle.xs_tree.specs.declared.model.Flat.{Flat}
+use Rattle.xs_tree.specs.declared.model.FlatModel.{FlatModel}
+use Rattle.xs_tree.specs.declared.model.Formula.{Formula}
+use Rattle.xs_tree.specs.ModelTree.{flat_tree, formula_tree, model_tree}
+use Rattle.xs_type_laws.specs.Judged.{KindRule}
+use Rattle.xs_type_laws.specs.Models.{judged_in, broken_condition, breaches_at, IsTyped}
+use Rattle.xs_type_laws.specs.Laws.{ReadsOwn}
+use Rattle.xs_type_laws.proofs.Typed.{decided}
 use Rattle.xs_eval.specs.declared.trace.Replayed.TheVariants.{Reaches, NoTop, BadFirst, BadStep}
 use Rattle.xs_eval.specs.Entries.{Entries}
 use Rattle.xs_eval.specs.Filled.{filled, first_holds, step_holds}

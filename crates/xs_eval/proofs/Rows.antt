@@ -11,8 +11,8 @@ use Rattle.xs_tree.specs.Evaluate.{gives_one as gives, gives_not, gives_negative
 use Rattle.xs_tree.proofs.ValueLaws.{same_text_equal, same_text_refl, same_int_equal}
 use Rattle.xs_value.specs.declared.value.Value.{Value}
 use Rattle.xs_value.specs.declared.value.Value.TheVariants.{Bool as truth, Num, Sym}
-use Rattle.xs_kinds.specs.Intervals.{fits_number}
-use Rattle.xs_kinds.specs.Safe.{GivesSmall, DividesByNoZero}
+use Rattle.xs_type_laws.specs.Intervals.{fits_number}
+use Rattle.xs_type_laws.specs.Safe.{GivesSmall, DividesByNoZero}
 use Rattle.xs_eval.specs.declared.ask.Asked.{Asked}
 use Rattle.xs_eval.specs.declared.ask.Asked.TheVariants.{ItsValue, Whether}
 use Rattle.xs_eval.specs.Operated.{same, is_true, opposite, negative, either, between, on_numbers, on_truths, on_symbols, applied}

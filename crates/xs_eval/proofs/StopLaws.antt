@@ -2,8 +2,8 @@
 use Rattle.std.proofs.Common.{◌≡◌, suc, List, [], ◌∷◌, ◌++◌, length, refl, sym, ap, ◌∙◌, subst}
 use Rattle.xs_tree.specs.Trace.{Each, EachPair}
 use Rattle.xs_tree.specs.Values.{Value}
-use Rattle.xs_flattening.specs.Flat.{FlatModel}
-use Rattle.xs_flattening.specs.FlatTrace.{IsFlatMoment, IsFlatStep, IsFlatTrace}
+use Rattle.xs_tree.specs.Flat.{FlatModel}
+use Rattle.xs_flat_laws.specs.FlatTrace.{IsFlatMoment, IsFlatStep, IsFlatTrace}
 use Rattle.xs_eval.specs.Laws.{OneStop, ReachingDoesNotStop}
 use Rattle.xs_eval.specs.Stops.{bad_first, bad_step, no_top, IsFirstMoment, IsNextMoment}
 

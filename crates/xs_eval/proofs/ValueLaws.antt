@@ -8,15 +8,15 @@ use Rattle.xs_tree.specs.Evaluate.{evaluate}
 use Rattle.xs_tree.specs.Written.{tree_of}
 use Rattle.xs_tree.specs.declared.expr.Expr.{Expr}
 use Rattle.xs_value.specs.declared.value.Value.{Value}
-use Rattle.xs_flattening.specs.Flat.{FlatLeaf, FlatFormula, FlatModel, flat_leaves, definition_gives, table_after, leaves_at, FlatGives, FlatMay}
-use Rattle.xs_flattening.proofs.Lists.{length_end}
-use Rattle.xs_scope.specs.declared.model.Flat.{Flat}
-use Rattle.xs_scope.specs.ModelTree.{leaf_of, flat_tree}
-use Rattle.xs_kinds.specs.Models.{kind_of_leaf, judged_in, IsTyped}
-use Rattle.xs_kinds.specs.Laws.{IsKnown, ReadsOwn, KeepsKind}
-use Rattle.xs_kinds.specs.Safe.{IsSafe}
-use Rattle.xs_kinds.proofs.TreeLaws.{no_set}
-use Rattle.xs_kinds.proofs.Typed.{values_lie}
+use Rattle.xs_tree.specs.Flat.{FlatLeaf, FlatFormula, FlatModel, flat_leaves, definition_gives, table_after, leaves_at, FlatGives, FlatMay}
+use Rattle.xs_flat_laws.proofs.Lists.{length_end}
+use Rattle.xs_tree.specs.declared.model.Flat.{Flat}
+use Rattle.xs_tree.specs.ModelTree.{leaf_of, flat_tree}
+use Rattle.xs_type_laws.specs.Models.{kind_of_leaf, judged_in, IsTyped}
+use Rattle.xs_type_laws.specs.Laws.{IsKnown, ReadsOwn, KeepsKind}
+use Rattle.xs_type_laws.specs.Safe.{IsSafe}
+use Rattle.xs_type_laws.proofs.TreeLaws.{no_set}
+use Rattle.xs_type_laws.proofs.Typed.{values_lie}
 use Rattle.xs_eval.specs.declared.ask.Asked.{Asked}
 use Rattle.xs_eval.specs.declared.ask.Asked.TheVariants.{ItsValue, Whether}
 use Rattle.xs_eval.specs.Operated.{is_true}

@@ -5,9 +5,9 @@ use Rattle.xs_tree.specs.declared.expr.Op.TheVariants as op
 use Rattle.xs_tree.specs.Tree.{Tree, Trees, Branches, truth as is_truth, number as is_number, leaf, not_of, negate, next_of, binary, choice, case_of, set_of, span, no_tree, tree_then, no_branch, branch_then}
 use Rattle.xs_value.specs.declared.value.Value.{Value}
 use Rattle.xs_value.specs.declared.value.Value.TheVariants.{Bool as truth, Num, Sym}
-use Rattle.xs_scope.specs.declared.model.Flat.{Flat}
-use Rattle.xs_scope.specs.ModelTree.{leaf_of}
-use Rattle.xs_flattening.specs.Flat.{FlatLeaf, flat_variable, flat_symbol, flat_definition}
+use Rattle.xs_tree.specs.declared.model.Flat.{Flat}
+use Rattle.xs_tree.specs.ModelTree.{leaf_of}
+use Rattle.xs_tree.specs.Flat.{FlatLeaf, flat_variable, flat_symbol, flat_definition}
 use Rattle.xs_eval.specs.declared.ask.Asked.{Asked}
 use Rattle.xs_eval.specs.declared.ask.Asked.TheVariants.{ItsValue, Whether}
 use Rattle.xs_eval.specs.declared.ask.Known.{Known}

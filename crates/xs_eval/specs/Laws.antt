@@ -3,8 +3,8 @@ use Rattle.std.specs.Prelude.{◌≡◌, ℕ, List}
 use Rattle.xs_tree.specs.Tree.{Tree}
 use Rattle.xs_tree.specs.ProgramTree.{ProgramTree}
 use Rattle.xs_tree.specs.Values.{Value}
-use Rattle.xs_flattening.specs.Flat.{FlatLeaf, FlatModel}
-use Rattle.xs_flattening.specs.Model.{IsFlatOf}
+use Rattle.xs_tree.specs.Flat.{FlatLeaf, FlatModel}
+use Rattle.xs_flat_laws.specs.Model.{IsFlatOf}
 use Rattle.xs_eval.specs.Named.{IsEvaluable}
 use Rattle.xs_eval.specs.Stops.{Why, Stops}
 use Rattle.xs_eval.specs.Replayed.{IsReaching}

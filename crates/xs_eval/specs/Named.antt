@@ -7,9 +7,9 @@ use Rattle.xs_tree.specs.Values as told
 use Rattle.xs_tree.specs.Values.{Values, one}
 use Rattle.xs_value.specs.declared.value.Value.{Value}
 use Rattle.xs_value.specs.declared.value.Value.TheVariants.{Bool as truth, Num, Sym}
-use Rattle.xs_flattening.specs.Flat.{FlatLeaf, FlatModel, table_after, FlatGives, FlatMay}
-use Rattle.xs_flattening.specs.FlatTrace.{AreInDomains}
-use Rattle.xs_kinds.specs.Laws.{IsClosed}
+use Rattle.xs_tree.specs.Flat.{FlatLeaf, FlatModel, table_after, FlatGives, FlatMay}
+use Rattle.xs_flat_laws.specs.FlatTrace.{AreInDomains}
+use Rattle.xs_type_laws.specs.Laws.{IsClosed}
 use Rattle.xs_eval.specs.Entries.{Entries}
 
 -- the text of a symbol; the empty one where there is none

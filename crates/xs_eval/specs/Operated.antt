@@ -6,7 +6,7 @@ use Rattle.xs_tree.specs.Values as told
 use Rattle.xs_tree.specs.Values.{same_int, same_bool, at_most}
 use Rattle.xs_value.specs.declared.value.Value.{Value}
 use Rattle.xs_value.specs.declared.value.Value.TheVariants.{Bool as truth, Num, Sym}
-use Rattle.xs_kinds.specs.Intervals.{fits_number}
+use Rattle.xs_type_laws.specs.Intervals.{fits_number}
 
 -- both are the same value
 abbrev pub same : Value → Value → Bool

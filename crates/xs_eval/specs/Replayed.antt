@@ -3,11 +3,11 @@ use Rattle.std.specs.Prelude.{ℕ, suc, ◌-◌, Bool, List, [], ◌∷◌, leng
 use Rattle.xs_tree.specs.Tree.{Tree}
 use Rattle.xs_tree.specs.Values as told
 use Rattle.xs_value.specs.declared.value.Value.{Value}
-use Rattle.xs_flattening.specs.Flat.{FlatLeaf, FlatModel as ModelTree}
-use Rattle.xs_flattening.specs.FlatTrace.{IsFlatTrace}
-use Rattle.xs_scope.specs.declared.model.Flat.{Flat}
-use Rattle.xs_scope.specs.declared.model.FlatModel.{FlatModel}
-use Rattle.xs_encoded.specs.FlatTraces.{ReachesTop}
+use Rattle.xs_tree.specs.Flat.{FlatLeaf, FlatModel as ModelTree}
+use Rattle.xs_flat_laws.specs.FlatTrace.{IsFlatTrace}
+use Rattle.xs_tree.specs.declared.model.Flat.{Flat}
+use Rattle.xs_tree.specs.declared.model.FlatModel.{FlatModel}
+use Rattle.xs_encode_laws.specs.FlatTraces.{ReachesTop}
 use Rattle.xs_eval.specs.declared.ask.Asked.TheVariants.{ItsValue}
 use Rattle.xs_eval.specs.declared.trace.Replayed.{Replayed}
 use Rattle.xs_eval.specs.declared.trace.Replayed.TheVariants.{Reaches, NoTop, BadFirst, BadStep}

@@ -2,10 +2,10 @@
 use Rattle.std.specs.Prelude.{◌≡◌, ℕ, suc, ◌-◌, List, [], ◌∷◌, ◌++◌, length}
 use Rattle.xs_tree.specs.Tree.{Tree}
 use Rattle.xs_tree.specs.Values.{Value}
-use Rattle.xs_flattening.specs.Flat.{FlatLeaf, FlatModel}
-use Rattle.xs_flattening.specs.FlatTrace.{IsFlatMoment, IsFlatStep, IsFlatTrace}
-use Rattle.xs_encoded.specs.Encoded.{IsFlatFirst}
-use Rattle.xs_encoded.specs.FlatTraces.{ReachesTop}
+use Rattle.xs_tree.specs.Flat.{FlatLeaf, FlatModel}
+use Rattle.xs_flat_laws.specs.FlatTrace.{IsFlatMoment, IsFlatStep, IsFlatTrace}
+use Rattle.xs_encode_laws.specs.Encoded.{IsFlatFirst}
+use Rattle.xs_encode_laws.specs.FlatTraces.{ReachesTop}
 
 -- the first moment, a step to a moment, or the top event at the last
 pub data Why : Type 0 where

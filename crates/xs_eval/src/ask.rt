@@ -5,7 +5,7 @@ ghost use Rattle.xs_tree.specs.Written.{tree_of, trees_of, branches_of};
 ghost use Rattle.xs_eval.specs.Asked.{value_at, known_value, answer, on_left, on_right, operation, in_span, asked_of, members_of, taken_of};
 
 use crate::operate::{applied, between, either, is_true, negative, opposite, same};
-use xs_flat::Flat;
+use xs_tree::model::Flat;
 use xs_tree::{Expr, Op};
 use xs_value::Value;
 

@@ -1,14 +1,14 @@
 //! The conditions of a model on a first moment, on each moment and on a step.
 
 ghost use Rattle.std.specs.Prelude.{◌≡◌, ◌↔◌, IsTrue};
-ghost use Rattle.xs_scope.specs.ModelTree.{model_tree};
+ghost use Rattle.xs_tree.specs.ModelTree.{model_tree};
 ghost use Rattle.xs_eval.specs.Filled.{holds, all_hold, first_holds, step_holds};
 ghost use Rattle.xs_eval.specs.Named.{IsEvaluable, IsFilled, values_in};
 ghost use Rattle.xs_eval.specs.Stops.{IsFirstMoment, IsNextMoment};
 
 use crate::table::Table;
 use crate::values::holds;
-use xs_flat::{FlatModel, Formula};
+use xs_tree::model::{FlatModel, Formula};
 use xs_types::Typed;
 
 /// Whether a moment may be the first one: each formula of `init` and of `invar` is TRUE. Takes no memory.

@@ -3,12 +3,13 @@
 ghost use Rattle.std.specs.Prelude.{◌≡◌, ◌<◌, length, All};
 ghost use Rattle.std.specs.List.{list_any};
 ghost use Rattle.xs_tree.specs.Trace.{Each};
-ghost use Rattle.xs_flattening.specs.FlatTrace.{stands_in_some};
-ghost use Rattle.xs_scope.specs.ModelTree.{model_tree, mode_of};
+ghost use Rattle.xs_flat_laws.specs.FlatTrace.{stands_in_some};
+ghost use Rattle.xs_tree.specs.ModelTree.{model_tree};
+ghost use Rattle.xs_flat_laws.specs.FaultModes.{mode_of};
 ghost use Rattle.xs_eval.specs.Failed.{has_symbol, HasVariable};
 ghost use Rattle.xs_eval.specs.Named.{named_trace, IsEvaluable, IsLawful};
 
-use xs_flat::Fault;
+use xs_tree::model::Fault;
 use xs_types::Typed;
 use xs_value::{MomentList, Valuation, Value};
 

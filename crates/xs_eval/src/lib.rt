@@ -14,7 +14,7 @@
 //! expression answers both questions, its value and whether it may have one. Nothing here takes memory but
 //! [`Table::for_model`].
 //!
-//! What is answered is what `xs_flattening` and `xs_encoded` define over `model_tree` and `flat_tree`:
+//! What is answered is what `xs_flat_laws` and `xs_encode_laws` define over `model_tree` and `flat_tree`:
 //! `specs/Asked.antt` and `Filled.antt` say what the code computes, `Named.antt` reads values by the names of
 //! symbols, and `Stops.antt` says where and why moments are no trace that reaches.
 //!

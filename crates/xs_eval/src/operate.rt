@@ -2,7 +2,7 @@
 //! of a typed model comes to; so do numbers that pass 32 bits and a divisor of 0.
 
 ghost use Rattle.std.specs.Prelude.{◌≡◌, ◌*ℤ◌};
-ghost use Rattle.xs_kinds.specs.Intervals.{fits_number};
+ghost use Rattle.xs_type_laws.specs.Intervals.{fits_number};
 ghost use Rattle.xs_types.specs.Told.{IsSmall};
 ghost use Rattle.xs_eval.specs.Operated.{same, opposite, negative, either, is_true, calculated, fitting, compared, on_numbers, on_truths, on_symbols, applied, between};
 

@@ -2,14 +2,14 @@
 
 ghost use Rattle.std.specs.Prelude.{◌≡◌, [], length, IfOk};
 ghost use Rattle.xs_tree.specs.Written.{tree_of};
-ghost use Rattle.xs_scope.specs.ModelTree.{model_tree};
+ghost use Rattle.xs_tree.specs.ModelTree.{model_tree};
 ghost use Rattle.xs_eval.specs.Filled.{definition_value, definition_values, filled, HasRoom, HasValues};
 ghost use Rattle.xs_eval.specs.Named.{IsEvaluable, IsLawful, IsFilled};
 
 use crate::ask::{Asked, Known, ask};
 use std::alloc::Global;
 use std::marker::Model;
-use xs_flat::{FlatModel, Formula};
+use xs_tree::model::{FlatModel, Formula};
 use xs_types::Typed;
 use xs_value::{OutOfMemory, Valuation, Value};
 

@@ -3,9 +3,9 @@
 ghost use Rattle.std.specs.Prelude.{◌≡◌, ◌<◌, ◌^◌, [], drop, length, All, false};
 ghost use Rattle.xs_tree.specs.Trace.{Each};
 ghost use Rattle.xs_tree.specs.Written.{tree_of};
-ghost use Rattle.xs_scope.specs.ModelTree.{model_tree, flat_tree};
-ghost use Rattle.xs_kinds.specs.Laws.{ReadsOwn};
-ghost use Rattle.xs_kinds.specs.Models.{judged_in, broken_condition};
+ghost use Rattle.xs_tree.specs.ModelTree.{model_tree, flat_tree};
+ghost use Rattle.xs_type_laws.specs.Laws.{ReadsOwn};
+ghost use Rattle.xs_type_laws.specs.Models.{judged_in, broken_condition};
 ghost use Rattle.xs_eval.specs.Filled.{filled, step_holds, HasRoom, HasValues};
 ghost use Rattle.xs_eval.specs.Named.{named_trace, IsEvaluable, IsLawful};
 ghost use Rattle.xs_eval.specs.Replayed.{ended, replayed_from, replayed, IsReplayed};
@@ -15,8 +15,8 @@ use crate::operate::is_true;
 use crate::table::Table;
 use crate::values::value_in;
 use std::mem::swap;
-use xs_flat::{Flat, FlatModel};
 use xs_tree::Expr;
+use xs_tree::model::{Flat, FlatModel};
 use xs_types::Typed;
 use xs_value::{MomentList, Valuation};
 

@@ -2,9 +2,9 @@
 
 ghost use Rattle.std.specs.Prelude.{◌≡◌, ◌↔◌, IsTrue, false, true, []};
 ghost use Rattle.xs_tree.specs.Written.{tree_of};
-ghost use Rattle.xs_scope.specs.ModelTree.{model_tree, flat_tree};
-ghost use Rattle.xs_kinds.specs.Laws.{ReadsOwn};
-ghost use Rattle.xs_kinds.specs.Models.{judged_in};
+ghost use Rattle.xs_tree.specs.ModelTree.{model_tree, flat_tree};
+ghost use Rattle.xs_type_laws.specs.Laws.{ReadsOwn};
+ghost use Rattle.xs_type_laws.specs.Models.{judged_in};
 ghost use Rattle.xs_eval.specs.Filled.{answer_in, holds};
 ghost use Rattle.xs_eval.specs.Operated.{is_true};
 ghost use Rattle.xs_eval.specs.Named.{IsNumbered, IsEvaluable, IsFilled, Gives, MayGive};
@@ -13,8 +13,8 @@ ghost use Rattle.xs_eval.specs.declared.ask.Asked.TheVariants.{ItsValue, Whether
 use crate::ask::{Asked, ask};
 use crate::operate::is_true;
 use crate::table::Table;
-use xs_flat::{Flat, Formula};
 use xs_tree::Expr;
+use xs_tree::model::{Flat, Formula};
 use xs_types::Typed;
 use xs_value::Value;
 

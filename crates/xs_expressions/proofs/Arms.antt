@@ -11,20 +11,20 @@ use Rattle.xs_tree.specs.declared.expr.Expr.TheVariants.{Truth, Number, Leaf, No
 use Rattle.xs_tree.specs.Tree.{Tree, truth, number, leaf, not_of, negate, next_of, binary, case_of}
 use Rattle.xs_tree.specs.Written.{trees_of, branches_of}
 use Rattle.xs_tree.specs.Leaves.{trees_map, branches_map}
-use Rattle.xs_scope.specs.declared.model.Flat.{Flat}
-use Rattle.xs_scope.specs.ModelTree.{leaf_of, flat_tree}
+use Rattle.xs_tree.specs.declared.model.Flat.{Flat}
+use Rattle.xs_tree.specs.ModelTree.{leaf_of, flat_tree}
 use Rattle.xs_lits.specs.Literal.{Literal, opposite}
-use Rattle.xs_gates.specs.Circuit.{Circuit}
-use Rattle.xs_gates.specs.Gates.{constant_lit, or_gate}
-use Rattle.xs_arith.specs.Numbers.{number_word}
-use Rattle.xs_arith.specs.Sums.{negate_gates}
-use Rattle.xs_flattening.specs.Flat.{FlatLeaf}
-use Rattle.xs_kinds.specs.Models.{kind_of_leaf}
+use Rattle.xs_circuits.specs.Circuit.{Circuit}
+use Rattle.xs_circuits.specs.Gates.{constant_lit, or_gate}
+use Rattle.xs_circuits.specs.Numbers.{number_word}
+use Rattle.xs_circuits.specs.Sums.{negate_gates}
+use Rattle.xs_tree.specs.Flat.{FlatLeaf}
+use Rattle.xs_type_laws.specs.Models.{kind_of_leaf}
 use Rattle.xs_types.specs.Answers.{told_sort}
-use Rattle.xs_encoding.specs.Signals.{bit, word, literal_in, word_in, as_bit, as_word, operator_gates, choice_gates}
-use Rattle.xs_encoding.specs.Expressions.{Asked as TheAsked, its_value, whether_has, span_gates}
-use Rattle.xs_encoding.proofs.Answering.{TakesValues}
-use Rattle.xs_signals.specs.Built.{signal_of, BuildsSignal}
+use Rattle.xs_encode_laws.specs.Signals.{bit, word, literal_in, word_in, as_bit, as_word, operator_gates, choice_gates}
+use Rattle.xs_encode_laws.specs.Expressions.{Asked as TheAsked, its_value, whether_has, span_gates}
+use Rattle.xs_encode_laws.proofs.Answering.{TakesValues}
+use Rattle.xs_expressions.specs.Built.{signal_of, BuildsSignal}
 use Rattle.xs_expressions.specs.Sorts.{sort_width, literal_sort, negative_sort, operation_sort, joined_sort}
 use Rattle.xs_expressions.specs.Naming.{model_of, names_in, moved, IsNamed}
 use Rattle.xs_expressions.specs.Parts.{form_of, truth_sort, IsBit, BuildsPart, BuildsMembers, Answers}

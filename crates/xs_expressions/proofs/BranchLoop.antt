@@ -6,23 +6,23 @@ use Rattle.xs_tree.specs.Tree.{Tree, Branches, no_branch, branch_then}
 use Rattle.xs_tree.specs.Written.{branches_of}
 use Rattle.xs_tree.specs.Leaves.{branches_map}
 use Rattle.xs_tree.specs.declared.expr.Expr.{Expr}
-use Rattle.xs_flattening.specs.Flat.{FlatLeaf}
-use Rattle.xs_scope.specs.declared.model.Flat.{Flat}
-use Rattle.xs_scope.specs.ModelTree.{leaf_of, flat_tree}
-use Rattle.xs_kinds.specs.Judged.{judge_conditions, judge_values, broken_in, kinds_in}
-use Rattle.xs_kinds.specs.Models.{judged_in, kind_of_leaf}
-use Rattle.xs_kinds.proofs.Parts.{none_first, none_second}
+use Rattle.xs_tree.specs.Flat.{FlatLeaf}
+use Rattle.xs_tree.specs.declared.model.Flat.{Flat}
+use Rattle.xs_tree.specs.ModelTree.{leaf_of, flat_tree}
+use Rattle.xs_type_laws.specs.Judged.{judge_conditions, judge_values, broken_in, kinds_in}
+use Rattle.xs_type_laws.specs.Models.{judged_in, kind_of_leaf}
+use Rattle.xs_type_laws.proofs.Parts.{none_first, none_second}
 use Rattle.xs_lits.specs.Literal.{Literal}
 use Rattle.xs_lits.specs.Models.{IsBelow}
-use Rattle.xs_gates.specs.Circuit.{Circuit, after}
-use Rattle.xs_gates.specs.Meaning.{AllBelow}
-use Rattle.xs_gates.proofs.Extension.{AllBelow-more, AllBelow-append}
-use Rattle.xs_encoding.specs.Signals.{Signal, literal_in}
-use Rattle.xs_encoding.specs.Expressions.{Asked as TheAsked, its_value, whether_has, encoded}
-use Rattle.xs_encoding.specs.Meanings.{IsSignal}
-use Rattle.xs_encoding.proofs.NameMeans.{each_joined}
-use Rattle.xs_signals.specs.Built.{signal_of, signals_of}
-use Rattle.xs_signals.proofs.ChoiceLoop.{usable_later}
+use Rattle.xs_circuits.specs.Circuit.{Circuit, after}
+use Rattle.xs_circuits.specs.Meaning.{AllBelow}
+use Rattle.xs_circuits.proofs.Extension.{AllBelow-more, AllBelow-append}
+use Rattle.xs_encode_laws.specs.Signals.{Signal, literal_in}
+use Rattle.xs_encode_laws.specs.Expressions.{Asked as TheAsked, its_value, whether_has, encoded}
+use Rattle.xs_encode_laws.specs.Meanings.{IsSignal}
+use Rattle.xs_encode_laws.proofs.NameMeans.{each_joined}
+use Rattle.xs_expressions.specs.Built.{signal_of, signals_of}
+use Rattle.xs_expressions.proofs.ChoiceLoop.{usable_later}
 use Rattle.xs_expressions.specs.Naming.{model_of, names_in}
 use Rattle.xs_expressions.specs.Parts.{IsBit, IsRight, IsTold, IsEncoded, BuildsPart}
 use Rattle.xs_expressions.specs.Branches.{listed_gates, widened_sort, spread_sort, AreRightBranches, AreTold, BuildsBranches, with_parts, AreToldSoFar, BuildsFirst}

@@ -4,20 +4,20 @@ use Rattle.std.specs.Prelude.{flat_map}
 use Rattle.std.proofs.lemmas.List.{length-map}
 use Rattle.xs_tree.specs.Trace.{Each}
 use Rattle.xs_tree.specs.Tree.{Branches, no_branch, branch_then, case_of}
-use Rattle.xs_flattening.specs.Flat.{FlatLeaf}
-use Rattle.xs_kinds.specs.Judged.{Kind, KindRule, truth_class, not_boolean, mismatch, set_here, case_end, rule_if, unless_class, unlike_first, first_class, hull_of, hull_from, joined, some_set, broken_in, kinds_in, judge_conditions, judge_values, ends_in_true}
-use Rattle.xs_kinds.specs.Models.{judged_in, kind_of_leaf}
-use Rattle.xs_kinds.proofs.Parts.{none_first, none_second}
+use Rattle.xs_tree.specs.Flat.{FlatLeaf}
+use Rattle.xs_type_laws.specs.Judged.{Kind, KindRule, truth_class, not_boolean, mismatch, set_here, case_end, rule_if, unless_class, unlike_first, first_class, hull_of, hull_from, joined, some_set, broken_in, kinds_in, judge_conditions, judge_values, ends_in_true}
+use Rattle.xs_type_laws.specs.Models.{judged_in, kind_of_leaf}
+use Rattle.xs_type_laws.proofs.Parts.{none_first, none_second}
 use Rattle.xs_lits.specs.Literal.{Literal}
-use Rattle.xs_gates.specs.Circuit.{Circuit, after}
-use Rattle.xs_encoding.specs.Widths.{symbol_width}
-use Rattle.xs_encoding.specs.Signals.{Signal, bit, word, literal_in, choice_gates}
-use Rattle.xs_encoding.specs.Expressions.{Asked as TheAsked, its_value, whether_has, Names as TheNames, encoded, encoded_branches}
-use Rattle.xs_encoding.proofs.Answering.{kept_interval}
+use Rattle.xs_circuits.specs.Circuit.{Circuit, after}
+use Rattle.xs_encode_laws.specs.Widths.{symbol_width}
+use Rattle.xs_encode_laws.specs.Signals.{Signal, bit, word, literal_in, choice_gates}
+use Rattle.xs_encode_laws.specs.Expressions.{Asked as TheAsked, its_value, whether_has, Names as TheNames, encoded, encoded_branches}
+use Rattle.xs_encode_laws.proofs.Answering.{kept_interval}
 use Rattle.xs_types.specs.Answers.{told_class, told_sort}
 use Rattle.xs_types.specs.declared.sort.Sort.{Sort}
-use Rattle.xs_signals.specs.Built.{signal_of, signals_of}
-use Rattle.xs_signals.specs.Choices.{chosen_gates}
+use Rattle.xs_expressions.specs.Built.{signal_of, signals_of}
+use Rattle.xs_expressions.specs.Choices.{chosen_gates}
 use Rattle.xs_expressions.specs.Sorts.{sort_width}
 use Rattle.xs_expressions.specs.Naming.{model_of, names_in}
 use Rattle.xs_expressions.specs.Parts.{IsBit, IsRight, IsTold, BuildsPart}

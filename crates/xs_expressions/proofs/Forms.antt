@@ -10,8 +10,8 @@ use Rattle.xs_tree.specs.Tree.{Tree, truth, number, leaf, not_of, negate, next_o
 use Rattle.xs_tree.specs.Leaves.{tree_map, trees_map, branches_map}
 use Rattle.xs_tree.specs.Written.{tree_of, trees_of, branches_of, node_tree}
 use Rattle.xs_tree.proofs.WrittenLaws.{tree_of_case, tree_of_set, tree_of_not}
-use Rattle.xs_scope.specs.declared.model.Flat.{Flat}
-use Rattle.xs_scope.specs.ModelTree.{leaf_of, flat_tree}
+use Rattle.xs_tree.specs.declared.model.Flat.{Flat}
+use Rattle.xs_tree.specs.ModelTree.{leaf_of, flat_tree}
 
 -- a node, and then its names
 pub form_truth : (e : Expr Flat) (b : Bool) → e ≡ Truth b → flat_tree e ≡ truth b

@@ -5,25 +5,25 @@ use Rattle.xs_tree.specs.Tree.{Tree, Trees, no_tree, tree_then}
 use Rattle.xs_tree.specs.Written.{trees_of}
 use Rattle.xs_tree.specs.Leaves.{trees_map}
 use Rattle.xs_tree.specs.declared.expr.Expr.{Expr}
-use Rattle.xs_flattening.specs.Flat.{FlatLeaf}
-use Rattle.xs_scope.specs.declared.model.Flat.{Flat}
-use Rattle.xs_scope.specs.ModelTree.{leaf_of, flat_tree}
-use Rattle.xs_kinds.specs.Judged.{judge_trees, broken_in}
-use Rattle.xs_kinds.specs.Models.{judged_in, kind_of_leaf}
-use Rattle.xs_kinds.proofs.Parts.{none_first, none_second}
+use Rattle.xs_tree.specs.Flat.{FlatLeaf}
+use Rattle.xs_tree.specs.declared.model.Flat.{Flat}
+use Rattle.xs_tree.specs.ModelTree.{leaf_of, flat_tree}
+use Rattle.xs_type_laws.specs.Judged.{judge_trees, broken_in}
+use Rattle.xs_type_laws.specs.Models.{judged_in, kind_of_leaf}
+use Rattle.xs_type_laws.proofs.Parts.{none_first, none_second}
 use Rattle.xs_lits.specs.Literal.{Literal}
 use Rattle.xs_lits.specs.Models.{IsBelow}
-use Rattle.xs_gates.specs.Circuit.{Circuit, after}
-use Rattle.xs_gates.specs.Gates.{constant_lit, or_gate}
-use Rattle.xs_kinds.specs.Intervals.{Interval}
-use Rattle.xs_encoding.specs.Widths.{word_width, symbol_interval}
-use Rattle.xs_encoding.specs.Signals.{literal_in}
-use Rattle.xs_encoding.specs.Expressions.{Asked as TheAsked, its_value, whether_has, encoded_members}
-use Rattle.xs_encoding.specs.Meanings.{IsSignal}
-use Rattle.xs_encoding.specs.Laws.{IsAskedIn}
-use Rattle.xs_signals.specs.declared.signal.Signal.{Signal as Built}
-use Rattle.xs_signals.specs.Built.{signal_of, BuildsLiteral}
-use Rattle.xs_signals.proofs.ChoiceLoop.{usable_later}
+use Rattle.xs_circuits.specs.Circuit.{Circuit, after}
+use Rattle.xs_circuits.specs.Gates.{constant_lit, or_gate}
+use Rattle.xs_type_laws.specs.Intervals.{Interval}
+use Rattle.xs_encode_laws.specs.Widths.{word_width, symbol_interval}
+use Rattle.xs_encode_laws.specs.Signals.{literal_in}
+use Rattle.xs_encode_laws.specs.Expressions.{Asked as TheAsked, its_value, whether_has, encoded_members}
+use Rattle.xs_encode_laws.specs.Meanings.{IsSignal}
+use Rattle.xs_encode_laws.specs.Laws.{IsAskedIn}
+use Rattle.xs_expressions.specs.declared.signal.Signal.{Signal as Built}
+use Rattle.xs_expressions.specs.Built.{signal_of, BuildsLiteral}
+use Rattle.xs_expressions.proofs.ChoiceLoop.{usable_later}
 use Rattle.xs_expressions.specs.declared.names.Names.{Names}
 use Rattle.xs_expressions.specs.declared.part.Asked.{Asked}
 use Rattle.xs_expressions.specs.declared.part.Asked.TheVariants.{ItsValue, WhetherHas}

@@ -6,27 +6,27 @@ use Rattle.xs_tree.specs.declared.expr.Op.{Op}
 use Rattle.xs_tree.specs.declared.expr.Op.TheVariants as op
 use Rattle.xs_tree.specs.ProgramTree.{Text}
 use Rattle.xs_tree.specs.Tree.{Tree, Trees, truth, number, leaf, not_of, negate, next_of, binary, choice, set_of, span}
-use Rattle.xs_flattening.specs.Flat.{FlatLeaf, FlatModel}
-use Rattle.xs_kinds.specs.Intervals.{Interval}
-use Rattle.xs_kinds.specs.Judged.{Kind, KindRule, Class, truth_class, number_class, symbol_class, Judged, where_kept, unless_class, not_boolean, mismatch, set_here, empty_range, rule_if, wide, joined, negative_interval, unlike_first, broken_in, kinds_in, judge_trees, judged_negative, judged_binary}
-use Rattle.xs_kinds.specs.Models.{judged_in, kind_of_leaf}
-use Rattle.xs_kinds.proofs.Parts.{none_first, none_second}
+use Rattle.xs_tree.specs.Flat.{FlatLeaf, FlatModel}
+use Rattle.xs_type_laws.specs.Intervals.{Interval}
+use Rattle.xs_type_laws.specs.Judged.{Kind, KindRule, Class, truth_class, number_class, symbol_class, Judged, where_kept, unless_class, not_boolean, mismatch, set_here, empty_range, rule_if, wide, joined, negative_interval, unlike_first, broken_in, kinds_in, judge_trees, judged_negative, judged_binary}
+use Rattle.xs_type_laws.specs.Models.{judged_in, kind_of_leaf}
+use Rattle.xs_type_laws.proofs.Parts.{none_first, none_second}
 use Rattle.xs_lits.specs.Literal.{Literal, opposite}
-use Rattle.xs_gates.specs.Circuit.{Circuit, after}
-use Rattle.xs_gates.specs.Gates.{constant_lit, or_gate}
-use Rattle.xs_arith.specs.Numbers.{number_word}
-use Rattle.xs_arith.specs.Sums.{negate_gates}
-use Rattle.xs_encoding.specs.Widths.{width_by, kind_width, symbol_width}
-use Rattle.xs_encoding.specs.Signals.{Signal, bit, word, literal_in, word_in, as_bit, as_word, same_gates, operator_gates, choice_gates}
-use Rattle.xs_encoding.specs.Expressions.{Asked as TheAsked, its_value, whether_has, at_next, answer, span_gates, both_gates, encoded}
-use Rattle.xs_encoding.specs.Meanings.{IsSignal}
-use Rattle.xs_encoding.proofs.Answering.{TakesValues, plain_parts, kept_interval}
+use Rattle.xs_circuits.specs.Circuit.{Circuit, after}
+use Rattle.xs_circuits.specs.Gates.{constant_lit, or_gate}
+use Rattle.xs_circuits.specs.Numbers.{number_word}
+use Rattle.xs_circuits.specs.Sums.{negate_gates}
+use Rattle.xs_encode_laws.specs.Widths.{width_by, kind_width, symbol_width}
+use Rattle.xs_encode_laws.specs.Signals.{Signal, bit, word, literal_in, word_in, as_bit, as_word, same_gates, operator_gates, choice_gates}
+use Rattle.xs_encode_laws.specs.Expressions.{Asked as TheAsked, its_value, whether_has, at_next, answer, span_gates, both_gates, encoded}
+use Rattle.xs_encode_laws.specs.Meanings.{IsSignal}
+use Rattle.xs_encode_laws.proofs.Answering.{TakesValues, plain_parts, kept_interval}
 use Rattle.xs_types.specs.Answers.{told_class, told_sort, told}
 use Rattle.xs_types.specs.Rows.{row_binary}
 use Rattle.xs_types.specs.declared.sort.Sort.{Sort}
 use Rattle.xs_types.specs.declared.sort.Class.TheVariants.{Truth}
 use Rattle.xs_types.proofs.NodeLaws.{told_negative, told_binary, told_literal}
-use Rattle.xs_signals.specs.Built.{signal_of, BuildsLiteral, BuildsSignal}
+use Rattle.xs_expressions.specs.Built.{signal_of, BuildsLiteral, BuildsSignal}
 use Rattle.xs_expressions.specs.Sorts.{width_of_sort, sort_width, literal_sort, negative_sort, operation_sort, joined_sort}
 use Rattle.xs_expressions.specs.Naming.{model_of, names_in, moved}
 use Rattle.xs_expressions.specs.Parts.{truth_sort, IsBit, IsRight, AreRight, BuildsMembers, IsTold, IsEncoded, BuildsPart, AnswersSort, Answers}

@@ -8,8 +8,8 @@ use Rattle.xs_tree.specs.declared.expr.Expr.TheVariants.{Not, Negate, Next, Bina
 use Rattle.xs_tree.specs.Tree.{size_of, trees_size, branches_size}
 use Rattle.xs_tree.specs.Written.{trees_of, branches_of}
 use Rattle.xs_tree.specs.Leaves.{trees_map, branches_map}
-use Rattle.xs_scope.specs.declared.model.Flat.{Flat}
-use Rattle.xs_scope.specs.ModelTree.{leaf_of, flat_tree}
+use Rattle.xs_tree.specs.declared.model.Flat.{Flat}
+use Rattle.xs_tree.specs.ModelTree.{leaf_of, flat_tree}
 use Rattle.xs_expressions.proofs.Forms.{form_not, form_negate, form_next, form_binary, form_choice, form_case, form_set}
 use Rattle.xs_expressions.proofs.Members.{members_more}
 use Rattle.xs_expressions.proofs.BranchLoop.{branches_more}

@@ -2,19 +2,19 @@
 use Rattle.std.specs.Prelude.{◌≡◌, ℕ, ◌≤◌, ◌+◌, Bool, false, Option, Some, None, List, [], ◌∷◌, ◌++◌, length}
 use Rattle.xs_tree.specs.Trace.{Each}
 use Rattle.xs_tree.specs.Tree.{Branches, no_branch, branch_then}
-use Rattle.xs_flattening.specs.Flat.{FlatLeaf, FlatModel}
-use Rattle.xs_kinds.specs.Judged.{Kind, judge_conditions, judge_values, broken_in, kinds_in}
-use Rattle.xs_kinds.specs.Models.{kind_of_leaf}
+use Rattle.xs_tree.specs.Flat.{FlatLeaf, FlatModel}
+use Rattle.xs_type_laws.specs.Judged.{Kind, judge_conditions, judge_values, broken_in, kinds_in}
+use Rattle.xs_type_laws.specs.Models.{kind_of_leaf}
 use Rattle.xs_types.specs.Answers.{told_sort}
 use Rattle.xs_types.specs.declared.sort.Sort.{Sort}
 use Rattle.xs_lits.specs.Literal.{Literal}
-use Rattle.xs_gates.specs.Circuit.{Circuit, after}
-use Rattle.xs_gates.specs.Meaning.{AllBelow}
-use Rattle.xs_encoding.specs.Signals.{Signal, literal_in}
-use Rattle.xs_encoding.specs.Expressions.{Asked, its_value, whether_has, Names as TheNames, encoded}
-use Rattle.xs_encoding.specs.Meanings.{IsSignal}
-use Rattle.xs_signals.specs.Built.{signal_of, signals_of}
-use Rattle.xs_signals.specs.Choices.{chosen_gates}
+use Rattle.xs_circuits.specs.Circuit.{Circuit, after}
+use Rattle.xs_circuits.specs.Meaning.{AllBelow}
+use Rattle.xs_encode_laws.specs.Signals.{Signal, literal_in}
+use Rattle.xs_encode_laws.specs.Expressions.{Asked, its_value, whether_has, Names as TheNames, encoded}
+use Rattle.xs_encode_laws.specs.Meanings.{IsSignal}
+use Rattle.xs_expressions.specs.Built.{signal_of, signals_of}
+use Rattle.xs_expressions.specs.Choices.{chosen_gates}
 use Rattle.xs_expressions.specs.Naming.{model_of, names_in}
 use Rattle.xs_expressions.specs.Sorts.{sort_width, joined_sort}
 use Rattle.xs_expressions.specs.Parts.{truth_sort, IsBit}

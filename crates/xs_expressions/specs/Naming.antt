@@ -1,14 +1,14 @@
 -- The names of a model as the code has them.
 use Rattle.std.specs.Prelude.{◌≡◌}
 use Rattle.xs_tree.specs.Trace.{Each}
-use Rattle.xs_flattening.specs.Flat.{FlatLeaf, FlatModel}
-use Rattle.xs_scope.specs.ModelTree.{model_tree}
-use Rattle.xs_gates.specs.Circuit.{Circuit}
-use Rattle.xs_encoding.specs.Widths.{symbol_width}
-use Rattle.xs_encoding.specs.Expressions.{Names as TheNames}
-use Rattle.xs_encoding.specs.Lists.{Copy, names_of}
-use Rattle.xs_encoding.specs.Meanings.{IsSignal}
-use Rattle.xs_signals.specs.Built.{signals_of}
+use Rattle.xs_tree.specs.Flat.{FlatLeaf, FlatModel}
+use Rattle.xs_tree.specs.ModelTree.{model_tree}
+use Rattle.xs_circuits.specs.Circuit.{Circuit}
+use Rattle.xs_encode_laws.specs.Widths.{symbol_width}
+use Rattle.xs_encode_laws.specs.Expressions.{Names as TheNames}
+use Rattle.xs_encode_laws.specs.Lists.{Copy, names_of}
+use Rattle.xs_encode_laws.specs.Meanings.{IsSignal}
+use Rattle.xs_expressions.specs.Built.{signals_of}
 use Rattle.xs_expressions.specs.declared.names.Copied.{Copied}
 use Rattle.xs_expressions.specs.declared.names.Names.{Names}
 

@@ -3,20 +3,20 @@ use Rattle.std.specs.Prelude.{◌≡◌, ◌≤◌, Bool, false, None, []}
 use Rattle.xs_tree.specs.declared.expr.Op.{Op}
 use Rattle.xs_tree.specs.declared.expr.Op.TheVariants as op
 use Rattle.xs_tree.specs.Tree.{Tree, Trees}
-use Rattle.xs_flattening.specs.Flat.{FlatLeaf, FlatModel}
-use Rattle.xs_kinds.specs.Judged.{judge_trees, broken_in}
-use Rattle.xs_kinds.specs.Models.{judged_in, kind_of_leaf}
+use Rattle.xs_tree.specs.Flat.{FlatLeaf, FlatModel}
+use Rattle.xs_type_laws.specs.Judged.{judge_trees, broken_in}
+use Rattle.xs_type_laws.specs.Models.{judged_in, kind_of_leaf}
 use Rattle.xs_types.specs.Answers.{told_sort}
 use Rattle.xs_types.specs.declared.sort.Sort.{Sort}
 use Rattle.xs_types.specs.declared.sort.Class.TheVariants.{Truth}
 use Rattle.xs_lits.specs.Literal.{Literal}
 use Rattle.xs_lits.specs.Models.{IsBelow}
-use Rattle.xs_gates.specs.Circuit.{Circuit}
-use Rattle.xs_gates.specs.Gates.{constant_lit}
-use Rattle.xs_encoding.specs.Signals.{Signal, bit, word}
-use Rattle.xs_encoding.specs.Expressions.{Asked as TheAsked, its_value, whether_has, answer, encoded, encoded_members}
-use Rattle.xs_encoding.specs.Meanings.{IsSignal}
-use Rattle.xs_signals.specs.Built.{signal_of}
+use Rattle.xs_circuits.specs.Circuit.{Circuit}
+use Rattle.xs_circuits.specs.Gates.{constant_lit}
+use Rattle.xs_encode_laws.specs.Signals.{Signal, bit, word}
+use Rattle.xs_encode_laws.specs.Expressions.{Asked as TheAsked, its_value, whether_has, answer, encoded, encoded_members}
+use Rattle.xs_encode_laws.specs.Meanings.{IsSignal}
+use Rattle.xs_expressions.specs.Built.{signal_of}
 use Rattle.xs_expressions.specs.Naming.{model_of, names_in}
 use Rattle.xs_expressions.specs.declared.names.Names.{Names}
 use Rattle.xs_expressions.specs.declared.part.Part.{Part}

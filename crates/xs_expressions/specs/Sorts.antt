@@ -1,11 +1,11 @@
 -- What is known of values as the code has it, and the widths that follow.
 use Rattle.std.specs.Prelude.{ℕ, ◌-◌, ℤ, pos, false, Option, Some, None}
 use Rattle.xs_tree.specs.declared.expr.Op.{Op}
-use Rattle.xs_kinds.specs.Judged.{joined}
+use Rattle.xs_type_laws.specs.Judged.{joined}
 use Rattle.xs_types.specs.Rows.{row_literal, row_negative, row_binary}
 use Rattle.xs_types.specs.declared.sort.Judged.{Judged}
-use Rattle.xs_kinds.specs.Intervals.{Interval}
-use Rattle.xs_encoding.specs.Widths.{word_width}
+use Rattle.xs_type_laws.specs.Intervals.{Interval}
+use Rattle.xs_encode_laws.specs.Widths.{word_width}
 use Rattle.xs_types.specs.declared.sort.Sort.{Sort}
 use Rattle.xs_types.specs.declared.sort.Class.{Class}
 use Rattle.xs_types.specs.declared.sort.Class.TheVariants.{Number}

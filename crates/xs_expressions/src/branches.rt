@@ -3,19 +3,19 @@
 ghost use Rattle.std.specs.Prelude.{◌≡◌, ◌≢◌, ◌↔◌, ◌≤◌, ◌+◌, ◌∷◌, ◌++◌, [], Some, None, IfOk, IsTrue, length};
 ghost use Rattle.xs_tree.specs.Trace.{Each};
 ghost use Rattle.xs_lits.specs.Models.{IsBelow};
-ghost use Rattle.xs_gates.specs.Meaning.{AllBelow};
-ghost use Rattle.xs_encoding.specs.Signals.{literal_in};
-ghost use Rattle.xs_encoding.specs.Meanings.{IsSignal};
-ghost use Rattle.xs_signals.specs.Built.{signal_of, signals_of};
+ghost use Rattle.xs_circuits.specs.Meaning.{AllBelow};
+ghost use Rattle.xs_encode_laws.specs.Signals.{literal_in};
+ghost use Rattle.xs_encode_laws.specs.Meanings.{IsSignal};
+ghost use Rattle.xs_expressions.specs.Built.{signal_of, signals_of};
 ghost use Rattle.xs_expressions.specs.Branches.{widened_sort, BuildsFirstOf};
 
+use crate::choices::choices;
 use crate::names::{Names, SignalList};
 use crate::part::{Part, joined_sort, sort_or_truth, truth};
 use crate::width::sort_width;
 use std::alloc::Global;
-use xs_arith::word::Word;
-use xs_gates::gates::Gates;
-use xs_signals::choices::choices;
+use xs_circuits::gates::Gates;
+use xs_circuits::word::Word;
 use xs_types::Sort;
 use xs_value::{Items, OutOfMemory};
 

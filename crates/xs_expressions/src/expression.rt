@@ -3,8 +3,8 @@
 ghost use Rattle.std.specs.Prelude.{IfOk};
 ghost use Rattle.xs_tree.specs.Written.{trees_of, branches_of};
 ghost use Rattle.xs_tree.specs.Leaves.{trees_map, branches_map};
-ghost use Rattle.xs_scope.specs.ModelTree.{leaf_of, flat_tree};
-ghost use Rattle.xs_encoding.specs.Laws.{IsAskedIn};
+ghost use Rattle.xs_tree.specs.ModelTree.{leaf_of, flat_tree};
+ghost use Rattle.xs_encode_laws.specs.Laws.{IsAskedIn};
 ghost use Rattle.xs_expressions.specs.Naming.{IsNamed};
 ghost use Rattle.xs_expressions.specs.Parts.{asked_of, BuildsPart, BuildsMembers};
 ghost use Rattle.xs_expressions.specs.Branches.{BuildsBranches};
@@ -16,10 +16,10 @@ use crate::part::{
     negated_part, not_part, number_part, or_part, span_part, truth, truth_part, union_part,
 };
 use std::alloc::Global;
-use xs_flat::Flat;
-use xs_gates::gates::Gates;
+use xs_circuits::gates::Gates;
 use xs_lits::lit::Lit;
 use xs_tree::Expr;
+use xs_tree::model::Flat;
 use xs_value::OutOfMemory;
 
 /// An expression's value, or whether that of a signal is among its values, as on the right of `in`.

@@ -1,21 +1,21 @@
 //! What the names of a model are in a circuit.
 
 ghost use Rattle.std.specs.Prelude.{◌≡◌, ◌≤◌, IfOk, pos, slice_get};
-ghost use Rattle.xs_scope.specs.ModelTree.{leaf_of};
-ghost use Rattle.xs_kinds.specs.Models.{kind_of_leaf};
+ghost use Rattle.xs_tree.specs.ModelTree.{leaf_of};
+ghost use Rattle.xs_type_laws.specs.Models.{kind_of_leaf};
 ghost use Rattle.xs_types.specs.Answers.{told_sort};
-ghost use Rattle.xs_arith.specs.Words.{fit};
-ghost use Rattle.xs_arith.specs.Numbers.{number_word};
-ghost use Rattle.xs_encoding.specs.Signals.{word};
-ghost use Rattle.xs_encoding.specs.Lists.{leaf_signal, signal_or_false};
-ghost use Rattle.xs_signals.specs.Built.{signal_of, signals_of};
+ghost use Rattle.xs_circuits.specs.Words.{fit};
+ghost use Rattle.xs_circuits.specs.Numbers.{number_word};
+ghost use Rattle.xs_encode_laws.specs.Signals.{word};
+ghost use Rattle.xs_encode_laws.specs.Lists.{leaf_signal, signal_or_false};
+ghost use Rattle.xs_expressions.specs.Built.{signal_of, signals_of};
 ghost use Rattle.xs_expressions.specs.Naming.{copy_of, model_of, IsNamed};
 
+use crate::signal::Signal;
 use std::alloc::Global;
-use xs_arith::constants::number_at;
-use xs_flat::Flat;
-use xs_gates::gates::Gates;
-use xs_signals::signal::Signal;
+use xs_circuits::constants::number_at;
+use xs_circuits::gates::Gates;
+use xs_tree::model::Flat;
 use xs_types::{Sort, Typed};
 use xs_value::{Items, OutOfMemory};
 

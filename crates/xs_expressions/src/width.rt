@@ -1,7 +1,7 @@
 //! How many bits words have.
 
 ghost use Rattle.std.specs.Prelude.{◌≡◌, ◌≤◌, ◌<◌, ◌^◌};
-ghost use Rattle.xs_encoding.specs.Widths.{digits_beside_sign, word_width};
+ghost use Rattle.xs_encode_laws.specs.Widths.{digits_beside_sign, word_width};
 ghost use Rattle.xs_expressions.specs.Sorts.{symbols_width, sort_width};
 
 use xs_types::{Class, Sort, digits};

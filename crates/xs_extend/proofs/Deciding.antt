@@ -8,17 +8,17 @@ use Rattle.xs_tree.proofs.ValueLaws.{same_text_refl, same_text_equal}
 use Rattle.xs_fei.specs.declared.instructions.ModeRule.{ModeRule}
 use Rattle.xs_fei.specs.Instructions.{mode_tree}
 use Rattle.xs_tree.specs.Trace.{Each}
-use Rattle.xs_flattening.specs.Flat.{FlatInstance, FlatModel}
-use Rattle.xs_flattening.proofs.KindLaws.{not_true}
-use Rattle.xs_scope.specs.declared.model.Instance.{Instance}
-use Rattle.xs_scope.specs.ModelTree.{instance_tree}
+use Rattle.xs_tree.specs.Flat.{FlatInstance, FlatModel}
+use Rattle.xs_flat_laws.proofs.KindLaws.{not_true}
+use Rattle.xs_tree.specs.declared.model.Instance.{Instance}
+use Rattle.xs_tree.specs.ModelTree.{instance_tree}
 use Rattle.xs_weave_rules.specs.declared.placed.Placed.{Placed}
 use Rattle.xs_weave_rules.specs.Placing.{PlacedSlice, seen_placed}
 use Rattle.xs_extend.proofs.EachItem.{drop_item}
-use Rattle.xs_extending.specs.SliceUses.{modes_from, uses_of_slice, uses_of_slices}
-use Rattle.xs_flattening.proofs.Conditions.{each_join}
-use Rattle.xs_extending.specs.Uses.{Use}
-use Rattle.xs_extending.specs.Expressions.{KeepsUse, UseRule, IsBrokenAt, IsFirstAmong}
+use Rattle.xs_extend_laws.specs.SliceUses.{modes_from, uses_of_slice, uses_of_slices}
+use Rattle.xs_flat_laws.proofs.Conditions.{each_join}
+use Rattle.xs_extend_laws.specs.Uses.{Use}
+use Rattle.xs_extend_laws.specs.Expressions.{KeepsUse, UseRule, IsBrokenAt, IsFirstAmong}
 use Rattle.xs_extend.specs.declared.fault.Cause.{Cause}
 use Rattle.xs_extend.specs.declared.fault.Cause.TheVariants.{Weave, Flat, Kinds}
 use Rattle.xs_extend.specs.declared.fault.WeaveFault.{WeaveFault}

@@ -5,7 +5,7 @@ use Rattle.std.proofs.lemmas.List.{drop_more}
 use Rattle.std.proofs.lemmas.Grind.{flat_map-append}
 use Rattle.xs_tree.specs.ProgramTree.{Text, ProgramTree}
 use Rattle.xs_tree.specs.Trace.{Each}
-use Rattle.xs_scope.specs.declared.model.Instance.{Instance}
+use Rattle.xs_tree.specs.declared.model.Instance.{Instance}
 use Rattle.xs_weave.specs.Faults.{Fault, slice_faults, module_slices, slices_at, place_faults, HasFaults}
 use Rattle.xs_extend.specs.WovenFaults.{place_of, faults_at, IsOfModule, places_of, AreInstancesOf}
 use Rattle.xs_tree.specs.Texts.{same_text}

@@ -7,25 +7,25 @@ use Rattle.xs_tree.specs.Texts.{same_text}
 use Rattle.xs_tree.specs.Trace.{Each, AtSome, IsInstance}
 use Rattle.xs_tree.specs.Scope.{Place, find_module}
 use Rattle.xs_fei.specs.Instructions.{EffectTree, follows, stuck_at, inverted, random, erroneous, frozen, stuck_at_pick, offset, ramp_down, ModeTree, SliceTree, ExtensionTree, InstructionTree, slices_from}
-use Rattle.xs_flattening.specs.Flat.{FlatLeaf, FlatInstance, FlatModel}
-use Rattle.xs_flattening.specs.Items.{instances_of}
-use Rattle.xs_flattening.specs.Looks.{ActualsMean}
-use Rattle.xs_flattening.specs.Resolved.{has_next}
-use Rattle.xs_flattening.specs.Rules.{Rule, next_here, IsWalkable, IsAccepted}
-use Rattle.xs_flattening.specs.Model.{IsFlatOf}
-use Rattle.xs_flattening.proofs.Reaches.{each_left, each_right}
-use Rattle.xs_flattening.proofs.Lists.{each_map, each_more}
-use Rattle.xs_flattening.proofs.Conditions.{each_at, each_flat}
-use Rattle.xs_flattening.proofs.Sections.{AreInstances}
-use Rattle.xs_flattening.proofs.KindLaws.{not_true}
-use Rattle.xs_flattening.proofs.Places.{are_instances}
-use Rattle.xs_flattening.proofs.Walkable.{accepted_walkable, main_is_there}
-use Rattle.xs_flattening.proofs.Kept.{module_named}
-use Rattle.xs_kinds.specs.Judged.{KindRule}
-use Rattle.xs_kinds.specs.Models.{least, judged_in, IsTyped}
-use Rattle.xs_kinds.proofs.Least.{least_none}
-use Rattle.xs_kinds.proofs.Parts.{none_first, none_second}
-use Rattle.xs_weave.specs.Weavable.{Among, IsWeavable}
+use Rattle.xs_tree.specs.Flat.{FlatLeaf, FlatInstance, FlatModel}
+use Rattle.xs_flat_laws.specs.Items.{instances_of}
+use Rattle.xs_flat_laws.specs.Looks.{ActualsMean}
+use Rattle.xs_flat_laws.specs.Resolved.{has_next}
+use Rattle.xs_flat_laws.specs.Rules.{Rule, next_here, IsWalkable, IsAccepted}
+use Rattle.xs_flat_laws.specs.Model.{IsFlatOf}
+use Rattle.xs_flat_laws.proofs.Reaches.{each_left, each_right}
+use Rattle.xs_flat_laws.proofs.Lists.{each_map, each_more}
+use Rattle.xs_flat_laws.proofs.Conditions.{each_at, each_flat}
+use Rattle.xs_flat_laws.proofs.Sections.{AreInstances}
+use Rattle.xs_flat_laws.proofs.KindLaws.{not_true}
+use Rattle.xs_flat_laws.proofs.Places.{are_instances}
+use Rattle.xs_flat_laws.proofs.Walkable.{accepted_walkable, main_is_there}
+use Rattle.xs_flat_laws.proofs.Kept.{module_named}
+use Rattle.xs_type_laws.specs.Judged.{KindRule}
+use Rattle.xs_type_laws.specs.Models.{least, judged_in, IsTyped}
+use Rattle.xs_type_laws.proofs.Least.{least_none}
+use Rattle.xs_type_laws.proofs.Parts.{none_first, none_second}
+use Rattle.xs_fei.specs.Weavable.{Among, IsWeavable}
 use Rattle.xs_weave.specs.Conservative.{IsExtensionOf}
 use Rattle.xs_weave.specs.Woven.{woven}
 use Rattle.xs_weave.proofs.WovenNominal.{woven_extends}
@@ -33,10 +33,10 @@ use Rattle.xs_weave_rules.specs.Sites.{OwnedSlice, owned, item_sites}
 use Rattle.xs_weave_rules.specs.Faults.{file_slices}
 use Rattle.xs_weave_rules.specs.Placing.{PlacedSlice, placed_from}
 use Rattle.xs_weave_rules.specs.Judged.{IsJudged}
-use Rattle.xs_extending.specs.Uses.{Use, uses_at}
-use Rattle.xs_extending.specs.SliceUses.{modes_from, uses_of_slice}
-use Rattle.xs_extending.specs.Expressions.{followed, SomeBreaks, IsForm, broken_by, class_of_followed, class_of_guard, or_else, KeepsUse, AllUsesKept}
-use Rattle.xs_extending.proofs.SliceLaws.{placed_are, uses_are}
+use Rattle.xs_extend_laws.specs.Uses.{Use, uses_at}
+use Rattle.xs_extend_laws.specs.SliceUses.{modes_from, uses_of_slice}
+use Rattle.xs_extend_laws.specs.Expressions.{followed, SomeBreaks, IsForm, broken_by, class_of_followed, class_of_guard, or_else, KeepsUse, AllUsesKept}
+use Rattle.xs_extend_laws.proofs.SliceLaws.{placed_are, uses_are}
 use Rattle.xs_extend.specs.declared.faults.Woven.{Woven}
 use Rattle.xs_extend.specs.JudgedLaws.{IsGoodCondition, IsGoodValue, IsGoodEffect, IsGoodGuard, IsGoodMode, AreGoodModes}
 use Rattle.xs_extend.proofs.LawfulLaws.{lawful_instance}

@@ -8,18 +8,18 @@ use Rattle.xs_tree.specs.Scope.{Place, Role, state, kind_declared, kind_in, kind
 use Rattle.xs_tree.specs.Trace.{Each, IsInstance}
 use Rattle.xs_tree.proofs.ValueLaws.{same_text_equal}
 use Rattle.xs_weave.specs.Faults.{instance_names_in, instance_names, joined, each_joined, below, instances_in, HasInstances}
-use Rattle.xs_scope.specs.declared.model.Instance.{Instance}
-use Rattle.xs_flattening.specs.Flat.{FlatInstance}
-use Rattle.xs_flattening.specs.Items.{Item, a_declaration, a_definition, an_assignment, some_constants, an_init, an_invar, a_trans, items_of_section, items_of, NumberedItem, numbered_from, modules_from, items_found, items_named, Visit, visits_inside, visits_of, walk_items, walk, instance_declared, instances_of_visit, instances_of}
-use Rattle.xs_flattening.specs.Rules.{IsAccepted, is_missing_instance, is_on_path}
-use Rattle.xs_flattening.proofs.Lists.{map_joined}
-use Rattle.xs_flattening.proofs.Reaches.{each_left, each_right}
-use Rattle.xs_flattening.proofs.Conditions.{each_from}
-use Rattle.xs_flattening.proofs.KindLaws.{ItemFacts, kind_of_declaration}
-use Rattle.xs_flattening.proofs.Sections.{items_are}
-use Rattle.xs_flattening.proofs.Pigeons.{IsThere, AreApart, no_more_names}
-use Rattle.xs_flattening.proofs.Places.{VisitFacts, there, facts_named, all_visit_facts, are_instances}
-use Rattle.xs_flattening.proofs.Walkable.{accepted_walkable, main_is_there}
+use Rattle.xs_tree.specs.declared.model.Instance.{Instance}
+use Rattle.xs_tree.specs.Flat.{FlatInstance}
+use Rattle.xs_flat_laws.specs.Items.{Item, a_declaration, a_definition, an_assignment, some_constants, an_init, an_invar, a_trans, items_of_section, items_of, NumberedItem, numbered_from, modules_from, items_found, items_named, Visit, visits_inside, visits_of, walk_items, walk, instance_declared, instances_of_visit, instances_of}
+use Rattle.xs_flat_laws.specs.Rules.{IsAccepted, is_missing_instance, is_on_path}
+use Rattle.xs_flat_laws.proofs.Lists.{map_joined}
+use Rattle.xs_flat_laws.proofs.Reaches.{each_left, each_right}
+use Rattle.xs_flat_laws.proofs.Conditions.{each_from}
+use Rattle.xs_flat_laws.proofs.KindLaws.{ItemFacts, kind_of_declaration}
+use Rattle.xs_flat_laws.proofs.Sections.{items_are}
+use Rattle.xs_flat_laws.proofs.Pigeons.{IsThere, AreApart, no_more_names}
+use Rattle.xs_flat_laws.proofs.Places.{VisitFacts, there, facts_named, all_visit_facts, are_instances}
+use Rattle.xs_flat_laws.proofs.Walkable.{accepted_walkable, main_is_there}
 use Rattle.xs_extend.specs.WovenFaults.{place_of, places_of, IsOfModule}
 use Rattle.xs_extend.specs.InstanceLaws.{instance_tree, IsNoInstance, AreNoInstances, DeclaresInVar, HasInstancesInVar, InstancesAreListed}
 

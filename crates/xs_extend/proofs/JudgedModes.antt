@@ -8,25 +8,25 @@ use Rattle.xs_tree.specs.ProgramTree.{Text, Formula, DeclaredTree, boolean, rang
 use Rattle.xs_tree.specs.Scope.{Place, Role, a_variable, kind_in, find_module}
 use Rattle.xs_tree.specs.Trace.{Each, IsVariable}
 use Rattle.xs_fei.specs.Instructions.{EffectTree, stuck_at, follows, inverted, random, erroneous, frozen, stuck_at_pick, offset, ramp_down}
-use Rattle.xs_effects.specs.Types.{IsUniform, IsNumberMember, IsSymbolMember}
-use Rattle.xs_weave.specs.Weavable.{NoNext, NoNextInTrees, NoNextInBranches, HasMeaning, IsReadable, IsLawfulGuard}
-use Rattle.xs_flattening.specs.Flat.{FlatLeaf, FlatVariable, FlatModel}
-use Rattle.xs_flattening.specs.Items.{Visit, visits, variables_of}
-use Rattle.xs_flattening.specs.Resolved.{Definition, Resolver, IsSound, IsResolved, leaves_in, has_next, trees_have_next, branches_have_next}
-use Rattle.xs_flattening.specs.Rules.{IsAccepted}
-use Rattle.xs_flattening.specs.Model.{IsVariableOf, EachBoth, IsFlatOf}
-use Rattle.xs_flattening.proofs.Conditions.{each_at}
-use Rattle.xs_flattening.proofs.Lists.{each_more}
-use Rattle.xs_flattening.proofs.Resolving.{Known, names_known}
-use Rattle.xs_flattening.proofs.Places.{has_main}
-use Rattle.xs_flattening.proofs.Walkable.{accepted_walkable, main_is_there}
-use Rattle.xs_flattening.proofs.Variables.{variables_are}
-use Rattle.xs_kinds.specs.Judged.{Class, number_class, symbol_class, KindRule, mixed_enum, unless_class, first_class}
-use Rattle.xs_kinds.specs.Declared.{member_kind, judged_declared}
-use Rattle.xs_kinds.specs.Models.{breaches_at, variable_breaches, IsTyped}
-use Rattle.xs_kinds.proofs.Parts.{none_first, none_second, class_kept}
-use Rattle.xs_kinds.proofs.ClosedLaws.{all_leaves}
-use Rattle.xs_kinds.proofs.WrittenLaws.{written_conditions_decided, IsReal, real_all}
+use Rattle.xs_fei.specs.Types.{IsUniform, IsNumberMember, IsSymbolMember}
+use Rattle.xs_fei.specs.Weavable.{NoNext, NoNextInTrees, NoNextInBranches, HasMeaning, IsReadable, IsLawfulGuard}
+use Rattle.xs_tree.specs.Flat.{FlatLeaf, FlatVariable, FlatModel}
+use Rattle.xs_flat_laws.specs.Items.{Visit, visits, variables_of}
+use Rattle.xs_flat_laws.specs.Resolved.{Definition, Resolver, IsSound, IsResolved, leaves_in, has_next, trees_have_next, branches_have_next}
+use Rattle.xs_flat_laws.specs.Rules.{IsAccepted}
+use Rattle.xs_flat_laws.specs.Model.{IsVariableOf, EachBoth, IsFlatOf}
+use Rattle.xs_flat_laws.proofs.Conditions.{each_at}
+use Rattle.xs_flat_laws.proofs.Lists.{each_more}
+use Rattle.xs_flat_laws.proofs.Resolving.{Known, names_known}
+use Rattle.xs_flat_laws.proofs.Places.{has_main}
+use Rattle.xs_flat_laws.proofs.Walkable.{accepted_walkable, main_is_there}
+use Rattle.xs_flat_laws.proofs.Variables.{variables_are}
+use Rattle.xs_type_laws.specs.Judged.{Class, number_class, symbol_class, KindRule, mixed_enum, unless_class, first_class}
+use Rattle.xs_type_laws.specs.Declared.{member_kind, judged_declared}
+use Rattle.xs_type_laws.specs.Models.{breaches_at, variable_breaches, IsTyped}
+use Rattle.xs_type_laws.proofs.Parts.{none_first, none_second, class_kept}
+use Rattle.xs_type_laws.proofs.ClosedLaws.{all_leaves}
+use Rattle.xs_type_laws.proofs.WrittenLaws.{written_conditions_decided, IsReal, real_all}
 use Rattle.xs_weave_rules.specs.Judged.{IsReadableEffect, IsJudgedMode}
 use Rattle.xs_extend.specs.JudgedLaws.{IsGoodMode, IsGoodEffect, IsGoodGuard, GoodModesAreJudged, TypesAreUniform, GoodIsJudged}
 

@@ -3,11 +3,11 @@ use Rattle.std.proofs.Common.{◌≡◌, Bool, true, false, not, ◌++◌, Optio
 use Rattle.std.specs.Option.{option_map}
 use Rattle.xs_tree.specs.Tree.{Tree}
 use Rattle.xs_tree.specs.ProgramTree.{DeclaredTree, ProgramTree}
-use Rattle.xs_flattening.specs.Flat.{FlatLeaf, FlatModel}
-use Rattle.xs_kinds.specs.Intervals.{Interval}
-use Rattle.xs_kinds.specs.Judged as found
-use Rattle.xs_kinds.specs.Judged.{Class, truth_class, number_class, symbol_class, KindRule, mismatch, not_boolean, same_class, rule_if}
-use Rattle.xs_kinds.specs.Models.{judged_in, least}
+use Rattle.xs_tree.specs.Flat.{FlatLeaf, FlatModel}
+use Rattle.xs_type_laws.specs.Intervals.{Interval}
+use Rattle.xs_type_laws.specs.Judged as found
+use Rattle.xs_type_laws.specs.Judged.{Class, truth_class, number_class, symbol_class, KindRule, mismatch, not_boolean, same_class, rule_if}
+use Rattle.xs_type_laws.specs.Models.{judged_in, least}
 use Rattle.xs_types.specs.Answers.{told_first, told_rules, told_rule}
 use Rattle.xs_types.specs.Calls.{fault_of, shown}
 use Rattle.xs_types.specs.Rows.{lower, unless}
@@ -15,8 +15,8 @@ use Rattle.xs_types.specs.declared.calls.Kind.{Kind}
 use Rattle.xs_types.specs.declared.fault.Rule.{Rule}
 use Rattle.xs_types.specs.declared.fault.Rule.TheVariants.{Mismatch, NotBoolean}
 use Rattle.xs_types.proofs.ToldLaws.{told_join}
-use Rattle.xs_extending.specs.Uses.{Use}
-use Rattle.xs_extending.specs.Expressions.{followed, KeepsNames, IsForm, broken_by, class_of_followed, class_of_guard, or_else, kind_rule, KeepsUse, of_kinds, IsBrokenAt, by_kinds}
+use Rattle.xs_extend_laws.specs.Uses.{Use}
+use Rattle.xs_extend_laws.specs.Expressions.{followed, KeepsNames, IsForm, broken_by, class_of_followed, class_of_guard, or_else, kind_rule, KeepsUse, of_kinds, IsBrokenAt, by_kinds}
 use Rattle.xs_extend.specs.declared.fault.Cause.{Cause}
 use Rattle.xs_extend.specs.declared.fault.Cause.TheVariants.{Kinds}
 use Rattle.xs_extend.specs.Refused.{IsWantOr}

@@ -8,18 +8,18 @@ use Rattle.xs_tree.specs.Written.{tree_of}
 use Rattle.xs_tree.specs.declared.expr.Expr.{Expr}
 use Rattle.xs_fei.specs.Instructions.{guard_tree}
 use Rattle.xs_tree.specs.Scope.{Place}
-use Rattle.xs_flattening.specs.Flat.{FlatModel}
-use Rattle.xs_flattening.specs.Rules.{Rule, number_of, no_main, main_has_parameters, double_module, double_name, no_such_module, wrong_count, module_loop, no_such_name, not_a_target, double_assign, define_loop, next_here, input_here, too_many, IsAccepted}
+use Rattle.xs_tree.specs.Flat.{FlatModel}
+use Rattle.xs_flat_laws.specs.Rules.{Rule, number_of, no_main, main_has_parameters, double_module, double_name, no_such_module, wrong_count, module_loop, no_such_name, not_a_target, double_assign, define_loop, next_here, input_here, too_many, IsAccepted}
 use Rattle.xs_scope.specs.declared.fault.FlatFault.{FlatFault}
-use Rattle.xs_flattening.specs.ValueRules.{IsLeastBroken}
+use Rattle.xs_flat_laws.specs.ValueRules.{IsLeastBroken}
 use Rattle.xs_scope.specs.Faults.{rule_of, IsFaultOf}
 use Rattle.xs_flat.specs.ResolvedAt.{IsValueFault}
-use Rattle.xs_scope.specs.declared.model.Flat.{Flat}
-use Rattle.xs_scope.specs.ModelTree.{flat_tree}
+use Rattle.xs_tree.specs.declared.model.Flat.{Flat}
+use Rattle.xs_tree.specs.ModelTree.{flat_tree}
 use Rattle.xs_flat.proofs.FlatFaults.{no_rule}
 use Rattle.xs_weave_rules.specs.declared.fault.Rule.TheVariants.{OutOfMemory}
-use Rattle.xs_extending.specs.Uses.{Use}
-use Rattle.xs_extending.specs.Expressions.{followed, BreaksNames, IsLeastOfNames, KeepsNames, IsForm, of_names, IsBrokenAt, by_names}
+use Rattle.xs_extend_laws.specs.Uses.{Use}
+use Rattle.xs_extend_laws.specs.Expressions.{followed, BreaksNames, IsLeastOfNames, KeepsNames, IsForm, of_names, IsBrokenAt, by_names}
 use Rattle.xs_extend.specs.declared.fault.Cause.{Cause}
 use Rattle.xs_extend.specs.declared.fault.Cause.TheVariants as causes
 use Rattle.xs_extend.specs.Guarded.{IsLeastOfSome, IsSomeKept, IsSomeFault, told_number, lower_fault, both_forms}

@@ -8,9 +8,9 @@ use Rattle.indexmap.specs.IndexMap.{insert_entry}
 use Rattle.xs_tree.specs.ProgramTree.{Text, Path}
 use Rattle.xs_tree.specs.Trace.{Each, AtSome}
 use Rattle.xs_tree.proofs.ValueLaws.{both_true}
-use Rattle.xs_scope.specs.declared.model.FlatModel.{FlatModel}
-use Rattle.xs_scope.specs.declared.model.Variable.{Variable}
-use Rattle.xs_scope.specs.declared.model.Fault.{Fault}
+use Rattle.xs_tree.specs.declared.model.FlatModel.{FlatModel}
+use Rattle.xs_tree.specs.declared.model.Variable.{Variable}
+use Rattle.xs_tree.specs.declared.model.Fault.{Fault}
 use Rattle.xs_extend.specs.declared.faults.WovenFault.{WovenFault}
 use Rattle.xs_extend.specs.NumberedFaults.{IsThere, IsNumbered, AreNumbered}
 use borrow.Author.Tests.{eqb-true, eq-eqb}

@@ -2,10 +2,10 @@
 use Rattle.std.proofs.Common.{◌≡◌, ◌≢◌, ℕ, suc, List, Option, Some, None, length, sym, ◌∙◌, ap, subst}
 use Rattle.xs_tree.specs.ProgramTree.{Text, ProgramTree}
 use Rattle.xs_fei.specs.Instructions.{InstructionTree}
-use Rattle.xs_flattening.specs.Flat.{FlatModel}
-use Rattle.xs_flattening.specs.Rules as rules
-use Rattle.xs_flattening.specs.Rules.{IsAccepted}
-use Rattle.xs_flattening.specs.Model.{IsFlatOf}
+use Rattle.xs_tree.specs.Flat.{FlatModel}
+use Rattle.xs_flat_laws.specs.Rules as rules
+use Rattle.xs_flat_laws.specs.Rules.{IsAccepted}
+use Rattle.xs_flat_laws.specs.Model.{IsFlatOf}
 use Rattle.xs_scope.specs.declared.fault.Rule.{Rule as FlatRule}
 use Rattle.xs_scope.specs.declared.fault.Rule.TheVariants as flat
 use Rattle.xs_scope.specs.declared.fault.FlatFault.{FlatFault}
@@ -16,9 +16,9 @@ use Rattle.xs_weave_rules.specs.Sites.{Site, item_sites}
 use Rattle.xs_weave_rules.specs.Rules.{broken_at}
 use Rattle.xs_weave_rules.specs.Counting.{count_broken_at}
 use Rattle.xs_weave_rules.specs.FirstBroken.{AllKept, IsFirstBroken}
-use Rattle.xs_extending.specs.Expressions.{AllUsesKept, UseRule, of_names, of_kinds, IsFirstUse}
-use Rattle.xs_extending.proofs.Splits.{one_split, none_broken}
-use Rattle.xs_extending.proofs.ExpressionLaws.{one_use, none_first}
+use Rattle.xs_extend_laws.specs.Expressions.{AllUsesKept, UseRule, of_names, of_kinds, IsFirstUse}
+use Rattle.xs_extend_laws.proofs.Splits.{one_split, none_broken}
+use Rattle.xs_extend_laws.proofs.ExpressionLaws.{one_use, none_first}
 use Rattle.xs_extend.specs.declared.fault.Cause.{Cause}
 use Rattle.xs_extend.specs.declared.fault.Cause.TheVariants.{Weave, Flat, Kinds}
 use Rattle.xs_extend.specs.declared.fault.WeaveFault.{WeaveFault}

@@ -4,16 +4,16 @@ use Rattle.std.specs.Prelude.{Result, Ok, Err, IfErr}
 use Rattle.std.proofs.Common.{inl, inr}
 use Rattle.xs_tree.specs.ProgramTree.{Text, ProgramTree}
 use Rattle.xs_fei.specs.Instructions.{InstructionTree}
-use Rattle.xs_flattening.specs.Flat.{FlatInstance, FlatModel}
-use Rattle.xs_flattening.specs.Rules.{IsAccepted}
-use Rattle.xs_flattening.specs.Model.{IsFlatOf}
-use Rattle.xs_kinds.specs.Models.{IsTyped}
-use Rattle.xs_kinds.proofs.Typed.{typed_has_none}
-use Rattle.xs_scope.specs.declared.model.Instance.{Instance}
-use Rattle.xs_scope.specs.ModelTree.{instance_tree}
+use Rattle.xs_tree.specs.Flat.{FlatInstance, FlatModel}
+use Rattle.xs_flat_laws.specs.Rules.{IsAccepted}
+use Rattle.xs_flat_laws.specs.Model.{IsFlatOf}
+use Rattle.xs_type_laws.specs.Models.{IsTyped}
+use Rattle.xs_type_laws.proofs.Typed.{typed_has_none}
+use Rattle.xs_tree.specs.declared.model.Instance.{Instance}
+use Rattle.xs_tree.specs.ModelTree.{instance_tree}
 use Rattle.xs_types.specs.Faults.{IsOfMemory, IsToldOf}
 use Rattle.xs_types.specs.declared.fault.TypeFault.{TypeFault}
-use Rattle.xs_extending.specs.Uses.{uses}
+use Rattle.xs_extend_laws.specs.Uses.{uses}
 use Rattle.xs_extend.specs.declared.fault.Cause.{Cause}
 use Rattle.xs_extend.specs.declared.fault.Cause.TheVariants.{Weave, Flat, Kinds}
 use Rattle.xs_extend.specs.declared.fault.WeaveFault.{WeaveFault}

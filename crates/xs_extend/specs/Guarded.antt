@@ -6,21 +6,21 @@ use Rattle.xs_tree.specs.ProgramTree.{Formula, DeclaredTree, ProgramTree, progra
 use Rattle.xs_tree.specs.Scope.{Place}
 use Rattle.xs_tree.specs.declared.program.Member.{Member}
 use Rattle.xs_fei.specs.Instructions.{ModeTree}
-use Rattle.xs_flattening.specs.Flat.{FlatLeaf, FlatModel}
-use Rattle.xs_flattening.specs.Rules.{Rule, number_of}
-use Rattle.xs_kinds.specs.Judged as found
-use Rattle.xs_kinds.specs.Judged.{Class, truth_class, number_class, symbol_class, same_class}
-use Rattle.xs_kinds.specs.Declared.{member_kind, judged_declared}
-use Rattle.xs_kinds.specs.Models.{judged_in}
+use Rattle.xs_tree.specs.Flat.{FlatLeaf, FlatModel}
+use Rattle.xs_flat_laws.specs.Rules.{Rule, number_of}
+use Rattle.xs_type_laws.specs.Judged as found
+use Rattle.xs_type_laws.specs.Judged.{Class, truth_class, number_class, symbol_class, same_class}
+use Rattle.xs_type_laws.specs.Declared.{member_kind, judged_declared}
+use Rattle.xs_type_laws.specs.Models.{judged_in}
 use Rattle.xs_tree.specs.declared.expr.Expr.{Expr}
-use Rattle.xs_scope.specs.declared.model.Flat.{Flat}
+use Rattle.xs_tree.specs.declared.model.Flat.{Flat}
 use Rattle.xs_scope.specs.declared.fault.FlatFault.{FlatFault}
 use Rattle.xs_scope.specs.Faults.{rule_of}
-use Rattle.xs_scope.specs.ModelTree.{model_tree}
+use Rattle.xs_tree.specs.ModelTree.{model_tree}
 use Rattle.xs_types.specs.declared.calls.Kind.{Kind}
 use Rattle.xs_types.specs.declared.calls.Kind.TheVariants.{Bool as ABool, Num, Sym}
-use Rattle.xs_extending.specs.Uses.{Use}
-use Rattle.xs_extending.specs.Expressions.{SomeBreaks}
+use Rattle.xs_extend_laws.specs.Uses.{Use}
+use Rattle.xs_extend_laws.specs.Expressions.{SomeBreaks}
 use Rattle.xs_types.specs.declared.fault.TypeFault.{TypeFault}
 use Rattle.xs_extend.specs.declared.guards.Nominal.{Nominal}
 use Rattle.xs_extend.specs.declared.guards.Resolved.{Resolved}

@@ -2,10 +2,10 @@
 use Rattle.std.specs.Prelude.{◌≡◌, List, map}
 use Rattle.xs_tree.specs.ProgramTree.{DeclaredTree, boolean, range, members, instance, DeclTree, SectionTree, var, ivar, frozen, define, constants, assign, init, invar, trans, ProgramTree}
 use Rattle.xs_tree.specs.Trace.{Each}
-use Rattle.xs_scope.specs.declared.model.Instance.{Instance}
-use Rattle.xs_flattening.specs.Flat.{FlatInstance}
-use Rattle.xs_flattening.specs.Items.{instances_of}
-use Rattle.xs_flattening.specs.Rules.{IsAccepted}
+use Rattle.xs_tree.specs.declared.model.Instance.{Instance}
+use Rattle.xs_tree.specs.Flat.{FlatInstance}
+use Rattle.xs_flat_laws.specs.Items.{instances_of}
+use Rattle.xs_flat_laws.specs.Rules.{IsAccepted}
 use Rattle.xs_extend.specs.WovenFaults.{place_of, AreInstancesOf}
 
 -- an instance of the code as one of the definitions

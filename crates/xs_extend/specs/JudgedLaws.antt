@@ -5,14 +5,14 @@ use Rattle.xs_tree.specs.ProgramTree.{Text, Formula, DeclaredTree, ModuleTree, P
 use Rattle.xs_tree.specs.Scope.{Place, Role, a_variable, kind_in}
 use Rattle.xs_tree.specs.Trace.{IsInstance, Each}
 use Rattle.xs_fei.specs.Instructions.{EffectTree, stuck_at, follows, inverted, random, erroneous, frozen, stuck_at_pick, offset, ramp_down, ModeTree, SliceTree, InstructionTree, slices_of}
-use Rattle.xs_effects.specs.Types.{IsUniform}
-use Rattle.xs_flattening.specs.Flat.{FlatLeaf, FlatModel}
-use Rattle.xs_flattening.specs.Resolved.{Definition, Resolver, IsSound, IsResolved, has_next}
-use Rattle.xs_flattening.specs.Rules.{IsAccepted}
-use Rattle.xs_flattening.specs.Model.{IsFlatOf}
-use Rattle.xs_kinds.specs.Models.{judged_in, broken_condition, IsTyped}
-use Rattle.xs_flattening.specs.Looks.{ActualsMean}
-use Rattle.xs_weave.specs.Weavable.{Among, IsLawfulInstance}
+use Rattle.xs_fei.specs.Types.{IsUniform}
+use Rattle.xs_tree.specs.Flat.{FlatLeaf, FlatModel}
+use Rattle.xs_flat_laws.specs.Resolved.{Definition, Resolver, IsSound, IsResolved, has_next}
+use Rattle.xs_flat_laws.specs.Rules.{IsAccepted}
+use Rattle.xs_flat_laws.specs.Model.{IsFlatOf}
+use Rattle.xs_type_laws.specs.Models.{judged_in, broken_condition, IsTyped}
+use Rattle.xs_flat_laws.specs.Looks.{ActualsMean}
+use Rattle.xs_fei.specs.Weavable.{Among, IsLawfulInstance}
 use Rattle.xs_weave_rules.specs.Judged.{IsJudgedMode, IsJudged}
 
 module _ (p : ProgramTree) (m : FlatModel) (written : List Definition) (at : Place) where

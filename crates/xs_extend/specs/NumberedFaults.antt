@@ -1,10 +1,10 @@
 -- The numbers that faults have in a flat model.
 use Rattle.std.specs.Prelude.{◌≡◌, ◌≤◌, ℕ, List, [], ◌∷◌, ◌++◌, Option, Some, None, slice_get}
 use Rattle.xs_tree.specs.ProgramTree.{Text, Path}
-use Rattle.xs_effects.specs.AddedNames.{mode_variable, mode_symbol}
-use Rattle.xs_scope.specs.declared.model.Variable.{Variable}
-use Rattle.xs_scope.specs.declared.model.FlatModel.{FlatModel}
-use Rattle.xs_scope.specs.declared.model.Fault.{Fault}
+use Rattle.xs_fei.specs.AddedNames.{mode_variable, mode_symbol}
+use Rattle.xs_tree.specs.declared.model.Variable.{Variable}
+use Rattle.xs_tree.specs.declared.model.FlatModel.{FlatModel}
+use Rattle.xs_tree.specs.declared.model.Fault.{Fault}
 use Rattle.xs_tree.specs.Trace.{Each, AtSome}
 use Rattle.xs_extend.specs.declared.faults.WovenFault.{WovenFault}
 use Rattle.xs_extend.specs.declared.list.Symbols.{Symbols}

@@ -2,15 +2,15 @@
 use Rattle.std.specs.Prelude.{◌≡◌, ◌≢◌, ℕ, List, Some, map}
 use Rattle.xs_tree.specs.ProgramTree.{Text, ProgramTree}
 use Rattle.xs_fei.specs.Instructions.{InstructionTree}
-use Rattle.xs_flattening.specs.Flat.{FlatInstance, FlatModel}
-use Rattle.xs_flattening.specs.Rules.{IsAccepted}
-use Rattle.xs_flattening.specs.Model.{IsFlatOf}
-use Rattle.xs_scope.specs.declared.model.Instance.{Instance}
+use Rattle.xs_tree.specs.Flat.{FlatInstance, FlatModel}
+use Rattle.xs_flat_laws.specs.Rules.{IsAccepted}
+use Rattle.xs_flat_laws.specs.Model.{IsFlatOf}
+use Rattle.xs_tree.specs.declared.model.Instance.{Instance}
 use Rattle.xs_scope.specs.Faults.{rule_of}
 use Rattle.xs_types.specs.Answers.{told_rule}
 use Rattle.xs_types.specs.Calls.{fault_of}
-use Rattle.xs_extending.specs.Uses.{Use}
-use Rattle.xs_extending.specs.Expressions.{UseRule, of_names, of_kinds, IsFirstAmong, IsFirstUse}
+use Rattle.xs_extend_laws.specs.Uses.{Use}
+use Rattle.xs_extend_laws.specs.Expressions.{UseRule, of_names, of_kinds, IsFirstAmong, IsFirstUse}
 use Rattle.xs_weave_rules.specs.Sites.{item_sites}
 use Rattle.xs_weave_rules.specs.Rules.{broken_at}
 use Rattle.xs_weave_rules.specs.Counting.{count_broken_at}

@@ -2,10 +2,10 @@
 use Rattle.std.specs.Prelude.{◌≡◌, List}
 use Rattle.xs_tree.specs.ProgramTree.{Text, ProgramTree}
 use Rattle.xs_fei.specs.Instructions.{InstructionTree}
-use Rattle.xs_flattening.specs.Flat.{FlatModel}
-use Rattle.xs_flattening.specs.Rules.{IsAccepted}
-use Rattle.xs_flattening.specs.Model.{IsFlatOf}
-use Rattle.xs_extending.specs.Expressions.{AllUsesKept}
+use Rattle.xs_tree.specs.Flat.{FlatModel}
+use Rattle.xs_flat_laws.specs.Rules.{IsAccepted}
+use Rattle.xs_flat_laws.specs.Model.{IsFlatOf}
+use Rattle.xs_extend_laws.specs.Expressions.{AllUsesKept}
 use Rattle.xs_extend.specs.declared.fault.WeaveFault.{WeaveFault}
 use Rattle.xs_extend.specs.Refused.{KeepsRules, IsTold, IsWant}
 

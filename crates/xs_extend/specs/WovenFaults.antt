@@ -4,7 +4,7 @@ use Rattle.xs_tree.specs.ProgramTree.{Path, ModuleTree, ProgramTree}
 use Rattle.xs_tree.specs.Trace.{Each, IsInstance}
 use Rattle.xs_tree.specs.Scope.{Place}
 use Rattle.xs_fei.specs.Instructions.{InstructionTree, slices_of}
-use Rattle.xs_scope.specs.declared.model.Instance.{Instance}
+use Rattle.xs_tree.specs.declared.model.Instance.{Instance}
 use Rattle.xs_weave.specs.Faults.{Fault, slice_faults, HasInstances}
 use Rattle.xs_extend.specs.declared.faults.WovenFault.{WovenFault}
 

@@ -10,9 +10,9 @@ ghost use Rattle.xs_extend.specs.WovenFaults.{place_of, fault_tree, instance_fau
 
 use std::alloc::Global;
 use xs_fei::{Extension, Instructions, ModeRule, Slice};
-use xs_flat::Instance;
-use xs_scope::copy::copy_path;
 use xs_tree::Program;
+use xs_tree::copy_model::copy_path;
+use xs_tree::model::Instance;
 use xs_value::{Dotted, Items, Name, OutOfMemory};
 
 /// A woven program and its faults.

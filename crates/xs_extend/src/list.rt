@@ -3,14 +3,14 @@
 ghost use Rattle.std.specs.Prelude.{◌≡◌, ◌↔◌, ◌∷◌, ◌++◌, ◌^◌, ◌<◌, [], ℕ, IfOk, IsOk, OnOk, Some, IsTrue, slice_get};
 ghost use Rattle.xs_tree.specs.Trace.{Each};
 ghost use Rattle.xs_tree.specs.ProgramTree.{Text};
-ghost use Rattle.xs_effects.specs.AddedNames.{mode_variable as mode_variable_of, mode_symbol as mode_symbol_of};
+ghost use Rattle.xs_fei.specs.AddedNames.{mode_variable as mode_variable_of, mode_symbol as mode_symbol_of};
 ghost use Rattle.xs_extend.specs.NumberedFaults.{parts_of, HasMode, HaveModes, IsNumbered, AreNumbered, AreSymbols, KnowsSymbol, HasPath, IsThere};
 
 use crate::faults::{Woven, WovenFault};
 use indexmap::IndexMap;
 use std::alloc::Global;
-use xs_effects::{mode_symbol, mode_variable};
-use xs_flat::{Fault, FaultList, FlatModel, Variable};
+use xs_fei::{mode_symbol, mode_variable};
+use xs_tree::model::{Fault, FaultList, FlatModel, Variable};
 use xs_value::{Dotted, Items, Name, OutOfMemory};
 
 /// The symbols of a model by their texts, with their numbers.

@@ -1,3 +1,13 @@
 pub mod InstructionSpells
 pub mod OneInstructions
 pub mod SpelledInstructions
+pub mod AddedNameLaws
+pub mod Equivalence
+pub mod TemplateLaws
+pub mod EffectRows
+pub mod EffectRowLaw
+pub mod AllowedLaws
+pub mod Examples
+pub mod AmongLaws
+pub mod OwnNames
+pub mod FoundModules

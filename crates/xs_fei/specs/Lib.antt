@@ -2,3 +2,13 @@ pub mod Instructions
 pub mod SpellsInstructions
 pub mod InstructionText
 pub mod WritableInstructions
+pub mod AddedNames
+pub mod Types
+pub mod Numbers
+pub mod Effects
+pub mod Templates
+pub mod EffectLaw
+pub mod Allowed
+pub mod KindTypes
+pub mod Weavable
+pub mod WeaveNumbers

@@ -5,16 +5,16 @@ use Rattle.xs_desk.specs.declared.files.NamedFile.{NamedFile}
 use Rattle.xs_desk.specs.Desk.{said_more, SaysPrefix}
 use Rattle.xs_tree.specs.Tree.{Tree}
 use Rattle.xs_tree.specs.ProgramTree.{Text, ProgramTree}
-use Rattle.xs_flattening.specs.Flat.{FlatLeaf, FlatModel}
-use Rattle.xs_flattening.specs.History.{Mode, with_history}
-use Rattle.xs_scope.specs.ModelTree.{flat_tree}
-use Rattle.xs_kinds.specs.Models.{IsTyped}
+use Rattle.xs_tree.specs.Flat.{FlatLeaf, FlatModel}
+use Rattle.xs_flat_laws.specs.History.{Mode, with_history}
+use Rattle.xs_tree.specs.ModelTree.{flat_tree}
+use Rattle.xs_type_laws.specs.Models.{IsTyped}
 use Rattle.xs_weave.specs.Faults.{Fault}
-use Rattle.xs_analysis_text.specs.AnalysisText.{size_line}
-use Rattle.xs_analysis_text.specs.Analysis.{told_ending}
-use Rattle.xs_certificate.specs.Certificate.{Certificate}
-use Rattle.xs_causes.specs.Causes.{CommonCause}
-use Rattle.xs_causes.specs.Staged.{with_causes, events_of}
+use Rattle.xs_text_laws.specs.AnalysisText.{size_line}
+use Rattle.xs_text_laws.specs.Analysis.{told_ending}
+use Rattle.xs_certificate_laws.specs.Certificate.{Certificate}
+use Rattle.xs_cause_laws.specs.Causes.{CommonCause}
+use Rattle.xs_cause_laws.specs.Staged.{with_causes, events_of}
 use Rattle.xs_causes_reader.specs.declared.fault.CauseFault.{CauseFault}
 use Rattle.xs_causes_reader.specs.declared.fault.CauseFault.TheVariants as cause_fault
 use Rattle.xs_causes_reader.specs.Broken.{rule_of}

@@ -4,19 +4,19 @@ use Rattle.xs_desk.specs.declared.files.NamedFile.{NamedFile}
 use Rattle.xs_tree.specs.Tree.{Tree}
 use Rattle.xs_tree.specs.ProgramTree.{Text, Formula, ProgramTree}
 use Rattle.xs_tree.specs.Values.{Value}
-use Rattle.xs_scope.specs.ModelTree.{flat_tree}
-use Rattle.xs_flattening.specs.Flat.{FlatLeaf, FlatModel}
-use Rattle.xs_flattening.specs.FlatTrace.{IsFlatTrace}
-use Rattle.xs_flattening.specs.History.{Mode, with_history}
-use Rattle.xs_encoded.specs.FlatTraces.{ReachesTop, HasFailedNumber}
+use Rattle.xs_tree.specs.ModelTree.{flat_tree}
+use Rattle.xs_tree.specs.Flat.{FlatLeaf, FlatModel}
+use Rattle.xs_flat_laws.specs.FlatTrace.{IsFlatTrace}
+use Rattle.xs_flat_laws.specs.History.{Mode, with_history}
+use Rattle.xs_encode_laws.specs.FlatTraces.{ReachesTop, HasFailedNumber}
 use Rattle.xs_weave.specs.Faults.{Fault}
-use Rattle.xs_trace_text.specs.Given.{GivesTrace}
-use Rattle.xs_certificate.specs.Certificate.{Certificate}
-use Rattle.xs_certificate.specs.Accepted.{number_of}
-use Rattle.xs_certificate.proofs.Objections.{one_objection}
-use Rattle.xs_subject.specs.Subject.{subject_of}
-use Rattle.xs_causes.specs.Causes.{CommonCause}
-use Rattle.xs_causes.specs.Staged.{with_causes, events_of}
+use Rattle.xs_text_laws.specs.Given.{GivesTrace}
+use Rattle.xs_certificate_laws.specs.Certificate.{Certificate}
+use Rattle.xs_certificate_laws.specs.Accepted.{number_of}
+use Rattle.xs_certificate_laws.proofs.Objections.{one_objection}
+use Rattle.xs_certificate_laws.specs.Subject.{subject_of}
+use Rattle.xs_cause_laws.specs.Causes.{CommonCause}
+use Rattle.xs_cause_laws.specs.Staged.{with_causes, events_of}
 use Rattle.xs_causes_reader.specs.CausesRead.{IsCauses}
 use Rattle.xs_causes_reader.specs.Read.{AreRead}
 use Rattle.xs_causes_reader.proofs.OneReading.{one_reading, one_broken, read_unbroken}

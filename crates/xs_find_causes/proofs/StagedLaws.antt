@@ -7,58 +7,59 @@ use Rattle.xs_tree.specs.ProgramTree.{Text, Path, DeclaredTree, boolean, range, 
 use Rattle.xs_tree.specs.Trace.{Each}
 use Rattle.xs_tree.specs.Values.{Value}
 use Rattle.xs_tree.specs.WritableProgram.{IsWritableType}
-use Rattle.xs_scope.specs.ModelTree.{model_tree, mode_of, flat_tree}
-use Rattle.xs_scope.specs.declared.model.Fault.{Fault}
-use Rattle.xs_scope.specs.declared.model.FlatModel.{FlatModel as Made}
-use Rattle.xs_flattening.specs.Flat.{FlatLeaf, FlatVariable, FlatModel}
-use Rattle.xs_flattening.specs.FlatTrace.{IsFlatTrace}
-use Rattle.xs_flattening.specs.History.{Mode, with_history}
-use Rattle.xs_flattening.specs.Model.{IsFlatOf}
-use Rattle.xs_flattening.specs.Rules.{IsAccepted}
-use Rattle.xs_kinds.specs.Models.{IsTyped}
-use Rattle.xs_encoded.specs.FlatTraces.{ReachesTop, HasFailedNumber}
-use Rattle.xs_encoded.specs.Laws.{AreOwn}
-use Rattle.xs_encoding.specs.Bits.{state_of, inputs_of}
-use Rattle.xs_encoding.specs.Lists.{system_of}
-use Rattle.xs_encoding.specs.Laws.{HasMember}
+use Rattle.xs_tree.specs.ModelTree.{model_tree, flat_tree}
+use Rattle.xs_flat_laws.specs.FaultModes.{mode_of}
+use Rattle.xs_tree.specs.declared.model.Fault.{Fault}
+use Rattle.xs_tree.specs.declared.model.FlatModel.{FlatModel as Made}
+use Rattle.xs_tree.specs.Flat.{FlatLeaf, FlatVariable, FlatModel}
+use Rattle.xs_flat_laws.specs.FlatTrace.{IsFlatTrace}
+use Rattle.xs_flat_laws.specs.History.{Mode, with_history}
+use Rattle.xs_flat_laws.specs.Model.{IsFlatOf}
+use Rattle.xs_flat_laws.specs.Rules.{IsAccepted}
+use Rattle.xs_type_laws.specs.Models.{IsTyped}
+use Rattle.xs_encode_laws.specs.FlatTraces.{ReachesTop, HasFailedNumber}
+use Rattle.xs_encode_laws.specs.EncodedLaws.{AreOwn}
+use Rattle.xs_encode_laws.specs.Bits.{state_of, inputs_of}
+use Rattle.xs_encode_laws.specs.Lists.{system_of}
+use Rattle.xs_encode_laws.specs.Laws.{HasMember}
 use Rattle.xs_cuts.specs.Answer.{IsAnswer}
 use Rattle.xs_cuts.specs.declared.answer.Analysis.{Analysis as Searched}
-use Rattle.xs_encoding.specs.Encodable.{IsEncodable}
-use Rattle.xs_encoding.proofs.FlatEncodable.{flat_models_encodable}
-use Rattle.xs_encoded_search.specs.Searchable.{IsSearchable}
-use Rattle.xs_encoded_search.proofs.Fitting.{few_faults}
+use Rattle.xs_encode_laws.specs.Encodable.{IsEncodable}
+use Rattle.xs_encode_laws.proofs.FlatEncodable.{flat_models_encodable}
+use Rattle.xs_cut_laws.specs.Searchable.{IsSearchable}
+use Rattle.xs_cut_laws.proofs.Fitting.{few_faults}
 use Rattle.xs_extend.specs.WovenFaults.{place_of, fault_tree}
 use Rattle.xs_extend.specs.NumberedFaults.{parts_of, AreNumbered}
 use Rattle.xs_extend.specs.declared.faults.WovenFault.{WovenFault}
-use Rattle.xs_trace_text.specs.Laws.{IsNamed}
-use Rattle.xs_trace_text.specs.Given.{GivesTrace}
-use Rattle.xs_trace_text.proofs.FlatNames.{flat_models_named}
-use Rattle.xs_trace_text.proofs.Named.{named_is_printable}
-use Rattle.xs_certificate.specs.Certificate.{Certificate}
-use Rattle.xs_certificate.specs.Accepted.{Subject, IsAccepted as Accepts, IsObjection}
-use Rattle.xs_certificate.proofs.Objections.{accepted_has_none}
-use Rattle.xs_certified.specs.Certified.{IsSubjectOf, IsCertified}
-use Rattle.xs_subject.specs.Subject.{subject_of}
-use Rattle.xs_subject.proofs.Subjects.{subjects_right}
+use Rattle.xs_text_laws.specs.Laws.{IsNamed}
+use Rattle.xs_text_laws.specs.Given.{GivesTrace}
+use Rattle.xs_text_laws.proofs.FlatNames.{flat_models_named}
+use Rattle.xs_text_laws.proofs.Named.{named_is_printable}
+use Rattle.xs_certificate_laws.specs.Certificate.{Certificate}
+use Rattle.xs_certificate_laws.specs.Accepted.{Subject, IsAccepted as Accepts, IsObjection}
+use Rattle.xs_certificate_laws.proofs.Objections.{accepted_has_none}
+use Rattle.xs_certificate_laws.specs.Certified.{IsSubjectOf, IsCertified}
+use Rattle.xs_certificate_laws.specs.Subject.{subject_of}
+use Rattle.xs_certificate_laws.proofs.Subjects.{subjects_right}
 use Rattle.xs_check.specs.Matter.{matter_of, IsAcceptedIn}
 use Rattle.xs_check.specs.Found.{IsObjectionOf}
 use Rattle.xs_check.specs.Fit.{IsFit, IsCheckable}
-use Rattle.xs_woven_tops.specs.Tops.{IsReadAs, IsTopOf}
-use Rattle.xs_woven_tops.proofs.Fits.{tops_fit}
-use Rattle.xs_causes.specs.Causes.{CommonCause, IsCauseOf}
-use Rattle.xs_causes.specs.CauseRules.{fault_path}
-use Rattle.xs_causes.specs.Staged.{with_causes, events_of}
+use Rattle.xs_woven_laws.specs.Tops.{IsReadAs, IsTopOf}
+use Rattle.xs_woven_laws.proofs.Fits.{tops_fit}
+use Rattle.xs_cause_laws.specs.Causes.{CommonCause, IsCauseOf}
+use Rattle.xs_cause_laws.specs.CauseRules.{fault_path}
+use Rattle.xs_cause_laws.specs.Staged.{with_causes, events_of}
 use Rattle.xs_staging.specs.declared.cause.Cause.{Cause}
 use Rattle.xs_staging.specs.CauseOf.{cause_of, told_name, told_cause}
 use Rattle.xs_causes_reader.specs.FaultPaths.{path_of, paths_of}
 use Rattle.xs_causes_reader.specs.Read.{AreNamed as AreFaultNames}
-use Rattle.xs_caused.specs.Laws.{CanHaveCauses, IsSearchableStaged, AreNamed}
-use Rattle.xs_caused.specs.Shown.{CertifiesCauses, IsCausedAnalysis}
-use Rattle.xs_caused.proofs.Events.{caused_searchable}
-use Rattle.xs_caused.proofs.Loaded.{state_modes, history_inputs, staged_symbols}
-use Rattle.xs_caused.proofs.NamedLaws.{caused_named, spelled_words}
-use Rattle.xs_caused.proofs.Shown.{accepted_certifies}
-use Rattle.xs_caused.proofs.Answered.{answers_caused}
+use Rattle.xs_reach_laws.specs.CausedLaws.{CanHaveCauses, IsSearchableStaged, AreNamed}
+use Rattle.xs_reach_laws.specs.Shown.{CertifiesCauses, IsCausedAnalysis}
+use Rattle.xs_reach_laws.proofs.Events.{caused_searchable}
+use Rattle.xs_reach_laws.proofs.Loaded.{state_modes, history_inputs, staged_symbols}
+use Rattle.xs_reach_laws.proofs.NamedLaws.{caused_named, spelled_words}
+use Rattle.xs_reach_laws.proofs.Shown.{accepted_certifies}
+use Rattle.xs_reach_laws.proofs.Answered.{answers_caused}
 use Rattle.xs_loading.specs.declared.loaded.LoadedCase.{LoadedCase}
 use Rattle.xs_loading.specs.declared.status.Objection.TheVariants as objection
 use Rattle.xs_loading.specs.declared.status.Refusal.TheVariants as shared_refusal

@@ -6,36 +6,37 @@ use Rattle.xs_tree.specs.Tree.{Tree}
 use Rattle.xs_tree.specs.ProgramTree.{Text, Path, Formula, ProgramTree, program_tree}
 use Rattle.xs_tree.specs.Values.{Value}
 use Rattle.xs_tree.specs.Trace.{Each}
-use Rattle.xs_scope.specs.ModelTree.{model_tree, mode_of, flat_tree}
-use Rattle.xs_flattening.specs.Flat.{FlatLeaf, FlatModel}
-use Rattle.xs_flattening.specs.FlatTrace.{IsFlatTrace}
-use Rattle.xs_flattening.specs.History.{Mode, with_history}
-use Rattle.xs_scope.specs.declared.model.Fault.{Fault as Event}
-use Rattle.xs_encoded.specs.FlatTraces.{ReachesTop, HasFailedNumber}
-use Rattle.xs_kinds.specs.Models.{IsTyped}
+use Rattle.xs_tree.specs.ModelTree.{model_tree, flat_tree}
+use Rattle.xs_flat_laws.specs.FaultModes.{mode_of}
+use Rattle.xs_tree.specs.Flat.{FlatLeaf, FlatModel}
+use Rattle.xs_flat_laws.specs.FlatTrace.{IsFlatTrace}
+use Rattle.xs_flat_laws.specs.History.{Mode, with_history}
+use Rattle.xs_tree.specs.declared.model.Fault.{Fault as Event}
+use Rattle.xs_encode_laws.specs.FlatTraces.{ReachesTop, HasFailedNumber}
+use Rattle.xs_type_laws.specs.Models.{IsTyped}
 use Rattle.xs_weave.specs.Faults.{Fault}
 use Rattle.xs_extend.specs.WovenFaults.{fault_tree}
-use Rattle.xs_trace_text.specs.Laws.{IsNamed}
-use Rattle.xs_trace_text.specs.Given.{GivesTrace}
-use Rattle.xs_certificate.specs.Certificate.{Certificate}
-use Rattle.xs_certificate.specs.Accepted.{Rule, IsObjection}
-use Rattle.xs_subject.specs.Subject.{subject_of}
+use Rattle.xs_text_laws.specs.Laws.{IsNamed}
+use Rattle.xs_text_laws.specs.Given.{GivesTrace}
+use Rattle.xs_certificate_laws.specs.Certificate.{Certificate}
+use Rattle.xs_certificate_laws.specs.Accepted.{Rule, IsObjection}
+use Rattle.xs_certificate_laws.specs.Subject.{subject_of}
 use Rattle.xs_cuts.specs.declared.answer.Analysis.{Analysis as Searched}
-use Rattle.xs_cuts_extended.specs.Answered.{ending_of}
-use Rattle.xs_analysis_text.specs.AnalysisText.{size_line, analysis_text}
+use Rattle.xs_report_laws.specs.Answered.{ending_of}
+use Rattle.xs_text_laws.specs.AnalysisText.{size_line, analysis_text}
 use Rattle.xs_report.specs.Analysed.{told_analysis}
-use Rattle.xs_analysis_text.specs.Analysis.{told_ending}
+use Rattle.xs_text_laws.specs.Analysis.{told_ending}
 use Rattle.xs_report.specs.FaultText.{name_of, faults_text}
-use Rattle.xs_kinds.specs.Costs.{state_bits}
-use Rattle.xs_causes.specs.Causes.{CommonCause, IsCauseOf}
-use Rattle.xs_causes.specs.CauseRules.{fault_path}
-use Rattle.xs_causes.specs.Staged.{with_causes, events_of}
+use Rattle.xs_type_laws.specs.Costs.{state_bits}
+use Rattle.xs_cause_laws.specs.Causes.{CommonCause, IsCauseOf}
+use Rattle.xs_cause_laws.specs.CauseRules.{fault_path}
+use Rattle.xs_cause_laws.specs.Staged.{with_causes, events_of}
 use Rattle.xs_staging.specs.declared.cause.Cause.{Cause}
 use Rattle.xs_staging.specs.CauseOf.{cause_of}
 use Rattle.xs_causes_reader.specs.Read.{AreRead}
-use Rattle.xs_caused.specs.Names.{AreApart}
-use Rattle.xs_caused.specs.Laws.{AreNamed}
-use Rattle.xs_caused.specs.Shown.{CertifiesCauses, IsCausedAnalysis}
+use Rattle.xs_reach_laws.specs.Names.{AreApart}
+use Rattle.xs_reach_laws.specs.CausedLaws.{AreNamed}
+use Rattle.xs_reach_laws.specs.Shown.{CertifiesCauses, IsCausedAnalysis}
 use Rattle.xs_loading.specs.declared.loaded.LoadedCase.{LoadedCase}
 use Rattle.xs_loading.specs.declared.status.InputFault.{InputFault as SharedFault}
 use Rattle.xs_loading.specs.declared.wrong.Wrong.{Wrong}

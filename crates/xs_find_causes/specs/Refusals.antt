@@ -5,21 +5,21 @@ use Rattle.xs_desk.specs.Files.{file_of, content_of}
 use Rattle.xs_tree.specs.Tree.{Tree}
 use Rattle.xs_tree.specs.ProgramTree.{Text, Formula, ProgramTree}
 use Rattle.xs_tree.specs.Values.{Value}
-use Rattle.xs_flattening.specs.Flat.{FlatLeaf, FlatModel}
-use Rattle.xs_flattening.specs.FlatTrace.{IsFlatTrace}
-use Rattle.xs_flattening.specs.History.{Mode, with_history}
-use Rattle.xs_encoded.specs.FlatTraces.{ReachesTop, HasFailedNumber}
-use Rattle.xs_kinds.specs.Models.{IsTyped}
+use Rattle.xs_tree.specs.Flat.{FlatLeaf, FlatModel}
+use Rattle.xs_flat_laws.specs.FlatTrace.{IsFlatTrace}
+use Rattle.xs_flat_laws.specs.History.{Mode, with_history}
+use Rattle.xs_encode_laws.specs.FlatTraces.{ReachesTop, HasFailedNumber}
+use Rattle.xs_type_laws.specs.Models.{IsTyped}
 use Rattle.xs_expression_reader.specs.declared.fault.ParseFault.{ParseFault}
 use Rattle.xs_expression_reader.specs.Stops.{FaultMeans}
 use Rattle.xs_weave.specs.Faults.{Fault}
-use Rattle.xs_trace_text.specs.Given.{GivesTrace}
-use Rattle.xs_certificate.specs.Certificate.{Certificate}
-use Rattle.xs_certificate.specs.Accepted.{Rule, number_of, IsObjection}
-use Rattle.xs_subject.specs.Subject.{subject_of}
-use Rattle.xs_causes.specs.Causes.{CommonCause}
-use Rattle.xs_causes.specs.CauseRules.{CauseRule, no_such_fault, double_cause, double_strike, empty_window, too_wide, too_many, name_taken}
-use Rattle.xs_causes.specs.Staged.{with_causes, events_of}
+use Rattle.xs_text_laws.specs.Given.{GivesTrace}
+use Rattle.xs_certificate_laws.specs.Certificate.{Certificate}
+use Rattle.xs_certificate_laws.specs.Accepted.{Rule, number_of, IsObjection}
+use Rattle.xs_certificate_laws.specs.Subject.{subject_of}
+use Rattle.xs_cause_laws.specs.Causes.{CommonCause}
+use Rattle.xs_cause_laws.specs.CauseRules.{CauseRule, no_such_fault, double_cause, double_strike, empty_window, too_wide, too_many, name_taken}
+use Rattle.xs_cause_laws.specs.Staged.{with_causes, events_of}
 use Rattle.xs_causes_reader.specs.declared.fault.CauseFault.{CauseFault}
 use Rattle.xs_causes_reader.specs.declared.fault.CauseFault.TheVariants as cause_fault
 use Rattle.xs_causes_reader.specs.Broken.{rule_of}

@@ -2,8 +2,9 @@
 ghost use Rattle.std.specs.Prelude.{◌≡◌, ◌<◌, ◌≤◌, ◌^◌, ℕ, length, map, IfOk, OnOk, OnErr, IfSome, IsErrOf};
 ghost use Rattle.xs_desk.specs.Desk.{Rose, said_more};
 ghost use Rattle.xs_desk.specs.declared.desk.WriteStop.TheVariants as write_stop;
-ghost use Rattle.xs_scope.specs.ModelTree.{model_tree, mode_of, flat_tree};
-ghost use Rattle.xs_analysis_text.specs.Analysis.{told_ending};
+ghost use Rattle.xs_tree.specs.ModelTree.{model_tree, flat_tree};
+ghost use Rattle.xs_flat_laws.specs.FaultModes.{mode_of};
+ghost use Rattle.xs_text_laws.specs.Analysis.{told_ending};
 ghost use Rattle.xs_cert.specs.Seen.{seen};
 ghost use Rattle.xs_check.specs.Fit.{IsCheckable};
 ghost use Rattle.xs_cuts.specs.declared.answer.End.TheVariants as ends;
@@ -20,13 +21,11 @@ ghost use Rattle.xs_find_causes.specs.Refusals.{RefusesStaged, BreaksLine, Refus
 use crate::staged::{StagedEvent, discard, load_staged};
 use std::alloc::Global;
 use xs_adviser::Panel;
-use xs_analysis::analyse;
+use xs_case_search::{analyse, certify, told};
 use xs_cert::{Certificate, write};
 use xs_certificate_file::certificate::{accepted_report, line_stop, load_certificate};
-use xs_certify::certify;
 use xs_check::{Judged, check};
 use xs_cuts::answer::{Analysis, End};
-use xs_cuts_extended::told;
 use xs_desk::{Desk, WriteStop, say_whole, write_whole};
 use xs_reach_status::status::{Status, ended_as};
 use xs_reach_status::stop::Stop;

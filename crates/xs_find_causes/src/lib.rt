@@ -3,7 +3,7 @@
 //! [`causes::find_causes`] reads a model, instructions and a causes file, and searches the staged model, whose events are the
 //! faults that begin by themselves and the causes; [`causes::check_causes`] judges a certificate of that. The files stand in
 //! the order of the work: `staged` (what is loaded) and `causes` (both verbs). Causes are read in `xs_causes_reader`, the
-//! staged model is made by `xs_staging`, and what it means stands in `xs_caused`.
+//! staged model is made by `xs_staging`, and what it means stands in `xs_reach_laws`.
 //!
 //! ```text
 //! causes --model pair.smv --faults pair.fei --causes surge.txt --top 'a & b' --depth 200 --cert pair.cert

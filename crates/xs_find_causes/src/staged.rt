@@ -9,7 +9,7 @@ ghost use Rattle.xs_loading.specs.LoadedEvents.{case_in};
 ghost use Rattle.xs_loading.specs.Models.{IsLawful};
 ghost use Rattle.xs_loading.specs.Loaded.{case_of, IsLoaded, IsTopIn};
 ghost use Rattle.xs_tree.specs.ProgramTree.{Text, program_tree};
-ghost use Rattle.xs_scope.specs.ModelTree.{model_tree, flat_tree};
+ghost use Rattle.xs_tree.specs.ModelTree.{model_tree, flat_tree};
 ghost use Rattle.xs_causes_reader.specs.Broken.{rule_of};
 ghost use Rattle.xs_reach_status.specs.declared.status.Refusal.{Refusal};
 ghost use Rattle.xs_reach_status.specs.declared.status.Refusal.TheVariants as refusal;
@@ -21,7 +21,7 @@ ghost use Rattle.xs_find_causes.specs.Refusals.{cause_number, stop_of_causes, Is
 use std::alloc::Global;
 use xs_causes_reader::{CauseFault, CauseRule, read_causes};
 use xs_desk::{Desk, DeskFault, read_whole};
-use xs_flat::{FaultList, Flat, with_history};
+use xs_flat::with_history;
 use xs_loading::event::LoadedEvent;
 use xs_loading::loaded::{LoadedCase, load_case, typed_whole};
 use xs_loading::model::{LoadedModel, load_model};
@@ -32,6 +32,7 @@ use xs_reach_status::status::{InputFault, Part, Refusal};
 use xs_reach_status::stop::Stop;
 use xs_staging::{CauseList, with_causes};
 use xs_tree::Expr;
+use xs_tree::model::{FaultList, Flat};
 use xs_types::Typed;
 
 /// The limit of a causes file, in bytes.

@@ -7,12 +7,13 @@ use Rattle.std.proofs.lemmas.List.Elements.{All-from_recursion}
 use Rattle.xs_tree.specs.Tree.{Tree}
 use Rattle.xs_tree.specs.Trace.{Each}
 use Rattle.xs_tree.specs.ProgramTree.{Text, Formula, ProgramTree}
-use Rattle.xs_scope.specs.ModelTree.{model_tree, mode_of}
-use Rattle.xs_kinds.specs.Costs.{state_bits}
-use Rattle.xs_flattening.specs.Flat.{FlatLeaf}
-use Rattle.xs_encoding.specs.Bits.{state_of, inputs_of}
-use Rattle.xs_encoding.specs.Lists.{system_of}
-use Rattle.xs_encoded.specs.FlatTraces.{IsNumbered}
+use Rattle.xs_tree.specs.ModelTree.{model_tree}
+use Rattle.xs_flat_laws.specs.FaultModes.{mode_of}
+use Rattle.xs_type_laws.specs.Costs.{state_bits}
+use Rattle.xs_tree.specs.Flat.{FlatLeaf}
+use Rattle.xs_encode_laws.specs.Bits.{state_of, inputs_of}
+use Rattle.xs_encode_laws.specs.Lists.{system_of}
+use Rattle.xs_encode_laws.specs.FlatTraces.{IsNumbered}
 use Rattle.xs_extend.specs.WovenFaults.{fault_tree}
 use Rattle.xs_fei.specs.Instructions.{InstructionTree}
 use Rattle.xs_weave.specs.Faults.{Fault}
@@ -27,15 +28,15 @@ use Rattle.xs_odds.proofs.Sums.{sums_bounded}
 use Rattle.xs_odds.proofs.UnitLemmas.{odds_at_most_one}
 use Rattle.xs_report.specs.FaultText as lines
 use Rattle.xs_report.specs.FaultText.{name_of}
-use Rattle.xs_analysis_text.specs.Analysis.{told_ending}
+use Rattle.xs_text_laws.specs.Analysis.{told_ending}
 use Rattle.xs_value.specs.declared.ending.Ending.{Ending as Printed}
 use Rattle.xs_cuts.specs.Answer.{IsAnswer}
 use Rattle.xs_cuts.specs.declared.answer.Analysis.{Analysis as Searched}
 use Rattle.xs_cuts.proofs.SearchLemmas.{sets_numbered}
-use Rattle.xs_cuts_extended.specs.Answered as found
-use Rattle.xs_cuts_extended.specs.Answered.{ending_of, analysis_of}
-use Rattle.xs_cuts_extended.proofs.Analyses.{answers_are_analyses}
-use Rattle.xs_reporting.specs.ExtendedTraces.{Ending, complete, bounded}
+use Rattle.xs_report_laws.specs.Answered as found
+use Rattle.xs_report_laws.specs.Answered.{ending_of, analysis_of}
+use Rattle.xs_report_laws.proofs.Analyses.{answers_are_analyses}
+use Rattle.xs_report_laws.specs.ExtendedTraces.{Ending, complete, bounded}
 use Rattle.xs_loading.specs.declared.loaded.LoadedCase.{LoadedCase}
 use Rattle.xs_loading.specs.Cases.{Case, whole_of}
 use Rattle.xs_loading.specs.Tasks.{IsTopTree}

@@ -19,7 +19,7 @@ use Rattle.xs_reach_status.specs.declared.status.Refusal.TheVariants as refusal
 use Rattle.xs_reach_status.specs.declared.status.Status.{Status}
 use Rattle.xs_find_odds.specs.declared.odds.Marked.{Marked}
 use Rattle.xs_find_odds.specs.declared.odds.FoundOdds.{FoundOdds}
-use Rattle.xs_analysis_text.specs.Analysis.{told_ending}
+use Rattle.xs_text_laws.specs.Analysis.{told_ending}
 use Rattle.xs_reach_status.specs.Finished.{ended_with}
 use Rattle.xs_find_odds.specs.Odds.{RefusesOdds, at_model, at_faults, at_mark, at_top, RefusesMark, IsMarked, IsOddsFinding, IsOddsAnswer, FindsOdds, HasOdds, SaysOddsInPart}
 

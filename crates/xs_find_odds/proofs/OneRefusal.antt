@@ -6,7 +6,7 @@ use Rattle.xs_tree.specs.Trace.{Each}
 use Rattle.xs_fei.specs.Instructions.{InstructionTree}
 use Rattle.xs_odds.specs.declared.mode_marks.MarkFault.{MarkFault}
 use Rattle.xs_odds.specs.Marks.{IsFirstMarkFault, HasProbabilities}
-use Rattle.xs_reporting.specs.ExtendedTraces.{Analysis}
+use Rattle.xs_report_laws.specs.ExtendedTraces.{Analysis}
 use Rattle.xs_loading.specs.declared.status.Refusal.TheVariants as shared_refusal
 use Rattle.xs_loading.specs.Inputs.{RefusesFaults}
 use Rattle.xs_loading.specs.Cases.{IsWrongWord}

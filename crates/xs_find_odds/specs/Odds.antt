@@ -10,8 +10,8 @@ use Rattle.xs_odds.specs.Units.{one_in_units}
 use Rattle.xs_odds.specs.Marks.{IsFirstMarkFault, HasProbabilities, AreOdds}
 use Rattle.xs_odds.specs.Bounds.{Bounds, bound_of, bound_sum, slack_of, exact_sum, units_in}
 use Rattle.xs_odds.specs.OddsText.{odds_text}
-use Rattle.xs_analysis_text.specs.Analysis.{told_ending}
-use Rattle.xs_reporting.specs.ExtendedTraces.{Analysis}
+use Rattle.xs_text_laws.specs.Analysis.{told_ending}
+use Rattle.xs_report_laws.specs.ExtendedTraces.{Analysis}
 use Rattle.xs_loading.specs.declared.status.InputFault.{InputFault as SharedFault}
 use Rattle.xs_loading.specs.declared.status.Refusal.{Refusal as SharedRefusal}
 use Rattle.xs_loading.specs.declared.status.Refusal.TheVariants as shared_refusal

@@ -2,13 +2,13 @@
 ghost use Rattle.std.specs.Prelude.{◌≡◌, ◌≤◌, ◌<◌, ◌++◌, ◌⊎◌, OnErr, All, length, map, IfOk, IfSome, IsErrOf};
 ghost use Rattle.xs_desk.specs.Desk.{Rose};
 ghost use Rattle.xs_tree.specs.ProgramTree.{ProgramTree};
-ghost use Rattle.xs_scope.specs.ModelTree.{model_tree};
+ghost use Rattle.xs_tree.specs.ModelTree.{model_tree};
 ghost use Rattle.xs_fei.specs.Instructions.{instruction_tree};
 ghost use Rattle.xs_odds.specs.Marks.{HasProbabilities, AreOdds};
 ghost use Rattle.xs_odds.specs.OddsText.{odds_text};
-ghost use Rattle.xs_analysis_text.specs.Analysis.{told_ending};
+ghost use Rattle.xs_text_laws.specs.Analysis.{told_ending};
 ghost use Rattle.xs_report.specs.FaultText.{name_of, faults_text};
-ghost use Rattle.xs_kinds.specs.Costs.{state_bits};
+ghost use Rattle.xs_type_laws.specs.Costs.{state_bits};
 ghost use Rattle.xs_loading.specs.Loaded.{case_of, IsLoaded};
 ghost use Rattle.xs_loading.specs.LoadedEvents.{case_in};
 ghost use Rattle.xs_loading.specs.Cases.{HoldsCase};
@@ -21,8 +21,8 @@ ghost use Rattle.xs_find_odds.specs.Odds.{mark_rule, mark_refusal, RefusesOdds, 
 use std::alloc::Global;
 use xs_adviser::Panel;
 use xs_case_search::search::{analysed, size_of};
+use xs_case_search::told;
 use xs_cuts::answer::Analysis;
-use xs_cuts_extended::told;
 use xs_desk::{Desk, say_whole};
 use xs_loading::event::LoadedEvent;
 use xs_loading::loaded::{LoadedCase, load_case};

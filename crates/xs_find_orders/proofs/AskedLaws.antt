@@ -5,30 +5,31 @@ use Rattle.std.proofs.lemmas.Bool.Decides.{leb_tells}
 use Rattle.std.proofs.lemmas.List.{length-map}
 use Rattle.xs_tree.specs.Tree.{Tree}
 use Rattle.xs_tree.specs.ProgramTree.{Text, Formula, program_tree}
-use Rattle.xs_scope.specs.ModelTree.{model_tree, mode_of, flat_tree}
-use Rattle.xs_flattening.specs.Flat.{FlatLeaf, FlatModel}
-use Rattle.xs_flattening.specs.History.{Mode}
-use Rattle.xs_kinds.specs.Laws.{IsClosed}
-use Rattle.xs_kinds.specs.Models.{IsTyped}
-use Rattle.xs_kinds.proofs.ClosedLaws.{models_closed}
+use Rattle.xs_tree.specs.ModelTree.{model_tree, flat_tree}
+use Rattle.xs_flat_laws.specs.FaultModes.{mode_of}
+use Rattle.xs_tree.specs.Flat.{FlatLeaf, FlatModel}
+use Rattle.xs_flat_laws.specs.History.{Mode}
+use Rattle.xs_type_laws.specs.Laws.{IsClosed}
+use Rattle.xs_type_laws.specs.Models.{IsTyped}
+use Rattle.xs_type_laws.proofs.ClosedLaws.{models_closed}
 use Rattle.xs_weave.specs.Woven.{woven}
 use Rattle.xs_weave.specs.Faults.{Fault}
 use Rattle.xs_weave.specs.Extended.{Moment}
-use Rattle.xs_encoded.specs.FlatTraces.{IsNumbered}
-use Rattle.xs_flattening.proofs.Lists.{get_within}
-use Rattle.xs_extended_right.specs.ExtendedTraces.{IsExtensionModel}
+use Rattle.xs_encode_laws.specs.FlatTraces.{IsNumbered}
+use Rattle.xs_flat_laws.proofs.Lists.{get_within}
+use Rattle.xs_certificate_laws.specs.ExtendedTraces.{IsExtensionModel}
 use Rattle.xs_cuts.specs.declared.answer.End.{End}
 use Rattle.xs_cuts.specs.declared.answer.End.TheVariants.{Complete, Bounded}
-use Rattle.xs_cuts_extended.specs.Answered.{ending_of}
-use Rattle.xs_reporting.specs.ExtendedTraces.{Ending}
+use Rattle.xs_report_laws.specs.Answered.{ending_of}
+use Rattle.xs_report_laws.specs.ExtendedTraces.{Ending}
 use Rattle.xs_orders.specs.declared.Relation.{Relation}
 use Rattle.xs_orders.specs.Stage.{against}
 use Rattle.xs_orders.specs.Laws.{IsTruth}
-use Rattle.xs_orders_extended.specs.Laws.{IsAsked}
-use Rattle.xs_orders_extended.proofs.Said.{said, none_said}
-use Rattle.xs_orders_extended.proofs.Truths.{condition_truth}
-use Rattle.xs_faultless.specs.Laws.{class_of, NoneReaches}
-use Rattle.xs_staged.specs.Laws.{IsFaultNumber}
+use Rattle.xs_reach_laws.specs.OrdersExtendedLaws.{IsAsked}
+use Rattle.xs_reach_laws.proofs.Said.{said, none_said}
+use Rattle.xs_reach_laws.proofs.Truths.{condition_truth}
+use Rattle.xs_reach_laws.specs.FaultlessLaws.{class_of, NoneReaches}
+use Rattle.xs_reach_laws.specs.Laws.{IsFaultNumber}
 use Rattle.xs_desk.specs.declared.files.NamedFile.{NamedFile}
 use Rattle.xs_loading.specs.Cases.{Case, HoldsCase}
 use Rattle.xs_loading.specs.LoadedEvents.{case_in}

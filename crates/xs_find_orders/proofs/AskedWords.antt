@@ -2,7 +2,7 @@
 use Rattle.std.proofs.Common.{◌≡◌, ◌⊎◌, inl, inr, ℕ, Bool, true, false, ◌||◌, List, [], ◌∷◌, Some, refl, sym, ap, subst, ◌∙◌}
 use Rattle.std.specs.Prelude.{codes, nat_eq, IsTrue}
 use Rattle.std.proofs.lemmas.Bool.{eq-eqb}
-use Rattle.xs_right.specs.Sets.{has_number}
+use Rattle.xs_right_laws.specs.Sets.{has_number}
 use Rattle.xs_reach_words.specs.declared.choice.Kind.{Kind}
 use Rattle.xs_reach_words.specs.declared.choice.Kind.TheVariants as kind
 use Rattle.xs_reach_words.specs.declared.verb.Verb.{Verb}

@@ -7,26 +7,26 @@ use Rattle.xs_value.specs.declared.memory.OutOfMemory.{OutOfMemory}
 use Rattle.xs_tree.specs.Tree.{Tree}
 use Rattle.xs_tree.specs.ProgramTree.{Text}
 use Rattle.xs_tree.specs.declared.expr.Expr.{Expr}
-use Rattle.xs_scope.specs.ModelTree.{model_tree, flat_tree}
-use Rattle.xs_scope.specs.declared.model.Flat.{Flat}
-use Rattle.xs_scope.specs.declared.model.FlatModel.{FlatModel as Model}
-use Rattle.xs_scope.specs.declared.model.Fault.{Fault as FaultOf}
-use Rattle.xs_flattening.specs.Flat.{FlatLeaf, FlatModel}
-use Rattle.xs_flattening.proofs.HistoryLaws.{no_bits}
-use Rattle.xs_encoded_search.specs.Searchable.{IsSearchable}
+use Rattle.xs_tree.specs.ModelTree.{model_tree, flat_tree}
+use Rattle.xs_tree.specs.declared.model.Flat.{Flat}
+use Rattle.xs_tree.specs.declared.model.FlatModel.{FlatModel as Model}
+use Rattle.xs_tree.specs.declared.model.Fault.{Fault as FaultOf}
+use Rattle.xs_tree.specs.Flat.{FlatLeaf, FlatModel}
+use Rattle.xs_flat_laws.proofs.HistoryLaws.{no_bits}
+use Rattle.xs_cut_laws.specs.Searchable.{IsSearchable}
 use Rattle.xs_cert.specs.Seen.{seen}
 use Rattle.xs_cert.specs.declared.certificate.Certificate.{Certificate as Written}
-use Rattle.xs_certificate.specs.Certificate.{Certificate}
-use Rattle.xs_certified.specs.Certified.{IsSubjectOf}
-use Rattle.xs_subject.specs.Subject.{subject_of}
-use Rattle.xs_subject.proofs.Subjects.{subjects_right}
+use Rattle.xs_certificate_laws.specs.Certificate.{Certificate}
+use Rattle.xs_certificate_laws.specs.Certified.{IsSubjectOf}
+use Rattle.xs_certificate_laws.specs.Subject.{subject_of}
+use Rattle.xs_certificate_laws.proofs.Subjects.{subjects_right}
 use Rattle.xs_check.specs.Matter.{matter_of, IsAcceptedIn}
 use Rattle.xs_check.specs.Fit.{IsCheckable}
 use Rattle.xs_check.specs.Found.{IsJudgedUnlisted, IsObjectionUnlisted}
 use Rattle.xs_check.specs.declared.judged.Judged.{Judged}
 use Rattle.xs_orders.specs.declared.Relation.{Relation}
-use Rattle.xs_faultless.proofs.Refuted.{accepted_refute}
-use Rattle.xs_reporting.specs.ExtendedTraces.{complete}
+use Rattle.xs_reach_laws.proofs.Refuted.{accepted_refute}
+use Rattle.xs_report_laws.specs.ExtendedTraces.{complete}
 use Rattle.xs_loading.specs.declared.input.Stop.{Stop as SharedStop}
 use Rattle.xs_loading.specs.declared.input.Stop.TheVariants as shared_stop
 use Rattle.xs_loading.specs.declared.status.Refusal.{Refusal as SharedRefusal}

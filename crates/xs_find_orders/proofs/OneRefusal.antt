@@ -4,18 +4,18 @@ use Rattle.xs_desk.specs.declared.files.NamedFile.{NamedFile}
 use Rattle.xs_tree.specs.Tree.{Tree}
 use Rattle.xs_tree.specs.ProgramTree.{Text, Formula, ProgramTree}
 use Rattle.xs_tree.specs.Values.{Value}
-use Rattle.xs_flattening.specs.Flat.{FlatLeaf, FlatModel}
-use Rattle.xs_flattening.specs.FlatTrace.{IsFlatTrace}
-use Rattle.xs_kinds.specs.Models.{IsTyped}
-use Rattle.xs_encoded.specs.FlatTraces.{IsNumbered, ReachesTop, HasFailedNumber}
-use Rattle.xs_extending.proofs.Splits.{one_split, none_broken}
-use Rattle.xs_trace_text.specs.Given.{GivesTrace}
-use Rattle.xs_certificate.specs.Accepted.{number_of}
-use Rattle.xs_certificate.specs.Certificate.{Certificate}
-use Rattle.xs_certificate.proofs.Objections.{one_objection, accepted_has_none}
+use Rattle.xs_tree.specs.Flat.{FlatLeaf, FlatModel}
+use Rattle.xs_flat_laws.specs.FlatTrace.{IsFlatTrace}
+use Rattle.xs_type_laws.specs.Models.{IsTyped}
+use Rattle.xs_encode_laws.specs.FlatTraces.{IsNumbered, ReachesTop, HasFailedNumber}
+use Rattle.xs_extend_laws.proofs.Splits.{one_split, none_broken}
+use Rattle.xs_text_laws.specs.Given.{GivesTrace}
+use Rattle.xs_certificate_laws.specs.Accepted.{number_of}
+use Rattle.xs_certificate_laws.specs.Certificate.{Certificate}
+use Rattle.xs_certificate_laws.proofs.Objections.{one_objection, accepted_has_none}
 use Rattle.xs_check.specs.Found.{IsObjectionOf, IsObjectionUnlisted, of_another, of_its_set}
-use Rattle.xs_staged.specs.Laws.{IsFaultNumber}
-use Rattle.xs_subject.specs.Subject.{subject_of}
+use Rattle.xs_reach_laws.specs.Laws.{IsFaultNumber}
+use Rattle.xs_certificate_laws.specs.Subject.{subject_of}
 use Rattle.xs_loading.specs.declared.status.InputFault.{InputFault as SharedFault}
 use Rattle.xs_loading.specs.declared.status.Objection.TheVariants as objection
 use Rattle.xs_loading.specs.declared.status.Refusal.{Refusal as SharedRefusal}

@@ -6,35 +6,36 @@ use Rattle.xs_desk.specs.Desk.{said_more, SaysPrefix}
 use Rattle.xs_tree.specs.Tree.{Tree}
 use Rattle.xs_tree.specs.ProgramTree.{Text}
 use Rattle.xs_value.specs.declared.value.Value.{Value as Numbered}
-use Rattle.xs_scope.specs.ModelTree.{model_tree, mode_of, flat_tree}
-use Rattle.xs_scope.specs.declared.model.Fault.{Fault as FaultOf}
-use Rattle.xs_flattening.specs.Flat.{FlatLeaf, FlatModel}
-use Rattle.xs_flattening.specs.History.{with_history}
-use Rattle.xs_flattening.proofs.HistoryLaws.{no_bits}
-use Rattle.xs_kinds.specs.Costs.{state_bits}
-use Rattle.xs_encoding.specs.Bits.{state_of, inputs_of}
-use Rattle.xs_encoding.specs.Lists.{system_of}
-use Rattle.xs_trace_text.specs.Given.{GivesTrace}
+use Rattle.xs_tree.specs.ModelTree.{model_tree, flat_tree}
+use Rattle.xs_flat_laws.specs.FaultModes.{mode_of}
+use Rattle.xs_tree.specs.declared.model.Fault.{Fault as FaultOf}
+use Rattle.xs_tree.specs.Flat.{FlatLeaf, FlatModel}
+use Rattle.xs_flat_laws.specs.History.{with_history}
+use Rattle.xs_flat_laws.proofs.HistoryLaws.{no_bits}
+use Rattle.xs_type_laws.specs.Costs.{state_bits}
+use Rattle.xs_encode_laws.specs.Bits.{state_of, inputs_of}
+use Rattle.xs_encode_laws.specs.Lists.{system_of}
+use Rattle.xs_text_laws.specs.Given.{GivesTrace}
 use Rattle.xs_report.specs.Told.{told_trace}
-use Rattle.xs_analysis_text.specs.Analysis.{told_ending}
+use Rattle.xs_text_laws.specs.Analysis.{told_ending}
 use Rattle.xs_value.specs.declared.ending.Ending.{Ending as Printed}
 use Rattle.xs_value.specs.declared.ending.Ending.TheVariants as printed
 use Rattle.xs_cuts.specs.Progress.{HasChainFor}
 use Rattle.xs_cuts.specs.Answer.{IsEnd}
 use Rattle.xs_cuts.specs.declared.answer.End.{End}
 use Rattle.xs_cuts.specs.declared.answer.End.TheVariants.{Complete, Bounded}
-use Rattle.xs_cuts_extended.specs.Answered.{ending_of}
+use Rattle.xs_report_laws.specs.Answered.{ending_of}
 use Rattle.xs_cert.specs.Seen.{seen}
 use Rattle.xs_cert.specs.declared.certificate.Certificate.{Certificate as Written}
-use Rattle.xs_certificate.specs.CertificateText.{SpellsCertificate}
-use Rattle.xs_certified.specs.Certified.{IsCertified}
-use Rattle.xs_subject.specs.Subject.{subject_of}
-use Rattle.xs_certify.specs.Texts.{text_lines}
+use Rattle.xs_certificate_laws.specs.CertificateText.{SpellsCertificate}
+use Rattle.xs_certificate_laws.specs.Certified.{IsCertified}
+use Rattle.xs_certificate_laws.specs.Subject.{subject_of}
+use Rattle.xs_case_search.specs.Texts.{text_lines}
 use Rattle.xs_orders.specs.declared.Relation.{Relation}
-use Rattle.xs_cutting.specs.Found.{sets_of}
-use Rattle.xs_faultless.specs.Laws.{class_of, NoneReaches}
-use Rattle.xs_faultless.proofs.Refuted.{empty_refute, found_reach}
-use Rattle.xs_reporting.specs.ExtendedTraces.{Ending, complete, bounded}
+use Rattle.xs_cut_laws.specs.Found.{sets_of}
+use Rattle.xs_reach_laws.specs.FaultlessLaws.{class_of, NoneReaches}
+use Rattle.xs_reach_laws.proofs.Refuted.{empty_refute, found_reach}
+use Rattle.xs_report_laws.specs.ExtendedTraces.{Ending, complete, bounded}
 use Rattle.xs_case_search.specs.Found.{IsCertificateFor}
 use Rattle.xs_loading.specs.Cases.{Case, HoldsCase}
 use Rattle.xs_loading.specs.Answered.{Told, Said, told_maybe, WritesPrefixMaybe}

@@ -3,17 +3,17 @@ use Rattle.std.proofs.Common.{◌≡◌, ℕ, zero, suc, ◌+◌, ◌<◌, ◌�
 use Rattle.std.proofs.lemmas.List.{take_more, length-map, length-take-le}
 use Rattle.xs_desk.specs.declared.files.NamedFile.{NamedFile}
 use Rattle.xs_tree.specs.ProgramTree.{Text, ProgramTree}
-use Rattle.xs_scope.specs.ModelTree.{model_tree}
-use Rattle.xs_scope.specs.declared.model.FlatModel.{FlatModel as Model}
-use Rattle.xs_flattening.specs.Flat.{FlatModel}
-use Rattle.xs_right.specs.Sets.{has_number}
-use Rattle.xs_encoded.specs.FlatTraces.{IsNumbered}
-use Rattle.xs_encoded.proofs.Numbers.{each_has}
-use Rattle.xs_encoding.proofs.NameMeans.{each_joined}
-use Rattle.xs_kinds.specs.Models.{IsTyped}
+use Rattle.xs_tree.specs.ModelTree.{model_tree}
+use Rattle.xs_tree.specs.declared.model.FlatModel.{FlatModel as Model}
+use Rattle.xs_tree.specs.Flat.{FlatModel}
+use Rattle.xs_right_laws.specs.Sets.{has_number}
+use Rattle.xs_encode_laws.specs.FlatTraces.{IsNumbered}
+use Rattle.xs_encode_laws.proofs.Numbers.{each_has}
+use Rattle.xs_encode_laws.proofs.NameMeans.{each_joined}
+use Rattle.xs_type_laws.specs.Models.{IsTyped}
 use Rattle.xs_extend.specs.WovenFaults.{fault_tree}
 use Rattle.xs_orders.specs.Stage.{stage}
-use Rattle.xs_staged.specs.Laws.{IsFaultNumber}
+use Rattle.xs_reach_laws.specs.Laws.{IsFaultNumber}
 use Rattle.xs_loading.specs.declared.status.Refusal.{Refusal as SharedRefusal}
 use Rattle.xs_loading.specs.declared.status.Refusal.TheVariants as shared_refusal
 use Rattle.xs_loading.specs.declared.status.InputFault.{InputFault as SharedFault}

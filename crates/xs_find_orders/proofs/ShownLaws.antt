@@ -6,26 +6,26 @@ use Rattle.xs_tree.specs.ProgramTree.{Text}
 use Rattle.xs_tree.specs.Values.{Value, truth}
 use Rattle.xs_value.specs.declared.value.Value.{Value as Numbered}
 use Rattle.xs_value.specs.declared.value.Value.TheVariants.{Bool as ABool, Num, Sym}
-use Rattle.xs_scope.specs.ModelTree.{flat_tree, variable_tree}
-use Rattle.xs_flattening.specs.Flat.{FlatModel}
-use Rattle.xs_flattening.specs.History.{Mode}
-use Rattle.xs_flattening.specs.FlatTrace.{IsFlatTrace}
-use Rattle.xs_encoded.specs.FlatTraces.{ReachesTop, last_of}
-use Rattle.xs_extended_right.specs.ExtendedTraces.{IsFlatCut}
+use Rattle.xs_tree.specs.ModelTree.{flat_tree, variable_tree}
+use Rattle.xs_tree.specs.Flat.{FlatModel}
+use Rattle.xs_flat_laws.specs.History.{Mode}
+use Rattle.xs_flat_laws.specs.FlatTrace.{IsFlatTrace}
+use Rattle.xs_encode_laws.specs.FlatTraces.{ReachesTop, last_of}
+use Rattle.xs_certificate_laws.specs.ExtendedTraces.{IsFlatCut}
 use Rattle.xs_report.specs.Told.{told_trace}
 use Rattle.xs_report.specs.Analysed.{told_traces}
 use Rattle.xs_value.specs.declared.ending.Ending.TheVariants as printed
 use Rattle.xs_cuts.specs.Values.{value_of, values_of, trace_of}
 use Rattle.xs_cuts.specs.declared.answer.Analysis.{Analysis}
 use Rattle.xs_cuts.specs.declared.answer.End.TheVariants.{Complete}
-use Rattle.xs_cuts_extended.proofs.Printed.{answers_printed}
-use Rattle.xs_analysis_text.specs.Analysis.{Analysis as Told}
+use Rattle.xs_report_laws.proofs.Printed.{answers_printed}
+use Rattle.xs_text_laws.specs.Analysis.{Analysis as Told}
 use Rattle.xs_orders.specs.declared.Relation.{Relation}
 use Rattle.xs_orders.specs.Stage.{stage}
 use Rattle.xs_orders.specs.Told.{told_relation}
 use Rattle.xs_orders.proofs.Ends.{own_kept}
-use Rattle.xs_orders_extended.specs.Laws.{ShowsSuch, TellsRelation}
-use Rattle.xs_orders_extended.proofs.Such.{found_such, others_such}
+use Rattle.xs_reach_laws.specs.OrdersExtendedLaws.{ShowsSuch, TellsRelation}
+use Rattle.xs_reach_laws.proofs.Such.{found_such, others_such}
 use Rattle.xs_loading.specs.Cases.{Case}
 use Rattle.xs_loading.specs.LoadedEvents.{case_in}
 use Rattle.xs_find_orders.specs.declared.pair.StagedCase.{StagedCase}

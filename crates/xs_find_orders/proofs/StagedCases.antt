@@ -4,31 +4,32 @@ use Rattle.std.specs.Prelude.{Option}
 use Rattle.std.proofs.lemmas.List.{length-map}
 use Rattle.xs_tree.specs.Tree.{Tree}
 use Rattle.xs_tree.specs.ProgramTree.{program_tree}
-use Rattle.xs_scope.specs.ModelTree.{model_tree, mode_of, flat_tree, variable_tree}
-use Rattle.xs_scope.specs.declared.model.Fault.{Fault}
-use Rattle.xs_scope.specs.declared.model.FlatModel.{FlatModel as Model}
-use Rattle.xs_flattening.specs.Flat.{FlatLeaf, FlatModel}
-use Rattle.xs_flattening.specs.History.{Mode, with_history}
-use Rattle.xs_flattening.proofs.HistoryLaws.{no_bits}
-use Rattle.xs_kinds.specs.Models.{IsTyped}
-use Rattle.xs_encoded_search.specs.Searchable.{IsSearchable}
+use Rattle.xs_tree.specs.ModelTree.{model_tree, flat_tree, variable_tree}
+use Rattle.xs_flat_laws.specs.FaultModes.{mode_of}
+use Rattle.xs_tree.specs.declared.model.Fault.{Fault}
+use Rattle.xs_tree.specs.declared.model.FlatModel.{FlatModel as Model}
+use Rattle.xs_tree.specs.Flat.{FlatLeaf, FlatModel}
+use Rattle.xs_flat_laws.specs.History.{Mode, with_history}
+use Rattle.xs_flat_laws.proofs.HistoryLaws.{no_bits}
+use Rattle.xs_type_laws.specs.Models.{IsTyped}
+use Rattle.xs_cut_laws.specs.Searchable.{IsSearchable}
 use Rattle.xs_orders.specs.declared.Relation.{Relation}
 use Rattle.xs_orders.specs.Stage.{stage, against}
-use Rattle.xs_staged.specs.Laws.{IsFaultNumber}
-use Rattle.xs_staged.proofs.Staged.{staged_searchable, staged_length}
+use Rattle.xs_reach_laws.specs.Laws.{IsFaultNumber}
+use Rattle.xs_reach_laws.proofs.Staged.{staged_searchable, staged_length}
 use Rattle.xs_case_search.proofs.Analysable.{case_searchable, top_fits}
 use Rattle.xs_find_orders.specs.declared.pair.StagedCase.{StagedCase}
 use Rattle.xs_find_orders.specs.Pairs.{IsStagedCase}
 use Rattle.xs_lits.specs.Literal.{Literal}
-use Rattle.xs_encoding.specs.Bits.{state_of, inputs_of}
-use Rattle.xs_encoding.specs.Lists.{system_of}
-use Rattle.xs_cutting.specs.Found.{sets_of, traces_of}
+use Rattle.xs_encode_laws.specs.Bits.{state_of, inputs_of}
+use Rattle.xs_encode_laws.specs.Lists.{system_of}
+use Rattle.xs_cut_laws.specs.Found.{sets_of, traces_of}
 use Rattle.xs_cuts.specs.Answer.{IsAnswer}
 use Rattle.xs_cuts.specs.Progress.{CodeFound}
 use Rattle.xs_cuts.specs.declared.answer.End.TheVariants.{Complete, Bounded}
 use Rattle.xs_cuts.specs.declared.answer.End.{End}
 use Rattle.xs_check.specs.Fit.{IsProvable}
-use Rattle.xs_certify.specs.Certifiable.{IsCertifiable, IsCompleteAnswer}
+use Rattle.xs_case_search.specs.Certifiable.{IsCertifiable, IsCompleteAnswer}
 use Rattle.xs_find_orders.specs.declared.searched.Searched.{Searched}
 use Rattle.xs_find_orders.specs.Claimed.{HasFew, SpeaksFor, IsSearchOf}
 

@@ -6,15 +6,15 @@ use Rattle.xs_tree.specs.Tree.{Tree}
 use Rattle.xs_tree.specs.ProgramTree.{Text}
 use Rattle.xs_value.specs.declared.value.Value.{Value as Numbered}
 use Rattle.xs_value.specs.declared.value.Value.TheVariants.{Bool as ABool, Num, Sym}
-use Rattle.xs_scope.specs.ModelTree.{model_tree, flat_tree}
-use Rattle.xs_flattening.specs.Flat.{FlatLeaf, FlatModel}
-use Rattle.xs_flattening.specs.FlatTrace.{IsFlatTrace}
-use Rattle.xs_flattening.specs.History.{with_history}
-use Rattle.xs_encoding.specs.Bits.{state_of, inputs_of}
-use Rattle.xs_encoding.specs.Lists.{system_of}
-use Rattle.xs_encoded.specs.FlatTraces.{ReachesTop}
-use Rattle.xs_encoded_search.specs.Searchable.{IsSearchable}
-use Rattle.xs_analysis_text.specs.Analysis.{told_ending}
+use Rattle.xs_tree.specs.ModelTree.{model_tree, flat_tree}
+use Rattle.xs_tree.specs.Flat.{FlatLeaf, FlatModel}
+use Rattle.xs_flat_laws.specs.FlatTrace.{IsFlatTrace}
+use Rattle.xs_flat_laws.specs.History.{with_history}
+use Rattle.xs_encode_laws.specs.Bits.{state_of, inputs_of}
+use Rattle.xs_encode_laws.specs.Lists.{system_of}
+use Rattle.xs_encode_laws.specs.FlatTraces.{ReachesTop}
+use Rattle.xs_cut_laws.specs.Searchable.{IsSearchable}
+use Rattle.xs_text_laws.specs.Analysis.{told_ending}
 use Rattle.xs_cuts.specs.Answer.{IsAnswer}
 use Rattle.xs_cuts.specs.Values.{trace_of}
 use Rattle.xs_cuts.specs.declared.answer.Analysis.{Analysis}
@@ -24,7 +24,7 @@ use Rattle.xs_orders.specs.declared.Relation.{Relation}
 use Rattle.xs_orders.specs.declared.Relation.TheVariants.{Together}
 use Rattle.xs_orders.specs.Stage.{against}
 use Rattle.xs_orders.specs.Told.{told_relation}
-use Rattle.xs_reporting.specs.ExtendedTraces.{Ending, complete, bounded}
+use Rattle.xs_report_laws.specs.ExtendedTraces.{Ending, complete, bounded}
 use Rattle.xs_loading.specs.Cases.{Case}
 use Rattle.xs_loading.specs.Answered.{Told, Said, told_maybe, WritesPrefixMaybe}
 use Rattle.xs_loading.specs.LoadedEvents.{case_in}

@@ -7,29 +7,29 @@ use Rattle.xs_desk.specs.Desk.{told_with, said_more, WritesPrefix, SaysPrefix}
 use Rattle.xs_tree.specs.Tree.{Tree}
 use Rattle.xs_tree.specs.ProgramTree.{Text, Formula}
 use Rattle.xs_tree.specs.Values.{Value}
-use Rattle.xs_flattening.specs.Flat.{FlatLeaf, FlatModel}
-use Rattle.xs_flattening.specs.History.{with_history}
-use Rattle.xs_kinds.specs.Costs.{state_bits}
+use Rattle.xs_tree.specs.Flat.{FlatLeaf, FlatModel}
+use Rattle.xs_flat_laws.specs.History.{with_history}
+use Rattle.xs_type_laws.specs.Costs.{state_bits}
 use Rattle.xs_weave.specs.Extended.{Moment}
 use Rattle.xs_weave.specs.Faults.{Fault}
-use Rattle.xs_encoding.specs.Bits.{state_of, inputs_of}
-use Rattle.xs_encoding.specs.Lists.{system_of}
-use Rattle.xs_encoded.specs.Laws.{AreOwn}
-use Rattle.xs_extended_right.specs.ExtendedTraces.{IsFlatCut}
-use Rattle.xs_trace_text.specs.TraceText.{trace_text}
-use Rattle.xs_trace_text.specs.Given.{GivesTrace}
+use Rattle.xs_encode_laws.specs.Bits.{state_of, inputs_of}
+use Rattle.xs_encode_laws.specs.Lists.{system_of}
+use Rattle.xs_encode_laws.specs.EncodedLaws.{AreOwn}
+use Rattle.xs_certificate_laws.specs.ExtendedTraces.{IsFlatCut}
+use Rattle.xs_text_laws.specs.TraceText.{trace_text}
+use Rattle.xs_text_laws.specs.Given.{GivesTrace}
 use Rattle.xs_cuts.specs.Progress.{HasChainFor}
-use Rattle.xs_certificate.specs.Certificate.{Certificate}
-use Rattle.xs_certified.specs.Certified.{IsSubjectOf, IsCertified}
-use Rattle.xs_subject.specs.Subject.{subject_of}
+use Rattle.xs_certificate_laws.specs.Certificate.{Certificate}
+use Rattle.xs_certificate_laws.specs.Certified.{IsSubjectOf, IsCertified}
+use Rattle.xs_certificate_laws.specs.Subject.{subject_of}
 use Rattle.xs_check.specs.Matter.{Matter}
 use Rattle.xs_check.specs.Found.{IsObjectionUnlisted}
 use Rattle.xs_orders.specs.declared.Relation.{Relation}
 use Rattle.xs_orders.specs.declared.Relation.TheVariants.{Before, After, Together}
 use Rattle.xs_orders.specs.Relations.{HasRelation}
 use Rattle.xs_orders.specs.Stage.{stage, against}
-use Rattle.xs_orders_extended.specs.Laws.{FaultStands, IsSuch}
-use Rattle.xs_reporting.specs.ExtendedTraces.{Ending, complete, bounded}
+use Rattle.xs_reach_laws.specs.OrdersExtendedLaws.{FaultStands, IsSuch}
+use Rattle.xs_report_laws.specs.ExtendedTraces.{Ending, complete, bounded}
 use Rattle.xs_loading.specs.declared.status.Refusal.{Refusal as SharedRefusal}
 use Rattle.xs_loading.specs.declared.status.Refusal.TheVariants as shared_refusal
 use Rattle.xs_loading.specs.declared.status.Objection.TheVariants as objection

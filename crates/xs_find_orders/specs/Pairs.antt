@@ -2,13 +2,14 @@
 use Rattle.std.specs.Prelude.{◌≡◌, ◌≢◌, ℕ, ◌+◌, IsTrue, List, [], ◌∷◌, ◌++◌, length, map}
 use Rattle.xs_desk.specs.declared.files.NamedFile.{NamedFile}
 use Rattle.xs_tree.specs.ProgramTree.{Text, ProgramTree}
-use Rattle.xs_scope.specs.ModelTree.{model_tree, mode_of}
-use Rattle.xs_right.specs.Sets.{has_number}
-use Rattle.xs_encoded.specs.FlatTraces.{IsNumbered}
-use Rattle.xs_kinds.specs.Models.{IsTyped}
+use Rattle.xs_tree.specs.ModelTree.{model_tree}
+use Rattle.xs_flat_laws.specs.FaultModes.{mode_of}
+use Rattle.xs_right_laws.specs.Sets.{has_number}
+use Rattle.xs_encode_laws.specs.FlatTraces.{IsNumbered}
+use Rattle.xs_type_laws.specs.Models.{IsTyped}
 use Rattle.xs_types.specs.declared.typed.Typed.{Typed}
 use Rattle.xs_orders.specs.Stage.{stage}
-use Rattle.xs_staged.specs.Laws.{IsFaultNumber}
+use Rattle.xs_reach_laws.specs.Laws.{IsFaultNumber}
 use Rattle.xs_reach_words.specs.Sets.{numbers_of, IsSet}
 use Rattle.xs_reach_words.specs.Commands.{orders, check_orders}
 use Rattle.xs_reach_words.specs.Meaning.{Means}

@@ -1,8 +1,8 @@
 // Certificates of an order of two faults.
 ghost use Rattle.std.specs.Prelude.{◌≡◌, ◌≤◌, ◌⊎◌, [], codes, IfOk, IfSome, IsErrOf, OnOk};
 ghost use Rattle.xs_desk.specs.Desk.{Rose, SaysPrefix};
-ghost use Rattle.xs_scope.specs.ModelTree.{model_tree, flat_tree};
-ghost use Rattle.xs_encoded_search.specs.Searchable.{IsSearchable};
+ghost use Rattle.xs_tree.specs.ModelTree.{model_tree, flat_tree};
+ghost use Rattle.xs_cut_laws.specs.Searchable.{IsSearchable};
 ghost use Rattle.xs_cert.specs.Seen.{seen};
 ghost use Rattle.xs_check.specs.Fit.{IsCheckable};
 ghost use Rattle.xs_check.specs.Found.{IsJudgedUnlisted};
@@ -22,12 +22,12 @@ use xs_cert::Certificate;
 use xs_certificate_file::certificate::{line_stop, load_certificate};
 use xs_check::{Judged, check_unlisted};
 use xs_desk::{Desk, say_whole};
-use xs_flat::Flat;
 use xs_orders::Relation;
 use xs_reach_status::status::Status;
 use xs_reach_status::stop::Stop;
 use xs_reach_words::CheckOrders;
 use xs_tree::Expr;
+use xs_tree::model::Flat;
 use xs_value::OutOfMemory;
 
 /// Judges a certificate of an order, and says that it is accepted.

@@ -1,11 +1,12 @@
 // A set of faults with two of them, and the extension staged for these two.
 ghost use Rattle.std.specs.Prelude.{◌≡◌, ◌≢◌, ◌≤◌, ◌↔◌, ℕ, false, IsTrue, length, map, IfOk, IfSome, IsErrOf, OnOk};
 ghost use Rattle.xs_desk.specs.Desk.{Rose};
-ghost use Rattle.xs_scope.specs.ModelTree.{model_tree, mode_of};
-ghost use Rattle.xs_kinds.specs.Models.{IsTyped};
-ghost use Rattle.xs_encoded.specs.FlatTraces.{IsNumbered};
+ghost use Rattle.xs_tree.specs.ModelTree.{model_tree};
+ghost use Rattle.xs_flat_laws.specs.FaultModes.{mode_of};
+ghost use Rattle.xs_type_laws.specs.Models.{IsTyped};
+ghost use Rattle.xs_encode_laws.specs.FlatTraces.{IsNumbered};
 ghost use Rattle.xs_orders.specs.Stage.{stage as stage_of};
-ghost use Rattle.xs_staged.specs.Laws.{IsFaultNumber};
+ghost use Rattle.xs_reach_laws.specs.Laws.{IsFaultNumber};
 ghost use Rattle.xs_reach_words.specs.Sets.{numbers_of, IsSet};
 ghost use Rattle.xs_loading.specs.declared.input.Input.TheVariants as input;
 ghost use Rattle.xs_loading.specs.declared.status.InputFault.{InputFault as SharedFault};
@@ -20,7 +21,6 @@ ghost use Rattle.xs_find_orders.specs.Pairs.{ChecksAskPairs, OrdersAskPairs, IsP
 
 use std::alloc::Global;
 use xs_desk::Desk;
-use xs_flat::FaultList;
 use xs_loading::event::LoadedEvent;
 use xs_loading::input::Input;
 use xs_loading::loaded::{Limited, load_case, typed_whole};
@@ -33,6 +33,7 @@ use xs_reach_status::status::{InputFault, Part, Refusal};
 use xs_reach_status::stop::Stop;
 use xs_reach_words::{WordFault, set_numbers};
 use xs_sets::has_number;
+use xs_tree::model::FaultList;
 use xs_types::Typed;
 
 /// The files of a model and its instructions, and the words of a top event, a set of faults, and two of its numbers.

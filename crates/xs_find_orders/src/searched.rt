@@ -1,18 +1,18 @@
 // The search of a staged model for a trace that speaks against a claim.
 ghost use Rattle.std.specs.Prelude.{◌≡◌, [], ℕ, IsTrue, IfOk, length};
-ghost use Rattle.xs_scope.specs.ModelTree.{model_tree, flat_tree};
-ghost use Rattle.xs_encoded_search.specs.Searchable.{IsSearchable};
+ghost use Rattle.xs_tree.specs.ModelTree.{model_tree, flat_tree};
+ghost use Rattle.xs_cut_laws.specs.Searchable.{IsSearchable};
 ghost use Rattle.xs_find_orders.specs.Pairs.{IsStagedCase};
 ghost use Rattle.xs_find_orders.specs.Claimed.{HasFew, SpeaksFor, IsAnswerAlone, IsSearchOf};
 
 use crate::pair::StagedCase;
 use std::alloc::Global;
 use xs_adviser::Panel;
-use xs_analysis::analyse;
+use xs_case_search::analyse;
 use xs_cuts::answer::Analysis;
-use xs_flat::Flat;
 use xs_orders::{Relation, against};
 use xs_tree::Expr;
+use xs_tree::model::Flat;
 use xs_value::OutOfMemory;
 
 /// A search gives each symbol a number below this. A model of two files within their limits has far fewer.

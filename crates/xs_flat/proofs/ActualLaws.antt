@@ -6,17 +6,17 @@ use Rattle.xs_tree.specs.Tree.{leaf}
 use Rattle.xs_tree.specs.ProgramTree.{Text, Path, ModuleTree, ProgramTree}
 use Rattle.xs_tree.specs.Scope.{Place, find_module, kind_at, module_of_kind}
 use Rattle.xs_tree.specs.Trace.{IsInstance}
-use Rattle.xs_flattening.specs.Flat.{FlatInstance}
-use Rattle.xs_flattening.specs.Items.{instances_of}
-use Rattle.xs_flattening.specs.Looks.{ActualsMean}
-use Rattle.xs_flattening.specs.Rules.{IsWalkable, IsAccepted}
-use Rattle.xs_flattening.specs.Model.{EachBoth}
-use Rattle.xs_flattening.proofs.Sections.{AreInstances}
-use Rattle.xs_flattening.proofs.Places.{are_instances}
-use Rattle.xs_flattening.proofs.Variables.{both_at}
-use Rattle.xs_flattening.proofs.Walkable.{main_is_there}
-use Rattle.xs_flattening.proofs.Kept.{module_there}
-use Rattle.xs_flattening.proofs.Meant.{IsTold, meant}
+use Rattle.xs_tree.specs.Flat.{FlatInstance}
+use Rattle.xs_flat_laws.specs.Items.{instances_of}
+use Rattle.xs_flat_laws.specs.Looks.{ActualsMean}
+use Rattle.xs_flat_laws.specs.Rules.{IsWalkable, IsAccepted}
+use Rattle.xs_flat_laws.specs.Model.{EachBoth}
+use Rattle.xs_flat_laws.proofs.Sections.{AreInstances}
+use Rattle.xs_flat_laws.proofs.Places.{are_instances}
+use Rattle.xs_flat_laws.proofs.Variables.{both_at}
+use Rattle.xs_flat_laws.proofs.Walkable.{main_is_there}
+use Rattle.xs_flat_laws.proofs.Kept.{module_there}
+use Rattle.xs_flat_laws.proofs.Meant.{IsTold, meant}
 use Rattle.xs_scope.specs.SceneTree.{IsFound, IsKnown, AreKnown, formals_of, program_of, IsScene}
 use Rattle.xs_scope.specs.declared.walk.Meaning.{Meaning as Found}
 use Rattle.xs_scope.specs.declared.walk.Meaning.TheVariants as found

@@ -6,19 +6,20 @@ use Rattle.xs_tree.specs.declared.program.Moment.{Moment}
 use Rattle.xs_tree.specs.declared.program.Moment.TheVariants.{Always, First, After}
 use Rattle.xs_tree.specs.Scope.{Place, Role, state, input, frozen_role, Kind, a_formal, a_variable, a_define, an_instance, undeclared, kind_declared, kind_in, kind_at, module_at, find_module, nth_formula, a_variable_at, Means, means_in, by_kind}
 use Rattle.xs_tree.specs.Trace.{Each, AtSome, IsInstance}
-use Rattle.xs_flattening.specs.Flat.{FlatInstance}
-use Rattle.xs_flattening.specs.Resolved.{has_next}
-use Rattle.xs_flattening.specs.Items.{a_declaration, a_definition, an_assignment, NumberedItem, items_of, items_named, visits, instances_of}
-use Rattle.xs_flattening.specs.Rules.{a_use, visit_sites, use_sites, IsKept, IsWalkable, IsAccepted, names_of_item, is_name_again, not_a_target, SomeHasNoValue, may_be_assigned, is_target, expression_of, NeedsItself, some_has_next}
-use Rattle.xs_flattening.specs.Model.{Root}
-use Rattle.xs_flattening.proofs.Reaches.{each_right}
-use Rattle.xs_flattening.proofs.Lists.{each_of_map}
-use Rattle.xs_flattening.proofs.Conditions.{each_flat, each_at}
-use Rattle.xs_flattening.proofs.Sections.{AreInstances}
-use Rattle.xs_flattening.proofs.KindLaws.{ItemFacts, kind_of_declaration}
-use Rattle.xs_flattening.proofs.Places.{facts_named, are_instances}
-use Rattle.xs_flattening.proofs.Walkable.{accepted_walkable, main_is_there}
+use Rattle.xs_tree.specs.Flat.{FlatInstance}
+use Rattle.xs_flat_laws.specs.Resolved.{has_next}
+use Rattle.xs_flat_laws.specs.Items.{a_declaration, a_definition, an_assignment, NumberedItem, items_of, items_named, visits, instances_of}
+use Rattle.xs_flat_laws.specs.Rules.{a_use, visit_sites, use_sites, IsKept, IsWalkable, IsAccepted, names_of_item, is_name_again, not_a_target, SomeHasNoValue, may_be_assigned, is_target, expression_of, NeedsItself, some_has_next}
+use Rattle.xs_flat_laws.specs.Model.{Root}
+use Rattle.xs_flat_laws.proofs.Reaches.{each_right}
+use Rattle.xs_flat_laws.proofs.Lists.{each_of_map}
+use Rattle.xs_flat_laws.proofs.Conditions.{each_flat, each_at}
+use Rattle.xs_flat_laws.proofs.Sections.{AreInstances}
+use Rattle.xs_flat_laws.proofs.KindLaws.{ItemFacts, kind_of_declaration}
+use Rattle.xs_flat_laws.proofs.Places.{facts_named, are_instances}
+use Rattle.xs_flat_laws.proofs.Walkable.{accepted_walkable, main_is_there}
 use Rattle.xs_scope.proofs.HeadKinds.{kind_of_definition}
+use Rattle.xs_flat_laws.proofs.OneOfTwo.{or_true}
 
 -- Lists.
 pub each_not : {A : Type 0} (P : A → Type 0) (xs : List A) → (AtSome P xs → ⊥) → Each (λ x. P x → ⊥) xs
@@ -38,10 +39,6 @@ nth_slice (e ∷ es) (suc i) = nth_slice es i
 not_false : (b : Bool) → (b ≡ false → ⊥) → b ≡ true
 not_false true h = refl
 not_false false h = absurd (h refl)
-
-pub or_true : (a b : Bool) → b ≡ true → (a || b) ≡ true
-or_true true b h = refl
-or_true false b h = h
 
 pub next_among : (es : List Formula) (i : ℕ) (e : Formula) → slice_get es i ≡ Some e → has_next e ≡ true → some_has_next es ≡ true
 next_among [] i e h n = cc

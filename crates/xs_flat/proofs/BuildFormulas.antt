@@ -10,20 +10,20 @@ use Rattle.xs_tree.specs.ProgramTree.{Text, Path, Formula, DeclaredTree, boolean
 use Rattle.xs_tree.specs.Leaves.{tree_map}
 use Rattle.xs_tree.specs.Scope.{Place, state, input, frozen_role, Meaning, a_variable_at, Means}
 use Rattle.xs_tree.specs.Trace.{Each}
-use Rattle.xs_flattening.specs.Flat.{FlatLeaf, flat_variable, flat_symbol, flat_definition, FlatInstance, FlatFormula, FlatModel}
-use Rattle.xs_flattening.specs.Resolved.{StandsFor, IsLeafOf, IsResolved}
-use Rattle.xs_flattening.specs.Items.{Item, a_declaration, a_definition, an_assignment, some_constants, an_init, an_invar, a_trans, NumberedItem, items_named, Visit, instances_of, variables_of}
-use Rattle.xs_flattening.specs.Rules.{IsAccepted, IsKept, a_use, no_such_name, SomeHasNoValue}
-use Rattle.xs_flattening.specs.Model.{Condition, plain, now_among, next_among, kept, assigned_first, assigned_each, assigned_step, kept_declared, Written, written_at, conditions, IsVariableNumber, IsConditionTree, IsFormulaOf, EachBoth, symbols_of}
-use Rattle.xs_flattening.proofs.Resolving.{same_meaning}
-use Rattle.xs_scope.specs.declared.model.Formula.{Formula as FormulaOf}
+use Rattle.xs_tree.specs.Flat.{FlatLeaf, flat_variable, flat_symbol, flat_definition, FlatInstance, FlatFormula, FlatModel}
+use Rattle.xs_flat_laws.specs.Resolved.{StandsFor, IsLeafOf, IsResolved}
+use Rattle.xs_flat_laws.specs.Items.{Item, a_declaration, a_definition, an_assignment, some_constants, an_init, an_invar, a_trans, NumberedItem, items_named, Visit, instances_of, variables_of}
+use Rattle.xs_flat_laws.specs.Rules.{IsAccepted, IsKept, a_use, no_such_name, SomeHasNoValue}
+use Rattle.xs_flat_laws.specs.Model.{Condition, plain, now_among, next_among, kept, assigned_first, assigned_each, assigned_step, kept_declared, Written, written_at, conditions, IsVariableNumber, IsConditionTree, IsFormulaOf, EachBoth, symbols_of}
+use Rattle.xs_flat_laws.proofs.Resolving.{same_meaning}
+use Rattle.xs_tree.specs.declared.model.Formula.{Formula as FormulaOf}
 use Rattle.xs_scope.specs.declared.walk.Meaning.{Meaning as Found}
 use Rattle.xs_scope.specs.declared.walk.Meaning.TheVariants as found
 use Rattle.xs_scope.specs.declared.names.Scene.{Scene}
 use Rattle.xs_scope.specs.declared.needs.Needs.{Needs}
 use Rattle.xs_flat.specs.declared.clauses.Asked.{Asked}
 use Rattle.xs_flat.specs.declared.clauses.Asked.TheVariants as asked
-use Rattle.xs_scope.specs.ModelTree.{role_of, flat_tree, formula_tree}
+use Rattle.xs_tree.specs.ModelTree.{role_of, flat_tree, formula_tree}
 use Rattle.xs_scope.specs.SceneTree.{Denotes, IsFound, program_of, IsScene, items_of_instance}
 use Rattle.xs_scope.specs.NeedsTree.{AreNeeds}
 use Rattle.xs_scope.specs.Walked.{IsDeclaredBy}
@@ -34,7 +34,7 @@ use Rattle.xs_scope.proofs.SceneFound.{scene_found}
 use Rattle.xs_flat.proofs.BuildAccepted.{kept_at, item_at, target_means, declared_means}
 use Rattle.xs_flat.proofs.BuildLeaves.{less_is, bounds_with, value_known}
 use Rattle.xs_flat.proofs.BuildSound.{definitions, leaf_means, resolver_at}
-use Rattle.xs_flattening.proofs.LookLaws.{meets_loop_nothing}
+use Rattle.xs_flat_laws.proofs.LookLaws.{meets_loop_nothing}
 use Rattle.xs_scope.proofs.FoundModule.{get_less}
 
 -- A tree whose leaves are all told is one of a shape only if the tree is.

@@ -7,16 +7,16 @@ use Rattle.xs_tree.specs.ProgramTree.{Path, Formula, ProgramTree}
 use Rattle.xs_tree.specs.Written.{tree_of}
 use Rattle.xs_tree.specs.Scope.{Place, Key, Meaning, a_variable_at, an_expression_at, an_instance_at, a_symbol, Means}
 use Rattle.xs_tree.specs.Trace.{Each, AtSome}
-use Rattle.xs_flattening.specs.Flat.{FlatInstance}
-use Rattle.xs_flattening.specs.Resolved.{leaves_in, trees_leaves, branches_leaves}
-use Rattle.xs_flattening.specs.Items.{instances_of, variables_of}
-use Rattle.xs_flattening.specs.Rules.{IsAccepted, HasNoValue, nothing, only_an_instance, SomeHasNoValue, Needs as NeedsOf, NeedsItself, expression_of}
-use Rattle.xs_flattening.specs.Model.{EachBoth, Root, roots_of, symbols_of, is_key_among, same_key}
-use Rattle.xs_flattening.proofs.Reaches.{each_left, each_right}
-use Rattle.xs_flattening.proofs.Conditions.{each_at, each_from}
-use Rattle.xs_flattening.proofs.Variables.{both_at, both_at_second}
-use Rattle.xs_flattening.proofs.Resolving.{same_meaning}
-use Rattle.xs_flattening.proofs.LookLaws.{meets_loop_nothing}
+use Rattle.xs_tree.specs.Flat.{FlatInstance}
+use Rattle.xs_flat_laws.specs.Resolved.{leaves_in, trees_leaves, branches_leaves}
+use Rattle.xs_flat_laws.specs.Items.{instances_of, variables_of}
+use Rattle.xs_flat_laws.specs.Rules.{IsAccepted, HasNoValue, nothing, only_an_instance, SomeHasNoValue, Needs as NeedsOf, NeedsItself, expression_of}
+use Rattle.xs_flat_laws.specs.Model.{EachBoth, Root, roots_of, symbols_of, is_key_among, same_key}
+use Rattle.xs_flat_laws.proofs.Reaches.{each_left, each_right}
+use Rattle.xs_flat_laws.proofs.Conditions.{each_at, each_from}
+use Rattle.xs_flat_laws.proofs.Variables.{both_at, both_at_second}
+use Rattle.xs_flat_laws.proofs.Resolving.{same_meaning}
+use Rattle.xs_flat_laws.proofs.LookLaws.{meets_loop_nothing}
 use Rattle.xs_scope.specs.declared.bounds.Bounds.{Bounds}
 use Rattle.xs_scope.specs.declared.walk.Meaning.{Meaning as Found}
 use Rattle.xs_scope.specs.declared.walk.Meaning.TheVariants as found
@@ -32,8 +32,8 @@ use Rattle.xs_flat.proofs.BuildOrder.{AllAfter, ordered_after, needs_before, one
 use Rattle.xs_flat.proofs.BuildAccepted.{some_at, each_not, IsGoodRoot}
 use Rattle.xs_flat.proofs.BuildRoots.{good_roots, no_come_back}
 use Rattle.xs_flat.proofs.BuildUnique.{one_written}
-use Rattle.xs_flattening.proofs.Lists.{each_more, get_within}
-use Rattle.xs_flattening.proofs.Listed.{key_equal}
+use Rattle.xs_flat_laws.proofs.Lists.{each_more, get_within}
+use Rattle.xs_flat_laws.proofs.Listed.{key_equal}
 use Rattle.xs_scope.proofs.FoundModule.{get_less}
 
 pub get_mapped : {A B : Type 0} (f : A → B) (xs : List A) (i : ℕ) (y : B) → slice_get (map f xs) i ≡ Some y → (x : A) × (slice_get xs i ≡ Some x) × (f x ≡ y)

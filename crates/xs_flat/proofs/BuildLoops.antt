@@ -2,19 +2,19 @@
 use Rattle.std.proofs.Common.{◌≡◌, ℕ, zero, suc, ◌+◌, ◌<◌, ◌≤◌, List, [], ◌∷◌, ◌++◌, length, drop, Option, Some, None, refl, sym, ◌∙◌, ap, subst, arith, append_assoc, append-nil, slice_index_or}
 use Rattle.std.specs.Prelude.{slice_get, flat_map, option_map}
 use Rattle.xs_tree.specs.Trace.{Each}
-use Rattle.xs_flattening.specs.Flat.{FlatInstance}
-use Rattle.xs_flattening.specs.Items.{Item, NumberedItem, instances_of}
-use Rattle.xs_flattening.specs.Model.{Condition}
+use Rattle.xs_tree.specs.Flat.{FlatInstance}
+use Rattle.xs_flat_laws.specs.Items.{Item, NumberedItem, instances_of}
+use Rattle.xs_flat_laws.specs.Model.{Condition}
 use Rattle.xs_scope.specs.declared.bounds.Bounds.{Bounds}
 use Rattle.xs_scope.specs.declared.names.Scene.{Scene}
 use Rattle.xs_scope.specs.declared.walk.Spot.{Spot}
 use Rattle.xs_scope.specs.declared.modules.Names.{Names}
-use Rattle.xs_scope.specs.ModelTree.{place_of}
+use Rattle.xs_tree.specs.ModelTree.{place_of}
 use Rattle.xs_scope.specs.declared.needs.Needs.{Needs}
 use Rattle.xs_scope.specs.SceneTree.{program_of, IsScene, IsSpot, number_and_item, items_of_instance, items_at}
 use Rattle.xs_flat.specs.ResolverOf.{leaf_at}
 use Rattle.xs_flat.specs.Asked.{IsConditionKnown, AreConditionsKnown, asked_conditions, asked_item, asked_items, asked_from, item_listed, instance_in, instance_told}
-use Rattle.xs_flattening.proofs.Lists.{get_within}
+use Rattle.xs_flat_laws.proofs.Lists.{get_within}
 use Rattle.xs_scope.proofs.SceneNeeds.{both_size}
 
 pub drop_at : {A : Type 0} (xs : List A) (k : ℕ) (x : A) → slice_get xs k ≡ Some x → drop k xs ≡ x ∷ drop (k + 1) xs

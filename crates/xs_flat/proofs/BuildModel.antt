@@ -9,20 +9,20 @@ use Rattle.xs_tree.specs.Leaves.{tree_map, trees_map, branches_map}
 use Rattle.xs_tree.specs.Written.{tree_of}
 use Rattle.xs_tree.specs.Scope.{Place, Key}
 use Rattle.xs_tree.specs.Trace.{Each}
-use Rattle.xs_flattening.specs.Flat.{FlatInstance, FlatVariable, FlatFormula, FlatModel}
-use Rattle.xs_flattening.specs.Resolved.{leaves_in, trees_leaves, branches_leaves, has_next, Definition, IsBefore, IsResolved, AreDefinitions}
-use Rattle.xs_flattening.specs.Items.{modules_of, Visit, instances_of, variables_of}
-use Rattle.xs_flattening.specs.Rules.{IsAccepted, expression_of}
-use Rattle.xs_flattening.specs.Model.{EachBoth, Root, roots_of, symbols_of, AddsAll, IsInstanceNumber, IsVariableOf, IsDefinitionOf, IsFlatOf}
-use Rattle.xs_flattening.proofs.Conditions.{each_at, each_join}
-use Rattle.xs_flattening.proofs.Variables.{both_at, both_at_second}
-use Rattle.xs_flattening.proofs.Lists.{get_within}
+use Rattle.xs_tree.specs.Flat.{FlatInstance, FlatVariable, FlatFormula, FlatModel}
+use Rattle.xs_flat_laws.specs.Resolved.{leaves_in, trees_leaves, branches_leaves, has_next, Definition, IsBefore, IsResolved, AreDefinitions}
+use Rattle.xs_flat_laws.specs.Items.{modules_of, Visit, instances_of, variables_of}
+use Rattle.xs_flat_laws.specs.Rules.{IsAccepted, expression_of}
+use Rattle.xs_flat_laws.specs.Model.{EachBoth, Root, roots_of, symbols_of, AddsAll, IsInstanceNumber, IsVariableOf, IsDefinitionOf, IsFlatOf}
+use Rattle.xs_flat_laws.proofs.Conditions.{each_at, each_join}
+use Rattle.xs_flat_laws.proofs.Variables.{both_at, both_at_second}
+use Rattle.xs_flat_laws.proofs.Lists.{get_within}
 use Rattle.xs_scope.specs.declared.bounds.Bounds.{Bounds}
-use Rattle.xs_scope.specs.declared.model.Flat.{Flat}
-use Rattle.xs_scope.specs.declared.model.Flat.TheVariants.{Var, Symbol, Definition as DefinitionOf}
-use Rattle.xs_scope.specs.declared.model.Formula.{Formula as FormulaOf}
-use Rattle.xs_scope.specs.declared.model.Variable.{Variable}
-use Rattle.xs_scope.specs.declared.model.FlatModel.{FlatModel as FlatModelOf}
+use Rattle.xs_tree.specs.declared.model.Flat.{Flat}
+use Rattle.xs_tree.specs.declared.model.Flat.TheVariants.{Var, Symbol, Definition as DefinitionOf}
+use Rattle.xs_tree.specs.declared.model.Formula.{Formula as FormulaOf}
+use Rattle.xs_tree.specs.declared.model.Variable.{Variable}
+use Rattle.xs_tree.specs.declared.model.FlatModel.{FlatModel as FlatModelOf}
 use Rattle.xs_scope.specs.declared.modules.Names.{Names}
 use Rattle.xs_scope.specs.declared.walk.Spot.{Spot}
 use Rattle.xs_scope.specs.declared.names.Defined.{Defined}
@@ -31,8 +31,8 @@ use Rattle.xs_scope.specs.declared.needs.Needs.{Needs}
 use Rattle.xs_flat.specs.declared.clauses.Asked.{Asked}
 use Rattle.xs_flat.specs.declared.clauses.Asked.TheVariants as asked
 use Rattle.xs_scope.specs.Closed.{is_within, tree_all, trees_all, branches_all, is_closed, are_earlier}
-use Rattle.xs_scope.specs.ModelTree.{leaf_of, flat_tree, place_of, instance_tree, variable_tree, formula_tree, model_tree}
-use Rattle.xs_scope.specs.Symbols.{texts}
+use Rattle.xs_tree.specs.ModelTree.{leaf_of, flat_tree, place_of, instance_tree, variable_tree, formula_tree, model_tree}
+use Rattle.xs_tree.specs.BorrowedTexts.{texts}
 use Rattle.xs_scope.specs.SceneTree.{HasNames, IsPlaced, IsSpot, IsDefined, program_of, IsScene}
 use Rattle.xs_scope.specs.NeedsTree.{keys_of, IsKeyAt, AreNeeds}
 use Rattle.xs_scope.specs.Walked.{IsDeclaredBy, AreDeclared}
@@ -45,7 +45,7 @@ use Rattle.xs_flat.proofs.BuildLeaves.{get_map, get_mapped, order, bounds_with, 
 use Rattle.xs_scope.proofs.SceneItems.{both_more}
 use Rattle.xs_flat.proofs.BuildSound.{definition_of, keys_of_definitions, definitions, definition_at, sound, resolver_at}
 use Rattle.xs_flat.proofs.BuildFormulas.{all_known, formulas_are, both_are}
-use Rattle.xs_flattening.proofs.Kept.{module_named}
+use Rattle.xs_flat_laws.proofs.Kept.{module_named}
 use Rattle.xs_scope.proofs.FoundModule.{get_less}
 use Rattle.xs_scope.proofs.SceneNeeds.{both_size}
 

@@ -4,19 +4,15 @@ use Rattle.std.specs.Prelude.{◌⊎◌, slice_get}
 use Rattle.xs_tree.specs.ProgramTree.{Path, Formula, ProgramTree}
 use Rattle.xs_tree.specs.Scope.{Place, Key, Meaning, a_variable_at, an_expression_at, an_instance_at, a_symbol, Means}
 use Rattle.xs_tree.specs.Trace.{AtSome}
-use Rattle.xs_flattening.specs.Resolved.{leaves_in}
-use Rattle.xs_flattening.specs.Rules.{Needs, Leads, NeedsItself, expression_of}
-use Rattle.xs_flattening.specs.Model.{keys_of_meaning, AreNamed, same_key, is_key_among, Adds, AddsAll, stands, comes, no_more, one_more}
-use Rattle.xs_flattening.proofs.Resolving.{same_meaning}
-use Rattle.xs_flat.proofs.BuildAccepted.{or_true}
-use Rattle.xs_flattening.proofs.Listed.{key_equal}
+use Rattle.xs_flat_laws.specs.Resolved.{leaves_in}
+use Rattle.xs_flat_laws.specs.Rules.{Needs, Leads, NeedsItself, expression_of}
+use Rattle.xs_flat_laws.specs.Model.{keys_of_meaning, AreNamed, same_key, is_key_among, Adds, AddsAll, stands, comes, no_more, one_more}
+use Rattle.xs_flat_laws.proofs.Resolving.{same_meaning}
+use Rattle.xs_flat_laws.proofs.OneOfTwo.{or_true, or_left}
+use Rattle.xs_flat_laws.proofs.Listed.{key_equal}
 use Rattle.xs_scope.proofs.AddLaws.{same_key_refl}
 
 -- keys among others
-pub or_left : (a b : Bool) → a ≡ true → (a || b) ≡ true
-or_left true b h = refl
-or_left false b h = cc
-
 or_cases : (a b : Bool) → (a || b) ≡ true → (a ≡ true) ⊎ (b ≡ true)
 or_cases true b h = inl refl
 or_cases false b h = inr h

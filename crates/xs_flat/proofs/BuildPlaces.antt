@@ -4,12 +4,12 @@ use Rattle.std.specs.Prelude.{flat_map, codes}
 use Rattle.xs_tree.specs.ProgramTree.{Text, DeclaredTree, boolean, range, members, instance, ProgramTree}
 use Rattle.xs_tree.specs.Scope.{Place}
 use Rattle.xs_tree.specs.Trace.{Each}
-use Rattle.xs_flattening.specs.Flat.{FlatInstance}
-use Rattle.xs_flattening.specs.Items.{Visit, visits, instance_declared, instances_of_visit, instances_of}
-use Rattle.xs_flattening.specs.Rules.{IsWalkable}
-use Rattle.xs_flattening.proofs.Conditions.{each_join}
-use Rattle.xs_flattening.proofs.Apart.{Differ, Apart, visits_apart}
-use Rattle.xs_flattening.proofs.Walkable.{main_is_there}
+use Rattle.xs_tree.specs.Flat.{FlatInstance}
+use Rattle.xs_flat_laws.specs.Items.{Visit, visits, instance_declared, instances_of_visit, instances_of}
+use Rattle.xs_flat_laws.specs.Rules.{IsWalkable}
+use Rattle.xs_flat_laws.proofs.Conditions.{each_join}
+use Rattle.xs_flat_laws.proofs.Apart.{Differ, Apart, visits_apart}
+use Rattle.xs_flat_laws.proofs.Walkable.{main_is_there}
 
 abbrev pub OtherPlace : FlatInstance → FlatInstance → Type 0
 OtherPlace i j = i.place ≡ j.place → ⊥

@@ -5,20 +5,20 @@ use Rattle.xs_tree.specs.ProgramTree.{Text, Path, Formula, DeclaredTree, boolean
 use Rattle.xs_tree.specs.Values.{opposite}
 use Rattle.xs_tree.specs.Scope.{Place, Role, Kind, a_formal, a_variable, a_define, an_instance, undeclared, kind_declared, kind_in, kind_in_sections, formal_from, kind_after_formals, kind_at, module_of_kind, module_at, find_module, actual_of_kind, plain_name}
 use Rattle.xs_tree.specs.Trace.{Each, IsInstance}
-use Rattle.xs_flattening.specs.Flat.{FlatInstance}
-use Rattle.xs_flattening.specs.Resolved.{has_next}
-use Rattle.xs_flattening.specs.Items.{Item, a_declaration, a_definition, an_assignment, some_constants, an_init, an_invar, a_trans, NumberedItem, items_of, items_named, Visit, visits_of, walk, visits, instances_of}
-use Rattle.xs_flattening.specs.Looks.{at_actual, plain_of, step_kind, step_of, look_after, ComesBack}
-use Rattle.xs_flattening.specs.Rules.{a_use, visit_sites, IsKept, IsAccepted, is_missing_instance, is_miscounted, is_other_count, wrong_count, no_such_name, define_loop, next_here, ActualHasNoMeaning, expression_of_kind, expression_in, ActualLoops, SomeActualLoops, LoopsInside}
-use Rattle.xs_flattening.specs.Model.{root_of_actual, roots_of_actuals, roots_of_type, roots_of_item, roots_of}
-use Rattle.xs_flattening.proofs.Conditions.{each_flat, each_at, each_from, each_join}
-use Rattle.xs_flattening.proofs.KindLaws.{sections_kind, DeclaredBy, declared_by, not_true}
-use Rattle.xs_flattening.proofs.Places.{In, VisitFacts, there, Walked, walked, in_items, found_at, all_visit_facts}
-use Rattle.xs_flattening.proofs.EndLaws.{ended_stays}
+use Rattle.xs_tree.specs.Flat.{FlatInstance}
+use Rattle.xs_flat_laws.specs.Resolved.{has_next}
+use Rattle.xs_flat_laws.specs.Items.{Item, a_declaration, a_definition, an_assignment, some_constants, an_init, an_invar, a_trans, NumberedItem, items_of, items_named, Visit, visits_of, walk, visits, instances_of}
+use Rattle.xs_flat_laws.specs.Looks.{at_actual, plain_of, step_kind, step_of, look_after, ComesBack}
+use Rattle.xs_flat_laws.specs.Rules.{a_use, visit_sites, IsKept, IsAccepted, is_missing_instance, is_miscounted, is_other_count, wrong_count, no_such_name, define_loop, next_here, ActualHasNoMeaning, expression_of_kind, expression_in, ActualLoops, SomeActualLoops, LoopsInside}
+use Rattle.xs_flat_laws.specs.Model.{root_of_actual, roots_of_actuals, roots_of_type, roots_of_item, roots_of}
+use Rattle.xs_flat_laws.proofs.Conditions.{each_flat, each_at, each_from, each_join}
+use Rattle.xs_flat_laws.proofs.KindLaws.{sections_kind, DeclaredBy, declared_by, not_true}
+use Rattle.xs_flat_laws.proofs.Places.{In, VisitFacts, there, Walked, walked, in_items, found_at, all_visit_facts}
+use Rattle.xs_flat_laws.proofs.EndLaws.{ended_stays}
 use Rattle.xs_flat.proofs.BuildAccepted.{some_at, nth_slice, next_among, IsGoodRoot, walkable, are, kept_at, ItemAt, item_at, fresh_declared, fresh_defined}
-use Rattle.xs_flattening.proofs.Meant.{declares_no_formal}
+use Rattle.xs_flat_laws.proofs.Meant.{declares_no_formal}
 use Rattle.xs_scope.proofs.NameKinds.{formal_named}
-use Rattle.xs_flattening.proofs.Kept.{module_named}
+use Rattle.xs_flat_laws.proofs.Kept.{module_named}
 
 counted : (a b : ℕ) → opposite (nat_eq a b) ≡ false → a ≡ b
 counted a b h = by_test (nat_eq a b) refl

@@ -4,12 +4,12 @@ use Rattle.std.specs.Prelude.{slice_get, map, if◌then◌else◌}
 use Rattle.xs_tree.specs.Tree.{truth}
 use Rattle.xs_tree.specs.ProgramTree.{Path, Formula, ProgramTree}
 use Rattle.xs_tree.specs.Scope.{Place, Key, Meaning, a_variable_at, an_expression_at, an_instance_at, a_symbol}
-use Rattle.xs_flattening.specs.Flat.{FlatLeaf, flat_variable, flat_symbol, flat_definition, FlatInstance, FlatVariable, FlatModel}
-use Rattle.xs_flattening.specs.Resolved.{Definition, StandsFor, IsLeafOf, IsSound}
-use Rattle.xs_flattening.specs.Items.{instances_of, variables_of}
-use Rattle.xs_flattening.specs.Rules.{IsAccepted, expression_of}
-use Rattle.xs_flattening.specs.Model.{EachBoth, Root, roots_of, symbols_of, same_place}
-use Rattle.xs_flattening.proofs.Variables.{both_at}
+use Rattle.xs_tree.specs.Flat.{FlatLeaf, flat_variable, flat_symbol, flat_definition, FlatInstance, FlatVariable, FlatModel}
+use Rattle.xs_flat_laws.specs.Resolved.{Definition, StandsFor, IsLeafOf, IsSound}
+use Rattle.xs_flat_laws.specs.Items.{instances_of, variables_of}
+use Rattle.xs_flat_laws.specs.Rules.{IsAccepted, expression_of}
+use Rattle.xs_flat_laws.specs.Model.{EachBoth, Root, roots_of, symbols_of, same_place}
+use Rattle.xs_flat_laws.proofs.Variables.{both_at}
 use Rattle.xs_scope.specs.declared.walk.Meaning.{Meaning as Found}
 use Rattle.xs_scope.specs.declared.walk.Meaning.TheVariants as found
 use Rattle.xs_scope.specs.declared.names.Scene.{Scene}
@@ -23,8 +23,8 @@ use Rattle.xs_scope.proofs.SceneFound.{scene_found}
 use Rattle.xs_flat.proofs.BuildPlaces.{OtherPlace, PlacesApart, places_apart}
 use Rattle.xs_flat.proofs.BuildAccepted.{walkable}
 use Rattle.xs_flat.proofs.BuildLeaves.{get_map, order}
-use Rattle.xs_flattening.proofs.Conditions.{each_at}
-use Rattle.xs_flattening.proofs.Numbered.{same_place_refl, same_place_equal}
+use Rattle.xs_flat_laws.proofs.Conditions.{each_at}
+use Rattle.xs_flat_laws.proofs.Numbered.{same_place_refl, same_place_equal}
 
 -- The number of a place.
 pub number_back : (k : ℕ) (is : List FlatInstance) (at : Place) (j : ℕ) → number_from k is at ≡ Some j → (i : ℕ) × (j ≡ k + i) × (x : FlatInstance) × (slice_get is i ≡ Some x) × (x.place ≡ at)

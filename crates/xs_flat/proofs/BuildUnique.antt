@@ -2,10 +2,10 @@
 use Rattle.std.proofs.Common.{◌≡◌, List, [], ◌∷◌, ◌++◌, Option, Some, None, refl, sym, ◌∙◌, ap, subst}
 use Rattle.xs_tree.specs.ProgramTree.{Path, Formula, ProgramTree}
 use Rattle.xs_tree.specs.Scope.{Place, Key}
-use Rattle.xs_flattening.specs.Resolved.{leaves_in}
-use Rattle.xs_flattening.specs.Rules.{expression_of}
-use Rattle.xs_flattening.specs.Model.{keys_of_meaning, AreNamed, is_key_among, Adds, AddsAll, stands, comes, no_more, one_more}
-use Rattle.xs_flattening.proofs.Resolving.{same_meaning}
+use Rattle.xs_flat_laws.specs.Resolved.{leaves_in}
+use Rattle.xs_flat_laws.specs.Rules.{expression_of}
+use Rattle.xs_flat_laws.specs.Model.{keys_of_meaning, AreNamed, is_key_among, Adds, AddsAll, stands, comes, no_more, one_more}
+use Rattle.xs_flat_laws.proofs.Resolving.{same_meaning}
 use Rattle.xs_scope.proofs.Heads.{not_both}
 
 -- the definitions that names mean are determined

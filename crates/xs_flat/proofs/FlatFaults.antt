@@ -6,11 +6,11 @@ use Rattle.std.specs.declared.result.Result.TheVariants.{Ok, Err}
 use Rattle.xs_tree.specs.ProgramTree.{Text, ModuleTree, ProgramTree}
 use Rattle.xs_tree.specs.Texts.{same_text}
 use Rattle.xs_tree.specs.Scope.{find_module}
-use Rattle.xs_flattening.specs.Rules as rules
-use Rattle.xs_flattening.specs.Rules.{IsFirstBroken, IsAccepted, use_sites}
-use Rattle.xs_flattening.specs.Items.{visits}
-use Rattle.xs_flattening.proofs.Laws.{accepted_unbroken}
-use Rattle.xs_flattening.proofs.Walkable.{accepted_walkable, main_is_there}
+use Rattle.xs_flat_laws.specs.Rules as rules
+use Rattle.xs_flat_laws.specs.Rules.{IsFirstBroken, IsAccepted, use_sites}
+use Rattle.xs_flat_laws.specs.Items.{visits}
+use Rattle.xs_flat_laws.proofs.Laws.{accepted_unbroken}
+use Rattle.xs_flat_laws.proofs.Walkable.{accepted_walkable, main_is_there}
 use Rattle.xs_scope.specs.declared.fault.FlatFault.{FlatFault}
 use Rattle.xs_scope.specs.Faults.{rule_of, IsFaultOf, IsWant}
 use Rattle.xs_scope.specs.SceneTree.{module_from}

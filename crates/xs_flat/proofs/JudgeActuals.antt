@@ -7,12 +7,12 @@ use Rattle.xs_tree.specs.Texts.{same_text, is_among}
 use Rattle.xs_tree.specs.ProgramTree.{Text, Path, Formula, ModuleTree, ProgramTree}
 use Rattle.xs_tree.specs.Scope.{Place, a_formal, an_instance, Key, actual_key, Meaning, an_expression_at, Means, means_in, find_module, formal_from, kind_after_formals, kind_in_sections, kind_at, module_of_kind, module_at, nth_formula, actual_of_kind, plain_name, through_actual, through_plain, by_kind}
 use Rattle.xs_tree.proofs.ValueLaws.{same_text_refl}
-use Rattle.xs_flattening.specs.Looks.{Look, at_actual, plain_of, step_kind, step_of, look_after, ComesBack, MeetsLoop, MeansNothing}
-use Rattle.xs_flattening.specs.Resolved.{has_next}
-use Rattle.xs_flattening.specs.Rules.{has_twice, ActualHasNoMeaning, ActualLoops}
-use Rattle.xs_flattening.proofs.EndLaws.{steps_more, ended_stays, ended_meets_none, stuck_means}
-use Rattle.xs_flattening.proofs.LookLaws.{step_means}
-use Rattle.xs_flattening.proofs.Now.{neither}
+use Rattle.xs_flat_laws.specs.Looks.{Look, at_actual, plain_of, step_kind, step_of, look_after, ComesBack, MeetsLoop, MeansNothing}
+use Rattle.xs_flat_laws.specs.Resolved.{has_next}
+use Rattle.xs_flat_laws.specs.Rules.{has_twice, ActualHasNoMeaning, ActualLoops}
+use Rattle.xs_flat_laws.proofs.EndLaws.{steps_more, ended_stays, ended_meets_none, stuck_means}
+use Rattle.xs_flat_laws.proofs.LookLaws.{step_means}
+use Rattle.xs_flat_laws.proofs.Now.{neither}
 use Rattle.xs_scope.specs.SceneTree.{Denotes, IsKnown}
 use Rattle.xs_scope.specs.NeedsTree.{AreNeeds, HasCircle}
 use Rattle.xs_flat.specs.Judging.{IsJudged}

@@ -7,9 +7,9 @@ use Rattle.xs_tree.specs.Texts.{same_text}
 use Rattle.xs_tree.specs.ProgramTree.{Text, Path, Formula, AssignmentTree, ProgramTree}
 use Rattle.xs_tree.specs.Scope.{Place}
 use Rattle.xs_tree.specs.Trace.{AtSome}
-use Rattle.xs_flattening.specs.Flat.{FlatInstance}
-use Rattle.xs_flattening.specs.Items.{an_assignment, NumberedItem, instances_of}
-use Rattle.xs_flattening.specs.Rules.{is_target, is_later, has_bad_next, inputs_judged, GivesInput, BreaksNames, BreaksOnce, a_use}
+use Rattle.xs_tree.specs.Flat.{FlatInstance}
+use Rattle.xs_flat_laws.specs.Items.{an_assignment, NumberedItem, instances_of}
+use Rattle.xs_flat_laws.specs.Rules.{is_target, is_later, has_bad_next, inputs_judged, GivesInput, BreaksNames, BreaksOnce, a_use}
 use Rattle.xs_flat.specs.Assigned.{IsTargetTold, with_moment, is_met, times_of, assignment_rule, IsItemTold}
 use Rattle.xs_scope.specs.Faults.{first_of}
 use Rattle.xs_flat.specs.Judging.{IsJudged}

@@ -6,11 +6,11 @@ use Rattle.xs_tree.specs.declared.expr.Expr.{Expr}
 use Rattle.xs_tree.specs.Written.{tree_of}
 use Rattle.xs_tree.specs.ProgramTree.{Text, Path, Formula, instance, ModuleTree, ProgramTree}
 use Rattle.xs_tree.specs.Scope.{Place, Role, find_module, plain_name}
-use Rattle.xs_flattening.specs.Flat.{FlatInstance}
-use Rattle.xs_flattening.specs.Items.{a_declaration, NumberedItem}
-use Rattle.xs_flattening.specs.Resolved.{has_next}
-use Rattle.xs_flattening.specs.Rules.{ActualHasNoMeaning, SomeActualLoops, LoopsInside, some_has_next, a_use}
-use Rattle.xs_flattening.proofs.Lists.{get_left, get_end, get_within}
+use Rattle.xs_tree.specs.Flat.{FlatInstance}
+use Rattle.xs_flat_laws.specs.Items.{a_declaration, NumberedItem}
+use Rattle.xs_flat_laws.specs.Resolved.{has_next}
+use Rattle.xs_flat_laws.specs.Rules.{ActualHasNoMeaning, SomeActualLoops, LoopsInside, some_has_next, a_use}
+use Rattle.xs_flat_laws.proofs.Lists.{get_left, get_end, get_within}
 use Rattle.xs_scope.specs.Faults.{first_of}
 use Rattle.xs_scope.specs.FoundAt.{formal_at}
 use Rattle.xs_scope.specs.SceneTree.{IsKnown, IsScene, program_of}

@@ -4,13 +4,13 @@ use Rattle.std.specs.Prelude.{slice_get, flat_map, option_map, IfSome}
 use Rattle.std.proofs.lemmas.List.{take_all}
 use Rattle.xs_tree.specs.ProgramTree.{ProgramTree}
 use Rattle.xs_tree.specs.Trace.{Each}
-use Rattle.xs_flattening.specs.Flat.{FlatInstance}
-use Rattle.xs_flattening.specs.Items.{Item, NumberedItem, NumberedModule, numbered_from, items_of, items_named, visits, instances_of}
-use Rattle.xs_flattening.specs.Rules as rules
-use Rattle.xs_flattening.specs.Rules.{Site, the_program, a_use, use_sites, module_sites, visit_sites, IsKept, IsWalkable, IsFirstBroken}
-use Rattle.xs_flattening.proofs.Conditions.{each_join}
-use Rattle.xs_flattening.proofs.FaultLaws.{IsFirstOf, first_broken, in_part, after_part}
-use Rattle.xs_flattening.proofs.Lists.{get_within, map_joined}
+use Rattle.xs_tree.specs.Flat.{FlatInstance}
+use Rattle.xs_flat_laws.specs.Items.{Item, NumberedItem, NumberedModule, numbered_from, items_of, items_named, visits, instances_of}
+use Rattle.xs_flat_laws.specs.Rules as rules
+use Rattle.xs_flat_laws.specs.Rules.{Site, the_program, a_use, use_sites, module_sites, visit_sites, IsKept, IsWalkable, IsFirstBroken}
+use Rattle.xs_flat_laws.proofs.Conditions.{each_join}
+use Rattle.xs_flat_laws.proofs.FaultLaws.{IsFirstOf, first_broken, in_part, after_part}
+use Rattle.xs_flat_laws.proofs.Lists.{get_within, map_joined}
 use Rattle.xs_flat.specs.Assigned.{times_of, AreTimes, IsItemTold, IsFaultAt, IsPlaceTold}
 use Rattle.xs_scope.specs.Faults.{rule_of, IsFaultOf}
 use Rattle.xs_scope.specs.SceneTree.{number_and_item, items_of_instance, items_at, IsScene, program_of}

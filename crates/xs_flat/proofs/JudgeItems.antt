@@ -3,10 +3,10 @@ use Rattle.std.proofs.Common.{◌≡◌, ℕ, suc, ◌<◌, arith, Bool, true, f
 use Rattle.std.specs.Prelude.{◌↔◌, IsTrue, slice_get}
 use Rattle.xs_tree.specs.ProgramTree.{Text, Formula, DeclaredTree, boolean, range, members, instance, DefineTree, ProgramTree}
 use Rattle.xs_tree.specs.Scope.{Role, define_key}
-use Rattle.xs_flattening.specs.Flat.{FlatInstance}
-use Rattle.xs_flattening.specs.Items.{Item, a_declaration, a_definition, some_constants, an_init, an_invar, a_trans, NumberedItem, instances_of}
-use Rattle.xs_flattening.specs.Resolved.{has_next}
-use Rattle.xs_flattening.specs.Rules.{Rule, number_of, no_main, main_has_parameters, double_module, double_name, no_such_module, wrong_count, module_loop, no_such_name, not_a_target, double_assign, define_loop, next_here, input_here, too_many, a_use, BreaksNames, BreaksTarget, BreaksOnce, BreaksLoops, BreaksInputs, breaks_next, BreaksAtUse, IsKept, NeedsItself, next_under_next}
+use Rattle.xs_tree.specs.Flat.{FlatInstance}
+use Rattle.xs_flat_laws.specs.Items.{Item, a_declaration, a_definition, some_constants, an_init, an_invar, a_trans, NumberedItem, instances_of}
+use Rattle.xs_flat_laws.specs.Resolved.{has_next}
+use Rattle.xs_flat_laws.specs.Rules.{Rule, number_of, no_main, main_has_parameters, double_module, double_name, no_such_module, wrong_count, module_loop, no_such_name, not_a_target, double_assign, define_loop, next_here, input_here, too_many, a_use, BreaksNames, BreaksTarget, BreaksOnce, BreaksLoops, BreaksInputs, breaks_next, BreaksAtUse, IsKept, NeedsItself, next_under_next}
 use Rattle.xs_scope.specs.Faults.{first_of}
 use Rattle.xs_flat.specs.Judging.{IsJudged}
 use Rattle.xs_flat.specs.Verdicts.{IsTold, IsToldOf}

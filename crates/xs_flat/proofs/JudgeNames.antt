@@ -4,19 +4,19 @@ use Rattle.std.specs.Prelude.{◌↔◌, IsTrue, slice_get, flat_map, codes}
 use Rattle.xs_tree.specs.ProgramTree.{Text, Path, Formula, DeclaredTree, boolean, range, members, instance, ModuleTree, ProgramTree}
 use Rattle.xs_tree.specs.Scope.{Place, a_variable, kind_declared, kind_at, module_at, Key, Meaning, a_variable_at, an_expression_at, an_instance_at, a_symbol, Means, find_module}
 use Rattle.xs_tree.specs.Trace.{Each}
-use Rattle.xs_flattening.specs.Items.{Visit, visits, variable_declared, variables_of}
-use Rattle.xs_flattening.specs.Looks.{MeansNothing, MeetsLoop}
-use Rattle.xs_flattening.specs.Rules.{HasNoValue, nothing, only_an_instance, ReadsInput, GivesInput, is_input_kind, IsWalkable}
-use Rattle.xs_flattening.specs.Model.{Root, roots_of, EachBoth}
-use Rattle.xs_flattening.proofs.Conditions.{each_join, each_at}
-use Rattle.xs_flattening.proofs.Places.{Real, has_main}
-use Rattle.xs_flattening.proofs.Variables.{both_at}
-use Rattle.xs_flattening.proofs.Walkable.{main_is_there}
-use Rattle.xs_scope.specs.ModelTree.{role_of}
+use Rattle.xs_flat_laws.specs.Items.{Visit, visits, variable_declared, variables_of}
+use Rattle.xs_flat_laws.specs.Looks.{MeansNothing, MeetsLoop}
+use Rattle.xs_flat_laws.specs.Rules.{HasNoValue, nothing, only_an_instance, ReadsInput, GivesInput, is_input_kind, IsWalkable}
+use Rattle.xs_flat_laws.specs.Model.{Root, roots_of, EachBoth}
+use Rattle.xs_flat_laws.proofs.Conditions.{each_join, each_at}
+use Rattle.xs_flat_laws.proofs.Places.{Real, has_main}
+use Rattle.xs_flat_laws.proofs.Variables.{both_at}
+use Rattle.xs_flat_laws.proofs.Walkable.{main_is_there}
+use Rattle.xs_tree.specs.ModelTree.{role_of}
 use Rattle.xs_scope.specs.SceneTree.{Denotes, IsFound}
 use Rattle.xs_scope.specs.NeedsTree.{AreNeeds, KeyReadsInput, HasInput, HasCircle, keys_of}
 use Rattle.xs_flat.specs.Verdicts.{is_without_value, mark_or, mark_at, is_input_found, is_circle_found}
-use Rattle.xs_scope.specs.declared.model.Role.TheVariants.{State, Input, Frozen}
+use Rattle.xs_tree.specs.declared.model.Role.TheVariants.{State, Input, Frozen}
 use Rattle.xs_scope.specs.declared.needs.Needs.{Needs}
 use Rattle.xs_scope.specs.declared.walk.Meaning.{Meaning as Found}
 use Rattle.xs_scope.specs.declared.walk.Meaning.TheVariants as found

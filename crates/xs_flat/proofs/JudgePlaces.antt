@@ -7,15 +7,15 @@ use Rattle.xs_tree.specs.ProgramTree.{Text, Formula, instance, DeclTree, ModuleT
 use Rattle.xs_tree.specs.Scope.{Place, Role, Kind, an_instance, kind_declared, kind_at, module_at, find_module}
 use Rattle.xs_tree.specs.Trace.{Each, IsInstance}
 use Rattle.xs_tree.specs.Values.{opposite}
-use Rattle.xs_flattening.specs.Flat.{FlatInstance}
-use Rattle.xs_flattening.specs.Items.{a_declaration, NumberedItem, NumberedModule, items_of, items_named, modules_from, Visit, visits_of, walk, visits, instances_of}
-use Rattle.xs_flattening.specs.Rules.{is_other_count, is_miscounted, names_of_item, is_name_again, IsWalkable}
-use Rattle.xs_flattening.specs.Model.{EachBoth}
-use Rattle.xs_flattening.proofs.Conditions.{each_at}
-use Rattle.xs_flattening.proofs.KindLaws.{ItemFacts, kind_of_declaration}
-use Rattle.xs_flattening.proofs.Places.{In, facts_named, Walked, in_items, found_at, walked, are_instances}
-use Rattle.xs_flattening.proofs.Variables.{both_at}
-use Rattle.xs_flattening.proofs.Walkable.{main_is_there}
+use Rattle.xs_tree.specs.Flat.{FlatInstance}
+use Rattle.xs_flat_laws.specs.Items.{a_declaration, NumberedItem, NumberedModule, items_of, items_named, modules_from, Visit, visits_of, walk, visits, instances_of}
+use Rattle.xs_flat_laws.specs.Rules.{is_other_count, is_miscounted, names_of_item, is_name_again, IsWalkable}
+use Rattle.xs_flat_laws.specs.Model.{EachBoth}
+use Rattle.xs_flat_laws.proofs.Conditions.{each_at}
+use Rattle.xs_flat_laws.proofs.KindLaws.{ItemFacts, kind_of_declaration}
+use Rattle.xs_flat_laws.proofs.Places.{In, facts_named, Walked, in_items, found_at, walked, are_instances}
+use Rattle.xs_flat_laws.proofs.Variables.{both_at}
+use Rattle.xs_flat_laws.proofs.Walkable.{main_is_there}
 use Rattle.xs_scope.specs.FoundAt.{own_in, own_at, found_or, formal_in, formal_or, formal_at}
 use Rattle.xs_scope.specs.SceneTree.{IsCalled, IsSpot, IsOwn, IsKnown, AreKnown, formals_of, IsScene, program_of}
 use Rattle.xs_flat.specs.Verdicts.{IsHanded}
@@ -25,7 +25,7 @@ use Rattle.xs_scope.specs.declared.walk.Meaning.{Meaning as Found}
 use Rattle.xs_scope.specs.declared.walk.Spot.{Spot}
 use Rattle.xs_flat.proofs.JudgeLists.{none_some, some_same}
 use Rattle.xs_flat.proofs.BuildRoots.{counts_kept}
-use Rattle.xs_flattening.proofs.Meant.{formals_once}
+use Rattle.xs_flat_laws.proofs.Meant.{formals_once}
 
 -- an instance with its module
 pub record HasModule (p : ProgramTree) (at : FlatInstance) : Type 0 where

@@ -6,17 +6,17 @@ use Rattle.xs_tree.specs.declared.program.Moment.TheVariants.{Always, First, Aft
 use Rattle.xs_tree.specs.Texts.{same_text}
 use Rattle.xs_tree.specs.ProgramTree.{Text, DeclaredTree, boolean, range, members, instance, ModuleTree, ProgramTree}
 use Rattle.xs_tree.specs.Scope.{Place, a_formal, a_variable, a_define, an_instance, undeclared, Key, define_key, a_variable_at, an_expression_at, an_instance_at, kind_declared, formal_from, kind_after_formals, kind_in, kind_in_sections, kind_at, module_at}
-use Rattle.xs_flattening.specs.Flat.{FlatInstance}
-use Rattle.xs_flattening.specs.Items.{Item, a_declaration, a_definition, an_assignment, some_constants, an_init, an_invar, a_trans, NumberedItem, items_of, items_named, modules_of, instances_of}
-use Rattle.xs_flattening.specs.Rules.{may_be_assigned, is_target, IsWalkable}
-use Rattle.xs_flattening.proofs.KindLaws.{kind_of_item, kind_in_items, sections_kind}
-use Rattle.xs_flattening.proofs.Places.{found_at}
-use Rattle.xs_flattening.proofs.Variables.{both_at}
+use Rattle.xs_tree.specs.Flat.{FlatInstance}
+use Rattle.xs_flat_laws.specs.Items.{Item, a_declaration, a_definition, an_assignment, some_constants, an_init, an_invar, a_trans, NumberedItem, items_of, items_named, modules_of, instances_of}
+use Rattle.xs_flat_laws.specs.Rules.{may_be_assigned, is_target, IsWalkable}
+use Rattle.xs_flat_laws.proofs.KindLaws.{kind_of_item, kind_in_items, sections_kind}
+use Rattle.xs_flat_laws.proofs.Places.{found_at}
+use Rattle.xs_flat_laws.proofs.Variables.{both_at}
 use Rattle.xs_flat.specs.Assigned.{meant_by, local_meant, may_assign}
 use Rattle.xs_scope.specs.FoundAt.{entry_of, names_of_spot, local_in, local_at, own_at}
-use Rattle.xs_scope.specs.ModelTree.{role_of}
+use Rattle.xs_tree.specs.ModelTree.{role_of}
 use Rattle.xs_scope.specs.SceneTree.{gives_name, formal_entries, item_entries, local_entries, HasNames, Denotes, meaning_of_declared, meaning_of_item, IsOwnMeaning, IsScene, program_of}
-use Rattle.xs_scope.specs.declared.model.Role.TheVariants.{State, Input, Frozen}
+use Rattle.xs_tree.specs.declared.model.Role.TheVariants.{State, Input, Frozen}
 use Rattle.xs_scope.specs.declared.modules.Local.{Local}
 use Rattle.xs_scope.specs.declared.modules.Local.TheVariants as local
 use Rattle.xs_scope.specs.declared.modules.Names.{Names}

@@ -10,12 +10,12 @@ use Rattle.xs_tree.specs.ProgramTree.{Text, Path, AssignmentTree}
 use Rattle.xs_tree.specs.Texts.{same_text}
 use Rattle.xs_tree.specs.Trace.{AtSome}
 use Rattle.xs_tree.proofs.ValueLaws.{same_text_refl}
-use Rattle.xs_flattening.specs.Items.{Item, a_declaration, a_definition, an_assignment, some_constants, an_init, an_invar, a_trans}
-use Rattle.xs_flattening.specs.Rules.{at_one_time, Assigns}
+use Rattle.xs_flat_laws.specs.Items.{Item, a_declaration, a_definition, an_assignment, some_constants, an_init, an_invar, a_trans}
+use Rattle.xs_flat_laws.specs.Rules.{at_one_time, Assigns}
 use Rattle.xs_flat.specs.Assigned.{is_always, is_first, is_after, no_times, with_moment, is_met, is_only, assigns_at, some_assigns, times_in, times_of, AreTimes}
 use Rattle.xs_flat.specs.declared.judge.Times.{Times}
 use Rattle.xs_scope.proofs.SymbolKinds.{grouped}
-use Rattle.xs_scope.proofs.SymbolLaws.{same_bytes}
+use Rattle.xs_tree.proofs.BorrowedTexts.{same_bytes}
 use Rattle.xs_lexer.proofs.SignLemmas.{both_true}
 use Rattle.xs_tree.proofs.OneTree.{same_text_equal}
 

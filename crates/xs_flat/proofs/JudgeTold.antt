@@ -9,14 +9,14 @@ use Rattle.xs_tree.specs.declared.program.Define.{Define}
 use Rattle.xs_tree.specs.Written.{tree_of}
 use Rattle.xs_tree.specs.ProgramTree.{Text, Path, Formula, DeclaredTree, boolean, range, members, instance, DeclTree, DefineTree, ModuleTree, ProgramTree, decl_tree, define_tree, assignment_tree}
 use Rattle.xs_tree.specs.Scope.{Place, Role, define_key, an_expression_at, an_instance_at, find_module}
-use Rattle.xs_flattening.specs.Flat.{FlatInstance}
-use Rattle.xs_flattening.specs.Items.{Item, a_declaration, a_definition, an_assignment, some_constants, an_init, an_invar, a_trans, NumberedItem, items_named, instances_of}
-use Rattle.xs_flattening.specs.Rules.{a_use}
+use Rattle.xs_tree.specs.Flat.{FlatInstance}
+use Rattle.xs_flat_laws.specs.Items.{Item, a_declaration, a_definition, an_assignment, some_constants, an_init, an_invar, a_trans, NumberedItem, items_named, instances_of}
+use Rattle.xs_flat_laws.specs.Rules.{a_use}
 use Rattle.xs_flat.specs.Assigned.{IsItemTold}
 use Rattle.xs_scope.specs.Faults.{first_of}
 use Rattle.xs_scope.specs.FoundAt.{own_at}
 use Rattle.xs_scope.specs.ItemTree.{item_tree}
-use Rattle.xs_scope.specs.ModelTree.{role_of}
+use Rattle.xs_tree.specs.ModelTree.{role_of}
 use Rattle.xs_scope.specs.NeedsTree.{AreNeeds, HasCircle}
 use Rattle.xs_scope.specs.SceneTree.{Denotes, meaning_of_item, IsOwnMeaning, IsScene, program_of}
 use Rattle.xs_flat.specs.Verdicts.{is_circle_found, IsTold, IsToldOf, IsToldHere, AreActuals, instance_in, IsHanded, JudgesActuals}

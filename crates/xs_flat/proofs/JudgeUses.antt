@@ -2,8 +2,8 @@
 use Rattle.std.proofs.Common.{◌≡◌, Bool, true, false, List, [], ◌∷◌, ◌++◌, refl, ◌∙◌, ap}
 use Rattle.std.proofs.lemmas.List.{map-append}
 use Rattle.xs_tree.specs.Tree.{Tree, Trees, Branches, truth, number, leaf, not_of, negate, next_of, binary, choice, case_of, set_of, span, no_tree, tree_then, no_branch, branch_then}
-use Rattle.xs_flattening.specs.Resolved.{leaves_in, trees_leaves, branches_leaves}
-use Rattle.xs_flattening.specs.Rules.{leaves_under, trees_leaves_under, branches_leaves_under}
+use Rattle.xs_flat_laws.specs.Resolved.{leaves_in, trees_leaves, branches_leaves}
+use Rattle.xs_flat_laws.specs.Rules.{leaves_under, trees_leaves_under, branches_leaves_under}
 use Rattle.xs_scope.specs.Flagged.{flagged, trees_flagged, branches_flagged}
 use Rattle.xs_flat.specs.Verdicts.{names_in, names_under}
 

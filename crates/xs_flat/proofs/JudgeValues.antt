@@ -5,10 +5,10 @@ use Rattle.std.proofs.lemmas.List.{map-append}
 use Rattle.xs_tree.specs.ProgramTree.{Path, Formula, ProgramTree}
 use Rattle.xs_tree.specs.Scope.{Place}
 use Rattle.xs_tree.specs.Trace.{AtSome}
-use Rattle.xs_flattening.specs.Flat.{FlatInstance}
-use Rattle.xs_flattening.specs.Items.{instances_of}
-use Rattle.xs_flattening.specs.Resolved.{has_next}
-use Rattle.xs_flattening.specs.Rules.{HasNoValue, GivesInput, IsWalkable, next_under_next}
+use Rattle.xs_tree.specs.Flat.{FlatInstance}
+use Rattle.xs_flat_laws.specs.Items.{instances_of}
+use Rattle.xs_flat_laws.specs.Resolved.{has_next}
+use Rattle.xs_flat_laws.specs.Rules.{HasNoValue, GivesInput, IsWalkable, next_under_next}
 use Rattle.xs_scope.specs.SceneTree.{IsFound, IsScene, program_of}
 use Rattle.xs_scope.specs.NeedsTree.{AreNeeds}
 use Rattle.xs_scope.specs.Flagged.{flagged}

@@ -1,9 +1,9 @@
 -- The flat model of an accepted program is its only one.
 use Rattle.std.proofs.Common.{◌≡◌, Bool, true, false, [], ◌∷◌, None, refl, sym}
-use Rattle.xs_flattening.specs.Flat.{FlatModel}
-use Rattle.xs_flattening.specs.Rules.{IsAccepted}
-use Rattle.xs_flattening.specs.Model.{IsFlatOf}
-use Rattle.xs_flattening.proofs.OneModel.{one_model}
+use Rattle.xs_tree.specs.Flat.{FlatModel}
+use Rattle.xs_flat_laws.specs.Rules.{IsAccepted}
+use Rattle.xs_flat_laws.specs.Model.{IsFlatOf}
+use Rattle.xs_flat_laws.proofs.OneModel.{one_model}
 use Rattle.xs_scope.specs.declared.fault.Rule.{Rule}
 use Rattle.xs_scope.specs.declared.names.Scene.{Scene}
 use Rattle.xs_scope.specs.declared.needs.Needs.{Needs}

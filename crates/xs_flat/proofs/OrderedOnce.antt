@@ -3,12 +3,12 @@ use Rattle.std.proofs.Common.{◌≡◌, ℕ, zero, suc, List, [], ◌∷◌, So
 use Rattle.std.specs.Prelude.{slice_get, map}
 use Rattle.xs_tree.specs.ProgramTree.{ProgramTree}
 use Rattle.xs_tree.specs.Scope.{Key}
-use Rattle.xs_flattening.specs.Resolved.{Definition}
-use Rattle.xs_flattening.specs.Rules.{IsWalkable}
-use Rattle.xs_flattening.specs.Model.{KeysDiffer, Root, roots_of}
-use Rattle.xs_flattening.proofs.Conditions.{each_from}
-use Rattle.xs_flattening.proofs.Variables.{both_at_second}
-use Rattle.xs_flattening.proofs.KeysApart.{one_root}
+use Rattle.xs_flat_laws.specs.Resolved.{Definition}
+use Rattle.xs_flat_laws.specs.Rules.{IsWalkable}
+use Rattle.xs_flat_laws.specs.Model.{KeysDiffer, Root, roots_of}
+use Rattle.xs_flat_laws.proofs.Conditions.{each_from}
+use Rattle.xs_flat_laws.proofs.Variables.{both_at_second}
+use Rattle.xs_flat_laws.proofs.KeysApart.{one_root}
 use Rattle.xs_scope.specs.NeedsTree.{IsKeyAt, IsOrder}
 
 -- the root of a number, from its key

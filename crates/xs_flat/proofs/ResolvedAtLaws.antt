@@ -6,30 +6,30 @@ use Rattle.xs_tree.specs.Tree.{Tree}
 use Rattle.xs_tree.specs.ProgramTree.{Text, Formula, ProgramTree}
 use Rattle.xs_tree.specs.Leaves.{tree_map}
 use Rattle.xs_tree.specs.Scope.{Place}
-use Rattle.xs_flattening.specs.Flat.{FlatLeaf, FlatInstance, FlatVariable, FlatFormula, FlatModel}
-use Rattle.xs_flattening.specs.Resolved.{has_next, Definition, IsSound}
-use Rattle.xs_flattening.specs.Items.{Visit, instances_of, variables_of}
-use Rattle.xs_flattening.specs.Rules as rules
-use Rattle.xs_flattening.specs.Rules.{number_of, no_main, main_has_parameters, double_module, double_name, no_such_module, wrong_count, module_loop, no_such_name, not_a_target, double_assign, define_loop, next_here, input_here, too_many, SomeHasNoValue, IsAccepted, expression_of}
-use Rattle.xs_flattening.specs.Model.{EachBoth, symbols_of, IsVariableOf, IsDefinitionOf, IsFlatOf}
+use Rattle.xs_tree.specs.Flat.{FlatLeaf, FlatInstance, FlatVariable, FlatFormula, FlatModel}
+use Rattle.xs_flat_laws.specs.Resolved.{has_next, Definition, IsSound}
+use Rattle.xs_flat_laws.specs.Items.{Visit, instances_of, variables_of}
+use Rattle.xs_flat_laws.specs.Rules as rules
+use Rattle.xs_flat_laws.specs.Rules.{number_of, no_main, main_has_parameters, double_module, double_name, no_such_module, wrong_count, module_loop, no_such_name, not_a_target, double_assign, define_loop, next_here, input_here, too_many, SomeHasNoValue, IsAccepted, expression_of}
+use Rattle.xs_flat_laws.specs.Model.{EachBoth, symbols_of, IsVariableOf, IsDefinitionOf, IsFlatOf}
 use Rattle.xs_scope.specs.declared.bounds.Bounds.{Bounds}
 use Rattle.xs_scope.specs.declared.fault.Rule.{Rule}
 use Rattle.xs_scope.specs.declared.fault.Rule.TheVariants.{NoSuchName, NextHere, InputHere}
 use Rattle.xs_scope.specs.declared.fault.FlatFault.{FlatFault}
 use Rattle.xs_flat.specs.declared.values.Judged.{Judged}
-use Rattle.xs_scope.specs.declared.model.FlatModel.{FlatModel as FlatModelOf}
+use Rattle.xs_tree.specs.declared.model.FlatModel.{FlatModel as FlatModelOf}
 use Rattle.xs_scope.specs.declared.names.Scene.{Scene}
 use Rattle.xs_scope.specs.declared.needs.Needs.{Needs}
 use Rattle.xs_scope.specs.Faults.{first_of, rule_of, IsWant}
 use Rattle.xs_scope.specs.Closed.{bounds_of}
-use Rattle.xs_scope.specs.ModelTree.{variable_tree, formula_tree, model_tree}
+use Rattle.xs_tree.specs.ModelTree.{variable_tree, formula_tree, model_tree}
 use Rattle.xs_scope.specs.SceneTree.{program_of, IsScene}
 use Rattle.xs_scope.specs.NeedsTree.{IsKeyAt, AreNeeds}
 use Rattle.xs_scope.specs.Walked.{IsDeclaredBy}
 use Rattle.xs_flat.specs.Judging.{IsJudged}
 use Rattle.xs_flat.specs.ResolverOf.{leaf_at, leaf_by, resolver, AreKnown}
-use Rattle.xs_flattening.specs.ValueRules.{BreaksValue, IsLeastBroken}
-use Rattle.xs_flattening.specs.ResolvedAt.{IsResolvedAt}
+use Rattle.xs_flat_laws.specs.ValueRules.{BreaksValue, IsLeastBroken}
+use Rattle.xs_flat_laws.specs.ResolvedAt.{IsResolvedAt}
 use Rattle.xs_flat.specs.ResolvedAt.{IsAt, IsValueFault, IsValueKept}
 use Rattle.xs_flat.proofs.BuildLeaves.{order, bounds_with, value_known}
 use Rattle.xs_scope.proofs.SceneItems.{both_more}

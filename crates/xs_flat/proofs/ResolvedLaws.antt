@@ -9,10 +9,10 @@ use Rattle.xs_tree.specs.Tree.{case_of, set_of, tree_then, branch_then, trees_fr
 use Rattle.xs_tree.specs.Leaves.{tree_map, trees_map, branches_map}
 use Rattle.xs_tree.specs.Written.{trees_of, branches_of}
 use Rattle.xs_tree.proofs.WrittenLaws.{tree_of_case, tree_of_set}
-use Rattle.xs_flattening.specs.Flat.{FlatLeaf}
+use Rattle.xs_tree.specs.Flat.{FlatLeaf}
 use Rattle.xs_scope.specs.declared.bounds.Bounds.{Bounds}
-use Rattle.xs_scope.specs.declared.model.Flat.{Flat}
-use Rattle.xs_scope.specs.ModelTree.{leaf_of}
+use Rattle.xs_tree.specs.declared.model.Flat.{Flat}
+use Rattle.xs_tree.specs.ModelTree.{leaf_of}
 use Rattle.xs_flat.specs.ResolverOf.{is_leaf_within, TreeAll, TreesAll, BranchesAll, told_tree, asked_tree, told_branch, asked_branch, IsKnown, IsBranchKnown}
 
 told_trees : (ts : List (Expr Flat)) → trees_map Some (trees_map leaf_of (trees_of ts)) ≡ trees_from (map told_tree ts)

@@ -6,14 +6,14 @@ use Rattle.xs_tree.specs.ProgramTree.{Path}
 use Rattle.xs_tree.specs.Leaves.{tree_map}
 use Rattle.xs_tree.specs.Written.{tree_of}
 use Rattle.xs_tree.specs.Trace.{Each}
-use Rattle.xs_flattening.specs.Flat.{FlatLeaf, flat_variable, flat_symbol, flat_definition, FlatInstance}
-use Rattle.xs_flattening.specs.Items.{Item, NumberedItem, items_named}
-use Rattle.xs_flattening.specs.Model.{Condition, plain, now_among, next_among, kept, first_conditions, each_conditions, step_conditions, kept_conditions}
-use Rattle.xs_scope.specs.ModelTree.{place_of}
+use Rattle.xs_tree.specs.Flat.{FlatLeaf, flat_variable, flat_symbol, flat_definition, FlatInstance}
+use Rattle.xs_flat_laws.specs.Items.{Item, NumberedItem, items_named}
+use Rattle.xs_flat_laws.specs.Model.{Condition, plain, now_among, next_among, kept, first_conditions, each_conditions, step_conditions, kept_conditions}
+use Rattle.xs_tree.specs.ModelTree.{place_of}
 use Rattle.xs_scope.specs.SceneTree.{program_of, items_at}
 use Rattle.xs_flat.specs.ResolverOf.{leaf_at, told_tree, asked_tree, AreKnown, IsKnown}
 use Rattle.xs_scope.specs.declared.bounds.Bounds.{Bounds}
-use Rattle.xs_scope.specs.declared.model.Formula.{Formula as FormulaOf}
+use Rattle.xs_tree.specs.declared.model.Formula.{Formula as FormulaOf}
 use Rattle.xs_scope.specs.declared.modules.Names.{Names}
 use Rattle.xs_scope.specs.declared.walk.Spot.{Spot}
 use Rattle.xs_scope.specs.declared.names.Defined.{Defined}

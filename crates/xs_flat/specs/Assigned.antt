@@ -5,9 +5,9 @@ use Rattle.xs_tree.specs.declared.program.Moment.{Moment}
 use Rattle.xs_tree.specs.declared.program.Moment.TheVariants.{Always, First, After}
 use Rattle.xs_tree.specs.ProgramTree.{Text, Path, ProgramTree}
 use Rattle.xs_tree.specs.Texts.{same_text}
-use Rattle.xs_flattening.specs.Flat.{FlatInstance}
-use Rattle.xs_flattening.specs.Items.{Item, NumberedItem, items_named, instances_of, a_declaration, a_definition, an_assignment, some_constants, an_init, an_invar, a_trans}
-use Rattle.xs_flattening.specs.Rules.{Site, item_of, a_use}
+use Rattle.xs_tree.specs.Flat.{FlatInstance}
+use Rattle.xs_flat_laws.specs.Items.{Item, NumberedItem, items_named, instances_of, a_declaration, a_definition, an_assignment, some_constants, an_init, an_invar, a_trans}
+use Rattle.xs_flat_laws.specs.Rules.{Site, item_of, a_use}
 use Rattle.xs_scope.specs.Faults.{first_of}
 use Rattle.xs_scope.specs.FoundAt.{local_at, own_at}
 use Rattle.xs_flat.specs.Verdicts.{IsTold}
@@ -16,7 +16,7 @@ use Rattle.xs_scope.specs.declared.fault.Rule.{Rule}
 use Rattle.xs_scope.specs.declared.fault.Rule.TheVariants.{NoSuchName, DoubleAssign, NextHere, InputHere}
 use Rattle.xs_flat.specs.declared.values.Judged.{Judged}
 use Rattle.xs_flat.specs.declared.judge.Times.{Times}
-use Rattle.xs_scope.specs.declared.model.Role.TheVariants.{State, Input, Frozen}
+use Rattle.xs_tree.specs.declared.model.Role.TheVariants.{State, Input, Frozen}
 use Rattle.xs_scope.specs.declared.modules.Local.{Local}
 use Rattle.xs_scope.specs.declared.modules.Local.TheVariants as local
 use Rattle.xs_scope.specs.declared.names.Scene.{Scene}

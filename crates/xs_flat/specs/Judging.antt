@@ -3,8 +3,8 @@ use Rattle.std.specs.Prelude.{◌≡◌, ◌↔◌, true}
 use Rattle.xs_tree.specs.ProgramTree.{Formula, ProgramTree}
 use Rattle.xs_tree.specs.Scope.{Place}
 use Rattle.xs_tree.specs.Trace.{AtSome}
-use Rattle.xs_flattening.specs.Resolved.{leaves_in, has_next}
-use Rattle.xs_flattening.specs.Rules.{SomeHasNoValue, GivesInput, next_under_next, leaves_under}
+use Rattle.xs_flat_laws.specs.Resolved.{leaves_in, has_next}
+use Rattle.xs_flat_laws.specs.Rules.{SomeHasNoValue, GivesInput, next_under_next, leaves_under}
 use Rattle.xs_flat.specs.declared.values.Judged.{Judged}
 
 pub record IsJudged (p : ProgramTree) (at : Place) (e : Formula) (j : Judged) : Type 0 where

@@ -2,10 +2,10 @@
 use Rattle.std.specs.Prelude.{◌≡◌, ℕ, Bool, Some, slice_get, IfSome}
 use Rattle.xs_tree.specs.ProgramTree.{Formula, ProgramTree}
 use Rattle.xs_tree.specs.Scope.{Place}
-use Rattle.xs_flattening.specs.Flat.{FlatInstance, FlatModel}
-use Rattle.xs_flattening.specs.Rules.{Rule, IsAccepted}
-use Rattle.xs_flattening.specs.ValueRules.{BreaksValue, IsLeastBroken}
-use Rattle.xs_flattening.specs.Model.{IsFlatOf}
+use Rattle.xs_tree.specs.Flat.{FlatInstance, FlatModel}
+use Rattle.xs_flat_laws.specs.Rules.{Rule, IsAccepted}
+use Rattle.xs_flat_laws.specs.ValueRules.{BreaksValue, IsLeastBroken}
+use Rattle.xs_flat_laws.specs.Model.{IsFlatOf}
 use Rattle.xs_scope.specs.declared.fault.FlatFault.{FlatFault}
 use Rattle.xs_scope.specs.Faults.{rule_of}
 

@@ -6,15 +6,15 @@ use Rattle.xs_tree.specs.Scope.{Place}
 use Rattle.xs_tree.specs.Leaves.{tree_map}
 use Rattle.xs_tree.specs.Written.{tree_of}
 use Rattle.xs_tree.specs.declared.expr.Expr.{Expr}
-use Rattle.xs_flattening.specs.Flat.{FlatLeaf, flat_variable, flat_symbol, flat_definition, FlatInstance}
-use Rattle.xs_flattening.specs.Items.{instances_of}
-use Rattle.xs_flattening.specs.Resolved.{Resolver}
-use Rattle.xs_flattening.specs.Model.{same_place}
-use Rattle.xs_scope.specs.ModelTree.{flat_tree}
+use Rattle.xs_tree.specs.Flat.{FlatLeaf, flat_variable, flat_symbol, flat_definition, FlatInstance}
+use Rattle.xs_flat_laws.specs.Items.{instances_of}
+use Rattle.xs_flat_laws.specs.Resolved.{Resolver}
+use Rattle.xs_flat_laws.specs.Model.{same_place}
+use Rattle.xs_tree.specs.ModelTree.{flat_tree}
 use Rattle.xs_scope.specs.SceneTree.{program_of}
 use Rattle.xs_scope.specs.FoundAt.{found_at}
 use Rattle.xs_scope.specs.declared.bounds.Bounds.{Bounds}
-use Rattle.xs_scope.specs.declared.model.Flat.{Flat}
+use Rattle.xs_tree.specs.declared.model.Flat.{Flat}
 use Rattle.xs_scope.specs.declared.walk.Meaning.{Meaning as Found}
 use Rattle.xs_scope.specs.declared.walk.Meaning.TheVariants as found
 use Rattle.xs_scope.specs.declared.names.Scene.{Scene}

@@ -1,10 +1,11 @@
 -- The traces of a model with history bits.
 use Rattle.std.specs.Prelude.{List, map}
 use Rattle.xs_tree.specs.Trace.{Each}
-use Rattle.xs_scope.specs.declared.model.FlatModel.{FlatModel}
-use Rattle.xs_scope.specs.declared.model.Fault.{Fault}
-use Rattle.xs_scope.specs.ModelTree.{model_tree, mode_of}
-use Rattle.xs_flattening.specs.FlatTrace.{NamesOwn, IsModeOf, TellsHistory}
+use Rattle.xs_tree.specs.declared.model.FlatModel.{FlatModel}
+use Rattle.xs_tree.specs.declared.model.Fault.{Fault}
+use Rattle.xs_tree.specs.ModelTree.{model_tree}
+use Rattle.xs_flat_laws.specs.FaultModes.{mode_of}
+use Rattle.xs_flat_laws.specs.FlatTrace.{NamesOwn, IsModeOf, TellsHistory}
 
 -- for a model that reads its own variables and faults that are its own, the traces of the made one are
 -- those of the model, each with the bits of its history

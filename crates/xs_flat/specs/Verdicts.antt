@@ -6,17 +6,17 @@ use Rattle.xs_tree.specs.Scope.{Place, an_instance, find_module, kind_at, module
 use Rattle.xs_tree.specs.Trace.{Each, AtSome}
 use Rattle.xs_tree.specs.Written.{tree_of}
 use Rattle.xs_tree.specs.declared.expr.Expr.{Expr}
-use Rattle.xs_flattening.specs.Flat.{FlatInstance}
-use Rattle.xs_flattening.specs.Items.{Item, NumberedItem, items_named, instances_of}
-use Rattle.xs_flattening.specs.Resolved.{has_next}
-use Rattle.xs_flattening.specs.Rules as rules
-use Rattle.xs_flattening.specs.Rules.{ActualHasNoMeaning, ActualLoops, SomeActualLoops, some_has_next, has_twice, HasNoValue, GivesInput, Site, item_of, a_use, number_of, Breaks, IsKept}
+use Rattle.xs_tree.specs.Flat.{FlatInstance}
+use Rattle.xs_flat_laws.specs.Items.{Item, NumberedItem, items_named, instances_of}
+use Rattle.xs_flat_laws.specs.Resolved.{has_next}
+use Rattle.xs_flat_laws.specs.Rules as rules
+use Rattle.xs_flat_laws.specs.Rules.{ActualHasNoMeaning, ActualLoops, SomeActualLoops, some_has_next, has_twice, HasNoValue, GivesInput, Site, item_of, a_use, number_of, Breaks, IsKept}
 use Rattle.xs_scope.specs.Faults.{rule_of}
 use Rattle.xs_scope.specs.declared.fault.FlatFault.{FlatFault}
 use Rattle.xs_scope.specs.declared.fault.Rule.{Rule}
 use Rattle.xs_flat.specs.declared.values.Judged.{Judged}
 use Rattle.xs_flat.specs.declared.values.JudgedActual.{JudgedActual}
-use Rattle.xs_scope.specs.declared.model.Role.TheVariants.{State, Input, Frozen}
+use Rattle.xs_tree.specs.declared.model.Role.TheVariants.{State, Input, Frozen}
 use Rattle.xs_scope.specs.declared.names.Formal.{Formal}
 use Rattle.xs_scope.specs.declared.names.Formal.TheVariants as known
 use Rattle.xs_scope.specs.declared.needs.Needs.{Needs}

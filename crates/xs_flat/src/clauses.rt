@@ -7,12 +7,12 @@ ghost use Rattle.xs_tree.specs.Trace.{Each};
 ghost use Rattle.xs_tree.specs.Written.{tree_of};
 ghost use Rattle.xs_tree.specs.ProgramTree.{declared_tree};
 ghost use Rattle.xs_tree.specs.declared.program.Moment.TheVariants.{Always, First, After};
-ghost use Rattle.xs_flattening.specs.Model.{kept_declared, assigned_first, assigned_each, assigned_step, first_conditions, each_conditions, step_conditions, kept_conditions};
+ghost use Rattle.xs_flat_laws.specs.Model.{kept_declared, assigned_first, assigned_each, assigned_step, first_conditions, each_conditions, step_conditions, kept_conditions};
 ghost use Rattle.xs_scope.specs.ItemTree.{item_tree};
 ghost use Rattle.xs_flat.specs.Asked.{conditions_asked, clauses_told};
 
 use xs_scope::items::Item;
-use xs_scope::model::Role;
+use xs_tree::model::Role;
 use xs_tree::{Assignment, Decl, Declared, Expr, Moment};
 use xs_value::{Dotted, Name};
 

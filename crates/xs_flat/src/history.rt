@@ -3,16 +3,17 @@
 ghost use Rattle.std.specs.Prelude.{◌≡◌, map, IfOk, OnOk};
 ghost use Rattle.xs_tree.specs.declared.expr.Op.TheVariants as op;
 ghost use Rattle.xs_tree.specs.Tree.{binary, leaf as leaf_tree};
-ghost use Rattle.xs_scope.specs.ModelTree.{variable_tree, formula_tree, flat_tree, model_tree, mode_of};
+ghost use Rattle.xs_tree.specs.ModelTree.{variable_tree, formula_tree, flat_tree, model_tree};
+ghost use Rattle.xs_flat_laws.specs.FaultModes.{mode_of};
 ghost use Rattle.xs_flat.specs.Traced.{HasHistory};
-ghost use Rattle.xs_flattening.specs.Flat.{flat_symbol};
-ghost use Rattle.xs_flattening.specs.History.{with_history as history_of, with_bit, bit_variable as bit_tree, bit_at_first as first_tree, bit_at_step as step_tree, added as added_tree};
+ghost use Rattle.xs_tree.specs.Flat.{flat_symbol};
+ghost use Rattle.xs_flat_laws.specs.History.{with_history as history_of, with_bit, bit_variable as bit_tree, bit_at_first as first_tree, bit_at_step as step_tree, added as added_tree};
 
 use crate::build::{within, within_next};
 use std::alloc::Global;
-use xs_scope::copy::boxed;
 use xs_scope::items::number_of;
-use xs_scope::model::{Fault, FaultList, Flat, FlatModel, Formula, Role, Variable};
+use xs_tree::copy_model::boxed;
+use xs_tree::model::{Fault, FaultList, Flat, FlatModel, Formula, Role, Variable};
 use xs_tree::{Declared, Expr, Op};
 use xs_value::{Dotted, Name, OutOfMemory};
 
@@ -20,7 +21,7 @@ use xs_value::{Dotted, Name, OutOfMemory};
 /// TRUE at a moment exactly where the fault's mode stands there or stood before. What is added has item 0
 /// and instance 0. Its traces are those of the model, each with one value of every bit, where the model
 /// reads its own variables alone and each fault has a variable of symbols alone and a symbol of the model.
-#[tactic(auto, using(xs_flattening::proofs::HistoryLaws::no_bits))]
+#[tactic(auto, using(xs_flat_laws::proofs::HistoryLaws::no_bits))]
 pub fn with_history(
     alloc: Global,
     m: &FlatModel,

@@ -27,7 +27,4 @@ mod values;
 
 pub use flattening::{Scope, flatten, resolve_at, resolve_top};
 pub use history::with_history;
-pub use xs_scope::{
-    Bounds, Fault, FaultList, Flat, FlatFault, FlatList, FlatModel, Formula, Instance,
-    InstanceList, Role, Rule, Variable, VariableList, copy_faults, copy_flat,
-};
+pub use xs_scope::{Bounds, FlatFault, Rule};

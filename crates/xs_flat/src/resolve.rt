@@ -5,18 +5,18 @@ ghost use Rattle.std.specs.List.{list_all, All};
 ghost use Rattle.xs_scope.specs.Closed.{is_within, is_closed, is_branch_closed};
 ghost use Rattle.xs_flat.specs.Shape.{shape, branch_shapes};
 ghost use Rattle.xs_scope.specs.Faults.{IsWant};
-ghost use Rattle.xs_scope.specs.ModelTree.{leaf_of};
+ghost use Rattle.xs_tree.specs.ModelTree.{leaf_of};
 ghost use Rattle.xs_flat.specs.ResolverOf.{leaf_at, leaf_placed, is_leaf_within, told_tree, asked_tree, told_branch, asked_branch, IsKnown, IsBranchKnown};
 
 use std::alloc::Global;
 use xs_scope::bounds::Bounds;
-use xs_scope::copy::boxed;
 use xs_scope::fault::{FlatFault, Rule};
 use xs_scope::items::number_of;
-use xs_scope::model::Flat;
 use xs_scope::names::Scene;
 use xs_scope::needs::Needs;
 use xs_scope::walk::Meaning;
+use xs_tree::copy_model::boxed;
+use xs_tree::model::Flat;
 use xs_tree::{BranchList, Expr, ExprList};
 use xs_value::{Dotted, Items, OutOfMemory};
 

@@ -6,20 +6,20 @@ ghost use Rattle.std.specs.Prelude.{Some, slice_get};
 ghost use Rattle.xs_tree.specs.ProgramTree.{Path};
 ghost use Rattle.xs_tree.specs.Scope.{plain_name};
 ghost use Rattle.xs_tree.specs.Written.{tree_of};
-ghost use Rattle.xs_flattening.specs.Flat.{FlatInstance};
-ghost use Rattle.xs_flattening.specs.Items.{instances_of};
+ghost use Rattle.xs_tree.specs.Flat.{FlatInstance};
+ghost use Rattle.xs_flat_laws.specs.Items.{instances_of};
 ghost use Rattle.xs_scope.specs.SceneTree.{IsScene, program_of};
 ghost use Rattle.xs_scope.specs.NeedsTree.{AreNeeds};
 ghost use Rattle.xs_flat.specs.Judging.{IsJudged};
 ghost use Rattle.xs_flat.specs.Verdicts.{is_without_value, mark_at, is_input_found, is_circle_found, with_flags, AreJudged, is_nothing_known, is_circle_known, is_circle_meant, JudgesActual, JudgesActuals, joined_actual};
 
 use std::alloc::Global;
-use xs_scope::model::Role;
 use xs_scope::names::{Formal, Scene};
 use xs_scope::needs::Needs;
 use xs_scope::uses::{Use, Uses};
 use xs_scope::walk::Meaning;
 use xs_tree::Expr;
+use xs_tree::model::Role;
 use xs_value::{Dotted, OutOfMemory};
 
 /// What may be wrong with a value, wherever it stands: a name that means nothing or an instance, `next`,

@@ -3,11 +3,11 @@ use Rattle.std.proofs.Common.{◌≡◌, ℕ, List, [], ◌∷◌, refl, sym, �
 use Rattle.std.proofs.lemmas.List.{append_assoc, append-nil, map-append}
 use Rattle.std.specs.Prelude.{map, if◌then◌else◌}
 use Rattle.std.specs.List.{list_any}
-use Rattle.xs_right.specs.Sets.{is_contained}
-use Rattle.xs_analysis_text.specs.Analysis.{Analysis}
+use Rattle.xs_right_laws.specs.Sets.{is_contained}
+use Rattle.xs_text_laws.specs.Analysis.{Analysis}
 use Rattle.xs_fmea.specs.Tables.{entry_of, rows_of, absent_entry, yes}
 use Rattle.xs_fmea.specs.Columns.{told_entry, told_column, AreTold, IsTableOf}
-use Rattle.xs_analysis_text.specs.Analysis.{told_ending}
+use Rattle.xs_text_laws.specs.Analysis.{told_ending}
 use Rattle.xs_fmea.specs.declared.columns.Column.{Column}
 use Rattle.xs_fmea.specs.declared.columns.FmeaTable.{FmeaTable}
 

@@ -2,8 +2,8 @@
 use Rattle.std.specs.Prelude.{◌≡◌, ◌<◌, ◌≤◌, ℕ, suc, true, List, [], ◌∷◌, ◌++◌, All, Option, Some, None, slice_get, codes, length, map}
 use Rattle.std.specs.Fmt.{decimal}
 use Rattle.xs_tree.specs.ProgramTree.{Text}
-use Rattle.xs_analysis_text.specs.Analysis.{Ending, Analysis, told_ending}
-use Rattle.xs_analysis_text.specs.AnalysisText.{numbers_text, ending_text}
+use Rattle.xs_text_laws.specs.Analysis.{Ending, Analysis, told_ending}
+use Rattle.xs_text_laws.specs.AnalysisText.{numbers_text, ending_text}
 use Rattle.xs_fmea.specs.Tables.{Entry, yes, no, unknown, entry_of, rows_of, entries_text}
 use Rattle.xs_fmea.specs.declared.columns.Entry.{Entry as Entered}
 use Rattle.xs_fmea.specs.declared.columns.Entry.TheVariants as entered

@@ -3,9 +3,9 @@ use Rattle.std.specs.Prelude.{ℕ, zero, suc, List, [], ◌∷◌, ◌++◌, map
 use Rattle.std.specs.Fmt.{decimal}
 use Rattle.std.specs.List.{list_any, range_with_len}
 use Rattle.xs_tree.specs.ProgramTree.{Text}
-use Rattle.xs_right.specs.Sets.{is_contained}
-use Rattle.xs_analysis_text.specs.Analysis.{Ending, complete, bounded, Analysis}
-use Rattle.xs_analysis_text.specs.AnalysisText.{numbers_text, ending_text}
+use Rattle.xs_right_laws.specs.Sets.{is_contained}
+use Rattle.xs_text_laws.specs.Analysis.{Ending, complete, bounded, Analysis}
+use Rattle.xs_text_laws.specs.AnalysisText.{numbers_text, ending_text}
 
 -- what a table says of a row and a column
 pub data Entry : Type 0 where

@@ -2,11 +2,11 @@
 
 ghost use Rattle.std.specs.Prelude.{◌≡◌, ◌≤◌, ◌<◌, [], List, All, map, IfOk};
 ghost use Rattle.std.specs.List.{list_any};
-ghost use Rattle.xs_right.specs.Sets.{has_number, is_contained as contained};
-ghost use Rattle.xs_analysis_text.specs.Analysis.{Analysis};
+ghost use Rattle.xs_right_laws.specs.Sets.{has_number, is_contained as contained};
+ghost use Rattle.xs_text_laws.specs.Analysis.{Analysis};
 ghost use Rattle.xs_fmea.specs.Tables.{entry_of, absent_entry, rows_of as rows_within};
 ghost use Rattle.xs_fmea.specs.Columns.{told_entry, told_column, AreTold, NamesFaults, IsTableOf};
-ghost use Rattle.xs_analysis_text.specs.Analysis.{told_ending};
+ghost use Rattle.xs_text_laws.specs.Analysis.{told_ending};
 
 use crate::columns::{Column, ColumnList, EndingList, Entry, EntryList, EntryRows, FmeaTable};
 use crate::rows::rows_of;

@@ -4,7 +4,7 @@
 //! asks each column, which is the answer of an analysis, what it says of each row: `yes` where a listed set lies
 //! within the row, else `no` where the column is complete and `unknown` where it is bounded. [`print_table`] gives
 //! the text. `specs/Tables.antt` has the definitions, and `specs/Columns.antt` says how columns and tables are seen
-//! there. What an entry means of the traces of an extension stands above, in `xs_reporting`: of columns that are
+//! there. What an entry means of the traces of an extension stands above, in `xs_report_laws`: of columns that are
 //! right for all traces, or for those of at most so many steps, each entry is right.
 //!
 //! ```text

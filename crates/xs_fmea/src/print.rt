@@ -2,11 +2,11 @@
 
 ghost use Rattle.std.specs.Prelude.{◌≡◌, ◌+◌, ◌++◌, ℕ, List, codes, map, length, IfOk, OnOk};
 ghost use Rattle.std.specs.Fmt.{decimal};
-ghost use Rattle.xs_analysis_text.specs.Analysis.{Analysis};
-ghost use Rattle.xs_analysis_text.specs.AnalysisText.{numbers_text, ending_text as text_of_ending};
+ghost use Rattle.xs_text_laws.specs.Analysis.{Analysis};
+ghost use Rattle.xs_text_laws.specs.AnalysisText.{numbers_text, ending_text as text_of_ending};
 ghost use Rattle.xs_fmea.specs.Tables.{entry_text as text_of_entry, entries_text, table_text};
 ghost use Rattle.xs_fmea.specs.Columns.{told_entry, IsTableOf, ending_line, ending_lines, entry_line, entry_lines, line_at, printed_table};
-ghost use Rattle.xs_analysis_text.specs.Analysis.{told_ending};
+ghost use Rattle.xs_text_laws.specs.Analysis.{told_ending};
 
 use crate::columns::{Entry, EntryList, FmeaTable};
 use std::alloc::Global;

@@ -6,7 +6,7 @@ use Rattle.std.proofs.lemmas.Option.{none-some}
 use Rattle.xs_lits.specs.Literal.{Literal, signed}
 use Rattle.xs_lits.specs.Assignment.{Assignment, value_of}
 use Rattle.xs_lits.specs.Models.{literal_value, clause_value}
-use Rattle.xs_derive.specs.Derivation.{IsUpTo}
+use Rattle.xs_lits.specs.Derivation.{IsUpTo}
 use Rattle.xs_frames.specs.Bits.{values_of}
 use Rattle.xs_frames.proofs.Sets.{from_member}
 

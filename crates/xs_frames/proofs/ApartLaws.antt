@@ -5,7 +5,7 @@ use Rattle.std.proofs.lemmas.Bool.{cases_lt}
 use Rattle.std.proofs.lemmas.List.Elements.{All-nil, All-cons, All-head, All-tail}
 use Rattle.xs_lits.specs.Literal.{Literal}
 use Rattle.xs_lits.specs.Models.{TotalAssignment, clause_value, all_true}
-use Rattle.xs_system.specs.declared.system.System.{System}
+use Rattle.xs_lits.specs.declared.system.System.{System}
 use Rattle.xs_solver.specs.declared.solve.Verdict.{Verdict}
 use Rattle.xs_solver.specs.declared.solve.Verdict.TheVariants.{Sat, Unsat}
 use Rattle.xs_lits.specs.Assignment.{Assignment}

@@ -6,8 +6,8 @@ use Rattle.xs_lits.specs.Literal.{Literal, opposite, signed}
 use Rattle.xs_lits.specs.Assignment.{Assignment}
 use Rattle.xs_lits.specs.Models.{TotalAssignment, literal_value, clause_value}
 use Rattle.xs_lits.proofs.ModelLemmas.{literal_value-opposite}
-use Rattle.xs_derive.specs.Hints.{HasNoOpposites}
-use Rattle.xs_derive.proofs.FalseLemmas.{opposite-opposite}
+use Rattle.xs_lits.specs.Hints.{HasNoOpposites}
+use Rattle.xs_lits.proofs.FalseLemmas.{opposite-opposite}
 use Rattle.xs_frames.specs.Chain.{State, Agrees}
 use Rattle.xs_frames.specs.Bits.{literal_for, literals_from, values_of, read_from, moved_back}
 

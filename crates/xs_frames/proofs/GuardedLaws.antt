@@ -4,10 +4,10 @@ use Rattle.std.specs.Prelude.{slice_index_or, All, Contains}
 use Rattle.std.proofs.lemmas.List.{get_or_append_left, get_or-append_right, append-nil, map-append}
 use Rattle.std.proofs.lemmas.List.Elements.{All-cons, All-nil, All-head, All-tail}
 use Rattle.xs_lits.specs.Literal.{Literal, plain, opposite}
-use Rattle.xs_derive.specs.Derivation.{IsUpTo}
+use Rattle.xs_lits.specs.Derivation.{IsUpTo}
 use Rattle.xs_solver.specs.Kept.{added_of}
 use Rattle.xs_solver.specs.KeptRecord.{KeptValue}
-use Rattle.xs_system.specs.declared.system.System.{System}
+use Rattle.xs_lits.specs.declared.system.System.{System}
 use Rattle.xs_frames.specs.Roles.{Listed, first, step, bad, Role, renamed, renamed_literal, renamed_clause, under_guard, under_list}
 use Rattle.xs_frames.specs.Guards.{Layout, AreHeld, guards_next}
 use Rattle.xs_frames.specs.Guarding.{places_of, added_in, IsGuardIn, IsWell, HasSameGuards, HasPut, HasWidened, HasNewBad, HasNewFrame, IsEmpty, HasRoomFor, guard_at, guard_of, lists_of, IsHolding, HasAsked, TakesBad, Puts, Grows, BeginsAgain}

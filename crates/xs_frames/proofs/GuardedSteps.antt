@@ -4,7 +4,7 @@ use Rattle.std.specs.Prelude.{slice_index_or, All}
 use Rattle.std.proofs.lemmas.List.{append-nil, length-replicate}
 use Rattle.std.proofs.lemmas.List.Elements.{All-append, All-nil, All-cons}
 use Rattle.xs_lits.specs.Literal.{Literal, plain, opposite}
-use Rattle.xs_derive.specs.declared.step.Step.{Step}
+use Rattle.xs_lits.specs.declared.step.Step.{Step}
 use Rattle.xs_solver.specs.KeptRecord.{KeptValue}
 use Rattle.xs_solver.specs.Kept.{added_of, HasLearned}
 use Rattle.xs_solver.specs.Search.{with_steps}

@@ -8,12 +8,12 @@ use Rattle.xs_lits.specs.Literal.{Literal, opposite}
 use Rattle.xs_lits.specs.Assignment.{Assignment, value_of}
 use Rattle.xs_lits.specs.Models.{TotalAssignment, literal_value, clause_value, Satisfies}
 use Rattle.xs_lits.proofs.ModelLemmas.{Satisfies-from_All}
-use Rattle.xs_derive.specs.Derivation.{IsUpTo}
-use Rattle.xs_derive.specs.Hints.{HasNoOpposites, LacksOpposite}
+use Rattle.xs_lits.specs.Derivation.{IsUpTo}
+use Rattle.xs_lits.specs.Hints.{HasNoOpposites, LacksOpposite}
 use Rattle.xs_solver.specs.Kept.{IsRefuted}
 use Rattle.xs_solver.specs.Search.{IsSolution}
 use Rattle.xs_solver.specs.declared.solve.Verdict.TheVariants.{Sat, Unsat}
-use Rattle.xs_system.specs.declared.system.System.{System}
+use Rattle.xs_lits.specs.declared.system.System.{System}
 use Rattle.xs_frames.specs.Bits.{values_of}
 use Rattle.xs_frames.specs.Framed.{frame_at}
 use Rattle.xs_frames.specs.Roles.{Listed, first, step, bad, Role, list_guard}

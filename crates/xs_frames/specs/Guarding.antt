@@ -6,7 +6,7 @@ use Rattle.xs_lits.specs.Models.{TotalAssignment, literal_value, clause_value, a
 use Rattle.xs_solver.specs.Kept.{added_of}
 use Rattle.xs_solver.specs.declared.solve.Verdict.{Verdict}
 use Rattle.xs_solver.specs.declared.solve.Verdict.TheVariants.{Sat, Unsat}
-use Rattle.xs_system.specs.declared.system.System.{System}
+use Rattle.xs_lits.specs.declared.system.System.{System}
 use Rattle.xs_frames.specs.Bits.{values_of}
 use Rattle.xs_frames.specs.Framed.{frame_at}
 use Rattle.xs_frames.specs.Roles.{Listed, first, step, bad, Role, renamed}

@@ -2,7 +2,7 @@
 -- each guard of a frame implies that of the next.
 use Rattle.std.specs.Prelude.{◌≡◌, ◌⊎◌, ℕ, suc, ◌+◌, ◌-◌, ◌≤◌, ◌<◌, List, [], ◌∷◌, All, Contains, length, filter, nat_le}
 use Rattle.xs_lits.specs.Literal.{Literal, plain, opposite}
-use Rattle.xs_derive.specs.Derivation.{IsUpTo}
+use Rattle.xs_lits.specs.Derivation.{IsUpTo}
 use Rattle.xs_frames.specs.Framed.{frame_at}
 use Rattle.xs_frames.specs.Roles.{Listed, Role, place, list_guard, gate, retired, unused, renamed, renamed_clause, under_guard}
 use Rattle.xs_frames.specs.Roles as roles

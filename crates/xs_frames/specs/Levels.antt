@@ -1,7 +1,7 @@
 -- Frames by the number of the highest frame in which a clause holds: it is kept once, and stands in each frame up to that one.
 use Rattle.std.specs.Prelude.{◌≡◌, ◌≢◌, ◌⊎◌, ℕ, zero, suc, ◌+◌, ◌≤◌, ◌<◌, List, [], ◌∷◌, All, Contains, length, slice_index_or, nat_le, if◌then◌else◌}
 use Rattle.xs_lits.specs.Literal.{Literal}
-use Rattle.xs_system.specs.declared.system.System.{System}
+use Rattle.xs_lits.specs.declared.system.System.{System}
 use Rattle.xs_frames.specs.Framed.{frame_at, IsFramed}
 use Rattle.xs_frames.specs.Growing.{Keeps, HasGrown}
 use Rattle.xs_frames.specs.declared.levels.Held.{Held}

@@ -7,8 +7,8 @@
 //! frames that are not asked about any more are retired: their guard is false from then on. What the search learns stays.
 ghost use Rattle.std.specs.Prelude.{◌≡◌, ◌≤◌, ◌<◌, ◌+◌, ◌*◌, ◌-◌, ◌^◌, ◌∷◌, ◌++◌, [], IfOk, OnOk, All, length, false};
 ghost use Rattle.xs_lits.specs.Literal.{opposite, plain};
-ghost use Rattle.xs_derive.specs.Derivation.{IsUpTo};
-ghost use Rattle.xs_derive.specs.Hints.{HasNoOpposites};
+ghost use Rattle.xs_lits.specs.Derivation.{IsUpTo};
+ghost use Rattle.xs_lits.specs.Hints.{HasNoOpposites};
 ghost use Rattle.xs_frames.specs.Apart.{apart_system, apart_list, IsNear};
 ghost use Rattle.xs_frames.specs.Condition.{IsLow, IsFit};
 ghost use Rattle.xs_frames.specs.Roles.{renamed_literal, renamed_clause, under_list};
@@ -19,12 +19,12 @@ use crate::apart::list_apart;
 use crate::query::highest;
 use std::alloc::Global;
 use xs_adviser::Panel;
-use xs_derive::recorder::KeepNone;
+use xs_lits::System;
 use xs_lits::clause::{Clause, ClauseList};
 use xs_lits::lit::Lit;
+use xs_lits::recorder::KeepNone;
 use xs_solver::kept::Search;
 use xs_solver::solve::Verdict;
-use xs_system::System;
 use xs_value::OutOfMemory;
 
 /// What is asked about beside a frame.

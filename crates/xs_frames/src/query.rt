@@ -1,5 +1,5 @@
 ghost use Rattle.std.specs.Prelude.{◌≡◌, ◌<◌, ◌^◌, ◌↔◌, IsTrue, All};
-ghost use Rattle.xs_derive.specs.Derivation.{IsUpTo};
+ghost use Rattle.xs_lits.specs.Derivation.{IsUpTo};
 ghost use Rattle.xs_frames.specs.Apart.{IsNear, IsPlace, GoesOn};
 
 use xs_lits::clause::{Clause, ClauseList};

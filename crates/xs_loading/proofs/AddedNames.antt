@@ -10,7 +10,7 @@ use Rattle.xs_tree.specs.ProgramTree.{Text}
 use Rattle.xs_tree.specs.Texts.{same_text, is_among}
 use Rattle.xs_tree.specs.Lexemes.{is_reserved, section_words, expression_words, left_out_words}
 use Rattle.xs_tree.specs.Printed.{IsName}
-use Rattle.xs_effects.specs.AddedNames.{own_name, mode_variable, mode_symbol}
+use Rattle.xs_fei.specs.AddedNames.{own_name, mode_variable, mode_symbol}
 
 -- a word goes on with `#`, and with what a word goes on with after it
 runs_on : (bs rest : Text) → Runs takes_word bs [] → Runs takes_word (35 ∷ rest) [] → Runs takes_word (bs ++ 35 ∷ rest) []

@@ -3,13 +3,14 @@ use Rattle.std.proofs.Common.{◌≡◌, ℕ, List, map, sym, ap, subst, ◌∙�
 use Rattle.xs_tree.specs.ProgramTree.{ProgramTree, program_tree}
 use Rattle.xs_tree.specs.Text.{program_text}
 use Rattle.xs_tree.proofs.Spelled.{program_writable}
-use Rattle.xs_scope.specs.ModelTree.{model_tree, mode_of}
-use Rattle.xs_flattening.specs.Flat.{FlatModel as ModelTree}
-use Rattle.xs_flattening.specs.History.{with_history}
-use Rattle.xs_flattening.specs.Model.{EachBoth}
+use Rattle.xs_tree.specs.ModelTree.{model_tree}
+use Rattle.xs_flat_laws.specs.FaultModes.{mode_of}
+use Rattle.xs_tree.specs.Flat.{FlatModel as ModelTree}
+use Rattle.xs_flat_laws.specs.History.{with_history}
+use Rattle.xs_flat_laws.specs.Model.{EachBoth}
 use Rattle.xs_fei.specs.Instructions.{instruction_tree}
 use Rattle.xs_fei.specs.declared.instructions.Instructions.{Instructions}
-use Rattle.xs_kinds.specs.Models.{IsTyped}
+use Rattle.xs_type_laws.specs.Models.{IsTyped}
 use Rattle.xs_weave.specs.Faults.{HasFaults}
 use Rattle.xs_weave.specs.Woven.{woven}
 use Rattle.xs_extend.specs.WovenFaults.{fault_tree}

@@ -9,25 +9,25 @@ use Rattle.xs_tree.specs.Texts.{same_text, is_among}
 use Rattle.xs_tree.proofs.ValueLaws.{same_text_equal}
 use Rattle.xs_tree.specs.Scope.{Place, state, kind_at, module_at, is_symbol}
 use Rattle.xs_tree.specs.Trace.{Each, IsInstance, IsVariable}
-use Rattle.xs_flattening.specs.Flat.{FlatVariable, FlatModel as ModelTree}
-use Rattle.xs_flattening.specs.Model.{IsVariableNumber, IsFlatOf}
-use Rattle.xs_flattening.specs.Rules.{IsAccepted}
-use Rattle.xs_flattening.proofs.Lists.{each_more}
-use Rattle.xs_flattening.proofs.Variables.{variables_are}
-use Rattle.xs_flattening.proofs.Walkable.{accepted_walkable}
-use Rattle.xs_scope.specs.declared.model.FlatModel.{FlatModel}
-use Rattle.xs_scope.specs.declared.model.Variable.{Variable}
-use Rattle.xs_scope.specs.ModelTree.{place_in, name_in, variable_tree, model_tree}
+use Rattle.xs_tree.specs.Flat.{FlatVariable, FlatModel as ModelTree}
+use Rattle.xs_flat_laws.specs.Model.{IsVariableNumber, IsFlatOf}
+use Rattle.xs_flat_laws.specs.Rules.{IsAccepted}
+use Rattle.xs_flat_laws.proofs.Lists.{each_more}
+use Rattle.xs_flat_laws.proofs.Variables.{variables_are}
+use Rattle.xs_flat_laws.proofs.Walkable.{accepted_walkable}
+use Rattle.xs_tree.specs.declared.model.FlatModel.{FlatModel}
+use Rattle.xs_tree.specs.declared.model.Variable.{Variable}
+use Rattle.xs_tree.specs.ModelTree.{place_in, name_in, variable_tree, model_tree}
 use Rattle.xs_scope.proofs.SymbolKinds.{symbols_among}
 use Rattle.xs_fei.specs.Instructions.{SliceTree, InstructionTree, slices_of}
-use Rattle.xs_effects.specs.AddedNames.{mode_variable, mode_symbol}
+use Rattle.xs_fei.specs.AddedNames.{mode_variable, mode_symbol}
 use Rattle.xs_weave.specs.Faults.{Fault, HasFaults}
-use Rattle.xs_weave.specs.Weavable.{Among, IsWeavable}
+use Rattle.xs_fei.specs.Weavable.{Among, IsWeavable}
 use Rattle.xs_weave.specs.Woven.{mode_type, woven_module, woven}
 use Rattle.xs_weave.proofs.Added.{among_contains, slices_symbol, woven_symbol}
 use Rattle.xs_weave.proofs.LeafValues.{instance_among, mode_variable_kind}
 use Rattle.xs_weave.proofs.Meanings.{module_woven}
-use Rattle.xs_extended_right.proofs.Modes.{IsOfSlice, of_program}
+use Rattle.xs_certificate_laws.proofs.Modes.{IsOfSlice, of_program}
 use Rattle.xs_extend.specs.declared.faults.WovenFault.{WovenFault}
 use Rattle.xs_extend.specs.WovenFaults.{place_of, fault_tree}
 use Rattle.xs_extend.specs.NumberedFaults.{parts_of, HasPath, HaveModes}

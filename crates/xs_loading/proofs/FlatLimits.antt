@@ -5,12 +5,12 @@ use Rattle.std.proofs.lemmas.List.Sums.{sum_by-append}
 use Rattle.std.proofs.lemmas.Bool.{ltb-false, le-ltb}
 use Rattle.xs_tree.specs.ProgramTree.{ProgramTree}
 use Rattle.xs_fei.specs.Instructions.{InstructionTree}
-use Rattle.xs_flattening.specs.Flat.{FlatVariable, FlatFormula, FlatModel}
-use Rattle.xs_flattening.specs.History.{Mode, with_history, bit_variables, bits_at_first, bits_at_step}
-use Rattle.xs_kinds.specs.Costs.{cost_of, declared_cost, model_cost, role_width, declared_width, state_bits}
-use Rattle.xs_kinds.specs.Models.{is_too_large, IsTyped}
-use Rattle.xs_kinds.proofs.Typed.{typed_has_none}
-use Rattle.xs_woven_kinds.proofs.WovenLaws.{woven_none}
+use Rattle.xs_tree.specs.Flat.{FlatVariable, FlatFormula, FlatModel}
+use Rattle.xs_flat_laws.specs.History.{Mode, with_history, bit_variables, bits_at_first, bits_at_step}
+use Rattle.xs_type_laws.specs.Costs.{cost_of, declared_cost, model_cost, role_width, declared_width, state_bits}
+use Rattle.xs_type_laws.specs.Models.{is_too_large, IsTyped}
+use Rattle.xs_type_laws.proofs.Typed.{typed_has_none}
+use Rattle.xs_woven_laws.proofs.WovenLaws.{woven_none}
 use Rattle.xs_weave.specs.Faults.{Fault, HasFaults}
 use Rattle.xs_weave.specs.Woven.{woven}
 use Rattle.xs_loading.specs.declared.status.InputFault.{InputFault}

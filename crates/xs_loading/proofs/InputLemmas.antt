@@ -1,13 +1,13 @@
 -- What the reading of an input file comes to.
 use Rattle.std.proofs.Common.{◌≡◌, ◌∙◌, ap, subst, sym, refl, ℕ, List, [], ◌∷◌, map, Option, Some, None, Result, Err, IfSome}
 use Rattle.xs_tree.specs.ProgramTree.{Text, ProgramTree}
-use Rattle.xs_flattening.specs.Flat.{FlatInstance, FlatModel as ModelTree}
-use Rattle.xs_flattening.specs.Model.{IsFlatOf}
+use Rattle.xs_tree.specs.Flat.{FlatInstance, FlatModel as ModelTree}
+use Rattle.xs_flat_laws.specs.Model.{IsFlatOf}
 use Rattle.xs_fei.specs.Instructions.{InstructionTree}
-use Rattle.xs_extending.specs.Expressions.{AllUsesKept}
-use Rattle.xs_scope.specs.declared.model.FlatModel.{FlatModel}
-use Rattle.xs_scope.specs.declared.model.Instance.{Instance}
-use Rattle.xs_scope.specs.ModelTree.{instance_tree, model_tree}
+use Rattle.xs_extend_laws.specs.Expressions.{AllUsesKept}
+use Rattle.xs_tree.specs.declared.model.FlatModel.{FlatModel}
+use Rattle.xs_tree.specs.declared.model.Instance.{Instance}
+use Rattle.xs_tree.specs.ModelTree.{instance_tree, model_tree}
 use Rattle.xs_extend.specs.Refused.{modules_in}
 use Rattle.xs_desk.specs.declared.files.NamedFile.{NamedFile}
 use Rattle.xs_loading.specs.declared.status.InputFault.{InputFault}

@@ -5,28 +5,28 @@ use Rattle.xs_tree.specs.ProgramTree.{ModuleTree, ProgramTree}
 use Rattle.xs_tree.specs.Scope.{Place, module_at}
 use Rattle.xs_tree.specs.Trace.{Each}
 use Rattle.xs_fei.specs.Instructions.{ModeTree, SliceTree, InstructionTree, slices_of}
-use Rattle.xs_effects.specs.AddedNames.{mode_variable}
+use Rattle.xs_fei.specs.AddedNames.{mode_variable}
 use Rattle.xs_weave.specs.Conservative.{IsSlice}
 use Rattle.xs_weave.specs.Faults.{Fault, slice_faults, module_slices, slices_at, place_faults, HasFaults}
-use Rattle.xs_weave.specs.Weavable.{Among}
+use Rattle.xs_fei.specs.Weavable.{Among}
 use Rattle.xs_weave.specs.Woven.{woven}
 use Rattle.xs_weave.proofs.Added.{contains_among}
-use Rattle.xs_flattening.specs.Flat.{FlatModel}
-use Rattle.xs_flattening.specs.History.{Mode}
-use Rattle.xs_flattening.specs.Model.{IsVariableNumber, EachBoth}
-use Rattle.xs_flattening.specs.Rules.{too_many, IsFirstBroken, IsAccepted}
-use Rattle.xs_flattening.proofs.Conditions.{each_flat}
-use Rattle.xs_flattening.proofs.Lists.{each_more}
-use Rattle.xs_flattening.proofs.Walkable.{accepted_walkable}
-use Rattle.xs_kinds.specs.Judged.{too_large}
-use Rattle.xs_kinds.specs.Models.{IsFault}
-use Rattle.xs_extending.specs.Uses.{uses}
-use Rattle.xs_extending.specs.Expressions.{KeepsNames, KeepsUse}
-use Rattle.xs_woven_names.specs.Laws.{IsExtendable}
-use Rattle.xs_woven_names.proofs.Woven.{woven_breaks_limits}
-use Rattle.xs_woven_kinds.specs.Modes.{IsSliceMode}
-use Rattle.xs_woven_kinds.specs.Laws.{AreWoven}
-use Rattle.xs_woven_kinds.proofs.WovenLaws.{size_alone_woven}
+use Rattle.xs_tree.specs.Flat.{FlatModel}
+use Rattle.xs_flat_laws.specs.History.{Mode}
+use Rattle.xs_flat_laws.specs.Model.{IsVariableNumber, EachBoth}
+use Rattle.xs_flat_laws.specs.Rules.{too_many, IsFirstBroken, IsAccepted}
+use Rattle.xs_flat_laws.proofs.Conditions.{each_flat}
+use Rattle.xs_flat_laws.proofs.Lists.{each_more}
+use Rattle.xs_flat_laws.proofs.Walkable.{accepted_walkable}
+use Rattle.xs_type_laws.specs.Judged.{too_large}
+use Rattle.xs_type_laws.specs.Models.{IsFault}
+use Rattle.xs_extend_laws.specs.Uses.{uses}
+use Rattle.xs_extend_laws.specs.Expressions.{KeepsNames, KeepsUse}
+use Rattle.xs_woven_laws.specs.WovenNamesLaws.{IsExtendable}
+use Rattle.xs_woven_laws.proofs.Woven.{woven_breaks_limits}
+use Rattle.xs_woven_laws.specs.Modes.{IsSliceMode}
+use Rattle.xs_woven_laws.specs.Laws.{AreWoven}
+use Rattle.xs_woven_laws.proofs.WovenLaws.{size_alone_woven}
 use Rattle.xs_loading.specs.declared.status.InputFault.{InputFault}
 use Rattle.xs_loading.specs.Wrongs.{names_fault, kinds_fault}
 use Rattle.xs_loading.specs.Models.{IsLawful}

@@ -2,28 +2,28 @@
 use Rattle.std.proofs.Common.{◌≡◌, List, [], ◌∷◌, Option, Some, None, IfSome, length, refl, ap, subst, suc}
 use Rattle.xs_desk.specs.declared.files.NamedFile.{NamedFile}
 use Rattle.xs_tree.specs.ProgramTree.{Text, ProgramTree}
-use Rattle.xs_flattening.specs.Flat.{FlatModel}
+use Rattle.xs_tree.specs.Flat.{FlatModel}
 use Rattle.xs_loading.specs.Inputs.{HoldsModel}
 use Rattle.xs_loading.specs.Cases.{HoldsCase, extension_of}
 use Rattle.xs_loading.specs.Loaded.{case_of, HoldsLoaded, IsLoaded}
 use Rattle.xs_loading.specs.declared.loaded.LoadedCase.{LoadedCase}
 use Rattle.std.specs.Prelude.{length}
-use Rattle.xs_scope.specs.ModelTree.{model_tree}
-use Rattle.xs_scope.specs.declared.model.FlatModel.{FlatModel as Flat}
-use Rattle.xs_scope.specs.declared.model.Fault.{Fault as FaultOf}
+use Rattle.xs_tree.specs.ModelTree.{model_tree}
+use Rattle.xs_tree.specs.declared.model.FlatModel.{FlatModel as Flat}
+use Rattle.xs_tree.specs.declared.model.Fault.{Fault as FaultOf}
 use Rattle.xs_eval.specs.Named.{IsEvaluable}
 use Rattle.xs_eval.proofs.ModelLaws.{evaluable}
 use Rattle.xs_extend.specs.NumberedFaults.{AreNumbered}
 use Rattle.xs_extend.specs.declared.faults.WovenFault.{WovenFault}
 use Rattle.xs_report.specs.declared.fault.TraceFault.TheVariants as fault
-use Rattle.xs_trace_text.specs.Given.{IsPrintable, HasItsSymbols}
-use Rattle.xs_trace_text.proofs.Named.{named_is_printable}
-use Rattle.xs_trace_text.proofs.FlatNames.{flat_models_named}
-use Rattle.xs_trace_text.proofs.FlatSymbols.{flat_models_have_symbols}
-use Rattle.xs_flattening.specs.History.{Mode}
-use Rattle.xs_flattening.specs.Model.{EachBoth}
+use Rattle.xs_text_laws.specs.Given.{IsPrintable, HasItsSymbols}
+use Rattle.xs_text_laws.proofs.Named.{named_is_printable}
+use Rattle.xs_text_laws.proofs.FlatNames.{flat_models_named}
+use Rattle.xs_text_laws.proofs.FlatSymbols.{flat_models_have_symbols}
+use Rattle.xs_flat_laws.specs.History.{Mode}
+use Rattle.xs_flat_laws.specs.Model.{EachBoth}
 use Rattle.xs_weave.specs.Faults.{Fault}
-use Rattle.xs_extended_right.specs.ExtendedTraces.{IsModeOfFault}
+use Rattle.xs_certificate_laws.specs.ExtendedTraces.{IsModeOfFault}
 use Rattle.xs_loading.specs.Wholes.{IsModeOf}
 
 module _ (model faults trace top : Text) where

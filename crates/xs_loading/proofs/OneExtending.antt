@@ -3,11 +3,11 @@ use Rattle.std.proofs.Common.{◌≡◌, ℕ, List, sym, ap, subst, ◌∙◌}
 use Rattle.xs_desk.specs.declared.files.NamedFile.{NamedFile}
 use Rattle.xs_tree.specs.ProgramTree.{Text, ProgramTree}
 use Rattle.xs_tree.specs.Text.{program_text}
-use Rattle.xs_flattening.specs.Flat.{FlatModel}
+use Rattle.xs_tree.specs.Flat.{FlatModel}
 use Rattle.xs_fei.specs.Instructions.{InstructionTree}
 use Rattle.xs_weave.specs.Faults.{HasFaults}
 use Rattle.xs_weave.specs.Woven.{woven}
-use Rattle.xs_flattening.specs.Model.{IsFlatOf}
+use Rattle.xs_flat_laws.specs.Model.{IsFlatOf}
 use Rattle.xs_extend.specs.Refused.{IsTold, IsWant}
 use Rattle.xs_extend.proofs.OneFault.{one_told, none_told}
 use Rattle.xs_extend.specs.declared.fault.WeaveFault.{WeaveFault}

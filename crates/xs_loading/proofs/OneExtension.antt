@@ -1,13 +1,13 @@
 -- What is wrong with an extension as a whole is one thing, and nothing is where it passes no limit.
 use Rattle.std.proofs.Common.{◌≡◌, List, sym, subst, ◌∙◌}
 use Rattle.xs_tree.specs.ProgramTree.{ProgramTree}
-use Rattle.xs_flattening.specs.Flat.{FlatModel}
-use Rattle.xs_flattening.specs.History.{with_history}
-use Rattle.xs_flattening.specs.Rules.{IsAccepted}
-use Rattle.xs_flattening.specs.Model.{EachBoth}
-use Rattle.xs_flattening.proofs.Laws.{accepted_unbroken}
-use Rattle.xs_kinds.specs.Models.{IsFault, IsTyped}
-use Rattle.xs_kinds.proofs.Typed.{typed_has_none}
+use Rattle.xs_tree.specs.Flat.{FlatModel}
+use Rattle.xs_flat_laws.specs.History.{with_history}
+use Rattle.xs_flat_laws.specs.Rules.{IsAccepted}
+use Rattle.xs_flat_laws.specs.Model.{EachBoth}
+use Rattle.xs_flat_laws.proofs.Laws.{accepted_unbroken}
+use Rattle.xs_type_laws.specs.Models.{IsFault, IsTyped}
+use Rattle.xs_type_laws.proofs.Typed.{typed_has_none}
 use Rattle.xs_weave.specs.Faults.{Fault}
 use Rattle.xs_loading.specs.declared.status.InputFault.{InputFault}
 use Rattle.xs_loading.specs.Wholes.{IsModeOf, IsWhole, IsWrongWhole, by_names, by_kinds, IsWithinLimits}

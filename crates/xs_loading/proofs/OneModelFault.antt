@@ -9,13 +9,13 @@ use Rattle.xs_expression_reader.specs.declared.fault.ParseFault.{ParseFault}
 use Rattle.xs_parse.specs.Symbols.{IsProgram}
 use Rattle.xs_parse.specs.Within.{HasProgramDepths, IsProgramTooDeep}
 use Rattle.xs_tree.specs.Bytes.{BytesSpellProgram}
-use Rattle.xs_flattening.specs.Flat.{FlatModel}
-use Rattle.xs_flattening.specs.Rules.{Rule, IsFirstBroken, IsAccepted, number_of}
-use Rattle.xs_flattening.specs.Model.{IsFlatOf}
-use Rattle.xs_flattening.proofs.Laws.{one_fault as one_broken, accepted_unbroken}
-use Rattle.xs_kinds.specs.Judged.{KindRule, number_of as kind_number}
-use Rattle.xs_kinds.specs.Models.{IsFault, IsTyped}
-use Rattle.xs_kinds.proofs.Typed.{one_fault as one_kind_fault, typed_has_none}
+use Rattle.xs_tree.specs.Flat.{FlatModel}
+use Rattle.xs_flat_laws.specs.Rules.{Rule, IsFirstBroken, IsAccepted, number_of}
+use Rattle.xs_flat_laws.specs.Model.{IsFlatOf}
+use Rattle.xs_flat_laws.proofs.Laws.{one_fault as one_broken, accepted_unbroken}
+use Rattle.xs_type_laws.specs.Judged.{KindRule, number_of as kind_number}
+use Rattle.xs_type_laws.specs.Models.{IsFault, IsTyped}
+use Rattle.xs_type_laws.proofs.Typed.{one_fault as one_kind_fault, typed_has_none}
 use Rattle.xs_loading.specs.declared.wrong.Wrong.TheVariants as wrong
 use Rattle.xs_loading.specs.declared.status.InputFault.{InputFault}
 use Rattle.xs_loading.specs.declared.status.Part.{Part}

@@ -6,16 +6,16 @@ use Rattle.xs_tree.specs.Texts.{same_text, is_among}
 use Rattle.xs_tree.proofs.ValueLaws.{same_text_refl}
 use Rattle.xs_tree.specs.Scope.{Place, find_module}
 use Rattle.xs_tree.specs.Trace.{Each}
-use Rattle.xs_flattening.specs.Flat.{FlatModel}
-use Rattle.xs_flattening.specs.Items.{items_of, Visit, variables_of}
-use Rattle.xs_flattening.specs.Rules.{IsAccepted}
-use Rattle.xs_flattening.specs.History.{Mode}
-use Rattle.xs_flattening.specs.Model.{IsVariableNumber, IsVariableOf, EachBoth, first_appearances, symbols_of_item, symbols_of, IsFlatOf}
-use Rattle.xs_flattening.proofs.Apart.{Differ, Apart, variables_apart}
-use Rattle.xs_flattening.proofs.KeysApart.{Pairwise, pairwise_join, pairwise_same}
-use Rattle.xs_flattening.proofs.Variables.{both_at_second}
-use Rattle.xs_flattening.proofs.Walkable.{accepted_walkable, main_is_there}
-use Rattle.xs_effects.specs.AddedNames.{mode_variable, mode_symbol}
+use Rattle.xs_tree.specs.Flat.{FlatModel}
+use Rattle.xs_flat_laws.specs.Items.{items_of, Visit, variables_of}
+use Rattle.xs_flat_laws.specs.Rules.{IsAccepted}
+use Rattle.xs_flat_laws.specs.History.{Mode}
+use Rattle.xs_flat_laws.specs.Model.{IsVariableNumber, IsVariableOf, EachBoth, first_appearances, symbols_of_item, symbols_of, IsFlatOf}
+use Rattle.xs_flat_laws.proofs.Apart.{Differ, Apart, variables_apart}
+use Rattle.xs_flat_laws.proofs.KeysApart.{Pairwise, pairwise_join, pairwise_same}
+use Rattle.xs_flat_laws.proofs.Variables.{both_at_second}
+use Rattle.xs_flat_laws.proofs.Walkable.{accepted_walkable, main_is_there}
+use Rattle.xs_fei.specs.AddedNames.{mode_variable, mode_symbol}
 use Rattle.xs_weave.specs.Faults.{Fault}
 use Rattle.xs_loading.specs.Wholes.{IsModeOf}
 

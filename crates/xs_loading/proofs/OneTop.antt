@@ -12,14 +12,14 @@ use Rattle.xs_tree.specs.SpellsProgram.{SpellsExpr}
 use Rattle.xs_tree.proofs.OneTree.{one_expression}
 use Rattle.xs_expression_reader.specs.declared.fault.ParseFault.{ParseFault}
 use Rattle.xs_expression_reader.specs.Stops.{IsExpression, IsTooDeep, FaultMeans}
-use Rattle.xs_flattening.specs.Flat.{FlatLeaf, FlatModel}
-use Rattle.xs_flattening.specs.Model.{IsFlatOf}
-use Rattle.xs_flattening.specs.ResolvedAt.{IsResolvedAt}
-use Rattle.xs_flattening.specs.Rules.{Rule, number_of, IsAccepted}
-use Rattle.xs_flattening.specs.ValueRules.{IsLeastBroken}
-use Rattle.xs_kinds.specs.Judged.{KindRule}
-use Rattle.xs_kinds.specs.Models.{top_fault}
-use Rattle.xs_extending.proofs.OneForm.{same_form}
+use Rattle.xs_tree.specs.Flat.{FlatLeaf, FlatModel}
+use Rattle.xs_flat_laws.specs.Model.{IsFlatOf}
+use Rattle.xs_flat_laws.specs.ResolvedAt.{IsResolvedAt}
+use Rattle.xs_flat_laws.specs.Rules.{Rule, number_of, IsAccepted}
+use Rattle.xs_flat_laws.specs.ValueRules.{IsLeastBroken}
+use Rattle.xs_type_laws.specs.Judged.{KindRule}
+use Rattle.xs_type_laws.specs.Models.{top_fault}
+use Rattle.xs_extend_laws.proofs.OneForm.{same_form}
 use Rattle.xs_loading.specs.declared.status.InputFault.{InputFault}
 use Rattle.xs_loading.specs.declared.status.Part.TheVariants as part
 use Rattle.xs_loading.specs.declared.wrong.Wrong.TheVariants as wrong

@@ -1,15 +1,15 @@
 -- The first broken rule, as it is told.
 use Rattle.std.proofs.Common.{◌≡◌, inl, inr, ℕ, Option, Some, None, IfSome, refl, ap, ◌∙◌}
 use Rattle.xs_tree.specs.ProgramTree.{ProgramTree}
-use Rattle.xs_flattening.specs.Flat.{FlatModel}
-use Rattle.xs_flattening.specs.Rules.{Rule, IsFirstBroken}
+use Rattle.xs_tree.specs.Flat.{FlatModel}
+use Rattle.xs_flat_laws.specs.Rules.{Rule, IsFirstBroken}
 use Rattle.xs_scope.specs.Faults.{rule_of, IsFaultOf}
 use Rattle.xs_scope.specs.declared.fault.FlatFault.{FlatFault}
 use Rattle.xs_scope.specs.declared.fault.Rule.{Rule as FlatRule}
 use Rattle.xs_scope.specs.declared.fault.Rule.TheVariants as flat
-use Rattle.xs_kinds.specs.Judged as kinds
-use Rattle.xs_kinds.specs.Judged.{KindRule}
-use Rattle.xs_kinds.specs.Models.{IsFault}
+use Rattle.xs_type_laws.specs.Judged as kinds
+use Rattle.xs_type_laws.specs.Judged.{KindRule}
+use Rattle.xs_type_laws.specs.Models.{IsFault}
 use Rattle.xs_types.specs.Answers.{told_rule}
 use Rattle.xs_types.specs.Faults.{IsToldOf}
 use Rattle.xs_types.specs.declared.fault.TypeFault.{TypeFault}

@@ -3,24 +3,24 @@ use Rattle.std.proofs.Common.{◌≡◌, Bool, false, List, [], ◌∷◌, Optio
 use Rattle.std.specs.Prelude.{slice_get, codes, nat_lt}
 use Rattle.xs_tree.specs.Tree.{Tree}
 use Rattle.xs_tree.specs.ProgramTree.{Text, Formula, ProgramTree}
-use Rattle.xs_flattening.specs.Flat.{FlatLeaf, FlatInstance, FlatModel}
-use Rattle.xs_flattening.specs.Model.{IsFlatOf}
-use Rattle.xs_flattening.specs.ResolvedAt.{IsResolvedAt}
-use Rattle.xs_flattening.specs.Rules.{Rule, IsAccepted}
-use Rattle.xs_flattening.specs.ValueRules.{IsLeastBroken}
-use Rattle.xs_flattening.proofs.Walkable.{accepted_walkable}
+use Rattle.xs_tree.specs.Flat.{FlatLeaf, FlatInstance, FlatModel}
+use Rattle.xs_flat_laws.specs.Model.{IsFlatOf}
+use Rattle.xs_flat_laws.specs.ResolvedAt.{IsResolvedAt}
+use Rattle.xs_flat_laws.specs.Rules.{Rule, IsAccepted}
+use Rattle.xs_flat_laws.specs.ValueRules.{IsLeastBroken}
+use Rattle.xs_flat_laws.proofs.Walkable.{accepted_walkable}
 use Rattle.xs_flat.specs.ResolvedAt.{IsAt, IsValueFault}
 use Rattle.xs_scope.specs.Faults.{rule_of}
 use Rattle.xs_scope.specs.declared.fault.FlatFault.{FlatFault}
-use Rattle.xs_kinds.specs.Judged.{KindRule}
-use Rattle.xs_kinds.specs.Models.{judged_in, broken_condition, least, least_after, size_fault, top_fault}
-use Rattle.xs_kinds.specs.Costs.{cost_of}
+use Rattle.xs_type_laws.specs.Judged.{KindRule}
+use Rattle.xs_type_laws.specs.Models.{judged_in, broken_condition, least, least_after, size_fault, top_fault}
+use Rattle.xs_type_laws.specs.Costs.{cost_of}
 use Rattle.xs_types.specs.Answers.{told_rule}
 use Rattle.xs_types.specs.Calls.{top_answer}
 use Rattle.xs_types.specs.declared.fault.TypeFault.{TypeFault}
-use Rattle.xs_woven_tops.specs.Tops.{KeepsValue, HaveFlatModels, IsReadAs}
-use Rattle.xs_woven_tops.proofs.Judging.{woven_own, none_refused}
-use Rattle.xs_woven_tops.proofs.Names.{values_kept}
+use Rattle.xs_woven_laws.specs.Tops.{KeepsValue, HaveFlatModels, IsReadAs}
+use Rattle.xs_woven_laws.proofs.Judging.{woven_own, none_refused}
+use Rattle.xs_woven_laws.proofs.Names.{values_kept}
 use Rattle.xs_loading.specs.declared.status.InputFault.{InputFault}
 use Rattle.xs_loading.specs.declared.wrong.Wrong.TheVariants as wrong
 use Rattle.xs_loading.specs.Wrongs.{flat_wrong, type_wrong, names_fault}

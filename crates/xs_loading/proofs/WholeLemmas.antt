@@ -3,12 +3,13 @@ use Rattle.std.proofs.Common.{◌≡◌, ℕ, zero, suc, List, [], ◌∷◌, �
 use Rattle.std.specs.Prelude.{slice_get, reverse}
 use Rattle.std.proofs.lemmas.List.{reverse-append}
 use Rattle.xs_tree.specs.ProgramTree.{Text, Path, ProgramTree}
-use Rattle.xs_flattening.specs.History.{with_history}
-use Rattle.xs_flattening.specs.Model.{IsVariableNumber, EachBoth}
-use Rattle.xs_scope.specs.declared.model.FlatModel.{FlatModel}
-use Rattle.xs_scope.specs.declared.model.Fault.{Fault}
-use Rattle.xs_scope.specs.ModelTree.{place_in, name_in, variable_tree, model_tree, mode_of}
-use Rattle.xs_effects.specs.AddedNames.{mode_variable}
+use Rattle.xs_flat_laws.specs.History.{with_history}
+use Rattle.xs_flat_laws.specs.Model.{IsVariableNumber, EachBoth}
+use Rattle.xs_tree.specs.declared.model.FlatModel.{FlatModel}
+use Rattle.xs_tree.specs.declared.model.Fault.{Fault}
+use Rattle.xs_tree.specs.ModelTree.{place_in, name_in, variable_tree, model_tree}
+use Rattle.xs_flat_laws.specs.FaultModes.{mode_of}
+use Rattle.xs_fei.specs.AddedNames.{mode_variable}
 use Rattle.xs_extend.specs.declared.faults.WovenFault.{WovenFault}
 use Rattle.xs_extend.specs.WovenFaults.{place_of, fault_tree}
 use Rattle.xs_extend.specs.NumberedFaults.{parts_of, HasPath, AreNumbered}

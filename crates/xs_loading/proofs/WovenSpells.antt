@@ -22,10 +22,11 @@ use Rattle.xs_fei.specs.declared.instructions.Start.{Start}
 use Rattle.xs_fei.specs.declared.instructions.Start.TheVariants.{Nominal, Any}
 use Rattle.xs_fei.specs.Instructions.{EffectTree, stuck_at, follows, inverted, random, erroneous, frozen, stuck_at_pick, offset, ramp_down, ModeTree, SliceTree, ExtensionTree, InstructionTree, slices_from, slices_of, is_affected}
 use Rattle.xs_fei.specs.SpellsInstructions.{BytesSpellInstructions}
-use Rattle.xs_effects.specs.AddedNames.{own_name, mode_variable, mode_symbol}
-use Rattle.xs_effects.specs.Templates.{named, number_tree, value_tree, member_value, member_trees, domain_tree, clipped_tree, branch, stands, stands_next, rules, first_rules}
-use Rattle.xs_weave.specs.Woven.{start_tree, start_rules, mode_rules, mode_branches, set_one, guard_formula, entries_from, entries, stay_branch, moves_tree, read_tree, slice_rules, type_of_kind, slice_sections, tree_map_both, trees_map_both, branches_map_both, rename, same_path, woven_assignment, woven_section, added_sections, woven_module, woven}
-use Rattle.xs_weave.proofs.Lists.{each_append, each_map}
+use Rattle.xs_fei.specs.AddedNames.{own_name, mode_variable, mode_symbol}
+use Rattle.xs_fei.specs.Templates.{named, number_tree, value_tree, member_value, member_trees, domain_tree, clipped_tree, branch, stands, stands_next, rules, first_rules}
+use Rattle.xs_weave.specs.Woven.{start_tree, start_rules, mode_rules, mode_branches, set_one, guard_formula, entries_from, entries, stay_branch, moves_tree, read_tree, slice_rules, slice_sections, tree_map_both, trees_map_both, branches_map_both, rename, same_path, woven_assignment, woven_section, added_sections, woven_module, woven}
+use Rattle.xs_fei.specs.KindTypes.{type_of_kind}
+use Rattle.xs_fei.proofs.AmongLaws.{each_append, each_map}
 use Rattle.xs_loading.proofs.AddedNames.{own_is_name, mode_variable_is_name, nominal_is_name, symbol_is_name}
 use Rattle.xs_fei.specs.WritableInstructions.{IsWritableConstant, IsWritableEffect, IsWritableGuard, IsWritableMode, IsWritableSlice, IsWritableExtension, IsWritableInstructions}
 use Rattle.xs_fei.proofs.SpelledInstructions.{instructions_writable}

@@ -3,7 +3,7 @@ use Rattle.std.specs.Prelude.{◌≡◌, ℕ, List, ◌++◌, Option, Some, None
 use Rattle.std.specs.Fmt.{decimal}
 use Rattle.xs_desk.specs.declared.files.NamedFile.{NamedFile}
 use Rattle.xs_tree.specs.ProgramTree.{Text}
-use Rattle.xs_kinds.specs.Costs.{state_bits}
+use Rattle.xs_type_laws.specs.Costs.{state_bits}
 use Rattle.xs_weave.specs.Faults.{Fault}
 use Rattle.xs_loading.specs.Reports.{fault_lines}
 use Rattle.xs_loading.specs.Cases.{Case, whole_of}

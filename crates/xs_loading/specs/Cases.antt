@@ -9,14 +9,14 @@ use Rattle.xs_expression_reader.specs.declared.fault.ParseFault.{ParseFault}
 use Rattle.xs_expression_reader.specs.Stops.{IsExpression, IsTooDeep, FaultMeans}
 use Rattle.xs_expression_reader.specs.Lists.{BytesSpellExpressions}
 use Rattle.xs_expression_reader.specs.Within.{HaveDepths}
-use Rattle.xs_flattening.specs.Flat.{FlatLeaf, FlatModel}
-use Rattle.xs_flattening.specs.History.{Mode, with_history}
-use Rattle.xs_flattening.specs.Model.{EachBoth}
-use Rattle.xs_flattening.specs.ResolvedAt.{IsResolvedAt}
-use Rattle.xs_flattening.specs.Rules.{Rule}
-use Rattle.xs_flattening.specs.ValueRules.{BreaksValue, IsLeastBroken}
-use Rattle.xs_kinds.specs.Judged.{KindRule}
-use Rattle.xs_kinds.specs.Models.{IsTyped, top_fault}
+use Rattle.xs_tree.specs.Flat.{FlatLeaf, FlatModel}
+use Rattle.xs_flat_laws.specs.History.{Mode, with_history}
+use Rattle.xs_flat_laws.specs.Model.{EachBoth}
+use Rattle.xs_flat_laws.specs.ResolvedAt.{IsResolvedAt}
+use Rattle.xs_flat_laws.specs.Rules.{Rule}
+use Rattle.xs_flat_laws.specs.ValueRules.{BreaksValue, IsLeastBroken}
+use Rattle.xs_type_laws.specs.Judged.{KindRule}
+use Rattle.xs_type_laws.specs.Models.{IsTyped, top_fault}
 use Rattle.xs_fei.specs.Instructions.{InstructionTree}
 use Rattle.xs_weave.specs.Faults.{Fault, HasFaults}
 use Rattle.xs_weave.specs.Woven.{woven}

@@ -6,22 +6,22 @@ use Rattle.xs_tree.specs.ProgramTree.{Text, Path, ProgramTree}
 use Rattle.xs_tree.specs.Text.{program_text}
 use Rattle.xs_expression_reader.specs.declared.fault.ParseFault.{ParseFault}
 use Rattle.xs_expression_reader.specs.Stops.{FaultMeans}
-use Rattle.xs_flattening.specs.Flat.{FlatInstance, FlatModel}
-use Rattle.xs_flattening.specs.Items.{instances_of}
-use Rattle.xs_flattening.specs.Model.{IsFlatOf}
-use Rattle.xs_extending.specs.Expressions.{AllUsesKept}
+use Rattle.xs_tree.specs.Flat.{FlatInstance, FlatModel}
+use Rattle.xs_flat_laws.specs.Items.{instances_of}
+use Rattle.xs_flat_laws.specs.Model.{IsFlatOf}
+use Rattle.xs_extend_laws.specs.Expressions.{AllUsesKept}
 use Rattle.xs_fei.specs.Instructions.{InstructionTree}
 use Rattle.xs_fei.specs.SpellsInstructions.{BytesSpellInstructions}
 use Rattle.xs_fei_reader.specs.InstructionPlaces.{IsInstructions}
 use Rattle.xs_fei_reader.specs.Within.{HaveInstructionDepths, AreInstructionsTooDeep}
 use Rattle.xs_weave.specs.Faults.{Fault, HasFaults}
 use Rattle.xs_weave.specs.Woven.{woven}
-use Rattle.xs_weave.specs.Weavable.{IsWeavable}
+use Rattle.xs_fei.specs.Weavable.{IsWeavable}
 use Rattle.xs_extend.specs.Refused.{KeepsRules, IsTold}
 use Rattle.xs_extend.specs.NumberedFaults.{parts_of}
 use Rattle.xs_extend.specs.declared.faults.WovenFault.{WovenFault}
 use Rattle.xs_report.specs.FaultText.{name_of}
-use Rattle.xs_scope.specs.declared.model.Fault.{Fault as Numbered}
+use Rattle.xs_tree.specs.declared.model.Fault.{Fault as Numbered}
 use Rattle.xs_extend.specs.declared.fault.WeaveFault.{WeaveFault}
 use Rattle.xs_loading.specs.declared.status.InputFault.{InputFault}
 use Rattle.xs_loading.specs.declared.status.Refusal.{Refusal}

@@ -3,12 +3,13 @@ use Rattle.std.specs.Prelude.{◌≡◌, ℕ, ◌≤◌, ◌<◌, false, List, [
 use Rattle.xs_desk.specs.declared.files.NamedFile.{NamedFile}
 use Rattle.xs_tree.specs.Tree.{Tree}
 use Rattle.xs_tree.specs.ProgramTree.{Text, Formula, ProgramTree, program_tree}
-use Rattle.xs_scope.specs.ModelTree.{model_tree, mode_of}
-use Rattle.xs_flattening.specs.Flat.{FlatLeaf, FlatModel}
-use Rattle.xs_flattening.specs.History.{with_history}
+use Rattle.xs_tree.specs.ModelTree.{model_tree}
+use Rattle.xs_flat_laws.specs.FaultModes.{mode_of}
+use Rattle.xs_tree.specs.Flat.{FlatLeaf, FlatModel}
+use Rattle.xs_flat_laws.specs.History.{with_history}
 use Rattle.xs_fei.specs.Instructions.{instruction_tree}
-use Rattle.xs_kinds.specs.Laws.{ReadsOwn}
-use Rattle.xs_kinds.specs.Models.{judged_in, broken_condition}
+use Rattle.xs_type_laws.specs.Laws.{ReadsOwn}
+use Rattle.xs_type_laws.specs.Models.{judged_in, broken_condition}
 use Rattle.xs_weave.specs.Faults.{Fault}
 use Rattle.xs_weave.specs.Woven.{woven}
 use Rattle.xs_extend.specs.WovenFaults.{fault_tree}

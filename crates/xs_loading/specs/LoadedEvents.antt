@@ -1,8 +1,8 @@
 -- What the work has in memory once a top event is loaded: the case, and that the event is one of it.
 use Rattle.xs_tree.specs.Tree.{Tree}
 use Rattle.xs_tree.specs.ProgramTree.{Text, ProgramTree, program_tree}
-use Rattle.xs_scope.specs.ModelTree.{flat_tree}
-use Rattle.xs_flattening.specs.Flat.{FlatLeaf, FlatModel}
+use Rattle.xs_tree.specs.ModelTree.{flat_tree}
+use Rattle.xs_tree.specs.Flat.{FlatLeaf, FlatModel}
 use Rattle.xs_loading.specs.declared.loaded.LoadedCase.{LoadedCase}
 use Rattle.xs_loading.specs.declared.event.LoadedEvent.{LoadedEvent}
 use Rattle.xs_loading.specs.Models.{IsLawful}

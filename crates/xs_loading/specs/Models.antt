@@ -6,12 +6,12 @@ use Rattle.xs_expression_reader.specs.declared.fault.ParseFault.{ParseFault}
 use Rattle.xs_expression_reader.specs.Stops.{FaultMeans}
 use Rattle.xs_parse.specs.Symbols.{IsProgram}
 use Rattle.xs_parse.specs.Within.{HasProgramDepths, IsProgramTooDeep}
-use Rattle.xs_flattening.specs.Flat.{FlatModel}
-use Rattle.xs_flattening.specs.Looks.{ActualsMean}
-use Rattle.xs_flattening.specs.Rules.{Rule, IsFirstBroken, IsAccepted}
-use Rattle.xs_flattening.specs.Model.{IsFlatOf}
-use Rattle.xs_kinds.specs.Judged.{KindRule}
-use Rattle.xs_kinds.specs.Models.{IsTyped, IsFault}
+use Rattle.xs_tree.specs.Flat.{FlatModel}
+use Rattle.xs_flat_laws.specs.Looks.{ActualsMean}
+use Rattle.xs_flat_laws.specs.Rules.{Rule, IsFirstBroken, IsAccepted}
+use Rattle.xs_flat_laws.specs.Model.{IsFlatOf}
+use Rattle.xs_type_laws.specs.Judged.{KindRule}
+use Rattle.xs_type_laws.specs.Models.{IsTyped, IsFault}
 use Rattle.xs_loading.specs.declared.status.InputFault.{InputFault}
 use Rattle.xs_loading.specs.declared.wrong.Wrong.TheVariants as wrong
 use Rattle.xs_loading.specs.Wrongs.{parse_wrong, names_fault, kinds_fault}

@@ -4,8 +4,8 @@ use Rattle.xs_desk.specs.declared.files.NamedFile.{NamedFile}
 use Rattle.xs_desk.specs.Files.{file_of, content_of}
 use Rattle.xs_tree.specs.ProgramTree.{Text, Formula}
 use Rattle.xs_tree.specs.Tree.{Tree}
-use Rattle.xs_flattening.specs.Flat.{FlatLeaf}
-use Rattle.xs_flattening.specs.ResolvedAt.{IsResolvedAt}
+use Rattle.xs_tree.specs.Flat.{FlatLeaf}
+use Rattle.xs_flat_laws.specs.ResolvedAt.{IsResolvedAt}
 use Rattle.xs_loading.specs.declared.status.InputFault.{InputFault}
 use Rattle.xs_loading.specs.declared.status.Part.TheVariants as part
 use Rattle.xs_loading.specs.Statuses.{absent}

@@ -2,13 +2,13 @@
 use Rattle.std.specs.Prelude.{ℕ, ◌≡◌, List, Some, slice_get}
 use Rattle.xs_tree.specs.ProgramTree.{ProgramTree}
 use Rattle.xs_tree.specs.Trace.{Each}
-use Rattle.xs_flattening.specs.Flat.{FlatModel}
-use Rattle.xs_flattening.specs.History.{Mode, with_history}
-use Rattle.xs_flattening.specs.Rules.{Rule, too_many, IsFirstBroken, IsAccepted}
-use Rattle.xs_flattening.specs.Model.{IsVariableNumber, EachBoth, IsFlatOf}
-use Rattle.xs_kinds.specs.Judged.{KindRule, too_large}
-use Rattle.xs_kinds.specs.Models.{IsTyped, IsFault}
-use Rattle.xs_effects.specs.AddedNames.{mode_variable, mode_symbol}
+use Rattle.xs_tree.specs.Flat.{FlatModel}
+use Rattle.xs_flat_laws.specs.History.{Mode, with_history}
+use Rattle.xs_flat_laws.specs.Rules.{Rule, too_many, IsFirstBroken, IsAccepted}
+use Rattle.xs_flat_laws.specs.Model.{IsVariableNumber, EachBoth, IsFlatOf}
+use Rattle.xs_type_laws.specs.Judged.{KindRule, too_large}
+use Rattle.xs_type_laws.specs.Models.{IsTyped, IsFault}
+use Rattle.xs_fei.specs.AddedNames.{mode_variable, mode_symbol}
 use Rattle.xs_weave.specs.Faults.{Fault}
 use Rattle.xs_loading.specs.declared.status.InputFault.{InputFault}
 use Rattle.xs_loading.specs.Wrongs.{names_fault, kinds_fault}

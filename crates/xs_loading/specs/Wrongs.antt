@@ -10,14 +10,14 @@ use Rattle.xs_scope.specs.declared.fault.FlatFault.{FlatFault}
 use Rattle.xs_types.specs.declared.fault.TypeFault.{TypeFault}
 use Rattle.xs_types.specs.declared.fault.Rule.{Rule as TypeRule}
 use Rattle.xs_types.specs.declared.fault.Rule.TheVariants as kind
-use Rattle.xs_effects.specs.declared.fault.EffectFault.TheVariants as effect
+use Rattle.xs_fei.specs.declared.fault.EffectFault.TheVariants as effect
 use Rattle.xs_weave_rules.specs.declared.fault.Rule.{Rule as WeaveRule}
 use Rattle.xs_weave_rules.specs.declared.fault.Rule.TheVariants as weave
 use Rattle.xs_extend.specs.declared.fault.WeaveFault.{WeaveFault}
 use Rattle.xs_extend.specs.declared.fault.Cause.{Cause}
 use Rattle.xs_extend.specs.declared.fault.Cause.TheVariants as cause
-use Rattle.xs_flattening.specs.Rules as rules
-use Rattle.xs_kinds.specs.Judged as kinds
+use Rattle.xs_flat_laws.specs.Rules as rules
+use Rattle.xs_type_laws.specs.Judged as kinds
 use Rattle.xs_loading.specs.declared.status.InputFault.{InputFault}
 use Rattle.xs_loading.specs.declared.status.Part.{Part}
 use Rattle.xs_loading.specs.declared.status.Part.TheVariants as part

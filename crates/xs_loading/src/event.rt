@@ -13,8 +13,8 @@ use crate::model::{LoadedModel, load_model};
 use crate::top::load_top;
 use std::alloc::Global;
 use xs_desk::Desk;
-use xs_flat::Flat;
 use xs_tree::Expr;
+use xs_tree::model::Flat;
 
 /// A model, its extension, and a top event over that.
 #[derive(Drop)]

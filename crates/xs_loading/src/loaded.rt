@@ -2,10 +2,10 @@
 ghost use Rattle.std.specs.Prelude.{◌≡◌, ◌≤◌, length, map, IfOk, OnOk, IfErr, IfSome, IsErrOf};
 ghost use Rattle.xs_desk.specs.Desk.{Rose};
 ghost use Rattle.xs_tree.specs.ProgramTree.{program_tree};
-ghost use Rattle.xs_scope.specs.ModelTree.{model_tree};
+ghost use Rattle.xs_tree.specs.ModelTree.{model_tree};
 ghost use Rattle.xs_extend.specs.InstanceLaws.{HasInstancesInVar};
 ghost use Rattle.xs_extend.specs.WovenFaults.{fault_tree};
-ghost use Rattle.xs_kinds.specs.Models.{IsTyped};
+ghost use Rattle.xs_type_laws.specs.Models.{IsTyped};
 ghost use Rattle.xs_loading.specs.Wrongs.{IfRefused};
 ghost use Rattle.xs_loading.specs.Models.{IsLawful, IsSpelled};
 ghost use Rattle.xs_loading.specs.Wholes.{BreaksKinds, HasItsModes};
@@ -23,7 +23,8 @@ use xs_desk::Desk;
 use xs_extend::{Woven, fault_list, weave_typed};
 use xs_fei::Instructions;
 use xs_fei_reader::instructions;
-use xs_flat::{FaultList, FlatModel, with_history};
+use xs_flat::with_history;
+use xs_tree::model::{FaultList, FlatModel};
 use xs_types::{TypeFault, Typed, check_model};
 
 /// The extension of a model by instructions: the program, the numbers of its faults, and its flat model with its

@@ -6,8 +6,8 @@ ghost use Rattle.xs_loading.specs.Reports.{name_text, place_text, parts_text};
 
 use std::alloc::Global;
 use xs_extend::WovenFault;
-use xs_flat::FaultList;
 use xs_report::print_faults;
+use xs_tree::model::FaultList;
 use xs_value::{ByteList, Dotted, Name, OutOfMemory};
 
 /// The number of faults, each fault with its number and name, and that the extension is written.

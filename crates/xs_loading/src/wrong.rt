@@ -4,9 +4,9 @@ ghost use Rattle.xs_loading.specs.declared.wrong.Wrong.TheVariants as wrong;
 ghost use Rattle.xs_loading.specs.Wrongs.{lex_wrong, parse_wrong, flat_wrong, type_wrong, weave_wrong, weave_rule};
 
 use crate::status::{InputFault, Part};
-use xs_effects::EffectFault;
 use xs_expression_reader::ParseFault;
 use xs_extend::{Cause, WeaveFault};
+use xs_fei::EffectFault;
 use xs_flat::{FlatFault, Rule};
 use xs_lexer::LexFault;
 use xs_types::TypeFault;

@@ -8,7 +8,7 @@ use Rattle.xs_tree.specs.Trace.{Each, AtSome}
 use Rattle.xs_tree.proofs.ValueLaws.{same_text_equal, same_text_refl}
 use Rattle.xs_fei.specs.Instructions.{ModeTree, SliceTree, ExtensionTree, InstructionTree, slices_from, slices_of}
 use Rattle.xs_weave.specs.Faults.{Fault, slice_faults, module_slices, place_faults, HasFaults}
-use Rattle.xs_flattening.proofs.Conditions.{each_flat, each_mapped}
+use Rattle.xs_flat_laws.proofs.Conditions.{each_flat, each_mapped}
 use Rattle.std.specs.Prelude.{nat_le, ◌&&◌, codes}
 use Rattle.std.proofs.lemmas.Bool.Decides.{nat_tests}
 use Rattle.xs_extend.specs.declared.faults.WovenFault.{WovenFault}

@@ -5,14 +5,14 @@ use Rattle.std.proofs.lemmas.Bool.Decides.{leb_tells}
 use Rattle.std.proofs.lemmas.List.{append_assoc, length-append}
 use Rattle.xs_tree.specs.Values.{Value, truth}
 use Rattle.xs_tree.specs.Trace.{Each}
-use Rattle.xs_flattening.specs.Flat.{FlatModel}
-use Rattle.xs_flattening.specs.History.{Mode}
-use Rattle.xs_flattening.specs.FlatTrace.{IsFlatMoment, stands, stands_in_some, bits_after, told_from}
-use Rattle.xs_encoded.specs.FlatTraces.{last_of}
-use Rattle.xs_encoded.proofs.HistoryFacts.{last_told}
-use Rattle.xs_added.specs.Columns.{with_values, with_value}
-use Rattle.xs_added.proofs.Columns.{with_values_length}
-use Rattle.xs_added.proofs.Longer.{domains_length}
+use Rattle.xs_tree.specs.Flat.{FlatModel}
+use Rattle.xs_flat_laws.specs.History.{Mode}
+use Rattle.xs_flat_laws.specs.FlatTrace.{IsFlatMoment, stands, stands_in_some, bits_after, told_from}
+use Rattle.xs_encode_laws.specs.FlatTraces.{last_of}
+use Rattle.xs_encode_laws.proofs.HistoryFacts.{last_told}
+use Rattle.xs_cause_laws.specs.Columns.{with_values, with_value}
+use Rattle.xs_cause_laws.proofs.Columns.{with_values_length}
+use Rattle.xs_cause_laws.proofs.Longer.{domains_length}
 use Rattle.xs_orders.specs.Relations.{BeginsAt, HasRelation}
 use Rattle.xs_orders.specs.Told.{begins_before, order_value, ordered_told, told_relation}
 use Rattle.xs_orders.specs.Laws.{EndsTellOrders, OwnValuesAreKept}

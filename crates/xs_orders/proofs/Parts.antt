@@ -3,8 +3,8 @@ use Rattle.std.proofs.Common.{◌≡◌, ℕ, zero, suc, ◌+◌, ◌-◌, ◌<�
 use Rattle.std.proofs.lemmas.List.{append-nil}
 use Rattle.xs_tree.specs.declared.expr.Op.TheVariants as op
 use Rattle.xs_tree.specs.Tree.{Tree, binary, not_of}
-use Rattle.xs_flattening.specs.Flat.{FlatLeaf}
-use Rattle.xs_right.specs.Sets.{has_number}
+use Rattle.xs_tree.specs.Flat.{FlatLeaf}
+use Rattle.xs_right_laws.specs.Sets.{has_number}
 use Rattle.xs_orders.specs.Stage.{with_set, now_of}
 
 pub nothing_more : {A : Type 0} (l : List A) → l ++ [] ≡ l

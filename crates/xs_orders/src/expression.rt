@@ -3,17 +3,18 @@
 ghost use Rattle.std.specs.Prelude.{◌≡◌, ◌<◌, ◌≤◌, ◌+◌, ◌^◌, length, IfOk, if◌then◌else◌};
 ghost use Rattle.xs_tree.specs.Tree.{binary, not_of};
 ghost use Rattle.xs_tree.specs.declared.expr.Op.TheVariants as op;
-ghost use Rattle.xs_scope.specs.ModelTree.{flat_tree, model_tree};
-ghost use Rattle.xs_right.specs.Sets.{has_number as has};
-ghost use Rattle.xs_encoded.specs.FlatTraces.{IsNumbered};
+ghost use Rattle.xs_tree.specs.ModelTree.{flat_tree, model_tree};
+ghost use Rattle.xs_right_laws.specs.Sets.{has_number as has};
+ghost use Rattle.xs_encode_laws.specs.FlatTraces.{IsNumbered};
 ghost use Rattle.xs_orders.specs.Stage.{against as against_tree, with_set as set_tree, with_claim as claim_tree, now_of};
 
 use crate::Relation;
 use crate::staging::{joined, negated, now};
 use std::alloc::Global;
-use xs_flat::{Flat, FlatModel, copy_flat};
 use xs_scope::items::number_of;
 use xs_sets::has_number;
+use xs_tree::copy_model::copy_flat;
+use xs_tree::model::{Flat, FlatModel};
 use xs_tree::{Expr, Op};
 use xs_value::OutOfMemory;
 

@@ -4,14 +4,16 @@
 ghost use Rattle.std.specs.Prelude.{◌≡◌, ◌≢◌, ◌^◌, ◌<◌, ◌≤◌, length, map, IfOk, IsOk, OnOk};
 ghost use Rattle.xs_tree.specs.Tree.{binary, not_of, next_of};
 ghost use Rattle.xs_tree.specs.declared.expr.Op.TheVariants as op;
-ghost use Rattle.xs_scope.specs.ModelTree.{variable_tree, formula_tree, flat_tree, model_tree, mode_of};
-ghost use Rattle.xs_flattening.specs.History.{added as added_tree};
+ghost use Rattle.xs_tree.specs.ModelTree.{variable_tree, formula_tree, flat_tree, model_tree};
+ghost use Rattle.xs_flat_laws.specs.FaultModes.{mode_of};
+ghost use Rattle.xs_flat_laws.specs.History.{added as added_tree};
 ghost use Rattle.xs_orders.specs.Stage.{stage as stage_of, with_order, order_variable as variable_of, order_at_first as first_of, order_at_step as step_of, now_of, later_of, bit_number as bit_of};
 
 use std::alloc::Global;
-use xs_flat::{FaultList, Flat, FlatModel, Formula, Role, Variable, with_history};
-use xs_scope::copy::boxed;
+use xs_flat::with_history;
 use xs_scope::items::number_of;
+use xs_tree::copy_model::boxed;
+use xs_tree::model::{FaultList, Flat, FlatModel, Formula, Role, Variable};
 use xs_tree::{Declared, Expr, Op};
 use xs_value::{Dotted, Name, OutOfMemory};
 

@@ -1,6 +1,6 @@
 -- When a run of a further verb has finished.
 use Rattle.std.specs.Prelude.{◌≡◌, ◌⊎◌, ℕ}
-use Rattle.xs_analysis_text.specs.Analysis.{Ending, complete, bounded}
+use Rattle.xs_text_laws.specs.Analysis.{Ending, complete, bounded}
 use Rattle.xs_reach_status.specs.declared.status.Status.{Status}
 use Rattle.xs_reach_status.specs.declared.status.Status.TheVariants as status
 

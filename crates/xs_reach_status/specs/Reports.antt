@@ -2,8 +2,8 @@
 use Rattle.std.specs.Prelude.{ℕ, List, ◌++◌, codes, length}
 use Rattle.std.specs.Fmt.{decimal}
 use Rattle.xs_tree.specs.ProgramTree.{Text}
-use Rattle.xs_analysis_text.specs.Analysis.{Ending}
-use Rattle.xs_analysis_text.specs.AnalysisText.{set_lines, ending_text}
+use Rattle.xs_text_laws.specs.Analysis.{Ending}
+use Rattle.xs_text_laws.specs.AnalysisText.{set_lines, ending_text}
 
 -- the number of the sets, and a line for each
 abbrev pub sets_text : List (List ℕ) → Text

@@ -1,8 +1,8 @@
 // The lines of sets and of how an analysis ends, as all reports have them.
 ghost use Rattle.std.specs.Prelude.{◌≡◌, ◌++◌, codes, OnOk};
 ghost use Rattle.std.specs.Fmt.{decimal};
-ghost use Rattle.xs_analysis_text.specs.AnalysisText.{numbers_text, set_lines};
-ghost use Rattle.xs_analysis_text.specs.Analysis.{told_ending};
+ghost use Rattle.xs_text_laws.specs.AnalysisText.{numbers_text, set_lines};
+ghost use Rattle.xs_text_laws.specs.Analysis.{told_ending};
 ghost use Rattle.xs_reach_status.specs.Reports.{sets_text, ending_line};
 
 use std::alloc::Global;

@@ -1,7 +1,7 @@
 // How a run of a further verb ends, and the line that a refusal says.
 ghost use Rattle.std.specs.Prelude.{◌≡◌, ◌≤ℤ◌, pos, ◌++◌, IfOk, OnOk, codes};
 ghost use Rattle.std.specs.Fmt.{decimal};
-ghost use Rattle.xs_analysis_text.specs.Analysis.{told_ending};
+ghost use Rattle.xs_text_laws.specs.Analysis.{told_ending};
 ghost use Rattle.xs_reach_status.specs.Finished.{IsFinished, ended_with};
 ghost use Rattle.xs_reach_status.specs.Statuses.{number_of, refusal_number, part_text, fault_text, words_text, refusal_text};
 

@@ -3,14 +3,14 @@ use Rattle.std.proofs.Common.{◌≡◌, ◌≢◌, inl, inr, ℕ, ◌<◌, ◌�
 use Rattle.std.specs.Prelude.{slice_get, IsTrue}
 use Rattle.xs_tree.specs.Values.{Value}
 use Rattle.xs_tree.specs.Trace.{in_domain}
-use Rattle.xs_flattening.specs.Flat.{FlatVariable, FlatModel}
-use Rattle.xs_flattening.proofs.Lists.{get_within}
+use Rattle.xs_tree.specs.Flat.{FlatVariable, FlatModel}
+use Rattle.xs_flat_laws.proofs.Lists.{get_within}
 use Rattle.std.proofs.lemmas.Option.{slice_get_within}
-use Rattle.xs_lines.specs.Lines.{Line}
-use Rattle.xs_trace_text.specs.TraceText.{value_text, moment_line, equation}
-use Rattle.xs_trace_text.specs.Given.{IsPrintable}
-use Rattle.xs_trace_text.specs.Wrong.{LineFault, bad_line, unknown_name, outside, twice, number_of, moments_after, IsEquation, IsNameIn, WasSaid, Breaks, IsLeast}
-use Rattle.xs_trace_text.proofs.OneTrace.{same_equation}
+use Rattle.xs_text_laws.specs.Lines.{Line}
+use Rattle.xs_text_laws.specs.TraceText.{value_text, moment_line, equation}
+use Rattle.xs_text_laws.specs.Given.{IsPrintable}
+use Rattle.xs_text_laws.specs.Wrong.{LineFault, bad_line, unknown_name, outside, twice, number_of, moments_after, IsEquation, IsNameIn, WasSaid, Breaks, IsLeast}
+use Rattle.xs_text_laws.proofs.OneTrace.{same_equation}
 use Rattle.xs_report.specs.declared.fault.Cause.{Cause}
 use Rattle.xs_report.specs.declared.fault.Cause.TheVariants as cause
 use Rattle.xs_report.specs.declared.reading.Slot.{Slot}

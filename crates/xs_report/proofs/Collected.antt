@@ -2,17 +2,17 @@
 use Rattle.std.proofs.Common.{◌≡◌, ◌⊎◌, inl, inr, ℕ, zero, suc, ◌+◌, ◌≤◌, List, [], ◌∷◌, ◌++◌, length, refl, sym, ◌∙◌, ap, subst, arith, append_assoc, length-append, Some}
 use Rattle.std.specs.Prelude.{slice_get}
 use Rattle.xs_tree.specs.Values.{Value}
-use Rattle.xs_flattening.specs.Flat.{FlatVariable, FlatModel}
-use Rattle.xs_flattening.specs.FlatTrace.{AreInDomains}
-use Rattle.xs_lines.specs.Lines.{Line}
-use Rattle.xs_trace_text.specs.TraceText.{value_text, variable_text, moment_line, equation, value_line}
-use Rattle.xs_trace_text.specs.Given.{IsLineWord, IsPrintable, GivesMoments}
-use Rattle.xs_trace_text.specs.Wrong.{moments_after}
-use Rattle.xs_trace_text.proofs.OneTrace.{HasNoMoment, head_of, no_items, no_moment}
-use Rattle.xs_trace_text.proofs.Moments.{next_begins, after_both, none_begins, no_fewer}
-use Rattle.xs_trace_text.proofs.LineJudged.{AllAre}
-use Rattle.xs_trace_text.proofs.GivenHasNone.{fewer_before}
-use Rattle.xs_trace_text.proofs.TextJudged.{Own, cut_own, Valued, moment_given, place_of}
+use Rattle.xs_tree.specs.Flat.{FlatVariable, FlatModel}
+use Rattle.xs_flat_laws.specs.FlatTrace.{AreInDomains}
+use Rattle.xs_text_laws.specs.Lines.{Line}
+use Rattle.xs_text_laws.specs.TraceText.{value_text, variable_text, moment_line, equation, value_line}
+use Rattle.xs_text_laws.specs.Given.{IsLineWord, IsPrintable, GivesMoments}
+use Rattle.xs_text_laws.specs.Wrong.{moments_after}
+use Rattle.xs_text_laws.proofs.OneTrace.{HasNoMoment, head_of, no_items, no_moment}
+use Rattle.xs_text_laws.proofs.Moments.{next_begins, after_both, none_begins, no_fewer}
+use Rattle.xs_text_laws.proofs.LineJudged.{AllAre}
+use Rattle.xs_text_laws.proofs.GivenHasNone.{fewer_before}
+use Rattle.xs_text_laws.proofs.TextJudged.{Own, cut_own, Valued, moment_given, place_of}
 use Rattle.xs_report.specs.Reading.{IsGiven}
 
 -- The values lie in their types, and each is said in the moment of this number.

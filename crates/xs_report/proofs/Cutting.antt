@@ -1,10 +1,10 @@
 -- Bytes cut at a byte, and a line cut into the words of an equation.
 use Rattle.std.proofs.Common.{◌≡◌, ◌≢◌, ℕ, zero, suc, ◌<◌, ◌≤◌, List, [], ◌∷◌, ◌++◌, length, take, drop, get_or, refl, sym, ◌∙◌, ap, subst, arith, codes}
 use Rattle.std.specs.Fmt.{decimal}
-use Rattle.xs_lines.specs.Lines.{Line, IsLine}
-use Rattle.xs_lines.proofs.Separators.{same_front, no_separator}
-use Rattle.xs_trace_text.specs.TraceText.{moment_line, equation}
-use Rattle.xs_trace_text.specs.Wrong.{IsEquation}
+use Rattle.xs_text_laws.specs.Lines.{Line, IsLine}
+use Rattle.xs_text_laws.proofs.Separators.{same_front, no_separator}
+use Rattle.xs_text_laws.specs.TraceText.{moment_line, equation}
+use Rattle.xs_text_laws.specs.Wrong.{IsEquation}
 use Rattle.xs_report.specs.Cuts.{Lacks, BeginsWith, IsNoEquation, IsSpaceless}
 
 pub front_free : (b : ℕ) (bytes : List ℕ) (n : ℕ) → n ≤ length bytes → ((k : ℕ) → k < n → get_or bytes k 0 ≢ b) → Lacks b (take n bytes)

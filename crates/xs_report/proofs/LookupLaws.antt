@@ -10,15 +10,15 @@ use Rattle.xs_tree.specs.Trace.{in_domain}
 use Rattle.xs_tree.specs.Printed.{IsEnd}
 use Rattle.xs_tree.specs.WritableProgram.{IsWritableType}
 use Rattle.xs_tree.proofs.ValueLaws.{same_text_equal, same_text_refl}
-use Rattle.xs_flattening.specs.Flat.{FlatVariable}
-use Rattle.xs_kinds.specs.Costs.{symbol_number}
-use Rattle.xs_scope.specs.declared.model.FlatModel.{FlatModel}
-use Rattle.xs_scope.specs.declared.model.Variable.{Variable}
-use Rattle.xs_scope.specs.ModelTree.{model_tree, variable_tree}
-use Rattle.xs_trace_text.specs.TraceText.{value_text, variable_text}
-use Rattle.xs_trace_text.specs.Given.{IsPrintable}
-use Rattle.xs_trace_text.specs.Wrong.{IsNameIn}
-use Rattle.xs_trace_text.proofs.Plain.{domain_plain}
+use Rattle.xs_tree.specs.Flat.{FlatVariable}
+use Rattle.xs_type_laws.specs.Costs.{symbol_number}
+use Rattle.xs_tree.specs.declared.model.FlatModel.{FlatModel}
+use Rattle.xs_tree.specs.declared.model.Variable.{Variable}
+use Rattle.xs_tree.specs.ModelTree.{model_tree, variable_tree}
+use Rattle.xs_text_laws.specs.TraceText.{value_text, variable_text}
+use Rattle.xs_text_laws.specs.Given.{IsPrintable}
+use Rattle.xs_text_laws.specs.Wrong.{IsNameIn}
+use Rattle.xs_text_laws.proofs.Plain.{domain_plain}
 use Rattle.xs_value.specs.declared.domain.Domain.{Domain}
 use Rattle.xs_value.specs.declared.value.Value.{Value as Numbered}
 use Rattle.xs_value.specs.declared.value.Value.TheVariants.{Bool as ABool, Num, Sym}
@@ -27,7 +27,7 @@ use Rattle.xs_types.specs.Numbering.{number_from}
 use Rattle.xs_types.specs.Types.{StandsFor, IsType, AreValuesOf}
 use Rattle.xs_report.specs.Told.{told_value}
 use Rattle.xs_report.specs.Names.{printed_name}
-use Rattle.xs_trace_text.specs.Given.{HasItsSymbols}
+use Rattle.xs_text_laws.specs.Given.{HasItsSymbols}
 use Rattle.xs_report.specs.ValueReading.{HasText, IsShort, IsReadIn}
 use Rattle.xs_report.specs.Lookups.{IsNamedAt, IsFoundAt}
 use Rattle.xs_report.proofs.ValueLaws.{StandsAt, number_stands, none_stands, symbol_text}

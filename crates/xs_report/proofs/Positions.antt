@@ -1,15 +1,15 @@
 -- Where lines stand, and how many moments have begun there.
 use Rattle.std.proofs.Common.{◌≡◌, ◌≢◌, ◌⊎◌, inl, inr, ℕ, suc, ◌<◌, ◌≤◌, List, [], ◌∷◌, ◌++◌, refl, sym, ◌∙◌, ap, subst, arith}
 use Rattle.std.specs.List.{AllByRecursion}
-use Rattle.xs_flattening.specs.Flat.{FlatModel}
-use Rattle.xs_lines.specs.Lines.{Line, IsLine}
-use Rattle.xs_trace_text.specs.Given.{IsPrintable}
-use Rattle.xs_trace_text.specs.TraceText.{variable_text, moment_line, equation}
-use Rattle.xs_trace_text.specs.Wrong.{LineFault, moments_after, Breaks, AreSound, Lacks}
-use Rattle.xs_trace_text.proofs.OneTrace.{no_items, head_of, tail_of, both_of, no_moment}
-use Rattle.xs_trace_text.proofs.Moments.{after_both, no_fewer, next_begins, other_line}
-use Rattle.xs_trace_text.proofs.LineJudged.{AllAre, Stops}
-use Rattle.xs_trace_text.proofs.LinesJudged.{judge_lines}
+use Rattle.xs_tree.specs.Flat.{FlatModel}
+use Rattle.xs_text_laws.specs.Lines.{Line, IsLine}
+use Rattle.xs_text_laws.specs.Given.{IsPrintable}
+use Rattle.xs_text_laws.specs.TraceText.{variable_text, moment_line, equation}
+use Rattle.xs_text_laws.specs.Wrong.{LineFault, moments_after, Breaks, AreSound, Lacks}
+use Rattle.xs_text_laws.proofs.OneTrace.{no_items, head_of, tail_of, both_of, no_moment}
+use Rattle.xs_text_laws.proofs.Moments.{after_both, no_fewer, next_begins, other_line}
+use Rattle.xs_text_laws.proofs.LineJudged.{AllAre, Stops}
+use Rattle.xs_text_laws.proofs.LinesJudged.{judge_lines}
 
 -- A line of lines with one more at the end is one of them, or the last.
 pub last_or_in : (lines : List Line) (l : Line) (front : List Line) (k : Line) (back : List Line) → lines ++ l ∷ [] ≡ front ++ k ∷ back →

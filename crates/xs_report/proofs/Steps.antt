@@ -8,18 +8,18 @@ use Rattle.std.proofs.lemmas.List.{length-set}
 use Rattle.xs_tree.specs.ProgramTree.{Text}
 use Rattle.xs_tree.specs.Values.{Value}
 use Rattle.xs_tree.specs.Trace.{in_domain}
-use Rattle.xs_flattening.specs.Flat.{FlatVariable, FlatModel}
-use Rattle.xs_flattening.proofs.Lists.{get_within}
-use Rattle.xs_scope.proofs.Told.{set_get, set_own}
-use Rattle.xs_lines.specs.Lines.{Line}
-use Rattle.xs_lines.proofs.Separators.{same_front}
-use Rattle.xs_trace_text.specs.TraceText.{value_text, variable_text, moment_line, equation, value_line}
-use Rattle.xs_trace_text.specs.Given.{IsLineWord, IsPrintable}
-use Rattle.xs_trace_text.specs.Wrong.{moments_after, IsEquation, WasSaid, Breaks, Lacks}
-use Rattle.xs_trace_text.proofs.OneTrace.{some_moment, no_moment, equation_some}
-use Rattle.xs_trace_text.proofs.OneFault.{empty_breaks}
-use Rattle.xs_trace_text.proofs.GivenHasNone.{moment_sound}
-use Rattle.xs_trace_text.proofs.LineJudged.{LineIs, says, line_sound}
+use Rattle.xs_tree.specs.Flat.{FlatVariable, FlatModel}
+use Rattle.xs_flat_laws.proofs.Lists.{get_within}
+use Rattle.xs_flat_laws.proofs.OneOfTwo.{set_get, set_own}
+use Rattle.xs_text_laws.specs.Lines.{Line}
+use Rattle.xs_text_laws.proofs.Separators.{same_front}
+use Rattle.xs_text_laws.specs.TraceText.{value_text, variable_text, moment_line, equation, value_line}
+use Rattle.xs_text_laws.specs.Given.{IsLineWord, IsPrintable}
+use Rattle.xs_text_laws.specs.Wrong.{moments_after, IsEquation, WasSaid, Breaks, Lacks}
+use Rattle.xs_text_laws.proofs.OneTrace.{some_moment, no_moment, equation_some}
+use Rattle.xs_text_laws.proofs.OneFault.{empty_breaks}
+use Rattle.xs_text_laws.proofs.GivenHasNone.{moment_sound}
+use Rattle.xs_text_laws.proofs.LineJudged.{LineIs, says, line_sound}
 use Rattle.xs_value.specs.declared.value.Value.{Value as Numbered}
 use Rattle.xs_report.specs.declared.reading.Slot.{Slot}
 use Rattle.xs_report.specs.declared.reading.Reading.{Reading}

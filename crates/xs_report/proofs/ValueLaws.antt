@@ -8,8 +8,8 @@ use Rattle.xs_tree.specs.ProgramTree.{Text}
 use Rattle.xs_tree.specs.Texts.{same_text}
 use Rattle.xs_tree.specs.Values.{truth}
 use Rattle.xs_tree.proofs.ValueLaws.{same_text_equal, same_text_refl}
-use Rattle.xs_kinds.specs.Costs.{symbol_number}
-use Rattle.xs_trace_text.specs.TraceText.{value_text}
+use Rattle.xs_type_laws.specs.Costs.{symbol_number}
+use Rattle.xs_text_laws.specs.TraceText.{value_text}
 use Rattle.xs_value.specs.declared.domain.Domain.{Domain}
 use Rattle.xs_value.specs.declared.domain.Domain.TheVariants as domain
 use Rattle.xs_value.specs.declared.value.Value.{Value as Numbered}

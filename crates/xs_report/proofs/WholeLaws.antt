@@ -8,18 +8,18 @@ use Rattle.xs_tree.specs.ProgramTree.{Text}
 use Rattle.xs_tree.specs.Texts.{same_text}
 use Rattle.xs_tree.specs.Values.{Value}
 use Rattle.xs_tree.specs.Trace.{in_domain}
-use Rattle.xs_flattening.specs.Flat.{FlatVariable, FlatModel}
-use Rattle.xs_flattening.specs.FlatTrace.{AreInDomains}
-use Rattle.xs_flattening.proofs.Lists.{get_within}
-use Rattle.xs_lines.specs.Lines.{Line, fed, IsLine}
-use Rattle.xs_lines.proofs.Separators.{fed_end}
-use Rattle.xs_trace_text.specs.TraceText.{value_text, moment_line}
-use Rattle.xs_trace_text.specs.Given.{IsPrintable, GivesMoments, BytesGive}
-use Rattle.xs_trace_text.specs.Wrong.{LineFault, bad_line, unknown_name, outside, twice, moments_after, AreSound, IsLeast, IsWrongLine, Lacks, Misses}
-use Rattle.xs_trace_text.proofs.OneTrace.{no_items}
-use Rattle.xs_trace_text.proofs.Moments.{after_both, none_begins, no_fewer, next_begins}
-use Rattle.xs_trace_text.proofs.LineJudged.{AllAre}
-use Rattle.xs_trace_text.proofs.TextJudged.{Own, cut_own, all_bare}
+use Rattle.xs_tree.specs.Flat.{FlatVariable, FlatModel}
+use Rattle.xs_flat_laws.specs.FlatTrace.{AreInDomains}
+use Rattle.xs_flat_laws.proofs.Lists.{get_within}
+use Rattle.xs_text_laws.specs.Lines.{Line, fed, IsLine}
+use Rattle.xs_text_laws.proofs.Separators.{fed_end}
+use Rattle.xs_text_laws.specs.TraceText.{value_text, moment_line}
+use Rattle.xs_text_laws.specs.Given.{IsPrintable, GivesMoments, BytesGive}
+use Rattle.xs_text_laws.specs.Wrong.{LineFault, bad_line, unknown_name, outside, twice, moments_after, AreSound, IsLeast, IsWrongLine, Lacks, Misses}
+use Rattle.xs_text_laws.proofs.OneTrace.{no_items}
+use Rattle.xs_text_laws.proofs.Moments.{after_both, none_begins, no_fewer, next_begins}
+use Rattle.xs_text_laws.proofs.LineJudged.{AllAre}
+use Rattle.xs_text_laws.proofs.TextJudged.{Own, cut_own, all_bare}
 use Rattle.xs_value.specs.declared.value.Value.{Value as Numbered}
 use Rattle.xs_report.specs.declared.fault.Cause.{Cause}
 use Rattle.xs_report.specs.declared.fault.Cause.TheVariants as cause

@@ -3,7 +3,7 @@ use Rattle.std.specs.Prelude.{ℕ, Bool, List, map}
 use Rattle.xs_tree.specs.ProgramTree.{Text}
 use Rattle.xs_tree.specs.Values.{Value}
 use Rattle.xs_value.specs.declared.value.Value.{Value as Numbered}
-use Rattle.xs_analysis_text.specs.Analysis.{Analysis, told_ending}
+use Rattle.xs_text_laws.specs.Analysis.{Analysis, told_ending}
 use Rattle.xs_value.specs.declared.ending.Ending.{Ending as CodeEnding}
 use Rattle.xs_report.specs.Told.{told_trace}
 

@@ -1,8 +1,8 @@
 -- Bytes that are cut at a byte.
 use Rattle.std.specs.Prelude.{◌≡◌, ◌≢◌, ℕ, List, [], ◌∷◌, ◌++◌}
 use Rattle.std.specs.List.{AllByRecursion}
-use Rattle.xs_lines.specs.Lines.{Line, IsLine}
-use Rattle.xs_trace_text.specs.Wrong.{IsEquation}
+use Rattle.xs_text_laws.specs.Lines.{Line, IsLine}
+use Rattle.xs_text_laws.specs.Wrong.{IsEquation}
 
 -- no byte is this one
 abbrev pub Lacks : ℕ → List ℕ → Type 0

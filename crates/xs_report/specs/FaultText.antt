@@ -3,7 +3,7 @@ use Rattle.std.specs.Prelude.{ℕ, ◌+◌, List, [], ◌∷◌, ◌++◌, lengt
 use Rattle.std.specs.Fmt.{decimal}
 use Rattle.xs_tree.specs.ProgramTree.{Text, Path}
 use Rattle.xs_tree.specs.Text.{dotted_text}
-use Rattle.xs_scope.specs.declared.model.Fault.{Fault}
+use Rattle.xs_tree.specs.declared.model.Fault.{Fault}
 
 -- a fault's name
 abbrev pub name_of : Fault → Path

@@ -1,8 +1,8 @@
 -- What a fault of a text tells.
 use Rattle.std.specs.Prelude.{ℕ, List}
-use Rattle.xs_flattening.specs.Flat.{FlatModel}
-use Rattle.xs_trace_text.specs.Wrong.{bad_line, unknown_name, outside, twice, wrong_line, missing_value, IsFirstFault, IsLeast}
-use Rattle.xs_lines.specs.Lines.{Line}
+use Rattle.xs_tree.specs.Flat.{FlatModel}
+use Rattle.xs_text_laws.specs.Wrong.{bad_line, unknown_name, outside, twice, wrong_line, missing_value, IsFirstFault, IsLeast}
+use Rattle.xs_text_laws.specs.Lines.{Line}
 use Rattle.xs_report.specs.declared.fault.TraceFault.{TraceFault}
 use Rattle.xs_report.specs.declared.fault.TraceFault.TheVariants as fault
 use Rattle.xs_report.specs.declared.fault.Cause.{Cause}

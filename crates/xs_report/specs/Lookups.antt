@@ -3,9 +3,9 @@ use Rattle.std.specs.Prelude.{◌≡◌, ◌≢◌, ℕ, IsTrue, Option, Some, N
 use Rattle.xs_tree.specs.ProgramTree.{Text}
 use Rattle.xs_tree.specs.Values.{Value}
 use Rattle.xs_tree.specs.Trace.{in_domain}
-use Rattle.xs_flattening.specs.Flat.{FlatVariable, FlatModel}
-use Rattle.xs_trace_text.specs.TraceText.{value_text, variable_text}
-use Rattle.xs_trace_text.specs.Wrong.{IsNameIn}
+use Rattle.xs_tree.specs.Flat.{FlatVariable, FlatModel}
+use Rattle.xs_text_laws.specs.TraceText.{value_text, variable_text}
+use Rattle.xs_text_laws.specs.Wrong.{IsNameIn}
 use Rattle.xs_value.specs.declared.value.Value.{Value as Numbered}
 use Rattle.xs_report.specs.Told.{told_value}
 

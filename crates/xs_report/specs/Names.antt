@@ -1,8 +1,8 @@
 -- The name by which a variable is printed.
 use Rattle.xs_tree.specs.ProgramTree.{Text}
-use Rattle.xs_scope.specs.declared.model.Variable.{Variable}
-use Rattle.xs_scope.specs.ModelTree.{variable_tree}
-use Rattle.xs_trace_text.specs.TraceText.{variable_text}
+use Rattle.xs_tree.specs.declared.model.Variable.{Variable}
+use Rattle.xs_tree.specs.ModelTree.{variable_tree}
+use Rattle.xs_text_laws.specs.TraceText.{variable_text}
 
 abbrev pub printed_name : Variable → Text
 printed_name x = variable_text (variable_tree x)

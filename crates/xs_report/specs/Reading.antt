@@ -4,10 +4,10 @@ use Rattle.std.specs.List.{list_all}
 use Rattle.xs_tree.specs.ProgramTree.{Text}
 use Rattle.xs_tree.specs.Values.{Value}
 use Rattle.xs_tree.specs.Trace.{in_domain}
-use Rattle.xs_flattening.specs.Flat.{FlatVariable, FlatModel}
-use Rattle.xs_lines.specs.Lines.{Line}
-use Rattle.xs_trace_text.specs.TraceText.{variable_text, equation, value_line}
-use Rattle.xs_trace_text.specs.Wrong.{moments_after, IsEquation, IsNameIn, AreSound, Lacks}
+use Rattle.xs_tree.specs.Flat.{FlatVariable, FlatModel}
+use Rattle.xs_text_laws.specs.Lines.{Line}
+use Rattle.xs_text_laws.specs.TraceText.{variable_text, equation, value_line}
+use Rattle.xs_text_laws.specs.Wrong.{moments_after, IsEquation, IsNameIn, AreSound, Lacks}
 use Rattle.xs_value.specs.declared.value.Value.{Value as Numbered}
 use Rattle.xs_report.specs.declared.reading.Slot.{Slot}
 use Rattle.xs_report.specs.declared.reading.Reading.{Reading}

@@ -2,7 +2,7 @@
 use lib.Signed.{mag}
 use Rattle.std.specs.Prelude.{◌≡◌, ◌⊎◌, ◌<◌, ◌^◌, List, Option, Some, None}
 use Rattle.xs_tree.specs.ProgramTree.{Text}
-use Rattle.xs_trace_text.specs.TraceText.{value_text}
+use Rattle.xs_text_laws.specs.TraceText.{value_text}
 use Rattle.xs_value.specs.declared.domain.Domain.{Domain}
 use Rattle.xs_value.specs.declared.domain.Domain.TheVariants as domain
 use Rattle.xs_value.specs.declared.value.Value.{Value as Numbered}

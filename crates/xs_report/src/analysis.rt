@@ -2,19 +2,19 @@
 
 ghost use Rattle.std.specs.Prelude.{◌≡◌, ◌∷◌, ◌++◌, codes, map, length, IfOk, OnOk};
 ghost use Rattle.std.specs.Fmt.{decimal};
-ghost use Rattle.xs_scope.specs.ModelTree.{model_tree};
-ghost use Rattle.xs_analysis_text.specs.AnalysisText.{numbers_text, set_lines, trace_parts, first_line, ending_text, size_line, analysis_text};
-ghost use Rattle.xs_trace_text.specs.TraceText.{trace_text};
+ghost use Rattle.xs_tree.specs.ModelTree.{model_tree};
+ghost use Rattle.xs_text_laws.specs.AnalysisText.{numbers_text, set_lines, trace_parts, first_line, ending_text, size_line, analysis_text};
+ghost use Rattle.xs_text_laws.specs.TraceText.{trace_text};
 ghost use Rattle.xs_report.specs.FaultText.{name_of, faults_text};
 ghost use Rattle.xs_report.specs.Told.{told_trace};
 ghost use Rattle.xs_report.specs.Analysed.{told_analysis, told_traces};
-ghost use Rattle.xs_analysis_text.specs.Analysis.{told_ending};
+ghost use Rattle.xs_text_laws.specs.Analysis.{told_ending};
 
 use crate::fault_list::print_faults;
 use crate::text::append_count;
 use crate::traces::print_trace;
 use std::alloc::Global;
-use xs_flat::FaultList;
+use xs_tree::model::FaultList;
 use xs_types::Typed;
 use xs_value::{ByteList, Ending, FaultSet, MomentList, OutOfMemory, SetList, TraceList};
 

@@ -5,7 +5,7 @@ ghost use Rattle.xs_report.specs.FaultText.{name_of, fault_line, fault_lines, fa
 
 use crate::text::{append_count, append_dotted};
 use std::alloc::Global;
-use xs_flat::{Fault, FaultList};
+use xs_tree::model::{Fault, FaultList};
 use xs_value::{ByteList, OutOfMemory};
 
 /// The number of faults, and a line for each fault with its number, from 1, and its name.

@@ -2,7 +2,7 @@
 //!
 //! [`print_trace`] gives the text of a trace of a typed model, one line for each moment and each value, and
 //! [`read_trace`] the trace that a text gives, or what is wrong first with it ([`TraceFault`]). What a text
-//! gives, and what is wrong first, stands in `xs_trace_text`, over the flat model as definitions see it;
+//! gives, and what is wrong first, stands in `xs_text_laws`, over the flat model as definitions see it;
 //! `specs/Told.antt` says how valuations by number are seen there. [`print_faults`] gives the lines of the
 //! faults, whose text stands in `specs/FaultText.antt`.
 //!

@@ -1,9 +1,9 @@
 //! Bytes cut into lines, and lines into words.
 
 ghost use Rattle.std.specs.Prelude.{◌≡◌, ◌≢◌, ◌↔◌, ℕ, ◌<◌, ◌≤◌, [], ◌∷◌, ◌++◌, List, codes, length, slice_index, IsTrue, IfOk, MatchOption};
-ghost use Rattle.xs_lines.specs.Lines.{IsLine};
-ghost use Rattle.xs_trace_text.specs.TraceText.{moment_line};
-ghost use Rattle.xs_trace_text.specs.Wrong.{IsEquation};
+ghost use Rattle.xs_text_laws.specs.Lines.{IsLine};
+ghost use Rattle.xs_text_laws.specs.TraceText.{moment_line};
+ghost use Rattle.xs_text_laws.specs.Wrong.{IsEquation};
 ghost use Rattle.xs_report.specs.Cuts.{Lacks, BeginsWith, IsLineThen, IsNoEquation, IsSpaceless};
 
 use std::alloc::Global;

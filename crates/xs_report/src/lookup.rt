@@ -1,17 +1,17 @@
 //! The variables of a model by their printed names, and their values by their texts.
 
 ghost use Rattle.std.specs.Prelude.{◌≡◌, ◌<◌, length, map, IfOk, IfSome};
-ghost use Rattle.xs_scope.specs.ModelTree.{model_tree};
-ghost use Rattle.xs_trace_text.specs.Given.{IsPrintable};
+ghost use Rattle.xs_tree.specs.ModelTree.{model_tree};
+ghost use Rattle.xs_text_laws.specs.Given.{IsPrintable};
 ghost use Rattle.xs_report.specs.Names.{printed_name};
-ghost use Rattle.xs_trace_text.specs.Given.{HasItsSymbols};
+ghost use Rattle.xs_text_laws.specs.Given.{HasItsSymbols};
 ghost use Rattle.xs_report.specs.Lookups.{IsPlaceOf, IsFoundAt};
 
 use crate::numbers::TextNumbers;
 use crate::text::append_variable;
 use crate::values::value_of;
 use std::alloc::Global;
-use xs_flat::Variable;
+use xs_tree::model::Variable;
 use xs_types::Typed;
 use xs_value::{ByteList, Name, NameList, OutOfMemory, Value};
 

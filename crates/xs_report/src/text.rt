@@ -6,7 +6,7 @@ ghost use Rattle.xs_tree.specs.Text.{dotted_text, joined};
 ghost use Rattle.xs_report.specs.Names.{printed_name};
 
 use std::alloc::Global;
-use xs_flat::Variable;
+use xs_tree::model::Variable;
 use xs_value::{ByteList, Dotted, Name, OutOfMemory};
 
 /// Appends a number that is not below 0.

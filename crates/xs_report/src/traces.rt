@@ -1,14 +1,14 @@
 //! The text of a trace.
 
 ghost use Rattle.std.specs.Prelude.{◌≡◌, ◌∷◌, ◌++◌, [], map, slice_get, IfOk, OnOk};
-ghost use Rattle.xs_lines.specs.Lines.{fed};
-ghost use Rattle.xs_scope.specs.ModelTree.{model_tree, variable_tree};
-ghost use Rattle.xs_trace_text.specs.TraceText.{value_text, value_line, value_lines, moment_line, trace_text};
+ghost use Rattle.xs_text_laws.specs.Lines.{fed};
+ghost use Rattle.xs_tree.specs.ModelTree.{model_tree, variable_tree};
+ghost use Rattle.xs_text_laws.specs.TraceText.{value_text, value_line, value_lines, moment_line, trace_text};
 ghost use Rattle.xs_report.specs.Told.{text_at, told_value, told_moment, told_trace};
 
 use crate::text::{append_count, append_number, append_variable};
 use std::alloc::Global;
-use xs_flat::{FlatModel, Variable};
+use xs_tree::model::{FlatModel, Variable};
 use xs_types::Typed;
 use xs_value::{ByteList, MomentList, Name, OutOfMemory, Valuation, Value};
 

@@ -1,12 +1,12 @@
 //! The trace that a text gives.
 
 ghost use Rattle.std.specs.Prelude.{◌≡◌, IfOk, IfErr};
-ghost use Rattle.xs_scope.specs.ModelTree.{model_tree};
-ghost use Rattle.xs_trace_text.specs.Given.{IsPrintable, BytesGive};
+ghost use Rattle.xs_tree.specs.ModelTree.{model_tree};
+ghost use Rattle.xs_text_laws.specs.Given.{IsPrintable, BytesGive};
 ghost use Rattle.xs_report.specs.Told.{told_trace};
 ghost use Rattle.xs_report.specs.Faults.{IsFaultOf};
 ghost use Rattle.xs_report.specs.Reading.{ended, IsFinished, IsUnfinished};
-ghost use Rattle.xs_trace_text.specs.Given.{HasItsSymbols};
+ghost use Rattle.xs_text_laws.specs.Given.{HasItsSymbols};
 
 use crate::fault::TraceFault;
 use crate::lines::first_line;
@@ -18,7 +18,7 @@ use xs_value::MomentList;
 
 /// The trace that a text gives, or what is wrong first with it.
 ///
-/// A text gives at most one trace, and where it gives one nothing is wrong with it (`xs_trace_text`). So the
+/// A text gives at most one trace, and where it gives one nothing is wrong with it (`xs_text_laws`). So the
 /// trace is answered exactly where the text gives one, and a fault exactly where it is the first, unless
 /// memory is wanting.
 pub fn read_trace(alloc: Global, t: &Typed, bytes: &[u8]) -> Result<MomentList, TraceFault>

@@ -2,7 +2,7 @@
 use crate::texts::{instructions_of, is_text, model_of, program_of};
 use std::alloc::Global;
 use xs_fei::{Instructions, print_instructions};
-use xs_flat::FlatModel;
+use xs_tree::model::FlatModel;
 use xs_tree::{Program, print_program};
 
 static POWER: &[u8] = b"MODULE Generator VAR live : boolean; ASSIGN live := TRUE;

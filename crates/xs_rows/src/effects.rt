@@ -1,9 +1,8 @@
 //! Which effects a type refuses, and what effects come to in a woven program.
 use crate::texts::is_text;
 use std::alloc::Global;
-use xs_effects::EffectFault::{OneValueOnly, Outside, WrongKind};
-use xs_effects::{EffectFault, allowed, branch, first_rule, rule};
-use xs_fei::{Constant, Effect};
+use xs_fei::EffectFault::{OneValueOnly, Outside, WrongKind};
+use xs_fei::{Constant, Effect, EffectFault, allowed, branch, first_rule, rule};
 use xs_tree::{Declared, Section, print_expr};
 use xs_value::{Name, OutOfMemory};
 

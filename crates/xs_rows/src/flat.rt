@@ -1,9 +1,9 @@
 //! Which rule of names a program breaks first, and the flat models of programs of one variable.
 use crate::texts::{expression_of, model_of, program_of};
 use std::alloc::Global;
-use xs_flat::{
-    Fault, FaultList, Flat, FlatModel, copy_faults, flatten, resolve_at, resolve_top, with_history,
-};
+use xs_flat::{flatten, resolve_at, resolve_top, with_history};
+use xs_tree::copy_model::copy_faults;
+use xs_tree::model::{Fault, FaultList, Flat, FlatModel};
 use xs_tree::{Expr, Op, Program};
 use xs_value::{Dotted, Name, OutOfMemory};
 

@@ -1,7 +1,8 @@
 //! Which rule of kinds and limits a model of one variable breaks, and the kinds of single expressions.
 use crate::texts::{expression_of, joined, model_of, program_of};
 use std::alloc::Global;
-use xs_flat::{Flat, FlatModel, resolve_top};
+use xs_flat::resolve_top;
+use xs_tree::model::{Flat, FlatModel};
 use xs_tree::{Expr, Program};
 use xs_types::{Kind, Typed, check_model, check_top, check_value, kind_of};
 use xs_value::Value;

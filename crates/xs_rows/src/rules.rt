@@ -1,8 +1,7 @@
 //! Which rule of items and numbers instructions break first.
 use crate::texts::{instructions_of, joined, program_of};
 use std::alloc::Global;
-use xs_effects::EffectFault;
-use xs_fei::Instructions;
+use xs_fei::{EffectFault, Instructions};
 use xs_value::{Name, OutOfMemory};
 use xs_weave_rules::{Rule, RuleFault, judge_counts, placed_slices};
 

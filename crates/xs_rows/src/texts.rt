@@ -7,8 +7,9 @@ use std::alloc::Global;
 use xs_expression_reader::expression;
 use xs_fei::Instructions;
 use xs_fei_reader::instructions;
-use xs_flat::{FlatModel, flatten};
+use xs_flat::flatten;
 use xs_parse::program;
+use xs_tree::model::FlatModel;
 use xs_tree::{Expr, Program};
 use xs_value::{Dotted, OutOfMemory};
 

@@ -3,7 +3,8 @@ use crate::texts::{instructions_of, joined, model_of, program_of};
 use std::alloc::Global;
 use xs_extend::{Cause, WeaveFault, Woven, weave};
 use xs_fei::Instructions;
-use xs_flat::{FlatFault, FlatModel};
+use xs_flat::FlatFault;
+use xs_tree::model::FlatModel;
 use xs_types::TypeFault;
 
 static LEFT_AND_RIGHT: &[u8] =

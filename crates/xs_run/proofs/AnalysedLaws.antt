@@ -20,7 +20,7 @@ use Rattle.xs_loading.specs.Cases.{Case, HoldsCase}
 use Rattle.xs_run.specs.AnswerTexts.{extension_text}
 use Rattle.xs_case_search.specs.Found.{size_for}
 use Rattle.xs_run.specs.Analyses.{AreWritten, HasAnalysed}
-use Rattle.xs_reporting.specs.ExtendedTraces.{Ending, complete, bounded}
+use Rattle.xs_report_laws.specs.ExtendedTraces.{Ending, complete, bounded}
 use Rattle.xs_run.specs.Headline.{IsComplete, IsBounded}
 use Rattle.xs_run.specs.Runs.{Outcome, AnalysisComesTo, refuses_event, is_analysed, CommandComesTo, Means, refuses_words, asked, IsAnswer, IsDelivered, HasAnswered}
 use Rattle.xs_run.proofs.ExtensionLemmas.{never_done}

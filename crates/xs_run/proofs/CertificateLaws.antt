@@ -5,17 +5,18 @@ use Rattle.xs_desk.specs.Desk.{said_more}
 use Rattle.xs_tree.specs.Tree.{Tree}
 use Rattle.xs_tree.specs.ProgramTree.{Text}
 use Rattle.xs_tree.specs.Values.{Value}
-use Rattle.xs_scope.specs.ModelTree.{model_tree, mode_of, flat_tree}
-use Rattle.xs_flattening.specs.Flat.{FlatLeaf}
-use Rattle.xs_flattening.specs.FlatTrace.{IsFlatTrace}
-use Rattle.xs_encoded.specs.FlatTraces.{ReachesTop, HasFailedNumber}
-use Rattle.xs_trace_text.specs.Given.{GivesTrace}
-use Rattle.xs_certificate.specs.Certificate.{Certificate}
-use Rattle.xs_certificate.specs.Accepted.{IsAccepted, IsObjection}
-use Rattle.xs_certified.specs.Completeness.{Certifies}
-use Rattle.xs_certified.proofs.Completeness.{certified_completeness, certified_minimal}
-use Rattle.xs_subject.specs.Subject.{subject_of}
-use Rattle.xs_subject.proofs.Subjects.{subjects_right}
+use Rattle.xs_tree.specs.ModelTree.{model_tree, flat_tree}
+use Rattle.xs_flat_laws.specs.FaultModes.{mode_of}
+use Rattle.xs_tree.specs.Flat.{FlatLeaf}
+use Rattle.xs_flat_laws.specs.FlatTrace.{IsFlatTrace}
+use Rattle.xs_encode_laws.specs.FlatTraces.{ReachesTop, HasFailedNumber}
+use Rattle.xs_text_laws.specs.Given.{GivesTrace}
+use Rattle.xs_certificate_laws.specs.Certificate.{Certificate}
+use Rattle.xs_certificate_laws.specs.Accepted.{IsAccepted, IsObjection}
+use Rattle.xs_certificate_laws.specs.Completeness.{Certifies}
+use Rattle.xs_certificate_laws.proofs.Completeness.{certified_completeness, certified_minimal}
+use Rattle.xs_certificate_laws.specs.Subject.{subject_of}
+use Rattle.xs_certificate_laws.proofs.Subjects.{subjects_right}
 use Rattle.xs_check.specs.Matter.{matter_of, IsAcceptedIn}
 use Rattle.xs_check.specs.Found.{IsObjectionOf}
 use Rattle.xs_check.specs.Fit.{IsFit, IsCheckable}

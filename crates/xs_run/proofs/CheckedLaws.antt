@@ -2,7 +2,7 @@
 use Rattle.std.proofs.Common.{◌≡◌, ℕ, List, Option, Some, None, IfSome, sym, subst, ◌∙◌}
 use Rattle.xs_desk.specs.declared.files.NamedFile.{NamedFile}
 use Rattle.xs_tree.specs.ProgramTree.{Text}
-use Rattle.xs_scope.specs.ModelTree.{flat_tree}
+use Rattle.xs_tree.specs.ModelTree.{flat_tree}
 use Rattle.xs_words.specs.Commands.{check}
 use Rattle.xs_words.proofs.ReadingLaws.{one_command}
 use Rattle.xs_loading.specs.declared.event.LoadedEvent.{LoadedEvent}

@@ -10,32 +10,32 @@ use Rattle.xs_desk.specs.declared.files.NamedFile.{NamedFile}
 use Rattle.xs_desk.specs.Desk.{said_more, SaysPrefix}
 use Rattle.xs_tree.specs.ProgramTree.{Text, Formula, ProgramTree}
 use Rattle.xs_tree.specs.Tree.{Tree}
-use Rattle.xs_flattening.specs.Flat.{FlatLeaf}
-use Rattle.xs_encoding.specs.Bits.{state_of, inputs_of}
-use Rattle.xs_encoding.specs.Lists.{system_of}
+use Rattle.xs_tree.specs.Flat.{FlatLeaf}
+use Rattle.xs_encode_laws.specs.Bits.{state_of, inputs_of}
+use Rattle.xs_encode_laws.specs.Lists.{system_of}
 use Rattle.xs_cuts.specs.Answer.{IsAnswer}
 use Rattle.xs_cuts.specs.declared.answer.Analysis.{Analysis as Searched}
-use Rattle.xs_cuts_extended.specs.Answered.{ending_of, analysis_of}
+use Rattle.xs_report_laws.specs.Answered.{ending_of, analysis_of}
 use Rattle.xs_value.specs.declared.ending.Ending.{Ending as Ended}
 use Rattle.xs_loading.specs.declared.loaded.LoadedCase.{LoadedCase}
 use Rattle.xs_loading.specs.Loaded.{case_of}
 use Rattle.xs_loading.specs.Cases.{whole_of, Case, HoldsCase, HoldsTops}
 use Rattle.xs_run.specs.Tables.{IsExtensible, IsEventOf, IsColumn, AreColumns, AreFound, HasTabulated, TabulatesInPart, MeansColumn, IsTabulated, table_of, after_column, ended_with_all}
 use Rattle.xs_run.proofs.TopEvents.{counts_in_case, event_found}
-use Rattle.xs_flattening.specs.Model.{EachBoth}
-use Rattle.xs_scope.specs.ModelTree.{model_tree}
-use Rattle.xs_kinds.specs.Costs.{state_bits}
+use Rattle.xs_flat_laws.specs.Model.{EachBoth}
+use Rattle.xs_tree.specs.ModelTree.{model_tree}
+use Rattle.xs_type_laws.specs.Costs.{state_bits}
 use Rattle.xs_extend.specs.WovenFaults.{fault_tree}
 use Rattle.xs_report.specs.FaultText as lines
 use Rattle.xs_report.specs.FaultText.{name_of}
 use Rattle.xs_fmea.specs.Columns.{AreTold, NamesFaults, IsTableOf}
-use Rattle.xs_analysis_text.specs.Analysis.{told_ending}
+use Rattle.xs_text_laws.specs.Analysis.{told_ending}
 use Rattle.xs_fmea.specs.declared.columns.FmeaTable.{FmeaTable}
 use Rattle.xs_fmea.specs.declared.columns.Column.{Column}
 use Rattle.xs_value.specs.declared.ending.Ending.TheVariants as ended
 use Rattle.xs_fmea.specs.Tables.{rows_of, pairs_after, pairs_from, table_text}
-use Rattle.xs_reporting.specs.ExtendedTraces.{Analysis}
-use Rattle.xs_reporting.proofs.EntryLaws.{entries_are_right}
+use Rattle.xs_report_laws.specs.ExtendedTraces.{Analysis}
+use Rattle.xs_report_laws.proofs.EntryLaws.{entries_are_right}
 use Rattle.xs_loading.specs.declared.status.Status.{Status}
 use Rattle.xs_loading.specs.declared.status.Status.TheVariants as status
 use Rattle.xs_loading.specs.Answered.{Told, Said, faults_text}

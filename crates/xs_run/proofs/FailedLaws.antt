@@ -2,12 +2,12 @@
 use Rattle.std.proofs.Common.{arith, ◌≡◌, suc, ◌-◌, Bool, true, false, List, [], ◌∷◌, ◌++◌, length, refl, sym, ap, subst, ◌∙◌, append_assoc}
 use Rattle.std.specs.Prelude.{slice_get, codes}
 use Rattle.std.proofs.lemmas.List.{length-append}
-use Rattle.xs_flattening.specs.History.{Mode}
-use Rattle.xs_flattening.specs.FlatTrace.{stands_in_some}
-use Rattle.xs_flattening.proofs.HistoryTraces.{get_middle}
+use Rattle.xs_flat_laws.specs.History.{Mode}
+use Rattle.xs_flat_laws.specs.FlatTrace.{stands_in_some}
+use Rattle.xs_flat_laws.proofs.HistoryTraces.{get_middle}
 use Rattle.xs_tree.specs.Values.{Value}
 use Rattle.xs_weave.specs.Faults.{Fault}
-use Rattle.xs_encoded.specs.FlatTraces as flat
+use Rattle.xs_encode_laws.specs.FlatTraces as flat
 use Rattle.xs_loading.specs.Reports.{name_text}
 use Rattle.xs_loading.specs.Cases.{Case}
 use Rattle.xs_run.specs.AnswerTexts.{name_or_none, failed_names, replay_text}

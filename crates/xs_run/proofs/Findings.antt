@@ -5,29 +5,30 @@ use Rattle.std.proofs.lemmas.List.{length-map}
 use Rattle.xs_tree.specs.Tree.{Tree}
 use Rattle.xs_tree.specs.ProgramTree.{Text, Formula, ProgramTree}
 use Rattle.xs_tree.specs.Values.{Value}
-use Rattle.xs_kinds.specs.Costs.{state_bits}
-use Rattle.xs_scope.specs.ModelTree.{model_tree, mode_of}
-use Rattle.xs_flattening.specs.Flat.{FlatLeaf}
-use Rattle.xs_encoding.specs.Bits.{state_of, inputs_of}
-use Rattle.xs_encoding.specs.Lists.{system_of}
-use Rattle.xs_encoded_search.specs.Searchable.{IsSearchable}
+use Rattle.xs_type_laws.specs.Costs.{state_bits}
+use Rattle.xs_tree.specs.ModelTree.{model_tree}
+use Rattle.xs_flat_laws.specs.FaultModes.{mode_of}
+use Rattle.xs_tree.specs.Flat.{FlatLeaf}
+use Rattle.xs_encode_laws.specs.Bits.{state_of, inputs_of}
+use Rattle.xs_encode_laws.specs.Lists.{system_of}
+use Rattle.xs_cut_laws.specs.Searchable.{IsSearchable}
 use Rattle.xs_extend.specs.WovenFaults.{fault_tree}
 use Rattle.xs_report.specs.FaultText as lines
 use Rattle.xs_report.specs.FaultText.{name_of}
 use Rattle.xs_report.specs.Told.{told_trace}
 use Rattle.xs_report.specs.Analysed.{told_analysis}
-use Rattle.xs_analysis_text.specs.Analysis.{told_ending}
+use Rattle.xs_text_laws.specs.Analysis.{told_ending}
 use Rattle.xs_value.specs.declared.ending.Ending.{Ending as Printed}
 use Rattle.xs_cuts.specs.Answer.{IsAnswer}
 use Rattle.xs_cuts.specs.declared.answer.Analysis.{Analysis as Searched}
 use Rattle.xs_cuts.specs.declared.answer.End.{End}
 use Rattle.xs_cuts.specs.declared.answer.End.TheVariants.{Complete, Bounded}
-use Rattle.xs_cuts_extended.specs.Answered as found
-use Rattle.xs_cuts_extended.specs.Answered.{ending_of, analysis_of}
-use Rattle.xs_cuts_extended.proofs.Analyses.{answers_are_analyses}
-use Rattle.xs_cuts_extended.proofs.Printed.{answers_printed}
-use Rattle.xs_reporting.specs.ExtendedTraces.{Ending, complete, bounded, Analysis}
-use Rattle.xs_reporting.specs.AnalysisText.{analysis_text}
+use Rattle.xs_report_laws.specs.Answered as found
+use Rattle.xs_report_laws.specs.Answered.{ending_of, analysis_of}
+use Rattle.xs_report_laws.proofs.Analyses.{answers_are_analyses}
+use Rattle.xs_report_laws.proofs.Printed.{answers_printed}
+use Rattle.xs_report_laws.specs.ExtendedTraces.{Ending, complete, bounded, Analysis}
+use Rattle.xs_report_laws.specs.AnalysisText.{analysis_text}
 use Rattle.xs_loading.specs.declared.loaded.LoadedCase.{LoadedCase}
 use Rattle.xs_loading.specs.Cases.{Case, whole_of}
 use Rattle.xs_loading.specs.Tasks.{IsTopTree}

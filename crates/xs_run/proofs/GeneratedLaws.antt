@@ -14,37 +14,37 @@ use Rattle.xs_tree.specs.Lexemes.{lexemes_of}
 use Rattle.xs_tree.specs.SpellsProgram.{SpellsExpr}
 use Rattle.xs_expression_reader.specs.declared.fault.ParseFault.{ParseFault}
 use Rattle.xs_expression_reader.specs.declared.fault.ParseFault.TheVariants as parse
-use Rattle.xs_flattening.specs.Flat.{FlatModel}
-use Rattle.xs_flattening.specs.History.{with_history}
-use Rattle.xs_flattening.specs.Model.{EachBoth, IsFlatOf}
-use Rattle.xs_flattening.specs.Rules.{IsAccepted}
-use Rattle.xs_flattening.proofs.Laws.{accepted_unbroken}
-use Rattle.xs_flattening.proofs.Lists.{each_more}
-use Rattle.xs_kinds.specs.Judged.{KindRule, too_large}
-use Rattle.xs_kinds.specs.Models.{Breach, breaches, IsFault, at_an_item, of_its_size, is_too_large}
-use Rattle.xs_kinds.proofs.Typed.{typed_has_none}
-use Rattle.xs_kinds.proofs.ClosedLaws.{models_closed}
+use Rattle.xs_tree.specs.Flat.{FlatModel}
+use Rattle.xs_flat_laws.specs.History.{with_history}
+use Rattle.xs_flat_laws.specs.Model.{EachBoth, IsFlatOf}
+use Rattle.xs_flat_laws.specs.Rules.{IsAccepted}
+use Rattle.xs_flat_laws.proofs.Laws.{accepted_unbroken}
+use Rattle.xs_flat_laws.proofs.Lists.{each_more}
+use Rattle.xs_type_laws.specs.Judged.{KindRule, too_large}
+use Rattle.xs_type_laws.specs.Models.{Breach, breaches, IsFault, at_an_item, of_its_size, is_too_large}
+use Rattle.xs_type_laws.proofs.Typed.{typed_has_none}
+use Rattle.xs_type_laws.proofs.ClosedLaws.{models_closed}
 use Rattle.xs_fei.specs.InstructionText.{instructions_text}
 use Rattle.xs_fei.proofs.InstructionSpells.{instructions_spell}
 use Rattle.xs_weave.specs.Faults.{Fault, HasFaults}
 use Rattle.xs_weave.specs.Woven.{woven}
-use Rattle.xs_woven_kinds.specs.Modes.{HasSymbols, IsSliceMode}
-use Rattle.xs_woven_kinds.specs.Laws.{AreWoven}
-use Rattle.xs_woven_kinds.proofs.WovenLaws.{woven_none, modes_symbols, history_none}
+use Rattle.xs_woven_laws.specs.Modes.{HasSymbols, IsSliceMode}
+use Rattle.xs_woven_laws.specs.Laws.{AreWoven}
+use Rattle.xs_woven_laws.proofs.WovenLaws.{woven_none, modes_symbols, history_none}
 use Rattle.xs_extend.specs.Refused.{KeepsRules, IsTold, IsWant}
 use Rattle.xs_extend.specs.declared.fault.WeaveFault.{WeaveFault}
 use Rattle.xs_extend.proofs.OneFault.{none_told}
 use Rattle.xs_generate.specs.Generator.{generated_model, generated_instructions, generated_top}
 use Rattle.xs_generate.proofs.Writable.{model_writable, instructions_writable, top_writable}
-use Rattle.xs_generated.proofs.Accepted.{generated_accepted}
-use Rattle.xs_generated.proofs.Typed.{generated_typed}
-use Rattle.xs_generated.proofs.Top.{generated_top_keeps_names, generated_top_typed}
-use Rattle.xs_generated.proofs.Instructions.{generated_items_kept, generated_faults_few, generated_uses_kept}
-use Rattle.xs_generated.proofs.Faults.{generated_faults_are_stages}
-use Rattle.xs_generated.proofs.Woven.{generated_breaks_no_number}
-use Rattle.xs_generated.proofs.Sizes.{generated_small}
-use Rattle.xs_generated.proofs.Texts.{generated_text_short, instruction_text_short}
-use Rattle.xs_generated.proofs.Readings.{generated_text_is_read, instruction_text_is_read, top_text_is_read}
+use Rattle.xs_generate_laws.proofs.Accepted.{generated_accepted}
+use Rattle.xs_generate_laws.proofs.Typed.{generated_typed}
+use Rattle.xs_generate_laws.proofs.Top.{generated_top_keeps_names, generated_top_typed}
+use Rattle.xs_generate_laws.proofs.Instructions.{generated_items_kept, generated_faults_few, generated_uses_kept}
+use Rattle.xs_generate_laws.proofs.Faults.{generated_faults_are_stages}
+use Rattle.xs_generate_laws.proofs.Woven.{generated_breaks_no_number}
+use Rattle.xs_generate_laws.proofs.Sizes.{generated_small}
+use Rattle.xs_generate_laws.proofs.Texts.{generated_text_short, instruction_text_short}
+use Rattle.xs_generate_laws.proofs.Readings.{generated_text_is_read, instruction_text_is_read, top_text_is_read}
 use Rattle.xs_loading.specs.declared.status.InputFault.{InputFault}
 use Rattle.xs_loading.specs.declared.status.Refusal.{Refusal}
 use Rattle.xs_loading.specs.declared.status.Refusal.TheVariants as refusal

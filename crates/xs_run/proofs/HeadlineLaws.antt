@@ -8,7 +8,7 @@ use Rattle.xs_desk.specs.Files.{file_of, with_file}
 use Rattle.xs_desk.proofs.Writing.{file_of-with_file}
 use Rattle.xs_tree.specs.ProgramTree.{Text}
 use Rattle.xs_weave.proofs.WovenNominal.{woven_extends}
-use Rattle.xs_reporting.specs.ExtendedTraces.{Ending, complete, bounded}
+use Rattle.xs_report_laws.specs.ExtendedTraces.{Ending, complete, bounded}
 use Rattle.xs_loading.specs.declared.status.Status.{Status}
 use Rattle.xs_loading.specs.declared.status.Status.TheVariants as status
 use Rattle.xs_loading.specs.Cases.{Case, HoldsCase}

@@ -10,17 +10,17 @@ use Rattle.xs_tree.specs.Bytes.{BytesSpellProgram}
 use Rattle.xs_fei.specs.Instructions.{InstructionTree}
 use Rattle.xs_fei.specs.InstructionText.{instructions_text}
 use Rattle.xs_fei.specs.SpellsInstructions.{BytesSpellInstructions}
-use Rattle.xs_scope.specs.ModelTree.{model_tree, variable_tree}
-use Rattle.xs_flattening.specs.Flat.{FlatLeaf}
-use Rattle.xs_kinds.specs.Costs.{state_bits}
-use Rattle.xs_encoding.specs.Bits.{state_of, inputs_of}
-use Rattle.xs_encoding.specs.Lists.{system_of}
-use Rattle.xs_analysis_text.specs.Analysis.{told_ending}
+use Rattle.xs_tree.specs.ModelTree.{model_tree, variable_tree}
+use Rattle.xs_tree.specs.Flat.{FlatLeaf}
+use Rattle.xs_type_laws.specs.Costs.{state_bits}
+use Rattle.xs_encode_laws.specs.Bits.{state_of, inputs_of}
+use Rattle.xs_encode_laws.specs.Lists.{system_of}
+use Rattle.xs_text_laws.specs.Analysis.{told_ending}
 use Rattle.xs_value.specs.declared.ending.Ending.{Ending as Printed}
 use Rattle.xs_cuts.specs.Answer.{IsAnswer}
 use Rattle.xs_cuts.specs.declared.answer.Analysis.{Analysis as Searched}
-use Rattle.xs_cuts_extended.specs.Answered.{ending_of, analysis_of}
-use Rattle.xs_cuts_extended.proofs.Analyses.{answers_are_analyses}
+use Rattle.xs_report_laws.specs.Answered.{ending_of, analysis_of}
+use Rattle.xs_report_laws.proofs.Analyses.{answers_are_analyses}
 use Rattle.xs_loading.specs.declared.loaded.LoadedCase.{LoadedCase}
 use Rattle.xs_run.specs.declared.make.Making.{Making}
 use Rattle.xs_run.specs.declared.make.Summary.{Summary}

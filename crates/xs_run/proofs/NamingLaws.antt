@@ -2,10 +2,10 @@
 use Rattle.std.proofs.Common.{◌≡◌, ℕ, zero, suc, ◌+◌, Bool, true, false, List, [], ◌∷◌, ◌++◌, map, drop, Some, refl, sym, ap, subst, ◌∙◌, append_assoc, add-one}
 use Rattle.std.specs.Prelude.{slice_get, codes, if◌then◌else◌}
 use Rattle.xs_tree.specs.ProgramTree.{Text}
-use Rattle.xs_scope.specs.ModelTree.{mode_of}
-use Rattle.xs_scope.specs.declared.model.Fault.{Fault}
-use Rattle.xs_scope.specs.declared.model.FlatModel.{FlatModel}
-use Rattle.xs_flattening.specs.History.{Mode}
+use Rattle.xs_flat_laws.specs.FaultModes.{mode_of}
+use Rattle.xs_tree.specs.declared.model.Fault.{Fault}
+use Rattle.xs_tree.specs.declared.model.FlatModel.{FlatModel}
+use Rattle.xs_flat_laws.specs.History.{Mode}
 use Rattle.xs_extend.specs.WovenFaults.{fault_tree}
 use Rattle.xs_extend.specs.NumberedFaults.{IsNumbered, AreNumbered}
 use Rattle.xs_extend.specs.declared.faults.WovenFault.{WovenFault}

@@ -4,13 +4,13 @@ use Rattle.xs_desk.specs.declared.files.NamedFile.{NamedFile}
 use Rattle.xs_tree.specs.ProgramTree.{Text}
 use Rattle.xs_tree.specs.Tree.{Tree}
 use Rattle.xs_tree.specs.Values.{Value}
-use Rattle.xs_flattening.specs.Flat.{FlatLeaf}
-use Rattle.xs_flattening.specs.FlatTrace.{IsFlatTrace}
-use Rattle.xs_encoded.specs.FlatTraces.{ReachesTop, HasFailedNumber}
-use Rattle.xs_trace_text.specs.Given.{GivesTrace}
-use Rattle.xs_certificate.specs.Accepted.{number_of}
-use Rattle.xs_certificate.specs.Certificate.{Certificate}
-use Rattle.xs_certificate.proofs.Objections.{one_objection, accepted_has_none}
+use Rattle.xs_tree.specs.Flat.{FlatLeaf}
+use Rattle.xs_flat_laws.specs.FlatTrace.{IsFlatTrace}
+use Rattle.xs_encode_laws.specs.FlatTraces.{ReachesTop, HasFailedNumber}
+use Rattle.xs_text_laws.specs.Given.{GivesTrace}
+use Rattle.xs_certificate_laws.specs.Accepted.{number_of}
+use Rattle.xs_certificate_laws.specs.Certificate.{Certificate}
+use Rattle.xs_certificate_laws.proofs.Objections.{one_objection, accepted_has_none}
 use Rattle.xs_loading.specs.declared.status.Objection.TheVariants as objection
 use Rattle.xs_loading.specs.declared.status.Refusal.{Refusal}
 use Rattle.xs_loading.specs.declared.status.Refusal.TheVariants as refusal

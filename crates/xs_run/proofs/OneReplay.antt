@@ -4,14 +4,14 @@ use Rattle.xs_desk.specs.declared.files.NamedFile.{NamedFile}
 use Rattle.xs_tree.specs.ProgramTree.{Text}
 use Rattle.xs_tree.specs.Tree.{Tree}
 use Rattle.xs_tree.specs.Values.{Value}
-use Rattle.xs_flattening.specs.Flat.{FlatLeaf, FlatModel}
+use Rattle.xs_tree.specs.Flat.{FlatLeaf, FlatModel}
 use Rattle.xs_eval.specs.Replayed.{IsReaching}
 use Rattle.xs_eval.proofs.StopLaws.{one_stop, reaching_does_not}
-use Rattle.xs_trace_text.specs.Given.{IsPrintable, BytesGive}
-use Rattle.xs_trace_text.specs.Wrong.{IsFirstFault}
-use Rattle.xs_trace_text.proofs.OneTrace.{one_trace}
-use Rattle.xs_trace_text.proofs.OneFault.{one_fault}
-use Rattle.xs_trace_text.proofs.GivenHasNone.{given_has_none}
+use Rattle.xs_text_laws.specs.Given.{IsPrintable, BytesGive}
+use Rattle.xs_text_laws.specs.Wrong.{IsFirstFault}
+use Rattle.xs_text_laws.proofs.OneTrace.{one_trace}
+use Rattle.xs_text_laws.proofs.OneFault.{one_fault}
+use Rattle.xs_text_laws.proofs.GivenHasNone.{given_has_none}
 use Rattle.xs_loading.specs.declared.status.Why.{Why}
 use Rattle.xs_loading.specs.declared.status.Why.TheVariants as why
 use Rattle.xs_loading.specs.declared.status.Objection.TheVariants as objection

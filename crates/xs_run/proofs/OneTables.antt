@@ -12,7 +12,7 @@ use Rattle.xs_expression_reader.specs.declared.fault.ParseFault.{ParseFault}
 use Rattle.xs_expression_reader.specs.Stops.{FaultMeans}
 use Rattle.xs_expression_reader.specs.Lists.{IsExpressions}
 use Rattle.xs_expression_reader.specs.Within.{HaveDepths, AreTooDeep}
-use Rattle.xs_flattening.specs.Rules.{IsAccepted}
+use Rattle.xs_flat_laws.specs.Rules.{IsAccepted}
 use Rattle.xs_loading.specs.declared.status.InputFault.{InputFault}
 use Rattle.xs_loading.specs.declared.status.Refusal.{Refusal}
 use Rattle.xs_loading.specs.declared.status.Refusal.TheVariants as refusal

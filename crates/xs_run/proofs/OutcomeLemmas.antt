@@ -4,7 +4,7 @@ use Rattle.xs_desk.specs.declared.files.NamedFile.{NamedFile}
 use Rattle.xs_desk.specs.Desk.{said_more, SaysPrefix}
 use Rattle.xs_tree.specs.ProgramTree.{Text, ProgramTree}
 use Rattle.xs_tree.specs.Tree.{Tree}
-use Rattle.xs_flattening.specs.Flat.{FlatLeaf}
+use Rattle.xs_tree.specs.Flat.{FlatLeaf}
 use Rattle.xs_words.specs.Commands.{Command}
 use Rattle.xs_words.specs.Meaning.{Means as WordsMean}
 use Rattle.xs_loading.specs.declared.faults.Made.{Made}
@@ -14,7 +14,7 @@ use Rattle.xs_run.specs.Delivered.{Stopped}
 use Rattle.xs_run.specs.Findings.{finished_as}
 use Rattle.xs_run.specs.Analyses.{ended_with}
 use Rattle.xs_run.specs.Tables.{ended_with_all}
-use Rattle.xs_reporting.specs.ExtendedTraces.{Ending, complete, bounded}
+use Rattle.xs_report_laws.specs.ExtendedTraces.{Ending, complete, bounded}
 use Rattle.xs_loading.specs.Inputs.{RefusesModel, HoldsModel, RefusesFaults, HoldsExtension}
 use Rattle.xs_loading.specs.Cases.{Case, HoldsCase, IsWrongWord}
 use Rattle.xs_loading.specs.Loaded.{IsTopIn}

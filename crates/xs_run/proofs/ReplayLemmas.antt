@@ -7,9 +7,10 @@ use Rattle.xs_tree.specs.ProgramTree.{Text, ProgramTree}
 use Rattle.xs_tree.specs.Tree.{Tree}
 use Rattle.xs_tree.specs.Values.{Value}
 use Rattle.xs_value.specs.declared.value.Value.{Value as Numbered}
-use Rattle.xs_scope.specs.ModelTree.{model_tree, mode_of}
-use Rattle.xs_flattening.specs.Flat.{FlatLeaf, FlatModel}
-use Rattle.xs_flattening.specs.FlatTrace.{stands_in_some}
+use Rattle.xs_tree.specs.ModelTree.{model_tree}
+use Rattle.xs_flat_laws.specs.FaultModes.{mode_of}
+use Rattle.xs_tree.specs.Flat.{FlatLeaf, FlatModel}
+use Rattle.xs_flat_laws.specs.FlatTrace.{stands_in_some}
 use Rattle.xs_eval.specs.Named.{named_all, named_trace}
 use Rattle.xs_eval.specs.Replayed.{IsReaching}
 use Rattle.xs_eval.specs.Stops.{Stops}
@@ -19,8 +20,8 @@ use Rattle.xs_report.specs.Told.{told_trace}
 use Rattle.xs_report.specs.Faults.{IsFaultOf}
 use Rattle.xs_report.specs.declared.fault.TraceFault as read
 use Rattle.xs_report.specs.declared.fault.TraceFault.TheVariants as fault
-use Rattle.xs_trace_text.specs.Given.{BytesGive}
-use Rattle.xs_trace_text.specs.Wrong.{TraceFault, wrong_line, missing_value, bad_line, unknown_name, outside, twice, IsFirstFault}
+use Rattle.xs_text_laws.specs.Given.{BytesGive}
+use Rattle.xs_text_laws.specs.Wrong.{TraceFault, wrong_line, missing_value, bad_line, unknown_name, outside, twice, IsFirstFault}
 use Rattle.xs_loading.specs.declared.loaded.LoadedCase.{LoadedCase}
 use Rattle.xs_loading.specs.declared.status.InputFault.{InputFault}
 use Rattle.xs_loading.specs.declared.status.Why.{Why}

@@ -7,21 +7,21 @@ use Rattle.xs_tree.specs.ProgramTree.{Text, Formula}
 use Rattle.xs_tree.specs.Values.{Value}
 use Rattle.xs_tree.specs.May.{Valuation}
 use Rattle.xs_tree.specs.Trace.{IsTrace}
-use Rattle.xs_right.specs.Laws.{Correspond}
-use Rattle.xs_encoded.specs.FlatTraces.{ReachesTop, HasFailedNumber, failed_set}
-use Rattle.xs_encoded.proofs.HistoryFacts.{failed_exactly}
-use Rattle.xs_encoded.proofs.Numbers.{where_rising}
-use Rattle.xs_flattening.specs.Flat.{FlatLeaf}
-use Rattle.xs_flattening.specs.FlatTrace.{IsFlatTrace, stands_in_some}
-use Rattle.xs_kinds.specs.Laws.{values_by_number}
-use Rattle.xs_kinds.proofs.TraceLaws.{traces_are}
+use Rattle.xs_right_laws.specs.Laws.{Correspond}
+use Rattle.xs_encode_laws.specs.FlatTraces.{ReachesTop, HasFailedNumber, failed_set}
+use Rattle.xs_encode_laws.proofs.HistoryFacts.{failed_exactly}
+use Rattle.xs_encode_laws.proofs.Numbers.{where_rising}
+use Rattle.xs_tree.specs.Flat.{FlatLeaf}
+use Rattle.xs_flat_laws.specs.FlatTrace.{IsFlatTrace, stands_in_some}
+use Rattle.xs_type_laws.specs.Laws.{values_by_number}
+use Rattle.xs_type_laws.proofs.TraceLaws.{traces_are}
 use Rattle.xs_weave.specs.Extended.{Moment, IsExtended, Reaches}
 use Rattle.xs_weave.proofs.WovenNominal.{woven_extends}
-use Rattle.xs_extended_right.specs.ExtendedTraces.{HasFailedFault, IsExtensionModel, IsFlatCut}
-use Rattle.xs_extended_right.proofs.Carried.{correspond, flat_traces_cut}
-use Rattle.xs_woven_tops.specs.Tops.{IsReadAs}
-use Rattle.xs_woven_tops.proofs.Meanings.{tops_of_extensions}
-use Rattle.xs_woven_tops.proofs.Resolving.{woven_resolves}
+use Rattle.xs_certificate_laws.specs.ExtendedTraces.{HasFailedFault, IsExtensionModel, IsFlatCut}
+use Rattle.xs_certificate_laws.proofs.Carried.{correspond, flat_traces_cut}
+use Rattle.xs_woven_laws.specs.Tops.{IsReadAs}
+use Rattle.xs_woven_laws.proofs.Meanings.{tops_of_extensions}
+use Rattle.xs_woven_laws.proofs.Resolving.{woven_resolves}
 use Rattle.xs_eval.specs.Replayed.{IsReaching}
 use Rattle.xs_words.specs.Commands.{replay}
 use Rattle.xs_words.proofs.ReadingLaws.{one_command}

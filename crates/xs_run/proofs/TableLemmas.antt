@@ -8,8 +8,8 @@ use Rattle.xs_tree.specs.Tree.{Tree}
 use Rattle.xs_tree.specs.Trace.{Each}
 use Rattle.xs_tree.specs.ProgramTree.{Text, Formula, ProgramTree}
 use Rattle.xs_extend.proofs.EachItem.{item_there}
-use Rattle.xs_flattening.specs.Flat.{FlatLeaf}
-use Rattle.xs_flattening.specs.Model.{EachBoth}
+use Rattle.xs_tree.specs.Flat.{FlatLeaf}
+use Rattle.xs_flat_laws.specs.Model.{EachBoth}
 use Rattle.xs_loading.specs.declared.status.InputFault.{InputFault}
 use Rattle.xs_loading.specs.declared.status.Refusal.{Refusal}
 use Rattle.xs_loading.specs.declared.status.Refusal.TheVariants as refusal

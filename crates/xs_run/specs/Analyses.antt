@@ -4,9 +4,9 @@ use Rattle.std.specs.Prelude.{◌≡◌, ℕ, List, length}
 use Rattle.xs_desk.specs.Desk.{told_with, said_more, SaysPrefix, WritesPrefix}
 use Rattle.xs_tree.specs.Tree.{Tree}
 use Rattle.xs_tree.specs.ProgramTree.{Text, Formula}
-use Rattle.xs_flattening.specs.Flat.{FlatLeaf}
-use Rattle.xs_reporting.specs.ExtendedTraces.{Ending, complete, bounded, Analysis}
-use Rattle.xs_reporting.specs.AnalysisText.{analysis_text}
+use Rattle.xs_tree.specs.Flat.{FlatLeaf}
+use Rattle.xs_report_laws.specs.ExtendedTraces.{Ending, complete, bounded, Analysis}
+use Rattle.xs_report_laws.specs.AnalysisText.{analysis_text}
 use Rattle.xs_loading.specs.declared.status.Status.{Status}
 use Rattle.xs_loading.specs.declared.status.Status.TheVariants as status
 use Rattle.xs_loading.specs.Cases.{Case, IsTopWord}

@@ -5,9 +5,9 @@ use Rattle.xs_tree.specs.ProgramTree.{Text}
 use Rattle.xs_tree.specs.Text.{program_text}
 use Rattle.xs_tree.specs.Values.{Value}
 use Rattle.xs_weave.specs.Faults.{Fault}
-use Rattle.xs_encoded.specs.FlatTraces.{failed_set}
-use Rattle.xs_reporting.specs.ExtendedTraces.{Ending, complete, bounded, Analysis}
-use Rattle.xs_reporting.specs.AnalysisText.{size_line}
+use Rattle.xs_encode_laws.specs.FlatTraces.{failed_set}
+use Rattle.xs_report_laws.specs.ExtendedTraces.{Ending, complete, bounded, Analysis}
+use Rattle.xs_report_laws.specs.AnalysisText.{size_line}
 use Rattle.xs_loading.specs.Reports.{name_text}
 use Rattle.xs_loading.specs.Cases.{Case, extension_of}
 use Rattle.xs_loading.specs.Answered.{bits_of}

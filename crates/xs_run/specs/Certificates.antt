@@ -5,19 +5,19 @@ use Rattle.xs_desk.specs.Desk.{said_more}
 use Rattle.xs_tree.specs.Tree.{Tree}
 use Rattle.xs_tree.specs.ProgramTree.{Text, Formula}
 use Rattle.xs_tree.specs.Values.{Value}
-use Rattle.xs_flattening.specs.Flat.{FlatLeaf}
-use Rattle.xs_flattening.specs.FlatTrace.{IsFlatTrace}
-use Rattle.xs_encoded.specs.FlatTraces.{ReachesTop, HasFailedNumber}
+use Rattle.xs_tree.specs.Flat.{FlatLeaf}
+use Rattle.xs_flat_laws.specs.FlatTrace.{IsFlatTrace}
+use Rattle.xs_encode_laws.specs.FlatTraces.{ReachesTop, HasFailedNumber}
 use Rattle.xs_weave.specs.Extended.{Moment, IsExtended, Reaches}
-use Rattle.xs_right.specs.Laws.{AreBoth}
-use Rattle.xs_right.specs.Right.{HasAtMost as HasFew, IsMinimalCutSet, IsListed}
-use Rattle.xs_extended_right.specs.ExtendedTraces.{HasFailedFault, IsRightExtended}
-use Rattle.xs_trace_text.specs.Given.{GivesTrace}
-use Rattle.xs_certificate.specs.Certificate.{Certificate}
-use Rattle.xs_certificate.specs.Accepted.{Subject, Rule, number_of, IsObjection}
-use Rattle.xs_certified.specs.Certified.{IsSubjectOf, IsCertified}
-use Rattle.xs_certified.specs.Completeness.{GivesExtended}
-use Rattle.xs_subject.specs.Subject.{subject_of}
+use Rattle.xs_right_laws.specs.Laws.{AreBoth}
+use Rattle.xs_right_laws.specs.Right.{HasAtMost as HasFew, IsMinimalCutSet, IsListed}
+use Rattle.xs_certificate_laws.specs.ExtendedTraces.{HasFailedFault, IsRightExtended}
+use Rattle.xs_text_laws.specs.Given.{GivesTrace}
+use Rattle.xs_certificate_laws.specs.Certificate.{Certificate}
+use Rattle.xs_certificate_laws.specs.Accepted.{Subject, Rule, number_of, IsObjection}
+use Rattle.xs_certificate_laws.specs.Certified.{IsSubjectOf, IsCertified}
+use Rattle.xs_certificate_laws.specs.Completeness.{GivesExtended}
+use Rattle.xs_certificate_laws.specs.Subject.{subject_of}
 use Rattle.xs_loading.specs.declared.event.LoadedEvent.{LoadedEvent}
 use Rattle.xs_loading.specs.declared.status.Objection.TheVariants as objection
 use Rattle.xs_loading.specs.declared.status.Refusal.{Refusal}

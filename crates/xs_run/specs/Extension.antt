@@ -9,7 +9,7 @@ use Rattle.xs_fei.specs.Instructions.{InstructionTree}
 use Rattle.xs_fei.specs.SpellsInstructions.{BytesSpellInstructions}
 use Rattle.xs_weave.specs.Conservative.{IsExtensionOf}
 use Rattle.xs_weave.specs.Faults.{Fault, HasFaults}
-use Rattle.xs_weave.specs.Weavable.{IsWeavable}
+use Rattle.xs_fei.specs.Weavable.{IsWeavable}
 use Rattle.xs_weave.specs.Woven.{woven}
 use Rattle.xs_loading.specs.Reports.{report_text}
 

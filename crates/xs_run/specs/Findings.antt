@@ -4,8 +4,8 @@ use Rattle.xs_desk.specs.Desk.{SaysPrefix}
 use Rattle.xs_desk.specs.declared.desk.WriteStop.{WriteStop}
 use Rattle.xs_desk.specs.declared.desk.WriteStop.TheVariants as stop
 use Rattle.xs_tree.specs.ProgramTree.{Text, Formula}
-use Rattle.xs_analysis_text.specs.Analysis.{told_ending}
-use Rattle.xs_reporting.specs.ExtendedTraces.{Ending, complete, bounded, Analysis}
+use Rattle.xs_text_laws.specs.Analysis.{told_ending}
+use Rattle.xs_report_laws.specs.ExtendedTraces.{Ending, complete, bounded, Analysis}
 use Rattle.xs_run.specs.declared.search.Found.{Found}
 use Rattle.xs_run.specs.declared.analysis.Analysing.{Analysing}
 use Rattle.xs_loading.specs.declared.status.Status.{Status}

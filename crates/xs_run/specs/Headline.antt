@@ -6,7 +6,7 @@ use Rattle.xs_desk.specs.Desk.{said_more}
 use Rattle.xs_tree.specs.ProgramTree.{Text, Formula}
 use Rattle.xs_tree.specs.Bytes.{BytesSpellProgram}
 use Rattle.xs_weave.specs.Conservative.{IsExtensionOf}
-use Rattle.xs_reporting.specs.ExtendedTraces.{Ending, complete, bounded, Analysis, IsAnalysisOf}
+use Rattle.xs_report_laws.specs.ExtendedTraces.{Ending, complete, bounded, Analysis, IsAnalysisOf}
 use Rattle.xs_loading.specs.declared.status.Status.TheVariants as status
 use Rattle.xs_loading.specs.Cases.{Case, extension_of, HoldsCase, IsTopWord}
 use Rattle.xs_loading.specs.Answered.{Said}

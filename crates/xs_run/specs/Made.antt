@@ -8,8 +8,8 @@ use Rattle.xs_tree.specs.ProgramTree.{Text, Formula, ProgramTree}
 use Rattle.xs_tree.specs.Text.{program_text}
 use Rattle.xs_fei.specs.InstructionText.{instructions_text}
 use Rattle.xs_generate.specs.Generator.{generated_model, generated_instructions}
-use Rattle.xs_analysis_text.specs.Analysis.{told_ending}
-use Rattle.xs_reporting.specs.ExtendedTraces.{Ending, Analysis}
+use Rattle.xs_text_laws.specs.Analysis.{told_ending}
+use Rattle.xs_report_laws.specs.ExtendedTraces.{Ending, Analysis}
 use Rattle.xs_loading.specs.declared.status.Status.{Status}
 use Rattle.xs_run.specs.declared.make.Making.{Making}
 use Rattle.xs_run.specs.declared.make.Summary.{Summary}

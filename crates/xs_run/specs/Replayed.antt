@@ -4,10 +4,10 @@ use Rattle.xs_desk.specs.declared.files.NamedFile.{NamedFile}
 use Rattle.xs_desk.specs.Desk.{said_more}
 use Rattle.xs_tree.specs.ProgramTree.{Text, Formula}
 use Rattle.xs_tree.specs.Values.{Value}
-use Rattle.xs_right.specs.Right.{Shows}
-use Rattle.xs_right.specs.Sets.{IsRising}
+use Rattle.xs_right_laws.specs.Right.{Shows}
+use Rattle.xs_right_laws.specs.Sets.{IsRising}
 use Rattle.xs_weave.specs.Extended.{Moment, IsExtended, Reaches}
-use Rattle.xs_extended_right.specs.ExtendedTraces.{HasFailedFault, IsFlatCut}
+use Rattle.xs_certificate_laws.specs.ExtendedTraces.{HasFailedFault, IsFlatCut}
 use Rattle.xs_loading.specs.Cases.{Case, HoldsCase, IsTopWord}
 use Rattle.xs_run.specs.AnswerTexts.{failed_names}
 use Rattle.xs_run.specs.Replays.{HoldsTrace}

@@ -6,12 +6,12 @@ use Rattle.xs_tree.specs.Tree.{Tree}
 use Rattle.xs_tree.specs.Trace.{Each}
 use Rattle.xs_tree.specs.Values.{Value}
 use Rattle.xs_value.specs.declared.value.Value.{Value as Numbered}
-use Rattle.xs_flattening.specs.Flat.{FlatLeaf, FlatModel}
-use Rattle.xs_flattening.specs.History.{Mode}
+use Rattle.xs_tree.specs.Flat.{FlatLeaf, FlatModel}
+use Rattle.xs_flat_laws.specs.History.{Mode}
 use Rattle.xs_eval.specs.Named.{IsLawful}
 use Rattle.xs_eval.specs.Stops as stops
-use Rattle.xs_trace_text.specs.Given.{BytesGive}
-use Rattle.xs_trace_text.specs.Wrong.{TraceFault, wrong_line, missing_value, number_of, IsFirstFault}
+use Rattle.xs_text_laws.specs.Given.{BytesGive}
+use Rattle.xs_text_laws.specs.Wrong.{TraceFault, wrong_line, missing_value, number_of, IsFirstFault}
 use Rattle.xs_report.specs.declared.fault.TraceFault as read
 use Rattle.xs_report.specs.declared.fault.TraceFault.TheVariants as fault
 use Rattle.xs_weave.specs.Faults.{Fault}

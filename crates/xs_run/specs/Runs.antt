@@ -5,7 +5,7 @@ use Rattle.xs_desk.specs.Desk.{told_with, said_more, SaysPrefix, WritesPrefix}
 use Rattle.xs_tree.specs.ProgramTree.{Text, Formula, ProgramTree}
 use Rattle.xs_tree.specs.Tree.{Tree}
 use Rattle.xs_tree.specs.Values.{Value}
-use Rattle.xs_flattening.specs.Flat.{FlatLeaf}
+use Rattle.xs_tree.specs.Flat.{FlatLeaf}
 use Rattle.xs_eval.specs.Replayed.{IsReaching}
 use Rattle.xs_words.specs.Commands.{Command, extend, replay, analyse, check, fmea, make}
 use Rattle.xs_words.specs.Meaning.{Means as WordsMean}

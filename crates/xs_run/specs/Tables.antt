@@ -10,15 +10,15 @@ use Rattle.xs_expression_reader.specs.declared.fault.ParseFault.{ParseFault}
 use Rattle.xs_expression_reader.specs.Stops.{FaultMeans}
 use Rattle.xs_expression_reader.specs.Lists.{IsExpressions, BytesSpellExpressions}
 use Rattle.xs_expression_reader.specs.Within.{HaveDepths, AreTooDeep}
-use Rattle.xs_flattening.specs.Flat.{FlatLeaf, FlatModel}
-use Rattle.xs_flattening.specs.Model.{EachBoth}
-use Rattle.xs_scope.specs.ModelTree.{flat_tree}
+use Rattle.xs_tree.specs.Flat.{FlatLeaf, FlatModel}
+use Rattle.xs_flat_laws.specs.Model.{EachBoth}
+use Rattle.xs_tree.specs.ModelTree.{flat_tree}
 use Rattle.xs_fmea.specs.Tables.{table_text, rows_of, entry_of}
 use Rattle.xs_fmea.specs.Columns.{AreTold, NamesFaults}
-use Rattle.xs_analysis_text.specs.Analysis.{told_ending}
+use Rattle.xs_text_laws.specs.Analysis.{told_ending}
 use Rattle.xs_fmea.specs.declared.columns.Column.{Column}
-use Rattle.xs_reporting.specs.ExtendedTraces.{Ending, complete, bounded, Analysis}
-use Rattle.xs_reporting.specs.Tables.{IsEntry}
+use Rattle.xs_report_laws.specs.ExtendedTraces.{Ending, complete, bounded, Analysis}
+use Rattle.xs_report_laws.specs.Tables.{IsEntry}
 use Rattle.xs_loading.specs.declared.status.InputFault.{InputFault}
 use Rattle.xs_loading.specs.declared.status.Part.TheVariants as part
 use Rattle.xs_loading.specs.declared.status.Refusal.{Refusal}

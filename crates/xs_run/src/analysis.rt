@@ -2,7 +2,7 @@
 ghost use Rattle.std.specs.Prelude.{◌≡◌, ◌≤◌, IfOk, OnOk, OnErr, IsErrOf};
 ghost use Rattle.xs_desk.specs.Desk.{Rose, said_more};
 ghost use Rattle.xs_desk.specs.declared.desk.WriteStop.TheVariants as write_stop;
-ghost use Rattle.xs_analysis_text.specs.Analysis.{told_ending};
+ghost use Rattle.xs_text_laws.specs.Analysis.{told_ending};
 ghost use Rattle.xs_run.specs.Analyses.{ended_with, HasAnalysed, AnalysesInPart};
 ghost use Rattle.xs_loading.specs.LoadedEvents.{IsEvent};
 ghost use Rattle.xs_run.specs.Findings.{analysed_case, analysed_size, ConcludesInPart};

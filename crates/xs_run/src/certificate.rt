@@ -1,7 +1,7 @@
 // A certificate judged over the extension.
 ghost use Rattle.std.specs.Prelude.{◌≡◌, ◌≤◌, IfOk, OnOk, IfSome, IsErrOf};
 ghost use Rattle.xs_desk.specs.Desk.{Rose};
-ghost use Rattle.xs_scope.specs.ModelTree.{flat_tree};
+ghost use Rattle.xs_tree.specs.ModelTree.{flat_tree};
 ghost use Rattle.xs_cert.specs.Seen.{seen};
 ghost use Rattle.xs_check.specs.Fit.{IsCheckable};
 ghost use Rattle.xs_loading.specs.LoadedEvents.{case_in};

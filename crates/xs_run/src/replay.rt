@@ -1,9 +1,10 @@
 // A trace judged over the extension, and what is said of one that reaches the top event.
 ghost use Rattle.std.specs.Prelude.{◌≤◌, IfSome, ◌≡◌, ◌++◌, if◌then◌else◌, [], codes, map, false, length, IfOk, OnOk, IsErrOf};
-ghost use Rattle.xs_scope.specs.ModelTree.{model_tree, flat_tree, mode_of};
-ghost use Rattle.xs_flattening.specs.FlatTrace.{stands_in_some};
-ghost use Rattle.xs_kinds.specs.Laws.{ReadsOwn};
-ghost use Rattle.xs_kinds.specs.Models.{judged_in, broken_condition};
+ghost use Rattle.xs_tree.specs.ModelTree.{model_tree, flat_tree};
+ghost use Rattle.xs_flat_laws.specs.FaultModes.{mode_of};
+ghost use Rattle.xs_flat_laws.specs.FlatTrace.{stands_in_some};
+ghost use Rattle.xs_type_laws.specs.Laws.{ReadsOwn};
+ghost use Rattle.xs_type_laws.specs.Models.{judged_in, broken_condition};
 ghost use Rattle.xs_eval.specs.Named.{named_trace, IsEvaluable};
 ghost use Rattle.xs_eval.specs.Replayed.{IsReaching};
 ghost use Rattle.xs_extend.specs.WovenFaults.{fault_tree};
@@ -24,13 +25,13 @@ use std::alloc::Global;
 use xs_desk::Desk;
 use xs_eval::{Replayed, Table, has_failed, replay};
 use xs_extend::WovenFault;
-use xs_flat::{Fault, Flat};
 use xs_loading::input::Stop;
 use xs_loading::loaded::LoadedCase;
 use xs_loading::model::LoadedModel;
 use xs_loading::report::append_name;
 use xs_loading::status::{Objection, Refusal, Why};
 use xs_tree::Expr;
+use xs_tree::model::{Fault, Flat};
 use xs_types::Typed;
 use xs_value::{ByteList, MomentList, OutOfMemory};
 

@@ -1,8 +1,9 @@
 // The search of a case for its minimal cut sets, and the texts that are made of what it finds.
 ghost use Rattle.std.specs.Prelude.{◌≡◌, ◌<◌, ℕ, IfOk, map};
-ghost use Rattle.xs_scope.specs.ModelTree.{model_tree, mode_of, flat_tree};
-ghost use Rattle.xs_flattening.specs.History.{with_history};
-ghost use Rattle.xs_analysis_text.specs.Analysis.{told_ending};
+ghost use Rattle.xs_tree.specs.ModelTree.{model_tree, flat_tree};
+ghost use Rattle.xs_flat_laws.specs.FaultModes.{mode_of};
+ghost use Rattle.xs_flat_laws.specs.History.{with_history};
+ghost use Rattle.xs_text_laws.specs.Analysis.{told_ending};
 ghost use Rattle.xs_report.specs.Told.{told_trace};
 ghost use Rattle.xs_cuts.specs.declared.answer.End.TheVariants as ends;
 ghost use Rattle.xs_run.specs.Analyses.{ended_with};
@@ -15,15 +16,14 @@ use crate::analysis::Analysing;
 use std::alloc::Global;
 use xs_adviser::Panel;
 use xs_case_search::search::{analysed, size_of};
+use xs_case_search::{certify, told};
 use xs_cert::write;
-use xs_certify::certify;
 use xs_cuts::answer::{Analysis, End};
-use xs_cuts_extended::told;
-use xs_flat::Flat;
 use xs_loading::loaded::LoadedCase;
 use xs_loading::status::Status;
 use xs_report::print_analysis;
 use xs_tree::Expr;
+use xs_tree::model::Flat;
 use xs_value::{ByteList, Ending, OutOfMemory};
 
 /// What a search found: the report, how it ended, and for a complete answer the text of a certificate.

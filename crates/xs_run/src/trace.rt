@@ -1,9 +1,9 @@
 // The file of a trace, as moments of the extension.
 ghost use Rattle.std.specs.Prelude.{◌≡◌, ◌≤◌, length, IfOk, IfErr, IfSome, IsErrOf};
 ghost use Rattle.xs_desk.specs.Desk.{Rose};
-ghost use Rattle.xs_scope.specs.ModelTree.{model_tree};
+ghost use Rattle.xs_tree.specs.ModelTree.{model_tree};
 ghost use Rattle.xs_report.specs.Told.{told_trace};
-ghost use Rattle.xs_trace_text.specs.Given.{IsPrintable, HasItsSymbols};
+ghost use Rattle.xs_text_laws.specs.Given.{IsPrintable, HasItsSymbols};
 ghost use Rattle.xs_loading.specs.Tasks.{IsRefusedAbove, HasAtMost};
 ghost use Rattle.xs_run.specs.Replays.{RefusesTrace, HoldsTrace, IsFitTrace, stop_at_text};
 ghost use Rattle.xs_loading.specs.declared.status.InputFault.{InputFault};

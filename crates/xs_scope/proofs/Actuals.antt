@@ -8,15 +8,15 @@ use Rattle.xs_tree.specs.Texts.{same_text}
 use Rattle.xs_tree.specs.Written.{tree_of}
 use Rattle.xs_tree.specs.Scope.{Place, an_instance, undeclared, actual_key, find_module, kind_in, kind_at, module_at, plain_name}
 use Rattle.xs_tree.specs.Trace.{Each, IsInstance}
-use Rattle.xs_flattening.specs.Items.{a_declaration, NumberedModule, items_of, modules_from, modules_of, numbered_items}
-use Rattle.xs_flattening.specs.Rules.{main_has_parameters, a_header, an_item, has_formals, IsKept, IsWalkable}
-use Rattle.xs_flattening.specs.Model.{Root, roots_of_type, roots_of}
-use Rattle.xs_flattening.proofs.Conditions.{each_at, each_flat}
-use Rattle.xs_flattening.proofs.Kept.{declared_there, as_many}
-use Rattle.xs_flattening.proofs.KindLaws.{DeclaredBy, not_true}
-use Rattle.xs_flattening.proofs.Listed.{ListedItem, listed_item, root_listed, actual_root}
-use Rattle.xs_flattening.proofs.Lists.{each_more}
-use Rattle.xs_flattening.proofs.Places.{In}
+use Rattle.xs_flat_laws.specs.Items.{a_declaration, NumberedModule, items_of, modules_from, modules_of, numbered_items}
+use Rattle.xs_flat_laws.specs.Rules.{main_has_parameters, a_header, an_item, has_formals, IsKept, IsWalkable}
+use Rattle.xs_flat_laws.specs.Model.{Root, roots_of_type, roots_of}
+use Rattle.xs_flat_laws.proofs.Conditions.{each_at, each_flat}
+use Rattle.xs_flat_laws.proofs.Kept.{declared_there, as_many}
+use Rattle.xs_flat_laws.proofs.KindLaws.{DeclaredBy, not_true}
+use Rattle.xs_flat_laws.proofs.Listed.{ListedItem, listed_item, root_listed, actual_root}
+use Rattle.xs_flat_laws.proofs.Lists.{each_more}
+use Rattle.xs_flat_laws.proofs.Places.{In}
 use Rattle.xs_scope.specs.SceneTree.{IsCalled, program_of}
 use Rattle.xs_scope.specs.FoundAt.{formal_at}
 use Rattle.xs_scope.specs.Known.{rows, formal_of, IsHead, IsOpen, IsActualTold}

@@ -6,9 +6,9 @@ use Rattle.xs_tree.proofs.ValueLaws.{same_text_refl}
 use Rattle.xs_tree.specs.Texts.{same_text}
 use Rattle.xs_tree.specs.ProgramTree.{ProgramTree}
 use Rattle.xs_tree.specs.Scope.{Key, define_key, actual_key}
-use Rattle.xs_flattening.specs.Rules.{IsWalkable, expression_of}
-use Rattle.xs_flattening.specs.Model as model
-use Rattle.xs_flattening.specs.Model.{EachBoth, Adds, AddsAll, same_place, same_key, is_key_among}
+use Rattle.xs_flat_laws.specs.Rules.{IsWalkable, expression_of}
+use Rattle.xs_flat_laws.specs.Model as model
+use Rattle.xs_flat_laws.specs.Model.{EachBoth, Adds, AddsAll, same_place, same_key, is_key_among}
 use Rattle.xs_scope.specs.NeedsTree.{keys_of, IsKeyAt, AreMeant}
 use Rattle.xs_scope.specs.Links.{Graph, Has}
 use Rattle.xs_scope.specs.Laying.{upto, upto_from, Lays, stands, comes, LaysAll, no_more, one_more}
@@ -17,7 +17,7 @@ use Rattle.xs_scope.proofs.KeyLaws.{key_at, key_is}
 use Rattle.xs_scope.proofs.RootLaws.{keys_once}
 use Rattle.xs_scope.proofs.NeedLaws.{IsLinked}
 use Rattle.xs_scope.proofs.ClosedLaws.{left_true, right_true}
-use Rattle.xs_flattening.proofs.Numbered.{same_place_refl, same_place_equal}
+use Rattle.xs_flat_laws.proofs.Numbered.{same_place_refl, same_place_equal}
 use Rattle.xs_tree.proofs.OneTree.{same_text_equal}
 
 pub same_key_refl : (k : Key) → same_key k k ≡ true

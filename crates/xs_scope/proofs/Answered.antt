@@ -6,8 +6,8 @@ use Rattle.std.proofs.lemmas.Bool.{ltb-true, ltb-false}
 use Rattle.std.proofs.lemmas.List.{length-map}
 use Rattle.xs_tree.specs.ProgramTree.{ProgramTree}
 use Rattle.xs_tree.specs.Scope.{find_module}
-use Rattle.xs_flattening.specs.Flat.{FlatInstance}
-use Rattle.xs_flattening.specs.Items.{instances_of}
+use Rattle.xs_tree.specs.Flat.{FlatInstance}
+use Rattle.xs_flat_laws.specs.Items.{instances_of}
 use Rattle.xs_scope.specs.SceneTree.{formals_of, program_of}
 use Rattle.xs_scope.specs.FoundAt.{formal_or, formal_at}
 use Rattle.xs_scope.specs.Steps.{is_open, row_count_in, row_count}

@@ -5,22 +5,22 @@ use Rattle.std.specs.declared.alloc.Global.{Global}
 use Rattle.std.proofs.lemmas.List.{append_assoc, map-append, length-append, length-map, length-reverse}
 use Rattle.xs_tree.specs.ProgramTree.{Text, ModuleTree, ProgramTree}
 use Rattle.xs_tree.specs.Scope.{Place}
-use Rattle.xs_flattening.specs.Flat.{FlatVariable}
-use Rattle.xs_flattening.specs.Items.{Item as ItemOf, items_of, NumberedItem, modules_from, modules_of, items_named, Visit, visits_of, walk_items, walk}
-use Rattle.xs_flattening.specs.Model.{EachBoth}
-use Rattle.xs_flattening.specs.Rules.{is_missing}
-use Rattle.xs_flattening.proofs.Pigeons.{no_more_names}
+use Rattle.xs_tree.specs.Flat.{FlatVariable}
+use Rattle.xs_flat_laws.specs.Items.{Item as ItemOf, items_of, NumberedItem, modules_from, modules_of, items_named, Visit, visits_of, walk_items, walk}
+use Rattle.xs_flat_laws.specs.Model.{EachBoth}
+use Rattle.xs_flat_laws.specs.Rules.{is_missing}
+use Rattle.xs_flat_laws.proofs.Pigeons.{no_more_names}
 use Rattle.xs_scope.specs.declared.items.Numbered.{Numbered}
-use Rattle.xs_scope.specs.declared.model.Variable.{Variable}
+use Rattle.xs_tree.specs.declared.model.Variable.{Variable}
 use Rattle.xs_scope.specs.declared.modules.Modules.{Modules}
 use Rattle.xs_scope.specs.declared.modules.Names.{Names}
 use Rattle.xs_scope.specs.declared.walk.Meaning.{Meaning as Found}
 use Rattle.xs_scope.specs.declared.walk.Spot.{Spot}
 use Rattle.xs_scope.specs.declared.walk.Walk.{Walk}
 use Rattle.xs_scope.specs.ItemTree.{numbered_tree}
-use Rattle.xs_scope.specs.ModelTree.{place_of, variable_tree}
+use Rattle.xs_tree.specs.ModelTree.{place_of, variable_tree}
 use Rattle.xs_scope.specs.SceneTree.{AreModules, HasNames, number_and_item}
-use Rattle.xs_scope.specs.Symbols.{texts}
+use Rattle.xs_tree.specs.BorrowedTexts.{texts}
 use Rattle.xs_scope.specs.Walking.{Call, calls_in, variables_in, walk_from, program_in, name_in, name_at, call_of, calls_of, variables_of_walk, on_path_of, place_of_spot, place_at, visits_here, visits_within, visits_told, told_from, IsOwnIn, IsCaller, IsSpotOf, IsDeclaredIn, HasWalked, HasGone, HasEntered, IsPath, IsStanding, IsEntry, own_of, with_own}
 use Rattle.xs_scope.proofs.PathLaws.{path_more}
 use Rattle.xs_scope.proofs.WalkLaws.{both_of_map, caller_stays}

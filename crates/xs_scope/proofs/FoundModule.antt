@@ -6,8 +6,8 @@ use Rattle.std.specs.Borrow.{Bor}
 use Rattle.xs_tree.specs.ProgramTree.{Text, ModuleTree, ProgramTree, program_tree}
 use Rattle.xs_tree.specs.Scope.{find_module}
 use Rattle.xs_tree.specs.Texts.{same_text}
-use Rattle.xs_flattening.specs.Items.{items_of, NumberedModule, modules_from, modules_of, numbered_items, items_found}
-use Rattle.xs_flattening.proofs.Variables.{both_at}
+use Rattle.xs_flat_laws.specs.Items.{items_of, NumberedModule, modules_from, modules_of, numbered_items, items_found}
+use Rattle.xs_flat_laws.proofs.Variables.{both_at}
 use Rattle.xs_scope.specs.declared.modules.Names.{Names}
 use Rattle.xs_scope.specs.declared.modules.Modules.{Modules}
 use Rattle.xs_scope.specs.FoundAt.{entry_of}

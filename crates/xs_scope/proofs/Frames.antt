@@ -10,11 +10,11 @@ use Rattle.xs_tree.specs.ProgramTree.{Text, Path, Formula, DeclaredTree, boolean
 use Rattle.xs_tree.specs.Texts.{same_text}
 use Rattle.xs_tree.specs.Written.{tree_of}
 use Rattle.xs_tree.specs.Scope.{Place, Kind, a_formal, a_variable, a_define, an_instance, undeclared, Meaning, a_variable_at, an_expression_at, an_instance_at, a_symbol, Means, formal_from, kind_declared, kind_after_formals, kind_at, module_at, plain_name, actual_of_kind, nth_formula}
-use Rattle.xs_flattening.specs.Flat.{FlatInstance}
-use Rattle.xs_flattening.specs.Items.{Item, a_declaration, a_definition, an_assignment, some_constants, an_init, an_invar, a_trans, items_of, instances_of}
-use Rattle.xs_flattening.specs.Looks.{Look, at_actual, plain_of, step_kind, step_of, look_after}
-use Rattle.xs_flattening.proofs.EndLaws.{steps_more}
-use Rattle.xs_flattening.proofs.KindLaws.{kind_in_items}
+use Rattle.xs_tree.specs.Flat.{FlatInstance}
+use Rattle.xs_flat_laws.specs.Items.{Item, a_declaration, a_definition, an_assignment, some_constants, an_init, an_invar, a_trans, items_of, instances_of}
+use Rattle.xs_flat_laws.specs.Looks.{Look, at_actual, plain_of, step_kind, step_of, look_after}
+use Rattle.xs_flat_laws.proofs.EndLaws.{steps_more}
+use Rattle.xs_flat_laws.proofs.KindLaws.{kind_in_items}
 use Rattle.xs_scope.specs.SceneTree.{item_from, local_after, Denotes, IsFound, IsCalled, program_of}
 use Rattle.xs_scope.specs.FoundAt.{formal_or, formal_in, formal_at, told, symbol_at, own_at, by_local, part_at, local_at, found_inside}
 use Rattle.xs_scope.specs.Steps.{step_by_local, known_by, known_at, is_open, gone_inside}

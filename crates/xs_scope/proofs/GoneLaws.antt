@@ -2,16 +2,16 @@
 use Rattle.std.proofs.Common.{◌≡◌, ℕ, ◌+◌, ◌<◌, List, [], ◌∷◌, ◌++◌, length, map, get_or, take, drop, None, refl, ap, ◌∙◌, sym, subst}
 use Rattle.std.proofs.lemmas.List.{take_more, drop_more, map-append}
 use Rattle.xs_tree.specs.Scope.{Place}
-use Rattle.xs_flattening.specs.Flat.{FlatVariable}
-use Rattle.xs_flattening.specs.Items.{Item as ItemOf, Visit, visits_of}
-use Rattle.xs_flattening.specs.Model.{EachBoth}
+use Rattle.xs_tree.specs.Flat.{FlatVariable}
+use Rattle.xs_flat_laws.specs.Items.{Item as ItemOf, Visit, visits_of}
+use Rattle.xs_flat_laws.specs.Model.{EachBoth}
 use Rattle.xs_scope.specs.declared.fault.FlatFault.{FlatFault}
 use Rattle.xs_scope.specs.declared.items.Numbered.{Numbered}
 use Rattle.xs_scope.specs.declared.modules.Modules.{Modules}
 use Rattle.xs_scope.specs.declared.walk.Meaning.{Meaning as Found}
 use Rattle.xs_scope.specs.declared.walk.Walk.{Walk}
 use Rattle.xs_scope.specs.ItemTree.{numbered_tree}
-use Rattle.xs_scope.specs.ModelTree.{variable_tree}
+use Rattle.xs_tree.specs.ModelTree.{variable_tree}
 use Rattle.xs_scope.specs.Reading.{told_first, IsTold}
 use Rattle.xs_scope.specs.Walking.{Call, calls_in, calls_declared, variables_in, visits_told, program_in, call_of, calls_of, variables_of_walk, on_path_of, place_at, walk_from, visits_at, visits_here, told_from, IsOwnIn, HasWalked, HasMet, HasGone, IsStanding}
 use Rattle.xs_scope.proofs.ReadingLaws.{told_as, told_here, none_first}

@@ -6,19 +6,19 @@ use Rattle.xs_tree.specs.Texts.{same_text, is_among}
 use Rattle.xs_tree.specs.Scope.{Place, Role, a_formal, a_define, kind_declared, kind_in, kind_in_sections, kind_after_formals, kind_at, module_at, find_module, formal_from}
 use Rattle.xs_tree.specs.Trace.{IsInstance}
 use Rattle.xs_tree.proofs.ValueLaws.{same_text_refl}
-use Rattle.xs_flattening.specs.Flat.{FlatInstance}
-use Rattle.xs_flattening.specs.Items.{Item, a_declaration, a_definition, an_assignment, some_constants, an_init, an_invar, a_trans, NumberedItem, items_of, items_named, instances_of}
-use Rattle.xs_flattening.specs.Rules.{has_twice, names_of_item, IsWalkable}
-use Rattle.xs_flattening.proofs.Conditions.{each_at}
-use Rattle.xs_flattening.proofs.KindLaws.{kind_in_items, sections_kind, ItemFacts, kind_of_declaration, no_formal, among_split}
-use Rattle.xs_flattening.proofs.Now.{neither}
-use Rattle.xs_flattening.proofs.Places.{facts_named, are_instances}
-use Rattle.xs_flattening.proofs.Sections.{AreInstances}
-use Rattle.xs_flattening.proofs.Walkable.{main_is_there}
+use Rattle.xs_tree.specs.Flat.{FlatInstance}
+use Rattle.xs_flat_laws.specs.Items.{Item, a_declaration, a_definition, an_assignment, some_constants, an_init, an_invar, a_trans, NumberedItem, items_of, items_named, instances_of}
+use Rattle.xs_flat_laws.specs.Rules.{has_twice, names_of_item, IsWalkable}
+use Rattle.xs_flat_laws.proofs.Conditions.{each_at}
+use Rattle.xs_flat_laws.proofs.KindLaws.{kind_in_items, sections_kind, ItemFacts, kind_of_declaration, no_formal, among_split}
+use Rattle.xs_flat_laws.proofs.Now.{neither}
+use Rattle.xs_flat_laws.proofs.Places.{facts_named, are_instances}
+use Rattle.xs_flat_laws.proofs.Sections.{AreInstances}
+use Rattle.xs_flat_laws.proofs.Walkable.{main_is_there}
 use Rattle.xs_scope.specs.Known.{IsHead}
 use Rattle.xs_scope.proofs.LookSplit.{never, of_some}
 use Rattle.xs_scope.proofs.Heads.{not_both, among_there}
-use Rattle.xs_flattening.proofs.Meant.{formals_once}
+use Rattle.xs_flat_laws.proofs.Meant.{formals_once}
 use Rattle.xs_tree.proofs.OneTree.{same_text_equal}
 
 -- a formal that stands once is found by its name

@@ -3,7 +3,7 @@ use Rattle.std.proofs.Common.{◌≡◌, ◌↔◌, ℕ, suc, Bool, true, false,
 use Rattle.xs_tree.specs.ProgramTree.{Text, ModuleTree, ProgramTree}
 use Rattle.xs_tree.specs.Texts.{same_text, is_among}
 use Rattle.xs_tree.proofs.ValueLaws.{same_text_refl}
-use Rattle.xs_flattening.specs.Rules.{main_has_parameters, double_module, has_formals, is_module_among}
+use Rattle.xs_flat_laws.specs.Rules.{main_has_parameters, double_module, has_formals, is_module_among}
 use Rattle.xs_scope.specs.Reading.{told_if, told_first, header_told, texts_of}
 use Rattle.xs_scope.specs.SceneTree.{module_entries}
 use Rattle.xs_tree.proofs.OneTree.{same_text_equal}

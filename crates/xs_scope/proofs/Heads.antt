@@ -6,16 +6,16 @@ use Rattle.xs_tree.specs.Texts.{same_text, is_among}
 use Rattle.xs_tree.specs.Scope.{Place, find_module}
 use Rattle.xs_tree.specs.Trace.{Each}
 use Rattle.xs_tree.proofs.ValueLaws.{same_text_refl}
-use Rattle.xs_flattening.specs.Flat.{FlatInstance}
-use Rattle.xs_flattening.specs.Items.{NumberedModule, items_of, modules_from, Visit, instance_declared, instances_of_visit, instances_of}
-use Rattle.xs_flattening.specs.Rules.{has_twice, IsWalkable}
-use Rattle.xs_flattening.proofs.Apart.{Differ, Apart}
-use Rattle.xs_flattening.proofs.Conditions.{each_join, each_at}
-use Rattle.xs_flattening.proofs.Now.{neither}
+use Rattle.xs_tree.specs.Flat.{FlatInstance}
+use Rattle.xs_flat_laws.specs.Items.{NumberedModule, items_of, modules_from, Visit, instance_declared, instances_of_visit, instances_of}
+use Rattle.xs_flat_laws.specs.Rules.{has_twice, IsWalkable}
+use Rattle.xs_flat_laws.proofs.Apart.{Differ, Apart}
+use Rattle.xs_flat_laws.proofs.Conditions.{each_join, each_at}
+use Rattle.xs_flat_laws.proofs.Now.{neither}
 use Rattle.xs_scope.specs.Known.{IsHead}
 use Rattle.xs_scope.proofs.LookSplit.{never, of_some}
-use Rattle.xs_flattening.proofs.KeysApart.{one_number}
-use Rattle.xs_flattening.proofs.Meant.{formals_once}
+use Rattle.xs_flat_laws.proofs.KeysApart.{one_number}
+use Rattle.xs_flat_laws.proofs.Meant.{formals_once}
 
 -- no two instances have one place
 abbrev Other : FlatInstance → FlatInstance → Type 0

@@ -4,7 +4,7 @@ use Rattle.std.specs.List.{flat_map}
 use Rattle.std.proofs.lemmas.List.{append-nil, append_assoc, drop_more}
 use Rattle.xs_tree.specs.declared.program.Section.{Section}
 use Rattle.xs_tree.specs.ProgramTree.{section_tree}
-use Rattle.xs_flattening.specs.Items.{Item, items_of_section}
+use Rattle.xs_flat_laws.specs.Items.{Item, items_of_section}
 use Rattle.xs_scope.specs.ItemTree.{Counted, with_item, with_items, counted_from, counted_below}
 
 pub with_both : (c : Counted) (is js : List Item) → with_items c (is ++ js) ≡ with_items (with_items c is) js

@@ -4,20 +4,20 @@ use Rattle.std.specs.Prelude.{slice_get, flat_map, codes}
 use Rattle.xs_tree.specs.ProgramTree.{Text, DeclaredTree, boolean, range, members, instance, Path, Formula, ProgramTree, ModuleTree}
 use Rattle.xs_tree.specs.Scope.{Place, Key, define_key, a_variable, Meaning, a_variable_at, an_expression_at, an_instance_at, a_symbol, Means, kind_declared, kind_at, module_at, find_module}
 use Rattle.xs_tree.specs.Trace.{Each, IsVariable}
-use Rattle.xs_flattening.specs.Items.{Visit, visits, variable_declared, variables_of}
-use Rattle.xs_flattening.specs.Looks.{MeansNothing, MeetsLoop}
-use Rattle.xs_flattening.specs.Rules.{MeansInput, IsWalkable, is_input_kind}
-use Rattle.xs_flattening.specs.Model.{Root, roots_of, keys_of_meaning}
-use Rattle.xs_flattening.proofs.Conditions.{each_at, each_join}
-use Rattle.xs_flattening.proofs.LookLaws.{meets_loop_nothing}
-use Rattle.xs_flattening.proofs.Places.{Real, has_main}
-use Rattle.xs_flattening.proofs.Resolving.{same_meaning}
-use Rattle.xs_flattening.proofs.Walkable.{main_is_there}
-use Rattle.xs_scope.specs.declared.model.Role.{Role}
-use Rattle.xs_scope.specs.declared.model.Role.TheVariants.{State, Input, Frozen}
+use Rattle.xs_flat_laws.specs.Items.{Visit, visits, variable_declared, variables_of}
+use Rattle.xs_flat_laws.specs.Looks.{MeansNothing, MeetsLoop}
+use Rattle.xs_flat_laws.specs.Rules.{MeansInput, IsWalkable, is_input_kind}
+use Rattle.xs_flat_laws.specs.Model.{Root, roots_of, keys_of_meaning}
+use Rattle.xs_flat_laws.proofs.Conditions.{each_at, each_join}
+use Rattle.xs_flat_laws.proofs.LookLaws.{meets_loop_nothing}
+use Rattle.xs_flat_laws.proofs.Places.{Real, has_main}
+use Rattle.xs_flat_laws.proofs.Resolving.{same_meaning}
+use Rattle.xs_flat_laws.proofs.Walkable.{main_is_there}
+use Rattle.xs_tree.specs.declared.model.Role.{Role}
+use Rattle.xs_tree.specs.declared.model.Role.TheVariants.{State, Input, Frozen}
 use Rattle.xs_scope.specs.declared.walk.Meaning.{Meaning as Found}
 use Rattle.xs_scope.specs.declared.walk.Meaning.TheVariants as found
-use Rattle.xs_scope.specs.ModelTree.{role_of}
+use Rattle.xs_tree.specs.ModelTree.{role_of}
 use Rattle.xs_scope.specs.SceneTree.{Denotes, IsFound}
 use Rattle.xs_scope.specs.NeedsTree.{keys_of, IsKeyAt}
 use Rattle.xs_scope.specs.Links.{Has}

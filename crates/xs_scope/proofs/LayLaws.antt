@@ -2,7 +2,7 @@
 use Rattle.std.proofs.Common.{◌≡◌, ℕ, zero, suc, ◌+◌, ◌<◌, arith, Bool, true, false, List, [], ◌∷◌, ◌++◌, length, set, replicate, refl, ap, ◌∙◌, sym, subst, ◌⊎◌, inl, inr}
 use Rattle.std.proofs.lemmas.List.{length-replicate, length-set}
 use Rattle.xs_tree.specs.Trace.{Each}
-use Rattle.xs_flattening.proofs.Conditions.{each_join}
+use Rattle.xs_flat_laws.proofs.Conditions.{each_join}
 use Rattle.xs_scope.specs.declared.needs.Mark.{Mark}
 use Rattle.xs_scope.specs.declared.needs.Mark.TheVariants.{Unmet, Begun, Ended}
 use Rattle.xs_scope.specs.declared.needs.Task.{Task}

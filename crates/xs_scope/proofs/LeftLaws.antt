@@ -4,7 +4,7 @@ use Rattle.std.proofs.lemmas.Bool.{cases_lt}
 use Rattle.std.proofs.lemmas.List.{length-append, length-map}
 use Rattle.std.specs.Prelude.{slice_get}
 use Rattle.xs_tree.specs.Trace.{Each}
-use Rattle.xs_flattening.proofs.Lists.{get_within}
+use Rattle.xs_flat_laws.proofs.Lists.{get_within}
 use Rattle.xs_scope.specs.declared.needs.Mark.{Mark}
 use Rattle.xs_scope.specs.declared.needs.Mark.TheVariants.{Unmet, Begun, Ended}
 use Rattle.xs_scope.specs.declared.needs.Task.{Task}

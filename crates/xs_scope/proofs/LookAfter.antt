@@ -3,10 +3,10 @@ use Rattle.std.proofs.Common.{◌≡◌, ℕ, zero, suc, ◌+◌, ◌-◌, ◌<�
 use Rattle.std.proofs.lemmas.Bool.{ltb-true, ltb-false}
 use Rattle.xs_tree.specs.ProgramTree.{Text, Path, ProgramTree}
 use Rattle.xs_tree.specs.Scope.{Place, Meaning, an_instance_at, means_in, Means}
-use Rattle.xs_flattening.specs.Looks.{Look, look_after, ComesBack, MeetsLoop}
-use Rattle.xs_flattening.proofs.LookLaws.{after_means, after_longer, meets_loop_nothing}
-use Rattle.xs_flattening.proofs.EndLaws.{steps_more}
-use Rattle.xs_flattening.proofs.Resolving.{means_on, same_meaning}
+use Rattle.xs_flat_laws.specs.Looks.{Look, look_after, ComesBack, MeetsLoop}
+use Rattle.xs_flat_laws.proofs.LookLaws.{after_means, after_longer, meets_loop_nothing}
+use Rattle.xs_flat_laws.proofs.EndLaws.{steps_more}
+use Rattle.xs_flat_laws.proofs.Resolving.{means_on, same_meaning}
 use Rattle.xs_scope.specs.SceneTree.{Denotes, IsFound}
 use Rattle.xs_scope.specs.Known.{IsOpenAt, ShutAt, Shut, ShutBeyond}
 use Rattle.xs_scope.specs.declared.walk.Meaning.{Meaning as Found}

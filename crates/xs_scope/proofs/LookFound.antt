@@ -3,13 +3,13 @@ use Rattle.std.proofs.Common.{◌≡◌, ℕ, zero, suc, ◌+◌, [], ◌∷◌,
 use Rattle.std.specs.Prelude.{slice_get}
 use Rattle.xs_tree.specs.ProgramTree.{Text, Path, ProgramTree}
 use Rattle.xs_tree.specs.Scope.{Place, Meaning, a_variable_at, an_expression_at, an_instance_at, a_symbol, means_in, Means}
-use Rattle.xs_flattening.specs.Flat.{FlatInstance}
-use Rattle.xs_flattening.specs.Items.{instances_of}
-use Rattle.xs_flattening.specs.Looks.{Look, look_after, step_on, ComesBack, MeetsLoop, MeansNothing}
-use Rattle.xs_flattening.proofs.LookLaws.{after_longer, meets_loop_nothing}
-use Rattle.xs_flattening.proofs.EndLaws.{steps_more}
-use Rattle.xs_flattening.proofs.Resolving.{same_meaning}
-use Rattle.xs_flattening.proofs.Through.{Through, through, through_back}
+use Rattle.xs_tree.specs.Flat.{FlatInstance}
+use Rattle.xs_flat_laws.specs.Items.{instances_of}
+use Rattle.xs_flat_laws.specs.Looks.{Look, look_after, step_on, ComesBack, MeetsLoop, MeansNothing}
+use Rattle.xs_flat_laws.proofs.LookLaws.{after_longer, meets_loop_nothing}
+use Rattle.xs_flat_laws.proofs.EndLaws.{steps_more}
+use Rattle.xs_flat_laws.proofs.Resolving.{same_meaning}
+use Rattle.xs_flat_laws.proofs.Through.{Through, through, through_back}
 use Rattle.xs_scope.specs.SceneTree.{Denotes, IsFound}
 use Rattle.xs_scope.specs.FoundAt.{found_inside}
 use Rattle.xs_scope.specs.declared.walk.Meaning.{Meaning as Found}

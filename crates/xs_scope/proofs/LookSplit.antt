@@ -3,9 +3,9 @@ use Rattle.std.proofs.Common.{◌≡◌, ℕ, zero, suc, ◌+◌, ◌≤◌, ari
 use Rattle.std.specs.Prelude.{if◌then◌else◌}
 use Rattle.xs_tree.specs.ProgramTree.{Text, Path, Formula, ProgramTree}
 use Rattle.xs_tree.specs.Scope.{Place, Key, actual_key, Kind, a_formal, a_variable, a_define, an_instance, undeclared, an_instance_at, a_symbol, LookUp, plain_name, through_plain, through_actual, by_kind, kind_at, module_at, actual_of_kind, means_in, is_symbol, Means}
-use Rattle.xs_flattening.specs.Looks.{Look, at_actual, plain_of, step_kind, step_of, step_on, look_after}
-use Rattle.xs_flattening.proofs.LookLaws.{step_means, after_means, after_longer, step_some}
-use Rattle.xs_flattening.proofs.EndLaws.{steps_more}
+use Rattle.xs_flat_laws.specs.Looks.{Look, at_actual, plain_of, step_kind, step_of, step_on, look_after}
+use Rattle.xs_flat_laws.proofs.LookLaws.{step_means, after_means, after_longer, step_some}
+use Rattle.xs_flat_laws.proofs.EndLaws.{steps_more}
 
 pub never : {A B : Type 0} (x : A) → None ≡ Some x → B
 never x e = absurd (bad e)

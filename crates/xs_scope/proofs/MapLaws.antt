@@ -11,7 +11,7 @@ use Rattle.xs_tree.specs.Texts.{same_text, is_among}
 use Rattle.xs_scope.specs.FoundAt.{entry_of}
 use Rattle.xs_scope.specs.Reading.{texts_of}
 use Rattle.xs_scope.specs.SceneTree.{named}
-use Rattle.xs_scope.proofs.SymbolLaws.{same_bytes}
+use Rattle.xs_tree.proofs.BorrowedTexts.{same_bytes}
 
 -- borrowed texts are told apart by their bytes
 abbrev pub same_key : Bor (List ℕ) → Bor (List ℕ) → Bool

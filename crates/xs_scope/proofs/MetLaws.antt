@@ -10,14 +10,14 @@ use Rattle.xs_tree.specs.declared.program.Declared.TheVariants as declared
 use Rattle.xs_tree.specs.Scope.{Place, Role, find_module}
 use Rattle.xs_tree.specs.Texts.{same_text, is_among}
 use Rattle.xs_tree.specs.Written.{tree_of}
-use Rattle.xs_flattening.specs.Flat.{FlatVariable}
-use Rattle.xs_flattening.specs.Items.{Item as ItemOf, a_declaration, Visit}
-use Rattle.xs_flattening.specs.Model.{EachBoth}
-use Rattle.xs_flattening.proofs.Lists.{get_within}
+use Rattle.xs_tree.specs.Flat.{FlatVariable}
+use Rattle.xs_flat_laws.specs.Items.{Item as ItemOf, a_declaration, Visit}
+use Rattle.xs_flat_laws.specs.Model.{EachBoth}
+use Rattle.xs_flat_laws.proofs.Lists.{get_within}
 use Rattle.xs_scope.specs.declared.items.Item.{Item}
 use Rattle.xs_scope.specs.declared.items.Item.TheVariants as code
-use Rattle.xs_scope.specs.declared.model.Variable.{Variable}
-use Rattle.xs_scope.specs.declared.model.Role.{Role as RoleWord}
+use Rattle.xs_tree.specs.declared.model.Variable.{Variable}
+use Rattle.xs_tree.specs.declared.model.Role.{Role as RoleWord}
 use Rattle.xs_scope.specs.declared.modules.Modules.{Modules}
 use Rattle.xs_scope.specs.declared.modules.Names.{Names}
 use Rattle.xs_scope.specs.declared.walk.Meaning.TheVariants as found
@@ -25,7 +25,7 @@ use Rattle.xs_scope.specs.declared.walk.Spot.{Spot}
 use Rattle.xs_scope.specs.declared.walk.Walk.{Walk}
 use Rattle.xs_scope.specs.Closed.{is_instance}
 use Rattle.xs_scope.specs.ItemTree.{item_tree}
-use Rattle.xs_scope.specs.ModelTree.{role_of, place_of, variable_tree}
+use Rattle.xs_tree.specs.ModelTree.{role_of, place_of, variable_tree}
 use Rattle.xs_scope.specs.Reading.{told_first, IsModuleAt}
 use Rattle.xs_scope.specs.Walking.{Call, calls_in, variables_in, instance_told, visits_told, walk_from, program_in, name_in, name_at, IsCaller, IsEntry, IsModuleOf, IsStanding, call_of, calls_of, variables_of_walk, on_path_of, place_of_spot, place_at, visits_at, visits_within, told_from, IsVariableIn, IsOwnIn, IsSpotOf, IsDeclaredIn, HasWalked, HasMet, HasEntered}
 use Rattle.xs_scope.proofs.EnterLaws.{get_here}

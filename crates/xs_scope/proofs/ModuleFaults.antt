@@ -7,16 +7,16 @@ use Rattle.xs_tree.specs.Scope.{find_module}
 use Rattle.xs_tree.specs.Texts.{same_text, is_among}
 use Rattle.xs_tree.proofs.ValueLaws.{same_text_refl}
 use Rattle.xs_tree.specs.Trace.{Each}
-use Rattle.xs_flattening.specs.Items.{Item as ItemOf, items_of, NumberedItem, numbered_from, NumberedModule, modules_from, numbered_items, visits}
-use Rattle.xs_flattening.specs.Rules.{Rule, no_main, main_has_parameters, double_module, double_name, no_such_module, wrong_count, module_loop, no_such_name, not_a_target, double_assign, define_loop, next_here, input_here, too_many, number_of, Site, item_of, the_program, a_header, an_item, module_sites, visit_sites, use_sites, has_formals, has_twice, is_module_among, is_missing, names_of_item, is_name_again, Breaks, IsKept, IsFirstBroken}
-use Rattle.xs_flattening.proofs.FaultLaws.{IsLowest, IsFirstOf, Outcome, first_broken, in_part, after_part}
+use Rattle.xs_flat_laws.specs.Items.{Item as ItemOf, items_of, NumberedItem, numbered_from, NumberedModule, modules_from, numbered_items, visits}
+use Rattle.xs_flat_laws.specs.Rules.{Rule, no_main, main_has_parameters, double_module, double_name, no_such_module, wrong_count, module_loop, no_such_name, not_a_target, double_assign, define_loop, next_here, input_here, too_many, number_of, Site, item_of, the_program, a_header, an_item, module_sites, visit_sites, use_sites, has_formals, has_twice, is_module_among, is_missing, names_of_item, is_name_again, Breaks, IsKept, IsFirstBroken}
+use Rattle.xs_flat_laws.proofs.FaultLaws.{IsLowest, IsFirstOf, Outcome, first_broken, in_part, after_part}
 use Rattle.xs_scope.specs.declared.fault.FlatFault.{FlatFault}
 use Rattle.xs_scope.specs.Faults.{rule_of, IsFaultOf}
 use Rattle.xs_scope.specs.ItemTree.{counted_from}
 use Rattle.xs_scope.specs.Reading.{Told, told_if, told_first, IsTold, formals_told, items_told, header_told, module_told, modules_told}
 use Rattle.xs_scope.specs.SceneTree.{module_from}
 use Rattle.xs_scope.proofs.MainLaws.{nowhere}
-use Rattle.xs_flattening.proofs.HistoryTraces.{or_false}
+use Rattle.xs_flat_laws.proofs.HistoryTraces.{or_false}
 use Rattle.xs_tree.proofs.OneTree.{same_text_equal}
 
 -- what is told of a part, or else of the part after it

@@ -4,8 +4,8 @@ use Rattle.std.specs.Prelude.{slice_get}
 use Rattle.xs_tree.specs.ProgramTree.{Text, ModuleTree}
 use Rattle.xs_tree.specs.Texts.{same_text}
 use Rattle.xs_tree.specs.Scope.{undeclared, formal_from, kind_after_formals, kind_in}
-use Rattle.xs_flattening.specs.Items.{Item, a_declaration, a_definition, an_assignment, some_constants, an_init, an_invar, a_trans, items_of}
-use Rattle.xs_flattening.proofs.KindLaws.{kind_of_item, kind_in_items, sections_kind}
+use Rattle.xs_flat_laws.specs.Items.{Item, a_declaration, a_definition, an_assignment, some_constants, an_init, an_invar, a_trans, items_of}
+use Rattle.xs_flat_laws.proofs.KindLaws.{kind_of_item, kind_in_items, sections_kind}
 use Rattle.xs_scope.specs.SceneTree.{gives_name, item_from, local_after, local_of, formal_entries, item_entries, local_entries}
 use Rattle.xs_scope.specs.FoundAt.{entry_of}
 use Rattle.xs_scope.specs.declared.modules.Local.{Local}

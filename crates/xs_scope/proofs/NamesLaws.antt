@@ -1,7 +1,7 @@
 -- The names of a module, formals first, then items.
 use Rattle.std.proofs.Common.{◌≡◌, ℕ, suc, List, [], ◌∷◌, ◌++◌, map, None, refl, ap, ◌∙◌, sym}
 use Rattle.xs_tree.specs.ProgramTree.{Text, ModuleTree}
-use Rattle.xs_flattening.specs.Items.{Item as ItemOf, items_of}
+use Rattle.xs_flat_laws.specs.Items.{Item as ItemOf, items_of}
 use Rattle.xs_scope.specs.declared.fault.FlatFault.{FlatFault}
 use Rattle.xs_scope.specs.declared.items.Numbered.{Numbered}
 use Rattle.xs_scope.specs.declared.modules.Local.{Local}

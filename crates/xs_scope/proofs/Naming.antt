@@ -8,12 +8,12 @@ use Rattle.xs_tree.specs.ProgramTree.{Text, Path, Formula, ProgramTree, program_
 use Rattle.xs_tree.specs.Written.{tree_of}
 use Rattle.xs_tree.specs.Scope.{Place, a_formal, actual_key, Meaning, an_expression_at, plain_name, through_plain, through_actual, by_kind, kind_at, module_at, actual_of_kind, means_in, Means}
 use Rattle.xs_tree.specs.Trace.{Each}
-use Rattle.xs_flattening.specs.Flat.{FlatInstance}
-use Rattle.xs_flattening.specs.Items.{instances_of}
-use Rattle.xs_flattening.specs.Looks.{Look, at_actual, plain_of, step_kind, step_of, step_on, look_after, ComesBack}
-use Rattle.xs_flattening.specs.Rules.{IsWalkable, expression_of, expression_in}
-use Rattle.xs_flattening.specs.Model.{EachBoth, Root, root_of_actual, roots_of}
-use Rattle.xs_flattening.proofs.LookLaws.{comes_back_nothing}
+use Rattle.xs_tree.specs.Flat.{FlatInstance}
+use Rattle.xs_flat_laws.specs.Items.{instances_of}
+use Rattle.xs_flat_laws.specs.Looks.{Look, at_actual, plain_of, step_kind, step_of, step_on, look_after, ComesBack}
+use Rattle.xs_flat_laws.specs.Rules.{IsWalkable, expression_of, expression_in}
+use Rattle.xs_flat_laws.specs.Model.{EachBoth, Root, root_of_actual, roots_of}
+use Rattle.xs_flat_laws.proofs.LookLaws.{comes_back_nothing}
 use Rattle.xs_scope.specs.SceneTree.{AreModules, Denotes, IsKnown, IsDefined, program_of}
 use Rattle.xs_scope.specs.Known.{rows, rows_with, formal_of, IsHead, IsOpen, IsTold, ShutAt, ShutBeyond, AreTold, IsActualTold, IsSameButFormals}
 use Rattle.xs_scope.specs.Laid.{IsLaidSpot, IsLaid, IsLeft, IsNaming, IsSameProgram, IsActualAt, NamesActual}
@@ -31,10 +31,10 @@ use Rattle.xs_scope.proofs.SceneItems.{both_length}
 use Rattle.xs_scope.proofs.Told.{told_one, answered_one, in_row, told_there}
 use Rattle.xs_scope.proofs.Work.{settled_with}
 use Rattle.xs_scope.proofs.HeadKinds.{head_kind}
-use Rattle.xs_flattening.proofs.Conditions.{each_join}
-use Rattle.xs_flattening.proofs.KeysApart.{one_number}
-use Rattle.xs_flattening.proofs.KindLaws.{joined_more}
-use Rattle.xs_flattening.proofs.Lists.{each_more}
+use Rattle.xs_flat_laws.proofs.Conditions.{each_join}
+use Rattle.xs_flat_laws.proofs.KeysApart.{one_number}
+use Rattle.xs_flat_laws.proofs.KindLaws.{joined_more}
+use Rattle.xs_flat_laws.proofs.Lists.{each_more}
 
 pub both_push : {A B : Type 0} (R : A → B → Type 0) (xs : List A) (ys : List B) (x : A) (y : B) → EachBoth R xs ys → R x y → EachBoth R (xs ++ x ∷ []) (ys ++ y ∷ [])
 both_push R [] [] x y h r = (r, tt)

@@ -11,19 +11,19 @@ use Rattle.xs_tree.specs.declared.program.Define.{Define}
 use Rattle.xs_tree.specs.ProgramTree.{Text, Path, Formula, instance, DeclTree, DefineTree, ProgramTree}
 use Rattle.xs_tree.specs.Written.{tree_of}
 use Rattle.xs_tree.specs.Scope.{Place, Role, kind_declared, a_define, define_key, actual_key, an_instance_at, plain_name, kind_at, module_at, actual_of_kind}
-use Rattle.xs_flattening.specs.Flat.{FlatInstance}
-use Rattle.xs_flattening.specs.Items.{Item as ItemOf, a_declaration, a_definition, an_assignment, some_constants, an_init, an_invar, a_trans, NumberedItem, items_named, instances_of}
-use Rattle.xs_flattening.specs.Rules.{IsWalkable, expression_of, expression_of_kind}
-use Rattle.xs_flattening.specs.Model.{EachBoth, Root, root_of_actual, roots_of_actuals, roots_of_type, roots_of_item, roots_of, symbols_of}
-use Rattle.xs_flattening.proofs.Variables.{both_at, both_at_second}
+use Rattle.xs_tree.specs.Flat.{FlatInstance}
+use Rattle.xs_flat_laws.specs.Items.{Item as ItemOf, a_declaration, a_definition, an_assignment, some_constants, an_init, an_invar, a_trans, NumberedItem, items_named, instances_of}
+use Rattle.xs_flat_laws.specs.Rules.{IsWalkable, expression_of, expression_of_kind}
+use Rattle.xs_flat_laws.specs.Model.{EachBoth, Root, root_of_actual, roots_of_actuals, roots_of_type, roots_of_item, roots_of, symbols_of}
+use Rattle.xs_flat_laws.proofs.Variables.{both_at, both_at_second}
 use Rattle.xs_scope.specs.ItemTree.{item_tree, numbered_tree}
-use Rattle.xs_scope.specs.Symbols.{texts}
+use Rattle.xs_tree.specs.BorrowedTexts.{texts}
 use Rattle.xs_scope.specs.SceneTree.{AreModules, IsPlaced, IsSet, Denotes, IsOwn, IsWalked, IsSpotWalked, IsSpot, IsDefined, meaning_of_declared, number_and_item, program_of}
 use Rattle.xs_scope.specs.FoundAt.{own_at, own_in, found_or}
 use Rattle.xs_scope.specs.Steps.{numbered_at, count_in}
 use Rattle.xs_scope.specs.Known.{rows_of, rows, AreTold}
 use Rattle.xs_scope.specs.Laid.{IsLaidSpot, IsLaid, IsNaming, IsSameProgram, IsActualAt, NamesActual, IsItemAt, NamesDeclared, AreActualsAt, NamesActuals, NamesItem, roots_at, NamesItems, with_own_in, with_own, IsSpotBy, IsNamedTo}
-use Rattle.xs_scope.specs.declared.model.Role.{Role as Role'}
+use Rattle.xs_tree.specs.declared.model.Role.{Role as Role'}
 use Rattle.xs_scope.specs.declared.items.Item.{Item}
 use Rattle.xs_scope.specs.declared.items.Item.TheVariants as code
 use Rattle.xs_scope.specs.declared.items.Numbered.{Numbered}
@@ -36,7 +36,7 @@ use Rattle.xs_scope.specs.declared.names.Scene.{Scene}
 use Rattle.xs_scope.proofs.LookSplit.{never, of_some}
 use Rattle.xs_scope.proofs.SceneItems.{both_length, item_listed, get_map}
 use Rattle.xs_scope.proofs.RowLaws.{get_there}
-use Rattle.xs_scope.proofs.Told.{set_get, set_own}
+use Rattle.xs_flat_laws.proofs.OneOfTwo.{set_get, set_own}
 use Rattle.xs_scope.proofs.HeadKinds.{definition_kind, declaration_kind}
 use Rattle.xs_scope.proofs.Naming.{both_push, program_same, naming_at, naming_pushed, left_number}
 use Rattle.xs_scope.proofs.Frames.{actual_there}

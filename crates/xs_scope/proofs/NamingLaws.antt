@@ -3,7 +3,7 @@ use Rattle.std.proofs.Common.{◌≡◌, ℕ, ◌≤◌, Bool, false, ◌||◌, 
 use Rattle.std.proofs.lemmas.List.{append-nil, drop_all}
 use Rattle.xs_tree.specs.ProgramTree.{Path, Formula}
 use Rattle.xs_tree.specs.Trace.{Each}
-use Rattle.xs_flattening.specs.Resolved.{leaves_in}
+use Rattle.xs_flat_laws.specs.Resolved.{leaves_in}
 use Rattle.xs_scope.specs.declared.names.Scene.{Scene}
 use Rattle.xs_scope.specs.Flagged.{flagged}
 use Rattle.xs_scope.specs.Naming.{needs_in, reads_in, first_names, IsFoundAt}

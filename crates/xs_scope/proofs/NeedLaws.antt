@@ -6,13 +6,13 @@ use Rattle.xs_tree.specs.ProgramTree.{Path, Formula, ProgramTree}
 use Rattle.xs_tree.specs.Scope.{Place, Key, Meaning, a_variable_at, an_expression_at, an_instance_at, a_symbol, Means}
 use Rattle.xs_tree.specs.Trace.{Each, AtSome}
 use Rattle.xs_tree.specs.Written.{tree_of}
-use Rattle.xs_flattening.specs.Flat.{FlatInstance}
-use Rattle.xs_flattening.specs.Items.{instances_of}
-use Rattle.xs_flattening.specs.Resolved.{leaves_in}
-use Rattle.xs_flattening.specs.Rules.{Needs, Leads, NeedsItself, MeansInput, IsWalkable, expression_of}
-use Rattle.xs_flattening.specs.Model.{Root, roots_of, AreNamed}
-use Rattle.xs_flattening.proofs.Conditions.{each_at}
-use Rattle.xs_flattening.proofs.Variables.{both_at}
+use Rattle.xs_tree.specs.Flat.{FlatInstance}
+use Rattle.xs_flat_laws.specs.Items.{instances_of}
+use Rattle.xs_flat_laws.specs.Resolved.{leaves_in}
+use Rattle.xs_flat_laws.specs.Rules.{Needs, Leads, NeedsItself, MeansInput, IsWalkable, expression_of}
+use Rattle.xs_flat_laws.specs.Model.{Root, roots_of, AreNamed}
+use Rattle.xs_flat_laws.proofs.Conditions.{each_at}
+use Rattle.xs_flat_laws.proofs.Variables.{both_at}
 use Rattle.xs_scope.specs.declared.walk.Meaning.{Meaning as Found}
 use Rattle.xs_scope.specs.declared.walk.Meaning.TheVariants as found
 use Rattle.xs_scope.specs.declared.names.Defined.{Defined}

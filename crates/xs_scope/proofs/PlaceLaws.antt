@@ -8,7 +8,7 @@ use Rattle.xs_tree.specs.ProgramTree.{Text, Path}
 use Rattle.xs_scope.specs.declared.walk.Meaning.{Meaning as Found}
 use Rattle.xs_scope.specs.declared.walk.Spot.{Spot}
 use Rattle.xs_scope.specs.declared.walk.Walk.{Walk}
-use Rattle.xs_scope.specs.ModelTree.{place_of}
+use Rattle.xs_tree.specs.ModelTree.{place_of}
 use Rattle.xs_scope.specs.Walking.{place_of_spot, place_at, own_of, with_own}
 
 place_found : (w : Walk) (k : ℕ) (spot : Spot) → k < length w.spots.items → spot ≡ get_or w.spots.items k spot → place_at w k ≡ place_of spot.path

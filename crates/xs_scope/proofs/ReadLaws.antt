@@ -4,9 +4,9 @@ use Rattle.std.proofs.lemmas.List.{append-nil, append_assoc, map-append, length-
 use Rattle.xs_tree.specs.declared.program.Module.{Module}
 use Rattle.xs_tree.specs.ProgramTree.{ModuleTree, ProgramTree, module_tree, program_tree}
 use Rattle.xs_tree.specs.Trace.{Each}
-use Rattle.xs_flattening.specs.Items.{Item as ItemOf, items_of, NumberedModule, modules_from, modules_of, numbered_from}
-use Rattle.xs_flattening.specs.Model.{EachBoth}
-use Rattle.xs_flattening.specs.Rules.{the_program, module_sites, IsKept}
+use Rattle.xs_flat_laws.specs.Items.{Item as ItemOf, items_of, NumberedModule, modules_from, modules_of, numbered_from}
+use Rattle.xs_flat_laws.specs.Model.{EachBoth}
+use Rattle.xs_flat_laws.specs.Rules.{the_program, module_sites, IsKept}
 use Rattle.xs_scope.specs.declared.fault.FlatFault.{FlatFault}
 use Rattle.xs_scope.specs.declared.modules.Names.{Names}
 use Rattle.xs_scope.specs.declared.modules.Modules.{Modules}

@@ -6,19 +6,19 @@ use Rattle.xs_tree.specs.Texts.{same_text, is_among}
 use Rattle.xs_tree.specs.ProgramTree.{Text, Path, Formula, DeclaredTree, boolean, range, members, instance, ModuleTree, ProgramTree}
 use Rattle.xs_tree.specs.Scope.{Place, Key, define_key, actual_key, plain_name, find_module}
 use Rattle.xs_tree.specs.Trace.{Each}
-use Rattle.xs_flattening.specs.Flat.{FlatInstance}
-use Rattle.xs_flattening.specs.Items.{Item, a_declaration, a_definition, an_assignment, some_constants, an_init, an_invar, a_trans, NumberedItem, numbered_from, modules_from, items_found, items_named, items_of, Visit, visits, instance_declared, instances_of_visit, instances_of}
-use Rattle.xs_flattening.specs.Rules.{names_of_item, is_name_again, IsWalkable}
-use Rattle.xs_flattening.specs.Model.{Root, root_of_actual, roots_of_actuals, roots_of_type, roots_of_item, roots_of}
-use Rattle.xs_flattening.proofs.Apart.{Differ, Apart, visits_apart, among_right}
-use Rattle.xs_flattening.proofs.Conditions.{each_join, each_at}
-use Rattle.xs_flattening.proofs.KindLaws.{ItemFacts}
-use Rattle.xs_flattening.proofs.Lists.{each_more}
-use Rattle.xs_flattening.proofs.Places.{facts_named}
-use Rattle.xs_flattening.proofs.Walkable.{main_is_there}
+use Rattle.xs_tree.specs.Flat.{FlatInstance}
+use Rattle.xs_flat_laws.specs.Items.{Item, a_declaration, a_definition, an_assignment, some_constants, an_init, an_invar, a_trans, NumberedItem, numbered_from, modules_from, items_found, items_named, items_of, Visit, visits, instance_declared, instances_of_visit, instances_of}
+use Rattle.xs_flat_laws.specs.Rules.{names_of_item, is_name_again, IsWalkable}
+use Rattle.xs_flat_laws.specs.Model.{Root, root_of_actual, roots_of_actuals, roots_of_type, roots_of_item, roots_of}
+use Rattle.xs_flat_laws.proofs.Apart.{Differ, Apart, visits_apart, among_right}
+use Rattle.xs_flat_laws.proofs.Conditions.{each_join, each_at}
+use Rattle.xs_flat_laws.proofs.KindLaws.{ItemFacts}
+use Rattle.xs_flat_laws.proofs.Lists.{each_more}
+use Rattle.xs_flat_laws.proofs.Places.{facts_named}
+use Rattle.xs_flat_laws.proofs.Walkable.{main_is_there}
 use Rattle.xs_scope.specs.NeedsTree.{keys_of}
 use Rattle.xs_scope.proofs.KeyLaws.{map_get}
-use Rattle.xs_flattening.proofs.KeysApart.{among_left}
+use Rattle.xs_flat_laws.proofs.KeysApart.{among_left}
 
 abbrev OtherKey : Root → Root → Type 0
 OtherKey a b = a.key ≡ b.key → ⊥

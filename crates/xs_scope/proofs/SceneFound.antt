@@ -7,17 +7,17 @@ use Rattle.std.specs.declared.alloc.Global.{Global}
 use Rattle.xs_tree.specs.ProgramTree.{Text, Path, DeclaredTree, boolean, range, members, instance, ModuleTree, ProgramTree}
 use Rattle.xs_tree.specs.Scope.{Place, Role, Kind, kind_declared, undeclared, define_key, Meaning, an_expression_at, a_symbol, by_kind, means_in, Means, is_symbol, find_module, formal_from, kind_at, module_at, kind_after_formals}
 use Rattle.xs_tree.specs.Trace.{IsInstance}
-use Rattle.xs_flattening.specs.Flat.{FlatInstance}
-use Rattle.xs_flattening.specs.Items.{Item, a_declaration, a_definition, an_assignment, some_constants, an_init, an_invar, a_trans, NumberedItem, items_of, items_named, modules_of, instances_of}
-use Rattle.xs_flattening.specs.Looks.{step_kind, MeansNothing}
-use Rattle.xs_flattening.specs.Model.{symbols_of}
-use Rattle.xs_flattening.proofs.EndLaws.{ended_meets_none}
-use Rattle.xs_flattening.proofs.KindLaws.{kind_of_item, kind_in_items}
-use Rattle.xs_flattening.proofs.Places.{found_at as item_there, are_instances}
-use Rattle.xs_flattening.proofs.Sections.{AreInstances}
-use Rattle.xs_flattening.proofs.Variables.{both_at}
-use Rattle.xs_flattening.proofs.Walkable.{main_is_there}
-use Rattle.xs_scope.specs.Symbols.{texts}
+use Rattle.xs_tree.specs.Flat.{FlatInstance}
+use Rattle.xs_flat_laws.specs.Items.{Item, a_declaration, a_definition, an_assignment, some_constants, an_init, an_invar, a_trans, NumberedItem, items_of, items_named, modules_of, instances_of}
+use Rattle.xs_flat_laws.specs.Looks.{step_kind, MeansNothing}
+use Rattle.xs_flat_laws.specs.Model.{symbols_of}
+use Rattle.xs_flat_laws.proofs.EndLaws.{ended_meets_none}
+use Rattle.xs_flat_laws.proofs.KindLaws.{kind_of_item, kind_in_items}
+use Rattle.xs_flat_laws.proofs.Places.{found_at as item_there, are_instances}
+use Rattle.xs_flat_laws.proofs.Sections.{AreInstances}
+use Rattle.xs_flat_laws.proofs.Variables.{both_at}
+use Rattle.xs_flat_laws.proofs.Walkable.{main_is_there}
+use Rattle.xs_tree.specs.BorrowedTexts.{texts}
 use Rattle.xs_scope.specs.SceneTree.{gives_name, item_from, local_after, local_of, HasNames, Denotes, IsFound, meaning_of_declared, meaning_of_item, IsOwnMeaning, IsOwn, IsSpot, IsKnown, formals_of, AreKnown, program_of, IsSet, IsScene}
 use Rattle.xs_scope.specs.FoundAt.{entry_of, place_from, names_of_spot, local_in, local_at, found_or, own_in, own_at, formal_or, formal_in, formal_at, told, symbol_or, symbol_at, by_local, part_at, found_inside}
 use Rattle.xs_scope.specs.FoundAt as tables

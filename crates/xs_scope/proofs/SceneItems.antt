@@ -1,10 +1,10 @@
 -- The items of an instance are those of its module.
 use Rattle.std.proofs.Common.{◌≡◌, ℕ, zero, suc, List, [], ◌∷◌, length, map, Option, Some, None, refl, sym, ◌∙◌, ap}
 use Rattle.std.specs.Prelude.{slice_get, option_map}
-use Rattle.xs_flattening.specs.Flat.{FlatInstance}
-use Rattle.xs_flattening.specs.Items.{items_named, modules_of, numbered_items, instances_of}
-use Rattle.xs_flattening.specs.Model.{EachBoth}
-use Rattle.xs_flattening.proofs.Variables.{both_at}
+use Rattle.xs_tree.specs.Flat.{FlatInstance}
+use Rattle.xs_flat_laws.specs.Items.{items_named, modules_of, numbered_items, instances_of}
+use Rattle.xs_flat_laws.specs.Model.{EachBoth}
+use Rattle.xs_flat_laws.proofs.Variables.{both_at}
 use Rattle.xs_scope.specs.ItemTree.{numbered_tree}
 use Rattle.xs_scope.specs.SceneTree.{HasNames, IsOwn, IsSpot, number_and_item, items_of_instance, items_at, program_of, IsSet}
 use Rattle.xs_scope.specs.FoundAt.{names_of_spot}

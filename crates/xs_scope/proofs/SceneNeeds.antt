@@ -6,10 +6,10 @@ use Rattle.std.specs.Prelude.{slice_get, Vec}
 use Rattle.std.specs.declared.alloc.Global.{Global}
 use Rattle.xs_tree.specs.Scope.{Key}
 use Rattle.xs_tree.specs.Trace.{Each}
-use Rattle.xs_flattening.specs.Rules.{NeedsItself}
-use Rattle.xs_flattening.specs.Model.{EachBoth, Root, roots_of, AddsAll}
-use Rattle.xs_flattening.proofs.Conditions.{each_at}
-use Rattle.xs_flattening.proofs.Lists.{get_within}
+use Rattle.xs_flat_laws.specs.Rules.{NeedsItself}
+use Rattle.xs_flat_laws.specs.Model.{EachBoth, Root, roots_of, AddsAll}
+use Rattle.xs_flat_laws.proofs.Conditions.{each_at}
+use Rattle.xs_flat_laws.proofs.Lists.{get_within}
 use Rattle.xs_scope.specs.declared.names.Scene.{Scene}
 use Rattle.xs_scope.specs.declared.needs.Links.{Links}
 use Rattle.xs_scope.specs.declared.needs.Named.{Named}

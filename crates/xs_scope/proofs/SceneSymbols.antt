@@ -2,8 +2,8 @@
 use Rattle.std.proofs.Common.{◌≡◌, ℕ, suc, ◌+◌, List, [], ◌∷◌, ◌++◌, length, map, refl, ◌∙◌, ap}
 use Rattle.std.specs.Prelude.{flat_map}
 use Rattle.xs_tree.specs.ProgramTree.{Text, ModuleTree, program_tree}
-use Rattle.xs_flattening.specs.Items.{Item, NumberedModule, items_of, numbered_from, modules_from, modules_of}
-use Rattle.xs_flattening.specs.Model.{EachBoth, symbols_of_item, first_appearances, symbols_of}
+use Rattle.xs_flat_laws.specs.Items.{Item, NumberedModule, items_of, numbered_from, modules_from, modules_of}
+use Rattle.xs_flat_laws.specs.Model.{EachBoth, symbols_of_item, first_appearances, symbols_of}
 use Rattle.xs_scope.specs.ItemTree.{numbered_tree}
 use Rattle.xs_scope.specs.Symbols.{symbols_of_numbered, symbols_in}
 use Rattle.xs_scope.specs.SceneTree.{HasNames, AreModules, number_and_item}

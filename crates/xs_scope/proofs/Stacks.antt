@@ -5,13 +5,13 @@ use Rattle.std.proofs.lemmas.Bool.{ltb-true, ltb-false}
 use Rattle.std.proofs.lemmas.List.{length-set}
 use Rattle.xs_tree.specs.ProgramTree.{Text, Path, ProgramTree}
 use Rattle.xs_tree.specs.Scope.{Place}
-use Rattle.xs_flattening.specs.Flat.{FlatInstance}
-use Rattle.xs_flattening.specs.Items.{instances_of}
-use Rattle.xs_flattening.specs.Looks.{Look, look_after, ComesBack}
-use Rattle.xs_flattening.specs.Rules.{IsWalkable}
-use Rattle.xs_flattening.specs.Model.{EachBoth}
-use Rattle.xs_flattening.proofs.LookLaws.{after_longer}
-use Rattle.xs_flattening.proofs.EndLaws.{steps_more, goes_on}
+use Rattle.xs_tree.specs.Flat.{FlatInstance}
+use Rattle.xs_flat_laws.specs.Items.{instances_of}
+use Rattle.xs_flat_laws.specs.Looks.{Look, look_after, ComesBack}
+use Rattle.xs_flat_laws.specs.Rules.{IsWalkable}
+use Rattle.xs_flat_laws.specs.Model.{EachBoth}
+use Rattle.xs_flat_laws.proofs.LookLaws.{after_longer}
+use Rattle.xs_flat_laws.proofs.EndLaws.{steps_more, goes_on}
 use Rattle.xs_scope.specs.SceneTree.{IsKnown, formals_of}
 use Rattle.xs_scope.specs.FoundAt.{formal_or}
 use Rattle.xs_scope.specs.Known.{row_or, formal_of, IsHead, IsOpen, IsOpenAt, ShutAt, Shut, IsTold, IsSized, AreTold}
@@ -22,7 +22,8 @@ use Rattle.xs_scope.specs.declared.formals.Frame.{Frame}
 use Rattle.xs_scope.proofs.LookSplit.{of_some, HasPart, with_more, named_look}
 use Rattle.xs_scope.proofs.LookFound.{same_part}
 use Rattle.xs_scope.proofs.Heads.{head_place, head_numbers}
-use Rattle.xs_scope.proofs.Told.{IsNoMoreOpen, IsChanged, changed, shut_on, told_on, still_sized, set_own}
+use Rattle.xs_scope.proofs.Told.{IsNoMoreOpen, IsChanged, changed, shut_on, told_on, still_sized}
+use Rattle.xs_flat_laws.proofs.OneOfTwo.{set_own}
 use Rattle.xs_scope.proofs.FoundModule.{get_less}
 
 module _ (p : ProgramTree) (rs rs' : List (List Formal)) (less : IsNoMoreOpen p rs rs') where

@@ -3,10 +3,10 @@ use Rattle.std.proofs.Common.{◌≡◌, ◌<◌, [], length, Vec, sym, ◌∙�
 use Rattle.std.specs.declared.alloc.Global.{Global}
 use Rattle.xs_tree.specs.ProgramTree.{ProgramTree}
 use Rattle.xs_tree.specs.Trace.{Each}
-use Rattle.xs_flattening.specs.Items.{NumberedItem, items_named, instances_of}
-use Rattle.xs_flattening.specs.Rules.{IsWalkable}
-use Rattle.xs_flattening.specs.Model.{EachBoth, symbols_of}
-use Rattle.xs_scope.specs.Symbols.{texts}
+use Rattle.xs_flat_laws.specs.Items.{NumberedItem, items_named, instances_of}
+use Rattle.xs_flat_laws.specs.Rules.{IsWalkable}
+use Rattle.xs_flat_laws.specs.Model.{EachBoth, symbols_of}
+use Rattle.xs_tree.specs.BorrowedTexts.{texts}
 use Rattle.xs_scope.specs.SceneTree.{AreModules, IsWalked, IsSpotWalked, program_of}
 use Rattle.xs_scope.specs.Known.{rows, AreTold, IsActualTold, IsSameButFormals}
 use Rattle.xs_scope.specs.Laid.{IsLaidSpot, IsLaid, IsNamedTo}

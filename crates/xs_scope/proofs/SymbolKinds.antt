@@ -6,8 +6,8 @@ use Rattle.xs_tree.specs.declared.program.Member.TheVariants as member
 use Rattle.xs_tree.specs.ProgramTree.{Text, DeclaredTree, boolean, range, members, instance, DeclTree, DefineTree, AssignmentTree, SectionTree, var, ivar, frozen, define, constants, assign, init, invar, trans, ModuleTree, ProgramTree}
 use Rattle.xs_tree.specs.Texts.{same_text, is_among}
 use Rattle.xs_tree.specs.Scope.{Role, state, input, frozen_role, is_symbol_of_members, is_symbol_of_type, is_symbol_of_decls, is_symbol_of_sections, is_symbol}
-use Rattle.xs_flattening.specs.Items.{Item, a_declaration, a_definition, an_assignment, items_of_section, items_of}
-use Rattle.xs_flattening.specs.Model.{symbols_of_members, symbols_of_type, symbols_of_item, first_appearances, symbols_of}
+use Rattle.xs_flat_laws.specs.Items.{Item, a_declaration, a_definition, an_assignment, items_of_section, items_of}
+use Rattle.xs_flat_laws.specs.Model.{symbols_of_members, symbols_of_type, symbols_of_item, first_appearances, symbols_of}
 use Rattle.xs_scope.specs.FoundAt.{place_from}
 use Rattle.xs_scope.proofs.LookSplit.{never, of_some}
 use Rattle.xs_tree.proofs.OneTree.{same_text_equal}

@@ -6,10 +6,10 @@ use Rattle.std.specs.Borrow.{Bor}
 use Rattle.std.specs.List.{position_from}
 use Rattle.std.proofs.lemmas.Iterator.Adapters.{position_from-zero}
 use Rattle.std.specs.Map.{lookup}
-use Rattle.xs_scope.specs.Symbols.{texts}
+use Rattle.xs_tree.specs.BorrowedTexts.{texts}
 use Rattle.xs_scope.specs.SceneTree.{named}
 use Rattle.xs_scope.specs.FoundAt.{entry_of, place_from}
-use Rattle.xs_scope.proofs.SymbolLaws.{same_bytes}
+use Rattle.xs_tree.proofs.BorrowedTexts.{same_bytes}
 
 pub looked_up : {V : Type 0} (x : List ℕ) (es : List (Bor (List ℕ) × V)) → lookup (λ (k : Bor (List ℕ)). pointwise nat_eq x k.now) es ≡ entry_of (named es) x
 looked_up x [] = refl

@@ -4,9 +4,9 @@ use Rattle.std.specs.Prelude.{slice_get, slice_set}
 use Rattle.std.proofs.lemmas.List.{length-set}
 use Rattle.xs_tree.specs.ProgramTree.{Text, Path, ProgramTree}
 use Rattle.xs_tree.specs.Scope.{Place}
-use Rattle.xs_flattening.specs.Flat.{FlatInstance}
-use Rattle.xs_flattening.specs.Looks.{Look, look_after}
-use Rattle.xs_flattening.specs.Rules.{IsWalkable}
+use Rattle.xs_tree.specs.Flat.{FlatInstance}
+use Rattle.xs_flat_laws.specs.Looks.{Look, look_after}
+use Rattle.xs_flat_laws.specs.Rules.{IsWalkable}
 use Rattle.xs_scope.specs.SceneTree.{IsKnown, formals_of}
 use Rattle.xs_scope.specs.FoundAt.{formal_or}
 use Rattle.xs_scope.specs.Known.{row_or, rows_with, formal_of, IsHead, IsOpen, IsOpenAt, ShutAt, Shut, ShutBeyond, IsTold, IsSized, AreTold}
@@ -16,24 +16,7 @@ use Rattle.xs_scope.specs.declared.names.Formal.TheVariants as known
 use Rattle.xs_scope.proofs.LookSplit.{of_some}
 use Rattle.xs_scope.proofs.Heads.{head_place, head_numbers}
 use Rattle.xs_scope.proofs.FoundModule.{get_less}
-
--- one element of a list is another one
-pub set_get : {A : Type 0} (xs : List A) (i j : ℕ) (v : A) → (slice_get (slice_set xs i v) j ≡ slice_get xs j) ⊎ ((j ≡ i) × (slice_get (slice_set xs i v) j ≡ Some v))
-set_get [] i j v = inl refl
-set_get (x ∷ xs) zero zero v = inr (refl, refl)
-set_get (x ∷ xs) zero (suc j) v = inl refl
-set_get (x ∷ xs) (suc i) zero v = inl refl
-set_get (x ∷ xs) (suc i) (suc j) v = by_rest (set_get xs i j v)
-  where
-    by_rest : (slice_get (slice_set xs i v) j ≡ slice_get xs j) ⊎ ((j ≡ i) × (slice_get (slice_set xs i v) j ≡ Some v)) →
-        (slice_get (slice_set (x ∷ xs) (suc i) v) (suc j) ≡ slice_get (x ∷ xs) (suc j)) ⊎ ((suc j ≡ suc i) × (slice_get (slice_set (x ∷ xs) (suc i) v) (suc j) ≡ Some v))
-    by_rest (inl e) = inl e
-    by_rest (inr e) = inr (ap suc e.0, e.1)
-
-pub set_own : {A : Type 0} (xs : List A) (i : ℕ) (v : A) → i < length xs → slice_get (slice_set xs i v) i ≡ Some v
-set_own [] i v within = absurd (omega (arith, within))
-set_own (x ∷ xs) zero v within = refl
-set_own (x ∷ xs) (suc i) v within = set_own xs i v (omega (arith, within))
+use Rattle.xs_flat_laws.proofs.OneOfTwo.{set_get, set_own}
 
 abbrev pub IsChanged : List (List Formal) → ℕ → ℕ → Formal → ℕ → ℕ → Type 0
 IsChanged rs k i f k' i' =

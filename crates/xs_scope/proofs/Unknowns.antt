@@ -6,8 +6,8 @@ use Rattle.std.proofs.lemmas.List.{map-append, length-replicate}
 use Rattle.std.proofs.lemmas.Bool.{ltb-true, ltb-false}
 use Rattle.xs_tree.specs.ProgramTree.{Text, ModuleTree}
 use Rattle.xs_tree.specs.Scope.{Place, find_module}
-use Rattle.xs_flattening.specs.Flat.{FlatInstance}
-use Rattle.xs_flattening.specs.Items.{instances_of}
+use Rattle.xs_tree.specs.Flat.{FlatInstance}
+use Rattle.xs_flat_laws.specs.Items.{instances_of}
 use Rattle.xs_scope.specs.SceneTree.{HasNames, formals_of, program_of}
 use Rattle.xs_scope.specs.FoundAt.{names_of_spot, formal_or}
 use Rattle.xs_scope.specs.Known.{rows_of, rows, row_or, formals_in, formals_at, unknown_to, formal_of, IsHead, IsTold, AreTold, IsSameButFormals}

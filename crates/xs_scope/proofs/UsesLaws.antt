@@ -4,8 +4,8 @@ use Rattle.std.proofs.lemmas.List.{append-nil, append_assoc, map-append}
 use Rattle.xs_tree.specs.Tree.{Tree, Trees, Branches, truth, number, leaf, not_of, negate, next_of, binary, choice, case_of, set_of, span, no_tree, tree_then, no_branch, branch_then}
 use Rattle.xs_tree.specs.ProgramTree.{Path}
 use Rattle.xs_tree.specs.Trace.{AtSome}
-use Rattle.xs_flattening.specs.Resolved.{leaves_in, trees_leaves, branches_leaves, has_next, trees_have_next, branches_have_next}
-use Rattle.xs_flattening.specs.Rules.{leaves_under, trees_leaves_under, branches_leaves_under, next_under_next, trees_next_under, branches_next_under}
+use Rattle.xs_flat_laws.specs.Resolved.{leaves_in, trees_leaves, branches_leaves, has_next, trees_have_next, branches_have_next}
+use Rattle.xs_flat_laws.specs.Rules.{leaves_under, trees_leaves_under, branches_leaves_under, next_under_next, trees_next_under, branches_next_under}
 use Rattle.xs_scope.specs.Flagged.{flagged, trees_flagged, branches_flagged}
 use Rattle.xs_scope.specs.Seen.{Seen, seen_after, seen_after_trees, seen_after_branches}
 use Rattle.xs_scope.proofs.SymbolKinds.{grouped}

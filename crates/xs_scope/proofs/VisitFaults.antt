@@ -5,9 +5,9 @@ use Rattle.std.proofs.lemmas.Bool.{ltb-true, lt-ltb}
 use Rattle.std.proofs.lemmas.List.{length-append}
 use Rattle.xs_tree.specs.ProgramTree.{DeclaredTree, boolean, range, members, instance, ProgramTree}
 use Rattle.xs_tree.specs.Scope.{Place}
-use Rattle.xs_flattening.specs.Items.{Visit, visits, instance_declared, variable_declared}
-use Rattle.xs_flattening.specs.Rules.{Rule, no_main, main_has_parameters, double_module, double_name, no_such_module, wrong_count, module_loop, no_such_name, not_a_target, double_assign, define_loop, next_here, input_here, too_many, number_of, Site, the_program, a_visit, module_sites, visit_sites, use_sites, is_missing_instance, is_miscounted, is_on_path, instances_before, variables_before, PassesLimit, Breaks, IsKept, IsFirstBroken, IsWalkable}
-use Rattle.xs_flattening.proofs.FaultLaws.{IsLowest, IsFirstOf, Outcome, first_broken, in_part, after_part}
+use Rattle.xs_flat_laws.specs.Items.{Visit, visits, instance_declared, variable_declared}
+use Rattle.xs_flat_laws.specs.Rules.{Rule, no_main, main_has_parameters, double_module, double_name, no_such_module, wrong_count, module_loop, no_such_name, not_a_target, double_assign, define_loop, next_here, input_here, too_many, number_of, Site, the_program, a_visit, module_sites, visit_sites, use_sites, is_missing_instance, is_miscounted, is_on_path, instances_before, variables_before, PassesLimit, Breaks, IsKept, IsFirstBroken, IsWalkable}
+use Rattle.xs_flat_laws.proofs.FaultLaws.{IsLowest, IsFirstOf, Outcome, first_broken, in_part, after_part}
 use Rattle.xs_scope.specs.declared.fault.FlatFault.{FlatFault}
 use Rattle.xs_scope.specs.declared.modules.Modules.{Modules}
 use Rattle.xs_scope.specs.Faults.{rule_of, IsFaultOf}

@@ -4,17 +4,17 @@ use Rattle.std.specs.Prelude.{slice_get, flat_map}
 use Rattle.std.proofs.lemmas.List.{append_assoc, append-nil, map-append, length-append, length-map}
 use Rattle.xs_tree.specs.ProgramTree.{Text, DeclaredTree, boolean, range, members, instance, ProgramTree}
 use Rattle.xs_tree.specs.Scope.{Place, Role}
-use Rattle.xs_flattening.specs.Flat.{FlatVariable}
-use Rattle.xs_flattening.specs.Items.{Item as ItemOf, a_declaration, a_definition, an_assignment, some_constants, an_init, an_invar, a_trans, NumberedItem, items_named, Visit, variable_declared}
-use Rattle.xs_flattening.specs.Model.{EachBoth}
-use Rattle.xs_flattening.proofs.Lists.{get_left, get_within}
+use Rattle.xs_tree.specs.Flat.{FlatVariable}
+use Rattle.xs_flat_laws.specs.Items.{Item as ItemOf, a_declaration, a_definition, an_assignment, some_constants, an_init, an_invar, a_trans, NumberedItem, items_named, Visit, variable_declared}
+use Rattle.xs_flat_laws.specs.Model.{EachBoth}
+use Rattle.xs_flat_laws.proofs.Lists.{get_left, get_within}
 use Rattle.xs_scope.specs.declared.modules.Modules.{Modules}
 use Rattle.xs_scope.specs.declared.walk.Meaning.{Meaning as Found}
 use Rattle.xs_scope.specs.declared.walk.Spot.{Spot}
 use Rattle.xs_scope.specs.declared.walk.Walk.{Walk}
-use Rattle.xs_scope.specs.ModelTree.{variable_tree}
+use Rattle.xs_tree.specs.ModelTree.{variable_tree}
 use Rattle.xs_scope.specs.Reading.{Told, told_first}
-use Rattle.xs_scope.specs.Symbols.{texts}
+use Rattle.xs_tree.specs.BorrowedTexts.{texts}
 use Rattle.xs_scope.specs.Walking.{Call, calls_declared, calls_in, variables_in, visit_told, visits_told, program_in, call_of, calls_of, variables_of_walk, on_path_of, place_of_spot, place_at, IsInstanceIn, IsVariableIn, IsDeclarationIn, IsOwnIn, IsCaller, IsSpotOf, IsDeclaredIn, HasWalked, IsPath, IsStanding}
 use Rattle.xs_scope.proofs.SceneItems.{both_length}
 

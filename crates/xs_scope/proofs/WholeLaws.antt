@@ -7,26 +7,26 @@ use Rattle.xs_tree.specs.Scope.{Place, Role, an_instance, kind_declared, kind_at
 use Rattle.xs_tree.specs.Texts.{is_among}
 use Rattle.xs_tree.specs.Trace.{Each}
 use Rattle.xs_tree.specs.Written.{tree_of}
-use Rattle.xs_flattening.specs.Flat.{FlatInstance, FlatVariable}
-use Rattle.xs_flattening.specs.Items.{Item as ItemOf, a_declaration, a_definition, an_assignment, some_constants, an_init, an_invar, a_trans, NumberedItem, items_named, Visit, walk, visits, instance_declared, instances_of_visit, instances_of, variables_of}
-use Rattle.xs_flattening.specs.Model.{EachBoth}
-use Rattle.xs_flattening.specs.Rules.{IsWalkable}
-use Rattle.xs_flattening.proofs.Conditions.{each_join}
-use Rattle.xs_flattening.proofs.Places.{Real, has_main}
-use Rattle.xs_flattening.proofs.Variables.{both_at_second}
-use Rattle.xs_flattening.proofs.Walkable.{main_is_there}
+use Rattle.xs_tree.specs.Flat.{FlatInstance, FlatVariable}
+use Rattle.xs_flat_laws.specs.Items.{Item as ItemOf, a_declaration, a_definition, an_assignment, some_constants, an_init, an_invar, a_trans, NumberedItem, items_named, Visit, walk, visits, instance_declared, instances_of_visit, instances_of, variables_of}
+use Rattle.xs_flat_laws.specs.Model.{EachBoth}
+use Rattle.xs_flat_laws.specs.Rules.{IsWalkable}
+use Rattle.xs_flat_laws.proofs.Conditions.{each_join}
+use Rattle.xs_flat_laws.proofs.Places.{Real, has_main}
+use Rattle.xs_flat_laws.proofs.Variables.{both_at_second}
+use Rattle.xs_flat_laws.proofs.Walkable.{main_is_there}
 use Rattle.xs_scope.specs.declared.fault.FlatFault.{FlatFault}
-use Rattle.xs_scope.specs.declared.model.Variable.{Variable}
+use Rattle.xs_tree.specs.declared.model.Variable.{Variable}
 use Rattle.xs_scope.specs.declared.modules.Modules.{Modules}
 use Rattle.xs_scope.specs.declared.modules.Names.{Names}
 use Rattle.xs_scope.specs.declared.walk.Meaning.{Meaning as Found}
 use Rattle.xs_scope.specs.declared.walk.Spot.{Spot}
 use Rattle.xs_scope.specs.declared.walk.Walk.{Walk}
-use Rattle.xs_scope.specs.ModelTree.{place_of, variable_tree}
+use Rattle.xs_tree.specs.ModelTree.{place_of, variable_tree}
 use Rattle.xs_scope.specs.Faults.{IsFaultOf}
 use Rattle.xs_scope.specs.Reading.{IsTold, IsModuleAt}
 use Rattle.xs_scope.specs.SceneTree.{AreModules, IsWalked, IsCalled, IsSpotWalked}
-use Rattle.xs_scope.specs.Symbols.{texts}
+use Rattle.xs_tree.specs.BorrowedTexts.{texts}
 use Rattle.xs_scope.specs.Walked.{IsDeclaredBy, IsWhole}
 use Rattle.xs_scope.specs.Walking.{Call, calls_declared, calls_in, variables_in, visits_told, walk_from, program_in, name_at, call_of, calls_of, variables_of_walk, on_path_of, visits_within, IsInstanceIn, IsVariableIn, IsDeclarationIn, IsOwnIn, IsCaller, IsSpotOf, IsDeclaredIn, HasEntered, IsPath, IsEntry}
 use Rattle.xs_scope.proofs.FoundModule.{main_at}

@@ -6,11 +6,11 @@ use Rattle.xs_tree.specs.Written.{tree_of}
 use Rattle.xs_tree.specs.declared.expr.Expr.{Expr}
 use Rattle.xs_tree.specs.declared.program.Declared.{Declared}
 use Rattle.xs_tree.specs.declared.program.Declared.TheVariants as declared
-use Rattle.xs_scope.specs.declared.model.Flat.{Flat}
-use Rattle.xs_scope.specs.declared.model.Flat.TheVariants.{Var, Symbol, Definition}
-use Rattle.xs_scope.specs.declared.model.Formula.{Formula}
-use Rattle.xs_scope.specs.declared.model.Variable.{Variable}
-use Rattle.xs_scope.specs.declared.model.FlatModel.{FlatModel}
+use Rattle.xs_tree.specs.declared.model.Flat.{Flat}
+use Rattle.xs_tree.specs.declared.model.Flat.TheVariants.{Var, Symbol, Definition}
+use Rattle.xs_tree.specs.declared.model.Formula.{Formula}
+use Rattle.xs_tree.specs.declared.model.Variable.{Variable}
+use Rattle.xs_tree.specs.declared.model.FlatModel.{FlatModel}
 use Rattle.xs_scope.specs.declared.bounds.Bounds.{Bounds}
 
 -- the name is one of so many variables, symbols or definitions

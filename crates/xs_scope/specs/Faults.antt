@@ -5,8 +5,8 @@ use Rattle.xs_scope.specs.declared.fault.Rule.TheVariants as code
 use Rattle.xs_scope.specs.declared.fault.Rule.TheVariants.{NoMain}
 use Rattle.xs_scope.specs.declared.fault.FlatFault.{FlatFault}
 use Rattle.xs_tree.specs.ProgramTree.{ProgramTree}
-use Rattle.xs_flattening.specs.Rules as rules
-use Rattle.xs_flattening.specs.Rules.{IsFirstBroken}
+use Rattle.xs_flat_laws.specs.Rules as rules
+use Rattle.xs_flat_laws.specs.Rules.{IsFirstBroken}
 
 -- the first rule of a list that is broken
 abbrev pub first_of : List (Bool × Rule) → Option Rule

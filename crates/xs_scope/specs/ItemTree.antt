@@ -6,8 +6,8 @@ use Rattle.xs_scope.specs.declared.items.Item.{Item}
 use Rattle.xs_scope.specs.declared.items.Item.TheVariants as code
 use Rattle.xs_scope.specs.declared.items.Numbered.{Numbered}
 use Rattle.xs_scope.specs.declared.items.ItemList.{ItemList}
-use Rattle.xs_scope.specs.ModelTree.{role_of}
-use Rattle.xs_flattening.specs.Items.{Item as ItemOf, a_declaration, a_definition, an_assignment, some_constants, an_init, an_invar, a_trans}
+use Rattle.xs_tree.specs.ModelTree.{role_of}
+use Rattle.xs_flat_laws.specs.Items.{Item as ItemOf, a_declaration, a_definition, an_assignment, some_constants, an_init, an_invar, a_trans}
 
 -- an item of a module
 abbrev pub item_tree : Item → ItemOf

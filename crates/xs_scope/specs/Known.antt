@@ -3,10 +3,10 @@ use Rattle.std.specs.Prelude.{◌≡◌, ℕ, zero, suc, List, [], ◌∷◌, �
 use Rattle.std.specs.declared.alloc.Global.{Global}
 use Rattle.xs_tree.specs.ProgramTree.{Text, Path, ModuleTree, ProgramTree}
 use Rattle.xs_tree.specs.Scope.{Place, actual_key, find_module}
-use Rattle.xs_flattening.specs.Flat.{FlatInstance}
-use Rattle.xs_flattening.specs.Items.{instances_of}
-use Rattle.xs_flattening.specs.Looks.{Look, look_after}
-use Rattle.xs_flattening.specs.Model.{Root}
+use Rattle.xs_tree.specs.Flat.{FlatInstance}
+use Rattle.xs_flat_laws.specs.Items.{instances_of}
+use Rattle.xs_flat_laws.specs.Looks.{Look, look_after}
+use Rattle.xs_flat_laws.specs.Model.{Root}
 use Rattle.xs_scope.specs.SceneTree.{IsKnown, formals_of}
 use Rattle.xs_scope.specs.FoundAt.{names_of_spot, formal_or}
 use Rattle.xs_scope.specs.declared.modules.Names.{Names}

@@ -1,6 +1,5 @@
 pub mod Faults
 pub mod Closed
-pub mod ModelTree
 pub mod ItemTree
 pub mod Symbols
 pub mod SceneTree

@@ -3,11 +3,11 @@ use Rattle.std.specs.Prelude.{◌≡◌, ℕ, suc, Bool, true, false, ◌||◌, 
 use Rattle.xs_tree.specs.ProgramTree.{Path}
 use Rattle.xs_tree.specs.Written.{tree_of}
 use Rattle.xs_tree.specs.Trace.{Each}
-use Rattle.xs_flattening.specs.Flat.{FlatInstance}
-use Rattle.xs_flattening.specs.Items.{instances_of}
-use Rattle.xs_flattening.specs.Resolved.{leaves_in}
-use Rattle.xs_scope.specs.declared.model.Role.{Role}
-use Rattle.xs_scope.specs.declared.model.Role.TheVariants.{State, Input, Frozen}
+use Rattle.xs_tree.specs.Flat.{FlatInstance}
+use Rattle.xs_flat_laws.specs.Items.{instances_of}
+use Rattle.xs_flat_laws.specs.Resolved.{leaves_in}
+use Rattle.xs_tree.specs.declared.model.Role.{Role}
+use Rattle.xs_tree.specs.declared.model.Role.TheVariants.{State, Input, Frozen}
 use Rattle.xs_scope.specs.declared.walk.Meaning.{Meaning as Found}
 use Rattle.xs_scope.specs.declared.walk.Meaning.TheVariants as found
 use Rattle.xs_scope.specs.declared.names.Defined.{Defined}

@@ -4,9 +4,9 @@ use Rattle.std.specs.Borrow.{Bor}
 use Rattle.xs_tree.specs.ProgramTree.{Text, ModuleTree, program_tree, module_tree}
 use Rattle.xs_tree.specs.Scope.{find_module}
 use Rattle.xs_tree.specs.Texts.{same_text, is_among}
-use Rattle.xs_flattening.specs.Items.{Item as ItemOf, NumberedModule, modules_of, numbered_items, items_of, items_named}
-use Rattle.xs_flattening.specs.Rules.{Rule, main_has_parameters, double_module, double_name, has_formals, is_module_among, names_of_item, is_name_again}
-use Rattle.xs_flattening.specs.Model.{EachBoth}
+use Rattle.xs_flat_laws.specs.Items.{Item as ItemOf, NumberedModule, modules_of, numbered_items, items_of, items_named}
+use Rattle.xs_flat_laws.specs.Rules.{Rule, main_has_parameters, double_module, double_name, has_formals, is_module_among, names_of_item, is_name_again}
+use Rattle.xs_flat_laws.specs.Model.{EachBoth}
 use Rattle.xs_scope.specs.ItemTree.{counted_from, item_tree}
 use Rattle.xs_scope.specs.Faults.{rule_of}
 use Rattle.xs_scope.specs.SceneTree.{HasNames, named, module_entries}

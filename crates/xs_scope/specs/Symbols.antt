@@ -4,11 +4,7 @@ use Rattle.std.specs.Borrow.{Bor}
 use Rattle.xs_scope.specs.declared.items.Numbered.{Numbered}
 use Rattle.xs_scope.specs.declared.modules.Names.{Names}
 use Rattle.xs_scope.specs.ItemTree.{item_tree}
-use Rattle.xs_flattening.specs.Model.{symbols_of_item}
-
--- borrowed texts as texts
-abbrev pub texts : List (Bor (List ℕ)) → List (List ℕ)
-texts ks = map (λ k. k.now) ks
+use Rattle.xs_flat_laws.specs.Model.{symbols_of_item}
 
 -- the symbols of an item, as often as it names them
 abbrev pub symbols_of_numbered : Numbered → List (List ℕ)

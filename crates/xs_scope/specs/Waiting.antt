@@ -4,10 +4,10 @@ use Rattle.std.specs.List.{list_any}
 use Rattle.xs_tree.specs.ProgramTree.{Text, Path, ProgramTree}
 use Rattle.xs_tree.specs.Scope.{Place}
 use Rattle.xs_tree.specs.Trace.{Each}
-use Rattle.xs_flattening.specs.Flat.{FlatInstance}
-use Rattle.xs_flattening.specs.Items.{instances_of}
-use Rattle.xs_flattening.specs.Looks.{look_after}
-use Rattle.xs_flattening.specs.Model.{roots_of}
+use Rattle.xs_tree.specs.Flat.{FlatInstance}
+use Rattle.xs_flat_laws.specs.Items.{instances_of}
+use Rattle.xs_flat_laws.specs.Looks.{look_after}
+use Rattle.xs_flat_laws.specs.Model.{roots_of}
 use Rattle.xs_scope.specs.SceneTree.{IsFound, IsSet, program_of}
 use Rattle.xs_scope.specs.Steps.{is_open}
 use Rattle.xs_scope.specs.Known.{rows, rows_with, formal_of, IsHead, IsOpen, ShutAt, ShutBeyond, AreTold, IsActualTold}

@@ -1,13 +1,13 @@
 -- What the walk over the instances finds.
 use Rattle.std.specs.Prelude.{◌≡◌, List, map, Some, slice_get}
 use Rattle.xs_tree.specs.ProgramTree.{ProgramTree}
-use Rattle.xs_flattening.specs.Flat.{FlatInstance, FlatVariable}
-use Rattle.xs_flattening.specs.Items.{Visit, instances_of, variables_of}
-use Rattle.xs_flattening.specs.Rules.{IsWalkable}
-use Rattle.xs_flattening.specs.Model.{EachBoth}
-use Rattle.xs_scope.specs.ModelTree.{variable_tree}
+use Rattle.xs_tree.specs.Flat.{FlatInstance, FlatVariable}
+use Rattle.xs_flat_laws.specs.Items.{Visit, instances_of, variables_of}
+use Rattle.xs_flat_laws.specs.Rules.{IsWalkable}
+use Rattle.xs_flat_laws.specs.Model.{EachBoth}
+use Rattle.xs_tree.specs.ModelTree.{variable_tree}
 use Rattle.xs_scope.specs.SceneTree.{IsSpotWalked}
-use Rattle.xs_scope.specs.declared.model.Variable.{Variable}
+use Rattle.xs_tree.specs.declared.model.Variable.{Variable}
 use Rattle.xs_scope.specs.declared.walk.Walk.{Walk}
 
 -- a variable as it is declared, with its instance by number

@@ -6,13 +6,13 @@ use Rattle.xs_tree.specs.Scope.{Place, Role, find_module}
 use Rattle.xs_tree.specs.Texts.{is_among}
 use Rattle.xs_tree.specs.Trace.{Each}
 use Rattle.xs_tree.specs.Written.{tree_of}
-use Rattle.xs_flattening.specs.Flat.{FlatVariable}
-use Rattle.xs_flattening.specs.Items.{Item as ItemOf, a_declaration, NumberedItem, items_named, Visit, visits_of, walk, variable_declared}
-use Rattle.xs_flattening.specs.Model.{EachBoth}
-use Rattle.xs_flattening.proofs.Pigeons.{IsThere, AreApart}
-use Rattle.xs_flattening.specs.Rules.{no_such_module, wrong_count, module_loop, too_many, is_missing, is_missing_instance, is_miscounted, is_on_path, is_other_count}
-use Rattle.xs_scope.specs.declared.model.Role.{Role as RoleWord}
-use Rattle.xs_scope.specs.declared.model.Variable.{Variable}
+use Rattle.xs_tree.specs.Flat.{FlatVariable}
+use Rattle.xs_flat_laws.specs.Items.{Item as ItemOf, a_declaration, NumberedItem, items_named, Visit, visits_of, walk, variable_declared}
+use Rattle.xs_flat_laws.specs.Model.{EachBoth}
+use Rattle.xs_flat_laws.proofs.Pigeons.{IsThere, AreApart}
+use Rattle.xs_flat_laws.specs.Rules.{no_such_module, wrong_count, module_loop, too_many, is_missing, is_missing_instance, is_miscounted, is_on_path, is_other_count}
+use Rattle.xs_tree.specs.declared.model.Role.{Role as RoleWord}
+use Rattle.xs_tree.specs.declared.model.Variable.{Variable}
 use Rattle.xs_scope.specs.declared.modules.Names.{Names}
 use Rattle.xs_scope.specs.declared.modules.Modules.{Modules}
 use Rattle.xs_scope.specs.declared.walk.Meaning.{Meaning as Found}
@@ -20,9 +20,9 @@ use Rattle.xs_scope.specs.declared.walk.Meaning.TheVariants as found
 use Rattle.xs_scope.specs.declared.walk.Spot.{Spot}
 use Rattle.xs_scope.specs.declared.walk.Walk.{Walk}
 use Rattle.xs_scope.specs.declared.walk.Declaring.{Declaring}
-use Rattle.xs_scope.specs.ModelTree.{role_of, place_of, variable_tree}
+use Rattle.xs_tree.specs.ModelTree.{role_of, place_of, variable_tree}
 use Rattle.xs_scope.specs.Reading.{Told, told_if, told_first, IsModuleAt}
-use Rattle.xs_scope.specs.Symbols.{texts}
+use Rattle.xs_tree.specs.BorrowedTexts.{texts}
 
 -- an instance with what it is handed
 pub record Call : Type 0 where

@@ -2,12 +2,12 @@
 
 ghost use Rattle.std.specs.Prelude.{◌≡◌, ◌+◌, ◌^◌, ◌<◌, [], ◌∷◌, map, IfOk, IsOk, OnOk};
 ghost use Rattle.xs_tree.specs.ProgramTree.{module_tree, section_tree, decl_tree, define_tree, assignment_tree};
-ghost use Rattle.xs_flattening.specs.Items.{items_of, items_of_section, a_declaration, a_definition, an_assignment};
-ghost use Rattle.xs_scope.specs.ModelTree.{role_of};
+ghost use Rattle.xs_flat_laws.specs.Items.{items_of, items_of_section, a_declaration, a_definition, an_assignment};
+ghost use Rattle.xs_tree.specs.ModelTree.{role_of};
 ghost use Rattle.xs_scope.specs.ItemTree.{item_tree, counted_of, with_items, counted_below};
 
-use crate::model::Role;
 use std::alloc::Global;
+use xs_tree::model::Role;
 use xs_tree::{Assignment, Decl, Define, Expr, Module, Section};
 use xs_value::{Dotted, NameList, OutOfMemory};
 

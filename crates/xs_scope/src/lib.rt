@@ -18,11 +18,9 @@
 #![tactic(auto)]
 
 pub mod bounds;
-pub mod copy;
 pub mod fault;
 pub mod formals;
 pub mod items;
-pub mod model;
 pub mod modules;
 pub mod names;
 pub mod needs;
@@ -31,12 +29,4 @@ pub mod uses;
 pub mod walk;
 
 pub use bounds::Bounds;
-pub use copy::{
-    copy_branches, copy_expressions, copy_faults, copy_flat, copy_formulas, copy_instances,
-    copy_variables,
-};
 pub use fault::{FlatFault, Rule};
-pub use model::{
-    Fault, FaultList, Flat, FlatList, FlatModel, Formula, Instance, InstanceList, Role, Variable,
-    VariableList,
-};

@@ -4,8 +4,8 @@
 ghost use Rattle.std.specs.Prelude.{◌≡◌, ◌↔◌, ◌&&◌, suc, [], ◌∷◌, ◌++◌, length, codes, map, None, Some, IfOk, IfErr, OnOk, IsTrue};
 ghost use Rattle.xs_tree.specs.ProgramTree.{module_tree, program_tree};
 ghost use Rattle.xs_tree.specs.Texts.{same_text, is_among};
-ghost use Rattle.xs_flattening.specs.Items.{items_of};
-ghost use Rattle.xs_flattening.specs.Rules.{double_name, has_formals, names_of_item, is_name_again};
+ghost use Rattle.xs_flat_laws.specs.Items.{items_of};
+ghost use Rattle.xs_flat_laws.specs.Rules.{double_name, has_formals, names_of_item, is_name_again};
 ghost use Rattle.xs_scope.specs.Faults.{IsFaultOf};
 ghost use Rattle.xs_scope.specs.ItemTree.{numbered_tree, counted_from};
 ghost use Rattle.xs_scope.specs.Reading.{AreRead, IsReadAfter, IsFirstModule, IsTold, told_if, formals_told, items_told, header_told, names_told, module_told, texts_of, trees_read, item_of_numbered};

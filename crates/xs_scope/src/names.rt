@@ -5,10 +5,10 @@ ghost use Rattle.std.specs.Prelude.{◌≡◌, ◌^◌, ◌<◌, [], ◌∷◌, 
 ghost use Rattle.xs_tree.specs.ProgramTree.{program_tree, decl_tree};
 ghost use Rattle.xs_tree.specs.Written.{tree_of};
 ghost use Rattle.xs_tree.specs.Scope.{plain_name};
-ghost use Rattle.xs_flattening.specs.Flat.{FlatInstance};
-ghost use Rattle.xs_flattening.specs.Items.{instances_of};
-ghost use Rattle.xs_flattening.specs.Rules.{IsWalkable};
-ghost use Rattle.xs_flattening.specs.Model.{EachBoth};
+ghost use Rattle.xs_tree.specs.Flat.{FlatInstance};
+ghost use Rattle.xs_flat_laws.specs.Items.{instances_of};
+ghost use Rattle.xs_flat_laws.specs.Rules.{IsWalkable};
+ghost use Rattle.xs_flat_laws.specs.Model.{EachBoth};
 ghost use Rattle.xs_scope.specs.ItemTree.{item_tree};
 ghost use Rattle.xs_scope.specs.SceneTree.{AreModules, IsSpotWalked, IsScene, IsFound, program_of, items_at, number_and_item};
 ghost use Rattle.xs_scope.specs.FoundAt.{names_of_spot, local_at, own_at, formal_at, symbol_or, symbol_at, part_at, found_at, told};

@@ -16,11 +16,11 @@ ghost use Rattle.xs_scope.specs.Naming.{needed, is_input, needs_of, reads_of, nu
 ghost use Rattle.xs_scope.specs.declared.needs.Mark.TheVariants as Mark;
 ghost use Rattle.xs_scope.specs.declared.needs.Task.TheVariants as Task;
 
-use crate::model::Role;
 use crate::names::{Defined, Scene};
 use crate::uses::Uses;
 use crate::walk::Meaning;
 use std::alloc::Global;
+use xs_tree::model::Role;
 use xs_value::{Dotted, OutOfMemory};
 
 /// For each definition the others that it is linked to, by their places in the scene's list.

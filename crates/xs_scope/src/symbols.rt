@@ -1,9 +1,10 @@
 //! The symbols of a program.
 
 ghost use Rattle.std.specs.Prelude.{◌≡◌, [], ◌∷◌, flat_map, IfOk, OnOk};
-ghost use Rattle.xs_flattening.specs.Model.{first_appearances, symbols_of_members, symbols_of_item};
+ghost use Rattle.xs_flat_laws.specs.Model.{first_appearances, symbols_of_members, symbols_of_item};
 ghost use Rattle.xs_scope.specs.ItemTree.{item_tree};
-ghost use Rattle.xs_scope.specs.Symbols.{texts, symbols_in, symbols_of_numbered};
+ghost use Rattle.xs_scope.specs.Symbols.{symbols_in, symbols_of_numbered};
+ghost use Rattle.xs_tree.specs.BorrowedTexts.{texts};
 
 use crate::items::{Item, Numbered};
 use crate::modules::Modules;

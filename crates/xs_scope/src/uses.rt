@@ -2,8 +2,8 @@
 
 ghost use Rattle.std.specs.Prelude.{◌≡◌, false, IfOk, OnOk};
 ghost use Rattle.xs_tree.specs.Written.{tree_of, trees_of, branches_of};
-ghost use Rattle.xs_flattening.specs.Resolved.{has_next};
-ghost use Rattle.xs_flattening.specs.Rules.{next_under_next};
+ghost use Rattle.xs_flat_laws.specs.Resolved.{has_next};
+ghost use Rattle.xs_flat_laws.specs.Rules.{next_under_next};
 ghost use Rattle.xs_scope.specs.Flagged.{flagged};
 ghost use Rattle.xs_scope.specs.Seen.{seen_in, seen_after, seen_after_trees, seen_after_branches};
 

@@ -14,9 +14,9 @@ ghost use Rattle.xs_scope.specs.Walking.{HasEntered, HasGone, HasMet, IsEntry, I
 
 use crate::fault::{FlatFault, Rule};
 use crate::items::{Item, Numbered, number_of};
-use crate::model::{Role, Variable, VariableList};
 use crate::modules::Modules;
 use std::alloc::Global;
+use xs_tree::model::{Role, Variable, VariableList};
 use xs_tree::{Decl, Declared, Expr, ExprList};
 use xs_value::{Dotted, Items, Name, OutOfMemory};
 

@@ -4,7 +4,7 @@ ghost use Rattle.std.specs.Prelude.{◌<◌, IsTrue};
 use crate::clauses::{are, literal, number_of};
 use std::alloc::Global;
 use std::test::Fail;
-use xs_gates::gates::Gates;
+use xs_circuits::gates::Gates;
 use xs_lits::clause::ClauseList;
 use xs_lits::lit::Lit;
 use xs_value::OutOfMemory;

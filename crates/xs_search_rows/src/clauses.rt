@@ -1,6 +1,6 @@
 //! Clauses of plain numbers: v is a variable, -v its negation, and 0 ends a clause.
 ghost use Rattle.std.specs.Prelude.{◌↔◌, IsTrue, All};
-ghost use Rattle.xs_derive.specs.Derivation.{IsUpTo};
+ghost use Rattle.xs_lits.specs.Derivation.{IsUpTo};
 
 use std::alloc::Global;
 use xs_lits::assign::Assign;

@@ -2,10 +2,10 @@
 use crate::clauses::{are_up_to, lits_of};
 use std::alloc::Global;
 use std::test::Fail;
-use xs_derive::checker::Checker;
-use xs_derive::recorder::{KeepAll, KeepNone, Recorder};
-use xs_derive::step::{HintList, Step, StepFault};
+use xs_lits::checker::Checker;
 use xs_lits::clause::Clause;
+use xs_lits::recorder::{KeepAll, KeepNone, Recorder};
+use xs_lits::step::{HintList, Step, StepFault};
 use xs_value::OutOfMemory;
 
 // The answer to a step as a number: of a bad hint its place.

@@ -4,10 +4,10 @@ use std::alloc::Global;
 use std::test::Fail;
 use xs_adviser::Panel;
 use xs_frames::{Advanced, Cleared, Frames, StepList, can_frame};
+use xs_lits::System;
 use xs_lits::assign::Assign;
 use xs_lits::clause::ClauseList;
 use xs_lits::lit::Lit;
-use xs_system::System;
 use xs_value::OutOfMemory;
 
 // How a search through frames ends.

@@ -4,8 +4,8 @@ use crate::clauses::crowd;
 use std::alloc::Global;
 use std::test::Fail;
 use xs_adviser::{Adviser, Panel};
-use xs_derive::recorder::{KeepAll, Recorder};
 use xs_lits::lit::Lit;
+use xs_lits::recorder::{KeepAll, Recorder};
 use xs_solver::solve::{Verdict, can_solve, solve};
 use xs_value::OutOfMemory;
 

@@ -8,19 +8,19 @@ use crate::stores::push;
 use std::alloc::Global;
 use std::test::Fail;
 use xs_adviser::{Adviser, Panel};
-use xs_derive::checker::Checker;
-use xs_derive::hints::has_no_opposites;
-use xs_derive::recorder::{KeepAll, KeepNone, Recorder};
-use xs_derive::step::Step;
 use xs_lits::assign::Assign;
+use xs_lits::checker::Checker;
 use xs_lits::clause::{Clause, ClauseList, Truth};
+use xs_lits::hints::has_no_opposites;
 use xs_lits::lit::Lit;
+use xs_lits::recorder::{KeepAll, KeepNone, Recorder};
+use xs_lits::step::Step;
 use xs_lits::store::{PlainStore, Store};
 use xs_lits::truth::truth;
+use xs_solver::arena::Arena;
 use xs_solver::kept::Search;
 use xs_solver::solve::{Verdict, can_solve, solve, solve_in};
 use xs_value::OutOfMemory;
-use xs_watch::arena::Arena;
 
 // Picks no literal, but tells by its picks how often it was asked and told.
 #[derive(Drop)]

@@ -3,8 +3,8 @@ use crate::clauses::{are, are_up_to, literal, lits_of};
 use std::alloc::Global;
 use std::test::Fail;
 use xs_lits::store::{PlainStore, Store};
+use xs_solver::arena::Arena;
 use xs_value::OutOfMemory;
-use xs_watch::arena::Arena;
 
 // What is done to a store: a clause is appended, a literal made true, all but so many literals of the
 // trail are dropped, or a variable comes.

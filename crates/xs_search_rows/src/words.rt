@@ -1,17 +1,17 @@
 //! Arithmetic on constants, whose clauses settle every variable by unit propagation.
 ghost use Rattle.std.specs.Prelude.{◌≤◌, ◌-◌, ◌^◌, length};
-ghost use Rattle.xs_arith.specs.Words.{IsWordOf};
+ghost use Rattle.xs_circuits.specs.Words.{IsWordOf};
 
 use std::alloc::Global;
 use std::test::Fail;
-use xs_arith::compare::{equal, less};
-use xs_arith::constants::number_at;
-use xs_arith::counts::at_most;
-use xs_arith::products::multiply;
-use xs_arith::quotients::{divide, remainder};
-use xs_arith::sums::{add, negate, subtract};
-use xs_arith::word::Word;
-use xs_gates::gates::Gates;
+use xs_circuits::compare::{equal, less};
+use xs_circuits::constants::number_at;
+use xs_circuits::counts::at_most;
+use xs_circuits::gates::Gates;
+use xs_circuits::products::multiply;
+use xs_circuits::quotients::{divide, remainder};
+use xs_circuits::sums::{add, negate, subtract};
+use xs_circuits::word::Word;
 use xs_lits::clause::{Clause, ClauseList};
 use xs_lits::lit::Lit;
 use xs_value::OutOfMemory;

@@ -3,7 +3,7 @@ use Rattle.std.proofs.Common.{◌≡◌, ℕ, zero, suc, ◌+◌, ◌-◌, ◌<�
 use Rattle.std.specs.Prelude.{◌&&◌}
 use Rattle.std.proofs.Math.Seq.{drop-cons}
 use Rattle.std.proofs.Math.ListN.{drop_of_length-le}
-use Rattle.xs_right.specs.Sets.{IsRising, is_before_in_order}
+use Rattle.xs_right_laws.specs.Sets.{IsRising, is_before_in_order}
 use Rattle.xs_sets.specs.Tests.{is_rising}
 
 nothing_before : (s : List ℕ) → is_before_in_order s [] ≡ false

@@ -1,6 +1,6 @@
 -- Tests of sets, as they are computed.
 use Rattle.std.specs.Prelude.{ℕ, nat_lt, Bool, true, ◌&&◌, not, List, [], ◌∷◌}
-use Rattle.xs_right.specs.Sets.{is_contained}
+use Rattle.xs_right_laws.specs.Sets.{is_contained}
 
 -- each number is greater than the one before it
 abbrev pub is_rising : List ℕ → Bool

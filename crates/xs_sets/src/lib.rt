@@ -1,7 +1,7 @@
 //! Tests of fault sets: rising lists of numbers, which contains which, and their order.
 //!
-//! A set is a slice of numbers of faults, from 1 on. What the tests answer is defined in `xs_right`
-//! (`specs/Sets.antt`), and what that means for members is a law of `xs_encoded`. None of them takes memory.
+//! A set is a slice of numbers of faults, from 1 on. What the tests answer is defined in `xs_right_laws`
+//! (`specs/Sets.antt`), and what that means for members is a law of `xs_encode_laws`. None of them takes memory.
 //!
 //! ```text
 //! is_rising(&[1, 3])                    // true

@@ -1,7 +1,7 @@
 //! Tests of fault sets.
 
 ghost use Rattle.std.specs.Prelude.{◌≡◌, ◌↔◌, ◌&&◌, not, IsTrue};
-ghost use Rattle.xs_right.specs.Sets.{IsRising, has_number as has, is_contained as contained, is_before_in_order, stands_before as before};
+ghost use Rattle.xs_right_laws.specs.Sets.{IsRising, has_number as has, is_contained as contained, is_before_in_order, stands_before as before};
 ghost use Rattle.xs_sets.specs.Tests.{is_rising as rising, are_apart as apart};
 
 /// Whether the number is one of the set's.

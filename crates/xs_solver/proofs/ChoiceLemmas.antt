@@ -6,7 +6,7 @@ use Rattle.std.proofs.lemmas.Bool.{cases_lt, cases_eq}
 use Rattle.std.proofs.lemmas.List.Elements.{All-weaker}
 use Rattle.xs_lits.specs.Literal.{Literal}
 use Rattle.xs_lits.specs.Assignment.{Assignment, all_free, value_of, made_true}
-use Rattle.xs_derive.specs.Derivation.{IsUpTo}
+use Rattle.xs_lits.specs.Derivation.{IsUpTo}
 use Rattle.xs_solver.specs.declared.trail.Entry.{Entry}
 use Rattle.xs_solver.specs.declared.trail.Reason.TheVariants.{Chosen}
 use Rattle.xs_solver.specs.TrailRecord.{TrailValue}

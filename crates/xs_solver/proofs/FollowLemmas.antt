@@ -1,5 +1,5 @@
 -- The store's trail begins with the literals that it has followed, whatever is made true or taken back.
-use Rattle.std.proofs.Common.{◌≡◌, ℕ, ◌+◌, ◌≤◌, List, [], ◌∷◌, ◌++◌, length, take, reverse, replicate, Option, None, Some, Result, Ok, Err, OnOk, refl, sym, ap, ◌∙◌, arith}
+use Rattle.std.proofs.Common.{◌≡◌, ℕ, ◌+◌, ◌≤◌, List, [], ◌∷◌, ◌++◌, length, take, reverse, replicate, Option, None, Some, refl, sym, ap, ◌∙◌, arith}
 use Rattle.std.specs.Prelude.{slice_get}
 use Rattle.std.proofs.lemmas.List.{map-append, take-map, take-take, take-append-le, take_all, replicate-append-replicate, length-map, length-take, length-append, reverse-reverse, reverse-append}
 use Rattle.xs_lits.specs.Literal.{Literal}
@@ -34,7 +34,7 @@ followed_none s t none = record {
 }
 
 -- one more literal is made true
-followed_push : (s : List Literal) (t u : TrailValue) (e : Entry) → u.followed ≡ t.followed → u.entries ≡ t.entries ++ e ∷ [] → IsFollowed s t → IsFollowed s u
+pub followed_push : (s : List Literal) (t u : TrailValue) (e : Entry) → u.followed ≡ t.followed → u.entries ≡ t.entries ++ e ∷ [] → IsFollowed s t → IsFollowed s u
 followed_push s t u e same longer h = record {
   there = let w = h.there in omega arith;
   within = omega (arith, h.within, ap length longer, length-append t.entries (e ∷ []));
@@ -43,10 +43,6 @@ followed_push s t u e same longer h = record {
       ∙ (sym (take-append-le t.followed (lits_of t.entries) (e.lit ∷ []) (omega (arith, h.within, length-lits_of t.entries)))
       ∙ (ap (take t.followed) (sym (lits_of_push t.entries e) ∙ ap lits_of (sym longer)) ∙ ap (λ k. take k (lits_of u.entries)) (sym same))));
 }
-
-pub followed_after : {T E : Type 0} (s : List Literal) (t u : TrailValue) (e : Entry) (r : Result T E) → IsFollowed s t → OnOk r (u.followed ≡ t.followed) → OnOk r (u.entries ≡ t.entries ++ e ∷ []) → OnOk r (IsFollowed s u)
-followed_after s t u e (Ok x) h same longer = followed_push s t u e same longer h
-followed_after s t u e (Err x) h same longer = tt
 
 -- literals are taken back
 pub followed_undone : (s : List Literal) (t u : TrailValue) (k : ℕ) → u.followed ≤ t.followed → u.followed ≤ k → u.entries ≡ take k t.entries → IsFollowed s t → IsFollowed s u
@@ -124,6 +120,6 @@ sound_followed clauses assumptions t k h = record {
 }
 
 pub advance_followed : (clauses : List (List Literal)) (assumptions : List Literal) (t u : TrailValue) (k : ℕ) (answer : Option Verdict) → IsAdvance clauses assumptions (record t { followed = k }) u answer → IsAdvance clauses assumptions t u answer
-advance_followed clauses assumptions t u k None h = record { sound = h.sound; rises = h.rises }
+advance_followed clauses assumptions t u k None h = h
 advance_followed clauses assumptions t u k (Some (Sat a)) h = h
 advance_followed clauses assumptions t u k (Some (Unsat c)) h = h

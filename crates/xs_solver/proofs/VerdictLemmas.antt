@@ -16,8 +16,8 @@ use Rattle.xs_lits.specs.declared.clause.Truth.TheVariants.{True, False, Unit as
 use Rattle.xs_lits.proofs.ListLemmas.{All-from_list_any}
 use Rattle.xs_lits.proofs.ModelLemmas.{All-from_Satisfies, Satisfies-from_All}
 use Rattle.xs_lits.proofs.TruthLemmas.{truth_of-True, truth_of-False, value_true}
-use Rattle.xs_derive.proofs.ModelLemmas.{FollowsFrom-EndsFalse}
-use Rattle.xs_derive.specs.declared.step.Step.{Step}
+use Rattle.xs_lits.proofs.DeriveModelLemmas.{FollowsFrom-EndsFalse}
+use Rattle.xs_lits.specs.declared.step.Step.{Step}
 use Rattle.xs_solver.specs.Found.{IsTrueIn}
 use Rattle.xs_solver.specs.Search.{AreSteps, with_steps, Grows, IsSolution, IsRefutation}
 use Rattle.xs_solver.specs.Verdict.{IsFull, IsCore, IsAdvance, IsVerdict}

@@ -4,7 +4,7 @@ use Rattle.xs_lits.specs.Literal.{Literal}
 use Rattle.xs_lits.specs.Assignment.{Assignment, value_of}
 use Rattle.xs_lits.specs.Truth.{truth_of}
 use Rattle.xs_lits.specs.declared.clause.Truth.TheVariants.{True, False, Unit as UnitClause}
-use Rattle.xs_derive.specs.Hints.{truth_at}
+use Rattle.xs_lits.specs.Hints.{truth_at}
 use Rattle.xs_solver.specs.Choice.{HasFree}
 use Rattle.xs_solver.specs.declared.find.Found.{Found}
 use Rattle.xs_solver.specs.declared.find.Found.TheVariants.{Conflict, Next, Nothing}

@@ -4,11 +4,11 @@ use Rattle.std.specs.Prelude.{if◌then◌else◌}
 use Rattle.std.proofs.lemmas.List.{length-append, append-nil, append_assoc, drop_more}
 use Rattle.xs_tree.specs.Tree.{Tree}
 use Rattle.xs_tree.specs.Trace.{Each}
-use Rattle.xs_flattening.specs.Flat.{FlatLeaf, FlatModel}
-use Rattle.xs_flattening.specs.History.{Mode}
-use Rattle.xs_right.specs.Sets.{has_number}
-use Rattle.xs_causes.specs.Causes.{CommonCause}
-use Rattle.xs_causes.specs.Staged.{with_age, with_event, with_hit, with_hits, with_cause, with_each_cause, age_numbers, cause_events, in_window, windows_on, with_own, with_owns, own_events}
+use Rattle.xs_tree.specs.Flat.{FlatLeaf, FlatModel}
+use Rattle.xs_flat_laws.specs.History.{Mode}
+use Rattle.xs_right_laws.specs.Sets.{has_number}
+use Rattle.xs_cause_laws.specs.Causes.{CommonCause}
+use Rattle.xs_cause_laws.specs.Staged.{with_age, with_event, with_hit, with_hits, with_cause, with_each_cause, age_numbers, cause_events, in_window, windows_on, with_own, with_owns, own_events}
 use Rattle.xs_staging.specs.CauseOf.{joined_from, either_tree}
 
 module _ (fs : List Mode) (c : CommonCause) where

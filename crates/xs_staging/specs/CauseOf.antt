@@ -3,11 +3,11 @@ use Rattle.std.specs.Prelude.{suc, List, [], ◌∷◌, Option, Some, None, leng
 use Rattle.xs_tree.specs.declared.expr.Op.TheVariants as op
 use Rattle.xs_tree.specs.Tree.{Tree, binary}
 use Rattle.xs_tree.specs.ProgramTree.{Path}
-use Rattle.xs_scope.specs.declared.model.Fault.{Fault}
-use Rattle.xs_flattening.specs.Flat.{FlatLeaf, FlatModel}
-use Rattle.xs_flattening.specs.History.{Mode}
-use Rattle.xs_causes.specs.Causes.{CommonCause}
-use Rattle.xs_causes.specs.Staged.{joined, joined_after}
+use Rattle.xs_tree.specs.declared.model.Fault.{Fault}
+use Rattle.xs_tree.specs.Flat.{FlatLeaf, FlatModel}
+use Rattle.xs_flat_laws.specs.History.{Mode}
+use Rattle.xs_cause_laws.specs.Causes.{CommonCause}
+use Rattle.xs_cause_laws.specs.Staged.{joined, joined_after}
 use Rattle.xs_staging.specs.declared.cause.Cause.{Cause}
 
 abbrev pub cause_of : Cause → CommonCause

@@ -5,14 +5,14 @@ ghost use Rattle.xs_tree.specs.declared.expr.Op.TheVariants as op;
 ghost use Rattle.xs_tree.specs.declared.program.Member.TheVariants as member;
 ghost use Rattle.xs_tree.specs.Tree.{not_of, next_of, binary as binary_tree, choice as choice_tree, leaf, truth};
 ghost use Rattle.xs_tree.specs.ProgramTree.{declared_tree, members};
-ghost use Rattle.xs_flattening.specs.Flat.{flat_symbol};
-ghost use Rattle.xs_flattening.specs.History.{added as added_tree};
-ghost use Rattle.xs_scope.specs.ModelTree.{variable_tree, formula_tree, flat_tree};
-ghost use Rattle.xs_causes.specs.Staged.{added_variable, value_of, whole as whole_tree, only as only_tree, zero_or_one as zero_or_one_tree};
+ghost use Rattle.xs_tree.specs.Flat.{flat_symbol};
+ghost use Rattle.xs_flat_laws.specs.History.{added as added_tree};
+ghost use Rattle.xs_tree.specs.ModelTree.{variable_tree, formula_tree, flat_tree};
+ghost use Rattle.xs_cause_laws.specs.Staged.{added_variable, value_of, whole as whole_tree, only as only_tree, zero_or_one as zero_or_one_tree};
 
 use std::alloc::Global;
-use xs_flat::{Flat, Formula, Role, Variable};
-use xs_scope::copy::boxed;
+use xs_tree::copy_model::boxed;
+use xs_tree::model::{Flat, Formula, Role, Variable};
 use xs_tree::{Declared, Expr, Member, Op};
 use xs_value::{Dotted, Items, Name, OutOfMemory};
 

@@ -2,10 +2,11 @@
 
 ghost use Rattle.std.specs.Prelude.{◌≡◌, ◌<◌, ◌≤◌, ◌++◌, suc, length, map, option_map, IfOk, OnOk};
 ghost use Rattle.xs_tree.specs.Tree.{choice as choice_tree, leaf};
-ghost use Rattle.xs_flattening.specs.Flat.{flat_symbol};
-ghost use Rattle.xs_right.specs.Sets.{has_number as has_number_of};
-ghost use Rattle.xs_scope.specs.ModelTree.{model_tree, formula_tree, flat_tree, mode_of};
-ghost use Rattle.xs_causes.specs.Staged.{with_own as own_with, with_owns, own_events, own_at_first as own_first, own_at_step as own_step, stands_of, joined as windows_of, windows_on as windows_on_of, only as only_tree};
+ghost use Rattle.xs_tree.specs.Flat.{flat_symbol};
+ghost use Rattle.xs_right_laws.specs.Sets.{has_number as has_number_of};
+ghost use Rattle.xs_tree.specs.ModelTree.{model_tree, formula_tree, flat_tree};
+ghost use Rattle.xs_flat_laws.specs.FaultModes.{mode_of};
+ghost use Rattle.xs_cause_laws.specs.Staged.{with_own as own_with, with_owns, own_events, own_at_first as own_first, own_at_step as own_step, stands_of, joined as windows_of, windows_on as windows_on_of, only as only_tree};
 ghost use Rattle.xs_staging.specs.CauseOf.{cause_of, told_name, either_tree};
 
 use crate::build::{
@@ -16,8 +17,8 @@ use crate::cause::Cause;
 use crate::names::numbered;
 use crate::staging::{in_window, stands};
 use std::alloc::Global;
-use xs_flat::{Fault, FaultList, Flat, FlatModel, Formula};
 use xs_scope::items::number_of;
+use xs_tree::model::{Fault, FaultList, Flat, FlatModel, Formula};
 use xs_tree::{Expr, Op};
 use xs_value::{Dotted, FaultSet, OutOfMemory};
 

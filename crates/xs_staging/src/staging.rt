@@ -2,9 +2,10 @@
 
 ghost use Rattle.std.specs.Prelude.{◌≡◌, ◌<◌, ◌≤◌, ◌++◌, suc, length, map, IfOk, OnOk};
 ghost use Rattle.xs_tree.specs.Trace.{Each};
-ghost use Rattle.xs_scope.specs.ModelTree.{model_tree, formula_tree, flat_tree, mode_of};
-ghost use Rattle.xs_causes.specs.Causes.{IsCauseOf};
-ghost use Rattle.xs_causes.specs.Staged.{with_age as age_of, with_event as event_of, with_hit as hit_of, with_hits, with_cause as cause_with, with_each_cause, age_numbers, cause_events, with_causes as causes_with, stands_of, in_window as window_of, age_at_step as age_step, event_at_each as event_each, hit_at_first as hit_first, hit_at_step as hit_step, landed_at_each as landed_each, events_of};
+ghost use Rattle.xs_tree.specs.ModelTree.{model_tree, formula_tree, flat_tree};
+ghost use Rattle.xs_flat_laws.specs.FaultModes.{mode_of};
+ghost use Rattle.xs_cause_laws.specs.Causes.{IsCauseOf};
+ghost use Rattle.xs_cause_laws.specs.Staged.{with_age as age_of, with_event as event_of, with_hit as hit_of, with_hits, with_cause as cause_with, with_each_cause, age_numbers, cause_events, with_causes as causes_with, stands_of, in_window as window_of, age_at_step as age_step, event_at_each as event_each, hit_at_first as hit_first, hit_at_step as hit_step, landed_at_each as landed_each, events_of};
 ghost use Rattle.xs_staging.specs.CauseOf.{cause_of, told_name, told_cause, event_mode};
 
 use crate::build::{
@@ -15,9 +16,9 @@ use crate::cause::{Cause, CauseList};
 use crate::events::add_own_events;
 use crate::names::{joined, numbered};
 use std::alloc::Global;
-use xs_flat::{Fault, FaultList, Flat, FlatModel, Formula};
-use xs_scope::copy_faults;
 use xs_scope::items::number_of;
+use xs_tree::copy_model::copy_faults;
+use xs_tree::model::{Fault, FaultList, Flat, FlatModel, Formula};
 use xs_tree::{Declared, Expr, Op};
 use xs_value::{Dotted, OutOfMemory};
 

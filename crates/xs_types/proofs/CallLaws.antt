@@ -2,13 +2,13 @@
 use Rattle.std.proofs.Common.{◌≡◌, ℕ, Bool, true, false, List, [], ◌∷◌, Option, Some, None, refl, sym, ap, ◌∙◌, subst, OnOk, min, arith}
 use Rattle.std.specs.Prelude.{Result, Ok, Err, nat_lt}
 use Rattle.xs_tree.specs.Tree.{Tree}
-use Rattle.xs_flattening.specs.Flat.{FlatLeaf, FlatModel}
-use Rattle.xs_kinds.specs.Judged as found
-use Rattle.xs_kinds.specs.Judged.{Judged, KindRule, truth_class, not_boolean, unless_class}
-use Rattle.xs_kinds.specs.Costs.{cost_of}
-use Rattle.xs_kinds.specs.Models.{broken_condition, judged_in, least, least_after, size_fault, top_fault, IsTyped}
-use Rattle.xs_kinds.proofs.Typed.{values_lie}
-use Rattle.xs_kinds.proofs.Parts.{none_second}
+use Rattle.xs_tree.specs.Flat.{FlatLeaf, FlatModel}
+use Rattle.xs_type_laws.specs.Judged as found
+use Rattle.xs_type_laws.specs.Judged.{Judged, KindRule, truth_class, not_boolean, unless_class}
+use Rattle.xs_type_laws.specs.Costs.{cost_of}
+use Rattle.xs_type_laws.specs.Models.{broken_condition, judged_in, least, least_after, size_fault, top_fault, IsTyped}
+use Rattle.xs_type_laws.proofs.Typed.{values_lie}
+use Rattle.xs_type_laws.proofs.Parts.{none_second}
 use Rattle.xs_types.specs.declared.fault.Rule.TheVariants.{NotBoolean}
 use Rattle.xs_types.specs.declared.fault.TypeFault.{TypeFault}
 use Rattle.xs_types.specs.declared.sort.Class.TheVariants.{Truth}

@@ -1,6 +1,6 @@
 -- The binary digits of a number, one by one.
 use Rattle.std.proofs.Common.{◌≡◌, ℕ, zero, suc, ◌+◌, ◌-◌, ◌<◌, ◌≤◌, ◌/◌, ap, ◌∙◌, nat_eq, Bool, true, false, refl, arith, eqb-true}
-use Rattle.xs_kinds.specs.Costs.{digits_in}
+use Rattle.xs_type_laws.specs.Costs.{digits_in}
 
 pub digits_none : (most : ℕ) → digits_in most 0 ≡ 0
 unfolding digits_in

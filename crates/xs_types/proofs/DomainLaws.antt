@@ -14,20 +14,19 @@ use Rattle.xs_value.specs.declared.domain.Domain.TheVariants as domain
 use Rattle.xs_value.specs.declared.value.Value.{Value as AValue}
 use Rattle.xs_value.specs.declared.value.Value.TheVariants as value
 use Rattle.xs_value.specs.Domains.{Has}
-use Rattle.xs_kinds.specs.Judged.{KindRule, number_class, symbol_class, mixed_enum, double_member, rule_if, unless_class, unlike_first, wide}
-use Rattle.xs_kinds.specs.Costs.{symbol_number}
-use Rattle.xs_kinds.proofs.Parts.{none_first, none_second, not_less}
-use Rattle.xs_kinds.specs.Declared.{member_kind, has_double, judged_declared}
+use Rattle.xs_type_laws.specs.Judged.{KindRule, number_class, symbol_class, mixed_enum, double_member, rule_if, unless_class, unlike_first, wide}
+use Rattle.xs_type_laws.specs.Costs.{symbol_number}
+use Rattle.xs_type_laws.proofs.Parts.{none_first, none_second, not_less}
+use Rattle.xs_type_laws.specs.Declared.{member_kind, has_double, judged_declared}
 use Rattle.xs_types.specs.Types.{numbers_in, symbols_in, members_domain, domain_of, StandsFor, HasValuesOf, variable_domain, AreValuesOf}
 use Rattle.xs_types.proofs.MetLaws.{int_itself}
-use Rattle.xs_kinds.specs.Models.{breaches_at, variable_breaches, IsTyped}
+use Rattle.xs_type_laws.specs.Models.{breaches_at, variable_breaches, IsTyped}
 use Rattle.xs_value.specs.declared.domain.Domain.{Domain}
-use Rattle.xs_scope.specs.declared.model.FlatModel.{FlatModel}
-use Rattle.xs_scope.specs.declared.model.Variable.{Variable}
-use Rattle.xs_scope.specs.ModelTree.{variable_tree, model_tree}
+use Rattle.xs_tree.specs.declared.model.FlatModel.{FlatModel}
+use Rattle.xs_tree.specs.declared.model.Variable.{Variable}
+use Rattle.xs_tree.specs.ModelTree.{variable_tree, model_tree}
 use Rattle.xs_lexer.proofs.SignLemmas.{both_true}
-use Rattle.xs_flat.proofs.BuildOrder.{or_left}
-use Rattle.xs_flat.proofs.BuildAccepted.{or_true}
+use Rattle.xs_flat_laws.proofs.OneOfTwo.{or_left, or_true}
 use Rattle.xs_tree.proofs.OneTree.{same_text_equal}
 
 -- Contained items.

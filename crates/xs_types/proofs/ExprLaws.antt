@@ -8,7 +8,7 @@ use Rattle.xs_tree.specs.declared.expr.Expr.TheVariants.{Not, Negate, Binary, Ch
 use Rattle.xs_tree.specs.declared.expr.Expr.TheOpen as open_
 use Rattle.xs_tree.specs.Tree.{Tree}
 use Rattle.xs_tree.specs.Written.{tree_of, trees_of, branches_of, node_tree}
-use Rattle.xs_kinds.specs.Judged.{Kind, judge, judge_trees, judge_values, sets_on_left, sets_on_right}
+use Rattle.xs_type_laws.specs.Judged.{Kind, judge, judge_trees, judge_values, sets_on_left, sets_on_right}
 use Rattle.xs_types.specs.Rows.{row_not, row_negative, row_binary, row_choice, row_span}
 use Rattle.xs_types.specs.declared.sort.Judged.{Judged}
 use Rattle.xs_types.specs.declared.several.Several.{Several}

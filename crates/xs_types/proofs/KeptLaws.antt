@@ -3,14 +3,14 @@ use Rattle.std.proofs.Common.{◌≡◌, ℕ, zero, suc, Bool, false, List, [], 
 use Rattle.std.specs.Prelude.{slice_get, map}
 use Rattle.xs_tree.specs.declared.expr.Expr.{Expr}
 use Rattle.xs_tree.specs.Written.{tree_of}
-use Rattle.xs_flattening.specs.Flat.{FlatModel}
-use Rattle.xs_scope.specs.declared.model.Flat.{Flat}
-use Rattle.xs_scope.specs.declared.model.Flat.TheVariants as flat
-use Rattle.xs_scope.specs.declared.model.Formula.{Formula}
-use Rattle.xs_scope.specs.ModelTree.{leaf_of, flat_tree, formula_tree}
-use Rattle.xs_kinds.specs.Judged.{Class, truth_class, number_class, symbol_class, Kind, Judged, judge}
-use Rattle.xs_kinds.specs.Models.{kind_at, leaf_kind, judged_in, broken_condition, breaches_at, condition_breaches}
-use Rattle.xs_kinds.proofs.Mapped.{judge_mapped}
+use Rattle.xs_tree.specs.Flat.{FlatModel}
+use Rattle.xs_tree.specs.declared.model.Flat.{Flat}
+use Rattle.xs_tree.specs.declared.model.Flat.TheVariants as flat
+use Rattle.xs_tree.specs.declared.model.Formula.{Formula}
+use Rattle.xs_tree.specs.ModelTree.{leaf_of, flat_tree, formula_tree}
+use Rattle.xs_type_laws.specs.Judged.{Class, truth_class, number_class, symbol_class, Kind, Judged, judge}
+use Rattle.xs_type_laws.specs.Models.{kind_at, leaf_kind, judged_in, broken_condition, breaches_at, condition_breaches}
+use Rattle.xs_type_laws.proofs.Mapped.{judge_mapped}
 use Rattle.xs_types.specs.Answers.{told_class, told_sort, seen_class, seen_sort}
 use Rattle.xs_types.specs.Names.{sort_at, name_kind}
 use Rattle.xs_types.specs.Kept.{kept_sorts, AreKept, AreKindsOf, formula_breaches}

@@ -5,8 +5,8 @@ use Rattle.std.proofs.lemmas.List.{drop_more}
 use Rattle.xs_tree.specs.declared.expr.Expr.{Expr}
 use Rattle.xs_tree.specs.Tree.{Tree, Branches, no_branch, branch_then}
 use Rattle.xs_tree.specs.Written.{tree_of, trees_of, branches_of}
-use Rattle.xs_kinds.specs.Intervals.{Interval}
-use Rattle.xs_kinds.specs.Judged.{Class, truth_class, number_class, symbol_class, Kind, Judged, KindRule, mismatch, not_boolean, case_end, joined, rule_if, unless_class, unlike_first, hull_of, hull_from, kinds_in, broken_in, some_set, judged_set, judged_case, is_word_true, ends_in_true, judge, judge_trees, judge_conditions, judge_values, same_class as same}
+use Rattle.xs_type_laws.specs.Intervals.{Interval}
+use Rattle.xs_type_laws.specs.Judged.{Class, truth_class, number_class, symbol_class, Kind, Judged, KindRule, mismatch, not_boolean, case_end, joined, rule_if, unless_class, unlike_first, hull_of, hull_from, kinds_in, broken_in, some_set, judged_set, judged_case, is_word_true, ends_in_true, judge, judge_trees, judge_conditions, judge_values, same_class as same}
 use Rattle.xs_types.specs.declared.fault.Rule.{Rule}
 use Rattle.xs_types.specs.declared.fault.Rule.TheVariants.{Mismatch, NotBoolean, CaseEnd}
 use Rattle.xs_types.specs.declared.sort.Class.TheVariants.{Truth}

@@ -11,9 +11,9 @@ use Rattle.xs_tree.specs.declared.program.Member.TheVariants as member
 use Rattle.xs_tree.specs.Texts.{same_text, is_among}
 use Rattle.xs_tree.specs.Values.{same_int}
 use Rattle.xs_tree.proofs.ValueLaws.{same_int_equal}
-use Rattle.xs_scope.specs.Symbols.{texts}
-use Rattle.xs_scope.proofs.SymbolLaws.{inserted}
-use Rattle.xs_kinds.specs.Declared.{same_member, is_member_again, has_double}
+use Rattle.xs_tree.specs.BorrowedTexts.{texts}
+use Rattle.xs_tree.proofs.BorrowedTexts.{inserted}
+use Rattle.xs_type_laws.specs.Declared.{same_member, is_member_again, has_double}
 use Rattle.indexmap.specs.IndexSet.{contains}
 use Rattle.xs_types.specs.declared.members.Met.{Met}
 use Rattle.xs_types.specs.Met.{AddsMember, met_again}

@@ -1,12 +1,12 @@
 -- A model is typed, or what is told is its fault.
 use Rattle.std.proofs.Common.{◌≡◌, ℕ, min, ◌||◌, Option, Some, None, refl, sym, ap, ◌∙◌, subst, nat_lt, arith}
 use Rattle.std.proofs.lemmas.Bool.{ltb-false}
-use Rattle.xs_flattening.specs.Flat.{FlatModel}
-use Rattle.xs_kinds.specs.Judged.{KindRule}
-use Rattle.xs_kinds.specs.Costs.{model_cost, state_bits}
-use Rattle.xs_kinds.specs.FirstBreach.{first_of, first_fault}
-use Rattle.xs_kinds.specs.Models.{breaches, IsFault, IsTyped}
-use Rattle.xs_kinds.proofs.Earliest.{fault_found, none_is_typed}
+use Rattle.xs_tree.specs.Flat.{FlatModel}
+use Rattle.xs_type_laws.specs.Judged.{KindRule}
+use Rattle.xs_type_laws.specs.Costs.{model_cost, state_bits}
+use Rattle.xs_type_laws.specs.FirstBreach.{first_of, first_fault}
+use Rattle.xs_type_laws.specs.Models.{breaches, IsFault, IsTyped}
+use Rattle.xs_type_laws.proofs.Earliest.{fault_found, none_is_typed}
 use Rattle.xs_types.specs.declared.fault.TypeFault.{TypeFault}
 use Rattle.xs_types.specs.declared.site.Site.{Site}
 use Rattle.xs_types.specs.Answers.{told_rule}
@@ -14,7 +14,7 @@ use Rattle.xs_types.specs.Faults.{IsFaultOf, told_fault}
 use Rattle.xs_types.specs.Sites.{told_first_site, fault_by}
 use Rattle.xs_types.proofs.SiteLaws.{fault_told}
 use Rattle.xs_types.proofs.SizeLaws.{below_cap}
-use Rattle.xs_flattening.proofs.Now.{neither}
+use Rattle.xs_flat_laws.proofs.Now.{neither}
 
 pub fault_answered : (m : FlatModel) (first : Option Site) (cost bits : ℕ) → first ≡ told_first_site (first_of (breaches m)) → cost ≡ min (model_cost m) 50001 → bits ≡ min (state_bits m) 50001 →
     fault_by first (nat_lt 50000 cost || nat_lt 4096 bits) ≡ told_fault (first_fault m)

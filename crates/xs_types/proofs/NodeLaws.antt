@@ -3,8 +3,8 @@ use Rattle.std.proofs.Common.{◌≡◌, ℤ, Bool, true, false, not, cond, ◌|
 use Rattle.std.specs.Prelude.{int_lt}
 use Rattle.xs_tree.specs.declared.expr.Op.{Op}
 use Rattle.xs_tree.specs.declared.expr.Op.TheVariants as op
-use Rattle.xs_kinds.specs.Intervals.{Interval, just, has_zero, fits}
-use Rattle.xs_kinds.specs.Judged.{Judged, truth_class, number_class, mismatch, not_boolean, may_divide_by_zero, empty_range, rule_if, unless_class, wide, joined, on_both, exact_interval, negative_interval, divisor_rule, judged_not, judged_connective, judged_negative, judged_number, judged_order, judged_same, judged_union, judged_binary, judged_choice, judged_span, one_value as one_found}
+use Rattle.xs_type_laws.specs.Intervals.{Interval, just, has_zero, fits}
+use Rattle.xs_type_laws.specs.Judged.{Judged, truth_class, number_class, mismatch, not_boolean, may_divide_by_zero, empty_range, rule_if, unless_class, wide, joined, on_both, exact_interval, negative_interval, divisor_rule, judged_not, judged_connective, judged_negative, judged_number, judged_order, judged_same, judged_union, judged_binary, judged_choice, judged_span, one_value as one_found}
 use Rattle.xs_types.specs.declared.fault.Rule.{Rule}
 use Rattle.xs_types.specs.declared.fault.Rule.TheVariants.{MayDivideByZero, TooWide, EmptyRange, Mismatch, SetHere}
 use Rattle.xs_types.specs.declared.sort.Class.{Class}

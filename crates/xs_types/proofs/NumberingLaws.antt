@@ -5,7 +5,7 @@ use Rattle.std.specs.Prelude.{if◌then◌else◌}
 use Rattle.std.proofs.lemmas.List.{drop_more}
 use Rattle.indexmap.specs.IndexMap.{IndexMap, get}
 use Rattle.xs_tree.specs.Texts.{same_text}
-use Rattle.xs_kinds.specs.Costs.{symbol_number}
+use Rattle.xs_type_laws.specs.Costs.{symbol_number}
 use Rattle.xs_types.specs.Numbering.{same_borrowed, number_from, AreNumbered}
 
 -- both tests of texts answer the same

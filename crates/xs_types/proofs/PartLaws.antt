@@ -4,16 +4,16 @@ use Rattle.std.specs.Prelude.{map}
 use Rattle.std.proofs.lemmas.List.{take_more, append-nil}
 use Rattle.xs_tree.specs.ProgramTree.{declared_tree}
 use Rattle.xs_tree.specs.Written.{tree_of}
-use Rattle.xs_flattening.specs.Flat.{FlatFormula}
-use Rattle.xs_scope.specs.declared.model.FlatModel.{FlatModel as AModel}
-use Rattle.xs_scope.specs.declared.model.Formula.{Formula}
-use Rattle.xs_scope.specs.declared.model.Variable.{Variable}
-use Rattle.xs_scope.specs.ModelTree.{variable_tree, formula_tree, flat_tree, model_tree}
-use Rattle.xs_kinds.specs.Judged.{Kind, Judged, judge}
-use Rattle.xs_kinds.specs.Declared.{judged_declared}
-use Rattle.xs_kinds.specs.FirstBreach.{first_of}
-use Rattle.xs_kinds.specs.Models.{leaf_kind, judged_variables, judged_after, broken_condition, Breach, breaches_at, variable_breaches, definition_breaches, condition_breaches, breaches, judged_definitions}
-use Rattle.xs_scope.specs.declared.model.Flat.{Flat}
+use Rattle.xs_tree.specs.Flat.{FlatFormula}
+use Rattle.xs_tree.specs.declared.model.FlatModel.{FlatModel as AModel}
+use Rattle.xs_tree.specs.declared.model.Formula.{Formula}
+use Rattle.xs_tree.specs.declared.model.Variable.{Variable}
+use Rattle.xs_tree.specs.ModelTree.{variable_tree, formula_tree, flat_tree, model_tree}
+use Rattle.xs_type_laws.specs.Judged.{Kind, Judged, judge}
+use Rattle.xs_type_laws.specs.Declared.{judged_declared}
+use Rattle.xs_type_laws.specs.FirstBreach.{first_of}
+use Rattle.xs_type_laws.specs.Models.{leaf_kind, judged_variables, judged_after, broken_condition, Breach, breaches_at, variable_breaches, definition_breaches, condition_breaches, breaches, judged_definitions}
+use Rattle.xs_tree.specs.declared.model.Flat.{Flat}
 use Rattle.xs_types.specs.Answers.{told, told_rules}
 use Rattle.xs_types.specs.Names.{name_kind}
 use Rattle.xs_types.specs.Rows.{lower, class_rule}

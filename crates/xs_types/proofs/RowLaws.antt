@@ -1,7 +1,7 @@
 -- The rules of one node.
 use Rattle.std.proofs.Common.{◌≡◌, Bool, true, false, Some, None, refl}
 use Rattle.std.specs.Prelude.{if◌then◌else◌}
-use Rattle.xs_kinds.specs.Intervals.{Interval, fits}
+use Rattle.xs_type_laws.specs.Intervals.{Interval, fits}
 use Rattle.xs_types.specs.Told.{fitting}
 use Rattle.xs_types.specs.Rows.{found, exact_of, unless}
 use Rattle.xs_types.specs.declared.fault.Rule.TheVariants.{TooWide}

@@ -1,11 +1,11 @@
 -- The first site is that of the first breach.
 use Rattle.std.proofs.Common.{◌≡◌, ℕ, Bool, true, false, List, ◌++◌, Option, Some, None, refl, sym, ap, ◌∙◌}
 use Rattle.std.specs.Prelude.{nat_eq, nat_lt, nat_le, if◌then◌else◌}
-use Rattle.xs_flattening.specs.Flat.{FlatModel}
-use Rattle.xs_kinds.specs.Judged.{KindRule, number_of}
-use Rattle.xs_kinds.specs.Models.{Breach, breaches_at, breaches, least, is_too_large}
-use Rattle.xs_kinds.specs.FirstBreach.{is_no_later, earlier, first_of, breach_of, size_breach, first_fault}
-use Rattle.xs_kinds.proofs.Earliest.{first_join, first_at}
+use Rattle.xs_tree.specs.Flat.{FlatModel}
+use Rattle.xs_type_laws.specs.Judged.{KindRule, number_of}
+use Rattle.xs_type_laws.specs.Models.{Breach, breaches_at, breaches, least, is_too_large}
+use Rattle.xs_type_laws.specs.FirstBreach.{is_no_later, earlier, first_of, breach_of, size_breach, first_fault}
+use Rattle.xs_type_laws.proofs.Earliest.{first_join, first_at}
 use Rattle.xs_types.specs.Rows.{rule_number}
 use Rattle.xs_types.specs.Answers.{told_rule, told_first, told_rules}
 use Rattle.xs_types.specs.Sites.{told_site, told_first_site, is_before, earlier_site, site_at, fault_by}

@@ -6,13 +6,13 @@ use Rattle.std.proofs.lemmas.List.{drop_more}
 use Rattle.std.proofs.lemmas.List.Sums.{sum_by-cons}
 use Rattle.xs_tree.specs.ProgramTree.{Text}
 use Rattle.xs_tree.specs.Written.{tree_of}
-use Rattle.xs_flattening.specs.Flat.{FlatFormula, FlatVariable}
-use Rattle.xs_scope.specs.declared.model.Formula.{Formula}
-use Rattle.xs_scope.specs.declared.model.Variable.{Variable}
-use Rattle.xs_scope.specs.declared.model.FlatModel.{FlatModel}
-use Rattle.xs_scope.specs.ModelTree.{leaf_of, formula_tree, variable_tree, model_tree}
-use Rattle.xs_kinds.specs.Costs.{cost_of, declared_cost, declared_width, role_width, model_cost, state_bits, formulas_cost as cost_of_formulas}
-use Rattle.xs_kinds.proofs.Mapped.{cost_mapped}
+use Rattle.xs_tree.specs.Flat.{FlatFormula, FlatVariable}
+use Rattle.xs_tree.specs.declared.model.Formula.{Formula}
+use Rattle.xs_tree.specs.declared.model.Variable.{Variable}
+use Rattle.xs_tree.specs.declared.model.FlatModel.{FlatModel}
+use Rattle.xs_tree.specs.ModelTree.{leaf_of, formula_tree, variable_tree, model_tree}
+use Rattle.xs_type_laws.specs.Costs.{cost_of, declared_cost, declared_width, role_width, model_cost, state_bits, formulas_cost as cost_of_formulas}
+use Rattle.xs_type_laws.proofs.Mapped.{cost_mapped}
 use Rattle.xs_types.specs.Sizes.{formula_cost, formulas_cost, variable_cost, variables_cost, variable_bits, variables_bits}
 
 pub formulas_cost_more : (fs : List Formula) (i : ℕ) (d : Formula) → i < length fs → formulas_cost (drop i fs) ≡ formula_cost (get_or fs i d) + formulas_cost (drop (i + 1) fs)

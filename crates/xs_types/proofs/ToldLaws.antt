@@ -1,11 +1,11 @@
 -- Of joined rules the first is the first of both firsts.
 use Rattle.std.proofs.Common.{◌≡◌, Bool, true, false, not, cond, nat_lt, ◌&&◌, ◌||◌, List, [], ◌∷◌, ◌++◌, Option, Some, None, refl, sym, ap, ◌∙◌, arith}
 use Rattle.std.proofs.lemmas.Bool.{ltb-true, ltb-false}
-use Rattle.xs_kinds.specs.Intervals.{Interval, fits}
-use Rattle.xs_kinds.specs.Judged as found
-use Rattle.xs_kinds.specs.Judged.{Class, truth_class, number_class, symbol_class, Kind, KindRule, mismatch, not_boolean, set_here, may_divide_by_zero, too_wide, empty_range, mixed_enum, case_end, too_large, double_member, number_of, rule_if, unless_class, wide}
-use Rattle.xs_kinds.specs.Models.{least, least_after, lesser}
-use Rattle.xs_kinds.proofs.Least.{least_join, least_of_both}
+use Rattle.xs_type_laws.specs.Intervals.{Interval, fits}
+use Rattle.xs_type_laws.specs.Judged as found
+use Rattle.xs_type_laws.specs.Judged.{Class, truth_class, number_class, symbol_class, Kind, KindRule, mismatch, not_boolean, set_here, may_divide_by_zero, too_wide, empty_range, mixed_enum, case_end, too_large, double_member, number_of, rule_if, unless_class, wide}
+use Rattle.xs_type_laws.specs.Models.{least, least_after, lesser}
+use Rattle.xs_type_laws.proofs.Least.{least_join, least_of_both}
 use Rattle.xs_types.specs.declared.fault.Rule.{Rule}
 use Rattle.xs_types.specs.declared.fault.Rule.TheVariants.{SetHere, TooWide}
 use Rattle.xs_types.specs.Rows.{rule_number, lesser_rule, lower, unless, same_class, class_rule, where_kept, one_value, some_values, exact_of}

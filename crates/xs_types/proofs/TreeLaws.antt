@@ -4,7 +4,7 @@ use Rattle.std.proofs.lemmas.List.{drop_more}
 use Rattle.xs_tree.specs.declared.expr.Expr.{Expr}
 use Rattle.xs_tree.specs.declared.expr.Expr.TheOpen as open_
 use Rattle.xs_tree.specs.Written.{tree_of, trees_of, branches_of}
-use Rattle.xs_kinds.specs.Costs.{cost_of, trees_cost, branches_cost}
+use Rattle.xs_type_laws.specs.Costs.{cost_of, trees_cost, branches_cost}
 
 pub trees_cost_more : {L : Type 0} (ts : List (Expr L)) (i : ℕ) (d : Expr L) → i < length ts →
     trees_cost (trees_of (drop i ts)) ≡ cost_of (tree_of (get_or ts i d)) + trees_cost (trees_of (drop (i + 1) ts))

@@ -5,12 +5,12 @@ use Rattle.std.proofs.lemmas.List.{append-nil}
 use Rattle.xs_tree.specs.declared.program.Member.{Member}
 use Rattle.xs_tree.specs.declared.program.Member.TheVariants as member
 use Rattle.xs_tree.specs.ProgramTree.{Text}
-use Rattle.xs_kinds.specs.Intervals.{Interval, just, hull}
-use Rattle.xs_kinds.specs.Judged.{Class, Kind, KindRule, mismatch, mixed_enum, double_member, empty_range, rule_if, unless_class, same_class, wide, hull_from, hull_of, unlike_first, kinds_in, broken_in, one_value as one_found, number_class, where_kept as where_found}
-use Rattle.xs_kinds.specs.Costs.{member_number, number_kind}
-use Rattle.xs_kinds.specs.Models.{least, least_after}
-use Rattle.xs_kinds.proofs.Parts.{none_first, none_second}
-use Rattle.xs_kinds.specs.Declared.{member_kind, has_double, judged_members, judged_range}
+use Rattle.xs_type_laws.specs.Intervals.{Interval, just, hull}
+use Rattle.xs_type_laws.specs.Judged.{Class, Kind, KindRule, mismatch, mixed_enum, double_member, empty_range, rule_if, unless_class, same_class, wide, hull_from, hull_of, unlike_first, kinds_in, broken_in, one_value as one_found, number_class, where_kept as where_found}
+use Rattle.xs_type_laws.specs.Costs.{member_number, number_kind}
+use Rattle.xs_type_laws.specs.Models.{least, least_after}
+use Rattle.xs_type_laws.proofs.Parts.{none_first, none_second}
+use Rattle.xs_type_laws.specs.Declared.{member_kind, has_double, judged_members, judged_range}
 use Rattle.xs_types.specs.declared.fault.Rule.{Rule}
 use Rattle.xs_types.specs.declared.fault.Rule.TheVariants.{DoubleMember}
 use Rattle.xs_types.specs.declared.sort.Judged.{Judged as AJudged}

@@ -1,8 +1,8 @@
 -- What the code answers for what the definitions of kinds say: of all rules that are broken, the first.
 use Rattle.std.specs.Prelude.{Option, Some, None, List}
-use Rattle.xs_kinds.specs.Judged as found
-use Rattle.xs_kinds.specs.Judged.{Kind, KindRule, truth_class, number_class, symbol_class, mismatch, not_boolean, set_here, may_divide_by_zero, too_wide, empty_range, mixed_enum, case_end, too_large, double_member}
-use Rattle.xs_kinds.specs.Models.{least}
+use Rattle.xs_type_laws.specs.Judged as found
+use Rattle.xs_type_laws.specs.Judged.{Kind, KindRule, truth_class, number_class, symbol_class, mismatch, not_boolean, set_here, may_divide_by_zero, too_wide, empty_range, mixed_enum, case_end, too_large, double_member}
+use Rattle.xs_type_laws.specs.Models.{least}
 use Rattle.xs_types.specs.declared.fault.Rule.{Rule}
 use Rattle.xs_types.specs.declared.fault.Rule.TheVariants.{Mismatch, NotBoolean, SetHere, MayDivideByZero, TooWide, EmptyRange, MixedEnum, CaseEnd, TooLarge, DoubleMember}
 use Rattle.xs_types.specs.declared.sort.Class.{Class}

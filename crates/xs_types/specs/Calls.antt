@@ -2,12 +2,12 @@
 use Rattle.std.specs.Prelude.{pos, neg_ℤ, Bool, true, false, Option, Some, None, Result, Ok, Err, List}
 use Rattle.xs_tree.specs.Tree.{Tree}
 use Rattle.xs_tree.specs.Values.{Value}
-use Rattle.xs_flattening.specs.Flat.{FlatLeaf, FlatModel}
-use Rattle.xs_flattening.specs.FlatTrace.{AreInDomains}
-use Rattle.xs_kinds.specs.Judged as found
-use Rattle.xs_kinds.specs.Judged.{KindRule}
-use Rattle.xs_kinds.specs.Laws.{IsClosed, ReadsOwn, KeepsKind}
-use Rattle.xs_kinds.specs.Models.{judged_in}
+use Rattle.xs_tree.specs.Flat.{FlatLeaf, FlatModel}
+use Rattle.xs_flat_laws.specs.FlatTrace.{AreInDomains}
+use Rattle.xs_type_laws.specs.Judged as found
+use Rattle.xs_type_laws.specs.Judged.{KindRule}
+use Rattle.xs_type_laws.specs.Laws.{IsClosed, ReadsOwn, KeepsKind}
+use Rattle.xs_type_laws.specs.Models.{judged_in}
 use Rattle.xs_types.specs.declared.fault.Rule.{Rule}
 use Rattle.xs_types.specs.declared.fault.Rule.TheVariants.{TooLarge}
 use Rattle.xs_types.specs.declared.fault.TypeFault.{TypeFault}

@@ -1,8 +1,8 @@
 -- What is told of a model that breaks a rule.
 use Rattle.std.specs.Prelude.{◌≡◌, ◌⊎◌, ℕ, Option, Some, None}
-use Rattle.xs_flattening.specs.Flat.{FlatModel}
-use Rattle.xs_kinds.specs.Judged.{KindRule}
-use Rattle.xs_kinds.specs.Models.{IsFault}
+use Rattle.xs_tree.specs.Flat.{FlatModel}
+use Rattle.xs_type_laws.specs.Judged.{KindRule}
+use Rattle.xs_type_laws.specs.Models.{IsFault}
 use Rattle.xs_types.specs.Answers.{told_rule}
 use Rattle.xs_types.specs.declared.fault.Rule.TheVariants.{OutOfMemory}
 use Rattle.xs_types.specs.declared.fault.TypeFault.{TypeFault}

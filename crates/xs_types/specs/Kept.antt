@@ -1,11 +1,11 @@
 -- The kinds that are kept of what was judged.
 use Rattle.std.specs.Prelude.{◌≡◌, false, List, map, flat_map}
 use Rattle.xs_tree.specs.Written.{tree_of}
-use Rattle.xs_flattening.specs.Flat.{FlatModel}
-use Rattle.xs_kinds.specs.Judged.{Kind, Judged, judge}
-use Rattle.xs_kinds.specs.Models.{judged_variables, judged_definitions, broken_condition, Breach, breaches_at}
-use Rattle.xs_scope.specs.declared.model.Flat.{Flat}
-use Rattle.xs_scope.specs.declared.model.Formula.{Formula}
+use Rattle.xs_tree.specs.Flat.{FlatModel}
+use Rattle.xs_type_laws.specs.Judged.{Kind, Judged, judge}
+use Rattle.xs_type_laws.specs.Models.{judged_variables, judged_definitions, broken_condition, Breach, breaches_at}
+use Rattle.xs_tree.specs.declared.model.Flat.{Flat}
+use Rattle.xs_tree.specs.declared.model.Formula.{Formula}
 use Rattle.xs_types.specs.Answers.{told_sort}
 use Rattle.xs_types.specs.declared.sort.Sort.{Sort}
 use Rattle.xs_types.specs.declared.judge.Sorts.{Sorts}

@@ -5,8 +5,8 @@ use Rattle.indexmap.specs.IndexSet.{contains}
 use Rattle.xs_tree.specs.declared.program.Member.{Member}
 use Rattle.xs_tree.specs.declared.program.Member.TheVariants as member
 use Rattle.xs_tree.specs.Texts.{is_among}
-use Rattle.xs_scope.specs.Symbols.{texts}
-use Rattle.xs_kinds.specs.Declared.{same_member}
+use Rattle.xs_tree.specs.BorrowedTexts.{texts}
+use Rattle.xs_type_laws.specs.Declared.{same_member}
 use Rattle.xs_types.specs.declared.members.Met.{Met}
 
 -- the member was met

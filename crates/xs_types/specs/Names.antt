@@ -1,8 +1,8 @@
 -- The kinds of names, from those of variables and definitions by their numbers.
 use Rattle.std.specs.Prelude.{Option, Some, None, slice_get}
-use Rattle.xs_scope.specs.declared.model.Flat.{Flat}
-use Rattle.xs_scope.specs.declared.model.Flat.TheVariants as flat
-use Rattle.xs_kinds.specs.Judged.{Kind}
+use Rattle.xs_tree.specs.declared.model.Flat.{Flat}
+use Rattle.xs_tree.specs.declared.model.Flat.TheVariants as flat
+use Rattle.xs_type_laws.specs.Judged.{Kind}
 use Rattle.xs_types.specs.Answers.{seen_sort}
 use Rattle.xs_types.specs.declared.sort.Class.TheVariants.{Truth, Symbol}
 use Rattle.xs_types.specs.declared.sort.Sort.{Sort}

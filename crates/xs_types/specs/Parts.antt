@@ -1,10 +1,10 @@
 -- The definitions of a model, one after the other.
 use Rattle.std.specs.Prelude.{◌≡◌, [], List, map}
-use Rattle.xs_scope.specs.declared.model.Formula.{Formula}
-use Rattle.xs_scope.specs.ModelTree.{formula_tree}
-use Rattle.xs_kinds.specs.Judged.{Judged}
-use Rattle.xs_kinds.specs.FirstBreach.{first_of}
-use Rattle.xs_kinds.specs.Models.{judged_after, definition_breaches}
+use Rattle.xs_tree.specs.declared.model.Formula.{Formula}
+use Rattle.xs_tree.specs.ModelTree.{formula_tree}
+use Rattle.xs_type_laws.specs.Judged.{Judged}
+use Rattle.xs_type_laws.specs.FirstBreach.{first_of}
+use Rattle.xs_type_laws.specs.Models.{judged_after, definition_breaches}
 use Rattle.xs_types.specs.Sites.{told_first_site}
 use Rattle.xs_types.specs.Kept.{AreKept}
 use Rattle.xs_types.specs.declared.definitions.Defined.{Defined}

@@ -2,8 +2,8 @@
 use Rattle.std.specs.Prelude.{ℕ, ℤ, ◌||◌, Bool, true, false, not, nat_lt, int_lt, Option, Some, None, if◌then◌else◌}
 use Rattle.xs_tree.specs.declared.expr.Op.{Op}
 use Rattle.xs_tree.specs.declared.expr.Op.TheVariants as op
-use Rattle.xs_kinds.specs.Intervals.{Interval, just, has_zero, fits}
-use Rattle.xs_kinds.specs.Judged.{on_both, joined, negative_interval, exact_interval}
+use Rattle.xs_type_laws.specs.Intervals.{Interval, just, has_zero, fits}
+use Rattle.xs_type_laws.specs.Judged.{on_both, joined, negative_interval, exact_interval}
 use Rattle.xs_types.specs.Told.{fitting}
 use Rattle.xs_types.specs.declared.fault.Rule.{Rule}
 use Rattle.xs_types.specs.declared.fault.Rule.TheVariants.{Mismatch, NotBoolean, SetHere, MayDivideByZero, TooWide, EmptyRange, MixedEnum, CaseEnd, TooLarge, DoubleMember, OutOfMemory}

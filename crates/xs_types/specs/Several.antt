@@ -1,7 +1,7 @@
 -- The members of a set and the branches of a case, one after the other.
 use Rattle.std.specs.Prelude.{◌||◌, Bool, true, false, Option, Some, None, List, [], ◌∷◌}
 use Rattle.xs_tree.specs.Tree.{Branches, no_branch, branch_then}
-use Rattle.xs_kinds.specs.Judged.{Kind, Judged as Found, joined, is_word_true, judge}
+use Rattle.xs_type_laws.specs.Judged.{Kind, Judged as Found, joined, is_word_true, judge}
 use Rattle.xs_types.specs.Rows.{lower, unless, class_rule, some_values}
 use Rattle.xs_types.specs.Answers.{told}
 use Rattle.xs_types.specs.declared.fault.Rule.TheVariants.{Mismatch, NotBoolean, CaseEnd}

@@ -1,6 +1,6 @@
 -- The places at which rules are broken, as the code keeps them.
 use Rattle.std.specs.Prelude.{ℕ, nat_eq, nat_lt, nat_le, Bool, Option, Some, None, if◌then◌else◌}
-use Rattle.xs_kinds.specs.Models.{Breach}
+use Rattle.xs_type_laws.specs.Models.{Breach}
 use Rattle.xs_types.specs.Rows.{rule_number}
 use Rattle.xs_types.specs.Answers.{told_rule}
 use Rattle.xs_types.specs.declared.fault.Rule.{Rule}

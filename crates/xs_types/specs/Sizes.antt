@@ -2,10 +2,10 @@
 use Rattle.std.specs.Prelude.{ℕ, List, sum_by}
 use Rattle.xs_tree.specs.ProgramTree.{Text, declared_tree}
 use Rattle.xs_tree.specs.Written.{tree_of}
-use Rattle.xs_kinds.specs.Costs.{cost_of, declared_cost, declared_width, role_width}
-use Rattle.xs_scope.specs.declared.model.Formula.{Formula}
-use Rattle.xs_scope.specs.declared.model.Variable.{Variable}
-use Rattle.xs_scope.specs.ModelTree.{role_of}
+use Rattle.xs_type_laws.specs.Costs.{cost_of, declared_cost, declared_width, role_width}
+use Rattle.xs_tree.specs.declared.model.Formula.{Formula}
+use Rattle.xs_tree.specs.declared.model.Variable.{Variable}
+use Rattle.xs_tree.specs.ModelTree.{role_of}
 
 abbrev pub formula_cost : Formula → ℕ
 formula_cost f = cost_of (tree_of f.value)

@@ -1,6 +1,6 @@
 -- What the code answers for what definitions say.
 use Rattle.std.specs.Prelude.{ℤ, pos, neg_ℤ, ◌≤ℤ◌, Option, Some, None, if◌then◌else◌}
-use Rattle.xs_kinds.specs.Intervals.{Interval, fits}
+use Rattle.xs_type_laws.specs.Intervals.{Interval, fits}
 
 -- an interval that ends within 32 bits
 abbrev pub fitting : Interval → Option Interval

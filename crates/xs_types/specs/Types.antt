@@ -10,12 +10,12 @@ use Rattle.xs_value.specs.declared.domain.Domain.TheVariants as domain
 use Rattle.xs_value.specs.declared.value.Value.{Value}
 use Rattle.xs_value.specs.declared.value.Value.TheVariants as value
 use Rattle.xs_value.specs.Domains.{Has}
-use Rattle.xs_scope.specs.declared.model.Variable.{Variable}
-use Rattle.xs_scope.specs.declared.model.FlatModel.{FlatModel}
-use Rattle.xs_kinds.specs.Intervals.{Interval, just, hull}
-use Rattle.xs_kinds.specs.Judged as found
-use Rattle.xs_kinds.specs.Judged.{number_class, symbol_class, wide}
-use Rattle.xs_kinds.specs.Costs.{symbol_number}
+use Rattle.xs_tree.specs.declared.model.Variable.{Variable}
+use Rattle.xs_tree.specs.declared.model.FlatModel.{FlatModel}
+use Rattle.xs_type_laws.specs.Intervals.{Interval, just, hull}
+use Rattle.xs_type_laws.specs.Judged as found
+use Rattle.xs_type_laws.specs.Judged.{number_class, symbol_class, wide}
+use Rattle.xs_type_laws.specs.Costs.{symbol_number}
 use Rattle.xs_types.specs.Rows.{lower, unless, one_value}
 use Rattle.xs_types.specs.declared.fault.Rule.{Rule}
 use Rattle.xs_types.specs.declared.fault.Rule.TheVariants.{MixedEnum, DoubleMember}

@@ -2,7 +2,7 @@
 
 ghost use Rattle.std.specs.Prelude.{◌≡◌, ◌≤◌, None, map};
 ghost use Rattle.xs_tree.specs.ProgramTree.{declared_tree};
-ghost use Rattle.xs_kinds.specs.Costs.{digits_of, digits_above, width_of, width_in, member_number, declared_width};
+ghost use Rattle.xs_type_laws.specs.Costs.{digits_of, digits_above, width_of, width_in, member_number, declared_width};
 ghost use Rattle.xs_types.specs.Types.{widened, spread};
 
 use crate::symbols::SymbolNumbers;
@@ -17,7 +17,7 @@ struct Ends {
 }
 
 impl Model for Ends {
-    ghost use Rattle.xs_kinds.specs.Intervals.{Interval};
+    ghost use Rattle.xs_type_laws.specs.Intervals.{Interval};
 
     ghost Value = { Interval };
 

@@ -1,8 +1,8 @@
 //! Expressions over a typed model that are no part of it.
 
 ghost use Rattle.std.specs.Prelude.{◌≡◌, true, false, [], nat_lt, OnOk};
-ghost use Rattle.xs_scope.specs.ModelTree.{model_tree, flat_tree};
-ghost use Rattle.xs_kinds.specs.Models.{judged_in, broken_condition, value_fault, top_fault};
+ghost use Rattle.xs_tree.specs.ModelTree.{model_tree, flat_tree};
+ghost use Rattle.xs_type_laws.specs.Models.{judged_in, broken_condition, value_fault, top_fault};
 ghost use Rattle.xs_types.specs.Answers.{told};
 ghost use Rattle.xs_types.specs.Calls.{sort_kind, shown, value_answer, top_answer, value_by, top_by, LiesInKind};
 
@@ -11,8 +11,8 @@ use crate::fault::{Rule, TypeFault};
 use crate::judge::judge;
 use crate::sort::{Class, Judged, Sort, broken_condition};
 use crate::typed::Typed;
-use xs_flat::Flat;
 use xs_tree::Expr;
+use xs_tree::model::Flat;
 
 /// What the values of an expression are: truth values, numbers from the first to the second, both
 /// included, or symbols.

@@ -1,7 +1,7 @@
 //! The conditions of a model.
 
 ghost use Rattle.std.specs.Prelude.{◌≡◌, ◌++◌};
-ghost use Rattle.xs_kinds.specs.FirstBreach.{first_of};
+ghost use Rattle.xs_type_laws.specs.FirstBreach.{first_of};
 ghost use Rattle.xs_types.specs.Kept.{formula_breaches};
 ghost use Rattle.xs_types.specs.Names.{name_kind};
 ghost use Rattle.xs_types.specs.Sites.{told_first_site};
@@ -9,7 +9,7 @@ ghost use Rattle.xs_types.specs.Sites.{told_first_site};
 use crate::judge::{Sorts, judge};
 use crate::site::{Site, earlier, site_of};
 use crate::sort::broken_condition;
-use xs_flat::{FlatModel, Formula};
+use xs_tree::model::{FlatModel, Formula};
 
 /// The first rule that a model's formulas break.
 pub(crate) fn judge_conditions(sorts: &Sorts, m: &FlatModel) -> Option<Site>

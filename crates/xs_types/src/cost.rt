@@ -3,11 +3,11 @@
 ghost use Rattle.std.specs.Prelude.{◌≡◌, ◌+◌, min};
 ghost use Rattle.xs_tree.specs.Written.{tree_of, trees_of, branches_of};
 ghost use Rattle.xs_tree.specs.ProgramTree.{declared_tree};
-ghost use Rattle.xs_scope.specs.ModelTree.{model_tree};
-ghost use Rattle.xs_kinds.specs.Costs.{op_cost, cost_of, trees_cost, branches_cost, declared_cost, model_cost};
+ghost use Rattle.xs_tree.specs.ModelTree.{model_tree};
+ghost use Rattle.xs_type_laws.specs.Costs.{op_cost, cost_of, trees_cost, branches_cost, declared_cost, model_cost};
 ghost use Rattle.xs_types.specs.Sizes.{formulas_cost, variables_cost};
 
-use xs_flat::{Flat, FlatModel, Formula, Variable};
+use xs_tree::model::{Flat, FlatModel, Formula, Variable};
 use xs_tree::{Declared, Expr, Op};
 
 /// The greatest cost of a model, and of a top event.

@@ -2,7 +2,7 @@
 
 ghost use Rattle.std.specs.Prelude.{◌≡◌, IfOk};
 ghost use Rattle.xs_tree.specs.ProgramTree.{declared_tree};
-ghost use Rattle.xs_kinds.specs.Declared.{judged_declared};
+ghost use Rattle.xs_type_laws.specs.Declared.{judged_declared};
 ghost use Rattle.xs_types.specs.Answers.{told};
 ghost use Rattle.xs_types.specs.Types.{begins_with_number, numbers_in, symbols_in, members_domain, domain_of};
 

@@ -2,9 +2,9 @@
 
 ghost use Rattle.std.specs.Prelude.{◌≡◌, false, [], ◌∷◌, ◌++◌, IfOk};
 ghost use Rattle.xs_tree.specs.Written.{tree_of};
-ghost use Rattle.xs_scope.specs.ModelTree.{model_tree};
-ghost use Rattle.xs_kinds.specs.Judged.{judge};
-ghost use Rattle.xs_kinds.specs.Models.{judged_variables};
+ghost use Rattle.xs_tree.specs.ModelTree.{model_tree};
+ghost use Rattle.xs_type_laws.specs.Judged.{judge};
+ghost use Rattle.xs_type_laws.specs.Models.{judged_variables};
 ghost use Rattle.xs_types.specs.Answers.{told_rules};
 ghost use Rattle.xs_types.specs.Kept.{kept_sort, kept_sorts};
 ghost use Rattle.xs_types.specs.Names.{name_kind};
@@ -15,7 +15,7 @@ use crate::judge::{Sorts, judge};
 use crate::site::{Site, earlier, site_of};
 use crate::sort::Sort;
 use std::alloc::Global;
-use xs_flat::{FlatModel, Formula};
+use xs_tree::model::{FlatModel, Formula};
 use xs_value::OutOfMemory;
 
 /// The definitions in order, each judged over those before it: what is known of them and of the variables,

@@ -2,7 +2,7 @@
 
 ghost use Rattle.std.specs.Prelude.{◌≡◌, false, None, slice_get};
 ghost use Rattle.xs_tree.specs.Written.{tree_of, trees_of, branches_of};
-ghost use Rattle.xs_kinds.specs.Judged.{sets_on_left, sets_on_right, is_word_true, judge, judge_trees, judge_values};
+ghost use Rattle.xs_type_laws.specs.Judged.{sets_on_left, sets_on_right, is_word_true, judge, judge_trees, judge_values};
 ghost use Rattle.xs_types.specs.Answers.{told};
 ghost use Rattle.xs_types.specs.Names.{sort_at, name_sort, name_kind};
 ghost use Rattle.xs_types.specs.Several.{add_all, guard_all, no_guards};
@@ -11,7 +11,7 @@ use crate::several::{Guards, Several, add_to, guard_by, whole_case, whole_set};
 use crate::sort::{
     Class, Judged, Sort, choice, kept, literal, negative, operation, opposite, span,
 };
-use xs_flat::Flat;
+use xs_tree::model::Flat;
 use xs_tree::{Expr, Op};
 
 /// What is known of a model's variables and definitions, by their numbers.

@@ -1,7 +1,7 @@
 //! The members of a type that lists its values.
 
 ghost use Rattle.std.specs.Prelude.{◌≡◌, None, not, map, IfOk, OnOk};
-ghost use Rattle.xs_kinds.specs.Declared.{has_double, judged_members};
+ghost use Rattle.xs_type_laws.specs.Declared.{has_double, judged_members};
 ghost use Rattle.xs_types.specs.Answers.{told};
 ghost use Rattle.xs_types.specs.Several.{add_all};
 ghost use Rattle.xs_types.specs.Types.{member_judged, members_judged, mixed, row_type};

@@ -1,7 +1,7 @@
 //! What is known of an expression's values, and the rules of one node over its parts.
 
 ghost use Rattle.std.specs.Prelude.{◌≡◌, false, None};
-ghost use Rattle.xs_kinds.specs.Judged.{joined, on_both, exact_interval, negative_interval};
+ghost use Rattle.xs_type_laws.specs.Judged.{joined, on_both, exact_interval, negative_interval};
 ghost use Rattle.xs_types.specs.Rows.{lower, same_class, class_rule, one_value, some_values, found, exact_of, is_divided, row_not, row_connective, row_negative, row_number, row_order, row_same, row_union, row_binary, row_choice, row_span, row_range, row_literal};
 ghost use Rattle.xs_types.specs.declared.fault.Rule.TheVariants.{NotBoolean};
 ghost use Rattle.xs_types.specs.declared.sort.Class.TheVariants.{Truth};

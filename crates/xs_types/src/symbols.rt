@@ -1,7 +1,7 @@
 //! The numbers of a model's symbols.
 
 ghost use Rattle.std.specs.Prelude.{◌≡◌, ◌≤◌, length, IfOk, IsOk, OnOk};
-ghost use Rattle.xs_kinds.specs.Costs.{symbol_number, member_number};
+ghost use Rattle.xs_type_laws.specs.Costs.{symbol_number, member_number};
 ghost use Rattle.xs_types.specs.Numbering.{AreNumbered};
 
 use indexmap::IndexMap;

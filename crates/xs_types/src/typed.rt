@@ -1,9 +1,9 @@
 //! Models that break no rule.
 
 ghost use Rattle.std.specs.Prelude.{◌≡◌, ◌<◌, ◌≤◌, ◌||◌, nat_lt, map, length, slice_get, Some, IfOk, IfErr};
-ghost use Rattle.xs_scope.specs.ModelTree.{model_tree, leaf_of};
-ghost use Rattle.xs_kinds.specs.Costs.{model_cost, state_bits};
-ghost use Rattle.xs_kinds.specs.Models.{IsTyped, kind_of_leaf};
+ghost use Rattle.xs_tree.specs.ModelTree.{model_tree, leaf_of};
+ghost use Rattle.xs_type_laws.specs.Costs.{model_cost, state_bits};
+ghost use Rattle.xs_type_laws.specs.Models.{IsTyped, kind_of_leaf};
 ghost use Rattle.xs_types.specs.Answers.{told_sort};
 ghost use Rattle.xs_types.specs.Kept.{AreKindsOf};
 ghost use Rattle.xs_types.specs.Types.{variable_domain, AreValuesOf};
@@ -15,7 +15,7 @@ use crate::judge::{Sorts, name_sort};
 use crate::sort::Sort;
 use crate::whole::{Found, fault_of, find_all};
 use std::alloc::Global;
-use xs_flat::{Flat, FlatModel};
+use xs_tree::model::{Flat, FlatModel};
 use xs_value::Domain;
 
 /// A flat model that breaks no rule of kinds and keeps the limits, with the domains of its variables.

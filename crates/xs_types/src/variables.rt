@@ -2,11 +2,11 @@
 
 ghost use Rattle.std.specs.Prelude.{◌≡◌, ◌+◌, [], ◌∷◌, ◌++◌, min, map, IfOk};
 ghost use Rattle.xs_tree.specs.ProgramTree.{declared_tree};
-ghost use Rattle.xs_scope.specs.ModelTree.{model_tree, variable_tree};
-ghost use Rattle.xs_kinds.specs.Declared.{judged_declared};
-ghost use Rattle.xs_kinds.specs.Costs.{state_bits};
-ghost use Rattle.xs_kinds.specs.FirstBreach.{first_of};
-ghost use Rattle.xs_kinds.specs.Models.{judged_variables, variable_breaches};
+ghost use Rattle.xs_tree.specs.ModelTree.{model_tree, variable_tree};
+ghost use Rattle.xs_type_laws.specs.Declared.{judged_declared};
+ghost use Rattle.xs_type_laws.specs.Costs.{state_bits};
+ghost use Rattle.xs_type_laws.specs.FirstBreach.{first_of};
+ghost use Rattle.xs_type_laws.specs.Models.{judged_variables, variable_breaches};
 ghost use Rattle.xs_types.specs.Answers.{told_rules};
 ghost use Rattle.xs_types.specs.Kept.{kept_sort, kept_sorts};
 ghost use Rattle.xs_types.specs.Sites.{told_first_site, earlier_site, site_at};
@@ -20,7 +20,7 @@ use crate::site::{Site, earlier, site_of};
 use crate::sort::Sort;
 use crate::symbols::SymbolNumbers;
 use std::alloc::Global;
-use xs_flat::{FlatModel, Role, Variable};
+use xs_tree::model::{FlatModel, Role, Variable};
 use xs_value::{Domain, OutOfMemory};
 
 /// Variables: their domains, what is known of their values, the first rule that a declaration breaks, and

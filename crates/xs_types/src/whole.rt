@@ -1,10 +1,10 @@
 //! All that is known of a model, and the first rule that it breaks.
 
 ghost use Rattle.std.specs.Prelude.{◌≡◌, ◌||◌, min, nat_lt, map, IfOk};
-ghost use Rattle.xs_scope.specs.ModelTree.{model_tree};
-ghost use Rattle.xs_kinds.specs.Costs.{state_bits};
-ghost use Rattle.xs_kinds.specs.FirstBreach.{first_of};
-ghost use Rattle.xs_kinds.specs.Models.{judged_definitions, variable_breaches, definition_breaches, breaches};
+ghost use Rattle.xs_tree.specs.ModelTree.{model_tree};
+ghost use Rattle.xs_type_laws.specs.Costs.{state_bits};
+ghost use Rattle.xs_type_laws.specs.FirstBreach.{first_of};
+ghost use Rattle.xs_type_laws.specs.Models.{judged_definitions, variable_breaches, definition_breaches, breaches};
 ghost use Rattle.xs_types.specs.Kept.{AreKindsOf};
 ghost use Rattle.xs_types.specs.Sites.{told_first_site, fault_by};
 ghost use Rattle.xs_types.specs.Types.{variable_domain};
@@ -17,7 +17,7 @@ use crate::judge::Sorts;
 use crate::site::{Site, earlier};
 use crate::variables::{Declarations, declare_all};
 use std::alloc::Global;
-use xs_flat::FlatModel;
+use xs_tree::model::FlatModel;
 use xs_value::{Domain, OutOfMemory};
 
 /// The most state bits of a model.

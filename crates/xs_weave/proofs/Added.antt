@@ -10,11 +10,12 @@ use Rattle.xs_tree.specs.Scope.{state, a_variable, find_module, kind_declared, k
 use Rattle.xs_tree.specs.Trace.{AtSome}
 use Rattle.xs_tree.proofs.ValueLaws.{same_text_refl}
 use Rattle.xs_fei.specs.Instructions.{ModeTree, SliceTree, InstructionTree, is_target, is_affected}
-use Rattle.xs_effects.specs.AddedNames.{ModeState}
-use Rattle.xs_effects.specs.AddedNames.{own_name, mode_variable, mode_symbol}
-use Rattle.xs_weave.specs.Woven.{type_of_kind, mode_type, slice_sections, woven_section, added_sections, woven}
-use Rattle.xs_weave.specs.Weavable.{Among}
-use Rattle.xs_effects.specs.Types.{IsKnown}
+use Rattle.xs_fei.specs.AddedNames.{ModeState}
+use Rattle.xs_fei.specs.AddedNames.{own_name, mode_variable, mode_symbol}
+use Rattle.xs_weave.specs.Woven.{mode_type, slice_sections, woven_section, added_sections, woven}
+use Rattle.xs_fei.specs.KindTypes.{type_of_kind}
+use Rattle.xs_fei.specs.Weavable.{Among}
+use Rattle.xs_fei.specs.Types.{IsKnown}
 use Rattle.xs_weave.proofs.WovenKinds.{slice_kind}
 use Rattle.xs_weave.proofs.Declared.{or_true}
 use Rattle.xs_tree.proofs.OneTree.{same_text_equal}
@@ -38,22 +39,6 @@ own_name_same x y e = append_cancel_right x y (codes "#nominal") e
 
 pub mode_variable_same : (x y : Text) → mode_variable x ≡ mode_variable y → x ≡ y
 mode_variable_same x y e = append_cancel_right x y (codes "#mode") e
-
--- the two added variables differ by their last letters
-abbrev last_or : ℕ → Text → ℕ
-last_or d [] = d
-last_or d (c ∷ cs) = last_or c cs
-
-own_last : (d : ℕ) (x : Text) → last_or d (own_name x) ≡ 108
-own_last d [] = refl
-own_last d (c ∷ x) = own_last c x
-
-mode_last : (d : ℕ) (x : Text) → last_or d (mode_variable x) ≡ 101
-mode_last d [] = refl
-mode_last d (c ∷ x) = mode_last c x
-
-pub own_not_mode : (x y : Text) → own_name x ≢ mode_variable y
-own_not_mode x y e = let same : 108 ≡ 101 = sym (own_last 0 x) ∙ ap (last_or 0) e ∙ mode_last 0 y in absurd (omega (arith, same))
 
 -- an affected variable is the target of a slice
 pub affected_slice : (ss : List SliceTree) (x : Text) → is_target ss x ≡ true → (s : SliceTree) × Among ss s × (s.target ≡ x)
@@ -142,14 +127,6 @@ slices_symbol m (t ∷ ss) s st (inl e) known =
     subst (λ u. IsKnown u st → is_symbol_of_sections (flat_map (slice_sections m) (t ∷ ss)) (mode_symbol u.name st) ≡ true) e
     (λ k. or_true _ _ (inl (or_true _ _ (inr (or_true _ _ (inl (type_symbol t st k))))))) known
 slices_symbol m (t ∷ ss) s st (inr a) known = sections_more (slice_sections m t) (flat_map (slice_sections m) ss) (mode_symbol s.name st) (slices_symbol m ss s st a known)
-
-pub found_among : (q : ProgramTree) (x : Text) (m : ModuleTree) → find_module q x ≡ Some m → Among q m
-found_among [] x m h = cc
-found_among (n ∷ q) x m h = go (same_text n.name x) h (found_among q x m)
-  where
-    go : (b : Bool) → (if b then Some n else find_module q x) ≡ Some m → (find_module q x ≡ Some m → Among q m) → Among (n ∷ q) m
-    go true h more = inl cc
-    go false h more = inr (more h)
 
 pub woven_symbol : (q : ProgramTree) (i : InstructionTree) (m : ModuleTree) (x : Text) → Among q m → is_symbol_of_sections (added_sections i m) x ≡ true → is_symbol (woven q i) x ≡ true
 woven_symbol [] i m x a h = absurd a

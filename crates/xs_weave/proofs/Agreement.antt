@@ -11,7 +11,7 @@ use Rattle.xs_tree.specs.Trace.{IsVariable}
 use Rattle.xs_fei.specs.Instructions.{InstructionTree}
 use Rattle.xs_weave.specs.Woven.{woven, tree_map_both, trees_map_both, branches_map_both}
 use Rattle.xs_tree.specs.Laws.{AllLeaves, AllLeavesOfTrees, AllLeavesOfBranches}
-use Rattle.xs_weave.specs.Weavable.{NoNext, NoNextInTrees, NoNextInBranches, IsWeavable, IsReadable, HasMeaning}
+use Rattle.xs_fei.specs.Weavable.{NoNext, NoNextInTrees, NoNextInBranches, IsWeavable, IsReadable, HasMeaning}
 use Rattle.xs_weave.proofs.Meanings.{same_meaning}
 
 -- evaluation sees what the leaves of the tree give, and no more

@@ -8,11 +8,11 @@ use Rattle.xs_tree.specs.Evaluate.{Leaves, evaluate, evaluate_branches, gives_ch
 use Rattle.xs_tree.specs.Trace.{Each}
 use Rattle.xs_tree.proofs.ValueLaws.{same_text_refl}
 use Rattle.xs_fei.specs.Instructions.{ModeTree}
-use Rattle.xs_effects.specs.AddedNames.{ModeState}
-use Rattle.xs_effects.specs.Templates.{stands}
-use Rattle.xs_effects.proofs.TemplateLaws.{is_state}
+use Rattle.xs_fei.specs.AddedNames.{ModeState}
+use Rattle.xs_fei.specs.Templates.{stands}
+use Rattle.xs_fei.proofs.TemplateLaws.{is_state}
 use Rattle.xs_weave.specs.Woven.{mode_branches}
-use Rattle.xs_weave.specs.Weavable.{Among}
+use Rattle.xs_fei.specs.Weavable.{Among}
 use Rattle.xs_tree.proofs.OneTree.{same_text_equal}
 
 -- the branch that the case takes

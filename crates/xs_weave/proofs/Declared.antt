@@ -5,9 +5,9 @@ use Rattle.xs_tree.specs.ProgramTree.{Text, DeclaredTree, boolean, range, member
 use Rattle.xs_tree.specs.Texts.{same_text, is_among}
 use Rattle.xs_tree.specs.Scope.{Role, state, input, frozen_role, Kind, a_variable, a_define, kind_declared, kind_in_decls, kind_in_defines, kind_in_sections, kind_after_formals, formal_from, kind_in, is_symbol, is_symbol_of_sections, is_symbol_of_decls, is_symbol_of_type}
 use Rattle.xs_tree.specs.Trace.{Each}
-use Rattle.xs_weave.specs.Woven.{type_of_kind}
-use Rattle.xs_weave.specs.Weavable.{Among}
-use Rattle.xs_weave.proofs.Lists.{each_all}
+use Rattle.xs_fei.specs.KindTypes.{type_of_kind}
+use Rattle.xs_fei.specs.Weavable.{Among}
+use Rattle.xs_fei.proofs.AmongLaws.{each_all}
 use Rattle.xs_tree.proofs.OneTree.{same_text_equal}
 
 -- the declaration of a variable, found

@@ -11,18 +11,21 @@ use Rattle.xs_tree.specs.May.{Valuation, name_values, May}
 use Rattle.xs_tree.specs.Trace.{Each, IsInstance}
 use Rattle.xs_tree.proofs.Monotone.{evaluate_below, name_values_more, same_values}
 use Rattle.xs_fei.specs.Instructions.{SliceTree, InstructionTree, slices_of}
-use Rattle.xs_effects.specs.AddedNames.{ModeState}
-use Rattle.xs_effects.specs.AddedNames.{own_name, mode_variable, mode_symbol}
-use Rattle.xs_weave.specs.Woven.{type_of_kind, mode_type, added_sections, woven}
-use Rattle.xs_weave.specs.Weavable.{Among, IsFinite, IsFreeMember, SymbolsAreFree, IsLawfulSlice, IsWeavable}
-use Rattle.xs_effects.specs.Types.{IsKnown}
+use Rattle.xs_fei.specs.AddedNames.{ModeState}
+use Rattle.xs_fei.specs.AddedNames.{own_name, mode_variable, mode_symbol}
+use Rattle.xs_weave.specs.Woven.{mode_type, added_sections, woven}
+use Rattle.xs_fei.specs.KindTypes.{type_of_kind}
+use Rattle.xs_fei.specs.Weavable.{Among, IsFinite, IsFreeMember, SymbolsAreFree, IsLawfulSlice, IsWeavable}
+use Rattle.xs_fei.specs.Types.{IsKnown}
 use Rattle.xs_weave.proofs.WovenKinds.{kind_or, kind_woven, Adds, IsAddedBy, added_or_not}
 use Rattle.xs_weave.proofs.Meanings.{module_woven, symbol_stays, kind_kept, Kept}
 use Rattle.xs_tree.specs.Texts.{same_text}
 use Rattle.xs_tree.proofs.ValueLaws.{same_text_refl}
 use Rattle.xs_weave.proofs.Declared.{or_true, variable_symbol}
-use Rattle.xs_effects.specs.EffectLaw.{SliceLeaves}
-use Rattle.xs_weave.proofs.Added.{own_not_mode, own_kind, mode_kind, slices_symbol, found_among, woven_symbol}
+use Rattle.xs_fei.specs.EffectLaw.{SliceLeaves}
+use Rattle.xs_weave.proofs.Added.{own_kind, mode_kind, slices_symbol, woven_symbol}
+use Rattle.xs_fei.proofs.FoundModules.{found_among}
+use Rattle.xs_fei.proofs.OwnNames.{own_not_mode}
 
 -- what an expression gives at one depth decides what it may be
 pub may_value : (n : ℕ) (q : ProgramTree) (at : Place) (now next : Valuation) (e : Formula) (vs : Values) (x : Value) →

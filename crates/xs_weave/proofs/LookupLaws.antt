@@ -12,7 +12,7 @@ use Rattle.xs_tree.specs.Scope.{Role, state, input, frozen_role, Kind, a_define,
 use Rattle.xs_fei.specs.declared.instructions.Slice.{Slice}
 use Rattle.xs_fei.specs.declared.instructions.Extension.{Extension}
 use Rattle.xs_fei.specs.Instructions.{SliceTree, ExtensionTree, slice_tree, extension_tree, slices_from, is_target}
-use Rattle.xs_weave.specs.Woven.{type_of_kind}
+use Rattle.xs_fei.specs.KindTypes.{type_of_kind}
 use Rattle.xs_weave.specs.Lookups.{affects, variable_type, type_in_decls, type_in_defines, type_in_section, first_type}
 
 if_true : (b c : Bool) → (if b then true else c) ≡ (b || c)

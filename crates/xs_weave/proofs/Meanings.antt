@@ -6,9 +6,10 @@ use Rattle.xs_tree.specs.Scope.{Place, Key, actual_key, Kind, a_formal, a_variab
 use Rattle.xs_tree.specs.Texts.{is_among}
 use Rattle.xs_tree.specs.Trace.{IsInstance}
 use Rattle.xs_fei.specs.Instructions.{SliceTree, InstructionTree, slices_of, is_affected}
-use Rattle.xs_effects.specs.AddedNames.{own_name, mode_variable}
-use Rattle.xs_weave.specs.Woven.{type_of_kind, woven_section, added_sections, woven_module, woven}
-use Rattle.xs_weave.specs.Weavable.{Among, IsFinite, IsLawfulSlice, IsWeavable}
+use Rattle.xs_fei.specs.AddedNames.{own_name, mode_variable}
+use Rattle.xs_weave.specs.Woven.{woven_section, added_sections, woven_module, woven}
+use Rattle.xs_fei.specs.KindTypes.{type_of_kind}
+use Rattle.xs_fei.specs.Weavable.{Among, IsFinite, IsLawfulSlice, IsWeavable}
 use Rattle.xs_weave.proofs.WovenKinds.{kind_woven, IsPlain, plain_no_module, plain_no_actual, added_plain, find_woven, Adds, IsAddedBy, added_or_not}
 
 -- symbols stay symbols

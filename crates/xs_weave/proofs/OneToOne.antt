@@ -7,10 +7,10 @@ use Rattle.xs_tree.specs.May.{Valuation}
 use Rattle.xs_tree.specs.Trace.{IsInstance, IsVariable, Each}
 use Rattle.xs_fei.specs.Instructions.{SliceTree, InstructionTree, slices_of}
 use Rattle.xs_weave.specs.Extended.{Moment}
-use Rattle.xs_effects.specs.AddedNames.{mode_symbol}
+use Rattle.xs_fei.specs.AddedNames.{mode_symbol}
 use Rattle.xs_weave.specs.Conservative.{EachBoth, IsSlice, IsCutMoment, IsCut, SameMoment, SameValuation, HasModes, IsOneToOne}
 use Rattle.xs_weave.specs.Woven.{added_sections, woven}
-use Rattle.xs_weave.specs.Weavable.{Among, IsWeavable}
+use Rattle.xs_fei.specs.Weavable.{Among, IsWeavable}
 use Rattle.xs_weave.proofs.WovenKinds.{kind_or, kind_woven, Adds, IsAddedBy, added_or_not}
 use Rattle.xs_weave.proofs.Added.{contains_among, among_contains}
 use Rattle.xs_weave.proofs.WovenMoves.{state_same}

@@ -8,7 +8,7 @@ use Rattle.xs_tree.specs.Tree.{Tree, Branches, truth, case_of, branch_then, bran
 use Rattle.xs_tree.specs.ProgramTree.{Text, Path, Formula, SectionTree, ModuleTree}
 use Rattle.xs_fei.specs.declared.instructions.Extension.{Extension}
 use Rattle.xs_fei.specs.Instructions.{ModeTree, SliceTree, ExtensionTree, extension_tree, slices_from}
-use Rattle.xs_effects.specs.Templates.{stands}
+use Rattle.xs_fei.specs.Templates.{stands}
 use Rattle.xs_weave.specs.Woven.{mode_branches, slice_sections, own_slices}
 
 -- the branches of a case over modes, from a list

@@ -13,12 +13,12 @@ use Rattle.xs_tree.proofs.Monotone.{Extends, evaluate_below, name_values_more}
 use Rattle.xs_fei.specs.Instructions.{SliceTree, InstructionTree, slices_of, is_affected}
 use Rattle.xs_weave.specs.Extended as extended
 use Rattle.xs_weave.specs.Extended.{Moment, with_own, own_reading, target_value}
-use Rattle.xs_effects.specs.AddedNames.{own_name}
+use Rattle.xs_fei.specs.AddedNames.{own_name}
 use Rattle.xs_weave.specs.Conservative.{IsSlice, IsCutMoment}
 use Rattle.xs_weave.specs.Woven.{rename, same_path, tree_map_both, woven_assignment, woven_section, woven}
-use Rattle.xs_weave.specs.Weavable.{Among, HasMeaning, IsReadable, IsLawfulTarget, IsLawfulAssignment, IsLawfulSection, IsWeavable, IsLawfulDecl}
-use Rattle.xs_effects.proofs.Equivalence.{iff_trans, iff_refl}
-use Rattle.xs_weave.proofs.Lists.{each_iff, each_map, each_at}
+use Rattle.xs_fei.specs.Weavable.{Among, HasMeaning, IsReadable, IsLawfulTarget, IsLawfulAssignment, IsLawfulSection, IsWeavable, IsLawfulDecl}
+use Rattle.xs_fei.proofs.Equivalence.{iff_trans, iff_refl}
+use Rattle.xs_fei.proofs.AmongLaws.{each_iff, each_map, each_at}
 use Rattle.xs_weave.proofs.Agreement.{Agree, evaluate_leaves, evaluate_map_both, values_agree, may_agree}
 use Rattle.xs_weave.proofs.Added.{contains_among, affected_slice}
 use Rattle.xs_weave.proofs.LeafValues.{slice_leaves}

@@ -6,7 +6,7 @@ use Rattle.xs_tree.specs.Scope.{Place, Role}
 use Rattle.xs_tree.specs.May.{Valuation}
 use Rattle.xs_tree.specs.Trace.{IsInstance, IsVariable, IsTrace, Each, AtSome}
 use Rattle.xs_fei.specs.Instructions.{InstructionTree, SliceTree, slices_of}
-use Rattle.xs_effects.specs.AddedNames.{ModeState, own_name, mode_variable, mode_symbol}
+use Rattle.xs_fei.specs.AddedNames.{ModeState, own_name, mode_variable, mode_symbol}
 use Rattle.xs_weave.specs.Extended.{Moment, IsExtended}
 
 -- the two lists are as long as each other, and each member of the one is related to that of the other

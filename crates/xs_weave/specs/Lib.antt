@@ -3,7 +3,5 @@ pub mod Faults
 pub mod Extended
 pub mod Conservative
 pub mod Woven
-pub mod Weavable
 pub mod WeaveLaws
 pub mod Lookups
-pub mod Numbers

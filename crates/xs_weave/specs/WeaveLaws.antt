@@ -3,7 +3,7 @@ use Rattle.xs_tree.specs.ProgramTree.{ProgramTree}
 use Rattle.xs_fei.specs.Instructions.{InstructionTree}
 use Rattle.xs_weave.specs.Conservative.{IsExtensionOf, IsOneToOne}
 use Rattle.xs_weave.specs.Woven.{woven}
-use Rattle.xs_weave.specs.Weavable.{IsWeavable}
+use Rattle.xs_fei.specs.Weavable.{IsWeavable}
 
 -- the woven program is the extension of the program by the instructions
 abbrev pub WovenExtends : Type 0

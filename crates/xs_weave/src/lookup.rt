@@ -4,7 +4,7 @@ ghost use Rattle.xs_tree.specs.Texts.{same_text};
 ghost use Rattle.xs_tree.specs.ProgramTree.{module_tree, section_tree, decl_tree, define_tree, declared_tree};
 ghost use Rattle.xs_tree.specs.Scope.{kind_in, kind_in_sections};
 ghost use Rattle.xs_fei.specs.Instructions.{instruction_tree, extension_tree, slices_from, slice_tree, is_affected as is_affected_in, is_target as is_target_of};
-ghost use Rattle.xs_weave.specs.Woven.{type_of_kind};
+ghost use Rattle.xs_fei.specs.KindTypes.{type_of_kind};
 ghost use Rattle.xs_weave.specs.Lookups.{affects as affects_in, variable_type as variable_type_of, type_in_decls, type_in_defines, type_in_section};
 
 use xs_fei::{Extension, Instructions, Slice};
@@ -77,7 +77,7 @@ fn declared_type(m: &Module, x: &Name) -> Result<Declared, OutOfMemory>
     type_among(m.sections.as_slice(), x)
 }
 
-#[tactic(auto, using(xs_effects::proofs::AllowedLaws::any_more))]
+#[tactic(auto, using(xs_fei::proofs::AllowedLaws::any_more))]
 fn is_formal(formals: &[Name], x: &Name) -> bool
     ensures { result ≡ list_any (λ f. same_text f x.now) formals.now }
 {

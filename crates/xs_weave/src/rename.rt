@@ -9,8 +9,7 @@ ghost use Rattle.xs_weave.specs.Woven.{rename, renaming, tree_map_both, trees_ma
 
 use crate::lookup::is_affected;
 use std::alloc::Global;
-use xs_effects::own_name;
-use xs_fei::Instructions;
+use xs_fei::{Instructions, own_name};
 use xs_tree::{AssignList, Assignment, BranchList, Expr, ExprList, Section, SectionList};
 use xs_value::{Dotted, Items, Name, OutOfMemory};
 

@@ -4,7 +4,7 @@ ghost use Rattle.xs_tree.specs.ProgramTree.{program_tree, module_tree, section_t
 ghost use Rattle.xs_fei.specs.Instructions.{instruction_tree, slice_tree, slices_of, is_affected};
 ghost use Rattle.xs_weave.specs.Woven.{woven, woven_tree, woven_section, added_sections, slice_sections, own_slices};
 ghost use Rattle.xs_fei.specs.Instructions.{extension_tree};
-ghost use Rattle.xs_weave.specs.Numbers.{ExtensionHasNegations, SliceHasNegations, ModuleHasNegations};
+ghost use Rattle.xs_fei.specs.WeaveNumbers.{ExtensionHasNegations, SliceHasNegations, ModuleHasNegations};
 
 use crate::lookup::{has_text, target_type};
 use crate::rename::renamed_sections;

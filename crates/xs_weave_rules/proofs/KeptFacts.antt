@@ -11,13 +11,13 @@ use Rattle.xs_tree.specs.Scope.{Place, Role, state, input, frozen_role, Kind, a_
 use Rattle.xs_tree.specs.Trace.{IsInstance, Each, AtSome, in_domain}
 use Rattle.xs_tree.proofs.ValueLaws.{same_text_equal}
 use Rattle.xs_fei.specs.Instructions.{EffectTree, stuck_at, follows, inverted, random, erroneous, frozen, stuck_at_pick, offset, ramp_down, ModeTree, SliceTree}
-use Rattle.xs_effects.specs.AddedNames.{ModeState, own_name, mode_variable, mode_symbol}
-use Rattle.xs_effects.specs.Allowed.{fault_of, constant_fault, is_of_kind, inverted_fault}
-use Rattle.xs_effects.specs.Types.{IsKnown}
-use Rattle.xs_effects.specs.declared.fault.EffectFault.{EffectFault}
-use Rattle.xs_weave.specs.Woven.{type_of_kind}
-use Rattle.xs_weave.specs.Weavable.{Among, IsFinite, IsFreeMember, SymbolsAreFree, IsAllowed}
-use Rattle.xs_weave.proofs.Added.{own_not_mode}
+use Rattle.xs_fei.specs.AddedNames.{ModeState, own_name, mode_variable, mode_symbol}
+use Rattle.xs_fei.specs.Allowed.{fault_of, constant_fault, is_of_kind, inverted_fault}
+use Rattle.xs_fei.specs.Types.{IsKnown}
+use Rattle.xs_fei.specs.declared.fault.EffectFault.{EffectFault}
+use Rattle.xs_fei.specs.KindTypes.{type_of_kind}
+use Rattle.xs_fei.specs.Weavable.{Among, IsFinite, IsFreeMember, SymbolsAreFree, IsAllowed}
+use Rattle.xs_fei.proofs.OwnNames.{own_not_mode}
 use Rattle.xs_weave_rules.specs.Sites.{OwnedSlice, a_slice, a_mode}
 use Rattle.xs_weave_rules.specs.declared.fault.Rule.{Rule}
 use Rattle.xs_weave_rules.specs.declared.fault.Rule.TheVariants.{NoSuchVariable, NotAStateVariable, DoubleSlice, DoubleMode, VariableTaken, NameTaken}

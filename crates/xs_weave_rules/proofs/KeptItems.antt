@@ -7,8 +7,8 @@ use Rattle.xs_tree.specs.ProgramTree.{Text, ProgramTree}
 use Rattle.xs_tree.specs.Texts.{same_text}
 use Rattle.xs_tree.proofs.ValueLaws.{same_text_equal}
 use Rattle.xs_fei.specs.Instructions.{ModeTree, SliceTree, ExtensionTree, slices_from}
-use Rattle.xs_weave.specs.Weavable.{Among}
-use Rattle.xs_weave.proofs.Lists.{each_append}
+use Rattle.xs_fei.specs.Weavable.{Among}
+use Rattle.xs_fei.proofs.AmongLaws.{each_append}
 use Rattle.xs_weave_rules.specs.Sites.{OwnedSlice, owned, a_slice, a_mode, mode_sites, slice_sites, extension_sites}
 use Rattle.xs_weave_rules.specs.Rules.{broken_at}
 use Rattle.xs_weave_rules.specs.FirstBroken.{AllKept}

@@ -15,9 +15,9 @@ use Rattle.xs_fei.specs.declared.instructions.ModeRule.{ModeRule}
 use Rattle.xs_fei.specs.declared.instructions.Slice.{Slice}
 use Rattle.xs_fei.specs.declared.instructions.Extension.{Extension}
 use Rattle.xs_fei.specs.Instructions.{EffectTree, stuck_at, follows, inverted, random, erroneous, frozen, stuck_at_pick, offset, ramp_down, effect_tree, mode_tree, slice_tree, extension_tree}
-use Rattle.xs_effects.specs.Numbers.{HasNegation, ValueHasNegation, MemberHasNegation, EffectHasNegations, TypeHasNegations}
-use Rattle.xs_weave.specs.Woven.{type_of_kind}
-use Rattle.xs_weave.specs.Numbers.{ModeHasNegations, SliceHasNegations, ExtensionHasNegations, ModuleHasNegations}
+use Rattle.xs_fei.specs.Numbers.{HasNegation, ValueHasNegation, MemberHasNegation, EffectHasNegations, TypeHasNegations}
+use Rattle.xs_fei.specs.KindTypes.{type_of_kind}
+use Rattle.xs_fei.specs.WeaveNumbers.{ModeHasNegations, SliceHasNegations, ExtensionHasNegations, ModuleHasNegations}
 use Rattle.xs_weave_rules.specs.Negations.{has_negation, member_negates, declared_negates, decl_negates, section_negates, module_negates, value_negates, effect_negates, mode_negates, slice_negates, extension_negates}
 
 -- a test of each element, one element on

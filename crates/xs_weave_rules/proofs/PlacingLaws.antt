@@ -4,7 +4,7 @@ use Rattle.xs_tree.specs.ProgramTree.{Text, DeclaredTree, ProgramTree}
 use Rattle.xs_fei.specs.declared.instructions.Slice.{Slice}
 use Rattle.xs_fei.specs.declared.instructions.Extension.{Extension}
 use Rattle.xs_fei.specs.Instructions.{ModeTree, SliceTree, slice_tree, extension_tree}
-use Rattle.xs_weave.specs.Woven.{type_of_kind}
+use Rattle.xs_fei.specs.KindTypes.{type_of_kind}
 use Rattle.xs_weave_rules.specs.Sites.{OwnedSlice, owned, Site, mode_sites, slice_sites, extension_sites}
 use Rattle.xs_weave_rules.specs.Rules.{target_kind}
 use Rattle.xs_weave_rules.specs.Faults.{sites_of, owned_slices, slices_in}

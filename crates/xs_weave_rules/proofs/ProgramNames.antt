@@ -6,7 +6,7 @@ use Rattle.xs_tree.specs.ProgramTree.{Text, DeclTree, DefineTree, SectionTree, v
 use Rattle.xs_tree.specs.Texts.{same_text, is_among}
 use Rattle.xs_tree.specs.Scope.{Role, state, input, frozen_role, Kind, undeclared, kind_in, kind_in_decls, kind_in_defines, kind_in_sections, formal_from, is_symbol, is_symbol_of_sections, is_symbol_of_decls, is_symbol_of_type}
 use Rattle.xs_tree.proofs.ValueLaws.{same_text_refl}
-use Rattle.xs_weave.specs.Weavable.{Among}
+use Rattle.xs_fei.specs.Weavable.{Among}
 use Rattle.xs_weave_rules.specs.Rules.{is_name_of_decls, is_name_of_defines, is_name_of_section, is_name_of_module, is_program_name}
 
 pub or_false : (a b : Bool) → (a || b) ≡ false → (a ≡ false) × (b ≡ false)

@@ -10,9 +10,9 @@ use Rattle.xs_fei.specs.declared.instructions.ModeRule.{ModeRule}
 use Rattle.xs_fei.specs.declared.instructions.Slice.{Slice}
 use Rattle.xs_fei.specs.declared.instructions.Extension.{Extension}
 use Rattle.xs_fei.specs.Instructions.{ModeTree, SliceTree, ExtensionTree, mode_tree, slice_tree, extension_tree}
-use Rattle.xs_effects.specs.AddedNames.{own_name, mode_variable, mode_symbol}
-use Rattle.xs_effects.specs.Allowed.{fault_of}
-use Rattle.xs_weave.specs.Woven.{type_of_kind}
+use Rattle.xs_fei.specs.AddedNames.{own_name, mode_variable, mode_symbol}
+use Rattle.xs_fei.specs.Allowed.{fault_of}
+use Rattle.xs_fei.specs.KindTypes.{type_of_kind}
 use Rattle.xs_weave_rules.specs.Sites.{OwnedSlice, owned, Site, a_slice, a_mode, mode_sites, slice_sites, extension_sites}
 use Rattle.xs_weave_rules.specs.Rules.{first_of, effect_rules, target_kind, is_not_declared, is_state_variable, opposite_of, is_slice_name, is_mode_name, is_affected_already, is_program_name, is_taken, state_names, states_before, owns_before, slice_adds_taken, hides_symbol, broken_at}
 use Rattle.xs_weave_rules.specs.FirstBroken.{AllKept, IsFirstBroken}

@@ -6,12 +6,12 @@ use Rattle.xs_tree.specs.Scope.{Place, state, a_variable, find_module, kind_in, 
 use Rattle.xs_tree.specs.Trace.{IsInstance}
 use Rattle.xs_tree.proofs.ValueLaws.{same_text_refl}
 use Rattle.xs_fei.specs.Instructions.{ModeTree, SliceTree, InstructionTree, slices_of}
-use Rattle.xs_effects.specs.AddedNames.{ModeState, own_name, mode_variable, mode_symbol}
-use Rattle.xs_effects.specs.Types.{IsKnown}
-use Rattle.xs_weave.specs.Woven.{type_of_kind}
-use Rattle.xs_weave.specs.Weavable.{Among, IsLawfulMode, IsLawfulSlice, IsWeavable, SymbolsAreFree, IsAllowed}
-use Rattle.xs_weave.proofs.Lists.{each_all, each_at}
-use Rattle.xs_weave.proofs.Added.{found_among}
+use Rattle.xs_fei.specs.AddedNames.{ModeState, own_name, mode_variable, mode_symbol}
+use Rattle.xs_fei.specs.Types.{IsKnown}
+use Rattle.xs_fei.specs.KindTypes.{type_of_kind}
+use Rattle.xs_fei.specs.Weavable.{Among, IsLawfulMode, IsLawfulSlice, IsWeavable, SymbolsAreFree, IsAllowed}
+use Rattle.xs_fei.proofs.AmongLaws.{each_all, each_at}
+use Rattle.xs_fei.proofs.FoundModules.{found_among}
 use Rattle.xs_weave_rules.specs.Sites.{OwnedSlice, owned, item_sites}
 use Rattle.xs_weave_rules.specs.Rules.{target_kind, opposite_of, is_state_variable, state_names, states_before, owns_before, hides_symbol, broken_at}
 use Rattle.xs_weave_rules.specs.FirstBroken.{AllKept}

@@ -3,8 +3,8 @@ use Rattle.std.specs.Prelude.{◌≡◌, ℕ, ◌+◌, Bool, ◌||◌, List, [],
 use Rattle.xs_tree.specs.ProgramTree.{Text, DeclaredTree, ProgramTree, program_tree, declared_tree}
 use Rattle.xs_tree.specs.Texts.{same_text, is_among}
 use Rattle.xs_fei.specs.Instructions.{ModeTree, SliceTree, ExtensionTree, slice_tree}
-use Rattle.xs_effects.specs.AddedNames.{own_name, mode_variable, mode_symbol}
-use Rattle.xs_effects.specs.Allowed.{fault_of}
+use Rattle.xs_fei.specs.AddedNames.{own_name, mode_variable, mode_symbol}
+use Rattle.xs_fei.specs.Allowed.{fault_of}
 use Rattle.xs_weave_rules.specs.Sites.{OwnedSlice, owned, Site, an_extension, slice_sites}
 use Rattle.xs_weave_rules.specs.Rules.{first_of, effect_rules, is_program_name, is_taken, states_before, owns_before, broken_at}
 use Rattle.xs_weave_rules.specs.Names.{program_names}

@@ -4,8 +4,8 @@ use Rattle.xs_tree.specs.ProgramTree.{Text, DeclaredTree, ModuleTree, ProgramTre
 use Rattle.xs_tree.specs.Scope.{Place, Role, a_variable, kind_in}
 use Rattle.xs_tree.specs.Trace.{IsInstance, Each}
 use Rattle.xs_fei.specs.Instructions.{EffectTree, follows, ModeTree, SliceTree, InstructionTree, slices_of}
-use Rattle.xs_effects.specs.Types.{IsUniform}
-use Rattle.xs_weave.specs.Weavable.{Among, IsReadable, IsLawfulInstance, IsLawfulGuard, IsWeavable}
+use Rattle.xs_fei.specs.Types.{IsUniform}
+use Rattle.xs_fei.specs.Weavable.{Among, IsReadable, IsLawfulInstance, IsLawfulGuard, IsWeavable}
 use Rattle.xs_weave_rules.specs.Sites.{item_sites}
 use Rattle.xs_weave_rules.specs.Rules.{broken_at}
 use Rattle.xs_weave_rules.specs.FirstBroken.{AllKept}

@@ -1,7 +1,7 @@
 -- The slices among items, each with its number and the type of its variable.
 use Rattle.std.specs.Prelude.{ℕ, suc, List, [], ◌∷◌, ◌++◌, map}
 use Rattle.xs_tree.specs.ProgramTree.{DeclaredTree, ProgramTree, declared_tree}
-use Rattle.xs_weave.specs.Woven.{type_of_kind}
+use Rattle.xs_fei.specs.KindTypes.{type_of_kind}
 use Rattle.xs_weave_rules.specs.Sites.{OwnedSlice, Site, an_extension, a_slice, a_mode}
 use Rattle.xs_weave_rules.specs.Rules.{target_kind}
 use Rattle.xs_weave_rules.specs.Faults.{placed_tree}

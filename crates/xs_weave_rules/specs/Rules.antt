@@ -7,10 +7,10 @@ use Rattle.xs_tree.specs.ProgramTree.{Text, DeclaredTree, boolean, range, member
 use Rattle.xs_tree.specs.Texts.{same_text, is_among}
 use Rattle.xs_tree.specs.Scope.{state, input, frozen_role, Kind, a_formal, a_variable, a_define, an_instance, undeclared, find_module, kind_at, is_symbol_of_type}
 use Rattle.xs_fei.specs.Instructions.{ModeTree}
-use Rattle.xs_effects.specs.AddedNames.{own_name, mode_variable, mode_symbol}
-use Rattle.xs_effects.specs.Allowed.{fault_of}
-use Rattle.xs_effects.specs.declared.fault.EffectFault.{EffectFault}
-use Rattle.xs_weave.specs.Woven.{type_of_kind}
+use Rattle.xs_fei.specs.AddedNames.{own_name, mode_variable, mode_symbol}
+use Rattle.xs_fei.specs.Allowed.{fault_of}
+use Rattle.xs_fei.specs.declared.fault.EffectFault.{EffectFault}
+use Rattle.xs_fei.specs.KindTypes.{type_of_kind}
 use Rattle.xs_weave_rules.specs.Sites.{OwnedSlice, Site, an_extension, a_slice, a_mode}
 use Rattle.xs_weave_rules.specs.declared.fault.Rule.{Rule}
 use Rattle.xs_weave_rules.specs.declared.fault.Rule.TheVariants.{NoSuchModule, NoSuchVariable, NotAStateVariable, DoubleSlice, DoubleMode, VariableTaken, Effect, NameTaken}

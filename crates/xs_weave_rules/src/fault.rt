@@ -1,7 +1,7 @@
 ghost use Rattle.xs_weave_rules.specs.OutOfMemory.{IsWant};
 
 use std::alloc::{AllocError, AllocFailed};
-use xs_effects::EffectFault;
+use xs_fei::EffectFault;
 use xs_value::OutOfMemory;
 
 /// A rule that instructions break. Of two that an item breaks in one group, the one that stands first here

@@ -6,7 +6,7 @@ ghost use Rattle.std.specs.List.{list_any};
 ghost use Rattle.xs_tree.specs.ProgramTree.{program_tree, declared_tree};
 ghost use Rattle.xs_tree.specs.Scope.{find_module};
 ghost use Rattle.xs_fei.specs.Instructions.{instruction_tree, extension_tree, slice_tree};
-ghost use Rattle.xs_weave.specs.Woven.{type_of_kind};
+ghost use Rattle.xs_fei.specs.KindTypes.{type_of_kind};
 ghost use Rattle.xs_weave_rules.specs.Sites.{owned, a_slice, item_sites, mode_sites, slice_sites, extension_sites};
 ghost use Rattle.xs_weave_rules.specs.Rules.{broken_at, target_kind, is_program_name, is_local_member, hides_symbol as hides_symbol_of};
 ghost use Rattle.xs_weave_rules.specs.FirstBroken.{AllKept, IsFirstBroken};
@@ -24,8 +24,7 @@ use crate::placed::{Placed, item_after};
 use crate::targets::Targets;
 use crate::texts::Texts;
 use std::alloc::Global;
-use xs_effects::{mode_variable, nominal_symbol, own_name};
-use xs_fei::{Extension, Instructions, Slice};
+use xs_fei::{Extension, Instructions, Slice, mode_variable, nominal_symbol, own_name};
 use xs_tree::{Declared, Member, Program};
 use xs_value::{Name, OutOfMemory};
 
@@ -346,7 +345,7 @@ fn hides_symbol(known: &Known<'_>, owner: &Name, declared: &Declared) -> bool
     }
 }
 
-#[tactic(auto, using(xs_effects::proofs::AllowedLaws::any_more))]
+#[tactic(auto, using(xs_fei::proofs::AllowedLaws::any_more))]
 fn has_local(known: &Known<'_>, owner: &Name, members: &[Member]) -> bool
     requires { IsKnown known.now }
     ensures { result ≡ list_any (is_local_member (find_module (program_tree known.now.program.now) owner.now)) members.now }

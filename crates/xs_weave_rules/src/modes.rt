@@ -3,7 +3,7 @@
 ghost use Rattle.std.specs.Prelude.{◌≡◌, ◌≢◌, ◌+◌, [], IfOk, IfErr, OnOk, Some, None, map, length};
 ghost use Rattle.xs_tree.specs.ProgramTree.{program_tree};
 ghost use Rattle.xs_fei.specs.Instructions.{mode_tree};
-ghost use Rattle.xs_effects.specs.AddedNames.{mode_symbol as mode_symbol_of};
+ghost use Rattle.xs_fei.specs.AddedNames.{mode_symbol as mode_symbol_of};
 ghost use Rattle.xs_weave_rules.specs.Keyed.{with_text, with_texts};
 ghost use Rattle.xs_weave_rules.specs.Rules.{is_taken as is_taken_by};
 ghost use Rattle.xs_weave_rules.specs.Faults.{IsKnown, rule_of, faults_of, mode_symbols};
@@ -14,8 +14,7 @@ use crate::modules::Known;
 use crate::placed::item_after;
 use crate::texts::Texts;
 use std::alloc::Global;
-use xs_effects::{allowed, mode_symbol};
-use xs_fei::{ModeRule, Slice};
+use xs_fei::{ModeRule, Slice, allowed, mode_symbol};
 use xs_tree::Declared;
 use xs_value::{Name, OutOfMemory};
 

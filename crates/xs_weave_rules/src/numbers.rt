@@ -5,7 +5,7 @@ ghost use Rattle.std.specs.Prelude.{◌≡◌, ◌&&◌, map, All, IsTrue};
 ghost use Rattle.std.specs.List.{list_all};
 ghost use Rattle.xs_tree.specs.ProgramTree.{module_tree, section_tree, decl_tree, declared_tree};
 ghost use Rattle.xs_fei.specs.Instructions.{extension_tree, slice_tree, mode_tree, effect_tree, constant_value};
-ghost use Rattle.xs_weave.specs.Numbers.{ModuleHasNegations, ExtensionHasNegations};
+ghost use Rattle.xs_fei.specs.WeaveNumbers.{ModuleHasNegations, ExtensionHasNegations};
 ghost use Rattle.xs_weave_rules.specs.Negations.{has_negation as negates, member_negates, declared_negates, decl_negates, section_negates, module_negates, value_negates, effect_negates, mode_negates, slice_negates, extension_negates};
 
 use xs_fei::{Constant, Effect, Extension, ModeRule, Slice};

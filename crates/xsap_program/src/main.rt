@@ -1,7 +1,7 @@
 //! Extends SMV models with faults, replays traces of the extensions, finds their minimal cut sets, checks
 //! certificates of them, makes tables of them, generates cases, and bounds probabilities.
 //!
-//! `main` hands [`xs_run::run::run`], or for a further verb [`xs_reach::reach::run`], the words of the command line, a desk
+//! `main` hands [`xs_run::run::run`], or for a further verb [`xsap_program::reach::run`], the words of the command line, a desk
 //! over real files, and but for the further verbs the advisers of the search; all that is promised of a run stands at these calls.
 //!
 //! ```text
@@ -15,6 +15,7 @@
 //! ```
 #![tactic(auto)]
 
+use reach::is_reach;
 use real_desk::RealDesk;
 use std::alloc::{AllocError, Global};
 use std::env;
@@ -22,11 +23,12 @@ use std::io::ErrorKind;
 use std::process::ExitCode;
 use xs_adviser::{Active, Adviser, InOrder};
 use xs_loading::status::Status;
-use xs_reach::reach::{self, is_reach};
 use xs_run::run::run;
 use xs_value::OutOfMemory;
 
+mod reach;
 mod real_desk;
+mod verbs;
 
 /// The number that the program ends with where a word is not text, which no status has.
 const NOT_TEXT: u8 = 11;

@@ -1,7 +1,7 @@
 use Rattle.std.proofs.Common.{◌≡◌, ℕ, suc, ◌+◌, List, [], ◌∷◌, length, refl, ap, ◌∙◌, arith, length-append}
 use Rattle.std.specs.List.{range_with_len}
-use Rattle.xs_flattening.specs.Flat.{FlatModel}
-use Rattle.xs_flattening.specs.History.{Mode, bit_variables, with_history}
+use Rattle.xs_tree.specs.Flat.{FlatModel}
+use Rattle.xs_flat_laws.specs.History.{Mode, bit_variables, with_history}
 use Rattle.xs_encode.proofs.history_is_last.Goals as goal
 
 bits_long : (i : ℕ) (fs : List Mode) → length (bit_variables i fs) ≡ length fs

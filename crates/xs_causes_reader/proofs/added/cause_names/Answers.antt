@@ -1,6 +1,6 @@
 use Rattle.std.proofs.Common.{[], ◌≡◌, ◌+◌, ◌<◌, ◌++◌, ◌∷◌, length, ap, ◌∙◌, subst, arith}
-use Rattle.xs_causes.specs.CauseRules.{names_of_cause}
-use Rattle.xs_causes.specs.Staged.{hit_name}
+use Rattle.xs_cause_laws.specs.CauseRules.{names_of_cause}
+use Rattle.xs_cause_laws.specs.Staged.{hit_name}
 use Rattle.xs_causes_reader.specs.ReadView.{written_tree}
 use Rattle.xs_causes_reader.proofs.RuleSteps.{hits_more}
 use Rattle.xs_causes_reader.proofs.added.cause_names.Goals as goal

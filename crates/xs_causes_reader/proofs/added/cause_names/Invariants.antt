@@ -1,5 +1,5 @@
 use Rattle.std.proofs.Common.{◌≡◌, ◌+◌, ◌++◌, drop}
-use Rattle.xs_causes.specs.CauseRules.{hit_names, names_of_cause}
+use Rattle.xs_cause_laws.specs.CauseRules.{hit_names, names_of_cause}
 use Rattle.xs_causes_reader.specs.ReadView.{written_tree}
 use Rattle.xs_causes_reader.proofs.added.cause_names.Given as goal
 

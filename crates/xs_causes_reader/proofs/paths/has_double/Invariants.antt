@@ -1,5 +1,5 @@
 use Rattle.std.proofs.Common.{◌≡◌, drop}
-use Rattle.xs_causes.specs.CauseRules.{has_double}
+use Rattle.xs_cause_laws.specs.CauseRules.{has_double}
 use Rattle.xs_causes_reader.proofs.paths.has_double.Given as goal
 
 abbrev pub invariant-loop-i : goal.invariant-loop-i

@@ -1,5 +1,5 @@
 use Rattle.std.proofs.Common.{sym, ◌∙◌}
-use Rattle.xs_causes.specs.CauseRules.{same_path}
+use Rattle.xs_cause_laws.specs.CauseRules.{same_path}
 use Rattle.xs_causes_reader.specs.FaultPaths.{path_of}
 use Rattle.xs_causes_reader.proofs.PathLaws.{any_map}
 use Rattle.xs_causes_reader.proofs.paths.is_fault_name.Goals as goal

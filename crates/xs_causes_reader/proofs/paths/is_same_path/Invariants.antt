@@ -1,5 +1,5 @@
 use Rattle.std.proofs.Common.{◌≡◌, drop}
-use Rattle.xs_causes.specs.CauseRules.{same_path}
+use Rattle.xs_cause_laws.specs.CauseRules.{same_path}
 use Rattle.xs_causes_reader.proofs.paths.is_same_path.Given as goal
 
 abbrev pub invariant-loop-i : goal.invariant-loop-i

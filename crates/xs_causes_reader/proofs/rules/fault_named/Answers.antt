@@ -1,5 +1,5 @@
 use Rattle.std.proofs.Common.{arith, ◌≡◌, suc, ◌+◌, true, false, take, sym, ap, ◌∙◌}
-use Rattle.xs_causes.specs.CauseRules.{same_path, is_path_among}
+use Rattle.xs_cause_laws.specs.CauseRules.{same_path, is_path_among}
 use Rattle.xs_causes_reader.specs.FaultPaths.{path_of, paths_of}
 use Rattle.xs_causes_reader.proofs.RuleSteps.{is_number, get_place, none_more}
 use Rattle.xs_causes_reader.proofs.rules.fault_named.Goals as goal

@@ -1,6 +1,6 @@
 -- No fault so far has the name.
 use Rattle.std.proofs.Common.{◌≡◌, false, take}
-use Rattle.xs_causes.specs.CauseRules.{is_path_among}
+use Rattle.xs_cause_laws.specs.CauseRules.{is_path_among}
 use Rattle.xs_causes_reader.specs.FaultPaths.{paths_of}
 use Rattle.xs_causes_reader.proofs.rules.fault_named.Given as goal
 

@@ -1,6 +1,6 @@
 use Rattle.std.proofs.Common.{sym, ◌∙◌}
 use Rattle.xs_tree.specs.Texts.{same_text}
-use Rattle.xs_causes.specs.CausesText.{WrittenCause}
+use Rattle.xs_cause_laws.specs.CausesText.{WrittenCause}
 use Rattle.xs_causes_reader.specs.ReadView.{written_tree}
 use Rattle.xs_causes_reader.proofs.PathLaws.{any_map}
 use Rattle.xs_causes_reader.proofs.rules.has_cause.Goals as goal

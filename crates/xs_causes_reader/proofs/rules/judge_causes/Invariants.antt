@@ -1,7 +1,7 @@
 use Rattle.std.proofs.Common.{◌≡◌, [], take, drop}
 use Rattle.std.specs.Prelude.{flat_map}
 use Rattle.xs_weave_rules.specs.Keyed.{with_texts}
-use Rattle.xs_causes.specs.CauseRules.{names_of_cause}
+use Rattle.xs_cause_laws.specs.CauseRules.{names_of_cause}
 use Rattle.xs_causes_reader.specs.FaultPaths.{paths_of}
 use Rattle.xs_causes_reader.specs.ReadView.{written_trees}
 use Rattle.xs_causes_reader.specs.Broken.{first_broken}

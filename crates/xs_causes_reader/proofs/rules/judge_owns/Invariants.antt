@@ -1,5 +1,5 @@
 use Rattle.std.proofs.Common.{◌≡◌, ◌+◌, ◌-◌}
-use Rattle.xs_causes.specs.CauseRules.{own_names}
+use Rattle.xs_cause_laws.specs.CauseRules.{own_names}
 use Rattle.xs_causes_reader.specs.Broken.{is_any_among, are_owns_among}
 use Rattle.xs_causes_reader.proofs.rules.judge_owns.Given as goal
 

@@ -1,5 +1,5 @@
 use Rattle.std.proofs.Common.{map, take}
-use Rattle.xs_flattening.specs.Model.{EachBoth}
+use Rattle.xs_flat_laws.specs.Model.{EachBoth}
 use Rattle.xs_staging.specs.CauseOf.{cause_of}
 use Rattle.xs_causes_reader.specs.FaultPaths.{paths_of}
 use Rattle.xs_causes_reader.specs.ReadView.{written_trees}

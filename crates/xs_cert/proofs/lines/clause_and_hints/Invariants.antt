@@ -1,5 +1,5 @@
 use Rattle.std.proofs.Common.{◌≡◌, length}
-use Rattle.xs_certificate.specs.LineReading.{step_of_words}
+use Rattle.xs_certificate_laws.specs.LineReading.{step_of_words}
 use Rattle.xs_cert.specs.Cuts.{words_after}
 use Rattle.xs_cert.proofs.LineLaws.{stepped}
 use Rattle.xs_cert.proofs.lines.clause_and_hints.Given as goal

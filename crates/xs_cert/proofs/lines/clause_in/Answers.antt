@@ -1,5 +1,5 @@
 use Rattle.std.proofs.Common.{sym, codes}
-use Rattle.xs_certificate.specs.LineReading.{each_in, literal_in}
+use Rattle.xs_certificate_laws.specs.LineReading.{each_in, literal_in}
 use Rattle.xs_cert.proofs.LineLaws.{not_after}
 use Rattle.xs_cert.proofs.lines.clause_in.Goals as goal
 

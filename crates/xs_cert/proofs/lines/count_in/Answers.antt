@@ -1,5 +1,5 @@
 use Rattle.std.proofs.Common.{sym, ◌∙◌}
-use Rattle.xs_certificate.specs.LineReading.{one_number}
+use Rattle.xs_certificate_laws.specs.LineReading.{one_number}
 use Rattle.xs_cert.proofs.LineLaws.{said_after, not_after}
 use Rattle.xs_cert.proofs.lines.count_in.Goals as goal
 

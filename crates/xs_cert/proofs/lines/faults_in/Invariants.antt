@@ -1,6 +1,6 @@
 use Rattle.std.proofs.Common.{◌≡◌, length}
-use Rattle.xs_certificate.specs.LineReading.{each_in}
-use Rattle.xs_certificate.specs.Expecting.{small_in}
+use Rattle.xs_certificate_laws.specs.LineReading.{each_in}
+use Rattle.xs_certificate_laws.specs.Expecting.{small_in}
 use Rattle.xs_cert.specs.Cuts.{words_after}
 use Rattle.xs_cert.proofs.LineLaws.{joined}
 use Rattle.xs_cert.proofs.lines.faults_in.Given as goal

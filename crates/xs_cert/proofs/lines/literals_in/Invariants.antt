@@ -1,5 +1,5 @@
 use Rattle.std.proofs.Common.{◌≡◌, length}
-use Rattle.xs_certificate.specs.LineReading.{each_in, literal_in}
+use Rattle.xs_certificate_laws.specs.LineReading.{each_in, literal_in}
 use Rattle.xs_cert.specs.Cuts.{words_after}
 use Rattle.xs_cert.proofs.LineLaws.{joined}
 use Rattle.xs_cert.proofs.lines.literals_in.Given as goal

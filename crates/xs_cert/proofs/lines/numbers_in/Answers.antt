@@ -1,5 +1,5 @@
 use Rattle.std.proofs.Common.{sym, codes}
-use Rattle.xs_certificate.specs.Expecting.{numbers_of_words}
+use Rattle.xs_certificate_laws.specs.Expecting.{numbers_of_words}
 use Rattle.xs_cert.specs.Told.{told_version}
 use Rattle.xs_cert.proofs.LineLaws.{not_after}
 use Rattle.xs_cert.proofs.lines.numbers_in.Goals as goal

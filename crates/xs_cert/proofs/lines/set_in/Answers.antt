@@ -1,6 +1,6 @@
 use Rattle.std.proofs.Common.{sym, codes}
-use Rattle.xs_certificate.specs.LineReading.{each_in}
-use Rattle.xs_certificate.specs.Expecting.{small_in}
+use Rattle.xs_certificate_laws.specs.LineReading.{each_in}
+use Rattle.xs_certificate_laws.specs.Expecting.{small_in}
 use Rattle.xs_cert.proofs.LineLaws.{not_after}
 use Rattle.xs_cert.proofs.lines.set_in.Goals as goal
 

@@ -1,5 +1,5 @@
 use Rattle.std.proofs.Common.{Some, sym, ◌∙◌, ap}
-use Rattle.xs_certificate.specs.Expecting.{size_of}
+use Rattle.xs_certificate_laws.specs.Expecting.{size_of}
 use Rattle.xs_cert.specs.Cuts.{words_after}
 use Rattle.xs_cert.specs.Told.{told_version}
 use Rattle.xs_cert.proofs.LineLaws.{not_empty, size_too_much}

@@ -1,5 +1,5 @@
 use Rattle.std.proofs.Common.{sym, codes}
-use Rattle.xs_certificate.specs.LineReading.{step_of_words}
+use Rattle.xs_certificate_laws.specs.LineReading.{step_of_words}
 use Rattle.xs_cert.proofs.LineLaws.{not_after}
 use Rattle.xs_cert.proofs.lines.step_in.Goals as goal
 

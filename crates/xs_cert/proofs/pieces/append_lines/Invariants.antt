@@ -1,5 +1,5 @@
 use Rattle.std.proofs.Common.{◌≡◌, ◌++◌, drop}
-use Rattle.xs_lines.specs.Lines.{fed}
+use Rattle.xs_text_laws.specs.Lines.{fed}
 use Rattle.xs_cert.proofs.pieces.append_lines.Given as goal
 
 abbrev pub invariant-loop-line : goal.invariant-loop-line

@@ -1,5 +1,5 @@
 use Rattle.std.proofs.Common.{◌≡◌, ◌++◌, map, drop}
-use Rattle.xs_certificate.specs.CertificateText.{literal_text}
+use Rattle.xs_certificate_laws.specs.CertificateText.{literal_text}
 use Rattle.xs_cert.specs.Pieces.{after_spaces}
 use Rattle.xs_cert.proofs.pieces.append_literals.Given as goal
 

@@ -1,6 +1,6 @@
 use Rattle.std.proofs.Common.{◌≡◌, ◌++◌, ap, ◌∙◌}
-use Rattle.xs_lines.specs.Lines.{fed}
-use Rattle.xs_certificate.specs.CertificateText.{version_two, lines_of}
+use Rattle.xs_text_laws.specs.Lines.{fed}
+use Rattle.xs_certificate_laws.specs.CertificateText.{version_two, lines_of}
 use Rattle.xs_cert.specs.Pieces.{listed_lines, invariant_lines, derived_lines}
 use Rattle.xs_cert.specs.Seen.{seen}
 use Rattle.xs_cert.proofs.PieceLaws.{whole_text, on_ok}

@@ -1,6 +1,6 @@
 use Rattle.std.proofs.Common.{◌≡◌, ◌++◌, codes, ap, ◌∙◌}
-use Rattle.xs_lines.specs.Lines.{fed}
-use Rattle.xs_certificate.specs.CertificateText.{part_lines}
+use Rattle.xs_text_laws.specs.Lines.{fed}
+use Rattle.xs_certificate_laws.specs.CertificateText.{part_lines}
 use Rattle.xs_cert.specs.Pieces.{derived_lines}
 use Rattle.xs_cert.proofs.PieceLaws.{derived_text, on_ok}
 use Rattle.xs_cert.proofs.writing.append_derived.Goals as goal

@@ -1,7 +1,7 @@
 use Rattle.std.proofs.Common.{◌≡◌, ◌++◌, length, arith}
 use Rattle.std.proofs.lemmas.Grind.{common_steps}
-use Rattle.xs_lines.specs.Lines.{fed}
-use Rattle.xs_certificate.specs.CertificateText.{set_lines}
+use Rattle.xs_text_laws.specs.Lines.{fed}
+use Rattle.xs_certificate_laws.specs.CertificateText.{set_lines}
 use Rattle.xs_cert.proofs.PieceLaws.{none_left}
 use Rattle.xs_cert.proofs.writing.append_sets.Goals as goal
 

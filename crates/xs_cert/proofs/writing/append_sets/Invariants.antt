@@ -1,6 +1,6 @@
 use Rattle.std.proofs.Common.{◌≡◌, ◌++◌, length}
-use Rattle.xs_lines.specs.Lines.{fed}
-use Rattle.xs_certificate.specs.CertificateText.{set_lines}
+use Rattle.xs_text_laws.specs.Lines.{fed}
+use Rattle.xs_certificate_laws.specs.CertificateText.{set_lines}
 use Rattle.xs_cert.proofs.writing.append_sets.Given as goal
 
 abbrev pub invariant-loop-sets : goal.invariant-loop-sets

@@ -1,6 +1,6 @@
 use Rattle.std.proofs.Common.{rules, ◌≡◌, [], ◌∷◌, ◌++◌, ◌+◌, map, drop, ap, sym, ◌∙◌, append_assoc}
-use Rattle.xs_lines.specs.Lines.{fed}
-use Rattle.xs_certificate.specs.CertificateText.{step_line}
+use Rattle.xs_text_laws.specs.Lines.{fed}
+use Rattle.xs_certificate_laws.specs.CertificateText.{step_line}
 use Rattle.xs_cert.proofs.PieceLaws.{steps_more}
 use Rattle.xs_cert.proofs.writing.append_steps.Goals as goal
 

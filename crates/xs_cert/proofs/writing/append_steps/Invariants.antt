@@ -1,6 +1,6 @@
 use Rattle.std.proofs.Common.{◌≡◌, ◌++◌, map, drop}
-use Rattle.xs_lines.specs.Lines.{fed}
-use Rattle.xs_certificate.specs.CertificateText.{step_line}
+use Rattle.xs_text_laws.specs.Lines.{fed}
+use Rattle.xs_certificate_laws.specs.CertificateText.{step_line}
 use Rattle.xs_cert.proofs.writing.append_steps.Given as goal
 
 abbrev pub invariant-loop-i : goal.invariant-loop-i

@@ -1,7 +1,7 @@
 use Rattle.std.proofs.Common.{Err, IsErrOf, refl, sym, ap, subst, ◌∙◌}
 use Rattle.std.proofs.lemmas.Result.{err_from_is_err_and}
 use Rattle.xs_cert.specs.Seen.{seen}
-use Rattle.xs_certificate.specs.CertificateText.{SpellsCertificate, IsBadLine, EndsBefore}
+use Rattle.xs_certificate_laws.specs.CertificateText.{SpellsCertificate, IsBadLine, EndsBefore}
 use Rattle.xs_loading.specs.declared.input.Stop.TheVariants as stop
 use Rattle.xs_certificate_file.specs.CertificateFiles.{text_fault, a_bad_line, a_missing_line}
 use Rattle.xs_loading.proofs.InputLemmas.{same_error, same_refusal}

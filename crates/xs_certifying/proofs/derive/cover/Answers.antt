@@ -1,7 +1,7 @@
 use Rattle.std.proofs.Common.{◌≡◌, ◌∙◌, Some, ap, sym, subst}
 use Rattle.xs_solver.specs.Search.{CanSolve}
 use Rattle.xs_solver.specs.Verdict.{IsVerdict}
-use Rattle.xs_certificate.specs.Derived.{asked}
+use Rattle.xs_certificate_laws.specs.Derived.{asked}
 use Rattle.xs_certifying.proofs.DeriveLemmas.{can_be_asked, further}
 use Rattle.xs_certifying.proofs.derive.cover.Goals as goal
 

@@ -1,6 +1,6 @@
 use Rattle.std.proofs.Common.{◌≤◌, ◌∙◌, ℕ, All, length, refl, ap, sym, subst, arith}
 use Rattle.xs_lits.specs.StoreRecord.{StoreValue}
-use Rattle.xs_derive.specs.Derivation.{IsUpTo}
+use Rattle.xs_lits.specs.Derivation.{IsUpTo}
 use Rattle.xs_certifying.proofs.Queries.{clauses_bounded}
 use Rattle.xs_certifying.proofs.DeriveLemmas.{begins, ends}
 use Rattle.xs_certifying.proofs.derive.derive.Goals as goal

@@ -1,5 +1,5 @@
 use Rattle.std.proofs.Common.{◌<◌, ◌^◌, ◌∙◌, All, length, sym, subst, arith}
-use Rattle.xs_certificate.specs.CertificateText.{AreWritable}
+use Rattle.xs_certificate_laws.specs.CertificateText.{AreWritable}
 use Rattle.xs_certifying.specs.Deriving.{HasPositive}
 use Rattle.xs_certifying.proofs.DeriveLemmas.{writable}
 use Rattle.xs_certifying.proofs.derive.finished.Goals as goal

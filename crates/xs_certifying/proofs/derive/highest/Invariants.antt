@@ -1,5 +1,5 @@
 use Rattle.std.proofs.Common.{◌≡◌, ◌≤◌, drop, max}
-use Rattle.xs_certificate.specs.Accepted.{highest}
+use Rattle.xs_certificate_laws.specs.Accepted.{highest}
 use Rattle.xs_certifying.proofs.derive.highest.Given as goal
 
 -- with the rest's highest variable it is that of all

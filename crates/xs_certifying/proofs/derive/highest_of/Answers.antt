@@ -1,6 +1,6 @@
 use Rattle.std.proofs.Common.{◌≤◌, ◌∙◌, max, length, sym, ap, arith}
 use Rattle.std.proofs.lemmas.List.{at_drop_all}
-use Rattle.xs_certificate.specs.Accepted.{highest_in}
+use Rattle.xs_certificate_laws.specs.Accepted.{highest_in}
 use Rattle.xs_certifying.proofs.DeriveLemmas.{begins_highest_in, ends_highest}
 use Rattle.xs_certifying.proofs.derive.highest_of.Goals as goal
 

@@ -1,5 +1,5 @@
 use Rattle.std.proofs.Common.{◌≡◌, ◌++◌, drop}
-use Rattle.xs_certificate.specs.Derived.{asked}
+use Rattle.xs_certificate_laws.specs.Derived.{asked}
 use Rattle.xs_certifying.proofs.derive.question.Given as goal
 
 -- with what is asked of the rest it is all

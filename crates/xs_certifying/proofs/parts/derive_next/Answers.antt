@@ -1,8 +1,8 @@
 use Rattle.std.proofs.Common.{List, All, map, sym, subst}
 use Rattle.xs_lits.specs.Literal.{Literal}
 use Rattle.xs_lits.specs.Models.{FollowsFrom}
-use Rattle.xs_derive.specs.Hints.{HasNoOpposites}
-use Rattle.xs_system.specs.States.{moved_on}
+use Rattle.xs_lits.specs.Hints.{HasNoOpposites}
+use Rattle.xs_lits.specs.States.{moved_on}
 use Rattle.xs_certifying.proofs.PartLemmas.{next_follow, moved_apart}
 use Rattle.xs_certifying.proofs.parts.derive_next.Goals as goal
 

@@ -1,5 +1,5 @@
 use Rattle.std.proofs.Common.{◌≡◌, map, take}
-use Rattle.xs_system.specs.States.{moved_on}
+use Rattle.xs_lits.specs.States.{moved_on}
 use Rattle.xs_certifying.proofs.parts.moved_clause.Given as goal
 
 -- the literals so far are moved

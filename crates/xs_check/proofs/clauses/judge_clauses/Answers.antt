@@ -1,9 +1,9 @@
 use Rattle.std.proofs.Common.{◌≡◌, ◌+◌, false, IsTrue, sym, ap, subst, arith}
 use Rattle.std.proofs.lemmas.Bool.{both_ways}
 use Rattle.xs_check.specs.Asked.{asked}
-use Rattle.xs_derive.specs.Hints.{HasNoOpposites}
-use Rattle.xs_system.specs.States.{IsOverBits}
-use Rattle.xs_certificate.specs.Sites.{clause_sites}
+use Rattle.xs_lits.specs.Hints.{HasNoOpposites}
+use Rattle.xs_lits.specs.States.{IsOverBits}
+use Rattle.xs_certificate_laws.specs.Sites.{clause_sites}
 use Rattle.xs_check.proofs.Loops.{goes_itself, clause_goes_on, clause_ends, clauses_over}
 use Rattle.xs_check.proofs.SiteLaws.{clause_kept, clause_broken}
 use Rattle.xs_check.proofs.clauses.judge_clauses.Goals as goal

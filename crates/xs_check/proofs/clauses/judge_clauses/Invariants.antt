@@ -1,6 +1,6 @@
 -- what is found from here on is found at all clauses
 use Rattle.std.proofs.Common.{drop}
-use Rattle.xs_certificate.specs.Sites.{clause_sites}
+use Rattle.xs_certificate_laws.specs.Sites.{clause_sites}
 use Rattle.xs_check.specs.Asked.{asked}
 use Rattle.xs_check.specs.Found.{GoesOn}
 use Rattle.xs_check.proofs.clauses.judge_clauses.Given as goal

@@ -1,6 +1,6 @@
 use Rattle.std.proofs.lemmas.Result.{IfOk-weaker}
 use Rattle.xs_check.specs.Asked.{asked}
-use Rattle.xs_certificate.specs.Sites.{sites_of}
+use Rattle.xs_certificate_laws.specs.Sites.{sites_of}
 use Rattle.xs_check.specs.Found.{Finds, IsJudged}
 use Rattle.xs_check.proofs.Finding.{judged_of_all}
 use Rattle.xs_check.proofs.judge.judge.Goals as goal

@@ -1,7 +1,7 @@
 use Rattle.std.proofs.Common.{◌++◌, subst}
 use Rattle.std.proofs.lemmas.Result.{IfOk-weaker}
 use Rattle.xs_check.specs.Asked.{asked}
-use Rattle.xs_certificate.specs.Sites.{set_sites}
+use Rattle.xs_certificate_laws.specs.Sites.{set_sites}
 use Rattle.xs_check.specs.Asked.{proof_sites}
 use Rattle.xs_check.specs.Found.{Finds}
 use Rattle.xs_check.proofs.Finding.{kept_both, broken_front}

@@ -2,8 +2,8 @@ use Rattle.std.proofs.Common.{◌≡◌, false, IsTrue, ◌∷◌, ◌++◌, ref
 use Rattle.std.proofs.lemmas.Bool.{both_ways}
 use Rattle.std.proofs.lemmas.Result.{IfOk-weaker}
 use Rattle.xs_check.specs.Asked.{asked}
-use Rattle.xs_certificate.specs.Certificate.{the_numbers}
-use Rattle.xs_certificate.specs.Sites.{set_sites}
+use Rattle.xs_certificate_laws.specs.Certificate.{the_numbers}
+use Rattle.xs_certificate_laws.specs.Sites.{set_sites}
 use Rattle.xs_check.specs.Asked.{proof_sites}
 use Rattle.xs_check.specs.Found.{Finds}
 use Rattle.xs_check.proofs.Finding.{kept_then, broken_here}

@@ -1,6 +1,6 @@
 use Rattle.std.proofs.Common.{◌≡◌, ◌∙◌, ◌+◌, ◌<◌, ◌^◌, sym, ap, subst, arith}
 use Rattle.xs_check.specs.Asked.{asked}
-use Rattle.xs_certificate.specs.Certificate.{lines_of_sets}
+use Rattle.xs_certificate_laws.specs.Certificate.{lines_of_sets}
 use Rattle.xs_check.proofs.LineCounts.{sets_within}
 use Rattle.xs_check.proofs.lines.invariant_line.Goals as goal
 

@@ -1,5 +1,5 @@
 use Rattle.std.proofs.Common.{◌≡◌, ◌∙◌, ◌+◌, take, arith}
-use Rattle.xs_certificate.specs.Certificate.{lines_of_sets}
+use Rattle.xs_certificate_laws.specs.Certificate.{lines_of_sets}
 use Rattle.xs_check.proofs.LineCounts.{lines_more, lines_few, lines_all}
 use Rattle.xs_check.proofs.lines.lines_of_sets.Goals as goal
 

@@ -1,6 +1,6 @@
 use Rattle.std.proofs.Common.{◌+◌, [], ◌∷◌, sym, subst, arith}
 use Rattle.xs_check.specs.Asked.{asked}
-use Rattle.xs_certificate.specs.Certificate.{a_set, a_trace}
+use Rattle.xs_certificate_laws.specs.Certificate.{a_set, a_trace}
 use Rattle.xs_check.specs.Found.{IsKeptAt, IsBrokenAt, FindsAt}
 use Rattle.xs_check.specs.declared.judged.Judged.TheVariants.{Yes, No}
 use Rattle.xs_check.proofs.Finding.{kept_none, kept_then, broken_here}

@@ -1,7 +1,7 @@
 use Rattle.std.proofs.Common.{[], ◌∷◌, length, refl, subst, arith}
 use Rattle.xs_check.specs.Asked.{asked}
-use Rattle.xs_certificate.specs.Certificate.{a_set, a_trace}
-use Rattle.xs_certificate.specs.Sites.{set_sites}
+use Rattle.xs_certificate_laws.specs.Certificate.{a_set, a_trace}
+use Rattle.xs_certificate_laws.specs.Sites.{set_sites}
 use Rattle.xs_check.specs.Fit.{IsShortText}
 use Rattle.xs_check.specs.Found.{Finds}
 use Rattle.xs_check.proofs.Loops.{goes_itself, set_goes_on, set_ends, sets_over}

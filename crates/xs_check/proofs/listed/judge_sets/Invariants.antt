@@ -1,7 +1,7 @@
 -- what is found from here on is found at all sets
 use Rattle.std.proofs.Common.{◌≡◌, ◌+◌, take, drop}
-use Rattle.xs_certificate.specs.Certificate.{lines_of_sets}
-use Rattle.xs_certificate.specs.Sites.{set_sites}
+use Rattle.xs_certificate_laws.specs.Certificate.{lines_of_sets}
+use Rattle.xs_certificate_laws.specs.Sites.{set_sites}
 use Rattle.xs_check.specs.Asked.{asked}
 use Rattle.xs_check.specs.Found.{GoesOn}
 use Rattle.xs_check.proofs.listed.judge_sets.Given as goal

@@ -1,8 +1,9 @@
 use Rattle.std.proofs.Common.{◌≤◌, sym, subst}
 use Rattle.std.specs.Prelude.{map}
 use Rattle.std.proofs.lemmas.List.{length-map}
-use Rattle.xs_scope.specs.ModelTree.{model_tree, flat_tree, variable_tree, mode_of}
-use Rattle.xs_encoding.specs.Encodable.{IsEncodable, IsFitTop}
+use Rattle.xs_tree.specs.ModelTree.{model_tree, flat_tree, variable_tree}
+use Rattle.xs_flat_laws.specs.FaultModes.{mode_of}
+use Rattle.xs_encode_laws.specs.Encodable.{IsEncodable, IsFitTop}
 use Rattle.xs_check.proofs.HistoryPlaces.{bits_within_in, bad_is}
 use Rattle.xs_check.proofs.parts.bad_list.Goals as goal
 

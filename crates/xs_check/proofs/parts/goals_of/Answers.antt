@@ -2,8 +2,8 @@ use Rattle.std.proofs.Common.{◌≡◌, ◌+◌, ◌<◌, ◌≤◌, sym, subst
 use Rattle.std.specs.Prelude.{All, map, IfOk}
 use Rattle.xs_check.specs.Asked.{asked}
 use Rattle.xs_lits.specs.Literal.{Literal}
-use Rattle.xs_system.specs.States.{moved_on}
-use Rattle.xs_certificate.specs.Accepted.{goals}
+use Rattle.xs_lits.specs.States.{moved_on}
+use Rattle.xs_certificate_laws.specs.Accepted.{goals}
 use Rattle.xs_check.specs.Parts.{part_of}
 use Rattle.xs_check.proofs.parts.goals_of.Goals as goal
 

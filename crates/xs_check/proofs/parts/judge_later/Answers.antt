@@ -1,8 +1,8 @@
 use Rattle.std.proofs.Common.{◌++◌, subst, arith}
 use Rattle.std.proofs.lemmas.Result.{IfOk-weaker}
 use Rattle.xs_check.specs.Asked.{asked}
-use Rattle.xs_certificate.specs.Certificate.{part_next, part_bad}
-use Rattle.xs_certificate.specs.Sites.{step_sites}
+use Rattle.xs_certificate_laws.specs.Certificate.{part_next, part_bad}
+use Rattle.xs_certificate_laws.specs.Sites.{step_sites}
 use Rattle.xs_check.specs.Found.{Finds}
 use Rattle.xs_check.proofs.Finding.{kept_both, broken_front}
 use Rattle.xs_check.proofs.StepLaws.{lines_within}

@@ -1,7 +1,7 @@
 use Rattle.std.proofs.Common.{arith}
 use Rattle.std.proofs.lemmas.Bool.{false≢true}
 use Rattle.std.proofs.lemmas.List.{length-map}
-use Rattle.xs_scope.specs.ModelTree.{mode_of}
+use Rattle.xs_flat_laws.specs.FaultModes.{mode_of}
 use Rattle.xs_check.proofs.sets.has_numbers.Goals as goal
 
 pub returns-then-c-bits : goal.returns-then-c-bits

@@ -3,7 +3,7 @@ use Rattle.std.specs.Prelude.{All}
 use Rattle.std.proofs.lemmas.Bool.{both_ways, false≢true}
 use Rattle.xs_check.specs.Asked.{asked}
 use Rattle.std.proofs.lemmas.List.{length-map}
-use Rattle.xs_scope.specs.ModelTree.{mode_of}
+use Rattle.xs_flat_laws.specs.FaultModes.{mode_of}
 use Rattle.std.proofs.lemmas.Option.{slice_get_within}
 use Rattle.xs_check.specs.Order.{is_after_in}
 use Rattle.xs_check.proofs.SetLaws.{set_from, names_in, after_where}

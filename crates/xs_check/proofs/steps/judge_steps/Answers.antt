@@ -1,9 +1,9 @@
 use Rattle.std.proofs.Common.{◌≡◌, ◌∙◌, ◌+◌, Some, [], ◌∷◌, ◌++◌, length, sym, ap, subst, arith}
 use Rattle.std.specs.Prelude.{slice_get}
 use Rattle.xs_check.specs.Asked.{asked}
-use Rattle.xs_certificate.specs.Certificate.{steps_in}
-use Rattle.xs_certificate.specs.Sites.{step_sites}
-use Rattle.xs_certificate.specs.Accepted.{givens, known_at}
+use Rattle.xs_certificate_laws.specs.Certificate.{steps_in}
+use Rattle.xs_certificate_laws.specs.Sites.{step_sites}
+use Rattle.xs_certificate_laws.specs.Accepted.{givens, known_at}
 use Rattle.xs_derivations.specs.Steps.{FindsStep}
 use Rattle.xs_check.specs.Parts.{part_of}
 use Rattle.xs_check.proofs.Loops.{goes_itself, step_goes_on, step_ends, steps_over}

@@ -1,8 +1,8 @@
 -- what is found from here on is found at all steps, and the checker has the clauses of those so far
 use Rattle.std.proofs.Common.{◌≡◌, drop}
-use Rattle.xs_certificate.specs.Certificate.{steps_in}
-use Rattle.xs_certificate.specs.Accepted.{known_at, vars_of}
-use Rattle.xs_certificate.specs.Sites.{step_sites}
+use Rattle.xs_certificate_laws.specs.Certificate.{steps_in}
+use Rattle.xs_certificate_laws.specs.Accepted.{known_at, vars_of}
+use Rattle.xs_certificate_laws.specs.Sites.{step_sites}
 use Rattle.xs_check.specs.Asked.{asked}
 use Rattle.xs_check.specs.Found.{GoesOn}
 use Rattle.xs_check.specs.Parts.{part_of}

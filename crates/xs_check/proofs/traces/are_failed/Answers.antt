@@ -1,6 +1,6 @@
 use Rattle.std.proofs.Common.{◌∙◌, sym, arith}
 use Rattle.xs_check.specs.Asked.{asked}
-use Rattle.xs_flattening.specs.FlatTrace.{stands_in_some}
+use Rattle.xs_flat_laws.specs.FlatTrace.{stands_in_some}
 use Rattle.xs_eval.specs.Named.{named_trace}
 use Rattle.xs_check.proofs.Exactly.{variable_in, symbol_in, those_here, those_not, those_none, same_by, differ_then}
 use Rattle.xs_check.proofs.traces.are_failed.Goals as goal

@@ -1,8 +1,8 @@
 -- the faults from here on decide as all do
 use Rattle.std.proofs.Common.{◌≡◌, ◌+◌, drop}
 use Rattle.std.specs.Prelude.{map}
-use Rattle.xs_scope.specs.ModelTree.{mode_of}
-use Rattle.xs_flattening.specs.FlatTrace.{stands_in_some}
+use Rattle.xs_flat_laws.specs.FaultModes.{mode_of}
+use Rattle.xs_flat_laws.specs.FlatTrace.{stands_in_some}
 use Rattle.xs_eval.specs.Named.{named_trace}
 use Rattle.xs_check.specs.Asked.{asked}
 use Rattle.xs_check.specs.Moments.{are_those_of}

@@ -3,7 +3,7 @@ use Rattle.std.specs.Prelude.{All}
 use Rattle.std.proofs.lemmas.Bool.{both_ways, false≢true}
 use Rattle.xs_check.specs.Asked.{asked}
 use Rattle.std.proofs.lemmas.List.{length-map}
-use Rattle.xs_scope.specs.ModelTree.{mode_of}
+use Rattle.xs_flat_laws.specs.FaultModes.{mode_of}
 use Rattle.xs_eval.specs.Named.{named_trace}
 use Rattle.xs_check.proofs.Exactly.{exactly_where, numbers_from, those_from}
 use Rattle.xs_check.proofs.traces.has_failed_exactly.Goals as goal

@@ -1,13 +1,13 @@
 use Rattle.std.proofs.Common.{◌≡◌, ◌∙◌, Some, sym, ap, subst}
 use Rattle.std.proofs.lemmas.Result.{IfOk-weaker}
 use Rattle.xs_check.specs.Asked.{asked}
-use Rattle.xs_lines.specs.Lines.{fed}
-use Rattle.xs_scope.specs.ModelTree.{model_tree}
-use Rattle.xs_certificate.specs.Certificate.{a_trace}
+use Rattle.xs_text_laws.specs.Lines.{fed}
+use Rattle.xs_tree.specs.ModelTree.{model_tree}
+use Rattle.xs_certificate_laws.specs.Certificate.{a_trace}
 use Rattle.xs_eval.specs.Named.{named_trace}
 use Rattle.xs_report.specs.Told.{told_trace}
 use Rattle.xs_report.specs.Faults.{IsFaultOf}
-use Rattle.xs_trace_text.specs.Given.{BytesGive, GivesTrace}
+use Rattle.xs_text_laws.specs.Given.{BytesGive, GivesTrace}
 use Rattle.xs_check.specs.Found.{FindsAt}
 use Rattle.xs_check.specs.Moments.{FindsMoments, IsTextFault}
 use Rattle.xs_check.proofs.SiteLaws.{moments_found, text_broken}

@@ -1,7 +1,7 @@
 use Rattle.std.proofs.Common.{◌≡◌, [], IsTrue, arith, subst}
 use Rattle.std.proofs.lemmas.Result.{IfOk-weaker}
 use Rattle.xs_check.specs.Asked.{asked, proof_sites}
-use Rattle.xs_certificate.specs.Certificate.{a_set}
+use Rattle.xs_certificate_laws.specs.Certificate.{a_set}
 use Rattle.xs_check.specs.Found.{Finds, FindsUnlisted, IsJudgedUnlisted}
 use Rattle.xs_check.proofs.NoSets.{no_item, unlisted_none, unlisted_some}
 use Rattle.xs_check.proofs.unlisted.judge_numbered.Goals as goal

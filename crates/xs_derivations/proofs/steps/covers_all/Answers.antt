@@ -2,7 +2,7 @@ use Rattle.std.proofs.Common.{◌≡◌, ◌≤◌, ◌∙◌, IsTrue, All, fals
 use Rattle.std.proofs.lemmas.Bool.{false≢true, both_ways}
 use Rattle.std.proofs.lemmas.List.{take_all}
 use Rattle.std.proofs.lemmas.List.Elements.{All-more}
-use Rattle.xs_certificate.specs.Accepted.{Covers}
+use Rattle.xs_certificate_laws.specs.Accepted.{Covers}
 use Rattle.xs_derivations.proofs.steps.covers_all.Goals as goal
 
 pub returns-then-not-covers : goal.returns-then-not-covers

@@ -1,8 +1,8 @@
 use Rattle.std.proofs.Common.{◌++◌, ◌∙◌, List, map, ap}
 use Rattle.xs_lits.specs.Literal.{Literal}
-use Rattle.xs_scope.specs.declared.model.FlatModel.{FlatModel as Model}
-use Rattle.xs_scope.specs.ModelTree.{model_tree, flat_tree}
-use Rattle.xs_encoding.specs.Lists.{unlisted_clause, bad_list}
+use Rattle.xs_tree.specs.declared.model.FlatModel.{FlatModel as Model}
+use Rattle.xs_tree.specs.ModelTree.{model_tree, flat_tree}
+use Rattle.xs_encode_laws.specs.Lists.{unlisted_clause, bad_list}
 use Rattle.xs_encode.specs.History.{last_numbers}
 use Rattle.xs_encode.proofs.bad.bad_clauses.Goals as goal
 

@@ -1,13 +1,13 @@
 use Rattle.std.proofs.Common.{◌≡◌, ◌-◌, ◌∙◌, List, length, map, sym, ap, arith}
 use Rattle.std.specs.List.{range_with_len}
 use Rattle.std.proofs.lemmas.List.{length-map}
-use Rattle.xs_scope.specs.ModelTree.{flat_tree, variable_tree}
+use Rattle.xs_tree.specs.ModelTree.{flat_tree, variable_tree}
 use Rattle.xs_lits.specs.Literal.{Literal}
-use Rattle.xs_gates.specs.Circuit.{Circuit}
-use Rattle.xs_encoding.specs.Lists.{size_gates}
-use Rattle.xs_encoding.specs.Signals.{Signal}
-use Rattle.xs_encoding.specs.Layout.{input_place}
-use Rattle.xs_signals.proofs.ChoiceLoop.{usable_later, length_signals}
+use Rattle.xs_circuits.specs.Circuit.{Circuit}
+use Rattle.xs_encode_laws.specs.Lists.{size_gates}
+use Rattle.xs_encode_laws.specs.Signals.{Signal}
+use Rattle.xs_encode_laws.specs.Layout.{input_place}
+use Rattle.xs_expressions.proofs.ChoiceLoop.{usable_later, length_signals}
 use Rattle.xs_expressions.specs.Naming.{names_in}
 use Rattle.xs_encode.specs.Copies.{source_model}
 use Rattle.xs_encode.specs.History.{last_numbers, literal_of}

@@ -1,9 +1,9 @@
 use Rattle.std.proofs.Common.{◌+◌, ◌-◌, ◌++◌, ◌∙◌, List, length, map, sym, ap, subst, arith}
 use Rattle.std.specs.List.{range_with_len}
 use Rattle.xs_lits.specs.Literal.{Literal}
-use Rattle.xs_gates.specs.Meaning.{AllBelow}
-use Rattle.xs_signals.specs.Built.{signal_of, signals_of}
-use Rattle.xs_signals.proofs.ChoiceLoop.{get_mapped}
+use Rattle.xs_circuits.specs.Meaning.{AllBelow}
+use Rattle.xs_expressions.specs.Built.{signal_of, signals_of}
+use Rattle.xs_expressions.proofs.ChoiceLoop.{get_mapped}
 use Rattle.xs_encode.specs.History.{literal_of}
 use Rattle.xs_encode.proofs.BadLaws.{literals_next, below_end}
 use Rattle.xs_encode.proofs.bad.last_literals.Goals as goal

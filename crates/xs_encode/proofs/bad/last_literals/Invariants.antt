@@ -1,7 +1,7 @@
 use Rattle.std.proofs.Common.{◌≡◌, ◌≤◌, ◌-◌, ◌++◌, length, map}
 use Rattle.std.specs.List.{range_with_len}
-use Rattle.xs_gates.specs.Meaning.{AllBelow}
-use Rattle.xs_signals.specs.Built.{signals_of}
+use Rattle.xs_circuits.specs.Meaning.{AllBelow}
+use Rattle.xs_expressions.specs.Built.{signals_of}
 use Rattle.xs_encode.specs.History.{literal_of}
 use Rattle.xs_encode.proofs.bad.last_literals.Given as goal
 

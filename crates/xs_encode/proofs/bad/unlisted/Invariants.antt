@@ -1,5 +1,5 @@
 use Rattle.std.proofs.Common.{◌≡◌, ◌++◌, drop, map}
-use Rattle.xs_encoding.specs.Lists.{unlisted_clause}
+use Rattle.xs_encode_laws.specs.Lists.{unlisted_clause}
 use Rattle.xs_encode.proofs.bad.unlisted.Given as goal
 
 abbrev pub invariant-loop-set : goal.invariant-loop-set

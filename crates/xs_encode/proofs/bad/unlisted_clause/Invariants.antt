@@ -1,5 +1,5 @@
 use Rattle.std.proofs.Common.{◌≡◌, ◌++◌, drop}
-use Rattle.xs_encoding.specs.Lists.{unlisted_clause}
+use Rattle.xs_encode_laws.specs.Lists.{unlisted_clause}
 use Rattle.xs_encode.proofs.bad.unlisted_clause.Given as goal
 
 abbrev pub invariant-loop-n : goal.invariant-loop-n

@@ -1,11 +1,11 @@
 use Rattle.std.proofs.Common.{◌≡◌, ◌+◌, ◌∙◌, Some, length, sym, ap, subst, arith}
 use Rattle.std.specs.Prelude.{slice_get, if◌then◌else◌}
 use Rattle.std.proofs.lemmas.List.{length-set}
-use Rattle.xs_scope.specs.declared.model.FlatModel.{FlatModel as Model}
-use Rattle.xs_scope.specs.ModelTree.{role_of}
-use Rattle.xs_kinds.specs.Costs.{role_width}
+use Rattle.xs_tree.specs.declared.model.FlatModel.{FlatModel as Model}
+use Rattle.xs_tree.specs.ModelTree.{role_of}
+use Rattle.xs_type_laws.specs.Costs.{role_width}
 use Rattle.xs_types.specs.Types.{variable_domain}
-use Rattle.xs_encoding.specs.Layout.{width_as_input}
+use Rattle.xs_encode_laws.specs.Layout.{width_as_input}
 use Rattle.xs_encode.specs.declared.layout.Places.{Places}
 use Rattle.xs_encode.specs.Domains.{domain_interval, domain_width, capped}
 use Rattle.xs_encode.specs.Values.{least_in, domain_read}

@@ -1,6 +1,6 @@
 use Rattle.std.proofs.Common.{◌≡◌, ◌≤◌, ◌^◌, ◌++◌, drop, take, length}
-use Rattle.xs_encoding.specs.Layout.{input_place}
-use Rattle.xs_scope.specs.ModelTree.{model_tree}
+use Rattle.xs_encode_laws.specs.Layout.{input_place}
+use Rattle.xs_tree.specs.ModelTree.{model_tree}
 use Rattle.xs_encode.specs.Values.{values_read}
 use Rattle.xs_encode.proofs.bits.read_into.Given as goal
 

@@ -1,6 +1,6 @@
 use Rattle.std.proofs.Common.{◌∙◌, true, length, sym, ap, arith}
-use Rattle.xs_scope.specs.ModelTree.{model_tree}
-use Rattle.xs_encoding.specs.Layout.{input_place}
+use Rattle.xs_tree.specs.ModelTree.{model_tree}
+use Rattle.xs_encode_laws.specs.Layout.{input_place}
 use Rattle.xs_encode.proofs.ReadModels.{values_long, state_read}
 use Rattle.xs_encode.proofs.bits.state_of.Goals as goal
 

@@ -1,6 +1,6 @@
 use Rattle.std.proofs.Common.{◌∙◌, false, length, sym, ap, arith}
-use Rattle.xs_scope.specs.ModelTree.{model_tree}
-use Rattle.xs_encoding.specs.Layout.{input_place}
+use Rattle.xs_tree.specs.ModelTree.{model_tree}
+use Rattle.xs_encode_laws.specs.Layout.{input_place}
 use Rattle.xs_encode.proofs.ReadModels.{values_long, moment_read}
 use Rattle.xs_encode.proofs.bits.valuation_of.Goals as goal
 

@@ -1,11 +1,11 @@
 use Rattle.std.proofs.Common.{◌≡◌, ◌≤◌, Bool, Some, length, map, min, refl, sym, ap, subst, arith}
 use Rattle.std.specs.Prelude.{slice_get, if◌then◌else◌}
 use Rattle.std.proofs.lemmas.List.{length-map}
-use Rattle.xs_scope.specs.declared.model.FlatModel.{FlatModel as Model}
-use Rattle.xs_scope.specs.ModelTree.{model_tree, variable_tree}
-use Rattle.xs_encoding.specs.Lists.{names_of}
-use Rattle.xs_signals.specs.Built.{signal_of, signals_of}
-use Rattle.xs_signals.proofs.ChoiceLoop.{usable_at, usable_later, length_signals}
+use Rattle.xs_tree.specs.declared.model.FlatModel.{FlatModel as Model}
+use Rattle.xs_tree.specs.ModelTree.{model_tree, variable_tree}
+use Rattle.xs_encode_laws.specs.Lists.{names_of}
+use Rattle.xs_expressions.specs.Built.{signal_of, signals_of}
+use Rattle.xs_expressions.proofs.ChoiceLoop.{usable_at, usable_later, length_signals}
 use Rattle.xs_encode.specs.Domains.{domain_gates}
 use Rattle.xs_encode.specs.Copies.{Builds}
 use Rattle.xs_encode.proofs.LoopLaws.{domains_next, domains_end}

@@ -1,7 +1,7 @@
 use Rattle.std.proofs.Common.{◌≡◌, ◌≤◌, drop, map}
-use Rattle.xs_scope.specs.ModelTree.{model_tree, variable_tree}
-use Rattle.xs_encoding.specs.Lists.{Copy, names_of, domains_gates}
-use Rattle.xs_signals.specs.Built.{signals_of}
+use Rattle.xs_tree.specs.ModelTree.{model_tree, variable_tree}
+use Rattle.xs_encode_laws.specs.Lists.{Copy, names_of, domains_gates}
+use Rattle.xs_expressions.specs.Built.{signals_of}
 use Rattle.xs_encode.proofs.domains.domains.Given as goal
 
 abbrev pub invariant-loop-i : goal.invariant-loop-i

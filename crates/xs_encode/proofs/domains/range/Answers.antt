@@ -1,9 +1,9 @@
 use Rattle.std.proofs.Common.{subst, w64}
 use Rattle.std.proofs.lemmas.Int.{to_z-of_z}
 use Rattle.xs_lits.specs.Literal.{Literal}
-use Rattle.xs_gates.specs.Circuit.{Circuit}
-use Rattle.xs_encoding.specs.Signals.{between_gates}
-use Rattle.xs_signals.specs.Built.{BuildsLiteral}
+use Rattle.xs_circuits.specs.Circuit.{Circuit}
+use Rattle.xs_encode_laws.specs.Signals.{between_gates}
+use Rattle.xs_expressions.specs.Built.{BuildsLiteral}
 use Rattle.xs_encode.proofs.LoopLaws.{literal_is}
 use Rattle.xs_encode.proofs.domains.range.Goals as goal
 

@@ -1,7 +1,7 @@
 use Rattle.std.proofs.Common.{◌≡◌, get_or, pos, arith}
 use Rattle.std.proofs.lemmas.Grind.{common_steps}
-use Rattle.xs_arith.specs.Numbers.{number_word}
-use Rattle.xs_signals.specs.Built.{signal_of}
+use Rattle.xs_circuits.specs.Numbers.{number_word}
+use Rattle.xs_expressions.specs.Built.{signal_of}
 use Rattle.xs_encode.proofs.SomeLaws.{some_next, some_end}
 use Rattle.xs_encode.proofs.domains.some_number.Goals as goal
 

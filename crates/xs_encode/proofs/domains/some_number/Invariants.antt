@@ -1,8 +1,8 @@
 use Rattle.std.proofs.Common.{◌≡◌, ◌≤◌, false, drop, map}
 use Rattle.xs_lits.specs.Models.{IsBelow}
-use Rattle.xs_gates.specs.Gates.{constant_lit}
-use Rattle.xs_arith.specs.Numbers.{number_word}
-use Rattle.xs_signals.specs.Built.{signal_of}
+use Rattle.xs_circuits.specs.Gates.{constant_lit}
+use Rattle.xs_circuits.specs.Numbers.{number_word}
+use Rattle.xs_expressions.specs.Built.{signal_of}
 use Rattle.xs_encode.specs.Domains.{some_gates}
 use Rattle.xs_encode.proofs.domains.some_number.Given as goal
 

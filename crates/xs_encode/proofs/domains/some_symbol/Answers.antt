@@ -1,7 +1,7 @@
 use Rattle.std.proofs.Common.{◌≡◌, get_or, arith}
 use Rattle.std.proofs.lemmas.Grind.{common_steps}
 use Rattle.xs_encode.specs.Domains.{symbol_word}
-use Rattle.xs_signals.specs.Built.{signal_of}
+use Rattle.xs_expressions.specs.Built.{signal_of}
 use Rattle.xs_encode.proofs.SomeLaws.{some_next, some_end}
 use Rattle.xs_encode.proofs.domains.some_symbol.Goals as goal
 

@@ -1,7 +1,7 @@
 use Rattle.std.proofs.Common.{◌≡◌, drop}
 use Rattle.xs_tree.specs.Written.{trees_of, branches_of}
 use Rattle.xs_tree.specs.Leaves.{trees_map, branches_map}
-use Rattle.xs_scope.specs.ModelTree.{leaf_of}
+use Rattle.xs_tree.specs.ModelTree.{leaf_of}
 use Rattle.xs_encode.specs.Reading.{names_read, trees_any, branches_any}
 use Rattle.xs_encode.proofs.inputs.+reads.Given as goal
 

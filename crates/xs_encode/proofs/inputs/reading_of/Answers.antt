@@ -1,7 +1,7 @@
 use Rattle.std.proofs.Common.{◌+◌, ◌∙◌, Bool, ap, arith, drop, map, List}
-use Rattle.xs_scope.specs.declared.model.Variable.{Variable}
-use Rattle.xs_scope.specs.ModelTree.{flat_tree, variable_tree, formula_tree}
-use Rattle.xs_encoding.specs.Inputs.{names_input, reading_after}
+use Rattle.xs_tree.specs.declared.model.Variable.{Variable}
+use Rattle.xs_tree.specs.ModelTree.{flat_tree, variable_tree, formula_tree}
+use Rattle.xs_encode_laws.specs.Inputs.{names_input, reading_after}
 use Rattle.xs_encode.specs.Reading.{tree_any}
 use Rattle.xs_encode.proofs.ModelParts.{got_in}
 use Rattle.xs_encode.proofs.ListLaws.{reading_next}

@@ -1,6 +1,6 @@
 use Rattle.std.proofs.Common.{◌≡◌, [], drop, map}
-use Rattle.xs_scope.specs.ModelTree.{variable_tree, formula_tree}
-use Rattle.xs_encoding.specs.Inputs.{reading_after}
+use Rattle.xs_tree.specs.ModelTree.{variable_tree, formula_tree}
+use Rattle.xs_encode_laws.specs.Inputs.{reading_after}
 use Rattle.xs_encode.proofs.inputs.reading_of.Given as goal
 
 abbrev pub invariant-loop-definition : goal.invariant-loop-definition

@@ -1,8 +1,8 @@
 use Rattle.std.proofs.Common.{◌≡◌, ◌∙◌, ◌+◌, Some, map, drop, ap, subst, arith}
 use Rattle.std.specs.Prelude.{slice_get, sum_by}
-use Rattle.xs_scope.specs.declared.model.FlatModel.{FlatModel as Model}
-use Rattle.xs_scope.specs.ModelTree.{model_tree, variable_tree, role_of}
-use Rattle.xs_encoding.specs.Layout.{width_as_input, input_width, input_bits}
+use Rattle.xs_tree.specs.declared.model.FlatModel.{FlatModel as Model}
+use Rattle.xs_tree.specs.ModelTree.{model_tree, variable_tree, role_of}
+use Rattle.xs_encode_laws.specs.Layout.{width_as_input, input_width, input_bits}
 use Rattle.xs_encode.proofs.LoopLaws.{bits_next}
 use Rattle.xs_encode.proofs.layout.input_bits.Goals as goal
 

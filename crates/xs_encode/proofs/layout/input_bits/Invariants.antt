@@ -1,7 +1,7 @@
 use Rattle.std.proofs.Common.{◌≡◌, ◌+◌, ◌≤◌, ◌^◌, drop, map}
 use Rattle.std.specs.Prelude.{sum_by}
-use Rattle.xs_scope.specs.ModelTree.{model_tree, variable_tree}
-use Rattle.xs_encoding.specs.Layout.{input_width, input_bits}
+use Rattle.xs_tree.specs.ModelTree.{model_tree, variable_tree}
+use Rattle.xs_encode_laws.specs.Layout.{input_width, input_bits}
 use Rattle.xs_encode.proofs.layout.input_bits.Given as goal
 
 abbrev pub invariant-loop-i : goal.invariant-loop-i

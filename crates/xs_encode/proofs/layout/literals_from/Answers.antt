@@ -1,5 +1,5 @@
 use Rattle.std.proofs.Common.{◌∙◌, ◌++◌, ◌∷◌, [], sym, ap}
-use Rattle.xs_encoding.specs.Layout.{literals_from}
+use Rattle.xs_encode_laws.specs.Layout.{literals_from}
 use Rattle.xs_encode.proofs.NumberLaws.{literals_last}
 use Rattle.xs_encode.proofs.layout.literals_from.Goals as goal
 

@@ -1,5 +1,5 @@
 use Rattle.std.proofs.Common.{◌≡◌}
-use Rattle.xs_encoding.specs.Layout.{literals_from}
+use Rattle.xs_encode_laws.specs.Layout.{literals_from}
 use Rattle.xs_encode.proofs.layout.literals_from.Given as goal
 
 abbrev pub invariant-loop-i : goal.invariant-loop-i

@@ -1,10 +1,10 @@
 use Rattle.std.proofs.Common.{◌≡◌, ◌+◌, ◌++◌, ◌∙◌, Some, drop, map, ap, subst, arith}
 use Rattle.std.specs.Prelude.{slice_get}
-use Rattle.xs_scope.specs.declared.model.FlatModel.{FlatModel as Model}
-use Rattle.xs_scope.specs.ModelTree.{variable_tree, role_of}
-use Rattle.xs_kinds.specs.Costs.{role_width}
-use Rattle.xs_encoding.specs.Layout.{width_as_input, variable_signals}
-use Rattle.xs_signals.specs.Built.{signals_of}
+use Rattle.xs_tree.specs.declared.model.FlatModel.{FlatModel as Model}
+use Rattle.xs_tree.specs.ModelTree.{variable_tree, role_of}
+use Rattle.xs_type_laws.specs.Costs.{role_width}
+use Rattle.xs_encode_laws.specs.Layout.{width_as_input, variable_signals}
+use Rattle.xs_expressions.specs.Built.{signals_of}
 use Rattle.xs_encode.specs.declared.layout.Places.{Places}
 use Rattle.xs_encode.specs.Domains.{domain_width, domain_signal}
 use Rattle.xs_encode.proofs.LoopLaws.{signals_next}

@@ -1,7 +1,7 @@
 use Rattle.std.proofs.Common.{◌≡◌, ◌≤◌, ◌++◌, drop, map}
-use Rattle.xs_scope.specs.ModelTree.{variable_tree}
-use Rattle.xs_encoding.specs.Layout.{variable_signals}
-use Rattle.xs_signals.specs.Built.{signals_of}
+use Rattle.xs_tree.specs.ModelTree.{variable_tree}
+use Rattle.xs_encode_laws.specs.Layout.{variable_signals}
+use Rattle.xs_expressions.specs.Built.{signals_of}
 use Rattle.xs_encode.proofs.layout.variable_signals.Given as goal
 
 abbrev pub invariant-loop-i : goal.invariant-loop-i

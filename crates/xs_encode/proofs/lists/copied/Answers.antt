@@ -1,6 +1,6 @@
 use Rattle.std.proofs.Common.{ap, arith}
 use Rattle.xs_lits.specs.Literal.{Literal}
-use Rattle.xs_signals.specs.Built.{signals_of}
+use Rattle.xs_expressions.specs.Built.{signals_of}
 use Rattle.xs_encode.specs.Copies.{source_model}
 use Rattle.xs_encode.proofs.CopyLaws.{variables_usable, copy_is}
 use Rattle.xs_encode.proofs.lists.copied.Goals as goal

@@ -1,7 +1,7 @@
 use Rattle.std.proofs.Common.{◌≡◌, ◌∙◌, Bool, false, true, not, ◌&&◌, sym, ap, arith}
-use Rattle.xs_scope.specs.ModelTree.{flat_tree, formula_tree}
-use Rattle.xs_encoding.specs.Inputs.{reads_input}
-use Rattle.xs_signals.specs.Built.{signals_of}
+use Rattle.xs_tree.specs.ModelTree.{flat_tree, formula_tree}
+use Rattle.xs_encode_laws.specs.Inputs.{reads_input}
+use Rattle.xs_expressions.specs.Built.{signals_of}
 use Rattle.xs_expressions.specs.Naming.{model_of, names_in}
 use Rattle.xs_encode.specs.Copies.{source_model}
 use Rattle.xs_encode.proofs.ListLaws.{read_is, both_true, both_false, first_false, definition_left, definition_is}

@@ -1,9 +1,9 @@
 use Rattle.std.proofs.Common.{◌≤◌, ◌∙◌, List, length, map, ap, arith}
 use Rattle.std.proofs.lemmas.List.{length-map}
-use Rattle.xs_scope.specs.declared.model.Formula.{Formula}
-use Rattle.xs_scope.specs.declared.model.FlatModel.{FlatModel as Model}
-use Rattle.xs_scope.specs.ModelTree.{formula_tree}
-use Rattle.xs_signals.specs.Built.{signals_of}
+use Rattle.xs_tree.specs.declared.model.Formula.{Formula}
+use Rattle.xs_tree.specs.declared.model.FlatModel.{FlatModel as Model}
+use Rattle.xs_tree.specs.ModelTree.{formula_tree}
+use Rattle.xs_expressions.specs.Built.{signals_of}
 use Rattle.xs_encode.specs.Copies.{source_model}
 use Rattle.xs_encode.proofs.ModelParts.{definition_right, at_mapped, got_in}
 use Rattle.xs_encode.proofs.ListLaws.{defines_next, defines_end}

@@ -1,8 +1,8 @@
 use Rattle.std.proofs.Common.{drop, map}
-use Rattle.xs_scope.specs.ModelTree.{formula_tree}
-use Rattle.xs_gates.specs.Circuit.{fold_gates}
-use Rattle.xs_encoding.specs.Lists.{definition_gates, definitions_gates}
-use Rattle.xs_signals.specs.Built.{signals_of}
+use Rattle.xs_tree.specs.ModelTree.{formula_tree}
+use Rattle.xs_circuits.specs.Circuit.{fold_gates}
+use Rattle.xs_encode_laws.specs.Lists.{definition_gates, definitions_gates}
+use Rattle.xs_expressions.specs.Built.{signals_of}
 use Rattle.xs_encode.specs.Copies.{source_model, Defines}
 use Rattle.xs_encode.proofs.lists.definitions.Given as goal
 

@@ -1,7 +1,7 @@
 use Rattle.std.proofs.Common.{◌∙◌, ap}
-use Rattle.xs_scope.specs.ModelTree.{model_tree}
-use Rattle.xs_encoding.specs.Layout.{input_bits}
-use Rattle.xs_encoding.specs.Lists.{state_list, first_list, step_list}
+use Rattle.xs_tree.specs.ModelTree.{model_tree}
+use Rattle.xs_encode_laws.specs.Layout.{input_bits}
+use Rattle.xs_encode_laws.specs.Lists.{state_list, first_list, step_list}
 use Rattle.xs_encode.proofs.lists.encode.Goals as goal
 
 pub returns : goal.returns

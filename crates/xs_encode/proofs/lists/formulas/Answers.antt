@@ -1,5 +1,5 @@
 use Rattle.std.proofs.Common.{map, arith}
-use Rattle.xs_scope.specs.ModelTree.{formula_tree}
+use Rattle.xs_tree.specs.ModelTree.{formula_tree}
 use Rattle.xs_expressions.specs.Naming.{model_of, names_in}
 use Rattle.xs_expressions.proofs.Members.{named_later}
 use Rattle.xs_encode.specs.Copies.{IsRightFormula}

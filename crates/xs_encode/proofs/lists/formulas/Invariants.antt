@@ -1,6 +1,6 @@
 use Rattle.std.proofs.Common.{◌≡◌, ◌≤◌, drop, map}
-use Rattle.xs_scope.specs.ModelTree.{formula_tree}
-use Rattle.xs_encoding.specs.Lists.{formulas_gates}
+use Rattle.xs_tree.specs.ModelTree.{formula_tree}
+use Rattle.xs_encode_laws.specs.Lists.{formulas_gates}
 use Rattle.xs_expressions.specs.Naming.{names_in}
 use Rattle.xs_encode.proofs.lists.formulas.Given as goal
 

@@ -1,4 +1,4 @@
-use Rattle.xs_scope.specs.ModelTree.{flat_tree}
+use Rattle.xs_tree.specs.ModelTree.{flat_tree}
 use Rattle.xs_encode.proofs.LoopLaws.{holds_is}
 use Rattle.xs_encode.proofs.lists.holds.Goals as goal
 

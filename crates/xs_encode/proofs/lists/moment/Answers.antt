@@ -1,8 +1,8 @@
 use Rattle.std.proofs.Common.{◌∙◌, map, sym, ap, subst}
-use Rattle.xs_scope.specs.declared.model.FlatModel.{FlatModel as Model}
-use Rattle.xs_scope.specs.ModelTree.{formula_tree}
-use Rattle.xs_gates.specs.Circuit.{Circuit}
-use Rattle.xs_encoding.specs.Lists.{formulas_gates}
+use Rattle.xs_tree.specs.declared.model.FlatModel.{FlatModel as Model}
+use Rattle.xs_tree.specs.ModelTree.{formula_tree}
+use Rattle.xs_circuits.specs.Circuit.{Circuit}
+use Rattle.xs_encode_laws.specs.Lists.{formulas_gates}
 use Rattle.xs_expressions.specs.Naming.{model_of, names_in, copy_of, IsNamed}
 use Rattle.xs_encode.specs.Copies.{source_model, Builds}
 use Rattle.xs_encode.proofs.ModelParts.{each_right}

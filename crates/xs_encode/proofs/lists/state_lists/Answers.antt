@@ -1,8 +1,8 @@
 use Rattle.std.proofs.Common.{◌∙◌, List, map, sym, ap}
-use Rattle.xs_scope.specs.declared.model.Formula.{Formula}
-use Rattle.xs_scope.specs.declared.model.FlatModel.{FlatModel as Model}
-use Rattle.xs_scope.specs.ModelTree.{formula_tree}
-use Rattle.xs_gates.specs.Circuit.{Circuit}
+use Rattle.xs_tree.specs.declared.model.Formula.{Formula}
+use Rattle.xs_tree.specs.declared.model.FlatModel.{FlatModel as Model}
+use Rattle.xs_tree.specs.ModelTree.{formula_tree}
+use Rattle.xs_circuits.specs.Circuit.{Circuit}
 use Rattle.xs_expressions.specs.Naming.{model_of, names_in}
 use Rattle.xs_encode.specs.Copies.{source_model}
 use Rattle.xs_encode.proofs.ModelParts.{first_right}

@@ -1,11 +1,11 @@
 use Rattle.std.proofs.Common.{◌∙◌, List, true, false, map, sym, ap, subst}
 use Rattle.xs_tree.specs.Trace.{Each}
-use Rattle.xs_scope.specs.declared.model.Formula.{Formula}
-use Rattle.xs_scope.specs.declared.model.FlatModel.{FlatModel as Model}
-use Rattle.xs_scope.specs.ModelTree.{formula_tree}
-use Rattle.xs_gates.specs.Circuit.{Circuit}
-use Rattle.xs_encoding.specs.Layout.{variable_signals}
-use Rattle.xs_encoding.specs.Lists.{copy_gates}
+use Rattle.xs_tree.specs.declared.model.Formula.{Formula}
+use Rattle.xs_tree.specs.declared.model.FlatModel.{FlatModel as Model}
+use Rattle.xs_tree.specs.ModelTree.{formula_tree}
+use Rattle.xs_circuits.specs.Circuit.{Circuit}
+use Rattle.xs_encode_laws.specs.Layout.{variable_signals}
+use Rattle.xs_encode_laws.specs.Lists.{copy_gates}
 use Rattle.xs_encode.specs.Copies.{source_model, IsRightFormula}
 use Rattle.xs_encode.proofs.ModelParts.{step_right}
 use Rattle.xs_encode.proofs.CopyLaws.{copied_later}

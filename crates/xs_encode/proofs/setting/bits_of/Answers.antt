@@ -1,10 +1,10 @@
 use Rattle.std.proofs.Common.{None, ◌∙◌, length, sym, ap, subst, arith}
 use Rattle.std.specs.Prelude.{slice_index_or}
 use Rattle.xs_lits.specs.Assignment.{Assignment}
-use Rattle.xs_scope.specs.ModelTree.{model_tree}
-use Rattle.xs_encoding.specs.Layout.{input_place}
-use Rattle.xs_encoding.specs.Bits.{state_of, inputs_of}
-use Rattle.xs_encoding.proofs.MomentMeans.{model_types}
+use Rattle.xs_tree.specs.ModelTree.{model_tree}
+use Rattle.xs_encode_laws.specs.Layout.{input_place}
+use Rattle.xs_encode_laws.specs.Bits.{state_of, inputs_of}
+use Rattle.xs_encode_laws.proofs.MomentMeans.{model_types}
 use Rattle.xs_encode.specs.Values.{Gives}
 use Rattle.xs_encode.proofs.SettingLaws.{set_keeps, set_long, set_gives}
 use Rattle.xs_encode.proofs.setting.bits_of.Goals as goal

@@ -1,12 +1,12 @@
 use Rattle.std.proofs.Common.{◌≡◌, ℕ, ◌+◌, ◌∙◌, Some, length, drop, sym, ap, subst, arith, w64}
 use Rattle.std.specs.Prelude.{slice_get}
 use Rattle.std.proofs.lemmas.Int.{to_z-of_z}
-use Rattle.xs_scope.specs.declared.model.FlatModel.{FlatModel as Model}
-use Rattle.xs_scope.specs.ModelTree.{model_tree, role_of}
-use Rattle.xs_kinds.specs.Costs.{role_width, state_bits}
+use Rattle.xs_tree.specs.declared.model.FlatModel.{FlatModel as Model}
+use Rattle.xs_tree.specs.ModelTree.{model_tree, role_of}
+use Rattle.xs_type_laws.specs.Costs.{role_width, state_bits}
 use Rattle.xs_lits.specs.Assignment.{Assignment}
-use Rattle.xs_encoding.specs.Layout.{width_as_input, place_of, input_bits, input_place}
-use Rattle.xs_encoding.specs.Bits.{number_bits}
+use Rattle.xs_encode_laws.specs.Layout.{width_as_input, place_of, input_bits, input_place}
+use Rattle.xs_encode_laws.specs.Bits.{number_bits}
 use Rattle.xs_encode.specs.declared.layout.Places.{Places}
 use Rattle.xs_encode.specs.Domains.{domain_width}
 use Rattle.xs_encode.specs.Values.{number_of, with_bits, bits_set, AreLeft}

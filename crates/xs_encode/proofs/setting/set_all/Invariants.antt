@@ -1,7 +1,7 @@
 use Rattle.std.proofs.Common.{◌≡◌, ◌+◌, drop, length}
-use Rattle.xs_kinds.specs.Costs.{state_bits}
-use Rattle.xs_encoding.specs.Layout.{input_bits, input_place}
-use Rattle.xs_scope.specs.ModelTree.{model_tree}
+use Rattle.xs_type_laws.specs.Costs.{state_bits}
+use Rattle.xs_encode_laws.specs.Layout.{input_bits, input_place}
+use Rattle.xs_tree.specs.ModelTree.{model_tree}
 use Rattle.xs_encode.specs.Values.{bits_set, AreLeft}
 use Rattle.xs_encode.proofs.setting.set_all.Given as goal
 

@@ -1,5 +1,5 @@
 use Rattle.std.proofs.Common.{◌≡◌, ◌+◌, ◌-◌, length}
-use Rattle.xs_encoding.specs.Bits.{number_bits}
+use Rattle.xs_encode_laws.specs.Bits.{number_bits}
 use Rattle.xs_encode.specs.Values.{AreFree, turned_bits, with_bits}
 use Rattle.xs_encode.proofs.setting.set_bits.Given as goal
 

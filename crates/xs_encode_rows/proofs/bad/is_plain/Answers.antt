@@ -1,7 +1,7 @@
 use Rattle.std.proofs.Common.{◌≡◌, IsTrue, false, All, length, subst}
-use Rattle.xs_scope.specs.declared.model.FlatModel.{FlatModel}
-use Rattle.xs_scope.specs.ModelTree.{role_of}
-use Rattle.xs_encoding.specs.Inputs.{is_input}
+use Rattle.xs_tree.specs.declared.model.FlatModel.{FlatModel}
+use Rattle.xs_tree.specs.ModelTree.{role_of}
+use Rattle.xs_encode_laws.specs.Inputs.{is_input}
 use Rattle.xs_encode_rows.proofs.bad.is_plain.Goals as goal
 
 pub returns-clause-definitions : goal.returns-clause-definitions

@@ -1,5 +1,5 @@
 use Rattle.std.proofs.Common.{◌≡◌, true, IfOk, subst}
-use Rattle.xs_scope.specs.declared.model.FlatModel.{FlatModel}
+use Rattle.xs_tree.specs.declared.model.FlatModel.{FlatModel}
 use Rattle.xs_scope.specs.Closed.{is_closed, bounds_of}
 use Rattle.xs_encode_rows.proofs.bad.resolved.Goals as goal
 

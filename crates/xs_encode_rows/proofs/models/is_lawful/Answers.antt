@@ -1,5 +1,5 @@
 use Rattle.std.proofs.Common.{arith, ◌≡◌, IsTrue, length, ap, ◌∙◌, below_more}
-use Rattle.xs_scope.specs.declared.model.FlatModel.{FlatModel}
+use Rattle.xs_tree.specs.declared.model.FlatModel.{FlatModel}
 use Rattle.xs_encode_rows.proofs.Laws.{lawful, one_value}
 use Rattle.xs_encode_rows.proofs.models.is_lawful.Goals as goal
 

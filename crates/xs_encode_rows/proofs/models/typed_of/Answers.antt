@@ -1,9 +1,9 @@
 use Rattle.std.proofs.Common.{arith, ◌<◌, ◌^◌, length, sym, subst}
 use Rattle.xs_tree.specs.ProgramTree.{program_tree}
-use Rattle.xs_scope.specs.declared.model.FlatModel.{FlatModel}
-use Rattle.xs_scope.specs.ModelTree.{model_tree}
-use Rattle.xs_encoding.specs.Encodable.{IsEncodable}
-use Rattle.xs_encoding.proofs.FlatEncodable.{flat_models_encodable}
+use Rattle.xs_tree.specs.declared.model.FlatModel.{FlatModel}
+use Rattle.xs_tree.specs.ModelTree.{model_tree}
+use Rattle.xs_encode_laws.specs.Encodable.{IsEncodable}
+use Rattle.xs_encode_laws.proofs.FlatEncodable.{flat_models_encodable}
 use Rattle.xs_eval.specs.Named.{IsEvaluable}
 use Rattle.xs_eval.proofs.ModelLaws.{evaluable}
 use Rattle.xs_encode_rows.proofs.Laws.{each_has_member, many}

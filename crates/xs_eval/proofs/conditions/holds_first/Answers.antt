@@ -1,5 +1,5 @@
 use Rattle.std.proofs.Common.{◌≡◌, ◌∙◌, ◌↔◌, IsTrue, ap, sym, subst}
-use Rattle.xs_scope.specs.ModelTree.{model_tree}
+use Rattle.xs_tree.specs.ModelTree.{model_tree}
 use Rattle.xs_eval.specs.Filled.{first_holds}
 use Rattle.xs_eval.specs.Named.{values_in}
 use Rattle.xs_eval.specs.Stops.{IsFirstMoment}

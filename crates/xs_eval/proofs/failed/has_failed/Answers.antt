@@ -1,7 +1,8 @@
 use Rattle.std.proofs.Common.{◌∙◌, ap, sym, subst}
 use Rattle.std.specs.Prelude.{All}
 use Rattle.std.specs.List.{list_any}
-use Rattle.xs_scope.specs.ModelTree.{model_tree, mode_of}
+use Rattle.xs_tree.specs.ModelTree.{model_tree}
+use Rattle.xs_flat_laws.specs.FaultModes.{mode_of}
 use Rattle.xs_eval.specs.Failed.{has_symbol, HasVariable}
 use Rattle.xs_eval.proofs.FailedLaws.{failed_law}
 use Rattle.xs_eval.proofs.FilledLaws.{all_have, variable_of}

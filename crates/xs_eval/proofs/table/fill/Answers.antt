@@ -1,6 +1,6 @@
 use Rattle.std.proofs.Common.{◌∙◌, ap, sym, subst}
-use Rattle.xs_scope.specs.declared.model.FlatModel.{FlatModel}
-use Rattle.xs_scope.specs.ModelTree.{model_tree}
+use Rattle.xs_tree.specs.declared.model.FlatModel.{FlatModel}
+use Rattle.xs_tree.specs.ModelTree.{model_tree}
 use Rattle.xs_eval.specs.Filled.{filled, HasRoom, HasValues}
 use Rattle.xs_eval.specs.Named.{IsFilled}
 use Rattle.xs_eval.proofs.FilledLaws.{filled_law, lawful_values}

@@ -1,7 +1,7 @@
 use Rattle.std.proofs.Common.{◌≡◌, ◌<◌, ◌^◌, ◌∙◌, length, ap, sym, subst}
 use Rattle.std.specs.Prelude.{All}
 use Rattle.xs_tree.specs.Written.{tree_of}
-use Rattle.xs_scope.specs.ModelTree.{model_tree, flat_tree}
+use Rattle.xs_tree.specs.ModelTree.{model_tree, flat_tree}
 use Rattle.xs_eval.specs.Filled.{HasRoom, HasValues}
 use Rattle.xs_eval.specs.Named.{named_trace}
 use Rattle.xs_eval.specs.Replayed.{replayed, IsReplayed}

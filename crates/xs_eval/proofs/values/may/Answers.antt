@@ -1,5 +1,5 @@
 use Rattle.std.proofs.Common.{◌↔◌, IsTrue, sym, subst}
-use Rattle.xs_scope.specs.ModelTree.{model_tree, flat_tree}
+use Rattle.xs_tree.specs.ModelTree.{model_tree, flat_tree}
 use Rattle.xs_eval.specs.Named.{MayGive}
 use Rattle.xs_eval.proofs.ValueLaws.{may_law}
 use Rattle.xs_eval.proofs.values.may.Goals as goal

@@ -1,5 +1,5 @@
 use Rattle.std.proofs.Common.{sym, subst}
-use Rattle.xs_scope.specs.ModelTree.{model_tree, flat_tree}
+use Rattle.xs_tree.specs.ModelTree.{model_tree, flat_tree}
 use Rattle.xs_eval.specs.Named.{Gives}
 use Rattle.xs_eval.proofs.ValueLaws.{value_law}
 use Rattle.xs_eval.proofs.values.value.Goals as goal

@@ -1,6 +1,6 @@
 use Rattle.std.proofs.Common.{◌≡◌, ap, subst, ◌∙◌}
-use Rattle.xs_signals.specs.Built.{signal_of, signals_of}
-use Rattle.xs_signals.specs.Choices.{chosen_gates}
+use Rattle.xs_expressions.specs.Built.{signal_of, signals_of}
+use Rattle.xs_expressions.specs.Choices.{chosen_gates}
 use Rattle.xs_expressions.specs.Sorts.{sort_width}
 use Rattle.xs_expressions.proofs.branches.chosen_of.Goals as goal
 

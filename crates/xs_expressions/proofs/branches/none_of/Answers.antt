@@ -1,5 +1,5 @@
 use Rattle.std.proofs.Common.{sym, subst, arith}
-use Rattle.xs_encoding.specs.Meanings.{IsSignal}
+use Rattle.xs_encode_laws.specs.Meanings.{IsSignal}
 use Rattle.xs_expressions.proofs.branches.none_of.Goals as goal
 
 pub returns : goal.returns

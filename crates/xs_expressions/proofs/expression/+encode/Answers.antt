@@ -2,14 +2,14 @@ use Rattle.std.proofs.Common.{◌≡◌, ◌≤◌, ◌<◌, ◌+◌, ◌-◌, �
 use Rattle.std.proofs.lemmas.Int.{to_z-of_z}
 use Rattle.xs_tree.specs.Written.{trees_of, branches_of}
 use Rattle.xs_tree.specs.Leaves.{trees_map, branches_map}
-use Rattle.xs_gates.specs.Circuit.{Circuit}
-use Rattle.xs_scope.specs.ModelTree.{leaf_of}
-use Rattle.xs_arith.specs.Numbers.{number_word}
-use Rattle.xs_encoding.specs.Signals.{literal_in, word}
-use Rattle.xs_encoding.specs.Expressions.{span_gates}
-use Rattle.xs_encoding.specs.Meanings.{IsSignal}
-use Rattle.xs_signals.specs.declared.signal.Signal.{Signal}
-use Rattle.xs_signals.specs.Built.{signal_of, BuildsSignal}
+use Rattle.xs_circuits.specs.Circuit.{Circuit}
+use Rattle.xs_tree.specs.ModelTree.{leaf_of}
+use Rattle.xs_circuits.specs.Numbers.{number_word}
+use Rattle.xs_encode_laws.specs.Signals.{literal_in, word}
+use Rattle.xs_encode_laws.specs.Expressions.{span_gates}
+use Rattle.xs_encode_laws.specs.Meanings.{IsSignal}
+use Rattle.xs_expressions.specs.declared.signal.Signal.{Signal}
+use Rattle.xs_expressions.specs.Built.{signal_of, BuildsSignal}
 use Rattle.xs_expressions.specs.Sorts.{literal_sort}
 use Rattle.xs_expressions.specs.Parts.{asked_of, Answers}
 use Rattle.xs_expressions.proofs.Members.{signal_later, named_later, asked_later, symbols_some, named_next, some_first, some_step, some_done}

@@ -1,7 +1,7 @@
 use Rattle.std.proofs.Common.{◌≡◌, ◌+◌, ◌*◌, drop, length}
 use Rattle.xs_tree.specs.Written.{trees_of, branches_of}
 use Rattle.xs_tree.specs.Leaves.{trees_map, branches_map}
-use Rattle.xs_scope.specs.ModelTree.{leaf_of}
+use Rattle.xs_tree.specs.ModelTree.{leaf_of}
 use Rattle.xs_expressions.specs.Parts.{asked_of, BuildsSome}
 use Rattle.xs_expressions.specs.Branches.{BuildsFirst}
 use Rattle.xs_expressions.proofs.Sizes.{nodes, members_nodes, branches_nodes}

@@ -1,5 +1,5 @@
 use Rattle.std.proofs.Common.{sym, subst}
-use Rattle.xs_signals.specs.Built.{signal_of}
+use Rattle.xs_expressions.specs.Built.{signal_of}
 use Rattle.xs_expressions.specs.Parts.{asked_of, Answers}
 use Rattle.xs_expressions.proofs.Nodes.{answers_value, answers_has}
 use Rattle.xs_expressions.proofs.part.answer.Goals as goal

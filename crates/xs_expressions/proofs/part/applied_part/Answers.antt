@@ -1,8 +1,8 @@
 use Rattle.std.proofs.Common.{◌≡◌, false, ap, subst, ◌∙◌}
 use Rattle.xs_types.specs.Rows.{row_binary}
 use Rattle.xs_types.specs.declared.sort.Judged.{Judged}
-use Rattle.xs_encoding.specs.Signals.{operator_gates}
-use Rattle.xs_signals.specs.Built.{signal_of}
+use Rattle.xs_encode_laws.specs.Signals.{operator_gates}
+use Rattle.xs_expressions.specs.Built.{signal_of}
 use Rattle.xs_expressions.specs.Sorts.{kept_sort, sort_width, operation_sort}
 use Rattle.xs_expressions.specs.Parts.{asked_of}
 use Rattle.xs_expressions.proofs.Members.{asked_later}

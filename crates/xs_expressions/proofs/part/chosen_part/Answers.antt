@@ -1,6 +1,6 @@
 use Rattle.std.proofs.Common.{ap, subst, ◌∙◌}
-use Rattle.xs_encoding.specs.Signals.{literal_in, choice_gates}
-use Rattle.xs_signals.specs.Built.{signal_of, BuildsSignal}
+use Rattle.xs_encode_laws.specs.Signals.{literal_in, choice_gates}
+use Rattle.xs_expressions.specs.Built.{signal_of, BuildsSignal}
 use Rattle.xs_expressions.specs.Sorts.{sort_width}
 use Rattle.xs_expressions.proofs.part.chosen_part.Goals as goal
 

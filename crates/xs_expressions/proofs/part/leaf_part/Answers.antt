@@ -1,5 +1,5 @@
-use Rattle.xs_scope.specs.ModelTree.{leaf_of}
-use Rattle.xs_kinds.specs.Models.{kind_of_leaf}
+use Rattle.xs_tree.specs.ModelTree.{leaf_of}
+use Rattle.xs_type_laws.specs.Models.{kind_of_leaf}
 use Rattle.xs_types.specs.Answers.{told_sort}
 use Rattle.xs_expressions.specs.Naming.{model_of, names_in}
 use Rattle.xs_expressions.specs.Parts.{asked_of}

@@ -1,9 +1,9 @@
 use Rattle.std.proofs.Common.{sym, subst, ap, arith}
 use Rattle.xs_lits.specs.Literal.{Literal}
-use Rattle.xs_scope.specs.ModelTree.{leaf_of}
-use Rattle.xs_encoding.specs.Meanings.{IsSignal, IsReady}
-use Rattle.xs_encoding.proofs.NameMeans.{leaf_usable}
-use Rattle.xs_signals.specs.Built.{signals_of}
+use Rattle.xs_tree.specs.ModelTree.{leaf_of}
+use Rattle.xs_encode_laws.specs.Meanings.{IsSignal, IsReady}
+use Rattle.xs_encode_laws.proofs.NameMeans.{leaf_usable}
+use Rattle.xs_expressions.specs.Built.{signals_of}
 use Rattle.xs_expressions.specs.Naming.{model_of}
 use Rattle.xs_expressions.proofs.part.named_part.Goals as goal
 

@@ -1,9 +1,9 @@
 use Rattle.std.proofs.Common.{◌≡◌, ap, subst, ◌∙◌}
-use Rattle.xs_arith.specs.Sums.{negate_gates}
+use Rattle.xs_circuits.specs.Sums.{negate_gates}
 use Rattle.xs_types.specs.Rows.{row_negative}
 use Rattle.xs_types.specs.declared.sort.Judged.{Judged}
-use Rattle.xs_encoding.specs.Signals.{word_in, as_word}
-use Rattle.xs_signals.specs.Built.{signal_of}
+use Rattle.xs_encode_laws.specs.Signals.{word_in, as_word}
+use Rattle.xs_expressions.specs.Built.{signal_of}
 use Rattle.xs_expressions.specs.Sorts.{sort_width, negative_sort}
 use Rattle.xs_expressions.specs.Parts.{asked_of}
 use Rattle.xs_expressions.proofs.Members.{asked_later}

@@ -1,9 +1,9 @@
 use Rattle.std.proofs.Common.{ap, sym, subst, ◌∙◌}
 use Rattle.xs_lits.specs.Literal.{opposite}
 use Rattle.xs_lits.specs.Models.{IsBelow}
-use Rattle.xs_encoding.specs.Signals.{bit, literal_in}
-use Rattle.xs_encoding.specs.Meanings.{IsSignal}
-use Rattle.xs_signals.specs.Built.{signal_of}
+use Rattle.xs_encode_laws.specs.Signals.{bit, literal_in}
+use Rattle.xs_encode_laws.specs.Meanings.{IsSignal}
+use Rattle.xs_expressions.specs.Built.{signal_of}
 use Rattle.xs_expressions.specs.Parts.{asked_of, truth_sort}
 use Rattle.xs_expressions.proofs.Nodes.{result_at}
 use Rattle.xs_expressions.proofs.part.not_part.Goals as goal

@@ -1,8 +1,8 @@
 use Rattle.std.proofs.Common.{ap, ◌∙◌, w64}
 use Rattle.std.proofs.lemmas.Int.{to_z-of_z}
-use Rattle.xs_arith.specs.Numbers.{number_word}
+use Rattle.xs_circuits.specs.Numbers.{number_word}
 use Rattle.xs_types.specs.declared.sort.Judged.{Judged}
-use Rattle.xs_encoding.specs.Signals.{word}
+use Rattle.xs_encode_laws.specs.Signals.{word}
 use Rattle.xs_expressions.specs.Parts.{asked_of}
 use Rattle.xs_expressions.specs.Sorts.{literal_sort}
 use Rattle.xs_expressions.proofs.Nodes.{result_at}

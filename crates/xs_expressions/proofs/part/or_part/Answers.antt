@@ -1,7 +1,7 @@
 use Rattle.std.proofs.Common.{subst}
 use Rattle.std.specs.Prelude.{IfOk}
-use Rattle.xs_gates.specs.Gates.{or_gate}
-use Rattle.xs_signals.specs.Built.{BuildsLiteral}
+use Rattle.xs_circuits.specs.Gates.{or_gate}
+use Rattle.xs_expressions.specs.Built.{BuildsLiteral}
 use Rattle.xs_expressions.proofs.part.or_part.Goals as goal
 
 pub returns : goal.returns

@@ -1,7 +1,7 @@
 use Rattle.std.proofs.Common.{ap, sym, subst, ◌∙◌}
-use Rattle.xs_gates.specs.Gates.{constant_lit}
-use Rattle.xs_encoding.specs.Signals.{bit}
-use Rattle.xs_encoding.specs.Meanings.{IsSignal}
+use Rattle.xs_circuits.specs.Gates.{constant_lit}
+use Rattle.xs_encode_laws.specs.Signals.{bit}
+use Rattle.xs_encode_laws.specs.Meanings.{IsSignal}
 use Rattle.xs_expressions.specs.Parts.{asked_of, truth_sort}
 use Rattle.xs_expressions.proofs.Nodes.{result_at}
 use Rattle.xs_expressions.proofs.part.truth_part.Goals as goal

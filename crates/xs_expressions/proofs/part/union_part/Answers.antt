@@ -1,7 +1,7 @@
 use Rattle.std.proofs.Common.{sym, subst}
-use Rattle.xs_gates.specs.Gates.{or_gate}
-use Rattle.xs_encoding.specs.Signals.{literal_in}
-use Rattle.xs_signals.specs.Built.{signal_of, BuildsLiteral}
+use Rattle.xs_circuits.specs.Gates.{or_gate}
+use Rattle.xs_encode_laws.specs.Signals.{literal_in}
+use Rattle.xs_expressions.specs.Built.{signal_of, BuildsLiteral}
 use Rattle.xs_expressions.specs.Parts.{IsBit}
 use Rattle.xs_expressions.proofs.Nodes.{literal_built}
 use Rattle.xs_expressions.proofs.part.union_part.Goals as goal

@@ -1,10 +1,10 @@
 use Rattle.std.proofs.Common.{◌∙◌, sym}
 use Rattle.std.specs.Option.{option_map}
 use Rattle.xs_tree.specs.ProgramTree.{declared_tree}
-use Rattle.xs_scope.specs.ModelTree.{flat_tree, model_tree}
+use Rattle.xs_tree.specs.ModelTree.{flat_tree, model_tree}
 use Rattle.xs_types.specs.Answers.{told_rules}
 use Rattle.xs_types.specs.Calls.{shown}
-use Rattle.xs_extending.specs.Expressions.{broken_by}
+use Rattle.xs_extend_laws.specs.Expressions.{broken_by}
 use Rattle.xs_extend.specs.Guarded.{kind_of_form}
 use Rattle.xs_extend.proofs.KindAnswers.{kinds_some, kinds_none}
 use Rattle.xs_extend.proofs.guards.first_of_kinds.Goals as goal

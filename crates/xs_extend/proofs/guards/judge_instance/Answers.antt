@@ -2,8 +2,8 @@ use Rattle.std.proofs.Common.{◌≡◌, false, true, ◌∙◌, map, sym, subst
 use Rattle.std.proofs.lemmas.Result.{err_from_is_err_and}
 use Rattle.xs_tree.specs.Trace.{Each}
 use Rattle.xs_weave_rules.specs.Placing.{seen_placed}
-use Rattle.xs_extending.specs.Expressions.{KeepsUse}
-use Rattle.xs_extending.specs.SliceUses.{uses_of_slice, uses_of_slices}
+use Rattle.xs_extend_laws.specs.Expressions.{KeepsUse}
+use Rattle.xs_extend_laws.specs.SliceUses.{uses_of_slice, uses_of_slices}
 use Rattle.xs_extend.specs.Guarded.{program_in, model_in}
 use Rattle.xs_extend.specs.Refused.{IsFirstFault}
 use Rattle.xs_extend.proofs.Deciding.{slice_next, slice_first, slice_used, slice_passed}

@@ -1,8 +1,8 @@
 use Rattle.std.proofs.Common.{◌≡◌, map, drop}
-use Rattle.xs_flattening.specs.Flat.{FlatInstance}
+use Rattle.xs_tree.specs.Flat.{FlatInstance}
 use Rattle.xs_flat.specs.ResolvedAt.{IsAt}
 use Rattle.xs_weave_rules.specs.Placing.{seen_placed}
-use Rattle.xs_extending.specs.SliceUses.{uses_of_slices}
+use Rattle.xs_extend_laws.specs.SliceUses.{uses_of_slices}
 use Rattle.xs_extend.specs.Guarded.{program_in, model_in}
 use Rattle.xs_extend.proofs.Deciding.{Decides}
 use Rattle.xs_extend.proofs.guards.judge_instance.Given as goal

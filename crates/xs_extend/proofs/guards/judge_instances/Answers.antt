@@ -3,11 +3,11 @@ use Rattle.std.specs.Prelude.{slice_get, flat_map}
 use Rattle.std.proofs.lemmas.Result.{err_from_is_err_and}
 use Rattle.std.proofs.lemmas.List.{drop_all}
 use Rattle.xs_tree.specs.Trace.{Each}
-use Rattle.xs_scope.specs.declared.model.Instance.{Instance}
-use Rattle.xs_scope.specs.ModelTree.{instance_tree}
+use Rattle.xs_tree.specs.declared.model.Instance.{Instance}
+use Rattle.xs_tree.specs.ModelTree.{instance_tree}
 use Rattle.xs_weave_rules.specs.Placing.{seen_placed}
-use Rattle.xs_extending.specs.Expressions.{KeepsUse}
-use Rattle.xs_extending.specs.SliceUses.{uses_of_slices}
+use Rattle.xs_extend_laws.specs.Expressions.{KeepsUse}
+use Rattle.xs_extend_laws.specs.SliceUses.{uses_of_slices}
 use Rattle.xs_extend.specs.Guarded.{program_in, model_in}
 use Rattle.xs_extend.specs.Refused.{IsFirstFault}
 use Rattle.xs_extend.proofs.EachItem.{item_there}

@@ -1,10 +1,10 @@
 use Rattle.std.proofs.Common.{◌≡◌, map, drop}
 use Rattle.std.specs.Prelude.{flat_map}
-use Rattle.xs_flattening.specs.Rules.{IsAccepted}
-use Rattle.xs_flattening.specs.Model.{IsFlatOf}
-use Rattle.xs_scope.specs.ModelTree.{instance_tree}
+use Rattle.xs_flat_laws.specs.Rules.{IsAccepted}
+use Rattle.xs_flat_laws.specs.Model.{IsFlatOf}
+use Rattle.xs_tree.specs.ModelTree.{instance_tree}
 use Rattle.xs_weave_rules.specs.Placing.{seen_placed}
-use Rattle.xs_extending.specs.SliceUses.{uses_of_slices}
+use Rattle.xs_extend_laws.specs.SliceUses.{uses_of_slices}
 use Rattle.xs_extend.specs.Guarded.{program_in, model_in}
 use Rattle.xs_extend.proofs.Deciding.{Decides}
 use Rattle.xs_extend.proofs.guards.judge_instances.Given as goal

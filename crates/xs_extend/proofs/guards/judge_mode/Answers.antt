@@ -2,7 +2,7 @@ use Rattle.std.proofs.Common.{◌∙◌, sym}
 use Rattle.std.specs.Option.{option_map}
 use Rattle.xs_tree.specs.ProgramTree.{declared_tree}
 use Rattle.xs_fei.specs.Instructions.{mode_tree}
-use Rattle.xs_scope.specs.ModelTree.{flat_tree}
+use Rattle.xs_tree.specs.ModelTree.{flat_tree}
 use Rattle.xs_extend.specs.Guarded.{program_in, model_in, use_at}
 use Rattle.xs_extend.proofs.KindAnswers.{mode_told, mode_kept}
 use Rattle.xs_extend.proofs.guards.judge_mode.Goals as goal

@@ -1,7 +1,7 @@
 use Rattle.std.proofs.Common.{◌+◌, map, subst}
 use Rattle.xs_tree.specs.ProgramTree.{declared_tree}
 use Rattle.xs_fei.specs.Instructions.{mode_tree}
-use Rattle.xs_extending.specs.SliceUses.{modes_from}
+use Rattle.xs_extend_laws.specs.SliceUses.{modes_from}
 use Rattle.xs_extend.specs.Guarded.{program_in, model_in}
 use Rattle.xs_extend.specs.Refused.{IsFirstFault}
 use Rattle.xs_extend.proofs.Deciding.{mode_next, mode_first}

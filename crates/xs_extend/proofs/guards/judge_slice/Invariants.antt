@@ -1,9 +1,9 @@
 use Rattle.std.proofs.Common.{◌+◌, map, drop}
 use Rattle.xs_tree.specs.ProgramTree.{declared_tree}
 use Rattle.xs_fei.specs.Instructions.{mode_tree}
-use Rattle.xs_flattening.specs.Flat.{FlatInstance}
+use Rattle.xs_tree.specs.Flat.{FlatInstance}
 use Rattle.xs_flat.specs.ResolvedAt.{IsAt}
-use Rattle.xs_extending.specs.SliceUses.{modes_from}
+use Rattle.xs_extend_laws.specs.SliceUses.{modes_from}
 use Rattle.xs_extend.specs.Guarded.{program_in, model_in}
 use Rattle.xs_extend.proofs.Deciding.{Decides}
 use Rattle.xs_extend.proofs.guards.judge_slice.Given as goal

@@ -1,8 +1,8 @@
 use Rattle.std.proofs.Common.{subst, sym}
 use Rattle.std.proofs.lemmas.Result.{err_from_is_err_and}
 use Rattle.xs_tree.specs.Written.{tree_of}
-use Rattle.xs_scope.specs.ModelTree.{flat_tree, model_tree}
-use Rattle.xs_flattening.specs.ResolvedAt.{IsResolvedAt}
+use Rattle.xs_tree.specs.ModelTree.{flat_tree, model_tree}
+use Rattle.xs_flat_laws.specs.ResolvedAt.{IsResolvedAt}
 use Rattle.xs_flat.specs.ResolvedAt.{IsAt}
 use Rattle.xs_extend.specs.Guarded.{program_in}
 use Rattle.xs_extend.proofs.NameAnswers.{some_fault}

@@ -4,8 +4,8 @@ use Rattle.std.specs.Option.{option_map}
 use Rattle.xs_tree.specs.ProgramTree.{boolean}
 use Rattle.xs_tree.specs.Written.{tree_of}
 use Rattle.xs_fei.specs.Instructions.{mode_tree}
-use Rattle.xs_scope.specs.ModelTree.{flat_tree}
-use Rattle.xs_extending.specs.Expressions.{followed, IsForm, KeepsNames}
+use Rattle.xs_tree.specs.ModelTree.{flat_tree}
+use Rattle.xs_extend_laws.specs.Expressions.{followed, IsForm, KeepsNames}
 use Rattle.xs_extend.specs.Guarded.{program_in, model_in, use_at, IsSomeKept, IsSomeFault}
 use Rattle.xs_extend.proofs.NameAnswers.{IsNamesFault, both_answered, both_formed, guard_same, names_cause}
 use Rattle.xs_extend.proofs.guards.resolve_mode.Goals as goal

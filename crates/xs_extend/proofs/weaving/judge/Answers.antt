@@ -3,10 +3,10 @@ use Rattle.std.specs.Prelude.{IfErr, OnOk}
 use Rattle.xs_tree.specs.ProgramTree.{program_tree}
 use Rattle.xs_tree.specs.Trace.{Each}
 use Rattle.xs_fei.specs.Instructions.{instruction_tree}
-use Rattle.xs_scope.specs.ModelTree.{model_tree}
+use Rattle.xs_tree.specs.ModelTree.{model_tree}
 use Rattle.xs_weave_rules.specs.Placing.{seen_placed}
-use Rattle.xs_extending.specs.Expressions.{KeepsUse}
-use Rattle.xs_extending.proofs.SliceLaws.{all_uses}
+use Rattle.xs_extend_laws.specs.Expressions.{KeepsUse}
+use Rattle.xs_extend_laws.proofs.SliceLaws.{all_uses}
 use Rattle.xs_extend.specs.Refused.{modules_in, IsFirstFault}
 use Rattle.xs_extend.proofs.Telling.{uses_told}
 use Rattle.xs_extend.proofs.weaving.judge.Goals as goal

@@ -1,7 +1,7 @@
 use Rattle.std.proofs.Common.{◌∙◌, ap, sym, subst}
 use Rattle.xs_tree.specs.ProgramTree.{program_tree}
-use Rattle.xs_kinds.specs.Models.{IsTyped}
-use Rattle.xs_scope.specs.ModelTree.{model_tree}
+use Rattle.xs_type_laws.specs.Models.{IsTyped}
+use Rattle.xs_tree.specs.ModelTree.{model_tree}
 use Rattle.xs_extend.proofs.NameAnswers.{want_told}
 use Rattle.xs_extend.proofs.Telling.{typed_wants}
 use Rattle.xs_extend.proofs.weaving.typed_of.Goals as goal

@@ -3,8 +3,8 @@ use Rattle.std.specs.Prelude.{IfErr, OnOk}
 use Rattle.std.proofs.lemmas.Result.{err_from_is_err_and, IfOk-weaker}
 use Rattle.xs_tree.specs.ProgramTree.{program_tree}
 use Rattle.xs_fei.specs.Instructions.{instruction_tree}
-use Rattle.xs_scope.specs.ModelTree.{model_tree}
-use Rattle.xs_extending.specs.Expressions.{AllUsesKept}
+use Rattle.xs_tree.specs.ModelTree.{model_tree}
+use Rattle.xs_extend_laws.specs.Expressions.{AllUsesKept}
 use Rattle.xs_extend.specs.Refused.{modules_at, IsTold}
 use Rattle.xs_weave.specs.Faults.{HasFaults}
 use Rattle.xs_extend.specs.WovenFaults.{fault_tree, AreInstancesOf}

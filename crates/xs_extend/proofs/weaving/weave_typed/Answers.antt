@@ -1,6 +1,6 @@
 use Rattle.xs_tree.specs.ProgramTree.{program_tree}
 use Rattle.std.proofs.Common.{map}
-use Rattle.xs_scope.specs.ModelTree.{model_tree}
+use Rattle.xs_tree.specs.ModelTree.{model_tree}
 use Rattle.xs_extend.proofs.GuardLaws.{uses_judged}
 use Rattle.xs_weave_rules.proofs.WeavableLaw.{weavable}
 use Rattle.xs_fei.specs.Instructions.{instruction_tree}

@@ -2,8 +2,8 @@ use Rattle.std.proofs.Common.{arith, Err, IsErrOf, map, ◌++◌, sym, ap, ◌�
 use Rattle.std.specs.Prelude.{codes}
 use Rattle.std.proofs.lemmas.List.{length-map}
 use Rattle.std.proofs.lemmas.Result.{err_from_is_err_and}
-use Rattle.xs_scope.specs.ModelTree.{mode_of}
-use Rattle.xs_analysis_text.specs.AnalysisText.{size_line}
+use Rattle.xs_flat_laws.specs.FaultModes.{mode_of}
+use Rattle.xs_text_laws.specs.AnalysisText.{size_line}
 use Rattle.xs_cert.specs.Seen.{seen}
 use Rattle.xs_loading.proofs.InputLemmas.{same_error}
 use Rattle.xs_reach_status.specs.declared.stop.Stop.TheVariants as stop

@@ -1,6 +1,6 @@
 use Rattle.std.proofs.Common.{◌≡◌, length, subst, sym, map, ap, ◌∙◌}
-use Rattle.xs_scope.specs.ModelTree.{flat_tree}
-use Rattle.xs_analysis_text.specs.AnalysisText.{analysis_text}
+use Rattle.xs_tree.specs.ModelTree.{flat_tree}
+use Rattle.xs_text_laws.specs.AnalysisText.{analysis_text}
 use Rattle.xs_report.specs.Analysed.{told_analysis}
 use Rattle.xs_report.specs.FaultText.{name_of, faults_text}
 use Rattle.xs_case_search.specs.Searches.{IsSearched}

@@ -2,12 +2,13 @@ use Rattle.std.proofs.Common.{◌≡◌, sym, ap, map, length, subst, ◌∙◌}
 use Rattle.std.proofs.lemmas.List.{length-map}
 use Rattle.std.proofs.lemmas.Result.{err_from_is_err_and}
 use Rattle.xs_tree.specs.Trace.{Each}
-use Rattle.xs_scope.specs.ModelTree.{model_tree, mode_of}
-use Rattle.xs_scope.specs.declared.model.FlatModel.{FlatModel as Made}
-use Rattle.xs_flattening.specs.History.{with_history}
-use Rattle.xs_kinds.specs.Models.{IsTyped}
-use Rattle.xs_causes.specs.Causes.{IsCauseOf}
-use Rattle.xs_causes.specs.Staged.{with_causes, events_of}
+use Rattle.xs_tree.specs.ModelTree.{model_tree}
+use Rattle.xs_flat_laws.specs.FaultModes.{mode_of}
+use Rattle.xs_tree.specs.declared.model.FlatModel.{FlatModel as Made}
+use Rattle.xs_flat_laws.specs.History.{with_history}
+use Rattle.xs_type_laws.specs.Models.{IsTyped}
+use Rattle.xs_cause_laws.specs.Causes.{IsCauseOf}
+use Rattle.xs_cause_laws.specs.Staged.{with_causes, events_of}
 use Rattle.xs_staging.specs.CauseOf.{cause_of}
 use Rattle.xs_find_causes.proofs.StagedLaws.{causes_named, events_told}
 use Rattle.xs_find_causes.specs.Causes.{flat_in, modes_in}

@@ -1,5 +1,5 @@
 use Rattle.std.proofs.Common.{IsTrue, sym, ◌∙◌, subst, arith}
-use Rattle.xs_scope.specs.ModelTree.{model_tree, flat_tree}
+use Rattle.xs_tree.specs.ModelTree.{model_tree, flat_tree}
 use Rattle.xs_cert.specs.Seen.{seen}
 use Rattle.xs_check.specs.Found.{IsJudgedUnlisted}
 use Rattle.xs_find_orders.specs.Orders.{staged_matter}

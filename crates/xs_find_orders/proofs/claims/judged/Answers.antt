@@ -1,4 +1,4 @@
-use Rattle.xs_scope.specs.ModelTree.{model_tree, flat_tree}
+use Rattle.xs_tree.specs.ModelTree.{model_tree, flat_tree}
 use Rattle.xs_find_orders.proofs.StagedCases.{alone, provable_alone}
 use Rattle.xs_find_orders.proofs.ClaimLaws.{judged_alone}
 use Rattle.xs_find_orders.proofs.claims.judged.Goals as goal

@@ -1,8 +1,8 @@
 use Rattle.std.proofs.lemmas.Result.{IfOk-weaker}
-use Rattle.xs_scope.specs.ModelTree.{model_tree, flat_tree}
+use Rattle.xs_tree.specs.ModelTree.{model_tree, flat_tree}
 use Rattle.xs_loading.specs.LoadedEvents.{case_in}
 use Rattle.xs_cert.specs.Seen.{seen}
-use Rattle.xs_certificate.specs.CertificateText.{SpellsCertificate}
+use Rattle.xs_certificate_laws.specs.CertificateText.{SpellsCertificate}
 use Rattle.xs_find_orders.specs.Orders.{CertifiesClaim}
 use Rattle.xs_find_orders.proofs.StagedCases.{alone, certifiable_alone, complete_alone}
 use Rattle.xs_find_orders.proofs.OrderLaws.{claim_certified}

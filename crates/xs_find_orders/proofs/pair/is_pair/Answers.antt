@@ -1,6 +1,6 @@
 use Rattle.std.proofs.Common.{◌≡◌, false, IsTrue, sym, ap, ◌∙◌, arith}
 use Rattle.std.proofs.lemmas.Bool.{both_ways}
-use Rattle.xs_right.specs.Sets.{has_number}
+use Rattle.xs_right_laws.specs.Sets.{has_number}
 use Rattle.xs_find_orders.proofs.pair.is_pair.Goals as goal
 
 pub returns-then-first-second-clause-no : goal.returns-then-first-second-clause-no

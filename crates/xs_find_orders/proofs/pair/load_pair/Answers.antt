@@ -1,9 +1,9 @@
 use Rattle.std.proofs.Common.{◌≡◌, Err, IsErrOf, length, sym, ap, ◌∙◌, subst}
 use Rattle.std.proofs.lemmas.Result.{err_from_is_err_and}
 use Rattle.xs_tree.specs.ProgramTree.{program_tree}
-use Rattle.xs_scope.specs.ModelTree.{model_tree}
-use Rattle.xs_encoded.specs.FlatTraces.{IsNumbered}
-use Rattle.xs_kinds.specs.Models.{IsTyped}
+use Rattle.xs_tree.specs.ModelTree.{model_tree}
+use Rattle.xs_encode_laws.specs.FlatTraces.{IsNumbered}
+use Rattle.xs_type_laws.specs.Models.{IsTyped}
 use Rattle.xs_reach_words.specs.Sets.{numbers_of}
 use Rattle.xs_loading.proofs.InputLemmas.{same_error}
 use Rattle.xs_loading.proofs.LoadedLaws.{holds_case}

@@ -1,7 +1,7 @@
 use Rattle.std.proofs.Common.{Err, IsErrOf, length, subst, sym, ap, ◌∙◌}
 use Rattle.std.proofs.lemmas.Result.{IfOk-weaker, err_from_is_err_and}
-use Rattle.xs_encoded.specs.FlatTraces.{IsNumbered}
-use Rattle.xs_staged.specs.Laws.{IsFaultNumber}
+use Rattle.xs_encode_laws.specs.FlatTraces.{IsNumbered}
+use Rattle.xs_reach_laws.specs.Laws.{IsFaultNumber}
 use Rattle.xs_loading.proofs.InputLemmas.{same_error}
 use Rattle.xs_reach_status.specs.declared.stop.Stop.TheVariants as stops
 use Rattle.xs_find_orders.specs.Pairs.{IsFirstOutside, outside, unlawful}

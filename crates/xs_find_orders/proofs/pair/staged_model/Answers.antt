@@ -1,5 +1,6 @@
 use Rattle.std.proofs.Common.{◌∙◌, sym, ap, map}
-use Rattle.xs_scope.specs.ModelTree.{model_tree, mode_of}
+use Rattle.xs_tree.specs.ModelTree.{model_tree}
+use Rattle.xs_flat_laws.specs.FaultModes.{mode_of}
 use Rattle.xs_orders.specs.Stage.{stage}
 use Rattle.xs_loading.proofs.InputLemmas.{same_error}
 use Rattle.xs_loading.specs.Wholes.{BreaksKinds}

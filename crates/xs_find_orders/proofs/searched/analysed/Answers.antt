@@ -1,10 +1,11 @@
 use Rattle.std.proofs.Common.{subst, map, List}
 use Rattle.std.specs.Prelude.{IfOk}
-use Rattle.xs_scope.specs.declared.model.Fault.{Fault}
-use Rattle.xs_scope.specs.ModelTree.{model_tree, mode_of, flat_tree}
-use Rattle.xs_flattening.specs.History.{with_history}
-use Rattle.xs_encoding.specs.Bits.{state_of, inputs_of}
-use Rattle.xs_encoding.specs.Lists.{system_of}
+use Rattle.xs_tree.specs.declared.model.Fault.{Fault}
+use Rattle.xs_tree.specs.ModelTree.{model_tree, flat_tree}
+use Rattle.xs_flat_laws.specs.FaultModes.{mode_of}
+use Rattle.xs_flat_laws.specs.History.{with_history}
+use Rattle.xs_encode_laws.specs.Bits.{state_of, inputs_of}
+use Rattle.xs_encode_laws.specs.Lists.{system_of}
 use Rattle.xs_cuts.specs.Answer.{IsAnswer}
 use Rattle.xs_find_orders.proofs.StagedCases.{alone, searchable_alone}
 use Rattle.xs_find_orders.proofs.searched.analysed.Goals as goal

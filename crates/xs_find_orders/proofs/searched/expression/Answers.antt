@@ -1,8 +1,8 @@
 use Rattle.std.proofs.Common.{length, sym, ap, subst, arith}
 use Rattle.std.proofs.lemmas.Result.{IfOk-weaker}
-use Rattle.xs_scope.specs.ModelTree.{flat_tree}
-use Rattle.xs_scope.specs.declared.model.FlatModel.{FlatModel}
-use Rattle.xs_encoded.specs.FlatTraces.{IsNumbered}
+use Rattle.xs_tree.specs.ModelTree.{flat_tree}
+use Rattle.xs_tree.specs.declared.model.FlatModel.{FlatModel}
+use Rattle.xs_encode_laws.specs.FlatTraces.{IsNumbered}
 use Rattle.xs_find_orders.proofs.StagedCases.{has_room, claim_searchable, speaks_of}
 use Rattle.xs_find_orders.proofs.searched.expression.Goals as goal
 

@@ -1,6 +1,6 @@
 -- One instance more.
 use Rattle.std.proofs.Common.{rules, arith, ◌≡◌, [], ◌+◌, ◌<◌, ◌≤◌, ◌++◌, length, map, drop, ap, ◌∙◌, sym, append-nil}
-use Rattle.xs_flattening.specs.Items.{instances_of}
+use Rattle.xs_flat_laws.specs.Items.{instances_of}
 use Rattle.xs_scope.specs.SceneTree.{program_of, items_at}
 use Rattle.xs_flat.specs.Asked.{told, conditions_asked, asked_items, asked_from}
 use Rattle.xs_flat.proofs.BuildLoops.{appended, spots_step, spots_end, many_spots}

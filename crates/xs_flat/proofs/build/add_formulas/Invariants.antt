@@ -1,6 +1,6 @@
 -- The formulas so far, with those of the instances that are left, are all.
 use Rattle.std.proofs.Common.{◌≡◌, ◌++◌, true, map, drop}
-use Rattle.xs_flattening.specs.Items.{instances_of}
+use Rattle.xs_flat_laws.specs.Items.{instances_of}
 use Rattle.xs_scope.specs.Closed.{are_closed}
 use Rattle.xs_scope.specs.SceneTree.{program_of}
 use Rattle.xs_flat.specs.Asked.{told, conditions_asked, asked_from}

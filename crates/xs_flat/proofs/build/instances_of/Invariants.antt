@@ -1,7 +1,7 @@
 -- The instances so far are those of what was read so far.
 use Rattle.std.proofs.Common.{◌≡◌, ◌++◌, map, drop}
 use Rattle.std.specs.List.{flat_map}
-use Rattle.xs_scope.specs.ModelTree.{instance_tree}
+use Rattle.xs_tree.specs.ModelTree.{instance_tree}
 use Rattle.xs_flat.specs.Asked.{instance_told}
 use Rattle.xs_flat.proofs.build.instances_of.Given as goal
 

@@ -1,6 +1,6 @@
 -- The formulas are asked for within the bounds that are read off the lists, and the whole is the program's model.
 use Rattle.std.proofs.Common.{rules, ◌≡◌, ◌++◌, length, map, ap, ◌∙◌}
-use Rattle.xs_flattening.specs.Items.{instances_of}
+use Rattle.xs_flat_laws.specs.Items.{instances_of}
 use Rattle.xs_flat.specs.declared.clauses.Asked.TheVariants as asked
 use Rattle.xs_scope.specs.declared.names.Scene.{Scene}
 use Rattle.xs_scope.specs.declared.needs.Needs.{Needs}

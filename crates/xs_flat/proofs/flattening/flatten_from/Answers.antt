@@ -1,11 +1,11 @@
 -- A closed model reads its own variables alone.
 use Rattle.std.proofs.Common.{◌≡◌, IfOk, OnOk, subst}
 use Rattle.std.proofs.lemmas.Result.{IfOk-weaker}
-use Rattle.xs_flattening.specs.Flat.{FlatModel as ModelTree}
-use Rattle.xs_flattening.specs.Looks.{ActualsMean}
-use Rattle.xs_flattening.specs.Model.{IsFlatOf}
-use Rattle.xs_flattening.specs.FlatTrace.{NamesOwn}
-use Rattle.xs_scope.specs.ModelTree.{model_tree}
+use Rattle.xs_tree.specs.Flat.{FlatModel as ModelTree}
+use Rattle.xs_flat_laws.specs.Looks.{ActualsMean}
+use Rattle.xs_flat_laws.specs.Model.{IsFlatOf}
+use Rattle.xs_flat_laws.specs.FlatTrace.{NamesOwn}
+use Rattle.xs_tree.specs.ModelTree.{model_tree}
 use Rattle.xs_scope.specs.Closed.{IsClosedModel}
 use Rattle.xs_flat.proofs.OwnNames.{closed_names_own}
 use Rattle.xs_flat.proofs.flattening.flatten_from.Goals as goal

@@ -1,12 +1,12 @@
 -- The model of an accepted program is its only one, and what is handed on means something.
 use Rattle.std.proofs.Common.{◌≡◌}
 use Rattle.std.proofs.lemmas.Result.{IfOk-weaker}
-use Rattle.xs_flattening.specs.Flat.{FlatModel as ModelTree}
-use Rattle.xs_flattening.specs.Looks.{ActualsMean}
-use Rattle.xs_flattening.specs.Rules.{IsAccepted}
-use Rattle.xs_flattening.specs.Model.{IsFlatOf}
-use Rattle.xs_flattening.proofs.Walkable.{walkable_accepted}
-use Rattle.xs_scope.specs.ModelTree.{model_tree}
+use Rattle.xs_tree.specs.Flat.{FlatModel as ModelTree}
+use Rattle.xs_flat_laws.specs.Looks.{ActualsMean}
+use Rattle.xs_flat_laws.specs.Rules.{IsAccepted}
+use Rattle.xs_flat_laws.specs.Model.{IsFlatOf}
+use Rattle.xs_flat_laws.proofs.Walkable.{walkable_accepted}
+use Rattle.xs_tree.specs.ModelTree.{model_tree}
 use Rattle.xs_scope.specs.SceneTree.{program_of}
 use Rattle.xs_flat.proofs.ActualLaws.{actuals_mean}
 use Rattle.xs_flat.proofs.FlatFaults.{ok_always}

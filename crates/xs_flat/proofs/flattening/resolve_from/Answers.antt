@@ -2,12 +2,12 @@
 use Rattle.std.proofs.Common.{rules, ◌≡◌, false, IfOk, OnOk, subst}
 use Rattle.xs_tree.specs.ProgramTree.{ProgramTree, program_tree}
 use Rattle.xs_tree.specs.Written.{tree_of}
-use Rattle.xs_flattening.specs.Flat.{FlatInstance}
-use Rattle.xs_flattening.specs.Resolved.{has_next}
+use Rattle.xs_tree.specs.Flat.{FlatInstance}
+use Rattle.xs_flat_laws.specs.Resolved.{has_next}
 use Rattle.xs_scope.specs.Faults.{IsFaultOf}
-use Rattle.xs_scope.specs.ModelTree.{model_tree, flat_tree}
+use Rattle.xs_tree.specs.ModelTree.{model_tree, flat_tree}
 use Rattle.xs_scope.specs.SceneTree.{program_of}
-use Rattle.xs_flattening.specs.ResolvedAt.{IsResolvedAt}
+use Rattle.xs_flat_laws.specs.ResolvedAt.{IsResolvedAt}
 use Rattle.xs_flat.specs.ResolvedAt.{IsAt, IsValueFault, IsValueKept}
 use Rattle.xs_flat.proofs.FlatFaults.{no_rule}
 use Rattle.xs_flat.proofs.ResolvedAtLaws.{no_rule_value}

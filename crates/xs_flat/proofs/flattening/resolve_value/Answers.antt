@@ -2,20 +2,20 @@
 use Rattle.std.proofs.Common.{◌≡◌, not, ◌&&◌, false, IfErr, IfOk, sym, ◌∙◌, subst}
 use Rattle.std.proofs.lemmas.Result.{IfOk-weaker}
 use Rattle.xs_tree.specs.Written.{tree_of}
-use Rattle.xs_flattening.specs.Rules.{SomeHasNoValue}
+use Rattle.xs_flat_laws.specs.Rules.{SomeHasNoValue}
 use Rattle.xs_scope.specs.declared.fault.Rule.TheVariants.{NoSuchName, NextHere, InputHere}
 use Rattle.xs_scope.specs.declared.names.Scene.{Scene}
 use Rattle.xs_scope.specs.declared.needs.Needs.{Needs}
 use Rattle.xs_flat.specs.declared.resolve.Source.{Source}
 use Rattle.xs_scope.specs.Closed.{bounds_of}
 use Rattle.xs_scope.specs.Faults.{IsWant}
-use Rattle.xs_scope.specs.ModelTree.{model_tree, flat_tree}
+use Rattle.xs_tree.specs.ModelTree.{model_tree, flat_tree}
 use Rattle.xs_scope.specs.SceneTree.{program_of}
 use Rattle.xs_flat.specs.Judging.{IsJudged}
 use Rattle.xs_flat.specs.ResolverOf.{leaf_at, told_tree, asked_tree, IsKnown}
-use Rattle.xs_flattening.specs.ResolvedAt.{IsResolvedAt}
+use Rattle.xs_flat_laws.specs.ResolvedAt.{IsResolvedAt}
 use Rattle.xs_flat.specs.ResolvedAt.{IsValueFault, IsValueKept}
-use Rattle.xs_flattening.specs.Resolved.{has_next}
+use Rattle.xs_flat_laws.specs.Resolved.{has_next}
 use Rattle.xs_flat.proofs.FlatFaults.{err_weaker, ok_always}
 use Rattle.xs_flat.proofs.OnlyModel.{second_not}
 use Rattle.xs_flat.proofs.ResolvedAtLaws.{there, resolved_at, known_at, none_told, none_broken, want_value}

@@ -1,11 +1,12 @@
 -- One fault more has one bit more, and the traces are those that the law of history tells.
 use Rattle.std.proofs.Common.{◌≡◌, ◌+◌, ◌<◌, ◌≤◌, length, get_or, map, take, rules, ap, ◌∙◌, sym, subst}
 use Rattle.std.proofs.lemmas.List.{take_all}
-use Rattle.xs_scope.specs.ModelTree.{model_tree, mode_of}
-use Rattle.xs_flattening.specs.History.{with_history, with_bit}
-use Rattle.xs_flattening.specs.FlatTrace.{TellsHistory}
-use Rattle.xs_flattening.proofs.HistoryLaws.{more_bits}
-use Rattle.xs_flattening.proofs.HistoryTraces.{history_exactly}
+use Rattle.xs_tree.specs.ModelTree.{model_tree}
+use Rattle.xs_flat_laws.specs.FaultModes.{mode_of}
+use Rattle.xs_flat_laws.specs.History.{with_history, with_bit}
+use Rattle.xs_flat_laws.specs.FlatTrace.{TellsHistory}
+use Rattle.xs_flat_laws.proofs.HistoryLaws.{more_bits}
+use Rattle.xs_flat_laws.proofs.HistoryTraces.{history_exactly}
 use Rattle.xs_flat.proofs.history.with_history.Goals as goal
 
 pub loop-k-preserved : goal.loop-k-preserved

@@ -1,6 +1,6 @@
 use Rattle.std.proofs.Common.{◌≡◌, ◌++◌, ◌+◌, drop, map}
 use Rattle.xs_fmea.specs.Columns.{ending_lines}
-use Rattle.xs_analysis_text.specs.Analysis.{told_ending}
+use Rattle.xs_text_laws.specs.Analysis.{told_ending}
 use Rattle.xs_fmea.proofs.print.append_endings.Given as goal
 
 abbrev pub invariant-loop-i : goal.invariant-loop-i

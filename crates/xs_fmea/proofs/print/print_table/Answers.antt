@@ -1,6 +1,6 @@
 use Rattle.std.proofs.Common.{◌≡◌, ◌∙◌, ℕ, List}
 use Rattle.std.proofs.lemmas.Result.{IfOk-weaker}
-use Rattle.xs_analysis_text.specs.Analysis.{Analysis}
+use Rattle.xs_text_laws.specs.Analysis.{Analysis}
 use Rattle.xs_fmea.specs.Tables.{table_text}
 use Rattle.xs_fmea.specs.Columns.{IsTableOf, printed_table}
 use Rattle.xs_fmea.proofs.TextLaws.{text_of_table}

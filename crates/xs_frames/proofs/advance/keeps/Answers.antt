@@ -3,8 +3,8 @@ use Rattle.std.proofs.lemmas.Grind.{common_steps}
 use Rattle.xs_frames.specs.Bits.{against_next}
 use Rattle.xs_frames.specs.Levels.{frames_of}
 use Rattle.xs_frames.specs.declared.guarded.Beside.TheVariants.{Step}
-use Rattle.xs_derive.specs.Derivation.{IsUpTo}
-use Rattle.xs_derive.specs.Hints.{HasNoOpposites}
+use Rattle.xs_lits.specs.Derivation.{IsUpTo}
+use Rattle.xs_lits.specs.Hints.{HasNoOpposites}
 use Rattle.xs_frames.specs.Guarding.{places_of}
 use Rattle.xs_frames.specs.Apart.{apart_system, apart_list}
 use Rattle.xs_frames.proofs.LevelLaws.{length_frames}

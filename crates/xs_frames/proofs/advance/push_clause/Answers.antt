@@ -1,6 +1,6 @@
 use Rattle.std.proofs.Common.{◌≡◌, refl, sym, ◌∙◌, subst, arith, List, ℕ, suc, ◌+◌, ◌<◌, length, true, false}
 use Rattle.xs_lits.specs.Literal.{Literal}
-use Rattle.xs_derive.specs.Hints.{HasNoOpposites}
+use Rattle.xs_lits.specs.Hints.{HasNoOpposites}
 use Rattle.xs_frames.specs.Chain.{IsOverBits}
 use Rattle.xs_frames.specs.Growing.{Keeps}
 use Rattle.xs_frames.specs.Framed.{frame_at}

@@ -6,8 +6,8 @@ use Rattle.xs_frames.specs.Apart.{IsKept, apart_system, apart_list}
 use Rattle.xs_frames.specs.Levels.{frames_of}
 use Rattle.xs_frames.specs.Looked.{Blocks}
 use Rattle.xs_frames.specs.declared.guarded.Beside.TheVariants.{Nothing, Step}
-use Rattle.xs_derive.specs.Derivation.{IsUpTo}
-use Rattle.xs_derive.specs.Hints.{HasNoOpposites}
+use Rattle.xs_lits.specs.Derivation.{IsUpTo}
+use Rattle.xs_lits.specs.Hints.{HasNoOpposites}
 use Rattle.xs_frames.specs.Guarding.{places_of}
 use Rattle.xs_frames.proofs.QueryLemmas.{literals_up_to, literals_apart}
 use Rattle.xs_frames.proofs.LevelLaws.{length_frames}

@@ -1,7 +1,7 @@
 use Rattle.std.proofs.Common.{Err, IsErrOf, sym, ap, ◌∙◌}
 use Rattle.std.proofs.lemmas.Result.{err_from_is_err_and}
 use Rattle.xs_tree.specs.ProgramTree.{program_tree}
-use Rattle.xs_scope.specs.ModelTree.{model_tree}
+use Rattle.xs_tree.specs.ModelTree.{model_tree}
 use Rattle.xs_loading.specs.Loaded.{case_of}
 use Rattle.xs_loading.specs.declared.input.Stop.TheVariants as stop
 use Rattle.xs_loading.proofs.InputLemmas.{same_error}

@@ -1,7 +1,7 @@
 use Rattle.std.proofs.Common.{map}
 use Rattle.std.proofs.lemmas.Result.{err_from_is_err_and}
 use Rattle.xs_tree.specs.ProgramTree.{program_tree}
-use Rattle.xs_scope.specs.ModelTree.{model_tree}
+use Rattle.xs_tree.specs.ModelTree.{model_tree}
 use Rattle.xs_extend.specs.WovenFaults.{fault_tree}
 use Rattle.xs_loading.specs.Wholes.{IsWhole, BreaksKinds, IsWrongWhole, by_kinds}
 use Rattle.xs_loading.proofs.ListedLaws.{are_listed}

@@ -1,5 +1,5 @@
 use Rattle.std.proofs.Common.{◌∙◌}
-use Rattle.xs_scope.specs.ModelTree.{model_tree}
+use Rattle.xs_tree.specs.ModelTree.{model_tree}
 use Rattle.xs_loading.specs.Wholes.{BreaksKinds}
 use Rattle.xs_loading.proofs.Told.{if_refused, of_kind}
 use Rattle.xs_loading.proofs.loaded.typed_whole.Goals as goal

@@ -1,7 +1,7 @@
 use Rattle.std.proofs.Common.{subst, sym, ◌∙◌}
 use Rattle.std.proofs.lemmas.Result.{err_from_is_err_and}
 use Rattle.xs_tree.specs.ProgramTree.{program_tree}
-use Rattle.xs_scope.specs.ModelTree.{model_tree}
+use Rattle.xs_tree.specs.ModelTree.{model_tree}
 use Rattle.xs_loading.specs.Models.{IsModelText, IsModelOf, IsLawful, IsWrongModel, not_read, not_flat, not_typed}
 use Rattle.xs_loading.proofs.Told.{if_refused, named, of_kind}
 use Rattle.xs_loading.proofs.SpelledInVar.{spelled_in_var}

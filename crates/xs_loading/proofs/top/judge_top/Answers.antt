@@ -2,9 +2,9 @@ use Rattle.std.proofs.Common.{[], sym, subst, ◌∙◌}
 use Rattle.std.proofs.lemmas.Result.{err_from_is_err_and}
 use Rattle.xs_tree.specs.ProgramTree.{program_tree}
 use Rattle.xs_tree.specs.Written.{tree_of}
-use Rattle.xs_scope.specs.ModelTree.{flat_tree, model_tree}
+use Rattle.xs_tree.specs.ModelTree.{flat_tree, model_tree}
 use Rattle.xs_flat.specs.ResolvedAt.{IsAt}
-use Rattle.xs_flattening.specs.ResolvedAt.{IsResolvedAt}
+use Rattle.xs_flat_laws.specs.ResolvedAt.{IsResolvedAt}
 use Rattle.xs_loading.specs.Cases.{IsWrongTop}
 use Rattle.xs_loading.proofs.Told.{if_refused}
 use Rattle.xs_loading.proofs.TopLaws.{main_instance, main_is_at, wrong_by_names, wrong_by_kinds, kinds_kept, top_of_parts}

@@ -2,7 +2,7 @@ use Rattle.std.proofs.Common.{◌∙◌}
 use Rattle.std.proofs.lemmas.Result.{err_from_is_err_and}
 use Rattle.xs_tree.specs.ProgramTree.{program_tree}
 use Rattle.xs_tree.specs.Written.{tree_of}
-use Rattle.xs_scope.specs.ModelTree.{model_tree}
+use Rattle.xs_tree.specs.ModelTree.{model_tree}
 use Rattle.xs_loading.proofs.Told.{if_refused}
 use Rattle.xs_loading.proofs.TopLaws.{main_instance, main_is_at, names_untold}
 use Rattle.xs_loading.proofs.top.over_extension.Goals as goal

@@ -2,11 +2,11 @@ use Rattle.std.proofs.Common.{[], false, sym, subst}
 use Rattle.std.proofs.lemmas.Result.{err_from_is_err_and, IfOk-weaker, IfErr-weaker}
 use Rattle.xs_tree.specs.ProgramTree.{program_tree}
 use Rattle.xs_tree.specs.Written.{tree_of}
-use Rattle.xs_scope.specs.ModelTree.{flat_tree, model_tree}
-use Rattle.xs_flattening.specs.ResolvedAt.{IsResolvedAt}
-use Rattle.xs_flattening.specs.Rules.{IsAccepted}
-use Rattle.xs_flattening.specs.Model.{IsFlatOf}
-use Rattle.xs_woven_tops.specs.Tops.{KeepsValue}
+use Rattle.xs_tree.specs.ModelTree.{flat_tree, model_tree}
+use Rattle.xs_flat_laws.specs.ResolvedAt.{IsResolvedAt}
+use Rattle.xs_flat_laws.specs.Rules.{IsAccepted}
+use Rattle.xs_flat_laws.specs.Model.{IsFlatOf}
+use Rattle.xs_woven_laws.specs.Tops.{KeepsValue}
 use Rattle.xs_loading.specs.Wrongs.{IfRefused}
 use Rattle.xs_loading.specs.Cases.{IsWrongTop, IsWrongWord, not_kept}
 use Rattle.xs_loading.specs.Loaded.{case_of, IsTopIn, IsWrongTopText}

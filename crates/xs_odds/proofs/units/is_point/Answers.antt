@@ -1,5 +1,5 @@
 use Rattle.std.specs.Prelude.{codes}
-use Rattle.xs_effects.proofs.AllowedLaws.{same_text_test}
+use Rattle.xs_fei.proofs.AllowedLaws.{same_text_test}
 use Rattle.xs_odds.proofs.units.is_point.Goals as goal
 
 pub returns : goal.returns

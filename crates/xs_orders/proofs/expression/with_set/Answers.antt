@@ -1,6 +1,6 @@
 -- One fault more is one part more of the whole.
 use Rattle.std.proofs.Common.{◌≡◌, arith}
-use Rattle.xs_scope.specs.ModelTree.{flat_tree}
+use Rattle.xs_tree.specs.ModelTree.{flat_tree}
 use Rattle.xs_orders.specs.Stage.{with_set}
 use Rattle.xs_orders.proofs.Parts.{part_more}
 use Rattle.xs_orders.proofs.expression.with_set.Goals as goal

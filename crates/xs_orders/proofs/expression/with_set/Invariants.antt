@@ -1,6 +1,6 @@
 -- What is left of the faults makes the whole of what stands so far.
 use Rattle.std.proofs.Common.{◌≡◌, ◌+◌, ◌-◌}
-use Rattle.xs_scope.specs.ModelTree.{flat_tree}
+use Rattle.xs_tree.specs.ModelTree.{flat_tree}
 use Rattle.xs_orders.specs.Stage.{with_set}
 use Rattle.xs_orders.proofs.expression.with_set.Given as goal
 

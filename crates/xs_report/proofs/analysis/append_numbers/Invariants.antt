@@ -1,5 +1,5 @@
 use Rattle.std.proofs.Common.{◌≡◌, ◌++◌, drop}
-use Rattle.xs_analysis_text.specs.AnalysisText.{numbers_text}
+use Rattle.xs_text_laws.specs.AnalysisText.{numbers_text}
 use Rattle.xs_report.proofs.analysis.append_numbers.Given as goal
 
 abbrev pub invariant-loop-number : goal.invariant-loop-number

@@ -1,5 +1,5 @@
 use Rattle.std.proofs.Common.{◌≡◌, ◌++◌, drop}
-use Rattle.xs_analysis_text.specs.AnalysisText.{set_lines}
+use Rattle.xs_text_laws.specs.AnalysisText.{set_lines}
 use Rattle.xs_report.proofs.analysis.append_sets.Given as goal
 
 abbrev pub invariant-loop-set : goal.invariant-loop-set

@@ -1,6 +1,6 @@
 use Rattle.std.proofs.Common.{◌≡◌, ◌++◌, ◌+◌, drop}
-use Rattle.xs_scope.specs.ModelTree.{model_tree}
-use Rattle.xs_analysis_text.specs.AnalysisText.{trace_parts}
+use Rattle.xs_tree.specs.ModelTree.{model_tree}
+use Rattle.xs_text_laws.specs.AnalysisText.{trace_parts}
 use Rattle.xs_report.specs.Analysed.{told_traces}
 use Rattle.xs_report.proofs.analysis.append_traces.Given as goal
 

@@ -1,8 +1,8 @@
 use Rattle.std.proofs.Common.{◌≡◌, ◌++◌, ◌+◌, [], ◌∷◌, Some, sym, ◌∙◌, ap, arith}
 use Rattle.std.specs.Prelude.{slice_get}
 use Rattle.std.proofs.lemmas.Option.{slice_get-get_or}
-use Rattle.xs_scope.specs.ModelTree.{variable_tree}
-use Rattle.xs_trace_text.specs.TraceText.{value_line}
+use Rattle.xs_tree.specs.ModelTree.{variable_tree}
+use Rattle.xs_text_laws.specs.TraceText.{value_line}
 use Rattle.xs_report.specs.Told.{told_value}
 use Rattle.xs_report.proofs.TextLaws.{lines_from, values_on, values_past}
 use Rattle.xs_report.proofs.traces.append_values.Goals as goal

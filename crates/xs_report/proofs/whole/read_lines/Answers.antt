@@ -1,8 +1,8 @@
 use Rattle.std.proofs.Common.{rules, w64, Fits, ◌+◌, ◌≡◌, ◌≢◌, ◌<◌, ◌≤◌, List, ℕ, [], ◌∷◌, length, false, Result, Ok, Err, refl, sym, ◌∙◌, ap, arith, IfOk, IfErr}
 use Rattle.std.proofs.lemmas.List.{length-map}
-use Rattle.xs_scope.specs.ModelTree.{model_tree, variable_tree}
+use Rattle.xs_tree.specs.ModelTree.{model_tree, variable_tree}
 use Rattle.xs_value.specs.declared.value.Value.TheVariants.{Bool as ABool}
-use Rattle.xs_trace_text.specs.Given.{BytesGive}
+use Rattle.xs_text_laws.specs.Given.{BytesGive}
 use Rattle.xs_report.specs.Faults.{IsFaultOf}
 use Rattle.xs_report.specs.Reading.{IsFinished, IsUnfinished, ended}
 use Rattle.xs_report.specs.Told.{told_trace}

@@ -1,5 +1,5 @@
 use Rattle.std.proofs.Common.{length}
-use Rattle.xs_scope.specs.ModelTree.{model_tree}
+use Rattle.xs_tree.specs.ModelTree.{model_tree}
 use Rattle.xs_report.proofs.WholeLaws.{IsRead}
 use Rattle.xs_report.proofs.whole.read_lines.Given as goal
 

@@ -2,9 +2,9 @@ use Rattle.std.proofs.Common.{Err, IsErrOf, ◌++◌, sym, ap, ◌∙◌}
 use Rattle.std.specs.Prelude.{codes}
 use Rattle.std.proofs.lemmas.Result.{err_from_is_err_and}
 use Rattle.xs_tree.specs.ProgramTree.{program_tree}
-use Rattle.xs_scope.specs.ModelTree.{flat_tree}
+use Rattle.xs_tree.specs.ModelTree.{flat_tree}
 use Rattle.xs_cert.specs.Seen.{seen}
-use Rattle.xs_analysis_text.specs.AnalysisText.{size_line}
+use Rattle.xs_text_laws.specs.AnalysisText.{size_line}
 use Rattle.xs_loading.specs.LoadedEvents.{case_in}
 use Rattle.xs_loading.specs.declared.input.Stop.TheVariants as stop
 use Rattle.xs_case_search.proofs.Analysable.{case_counts}

@@ -1,4 +1,4 @@
-use Rattle.xs_scope.specs.ModelTree.{model_tree}
+use Rattle.xs_tree.specs.ModelTree.{model_tree}
 use Rattle.xs_tree.specs.ProgramTree.{program_tree}
 use Rattle.xs_run.proofs.GeneratedLaws.{text_of_generator}
 use Rattle.xs_run.proofs.make.read_back.Goals as goal

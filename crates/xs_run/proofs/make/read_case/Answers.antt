@@ -1,5 +1,5 @@
 use Rattle.xs_tree.specs.ProgramTree.{program_tree}
-use Rattle.xs_scope.specs.ModelTree.{model_tree}
+use Rattle.xs_tree.specs.ModelTree.{model_tree}
 use Rattle.xs_loading.specs.Inputs.{IsWrongFaults}
 use Rattle.xs_run.proofs.GeneratedLaws.{refuses_none, instructions_length, case_not_wrong}
 use Rattle.xs_run.proofs.make.read_case.Goals as goal

@@ -1,6 +1,6 @@
 use Rattle.std.proofs.Common.{arith, length, ap, ◌∙◌}
 use Rattle.xs_tree.specs.ProgramTree.{program_tree}
-use Rattle.xs_scope.specs.ModelTree.{flat_tree}
+use Rattle.xs_tree.specs.ModelTree.{flat_tree}
 use Rattle.xs_run.specs.Made.{dead_word}
 use Rattle.xs_case_search.proofs.Analysable.{case_few, case_searchable}
 use Rattle.xs_run.proofs.MakeLaws.{summarised}

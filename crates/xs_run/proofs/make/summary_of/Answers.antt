@@ -3,7 +3,7 @@ use Rattle.std.specs.Prelude.{codes}
 use Rattle.std.specs.Fmt.{decimal}
 use Rattle.std.proofs.lemmas.List.{append_assoc}
 use Rattle.xs_tree.specs.ProgramTree.{Text}
-use Rattle.xs_analysis_text.specs.Analysis.{told_ending}
+use Rattle.xs_text_laws.specs.Analysis.{told_ending}
 use Rattle.xs_run.specs.AnswerTexts.{summary_ending}
 use Rattle.xs_run.proofs.make.summary_of.Goals as goal
 

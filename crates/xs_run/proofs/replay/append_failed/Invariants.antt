@@ -1,6 +1,6 @@
 use Rattle.std.proofs.Common.{◌≡◌, ◌++◌}
-use Rattle.xs_scope.specs.ModelTree.{model_tree}
-use Rattle.xs_flattening.specs.FlatTrace.{stands_in_some}
+use Rattle.xs_tree.specs.ModelTree.{model_tree}
+use Rattle.xs_flat_laws.specs.FlatTrace.{stands_in_some}
 use Rattle.xs_eval.specs.Named.{named_trace}
 use Rattle.xs_run.proofs.NamingLaws.{named_from}
 use Rattle.xs_run.proofs.replay.append_failed.Given as goal

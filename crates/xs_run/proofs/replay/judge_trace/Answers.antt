@@ -1,5 +1,5 @@
 use Rattle.std.proofs.Common.{sym, subst, ◌-◌, ◌∙◌}
-use Rattle.xs_scope.specs.ModelTree.{model_tree, flat_tree}
+use Rattle.xs_tree.specs.ModelTree.{model_tree, flat_tree}
 use Rattle.xs_eval.specs.Named.{named_trace}
 use Rattle.xs_eval.specs.Stops.{Stops}
 use Rattle.xs_eval.specs.Replayed.{IsReplayed}

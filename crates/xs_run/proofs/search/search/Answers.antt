@@ -1,6 +1,6 @@
 use Rattle.std.proofs.Common.{arith}
 use Rattle.xs_tree.specs.ProgramTree.{program_tree}
-use Rattle.xs_scope.specs.ModelTree.{flat_tree}
+use Rattle.xs_tree.specs.ModelTree.{flat_tree}
 use Rattle.xs_case_search.proofs.Analysable.{case_few, case_searchable}
 use Rattle.xs_run.proofs.Findings.{case_searched, case_found}
 use Rattle.xs_run.proofs.search.search.Goals as goal

@@ -1,6 +1,6 @@
 use Rattle.std.proofs.Common.{arith}
 use Rattle.xs_tree.specs.ProgramTree.{program_tree}
-use Rattle.xs_scope.specs.ModelTree.{flat_tree}
+use Rattle.xs_tree.specs.ModelTree.{flat_tree}
 use Rattle.xs_run.proofs.TopEvents.{few_in_case, event_searchable}
 use Rattle.xs_run.proofs.Columns.{column_found}
 use Rattle.xs_run.proofs.tops.column_of.Goals as goal

@@ -1,7 +1,7 @@
 use Rattle.std.proofs.Common.{arith, map, sym, ◌∙◌, subst}
 use Rattle.xs_tree.specs.ProgramTree.{Formula}
-use Rattle.xs_scope.specs.ModelTree.{flat_tree}
-use Rattle.xs_flattening.specs.Model.{EachBoth}
+use Rattle.xs_tree.specs.ModelTree.{flat_tree}
+use Rattle.xs_flat_laws.specs.Model.{EachBoth}
 use Rattle.xs_run.specs.Tables.{IsEventOf, IsColumn, tabulated_case, tabulated_events}
 use Rattle.xs_run.proofs.TableLemmas.{first_at, both_next, both_whole}
 use Rattle.xs_run.proofs.Columns.{columns_of_events}

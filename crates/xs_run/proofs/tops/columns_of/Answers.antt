@@ -1,8 +1,8 @@
 use Rattle.std.proofs.Common.{◌≡◌, [], ◌∷◌, List, Bool, true, false, arith, map, length, ◌<◌, ◌∙◌, refl, sym, subst, eqb-true}
 use Rattle.std.specs.Prelude.{nat_eq}
 use Rattle.xs_tree.specs.ProgramTree.{program_tree}
-use Rattle.xs_scope.specs.ModelTree.{flat_tree}
-use Rattle.xs_flattening.specs.Model.{EachBoth}
+use Rattle.xs_tree.specs.ModelTree.{flat_tree}
+use Rattle.xs_flat_laws.specs.Model.{EachBoth}
 use Rattle.xs_run.specs.Tables.{AreColumns, IsEventOf, tabulated_case, tabulated_events}
 use Rattle.xs_run.proofs.TableLemmas.{first_at}
 use Rattle.xs_run.proofs.TopEvents.{event_searchable}

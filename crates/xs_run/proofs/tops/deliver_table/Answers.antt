@@ -1,6 +1,6 @@
 use Rattle.std.proofs.Common.{map, inl, refl, ap, subst, ◌∙◌}
 use Rattle.xs_desk.specs.Desk.{said_more, SaysPrefix}
-use Rattle.xs_analysis_text.specs.Analysis.{told_ending}
+use Rattle.xs_text_laws.specs.Analysis.{told_ending}
 use Rattle.xs_run.specs.Tables.{tabulated_case, tabulated_events, ended_with_all}
 use Rattle.xs_run.proofs.Columns.{has_tabulated, tabulates_begun, whole_said}
 use Rattle.xs_run.proofs.tops.deliver_table.Goals as goal

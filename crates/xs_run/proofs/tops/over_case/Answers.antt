@@ -1,10 +1,10 @@
 use Rattle.std.proofs.Common.{arith, [], false, sym, subst}
 use Rattle.xs_tree.specs.ProgramTree.{program_tree}
 use Rattle.xs_tree.specs.Written.{tree_of}
-use Rattle.xs_scope.specs.ModelTree.{model_tree, flat_tree}
-use Rattle.xs_flattening.specs.Model.{IsFlatOf}
-use Rattle.xs_flattening.specs.ResolvedAt.{IsResolvedAt}
-use Rattle.xs_woven_tops.specs.Tops.{KeepsValue}
+use Rattle.xs_tree.specs.ModelTree.{model_tree, flat_tree}
+use Rattle.xs_flat_laws.specs.Model.{IsFlatOf}
+use Rattle.xs_flat_laws.specs.ResolvedAt.{IsResolvedAt}
+use Rattle.xs_woven_laws.specs.Tops.{KeepsValue}
 use Rattle.xs_run.proofs.TableLemmas.{each_at, both_next, both_whole}
 use Rattle.xs_run.proofs.tops.over_case.Goals as goal
 

@@ -1,9 +1,9 @@
 use Rattle.std.proofs.Common.{[], take}
 use Rattle.xs_tree.specs.ProgramTree.{program_tree}
 use Rattle.xs_tree.specs.Written.{tree_of}
-use Rattle.xs_scope.specs.ModelTree.{model_tree, flat_tree}
-use Rattle.xs_flattening.specs.Model.{EachBoth}
-use Rattle.xs_flattening.specs.ResolvedAt.{IsResolvedAt}
+use Rattle.xs_tree.specs.ModelTree.{model_tree, flat_tree}
+use Rattle.xs_flat_laws.specs.Model.{EachBoth}
+use Rattle.xs_flat_laws.specs.ResolvedAt.{IsResolvedAt}
 use Rattle.xs_run.proofs.tops.over_case.Given as goal
 
 abbrev pub invariant-loop-top : goal.invariant-loop-top

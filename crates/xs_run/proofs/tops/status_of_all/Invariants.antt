@@ -1,5 +1,5 @@
 use Rattle.std.proofs.Common.{◌≡◌, map, drop}
-use Rattle.xs_analysis_text.specs.Analysis.{told_ending}
+use Rattle.xs_text_laws.specs.Analysis.{told_ending}
 use Rattle.xs_run.specs.Tables.{ended_with_all}
 use Rattle.xs_run.proofs.tops.status_of_all.Given as goal
 

@@ -4,11 +4,11 @@ use Rattle.std.proofs.lemmas.List.{length-map}
 use Rattle.xs_tree.specs.ProgramTree.{program_tree}
 use Rattle.xs_tree.specs.Trace.{Each}
 use Rattle.xs_tree.specs.Written.{tree_of}
-use Rattle.xs_scope.specs.ModelTree.{flat_tree, model_tree}
-use Rattle.xs_flattening.specs.Model.{IsFlatOf, EachBoth}
-use Rattle.xs_flattening.specs.ResolvedAt.{IsResolvedAt}
-use Rattle.xs_flattening.specs.Rules.{IsAccepted}
-use Rattle.xs_woven_tops.specs.Tops.{KeepsValue}
+use Rattle.xs_tree.specs.ModelTree.{flat_tree, model_tree}
+use Rattle.xs_flat_laws.specs.Model.{IsFlatOf, EachBoth}
+use Rattle.xs_flat_laws.specs.ResolvedAt.{IsResolvedAt}
+use Rattle.xs_flat_laws.specs.Rules.{IsAccepted}
+use Rattle.xs_woven_laws.specs.Tops.{KeepsValue}
 use Rattle.xs_loading.specs.Wrongs.{IfRefused}
 use Rattle.xs_loading.specs.Cases.{IsTop}
 use Rattle.xs_loading.specs.Loaded.{case_of}

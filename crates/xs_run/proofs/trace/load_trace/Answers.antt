@@ -1,7 +1,7 @@
 use Rattle.std.proofs.Common.{Err, IsErrOf, sym, ap, subst, ◌∙◌}
 use Rattle.std.proofs.lemmas.Result.{err_from_is_err_and}
-use Rattle.xs_scope.specs.ModelTree.{model_tree}
-use Rattle.xs_trace_text.specs.Given.{BytesGive}
+use Rattle.xs_tree.specs.ModelTree.{model_tree}
+use Rattle.xs_text_laws.specs.Given.{BytesGive}
 use Rattle.xs_report.specs.Told.{told_trace}
 use Rattle.xs_report.specs.Faults.{IsFaultOf}
 use Rattle.xs_loading.specs.declared.input.Stop.TheVariants as stop

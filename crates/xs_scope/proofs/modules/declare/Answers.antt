@@ -1,6 +1,6 @@
 -- A name that has an entry was seen before, and one that has none gets one.
 use Rattle.std.proofs.Common.{ap, ◌∙◌, sym, true, false}
-use Rattle.xs_flattening.specs.Rules.{double_name}
+use Rattle.xs_flat_laws.specs.Rules.{double_name}
 use Rattle.xs_scope.specs.Reading.{told_if}
 use Rattle.xs_scope.proofs.MapLaws.{seen, stands_last}
 use Rattle.xs_scope.proofs.modules.declare.Goals as goal

@@ -2,7 +2,7 @@
 use Rattle.std.proofs.Common.{◌≡◌, ◌++◌, ◌∷◌, [], None, get_or, ap, ◌∙◌, sym, subst, List}
 use Rattle.xs_tree.specs.ProgramTree.{Text}
 use Rattle.xs_tree.specs.Texts.{is_among}
-use Rattle.xs_flattening.specs.Rules.{double_name}
+use Rattle.xs_flat_laws.specs.Rules.{double_name}
 use Rattle.xs_scope.specs.declared.modules.Local.{Local}
 use Rattle.xs_scope.specs.declared.modules.Local.TheVariants as local
 use Rattle.xs_scope.specs.Reading.{told_if, texts_of}

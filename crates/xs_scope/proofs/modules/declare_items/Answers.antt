@@ -1,7 +1,7 @@
 -- One item more.
 use Rattle.std.proofs.Common.{◌≡◌, ◌++◌, None, List, get_or, ap, ◌∙◌, sym, subst}
 use Rattle.xs_tree.specs.ProgramTree.{Text}
-use Rattle.xs_flattening.specs.Rules.{double_name, names_of_item, is_name_again}
+use Rattle.xs_flat_laws.specs.Rules.{double_name, names_of_item, is_name_again}
 use Rattle.xs_scope.specs.declared.items.Numbered.{Numbered}
 use Rattle.xs_scope.specs.declared.modules.Local.{Local}
 use Rattle.xs_scope.specs.Reading.{told_if, texts_of, item_of_numbered}

@@ -1,6 +1,6 @@
 -- A module of another name isn't `main`.
 use Rattle.std.proofs.Common.{◌&&◌, codes, ap, ◌∙◌, sym}
-use Rattle.xs_flattening.specs.Rules.{has_formals}
+use Rattle.xs_flat_laws.specs.Rules.{has_formals}
 use Rattle.xs_scope.proofs.HeaderLaws.{same_test}
 use Rattle.xs_scope.proofs.modules.is_main_with_formals.Goals as goal
 

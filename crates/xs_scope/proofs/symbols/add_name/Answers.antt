@@ -1,7 +1,7 @@
 -- An inserted symbol stands last, unless it stood before.
 use Rattle.std.proofs.Common.{rules, ap, ◌∙◌}
-use Rattle.xs_scope.specs.Symbols.{texts}
-use Rattle.xs_scope.proofs.SymbolLaws.{inserted}
+use Rattle.xs_tree.specs.BorrowedTexts.{texts}
+use Rattle.xs_tree.proofs.BorrowedTexts.{inserted}
 use Rattle.xs_scope.proofs.symbols.add_name.Goals as goal
 
 pub returns : goal.returns

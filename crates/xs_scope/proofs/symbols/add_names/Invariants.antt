@@ -1,7 +1,7 @@
 -- The symbols so far, with those that are left, are all.
 use Rattle.std.proofs.Common.{◌≡◌, drop}
-use Rattle.xs_flattening.specs.Model.{first_appearances}
-use Rattle.xs_scope.specs.Symbols.{texts}
+use Rattle.xs_flat_laws.specs.Model.{first_appearances}
+use Rattle.xs_tree.specs.BorrowedTexts.{texts}
 use Rattle.xs_scope.proofs.symbols.add_names.Given as goal
 
 abbrev pub invariant-loop-name : goal.invariant-loop-name

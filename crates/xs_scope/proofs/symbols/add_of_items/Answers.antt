@@ -1,7 +1,8 @@
 -- The symbols of one item more.
 use Rattle.std.proofs.Common.{rules, ◌≡◌, ◌<◌, length, get_or, ap, ◌∙◌, sym}
-use Rattle.xs_flattening.specs.Model.{first_appearances}
-use Rattle.xs_scope.specs.Symbols.{texts, symbols_of_numbered}
+use Rattle.xs_flat_laws.specs.Model.{first_appearances}
+use Rattle.xs_scope.specs.Symbols.{symbols_of_numbered}
+use Rattle.xs_tree.specs.BorrowedTexts.{texts}
 use Rattle.xs_scope.proofs.SymbolLaws.{appear_more}
 use Rattle.xs_scope.proofs.symbols.add_of_items.Goals as goal
 

@@ -1,8 +1,9 @@
 -- The symbols so far, with those of the modules that are left, are all.
 use Rattle.std.proofs.Common.{◌≡◌, [], drop}
 use Rattle.std.specs.List.{flat_map}
-use Rattle.xs_flattening.specs.Model.{first_appearances}
-use Rattle.xs_scope.specs.Symbols.{texts, symbols_in}
+use Rattle.xs_flat_laws.specs.Model.{first_appearances}
+use Rattle.xs_scope.specs.Symbols.{symbols_in}
+use Rattle.xs_tree.specs.BorrowedTexts.{texts}
 use Rattle.xs_scope.proofs.symbols.symbols_of.Given as goal
 
 abbrev pub invariant-loop-names : goal.invariant-loop-names

@@ -1,5 +1,5 @@
 use Rattle.std.proofs.Common.{ℕ, All, subst, arith}
-use Rattle.xs_derive.specs.Derivation.{IsUpTo}
+use Rattle.xs_lits.specs.Derivation.{IsUpTo}
 use Rattle.xs_search_rows.proofs.searches.search_in.Goals as goal
 
 pub solve_in-requires-clause-can_solve : goal.solve_in-requires-clause-can_solve

@@ -1,6 +1,7 @@
 use Rattle.std.proofs.Common.{◌≡◌, ◌+◌, ◌++◌, ◌∷◌, [], length, map, drop, sym, ap, ◌∙◌}
-use Rattle.xs_scope.specs.ModelTree.{model_tree, mode_of}
-use Rattle.xs_causes.specs.Staged.{with_own, with_owns, own_events}
+use Rattle.xs_tree.specs.ModelTree.{model_tree}
+use Rattle.xs_flat_laws.specs.FaultModes.{mode_of}
+use Rattle.xs_cause_laws.specs.Staged.{with_own, with_owns, own_events}
 use Rattle.xs_staging.specs.CauseOf.{cause_of, told_name}
 use Rattle.xs_staging.proofs.Counts.{owns_next, own_events_next, told_next, map_push, first_of}
 use Rattle.xs_staging.proofs.events.add_own_events.Goals as goal

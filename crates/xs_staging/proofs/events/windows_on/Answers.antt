@@ -2,10 +2,10 @@ use Rattle.std.proofs.Common.{arith, ◌≡◌, ◌+◌, ◌<◌, ◌≤◌, Opt
 use Rattle.std.specs.Prelude.{option_map}
 use Rattle.std.proofs.lemmas.List.{drop_all}
 use Rattle.xs_tree.specs.declared.expr.Expr.{Expr}
-use Rattle.xs_scope.specs.declared.model.Flat.{Flat}
-use Rattle.xs_scope.specs.ModelTree.{flat_tree}
-use Rattle.xs_right.specs.Sets.{has_number}
-use Rattle.xs_causes.specs.Staged.{in_window, joined, windows_on}
+use Rattle.xs_tree.specs.declared.model.Flat.{Flat}
+use Rattle.xs_tree.specs.ModelTree.{flat_tree}
+use Rattle.xs_right_laws.specs.Sets.{has_number}
+use Rattle.xs_cause_laws.specs.Staged.{in_window, joined, windows_on}
 use Rattle.xs_staging.specs.CauseOf.{cause_of, either_tree, joined_from}
 use Rattle.xs_staging.proofs.Counts.{window_next, window_passed}
 use Rattle.xs_staging.proofs.events.windows_on.Goals.{then-has_number+in_ok-in_window+in_ok-either, else-has_number}

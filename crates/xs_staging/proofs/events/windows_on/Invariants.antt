@@ -1,7 +1,7 @@
 use Rattle.std.proofs.Common.{◌≡◌, map, drop}
 use Rattle.std.specs.Prelude.{option_map}
-use Rattle.xs_scope.specs.ModelTree.{flat_tree}
-use Rattle.xs_causes.specs.Staged.{joined, windows_on}
+use Rattle.xs_tree.specs.ModelTree.{flat_tree}
+use Rattle.xs_cause_laws.specs.Staged.{joined, windows_on}
 use Rattle.xs_staging.specs.CauseOf.{cause_of, joined_from}
 use Rattle.xs_staging.proofs.events.windows_on.Given as goal
 

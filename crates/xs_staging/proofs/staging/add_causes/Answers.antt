@@ -1,8 +1,9 @@
 use Rattle.std.proofs.Common.{◌≡◌, ◌+◌, ◌<◌, ◌++◌, ◌∷◌, [], length, map, drop, sym, ap, ◌∙◌, subst, arith, get_or}
 use Rattle.std.proofs.lemmas.List.{length-map}
-use Rattle.xs_scope.specs.ModelTree.{model_tree, mode_of, variable_tree}
-use Rattle.xs_causes.specs.Causes.{IsCauseOf}
-use Rattle.xs_causes.specs.Staged.{with_cause, with_each_cause, age_numbers, cause_events}
+use Rattle.xs_tree.specs.ModelTree.{model_tree, variable_tree}
+use Rattle.xs_flat_laws.specs.FaultModes.{mode_of}
+use Rattle.xs_cause_laws.specs.Causes.{IsCauseOf}
+use Rattle.xs_cause_laws.specs.Staged.{with_cause, with_each_cause, age_numbers, cause_events}
 use Rattle.xs_staging.specs.CauseOf.{cause_of, told_name, told_cause}
 use Rattle.xs_staging.proofs.Counts.{each_map_get, causes_next, ages_next, events_next, told_next, map_push}
 use Rattle.xs_staging.proofs.staging.add_causes.Goals as goal

@@ -1,6 +1,7 @@
 use Rattle.std.proofs.Common.{◌≡◌, ◌++◌, length, map, drop}
-use Rattle.xs_scope.specs.ModelTree.{model_tree, mode_of}
-use Rattle.xs_causes.specs.Staged.{with_each_cause, age_numbers, cause_events}
+use Rattle.xs_tree.specs.ModelTree.{model_tree}
+use Rattle.xs_flat_laws.specs.FaultModes.{mode_of}
+use Rattle.xs_cause_laws.specs.Staged.{with_each_cause, age_numbers, cause_events}
 use Rattle.xs_staging.specs.CauseOf.{cause_of, told_name, told_cause}
 use Rattle.xs_staging.proofs.staging.add_causes.Given as goal
 

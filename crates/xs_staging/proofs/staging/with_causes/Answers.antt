@@ -1,7 +1,7 @@
 use Rattle.std.proofs.Common.{◌≡◌, ◌++◌, [], length, map, sym, ap, ◌∙◌}
 use Rattle.std.proofs.lemmas.List.{length-map}
-use Rattle.xs_scope.specs.ModelTree.{model_tree}
-use Rattle.xs_causes.specs.Staged.{age_numbers}
+use Rattle.xs_tree.specs.ModelTree.{model_tree}
+use Rattle.xs_cause_laws.specs.Staged.{age_numbers}
 use Rattle.xs_staging.specs.CauseOf.{cause_of}
 use Rattle.xs_staging.proofs.Counts.{length_ages}
 use Rattle.xs_staging.proofs.staging.with_causes.Goals as goal

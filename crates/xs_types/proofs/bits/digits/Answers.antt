@@ -1,5 +1,5 @@
 use Rattle.std.proofs.Common.{◌≡◌, ◌-◌, arith}
-use Rattle.xs_kinds.specs.Costs.{digits_in}
+use Rattle.xs_type_laws.specs.Costs.{digits_in}
 use Rattle.xs_types.proofs.DigitLaws.{digits_end}
 use Rattle.xs_types.proofs.bits.digits.Goals as goal
 

@@ -1,5 +1,5 @@
 use Rattle.std.proofs.Common.{◌≡◌, ◌+◌, ◌-◌, ◌≤◌}
-use Rattle.xs_kinds.specs.Costs.{digits_in}
+use Rattle.xs_type_laws.specs.Costs.{digits_in}
 use Rattle.xs_types.proofs.bits.digits.Given as goal
 
 abbrev pub invariant-loop-place : goal.invariant-loop-place

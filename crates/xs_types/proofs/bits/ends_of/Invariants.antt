@@ -1,6 +1,6 @@
 use Rattle.std.proofs.Common.{◌≡◌, drop, None}
 use Rattle.std.specs.Prelude.{map}
-use Rattle.xs_kinds.specs.Costs.{member_number}
+use Rattle.xs_type_laws.specs.Costs.{member_number}
 use Rattle.xs_types.specs.Types.{spread}
 use Rattle.xs_types.proofs.bits.ends_of.Given as goal
 

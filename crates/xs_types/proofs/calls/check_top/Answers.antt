@@ -1,7 +1,7 @@
 use Rattle.std.proofs.Common.{◌∙◌, ap, sym, min}
-use Rattle.xs_scope.specs.ModelTree.{model_tree, flat_tree, leaf_of}
+use Rattle.xs_tree.specs.ModelTree.{model_tree, flat_tree, leaf_of}
 use Rattle.xs_tree.specs.Written.{tree_of}
-use Rattle.xs_kinds.proofs.Mapped.{cost_mapped}
+use Rattle.xs_type_laws.proofs.Mapped.{cost_mapped}
 use Rattle.xs_types.proofs.CallLaws.{top_answered, top_kept, top_lies}
 use Rattle.xs_types.proofs.calls.check_top.Goals as goal
 

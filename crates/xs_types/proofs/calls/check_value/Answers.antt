@@ -1,6 +1,6 @@
 use Rattle.std.proofs.Common.{false}
-use Rattle.xs_scope.specs.ModelTree.{model_tree, flat_tree}
-use Rattle.xs_kinds.specs.Models.{judged_in}
+use Rattle.xs_tree.specs.ModelTree.{model_tree, flat_tree}
+use Rattle.xs_type_laws.specs.Models.{judged_in}
 use Rattle.xs_types.proofs.CallLaws.{value_answered, value_kept, value_lies}
 use Rattle.xs_types.proofs.calls.check_value.Goals as goal
 

@@ -1,7 +1,7 @@
 use Rattle.std.proofs.Common.{◌∙◌, ap}
-use Rattle.xs_scope.specs.ModelTree.{model_tree}
+use Rattle.xs_tree.specs.ModelTree.{model_tree}
 use Rattle.xs_tree.specs.Written.{tree_of}
-use Rattle.xs_kinds.specs.Judged.{judge}
+use Rattle.xs_type_laws.specs.Judged.{judge}
 use Rattle.xs_types.specs.Answers.{told}
 use Rattle.xs_types.specs.Names.{name_kind}
 use Rattle.xs_types.proofs.KeptLaws.{judged_as_in}

@@ -1,5 +1,5 @@
 use Rattle.std.proofs.Common.{◌≡◌, ◌∙◌, ap, ◌++◌}
-use Rattle.xs_kinds.specs.FirstBreach.{first_of}
+use Rattle.xs_type_laws.specs.FirstBreach.{first_of}
 use Rattle.xs_types.specs.Kept.{formula_breaches}
 use Rattle.xs_types.specs.Names.{name_kind}
 use Rattle.xs_types.specs.Sites.{told_first_site, earlier_site}

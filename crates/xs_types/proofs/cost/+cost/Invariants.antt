@@ -1,5 +1,5 @@
 use Rattle.std.proofs.Common.{◌≡◌, ◌+◌, ◌≤◌, min, drop}
-use Rattle.xs_kinds.specs.Costs.{trees_cost, branches_cost}
+use Rattle.xs_type_laws.specs.Costs.{trees_cost, branches_cost}
 use Rattle.xs_tree.specs.Written.{trees_of, branches_of}
 use Rattle.xs_types.proofs.cost.+cost.Given as goal
 

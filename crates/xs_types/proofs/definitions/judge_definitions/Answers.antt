@@ -1,6 +1,6 @@
 use Rattle.std.proofs.Common.{◌≡◌, ◌∙◌, ap, length, get_or, arith}
-use Rattle.xs_scope.specs.ModelTree.{model_tree}
-use Rattle.xs_kinds.specs.Models.{judged_variables}
+use Rattle.xs_tree.specs.ModelTree.{model_tree}
+use Rattle.xs_type_laws.specs.Models.{judged_variables}
 use Rattle.xs_types.proofs.PartLaws.{defined_more}
 use Rattle.xs_types.proofs.definitions.judge_definitions.Goals as goal
 

@@ -1,6 +1,6 @@
 use Rattle.std.proofs.Common.{take}
-use Rattle.xs_scope.specs.ModelTree.{model_tree}
-use Rattle.xs_kinds.specs.Models.{judged_variables}
+use Rattle.xs_tree.specs.ModelTree.{model_tree}
+use Rattle.xs_type_laws.specs.Models.{judged_variables}
 use Rattle.xs_types.specs.Parts.{AreDefined}
 use Rattle.xs_types.proofs.definitions.judge_definitions.Given as goal
 

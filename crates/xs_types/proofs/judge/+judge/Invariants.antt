@@ -1,6 +1,6 @@
 use Rattle.std.proofs.Common.{◌≡◌, drop, None}
 use Rattle.xs_tree.specs.Written.{trees_of, branches_of}
-use Rattle.xs_kinds.specs.Judged.{judge_trees, judge_values}
+use Rattle.xs_type_laws.specs.Judged.{judge_trees, judge_values}
 use Rattle.xs_types.specs.Names.{name_kind}
 use Rattle.xs_types.specs.Several.{add_all, guard_all, no_guards}
 use Rattle.xs_types.proofs.judge.+judge.Given as goal

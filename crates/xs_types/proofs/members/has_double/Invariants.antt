@@ -1,5 +1,5 @@
 use Rattle.std.proofs.Common.{◌≡◌, drop}
-use Rattle.xs_kinds.specs.Declared.{has_double}
+use Rattle.xs_type_laws.specs.Declared.{has_double}
 use Rattle.xs_types.specs.Met.{has_met, met_again}
 use Rattle.xs_types.proofs.members.has_double.Given as goal
 

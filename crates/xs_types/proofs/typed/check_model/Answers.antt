@@ -1,6 +1,6 @@
 use Rattle.std.proofs.Common.{◌∙◌, sym, inr}
-use Rattle.xs_scope.specs.ModelTree.{model_tree}
-use Rattle.xs_kinds.specs.Models.{IsTyped}
+use Rattle.xs_tree.specs.ModelTree.{model_tree}
+use Rattle.xs_type_laws.specs.Models.{IsTyped}
 use Rattle.xs_types.proofs.ModelLaws.{fault_answered, fault_is, typed_is, small_cost, small_bits}
 use Rattle.xs_types.proofs.typed.check_model.Goals as goal
 

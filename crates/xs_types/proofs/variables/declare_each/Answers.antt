@@ -2,11 +2,11 @@ use Rattle.std.proofs.Common.{◌≡◌, ◌∙◌, ◌<◌, ◌++◌, [], ◌�
 use Rattle.std.specs.Prelude.{map}
 use Rattle.std.proofs.lemmas.List.{map_more}
 use Rattle.xs_tree.specs.ProgramTree.{declared_tree}
-use Rattle.xs_scope.specs.ModelTree.{variable_tree}
-use Rattle.xs_scope.specs.declared.model.Variable.{Variable}
-use Rattle.xs_kinds.specs.Declared.{judged_declared}
-use Rattle.xs_kinds.specs.FirstBreach.{first_of}
-use Rattle.xs_kinds.specs.Models.{judged_variables, variable_breaches}
+use Rattle.xs_tree.specs.ModelTree.{variable_tree}
+use Rattle.xs_tree.specs.declared.model.Variable.{Variable}
+use Rattle.xs_type_laws.specs.Declared.{judged_declared}
+use Rattle.xs_type_laws.specs.FirstBreach.{first_of}
+use Rattle.xs_type_laws.specs.Models.{judged_variables, variable_breaches}
 use Rattle.xs_types.specs.Answers.{told_rules}
 use Rattle.xs_types.specs.Kept.{kept_sort, kept_sorts}
 use Rattle.xs_types.specs.Sites.{told_first_site, earlier_site, site_at}

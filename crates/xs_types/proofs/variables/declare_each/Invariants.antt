@@ -1,8 +1,8 @@
 use Rattle.std.proofs.Common.{◌≡◌, ◌+◌, ◌≤◌, min, take, drop}
 use Rattle.std.specs.Prelude.{map}
-use Rattle.xs_scope.specs.ModelTree.{variable_tree}
-use Rattle.xs_kinds.specs.FirstBreach.{first_of}
-use Rattle.xs_kinds.specs.Models.{judged_variables, variable_breaches}
+use Rattle.xs_tree.specs.ModelTree.{variable_tree}
+use Rattle.xs_type_laws.specs.FirstBreach.{first_of}
+use Rattle.xs_type_laws.specs.Models.{judged_variables, variable_breaches}
 use Rattle.xs_types.specs.Kept.{kept_sorts}
 use Rattle.xs_types.specs.Sites.{told_first_site}
 use Rattle.xs_types.specs.Sizes.{variables_bits}

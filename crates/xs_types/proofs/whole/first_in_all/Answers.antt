@@ -1,7 +1,7 @@
 use Rattle.std.proofs.Common.{◌∙◌, ap}
-use Rattle.xs_kinds.specs.FirstBreach.{first_of}
-use Rattle.xs_kinds.specs.Models.{variable_breaches}
-use Rattle.xs_scope.specs.ModelTree.{model_tree}
+use Rattle.xs_type_laws.specs.FirstBreach.{first_of}
+use Rattle.xs_type_laws.specs.Models.{variable_breaches}
+use Rattle.xs_tree.specs.ModelTree.{model_tree}
 use Rattle.xs_types.specs.Sites.{told_first_site, earlier_site}
 use Rattle.xs_types.proofs.PartLaws.{all_sites}
 use Rattle.xs_types.proofs.whole.first_in_all.Goals as goal

@@ -2,7 +2,7 @@ use Rattle.std.proofs.Common.{◌≡◌, map, take}
 use Rattle.xs_tree.specs.Written.{branch_trees}
 use Rattle.xs_tree.specs.ProgramTree.{declared_tree}
 use Rattle.xs_fei.specs.Instructions.{mode_tree}
-use Rattle.xs_effects.specs.Templates.{stands, branch}
+use Rattle.xs_fei.specs.Templates.{stands, branch}
 use Rattle.xs_weave.proofs.slices.effect_branches.Given as goal
 
 abbrev pub invariant-loop-mode : goal.invariant-loop-mode

@@ -3,8 +3,8 @@ use Rattle.std.specs.Prelude.{IfOk}
 use Rattle.xs_tree.specs.ProgramTree.{declared_tree}
 use Rattle.xs_tree.specs.Written.{tree_of, branch_trees}
 use Rattle.xs_fei.specs.Instructions.{mode_tree}
-use Rattle.xs_effects.specs.AddedNames.{own_name}
-use Rattle.xs_effects.specs.Templates.{named, branch}
+use Rattle.xs_fei.specs.AddedNames.{own_name}
+use Rattle.xs_fei.specs.Templates.{named, branch}
 use Rattle.xs_weave.proofs.SliceLaws.{case_done}
 use Rattle.xs_weave.proofs.slices.read.Goals as goal
 

@@ -1,7 +1,7 @@
 use Rattle.std.proofs.Common.{◌≡◌, map, take}
 use Rattle.xs_tree.specs.Written.{branch_trees}
 use Rattle.xs_fei.specs.Instructions.{mode_tree}
-use Rattle.xs_effects.specs.Templates.{stands}
+use Rattle.xs_fei.specs.Templates.{stands}
 use Rattle.xs_weave.specs.Woven.{stay_branch}
 use Rattle.xs_weave.proofs.slices.stay_branches.Given as goal
 

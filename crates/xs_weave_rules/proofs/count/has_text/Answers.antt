@@ -1,4 +1,4 @@
-use Rattle.xs_effects.proofs.AllowedLaws.{same_text_test}
+use Rattle.xs_fei.proofs.AllowedLaws.{same_text_test}
 use Rattle.xs_weave_rules.proofs.count.has_text.Goals as goal
 
 pub returns : goal.returns

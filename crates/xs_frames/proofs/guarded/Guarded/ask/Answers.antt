@@ -1,7 +1,7 @@
 use Rattle.std.proofs.Common.{◌≡◌, ◌++◌, All, List, refl, sym, subst, arith}
 use Rattle.std.proofs.lemmas.Grind.{common_steps}
-use Rattle.xs_derive.specs.Derivation.{IsUpTo}
-use Rattle.xs_derive.specs.Hints.{HasNoOpposites}
+use Rattle.xs_lits.specs.Derivation.{IsUpTo}
+use Rattle.xs_lits.specs.Hints.{HasNoOpposites}
 use Rattle.xs_lits.specs.Literal.{Literal}
 use Rattle.xs_solver.specs.Kept.{IsAnswer, IsRefuted}
 use Rattle.xs_solver.specs.Search.{IsSolution}

@@ -1,5 +1,5 @@
 use Rattle.std.proofs.Common.{◌≡◌, ◌≤◌, ◌+◌, ◌-◌, ◌∙◌, ◌∷◌, [], ℕ, All, refl, sym, subst, ap, arith}
-use Rattle.xs_system.specs.declared.system.System.{System}
+use Rattle.xs_lits.specs.declared.system.System.{System}
 use Rattle.xs_frames.specs.Apart.{apart_list, IsNear}
 use Rattle.xs_frames.specs.Guarding.{IsHolding, HasRoomFor}
 use Rattle.xs_frames.proofs.ApartLaws.{apart_is, near_list}

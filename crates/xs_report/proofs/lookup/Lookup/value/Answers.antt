@@ -1,5 +1,5 @@
 use Rattle.std.proofs.Common.{Result, Ok, Err, subst, IfOk}
-use Rattle.xs_scope.specs.ModelTree.{model_tree}
+use Rattle.xs_tree.specs.ModelTree.{model_tree}
 use Rattle.xs_report.specs.Lookups.{IsFoundAt}
 use Rattle.xs_report.specs.ValueReading.{IsReadIn}
 use Rattle.xs_report.proofs.LookupLaws.{value_found}

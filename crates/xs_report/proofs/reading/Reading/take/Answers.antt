@@ -1,5 +1,5 @@
 use Rattle.std.proofs.Common.{◌≡◌, ◌≢◌, ◌++◌, List, ℕ, [], ◌∷◌, length, true, false, nat_eq, Result, Ok, Err, refl, sym, ◌∙◌, ap, arith, eqb-true, OnOk, IfErr}
-use Rattle.xs_scope.specs.ModelTree.{model_tree}
+use Rattle.xs_tree.specs.ModelTree.{model_tree}
 use Rattle.xs_report.specs.Reading.{Begins, GivesLine, IsRefusedLine, IsAfter}
 use Rattle.xs_report.specs.Faults.{IsCauseOf}
 use Rattle.xs_report.proofs.Steps.{after_empty, after_value, after_moment}

@@ -1,7 +1,7 @@
 -- The items so far, with those that are left, are all.
 use Rattle.std.proofs.Common.{◌≡◌, map, drop}
 use Rattle.xs_tree.specs.ProgramTree.{assignment_tree}
-use Rattle.xs_flattening.specs.Items.{an_assignment}
+use Rattle.xs_flat_laws.specs.Items.{an_assignment}
 use Rattle.xs_scope.specs.ItemTree.{counted_of, with_items}
 use Rattle.xs_scope.proofs.items.ItemList.add_assignments.Given as goal
 

@@ -1,8 +1,8 @@
 -- The items so far, with those that are left, are all.
 use Rattle.std.proofs.Common.{◌≡◌, map, drop}
 use Rattle.xs_tree.specs.ProgramTree.{decl_tree}
-use Rattle.xs_flattening.specs.Items.{a_declaration}
-use Rattle.xs_scope.specs.ModelTree.{role_of}
+use Rattle.xs_flat_laws.specs.Items.{a_declaration}
+use Rattle.xs_tree.specs.ModelTree.{role_of}
 use Rattle.xs_scope.specs.ItemTree.{counted_of, with_items}
 use Rattle.xs_scope.proofs.items.ItemList.add_decls.Given as goal
 

@@ -3,7 +3,7 @@ use Rattle.std.proofs.Common.{rules, ◌≡◌, ◌<◌, ◌≤◌, length, get_
 use Rattle.std.specs.List.{flat_map}
 use Rattle.std.proofs.lemmas.List.{drop_all}
 use Rattle.xs_tree.specs.ProgramTree.{module_tree, section_tree}
-use Rattle.xs_flattening.specs.Items.{items_of, items_of_section}
+use Rattle.xs_flat_laws.specs.Items.{items_of, items_of_section}
 use Rattle.xs_scope.specs.ItemTree.{counted_of, with_items}
 use Rattle.xs_scope.proofs.ItemLaws.{section_more, counted_all}
 use Rattle.xs_scope.proofs.items.ItemList.of_module.Goals as goal

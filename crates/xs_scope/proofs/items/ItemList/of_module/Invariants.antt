@@ -2,7 +2,7 @@
 use Rattle.std.proofs.Common.{◌≡◌, [], map, drop}
 use Rattle.std.specs.List.{flat_map}
 use Rattle.xs_tree.specs.ProgramTree.{section_tree}
-use Rattle.xs_flattening.specs.Items.{items_of_section}
+use Rattle.xs_flat_laws.specs.Items.{items_of_section}
 use Rattle.xs_scope.specs.ItemTree.{counted_of, with_items}
 use Rattle.xs_scope.proofs.items.ItemList.of_module.Given as goal
 

@@ -3,7 +3,7 @@ use Rattle.std.proofs.Common.{rules, List, ◌≡◌, suc, ◌+◌, ◌++◌, �
 use Rattle.std.specs.Prelude.{Vec}
 use Rattle.std.specs.declared.alloc.Global.{Global}
 use Rattle.xs_tree.specs.ProgramTree.{ModuleTree, module_tree}
-use Rattle.xs_flattening.specs.Items.{items_of}
+use Rattle.xs_flat_laws.specs.Items.{items_of}
 use Rattle.xs_scope.specs.declared.items.Numbered.{Numbered}
 use Rattle.xs_scope.specs.declared.modules.Modules.{Modules}
 use Rattle.xs_scope.specs.declared.modules.Names.{Names}

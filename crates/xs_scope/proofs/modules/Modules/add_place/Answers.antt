@@ -2,7 +2,7 @@
 use Rattle.std.proofs.Common.{rules, ◌≡◌, true, false, ◌&&◌, ◌++◌, ◌∷◌, [], codes, length, List, ap, ◌∙◌, sym}
 use Rattle.xs_tree.specs.ProgramTree.{Text, ModuleTree, module_tree}
 use Rattle.xs_tree.specs.Texts.{same_text, is_among}
-use Rattle.xs_flattening.specs.Rules.{has_formals, is_module_among}
+use Rattle.xs_flat_laws.specs.Rules.{has_formals, is_module_among}
 use Rattle.xs_scope.specs.Reading.{trees_read, texts_of}
 use Rattle.xs_scope.specs.SceneTree.{named}
 use Rattle.xs_scope.proofs.HeaderLaws.{module_seen, header_by}

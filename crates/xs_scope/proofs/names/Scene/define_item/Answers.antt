@@ -2,7 +2,7 @@
 use Rattle.std.proofs.Common.{◌≡◌, None, refl, sym, ap, rules}
 use Rattle.xs_tree.specs.ProgramTree.{decl_tree, define_tree}
 use Rattle.xs_scope.specs.ItemTree.{item_tree}
-use Rattle.xs_scope.specs.ModelTree.{role_of}
+use Rattle.xs_tree.specs.ModelTree.{role_of}
 use Rattle.xs_scope.specs.Steps.{numbered_at}
 use Rattle.xs_scope.proofs.Naming.{same_start}
 use Rattle.xs_scope.proofs.NamingItems.{define_named, declared_named, other_named, no_item_named, no_names}

@@ -1,7 +1,7 @@
 -- The tables of a scene are filled one after another.
 use Rattle.std.proofs.Common.{◌<◌, length, rules, sym, ◌∙◌, ap, subst}
-use Rattle.xs_flattening.specs.Model.{symbols_of}
-use Rattle.xs_scope.specs.Symbols.{texts}
+use Rattle.xs_flat_laws.specs.Model.{symbols_of}
+use Rattle.xs_tree.specs.BorrowedTexts.{texts}
 use Rattle.xs_scope.specs.declared.names.Scene.{Scene}
 use Rattle.xs_scope.proofs.SceneSymbols.{symbols_are}
 use Rattle.xs_scope.proofs.Starting.{laid_start, named_start, ready_start, keys_stay, program_stays}

@@ -13,7 +13,7 @@ use Rattle.xs_scope.specs.declared.walk.Spot.{Spot}
 use Rattle.xs_scope.specs.declared.walk.Walk.{Walk}
 use Rattle.xs_scope.specs.declared.walk.Meaning.{Meaning as Found}
 use Rattle.xs_scope.specs.ItemTree.{numbered_tree}
-use Rattle.xs_scope.specs.ModelTree.{role_of}
+use Rattle.xs_tree.specs.ModelTree.{role_of}
 use Rattle.xs_scope.specs.Reading.{IsTold}
 use Rattle.xs_scope.specs.Walking.{program_in, on_path_of, visits_at, visits_here, visits_within, visits_told, told_from, instance_told, declared_item, HasMet, IsEntry, IsStanding}
 use Rattle.xs_scope.proofs.PassedOn.{passed_on}

@@ -1,6 +1,6 @@
 -- The variable stands last.
 use Rattle.std.proofs.Common.{◌∙◌, refl, ap}
-use Rattle.xs_scope.specs.ModelTree.{role_of}
+use Rattle.xs_tree.specs.ModelTree.{role_of}
 use Rattle.xs_scope.proofs.MetLaws.{met_variable}
 use Rattle.xs_scope.proofs.walk.Walk.add_variable.Goals as goal
 

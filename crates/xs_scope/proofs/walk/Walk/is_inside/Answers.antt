@@ -2,7 +2,7 @@
 use Rattle.std.proofs.Common.{rules, ◌≡◌, ◌<◌, List, Bor, ℕ, true, false, length, get_or, ap, ◌∙◌, sym, subst}
 use Rattle.std.proofs.lemmas.List.{drop_all}
 use Rattle.xs_tree.specs.Texts.{same_text, is_among}
-use Rattle.xs_scope.specs.Symbols.{texts}
+use Rattle.xs_tree.specs.BorrowedTexts.{texts}
 use Rattle.xs_scope.proofs.HeaderLaws.{same_test}
 use Rattle.xs_scope.proofs.PathLaws.{among_reverse, outer_same, outer_other}
 use Rattle.xs_scope.proofs.walk.Walk.is_inside.Goals as goal

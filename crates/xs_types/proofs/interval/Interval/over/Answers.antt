@@ -4,7 +4,7 @@ use mir.Syntax.{w64}
 use mir.Val.{SFits}
 use Rattle.xs_types.specs.Told.{fitting}
 use Rattle.std.specs.Prelude.{int_div}
-use Rattle.xs_kinds.specs.Intervals.{hull, just}
+use Rattle.xs_type_laws.specs.Intervals.{hull, just}
 use Rattle.xs_types.proofs.IntervalLaws.{by_corners}
 use Rattle.xs_types.proofs.interval.Interval.over.Goals as goal
 

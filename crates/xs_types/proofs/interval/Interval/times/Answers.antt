@@ -3,7 +3,7 @@ use Rattle.std.proofs.lemmas.Int.{to_z-of_z}
 use mir.Syntax.{w64}
 use mir.Val.{SFits}
 use Rattle.xs_types.specs.Told.{fitting}
-use Rattle.xs_kinds.specs.Intervals.{hull, just}
+use Rattle.xs_type_laws.specs.Intervals.{hull, just}
 use Rattle.xs_types.proofs.IntervalLaws.{by_corners}
 use Rattle.xs_types.proofs.interval.Interval.times.Goals as goal
 

@@ -1,11 +1,11 @@
 use Rattle.std.proofs.Common.{◌∙◌, ap, not, refl, sym, subst}
 use Rattle.xs_tree.specs.Texts.{is_among}
-use Rattle.xs_scope.specs.Symbols.{texts}
+use Rattle.xs_tree.specs.BorrowedTexts.{texts}
 use Rattle.xs_types.specs.Met.{has_met, AddsMember}
 use Rattle.xs_types.specs.declared.members.Met.{Met}
 use Rattle.xs_types.proofs.MetLaws.{symbol_added}
 use Rattle.xs_types.proofs.members.Met.add.Goals as goal
-use Rattle.xs_scope.proofs.SymbolLaws.{any_among}
+use Rattle.xs_tree.proofs.BorrowedTexts.{any_among}
 
 pub returns-in_ok-insert-in-Symbol-clause-new : goal.returns-in_ok-insert-in-Symbol-clause-new
 returns-in_ok-insert-in-Symbol-clause-new c =

@@ -1,2 +1,0 @@
-pub mod Analysis
-pub mod AnalysisText

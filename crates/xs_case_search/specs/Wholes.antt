@@ -1,0 +1,21 @@
+-- A model with the history of its faults, over the models and faults of the code.
+use Rattle.std.specs.Prelude.{◌≡◌, List, map}
+use Rattle.xs_tree.specs.Tree.{Tree}
+use Rattle.xs_tree.specs.declared.model.FlatModel.{FlatModel}
+use Rattle.xs_tree.specs.declared.model.Fault.{Fault}
+use Rattle.xs_tree.specs.ModelTree.{model_tree}
+use Rattle.xs_flat_laws.specs.FaultModes.{mode_of}
+use Rattle.xs_tree.specs.Flat.{FlatLeaf, FlatModel as ModelTree}
+use Rattle.xs_flat_laws.specs.History.{Mode, with_history}
+use Rattle.xs_cut_laws.specs.Searchable.{IsSearchable}
+
+abbrev pub modes_of : List Fault → List Mode
+modes_of faults = map mode_of faults
+
+abbrev pub whole_of : FlatModel → List Fault → ModelTree
+whole_of m faults = with_history (model_tree m) (modes_of faults)
+
+-- the second model is the first with the history of the faults, and these and the top event can be searched
+pub record CanBeSearched (plain full : FlatModel) (faults : List Fault) (top : Tree FlatLeaf) : Type 0 where
+  pub whole : model_tree full ≡ whole_of plain faults
+  pub searchable : IsSearchable (model_tree plain) (modes_of faults) top

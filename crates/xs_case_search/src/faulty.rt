@@ -1,0 +1,116 @@
+//! A model with faults and a top event, as a search sees it.
+
+ghost use Rattle.std.specs.Prelude.{◌≡◌, IfOk, length};
+ghost use Rattle.xs_tree.specs.ModelTree.{model_tree};
+ghost use Rattle.xs_encode_laws.specs.Encodable.{IsEncodable};
+ghost use Rattle.xs_case_search.specs.Reads.{IsRead};
+
+use std::alloc::Global;
+use xs_cuts::encoded::Encoded;
+use xs_encode::{bad_clauses, encode, state_of, valuation_of};
+use xs_lits::System;
+use xs_lits::assign::Assign;
+use xs_lits::clause::ClauseList;
+use xs_tree::Expr;
+use xs_tree::model::{FaultList, Flat};
+use xs_types::Typed;
+use xs_value::{OutOfMemory, SetList, Valuation, Value};
+
+/// A model, the model with the history of its faults, and a top event.
+#[derive(Drop)]
+pub(crate) struct Faulty<'a> {
+    pub(crate) plain: &'a Typed,
+    pub(crate) full: &'a Typed,
+    pub(crate) faults: &'a FaultList,
+    pub(crate) top: &'a Expr<Flat>,
+}
+
+/// A valuation with a value for each variable of a model, which no one has asked for.
+fn blank(alloc: Global, t: &Typed) -> Result<Valuation, OutOfMemory>
+    ensures { IfOk result (λ v. length v ≡ length t.now.model.variables) }
+{
+    let mut blank = Valuation::new(alloc);
+    for _variable in t.model().variables.as_slice() {
+        blank.push(Value::Bool(false))?;
+    }
+    Ok(blank)
+}
+
+/// Reads a moment that gives its state, and its inputs unless it is the last one: these get the least values.
+fn fill(t: &Typed, moment: &Assign, last: bool, values: &mut Valuation)
+    requires encodable { IsEncodable (model_tree t.now.model) }
+    requires long { length values.old ≡ length t.now.model.variables }
+    ensures { IsRead (model_tree t.now.model) last moment.now values.new }
+{
+    if last {
+        state_of(t, moment, values);
+    } else {
+        valuation_of(t, moment, values);
+    }
+}
+
+/// The valuation of a moment.
+fn read(alloc: Global, t: &Typed, moment: &Assign, last: bool) -> Result<Valuation, OutOfMemory>
+    requires { IsEncodable (model_tree t.now.model) }
+    ensures { IfOk result (λ v. IsRead (model_tree t.now.model) last moment.now v) }
+{
+    let mut values = blank(alloc, t)?;
+    fill(t, moment, last, &mut values);
+    Ok(values)
+}
+
+impl<'a> Encoded for Faulty<'a> {
+    ghost use Rattle.xs_tree.specs.ModelTree.{model_tree, flat_tree};
+    ghost use Rattle.xs_encode_laws.specs.Bits as bits;
+    ghost use Rattle.xs_encode_laws.specs.Lists.{system_of};
+    ghost use Rattle.xs_case_search.specs.Wholes.{modes_of, whole_of, CanBeSearched};
+
+    ghost model = { λ f. model_tree f.plain.now.model };
+
+    ghost modes = { λ f. modes_of f.faults.now };
+
+    ghost top = { λ f. flat_tree f.top.now };
+
+    ghost system = { λ f. system_of (whole_of f.plain.now.model f.faults.now) };
+
+    ghost state_of = { λ f. bits.state_of (whole_of f.plain.now.model f.faults.now) };
+
+    ghost inputs_of = { λ f. bits.inputs_of (whole_of f.plain.now.model f.faults.now) };
+
+    ghost searchable = { λ f. CanBeSearched f.plain.now.model f.full.now.model f.faults.now (flat_tree f.top.now) };
+
+    fn encode(&self, alloc: Global) -> Result<System, OutOfMemory> {
+        let system = encode(alloc, self.full)?;
+        Ok(system)
+    }
+
+    fn is_searched(&self) {}
+
+    fn bad_clauses(
+        &self,
+        alloc: Global,
+        listed: &SetList,
+        size: u32,
+    ) -> Result<ClauseList, OutOfMemory> {
+        let faults = self.faults.len() as u32;
+        let clauses = bad_clauses(alloc, self.full, self.top, listed, faults, size.min(faults))?;
+        Ok(clauses)
+    }
+
+    fn valuation_of(
+        &self,
+        alloc: Global,
+        moment: &Assign,
+        last: bool,
+    ) -> Result<Valuation, OutOfMemory> {
+        read(alloc, self.full, moment, last)
+    }
+
+    fn variables(&self) -> usize {
+        self.plain.model().variables.len()
+    }
+
+    fn faults(&self) -> usize {
+        self.faults.len()
+    }
+}

@@ -1,0 +1,62 @@
+//! The texts of traces, as lines.
+//!
+//! [`texts_of`] prints each trace of an analysis and cuts its text at the line feeds.
+ghost use Rattle.std.specs.Prelude.{◌≡◌, ◌<◌, ◌^◌, map, length, All, IfOk};
+ghost use Rattle.xs_certificate_laws.specs.CertificateText.{IsWritableText};
+ghost use Rattle.xs_case_search.specs.Texts.{AreLinesIn, text_lines, CanBePrinted};
+
+use std::alloc::Global;
+use xs_cert::{LineList, TextList};
+use xs_report::print_trace;
+use xs_types::Typed;
+use xs_value::{ByteList, MomentList, OutOfMemory};
+
+// The lines of a text that end in a line feed.
+fn lines(alloc: Global, bytes: &[u8]) -> Result<LineList, OutOfMemory>
+    ensures { IfOk result (AreLinesIn bytes.now) }
+{
+    let mut lines = LineList::new(alloc);
+    let mut line = ByteList::new(alloc);
+    for byte in bytes {
+        if *byte == b'\n' {
+            lines.push(line)?;
+            line = ByteList::new(alloc);
+        } else {
+            line.push(*byte)?;
+        }
+    }
+    Ok(lines)
+}
+
+// The number of lines, which memory keeps small.
+fn count(lines: &LineList) -> usize
+    ensures value { result ≡ length lines.now }
+    ensures small { result < 2 ^ 63 }
+{
+    lines.as_slice().len()
+}
+
+// The lines of a trace's text.
+fn text_of(alloc: Global, t: &Typed, trace: &MomentList) -> Result<LineList, OutOfMemory>
+    requires { CanBePrinted t.now.model trace.now }
+    ensures lines { IfOk result (λ text. text ≡ text_lines t.now.model trace.now) }
+    ensures writable { IfOk result (λ text. IsWritableText text) }
+{
+    let text = print_trace(alloc, t, trace)?;
+    let list = lines(alloc, text.as_slice())?;
+    let _count = count(&list);
+    Ok(list)
+}
+
+/// The texts of traces, each as its lines.
+pub fn texts_of(alloc: Global, t: &Typed, traces: &[MomentList]) -> Result<TextList, OutOfMemory>
+    requires { All (CanBePrinted t.now.model) traces.now }
+    ensures lines { IfOk result (λ texts. texts ≡ map (text_lines t.now.model) traces.now) }
+    ensures writable { IfOk result (λ texts. All IsWritableText texts) }
+{
+    let mut texts = TextList::new(alloc);
+    for trace in traces {
+        texts.push(text_of(alloc, t, trace)?)?;
+    }
+    Ok(texts)
+}

@@ -1,0 +1,97 @@
+//! The analysis of a typed model.
+
+ghost use Rattle.std.specs.Prelude.{◌≡◌, IfOk};
+ghost use Rattle.xs_tree.specs.ModelTree.{model_tree, flat_tree};
+ghost use Rattle.xs_cuts.specs.Answer.{IsAnswer};
+ghost use Rattle.xs_encode_laws.specs.Bits.{state_of, inputs_of};
+ghost use Rattle.xs_encode_laws.specs.Lists.{system_of};
+ghost use Rattle.xs_cut_laws.specs.Searchable.{IsSearchable};
+ghost use Rattle.xs_case_search.specs.Wholes.{modes_of, whole_of};
+
+use crate::faulty::Faulty;
+use std::alloc::Global;
+use xs_adviser::Panel;
+use xs_cuts::answer::Analysis;
+use xs_cuts::search;
+use xs_frames::Frames;
+use xs_tree::Expr;
+use xs_tree::model::{FaultList, Flat};
+use xs_types::Typed;
+use xs_value::OutOfMemory;
+
+/// The minimal sets of at most so many faults with which the top event can be reached, each with a trace of `plain`
+/// that shows it: for all traces, or for those of at most as many steps as the depth. `full` is `plain` with the
+/// history of the faults.
+pub fn analyse(
+    alloc: Global,
+    plain: &Typed,
+    full: &Typed,
+    faults: &FaultList,
+    top: &Expr<Flat>,
+    depth: u32,
+    size: u32,
+    panel: &mut Panel,
+) -> Result<Analysis, OutOfMemory>
+    requires whole { model_tree full.now.model ≡ whole_of plain.now.model faults.now }
+    requires searchable { IsSearchable (model_tree plain.now.model) (modes_of faults.now) (flat_tree top.now) }
+    ensures { IfOk result (IsAnswer (model_tree plain.now.model) (modes_of faults.now) (flat_tree top.now) (system_of (whole_of plain.now.model faults.now)) (state_of (whole_of plain.now.model faults.now)) (inputs_of (whole_of plain.now.model faults.now)) depth size) }
+{
+    let model = Faulty {
+        plain,
+        full,
+        faults,
+        top,
+    };
+    search::analyse(alloc, &model, depth, size, panel)
+}
+
+/// The frames of a model with faults that a top event can be searched in. They know nothing of the event, and serve for
+/// every other of the model (see [`analyse_in`]).
+pub fn frames_of(
+    alloc: Global,
+    plain: &Typed,
+    full: &Typed,
+    faults: &FaultList,
+    top: &Expr<Flat>,
+) -> Result<Frames, OutOfMemory>
+    requires whole { model_tree full.now.model ≡ whole_of plain.now.model faults.now }
+    requires searchable { IsSearchable (model_tree plain.now.model) (modes_of faults.now) (flat_tree top.now) }
+    ensures { IfOk result (λ f. f.system ≡ system_of (whole_of plain.now.model faults.now)) }
+{
+    let model = Faulty {
+        plain,
+        full,
+        faults,
+        top,
+    };
+    let frames = search::frames_of(alloc, &model)?;
+    Ok(frames)
+}
+
+/// What `analyse` answers, found in frames of the model that may have served for other top events. What they learned of
+/// the first states stays, which holds whatever the top event is; the rest is learned anew.
+pub fn analyse_in(
+    alloc: Global,
+    plain: &Typed,
+    full: &Typed,
+    faults: &FaultList,
+    top: &Expr<Flat>,
+    depth: u32,
+    size: u32,
+    frames: &mut Frames,
+    panel: &mut Panel,
+) -> Result<Analysis, OutOfMemory>
+    requires whole { model_tree full.now.model ≡ whole_of plain.now.model faults.now }
+    requires searchable { IsSearchable (model_tree plain.now.model) (modes_of faults.now) (flat_tree top.now) }
+    requires system { frames.old.system ≡ system_of (whole_of plain.now.model faults.now) }
+    ensures system { frames.new.system ≡ frames.old.system }
+    ensures answer { IfOk result (IsAnswer (model_tree plain.now.model) (modes_of faults.now) (flat_tree top.now) (system_of (whole_of plain.now.model faults.now)) (state_of (whole_of plain.now.model faults.now)) (inputs_of (whole_of plain.now.model faults.now)) depth size) }
+{
+    let model = Faulty {
+        plain,
+        full,
+        faults,
+        top,
+    };
+    search::analyse_in(alloc, &model, depth, size, frames, panel)
+}

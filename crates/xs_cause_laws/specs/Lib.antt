@@ -1,0 +1,15 @@
+pub mod Causes
+pub mod Caused
+pub mod CausesText
+pub mod CauseRules
+pub mod Staged
+pub mod Told
+pub mod Laws
+pub mod Added
+pub mod Columns
+pub mod AddedLaws
+pub mod CausesRightLaws
+pub mod CausedTraces
+pub mod CausesExtendedLaws
+pub mod FaultNamesLaws
+pub mod Lamps

@@ -1,0 +1,122 @@
+//! Common causes: events that bring several faults about within a window of steps.
+//!
+//! `specs/Caused.antt` says when a trace with moments of causes is a caused trace, and what its events are. `CausesText` and
+//! `CauseRules` have the grammar and the rules of a causes file. `Staged` is the model whose traces are the caused traces,
+//! and `Told` what its variables tell of one. `Laws` has the theorems, which the contracts below carry.
+//!
+//! ```text
+//! // CAUSE Surge WITHIN 0..0 STRIKES A.on, B.on;
+//! // Surge#age is 1 at the moment of the surge, and Surge#hit#1 and Surge#hit#2 must be TRUE there
+//! ```
+//!
+//! Flat models with further variables after their own.
+//!
+//! An addition is variables, symbols and formulas that stand after a model's own (`specs/Added.antt`). The traces of the
+//! model with it are the model's own, each with values of the added variables that meet the added formulas (`Laws`), which
+//! the contract below carries: so whoever adds variables speaks of the added formulas alone.
+//!
+//! ```text
+//! // a trace of two variables beside one added bit: (v ++ TRUE), (w ++ FALSE), ..
+//! ```
+//!
+//! What is right for the traces of the staged model of causes is right for caused traces and their events.
+//!
+//! `specs/Laws.antt` has the theorems, which the contract below carries: a caused trace corresponds to what the staged model
+//! tells of it, so that sets of events that are right for all staged traces, or for those of at most k steps, are right for
+//! caused traces, and so exactly their minimal cut sets.
+//!
+//! ```text
+//! // events 1 and 2 are the faults, event 3 is the cause: the sets 3 and 1 2
+//! ```
+//!
+//! Caused traces over extended traces.
+//!
+//! A caused trace is an extended trace with a moment or none for each cause (`specs/CausedTraces.antt`). `Laws` has the theorems,
+//! which the contracts below carry: an extension's model meets what the staged model asks of it, and sets of events that are
+//! right for flat caused traces are right for caused traces.
+//!
+//! ```text
+//! // a surge at moment 2 with the window 0..1: each struck mode stands at moment 2 or 3, or the trace ends before 3
+//! ```
+//!
+//! That no two faults of an extension have one name.
+//!
+//! A fault's name is written by dots: the instances from `main` on, the slice, and the mode. The program breaks no rule of
+//! flattening, and no item of the instructions breaks a rule. Then the names in the list of faults are all different,
+//! so that a file of causes or a report that gives a name means one fault, and the first fault of a name is the only
+//! one. The laws are stated in `specs/Laws.antt`; the function below carries them and runs nothing.
+//!
+//! The proofs go from names to lists. `Differ` has lists in which nothing stands twice. `Declared` has the rule that a
+//! module declares no name twice, and `Places` that so no instance is listed twice. `Slices` has the rules that no
+//! two slices of a file have one name, and no two modes of a slice. `Names` puts them together: the last two parts of a
+//! name are the slice and the mode, and those before them are the instance. `Causes` and `Events` have what follows for
+//! causes, and `Accepted` that the example breaks no rule.
+//!
+//! ```text
+//! // MODULE Lamp VAR on : boolean; ..  MODULE main VAR a : Lamp; b : Lamp;
+//! // EXTENSION OF MODULE Lamp SLICE Bulb AFFECTS on WITH MODE dark : Permanent StuckAt(FALSE);
+//! // the faults are a.Bulb.dark and b.Bulb.dark
+//! ```
+#![tactic(auto)]
+
+ghost use Rattle.xs_cause_laws.specs.Laws.{StagedTracesAreCaused, OneTraceEach, StagedEventsAreEvents, UncausedAreTraces};
+ghost use Rattle.xs_cause_laws.specs.AddedLaws.{AdditionsAreExact};
+ghost use Rattle.xs_cause_laws.specs.CausesRightLaws.{AllRightIsCaused, ShortRightIsCaused};
+ghost use Rattle.xs_cause_laws.specs.CausesExtendedLaws.{ExtensionsAreStaged, AllRightIsCausedExtended, ShortRightIsCausedExtended};
+ghost use Rattle.xs_cause_laws.specs.FaultNamesLaws.{NamesDiffer, NamesTellFaults, NamesMeanOne, CausesReadAsOne, EventNamesDiffer};
+ghost use Rattle.xs_cause_laws.specs.Lamps.{LampsHaveTwoNames};
+
+/// The traces of the staged model are exactly the caused traces.
+pub fn staged_traces_are_caused()
+    ensures { StagedTracesAreCaused }
+{}
+
+/// Each caused trace is told by one staged trace alone.
+pub fn one_trace_each()
+    ensures { OneTraceEach }
+{}
+
+/// The events of a staged trace are those of its caused trace.
+pub fn staged_events_are_events()
+    ensures { StagedEventsAreEvents }
+{}
+
+/// Where no cause has a moment, the caused traces are the traces, and their events the faults that have failed.
+pub fn uncaused_are_traces()
+    ensures { UncausedAreTraces }
+{}
+
+/// The traces of a model with an addition are its own traces with values of the added variables that meet what is asked
+/// of them.
+pub fn additions_are_exact()
+    ensures { AdditionsAreExact }
+{}
+
+/// Sets that are right for staged traces are right for caused traces, with events in place of faults.
+pub fn right_is_caused()
+    ensures all { AllRightIsCaused }
+    ensures short { ShortRightIsCaused }
+{}
+
+/// An extension's model, its modes and causes that strike its faults can be staged, and its top event is an expression of it.
+pub fn extensions_are_staged()
+    ensures { ExtensionsAreStaged }
+{}
+
+/// Sets of events that are right for flat caused traces, for all or for those of at most k steps, are right for caused traces.
+pub fn right_is_caused_extended()
+    ensures all { AllRightIsCausedExtended }
+    ensures short { ShortRightIsCausedExtended }
+{}
+
+/// No two faults of an extension have one name. A name's parts tell its fault, it is that of one number alone, and causes
+/// that are written with names can be read in one way. With lawful causes no two events have one name. Two lamps of one
+/// module have one fault each, as an example.
+pub fn names_of_faults_differ()
+    ensures names { NamesDiffer }
+    ensures faults { NamesTellFaults }
+    ensures numbers { NamesMeanOne }
+    ensures causes { CausesReadAsOne }
+    ensures events { EventNamesDiffer }
+    ensures example { LampsHaveTwoNames }
+{}

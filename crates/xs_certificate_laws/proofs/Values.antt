@@ -1,0 +1,78 @@
+-- What clauses are under assignments that agree with a state.
+use Rattle.std.proofs.Common.{◌≡◌, ℕ, zero, suc, ◌+◌, ◌<◌, Bool, true, false, ◌||◌, ◌&&◌, List, [], ◌∷◌, ◌++◌, length, map, refl, sym, ◌∙◌, ap, arith}
+use Rattle.std.specs.Prelude.{Contains, All, Any, slice_index_or}
+use Rattle.std.proofs.lemmas.List.Elements.{All-contains, All-head, All-tail, All-nil, All-cons}
+use Rattle.std.proofs.lemmas.List.Folds.{Any-from_list_any, list_any-from_Any}
+use Rattle.xs_lits.specs.Literal.{Literal}
+use Rattle.xs_lits.specs.Models.{TotalAssignment, literal_value, clause_value, all_true, Satisfies}
+use Rattle.xs_lits.specs.States.{State, Agrees}
+
+-- Lists of clauses.
+left_true : (a b : Bool) → (a && b) ≡ true → a ≡ true
+left_true true b e = refl
+left_true false b e = cc
+
+right_true : (a b : Bool) → (a && b) ≡ true → b ≡ true
+right_true true b e = e
+right_true false b e = cc
+
+both_true : (a b : Bool) → a ≡ true → b ≡ true → (a && b) ≡ true
+both_true true b e g = g
+both_true false b e g = cc
+
+pub satisfies_left : (v : TotalAssignment) (cs ds : List (List Literal)) → Satisfies v (cs ++ ds) → Satisfies v cs
+satisfies_left v [] ds h = refl
+satisfies_left v (c ∷ cs) ds h =
+    both_true (clause_value v c) (all_true v cs) (left_true (clause_value v c) (all_true v (cs ++ ds)) h) (satisfies_left v cs ds (right_true (clause_value v c) (all_true v (cs ++ ds)) h))
+
+pub satisfies_both : (v : TotalAssignment) (cs ds : List (List Literal)) → Satisfies v cs → Satisfies v ds → Satisfies v (cs ++ ds)
+satisfies_both v [] ds h k = k
+satisfies_both v (c ∷ cs) ds h k =
+    both_true (clause_value v c) (all_true v (cs ++ ds)) (left_true (clause_value v c) (all_true v cs) h) (satisfies_both v cs ds (right_true (clause_value v c) (all_true v cs) h) k)
+
+pub satisfies_one : (v : TotalAssignment) (c : List Literal) → clause_value v c ≡ true → Satisfies v (c ∷ [])
+satisfies_one v c e = both_true (clause_value v c) true e refl
+
+pub each_true : (v : TotalAssignment) (cs : List (List Literal)) → Satisfies v cs → All (λ c. clause_value v c ≡ true) cs
+each_true v [] h = All-nil (λ c. clause_value v c ≡ true)
+each_true v (c ∷ cs) h =
+    All-cons (λ c. clause_value v c ≡ true) c cs (left_true (clause_value v c) (all_true v cs) h) (each_true v cs (right_true (clause_value v c) (all_true v cs) h))
+
+pub all_from_each : (v : TotalAssignment) (cs : List (List Literal)) → All (λ c. clause_value v c ≡ true) cs → Satisfies v cs
+all_from_each v [] h = refl
+all_from_each v (c ∷ cs) h =
+    both_true (clause_value v c) (all_true v cs) (All-head (λ c. clause_value v c ≡ true) c cs h) (all_from_each v cs (All-tail (λ c. clause_value v c ≡ true) c cs h))
+
+pub one_of_them : (v : TotalAssignment) (cs : List (List Literal)) (c : List Literal) → Satisfies v cs → Contains cs c → clause_value v c ≡ true
+one_of_them v cs c h m = All-contains (λ c. clause_value v c ≡ true) cs c (each_true v cs h) m
+
+-- a clause whose literals are all in another makes that true
+pub covered_true : (v : TotalAssignment) (c needed : List Literal) → All (Contains needed) c → clause_value v c ≡ true → clause_value v needed ≡ true
+covered_true v c needed inside e =
+    let some : Any (λ l. literal_value v l ≡ true) c = Any-from_list_any (literal_value v) c e in
+    let there : Contains needed some.1 = All-contains (Contains needed) c some.1 inside (some.0, some.2, some.3) in
+    list_any-from_Any (literal_value v) needed (there.0, some.1, there.1, there.2, some.4)
+
+-- States.
+next_place : (n i : ℕ) → n + 1 + i ≡ n + suc i
+next_place n i = omega arith
+
+first_place : (n : ℕ) → n + 0 ≡ n
+first_place n = omega arith
+
+pub agrees_at : (v : TotalAssignment) (n i : ℕ) (s : State) → Agrees v n s → i < length s → v (n + i) ≡ slice_index_or s i false
+agrees_at v n i [] g lt = absurd (omega (arith, lt))
+agrees_at v n zero (b ∷ s) g lt = ap v (first_place n) ∙ g.0
+agrees_at v n (suc i) (b ∷ s) g lt = ap v (sym (next_place n i)) ∙ agrees_at v (n + 1) i s g.1 (omega (arith, lt))
+
+-- clauses whose literals have the same values have the same value
+pub same_clause : (v w : TotalAssignment) (f : Literal → Literal) (c : List Literal) → All (λ l. literal_value v (f l) ≡ literal_value w l) c → clause_value v (map f c) ≡ clause_value w c
+same_clause v w f [] h = refl
+same_clause v w f (l ∷ ls) h =
+    let here : literal_value v (f l) ≡ literal_value w l = All-head (λ l. literal_value v (f l) ≡ literal_value w l) l ls h in
+    let rest : clause_value v (map f ls) ≡ clause_value w ls = same_clause v w f ls (All-tail (λ l. literal_value v (f l) ≡ literal_value w l) l ls h) in
+    ap (λ b. b || clause_value v (map f ls)) here ∙ ap (λ b. literal_value w l || b) rest
+
+pub map_same : (c : List Literal) → map (λ l. l) c ≡ c
+map_same [] = refl
+map_same (l ∷ ls) = ap (λ ks. l ∷ ks) (map_same ls)

@@ -1,0 +1,16 @@
+pub mod Certified
+pub mod Completeness
+pub mod Analysed
+pub mod ExtendedTraces
+pub mod Laws
+pub mod Certificate
+pub mod CertificateText
+pub mod Accepted
+pub mod Derived
+pub mod Sites
+pub mod Judgement
+pub mod CertificateLaws
+pub mod TextLaws
+pub mod LineReading
+pub mod Expecting
+pub mod Subject

@@ -1,0 +1,15 @@
+pub mod Numbers
+pub mod Orders
+pub mod DigitMeans
+pub mod WordMeans
+pub mod SumMeans
+pub mod TestMeans
+pub mod CountMeans
+pub mod ProductMeans
+pub mod QuotientMeans
+pub mod DivideMeans
+pub mod Examples
+pub mod Extension
+pub mod Rows
+pub mod Turns
+pub mod GatesExamples

@@ -1,0 +1,10 @@
+pub mod Bits
+pub mod Words
+pub mod Sums
+pub mod Numbers
+pub mod Counts
+pub mod Products
+pub mod Quotients
+pub mod Circuit
+pub mod Gates
+pub mod Meaning

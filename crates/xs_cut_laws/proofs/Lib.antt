@@ -1,0 +1,9 @@
+pub mod FoundLaws
+pub mod Excluded
+pub mod Paths
+pub mod Chains
+pub mod Ends
+pub mod Serves
+pub mod Fitting
+pub mod Sizes
+pub mod Leasts

@@ -1,0 +1,19 @@
+-- The record of the encoding is the one that the search takes.
+use Rattle.xs_flat_laws.specs.History.{with_history}
+use Rattle.xs_encode_laws.specs.FlatTraces.{history_of}
+use Rattle.xs_encode_laws.proofs.EncodingLaws.{models_encoded, bad_states_encoded}
+use Rattle.xs_encode_laws.proofs.HistoryPlaces.{history_last}
+use Rattle.xs_cut_laws.specs.EncodedSearchLaws.{ListsServe, InvariantsServe}
+
+pub lists_serve : ListsServe
+lists_serve m fs top own is = (
+  record { own = own.names_own; modes = own.modes; top_own = own.top_own; encoded = models_encoded (with_history m fs) is },
+  (λ fit sets size. bad_states_encoded (with_history m fs) is top fit (history_of m fs) (history_last m fs).0 sets size),
+)
+
+pub invariants_serve : InvariantsServe
+invariants_serve m fs top system state_of inputs_of bad clauses are = record {
+  holds_first = are.inductive.holds_first;
+  is_kept = are.inductive.is_kept;
+  excludes = are.excludes;
+}

@@ -1,0 +1,5 @@
+use Rattle.xs_cut_laws.proofs.Serves.{lists_serve as lemma}
+use Rattle.xs_cut_laws.proofs.lists_serve.Goals as goal
+
+pub returns : goal.returns
+returns c = lemma

@@ -1,0 +1,6 @@
+pub mod Found
+pub mod Uncovered
+pub mod Searched
+pub mod Laws
+pub mod EncodedSearchLaws
+pub mod Searchable

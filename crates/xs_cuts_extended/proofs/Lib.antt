@@ -1,4 +1,0 @@
-pub mod Analyses
-pub mod InputBits
-pub mod Searchables
-pub mod Printed

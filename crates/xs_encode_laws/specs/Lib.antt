@@ -1,0 +1,16 @@
+pub mod Widths
+pub mod Signals
+pub mod Expressions
+pub mod Meanings
+pub mod Reads
+pub mod Layout
+pub mod Inputs
+pub mod Lists
+pub mod Bits
+pub mod Encodable
+pub mod HistoryBits
+pub mod Variables
+pub mod Laws
+pub mod Encoded
+pub mod FlatTraces
+pub mod EncodedLaws

@@ -1,0 +1,39 @@
+//! The choices of a case.
+
+ghost use Rattle.std.specs.Prelude.{◌≡◌, ◌≤◌, ◌+◌, IfOk, length};
+ghost use Rattle.xs_circuits.specs.Meaning.{AllBelow};
+ghost use Rattle.xs_tree.specs.Trace.{Each};
+ghost use Rattle.xs_encode_laws.specs.Meanings.{IsSignal};
+ghost use Rattle.xs_expressions.specs.Built.{signals_of, BuildsSignal};
+ghost use Rattle.xs_expressions.specs.Choices.{chosen_gates};
+
+use crate::signal::{Signal, choice};
+use std::alloc::Global;
+use xs_circuits::gates::Gates;
+use xs_lits::lit::Lit;
+use xs_value::OutOfMemory;
+
+/// The choices between values by conditions, one fewer, from the last but one to the first, at that width.
+pub fn choices(
+    alloc: Global,
+    g: &mut Gates,
+    width: u32,
+    conditions: &[Lit],
+    values: &[Signal],
+) -> Result<Signal, OutOfMemory>
+    requires some { 1 ≤ width }
+    requires long { length values.now ≡ length conditions.now + 1 }
+    requires conditions { AllBelow g.old.free conditions.now }
+    requires values { Each (IsSignal g.old) (signals_of values.now) }
+    ensures { IfOk result (BuildsSignal g.old (chosen_gates width conditions.now (signals_of values.now) g.old) g.new) }
+{
+    let mut left = conditions.len();
+    let last = values[left].copy()?;
+    let mut chosen = last.fitted(alloc, g, width)?;
+    while left > 0 {
+        left -= 1;
+        let value = values[left].copy()?;
+        chosen = choice(alloc, g, width, conditions[left], value, chosen)?;
+    }
+    Ok(chosen)
+}

@@ -1,0 +1,42 @@
+//! Room for more gates. A circuit that would pass the highest variable, and a word that is wider than the
+//! arithmetic of words takes, are told as want of memory; no typed model within its limits comes to either.
+
+ghost use Rattle.std.specs.Prelude.{◌≤◌, ◌-◌, ◌^◌, length, OnOk};
+
+use xs_circuits::gates::Gates;
+use xs_circuits::word::Word;
+use xs_value::OutOfMemory;
+
+/// Any one operation still has its variables.
+pub fn check_room(g: &Gates) -> Result<(), OutOfMemory>
+    ensures room { OnOk result (g.now.free ≤ 2 ^ 31 - 20000) }
+    ensures least { 2 ≤ g.now.free }
+{
+    if g.free() <= 2147463648 {
+        Ok(())
+    } else {
+        Err(OutOfMemory)
+    }
+}
+
+/// The word is no wider than arithmetic takes.
+pub fn check_narrow(w: &Word) -> Result<(), OutOfMemory>
+    ensures { OnOk result (length w.now ≤ 34) }
+{
+    if w.len() <= 34 {
+        Ok(())
+    } else {
+        Err(OutOfMemory)
+    }
+}
+
+/// Words of this width are no wider than arithmetic takes.
+pub fn check_width(width: u32) -> Result<(), OutOfMemory>
+    ensures { OnOk result (width ≤ 34) }
+{
+    if width <= 34 {
+        Ok(())
+    } else {
+        Err(OutOfMemory)
+    }
+}

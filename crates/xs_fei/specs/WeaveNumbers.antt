@@ -1,0 +1,25 @@
+-- That the numbers of a program and of instructions have negations within 64 bits, as all that are read have.
+use Rattle.std.specs.Prelude.{List, All}
+use Rattle.xs_tree.specs.declared.program.Module.{Module}
+use Rattle.xs_tree.specs.ProgramTree.{Text, ModuleTree, module_tree}
+use Rattle.xs_tree.specs.Scope.{kind_in}
+use Rattle.xs_fei.specs.declared.instructions.ModeRule.{ModeRule}
+use Rattle.xs_fei.specs.declared.instructions.Slice.{Slice}
+use Rattle.xs_fei.specs.declared.instructions.Extension.{Extension}
+use Rattle.xs_fei.specs.Instructions.{effect_tree}
+use Rattle.xs_fei.specs.Numbers.{EffectHasNegations, TypeHasNegations}
+use Rattle.xs_fei.specs.KindTypes.{type_of_kind}
+
+abbrev pub ModeHasNegations : ModeRule → Type 0
+ModeHasNegations m = EffectHasNegations (effect_tree m.effect)
+
+abbrev pub SliceHasNegations : Slice → Type 0
+SliceHasNegations s = All ModeHasNegations s.modes
+
+-- each number of an effect
+abbrev pub ExtensionHasNegations : Extension → Type 0
+ExtensionHasNegations x = All SliceHasNegations x.slices
+
+-- each number of the type of a variable
+abbrev pub ModuleHasNegations : Module → Type 0
+ModuleHasNegations m = (x : Text) → TypeHasNegations (type_of_kind (kind_in (module_tree m) x))

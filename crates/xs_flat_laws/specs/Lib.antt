@@ -1,0 +1,12 @@
+pub mod Resolved
+pub mod Items
+pub mod Looks
+pub mod Rules
+pub mod Model
+pub mod Laws
+pub mod FirstFault
+pub mod History
+pub mod FlatTrace
+pub mod ValueRules
+pub mod ResolvedAt
+pub mod FaultModes

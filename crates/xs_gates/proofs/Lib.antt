@@ -1,4 +1,0 @@
-pub mod Extension
-pub mod Rows
-pub mod Turns
-pub mod Examples

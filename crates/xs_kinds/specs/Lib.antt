@@ -1,8 +1,0 @@
-pub mod Intervals
-pub mod Judged
-pub mod Declared
-pub mod Costs
-pub mod Models
-pub mod Safe
-pub mod Laws
-pub mod FirstBreach

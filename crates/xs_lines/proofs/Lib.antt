@@ -1,3 +1,0 @@
-pub mod Separators
-pub mod Words
-pub mod Cuts

@@ -1,0 +1,11 @@
+-- When a checker can be asked to take a clause.
+use Rattle.std.specs.Prelude.{◌≤◌, List, All, length}
+use Rattle.xs_lits.specs.Literal.{Literal}
+use Rattle.xs_lits.specs.Derivation.{Derivation, IsUpTo}
+use Rattle.xs_lits.specs.Hints.{HasNoOpposites}
+
+pub record CanTake (d : Derivation) (c : List Literal) : Type 0 where
+  pub room_for_clause : 1 ≤ d.spare_clauses
+  pub room_for_lits : length c ≤ d.spare_lits
+  pub in_range : All (IsUpTo d.vars) c
+  pub no_opposites : HasNoOpposites c

@@ -1,0 +1,17 @@
+-- How a checker lies in its parts.
+use Rattle.std.specs.Prelude.{◌≡◌, ◌-◌, All, length}
+use Rattle.xs_lits.specs.Assignment.{all_free, IsInRange}
+use Rattle.xs_lits.specs.Derivation.{Derivation}
+use Rattle.xs_lits.specs.declared.checker.Checker.TheInside.{Inside}
+
+abbrev pub derivation_of : Inside → Derivation
+derivation_of c = record {
+  vars = length c.trail - 1;
+  clauses = c.clauses.clauses;
+  spare_clauses = c.clauses.spare_clauses;
+  spare_lits = c.clauses.spare_lits;
+}
+
+pub record IsSound (c : Inside) : Type 0 where
+  pub free : c.trail ≡ all_free (length c.trail - 1)
+  pub in_range : All (All (IsInRange c.trail)) c.clauses.clauses

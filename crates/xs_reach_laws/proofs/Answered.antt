@@ -1,0 +1,90 @@
+-- What answers a search of the model with causes is right for caused traces.
+use Rattle.std.proofs.Common.{◌≡◌, ℕ, Bool, List, [], ◌∷◌, length, map, refl, sym, ap, ◌∙◌, subst}
+use Rattle.xs_tree.specs.Tree.{Tree}
+use Rattle.xs_tree.specs.ProgramTree.{Text, Formula, ProgramTree}
+use Rattle.xs_tree.specs.Trace.{Each}
+use Rattle.xs_tree.specs.Flat.{FlatLeaf, FlatModel}
+use Rattle.xs_flat_laws.specs.FlatTrace.{IsFlatTrace}
+use Rattle.xs_flat_laws.specs.History.{Mode}
+use Rattle.xs_fei.specs.Instructions.{InstructionTree}
+use Rattle.xs_weave.specs.Faults.{Fault}
+use Rattle.xs_right_laws.specs.Laws.{AreBoth}
+use Rattle.xs_encode_laws.specs.FlatTraces.{ReachesTop, HasFailedNumber, IsShortTrace, IsRightFlat}
+use Rattle.xs_certificate_laws.specs.ExtendedTraces.{IsExtensionModel}
+use Rattle.xs_cut_laws.specs.Found.{Found, sets_of, traces_of, AreFound}
+use Rattle.xs_cut_laws.specs.Searched.{FlatTrace}
+use Rattle.xs_cuts.specs.Values.{trace_of, all_found}
+use Rattle.xs_cuts.specs.Progress.{CodeFound}
+use Rattle.xs_cuts.specs.Answer.{IsEnd}
+use Rattle.xs_lits.specs.declared.system.System.{System}
+use Rattle.xs_tree.specs.Values.{Value}
+use Rattle.xs_cuts.specs.declared.answer.End.{End}
+use Rattle.xs_cuts.specs.declared.answer.End.TheVariants.{Complete, Bounded}
+use Rattle.xs_cuts.proofs.SearchLemmas.{sets_same}
+use Rattle.xs_cause_laws.specs.Causes.{CommonCause, IsCauseOf}
+use Rattle.xs_cause_laws.specs.Staged.{with_causes, events_of}
+use Rattle.xs_cause_laws.proofs.Carried.{all_right, short_right}
+use Rattle.xs_cause_laws.specs.CausedTraces.{CausedTrace, IsRightCausedExtended}
+use Rattle.xs_cause_laws.proofs.Staged.{extensions_staged}
+use Rattle.xs_cause_laws.proofs.CausesExtendedCarried.{all_right_caused_extended, short_right_caused_extended}
+use Rattle.xs_reach_laws.specs.Shown.{ShowsCaused, IsOfEnd, AnswersAreCaused}
+use Rattle.xs_reach_laws.proofs.Shown.{shown, Parts, parts_of}
+
+-- the traces, as values are read
+traces_same : (symbols : List Text) (found : List CodeFound) → map (trace_of symbols) (traces_of found) ≡ traces_of (all_found symbols found)
+traces_same symbols [] = refl
+traces_same symbols (f ∷ fs) = ap (λ more. trace_of symbols f.trace ∷ more) (traces_same symbols fs)
+
+module _ (p : ProgramTree) (i : InstructionTree) (faults : List Fault) (top : Formula) (m : FlatModel) (fs : List Mode) (flat_top : Tree FlatLeaf) (model : IsExtensionModel p i faults top m fs flat_top) (cs : List CommonCause) (are : Each (IsCauseOf (length fs)) cs) where
+  abbrev staged : FlatModel
+  staged = with_causes m fs cs
+
+  abbrev events : List Mode
+  events = events_of m fs cs
+
+  -- each found trace shows a caused one
+  show_all : (size : ℕ) (found : List (Found FlatTrace)) → AreFound FlatTrace (IsFlatTrace staged) (ReachesTop staged flat_top) (HasFailedNumber staged events) (length events) size found →
+      (traces : List CausedTrace) × AreBoth (ShowsCaused p i m fs cs) (traces_of found) traces
+  show_all size [] is = ([], tt)
+  show_all size (f ∷ more) is =
+      let one = shown p i faults top m fs flat_top model cs are f.trace is.0.shown.is_one in
+      let rest = show_all size more is.3 in
+      (one.0 ∷ rest.0, (one.1, rest.1))
+
+  all_caused : (size : ℕ) (sets : List (List ℕ)) (longs : List FlatTrace) (traces : List CausedTrace) → AreBoth (ShowsCaused p i m fs cs) longs traces →
+      IsRightFlat staged events flat_top size (IsFlatTrace staged) sets longs → IsRightCausedExtended p i faults cs top size (IsOfEnd p i faults cs (Complete [])) sets traces
+  all_caused size sets longs traces both right =
+      let s = extensions_staged p i faults top m fs flat_top model cs are in
+      let parts : Parts p i m fs cs longs traces = parts_of p i m fs cs longs traces both in
+      all_right_caused_extended p i faults top m fs flat_top model cs are size sets parts.flats traces parts.cut (all_right m fs cs s.0 flat_top s.1 size sets longs parts.flats parts.tell right)
+
+  short_caused : (k size : ℕ) (sets : List (List ℕ)) (longs : List FlatTrace) (traces : List CausedTrace) → AreBoth (ShowsCaused p i m fs cs) longs traces →
+      IsRightFlat staged events flat_top size (IsShortTrace staged k) sets longs → IsRightCausedExtended p i faults cs top size (IsOfEnd p i faults cs (Bounded k)) sets traces
+  short_caused k size sets longs traces both right =
+      let s = extensions_staged p i faults top m fs flat_top model cs are in
+      let parts : Parts p i m fs cs longs traces = parts_of p i m fs cs longs traces both in
+      short_right_caused_extended p i faults top m fs flat_top model cs are k size sets parts.flats traces parts.cut (short_right m fs cs s.0 flat_top s.1 k size sets longs parts.flats parts.tell right)
+
+  -- the sets are right for the caused traces that the ending speaks of
+  right_by : (system : System) (state_of inputs_of : List Value → List Bool) (depth size : ℕ) (found : List CodeFound) (end : End) → IsEnd staged events flat_top system state_of inputs_of depth size found end →
+      (traces : List CausedTrace) → AreBoth (ShowsCaused p i m fs cs) (traces_of (all_found staged.symbols found)) traces →
+      IsRightCausedExtended p i faults cs top size (IsOfEnd p i faults cs end) (sets_of (all_found staged.symbols found)) traces
+  right_by system state_of inputs_of depth size found (Complete clauses) ends traces both =
+      all_caused size (sets_of (all_found staged.symbols found)) (traces_of (all_found staged.symbols found)) traces both ends.1
+  right_by system state_of inputs_of depth size found (Bounded k) ends traces both =
+      short_caused k size (sets_of (all_found staged.symbols found)) (traces_of (all_found staged.symbols found)) traces both ends.2
+
+pub answers_caused : AnswersAreCaused
+answers_caused p i faults top m fs flat_top model cs are system state_of inputs_of depth size a answer =
+    let n : FlatModel = with_causes m fs cs in
+    let found = all_found n.symbols answer.found in
+    let shows = show_all p i faults top m fs flat_top model cs are size found answer.are in
+    let same : map (trace_of n.symbols) a.traces ≡ traces_of found = ap (map (trace_of n.symbols)) answer.traces ∙ traces_same n.symbols answer.found in
+    let sets : a.sets ≡ sets_of found = answer.sets ∙ sym (sets_same n.symbols answer.found) in
+    record {
+      traces = shows.0;
+      show = subst (λ longs. AreBoth (ShowsCaused p i m fs cs) longs shows.0) (sym same) shows.1;
+      right =
+          subst (λ s. IsRightCausedExtended p i faults cs top size (IsOfEnd p i faults cs a.end) s shows.0) (sym sets)
+          (right_by p i faults top m fs flat_top model cs are system state_of inputs_of depth size answer.found a.end answer.ends shows.0 shows.1);
+    }

@@ -1,0 +1,46 @@
+-- What a search of a model without faults says, and a certificate that lists no set.
+use Rattle.std.specs.Prelude.{◌≡◌, ℕ, ◌+◌, nat_le, Bool, true, IsTrue, List, [], Some, length, slice_get}
+use Rattle.xs_tree.specs.Tree.{Tree}
+use Rattle.xs_tree.specs.Values.{Value}
+use Rattle.xs_value.specs.declared.value.Value.{Value as Numbered}
+use Rattle.xs_tree.specs.Flat.{FlatLeaf, FlatModel}
+use Rattle.xs_flat_laws.specs.FlatTrace.{IsFlatTrace}
+use Rattle.xs_lits.specs.declared.system.System.{System}
+use Rattle.xs_encode_laws.specs.FlatTraces.{ReachesTop}
+use Rattle.xs_encode_laws.specs.EncodedLaws.{AreOwn}
+use Rattle.xs_text_laws.specs.Given.{GivesTrace}
+use Rattle.xs_cuts.specs.declared.answer.Analysis.{Analysis}
+use Rattle.xs_cuts.specs.declared.answer.End.{End}
+use Rattle.xs_cuts.specs.declared.answer.End.TheVariants.{Complete, Bounded}
+use Rattle.xs_cuts.specs.Answer.{IsAnswer}
+use Rattle.xs_cuts.specs.Values.{trace_of}
+use Rattle.xs_certificate_laws.specs.Certificate.{Certificate}
+use Rattle.xs_certificate_laws.specs.Accepted.{Subject}
+use Rattle.xs_certificate_laws.specs.Certified.{IsSubjectOf, IsCertified}
+
+-- the lengths of the traces that an end speaks of: all, or those of at most so many steps
+abbrev pub class_of : End → ℕ → Bool
+class_of (Complete clauses) n = true
+class_of (Bounded k) n = nat_le n (k + 1)
+
+-- no trace of a class of lengths makes the expression TRUE at its end
+abbrev pub NoneReaches : FlatModel → Tree FlatLeaf → (ℕ → Bool) → Type 0
+NoneReaches m e class = (long : List (List Value)) → IsFlatTrace m long → IsTrue (class (length long)) → ReachesTop m e long → ⊥
+
+-- where an answer lists nothing, no trace that its end speaks of makes the expression TRUE at its end
+abbrev pub EmptyAnswersRefute : Type 0
+EmptyAnswersRefute =
+    (m : FlatModel) (e : Tree FlatLeaf) (system : System) (state_of inputs_of : List Value → List Bool) (depth size : ℕ) (a : Analysis) → IsAnswer m [] e system state_of inputs_of depth size a →
+    length a.traces ≡ 0 → NoneReaches m e (class_of a.end)
+
+-- the first trace of an answer is one that does
+abbrev pub FoundTracesReach : Type 0
+FoundTracesReach =
+    (m : FlatModel) (e : Tree FlatLeaf) (system : System) (state_of inputs_of : List Value → List Bool) (depth size : ℕ) (a : Analysis) → IsAnswer m [] e system state_of inputs_of depth size a →
+    (trace : List (List Numbered)) → slice_get a.traces 0 ≡ Some trace → IsFlatTrace m (trace_of m.symbols trace) × ReachesTop m e (trace_of m.symbols trace)
+
+-- where an accepted certificate lists no set, no trace at all makes the expression TRUE at its end
+abbrev pub AcceptedRefute : Type 0
+AcceptedRefute =
+    (m : FlatModel) (e : Tree FlatLeaf) → AreOwn m [] e → (subject : Subject) → IsSubjectOf m [] e subject → (c : Certificate) → IsCertified m [] e (GivesTrace m) subject c → c.sets ≡ [] →
+    NoneReaches m e (λ n. true)

@@ -1,0 +1,5 @@
+pub mod Analyses
+pub mod InputBits
+pub mod Searchables
+pub mod Printed
+pub mod EntryLaws

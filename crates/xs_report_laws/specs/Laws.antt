@@ -1,0 +1,30 @@
+-- What the answer of a search for cut sets says of extended traces.
+use Rattle.std.specs.Prelude.{◌≡◌, ℕ, Bool, List}
+use Rattle.xs_tree.specs.Tree.{Tree}
+use Rattle.xs_tree.specs.ProgramTree.{Text, Formula, ProgramTree}
+use Rattle.xs_tree.specs.Values.{Value}
+use Rattle.xs_tree.specs.Flat.{FlatLeaf, FlatModel}
+use Rattle.xs_flat_laws.specs.History.{Mode}
+use Rattle.xs_fei.specs.Instructions.{InstructionTree}
+use Rattle.xs_weave.specs.Faults.{Fault}
+use Rattle.xs_lits.specs.declared.system.System.{System}
+use Rattle.xs_certificate_laws.specs.ExtendedTraces.{IsExtensionModel}
+use Rattle.xs_report_laws.specs.ExtendedTraces.{IsAnalysisOf}
+use Rattle.xs_cuts.specs.declared.answer.Analysis.{Analysis as Found}
+use Rattle.xs_cuts.specs.Answer.{IsAnswer}
+use Rattle.xs_value.specs.declared.ending.Ending.{Ending as Printed}
+use Rattle.xs_report.specs.Analysed.{told_analysis}
+use Rattle.xs_text_laws.specs.Analysis.{told_ending}
+use Rattle.xs_report_laws.specs.Answered.{ending_of, analysis_of, EndsBy}
+
+-- An answer for the flat model of an extension is an analysis of the extension: its sets are right for all extended traces, or
+-- for those of at most as many steps as the depth, and then a chain that long exists.
+abbrev pub AnswersAreAnalyses : Type 0
+AnswersAreAnalyses =
+    (p : ProgramTree) (i : InstructionTree) (faults : List Fault) (top : Formula) (m : FlatModel) (fs : List Mode) (flat_top : Tree FlatLeaf) → IsExtensionModel p i faults top m fs flat_top →
+    (system : System) (state_of inputs_of : List Value → List Bool) (depth size : ℕ) (a : Found) → IsAnswer m fs flat_top system state_of inputs_of depth size a →
+    IsAnalysisOf p i faults m top size (analysis_of m.symbols a) × EndsBy m fs flat_top system state_of inputs_of depth size a.sets (ending_of a.end)
+
+-- what a report prints of an answer is the analysis that it tells
+abbrev pub AnswersArePrinted : Type 0
+AnswersArePrinted = (symbols : List Text) (a : Found) (ending : Printed) → told_ending ending ≡ ending_of a.end → told_analysis symbols a.sets a.traces a.first ending ≡ analysis_of symbols a

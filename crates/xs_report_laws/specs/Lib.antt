@@ -1,0 +1,6 @@
+pub mod Answered
+pub mod Laws
+pub mod Searchable
+pub mod ExtendedTraces
+pub mod AnalysisText
+pub mod Tables

@@ -1,2 +1,0 @@
-pub mod SignalLaws
-pub mod ChoiceLoop

@@ -1,4 +1,0 @@
-pub mod Grown
-pub mod Fits
-pub mod Ordered
-pub mod Staged

@@ -1,0 +1,17 @@
+pub mod Plain
+pub mod OneTrace
+pub mod Printed
+pub mod OneFault
+pub mod Moments
+pub mod GivenHasNone
+pub mod LineJudged
+pub mod LinesJudged
+pub mod TextJudged
+pub mod Examples
+pub mod Named
+pub mod FlatPlaces
+pub mod FlatNames
+pub mod FlatSymbols
+pub mod Separators
+pub mod Words
+pub mod Cuts

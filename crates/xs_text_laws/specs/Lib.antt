@@ -1,0 +1,7 @@
+pub mod TraceText
+pub mod Given
+pub mod Wrong
+pub mod Laws
+pub mod Lines
+pub mod Analysis
+pub mod AnalysisText

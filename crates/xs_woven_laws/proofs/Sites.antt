@@ -1,0 +1,137 @@
+-- What the items of instructions say of a slice of a module and of its modes.
+use Rattle.std.proofs.Common.{◌≡◌, ◌≢◌, ◌⊎◌, inl, inr, Bool, true, false, List, [], ◌∷◌, ◌++◌, map, flat_map, Some, None, refl, ap, ◌∙◌, subst}
+use Rattle.std.specs.Prelude.{if◌then◌else◌, ◌||◌, codes}
+use Rattle.xs_tree.specs.declared.program.Member.{Member}
+use Rattle.xs_tree.specs.declared.program.Member.TheVariants as member
+use Rattle.xs_tree.specs.ProgramTree.{Text, ProgramTree}
+use Rattle.xs_tree.specs.Texts.{same_text}
+use Rattle.xs_tree.specs.Trace.{Each}
+use Rattle.xs_tree.proofs.ValueLaws.{same_text_equal, same_text_refl}
+use Rattle.xs_fei.specs.Instructions.{ModeTree, SliceTree, ExtensionTree, slices_from}
+use Rattle.xs_fei.specs.AddedNames.{mode_symbol}
+use Rattle.xs_fei.proofs.AddedNameLaws.{mode_symbol_same, nominal_symbol_same}
+use Rattle.xs_type_laws.specs.Judged.{symbol_class, mixed_enum, double_member, rule_if, unless_class, wide}
+use Rattle.xs_type_laws.specs.Declared.{member_kind, is_member_again, has_double, judged_declared}
+use Rattle.xs_weave.specs.Woven.{mode_type}
+use Rattle.xs_fei.specs.Weavable.{Among}
+use Rattle.xs_weave_rules.specs.Sites.{OwnedSlice, owned, Site, a_slice, a_mode, mode_sites, slice_sites, extension_sites}
+use Rattle.xs_weave_rules.specs.Rules.{broken_at}
+use Rattle.xs_weave_rules.specs.FirstBroken.{AllKept}
+use Rattle.xs_weave_rules.proofs.KeptItems.{among_left, among_right}
+use Rattle.xs_weave_rules.proofs.KeptFacts.{ModeKept, mode_facts}
+use Rattle.xs_weave_rules.proofs.ProgramNames.{any_false}
+use Rattle.xs_flat_laws.proofs.Reaches.{each_left, each_right}
+use Rattle.xs_woven_laws.proofs.Rightly.{none_joined}
+
+-- What holds of each item holds of those of a slice of a module.
+among_either : {A : Type 0} (xs ys : List A) (x : A) → Among (xs ++ ys) x → Among xs x ⊎ Among ys x
+among_either [] ys x a = inr a
+among_either (y ∷ xs) ys x (inl e) = inl (inl e)
+among_either (y ∷ xs) ys x (inr a) = go (among_either xs ys x a)
+  where
+    go : Among xs x ⊎ Among ys x → Among (y ∷ xs) x ⊎ Among ys x
+    go (inl b) = inl (inr b)
+    go (inr b) = inr b
+
+module _ (Q : Site → Type 0) where
+  -- the item of the slice, and those of its modes
+  pub record SliceItems (o : OwnedSlice) : Type 0 where
+    pub before : List OwnedSlice
+    pub slice : Q (a_slice before o)
+    pub modes : Each Q (mode_sites before o [] o.slice.modes)
+
+  among_slices : (before : List OwnedSlice) (owner : Text) (ss : List SliceTree) (s : SliceTree) → Each Q (slice_sites before owner ss) → Among ss s → SliceItems (owned owner s)
+  among_slices before owner [] s h a = absurd a
+  among_slices before owner (t ∷ ss) s h (inl e) =
+      subst (λ u. SliceItems (owned owner u)) e (record { before = before; slice = h.0; modes = each_left Q (mode_sites before (owned owner t) [] t.modes) (slice_sites (before ++ owned owner t ∷ []) owner ss) h.1 })
+  among_slices before owner (t ∷ ss) s h (inr a) =
+      among_slices (before ++ owned owner t ∷ []) owner ss s (each_right Q (mode_sites before (owned owner t) [] t.modes) (slice_sites (before ++ owned owner t ∷ []) owner ss) h.1) a
+
+  pub slice_items : (before : List OwnedSlice) (xs : List ExtensionTree) (m : Text) (s : SliceTree) → Each Q (extension_sites before xs) → Among (slices_from xs m) s → SliceItems (owned m s)
+  slice_items before [] m s h a = absurd a
+  slice_items before (x ∷ xs) m s h a =
+      go (same_text x.of_module m) refl a
+      (slice_items (before ++ map (owned x.of_module) x.slices) xs m s (each_right Q (slice_sites before x.of_module x.slices) (extension_sites (before ++ map (owned x.of_module) x.slices) xs) h.1))
+    where
+      either : x.of_module ≡ m → (Among (slices_from xs m) s → SliceItems (owned m s)) → Among x.slices s ⊎ Among (slices_from xs m) s → SliceItems (owned m s)
+      either e more (inl b) =
+          subst (λ o. SliceItems (owned o s)) e
+          (among_slices before x.of_module x.slices s (each_left Q (slice_sites before x.of_module x.slices) (extension_sites (before ++ map (owned x.of_module) x.slices) xs) h.1) b)
+      either e more (inr b) = more b
+
+      go : (b : Bool) → same_text x.of_module m ≡ b → Among (if b then x.slices ++ slices_from xs m else slices_from xs m) s → (Among (slices_from xs m) s → SliceItems (owned m s)) → SliceItems (owned m s)
+      go true t a more = either (same_text_equal x.of_module m t) more (among_either x.slices (slices_from xs m) s a)
+      go false t a more = more a
+
+  -- each mode has its item
+  abbrev pub HasItem : List OwnedSlice → OwnedSlice → ModeTree → Type 0
+  HasItem before o mode = (earlier : List ModeTree) × Q (a_mode before o earlier mode)
+
+  pub mode_items : (before : List OwnedSlice) (o : OwnedSlice) (earlier ms : List ModeTree) → Each Q (mode_sites before o earlier ms) → Each (HasItem before o) ms
+  mode_items before o earlier [] h = tt
+  mode_items before o earlier (m ∷ ms) h = ((earlier, h.0), mode_items before o (earlier ++ m ∷ []) ms h.1)
+
+-- The type of a mode breaks no rule: its symbols differ.
+text_differs : (x y : Text) → x ≢ y → same_text x y ≡ false
+text_differs x y h = by (same_text x y) refl
+  where
+    by : (b : Bool) → same_text x y ≡ b → same_text x y ≡ false
+    by true e = absurd (h (same_text_equal x y e))
+    by false e = e
+
+or_none : (a b : Bool) → a ≡ false → b ≡ false → (a || b) ≡ false
+or_none a b e f = ap (λ c. c || b) e ∙ f
+
+true_not_false : (b : Bool) → b ≡ true → b ≡ false → ⊥
+true_not_false b e f = cc
+
+abbrev symbol_of : Text → ModeTree → Member
+symbol_of s m = member.Symbol (mode_symbol s (Some m.name))
+
+module _ (p : ProgramTree) (before : List OwnedSlice) (o : OwnedSlice) where
+  symbol_once : (m : ModeTree) (earlier ms : List ModeTree) → Among earlier m → AllKept (broken_at p) (mode_sites before o earlier ms) → is_member_again (symbol_of o.slice.name m) (map (symbol_of o.slice.name) ms) ≡ false
+  symbol_once m earlier [] a kept = refl
+  symbol_once m earlier (n ∷ ms) a kept =
+      or_none (same_text (mode_symbol o.slice.name (Some m.name)) (mode_symbol o.slice.name (Some n.name))) (is_member_again (symbol_of o.slice.name m) (map (symbol_of o.slice.name) ms))
+      (text_differs (mode_symbol o.slice.name (Some m.name)) (mode_symbol o.slice.name (Some n.name)) apart)
+      (symbol_once m (earlier ++ n ∷ []) ms (among_left earlier (n ∷ []) m a) kept.1)
+    where
+      apart : mode_symbol o.slice.name (Some m.name) ≢ mode_symbol o.slice.name (Some n.name)
+      apart e =
+          let facts : ModeKept p before o earlier n = mode_facts p before o earlier n kept.0 in
+          let other : same_text m.name n.name ≡ false = any_false (λ k. same_text k.name n.name) earlier m facts.name a in
+          true_not_false (same_text m.name n.name) (subst (λ x. same_text m.name x ≡ true) (mode_symbol_same o.slice.name m.name n.name e) (same_text_refl m.name)) other
+
+  no_double : (earlier ms : List ModeTree) → AllKept (broken_at p) (mode_sites before o earlier ms) → has_double (map (symbol_of o.slice.name) ms) ≡ false
+  no_double earlier [] kept = refl
+  no_double earlier (m ∷ ms) kept =
+      or_none (is_member_again (symbol_of o.slice.name m) (map (symbol_of o.slice.name) ms)) (has_double (map (symbol_of o.slice.name) ms))
+      (symbol_once m (earlier ++ m ∷ []) ms (among_right earlier (m ∷ []) m (inl refl)) kept.1) (no_double (earlier ++ m ∷ []) ms kept.1)
+
+nominal_once : (s : Text) (ms : List ModeTree) → Each (λ m. m.name ≢ codes "nominal") ms → is_member_again (member.Symbol (mode_symbol s None)) (map (symbol_of s) ms) ≡ false
+nominal_once s [] h = refl
+nominal_once s (m ∷ ms) h =
+    or_none (same_text (mode_symbol s None) (mode_symbol s (Some m.name))) (is_member_again (member.Symbol (mode_symbol s None)) (map (symbol_of s) ms))
+    (text_differs (mode_symbol s None) (mode_symbol s (Some m.name)) (λ e. h.0 (nominal_symbol_same s m.name e))) (nominal_once s ms h.1)
+
+symbols_alike : (s : Text) (ms : List ModeTree) → flat_map (unless_class symbol_class mixed_enum) (map member_kind (map (symbol_of s) ms)) ≡ []
+symbols_alike s [] = refl
+symbols_alike s (m ∷ ms) = symbols_alike s ms
+
+symbols_small : (s : Text) (ms : List ModeTree) → flat_map (λ k. wide k.interval) (map member_kind (map (symbol_of s) ms)) ≡ []
+symbols_small s [] = refl
+symbols_small s (m ∷ ms) = symbols_small s ms
+
+pub mode_type_right : (p : ProgramTree) (before : List OwnedSlice) (o : OwnedSlice) → AllKept (broken_at p) (mode_sites before o [] o.slice.modes) → Each (λ m. m.name ≢ codes "nominal") o.slice.modes →
+    (judged_declared (mode_type o.slice)).broken ≡ []
+mode_type_right p before o kept others =
+    let s = o.slice.name in
+    let ms = o.slice.modes in
+    let alike = flat_map (unless_class symbol_class mixed_enum) (map member_kind (map (symbol_of s) ms)) in
+    let double = is_member_again (member.Symbol (mode_symbol s None)) (map (symbol_of s) ms) || has_double (map (symbol_of s) ms) in
+    let small = flat_map (λ k. wide k.interval) (map member_kind (map (symbol_of s) ms)) in
+    none_joined (alike ++ (rule_if double double_member ++ small)) []
+    (none_joined alike (rule_if double double_member ++ small) (symbols_alike s ms)
+    (none_joined (rule_if double double_member) small
+    (ap (λ b. rule_if b double_member) (or_none (is_member_again (member.Symbol (mode_symbol s None)) (map (symbol_of s) ms)) (has_double (map (symbol_of s) ms)) (nominal_once s ms others) (no_double p before o [] ms kept)))
+    (symbols_small s ms))) refl

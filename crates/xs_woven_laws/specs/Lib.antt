@@ -1,0 +1,5 @@
+pub mod Modes
+pub mod Laws
+pub mod WovenNamesLaws
+pub mod Tops
+pub mod WovenTopsLaws
