@@ -1,7 +1,7 @@
 -- The lists of the whole model are those that the search asks for.
 use Rattle.std.proofs.Common.{◌≡◌, ⊎_elim, ℕ, ◌+◌, ◌-◌, ◌≤◌, min, List, length, sym, ap, ◌∙◌, subst, arith, All}
 use Rattle.std.specs.List.{range_with_len}
-use Rattle.std.proofs.lemmas.List.{length-append, length-map}
+use Rattle.std.proofs.lemmas.List.{length-map}
 use Rattle.std.proofs.lemmas.Bool.{cases_lt}
 use Rattle.std.proofs.Math.Nat.{min-le_right, min-eq_left, min-eq_right}
 use Rattle.xs_tree.specs.Tree.{Tree}
@@ -10,8 +10,7 @@ use Rattle.xs_tree.specs.declared.model.Fault.{Fault}
 use Rattle.xs_tree.specs.ModelTree.{model_tree, variable_tree}
 use Rattle.xs_flat_laws.specs.FaultModes.{mode_of}
 use Rattle.xs_tree.specs.Flat.{FlatLeaf, FlatModel}
-use Rattle.xs_flat_laws.specs.History.{Mode, with_history, bit_variables}
-use Rattle.xs_flat_laws.proofs.HistoryLaws.{length_bits}
+use Rattle.xs_flat_laws.specs.History.{Mode, with_history}
 use Rattle.xs_lits.specs.Literal.{Literal}
 use Rattle.xs_frames.specs.Condition.{IsOverNow}
 use Rattle.xs_cut_laws.specs.Searched.{IsBadFor}
@@ -24,9 +23,7 @@ use Rattle.xs_cut_laws.proofs.Serves.{lists_serve}
 use Rattle.xs_cut_laws.proofs.Fitting.{few_faults, lists_fit}
 use Rattle.xs_cut_laws.proofs.Sizes.{larger_serve}
 use Rattle.xs_case_search.specs.Wholes.{modes_of}
-
-whole_long : (m : FlatModel) (fs : List Mode) → length (with_history m fs).variables ≡ length m.variables + length fs
-whole_long m fs = length-append m.variables (bit_variables 0 fs) ∙ ap (λ k. length m.variables + k) (length_bits 0 fs)
+use Rattle.xs_flat_laws.proofs.HistoryLaws.{all_variables as whole_long}
 
 -- there are at least as many variables as faults
 pub faults_within : (full : CodeModel) (m : FlatModel) (fs : List Mode) → model_tree full ≡ with_history m fs → length fs ≤ length full.variables
@@ -42,7 +39,7 @@ few m faults top is =
     omega (arith, most, same)
 
 -- the last variables are the bits of history
-last_history : (m : FlatModel) (fs : List Mode) → last_numbers (with_history m fs) (length fs) ≡ history_of m fs
+pub last_history : (m : FlatModel) (fs : List Mode) → last_numbers (with_history m fs) (length fs) ≡ history_of m fs
 last_history m fs =
     let long = whole_long m fs in
     let first : length (with_history m fs).variables - length fs ≡ length m.variables = omega (arith, long) in

@@ -1,7 +1,7 @@
 -- The certificate of a complete analysis is accepted, and can be written.
-use Rattle.std.proofs.Common.{◌≡◌, ◌≢◌, ◌⊎◌, inl, inr, ℕ, zero, suc, ◌+◌, ◌-◌, ◌≤◌, ◌<◌, ◌^◌, Bool, true, false, ◌||◌, nat_lt, lt-ltb, List, [], ◌∷◌, ◌++◌, length, map, Option, Some, None, refl, sym, ◌∙◌, ap, subst, arith, length-append}
-use Rattle.std.specs.Prelude.{All, slice_get, slice_index_or}
-use Rattle.std.specs.List.{AllByRecursion, range_with_len}
+use Rattle.std.proofs.Common.{◌≡◌, ◌≢◌, ◌⊎◌, inl, inr, ℕ, ◌+◌, ◌-◌, ◌≤◌, ◌<◌, ◌^◌, Bool, true, false, ◌||◌, nat_lt, lt-ltb, List, [], ◌∷◌, ◌++◌, length, map, Some, refl, sym, ◌∙◌, ap, subst, arith}
+use Rattle.std.specs.Prelude.{All, slice_get}
+use Rattle.std.specs.List.{AllByRecursion}
 use Rattle.std.proofs.lemmas.Bool.{cases_lt}
 use Rattle.std.proofs.lemmas.List.{length-map}
 use Rattle.std.proofs.lemmas.List.Elements.{recursion_from_All}
@@ -13,8 +13,7 @@ use Rattle.xs_value.specs.declared.value.Value.{Value}
 use Rattle.xs_value.specs.declared.value.Value.TheVariants as value
 use Rattle.xs_tree.specs.Flat.{FlatLeaf, FlatModel}
 use Rattle.xs_flat_laws.specs.FlatTrace.{AreInDomains, IsFlatMoment, IsFlatTrace}
-use Rattle.xs_flat_laws.specs.History.{Mode, with_history, bit_variables}
-use Rattle.xs_flat_laws.proofs.HistoryLaws.{length_bits}
+use Rattle.xs_flat_laws.specs.History.{Mode, with_history}
 use Rattle.xs_tree.specs.declared.model.FlatModel.{FlatModel as Model}
 use Rattle.xs_tree.specs.ModelTree.{model_tree}
 use Rattle.xs_type_laws.specs.Costs.{model_cost, state_bits}
@@ -31,9 +30,7 @@ use Rattle.xs_encode_laws.specs.Lists.{system_of, bad_list}
 use Rattle.xs_encode_laws.specs.Encodable.{IsEncodable}
 use Rattle.xs_encode_laws.proofs.EncodingLaws.{bad_states_encoded}
 use Rattle.xs_encode_laws.proofs.HistoryPlaces.{history_last}
-use Rattle.xs_encode.specs.History.{last_numbers}
 use Rattle.xs_cut_laws.specs.Found.{traces_of}
-use Rattle.xs_cut_laws.proofs.FoundLaws.{each_at}
 use Rattle.xs_cuts.specs.Answer.{IsEnd}
 use Rattle.xs_cuts.specs.Progress.{CodeFound}
 use Rattle.xs_cuts.specs.Values.{value_of, values_of, trace_of, all_found}
@@ -43,7 +40,7 @@ use Rattle.xs_cuts.proofs.SearchLemmas.{sets_same, sets_numbered}
 use Rattle.xs_text_laws.specs.Given.{GivesTrace}
 use Rattle.xs_text_laws.specs.TraceText.{trace_lines}
 use Rattle.xs_text_laws.proofs.Printed.{printed_gives_alone}
-use Rattle.xs_report.specs.Told.{text_at, told_value, told_moment, told_trace}
+use Rattle.xs_report.specs.Told.{told_value, told_moment, told_trace}
 use Rattle.xs_certificate_laws.specs.Certificate.{Certificate, Part, part_first, part_next, part_bad, steps_in}
 use Rattle.xs_certificate_laws.specs.Accepted.{Subject, givens, goals}
 use Rattle.xs_certificate_laws.specs.CertificateText.{IsLiteral, IsSmall, IsWritableText, IsWritable}
@@ -58,18 +55,13 @@ use Rattle.xs_certificate_laws.specs.Subject.{subject_of}
 use Rattle.xs_certificate_laws.proofs.Subjects.{subjects_right}
 use Rattle.xs_case_search.specs.Texts.{text_lines, CanBePrinted}
 use Rattle.xs_case_search.specs.Certifiable.{IsCertifiable, IsCompleteAnswer, IsProof, bad_of, certificate_of}
-use Rattle.xs_case_search.proofs.Places.{all_by_place, each_weaker, recursion_from_each, recursion_from_all, pair_at, both_mapped, get_map, same_maps}
-
--- Values by number, in two ways of saying them.
-symbol_read : (symbols : List Text) (i : ℕ) → text_at (slice_get symbols i) ≡ slice_index_or symbols i []
-symbol_read [] i = refl
-symbol_read (x ∷ xs) zero = refl
-symbol_read (x ∷ xs) (suc i) = symbol_read xs i
-
-same_value : (symbols : List Text) (v : Value) → told_value symbols v ≡ value_of symbols v
-same_value symbols (value.Bool b) = refl
-same_value symbols (value.Num n) = refl
-same_value symbols (value.Sym i) = ap Rattle.xs_tree.specs.Values.symbol (symbol_read symbols i)
+use Rattle.xs_case_search.proofs.Places.{all_by_place, recursion_from_each, recursion_from_all, pair_at, both_mapped}
+use Rattle.xs_flat_laws.proofs.HistoryLaws.{all_variables}
+use Rattle.xs_report_laws.proofs.Printed.{same_value, map_same as same_maps}
+use Rattle.xs_case_search.proofs.BadLists.{last_history as history_is_last}
+use Rattle.xs_encode_laws.proofs.SetLaws.{each_kept as each_weaker}
+use Rattle.xs_type_laws.proofs.WrittenLaws.{get_map}
+use Rattle.xs_flat_laws.proofs.Conditions.{each_at}
 
 same_told : (symbols : List Text) (trace : List (List Value)) → told_trace symbols trace ≡ trace_of symbols trace
 same_told symbols trace = same_maps (told_moment symbols) (values_of symbols) (λ v. same_maps (told_value symbols) (value_of symbols) (same_value symbols) v) trace
@@ -94,16 +86,6 @@ module _ (m : FlatModel) (fs : List Mode) (is : IsEncodable (with_history m fs))
 
   pub few_faults : length fs ≤ 4096
   few_faults = let bits : state_bits (with_history m fs) ≡ state_bits m + length fs = (history_last m fs).1 in omega (arith, few_bits, bits)
-
--- The history's bits are the last variables.
-all_variables : (m : FlatModel) (fs : List Mode) → length (with_history m fs).variables ≡ length m.variables + length fs
-all_variables m fs = length-append m.variables (bit_variables 0 fs) ∙ ap (λ k. length m.variables + k) (length_bits 0 fs)
-
-history_is_last : (m : FlatModel) (fs : List Mode) → last_numbers (with_history m fs) (length fs) ≡ history_of m fs
-history_is_last m fs = ap (λ n. range_with_len n (length fs)) (ap (λ n. n - length fs) (all_variables m fs) ∙ less (length m.variables) (length fs))
-  where
-    less : (n k : ℕ) → n + k - k ≡ n
-    less n k = omega arith
 
 -- The analysis is complete.
 module _ (plain : Model) (fs : List Mode) (top : Tree FlatLeaf) (able : IsCertifiable (model_tree plain) fs top) (a : Analysis) (is : IsCompleteAnswer (model_tree plain) fs top a) where

@@ -1,14 +1,12 @@
 -- Lists read place by place.
-use Rattle.std.proofs.Common.{◌≡◌, ℕ, zero, suc, List, [], ◌∷◌, map, Some, refl, ap, subst}
+use Rattle.std.proofs.Common.{◌≡◌, ℕ, zero, suc, List, [], ◌∷◌, map, Some, refl, subst}
 use Rattle.std.specs.Prelude.{All, slice_get, slice_index_or}
 use Rattle.std.specs.List.{AllByRecursion}
 use Rattle.std.proofs.lemmas.List.Elements.{All-head, All-tail}
 use Rattle.xs_tree.specs.Trace.{Each, EachPair}
 use Rattle.xs_right_laws.specs.Laws.{AreBoth}
 use Rattle.xs_right_laws.proofs.Places.{get_within, place_read}
-
-some_same : {A : Type 0} (y x : A) → Some y ≡ Some x → y ≡ x
-some_same y x e = cc
+use Rattle.std.proofs.lemmas.Option.{same_Some as some_same}
 
 -- what holds at each place holds of all
 pub all_by_place : {A : Type 0} (P : A → Type 0) (xs : List A) → ((k : ℕ) (x : A) → slice_get xs k ≡ Some x → P x) → All P xs
@@ -16,10 +14,6 @@ all_by_place P xs h k d within = let there : (x : _) × (slice_get xs k ≡ Some
   where
     mirrored : {A : Type 0} (a b : A) → a ≡ b → b ≡ a
     mirrored a b e = cc
-
-pub each_weaker : {A : Type 0} (P Q : A → Type 0) → ((x : A) → P x → Q x) → (xs : List A) → Each P xs → Each Q xs
-each_weaker P Q f [] h = tt
-each_weaker P Q f (x ∷ xs) h = (f x h.0, each_weaker P Q f xs h.1)
 
 pub recursion_from_each : {A : Type 0} (P Q : A → Type 0) → ((x : A) → P x → Q x) → (xs : List A) → Each P xs → AllByRecursion Q xs
 recursion_from_each P Q f [] h = tt
@@ -40,15 +34,3 @@ pair_at R (a ∷ b ∷ xs) h (suc k) x y e f = pair_at R (b ∷ xs) h.1 k x y e 
 pub both_mapped : {A B C : Type 0} (R : B → C → Type 0) (f : A → B) (g : A → C) (xs : List A) → ((k : ℕ) (x : A) → slice_get xs k ≡ Some x → R (f x) (g x)) → AreBoth R (map f xs) (map g xs)
 both_mapped R f g [] h = tt
 both_mapped R f g (x ∷ xs) h = (h zero x refl, both_mapped R f g xs (λ k y e. h (suc k) y e))
-
-pub get_map : {A B : Type 0} (f : A → B) (xs : List A) (k : ℕ) (x : A) → slice_get xs k ≡ Some x → slice_get (map f xs) k ≡ Some (f x)
-get_map f [] k x e = cc
-get_map f (y ∷ xs) zero x e = ap (λ z. Some (f z)) (some_same y x e)
-get_map f (y ∷ xs) (suc k) x e = get_map f xs k x e
-
-pub same_maps : {A B : Type 0} (f g : A → B) → ((x : A) → f x ≡ g x) → (xs : List A) → map f xs ≡ map g xs
-same_maps f g h [] = refl
-same_maps f g h (x ∷ xs) = both (f x) (g x) (map f xs) (map g xs) (h x) (same_maps f g h xs)
-  where
-    both : {B : Type 0} (a b : B) (as' bs : List B) → a ≡ b → as' ≡ bs → (a ∷ as') ≡ (b ∷ bs)
-    both a b as' bs e i = cc

@@ -1,14 +1,11 @@
 -- A text cut at its line feeds.
-use Rattle.std.proofs.Common.{◌≡◌, ◌⊎◌, inl, inr, ℕ, List, [], ◌∷◌, ◌++◌, refl, sym, ◌∙◌, ap}
+use Rattle.std.proofs.Common.{◌≡◌, ◌⊎◌, inl, inr, ℕ, List, [], ◌∷◌, ◌++◌, sym, ◌∙◌}
 use Rattle.std.specs.List.{AllByRecursion}
 use Rattle.xs_text_laws.specs.Lines.{Line, fed, IsLine}
 use Rattle.xs_text_laws.proofs.Separators.{comparable}
 use Rattle.xs_text_laws.proofs.Cuts.{no_feed}
 use Rattle.xs_case_search.specs.Texts.{AreLinesIn}
-
-append_none : {A : Type 0} (xs : List A) → xs ++ [] ≡ xs
-append_none [] = refl
-append_none (x ∷ xs) = ap (λ ys. x ∷ ys) (append_none xs)
+use Rattle.std.proofs.lemmas.List.{append-nil as append_none}
 
 -- the lines of a text that is lines with their feeds are these
 pub lines_are : (bytes : List ℕ) (texts lines : List Line) → AllByRecursion IsLine texts → bytes ≡ fed texts → AreLinesIn bytes lines → lines ≡ texts

@@ -6,11 +6,11 @@ use Rattle.xs_tree.specs.Scope.{Place, state}
 use Rattle.xs_tree.specs.Trace.{Each}
 use Rattle.xs_flat_laws.specs.Items.{Item, a_declaration, NumberedModule, Visit, visits}
 use Rattle.xs_flat_laws.specs.Rules.{no_main, main_has_parameters, double_module, double_name, no_such_module, wrong_count, module_loop, define_loop, next_here, too_many, the_program, a_header, an_item, a_visit, a_use, visit_sites, use_sites, instances_before, variables_before, SomeActualLoops, IsKept, IsAccepted}
-use Rattle.xs_flat_laws.proofs.EndLaws.{never_some}
 use Rattle.xs_weave_rules.specs.Sites.{item_sites}
 use Rattle.xs_weave_rules.specs.Rules.{broken_at}
 use Rattle.xs_weave_rules.specs.FirstBroken.{AllKept}
 use Rattle.xs_cause_laws.specs.Lamps.{lamps, bulbs, lamp_module, main_module}
+use Rattle.std.proofs.lemmas.Option.{none-some as never_some}
 
 abbrev on_decl : DeclTree
 on_decl = record { name = codes "on"; what = boolean }

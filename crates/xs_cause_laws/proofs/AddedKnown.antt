@@ -1,7 +1,6 @@
 -- A model with an addition reads its own names alone, where the added formulas do.
-use Rattle.std.proofs.Common.{◌≡◌, ℕ, zero, suc, ◌+◌, ◌<◌, ◌≤◌, List, [], ◌∷◌, ◌++◌, length, Some, ap, ◌∙◌, arith}
+use Rattle.std.proofs.Common.{◌≡◌, ℕ, suc, ◌+◌, ◌<◌, ◌≤◌, List, [], ◌∷◌, ◌++◌, length, ◌∙◌, arith}
 use Rattle.std.proofs.lemmas.List.{length-append}
-use Rattle.std.specs.Prelude.{slice_get}
 use Rattle.xs_tree.specs.Trace.{Each}
 use Rattle.xs_tree.specs.Flat.{FlatLeaf, flat_variable, flat_symbol, flat_definition, FlatFormula, FlatModel}
 use Rattle.xs_flat_laws.specs.History.{Mode, with_history, bits_at_first, bits_at_step}
@@ -9,8 +8,9 @@ use Rattle.xs_flat_laws.specs.FlatTrace.{IsOwnName, IsOwnFormula, NamesOwn, IsMo
 use Rattle.xs_flat_laws.specs.Resolved.{leaves_in}
 use Rattle.xs_flat_laws.proofs.Lists.{each_more}
 use Rattle.xs_flat_laws.proofs.Conditions.{each_join}
-use Rattle.xs_flat_laws.proofs.HistoryLaws.{length_bits}
 use Rattle.xs_cause_laws.specs.Added.{Addition, with_addition, IsKnownName, IsKnownFormula, KnowsNames}
+use Rattle.std.proofs.lemmas.Option.{slice_get_within as within_of}
+use Rattle.xs_flat_laws.proofs.HistoryLaws.{all_variables as history_variables}
 
 pub name_more : (n s n' s' : ℕ) → n ≤ n' → s ≤ s' → (l : FlatLeaf) → IsKnownName n s l → IsKnownName n' s' l
 name_more n s n' s' h k (flat_variable i) e = omega arith
@@ -68,12 +68,6 @@ names_own m knows =
       at_step = own_formulas (length m.variables) (length m.symbols) m.at_step knows.at_step;
     }
 
--- a place with a member lies within the list
-pub within_of : {A : Type 0} (xs : List A) (i : ℕ) (x : A) → slice_get xs i ≡ Some x → i < length xs
-within_of [] i x e = cc
-within_of (y ∷ xs) zero x e = omega arith
-within_of (y ∷ xs) (suc i) x e = let h : i < length xs = within_of xs i x e in omega arith
-
 -- the model with history reads its own names
 first_known : (variables symbols bit : ℕ) (m : FlatModel) (fs : List Mode) → Each (IsModeOf m) fs → bit + length fs ≤ variables → length m.variables ≤ variables → length m.symbols ≤ symbols →
     Each (IsKnownFormula variables symbols) (bits_at_first bit fs)
@@ -90,9 +84,6 @@ step_known variables symbols bit m (f ∷ fs) modes small n s =
     let a : f.variable < length m.variables = within_of m.variables f.variable modes.0.variable modes.0.is_variable in
     let b : f.symbol < length m.symbols = within_of m.symbols f.symbol modes.0.text modes.0.is_symbol in
     ((omega arith, (omega arith, (omega arith, (omega arith, tt)))), step_known variables symbols (suc bit) m fs modes.1 (omega arith) n s)
-
-pub history_variables : (m : FlatModel) (fs : List Mode) → length (with_history m fs).variables ≡ length m.variables + length fs
-history_variables m fs = length-append m.variables _ ∙ ap (λ k. length m.variables + k) (length_bits 0 fs)
 
 pub knows_history : (m : FlatModel) (fs : List Mode) → KnowsNames m → Each (IsModeOf m) fs → KnowsNames (with_history m fs)
 knows_history m fs knows modes =

@@ -1,26 +1,15 @@
 -- What formulas over variables with known values ask.
 use Rattle.std.proofs.Common.{◌≡◌, ℕ, Bool, true, ◌||◌, ◌&&◌, List, [], ◌∷◌, ◌++◌, length, Option, Some, refl, sym, subst}
-use Rattle.std.specs.Prelude.{slice_get, ◌↔◌, IsTrue}
+use Rattle.std.specs.Prelude.{slice_get, ◌↔◌}
 use Rattle.xs_tree.specs.declared.expr.Op.TheVariants as op
-use Rattle.xs_tree.specs.ProgramTree.{boolean}
-use Rattle.xs_tree.specs.Values.{Value, truth, number, symbol, Values, one, opposite}
+use Rattle.xs_tree.specs.Values.{Value, truth, Values, one, opposite}
 use Rattle.xs_tree.specs.Evaluate.{gives_within, gives_applied, gives_not}
-use Rattle.xs_tree.specs.Trace.{in_domain}
 use Rattle.xs_flat_laws.proofs.Lists.{get_end}
-use Rattle.xs_flat_laws.proofs.Conditions.{iff_then, MayBe, within_iff, may_one}
-
--- `in` with one value on each side holds where they are the same
-pub within_one : (a b : Option Values) (x y : Value) → a ≡ Some (one x) → b ≡ Some (one y) → (MayBe (gives_within a b) (truth true) ↔ (x ≡ y))
-within_one a b x y e g =
-    subst (λ o. MayBe (gives_within o b) (truth true) ↔ (x ≡ y)) (sym e)
-    (subst (λ o. MayBe (gives_within (Some (one x)) o) (truth true) ↔ (x ≡ y)) (sym g) (iff_then (within_iff (Some (one y)) x) (may_one y x)))
+use Rattle.xs_flat_laws.proofs.Conditions.{MayBe, within_iff}
 
 -- `in` with one value on the left holds where it is one of those on the right
 pub within_any : (a b : Option Values) (x : Value) → a ≡ Some (one x) → (MayBe (gives_within a b) (truth true) ↔ MayBe b x)
 within_any a b x e = subst (λ o. MayBe (gives_within o b) (truth true) ↔ MayBe b x) (sym e) (within_iff b x)
-
-pub gives_or : (a b : Option Values) (x y : Bool) → a ≡ Some (one (truth x)) → b ≡ Some (one (truth y)) → gives_applied op.Or a b ≡ Some (one (truth (x || y)))
-gives_or a b x y e g = rw (e, g) refl
 
 pub gives_and : (a b : Option Values) (x y : Bool) → a ≡ Some (one (truth x)) → b ≡ Some (one (truth y)) → gives_applied op.And a b ≡ Some (one (truth (x && y)))
 gives_and a b x y e g = rw (e, g) refl

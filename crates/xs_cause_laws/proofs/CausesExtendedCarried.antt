@@ -9,7 +9,6 @@ use Rattle.xs_tree.specs.Trace.{Each}
 use Rattle.xs_tree.specs.Flat.{FlatLeaf, FlatModel}
 use Rattle.xs_flat_laws.specs.History.{Mode}
 use Rattle.xs_flat_laws.specs.FlatTrace.{IsFlatTrace, stands}
-use Rattle.xs_flat_laws.specs.Model.{EachBoth}
 use Rattle.xs_type_laws.specs.Laws.{values_by_number}
 use Rattle.xs_fei.specs.Instructions.{InstructionTree}
 use Rattle.xs_weave.specs.Extended.{Moment, IsExtended, Reaches}
@@ -20,7 +19,7 @@ use Rattle.xs_right_laws.proofs.Carried.{right_carried}
 use Rattle.xs_encode_laws.specs.FlatTraces.{ReachesTop, HasFailedNumber}
 use Rattle.xs_certificate_laws.specs.ExtendedTraces.{IsExtensionModel, IsModeOfFault, IsFlatCut, HasFailedFault}
 use Rattle.xs_certificate_laws.proofs.Modes.{stands_iff}
-use Rattle.xs_certificate_laws.proofs.Carried.{both_left, both_right, fault_of_slice, cut_long, correspond, uncut}
+use Rattle.xs_certificate_laws.proofs.Carried.{fault_of_slice, cut_long, correspond, uncut}
 use Rattle.xs_cause_laws.specs.Causes.{CommonCause, IsCauseOf}
 use Rattle.xs_cause_laws.specs.Caused.{AreCaused, HasHappened}
 use Rattle.xs_cause_laws.specs.Staged.{mode_of}
@@ -31,6 +30,9 @@ use Rattle.xs_cause_laws.specs.CausesRightLaws.{Caused, IsCaused, IsShortCaused,
 use Rattle.xs_cause_laws.specs.CausedTraces.{CausedTrace, FaultStandsAt, IsCausedExtended, IsShortCausedExtended, CausedReachesTop, HasEvent}
 use Rattle.xs_cause_laws.specs.CausesExtendedLaws.{IsCausedCut, AllRightIsCausedExtended, ShortRightIsCausedExtended}
 use Rattle.xs_cause_laws.proofs.Alike.{AreAlike, caused_alike, happened_alike}
+use Rattle.xs_type_laws.proofs.WrittenLaws.{get_map as map_get}
+use Rattle.xs_type_laws.proofs.ClosedLaws.{same_length as both_count}
+use Rattle.xs_flat_laws.proofs.Variables.{both_at as both_left, both_at_second as both_right}
 
 pub get_mapped : {A B : Type 0} (h : A → B) (xs : List A) (k : ℕ) (y : B) → slice_get (map h xs) k ≡ Some y → (x : A) × (slice_get xs k ≡ Some x) × (h x ≡ y)
 get_mapped h [] k y e = cc
@@ -39,20 +41,6 @@ get_mapped h (x ∷ xs) zero y e = (x, refl, same (h x) y e)
     same : {B : Type 0} (a b : B) → Some a ≡ Some b → a ≡ b
     same a b e = cc
 get_mapped h (x ∷ xs) (suc k) y e = get_mapped h xs k y e
-
-pub map_get : {A B : Type 0} (h : A → B) (xs : List A) (k : ℕ) (x : A) → slice_get xs k ≡ Some x → slice_get (map h xs) k ≡ Some (h x)
-map_get h [] k x e = cc
-map_get h (y ∷ xs) zero x e = let same : y ≡ x = inner y x e in ap (λ z. Some (h z)) same
-  where
-    inner : {A : Type 0} (a b : A) → Some a ≡ Some b → a ≡ b
-    inner a b e = cc
-map_get h (y ∷ xs) (suc k) x e = map_get h xs k x e
-
-both_count : {A B : Type 0} (R : A → B → Type 0) (xs : List A) (ys : List B) → EachBoth R xs ys → length xs ≡ length ys
-both_count R [] [] h = refl
-both_count R [] (y ∷ ys) h = absurd h
-both_count R (x ∷ xs) [] h = absurd h
-both_count R (x ∷ xs) (y ∷ ys) h = ap suc (both_count R xs ys h.1)
 
 module _ (p : ProgramTree) (i : InstructionTree) (faults : List Fault) (top : Formula) (m : FlatModel) (fs : List Mode) (flat_top : Tree FlatLeaf) (model : IsExtensionModel p i faults top m fs flat_top) where
   many : length faults ≡ length fs

@@ -1,12 +1,11 @@
 -- No two instances that a module declares have one name.
-use Rattle.std.proofs.Common.{◌≡◌, ◌≢◌, ℕ, suc, ◌+◌, Bool, true, false, List, [], ◌∷◌, ◌++◌, length, map, Some, refl, sym, ◌∙◌, subst}
+use Rattle.std.proofs.Common.{◌≡◌, ◌≢◌, ℕ, suc, ◌+◌, Bool, true, false, List, [], ◌∷◌, ◌++◌, length, map, Some, refl, ◌∙◌, subst}
 use Rattle.std.specs.Prelude.{flat_map, if◌then◌else◌}
 use Rattle.std.proofs.lemmas.Grind.{flat_map-append}
 use Rattle.xs_tree.specs.ProgramTree.{Text, DeclaredTree, boolean, range, members, instance, DeclTree, SectionTree, var, ivar, frozen, define, constants, assign, init, invar, trans, ModuleTree, ProgramTree}
 use Rattle.xs_tree.specs.Texts.{same_text, is_among}
 use Rattle.xs_tree.specs.Scope.{state, find_module}
 use Rattle.xs_tree.specs.Trace.{Each}
-use Rattle.xs_tree.proofs.ValueLaws.{same_text_refl}
 use Rattle.xs_flat_laws.specs.Items.{Item, a_declaration, a_definition, an_assignment, some_constants, an_init, an_invar, a_trans, items_of_section, items_of, NumberedItem, numbered_from, numbered_items, modules_from, items_found}
 use Rattle.xs_flat_laws.specs.Rules.{names_of_item, IsWalkable}
 use Rattle.xs_flat_laws.proofs.Lists.{each_more}
@@ -15,15 +14,10 @@ use Rattle.xs_flat_laws.proofs.KindLaws.{ItemFacts, among_split}
 use Rattle.xs_flat_laws.proofs.Places.{facts_named}
 use Rattle.xs_weave.specs.Faults.{instance_names_in, instance_names}
 use Rattle.xs_cause_laws.proofs.Differ.{Differ, pairs_right}
+use Rattle.xs_weave.proofs.WovenExamples.{texts_differ as differs}
 
 abbrev names_of : List Item → List Text
 names_of items = flat_map names_of_item items
-
-pub differs : (x y : Text) → same_text x y ≡ false → x ≢ y
-differs x y h e = bad (sym (same_text_refl x) ∙ subst (λ z. same_text x z ≡ false) (sym e) h)
-  where
-    bad : true ≡ false → ⊥
-    bad q = cc
 
 -- a name that the items have not
 abbrev IsNew : List Item → Text → Type 0

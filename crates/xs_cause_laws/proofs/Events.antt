@@ -11,19 +11,20 @@ use Rattle.xs_flat_laws.proofs.Lists.{get_left}
 use Rattle.xs_encode_laws.specs.FlatTraces.{HasFailedNumber}
 use Rattle.xs_right_laws.specs.Sets.{has_number}
 use Rattle.xs_cause_laws.proofs.Columns.{EachFrom, each_from_more}
-use Rattle.xs_cause_laws.proofs.AddedKnown.{within_of}
 use Rattle.xs_cause_laws.specs.Causes.{CommonCause}
 use Rattle.xs_cause_laws.specs.Caused.{IsInWindow, IsFree, Occurs, AreCaused, BeginsFreely, HasHappened}
 use Rattle.xs_cause_laws.specs.Staged.{quiet_name, now_name, none_name, self_name, with_each_cause, with_causes, age_numbers, own_events, cause_events, events_of}
 use Rattle.xs_cause_laws.specs.Told.{age_at, event_value, own_value, is_in_window, is_covered, begins, stands_at, causes_told, caused_told}
 use Rattle.xs_cause_laws.specs.Laws.{AreStaged, StandsAt, IsCausedTrace}
 use Rattle.xs_cause_laws.proofs.Ages.{decides_window, age_at_moment}
-use Rattle.xs_cause_laws.proofs.Formulas.{same_text_same}
 use Rattle.xs_cause_laws.proofs.Known.{Knows}
 use Rattle.xs_cause_laws.proofs.EachCause.{WithAges, causes_known, causes_length}
 use Rattle.xs_cause_laws.proofs.StagedTraces.{wanted, known_trace}
 use Rattle.xs_cause_laws.proofs.Stood.{stood_from, stood_to}
 use Rattle.xs_cause_laws.proofs.Readings.{ReadsAt, HaveSize, own_reads, owns_keep, CauseRead, cause_reads, own_event_at, own_events_count, cause_events_count, own_symbol, CauseSymbol, cause_symbol, owns_symbol_kept, owns_length}
+use Rattle.std.proofs.lemmas.Bool.{and_from as and_both}
+use Rattle.std.proofs.lemmas.Option.{same_Some as same_some, slice_get_within as within_of}
+use Rattle.xs_flat_laws.proofs.Conditions.{same_text_same}
 
 -- The symbols tell the test.
 self_tells : (i : ℕ) (t : Bool) → same_text (cond t (self_name i) (none_name i)) (self_name i) ≡ t
@@ -64,9 +65,6 @@ and_left false b h = cc
 and_right : (a b : Bool) → (a && b) ≡ true → b ≡ true
 and_right true b h = h
 and_right false b h = cc
-
-and_both : (a b : Bool) → a ≡ true → b ≡ true → (a && b) ≡ true
-and_both a b e g = rw (e, g) refl
 
 not_true : (a : Bool) → opposite a ≡ true → a ≡ true → ⊥
 not_true true h e = let bad : false ≡ true = h in cc
@@ -128,9 +126,6 @@ get_right : {A : Type 0} (xs ys : List A) (j i : ℕ) (x : A) → i ≡ length x
 get_right [] ys j i x e h = let same : j ≡ i = omega arith in subst (λ n. slice_get ys n ≡ Some x) same h
 get_right (y ∷ xs) ys j zero x e h = absurd (omega arith)
 get_right (y ∷ xs) ys j (suc i) x e h = get_right xs ys j i x (omega arith) h
-
-same_some : {A : Type 0} (a b : A) → Some a ≡ Some b → a ≡ b
-same_some a b e = cc
 
 both_long : (total : ℕ) (Stands : ℕ → ℕ → Type 0) (cs : List CommonCause) (times : List (Option ℕ)) → AreCaused total Stands cs times → length times ≡ length cs
 both_long total Stands [] [] a = refl

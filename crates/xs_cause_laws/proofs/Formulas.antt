@@ -1,6 +1,6 @@
 -- What the expressions of the staged model give over known values.
-use Rattle.std.proofs.Common.{◌≡◌, ℕ, suc, ◌+◌, ◌≤◌, Bool, true, false, cond, ◌&&◌, ◌||◌, List, [], ◌∷◌, ◌++◌, length, Option, Some, refl, ap, ◌∙◌, sym, subst, eq-eqb}
-use Rattle.std.specs.Prelude.{pos, nat_eq, slice_get, IsTrue}
+use Rattle.std.proofs.Common.{◌≡◌, ℕ, suc, ◌+◌, ◌≤◌, Bool, true, false, cond, ◌&&◌, ◌||◌, List, [], ◌∷◌, ◌++◌, length, Option, Some, refl, ap, ◌∙◌, sym, subst}
+use Rattle.std.specs.Prelude.{pos, slice_get, IsTrue}
 use Rattle.xs_tree.specs.declared.expr.Op.TheVariants as op
 use Rattle.xs_tree.specs.Tree.{Tree, binary}
 use Rattle.xs_tree.specs.ProgramTree.{Text}
@@ -11,11 +11,12 @@ use Rattle.xs_tree.specs.Flat.{FlatLeaf, flat_variable, flat_symbol}
 use Rattle.xs_flat_laws.specs.History.{Mode}
 use Rattle.xs_right_laws.specs.Sets.{has_number}
 use Rattle.xs_flat_laws.proofs.Conditions.{MayBe, may_one}
-use Rattle.xs_cause_laws.proofs.AddedReadings.{gives_or, gives_and}
+use Rattle.xs_cause_laws.proofs.AddedReadings.{gives_and}
 use Rattle.xs_cause_laws.specs.Causes.{CommonCause}
 use Rattle.xs_cause_laws.specs.Staged.{in_window, stands_of, mode_of, windows_on, joined_after, joined}
 use Rattle.xs_cause_laws.specs.Told.{age_at, age_value, is_in_window, is_covered}
 use Rattle.xs_cause_laws.proofs.Ages.{window_by_age}
+use Rattle.xs_flat_laws.proofs.HistoryTraces.{or_false, applied_or as gives_or}
 
 -- a window gives whether the moment lies in it
 pub window_gives : (f g : Leaves FlatLeaf) (c : CommonCause) → c.from ≤ c.to → (age : ℕ) (time : Option ℕ) (k : ℕ) → f (flat_variable age) ≡ Some (one (age_value c time k)) →
@@ -41,10 +42,6 @@ AgesRead read (c ∷ cs) (time ∷ times) (age ∷ ages) k = (c.from ≤ c.to) �
 or_more : (a b c : Bool) → ((a || b) || c) ≡ (a || (b || c))
 or_more true b c = refl
 or_more false b c = refl
-
-or_false : (a : Bool) → (a || false) ≡ a
-or_false true = refl
-or_false false = refl
 
 joined_gives : (f g : Leaves FlatLeaf) (i : ℕ) (cs : List CommonCause) (times : List (Option ℕ)) (ages : List ℕ) (k : ℕ) → AgesRead (λ n. f (flat_variable n)) cs times ages k →
     (e : Tree FlatLeaf) (b : Bool) → evaluate f g e ≡ Some (one (truth b)) → evaluate f g (joined_after e (windows_on i cs ages)) ≡ Some (one (truth (b || is_covered cs times i k)))
@@ -98,11 +95,6 @@ with_only x = let one_is : MayBe (Some (one x)) x = (may_one x x).1 refl in (eit
     or_left : (a : Bool) → IsTrue a → IsTrue (a || false)
     or_left true h = refl
     or_left false h = h
-
--- texts that are the same
-pub same_text_same : (x : Text) → same_text x x ≡ true
-same_text_same [] = refl
-same_text_same (c ∷ cs) = rw (eq-eqb c c refl) (same_text_same cs)
 
 -- the two symbols after others
 pub get_two : {A : Type 0} (xs : List A) (a b : A) → (slice_get (xs ++ a ∷ b ∷ []) (length xs) ≡ Some a) × (slice_get (xs ++ a ∷ b ∷ []) (suc (length xs)) ≡ Some b)

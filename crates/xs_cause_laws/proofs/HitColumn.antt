@@ -13,13 +13,14 @@ use Rattle.xs_flat_laws.proofs.Lists.{get_left}
 use Rattle.xs_flat_laws.proofs.Conditions.{MayBe, may_one}
 use Rattle.xs_cause_laws.specs.Added.{Addition, with_addition}
 use Rattle.xs_cause_laws.specs.Columns.{with_values}
-use Rattle.xs_cause_laws.proofs.AddedReadings.{within_one, gives_and, gives_or, get_last, truth_same}
+use Rattle.xs_cause_laws.proofs.AddedReadings.{gives_and, get_last, truth_same}
 use Rattle.xs_cause_laws.proofs.Columns.{EachFrom, one_added, IsForced, Fits}
 use Rattle.xs_cause_laws.specs.Causes.{CommonCause}
 use Rattle.xs_cause_laws.specs.Staged.{hit_name, added_variable, hit_at_first, landed_at_each, hit_at_step, in_window, stands_of, mode_of}
 use Rattle.xs_cause_laws.specs.Told.{age_at, age_value, hit_value, is_in_window, is_hit}
 use Rattle.xs_cause_laws.proofs.Ages.{hit_first, hit_next}
 use Rattle.xs_cause_laws.proofs.Formulas.{window_gives, stands_gives}
+use Rattle.xs_flat_laws.proofs.HistoryTraces.{within_one, applied_or as gives_or}
 
 -- the mode's variable has a symbol, which tells whether the fault stands at the moment
 pub record ReadsMode (fs : List Mode) (i : ℕ) (wanted : Text) (stands : ℕ → ℕ → Bool) (k : ℕ) (v : List Value) : Type 0 where

@@ -12,13 +12,13 @@ use Rattle.xs_cause_laws.specs.Added.{Addition, beside, AreAdded}
 use Rattle.xs_cause_laws.specs.Columns.{with_value}
 use Rattle.xs_cause_laws.proofs.Traces.{taken_apart}
 use Rattle.xs_cause_laws.proofs.Columns.{EachFrom, one_added, forced, fitting, with_values_length}
-use Rattle.xs_cause_laws.proofs.AddedKnown.{within_of}
 use Rattle.xs_cause_laws.specs.Causes.{CommonCause}
 use Rattle.xs_cause_laws.specs.Staged.{hit_name, added_variable, hit_at_first, landed_at_each, hit_at_step, with_hit, with_hits, mode_of}
 use Rattle.xs_cause_laws.specs.Told.{age_at, is_hit, age_value, hit_value, hits_told}
 use Rattle.xs_cause_laws.proofs.Known.{IsReady, ready_added, Lasting, Knows, known_value, at_number}
 use Rattle.xs_cause_laws.proofs.HitColumn.{is_landed, hit_forced, hit_fits, landed_all}
 use Rattle.xs_tree.specs.ProgramTree.{boolean}
+use Rattle.std.proofs.lemmas.Option.{slice_get_within as within_of}
 
 -- the numbers are those of faults
 abbrev pub AreNumbers : List Mode → List ℕ → Type 0

@@ -1,6 +1,6 @@
 -- What a model's own formulas say of a valuation, they say of a longer one over more symbols.
-use Rattle.std.proofs.Common.{◌≡◌, ℕ, suc, ◌<◌, true, List, [], ◌∷◌, ◌++◌, length, Option, Some, refl, ap, ◌∙◌, sym, subst}
-use Rattle.std.specs.Prelude.{slice_get, ◌↔◌}
+use Rattle.std.proofs.Common.{◌≡◌, ◌<◌, true, List, [], ◌∷◌, ◌++◌, length, Option, refl, ap, ◌∙◌, sym, subst}
+use Rattle.std.specs.Prelude.{◌↔◌}
 use Rattle.xs_tree.specs.ProgramTree.{Text}
 use Rattle.xs_tree.specs.Values.{Value, truth, Values}
 use Rattle.xs_tree.specs.Evaluate.{evaluate}
@@ -8,13 +8,11 @@ use Rattle.xs_tree.specs.Trace.{Each}
 use Rattle.xs_tree.specs.Flat.{FlatLeaf, flat_variable, flat_symbol, flat_definition, FlatVariable, FlatFormula, FlatModel, one_of, symbol_of, flat_leaves, definition_gives, table_after, leaves_at, Holds}
 use Rattle.xs_flat_laws.specs.FlatTrace.{AreInDomains}
 use Rattle.xs_flat_laws.specs.Resolved.{leaves_in}
-use Rattle.xs_flat_laws.proofs.Lists.{get_left, get_within, each_more}
+use Rattle.xs_flat_laws.proofs.Lists.{each_more}
 use Rattle.xs_flat_laws.proofs.Conditions.{MayBe}
 use Rattle.xs_flat_laws.proofs.Now.{BothSame, same_on}
 use Rattle.xs_cause_laws.specs.Added.{Addition, with_addition, IsKnownName, IsKnownFormula, ReadsKnown, KnowsNames}
-
-pub get_before : {A : Type 0} (xs ys : List A) (i : ℕ) → i < length xs → slice_get (xs ++ ys) i ≡ slice_get xs i
-get_before {A = A} xs ys i h = let x : (x : A) × (slice_get xs i ≡ Some x) = get_within xs i h in get_left xs ys i x.0 x.1 ∙ sym x.1
+use Rattle.xs_flat_laws.proofs.HistoryTraces.{get_before}
 
 module _ (symbols others : List Text) where
   leaf_longer : (v more : List Value) (table : List (Option Values)) (l : FlatLeaf) → IsKnownName (length v) (length symbols) l →
@@ -88,9 +86,3 @@ whole [] ys [] more h k = k
 whole [] ys (b ∷ v) more h k = absurd h
 whole (x ∷ xs) ys [] more h k = absurd h
 whole (x ∷ xs) ys (b ∷ v) more h k = (h.0, whole xs ys v more h.1 k)
-
-pub domains_length : (xs : List FlatVariable) (v : List Value) → AreInDomains xs v → length v ≡ length xs
-domains_length [] [] h = refl
-domains_length [] (b ∷ v) h = absurd h
-domains_length (x ∷ xs) [] h = absurd h
-domains_length (x ∷ xs) (b ∷ v) h = ap suc (domains_length xs v h.1)

@@ -9,6 +9,7 @@ use Rattle.xs_cause_laws.specs.Caused.{IsStruck, Occurs}
 use Rattle.xs_cause_laws.specs.Told.{age_at, is_in_window, some_up_to, is_hit}
 use Rattle.xs_cause_laws.proofs.Ages.{IsMomentOf, age_lands, decides_window, some_means, some_from}
 use Rattle.xs_cause_laws.proofs.Hits.{Landed}
+use Rattle.std.proofs.lemmas.Bool.{and_from as and_both}
 
 and_left : (a b : Bool) → (a && b) ≡ true → a ≡ true
 and_left true b h = refl
@@ -17,9 +18,6 @@ and_left false b h = cc
 and_right : (a b : Bool) → (a && b) ≡ true → b ≡ true
 and_right true b h = h
 and_right false b h = cc
-
-and_both : (a b : Bool) → a ≡ true → b ≡ true → (a && b) ≡ true
-and_both a b e g = rw (e, g) refl
 
 module _ (stands : ℕ → ℕ → Bool) (total : ℕ) (c : CommonCause) where
   abbrev Stands : ℕ → ℕ → Type 0

@@ -15,6 +15,7 @@ use Rattle.xs_cause_laws.proofs.Ages.{age_at_moment}
 use Rattle.xs_cause_laws.proofs.EachCause.{causes_length}
 use Rattle.xs_cause_laws.proofs.OneCause.{cause_length}
 use Rattle.xs_cause_laws.proofs.StagedTraces.{wanted}
+use Rattle.xs_cause_laws.proofs.Grown.{joined}
 
 -- lists that end alike
 snoc_front : (v w : List Value) (a b : Value) → (v ++ a ∷ []) ≡ (w ++ b ∷ []) → (v ≡ w) × (a ≡ b)
@@ -56,9 +57,6 @@ heads x y xs ys e = cc
 
 tails : (x y : List Value) (xs ys : List (List Value)) → (x ∷ xs) ≡ (y ∷ ys) → xs ≡ ys
 tails x y xs ys e = cc
-
-joined : (x y : List Value) (xs ys : List (List Value)) → x ≡ y → xs ≡ ys → (x ∷ xs) ≡ (y ∷ ys)
-joined x y xs ys e g = cc
 
 -- one more value each: what it was added to is the same, and so are the values
 values_from : (g h : ℕ → Value) (k : ℕ) (vs ws : List (List Value)) → with_values g k vs ≡ with_values h k ws → (vs ≡ ws) × ((j i : ℕ) → i ≡ k + j → j < length vs → g i ≡ h i)

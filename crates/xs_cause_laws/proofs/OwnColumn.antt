@@ -12,14 +12,14 @@ use Rattle.xs_tree.specs.Trace.{in_domain}
 use Rattle.xs_tree.specs.Flat.{FlatLeaf, FlatModel, FlatVariable, one_of, symbol_of, leaves_at, Holds}
 use Rattle.xs_flat_laws.specs.History.{Mode}
 use Rattle.xs_flat_laws.proofs.Lists.{get_left}
-use Rattle.xs_flat_laws.proofs.Conditions.{MayBe}
+use Rattle.xs_flat_laws.proofs.Conditions.{MayBe, same_text_same}
 use Rattle.xs_cause_laws.specs.Added.{Addition, with_addition}
 use Rattle.xs_cause_laws.proofs.AddedReadings.{within_any, gives_and, gives_opposite, get_last}
 use Rattle.xs_cause_laws.proofs.Columns.{one_added, IsForced, Fits}
 use Rattle.xs_cause_laws.specs.Causes.{CommonCause}
 use Rattle.xs_cause_laws.specs.Staged.{own_name, none_name, self_name, added_variable, own_at_first, own_at_step, stands_of, mode_of, windows_on, joined}
 use Rattle.xs_cause_laws.specs.Told.{age_value, own_value, begins, is_covered}
-use Rattle.xs_cause_laws.proofs.Formulas.{AgesRead, covered_gives, stands_gives, only_one, with_only, same_text_same, get_two}
+use Rattle.xs_cause_laws.proofs.Formulas.{AgesRead, covered_gives, stands_gives, only_one, with_only, get_two}
 use Rattle.xs_cause_laws.proofs.HitColumn.{ReadsMode}
 
 -- the ages of causes in a valuation

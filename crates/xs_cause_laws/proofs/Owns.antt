@@ -17,13 +17,13 @@ use Rattle.xs_cause_laws.specs.Added.{Addition, IsKnownName, beside, AreAdded}
 use Rattle.xs_cause_laws.specs.Columns.{with_value}
 use Rattle.xs_cause_laws.proofs.Traces.{taken_apart}
 use Rattle.xs_cause_laws.proofs.Columns.{EachFrom, one_added, forced, fitting}
-use Rattle.xs_cause_laws.proofs.AddedKnown.{within_of}
 use Rattle.xs_cause_laws.specs.Causes.{CommonCause}
 use Rattle.xs_cause_laws.specs.Staged.{own_name, none_name, self_name, added_variable, own_at_first, own_at_step, in_window, stands_of, mode_of, windows_on, joined_after, joined, with_own, with_owns}
 use Rattle.xs_cause_laws.specs.Told.{own_value, owns_told}
 use Rattle.xs_cause_laws.proofs.Known.{IsReady, ready_added, Lasting, Knows, known_value}
 use Rattle.xs_cause_laws.proofs.OwnColumn.{own_forced, own_fits}
 use Rattle.xs_cause_laws.proofs.EachCause.{WithAges, with_ages_lasts}
+use Rattle.std.proofs.lemmas.Option.{slice_get_within as within_of}
 
 -- each number is that of a variable
 abbrev pub AreVariables : ℕ → List ℕ → Type 0

@@ -1,37 +1,16 @@
 -- No instance of a program stands twice in the list of its instances.
-use Rattle.std.proofs.Common.{◌≡◌, ◌≢◌, ℕ, zero, suc, ◌+◌, List, [], ◌∷◌, ◌++◌, length, Option, Some, None, refl, sym, ◌∙◌, ap, subst, arith}
+use Rattle.std.proofs.Common.{◌≡◌, ◌≢◌, ℕ, zero, suc, ◌+◌, List, [], ◌∷◌, ◌++◌, Option, Some, None, refl, sym, ◌∙◌, ap, subst}
 use Rattle.xs_tree.specs.ProgramTree.{Text, ModuleTree, ProgramTree}
 use Rattle.xs_tree.specs.Scope.{Place, module_at}
 use Rattle.xs_tree.specs.Trace.{Each}
 use Rattle.xs_flat_laws.specs.Rules.{IsWalkable}
 use Rattle.xs_flat_laws.proofs.Lists.{each_more}
 use Rattle.xs_flat_laws.proofs.Conditions.{each_join}
-use Rattle.xs_flat_laws.proofs.Apart.{Under}
+use Rattle.xs_flat_laws.proofs.Apart.{Under, not_inside, same_length_ends as one_name, places_joined as joined_again}
 use Rattle.xs_weave.specs.Faults.{instance_names, joined, each_joined, below, instances_in, HasInstances}
 use Rattle.xs_weave_rules.proofs.KeptFacts.{instance_found}
 use Rattle.xs_cause_laws.proofs.Differ.{Differ, pairs_join, across_kinds}
 use Rattle.xs_cause_laws.proofs.Declared.{declared_differ}
-
--- Places in one instance under two of its names differ, and none of them is the instance.
-length_joined : (xs ys : Place) → length (xs ++ ys) ≡ length xs + length ys
-length_joined [] ys = omega arith
-length_joined (x ∷ xs) ys = ap suc (length_joined xs ys) ∙ omega arith
-
-not_inside : (at : Place) (x : Text) (front : Place) → at ≡ front ++ x ∷ at → ⊥
-not_inside at x front e = too_long (length at) (length front) (ap (λ (p : Place). length p) e ∙ length_joined front (x ∷ at))
-  where
-    too_long : (a f : ℕ) → a ≡ f + suc a → ⊥
-    too_long a f h = omega (arith, h)
-
-one_name : (f g : Place) (x y : Text) (at : Place) → f ++ x ∷ at ≡ g ++ y ∷ at → x ≡ y
-one_name [] [] x y at e = cc
-one_name [] (z ∷ g) x y at e = let t : at ≡ g ++ y ∷ at = cc in absurd (not_inside at y g t)
-one_name (z ∷ f) [] x y at e = let t : at ≡ f ++ x ∷ at = cc in absurd (not_inside at x f t)
-one_name (z ∷ f) (u ∷ g) x y at e = let t : f ++ x ∷ at ≡ g ++ y ∷ at = cc in one_name f g x y at t
-
-joined_again : (front : Place) (x : Text) (at : Place) → front ++ x ∷ at ≡ (front ++ x ∷ []) ++ at
-joined_again [] x at = refl
-joined_again (y ∷ front) x at = ap (λ ws. y ∷ ws) (joined_again front x at)
 
 -- two lists that were joined
 record AreParts (a b : Option (List Place)) (places : List Place) : Type 0 where

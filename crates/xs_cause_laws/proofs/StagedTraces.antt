@@ -5,14 +5,12 @@ use Rattle.xs_tree.specs.ProgramTree.{Text}
 use Rattle.xs_tree.specs.Values.{Value, symbol}
 use Rattle.xs_tree.specs.Texts.{same_text}
 use Rattle.xs_tree.specs.Trace.{Each, in_domain}
-use Rattle.xs_tree.specs.Flat.{FlatVariable, FlatModel}
+use Rattle.xs_tree.specs.Flat.{FlatModel}
 use Rattle.xs_flat_laws.specs.FlatTrace.{AreInDomains, IsFlatMoment, IsFlatTrace, IsModeOf, is_symbol_value}
 use Rattle.xs_flat_laws.specs.History.{Mode}
 use Rattle.xs_flat_laws.proofs.Conditions.{each_at}
 use Rattle.xs_cause_laws.specs.Added.{KnowsNames}
-use Rattle.xs_cause_laws.proofs.Longer.{domains_length}
 use Rattle.xs_cause_laws.proofs.Columns.{EachFrom}
-use Rattle.xs_cause_laws.proofs.AddedKnown.{within_of}
 use Rattle.xs_cause_laws.specs.Causes.{CommonCause, IsCauseOf}
 use Rattle.xs_cause_laws.specs.Caused.{AreCaused}
 use Rattle.xs_cause_laws.specs.Staged.{mode_of, with_cause, with_each_cause, with_causes, age_numbers}
@@ -23,6 +21,8 @@ use Rattle.xs_cause_laws.proofs.Known.{IsReady, Knows, from_each}
 use Rattle.xs_cause_laws.proofs.OneCause.{cause_count}
 use Rattle.xs_cause_laws.proofs.EachCause.{WithAges, causes_ready, causes_known, causes_backward, CausesTold, causes_forward}
 use Rattle.xs_cause_laws.proofs.Owns.{AreVariables, OwnsTold, owns_forward, owns_backward}
+use Rattle.std.proofs.lemmas.Option.{slice_get_within as within_of}
+use Rattle.xs_flat_laws.proofs.HistoryTraces.{domain_at, domains_length}
 
 -- the text of a symbol that is there
 abbrev pub text_or_none : Option Text → Text
@@ -34,13 +34,6 @@ pub mode_there : (fs : List Mode) (j : ℕ) (d : Mode) → j < length fs → sli
 mode_there [] j d h = absurd (omega arith)
 mode_there (f ∷ fs) zero d h = refl
 mode_there (f ∷ fs) (suc j) d h = mode_there fs j d (omega arith)
-
-domain_at : (xs : List FlatVariable) (v : List Value) (i : ℕ) (x : FlatVariable) → AreInDomains xs v → slice_get xs i ≡ Some x →
-    (b : Value) × (slice_get v i ≡ Some b) × IsTrue (in_domain x.declared b)
-domain_at [] v i x h e = cc
-domain_at (y ∷ xs) [] i x h e = absurd h
-domain_at (y ∷ xs) (b ∷ v) zero x h e = let same : y ≡ x = cc in (b, refl, subst (λ (z : FlatVariable). IsTrue (in_domain z.declared b)) same h.0)
-domain_at (y ∷ xs) (b ∷ v) (suc i) x h e = domain_at xs v i x h.1 e
 
 module _ (m : FlatModel) (fs : List Mode) (modes : Each (IsModeOf m) fs) where
   abbrev pub wanted : ℕ → Text

@@ -7,25 +7,15 @@ use Rattle.xs_flat_laws.specs.History.{Mode}
 use Rattle.xs_flat_laws.specs.FlatTrace.{IsFlatTrace, stands, stands_in_some}
 use Rattle.xs_encode_laws.specs.FlatTraces.{HasFailedNumber}
 use Rattle.xs_cause_laws.proofs.Columns.{EachFrom}
-use Rattle.xs_cause_laws.proofs.AddedKnown.{within_of}
 use Rattle.xs_cause_laws.specs.Causes.{CommonCause}
 use Rattle.xs_cause_laws.specs.Caused.{IsFree, AreCaused, BeginsFreely, HasHappened}
 use Rattle.xs_cause_laws.specs.Staged.{mode_of}
 use Rattle.xs_cause_laws.specs.Told.{stands_there}
 use Rattle.xs_cause_laws.specs.Laws.{AreStaged, StandsAt, IsCausedTrace}
 use Rattle.xs_cause_laws.proofs.StagedTraces.{mode_there}
-
--- a test of each valuation tells whether some passes it
-pub or_parts : (a b : Bool) → (a || b) ≡ true → (a ≡ true) ⊎ (b ≡ true)
-or_parts true b h = inl refl
-or_parts false b h = inr h
-
-pub or_left : (a b : Bool) → a ≡ true → (a || b) ≡ true
-or_left a b e = rw e refl
-
-pub or_right : (a b : Bool) → b ≡ true → (a || b) ≡ true
-or_right true b e = refl
-or_right false b e = e
+use Rattle.std.proofs.lemmas.Bool.{or_left, or_right}
+use Rattle.std.proofs.lemmas.Option.{slice_get_within as within_of}
+use Rattle.xs_fei.proofs.TemplateLaws.{or_cases' as or_parts}
 
 pub stood_from : (m : FlatModel) (f : Mode) (g : ℕ → Bool) (k : ℕ) (vs : List (List Value)) → EachFrom (λ j v. stands m f v ≡ g j) k vs → stands_in_some m f vs ≡ true → (j : ℕ) × (k ≤ j) × (j < k + length vs) × (g j ≡ true)
 stood_from m f g k [] h e = cc

@@ -8,7 +8,8 @@ use Rattle.xs_flat_laws.specs.FlatTrace.{AreInDomains, IsFlatMoment, IsFlatStep,
 use Rattle.xs_flat_laws.proofs.Reaches.{each_left, each_right}
 use Rattle.xs_flat_laws.proofs.Conditions.{each_join}
 use Rattle.xs_cause_laws.specs.Added.{Addition, with_addition, KnowsNames, beside, AreAdded}
-use Rattle.xs_cause_laws.proofs.Longer.{hold_longer, Parts, parts, whole, domains_length}
+use Rattle.xs_cause_laws.proofs.Longer.{hold_longer, Parts, parts, whole}
+use Rattle.xs_flat_laws.proofs.HistoryTraces.{domains_length}
 
 module _ (m : FlatModel) (a : Addition) (knows : KnowsNames m) where
   abbrev made : FlatModel

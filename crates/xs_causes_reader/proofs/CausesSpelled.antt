@@ -1,12 +1,12 @@
 -- Lexemes that are read to the end spell the causes that are read.
-use Rattle.std.proofs.Common.{◌≡◌, ◌⊎◌, inl, inr, ℕ, Bool, true, false, List, [], ◌∷◌, ◌++◌, Option, Some, None, refl, sym, ◌∙◌, ap, subst}
+use Rattle.std.proofs.Common.{◌≡◌, ◌⊎◌, ℕ, Bool, true, false, List, [], ◌∷◌, ◌++◌, Option, Some, None, refl, sym, ◌∙◌, ap, subst}
 use Rattle.std.specs.Prelude.{codes}
 use Rattle.std.proofs.lemmas.List.{append-nil, append_assoc}
 use Rattle.xs_lexer.specs.declared.token.TokenKind.TheVariants as k
 use Rattle.xs_tree.specs.ProgramTree.{Text, Path}
 use Rattle.xs_tree.specs.Lexemes.{Lexeme, word, num, sign, is_reserved}
 use Rattle.xs_tree.specs.Spells.{SpellsDotted, one_name, more_names}
-use Rattle.xs_tree.specs.SpellsProgram.{SpellsCommas, last_one, one_comma, SpellsMany, no_more, one_more}
+use Rattle.xs_tree.specs.SpellsProgram.{SpellsCommas, last_one, one_comma, no_more, one_more}
 use Rattle.xs_expression_reader.specs.Build.{name_in, number_in}
 use Rattle.xs_expression_reader.specs.Places.{is_word}
 use Rattle.xs_expression_reader.specs.Marks.{Mark, a_name, a_number, s_dots, s_dot, s_comma, s_semicolon, mark_of}
@@ -14,10 +14,7 @@ use Rattle.xs_expression_reader.proofs.Marks.{Marked, marked, word_there}
 use Rattle.xs_cause_laws.specs.CausesText.{WrittenCause, SpellsCause, a_cause, SpellsCauses}
 use Rattle.xs_causes_reader.specs.CausesRead.{Stage, start, named, within, first, dots, last, strikes, part, after, ReadSoFar, so_far, where_so, name_read, first_read, is_dots, last_read, part_read, cause_read, after_read, stepped, run}
 use Rattle.xs_causes_reader.proofs.CausesReads.{run_none}
-
--- what two answers have is the same
-pub some_same : {A : Type 0} (x y : A) → Some x ≡ Some y → x ≡ y
-some_same x y e = cc
+use Rattle.std.proofs.lemmas.Option.{same_Some as some_same}
 
 -- the rest of a fault's name, with the names behind it
 data PartLeft : List Lexeme → Path → List Path → Type 0 where

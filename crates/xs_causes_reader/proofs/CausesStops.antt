@@ -3,7 +3,7 @@ use Rattle.std.proofs.Common.{◌≡◌, ℕ, ◌+◌, ◌<◌, ◌≤◌, Bool,
 use Rattle.std.specs.Prelude.{codes, slice_get}
 use Rattle.std.specs.Option.{option_map}
 use Rattle.std.proofs.lemmas.List.{take_more, take_all, length-map, append-nil}
-use Rattle.std.proofs.lemmas.Option.{slice_get-map}
+use Rattle.std.proofs.lemmas.Option.{slice_get-map, same_Some as some_same}
 use Rattle.xs_lexer.specs.declared.token.TokenKind.TheVariants as k
 use Rattle.xs_lexer.specs.declared.token.Token.{Token}
 use Rattle.xs_lexer.specs.Tokens.{HasTokens}
@@ -18,7 +18,7 @@ use Rattle.xs_cause_laws.specs.CausesText.{WrittenCause, SpellsCauses, BytesSpel
 use Rattle.xs_causes_reader.specs.CausesRead.{Stage, start, named, within, first, dots, last, strikes, part, after, ReadSoFar, so_far, read_more, run, read_of, IsCauses}
 use Rattle.xs_causes_reader.specs.ReadView.{Goes, is_start, reading_at, ReadsTo}
 use Rattle.xs_causes_reader.proofs.CausesReads.{run_append, run_none, causes_are_read}
-use Rattle.xs_causes_reader.proofs.CausesSpelled.{spelled_of, some_same}
+use Rattle.xs_causes_reader.proofs.CausesSpelled.{spelled_of}
 
 -- a text that ends what is begun
 abbrev from_part : List Lexeme

@@ -1,7 +1,7 @@
 -- Bytes are read as causes in one way, and the first rule that they break is one.
-use Rattle.std.proofs.Common.{arith, ◌≡◌, ◌⊎◌, ⊎_elim, inl, inr, ℕ, zero, suc, ◌-◌, ◌<◌, Bool, true, false, List, [], ◌∷◌, ◌++◌, Some, None, length, map, take, refl, sym, ap, ◌∙◌, subst, append_assoc, append-nil}
+use Rattle.std.proofs.Common.{arith, ◌≡◌, ◌⊎◌, ⊎_elim, inl, inr, ℕ, zero, suc, ◌-◌, ◌<◌, true, false, List, [], ◌∷◌, ◌++◌, Some, None, length, map, take, refl, sym, ap, ◌∙◌, subst, append_assoc, append-nil}
 use Rattle.std.specs.Prelude.{◌||◌, ◌&&◌, slice_get}
-use Rattle.std.proofs.lemmas.Bool.{cases_lt}
+use Rattle.std.proofs.lemmas.Bool.{cases_lt, and_from as both_true, or_left as or_first, or_right as or_second}
 use Rattle.xs_lexer.specs.declared.token.Token.{Token}
 use Rattle.xs_lexer.proofs.SplitLemmas.{one_answer}
 use Rattle.xs_tree.specs.ProgramTree.{Path, ProgramTree}
@@ -15,8 +15,8 @@ use Rattle.xs_cause_laws.specs.CausesText.{WrittenCause, SpellsCauses, BytesSpel
 use Rattle.xs_cause_laws.specs.CauseRules.{fault_path, same_path, is_path_among, CauseRule, broken_at, AllKept, IsBrokenAt, AreOwnsTaken, AreLawful, IsReadAs, AreReadAs}
 use Rattle.xs_causes_reader.specs.CausesRead.{start, so_far}
 use Rattle.xs_causes_reader.specs.Read.{IsNumberOf, AreStrikes, AreRead, BreakRule}
-use Rattle.xs_causes_reader.proofs.CausesSpelled.{some_same}
 use Rattle.xs_causes_reader.proofs.CausesReads.{causes_are_read}
+use Rattle.std.proofs.lemmas.Option.{same_Some as some_same}
 
 -- the bytes spell one list of causes
 pub one_written : (bytes : List ℕ) (cs ds : List WrittenCause) → BytesSpellCauses bytes cs → BytesSpellCauses bytes ds → cs ≡ ds
@@ -24,22 +24,9 @@ one_written bytes cs ds h g =
     let there : SpellsCauses (lexemes_of bytes h.0) ds = subst (λ (ts : List Token). SpellsCauses (lexemes_of bytes ts) ds) (one_answer bytes h.0 g.0 h.1 g.1) g.2 in
     ap (λ r. r.causes) (some_same (so_far start cs) (so_far start ds) (sym (causes_are_read [] h.2) ∙ causes_are_read [] there))
 
--- a path has one number
-both_true : (a b : Bool) → a ≡ true → b ≡ true → (a && b) ≡ true
-both_true true b e g = g
-both_true false b e g = let bad : false ≡ true = e in cc
-
 same_itself : (p : Path) → same_path p p ≡ true
 same_itself [] = refl
 same_itself (x ∷ xs) = both_true (same_text x x) (same_path xs xs) (same_text_refl x) (same_itself xs)
-
-or_first : (a b : Bool) → a ≡ true → (a || b) ≡ true
-or_first true b e = refl
-or_first false b e = let bad : false ≡ true = e in cc
-
-or_second : (a b : Bool) → b ≡ true → (a || b) ≡ true
-or_second true b e = refl
-or_second false b e = e
 
 among_those : (paths : List Path) (k n : ℕ) (p : Path) → k < n → slice_get paths k ≡ Some p → is_path_among (take n paths) p ≡ true
 among_those [] k n p less e = let bad : None ≡ Some p = e in cc

@@ -10,7 +10,8 @@ use Rattle.xs_tree.specs.Scope.{is_symbol_of_type, is_symbol_of_members}
 use Rattle.xs_weave_rules.specs.Rules.{is_name_of_decls, is_name_of_defines, is_name_of_section, is_name_of_module, is_program_name}
 use Rattle.xs_weave_rules.specs.Keyed.{with_texts}
 use Rattle.xs_weave_rules.specs.Names.{member_names, type_names, decl_names, define_name, section_names, module_names, program_names}
-use Rattle.xs_causes_reader.proofs.Keyed.{among_append, among_texts}
+use Rattle.xs_causes_reader.proofs.Keyed.{among_append}
+use Rattle.xs_weave_rules.proofs.KeyedLaws.{among_texts}
 
 -- the names of a program
 module _ (x : Text) where

@@ -3,7 +3,7 @@ use Rattle.std.proofs.Common.{◌≡◌, ◌⊎◌, inl, inr, ℕ, suc, ◌+◌,
 use Rattle.std.specs.Prelude.{nat_lt, not, ◌||◌, flat_map, slice_get, option_map}
 use Rattle.std.specs.List.{list_any}
 use Rattle.std.proofs.lemmas.List.{length-map, append-nil, append_assoc, length-append}
-use Rattle.std.proofs.lemmas.Option.{slice_get-map}
+use Rattle.std.proofs.lemmas.Option.{slice_get-map, same_Some as some_same}
 use Rattle.xs_tree.specs.ProgramTree.{Text, Path, ProgramTree}
 use Rattle.xs_tree.specs.Texts.{same_text, is_among}
 use Rattle.xs_flat_laws.specs.Model.{EachBoth}
@@ -15,9 +15,9 @@ use Rattle.xs_cause_laws.specs.CausesText.{WrittenCause}
 use Rattle.xs_cause_laws.specs.CauseRules.{fault_path, is_path_among, has_double, names_of_cause, own_names, is_any_taken, CauseRule, no_such_fault, double_cause, double_strike, empty_window, too_wide, too_many, name_taken, first_of, broken_at, AllKept, are_owns_taken, IsBrokenAt, AreOwnsTaken, IsStrikeOf, IsReadAs, AreReadAs}
 use Rattle.xs_causes_reader.specs.Broken.{is_any_among, broken_by, told_at, first_broken, are_owns_among, owns_told, taken_in}
 use Rattle.xs_causes_reader.specs.Read.{IsNumberOf, IsReadIn}
-use Rattle.xs_causes_reader.proofs.CausesSpelled.{some_same}
-use Rattle.xs_causes_reader.proofs.Keyed.{or_assoc, among_append, among_texts}
+use Rattle.xs_causes_reader.proofs.Keyed.{or_assoc, among_append}
 use Rattle.xs_causes_reader.proofs.ProgramNames.{program_has}
+use Rattle.xs_weave_rules.proofs.KeyedLaws.{among_texts}
 
 any_same : {A : Type 0} (t u : A → Bool) → ((a : A) → t a ≡ u a) → (xs : List A) → list_any t xs ≡ list_any u xs
 any_same t u same [] = refl

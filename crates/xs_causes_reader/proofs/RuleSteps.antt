@@ -1,21 +1,21 @@
 -- The loops over causes, strikes and faults, one on.
 use Rattle.std.proofs.Common.{◌≡◌, ℕ, zero, suc, ◌+◌, ◌-◌, ◌<◌, ◌≤◌, Bool, true, false, ◌||◌, List, [], ◌∷◌, ◌++◌, Option, Some, None, length, map, take, drop, get_or, refl, sym, ap, ◌∙◌, subst, arith}
 use Rattle.std.specs.Prelude.{◌&&◌, ◌↔◌, IsTrue, flat_map, slice_get}
-use Rattle.std.specs.List.{list_any}
 use Rattle.std.proofs.lemmas.List.{drop_more, take_more, append-nil, append_assoc, length-map, length-take-le}
 use Rattle.xs_tree.specs.ProgramTree.{Text, Path}
 use Rattle.xs_tree.specs.Texts.{same_text, is_among}
 use Rattle.xs_tree.proofs.ValueLaws.{same_text_equal, same_text_refl}
 use Rattle.xs_flat_laws.specs.Model.{EachBoth}
-use Rattle.xs_weave_rules.specs.Keyed.{with_text, with_texts}
+use Rattle.xs_weave_rules.specs.Keyed.{with_texts}
 use Rattle.xs_cause_laws.specs.CausesText.{WrittenCause}
 use Rattle.xs_cause_laws.specs.CauseRules.{CauseRule, hit_names, names_of_cause, own_names, same_path, is_path_among, has_double}
 use Rattle.xs_cause_laws.specs.Staged.{hit_name, own_name, none_name, self_name}
 use Rattle.xs_causes_reader.specs.Read.{IsNumberOf}
 use Rattle.xs_causes_reader.specs.Broken.{is_any_among, broken_by, told_at, first_broken}
-use Rattle.xs_causes_reader.proofs.Keyed.{texts_more}
 use Rattle.xs_causes_reader.proofs.RuleLaws.{flat_append}
 use Rattle.xs_causes_reader.proofs.PathLaws.{same_next, double_next}
+use Rattle.std.proofs.lemmas.Bool.{and_parts as both, or_parts as neither}
+use Rattle.xs_weave_rules.proofs.KeyedLaws.{map_push as map_end, texts_more}
 
 -- ---- lists of members that are related
 
@@ -24,10 +24,6 @@ both_push R [] [] x y h r = (r, tt)
 both_push R [] (b ∷ ys) x y h r = absurd h
 both_push R (a ∷ xs) [] x y h r = absurd h
 both_push R (a ∷ xs) (b ∷ ys) x y h r = (h.0, both_push R xs ys x y h.1 r)
-
-pub map_end : {A B : Type 0} (g : A → B) (xs : List A) (x : A) → map g (xs ++ x ∷ []) ≡ map g xs ++ g x ∷ []
-map_end g [] x = refl
-map_end g (y ∷ xs) x = ap (λ ys. g y ∷ ys) (map_end g xs x)
 
 -- one member more on both sides
 pub both_more : {A B : Type 0} (R : A → B → Type 0) (xs : List A) (ys ys' : List B) (i : ℕ) (x : A) (y : B) → i < length xs → x ≡ get_or xs i x → ys' ≡ ys ++ y ∷ [] → R x y → EachBoth R (take i xs) ys →
@@ -135,10 +131,6 @@ owns_later taken i faults all below here rest =
 
 -- ---- paths
 
-both : (a b : Bool) → (a && b) ≡ true → (a ≡ true) × (b ≡ true)
-both true b h = (refl, h)
-both false b h = cc
-
 pub same_path_equal : (x y : Path) → same_path x y ≡ true → x ≡ y
 same_path_equal [] [] h = refl
 same_path_equal [] (b ∷ y) h = cc
@@ -179,10 +171,6 @@ pub get_place : {A : Type 0} (g : A → Path) (xs : List A) (i : ℕ) (x : A) �
 get_place g [] i x below is = absurd (omega (arith, below))
 get_place g (y ∷ xs) zero x below is = ap (λ z. Some (g z)) (sym is)
 get_place g (y ∷ xs) (suc i) x below is = get_place g xs i x (omega (arith, below)) is
-
-neither : (a b : Bool) → (a || b) ≡ false → (a ≡ false) × (b ≡ false)
-neither true b e = let bad : true ≡ false = e in cc
-neither false b e = (refl, e)
 
 -- one path more that is another one
 pub none_more : {A : Type 0} (g : A → Path) (xs : List A) (i : ℕ) (x : A) (p : Path) → i < length xs → x ≡ get_or xs i x → is_path_among (take i (map g xs)) p ≡ false → same_path (g x) p ≡ false →

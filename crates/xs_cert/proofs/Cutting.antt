@@ -1,10 +1,10 @@
 -- Bytes cut at a byte, and the words of a line.
-use Rattle.std.proofs.Common.{◌≡◌, ◌≢◌, ℕ, zero, suc, ◌<◌, ◌≤◌, ◌+◌, ◌-◌, Bool, true, false, ◌&&◌, nat_eq, List, [], ◌∷◌, ◌++◌, length, take, drop, get_or, refl, sym, ◌∙◌, ap, arith, eq-eqb, eqb-true, length-append}
+use Rattle.std.proofs.Common.{◌≡◌, ◌≢◌, ℕ, zero, suc, ◌<◌, ◌≤◌, ◌+◌, ◌-◌, Bool, true, false, ◌&&◌, nat_eq, List, [], ◌∷◌, ◌++◌, length, take, drop, get_or, refl, sym, ◌∙◌, ap, arith, eq-eqb, length-append}
 use Rattle.std.proofs.lemmas.List.{take_rest}
 use Rattle.std.specs.Cmp.Lexicographic.{pointwise}
 use Rattle.xs_text_laws.specs.Lines.{Line}
 use Rattle.xs_certificate_laws.specs.LineReading.{same_bytes, with_byte, words_in}
-use Rattle.xs_certificate_laws.proofs.LineReading.{same_then, same_itself, taken, refused}
+use Rattle.xs_certificate_laws.proofs.LineReading.{same_then, same_itself, taken, refused, differs as differ}
 use Rattle.xs_cert.specs.Cuts.{Lacks, BeginsWith, words_after, IsWordThen, LacksWord, IsAfterWord}
 
 pub front_free : (b : ℕ) (bytes : List ℕ) (n : ℕ) → n ≤ length bytes → ((k : ℕ) → k < n → get_or bytes k 0 ≢ b) → Lacks b (take n bytes)
@@ -18,14 +18,6 @@ back_begins b [] zero h f = tt
 back_begins b (c ∷ bytes) zero h f = f (omega arith)
 back_begins b [] (suc n) h f = absurd (omega (arith, h))
 back_begins b (c ∷ bytes) (suc n) h f = back_begins b bytes n (omega (arith, h)) (λ g. f (omega (arith, g)))
-
--- a byte that is another is not found the same
-pub differ : (a b : ℕ) → (a ≡ b → ⊥) → nat_eq a b ≡ false
-differ a b h = by (nat_eq a b) refl
-  where
-    by : (t : Bool) → nat_eq a b ≡ t → nat_eq a b ≡ false
-    by true e = absurd (h (eqb-true a b e))
-    by false e = e
 
 -- Words.
 words_begin : (word rest : Line) → Lacks 32 word → BeginsWith 32 rest → words_in (word ++ rest) ≡ word ∷ words_after rest

@@ -5,23 +5,16 @@ use Rattle.std.specs.Option.{option_map}
 use Rattle.xs_lits.specs.Literal.{Literal}
 use Rattle.xs_lits.specs.declared.step.Step.{Step}
 use Rattle.xs_text_laws.specs.Lines.{Line}
-use Rattle.xs_certificate_laws.specs.LineReading.{same_bytes, with_byte, words_in, after_word, one_number}
+use Rattle.xs_certificate_laws.specs.LineReading.{same_bytes, words_in, after_word, one_number}
 use Rattle.xs_certificate_laws.specs.CertificateText.{version_one, version_two}
 use Rattle.xs_certificate_laws.specs.CertificateText.{Version as Named}
 use Rattle.xs_certificate_laws.specs.Expecting.{numbers_from, small_in, size_of}
-use Rattle.xs_certificate_laws.proofs.LineReading.{same_then, same_itself, taken, refused}
+use Rattle.xs_certificate_laws.proofs.LineReading.{same_then, same_itself, taken, refused, not_same, some_words}
 use Rattle.xs_cert.specs.Cuts.{words_after, LacksWord, IsAfterWord}
 use Rattle.xs_cert.specs.Words.{LacksName, one_small, after_bits}
 use Rattle.xs_cert.specs.declared.lines.Version.{Version}
 use Rattle.xs_cert.specs.declared.lines.Version.TheVariants as version
 use Rattle.xs_cert.specs.Reading.{version_in}
-
-pub not_same : (a b : List ℕ) → (a ≡ b → ⊥) → same_bytes a b ≡ false
-not_same a b h = by (same_bytes a b) refl
-  where
-    by : (t : Bool) → same_bytes a b ≡ t → same_bytes a b ≡ false
-    by true e = absurd (h (same_then a b e))
-    by false e = e
 
 -- A line that begins with a word, and one that doesn't.
 pub said_after : {A : Type 0} (word : Line) (f : List Line → Option A) (line rest : Line) → IsAfterWord line word rest → after_word word f (words_in line) ≡ f (words_after rest)
@@ -37,16 +30,6 @@ not_after {A = A} word f line h = by (words_in line) refl
     by : (words : List Line) → words_in line ≡ words → after_word word f words ≡ None
     by [] e = refl
     by (w ∷ words) e = by_test w words e (same_bytes w word) refl
-
--- One word alone: what is not empty after a word has one more.
-some_words : (line : Line) → (w : Line) × (ws : List Line) × (words_in line ≡ w ∷ ws)
-some_words [] = ([], [], refl)
-some_words (b ∷ bytes) = by (nat_eq b 32) (words_in bytes)
-  where
-    by : (t : Bool) (words : List Line) → (w : Line) × (ws : List Line) × ((if t then [] ∷ words else with_byte b words) ≡ w ∷ ws)
-    by true words = ([], words, refl)
-    by false [] = (b ∷ [], [], refl)
-    by false (w ∷ ws) = (b ∷ w, ws, refl)
 
 pub not_empty : (bytes : List ℕ) (t : Bool) → t ≡ nat_eq (length bytes) 0 → t ≡ false → bytes ≡ [] → ⊥
 not_empty bytes t e h n = let bad : true ≡ false = sym (ap (λ b. nat_eq (length b) 0) n) ∙ sym e ∙ h in cc

@@ -2,13 +2,13 @@
 use Rattle.std.proofs.Common.{◌≡◌, ℕ, zero, suc, ◌+◌, List, [], ◌∷◌, ◌++◌, map, length, drop, Some, refl, ap, sym, ◌∙◌, arith, append_assoc, append-nil}
 use Rattle.std.specs.Prelude.{slice_get, codes, OnOk, Result, Ok, Err}
 use Rattle.xs_lits.specs.declared.step.Step.{Step}
-use Rattle.xs_certificate_laws.proofs.LineReading.{some_same}
 use Rattle.xs_text_laws.specs.Lines.{Line}
 use Rattle.xs_certificate_laws.specs.Certificate.{Certificate}
 use Rattle.xs_text_laws.specs.Lines.{spaced, fed}
 use Rattle.xs_certificate_laws.specs.CertificateText.{version_line, version_two, numbers_line, set_lines, step_line, part_lines, lines_of}
 use Rattle.xs_text_laws.proofs.Cuts.{fed_joined}
 use Rattle.xs_cert.specs.Pieces.{after_spaces, head_text, listed_lines, invariant_lines, derived_lines}
+use Rattle.std.proofs.lemmas.Option.{same_Some as some_same}
 
 -- words with spaces between are the first one, and a space before each other
 pub spaced_after : (w : Line) (ws : List Line) → spaced (w ∷ ws) ≡ w ++ after_spaces ws

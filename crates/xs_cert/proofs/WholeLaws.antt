@@ -24,6 +24,7 @@ use Rattle.xs_cert.specs.Reading.{then_read, read_line, read_lines, unread}
 use Rattle.xs_cert.specs.Seen.{seen}
 use Rattle.xs_cert.specs.Told.{told}
 use Rattle.xs_cert.proofs.ReadingLaws.{reading_expects, read_joined, wholly_read, whole_read}
+use Rattle.std.proofs.lemmas.Option.{none-some as never, same_Some as some_same}
 
 -- The text up to a line.
 pub record IsRead (bytes rest : List ℕ) (number : ℕ) (r : Reading) : Type 0 where
@@ -73,13 +74,6 @@ read_few bytes rest line after number r h l =
     let long : length h.lines ≤ length (fed h.lines) = fed_long h.lines in
     let less : length after < length rest = rest_shorter rest line after l in
     omega (arith, whole, sum, long, less, h.count)
-
--- What the definitions expect there.
-never : {A : Type 0} (x : A) → None ≡ Some x → ⊥
-never x e = cc
-
-some_same : {A : Type 0} (x y : A) → Some x ≡ Some y → x ≡ y
-some_same x y e = cc
 
 begun : (lines : List Line) (r : Reading) → AllByRecursion IsLine lines → read_lines (Some unread) lines ≡ Some r → BeginsOne lines
 begun lines r ls e = (taken_lines_begin lines ls).0.0 (told r.expect, reading_expects lines ∙ ap (option_map (λ (q : Reading). told q.expect)) e)

@@ -1,14 +1,13 @@
 -- What is right for flat traces of an extension's model is right for extended traces.
-use Rattle.std.proofs.Common.{◌≡◌, ◌↔◌, ℕ, zero, suc, ◌+◌, ◌-◌, ◌≤◌, true, List, [], ◌∷◌, map, length, Some, refl, sym, ap, ◌∙◌, subst}
+use Rattle.std.proofs.Common.{◌≡◌, ◌↔◌, ℕ, suc, ◌+◌, ◌-◌, ◌≤◌, true, List, [], ◌∷◌, map, length, Some, refl, sym, ap, ◌∙◌, subst}
 use Rattle.std.specs.Prelude.{slice_get}
 use Rattle.xs_tree.specs.Tree.{Tree}
 use Rattle.xs_tree.specs.ProgramTree.{Formula, ProgramTree}
 use Rattle.xs_tree.specs.Values.{Value, truth}
 use Rattle.xs_tree.specs.May.{Valuation, May}
-use Rattle.xs_tree.specs.Trace.{Each, IsTrace}
+use Rattle.xs_tree.specs.Trace.{IsTrace}
 use Rattle.xs_tree.specs.Flat.{FlatLeaf, FlatModel, FlatMay}
 use Rattle.xs_flat_laws.specs.History.{Mode}
-use Rattle.xs_flat_laws.specs.Model.{EachBoth}
 use Rattle.xs_flat_laws.specs.FlatTrace.{IsFlatTrace}
 use Rattle.xs_flat_laws.specs.Resolved.{Resolver, IsSound, IsResolved}
 use Rattle.xs_type_laws.specs.Laws.{values_by_number}
@@ -29,34 +28,8 @@ use Rattle.xs_encode_laws.specs.FlatTraces.{ReachesTop, HasFailedNumber}
 use Rattle.xs_certificate_laws.specs.ExtendedTraces.{IsModeOfFault, HasFailedFault, IsExtensionModel, IsFlatCut}
 use Rattle.xs_certificate_laws.specs.Laws.{FlatTracesAreCut, AllRightIsExtended, ShortRightIsExtended}
 use Rattle.xs_certificate_laws.proofs.Modes.{IsOfSlice, of_program, fails_iff}
-
--- the member of one list with that of the other at a place
-pub both_left : {A B : Type 0} (R : A → B → Type 0) (xs : List A) (ys : List B) (k : ℕ) (x : A) → EachBoth R xs ys → slice_get xs k ≡ Some x → (y : B) × (slice_get ys k ≡ Some y) × R x y
-both_left R [] ys k x h e = cc
-both_left R (a ∷ xs) [] k x h e = absurd h
-both_left {B = B} R (a ∷ xs) (b ∷ ys) zero x h e = (b, refl, subst (λ z. R z b) (same a x e) h.0)
-  where
-    same : {A : Type 0} (a x : A) → Some a ≡ Some x → a ≡ x
-    same a x e = cc
-both_left R (a ∷ xs) (b ∷ ys) (suc k) x h e = both_left R xs ys k x h.1 e
-
-pub both_right : {A B : Type 0} (R : A → B → Type 0) (xs : List A) (ys : List B) (k : ℕ) (y : B) → EachBoth R xs ys → slice_get ys k ≡ Some y → (x : A) × (slice_get xs k ≡ Some x) × R x y
-both_right R [] [] k y h e = cc
-both_right R [] (b ∷ ys) k y h e = absurd h
-both_right R (a ∷ xs) [] k y h e = absurd h
-both_right R (a ∷ xs) (b ∷ ys) zero y h e = (a, refl, subst (R a) (same b y e) h.0)
-  where
-    same : {A : Type 0} (a x : A) → Some a ≡ Some x → a ≡ x
-    same a x e = cc
-both_right R (a ∷ xs) (b ∷ ys) (suc k) y h e = both_right R xs ys k y h.1 e
-
-pub each_place : {A : Type 0} (P : A → Type 0) (xs : List A) (k : ℕ) (x : A) → Each P xs → slice_get xs k ≡ Some x → P x
-each_place P [] k x h e = cc
-each_place P (a ∷ xs) zero x h e = subst P (same a x e) h.0
-  where
-    same : {A : Type 0} (a x : A) → Some a ≡ Some x → a ≡ x
-    same a x e = cc
-each_place P (a ∷ xs) (suc k) x h e = each_place P xs k x h.1 e
+use Rattle.xs_flat_laws.proofs.Conditions.{each_at as each_place}
+use Rattle.xs_flat_laws.proofs.Variables.{both_at as both_left, both_at_second as both_right}
 
 module _ (p : ProgramTree) (i : InstructionTree) (faults : List Fault) (top : Formula) (m : FlatModel) (fs : List Mode) (flat_top : Tree FlatLeaf) (model : IsExtensionModel p i faults top m fs flat_top) where
   extension : IsExtensionOf p i (woven p i)

@@ -13,7 +13,9 @@ use Rattle.xs_certificate_laws.specs.LineReading.{same_bytes, count_in, set_in, 
 use Rattle.xs_certificate_laws.specs.Expecting.{Expect, a_version, the_numbers_of, sets_count, a_set_line, trace_count, a_text_line, clauses_count, a_clause_line, steps_count, a_step_line, the_end, no_line, sets_left, text_left, clauses_left, after_part, steps_left, part_word, Numbers, numbers_from, small_in, size_of, numbers_of_words, numbers_in, after, then_after, after_lines}
 use Rattle.xs_certificate_laws.proofs.Words.{number_word}
 use Rattle.xs_text_laws.proofs.Words.{free_by_test}
-use Rattle.xs_certificate_laws.proofs.LineReading.{same_then, same_itself, chosen, taken, number_exact, line_exact, some_same, never, counts_exact, sets_exact, clauses_exact, steps_exact}
+use Rattle.xs_certificate_laws.proofs.LineReading.{same_then, same_itself, chosen, taken, number_exact, line_exact, counts_exact, sets_exact, clauses_exact, steps_exact}
+use Rattle.std.proofs.lemmas.Option.{same_Some as some_same, none-some as never}
+use Rattle.xs_text_laws.proofs.OneTrace.{both_of as two}
 
 -- Going on.
 pub none_after : (lines : List Line) → after_lines None lines ≡ None
@@ -41,9 +43,6 @@ pub record StepsThen (p : Part) (n : ℕ) (lines : List Line) : Type 0 where
   pub writable : AllByRecursion IsWritableStep steps
   pub is : lines ≡ map step_line steps ++ more
   pub rest : Finishes (Some (after_part p)) more
-
-two : {A : Type 0} (x y : A) (xs ys : List A) → x ≡ y → xs ≡ ys → (x ∷ xs) ≡ (y ∷ ys)
-two x y xs ys e f = cc
 
 -- nothing more is expected
 abbrev pub is_done : Expect → Bool

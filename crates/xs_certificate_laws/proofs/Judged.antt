@@ -10,10 +10,13 @@ use Rattle.xs_certificate_laws.specs.CertificateText.{Version, version_one, vers
 use Rattle.xs_certificate_laws.specs.LineReading.{count_in, set_in, clause_in, step_in}
 use Rattle.xs_certificate_laws.specs.Expecting.{Expect, a_version, the_numbers_of, sets_count, a_set_line, trace_count, a_text_line, clauses_count, a_clause_line, steps_count, a_step_line, the_end, no_line, sets_left, text_left, clauses_left, after_part, steps_left, part_word, numbers_in, after, after_lines, TakenLinesBegin, EachTextIsJudged}
 use Rattle.xs_text_laws.proofs.Words.{free_by_test, all_joined}
-use Rattle.xs_certificate_laws.proofs.LineReading.{never, counts_exact, sets_exact, clauses_exact, steps_exact}
+use Rattle.xs_certificate_laws.proofs.LineReading.{counts_exact, sets_exact, clauses_exact, steps_exact}
 use Rattle.xs_certificate_laws.proofs.FirstWrong.{counted_line, clause_lines, step_lines, numbers_lines}
 use Rattle.xs_text_laws.proofs.Cuts.{grouped, Cut, cut, fed_joined}
 use Rattle.xs_certificate_laws.proofs.Expecting.{Finishes, none_after, after_joined, is_done, not_done, free_word, free_trace, numbers_exact, whole_then}
+use Rattle.std.proofs.lemmas.List.{append-nil as append_none}
+use Rattle.std.proofs.lemmas.Option.{none-some as never}
+use Rattle.xs_text_laws.proofs.GivenHasNone.{all_front as all_first}
 
 -- Forwards: a certificate's lines are taken.
 step_on : {A : Type 0} (f : A → Expect) (o : Option A) (a : A) (lines : List Line) → o ≡ Some a → after_lines (option_map f o) lines ≡ after_lines (Some (f a)) lines
@@ -246,14 +249,6 @@ scan e (l ∷ lines) = by_next (after e l) refl (λ f. scan f lines)
     by_next : (o : Option Expect) → after e l ≡ o → ((f : Expect) → ((g : Expect) × (after_lines (Some f) lines ≡ Some g)) ⊎ Stops f lines) → ((g : Expect) × (after_lines (Some e) (l ∷ lines) ≡ Some g)) ⊎ Stops e (l ∷ lines)
     by_next None t rest = inr (record { good = []; line = l; more = lines; expected = e; is = refl; taken_so_far = refl; not_taken = t })
     by_next (Some f) t rest = on f t (rest f)
-
-append_none : {A : Type 0} (xs : List A) → xs ++ [] ≡ xs
-append_none [] = refl
-append_none (x ∷ xs) = ap (λ ys. x ∷ ys) (append_none xs)
-
-all_first : {A : Type 0} (P : A → Type 0) (xs ys : List A) → AllByRecursion P (xs ++ ys) → AllByRecursion P xs
-all_first P [] ys h = tt
-all_first P (x ∷ xs) ys h = (h.0, all_first P xs ys h.1)
 
 all_last : {A : Type 0} (P : A → Type 0) (xs ys : List A) → AllByRecursion P (xs ++ ys) → AllByRecursion P ys
 all_last P [] ys h = h

@@ -14,11 +14,8 @@ use Rattle.xs_certificate_laws.specs.LineReading.{same_bytes, with_byte, words_i
 use Rattle.xs_text_laws.proofs.Separators.{IsFree, no_separator}
 use Rattle.xs_certificate_laws.proofs.Words.{number_free, number_word, literal_free, literal_word}
 use Rattle.xs_text_laws.proofs.Words.{free_by_test, all_texts, all_joined}
-
--- Bytes.
-both_parts : (a b : Bool) → (a && b) ≡ true → (a ≡ true) × (b ≡ true)
-both_parts true b e = (refl, e)
-both_parts false b e = cc
+use Rattle.std.proofs.lemmas.Bool.{and_parts as both_parts}
+use Rattle.std.proofs.lemmas.Option.{same_Some as some_same, none-some as never}
 
 pub same_then : (a b : List ℕ) → same_bytes a b ≡ true → a ≡ b
 same_then [] [] e = refl
@@ -46,20 +43,14 @@ pub chosen : {A : Type 0} (b : Bool) (x y z : A) → (if b then x else y) ≡ z 
 chosen true x y z e = inl (refl, e)
 chosen false x y z e = inr (refl, e)
 
-pub some_same : {A : Type 0} (x y : A) → Some x ≡ Some y → x ≡ y
-some_same x y e = cc
-
-pub never : {A : Type 0} (x : A) → None ≡ Some x → ⊥
-never x e = cc
-
-differs : (a b : ℕ) → (a ≡ b → ⊥) → nat_eq a b ≡ false
+pub differs : (a b : ℕ) → (a ≡ b → ⊥) → nat_eq a b ≡ false
 differs a b h = go (nat_eq a b) refl
   where
     go : (t : Bool) → nat_eq a b ≡ t → nat_eq a b ≡ false
     go true e = absurd (h (eqb-true a b e))
     go false e = e
 
-not_same : (a b : List ℕ) → (a ≡ b → ⊥) → same_bytes a b ≡ false
+pub not_same : (a b : List ℕ) → (a ≡ b → ⊥) → same_bytes a b ≡ false
 not_same a b h = go (same_bytes a b) refl
   where
     go : (t : Bool) → same_bytes a b ≡ t → same_bytes a b ≡ false
@@ -67,7 +58,7 @@ not_same a b h = go (same_bytes a b) refl
     go false e = e
 
 -- Words.
-some_words : (line : Line) → (w : Line) × (ws : List Line) × (words_in line ≡ w ∷ ws)
+pub some_words : (line : Line) → (w : Line) × (ws : List Line) × (words_in line ≡ w ∷ ws)
 some_words [] = ([], [], refl)
 some_words (b ∷ bs) = by_test (nat_eq b 32) (words_in bs)
   where
@@ -353,7 +344,7 @@ cut_joined [] b f = taken (same_bytes (codes ":") (codes ":")) (some_parts [] b)
 cut_joined (w ∷ a) b f =
     refused (same_bytes w (codes ":")) (some_parts [] (a ++ codes ":" ∷ b)) (before_first w (cut_at_colon (a ++ codes ":" ∷ b))) (not_same w (codes ":") f.0) ∙ ap (before_first w) (cut_joined a b f.1)
 
-no_colon : (l : Literal) → IsLiteral l → literal_text l ≡ codes ":" → ⊥
+pub no_colon : (l : Literal) → IsLiteral l → literal_text l ≡ codes ":" → ⊥
 no_colon l h e = no_separator 58 (literal_text l) [] [] (literal_free 58 (inr (omega arith)) l h) e
 
 step_words_exact : (ws : List Line) (s : Step) → (step_of_words ws ≡ Some s ↔ ((ws ≡ map literal_text s.clause ++ codes ":" ∷ map decimal s.hints) × IsWritableStep s))

@@ -1,5 +1,5 @@
 -- Lines are those of at most one certificate.
-use Rattle.std.proofs.Common.{◌≡◌, inr, ℕ, suc, ◌<◌, List, [], ◌∷◌, ◌++◌, length, map, Some, refl, sym, ◌∙◌, ap, subst, arith, codes, append_assoc}
+use Rattle.std.proofs.Common.{◌≡◌, ℕ, suc, ◌<◌, List, [], ◌∷◌, ◌++◌, length, map, Some, refl, sym, ◌∙◌, ap, subst, arith, codes, append_assoc}
 use Rattle.std.proofs.lemmas.List.{length-map}
 use Rattle.std.specs.Prelude.{slice_get}
 use Rattle.std.specs.List.{AllByRecursion}
@@ -9,9 +9,10 @@ use Rattle.xs_lits.specs.declared.step.Step.{Step}
 use Rattle.xs_certificate_laws.specs.Certificate.{Certificate}
 use Rattle.xs_text_laws.specs.Lines.{Line, counted}
 use Rattle.xs_certificate_laws.specs.CertificateText.{Version, version_one, version_two, literal_text, version_line, numbers_line, set_line, set_lines, clause_line, step_line, part_lines, lines_of, IsSmall, IsCount, IsLiteral, IsHint, IsWritableStep, AreWritable, IsWritableText, IsWritable, CanSay}
-use Rattle.xs_text_laws.proofs.Separators.{IsFree, same_front, no_separator}
-use Rattle.xs_certificate_laws.proofs.Words.{number_word, same_number, literal_word, literal_free, same_literals, same_numbers}
+use Rattle.xs_text_laws.proofs.Separators.{IsFree, same_front}
+use Rattle.xs_certificate_laws.proofs.Words.{number_word, same_number, literal_word, same_literals, same_numbers}
 use Rattle.xs_text_laws.proofs.Words.{free_by_test, IsWord, same_words, same_texts, all_texts, all_more, all_joined}
+use Rattle.xs_certificate_laws.proofs.LineReading.{no_colon as not_colon}
 
 small_counts : (n : ℕ) → IsSmall n → IsCount n
 small_counts n h = omega (arith, h)
@@ -82,9 +83,6 @@ same_clause_line c d f g e =
 
 is_colon : IsWord (codes ":")
 is_colon = word_by_test (codes ":") (omega arith) (free_by_test 32 (codes ":") refl)
-
-not_colon : (l : Literal) → IsLiteral l → literal_text l ≡ codes ":" → ⊥
-not_colon l h e = no_separator 58 (literal_text l) [] [] (literal_free 58 (inr (omega arith)) l h) e
 
 same_step_line : (s t : Step) → IsWritableStep s → IsWritableStep t → step_line s ≡ step_line t → s ≡ t
 same_step_line s t f g e =

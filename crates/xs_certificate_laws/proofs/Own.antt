@@ -4,10 +4,10 @@ use Rattle.std.specs.Prelude.{slice_get}
 use Rattle.std.specs.Option.{option_map}
 use Rattle.xs_tree.specs.declared.program.Member.TheVariants as member
 use Rattle.xs_tree.specs.Tree.{Tree, Trees, Branches, truth as is_truth, number as is_number, leaf, not_of, negate, next_of, binary, choice, case_of, set_of, span, no_tree, tree_then, no_branch, branch_then}
-use Rattle.xs_tree.specs.ProgramTree.{Text, Formula, DeclaredTree, ModuleTree, ProgramTree}
+use Rattle.xs_tree.specs.ProgramTree.{Text, Formula, ModuleTree, ProgramTree}
 use Rattle.xs_tree.specs.Values.{Value, truth, number, symbol}
 use Rattle.xs_tree.specs.Laws.{AllLeaves, AllLeavesOfTrees, AllLeavesOfBranches}
-use Rattle.xs_tree.specs.Scope.{Place, Role, state, a_variable, kind_in, kind_at, module_at, find_module}
+use Rattle.xs_tree.specs.Scope.{Place, state, kind_at, module_at, find_module}
 use Rattle.xs_tree.specs.Trace.{Each, is_member, in_domain, IsInstance, IsVariable}
 use Rattle.xs_tree.specs.Flat.{FlatLeaf, flat_variable, flat_symbol, flat_definition, FlatVariable, FlatFormula, FlatModel}
 use Rattle.xs_flat_laws.specs.History.{Mode}
@@ -15,7 +15,7 @@ use Rattle.xs_flat_laws.specs.Items.{Visit, visits, variables_of}
 use Rattle.xs_flat_laws.specs.Model.{IsVariableOf, EachBoth}
 use Rattle.xs_flat_laws.specs.FlatTrace.{IsOwnName, IsOwnFormula, NamesOwn, IsModeOf}
 use Rattle.xs_flat_laws.specs.Resolved.{leaves_in, trees_leaves, branches_leaves, Resolver, IsSound, IsResolved}
-use Rattle.xs_flat_laws.proofs.Conditions.{each_join}
+use Rattle.xs_flat_laws.proofs.Conditions.{each_join, each_at as each_place}
 use Rattle.xs_flat_laws.proofs.Lists.{each_more}
 use Rattle.xs_flat_laws.proofs.Places.{has_main}
 use Rattle.xs_flat_laws.proofs.Walkable.{accepted_walkable, main_is_there}
@@ -34,7 +34,8 @@ use Rattle.xs_encode_laws.specs.EncodedLaws.{AreOwn}
 use Rattle.xs_certificate_laws.specs.ExtendedTraces.{IsModeOfFault, IsExtensionModel}
 use Rattle.xs_certificate_laws.specs.Laws.{ExtensionModelsAreOwn}
 use Rattle.xs_certificate_laws.proofs.Modes.{IsOfSlice, of_program}
-use Rattle.xs_certificate_laws.proofs.Carried.{both_right, each_place}
+use Rattle.xs_type_laws.proofs.TraceLaws.{one_type}
+use Rattle.xs_flat_laws.proofs.Variables.{both_at_second as both_right}
 
 -- What holds of all leaves holds of each of them.
 mutual
@@ -60,19 +61,19 @@ mutual
   each_branch P (branch_then c a bs) h =
       each_join P (leaves_in c) (leaves_in a ++ branches_leaves bs) (each_leaf P c h.0) (each_join P (leaves_in a) (branches_leaves bs) (each_leaf P a h.1) (each_branch P bs h.2))
 
-own_name : (v s d : ℕ) (l : FlatLeaf) → IsKnown v s d l → IsOwnName v l
+pub own_name : (v s d : ℕ) (l : FlatLeaf) → IsKnown v s d l → IsOwnName v l
 own_name v s d (flat_variable i) h = h
 own_name v s d (flat_symbol i) h = tt
 own_name v s d (flat_definition i) h = tt
 
-own_names : (v s d : ℕ) (e : Tree FlatLeaf) → AllLeaves (IsKnown v s d) e → Each (IsOwnName v) (leaves_in e)
+pub own_names : (v s d : ℕ) (e : Tree FlatLeaf) → AllLeaves (IsKnown v s d) e → Each (IsOwnName v) (leaves_in e)
 own_names v s d e h = each_more (IsKnown v s d) (IsOwnName v) (leaves_in e) (own_name v s d) (each_leaf (IsKnown v s d) e h)
 
-own_definitions : (v s k : ℕ) (ds : List FlatFormula) → AreInOrder v s k ds → Each (IsOwnFormula v) ds
+pub own_definitions : (v s k : ℕ) (ds : List FlatFormula) → AreInOrder v s k ds → Each (IsOwnFormula v) ds
 own_definitions v s k [] h = tt
 own_definitions v s k (d ∷ ds) h = (own_names v s k d.value h.0, own_definitions v s (suc k) ds h.1)
 
-closed_own : (m : FlatModel) → IsClosed m → NamesOwn m
+pub closed_own : (m : FlatModel) → IsClosed m → NamesOwn m
 closed_own m closed = record {
   definitions = own_definitions (length m.variables) (length m.symbols) 0 m.definitions closed.definitions;
   at_first = formulas m.at_first closed.at_first;
@@ -85,21 +86,16 @@ closed_own m closed = record {
     formulas (f ∷ fs) h = (own_names (length m.variables) (length m.symbols) (length m.definitions) f.value h.0, formulas fs h.1)
 
 -- The values of a slice's states are symbols.
-state_symbol : (slice : Text) (ms : List ModeTree) (v : Value) → is_member (map (λ mode. member.Symbol (mode_symbol slice (Some mode.name))) ms) v ≡ true → (x : Text) × (v ≡ symbol x)
+pub state_symbol : (slice : Text) (ms : List ModeTree) (v : Value) → is_member (map (λ mode. member.Symbol (mode_symbol slice (Some mode.name))) ms) v ≡ true → (x : Text) × (v ≡ symbol x)
 state_symbol slice [] v e = cc
 state_symbol slice (mode ∷ ms) (symbol x) e = (x, refl)
 state_symbol slice (mode ∷ ms) (truth b) e = state_symbol slice ms (truth b) e
 state_symbol slice (mode ∷ ms) (number n) e = state_symbol slice ms (number n) e
 
-type_symbol : (s : SliceTree) (v : Value) → in_domain (mode_type s) v ≡ true → (x : Text) × (v ≡ symbol x)
+pub type_symbol : (s : SliceTree) (v : Value) → in_domain (mode_type s) v ≡ true → (x : Text) × (v ≡ symbol x)
 type_symbol s (symbol x) e = (x, refl)
 type_symbol s (truth b) e = state_symbol s.name s.modes (truth b) e
 type_symbol s (number n) e = state_symbol s.name s.modes (number n) e
-
-one_type : (p : ProgramTree) (at : Place) (x : Text) (r q : Role) (s t : DeclaredTree) → IsVariable p at x r s → IsVariable p at x q t → s ≡ t
-one_type p at x r q s t a b =
-    let same : a.0 ≡ b.0 = cc (a.1, b.1) in
-    let kinds : a_variable r s ≡ a_variable q t = sym a.2 ∙ ap (λ m. kind_in m x) same ∙ b.2 in cc
 
 module _ (p : ProgramTree) (i : InstructionTree) (faults : List Fault) (top : Formula) (m : FlatModel) (fs : List Mode) (flat_top : Tree FlatLeaf) (model : IsExtensionModel p i faults top m fs flat_top) where
   -- a numbered variable is declared with its role and type

@@ -127,13 +127,13 @@ module _ (c : Certificate) where
   listed l (an_end part) is = part_listed part (an_end part) (end_listed part 0 (steps_in c part))
 
 -- Their lines rise.
-lines_first : (x : List Line) (xs : List (List Line)) → lines_of_sets (x ∷ xs) ≡ length x + 2 + lines_of_sets xs
+pub lines_first : (x : List Line) (xs : List (List Line)) → lines_of_sets (x ∷ xs) ≡ length x + 2 + lines_of_sets xs
 lines_first x xs = sum_by-cons (λ text. length text + 2) x xs
 
 lines_none : lines_of_sets [] ≡ 0
 lines_none = refl
 
-lines_joined : (xs ys : List (List Line)) → lines_of_sets (xs ++ ys) ≡ lines_of_sets xs + lines_of_sets ys
+pub lines_joined : (xs ys : List (List Line)) → lines_of_sets (xs ++ ys) ≡ lines_of_sets xs + lines_of_sets ys
 lines_joined xs ys = sum_by-append (λ text. length text + 2) xs ys
 
 take_front : {A : Type 0} (xs ys : List A) → take (length xs) (xs ++ ys) ≡ xs

@@ -1,9 +1,9 @@
 -- The faults that moments have failed are those of a set, as it is tested.
-use Rattle.std.proofs.Common.{◌≡◌, ℕ, zero, suc, ◌+◌, ◌-◌, ◌<◌, ◌≤◌, Bool, true, false, not, List, [], ◌∷◌, length, drop, get_or, Some, None, refl, sym, ap, subst, ◌∙◌, arith}
+use Rattle.std.proofs.Common.{◌≡◌, ℕ, zero, suc, ◌+◌, ◌-◌, ◌<◌, ◌≤◌, Bool, true, false, not, List, [], ◌∷◌, length, drop, get_or, Some, refl, sym, ap, subst, ◌∙◌, arith}
 use Rattle.std.specs.Bool.{beq}
 use Rattle.std.specs.Prelude.{◌&&◌, map, All, Contains, slice_get}
 use Rattle.std.proofs.lemmas.List.{length-map, drop_more, drop_all}
-use Rattle.std.proofs.lemmas.Option.{slice_get_within, get_or_from_slice_get}
+use Rattle.std.proofs.lemmas.Option.{slice_get_within, get_or_from_slice_get, same_Some as some_same, none-some as none_some}
 use Rattle.xs_tree.specs.Trace.{Each}
 use Rattle.xs_tree.specs.Values.{Value}
 use Rattle.xs_tree.specs.ModelTree.{model_tree, variable_tree}
@@ -13,13 +13,14 @@ use Rattle.xs_tree.specs.declared.model.Fault.{Fault}
 use Rattle.xs_flat_laws.specs.FlatTrace.{IsFlatTrace, IsModeOf, stands_in_some}
 use Rattle.xs_flat_laws.specs.History.{Mode}
 use Rattle.xs_encode_laws.specs.FlatTraces.{ReachesTop, HasFailedNumber}
-use Rattle.xs_encode_laws.proofs.SetLaws.{has_contains, contains_has, and_parts, and_both}
+use Rattle.xs_encode_laws.proofs.SetLaws.{has_contains, contains_has}
 use Rattle.xs_right_laws.specs.Sets.{has_number}
 use Rattle.xs_eval.specs.Stops.{Why, Stops, bad_first, bad_step, no_top, at_first, at_step, at_top}
 use Rattle.xs_eval.proofs.StopLaws.{one_stop, reaching_does_not}
 use Rattle.xs_check.specs.Matter.{Matter}
 use Rattle.xs_check.specs.Moments.{FailsExactly, is_same, are_those_of}
 use Rattle.xs_check.proofs.SetLaws.{each_in, all_from}
+use Rattle.std.proofs.lemmas.Bool.{and_parts, and_from as and_both}
 
 -- Two truth values that are the same.
 same_then : (b c : Bool) → is_same b c ≡ true → b ≡ c
@@ -30,12 +31,6 @@ same_then false false e = refl
 same_where : (b c : Bool) → b ≡ c → is_same b c ≡ true
 same_where true c e = sym e
 same_where false c e = ap not (sym e)
-
-some_same : {A : Type 0} (x y : A) → Some x ≡ Some y → x ≡ y
-some_same x y e = cc
-
-none_some : {A : Type 0} (y : A) → None ≡ Some y → ⊥
-none_some y e = cc
 
 module _ (test : Mode → Bool) (set : List ℕ) where
   add_none : (n : ℕ) → n ≡ n + 0

@@ -1,5 +1,5 @@
 -- The bits of a model's history are its last variables.
-use Rattle.std.proofs.Common.{Result, ◌≡◌, ℕ, suc, ◌+◌, ◌-◌, ◌≤◌, List, [], ◌∷◌, length, refl, sym, ap, subst, ◌∙◌, arith}
+use Rattle.std.proofs.Common.{Result, ◌≡◌, ℕ, ◌+◌, ◌-◌, ◌≤◌, List, [], ◌∷◌, length, sym, ap, subst, ◌∙◌, arith}
 use Rattle.std.specs.List.{range_with_len}
 use Rattle.std.proofs.lemmas.List.{length-append}
 use Rattle.std.specs.Prelude.{IfOk}
@@ -10,10 +10,7 @@ use Rattle.xs_tree.specs.Flat.{FlatLeaf, FlatModel}
 use Rattle.xs_flat_laws.specs.History.{Mode, with_history, bit_variables}
 use Rattle.xs_encode_laws.specs.FlatTraces.{history_of}
 use Rattle.xs_encode.specs.History.{last_numbers}
-
-one_each : (i : ℕ) (fs : List Mode) → length (bit_variables i fs) ≡ length fs
-one_each i [] = refl
-one_each i (f ∷ fs) = ap suc (one_each (suc i) fs)
+use Rattle.xs_flat_laws.proofs.HistoryLaws.{length_bits as one_each}
 
 module _ (m : FlatModel) (fs : List Mode) where
   whole : length (with_history m fs).variables ≡ length m.variables + length fs

@@ -3,7 +3,7 @@ mod SiteLaws
 mod Loops
 mod SetLaws
 mod StepLaws
-mod TraceLaws
+pub mod TraceLaws
 mod Exactly
 mod LineCounts
 mod Spelled

@@ -3,16 +3,10 @@ use Rattle.std.proofs.Common.{◌≡◌, ℕ, zero, suc, ◌+◌, ◌<◌, ◌�
 use Rattle.std.specs.Prelude.{Some, slice_get}
 use Rattle.std.proofs.lemmas.Option.{slice_get_within, get_or_from_slice_get}
 use Rattle.std.proofs.lemmas.List.{take_more, take_all}
-use Rattle.std.proofs.lemmas.List.Sums.{sum_by-cons, sum_by-append}
 use Rattle.xs_text_laws.specs.Lines.{Line}
 use Rattle.std.specs.List.{AllByRecursion}
 use Rattle.xs_certificate_laws.specs.Certificate.{Certificate, lines_of_sets, an_end, part_bad, line_of}
-
-pub lines_first : (x : List Line) (xs : List (List Line)) → lines_of_sets (x ∷ xs) ≡ length x + 2 + lines_of_sets xs
-lines_first x xs = sum_by-cons (λ text. length text + 2) x xs
-
-lines_joined : (xs ys : List (List Line)) → lines_of_sets (xs ++ ys) ≡ lines_of_sets xs + lines_of_sets ys
-lines_joined xs ys = sum_by-append (λ text. length text + 2) xs ys
+use Rattle.xs_certificate_laws.proofs.Sites.{lines_first, lines_joined}
 
 lines_one : (x : List Line) → lines_of_sets (x ∷ []) ≡ length x + 2
 lines_one x = let e = lines_first x [] in let z : lines_of_sets [] ≡ 0 = refl in omega (arith, e, z)

@@ -5,11 +5,13 @@ use Rattle.std.specs.List.{list_all}
 use Rattle.std.proofs.lemmas.List.Elements.{All-contains, Contains-get_or}
 use Rattle.xs_right_laws.specs.Sets.{IsRising, is_contained, stands_before}
 use Rattle.xs_right_laws.specs.Right.{IsContained}
-use Rattle.xs_encode_laws.proofs.SetLaws.{has_contains, contains_has, contained_has, contained_from, and_parts, and_both}
+use Rattle.xs_encode_laws.proofs.SetLaws.{has_contains, contains_has, contained_has, contained_from}
 use Rattle.xs_sets.specs.Tests.{are_apart}
 use Rattle.xs_certificate_laws.specs.Certificate.{Certificate}
 use Rattle.xs_certificate_laws.specs.Accepted.{Subject, IsSetAt, IsApart}
 use Rattle.xs_check.specs.Order.{stands_after, is_after_in}
+use Rattle.std.proofs.lemmas.Option.{same_Some as some_same, none-some as none_some}
+use Rattle.std.proofs.lemmas.Bool.{and_parts, and_from as and_both}
 
 -- All of a list, by its members.
 pub each_in : {A : Type 0} (P : A → Type 0) (xs : List A) → All P xs → (x : A) → Contains xs x → P x
@@ -41,13 +43,6 @@ apart_where s t f = by_tests (is_contained s t) (is_contained t s) refl refl
     by_tests true c e d = absurd (f.0 (contained_then s t e))
     by_tests false true e d = absurd (f.1 (contained_then t s d))
     by_tests false false e d = refl
-
--- A test of the first items.
-some_same : {A : Type 0} (x y : A) → Some x ≡ Some y → x ≡ y
-some_same x y e = cc
-
-none_some : {A : Type 0} (y : A) → None ≡ Some y → ⊥
-none_some y e = cc
 
 passed : {A : Type 0} (p : A → Bool) (xs : List A) (k j : ℕ) (x : A) → list_all p (take k xs) ≡ true → j < k → slice_get xs j ≡ Some x → p x ≡ true
 passed p [] k j x e l at = absurd (none_some x at)

@@ -29,16 +29,16 @@ use Rattle.xs_check.specs.Fit.{IsShortText}
 use Rattle.xs_check.specs.Moments.{CanBeReplayed, IsTextFault}
 
 -- Both layers name values alike.
-same_text_at : (o : Option Text) → eval.text_at o ≡ text_at o
+pub same_text_at : (o : Option Text) → eval.text_at o ≡ text_at o
 same_text_at None = refl
 same_text_at (Some x) = refl
 
-named_is_told : (symbols : List Text) (v : Value) → named symbols v ≡ told_value symbols v
+pub named_is_told : (symbols : List Text) (v : Value) → named symbols v ≡ told_value symbols v
 named_is_told symbols (ABool b) = refl
 named_is_told symbols (Num n) = refl
 named_is_told symbols (Sym i) = ap told.symbol (same_text_at (slice_get symbols i))
 
-all_are_told : (symbols : List Text) (vs : List Value) → named_all symbols vs ≡ told_moment symbols vs
+pub all_are_told : (symbols : List Text) (vs : List Value) → named_all symbols vs ≡ told_moment symbols vs
 all_are_told symbols [] = refl
 all_are_told symbols (v ∷ vs) = λ j. named_is_told symbols v j ∷ all_are_told symbols vs j
 
@@ -50,23 +50,23 @@ trace_is_told symbols (v ∷ vs) = λ j. all_are_told symbols v j ∷ trace_is_t
 never : {P : Type 0} → IsTrue false → P
 never h = cc
 
-no_empty_member : (ms : List Member) → Each IsWritableMember ms → is_member ms (told.symbol []) ≡ true → ⊥
+pub no_empty_member : (ms : List Member) → Each IsWritableMember ms → is_member ms (told.symbol []) ≡ true → ⊥
 no_empty_member [] w e = cc
 no_empty_member (member.Number n ∷ ms) w e = no_empty_member ms w.1 e
 no_empty_member (member.Symbol [] ∷ ms) w e = w.0.1
 no_empty_member (member.Symbol (b ∷ x) ∷ ms) w e = no_empty_member ms w.1 e
 
-no_empty_symbol : (d : DeclaredTree) → IsWritableType d → in_domain d (told.symbol []) ≡ true → ⊥
+pub no_empty_symbol : (d : DeclaredTree) → IsWritableType d → in_domain d (told.symbol []) ≡ true → ⊥
 no_empty_symbol boolean w e = cc
 no_empty_symbol (range lo hi) w e = cc
 no_empty_symbol (members ms) w e = no_empty_member ms w.1 e
 no_empty_symbol (instance m actuals) w e = cc
 
-is_true : (b : Bool) → IsTrue b → b ≡ true
+pub is_true : (b : Bool) → IsTrue b → b ≡ true
 is_true b h = h
 
 -- A value of such a type has the number of a symbol, where it is one.
-numbered : (symbols : List Text) (d : DeclaredTree) → IsWritableType d → (v : Value) → IsTrue (in_domain d (told_value symbols v)) → IsNumbered symbols v
+pub numbered : (symbols : List Text) (d : DeclaredTree) → IsWritableType d → (v : Value) → IsTrue (in_domain d (told_value symbols v)) → IsNumbered symbols v
 numbered symbols d w (ABool b) h = tt
 numbered symbols d w (Num n) h = tt
 numbered symbols d w (Sym i) h = by_text (slice_get symbols i) refl (is_true (in_domain d (told_value symbols (Sym i))) h)
@@ -75,7 +75,7 @@ numbered symbols d w (Sym i) h = by_text (slice_get symbols i) refl (is_true (in
     by_text None e f = absurd (no_empty_symbol d w f)
     by_text (Some x) e f = record { text = x; there = e }
 
-all_numbered : (symbols : List Text) (xs : List FlatVariable) → ((i : ℕ) (x : FlatVariable) → slice_get xs i ≡ Some x → IsWritableType x.declared) → (vs : List Value) →
+pub all_numbered : (symbols : List Text) (xs : List FlatVariable) → ((i : ℕ) (x : FlatVariable) → slice_get xs i ≡ Some x → IsWritableType x.declared) → (vs : List Value) →
     AreInDomains xs (told_moment symbols vs) → Each (IsNumbered symbols) vs
 all_numbered symbols [] w [] h = tt
 all_numbered symbols [] w (v ∷ vs) h = absurd h

@@ -1,7 +1,7 @@
 -- The lists of a searchable model are such as frames take.
-use Rattle.std.proofs.Common.{◌≡◌, ◌⊎◌, inl, inr, ℕ, ◌+◌, ◌*◌, ◌^◌, ◌<◌, ◌≤◌, Bool, true, false, ◌||◌, List, length, All, refl, sym, subst, arith}
+use Rattle.std.proofs.Common.{◌≡◌, ◌⊎◌, inl, inr, ℕ, ◌+◌, ◌*◌, ◌^◌, ◌<◌, ◌≤◌, false, ◌||◌, List, length, All, refl, sym, subst, arith}
 use Rattle.std.specs.Prelude.{nat_lt}
-use Rattle.std.proofs.lemmas.Bool.{ltb-false}
+use Rattle.std.proofs.lemmas.Bool.{ltb-false, or_parts as neither}
 use Rattle.std.proofs.lemmas.Nat.{mul-le}
 use Rattle.std.proofs.lemmas.List.FromFn.{length-range_with_len}
 use Rattle.xs_tree.specs.Flat.{FlatModel}
@@ -19,10 +19,6 @@ use Rattle.xs_encode_laws.proofs.CleanLists.{lists_use_states}
 use Rattle.xs_encode_laws.proofs.SizeLists.{lists_small}
 use Rattle.xs_encode_laws.proofs.HistoryPlaces.{history_last}
 use Rattle.xs_cut_laws.specs.Searchable.{ListsFitFrames}
-
-neither : (a b : Bool) → (a || b) ≡ false → (a ≡ false) × (b ≡ false)
-neither true b e = cc
-neither false b e = (refl, e)
 
 -- a typed model costs at most 50,000 and has at most 4,096 bits of state
 limits : (m : FlatModel) → is_too_large m ≡ false → (model_cost m ≤ 50000) × (state_bits m ≤ 4096)

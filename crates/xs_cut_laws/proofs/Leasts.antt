@@ -1,6 +1,5 @@
 -- The least values of an encodable model, and its valuations with the least inputs.
-use Rattle.std.proofs.Common.{◌≡◌, ◌≤ℤ◌, ℤ, false, List, [], ◌∷◌, Some, refl, sym, ap, subst, arith, int_lt}
-use Rattle.std.proofs.lemmas.Int.{ints}
+use Rattle.std.proofs.Common.{◌≡◌, ◌≤ℤ◌, ℤ, List, [], ◌∷◌, Some, refl, sym, ap, subst, arith}
 use Rattle.xs_tree.specs.ProgramTree.{Text, DeclaredTree, boolean, range, members, instance}
 use Rattle.xs_tree.specs.Trace.{Each}
 use Rattle.xs_tree.specs.Values.{opposite}
@@ -16,12 +15,10 @@ use Rattle.xs_encode_laws.proofs.MomentMeans.{model_types}
 use Rattle.xs_encode_laws.proofs.Readings.{IsRightType}
 use Rattle.xs_encode_laws.proofs.TypeMeans.{range_numbers}
 use Rattle.xs_cut_laws.specs.Searchable.{LeastValuesShow}
+use Rattle.xs_encode_laws.proofs.StateBits.{not_below}
 
 one_interval : (i j : Interval) → Some i ≡ Some j → i ≡ j
 one_interval i j e = cc
-
-not_below : (a b : ℤ) → a ≤ℤ b → int_lt b a ≡ false
-not_below a b h = grind (arith, ints)
 
 module _ (symbols : List Text) where
   has_values : (d : DeclaredTree) → (judged_declared d).broken ≡ [] → IsListedType symbols d → HasValues d

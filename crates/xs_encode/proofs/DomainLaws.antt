@@ -7,10 +7,9 @@ use Rattle.xs_tree.specs.Tree.{trees_from}
 use Rattle.xs_value.specs.declared.domain.Domain.TheVariants as domain
 use Rattle.xs_tree.specs.Flat.{FlatModel}
 use Rattle.xs_type_laws.specs.Intervals.{Interval, just, hull}
-use Rattle.xs_type_laws.specs.Judged.{KindRule, number_class, symbol_class, mixed_enum, unless_class, hull_of}
+use Rattle.xs_type_laws.specs.Judged.{number_class, symbol_class, mixed_enum, unless_class, hull_of}
 use Rattle.xs_type_laws.specs.Declared.{member_kind, judged_declared}
 use Rattle.xs_type_laws.specs.Costs.{member_number, symbol_number, number_kind, width_in, declared_width}
-use Rattle.xs_type_laws.proofs.Parts.{none_first}
 use Rattle.xs_types.specs.Types.{spread, numbers_in, symbols_in, domain_of}
 use Rattle.xs_types.proofs.TypeLaws.{hull_spread}
 use Rattle.xs_lits.specs.Literal.{Literal}
@@ -24,11 +23,8 @@ use Rattle.xs_encode_laws.specs.Layout.{declared_interval, number_signal, variab
 use Rattle.xs_encode_laws.specs.Lists.{Copy, names_of, asserted_signal, member_tree, type_gates}
 use Rattle.xs_encode_laws.specs.Encodable.{IsListedType}
 use Rattle.xs_encode_laws.proofs.Answering.{kept_interval}
-use Rattle.xs_encode_laws.proofs.TypeMeans.{members_kept}
+use Rattle.xs_encode_laws.proofs.TypeMeans.{members_kept, own_none}
 use Rattle.xs_encode.specs.Domains.{domain_interval, domain_width, ends_signal, domain_signal, some_gates, symbol_word, domain_gates}
-
-own_none : (own : List KindRule) → own ++ [] ≡ [] → own ≡ []
-own_none own e = none_first own [] e
 
 -- ---- members of one class
 

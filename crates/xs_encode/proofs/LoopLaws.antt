@@ -31,7 +31,8 @@ use Rattle.xs_expressions.specs.declared.signal.Signal.{Signal as Built}
 use Rattle.xs_expressions.specs.Built.{signal_of, signals_of, BuildsLiteral, BuildsSignal}
 use Rattle.xs_encode.specs.Domains.{domain_width, domain_signal, asserted_literal, domain_gates}
 use Rattle.xs_encode.specs.Copies.{Builds, definition_signal}
-use Rattle.xs_encode.proofs.ModelParts.{drop_at, at_mapped, width_at, signal_at, gates_at, rest_at}
+use Rattle.xs_encode.proofs.ModelParts.{drop_at, width_at, signal_at, gates_at, rest_at}
+use Rattle.xs_type_laws.proofs.WrittenLaws.{get_map as at_mapped}
 
 -- ---- the bits of inputs, and the signals of variables
 

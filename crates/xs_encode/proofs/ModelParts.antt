@@ -1,8 +1,8 @@
 -- What the passes rely on of an encodable model: no type and no formula breaks a rule, and a variable's domain tells its bits.
-use Rattle.std.proofs.Common.{◌≡◌, ℕ, zero, suc, ◌+◌, ◌<◌, List, [], ◌∷◌, length, get_or, drop, map, option_map, Some, sym, ◌∙◌, ap, subst, arith}
+use Rattle.std.proofs.Common.{◌≡◌, ℕ, zero, suc, ◌+◌, ◌<◌, List, [], ◌∷◌, length, get_or, drop, map, Some, sym, ◌∙◌, ap, arith}
 use Rattle.std.specs.Prelude.{slice_get}
 use Rattle.std.proofs.lemmas.List.{drop_more}
-use Rattle.std.proofs.lemmas.Option.{slice_get-map, slice_get_within, get_or_from_slice_get, same_Some}
+use Rattle.std.proofs.lemmas.Option.{slice_get_within, get_or_from_slice_get, same_Some}
 use Rattle.xs_tree.specs.Trace.{Each}
 use Rattle.xs_tree.specs.ProgramTree.{declared_tree}
 use Rattle.xs_value.specs.declared.domain.Domain.{Domain}
@@ -25,11 +25,8 @@ use Rattle.xs_encode_laws.proofs.Readings.{IsRightType}
 use Rattle.xs_encode.specs.Domains.{domain_width, domain_signal, domain_gates}
 use Rattle.xs_encode.specs.Copies.{IsRightFormula}
 use Rattle.xs_encode.proofs.DomainLaws.{width_is, signal_is, gates_are}
-
-pub each_at : {A : Type 0} (P : A → Type 0) (xs : List A) (k : ℕ) (x : A) → Each P xs → slice_get xs k ≡ Some x → P x
-each_at P [] k x h e = cc
-each_at P (y ∷ xs) zero x h e = let same : y ≡ x = cc in subst P same h.0
-each_at P (y ∷ xs) (suc k) x h e = each_at P xs k x h.1 e
+use Rattle.xs_type_laws.proofs.WrittenLaws.{get_map as at_mapped}
+use Rattle.xs_flat_laws.proofs.Conditions.{each_at}
 
 pub got : {A : Type 0} (xs : List A) (i : ℕ) (x : A) → i < length xs → x ≡ get_or xs i x → slice_get xs i ≡ Some x
 got [] i x h e = absurd (omega (arith, h))
@@ -43,9 +40,6 @@ got_in xs ys i x same h e = sym (ap (λ l. slice_get l i) same) ∙ got xs i x h
 -- what is left of a list begins with the item at the place
 pub drop_at : {A : Type 0} (xs : List A) (i : ℕ) (x : A) → slice_get xs i ≡ Some x → drop i xs ≡ x ∷ drop (i + 1) xs
 drop_at xs i x e = drop_more xs i x (slice_get_within xs i x e) ∙ ap (λ y. y ∷ drop (i + 1) xs) (get_or_from_slice_get xs i x x e)
-
-pub at_mapped : {A B : Type 0} (f : A → B) (xs : List A) (i : ℕ) (x : A) → slice_get xs i ≡ Some x → slice_get (map f xs) i ≡ Some (f x)
-at_mapped f xs i x e = slice_get-map f xs i ∙ ap (option_map f) e
 
 -- ---- formulas
 

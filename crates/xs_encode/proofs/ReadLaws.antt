@@ -1,5 +1,5 @@
 -- Asked node by node, an expression has a name that passes the test where some name of it does.
-use Rattle.std.proofs.Common.{◌≡◌, Bool, true, false, ◌||◌, List, [], ◌∷◌, ◌++◌, refl, sym, ◌∙◌, ap}
+use Rattle.std.proofs.Common.{◌≡◌, Bool, ◌||◌, List, [], ◌∷◌, ◌++◌, refl, sym, ◌∙◌, ap}
 use Rattle.std.specs.List.{list_any}
 use Rattle.xs_tree.specs.Tree.{Tree, Trees, Branches, truth, number, leaf, not_of, negate, next_of, binary, choice, case_of, set_of, span, no_tree, tree_then, no_branch, branch_then}
 use Rattle.std.specs.declared.boxed.Box.{Box}
@@ -12,14 +12,7 @@ use Rattle.xs_expressions.proofs.Forms.{form_choice}
 use Rattle.xs_tree.specs.Flat.{FlatLeaf}
 use Rattle.xs_flat_laws.specs.Resolved.{leaves_in, trees_leaves, branches_leaves}
 use Rattle.xs_encode.specs.Reading.{tree_any, trees_any, branches_any}
-
-or_within : (a b c : Bool) → (a || b) || c ≡ a || (b || c)
-or_within true b c = refl
-or_within false b c = refl
-
-or_false : (a : Bool) → a || false ≡ a
-or_false true = refl
-or_false false = refl
+use Rattle.xs_types.proofs.ListLaws.{or_again as or_within, or_false}
 
 any_append : {L : Type 0} (test : L → Bool) (xs ys : List L) → list_any test (xs ++ ys) ≡ list_any test xs || list_any test ys
 any_append test [] ys = refl

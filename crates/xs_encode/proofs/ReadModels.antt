@@ -24,10 +24,7 @@ use Rattle.xs_encode_laws.proofs.StateBits.{bits_placed}
 use Rattle.xs_encode.specs.Domains.{capped, domain_interval, domain_width}
 use Rattle.xs_encode.specs.Values.{StandFor, HasState, HasMoment, values_in, least_in, domain_read, values_read}
 use Rattle.xs_encode.proofs.ValueLaws.{expected, values_stand}
-
-second_false : (a b : Bool) → (a || b) ≡ false → b ≡ false
-second_false true b e = cc
-second_false false b e = e
+use Rattle.xs_type_laws.proofs.SetRows.{or_false_second as second_false}
 
 few_bits : (m : FlatModel) → IsTyped m → state_bits m ≤ 4096
 few_bits m t = ltb-false 4096 (state_bits m) (second_false (nat_lt 50000 (model_cost m)) (nat_lt 4096 (state_bits m)) t.small)

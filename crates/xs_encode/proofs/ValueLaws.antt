@@ -1,5 +1,5 @@
 -- What is read from bits is the value that has them.
-use Rattle.std.proofs.Common.{◌≡◌, ◌⊎◌, inl, inr, ⊎_elim, ℕ, zero, suc, ◌+◌, ◌*◌, ◌^◌, ◌<◌, ◌≤◌, Bool, true, false, not, cond, ◌&&◌, ltb, ℤ, pos, negsuc, ◌+ℤ◌, ◌-ℤ◌, ◌≤ℤ◌, List, [], ◌∷◌, length, map, flat_map, min, Option, Some, None, refl, sym, ◌∙◌, ap, subst, arith, int_lt, lt-ltb}
+use Rattle.std.proofs.Common.{◌≡◌, ◌⊎◌, inl, inr, ℕ, zero, suc, ◌+◌, ◌*◌, ◌^◌, ◌<◌, ◌≤◌, Bool, true, false, not, cond, ◌&&◌, ltb, ℤ, pos, negsuc, ◌+ℤ◌, ◌-ℤ◌, ◌≤ℤ◌, List, [], ◌∷◌, length, map, flat_map, min, Option, Some, None, refl, sym, ◌∙◌, ap, subst, arith, int_lt, lt-ltb}
 use Rattle.std.specs.Prelude.{slice_get, unwrap_or, if◌then◌else◌, nat_lt}
 use Rattle.std.proofs.lemmas.Int.{ints}
 use Rattle.std.proofs.lemmas.Bool.{ltb-true, ltb-false}
@@ -8,12 +8,10 @@ use Rattle.std.proofs.Math.Nat.{pow-succ'}
 use Rattle.xs_tree.specs.declared.program.Member.{Member}
 use Rattle.xs_tree.specs.declared.program.Member.TheVariants as member
 use Rattle.xs_tree.specs.ProgramTree.{Text, DeclaredTree, boolean, range, members, instance, declared_tree}
-use Rattle.xs_tree.specs.Texts.{same_text}
 use Rattle.xs_tree.specs.Scope.{Role, state, input, frozen_role}
 use Rattle.xs_value.specs.declared.value.Value.{Value as AValue}
-use Rattle.xs_tree.specs.Trace.{Each, is_member, in_domain}
+use Rattle.xs_tree.specs.Trace.{Each, in_domain}
 use Rattle.xs_tree.specs.Values.{Value, truth, number, symbol, one}
-use Rattle.xs_tree.proofs.ValueLaws.{same_text_equal}
 use Rattle.xs_value.specs.declared.domain.Domain.TheVariants as domain
 use Rattle.xs_flat_laws.specs.FlatTrace.{AreInDomains}
 use Rattle.xs_tree.specs.declared.model.Variable.{Variable}
@@ -23,9 +21,6 @@ use Rattle.xs_type_laws.specs.Judged.{number_class, symbol_class, mixed_enum, un
 use Rattle.xs_type_laws.specs.Declared.{member_kind, judged_declared}
 use Rattle.xs_type_laws.specs.Costs.{width_of, symbol_number, declared_width, role_width}
 use Rattle.xs_type_laws.specs.Laws.{BitsHold}
-use Rattle.xs_type_laws.specs.Safe.{IsOfClass}
-use Rattle.xs_type_laws.proofs.Parts.{or_true}
-use Rattle.xs_type_laws.proofs.VariableLaws.{variable_holds}
 use Rattle.xs_type_laws.proofs.Widths.{widths_least}
 use Rattle.xs_lexer.proofs.SignLemmas.{both_true}
 use Rattle.xs_types.specs.Types.{spread, numbers_in, symbols_in, domain_of, StandsFor}
@@ -39,15 +34,15 @@ use Rattle.xs_encode_laws.specs.Inputs.{is_input}
 use Rattle.xs_encode_laws.specs.Bits.{natural_bits, number_bits, value_number, value_bits}
 use Rattle.xs_encode_laws.specs.Meanings.{AreSymbols}
 use Rattle.xs_encode_laws.specs.Encodable.{IsListedMember, IsListedType}
-use Rattle.xs_encode_laws.proofs.Answering.{one_same}
 use Rattle.xs_encode_laws.proofs.TypeBits.{length-number, natural-value, signed-value}
 use Rattle.xs_encode_laws.proofs.NumberWords.{bits_hold, some_bits}
-use Rattle.xs_encode_laws.proofs.TypeMeans.{IsNumbers, numbers_of, symbol_found, got_below, members_kept}
-use Rattle.xs_encode_laws.proofs.VariableMeans.{numbers_width}
+use Rattle.xs_encode_laws.proofs.TypeMeans.{IsNumbers, numbers_of, symbol_found, members_kept, member_listed}
+use Rattle.xs_encode_laws.proofs.VariableMeans.{numbers_width, class_of}
 use Rattle.xs_encode_laws.proofs.Readings.{IsRightType, HasBits}
 use Rattle.xs_encode.specs.Domains.{domain_interval, domain_width, capped}
 use Rattle.xs_encode.specs.Values.{StandFor, values_in, bits_at, last_digit, bits_number, is_below, has_sign, as_symbol, is_nonzero, value_of, domain_read, least_in, values_read}
 use Rattle.xs_encode.proofs.DomainLaws.{interval_is, width_is}
+use Rattle.std.proofs.lemmas.Option.{slice_get_within as got_below}
 
 -- ---- bits that an assignment has
 
@@ -119,17 +114,6 @@ narrow : (i : Interval) → i.lo ≤ℤ i.hi → fits i ≡ true → width_of i 
 narrow i h f = let e = both_true (fits_number i.lo) (fits_number i.hi) f in (widths_least i h f).1 33 (few_bits i.lo i.hi e.0 e.1)
 
 -- ---- the value of a number
-
-class_of : (d : DeclaredTree) (u : Value) → (judged_declared d).broken ≡ [] → in_domain d u ≡ true → IsOfClass (judged_declared d).kind.class u
-class_of d u e h =
-    let g = (variable_holds d u e h).gives in
-    subst (λ (x : Value). IsOfClass (judged_declared d).kind.class x) (one_same g.value u (Some (one u)) g.is refl) g.of_kind.class
-
-member_listed : (symbols : List Text) (ms : List Member) (x : Text) → is_member ms (symbol x) ≡ true → Each (IsListedMember symbols) ms → (i : ℕ) × (slice_get symbols i ≡ Some x)
-member_listed symbols [] x h e = cc
-member_listed symbols (member.Number n ∷ ms) x h e = member_listed symbols ms x h e.1
-member_listed symbols (member.Symbol y ∷ ms) x h e =
-    ⊎_elim (λ s. (e.0.0, e.0.1 ∙ ap Some (same_text_equal y x s))) (λ s. member_listed symbols ms x s e.1) (or_true (same_text y x) (is_member ms (symbol x)) h)
 
 module _ (symbols : List Text) (are : AreSymbols symbols) where
   -- a listed symbol is read by its number

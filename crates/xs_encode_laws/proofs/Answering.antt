@@ -1,6 +1,5 @@
 -- What nodes give, from what their parts give.
-use Rattle.std.proofs.Common.{◌≡◌, ℕ, ◌<◌, zero, suc, Bool, true, false, cond, ◌++◌, List, [], ◌∷◌, Option, Some, None, length, refl, sym, ◌∙◌, ap, subst, arith}
-use Rattle.std.specs.Prelude.{slice_get}
+use Rattle.std.proofs.Common.{◌≡◌, ℕ, ◌<◌, zero, Bool, true, false, cond, ◌++◌, List, [], ◌∷◌, Option, Some, None, refl, sym, ◌∙◌, ap, subst, arith}
 use Rattle.xs_tree.specs.declared.expr.Op.{Op}
 use Rattle.xs_tree.specs.declared.expr.Op.TheVariants as op
 use Rattle.xs_tree.specs.ProgramTree.{Text}
@@ -19,6 +18,7 @@ use Rattle.xs_encode_laws.proofs.Fitting.{fits_width, fits_symbol}
 use Rattle.xs_encode_laws.proofs.Operators.{AreAlike, FitsValue, DividesRight}
 use Rattle.xs_encode_laws.proofs.Choices.{FitsWord}
 use Rattle.xs_circuits.proofs.Orders.{Fits}
+use Rattle.std.proofs.lemmas.Option.{slice_get_within as got_below}
 
 -- ---- values that are given
 
@@ -57,11 +57,6 @@ kept_interval [] i e = refl
 kept_interval (r ∷ rs) i e = cc
 
 -- ---- values fit the widths of their kinds
-
-got_below : {A : Type 0} (xs : List A) (i : ℕ) (x : A) → slice_get xs i ≡ Some x → i < length xs
-got_below [] i x e = cc
-got_below (y ∷ xs) zero x e = omega arith
-got_below (y ∷ xs) (suc i) x e = let more = got_below xs i x e in omega arith
 
 pub kind_value_fits : (symbols : List Text) → AreSymbols symbols → (c : Class) (i : Option Interval) (x : Value) → Bounded c i → IsOfClass c x → LiesIn i x → FitsWord symbols (width_by symbols c i) x
 kind_value_fits symbols are number_class (Some i) (number n) b h l = fits_width i n b l

@@ -1,13 +1,13 @@
 -- An invariant that excludes the bad states of listed sets shows that they cover all traces.
-use Rattle.std.proofs.Common.{◌≡◌, ◌⊎◌, inl, inr, ℕ, suc, ◌≤◌, Bool, true, false, List, [], ◌∷◌, ◌++◌, length, refl, sym, ap, ◌∙◌, subst}
+use Rattle.std.proofs.Common.{◌≡◌, ◌⊎◌, inl, inr, ℕ, ◌≤◌, Bool, true, false, List, [], ◌∷◌, ◌++◌, length, refl, sym, ap, ◌∙◌, subst}
 use Rattle.std.specs.Prelude.{Contains, filter}
 use Rattle.xs_tree.specs.Tree.{Tree}
 use Rattle.xs_tree.specs.Values.{Value, truth}
 use Rattle.xs_tree.specs.Trace.{Each, EachPair, AtSome}
-use Rattle.xs_tree.specs.Flat.{FlatLeaf, FlatVariable, FlatModel, FlatMay}
+use Rattle.xs_tree.specs.Flat.{FlatLeaf, FlatModel, FlatMay}
 use Rattle.xs_flat_laws.specs.History.{Mode, with_history, added}
-use Rattle.xs_flat_laws.specs.FlatTrace.{AreInDomains, IsFlatMoment, IsFlatStep, IsFlatTrace, bits_after, told_from, IsOwnFormula}
-use Rattle.xs_flat_laws.proofs.HistoryTraces.{holds_longer, history_exactly}
+use Rattle.xs_flat_laws.specs.FlatTrace.{IsFlatMoment, IsFlatStep, IsFlatTrace, bits_after, told_from, IsOwnFormula}
+use Rattle.xs_flat_laws.proofs.HistoryTraces.{holds_longer, history_exactly, domains_length as as_many}
 use Rattle.xs_lits.specs.Literal.{Literal}
 use Rattle.xs_lits.specs.declared.system.System.{System}
 use Rattle.xs_lits.specs.States.{State, IsStepOf, IsStepUnder, InFrame, IsInvariant}
@@ -19,13 +19,6 @@ use Rattle.xs_encode_laws.specs.EncodedLaws.{AreOwn, IsEncoded, InvariantsCover}
 use Rattle.xs_encode_laws.proofs.SetLaws.{true_or_false, has_contains, contains_has, contained_has, here, later}
 use Rattle.xs_encode_laws.proofs.Numbers.{count_where}
 use Rattle.xs_encode_laws.proofs.HistoryFacts.{at_last, each_last, last_told, last_tells, range_length, unlisted_comes, failed_exactly, failed_small}
-
--- as many values as variables
-pub as_many : (xs : List FlatVariable) (v : List Value) → AreInDomains xs v → length v ≡ length xs
-as_many [] [] h = refl
-as_many [] (a ∷ v) h = absurd h
-as_many (x ∷ xs) [] h = absurd h
-as_many (x ∷ xs) (a ∷ v) h = ap suc (as_many xs v h.1)
 
 -- a set is within the numbers, or none is
 some_within : (numbers : List ℕ) (sets : List (List ℕ)) →

@@ -40,8 +40,9 @@ use Rattle.xs_encode_laws.specs.Encodable.{IsListedMember, IsListedType}
 use Rattle.xs_encode_laws.proofs.Parts.{ready_later, word_later, literal_below, as_bit-means}
 use Rattle.xs_encode_laws.proofs.Fitting.{number_value, symbol_value, fits_symbol, fit_same}
 use Rattle.xs_encode_laws.proofs.Choices.{word_fitted, between_gates-means}
-use Rattle.xs_encode_laws.proofs.TypeMeans.{symbol_found, got_below, no_truth, members_kept, IsNumbers, numbers_of}
+use Rattle.xs_encode_laws.proofs.TypeMeans.{symbol_found, no_truth, members_kept, IsNumbers, numbers_of}
 use Rattle.xs_encode_laws.proofs.VariableMeans.{read_symbol, symbol_or_false, read_as, numbers_word, numbers_signal}
+use Rattle.std.proofs.lemmas.Option.{slice_get_within as got_below}
 
 -- the literal is TRUE exactly where this holds
 pub record SaysWhether (v : TotalAssignment) (l : Literal) (b : Bool) : Type 0 where

@@ -26,6 +26,7 @@ use Rattle.xs_type_laws.proofs.ClosedLaws.{models_closed}
 use Rattle.xs_encode_laws.specs.Inputs.{is_input, is_input_variable, reads_input}
 use Rattle.xs_encode_laws.specs.Encodable.{is_input_name, reads_next_input}
 use Rattle.xs_encode_laws.proofs.NameMeans.{flag_is}
+use Rattle.std.proofs.lemmas.Bool.{true_from_ne_false as not_false_true}
 
 -- ---- lists
 
@@ -245,10 +246,6 @@ assigned_no_input when (a_formal i) h = refl
 assigned_no_input when (a_define e) h = refl
 assigned_no_input when (an_instance n actuals) h = refl
 assigned_no_input when undeclared h = refl
-
-not_false_true : (b : Bool) → (b ≡ false → ⊥) → b ≡ true
-not_false_true true h = refl
-not_false_true false h = absurd (h refl)
 
 no_input_role : (r : Role) (t : DeclaredTree) → is_input_kind (a_variable r t) ≡ false → is_input r ≡ false
 no_input_role state t h = refl

@@ -16,8 +16,8 @@ use Rattle.xs_encode_laws.specs.Inputs.{is_input_variable, names_input, tree_rea
 use Rattle.xs_encode_laws.specs.Encodable.{IsListedType, is_input_name, reads_next_input, IsEncodable}
 use Rattle.xs_encode_laws.specs.HistoryBits.{IsStateMode, HistoryKeepsEncodable}
 use Rattle.xs_encode_laws.proofs.NameMeans.{each_joined, each_leaf, same_any}
-use Rattle.xs_encode_laws.proofs.TypeMeans.{got_below}
 use Rattle.xs_encode_laws.proofs.HistoryPlaces.{is_bit}
+use Rattle.std.proofs.lemmas.Option.{slice_get_within as got_below}
 
 -- what holds of each leaf holds of those under `next`
 mutual
@@ -49,7 +49,7 @@ known_wider nv nw ns k h (flat_variable i) known = omega (arith, h, known)
 known_wider nv nw ns k h (flat_symbol i) known = known
 known_wider nv nw ns k h (flat_definition i) known = known
 
-order_wider : (nv nw ns k : ℕ) → nv ≤ nw → (ds : List FlatFormula) → AreInOrder nv ns k ds → AreInOrder nw ns k ds
+pub order_wider : (nv nw ns k : ℕ) → nv ≤ nw → (ds : List FlatFormula) → AreInOrder nv ns k ds → AreInOrder nw ns k ds
 order_wider nv nw ns k h [] o = tt
 order_wider nv nw ns k h (d ∷ ds) o = (all_leaves_more (IsKnown nv ns k) (IsKnown nw ns k) (known_wider nv nw ns k h) d.value o.0, order_wider nv nw ns (suc k) h ds o.1)
 

@@ -16,7 +16,7 @@ use Rattle.xs_encode_laws.specs.Encodable.{IsStateBoolean}
 use Rattle.xs_encode_laws.specs.HistoryBits.{HistoryBitsAreLast}
 
 -- a place past the first list
-get_past : {A : Type 0} (xs ys : List A) (i : ℕ) → slice_get (xs ++ ys) (length xs + i) ≡ slice_get ys i
+pub get_past : {A : Type 0} (xs ys : List A) (i : ℕ) → slice_get (xs ++ ys) (length xs + i) ≡ slice_get ys i
 get_past [] ys i = let at : 0 + i ≡ i = omega arith in ap (slice_get ys) at
 get_past (x ∷ xs) ys i = let at : suc (length xs) + i ≡ suc (length xs + i) = omega arith in ap (slice_get (x ∷ (xs ++ ys))) at ∙ get_past xs ys i
 

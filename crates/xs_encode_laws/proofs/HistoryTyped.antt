@@ -17,22 +17,22 @@ use Rattle.xs_encode_laws.specs.HistoryBits.{IsSymbolMode, HistoryKeepsTyped}
 use Rattle.xs_encode_laws.proofs.HistoryPlaces.{is_bit}
 
 -- the kind of a variable, where there are more after it
-got_same : (xs ys : List FlatVariable) (i : ℕ) → i < length xs → slice_get (judged_variables (xs ++ ys)) i ≡ slice_get (judged_variables xs) i
+pub got_same : (xs ys : List FlatVariable) (i : ℕ) → i < length xs → slice_get (judged_variables (xs ++ ys)) i ≡ slice_get (judged_variables xs) i
 got_same [] ys i h = absurd (omega (arith, h))
 got_same (x ∷ xs) ys zero h = refl
 got_same (x ∷ xs) ys (suc i) h = got_same xs ys i (omega (arith, h))
 
-got_judged : (xs : List FlatVariable) (i : ℕ) (x : FlatVariable) → slice_get xs i ≡ Some x → slice_get (judged_variables xs) i ≡ Some (judged_declared x.declared)
+pub got_judged : (xs : List FlatVariable) (i : ℕ) (x : FlatVariable) → slice_get xs i ≡ Some x → slice_get (judged_variables xs) i ≡ Some (judged_declared x.declared)
 got_judged [] i x e = cc
 got_judged (y ∷ xs) zero x e = let same : y ≡ x = cc in ap (λ (z : FlatVariable). Some (judged_declared z.declared)) same
 got_judged (y ∷ xs) (suc i) x e = got_judged xs i x e
 
-same_kind : (xs ys : List FlatVariable) (js : List Judged) (ns k : ℕ) (l : FlatLeaf) → IsKnown (length xs) ns k l → leaf_kind (judged_variables (xs ++ ys)) js l ≡ leaf_kind (judged_variables xs) js l
+pub same_kind : (xs ys : List FlatVariable) (js : List Judged) (ns k : ℕ) (l : FlatLeaf) → IsKnown (length xs) ns k l → leaf_kind (judged_variables (xs ++ ys)) js l ≡ leaf_kind (judged_variables xs) js l
 same_kind xs ys js ns k (flat_variable i) known = ap kind_at (got_same xs ys i known)
 same_kind xs ys js ns k (flat_symbol i) known = refl
 same_kind xs ys js ns k (flat_definition i) known = refl
 
-same_definitions : (xs ys : List FlatVariable) (js : List Judged) (ns k : ℕ) (ds : List FlatFormula) → AreInOrder (length xs) ns k ds
+pub same_definitions : (xs ys : List FlatVariable) (js : List Judged) (ns k : ℕ) (ds : List FlatFormula) → AreInOrder (length xs) ns k ds
     → judged_after (judged_variables (xs ++ ys)) js ds ≡ judged_after (judged_variables xs) js ds
 same_definitions xs ys js ns k [] o = refl
 same_definitions xs ys js ns k (d ∷ ds) o =
@@ -51,7 +51,7 @@ variables_right [] k fs = bits_right k fs
 variables_right (x ∷ xs) k fs = ap (λ r. breaches_at x.number x.item (judged_declared x.declared).broken ++ r) (variables_right xs k fs)
 
 -- what a list and another break
-conditions_joined : (m : FlatModel) (gs hs : List FlatFormula) → condition_breaches m gs ≡ [] → condition_breaches m hs ≡ [] → condition_breaches m (gs ++ hs) ≡ []
+pub conditions_joined : (m : FlatModel) (gs hs : List FlatFormula) → condition_breaches m gs ≡ [] → condition_breaches m hs ≡ [] → condition_breaches m (gs ++ hs) ≡ []
 conditions_joined m [] hs a b = b
 conditions_joined m (g ∷ gs) hs a b =
     let here = breaches_at g.number g.item (broken_condition (judged_in m false g.value)) in

@@ -14,7 +14,7 @@ use Rattle.xs_flat_laws.specs.Rules.{leaves_under, trees_leaves_under, branches_
 use Rattle.xs_flat_laws.proofs.Lists.{each_more}
 use Rattle.xs_flat_laws.proofs.Reaches.{each_left, each_right}
 use Rattle.xs_flat_laws.proofs.Conditions.{MayBe}
-use Rattle.xs_flat_laws.proofs.Now.{neither, BothSame, same_on}
+use Rattle.xs_flat_laws.proofs.Now.{BothSame, same_on}
 use Rattle.xs_lits.specs.States.{Agrees}
 use Rattle.xs_lits.specs.Models.{TotalAssignment}
 use Rattle.xs_encode_laws.specs.Encoded.{is_true_value, is_true_at, is_true_in, bit_of}
@@ -27,9 +27,10 @@ use Rattle.xs_encode_laws.proofs.VariableMeans.{read_as}
 use Rattle.xs_encode_laws.proofs.Readings.{reading, reading_is}
 use Rattle.xs_encode_laws.proofs.MomentMeans.{model_types}
 use Rattle.xs_encode_laws.proofs.StateBits.{with_bits, with_bits_truth, bits_first, bits_placed}
+use Rattle.std.proofs.lemmas.Bool.{or_parts as neither}
 
 -- none of them passes the test
-each_none : {A : Type 0} (f : A → Bool) (xs : List A) → list_any f xs ≡ false → Each (λ x. f x ≡ false) xs
+pub each_none : {A : Type 0} (f : A → Bool) (xs : List A) → list_any f xs ≡ false → Each (λ x. f x ≡ false) xs
 each_none f [] e = tt
 each_none f (x ∷ xs) e = let s = neither (f x) (list_any f xs) e in (s.0, each_none f xs s.1)
 

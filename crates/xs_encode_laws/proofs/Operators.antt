@@ -1,12 +1,12 @@
 -- The gates of an operator give its value.
-use Rattle.std.proofs.Common.{◌≡◌, ◌≢◌, ℕ, ◌<◌, Bool, true, false, not, ◌&&◌, ◌||◌, ℤ, pos, ◌+ℤ◌, ◌-ℤ◌, ◌*ℤ◌, List, [], ◌∷◌, Some, None, Option, refl, sym, ◌∙◌, ap, subst, negsuc, eq-eqb}
+use Rattle.std.proofs.Common.{◌≡◌, ◌≢◌, ℕ, ◌<◌, Bool, true, false, not, ◌&&◌, ◌||◌, ℤ, pos, ◌+ℤ◌, ◌-ℤ◌, ◌*ℤ◌, List, [], ◌∷◌, Some, None, Option, refl, sym, ◌∙◌, ap, subst}
 use Rattle.std.specs.Prelude.{int_lt, int_div, int_rem, slice_get}
 use Rattle.std.specs.Ordering.{int_eq}
 use Rattle.std.proofs.lemmas.Bool.Decides.{Decides-int_eq}
 use Rattle.xs_tree.specs.declared.expr.Op.{Op}
 use Rattle.xs_tree.specs.declared.expr.Op.TheVariants as op
 use Rattle.xs_tree.specs.ProgramTree.{Text}
-use Rattle.xs_tree.specs.Values.{Value, truth, number, symbol, apply, on_numbers, on_truths, on_symbols, same_value, same_int, same_bool, at_most, opposite as other}
+use Rattle.xs_tree.specs.Values.{Value, truth, number, symbol, apply, on_numbers, on_truths, on_symbols, same_value, same_bool, at_most, opposite as other}
 use Rattle.xs_tree.proofs.ValueLaws.{same_value_equal, same_text_refl}
 use Rattle.xs_lits.specs.Literal.{Literal, opposite}
 use Rattle.xs_lits.specs.Models.{TotalAssignment, literal_value, IsBelow}
@@ -26,6 +26,7 @@ use Rattle.xs_circuits.proofs.DivideMeans.{divide_gates-gives, remainder_gates-g
 use Rattle.xs_encode_laws.specs.Signals.{Signal, bit, word, literal_in, word_in, as_bit, as_word, turned, same_gates, operator_gates}
 use Rattle.xs_encode_laws.specs.Meanings.{IsNumberOf, HasValue, AreSymbols, IsSignal, IsReady}
 use Rattle.xs_encode_laws.proofs.Parts.{literal_below, word_usable, number_in_word, truth_in_bit, IsLiteral, as_bit-means, as_word-means, turned-means}
+use Rattle.xs_type_laws.proofs.LeastLaws.{same_int_self as same_int_refl}
 
 -- a number fits so many bits
 abbrev pub FitsValue : ℕ → Value → Type 0
@@ -132,10 +133,6 @@ alike_applied o (truth a) (number b) z e = cc
 alike_applied o (truth a) (symbol b) z e = cc
 alike_applied o (symbol a) (number b) z e = cc
 alike_applied o (symbol a) (truth b) z e = cc
-
-pub same_int_refl : (a : ℤ) → same_int a a ≡ true
-same_int_refl (pos n) = eq-eqb n n refl
-same_int_refl (negsuc n) = eq-eqb n n refl
 
 same_bool_refl : (a : Bool) → same_bool a a ≡ true
 same_bool_refl true = refl

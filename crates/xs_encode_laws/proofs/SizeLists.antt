@@ -45,14 +45,14 @@ use Rattle.xs_circuits.specs.Meaning.{AllBelow}
 use Rattle.xs_circuits.proofs.Extension.{AllBelow-more, ClausesBelow-from}
 use Rattle.std.proofs.lemmas.List.Elements.{All-append}
 use Rattle.std.proofs.lemmas.List.{length-map}
-use Rattle.std.proofs.lemmas.Bool.{ltb-false}
+use Rattle.std.proofs.lemmas.Bool.{ltb-false, or_parts as both_false}
 use Rattle.std.proofs.Math.Nat.{mul-le-mul_left}
 use Rattle.std.specs.List.{AllByRecursion}
 use Rattle.xs_encode_laws.proofs.SizeExpressions.{IsShort, Takes, AreShortNames, encoded_takes}
 
 -- ---- short words
 
-digits_most : (most n : ℕ) → digits_in most n ≤ most
+pub digits_most : (most n : ℕ) → digits_in most n ≤ most
 unfolding digits_in
 digits_most zero n = omega arith
 digits_most (suc most) n = by (nat_eq n 0) (digits_most most (n / 2))
@@ -188,10 +188,6 @@ domains_reach m is c all (x ∷ xs) right (e ∷ es) s ready a he ge =
 asserted_free : (r : Circuit × Signal) → (asserted_signal r).free ≡ r.0.free
 unfolding asserted
 asserted_free r = refl
-
-both_false : (a b : Bool) → (a || b) ≡ false → (a ≡ false) × (b ≡ false)
-both_false true b e = cc
-both_false false b e = (refl, e)
 
 -- ---- definitions and copies
 

@@ -23,12 +23,12 @@ use Rattle.xs_encode_laws.specs.Layout.{state_width, input_width, width_as_input
 use Rattle.xs_encode_laws.specs.Bits.{value_bits, bits_of, value_number}
 use Rattle.xs_encode_laws.specs.Meanings.{AreSymbols}
 use Rattle.xs_encode_laws.specs.Encodable.{IsListedType}
-use Rattle.xs_encode_laws.proofs.Operators.{same_int_refl}
 use Rattle.xs_encode_laws.proofs.TypeMeans.{range_numbers}
 use Rattle.xs_encode_laws.proofs.TypeBits.{length-number}
 use Rattle.xs_encode_laws.proofs.Readings.{IsRightType, HasBits}
+use Rattle.xs_type_laws.proofs.LeastLaws.{same_int_self as same_int_refl}
 
-not_below : (a b : ℤ) → a ≤ℤ b → int_lt b a ≡ false
+pub not_below : (a b : ℤ) → a ≤ℤ b → int_lt b a ≡ false
 not_below a b h = grind (arith, ints)
 
 at_most_from : (a b : ℤ) → a ≤ℤ b → at_most a b ≡ true

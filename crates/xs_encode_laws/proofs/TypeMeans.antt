@@ -29,6 +29,7 @@ use Rattle.xs_encode_laws.specs.Encodable.{IsListedMember, IsListedType}
 use Rattle.xs_encode_laws.proofs.Fitting.{fits_width, fits_symbol}
 use Rattle.xs_encode_laws.proofs.NumberWords.{bits_within_word, symbols_within_word}
 use Rattle.xs_encode_laws.proofs.Answering.{kept_interval}
+use Rattle.std.proofs.lemmas.Option.{slice_get_within as got_below}
 
 -- ---- symbols by their numbers
 
@@ -42,11 +43,6 @@ symbol_found (y ∷ ys) x i e = by (same_text y x) refl i e (λ j. symbol_found 
     by true t i e more = ap Some (same_text_equal y x t)
     by false t zero e more = let same : y ≡ x = cc in cc (t, ap (λ z. same_text z x) same ∙ same_text_refl x)
     by false t (suc i) e more = more i e
-
-pub got_below : {A : Type 0} (xs : List A) (i : ℕ) (x : A) → slice_get xs i ≡ Some x → i < length xs
-got_below [] i x e = cc
-got_below (y ∷ xs) zero x e = omega arith
-got_below (y ∷ xs) (suc i) x e = let more = got_below xs i x e in omega arith
 
 -- ---- the least interval around numbers
 
@@ -97,7 +93,7 @@ pub record IsNumbers (symbols : List Text) (d : DeclaredTree) : Type 0 where
   pub values : (u : Value) → in_domain d u ≡ true → IsIn interval (value_number symbols u)
   pub word_value_is : (v : TotalAssignment) (w : List Literal) (u : Value) → in_domain d u ≡ true → word_value v w ≡ value_number symbols u → HasValue symbols v (word w) u
 
-own_none : (own : List KindRule) → own ++ [] ≡ [] → own ≡ []
+pub own_none : (own : List KindRule) → own ++ [] ≡ [] → own ≡ []
 own_none own e = none_first own [] e
 
 order_from : (lo hi : ℤ) → int_lt hi lo ≡ false → lo ≤ℤ hi
@@ -148,7 +144,7 @@ member_holds symbols P (member.Symbol x ∷ ms) (truth b) h e = member_holds sym
 member_holds symbols P (member.Symbol x ∷ ms) (number k) h e = member_holds symbols P ms (number k) h e.1
 
 -- a symbol among listed members is listed
-member_listed : (symbols : List Text) (ms : List Member) (x : Text) → is_member ms (symbol x) ≡ true → Each (IsListedMember symbols) ms → (i : ℕ) × (slice_get symbols i ≡ Some x)
+pub member_listed : (symbols : List Text) (ms : List Member) (x : Text) → is_member ms (symbol x) ≡ true → Each (IsListedMember symbols) ms → (i : ℕ) × (slice_get symbols i ≡ Some x)
 member_listed symbols [] x h e = cc
 member_listed symbols (member.Number n ∷ ms) x h e = member_listed symbols ms x h e.1
 member_listed symbols (member.Symbol y ∷ ms) x h e =

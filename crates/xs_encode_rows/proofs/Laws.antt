@@ -36,9 +36,10 @@ use Rattle.xs_encode_laws.specs.Inputs.{is_input, is_input_variable, names_input
 use Rattle.xs_encode_laws.specs.Meanings.{AreSymbols}
 use Rattle.xs_encode_laws.specs.Encodable.{IsListedType, IsEncodable, IsFitTop}
 use Rattle.xs_encode_laws.specs.Laws.{HasMember}
-use Rattle.xs_encode_laws.proofs.TypeMeans.{symbol_found, got_below}
+use Rattle.xs_encode_laws.proofs.TypeMeans.{symbol_found}
 use Rattle.xs_eval.specs.Named.{named, named_all, IsPlaceOf, IsNumbered, IsLawful}
 use Rattle.xs_encode_rows.specs.Values.{IsKnownSymbol, HasAt}
+use Rattle.std.proofs.lemmas.Option.{slice_get_within as got_below}
 
 -- Types that have members.
 members_by : (xs : List Variable) → AllByRecursion (λ x. HasMember (declared_tree x.declared)) xs → Each (λ x. HasMember x.declared) (map variable_tree xs)

@@ -1,12 +1,12 @@
 -- What the code answers at each row of evaluation is what the row gives.
-use Rattle.std.proofs.Common.{◌≡◌, ℕ, List, Bool, true, false, cond, Option, Some, None, ℤ, pos, negsuc, refl, sym, ap, ◌∙◌, subst, eqb-true, eq-eqb}
+use Rattle.std.proofs.Common.{◌≡◌, ℕ, List, Bool, true, false, cond, Option, Some, None, ℤ, pos, refl, sym, ap, ◌∙◌, subst, eqb-true, eq-eqb}
 use Rattle.std.specs.Prelude.{nat_eq, slice_get}
 use Rattle.xs_tree.specs.declared.expr.Op.{Op}
 use Rattle.xs_tree.specs.declared.expr.Op.TheVariants as op
 use Rattle.xs_tree.specs.ProgramTree.{Text}
 use Rattle.xs_tree.specs.Texts.{same_text}
 use Rattle.xs_tree.specs.Values as told
-use Rattle.xs_tree.specs.Values.{same_int, same_bool, same_value, Values, no_value, one, from_to, has, apply, is_between}
+use Rattle.xs_tree.specs.Values.{same_int, same_value, Values, no_value, one, from_to, has, apply, is_between}
 use Rattle.xs_tree.specs.Evaluate.{gives_one as gives, gives_not, gives_negative, gives_either, gives_within, gives_applied, gives_binary, gives_choice}
 use Rattle.xs_tree.proofs.ValueLaws.{same_text_equal, same_text_refl, same_int_equal}
 use Rattle.xs_value.specs.declared.value.Value.{Value}
@@ -18,10 +18,7 @@ use Rattle.xs_eval.specs.declared.ask.Asked.TheVariants.{ItsValue, Whether}
 use Rattle.xs_eval.specs.Operated.{same, is_true, opposite, negative, either, between, on_numbers, on_truths, on_symbols, applied}
 use Rattle.xs_eval.specs.Asked.{answer, on_left, on_right, operation, in_span}
 use Rattle.xs_eval.specs.Named.{text_at, named, IsPlaceOf, IsNumbered, AreApart}
-
-same_number : (n : ℤ) → same_int n n ≡ true
-same_number (pos n) = eq-eqb n n refl
-same_number (negsuc n) = eq-eqb n n refl
+use Rattle.xs_type_laws.proofs.LeastLaws.{same_int_self as same_number}
 
 small_number : (n : ℤ) → (same_int n n ≡ true → fits_number n ≡ true) → fits_number n ≡ true
 small_number n f = f (same_number n)

@@ -298,7 +298,3 @@ mutual
 pub built_spelled : {xs : List Lexeme} {a : Tree Path} → Spells at_expr xs a → built xs ≡ Some a
 unfolding IsClear Fits
 built_spelled {a = a} p = let x = makes [] tt tt p in ap finish x.path ∙ ap finished (x.same at_expr (omega arith))
-
--- so no list spells two expressions
-pub one_expression : {xs : List Lexeme} {a b : Tree Path} → Spells at_expr xs a → Spells at_expr xs b → a ≡ b
-one_expression p q = let both : Some _ ≡ Some _ = sym (built_spelled p) ∙ built_spelled q in cc

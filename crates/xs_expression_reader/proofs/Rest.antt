@@ -12,6 +12,7 @@ use Rattle.xs_expression_reader.specs.Recognise.{Role, a_truth, a_name, a_number
 use Rattle.xs_tree.proofs.OneTree.{same_text_equal}
 use Rattle.xs_tree.proofs.PrintedSpells.{loosened}
 use Rattle.xs_expression_reader.proofs.Prepended.{IsSpelled, prepended, chosen, minus_before}
+use Rattle.xs_expression_reader.proofs.Accepted.{regrouped_twice as ending}
 
 -- the lexemes of a role
 Meant : Role → Lexeme → Type 0
@@ -262,11 +263,6 @@ begin_back s opens_set t ts m h =
     longer t (λ xs d. let on = d.1 in an_atom (is_set d.2.1) cc)
     (past_expr {One = Inside members} {Other = EndsWith (sign k.CloseBrace) IsTrees} closed_members (as_expr h))
 begin_back s c t ts m h = absurd h
-
-ending : (zs us ys : List Lexeme) →
-    (zs ++ sign k.Colon ∷ (us ++ sign k.Semicolon ∷ ys)) ++ word (codes "esac") ∷ [] ≡ zs ++ sign k.Colon ∷ (us ++ sign k.Semicolon ∷ (ys ++ word (codes "esac") ∷ []))
-ending zs us ys = append_assoc zs (sign k.Colon ∷ (us ++ sign k.Semicolon ∷ ys)) (word (codes "esac") ∷ []) ∙
-    ap (λ z. zs ++ sign k.Colon ∷ z) (append_assoc us (sign k.Semicolon ∷ ys) (word (codes "esac") ∷ []))
 
 -- a lexeme that closes a frame
 close_back : (s : List Frame) (c : Role) (t : Lexeme) (ts : List Lexeme) → Meant c t → Rest (close s c) ts → Closed s (t ∷ ts)

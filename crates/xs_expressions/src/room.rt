@@ -1,7 +1,7 @@
 //! Room for more gates. A circuit that would pass the highest variable, and a word that is wider than the
 //! arithmetic of words takes, are told as want of memory; no typed model within its limits comes to either.
 
-ghost use Rattle.std.specs.Prelude.{◌≤◌, ◌-◌, ◌^◌, length, OnOk};
+ghost use Rattle.std.specs.Prelude.{◌≤◌, ◌-◌, ◌^◌, length, IsOk, OnOk};
 
 use xs_circuits::gates::Gates;
 use xs_circuits::word::Word;
@@ -10,6 +10,7 @@ use xs_value::OutOfMemory;
 /// Any one operation still has its variables.
 pub fn check_room(g: &Gates) -> Result<(), OutOfMemory>
     ensures room { OnOk result (g.now.free ≤ 2 ^ 31 - 20000) }
+    ensures fits { g.now.free ≤ 2 ^ 31 - 20000 → IsOk result }
     ensures least { 2 ≤ g.now.free }
 {
     if g.free() <= 2147463648 {
@@ -21,7 +22,8 @@ pub fn check_room(g: &Gates) -> Result<(), OutOfMemory>
 
 /// The word is no wider than arithmetic takes.
 pub fn check_narrow(w: &Word) -> Result<(), OutOfMemory>
-    ensures { OnOk result (length w.now ≤ 34) }
+    ensures narrow { OnOk result (length w.now ≤ 34) }
+    ensures fits { length w.now ≤ 34 → IsOk result }
 {
     if w.len() <= 34 {
         Ok(())
@@ -32,7 +34,8 @@ pub fn check_narrow(w: &Word) -> Result<(), OutOfMemory>
 
 /// Words of this width are no wider than arithmetic takes.
 pub fn check_width(width: u32) -> Result<(), OutOfMemory>
-    ensures { OnOk result (width ≤ 34) }
+    ensures narrow { OnOk result (width ≤ 34) }
+    ensures fits { width ≤ 34 → IsOk result }
 {
     if width <= 34 {
         Ok(())

@@ -9,12 +9,10 @@ use Rattle.xs_fei.specs.declared.instructions.ModeRule.{ModeRule}
 use Rattle.xs_fei.specs.Instructions.{mode_tree}
 use Rattle.xs_tree.specs.Trace.{Each}
 use Rattle.xs_tree.specs.Flat.{FlatInstance, FlatModel}
-use Rattle.xs_flat_laws.proofs.KindLaws.{not_true}
 use Rattle.xs_tree.specs.declared.model.Instance.{Instance}
 use Rattle.xs_tree.specs.ModelTree.{instance_tree}
 use Rattle.xs_weave_rules.specs.declared.placed.Placed.{Placed}
 use Rattle.xs_weave_rules.specs.Placing.{PlacedSlice, seen_placed}
-use Rattle.xs_extend.proofs.EachItem.{drop_item}
 use Rattle.xs_extend_laws.specs.SliceUses.{modes_from, uses_of_slice, uses_of_slices}
 use Rattle.xs_flat_laws.proofs.Conditions.{each_join}
 use Rattle.xs_extend_laws.specs.Uses.{Use}
@@ -24,6 +22,8 @@ use Rattle.xs_extend.specs.declared.fault.Cause.TheVariants.{Weave, Flat, Kinds}
 use Rattle.xs_extend.specs.declared.fault.WeaveFault.{WeaveFault}
 use Rattle.xs_extend.specs.Guarded.{use_at}
 use Rattle.xs_extend.specs.Refused.{IsWantOr, IsFirstFault}
+use Rattle.std.proofs.lemmas.Bool.{false_from_ne_true as not_true}
+use Rattle.xs_weave_rules.proofs.SiteFaults.{drop_item}
 
 -- where what is left is kept, all are, and what is first among what is left is first among all
 pub record Decides (p : ProgramTree) (m : FlatModel) (left all : List Use) : Type 0 where

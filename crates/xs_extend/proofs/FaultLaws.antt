@@ -1,5 +1,5 @@
 -- What is left of a list of faults, one extension on.
-use Rattle.std.proofs.Common.{◌≡◌, ℕ, ◌+◌, ◌<◌, Bool, true, false, List, [], ◌∷◌, ◌++◌, length, get_or, drop, map, append_assoc, append-nil, refl, sym, ◌∙◌, ap}
+use Rattle.std.proofs.Common.{◌≡◌, ℕ, ◌+◌, ◌<◌, List, [], ◌∷◌, ◌++◌, length, get_or, drop, map, append_assoc, append-nil, refl, sym, ◌∙◌, ap}
 use Rattle.std.specs.Prelude.{flat_map, if◌then◌else◌}
 use Rattle.std.proofs.lemmas.List.{drop_more}
 use Rattle.std.proofs.lemmas.Grind.{flat_map-append}
@@ -8,17 +8,10 @@ use Rattle.xs_tree.specs.Trace.{Each}
 use Rattle.xs_tree.specs.declared.model.Instance.{Instance}
 use Rattle.xs_weave.specs.Faults.{Fault, slice_faults, module_slices, slices_at, place_faults, HasFaults}
 use Rattle.xs_extend.specs.WovenFaults.{place_of, faults_at, IsOfModule, places_of, AreInstancesOf}
-use Rattle.xs_tree.specs.Texts.{same_text}
 use Rattle.xs_fei.specs.declared.instructions.Extension.{Extension}
-use Rattle.xs_fei.specs.Instructions.{SliceTree, ExtensionTree, InstructionTree, extension_tree, slices_from, slices_of}
+use Rattle.xs_fei.specs.Instructions.{SliceTree, InstructionTree, extension_tree, slices_from, slices_of}
 use Rattle.xs_weave.specs.Woven.{own_slices}
-
-own_first : (x : ExtensionTree) (xs : List ExtensionTree) (m : Text) → slices_from (x ∷ xs) m ≡ own_slices x m ++ slices_from xs m
-own_first x xs m = go (same_text x.of_module m)
-  where
-    go : (b : Bool) → (if b then x.slices ++ slices_from xs m else slices_from xs m) ≡ (if b then x.slices else []) ++ slices_from xs m
-    go true = refl
-    go false = refl
+use Rattle.xs_weave.proofs.SliceLaws.{own_first}
 
 pub extensions_more : {A : Type 0} (f : SliceTree → List A) (m : Text) (xs : List Extension) (i : ℕ) (d : Extension) → i < length xs →
     flat_map f (slices_from (map extension_tree (drop i xs)) m)

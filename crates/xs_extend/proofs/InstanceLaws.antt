@@ -22,6 +22,7 @@ use Rattle.xs_flat_laws.proofs.Places.{VisitFacts, there, facts_named, all_visit
 use Rattle.xs_flat_laws.proofs.Walkable.{accepted_walkable, main_is_there}
 use Rattle.xs_extend.specs.WovenFaults.{place_of, places_of, IsOfModule}
 use Rattle.xs_extend.specs.InstanceLaws.{instance_tree, IsNoInstance, AreNoInstances, DeclaresInVar, HasInstancesInVar, InstancesAreListed}
+use Rattle.xs_type_laws.proofs.WrittenLaws.{get_map as get_mapped}
 
 -- the places of the instances that visits declare
 abbrev list_places : List Visit → List Place
@@ -230,11 +231,6 @@ found_name (first ∷ more) name m e = by_name (same_text first.name name) refl 
     by_name : (b : Bool) → same_text first.name name ≡ b → (if b then Some first else find_module more name) ≡ Some m → (find_module more name ≡ Some m → m.name ≡ name) → m.name ≡ name
     by_name true t e rest = let same : first ≡ m = cc in sym (ap (λ (k : ModuleTree). k.name) same) ∙ same_text_equal first.name name t
     by_name false t e rest = rest e
-
-get_mapped : {A B : Type 0} (f : A → B) (xs : List A) (i : ℕ) (x : A) → slice_get xs i ≡ Some x → slice_get (map f xs) i ≡ Some (f x)
-get_mapped f [] i x e = cc
-get_mapped f (y ∷ xs) zero x e = cc
-get_mapped f (y ∷ xs) (suc i) x e = get_mapped f xs i x e
 
 mapped_places : (instances : List Instance) → map (λ i. i.place) (map instance_tree instances) ≡ places_of instances
 mapped_places [] = refl

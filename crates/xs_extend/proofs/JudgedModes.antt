@@ -1,11 +1,11 @@
 -- Guards and what is followed, by the rules of names and of kinds.
-use Rattle.std.proofs.Common.{◌≡◌, ◌⊎◌, inl, inr, ℕ, Bool, true, false, List, [], ◌∷◌, map, flat_map, Option, Some, None, refl, sym, ◌∙◌, ap, subst}
+use Rattle.std.proofs.Common.{◌≡◌, ◌⊎◌, inl, inr, ℕ, false, List, [], ◌∷◌, map, flat_map, Option, Some, None, sym, ◌∙◌, subst}
 use Rattle.std.specs.Prelude.{◌||◌, slice_get, codes}
 use Rattle.xs_tree.specs.declared.program.Member.{Member}
 use Rattle.xs_tree.specs.declared.program.Member.TheVariants as member
 use Rattle.xs_tree.specs.Tree.{Tree, Trees, Branches, truth as is_truth, number as is_number, leaf, not_of, negate, next_of, binary, choice, case_of, set_of, span, no_tree, tree_then, no_branch, branch_then}
-use Rattle.xs_tree.specs.ProgramTree.{Text, Formula, DeclaredTree, boolean, range, members, instance, ModuleTree, ProgramTree}
-use Rattle.xs_tree.specs.Scope.{Place, Role, a_variable, kind_in, find_module}
+use Rattle.xs_tree.specs.ProgramTree.{Formula, DeclaredTree, boolean, range, members, instance, ModuleTree, ProgramTree}
+use Rattle.xs_tree.specs.Scope.{Place, find_module}
 use Rattle.xs_tree.specs.Trace.{Each, IsVariable}
 use Rattle.xs_fei.specs.Instructions.{EffectTree, stuck_at, follows, inverted, random, erroneous, frozen, stuck_at_pick, offset, ramp_down}
 use Rattle.xs_fei.specs.Types.{IsUniform, IsNumberMember, IsSymbolMember}
@@ -17,11 +17,11 @@ use Rattle.xs_flat_laws.specs.Rules.{IsAccepted}
 use Rattle.xs_flat_laws.specs.Model.{IsVariableOf, EachBoth, IsFlatOf}
 use Rattle.xs_flat_laws.proofs.Conditions.{each_at}
 use Rattle.xs_flat_laws.proofs.Lists.{each_more}
-use Rattle.xs_flat_laws.proofs.Resolving.{Known, names_known}
+use Rattle.xs_flat_laws.proofs.Resolving.{Known, names_known, each_leaf as each_unit}
 use Rattle.xs_flat_laws.proofs.Places.{has_main}
 use Rattle.xs_flat_laws.proofs.Walkable.{accepted_walkable, main_is_there}
 use Rattle.xs_flat_laws.proofs.Variables.{variables_are}
-use Rattle.xs_type_laws.specs.Judged.{Class, number_class, symbol_class, KindRule, mixed_enum, unless_class, first_class}
+use Rattle.xs_type_laws.specs.Judged.{Class, number_class, symbol_class, mixed_enum, unless_class, first_class}
 use Rattle.xs_type_laws.specs.Declared.{member_kind, judged_declared}
 use Rattle.xs_type_laws.specs.Models.{breaches_at, variable_breaches, IsTyped}
 use Rattle.xs_type_laws.proofs.Parts.{none_first, none_second, class_kept}
@@ -29,15 +29,9 @@ use Rattle.xs_type_laws.proofs.ClosedLaws.{all_leaves}
 use Rattle.xs_type_laws.proofs.WrittenLaws.{written_conditions_decided, IsReal, real_all}
 use Rattle.xs_weave_rules.specs.Judged.{IsReadableEffect, IsJudgedMode}
 use Rattle.xs_extend.specs.JudgedLaws.{IsGoodMode, IsGoodEffect, IsGoodGuard, GoodModesAreJudged, TypesAreUniform, GoodIsJudged}
-
--- where no `next` is found, none stands
-or_left : (a b : Bool) → (a || b) ≡ false → a ≡ false
-or_left true b h = h
-or_left false b h = refl
-
-or_right : (a b : Bool) → (a || b) ≡ false → b ≡ false
-or_right true b h = cc
-or_right false b h = h
+use Rattle.xs_type_laws.proofs.TraceLaws.{one_type}
+use Rattle.xs_type_laws.proofs.Typed.{none_at as no_breach}
+use Rattle.xs_type_laws.proofs.SetRows.{or_false_second as or_right, or_false_first as or_left}
 
 mutual
   pub no_next : {L : Type 0} (t : Tree L) → has_next t ≡ false → NoNext t
@@ -64,11 +58,6 @@ mutual
   no_next_branches (branch_then c a bs) h =
       let rest : (has_next a || branches_have_next bs) ≡ false = or_right (has_next c) (has_next a || branches_have_next bs) h in
       (no_next c (or_left (has_next c) (has_next a || branches_have_next bs) h), no_next a (or_left (has_next a) (branches_have_next bs) rest), no_next_branches bs (or_right (has_next a) (branches_have_next bs) rest))
-
--- the names of an expression that is resolved soundly mean something
-each_unit : (ls : List FlatLeaf) → Each (λ l. Unit {0}) ls
-each_unit [] = tt
-each_unit (l ∷ ls) = (tt, each_unit ls)
 
 pub resolved_readable : (p : ProgramTree) (m : FlatModel) (ds : List Definition) (r : Resolver) → IsSound p m ds r → (at : Place) (e : Formula) (flat : Tree FlatLeaf) → IsResolved (r at) e flat → IsReadable p at e
 resolved_readable p m ds r sound at e flat is =
@@ -127,11 +116,6 @@ type_uniform (range lo hi) h = tt
 type_uniform (instance k actuals) h = tt
 type_uniform (members ms) h = members_uniform ms (none_first _ _ (none_first _ _ h))
 
--- the types of a typed model's variables break no rule
-no_breach : (number item : ℕ) (rules : List KindRule) → breaches_at number item rules ≡ [] → rules ≡ []
-no_breach number item [] h = refl
-no_breach number item (r ∷ rules) h = cc
-
 types_right : (xs : List FlatVariable) → variable_breaches xs ≡ [] → Each (λ x. (judged_declared x.declared).broken ≡ []) xs
 types_right [] h = tt
 types_right (x ∷ xs) h =
@@ -149,11 +133,6 @@ from p m [] [] b r = tt
 from p m [] (x ∷ xs) b r = absurd b
 from p m (w ∷ ws) [] b r = absurd b
 from p m (w ∷ ws) (x ∷ xs) b r = (record { visit = w; is = b.0; real = r.0 }, from p m ws xs b.1 r.1)
-
-one_type : (p : ProgramTree) (at : Place) (x : Text) (r q : Role) (s t : DeclaredTree) → IsVariable p at x r s → IsVariable p at x q t → s ≡ t
-one_type p at x r q s t a b =
-    let same : a.0 ≡ b.0 = cc (a.1, b.1) in
-    let kinds : a_variable r s ≡ a_variable q t = sym a.2 ∙ ap (λ m. kind_in m x) same ∙ b.2 in cc
 
 pub types_uniform : TypesAreUniform
 types_uniform p m accepted is typed at k x role type here kind =

@@ -26,9 +26,7 @@ use Rattle.xs_flat_laws.proofs.Kept.{KeptItem, kept_at, declared_there}
 use Rattle.xs_flat_laws.proofs.Listed.{root_written, ListedItem, listed_item, root_listed, condition_listed, DefinedBy, defined_there, actual_root}
 use Rattle.xs_type_laws.proofs.ClosedLaws.{all_leaves}
 use Rattle.xs_extend.proofs.JudgedModes.{no_next}
-
-both_parts : {A B : Type 0} (a b : A) (c d : B) → ◌≡◌ {A = Option (A × B)} (Some (a, c)) (Some (b, d)) → (a ≡ b) × (c ≡ d)
-both_parts {A} {B} a b c d h = let both : ◌≡◌ {A = A × B} (a, c) (b, d) = cc in (ap (λ (q : A × B). q.0) both, ap (λ (q : A × B). q.1) both)
+use Rattle.std.proofs.lemmas.Option.{some_pair_parts as both_parts}
 
 from_zero : (j : ℕ) → 0 + j ≡ j
 from_zero j = omega arith

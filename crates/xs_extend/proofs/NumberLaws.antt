@@ -1,5 +1,5 @@
 -- Faults with their numbers, one on, the symbols by their texts, and the place of a variable, one on.
-use Rattle.std.proofs.Common.{arith, inl, inr, ◌≡◌, ℕ, zero, suc, ◌+◌, ◌<◌, length, Bool, true, false, List, [], ◌∷◌, ◌++◌, Some, None, refl, sym, ◌∙◌, ap, subst, nat_eq}
+use Rattle.std.proofs.Common.{arith, inl, inr, ◌≡◌, ℕ, zero, suc, ◌+◌, ◌<◌, Bool, true, false, List, [], ◌∷◌, ◌++◌, Some, None, refl, sym, ◌∙◌, ap, subst, nat_eq}
 use Rattle.std.proofs.lemmas.Bool.Decides.{nat_tests}
 use Rattle.std.specs.Prelude.{slice_get, cond, if◌then◌else◌, IfSome}
 use Rattle.std.specs.Cmp.Lexicographic.{pointwise}
@@ -20,12 +20,6 @@ numbered_push m [] [] w f h n = (n, tt)
 numbered_push m [] (g ∷ fs) w f h n = absurd h
 numbered_push m (x ∷ ws) [] w f h n = absurd h
 numbered_push m (x ∷ ws) (g ∷ fs) w f h n = (h.0, numbered_push m ws fs w f h.1 n)
-
--- a place that has a member is within the list
-pub within : {A : Type 0} (xs : List A) (n : ℕ) (x : A) → slice_get xs n ≡ Some x → n < length xs
-within [] n x e = cc
-within (y ∷ ys) zero x e = omega arith
-within (y ∷ ys) (suc n) x e = let rest : n < length ys = within ys n x e in omega (arith, rest)
 
 -- where the variable at a place has another path, the one that has it stands later
 pub there_later : (vs : List Variable) (place : ℕ) (path : Path) (v : Variable) → IsThere vs place path → slice_get vs place ≡ Some v → (v.path ≡ path → ⊥) → IsThere vs (place + 1) path

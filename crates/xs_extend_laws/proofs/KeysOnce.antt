@@ -1,5 +1,5 @@
 -- A flat model has no definition twice.
-use Rattle.std.proofs.Common.{◌≡◌, ◌⊎◌, inl, inr, ℕ, zero, suc, ◌<◌, arith, Bool, true, false, ◌||◌, List, [], ◌∷◌, Option, Some, refl, sym, ◌∙◌, ap, subst, eq-eqb}
+use Rattle.std.proofs.Common.{◌≡◌, ◌⊎◌, inl, inr, ℕ, zero, suc, ◌<◌, arith, true, false, ◌||◌, List, [], ◌∷◌, Some, refl, sym, ◌∙◌, ap, subst, eq-eqb}
 use Rattle.std.specs.Prelude.{slice_get, map}
 use Rattle.xs_tree.specs.ProgramTree.{Path, Formula, ProgramTree}
 use Rattle.xs_tree.specs.Scope.{Place, Key, define_key, actual_key, Meaning, a_variable_at, an_expression_at, an_instance_at, a_symbol, Means}
@@ -8,7 +8,7 @@ use Rattle.xs_tree.proofs.ValueLaws.{same_text_refl}
 use Rattle.xs_tree.specs.Flat.{FlatLeaf, flat_variable, flat_symbol, flat_definition, FlatFormula, FlatModel}
 use Rattle.xs_flat_laws.specs.Resolved.{leaves_in, Definition, StandsFor, IsLeafOf, IsBefore}
 use Rattle.xs_flat_laws.specs.Rules.{expression_of}
-use Rattle.xs_flat_laws.specs.Model.{Root, roots_of, keys_of_meaning, AreNamed, same_place, same_key, is_key_among, Adds, AddsAll, stands, comes, no_more, one_more, IsDefinitionOf, KeysDiffer, IsFlatOf}
+use Rattle.xs_flat_laws.specs.Model.{Root, roots_of, keys_of_meaning, AreNamed, same_key, is_key_among, Adds, AddsAll, stands, comes, no_more, one_more, IsDefinitionOf, KeysDiffer, IsFlatOf}
 use Rattle.xs_flat_laws.proofs.Conditions.{each_at, each_from, each_join}
 use Rattle.xs_flat_laws.proofs.KeysApart.{Pairwise, pairwise_join}
 use Rattle.xs_flat_laws.proofs.Listed.{root_written}
@@ -16,19 +16,14 @@ use Rattle.xs_flat_laws.proofs.Lists.{each_more, each_of_map}
 use Rattle.xs_flat_laws.proofs.Places.{In}
 use Rattle.xs_flat_laws.proofs.Resolving.{same_meaning, Known, names_known}
 use Rattle.xs_flat_laws.proofs.Variables.{both_at}
-
--- Keys by place.
-same_place_refl : (at : Place) → same_place at at ≡ true
-same_place_refl [] = refl
-same_place_refl (x ∷ at) = rw (same_text_refl x) (same_place_refl at)
+use Rattle.std.proofs.lemmas.Bool.{or_right}
+use Rattle.std.proofs.lemmas.Option.{some_pair_parts as both_parts}
+use Rattle.xs_type_laws.proofs.WrittenLaws.{get_map as map_at}
+use Rattle.xs_flat_laws.proofs.Numbered.{same_place_refl}
 
 same_key_refl : (k : Key) → same_key k k ≡ true
 same_key_refl (define_key at x) = rw (same_place_refl at) (same_text_refl x)
 same_key_refl (actual_key at i) = rw (same_place_refl at) (eq-eqb i i refl)
-
-or_right : (a b : Bool) → b ≡ true → (a || b) ≡ true
-or_right true b h = refl
-or_right false b h = h
 
 among_there : (done : List Key) (k : Key) → In k done → is_key_among done k ≡ true
 among_there [] k h = cc
@@ -42,14 +37,6 @@ mapped_at : {A B : Type 0} (f : A → B) (xs : List A) (i : ℕ) (y : B) → sli
 mapped_at f [] i y e = cc
 mapped_at f (x ∷ xs) zero y e = let same : f x ≡ y = cc in (x, refl, same)
 mapped_at f (x ∷ xs) (suc i) y e = mapped_at f xs i y e
-
-map_at : {A B : Type 0} (f : A → B) (xs : List A) (i : ℕ) (x : A) → slice_get xs i ≡ Some x → slice_get (map f xs) i ≡ Some (f x)
-map_at f [] i x e = cc
-map_at f (y ∷ xs) zero x e = let same : y ≡ x = cc in ap (λ z. Some (f z)) same
-map_at f (y ∷ xs) (suc i) x e = map_at f xs i x e
-
-both_parts : {A B : Type 0} (a b : A) (c d : B) → ◌≡◌ {A = Option (A × B)} (Some (a, c)) (Some (b, d)) → (a ≡ b) × (c ≡ d)
-both_parts {A} {B} a b c d h = let both : ◌≡◌ {A = A × B} (a, c) (b, d) = cc in (ap (λ (q : A × B). q.0) both, ap (λ (q : A × B). q.1) both)
 
 abbrev keys_of : List Definition → List Key
 keys_of ds = map (λ (d : Definition). d.key) ds

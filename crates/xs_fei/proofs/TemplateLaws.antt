@@ -28,7 +28,7 @@ pub same_bool_refl : (a : Bool) → same_bool a a ≡ true
 same_bool_refl true = refl
 same_bool_refl false = refl
 
-nat_refl : (n : ℕ) → nat_eq n n ≡ true
+pub nat_refl : (n : ℕ) → nat_eq n n ≡ true
 nat_refl n = grind arith
 
 pub same_value_refl : (a : Value) → same_value a a ≡ true
@@ -107,7 +107,7 @@ domain_value now next (range lo hi) h = refl
 domain_value now next (members ms) h = members_give now next ms (h ms refl)
 domain_value now next (instance m actuals) h = refl
 
-or_cases' : (a b : Bool) → (a || b) ≡ true → (a ≡ true) ⊎ (b ≡ true)
+pub or_cases' : (a b : Bool) → (a || b) ≡ true → (a ≡ true) ⊎ (b ≡ true)
 or_cases' true b h = inl refl
 or_cases' false b h = inr h
 

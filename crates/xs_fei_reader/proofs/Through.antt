@@ -1,9 +1,8 @@
 -- What a list of expected symbols stands for.
-use Rattle.std.proofs.Common.{◌≡◌, inl, inr, ◌⊎◌, ℕ, Bool, true, false, List, [], ◌∷◌, ◌++◌, Option, Some, None, refl, sym, ◌∙◌, ap, subst, append-nil, eq-eqb}
-use Rattle.std.specs.Prelude.{nat_eq, if◌then◌else◌}
+use Rattle.std.proofs.Common.{◌≡◌, inl, inr, ◌⊎◌, ℕ, Bool, true, false, List, [], ◌∷◌, ◌++◌, Option, Some, None, refl, sym, ◌∙◌, ap, subst, append-nil}
+use Rattle.std.specs.Prelude.{if◌then◌else◌}
 use Rattle.xs_lexer.specs.declared.token.TokenKind.TheVariants as k
 use Rattle.xs_tree.specs.Lexemes.{Lexeme, word, num, sign, is_reserved}
-use Rattle.xs_tree.specs.Texts.{same_text}
 use Rattle.xs_expression_reader.specs.Recognise.{State, stuck, is_whole}
 use Rattle.xs_expression_reader.specs.Recognise as machine
 use Rattle.xs_expression_reader.specs.Places.{is_word}
@@ -13,6 +12,7 @@ use Rattle.xs_expression_reader.proofs.Accepted.{run_stuck}
 use Rattle.xs_expression_reader.proofs.Marks.{Marked, marked, mark_of_name, word_there}
 use Rattle.xs_fei_reader.specs.InstructionRead.{Single, the_name, the_number, the_open, the_close, the_comma, the_colon, the_semicolon, Sym, is_single, spelled, live, where_so, instructions}
 use Rattle.xs_fei_reader.specs.InstructionRead as s
+use Rattle.xs_tree.proofs.ValueLaws.{same_text_refl as same_as_it}
 
 -- single lexemes
 unfoldable pub That : Single → Lexeme → Type 0
@@ -47,14 +47,6 @@ is_that the_close t m = ap (λ z. is_single the_close (mark_of z)) m
 is_that the_comma t m = ap (λ z. is_single the_comma (mark_of z)) m
 is_that the_colon t m = ap (λ z. is_single the_colon (mark_of z)) m
 is_that the_semicolon t m = ap (λ z. is_single the_semicolon (mark_of z)) m
-
--- a word is that word
-same_number : (n : ℕ) → nat_eq n n ≡ true
-same_number n = eq-eqb n n refl
-
-same_as_it : (x : List ℕ) → same_text x x ≡ true
-same_as_it [] = refl
-same_as_it (n ∷ ns) = rw (same_number n) (same_as_it ns)
 
 pub is_the_word : (w : List ℕ) → is_word (word w) w ≡ true
 is_the_word w = same_as_it w

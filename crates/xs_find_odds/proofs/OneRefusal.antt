@@ -17,10 +17,7 @@ use Rattle.xs_loading.proofs.OneTop.{one_wrong_word, word_not_wrong}
 use Rattle.xs_reach_status.specs.declared.status.Refusal.{Refusal}
 use Rattle.xs_reach_status.specs.declared.status.Refusal.TheVariants as refusal
 use Rattle.xs_find_odds.specs.Odds.{mark_refusal, RefusesOdds, at_model, at_faults, at_mark, at_top, IsOddsAnswer}
-
--- the first member that is something is one
-same_first : {A : Type 0} (x y : A) → Some x ≡ Some y → x ≡ y
-same_first x y e = cc
+use Rattle.std.proofs.lemmas.Option.{same_Some as same_first}
 
 module _ {A : Type 0} where
   heads : (x y : Option A) (xs ys : List (Option A)) → (x ∷ xs) ≡ (y ∷ ys) → x ≡ y

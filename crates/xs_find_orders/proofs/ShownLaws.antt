@@ -1,5 +1,5 @@
 -- What the traces of a search over a staged case show: extended traces, their relation, and the values that are printed.
-use Rattle.std.proofs.Common.{◌≡◌, ℕ, zero, suc, ◌+◌, ◌-◌, Bool, true, List, [], ◌∷◌, ◌++◌, length, map, take, Some, None, refl, sym, ap, subst, ◌∙◌, arith}
+use Rattle.std.proofs.Common.{◌≡◌, ℕ, suc, ◌+◌, ◌-◌, Bool, true, List, [], ◌∷◌, ◌++◌, length, map, take, Some, None, refl, sym, ap, subst, ◌∙◌, arith}
 use Rattle.std.specs.Prelude.{slice_get}
 use Rattle.std.proofs.lemmas.List.{length-map, length-append, append-nil}
 use Rattle.xs_tree.specs.ProgramTree.{Text}
@@ -33,6 +33,7 @@ use Rattle.xs_find_orders.specs.Pairs.{IsStagedCase}
 use Rattle.xs_find_orders.specs.Orders.{Relates, Differ}
 use Rattle.xs_find_orders.specs.Claimed.{IsTraceAgainst, is_true_value, relation_of_last, relation_in}
 use Rattle.xs_find_orders.proofs.AskedLaws.{the_model, the_faults, at_stage}
+use Rattle.xs_cuts.proofs.PathLemmas.{take_mapped as map_take}
 
 -- ---- the relation that values tell
 
@@ -82,11 +83,6 @@ module _ (symbols : List Text) where
       ∙ ap (λ x. told_relation x (is_true_value (slice_get last.moment (length last.moment - 1)))) two.0 ∙ ap (told_relation a) two.1
 
 -- ---- the values that are printed
-
-map_take : {A B : Type 0} (h : A → B) (n : ℕ) (xs : List A) → map h (take n xs) ≡ take n (map h xs)
-map_take h zero xs = refl
-map_take h (suc n) [] = refl
-map_take h (suc n) (x ∷ xs) = ap (λ ys. h x ∷ ys) (map_take h n xs)
 
 taken : (symbols : List Text) (n : ℕ) (trace : List (List Numbered)) → trace_of symbols (map (take n) trace) ≡ map (take n) (trace_of symbols trace)
 taken symbols n [] = refl

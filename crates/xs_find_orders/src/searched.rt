@@ -53,7 +53,8 @@ pub(crate) fn search(
 
 /// Whether there are as few symbols as a search can number, and no more faults than a weave takes.
 pub(crate) fn are_few(staged: &StagedCase) -> bool
-    ensures { IsTrue result → HasFew staged.now }
+    ensures few { IsTrue result → HasFew staged.now }
+    ensures all { HasFew staged.now → IsTrue result }
 {
     if staged.loaded.case.limited.typed.model().symbols.len() >= MOST_SYMBOLS {
         return false;

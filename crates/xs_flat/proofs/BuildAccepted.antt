@@ -1,5 +1,5 @@
 -- What the rules give at each item of each instance of an accepted program.
-use Rattle.std.proofs.Common.{◌≡◌, ℕ, zero, suc, ◌+◌, Bool, true, false, ◌||◌, List, [], ◌∷◌, ◌++◌, Some, refl, sym, ◌∙◌, ap, subst, inl, inr}
+use Rattle.std.proofs.Common.{◌≡◌, ℕ, zero, suc, ◌+◌, true, false, ◌||◌, List, [], ◌∷◌, ◌++◌, Some, refl, sym, ◌∙◌, ap, subst, inl, inr}
 use Rattle.std.specs.Prelude.{slice_get, map, flat_map}
 use Rattle.xs_tree.specs.ProgramTree.{Text, Formula, DeclaredTree, boolean, range, members, instance, DeclTree, DefineTree, AssignmentTree, ModuleTree, ProgramTree}
 use Rattle.xs_tree.specs.declared.program.Moment.{Moment}
@@ -19,7 +19,7 @@ use Rattle.xs_flat_laws.proofs.KindLaws.{ItemFacts, kind_of_declaration}
 use Rattle.xs_flat_laws.proofs.Places.{facts_named, are_instances}
 use Rattle.xs_flat_laws.proofs.Walkable.{accepted_walkable, main_is_there}
 use Rattle.xs_scope.proofs.HeadKinds.{kind_of_definition}
-use Rattle.xs_flat_laws.proofs.OneOfTwo.{or_true}
+use Rattle.std.proofs.lemmas.Bool.{true_from_ne_false as not_false, or_right as or_true}
 
 -- Lists.
 pub each_not : {A : Type 0} (P : A → Type 0) (xs : List A) → (AtSome P xs → ⊥) → Each (λ x. P x → ⊥) xs
@@ -35,10 +35,6 @@ pub nth_slice : (es : List Formula) (i : ℕ) → nth_formula es i ≡ slice_get
 nth_slice [] i = refl
 nth_slice (e ∷ es) zero = refl
 nth_slice (e ∷ es) (suc i) = nth_slice es i
-
-not_false : (b : Bool) → (b ≡ false → ⊥) → b ≡ true
-not_false true h = refl
-not_false false h = absurd (h refl)
 
 pub next_among : (es : List Formula) (i : ℕ) (e : Formula) → slice_get es i ≡ Some e → has_next e ≡ true → some_has_next es ≡ true
 next_among [] i e h n = cc

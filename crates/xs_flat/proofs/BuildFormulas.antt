@@ -35,7 +35,7 @@ use Rattle.xs_flat.proofs.BuildAccepted.{kept_at, item_at, target_means, declare
 use Rattle.xs_flat.proofs.BuildLeaves.{less_is, bounds_with, value_known}
 use Rattle.xs_flat.proofs.BuildSound.{definitions, leaf_means, resolver_at}
 use Rattle.xs_flat_laws.proofs.LookLaws.{meets_loop_nothing}
-use Rattle.xs_scope.proofs.FoundModule.{get_less}
+use Rattle.std.proofs.lemmas.Option.{slice_get_within as get_less}
 
 -- A tree whose leaves are all told is one of a shape only if the tree is.
 pub record IsBinary (o : Op) (left right : Tree (Option FlatLeaf)) (t : Tree FlatLeaf) : Type 0 where

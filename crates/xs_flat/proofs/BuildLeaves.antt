@@ -34,12 +34,8 @@ use Rattle.xs_flat.proofs.BuildRoots.{good_roots, no_come_back}
 use Rattle.xs_flat.proofs.BuildUnique.{one_written}
 use Rattle.xs_flat_laws.proofs.Lists.{each_more, get_within}
 use Rattle.xs_flat_laws.proofs.Listed.{key_equal}
-use Rattle.xs_scope.proofs.FoundModule.{get_less}
-
-pub get_mapped : {A B : Type 0} (f : A → B) (xs : List A) (i : ℕ) (y : B) → slice_get (map f xs) i ≡ Some y → (x : A) × (slice_get xs i ≡ Some x) × (f x ≡ y)
-get_mapped f [] i y e = cc
-get_mapped f (x ∷ xs) zero y e = (x, refl, let same : f x ≡ y = cc in same)
-get_mapped f (x ∷ xs) (suc i) y e = get_mapped f xs i y e
+use Rattle.std.proofs.lemmas.Option.{slice_get_within as get_less}
+use Rattle.xs_scope.proofs.KeyLaws.{map_get as get_mapped}
 
 pub get_map : {A B : Type 0} (f : A → B) (xs : List A) (i : ℕ) (x : A) → slice_get xs i ≡ Some x → slice_get (map f xs) i ≡ Some (f x)
 get_map f [] i x e = cc

@@ -8,9 +8,9 @@ use Rattle.xs_flat_laws.specs.Resolved.{leaves_in}
 use Rattle.xs_flat_laws.specs.Rules.{Needs, Leads, NeedsItself, expression_of}
 use Rattle.xs_flat_laws.specs.Model.{keys_of_meaning, AreNamed, same_key, is_key_among, Adds, AddsAll, stands, comes, no_more, one_more}
 use Rattle.xs_flat_laws.proofs.Resolving.{same_meaning}
-use Rattle.xs_flat_laws.proofs.OneOfTwo.{or_true, or_left}
 use Rattle.xs_flat_laws.proofs.Listed.{key_equal}
 use Rattle.xs_scope.proofs.AddLaws.{same_key_refl}
+use Rattle.std.proofs.lemmas.Bool.{or_right as or_true, or_left}
 
 -- keys among others
 or_cases : (a b : Bool) → (a || b) ≡ true → (a ≡ true) ⊎ (b ≡ true)

@@ -12,13 +12,13 @@ use Rattle.xs_flat_laws.specs.Looks.{at_actual, plain_of, step_kind, step_of, lo
 use Rattle.xs_flat_laws.specs.Rules.{a_use, visit_sites, IsKept, IsAccepted, is_missing_instance, is_miscounted, is_other_count, wrong_count, no_such_name, define_loop, next_here, ActualHasNoMeaning, expression_of_kind, expression_in, ActualLoops, SomeActualLoops, LoopsInside}
 use Rattle.xs_flat_laws.specs.Model.{root_of_actual, roots_of_actuals, roots_of_type, roots_of_item, roots_of}
 use Rattle.xs_flat_laws.proofs.Conditions.{each_flat, each_at, each_from, each_join}
-use Rattle.xs_flat_laws.proofs.KindLaws.{sections_kind, DeclaredBy, declared_by, not_true}
+use Rattle.xs_flat_laws.proofs.KindLaws.{sections_kind, DeclaredBy, declared_by}
 use Rattle.xs_flat_laws.proofs.Places.{In, VisitFacts, there, Walked, walked, in_items, found_at, all_visit_facts}
 use Rattle.xs_flat_laws.proofs.EndLaws.{ended_stays}
 use Rattle.xs_flat.proofs.BuildAccepted.{some_at, nth_slice, next_among, IsGoodRoot, walkable, are, kept_at, ItemAt, item_at, fresh_declared, fresh_defined}
-use Rattle.xs_flat_laws.proofs.Meant.{declares_no_formal}
-use Rattle.xs_scope.proofs.NameKinds.{formal_named}
+use Rattle.xs_flat_laws.proofs.Meant.{declares_no_formal, formal_is as formal_named}
 use Rattle.xs_flat_laws.proofs.Kept.{module_named}
+use Rattle.std.proofs.lemmas.Bool.{false_from_ne_true as not_true}
 
 counted : (a b : ℕ) → opposite (nat_eq a b) ≡ false → a ≡ b
 counted a b h = by_test (nat_eq a b) refl

@@ -1,20 +1,12 @@
 -- A program's definitions have one order.
 use Rattle.std.proofs.Common.{◌≡◌, List, [], ◌∷◌, ◌++◌, Option, Some, None, refl, sym, ◌∙◌, ap, subst}
-use Rattle.xs_tree.specs.ProgramTree.{Path, Formula, ProgramTree}
+use Rattle.xs_tree.specs.ProgramTree.{Formula, ProgramTree}
 use Rattle.xs_tree.specs.Scope.{Place, Key}
 use Rattle.xs_flat_laws.specs.Resolved.{leaves_in}
 use Rattle.xs_flat_laws.specs.Rules.{expression_of}
-use Rattle.xs_flat_laws.specs.Model.{keys_of_meaning, AreNamed, is_key_among, Adds, AddsAll, stands, comes, no_more, one_more}
-use Rattle.xs_flat_laws.proofs.Resolving.{same_meaning}
+use Rattle.xs_flat_laws.specs.Model.{AreNamed, is_key_among, Adds, AddsAll, stands, comes, no_more, one_more}
 use Rattle.xs_scope.proofs.Heads.{not_both}
-
--- the definitions that names mean are determined
-named_one : (p : ProgramTree) (at : Place) (names : List Path) (keys keys' : List Key) → AreNamed p at names keys → AreNamed p at names keys' → keys ≡ keys'
-named_one p at [] keys keys' h k = h ∙ sym k
-named_one p at (name ∷ names) keys keys' h k =
-    let same : h.0 ≡ k.0 = same_meaning h.2.0 k.2.0 p at name h.0 k.0 h.2.1 k.2.1 in
-    let rest : h.1 ≡ k.1 = named_one p at names h.1 k.1 h.3 k.3 in
-    h.4 ∙ ap (λ m. keys_of_meaning m ++ h.1) same ∙ ap (λ more. keys_of_meaning k.0 ++ more) rest ∙ sym k.4
+use Rattle.xs_flat_laws.proofs.OneModel.{named_one}
 
 abbrev Written : Option (Place × Formula) → Place → Formula → Type 0
 Written None at e = ⊥

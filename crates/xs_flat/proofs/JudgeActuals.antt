@@ -5,14 +5,13 @@ use Rattle.std.proofs.lemmas.List.{append-nil}
 use Rattle.xs_tree.specs.Tree.{leaf}
 use Rattle.xs_tree.specs.Texts.{same_text, is_among}
 use Rattle.xs_tree.specs.ProgramTree.{Text, Path, Formula, ModuleTree, ProgramTree}
-use Rattle.xs_tree.specs.Scope.{Place, a_formal, an_instance, Key, actual_key, Meaning, an_expression_at, Means, means_in, find_module, formal_from, kind_after_formals, kind_in_sections, kind_at, module_of_kind, module_at, nth_formula, actual_of_kind, plain_name, through_actual, through_plain, by_kind}
+use Rattle.xs_tree.specs.Scope.{Place, a_formal, an_instance, Key, actual_key, Meaning, an_expression_at, Means, means_in, find_module, kind_after_formals, kind_in_sections, kind_at, module_of_kind, module_at, actual_of_kind, plain_name, through_actual, through_plain, by_kind}
 use Rattle.xs_tree.proofs.ValueLaws.{same_text_refl}
 use Rattle.xs_flat_laws.specs.Looks.{Look, at_actual, plain_of, step_kind, step_of, look_after, ComesBack, MeetsLoop, MeansNothing}
 use Rattle.xs_flat_laws.specs.Resolved.{has_next}
 use Rattle.xs_flat_laws.specs.Rules.{has_twice, ActualHasNoMeaning, ActualLoops}
 use Rattle.xs_flat_laws.proofs.EndLaws.{steps_more, ended_stays, ended_meets_none, stuck_means}
 use Rattle.xs_flat_laws.proofs.LookLaws.{step_means}
-use Rattle.xs_flat_laws.proofs.Now.{neither}
 use Rattle.xs_scope.specs.SceneTree.{Denotes, IsKnown}
 use Rattle.xs_scope.specs.NeedsTree.{AreNeeds, HasCircle}
 use Rattle.xs_flat.specs.Judging.{IsJudged}
@@ -24,10 +23,14 @@ use Rattle.xs_scope.specs.declared.needs.Needs.{Needs}
 use Rattle.xs_scope.specs.declared.walk.Meaning.{Meaning as Found}
 use Rattle.xs_scope.specs.declared.walk.Meaning.TheVariants as found
 use Rattle.xs_flat.proofs.JudgeNames.{not_nothing, definition_circles}
-use Rattle.xs_flat.proofs.JudgeLists.{none_some, some_same, never}
+use Rattle.xs_flat.proofs.JudgeLists.{never}
 use Rattle.xs_scope.proofs.KeyLaws.{same_means}
 use Rattle.xs_scope.proofs.LookFound.{no_loop_meant}
 use Rattle.xs_tree.proofs.OneTree.{same_text_equal}
+use Rattle.std.proofs.lemmas.Option.{none-some as none_some, same_Some as some_same}
+use Rattle.std.proofs.lemmas.Bool.{or_parts as neither}
+use Rattle.xs_scope.proofs.HeadKinds.{formal_first as formal_place}
+use Rattle.xs_scope.proofs.Frames.{actual_there as nth_get}
 
 -- What is known of a formal, and what its name means.
 back_loops : (p : ProgramTree) (at : Place) (x : Text) → ComesBack p at x → MeetsLoop p at (x ∷ [])
@@ -87,22 +90,6 @@ not_among (z ∷ fs) zero x y e h = by_test (same_text y x) refl
         let same : z ≡ y = some_same z x e ∙ sym (same_text_equal y x t) in
         never (sym s.0 ∙ ap (λ w. same_text w y) same ∙ same_text_refl y)
 not_among (z ∷ fs) (suc i) x y e h = let s : (same_text z y ≡ false) × (is_among fs y ≡ false) = neither _ _ h in not_among fs i x y e s.1
-
-formal_place : (k : ℕ) (fs : List Text) (i : ℕ) (x : Text) → has_twice fs ≡ false → slice_get fs i ≡ Some x → formal_from k fs x ≡ Some (k + i)
-formal_place k [] i x h e = absurd (none_some x e)
-formal_place k (y ∷ fs) zero x h e =
-    let same : same_text y x ≡ true = ap (λ w. same_text w x) (some_same y x e) ∙ same_text_refl x in
-    let here : k ≡ k + 0 = omega arith in
-    ap (λ b. if b then Some k else formal_from (suc k) fs x) same ∙ ap (λ n. Some n) here
-formal_place k (y ∷ fs) (suc i) x h e =
-    let s : (is_among fs y ≡ false) × (has_twice fs ≡ false) = neither _ _ h in
-    let there : suc k + i ≡ k + suc i = omega arith in
-    ap (λ b. if b then Some k else formal_from (suc k) fs x) (not_among fs i x y e s.0) ∙ formal_place (suc k) fs i x s.1 e ∙ ap (λ n. Some n) there
-
-nth_get : (es : List Formula) (i : ℕ) (e : Formula) → slice_get es i ≡ Some e → nth_formula es i ≡ Some e
-nth_get [] i e h = absurd (none_some e h)
-nth_get (f ∷ es) zero e h = h
-nth_get (f ∷ es) (suc i) e h = nth_get es i e h
 
 -- An actual with its formal.
 pub record IsFormalOf (p : ProgramTree) (at : Place) (own : Text) (index : ℕ) (x : Text) (e : Formula) : Type 0 where

@@ -24,10 +24,11 @@ use Rattle.xs_scope.specs.declared.names.Scene.{Scene}
 use Rattle.xs_scope.specs.declared.needs.Needs.{Needs}
 use Rattle.xs_flat.proofs.JudgeActuals.{IsFormalOf, formal_of, plain_told, value_told}
 use Rattle.xs_flat.proofs.JudgeItems.{Judges, told_tests, told_item, nowhere}
-use Rattle.xs_flat.proofs.JudgeLists.{none_some, some_same, take_step, take_end}
+use Rattle.xs_flat.proofs.JudgeLists.{take_step, take_end}
 use Rattle.xs_flat.proofs.JudgePlaces.{formal_is}
 use Rattle.xs_flat.proofs.JudgeValues.{one_more}
-use Rattle.xs_scope.proofs.FoundModule.{get_less}
+use Rattle.std.proofs.lemmas.Option.{slice_get_within as get_less, none-some as none_some, same_Some as some_same}
+use Rattle.xs_scope.proofs.NamingItems.{tree_there as mapped_at}
 
 -- each actual has a formal
 formal_there : (actuals : List Formula) (formals : List Text) (index : ℕ) (e : Formula) → slice_get actuals index ≡ Some e → length actuals ≡ length formals → (x : Text) × (slice_get formals index ≡ Some x)
@@ -156,11 +157,6 @@ size_taken [] zero h = refl
 size_taken [] (suc k) h = absurd (omega (arith, h))
 size_taken (x ∷ xs) zero h = refl
 size_taken (x ∷ xs) (suc k) h = ap (λ n. suc n) (size_taken xs k (omega (arith, h)))
-
-mapped_at : (xs : List (Expr Path)) (k : ℕ) (x : Expr Path) → k < length xs → x ≡ get_or xs k x → slice_get (map tree_of xs) k ≡ Some (tree_of x)
-mapped_at [] k x h e = absurd (omega (arith, h))
-mapped_at (y ∷ xs) zero x h e = ap (λ z. Some (tree_of z)) (sym e)
-mapped_at (y ∷ xs) (suc k) x h e = mapped_at xs k x (omega (arith, h)) e
 
 pub no_actuals : (p : ProgramTree) (spot inner : ℕ) (actuals : List Formula) → JudgesActuals p spot inner actuals [] (record { no_value = false; circle = false; next = false })
 no_actuals p spot inner actuals m at inside own h = record { no_value = nowhere; circle = (λ e. absurd (differ e), λ l. absurd (none_some l.actual l.is_actual)); next = refl }

@@ -20,9 +20,9 @@ use Rattle.xs_scope.specs.declared.fault.Rule.{Rule as Code}
 use Rattle.xs_flat.specs.declared.judge.Times.{Times}
 use Rattle.xs_scope.specs.declared.names.Scene.{Scene}
 use Rattle.xs_flat.proofs.JudgePlaces.{HasSpot, has_spot}
-use Rattle.xs_flat.proofs.JudgeLists.{none_some, some_same}
 use Rattle.xs_flat.proofs.BuildLoops.{many_spots}
 use Rattle.xs_scope.proofs.NamingItems.{take_there}
+use Rattle.std.proofs.lemmas.Option.{none-some as none_some, same_Some as some_same}
 
 next_take : {A : Type 0} (xs : List A) (k : ℕ) (x : A) → slice_get xs k ≡ Some x → take (k + 1) xs ≡ take k xs ++ x ∷ []
 next_take xs k x e = let one : k + 1 ≡ suc k = omega arith in ap (λ n. take n xs) one ∙ take_there xs k x e

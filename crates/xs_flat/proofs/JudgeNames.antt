@@ -20,9 +20,10 @@ use Rattle.xs_tree.specs.declared.model.Role.TheVariants.{State, Input, Frozen}
 use Rattle.xs_scope.specs.declared.needs.Needs.{Needs}
 use Rattle.xs_scope.specs.declared.walk.Meaning.{Meaning as Found}
 use Rattle.xs_scope.specs.declared.walk.Meaning.TheVariants as found
-use Rattle.xs_flat.proofs.JudgeLists.{none_some, never}
+use Rattle.xs_flat.proofs.JudgeLists.{never}
 use Rattle.xs_scope.proofs.KeyLaws.{same_means, get_map}
 use Rattle.xs_scope.proofs.LookFound.{no_loop_meant}
+use Rattle.std.proofs.lemmas.Option.{none-some as none_some}
 
 pub not_nothing : (p : ProgramTree) (at : Place) (name : Path) (m : Meaning) → Means p at name m → MeansNothing p at name → ⊥
 not_nothing p at name m h k = none_some m (sym (k.no_meaning h.0) ∙ h.1)

@@ -23,9 +23,10 @@ use Rattle.xs_scope.specs.declared.names.Formal.{Formal}
 use Rattle.xs_scope.specs.declared.names.Scene.{Scene}
 use Rattle.xs_scope.specs.declared.walk.Meaning.{Meaning as Found}
 use Rattle.xs_scope.specs.declared.walk.Spot.{Spot}
-use Rattle.xs_flat.proofs.JudgeLists.{none_some, some_same}
 use Rattle.xs_flat.proofs.BuildRoots.{counts_kept}
 use Rattle.xs_flat_laws.proofs.Meant.{formals_once}
+use Rattle.std.proofs.lemmas.Option.{none-some as none_some, same_Some as some_same}
+use Rattle.xs_scope.proofs.EnterLaws.{get_here as get_split}
 
 -- an instance with its module
 pub record HasModule (p : ProgramTree) (at : FlatInstance) : Type 0 where
@@ -50,11 +51,6 @@ declared_kind p walkable at h place i e role d is =
     ap (λ o. kind_at o d.name) h.is
     ∙ kind_of_declaration h.tree i.before role d facts.after (facts.among ∙ ap (λ x. i.before ++ x ∷ facts.after) is)
     (subst (λ x. is_name_again (h.tree.formals ++ flat_map names_of_item i.before) (names_of_item x) ≡ false) is facts.fresh)
-
--- The walk comes to each declaration of an instance.
-get_split : {A : Type 0} (xs : List A) (x : A) (ys : List A) → slice_get (xs ++ x ∷ ys) (length xs) ≡ Some x
-get_split [] x ys = refl
-get_split (z ∷ xs) x ys = get_split xs x ys
 
 pub record IsVisited (p : ProgramTree) (d : DeclTree) : Type 0 where
   pub visit : Visit

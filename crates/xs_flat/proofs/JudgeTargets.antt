@@ -25,8 +25,8 @@ use Rattle.xs_scope.specs.declared.walk.Meaning.{Meaning as Found}
 use Rattle.xs_scope.specs.declared.walk.Meaning.TheVariants as found
 use Rattle.xs_flat.proofs.JudgeNames.{found_kind}
 use Rattle.xs_flat.proofs.JudgePlaces.{HasModule, has_module, HasSpot, has_spot, own_is}
-use Rattle.xs_flat.proofs.JudgeLists.{some_same}
 use Rattle.xs_tree.proofs.OneTree.{same_text_equal}
+use Rattle.std.proofs.lemmas.Option.{same_Some as some_same}
 
 -- The table of a module's names.
 pub data SaysLocal (m : ModuleTree) (x : Text) (o : Option Local) : Type 0 where

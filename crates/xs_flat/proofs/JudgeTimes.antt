@@ -18,6 +18,8 @@ use Rattle.xs_scope.proofs.SymbolKinds.{grouped}
 use Rattle.xs_tree.proofs.BorrowedTexts.{same_bytes}
 use Rattle.xs_lexer.proofs.SignLemmas.{both_true}
 use Rattle.xs_tree.proofs.OneTree.{same_text_equal}
+use Rattle.xs_flat_laws.proofs.HistoryTraces.{or_false}
+use Rattle.xs_flat_laws.proofs.Apart.{or_true}
 
 abbrev pub times_or : Option Times → Times
 times_or None = no_times
@@ -70,11 +72,6 @@ inserted (e ∷ es) k v x =
         ∙ ap (λ t. if same_text e.0.now x then e.1 else t) rest
         ∙ two_tests e.0.now k.now x (same_text e.0.now x) (same_text k.now x) refl refl q v e.1 (times_of es x)
 
--- Items one after another.
-or_false : (b : Bool) → (b || false) ≡ b
-or_false true = refl
-or_false false = refl
-
 assigns_more : (test : Moment → Bool) (x : Text) (is : List Item) (i : Item) → some_assigns test x (is ++ i ∷ []) ≡ (some_assigns test x is || assigns_at test x i)
 assigns_more test x [] i = or_false (assigns_at test x i)
 assigns_more test x (j ∷ is) i = ap (λ b. assigns_at test x j || b) (assigns_more test x is i) ∙ sym (grouped (assigns_at test x j) (some_assigns test x is) (assigns_at test x i))
@@ -114,10 +111,6 @@ times_kept es is i e h x = h x ∙ sym (times_same is i x (λ test. by_item test
     by_item test (an_init f) q = refl
     by_item test (an_invar f) q = refl
     by_item test (a_trans f) q = refl
-
-or_true : (b : Bool) → (b || true) ≡ true
-or_true true = refl
-or_true false = refl
 
 with_is : (t : Times) (when : Moment) → with_moment t when ≡ times (t.always || is_always when) (t.first || is_first when) (t.after || is_after when)
 with_is t Always = same_times true t.first t.after _ _ _ (sym (or_true t.always)) (sym (or_false t.first)) (sym (or_false t.after))

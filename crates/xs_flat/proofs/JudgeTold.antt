@@ -36,7 +36,7 @@ use Rattle.xs_flat.proofs.JudgeItems.{Judges, constants_told, definition_told, i
 use Rattle.xs_flat.proofs.JudgeHanded.{actuals_told}
 use Rattle.xs_flat.proofs.JudgePlaces.{own_is, handed}
 use Rattle.xs_flat.proofs.JudgeTimes.{is_assignment, times_kept}
-use Rattle.xs_flat.proofs.JudgeLists.{none_some, some_same}
+use Rattle.std.proofs.lemmas.Option.{none-some as none_some, same_Some as some_same}
 
 -- an own meaning is that of the item
 own_meaning : (s : Scene) → IsScene s → (k : ℕ) (at : FlatInstance) → slice_get (instances_of (program_of s)) k ≡ Some at → (place : ℕ) (i : NumberedItem) →

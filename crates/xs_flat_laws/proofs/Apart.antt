@@ -30,7 +30,7 @@ apart_join (x ∷ xs) ys h k c = (each_join (Differ x) xs ys h.0 c.0, apart_join
 abbrev pub Under : Place → Place → Type 0
 Under base place = (front : Place) × (place ≡ front ++ base)
 
-length_joined : (xs ys : Place) → length (xs ++ ys) ≡ length xs + length ys
+pub length_joined : (xs ys : Place) → length (xs ++ ys) ≡ length xs + length ys
 length_joined [] ys = omega arith
 length_joined (x ∷ xs) ys = ap suc (length_joined xs ys) ∙ omega arith
 
@@ -39,7 +39,7 @@ pub data Belongs (at : Place) (x : Text) (v : Visit) : Type 0 where
   own : v.place ≡ at → v.decl.name ≡ x → Belongs at x v
   inner : Under (x ∷ at) v.place → Belongs at x v
 
-not_inside : (at : Place) (x : Text) (front : Place) → at ≡ front ++ x ∷ at → ⊥
+pub not_inside : (at : Place) (x : Text) (front : Place) → at ≡ front ++ x ∷ at → ⊥
 not_inside at x front e =
     let n : length at ≡ length front + length (x ∷ at) = ap (λ (p : Place). length p) e ∙ length_joined front (x ∷ at) in
     too_long (length at) (length front) n
@@ -47,7 +47,7 @@ not_inside at x front e =
     too_long : (a f : ℕ) → a ≡ f + suc a → ⊥
     too_long a f h = omega (arith, h)
 
-same_length_ends : (f g : Place) (x y : Text) (at : Place) → f ++ x ∷ at ≡ g ++ y ∷ at → x ≡ y
+pub same_length_ends : (f g : Place) (x y : Text) (at : Place) → f ++ x ∷ at ≡ g ++ y ∷ at → x ≡ y
 same_length_ends [] [] x y at e = cc
 same_length_ends [] (z ∷ g) x y at e = let t : at ≡ g ++ y ∷ at = cc in absurd (not_inside at y g t)
 same_length_ends (z ∷ f) [] x y at e = let t : at ≡ f ++ x ∷ at = cc in absurd (not_inside at x f t)
@@ -130,7 +130,7 @@ BelongsSome at v = (y : Text) × Belongs at y v
 abbrev BelongsElse : Place → Text → Visit → Type 0
 BelongsElse at x v = (y : Text) × (x ≡ y → ⊥) × Belongs at y v
 
-places_joined : (xs : Place) (x : Text) (zs : Place) → xs ++ x ∷ zs ≡ (xs ++ x ∷ []) ++ zs
+pub places_joined : (xs : Place) (x : Text) (zs : Place) → xs ++ x ∷ zs ≡ (xs ++ x ∷ []) ++ zs
 places_joined [] x zs = refl
 places_joined (y ∷ xs) x zs = ap (λ ws. y ∷ ws) (places_joined xs x zs)
 

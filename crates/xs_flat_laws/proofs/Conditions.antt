@@ -59,7 +59,7 @@ both_iff R P Q [] (y ∷ ys) h k = absurd k
 both_iff R P Q (x ∷ xs) [] h k = absurd k
 
 -- Values.
-same_text_same : (x : Text) → same_text x x ≡ true
+pub same_text_same : (x : Text) → same_text x x ≡ true
 same_text_same [] = refl
 same_text_same (c ∷ cs) = rw (eq-eqb c c refl) (same_text_same cs)
 

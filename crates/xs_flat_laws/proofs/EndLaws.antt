@@ -4,9 +4,7 @@ use Rattle.xs_tree.specs.ProgramTree.{Text, Path, Formula, ProgramTree}
 use Rattle.xs_tree.specs.Scope.{Place, Key, actual_key, Kind, a_formal, a_variable, a_define, an_instance, undeclared, LookUp, plain_name, through_plain, through_actual, by_kind, kind_at, module_at, actual_of_kind, means_in}
 use Rattle.xs_flat_laws.specs.Looks.{Look, at_actual, plain_of, step_kind, step_of, step_on, look_after, ComesBack, MeetsLoop}
 use Rattle.xs_flat_laws.proofs.LookLaws.{after_longer}
-
-pub never_some : {A : Type 0} (x : A) → None ≡ Some x → ⊥
-never_some x e = cc
+use Rattle.std.proofs.lemmas.Option.{none-some as never_some}
 
 -- after some steps, and then some more
 pub steps_more : (b a : ℕ) (p : ProgramTree) (at : Place) (name : Path) (l : Look) → look_after a p at name ≡ Some l → look_after (b + a) p at name ≡ look_after b p l.place l.name

@@ -7,7 +7,7 @@ use Rattle.xs_tree.specs.Scope.{Place, define_key, means_in, state}
 use Rattle.xs_flat_laws.specs.Items.{a_declaration, a_definition, an_init, visits, NumberedItem, NumberedModule}
 use Rattle.xs_flat_laws.specs.Looks.{Look, look_after, step_on, ComesBack, MeansNothing}
 use Rattle.xs_flat_laws.specs.Rules.{Rule, number_of, no_main, main_has_parameters, double_module, double_name, module_loop, no_such_name, define_loop, the_program, a_header, an_item, a_visit, a_use, nothing, Needs, Breaks, IsKept, IsFirstBroken}
-use Rattle.xs_flat_laws.proofs.EndLaws.{never_some}
+use Rattle.std.proofs.lemmas.Option.{none-some as never_some}
 
 -- no module: rule 1 at item 0
 empty_breaks : IsFirstBroken [] no_main 0

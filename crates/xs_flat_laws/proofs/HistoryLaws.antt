@@ -51,7 +51,7 @@ pub length_bits : (i : ℕ) (fs : List Mode) → length (bit_variables i fs) ≡
 length_bits i [] = refl
 length_bits i (f ∷ fs) = ap suc (length_bits (suc i) fs)
 
-all_variables : (m : FlatModel) (fs : List Mode) → length (with_history m fs).variables ≡ length m.variables + length fs
+pub all_variables : (m : FlatModel) (fs : List Mode) → length (with_history m fs).variables ≡ length m.variables + length fs
 all_variables m fs = length-append m.variables (bit_variables 0 fs) ∙ ap (λ k. length m.variables + k) (length_bits 0 fs)
 
 pub one_bit_more : (m : FlatModel) (fs : List Mode) (f : Mode) → with_history m (fs ++ f ∷ []) ≡ with_bit (suc (length fs)) f (with_history m fs)

@@ -17,7 +17,7 @@ use Rattle.xs_flat_laws.proofs.Conditions.{iff_then, each_join, MayBe, within_if
 use Rattle.xs_flat_laws.proofs.Now.{BothSame, same_on}
 
 -- More values change nothing for formulas that do not read them.
-get_before : {A : Type 0} (xs ys : List A) (i : ℕ) → i < length xs → slice_get (xs ++ ys) i ≡ slice_get xs i
+pub get_before : {A : Type 0} (xs ys : List A) (i : ℕ) → i < length xs → slice_get (xs ++ ys) i ≡ slice_get xs i
 get_before {A = A} xs ys i h = let x : (x : A) × (slice_get xs i ≡ Some x) = get_within xs i h in get_left xs ys i x.0 x.1 ∙ sym x.1
 
 leaf_longer : (symbols : List Text) (v more : List Value) (table : List (Option Values)) (l : FlatLeaf) → IsOwnName (length v) l →
@@ -79,7 +79,7 @@ stands_gives : (m : FlatModel) (u : List Value) (f : Mode) → IsRead m u f →
 stands_gives m u f r = rw (r.has, r.of_model) refl
 
 -- `in` with one value on each side holds where they are the same
-within_one : (a b : Option Values) (x y : Value) → a ≡ Some (one x) → b ≡ Some (one y) → (MayBe (gives_within a b) (truth true) ↔ (x ≡ y))
+pub within_one : (a b : Option Values) (x y : Value) → a ≡ Some (one x) → b ≡ Some (one y) → (MayBe (gives_within a b) (truth true) ↔ (x ≡ y))
 within_one a b x y e g =
     subst (λ o. MayBe (gives_within o b) (truth true) ↔ (x ≡ y)) (sym e)
     (subst (λ o. MayBe (gives_within (Some (one x)) o) (truth true) ↔ (x ≡ y)) (sym g) (iff_then (within_iff (Some (one y)) x) (may_one y x)))
@@ -115,7 +115,7 @@ first_bits m all u (f ∷ fs) pre (t ∷ ts) reads long is =
     tails : (a b : Bool) (as' bs : List Bool) → (a ∷ as') ≡ (b ∷ bs) → as' ≡ bs
     tails a b as' bs e = cc
 
-applied_or : (a b : Option Values) (x y : Bool) → a ≡ Some (one (truth x)) → b ≡ Some (one (truth y)) → gives_applied op.Or a b ≡ Some (one (truth (x || y)))
+pub applied_or : (a b : Option Values) (x y : Bool) → a ≡ Some (one (truth x)) → b ≡ Some (one (truth y)) → gives_applied op.Or a b ≡ Some (one (truth (x || y)))
 applied_or a b x y e g = rw (e, g) refl
 
 step_bits : (m : FlatModel) (all : List Mode) (a : Mode → Bool) (u w : List Value) (fs : List Mode) (pre pre' : List Value) (ts : List Bool) → Each (IsRead m w) fs →
@@ -215,7 +215,7 @@ domains_length [] (b ∷ v) h = absurd h
 domains_length (x ∷ xs) [] h = absurd h
 domains_length (x ∷ xs) (b ∷ v) h = ap suc (domains_length xs v h.1)
 
-domain_at : (xs : List FlatVariable) (v : List Value) (i : ℕ) (x : FlatVariable) → AreInDomains xs v → slice_get xs i ≡ Some x →
+pub domain_at : (xs : List FlatVariable) (v : List Value) (i : ℕ) (x : FlatVariable) → AreInDomains xs v → slice_get xs i ≡ Some x →
     (b : Value) × (slice_get v i ≡ Some b) × IsTrue (in_domain x.declared b)
 domain_at [] v i x h e = cc
 domain_at (y ∷ xs) [] i x h e = absurd h

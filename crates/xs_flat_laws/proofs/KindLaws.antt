@@ -7,11 +7,11 @@ use Rattle.xs_tree.specs.Scope.{Role, state, input, frozen_role, Kind, a_define,
 use Rattle.xs_tree.specs.Trace.{Each}
 use Rattle.xs_flat_laws.specs.Items.{Item, a_declaration, a_definition, an_assignment, some_constants, an_init, an_invar, a_trans, NumberedItem, NumberedModule, items_of_section, items_of, numbered_from, modules_from, modules_of, numbered_items, items_found}
 use Rattle.xs_flat_laws.specs.Rules.{names_of_item, is_name_again, double_name, a_header, an_item, IsKept, IsWalkable}
-use Rattle.xs_flat_laws.proofs.Now.{neither}
 use Rattle.xs_flat_laws.proofs.Lists.{each_of_map, each_more}
 use Rattle.xs_flat_laws.proofs.Conditions.{each_flat}
 use Rattle.xs_tree.specs.Texts.{same_text, is_among}
 use Rattle.xs_tree.proofs.OneTree.{same_text_equal}
+use Rattle.std.proofs.lemmas.Bool.{false_from_ne_true as not_true, or_parts as neither}
 
 abbrev pub kind_of_item : Item → Text → Kind → Kind
 kind_of_item (a_declaration role d) x other = if same_text d.name x then kind_declared role d.what else other
@@ -133,10 +133,6 @@ split_each : (whole : List Item) (n : ℕ) (before items : List Item) → whole 
     Each (λ (i : NumberedItem). (after : List Item) × (whole ≡ i.before ++ i.item ∷ after)) (numbered_from n before items)
 split_each whole n before [] e = tt
 split_each whole n before (i ∷ items) e = ((items, e), split_each whole (suc n) (before ++ i ∷ []) items (e ∙ joined_more before i items))
-
-pub not_true : (b : Bool) → (b ≡ true → ⊥) → b ≡ false
-not_true true h = absurd (h refl)
-not_true false h = refl
 
 pub with_both : {A : Type 0} (P Q R : A → Type 0) (xs : List A) → ((x : A) → P x → Q x → R x) → Each P xs → Each Q xs → Each R xs
 with_both P Q R [] f h k = tt

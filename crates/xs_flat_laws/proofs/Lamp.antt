@@ -13,8 +13,8 @@ use Rattle.xs_flat_laws.specs.Items.{Item, a_declaration, a_definition, an_assig
 use Rattle.xs_flat_laws.specs.Rules.{no_main, main_has_parameters, double_module, double_name, no_such_module, wrong_count, module_loop, no_such_name, not_a_target, double_assign, define_loop, next_here, too_many, the_program, a_header, an_item, a_visit, a_use, HasNoValue, nothing, only_an_instance, Needs, IsKept, IsAccepted}
 use Rattle.xs_flat_laws.specs.Model.{IsFlatOf, comes, no_more, one_more}
 use Rattle.xs_tree.specs.Texts.{same_text}
-use Rattle.xs_flat_laws.proofs.EndLaws.{never_some}
 use Rattle.xs_tree.proofs.OneTree.{same_text_equal}
+use Rattle.std.proofs.lemmas.Option.{none-some as never_some}
 
 abbrev on_name : Text
 on_name = codes "on"

@@ -11,24 +11,20 @@ use Rattle.xs_flat_laws.specs.Looks.{Look, at_actual, plain_of, step_formal, ste
 use Rattle.xs_flat_laws.specs.Rules.{no_such_name, define_loop, double_name, has_twice, a_header, an_item, ActualHasNoMeaning, BreaksNames, ActualLoops, SomeActualLoops, LoopsInside, BreaksLoops, IsKept, IsWalkable, IsAccepted}
 use Rattle.xs_flat_laws.proofs.Lists.{get_within, each_more}
 use Rattle.xs_flat_laws.proofs.Conditions.{each_flat}
-use Rattle.xs_flat_laws.proofs.Now.{neither}
-use Rattle.xs_flat_laws.proofs.KindLaws.{DeclaredBy, kind_in_items, sections_kind, not_true}
+use Rattle.xs_flat_laws.proofs.KindLaws.{DeclaredBy, kind_in_items, sections_kind}
 use Rattle.xs_flat_laws.proofs.Places.{Above, above}
 use Rattle.xs_flat_laws.proofs.LookLaws.{step_means}
 use Rattle.xs_flat_laws.proofs.EndLaws.{steps_more, ended_stays}
 use Rattle.xs_flat_laws.proofs.Walkable.{accepted_walkable}
 use Rattle.xs_flat_laws.proofs.Kept.{KeptItem, kept_at, declared_there, as_many}
 use Rattle.xs_tree.proofs.OneTree.{same_text_equal}
+use Rattle.std.proofs.lemmas.Option.{slice_get_within as got_below}
+use Rattle.std.proofs.lemmas.Bool.{false_from_ne_true as not_true, or_parts as neither}
 
 nth_got : (es : List Formula) (k : ℕ) (e : Formula) → nth_formula es k ≡ Some e → slice_get es k ≡ Some e
 nth_got [] k e h = cc
 nth_got (x ∷ es) zero e h = h
 nth_got (x ∷ es) (suc k) e h = nth_got es k e h
-
-got_below : {A : Type 0} (xs : List A) (k : ℕ) (x : A) → slice_get xs k ≡ Some x → k < length xs
-got_below [] k x e = cc
-got_below (y ∷ xs) zero x e = omega arith
-got_below (y ∷ xs) (suc k) x e = let more : k < length xs = got_below xs k x e in omega (arith, more)
 
 some_at : (P : Formula → Type 0) (es : List Formula) (k : ℕ) (e : Formula) → slice_get es k ≡ Some e → P e → AtSome P es
 some_at P [] k e h x = cc
@@ -90,7 +86,7 @@ module _ (p : ProgramTree) (accepted : IsAccepted p) where
           loops (loops_of_type by.decl by.what (subst (λ o. LoopsInside p (by.decl.name ∷ at) actuals o) (sym found) here))
 
 -- Formals by their places.
-formal_is : (j : ℕ) (xs : List Text) (x : Text) (i : ℕ) → formal_from j xs x ≡ Some i → (d : ℕ) × (i ≡ j + d) × (slice_get xs d ≡ Some x)
+pub formal_is : (j : ℕ) (xs : List Text) (x : Text) (i : ℕ) → formal_from j xs x ≡ Some i → (d : ℕ) × (i ≡ j + d) × (slice_get xs d ≡ Some x)
 formal_is j [] x i e = cc
 formal_is j (y ∷ ys) x i e = by_name (same_text y x) refl (formal_is (suc j) ys x i)
   where

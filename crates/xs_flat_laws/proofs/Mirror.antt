@@ -17,7 +17,8 @@ use Rattle.xs_flat_laws.specs.Looks.{ComesBack}
 use Rattle.xs_flat_laws.specs.Items.{Item, a_declaration, an_assignment, NumberedModule, Visit, visits}
 use Rattle.xs_flat_laws.specs.Rules.{no_main, main_has_parameters, double_module, double_name, no_such_module, wrong_count, module_loop, no_such_name, not_a_target, double_assign, define_loop, next_here, input_here, too_many, the_program, a_header, an_item, a_visit, a_use, visit_sites, use_sites, instances_before, variables_before, HasNoValue, nothing, only_an_instance, ActualLoops, SomeActualLoops, is_input_kind, GivesInput, IsKept, IsAccepted}
 use Rattle.xs_flat_laws.proofs.Resolving.{same_meaning}
-use Rattle.xs_flat_laws.proofs.EndLaws.{never_some, goes_on}
+use Rattle.xs_flat_laws.proofs.EndLaws.{goes_on}
+use Rattle.std.proofs.lemmas.Option.{none-some as never_some}
 
 -- an instance of the module, given the x of another
 abbrev given : Text → Text → DeclTree

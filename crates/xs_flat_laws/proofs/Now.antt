@@ -1,5 +1,5 @@
 -- What an expression gives depends on its leaves alone, and on those now alone where it has no `next`.
-use Rattle.std.proofs.Common.{◌≡◌, Bool, true, false, ◌||◌, Option, Some, None, refl, sym, ◌∙◌}
+use Rattle.std.proofs.Common.{◌≡◌, false, ◌||◌, Option, Some, None, refl, sym, ◌∙◌}
 use Rattle.xs_tree.specs.Tree.{Tree, Trees, Branches, truth as is_truth, number as is_number, leaf, not_of, negate, next_of, binary, choice, case_of, set_of, span, no_tree, tree_then, no_branch, branch_then}
 use Rattle.xs_tree.specs.Values.{Values}
 use Rattle.xs_tree.specs.Evaluate.{Leaves, evaluate, evaluate_trees, evaluate_branches}
@@ -8,10 +8,7 @@ use Rattle.xs_tree.proofs.Monotone.{Below}
 use Rattle.xs_flat_laws.specs.Resolved.{leaves_in, has_next, trees_have_next, branches_have_next}
 use Rattle.xs_flat_laws.proofs.Reaches.{BothReach, tree_reaches}
 use Rattle.xs_flat_laws.proofs.Lists.{each_more}
-
-pub neither : (a b : Bool) → (a || b) ≡ false → (a ≡ false) × (b ≡ false)
-neither true b h = cc
-neither false b h = (refl, h)
+use Rattle.std.proofs.lemmas.Bool.{or_parts as neither}
 
 mutual
   pub without_next : {L : Type 0} (t : Tree L) (f g g' : Leaves L) → has_next t ≡ false → evaluate f g t ≡ evaluate f g' t

@@ -1,5 +1,5 @@
 -- An accepted program has one flat model.
-use Rattle.std.proofs.Common.{◌≡◌, ℕ, suc, Bool, true, false, List, [], ◌∷◌, ◌++◌, Option, Some, refl, sym, ◌∙◌, ap, subst}
+use Rattle.std.proofs.Common.{◌≡◌, ℕ, suc, Bool, true, false, List, [], ◌∷◌, ◌++◌, Some, refl, sym, ◌∙◌, ap, subst}
 use Rattle.std.specs.Prelude.{codes, slice_get, map, flat_map, if◌then◌else◌}
 use Rattle.xs_tree.specs.declared.expr.Op.TheVariants as op
 use Rattle.xs_tree.specs.Tree.{Tree, leaf, next_of, binary}
@@ -19,17 +19,15 @@ use Rattle.xs_flat_laws.proofs.Apart.{Differ, Apart, variables_apart}
 use Rattle.xs_flat_laws.proofs.KeysApart.{Pairwise, pairwise_join, pairwise_same, one_number, one_root}
 use Rattle.xs_flat_laws.proofs.OneTree.{one_tree}
 use Rattle.xs_flat_laws.proofs.Walkable.{main_is_there}
+use Rattle.std.proofs.lemmas.Option.{some_pair_parts as both_parts}
 
 -- The order of definitions.
-named_one : (p : ProgramTree) (at : Place) (names : List Path) (ks js : List Key) → AreNamed p at names ks → AreNamed p at names js → ks ≡ js
+pub named_one : (p : ProgramTree) (at : Place) (names : List Path) (ks js : List Key) → AreNamed p at names ks → AreNamed p at names js → ks ≡ js
 named_one p at [] ks js h g = h ∙ sym g
 named_one p at (name ∷ names) ks js h g =
     let same : h.0 ≡ g.0 = same_meaning h.2.0 g.2.0 p at name h.0 g.0 h.2.1 g.2.1 in
     let rest : h.1 ≡ g.1 = named_one p at names h.1 g.1 h.3 g.3 in
     h.4 ∙ ap (λ m. keys_of_meaning m ++ h.1) same ∙ ap (λ more. keys_of_meaning g.0 ++ more) rest ∙ sym g.4
-
-both_parts : {A B : Type 0} (a b : A) (c d : B) → ◌≡◌ {A = Option (A × B)} (Some (a, c)) (Some (b, d)) → (a ≡ b) × (c ≡ d)
-both_parts {A} {B} a b c d h = let both : ◌≡◌ {A = A × B} (a, c) (b, d) = cc in (ap (λ (q : A × B). q.0) both, ap (λ (q : A × B). q.1) both)
 
 needs_one : (p : ProgramTree) (k : Key) (at bt : Place) (e f : Formula) (ks js : List Key) → expression_of p k ≡ Some (at, e) → expression_of p k ≡ Some (bt, f) →
     AreNamed p at (leaves_in e) ks → AreNamed p bt (leaves_in f) js → ks ≡ js
@@ -129,7 +127,7 @@ pub symbols_apart : (p : ProgramTree) → Pairwise OtherText (symbols_of p)
 symbols_apart p = appear_apart [] (flat_map (λ m. flat_map symbols_of_item (items_of m)) p) tt
 
 -- Variables.
-apart_pairs : (vs : List Visit) → Apart vs → Pairwise Differ vs
+pub apart_pairs : (vs : List Visit) → Apart vs → Pairwise Differ vs
 apart_pairs [] h = tt
 apart_pairs (v ∷ vs) h = (h.0, apart_pairs vs h.1)
 

@@ -1,14 +1,6 @@
 -- One of two that is true, and a list in which one item is another one.
-use Rattle.std.proofs.Common.{◌≡◌, ◌⊎◌, inl, inr, ℕ, zero, suc, ◌<◌, arith, Bool, true, false, ◌||◌, List, [], ◌∷◌, length, Some, refl, ap}
+use Rattle.std.proofs.Common.{◌≡◌, ◌⊎◌, inl, inr, ℕ, zero, suc, ◌<◌, arith, ◌||◌, List, [], ◌∷◌, length, Some, refl, ap}
 use Rattle.std.specs.Prelude.{slice_get, slice_set}
-
-pub or_left : (a b : Bool) → a ≡ true → (a || b) ≡ true
-or_left true b h = refl
-or_left false b h = cc
-
-pub or_true : (a b : Bool) → b ≡ true → (a || b) ≡ true
-or_true true b h = refl
-or_true false b h = h
 
 -- one element of a list is another one
 pub set_get : {A : Type 0} (xs : List A) (i j : ℕ) (v : A) → (slice_get (slice_set xs i v) j ≡ slice_get xs j) ⊎ ((j ≡ i) × (slice_get (slice_set xs i v) j ≡ Some v))

@@ -6,9 +6,9 @@ use Rattle.xs_tree.proofs.ValueLaws.{same_text_refl}
 use Rattle.xs_tree.specs.Scope.{find_module}
 use Rattle.xs_tree.specs.Trace.{Each}
 use Rattle.xs_flat_laws.specs.Rules.{is_missing}
-use Rattle.xs_flat_laws.proofs.Now.{neither}
 use Rattle.xs_tree.specs.Texts.{same_text, is_among}
 use Rattle.xs_tree.proofs.OneTree.{same_text_equal}
+use Rattle.std.proofs.lemmas.Bool.{or_parts as neither}
 
 abbrev pub IsThere : ProgramTree → Text → Type 0
 IsThere p x = is_missing (find_module p x) ≡ false

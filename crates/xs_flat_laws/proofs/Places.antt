@@ -11,9 +11,10 @@ use Rattle.xs_flat_laws.proofs.Reaches.{each_left, each_right}
 use Rattle.xs_flat_laws.proofs.Lists.{get_left}
 use Rattle.xs_flat_laws.proofs.Conditions.{each_join, each_at}
 use Rattle.xs_flat_laws.proofs.Sections.{AreInstances}
-use Rattle.xs_flat_laws.proofs.KindLaws.{ItemFacts, kind_of_declaration, sections_kind, DeclaredBy, declared_by, all_facts, found_facts, not_true}
+use Rattle.xs_flat_laws.proofs.KindLaws.{ItemFacts, kind_of_declaration, sections_kind, DeclaredBy, declared_by, all_facts, found_facts}
 use Rattle.xs_flat_laws.proofs.Pigeons.{IsThere, AreApart, no_more_names}
 use Rattle.xs_tree.specs.Texts.{same_text, is_among}
+use Rattle.std.proofs.lemmas.Bool.{false_from_ne_true as not_true}
 
 -- Membership by place.
 abbrev pub In : {A : Type 0} → A → List A → Type 0

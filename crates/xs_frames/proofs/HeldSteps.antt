@@ -7,10 +7,11 @@ use Rattle.std.proofs.lemmas.List.Elements.{Contains-push, Contains-push_cases, 
 use Rattle.xs_lits.specs.Literal.{Literal, plain, opposite}
 use Rattle.xs_lits.specs.Derivation.{IsUpTo}
 use Rattle.xs_frames.specs.Framed.{frame_at}
-use Rattle.xs_frames.specs.Roles.{Listed, first, step, bad, Role, place, list_guard, gate, retired, unused, renamed_clause, under_guard, under_list}
+use Rattle.xs_frames.specs.Roles.{Listed, bad, Role, place, list_guard, gate, retired, unused, renamed_clause, under_guard}
 use Rattle.xs_frames.specs.Roles as roles
 use Rattle.xs_frames.specs.Guards.{guards_next, StandsUpTo, IsOld, IsPut, Layout, IsHeld, of_list, of_frame, of_next, of_retired, IsUnder, AreHeld}
 use Rattle.xs_frames.proofs.RoleLaws.{first_in}
+use Rattle.xs_frames.proofs.Framing.{frame_grown as frame_more}
 
 -- the roles up to a variable as a function changes them, and others above it
 abbrev pub grown : ℕ → (Role → Role) → (ℕ → Role) → (ℕ → Role) → ℕ → Role
@@ -183,13 +184,6 @@ pub again_past : (l : Layout) (vars : ℕ) (added : List (List Literal)) (i : �
     AreHeld (record l { frames = [] ∷ []; role = λ x. retire_frames (l.role x) }) vars (added ++ (opposite (plain (l.guard_at i)) ∷ []) ∷ [])
 again_past l vars added i are some lt = held_push (record l { frames = [] ∷ []; role = λ x. retire_frames (l.role x) }) vars added (opposite (plain (l.guard_at i)) ∷ []) (held_again l vars added are)
     (of_retired (l.guard_at i) (first_in (opposite (plain (l.guard_at i))) []) (ap retire_frames (are.is_frame i some lt)))
-
--- a clause that stands in a frame also does where there is one more without clauses, and no other does
-frame_more : (fs : List (List (List Literal))) (i : ℕ) → frame_at (fs ++ [] ∷ []) i ≡ frame_at fs i
-frame_more [] zero = refl
-frame_more [] (suc i) = refl
-frame_more (f ∷ fs) zero = refl
-frame_more (f ∷ fs) (suc i) = frame_more fs i
 
 abbrev pub one_more : ℕ → Role → ℕ → Role
 one_more vars r x = if nat_le x (vars + 1) then r else unused

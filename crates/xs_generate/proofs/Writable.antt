@@ -70,7 +70,7 @@ record AreWritableRails (rails : Rails) : Type 0 where
   last_a : IsSmallLast rails.last_a
   last_b : IsSmallLast rails.last_b
 
-each_more : {A : Type 0} (P : A → Type 0) (xs : List A) (x : A) → Each P xs → P x → Each P (xs ++ x ∷ [])
+pub each_more : {A : Type 0} (P : A → Type 0) (xs : List A) (x : A) → Each P xs → P x → Each P (xs ++ x ∷ [])
 each_more P [] x h p = (p, tt)
 each_more P (y ∷ ys) x h p = (h.0, each_more P ys x h.1 p)
 
@@ -82,7 +82,7 @@ rails_writable : (bs : List Bool) (i : ℕ) (rails : Rails) → i + length bs �
 rails_writable [] i rails h are = are
 rails_writable (b ∷ bs) i rails h are = rails_writable bs (suc i) (with_stage b i rails) (omega (arith, h)) (with_writable b i rails (omega (arith, h)) are)
 
-as_many : (n s : ℕ) → length (rails_after n s) ≡ n
+pub as_many : (n s : ℕ) → length (rails_after n s) ≡ n
 as_many zero s = refl
 as_many (suc n) s = ap suc (as_many n (next_number s))
 

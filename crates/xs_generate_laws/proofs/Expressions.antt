@@ -6,11 +6,11 @@ use Rattle.xs_tree.specs.Texts.{same_text}
 use Rattle.xs_tree.specs.Scope.{Place, Role, Kind, a_formal, a_variable, a_define, an_instance, undeclared, state, find_module, formal_from, kind_declared, kind_in_decls, kind_in_defines, kind_in_sections, kind_after_formals, kind_in, kind_at, module_of_kind, module_at, nth_formula, actual_of_kind, Key, define_key, actual_key}
 use Rattle.xs_tree.specs.Trace.{Each}
 use Rattle.xs_flat_laws.specs.Rules.{expression_of_kind, expression_in, expression_of}
-use Rattle.xs_flat_laws.proofs.EndLaws.{never_some}
 use Rattle.xs_type_laws.specs.Costs.{cost_of}
 use Rattle.xs_generate.specs.Generator.{stage_name, output_of, dead_formula}
 use Rattle.xs_generate_laws.proofs.Stages.{stages_from, main_of, relay_with, relay_sections, program_with}
 use Rattle.xs_generate_laws.proofs.Truths.{IsLogic}
+use Rattle.std.proofs.lemmas.Option.{none-some as never_some}
 
 abbrev pub IsCheapLogic : Formula → Type 0
 IsCheapLogic e = IsLogic e × (cost_of e ≤ 5)

@@ -3,12 +3,12 @@ use Rattle.std.proofs.Common.{◌≡◌, ℕ, zero, suc, ◌+◌, ◌≤◌, ari
 use Rattle.std.specs.Prelude.{codes, flat_map}
 use Rattle.xs_tree.specs.ProgramTree.{ModuleTree, ProgramTree}
 use Rattle.xs_tree.specs.Scope.{Place, module_at}
-use Rattle.xs_flat_laws.proofs.EndLaws.{never_some}
 use Rattle.xs_weave.specs.Faults.{Fault, instance_names_in, joined, each_joined, below, instances_in, slice_faults, module_slices, place_faults, HasFaults}
 use Rattle.xs_generate.specs.Generator.{stage_name, relay_module, generated_instructions}
 use Rattle.xs_generate_laws.specs.Laws.{GeneratedFaultsAreStages}
 use Rattle.xs_generate_laws.proofs.Stages.{relay_sections, stages_from, program_of, AreStages, generated_of_stages}
 use Rattle.xs_generate_laws.proofs.Meanings.{stage_there, relay_there}
+use Rattle.std.proofs.lemmas.Option.{none-some as never_some}
 
 -- the places of stages
 abbrev stage_places : ℕ → List (Option ℕ) → List Place

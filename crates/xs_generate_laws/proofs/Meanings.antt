@@ -9,10 +9,11 @@ use Rattle.xs_tree.specs.Trace.{AtSome}
 use Rattle.xs_flat_laws.specs.Resolved.{leaves_in}
 use Rattle.xs_flat_laws.specs.Looks.{Look, at_actual, plain_of, step_kind, step_on, look_after, ComesBack, MeansNothing}
 use Rattle.xs_flat_laws.specs.Rules.{HasNoValue, nothing, only_an_instance, expression_of_kind, expression_in, expression_of, Needs, NeedsItself, Leads, ActualLoops, LoopsInside, is_input_kind, MeansInput, ReadsInput, GivesInput}
-use Rattle.xs_flat_laws.proofs.EndLaws.{never_some, ended_stays}
+use Rattle.xs_flat_laws.proofs.EndLaws.{ended_stays}
 use Rattle.xs_flat_laws.proofs.Resolving.{same_meaning}
 use Rattle.xs_generate.specs.Generator.{stage_name, output_of, dead_formula}
 use Rattle.xs_generate_laws.proofs.Stages.{IsStageBefore, relay_with, program_with, AreStages, IsFed, stage_found, no_stage_dead}
+use Rattle.std.proofs.lemmas.Option.{none-some as never_some}
 
 -- none of one list and none of another
 pub at_neither : {A : Type 0} (P : A → Type 0) (xs ys : List A) → (AtSome P xs → ⊥) → (AtSome P ys → ⊥) → AtSome P (xs ++ ys) → ⊥

@@ -5,7 +5,7 @@ use Rattle.std.proofs.lemmas.List.{length-map}
 use Rattle.xs_lexer.specs.declared.token.Token.{Token}
 use Rattle.xs_lexer.specs.declared.token.TokenKind.{TokenKind}
 use Rattle.xs_lexer.specs.declared.token.TokenKind.TheVariants as k
-use Rattle.xs_lexer.specs.Tokens.{Sign, signs, IsAmong, IsToken, Piece, Splits, IsPiece, token_of, tokens_from, HasTokens}
+use Rattle.xs_lexer.specs.Tokens.{Sign, signs, IsAmong, Piece, Splits, IsPiece, token_of, tokens_from, HasTokens}
 use Rattle.xs_tree.specs.Tree.{Tree, Trees, Branches}
 use Rattle.xs_tree.specs.ProgramTree.{Path}
 use Rattle.xs_tree.specs.Lexemes.{Lexeme, word, sign, lexemes_of}
@@ -14,6 +14,7 @@ use Rattle.xs_tree.specs.Spells.{SpellsDotted, one_name, more_names, Spells, onl
 use Rattle.xs_tree.proofs.ValueLaws.{both_true}
 use Rattle.xs_expression_reader.specs.Places.{lexeme_at}
 use Rattle.xs_tree.specs.Nesting.{nesting_of, more_nesting, atom_nesting, trees_nesting, branches_nesting}
+use Rattle.xs_lexer.proofs.PieceLemmas.{text_some as token_long}
 
 dotted_long : {ts : List Lexeme} {p : Path} → SpellsDotted ts p → 1 ≤ length ts
 dotted_long (one_name n) = omega arith
@@ -74,12 +75,6 @@ each_long (s ∷ ss) h = let both = both_true (nat_lt 0 (length s.text)) (are_lo
 
 signs_long : Each (λ (s : Sign). 0 < length s.text) signs
 signs_long = each_long signs refl
-
-token_long : (kind : TokenKind) (text after : List ℕ) → IsToken kind text after → 0 < length text
-token_long kind [] after (inl h) = absurd h.1
-token_long kind [] after (inr (inl h)) = absurd h.1
-token_long kind [] after (inr (inr h)) = among_long signs kind [] signs_long h
-token_long kind (b ∷ bs) after h = omega arith
 
 pieces_long : (start : ℕ) (pieces : List Piece) (bytes rest : List ℕ) → Splits pieces bytes rest → length (tokens_from start pieces) ≤ length bytes
 pieces_long start [] bytes rest h = omega arith

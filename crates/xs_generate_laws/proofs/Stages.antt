@@ -1,5 +1,5 @@
 -- The stages of a generated model: numbered from 1 on, each fed by one of them or by TRUE, with names of their own.
-use Rattle.std.proofs.Common.{◌≡◌, ℕ, zero, suc, ◌+◌, ◌^◌, ◌<◌, ◌≤◌, arith, Bool, true, false, List, [], ◌∷◌, ◌++◌, length, Option, Some, None, refl, sym, ◌∙◌, ap, subst, eqb-true, drop}
+use Rattle.std.proofs.Common.{◌≡◌, ℕ, suc, ◌+◌, ◌^◌, ◌<◌, ◌≤◌, arith, Bool, true, false, List, [], ◌∷◌, ◌++◌, length, Option, Some, None, refl, sym, ◌∙◌, ap, subst, eqb-true, drop}
 use Rattle.std.specs.Prelude.{nat_eq, codes}
 use Rattle.std.proofs.lemmas.Bool.Decides.{nat_tests}
 use Rattle.std.proofs.lemmas.Fmt.{decimal_injective}
@@ -9,7 +9,8 @@ use Rattle.xs_tree.specs.Trace.{Each}
 use Rattle.xs_tree.specs.Scope.{Kind, an_instance, state, kind_in_decls}
 use Rattle.xs_tree.proofs.ValueLaws.{same_text_equal, same_text_refl}
 use Rattle.xs_flat_laws.proofs.Lists.{each_more}
-use Rattle.xs_generate.specs.Generator.{next_number, rails_after, stage_name, output_of, Rails, stage, with_stage, with_stages, rails_of, relay_variables, relay_assignments, relay_module, main_module, generated_model}
+use Rattle.xs_generate.specs.Generator.{rails_after, stage_name, output_of, Rails, stage, with_stage, with_stages, rails_of, relay_variables, relay_assignments, relay_module, main_module, generated_model}
+use Rattle.xs_generate.proofs.Writable.{each_more as each_end, as_many}
 
 -- stages numbered from this one on, by what feeds each
 abbrev pub stages_from : ℕ → List (Option ℕ) → List DeclTree
@@ -57,10 +58,6 @@ before_later : (n : ℕ) (f : Option ℕ) → IsStageBefore n f → IsStageBefor
 before_later n None h = tt
 before_later n (Some j) h = (h.0, omega (arith, h.1))
 
-each_end : {A : Type 0} (P : A → Type 0) (xs : List A) (x : A) → Each P xs → P x → Each P (xs ++ x ∷ [])
-each_end P [] x h p = (p, tt)
-each_end P (y ∷ xs) x h p = (h.0, each_end P xs x h.1 p)
-
 length_more : (fs : List (Option ℕ)) (f : Option ℕ) → length (fs ++ f ∷ []) ≡ suc (length fs)
 length_more [] f = refl
 length_more (g ∷ fs) f = ap suc (length_more fs f)
@@ -101,10 +98,6 @@ all_rails (b ∷ bs) i rails fs are =
     all_rails bs (suc i) (with_stage b i rails) (fs ++ fed_by b rails ∷ []) (more_rails b i rails fs are) in
     let same : suc i + length bs ≡ i + suc (length bs) = omega arith in
     (more.0, subst (λ n. AreRails (with_stages bs (suc i) (with_stage b i rails)) n more.0) same more.1)
-
-as_many : (n s : ℕ) → length (rails_after n s) ≡ n
-as_many zero s = refl
-as_many (suc n) s = ap suc (as_many n (next_number s))
 
 -- a generated model is such a program
 pub record IsOfStages (p : ProgramTree) (stages : ℕ) : Type 0 where

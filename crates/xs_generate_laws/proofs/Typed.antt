@@ -11,7 +11,6 @@ use Rattle.xs_flat_laws.specs.Resolved.{StandsFor, Resolver, IsSound, IsResolved
 use Rattle.xs_flat_laws.specs.Items.{instances_of, Item, numbered_from, items_named, Visit, variable_declared, variables_of, instances_of_visit}
 use Rattle.xs_flat_laws.specs.Model.{Condition, now_among, Written, written_at, conditions, first_conditions, each_conditions, step_conditions, kept_conditions, IsVariableOf, IsFormulaOf, EachBoth, first_appearances, symbols_of_item, symbols_of, IsDefinitionOf, IsFlatOf}
 use Rattle.xs_flat_laws.proofs.Conditions.{each_from}
-use Rattle.xs_flat_laws.proofs.EndLaws.{never_some}
 use Rattle.xs_flat_laws.proofs.Variables.{both_at_second}
 use Rattle.xs_type_laws.specs.Models.{IsTyped}
 use Rattle.xs_generate.specs.Generator.{stage_name}
@@ -22,6 +21,7 @@ use Rattle.xs_generate_laws.proofs.Accepted.{out_visit, visits_from, visits_are}
 use Rattle.xs_generate_laws.proofs.Truths.{IsNoSymbol, IsLogical, IsBoolean, IsDefined, IsComparison, IsOfTruths, truths_typed}
 use Rattle.xs_generate_laws.proofs.Expressions.{IsCheapLogic, relay_logic, expression_logic}
 use Rattle.xs_generate_laws.proofs.Roots.{stage_instances, instances_with, few_keys}
+use Rattle.std.proofs.lemmas.Option.{none-some as never_some}
 
 both_none : {A B : Type 0} (R : A → B → Type 0) (xs : List A) (ys : List B) → xs ≡ [] → EachBoth R xs ys → ys ≡ []
 both_none R [] [] e h = refl

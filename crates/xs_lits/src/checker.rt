@@ -5,12 +5,12 @@ ghost use Rattle.xs_lits.specs.Derivation.{IsUpTo, Appends};
 ghost use Rattle.xs_lits.specs.CanTake.{CanTake};
 ghost use Rattle.xs_lits.specs.Hints.{clause_at, EndsFalse, EndsOpen, FailsAt, assumed_false};
 
+use crate::checker_trail::Trail;
 use crate::clause::Clause;
+use crate::clause_store::ClauseStore;
 use crate::hints::{follow, has_no_opposites};
 use crate::lit::Lit;
 use crate::step::{Step, StepFault};
-use crate::store::ClauseStore;
-use crate::trail::Trail;
 use std::alloc::Global;
 use std::marker::Model;
 use xs_value::OutOfMemory;

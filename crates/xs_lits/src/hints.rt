@@ -6,11 +6,11 @@ ghost use Rattle.xs_lits.specs.Hints.{truth_at, made_false, HasNoOpposites, Lack
 ghost use Rattle.xs_lits.specs.Fault.{fault_of};
 
 use crate::assign::Assign;
+use crate::checker_trail::Trail;
 use crate::clause::Truth;
+use crate::clause_store::ClauseStore;
 use crate::lit::{Lit, contains};
 use crate::step::{Step, StepFault};
-use crate::store::ClauseStore;
-use crate::trail::Trail;
 use crate::truth::truth_of_lits;
 
 /// Whether the step's clause follows by its hints. The trail is free before and after. Takes no memory.

@@ -11,6 +11,8 @@ use Rattle.xs_tree.specs.Texts.{same_text, is_among}
 use Rattle.xs_tree.specs.Lexemes.{is_reserved, section_words, expression_words, left_out_words}
 use Rattle.xs_tree.specs.Printed.{IsName}
 use Rattle.xs_fei.specs.AddedNames.{own_name, mode_variable, mode_symbol}
+use Rattle.std.proofs.lemmas.Bool.{and_parts as both_parts, and_right as no_more_texts, or_from as neither}
+use Rattle.xs_lexer.proofs.SignLemmas.{not_true}
 
 -- a word goes on with `#`, and with what a word goes on with after it
 runs_on : (bs rest : Text) → Runs takes_word bs [] → Runs takes_word (35 ∷ rest) [] → Runs takes_word (bs ++ 35 ∷ rest) []
@@ -36,19 +38,6 @@ word_runs (b ∷ bs) h = (refl, (start_goes_on b (bs ++ []) h.0, h.1))
 abbrev no_hash : Text → Bool
 no_hash bs = list_all (λ b. not (nat_eq b 35)) bs
 
-both_parts : (a b : Bool) → (a && b) ≡ true → (a ≡ true) × (b ≡ true)
-both_parts true true h = (refl, refl)
-both_parts true false h = cc
-both_parts false b h = cc
-
-no_more_texts : (a b : Bool) → b ≡ false → (a && b) ≡ false
-no_more_texts true b h = h
-no_more_texts false b h = refl
-
-not_true : (a : Bool) → not a ≡ true → a ≡ false
-not_true true h = cc
-not_true false h = refl
-
 hash_differs : (w x rest : Text) → no_hash w ≡ true → same_text w (x ++ 35 ∷ rest) ≡ false
 hash_differs [] [] rest h = refl
 hash_differs [] (c ∷ cs) rest h = refl
@@ -57,10 +46,6 @@ hash_differs (d ∷ ds) (c ∷ cs) rest h = no_more_texts (nat_eq d c) _ (hash_d
 
 abbrev no_hashes : List Text → Bool
 no_hashes ws = list_all no_hash ws
-
-neither : (a b : Bool) → a ≡ false → b ≡ false → (a || b) ≡ false
-neither true b h g = cc
-neither false b h g = g
 
 not_among : (ws : List Text) (x rest : Text) → no_hashes ws ≡ true → is_among ws (x ++ 35 ∷ rest) ≡ false
 not_among [] x rest h = refl

@@ -1,6 +1,6 @@
 -- Each fault of an extension has its mode in the extension's flat model: the variable that holds the state of its slice at its
 -- instance, which the weave declared, and the symbol of the mode, which is a member of that variable's type.
-use Rattle.std.proofs.Common.{◌≡◌, ◌≢◌, ℕ, zero, suc, Bool, true, false, List, [], ◌∷◌, ◌++◌, map, Option, Some, refl, sym, ap, subst, ◌∙◌}
+use Rattle.std.proofs.Common.{◌≡◌, ◌≢◌, ℕ, suc, Bool, true, false, List, [], ◌∷◌, ◌++◌, map, Option, Some, refl, sym, ap, subst, ◌∙◌}
 use Rattle.std.specs.Prelude.{slice_get, reverse}
 use Rattle.std.specs.Option.{option_map}
 use Rattle.std.proofs.lemmas.List.{reverse-reverse}
@@ -33,6 +33,7 @@ use Rattle.xs_extend.specs.WovenFaults.{place_of, fault_tree}
 use Rattle.xs_extend.specs.NumberedFaults.{parts_of, HasPath, HaveModes}
 use Rattle.xs_loading.specs.Wholes.{HasModeOf, HasItsModes}
 use Rattle.xs_loading.proofs.WholeLemmas.{turned}
+use Rattle.xs_scope.proofs.KeyLaws.{map_get as mapped_from}
 
 -- a text among others has a place
 among_at : (xs : List Text) (x : Text) → is_among xs x ≡ true → (n : ℕ) × (slice_get xs n ≡ Some x)
@@ -75,12 +76,6 @@ module _ (p : ProgramTree) (i : InstructionTree) (weavable : IsWeavable p i) (m 
 -- the flat model of an extension has the mode of each of its faults
 pub has_its_modes : (p : ProgramTree) (i : InstructionTree) (faults : List Fault) → IsWeavable p i → HasFaults p i faults → HasItsModes (woven p i) faults
 has_its_modes p i faults weavable has m accepted flat = each_more (IsOfSlice p i) (HasModeOf m) faults (has_mode p i weavable m accepted flat) (of_program p i faults has)
-
--- In memory.
-mapped_from : {A B : Type 0} (f : A → B) (xs : List A) (n : ℕ) (y : B) → slice_get (map f xs) n ≡ Some y → (x : A) × (slice_get xs n ≡ Some x) × (f x ≡ y)
-mapped_from f [] n y e = cc
-mapped_from f (x ∷ xs) zero y e = let same : f x ≡ y = cc in (x, refl, same)
-mapped_from f (x ∷ xs) (suc n) y e = mapped_from f xs n y e
 
 mode_variable_is_some : (x : Text) → mode_variable x ≢ []
 mode_variable_is_some [] e = cc

@@ -1,8 +1,8 @@
 -- An extension that passes no limit with all bits passes none without them.
-use Rattle.std.proofs.Common.{arith, ◌≡◌, ◌≤◌, ℕ, Bool, true, false, List, ◌++◌, refl, ap, subst, ◌∙◌}
+use Rattle.std.proofs.Common.{arith, ◌≡◌, ◌≤◌, ℕ, false, List, ◌++◌, ap, subst, ◌∙◌}
 use Rattle.std.specs.Prelude.{nat_lt, ◌||◌, sum_by, length}
 use Rattle.std.proofs.lemmas.List.Sums.{sum_by-append}
-use Rattle.std.proofs.lemmas.Bool.{ltb-false, le-ltb}
+use Rattle.std.proofs.lemmas.Bool.{ltb-false, le-ltb, or_parts as neither}
 use Rattle.xs_tree.specs.ProgramTree.{ProgramTree}
 use Rattle.xs_fei.specs.Instructions.{InstructionTree}
 use Rattle.xs_tree.specs.Flat.{FlatVariable, FlatFormula, FlatModel}
@@ -22,10 +22,6 @@ use Rattle.xs_loading.proofs.LimitLaws.{are_woven}
 
 more_joined : {A : Type 0} (f : A → ℕ) (xs ys : List A) → sum_by f xs ≤ sum_by f (xs ++ ys)
 more_joined f xs ys = let joined = sum_by-append f xs ys in omega (arith, joined)
-
-neither : (a b : Bool) → (a || b) ≡ false → (a ≡ false) × (b ≡ false)
-neither true b e = cc
-neither false b e = (refl, e)
 
 not_above : (a b : ℕ) → nat_lt a b ≡ false → b ≤ a
 not_above a b e = ltb-false a b e

@@ -19,7 +19,7 @@ are_joined (Some xs) (Some ys) all e = let same : xs ++ ys ≡ all = cc in recor
 are_joined (Some xs) None all e = cc
 are_joined None b all e = cc
 
-same_given : {A : Type 0} {o : Option A} {x y : A} → o ≡ Some x → o ≡ Some y → x ≡ y
+pub same_given : {A : Type 0} {o : Option A} {x y : A} → o ≡ Some x → o ≡ Some y → x ≡ y
 same_given e f = cc
 
 -- where two readings agree on what both give, so do what they join

@@ -1,6 +1,6 @@
 -- The flat model of an extension with the bits of its faults, as the code makes it.
-use Rattle.std.proofs.Common.{◌≡◌, ℕ, zero, suc, List, [], ◌∷◌, ◌++◌, map, Option, Some, None, refl, ap, ◌∙◌}
-use Rattle.std.specs.Prelude.{slice_get, reverse}
+use Rattle.std.proofs.Common.{◌≡◌, ℕ, List, [], ◌∷◌, ◌++◌, map, Option, Some, None, refl, ap, ◌∙◌}
+use Rattle.std.specs.Prelude.{reverse}
 use Rattle.std.proofs.lemmas.List.{reverse-append}
 use Rattle.xs_tree.specs.ProgramTree.{Text, Path, ProgramTree}
 use Rattle.xs_flat_laws.specs.History.{with_history}
@@ -15,11 +15,7 @@ use Rattle.xs_extend.specs.WovenFaults.{place_of, fault_tree}
 use Rattle.xs_extend.specs.NumberedFaults.{parts_of, HasPath, AreNumbered}
 use Rattle.xs_loading.specs.Models.{IsModelOf}
 use Rattle.xs_loading.specs.Wholes.{IsModeOf, IsWhole}
-
-mapped_at : {A B : Type 0} (f : A → B) (xs : List A) (i : ℕ) (x : A) → slice_get xs i ≡ Some x → slice_get (map f xs) i ≡ Some (f x)
-mapped_at f [] i x e = cc
-mapped_at f (y ∷ xs) zero x e = cc
-mapped_at f (y ∷ xs) (suc i) x e = mapped_at f xs i x e
+use Rattle.xs_type_laws.proofs.WrittenLaws.{get_map as mapped_at}
 
 -- the path of a name at an instance, turned
 pub turned : (path : Option Path) (x : Text) → reverse (parts_of path ++ x ∷ []) ≡ x ∷ place_of path

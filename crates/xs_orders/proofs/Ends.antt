@@ -12,12 +12,12 @@ use Rattle.xs_encode_laws.specs.FlatTraces.{last_of}
 use Rattle.xs_encode_laws.proofs.HistoryFacts.{last_told}
 use Rattle.xs_cause_laws.specs.Columns.{with_values, with_value}
 use Rattle.xs_cause_laws.proofs.Columns.{with_values_length}
-use Rattle.xs_cause_laws.proofs.Longer.{domains_length}
 use Rattle.xs_orders.specs.Relations.{BeginsAt, HasRelation}
 use Rattle.xs_orders.specs.Told.{begins_before, order_value, ordered_told, told_relation}
 use Rattle.xs_orders.specs.Laws.{EndsTellOrders, OwnValuesAreKept}
 use Rattle.xs_orders.proofs.Begins.{Stood, begins_somewhere, order_of}
 use Rattle.xs_orders.proofs.Speaking.{last_value, take_all, told_count}
+use Rattle.xs_flat_laws.proofs.HistoryTraces.{domains_length}
 
 -- ---- the end
 

@@ -1,5 +1,5 @@
 -- What a model keeps while causes are added to it: its clauses, the modes of its faults, a top event, and the bits of its inputs.
-use Rattle.std.proofs.Common.{◌≡◌, ℕ, zero, suc, ◌+◌, ◌-◌, ◌^◌, ◌<◌, ◌≤◌, Bool, true, false, pos, cond, List, [], ◌∷◌, ◌++◌, length, map, Some, get_or, refl, sym, ◌∙◌, ap, subst, arith}
+use Rattle.std.proofs.Common.{◌≡◌, ℕ, zero, suc, ◌+◌, ◌-◌, ◌^◌, ◌<◌, ◌≤◌, Bool, true, false, pos, cond, List, [], ◌∷◌, ◌++◌, length, map, Some, refl, sym, ◌∙◌, ap, subst, arith}
 use Rattle.std.specs.Prelude.{slice_get, sum_by}
 use Rattle.std.proofs.lemmas.List.{length-append, append-nil}
 use Rattle.std.proofs.lemmas.List.Sums.{sum_by-append, sum_by-cons}
@@ -28,6 +28,7 @@ use Rattle.xs_cause_laws.specs.Causes.{CommonCause, IsCauseOf}
 use Rattle.xs_cause_laws.specs.Staged.{age_name, event_name, quiet_name, now_name, hit_name, own_name, none_name, self_name, added_variable, mode_of, stands_of, in_window, age_at_first, age_at_step, with_age, event_at_each, with_event, hit_at_first, landed_at_each, hit_at_step, with_hit, with_hits, with_cause, with_each_cause, age_numbers, windows_on, joined_after, joined, own_at_first, own_at_step, with_own, with_owns, with_causes, own_events, cause_events, events_of}
 use Rattle.xs_staging.proofs.Counts.{cause_count, cause_symbols, own_count, own_symbols, each_get}
 use Rattle.xs_reach_laws.proofs.Widened.{IsStateVariable, IsStateName, HasClauses, IsOfState, variable_kept, more_symbols, mode_kept, fit_wide, clauses_wide}
+use Rattle.xs_flat_laws.proofs.HistoryTraces.{get_middle as get_first}
 
 -- ---- the bits of inputs
 
@@ -88,10 +89,6 @@ same_inputs n a types quiet =
     omega (arith, own, none, all)
 
 -- ---- places
-
-get_first : {A : Type 0} (xs ys : List A) (x : A) → slice_get (xs ++ x ∷ ys) (length xs) ≡ Some x
-get_first [] ys x = refl
-get_first (z ∷ xs) ys x = get_first xs ys x
 
 get_second : {A : Type 0} (xs ys : List A) (x y : A) → slice_get (xs ++ x ∷ y ∷ ys) (suc (length xs)) ≡ Some y
 get_second [] ys x y = refl

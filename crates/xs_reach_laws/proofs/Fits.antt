@@ -1,25 +1,25 @@
 -- Conditions over a model that fit it, of which larger ones are made.
-use Rattle.std.proofs.Common.{◌≡◌, ℕ, zero, suc, ◌+◌, ◌*◌, ◌<◌, ◌≤◌, Bool, true, false, not, ◌||◌, List, [], ◌∷◌, ◌++◌, Option, Some, None, length, refl, sym, ◌∙◌, ap, if◌then◌else◌, arith}
-use Rattle.std.specs.Prelude.{slice_get}
+use Rattle.std.proofs.Common.{◌≡◌, ℕ, zero, suc, ◌+◌, ◌*◌, ◌<◌, ◌≤◌, Bool, true, false, not, ◌||◌, List, [], ◌∷◌, ◌++◌, Option, Some, None, length, refl, ◌∙◌, ap, if◌then◌else◌, arith}
 use Rattle.std.specs.List.{list_any}
 use Rattle.xs_tree.specs.declared.expr.Op.TheVariants as op
-use Rattle.xs_tree.specs.Tree.{Tree, leaf, not_of, binary}
+use Rattle.xs_tree.specs.Tree.{Tree, not_of, binary}
 use Rattle.xs_tree.specs.Flat.{FlatLeaf, flat_variable, FlatVariable, FlatFormula, FlatModel}
 use Rattle.xs_flat_laws.specs.Resolved.{leaves_in}
 use Rattle.xs_type_laws.specs.Costs.{cost_of}
-use Rattle.xs_type_laws.specs.Judged.{Class, truth_class, Kind, KindRule, not_boolean, same_class, rule_if, unless_class, Judged, judged_not, judged_connective}
+use Rattle.xs_type_laws.specs.Judged.{Class, truth_class, KindRule, not_boolean, same_class, rule_if, Judged, judged_not, judged_connective}
 use Rattle.xs_type_laws.specs.Declared.{judged_declared}
 use Rattle.xs_type_laws.specs.Laws.{IsClosed}
-use Rattle.xs_type_laws.specs.Models.{kind_at, judged_variables, kind_of_leaf, judged_in, broken_condition}
+use Rattle.xs_type_laws.specs.Models.{kind_at, kind_of_leaf, judged_in, broken_condition}
 use Rattle.xs_type_laws.proofs.Parts.{none_first, none_second}
 use Rattle.xs_encode_laws.specs.Inputs.{is_input_variable}
 use Rattle.xs_encode_laws.specs.Encodable.{is_input_name, IsStateBoolean, IsFitTop}
-use Rattle.xs_encode_laws.proofs.TypeMeans.{got_below}
 use Rattle.xs_orders.specs.declared.Relation.{Relation}
 use Rattle.xs_orders.specs.declared.Relation.TheVariants.{Before, After, Together}
 use Rattle.xs_orders.specs.Stage.{now_of, with_set, with_claim}
 use Rattle.xs_right_laws.specs.Sets.{has_number}
 use Rattle.xs_reach_laws.proofs.Grown.{grown, own_grown, quiet_grown, judged_grown}
+use Rattle.std.proofs.lemmas.Option.{slice_get_within as got_below}
+use Rattle.xs_encode_laws.proofs.HistoryTyped.{got_judged}
 
 -- ---- kinds
 
@@ -39,11 +39,6 @@ both_right a b h k =
     let other_rule : class_rule b.kind.class ≡ [] = none_first (class_rule b.kind.class) b.broken k in
     let other_rest : b.broken ≡ [] = none_second (class_rule b.kind.class) b.broken k in
     (λ j. (rule j ++ other_rule j) ++ (rest j ++ other_rest j))
-
-got_judged : (xs : List FlatVariable) (i : ℕ) (x : FlatVariable) → slice_get xs i ≡ Some x → slice_get (judged_variables xs) i ≡ Some (judged_declared x.declared)
-got_judged [] i x e = cc
-got_judged (y ∷ xs) zero x e = let same : y ≡ x = cc in ap (λ (z : FlatVariable). Some (judged_declared z.declared)) same
-got_judged (y ∷ xs) (suc i) x e = got_judged xs i x e
 
 -- ---- inputs
 

@@ -1,15 +1,13 @@
 -- Causes that break no rule add new names, and strike faults of the extension.
-use Rattle.std.proofs.Common.{◌≡◌, ◌≢◌, ◌⊎◌, inl, inr, ℕ, zero, suc, ◌+◌, ◌-◌, ◌^◌, ◌<◌, ◌≤◌, Bool, true, false, ◌||◌, ◌&&◌, not, eqb, eqb-true, List, [], ◌∷◌, ◌++◌, length, Option, Some, None, codes, refl, sym, ◌∙◌, ap, subst, arith}
+use Rattle.std.proofs.Common.{◌≡◌, ◌≢◌, ◌⊎◌, ℕ, zero, suc, ◌+◌, ◌-◌, ◌^◌, ◌<◌, ◌≤◌, Bool, true, false, ◌||◌, ◌&&◌, not, eqb, eqb-true, List, [], ◌∷◌, ◌++◌, length, Some, None, refl, sym, ◌∙◌, ap, subst, arith}
 use Rattle.std.specs.Prelude.{slice_get, flat_map, map, nat_lt, if◌then◌else◌}
-use Rattle.std.specs.Fmt.{decimal}
 use Rattle.std.specs.List.{list_any, IsDistinct, AllByRecursion}
 use Rattle.std.proofs.lemmas.Bool.Decides.{nat_tests}
-use Rattle.std.proofs.lemmas.Fmt.{decimal_injective}
 use Rattle.std.proofs.lemmas.List.{append-nil, append_assoc}
 use Rattle.std.proofs.lemmas.Map.Steps.{length-le_from_distinct_below}
 use Rattle.xs_tree.specs.declared.program.Member.{Member}
 use Rattle.xs_tree.specs.declared.program.Member.TheVariants as member
-use Rattle.xs_tree.specs.ProgramTree.{Text, Path, DeclaredTree, boolean, range, members, instance, DeclTree, DefineTree, AssignmentTree, SectionTree, var, ivar, frozen as frozen_section, define, constants, assign, init, invar, trans, ModuleTree, ProgramTree}
+use Rattle.xs_tree.specs.ProgramTree.{Text, Path, DeclaredTree, boolean, range, members, instance, DeclTree, SectionTree, var, ivar, frozen as frozen_section, define, constants, assign, init, invar, trans, ModuleTree, ProgramTree}
 use Rattle.xs_tree.specs.Scope.{Role, state, input, frozen_role, is_symbol_of_type, is_symbol_of_members}
 use Rattle.xs_tree.specs.Texts.{same_text, is_among}
 use Rattle.xs_tree.specs.Trace.{Each, IsVariable}
@@ -29,25 +27,19 @@ use Rattle.xs_weave_rules.specs.Rules.{is_name_of_decls, is_name_of_section, is_
 use Rattle.xs_cause_laws.specs.Causes.{CommonCause, IsCauseOf}
 use Rattle.xs_cause_laws.specs.CausesText.{WrittenCause}
 use Rattle.xs_cause_laws.specs.Staged.{age_name, event_name, quiet_name, now_name, hit_name, own_name, none_name, self_name}
-use Rattle.xs_cause_laws.specs.CauseRules.{fault_path, same_path, is_path_among, has_double, hit_names, names_of_cause, own_names, is_any_taken, CauseRule, no_such_fault, double_cause, double_strike, empty_window, too_wide, too_many, name_taken, first_of, broken_at, AllKept, are_owns_taken, AreLawful, IsStrikeOf, IsReadAs, AreReadAs}
+use Rattle.xs_cause_laws.specs.CauseRules.{fault_path, same_path, is_path_among, has_double, hit_names, names_of_cause, own_names, is_any_taken, no_such_fault, double_cause, double_strike, empty_window, too_wide, too_many, name_taken, first_of, broken_at, AllKept, are_owns_taken, AreLawful, IsStrikeOf, IsReadAs, AreReadAs}
 use Rattle.xs_reach_laws.specs.Names.{AreDistinct, IsNewName, hit_names_of, names_added_by, names_of_each, own_names_from, names_added, AreNewNames}
 use Rattle.xs_lexer.specs.Tokens.{IsWord}
 use Rattle.xs_tree.specs.Printed.{IsName}
 use Rattle.xs_reach_laws.proofs.Naming.{each_of}
 use Rattle.xs_reach_laws.proofs.Words.{cause_words, cause_distinct, own_words, owns_distinct}
+use Rattle.std.proofs.lemmas.Bool.{or_parts as neither}
+use Rattle.std.proofs.lemmas.Option.{slice_get_within as got_within}
+use Rattle.xs_type_laws.proofs.ClosedLaws.{same_length as both_long}
+use Rattle.xs_weave.proofs.WovenExamples.{texts_differ as differs}
+use Rattle.xs_encode_laws.proofs.InputsFree.{each_none as none_of}
 
 -- ---- tests
-
-neither : (a b : Bool) → (a || b) ≡ false → (a ≡ false) × (b ≡ false)
-neither true b h = cc
-neither false b h = (refl, h)
-
-none_of : {A : Type 0} (f : A → Bool) (xs : List A) → list_any f xs ≡ false → Each (λ x. f x ≡ false) xs
-none_of f [] h = tt
-none_of f (x ∷ xs) h = let parts = neither (f x) (list_any f xs) h in (parts.0, none_of f xs parts.1)
-
-differs : (x y : Text) → same_text x y ≡ false → x ≢ y
-differs x y h e = let same : same_text x x ≡ true = same_text_refl x in cc (h, same, ap (same_text x) e)
 
 others : (xs : List Text) (x : Text) → is_among xs x ≡ false → Each (λ y. y ≢ x) xs
 others [] x h = tt
@@ -226,22 +218,11 @@ names_end (b ∷ bs) c = ap (λ xs. names_of_cause b ++ xs) (names_end bs c) ∙
 
 -- ---- causes that were read
 
-both_long : {A B : Type 0} (R : A → B → Type 0) (xs : List A) (ys : List B) → EachBoth R xs ys → length xs ≡ length ys
-both_long R [] [] h = refl
-both_long R [] (b ∷ ys) h = absurd h
-both_long R (a ∷ xs) [] h = absurd h
-both_long R (a ∷ xs) (b ∷ ys) h = ap suc (both_long R xs ys h.1)
-
 same_hits : (x y : Text) (k : ℕ) (ps : List Path) (is : List ℕ) → length ps ≡ length is → x ≡ y → hit_names_of x k is ≡ hit_names y k ps
 same_hits x y k [] [] e s = refl
 same_hits x y k [] (i ∷ is) e s = cc
 same_hits x y k (p ∷ ps) [] e s = cc
 same_hits x y k (p ∷ ps) (i ∷ is) e s = let rest = same_hits x y (suc k) ps is (let g : length ps ≡ length is = cc in g) s in (λ j. hit_name (s j) k ∷ rest j)
-
-got_within : {A : Type 0} (xs : List A) (i : ℕ) (x : A) → slice_get xs i ≡ Some x → i < length xs
-got_within [] i x e = cc
-got_within (y ∷ xs) zero x e = omega arith
-got_within (y ∷ xs) (suc i) x e = let more = got_within xs i x e in omega (arith, more)
 
 module _ (faults : List Fault) (prog : ProgramTree) where
   same_names : (w : WrittenCause) (c : CommonCause) → IsReadAs faults prog w c → names_added_by c ≡ names_of_cause w

@@ -1,25 +1,19 @@
 -- A model with a boolean that tells which of two came first keeps its clauses.
-use Rattle.std.proofs.Common.{◌≡◌, ℕ, suc, ◌+◌, ◌<◌, ◌≤◌, false, ◌||◌, List, [], ◌∷◌, ◌++◌, Some, length, refl, sym, ◌∙◌, ap, subst, arith}
-use Rattle.std.specs.Prelude.{slice_get, sum_by}
+use Rattle.std.proofs.Common.{◌≡◌, ℕ, ◌+◌, ◌<◌, ◌≤◌, false, ◌||◌, [], ◌∷◌, ◌++◌, length, refl, sym, ◌∙◌, ap, subst, arith}
+use Rattle.std.specs.Prelude.{sum_by}
 use Rattle.std.proofs.lemmas.List.{append-nil}
 use Rattle.std.proofs.lemmas.List.Sums.{sum_by-append, sum_by-cons}
 use Rattle.xs_tree.specs.ProgramTree.{Text}
-use Rattle.xs_tree.specs.Flat.{flat_variable, FlatVariable, FlatFormula, FlatModel}
-use Rattle.xs_flat_laws.proofs.Lists.{get_left}
-use Rattle.xs_type_laws.specs.Laws.{ReadsOwn, IsClosed}
-use Rattle.xs_encode_laws.specs.Inputs.{reads_input}
+use Rattle.xs_tree.specs.Flat.{flat_variable, FlatFormula, FlatModel}
+use Rattle.xs_flat_laws.proofs.Lists.{get_left, get_end as got_end}
+use Rattle.xs_type_laws.specs.Laws.{IsClosed}
 use Rattle.xs_encode_laws.specs.Layout.{input_width, input_bits}
-use Rattle.xs_encode_laws.specs.Encodable.{is_input_name, reads_next_input, IsStateBoolean, IsFitTop}
+use Rattle.xs_encode_laws.specs.Encodable.{is_input_name, IsStateBoolean, IsFitTop}
 use Rattle.xs_tree.specs.Tree.{Tree}
 use Rattle.xs_tree.specs.Flat.{FlatLeaf}
 use Rattle.xs_orders.specs.Stage.{order_variable, order_at_first, order_at_step, with_order}
 use Rattle.xs_reach_laws.proofs.Grown.{HasClauses, grown, AreOwnFormulas, clauses_grown}
 use Rattle.xs_reach_laws.proofs.Fits.{bit_quiet, bit_within, fit_grown}
-
--- the list's last
-got_end : {A : Type 0} (xs : List A) (x : A) → slice_get (xs ++ x ∷ []) (length xs) ≡ Some x
-got_end [] x = refl
-got_end (y ∷ xs) x = got_end xs x
 
 module _ (name : Text) (x y : ℕ) (m : FlatModel) where
   abbrev first : FlatFormula

@@ -23,13 +23,13 @@ use Rattle.xs_encode_laws.specs.FlatTraces.{ReachesTop, HasFailedNumber}
 use Rattle.xs_encode_laws.proofs.SetLaws.{has_contains}
 use Rattle.xs_certificate_laws.specs.ExtendedTraces.{IsExtensionModel, IsModeOfFault, IsFlatCut, HasFailedFault}
 use Rattle.xs_certificate_laws.proofs.Modes.{stands_iff}
-use Rattle.xs_certificate_laws.proofs.Carried.{both_left, both_right, fault_of_slice, cut_long, correspond, uncut}
+use Rattle.xs_certificate_laws.proofs.Carried.{fault_of_slice, cut_long, correspond, uncut}
 use Rattle.xs_cause_laws.specs.Added.{IsKnownName}
 use Rattle.xs_cause_laws.specs.Columns.{with_value}
 use Rattle.xs_cause_laws.proofs.Columns.{with_values_length}
 use Rattle.xs_cause_laws.specs.Laws.{AreStaged}
 use Rattle.xs_cause_laws.proofs.Staged.{extensions_staged}
-use Rattle.xs_cause_laws.proofs.CausesExtendedCarried.{get_mapped, map_get}
+use Rattle.xs_cause_laws.proofs.CausesExtendedCarried.{get_mapped}
 use Rattle.xs_orders.specs.declared.Relation.{Relation}
 use Rattle.xs_orders.specs.declared.Relation.TheVariants.{Before, After, Together}
 use Rattle.xs_orders.specs.Relations.{BeginsAt, Stands, HasRelation}
@@ -39,9 +39,9 @@ use Rattle.xs_orders.proofs.Ordered.{orders_told}
 use Rattle.xs_orders.proofs.Begins.{Stood, begins_somewhere, begins_once}
 use Rattle.xs_orders.proofs.Speaking.{against_exactly, told_count}
 use Rattle.xs_reach_laws.specs.OrdersExtendedLaws.{FaultStands, IsAsked, NoneAgainst, IsSuch}
-
-same_some : {A : Type 0} (a b : A) → Some a ≡ Some b → a ≡ b
-same_some a b e = cc
+use Rattle.std.proofs.lemmas.Option.{same_Some as same_some}
+use Rattle.xs_type_laws.proofs.WrittenLaws.{get_map as map_get}
+use Rattle.xs_flat_laws.proofs.Variables.{both_at as both_left, both_at_second as both_right}
 
 -- two numbers stand in some relation, whichever is asked
 related : (r : Relation) (j k : ℕ) → Stands (List Value) r j k ⊎ (Stands (List Value) r j k → ⊥)

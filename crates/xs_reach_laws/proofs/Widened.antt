@@ -1,7 +1,6 @@
 -- A model with an addition that reads the state alone: what the model read and was, it reads and is.
-use Rattle.std.proofs.Common.{◌≡◌, ℕ, zero, suc, ◌+◌, ◌<◌, ◌≤◌, Bool, false, ◌||◌, List, [], ◌∷◌, ◌++◌, length, Some, refl, sym, ◌∙◌, ap, arith}
+use Rattle.std.proofs.Common.{◌≡◌, ℕ, suc, ◌+◌, ◌<◌, ◌≤◌, false, ◌||◌, List, [], ◌∷◌, ◌++◌, length, Some, refl, ◌∙◌, ap, arith}
 use Rattle.std.specs.Prelude.{slice_get}
-use Rattle.std.specs.List.{list_any}
 use Rattle.std.proofs.lemmas.List.{length-append}
 use Rattle.xs_tree.specs.declared.program.Member.{Member}
 use Rattle.xs_tree.specs.declared.program.Member.TheVariants as member
@@ -15,16 +14,17 @@ use Rattle.xs_flat_laws.specs.Resolved.{leaves_in}
 use Rattle.xs_flat_laws.specs.Rules.{leaves_under, trees_leaves_under, branches_leaves_under}
 use Rattle.xs_flat_laws.proofs.Lists.{get_left, each_more}
 use Rattle.xs_cause_laws.specs.Added.{Addition, with_addition}
-use Rattle.xs_type_laws.specs.Judged.{Judged, judge}
-use Rattle.xs_type_laws.specs.Models.{kind_at, leaf_kind, judged_variables, judged_after, judged_definitions, kind_of_leaf, judged_in, broken_condition}
+use Rattle.xs_type_laws.specs.Models.{leaf_kind, judged_variables, judged_definitions, kind_of_leaf, judged_in, broken_condition}
 use Rattle.xs_type_laws.specs.Laws.{IsKnown, AreInOrder, ReadsOwn, ReadOwn, IsClosed}
 use Rattle.xs_type_laws.proofs.ModelLaws.{judge_agrees, all_leaves_more}
 use Rattle.xs_encode_laws.specs.Inputs.{is_input, is_input_variable, names_input, reading_after, reads_input}
 use Rattle.xs_encode_laws.specs.Encodable.{IsListedMember, IsListedType, is_input_name, reads_next_input, IsFitTop}
 use Rattle.xs_encode_laws.specs.HistoryBits.{IsStateMode}
-use Rattle.xs_encode_laws.proofs.TypeMeans.{got_below}
 use Rattle.xs_encode_laws.proofs.HistoryEncodable.{same_name, same_reading}
 use Rattle.xs_encode_laws.proofs.NameMeans.{each_joined, each_leaf, same_any}
+use Rattle.std.proofs.lemmas.Option.{slice_get_within as got_below}
+use Rattle.xs_encode_laws.proofs.HistoryTyped.{same_kind as same_kind_in, same_definitions}
+use Rattle.xs_encode_laws.proofs.FlatInputs.{none_any}
 
 -- the number is that of a variable of the state
 pub record IsStateVariable (n : FlatModel) (i : ℕ) : Type 0 where
@@ -68,13 +68,6 @@ quiet_of : (n : FlatModel) (l : FlatLeaf) → IsStateName n l → is_input_name 
 quiet_of n (flat_variable i) h = ap is_input_variable h.is_variable ∙ h.is_state
 quiet_of n (flat_symbol i) h = refl
 quiet_of n (flat_definition i) h = absurd h
-
-none_any : {A : Type 0} (f : A → Bool) (xs : List A) → Each (λ x. f x ≡ false) xs → list_any f xs ≡ false
-none_any f [] h = refl
-none_any f (x ∷ xs) h = both (f x) (list_any f xs) h.0 (none_any f xs h.1)
-  where
-    both : (a b : Bool) → a ≡ false → b ≡ false → (a || b) ≡ false
-    both a b e g = (λ j. e j || g j)
 
 -- what holds of each leaf holds of those under `next`
 mutual
@@ -129,26 +122,6 @@ order_wider : (nv nw ns nt k : ℕ) → nv ≤ nw → ns ≤ nt → (ds : List F
 order_wider nv nw ns nt k h g [] o = tt
 order_wider nv nw ns nt k h g (d ∷ ds) o =
     (all_leaves_more (IsKnown nv ns k) (IsKnown nw nt k) (known_wider nv nw ns nt k h g) d.value o.0, order_wider nv nw ns nt (suc k) h g ds o.1)
-
--- the kind of a variable, where there are more after it
-got_same : (xs ys : List FlatVariable) (i : ℕ) → i < length xs → slice_get (judged_variables (xs ++ ys)) i ≡ slice_get (judged_variables xs) i
-got_same [] ys i h = absurd (omega (arith, h))
-got_same (x ∷ xs) ys zero h = refl
-got_same (x ∷ xs) ys (suc i) h = got_same xs ys i (omega (arith, h))
-
-same_kind_in : (xs ys : List FlatVariable) (js : List Judged) (ns k : ℕ) (l : FlatLeaf) → IsKnown (length xs) ns k l → leaf_kind (judged_variables (xs ++ ys)) js l ≡ leaf_kind (judged_variables xs) js l
-same_kind_in xs ys js ns k (flat_variable i) known = ap kind_at (got_same xs ys i known)
-same_kind_in xs ys js ns k (flat_symbol i) known = refl
-same_kind_in xs ys js ns k (flat_definition i) known = refl
-
-same_definitions : (xs ys : List FlatVariable) (js : List Judged) (ns k : ℕ) (ds : List FlatFormula) → AreInOrder (length xs) ns k ds
-    → judged_after (judged_variables (xs ++ ys)) js ds ≡ judged_after (judged_variables xs) js ds
-same_definitions xs ys js ns k [] o = refl
-same_definitions xs ys js ns k (d ∷ ds) o =
-    let here : judge (leaf_kind (judged_variables (xs ++ ys)) js) false d.value ≡ judge (leaf_kind (judged_variables xs) js) false d.value =
-    judge_agrees (leaf_kind (judged_variables (xs ++ ys)) js) (leaf_kind (judged_variables xs) js) false d.value
-    (all_leaves_more (IsKnown (length xs) ns k) (λ l. leaf_kind (judged_variables (xs ++ ys)) js l ≡ leaf_kind (judged_variables xs) js l) (same_kind_in xs ys js ns k) d.value o.0) in
-    ap (λ j. judged_after (judged_variables (xs ++ ys)) (js ++ j ∷ []) ds) here ∙ same_definitions xs ys (js ++ judge (leaf_kind (judged_variables xs) js) false d.value ∷ []) ns (suc k) ds o.1
 
 listed_member : (symbols more : List Text) (x : Member) → IsListedMember symbols x → IsListedMember (symbols ++ more) x
 listed_member symbols more (member.Number n) h = tt

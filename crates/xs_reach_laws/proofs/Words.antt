@@ -1,5 +1,5 @@
 -- The names that causes add are words that are not reserved, and those of one cause, or of the events of faults, differ.
-use Rattle.std.proofs.Common.{◌≡◌, ◌≢◌, ℕ, zero, suc, ◌+◌, ◌^◌, ◌<◌, ◌≤◌, Bool, true, false, List, [], ◌∷◌, ◌++◌, length, get_or, codes, refl, sym, ◌∙◌, ap, subst, arith, append_assoc}
+use Rattle.std.proofs.Common.{◌≡◌, ◌≢◌, ℕ, suc, ◌+◌, ◌^◌, ◌<◌, ◌≤◌, Bool, true, false, List, [], ◌∷◌, ◌++◌, length, get_or, codes, refl, sym, ◌∙◌, ap, arith}
 use Rattle.std.specs.Prelude.{not, nat_eq, ◌&&◌, ◌||◌, ◌==◌}
 use Rattle.std.specs.Char.{is_ascii_digit}
 use Rattle.std.specs.Fmt.{decimal}
@@ -17,8 +17,10 @@ use Rattle.xs_tree.specs.Trace.{Each}
 use Rattle.xs_tree.proofs.TokenTexts.{decimal_digits}
 use Rattle.xs_flat_laws.specs.History.{Mode}
 use Rattle.xs_cause_laws.specs.Causes.{CommonCause}
-use Rattle.xs_cause_laws.specs.Staged.{age_name, event_name, quiet_name, now_name, hit_name, own_name, none_name, self_name}
+use Rattle.xs_cause_laws.specs.Staged.{hit_name, own_name, none_name, self_name}
 use Rattle.xs_reach_laws.specs.Names.{AreDistinct, hit_names_of, names_added_by, own_names_from}
+use Rattle.std.proofs.lemmas.Bool.{and_parts as both_parts, and_right as no_more_texts, or_from as neither}
+use Rattle.xs_lexer.proofs.SignLemmas.{not_true}
 
 -- ---- words
 
@@ -36,19 +38,6 @@ word_on (b ∷ bs) rest h more = (h.0, runs_on bs rest h.1 more)
 abbrev no_hash : Text → Bool
 no_hash bs = list_all (λ b. not (nat_eq b 35)) bs
 
-both_parts : (a b : Bool) → (a && b) ≡ true → (a ≡ true) × (b ≡ true)
-both_parts true true h = (refl, refl)
-both_parts true false h = cc
-both_parts false b h = cc
-
-no_more_texts : (a b : Bool) → b ≡ false → (a && b) ≡ false
-no_more_texts true b h = h
-no_more_texts false b h = refl
-
-not_true : (a : Bool) → not a ≡ true → a ≡ false
-not_true true h = cc
-not_true false h = refl
-
 hash_differs : (w x rest : Text) → no_hash w ≡ true → same_text w (x ++ 35 ∷ rest) ≡ false
 hash_differs [] [] rest h = refl
 hash_differs [] (c ∷ cs) rest h = refl
@@ -57,10 +46,6 @@ hash_differs (d ∷ ds) (c ∷ cs) rest h = no_more_texts (nat_eq d c) _ (hash_d
 
 abbrev no_hashes : List Text → Bool
 no_hashes ws = list_all no_hash ws
-
-neither : (a b : Bool) → a ≡ false → b ≡ false → (a || b) ≡ false
-neither true b h g = cc
-neither false b h g = g
 
 not_among : (ws : List Text) (x rest : Text) → no_hashes ws ≡ true → is_among ws (x ++ 35 ∷ rest) ≡ false
 not_among [] x rest h = refl

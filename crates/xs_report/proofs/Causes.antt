@@ -5,7 +5,7 @@ use Rattle.xs_tree.specs.Values.{Value}
 use Rattle.xs_tree.specs.Trace.{in_domain}
 use Rattle.xs_tree.specs.Flat.{FlatVariable, FlatModel}
 use Rattle.xs_flat_laws.proofs.Lists.{get_within}
-use Rattle.std.proofs.lemmas.Option.{slice_get_within}
+use Rattle.std.proofs.lemmas.Option.{slice_get_within, same_Some as some_same}
 use Rattle.xs_text_laws.specs.Lines.{Line}
 use Rattle.xs_text_laws.specs.TraceText.{value_text, moment_line, equation}
 use Rattle.xs_text_laws.specs.Given.{IsPrintable}
@@ -20,15 +20,7 @@ use Rattle.xs_report.specs.Faults.{IsCauseOf}
 use Rattle.xs_report.specs.Lookups.{IsNamedAt, HasNoValue}
 use Rattle.xs_report.specs.Reading.{IsGiven, IsAfter, IsTaken, IsRefusal, IsRefusedLine}
 use Rattle.xs_report.specs.Told.{told_value}
-
-some_same : {A : Type 0} (x y : A) → Some x ≡ Some y → x ≡ y
-some_same x y e = cc
-
-number_least : (f : LineFault) → 1 ≤ number_of f
-number_least bad_line = omega arith
-number_least unknown_name = omega arith
-number_least outside = omega arith
-number_least twice = omega arith
+use Rattle.xs_text_laws.proofs.LineJudged.{number_least}
 
 -- a bad line has the smallest number
 pub bad_is_least : (m : FlatModel) (lines : List Line) (l : Line) → l ≢ [] → l ≢ moment_line (moments_after 0 lines) → ((name value : Line) → IsEquation name value l → moments_after 0 lines ≡ 0) → IsLeast m lines l bad_line

@@ -1,13 +1,11 @@
 -- Variables that are found by their printed names, and values of their types by their texts.
-use lib.Signed.{mag}
-use Rattle.std.proofs.Common.{◌≡◌, ◌≢◌, ◌↔◌, ℕ, zero, suc, ◌<◌, ◌^◌, Bool, true, false, List, [], ◌∷◌, length, Option, Some, None, refl, sym, ◌∙◌, ap, subst, arith, ℤ, pos, negsuc, option_map}
+use Rattle.std.proofs.Common.{◌≡◌, ◌≢◌, ◌↔◌, ℕ, zero, suc, ◌<◌, ◌^◌, Bool, true, false, List, [], ◌∷◌, length, Option, Some, None, refl, sym, ◌∙◌, ap, subst, arith}
 use Rattle.std.specs.Prelude.{slice_get, IsTrue, map}
-use Rattle.std.proofs.lemmas.Option.{slice_get-map}
+use Rattle.std.proofs.lemmas.Option.{same_Some as some_same, none-some as never}
 use Rattle.xs_tree.specs.ProgramTree.{Text, DeclaredTree, boolean, range, members, instance, declared_tree}
 use Rattle.xs_tree.specs.Texts.{same_text}
 use Rattle.xs_tree.specs.Values.{Value, truth, number, symbol}
 use Rattle.xs_tree.specs.Trace.{in_domain}
-use Rattle.xs_tree.specs.Printed.{IsEnd}
 use Rattle.xs_tree.specs.WritableProgram.{IsWritableType}
 use Rattle.xs_tree.proofs.ValueLaws.{same_text_equal, same_text_refl}
 use Rattle.xs_tree.specs.Flat.{FlatVariable}
@@ -18,7 +16,7 @@ use Rattle.xs_tree.specs.ModelTree.{model_tree, variable_tree}
 use Rattle.xs_text_laws.specs.TraceText.{value_text, variable_text}
 use Rattle.xs_text_laws.specs.Given.{IsPrintable}
 use Rattle.xs_text_laws.specs.Wrong.{IsNameIn}
-use Rattle.xs_text_laws.proofs.Plain.{domain_plain}
+use Rattle.xs_text_laws.proofs.Plain.{domain_plain, small_end as end_small}
 use Rattle.xs_value.specs.declared.domain.Domain.{Domain}
 use Rattle.xs_value.specs.declared.value.Value.{Value as Numbered}
 use Rattle.xs_value.specs.declared.value.Value.TheVariants.{Bool as ABool, Num, Sym}
@@ -31,12 +29,7 @@ use Rattle.xs_text_laws.specs.Given.{HasItsSymbols}
 use Rattle.xs_report.specs.ValueReading.{HasText, IsShort, IsReadIn}
 use Rattle.xs_report.specs.Lookups.{IsNamedAt, IsFoundAt}
 use Rattle.xs_report.proofs.ValueLaws.{StandsAt, number_stands, none_stands, symbol_text}
-
-some_same : {A : Type 0} (x y : A) → Some x ≡ Some y → x ≡ y
-some_same x y e = cc
-
-never : {A : Type 0} (x : A) → None ≡ Some x → ⊥
-never x e = cc
+use Rattle.xs_type_laws.proofs.WrittenLaws.{get_map as image_at}
 
 -- an item of a list of images is the image of the item
 pub record IsImage {A B : Type 0} (f : A → B) (xs : List A) (i : ℕ) (y : B) : Type 0 where
@@ -48,9 +41,6 @@ pub image : {A B : Type 0} (f : A → B) (xs : List A) (i : ℕ) (y : B) → sli
 image f [] i y e = absurd (never y e)
 image f (x ∷ xs) zero y e = record { item = x; is = refl; same = some_same (f x) y e }
 image f (x ∷ xs) (suc i) y e = let more : IsImage f xs i y = image f xs i y e in record { item = more.item; is = more.is; same = more.same }
-
-pub image_at : {A B : Type 0} (f : A → B) (xs : List A) (i : ℕ) (x : A) → slice_get xs i ≡ Some x → slice_get (map f xs) i ≡ Some (f x)
-image_at f xs i x e = slice_get-map f xs i ∙ ap (option_map f) e
 
 -- Places.
 pub place_found : (m : FlatModel) (name : Text) (i : ℕ) → number_from 0 (map printed_name m.variables) name ≡ Some i → IsNamedAt (model_tree m) name i
@@ -86,10 +76,6 @@ type_there boolean h = tt
 type_there (range lo hi) h = tt
 type_there (members ms) h = tt
 type_there (instance m actuals) h = h
-
-end_small : (n : ℤ) → IsEnd n → mag n < 2 ^ 63
-end_small (pos n) h = omega (arith, h)
-end_small (negsuc n) h = omega (arith, h)
 
 -- a listed symbol stands at its number
 number_there : (symbols : List Text) (k : ℕ) (y : Text) → slice_get symbols k ≡ Some y → slice_get symbols (symbol_number symbols y) ≡ Some y

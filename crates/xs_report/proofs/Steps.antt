@@ -1,9 +1,9 @@
 -- What stands after one more line.
-use Rattle.std.proofs.Common.{◌≡◌, ◌≢◌, ◌⊎◌, inl, inr, ℕ, zero, suc, ◌+◌, ◌-◌, ◌<◌, ◌≤◌, Bool, true, false, ◌&&◌, nat_eq, nat_lt, List, [], ◌∷◌, ◌++◌, length, Some, None, refl, sym, ◌∙◌, ap, subst, arith, append_assoc, length-append, eqb-true, eq-eqb, ltb-true}
+use Rattle.std.proofs.Common.{◌≡◌, ◌≢◌, ◌⊎◌, inl, inr, ℕ, zero, suc, ◌+◌, ◌-◌, ◌<◌, ◌≤◌, Bool, true, false, ◌&&◌, nat_eq, nat_lt, List, [], ◌∷◌, ◌++◌, length, Some, refl, sym, ◌∙◌, ap, subst, arith, append_assoc, length-append, eqb-true, eq-eqb, ltb-true}
 use Rattle.std.specs.Prelude.{slice_get, slice_set, IsTrue, if◌then◌else◌}
 use Rattle.std.specs.List.{list_all}
 use Rattle.std.proofs.lemmas.Bool.Decides.{nat_tests}
-use Rattle.std.proofs.lemmas.Option.{slice_get_within}
+use Rattle.std.proofs.lemmas.Option.{slice_get_within, same_Some as some_same, none-some as never}
 use Rattle.std.proofs.lemmas.List.{length-set}
 use Rattle.xs_tree.specs.ProgramTree.{Text}
 use Rattle.xs_tree.specs.Values.{Value}
@@ -26,12 +26,7 @@ use Rattle.xs_report.specs.declared.reading.Reading.{Reading}
 use Rattle.xs_report.specs.Told.{told_value}
 use Rattle.xs_report.specs.Reading.{IsGiven, IsSilent, IsLast, IsSaid, AreSaid, IsAfter, values_of, with_last, Gives}
 use Rattle.xs_report.proofs.Positions.{last_or_in, sound_more, still, one_begins, front_begun, lacks_more, lacks_at_moment}
-
-some_same : {A : Type 0} (x y : A) → Some x ≡ Some y → x ≡ y
-some_same x y e = cc
-
-never : {A : Type 0} (x : A) → None ≡ Some x → ⊥
-never x e = cc
+use Rattle.std.proofs.lemmas.Bool.{and_parts as first_true}
 
 -- What was said stays said.
 given_more : (lines : List Line) (l : Line) (x : FlatVariable) (w : Value) (k : ℕ) → IsGiven lines x w k → IsGiven (lines ++ l ∷ []) x w k
@@ -159,10 +154,6 @@ record IsOther (begun : ℕ) (slots : List Slot) : Type 0 where
   slot : Slot
   is : slice_get slots place ≡ Some slot
   other : slot.moment ≢ begun
-
-first_true : (a b : Bool) → (a && b) ≡ true → (a ≡ true) × (b ≡ true)
-first_true true b e = (refl, e)
-first_true false b e = cc
 
 is_other : (begun : ℕ) (slots : List Slot) → list_all (λ s. nat_eq s.moment begun) slots ≡ false → IsOther begun slots
 is_other begun [] e = cc

@@ -1,15 +1,11 @@
 -- Which value a text is read as.
-use lib.Signed.{mag}
-use Rattle.std.proofs.Common.{◌≡◌, ◌≢◌, inl, inr, ℕ, zero, suc, ◌+◌, ◌<◌, ◌^◌, Bool, true, false, List, [], ◌∷◌, length, Option, Some, None, refl, sym, ◌∙◌, ap, subst, arith, codes, ℤ}
+use Rattle.std.proofs.Common.{◌≡◌, ◌≢◌, inl, inr, ℕ, zero, suc, ◌+◌, ◌<◌, ◌^◌, Bool, true, false, List, [], ◌∷◌, length, Option, Some, None, refl, sym, ◌∙◌, ap, subst, arith, ℤ}
 use Rattle.std.specs.Prelude.{slice_get, if◌then◌else◌}
-use Rattle.std.specs.Fmt.{signed_decimal}
 use Rattle.std.proofs.lemmas.Fmt.{signed_decimal_injective}
 use Rattle.xs_tree.specs.ProgramTree.{Text}
 use Rattle.xs_tree.specs.Texts.{same_text}
-use Rattle.xs_tree.specs.Values.{truth}
 use Rattle.xs_tree.proofs.ValueLaws.{same_text_equal, same_text_refl}
 use Rattle.xs_type_laws.specs.Costs.{symbol_number}
-use Rattle.xs_text_laws.specs.TraceText.{value_text}
 use Rattle.xs_value.specs.declared.domain.Domain.{Domain}
 use Rattle.xs_value.specs.declared.domain.Domain.TheVariants as domain
 use Rattle.xs_value.specs.declared.value.Value.{Value as Numbered}
@@ -19,12 +15,7 @@ use Rattle.xs_types.specs.Numbering.{number_from}
 use Rattle.xs_types.proofs.NumberingLaws.{number_told}
 use Rattle.xs_report.specs.Told.{text_at}
 use Rattle.xs_report.specs.ValueReading.{HasText, IsTruth, IsNumber, IsSymbol, IsReadOf, IsParsed, IsAmong, IsShort, IsReadIn}
-
-some_same : {A : Type 0} (x y : A) → Some x ≡ Some y → x ≡ y
-some_same x y e = cc
-
-never : {A : Type 0} (x : A) → None ≡ Some x → ⊥
-never x e = cc
+use Rattle.std.proofs.lemmas.Option.{same_Some as some_same, none-some as never}
 
 -- Symbols.
 -- where a text stands that has a number

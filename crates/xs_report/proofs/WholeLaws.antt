@@ -1,9 +1,9 @@
 -- The whole text: what is wrong first with it, or the trace that it gives.
-use Rattle.std.proofs.Common.{◌≡◌, ◌≢◌, ◌⊎◌, inl, inr, ℕ, zero, suc, ◌+◌, ◌-◌, ◌<◌, ◌≤◌, List, [], ◌∷◌, ◌++◌, length, refl, sym, ◌∙◌, ap, subst, arith, length-append, replicate, Bool, true, false, Some, None}
+use Rattle.std.proofs.Common.{◌≡◌, ◌≢◌, ◌⊎◌, inl, inr, ℕ, zero, suc, ◌+◌, ◌-◌, ◌<◌, ◌≤◌, List, [], ◌∷◌, ◌++◌, length, refl, sym, ◌∙◌, ap, subst, arith, length-append, replicate, Bool, true, false, Some}
 use Rattle.std.specs.Prelude.{slice_get, IsTrue, if◌then◌else◌}
 use Rattle.std.specs.List.{AllByRecursion}
-use Rattle.std.proofs.lemmas.Option.{slice_get_within}
-use Rattle.std.proofs.lemmas.List.{length-replicate}
+use Rattle.std.proofs.lemmas.Option.{slice_get_within, none-some as never, same_Some as some_same}
+use Rattle.std.proofs.lemmas.List.{length-replicate, append-nil as append_none}
 use Rattle.xs_tree.specs.ProgramTree.{Text}
 use Rattle.xs_tree.specs.Texts.{same_text}
 use Rattle.xs_tree.specs.Values.{Value}
@@ -15,36 +15,25 @@ use Rattle.xs_text_laws.specs.Lines.{Line, fed, IsLine}
 use Rattle.xs_text_laws.proofs.Separators.{fed_end}
 use Rattle.xs_text_laws.specs.TraceText.{value_text, moment_line}
 use Rattle.xs_text_laws.specs.Given.{IsPrintable, GivesMoments, BytesGive}
-use Rattle.xs_text_laws.specs.Wrong.{LineFault, bad_line, unknown_name, outside, twice, moments_after, AreSound, IsLeast, IsWrongLine, Lacks, Misses}
+use Rattle.xs_text_laws.specs.Wrong.{LineFault, moments_after, AreSound, IsLeast, IsWrongLine, Lacks, Misses}
 use Rattle.xs_text_laws.proofs.OneTrace.{no_items}
 use Rattle.xs_text_laws.proofs.Moments.{after_both, none_begins, no_fewer, next_begins}
 use Rattle.xs_text_laws.proofs.LineJudged.{AllAre}
 use Rattle.xs_text_laws.proofs.TextJudged.{Own, cut_own, all_bare}
 use Rattle.xs_value.specs.declared.value.Value.{Value as Numbered}
-use Rattle.xs_report.specs.declared.fault.Cause.{Cause}
 use Rattle.xs_report.specs.declared.fault.Cause.TheVariants as cause
 use Rattle.xs_report.specs.declared.fault.TraceFault.{TraceFault}
 use Rattle.xs_report.specs.declared.fault.TraceFault.TheVariants as fault
 use Rattle.xs_report.specs.declared.reading.Slot.{Slot}
 use Rattle.xs_report.specs.declared.reading.Reading.{Reading}
 use Rattle.xs_report.specs.Cuts.{IsLineThen}
-use Rattle.xs_report.specs.Faults.{fault_at, IsCauseOf, IsFaultOf}
+use Rattle.xs_report.specs.Faults.{IsFaultOf}
 use Rattle.xs_report.specs.Reading.{IsGiven, IsSaid, IsAfter, with_last, ended, IsUnfinished, IsFinished}
 use Rattle.xs_report.specs.Told.{told_value, told_moment, told_trace}
 use Rattle.xs_report.proofs.Positions.{sound_are}
 use Rattle.xs_report.proofs.LookupLaws.{IsImage, image}
 use Rattle.xs_report.proofs.Steps.{IsEnded, moment_ended}
 use Rattle.xs_report.proofs.Collected.{IsTold, moments_collected}
-
-never : {A : Type 0} (x : A) → None ≡ Some x → ⊥
-never x e = cc
-
-some_same : {A : Type 0} (x y : A) → Some x ≡ Some y → x ≡ y
-some_same x y e = cc
-
-append_none : {A : Type 0} (xs : List A) → xs ++ [] ≡ xs
-append_none [] = refl
-append_none (x ∷ xs) = ap (λ ys. x ∷ ys) (append_none xs)
 
 -- Before the first line.
 pub before_all : (m : FlatModel) (r : Reading) → r.begun ≡ 0 → r.moments ≡ [] → length r.slots.items ≡ length m.variables → ((i : ℕ) (s : Slot) → slice_get r.slots.items i ≡ Some s → s.moment ≡ 0) → IsAfter m [] r
@@ -249,7 +238,7 @@ begun_few n (l ∷ lines) = by (same_text l (moment_line n)) (begun_few (suc n) 
     by true h g = omega (arith, h)
     by false h g = omega (arith, g)
 
-fed_long : (lines : List Line) → length lines ≤ length (fed lines)
+pub fed_long : (lines : List Line) → length lines ≤ length (fed lines)
 fed_long [] = omega arith
 fed_long (l ∷ lines) =
     let both : length ((l ++ 10 ∷ []) ++ fed lines) ≡ length (l ++ 10 ∷ []) + length (fed lines) = length-append (l ++ 10 ∷ []) (fed lines) in

@@ -27,6 +27,7 @@ use Rattle.xs_cuts.specs.Answer.{IsEnd, IsAnswer}
 use Rattle.xs_cuts.proofs.SearchLemmas.{sets_same}
 use Rattle.xs_report_laws.specs.Answered.{ending_of, analysis_of, EndsBy}
 use Rattle.xs_report_laws.specs.Laws.{AnswersAreAnalyses}
+use Rattle.xs_right_laws.proofs.Places.{both_long}
 
 -- two lists whose members are related, by place
 both_at : {A B : Type 0} (R : A → B → Type 0) (xs : List A) (ys : List B) (k : ℕ) (x : A) (y : B) → AreBoth R xs ys → slice_get xs k ≡ Some x → slice_get ys k ≡ Some y → R x y
@@ -37,12 +38,6 @@ both_at {A = A} {B = B} R (a ∷ xs) (b ∷ ys) zero x y h e g = subst (R x) (sa
     same : {X : Type 0} (a x : X) → Some a ≡ Some x → a ≡ x
     same a x e = cc
 both_at R (a ∷ xs) (b ∷ ys) (suc k) x y h e g = both_at R xs ys k x y h.1 e g
-
-both_long : {A B : Type 0} (R : A → B → Type 0) (xs : List A) (ys : List B) → AreBoth R xs ys → length xs ≡ length ys
-both_long R [] [] h = refl
-both_long R [] (b ∷ ys) h = absurd h
-both_long R (a ∷ xs) [] h = absurd h
-both_long R (a ∷ xs) (b ∷ ys) h = ap suc (both_long R xs ys h.1)
 
 -- the traces, as values are read
 traces_same : (symbols : List Text) (found : List CodeFound) → map (trace_of symbols) (traces_of found) ≡ traces_of (all_found symbols found)

@@ -1,21 +1,19 @@
 -- What the entries of a table mean.
-use Rattle.std.proofs.Common.{◌≡◌, ℕ, zero, suc, ◌+◌, ◌≤◌, Bool, true, false, ◌||◌, List, [], ◌∷◌, length, Some, refl, sym, ◌∙◌, ap, subst, arith, inl, inr}
+use Rattle.std.proofs.Common.{◌≡◌, ℕ, zero, suc, ◌+◌, ◌≤◌, Bool, true, false, ◌||◌, List, [], ◌∷◌, length, Some, refl, sym, ◌∙◌, subst, arith}
 use Rattle.std.specs.Prelude.{slice_get, Contains, if◌then◌else◌}
 use Rattle.std.specs.List.{list_any}
 use Rattle.xs_tree.specs.ProgramTree.{Formula, ProgramTree}
 use Rattle.xs_fei.specs.Instructions.{InstructionTree}
 use Rattle.xs_weave.specs.Faults.{Fault}
 use Rattle.xs_weave.specs.Extended.{Moment, IsExtended, Reaches}
-use Rattle.xs_right_laws.specs.Sets.{has_number, is_contained}
+use Rattle.xs_right_laws.specs.Sets.{is_contained}
 use Rattle.xs_right_laws.specs.Right.{Shows, HasFailedAll}
 use Rattle.xs_certificate_laws.specs.ExtendedTraces.{IsRightExtended, HasFailedFault}
 use Rattle.xs_encode_laws.proofs.SetLaws.{either_of, or_cases, none_contained, split_member, has_contains, contains_has, contained_has, contained_from}
 use Rattle.xs_report_laws.specs.ExtendedTraces.{Ending, complete, bounded, IsOfClass, Analysis}
-use Rattle.xs_fmea.specs.Tables.{yes, absent_entry, entry_of}
+use Rattle.xs_fmea.specs.Tables.{yes, absent_entry}
 use Rattle.xs_report_laws.specs.Tables.{Suffices, IsEntry, EntriesAreRight}
-
-no_place : {A : Type 0} (i : ℕ) (x : A) → slice_get [] i ≡ Some x → ⊥
-no_place i x e = cc
+use Rattle.xs_cut_laws.proofs.Chains.{no_place}
 
 record Within (row : List ℕ) (sets : List (List ℕ)) : Type 0 where
   place : ℕ
@@ -33,7 +31,7 @@ where_within row (s ∷ ss) h =
     later w = record { place = suc w.place; set = w.set; listed = w.listed; within = w.within }
 
 -- a longer list has something at each place of one that is as long
-at_place : {A B : Type 0} (xs : List A) (ys : List B) (k : ℕ) (x : A) → slice_get xs k ≡ Some x → length ys ≡ length xs → (y : B) × (slice_get ys k ≡ Some y)
+pub at_place : {A B : Type 0} (xs : List A) (ys : List B) (k : ℕ) (x : A) → slice_get xs k ≡ Some x → length ys ≡ length xs → (y : B) × (slice_get ys k ≡ Some y)
 at_place [] ys k x e h = absurd (no_place k x e)
 at_place (x' ∷ xs) [] k x e h = absurd (omega (arith, h))
 at_place (x' ∷ xs) (y ∷ ys) zero x e h = (y, refl)

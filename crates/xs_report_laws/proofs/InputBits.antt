@@ -10,7 +10,7 @@ use Rattle.xs_tree.specs.Trace.{Each}
 use Rattle.xs_tree.specs.Flat.{FlatVariable, FlatModel}
 use Rattle.xs_flat_laws.specs.History.{Mode, with_history, bit_variables}
 use Rattle.xs_flat_laws.specs.Items.{Visit, visits, variables_of, variable_declared}
-use Rattle.xs_flat_laws.specs.Model.{EachBoth, IsVariableOf, IsFlatOf}
+use Rattle.xs_flat_laws.specs.Model.{IsVariableOf, IsFlatOf}
 use Rattle.xs_flat_laws.specs.Rules.{too_many, a_visit, visit_sites, variables_before, PassesLimit, IsKept, IsAccepted}
 use Rattle.xs_flat_laws.proofs.HistoryLaws.{length_bits}
 use Rattle.xs_flat_laws.proofs.Walkable.{accepted_walkable}
@@ -18,6 +18,8 @@ use Rattle.xs_type_laws.specs.Intervals.{Interval}
 use Rattle.xs_type_laws.specs.Judged.{hull_of}
 use Rattle.xs_type_laws.specs.Costs.{digits_in, digits_above, width_of, width_in, declared_width, number_kind, member_number}
 use Rattle.xs_encode_laws.specs.Layout.{width_as_input, input_width, input_bits}
+use Rattle.xs_type_laws.proofs.ClosedLaws.{same_length as both_long}
+use Rattle.xs_encode_laws.proofs.SizeLists.{digits_most}
 
 -- ---- variables
 
@@ -52,12 +54,6 @@ module _ (p : ProgramTree) where
       let here : variables_before (before ++ v ∷ []) ≤ 2000 = subst (λ n. n ≤ 2000) (sym (more_before before v)) (room_for before v v.decl.what refl kept.0 h) in
       subst (λ xs. variables_before xs ≤ 2000) (append_assoc before (v ∷ []) vs) (few_after (before ++ v ∷ []) vs kept.1 here)
 
-both_long : {A B : Type 0} (R : A → B → Type 0) (xs : List A) (ys : List B) → EachBoth R xs ys → length xs ≡ length ys
-both_long R [] [] h = refl
-both_long R [] (b ∷ ys) h = absurd h
-both_long R (a ∷ xs) [] h = absurd h
-both_long R (a ∷ xs) (b ∷ ys) h = ap suc (both_long R xs ys h.1)
-
 few_variables : (p : ProgramTree) (m : FlatModel) → IsAccepted p → IsFlatOf p m → length m.variables ≤ 2000
 few_variables p m accepted is =
     let few = few_after p [] (visits p) (accepted_walkable p accepted).visits (omega arith) in
@@ -66,7 +62,6 @@ few_variables p m accepted is =
 
 -- ---- bits
 
-digits_most : (most n : ℕ) → digits_in most n ≤ most
 unfolding digits_in
 digits_most zero n = omega arith
 digits_most (suc most) n = by_test (nat_eq n 0) (digits_most most (n / 2))

@@ -10,17 +10,17 @@ use Rattle.xs_report.specs.Analysed.{told_traces}
 use Rattle.xs_cuts.specs.Values.{value_of, values_of, trace_of}
 use Rattle.xs_report_laws.specs.Laws.{AnswersArePrinted}
 
-same_text_at : (xs : List Text) (i : ℕ) → text_at (slice_get xs i) ≡ slice_index_or xs i []
+pub same_text_at : (xs : List Text) (i : ℕ) → text_at (slice_get xs i) ≡ slice_index_or xs i []
 same_text_at [] i = refl
 same_text_at (x ∷ xs) zero = refl
 same_text_at (x ∷ xs) (suc i) = same_text_at xs i
 
-same_value : (symbols : List Text) (v : Value) → told_value symbols v ≡ value_of symbols v
+pub same_value : (symbols : List Text) (v : Value) → told_value symbols v ≡ value_of symbols v
 same_value symbols (ABool b) = refl
 same_value symbols (Num n) = refl
 same_value symbols (Sym i) = ap symbol (same_text_at symbols i)
 
-map_same : {A B : Type 0} (f g : A → B) → ((x : A) → f x ≡ g x) → (xs : List A) → map f xs ≡ map g xs
+pub map_same : {A B : Type 0} (f g : A → B) → ((x : A) → f x ≡ g x) → (xs : List A) → map f xs ≡ map g xs
 map_same f g h [] = refl
 map_same f g h (x ∷ xs) = (λ j. h x j ∷ map_same f g h xs j)
 

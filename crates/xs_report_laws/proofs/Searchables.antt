@@ -1,5 +1,5 @@
 -- The flat model of an extension, with its faults and a top event that fits it, can be searched.
-use Rattle.std.proofs.Common.{◌≡◌, ℕ, zero, suc, ◌<◌, List, [], ◌∷◌, length, Some, refl, sym, ap, ◌∙◌, subst, arith}
+use Rattle.std.proofs.Common.{◌≡◌, ℕ, suc, ◌<◌, List, [], ◌∷◌, Some, refl, sym, ap, ◌∙◌, subst}
 use Rattle.std.specs.Prelude.{slice_get}
 use Rattle.xs_tree.specs.Tree.{Tree}
 use Rattle.xs_tree.specs.ProgramTree.{Text, Formula, DeclaredTree, boolean, range, members, instance, ProgramTree}
@@ -29,22 +29,18 @@ use Rattle.xs_certificate_laws.proofs.Modes.{IsOfSlice, of_program}
 use Rattle.xs_certificate_laws.proofs.Own.{models_own, declared_so, state_there}
 use Rattle.xs_report_laws.specs.Searchable.{ExtensionsAreSearchable}
 use Rattle.xs_report_laws.proofs.InputBits.{few_inputs}
+use Rattle.std.proofs.lemmas.Option.{slice_get_within as got_within}
 
 -- a type that can be written has a member, where it is a list of members
-written_member : (d : DeclaredTree) → IsWritableType d → HasMember d
+pub written_member : (d : DeclaredTree) → IsWritableType d → HasMember d
 written_member boolean h = tt
 written_member (range lo hi) h = tt
 written_member (members ms) h = h.0
 written_member (instance m actuals) h = absurd h
 
-written_members : (xs : List FlatVariable) → ((i : ℕ) (x : FlatVariable) → slice_get xs i ≡ Some x → IsWritableType x.declared) → Each (λ x. HasMember x.declared) xs
+pub written_members : (xs : List FlatVariable) → ((i : ℕ) (x : FlatVariable) → slice_get xs i ≡ Some x → IsWritableType x.declared) → Each (λ x. HasMember x.declared) xs
 written_members [] types = tt
 written_members (x ∷ xs) types = (written_member x.declared (types 0 x refl), written_members xs (λ i y e. types (suc i) y e))
-
-got_within : {A : Type 0} (xs : List A) (i : ℕ) (x : A) → slice_get xs i ≡ Some x → i < length xs
-got_within [] i x e = cc
-got_within (y ∷ xs) zero x e = omega arith
-got_within (y ∷ xs) (suc i) x e = let more = got_within xs i x e in omega (arith, more)
 
 one_role : (p : ProgramTree) (at : Place) (x : Text) (r q : Role) (s t : DeclaredTree) → IsVariable p at x r s → IsVariable p at x q t → r ≡ q
 one_role p at x r q s t a b =

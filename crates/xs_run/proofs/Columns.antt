@@ -1,8 +1,8 @@
 -- From the searches of all events to the table of their analyses, and what its entries mean.
 use Rattle.std.proofs.Common.{arith, ◌≡◌, inr, ℕ, zero, suc, ◌+◌, ◌-◌, ◌<◌, ◌≤◌, ◌++◌, List, [], ◌∷◌, All, Some, length, map, drop, get_or, refl, sym, ap, subst, ◌∙◌}
-use Rattle.std.specs.Prelude.{slice_get, Contains}
+use Rattle.std.specs.Prelude.{Contains}
 use Rattle.std.specs.List.{range_with_len}
-use Rattle.std.proofs.lemmas.Option.{slice_get_within, slice_get-get_or}
+use Rattle.std.proofs.lemmas.Option.{slice_get_within}
 use Rattle.std.proofs.Math.Seq.{take-length}
 use Rattle.std.proofs.lemmas.List.{at_drop_more, at_drop_all}
 use Rattle.std.proofs.lemmas.List.Elements.{All-nil, All-cons, All-weaker, All-contains, All-contains_itself, All-append}
@@ -35,27 +35,14 @@ use Rattle.xs_fmea.specs.declared.columns.Column.{Column}
 use Rattle.xs_value.specs.declared.ending.Ending.TheVariants as ended
 use Rattle.xs_fmea.specs.Tables.{rows_of, pairs_after, pairs_from, table_text}
 use Rattle.xs_report_laws.specs.ExtendedTraces.{Analysis}
-use Rattle.xs_report_laws.proofs.EntryLaws.{entries_are_right}
+use Rattle.xs_report_laws.proofs.EntryLaws.{entries_are_right, at_place as there_too}
 use Rattle.xs_loading.specs.declared.status.Status.{Status}
 use Rattle.xs_loading.specs.declared.status.Status.TheVariants as status
 use Rattle.xs_loading.specs.Answered.{Told, Said, faults_text}
 use Rattle.xs_loading.proofs.ListedLaws.{are_listed, named_lines}
 use Rattle.xs_run.proofs.TableLemmas.{both_over, both_back}
 use Rattle.xs_case_search.specs.Found.{IsFound}
-
--- what is so at each place is so of all
-all_at : {A : Type 0} (P : A → Type 0) (xs : List A) → ((k : ℕ) (x : A) → slice_get xs k ≡ Some x → P x) → All P xs
-all_at P xs h k d below = h k (get_or xs k d) (slice_get-get_or xs k d below)
-
-no_place : {A : Type 0} (k : ℕ) (x : A) → slice_get [] k ≡ Some x → ⊥
-no_place k x e = cc
-
--- a list that is as long has something there
-there_too : {A B : Type 0} (xs : List A) (ys : List B) (k : ℕ) (x : A) → slice_get xs k ≡ Some x → length ys ≡ length xs → (y : B) × (slice_get ys k ≡ Some y)
-there_too [] ys k x e h = absurd (no_place k x e)
-there_too (x' ∷ xs) [] k x e h = absurd (omega (arith, h))
-there_too (x' ∷ xs) (y ∷ ys) zero x e h = (y, refl)
-there_too (x' ∷ xs) (y ∷ ys) (suc k) x e h = there_too xs ys k x e (omega (arith, h))
+use Rattle.xs_case_search.proofs.Places.{all_by_place as all_at}
 
 -- the sets of an analysis name the case's faults
 pub names_faults : (c : Case) (e : Formula) (size depth : ℕ) (a : Analysis) → IsFound c e size depth a → All (All (λ i. (0 < i) × (i ≤ length c.faults))) a.sets

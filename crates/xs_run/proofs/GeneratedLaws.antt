@@ -3,7 +3,7 @@ use Rattle.std.proofs.Common.{◌≡◌, ℕ, suc, ◌≤◌, arith, true, false
 use Rattle.std.specs.Prelude.{codes}
 use Rattle.xs_tree.specs.ProgramTree.{Text, Formula, ProgramTree}
 use Rattle.xs_tree.specs.Text.{program_text}
-use Rattle.xs_tree.specs.Trace.{Each, AtSome}
+use Rattle.xs_tree.specs.Trace.{Each}
 use Rattle.xs_tree.specs.Bytes.{BytesSpellProgram, BytesSpellExpr}
 use Rattle.xs_tree.proofs.ProgramSpells.{program_spells}
 use Rattle.xs_tree.proofs.TextSpells.{text_spells}
@@ -21,7 +21,7 @@ use Rattle.xs_flat_laws.specs.Rules.{IsAccepted}
 use Rattle.xs_flat_laws.proofs.Laws.{accepted_unbroken}
 use Rattle.xs_flat_laws.proofs.Lists.{each_more}
 use Rattle.xs_type_laws.specs.Judged.{KindRule, too_large}
-use Rattle.xs_type_laws.specs.Models.{Breach, breaches, IsFault, at_an_item, of_its_size, is_too_large}
+use Rattle.xs_type_laws.specs.Models.{breaches, IsFault, at_an_item, of_its_size, is_too_large}
 use Rattle.xs_type_laws.proofs.Typed.{typed_has_none}
 use Rattle.xs_type_laws.proofs.ClosedLaws.{models_closed}
 use Rattle.xs_fei.specs.InstructionText.{instructions_text}
@@ -30,7 +30,7 @@ use Rattle.xs_weave.specs.Faults.{Fault, HasFaults}
 use Rattle.xs_weave.specs.Woven.{woven}
 use Rattle.xs_woven_laws.specs.Modes.{HasSymbols, IsSliceMode}
 use Rattle.xs_woven_laws.specs.Laws.{AreWoven}
-use Rattle.xs_woven_laws.proofs.WovenLaws.{woven_none, modes_symbols, history_none}
+use Rattle.xs_woven_laws.proofs.WovenLaws.{woven_none, modes_symbols, history_none, none_among}
 use Rattle.xs_extend.specs.Refused.{KeepsRules, IsTold, IsWant}
 use Rattle.xs_extend.specs.declared.fault.WeaveFault.{WeaveFault}
 use Rattle.xs_extend.proofs.OneFault.{none_told}
@@ -66,10 +66,6 @@ want_refuses_none f a e is = let bad : wrong.Refused a ≡ wrong.Memory = is ∙
 
 weave_want_refuses_none : (f : WeaveFault) (a : InputFault) → IsWant f → wrong.Refused a ≡ weave_wrong f → ⊥
 weave_want_refuses_none f a e is = let bad : wrong.Refused a ≡ wrong.Memory = is ∙ ap (λ c. cause_wrong c f.item) e in cc
-
-none_among : (first : Breach) (bs : List Breach) → bs ≡ [] → AtSome (λ b. b ≡ first) bs → ⊥
-none_among first [] e h = h
-none_among first (b ∷ bs) e h = cc
 
 -- a model that breaks no rule at an item, and is not too large, breaks none
 small_has_none : (m : FlatModel) → breaches m ≡ [] → is_too_large m ≡ false → (r : KindRule) (item : ℕ) → IsFault m r item → ⊥

@@ -12,9 +12,7 @@ use Rattle.xs_extend.specs.declared.faults.WovenFault.{WovenFault}
 use Rattle.xs_report.proofs.TextLaws.{drop_item}
 use Rattle.xs_loading.specs.Reports.{name_text}
 use Rattle.xs_run.specs.Replays.{names_where}
-
-some_same : {A : Type 0} (x y : A) → Some x ≡ Some y → x ≡ y
-some_same x y e = cc
+use Rattle.std.proofs.lemmas.Option.{same_Some as some_same}
 
 -- the fault of a place has its numbers
 pub numbered_at : (m : FlatModel) (ws : List WovenFault) (fs : List Fault) (i : ℕ) (w : WovenFault) (f : Fault) → AreNumbered m ws fs → slice_get ws i ≡ Some w → slice_get fs i ≡ Some f → IsNumbered m w f

@@ -35,8 +35,8 @@ use Rattle.xs_loading.specs.Loaded.{case_of}
 use Rattle.xs_run.specs.Replays.{text_fault, stop_at_text, RefusesTrace, trace_file, trace_bytes, HoldsTrace, reason_of, RefusesMoment, at_moment, names_where}
 use Rattle.xs_run.specs.Runs.{refuses, says, TraceComesTo, refuses_trace, refuses_moment, is_reached}
 use Rattle.xs_run.proofs.FailedLaws.{said_of_replay}
-use Rattle.xs_run.proofs.TraceLaws.{trace_is_told}
 use Rattle.xs_loading.proofs.LoadedLaws.{same_counts}
+use Rattle.xs_check.proofs.TraceLaws.{trace_is_told}
 
 -- The file of a trace.
 pub refuses_trace_file : (told : Option (List NamedFile)) (name : Text) (m : FlatModel) (r : Refusal) (a : InputFault) → r ≡ refusal.NotAccepted (objection.Trace a) →

@@ -1,74 +1,19 @@
 -- Moments that the text of a trace gives can be replayed.
-use Rattle.std.proofs.Common.{arith, ◌≡◌, ◌≢◌, ◌≤◌, ◌<◌, ◌^◌, ℕ, suc, Bool, true, List, [], ◌∷◌, ◌++◌, length, Option, Some, None, refl, sym, ap, subst}
-use Rattle.std.specs.Prelude.{slice_get, IsTrue}
+use Rattle.std.proofs.Common.{arith, ◌≡◌, ◌≢◌, ◌≤◌, ◌<◌, ◌^◌, ℕ, suc, List, [], ◌∷◌, ◌++◌, length, refl, sym, ap, subst}
 use Rattle.std.proofs.lemmas.List.{length-append}
-use Rattle.xs_tree.specs.declared.program.Member.{Member}
 use Rattle.xs_tree.specs.declared.program.Member.TheVariants as member
-use Rattle.xs_tree.specs.ProgramTree.{Text, DeclaredTree, boolean, range, members, instance}
-use Rattle.xs_tree.specs.Trace.{Each, in_domain, is_member}
+use Rattle.xs_tree.specs.Trace.{Each}
 use Rattle.xs_tree.specs.Values as told
-use Rattle.xs_tree.specs.WritableProgram.{IsWritableType, IsWritableMember}
 use Rattle.xs_value.specs.declared.value.Value.{Value}
-use Rattle.xs_value.specs.declared.value.Value.TheVariants.{Bool as ABool, Num, Sym}
-use Rattle.xs_tree.specs.Flat.{FlatVariable, FlatModel}
+use Rattle.xs_tree.specs.Flat.{FlatModel}
 use Rattle.xs_flat_laws.specs.FlatTrace.{AreInDomains}
 use Rattle.xs_text_laws.specs.Lines.{Line, fed}
 use Rattle.xs_eval.specs.Named as eval
-use Rattle.xs_eval.specs.Named.{named, named_all, named_trace, IsPlaceOf, IsNumbered, IsLawful}
-use Rattle.xs_report.specs.Told.{text_at, told_value, told_moment, told_trace}
+use Rattle.xs_eval.specs.Named.{IsLawful}
+use Rattle.xs_report.specs.Told.{told_moment, told_trace}
 use Rattle.xs_text_laws.specs.Given.{IsPrintable, GivesMoments, BytesGive}
 use Rattle.xs_run.specs.Replays.{IsFitTrace}
-
--- Both layers name values alike.
-same_text_at : (o : Option Text) → eval.text_at o ≡ text_at o
-same_text_at None = refl
-same_text_at (Some x) = refl
-
-named_is_told : (symbols : List Text) (v : Value) → named symbols v ≡ told_value symbols v
-named_is_told symbols (ABool b) = refl
-named_is_told symbols (Num n) = refl
-named_is_told symbols (Sym i) = ap told.symbol (same_text_at (slice_get symbols i))
-
-all_are_told : (symbols : List Text) (vs : List Value) → named_all symbols vs ≡ told_moment symbols vs
-all_are_told symbols [] = refl
-all_are_told symbols (v ∷ vs) = λ j. named_is_told symbols v j ∷ all_are_told symbols vs j
-
-pub trace_is_told : (symbols : List Text) (trace : List (List Value)) → named_trace symbols trace ≡ told_trace symbols trace
-trace_is_told symbols [] = refl
-trace_is_told symbols (v ∷ vs) = λ j. all_are_told symbols v j ∷ trace_is_told symbols vs j
-
--- The empty text is no value of a type that can be written.
-no_empty_member : (ms : List Member) → Each IsWritableMember ms → is_member ms (told.symbol []) ≡ true → ⊥
-no_empty_member [] w e = cc
-no_empty_member (member.Number n ∷ ms) w e = no_empty_member ms w.1 e
-no_empty_member (member.Symbol [] ∷ ms) w e = w.0.1
-no_empty_member (member.Symbol (b ∷ x) ∷ ms) w e = no_empty_member ms w.1 e
-
-no_empty_symbol : (d : DeclaredTree) → IsWritableType d → in_domain d (told.symbol []) ≡ true → ⊥
-no_empty_symbol boolean w e = cc
-no_empty_symbol (range lo hi) w e = cc
-no_empty_symbol (members ms) w e = no_empty_member ms w.1 e
-no_empty_symbol (instance m actuals) w e = cc
-
-is_true : (b : Bool) → IsTrue b → b ≡ true
-is_true b h = h
-
--- A value of such a type has the number of a symbol, where it is one.
-numbered : (symbols : List Text) (d : DeclaredTree) → IsWritableType d → (v : Value) → IsTrue (in_domain d (told_value symbols v)) → IsNumbered symbols v
-numbered symbols d w (ABool b) h = tt
-numbered symbols d w (Num n) h = tt
-numbered symbols d w (Sym i) h = by_text (slice_get symbols i) refl (is_true (in_domain d (told_value symbols (Sym i))) h)
-  where
-    by_text : (o : Option Text) → slice_get symbols i ≡ o → in_domain d (told.symbol (text_at o)) ≡ true → IsPlaceOf symbols i
-    by_text None e f = absurd (no_empty_symbol d w f)
-    by_text (Some x) e f = record { text = x; there = e }
-
-all_numbered : (symbols : List Text) (xs : List FlatVariable) → ((i : ℕ) (x : FlatVariable) → slice_get xs i ≡ Some x → IsWritableType x.declared) → (vs : List Value) →
-    AreInDomains xs (told_moment symbols vs) → Each (IsNumbered symbols) vs
-all_numbered symbols [] w [] h = tt
-all_numbered symbols [] w (v ∷ vs) h = absurd h
-all_numbered symbols (x ∷ xs) w [] h = absurd h
-all_numbered symbols (x ∷ xs) w (v ∷ vs) h = (numbered symbols x.declared (w 0 x refl) v h.0, all_numbered symbols xs (λ i y e. w (suc i) y e) vs h.1)
+use Rattle.xs_check.proofs.TraceLaws.{all_are_told, numbered, all_numbered}
 
 module _ (m : FlatModel) (printable : IsPrintable m) where
   lawful_moment : (v : List Value) → AreInDomains m.variables (told_moment m.symbols v) → IsLawful m v

@@ -13,7 +13,7 @@ use Rattle.xs_flat_laws.specs.Rules.{main_has_parameters, a_header, an_item, has
 use Rattle.xs_flat_laws.specs.Model.{Root, roots_of_type, roots_of}
 use Rattle.xs_flat_laws.proofs.Conditions.{each_at, each_flat}
 use Rattle.xs_flat_laws.proofs.Kept.{declared_there, as_many}
-use Rattle.xs_flat_laws.proofs.KindLaws.{DeclaredBy, not_true}
+use Rattle.xs_flat_laws.proofs.KindLaws.{DeclaredBy}
 use Rattle.xs_flat_laws.proofs.Listed.{ListedItem, listed_item, root_listed, actual_root}
 use Rattle.xs_flat_laws.proofs.Lists.{each_more}
 use Rattle.xs_flat_laws.proofs.Places.{In}
@@ -24,12 +24,13 @@ use Rattle.xs_scope.specs.Waiting.{IsFormal, IsReady}
 use Rattle.xs_scope.specs.declared.walk.Spot.{Spot}
 use Rattle.xs_scope.specs.declared.names.Formal.{Formal}
 use Rattle.xs_scope.specs.declared.names.Scene.{Scene}
-use Rattle.xs_scope.proofs.LookSplit.{never, of_some}
+use Rattle.xs_scope.proofs.LookSplit.{never}
 use Rattle.xs_scope.proofs.SceneItems.{get_map}
 use Rattle.xs_scope.proofs.SceneFound.{Stand, stand}
 use Rattle.xs_scope.proofs.HeadKinds.{module_there}
-use Rattle.xs_scope.proofs.FoundModule.{get_less}
 use Rattle.xs_scope.proofs.Frames.{formal_by_rows, actual_there}
+use Rattle.std.proofs.lemmas.Option.{same_Some as of_some, slice_get_within as get_less}
+use Rattle.std.proofs.lemmas.Bool.{false_from_ne_true as not_true}
 
 -- `main` has no formals
 found_none : (q : ProgramTree) (n : ℕ) (before : List ModuleTree) (x : Text) (m : ModuleTree) → find_module q x ≡ Some m →

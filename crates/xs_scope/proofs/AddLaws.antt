@@ -1,14 +1,13 @@
 -- An order that is laid by numbers is the order of keys that a program asks for.
-use Rattle.std.proofs.Common.{◌≡◌, ℕ, suc, ◌+◌, arith, Bool, true, false, ◌||◌, List, [], ◌∷◌, ◌++◌, length, map, Some, refl, ap, ◌∙◌, sym, subst, ◌⊎◌, inl, inr, eqb-true, eq-eqb}
+use Rattle.std.proofs.Common.{◌≡◌, ℕ, suc, ◌+◌, arith, Bool, true, false, ◌||◌, List, [], ◌∷◌, ◌++◌, length, map, Some, refl, ap, ◌∙◌, sym, subst, ◌⊎◌, inl, inr, eq-eqb}
 use Rattle.std.proofs.lemmas.List.{map-append}
-use Rattle.std.specs.Prelude.{slice_get, nat_eq}
+use Rattle.std.specs.Prelude.{slice_get}
 use Rattle.xs_tree.proofs.ValueLaws.{same_text_refl}
-use Rattle.xs_tree.specs.Texts.{same_text}
 use Rattle.xs_tree.specs.ProgramTree.{ProgramTree}
 use Rattle.xs_tree.specs.Scope.{Key, define_key, actual_key}
 use Rattle.xs_flat_laws.specs.Rules.{IsWalkable, expression_of}
 use Rattle.xs_flat_laws.specs.Model as model
-use Rattle.xs_flat_laws.specs.Model.{EachBoth, Adds, AddsAll, same_place, same_key, is_key_among}
+use Rattle.xs_flat_laws.specs.Model.{EachBoth, Adds, AddsAll, same_key, is_key_among}
 use Rattle.xs_scope.specs.NeedsTree.{keys_of, IsKeyAt, AreMeant}
 use Rattle.xs_scope.specs.Links.{Graph, Has}
 use Rattle.xs_scope.specs.Laying.{upto, upto_from, Lays, stands, comes, LaysAll, no_more, one_more}
@@ -16,25 +15,12 @@ use Rattle.xs_scope.proofs.LinkLaws.{has_either}
 use Rattle.xs_scope.proofs.KeyLaws.{key_at, key_is}
 use Rattle.xs_scope.proofs.RootLaws.{keys_once}
 use Rattle.xs_scope.proofs.NeedLaws.{IsLinked}
-use Rattle.xs_scope.proofs.ClosedLaws.{left_true, right_true}
-use Rattle.xs_flat_laws.proofs.Numbered.{same_place_refl, same_place_equal}
-use Rattle.xs_tree.proofs.OneTree.{same_text_equal}
+use Rattle.xs_flat_laws.proofs.Numbered.{same_place_refl}
+use Rattle.xs_flat_laws.proofs.Listed.{key_equal as same_key_equal}
 
 pub same_key_refl : (k : Key) → same_key k k ≡ true
 same_key_refl (define_key at x) = rw (same_place_refl at, same_text_refl x) refl
 same_key_refl (actual_key at i) = rw (same_place_refl at, eq-eqb i i refl) refl
-
-same_key_equal : (a b : Key) → same_key a b ≡ true → a ≡ b
-same_key_equal (define_key at x) (define_key bt y) h =
-    let places : at ≡ bt = same_place_equal at bt (left_true (same_place at bt) (same_text x y) h) in
-    let names : x ≡ y = same_text_equal x y (right_true (same_place at bt) (same_text x y) h) in
-    cc
-same_key_equal (define_key at x) (actual_key bt j) h = cc
-same_key_equal (actual_key at i) (define_key bt y) h = cc
-same_key_equal (actual_key at i) (actual_key bt j) h =
-    let places : at ≡ bt = same_place_equal at bt (left_true (same_place at bt) (nat_eq i j) h) in
-    let numbers : i ≡ j = eqb-true i j (right_true (same_place at bt) (nat_eq i j) h) in
-    cc
 
 -- the keys of all numbers are all keys
 all_keys : {A : Type 0} (f : ℕ → A) (from : ℕ) (xs : List A) → ((k : ℕ) (x : A) → slice_get xs k ≡ Some x → f (from + k) ≡ x) → map f (upto_from from (length xs)) ≡ xs

@@ -16,14 +16,12 @@ use Rattle.xs_scope.specs.Waiting.{IsReady, has_frame, AreSettled, IsRowAnswered
 use Rattle.xs_scope.specs.declared.names.Formal.{Formal}
 use Rattle.xs_scope.specs.declared.names.Scene.{Scene}
 use Rattle.xs_scope.specs.declared.formals.Frame.{Frame}
-use Rattle.xs_scope.proofs.LookSplit.{of_some}
 use Rattle.xs_scope.proofs.SceneItems.{get_map}
-use Rattle.xs_scope.proofs.RowLaws.{get_past}
 use Rattle.xs_scope.proofs.Naming.{program_same}
 use Rattle.xs_scope.proofs.NamingItems.{get_within}
 use Rattle.xs_scope.proofs.Frames.{formal_by_rows}
-use Rattle.xs_scope.proofs.FoundModule.{get_less}
 use Rattle.xs_scope.proofs.Turns.{not_open}
+use Rattle.std.proofs.lemmas.Option.{same_Some as of_some, slice_get_past as get_past, slice_get_within as get_less}
 
 pub settled_then : (a b c : List (List Formal)) → AreSettled a b → AreSettled b c → AreSettled a c
 settled_then a b c h g k i is = h k i (g k i is)

@@ -14,6 +14,7 @@ use Rattle.xs_tree.specs.declared.model.Formula.{Formula}
 use Rattle.xs_tree.specs.declared.model.Variable.{Variable}
 use Rattle.xs_scope.specs.declared.bounds.Bounds.{Bounds}
 use Rattle.xs_scope.specs.Closed.{is_within, tree_all, trees_all, branches_all, is_closed, is_branch_closed, are_closed, are_earlier, AreVariables, is_variable, is_instance}
+use Rattle.std.proofs.lemmas.Bool.{and_from as both_true}
 
 and_more : (a b c : Bool) → ((a && b) && c) ≡ (a && (b && c))
 and_more true b c = refl
@@ -34,9 +35,6 @@ closed_set b ts = ap (tree_all (is_within b)) (tree_of_set ts) ∙ trees_closed 
 
 pub closed_case : (b : Bounds) (bs : List (Expr Flat × Expr Flat)) → is_closed b (Case bs) ≡ list_all (is_branch_closed b) bs
 closed_case b bs = ap (tree_all (is_within b)) (tree_of_case bs) ∙ branches_closed b bs
-
-both_true : (a b : Bool) → a ≡ true → b ≡ true → (a && b) ≡ true
-both_true a b l r = ap (λ x. x && b) l ∙ r
 
 pub all_push : {X : Type 0} (p : X → Bool) (xs : List X) (x : X) → list_all p xs ≡ true → p x ≡ true → list_all p (xs ++ x ∷ []) ≡ true
 all_push p xs x all one =

@@ -1,5 +1,5 @@
 -- The place that the table of modules has for a name is that of the first module of the name.
-use Rattle.std.proofs.Common.{◌≡◌, ℕ, zero, suc, ◌+◌, ◌<◌, arith, Bool, true, false, List, [], ◌∷◌, ◌++◌, length, Option, Some, None, if◌then◌else◌, codes, refl, ap, ◌∙◌, sym, subst}
+use Rattle.std.proofs.Common.{◌≡◌, ℕ, suc, ◌+◌, ◌<◌, arith, Bool, true, false, List, [], ◌∷◌, ◌++◌, length, Option, Some, None, if◌then◌else◌, codes, refl, ap, ◌∙◌, sym, subst}
 use Rattle.std.specs.Prelude.{slice_get}
 use Rattle.indexmap.specs.IndexMap.{get_by}
 use Rattle.std.specs.Borrow.{Bor}
@@ -96,11 +96,6 @@ module _ (ms : Modules) (known : AreModules ms) (k : Bor (List ℕ)) where
         has = subst (λ (n : Names). HasNames f.tree n) same both.2;
         listed = there;
       }
-
-pub get_less : {A : Type 0} (xs : List A) (i : ℕ) (x : A) → slice_get xs i ≡ Some x → i < length xs
-get_less [] i x e = cc
-get_less (y ∷ xs) zero x e = omega arith
-get_less (y ∷ xs) (suc i) x e = let h : i < length xs = get_less xs i x e in omega (arith, h)
 
 -- The module `main` stands at its place.
 place_entry : (k : ℕ) (p : ProgramTree) (x : Text) → entry_of (module_entries k p) x ≡ module_from k p x

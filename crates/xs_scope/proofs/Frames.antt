@@ -6,12 +6,12 @@ use Rattle.std.specs.declared.alloc.Global.{Global}
 use Rattle.std.proofs.lemmas.Bool.{ltb-true, ltb-false}
 use Rattle.std.proofs.lemmas.List.{append-nil, take_all}
 use Rattle.xs_tree.specs.declared.expr.Expr.{Expr}
-use Rattle.xs_tree.specs.ProgramTree.{Text, Path, Formula, DeclaredTree, boolean, range, members, instance, ProgramTree}
+use Rattle.xs_tree.specs.ProgramTree.{Text, Path, Formula, instance, ProgramTree}
 use Rattle.xs_tree.specs.Texts.{same_text}
 use Rattle.xs_tree.specs.Written.{tree_of}
-use Rattle.xs_tree.specs.Scope.{Place, Kind, a_formal, a_variable, a_define, an_instance, undeclared, Meaning, a_variable_at, an_expression_at, an_instance_at, a_symbol, Means, formal_from, kind_declared, kind_after_formals, kind_at, module_at, plain_name, actual_of_kind, nth_formula}
+use Rattle.xs_tree.specs.Scope.{Place, Kind, a_formal, a_variable, a_define, an_instance, undeclared, Meaning, a_variable_at, an_expression_at, an_instance_at, a_symbol, Means, formal_from, kind_after_formals, kind_at, module_at, plain_name, actual_of_kind, nth_formula}
 use Rattle.xs_tree.specs.Flat.{FlatInstance}
-use Rattle.xs_flat_laws.specs.Items.{Item, a_declaration, a_definition, an_assignment, some_constants, an_init, an_invar, a_trans, items_of, instances_of}
+use Rattle.xs_flat_laws.specs.Items.{a_definition, an_assignment, some_constants, an_init, an_invar, a_trans, items_of, instances_of}
 use Rattle.xs_flat_laws.specs.Looks.{Look, at_actual, plain_of, step_kind, step_of, look_after}
 use Rattle.xs_flat_laws.proofs.EndLaws.{steps_more}
 use Rattle.xs_flat_laws.proofs.KindLaws.{kind_in_items}
@@ -28,14 +28,15 @@ use Rattle.xs_scope.specs.declared.names.Formal.TheVariants as known
 use Rattle.xs_scope.specs.declared.names.Scene.{Scene}
 use Rattle.xs_scope.specs.declared.formals.Frame.{Frame}
 use Rattle.xs_scope.specs.declared.formals.Part.TheVariants as part
-use Rattle.xs_scope.proofs.LookSplit.{never, of_some, Reach, reach}
+use Rattle.xs_scope.proofs.LookSplit.{never, Reach, reach}
 use Rattle.xs_scope.proofs.LookFound.{found_parts}
 use Rattle.xs_scope.proofs.LookAfter.{found_after, shut_same, shut_more, shut_own, beyond_from, no_instance}
-use Rattle.xs_scope.proofs.NameKinds.{formal_named}
 use Rattle.xs_scope.proofs.SceneFound.{Stand, stand, kind, one_found, told_found}
 use Rattle.xs_scope.proofs.SceneItems.{get_map}
 use Rattle.xs_scope.proofs.HeadKinds.{head_kind}
 use Rattle.xs_scope.proofs.Naming.{ended, shut_ended}
+use Rattle.std.proofs.lemmas.Option.{same_Some as of_some}
+use Rattle.xs_flat_laws.proofs.Meant.{declares_no_formal as never_formal, formal_is as formal_named}
 
 -- what is known of a formal, by the rows
 pub formal_by_rows : (s : Scene) (k i : ℕ) → formal_at s k i ≡ formal_of (rows s) k i
@@ -44,17 +45,6 @@ formal_by_rows s k i = by_row (slice_get s.formals.items k) ∙ ap (λ o. formal
     by_row : (o : Option (Vec Formal Global)) → formal_in o i ≡ formal_or (slice_get (row_or (option_map (λ (v : Vec Formal Global). v.items) o)) i)
     by_row None = refl
     by_row (Some v) = refl
-
--- what is no formal has no step of its own
-never_formal : (is : List Item) (x : Text) (i : ℕ) → kind_in_items is x ≡ a_formal i → ⊥
-never_formal [] x i e = cc
-never_formal (a_declaration role d ∷ is) x i e = by_name (same_text d.name x) refl (never_formal is x i)
-  where
-    by_type : (what : DeclaredTree) → kind_declared role what ≡ a_formal i → ⊥
-    by_type boolean h = cc
-    by_type (range lo hi) h = cc
-    by_type (members ms) h = cc
-    by_type (instance m actuals) h = cc
 
     by_name : (b : Bool) → same_text d.name x ≡ b → (kind_in_items is x ≡ a_formal i → ⊥) → ⊥
     by_name true t rest = by_type d.what (rw t at e)

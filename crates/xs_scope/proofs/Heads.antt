@@ -11,11 +11,12 @@ use Rattle.xs_flat_laws.specs.Items.{NumberedModule, items_of, modules_from, Vis
 use Rattle.xs_flat_laws.specs.Rules.{has_twice, IsWalkable}
 use Rattle.xs_flat_laws.proofs.Apart.{Differ, Apart}
 use Rattle.xs_flat_laws.proofs.Conditions.{each_join, each_at}
-use Rattle.xs_flat_laws.proofs.Now.{neither}
 use Rattle.xs_scope.specs.Known.{IsHead}
-use Rattle.xs_scope.proofs.LookSplit.{never, of_some}
+use Rattle.xs_scope.proofs.LookSplit.{never}
 use Rattle.xs_flat_laws.proofs.KeysApart.{one_number}
 use Rattle.xs_flat_laws.proofs.Meant.{formals_once}
+use Rattle.std.proofs.lemmas.Option.{same_Some as of_some}
+use Rattle.std.proofs.lemmas.Bool.{or_parts as neither}
 
 -- no two instances have one place
 abbrev Other : FlatInstance → FlatInstance → Type 0

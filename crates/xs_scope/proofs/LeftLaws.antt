@@ -12,9 +12,7 @@ use Rattle.xs_scope.specs.declared.needs.Task.TheVariants.{Visit, End}
 use Rattle.xs_scope.specs.Links.{Has, Graph, IsWithin, Spread, is_marked, told_mark, spread_by}
 use Rattle.xs_scope.specs.Laying.{Lay, mark_or, mark_at, visits, visit_by, lay_by, number_of, IsLaying}
 use Rattle.xs_scope.specs.Left.{open_work, is_unmarked, left_to_spread, is_unmet, left_to_lay}
-
-some_same : {M : Type 0} (x y : M) → Some x ≡ Some y → x ≡ y
-some_same x y e = cc
+use Rattle.std.proofs.lemmas.Option.{same_Some as some_same}
 
 -- an open mark is closed
 work_taken : {M : Type 0} (is_open : M → Bool) (work : ℕ → ℕ) (marks : List M) (k : ℕ) (old new : M) → slice_get marks k ≡ Some old → is_open old ≡ true → is_open new ≡ false →

@@ -12,8 +12,9 @@ use Rattle.xs_scope.specs.Known.{IsOpenAt, ShutAt, Shut, ShutBeyond}
 use Rattle.xs_scope.specs.declared.walk.Meaning.{Meaning as Found}
 use Rattle.xs_scope.specs.declared.walk.Meaning.TheVariants as found
 use Rattle.xs_scope.specs.declared.names.Formal.{Formal}
-use Rattle.xs_scope.proofs.LookSplit.{never, of_some, HasPart, with_more, named_look, Split, within, beyond, split}
+use Rattle.xs_scope.proofs.LookSplit.{never, HasPart, with_more, named_look, Split, within, beyond, split}
 use Rattle.xs_scope.proofs.LookFound.{same_part}
+use Rattle.std.proofs.lemmas.Option.{same_Some as of_some}
 
 abbrev look_at : Place → Path → Look
 look_at at name = record { place = at; name = name }

@@ -6,6 +6,7 @@ use Rattle.xs_tree.specs.Scope.{Place, Key, actual_key, Kind, a_formal, a_variab
 use Rattle.xs_flat_laws.specs.Looks.{Look, at_actual, plain_of, step_kind, step_of, step_on, look_after}
 use Rattle.xs_flat_laws.proofs.LookLaws.{step_means, after_means, after_longer, step_some}
 use Rattle.xs_flat_laws.proofs.EndLaws.{steps_more}
+use Rattle.std.proofs.lemmas.Option.{same_Some as of_some}
 
 pub never : {A B : Type 0} (x : A) → None ≡ Some x → B
 never x e = absurd (bad e)
@@ -17,7 +18,6 @@ or_else : {A : Type 0} → A → Option A → A
 or_else x None = x
 or_else x (Some y) = y
 
-pub of_some : {A : Type 0} (x y : A) → Some x ≡ Some y → x ≡ y
 unfolding or_else
 of_some x y e = ap (or_else x) e
 

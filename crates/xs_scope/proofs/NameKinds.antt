@@ -10,8 +10,8 @@ use Rattle.xs_scope.specs.SceneTree.{gives_name, item_from, local_after, local_o
 use Rattle.xs_scope.specs.FoundAt.{entry_of}
 use Rattle.xs_scope.specs.declared.modules.Local.{Local}
 use Rattle.xs_scope.specs.declared.modules.Local.TheVariants as local
-use Rattle.xs_scope.proofs.LookSplit.{never, of_some}
-use Rattle.xs_tree.proofs.OneTree.{same_text_equal}
+use Rattle.xs_scope.proofs.LookSplit.{never}
+use Rattle.std.proofs.lemmas.Option.{same_Some as of_some}
 
 after_formal : Option ℕ → Option Local → Option Local
 after_formal (Some i) o = Some (local.Formal i)
@@ -58,17 +58,6 @@ locals_told m x =
     formals_told 0 m.formals (item_entries 0 (items_of m)) x
     ∙ ap (after_formal (formal_from 0 m.formals x)) (items_told 0 (items_of m) x)
     ∙ joined_told (formal_from 0 m.formals x) (item_from 0 (items_of m) x)
-
--- a formal by its number
-pub formal_named : (k : ℕ) (xs : List Text) (x : Text) (i : ℕ) → formal_from k xs x ≡ Some i → (j : ℕ) × (i ≡ k + j) × (slice_get xs j ≡ Some x)
-formal_named k [] x i e = never i e
-formal_named k (y ∷ xs) x i e = by_name (same_text y x) refl (λ h. formal_named (suc k) xs x i h)
-  where
-    by_name : (b : Bool) → same_text y x ≡ b → (formal_from (suc k) xs x ≡ Some i → (j : ℕ) × (i ≡ suc k + j) × (slice_get xs j ≡ Some x)) → (j : ℕ) × (i ≡ k + j) × (slice_get (y ∷ xs) j ≡ Some x)
-    by_name true t rest =
-        let is : k ≡ i = of_some k i (rw t at e) in (0, omega (arith, is), ap Some (same_text_equal y x t))
-    by_name false t rest =
-        let r : (j : ℕ) × (i ≡ suc k + j) × (slice_get xs j ≡ Some x) = rest (rw t at e) in (suc r.0, omega (arith, r.1), r.2)
 
 -- an item that gives a name, by its number
 pub record Given (is : List Item) (x : Text) (j : ℕ) : Type 0 where

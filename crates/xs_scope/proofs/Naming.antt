@@ -26,7 +26,7 @@ use Rattle.xs_scope.specs.declared.names.Formal.{Formal}
 use Rattle.xs_scope.specs.declared.names.Formal.TheVariants as known
 use Rattle.xs_scope.specs.declared.names.Defined.{Defined}
 use Rattle.xs_scope.specs.declared.names.Scene.{Scene}
-use Rattle.xs_scope.proofs.LookSplit.{never, of_some}
+use Rattle.xs_scope.proofs.LookSplit.{never}
 use Rattle.xs_scope.proofs.SceneItems.{both_length}
 use Rattle.xs_scope.proofs.Told.{told_one, answered_one, in_row, told_there}
 use Rattle.xs_scope.proofs.Work.{settled_with}
@@ -35,16 +35,14 @@ use Rattle.xs_flat_laws.proofs.Conditions.{each_join}
 use Rattle.xs_flat_laws.proofs.KeysApart.{one_number}
 use Rattle.xs_flat_laws.proofs.KindLaws.{joined_more}
 use Rattle.xs_flat_laws.proofs.Lists.{each_more}
+use Rattle.std.proofs.lemmas.Option.{same_Some as of_some}
+use Rattle.xs_scope.proofs.EnterLaws.{get_here as get_mid}
 
 pub both_push : {A B : Type 0} (R : A → B → Type 0) (xs : List A) (ys : List B) (x : A) (y : B) → EachBoth R xs ys → R x y → EachBoth R (xs ++ x ∷ []) (ys ++ y ∷ [])
 both_push R [] [] x y h r = (r, tt)
 both_push R [] (z ∷ ys) x y h r = absurd h
 both_push R (z ∷ xs) [] x y h r = absurd h
 both_push R (z ∷ xs) (w ∷ ys) x y h r = (h.0, both_push R xs ys x y h.1 r)
-
-get_mid : {A : Type 0} (xs : List A) (y : A) (zs : List A) → slice_get (xs ++ y ∷ zs) (length xs) ≡ Some y
-get_mid [] y zs = refl
-get_mid (x ∷ xs) y zs = get_mid xs y zs
 
 -- formals whose actuals are definitions keep their answers
 pub still_answered : (p : ProgramTree) (rs rs' : List (List Formal)) (roots : List Root) → AreSettled rs rs' → Each (IsActualTold p rs) roots → Each (IsActualTold p rs') roots

@@ -33,14 +33,14 @@ use Rattle.xs_scope.specs.declared.walk.Spot.{Spot}
 use Rattle.xs_scope.specs.declared.names.Formal.{Formal}
 use Rattle.xs_scope.specs.declared.names.Defined.{Defined}
 use Rattle.xs_scope.specs.declared.names.Scene.{Scene}
-use Rattle.xs_scope.proofs.LookSplit.{never, of_some}
+use Rattle.xs_scope.proofs.LookSplit.{never}
 use Rattle.xs_scope.proofs.SceneItems.{both_length, item_listed, get_map}
 use Rattle.xs_scope.proofs.RowLaws.{get_there}
 use Rattle.xs_flat_laws.proofs.OneOfTwo.{set_get, set_own}
 use Rattle.xs_scope.proofs.HeadKinds.{definition_kind, declaration_kind}
 use Rattle.xs_scope.proofs.Naming.{both_push, program_same, naming_at, naming_pushed, left_number}
 use Rattle.xs_scope.proofs.Frames.{actual_there}
-use Rattle.xs_scope.proofs.FoundModule.{get_less}
+use Rattle.std.proofs.lemmas.Option.{same_Some as of_some, slice_get_within as get_less}
 
 -- the item that the tables have is the program's
 pub record Listed (n : Numbered) (y : NumberedItem) : Type 0 where

@@ -1,5 +1,5 @@
 -- What is known of formals, after one of them is told.
-use Rattle.std.proofs.Common.{◌≡◌, ℕ, zero, suc, ◌<◌, ◌≤◌, arith, get_or, List, [], ◌∷◌, length, Some, None, Vec, refl, sym, ◌∙◌, ap}
+use Rattle.std.proofs.Common.{◌≡◌, ℕ, zero, suc, ◌<◌, ◌≤◌, arith, get_or, List, [], ◌∷◌, length, Some, Vec, sym, ◌∙◌, ap}
 use Rattle.std.specs.Prelude.{slice_get, slice_set, option_map}
 use Rattle.std.specs.declared.alloc.Global.{Global}
 use Rattle.std.proofs.lemmas.List.{map-set, set_past}
@@ -27,8 +27,3 @@ pub get_there : {A : Type 0} (xs : List A) (k : ℕ) (v : A) → k < length xs �
 get_there [] k v within e = absurd (omega (arith, within))
 get_there (x ∷ xs) zero v within e = ap Some (sym e)
 get_there (x ∷ xs) (suc k) v within e = get_there xs k v (omega (arith, within)) e
-
-pub get_past : {A : Type 0} (xs : List A) (k : ℕ) → length xs ≤ k → slice_get xs k ≡ None
-get_past [] k past = refl
-get_past (x ∷ xs) zero past = absurd (omega (arith, past))
-get_past (x ∷ xs) (suc k) past = get_past xs k (omega (arith, past))

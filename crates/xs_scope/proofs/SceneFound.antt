@@ -31,9 +31,10 @@ use Rattle.xs_scope.specs.declared.names.Formal.{Formal}
 use Rattle.xs_scope.specs.declared.names.Formal.TheVariants as known
 use Rattle.xs_scope.specs.declared.names.Scene.{Scene}
 use Rattle.xs_scope.proofs.LookFound.{nothing_at_all, found_parts}
-use Rattle.xs_scope.proofs.NameKinds.{locals_told, formal_named, Given, item_given, none_given, kind_by_items}
+use Rattle.xs_scope.proofs.NameKinds.{locals_told, Given, item_given, none_given, kind_by_items}
 use Rattle.xs_scope.proofs.SymbolKinds.{symbols_among, PlacedAt, placed_at, not_placed}
 use Rattle.xs_tree.proofs.OneTree.{same_text_equal}
+use Rattle.xs_flat_laws.proofs.Meant.{formal_is as formal_named}
 
 -- a meaning that is denoted is found
 pub denoted : (p : ProgramTree) (at : Place) (name : Path) (f : Found) (m : Meaning) → Means p at name m → Denotes p f m → IsFound p at name f

@@ -19,12 +19,12 @@ use Rattle.xs_scope.specs.Waiting.{IsFrame, WaitsFor, LastWaits, IsStack, circle
 use Rattle.xs_scope.specs.declared.names.Formal.{Formal}
 use Rattle.xs_scope.specs.declared.names.Formal.TheVariants as known
 use Rattle.xs_scope.specs.declared.formals.Frame.{Frame}
-use Rattle.xs_scope.proofs.LookSplit.{of_some, HasPart, with_more, named_look}
+use Rattle.xs_scope.proofs.LookSplit.{HasPart, with_more, named_look}
 use Rattle.xs_scope.proofs.LookFound.{same_part}
 use Rattle.xs_scope.proofs.Heads.{head_place, head_numbers}
 use Rattle.xs_scope.proofs.Told.{IsNoMoreOpen, IsChanged, changed, shut_on, told_on, still_sized}
 use Rattle.xs_flat_laws.proofs.OneOfTwo.{set_own}
-use Rattle.xs_scope.proofs.FoundModule.{get_less}
+use Rattle.std.proofs.lemmas.Option.{same_Some as of_some, slice_get_within as get_less}
 
 module _ (p : ProgramTree) (rs rs' : List (List Formal)) (less : IsNoMoreOpen p rs rs') where
   pub frame_on : (f : Frame) → IsFrame p rs f → IsFrame p rs' f

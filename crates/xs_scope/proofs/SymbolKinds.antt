@@ -9,8 +9,9 @@ use Rattle.xs_tree.specs.Scope.{Role, state, input, frozen_role, is_symbol_of_me
 use Rattle.xs_flat_laws.specs.Items.{Item, a_declaration, a_definition, an_assignment, items_of_section, items_of}
 use Rattle.xs_flat_laws.specs.Model.{symbols_of_members, symbols_of_type, symbols_of_item, first_appearances, symbols_of}
 use Rattle.xs_scope.specs.FoundAt.{place_from}
-use Rattle.xs_scope.proofs.LookSplit.{never, of_some}
+use Rattle.xs_scope.proofs.LookSplit.{never}
 use Rattle.xs_tree.proofs.OneTree.{same_text_equal}
+use Rattle.std.proofs.lemmas.Option.{same_Some as of_some}
 
 pub grouped : (a b c : Bool) → ((a || b) || c) ≡ (a || (b || c))
 grouped true b c = refl

@@ -13,10 +13,9 @@ use Rattle.xs_scope.specs.Known.{row_or, rows_with, formal_of, IsHead, IsOpen, I
 use Rattle.xs_scope.specs.declared.walk.Meaning.{Meaning as Found}
 use Rattle.xs_scope.specs.declared.names.Formal.{Formal}
 use Rattle.xs_scope.specs.declared.names.Formal.TheVariants as known
-use Rattle.xs_scope.proofs.LookSplit.{of_some}
 use Rattle.xs_scope.proofs.Heads.{head_place, head_numbers}
-use Rattle.xs_scope.proofs.FoundModule.{get_less}
 use Rattle.xs_flat_laws.proofs.OneOfTwo.{set_get, set_own}
+use Rattle.std.proofs.lemmas.Option.{same_Some as of_some, slice_get_within as get_less}
 
 abbrev pub IsChanged : List (List Formal) → ℕ → ℕ → Formal → ℕ → ℕ → Type 0
 IsChanged rs k i f k' i' =

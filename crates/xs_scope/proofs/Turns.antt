@@ -24,16 +24,18 @@ use Rattle.xs_scope.specs.declared.names.Formal.TheVariants as known
 use Rattle.xs_scope.specs.declared.names.Defined.{Defined}
 use Rattle.xs_scope.specs.declared.names.Scene.{Scene}
 use Rattle.xs_scope.specs.declared.formals.Frame.{Frame}
-use Rattle.xs_scope.proofs.LookSplit.{never, of_some}
+use Rattle.xs_scope.proofs.LookSplit.{never}
 use Rattle.xs_scope.proofs.SceneItems.{get_map}
 use Rattle.xs_scope.proofs.Told.{IsNoMoreOpen, no_more_open, IsChanged, changed, in_row, begun_one, answered_one}
 use Rattle.xs_scope.proofs.Naming.{still_answered, program_same}
 use Rattle.xs_scope.proofs.NamingItems.{both_from, get_within}
 use Rattle.xs_scope.proofs.Frames.{formal_by_rows}
 use Rattle.xs_scope.proofs.Stacks.{frame_on, stack_on, stack_pop, stack_push, last_waits, circled_less, own_circle, circle_told}
-use Rattle.xs_scope.proofs.Work.{SameShape, shape_same, shape_with, shape_circled, not_true, true_false, has_below, has_last, has_split, settled_with, settled_circled, popped_turn, begun_turn, closed_turn, turn_after}
+use Rattle.xs_scope.proofs.Work.{SameShape, shape_same, shape_with, shape_circled, has_below, has_last, has_split, settled_with, settled_circled, popped_turn, begun_turn, closed_turn, turn_after}
 use Rattle.xs_scope.proofs.Starting.{symbols_by}
-use Rattle.xs_scope.proofs.FoundModule.{get_less}
+use Rattle.std.proofs.lemmas.Option.{same_Some as of_some, slice_get_within as get_less}
+use Rattle.std.proofs.lemmas.Bool.{false_from_ne_true as not_true}
+use Rattle.xs_scope.proofs.Heads.{not_both as true_false}
 
 pub set_same : (old new : Scene) → IsSameButFormals old new → IsSet old → IsSet new
 set_same old new same set = record {

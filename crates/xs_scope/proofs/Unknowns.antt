@@ -19,7 +19,8 @@ use Rattle.xs_scope.specs.declared.names.Formal.{Formal}
 use Rattle.xs_scope.specs.declared.names.Formal.TheVariants as known
 use Rattle.xs_scope.specs.declared.names.Scene.{Scene}
 use Rattle.xs_scope.proofs.SceneItems.{both_length, laid_at, names_laid}
-use Rattle.xs_scope.proofs.FoundModule.{get_less}
+use Rattle.std.proofs.lemmas.Option.{slice_get_within as get_less}
+use Rattle.xs_flat_laws.proofs.Lists.{get_end, length_end}
 
 pub unknown_more : (s mid : Scene) (k : ℕ) (fs : List (Vec Formal Global)) (v : Vec Formal Global) (count : ℕ) → IsSameButFormals s mid → rows mid ≡ unknown_to s k → fs ≡ mid.formals.items ++ v ∷ [] →
     v.items ≡ replicate count known.Unknown → count ≡ formals_at mid k → rows_of fs ≡ unknown_to s (k + 1)
@@ -49,14 +50,6 @@ get_left : {A : Type 0} (xs : List A) (y : A) (k : ℕ) → k < length xs → sl
 get_left [] y k h = absurd (omega (arith, h))
 get_left (x ∷ xs) y zero h = refl
 get_left (x ∷ xs) y (suc k) h = get_left xs y k (omega (arith, h))
-
-get_end : {A : Type 0} (xs : List A) (y : A) → slice_get (xs ++ y ∷ []) (length xs) ≡ Some y
-get_end [] y = refl
-get_end (x ∷ xs) y = get_end xs y
-
-length_end : {A : Type 0} (xs : List A) (y : A) → length (xs ++ y ∷ []) ≡ suc (length xs)
-length_end [] y = refl
-length_end (x ∷ xs) y = ap suc (length_end xs y)
 
 unknown_many : (s : Scene) (k : ℕ) → length (unknown_to s k) ≡ k
 unknown_many s zero = refl

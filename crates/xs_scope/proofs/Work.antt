@@ -10,6 +10,7 @@ use Rattle.xs_scope.specs.declared.names.Formal.{Formal}
 use Rattle.xs_scope.specs.declared.names.Formal.TheVariants as known
 use Rattle.xs_scope.specs.declared.formals.Frame.{Frame}
 use Rattle.xs_scope.proofs.Told.{IsChanged, changed}
+use Rattle.std.proofs.lemmas.Bool.{or_left, or_right, and_parts as and_both, and_from as and_true}
 
 -- sums over as many formals
 abbrev pub SameShape : List (List Formal) → List (List Formal) → Type 0
@@ -126,29 +127,6 @@ told_left b (known.Means m) told = refl
 or_split : (a b : Bool) → (a || b) ≡ true → (a ≡ true) ⊎ (b ≡ true)
 or_split true b h = inl refl
 or_split false b h = inr h
-
-or_left : (a b : Bool) → a ≡ true → (a || b) ≡ true
-or_left true b h = refl
-or_left false b h = let bad : false ≡ true = h in cc
-
-or_right : (a b : Bool) → b ≡ true → (a || b) ≡ true
-or_right true b h = refl
-or_right false b h = h
-
-and_both : (a b : Bool) → (a && b) ≡ true → (a ≡ true) × (b ≡ true)
-and_both true b h = (refl, h)
-and_both false b h = let bad : false ≡ true = h in cc
-
-and_true : (a b : Bool) → a ≡ true → b ≡ true → (a && b) ≡ true
-and_true true b h g = g
-and_true false b h g = let bad : false ≡ true = h in cc
-
-pub not_true : (b : Bool) → (b ≡ true → ⊥) → b ≡ false
-not_true true h = absurd (h refl)
-not_true false h = refl
-
-pub true_false : (b : Bool) → b ≡ true → b ≡ false → ⊥
-true_false b e f = let bad : true ≡ false = sym e ∙ f in cc
 
 pub of_frame : (k i : ℕ) (f : Frame) → is_of k i f ≡ true → (f.spot ≡ k) × (f.formal ≡ i)
 of_frame k i f h =

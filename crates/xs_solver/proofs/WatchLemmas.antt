@@ -13,6 +13,7 @@ use Rattle.xs_lits.proofs.TrailLemmas.{assigned_from_push, value_later, was_free
 use Rattle.xs_solver.specs.Watch.{IsWatch, HasTrue, HasCode, OthersFalse, IsReady, IsWatched}
 use Rattle.xs_solver.specs.Pass.{is_hit, CanVisit, IsKept, IsNewList}
 use Rattle.xs_solver.proofs.VisitLemmas.{not_hit_true, not_hit_free}
+use Rattle.xs_solver.proofs.ExplainLemmas.{signed_opposite, signed_not as signed_itself}
 
 pub swap_watch : (f s : ℕ) (m : Literal) → IsWatch f s m → IsWatch s f m
 swap_watch f s m (inl e) = inr e
@@ -31,14 +32,6 @@ swap_watched vars t c f s w = record {
   other_side = w.one_side;
   ready = λ k. record { ready = λ m listed is false_m. ⊎_elim (λ h. inl h) (λ all. inr (swap_others (assigned_by vars (take k t)) c f s all)) ((w.ready k).ready m listed (swap_watch s f m is) false_m) };
 }
-
-signed_opposite : (b : Bool) → signed (not b) (not b) ≡ false
-signed_opposite true = refl
-signed_opposite false = refl
-
-signed_itself : (b : Bool) → signed b (not b) ≡ true
-signed_itself true = refl
-signed_itself false = refl
 
 one_or_other : (m l : Literal) → m.var ≡ l.var → (m ≡ l) ⊎ (m ≡ opposite l)
 one_or_other m l e = by_sign m.negated l.negated where

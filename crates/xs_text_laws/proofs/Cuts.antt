@@ -3,10 +3,7 @@ use Rattle.std.proofs.Common.{◌≡◌, ◌⊎◌, inl, inr, ℕ, Bool, true, f
 use Rattle.std.specs.List.{AllByRecursion}
 use Rattle.xs_text_laws.specs.Lines.{Line, fed, IsLine}
 use Rattle.xs_text_laws.proofs.Separators.{no_separator, comparable}
-
-append_none : {A : Type 0} (xs : List A) → xs ++ [] ≡ xs
-append_none [] = refl
-append_none (x ∷ xs) = ap (λ ys. x ∷ ys) (append_none xs)
+use Rattle.std.proofs.lemmas.List.{append-nil as append_none}
 
 pub grouped : (z : Line) (zs : List Line) (m : List ℕ) → fed (z ∷ zs) ++ m ≡ z ++ 10 ∷ (fed zs ++ m)
 grouped z zs m = append_assoc (z ++ 10 ∷ []) (fed zs) m ∙ append_assoc z (10 ∷ []) (fed zs ++ m)

@@ -1,5 +1,5 @@
 -- A small model's texts, computed.
-use Rattle.std.proofs.Common.{◌≡◌, refl, sym, ◌∙◌, ap, subst, arith, ℕ, zero, suc, [], ◌∷◌, length, codes, true, negsuc, Some, None}
+use Rattle.std.proofs.Common.{◌≡◌, refl, sym, ◌∙◌, ap, subst, arith, ℕ, zero, suc, [], ◌∷◌, length, codes, true, negsuc, Some}
 use Rattle.std.specs.Prelude.{slice_get}
 use Rattle.std.specs.Fmt.{digits}
 use Rattle.xs_tree.specs.declared.program.Member.TheVariants as member
@@ -13,6 +13,7 @@ use Rattle.xs_text_laws.proofs.Words.{free_by_test}
 use Rattle.xs_text_laws.specs.Given.{IsLineWord, IsPrintable}
 use Rattle.xs_text_laws.proofs.OneTrace.{no_items}
 use Rattle.xs_text_laws.specs.Wrong.{moments_after}
+use Rattle.std.proofs.lemmas.Option.{same_Some as some_same, none-some as never}
 
 -- `n` of the instance `a.b`, and `x` of `main`
 abbrev inner : FlatVariable
@@ -32,13 +33,6 @@ the_text = refl
 begun : moments_after 0 (codes "moment 0" ∷ codes "moment 2" ∷ [] ∷ codes "moment 1" ∷ codes "moment 01" ∷ []) ≡ 2
 unfolding digits
 begun = refl
-
--- The model is printable.
-some_same : {A : Type 0} (x y : A) → Some x ≡ Some y → x ≡ y
-some_same x y e = cc
-
-never : {A : Type 0} (x : A) → None ≡ Some x → ⊥
-never x e = cc
 
 of_each : (P : FlatVariable → Type 0) → P inner → P outer → (i : ℕ) (x : FlatVariable) → slice_get small.variables i ≡ Some x → P x
 of_each P a b zero x e = subst P (some_same inner x e) a

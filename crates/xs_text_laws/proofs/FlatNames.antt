@@ -1,6 +1,6 @@
 -- The variables of the flat model of a program that can be written have names and types that can be written, and no two
 -- have one place and name.
-use Rattle.std.proofs.Common.{◌≡◌, ℕ, zero, suc, ◌+◌, ℤ, pos, Bool, true, false, List, [], ◌∷◌, ◌++◌, length, Some, refl, sym, ◌∙◌, ap, subst, arith, reverse}
+use Rattle.std.proofs.Common.{◌≡◌, ℕ, zero, suc, ◌+◌, pos, List, [], ◌∷◌, ◌++◌, length, Some, refl, sym, ◌∙◌, ap, subst, arith, reverse}
 use Rattle.std.specs.Prelude.{slice_get, flat_map, map}
 use mathlib.Core.List.{reverse_aux}
 use Rattle.xs_tree.specs.ProgramTree.{Text, Path, DeclaredTree, boolean, range, members, instance, DeclTree, SectionTree, var, ivar, frozen, define, constants, assign, init, invar, trans, ModuleTree, ProgramTree}
@@ -11,22 +11,23 @@ use Rattle.xs_tree.specs.Values.{Value, number}
 use Rattle.xs_tree.specs.May.{Valuation}
 use Rattle.xs_tree.specs.WritableProgram.{IsWritableType, IsWritableDeclared, IsWritableDecl, IsWritableTyped, IsWritableSection, IsWritableModule, IsWritableProgram}
 use Rattle.xs_tree.specs.Flat.{FlatVariable, FlatModel, Numbers}
-use Rattle.xs_flat_laws.specs.Items.{Item, a_declaration, a_definition, an_assignment, some_constants, an_init, an_invar, a_trans, items_of_section, items_of, Visit, variable_declared}
+use Rattle.xs_flat_laws.specs.Items.{Item, a_declaration, a_definition, an_assignment, items_of_section, items_of, Visit, variable_declared}
 use Rattle.xs_flat_laws.specs.Model.{IsFlatOf}
 use Rattle.xs_flat_laws.specs.Rules.{IsAccepted}
 use Rattle.xs_flat_laws.proofs.Conditions.{each_at, each_join}
 use Rattle.xs_flat_laws.proofs.Numbered.{has_valuation}
 use Rattle.xs_flat_laws.proofs.Places.{In}
 use Rattle.xs_flat_laws.proofs.Variables.{DeclaredAs}
-use Rattle.xs_text_laws.specs.Laws.{IsNamed, FlatModelsAreNamed}
+use Rattle.xs_text_laws.specs.Laws.{FlatModelsAreNamed}
 use Rattle.xs_text_laws.proofs.FlatPlaces.{module_in, DeclaresPart, part_declared, variable_there, variable_declared_as}
+use Rattle.std.proofs.lemmas.Option.{same_Some as some_same}
 
 -- Items that can be written.
 abbrev IsWritableItem : Item → Type 0
 IsWritableItem (a_declaration role d) = IsName d.name × IsWritableDeclared d.what
 IsWritableItem _ = Unit {0}
 
-type_declared : (d : DeclaredTree) → IsWritableType d → IsWritableDeclared d
+pub type_declared : (d : DeclaredTree) → IsWritableType d → IsWritableDeclared d
 type_declared boolean h = tt
 type_declared (range lo hi) h = h
 type_declared (members ms) h = h
@@ -103,9 +104,6 @@ numbered_at : {A : Type 0} (n : ℕ) (xs : List A) (i : ℕ) (x : A) → slice_g
 numbered_at n [] i x e = cc
 numbered_at n (y ∷ xs) zero x e = ap (λ k. Some (number (pos k))) (omega arith)
 numbered_at n (y ∷ xs) (suc i) x e = numbered_at (suc n) xs i x e ∙ ap (λ k. Some (number (pos k))) (omega arith)
-
-some_same : {A : Type 0} (x y : A) → Some x ≡ Some y → x ≡ y
-some_same x y e = cc
 
 same_number : (i j : ℕ) → number (pos i) ≡ number (pos j) → i ≡ j
 same_number i j e = cc

@@ -17,14 +17,12 @@ use Rattle.xs_text_laws.proofs.Plain.{value_word}
 use Rattle.xs_text_laws.proofs.OneTrace.{HasNoMoment, head_of, tail_of, both_of, no_items, some_moment, no_moment, same_equation, equation_some, in_domain_at, plain_at, own_lines}
 use Rattle.xs_text_laws.proofs.OneFault.{empty_breaks, sound_not_wrong, empty_lines, no_moments}
 use Rattle.xs_text_laws.proofs.Moments.{next_begins, after_both, none_begins, front_fewer}
+use Rattle.std.proofs.lemmas.List.{append-nil as append_none}
+use Rattle.std.proofs.lemmas.Option.{same_Some as some_same}
 
 -- nothing is wrong with the lines, after others
 abbrev pub SoundFrom : FlatModel → List Line → List Line → Type 0
 SoundFrom m done lines = (front : List Line) (line : Line) (back : List Line) (f : LineFault) → lines ≡ front ++ line ∷ back → Breaks m (done ++ front) line f → ⊥
-
-append_none : {A : Type 0} (xs : List A) → xs ++ [] ≡ xs
-append_none [] = refl
-append_none (x ∷ xs) = ap (λ ys. x ∷ ys) (append_none xs)
 
 pub no_lines : (m : FlatModel) (done : List Line) → SoundFrom m done []
 no_lines m done [] line back f e b = no_items line back [] refl e
@@ -59,11 +57,11 @@ moment_sound m done n e unknown_name b = no_moment b.0 b.1 n b.2.name_word (sym 
 moment_sound m done n e outside b = no_moment b.0 b.1 n b.2.name_word (sym b.2.is_line)
 moment_sound m done n e twice b = no_moment b.0 b.1 n b.2.name_word (sym b.2.is_line)
 
-all_at : {A : Type 0} (P : A → Type 0) (xs : List A) (x : A) (ys : List A) → AllByRecursion P (xs ++ x ∷ ys) → P x
+pub all_at : {A : Type 0} (P : A → Type 0) (xs : List A) (x : A) (ys : List A) → AllByRecursion P (xs ++ x ∷ ys) → P x
 all_at P [] x ys h = h.0
 all_at P (y ∷ xs) x ys h = all_at P xs x ys h.1
 
-all_front : {A : Type 0} (P : A → Type 0) (xs ys : List A) → AllByRecursion P (xs ++ ys) → AllByRecursion P xs
+pub all_front : {A : Type 0} (P : A → Type 0) (xs ys : List A) → AllByRecursion P (xs ++ ys) → AllByRecursion P xs
 all_front P [] ys h = tt
 all_front P (x ∷ xs) ys h = (h.0, all_front P xs ys h.1)
 
@@ -88,9 +86,6 @@ behind (s ∷ start) front (x ∷ earlier) l later e = joined (behind start fron
         ((mid : List Line) × (front ≡ mid ++ l ∷ later)) ⊎ ((more : List Line) × ((s ∷ start) ≡ (x ∷ earlier) ++ l ∷ more))
     joined (inl h) = inl h
     joined (inr h) = inr (h.0, both_of s x start (earlier ++ l ∷ h.0) (head_of s x (start ++ front) (earlier ++ l ∷ later) e) h.1)
-
-some_same : {A : Type 0} (x y : A) → Some x ≡ Some y → x ≡ y
-some_same x y e = cc
 
 -- lines of one valuation with one name are one line
 one_name : (m : FlatModel) → IsPrintable m → (v : List Value) (a b : Line) (s : SaysOf m v a) (t : SaysOf m v b) → variable_text s.variable ≡ variable_text t.variable → a ≡ b

@@ -21,8 +21,9 @@ use Rattle.xs_text_laws.specs.Wrong.{LineFault, bad_line, unknown_name, outside,
 use Rattle.xs_text_laws.proofs.Plain.{IsPlain, value_word, domain_plain, same_text_then, decimal_digits}
 use Rattle.xs_text_laws.proofs.OneTrace.{head_of, tail_of, both_of, no_items, same_equation}
 use Rattle.xs_text_laws.proofs.OneFault.{empty_breaks}
-use Rattle.xs_text_laws.proofs.Moments.{same_text_itself}
 use Rattle.xs_text_laws.proofs.GivenHasNone.{moment_sound}
+use Rattle.std.proofs.lemmas.Option.{same_Some as some_same}
+use Rattle.xs_tree.proofs.ValueLaws.{same_text_refl as same_text_itself}
 
 -- it is so, or it is not
 abbrev pub Decided : Type 0 → Type 0
@@ -79,7 +80,7 @@ some_or_none : (w : Line) → Decided (w ≡ [])
 some_or_none [] = inl refl
 some_or_none (b ∷ w) = inr (λ e. no_items b w (b ∷ w) e refl)
 
-line_front : (xs ys : Line) → IsLine (xs ++ ys) → IsLine xs × IsLine ys
+pub line_front : (xs ys : Line) → IsLine (xs ++ ys) → IsLine xs × IsLine ys
 line_front [] ys h = (tt, h)
 line_front (x ∷ xs) ys h = let more : IsLine xs × IsLine ys = line_front xs ys h.1 in ((h.0, more.0), more.1)
 
@@ -259,10 +260,7 @@ pub data LineIs (m : FlatModel) (done : List Line) (line : Line) : Type 0 where
   says : (i : ℕ) (x : FlatVariable) (w : Value) → slice_get m.variables i ≡ Some x → IsTrue (in_domain x.declared w) → line ≡ value_line x w → 0 < moments_after 0 done →
       (WasSaid done (variable_text x) → ⊥) → LineIs m done line
 
-some_same : {A : Type 0} (x y : A) → Some x ≡ Some y → x ≡ y
-some_same x y e = cc
-
-number_least : (f : LineFault) → 1 ≤ number_of f
+pub number_least : (f : LineFault) → 1 ≤ number_of f
 number_least bad_line = omega arith
 number_least unknown_name = omega arith
 number_least outside = omega arith

@@ -1,5 +1,5 @@
 -- How many moments have begun after lines.
-use Rattle.std.proofs.Common.{◌≡◌, ◌≢◌, ℕ, suc, ◌≤◌, Bool, true, false, List, [], ◌∷◌, ◌++◌, refl, sym, ◌∙◌, ap, subst, arith, eq-eqb}
+use Rattle.std.proofs.Common.{◌≡◌, ◌≢◌, ℕ, suc, ◌≤◌, Bool, true, false, List, [], ◌∷◌, ◌++◌, refl, sym, ◌∙◌, ap, subst, arith}
 use Rattle.std.specs.Prelude.{if◌then◌else◌}
 use Rattle.xs_tree.specs.Texts.{same_text}
 use Rattle.xs_text_laws.specs.Lines.{Line}
@@ -7,10 +7,7 @@ use Rattle.xs_text_laws.specs.TraceText.{moment_line}
 use Rattle.xs_text_laws.specs.Wrong.{moments_after}
 use Rattle.xs_text_laws.proofs.OneTrace.{HasNoMoment}
 use Rattle.xs_text_laws.proofs.Plain.{same_text_then}
-
-pub same_text_itself : (a : List ℕ) → same_text a a ≡ true
-same_text_itself [] = refl
-same_text_itself (x ∷ a) = rw (eq-eqb x x refl, same_text_itself a) refl
+use Rattle.xs_tree.proofs.ValueLaws.{same_text_refl as same_text_itself}
 
 pub next_begins : (n : ℕ) (lines : List Line) → moments_after n (moment_line n ∷ lines) ≡ moments_after (suc n) lines
 next_begins n lines = ap (λ b. moments_after (if b then suc n else n) lines) (same_text_itself (moment_line n))

@@ -22,7 +22,7 @@ byte_no_dot b h e = no_dot (subst (λ c. is_word_byte c ≡ true) e h)
     no_dot : is_word_byte 46 ≡ true → ⊥
     no_dot e = cc
 
-left_true : (a b : Bool) → (a && b) ≡ true → a ≡ true
+pub left_true : (a b : Bool) → (a && b) ≡ true → a ≡ true
 left_true true b e = refl
 left_true false b e = cc
 

@@ -9,10 +9,7 @@ use Rattle.xs_text_laws.proofs.Cuts.{grouped, no_feed, same_fed}
 use Rattle.xs_text_laws.specs.Wrong.{LineFault, bad_line, unknown_name, outside, twice, number_of, moments_after, Breaks, AreSound, IsLeast, IsWrongLine, IsBlank, Lacks, Misses, wrong_line, missing_value}
 use Rattle.xs_text_laws.specs.Laws.{OneFault}
 use Rattle.xs_text_laws.proofs.OneTrace.{equation_some}
-
-append_none : {A : Type 0} (xs : List A) → xs ++ [] ≡ xs
-append_none [] = refl
-append_none (x ∷ xs) = ap (λ ys. x ∷ ys) (append_none xs)
+use Rattle.std.proofs.lemmas.List.{append-nil as append_none}
 
 -- nothing is wrong with an empty line
 pub empty_breaks : (m : FlatModel) (before : List Line) (f : LineFault) → Breaks m before [] f → ⊥

@@ -15,6 +15,7 @@ use Rattle.xs_text_laws.specs.TraceText.{value_text, variable_text, moment_line,
 use Rattle.xs_text_laws.specs.Given.{IsLineWord, IsPrintable, SaysOf, StandsOnce, GivesMoment, GivesMoments, GivesTrace}
 use Rattle.xs_text_laws.specs.Laws.{OneTrace}
 use Rattle.xs_text_laws.proofs.Plain.{IsPlain, same_value_text, domain_plain, decimal_free}
+use Rattle.std.proofs.lemmas.Option.{same_Some as some_same}
 
 -- Lines.
 pub no_items : {A : Type 0} (x : A) (xs ys : List A) → ys ≡ [] → ys ≡ x ∷ xs → ⊥
@@ -46,10 +47,6 @@ pub same_equation : (a b c d : Line) → IsLineWord a → IsLineWord c → equat
 same_equation a b c d f g e =
     let parts : (a ≡ c) × (61 ∷ 32 ∷ b ≡ 61 ∷ 32 ∷ d) = same_front 32 a c (61 ∷ 32 ∷ b) (61 ∷ 32 ∷ d) f.free g.free e in
     (parts.0, tail_of 32 32 b d (tail_of 61 61 (32 ∷ b) (32 ∷ d) parts.1))
-
--- Valuations.
-some_same : {A : Type 0} (x y : A) → Some x ≡ Some y → x ≡ y
-some_same x y e = cc
 
 by_places : {A : Type 0} (xs ys : List A) → ((i : ℕ) → slice_get xs i ≡ slice_get ys i) → xs ≡ ys
 by_places [] [] h = refl

@@ -24,6 +24,7 @@ use Rattle.xs_text_laws.proofs.Separators.{IsFree}
 use Rattle.xs_text_laws.proofs.Words.{free_by_test}
 use Rattle.xs_text_laws.specs.TraceText.{value_text}
 use Rattle.xs_text_laws.specs.Given.{IsLineWord}
+use Rattle.xs_tree.proofs.ValueLaws.{same_int_equal as same_int_then}
 
 -- Digits.
 glyph_is : (d : ℕ) → d < 10 → digit_glyph false d ≡ 48 + d
@@ -108,7 +109,7 @@ left_true : (a b : Bool) → (a && b) ≡ true → a ≡ true
 left_true true b e = refl
 left_true false b e = cc
 
-right_true : (a b : Bool) → (a && b) ≡ true → b ≡ true
+pub right_true : (a b : Bool) → (a && b) ≡ true → b ≡ true
 right_true true b e = e
 right_true false b e = cc
 
@@ -189,7 +190,7 @@ same_truth false false e = refl
 same_truth true false e = let bad : length (codes "TRUE") ≡ length (codes "FALSE") = ap (length {A = ℕ}) e in absurd (omega (arith, bad))
 same_truth false true e = let bad : length (codes "FALSE") ≡ length (codes "TRUE") = ap (length {A = ℕ}) e in absurd (omega (arith, bad))
 
-small_end : (n : ℤ) → IsEnd n → mag n < 2 ^ 63
+pub small_end : (n : ℤ) → IsEnd n → mag n < 2 ^ 63
 small_end (pos n) h = omega (arith, h)
 small_end (negsuc n) h = omega (arith, h)
 
@@ -203,13 +204,6 @@ same_value_text (number n) (symbol y) h g e = absurd (starts_differ (signed_deci
 same_value_text (symbol x) (truth b) h g e = absurd (truth_no_name b x h (sym e))
 same_value_text (symbol x) (number k) h g e = absurd (starts_differ (signed_decimal k) x (low_start k) (high_start x h.1) (sym e))
 same_value_text (symbol x) (symbol y) h g e = ap symbol e
-
--- The values of a type that can be written can be written.
-same_int_then : (a b : ℤ) → same_int a b ≡ true → a ≡ b
-same_int_then (pos m) (pos n) e = ap pos (eqb-true m n e)
-same_int_then (negsuc m) (negsuc n) e = ap negsuc (eqb-true m n e)
-same_int_then (pos m) (negsuc n) e = cc
-same_int_then (negsuc m) (pos n) e = cc
 
 pub same_text_then : (a b : Text) → same_text a b ≡ true → a ≡ b
 same_text_then [] [] e = refl

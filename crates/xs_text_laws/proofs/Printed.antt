@@ -14,9 +14,7 @@ use Rattle.xs_text_laws.specs.Given.{IsLineWord, IsPrintable, SaysOf, StandsOnce
 use Rattle.xs_text_laws.specs.Laws.{PrintedGivesAlone}
 use Rattle.xs_text_laws.proofs.Plain.{value_word, decimal_free}
 use Rattle.xs_text_laws.proofs.OneTrace.{same_equation, plain_at, one_trace}
-
-some_same : {A : Type 0} (x y : A) → Some x ≡ Some y → x ≡ y
-some_same x y e = cc
+use Rattle.std.proofs.lemmas.Option.{same_Some as some_same}
 
 -- each line of variables and values passes, where each variable's with its value does
 each_line : (Q : Line → Type 0) (xs : List FlatVariable) (vs : List Value) → ((i : ℕ) (x : FlatVariable) (w : Value) → slice_get xs i ≡ Some x → slice_get vs i ≡ Some w → Q (value_line x w)) → AllByRecursion Q (value_lines xs vs)

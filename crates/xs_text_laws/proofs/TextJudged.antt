@@ -17,13 +17,8 @@ use Rattle.xs_text_laws.proofs.Moments.{next_begins, after_both, none_begins, no
 use Rattle.xs_text_laws.proofs.LineJudged.{Decided, LineIs, bare, begins, says, AllAre, SaidIn, said_in}
 use Rattle.xs_text_laws.proofs.LinesJudged.{all_sound, text_lines}
 use Rattle.xs_text_laws.proofs.GivenHasNone.{value_there, fewer_before}
-
-append_none : {A : Type 0} (xs : List A) → xs ++ [] ≡ xs
-append_none [] = refl
-append_none (x ∷ xs) = ap (λ ys. x ∷ ys) (append_none xs)
-
-some_same : {A : Type 0} (x y : A) → Some x ≡ Some y → x ≡ y
-some_same x y e = cc
+use Rattle.std.proofs.lemmas.List.{append-nil as append_none}
+use Rattle.std.proofs.lemmas.Option.{same_Some as some_same}
 
 -- The first moment in which a variable has no value.
 lacks_at : (m : FlatModel) (lines : List Line) (k : ℕ) → Lacks m lines k ⊎ ((i : ℕ) (x : FlatVariable) → slice_get m.variables i ≡ Some x → SaidIn [] lines (variable_text x) (suc k))

@@ -44,7 +44,7 @@ mutual
         all_branches P bs (each_right P (leaves_in a) (branches_leaves bs) sides),
       )
 
-each_both : {A : Type 0} (P Q R : A → Type 0) → ((a : A) → P a → Q a → R a) → (xs : List A) → Each P xs → Each Q xs → Each R xs
+pub each_both : {A : Type 0} (P Q R : A → Type 0) → ((a : A) → P a → Q a → R a) → (xs : List A) → Each P xs → Each Q xs → Each R xs
 each_both P Q R f [] h g = tt
 each_both P Q R f (x ∷ xs) h g = (f x h.0 g.0, each_both P Q R f xs h.1 g.1)
 
@@ -62,7 +62,7 @@ pub resolved_leaves : (P : FlatLeaf → Type 0) (q : Path → Option FlatLeaf) �
     IsResolved q e flat → Each P (leaves_in flat)
 resolved_leaves P q f e flat is = given_leaves P q f (leaves_in flat) (leaves_in e) (sym (leaves_map Some flat) ∙ ap leaves_in is ∙ leaves_map q e)
 
-same_length : {A B : Type 0} (R : A → B → Type 0) (xs : List A) (ys : List B) → EachBoth R xs ys → length xs ≡ length ys
+pub same_length : {A B : Type 0} (R : A → B → Type 0) (xs : List A) (ys : List B) → EachBoth R xs ys → length xs ≡ length ys
 same_length R [] [] h = refl
 same_length R [] (y ∷ ys) h = absurd h
 same_length R (x ∷ xs) [] h = absurd h

@@ -11,15 +11,9 @@ use Rattle.xs_tree.specs.Trace.{is_member, in_domain}
 use Rattle.xs_tree.proofs.ValueLaws.{same_text_refl}
 use Rattle.xs_flat_laws.specs.FlatTrace.{AreInDomains}
 use Rattle.xs_type_laws.specs.Least.{value_of_member, is_less, least_member, least_value, least_values, HasValues, by_role, LeastValuesLie, MixedValuesLie, LeastInputsServe}
+use Rattle.std.proofs.lemmas.Bool.{or_left, or_right}
 
-or_left : (a b : Bool) → a ≡ true → (a || b) ≡ true
-or_left a b e = rw e refl
-
-or_right : (a b : Bool) → b ≡ true → (a || b) ≡ true
-or_right true b e = refl
-or_right false b e = e
-
-same_int_self : (n : ℤ) → same_int n n ≡ true
+pub same_int_self : (n : ℤ) → same_int n n ≡ true
 same_int_self (pos k) = eq-eqb k k refl
 same_int_self (negsuc k) = eq-eqb k k refl
 

@@ -103,7 +103,7 @@ numbered p m (w ∷ ws) (x ∷ xs) b r =
       numbered p m ws xs b.1 r.1,
     )
 
-one_type : (p : ProgramTree) (at : Place) (x : Text) (r q : Role) (s t : DeclaredTree) → IsVariable p at x r s → IsVariable p at x q t → s ≡ t
+pub one_type : (p : ProgramTree) (at : Place) (x : Text) (r q : Role) (s t : DeclaredTree) → IsVariable p at x r s → IsVariable p at x q t → s ≡ t
 one_type p at x r q s t a b =
     let same : a.0 ≡ b.0 = cc (a.1, b.1) in
     let kinds : a_variable r s ≡ a_variable q t = sym a.2 ∙ ap (λ m. kind_in m x) same ∙ b.2 in cc

@@ -79,7 +79,7 @@ variable_value p v h at x role type is =
     in_sections v at x role type m.sections (h at m is.1) (no_formal (formal_from 0 m.formals x) (kind_in_sections m.sections x) role type is.2)
 
 -- The values of the numbered variables, in their order.
-get_map : {A B : Type 0} (f : A → B) (xs : List A) (i : ℕ) (x : A) → slice_get xs i ≡ Some x → slice_get (map f xs) i ≡ Some (f x)
+pub get_map : {A B : Type 0} (f : A → B) (xs : List A) (i : ℕ) (x : A) → slice_get xs i ≡ Some x → slice_get (map f xs) i ≡ Some (f x)
 get_map f [] i x e = cc
 get_map f (y ∷ xs) zero x e = cc
 get_map f (y ∷ xs) (suc i) x e = get_map f xs i x e

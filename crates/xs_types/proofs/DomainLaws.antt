@@ -14,20 +14,21 @@ use Rattle.xs_value.specs.declared.domain.Domain.TheVariants as domain
 use Rattle.xs_value.specs.declared.value.Value.{Value as AValue}
 use Rattle.xs_value.specs.declared.value.Value.TheVariants as value
 use Rattle.xs_value.specs.Domains.{Has}
-use Rattle.xs_type_laws.specs.Judged.{KindRule, number_class, symbol_class, mixed_enum, double_member, rule_if, unless_class, unlike_first, wide}
+use Rattle.xs_type_laws.specs.Judged.{number_class, symbol_class, mixed_enum, double_member, rule_if, unless_class, unlike_first, wide}
 use Rattle.xs_type_laws.specs.Costs.{symbol_number}
 use Rattle.xs_type_laws.proofs.Parts.{none_first, none_second, not_less}
 use Rattle.xs_type_laws.specs.Declared.{member_kind, has_double, judged_declared}
 use Rattle.xs_types.specs.Types.{numbers_in, symbols_in, members_domain, domain_of, StandsFor, HasValuesOf, variable_domain, AreValuesOf}
-use Rattle.xs_types.proofs.MetLaws.{int_itself}
 use Rattle.xs_type_laws.specs.Models.{breaches_at, variable_breaches, IsTyped}
 use Rattle.xs_value.specs.declared.domain.Domain.{Domain}
 use Rattle.xs_tree.specs.declared.model.FlatModel.{FlatModel}
 use Rattle.xs_tree.specs.declared.model.Variable.{Variable}
 use Rattle.xs_tree.specs.ModelTree.{variable_tree, model_tree}
 use Rattle.xs_lexer.proofs.SignLemmas.{both_true}
-use Rattle.xs_flat_laws.proofs.OneOfTwo.{or_left, or_true}
 use Rattle.xs_tree.proofs.OneTree.{same_text_equal}
+use Rattle.std.proofs.lemmas.Bool.{or_left, or_right as or_true}
+use Rattle.xs_type_laws.proofs.Typed.{none_at as no_rules}
+use Rattle.xs_type_laws.proofs.LeastLaws.{same_int_self as int_itself}
 
 -- Contained items.
 at_head : {A : Type 0} (x : A) (xs : List A) → Contains (x ∷ xs) x
@@ -181,11 +182,6 @@ has_values symbols boolean e is v w s = boolean_has symbols v w s
 has_values symbols (range lo hi) e is v w s = range_has symbols lo hi v w s
 has_values symbols (members ms) e is v w s = members_has symbols ms e v w s
 has_values symbols (instance m actuals) e is v w s = absurd is
-
--- Variables of a typed model.
-no_rules : (at item : ℕ) (rules : List KindRule) → breaches_at at item rules ≡ [] → rules ≡ []
-no_rules at item [] e = refl
-no_rules at item (r ∷ rules) e = cc
 
 variable_right : (vs : List Variable) (i : ℕ) (x : Variable) → slice_get vs i ≡ Some x → variable_breaches (map variable_tree vs) ≡ [] → (judged_declared (declared_tree x.declared)).broken ≡ []
 variable_right [] i x at e = cc

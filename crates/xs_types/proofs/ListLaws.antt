@@ -17,11 +17,11 @@ use Rattle.xs_types.specs.Answers.{told_class, told_rules, told_sort, told}
 use Rattle.xs_types.specs.Several.{add_to, add_all, guard_by, guard_all, no_guards, row_set, row_case}
 use Rattle.xs_types.proofs.ToldLaws.{lower_again, lower_none, told_join, joins, told_class_rule, told_some}
 
-or_again : (a b c : Bool) → (a || b) || c ≡ a || (b || c)
+pub or_again : (a b c : Bool) → (a || b) || c ≡ a || (b || c)
 or_again true b c = refl
 or_again false b c = refl
 
-or_false : (a : Bool) → a || false ≡ a
+pub or_false : (a : Bool) → a || false ≡ a
 or_false true = refl
 or_false false = refl
 

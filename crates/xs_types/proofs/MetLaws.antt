@@ -1,16 +1,13 @@
 -- A member that was met before stands twice.
 use lib.Pointwise.{pointwise}
-use Rattle.std.proofs.Common.{◌≡◌, ℕ, ◌+◌, ◌<◌, Bool, true, false, not, ◌||◌, List, [], ◌∷◌, ◌++◌, length, drop, get_or, refl, sym, ap, ◌∙◌, subst, nat_eq, Bor, ℤ, pos, negsuc, eq-eqb}
+use Rattle.std.proofs.Common.{◌≡◌, ℕ, ◌+◌, ◌<◌, Bool, true, false, not, ◌||◌, List, [], ◌∷◌, ◌++◌, length, drop, get_or, refl, sym, ap, ◌∙◌, nat_eq, Bor}
 use Rattle.std.specs.Prelude.{if◌then◌else◌}
 use Rattle.std.specs.List.{list_any}
 use Rattle.std.specs.Ordering.{int_eq}
-use Rattle.std.proofs.lemmas.Bool.Decides.{Decides-int_eq, same_from_decides}
 use Rattle.std.proofs.lemmas.List.{drop_more}
 use Rattle.xs_tree.specs.declared.program.Member.{Member}
 use Rattle.xs_tree.specs.declared.program.Member.TheVariants as member
 use Rattle.xs_tree.specs.Texts.{same_text, is_among}
-use Rattle.xs_tree.specs.Values.{same_int}
-use Rattle.xs_tree.proofs.ValueLaws.{same_int_equal}
 use Rattle.xs_tree.specs.BorrowedTexts.{texts}
 use Rattle.xs_tree.proofs.BorrowedTexts.{inserted}
 use Rattle.xs_type_laws.specs.Declared.{same_member, is_member_again, has_double}
@@ -18,10 +15,6 @@ use Rattle.indexmap.specs.IndexSet.{contains}
 use Rattle.xs_types.specs.declared.members.Met.{Met}
 use Rattle.xs_types.specs.Met.{AddsMember, met_again}
 use Rattle.xs_tree.proofs.OneTree.{same_text_equal}
-
-pub int_itself : (a : ℤ) → same_int a a ≡ true
-int_itself (pos n) = eq-eqb n n refl
-int_itself (negsuc n) = eq-eqb n n refl
 
 among_last : (ts : List (List ℕ)) (x y : List ℕ) → is_among (ts ++ x ∷ []) y ≡ (same_text x y || is_among ts y)
 among_last [] x y = refl

@@ -1,6 +1,6 @@
 -- A model is typed, or what is told is its fault.
 use Rattle.std.proofs.Common.{◌≡◌, ℕ, min, ◌||◌, Option, Some, None, refl, sym, ap, ◌∙◌, subst, nat_lt, arith}
-use Rattle.std.proofs.lemmas.Bool.{ltb-false}
+use Rattle.std.proofs.lemmas.Bool.{ltb-false, or_parts as neither}
 use Rattle.xs_tree.specs.Flat.{FlatModel}
 use Rattle.xs_type_laws.specs.Judged.{KindRule}
 use Rattle.xs_type_laws.specs.Costs.{model_cost, state_bits}
@@ -14,7 +14,6 @@ use Rattle.xs_types.specs.Faults.{IsFaultOf, told_fault}
 use Rattle.xs_types.specs.Sites.{told_first_site, fault_by}
 use Rattle.xs_types.proofs.SiteLaws.{fault_told}
 use Rattle.xs_types.proofs.SizeLaws.{below_cap}
-use Rattle.xs_flat_laws.proofs.Now.{neither}
 
 pub fault_answered : (m : FlatModel) (first : Option Site) (cost bits : ℕ) → first ≡ told_first_site (first_of (breaches m)) → cost ≡ min (model_cost m) 50001 → bits ≡ min (state_bits m) 50001 →
     fault_by first (nat_lt 50000 cost || nat_lt 4096 bits) ≡ told_fault (first_fault m)

@@ -22,10 +22,6 @@ or_right : (a b c : Bool) → (b ≡ true → c ≡ true) → (a || b) ≡ true 
 or_right true b c h e = refl
 or_right false b c h e = h e
 
-or_swap : (a b : Bool) → a ≡ true → (a || b) ≡ true
-or_swap true b e = refl
-or_swap false b e = cc
-
 sections_symbol : (affected : Text → Bool) (ss ts : List SectionTree) (x : Text) → is_symbol_of_sections ss x ≡ true →
     is_symbol_of_sections (map (woven_section affected) ss ++ ts) x ≡ true
 sections_symbol affected [] ts x h = cc

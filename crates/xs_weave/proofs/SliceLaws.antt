@@ -25,7 +25,7 @@ case_done slice f last ms ts l h k =
     ∙ ap (λ e. case_of (branches_from (map (λ m. (stands slice m.name, f m)) ms ++ (truth true, e) ∷ []))) k
     ∙ ap case_of (mode_branches_from slice f last ms)
 
-own_first : (x : ExtensionTree) (xs : List ExtensionTree) (m : Text) → slices_from (x ∷ xs) m ≡ own_slices x m ++ slices_from xs m
+pub own_first : (x : ExtensionTree) (xs : List ExtensionTree) (m : Text) → slices_from (x ∷ xs) m ≡ own_slices x m ++ slices_from xs m
 own_first x xs m = go (same_text x.of_module m)
   where
     go : (b : Bool) → (if b then x.slices ++ slices_from xs m else slices_from xs m) ≡ (if b then x.slices else []) ++ slices_from xs m

@@ -23,8 +23,9 @@ use Rattle.xs_weave_rules.specs.declared.fault.Rule.{Rule}
 use Rattle.xs_weave_rules.specs.declared.fault.Rule.TheVariants.{NoSuchVariable, NotAStateVariable, DoubleSlice, DoubleMode, VariableTaken, NameTaken}
 use Rattle.xs_weave_rules.specs.Rules.{target_kind, is_not_declared, is_state_variable, opposite_of, is_slice_name, is_mode_name, is_affected_already, is_program_name, state_names, states_before, owns_before, is_taken, is_known, is_local_member, hides_symbol, slice_adds_taken, mode_adds_taken, effect_rules, first_of, broken_at}
 use Rattle.xs_weave_rules.specs.Judged.{IsReadableEffect}
-use Rattle.xs_weave_rules.proofs.ProgramNames.{or_false, among_not}
+use Rattle.xs_weave_rules.proofs.ProgramNames.{among_not}
 use Rattle.xs_weave_rules.proofs.KeptItems.{among_left, among_right, among_map, IsKeptSlice, ModeAfter, mode_at}
+use Rattle.std.proofs.lemmas.Bool.{or_parts as or_false}
 
 first_none : (b : Bool) (r : Rule) (rs : List (Bool × Rule)) → first_of ((b, r) ∷ rs) ≡ None → (b ≡ false) × (first_of rs ≡ None)
 first_none true r rs h = cc
@@ -214,7 +215,7 @@ free_symbols m (members ms) h = free_members m ms h
 free_symbols m (instance n actuals) h = tt
 
 -- an effect that is refused for nothing may stand at the variable
-constant_within : (a b : Bool) → constant_fault a b ≡ None → b ≡ true
+pub constant_within : (a b : Bool) → constant_fault a b ≡ None → b ≡ true
 constant_within false b h = cc
 constant_within true true h = refl
 constant_within true false h = cc
@@ -244,7 +245,7 @@ module _ (p : ProgramTree) (at : Place) (m : ModuleTree) where
   effect_allowed (ramp_down d f) (instance n actuals) h r = cc
 
 -- the module of an instance is the one of its name
-found_named : (p : ProgramTree) (x : Text) (m : ModuleTree) → find_module p x ≡ Some m → m.name ≡ x
+pub found_named : (p : ProgramTree) (x : Text) (m : ModuleTree) → find_module p x ≡ Some m → m.name ≡ x
 found_named [] x m h = cc
 found_named (n ∷ p) x m h = go (same_text n.name x) refl h (found_named p x m)
   where

@@ -1,5 +1,5 @@
 -- What sets and maps of texts hold, as lists.
-use Rattle.std.proofs.Common.{◌≡◌, ℕ, ◌+◌, ◌<◌, Bool, true, false, List, [], ◌∷◌, ◌++◌, Option, Some, None, map, refl, sym, ◌∙◌, ap, subst, nat_eq, is_some, arith, length, get_or, drop}
+use Rattle.std.proofs.Common.{◌≡◌, ℕ, ◌+◌, ◌<◌, Bool, true, false, List, [], ◌∷◌, ◌++◌, Option, Some, None, map, refl, sym, ◌∙◌, ap, subst, nat_eq, is_some, length, get_or, drop}
 use Rattle.std.specs.Prelude.{◌||◌, ◌&&◌, cond, if◌then◌else◌, option_map, flat_map}
 use Rattle.std.specs.List.{list_any}
 use Rattle.std.specs.Cmp.Lexicographic.{pointwise}
@@ -10,9 +10,7 @@ use Rattle.xs_tree.specs.ProgramTree.{Text}
 use Rattle.xs_tree.specs.Texts.{same_text, is_among}
 use Rattle.xs_tree.proofs.ValueLaws.{both_true, same_text_equal}
 use Rattle.xs_weave_rules.specs.Keyed.{with_text, with_texts, first_with, with_entry, with_entries, is_pair_among, with_pair, with_pairs}
-
-eq_sym : (c d : ℕ) → nat_eq c d ≡ nat_eq d c
-eq_sym c d = grind arith
+use Rattle.xs_tree.proofs.BorrowedTexts.{turned as eq_sym}
 
 -- the test of a key is the test of texts
 pub same_bytes : (x y : Text) → pointwise nat_eq x y ≡ same_text y x
@@ -147,7 +145,7 @@ pairs_more ps [] rs = refl
 pairs_more ps (q ∷ qs) rs = pairs_more (with_pair ps q) qs rs
 
 -- a text is among texts with one more where it is among them or is that one
-or_same : (xs : List Text) (y x : Text) (b : Bool) → is_among xs y ≡ true → (b ≡ true → y ≡ x) → is_among xs x ≡ (is_among xs x || b)
+pub or_same : (xs : List Text) (y x : Text) (b : Bool) → is_among xs y ≡ true → (b ≡ true → y ≡ x) → is_among xs x ≡ (is_among xs x || b)
 or_same xs y x false h e = sym (or_false (is_among xs x))
 or_same xs y x true h e = let here : is_among xs x ≡ true = subst (λ z. is_among xs z ≡ true) (e refl) h in rw here refl
 

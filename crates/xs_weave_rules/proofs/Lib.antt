@@ -3,8 +3,8 @@ pub mod ProgramNames
 pub mod KeptItems
 pub mod KeptFacts
 pub mod WeavableLaw
-mod KeyedLaws
+pub mod KeyedLaws
 mod LocalLaws
-mod SiteFaults
+pub mod SiteFaults
 mod CountLaws
 pub mod PlacingLaws

@@ -8,10 +8,7 @@ use Rattle.xs_tree.specs.Scope.{Role, state, input, frozen_role, Kind, undeclare
 use Rattle.xs_tree.proofs.ValueLaws.{same_text_refl}
 use Rattle.xs_fei.specs.Weavable.{Among}
 use Rattle.xs_weave_rules.specs.Rules.{is_name_of_decls, is_name_of_defines, is_name_of_section, is_name_of_module, is_program_name}
-
-pub or_false : (a b : Bool) → (a || b) ≡ false → (a ≡ false) × (b ≡ false)
-or_false true b h = cc
-or_false false b h = (refl, h)
+use Rattle.std.proofs.lemmas.Bool.{or_parts as or_false}
 
 pub any_false : {A : Type 0} (test : A → Bool) (xs : List A) (x : A) → list_any test xs ≡ false → Among xs x → test x ≡ false
 any_false test [] x h a = absurd a

@@ -26,7 +26,7 @@ slice_of o = o.slice
 same_twice : (x y : Text) → x ≡ y → same_text x y ≡ false → ⊥
 same_twice x y e h = let t : same_text x x ≡ true = same_text_refl x in let u : same_text x x ≡ false = subst (λ z. same_text x z ≡ false) (sym e) h in cc
 
-both_false : (a b : Bool) → (a && b) ≡ false → a ≡ true → b ≡ true → ⊥
+pub both_false : (a b : Bool) → (a && b) ≡ false → a ≡ true → b ≡ true → ⊥
 both_false true true h e f = cc
 both_false true false h e f = cc
 both_false false b h e f = cc

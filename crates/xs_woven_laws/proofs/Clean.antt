@@ -19,9 +19,7 @@ use Rattle.xs_fei.specs.Templates.{named, number_tree, value_tree, member_value,
 use Rattle.xs_weave.specs.Woven.{start_tree, mode_branches, set_one, guard_formula, entries_from, stay_branch}
 use Rattle.xs_fei.specs.Weavable.{Among}
 use Rattle.xs_woven_laws.proofs.WovenNamesLeaves.{join_three}
-
-neither_one : (a b : Bool) → a ≡ false → b ≡ false → (a || b) ≡ false
-neither_one a b h k = λ j. h j || k j
+use Rattle.std.proofs.lemmas.Bool.{or_from as neither_one}
 
 module _ (P : Path → Type 0) where
   pub record Clean (t : Formula) : Type 0 where

@@ -17,22 +17,19 @@ use Rattle.xs_fei.specs.Templates.{named, number_tree, clipped_tree, branch, gre
 use Rattle.xs_weave.specs.Woven.{start_rules}
 use Rattle.xs_fei.specs.declared.fault.EffectFault.{EffectFault}
 use Rattle.xs_fei.specs.declared.fault.EffectFault.TheVariants.{Outside}
-use Rattle.xs_fei.specs.Allowed.{is_small, offset_fits, ramp_fits, fault_unless, constant_fault, is_of_kind, fault_of}
+use Rattle.xs_fei.specs.Allowed.{is_small, offset_fits, ramp_fits, fault_unless, is_of_kind, fault_of}
 use Rattle.xs_type_laws.specs.Intervals.{Interval, just, sum_of, difference_of, fits}
 use Rattle.xs_type_laws.specs.Judged.{Class, truth_class, number_class, symbol_class, Kind, Judged, judged_number, judge}
 use Rattle.xs_type_laws.specs.Declared.{judged_declared}
 use Rattle.xs_woven_laws.proofs.Rightly.{Rightly, not_right, connective_right, order_right, same_right, choice_right, choice_alone}
 use Rattle.xs_woven_laws.proofs.Numbers.{numbers_in, numbers_right, small_fits, between_fits, number_judged, sum_judged, difference_judged}
 use Rattle.xs_woven_laws.proofs.Domains.{class_of, range_kept, range_kind, MembersKnown, domain_right, value_right}
+use Rattle.xs_weave_rules.proofs.KeptFacts.{constant_within}
 
 -- no fault
 pub unless_none : (b : Bool) (f : EffectFault) → fault_unless b f ≡ None → b ≡ true
 unless_none true f e = refl
 unless_none false f e = cc
-
-constant_within : (a b : Bool) → constant_fault a b ≡ None → b ≡ true
-constant_within false b e = cc
-constant_within true b e = unless_none b Outside e
 
 module _ (K : Path → Kind) (P : Path → Type 0) where
   -- the names of a slice have the kinds that they are to have

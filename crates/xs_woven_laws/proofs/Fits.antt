@@ -1,7 +1,7 @@
 -- A top event that keeps every rule over the program is one of the extension's model with history.
 use Rattle.std.proofs.Common.{◌≡◌, ℕ, ◌≤◌, ◌+◌, Bool, true, false, List, [], ◌∷◌, ◌++◌, length, Option, Some, None, refl, sym, ap, ◌∙◌, arith}
 use Rattle.std.specs.Prelude.{nat_lt}
-use Rattle.std.proofs.lemmas.Bool.{ltb-false}
+use Rattle.std.proofs.lemmas.Bool.{ltb-false, false_from_ne_true as not_true}
 use Rattle.std.proofs.lemmas.List.{length-append}
 use Rattle.xs_tree.specs.Tree.{Tree, Trees, Branches, truth as is_truth, number as is_number, leaf, not_of, negate, next_of, binary, choice, case_of, set_of, span, no_tree, tree_then, no_branch, branch_then}
 use Rattle.xs_tree.specs.Leaves.{tree_map, trees_map, branches_map}
@@ -12,7 +12,6 @@ use Rattle.xs_flat_laws.specs.History.{Mode, bit_variables, with_history}
 use Rattle.xs_flat_laws.specs.Resolved.{leaves_in, has_next, trees_have_next, branches_have_next, Resolver, IsSound, IsResolved}
 use Rattle.xs_flat_laws.specs.Rules.{next_here, input_here, IsAccepted, GivesInput}
 use Rattle.xs_flat_laws.specs.Model.{IsFlatOf}
-use Rattle.xs_flat_laws.proofs.KindLaws.{not_true}
 use Rattle.xs_flat_laws.proofs.Lists.{leaves_map}
 use Rattle.xs_type_laws.specs.Costs.{cost_of}
 use Rattle.xs_type_laws.specs.Judged.{truth_class, Judged, KindRule, not_boolean, unless_class}

@@ -13,8 +13,6 @@ use Rattle.xs_flat_laws.specs.Rules.{no_main, main_has_parameters, double_module
 use Rattle.xs_flat_laws.proofs.Reaches.{each_left, each_right}
 use Rattle.xs_flat_laws.proofs.Conditions.{each_join}
 use Rattle.xs_flat_laws.proofs.Lists.{each_of_map, each_map, each_more, map_joined}
-use Rattle.xs_flat_laws.proofs.KindLaws.{not_true}
-use Rattle.xs_flat_laws.proofs.Now.{neither}
 use Rattle.xs_fei.specs.Instructions.{SliceTree, InstructionTree, slices_of, is_affected}
 use Rattle.xs_fei.specs.AddedNames.{own_name, mode_variable}
 use Rattle.xs_weave.specs.Woven.{woven_module, woven}
@@ -31,6 +29,8 @@ use Rattle.xs_woven_laws.specs.WovenNamesLaws.{OnlyLimits}
 use Rattle.xs_woven_laws.proofs.Orders.{EachAfter, after_numbered, numbered_after, after_more, after_two, after_each, each_after, Pairwise, pairs_join, pairs_after, after_pairs}
 use Rattle.xs_woven_laws.proofs.WovenNamesItems.{woven_item, slice_items, taken_woven, slice_rules_nothing}
 use Rattle.xs_woven_laws.proofs.Slices.{SlicesApart, slices_apart, own_new, mode_new}
+use Rattle.std.proofs.lemmas.Bool.{false_from_ne_true as not_true, or_parts as neither}
+use Rattle.xs_flat_laws.proofs.KindLaws.{among_split as among_parts}
 
 -- the names of items
 abbrev names_in : List Item → List Text
@@ -83,12 +83,6 @@ Unlike x y = same_text x y ≡ false
 
 unlike : (x y : Text) → (x ≡ y → ⊥) → Unlike x y
 unlike x y h = not_true (same_text x y) (λ e. h (same_text_equal x y e))
-
-among_parts : (xs ys : List Text) (x : Text) → is_among (xs ++ ys) x ≡ false → (is_among xs x ≡ false) × (is_among ys x ≡ false)
-among_parts [] ys x h = (refl, h)
-among_parts (z ∷ xs) ys x h =
-    let s : (same_text z x ≡ false) × (is_among (xs ++ ys) x ≡ false) = neither _ _ h in
-    let r : (is_among xs x ≡ false) × (is_among ys x ≡ false) = among_parts xs ys x s.1 in (rw s.0 r.0, r.1)
 
 among_none : (xs ys : List Text) (x : Text) → is_among xs x ≡ false → is_among ys x ≡ false → is_among (xs ++ ys) x ≡ false
 among_none [] ys x h k = k

@@ -14,11 +14,11 @@ use Rattle.xs_type_laws.specs.Declared.{judged_declared}
 use Rattle.xs_type_laws.specs.Laws.{IsKnown, ReadsOwn, AreInOrder, ReadOwn, IsClosed}
 use Rattle.xs_type_laws.specs.Models.{kind_at, leaf_kind, judged_variables, judged_after, judged_definitions, kind_of_leaf, judged_in, broken_condition, breaches_at, condition_breaches, breaches}
 use Rattle.xs_type_laws.proofs.ModelLaws.{IsRight, judge_agrees, all_leaves_more}
-use Rattle.xs_type_laws.proofs.Parts.{none_first, none_second}
 use Rattle.xs_woven_laws.specs.Modes.{HasSymbols}
 use Rattle.xs_woven_laws.proofs.Rightly.{Rightly, none_joined, condition_right, connective_right, same_right}
-use Rattle.xs_woven_laws.proofs.Leaves.{get_map}
 use Rattle.xs_woven_laws.proofs.Items.{parts_of, none_broken}
+use Rattle.xs_encode_laws.proofs.HistoryTyped.{conditions_joined as joined_breaches}
+use Rattle.xs_type_laws.proofs.WrittenLaws.{get_map}
 
 -- What is judged of the first variables stays with more.
 same_below : {A B : Type 0} (f : A → B) (xs ys : List A) (i : ℕ) → i < length xs → slice_get (map f (xs ++ ys)) i ≡ slice_get (map f xs) i
@@ -38,12 +38,6 @@ module _ (vs vs' : List Judged) (variables symbols : ℕ) (same : (i : ℕ) → 
       let j = judge (leaf_kind vs js) false d.value in
       let here = judge_agrees (leaf_kind vs' js) (leaf_kind vs js) false d.value (all_leaves_more (IsKnown variables symbols n) (λ l. leaf_kind vs' js l ≡ leaf_kind vs js l) (known_kind js n) d.value h.0) in
       ap (λ x. judged_after vs' (js ++ x ∷ []) ds) here ∙ same_definitions ds (js ++ j ∷ []) (suc n) (length_end js j ∙ ap suc e) h.1
-
-joined_breaches : (m : FlatModel) (xs ys : List FlatFormula) → condition_breaches m xs ≡ [] → condition_breaches m ys ≡ [] → condition_breaches m (xs ++ ys) ≡ []
-joined_breaches m [] ys h g = g
-joined_breaches m (x ∷ xs) ys h g =
-    let here = breaches_at x.number x.item (broken_condition (judged_in m false x.value)) in
-    none_joined here (condition_breaches m (xs ++ ys)) (none_first here (condition_breaches m xs) h) (joined_breaches m xs ys (none_second here (condition_breaches m xs) h) g)
 
 -- A bit is a truth value.
 bit_there : (xs : List FlatVariable) (i : ℕ) (fs : List Mode) (j : ℕ) → j < length fs → slice_get (judged_variables (xs ++ bit_variables i fs)) (length xs + j) ≡ Some (judged_declared boolean)

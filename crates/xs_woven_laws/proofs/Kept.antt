@@ -24,10 +24,11 @@ use Rattle.xs_flat_laws.proofs.Lists.{map_joined}
 use Rattle.xs_type_laws.specs.Judged.{Kind, Judged, judged_same}
 use Rattle.xs_type_laws.specs.Declared.{judged_declared}
 use Rattle.xs_type_laws.specs.Models.{kind_of_leaf, judged_in, broken_condition}
-use Rattle.xs_woven_laws.proofs.Leaves.{kind_given, HasLeaf, resolved_judged, has_leaves, one_type, declared_so, variable_kind}
+use Rattle.xs_woven_laws.proofs.Leaves.{kind_given, HasLeaf, resolved_judged, has_leaves, declared_so, variable_kind}
 use Rattle.xs_woven_laws.proofs.Definitions.{variable_there, variable_woven, same_kind, written_agrees}
 use Rattle.xs_woven_laws.proofs.Items.{IsKeptAt, KeepsAt}
 use Rattle.xs_woven_laws.proofs.Renamed.{name_variable, KeepsKinds, judge_both}
+use Rattle.xs_type_laws.proofs.TraceLaws.{one_type}
 
 -- The items of a woven section are the section's items, woven.
 abbrev pub woven_item : (Text → Bool) → Item → Item

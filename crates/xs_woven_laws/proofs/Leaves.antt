@@ -1,10 +1,10 @@
 -- The kinds of a program's names, by what resolves them in its flat model.
-use Rattle.std.proofs.Common.{◌≡◌, ℕ, zero, suc, ◌+◌, arith, Bool, false, List, [], ◌∷◌, ◌++◌, length, map, Option, Some, None, refl, sym, ap, ◌∙◌, subst}
+use Rattle.std.proofs.Common.{◌≡◌, ℕ, zero, suc, ◌+◌, arith, Bool, false, List, [], ◌∷◌, ◌++◌, length, Option, Some, None, refl, sym, ap, ◌∙◌, subst}
 use Rattle.std.specs.Prelude.{slice_get, codes}
 use Rattle.xs_tree.specs.Tree.{Tree, Trees, Branches, truth as is_truth, number as is_number, leaf, not_of, negate, next_of, binary, choice, case_of, set_of, span, no_tree, tree_then, no_branch, branch_then}
 use Rattle.xs_tree.specs.Laws.{AllLeaves, AllLeavesOfTrees, AllLeavesOfBranches}
 use Rattle.xs_tree.specs.ProgramTree.{Text, Path, Formula, DeclaredTree, ModuleTree, ProgramTree}
-use Rattle.xs_tree.specs.Scope.{Place, Role, a_variable, kind_in, find_module}
+use Rattle.xs_tree.specs.Scope.{Place, Role, find_module}
 use Rattle.xs_tree.specs.Trace.{Each, IsVariable}
 use Rattle.xs_tree.specs.Flat.{FlatLeaf, flat_variable, flat_symbol, flat_definition, FlatVariable, FlatFormula, FlatModel}
 use Rattle.xs_flat_laws.specs.Items.{Visit, visits, variables_of}
@@ -14,7 +14,7 @@ use Rattle.xs_flat_laws.specs.Model.{IsVariableOf, IsVariableNumber, IsFlatOf}
 use Rattle.xs_flat_laws.proofs.Conditions.{each_at}
 use Rattle.xs_flat_laws.proofs.Lists.{each_more, get_end, get_within, length_end}
 use Rattle.xs_flat_laws.proofs.Places.{has_main}
-use Rattle.xs_flat_laws.proofs.Resolving.{Known, names_known}
+use Rattle.xs_flat_laws.proofs.Resolving.{Known, names_known, each_leaf as each_unit}
 use Rattle.xs_flat_laws.proofs.Variables.{both_at_second}
 use Rattle.xs_flat_laws.proofs.Walkable.{main_is_there}
 use Rattle.xs_type_laws.specs.Judged.{Kind, Judged, truth_class, judge}
@@ -23,7 +23,8 @@ use Rattle.xs_type_laws.specs.Models.{kind_at, leaf_kind, judged_variables, judg
 use Rattle.xs_type_laws.proofs.ClosedLaws.{all_leaves}
 use Rattle.xs_type_laws.proofs.Mapped.{judge_mapped}
 use Rattle.xs_type_laws.proofs.ModelLaws.{after_keeps, judge_agrees}
-use Rattle.xs_type_laws.proofs.WrittenLaws.{IsReal, real_all}
+use Rattle.xs_type_laws.proofs.WrittenLaws.{IsReal, real_all, get_map}
+use Rattle.xs_type_laws.proofs.TraceLaws.{one_type}
 
 -- the kind of what is given for a name
 abbrev pub kind_given : FlatModel → Option FlatLeaf → Kind
@@ -39,10 +40,6 @@ pub resolved_judged : (m : FlatModel) (q : Path → Option FlatLeaf) (e : Formul
     judged_in m sets flat ≡ judge (λ name. kind_given m (q name)) sets e
 resolved_judged m q e flat sets is = sym (judge_mapped Some (kind_given m) sets flat) ∙ ap (judge (kind_given m) sets) is ∙ judge_mapped q (kind_given m) sets e
 
-each_unit : (ls : List FlatLeaf) → Each (λ l. Unit {0}) ls
-each_unit [] = tt
-each_unit (l ∷ ls) = (tt, each_unit ls)
-
 -- a leaf with what is known of it
 abbrev pub HasKnown : (FlatLeaf → Type 0) → (Path → Option FlatLeaf) → Path → Type 0
 HasKnown P q name = (l : FlatLeaf) × (q name ≡ Some l) × P l
@@ -55,17 +52,6 @@ known_leaves P q e flat is h =
 pub has_leaves : (q : Path → Option FlatLeaf) (e : Formula) (flat : Tree FlatLeaf) → IsResolved q e flat → AllLeaves (HasLeaf q) e
 has_leaves q e flat is =
     all_leaves (HasLeaf q) e (each_more (λ name. Known (λ l. Unit {0}) (q name)) (HasLeaf q) (leaves_in e) (λ name k. (k.found, k.is)) (names_known (λ l. Unit {0}) q e flat is (each_unit (leaves_in flat))))
-
-pub get_map : {A B : Type 0} (f : A → B) (xs : List A) (i : ℕ) (x : A) → slice_get xs i ≡ Some x → slice_get (map f xs) i ≡ Some (f x)
-get_map f [] i x e = cc
-get_map f (y ∷ xs) zero x e = let same : y ≡ x = cc in ap (λ z. Some (f z)) same
-get_map f (y ∷ xs) (suc i) x e = get_map f xs i x e
-
--- Variables.
-pub one_type : (p : ProgramTree) (at : Place) (x : Text) (r q : Role) (s t : DeclaredTree) → IsVariable p at x r s → IsVariable p at x q t → s ≡ t
-one_type p at x r q s t a b =
-    let same : a.0 ≡ b.0 = cc (a.1, b.1) in
-    let kinds : a_variable r s ≡ a_variable q t = sym a.2 ∙ ap (λ m. kind_in m x) same ∙ b.2 in cc
 
 module _ (p : ProgramTree) (m : FlatModel) (walkable : IsWalkable p) (is : IsFlatOf p m) where
   -- a numbered variable is declared with its role and type

@@ -17,21 +17,12 @@ use Rattle.xs_fei.specs.Weavable.{Among}
 use Rattle.xs_weave_rules.specs.Sites.{OwnedSlice, owned, Site, a_slice, a_mode, mode_sites, slice_sites, extension_sites}
 use Rattle.xs_weave_rules.specs.Rules.{broken_at}
 use Rattle.xs_weave_rules.specs.FirstBroken.{AllKept}
-use Rattle.xs_weave_rules.proofs.KeptItems.{among_left, among_right}
+use Rattle.xs_weave_rules.proofs.KeptItems.{among_left, among_right, among_either}
 use Rattle.xs_weave_rules.proofs.KeptFacts.{ModeKept, mode_facts}
 use Rattle.xs_weave_rules.proofs.ProgramNames.{any_false}
 use Rattle.xs_flat_laws.proofs.Reaches.{each_left, each_right}
 use Rattle.xs_woven_laws.proofs.Rightly.{none_joined}
-
--- What holds of each item holds of those of a slice of a module.
-among_either : {A : Type 0} (xs ys : List A) (x : A) → Among (xs ++ ys) x → Among xs x ⊎ Among ys x
-among_either [] ys x a = inr a
-among_either (y ∷ xs) ys x (inl e) = inl (inl e)
-among_either (y ∷ xs) ys x (inr a) = go (among_either xs ys x a)
-  where
-    go : Among xs x ⊎ Among ys x → Among (y ∷ xs) x ⊎ Among ys x
-    go (inl b) = inl (inr b)
-    go (inr b) = inr b
+use Rattle.std.proofs.lemmas.Bool.{or_from as or_none}
 
 module _ (Q : Site → Type 0) where
   -- the item of the slice, and those of its modes
@@ -78,9 +69,6 @@ text_differs x y h = by (same_text x y) refl
     by : (b : Bool) → same_text x y ≡ b → same_text x y ≡ false
     by true e = absurd (h (same_text_equal x y e))
     by false e = e
-
-or_none : (a b : Bool) → a ≡ false → b ≡ false → (a || b) ≡ false
-or_none a b e f = ap (λ c. c || b) e ∙ f
 
 true_not_false : (b : Bool) → b ≡ true → b ≡ false → ⊥
 true_not_false b e f = cc

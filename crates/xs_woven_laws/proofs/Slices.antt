@@ -17,6 +17,7 @@ use Rattle.xs_weave_rules.proofs.ProgramNames.{any_false}
 use Rattle.xs_weave_rules.proofs.KeptItems.{all_slices, slice_in_file, IsKeptSlice, AreKeptSlices, StandsAfter, kept_at, extensions_kept}
 use Rattle.xs_weave_rules.proofs.KeptFacts.{SliceKept, slice_facts, free}
 use Rattle.xs_woven_laws.proofs.Orders.{EachAfter, Pairwise, pairs_join, pairs_left, pairs_right, pairs_across, pairs_after}
+use Rattle.xs_weave_rules.proofs.WeavableLaw.{both_false}
 
 not_itself : (x y : Text) → same_text x y ≡ false → x ≡ y → ⊥
 not_itself x y h e = let same : same_text x x ≡ true = same_text_refl x in let no : same_text x x ≡ false = subst (λ z. same_text x z ≡ false) (sym e) h in cc
@@ -28,11 +29,6 @@ OwnedApart o q = (o.slice.name ≡ q.slice.name → ⊥) × (o.owner ≡ q.owner
 -- two slices of a module
 abbrev pub SlicesApart : SliceTree → SliceTree → Type 0
 SlicesApart s t = (s.name ≡ t.name → ⊥) × (s.target ≡ t.target → ⊥)
-
-both_false : (a b : Bool) → (a && b) ≡ false → a ≡ true → b ≡ true → ⊥
-both_false true true h e f = cc
-both_false true false h e f = cc
-both_false false b h e f = cc
 
 module _ (p : ProgramTree) where
   apart_before : (before : List OwnedSlice) (o : OwnedSlice) → IsKeptSlice p before o → Each (λ q. OwnedApart q o) before

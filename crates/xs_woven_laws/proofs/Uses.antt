@@ -35,7 +35,7 @@ use Rattle.xs_flat_laws.proofs.Reaches.{each_left, each_right}
 use Rattle.xs_flat_laws.proofs.Variables.{variables_are}
 use Rattle.xs_type_laws.specs.Judged.{Class, truth_class, Kind, KindRule, mismatch, not_boolean, unless_class, Judged, judge}
 use Rattle.xs_type_laws.specs.Declared.{judged_declared}
-use Rattle.xs_type_laws.specs.Models.{judged_in, least_after, least, breaches}
+use Rattle.xs_type_laws.specs.Models.{judged_in, least, breaches}
 use Rattle.xs_type_laws.proofs.Flags.{same_judged}
 use Rattle.xs_type_laws.proofs.Parts.{none_first, none_second, class_kept}
 use Rattle.xs_extend_laws.specs.Uses.{use_of_site, uses_from, uses_at}
@@ -44,21 +44,14 @@ use Rattle.xs_woven_laws.proofs.Rightly.{Rightly}
 use Rattle.xs_woven_laws.proofs.Domains.{class_of, MemberKnown}
 use Rattle.xs_woven_laws.proofs.Effects.{SliceKinds, ModeKinds}
 use Rattle.xs_woven_laws.proofs.Moves.{ModesJudged}
-use Rattle.xs_woven_laws.proofs.Leaves.{kind_given, HasLeaf, one_type, declared_so}
+use Rattle.xs_woven_laws.proofs.Leaves.{kind_given, HasLeaf, declared_so}
 use Rattle.xs_woven_laws.proofs.Definitions.{variable_there, written_agrees}
 use Rattle.xs_woven_laws.proofs.Items.{listed, one_module, parts_of}
 use Rattle.xs_woven_laws.proofs.Renamed.{name_variable, name_symbol}
 use Rattle.xs_woven_laws.proofs.Kept.{own_kind_at, target_kind_at}
 use Rattle.xs_woven_laws.proofs.Sites.{SliceItems, slice_items, HasItem, mode_items}
-
--- no rule is the least
-none_least : (rs : List KindRule) → least rs ≡ None → rs ≡ []
-none_least [] e = refl
-none_least (r ∷ rs) e = absurd (some_after r (least rs) e)
-  where
-    some_after : (r : KindRule) (o : Option KindRule) → least_after r o ≡ None → ⊥
-    some_after r None e = cc
-    some_after r (Some q) e = cc
+use Rattle.xs_type_laws.proofs.Least.{least_none as none_least}
+use Rattle.xs_type_laws.proofs.TraceLaws.{one_type}
 
 neither : (a b : Option KindRule) → or_else a b ≡ None → (a ≡ None) × (b ≡ None)
 neither None b e = (refl, e)

@@ -1,11 +1,9 @@
 -- A woven program breaks no rule of flattening but its limits.
-use Rattle.std.proofs.Common.{◌≡◌, ℕ, Bool, true, false, List, [], ◌∷◌, ◌++◌, map, flat_map, Some, refl, sym, ◌∙◌, ap, subst}
+use Rattle.std.proofs.Common.{◌≡◌, ℕ, true, false, List, [], ◌∷◌, ◌++◌, map, flat_map, Some, refl, sym, ◌∙◌, ap, subst}
 use Rattle.std.specs.Prelude.{slice_get, codes, option_map, if◌then◌else◌}
-use Rattle.xs_tree.specs.ProgramTree.{Text, ModuleTree, ProgramTree}
-use Rattle.xs_tree.specs.Texts.{same_text}
+use Rattle.xs_tree.specs.ProgramTree.{ModuleTree, ProgramTree}
 use Rattle.xs_tree.specs.Scope.{Place, find_module}
 use Rattle.xs_tree.specs.Trace.{Each, IsInstance}
-use Rattle.xs_tree.proofs.ValueLaws.{same_text_equal}
 use Rattle.xs_tree.specs.Flat.{FlatInstance}
 use Rattle.xs_flat_laws.specs.Items.{Item, NumberedItem, items_of, items_named, Visit, visits, instances_of}
 use Rattle.xs_flat_laws.specs.Rules.{no_such_module, wrong_count, module_loop, no_such_name, not_a_target, double_assign, define_loop, next_here, input_here, too_many, Site, a_visit, a_use, visit_sites, module_sites, use_sites, sites, Breaks, IsKept}
@@ -19,7 +17,7 @@ use Rattle.xs_weave.specs.Woven.{woven_module, woven}
 use Rattle.xs_weave.proofs.WovenKinds.{find_woven}
 use Rattle.xs_fei.proofs.AmongLaws.{each_at as each_among}
 use Rattle.xs_woven_laws.specs.WovenNamesLaws.{OnlyLimits, WithinLimits, IsExtendable, WovenKeepsNames, WovenBreaksLimitsAlone, WovenIsAccepted}
-use Rattle.xs_woven_laws.proofs.Orders.{EachAfter, after_numbered, numbered_after, after_two, after_more, after_each, each_after, each_two}
+use Rattle.xs_woven_laws.proofs.Orders.{EachAfter, after_numbered, numbered_after, after_two, after_more, after_each, each_after}
 use Rattle.xs_woven_laws.proofs.WovenNamesItems.{woven_item, slice_items, woven_items, added_flat, of_slices, items_numbered}
 use Rattle.xs_woven_laws.proofs.Walks.{visits_kept, same_instances}
 use Rattle.xs_woven_laws.proofs.Slices.{slices_apart}
@@ -28,6 +26,8 @@ use Rattle.xs_woven_laws.proofs.OldItems.{ItemKept, old_kept}
 use Rattle.xs_woven_laws.proofs.WovenNamesUses.{KeepsMode, uses_kept}
 use Rattle.xs_woven_laws.proofs.NewItems.{new_kept}
 use Rattle.xs_woven_laws.proofs.Once.{IsOnce, once_kept}
+use Rattle.xs_weave_rules.proofs.KeptFacts.{found_named as found_name}
+use Rattle.xs_flat_laws.proofs.KindLaws.{with_both as each_two}
 
 -- the walk
 visit_limits : (q : ProgramTree) (before : List Visit) (v : Visit) → VisitFacts q v → OnlyLimits q (a_visit before v)
@@ -56,14 +56,6 @@ use_limits q at j h other b = absurd b
 
 kept_use : (q : ProgramTree) (at : FlatInstance) (j : NumberedItem) → IsKept q (a_use at j) → UseKept q at.place j.before j.item
 kept_use q at j h = (record { names = h no_such_name; target = h not_a_target; loops = h define_loop; next = h next_here; inputs = h input_here }, h double_assign)
-
-found_name : (q : ProgramTree) (x : Text) (m : ModuleTree) → find_module q x ≡ Some m → m.name ≡ x
-found_name [] x m e = cc
-found_name (first ∷ more) x m e = by_name (same_text first.name x) refl e (found_name more x m)
-  where
-    by_name : (b : Bool) → same_text first.name x ≡ b → (if b then Some first else find_module more x) ≡ Some m → (find_module more x ≡ Some m → m.name ≡ x) → m.name ≡ x
-    by_name true t e rest = let same : first ≡ m = cc in sym (ap (λ (k : ModuleTree). k.name) same) ∙ same_text_equal first.name x t
-    by_name false t e rest = rest e
 
 module _ (p : ProgramTree) (i : InstructionTree) (can : IsExtendable p i) where
   -- the items of an instance of a module

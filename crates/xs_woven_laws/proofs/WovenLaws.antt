@@ -1,12 +1,12 @@
 -- The one fault of kinds that a woven program's flat model may have.
-use Rattle.std.proofs.Common.{◌≡◌, ℕ, true, List, [], ◌∷◌, map, Some, refl, ap, subst}
+use Rattle.std.proofs.Common.{◌≡◌, ℕ, true, List, [], ◌∷◌, ap, subst}
 use Rattle.xs_tree.specs.declared.program.Member.TheVariants as member
-use Rattle.xs_tree.specs.ProgramTree.{Text, ProgramTree}
-use Rattle.xs_tree.specs.Values.{Value, truth, number, symbol}
+use Rattle.xs_tree.specs.ProgramTree.{ProgramTree}
+use Rattle.xs_tree.specs.Values.{number}
 use Rattle.xs_tree.specs.Scope.{state}
-use Rattle.xs_tree.specs.Trace.{Each, AtSome, IsVariable, is_member, in_domain}
-use Rattle.xs_fei.specs.Instructions.{ModeTree, SliceTree, InstructionTree, slices_of}
-use Rattle.xs_fei.specs.AddedNames.{mode_variable, mode_symbol}
+use Rattle.xs_tree.specs.Trace.{Each, AtSome, IsVariable, in_domain}
+use Rattle.xs_fei.specs.Instructions.{InstructionTree, slices_of}
+use Rattle.xs_fei.specs.AddedNames.{mode_variable}
 use Rattle.xs_weave.specs.Woven.{mode_type, woven}
 use Rattle.xs_fei.specs.Weavable.{Among}
 use Rattle.xs_weave.proofs.Added.{among_contains}
@@ -20,10 +20,12 @@ use Rattle.xs_type_laws.specs.Models.{Breach, breaches, IsFault, at_an_item, of_
 use Rattle.xs_type_laws.proofs.ClosedLaws.{models_closed}
 use Rattle.xs_woven_laws.specs.Modes.{HasSymbols, IsSliceMode}
 use Rattle.xs_woven_laws.specs.Laws.{AreWoven, WovenBreaksNone, ModesHaveSymbols, SliceModesAreModes, HistoryBreaksNone, WovenBreaksSizeAlone}
-use Rattle.xs_woven_laws.proofs.Leaves.{declared_so, one_type}
+use Rattle.xs_woven_laws.proofs.Leaves.{declared_so}
 use Rattle.xs_woven_laws.proofs.Definitions.{variable_there}
 use Rattle.xs_woven_laws.proofs.WovenModel.{woven_kept}
 use Rattle.xs_woven_laws.proofs.History.{history_kept}
+use Rattle.xs_certificate_laws.proofs.Own.{type_symbol}
+use Rattle.xs_type_laws.proofs.TraceLaws.{one_type}
 
 pub woven_none : WovenBreaksNone
 woven_none p m i w a = woven_kept p i a.weavable m w a.program a.woven_program a.flat a.woven_flat a.no_breach a.items a.expressions
@@ -46,18 +48,6 @@ pub modes_symbols : ModesHaveSymbols
 modes_symbols p m i w a f s =
     record { variable = s.number.variable; is_variable = s.number.is; symbols = ap (λ t. (judged_declared t).kind.class) (state_type p m i w a f s) }
 
--- its values are symbols
-state_symbol : (slice : Text) (ms : List ModeTree) (v : Value) → is_member (map (λ mode. member.Symbol (mode_symbol slice (Some mode.name))) ms) v ≡ true → (x : Text) × (v ≡ symbol x)
-state_symbol slice [] v e = cc
-state_symbol slice (mode ∷ ms) (symbol x) e = (x, refl)
-state_symbol slice (mode ∷ ms) (truth b) e = state_symbol slice ms (truth b) e
-state_symbol slice (mode ∷ ms) (number n) e = state_symbol slice ms (number n) e
-
-type_symbol : (s : SliceTree) (v : Value) → in_domain (mode_type s) v ≡ true → (x : Text) × (v ≡ symbol x)
-type_symbol s (symbol x) e = (x, refl)
-type_symbol s (truth b) e = state_symbol s.name s.modes (truth b) e
-type_symbol s (number n) e = state_symbol s.name s.modes (number n) e
-
 pub modes_are_modes : SliceModesAreModes
 modes_are_modes p m i w a f s x e =
     record {
@@ -72,7 +62,7 @@ pub history_none : HistoryBreaksNone
 history_none m fs closed s right = history_kept m fs closed s right
 
 -- where no rule is broken at an item there is the fault of the size alone
-none_among : (first : Breach) (bs : List Breach) → bs ≡ [] → AtSome (λ b. b ≡ first) bs → ⊥
+pub none_among : (first : Breach) (bs : List Breach) → bs ≡ [] → AtSome (λ b. b ≡ first) bs → ⊥
 none_among first [] e h = h
 none_among first (b ∷ bs) e h = cc
 

@@ -26,7 +26,7 @@ use Rattle.xs_tree.specs.Flat.{flat_variable, FlatInstance, FlatVariable, FlatFo
 use Rattle.xs_flat_laws.specs.Items.{Item, a_declaration, a_definition, an_assignment, some_constants, an_init, an_invar, a_trans, NumberedItem, items_of_section, items_of, items_named, instances_of}
 use Rattle.xs_flat_laws.specs.Resolved.{Definition, Resolver}
 use Rattle.xs_flat_laws.specs.Rules.{IsWalkable}
-use Rattle.xs_flat_laws.specs.Model.{Condition, kept, kept_declared, first_conditions, each_conditions, step_conditions, kept_conditions, Written, conditions, Root, root_of_actual, roots_of_actuals, roots_of_type, roots_of_item, roots_of, EachBoth, IsDefinitionOf, IsFlatOf}
+use Rattle.xs_flat_laws.specs.Model.{Condition, kept, kept_declared, first_conditions, each_conditions, step_conditions, kept_conditions, Written, conditions, Root, root_of_actual, roots_of_actuals, roots_of_type, roots_of_item, roots_of, IsDefinitionOf, IsFlatOf}
 use Rattle.xs_flat_laws.proofs.Conditions.{each_at, each_from, each_flat, each_join}
 use Rattle.xs_flat_laws.proofs.Listed.{root_written}
 use Rattle.xs_flat_laws.proofs.Lists.{each_more, each_map, get_within}
@@ -46,16 +46,11 @@ use Rattle.xs_woven_laws.proofs.Kept.{woven_item, woven_items, EachAsked, own_ki
 use Rattle.xs_woven_laws.proofs.Sites.{mode_type_right}
 use Rattle.xs_woven_laws.proofs.Uses.{type_right, kept_items}
 use Rattle.xs_woven_laws.proofs.Added.{added_keep}
+use Rattle.xs_type_laws.proofs.ClosedLaws.{same_length}
 
 each_three : {A : Type 0} (P Q R : A → Type 0) (xs : List A) → Each P xs → Each Q xs → Each R xs → Each (λ x. P x × Q x × R x) xs
 each_three P Q R [] h g j = tt
 each_three P Q R (x ∷ xs) h g j = ((h.0, g.0, j.0), each_three P Q R xs h.1 g.1 j.1)
-
-same_length : {A B : Type 0} (R : A → B → Type 0) (xs : List A) (ys : List B) → EachBoth R xs ys → length xs ≡ length ys
-same_length R [] [] h = refl
-same_length R [] (y ∷ ys) h = absurd h
-same_length R (x ∷ xs) [] h = absurd h
-same_length R (x ∷ xs) (y ∷ ys) h = ap suc (same_length R xs ys h.1)
 
 -- what is judged as something right is right
 right_as : (js ks : List Judged) (i j : ℕ) (judged : Judged) → Each IsRight js → slice_get js i ≡ slice_get ks j → slice_get ks j ≡ Some judged → judged.broken ≡ []

@@ -7,8 +7,8 @@ use Rattle.xs_flat_laws.specs.Rules.{next_under_next, trees_next_under, branches
 use Rattle.xs_flat_laws.proofs.Reaches.{each_left, each_right}
 use Rattle.xs_flat_laws.proofs.Conditions.{each_join}
 use Rattle.xs_flat_laws.proofs.Lists.{each_more}
-use Rattle.xs_flat_laws.proofs.Now.{neither}
 use Rattle.xs_weave.specs.Woven.{tree_map_both, trees_map_both, branches_map_both}
+use Rattle.std.proofs.lemmas.Bool.{or_parts as neither}
 
 -- of three parts
 pub join_three : {A : Type 0} (P : A → Type 0) (xs ys zs : List A) → Each P xs → Each P ys → Each P zs → Each P (xs ++ (ys ++ zs))

@@ -3,8 +3,8 @@ use Rattle.std.specs.Prelude.{flat_map}
 use Rattle.xs_tree.specs.ProgramTree.{section_tree}
 use Rattle.xs_weave_rules.specs.Keyed.{with_texts}
 use Rattle.xs_weave_rules.specs.Names.{section_names}
-use Rattle.xs_causes_reader.proofs.Keyed.{texts_next}
 use Rattle.xs_causes_reader.proofs.names.add_sections.Goals as goal
+use Rattle.xs_weave_rules.proofs.KeyedLaws.{texts_next}
 
 pub loop-section-preserved : goal.loop-section-preserved
 loop-section-preserved c =

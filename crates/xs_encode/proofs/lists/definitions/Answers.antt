@@ -5,9 +5,10 @@ use Rattle.xs_tree.specs.declared.model.FlatModel.{FlatModel as Model}
 use Rattle.xs_tree.specs.ModelTree.{formula_tree}
 use Rattle.xs_expressions.specs.Built.{signals_of}
 use Rattle.xs_encode.specs.Copies.{source_model}
-use Rattle.xs_encode.proofs.ModelParts.{definition_right, at_mapped, got_in}
+use Rattle.xs_encode.proofs.ModelParts.{definition_right, got_in}
 use Rattle.xs_encode.proofs.ListLaws.{defines_next, defines_end}
 use Rattle.xs_encode.proofs.lists.definitions.Goals as goal
+use Rattle.xs_type_laws.proofs.WrittenLaws.{get_map as at_mapped}
 
 pub definition-requires-clause-right : goal.definition-requires-clause-right
 definition-requires-clause-right c =

@@ -19,7 +19,7 @@ choose-requires-clause-right c =
     fitted_below c.args.g.now c.args.width (signal_of c.args.b) c.in_ok-b.b c.in_ok-b.ensures least c.requires.right
 
 pub choose-requires-clause-room : goal.choose-requires-clause-room
-choose-requires-clause-room c = omega (arith, fitted_long c.args.width (word_in (signal_of c.args.a)) c.in_ok-a.a c.in_ok-a.ensures, c.in_ok-check_room.ensures.room, c.in_ok-check_width.ensures)
+choose-requires-clause-room c = omega (arith, fitted_long c.args.width (word_in (signal_of c.args.a)) c.in_ok-a.a c.in_ok-a.ensures, c.in_ok-check_room.ensures.room, c.in_ok-check_width.ensures.narrow)
 
 pub returns : goal.returns
 returns c =

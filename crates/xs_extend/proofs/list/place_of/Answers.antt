@@ -1,6 +1,6 @@
 use Rattle.std.proofs.Common.{arith}
-use Rattle.xs_extend.proofs.NumberLaws.{within}
 use Rattle.xs_extend.proofs.list.place_of.Goals as goal
+use Rattle.std.proofs.lemmas.Option.{slice_get_within as within}
 
 pub unreachable-requires : goal.unreachable-requires
 unreachable-requires c =

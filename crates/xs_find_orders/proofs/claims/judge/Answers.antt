@@ -8,7 +8,7 @@ use Rattle.xs_find_orders.proofs.ClaimLaws.{claim_accepted, claim_refused, line_
 use Rattle.xs_find_orders.proofs.claims.judge.Goals as goal
 
 pub expression-requires-clause-few : goal.expression-requires-clause-few
-expression-requires-clause-few c = let is : IsTrue c.are_few.result = grind arith in c.are_few.ensures is
+expression-requires-clause-few c = let is : IsTrue c.are_few.result = grind arith in c.are_few.ensures.few is
 
 pub judged-requires-clause-none : goal.judged-requires-clause-none
 judged-requires-clause-none c = c.requires.staged.none

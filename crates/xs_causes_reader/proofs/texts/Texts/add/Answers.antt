@@ -1,7 +1,7 @@
 use Rattle.std.proofs.Common.{map, ◌∙◌, ap}
 use Rattle.xs_weave_rules.specs.Keyed.{with_text}
-use Rattle.xs_causes_reader.proofs.Keyed.{put_text}
 use Rattle.xs_causes_reader.proofs.texts.Texts.add.Goals as goal
+use Rattle.xs_weave_rules.proofs.KeyedLaws.{put_text}
 
 pub returns : goal.returns
 returns c =

@@ -5,8 +5,8 @@ use Rattle.xs_cert.specs.declared.reading.Expect.{Expect}
 use Rattle.xs_cert.specs.declared.reading.Expect.TheVariants as expect
 use Rattle.xs_cert.specs.Reading.{then_expecting}
 use Rattle.xs_cert.proofs.Cutting.{unequal_then}
-use Rattle.xs_cert.proofs.LineLaws.{not_same}
 use Rattle.xs_cert.proofs.reading.Reading.take_end.Goals as goal
+use Rattle.xs_certificate_laws.proofs.LineReading.{not_same}
 
 abbrev end_by : Bool → Option Expect
 end_by t = if t then Some expect.NoLine else None

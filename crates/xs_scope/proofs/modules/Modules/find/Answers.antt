@@ -1,12 +1,12 @@
 -- The place of a name is one of the list.
 use Rattle.std.proofs.Common.{rules, ◌≡◌, ◌<◌, ◌∙◌, Some, None, length, ap, sym, subst}
 use Rattle.std.specs.Prelude.{slice_get}
-use Rattle.std.proofs.lemmas.Option.{slice_get-get_or}
+use Rattle.std.proofs.lemmas.Option.{slice_get-get_or, slice_get_within as get_less}
 use Rattle.xs_tree.specs.ProgramTree.{Text, program_tree}
 use Rattle.xs_tree.specs.Scope.{find_module}
 use Rattle.xs_scope.specs.declared.modules.Names.{Names}
 use Rattle.xs_scope.specs.Reading.{IsModuleAt}
-use Rattle.xs_scope.proofs.FoundModule.{not_found, listed, found, get_less}
+use Rattle.xs_scope.proofs.FoundModule.{not_found, listed, found}
 use Rattle.xs_scope.proofs.modules.Modules.find.Goals as goal
 
 pub index-requires : goal.index-requires

@@ -2,7 +2,7 @@
 use Rattle.std.proofs.Common.{rules, ◌≡◌, ◌<◌, ◌+◌, ◌-◌, ◌*◌, suc, ◌∙◌, Some, None, length, map, get_or, List, refl, ap, sym, subst, arith}
 use Rattle.std.specs.Prelude.{slice_get}
 use Rattle.std.proofs.lemmas.List.{length-append, length-map}
-use Rattle.std.proofs.lemmas.Option.{slice_get-get_or}
+use Rattle.std.proofs.lemmas.Option.{slice_get-get_or, slice_get_within as get_less}
 use Rattle.xs_tree.specs.ProgramTree.{Text, Path, instance, declared_tree}
 use Rattle.xs_tree.specs.declared.expr.Expr.{Expr}
 use Rattle.xs_tree.specs.Written.{tree_of}
@@ -20,7 +20,6 @@ use Rattle.xs_scope.proofs.PassedOn.{passed_on}
 use Rattle.xs_scope.proofs.ReadingLaws.{told_as, told_later, none_first}
 use Rattle.xs_scope.proofs.GoneLaws.{GoneSoFar, gone_none, gone_fault, gone_more}
 use Rattle.xs_scope.proofs.EnterLaws.{deeper, name_is, stands_there, told_there, entered_there}
-use Rattle.xs_scope.proofs.FoundModule.{get_less}
 use Rattle.xs_scope.proofs.MetLaws.{may_enter, met_inner, told_inner, met_other, told_other}
 use Rattle.xs_scope.proofs.walk.Walk.+walk.Goals as goal
 

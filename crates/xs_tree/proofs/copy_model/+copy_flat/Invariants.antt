@@ -1,7 +1,7 @@
 -- What is made so far has the trees of what was read so far.
 use Rattle.std.proofs.Common.{◌≡◌, map, take}
 use Rattle.xs_tree.specs.Written.{tree_of, branch_trees}
-use Rattle.xs_tree.proofs.copy_model.+copy.Given as goal
+use Rattle.xs_tree.proofs.copy_model.+copy_flat.Given as goal
 
 abbrev pub invariant-copy_expressions-loop-member : goal.invariant-copy_expressions-loop-member
 invariant-copy_expressions-loop-member l = map tree_of l.made ≡ map tree_of (take l.member-index l.members)
