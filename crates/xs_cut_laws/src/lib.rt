@@ -5,7 +5,7 @@
 //! taken out. How many patterns of faults contain no listed set falls with each (`specs/Uncovered.antt`).
 //! What clause lists say of a model is the record of `xs_encode_laws`, the only thing that is known of the encoding;
 //! there are also the traces of a flat model that reach a top event, and the faults that they have failed.
-//! `specs/Searched.antt` has the laws, over any lists with that record (`Always` of `specs/Laws.antt`), which the contracts
+//! `specs/Searched.antt` has the laws, of all models, systems and encodings (`Always` of `specs/Laws.antt`), which the contracts
 //! below carry.
 //!
 //! The encoding proves that record of its exact lists, and `specs/EncodedSearchLaws.antt` joins the two: the lists of a model
