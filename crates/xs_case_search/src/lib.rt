@@ -1,45 +1,33 @@
-//! Searches a case in memory for the minimal cut sets of a top event.
+//! Searches a case in memory for the minimal cut sets of a top event, and makes a certificate of what was found.
 //!
 //! [`search::analysed`] is the analysis of a case, and [`search::analysed_in`] the same in frames that serve for several top events
-//! of it. `xs_case_search` searches a typed model with faults; here it is the one that `xs_loading` gives, and more symbols than the
-//! search has numbers for are want of memory. The verbs that search stand above.
+//! of it. The case is the one that `xs_loading` gives, and more symbols than the search has numbers for are want of memory. The verbs
+//! that search stand above.
+//!
+//! Both stand on [`analyse`], which takes a typed model with faults and a top event: the generic search of `xs_cuts` over the clause
+//! lists that `xs_encode` makes. The file `faulty` has the model with its faults and a top event as that search sees
+//! it (`xs_cuts::encoded::Encoded`). What these must be is `IsSearchable` of `xs_cut_laws`, and what is
+//! answered is `IsAnswer` of `xs_cuts`, over the exact lists and bits of `xs_encode_laws`. The last moment of a trace gives no
+//! inputs: they get the least values of their domains. Frames know a model with its faults and no top event. So for many events of
+//! one model [`frames_of`] makes them once, and [`analyse_in`] searches in them for one event after another: the first states are
+//! learned once.
+//!
+//! [`certify`] prints the traces of an analysis, derives the three parts of its invariant by searches over the exact lists of the model
+//! with history, and puts all together. The certificate is accepted for that model, whoever judges it, and some text spells it
+//! (`specs/Certifiable.antt` says of what one can be made). Nothing here is trusted: what an accepted certificate shows is a law of
+//! `xs_certificate_laws`, which uses nothing of the search. [`told`] is how a report tells the ending of a search.
 //!
 //! What an analysis of a case is, and which bytes certify one, stands in `specs/Found.antt`, what a search answered of a model in
 //! `specs/Searches.antt`. That a case with a top event can be searched is the law `proofs/Analysable.antt`, and that a complete
 //! answer is certified `proofs/Certifying.antt`.
 //!
+//! The files: `search` (of a case), `typed` and `faulty` (of a typed model), `texts` (the lines of traces), `lists` (the lists of a
+//! model and the derivations over them), `making` (the whole certificate), and `ending`.
+//!
 //! ```text
 //! let size = size_of(None, case.limited.faults.len());
 //! let a = analysed(alloc, &case, &top, 50, size, &mut panel)?;
-//! ```
 //!
-//! The analysis of a typed model with faults for minimal cut sets.
-//!
-//! [`analyse`] searches for the minimal cut sets of a top event: the generic search of `xs_cuts` over the clause
-//! lists that `xs_encode` makes. The file `faulty` has the model with its faults and a top event as that search sees
-//! it (`xs_cuts::encoded::Encoded`). What these must be is `IsSearchable` of `xs_cut_laws`, and what is
-//! answered is `IsAnswer` of `xs_cuts`, over the exact lists and bits of `xs_encode_laws`.
-//!
-//! The last moment of a trace gives no inputs: they get the least values of their domains.
-//!
-//! Frames know a model with its faults and no top event. So for many events of one model [`frames_of`] makes them once, and
-//! [`analyse_in`] searches in them for one event after another: the first states are learned once.
-//!
-//! ```text
-//! // full is plain with history for the faults; depth 4; any number of faults
-//! analyse(alloc, &plain, &full, &faults, &top, 4, faults.len() as u32, &mut panel)
-//! ```
-//!
-//! A certificate made of a complete analysis.
-//!
-//! [`certify`] prints the traces of an analysis, derives the three parts of its invariant by searches over the exact lists of the model
-//! with history, and puts all together. The certificate is accepted for that model, whoever judges it, and some text spells it
-//! (`specs/Certifiable.antt` says of what one can be made). Nothing here is trusted: what an accepted certificate shows is a law of
-//! `xs_certificate_laws`, which uses nothing of the search.
-//!
-//! The files: `texts` (the lines of traces), `lists` (the lists of a model and the derivations over them), and `making` (the whole).
-//!
-//! ```text
 //! let certificate = certify(alloc, &full, &plain, &faults, &top, &analysis, &mut panel)?;
 //! write(alloc, &certificate)?    // "xsap-certificate 2\nbits 30 faults 6 size 6\n.."
 //! ```

@@ -1,4 +1,4 @@
-//! Common causes: events that bring several faults about within a window of steps.
+//! Common causes: events that bring several faults about within a window of steps. Definitions and laws, with no code.
 //!
 //! `specs/Caused.antt` says when a trace with moments of causes is a caused trace, and what its events are. `CausesText` and
 //! `CauseRules` have the grammar and the rules of a causes file. `Staged` is the model whose traces are the caused traces,
@@ -9,47 +9,25 @@
 //! // Surge#age is 1 at the moment of the surge, and Surge#hit#1 and Surge#hit#2 must be TRUE there
 //! ```
 //!
-//! Flat models with further variables after their own.
+//! The staged model is a flat model with further variables after its own. Such an addition is variables, symbols and formulas
+//! (`specs/Added.antt`). The traces of the model with it are the model's own, each with values of the added variables that meet
+//! the added formulas (`AddedLaws`): so whoever adds variables speaks of the added formulas alone.
 //!
-//! An addition is variables, symbols and formulas that stand after a model's own (`specs/Added.antt`). The traces of the
-//! model with it are the model's own, each with values of the added variables that meet the added formulas (`Laws`), which
-//! the contract below carries: so whoever adds variables speaks of the added formulas alone.
-//!
-//! ```text
-//! // a trace of two variables beside one added bit: (v ++ TRUE), (w ++ FALSE), ..
-//! ```
-//!
-//! What is right for the traces of the staged model of causes is right for caused traces and their events.
-//!
-//! `specs/Laws.antt` has the theorems, which the contract below carries: a caused trace corresponds to what the staged model
-//! tells of it, so that sets of events that are right for all staged traces, or for those of at most k steps, are right for
-//! caused traces, and so exactly their minimal cut sets.
-//!
-//! ```text
-//! // events 1 and 2 are the faults, event 3 is the cause: the sets 3 and 1 2
-//! ```
-//!
-//! Caused traces over extended traces.
-//!
-//! A caused trace is an extended trace with a moment or none for each cause (`specs/CausedTraces.antt`). `Laws` has the theorems,
-//! which the contracts below carry: an extension's model meets what the staged model asks of it, and sets of events that are
-//! right for flat caused traces are right for caused traces.
-//!
-//! ```text
-//! // a surge at moment 2 with the window 0..1: each struck mode stands at moment 2 or 3, or the trace ends before 3
-//! ```
-//!
-//! That no two faults of an extension have one name.
+//! A caused trace corresponds to what the staged model tells of it, so that sets of events that are right for all staged traces,
+//! or for those of at most k steps, are right for caused traces, and so exactly their minimal cut sets (`CausesRightLaws`). A
+//! caused trace of an extension is an extended trace with a moment or none for each cause (`specs/CausedTraces.antt`). By
+//! `CausesExtendedLaws` an extension's model meets what the staged model asks of it, and sets of events that are right for flat
+//! caused traces are right for caused traces.
 //!
 //! A fault's name is written by dots: the instances from `main` on, the slice, and the mode. The program breaks no rule of
 //! flattening, and no item of the instructions breaks a rule. Then the names in the list of faults are all different,
 //! so that a file of causes or a report that gives a name means one fault, and the first fault of a name is the only
-//! one. The laws are stated in `specs/Laws.antt`; the function below carries them and runs nothing.
+//! one. The laws are stated in `specs/FaultNamesLaws.antt`.
 //!
-//! The proofs go from names to lists. `Differ` has lists in which nothing stands twice. `Declared` has the rule that a
+//! Their proofs go from names to lists. `Differ` has lists in which nothing stands twice. `Declared` has the rule that a
 //! module declares no name twice, and `Places` that so no instance is listed twice. `Slices` has the rules that no
 //! two slices of a file have one name, and no two modes of a slice. `Names` puts them together: the last two parts of a
-//! name are the slice and the mode, and those before them are the instance. `Causes` and `Events` have what follows for
+//! name are the slice and the mode, and those before them are the instance. `Causes` and `FaultNamesEvents` have what follows for
 //! causes, and `Accepted` that the example breaks no rule.
 //!
 //! ```text

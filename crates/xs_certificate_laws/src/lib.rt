@@ -1,27 +1,4 @@
-//! Certified completeness: what an accepted certificate shows, whoever wrote it.
-//!
-//! A certificate is judged about the clause lists that encode a woven program's flat model with history (`specs/Certified.antt`).
-//! The proof is an induction over moments: the invariant's clauses hold in each first state, every step keeps them, and they exclude
-//! the bad states. So the listed sets are right for all flat traces, and by what flat traces are cut to for all extended traces
-//! (`specs/Completeness.antt`). It uses nothing of a search.
-//!
-//! ```text
-//! // accepted: sets 1, set 2; size 2
-//! // so each reaching trace, of whatever length, that has failed at most two faults has failed fault 2
-//! ```
-//!
-//! What is right for flat traces of an extension's model is right for extended traces.
-//!
-//! A flat trace of the woven program's model corresponds to the extended trace that its valuations are cut to
-//! (`specs/ExtendedTraces.antt`): the one is a trace, reaches the top event and has failed the fault of a number exactly where the
-//! other does. `Laws` has the theorems, which the contract below carries: sets that are right for all flat traces, or for those
-//! of at most k steps, are right for extended traces.
-//!
-//! ```text
-//! // fault 1 is the mode dark of the slice Lamp: it has failed where the variable Lamp#mode is Lamp#dark at some moment
-//! ```
-//!
-//! Certificates: their text, and when one is accepted.
+//! Certificates: their text, when one is accepted, and what an accepted one shows, whoever wrote it.
 //!
 //! A certificate lists fault sets with a trace text each, an invariant, and three derivations: that the invariant holds
 //! first, that every step keeps it, and that it excludes each bad state (`specs/Certificate.antt`, which also has the line
@@ -29,19 +6,30 @@
 //! `LineReading` and `Expecting` compute it line by line, for a reader to mirror. `Accepted` has the eleven rules, what each
 //! asks at which line, and the objection: the smallest line where a rule is broken, and the smallest rule there. `Sites` has
 //! what is judged in the order of lines, for a checker to mirror. `Derived` says which derivations make a certificate
-//! accepted, and what a search is asked for them. `Laws`, `TextLaws` and `Judgement` have what holds of all this, which the
-//! contracts below carry; `proofs/Examples.antt` computes a small certificate.
+//! accepted, and what a search is asked for them. `CertificateLaws`, `TextLaws` and `Judgement` have what holds of all this, which
+//! the contracts below carry; `proofs/Examples.antt` computes a small certificate.
 //!
 //! ```text
 //! // line 7 of a certificate, a step: the clause -2 follows by unit propagation along the clauses 1, 6 and 4
 //! // step -2 : 1 6 4
 //! ```
 //!
-//! What the certificates of a model are judged about: the exact lists of its encoding.
+//! A certificate is judged about its subject: the clause lists of a model with history and, for any sets and size, that of its bad
+//! states, gate by gate as `xs_encode_laws` has them (`specs/Subject.antt`). So the code that makes a certificate and the code
+//! that judges one speak of one subject, and a law says that it is one of those that encode the model (`specs/Certified.antt`).
 //!
-//! `specs/Subject.antt` has the subject of a model, its faults and a top event: the clause lists of the model with history and, for
-//! any sets and size, that of its bad states, gate by gate as `xs_encode_laws` has them. So the code that makes a certificate and the code
-//! that judges one speak of one subject. The law says that it is one of those that `xs_certificate_laws` rests on.
+//! What an accepted certificate shows is proved by induction over moments: the invariant's clauses hold in each first state, every
+//! step keeps them, and they exclude the bad states. So the listed sets are right for all flat traces, and by what flat traces are
+//! cut to for all extended traces (`specs/Completeness.antt`). It uses nothing of a search.
+//!
+//! A flat trace of the woven program's model corresponds to the extended trace that its valuations are cut to
+//! (`specs/ExtendedTraces.antt`): the one is a trace, reaches the top event and has failed the fault of a number exactly where the
+//! other does. By `Laws`, sets that are right for all flat traces, or for those of at most k steps, are right for extended traces.
+//!
+//! ```text
+//! // accepted: sets 1, set 2; size 2
+//! // so each reaching trace, of whatever length, that has failed at most two faults has failed fault 2
+//! ```
 #![tactic(auto)]
 
 ghost use Rattle.xs_certificate_laws.specs.Analysed.{AnalysedIsAccepted};

@@ -1,30 +1,4 @@
-//! Words of literals, and the gates of their arithmetic.
-//!
-//! A [`word::Word`] is a list of literals, the least significant first and the last one the sign. In an
-//! assignment it is a whole number in two's complement: `word_value` of `specs/Words.antt`, over
-//! `signed_value` of `specs/Bits.antt`. Each call appends the gates of one operation to a
-//! [`xs_circuits::gates::Gates`] and answers its word or literal.
-//!
-//! The circuits are written once as functions from circuits to circuits, in `specs/Sums.antt`,
-//! `Products.antt`, `Quotients.antt` and `Counts.antt`. Each call has four kinds of clauses: `exact`, that
-//! it built that circuit, clause for clause and number for number; `value`, that whatever values the old
-//! variables have, the new ones can be chosen so that the new clauses are true, and that in each
-//! assignment that makes the clauses true the answer is the operation on the operands' numbers, cut to
-//! the width (`IsCutTo`); `next`, how many variables it took; and `err`, that for want of memory the
-//! clauses are the old ones and some of the call's own. The layer above needs no more than these. A word
-//! must have a sign and only variables below the next free one (`IsWordOf`).
-//!
-//! `proofs/Numbers.antt` and `Orders.antt` know lists of bits alone, and the files `..Means.antt` say what
-//! the circuits mean, by the composition laws of xs_circuits; the calls' own proofs are equations on circuits.
-//!
-//! ```text
-//! let mut g = Gates::new(alloc, 2)?;
-//! let seven = number(alloc, &g, 7)?;                        // 1 1 1 -1
-//! let two = number(alloc, &g, -2)?;                         // -1 1
-//! let quotient = divide(alloc, &mut g, &seven, &two, 4)?;   // is -3 in each model of g's clauses
-//! ```
-//!
-//! Logic gates as clauses.
+//! Circuits as clauses: logic gates, and words of literals with the gates of their arithmetic.
 //!
 //! A [`gates::Gates`] is a list of clauses under construction. It always begins with the clause `[1]`,
 //! so the variable 1 and its negation are the constants. Each gate takes the next free variable and
@@ -40,10 +14,27 @@
 //! `proofs/Extension.antt`, which never look at a clause; a loop that builds a circuit is
 //! `proofs/Turns.antt`.
 //!
+//! A [`word::Word`] is a list of literals, the least significant first and the last one the sign. In an
+//! assignment it is a whole number in two's complement: `word_value` of `specs/Words.antt`, over
+//! `signed_value` of `specs/Bits.antt`. Each call of the files `constants`, `sums`, `compare`, `products`,
+//! `quotients` and `counts` appends the gates of one operation and answers its word or literal.
+//! The circuits are written once as functions from circuits to circuits, in `specs/Sums.antt`,
+//! `Products.antt`, `Quotients.antt` and `Counts.antt`. Each call has four kinds of clauses: `exact`, that
+//! it built that circuit, clause for clause and number for number; `value`, that whatever values the old
+//! variables have, the new ones can be chosen so that the new clauses are true, and that in each
+//! assignment that makes the clauses true the answer is the operation on the operands' numbers, cut to
+//! the width (`IsCutTo`); `next`, how many variables it took; and `err`, that for want of memory the
+//! clauses are the old ones and some of the call's own. The layer above needs no more than these. A word
+//! must have a sign and only variables below the next free one (`IsWordOf`).
+//!
+//! `proofs/Numbers.antt` and `Orders.antt` know lists of bits alone, and the files `..Means.antt` say what
+//! the circuits mean, by the composition laws; the calls' own proofs are equations on circuits.
+//!
 //! ```text
-//! let mut gates = Gates::new(alloc, 4)?;                         // [1]
-//! let two = Lit::new(2, false);
-//! let both = gates.and(two, Lit::new(3, false))?;                // 4, by [-4 2] [-4 3] [4 -2 -3]
+//! let mut g = Gates::new(alloc, 2)?;                        // [1]
+//! let seven = number(alloc, &g, 7)?;                        // 1 1 1 -1
+//! let two = number(alloc, &g, -2)?;                         // -1 1
+//! let quotient = divide(alloc, &mut g, &seven, &two, 4)?;   // is -3 in each model of g's clauses
 //! ```
 #![tactic(auto)]
 

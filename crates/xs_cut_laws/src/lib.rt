@@ -5,14 +5,17 @@
 //! taken out. How many patterns of faults contain no listed set falls with each (`specs/Uncovered.antt`).
 //! What clause lists say of a model is the record of `xs_encode_laws`, the only thing that is known of the encoding;
 //! there are also the traces of a flat model that reach a top event, and the faults that they have failed.
-//! `specs/Searched.antt` has the laws, which the contracts below carry.
+//! `specs/Searched.antt` has the laws, of all models, systems and encodings (`Always` of `specs/Laws.antt`), which the contracts
+//! below carry.
 //!
-//! That the lists of a model with history are those that a search for cut sets stands on.
-//!
-//! The encoding proves the record of `xs_encode_laws` of its exact lists; the search of `xs_cut_laws` takes that
-//! record. `specs/Laws.antt` joins the two. `specs/Searchable.antt` says what a model, its faults and a top
+//! The encoding proves that record of its exact lists, and `specs/EncodedSearchLaws.antt` joins the two: the lists of a model
+//! with history are those that a search for cut sets stands on. `specs/Searchable.antt` says what a model, its faults and a top
 //! event must be for a search on these lists, and has the laws that the code of a search stands on: the lists
 //! are such as frames take, and each state is that of a valuation with the least inputs.
+//!
+//! ```text
+//! // the sets 2 and 1 3 are listed: the new set 1 takes 1 3 out, and stands before 2
+//! ```
 #![tactic(auto)]
 
 ghost use Rattle.std.specs.Prelude.{◌≡◌, ℕ, true, [], ◌∷◌};

@@ -1,28 +1,26 @@
 //! What a model's clause lists are, and what they mean.
 //!
-//! The definitions of `specs/` give the exact clauses, gate by gate. `Widths` has how many bits words have;
-//! `Signals` what an expression becomes (a literal, or a word of literals) and the gates of each operator;
-//! `Expressions` an expression over any names, operands first, with membership as on the right of `in`;
-//! `Layout` which variables are the bits of the model's; `Inputs` what reads an input; `Lists` the copies of
-//! a model and its lists of first states, states, steps and bad states; `Bits` the bits of values. `Meanings`
-//! says what a signal says of a value, and `Encodable` which models are meant. What clause lists mean of a
-//! model is the record of `xs_encode_laws`, on which all layers above rest. `Laws` has the theorems as statements, which the
-//! contracts below carry.
-//!
-//! ```text
-//! // VAR x : boolean; INIT x in FALSE: bit x is variable 2 now and 3 next, and gates begin at 4
-//! // first: [1] [-4 2 -1] [-4 -2 1] [4 -2 -1] [4 2 1] [-4]
-//! ```
-//!
-//! What clause lists say of a flat model, and what their invariants show.
-//!
-//! `specs/Encoded.antt` is the interface between an encoding and what searches or checks over it: the first states, the
-//! steps and the bad states of a system of clause lists are those of a flat model's valuations. `FlatTraces` says when
-//! a flat trace reaches a top event and which faults it has failed. `Laws` has the theorem that the contract below carries.
+//! What clause lists say of a flat model is one record, on which all layers above rest. `specs/Encoded.antt` has it, the interface
+//! between an encoding and what searches or checks over it: the first states, the steps and the bad states of a system of clause
+//! lists are those of the model's valuations. `FlatTraces` says when a flat trace reaches a top event and which faults it has
+//! failed. `EncodedLaws` has the theorem of invariants, for any lists with that record.
 //!
 //! ```text
 //! // clauses that hold first, are kept by every step and hold in no bad state: no reaching trace, of whatever length,
 //! // has failed at most n faults and all faults of no listed set
+//! ```
+//!
+//! The other definitions of `specs/` give the exact clauses, gate by gate. `Widths` has how many bits words have;
+//! `Signals` what an expression becomes (a literal, or a word of literals) and the gates of each operator;
+//! `Expressions` an expression over any names, operands first, with membership as on the right of `in`;
+//! `Layout` which variables are the bits of the model's; `Inputs` what reads an input; `Lists` the copies of
+//! a model and its lists of first states, states, steps and bad states; `Bits` the bits of values. `Meanings`
+//! says what a signal says of a value, and `Encodable` which models are meant. `Laws` has the theorems as statements, that the
+//! exact lists have that record among them, which the contracts below carry.
+//!
+//! ```text
+//! // VAR x : boolean; INIT x in FALSE: bit x is variable 2 now and 3 next, and gates begin at 4
+//! // first: [1] [-4 2 -1] [-4 -2 1] [4 -2 -1] [4 2 1] [-4]
 //! ```
 #![tactic(auto)]
 

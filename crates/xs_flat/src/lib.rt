@@ -2,7 +2,7 @@
 //!
 //! A program is modules that declare instances of one another. [`flatten`] goes through all instances
 //! from `main` on and makes of them one list of variables, one of definitions and three of formulas,
-//! whose names are numbers ([`Flat`]); or it tells the first of fourteen rules that the program breaks,
+//! whose names are numbers (`Flat` of `xs_tree`); or it tells the first of fourteen rules that the program breaks,
 //! and the item that breaks it ([`FlatFault`]). A name of a formula is looked up once, here: the layers
 //! above never see a dotted name or an instance's parameters. [`resolve_top`] and [`resolve_at`] do the
 //! same for an expression that is not part of the program, and a [`Scope`] keeps the tables for many of them.

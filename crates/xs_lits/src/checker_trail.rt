@@ -1,3 +1,4 @@
+//! The assignment of a checker, which is made free again at the cost of the variables that have a value.
 ghost use Rattle.std.specs.Prelude.{◌≡◌, ◌^◌, ◌<◌, None, length, IfOk, replicate};
 ghost use Rattle.xs_lits.specs.Assignment.{all_free, IsInRange, value_of, made_true};
 

@@ -1,44 +1,29 @@
-//! A search over a staged model.
+//! What searches of staged models say: of common causes, and of the order of two faults. Laws, with no code.
 //!
-//! Where a model with history can be searched with a top event, the model that is staged for two of its faults can be searched
-//! with what speaks against a claim of their order (`specs/Laws.antt`, which the contract below carries). The staged model has
-//! no faults of its own, and is typed as whoever makes it has found.
+//! Causes that break no rule add names that are new, so that the model with them keeps its variables and symbols apart
+//! (`specs/Names.antt`). Where the flat model of an extension is encodable and typed with the causes, it can be searched with
+//! their events (`specs/CausedLaws.antt`), and a certificate that is accepted for it shows its sets for all caused traces
+//! (`specs/Shown.antt`).
 //!
 //! ```text
-//! // (top & failed#1 & failed#2) & (!ahead): a state of this is looked for
+//! // Surge#age, Surge#event and own#1 are variables of the state, and no input is read in what is asked of them
 //! ```
 //!
-//! What a search against a claim says of extended traces.
-//!
-//! Where no staged trace speaks against a claim, every extended trace that reaches the top event and has failed exactly the
-//! set has the claimed relation; where none reaches it with exactly the set at all, there is no such extended trace
-//! (`specs/Laws.antt`, which the contract below carries). Both hold for all traces and for those of at most k steps.
+//! Where a model with history can be searched with a top event, the model that is staged for two of its faults can be searched
+//! with what speaks against a claim of their order (`specs/Laws.antt`). The staged model has no faults of its own, and is typed as
+//! whoever makes it has found. Where no staged trace speaks against a claim, every extended trace that reaches the top event and has
+//! failed exactly the set has the claimed relation; where none reaches it with exactly the set at all, there is no such extended
+//! trace (`specs/OrdersExtendedLaws.antt`). Both hold for all traces and for those of at most k steps.
 //!
 //! ```text
 //! // pair 1 2 before: the first moment of fault 1 is before that of fault 2 in each such trace
 //! ```
 //!
-//! What a search of a model without faults of its own says, and a certificate of one that lists no set.
-//!
 //! Where faults are told by variables of a model it has none of its own: the one set that a search may list is the empty one. So
 //! an answer that lists none says that no trace makes the expression TRUE at its end, and so does an accepted certificate that
-//! lists none; and the trace of a listed set makes it TRUE (`specs/Laws.antt`, which the contract below carries). The answer
-//! speaks of all traces, or of those of at most so many steps; the certificate speaks of all.
-//!
-//! ```text
-//! // complete and nothing listed: the expression is TRUE at the end of no trace
-//! ```
-//!
-//! Models with common causes, as a search, a certificate and a report take them.
-//!
-//! Causes that break no rule add names that are new, so that the model with them keeps its variables and symbols apart
-//! (`specs/Names.antt`). Where the flat model of an extension is encodable and typed with the causes, it can be searched with
-//! their events (`specs/Laws.antt`), and a certificate that is accepted for it shows its sets for all caused traces
-//! (`specs/Shown.antt`). The contracts below carry these laws.
-//!
-//! ```text
-//! // Surge#age, Surge#event and own#1 are variables of the state, and no input is read in what is asked of them
-//! ```
+//! lists none; and the trace of a listed set makes it TRUE (`specs/FaultlessLaws.antt`). The answer
+//! speaks of all traces, or of those of at most so many steps; the certificate speaks of all. The contracts below carry all
+//! these laws.
 #![tactic(auto)]
 
 ghost use Rattle.xs_reach_laws.specs.Laws.{StagedAreSearchable};

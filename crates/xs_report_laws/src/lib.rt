@@ -1,21 +1,17 @@
-//! What the answer of a search for cut sets says of extended traces.
+//! What is reported of a model with faults: when an analysis of extended traces is right, and what a table means.
 //!
-//! The search of `xs_cuts` answers for a flat model. These are laws over its definitions for the flat model of an
-//! extension: `specs/Answered.antt` sees an answer as the analysis that a report tells,
-//! `specs/Laws.antt` says that it is right for extended traces, and `specs/Searchable.antt` that such a model
-//! can be searched. The contracts below carry these laws. The only code is [`told`], the ending of a search as a
-//! report tells it.
+//! These are definitions and laws, with no code. `specs/ExtendedTraces.antt` says what an analysis is right for, and
+//! `specs/Tables.antt` what the entries of a table mean. What an analysis finds, its text and the texts of traces stand in
+//! `xs_text_laws`, tables and their text in `xs_fmea`.
+//!
+//! The search of `xs_cuts` answers for a flat model. For the flat model of an extension `specs/Answered.antt` sees an answer as the
+//! analysis that a report tells, `specs/Laws.antt` says that it is right for extended traces, and `specs/Searchable.antt` that such a
+//! model can be searched. The contracts below carry these laws.
 //!
 //! ```text
 //! // a complete answer: each reaching extended trace has failed all faults of some listed set
 //! // one bounded by 4: each of at most 4 steps has, and there is a chain of 4 frames for these sets
 //! ```
-//!
-//! What is reported of a model with faults: when an analysis of extended traces is right, and what a table means.
-//!
-//! These are definitions, with a law. `specs/ExtendedTraces.antt` says what an analysis is right for, and
-//! `specs/Tables.antt` what the entries of a table mean. What an analysis finds and its text stand in
-//! `xs_text_laws`, tables and their text in `xs_fmea`, the texts of traces in `xs_text_laws`.
 #![tactic(auto)]
 
 ghost use Rattle.xs_report_laws.specs.Laws.{AnswersAreAnalyses, AnswersArePrinted};

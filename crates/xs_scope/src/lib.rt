@@ -4,7 +4,7 @@
 //! on: which module a name is, which items and names a module has, which instances there are with their
 //! variables, what a name means at an instance, and which definitions an expression needs. The rules of
 //! modules and of the walk are tried on the way, and the first that is broken is told ([`FlatFault`]).
-//! The layer above judges all other rules and builds the flat model ([`FlatModel`]) from these tables,
+//! The layer above judges all other rules and builds the flat model (of `xs_tree`) from these tables,
 //! which contracts see by `specs/SceneTree.antt` (a [`names::Scene`]: what stands in each table) and
 //! `specs/NeedsTree.antt` (which definitions lie on a circle or read an input).
 //!

@@ -1,4 +1,9 @@
-//! The text of traces of a flat model.
+//! Texts that are told line by line: lines of bytes, traces of a flat model, and the report of an analysis.
+//!
+//! These are definitions and laws, with no code but an example, so that what prints a text and what says when an analysis
+//! is right stand on the same ones, and neither on the other. `specs/Lines.antt` has what a line is, how lines
+//! with their line feeds are bytes, and words with a space between; the laws stand in `proofs/`: bytes are cut into lines in one
+//! way (`Cuts`, `Separators`), and words are told apart (`Words`). Certificates stand on these as well.
 //!
 //! `specs/TraceText.antt` has what is printed of a trace: for each moment the line `moment i`, and for each variable in flat order
 //! the line `name = value`. `Given` says which trace a text gives, line by line in the text's own words: moments in order, in each
@@ -7,28 +12,9 @@
 //! value. `Laws` has what holds of all this, which the contracts below carry. All is said of models whose variables are printed as
 //! different words and whose types can be written (`IsPrintable`), as those of read programs are.
 //!
-//! ```text
-//! moment 0
-//! a.b.n = -3
-//! x = TRUE
-//! ```
-//!
-//! Lines of bytes.
-//!
-//! Texts that are read line by line, as certificates and traces, stand on this crate. `specs/Lines.antt` has what a line is, how lines
-//! with their line feeds are bytes, and words with a space between; the laws stand in `proofs/`: bytes are cut into lines in one
-//! way (`Cuts`, `Separators`), and words are told apart (`Words`). There is no code here.
-//!
-//! ```text
-//! // the lines `moment 0` and `x = TRUE` are the bytes moment 0\nx = TRUE\n
-//! ```
-//!
-//! What an analysis finds, and the text of its report.
-//!
-//! These are definitions, with no code but an example, so that what prints a report and what says when an analysis
-//! is right stand on the same ones, and neither on the other. `specs/Analysis.antt` has what is found: sets of
+//! `specs/Analysis.antt` has what an analysis finds: sets of
 //! faults, a trace for each, whether there is a first moment, and how the analysis ends. `specs/AnalysisText.antt`
-//! has the report: the lines of the faults, the sets, the traces (`xs_text_laws`), the ending, and the size where
+//! has the report: the lines of the faults, the sets, the traces, the ending, and the size where
 //! it is below the number of faults.
 //!
 //! ```text

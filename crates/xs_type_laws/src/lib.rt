@@ -8,7 +8,9 @@
 //! declared types, `Costs` has costs and state bits, and `Models` puts them together: definitions are
 //! judged in order, all breaches of a model, the first by instance, item and number, and the size last.
 //! `Safe` says when a value is of a kind, and when an expression divides by no 0 and has small numbers
-//! alone. `Laws` has the theorems as statements, which the contracts below carry; the layer above judges
+//! alone. `Least` has the least values of declared types: the last moment of a path gives no inputs, and a
+//! trace needs some, so each input variable gets the least value of its type. `Laws` has the theorems as
+//! statements, which the contracts below carry; the layer above judges
 //! models and expressions and cites them. The classes are the NuSMV 2.6 manual's; intervals are this
 //! project's own. `proofs/Examples.antt` computes examples of each row.
 //!
@@ -16,11 +18,6 @@
 //! // VAR x : 0..7; y : 1..3; the quotient x / y has the kind of numbers from 0 to 7
 //! // VAR z : 0..3; x / z breaks MayDivideByZero, the fourth rule
 //! ```
-//!
-//! The least values of declared types, and valuations that take their inputs from others.
-//!
-//! The last moment of a path gives no inputs. A trace needs some: each input variable gets the least value of its type
-//! (`specs/Least.antt`).
 #![tactic(auto)]
 
 ghost use Rattle.xs_type_laws.specs.Laws.{ValuesLieInKinds, ConditionsAreDecided, DefinitionsAreDefined, FlatModelsAreClosed, ResolvedMayHaveTheSame, WrittenValuesLieInKinds, WrittenConditionsAreDecided, OneFault, TypedHasNoFault, FirstFaultIsFound, SetsChangeNothing, WidthsAreLeast, DomainsAreThose, TracesAreThose};

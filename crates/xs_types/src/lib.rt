@@ -15,7 +15,7 @@
 //! expressions). An expression that breaks a rule has a class and no interval, so that each rule is told
 //! where it is broken and not at what stands around it.
 //!
-//! What is answered is what `xs_type_laws` defines, over `model_tree` and `flat_tree` of `xs_flat`: a typed
+//! What is answered is what `xs_type_laws` defines, over `model_tree` and `flat_tree` of `xs_tree`: a typed
 //! model meets `IsTyped`, a fault `IsFault`, and an expression is judged as by `judged_in`.
 //!
 //! ```text

@@ -6,7 +6,7 @@
 //! instructions, over its own text, with read and own values and modes. That it means this is a law
 //! about the text that the weave makes: [`woven_extends`]. The text, `woven` in `specs/Woven.antt`, is
 //! made by [`woven_program`]; what programs and instructions a weave takes stands in
-//! `specs/Weavable.antt`, and the list of faults in `specs/Faults.antt`.
+//! `specs/Weavable.antt` of `xs_fei`, and the list of faults in `specs/Faults.antt`.
 //!
 //! ```text
 //! seen := line;     // becomes   seen#nominal := line;   and, for a slice Eye with a mode wild,

@@ -1,50 +1,37 @@
-//! What weaving keeps of the rules of kinds: where a program and its instructions break none, the flat model
-//! of the woven program breaks none but, it may be, the one of its size.
+//! What weaving keeps of the rules of names and of kinds, and of a top event. Laws, with no code.
 //!
-//! These are laws over the definitions of the layers below, with no code. `specs/Laws.antt` states them over
-//! a program with its flat model and instructions (`AreWoven`), and `specs/Modes.antt` says which modes a
-//! model may be given the history of. Of the proofs, `Rightly`, `Numbers`, `Domains`, `Effects` and `Moves`
-//! judge what a slice adds, over any kinds of its names: the constants and domains of types, the branches and
-//! rule sections of effects, and the cases of the next mode and of what is read. `Leaves`, `Definitions` and
-//! `Renamed` show that the names and definitions of the program are judged in both flat models alike, also
-//! where an occurrence is renamed to that of the own value. `Items`, `Kept`, `Sites`, `Uses` and `Added` go
-//! over the items of all instances, first those of the program and then those that are added; `WovenModel`
-//! puts them together, and `History` adds the bits of a history.
-//!
-//! ```text
-//! // VAR x : 0..7; SLICE S AFFECTS x WITH MODE less : Permanent RampDown(2, 1);
-//! // x - 2 is from -2 to 5, within 32 bits, so the woven rule on next(x) breaks no rule
-//! ```
-//!
-//! What a weave keeps of the rules of flattening: a woven program breaks none of them but its limits.
-//!
-//! The program breaks no rule of flattening, no item of the instructions breaks a rule, and no guard and nothing
-//! that is followed breaks a rule of names at any instance (`IsExtendable` in `specs/Laws.antt`). Then the woven
+//! First of names: the program breaks no rule of flattening, no item of the instructions breaks a rule, and no guard and nothing
+//! that is followed breaks a rule of names at any instance (`IsExtendable` in `specs/WovenNamesLaws.antt`). Then the woven
 //! program has the same instances, and at every place where a rule may be broken it breaks none but that of too
 //! many instances or variables, since the weave adds variables. So whoever reads a woven program back has its
-//! limits and its kinds alone to judge. The laws are stated in `specs/Laws.antt`; the functions below carry them
-//! and run nothing.
-//!
-//! The proofs follow the order of the rules. `Items` has the items of a woven module: those of the module, with
-//! affected variables renamed, and then the added ones. `Looking` has look-ups, which take the steps that they
-//! took and find what they found, but for added variables and symbols. `Walks` has the walk over instances,
-//! `Headers` the rules of modules and of declared names, `OldItems` and `NewItems` the rules on names at the
-//! items of an instance, `Once` double assignments, and `Woven` puts them together.
+//! limits and its kinds alone to judge.
 //!
 //! ```text
 //! // VAR on : boolean;                   a program with 2,000 variables breaks no rule;
 //! // SLICE Lamp AFFECTS on WITH ..       the woven one has 2,002 and breaks the last rule, at an added item
 //! ```
 //!
-//! What a weave keeps of a top event: one that keeps every rule over the program keeps them all over the extension,
-//! and means there what it means in the program.
+//! Their proofs follow the order of the rules. `WovenNamesItems` has the items of a woven module: those of the module, with
+//! affected variables renamed, and then the added ones. `Looking` has look-ups, which take the steps that they
+//! took and find what they found, but for added variables and symbols. `Walks` has the walk over instances,
+//! `Headers` the rules of modules and of declared names, `OldItems` and `NewItems` the rules on names at the
+//! items of an instance, `Once` double assignments, and `Woven` puts them together.
 //!
-//! A top event is an expression at `main`. It is read over the program, for what it is refused for, and again over
-//! the woven program, whose flat model an analysis works on. These are laws over the definitions of the layers
-//! below, with no code: `specs/Tops.antt` has an expression that is read over both (`IsReadAs`), and
-//! `specs/Laws.antt` what then holds. It is refused for no rule of names, of kinds or of size the second time; it
-//! may have the values that it may have at the read values of a moment; and it is a top event of the extension's
-//! model, whose clauses can be written. The layer above reads it twice and cites them.
+//! Then of kinds: where a program and its instructions break no rule, the flat model of the woven program breaks none but, it may be,
+//! the one of its size. `specs/Laws.antt` states this over a program with its flat model and instructions (`AreWoven`), and
+//! `specs/Modes.antt` says which modes a model may be given the history of. Of the proofs, `Rightly`, `Numbers`, `Domains`, `Effects`
+//! and `Moves` judge what a slice adds, over any kinds of its names: the constants and domains of types, the branches and
+//! rule sections of effects, and the cases of the next mode and of what is read. `Leaves`, `Definitions` and
+//! `Renamed` show that the names and definitions of the program are judged in both flat models alike, also
+//! where an occurrence is renamed to that of the own value. `Items`, `Kept`, `Sites`, `Uses` and `Added` go
+//! over the items of all instances, first those of the program and then those that are added; `WovenModel`
+//! puts them together, and `History` adds the bits of a history.
+//!
+//! Last of a top event, an expression at `main`. It is read over the program, for what it is refused for, and again over
+//! the woven program, whose flat model an analysis works on. `specs/Tops.antt` has an expression that is read over both
+//! (`IsReadAs`), and `specs/WovenTopsLaws.antt` what then holds. One that keeps every rule over the program is refused for no rule of
+//! names, of kinds or of size the second time; it may have the values that it may have at the read values of a moment; and it is a
+//! top event of the extension's model, whose clauses can be written. The layer above reads it twice and cites these laws.
 //!
 //! ```text
 //! // VAR x : 0..7; SLICE S AFFECTS x WITH MODE dead : Permanent StuckAt(0); and the top event x = 0

@@ -1,8 +1,10 @@
 //! Extends SMV models with faults, replays traces of the extensions, finds their minimal cut sets, checks
 //! certificates of them, makes tables of them, generates cases, and bounds probabilities.
 //!
-//! `main` hands [`xs_run::run::run`], or for a further verb [`xsap_program::reach::run`], the words of the command line, a desk
+//! `main` hands [`xs_run::run::run`], or for a further verb [`reach::run`], the words of the command line, a desk
 //! over real files, and but for the further verbs the advisers of the search; all that is promised of a run stands at these calls.
+//! The desk over real files is `real_desk`. The file `reach` is the top call of the further verbs, over any desk, and `verbs` calls
+//! the crate of each; what a run of one comes to stands in `specs/Runs.antt`.
 //!
 //! ```text
 //! xsap_program extend --model lamp.smv --faults lamp.fei --extended out.smv
