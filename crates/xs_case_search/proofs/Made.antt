@@ -31,6 +31,7 @@ use Rattle.xs_encode_laws.specs.Encodable.{IsEncodable}
 use Rattle.xs_encode_laws.proofs.EncodingLaws.{bad_states_encoded}
 use Rattle.xs_encode_laws.proofs.HistoryPlaces.{history_last}
 use Rattle.xs_cut_laws.specs.Found.{traces_of}
+use Rattle.xs_cut_laws.proofs.FoundLaws.{each_at}
 use Rattle.xs_cuts.specs.Answer.{IsEnd}
 use Rattle.xs_cuts.specs.Progress.{CodeFound}
 use Rattle.xs_cuts.specs.Values.{value_of, values_of, trace_of, all_found}
@@ -55,13 +56,11 @@ use Rattle.xs_certificate_laws.specs.Subject.{subject_of}
 use Rattle.xs_certificate_laws.proofs.Subjects.{subjects_right}
 use Rattle.xs_case_search.specs.Texts.{text_lines, CanBePrinted}
 use Rattle.xs_case_search.specs.Certifiable.{IsCertifiable, IsCompleteAnswer, IsProof, bad_of, certificate_of}
-use Rattle.xs_case_search.proofs.Places.{all_by_place, recursion_from_each, recursion_from_all, pair_at, both_mapped}
+use Rattle.xs_case_search.proofs.Places.{all_by_place, each_weaker, recursion_from_each, recursion_from_all, pair_at, both_mapped}
 use Rattle.xs_flat_laws.proofs.HistoryLaws.{all_variables}
 use Rattle.xs_report_laws.proofs.Printed.{same_value, map_same as same_maps}
 use Rattle.xs_case_search.proofs.BadLists.{last_history as history_is_last}
-use Rattle.xs_encode_laws.proofs.SetLaws.{each_kept as each_weaker}
 use Rattle.xs_type_laws.proofs.WrittenLaws.{get_map}
-use Rattle.xs_flat_laws.proofs.Conditions.{each_at}
 
 same_told : (symbols : List Text) (trace : List (List Value)) → told_trace symbols trace ≡ trace_of symbols trace
 same_told symbols trace = same_maps (told_moment symbols) (values_of symbols) (λ v. same_maps (told_value symbols) (value_of symbols) (same_value symbols) v) trace

@@ -16,8 +16,8 @@ use Rattle.xs_lits.specs.Steps.{with_steps}
 use Rattle.xs_lits.proofs.FalseLemmas.{opposite-opposite}
 use Rattle.xs_certificate_laws.specs.Accepted.{Covers}
 use Rattle.xs_certificate_laws.specs.Derived.{asked, Solves, MayBeAsked, DerivationsGoOn}
+use Rattle.xs_certificate_laws.proofs.Values.{all_from_each}
 use Rattle.xs_certificate_laws.proofs.Steps.{steps_joined, with_joined, covers_by, covers_with, follows_with}
-use Rattle.xs_lits.proofs.ModelLemmas.{Satisfies-from_All as all_from_each}
 
 module _ (vars : ℕ) where
   -- what is asked has opposites of the goal's literals, all in range

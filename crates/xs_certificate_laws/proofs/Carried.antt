@@ -1,11 +1,11 @@
 -- What is right for flat traces of an extension's model is right for extended traces.
-use Rattle.std.proofs.Common.{◌≡◌, ◌↔◌, ℕ, suc, ◌+◌, ◌-◌, ◌≤◌, true, List, [], ◌∷◌, map, length, Some, refl, sym, ap, ◌∙◌, subst}
+use Rattle.std.proofs.Common.{◌≡◌, ◌↔◌, ℕ, zero, suc, ◌+◌, ◌-◌, ◌≤◌, true, List, [], ◌∷◌, map, length, Some, refl, sym, ap, ◌∙◌, subst}
 use Rattle.std.specs.Prelude.{slice_get}
 use Rattle.xs_tree.specs.Tree.{Tree}
 use Rattle.xs_tree.specs.ProgramTree.{Formula, ProgramTree}
 use Rattle.xs_tree.specs.Values.{Value, truth}
 use Rattle.xs_tree.specs.May.{Valuation, May}
-use Rattle.xs_tree.specs.Trace.{IsTrace}
+use Rattle.xs_tree.specs.Trace.{Each, IsTrace}
 use Rattle.xs_tree.specs.Flat.{FlatLeaf, FlatModel, FlatMay}
 use Rattle.xs_flat_laws.specs.History.{Mode}
 use Rattle.xs_flat_laws.specs.FlatTrace.{IsFlatTrace}
@@ -28,8 +28,15 @@ use Rattle.xs_encode_laws.specs.FlatTraces.{ReachesTop, HasFailedNumber}
 use Rattle.xs_certificate_laws.specs.ExtendedTraces.{IsModeOfFault, HasFailedFault, IsExtensionModel, IsFlatCut}
 use Rattle.xs_certificate_laws.specs.Laws.{FlatTracesAreCut, AllRightIsExtended, ShortRightIsExtended}
 use Rattle.xs_certificate_laws.proofs.Modes.{IsOfSlice, of_program, fails_iff}
-use Rattle.xs_flat_laws.proofs.Conditions.{each_at as each_place}
 use Rattle.xs_flat_laws.proofs.Variables.{both_at as both_left, both_at_second as both_right}
+
+pub each_place : {A : Type 0} (P : A → Type 0) (xs : List A) (k : ℕ) (x : A) → Each P xs → slice_get xs k ≡ Some x → P x
+each_place P [] k x h e = cc
+each_place P (a ∷ xs) zero x h e = subst P (same a x e) h.0
+  where
+    same : {A : Type 0} (a x : A) → Some a ≡ Some x → a ≡ x
+    same a x e = cc
+each_place P (a ∷ xs) (suc k) x h e = each_place P xs k x h.1 e
 
 module _ (p : ProgramTree) (i : InstructionTree) (faults : List Fault) (top : Formula) (m : FlatModel) (fs : List Mode) (flat_top : Tree FlatLeaf) (model : IsExtensionModel p i faults top m fs flat_top) where
   extension : IsExtensionOf p i (woven p i)

@@ -19,7 +19,11 @@ use Rattle.xs_text_laws.specs.Lines.{Line}
 use Rattle.xs_certificate_laws.specs.Accepted.{Subject, other_numbers, no_set, contains_a_set, no_text, no_trace, does_not_reach, other_faults, HasNumbers, IsSetAt, IsApart}
 use Rattle.xs_certificate_laws.proofs.Invariant.{accepted_is_invariant}
 use Rattle.xs_certificate_laws.specs.Certified.{IsSubjectOf, IsCertified, CertifiedIsRight}
-use Rattle.xs_flat_laws.proofs.Conditions.{each_from as each_from_places}
+
+-- what holds at each place holds of each
+each_from_places : {A : Type 0} (P : A → Type 0) (xs : List A) → ((k : ℕ) (x : A) → slice_get xs k ≡ Some x → P x) → Each P xs
+each_from_places P [] h = tt
+each_from_places P (x ∷ xs) h = (h zero x refl, each_from_places P xs (λ k y e. h (suc k) y e))
 
 -- texts that each give a trace give a list of them
 pub all_given : {A B : Type 0} (R : A → B → Type 0) (xs : List A) → ((k : ℕ) (x : A) → slice_get xs k ≡ Some x → (y : B) × R x y) → (ys : List B) × AreBoth R xs ys

@@ -14,8 +14,7 @@ use Rattle.xs_right_laws.proofs.Places.{get_within}
 use Rattle.xs_certificate_laws.specs.Certificate.{Certificate, Part, a_step, an_end, steps_in}
 use Rattle.xs_text_laws.specs.Lines.{Line}
 use Rattle.xs_certificate_laws.specs.Accepted.{Subject, bad_hint, no_conflict, not_covered, known_before, Covers, givens, goals, known_at, vars_of, IsAccepted}
-use Rattle.xs_certificate_laws.proofs.Values.{satisfies_one, one_of_them, covered_true}
-use Rattle.xs_lits.proofs.ModelLemmas.{Satisfies-append as satisfies_both}
+use Rattle.xs_certificate_laws.proofs.Values.{satisfies_both, satisfies_one, one_of_them, covered_true}
 
 -- hints that are neither bad nor all open end false
 ends_false : (clauses : List (List Literal)) (vars : ℕ) (c : List Literal) (hints : List ℕ) →

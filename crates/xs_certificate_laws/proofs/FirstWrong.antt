@@ -14,7 +14,6 @@ use Rattle.xs_text_laws.proofs.Words.{free_by_test, spaced_line, all_texts, all_
 use Rattle.xs_certificate_laws.proofs.OneText.{one_certificate}
 use Rattle.xs_text_laws.proofs.Cuts.{grouped, no_feed, same_fed}
 use Rattle.std.proofs.lemmas.List.{append-nil as append_none}
-use Rattle.xs_text_laws.proofs.GivenHasNone.{all_front as all_left}
 
 -- No line of a certificate has a line feed.
 small_line : (n : ℕ) → IsSmall n → IsFree 10 (decimal n)
@@ -86,6 +85,10 @@ all_lines v c f = (
     ),
   ),
 )
+
+all_left : {A : Type 0} (P : A → Type 0) (xs ys : List A) → AllByRecursion P (xs ++ ys) → AllByRecursion P xs
+all_left P [] ys h = tt
+all_left P (x ∷ xs) ys h = (h.0, all_left P xs ys h.1)
 
 pub are_lines : (lines : List Line) (c : Certificate) → AreLinesOf lines c → AllByRecursion IsLine lines
 are_lines lines c h = subst (AllByRecursion IsLine) (sym h.1.2) (all_lines h.1.0 c h.0)

@@ -11,9 +11,8 @@ use Rattle.xs_certificate_laws.specs.Certificate.{Part, part_first, part_next, p
 use Rattle.xs_text_laws.specs.Lines.{Line}
 use Rattle.xs_certificate_laws.specs.Accepted.{givens, goals, foreign_literal}
 use Rattle.xs_certificate_laws.specs.CertificateLaws.{AcceptedIsInvariant}
-use Rattle.xs_certificate_laws.proofs.Values.{one_of_them, agrees_at, same_clause, map_same}
+use Rattle.xs_certificate_laws.proofs.Values.{satisfies_both, all_from_each, one_of_them, agrees_at, same_clause, map_same}
 use Rattle.xs_certificate_laws.proofs.Derived.{goal_true}
-use Rattle.xs_lits.proofs.ModelLemmas.{Satisfies-append as satisfies_both, Satisfies-from_All as all_from_each}
 
 module _ (system : System) (s : State) (is_state : IsState system s) where
   -- the value of a state bit under an assignment that agrees from n on

@@ -16,7 +16,6 @@ use Rattle.xs_text_laws.proofs.Cuts.{grouped, Cut, cut, fed_joined}
 use Rattle.xs_certificate_laws.proofs.Expecting.{Finishes, none_after, after_joined, is_done, not_done, free_word, free_trace, numbers_exact, whole_then}
 use Rattle.std.proofs.lemmas.List.{append-nil as append_none}
 use Rattle.std.proofs.lemmas.Option.{none-some as never}
-use Rattle.xs_text_laws.proofs.GivenHasNone.{all_front as all_first}
 
 -- Forwards: a certificate's lines are taken.
 step_on : {A : Type 0} (f : A → Expect) (o : Option A) (a : A) (lines : List Line) → o ≡ Some a → after_lines (option_map f o) lines ≡ after_lines (Some (f a)) lines
@@ -249,6 +248,10 @@ scan e (l ∷ lines) = by_next (after e l) refl (λ f. scan f lines)
     by_next : (o : Option Expect) → after e l ≡ o → ((f : Expect) → ((g : Expect) × (after_lines (Some f) lines ≡ Some g)) ⊎ Stops f lines) → ((g : Expect) × (after_lines (Some e) (l ∷ lines) ≡ Some g)) ⊎ Stops e (l ∷ lines)
     by_next None t rest = inr (record { good = []; line = l; more = lines; expected = e; is = refl; taken_so_far = refl; not_taken = t })
     by_next (Some f) t rest = on f t (rest f)
+
+all_first : {A : Type 0} (P : A → Type 0) (xs ys : List A) → AllByRecursion P (xs ++ ys) → AllByRecursion P xs
+all_first P [] ys h = tt
+all_first P (x ∷ xs) ys h = (h.0, all_first P xs ys h.1)
 
 all_last : {A : Type 0} (P : A → Type 0) (xs ys : List A) → AllByRecursion P (xs ++ ys) → AllByRecursion P ys
 all_last P [] ys h = h

@@ -1,9 +1,9 @@
 -- A certificate that was made is accepted, and what its parts are to show follows from what is given there.
-use Rattle.std.proofs.Common.{◌≡◌, ℕ, zero, suc, ◌+◌, ◌<◌, true, ◌&&◌, List, [], ◌∷◌, ◌++◌, length, map, Some, None, refl, sym, ◌∙◌, ap, subst, arith}
+use Rattle.std.proofs.Common.{◌≡◌, ℕ, zero, suc, ◌+◌, ◌<◌, Bool, true, false, ◌&&◌, List, [], ◌∷◌, ◌++◌, length, map, Some, None, refl, sym, ◌∙◌, ap, subst, arith}
 use Rattle.std.specs.Prelude.{Contains, All, slice_get, slice_index_or}
 use Rattle.std.proofs.lemmas.List.Elements.{All-contains}
 use Rattle.xs_lits.specs.Literal.{Literal}
-use Rattle.xs_lits.specs.Models.{TotalAssignment, clause_value, Satisfies}
+use Rattle.xs_lits.specs.Models.{TotalAssignment, clause_value, all_true, Satisfies}
 use Rattle.xs_lits.specs.Hints.{HasNoOpposites, EndsFalse, EndsOpen, FailsAt, assumed_false}
 use Rattle.xs_lits.specs.Steps.{IsStep}
 use Rattle.xs_lits.specs.declared.step.Step.{Step}
@@ -15,10 +15,9 @@ use Rattle.xs_certificate_laws.specs.Certificate.{Certificate, Part, part_first,
 use Rattle.xs_text_laws.specs.Lines.{Line}
 use Rattle.xs_certificate_laws.specs.Accepted.{Subject, Rule, Keeps, other_numbers, no_set, contains_a_set, foreign_literal, bad_hint, no_conflict, not_covered, givens, vars_of, known_at, Covers}
 use Rattle.xs_certificate_laws.specs.Derived.{IsMade, MadeIsAccepted, GoalsFollow}
-use Rattle.xs_certificate_laws.proofs.Values.{one_of_them}
+use Rattle.xs_certificate_laws.proofs.Values.{satisfies_left, one_of_them}
 use Rattle.xs_certificate_laws.proofs.Invariant.{now_value, next_value, in_frame}
 use Rattle.xs_certificate_laws.proofs.Steps.{step_at, all_known}
-use Rattle.xs_lits.proofs.ModelLemmas.{Satisfies-back as satisfies_right, Satisfies-front as satisfies_left}
 
 -- hints that end false are not bad, and not all open
 not_bad : (clauses : List (List Literal)) (vars : ℕ) (c : List Literal) (hints : List ℕ) → EndsFalse clauses (assumed_false vars c) hints → (n : ℕ) → FailsAt clauses (assumed_false vars c) hints n → ⊥
@@ -82,6 +81,14 @@ length_bits n (suc k) v = ap suc (length_bits (n + 1) k v)
 agrees_bits : (n k : ℕ) (v : TotalAssignment) → Agrees v n (bits_from n k v)
 agrees_bits n zero v = tt
 agrees_bits n (suc k) v = (refl, agrees_bits (n + 1) k v)
+
+satisfies_right : (v : TotalAssignment) (cs ds : List (List Literal)) → Satisfies v (cs ++ ds) → Satisfies v ds
+satisfies_right v [] ds h = h
+satisfies_right v (c ∷ cs) ds h = satisfies_right v cs ds (second (clause_value v c) (all_true v (cs ++ ds)) h)
+  where
+    second : (a b : Bool) → (a && b) ≡ true → b ≡ true
+    second true b e = e
+    second false b e = cc
 
 -- a member of a mapped list comes from one of the list
 from_map : (f : List Literal → List Literal) (cs : List (List Literal)) (d : List Literal) → Contains (map f cs) d → (c : List Literal) × Contains cs c × (f c ≡ d)

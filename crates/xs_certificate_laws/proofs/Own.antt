@@ -15,7 +15,7 @@ use Rattle.xs_flat_laws.specs.Items.{Visit, visits, variables_of}
 use Rattle.xs_flat_laws.specs.Model.{IsVariableOf, EachBoth}
 use Rattle.xs_flat_laws.specs.FlatTrace.{IsOwnName, IsOwnFormula, NamesOwn, IsModeOf}
 use Rattle.xs_flat_laws.specs.Resolved.{leaves_in, trees_leaves, branches_leaves, Resolver, IsSound, IsResolved}
-use Rattle.xs_flat_laws.proofs.Conditions.{each_join, each_at as each_place}
+use Rattle.xs_flat_laws.proofs.Conditions.{each_join}
 use Rattle.xs_flat_laws.proofs.Lists.{each_more}
 use Rattle.xs_flat_laws.proofs.Places.{has_main}
 use Rattle.xs_flat_laws.proofs.Walkable.{accepted_walkable, main_is_there}
@@ -34,6 +34,7 @@ use Rattle.xs_encode_laws.specs.EncodedLaws.{AreOwn}
 use Rattle.xs_certificate_laws.specs.ExtendedTraces.{IsModeOfFault, IsExtensionModel}
 use Rattle.xs_certificate_laws.specs.Laws.{ExtensionModelsAreOwn}
 use Rattle.xs_certificate_laws.proofs.Modes.{IsOfSlice, of_program}
+use Rattle.xs_certificate_laws.proofs.Carried.{each_place}
 use Rattle.xs_type_laws.proofs.TraceLaws.{one_type}
 use Rattle.xs_flat_laws.proofs.Variables.{both_at_second as both_right}
 
@@ -61,19 +62,19 @@ mutual
   each_branch P (branch_then c a bs) h =
       each_join P (leaves_in c) (leaves_in a ++ branches_leaves bs) (each_leaf P c h.0) (each_join P (leaves_in a) (branches_leaves bs) (each_leaf P a h.1) (each_branch P bs h.2))
 
-pub own_name : (v s d : ℕ) (l : FlatLeaf) → IsKnown v s d l → IsOwnName v l
+own_name : (v s d : ℕ) (l : FlatLeaf) → IsKnown v s d l → IsOwnName v l
 own_name v s d (flat_variable i) h = h
 own_name v s d (flat_symbol i) h = tt
 own_name v s d (flat_definition i) h = tt
 
-pub own_names : (v s d : ℕ) (e : Tree FlatLeaf) → AllLeaves (IsKnown v s d) e → Each (IsOwnName v) (leaves_in e)
+own_names : (v s d : ℕ) (e : Tree FlatLeaf) → AllLeaves (IsKnown v s d) e → Each (IsOwnName v) (leaves_in e)
 own_names v s d e h = each_more (IsKnown v s d) (IsOwnName v) (leaves_in e) (own_name v s d) (each_leaf (IsKnown v s d) e h)
 
-pub own_definitions : (v s k : ℕ) (ds : List FlatFormula) → AreInOrder v s k ds → Each (IsOwnFormula v) ds
+own_definitions : (v s k : ℕ) (ds : List FlatFormula) → AreInOrder v s k ds → Each (IsOwnFormula v) ds
 own_definitions v s k [] h = tt
 own_definitions v s k (d ∷ ds) h = (own_names v s k d.value h.0, own_definitions v s (suc k) ds h.1)
 
-pub closed_own : (m : FlatModel) → IsClosed m → NamesOwn m
+closed_own : (m : FlatModel) → IsClosed m → NamesOwn m
 closed_own m closed = record {
   definitions = own_definitions (length m.variables) (length m.symbols) 0 m.definitions closed.definitions;
   at_first = formulas m.at_first closed.at_first;

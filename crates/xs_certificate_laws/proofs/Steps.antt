@@ -7,8 +7,8 @@ use Rattle.xs_lits.specs.Models.{FollowsFrom}
 use Rattle.xs_lits.specs.Steps.{IsStep, AreSteps, with_steps}
 use Rattle.xs_lits.specs.declared.step.Step.{Step}
 use Rattle.xs_certificate_laws.specs.Accepted.{known_before, Covers}
+use Rattle.xs_certificate_laws.proofs.Values.{satisfies_left}
 use Rattle.std.proofs.lemmas.List.{append-nil as append_none}
-use Rattle.xs_lits.proofs.ModelLemmas.{Satisfies-front as satisfies_left}
 
 -- steps, and then more
 pub steps_joined : (vars : ℕ) (cs : List (List Literal)) (xs ys : List Step) → AreSteps vars cs xs → AreSteps vars (with_steps cs xs) ys → AreSteps vars cs (xs ++ ys)

@@ -66,7 +66,7 @@ pub is_true : (b : Bool) → IsTrue b → b ≡ true
 is_true b h = h
 
 -- A value of such a type has the number of a symbol, where it is one.
-pub numbered : (symbols : List Text) (d : DeclaredTree) → IsWritableType d → (v : Value) → IsTrue (in_domain d (told_value symbols v)) → IsNumbered symbols v
+numbered : (symbols : List Text) (d : DeclaredTree) → IsWritableType d → (v : Value) → IsTrue (in_domain d (told_value symbols v)) → IsNumbered symbols v
 numbered symbols d w (ABool b) h = tt
 numbered symbols d w (Num n) h = tt
 numbered symbols d w (Sym i) h = by_text (slice_get symbols i) refl (is_true (in_domain d (told_value symbols (Sym i))) h)
@@ -75,7 +75,7 @@ numbered symbols d w (Sym i) h = by_text (slice_get symbols i) refl (is_true (in
     by_text None e f = absurd (no_empty_symbol d w f)
     by_text (Some x) e f = record { text = x; there = e }
 
-pub all_numbered : (symbols : List Text) (xs : List FlatVariable) → ((i : ℕ) (x : FlatVariable) → slice_get xs i ≡ Some x → IsWritableType x.declared) → (vs : List Value) →
+all_numbered : (symbols : List Text) (xs : List FlatVariable) → ((i : ℕ) (x : FlatVariable) → slice_get xs i ≡ Some x → IsWritableType x.declared) → (vs : List Value) →
     AreInDomains xs (told_moment symbols vs) → Each (IsNumbered symbols) vs
 all_numbered symbols [] w [] h = tt
 all_numbered symbols [] w (v ∷ vs) h = absurd h

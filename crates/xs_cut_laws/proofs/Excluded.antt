@@ -23,10 +23,9 @@ use Rattle.xs_encode_laws.specs.FlatTraces.{IsNumbered, ReachesTop, HasFailedNum
 use Rattle.xs_encode_laws.specs.Encoded.{is_true_at, bit_of, IsEncodingOf, IsBadMoment}
 use Rattle.xs_cut_laws.specs.Searched.{FlatTrace, IsSearched, AreFoundFlat, ClearIsRight, InvariantIsRight, FirstStatesShow}
 use Rattle.xs_encode_laws.proofs.SetLaws.{here, later, contained_has, true_or_false, contains_has, has_contains}
-use Rattle.xs_cut_laws.proofs.FoundLaws.{each_found, found_is_right}
+use Rattle.xs_cut_laws.proofs.FoundLaws.{each_found, each_both, found_is_right}
 use Rattle.xs_encode_laws.proofs.Numbers.{count_where}
 use Rattle.xs_encode_laws.proofs.HistoryFacts.{at_last, each_last, last_told, last_tells, range_length, unlisted_comes, failed_exactly, failed_small}
-use Rattle.xs_type_laws.proofs.ClosedLaws.{each_both}
 
 -- under some inputs a step is a step
 pub any_inputs : (system : System) (inputs : List Bool) (s t : State) → IsStepUnder system inputs s t → IsStepOf system s t

@@ -8,8 +8,6 @@ use Rattle.xs_right_laws.specs.Right.{IsContained, HasFailedAll, HasFailedAtMost
 use Rattle.xs_right_laws.specs.Sets.{IsRising, is_contained, stands_before}
 use Rattle.xs_cut_laws.specs.Found.{AreInOrder, Found, sets_of, traces_of, without, placed, with_found, AreApart, IsNew, IsFound, AreFound, ContainOneOf}
 use Rattle.xs_encode_laws.proofs.SetLaws.{each_kept, not_both, has_contains, contains_has, contained_from, contained_in_itself, before_through, before_either}
-use Rattle.xs_flat_laws.proofs.Conditions.{each_at}
-use Rattle.xs_type_laws.proofs.ClosedLaws.{each_both}
 
 -- Lists.
 pub each_filtered : {A : Type 0} (P : A → Type 0) (test : A → Bool) (xs : List A) → Each P xs → Each P (filter test xs)
@@ -19,6 +17,18 @@ each_filtered P test (x ∷ xs) h = by_test (test x) (each_filtered P test xs h.
     by_test : (b : Bool) → Each P (filter test xs) → Each P (cond b (x ∷ filter test xs) (filter test xs))
     by_test true k = (h.0, k)
     by_test false k = k
+
+pub each_both : {A : Type 0} (P Q R : A → Type 0) → ((x : A) → P x → Q x → R x) → (xs : List A) → Each P xs → Each Q xs → Each R xs
+each_both P Q R f [] h k = tt
+each_both P Q R f (x ∷ xs) h k = (f x h.0 k.0, each_both P Q R f xs h.1 k.1)
+
+pub each_at : {A : Type 0} (P : A → Type 0) (xs : List A) (k : ℕ) (x : A) → Each P xs → slice_get xs k ≡ Some x → P x
+each_at P [] k x h e = cc
+each_at P (y ∷ xs) zero x h e = subst P (some_same y x e) h.0
+  where
+    some_same : {A : Type 0} (y x : A) → Some y ≡ Some x → y ≡ x
+    some_same y x e = cc
+each_at P (y ∷ xs) (suc k) x h e = each_at P xs k x h.1 e
 
 pub some_kept : {A : Type 0} (P Q : A → Type 0) → ((x : A) → P x → Q x) → (xs : List A) → AtSome P xs → AtSome Q xs
 some_kept P Q f [] h = absurd h

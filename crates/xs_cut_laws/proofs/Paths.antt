@@ -20,13 +20,12 @@ use Rattle.xs_cut_laws.specs.Found.{sets_of, IsFound, IsNew}
 use Rattle.xs_encode_laws.specs.FlatTraces.{IsNumbered, ReachesTop, HasFailedNumber, failed_set, last_of, history_of, failed_in}
 use Rattle.xs_encode_laws.specs.Encoded.{is_true_at, bit_of, IsFlatFirst, IsBadMoment}
 use Rattle.xs_cut_laws.specs.Searched.{FlatTrace, AreReadFrom, IsSearched, IsBadFor, IsFoundFlat, found_of, PathIsFound, IsLawfulMoment, PathIsLawful}
-use Rattle.xs_cut_laws.proofs.FoundLaws.{each_found}
+use Rattle.xs_cut_laws.proofs.FoundLaws.{each_found, each_both}
 use Rattle.xs_encode_laws.proofs.SetLaws.{each_kept}
 use Rattle.xs_encode_laws.proofs.Numbers.{count_where, where_within, where_rising}
 use Rattle.xs_encode_laws.proofs.HistoryFacts.{to_last, each_last, last_told, last_tells, range_length, unlisted_means, failed_exactly}
 use Rattle.xs_cut_laws.proofs.Excluded.{reached_shorter}
 use Rattle.xs_frames.proofs.BitLemmas.{length_read as read_length}
-use Rattle.xs_type_laws.proofs.ClosedLaws.{each_both}
 
 -- Lists by place.
 pub place_of_each : {A : Type 0} (P : A → Type 0) (xs : List A) (i : ℕ) (d : A) → Each P xs → i < length xs → P (slice_index_or xs i d)

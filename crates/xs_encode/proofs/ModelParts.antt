@@ -1,5 +1,5 @@
 -- What the passes rely on of an encodable model: no type and no formula breaks a rule, and a variable's domain tells its bits.
-use Rattle.std.proofs.Common.{◌≡◌, ℕ, zero, suc, ◌+◌, ◌<◌, List, [], ◌∷◌, length, get_or, drop, map, Some, sym, ◌∙◌, ap, arith}
+use Rattle.std.proofs.Common.{◌≡◌, ℕ, zero, suc, ◌+◌, ◌<◌, List, [], ◌∷◌, length, get_or, drop, map, Some, sym, ◌∙◌, ap, subst, arith}
 use Rattle.std.specs.Prelude.{slice_get}
 use Rattle.std.proofs.lemmas.List.{drop_more}
 use Rattle.std.proofs.lemmas.Option.{slice_get_within, get_or_from_slice_get, same_Some}
@@ -26,7 +26,11 @@ use Rattle.xs_encode.specs.Domains.{domain_width, domain_signal, domain_gates}
 use Rattle.xs_encode.specs.Copies.{IsRightFormula}
 use Rattle.xs_encode.proofs.DomainLaws.{width_is, signal_is, gates_are}
 use Rattle.xs_type_laws.proofs.WrittenLaws.{get_map as at_mapped}
-use Rattle.xs_flat_laws.proofs.Conditions.{each_at}
+
+pub each_at : {A : Type 0} (P : A → Type 0) (xs : List A) (k : ℕ) (x : A) → Each P xs → slice_get xs k ≡ Some x → P x
+each_at P [] k x h e = cc
+each_at P (y ∷ xs) zero x h e = let same : y ≡ x = cc in subst P same h.0
+each_at P (y ∷ xs) (suc k) x h e = each_at P xs k x h.1 e
 
 pub got : {A : Type 0} (xs : List A) (i : ℕ) (x : A) → i < length xs → x ≡ get_or xs i x → slice_get xs i ≡ Some x
 got [] i x h e = absurd (omega (arith, h))

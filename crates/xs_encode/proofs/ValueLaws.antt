@@ -21,6 +21,8 @@ use Rattle.xs_type_laws.specs.Judged.{number_class, symbol_class, mixed_enum, un
 use Rattle.xs_type_laws.specs.Declared.{member_kind, judged_declared}
 use Rattle.xs_type_laws.specs.Costs.{width_of, symbol_number, declared_width, role_width}
 use Rattle.xs_type_laws.specs.Laws.{BitsHold}
+use Rattle.xs_type_laws.specs.Safe.{IsOfClass}
+use Rattle.xs_type_laws.proofs.VariableLaws.{variable_holds}
 use Rattle.xs_type_laws.proofs.Widths.{widths_least}
 use Rattle.xs_lexer.proofs.SignLemmas.{both_true}
 use Rattle.xs_types.specs.Types.{spread, numbers_in, symbols_in, domain_of, StandsFor}
@@ -34,10 +36,11 @@ use Rattle.xs_encode_laws.specs.Inputs.{is_input}
 use Rattle.xs_encode_laws.specs.Bits.{natural_bits, number_bits, value_number, value_bits}
 use Rattle.xs_encode_laws.specs.Meanings.{AreSymbols}
 use Rattle.xs_encode_laws.specs.Encodable.{IsListedMember, IsListedType}
+use Rattle.xs_encode_laws.proofs.Answering.{one_same}
 use Rattle.xs_encode_laws.proofs.TypeBits.{length-number, natural-value, signed-value}
 use Rattle.xs_encode_laws.proofs.NumberWords.{bits_hold, some_bits}
 use Rattle.xs_encode_laws.proofs.TypeMeans.{IsNumbers, numbers_of, symbol_found, members_kept, member_listed}
-use Rattle.xs_encode_laws.proofs.VariableMeans.{numbers_width, class_of}
+use Rattle.xs_encode_laws.proofs.VariableMeans.{numbers_width}
 use Rattle.xs_encode_laws.proofs.Readings.{IsRightType, HasBits}
 use Rattle.xs_encode.specs.Domains.{domain_interval, domain_width, capped}
 use Rattle.xs_encode.specs.Values.{StandFor, values_in, bits_at, last_digit, bits_number, is_below, has_sign, as_symbol, is_nonzero, value_of, domain_read, least_in, values_read}
@@ -114,6 +117,11 @@ narrow : (i : Interval) → i.lo ≤ℤ i.hi → fits i ≡ true → width_of i 
 narrow i h f = let e = both_true (fits_number i.lo) (fits_number i.hi) f in (widths_least i h f).1 33 (few_bits i.lo i.hi e.0 e.1)
 
 -- ---- the value of a number
+
+class_of : (d : DeclaredTree) (u : Value) → (judged_declared d).broken ≡ [] → in_domain d u ≡ true → IsOfClass (judged_declared d).kind.class u
+class_of d u e h =
+    let g = (variable_holds d u e h).gives in
+    subst (λ (x : Value). IsOfClass (judged_declared d).kind.class x) (one_same g.value u (Some (one u)) g.is refl) g.of_kind.class
 
 module _ (symbols : List Text) (are : AreSymbols symbols) where
   -- a listed symbol is read by its number

@@ -49,7 +49,7 @@ known_wider nv nw ns k h (flat_variable i) known = omega (arith, h, known)
 known_wider nv nw ns k h (flat_symbol i) known = known
 known_wider nv nw ns k h (flat_definition i) known = known
 
-pub order_wider : (nv nw ns k : ℕ) → nv ≤ nw → (ds : List FlatFormula) → AreInOrder nv ns k ds → AreInOrder nw ns k ds
+order_wider : (nv nw ns k : ℕ) → nv ≤ nw → (ds : List FlatFormula) → AreInOrder nv ns k ds → AreInOrder nw ns k ds
 order_wider nv nw ns k h [] o = tt
 order_wider nv nw ns k h (d ∷ ds) o = (all_leaves_more (IsKnown nv ns k) (IsKnown nw ns k) (known_wider nv nw ns k h) d.value o.0, order_wider nv nw ns (suc k) h ds o.1)
 

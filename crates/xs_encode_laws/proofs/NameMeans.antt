@@ -41,7 +41,6 @@ use Rattle.xs_encode_laws.proofs.Fitting.{symbol_value, fits_symbol, fit_same}
 use Rattle.xs_encode_laws.proofs.Choices.{word_fitted}
 use Rattle.xs_encode_laws.proofs.ExpressionMeans.{IsNaming, IsFit, encoded-means}
 use Rattle.std.proofs.lemmas.Option.{slice_get_within as got_below}
-use Rattle.xs_flat_laws.proofs.Conditions.{each_at}
 
 -- ---- what a tree reads
 
@@ -218,6 +217,11 @@ order_at nv ns (d' ∷ ds) n (suc k) d o e =
 -- a definition of a closed model names those before it
 pub definition_own : (m : FlatModel) → IsClosed m → (k : ℕ) (d : FlatFormula) → slice_get m.definitions k ≡ Some d → AllLeaves (IsKnown (length m.variables) (length m.symbols) k) d.value
 definition_own m closed k d e = subst (λ (i : ℕ). AllLeaves (IsKnown (length m.variables) (length m.symbols) i) d.value) (omega arith) (order_at (length m.variables) (length m.symbols) m.definitions 0 k d closed.definitions e)
+
+each_at : {A : Type 0} (P : A → Type 0) (xs : List A) (k : ℕ) (x : A) → Each P xs → slice_get xs k ≡ Some x → P x
+each_at P [] k x h e = cc
+each_at P (y ∷ xs) zero x h e = let same : y ≡ x = cc in subst P same h.0
+each_at P (y ∷ xs) (suc k) x h e = each_at P xs k x h.1 e
 
 -- ---- the names of a copy
 

@@ -68,7 +68,7 @@ read_value symbols truth_class v (word w) = truth false
 abbrev pub read_as : List Text → DeclaredTree → TotalAssignment → Signal → Value
 read_as symbols d v e = read_value symbols (judged_declared d).kind.class v e
 
-pub class_of : (d : DeclaredTree) (u : Value) → (judged_declared d).broken ≡ [] → in_domain d u ≡ true → IsOfClass (judged_declared d).kind.class u
+class_of : (d : DeclaredTree) (u : Value) → (judged_declared d).broken ≡ [] → in_domain d u ≡ true → IsOfClass (judged_declared d).kind.class u
 class_of d u e h =
     let g = (variable_holds d u e h).gives in
     subst (λ (x : Value). IsOfClass (judged_declared d).kind.class x) (one_same g.value u (Some (one u)) g.is refl) g.of_kind.class

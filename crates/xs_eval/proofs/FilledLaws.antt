@@ -1,5 +1,5 @@
 -- The table that is computed at a moment has what each definition gives there.
-use Rattle.std.proofs.Common.{◌≡◌, ℕ, suc, ◌+◌, ◌<◌, arith, false, List, [], ◌∷◌, ◌++◌, length, map, Option, Some, refl, sym, ap, ◌∙◌, subst}
+use Rattle.std.proofs.Common.{◌≡◌, ℕ, zero, suc, ◌+◌, ◌<◌, arith, false, List, [], ◌∷◌, ◌++◌, length, map, Option, Some, refl, sym, ap, ◌∙◌, subst}
 use Rattle.std.specs.Prelude.{slice_get, All}
 use Rattle.std.proofs.lemmas.List.Elements.{All-nil, All-cons}
 use Rattle.xs_tree.specs.ProgramTree.{Text}
@@ -23,7 +23,7 @@ use Rattle.xs_type_laws.specs.Laws.{IsKnown, AreInOrder}
 use Rattle.xs_type_laws.proofs.Parts.{Alone}
 use Rattle.xs_type_laws.proofs.TreeLaws.{sound, single}
 use Rattle.xs_type_laws.proofs.SafeLaws.{safe}
-use Rattle.xs_type_laws.proofs.ModelLaws.{each_end, each_before, ValueHolds, GivenHolds, IsRight, names_hold, both_end}
+use Rattle.xs_type_laws.proofs.ModelLaws.{each_end, each_before, ValueHolds, GivenHolds, IsRight, names_hold}
 use Rattle.xs_type_laws.proofs.Typed.{variables_hold, parts_of, as_many_variables}
 use Rattle.xs_eval.specs.declared.ask.Asked.TheVariants.{ItsValue}
 use Rattle.xs_eval.specs.Asked.{leaf_value, asked_of}
@@ -34,8 +34,18 @@ use Rattle.xs_eval.proofs.Rows.{Is}
 use Rattle.xs_eval.proofs.Answered.{Knows, answered}
 use Rattle.xs_eval.proofs.Mapped.{asked_mapped}
 use Rattle.xs_type_laws.proofs.WrittenLaws.{get_map as get_mapped}
-use Rattle.xs_flat_laws.proofs.Conditions.{each_at}
 use Rattle.xs_type_laws.proofs.ClosedLaws.{same_length as both_length}
+
+pub each_at : {A : Type 0} (P : A → Type 0) (xs : List A) (i : ℕ) (x : A) → Each P xs → slice_get xs i ≡ Some x → P x
+each_at P [] i x h e = cc
+each_at P (a ∷ as') zero x h e = let same : a ≡ x = cc in subst P same h.0
+each_at P (a ∷ as') (suc i) x h e = each_at P as' i x h.1 e
+
+both_end : {A B : Type 0} (R : A → B → Type 0) (as' : List A) (bs : List B) (a : A) (b : B) → EachBoth R as' bs → R a b → EachBoth R (as' ++ a ∷ []) (bs ++ b ∷ [])
+both_end R [] [] a b h r = (r, tt)
+both_end R [] (y ∷ bs) a b h r = absurd h
+both_end R (x ∷ as') [] a b h r = absurd h
+both_end R (x ∷ as') (y ∷ bs) a b h r = (h.0, both_end R as' bs a b h.1 r)
 
 pub map_length : {A B : Type 0} (f : A → B) (xs : List A) → length (map f xs) ≡ length xs
 map_length f [] = refl

@@ -4,12 +4,12 @@ use Rattle.std.specs.Prelude.{slice_get}
 use Rattle.xs_tree.specs.Trace.{Each}
 use Rattle.xs_lits.specs.Literal.{Literal}
 use Rattle.xs_circuits.specs.Circuit.{Circuit, after}
-use Rattle.xs_encode_laws.specs.Signals.{Signal, fitted, choice_gates}
+use Rattle.xs_circuits.proofs.Extension.{AllBelow-more}
+use Rattle.xs_encode_laws.specs.Signals.{Signal, bit, word, fitted, choice_gates}
 use Rattle.xs_encode_laws.specs.Meanings.{IsSignal}
 use Rattle.xs_expressions.specs.declared.signal.Signal.{Signal as Built}
 use Rattle.xs_expressions.specs.Built.{signal_of, signals_of, BuildsSignal}
 use Rattle.xs_expressions.specs.Choices.{first_signal, chosen_gates, upward_gates}
-use Rattle.xs_encode_laws.proofs.MomentMeans.{signal_moved as later_signal}
 
 -- the last value, and then the choices upward
 pub chosen_upward : (n : ℕ) (ps : List Literal) (es : List Signal) (s : Circuit) → chosen_gates n ps es s ≡ upward_gates n ps es (s, fitted n (first_signal (drop (length ps) es)))
@@ -52,6 +52,10 @@ usable_at s [] i e f h same all = cc
 usable_at s (y ∷ es) zero e f h same all =
     let here : y ≡ e = cc in subst (λ x. IsSignal s x) (ap signal_of here ∙ sym same) all.0
 usable_at s (y ∷ es) (suc i) e f h same all = usable_at s es i e f h same all.1
+
+later_signal : (s t : Circuit) → s.free ≤ t.free → (e : Signal) → IsSignal s e → IsSignal t e
+later_signal s t h (bit l) k = omega (arith, h, k)
+later_signal s t h (word w) k = record { signed = k.signed; below = AllBelow-more s.free t.free h w k.below }
 
 -- signals may be used in a circuit with no fewer variables
 pub usable_later : (s t : Circuit) → s.free ≤ t.free → (es : List Built) → Each (IsSignal s) (signals_of es) → Each (IsSignal t) (signals_of es)

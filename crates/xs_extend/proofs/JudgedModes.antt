@@ -17,7 +17,7 @@ use Rattle.xs_flat_laws.specs.Rules.{IsAccepted}
 use Rattle.xs_flat_laws.specs.Model.{IsVariableOf, EachBoth, IsFlatOf}
 use Rattle.xs_flat_laws.proofs.Conditions.{each_at}
 use Rattle.xs_flat_laws.proofs.Lists.{each_more}
-use Rattle.xs_flat_laws.proofs.Resolving.{Known, names_known, each_leaf as each_unit}
+use Rattle.xs_flat_laws.proofs.Resolving.{Known, names_known}
 use Rattle.xs_flat_laws.proofs.Places.{has_main}
 use Rattle.xs_flat_laws.proofs.Walkable.{accepted_walkable, main_is_there}
 use Rattle.xs_flat_laws.proofs.Variables.{variables_are}
@@ -58,6 +58,11 @@ mutual
   no_next_branches (branch_then c a bs) h =
       let rest : (has_next a || branches_have_next bs) ≡ false = or_right (has_next c) (has_next a || branches_have_next bs) h in
       (no_next c (or_left (has_next c) (has_next a || branches_have_next bs) h), no_next a (or_left (has_next a) (branches_have_next bs) rest), no_next_branches bs (or_right (has_next a) (branches_have_next bs) rest))
+
+-- the names of an expression that is resolved soundly mean something
+each_unit : (ls : List FlatLeaf) → Each (λ l. Unit {0}) ls
+each_unit [] = tt
+each_unit (l ∷ ls) = (tt, each_unit ls)
 
 pub resolved_readable : (p : ProgramTree) (m : FlatModel) (ds : List Definition) (r : Resolver) → IsSound p m ds r → (at : Place) (e : Formula) (flat : Tree FlatLeaf) → IsResolved (r at) e flat → IsReadable p at e
 resolved_readable p m ds r sound at e flat is =

@@ -1,5 +1,5 @@
 -- From the answer of a search to the bounds of its sets and the report of them.
-use Rattle.std.proofs.Common.{arith, ◌≡◌, ◌<◌, ◌≤◌, ◌-◌, ◌+◌, ◌*◌, ◌^◌, ℕ, List, [], ◌∷◌, ◌++◌, length, map, refl, sym, ap, subst, ◌∙◌}
+use Rattle.std.proofs.Common.{arith, ◌≡◌, ◌<◌, ◌≤◌, ◌-◌, ◌+◌, ◌*◌, ◌^◌, ℕ, List, [], ◌∷◌, ◌++◌, length, map, codes, refl, sym, ap, subst, ◌∙◌}
 use Rattle.std.specs.Prelude.{All}
 use Rattle.std.specs.List.{AllByRecursion}
 use Rattle.std.proofs.lemmas.List.{length-map}
@@ -17,6 +17,7 @@ use Rattle.xs_encode_laws.specs.FlatTraces.{IsNumbered}
 use Rattle.xs_extend.specs.WovenFaults.{fault_tree}
 use Rattle.xs_fei.specs.Instructions.{InstructionTree}
 use Rattle.xs_weave.specs.Faults.{Fault}
+use Rattle.xs_odds.specs.Units.{one_in_units}
 use Rattle.xs_odds.specs.Marks.{AreOdds}
 use Rattle.xs_odds.specs.Bounds.{bound_of, units_in}
 use Rattle.xs_odds.specs.Laws.{AreAtMostOne}
@@ -45,9 +46,9 @@ use Rattle.xs_case_search.specs.Found.{EndsBy}
 use Rattle.xs_loading.specs.LoadedEvents.{IsAnalysable}
 use Rattle.xs_case_search.proofs.Analysable.{model_of_case, case_counts}
 use Rattle.xs_loading.proofs.ListedLaws.{are_listed, named_lines}
+use Rattle.xs_find_odds.specs.declared.odds.FoundOdds.{FoundOdds}
 use Rattle.xs_reach_status.specs.Reports.{sets_text, ending_line}
-use Rattle.xs_find_odds.specs.Odds.{AreBounded, IsOddsFinding}
-use Rattle.xs_encode_laws.proofs.SetLaws.{each_kept as weaker}
+use Rattle.xs_find_odds.specs.Odds.{AreBounded, IsOddsFinding, odds_report}
 
 by_recursion : {A : Type 0} (P : A → Type 0) (xs : List A) → Each P xs → AllByRecursion P xs
 by_recursion P [] h = tt
@@ -55,6 +56,10 @@ by_recursion P (x ∷ xs) h = (h.0, by_recursion P xs h.1)
 
 each_all : {A : Type 0} (P : A → Type 0) (xs : List A) → Each P xs → All P xs
 each_all P xs h = All-from_recursion P xs (by_recursion P xs h)
+
+weaker : {A : Type 0} (P Q : A → Type 0) → ((x : A) → P x → Q x) → (xs : List A) → Each P xs → Each Q xs
+weaker P Q f [] h = tt
+weaker P Q f (x ∷ xs) h = (f x h.0, weaker P Q f xs h.1)
 
 -- each fault has its units
 odds_count : (i : InstructionTree) (faults : List Fault) (odds : List ℕ) → AreOdds i faults odds → length odds ≡ length faults

@@ -127,7 +127,7 @@ pub symbols_apart : (p : ProgramTree) → Pairwise OtherText (symbols_of p)
 symbols_apart p = appear_apart [] (flat_map (λ m. flat_map symbols_of_item (items_of m)) p) tt
 
 -- Variables.
-pub apart_pairs : (vs : List Visit) → Apart vs → Pairwise Differ vs
+apart_pairs : (vs : List Visit) → Apart vs → Pairwise Differ vs
 apart_pairs [] h = tt
 apart_pairs (v ∷ vs) h = (h.0, apart_pairs vs h.1)
 

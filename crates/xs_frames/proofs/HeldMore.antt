@@ -12,7 +12,6 @@ use Rattle.xs_frames.specs.declared.guarded.Guarded.{Guarded}
 use Rattle.xs_frames.proofs.RoleLaws.{renamed_low}
 use Rattle.xs_frames.proofs.HeldLists.{bad_at}
 use Rattle.xs_frames.proofs.GuardedLaws.{holding, layout_of, guards_same, guard_same}
-use Rattle.xs_frames.proofs.AnswerLemmas.{all_raised as raised}
 
 -- a clause over the places keeps its variables
 pub renamed_places : (places base : ℕ) (c : List Literal) → All (IsUpTo places) c → renamed_clause places base c ≡ c
@@ -46,6 +45,9 @@ later_other a b x lt le = by_test (leb_tells a b) where
   by_test : ((nat_le a b ≡ true) × (a ≤ b)) ⊎ ((nat_le a b ≡ false) × (b < a)) → x ≤ a
   by_test (inl t) = let e = t.0 in at (rw e refl)
   by_test (inr t) = let e = t.0 in let is : later a b ≡ a = rw e refl in omega (arith, le, is)
+
+raised : (a b : ℕ) (c : List Literal) → a ≤ b → All (IsUpTo a) c → All (IsUpTo b) c
+raised a b c le low = λ k d lt. let h = low k d lt in omega (arith, h, le)
 
 -- a clause over the places more in the list of the bad states
 pub held_bad : (l : Layout) (vars : ℕ) (added : List (List Literal)) (c : List Literal) (list : Listed → List (List Literal)) → AreHeld l vars added → list first ≡ l.list first → list step ≡ l.list step →

@@ -10,7 +10,6 @@ use Rattle.xs_frames.specs.Guards.{IsPut}
 use Rattle.xs_frames.specs.Levels.{standing_in, frames_from, frames_of, HasGained}
 use Rattle.xs_frames.specs.declared.levels.Held.{Held}
 use Rattle.xs_frames.specs.declared.levels.Levels.{Levels}
-use Rattle.xs_frames.proofs.Short.{later_member as cons_later, first_member as cons_first}
 
 -- whether a clause stands in a frame
 stands : (i : ℕ) (h : Held) (hs : List Held) → i ≤ h.highest → standing_in i (h ∷ hs) ≡ h.clause ∷ standing_in i hs
@@ -44,6 +43,12 @@ cons_cases x c xs m = by_place m.0 m.1 m.2
     by_place : (k : ℕ) → k < length (x ∷ xs) → slice_index_or (x ∷ xs) k c ≡ c → (x ≡ c) ⊎ Contains xs c
     by_place zero lt e = inl e
     by_place (suc k) lt e = inr (k, grind (arith, lt), e)
+
+cons_first : (c : List Literal) (xs : List (List Literal)) → Contains (c ∷ xs) c
+cons_first c xs = (0, grind arith, refl)
+
+cons_later : (x c : List Literal) (xs : List (List Literal)) → Contains xs c → Contains (x ∷ xs) c
+cons_later x c xs m = (suc m.0, grind (arith, m.1), m.2)
 
 pub standing_has : (i : ℕ) (hs : List Held) (c : List Literal) → Contains (standing_in i hs) c → IsStanding i hs c
 standing_has i [] c m = absurd (omega (arith, m.1))

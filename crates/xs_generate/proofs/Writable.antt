@@ -70,7 +70,7 @@ record AreWritableRails (rails : Rails) : Type 0 where
   last_a : IsSmallLast rails.last_a
   last_b : IsSmallLast rails.last_b
 
-pub each_more : {A : Type 0} (P : A → Type 0) (xs : List A) (x : A) → Each P xs → P x → Each P (xs ++ x ∷ [])
+each_more : {A : Type 0} (P : A → Type 0) (xs : List A) (x : A) → Each P xs → P x → Each P (xs ++ x ∷ [])
 each_more P [] x h p = (p, tt)
 each_more P (y ∷ ys) x h p = (h.0, each_more P ys x h.1 p)
 

@@ -11,14 +11,13 @@ use Rattle.xs_flat_laws.specs.Items.{items_of, Visit, variables_of}
 use Rattle.xs_flat_laws.specs.Rules.{IsAccepted}
 use Rattle.xs_flat_laws.specs.History.{Mode}
 use Rattle.xs_flat_laws.specs.Model.{IsVariableNumber, IsVariableOf, EachBoth, first_appearances, symbols_of_item, symbols_of, IsFlatOf}
-use Rattle.xs_flat_laws.proofs.Apart.{Differ, variables_apart}
+use Rattle.xs_flat_laws.proofs.Apart.{Differ, Apart, variables_apart}
 use Rattle.xs_flat_laws.proofs.KeysApart.{Pairwise, pairwise_join, pairwise_same}
 use Rattle.xs_flat_laws.proofs.Variables.{both_at_second}
 use Rattle.xs_flat_laws.proofs.Walkable.{accepted_walkable, main_is_there}
 use Rattle.xs_fei.specs.AddedNames.{mode_variable, mode_symbol}
 use Rattle.xs_weave.specs.Faults.{Fault}
 use Rattle.xs_loading.specs.Wholes.{IsModeOf}
-use Rattle.xs_flat_laws.proofs.OneModel.{apart_pairs}
 
 abbrev OtherText : Text → Text → Type 0
 OtherText x y = x ≡ y → ⊥
@@ -48,6 +47,11 @@ appear_apart seen (x ∷ xs) h = appear_apart (if is_among seen x then seen else
 -- no symbol is listed twice
 symbols_apart : (p : ProgramTree) → Pairwise OtherText (symbols_of p)
 symbols_apart p = appear_apart [] (flat_map (λ m. flat_map symbols_of_item (items_of m)) p) tt
+
+-- no variable is listed twice
+apart_pairs : (vs : List Visit) → Apart vs → Pairwise Differ vs
+apart_pairs [] h = tt
+apart_pairs (v ∷ vs) h = (h.0, apart_pairs vs h.1)
 
 module _ (p : ProgramTree) (accepted : IsAccepted p) (m : FlatModel) (is : IsFlatOf p m) where
   one_variable : (at : Place) (x : Text) (i j : ℕ) → IsVariableNumber m at x i → IsVariableNumber m at x j → i ≡ j

@@ -30,7 +30,6 @@ use Rattle.xs_fei.proofs.AmongLaws.{each_append, each_map}
 use Rattle.xs_loading.proofs.AddedNames.{own_is_name, mode_variable_is_name, nominal_is_name, symbol_is_name}
 use Rattle.xs_fei.specs.WritableInstructions.{IsWritableConstant, IsWritableEffect, IsWritableGuard, IsWritableMode, IsWritableSlice, IsWritableExtension, IsWritableInstructions}
 use Rattle.xs_fei.proofs.SpelledInstructions.{instructions_writable}
-use Rattle.xs_text_laws.proofs.FlatNames.{type_declared}
 
 -- a single name can be written
 pub one_name : (x : Text) → IsName x → IsWritable (named x)
@@ -104,6 +103,12 @@ after_formals_typed (Some i) k h = tt
 
 type_is_writable : (m : ModuleTree) (x : Text) → IsWritableModule m → IsWritableType (type_of_kind (kind_in m x))
 type_is_writable m x h = typed_type (kind_in m x) (after_formals_typed (formal_from 0 m.formals x) (kind_in_sections m.sections x) (sections_typed m.sections x h.2))
+
+type_declared : (t : DeclaredTree) → IsWritableType t → IsWritableDeclared t
+type_declared boolean h = tt
+type_declared (range lo hi) h = h
+type_declared (members ms) h = h
+type_declared (instance m actuals) h = absurd h
 
 -- the templates
 number_by : (b : Bool) (n : ℕ) → IsSmall (n + 1) →

@@ -8,7 +8,7 @@ use Rattle.xs_tree.specs.Trace.{Each, AtSome}
 use Rattle.xs_tree.proofs.ValueLaws.{same_text_equal, same_text_refl}
 use Rattle.xs_fei.specs.Instructions.{ModeTree, SliceTree, ExtensionTree, InstructionTree, slices_from, slices_of}
 use Rattle.xs_weave.specs.Faults.{Fault, slice_faults, module_slices, place_faults, HasFaults}
-use Rattle.xs_flat_laws.proofs.Conditions.{each_flat, each_mapped, each_join}
+use Rattle.xs_flat_laws.proofs.Conditions.{each_flat, each_mapped}
 use Rattle.std.specs.Prelude.{nat_le, ◌&&◌, codes}
 use Rattle.std.proofs.lemmas.Bool.Decides.{nat_tests}
 use Rattle.xs_extend.specs.declared.faults.WovenFault.{WovenFault}
@@ -17,7 +17,6 @@ use Rattle.xs_odds.specs.Units.{one_in_units, is_fraction, whole_units, at_most_
 use Rattle.xs_odds.specs.Marks.{fault_of_units, fault_of_mark, slice_marks, extension_marks, HasProbabilities, HasUnits, AreOdds}
 use Rattle.xs_odds.specs.Laws.{AreAtMostOne}
 use Rattle.xs_odds.specs.FirstMark.{mark_units, or_else, mode_units, units_in_slice, slice_units, extension_units, or_zero, units_at}
-use Rattle.xs_flat_laws.proofs.Lists.{each_more as each_kept}
 
 -- where no mark is wrong, a mark gives units
 mark_there : (mark : Option (List Text)) → fault_of_mark mark ≡ None → (u : ℕ) × (mark_units mark ≡ Some u)
@@ -90,6 +89,11 @@ extension_there : (slice mode : Text) (xs : List ExtensionTree) → GoodExtensio
 extension_there slice mode [] good at = absurd at
 extension_there slice mode (x ∷ xs) good (inl is) = first_or (slice_units slice mode x.slices) (extension_units slice mode xs) (inl (slice_there slice mode x.slices good.0 is))
 extension_there slice mode (x ∷ xs) good (inr later) = first_or (slice_units slice mode x.slices) (extension_units slice mode xs) (inr (extension_there slice mode xs good.1 later))
+
+-- with right marks, every mode is good
+each_kept : {A : Type 0} (P Q : A → Type 0) (xs : List A) → ((x : A) → P x → Q x) → Each P xs → Each Q xs
+each_kept P Q [] f h = tt
+each_kept P Q (x ∷ xs) f h = (f x h.0, each_kept P Q xs f h.1)
 
 good_slice : (s : SliceTree) → Each (λ f. f ≡ None) (slice_marks s) → GoodModes s.modes
 good_slice s h = (each_mapped (λ f. f ≡ None) (λ m. fault_of_mark m.mark) s.modes).0 h.1
@@ -213,6 +217,10 @@ module _ (xs : List ExtensionTree) where
 
   slices_there : Each (λ x. Each AllThere x.slices) xs
   slices_there = all_in (λ x. Each AllThere x.slices) xs (λ x a. all_in AllThere x.slices (λ s b. all_in (λ m. ModeThere xs s.name m.name) s.modes (mode_is x a s b)))
+
+each_join : {A : Type 0} (P : A → Type 0) (xs ys : List A) → Each P xs → Each P ys → Each P (xs ++ ys)
+each_join P [] ys h k = k
+each_join P (x ∷ xs) ys h k = (h.0, each_join P xs ys h.1 k)
 
 from_all : (P : SliceTree → Type 0) (xs : List ExtensionTree) (m : Text) → Each (λ x. Each P x.slices) xs → Each P (slices_from xs m)
 from_all P [] m h = tt

@@ -1,6 +1,6 @@
 -- A model with one more boolean of the state, a formula of the first moment and one of each step: what the model read and was,
 -- it reads and is.
-use Rattle.std.proofs.Common.{◌≡◌, suc, ◌+◌, ◌<◌, ◌≤◌, false, ◌||◌, List, [], ◌∷◌, ◌++◌, length, sym, ◌∙◌, ap, subst, arith}
+use Rattle.std.proofs.Common.{◌≡◌, ℕ, suc, ◌+◌, ◌<◌, ◌≤◌, false, ◌||◌, List, [], ◌∷◌, ◌++◌, length, sym, ◌∙◌, ap, subst, arith}
 use Rattle.xs_tree.specs.Tree.{Tree, Trees, Branches, truth as is_truth, number as is_number, leaf, not_of, negate, next_of, binary, choice, case_of, set_of, span, no_tree, tree_then, no_branch, branch_then}
 use Rattle.xs_tree.specs.ProgramTree.{boolean}
 use Rattle.xs_tree.specs.Laws.{AllLeaves, AllLeavesOfTrees, AllLeavesOfBranches}
@@ -10,12 +10,12 @@ use Rattle.xs_flat_laws.specs.Resolved.{leaves_in}
 use Rattle.xs_flat_laws.specs.Rules.{leaves_under, trees_leaves_under, branches_leaves_under}
 use Rattle.xs_flat_laws.proofs.Lists.{each_more, length_end}
 use Rattle.xs_type_laws.specs.Models.{leaf_kind, judged_variables, judged_definitions, kind_of_leaf, judged_in}
-use Rattle.xs_type_laws.specs.Laws.{IsKnown, ReadsOwn, ReadOwn, IsClosed}
+use Rattle.xs_type_laws.specs.Laws.{IsKnown, AreInOrder, ReadsOwn, ReadOwn, IsClosed}
 use Rattle.xs_type_laws.proofs.ModelLaws.{judge_agrees, all_leaves_more}
 use Rattle.xs_encode_laws.specs.Inputs.{names_input, reading_after, reads_input}
 use Rattle.xs_encode_laws.specs.Meanings.{AreSymbols}
 use Rattle.xs_encode_laws.specs.Encodable.{IsListedType, is_input_name, reads_next_input}
-use Rattle.xs_encode_laws.proofs.HistoryEncodable.{known_wider, same_name, same_reading, order_wider}
+use Rattle.xs_encode_laws.proofs.HistoryEncodable.{known_wider, same_name, same_reading}
 use Rattle.xs_encode_laws.proofs.NameMeans.{each_joined, each_leaf, same_any}
 use Rattle.xs_encode_laws.proofs.HistoryTyped.{same_kind as same_kind_in, same_definitions}
 
@@ -63,6 +63,10 @@ mutual
   branches_each : {L : Type 0} (P : L → Type 0) (bs : Branches L) → AllLeavesOfBranches P bs → Each P (branches_leaves_under bs)
   branches_each P no_branch h = tt
   branches_each P (branch_then d a bs) h = each_joined P (leaves_under d) _ (each_under P d h.0) (each_joined P (leaves_under a) _ (each_under P a h.1) (branches_each P bs h.2))
+
+order_wider : (nv nw ns k : ℕ) → nv ≤ nw → (ds : List FlatFormula) → AreInOrder nv ns k ds → AreInOrder nw ns k ds
+order_wider nv nw ns k h [] o = tt
+order_wider nv nw ns k h (d ∷ ds) o = (all_leaves_more (IsKnown nv ns k) (IsKnown nw ns k) (known_wider nv nw ns k h) d.value o.0, order_wider nv nw ns (suc k) h ds o.1)
 
 module _ (m : FlatModel) (v : FlatVariable) (f g : FlatFormula) (closed : IsClosed m) where
   pub longer : length (m.variables ++ v ∷ []) ≡ suc (length m.variables)

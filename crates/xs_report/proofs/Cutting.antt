@@ -6,7 +6,6 @@ use Rattle.xs_text_laws.specs.TraceText.{equation}
 use Rattle.xs_text_laws.specs.Wrong.{IsEquation}
 use Rattle.xs_report.specs.Cuts.{Lacks, BeginsWith, IsNoEquation, IsSpaceless}
 use Rattle.std.proofs.lemmas.List.{append-nil as append_none}
-use Rattle.xs_text_laws.proofs.LineJudged.{line_front as lines_of}
 
 pub front_free : (b : ℕ) (bytes : List ℕ) (n : ℕ) → n ≤ length bytes → ((k : ℕ) → k < n → get_or bytes k 0 ≢ b) → Lacks b (take n bytes)
 front_free b [] zero h f = tt
@@ -22,6 +21,11 @@ back_begins b (c ∷ bytes) (suc n) h f = back_begins b bytes n (omega (arith, h
 
 tail_of : (x y : ℕ) (xs ys : List ℕ) → (x ∷ xs) ≡ (y ∷ ys) → xs ≡ ys
 tail_of x y xs ys e = cc
+
+-- Equations.
+lines_of : (xs ys : Line) → IsLine (xs ++ ys) → IsLine xs × IsLine ys
+lines_of [] ys h = (tt, h)
+lines_of (x ∷ xs) ys h = let more : IsLine xs × IsLine ys = lines_of xs ys h.1 in ((h.0, more.0), more.1)
 
 pub equation_made : (line name rest value : Line) → IsLine line → line ≡ name ++ rest → rest ≡ 32 ∷ 61 ∷ 32 ∷ value → IsSpaceless name → IsSpaceless value → IsEquation name value line
 equation_made line name rest value l e r n v =

@@ -32,13 +32,13 @@ use Rattle.xs_report_laws.proofs.InputBits.{few_inputs}
 use Rattle.std.proofs.lemmas.Option.{slice_get_within as got_within}
 
 -- a type that can be written has a member, where it is a list of members
-pub written_member : (d : DeclaredTree) → IsWritableType d → HasMember d
+written_member : (d : DeclaredTree) → IsWritableType d → HasMember d
 written_member boolean h = tt
 written_member (range lo hi) h = tt
 written_member (members ms) h = h.0
 written_member (instance m actuals) h = absurd h
 
-pub written_members : (xs : List FlatVariable) → ((i : ℕ) (x : FlatVariable) → slice_get xs i ≡ Some x → IsWritableType x.declared) → Each (λ x. HasMember x.declared) xs
+written_members : (xs : List FlatVariable) → ((i : ℕ) (x : FlatVariable) → slice_get xs i ≡ Some x → IsWritableType x.declared) → Each (λ x. HasMember x.declared) xs
 written_members [] types = tt
 written_members (x ∷ xs) types = (written_member x.declared (types 0 x refl), written_members xs (λ i y e. types (suc i) y e))
 

@@ -1,5 +1,5 @@
 -- What the three files of a table come to is one.
-use Rattle.std.proofs.Common.{arith, ◌≡◌, ⊎_elim, ◌<◌, ◌≤◌, ◌+◌, ℕ, List, [], ◌∷◌, Some, length, sym, ap, subst, ◌∙◌}
+use Rattle.std.proofs.Common.{arith, ◌≡◌, ⊎_elim, ◌<◌, ◌≤◌, ◌+◌, ℕ, zero, suc, List, [], ◌∷◌, Some, length, refl, sym, ap, subst, ◌∙◌}
 use Rattle.std.specs.Prelude.{slice_get}
 use Rattle.std.proofs.lemmas.Bool.{cases_lt}
 use Rattle.xs_desk.specs.declared.files.NamedFile.{NamedFile}
@@ -28,7 +28,6 @@ use Rattle.xs_loading.proofs.OneTop.{one_wrong_top, top_not_wrong}
 use Rattle.xs_loading.proofs.OneExtending.{one_refused_faults}
 use Rattle.xs_loading.proofs.OneModelFault.{one_refused_model, held_not_refused, one_held_model}
 use Rattle.xs_loading.proofs.OneCase.{case_not_refused}
-use Rattle.xs_flat_laws.proofs.Conditions.{each_at as each_there}
 use Rattle.xs_loading.proofs.OneFaults.{same_given as same_there}
 
 module _ (bytes : List ℕ) where
@@ -56,6 +55,12 @@ module _ (bytes : List ℕ) where
   list_not_wrong es a texts (no_list f means is) = unread es f a is means texts.text
   list_not_wrong es a texts (long_list fs text more is) =
       let fits : length fs ≤ 64 = subst (λ (xs : List Formula). length xs ≤ 64) (one_list_text es fs texts.text text) texts.few in omega (arith, more, fits)
+
+-- the one of a place among all
+pub each_there : {A : Type 0} (P : A → Type 0) (xs : List A) (k : ℕ) (x : A) → Each P xs → slice_get xs k ≡ Some x → P x
+each_there P [] k x h there = cc
+each_there P (y ∷ xs) zero x h there = subst P (same_there refl there) h.0
+each_there P (y ∷ xs) (suc k) x h there = each_there P xs k x h.1 there
 
 module _ (p : ProgramTree) (accepted : IsAccepted p) where
   module _ (es : List Formula) where

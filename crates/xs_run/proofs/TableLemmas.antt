@@ -22,9 +22,7 @@ use Rattle.xs_loading.specs.Cases.{Case, HoldsCase, IsTop, IsWrongTop, by_names,
 use Rattle.xs_loading.specs.Tasks.{IsTopTree}
 use Rattle.xs_loading.specs.Tops.{stop_at_top}
 use Rattle.xs_run.specs.Tables.{IsEventOf, told_at, AreTopTexts, IsWrongTops, RefusesTops, tops_file, tops_bytes, RefusesTable, table_no_model, table_no_faults, table_no_tops}
-use Rattle.xs_type_laws.proofs.ModelLaws.{both_end as both_push}
 use Rattle.xs_loading.proofs.OneFaults.{same_given as same_item}
-use Rattle.xs_flat_laws.proofs.Lists.{each_of_map as each_map}
 
 -- what is wrong with an event is told at any place
 pub wrong_at : (p : ProgramTree) (e : Formula) (a : InputFault) (place : ℕ) → IsWrongTop p e 0 a → IsWrongTop p e place (record { part = a.part; number = a.number; place = place })
@@ -50,10 +48,25 @@ pub each_of : {A : Type 0} (P : A → Type 0) (xs : List A) → AreBefore P xs (
 each_of P [] h = tt
 each_of P (x ∷ xs) h = (h 0 x (omega arith) refl, each_of P xs (λ j y less there. h (suc j) y (omega (arith, less)) there))
 
+pub each_map : {A B : Type 0} (P : B → Type 0) (f : A → B) (xs : List A) → Each P (map f xs) → Each (λ x. P (f x)) xs
+each_map P f [] h = tt
+each_map P f (x ∷ xs) h = (h.0, each_map P f xs h.1)
+
+pub each_weaker : {A : Type 0} (P Q : A → Type 0) → ((x : A) → P x → Q x) → (xs : List A) → Each P xs → Each Q xs
+each_weaker P Q so [] h = tt
+each_weaker P Q so (x ∷ xs) h = (so x h.0, each_weaker P Q so xs h.1)
+
 pub each_at : {A : Type 0} (P : A → Type 0) (xs : List A) (i : ℕ) (x : A) → Each P xs → i < length xs → x ≡ get_or xs i x → P x
 each_at P [] i x h below here = absurd (omega (arith, below))
 each_at P (y ∷ xs) zero x h below here = subst P (sym here) h.0
 each_at P (y ∷ xs) (suc i) x h below here = each_at P xs i x h.1 (omega (arith, below)) here
+
+-- pairs of two lists
+pub both_push : {A B : Type 0} (R : A → B → Type 0) (xs : List A) (ys : List B) (x : A) (y : B) → EachBoth R xs ys → R x y → EachBoth R (xs ++ x ∷ []) (ys ++ y ∷ [])
+both_push R [] [] x y h is = (is, tt)
+both_push R [] (b ∷ ys) x y h is = absurd h
+both_push R (a ∷ xs) [] x y h is = absurd h
+both_push R (a ∷ xs) (b ∷ ys) x y h is = (h.0, both_push R xs ys x y h.1 is)
 
 -- one pair more, where the first list is read place by place
 pub both_next : {A B : Type 0} (R : A → B → Type 0) (xs : List A) (ys more : List B) (i : ℕ) (x : A) (y : B) → i < length xs → x ≡ get_or xs i x → EachBoth R (take i xs) ys → R x y → more ≡ ys ++ y ∷ [] →

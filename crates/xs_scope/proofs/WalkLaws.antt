@@ -16,7 +16,14 @@ use Rattle.xs_tree.specs.ModelTree.{variable_tree}
 use Rattle.xs_scope.specs.Reading.{Told, told_first}
 use Rattle.xs_tree.specs.BorrowedTexts.{texts}
 use Rattle.xs_scope.specs.Walking.{Call, calls_declared, calls_in, variables_in, visit_told, visits_told, program_in, call_of, calls_of, variables_of_walk, on_path_of, place_of_spot, place_at, IsInstanceIn, IsVariableIn, IsDeclarationIn, IsOwnIn, IsCaller, IsSpotOf, IsDeclaredIn, HasWalked, IsPath, IsStanding}
-use Rattle.xs_scope.proofs.SceneItems.{both_length, both_more}
+use Rattle.xs_scope.proofs.SceneItems.{both_length}
+
+-- Lists.
+pub both_more : {A B : Type 0} (R S : A → B → Type 0) (xs : List A) (ys : List B) → ((x : A) (y : B) → R x y → S x y) → EachBoth R xs ys → EachBoth S xs ys
+both_more R S [] [] f h = tt
+both_more R S [] (y ∷ ys) f h = absurd h
+both_more R S (x ∷ xs) [] f h = absurd h
+both_more R S (x ∷ xs) (y ∷ ys) f h = (f x y h.0, both_more R S xs ys f h.1)
 
 pub both_join : {A B : Type 0} (R : A → B → Type 0) (xs xs' : List A) (ys ys' : List B) → EachBoth R xs ys → EachBoth R xs' ys' → EachBoth R (xs ++ xs') (ys ++ ys')
 both_join R [] xs' [] ys' h k = k

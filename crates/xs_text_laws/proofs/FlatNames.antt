@@ -27,7 +27,7 @@ abbrev IsWritableItem : Item → Type 0
 IsWritableItem (a_declaration role d) = IsName d.name × IsWritableDeclared d.what
 IsWritableItem _ = Unit {0}
 
-pub type_declared : (d : DeclaredTree) → IsWritableType d → IsWritableDeclared d
+type_declared : (d : DeclaredTree) → IsWritableType d → IsWritableDeclared d
 type_declared boolean h = tt
 type_declared (range lo hi) h = h
 type_declared (members ms) h = h

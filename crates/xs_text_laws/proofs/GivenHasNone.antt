@@ -57,11 +57,11 @@ moment_sound m done n e unknown_name b = no_moment b.0 b.1 n b.2.name_word (sym 
 moment_sound m done n e outside b = no_moment b.0 b.1 n b.2.name_word (sym b.2.is_line)
 moment_sound m done n e twice b = no_moment b.0 b.1 n b.2.name_word (sym b.2.is_line)
 
-pub all_at : {A : Type 0} (P : A → Type 0) (xs : List A) (x : A) (ys : List A) → AllByRecursion P (xs ++ x ∷ ys) → P x
+all_at : {A : Type 0} (P : A → Type 0) (xs : List A) (x : A) (ys : List A) → AllByRecursion P (xs ++ x ∷ ys) → P x
 all_at P [] x ys h = h.0
 all_at P (y ∷ xs) x ys h = all_at P xs x ys h.1
 
-pub all_front : {A : Type 0} (P : A → Type 0) (xs ys : List A) → AllByRecursion P (xs ++ ys) → AllByRecursion P xs
+all_front : {A : Type 0} (P : A → Type 0) (xs ys : List A) → AllByRecursion P (xs ++ ys) → AllByRecursion P xs
 all_front P [] ys h = tt
 all_front P (x ∷ xs) ys h = (h.0, all_front P xs ys h.1)
 

@@ -80,7 +80,7 @@ some_or_none : (w : Line) → Decided (w ≡ [])
 some_or_none [] = inl refl
 some_or_none (b ∷ w) = inr (λ e. no_items b w (b ∷ w) e refl)
 
-pub line_front : (xs ys : Line) → IsLine (xs ++ ys) → IsLine xs × IsLine ys
+line_front : (xs ys : Line) → IsLine (xs ++ ys) → IsLine xs × IsLine ys
 line_front [] ys h = (tt, h)
 line_front (x ∷ xs) ys h = let more : IsLine xs × IsLine ys = line_front xs ys h.1 in ((h.0, more.0), more.1)
 

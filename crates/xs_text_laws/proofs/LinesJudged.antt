@@ -8,7 +8,7 @@ use Rattle.xs_text_laws.specs.Given.{IsPrintable}
 use Rattle.xs_text_laws.specs.Wrong.{LineFault, bad_line, AreSound, IsLeast, IsWrongLine}
 use Rattle.xs_text_laws.specs.Laws.{LinesAreJudged}
 use Rattle.xs_text_laws.proofs.OneTrace.{no_items}
-use Rattle.xs_text_laws.proofs.GivenHasNone.{SoundFrom, no_lines, one_more, all_front, all_at}
+use Rattle.xs_text_laws.proofs.GivenHasNone.{SoundFrom, no_lines, one_more}
 use Rattle.xs_text_laws.proofs.LineJudged.{LineIs, line_sound, judge_line, AllAre, Stops}
 use Rattle.std.proofs.lemmas.List.{append-nil as append_none}
 
@@ -32,6 +32,14 @@ judge_lines m p done (l ∷ lines) h = by_line (judge_line m p done l h.0) (judg
       fault = s.fault;
       is_least = subst (λ d. IsLeast m d s.line s.fault) (append_assoc done (l ∷ []) s.front) s.is_least;
     })
+
+all_front : {A : Type 0} (P : A → Type 0) (xs ys : List A) → AllByRecursion P (xs ++ ys) → AllByRecursion P xs
+all_front P [] ys h = tt
+all_front P (x ∷ xs) ys h = (h.0, all_front P xs ys h.1)
+
+all_at : {A : Type 0} (P : A → Type 0) (xs : List A) (x : A) (ys : List A) → AllByRecursion P (xs ++ x ∷ ys) → P x
+all_at P [] x ys h = h.0
+all_at P (y ∷ xs) x ys h = all_at P xs x ys h.1
 
 -- lines that are each as they should be, or a wrong line
 pub text_lines : (m : FlatModel) → IsPrintable m → (bytes : List ℕ) → ((lines : List Line) × (bytes ≡ fed lines) × AllByRecursion IsLine lines × AllAre m [] lines) ⊎ ((f : LineFault) × (n : ℕ) × IsWrongLine m bytes f n)

@@ -14,7 +14,11 @@ use Rattle.xs_flat_laws.specs.Model.{IsFlatOf}
 use Rattle.xs_flat_laws.proofs.Reaches.{BothReach, tree_reaches}
 use Rattle.xs_flat_laws.proofs.Lists.{each_more}
 use Rattle.xs_flat_laws.proofs.Now.{BothBelow, below_on}
-use Rattle.xs_flat_laws.proofs.Resolving.{Known, names_known, resolved_gives, flat_has, written_has, each_leaf as all_leaves_there}
+use Rattle.xs_flat_laws.proofs.Resolving.{Known, names_known, resolved_gives, flat_has, written_has}
+
+all_leaves_there : (ls : List FlatLeaf) → Each (λ l. Unit {0}) ls
+all_leaves_there [] = tt
+all_leaves_there (l ∷ ls) = (tt, all_leaves_there ls)
 
 abbrev past : FlatLeaf → ℕ
 past (flat_variable i) = 0

@@ -33,7 +33,7 @@ use Rattle.xs_weave.proofs.LeafValues.{instance_among, own_variable, mode_variab
 use Rattle.xs_weave.proofs.Meanings.{Kept, kind_kept, symbol_stays}
 use Rattle.xs_weave.proofs.WovenSlices.{mode_known}
 use Rattle.xs_extend_laws.specs.Expressions.{followed, SomeBreaks}
-use Rattle.xs_woven_laws.proofs.Orders.{none_some, not_some}
+use Rattle.xs_woven_laws.proofs.Orders.{none_some, not_some, each_two}
 use Rattle.xs_woven_laws.proofs.WovenNamesItems.{OfRules, OfSlice}
 use Rattle.xs_woven_laws.proofs.WovenNamesLeaves.{none_under}
 use Rattle.xs_woven_laws.proofs.Looking.{Valued, Quiet, type_finite, still_valued, still_quiet, variable_valued, variable_quiet, symbol_valued, symbol_quiet}
@@ -41,7 +41,6 @@ use Rattle.xs_woven_laws.proofs.OldItems.{ItemKept, state_assigned, finite_kind}
 use Rattle.xs_woven_laws.proofs.WovenNamesUses.{KeepsMode}
 use Rattle.xs_woven_laws.proofs.Clean.{Clean, CleanBranches, clean_name, clean_truth, clean_not, clean_binary, clean_clipped, clean_greater, clean_number, IsGoodMember, IsGoodType, clean_domain, clean_modes, clean_one, clean_symbols, clean_stay, clean_entries}
 use Rattle.std.proofs.lemmas.Bool.{false_from_ne_true as not_true}
-use Rattle.xs_flat_laws.proofs.KindLaws.{with_both as each_two}
 
 module _ (q : ProgramTree) (at : Place) where
   -- a name that has a value and gives no input

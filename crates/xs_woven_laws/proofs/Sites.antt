@@ -17,12 +17,22 @@ use Rattle.xs_fei.specs.Weavable.{Among}
 use Rattle.xs_weave_rules.specs.Sites.{OwnedSlice, owned, Site, a_slice, a_mode, mode_sites, slice_sites, extension_sites}
 use Rattle.xs_weave_rules.specs.Rules.{broken_at}
 use Rattle.xs_weave_rules.specs.FirstBroken.{AllKept}
-use Rattle.xs_weave_rules.proofs.KeptItems.{among_left, among_right, among_either}
+use Rattle.xs_weave_rules.proofs.KeptItems.{among_left, among_right}
 use Rattle.xs_weave_rules.proofs.KeptFacts.{ModeKept, mode_facts}
 use Rattle.xs_weave_rules.proofs.ProgramNames.{any_false}
 use Rattle.xs_flat_laws.proofs.Reaches.{each_left, each_right}
 use Rattle.xs_woven_laws.proofs.Rightly.{none_joined}
 use Rattle.std.proofs.lemmas.Bool.{or_from as or_none}
+
+-- What holds of each item holds of those of a slice of a module.
+among_either : {A : Type 0} (xs ys : List A) (x : A) → Among (xs ++ ys) x → Among xs x ⊎ Among ys x
+among_either [] ys x a = inr a
+among_either (y ∷ xs) ys x (inl e) = inl (inl e)
+among_either (y ∷ xs) ys x (inr a) = go (among_either xs ys x a)
+  where
+    go : Among xs x ⊎ Among ys x → Among (y ∷ xs) x ⊎ Among ys x
+    go (inl b) = inl (inr b)
+    go (inr b) = inr b
 
 module _ (Q : Site → Type 0) where
   -- the item of the slice, and those of its modes

@@ -17,7 +17,7 @@ use Rattle.xs_weave.specs.Woven.{woven_module, woven}
 use Rattle.xs_weave.proofs.WovenKinds.{find_woven}
 use Rattle.xs_fei.proofs.AmongLaws.{each_at as each_among}
 use Rattle.xs_woven_laws.specs.WovenNamesLaws.{OnlyLimits, WithinLimits, IsExtendable, WovenKeepsNames, WovenBreaksLimitsAlone, WovenIsAccepted}
-use Rattle.xs_woven_laws.proofs.Orders.{EachAfter, after_numbered, numbered_after, after_two, after_more, after_each, each_after}
+use Rattle.xs_woven_laws.proofs.Orders.{EachAfter, after_numbered, numbered_after, after_two, after_more, after_each, each_after, each_two}
 use Rattle.xs_woven_laws.proofs.WovenNamesItems.{woven_item, slice_items, woven_items, added_flat, of_slices, items_numbered}
 use Rattle.xs_woven_laws.proofs.Walks.{visits_kept, same_instances}
 use Rattle.xs_woven_laws.proofs.Slices.{slices_apart}
@@ -27,7 +27,6 @@ use Rattle.xs_woven_laws.proofs.WovenNamesUses.{KeepsMode, uses_kept}
 use Rattle.xs_woven_laws.proofs.NewItems.{new_kept}
 use Rattle.xs_woven_laws.proofs.Once.{IsOnce, once_kept}
 use Rattle.xs_weave_rules.proofs.KeptFacts.{found_named as found_name}
-use Rattle.xs_flat_laws.proofs.KindLaws.{with_both as each_two}
 
 -- the walk
 visit_limits : (q : ProgramTree) (before : List Visit) (v : Visit) → VisitFacts q v → OnlyLimits q (a_visit before v)

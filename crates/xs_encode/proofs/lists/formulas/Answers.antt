@@ -3,10 +3,9 @@ use Rattle.xs_tree.specs.ModelTree.{formula_tree}
 use Rattle.xs_expressions.specs.Naming.{model_of, names_in}
 use Rattle.xs_expressions.proofs.Members.{named_later}
 use Rattle.xs_encode.specs.Copies.{IsRightFormula}
-use Rattle.xs_encode.proofs.ModelParts.{got}
+use Rattle.xs_encode.proofs.ModelParts.{each_at, got}
 use Rattle.xs_encode.proofs.LoopLaws.{formulas_next}
 use Rattle.xs_encode.proofs.lists.formulas.Goals as goal
-use Rattle.xs_flat_laws.proofs.Conditions.{each_at}
 use Rattle.xs_type_laws.proofs.WrittenLaws.{get_map as at_mapped}
 
 pub holds-requires-clause-named : goal.holds-requires-clause-named

@@ -15,10 +15,8 @@ use Rattle.xs_loading.specs.Loaded.{case_of}
 use Rattle.xs_run.specs.Tables.{IsWrongList, IsFirstNoTop, IsWrongTops, wrong_list, wrong_event}
 use Rattle.xs_loading.proofs.Told.{refused_weaker}
 use Rattle.xs_loading.proofs.TopLaws.{names_over}
-use Rattle.xs_run.proofs.TableLemmas.{are_events}
+use Rattle.xs_run.proofs.TableLemmas.{each_map, each_weaker, are_events}
 use Rattle.xs_run.proofs.tops.tops_of.Goals as goal
-use Rattle.xs_flat_laws.proofs.Lists.{each_of_map as each_map}
-use Rattle.xs_encode_laws.proofs.SetLaws.{each_kept as each_weaker}
 
 pub returns-in_err-written-clause-wrong : goal.returns-in_err-written-clause-wrong
 returns-in_err-written-clause-wrong c =
