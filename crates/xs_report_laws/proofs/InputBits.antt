@@ -62,14 +62,6 @@ few_variables p m accepted is =
 
 -- ---- bits
 
-unfolding digits_in
-digits_most zero n = omega arith
-digits_most (suc most) n = by_test (nat_eq n 0) (digits_most most (n / 2))
-  where
-    by_test : (b : Bool) → digits_in most (n / 2) ≤ most → elim b [ true ↦ 0 | false ↦ suc (digits_in most (n / 2)) ] ≤ suc most
-    by_test true h = omega arith
-    by_test false h = omega (arith, h)
-
 above_most : (z : ℤ) → digits_above z ≤ 64
 above_most (pos n) = digits_most 64 n
 above_most (negsuc n) = omega arith

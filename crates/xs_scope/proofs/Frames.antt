@@ -46,20 +46,6 @@ formal_by_rows s k i = by_row (slice_get s.formals.items k) ∙ ap (λ o. formal
     by_row None = refl
     by_row (Some v) = refl
 
-    by_name : (b : Bool) → same_text d.name x ≡ b → (kind_in_items is x ≡ a_formal i → ⊥) → ⊥
-    by_name true t rest = by_type d.what (rw t at e)
-    by_name false t rest = rest (rw t at e)
-never_formal (a_definition d ∷ is) x i e = by_name (same_text d.name x) refl (never_formal is x i)
-  where
-    by_name : (b : Bool) → same_text d.name x ≡ b → (kind_in_items is x ≡ a_formal i → ⊥) → ⊥
-    by_name true t rest = let bad : a_define d.value ≡ a_formal i = rw t at e in cc
-    by_name false t rest = rest (rw t at e)
-never_formal (an_assignment a ∷ is) x i e = never_formal is x i e
-never_formal (some_constants xs ∷ is) x i e = never_formal is x i e
-never_formal (an_init f ∷ is) x i e = never_formal is x i e
-never_formal (an_invar f ∷ is) x i e = never_formal is x i e
-never_formal (a_trans f ∷ is) x i e = never_formal is x i e
-
 step_none : (p : ProgramTree) (at : Place) (k : Kind) (x : Text) → ((i : ℕ) → k ≡ a_formal i → ⊥) → step_kind p at k x [] ≡ None
 step_none p at (a_formal i) x h = absurd (h i refl)
 step_none p at (a_variable role what) x h = refl

@@ -14,13 +14,6 @@ never x e = absurd (bad e)
     bad : None ≡ Some x → ⊥
     bad h = cc
 
-or_else : {A : Type 0} → A → Option A → A
-or_else x None = x
-or_else x (Some y) = y
-
-unfolding or_else
-of_some x y e = ap (or_else x) e
-
 -- a look-up with more parts after its name
 abbrev pub with_more : Look → Path → Look
 with_more l more = record { place = l.place; name = l.name ++ more }
