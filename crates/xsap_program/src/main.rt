@@ -1,5 +1,5 @@
 //! Extends SMV models with faults, replays traces of the extensions, finds their minimal cut sets, checks
-//! certificates of them, makes tables of them, generates cases, and bounds probabilities.
+//! certificates of them, makes tables of them, generates cases, bounds probabilities, and takes in common causes and orders of faults.
 //!
 //! `main` hands [`xs_run::run::run`], or for a further verb [`reach::run`], the words of the command line, a desk
 //! over real files, and but for the further verbs the advisers of the search; all that is promised of a run stands at these calls.
@@ -14,6 +14,10 @@
 //! xsap_program fmea --model lamp.smv --faults lamp.fei --tops lamp.tops --size 1 --depth 4
 //! xsap_program make --number 1 --stages 8 --depth 50 --model rails.smv --faults rails.fei
 //! xsap_program odds --model lamp.smv --faults lamp.fei --top '!on' --depth 4
+//! xsap_program causes --model lamp.smv --faults lamp.fei --causes lamp.causes --top '!on' --depth 4 --cert out.cert
+//! xsap_program check-causes --model lamp.smv --faults lamp.fei --causes lamp.causes --top '!on' --cert out.cert
+//! xsap_program orders --model m.smv --faults m.fei --top bad --set "1 2" --first 1 --second 2 --depth 4 --cert out.cert
+//! xsap_program check-orders --model m.smv --faults m.fei --top bad --set "1 2" --first 1 --second 2 --claim before --cert out.cert
 //! ```
 #![tactic(auto)]
 

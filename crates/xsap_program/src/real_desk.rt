@@ -1,5 +1,6 @@
 // The desk over the system's files and standard output: the trusted edge, which tells nothing of what
-// files hold.
+// files hold. A file is absent where the system finds none of the name, also since a part of the name is no folder;
+// want of memory is told as that, and whatever else fails is counted.
 ghost use Rattle.std.specs.Prelude.{◌≡◌, ◌≤◌, None, IsErrOf, IfOk, length};
 ghost use Rattle.xs_desk.specs.Desk.{Rose};
 ghost use Rattle.xs_desk.specs.declared.desk.WriteStop.TheVariants as write_stop;
@@ -36,11 +37,14 @@ impl<R: Files + Print + Drop> Desk for RealDesk<R> {
     fn read(&mut self, name: &str, at: u64, into: &mut [u8]) -> Result<usize, ReadStop> {
         match read_at(&self.runtime, name, at, into) {
             Ok(count) => Ok(count),
-            Err(error) if error.kind() == ErrorKind::NotFound => Err(ReadStop::Absent),
-            Err(_) => {
-                raise(&mut self.faults);
-                Err(ReadStop::Failed)
-            }
+            Err(error) => match error.kind() {
+                ErrorKind::NotFound | ErrorKind::NotADirectory => Err(ReadStop::Absent),
+                ErrorKind::OutOfMemory => Err(ReadStop::OutOfMemory),
+                _ => {
+                    raise(&mut self.faults);
+                    Err(ReadStop::Failed)
+                }
+            },
         }
     }
 
@@ -92,13 +96,14 @@ fn raise(count: &mut u64)
     *count = count.saturating_add(1);
 }
 
-/// The outcome of a write, counted where it failed.
+/// The outcome of a write, counted where it failed for another reason than want of memory.
 fn counted(done: io::Result<()>, faults: &mut u64) -> Result<(), WriteStop>
     ensures later { faults.old ≤ faults.new }
     ensures failed { IsErrOf result write_stop.Failed → Rose faults.old faults.new }
 {
     match done {
         Ok(()) => Ok(()),
+        Err(error) if error.kind() == ErrorKind::OutOfMemory => Err(WriteStop::OutOfMemory),
         Err(_) => {
             raise(faults);
             Err(WriteStop::Failed)
