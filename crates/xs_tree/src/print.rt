@@ -1,4 +1,4 @@
-//! Printing an expression. All text goes to the end of one buffer, so the work is linear in the text.
+//! Printing an expression: [`print_expr`]. All text goes to the end of one buffer, so the work is linear in the text.
 
 ghost use Rattle.std.specs.Prelude.{◌≡◌, ◌++◌, codes, IfOk, OnOk, map};
 ghost use Rattle.std.specs.Fmt.{signed_decimal};
