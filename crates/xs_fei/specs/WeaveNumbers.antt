@@ -10,9 +10,11 @@ use Rattle.xs_fei.specs.Instructions.{effect_tree}
 use Rattle.xs_fei.specs.Numbers.{EffectHasNegations, TypeHasNegations}
 use Rattle.xs_fei.specs.KindTypes.{type_of_kind}
 
+-- each number of a mode's effect
 abbrev pub ModeHasNegations : ModeRule → Type 0
 ModeHasNegations m = EffectHasNegations (effect_tree m.effect)
 
+-- each number of the effects of a slice
 abbrev pub SliceHasNegations : Slice → Type 0
 SliceHasNegations s = All ModeHasNegations s.modes
 

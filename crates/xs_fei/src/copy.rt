@@ -138,6 +138,7 @@ pub fn copy_modes(alloc: Global, modes: &[ModeRule]) -> Result<ModeList, OutOfMe
     Ok(made)
 }
 
+/// A copy of a file's own name, where it has one.
 fn copy_name(name: &Option<Name>) -> Result<Option<Name>, OutOfMemory>
     ensures { IfOk result (λ made. made ≡ name.now) }
 {
@@ -147,6 +148,7 @@ fn copy_name(name: &Option<Name>) -> Result<Option<Name>, OutOfMemory>
     }
 }
 
+/// A copy of a mode's mark, where it has one.
 fn copy_mark(mark: &Option<MarkList>) -> Result<Option<MarkList>, OutOfMemory>
     ensures { IfOk result (λ made. made ≡ mark.now) }
 {
@@ -156,6 +158,7 @@ fn copy_mark(mark: &Option<MarkList>) -> Result<Option<MarkList>, OutOfMemory>
     }
 }
 
+/// A copy of a mode's guard, where it has one.
 fn copy_guard(
     alloc: Global,
     guard: &Option<Expr<Dotted>>,
