@@ -2,7 +2,7 @@
 //
 // Each round takes the piece that begins where the last one ended, keeps it where it is a token, and stops at the first
 // place where no piece begins. Of the pieces themselves `scan` knows.
-ghost use Rattle.std.specs.Prelude.{◌≡◌, ◌⊎◌, ◌<◌, ◌≤◌, ◌+◌, ◌^◌, ◌++◌, [], ◌∷◌, List, length, All, OnOk, OnErr, IfOk, IfErr};
+ghost use Rattle.std.specs.Prelude.{◌≡◌, ◌⊎◌, ◌<◌, ◌+◌, ◌^◌, ◌++◌, List, length, All, OnOk, IfOk, IfErr};
 ghost use Rattle.xs_lexer.specs.declared.token.Token.{Token};
 ghost use Rattle.xs_lexer.specs.declared.token.LexFault.{LexFault};
 ghost use Rattle.xs_lexer.specs.Tokens.{token_of, HasTokens, StandsIn};
