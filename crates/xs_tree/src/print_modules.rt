@@ -1,6 +1,6 @@
 //! Printing a program: [`print_program`]. All text goes to the end of one buffer, so the work is linear in the text.
 
-ghost use Rattle.std.specs.Prelude.{◌≡◌, ◌++◌, codes, IfOk, OnOk, map};
+ghost use Rattle.std.specs.Prelude.{◌≡◌, ◌++◌, IfOk, OnOk, map};
 ghost use Rattle.xs_tree.specs.ProgramTree.{program_tree, module_tree, section_tree, decl_tree, declared_tree, define_tree, assignment_tree};
 ghost use Rattle.xs_tree.specs.Text.{program_text, module_text, section_text, decl_line, declared_text, define_line, assignment_line, target_text, member_text, constants_text, in_brackets, commas, line, all_of, text_of};
 ghost use Rattle.xs_tree.specs.Written.{tree_of};
@@ -110,26 +110,23 @@ fn append_section(alloc: Global, text: &mut ByteList, section: &Section) -> Resu
             text.append(b"ASSIGN\n")?;
             append_assignments(alloc, text, list.as_slice())
         }
-        Section::Init(e) => {
-            text.append(b"INIT\n")?;
-            append_formula(alloc, text, e)
-        }
-        Section::Invar(e) => {
-            text.append(b"INVAR\n")?;
-            append_formula(alloc, text, e)
-        }
-        Section::Trans(e) => {
-            text.append(b"TRANS\n")?;
-            append_formula(alloc, text, e)
-        }
+        Section::Init(e) => append_formula(alloc, text, b"INIT\n", e),
+        Section::Invar(e) => append_formula(alloc, text, b"INVAR\n", e),
+        Section::Trans(e) => append_formula(alloc, text, b"TRANS\n", e),
     }
 }
 
-/// Appends the line of a formula.
+/// Appends the word of a section, with the end of its line, and the line of its formula.
 #[tactic(auto, using(crate::proofs::TextLaws::print_rules))]
-fn append_formula(alloc: Global, text: &mut ByteList, e: &Expr<Dotted>) -> Result<(), OutOfMemory>
-    ensures { OnOk result (text.new ≡ text.old ++ line (text_of (tree_of e.now))) }
+fn append_formula(
+    alloc: Global,
+    text: &mut ByteList,
+    word: &[u8],
+    e: &Expr<Dotted>,
+) -> Result<(), OutOfMemory>
+    ensures { OnOk result (text.new ≡ text.old ++ (word.now ++ line (text_of (tree_of e.now)))) }
 {
+    text.append(word)?;
     text.append(b"  ")?;
     append_expr(alloc, text, e)?;
     text.append(b";\n")
