@@ -2,7 +2,7 @@
 //! an effect may hold none, so its copy is given one.
 
 ghost use Rattle.std.specs.Prelude.{◌≡◌, IfOk, map};
-ghost use Rattle.xs_fei.specs.Instructions.{instruction_tree, extension_tree, slice_tree, mode_tree, effect_tree, constant_value, guard_tree};
+ghost use Rattle.xs_fei.specs.Instructions.{instruction_tree, extension_tree, slice_tree, mode_tree, effect_tree, guard_tree};
 
 use crate::instructions::{
     Constant, Effect, Extension, ExtensionList, Instructions, MarkList, ModeList, ModeRule, Slice,

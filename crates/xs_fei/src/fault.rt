@@ -9,7 +9,7 @@ ghost use Rattle.xs_tree.specs.Texts.{same_text};
 ghost use Rattle.xs_tree.specs.Trace.{in_domain, is_member};
 ghost use Rattle.xs_fei.specs.Instructions.{effect_tree, constant_value};
 ghost use Rattle.xs_fei.specs.Templates.{member_value};
-ghost use Rattle.xs_fei.specs.Allowed.{same_kind, kind_of_members, is_of_kind as is_of_kind_of, differs as differs_from, members_differ, has_two_values as has_two_values_of, is_small as is_small_number, offset_fits as offset_fits_in, ramp_fits as ramp_fits_in, constant_fault, inverted_fault, offset_fault, ramp_fault, fault_of};
+ghost use Rattle.xs_fei.specs.Allowed.{kind_of_members, is_of_kind as is_of_kind_of, differs as differs_from, members_differ, has_two_values as has_two_values_of, is_small as is_small_number, offset_fits as offset_fits_in, ramp_fits as ramp_fits_in, constant_fault, inverted_fault, offset_fault, ramp_fault, fault_of};
 
 use crate::{Constant, Effect};
 use xs_tree::{Declared, Member};
