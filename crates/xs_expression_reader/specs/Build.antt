@@ -28,6 +28,7 @@ pub data Hand : Type 0 where
   name_hand : Path → Hand
   other_hand : Tree Path → Hand
 
+-- what has been read last, over the parts that wait: nothing yet, a name and its dot, what begins a span, `next`, branches, or an operand
 pub data Build : Type 0 where
   ready : List Part → Build
   name_on : Path → List Part → Build
@@ -38,6 +39,7 @@ pub data Build : Type 0 where
   holds : Hand → List Part → Build
   broken : Build
 
+-- the tree of an operand
 abbrev pub value : Hand → Tree Path
 value (number_hand n) = number (pos n)
 value (name_hand p) = leaf p
@@ -56,6 +58,7 @@ takes_operand l (left_part o a) = nat_le l (looseness (line_of o))
 takes_operand l (answered c a) = nat_le l at_choice
 takes_operand l _ = false
 
+-- a part with its operand
 abbrev pub joined : Part → Tree Path → Tree Path
 joined minus_part t = negate t
 joined bang_part t = not_of t
@@ -73,6 +76,7 @@ abbrev pub reduce : ℕ → Tree Path → List Part → Held
 reduce l t [] = record { tree = t; parts = [] }
 reduce l t (p ∷ ps) = if takes_operand l p then reduce l (joined p t) ps else record { tree = t; parts = p ∷ ps }
 
+-- a lexeme that closes what is open, or goes on inside it, behind a whole operand
 abbrev pub shut : Tree Path → List Part → Role → Build
 shut t (group_part ∷ ps) closes = holds (other_hand t) ps
 shut t (next_part ∷ ps) closes = holds (other_hand (next_of t)) ps
@@ -83,12 +87,15 @@ shut t (condition_part bs ∷ ps) a_colon = ready (outcome_part bs t ∷ ps)
 shut t (outcome_part bs c ∷ ps) a_semicolon = branch_on (bs ++ (c, t) ∷ []) ps
 shut t _ _ = broken
 
+-- the same, of an operand with its parts
 abbrev pub shut_held : Held → Role → Build
 shut_held h c = shut h.tree h.parts c
 
+-- an operator behind its left operand
 abbrev pub left_held : Op → Held → Build
 left_held o h = ready (left_part o h.tree ∷ h.parts)
 
+-- a `?` behind its condition
 abbrev pub asked_held : Held → Build
 asked_held h = ready (asked h.tree ∷ h.parts)
 
@@ -97,6 +104,7 @@ abbrev pub level : Option ℕ → ℕ
 level (Some l) = l
 level None = at_iff
 
+-- an operator, a `?`, or what closes, behind an operand
 abbrev pub go_on : Tree Path → List Part → Role → Build
 go_on t ps (joins o) = left_held o (reduce (level (line_of o)) t ps)
 go_on t ps a_minus = left_held op.Minus (reduce at_sum t ps)
@@ -108,19 +116,23 @@ abbrev pub span_from : ℕ → List Part → Build
 span_from n (minus_part ∷ ps) = high_on (minus n) ps
 span_from n ps = high_on (pos n) ps
 
+-- what stands behind an operand: two dots, a dot, or what goes on
 abbrev pub after_hand : Hand → List Part → Role → Build
 after_hand (number_hand n) ps dots = span_from n ps
 after_hand (name_hand p) ps a_dot = name_on p ps
 after_hand h ps c = go_on (value h) ps c
 
+-- the text of a word
 abbrev pub name_in : Lexeme → Text
 name_in (word x) = x
 name_in _ = []
 
+-- the number of a number
 abbrev pub number_in : Lexeme → ℕ
 number_in (num n d) = n
 number_in _ = 0
 
+-- what begins an operand
 abbrev pub open_operand : List Part → Lexeme → Role → Build
 open_operand ps t (a_truth b) = holds (other_hand (truth b)) ps
 open_operand ps t a_name = holds (name_hand (name_in t ∷ [])) ps
@@ -133,6 +145,7 @@ open_operand ps t opens = ready (group_part ∷ ps)
 open_operand ps t opens_set = ready (set_part [] ∷ ps)
 open_operand ps t _ = broken
 
+-- the state after one more lexeme
 abbrev pub build_step : Build → Lexeme → Role → Build
 build_step (ready ps) t c = open_operand ps t c
 build_step (name_on p ps) t a_name = holds (name_hand (p ++ name_in t ∷ [])) ps
@@ -149,10 +162,12 @@ build_step (branch_on bs ps) t c = open_operand (condition_part bs ∷ ps) t c
 build_step (holds h ps) t c = after_hand h ps c
 build_step broken t c = broken
 
+-- the state after a list of lexemes
 abbrev pub build : Build → List Lexeme → Build
 build st [] = st
 build st (t ∷ ts) = build (build_step st t (role_of t)) ts
 
+-- the tree, where nothing waits any more
 abbrev pub finished : Held → Option (Tree Path)
 finished h = if_empty h.parts (Some h.tree)
   where
@@ -165,5 +180,6 @@ abbrev pub finish : Build → Option (Tree Path)
 finish (holds h ps) = finished (reduce at_expr (value h) ps)
 finish _ = None
 
+-- the tree of a list of lexemes, where it spells one
 abbrev pub built : List Lexeme → Option (Tree Path)
 built ts = finish (build (ready []) ts)

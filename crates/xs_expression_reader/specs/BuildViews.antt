@@ -7,11 +7,13 @@ use Rattle.xs_expression_reader.specs.declared.tree.Build.{Build}
 use Rattle.xs_expression_reader.specs.declared.tree.Build.TheVariants as b
 use Rattle.xs_expression_reader.specs.Build as machine
 
+-- the operand that stands last
 abbrev pub hand_view : Hand → machine.Hand
 hand_view (h.Number digits) = machine.number_hand digits.value
 hand_view (h.Name name) = machine.name_hand name
 hand_view (h.Other grown) = machine.other_hand (tree_of grown.tree)
 
+-- the state, over the parts that wait
 abbrev pub build_view : Build → List machine.Part → machine.Build
 build_view b.Ready ps = machine.ready ps
 build_view (b.NameOn name) ps = machine.name_on name ps

@@ -3,12 +3,13 @@ use Rattle.std.specs.Prelude.{ℕ, ◌+◌, max, List, [], ◌∷◌}
 use Rattle.xs_tree.specs.Lexemes.{Lexeme}
 use Rattle.xs_expression_reader.specs.Recognise.{role_of, Frame, group, State, wants, wants_not, wants_low, wants_dots, wants_high, wants_digits, wants_name, wants_open, wants_branch, had, stuck, step}
 
--- the same, counted on the stack
+-- how many of the open parts are groups
 abbrev pub groups : List Frame → ℕ
 groups [] = 0
 groups (group ∷ s) = groups s + 1
 groups (f ∷ s) = groups s
 
+-- how many groups are open in a state
 abbrev pub depth : State → ℕ
 depth (wants s) = groups s
 depth (wants_not s) = groups s
@@ -22,6 +23,7 @@ depth (wants_branch s) = groups s
 depth (had e s) = groups s
 depth stuck = 0
 
+-- the most that are open at once, in the state and after each lexeme
 abbrev pub peak : State → List Lexeme → ℕ
 peak st [] = depth st
 peak st (t ∷ ts) = max (depth st) (peak (step st (role_of t)) ts)

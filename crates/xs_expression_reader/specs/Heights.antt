@@ -4,6 +4,7 @@ use Rattle.xs_tree.specs.Tree.{height_of, trees_height, branches_height, trees_f
 use Rattle.xs_tree.specs.Limits.{deepest}
 use Rattle.xs_expression_reader.specs.Build.{Part, left_part, answered, asked, set_part, condition_part, outcome_part, other_hand, Build, ready, name_on, high_on, minus_high_on, next_on, branch_on, holds, broken, value, Held}
 
+-- the height of the highest tree that a part holds
 abbrev pub part_height : Part → ℕ
 part_height (left_part o a) = height_of a
 part_height (answered c a) = max (height_of c) (height_of a)
@@ -13,6 +14,7 @@ part_height (condition_part bs) = branches_height (branches_from bs)
 part_height (outcome_part bs c) = max (branches_height (branches_from bs)) (height_of c)
 part_height _ = 0
 
+-- the same of all parts
 abbrev pub parts_height : List Part → ℕ
 parts_height [] = 0
 parts_height (p ∷ ps) = max (part_height p) (parts_height ps)
@@ -38,6 +40,7 @@ highest (holds (other_hand t) ps) = max (height_of t) (parts_height ps)
 highest (holds h ps) = parts_height ps
 highest st = tallest st
 
+-- the machine still goes on
 abbrev pub is_whole : Build → Bool
 is_whole broken = false
 is_whole _ = true

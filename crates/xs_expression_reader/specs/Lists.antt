@@ -23,6 +23,7 @@ place_view p.First s = Some (expressions ∷ [])
 place_view p.Again s = Some (again ∷ [])
 place_view (p.Inside mode) s = live (state_with mode s) (more ∷ [])
 
+-- the same after a step, where the list went on
 abbrev pub after_view : Option Place → List Frame → Option (List Sym)
 after_view None s = None
 after_view (Some place) s = place_view place s
@@ -31,9 +32,11 @@ after_view (Some place) s = place_view place s
 abbrev pub stepped : Option (List Sym) → Lexeme → Option (List Sym)
 stepped = grammar_stepped Sym formulas
 
+-- what is expected after these lexemes of a list
 abbrev pub expected_after : List Lexeme → Option (List Sym)
 expected_after = grammar_expected Sym formulas expressions
 
+-- the reading is how far these lexemes can be read
 abbrev pub ListReads : List Lexeme → Reading → Type 0
 ListReads = ReadsTo Sym formulas expressions
 

@@ -4,6 +4,7 @@ use Rattle.xs_expression_reader.specs.declared.mark.Mark.TheVariants as m
 use Rattle.xs_expression_reader.specs.declared.mark.Mark.{Mark}
 use Rattle.xs_expression_reader.specs.Marks as read
 
+-- each mark of the code, by its name in the grammar
 abbrev pub mark_view : Mark → read.Mark
 mark_view m.Module = read.w_module
 mark_view m.Var = read.w_var

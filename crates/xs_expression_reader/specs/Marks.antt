@@ -36,6 +36,7 @@ pub data Mark : Type 0 where
   s_minus : Mark
   no_mark : Mark
 
+-- what a word is; a reserved one that begins nothing here has no mark
 abbrev pub mark_of_word : List ℕ → Mark
 mark_of_word x =
     if same_text x (codes "MODULE") then w_module else (if same_text x (codes "VAR") then w_var else (if same_text x (codes "IVAR") then w_ivar else
@@ -44,6 +45,7 @@ mark_of_word x =
     (if same_text x (codes "TRANS") then w_trans else (if is_among skipped_words x then w_skipped else (if same_text x (codes "boolean") then w_boolean else
     (if same_text x (codes "init") then w_first else (if same_text x (codes "next") then w_after else (if is_reserved x then no_mark else a_name))))))))))))))
 
+-- what a lexeme is; a sign of expressions alone has no mark
 abbrev pub mark_of : Lexeme → Mark
 mark_of (word x) = mark_of_word x
 mark_of (num n d) = a_number

@@ -7,6 +7,7 @@ use Rattle.xs_expression_reader.specs.Build as machine
 use Rattle.xs_tree.specs.ProgramTree.{Path}
 use Rattle.xs_tree.specs.Tree.{Tree}
 
+-- each part of the code, by its name in the machine
 abbrev pub part_view : Part → machine.Part
 part_view p.Minus = machine.minus_part
 part_view p.Bang = machine.bang_part
@@ -24,8 +25,10 @@ abbrev pub parts_onto : List machine.Part → List Part → List machine.Part
 parts_onto s [] = s
 parts_onto s (x ∷ xs) = parts_onto (part_view x ∷ s) xs
 
+-- the stack of a vector of parts
 unfoldable pub parts_of : List Part → List machine.Part
 parts_of xs = parts_onto [] xs
 
+-- an operand over the parts that wait
 abbrev pub held : Tree Path → List machine.Part → machine.Held
 held t ps = record { tree = t; parts = ps }

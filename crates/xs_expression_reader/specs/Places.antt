@@ -5,6 +5,7 @@ use Rattle.xs_lexer.specs.Tokens.{sign_text}
 use Rattle.xs_tree.specs.Lexemes.{Lexeme, word, num, sign, lexeme_of}
 use Rattle.xs_tree.specs.Texts.{same_text}
 
+-- the lexeme of a token of the bytes
 abbrev pub lexeme_at : List ℕ → Token → Lexeme
 lexeme_at bytes token = lexeme_of token.kind (slice_range bytes token.start token.end)
 

@@ -6,6 +6,7 @@ use Rattle.xs_expression_reader.specs.declared.reading.Reading.TheVariants as re
 use Rattle.xs_expression_reader.specs.Predict.{Grammar, step, run, all_empty}
 
 module _ (Sym : Type 0) (g : Grammar Sym) where
+  -- what is expected after one more lexeme, where the list goes on
   abbrev pub stepped : Option (List Sym) → Lexeme → Option (List Sym)
   stepped None t = None
   stepped (Some s) t = step Sym g s t
@@ -14,6 +15,7 @@ module _ (Sym : Type 0) (g : Grammar Sym) where
   abbrev pub expected_after : Sym → List Lexeme → Option (List Sym)
   expected_after x ts = run Sym g (Some (x ∷ [])) ts
 
+  -- some list goes on
   abbrev pub Goes : Option (List Sym) → Type 0
   Goes o = (s : List Sym) × (o ≡ Some s)
 
@@ -21,6 +23,7 @@ module _ (Sym : Type 0) (g : Grammar Sym) where
   abbrev pub Ends : Bool → Sym → List Lexeme → Type 0
   Ends may x ts = (s : List Sym) × (expected_after x ts ≡ Some s) × (all_empty Sym g s ≡ may)
 
+  -- the reading is how far the list can be read: whole, unfinished, or up to the place of the first lexeme that none goes on with
   abbrev pub ReadsTo : Sym → List Lexeme → Reading → Type 0
   ReadsTo x ts reading.Whole = Ends true x ts
   ReadsTo x ts reading.Unfinished = Ends false x ts

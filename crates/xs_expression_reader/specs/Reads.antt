@@ -35,10 +35,12 @@ with_front xs (got ys ts) = got (xs ++ ys) ts
 with_front xs deep = deep
 with_front xs none = none
 
+-- the tree, where one was made, unless it is too high
 abbrev pub made_of : Option Formula → List Lexeme → Read Formula
 made_of None r = none
 made_of (Some t) r = answer (nat_lt deepest (height_of t)) t r
 
+-- the tree of what stands in front, where it is whole and not nested too deep
 abbrev pub front_read : Bool → Bool → Option Formula → List Lexeme → Read Formula
 front_read whole too_deep o r = if whole then (if too_deep then deep else made_of o r) else none
 
@@ -51,6 +53,7 @@ abbrev pub mark_at : List Lexeme → Mark
 mark_at [] = no_mark
 mark_at (t ∷ ts) = mark_of t
 
+-- what stands behind the next lexeme
 abbrev pub rest_of : List Lexeme → List Lexeme
 rest_of [] = []
 rest_of (t ∷ ts) = ts
@@ -82,6 +85,7 @@ abbrev pub end_at : List Lexeme → Read (Unit {0})
 end_at [] = got tt []
 end_at (t ∷ ts) = none
 
+-- a name by its mark
 abbrev pub named_at : Mark → Lexeme → List Lexeme → Read Text
 named_at a_name t ts = got (name_in t) ts
 named_at c t ts = none
@@ -91,6 +95,7 @@ abbrev pub name_at : List Lexeme → Read Text
 name_at [] = none
 name_at (t ∷ ts) = named_at (mark_of t) t ts
 
+-- a number by its mark
 abbrev pub counted_at : Mark → Lexeme → List Lexeme → Read ℕ
 counted_at a_number t ts = got (number_in t) ts
 counted_at c t ts = none

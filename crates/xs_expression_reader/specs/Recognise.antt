@@ -29,6 +29,7 @@ pub data Role : Type 0 where
   closes_set : Role
   no_role : Role
 
+-- what a word is in an expression; a reserved one that stands in none has no role
 abbrev pub role_of_word : List ℕ → Role
 role_of_word x =
     if same_text x (codes "TRUE") then a_truth true else (if same_text x (codes "FALSE") then a_truth false else
@@ -38,6 +39,7 @@ role_of_word x =
     (if same_text x (codes "xor") then joins op.Xor else (if same_text x (codes "xnor") then joins op.Xnor else
     (if is_reserved x then no_role else a_name))))))))))
 
+-- what a lexeme is in an expression
 abbrev pub role_of : Lexeme → Role
 role_of (word x) = role_of_word x
 role_of (num n d) = a_number
@@ -83,6 +85,7 @@ pub data Ended : Type 0 where
   by_name : Ended
   by_other : Ended
 
+-- what may come next, with what is open
 pub data State : Type 0 where
   -- an operand is to come
   wants : List Frame → State
@@ -133,6 +136,7 @@ follow s a_minus = wants s
 follow s asks = wants (first_choice ∷ s)
 follow s c = close s c
 
+-- the state after one more lexeme
 abbrev pub step : State → Role → State
 step (wants s) a_minus = wants s
 step (wants s) c = begin s c
@@ -159,6 +163,7 @@ step (had by_name s) a_dot = wants_name s
 step (had e s) c = follow s c
 step stuck c = stuck
 
+-- the state after a list of lexemes
 abbrev pub run : State → List Lexeme → State
 run st [] = st
 run st (t ∷ ts) = run (step st (role_of t)) ts
@@ -168,9 +173,11 @@ abbrev pub is_whole : State → Bool
 is_whole (had e []) = true
 is_whole _ = false
 
+-- no list goes on
 abbrev pub is_stuck : State → Bool
 is_stuck stuck = true
 is_stuck _ = false
 
+-- before the first lexeme an operand is to come
 abbrev pub start : State
 start = wants []

@@ -28,6 +28,7 @@ left_out_sections = codes "FAIRNESS" ∷ codes "JUSTICE" ∷ codes "COMPASSION" 
 abbrev pub is_left_out_text : List ℕ → Bool
 is_left_out_text x = is_among left_out_words x || is_among left_out_sections x
 
+-- a lexeme that is such a word
 abbrev pub is_left_out : Lexeme → Bool
 is_left_out (word x) = is_left_out_text x
 is_left_out (num n d) = false

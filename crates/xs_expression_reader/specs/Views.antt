@@ -8,6 +8,7 @@ use Rattle.xs_expression_reader.specs.declared.machine.Mode.TheVariants as m
 use Rattle.xs_expression_reader.specs.declared.machine.Mode.{Mode}
 use Rattle.xs_expression_reader.specs.Recognise as machine
 
+-- each role of the code, by its name in the machine
 abbrev pub role_view : Role → machine.Role
 role_view (r.Truth b) = machine.a_truth b
 role_view r.Name = machine.a_name
@@ -30,6 +31,7 @@ role_view r.OpensSet = machine.opens_set
 role_view r.ClosesSet = machine.closes_set
 role_view r.Nothing = machine.no_role
 
+-- each frame of the code, by its name in the machine
 abbrev pub frame_view : Frame → machine.Frame
 frame_view f.Group = machine.group
 frame_view f.Moment = machine.moment
@@ -43,9 +45,11 @@ abbrev pub stack_onto : List machine.Frame → List Frame → List machine.Frame
 stack_onto s [] = s
 stack_onto s (x ∷ xs) = stack_onto (frame_view x ∷ s) xs
 
+-- the stack of a vector of frames
 unfoldable pub stack_of : List Frame → List machine.Frame
 stack_of xs = stack_onto [] xs
 
+-- the state of a mode, with this stack
 abbrev pub state_with : Mode → List machine.Frame → machine.State
 state_with m.Wants s = machine.wants s
 state_with m.WantsNot s = machine.wants_not s
@@ -61,9 +65,11 @@ state_with m.HadName s = machine.had machine.by_name s
 state_with m.Had s = machine.had machine.by_other s
 state_with m.Stuck s = machine.stuck
 
+-- the state of a mode, with the frames of a vector
 abbrev pub state_of : Mode → List Frame → machine.State
 state_of mode frames = state_with mode (stack_of frames)
 
+-- nothing is open
 abbrev pub has_no_frame : List machine.Frame → Bool
 has_no_frame [] = true
 has_no_frame (f ∷ s) = false

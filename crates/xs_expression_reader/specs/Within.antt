@@ -21,6 +21,7 @@ pub record IsWithin (s : Spelling) : Type 0 where
   pub low : height_of s.tree ≤ deepest
   pub flat : nesting_of s.spelled ≤ deepest
 
+-- each of them is
 abbrev pub AreWithin : List Spelling → Type 0
 AreWithin [] = Unit {0}
 AreWithin (s ∷ ss) = IsWithin s × AreWithin ss
@@ -29,13 +30,16 @@ AreWithin (s ∷ ss) = IsWithin s × AreWithin ss
 abbrev pub is_too_deep : Spelling → Bool
 is_too_deep s = nat_lt deepest (nesting_of s.spelled) || nat_lt deepest (height_of s.tree)
 
+-- some of them is
 abbrev pub are_too_deep : List Spelling → Bool
 are_too_deep [] = false
 are_too_deep (s ∷ ss) = is_too_deep s || are_too_deep ss
 
+-- an expression as it is spelled
 abbrev pub spelling : {ts : List Lexeme} {e : Formula} → SpellsExpr ts e → Spelling
 spelling {ts} {e} p = record { lexemes = ts; tree = e; spelled = p }
 
+-- the expression of a formula, with a semicolon behind it or without
 abbrev pub in_formula : {ts : List Lexeme} {e : Formula} → SpellsFormula ts e → Spelling
 in_formula (open_ended p) = spelling p
 in_formula (ended p) = spelling p

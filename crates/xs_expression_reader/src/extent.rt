@@ -1,4 +1,7 @@
-// How far an expression reaches, and how deep its parentheses are nested.
+// How far an expression reaches, and how deep its parentheses are nested: `reach`.
+//
+// The second pass asks this before it makes a tree: an expression within a program or an instruction ends at the first
+// token with which its recogniser is stuck.
 ghost use Rattle.std.specs.Prelude.{◌≡◌, ◌≤◌, IfOk, length};
 ghost use Rattle.xs_expression_reader.specs.Recognise as machine;
 ghost use Rattle.xs_expression_reader.specs.Extents.{reach_of, is_deep, ends_whole};

@@ -1,4 +1,6 @@
-// What is open in an expression.
+// What is open in an expression: `Frames`, a stack of open parts.
+//
+// It counts its parentheses, so that how deep they are nested takes no walk.
 ghost use Rattle.std.specs.Prelude.{◌≡◌, ◌≤◌, ◌∷◌, [], OnOk, IfSome, None};
 ghost use Rattle.xs_expression_reader.specs.Views.{frame_view, has_no_frame};
 ghost use Rattle.xs_expression_reader.specs.Depth.{groups};

@@ -1,4 +1,7 @@
-// Trees that are at most `DEEPEST` high, with their heights.
+// Trees that are at most `DEEPEST` high, with their heights: `Grown`.
+//
+// That the height is exact and within the limit is part of the type, and a function that joins operands refuses a tree that
+// would be higher. So no tree above the limit is ever made or dropped.
 ghost use Rattle.std.specs.Prelude.{◌≡◌, ◌<◌, ◌≤◌, ◌+◌, ◌++◌, ◌∷◌, [], Err, IfOk, map};
 ghost use Rattle.xs_tree.specs.Tree.{truth, number, leaf, not_of, negate, next_of, binary, choice, case_of, set_of, span, trees_from, branches_from, height_of, trees_height, branches_height};
 ghost use Rattle.xs_tree.specs.Written.{tree_of, branch_trees};
@@ -39,6 +42,7 @@ pub struct GrownBranches {
     ghost within: { height ≤ deepest },
 }
 
+/// The tree in a box.
 fn boxed(alloc: Global, tree: Expr<Dotted>) -> Result<Box<Expr<Dotted>>, OutOfMemory>
     ensures { IfOk result (λ made. tree_of made.value ≡ tree_of tree) }
 {
@@ -62,6 +66,7 @@ fn height_over(below: u32) -> Result<u32, GrowFault>
 }
 
 impl Grown {
+    /// `TRUE` or `FALSE`, which is 1 high.
     pub fn truth(value: bool) -> Grown
         ensures { tree_of result.tree ≡ truth value }
     {
@@ -71,6 +76,7 @@ impl Grown {
         }
     }
 
+    /// A number, which is 1 high.
     pub fn number(value: i64) -> Grown
         ensures { tree_of result.tree ≡ number value }
     {
@@ -80,6 +86,7 @@ impl Grown {
         }
     }
 
+    /// A dotted name, which is 1 high.
     pub fn name(name: Dotted) -> Grown
         ensures { tree_of result.tree ≡ leaf name }
     {
@@ -89,6 +96,7 @@ impl Grown {
         }
     }
 
+    /// The numbers from `lo` to `hi`, which is 1 high.
     pub fn span(lo: i64, hi: i64) -> Grown
         ensures { tree_of result.tree ≡ span lo hi }
     {
@@ -98,6 +106,7 @@ impl Grown {
         }
     }
 
+    /// The negation of a truth value; `TooDeep` where it would be too high.
     pub fn not(alloc: Global, operand: Grown) -> Result<Grown, GrowFault>
         ensures ok { IfOk result (λ made. tree_of made.tree ≡ not_of (tree_of operand.tree)) }
         ensures deep { result ≡ Err GrowFault.TooDeep → deepest < height_of (not_of (tree_of operand.tree)) }
@@ -109,6 +118,7 @@ impl Grown {
         })
     }
 
+    /// The negation of a number; `TooDeep` where it would be too high.
     pub fn negate(alloc: Global, operand: Grown) -> Result<Grown, GrowFault>
         ensures ok { IfOk result (λ made. tree_of made.tree ≡ negate (tree_of operand.tree)) }
         ensures deep { result ≡ Err GrowFault.TooDeep → deepest < height_of (negate (tree_of operand.tree)) }
@@ -120,6 +130,7 @@ impl Grown {
         })
     }
 
+    /// The operand at the next moment; `TooDeep` where it would be too high.
     pub fn next(alloc: Global, operand: Grown) -> Result<Grown, GrowFault>
         ensures ok { IfOk result (λ made. tree_of made.tree ≡ next_of (tree_of operand.tree)) }
         ensures deep { result ≡ Err GrowFault.TooDeep → deepest < height_of (next_of (tree_of operand.tree)) }
@@ -131,6 +142,7 @@ impl Grown {
         })
     }
 
+    /// An operator between two operands; `TooDeep` where it would be too high.
     pub fn binary(alloc: Global, op: Op, left: Grown, right: Grown) -> Result<Grown, GrowFault>
         ensures ok { IfOk result (λ made. tree_of made.tree ≡ binary op (tree_of left.tree) (tree_of right.tree)) }
         ensures deep { result ≡ Err GrowFault.TooDeep → deepest < height_of (binary op (tree_of left.tree) (tree_of right.tree)) }
@@ -144,6 +156,7 @@ impl Grown {
         })
     }
 
+    /// `first` where the test holds, and else `last`; `TooDeep` where it would be too high.
     pub fn choice(alloc: Global, test: Grown, first: Grown, last: Grown) -> Result<Grown, GrowFault>
         ensures ok { IfOk result (λ made. tree_of made.tree ≡ choice (tree_of test.tree) (tree_of first.tree) (tree_of last.tree)) }
         ensures deep { result ≡ Err GrowFault.TooDeep → deepest < height_of (choice (tree_of test.tree) (tree_of first.tree) (tree_of last.tree)) }
@@ -158,6 +171,7 @@ impl Grown {
         })
     }
 
+    /// The set of the members; `TooDeep` where it would be too high.
     #[tactic(auto, using(xs_tree::proofs::WrittenLaws::tree_of_set))]
     pub fn set(members: GrownList) -> Result<Grown, GrowFault>
         ensures ok { IfOk result (λ made. tree_of made.tree ≡ set_of (trees_from (map tree_of members.trees))) }
@@ -170,6 +184,7 @@ impl Grown {
         })
     }
 
+    /// The case of the branches; `TooDeep` where it would be too high.
     #[tactic(auto, using(xs_tree::proofs::WrittenLaws::tree_of_case))]
     pub fn case(branches: GrownBranches) -> Result<Grown, GrowFault>
         ensures ok { IfOk result (λ made. tree_of made.tree ≡ case_of (branches_from (map branch_trees branches.branches))) }
@@ -192,6 +207,7 @@ impl Grown {
 }
 
 impl GrownList {
+    /// No trees.
     pub fn new(alloc: Global) -> GrownList
         ensures { result.trees ≡ [] }
     {
@@ -214,6 +230,7 @@ impl GrownList {
 }
 
 impl GrownBranches {
+    /// No branches.
     pub fn new(alloc: Global) -> GrownBranches
         ensures { result.branches ≡ [] }
     {

@@ -1,4 +1,6 @@
-// How far a list of expressions can be read, and its trees.
+// How far a list of expressions can be read, and its trees: `read_list` and `list_trees`.
+//
+// A semicolon ends each expression but the last, where it may be left out, and there is at least one.
 ghost use Rattle.std.specs.Prelude.{◌≡◌, ◌∷◌, [], List, Some, false, Err, IfOk, IfSome, map};
 ghost use Rattle.xs_expression_reader.specs.Recognise as machine;
 ghost use Rattle.xs_expression_reader.specs.Views.{role_view, state_with};
@@ -70,6 +72,7 @@ fn inside_step(
     }
 }
 
+/// Whether a token ends an expression of a list.
 fn is_semicolon(role: Role) -> bool
     ensures { result ≡ lists.is_semicolon (role_view role) }
 {

@@ -53,6 +53,7 @@ pub enum Mode {
     Stuck,
 }
 
+/// Opens a part, at the beginning of which an operand is wanted.
 fn open(frames: &mut Frames, frame: Frame) -> Result<Mode, OutOfMemory>
     ensures { IfOk result (λ mode. state_with mode frames.new ≡ machine.wants (frame_view frame ∷ frames.old)) }
 {

@@ -1,4 +1,7 @@
-// What waits for an operand to its right, on a stack.
+// What waits for an operand to its right, on a stack of `Part`s.
+//
+// `reduce` gives an operand to all that take it before the operator which follows, and so makes the order of operators:
+// the tighter one takes its operand first, and of two in one line the left one.
 ghost use Rattle.std.specs.Prelude.{◌≡◌, ◌<◌, ◌∷◌, [], None, Err, IfOk, IfSome, length};
 ghost use Rattle.xs_tree.specs.Spells.{line_of};
 ghost use Rattle.xs_tree.specs.Tree.{height_of};
@@ -11,8 +14,8 @@ ghost use Rattle.xs_expression_reader.specs.Heights.{held_height};
 use crate::fault::GrowFault;
 use crate::grown::{Grown, GrownBranches, GrownList};
 use crate::lines::{
-    AT_AND, AT_CHOICE, AT_EXPR, AT_IFF, AT_NEG, AT_NOT, AT_OR, AT_PROD, AT_REL, AT_SUM, AT_UNI,
-    AT_WITHIN,
+    AT_AND, AT_CHOICE, AT_EXPRESSION, AT_IFF, AT_NEGATION, AT_NOT, AT_OR, AT_PRODUCT, AT_RELATION,
+    AT_SUM, AT_UNION, AT_WITHIN,
 };
 use std::alloc::Global;
 use xs_tree::Op;
@@ -77,15 +80,15 @@ fn looseness(op: Op) -> u32
     ensures { result ≡ machine.looseness (line_of op) }
 {
     match op {
-        Op::Times | Op::Over | Op::Mod => AT_PROD,
+        Op::Times | Op::Over | Op::Mod => AT_PRODUCT,
         Op::Plus | Op::Minus => AT_SUM,
-        Op::Union => AT_UNI,
+        Op::Union => AT_UNION,
         Op::Within => AT_WITHIN,
-        Op::Equal | Op::Differs | Op::Less | Op::Greater | Op::AtMost | Op::AtLeast => AT_REL,
+        Op::Equal | Op::Differs | Op::Less | Op::Greater | Op::AtMost | Op::AtLeast => AT_RELATION,
         Op::And => AT_AND,
         Op::Or | Op::Xor | Op::Xnor => AT_OR,
         Op::Iff => AT_IFF,
-        Op::Implies => AT_EXPR,
+        Op::Implies => AT_EXPRESSION,
     }
 }
 
@@ -104,7 +107,7 @@ fn takes_operand(level: u32, part: &Part) -> bool
     ensures { result ≡ machine.takes_operand level (part_view part.now) }
 {
     match part {
-        Part::Minus => level <= AT_NEG,
+        Part::Minus => level <= AT_NEGATION,
         Part::Bang => level <= AT_NOT,
         Part::Left(op, _) => level <= looseness(*op),
         Part::Answered(_, _) => level <= AT_CHOICE,

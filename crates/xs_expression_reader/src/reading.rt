@@ -1,4 +1,4 @@
-// What the first pass of a reader answers.
+// What the first pass of a reader answers: how far a text can be read.
 
 /// How far a text can be read.
 #[derive(Clone, Copy, Debug, PartialEq, Eq)]

@@ -1,4 +1,7 @@
-// A token with its text, as the grammar sees it.
+// A token with its text, as the grammar sees it: `TokenText`.
+//
+// Its role is what it is within an expression and its mark what it is outside, and it gives the name, the number or the
+// word that its text has. `token_texts` makes all of them from the tokens of a text.
 ghost use Rattle.std.specs.Prelude.{◌≡◌, ◌<◌, ◌≤◌, ◌-◌, ◌^◌, All, IfOk, length, slice_range, pos};
 ghost use Rattle.xs_tree.specs.Lexemes.{lexemes_of};
 ghost use Rattle.xs_tree.specs.Spells.{minus};
@@ -64,6 +67,7 @@ impl<'a> Model for TokenText<'a> {
     ghost invariant = { λ token. (token.kind ≡ Number → number_of token.text.now ≤ 2 ^ 63 - 1) × (text_in (lexeme_of token.kind token.text.now) ≡ token.text.now) };
 }
 
+/// What a word is in an expression.
 fn word_role(text: &[u8]) -> Role
     ensures { role_view result ≡ role_of_word text.now }
 {
@@ -94,6 +98,7 @@ fn word_role(text: &[u8]) -> Role
     }
 }
 
+/// What a word is outside expressions.
 fn word_mark(text: &[u8]) -> Mark
     ensures { mark_view result ≡ mark_of_word text.now }
 {

@@ -1,4 +1,7 @@
-// The tree of an expression, from the tokens that spell it.
+// The tree of an expression, from the tokens that spell it: `tree`.
+//
+// One token after another is taken (`step`), in the state `Build`: what has just been read, and beside it the stack of what
+// waits for an operand (`parts`). No function calls itself, so the depth of an expression takes no stack of calls.
 ghost use Rattle.std.specs.Prelude.{◌≡◌, ◌<◌, ◌≤◌, ◌∷◌, [], List, None, Some, Err, IfOk};
 ghost use Rattle.xs_tree.specs.Tree.{height_of};
 ghost use Rattle.xs_tree.specs.Written.{tree_of};
@@ -12,7 +15,7 @@ ghost use Rattle.xs_expression_reader.specs.Heights.{TooHigh};
 
 use crate::fault::{BuildFault, GrowFault};
 use crate::grown::{Grown, GrownBranches, GrownList};
-use crate::lines::{AT_EXPR, AT_OR, AT_SUM};
+use crate::lines::{AT_EXPRESSION, AT_OR, AT_SUM};
 use crate::machine::Role;
 use crate::parts::{Part, level, pop, push, reduce};
 use crate::token::{Digits, TokenText};
@@ -173,7 +176,7 @@ fn go_on(
             Ok(wait(parts, Part::Asked(test))?)
         }
         _ => {
-            let operand = reduce(alloc, parts, AT_EXPR, operand)?;
+            let operand = reduce(alloc, parts, AT_EXPRESSION, operand)?;
             shut(alloc, parts, operand, role)
         }
     }
@@ -372,7 +375,7 @@ fn finish(alloc: Global, build: Build, parts: Vec<Part>) -> Result<Expr<Dotted>,
     match build {
         Build::Holds(hand) => {
             let mut parts = parts;
-            let made = reduce(alloc, &mut parts, AT_EXPR, value(hand))?;
+            let made = reduce(alloc, &mut parts, AT_EXPRESSION, value(hand))?;
             match pop(&mut parts) {
                 None => Ok(made.into_tree()),
                 Some(_) => Err(BuildFault::NoTree),

@@ -1,4 +1,4 @@
-// Words that are no names, and tests of a word's text.
+// Words that are no names, and tests of a word's text: `is_reserved` is the main one.
 ghost use Rattle.std.specs.Prelude.{◌≡◌, map};
 ghost use Rattle.xs_tree.specs.Texts.{same_text, is_among};
 ghost use Rattle.xs_tree.specs.SpellsProgram.{skipped_words};
@@ -79,6 +79,7 @@ pub fn begins_section(text: &[u8]) -> bool
     has_word(&SECTION_WORDS, text)
 }
 
+/// Whether a text is a word of the language that this project leaves out.
 fn is_left_out_word(text: &[u8]) -> bool
     ensures { result ≡ is_among left_out_words text.now }
 {

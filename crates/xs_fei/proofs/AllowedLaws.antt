@@ -1,6 +1,6 @@
 -- The tests of the code are those of the definitions.
-use Rattle.std.proofs.Common.{◌≡◌, ◌↔◌, ℕ, ◌+◌, ◌<◌, Bool, true, false, List, [], ◌∷◌, length, get_or, drop, refl, sym, ◌∙◌, ap, subst}
-use Rattle.std.specs.Prelude.{ℤ, IsTrue, ◌≤ℤ◌, ◌&&◌, ◌||◌, int_lt}
+use Rattle.std.proofs.Common.{◌≡◌, ◌↔◌, ℕ, ◌+◌, ◌<◌, Bool, true, List, ◌∷◌, length, get_or, drop, refl, ◌∙◌, ap, subst}
+use Rattle.std.specs.Prelude.{ℤ, IsTrue, ◌||◌}
 use Rattle.std.specs.List.{list_any}
 use Rattle.std.proofs.lemmas.List.{drop_more}
 use Rattle.std.proofs.lemmas.Bool.Decides.{Decides-int_eq}
@@ -8,7 +8,7 @@ use Rattle.std.specs.Ordering.{int_eq}
 use Rattle.xs_tree.specs.declared.program.Member.{Member}
 use Rattle.xs_tree.specs.declared.program.Member.TheVariants as member
 use Rattle.xs_tree.specs.ProgramTree.{Text}
-use Rattle.xs_tree.specs.Values.{Value, truth, number, symbol, at_most, same_value, same_int}
+use Rattle.xs_tree.specs.Values.{Value, truth, number, symbol, same_value, same_int}
 use Rattle.xs_tree.specs.Texts.{same_text}
 use Rattle.xs_tree.specs.Trace.{is_member}
 use Rattle.xs_tree.proofs.ValueLaws.{same_text_refl, same_int_equal}

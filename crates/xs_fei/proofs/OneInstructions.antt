@@ -1,20 +1,18 @@
 -- No tokens spell two lists of instructions.
-use Rattle.std.proofs.Common.{◌≡◌, ◌≢◌, ℕ, ℤ, Bool, true, false, List, [], ◌∷◌, ◌++◌, Option, Some, None, refl, sym, ◌∙◌, ap, subst, arith, append_assoc}
+use Rattle.std.proofs.Common.{◌≡◌, ℕ, true, false, List, [], ◌∷◌, ◌++◌, refl, sym, ◌∙◌, ap, subst, arith, append_assoc}
 use Rattle.std.specs.Prelude.{codes, if◌then◌else◌}
-use Rattle.xs_lexer.specs.declared.token.TokenKind.{TokenKind}
 use Rattle.xs_lexer.specs.declared.token.TokenKind.TheVariants as k
 use Rattle.xs_lexer.specs.Tokens.{sign_text}
-use Rattle.xs_tree.specs.ProgramTree.{Text, Formula}
-use Rattle.xs_tree.specs.Values.{Value, truth, number, symbol}
-use Rattle.xs_tree.specs.Lexemes.{Lexeme, word, num, sign, is_reserved}
+use Rattle.xs_tree.specs.ProgramTree.{Text}
+use Rattle.xs_tree.specs.Values.{number}
+use Rattle.xs_tree.specs.Lexemes.{Lexeme, word, num, sign}
 use Rattle.xs_tree.specs.Texts.{same_text}
-use Rattle.xs_tree.specs.Spells.{SpellsInt, plain_int, minus_int}
-use Rattle.xs_tree.specs.SpellsProgram.{SpellsMany, no_more, one_more, SpellsExpr}
-use Rattle.xs_tree.proofs.OneTree.{Same, Stops, end_of_bracket, not_reserved, one_int, regrouped, second, tails}
-use Rattle.xs_tree.proofs.OneProgram.{OneBefore, Any, Nothing, Semicolon, semicolon_stops, one_expr, one_many, words_differ}
-use Rattle.xs_fei.specs.declared.instructions.Dynamics.{Dynamics}
-use Rattle.xs_fei.specs.declared.instructions.Start.{Start}
-use Rattle.xs_fei.specs.Instructions.{EffectTree, stuck_at, follows, offset, ramp_down, ModeTree, SliceTree, ExtensionTree, InstructionTree}
+use Rattle.xs_tree.specs.Spells.{plain_int, minus_int}
+use Rattle.xs_tree.specs.SpellsProgram.{SpellsMany, no_more, one_more}
+use Rattle.xs_tree.proofs.Ends.{end_of_bracket}
+use Rattle.xs_tree.proofs.OneTree.{Same, not_reserved, one_int, regrouped, second, tails}
+use Rattle.xs_tree.proofs.OneParts.{OneBefore, Any, Nothing, Semicolon, semicolon_stops, one_expr, one_many, words_differ}
+use Rattle.xs_fei.specs.Instructions.{EffectTree, ModeTree, SliceTree, ExtensionTree, InstructionTree}
 use Rattle.xs_fei.specs.SpellsInstructions.{SpellsConst, const_true, const_false, const_int, const_name, SpellsEffect, e_stuck, e_follows, e_inverted, e_random, e_erroneous, e_frozen, e_pick, e_offset, e_ramp, SpellsDynamics, d_permanent, d_transient, SpellsGuard, no_guard, a_guard, IsTokenText, number_text, word_text, sign_of, SpellsMark, no_mark, a_mark, SpellsMode, a_mode, SpellsStart, at_nominal, at_any, SpellsSlice, a_slice, SpellsExtension, an_extension, SpellsInstructions, unnamed, named}
 
 -- Effects.

@@ -5,14 +5,13 @@ use Rattle.xs_tree.specs.declared.expr.Op.TheVariants as op
 use Rattle.xs_tree.specs.declared.program.Member.{Member}
 use Rattle.xs_tree.specs.declared.program.Member.TheVariants as member
 use Rattle.xs_tree.specs.Tree.{binary, negate, number as is_number}
-use Rattle.xs_tree.specs.ProgramTree.{Text, Path, Formula, DeclaredTree, boolean, range, members, instance}
+use Rattle.xs_tree.specs.ProgramTree.{Text, Path, DeclaredTree, boolean, range, members, instance}
 use Rattle.xs_tree.specs.Values.{Value, truth, number, symbol, Values, no_value, one, from_to, either, has, same_value, same_int, same_bool, opposite, apply}
 use Rattle.xs_tree.specs.Texts.{same_text}
-use Rattle.xs_tree.specs.Evaluate.{Leaves, evaluate, evaluate_trees, evaluate_branches, gives_choice}
+use Rattle.xs_tree.specs.Evaluate.{Leaves, evaluate, evaluate_trees}
 use Rattle.xs_tree.specs.Trace.{Each, in_domain, is_member}
 use Rattle.xs_tree.proofs.ValueLaws.{same_text_refl, same_value_equal}
-use Rattle.xs_fei.specs.AddedNames.{ModeState}
-use Rattle.xs_fei.specs.AddedNames.{mode_symbol}
+use Rattle.xs_fei.specs.AddedNames.{ModeState, mode_symbol}
 use Rattle.xs_fei.specs.Templates.{number_tree, value_tree, member_value, member_trees, domain_tree}
 use Rattle.xs_fei.specs.Types.{IsUniform, IsNumberMember, IsSymbolMember}
 use Rattle.xs_fei.proofs.AddedNameLaws.{mode_symbol_same, nominal_symbol_same}

@@ -1,5 +1,5 @@
 -- The names that a slice adds to its module, and the state that a slice is in.
-use Rattle.std.specs.Prelude.{List, ◌++◌, Option, Some, None, codes}
+use Rattle.std.specs.Prelude.{◌++◌, Option, Some, None, codes}
 use Rattle.xs_tree.specs.ProgramTree.{Text}
 
 -- a slice is nominal, or in the mode of this name

@@ -33,6 +33,7 @@ is_of_kind (instance m actuals) v = false
 abbrev pub differs : Member → Member → Bool
 differs m n = opposite (same_value (member_value m) (member_value n))
 
+-- some member is another value than the first
 abbrev pub members_differ : List Member → Bool
 members_differ [] = false
 members_differ (m ∷ ms) = list_any (differs m) ms
@@ -56,26 +57,31 @@ offset_fits d lo hi = is_small d && (is_small (lo +ℤ d) && is_small (hi +ℤ d
 abbrev pub ramp_fits : ℤ → ℤ → ℤ → ℤ → Bool
 ramp_fits d f lo hi = (at_most (pos 1) d && is_small d) && (is_between lo hi (number f) && (is_small (lo -ℤ d) && is_small (hi -ℤ d)))
 
+-- the fault, where the test fails
 abbrev pub fault_unless : Bool → EffectFault → Option EffectFault
 fault_unless true fault = None
 fault_unless false fault = Some fault
 
+-- of a constant: whether it is of the kind, and whether it is one of the values
 abbrev pub constant_fault : Bool → Bool → Option EffectFault
 constant_fault false within = Some WrongKind
 constant_fault true within = fault_unless within Outside
 
+-- of `Inverted`: the type is boolean
 abbrev pub inverted_fault : DeclaredTree → Option EffectFault
 inverted_fault boolean = None
 inverted_fault (range lo hi) = Some WrongKind
 inverted_fault (members ms) = Some WrongKind
 inverted_fault (instance m actuals) = Some WrongKind
 
+-- of `Offset`: the type is a range that the distance fits
 abbrev pub offset_fault : ℤ → DeclaredTree → Option EffectFault
 offset_fault d boolean = Some WrongKind
 offset_fault d (range lo hi) = fault_unless (offset_fits d lo hi) Outside
 offset_fault d (members ms) = Some WrongKind
 offset_fault d (instance m actuals) = Some WrongKind
 
+-- of `RampDown`: the type is a range that step and floor fit
 abbrev pub ramp_fault : ℤ → ℤ → DeclaredTree → Option EffectFault
 ramp_fault d f boolean = Some WrongKind
 ramp_fault d f (range lo hi) = fault_unless (ramp_fits d f lo hi) Outside

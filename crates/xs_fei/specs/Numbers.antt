@@ -28,6 +28,7 @@ EffectHasNegations stuck_at_pick = Unit {0}
 EffectHasNegations (offset d) = HasNegation d
 EffectHasNegations (ramp_down d f) = HasNegation d × HasNegation f
 
+-- a member that is a number has a negation
 abbrev pub MemberHasNegation : Member → Type 0
 MemberHasNegation (member.Number n) = HasNegation n
 MemberHasNegation (member.Symbol x) = Unit {0}

@@ -1,5 +1,5 @@
 -- What a mode adds for its effect: a branch of the case that gives the read value, and rule sections.
-use Rattle.std.specs.Prelude.{ℤ, pos, negsuc, suc, nat_eq, Bool, true, false, List, [], ◌∷◌, Option, Some, None, map, if◌then◌else◌}
+use Rattle.std.specs.Prelude.{ℤ, pos, negsuc, suc, nat_eq, true, false, List, [], ◌∷◌, Option, Some, None, map, if◌then◌else◌}
 use Rattle.xs_tree.specs.declared.expr.Op.TheVariants as op
 use Rattle.xs_tree.specs.declared.program.Member.{Member}
 use Rattle.xs_tree.specs.declared.program.Member.TheVariants as member

@@ -7,10 +7,12 @@ use Rattle.xs_tree.specs.Trace.{Each, AtSome}
 use Rattle.xs_fei.specs.Instructions.{SliceTree}
 use Rattle.xs_fei.specs.AddedNames.{ModeState}
 
+-- the member is a number
 abbrev pub IsNumberMember : Member → Type 0
 IsNumberMember (member.Number n) = Unit {0}
 IsNumberMember (member.Symbol x) = ⊥
 
+-- the member is a symbol
 abbrev pub IsSymbolMember : Member → Type 0
 IsSymbolMember (member.Number n) = ⊥
 IsSymbolMember (member.Symbol x) = Unit {0}

@@ -1,5 +1,5 @@
 -- What a program and instructions must be for the woven program to be their extension.
-use Rattle.std.specs.Prelude.{◌≡◌, ◌≢◌, ◌⊎◌, ℕ, IsTrue, Bool, false, List, [], ◌∷◌, Option, Some, None, codes}
+use Rattle.std.specs.Prelude.{◌≡◌, ◌≢◌, ℕ, IsTrue, Bool, false, List, [], ◌∷◌, Option, Some, None, codes}
 use Rattle.xs_tree.specs.declared.program.Member.{Member}
 use Rattle.xs_tree.specs.declared.program.Member.TheVariants as member
 use Rattle.xs_tree.specs.Tree.{Tree, Trees, Branches, truth as is_truth, number as is_number, leaf, not_of, negate, next_of, binary, choice, case_of, set_of, span, no_tree, tree_then, no_branch, branch_then}
@@ -38,9 +38,11 @@ abbrev mutual
   NoNextInBranches no_branch = Unit {0}
   NoNextInBranches (branch_then c a bs) = NoNext c × NoNext a × NoNextInBranches bs
 
+-- the value is one of the list
 abbrev pub Among : {A : Type 0} → List A → A → Type 0
 Among xs x = AtSome (λ y. y ≡ x) xs
 
+-- the type is that of a variable, and no instance
 abbrev pub IsFinite : DeclaredTree → Type 0
 IsFinite (instance m actuals) = ⊥
 IsFinite _ = Unit {0}
@@ -50,11 +52,13 @@ abbrev pub IsFreeMember : ModuleTree → Member → Type 0
 IsFreeMember m (member.Number n) = Unit {0}
 IsFreeMember m (member.Symbol x) = kind_in m x ≡ undeclared
 
+-- no symbol of the type is a name of the module
 abbrev pub SymbolsAreFree : ModuleTree → DeclaredTree → Type 0
 SymbolsAreFree m (members ms) = Each (IsFreeMember m) ms
 SymbolsAreFree m _ = Unit {0}
 
 module _ (p : ProgramTree) (at : Place) where
+  -- the name means something at the instance
   abbrev pub HasMeaning : Path → Type 0
   HasMeaning name = (meaning : Meaning) × Means p at name meaning
 
@@ -63,10 +67,12 @@ module _ (p : ProgramTree) (at : Place) where
   IsReadable e = AllLeaves HasMeaning e
 
 module _ (p : ProgramTree) (at : Place) (m : ModuleTree) where
+  -- a target without dots is a variable of the module
   abbrev pub IsLawfulTarget : Path → Type 0
   IsLawfulTarget (x ∷ []) = (role : Role) × (type : DeclaredTree) × (kind_in m x ≡ a_variable role type)
   IsLawfulTarget _ = Unit {0}
 
+  -- its target is lawful, and its value readable
   abbrev pub IsLawfulAssignment : AssignmentTree → Type 0
   IsLawfulAssignment a = IsLawfulTarget a.target × IsReadable p at a.value
 
@@ -74,6 +80,7 @@ module _ (p : ProgramTree) (at : Place) (m : ModuleTree) where
   abbrev pub IsLawfulDecl : Role → DeclTree → Type 0
   IsLawfulDecl role d = kind_in m d.name ≡ kind_declared role d.what
 
+  -- each item of the section is lawful
   abbrev pub IsLawfulSection : SectionTree → Type 0
   IsLawfulSection (var ds) = Each (IsLawfulDecl state) ds
   IsLawfulSection (ivar ds) = Each (IsLawfulDecl input) ds
@@ -96,14 +103,17 @@ module _ (p : ProgramTree) (at : Place) (m : ModuleTree) where
   IsDecided g = (v : Valuation) → InDomains p v →
       (n : ℕ) × (b : Bool) × (evaluate (name_values n p at v v) (name_values n p at v v) g ≡ Some (one (truth b)))
 
+  -- a guard is readable and decided, with no `next`
   abbrev pub IsLawfulGuard : Option Formula → Type 0
   IsLawfulGuard None = Unit {0}
   IsLawfulGuard (Some g) = IsReadable p at g × NoNext g × IsDecided g
 
+  -- the type is a range
   abbrev pub IsRangeEffect : DeclaredTree → Type 0
   IsRangeEffect (range lo hi) = Unit {0}
   IsRangeEffect _ = ⊥
 
+  -- the type is boolean
   abbrev pub IsBoolean : DeclaredTree → Type 0
   IsBoolean boolean = Unit {0}
   IsBoolean _ = ⊥
@@ -117,11 +127,13 @@ module _ (p : ProgramTree) (at : Place) (m : ModuleTree) where
   IsAllowed (ramp_down d f) type = IsRangeEffect type
   IsAllowed _ type = Unit {0}
 
+  -- a mode whose name, effect and guard are lawful
   pub record IsLawfulMode (type : DeclaredTree) (mode : ModeTree) : Type 0 where
     pub not_nominal : mode.name ≢ codes "nominal"
     pub effect_allowed : IsAllowed mode.effect type
     pub guard_lawful : IsLawfulGuard mode.guard
 
+  -- a slice of a state variable whose added names are new
   pub record IsLawfulSlice (s : SliceTree) : Type 0 where
     pub type : DeclaredTree
     pub target_kind : kind_in m s.target ≡ a_variable state type

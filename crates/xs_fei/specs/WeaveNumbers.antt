@@ -1,7 +1,7 @@
 -- That the numbers of a program and of instructions have negations within 64 bits, as all that are read have.
-use Rattle.std.specs.Prelude.{List, All}
+use Rattle.std.specs.Prelude.{All}
 use Rattle.xs_tree.specs.declared.program.Module.{Module}
-use Rattle.xs_tree.specs.ProgramTree.{Text, ModuleTree, module_tree}
+use Rattle.xs_tree.specs.ProgramTree.{Text, module_tree}
 use Rattle.xs_tree.specs.Scope.{kind_in}
 use Rattle.xs_fei.specs.declared.instructions.ModeRule.{ModeRule}
 use Rattle.xs_fei.specs.declared.instructions.Slice.{Slice}
@@ -10,9 +10,11 @@ use Rattle.xs_fei.specs.Instructions.{effect_tree}
 use Rattle.xs_fei.specs.Numbers.{EffectHasNegations, TypeHasNegations}
 use Rattle.xs_fei.specs.KindTypes.{type_of_kind}
 
+-- each number of a mode's effect
 abbrev pub ModeHasNegations : ModeRule → Type 0
 ModeHasNegations m = EffectHasNegations (effect_tree m.effect)
 
+-- each number of the effects of a slice
 abbrev pub SliceHasNegations : Slice → Type 0
 SliceHasNegations s = All ModeHasNegations s.modes
 

@@ -20,11 +20,13 @@ IsInner _ = Unit {0}
 abbrev pub IsMarkText : Text → Type 0
 IsMarkText x = IsWord x [] ⊎ ((IsNumber x [] × IsSmall (number_of x)) ⊎ ((s : TokenKind) × IsInner s × (x ≡ sign_text s)))
 
+-- the constant is a name, or a number that can be written with its sign
 abbrev pub IsWritableConstant : Value → Type 0
 IsWritableConstant (truth b) = Unit {0}
 IsWritableConstant (number n) = IsEnd n
 IsWritableConstant (symbol x) = IsName x
 
+-- each argument can be written
 abbrev pub IsWritableEffect : EffectTree → Type 0
 IsWritableEffect (stuck_at c) = IsWritableConstant c
 IsWritableEffect (follows e) = IsWritable e
@@ -36,26 +38,33 @@ IsWritableEffect stuck_at_pick = Unit {0}
 IsWritableEffect (offset d) = IsEnd d
 IsWritableEffect (ramp_down d f) = IsEnd d × IsEnd f
 
+-- each text of the mark is that of a token
 abbrev pub IsWritableMark : Option (List Text) → Type 0
 IsWritableMark None = Unit {0}
 IsWritableMark (Some xs) = Each IsMarkText xs
 
+-- the guard can be written, where there is one
 abbrev pub IsWritableGuard : Option Formula → Type 0
 IsWritableGuard None = Unit {0}
 IsWritableGuard (Some g) = IsWritable g
 
+-- a mode, part by part
 abbrev pub IsWritableMode : ModeTree → Type 0
 IsWritableMode m = IsName m.name × IsWritableMark m.mark × IsWritableEffect m.effect × IsWritableGuard m.guard
 
+-- a slice, which has a mode
 abbrev pub IsWritableSlice : SliceTree → Type 0
 IsWritableSlice s = IsName s.name × IsName s.target × (s.modes ≢ []) × Each IsWritableMode s.modes
 
+-- an extension, part by part
 abbrev pub IsWritableExtension : ExtensionTree → Type 0
 IsWritableExtension x = IsName x.of_module × Each IsWritableSlice x.slices
 
+-- the file's own name is a name, where it has one
 abbrev pub IsWritableFileName : Option Text → Type 0
 IsWritableFileName None = Unit {0}
 IsWritableFileName (Some x) = IsName x
 
+-- all of a file can be written
 abbrev pub IsWritableInstructions : InstructionTree → Type 0
 IsWritableInstructions i = IsWritableFileName i.name × Each IsWritableExtension i.extensions

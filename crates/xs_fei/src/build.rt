@@ -1,5 +1,8 @@
-ghost use Rattle.std.specs.Prelude.{◌≡◌, ◌≤ℤ◌, negsuc, [], ◌∷◌, IfOk};
-ghost use Rattle.xs_tree.specs.Tree.{leaf, not_of, negate, next_of, binary as binary_of, choice as choice_of, set_of, tree_then, no_tree};
+//! Small expressions, from which branches and rules are made: a function for each form.
+//! A negative number is the negation of a number ([`number`]).
+
+ghost use Rattle.std.specs.Prelude.{◌≡◌, ◌≤ℤ◌, negsuc, IfOk};
+ghost use Rattle.xs_tree.specs.Tree.{not_of, negate, next_of, binary as binary_of, choice as choice_of, set_of, tree_then, no_tree};
 ghost use Rattle.xs_tree.specs.Written.{tree_of};
 ghost use Rattle.xs_fei.specs.Templates.{named as named_tree, number_tree};
 

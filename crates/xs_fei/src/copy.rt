@@ -2,7 +2,7 @@
 //! an effect may hold none, so its copy is given one.
 
 ghost use Rattle.std.specs.Prelude.{◌≡◌, IfOk, map};
-ghost use Rattle.xs_fei.specs.Instructions.{instruction_tree, extension_tree, slice_tree, mode_tree, effect_tree, constant_value, guard_tree};
+ghost use Rattle.xs_fei.specs.Instructions.{instruction_tree, extension_tree, slice_tree, mode_tree, effect_tree, guard_tree};
 
 use crate::instructions::{
     Constant, Effect, Extension, ExtensionList, Instructions, MarkList, ModeList, ModeRule, Slice,
@@ -138,6 +138,7 @@ pub fn copy_modes(alloc: Global, modes: &[ModeRule]) -> Result<ModeList, OutOfMe
     Ok(made)
 }
 
+/// A copy of a file's own name, where it has one.
 fn copy_name(name: &Option<Name>) -> Result<Option<Name>, OutOfMemory>
     ensures { IfOk result (λ made. made ≡ name.now) }
 {
@@ -147,6 +148,7 @@ fn copy_name(name: &Option<Name>) -> Result<Option<Name>, OutOfMemory>
     }
 }
 
+/// A copy of a mode's mark, where it has one.
 fn copy_mark(mark: &Option<MarkList>) -> Result<Option<MarkList>, OutOfMemory>
     ensures { IfOk result (λ made. made ≡ mark.now) }
 {
@@ -156,6 +158,7 @@ fn copy_mark(mark: &Option<MarkList>) -> Result<Option<MarkList>, OutOfMemory>
     }
 }
 
+/// A copy of a mode's guard, where it has one.
 fn copy_guard(
     alloc: Global,
     guard: &Option<Expr<Dotted>>,

@@ -1,3 +1,5 @@
+//! Which effects may stand at a variable: [`allowed`] tells the first demand that is broken, by `specs/Allowed.antt`.
+
 ghost use Rattle.std.specs.Prelude.{◌≡◌, ◌+ℤ◌, ◌-ℤ◌, ◌&&◌, pos};
 ghost use Rattle.std.specs.Result.{result_err};
 ghost use Rattle.std.specs.List.{list_any};
@@ -7,7 +9,7 @@ ghost use Rattle.xs_tree.specs.Texts.{same_text};
 ghost use Rattle.xs_tree.specs.Trace.{in_domain, is_member};
 ghost use Rattle.xs_fei.specs.Instructions.{effect_tree, constant_value};
 ghost use Rattle.xs_fei.specs.Templates.{member_value};
-ghost use Rattle.xs_fei.specs.Allowed.{same_kind, kind_of_members, is_of_kind as is_of_kind_of, differs as differs_from, members_differ, has_two_values as has_two_values_of, is_small as is_small_number, offset_fits as offset_fits_in, ramp_fits as ramp_fits_in, constant_fault, inverted_fault, offset_fault, ramp_fault, fault_of};
+ghost use Rattle.xs_fei.specs.Allowed.{kind_of_members, is_of_kind as is_of_kind_of, differs as differs_from, members_differ, has_two_values as has_two_values_of, is_small as is_small_number, offset_fits as offset_fits_in, ramp_fits as ramp_fits_in, constant_fault, inverted_fault, offset_fault, ramp_fault, fault_of};
 
 use crate::{Constant, Effect};
 use xs_tree::{Declared, Member};
@@ -45,6 +47,7 @@ pub fn allowed(e: &Effect, d: &Declared) -> Result<(), EffectFault>
     }
 }
 
+/// `StuckAt`: the constant is of the variable's kind, and one of its values.
 fn constant_allowed(c: &Constant, d: &Declared) -> Result<(), EffectFault>
     ensures { result_err result ≡ constant_fault (is_of_kind_of (declared_tree d.now) (constant_value c.now)) (in_domain (declared_tree d.now) (constant_value c.now)) }
 {
@@ -57,6 +60,7 @@ fn constant_allowed(c: &Constant, d: &Declared) -> Result<(), EffectFault>
     Ok(())
 }
 
+/// `Inverted`: the variable is boolean.
 fn inverted_allowed(d: &Declared) -> Result<(), EffectFault>
     ensures { result_err result ≡ inverted_fault (declared_tree d.now) }
 {
@@ -68,6 +72,7 @@ fn inverted_allowed(d: &Declared) -> Result<(), EffectFault>
     }
 }
 
+/// `Offset`: the variable is of a range, and the distance fits it.
 fn offset_allowed(distance: i64, d: &Declared) -> Result<(), EffectFault>
     ensures { result_err result ≡ offset_fault distance (declared_tree d.now) }
 {
@@ -85,6 +90,7 @@ fn offset_allowed(distance: i64, d: &Declared) -> Result<(), EffectFault>
     }
 }
 
+/// `RampDown`: the variable is of a range, and step and floor fit it.
 fn ramp_allowed(step: i64, floor: i64, d: &Declared) -> Result<(), EffectFault>
     ensures { result_err result ≡ ramp_fault step floor (declared_tree d.now) }
 {
@@ -119,6 +125,7 @@ fn ramp_fits(step: i64, floor: i64, lo: i64, hi: i64) -> bool
             && (is_small_difference(lo, step) && is_small_difference(hi, step)))
 }
 
+/// Whether a step is at least 1 and within 32 bits.
 fn is_step(step: i64) -> bool
     ensures { result ≡ (at_most (pos 1) step && is_small_number step) }
 {
@@ -131,12 +138,14 @@ fn at_least_one(step: i64) -> bool
     1 <= step
 }
 
+/// Whether a number is within 32 bits, with its sign.
 fn is_small(n: i64) -> bool
     ensures { result ≡ is_small_number n }
 {
     -2_147_483_648 <= n && n <= 2_147_483_647
 }
 
+/// Whether the sum is within 32 bits.
 fn is_small_sum(n: i64, distance: i64) -> bool
     ensures { result ≡ is_small_number (n +ℤ distance) }
 {
@@ -144,6 +153,7 @@ fn is_small_sum(n: i64, distance: i64) -> bool
     -2_147_483_648 <= sum && sum <= 2_147_483_647
 }
 
+/// Whether the difference is within 32 bits.
 fn is_small_difference(n: i64, step: i64) -> bool
     ensures { result ≡ is_small_number (n -ℤ step) }
 {
@@ -151,6 +161,7 @@ fn is_small_difference(n: i64, step: i64) -> bool
     -2_147_483_648 <= difference && difference <= 2_147_483_647
 }
 
+/// Whether a number is in the range, ends included.
 fn is_in_range(n: i64, lo: i64, hi: i64) -> bool
     ensures { result ≡ is_between lo hi (number n) }
 {
@@ -169,6 +180,7 @@ fn is_of_kind(d: &Declared, c: &Constant) -> bool
     }
 }
 
+/// Whether the constant is of the kind of the first member.
 fn is_of_members(members: &[Member], c: &Constant) -> bool
     ensures { result ≡ kind_of_members members.now (constant_value c.now) }
 {
@@ -191,6 +203,7 @@ fn is_in_domain(d: &Declared, c: &Constant) -> bool
     }
 }
 
+/// Whether the constant is one of the members.
 #[tactic(auto, using(crate::proofs::AllowedLaws::member_more))]
 fn is_listed(members: &[Member], c: &Constant) -> bool
     ensures { result ≡ is_member members.now (constant_value c.now) }
@@ -203,6 +216,7 @@ fn is_listed(members: &[Member], c: &Constant) -> bool
     false
 }
 
+/// Whether the member is this constant.
 #[tactic(auto, using(crate::proofs::AllowedLaws::same_int_test))]
 fn is_constant(member: &Member, c: &Constant) -> bool
     ensures { result ≡ same_value (member_value member.now) (constant_value c.now) }
@@ -232,6 +246,7 @@ fn is_below(lo: i64, hi: i64) -> bool
     !(hi <= lo)
 }
 
+/// Whether some member differs from the first.
 fn has_two_members(members: &[Member]) -> bool
     ensures { result ≡ members_differ members.now }
 {
@@ -254,6 +269,7 @@ fn has_other(first: &Member, rest: &[Member]) -> bool
     false
 }
 
+/// Whether two members are different values.
 #[tactic(auto, using(crate::proofs::AllowedLaws::same_int_test))]
 fn differs(a: &Member, b: &Member) -> bool
     ensures { result ≡ differs_from a.now b.now }

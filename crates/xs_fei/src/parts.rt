@@ -1,3 +1,6 @@
+//! The branch of an effect: [`branch`] makes what the read value is assigned while the mode stands.
+//! The trees are those of `branch` in `specs/Templates.antt`.
+
 ghost use Rattle.std.specs.Prelude.{◌≡◌, IfOk, map, All};
 ghost use Rattle.xs_tree.specs.ProgramTree.{declared_tree, range};
 ghost use Rattle.xs_tree.specs.Tree.{binary as binary_of, choice as choice_of, not_of};
@@ -55,6 +58,7 @@ pub fn name_of(alloc: Global, name: &Name) -> Result<Expr<Dotted>, OutOfMemory>
     named(alloc, name)
 }
 
+/// The opposite of the own value.
 fn inverted(alloc: Global, target: &Name) -> Result<Expr<Dotted>, OutOfMemory>
     ensures { IfOk result (λ made. tree_of made ≡ not_of (named_tree (own_name_of target.now))) }
 {
@@ -79,6 +83,7 @@ fn moved(
     clipped(alloc, d, sum)
 }
 
+/// A constant, as an expression.
 fn constant(alloc: Global, c: &Constant) -> Result<Expr<Dotted>, OutOfMemory>
     requires { ValueHasNegation (constant_value c.now) }
     ensures { IfOk result (λ made. tree_of made ≡ value_tree (constant_value c.now)) }
@@ -90,6 +95,7 @@ fn constant(alloc: Global, c: &Constant) -> Result<Expr<Dotted>, OutOfMemory>
     }
 }
 
+/// A member of a type, as an expression.
 fn member(alloc: Global, member: &Member) -> Result<Expr<Dotted>, OutOfMemory>
     requires { MemberHasNegation member.now }
     ensures { IfOk result (λ made. tree_of made ≡ value_tree (member_value member.now)) }
@@ -100,6 +106,7 @@ fn member(alloc: Global, member: &Member) -> Result<Expr<Dotted>, OutOfMemory>
     }
 }
 
+/// The members of a type, as expressions.
 fn members(alloc: Global, members: &[Member]) -> Result<ExprList<Dotted>, OutOfMemory>
     requires { All MemberHasNegation members.now }
     ensures { IfOk result (λ made. map tree_of made ≡ map (λ m. value_tree (member_value m)) members.now) }
@@ -165,6 +172,7 @@ fn clipped(alloc: Global, d: &Declared, e: Expr<Dotted>) -> Result<Expr<Dotted>,
     }
 }
 
+/// The number from `lo` to `hi` that is nearest to that of the expression.
 fn clipped_to(alloc: Global, lo: i64, hi: i64, e: Expr<Dotted>) -> Result<Expr<Dotted>, OutOfMemory>
     requires lo { HasNegation lo }
     requires hi { HasNegation hi }

@@ -1,3 +1,6 @@
+//! The rule sections of an effect: [`rule`] for all steps, and [`first_rule`] for the first moment.
+//! They restrict the read value where its branch leaves several values open; the trees are those of `specs/Templates.antt`.
+
 ghost use Rattle.std.specs.Prelude.{◌≡◌, IfOk, Some};
 ghost use Rattle.xs_tree.specs.Tree.{binary as binary_of, next_of};
 ghost use Rattle.xs_tree.specs.Written.{tree_of};
@@ -134,6 +137,7 @@ fn stays(alloc: Global, variable: &Name) -> Result<Expr<Dotted>, OutOfMemory>
     binary(alloc, Op::Equal, after, now)
 }
 
+/// While the mode stands, the read value differs from the own one.
 fn erroneous_rule(
     alloc: Global,
     slice: &Name,
@@ -149,6 +153,7 @@ fn erroneous_rule(
     binary(alloc, Op::Implies, mode_stands, differs)
 }
 
+/// Where the mode stands next, the read value stays.
 fn frozen_rule(
     alloc: Global,
     slice: &Name,
@@ -162,6 +167,7 @@ fn frozen_rule(
     binary(alloc, Op::Implies, mode_stands, value_stays)
 }
 
+/// Where the mode stands now and next, the read value stays.
 fn pick_rule(
     alloc: Global,
     slice: &Name,
@@ -177,6 +183,7 @@ fn pick_rule(
     binary(alloc, Op::Implies, both, value_stays)
 }
 
+/// Where the mode stands next, the next read value is the greater of the floor and the one now less the step.
 fn ramp_rule(
     alloc: Global,
     step: i64,
@@ -197,6 +204,7 @@ fn ramp_rule(
     binary(alloc, Op::Implies, mode_stands, falls)
 }
 
+/// Where the mode stands at the first moment, the read value is the own one.
 fn frozen_first(
     alloc: Global,
     slice: &Name,
@@ -212,6 +220,7 @@ fn frozen_first(
     binary(alloc, Op::Implies, mode_stands, same)
 }
 
+/// Where the mode stands at the first moment, the read value is the greater of the floor and the own one less the step.
 fn ramp_first(
     alloc: Global,
     step: i64,

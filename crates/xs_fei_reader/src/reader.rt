@@ -1,4 +1,4 @@
-// The call: tokens, then how far they can be read, then the instructions.
+// The call `instructions`: tokens, then how far they can be read, then the instructions.
 ghost use Rattle.std.specs.Prelude.{◌≡◌, ◌<◌, ◌^◌, IfOk, IfErr, List, length};
 ghost use Rattle.xs_lexer.specs.declared.token.Token.{Token};
 ghost use Rattle.xs_lexer.specs.Tokens.{HasTokens};

@@ -16,6 +16,7 @@ use Rattle.xs_flat_laws.proofs.Reaches.{each_left, each_right}
 use Rattle.xs_flat_laws.proofs.Lists.{each_map, each_of_map, each_more}
 use Rattle.xs_flat_laws.proofs.Resolving.{may_exactly}
 use Rattle.xs_tree.specs.Texts.{same_text}
+use Rattle.std.proofs.lemmas.Option.{same_Some as one_same}
 
 -- Equivalences.
 pub iff_then : {A B C : Type 0} → (A ↔ B) → (B ↔ C) → (A ↔ C)
@@ -86,18 +87,12 @@ within_iff (Some s) x = (
   (λ h. let same : s ≡ h.0 = one_same s h.0 h.1 in
       (one (truth (has s x)), refl, let yes_it_is : has s x ≡ true = subst (λ vs. IsTrue (has vs x)) (sym same) h.2 in rw yes_it_is refl)),
 )
-  where
-    one_same : (a c : Values) → Some a ≡ Some c → a ≡ c
-    one_same a c e = cc
 
 pub may_one : (w x : Value) → (MayBe (Some (one w)) x ↔ (x ≡ w))
 may_one w x = (
   (λ h. let same : one w ≡ h.0 = one_same (one w) h.0 h.1 in sym (same_value_equal w x (subst (λ vs. IsTrue (has vs x)) (sym same) h.2))),
   (λ e. (one w, refl, rw e (same_value_same w))),
 )
-  where
-    one_same : (a c : Values) → Some a ≡ Some c → a ≡ c
-    one_same a c e = cc
 
 -- What a condition asks of a valuation and the next.
 abbrev pub Asks : ProgramTree → Valuation → Valuation → Place → Condition → Type 0

@@ -1,19 +1,13 @@
--- What is told site by site gives the first broken rule.
+-- The first broken rule of sites, part by part.
 use Rattle.std.proofs.Common.{◌≡◌, ℕ, ◌<◌, List, [], ◌∷◌, ◌++◌, Option, Some, None, refl, ◌∙◌, ap}
 use Rattle.xs_tree.specs.ProgramTree.{ProgramTree}
 use Rattle.xs_tree.specs.Trace.{Each}
 use Rattle.xs_flat_laws.specs.Rules.{Rule, number_of, Site, item_of, sites, Breaks, IsKept, IsFirstBroken}
-use Rattle.xs_flat_laws.specs.FirstFault.{fault_at, first_fault}
 
 -- the rule broken at a site with the lowest number
 pub record IsLowest (p : ProgramTree) (site : Site) (rule : Rule) : Type 0 where
   pub broken : Breaks p rule site
   pub lowest : (other : Rule) → number_of other < number_of rule → Breaks p other site → ⊥
-
--- what is told is right: no rule is broken, or this one and none lower
-abbrev pub IsRight : ProgramTree → Site → Option Rule → Type 0
-IsRight p site None = IsKept p site
-IsRight p site (Some rule) = IsLowest p site rule
 
 -- the first of some sites
 pub record IsFirstOf (p : ProgramTree) (rule : Rule) (item : ℕ) (ss : List Site) : Type 0 where
@@ -25,6 +19,7 @@ pub record IsFirstOf (p : ProgramTree) (rule : Rule) (item : ℕ) (ss : List Sit
   pub lowest : IsLowest p site rule
   pub at_item : item ≡ item_of site
 
+-- none of the sites, or the first of them
 abbrev pub Outcome : ProgramTree → List Site → Option (Rule × ℕ) → Type 0
 Outcome p ss None = Each (IsKept p) ss
 Outcome p ss (Some (rule, item)) = IsFirstOf p rule item ss
@@ -33,14 +28,6 @@ later : (p : ProgramTree) (s : Site) (ss : List Site) (o : Option (Rule × ℕ))
 later p s ss None kept h = (kept, h)
 later p s ss (Some (rule, item)) kept h =
     record { before = s ∷ h.before; site = h.site; after = h.after; in_order = ap (λ t. s ∷ t) h.in_order; kept_before = (kept, h.kept_before); lowest = h.lowest; at_item = h.at_item }
-
-pub outcome : (p : ProgramTree) (tell : Site → Option Rule) → ((s : Site) → IsRight p s (tell s)) → (ss : List Site) → Outcome p ss (first_fault tell ss)
-outcome p tell right [] = tt
-outcome p tell right (s ∷ ss) = by_told (tell s) (right s) (outcome p tell right ss)
-  where
-    by_told : (o : Option Rule) → IsRight p s o → Outcome p ss (first_fault tell ss) → Outcome p (s ∷ ss) (fault_at o (item_of s) (first_fault tell ss))
-    by_told None kept h = later p s ss (first_fault tell ss) kept h
-    by_told (Some rule) lowest h = record { before = []; site = s; after = ss; in_order = refl; kept_before = tt; lowest = lowest; at_item = refl }
 
 pub first_broken : (p : ProgramTree) (rule : Rule) (item : ℕ) → IsFirstOf p rule item (sites p) → IsFirstBroken p rule item
 first_broken p rule item h = record {

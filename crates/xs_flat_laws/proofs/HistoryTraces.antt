@@ -88,6 +88,19 @@ pub get_middle : {A : Type 0} (xs ys : List A) (x : A) → slice_get (xs ++ x �
 get_middle [] ys x = refl
 get_middle (y ∷ xs) ys x = get_middle xs ys x
 
+joined : (a b : List Value) (as' bs : List (List Value)) → a ≡ b → as' ≡ bs → (a ∷ as') ≡ (b ∷ bs)
+joined a b as' bs e g = cc
+
+-- lists with a bit in front, put together and taken apart
+both : (a b : Bool) (as' bs : List Bool) → truth a ≡ truth b → as' ≡ bs → (a ∷ as') ≡ (b ∷ bs)
+both a b as' bs e g = cc
+
+heads : (a b : Bool) (as' bs : List Bool) → (a ∷ as') ≡ (b ∷ bs) → a ≡ b
+heads a b as' bs e = cc
+
+tails : (a b : Bool) (as' bs : List Bool) → (a ∷ as') ≡ (b ∷ bs) → as' ≡ bs
+tails a b as' bs e = cc
+
 first_bits : (m : FlatModel) (all : List Mode) (u : List Value) (fs : List Mode) (pre : List Value) (ts : List Bool) → Each (IsRead m u) fs → length ts ≡ length fs →
     u ≡ pre ++ map truth ts → (Each (Holds (with_history m all) u u) (bits_at_first (length pre) fs) ↔ (ts ≡ map (λ f. stands m f u) fs))
 first_bits m all u [] pre [] reads long is = ((λ h. refl), (λ h. tt))
@@ -105,15 +118,6 @@ first_bits m all u (f ∷ fs) pre (t ∷ ts) reads long is =
       (λ h. both t (stands m f u) ts (map (λ f. stands m f u) fs) (here.0 h.0) (rest.0 h.1)),
       (λ e. (here.1 (ap truth (heads t (stands m f u) ts (map (λ f. stands m f u) fs) e)), rest.1 (tails t (stands m f u) ts (map (λ f. stands m f u) fs) e))),
     )
-  where
-    both : (a b : Bool) (as' bs : List Bool) → truth a ≡ truth b → as' ≡ bs → (a ∷ as') ≡ (b ∷ bs)
-    both a b as' bs e g = cc
-
-    heads : (a b : Bool) (as' bs : List Bool) → (a ∷ as') ≡ (b ∷ bs) → a ≡ b
-    heads a b as' bs e = cc
-
-    tails : (a b : Bool) (as' bs : List Bool) → (a ∷ as') ≡ (b ∷ bs) → as' ≡ bs
-    tails a b as' bs e = cc
 
 pub applied_or : (a b : Option Values) (x y : Bool) → a ≡ Some (one (truth x)) → b ≡ Some (one (truth y)) → gives_applied op.Or a b ≡ Some (one (truth (x || y)))
 applied_or a b x y e g = rw (e, g) refl
@@ -143,15 +147,6 @@ step_bits m all a u w (f ∷ fs) pre pre' (t ∷ ts) reads long same is is' =
       (λ h. both t (a f || stands m f w) ts (map (λ f. a f || stands m f w) fs) (here.0 h.0) (rest.0 h.1)),
       (λ e. (here.1 (ap truth (heads t (a f || stands m f w) ts (map (λ f. a f || stands m f w) fs) e)), rest.1 (tails t (a f || stands m f w) ts (map (λ f. a f || stands m f w) fs) e))),
     )
-  where
-    both : (a b : Bool) (as' bs : List Bool) → truth a ≡ truth b → as' ≡ bs → (a ∷ as') ≡ (b ∷ bs)
-    both a b as' bs e g = cc
-
-    heads : (a b : Bool) (as' bs : List Bool) → (a ∷ as') ≡ (b ∷ bs) → a ≡ b
-    heads a b as' bs e = cc
-
-    tails : (a b : Bool) (as' bs : List Bool) → (a ∷ as') ≡ (b ∷ bs) → as' ≡ bs
-    tails a b as' bs e = cc
 
 -- Valuations of the model with bits are those of the model with a truth value for each bit.
 pub record Halves (xs : List FlatVariable) (fs : List Mode) (u : List Value) : Type 0 where
@@ -354,11 +349,8 @@ module _ (m : FlatModel) (fs : List Mode) (own : NamesOwn m) (modes : Each (IsMo
         rest = cut.own ∷ more.rest;
         moments = (moment, more.moments);
         steps = (step.0, more.steps);
-        is = heads_tails u (cut.own ++ bits_after m fs ((before ++ v ∷ []) ++ cut.own ∷ [])) us (told_from m fs ((before ++ v ∷ []) ++ cut.own ∷ []) more.rest) is more.is;
+        is = joined u (cut.own ++ bits_after m fs ((before ++ v ∷ []) ++ cut.own ∷ [])) us (told_from m fs ((before ++ v ∷ []) ++ cut.own ∷ []) more.rest) is more.is;
       }
-    where
-      heads_tails : (a b : List Value) (as' bs : List (List Value)) → a ≡ b → as' ≡ bs → (a ∷ as') ≡ (b ∷ bs)
-      heads_tails a b as' bs e g = cc
 
   -- what follows a valuation of the shorter trace
   record Longer (before : List (List Value)) (v : List Value) (vs : List (List Value)) : Type 0 where
@@ -396,9 +388,6 @@ module _ (m : FlatModel) (fs : List Mode) (own : NamesOwn m) (modes : Each (IsMo
             record { first = first.0; moments = (moment, more.moments); steps = more.steps },
             joined u (cut.own ++ bits_after m fs (cut.own ∷ [])) us (told_from m fs (cut.own ∷ []) more.rest) is more.is,
           )
-        where
-          joined : (a b : List Value) (as' bs : List (List Value)) → a ≡ b → as' ≡ bs → (a ∷ as') ≡ (b ∷ bs)
-          joined a b as' bs e g = cc
 
       backward : (trace : List (List Value)) → IsFlatTrace m trace → IsFlatTrace (with_history m fs) (told_from m fs [] trace)
       backward [] h = absurd h.first

@@ -1,19 +1,19 @@
 -- What the rules give at an item of an instance, and at the declaration of one.
-use Rattle.std.proofs.Common.{◌≡◌, ℕ, Bool, true, false, List, [], ◌∷◌, ◌++◌, length, Option, Some, None, refl, sym, ◌∙◌, subst}
+use Rattle.std.proofs.Common.{◌≡◌, ℕ, Bool, true, false, List, [], ◌∷◌, ◌++◌, length, Some, refl, sym, ◌∙◌, subst}
 use Rattle.std.specs.Prelude.{codes, slice_get, map, nat_eq}
 use Rattle.std.proofs.Common.{eqb-true}
 use Rattle.xs_tree.specs.ProgramTree.{Text, Formula, instance, ModuleTree, ProgramTree}
 use Rattle.xs_tree.specs.Values.{opposite}
 use Rattle.xs_tree.specs.Texts.{same_text}
-use Rattle.xs_tree.specs.Scope.{Place, Kind, an_instance, find_module, formal_from, kind_after_formals, kind_in_sections, kind_in}
+use Rattle.xs_tree.specs.Scope.{Place, an_instance, find_module, formal_from, kind_in_sections, kind_in}
 use Rattle.xs_tree.specs.Trace.{Each, IsInstance}
 use Rattle.xs_tree.specs.Flat.{FlatInstance}
 use Rattle.xs_flat_laws.specs.Items.{Item, a_declaration, NumberedItem, items_of, items_named, Visit, visits, visits_of, walk, instances_of}
 use Rattle.xs_flat_laws.specs.Rules.{is_missing_instance, is_miscounted, is_other_count, a_use, module_sites, visit_sites, use_sites, IsKept, IsWalkable, IsAccepted}
 use Rattle.xs_flat_laws.proofs.Reaches.{each_right}
 use Rattle.xs_flat_laws.proofs.Conditions.{each_at, each_flat, each_mapped}
-use Rattle.xs_flat_laws.proofs.KindLaws.{DeclaredBy, declared_by, sections_kind}
-use Rattle.xs_flat_laws.proofs.Sections.{AreInstances}
+use Rattle.xs_flat_laws.proofs.KindLaws.{no_formal_instance, DeclaredBy, declared_by, sections_kind}
+use Rattle.xs_flat_laws.proofs.Sections.{AreInstances, one_tree}
 use Rattle.xs_flat_laws.proofs.Places.{VisitFacts, all_visit_facts, Walked, walked, found_at, in_items, are_instances, there, In}
 use Rattle.xs_flat_laws.proofs.Walkable.{accepted_walkable, main_is_there}
 use Rattle.xs_tree.proofs.OneTree.{same_text_equal}
@@ -26,9 +26,6 @@ module_named (k ∷ ms) x m e = by_name (same_text k.name x) refl (module_named 
     by_name : (b : Bool) → same_text k.name x ≡ b → (find_module ms x ≡ Some m → m.name ≡ x) → m.name ≡ x
     by_name true t rest = let found : Some k ≡ Some m = rw t at e in let same : k ≡ m = cc in subst (λ (j : ModuleTree). j.name ≡ x) same (same_text_equal k.name x t)
     by_name false t rest = rest (rw t at e)
-
-one_tree : (p : ProgramTree) (at : Place) (m k : ModuleTree) → IsInstance p at m → IsInstance p at k → m ≡ k
-one_tree p at m k h g = let both : Some m ≡ Some k = sym h ∙ g in cc
 
 -- an item of an instance, at which no rule is broken
 pub record KeptItem (p : ProgramTree) (at : Place) (item : Item) : Type 0 where
@@ -63,11 +60,7 @@ kept_at p accepted at m is j item e =
 -- what a name is in its module, if it is declared as an instance
 pub declared_there : (m : ModuleTree) (x n : Text) (actuals : List Formula) → kind_in m x ≡ an_instance n actuals → DeclaredBy (items_of m) x n actuals
 declared_there m x n actuals kind =
-    declared_by (items_of m) x n actuals (sections_kind m.sections x ∙ in_sections (formal_from 0 m.formals x) (kind_in_sections m.sections x) kind)
-  where
-    in_sections : (o : Option ℕ) (k : Kind) → kind_after_formals o k ≡ an_instance n actuals → k ≡ an_instance n actuals
-    in_sections None k e = e
-    in_sections (Some i) k e = cc
+    declared_by (items_of m) x n actuals (sections_kind m.sections x ∙ no_formal_instance n actuals (formal_from 0 m.formals x) (kind_in_sections m.sections x) kind)
 
 same_count : (m : ModuleTree) (k : ℕ) → opposite (nat_eq (length m.formals) k) ≡ false → length m.formals ≡ k
 same_count m k e = by_test (nat_eq (length m.formals) k) refl e

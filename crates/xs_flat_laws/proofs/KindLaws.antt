@@ -1,5 +1,5 @@
 -- What is declared by a module's items, and by which of them.
-use Rattle.std.proofs.Common.{◌≡◌, ℕ, suc, ◌+◌, Bool, true, false, List, [], ◌∷◌, ◌++◌, Some, None, refl, sym, ◌∙◌, ap, subst}
+use Rattle.std.proofs.Common.{◌≡◌, ℕ, suc, ◌+◌, Bool, true, false, List, [], ◌∷◌, ◌++◌, Option, Some, None, refl, sym, ◌∙◌, ap, subst}
 use Rattle.std.specs.Prelude.{slice_get, map, flat_map, length, if◌then◌else◌}
 use Rattle.xs_tree.specs.ProgramTree.{Text, Formula, DeclaredTree, boolean, range, members, instance, DeclTree, DefineTree, AssignmentTree, SectionTree, var, ivar, frozen, define, constants, assign, init, invar, trans, ModuleTree, ProgramTree}
 use Rattle.xs_tree.proofs.ValueLaws.{same_text_refl}
@@ -88,6 +88,11 @@ kind_of_declaration m before role d after e h =
     let s : (is_among m.formals d.name ≡ false) × (is_among (flat_map names_of_item before) d.name ≡ false) = among_split m.formals _ d.name h in
     ap (λ o. kind_after_formals o (kind_in_sections m.sections d.name)) (no_formal 0 m.formals d.name s.0)
     ∙ sym (sections_kind m.sections d.name) ∙ ap (λ is. kind_in_items is d.name) e ∙ declared_kind before role d after s.1
+
+-- a name that is an instance in its module is no formal
+pub no_formal_instance : (n : Text) (actuals : List Formula) (o : Option ℕ) (k : Kind) → kind_after_formals o k ≡ an_instance n actuals → k ≡ an_instance n actuals
+no_formal_instance n actuals None k e = e
+no_formal_instance n actuals (Some i) k e = cc
 
 -- an instance is declared by an item
 pub record DeclaredBy (items : List Item) (x : Text) (module_name : Text) (actuals : List Formula) : Type 0 where

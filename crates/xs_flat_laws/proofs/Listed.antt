@@ -13,7 +13,7 @@ use Rattle.xs_flat_laws.specs.Rules.{IsWalkable}
 use Rattle.xs_flat_laws.specs.Model.{Condition, written_at, conditions, Root, root_of_actual, roots_of_actuals, roots_of_item, roots_of, same_place, same_key, is_key_among, Adds, AddsAll, stands, comes, no_more, one_more, IsFlatOf}
 use Rattle.xs_flat_laws.proofs.Conditions.{each_at}
 use Rattle.xs_flat_laws.proofs.KindLaws.{ItemFacts, kind_in_items, sections_kind}
-use Rattle.xs_flat_laws.proofs.Sections.{AreInstances}
+use Rattle.xs_flat_laws.proofs.Sections.{AreInstances, one_tree}
 use Rattle.xs_flat_laws.proofs.Places.{In, in_left, in_right, in_flat, facts_named, found_at, are_instances}
 use Rattle.xs_flat_laws.proofs.Numbered.{same_place_equal}
 use Rattle.xs_flat_laws.proofs.Walkable.{main_is_there}
@@ -87,7 +87,7 @@ listed_item p walkable at m is j item e =
     let are : AreInstances p = are_instances p walkable main.0 main.1 in
     let found : (i : ℕ) × (x : FlatInstance) × (slice_get (instances_of p) i ≡ Some x) × (x.place ≡ at) = are.all at m is in
     let real : (k : ModuleTree) × IsInstance p found.1.place k × (find_module p found.1.module_name ≡ Some k) = are.real found.0 found.1 found.2 in
-    let same : real.0 ≡ m = one_module p at real.0 m (subst (λ a. IsInstance p a real.0) found.3 real.1) is in
+    let same : real.0 ≡ m = one_tree p at real.0 m (subst (λ a. IsInstance p a real.0) found.3 real.1) is in
     let named : find_module p found.1.module_name ≡ Some m = subst (λ k. find_module p found.1.module_name ≡ Some k) same real.2 in
     let item' : (y : NumberedItem) × (slice_get (items_named p found.1.module_name) j ≡ Some y) × (y.item ≡ item) = found_at p walkable p 1 [] found.1.module_name m j item named e in
     record {
@@ -100,9 +100,6 @@ listed_item p walkable at m is j item e =
       item_is = item'.2;
       facts = each_at (ItemFacts m) (items_named p found.1.module_name) j item'.0 (facts_named p walkable found.1.module_name m named) item'.1;
     }
-  where
-    one_module : (p : ProgramTree) (at : Place) (m k : ModuleTree) → IsInstance p at m → IsInstance p at k → m ≡ k
-    one_module p at m k h g = let both : Some m ≡ Some k = sym h ∙ g in cc
 
 -- the definitions of an item of an instance are listed
 pub root_listed : (p : ProgramTree) (at : Place) (m : ModuleTree) (item : Item) (l : ListedItem p at m item) (r : Root) → In r (roots_of_item at l.numbered.number item) → In r (roots_of p)

@@ -2,7 +2,7 @@
 use Rattle.std.proofs.Common.{◌≡◌, ℕ, zero, suc, ◌+◌, ◌≤◌, arith, Bool, true, false, List, [], ◌∷◌, ◌++◌, length, Option, Some, None, refl, sym, ◌∙◌, ap, subst}
 use Rattle.std.specs.Prelude.{slice_get, flat_map, if◌then◌else◌, codes}
 use Rattle.xs_tree.specs.ProgramTree.{Text, Formula, DeclaredTree, boolean, range, members, instance, ModuleTree, ProgramTree}
-use Rattle.xs_tree.specs.Scope.{Place, Role, Kind, a_formal, a_variable, a_define, an_instance, undeclared, kind_declared, kind_in, kind_in_sections, formal_from, kind_after_formals, kind_at, module_of_kind, module_at, find_module}
+use Rattle.xs_tree.specs.Scope.{Place, Role, Kind, a_formal, a_variable, a_define, an_instance, undeclared, kind_declared, kind_in, kind_in_sections, formal_from, kind_at, module_of_kind, module_at, find_module}
 use Rattle.xs_tree.specs.Trace.{Each, IsInstance}
 use Rattle.xs_tree.specs.Flat.{FlatInstance}
 use Rattle.xs_flat_laws.specs.Items.{Item, a_declaration, a_definition, an_assignment, some_constants, an_init, an_invar, a_trans, NumberedItem, items_of, items_named, items_found, numbered_from, modules_from, Visit, visits_inside, visits_of, walk_items, walk, visits, instance_declared, instances_of_visit, instances_of}
@@ -11,7 +11,7 @@ use Rattle.xs_flat_laws.proofs.Reaches.{each_left, each_right}
 use Rattle.xs_flat_laws.proofs.Lists.{get_left}
 use Rattle.xs_flat_laws.proofs.Conditions.{each_join, each_at}
 use Rattle.xs_flat_laws.proofs.Sections.{AreInstances}
-use Rattle.xs_flat_laws.proofs.KindLaws.{ItemFacts, kind_of_declaration, sections_kind, DeclaredBy, declared_by, all_facts, found_facts}
+use Rattle.xs_flat_laws.proofs.KindLaws.{no_formal_instance, ItemFacts, kind_of_declaration, sections_kind, DeclaredBy, declared_by, all_facts, found_facts}
 use Rattle.xs_flat_laws.proofs.Pigeons.{IsThere, AreApart, no_more_names}
 use Rattle.xs_tree.specs.Texts.{same_text, is_among}
 use Rattle.std.proofs.lemmas.Bool.{false_from_ne_true as not_true}
@@ -182,12 +182,8 @@ module _ (p : ProgramTree) (walkable : IsWalkable p) where
   pub below : (at : Place) (m : ModuleTree) (w : Walked at m) (x : Text) (n : Text) (actuals : List Formula) → kind_in m x ≡ an_instance n actuals → Below at x n
   below at m w x n actuals kind = record { visit = visit; within = within; instances = listed; inside = inside }
     where
-      in_sections : (o : Option ℕ) (k : Kind) → kind_after_formals o k ≡ an_instance n actuals → k ≡ an_instance n actuals
-      in_sections None k e = e
-      in_sections (Some i) k e = cc
-
       by : DeclaredBy (items_of m) x n actuals
-      by = declared_by (items_of m) x n actuals (sections_kind m.sections x ∙ in_sections (formal_from 0 m.formals x) (kind_in_sections m.sections x) kind)
+      by = declared_by (items_of m) x n actuals (sections_kind m.sections x ∙ no_formal_instance n actuals (formal_from 0 m.formals x) (kind_in_sections m.sections x) kind)
 
       item : (y : NumberedItem) × (slice_get (items_named p w.name) by.place ≡ Some y) × (y.item ≡ a_declaration by.role by.decl)
       item = found_at p 1 [] w.name m by.place (a_declaration by.role by.decl) w.found by.is

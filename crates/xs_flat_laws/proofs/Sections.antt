@@ -20,6 +20,10 @@ pub record AreInstances (p : ProgramTree) : Type 0 where
       (m : ModuleTree) × IsInstance p x.place m × (find_module p x.module_name ≡ Some m)
   pub all : (at : Place) (m : ModuleTree) → IsInstance p at m → (i : ℕ) × (x : FlatInstance) × (slice_get (instances_of p) i ≡ Some x) × (x.place ≡ at)
 
+-- an instance has one module
+pub one_tree : (p : ProgramTree) (at : Place) (m k : ModuleTree) → IsInstance p at m → IsInstance p at k → m ≡ k
+one_tree p at m k h g = let both : Some m ≡ Some k = sym h ∙ g in cc
+
 -- numbers aside, the items are those of the module
 each_numbered : (Q : Item → Type 0) (n : ℕ) (before items : List Item) → (Each (λ (i : NumberedItem). Q i.item) (numbered_from n before items) ↔ Each Q items)
 each_numbered Q n before [] = ((λ h. tt), (λ h. tt))
@@ -146,9 +150,6 @@ module _ (p : ProgramTree) (are : AreInstances p) where
   declared_keeps v w at x (members ms) = just_one
 
   -- a step's formulas and those of frozen variables
-  StepAsks : Valuation → Valuation → Place → Item → Type 0
-  StepAsks v w at i = Each (Asks p v w at) (step_conditions i) × Each (Asks p v w at) (kept_conditions i)
-
   abbrev SectionAsks : Valuation → Valuation → Place → SectionTree → Type 0
   SectionAsks v w at s = Each (λ i. Each (Asks p v w at) (step_conditions i)) (items_of_section s) × Each (λ i. Each (Asks p v w at) (kept_conditions i)) (items_of_section s)
 

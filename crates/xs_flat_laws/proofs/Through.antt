@@ -18,9 +18,6 @@ pub record Through (n : ℕ) (p : ProgramTree) (at : Place) (name rest : Path) (
 one_more : (n : ℕ) (p : ProgramTree) (at : Place) (name : Path) (m : Meaning) → means_in n p at name ≡ Some m → means_in (suc n) p at name ≡ Some m
 one_more n p at name m h = means_on 1 n (suc n) p at name m (omega arith) h
 
-Goes : ℕ → ProgramTree → Type 0
-Goes n p = (at : Place) (x : Text) (more : Path) (y : Text) (rest : Path) (m : Meaning) → means_in n p at (x ∷ (more ++ y ∷ rest)) ≡ Some m → Through n p at (x ∷ more) (y ∷ rest) m
-
 module _ (n : ℕ) (p : ProgramTree) (goes : (at : Place) (x : Text) (more : Path) (y : Text) (rest : Path) (m : Meaning) → means_in n p at (x ∷ (more ++ y ∷ rest)) ≡ Some m → Through n p at (x ∷ more) (y ∷ rest) m) where
   -- what a look-up of this kind finds
   abbrev Finds : Place → Kind → Text → Path → Text → Path → Meaning → Type 0

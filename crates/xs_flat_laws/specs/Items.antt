@@ -5,6 +5,7 @@ use Rattle.xs_tree.specs.Scope.{Place, Role, state, input, frozen_role}
 use Rattle.xs_tree.specs.Flat.{FlatInstance}
 use Rattle.xs_tree.specs.Texts.{same_text, is_among}
 
+-- what stands below a module's header, one declaration, definition, assignment or formula each; constants are one item
 pub data Item : Type 0 where
   a_declaration : Role → DeclTree → Item
   a_definition : DefineTree → Item
@@ -14,6 +15,7 @@ pub data Item : Type 0 where
   an_invar : Formula → Item
   a_trans : Formula → Item
 
+-- the items of a section, in written order
 abbrev pub items_of_section : SectionTree → List Item
 items_of_section (var ds) = map (a_declaration state) ds
 items_of_section (ivar ds) = map (a_declaration input) ds
@@ -35,6 +37,7 @@ pub record NumberedItem : Type 0 where
   pub before : List Item
   pub item : Item
 
+-- items with numbers that go on from one, after others
 abbrev pub numbered_from : ℕ → List Item → List Item → List NumberedItem
 numbered_from n before [] = []
 numbered_from n before (i ∷ is) = record { number = n; before = before; item = i } ∷ numbered_from (suc n) (before ++ i ∷ []) is
@@ -45,6 +48,7 @@ pub record NumberedModule : Type 0 where
   pub before : List ModuleTree
   pub tree : ModuleTree
 
+-- modules with numbers that go on from one, after others
 abbrev pub modules_from : ℕ → List ModuleTree → List ModuleTree → List NumberedModule
 modules_from n before [] = []
 modules_from n before (m ∷ ms) = record { number = n; before = before; tree = m } ∷ modules_from (n + suc (length (items_of m))) (before ++ m ∷ []) ms
@@ -53,9 +57,11 @@ modules_from n before (m ∷ ms) = record { number = n; before = before; tree = 
 abbrev pub modules_of : ProgramTree → List NumberedModule
 modules_of p = modules_from 1 [] p
 
+-- the items of a module, whose numbers follow its header's
 abbrev pub numbered_items : NumberedModule → List NumberedItem
 numbered_items m = numbered_from (suc m.number) [] (items_of m.tree)
 
+-- the items of the first of these modules with a name
 abbrev pub items_found : List NumberedModule → Text → List NumberedItem
 items_found [] x = []
 items_found (m ∷ ms) x = if same_text m.tree.name x then numbered_items m else items_found ms x
@@ -77,11 +83,13 @@ abbrev pub visits_inside : (Place → Text → List Visit) → List Text → Pla
 visits_inside go on at (instance m actuals) = if is_among on m then [] else go at m
 visits_inside go on at _ = []
 
+-- a declaration, and those inside it
 abbrev pub visits_of : (Place → Text → List Visit) → List Text → Place → ℕ → Item → List Visit
 visits_of go on at n (a_declaration role d) =
     record { place = at; on_path = on; number = n; role = role; decl = d } ∷ visits_inside go on (d.name ∷ at) d.what
 visits_of go on at n _ = []
 
+-- the declarations of a list of items, each with those inside it
 abbrev pub walk_items : (Place → Text → List Visit) → List Text → Place → List NumberedItem → List Visit
 walk_items go on at [] = []
 walk_items go on at (i ∷ is) = visits_of go on at i.number i.item ++ walk_items go on at is
@@ -95,10 +103,12 @@ walk (suc n) p on at name = walk_items (walk n p (name ∷ on)) (name ∷ on) at
 abbrev pub visits : ProgramTree → List Visit
 visits p = walk (length p) p [] [] (codes "main")
 
+-- the instance that is declared, where it is one
 abbrev pub instance_declared : Place → DeclaredTree → List FlatInstance
 instance_declared at (instance m actuals) = record { place = at; module_name = m } ∷ []
 instance_declared at _ = []
 
+-- the instance of a declaration, where it is one
 abbrev pub instances_of_visit : Visit → List FlatInstance
 instances_of_visit v = instance_declared (v.decl.name ∷ v.place) v.decl.what
 
@@ -106,6 +116,7 @@ instances_of_visit v = instance_declared (v.decl.name ∷ v.place) v.decl.what
 abbrev pub instances_of : ProgramTree → List FlatInstance
 instances_of p = record { place = []; module_name = codes "main" } ∷ flat_map instances_of_visit (visits p)
 
+-- the declaration, where it is of a variable
 abbrev pub variable_declared : Visit → DeclaredTree → List Visit
 variable_declared v (instance m actuals) = []
 variable_declared v _ = v ∷ []

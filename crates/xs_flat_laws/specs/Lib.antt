@@ -4,7 +4,6 @@ pub mod Looks
 pub mod Rules
 pub mod Model
 pub mod Laws
-pub mod FirstFault
 pub mod History
 pub mod FlatTrace
 pub mod ValueRules

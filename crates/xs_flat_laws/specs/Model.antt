@@ -24,28 +24,34 @@ pub data Condition : Type 0 where
   next_among : Text → Formula → Condition
   kept : Text → Condition
 
+-- what an assignment asks at the first moment
 abbrev pub assigned_first : Moment → Path → Formula → List Condition
 assigned_first First (x ∷ []) e = now_among x e ∷ []
 assigned_first _ target e = []
 
+-- what an assignment asks at each moment
 abbrev pub assigned_each : Moment → Path → Formula → List Condition
 assigned_each Always (x ∷ []) e = now_among x e ∷ []
 assigned_each _ target e = []
 
+-- what an assignment asks of a moment and the next
 abbrev pub assigned_step : Moment → Path → Formula → List Condition
 assigned_step After (x ∷ []) e = next_among x e ∷ []
 assigned_step _ target e = []
 
+-- what an item asks at the first moment
 abbrev pub first_conditions : Item → List Condition
 first_conditions (an_init e) = plain e ∷ []
 first_conditions (an_assignment a) = assigned_first a.when a.target a.value
 first_conditions _ = []
 
+-- what an item asks at each moment
 abbrev pub each_conditions : Item → List Condition
 each_conditions (an_invar e) = plain e ∷ []
 each_conditions (an_assignment a) = assigned_each a.when a.target a.value
 each_conditions _ = []
 
+-- what an item asks of a moment and the next
 abbrev pub step_conditions : Item → List Condition
 step_conditions (a_trans e) = plain e ∷ []
 step_conditions (an_assignment a) = assigned_step a.when a.target a.value
@@ -56,6 +62,7 @@ abbrev pub kept_declared : Text → DeclaredTree → List Condition
 kept_declared x (instance m actuals) = []
 kept_declared x _ = kept x ∷ []
 
+-- what an item asks of a frozen variable
 abbrev pub kept_conditions : Item → List Condition
 kept_conditions (a_declaration frozen_role d) = kept_declared d.name d.what
 kept_conditions _ = []
@@ -66,6 +73,7 @@ pub record Written : Type 0 where
   pub item : ℕ
   pub condition : Condition
 
+-- the conditions of an item at an instance
 abbrev pub written_at : (Item → List Condition) → Place → NumberedItem → List Written
 written_at what at i = map (λ c. record { place = at; item = i.number; condition = c }) (what i.item)
 
@@ -88,17 +96,21 @@ pub record IsAmong (m : FlatModel) (r : Resolver) (at : Place) (x : Text) (e : F
   pub resolved : IsResolved (r at) e value
   pub is : flat ≡ binary op.Within (left (leaf (flat_variable number))) value
 
+-- the variable at the next moment is in itself
 pub record IsKeptBy (m : FlatModel) (at : Place) (x : Text) (flat : Tree FlatLeaf) : Type 0 where
   pub number : ℕ
   pub is_number : IsVariableNumber m at x number
   pub is : flat ≡ binary op.Within (next_of (leaf (flat_variable number))) (leaf (flat_variable number))
 
+-- a variable as it is
 abbrev pub same_tree : Tree FlatLeaf → Tree FlatLeaf
 same_tree t = t
 
+-- a variable at the next moment
 abbrev pub next_tree : Tree FlatLeaf → Tree FlatLeaf
 next_tree t = next_of t
 
+-- the flat tree is the condition, with its names resolved at the instance
 abbrev pub IsConditionTree : FlatModel → Resolver → Place → Condition → Tree FlatLeaf → Type 0
 IsConditionTree m r at (plain e) flat = IsResolved (r at) e flat
 IsConditionTree m r at (now_among x e) flat = IsAmong m r at x e same_tree flat
@@ -109,11 +121,13 @@ IsConditionTree m r at (kept x) flat = IsKeptBy m at x flat
 abbrev pub IsInstanceNumber : FlatModel → Place → ℕ → Type 0
 IsInstanceNumber m at i = (x : FlatInstance) × (slice_get m.instances i ≡ Some x) × (x.place ≡ at)
 
+-- the formula is that of the condition, with its item and its instance
 pub record IsFormulaOf (m : FlatModel) (r : Resolver) (w : Written) (f : FlatFormula) : Type 0 where
   pub tree : IsConditionTree m r w.place w.condition f.value
   pub item : f.item ≡ w.item
   pub number : IsInstanceNumber m w.place f.number
 
+-- the variable is that of the declaration
 pub record IsVariableOf (m : FlatModel) (v : Visit) (x : FlatVariable) : Type 0 where
   pub place : x.place ≡ v.place
   pub name : x.name ≡ v.decl.name
@@ -134,19 +148,23 @@ symbols_of_members [] = []
 symbols_of_members (member.Number n ∷ ms) = symbols_of_members ms
 symbols_of_members (member.Symbol x ∷ ms) = x ∷ symbols_of_members ms
 
+-- the symbols of a type
 abbrev pub symbols_of_type : DeclaredTree → List Text
 symbols_of_type (members ms) = symbols_of_members ms
 symbols_of_type _ = []
 
+-- the symbols of an item
 abbrev pub symbols_of_item : Item → List Text
 symbols_of_item (a_declaration role d) = symbols_of_type d.what
 symbols_of_item (some_constants xs) = xs
 symbols_of_item _ = []
 
+-- each text once, where it first stands
 abbrev pub first_appearances : List Text → List Text → List Text
 first_appearances seen [] = seen
 first_appearances seen (x ∷ xs) = first_appearances (if is_among seen x then seen else seen ++ x ∷ []) xs
 
+-- the symbols of a program
 abbrev pub symbols_of : ProgramTree → List Text
 symbols_of p = first_appearances [] (flat_map (λ m. flat_map symbols_of_item (items_of m)) p)
 
@@ -155,26 +173,32 @@ pub record Root : Type 0 where
   pub key : Key
   pub item : ℕ
 
+-- an actual that is a plain name is none
 abbrev pub root_of_actual : Place → ℕ → ℕ → Option Path → List Root
 root_of_actual inside i item (Some name) = []
 root_of_actual inside i item None = record { key = actual_key inside i; item = item } ∷ []
 
+-- those of the actuals of an instance, numbered on
 abbrev pub roots_of_actuals : Place → ℕ → ℕ → List Formula → List Root
 roots_of_actuals inside i item [] = []
 roots_of_actuals inside i item (e ∷ es) = root_of_actual inside i item (plain_name e) ++ roots_of_actuals inside (suc i) item es
 
+-- those of what a name is declared as
 abbrev pub roots_of_type : Place → ℕ → DeclaredTree → List Root
 roots_of_type inside item (instance m actuals) = roots_of_actuals inside 0 item actuals
 roots_of_type inside item _ = []
 
+-- those of an item
 abbrev pub roots_of_item : Place → ℕ → Item → List Root
 roots_of_item at item (a_declaration role d) = roots_of_type (d.name ∷ at) item d.what
 roots_of_item at item (a_definition d) = record { key = define_key at d.name; item = item } ∷ []
 roots_of_item at item _ = []
 
+-- those of a program
 abbrev pub roots_of : ProgramTree → List Root
 roots_of p = flat_map (λ at. flat_map (λ (i : NumberedItem). roots_of_item at.place i.number i.item) (items_named p at.module_name)) (instances_of p)
 
+-- the key of a meaning that is a definition
 abbrev pub keys_of_meaning : Meaning → List Key
 keys_of_meaning (an_expression_at key at e) = key ∷ []
 keys_of_meaning _ = []
@@ -185,16 +209,19 @@ AreNamed p at [] keys = keys ≡ []
 AreNamed p at (name ∷ names) keys =
     (meaning : Meaning) × (more : List Key) × Means p at name meaning × AreNamed p at names more × (keys ≡ keys_of_meaning meaning ++ more)
 
+-- both are one place
 abbrev pub same_place : Place → Place → Bool
 same_place [] [] = true
 same_place (x ∷ at) (y ∷ bt) = same_text x y && same_place at bt
 same_place _ _ = false
 
+-- both are one key
 abbrev pub same_key : Key → Key → Bool
 same_key (define_key at x) (define_key bt y) = same_place at bt && same_text x y
 same_key (actual_key at i) (actual_key bt j) = same_place at bt && nat_eq i j
 same_key _ _ = false
 
+-- the key is one of the list
 abbrev pub is_key_among : List Key → Key → Bool
 is_key_among [] k = false
 is_key_among (j ∷ js) k = same_key j k || is_key_among js k
@@ -210,6 +237,7 @@ mutual
     no_more : {done : List Key} → AddsAll p done [] done
     one_more : {done between after more : List Key} {k : Key} → Adds p done k between → AddsAll p between more after → AddsAll p done (k ∷ more) after
 
+-- the flat definition is that of the written one, with the item of a root of its key
 pub record IsDefinitionOf (p : ProgramTree) (m : FlatModel) (d : Definition) (f : FlatFormula) : Type 0 where
   pub expression : expression_of p d.key ≡ Some (d.place, d.written)
   pub root : (root : Root) × ((i : ℕ) × (slice_get (roots_of p) i ≡ Some root)) × (root.key ≡ d.key) × (f.item ≡ root.item)

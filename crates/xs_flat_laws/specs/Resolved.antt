@@ -97,6 +97,7 @@ AreDefinitions p m ds r =
     (f : FlatFormula) × (slice_get m.definitions k ≡ Some f) × IsResolved (r d.place) d.written f.value × Each (IsBefore k) (leaves_in f.value)
     × (has_next d.written ≡ false)
 
+-- what a leaf gives, where there is one
 abbrev pub leaf_gives : Leaves FlatLeaf → Option FlatLeaf → Option Values
 leaf_gives g None = None
 leaf_gives g (Some l) = g l

@@ -13,6 +13,7 @@ use Rattle.xs_flat_laws.specs.Items.{Item, a_declaration, a_definition, an_assig
 use Rattle.xs_flat_laws.specs.Looks.{ComesBack, MeansNothing}
 use Rattle.xs_tree.specs.Texts.{same_text, is_among}
 
+-- the fourteen rules of names, in the order of their numbers
 pub data Rule : Type 0 where
   no_main : Rule
   main_has_parameters : Rule
@@ -29,6 +30,7 @@ pub data Rule : Type 0 where
   input_here : Rule
   too_many : Rule
 
+-- the number that a refusal says
 abbrev pub number_of : Rule → ℕ
 number_of no_main = 1
 number_of main_has_parameters = 2
@@ -54,6 +56,7 @@ pub data Site : Type 0 where
   a_visit : List Visit → Visit → Site
   a_use : FlatInstance → NumberedItem → Site
 
+-- the number of a site's item, and 0 for the program
 abbrev pub item_of : Site → ℕ
 item_of the_program = 0
 item_of (a_header m) = m.number
@@ -61,6 +64,7 @@ item_of (an_item m i) = i.number
 item_of (a_visit before v) = v.number
 item_of (a_use at i) = i.number
 
+-- the places of group two: the declarations that the walk comes to, in order
 abbrev pub visit_sites : List Visit → List Visit → List Site
 visit_sites before [] = []
 visit_sites before (v ∷ vs) = a_visit before v ∷ visit_sites (before ++ v ∷ []) vs
@@ -82,23 +86,28 @@ abbrev pub is_missing : Option ModuleTree → Bool
 is_missing None = true
 is_missing (Some m) = false
 
+-- there is a formal
 abbrev pub has_formals : List Text → Bool
 has_formals [] = false
 has_formals (x ∷ xs) = true
 
+-- a name stands twice
 abbrev pub has_twice : List Text → Bool
 has_twice [] = false
 has_twice (x ∷ xs) = is_among xs x || has_twice xs
 
+-- a module has this name
 abbrev pub is_module_among : List ModuleTree → Text → Bool
 is_module_among [] x = false
 is_module_among (m ∷ ms) x = same_text m.name x || is_module_among ms x
 
+-- the name that an item declares, where it declares one
 abbrev pub names_of_item : Item → List Text
 names_of_item (a_declaration role d) = d.name ∷ []
 names_of_item (a_definition d) = d.name ∷ []
 names_of_item _ = []
 
+-- the name stands earlier
 abbrev pub is_name_again : List Text → List Text → Bool
 is_name_again earlier [] = false
 is_name_again earlier (x ∷ xs) = is_among earlier x
@@ -108,21 +117,26 @@ abbrev pub is_missing_instance : ProgramTree → DeclaredTree → Bool
 is_missing_instance p (instance m actuals) = is_missing (find_module p m)
 is_missing_instance p _ = false
 
+-- the module has another number of formals
 abbrev pub is_other_count : Option ModuleTree → ℕ → Bool
 is_other_count None n = false
 is_other_count (Some m) n = opposite (nat_eq (length m.formals) n)
 
+-- rule 6: an instance has another number of actuals than its module of formals
 abbrev pub is_miscounted : ProgramTree → DeclaredTree → Bool
 is_miscounted p (instance m actuals) = is_other_count (find_module p m) (length actuals)
 is_miscounted p _ = false
 
+-- rule 7: the module of an instance stands on the path to it
 abbrev pub is_on_path : List Text → DeclaredTree → Bool
 is_on_path on (instance m actuals) = is_among on m
 is_on_path on _ = false
 
+-- the number of instances that the walk has come to, with `main`
 abbrev pub instances_before : List Visit → ℕ
 instances_before vs = suc (length (flat_map (λ v. instance_declared v.place v.decl.what) vs))
 
+-- the number of variables that the walk has come to
 abbrev pub variables_before : List Visit → ℕ
 variables_before vs = length (flat_map (λ v. variable_declared v v.decl.what) vs)
 
@@ -136,13 +150,16 @@ pub data HasNoValue (p : ProgramTree) (at : Place) (name : Path) : Type 0 where
   nothing : MeansNothing p at name → HasNoValue p at name
   only_an_instance : (inside : Place) → Means p at name (an_instance_at inside) → HasNoValue p at name
 
+-- some name of the expression has none
 abbrev pub SomeHasNoValue : ProgramTree → Place → Formula → Type 0
 SomeHasNoValue p at e = AtSome (HasNoValue p at) (leaves_in e)
 
+-- an actual that is a name means nothing, or one that is none has a name without a value
 abbrev pub ActualHasNoMeaning : ProgramTree → Place → Formula → Option Path → Type 0
 ActualHasNoMeaning p at e (Some name) = MeansNothing p at name
 ActualHasNoMeaning p at e None = SomeHasNoValue p at e
 
+-- rule 8 is broken at an item of an instance
 abbrev pub BreaksNames : ProgramTree → Place → Item → Type 0
 BreaksNames p at (a_declaration role d) = elim d.what [
   | boolean ↦ ⊥
@@ -163,16 +180,19 @@ may_be_assigned when (a_variable state what) = true
 may_be_assigned First (a_variable frozen_role what) = true
 may_be_assigned when _ = false
 
+-- rule 9: a target is a name without dots that may be assigned for that moment
 abbrev pub is_target : ProgramTree → Place → Moment → Path → Bool
 is_target p at when (x ∷ []) = may_be_assigned when (kind_at (module_at p at) x)
 is_target p at when _ = false
 
+-- both assign the same moments, or one assigns all
 abbrev pub at_one_time : Moment → Moment → Bool
 at_one_time Always b = true
 at_one_time First After = false
 at_one_time After First = false
 at_one_time a b = true
 
+-- rule 10: the item assigns the same target at one time with the assignment
 abbrev pub Assigns : AssignmentTree → Item → Type 0
 Assigns a (an_assignment b) = (b.target ≡ a.target) × IsTrue (at_one_time b.when a.when)
 Assigns a _ = ⊥
@@ -182,6 +202,7 @@ abbrev pub expression_of_kind : Place → Kind → Option (Place × Formula)
 expression_of_kind at (a_define e) = Some (at, e)
 expression_of_kind at _ = None
 
+-- an actual, at the place at which it is written
 abbrev pub expression_in : Place → Option Formula → Option (Place × Formula)
 expression_in at None = None
 expression_in at (Some e) = Some (at, e)
@@ -199,13 +220,16 @@ pub record Needs (p : ProgramTree) (key other : Key) : Type 0 where
   pub is : expression_of p key ≡ Some (place, written)
   pub named : AtSome (λ name. (at : Place) × (e : Formula) × Means p place name (an_expression_at other at e)) (leaves_in written)
 
+-- one definition leads to another in so many steps
 abbrev pub Leads : ProgramTree → ℕ → Key → Key → Type 0
 Leads p zero key other = other ≡ key
 Leads p (suc n) key other = (between : Key) × Needs p key between × Leads p n between other
 
+-- a definition leads to itself
 abbrev pub NeedsItself : ProgramTree → Key → Type 0
 NeedsItself p key = (n : ℕ) × Leads p (suc n) key key
 
+-- an actual leads back to its formal, as a name or as a definition
 abbrev pub ActualLoops : ProgramTree → Place → ℕ → Text → Option Path → Type 0
 ActualLoops p inside i formal (Some name) = ComesBack p inside formal
 ActualLoops p inside i formal None = NeedsItself p (actual_key inside i)
@@ -219,10 +243,12 @@ pub record SomeActualLoops (p : ProgramTree) (inside : Place) (m : ModuleTree) (
   pub is_actual : slice_get actuals index ≡ Some actual
   pub loops : ActualLoops p inside index formal (plain_name actual)
 
+-- some actual of an instance does
 abbrev pub LoopsInside : ProgramTree → Place → List Formula → Option ModuleTree → Type 0
 LoopsInside p inside actuals None = ⊥
 LoopsInside p inside actuals (Some m) = SomeActualLoops p inside m actuals
 
+-- rule 11 is broken at an item of an instance
 abbrev pub BreaksLoops : ProgramTree → Place → Item → Type 0
 BreaksLoops p at (a_declaration role d) = elim d.what [
   | boolean ↦ ⊥
@@ -279,19 +305,23 @@ abbrev mutual
   branches_leaves_under no_branch = []
   branches_leaves_under (branch_then c a bs) = leaves_under c ++ (leaves_under a ++ branches_leaves_under bs)
 
+-- the assignment is for the next moments
 abbrev pub is_later : Moment → Bool
 is_later After = true
 is_later Always = false
 is_later First = false
 
+-- a `next` stands where none may: under another, where one may stand, and else anywhere
 abbrev pub has_bad_next : Bool → Formula → Bool
 has_bad_next true e = next_under_next e
 has_bad_next false e = has_next e
 
+-- a `next` stands in some of the expressions
 abbrev pub some_has_next : List Formula → Bool
 some_has_next [] = false
 some_has_next (e ∷ es) = has_next e || some_has_next es
 
+-- rule 12 is broken at an item
 abbrev pub breaks_next : Item → Bool
 breaks_next (a_declaration role d) = elim d.what [ boolean ↦ false | range lo hi ↦ false | members ms ↦ false | instance m actuals ↦ some_has_next actuals ]
 breaks_next (a_definition d) = has_next d.value
@@ -306,9 +336,11 @@ abbrev pub is_input_kind : Kind → Bool
 is_input_kind (a_variable input what) = true
 is_input_kind _ = false
 
+-- the name means an input
 abbrev pub MeansInput : ProgramTree → Place → Path → Type 0
 MeansInput p at name = (place : Place) × (x : Text) × Means p at name (a_variable_at place x) × IsTrue (is_input_kind (kind_at (module_at p place) x))
 
+-- the name means a definition that leads to one which names an input
 pub record ReadsInput (p : ProgramTree) (at : Place) (name : Path) : Type 0 where
   pub first : Key
   pub place : Place
@@ -322,13 +354,16 @@ pub record ReadsInput (p : ProgramTree) (at : Place) (name : Path) : Type 0 wher
   pub is : expression_of p last ≡ Some (last_place, last_written)
   pub names_input : AtSome (MeansInput p last_place) (leaves_in last_written)
 
+-- the name is an input's, or leads to one
 abbrev pub GivesInput : ProgramTree → Place → Path → Type 0
 GivesInput p at name = MeansInput p at name ⊎ ReadsInput p at name
 
+-- the names that may lead to no input: those under `next`, where `next` may stand, and else all
 abbrev pub inputs_judged : Bool → Formula → List Path
 inputs_judged true e = leaves_under e
 inputs_judged false e = leaves_in e
 
+-- rule 13 is broken at an item of an instance
 abbrev pub BreaksInputs : ProgramTree → Place → Item → Type 0
 BreaksInputs p at (a_declaration role d) = ⊥
 BreaksInputs p at (a_definition d) = ⊥
@@ -343,24 +378,29 @@ abbrev pub BreaksTarget : ProgramTree → Place → Item → Type 0
 BreaksTarget p at (an_assignment a) = is_target p at a.when a.target ≡ false
 BreaksTarget p at _ = ⊥
 
+-- rule 10 is broken: an item before assigns the same
 abbrev pub BreaksOnce : List Item → Item → Type 0
 BreaksOnce before (an_assignment a) = AtSome (Assigns a) before
 BreaksOnce before _ = ⊥
 
+-- the program has no `main`
 abbrev pub BreaksAtProgram : ProgramTree → Rule → Type 0
 BreaksAtProgram p no_main = IsTrue (is_missing (find_module p (codes "main")))
 BreaksAtProgram p _ = ⊥
 
+-- the rules of a module's header: 2, 3 and 4
 abbrev pub BreaksAtHeader : NumberedModule → Rule → Type 0
 BreaksAtHeader m main_has_parameters = IsTrue (same_text m.tree.name (codes "main") && has_formals m.tree.formals)
 BreaksAtHeader m double_module = IsTrue (is_module_among m.before m.tree.name)
 BreaksAtHeader m double_name = IsTrue (has_twice m.tree.formals)
 BreaksAtHeader m _ = ⊥
 
+-- the rule of an item's name: 4
 abbrev pub BreaksAtItem : NumberedModule → NumberedItem → Rule → Type 0
 BreaksAtItem m i double_name = IsTrue (is_name_again (m.tree.formals ++ flat_map names_of_item i.before) (names_of_item i.item))
 BreaksAtItem m i _ = ⊥
 
+-- the rules of a declaration in the walk: 5, 6, 7 and 14
 abbrev pub BreaksAtVisit : ProgramTree → List Visit → Visit → Rule → Type 0
 BreaksAtVisit p before v no_such_module = IsTrue (is_missing_instance p v.decl.what)
 BreaksAtVisit p before v wrong_count = IsTrue (is_miscounted p v.decl.what)
@@ -368,6 +408,7 @@ BreaksAtVisit p before v module_loop = IsTrue (is_on_path v.on_path v.decl.what)
 BreaksAtVisit p before v too_many = PassesLimit before v.decl.what
 BreaksAtVisit p before v _ = ⊥
 
+-- the rules of an item of an instance: 8 to 13
 abbrev pub BreaksAtUse : ProgramTree → FlatInstance → NumberedItem → Rule → Type 0
 BreaksAtUse p at i no_such_name = BreaksNames p at.place i.item
 BreaksAtUse p at i not_a_target = BreaksTarget p at.place i.item
@@ -377,6 +418,7 @@ BreaksAtUse p at i next_here = IsTrue (breaks_next i.item)
 BreaksAtUse p at i input_here = BreaksInputs p at.place i.item
 BreaksAtUse p at i _ = ⊥
 
+-- the rule is broken at the site
 abbrev pub Breaks : ProgramTree → Rule → Site → Type 0
 Breaks p rule the_program = BreaksAtProgram p rule
 Breaks p rule (a_header m) = BreaksAtHeader m rule
@@ -399,6 +441,7 @@ pub record IsFirstBroken (p : ProgramTree) (rule : Rule) (item : ℕ) : Type 0 w
   pub lowest : (other : Rule) → number_of other < number_of rule → Breaks p other site → ⊥
   pub at_item : item ≡ item_of site
 
+-- no rule is broken anywhere
 abbrev pub IsAccepted : ProgramTree → Type 0
 IsAccepted p = Each (IsKept p) (sites p)
 

@@ -4,9 +4,8 @@
 //! says when a flat expression is a written one with its names looked up; `Items` has the items of a
 //! program and the walk over its instances; `Looks` has a look-up step by step, and when one comes back
 //! to a formal. `Rules` has the fourteen rules, their sites in the order in which they are tried, and the
-//! first broken one. `Model` says which flat model is a program's. `FirstFault` finds the first broken
-//! rule from a test of each site, for the loops of code. `History` adds a bit for each fault to a model,
-//! `FaultModes` has the mode of a fault of the code, and
+//! first broken one. `Model` says which flat model is a program's. `History` adds a bit for each fault to a
+//! model, `FaultModes` has the mode of a fault of the code, and
 //! `FlatTrace` says what the bits tell of its traces. `Laws` has the theorems as statements, which
 //! the contracts below carry; the layer above builds models and cites them.
 //!

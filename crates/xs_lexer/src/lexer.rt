@@ -1,5 +1,8 @@
-// The split of a text, piece by piece.
-ghost use Rattle.std.specs.Prelude.{◌≡◌, ◌⊎◌, ◌<◌, ◌≤◌, ◌+◌, ◌^◌, ◌++◌, [], ◌∷◌, List, length, All, OnOk, OnErr, IfOk, IfErr};
+// The split of a text, piece by piece: `tokens` is the crate's one call.
+//
+// Each round takes the piece that begins where the last one ended, keeps it where it is a token, and stops at the first
+// place where no piece begins. Of the pieces themselves `scan` knows.
+ghost use Rattle.std.specs.Prelude.{◌≡◌, ◌⊎◌, ◌<◌, ◌+◌, ◌^◌, ◌++◌, List, length, All, OnOk, IfOk, IfErr};
 ghost use Rattle.xs_lexer.specs.declared.token.Token.{Token};
 ghost use Rattle.xs_lexer.specs.declared.token.LexFault.{LexFault};
 ghost use Rattle.xs_lexer.specs.Tokens.{token_of, HasTokens, StandsIn};

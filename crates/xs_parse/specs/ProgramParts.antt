@@ -13,18 +13,23 @@ use Rattle.xs_expression_reader.specs.Reads.{Read, got, int_at, none, and_then, 
 abbrev pub next_name : List Lexeme → Read Text
 next_name ts = name_at (rest_of ts)
 
+-- a name with dots
 abbrev pub dotted_at : List Lexeme → Read Path
 dotted_at ts = some_at (has_next s_dot) name_at next_name ts
 
+-- names with commas between
 abbrev pub names_at : List Lexeme → Read (List Text)
 names_at ts = some_at (has_next s_comma) name_at next_name ts
 
+-- a symbol or a number
 abbrev pub member_at : List Lexeme → Read Member
 member_at ts = if has_next a_name ts then and_then (name_at ts) (λ x r. got (member.Symbol x) r) else and_then (int_at ts) (λ n r. got (member.Number n) r)
 
+-- a member behind a comma
 abbrev pub next_member : List Lexeme → Read Member
 next_member ts = member_at (rest_of ts)
 
+-- members with commas between
 abbrev pub members_at : List Lexeme → Read (List Member)
 members_at ts = some_at (has_next s_comma) member_at next_member ts
 
@@ -32,9 +37,11 @@ members_at ts = some_at (has_next s_comma) member_at next_member ts
 abbrev pub braced_at : List Lexeme → Read DeclaredTree
 braced_at ts = and_then (members_at ts) (λ ms r. and_then (expect_at s_close_brace r) (λ _ s. got (members ms) s))
 
+-- two numbers with dots between
 abbrev pub range_at : List Lexeme → Read DeclaredTree
 range_at ts = and_then (int_at ts) (λ lo r. and_then (expect_at s_dots r) (λ _ s. and_then (int_at s) (λ hi q. got (range lo hi) q)))
 
+-- the type of a variable
 abbrev pub type_at : List Lexeme → Read DeclaredTree
 type_at ts = if has_next w_boolean ts then got boolean (rest_of ts) else (if has_next s_open_brace ts then braced_at (rest_of ts) else range_at ts)
 
@@ -50,12 +57,15 @@ closed_at inner ts = and_then (inner ts) (λ a r. and_then (expect_at s_close r)
 abbrev pub bracketed_at : {A : Type 0} → (List Lexeme → Read (List A)) → List Lexeme → Read (List A)
 bracketed_at inner ts = if has_next s_open ts then (if has_next s_close (rest_of ts) then got [] (rest_of (rest_of ts)) else closed_at inner (rest_of ts)) else got [] ts
 
+-- a module with its actuals
 abbrev pub instance_at : List Lexeme → Read DeclaredTree
 instance_at ts = and_then (name_at ts) (λ m r. and_then (bracketed_at commas_at r) (λ es s. got (instance m es) s))
 
+-- an instance or a type
 abbrev pub declared_at : List Lexeme → Read DeclaredTree
 declared_at ts = if has_next a_name ts then instance_at ts else type_at ts
 
+-- a name and what it is declared as, which a reader reads
 abbrev pub decl_at : (List Lexeme → Read DeclaredTree) → List Lexeme → Read DeclTree
 decl_at what ts =
     and_then (name_at ts) (λ x r. and_then (expect_at s_colon r) (λ _ s. and_then (what s) (λ d q. and_then (expect_at s_semicolon q) (λ _ z. got (record { name = x; what = d }) z))))
@@ -68,9 +78,11 @@ decls_at what ts = each_at (has_next a_name) (decl_at what) (length ts) ts
 abbrev pub value_at : List Lexeme → Read Formula
 value_at ts = and_then (expr_at ts) (λ e r. and_then (expect_at s_semicolon r) (λ _ s. got e s))
 
+-- a name and its value
 abbrev pub define_at : List Lexeme → Read DefineTree
 define_at ts = and_then (name_at ts) (λ x r. and_then (expect_at s_becomes r) (λ _ s. and_then (value_at s) (λ e q. got (record { name = x; value = e }) q)))
 
+-- defines, as long as a name stands next
 abbrev pub defines_at : List Lexeme → Read (List DefineTree)
 defines_at ts = each_at (has_next a_name) define_at (length ts) ts
 
@@ -78,30 +90,38 @@ defines_at ts = each_at (has_next a_name) define_at (length ts) ts
 abbrev pub moment_at : List Lexeme → Moment
 moment_at ts = if has_next w_first ts then First else (if has_next w_after ts then After else Always)
 
+-- behind `init` or `next`
 abbrev pub past_moment : List Lexeme → List Lexeme
 past_moment ts = if has_next w_first ts then rest_of ts else (if has_next w_after ts then rest_of ts else ts)
 
+-- a name in parentheses
 abbrev pub opened_at : List Lexeme → Read Path
 opened_at ts = and_then (expect_at s_open ts) (λ _ r. closed_at dotted_at r)
 
+-- what is assigned for a moment
 abbrev pub target_at : Moment → List Lexeme → Read Path
 target_at Always ts = dotted_at ts
 target_at First ts = opened_at ts
 target_at After ts = opened_at ts
 
+-- a target and its value
 abbrev pub assignment_at : List Lexeme → Read AssignmentTree
 assignment_at ts =
     and_then (target_at (moment_at ts) (past_moment ts)) (λ d r. and_then (expect_at s_becomes r) (λ _ s. and_then (value_at s) (λ e q. got (record { when = moment_at ts; target = d; value = e }) q)))
 
+-- whether an assignment begins here
 abbrev pub begins_assignment : List Lexeme → Bool
 begins_assignment ts = has_next a_name ts || (has_next w_first ts || has_next w_after ts)
 
+-- assignments, as long as another begins
 abbrev pub assigns_at : List Lexeme → Read (List AssignmentTree)
 assigns_at ts = each_at begins_assignment assignment_at (length ts) ts
 
+-- names, and the semicolon behind them
 abbrev pub constants_at : List Lexeme → Read (List Text)
 constants_at ts = and_then (names_at ts) (λ xs r. and_then (expect_at s_semicolon r) (λ _ s. got xs s))
 
+-- an expression, and a semicolon where one stands behind it
 abbrev pub formula_at : List Lexeme → Read Formula
 formula_at ts = and_then (expr_at ts) (λ e r. got e (past_semicolon r))
 
@@ -123,6 +143,7 @@ section_at w_invar ts = and_then (formula_at ts) (λ e r. got (invar e) r)
 section_at w_trans ts = and_then (formula_at ts) (λ e r. got (trans e) r)
 section_at c ts = none
 
+-- the mark is the word of a section that is not passed over
 abbrev pub is_kept : Mark → Bool
 is_kept w_var = true
 is_kept w_ivar = true
@@ -147,8 +168,10 @@ abbrev pub module_at : List Lexeme → Read ModuleTree
 module_at ts =
     and_then (name_at ts) (λ x r. and_then (bracketed_at names_at r) (λ fs s. and_then (sections_at (length s) s) (λ ss q. got (record { name = x; formals = fs; sections = ss }) q)))
 
+-- a module behind its word
 abbrev pub next_module : List Lexeme → Read ModuleTree
 next_module ts = module_at (rest_of ts)
 
+-- modules one after another
 abbrev pub program_at : List Lexeme → Read ProgramTree
 program_at ts = each_at (has_next w_module) next_module (length ts) ts

@@ -23,6 +23,7 @@ pub data Single : Type 0 where
   the_close : Single
   the_dots : Single
 
+-- the parts of a program that may still be expected
 pub data Sym : Type 0 where
   single : Single → Sym
   formula : (st : State) → is_stuck st ≡ false → Sym
@@ -53,6 +54,7 @@ pub data Tail (One : List Lexeme → Type 0) (end : Lexeme) : List Lexeme → Ty
   tail_end : Tail One end (end ∷ [])
   tail_more : {xs ys : List Lexeme} → One xs → Tail One end ys → Tail One end (sign k.Comma ∷ (xs ++ ys))
 
+-- the mark is that of the lexeme
 abbrev pub is_single : Single → Mark → Bool
 is_single the_name a_name = true
 is_single the_number a_number = true
@@ -64,21 +66,27 @@ is_single the_close s_close = true
 is_single the_dots s_dots = true
 is_single _ _ = false
 
+-- the list is some name
 abbrev pub IsName : List Lexeme → Type 0
 IsName ts = (x : Text) × SpellsName ts x
 
+-- the list is some expression
 abbrev pub IsExpr : List Lexeme → Type 0
 IsExpr ts = (e : Formula) × SpellsExpr ts e
 
+-- the list is some member of a type
 abbrev pub IsMember : List Lexeme → Type 0
 IsMember ts = (m : Member) × SpellsMember ts m
 
+-- the list is some formals
 abbrev pub IsFormals : List Lexeme → Type 0
 IsFormals ts = (xs : List Text) × SpellsFormals ts xs
 
+-- the list is actuals in parentheses, perhaps none
 abbrev pub IsActuals : List Lexeme → Type 0
 IsActuals ts = (ts ≡ sign k.Open ∷ sign k.Close ∷ []) ⊎ ((es : List Formula) × SpellsBracketed SpellsExpr ts es)
 
+-- which lists a part stands for
 abbrev pub spelled : Sym → List Lexeme → Type 0
 spelled (single w) ts = (t : Lexeme) × (ts ≡ t ∷ []) × (is_single w (mark_of t) ≡ true)
 spelled (formula st h) ts = is_whole (machine.run st ts) ≡ true
@@ -104,6 +112,7 @@ spelled more_dots ts = (ts ≡ []) ⊎ ((us : List Lexeme) × (ts ≡ sign k.Dot
 spelled skip ts = HasNoSection ts
 spelled last_semicolon ts = (ts ≡ []) ⊎ (ts ≡ sign k.Semicolon ∷ [])
 
+-- whether it may be nothing
 abbrev pub empty : Sym → Bool
 empty (formula st h) = is_whole st
 empty modules = true
@@ -119,21 +128,26 @@ empty skip = true
 empty last_semicolon = true
 empty _ = false
 
+-- a whole expression
 abbrev pub expr : Sym
 expr = formula start refl
 
+-- an expression in this state before other parts, where it goes on
 abbrev pub live : State → List Sym → Option (List Sym)
 live stuck s = None
 live st s = Some (formula st refl ∷ s)
 
+-- nothing more, where the lexeme fits
 abbrev pub alone : Bool → Option (List Sym)
 alone true = Some []
 alone false = None
 
+-- what is passed over goes on, unless a section begins
 abbrev pub passing : Bool → Option (List Sym)
 passing true = None
 passing false = Some (skip ∷ [])
 
+-- what is still expected of a type after a mark
 abbrev pub after_type : Mark → Option (List Sym)
 after_type w_boolean = Some []
 after_type a_number = Some (single the_dots ∷ int ∷ [])
@@ -141,10 +155,12 @@ after_type s_minus = Some (single the_number ∷ single the_dots ∷ int ∷ [])
 after_type s_open_brace = Some (member ∷ more_members ∷ [])
 after_type _ = None
 
+-- the same of what a name is declared as
 abbrev pub after_declared : Mark → Option (List Sym)
 after_declared a_name = Some (actuals ∷ [])
 after_declared c = after_type c
 
+-- the same of a section by its word
 abbrev pub after_section : Mark → Option (List Sym)
 after_section w_var = Some (decls ∷ sections ∷ [])
 after_section w_ivar = Some (type_decls ∷ sections ∷ [])
@@ -158,6 +174,7 @@ after_section w_trans = Some (expr ∷ last_semicolon ∷ sections ∷ [])
 after_section w_skipped = Some (skip ∷ sections ∷ [])
 after_section _ = None
 
+-- the same of each part whose mark decides
 abbrev pub after : Sym → Mark → Option (List Sym)
 after modules w_module = Some (single the_name ∷ formals ∷ sections ∷ modules ∷ [])
 after formals s_open = Some (first_formal ∷ [])
@@ -195,6 +212,7 @@ abbrev pub after_actual : Mark → Lexeme → Option (List Sym)
 after_actual s_close t = Some []
 after_actual c t = live (machine.step start (role_of t)) (more_actuals ∷ [])
 
+-- what is still expected of a part after a lexeme
 abbrev pub next : Sym → Lexeme → Option (List Sym)
 next (single w) t = alone (is_single w (mark_of t))
 next (formula st h) t = live (machine.step st (role_of t)) []
@@ -202,25 +220,30 @@ next first_actual t = after_actual (mark_of t) t
 next skip t = passing (is_section t)
 next x t = after x (mark_of t)
 
+-- the mark may follow an expression
 abbrev pub ends_formula : Mark → Bool
 ends_formula s_semicolon = true
 ends_formula s_comma = true
 ends_formula s_close = true
 ends_formula _ = false
 
+-- the mark may follow a dotted name
 abbrev pub ends_dots : Mark → Bool
 ends_dots s_becomes = true
 ends_dots s_close = true
 ends_dots _ = false
 
+-- the mark begins a module
 abbrev pub is_word_module : Mark → Bool
 is_word_module w_module = true
 is_word_module _ = false
 
+-- the mark is a semicolon
 abbrev pub is_word_semicolon : Mark → Bool
 is_word_semicolon s_semicolon = true
 is_word_semicolon _ = false
 
+-- whether the lexeme may follow the part
 abbrev pub follow : Sym → Lexeme → Bool
 follow modules t = false
 follow sections t = is_word_module (mark_of t)
@@ -240,6 +263,7 @@ follow last_semicolon t = is_section t
 follow first_actual t = is_word_semicolon (mark_of t)
 follow _ t = true
 
+-- a lexeme of this kind
 abbrev pub shortest_single : Single → Lexeme
 shortest_single the_name = word (codes "x")
 shortest_single the_number = num 0 []
@@ -250,6 +274,7 @@ shortest_single the_open = sign k.Open
 shortest_single the_close = sign k.Close
 shortest_single the_dots = sign k.Dots
 
+-- a list that the part stands for
 abbrev pub shortest : Sym → List Lexeme
 shortest (single w) = shortest_single w ∷ []
 shortest (formula st h) = completion st
@@ -265,5 +290,6 @@ shortest more_members = sign k.CloseBrace ∷ []
 shortest more_constants = sign k.Semicolon ∷ []
 shortest _ = []
 
+-- the grammar of programs
 abbrev pub programs : Grammar Sym
 programs = record { Spelled = spelled; empty = empty; next = next; follow = follow; shortest = shortest }

@@ -13,6 +13,7 @@ use Rattle.xs_expression_reader.specs.Predict.{taken}
 use Rattle.xs_expression_reader.specs.Marks.{Mark}
 use Rattle.xs_parse.specs.ProgramRead as read
 
+-- each symbol of the code, by its name in the grammar
 abbrev pub symbol_view : Symbol → read.Sym
 symbol_view s.Name = read.single read.the_name
 symbol_view s.Number = read.single read.the_number
@@ -50,6 +51,7 @@ abbrev pub symbols_onto : List read.Sym → List Symbol → List read.Sym
 symbols_onto syms [] = syms
 symbols_onto syms (x ∷ xs) = symbols_onto (symbol_view x ∷ syms) xs
 
+-- the stack of a vector of symbols
 unfoldable pub symbols_of : List Symbol → List read.Sym
 symbols_of xs = symbols_onto [] xs
 
@@ -68,6 +70,7 @@ abbrev pub position_view : Position → List Frame → List read.Sym → Option 
 position_view p.Between frames syms = Some syms
 position_view (p.Inside mode) frames syms = read.live (state_with mode frames) syms
 
+-- the same after a step, where the list went on
 abbrev pub after_view : Option Position → List Frame → List read.Sym → Option (List read.Sym)
 after_view None frames syms = None
 after_view (Some position) frames syms = position_view position frames syms
@@ -77,6 +80,7 @@ abbrev pub Taken : Option Position → Option (List read.Sym) → List read.Sym 
 Taken None o old frames new = (o ≡ None) × (new ≡ old) × (frames ≡ [])
 Taken (Some position) o old frames new = position_view position frames new ≡ taken read.Sym read.programs o old None
 
+-- between expressions, where the list goes on
 abbrev pub between_view : Bool → Option Position
 between_view true = Some p.Between
 between_view false = None

@@ -11,6 +11,8 @@ use crate::symbols::{Symbol, Symbols};
 use xs_expression_reader::mark::Mark;
 use xs_value::OutOfMemory;
 
+// Parts that are one token: whether the mark is that of the token.
+
 fn is_name(mark: Mark) -> bool
     ensures { result ≡ read.is_single read.the_name (mark_view mark) }
 {
@@ -83,6 +85,7 @@ fn is_dots(mark: Mark) -> bool
     }
 }
 
+/// Modules: one with its name, formals and sections, and more modules.
 fn after_modules(symbols: &mut Symbols, mark: Mark) -> Result<bool, OutOfMemory>
     ensures { IfOk result (λ on. Chosen on (read.after read.modules (mark_view mark)) symbols.old symbols.new) }
 {
@@ -97,6 +100,7 @@ fn after_modules(symbols: &mut Symbols, mark: Mark) -> Result<bool, OutOfMemory>
     }
 }
 
+/// The formals of a module, where a parenthesis opens them.
 fn after_formals(symbols: &mut Symbols, mark: Mark) -> Result<bool, OutOfMemory>
     ensures { IfOk result (λ on. Chosen on (read.after read.formals (mark_view mark)) symbols.old symbols.new) }
 {
@@ -106,6 +110,7 @@ fn after_formals(symbols: &mut Symbols, mark: Mark) -> Result<bool, OutOfMemory>
     }
 }
 
+/// The first formal, or the parenthesis that closes none.
 fn after_first_formal(symbols: &mut Symbols, mark: Mark) -> Result<bool, OutOfMemory>
     ensures { IfOk result (λ on. Chosen on (read.after read.first_formal (mark_view mark)) symbols.old symbols.new) }
 {
@@ -116,6 +121,7 @@ fn after_first_formal(symbols: &mut Symbols, mark: Mark) -> Result<bool, OutOfMe
     }
 }
 
+/// Behind a formal: a comma and one more, or the parenthesis that closes them.
 fn after_more_formals(symbols: &mut Symbols, mark: Mark) -> Result<bool, OutOfMemory>
     ensures { IfOk result (λ on. Chosen on (read.after read.more_formals (mark_view mark)) symbols.old symbols.new) }
 {
@@ -126,6 +132,7 @@ fn after_more_formals(symbols: &mut Symbols, mark: Mark) -> Result<bool, OutOfMe
     }
 }
 
+/// A section by its word, and more sections.
 fn after_section(symbols: &mut Symbols, mark: Mark) -> Result<bool, OutOfMemory>
     ensures { IfOk result (λ on. Chosen on (read.after_section (mark_view mark)) symbols.old symbols.new) }
 {
@@ -144,6 +151,7 @@ fn after_section(symbols: &mut Symbols, mark: Mark) -> Result<bool, OutOfMemory>
     }
 }
 
+/// A declaration of a variable or an instance, and more of them.
 fn after_decls(symbols: &mut Symbols, mark: Mark) -> Result<bool, OutOfMemory>
     ensures { IfOk result (λ on. Chosen on (read.after read.decls (mark_view mark)) symbols.old symbols.new) }
 {
@@ -158,6 +166,7 @@ fn after_decls(symbols: &mut Symbols, mark: Mark) -> Result<bool, OutOfMemory>
     }
 }
 
+/// A declaration of a variable, and more of them.
 fn after_type_decls(symbols: &mut Symbols, mark: Mark) -> Result<bool, OutOfMemory>
     ensures { IfOk result (λ on. Chosen on (read.after read.type_decls (mark_view mark)) symbols.old symbols.new) }
 {
@@ -172,6 +181,7 @@ fn after_type_decls(symbols: &mut Symbols, mark: Mark) -> Result<bool, OutOfMemo
     }
 }
 
+/// A type: `boolean`, a range, or members in braces.
 fn after_type(symbols: &mut Symbols, mark: Mark) -> Result<bool, OutOfMemory>
     ensures { IfOk result (λ on. Chosen on (read.after_type (mark_view mark)) symbols.old symbols.new) }
 {
@@ -184,6 +194,7 @@ fn after_type(symbols: &mut Symbols, mark: Mark) -> Result<bool, OutOfMemory>
     }
 }
 
+/// A module with its actuals, or a type.
 fn after_declared(symbols: &mut Symbols, mark: Mark) -> Result<bool, OutOfMemory>
     ensures { IfOk result (λ on. Chosen on (read.after_declared (mark_view mark)) symbols.old symbols.new) }
 {
@@ -193,6 +204,7 @@ fn after_declared(symbols: &mut Symbols, mark: Mark) -> Result<bool, OutOfMemory
     }
 }
 
+/// The actuals of an instance, where a parenthesis opens them.
 fn after_actuals(symbols: &mut Symbols, mark: Mark) -> Result<bool, OutOfMemory>
     ensures { IfOk result (λ on. Chosen on (read.after read.actuals (mark_view mark)) symbols.old symbols.new) }
 {
@@ -202,6 +214,7 @@ fn after_actuals(symbols: &mut Symbols, mark: Mark) -> Result<bool, OutOfMemory>
     }
 }
 
+/// Behind an actual: a comma and one more, or the parenthesis that closes them.
 fn after_more_actuals(symbols: &mut Symbols, mark: Mark) -> Result<bool, OutOfMemory>
     ensures { IfOk result (λ on. Chosen on (read.after read.more_actuals (mark_view mark)) symbols.old symbols.new) }
 {
@@ -212,6 +225,7 @@ fn after_more_actuals(symbols: &mut Symbols, mark: Mark) -> Result<bool, OutOfMe
     }
 }
 
+/// A number, with a minus or without.
 fn after_int(symbols: &mut Symbols, mark: Mark) -> Result<bool, OutOfMemory>
     ensures { IfOk result (λ on. Chosen on (read.after read.int (mark_view mark)) symbols.old symbols.new) }
 {
@@ -222,6 +236,7 @@ fn after_int(symbols: &mut Symbols, mark: Mark) -> Result<bool, OutOfMemory>
     }
 }
 
+/// A member of a type: a symbol or a number.
 fn after_member(symbols: &mut Symbols, mark: Mark) -> Result<bool, OutOfMemory>
     ensures { IfOk result (λ on. Chosen on (read.after read.member (mark_view mark)) symbols.old symbols.new) }
 {
@@ -233,6 +248,7 @@ fn after_member(symbols: &mut Symbols, mark: Mark) -> Result<bool, OutOfMemory>
     }
 }
 
+/// Behind a member: a comma and one more, or the brace that closes them.
 fn after_more_members(symbols: &mut Symbols, mark: Mark) -> Result<bool, OutOfMemory>
     ensures { IfOk result (λ on. Chosen on (read.after read.more_members (mark_view mark)) symbols.old symbols.new) }
 {
@@ -243,6 +259,7 @@ fn after_more_members(symbols: &mut Symbols, mark: Mark) -> Result<bool, OutOfMe
     }
 }
 
+/// A define, and more of them.
 fn after_defines(symbols: &mut Symbols, mark: Mark) -> Result<bool, OutOfMemory>
     ensures { IfOk result (λ on. Chosen on (read.after read.defines (mark_view mark)) symbols.old symbols.new) }
 {
@@ -257,6 +274,7 @@ fn after_defines(symbols: &mut Symbols, mark: Mark) -> Result<bool, OutOfMemory>
     }
 }
 
+/// Behind a constant: a comma and one more, or the semicolon that ends them.
 fn after_more_constants(symbols: &mut Symbols, mark: Mark) -> Result<bool, OutOfMemory>
     ensures { IfOk result (λ on. Chosen on (read.after read.more_constants (mark_view mark)) symbols.old symbols.new) }
 {
@@ -267,6 +285,7 @@ fn after_more_constants(symbols: &mut Symbols, mark: Mark) -> Result<bool, OutOf
     }
 }
 
+/// An assignment, for all moments, the first or the next ones, and more of them.
 fn after_assigns(symbols: &mut Symbols, mark: Mark) -> Result<bool, OutOfMemory>
     ensures { IfOk result (λ on. Chosen on (read.after read.assigns (mark_view mark)) symbols.old symbols.new) }
 {
@@ -302,6 +321,7 @@ fn after_assigns(symbols: &mut Symbols, mark: Mark) -> Result<bool, OutOfMemory>
     }
 }
 
+/// Behind a name: a dot and one more.
 fn after_more_dots(symbols: &mut Symbols, mark: Mark) -> Result<bool, OutOfMemory>
     ensures { IfOk result (λ on. Chosen on (read.after read.more_dots (mark_view mark)) symbols.old symbols.new) }
 {
@@ -311,6 +331,7 @@ fn after_more_dots(symbols: &mut Symbols, mark: Mark) -> Result<bool, OutOfMemor
     }
 }
 
+/// The semicolon of a formula, which may be left out.
 fn after_last_semicolon(symbols: &mut Symbols, mark: Mark) -> Result<bool, OutOfMemory>
     ensures { IfOk result (λ on. Chosen on (read.after read.last_semicolon (mark_view mark)) symbols.old symbols.new) }
 {

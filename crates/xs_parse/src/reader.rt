@@ -1,4 +1,4 @@
-// The call: tokens, then how far they can be read, then the program.
+// The call `program`: tokens, then how far they can be read, then the program.
 ghost use Rattle.std.specs.Prelude.{◌≡◌, ◌<◌, ◌^◌, List, IfOk, IfErr, length};
 ghost use Rattle.xs_lexer.specs.declared.token.Token.{Token};
 ghost use Rattle.xs_lexer.specs.Tokens.{HasTokens};

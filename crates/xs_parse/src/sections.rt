@@ -57,6 +57,7 @@ fn names(alloc: Global, cursor: &mut Cursor) -> Result<NameList, BuildFault>
     Ok(names)
 }
 
+/// A symbol or a number.
 fn member(alloc: Global, cursor: &mut Cursor) -> Result<Member, BuildFault>
     ensures ok { IfOk result (λ v. part.member_at cursor.old ≡ got v cursor.new) }
     ensures deep { result ≡ Err stop.TooDeep → part.member_at cursor.old ≡ deep }
@@ -99,6 +100,7 @@ fn braced(alloc: Global, cursor: &mut Cursor) -> Result<Declared, BuildFault>
     Ok(Declared::Members(members))
 }
 
+/// Two numbers with dots between.
 fn range(cursor: &mut Cursor) -> Result<Declared, BuildFault>
     ensures ok { IfOk result (λ v. part.range_at cursor.old ≡ got (declared_tree v) cursor.new) }
     ensures deep { result ≡ Err stop.TooDeep → part.range_at cursor.old ≡ deep }
@@ -110,6 +112,7 @@ fn range(cursor: &mut Cursor) -> Result<Declared, BuildFault>
     Ok(Declared::Range(lo, hi))
 }
 
+/// The type of a variable.
 fn type_of(alloc: Global, cursor: &mut Cursor) -> Result<Declared, BuildFault>
     ensures ok { IfOk result (λ v. part.type_at cursor.old ≡ got (declared_tree v) cursor.new) }
     ensures deep { result ≡ Err stop.TooDeep → part.type_at cursor.old ≡ deep }
@@ -174,6 +177,7 @@ fn bracketed_actuals(alloc: Global, cursor: &mut Cursor) -> Result<ExprList<Dott
     }
 }
 
+/// A module, and its actuals where there are any.
 fn instance(alloc: Global, cursor: &mut Cursor) -> Result<Declared, BuildFault>
     ensures ok { IfOk result (λ v. part.instance_at cursor.old ≡ got (declared_tree v) cursor.new) }
     ensures deep { result ≡ Err stop.TooDeep → part.instance_at cursor.old ≡ deep }
@@ -184,6 +188,7 @@ fn instance(alloc: Global, cursor: &mut Cursor) -> Result<Declared, BuildFault>
     Ok(Declared::Instance(module, actuals))
 }
 
+/// What a name is declared as: an instance, where a name follows, or else a variable by its type.
 fn declared(alloc: Global, cursor: &mut Cursor) -> Result<Declared, BuildFault>
     ensures ok { IfOk result (λ v. part.declared_at cursor.old ≡ got (declared_tree v) cursor.new) }
     ensures deep { result ≡ Err stop.TooDeep → part.declared_at cursor.old ≡ deep }
@@ -267,6 +272,7 @@ fn value(alloc: Global, cursor: &mut Cursor) -> Result<Expr<Dotted>, BuildFault>
     Ok(value)
 }
 
+/// A name and its value.
 fn define(alloc: Global, cursor: &mut Cursor) -> Result<Define, BuildFault>
     ensures ok { IfOk result (λ v. part.define_at cursor.old ≡ got (define_tree v) cursor.new) }
     ensures deep { result ≡ Err stop.TooDeep → part.define_at cursor.old ≡ deep }
@@ -278,6 +284,7 @@ fn define(alloc: Global, cursor: &mut Cursor) -> Result<Define, BuildFault>
     Ok(Define { name, value })
 }
 
+/// The defines of a section.
 fn defines(alloc: Global, cursor: &mut Cursor) -> Result<DefineList, BuildFault>
     ensures ok { IfOk result (λ v. part.defines_at cursor.old ≡ got (map define_tree v) cursor.new) }
     ensures deep { result ≡ Err stop.TooDeep → part.defines_at cursor.old ≡ deep }
@@ -331,6 +338,7 @@ fn moment(cursor: &mut Cursor) -> Moment
     }
 }
 
+/// What is assigned: a name, and in parentheses where it is for the first moment or the next ones.
 fn target(alloc: Global, cursor: &mut Cursor, when: Moment) -> Result<Dotted, BuildFault>
     ensures ok { IfOk result (λ v. part.target_at when cursor.old ≡ got v cursor.new) }
     ensures deep { result ≡ Err stop.TooDeep → part.target_at when cursor.old ≡ deep }
@@ -343,6 +351,7 @@ fn target(alloc: Global, cursor: &mut Cursor, when: Moment) -> Result<Dotted, Bu
     }
 }
 
+/// A target and its value.
 fn assignment(alloc: Global, cursor: &mut Cursor) -> Result<Assignment, BuildFault>
     ensures ok { IfOk result (λ v. part.assignment_at cursor.old ≡ got (assignment_tree v) cursor.new) }
     ensures deep { result ≡ Err stop.TooDeep → part.assignment_at cursor.old ≡ deep }
@@ -359,12 +368,14 @@ fn assignment(alloc: Global, cursor: &mut Cursor) -> Result<Assignment, BuildFau
     })
 }
 
+/// Whether an assignment begins here.
 fn begins_assignment(cursor: &Cursor) -> bool
     ensures { result ≡ part.begins_assignment cursor.now }
 {
     cursor.is_next(Mark::Name) || cursor.is_next(Mark::First) || cursor.is_next(Mark::After)
 }
 
+/// The assignments of a section.
 fn assignments(alloc: Global, cursor: &mut Cursor) -> Result<AssignList, BuildFault>
     ensures ok { IfOk result (λ v. part.assigns_at cursor.old ≡ got (map assignment_tree v) cursor.new) }
     ensures deep { result ≡ Err stop.TooDeep → part.assigns_at cursor.old ≡ deep }
@@ -381,6 +392,7 @@ fn assignments(alloc: Global, cursor: &mut Cursor) -> Result<AssignList, BuildFa
     Ok(list)
 }
 
+/// One or more names, and the semicolon behind them.
 fn constants(alloc: Global, cursor: &mut Cursor) -> Result<NameList, BuildFault>
     ensures ok { IfOk result (λ v. part.constants_at cursor.old ≡ got v cursor.new) }
     ensures deep { result ≡ Err stop.TooDeep → part.constants_at cursor.old ≡ deep }
@@ -436,6 +448,7 @@ fn section(alloc: Global, cursor: &mut Cursor, word: Mark) -> Result<Section, Bu
     }
 }
 
+/// Whether the mark is the word of a section that is kept.
 fn begins_section(mark: Mark) -> bool
     ensures { result ≡ part.is_kept (mark_view mark) }
 {
@@ -521,6 +534,7 @@ fn module(alloc: Global, cursor: &mut Cursor) -> Result<Module, BuildFault>
     })
 }
 
+/// The modules of a program, in written order.
 fn modules(alloc: Global, cursor: &mut Cursor) -> Result<ModuleList, BuildFault>
     ensures ok { IfOk result (λ v. part.program_at cursor.old ≡ got (map module_tree v) cursor.new) }
     ensures deep { result ≡ Err stop.TooDeep → part.program_at cursor.old ≡ deep }

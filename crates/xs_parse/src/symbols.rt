@@ -1,4 +1,4 @@
-// What is still expected of a program: a stack of parts of the grammar.
+// What is still expected of a program: `Symbols`, a stack of parts of the grammar, the next one on top.
 ghost use Rattle.std.specs.Prelude.{◌≡◌, ◌∷◌, [], OnOk, IfOk, IfSome, None, Some, map};
 ghost use Rattle.xs_parse.specs.ProgramRead as read;
 ghost use Rattle.xs_parse.specs.Symbols.{symbol_view, Chosen};

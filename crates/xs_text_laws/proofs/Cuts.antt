@@ -2,11 +2,9 @@
 use Rattle.std.proofs.Common.{◌≡◌, ◌⊎◌, inl, inr, ℕ, Bool, true, false, nat_eq, List, [], ◌∷◌, ◌++◌, refl, sym, ◌∙◌, ap, append_assoc, eq-eqb, eqb-true}
 use Rattle.std.specs.List.{AllByRecursion}
 use Rattle.xs_text_laws.specs.Lines.{Line, fed, IsLine}
+pub use Rattle.xs_text_laws.proofs.Separators.{grouped}
 use Rattle.xs_text_laws.proofs.Separators.{no_separator, comparable}
 use Rattle.std.proofs.lemmas.List.{append-nil as append_none}
-
-pub grouped : (z : Line) (zs : List Line) (m : List ℕ) → fed (z ∷ zs) ++ m ≡ z ++ 10 ∷ (fed zs ++ m)
-grouped z zs m = append_assoc (z ++ 10 ∷ []) (fed zs) m ∙ append_assoc z (10 ∷ []) (fed zs ++ m)
 
 -- a line is no line with its feed and more
 pub no_feed : (t z : Line) (zs : List Line) (m : List ℕ) → IsLine t → t ≡ fed (z ∷ zs) ++ m → ⊥

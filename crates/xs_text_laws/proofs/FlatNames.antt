@@ -1,6 +1,6 @@
 -- The variables of the flat model of a program that can be written have names and types that can be written, and no two
 -- have one place and name.
-use Rattle.std.proofs.Common.{◌≡◌, ℕ, zero, suc, ◌+◌, pos, List, [], ◌∷◌, ◌++◌, length, Some, refl, sym, ◌∙◌, ap, subst, arith, reverse}
+use Rattle.std.proofs.Common.{◌≡◌, ℕ, zero, suc, ◌+◌, pos, List, [], ◌∷◌, length, Some, refl, sym, ◌∙◌, ap, subst, arith, reverse}
 use Rattle.std.specs.Prelude.{slice_get, flat_map, map}
 use mathlib.Core.List.{reverse_aux}
 use Rattle.xs_tree.specs.ProgramTree.{Text, Path, DeclaredTree, boolean, range, members, instance, DeclTree, SectionTree, var, ivar, frozen, define, constants, assign, init, invar, trans, ModuleTree, ProgramTree}

@@ -1,17 +1,15 @@
 -- The flat model of a program has the symbols of its types.
-use Rattle.std.proofs.Common.{◌≡◌, ◌⊎◌, inl, inr, ℕ, zero, suc, Bool, true, false, ◌||◌, List, [], ◌∷◌, ◌++◌, Some, refl, sym, ◌∙◌, ap, subst}
-use Rattle.std.specs.Prelude.{slice_get, flat_map, if◌then◌else◌, IsTrue}
+use Rattle.std.proofs.Common.{◌≡◌, ◌⊎◌, inl, inr, zero, suc, Bool, true, false, ◌||◌, List, [], ◌∷◌, ◌++◌, Some, refl, sym, ap, subst}
+use Rattle.std.specs.Prelude.{flat_map, if◌then◌else◌, IsTrue}
 use Rattle.xs_tree.specs.declared.program.Member.{Member}
 use Rattle.xs_tree.specs.declared.program.Member.TheVariants as member
-use Rattle.xs_tree.specs.ProgramTree.{Text, DeclaredTree, boolean, range, members, instance, ModuleTree, ProgramTree}
+use Rattle.xs_tree.specs.ProgramTree.{Text, DeclaredTree, boolean, range, members, instance, ModuleTree}
 use Rattle.xs_tree.specs.Texts.{same_text, is_among}
 use Rattle.xs_tree.specs.Trace.{IsVariable, in_domain, is_member}
 use Rattle.xs_tree.specs.Values.{symbol}
 use Rattle.xs_tree.proofs.ValueLaws.{same_text_equal}
-use Rattle.xs_tree.specs.Flat.{FlatVariable, FlatModel}
 use Rattle.xs_flat_laws.specs.Items.{a_declaration, items_of}
-use Rattle.xs_flat_laws.specs.Model.{symbols_of_members, symbols_of_type, symbols_of_item, first_appearances, symbols_of, IsFlatOf}
-use Rattle.xs_flat_laws.specs.Rules.{IsAccepted}
+use Rattle.xs_flat_laws.specs.Model.{symbols_of_members, symbols_of_type, symbols_of_item, first_appearances}
 use Rattle.xs_flat_laws.proofs.Places.{In, in_left, in_right, in_flat}
 use Rattle.xs_flat_laws.proofs.Variables.{DeclaredAs}
 use Rattle.xs_text_laws.specs.Laws.{FlatModelsHaveSymbols}

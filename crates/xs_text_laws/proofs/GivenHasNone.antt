@@ -1,5 +1,5 @@
 -- Nothing is wrong with a text that gives a trace.
-use Rattle.std.proofs.Common.{◌≡◌, ◌≢◌, ◌⊎◌, inl, inr, ℕ, zero, suc, ◌<◌, ◌≤◌, Bool, true, false, nat_eq, List, [], ◌∷◌, ◌++◌, refl, sym, ◌∙◌, ap, subst, arith, append_assoc, Some, None, eqb-true}
+use Rattle.std.proofs.Common.{◌≡◌, ◌≢◌, ◌⊎◌, inl, inr, ℕ, zero, suc, ◌<◌, ◌≤◌, Bool, true, false, nat_eq, List, [], ◌∷◌, ◌++◌, refl, sym, ◌∙◌, ap, subst, arith, append_assoc, Some, eqb-true}
 use Rattle.std.proofs.lemmas.Bool.Decides.{nat_tests}
 use Rattle.std.specs.Prelude.{slice_get, IsTrue}
 use Rattle.std.specs.List.{AllByRecursion}
@@ -14,11 +14,12 @@ use Rattle.xs_text_laws.specs.Given.{IsLineWord, IsPrintable, SaysOf, StandsOnce
 use Rattle.xs_text_laws.specs.Wrong.{LineFault, bad_line, unknown_name, outside, twice, moments_after, IsEquation, WasSaid, Breaks, AreSound, Lacks, wrong_line, missing_value}
 use Rattle.xs_text_laws.specs.Laws.{GivenHasNone}
 use Rattle.xs_text_laws.proofs.Plain.{value_word}
-use Rattle.xs_text_laws.proofs.OneTrace.{HasNoMoment, head_of, tail_of, both_of, no_items, some_moment, no_moment, same_equation, equation_some, in_domain_at, plain_at, own_lines}
+use Rattle.xs_text_laws.proofs.OneTrace.{HasNoMoment, no_items, some_moment, no_moment, same_equation, equation_some, in_domain_at, plain_at, own_lines}
 use Rattle.xs_text_laws.proofs.OneFault.{empty_breaks, sound_not_wrong, empty_lines, no_moments}
 use Rattle.xs_text_laws.proofs.Moments.{next_begins, after_both, none_begins, front_fewer}
 use Rattle.std.proofs.lemmas.List.{append-nil as append_none}
-use Rattle.std.proofs.lemmas.Option.{same_Some as some_same}
+use Rattle.std.proofs.lemmas.Option.{same_Some as some_same, none-some as never}
+use Rattle.xs_text_laws.proofs.Separators.{head_of, tail_of, both_of, all_at, all_front}
 
 -- nothing is wrong with the lines, after others
 abbrev pub SoundFrom : FlatModel → List Line → List Line → Type 0
@@ -56,14 +57,6 @@ moment_sound m done n e bad_line b = b.1 (ap moment_line (sym e))
 moment_sound m done n e unknown_name b = no_moment b.0 b.1 n b.2.name_word (sym b.2.is_line)
 moment_sound m done n e outside b = no_moment b.0 b.1 n b.2.name_word (sym b.2.is_line)
 moment_sound m done n e twice b = no_moment b.0 b.1 n b.2.name_word (sym b.2.is_line)
-
-all_at : {A : Type 0} (P : A → Type 0) (xs : List A) (x : A) (ys : List A) → AllByRecursion P (xs ++ x ∷ ys) → P x
-all_at P [] x ys h = h.0
-all_at P (y ∷ xs) x ys h = all_at P xs x ys h.1
-
-all_front : {A : Type 0} (P : A → Type 0) (xs ys : List A) → AllByRecursion P (xs ++ ys) → AllByRecursion P xs
-all_front P [] ys h = tt
-all_front P (x ∷ xs) ys h = (h.0, all_front P xs ys h.1)
 
 -- a line that stands at one place does not stand at two
 at_two : (l : Line) (own : List Line) → StandsOnce l own → (xs ys zs : List Line) → own ≡ xs ++ l ∷ (ys ++ l ∷ zs) → ⊥
@@ -184,9 +177,6 @@ moments_sound m p done n lines (v ∷ trace) e g =
 -- Each variable has a value in each moment.
 pub value_there : (xs : List FlatVariable) (v : List Value) (i : ℕ) (x : FlatVariable) → AreInDomains xs v → slice_get xs i ≡ Some x → (w : Value) × (slice_get v i ≡ Some w)
 value_there [] v i x d e = absurd (never x e)
-  where
-    never : {A : Type 0} (x : A) → None ≡ Some x → ⊥
-    never x e = cc
 value_there (y ∷ xs) [] i x d e = absurd d
 value_there (y ∷ xs) (u ∷ v) zero x d e = (u, refl)
 value_there (y ∷ xs) (u ∷ v) (suc i) x d e = value_there xs v i x d.1 e

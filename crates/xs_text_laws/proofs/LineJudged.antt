@@ -1,5 +1,5 @@
 -- Each line is sound after the lines before it, or something is wrong with it.
-use Rattle.std.proofs.Common.{◌≡◌, ◌≢◌, ◌⊎◌, inl, inr, ℕ, zero, suc, ◌<◌, ◌≤◌, ◌-◌, Bool, true, false, nat_eq, List, [], ◌∷◌, ◌++◌, refl, sym, ◌∙◌, ap, subst, arith, append_assoc, Some, None, eqb-true, eq-eqb, ℤ, pos, negsuc}
+use Rattle.std.proofs.Common.{◌≡◌, ◌≢◌, ◌⊎◌, inl, inr, ℕ, zero, suc, ◌<◌, ◌≤◌, ◌-◌, Bool, true, false, nat_eq, List, [], ◌∷◌, ◌++◌, refl, sym, ◌∙◌, ap, subst, arith, append_assoc, Some, eqb-true, eq-eqb, ℤ, pos, negsuc}
 use Rattle.std.specs.Prelude.{slice_get, IsTrue}
 use Rattle.std.specs.List.{AllByRecursion}
 use Rattle.std.specs.Fmt.{decimal, signed_decimal}
@@ -14,15 +14,15 @@ use Rattle.xs_tree.specs.Trace.{in_domain}
 use Rattle.xs_tree.specs.WritableProgram.{IsWritableType}
 use Rattle.xs_tree.specs.Flat.{FlatVariable, FlatModel}
 use Rattle.xs_text_laws.specs.Lines.{Line, IsLine}
-use Rattle.xs_text_laws.proofs.Separators.{IsFree, same_front, no_separator}
+use Rattle.xs_text_laws.proofs.Separators.{IsFree, same_front, no_separator, head_of, tail_of, both_of}
 use Rattle.xs_text_laws.specs.TraceText.{value_text, variable_text, moment_line, equation, value_line}
 use Rattle.xs_text_laws.specs.Given.{IsLineWord, IsPrintable}
 use Rattle.xs_text_laws.specs.Wrong.{LineFault, bad_line, unknown_name, outside, twice, number_of, moments_after, IsEquation, IsNameIn, WasSaid, Breaks, IsLeast}
 use Rattle.xs_text_laws.proofs.Plain.{IsPlain, value_word, domain_plain, same_text_then, decimal_digits}
-use Rattle.xs_text_laws.proofs.OneTrace.{head_of, tail_of, both_of, no_items, same_equation}
+use Rattle.xs_text_laws.proofs.OneTrace.{no_items, same_equation}
 use Rattle.xs_text_laws.proofs.OneFault.{empty_breaks}
 use Rattle.xs_text_laws.proofs.GivenHasNone.{moment_sound}
-use Rattle.std.proofs.lemmas.Option.{same_Some as some_same}
+use Rattle.std.proofs.lemmas.Option.{same_Some as some_same, none-some as never}
 use Rattle.xs_tree.proofs.ValueLaws.{same_text_refl as same_text_itself}
 
 -- it is so, or it is not
@@ -121,9 +121,6 @@ record NameAt (xs : List FlatVariable) (name : Line) : Type 0 where
 
 name_at : (xs : List FlatVariable) (name : Line) → Decided (NameAt xs name)
 name_at [] name = inr (λ h. never h.variable h.is_variable)
-  where
-    never : {A : Type 0} (x : A) → None ≡ Some x → ⊥
-    never x e = cc
 name_at (x ∷ xs) name = by_test (same_or_not (variable_text x) name) (name_at xs name)
   where
     some_same : {A : Type 0} (x y : A) → Some x ≡ Some y → x ≡ y

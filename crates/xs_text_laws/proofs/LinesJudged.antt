@@ -3,7 +3,7 @@ use Rattle.std.proofs.Common.{◌≡◌, ◌⊎◌, inl, inr, ℕ, suc, List, []
 use Rattle.std.specs.List.{AllByRecursion}
 use Rattle.xs_tree.specs.Flat.{FlatModel}
 use Rattle.xs_text_laws.specs.Lines.{Line, fed, IsLine}
-use Rattle.xs_text_laws.proofs.Cuts.{Cut, cut, fed_joined, grouped}
+use Rattle.xs_text_laws.proofs.Cuts.{Cut, cut, fed_joined}
 use Rattle.xs_text_laws.specs.Given.{IsPrintable}
 use Rattle.xs_text_laws.specs.Wrong.{LineFault, bad_line, AreSound, IsLeast, IsWrongLine}
 use Rattle.xs_text_laws.specs.Laws.{LinesAreJudged}
@@ -11,6 +11,7 @@ use Rattle.xs_text_laws.proofs.OneTrace.{no_items}
 use Rattle.xs_text_laws.proofs.GivenHasNone.{SoundFrom, no_lines, one_more}
 use Rattle.xs_text_laws.proofs.LineJudged.{LineIs, line_sound, judge_line, AllAre, Stops}
 use Rattle.std.proofs.lemmas.List.{append-nil as append_none}
+use Rattle.xs_text_laws.proofs.Separators.{all_at, all_front, grouped}
 
 pub all_sound : (m : FlatModel) → IsPrintable m → (done lines : List Line) → AllAre m done lines → SoundFrom m done lines
 all_sound m p done [] h = no_lines m done
@@ -32,14 +33,6 @@ judge_lines m p done (l ∷ lines) h = by_line (judge_line m p done l h.0) (judg
       fault = s.fault;
       is_least = subst (λ d. IsLeast m d s.line s.fault) (append_assoc done (l ∷ []) s.front) s.is_least;
     })
-
-all_front : {A : Type 0} (P : A → Type 0) (xs ys : List A) → AllByRecursion P (xs ++ ys) → AllByRecursion P xs
-all_front P [] ys h = tt
-all_front P (x ∷ xs) ys h = (h.0, all_front P xs ys h.1)
-
-all_at : {A : Type 0} (P : A → Type 0) (xs : List A) (x : A) (ys : List A) → AllByRecursion P (xs ++ x ∷ ys) → P x
-all_at P [] x ys h = h.0
-all_at P (y ∷ xs) x ys h = all_at P xs x ys h.1
 
 -- lines that are each as they should be, or a wrong line
 pub text_lines : (m : FlatModel) → IsPrintable m → (bytes : List ℕ) → ((lines : List Line) × (bytes ≡ fed lines) × AllByRecursion IsLine lines × AllAre m [] lines) ⊎ ((f : LineFault) × (n : ℕ) × IsWrongLine m bytes f n)

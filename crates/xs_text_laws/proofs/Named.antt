@@ -1,7 +1,7 @@
 -- Names joined by dots are words, and tell paths apart.
-use Rattle.std.proofs.Common.{◌≡◌, ◌≢◌, ℕ, Bool, true, false, not, ◌&&◌, List, [], ◌∷◌, ◌++◌, refl, sym, ◌∙◌, ap, subst, arith, reverse}
+use Rattle.std.proofs.Common.{◌≡◌, ◌≢◌, ℕ, true, not, ◌&&◌, List, [], ◌∷◌, ◌++◌, refl, sym, ◌∙◌, ap, subst, arith, reverse}
 use Rattle.std.specs.Prelude.{◌==◌}
-use Rattle.std.proofs.lemmas.List.{reverse-reverse}
+use Rattle.std.proofs.lemmas.List.{reverse-reverse, append-nil}
 use Rattle.xs_lexer.specs.Bytes.{is_word_byte}
 use Rattle.xs_lexer.specs.Runs.{Runs, takes_word, ends_word}
 use Rattle.xs_lexer.specs.Tokens.{IsWord}
@@ -9,22 +9,19 @@ use Rattle.xs_tree.specs.ProgramTree.{Text, Path}
 use Rattle.xs_tree.specs.Printed.{IsName, AreNames}
 use Rattle.xs_tree.specs.Text.{each_after, dotted_text}
 use Rattle.xs_tree.specs.Flat.{FlatVariable}
-use Rattle.xs_text_laws.proofs.Separators.{IsFree, same_front, no_separator}
+use Rattle.xs_text_laws.proofs.Separators.{IsFree, same_front, no_separator, head_of, tail_of, both_of}
 use Rattle.xs_text_laws.proofs.Words.{free_joined}
+pub use Rattle.xs_text_laws.proofs.Words.{left_true}
 use Rattle.xs_text_laws.specs.Given.{IsLineWord}
 use Rattle.xs_text_laws.specs.Laws.{NamedIsPrintable}
 use Rattle.xs_text_laws.proofs.Plain.{word_word, start_word}
-use Rattle.xs_text_laws.proofs.OneTrace.{no_items, both_of, head_of, tail_of}
+use Rattle.xs_text_laws.proofs.OneTrace.{no_items}
 
 byte_no_dot : (b : ℕ) → is_word_byte b ≡ true → b ≢ 46
 byte_no_dot b h e = no_dot (subst (λ c. is_word_byte c ≡ true) e h)
   where
     no_dot : is_word_byte 46 ≡ true → ⊥
     no_dot e = cc
-
-pub left_true : (a b : Bool) → (a && b) ≡ true → a ≡ true
-left_true true b e = refl
-left_true false b e = cc
 
 run_no_dot : (bs : List ℕ) → Runs takes_word bs [] → IsFree 46 bs
 run_no_dot [] h = tt
@@ -50,16 +47,12 @@ dotted_word (x ∷ p) n h = record {
     first_none [] ys e = refl
     first_none (z ∷ xs) ys e = absurd (no_items z (xs ++ ys) (z ∷ (xs ++ ys)) e refl)
 
-append_none : (xs : List ℕ) → xs ++ [] ≡ xs
-append_none [] = refl
-append_none (x ∷ xs) = ap (λ ys. x ∷ ys) (append_none xs)
-
 same_dotted : (p q : Path) → p ≢ [] → q ≢ [] → AreNames p → AreNames q → dotted_text p ≡ dotted_text q → p ≡ q
 same_dotted [] q n k f g e = absurd (n refl)
 same_dotted (x ∷ p) [] n k f g e = absurd (k refl)
-same_dotted (x ∷ []) (y ∷ []) n k f g e = ap (λ z. z ∷ []) (sym (append_none x) ∙ e ∙ append_none y)
-same_dotted (x ∷ []) (y ∷ z ∷ q) n k f g e = absurd (no_separator 46 x y (dotted_text (z ∷ q)) (word_no_dot x f.0.1) (sym (append_none x) ∙ e))
-same_dotted (x ∷ w ∷ p) (y ∷ []) n k f g e = absurd (no_separator 46 y x (dotted_text (w ∷ p)) (word_no_dot y g.0.1) (sym (append_none y) ∙ sym e))
+same_dotted (x ∷ []) (y ∷ []) n k f g e = ap (λ z. z ∷ []) (sym (append-nil x) ∙ e ∙ append-nil y)
+same_dotted (x ∷ []) (y ∷ z ∷ q) n k f g e = absurd (no_separator 46 x y (dotted_text (z ∷ q)) (word_no_dot x f.0.1) (sym (append-nil x) ∙ e))
+same_dotted (x ∷ w ∷ p) (y ∷ []) n k f g e = absurd (no_separator 46 y x (dotted_text (w ∷ p)) (word_no_dot y g.0.1) (sym (append-nil y) ∙ sym e))
 same_dotted (x ∷ w ∷ p) (y ∷ z ∷ q) n k f g e =
     let parts : (x ≡ y) × (dotted_text (w ∷ p) ≡ dotted_text (z ∷ q)) = same_front 46 x y (dotted_text (w ∷ p)) (dotted_text (z ∷ q)) (word_no_dot x f.0.1) (word_no_dot y g.0.1) e in
     both_of x y (w ∷ p) (z ∷ q) parts.0

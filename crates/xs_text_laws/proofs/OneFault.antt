@@ -4,8 +4,8 @@ use Rattle.std.proofs.lemmas.Bool.Decides.{nat_tests}
 use Rattle.std.specs.List.{AllByRecursion}
 use Rattle.xs_tree.specs.Flat.{FlatModel}
 use Rattle.xs_text_laws.specs.Lines.{Line, fed, IsLine}
-use Rattle.xs_text_laws.proofs.Separators.{same_front, comparable}
-use Rattle.xs_text_laws.proofs.Cuts.{grouped, no_feed, same_fed}
+use Rattle.xs_text_laws.proofs.Separators.{same_front, comparable, all_at, grouped}
+use Rattle.xs_text_laws.proofs.Cuts.{no_feed, same_fed}
 use Rattle.xs_text_laws.specs.Wrong.{LineFault, bad_line, unknown_name, outside, twice, number_of, moments_after, Breaks, AreSound, IsLeast, IsWrongLine, IsBlank, Lacks, Misses, wrong_line, missing_value}
 use Rattle.xs_text_laws.specs.Laws.{OneFault}
 use Rattle.xs_text_laws.proofs.OneTrace.{equation_some}
@@ -18,13 +18,9 @@ empty_breaks m before unknown_name h = equation_some h.0 h.1 (sym h.2.is_line)
 empty_breaks m before outside h = equation_some h.0 h.1 (sym h.2.is_line)
 empty_breaks m before twice h = equation_some h.0 h.1 (sym h.2.is_line)
 
-all_in : {A : Type 0} (P : A → Type 0) (xs : List A) (x : A) (ys : List A) → AllByRecursion P (xs ++ x ∷ ys) → P x
-all_in P [] x ys h = h.0
-all_in P (y ∷ xs) x ys h = all_in P xs x ys h.1
-
 empty_sound : (m : FlatModel) (lines : List Line) → AllByRecursion (λ line. line ≡ []) lines → AreSound m lines
 empty_sound m lines h front line back f lie b =
-    empty_breaks m front f (subst (λ l. Breaks m front l f) (all_in (λ line. line ≡ []) front line back (subst (AllByRecursion (λ line. line ≡ [])) lie h)) b)
+    empty_breaks m front f (subst (λ l. Breaks m front l f) (all_at (λ line. line ≡ []) front line back (subst (AllByRecursion (λ line. line ≡ [])) lie h)) b)
 
 pub empty_lines : (lines : List Line) → AllByRecursion (λ line. line ≡ []) lines → AllByRecursion IsLine lines
 empty_lines [] h = tt

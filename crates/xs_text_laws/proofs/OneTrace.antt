@@ -8,27 +8,19 @@ use Rattle.xs_tree.specs.Trace.{in_domain}
 use Rattle.xs_tree.specs.Flat.{FlatVariable, FlatModel}
 use Rattle.xs_flat_laws.specs.FlatTrace.{AreInDomains}
 use Rattle.xs_text_laws.specs.Lines.{Line}
-use Rattle.xs_text_laws.proofs.Separators.{IsFree, same_front, no_separator}
+pub use Rattle.xs_text_laws.proofs.Separators.{head_of, tail_of, both_of}
+use Rattle.xs_text_laws.proofs.Separators.{IsFree, same_front, no_separator, all_at}
 use Rattle.xs_text_laws.proofs.Words.{free_by_test}
 use Rattle.xs_text_laws.proofs.Cuts.{same_fed}
 use Rattle.xs_text_laws.specs.TraceText.{value_text, variable_text, moment_line, equation, value_line}
 use Rattle.xs_text_laws.specs.Given.{IsLineWord, IsPrintable, SaysOf, StandsOnce, GivesMoment, GivesMoments, GivesTrace}
 use Rattle.xs_text_laws.specs.Laws.{OneTrace}
 use Rattle.xs_text_laws.proofs.Plain.{IsPlain, same_value_text, domain_plain, decimal_free}
-use Rattle.std.proofs.lemmas.Option.{same_Some as some_same}
+use Rattle.std.proofs.lemmas.Option.{same_Some as some_same, none-some as never}
 
 -- Lines.
 pub no_items : {A : Type 0} (x : A) (xs ys : List A) → ys ≡ [] → ys ≡ x ∷ xs → ⊥
 no_items {A = A} x xs ys e f = let bad : length {A = A} [] ≡ length (x ∷ xs) = ap (length {A = A}) (sym e ∙ f) in omega (arith, bad)
-
-pub head_of : {A : Type 0} (x y : A) (xs ys : List A) → (x ∷ xs) ≡ (y ∷ ys) → x ≡ y
-head_of x y xs ys e = cc
-
-pub tail_of : {A : Type 0} (x y : A) (xs ys : List A) → (x ∷ xs) ≡ (y ∷ ys) → xs ≡ ys
-tail_of x y xs ys e = cc
-
-pub both_of : {A : Type 0} (x y : A) (xs ys : List A) → x ≡ y → xs ≡ ys → (x ∷ xs) ≡ (y ∷ ys)
-both_of x y xs ys e f = cc
 
 pub some_moment : (n : ℕ) → moment_line n ≢ []
 some_moment n e = no_items 109 (codes "oment " ++ decimal n) (moment_line n) e refl
@@ -51,20 +43,11 @@ same_equation a b c d f g e =
 by_places : {A : Type 0} (xs ys : List A) → ((i : ℕ) → slice_get xs i ≡ slice_get ys i) → xs ≡ ys
 by_places [] [] h = refl
 by_places [] (y ∷ ys) h = absurd (never y (h 0))
-  where
-    never : {A : Type 0} (x : A) → None ≡ Some x → ⊥
-    never x e = cc
 by_places (x ∷ xs) [] h = absurd (never x (sym (h 0)))
-  where
-    never : {A : Type 0} (x : A) → None ≡ Some x → ⊥
-    never x e = cc
 by_places (x ∷ xs) (y ∷ ys) h = both_of x y xs ys (some_same x y (h 0)) (by_places xs ys (λ i. h (suc i)))
 
 pub in_domain_at : (xs : List FlatVariable) (v : List Value) (i : ℕ) (x : FlatVariable) (w : Value) → AreInDomains xs v → slice_get xs i ≡ Some x → slice_get v i ≡ Some w → IsTrue (in_domain x.declared w)
 in_domain_at [] v i x w d e f = absurd (never x e)
-  where
-    never : {A : Type 0} (x : A) → None ≡ Some x → ⊥
-    never x e = cc
 in_domain_at (y ∷ xs) [] i x w d e f = absurd d
 in_domain_at (y ∷ xs) (u ∷ v) zero x w d e f = subst (λ t. IsTrue (in_domain t.declared w)) (some_same y x e) (subst (λ t. IsTrue (in_domain y.declared t)) (some_same u w f) d.0)
 in_domain_at (y ∷ xs) (u ∷ v) (suc i) x w d e f = in_domain_at xs v i x w d.1 e f
@@ -84,10 +67,6 @@ at_place (x ∷ xs) (w ∷ v) (suc i) d = later (at_place xs v i d.1)
     later : At xs v i → At (x ∷ xs) (w ∷ v) (suc i)
     later (here y u e f) = here y u e f
     later (none e f) = none e f
-
-all_at : {A : Type 0} (P : A → Type 0) (xs : List A) (x : A) (ys : List A) → AllByRecursion P (xs ++ x ∷ ys) → P x
-all_at P [] x ys h = h.0
-all_at P (y ∷ xs) x ys h = all_at P xs x ys h.1
 
 pub plain_at : (m : FlatModel) → IsPrintable m → (v : List Value) → AreInDomains m.variables v → (i : ℕ) (x : FlatVariable) (w : Value) → slice_get m.variables i ≡ Some x → slice_get v i ≡ Some w → IsPlain w
 plain_at m p v d i x w e f = domain_plain x.declared w (p.types i x e) (in_domain_at m.variables v i x w d e f)
@@ -118,9 +97,6 @@ one_moment m p lines v u a b = by_places v u (λ i. at i (at_place m.variables v
         f ∙ sym (said m p v u a.domains b.domains i x w e f line)
     at i (none e f) (none g h) = f ∙ sym h
     at i (none e f) (here x w g h) = absurd (never x (sym e ∙ g))
-      where
-        never : {A : Type 0} (x : A) → None ≡ Some x → ⊥
-        never x e = cc
 
 -- Moments.
 -- no line begins a moment

@@ -13,15 +13,15 @@ use Rattle.xs_lexer.specs.Tokens.{IsWord}
 use Rattle.xs_tree.specs.declared.program.Member.{Member}
 use Rattle.xs_tree.specs.declared.program.Member.TheVariants as member
 use Rattle.xs_tree.specs.ProgramTree.{Text, DeclaredTree, boolean, range, members, instance}
-use Rattle.xs_tree.specs.Values.{Value, truth, number, symbol, at_most, opposite, same_int}
+use Rattle.xs_tree.specs.Values.{Value, truth, number, symbol, at_most, opposite, same_int, is_between}
 use Rattle.xs_tree.specs.Printed.{IsName, IsEnd}
 use Rattle.xs_tree.specs.Trace.{Each, in_domain, is_member}
 use Rattle.xs_tree.specs.WritableProgram.{IsWritableType, IsWritableMember}
 use Rattle.xs_tree.specs.Lexemes.{is_reserved}
-use Rattle.xs_tree.specs.Values.{is_between}
 use Rattle.xs_tree.specs.Texts.{same_text}
 use Rattle.xs_text_laws.proofs.Separators.{IsFree}
-use Rattle.xs_text_laws.proofs.Words.{free_by_test}
+use Rattle.xs_text_laws.proofs.Words.{free_by_test, left_true}
+pub use Rattle.xs_text_laws.proofs.Words.{right_true}
 use Rattle.xs_text_laws.specs.TraceText.{value_text}
 use Rattle.xs_text_laws.specs.Given.{IsLineWord}
 use Rattle.xs_tree.proofs.ValueLaws.{same_int_equal as same_int_then}
@@ -104,14 +104,6 @@ word_byte_not b h = (λ e. absurd (no_space (subst (λ c. is_word_byte c ≡ tru
 
 start_high : (b : ℕ) → is_word_start b ≡ true → 58 ≤ b
 start_high b h = grind (arith, nat_tests)
-
-left_true : (a b : Bool) → (a && b) ≡ true → a ≡ true
-left_true true b e = refl
-left_true false b e = cc
-
-pub right_true : (a b : Bool) → (a && b) ≡ true → b ≡ true
-right_true true b e = e
-right_true false b e = cc
 
 pub start_word : (b : ℕ) → is_word_start b ≡ true → is_word_byte b ≡ true
 start_word b h = rw h refl

@@ -1,5 +1,5 @@
 -- The printed text of valuations gives these.
-use Rattle.std.proofs.Common.{◌≡◌, ◌≢◌, ◌⊎◌, inl, inr, ℕ, zero, suc, List, [], ◌∷◌, refl, ap, arith, codes, Some, None}
+use Rattle.std.proofs.Common.{◌≡◌, ◌≢◌, ◌⊎◌, inl, inr, ℕ, zero, suc, List, [], ◌∷◌, refl, ap, arith, codes, Some}
 use Rattle.std.specs.Prelude.{slice_get}
 use Rattle.std.specs.List.{AllByRecursion}
 use Rattle.std.specs.Fmt.{decimal}
@@ -14,7 +14,7 @@ use Rattle.xs_text_laws.specs.Given.{IsLineWord, IsPrintable, SaysOf, StandsOnce
 use Rattle.xs_text_laws.specs.Laws.{PrintedGivesAlone}
 use Rattle.xs_text_laws.proofs.Plain.{value_word, decimal_free}
 use Rattle.xs_text_laws.proofs.OneTrace.{same_equation, plain_at, one_trace}
-use Rattle.std.proofs.lemmas.Option.{same_Some as some_same}
+use Rattle.std.proofs.lemmas.Option.{same_Some as some_same, none-some as never}
 
 -- each line of variables and values passes, where each variable's with its value does
 each_line : (Q : Line → Type 0) (xs : List FlatVariable) (vs : List Value) → ((i : ℕ) (x : FlatVariable) (w : Value) → slice_get xs i ≡ Some x → slice_get vs i ≡ Some w → Q (value_line x w)) → AllByRecursion Q (value_lines xs vs)
@@ -29,13 +29,7 @@ record AreApart (xs : List FlatVariable) : Type 0 where
 
 line_once : (xs : List FlatVariable) (vs : List Value) → AreApart xs → (i : ℕ) (x : FlatVariable) (w : Value) → slice_get xs i ≡ Some x → slice_get vs i ≡ Some w → StandsOnce (value_line x w) (value_lines xs vs)
 line_once [] vs p i x w e f = absurd (never x e)
-  where
-    never : {A : Type 0} (x : A) → None ≡ Some x → ⊥
-    never x e = cc
 line_once (y ∷ xs) [] p i x w e f = absurd (never w f)
-  where
-    never : {A : Type 0} (x : A) → None ≡ Some x → ⊥
-    never x e = cc
 line_once (y ∷ xs) (u ∷ vs) p zero x w e f =
     record { before = []; after = value_lines xs vs; lie = same (some_same y x e) (some_same u w f); none_before = tt; none_after = each_line (λ l. l ≢ value_line x w) xs vs others }
   where

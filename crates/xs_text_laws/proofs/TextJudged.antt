@@ -1,5 +1,5 @@
 -- A text gives a trace, or something is wrong first with it.
-use Rattle.std.proofs.Common.{◌≡◌, ◌≢◌, ◌⊎◌, inl, inr, ℕ, zero, suc, ◌<◌, ◌≤◌, Bool, true, false, nat_eq, List, [], ◌∷◌, ◌++◌, length, refl, sym, ◌∙◌, ap, subst, arith, append_assoc, Some, None, length-append, eqb-true, ◌+◌}
+use Rattle.std.proofs.Common.{◌≡◌, ◌≢◌, ◌⊎◌, inl, inr, ℕ, zero, suc, ◌<◌, ◌≤◌, Bool, true, false, nat_eq, List, [], ◌∷◌, ◌++◌, length, refl, sym, ◌∙◌, ap, subst, arith, append_assoc, Some, length-append, eqb-true, ◌+◌}
 use Rattle.std.proofs.lemmas.Bool.Decides.{nat_tests}
 use Rattle.std.specs.Prelude.{slice_get, IsTrue}
 use Rattle.std.specs.List.{AllByRecursion}
@@ -12,13 +12,14 @@ use Rattle.xs_text_laws.specs.TraceText.{value_text, variable_text, moment_line,
 use Rattle.xs_text_laws.specs.Given.{IsLineWord, IsPrintable, SaysOf, StandsOnce, GivesMoment, GivesMoments, BytesGive}
 use Rattle.xs_text_laws.specs.Wrong.{LineFault, bad_line, moments_after, WasSaid, IsWrongLine, Lacks, TraceFault, wrong_line, missing_value, IsFirstFault}
 use Rattle.xs_text_laws.specs.Laws.{EachTextIsJudged}
-use Rattle.xs_text_laws.proofs.OneTrace.{HasNoMoment, head_of, tail_of, both_of, no_items, some_moment, no_moment, same_equation, equation_some}
+use Rattle.xs_text_laws.proofs.OneTrace.{HasNoMoment, no_items, some_moment, no_moment, same_equation, equation_some}
 use Rattle.xs_text_laws.proofs.Moments.{next_begins, after_both, none_begins, no_fewer, front_fewer}
 use Rattle.xs_text_laws.proofs.LineJudged.{Decided, LineIs, bare, begins, says, AllAre, SaidIn, said_in}
 use Rattle.xs_text_laws.proofs.LinesJudged.{all_sound, text_lines}
 use Rattle.xs_text_laws.proofs.GivenHasNone.{value_there, fewer_before}
 use Rattle.std.proofs.lemmas.List.{append-nil as append_none}
-use Rattle.std.proofs.lemmas.Option.{same_Some as some_same}
+use Rattle.std.proofs.lemmas.Option.{same_Some as some_same, none-some as never}
+use Rattle.xs_text_laws.proofs.Separators.{head_of, tail_of, both_of}
 
 -- The first moment in which a variable has no value.
 lacks_at : (m : FlatModel) (lines : List Line) (k : ℕ) → Lacks m lines k ⊎ ((i : ℕ) (x : FlatVariable) → slice_get m.variables i ≡ Some x → SaidIn [] lines (variable_text x) (suc k))
@@ -26,9 +27,6 @@ lacks_at m lines k = go m.variables (λ i x e. (i, e))
   where
     go : (xs : List FlatVariable) → ((i : ℕ) (x : FlatVariable) → slice_get xs i ≡ Some x → (j : ℕ) × (slice_get m.variables j ≡ Some x)) → Lacks m lines k ⊎ ((i : ℕ) (x : FlatVariable) → slice_get xs i ≡ Some x → SaidIn [] lines (variable_text x) (suc k))
     go [] h = inr (λ i x e. absurd (never x e))
-      where
-        never : {A : Type 0} (x : A) → None ≡ Some x → ⊥
-        never x e = cc
     go (y ∷ xs) h = by_tests (said_in [] lines (variable_text y) (suc k)) (go xs (λ i x e. h (suc i) x e))
       where
         all : SaidIn [] lines (variable_text y) (suc k) → ((i : ℕ) (x : FlatVariable) → slice_get xs i ≡ Some x → SaidIn [] lines (variable_text x) (suc k)) →
@@ -156,9 +154,6 @@ pub record Valued (own : List Line) (xs : List FlatVariable) : Type 0 where
 
 valued : (own : List Line) (xs : List FlatVariable) → ((i : ℕ) (x : FlatVariable) → slice_get xs i ≡ Some x → Stands own x) → Valued own xs
 valued own [] h = record { values = []; domains = tt; lies = λ i x w e. absurd (never x e) }
-  where
-    never : {A : Type 0} (x : A) → None ≡ Some x → ⊥
-    never x e = cc
 valued own (y ∷ xs) h = joined (h 0 y refl) (valued own xs (λ i. h (suc i)))
   where
     at : (s : Stands own y) (v : Valued own xs) (i : ℕ) (x : FlatVariable) (w : Value) → slice_get (y ∷ xs) i ≡ Some x → slice_get (s.value ∷ v.values) i ≡ Some w → (before : List Line) × (after : List Line) × (own ≡ before ++ value_line x w ∷ after)

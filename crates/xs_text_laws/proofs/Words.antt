@@ -1,28 +1,29 @@
 -- Words in lines, and lists without a separator.
-use Rattle.std.proofs.Common.{◌≡◌, ◌≢◌, ℕ, ◌<◌, Bool, true, false, not, ◌&&◌, nat_eq, List, [], ◌∷◌, ◌++◌, length, map, refl, sym, ◌∙◌, ap, arith, eq-eqb}
+use Rattle.std.proofs.Common.{◌≡◌, ◌≢◌, ℕ, ◌<◌, Bool, true, false, not, ◌&&◌, nat_eq, List, [], ◌∷◌, ◌++◌, length, map, refl, sym, ap, arith, eq-eqb}
 use Rattle.std.specs.List.{AllByRecursion, list_all}
 use Rattle.xs_text_laws.specs.Lines.{Line, spaced}
-use Rattle.xs_text_laws.proofs.Separators.{IsFree, same_front, no_separator}
+use Rattle.xs_text_laws.proofs.Separators.{IsFree, same_front, no_separator, both_of}
+
+-- each side of what holds
+pub left_true : (a b : Bool) → (a && b) ≡ true → a ≡ true
+left_true true b e = refl
+left_true false b e = cc
+
+pub right_true : (a b : Bool) → (a && b) ≡ true → b ≡ true
+right_true true b e = e
+right_true false b e = cc
 
 -- a list that passes the test is free of the separator
 pub free_by_test : (s : ℕ) (xs : List ℕ) → list_all (λ x. not (nat_eq x s)) xs ≡ true → IsFree s xs
 free_by_test s [] h = tt
-free_by_test s (x ∷ xs) h = (differs, free_by_test s xs (second (not (nat_eq x s)) (list_all (λ x. not (nat_eq x s)) xs) h))
+free_by_test s (x ∷ xs) h = (differs, free_by_test s xs (right_true (not (nat_eq x s)) (list_all (λ x. not (nat_eq x s)) xs) h))
   where
-    first : (a b : Bool) → (a && b) ≡ true → a ≡ true
-    first true b e = refl
-    first false b e = cc
-
-    second : (a b : Bool) → (a && b) ≡ true → b ≡ true
-    second true b e = e
-    second false b e = cc
-
     is_not : (b : Bool) → not b ≡ true → b ≡ true → ⊥
     is_not true e f = cc
     is_not false e f = cc
 
     differs : x ≢ s
-    differs e = is_not (nat_eq x s) (first (not (nat_eq x s)) (list_all (λ x. not (nat_eq x s)) xs) h) (eq-eqb x s e)
+    differs e = is_not (nat_eq x s) (left_true (not (nat_eq x s)) (list_all (λ x. not (nat_eq x s)) xs) h) (eq-eqb x s e)
 
 pub free_joined : (s : ℕ) (xs ys : List ℕ) → IsFree s xs → IsFree s ys → IsFree s (xs ++ ys)
 free_joined s [] ys f g = g
@@ -33,28 +34,22 @@ pub record IsWord (w : Line) : Type 0 where
   pub some : 0 < length w
   pub free : IsFree 32 w
 
+nothing : (v : Line) → 0 < length v → [] ≡ v → ⊥
+nothing v h e = let bad : length {A = ℕ} [] ≡ length v = ap (length {A = ℕ}) e in omega (arith, bad, h)
+
 -- Words with one space between are told apart.
 pub same_words : (ws vs : List Line) → AllByRecursion IsWord ws → AllByRecursion IsWord vs → spaced ws ≡ spaced vs → ws ≡ vs
 same_words [] [] f g e = refl
 same_words [] (v ∷ []) f g e = absurd (nothing v g.0.some e)
-  where
-    nothing : (v : Line) → 0 < length v → [] ≡ v → ⊥
-    nothing v h e = let bad : length {A = ℕ} [] ≡ length v = ap (length {A = ℕ}) e in omega (arith, bad, h)
 same_words [] (v ∷ u ∷ vs) f g e = absurd (no_separator 32 [] v (spaced (u ∷ vs)) tt e)
 same_words (w ∷ []) [] f g e = absurd (nothing w f.0.some (sym e))
-  where
-    nothing : (v : Line) → 0 < length v → [] ≡ v → ⊥
-    nothing v h e = let bad : length {A = ℕ} [] ≡ length v = ap (length {A = ℕ}) e in omega (arith, bad, h)
 same_words (w ∷ []) (v ∷ []) f g e = ap (λ x. x ∷ []) e
 same_words (w ∷ []) (v ∷ u ∷ vs) f g e = absurd (no_separator 32 w v (spaced (u ∷ vs)) f.0.free e)
 same_words (w ∷ x ∷ ws) [] f g e = absurd (no_separator 32 [] w (spaced (x ∷ ws)) tt (sym e))
 same_words (w ∷ x ∷ ws) (v ∷ []) f g e = absurd (no_separator 32 v w (spaced (x ∷ ws)) g.0.free (sym e))
 same_words (w ∷ x ∷ ws) (v ∷ u ∷ vs) f g e =
     let fronts : (w ≡ v) × (spaced (x ∷ ws) ≡ spaced (u ∷ vs)) = same_front 32 w v (spaced (x ∷ ws)) (spaced (u ∷ vs)) f.0.free g.0.free e in
-    both w v (x ∷ ws) (u ∷ vs) fronts.0 (same_words (x ∷ ws) (u ∷ vs) f.1 g.1 fronts.1)
-  where
-    both : (w v : Line) (ws vs : List Line) → w ≡ v → ws ≡ vs → (w ∷ ws) ≡ (v ∷ vs)
-    both w v ws vs e f = cc
+    both_of w v (x ∷ ws) (u ∷ vs) fronts.0 (same_words (x ∷ ws) (u ∷ vs) f.1 g.1 fronts.1)
 
 numbers_differ : (a b : ℕ) → a < b → b ≡ a → ⊥
 numbers_differ a b h e = omega (arith, h, e)

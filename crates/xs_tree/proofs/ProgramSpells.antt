@@ -23,14 +23,14 @@ use Rattle.xs_tree.proofs.PrintedSpells.{printed_spells, an_expr, int_spells, pa
 use Rattle.xs_tree.proofs.TextSpells.{at_space, at_open, at_close, at_comma, at_dot, at_semicolon, at_brace, spaced, int_reads, path_reads, brackets_read, text_reads}
 
 -- the text is read as lexemes that spell this
-abbrev Spelled : {A : Type 0} → (List Lexeme → A → Type 0) → Text → Text → A → Type 0
+abbrev pub Spelled : {A : Type 0} → (List Lexeme → A → Type 0) → Text → Text → A → Type 0
 Spelled One text rest a = (ls : List Lexeme) × Reads text rest ls × One ls a
 
-at_line : (rest : Text) → Ends (10 ∷ rest)
+pub at_line : (rest : Text) → Ends (10 ∷ rest)
 at_line rest = record { no_word = refl; no_mark = refl; no_digit = refl }
 
 -- one after another
-many_spelled : {A : Type 0} (One : List Lexeme → A → Type 0) (shown : A → Text) (Fine : A → Type 0) → ((a : A) (rest : Text) → Fine a → Spelled One (shown a) rest a) →
+pub many_spelled : {A : Type 0} (One : List Lexeme → A → Type 0) (shown : A → Text) (Fine : A → Type 0) → ((a : A) (rest : Text) → Fine a → Spelled One (shown a) rest a) →
     (xs : List A) (rest : Text) → Each Fine xs → Spelled (SpellsMany One) (all_of (map shown xs)) rest xs
 many_spelled One shown Fine each [] rest h = ([], nothing rest, no_more)
 many_spelled One shown Fine each (x ∷ xs) rest h =

@@ -9,7 +9,7 @@ use Rattle.xs_lexer.specs.Bytes.{is_word_byte}
 use Rattle.xs_lexer.specs.Runs.{Runs, takes_word, ends_word}
 use Rattle.xs_lexer.specs.Tokens.{Piece, IsTokenPiece, IsPiece, Splits, IsWord, IsNumber, IsAmong, signs, HasTokens, number_of}
 use Rattle.xs_lexer.proofs.RunLemmas.{Runs-digits}
-use Rattle.xs_lexer.proofs.SignLemmas.{among_all}
+use Rattle.xs_lexer.proofs.SignLemmas.{among_all, sign_no_number}
 use Rattle.xs_tree.specs.declared.program.Member.{Member}
 use Rattle.xs_tree.specs.Tree.{Tree, Trees, Branches, no_tree, no_branch}
 use Rattle.xs_tree.specs.ProgramTree.{Text, Path, Formula, DeclaredTree, DeclTree, DefineTree, AssignmentTree, SectionTree, ModuleTree, ProgramTree}
@@ -78,21 +78,6 @@ sign_no_word text among =
     let clash : false ≡ true = subst (λ kind. not (is_word_kind kind) ≡ true) place.2 place.1 in
     cc
 
-is_number_kind : TokenKind → Bool
-is_number_kind k.Number = true
-is_number_kind other = false
-
-no_numbers : list_all (λ sign. not (is_number_kind sign.kind)) signs ≡ true
-unfolding is_number_kind
-no_numbers = refl
-
-sign_no_number : (text : List ℕ) → IsAmong signs k.Number text → ⊥
-unfolding is_number_kind
-sign_no_number text among =
-    let place = among_all (λ sign. not (is_number_kind sign.kind)) signs k.Number text no_numbers among in
-    let clash : false ≡ true = subst (λ kind. not (is_number_kind kind) ≡ true) place.2 place.1 in
-    cc
-
 -- digits are digits at the end of a text too
 number_alone : (x behind : List ℕ) → IsNumber x behind → IsNumber x []
 number_alone [] behind h = absurd h
@@ -102,7 +87,7 @@ fits_of : (kind : TokenKind) (text behind : List ℕ) → IsTokenPiece kind text
 fits_of k.Word text behind p =
     ⊎_elim (λ w. word_alone text behind w.1) (λ other. ⊎_elim (λ n. let clash : k.Word ≡ k.Number = n.0 in cc) (λ s. absurd (sign_no_word text s)) other) p.longest.token
 fits_of k.Number text behind p =
-    let digits : IsNumber text behind = ⊎_elim (λ w. let clash : k.Number ≡ k.Word = w.0 in cc) (λ other. ⊎_elim (λ n. n.1) (λ s. absurd (sign_no_number text s)) other) p.longest.token in
+    let digits : IsNumber text behind = ⊎_elim (λ w. let clash : k.Number ≡ k.Word = w.0 in cc) (λ other. ⊎_elim (λ n. n.1) (λ s. absurd (sign_no_number k.Number text s refl)) other) p.longest.token in
     (p.small refl, number_alone text behind digits, refl)
 fits_of kind text behind p = tt
 

@@ -1,11 +1,11 @@
 -- Text that is appended piece by piece.
-use Rattle.std.proofs.Common.{◌≡◌, ℕ, ◌+◌, ◌<◌, List, [], ◌∷◌, ◌++◌, length, get_or, drop, map, refl, ap}
-use Rattle.std.proofs.lemmas.List.{append_assoc, append-nil, drop_more}
+use Rattle.std.proofs.Common.{◌≡◌, ◌+◌, List, [], ◌∷◌, ◌++◌, map, refl, ap}
+use Rattle.std.proofs.lemmas.List.{append_assoc, append-nil}
 use Rattle.xs_tree.specs.declared.expr.Expr.{Expr}
 use Rattle.xs_tree.specs.declared.expr.Expr.TheVariants.{SetOf}
-use Rattle.xs_tree.specs.ProgramTree.{Text, Path}
+use Rattle.xs_tree.specs.ProgramTree.{Path}
 use Rattle.xs_tree.specs.Tree.{Tree, trees_from}
-use Rattle.xs_tree.specs.Text.{text_of, trees_texts, commas, each_after}
+use Rattle.xs_tree.specs.Text.{text_of, trees_texts, commas}
 use Rattle.xs_tree.proofs.WrittenLaws.{tree_of_set}
 use Rattle.xs_tree.specs.Written.{tree_of}
 use Rattle.std.specs.Prelude.{codes}

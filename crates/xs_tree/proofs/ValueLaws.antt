@@ -1,13 +1,9 @@
 -- Values that the tests find equal are equal, and the other way round.
-use Rattle.std.proofs.Common.{◌≡◌, ℕ, Bool, true, false, ◌&&◌, List, [], ◌∷◌, refl, ap, eqb-true, eq-eqb}
+use Rattle.std.proofs.Common.{◌≡◌, ℕ, Bool, true, false, List, [], ◌∷◌, refl, ap, eqb-true, eq-eqb}
 use Rattle.std.specs.Prelude.{ℤ, pos, negsuc, nat_eq}
+pub use Rattle.xs_lexer.proofs.SignLemmas.{both_true}
 use Rattle.xs_tree.specs.Values.{Value, truth, number, symbol, same_int, same_bool, same_value}
 use Rattle.xs_tree.specs.Texts.{same_text}
-
-pub both_true : (a b : Bool) → (a && b) ≡ true → (a ≡ true) × (b ≡ true)
-both_true true true h = (refl, refl)
-both_true true false h = cc
-both_true false b h = cc
 
 pub same_text_equal : (a b : List ℕ) → same_text a b ≡ true → a ≡ b
 same_text_equal [] [] h = refl

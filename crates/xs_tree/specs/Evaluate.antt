@@ -1,5 +1,5 @@
 -- The values of an expression, from those of its leaves now and at the next moment.
-use Rattle.std.specs.Prelude.{Bool, true, false, Option, Some, None, pos, ◌-ℤ◌}
+use Rattle.std.specs.Prelude.{true, false, Option, Some, None, pos, ◌-ℤ◌}
 use Rattle.xs_tree.specs.declared.expr.Op.{Op}
 use Rattle.xs_tree.specs.declared.expr.Op.TheVariants as op
 use Rattle.xs_tree.specs.Tree.{Tree, Trees, Branches, truth as is_truth, number as is_number, leaf, not_of, negate, next_of, binary, choice, case_of, set_of, span, no_tree, tree_then, no_branch, branch_then}

@@ -13,10 +13,12 @@ pub data FlatLeaf : Type 0 where
   flat_symbol : ℕ → FlatLeaf
   flat_definition : ℕ → FlatLeaf
 
+-- an instance: where it stands, from the innermost name outwards, and its module
 pub record FlatInstance : Type 0 where
   pub place : Place
   pub module_name : Text
 
+-- a variable: its instance and name, who chooses its values, its type, its item's number, and its instance's
 pub record FlatVariable : Type 0 where
   pub place : Place
   pub name : Text
@@ -25,11 +27,13 @@ pub record FlatVariable : Type 0 where
   pub item : ℕ
   pub number : ℕ
 
+-- a formula or definition, with its item's number and its instance's
 pub record FlatFormula : Type 0 where
   pub value : Tree FlatLeaf
   pub item : ℕ
   pub number : ℕ
 
+-- the lists of a flat model, whose names are places in them, counted from 0
 pub record FlatModel : Type 0 where
   pub instances : List FlatInstance
   pub variables : List FlatVariable
@@ -39,14 +43,17 @@ pub record FlatModel : Type 0 where
   pub at_each : List FlatFormula
   pub at_step : List FlatFormula
 
+-- one value, where there is one
 abbrev pub one_of : Option Value → Option Values
 one_of None = None
 one_of (Some v) = Some (one v)
 
+-- the symbol as one value, where there is one
 abbrev pub symbol_of : Option Text → Option Values
 symbol_of None = None
 symbol_of (Some x) = Some (one (symbol x))
 
+-- what a table of definitions has at a place, and nothing outside it
 abbrev pub given : Option (Option Values) → Option Values
 given None = None
 given (Some vs) = vs
@@ -61,10 +68,12 @@ flat_leaves symbols v table (flat_definition i) = given (slice_get table i)
 abbrev pub definition_gives : List Text → List Value → List (Option Values) → FlatFormula → Option Values
 definition_gives symbols v table d = evaluate (flat_leaves symbols v table) (flat_leaves symbols v table) d.value
 
+-- what each definition gives, one after another, over those before it
 abbrev pub table_after : List Text → List Value → List (Option Values) → List FlatFormula → List (Option Values)
 table_after symbols v table [] = table
 table_after symbols v table (d ∷ ds) = table_after symbols v (table ++ definition_gives symbols v table d ∷ []) ds
 
+-- what each name gives in a valuation
 abbrev pub leaves_at : FlatModel → List Value → Leaves FlatLeaf
 leaves_at m v = flat_leaves m.symbols v (table_after m.symbols v [] m.definitions)
 
@@ -72,6 +81,7 @@ leaves_at m v = flat_leaves m.symbols v (table_after m.symbols v [] m.definition
 abbrev pub FlatGives : FlatModel → List Value → List Value → Tree FlatLeaf → Values → Type 0
 FlatGives m v w e vs = evaluate (leaves_at m v) (leaves_at m w) e ≡ Some vs
 
+-- the flat expression has this value among its values
 abbrev pub FlatMay : FlatModel → List Value → List Value → Tree FlatLeaf → Value → Type 0
 FlatMay m v w e x = (vs : Values) × FlatGives m v w e vs × IsTrue (has vs x)
 

@@ -47,9 +47,11 @@ abbrev pub place_in : List Text → Place
 place_in [] = []
 place_in (x ∷ at) = at
 
+-- an instance; the parts of its path are turned, innermost first
 abbrev pub instance_tree : Instance → FlatInstance
 instance_tree i = record { place = place_of i.path; module_name = i.«module» }
 
+-- a variable, by the last part of its path and the parts before it
 abbrev pub variable_tree : Variable → FlatVariable
 variable_tree v =
     record {
@@ -61,6 +63,7 @@ variable_tree v =
       number = v.«instance»;
     }
 
+-- a formula or definition
 abbrev pub formula_tree : Formula → FlatFormula
 formula_tree f = record { value = flat_tree f.value; item = f.item; number = f.«instance» }
 

@@ -1,4 +1,4 @@
-//! Copies of a flat model and of its parts.
+//! Copies of a flat model and of its parts: [`FlatModel::copy`], and [`copy_flat`] for a single expression.
 
 ghost use Rattle.std.specs.Prelude.{◌≡◌, IfOk, map};
 ghost use Rattle.xs_tree.specs.Written.{tree_of, branch_trees};
@@ -39,6 +39,7 @@ pub fn copy_flat(alloc: Global, e: &Expr<Flat>) -> Result<Expr<Flat>, OutOfMemor
     }
 }
 
+/// A copy in a box of its own.
 #[cycle(copy_flat)]
 fn copy_boxed(alloc: Global, e: &Expr<Flat>) -> Result<Box<Expr<Flat>>, OutOfMemory>
     ensures { IfOk result (λ made. tree_of made.value ≡ tree_of e.now) }

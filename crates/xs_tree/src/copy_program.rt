@@ -1,3 +1,5 @@
+//! Copies of a program and of its parts: [`Program::copy`] gives the same program in memory of its own.
+
 ghost use Rattle.std.specs.Prelude.{◌≡◌, IfOk, map};
 ghost use Rattle.xs_tree.specs.ProgramTree.{program_tree, module_tree, section_tree, decl_tree, declared_tree, define_tree, assignment_tree};
 

@@ -1,8 +1,8 @@
-//! Printing an expression. All text goes to the end of one buffer, so the work is linear in the text.
+//! Printing an expression: [`print_expr`]. All text goes to the end of one buffer, so the work is linear in the text.
 
-ghost use Rattle.std.specs.Prelude.{◌≡◌, ◌++◌, codes, IfOk, OnOk, map};
+ghost use Rattle.std.specs.Prelude.{◌≡◌, ◌++◌, IfOk, OnOk, map};
 ghost use Rattle.std.specs.Fmt.{signed_decimal};
-ghost use Rattle.xs_tree.specs.Text.{text_of, op_text, after_minus, span_text, dotted_text, commas, branches_text, each_after, joined};
+ghost use Rattle.xs_tree.specs.Text.{text_of, op_text, after_minus, span_text, dotted_text, commas, branches_text, joined};
 ghost use Rattle.xs_tree.specs.Written.{tree_of, branches_of};
 ghost use Rattle.xs_tree.specs.Printed.{IsWritable};
 ghost use Rattle.xs_tree.specs.Bytes.{BytesSpellExpr};
@@ -39,21 +39,13 @@ pub(crate) fn append_expr(
         Expr::Truth(false) => text.append(b"FALSE"),
         Expr::Number(n) => append_number(alloc, text, *n),
         Expr::Leaf(name) => append_dotted(text, name),
-        Expr::Not(a) => {
-            text.append(b"(!")?;
-            append_expr(alloc, text, a)?;
-            text.append(b")")
-        }
+        Expr::Not(a) => append_between(alloc, text, b"(!", a, b")"),
         Expr::Negate(a) => {
             text.append(b"(-")?;
             append_after_minus(alloc, text, a)?;
             text.append(b")")
         }
-        Expr::Next(a) => {
-            text.append(b"next(")?;
-            append_expr(alloc, text, a)?;
-            text.append(b")")
-        }
+        Expr::Next(a) => append_between(alloc, text, b"next(", a, b")"),
         Expr::Binary(op, a, b) => {
             text.append(b"(")?;
             append_expr(alloc, text, a)?;
@@ -62,13 +54,9 @@ pub(crate) fn append_expr(
             text.append(b")")
         }
         Expr::Choice(c, a, b) => {
-            text.append(b"(")?;
-            append_expr(alloc, text, c)?;
-            text.append(b" ? ")?;
-            append_expr(alloc, text, a)?;
-            text.append(b" : ")?;
-            append_expr(alloc, text, b)?;
-            text.append(b")")
+            append_between(alloc, text, b"(", c, b" ? ")?;
+            append_between(alloc, text, b"", a, b" : ")?;
+            append_between(alloc, text, b"", b, b")")
         }
         Expr::Case(branches) => {
             text.append(b"case ")?;
@@ -82,6 +70,23 @@ pub(crate) fn append_expr(
         }
         Expr::Span(lo, hi) => append_span(alloc, text, *lo, *hi),
     }
+}
+
+/// Appends what stands before an expression, the expression, and what stands behind it.
+#[cycle(print)]
+#[tactic(auto, using(crate::proofs::TextLaws::print_rules))]
+fn append_between(
+    alloc: Global,
+    text: &mut ByteList,
+    front: &[u8],
+    e: &Expr<Dotted>,
+    back: &[u8],
+) -> Result<(), OutOfMemory>
+    ensures { OnOk result (text.new ≡ text.old ++ (front.now ++ (text_of (tree_of e.now) ++ back.now))) }
+{
+    text.append(front)?;
+    append_expr(alloc, text, e)?;
+    text.append(back)
 }
 
 /// Appends the operand of a unary minus.

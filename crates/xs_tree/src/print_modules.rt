@@ -1,6 +1,6 @@
-//! Printing a program. All text goes to the end of one buffer, so the work is linear in the text.
+//! Printing a program: [`print_program`]. All text goes to the end of one buffer, so the work is linear in the text.
 
-ghost use Rattle.std.specs.Prelude.{◌≡◌, ◌++◌, codes, IfOk, OnOk, map};
+ghost use Rattle.std.specs.Prelude.{◌≡◌, ◌++◌, IfOk, OnOk, map};
 ghost use Rattle.xs_tree.specs.ProgramTree.{program_tree, module_tree, section_tree, decl_tree, declared_tree, define_tree, assignment_tree};
 ghost use Rattle.xs_tree.specs.Text.{program_text, module_text, section_text, decl_line, declared_text, define_line, assignment_line, target_text, member_text, constants_text, in_brackets, commas, line, all_of, text_of};
 ghost use Rattle.xs_tree.specs.Written.{tree_of};
@@ -29,6 +29,7 @@ pub fn print_program(alloc: Global, p: &Program) -> Result<Vec<u8>, OutOfMemory>
     Ok(text.into_vec())
 }
 
+/// Appends modules, one after another.
 #[tactic(auto, using(crate::proofs::TextLaws::print_rules))]
 fn append_modules(alloc: Global, text: &mut ByteList, modules: &[Module]) -> Result<(), OutOfMemory>
     ensures { OnOk result (text.new ≡ text.old ++ all_of (map module_text (map module_tree modules.now))) }
@@ -39,6 +40,7 @@ fn append_modules(alloc: Global, text: &mut ByteList, modules: &[Module]) -> Res
     Ok(())
 }
 
+/// Appends the line of a module's name and formals, and then its sections.
 #[tactic(auto, using(crate::proofs::TextLaws::print_rules))]
 fn append_module(alloc: Global, text: &mut ByteList, written: &Module) -> Result<(), OutOfMemory>
     ensures { OnOk result (text.new ≡ text.old ++ module_text (module_tree written.now)) }
@@ -50,6 +52,7 @@ fn append_module(alloc: Global, text: &mut ByteList, written: &Module) -> Result
     append_sections(alloc, text, written.sections.as_slice())
 }
 
+/// Appends the formals in parentheses, and nothing where there are none.
 #[tactic(auto, using(crate::proofs::TextLaws::print_rules))]
 fn append_formals(text: &mut ByteList, formals: &[Name]) -> Result<(), OutOfMemory>
     ensures { OnOk result (text.new ≡ text.old ++ in_brackets formals.now) }
@@ -62,6 +65,7 @@ fn append_formals(text: &mut ByteList, formals: &[Name]) -> Result<(), OutOfMemo
     text.append(b")")
 }
 
+/// Appends sections, one after another.
 #[tactic(auto, using(crate::proofs::TextLaws::print_rules))]
 fn append_sections(
     alloc: Global,
@@ -76,6 +80,7 @@ fn append_sections(
     Ok(())
 }
 
+/// Appends a section: its word on a line of its own, and then what it holds.
 #[tactic(auto, using(crate::proofs::TextLaws::print_rules))]
 fn append_section(alloc: Global, text: &mut ByteList, section: &Section) -> Result<(), OutOfMemory>
     ensures { OnOk result (text.new ≡ text.old ++ section_text (section_tree section.now)) }
@@ -105,30 +110,29 @@ fn append_section(alloc: Global, text: &mut ByteList, section: &Section) -> Resu
             text.append(b"ASSIGN\n")?;
             append_assignments(alloc, text, list.as_slice())
         }
-        Section::Init(e) => {
-            text.append(b"INIT\n")?;
-            append_formula(alloc, text, e)
-        }
-        Section::Invar(e) => {
-            text.append(b"INVAR\n")?;
-            append_formula(alloc, text, e)
-        }
-        Section::Trans(e) => {
-            text.append(b"TRANS\n")?;
-            append_formula(alloc, text, e)
-        }
+        Section::Init(e) => append_formula(alloc, text, b"INIT\n", e),
+        Section::Invar(e) => append_formula(alloc, text, b"INVAR\n", e),
+        Section::Trans(e) => append_formula(alloc, text, b"TRANS\n", e),
     }
 }
 
+/// Appends the word of a section, with the end of its line, and the line of its formula.
 #[tactic(auto, using(crate::proofs::TextLaws::print_rules))]
-fn append_formula(alloc: Global, text: &mut ByteList, e: &Expr<Dotted>) -> Result<(), OutOfMemory>
-    ensures { OnOk result (text.new ≡ text.old ++ line (text_of (tree_of e.now))) }
+fn append_formula(
+    alloc: Global,
+    text: &mut ByteList,
+    word: &[u8],
+    e: &Expr<Dotted>,
+) -> Result<(), OutOfMemory>
+    ensures { OnOk result (text.new ≡ text.old ++ (word.now ++ line (text_of (tree_of e.now)))) }
 {
+    text.append(word)?;
     text.append(b"  ")?;
     append_expr(alloc, text, e)?;
     text.append(b";\n")
 }
 
+/// Appends the one line of all constants, and nothing where there are none.
 #[tactic(auto, using(crate::proofs::TextLaws::print_rules))]
 fn append_constants(text: &mut ByteList, names: &[Name]) -> Result<(), OutOfMemory>
     ensures { OnOk result (text.new ≡ text.old ++ constants_text names.now) }
@@ -141,6 +145,7 @@ fn append_constants(text: &mut ByteList, names: &[Name]) -> Result<(), OutOfMemo
     text.append(b";\n")
 }
 
+/// Appends declarations, each on a line.
 #[tactic(auto, using(crate::proofs::TextLaws::print_rules))]
 fn append_decls(alloc: Global, text: &mut ByteList, decls: &[Decl]) -> Result<(), OutOfMemory>
     ensures { OnOk result (text.new ≡ text.old ++ all_of (map decl_line (map decl_tree decls.now))) }
@@ -151,6 +156,7 @@ fn append_decls(alloc: Global, text: &mut ByteList, decls: &[Decl]) -> Result<()
     Ok(())
 }
 
+/// Appends the line of a declaration.
 #[tactic(auto, using(crate::proofs::TextLaws::print_rules))]
 fn append_decl(alloc: Global, text: &mut ByteList, decl: &Decl) -> Result<(), OutOfMemory>
     ensures { OnOk result (text.new ≡ text.old ++ decl_line (decl_tree decl.now)) }
@@ -162,6 +168,7 @@ fn append_decl(alloc: Global, text: &mut ByteList, decl: &Decl) -> Result<(), Ou
     text.append(b";\n")
 }
 
+/// Appends a type, or a module with its actuals.
 #[tactic(auto, using(crate::proofs::TextLaws::print_rules))]
 fn append_declared(alloc: Global, text: &mut ByteList, what: &Declared) -> Result<(), OutOfMemory>
     ensures { OnOk result (text.new ≡ text.old ++ declared_text (declared_tree what.now)) }
@@ -181,6 +188,7 @@ fn append_declared(alloc: Global, text: &mut ByteList, what: &Declared) -> Resul
     }
 }
 
+/// Appends the actuals in parentheses, and nothing where there are none.
 #[tactic(auto, using(crate::proofs::TextLaws::print_rules))]
 fn append_actuals(
     alloc: Global,
@@ -197,6 +205,7 @@ fn append_actuals(
     text.append(b")")
 }
 
+/// Appends the members of a type, with commas between.
 #[tactic(auto, using(crate::proofs::TextLaws::print_rules))]
 fn append_members(alloc: Global, text: &mut ByteList, members: &[Member]) -> Result<(), OutOfMemory>
     ensures { OnOk result (text.new ≡ text.old ++ commas (map member_text members.now)) }
@@ -212,6 +221,7 @@ fn append_members(alloc: Global, text: &mut ByteList, members: &[Member]) -> Res
     Ok(())
 }
 
+/// Appends a number or a symbol.
 fn append_member(alloc: Global, text: &mut ByteList, member: &Member) -> Result<(), OutOfMemory>
     ensures { OnOk result (text.new ≡ text.old ++ member_text member.now) }
 {
@@ -221,6 +231,7 @@ fn append_member(alloc: Global, text: &mut ByteList, member: &Member) -> Result<
     }
 }
 
+/// Appends defines, each on a line.
 #[tactic(auto, using(crate::proofs::TextLaws::print_rules))]
 fn append_defines(alloc: Global, text: &mut ByteList, defines: &[Define]) -> Result<(), OutOfMemory>
     ensures { OnOk result (text.new ≡ text.old ++ all_of (map define_line (map define_tree defines.now))) }
@@ -231,6 +242,7 @@ fn append_defines(alloc: Global, text: &mut ByteList, defines: &[Define]) -> Res
     Ok(())
 }
 
+/// Appends the line of a define.
 #[tactic(auto, using(crate::proofs::TextLaws::print_rules))]
 fn append_define(alloc: Global, text: &mut ByteList, define: &Define) -> Result<(), OutOfMemory>
     ensures { OnOk result (text.new ≡ text.old ++ define_line (define_tree define.now)) }
@@ -242,6 +254,7 @@ fn append_define(alloc: Global, text: &mut ByteList, define: &Define) -> Result<
     text.append(b";\n")
 }
 
+/// Appends assignments, each on a line.
 #[tactic(auto, using(crate::proofs::TextLaws::print_rules))]
 fn append_assignments(
     alloc: Global,
@@ -256,6 +269,7 @@ fn append_assignments(
     Ok(())
 }
 
+/// Appends the line of an assignment.
 #[tactic(auto, using(crate::proofs::TextLaws::print_rules))]
 fn append_assignment(
     alloc: Global,
@@ -271,6 +285,7 @@ fn append_assignment(
     text.append(b";\n")
 }
 
+/// Appends what is assigned: a name, alone or within `init(..)` or `next(..)`.
 #[tactic(auto, using(crate::proofs::TextLaws::print_rules))]
 fn append_target(text: &mut ByteList, when: Moment, target: &Dotted) -> Result<(), OutOfMemory>
     ensures { OnOk result (text.new ≡ text.old ++ target_text when target.now) }

@@ -1,3 +1,6 @@
+//! Texts and dotted names.
+//! A [`Name`] is seen as its bytes, of any length and with no rule on them, and a [`Dotted`] as its parts, at least one.
+
 ghost use Rattle.std.specs.Prelude.{◌≡◌, ◌↔◌, [], ◌∷◌, ◌++◌, ◌<◌, length, slice_get, Some, IsTrue, IfOk, OnOk, OnErr};
 
 use crate::items::Items;

@@ -26,18 +26,23 @@ use Rattle.xs_value.specs.declared.items.Items.TheView.{view, invariant}
 use Rattle.xs_value.specs.contracts.items.Items as shown
 use Rattle.xs_value.specs.contracts.items.Items.TheInside as kept
 
+-- the shape of a list, from that of its items
 abbrev pub the_former : Former {0} → Former {0}
 the_former item = list item
 
+-- the measure of a list is the largest of its items'
 abbrev pub the_weighed : {item : Former {0}} → Weighed item → Weighed (the_former item)
 the_weighed weighed = w_list weighed
 
+-- a list may be empty
 pub the_empty : List ⊥
 the_empty = []
 
+-- what a list holds: its items in order
 abbrev pub the_items : (A : Type 0) → List A → List A
 the_items A items = items
 
+-- and this is what its shape says
 pub the_items_listed : (A : Type 0) (items : List A) → listed _ (children (the_former this) A items) ≡ the_items A items
 the_items_listed A items = list-listed A items
 
