@@ -2,10 +2,10 @@
 //
 // `MemoryDesk` is the desk of the tests of all layers above: it tells its files and what was said, so that a test compares
 // both.
-ghost use Rattle.std.specs.Prelude.{◌≡◌, ◌↔◌, ◌≤◌, ◌++◌, take, [], Some, None, IsSome, IfSome, IsErrOf, IsErr, IsOkAnd, OnOk, OnErr, length, IfOk};
+ghost use Rattle.std.specs.Prelude.{◌≡◌, ◌↔◌, ◌≤◌, ◌++◌, take, [], Some, None, IsSome, IsErrOf, OnOk, OnErr, length, IfOk};
 ghost use Rattle.std.specs.Option.{option_copied};
 ghost use Rattle.xs_desk.specs.Files.{file_of, content_of, with_file};
-ghost use Rattle.xs_desk.specs.Memory.{no_counts, counted, next_fail, next_count, after_call, kept_bytes, without_memory, WritesTo};
+ghost use Rattle.xs_desk.specs.Memory.{no_counts, counted, next_fail, after_call, kept_bytes, without_memory, WritesTo};
 ghost use Rattle.xs_desk.specs.Desk.{Reads, ReadsFrom, AppendsPrefix, SaysPrefix};
 
 use crate::fails::{CallCounts, kept_of, raise};

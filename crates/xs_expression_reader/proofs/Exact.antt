@@ -1,6 +1,5 @@
 -- A list goes on exactly where something after it makes it spell an expression.
 use Rattle.std.proofs.Common.{◌≡◌, true, false, List, [], ◌∷◌, ◌++◌, refl, sym, ◌∙◌, ap}
-use Rattle.std.specs.Prelude.{◌↔◌}
 use Rattle.xs_tree.specs.Tree.{Tree}
 use Rattle.xs_tree.specs.Lexemes.{Lexeme}
 use Rattle.xs_tree.specs.ProgramTree.{Path}
@@ -64,11 +63,3 @@ front_goes_on ts f = go (run start ts) refl
         let shown : run start (ts ++ f.0) ≡ stuck = run_append start ts f.0 ∙ ap (λ z. run z f.0) e ∙ run_stuck f.0 in
         let clash : false ≡ true = ap is_whole (sym shown) ∙ whole in cc
     go st e = refl
-
--- the machine is stuck exactly where the list is the front of no list that spells an expression
-pub stuck_exactly : (ts : List Lexeme) → (is_stuck (run start ts) ≡ false) ↔ IsFront ts
-stuck_exactly ts = (goes_on ts, front_goes_on ts)
-
--- and it accepts exactly what spells an expression
-pub accepts_exactly : (ts : List Lexeme) → (is_whole (run start ts) ≡ true) ↔ ((t : Tree Path) × Spells at_expr ts t)
-accepts_exactly ts = (accepted_spelled ts, λ p. spelled_accepted p.1)

@@ -1,18 +1,17 @@
 -- The laws of the grammar of a list of expressions.
 use Rattle.std.proofs.Common.{◌≡◌, inl, inr, Bool, true, false, List, [], ◌∷◌, ◌++◌, Some, None, refl, sym, ◌∙◌, ap, subst, append-nil}
-use Rattle.std.specs.Prelude.{◌||◌, ◌↔◌}
+use Rattle.std.specs.Prelude.{◌||◌}
 use Rattle.xs_lexer.specs.declared.token.TokenKind.TheVariants as k
 use Rattle.xs_tree.specs.ProgramTree.{Formula}
 use Rattle.xs_tree.specs.Lexemes.{Lexeme, num, sign}
 use Rattle.xs_tree.specs.SpellsProgram.{SpellsExpressions, last_expression, more_expressions, open_ended, ended}
-use Rattle.xs_expression_reader.specs.Recognise.{Role, a_semicolon, role_of, Ended, by_number, by_name, by_other, State, wants, had, stuck, is_whole, is_stuck, start}
+use Rattle.xs_expression_reader.specs.Recognise.{Role, a_semicolon, role_of, by_number, by_name, by_other, State, had, stuck, is_whole, start}
 use Rattle.xs_expression_reader.specs.Recognise as machine
-use Rattle.xs_expression_reader.specs.Predict.{Grammar, Means, run, Fits, IsPredictable, can_start, all_empty}
+use Rattle.xs_expression_reader.specs.Predict.{Means, run, Fits, IsPredictable}
 use Rattle.xs_expression_reader.specs.Formulas.{Sym, formula, more, again, expressions, is_semicolon, live, IsAgain, IsMore, spelled, empty, after_semicolon, next, follow, shortest, formulas}
 use Rattle.xs_expression_reader.proofs.Accepted.{run_stuck, spelled_accepted}
 use Rattle.xs_expression_reader.proofs.Rest.{accepted_spelled, meant_semicolon}
 use Rattle.xs_expression_reader.proofs.Exact.{completes}
-use Rattle.xs_expression_reader.proofs.Predicted.{goes_on_exactly}
 
 -- a list of expressions is one, and then what follows
 pub record Split (ts : List Lexeme) : Type 0 where
@@ -183,10 +182,3 @@ formulas_predictable = record {
     completing more = inl refl
     completing again = inl refl
     completing expressions = whole_list (num 0 [] ∷ []) [] refl (inl refl)
-
--- a list of expressions is read exactly up to where nothing can be spelled any more
-pub expressions_exactly : (ts : List Lexeme) →
-    ((s : List Sym) × (run Sym formulas (Some (expressions ∷ [])) ts ≡ Some s)) ↔ ((us : List Lexeme) × (es : List Formula) × SpellsExpressions (ts ++ us) es)
-expressions_exactly ts =
-    let both = goes_on_exactly Sym formulas formulas_predictable expressions ts in
-    (λ r. let made = both.0 r in (made.0, made.1.0, made.1.1), λ f. both.1 (f.0, (f.1, f.2)))

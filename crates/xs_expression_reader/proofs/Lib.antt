@@ -7,6 +7,7 @@ pub mod Predicted
 pub mod FormulasRead
 pub mod Tallest
 pub mod Peaks
+pub mod Meanings
 pub mod Marks
 pub mod ReaderExamples
 pub mod Stacks
@@ -18,5 +19,6 @@ pub mod ExpressionLaws
 pub mod FaultLaws
 pub mod ListLaws
 pub mod ReadLaws
+pub mod PartsRead
 pub mod ListReads
 pub mod StopLaws

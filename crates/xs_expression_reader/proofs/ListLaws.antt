@@ -2,10 +2,10 @@
 use Rattle.std.proofs.Common.{◌≡◌, Bool, true, false, List, [], ◌∷◌, Option, Some, None, refl, sym, ap, ◌∙◌}
 use Rattle.std.specs.Prelude.{◌&&◌, if◌then◌else◌}
 use Rattle.xs_tree.specs.Lexemes.{Lexeme}
-use Rattle.xs_expression_reader.specs.Recognise.{Role, Frame, a_semicolon, State, stuck, role_of, is_stuck, is_whole, start}
+use Rattle.xs_expression_reader.specs.Recognise.{Role, Frame, State, stuck, role_of, is_stuck, is_whole, start}
 use Rattle.xs_expression_reader.specs.Recognise as machine
 use Rattle.xs_expression_reader.specs.Predict.{taken, step, all_empty}
-use Rattle.xs_expression_reader.specs.Formulas.{Sym, formula, more, again, expressions, live, is_semicolon, after_semicolon, formulas}
+use Rattle.xs_expression_reader.specs.Formulas.{Sym, formula, more, again, expressions, live, formulas}
 use Rattle.xs_expression_reader.specs.Lists.{place_view, Fits, stepped}
 use Rattle.xs_expression_reader.specs.Readings.{Goes}
 use Rattle.xs_expression_reader.specs.declared.list.Place.{Place}
@@ -40,21 +40,6 @@ goes_inside st new r t h role path on =
     let here : new ≡ machine.step st (role_of t) = path ∙ ap (machine.step st) role in
     sym (inside st t h ∙ ap (λ z. taken Sym formulas (live z []) (more ∷ []) (if is_whole st then step Sym formulas (more ∷ []) t else None)) (sym here)
     ∙ goes new (if is_whole st then step Sym formulas (more ∷ []) t else None) on)
-
-halts : (new : State) (o : Option (List Sym)) → is_stuck new ≡ true → taken Sym formulas (live new []) (more ∷ []) o ≡ o
-halts stuck o h = refl
-halts new o h = cc
-
-past : (st new : State) (r : Role) (t : Lexeme) → is_stuck st ≡ false → r ≡ role_of t → new ≡ machine.step st r → is_stuck new ≡ true →
-    stepped (live st (more ∷ [])) t ≡ (if is_whole st then step Sym formulas (more ∷ []) t else None)
-past st new r t h role path stop =
-    let here : new ≡ machine.step st (role_of t) = path ∙ ap (machine.step st) role in
-    inside st t h ∙ ap (λ z. taken Sym formulas (live z []) (more ∷ []) (if is_whole st then step Sym formulas (more ∷ []) t else None)) (sym here)
-    ∙ halts new (if is_whole st then step Sym formulas (more ∷ []) t else None) stop
-
-after_more : (c : Role) (o : Option (List Sym)) → taken Sym formulas (after_semicolon c) [] None ≡ (if is_semicolon c then Some (again ∷ []) else None)
-after_more a_semicolon o = refl
-after_more c o = refl
 
 and_true : (b : Bool) → b ≡ (b && (true && true))
 and_true true = refl

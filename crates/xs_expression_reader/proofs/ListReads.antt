@@ -13,6 +13,7 @@ use Rattle.xs_expression_reader.specs.Lists.{IsExpressions, BytesSpellExpression
 use Rattle.xs_expression_reader.specs.Within.{is_too_deep, are_too_deep, spelling, in_list, AreWithin, HaveDepths, AreTooDeep}
 use Rattle.xs_expression_reader.specs.Reads.{Read, got, deep, none, and_then, answer, with_front, expr_at, each_at, goes_on, next_expr, past_semicolon, exprs_at}
 use Rattle.xs_expression_reader.proofs.Accepted.{spelled_accepted}
+use Rattle.xs_expression_reader.proofs.PartsRead.{answer_got, answer_deep, answer_none}
 use Rattle.xs_expression_reader.proofs.ReadLaws.{read_expr, are_within, within_are}
 
 -- an expression is some lexeme at least
@@ -92,18 +93,6 @@ read_list (last_expression (ended {ts} {e = e} p)) =
     first_read ts (sign k.Semicolon ∷ []) (is_too_deep (spelling p)) false e [] (read_expr p (sign k.Semicolon ∷ []) refl) (only_semicolon 1)
 read_list (more_expressions {ts} {us} {e} {more} p q) =
     first_read ts (sign k.Semicolon ∷ us) (is_too_deep (spelling p)) (are_too_deep (in_list q)) e more (read_expr p (sign k.Semicolon ∷ us) refl) (list_more q (length us) (omega arith))
-
-answer_got : (b : Bool) (es us : List Formula) (r : List Lexeme) → answer b es [] ≡ got us r → (es ≡ us) × (b ≡ false)
-answer_got true es us r e = cc
-answer_got false es us r e = let same : es ≡ us = cc in (same, refl)
-
-answer_deep : (b : Bool) (es : List Formula) → answer b es [] ≡ deep → b ≡ true
-answer_deep true es e = refl
-answer_deep false es e = cc
-
-answer_none : (b : Bool) (es : List Formula) → answer b es [] ≡ none → ⊥
-answer_none true es e = cc
-answer_none false es e = cc
 
 -- the list that is read is the spelled one
 pub list_spelled_by : (bytes : List ℕ) (tokens : List Token) (es : List Formula) (r : List Lexeme) → HasTokens bytes tokens → IsExpressions (lexemes_of bytes tokens) →

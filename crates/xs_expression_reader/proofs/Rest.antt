@@ -72,9 +72,6 @@ meant (sign k.CloseSquare) = tt
 meant (sign s) = refl
 
 -- lists that make a part of an expression
-IsAtom : List Lexeme → Type 0
-IsAtom xs = (a : Tree Path) × SpellsAtom xs a
-
 IsInt : List Lexeme → Type 0
 IsInt xs = (n : ℤ) × SpellsInt xs n
 
@@ -214,9 +211,6 @@ no_tail {C} {ts} c = record {
 -- the operand has ended
 nothing_more : {One C : List Lexeme → Type 0} {ts : List Lexeme} → One [] → HasTail C ts → HasOperand One C ts
 nothing_more {One} {C} {ts} o h = record { first = []; after = ts; whole = refl; one = o; tail = h }
-
-one_lexeme : {C : List Lexeme → Type 0} (t s : Lexeme) → t ≡ s → {ts : List Lexeme} → HasOperand (λ xs. xs ≡ []) C ts → HasOperand (λ xs. xs ≡ s ∷ []) C (t ∷ ts)
-one_lexeme t s e h = longer t (λ xs n. cc) h
 
 spelled_at : {l : ℕ} {xs ys : List Lexeme} → xs ≡ ys → IsSpelled l ys → IsSpelled l xs
 spelled_at {l} e p = subst (IsSpelled l) (sym e) p

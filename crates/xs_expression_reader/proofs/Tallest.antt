@@ -1,5 +1,5 @@
 -- No tree that the machine holds is higher than the one that it ends with.
-use Rattle.std.proofs.Common.{◌≡◌, ◌+◌, length, drop, get_or, ℕ, ◌≤◌, ◌<◌, Bool, true, false, List, [], ◌∷◌, ◌++◌, Some, refl, sym, ◌∙◌, ap, subst, arith}
+use Rattle.std.proofs.Common.{◌≡◌, ◌+◌, length, drop, get_or, ℕ, ◌≤◌, ◌<◌, Bool, true, false, List, [], ◌∷◌, Some, refl, sym, ◌∙◌, ap, subst, arith}
 use Rattle.std.proofs.lemmas.List.{drop_more}
 use Rattle.std.specs.Prelude.{pos, max, if◌then◌else◌}
 use Rattle.xs_tree.specs.declared.expr.Op.{Op}
@@ -11,7 +11,6 @@ use Rattle.xs_tree.specs.Limits.{deepest}
 use Rattle.xs_expression_reader.specs.Recognise.{Role, a_truth, a_name, a_number, a_next, a_case, an_esac, a_minus, a_bang, joins, asks, a_colon, a_semicolon, a_comma, a_dot, dots, opens, closes, opens_set, closes_set, role_of}
 use Rattle.xs_expression_reader.specs.Build.{Part, minus_part, bang_part, left_part, answered, asked, group_part, next_part, set_part, condition_part, outcome_part, Hand, number_hand, name_hand, other_hand, Build, ready, name_on, high_on, minus_high_on, next_on, branch_on, holds, broken, value, takes_operand, joined, Held, reduce, shut, level, left_held, asked_held, shut_held, go_on, span_from, after_hand, open_operand, build_step, build, finished, finish, built}
 use Rattle.xs_expression_reader.specs.Heights.{part_height, parts_height, tallest, held_height, highest, is_whole, TooHigh}
-use Rattle.xs_expression_reader.proofs.Built.{build_append}
 use Rattle.xs_expression_reader.proofs.Heights.{trees_more, branches_more}
 
 joined_grows : (l : ℕ) (p : Part) (t : Tree Path) → takes_operand l p ≡ true → max (part_height p) (height_of t) ≤ height_of (joined p t)

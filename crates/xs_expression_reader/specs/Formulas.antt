@@ -4,7 +4,7 @@ use Rattle.xs_lexer.specs.declared.token.TokenKind.TheVariants as k
 use Rattle.xs_tree.specs.ProgramTree.{Formula}
 use Rattle.xs_tree.specs.Lexemes.{Lexeme, num, sign}
 use Rattle.xs_tree.specs.SpellsProgram.{SpellsExpressions}
-use Rattle.xs_expression_reader.specs.Recognise.{Role, a_semicolon, role_of, State, wants, stuck, is_whole, is_stuck, start}
+use Rattle.xs_expression_reader.specs.Recognise.{Role, a_semicolon, role_of, State, stuck, is_whole, is_stuck, start}
 use Rattle.xs_expression_reader.specs.Recognise as machine
 use Rattle.xs_expression_reader.specs.Complete.{completion}
 use Rattle.xs_expression_reader.specs.Predict.{Grammar}

@@ -1,5 +1,5 @@
 -- The code's roles, frames and modes, as those of the machine.
-use Rattle.std.specs.Prelude.{ℕ, ◌+◌, Bool, true, false, List, [], ◌∷◌, Option, Some, None}
+use Rattle.std.specs.Prelude.{Bool, true, false, List, [], ◌∷◌}
 use Rattle.xs_expression_reader.specs.declared.machine.Role.TheVariants as r
 use Rattle.xs_expression_reader.specs.declared.machine.Role.{Role}
 use Rattle.xs_expression_reader.specs.declared.frames.Frame.TheVariants as f
@@ -64,10 +64,6 @@ state_with m.HadNumber s = machine.had machine.by_number s
 state_with m.HadName s = machine.had machine.by_name s
 state_with m.Had s = machine.had machine.by_other s
 state_with m.Stuck s = machine.stuck
-
--- the state of a mode, with the frames of a vector
-abbrev pub state_of : Mode → List Frame → machine.State
-state_of mode frames = state_with mode (stack_of frames)
 
 -- nothing is open
 abbrev pub has_no_frame : List machine.Frame → Bool

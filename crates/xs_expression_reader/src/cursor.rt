@@ -5,7 +5,7 @@
 ghost use Rattle.std.specs.Prelude.{◌≡◌, Err, IfOk, length, drop, if◌then◌else◌};
 ghost use Rattle.xs_tree.specs.Written.{tree_of};
 ghost use Rattle.xs_expression_reader.specs.declared.fault.BuildFault.TheVariants as stop;
-ghost use Rattle.xs_expression_reader.specs.MarkView.{mark_view, is_mark};
+ghost use Rattle.xs_expression_reader.specs.MarkView.{mark_view};
 ghost use Rattle.xs_expression_reader.specs.Reads.{got, deep, none, mark_at, rest_of, has_next, expect_at, has_word, word_at, end_at, name_at, number_at, int_at, text_at, expr_at, goes_on, is_past};
 
 use crate::extent::reach;

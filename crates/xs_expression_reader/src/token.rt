@@ -2,7 +2,7 @@
 //
 // Its role is what it is within an expression and its mark what it is outside, and it gives the name, the number or the
 // word that its text has. `token_texts` makes all of them from the tokens of a text.
-ghost use Rattle.std.specs.Prelude.{◌≡◌, ◌<◌, ◌≤◌, ◌-◌, ◌^◌, All, IfOk, length, slice_range, pos};
+ghost use Rattle.std.specs.Prelude.{◌≡◌, ◌<◌, ◌≤◌, ◌-◌, ◌^◌, All, IfOk, pos};
 ghost use Rattle.xs_tree.specs.Lexemes.{lexemes_of};
 ghost use Rattle.xs_tree.specs.Spells.{minus};
 ghost use Rattle.xs_lexer.specs.Tokens.{number_of, StandsIn};

@@ -2,7 +2,7 @@
 //
 // One token after another is taken (`step`), in the state `Build`: what has just been read, and beside it the stack of what
 // waits for an operand (`parts`). No function calls itself, so the depth of an expression takes no stack of calls.
-ghost use Rattle.std.specs.Prelude.{◌≡◌, ◌<◌, ◌≤◌, ◌∷◌, [], List, None, Some, Err, IfOk};
+ghost use Rattle.std.specs.Prelude.{◌≡◌, ◌<◌, ◌≤◌, ◌∷◌, List, None, Some, Err, IfOk};
 ghost use Rattle.xs_tree.specs.Tree.{height_of};
 ghost use Rattle.xs_tree.specs.Written.{tree_of};
 ghost use Rattle.xs_tree.specs.ProgramTree.{Formula};

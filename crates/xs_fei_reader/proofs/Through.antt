@@ -1,5 +1,5 @@
 -- What a list of expected symbols stands for.
-use Rattle.std.proofs.Common.{◌≡◌, inl, inr, ◌⊎◌, ℕ, Bool, true, false, List, [], ◌∷◌, ◌++◌, Option, Some, None, refl, sym, ◌∙◌, ap, subst, append-nil}
+use Rattle.std.proofs.Common.{◌≡◌, inl, inr, ◌⊎◌, ℕ, Bool, true, false, List, [], ◌∷◌, ◌++◌, Option, refl, sym, ◌∙◌, ap}
 use Rattle.std.specs.Prelude.{if◌then◌else◌}
 use Rattle.xs_lexer.specs.declared.token.TokenKind.TheVariants as k
 use Rattle.xs_tree.specs.Lexemes.{Lexeme, word, num, sign, is_reserved}
@@ -8,6 +8,7 @@ use Rattle.xs_expression_reader.specs.Recognise as machine
 use Rattle.xs_expression_reader.specs.Places.{is_word}
 use Rattle.xs_expression_reader.specs.Predict.{Means}
 use Rattle.xs_expression_reader.specs.Marks.{Mark, a_name, a_number, s_open, s_close, s_comma, s_semicolon, s_colon, mark_of}
+use Rattle.xs_expression_reader.proofs.Meanings.{Leads}
 use Rattle.xs_expression_reader.proofs.Accepted.{run_stuck}
 use Rattle.xs_expression_reader.proofs.Marks.{Marked, marked, mark_of_name, word_there}
 use Rattle.xs_fei_reader.specs.InstructionRead.{Single, the_name, the_number, the_open, the_close, the_comma, the_colon, the_semicolon, Sym, is_single, spelled, live, where_so, instructions}
@@ -83,24 +84,17 @@ as_key w syms rest m = (word w ∷ [], rest, refl, refl, m)
 pub as_other : (x : Sym) (syms : List Sym) (xs ys : List Lexeme) → spelled x xs → Means_of syms ys → Means_of (x ∷ syms) (xs ++ ys)
 as_other x syms xs ys d m = (xs, ys, refl, d, m)
 
-pub last : (x : Sym) (ts : List Lexeme) → Means_of (x ∷ []) ts → spelled x ts
-last x ts m = subst (spelled x) (sym (m.2 ∙ ap (λ z. m.0 ++ z) m.4 ∙ append-nil m.0)) m.3
-
-pub as_last : (x : Sym) (ts : List Lexeme) → spelled x ts → Means_of (x ∷ []) ts
-as_last x ts d = (ts, [], sym (append-nil ts), d, refl)
-
 -- what a choice of symbols stands for
-unfoldable pub Through : Option (List Sym) → List Lexeme → Type 0
-Through (Some syms) ts = Means_of syms ts
-Through None ts = ⊥
+abbrev pub Through : Option (List Sym) → List Lexeme → Type 0
+Through = Leads instructions
 
 pub where_true : (b : Bool) (syms : List Sym) (ts : List Lexeme) → Through (where_so b syms) ts → (b ≡ true) × Means_of syms ts
-unfolding Through
+unfolding Leads
 where_true true syms ts h = (refl, h)
 where_true false syms ts h = absurd h
 
 pub true_where : (b : Bool) (syms : List Sym) (ts : List Lexeme) → b ≡ true → Means_of syms ts → Through (where_so b syms) ts
-unfolding Through
+unfolding Leads
 true_where true syms ts e h = h
 true_where false syms ts e h = cc
 
@@ -116,21 +110,11 @@ if_word t w a b ts h = go (is_word t w) refl h
 
 pub live_sound : (st : State) (rest : List Sym) (ts : List Lexeme) → Through (live st rest) ts →
     (xs : List Lexeme) × (ys : List Lexeme) × (ts ≡ xs ++ ys) × (is_whole (machine.run st xs) ≡ true) × Means_of rest ys
-unfolding Through
+unfolding Leads
 live_sound stuck rest ts h = absurd h
 live_sound st rest ts h = h
 
 pub live_complete : (st : State) (rest : List Sym) (xs ys : List Lexeme) → is_whole (machine.run st xs) ≡ true → Means_of rest ys → Through (live st rest) (xs ++ ys)
-unfolding Through
+unfolding Leads
 live_complete stuck rest xs ys e m = let clash : false ≡ true = ap is_whole (sym (run_stuck xs)) ∙ e in cc
 live_complete st rest xs ys e m = (xs, ys, refl, e, m)
-
-pub through_some : (o : Option (List Sym)) (ts : List Lexeme) → Through o ts → (syms : List Sym) × (o ≡ Some syms) × Means_of syms ts
-unfolding Through
-through_some (Some syms) ts h = (syms, refl, h)
-through_some None ts h = absurd h
-
-pub some_through : (o : Option (List Sym)) (syms : List Sym) (ts : List Lexeme) → o ≡ Some syms → Means_of syms ts → Through o ts
-unfolding Through
-some_through (Some a) syms ts e m = let same : syms ≡ a = cc in subst (λ z. Means_of z ts) same m
-some_through None syms ts e m = cc

@@ -1,5 +1,6 @@
 -- A program is read as it is spelled.
-use Rattle.std.proofs.Common.{◌≡◌, ℕ, zero, suc, ◌<◌, ◌≤◌, ℤ, Bool, true, false, List, [], ◌∷◌, ◌++◌, length, refl, sym, ap, ◌∙◌, subst, arith, append_assoc, append-nil, length-append}
+use Rattle.std.proofs.Common.{◌≡◌, ℕ, zero, suc, ◌<◌, ◌≤◌, Bool, true, false, List, [], ◌∷◌, ◌++◌, length, refl, sym, ap, ◌∙◌, subst, arith, append_assoc, append-nil, length-append}
+use Rattle.std.proofs.Math.Bool.{or-false}
 use Rattle.std.specs.Prelude.{◌||◌, if◌then◌else◌}
 use Rattle.xs_lexer.specs.declared.token.TokenKind.TheVariants as k
 use Rattle.xs_lexer.specs.declared.token.Token.{Token}
@@ -10,83 +11,24 @@ use Rattle.xs_tree.specs.declared.program.Moment.{Moment}
 use Rattle.xs_tree.specs.declared.program.Moment.TheVariants.{Always, First, After}
 use Rattle.xs_tree.specs.ProgramTree.{Text, Path, Formula, DeclaredTree, instance, members, range, DeclTree, DefineTree, AssignmentTree, SectionTree, var, ivar, frozen, define, constants, assign, init, invar, trans, ModuleTree, ProgramTree}
 use Rattle.xs_tree.specs.Lexemes.{Lexeme, word, num, sign, is_reserved, lexemes_of}
-use Rattle.xs_tree.specs.Spells.{SpellsInt, plain_int, minus_int, SpellsDotted, one_name, more_names}
+use Rattle.xs_tree.specs.Spells.{plain_int, minus_int, SpellsDotted, one_name, more_names}
 use Rattle.xs_tree.specs.SpellsProgram as g
-use Rattle.xs_tree.specs.SpellsProgram.{SpellsMany, no_more, one_more, SpellsCommas, last_one, one_comma, SpellsBracketed, no_brackets, brackets, SpellsName, a_name, SpellsExpr, SpellsMember, a_symbol, SpellsType, is_boolean, is_range, is_members, SpellsDeclared, is_type, is_instance, is_empty_instance, SpellsDecl, declares, SpellsDefine, SpellsTarget, always, first, after, SpellsAssignment, SpellsFormula, open_ended, ended, skipped_words, HasNoSection, SpellsSection, a_var, an_ivar, a_frozen, a_define, some_constants, an_assign, an_init, an_invar, a_trans, SpellsSections, no_section, a_section, skipped, SpellsFormals, some_formals, empty_formals, SpellsModule, a_module, SpellsProgram}
+use Rattle.xs_tree.specs.SpellsProgram.{SpellsMany, no_more, one_more, SpellsCommas, last_one, one_comma, SpellsBracketed, no_brackets, brackets, SpellsName, a_name, SpellsExpr, SpellsMember, a_symbol, SpellsType, is_boolean, is_range, is_members, SpellsDeclared, is_type, is_instance, is_empty_instance, SpellsDecl, declares, SpellsDefine, SpellsTarget, always, first, after, SpellsAssignment, SpellsFormula, open_ended, ended, HasNoSection, SpellsSection, a_var, an_ivar, a_frozen, a_define, some_constants, an_assign, an_init, an_invar, a_trans, SpellsSections, no_section, a_section, skipped, SpellsFormals, some_formals, empty_formals, SpellsModule, a_module, SpellsProgram}
 use Rattle.xs_tree.specs.Bytes.{BytesSpellProgram}
 use Rattle.xs_expression_reader.specs.Recognise.{stuck, run, is_whole, start}
-use Rattle.xs_expression_reader.specs.Marks.{Mark, mark_of, w_module, w_var, w_ivar, w_frozen, w_define, w_constants, w_assign, w_init, w_invar, w_trans, w_skipped, w_boolean, w_first, w_after, s_becomes, s_dots, s_open, s_close, s_open_brace, s_close_brace, s_comma, s_semicolon, s_colon, s_dot, s_minus, is_section}
+use Rattle.xs_expression_reader.specs.Marks.{Mark, mark_of, w_module, w_skipped, w_first, w_after, s_becomes, s_open, s_close, s_close_brace, s_comma, s_semicolon, s_colon, s_dot}
 use Rattle.xs_expression_reader.specs.Marks as m
 use Rattle.xs_expression_reader.specs.MarkView.{is_mark}
 use Rattle.xs_parse.specs.Symbols.{IsProgram}
 use Rattle.xs_expression_reader.specs.Within.{Spelling, AreWithin, is_too_deep, are_too_deep, spelling, in_formula, in_many}
 use Rattle.xs_parse.specs.Within.{in_commas, in_actuals, in_actual, in_declared, in_decl, in_define, in_assignment, in_section, in_sections, in_module, in_program, HasProgramDepths, IsProgramTooDeep}
-use Rattle.xs_expression_reader.specs.Reads.{Read, got, deep, none, and_then, answer, with_front, mark_at, rest_of, has_next, expect_at, named_at, name_at, expr_at, each_at, some_at, past_semicolon, is_past, int_at}
+use Rattle.xs_expression_reader.specs.Reads.{Read, got, deep, none, and_then, answer, mark_at, rest_of, has_next, expect_at, name_at, expr_at, each_at, some_at, past_semicolon, is_past, int_at}
 use Rattle.xs_parse.specs.ProgramParts.{next_name, dotted_at, names_at, member_at, members_at, braced_at, type_at, commas_at, closed_at, bracketed_at, instance_at, declared_at, decl_at, decls_at, value_at, define_at, defines_at, moment_at, past_moment, target_at, assignment_at, begins_assignment, assigns_at, constants_at, formula_at, past_skipped, section_at, is_kept, sections_at, next_module, program_at}
 use Rattle.xs_expression_reader.proofs.Accepted.{run_stuck, spelled_accepted}
 use Rattle.xs_expression_reader.proofs.Marks.{Marked, marked, mark_of_name, mark_of_skipped, skipped_section, begins_section, section_mark}
+use Rattle.xs_expression_reader.proofs.PartsRead.{too_append, mapped, closes_with, each_none_left, cons_answer, each_joined, some_joined, many_read, name_read, int_read, answer_got, answer_deep, answer_none}
 use Rattle.xs_parse.proofs.ProgramReads.{section_ends, is_sectional, section_marks}
 use Rattle.xs_expression_reader.proofs.ReadLaws.{ends_expr, read_expr, are_within, within_are}
-
-or_false : (b : Bool) → (b || false) ≡ b
-or_false true = refl
-or_false false = refl
-
-or_assoc : (a b c : Bool) → ((a || b) || c) ≡ (a || (b || c))
-or_assoc true b c = refl
-or_assoc false b c = refl
-
-too_append : (xs ys : List Spelling) → are_too_deep (xs ++ ys) ≡ (are_too_deep xs || are_too_deep ys)
-too_append [] ys = refl
-too_append (x ∷ xs) ys = ap (λ b. is_too_deep x || b) (too_append xs ys) ∙ sym (or_assoc (is_too_deep x) (are_too_deep xs) (are_too_deep ys))
-
--- what is made of a part that is read
-mapped : {A B : Type 0} (f : A → B) (y : Read A) (b : Bool) (a : A) (r : List Lexeme) → y ≡ answer b a r → and_then y (λ x s. got (f x) s) ≡ answer b (f a) r
-mapped f y b a r e = ap (λ z. and_then z (λ x s. got (f x) s)) e ∙ go b
-  where
-    go : (b : Bool) → and_then (answer b a r) (λ x s. got (f x) s) ≡ answer b (f a) r
-    go true = refl
-    go false = refl
-
--- a part, and the lexeme behind it
-closes_with : {A B : Type 0} (f : A → B) (c : Mark) (t : Lexeme) (y : Read A) (b : Bool) (a : A) (r : List Lexeme) → is_mark c (mark_of t) ≡ true → y ≡ answer b a (t ∷ r) →
-    and_then y (λ x s. and_then (expect_at c s) (λ _ z. got (f x) z)) ≡ answer b (f a) r
-closes_with f c t y b a r here e = ap (λ z. and_then z (λ x s. and_then (expect_at c s) (λ _ z. got (f x) z))) e ∙ go b
-  where
-    go : (b : Bool) → and_then (answer b a (t ∷ r)) (λ x s. and_then (expect_at c s) (λ _ z. got (f x) z)) ≡ answer b (f a) r
-    go true = refl
-    go false = ap (λ b. and_then (if b then got tt r else none) (λ _ z. got (f a) z)) here
-
--- one part after another
-each_none_left : {A : Type 0} (begins : List Lexeme → Bool) (one : List Lexeme → Read A) (n : ℕ) (r : List Lexeme) → begins r ≡ false → each_at begins one n r ≡ got [] r
-each_none_left begins one zero r e = refl
-each_none_left begins one (suc n) r e = ap (λ b. if b then and_then (one r) (λ a s. and_then (each_at begins one n s) (λ more z. got (a ∷ more) z)) else got [] r) e
-
-cons_answer : {A : Type 0} (a : A) (vs : List A) (c : Bool) (end : List Lexeme) (y : Read (List A)) → y ≡ answer c vs end → and_then y (λ more z. got (a ∷ more) z) ≡ answer c (a ∷ vs) end
-cons_answer a vs c end y e = mapped (λ more. a ∷ more) y c vs end e
-
-each_joined : {A : Type 0} (begins : List Lexeme → Bool) (one : List Lexeme → Read A) (n : ℕ) (ts r : List Lexeme) (b c : Bool) (a : A) (vs : List A) (end : List Lexeme) →
-    begins ts ≡ true → one ts ≡ answer b a r → each_at begins one n r ≡ answer c vs end → each_at begins one (suc n) ts ≡ answer (b || c) (a ∷ vs) end
-each_joined begins one n ts r b c a vs end go read rest =
-    ap (λ b. if b then and_then (one ts) (λ a s. and_then (each_at begins one n s) (λ more z. got (a ∷ more) z)) else got [] ts) go
-    ∙ ap (λ y. and_then y (λ a s. and_then (each_at begins one n s) (λ more z. got (a ∷ more) z))) read ∙ by b
-  where
-    by : (b : Bool) → and_then (answer b a r) (λ a s. and_then (each_at begins one n s) (λ more z. got (a ∷ more) z)) ≡ answer (b || c) (a ∷ vs) end
-    by true = refl
-    by false = cons_answer a vs c end (each_at begins one n r) rest
-
-some_joined : {A : Type 0} (begins : List Lexeme → Bool) (one next : List Lexeme → Read A) (ts r : List Lexeme) (b c : Bool) (a : A) (vs : List A) (end : List Lexeme) →
-    one ts ≡ answer b a r → each_at begins next (length r) r ≡ answer c vs end → some_at begins one next ts ≡ answer (b || c) (a ∷ vs) end
-some_joined begins one next ts r b c a vs end read rest =
-    ap (λ y. and_then y (λ a s. with_front (a ∷ []) (each_at begins next (length s) s))) read ∙ by b
-  where
-    front : (c : Bool) → with_front (a ∷ []) (answer c vs end) ≡ answer c (a ∷ vs) end
-    front true = refl
-    front false = refl
-
-    by : (b : Bool) → and_then (answer b a r) (λ a s. with_front (a ∷ []) (each_at begins next (length s) s)) ≡ answer (b || c) (a ∷ vs) end
-    by true = refl
-    by false = ap (with_front (a ∷ [])) rest ∙ front c
 
 -- parts with commas between
 module _ (A : Type 0) (One : List Lexeme → A → Type 0) (one : List Lexeme → Read A) (within : (ts : List Lexeme) (a : A) → One ts a → List Spelling) (ok : List Lexeme → Bool)
@@ -99,7 +41,7 @@ module _ (A : Type 0) (One : List Lexeme → A → Type 0) (one : List Lexeme �
       each_at (has_next s_comma) next (suc n) (sign k.Comma ∷ (us ++ r)) ≡ answer (are_too_deep (in_commas One within q)) vs r
   commas_more (last_one {ts} {a} p) n r h ends off =
       each_joined (has_next s_comma) next n (sign k.Comma ∷ (ts ++ r)) r (are_too_deep (within ts a p)) false a [] r refl (reads ts a p r ends) (each_none_left (has_next s_comma) next n r off)
-      ∙ ap (λ b. answer b (a ∷ []) r) (or_false (are_too_deep (within ts a p)))
+      ∙ ap (λ b. answer b (a ∷ []) r) (or-false (are_too_deep (within ts a p)))
   commas_more (one_comma {ts} {us} {a} {more} p q) zero r h ends off = let size = length-append ts (sign k.Comma ∷ us) in absurd (omega (arith, h, size))
   commas_more (one_comma {ts} {us} {a} {more} p q) (suc n) r h ends off =
       let size = length-append ts (sign k.Comma ∷ us) in
@@ -112,7 +54,7 @@ module _ (A : Type 0) (One : List Lexeme → A → Type 0) (one : List Lexeme �
       some_at (has_next s_comma) one next (us ++ r) ≡ answer (are_too_deep (in_commas One within q)) vs r
   commas_read (last_one {ts} {a} p) r ends off =
       some_joined (has_next s_comma) one next (ts ++ r) r (are_too_deep (within ts a p)) false a [] r (reads ts a p r ends) (each_none_left (has_next s_comma) next (length r) r off)
-      ∙ ap (λ b. answer b (a ∷ []) r) (or_false (are_too_deep (within ts a p)))
+      ∙ ap (λ b. answer b (a ∷ []) r) (or-false (are_too_deep (within ts a p)))
   commas_read (one_comma {ts} {us} {a} {more} p q) r ends off =
       let size = length-append us r in
       ap (some_at (has_next s_comma) one next) (append_assoc ts (sign k.Comma ∷ us) r)
@@ -124,9 +66,6 @@ module _ (A : Type 0) (One : List Lexeme → A → Type 0) (one : List Lexeme �
 no_commas : {A : Type 0} (One : List Lexeme → A → Type 0) {us : List Lexeme} {vs : List A} (q : SpellsCommas One us vs) → are_too_deep (in_commas One (λ ts a p. []) q) ≡ false
 no_commas One (last_one p) = refl
 no_commas One (one_comma p q) = no_commas One q
-
-name_read : (x : Text) → is_reserved x ≡ false → (r : List Lexeme) → name_at (word x ∷ r) ≡ got x r
-name_read x n r = ap (λ c. named_at c (word x) r) (mark_of_name x n)
 
 name_next : (x : Text) → is_reserved x ≡ false → (c : Mark) (r : List Lexeme) → has_next c (word x ∷ r) ≡ is_mark c m.a_name
 name_next x n c r = ap (is_mark c) (mark_of_name x n)
@@ -159,10 +98,6 @@ dotted_mark : {us : List Lexeme} {d : Path} (q : SpellsDotted us d) (r : List Le
 dotted_mark (one_name {x = x} f) r = mark_of_name x f
 dotted_mark (more_names {x = x} f q) r = mark_of_name x f
 
-int_read : {xs : List Lexeme} {n : ℤ} (q : SpellsInt xs n) (r : List Lexeme) → int_at (xs ++ r) ≡ got n r
-int_read plain_int r = refl
-int_read minus_int r = refl
-
 a_member_read : (ts : List Lexeme) (x : Member) (p : SpellsMember ts x) (r : List Lexeme) → true ≡ true → member_at (ts ++ r) ≡ answer false x r
 a_member_read ts x (a_symbol {x = w} n) r e =
     ap (λ b. if b then and_then (name_at (word w ∷ r)) (λ y s. got (mem.Symbol y) s) else and_then (int_at (word w ∷ r)) (λ y s. got (mem.Number y) s)) (name_next w n m.a_name r)
@@ -190,7 +125,7 @@ type_next ts d (is_range minus_int q) r = refl
 type_next ts d (is_members p) r = refl
 
 actual_read : (ts : List Lexeme) (e : Formula) (p : SpellsExpr ts e) (r : List Lexeme) → ends_expr r ≡ true → expr_at (ts ++ r) ≡ answer (are_too_deep (in_actual ts e p)) e r
-actual_read ts e p r ends = read_expr p r ends ∙ ap (λ b. answer b e r) (sym (or_false (is_too_deep (spelling p))))
+actual_read ts e p r ends = read_expr p r ends ∙ ap (λ b. answer b e r) (sym (or-false (is_too_deep (spelling p))))
 
 actuals_read : {us : List Lexeme} {es : List Formula} (q : SpellsCommas SpellsExpr us es) (r : List Lexeme) → ends_expr r ≡ true → has_next s_comma r ≡ false →
     commas_at (us ++ r) ≡ answer (are_too_deep (in_commas SpellsExpr in_actual q)) es r
@@ -242,30 +177,6 @@ declared_read ts d (is_empty_instance {m = x} n) r =
     (name_next x n m.a_name (sign k.Open ∷ sign k.Close ∷ sign k.Semicolon ∷ r))
     ∙ ap (λ y. and_then y (λ m r. and_then (bracketed_at commas_at r) (λ es s. got (instance m es) s))) (name_read x n (sign k.Open ∷ sign k.Close ∷ sign k.Semicolon ∷ r))
 
--- many parts, each of which begins in a way that tells it
-module _ (A : Type 0) (One : List Lexeme → A → Type 0) (one : List Lexeme → Read A) (begins : List Lexeme → Bool) (within : (ts : List Lexeme) (a : A) → One ts a → List Spelling)
-    (ok : List Lexeme → Bool) (next_ok : (z : List Lexeme) → begins z ≡ true → ok z ≡ true)
-    (starts : (ts : List Lexeme) (a : A) (p : One ts a) (r : List Lexeme) → begins (ts ++ r) ≡ true) (size : (ts : List Lexeme) (a : A) → One ts a → 0 < length ts)
-    (reads : (ts : List Lexeme) (a : A) (p : One ts a) (r : List Lexeme) → ok r ≡ true → one (ts ++ r) ≡ answer (are_too_deep (within ts a p)) a r) where
-  rest_ok : {us : List Lexeme} {vs : List A} (q : SpellsMany One us vs) (r : List Lexeme) → ok r ≡ true → ok (us ++ r) ≡ true
-  rest_ok no_more r o = o
-  rest_ok (one_more {ts} {us} {a} p q) r o = next_ok ((ts ++ us) ++ r) (ap begins (append_assoc ts us r) ∙ starts ts a p (us ++ r))
-
-  many_read : {us : List Lexeme} {vs : List A} (q : SpellsMany One us vs) (n : ℕ) (r : List Lexeme) → length us ≤ n → ok r ≡ true → begins r ≡ false →
-      each_at begins one n (us ++ r) ≡ answer (are_too_deep (in_many One within q)) vs r
-  many_read no_more n r h o off = each_none_left begins one n r off
-  many_read (one_more {ts} {us} {a} {more} p q) zero r h o off = let long = length-append ts us in let some = size ts a p in absurd (omega (arith, h, long, some))
-  many_read (one_more {ts} {us} {a} {more} p q) (suc n) r h o off =
-      let long = length-append ts us in let some = size ts a p in
-      ap (each_at begins one (suc n)) (append_assoc ts us r)
-      ∙ each_joined begins one n (ts ++ (us ++ r)) (us ++ r) (are_too_deep (within ts a p)) (are_too_deep (in_many One within q)) a more r
-      (starts ts a p (us ++ r)) (reads ts a p (us ++ r) (rest_ok q r o)) (many_read q n r (omega (arith, h, long, some)) o off)
-      ∙ ap (λ b. answer b (a ∷ more) r) (sym (too_append (within ts a p) (in_many One within q)))
-
-no_many : {A : Type 0} (One : List Lexeme → A → Type 0) {us : List Lexeme} {vs : List A} (q : SpellsMany One us vs) → are_too_deep (in_many One (λ ts a p. []) q) ≡ false
-no_many One no_more = refl
-no_many One (one_more p q) = no_many One q
-
 -- declarations
 module _ (What : List Lexeme → DeclaredTree → Type 0) (what : List Lexeme → Read DeclaredTree) (within : (ts : List Lexeme) (d : DeclaredTree) → What ts d → List Spelling)
     (reads : (ts : List Lexeme) (d : DeclaredTree) (p : What ts d) (r : List Lexeme) → what (ts ++ sign k.Semicolon ∷ r) ≡ answer (are_too_deep (within ts d p)) d (sign k.Semicolon ∷ r)) where
@@ -303,7 +214,7 @@ value_read us e p r =
     ∙ closes_with (λ e. e) s_semicolon (sign k.Semicolon) (expr_at (us ++ sign k.Semicolon ∷ r)) (is_too_deep (spelling p)) e r refl (read_expr p (sign k.Semicolon ∷ r) refl)
 
 one_too : {A : Type 0} (b : Bool) (a : A) (r : List Lexeme) → answer b a r ≡ answer (b || false) a r
-one_too b a r = ap (λ b. answer b a r) (sym (or_false b))
+one_too b a r = ap (λ b. answer b a r) (sym (or-false b))
 
 define_read : (ts : List Lexeme) (d : DefineTree) (p : SpellsDefine ts d) (r : List Lexeme) → true ≡ true → define_at (ts ++ r) ≡ answer (are_too_deep (in_define ts d p)) d r
 define_read ts d (g.defines {x} {ts = us} {e = v} n p) r e =
@@ -577,24 +488,12 @@ module_end : (z : List Lexeme) → has_next w_module z ≡ true → at_end z ≡
 module_end [] h = cc
 module_end (t ∷ ts) h = h
 
--- a program is read vs it is spelled
+-- a program is read as it is spelled
 pub read_program : {ts : List Lexeme} {p : ProgramTree} (q : SpellsProgram ts p) → program_at ts ≡ answer (are_too_deep (in_program q)) p []
 read_program {ts} {p} q =
     let long = append-nil ts in
     subst (λ z. each_at (has_next w_module) next_module (length ts) z ≡ answer (are_too_deep (in_program q)) p []) (append-nil ts)
     (many_read ModuleTree SpellsModule next_module (has_next w_module) in_module at_end module_end module_starts module_size module_read q (length ts) [] (omega arith) refl refl)
-
-answer_got : (b : Bool) (p q : ProgramTree) (r : List Lexeme) → answer b p [] ≡ got q r → (p ≡ q) × (b ≡ false)
-answer_got true p q r e = cc
-answer_got false p q r e = let same : p ≡ q = cc in (same, refl)
-
-answer_deep : (b : Bool) (p : ProgramTree) → answer b p [] ≡ deep → b ≡ true
-answer_deep true p e = refl
-answer_deep false p e = cc
-
-answer_none : (b : Bool) (p : ProgramTree) → answer b p [] ≡ none → ⊥
-answer_none true p e = cc
-answer_none false p e = cc
 
 -- the program that is read is the spelled one
 pub program_spelled : (bytes : List ℕ) (tokens : List Token) (p : ProgramTree) (r : List Lexeme) → HasTokens bytes tokens → IsProgram (lexemes_of bytes tokens) →

@@ -1,23 +1,20 @@
 -- The laws of the grammar of programs: what may follow each symbol, and that one lexeme decides.
-use Rattle.std.proofs.Common.{◌≡◌, ℕ, Bool, true, false, List, [], ◌∷◌, ◌++◌, Option, Some, None, refl, sym, ◌∙◌, ap, subst}
-use Rattle.std.specs.Prelude.{◌&&◌, ◌||◌, ◌↔◌}
-use Rattle.xs_tree.specs.ProgramTree.{ProgramTree}
+use Rattle.std.proofs.Common.{◌≡◌, ℕ, Bool, true, false, List, [], ◌∷◌, Option, None, refl, sym, ◌∙◌, ap}
+use Rattle.std.specs.Prelude.{◌&&◌, ◌||◌}
 use Rattle.xs_tree.specs.Lexemes.{Lexeme, word, num, sign, is_reserved, section_words}
 use Rattle.xs_tree.specs.Texts.{is_among}
-use Rattle.xs_tree.specs.SpellsProgram.{SpellsMany, SpellsModule}
 use Rattle.xs_expression_reader.specs.Recognise.{role_of, State, stuck, start}
 use Rattle.xs_expression_reader.specs.Recognise as machine
-use Rattle.xs_expression_reader.specs.Predict.{run, Fits, IsPredictable, can_start, all_empty, is_some}
+use Rattle.xs_expression_reader.specs.Predict.{Fits, IsPredictable, can_start, all_empty, is_some}
 use Rattle.xs_expression_reader.specs.Marks.{Mark, w_module, w_var, w_ivar, w_frozen, w_define, w_constants, w_assign, w_init, w_invar, w_trans, w_skipped, w_boolean, w_first, w_after, a_name, a_number, s_becomes, s_dots, s_open, s_close, s_open_brace, s_close_brace, s_comma, s_semicolon, s_colon, s_dot, s_minus, no_mark, mark_of, is_section}
 use Rattle.xs_parse.specs.ProgramRead.{the_becomes, the_semicolon, the_close, Sym, is_single, empty, live, alone, passing, after_type, after_declared, after_section, after, after_actual, next, ends_formula, ends_dots, is_word_module, is_word_semicolon, follow, programs}
 use Rattle.xs_parse.specs.ProgramRead as s
 use Rattle.xs_expression_reader.proofs.Exact.{completes}
-use Rattle.xs_expression_reader.proofs.Predicted.{goes_on_exactly, accepts_exactly}
 use Rattle.xs_expression_reader.proofs.Marks.{among, Marked, marked, section_no_role, begins_section, section_mark}
 use Rattle.xs_expression_reader.proofs.ReadLaws.{ends_role, whole_stops}
-use Rattle.xs_parse.proofs.SymbolMeanings.{Means_of, Through}
 use Rattle.xs_parse.proofs.ProgramSound.{sounds}
 use Rattle.xs_parse.proofs.ProgramComplete.{completed, empties, emptied, completing}
+use Rattle.xs_expression_reader.proofs.Meanings.{leads_some, some_leads, FitsAll, some_fits}
 
 -- what may follow
 pub section_ends : (t : Lexeme) → is_section t ≡ true → ends_role (role_of t) ≡ true
@@ -116,12 +113,8 @@ parted s.last_semicolon t e f = none_last (mark_of t) (section_marks (mark_of t)
 parted x t e f = cc
 
 -- what follows each symbol of a choice
-FitsOf : Option (List Sym) → (Lexeme → Bool) → Type 0
-FitsOf (Some syms) f = Fits Sym programs syms f
-FitsOf None f = Unit {0}
-
-some : Option (List Sym) → Bool
-some o = is_some Sym programs o
+abbrev FitsOf : Option (List Sym) → (Lexeme → Bool) → Type 0
+FitsOf = FitsAll programs
 
 sectional : (c : Mark) → ((is_some Sym programs (after_section c) || false) || is_word_module c) ≡ true → begins_section c ≡ true
 sectional w_module h = refl
@@ -201,7 +194,7 @@ is_in_section : (u : Lexeme) → ((is_some Sym programs (after_section (mark_of 
 is_in_section u h = section_mark (mark_of u) u (marked u) (sectional (mark_of u) h)
 
 fits_section : (c : Mark) → FitsOf (after_section c) (follow s.sections)
-unfolding FitsOf
+unfolding FitsAll
 fits_section w_var = (is_in_section, (λ u h. h, tt))
 fits_section w_ivar = (is_in_section, (λ u h. h, tt))
 fits_section w_frozen = (is_in_section, (λ u h. h, tt))
@@ -215,7 +208,7 @@ fits_section w_skipped = (is_in_section, (λ u h. h, tt))
 fits_section c = tt
 
 fits_type : (c : Mark) (f : Lexeme → Bool) → FitsOf (after_type c) f
-unfolding FitsOf
+unfolding FitsAll
 fits_type w_boolean f = tt
 fits_type a_number f = (λ u h. refl, (λ u h. refl, tt))
 fits_type s_minus f = (λ u h. refl, (λ u h. refl, (λ u h. refl, tt)))
@@ -223,24 +216,24 @@ fits_type s_open_brace f = (λ u h. refl, (λ u h. refl, tt))
 fits_type c f = tt
 
 fits_declared : (c : Mark) → FitsOf (after_declared c) (follow s.declared)
-unfolding FitsOf
+unfolding FitsAll
 fits_declared a_name = (λ u h. h, tt)
 fits_declared c = fits_type c (follow s.declared)
 
 fits_live : (st : State) (rest : List Sym) (f : Lexeme → Bool) →
     ((u : Lexeme) → (can_start Sym programs rest u || (all_empty Sym programs rest && f u)) ≡ true → (ends_formula (mark_of u) || is_section u) ≡ true) →
     Fits Sym programs rest f → FitsOf (live st rest) f
-unfolding FitsOf
+unfolding FitsAll
 fits_live stuck rest f h m = tt
 fits_live st rest f h m = (h, m)
 
 fits_actual : (c : Mark) (t : Lexeme) → FitsOf (after_actual c t) (follow s.first_actual)
-unfolding FitsOf
+unfolding FitsAll
 fits_actual s_close t = tt
 fits_actual c t = fits_live (machine.step start (role_of t)) (s.more_actuals ∷ []) (follow s.first_actual) (λ u h. actual_formula (mark_of u) (is_section u) h) (λ u h. refl, tt)
 
 fits_assigns : (c : Mark) → FitsOf (after s.assigns c) (follow s.assigns)
-unfolding FitsOf
+unfolding FitsAll
 fits_assigns a_name =
     (λ u h. becomes_dots (mark_of u) h, (λ u h. refl, (λ u h. semicolon_formula (mark_of u) (is_section u) h, (λ u h. refl, (λ u h. h, tt)))))
 fits_assigns w_first =
@@ -251,7 +244,7 @@ fits_assigns c = tt
 
 -- the symbols whose choice hangs on the mark alone
 fits_after : (x : Sym) (c : Mark) → FitsOf (after x c) (follow x)
-unfolding FitsOf
+unfolding FitsAll
 fits_after s.modules w_module =
     (λ u h. refl, (λ u h. section_mark (mark_of u) u (marked u) (sectional_modules (mark_of u) h), (λ u h. only_module (mark_of u) h, (λ u h. h, tt))))
 fits_after s.formals s_open = (λ u h. h, tt)
@@ -278,12 +271,12 @@ fits_after s.last_semicolon s_semicolon = tt
 fits_after x c = tt
 
 fits_alone : (b : Bool) (f : Lexeme → Bool) → FitsOf (alone b) f
-unfolding FitsOf
+unfolding FitsAll
 fits_alone true f = tt
 fits_alone false f = tt
 
 fits_skip : (b : Bool) → FitsOf (passing b) (follow s.skip)
-unfolding FitsOf
+unfolding FitsAll
 fits_skip true = tt
 fits_skip false = (λ u h. h, tt)
 
@@ -294,38 +287,13 @@ fits s.first_actual t = fits_actual (mark_of t) t
 fits s.skip t = fits_skip (is_section t)
 fits x t = fits_after x (mark_of t)
 
-through_some : (o : Option (List Sym)) (ts : List Lexeme) → Through o ts → (syms : List Sym) × (o ≡ Some syms) × Means_of syms ts
-unfolding Through
-through_some (Some syms) ts h = (syms, refl, h)
-through_some None ts h = absurd h
-
-some_through : (o : Option (List Sym)) (syms : List Sym) (ts : List Lexeme) → o ≡ Some syms → Means_of syms ts → Through o ts
-unfolding Through
-some_through (Some a) syms ts e m = let same : syms ≡ a = cc in subst (λ z. Means_of z ts) same m
-some_through None syms ts e m = cc
-
-some_fits : (o : Option (List Sym)) (syms : List Sym) (f : Lexeme → Bool) → o ≡ Some syms → FitsOf o f → Fits Sym programs syms f
-unfolding FitsOf
-some_fits (Some a) syms f e m = let same : a ≡ syms = cc in subst (λ z. Fits Sym programs z f) same m
-some_fits None syms f e m = cc
-
 pub programs_predictable : IsPredictable Sym programs
 programs_predictable = record {
   empty_spelled = empties;
   spelled_empty = emptied;
-  sound = λ x t syms e ts m. sounds x t ts (some_through (next x t) syms ts e m);
-  complete = λ x t ts d. through_some (next x t) ts (completed x t ts d);
+  sound = λ x t syms e ts m. sounds x t ts (some_leads programs (next x t) syms ts e m);
+  complete = λ x t ts d. leads_some programs (next x t) ts (completed x t ts d);
   apart = parted;
-  inner = λ x t syms e. some_fits (next x t) syms (follow x) e (fits x t);
+  inner = λ x t syms e. some_fits programs (next x t) syms (follow x) e (fits x t);
   completes = completing;
 }
-
--- the reader of programs goes on exactly where something makes the list a program
-pub program_goes_on : (ts : List Lexeme) →
-    ((syms : List Sym) × (run Sym programs (Some (s.modules ∷ [])) ts ≡ Some syms)) ↔ ((us : List Lexeme) × ((p : ProgramTree) × SpellsMany SpellsModule (ts ++ us) p))
-program_goes_on ts = goes_on_exactly Sym programs programs_predictable s.modules ts
-
--- and it accepts exactly the programs
-pub program_accepted : (ts : List Lexeme) →
-    ((syms : List Sym) × (run Sym programs (Some (s.modules ∷ [])) ts ≡ Some syms) × (all_empty Sym programs syms ≡ true)) ↔ ((p : ProgramTree) × SpellsMany SpellsModule ts p)
-program_accepted ts = accepts_exactly Sym programs programs_predictable s.modules ts

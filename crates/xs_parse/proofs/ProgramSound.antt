@@ -13,12 +13,13 @@ use Rattle.xs_tree.specs.SpellsProgram as g
 use Rattle.xs_expression_reader.specs.Recognise.{role_of, State, stuck, is_whole, start}
 use Rattle.xs_expression_reader.specs.Recognise as machine
 use Rattle.xs_expression_reader.specs.Marks.{Mark, w_module, w_var, w_ivar, w_frozen, w_define, w_constants, w_assign, w_init, w_invar, w_trans, w_skipped, w_boolean, w_first, w_after, a_name, a_number, s_open, s_close, s_open_brace, s_close_brace, s_comma, s_semicolon, s_dot, s_minus, mark_of, is_section}
-use Rattle.xs_parse.specs.ProgramRead.{Single, the_name, the_number, the_colon, the_becomes, the_semicolon, the_open, the_close, the_dots, Sym, Tail, tail_end, tail_more, is_single, IsName, IsExpr, IsMember, IsFormals, IsActuals, spelled, expr, live, alone, passing, after_type, after_declared, after_section, after, after_actual, next}
+use Rattle.xs_parse.specs.ProgramRead.{Single, the_name, the_number, the_colon, the_becomes, the_semicolon, the_open, the_close, the_dots, Sym, Tail, tail_end, tail_more, is_single, IsName, IsExpr, IsMember, IsFormals, IsActuals, spelled, expr, live, alone, passing, after_type, after_declared, after_section, after, after_actual, next, programs}
 use Rattle.xs_parse.specs.ProgramRead as s
 use Rattle.xs_expression_reader.proofs.Accepted.{run_stuck}
 use Rattle.xs_expression_reader.proofs.Rest.{accepted_spelled}
 use Rattle.xs_expression_reader.proofs.Marks.{Marked, marked}
-use Rattle.xs_parse.proofs.SymbolMeanings.{That, Means_of, One, one, last, tail_commas, Through}
+use Rattle.xs_parse.proofs.SymbolMeanings.{That, Means_of, One, one, tail_commas, Through}
+use Rattle.xs_expression_reader.proofs.Meanings.{last, Leads}
 
 -- a dotted name after its first name
 dotted_sound : (x : List ℕ) (xs : List Lexeme) → is_reserved x ≡ false → spelled s.more_dots xs → (p : Path) × SpellsDotted (word x ∷ xs) p
@@ -26,12 +27,12 @@ dotted_sound x xs n (inl e) = (x ∷ [], subst (λ z. SpellsDotted (word x ∷ z
 dotted_sound x xs n (inr d) = (x ∷ d.2.0, subst (λ z. SpellsDotted (word x ∷ z) (x ∷ d.2.0)) (sym d.1) (more_names n d.2.1))
 
 sound_modules : (c : Mark) (t : Lexeme) (ts : List Lexeme) → Marked c t → Through (after s.modules c) ts → spelled s.modules (t ∷ ts)
-unfolding Marked Through That
+unfolding Marked Leads That
 sound_modules w_module t ts m h =
     let a = one the_name (s.formals ∷ s.sections ∷ s.modules ∷ []) ts h in
     let b = a.means in
     let c = b.4 in
-    let d = last s.modules c.1 c.4 in
+    let d = last programs s.modules c.1 c.4 in
     let name = a.that in
     let item = a_module {x = name.0} {fs = b.0} {ts = c.0} {formals = b.3.0} {ss = c.3.0} name.2 b.3.1 c.3.1 in
     let assoc : (b.0 ++ c.0) ++ c.1 ≡ b.0 ++ (c.0 ++ c.1) = append_assoc b.0 c.0 c.1 in
@@ -41,15 +42,15 @@ sound_modules w_module t ts m h =
 sound_modules c t ts m h = absurd h
 
 sound_formals : (c : Mark) (t : Lexeme) (ts : List Lexeme) → Marked c t → Through (after s.formals c) ts → IsFormals (t ∷ ts)
-unfolding Marked Through
-sound_formals s_open t ts m h = subst (λ z. IsFormals (z ∷ ts)) (sym m) (last s.first_formal ts h)
+unfolding Marked Leads
+sound_formals s_open t ts m h = subst (λ z. IsFormals (z ∷ ts)) (sym m) (last programs s.first_formal ts h)
 sound_formals c t ts m h = absurd h
 
 sound_first_formal : (c : Mark) (t : Lexeme) (ts : List Lexeme) → Marked c t → Through (after s.first_formal c) ts → IsFormals (sign k.Open ∷ t ∷ ts)
-unfolding Marked Through
+unfolding Marked Leads
 sound_first_formal s_close t ts m h = ([], let whole : sign k.Open ∷ sign k.Close ∷ [] ≡ sign k.Open ∷ t ∷ ts = cc in subst (λ z. SpellsFormals z []) whole empty_formals)
 sound_first_formal a_name t ts m h =
-    let tail = last s.more_formals ts h in
+    let tail = last programs s.more_formals ts h in
     let list = tail_commas SpellsName (word m.0 ∷ []) m.0 (g.a_name m.2) tail in
     let e = m.1 in let f = list.1 in
     let whole : sign k.Open ∷ (list.0 ++ sign k.Close ∷ []) ≡ sign k.Open ∷ t ∷ ts = cc in
@@ -60,25 +61,25 @@ sound_names : (end : Lexeme) (x : Sym) (t : Lexeme) (ts : List Lexeme) → (One 
 unfolding That
 sound_names end x t ts a e f =
     let name = a.that in
-    let tail = f a.rest (last x a.rest a.means) in
+    let tail = f a.rest (last programs x a.rest a.means) in
     let e1 = a.whole in let e2 = name.1 in
     let whole : sign k.Comma ∷ word name.0 ∷ a.rest ≡ t ∷ ts = cc in
     subst (Tail IsName end) whole (tail_more {xs = word name.0 ∷ []} (name.0, g.a_name name.2) tail)
 
 sound_more_formals : (c : Mark) (t : Lexeme) (ts : List Lexeme) → Marked c t → Through (after s.more_formals c) ts → Tail IsName (sign k.Close) (t ∷ ts)
-unfolding Marked Through
+unfolding Marked Leads
 sound_more_formals s_close t ts m h = let whole : sign k.Close ∷ [] ≡ t ∷ ts = cc in subst (Tail IsName (sign k.Close)) whole tail_end
 sound_more_formals s_comma t ts m h = sound_names (sign k.Close) s.more_formals t ts (one the_name (s.more_formals ∷ []) ts h) m (λ us d. d)
 sound_more_formals c t ts m h = absurd h
 
 sound_more_constants : (c : Mark) (t : Lexeme) (ts : List Lexeme) → Marked c t → Through (after s.more_constants c) ts → Tail IsName (sign k.Semicolon) (t ∷ ts)
-unfolding Marked Through
+unfolding Marked Leads
 sound_more_constants s_semicolon t ts m h = let whole : sign k.Semicolon ∷ [] ≡ t ∷ ts = cc in subst (Tail IsName (sign k.Semicolon)) whole tail_end
 sound_more_constants s_comma t ts m h = sound_names (sign k.Semicolon) s.more_constants t ts (one the_name (s.more_constants ∷ []) ts h) m (λ us d. d)
 sound_more_constants c t ts m h = absurd h
 
 sound_int : (c : Mark) (t : Lexeme) (ts : List Lexeme) → Marked c t → Through (after s.int c) ts → (n : ℤ) × SpellsInt (t ∷ ts) n
-unfolding Marked Through That
+unfolding Marked Leads That
 sound_int a_number t ts m h = (pos m.0, let e = m.2 in let whole : num m.0 m.1 ∷ [] ≡ t ∷ ts = cc in subst (λ z. SpellsInt z (pos m.0)) whole (plain_int {n = m.0} {d = m.1}))
 sound_int s_minus t ts m h =
     let a = one the_number [] ts h in
@@ -89,48 +90,48 @@ sound_int s_minus t ts m h =
 sound_int c t ts m h = absurd h
 
 sound_member : (c : Mark) (t : Lexeme) (ts : List Lexeme) → Marked c t → Through (after s.member c) ts → IsMember (t ∷ ts)
-unfolding Marked Through
+unfolding Marked Leads
 sound_member a_name t ts m h = (mem.Symbol m.0, let e = m.1 in let whole : word m.0 ∷ [] ≡ t ∷ ts = cc in subst (λ z. SpellsMember z (mem.Symbol m.0)) whole (a_symbol m.2))
 sound_member a_number t ts m h = let n = sound_int a_number t ts m h in (_, g.a_number n.1)
 sound_member s_minus t ts m h = let n = sound_int s_minus t ts m h in (_, g.a_number n.1)
 sound_member c t ts m h = absurd h
 
 sound_more_members : (c : Mark) (t : Lexeme) (ts : List Lexeme) → Marked c t → Through (after s.more_members c) ts → Tail IsMember (sign k.CloseBrace) (t ∷ ts)
-unfolding Marked Through
+unfolding Marked Leads
 sound_more_members s_close_brace t ts m h = let whole : sign k.CloseBrace ∷ [] ≡ t ∷ ts = cc in subst (Tail IsMember (sign k.CloseBrace)) whole tail_end
 sound_more_members s_comma t ts m h =
     let e = h.2 in
     let whole : sign k.Comma ∷ (h.0 ++ h.1) ≡ t ∷ ts = cc in
-    subst (Tail IsMember (sign k.CloseBrace)) whole (tail_more h.3 (last s.more_members h.1 h.4))
+    subst (Tail IsMember (sign k.CloseBrace)) whole (tail_more h.3 (last programs s.more_members h.1 h.4))
 sound_more_members c t ts m h = absurd h
 
 sound_type : (c : Mark) (t : Lexeme) (ts : List Lexeme) → Marked c t → Through (after_type c) ts → spelled s.type (t ∷ ts)
-unfolding Marked Through That
+unfolding Marked Leads That
 sound_type w_boolean t ts m h = (boolean, let whole : word (codes "boolean") ∷ [] ≡ t ∷ ts = cc in subst (λ z. SpellsType z boolean) whole is_boolean)
 sound_type a_number t ts m h =
     let a = one the_dots (s.int ∷ []) ts h in
-    let n = last s.int a.rest a.means in
+    let n = last programs s.int a.rest a.means in
     let e = m.2 in let e1 = a.whole in let e2 = a.that in
     let whole : num m.0 m.1 ∷ sign k.Dots ∷ a.rest ≡ t ∷ ts = cc in
     (range (pos m.0) n.0, subst (λ z. SpellsType z (range (pos m.0) n.0)) whole (is_range (plain_int {n = m.0} {d = m.1}) n.1))
 sound_type s_minus t ts m h =
     let a = one the_number (s.single the_dots ∷ s.int ∷ []) ts h in
     let b = one the_dots (s.int ∷ []) a.rest a.means in
-    let n = last s.int b.rest b.means in
+    let n = last programs s.int b.rest b.means in
     let low = a.that in
     let e = low.2 in let e1 = a.whole in let e2 = b.that in let e3 = b.whole in
     let whole : sign k.Minus ∷ num low.0 low.1 ∷ sign k.Dots ∷ b.rest ≡ t ∷ ts = cc in
     (range (minus low.0) n.0, subst (λ z. SpellsType z (range (minus low.0) n.0)) whole (is_range (minus_int {n = low.0} {d = low.1}) n.1))
 sound_type s_open_brace t ts m h =
-    let list = tail_commas SpellsMember h.0 h.3.0 h.3.1 (last s.more_members h.1 h.4) in
+    let list = tail_commas SpellsMember h.0 h.3.0 h.3.1 (last programs s.more_members h.1 h.4) in
     let e = h.2 in let f = list.1 in
     let whole : sign k.OpenBrace ∷ (list.0 ++ sign k.CloseBrace ∷ []) ≡ t ∷ ts = cc in
     (members list.2, subst (λ z. SpellsType z (members list.2)) whole (is_members list.3))
 sound_type c t ts m h = absurd h
 
 sound_declared : (c : Mark) (t : Lexeme) (ts : List Lexeme) → Marked c t → Through (after_declared c) ts → spelled s.declared (t ∷ ts)
-unfolding Marked Through
-sound_declared a_name t ts m h = go (last s.actuals ts h)
+unfolding Marked Leads
+sound_declared a_name t ts m h = go (last programs s.actuals ts h)
   where
     go : IsActuals ts → spelled s.declared (t ∷ ts)
     go (inl f) = let e = m.1 in let whole : word m.0 ∷ sign k.Open ∷ sign k.Close ∷ [] ≡ t ∷ ts = cc in
@@ -150,36 +151,36 @@ sound_decl What x xs rest d ds n p more =
     (_, subst (λ z. SpellsMany (SpellsDecl What) z (record { name = x; what = d } ∷ ds)) assoc (one_more (declares {x = x} {ts = xs} {t = d} n p) more))
 
 sound_decls : (c : Mark) (t : Lexeme) (ts : List Lexeme) → Marked c t → Through (after s.decls c) ts → spelled s.decls (t ∷ ts)
-unfolding Marked Through That
+unfolding Marked Leads That
 sound_decls a_name t ts m h =
     let a = one the_colon (s.declared ∷ s.single the_semicolon ∷ s.decls ∷ []) ts h in
     let b = a.means in
     let c = one the_semicolon (s.decls ∷ []) b.1 b.4 in
-    let d = last s.decls c.rest c.means in
+    let d = last programs s.decls c.rest c.means in
     let e1 = m.1 in let e2 = a.whole in let e3 = a.that in let e4 = b.2 in let e5 = c.whole in let e6 = c.that in
     let whole : word m.0 ∷ sign k.Colon ∷ (b.0 ++ sign k.Semicolon ∷ c.rest) ≡ t ∷ ts = cc in
     subst (spelled s.decls) whole (sound_decl SpellsDeclared m.0 b.0 c.rest b.3.0 d.0 m.2 b.3.1 d.1)
 sound_decls c t ts m h = absurd h
 
 sound_type_decls : (c : Mark) (t : Lexeme) (ts : List Lexeme) → Marked c t → Through (after s.type_decls c) ts → spelled s.type_decls (t ∷ ts)
-unfolding Marked Through That
+unfolding Marked Leads That
 sound_type_decls a_name t ts m h =
     let a = one the_colon (s.type ∷ s.single the_semicolon ∷ s.type_decls ∷ []) ts h in
     let b = a.means in
     let c = one the_semicolon (s.type_decls ∷ []) b.1 b.4 in
-    let d = last s.type_decls c.rest c.means in
+    let d = last programs s.type_decls c.rest c.means in
     let e1 = m.1 in let e2 = a.whole in let e3 = a.that in let e4 = b.2 in let e5 = c.whole in let e6 = c.that in
     let whole : word m.0 ∷ sign k.Colon ∷ (b.0 ++ sign k.Semicolon ∷ c.rest) ≡ t ∷ ts = cc in
     subst (spelled s.type_decls) whole (sound_decl SpellsType m.0 b.0 c.rest b.3.0 d.0 m.2 b.3.1 d.1)
 sound_type_decls c t ts m h = absurd h
 
 sound_defines : (c : Mark) (t : Lexeme) (ts : List Lexeme) → Marked c t → Through (after s.defines c) ts → spelled s.defines (t ∷ ts)
-unfolding Marked Through That
+unfolding Marked Leads That
 sound_defines a_name t ts m h =
     let a = one the_becomes (expr ∷ s.single the_semicolon ∷ s.defines ∷ []) ts h in
     let b = a.means in
     let c = one the_semicolon (s.defines ∷ []) b.1 b.4 in
-    let d = last s.defines c.rest c.means in
+    let d = last programs s.defines c.rest c.means in
     let made = accepted_spelled b.0 b.3 in
     let e1 = m.1 in let e2 = a.whole in let e3 = a.that in let e4 = b.2 in let e5 = c.whole in let e6 = c.that in
     let assoc : (b.0 ++ sign k.Semicolon ∷ []) ++ c.rest ≡ b.0 ++ sign k.Semicolon ∷ c.rest = append_assoc b.0 (sign k.Semicolon ∷ []) c.rest in
@@ -196,7 +197,7 @@ assign_end target w d p r h =
     let a = one the_becomes (expr ∷ s.single the_semicolon ∷ s.assigns ∷ []) r h in
     let b = a.means in
     let c = one the_semicolon (s.assigns ∷ []) b.1 b.4 in
-    let more = last s.assigns c.rest c.means in
+    let more = last programs s.assigns c.rest c.means in
     let made = accepted_spelled b.0 b.3 in
     let e2 = a.whole in let e3 = a.that in let e4 = b.2 in let e5 = c.whole in let e6 = c.that in
     let assoc : (target ++ sign k.Becomes ∷ (b.0 ++ sign k.Semicolon ∷ [])) ++ c.rest ≡ target ++ sign k.Becomes ∷ (b.0 ++ sign k.Semicolon ∷ c.rest) =
@@ -230,7 +231,7 @@ bracketed ts h =
     }
 
 sound_assigns : (c : Mark) (t : Lexeme) (ts : List Lexeme) → Marked c t → Through (after s.assigns c) ts → spelled s.assigns (t ∷ ts)
-unfolding Marked Through That
+unfolding Marked Leads That
 sound_assigns a_name t ts m h =
     let d = dotted_sound m.0 h.0 m.2 h.3 in
     let e1 = m.1 in let e2 = h.2 in
@@ -250,7 +251,7 @@ sound_assigns w_after t ts m h =
     subst (spelled s.assigns) whole (assign_end (word (codes "next") ∷ sign k.Open ∷ (b.inside ++ sign k.Close ∷ [])) when.After b.dotted.0 (g.after b.dotted.1) b.rest b.means)
 sound_assigns c t ts m h = absurd h
 
--- an expression and its last semicolon
+-- an expression and its last programs semicolon
 formula_sound : (xs ys : List Lexeme) → is_whole (machine.run start xs) ≡ true → spelled s.last_semicolon ys → (e : Formula) × SpellsFormula (xs ++ ys) e
 formula_sound xs ys w (inl e) = let made = accepted_spelled xs w in (made.0, subst (λ z. SpellsFormula z made.0) (sym (ap (λ z. xs ++ z) e ∙ append-nil xs)) (open_ended made.1))
 formula_sound xs ys w (inr e) = let made = accepted_spelled xs w in (made.0, subst (λ z. SpellsFormula (xs ++ z) made.0) (sym e) (ended made.1))
@@ -260,7 +261,7 @@ sections_after : (x : Sym) (w : Lexeme) (t : Lexeme) (ts : List Lexeme) → t �
     ((xs : List Lexeme) → spelled x xs → (one : SectionTree) × SpellsSection (w ∷ xs) one) → spelled s.sections (t ∷ ts)
 sections_after x w t ts m h make =
     let item = make h.0 h.3 in
-    let more = last s.sections h.1 h.4 in
+    let more = last programs s.sections h.1 h.4 in
     let e = h.2 in
     let whole : w ∷ (h.0 ++ h.1) ≡ t ∷ ts = cc in
     subst (spelled s.sections) whole (_, a_section item.1 more.1)
@@ -271,14 +272,14 @@ formula_after w t ts m h make =
     let b = h.4 in
     let f = formula_sound h.0 b.0 h.3 b.3 in
     let item = make (h.0 ++ b.0) f.0 f.1 in
-    let more = last s.sections b.1 b.4 in
+    let more = last programs s.sections b.1 b.4 in
     let e1 = h.2 in let e2 = b.2 in
     let assoc : (h.0 ++ b.0) ++ b.1 ≡ h.0 ++ (b.0 ++ b.1) = append_assoc h.0 b.0 b.1 in
     let whole : w ∷ ((h.0 ++ b.0) ++ b.1) ≡ t ∷ ts = cc in
     subst (spelled s.sections) whole (_, a_section item.1 more.1)
 
 sound_sections : (c : Mark) (t : Lexeme) (ts : List Lexeme) → Marked c t → Through (after_section c) ts → spelled s.sections (t ∷ ts)
-unfolding Marked Through That
+unfolding Marked Leads That
 sound_sections w_var t ts m h = sections_after s.decls (word (codes "VAR")) t ts m h (λ xs d. (_, a_var d.1))
 sound_sections w_ivar t ts m h = sections_after s.type_decls (word (codes "IVAR")) t ts m h (λ xs d. (_, an_ivar d.1))
 sound_sections w_frozen t ts m h = sections_after s.type_decls (word (codes "FROZENVAR")) t ts m h (λ xs d. (_, a_frozen d.1))
@@ -290,7 +291,7 @@ sound_sections w_trans t ts m h = formula_after (word (codes "TRANS")) t ts m h 
 sound_sections w_constants t ts m h =
     let a = one the_name (s.more_constants ∷ s.sections ∷ []) ts h in
     let b = a.means in
-    let more = last s.sections b.1 b.4 in
+    let more = last programs s.sections b.1 b.4 in
     let name = a.that in
     let list = tail_commas SpellsName (word name.0 ∷ []) name.0 (g.a_name name.2) b.3 in
     let e1 = a.whole in let e2 = name.1 in let e3 = b.2 in
@@ -299,7 +300,7 @@ sound_sections w_constants t ts m h =
     ap (λ z. word (codes "CONSTANTS") ∷ (z ++ b.1)) (sym e4) ∙ (let flat : word (codes "CONSTANTS") ∷ word name.0 ∷ (b.0 ++ b.1) ≡ t ∷ ts = cc in flat) in
     subst (spelled s.sections) whole (_, a_section (some_constants list.3) more.1)
 sound_sections w_skipped t ts m h =
-    let more = last s.sections h.1 h.4 in
+    let more = last programs s.sections h.1 h.4 in
     let e1 = m.1 in let e2 = h.2 in
     let whole : word m.0 ∷ (h.0 ++ h.1) ≡ t ∷ ts = cc in
     subst (spelled s.sections) whole (_, skipped m.0 h.0 m.2 h.3 more.1)
@@ -307,12 +308,12 @@ sound_sections c t ts m h = absurd h
 
 live_sound : (st : State) (rest : List Sym) (ts : List Lexeme) → Through (live st rest) ts →
     (xs : List Lexeme) × (ys : List Lexeme) × (ts ≡ xs ++ ys) × (is_whole (machine.run st xs) ≡ true) × Means_of rest ys
-unfolding Through
+unfolding Leads
 live_sound stuck rest ts h = absurd h
 live_sound st rest ts h = h
 
 pub live_complete : (st : State) (rest : List Sym) (xs ys : List Lexeme) → is_whole (machine.run st xs) ≡ true → Means_of rest ys → Through (live st rest) (xs ++ ys)
-unfolding Through
+unfolding Leads
 live_complete stuck rest xs ys e m = let clash : false ≡ true = ap is_whole (sym (run_stuck xs)) ∙ e in cc
 live_complete st rest xs ys e m = (xs, ys, refl, e, m)
 
@@ -320,58 +321,58 @@ actuals_of : (t : Lexeme) (ts : List Lexeme) → Through (live (machine.step sta
 actuals_of t ts h =
     let parts = live_sound (machine.step start (role_of t)) (s.more_actuals ∷ []) ts h in
     let made = accepted_spelled (t ∷ parts.0) parts.3 in
-    let list = tail_commas SpellsExpr (t ∷ parts.0) made.0 made.1 (last s.more_actuals parts.1 parts.4) in
+    let list = tail_commas SpellsExpr (t ∷ parts.0) made.0 made.1 (last programs s.more_actuals parts.1 parts.4) in
     let e1 = parts.2 in let e2 : t ∷ (parts.0 ++ parts.1) ≡ list.0 ++ sign k.Close ∷ [] = list.1 in
     let whole : sign k.Open ∷ (list.0 ++ sign k.Close ∷ []) ≡ sign k.Open ∷ t ∷ ts = cc in
     inr (list.2, subst (λ z. SpellsBracketed SpellsExpr z list.2) whole (brackets list.3))
 
 sound_first_actual : (c : Mark) (t : Lexeme) (ts : List Lexeme) → Marked c t → Through (after_actual c t) ts → IsActuals (sign k.Open ∷ t ∷ ts)
-unfolding Marked Through
+unfolding Marked Leads
 sound_first_actual s_close t ts m h = inl (let whole : sign k.Open ∷ t ∷ ts ≡ sign k.Open ∷ sign k.Close ∷ [] = cc in whole)
 sound_first_actual c t ts m h = actuals_of t ts h
 
 sound_actuals : (c : Mark) (t : Lexeme) (ts : List Lexeme) → Marked c t → Through (after s.actuals c) ts → IsActuals (t ∷ ts)
-unfolding Marked Through
-sound_actuals s_open t ts m h = subst (λ z. IsActuals (z ∷ ts)) (sym m) (last s.first_actual ts h)
+unfolding Marked Leads
+sound_actuals s_open t ts m h = subst (λ z. IsActuals (z ∷ ts)) (sym m) (last programs s.first_actual ts h)
 sound_actuals c t ts m h = absurd h
 
 sound_more_actuals : (c : Mark) (t : Lexeme) (ts : List Lexeme) → Marked c t → Through (after s.more_actuals c) ts → Tail IsExpr (sign k.Close) (t ∷ ts)
-unfolding Marked Through
+unfolding Marked Leads
 sound_more_actuals s_close t ts m h = let whole : sign k.Close ∷ [] ≡ t ∷ ts = cc in subst (Tail IsExpr (sign k.Close)) whole tail_end
 sound_more_actuals s_comma t ts m h =
     let e = h.2 in
     let whole : sign k.Comma ∷ (h.0 ++ h.1) ≡ t ∷ ts = cc in
-    subst (Tail IsExpr (sign k.Close)) whole (tail_more (accepted_spelled h.0 h.3) (last s.more_actuals h.1 h.4))
+    subst (Tail IsExpr (sign k.Close)) whole (tail_more (accepted_spelled h.0 h.3) (last programs s.more_actuals h.1 h.4))
 sound_more_actuals c t ts m h = absurd h
 
 sound_more_dots : (c : Mark) (t : Lexeme) (ts : List Lexeme) → Marked c t → Through (after s.more_dots c) ts → spelled s.more_dots (t ∷ ts)
-unfolding Marked Through That
+unfolding Marked Leads That
 sound_more_dots s_dot t ts m h =
     let a = one the_name (s.more_dots ∷ []) ts h in
     let name = a.that in
-    let d = dotted_sound name.0 a.rest name.2 (last s.more_dots a.rest a.means) in
+    let d = dotted_sound name.0 a.rest name.2 (last programs s.more_dots a.rest a.means) in
     let e1 = a.whole in let e2 = name.1 in
     let whole : word name.0 ∷ a.rest ≡ ts = cc in
     inr (ts, ap (λ z. z ∷ ts) m, (d.0, subst (λ z. SpellsDotted z d.0) whole d.1))
 sound_more_dots c t ts m h = absurd h
 
 sound_last_semicolon : (c : Mark) (t : Lexeme) (ts : List Lexeme) → Marked c t → Through (after s.last_semicolon c) ts → spelled s.last_semicolon (t ∷ ts)
-unfolding Marked Through
+unfolding Marked Leads
 sound_last_semicolon s_semicolon t ts m h = inr (let whole : t ∷ ts ≡ sign k.Semicolon ∷ [] = cc in whole)
 sound_last_semicolon c t ts m h = absurd h
 
 sound_skip : (t : Lexeme) (ts : List Lexeme) → Through (passing (is_section t)) ts → HasNoSection (t ∷ ts)
-unfolding Through
+unfolding Leads
 sound_skip (word x) ts h = go (is_among section_words x) refl h
   where
     go : (b : Bool) → is_among section_words x ≡ b → Through (passing b) ts → HasNoSection (word x ∷ ts)
-    go false e h = (e, last s.skip ts h)
+    go false e h = (e, last programs s.skip ts h)
     go true e h = absurd h
-sound_skip (num n d) ts h = last s.skip ts h
-sound_skip (sign q) ts h = last s.skip ts h
+sound_skip (num n d) ts h = last programs s.skip ts h
+sound_skip (sign q) ts h = last programs s.skip ts h
 
 sound_single : (w : Single) (t : Lexeme) (ts : List Lexeme) → Through (alone (is_single w (mark_of t))) ts → spelled (s.single w) (t ∷ ts)
-unfolding Through
+unfolding Leads
 sound_single w t ts h = go (is_single w (mark_of t)) refl h
   where
     go : (b : Bool) → is_single w (mark_of t) ≡ b → Through (alone b) ts → spelled (s.single w) (t ∷ ts)

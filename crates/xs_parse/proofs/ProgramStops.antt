@@ -1,9 +1,7 @@
 -- What the step of the first pass says of what is expected, for programs.
-use Rattle.std.proofs.Common.{◌≡◌, ℕ, ◌+◌, ◌<◌, Bool, true, false, List, [], ◌∷◌, ◌++◌, Option, Some, None, refl, sym, ap, ◌∙◌, length, map, drop, get_or}
+use Rattle.std.proofs.Common.{◌≡◌, ◌+◌, Bool, true, false, List, [], ◌∷◌, ◌++◌, Option, Some, None, refl, sym, ap, ◌∙◌}
 use Rattle.std.specs.Prelude.{◌&&◌, if◌then◌else◌}
-use Rattle.std.proofs.lemmas.List.{drop_more}
 use Rattle.xs_tree.specs.Lexemes.{Lexeme}
-use Rattle.xs_parse.specs.declared.symbols.Symbol.{Symbol}
 use Rattle.xs_parse.specs.declared.expected.Position.{Position}
 use Rattle.xs_parse.specs.declared.expected.Position.TheVariants as p
 use Rattle.xs_expression_reader.specs.Recognise.{Role, Frame, State, stuck, role_of, is_stuck, is_whole}
@@ -12,7 +10,7 @@ use Rattle.xs_expression_reader.specs.Views.{state_with}
 use Rattle.xs_expression_reader.specs.Predict.{taken, step, all_empty}
 use Rattle.xs_expression_reader.specs.Readings.{stepped, Goes}
 use Rattle.xs_parse.specs.ProgramRead.{Sym, formula, live, alone, programs}
-use Rattle.xs_parse.specs.Symbols.{symbol_view, position_view, between_view, Chosen, Taken, Fits}
+use Rattle.xs_parse.specs.Symbols.{position_view, between_view, Chosen, Taken, Fits}
 
 pub alone_chosen : (b : Bool) (old : List Sym) → Chosen b (alone b) old old
 alone_chosen true old = refl
@@ -53,15 +51,6 @@ symbol_goes x s new t position frames fits is = go (programs.next x t) refl is
     go None e f = let clash : Some some.0 ≡ None = sym some.1 ∙ f in cc
     go (Some made) e f = f ∙ ap (λ o. taken Sym programs o s (if programs.empty x then step Sym programs s t else None)) (sym e)
 
--- where it does not and may be nothing, the next symbol decides
-pub symbol_passes : (x : Sym) (s : List Sym) (t : Lexeme) → programs.next x t ≡ None → programs.empty x ≡ true → step Sym programs (x ∷ s) t ≡ step Sym programs s t
-symbol_passes x s t none empty =
-    ap (λ o. taken Sym programs o s (if programs.empty x then step Sym programs s t else None)) none ∙ ap (λ b. if b then step Sym programs s t else None) empty
-
-pub symbol_stops : (x : Sym) (s : List Sym) (t : Lexeme) → programs.next x t ≡ None → programs.empty x ≡ false → step Sym programs (x ∷ s) t ≡ None
-symbol_stops x s t none full =
-    ap (λ o. taken Sym programs o s (if programs.empty x then step Sym programs s t else None)) none ∙ ap (λ b. if b then step Sym programs s t else None) full
-
 inside : (st : State) (s : List Sym) (t : Lexeme) → is_stuck st ≡ false →
     stepped Sym programs (live st s) t ≡ taken Sym programs (live (machine.step st (role_of t)) []) s (if is_whole st then step Sym programs s t else None)
 inside stuck s t h = cc
@@ -71,10 +60,6 @@ goes : (new : State) (s : List Sym) (o : Option (List Sym)) → is_stuck new ≡
 goes stuck s o h = cc
 goes new s o h = refl
 
-halts : (new : State) (s : List Sym) (o : Option (List Sym)) → is_stuck new ≡ true → taken Sym programs (live new []) s o ≡ o
-halts stuck s o h = refl
-halts new s o h = cc
-
 -- an expression goes on
 pub goes_inside : (st new : State) (r : Role) (s : List Sym) (t : Lexeme) → is_stuck st ≡ false → r ≡ role_of t → new ≡ machine.step st r → is_stuck new ≡ false →
     live new s ≡ stepped Sym programs (live st s) t
@@ -83,19 +68,6 @@ goes_inside st new r s t h role path on =
     sym (inside st s t h ∙ ap (λ z. taken Sym programs (live z []) s (if is_whole st then step Sym programs s t else None)) (sym here)
     ∙ goes new s (if is_whole st then step Sym programs s t else None) on)
 
--- an expression has ended
-pub goes_past : (st new : State) (r : Role) (s : List Sym) (t : Lexeme) (whole : Bool) → is_stuck st ≡ false → r ≡ role_of t → new ≡ machine.step st r → is_stuck new ≡ true → is_whole st ≡ whole →
-    stepped Sym programs (live st s) t ≡ (if whole then step Sym programs s t else None)
-goes_past st new r s t whole h role path stop ends =
-    let here : new ≡ machine.step st (role_of t) = path ∙ ap (machine.step st) role in
-    inside st s t h ∙ ap (λ z. taken Sym programs (live z []) s (if is_whole st then step Sym programs s t else None)) (sym here)
-    ∙ halts new s (if is_whole st then step Sym programs s t else None) stop ∙ ap (λ b. if b then step Sym programs s t else None) ends
-
 pub inside_ends : (st : State) (s syms : List Sym) → live st s ≡ Some syms → (is_whole st && all_empty Sym programs s) ≡ all_empty Sym programs syms
 inside_ends stuck s syms e = cc
 inside_ends st s syms e = let same : formula st refl ∷ s ≡ syms = cc in ap (all_empty Sym programs) same
-
--- one symbol more is put before the others
-pub expected_more : (xs : List Symbol) (i : ℕ) (x : Symbol) (old new : List Sym) → i < length xs → x ≡ get_or xs i x → new ≡ symbol_view x ∷ (map symbol_view (drop (i + 1) xs) ++ old) →
-    new ≡ map symbol_view (drop i xs) ++ old
-expected_more xs i x old new h is e = e ∙ sym (ap (λ z. map symbol_view z ++ old) (drop_more xs i x h ∙ ap (λ z. z ∷ drop (i + 1) xs) (sym is)))

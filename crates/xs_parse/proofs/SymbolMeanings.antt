@@ -1,5 +1,5 @@
 -- What the symbols of the grammar of programs take one by one, and what lists of them stand for.
-use Rattle.std.proofs.Common.{◌≡◌, ℕ, true, false, List, [], ◌∷◌, ◌++◌, Option, Some, None, refl, sym, ◌∙◌, ap, subst, append_assoc, append-nil}
+use Rattle.std.proofs.Common.{◌≡◌, ℕ, true, false, List, [], ◌∷◌, ◌++◌, Option, refl, sym, ◌∙◌, ap, append_assoc}
 use Rattle.xs_lexer.specs.declared.token.TokenKind.TheVariants as k
 use Rattle.xs_tree.specs.Lexemes.{Lexeme, word, num, sign, is_reserved}
 use Rattle.xs_tree.specs.SpellsProgram.{SpellsCommas, last_one, one_comma}
@@ -8,6 +8,7 @@ use Rattle.xs_expression_reader.specs.Marks.{Mark, a_name, a_number, s_becomes, 
 use Rattle.xs_parse.specs.ProgramRead.{Single, the_name, the_number, the_colon, the_becomes, the_semicolon, the_open, the_close, the_dots, Sym, Tail, tail_end, tail_more, is_single, IsExpr, spelled, expr, programs}
 use Rattle.xs_parse.specs.ProgramRead as s
 use Rattle.xs_expression_reader.proofs.Marks.{Marked, marked, mark_of_name}
+use Rattle.xs_expression_reader.proofs.Meanings.{Leads}
 use Rattle.xs_expression_reader.proofs.Accepted.{spelled_accepted}
 
 -- single lexemes
@@ -67,12 +68,6 @@ one w syms ts m = record {
 pub as_one : (w : Single) (syms : List Sym) (t : Lexeme) (ts : List Lexeme) → That w t → Means_of syms ts → Means_of (s.single w ∷ syms) (t ∷ ts)
 as_one w syms t ts h m = (t ∷ [], ts, refl, (t, refl, is_that w t h), m)
 
-pub last : (x : Sym) (ts : List Lexeme) → Means_of (x ∷ []) ts → spelled x ts
-last x ts m = subst (spelled x) (sym (m.2 ∙ ap (λ z. m.0 ++ z) m.4 ∙ append-nil m.0)) m.3
-
-pub as_last : (x : Sym) (ts : List Lexeme) → spelled x ts → Means_of (x ∷ []) ts
-as_last x ts d = (ts, [], sym (append-nil ts), d, refl)
-
 pub an_expr : (xs : List Lexeme) → IsExpr xs → spelled expr xs
 an_expr xs e = spelled_accepted e.1
 
@@ -92,6 +87,5 @@ tail_commas P {end = end} xs a p (tail_more {xs = ys} {ys = zs} q t) =
     (xs ++ sign k.Comma ∷ r.0, ap (λ z. xs ++ sign k.Comma ∷ z) r.1 ∙ sym (append_assoc xs (sign k.Comma ∷ r.0) (end ∷ [])), a ∷ r.2, one_comma p r.3)
 
 -- what a choice of symbols stands for
-unfoldable pub Through : Option (List Sym) → List Lexeme → Type 0
-Through (Some syms) ts = Means_of syms ts
-Through None ts = ⊥
+abbrev pub Through : Option (List Sym) → List Lexeme → Type 0
+Through = Leads programs
