@@ -1,1 +1,2 @@
 pub mod PanelLemmas
+pub mod Examples

@@ -2,11 +2,12 @@
 use Rattle.std.specs.Prelude.{ℕ, ◌+◌, ◌*◌, List, length, map, if◌then◌else◌, nat_lt, slice_index_or}
 use Rattle.std.specs.List.{range_with_len}
 
--- the answers, the place of the next one from 0, and how many learned clauses were told
+-- the answers, the place of the next one from 0, how many learned clauses were told, and how often an answer was asked for
 pub record Round : Type 0 where
   pub answers : List ℕ
   pub place : ℕ
   pub told : ℕ
+  pub asked : ℕ
 
 -- the answer whose turn it is, or 0 where there are no answers
 abbrev pub answer_of : Round → ℕ

@@ -1,3 +1,4 @@
+//! An adviser that prefers what was learned lately. Contracts see its counts alone, so that nothing rests on what it answers.
 ghost use Rattle.std.specs.Prelude.{◌≡◌};
 ghost use Rattle.xs_adviser.specs.Count.{risen};
 
@@ -24,20 +25,21 @@ pub struct Active {
     // How many places before the end the last answer stands.
     back: usize,
     told: u64,
+    asked: u64,
 }
 
 impl Model for Active {
-    ghost use Rattle.std.specs.Prelude.{ℕ};
+    ghost use Rattle.xs_adviser.specs.Count.{Counts};
 
-    ghost Value = { ℕ };
+    ghost Value = { Counts };
 
-    ghost view = { λ a. a.told };
+    ghost view = { λ a. record { told = a.told; asked = a.asked } };
 }
 
 impl Active {
     /// Nothing heard, and no room.
     pub fn new(alloc: Global) -> Active
-        ensures { result ≡ 0 }
+        ensures { result ≡ record { told = 0; asked = 0 } }
     {
         Active {
             alloc,
@@ -45,6 +47,7 @@ impl Active {
             end: 0,
             back: 0,
             told: 0,
+            asked: 0,
         }
     }
 
@@ -63,7 +66,9 @@ impl Active {
 }
 
 impl Adviser for Active {
-    ghost told = { λ a. a };
+    ghost told = { λ a. a.told };
+
+    ghost asked = { λ a. a.asked };
 
     fn ready(&mut self, vars: u64) -> Result<(), OutOfMemory>
         ensures { self.new ≡ self.old }
@@ -78,8 +83,9 @@ impl Adviser for Active {
     }
 
     fn pick(&mut self) -> u64
-        ensures { self.new ≡ self.old }
+        ensures { self.new ≡ record self.old { asked = risen self.old.asked } }
     {
+        self.asked = self.asked.saturating_add(1);
         let len = self.codes.len();
         if len == 0 {
             return 0;
@@ -94,7 +100,7 @@ impl Adviser for Active {
     }
 
     fn learned(&mut self, lits: &[Lit])
-        ensures { self.new ≡ risen self.old }
+        ensures { self.new ≡ record self.old { told = risen self.old.told } }
     {
         for lit in lits {
             self.remember(lit.code());
@@ -104,8 +110,14 @@ impl Adviser for Active {
     }
 
     fn told(&self) -> u64
-        ensures { result ≡ self.now }
+        ensures { result ≡ self.now.told }
     {
         self.told
+    }
+
+    fn asked(&self) -> u64
+        ensures { result ≡ self.now.asked }
+    {
+        self.asked
     }
 }

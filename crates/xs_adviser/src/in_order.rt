@@ -1,3 +1,4 @@
+//! An adviser that makes variables false in the order of their numbers, seen as an endless round of answers.
 ghost use Rattle.std.specs.Prelude.{◌≡◌, ◌-◌, ◌^◌, ◌<◌, [], length, min, IsOk};
 ghost use Rattle.xs_adviser.specs.Count.{risen};
 ghost use Rattle.xs_adviser.specs.Round.{answer_of, negations, place_after};
@@ -14,6 +15,7 @@ pub struct InOrder {
     vars: usize,
     place: usize,
     told: u64,
+    asked: u64,
 }
 
 impl Model for InOrder {
@@ -24,7 +26,7 @@ impl Model for InOrder {
     ghost use Rattle.std.specs.Prelude.{◌⊎◌, ◌≡◌, ◌<◌, ◌^◌};
     ghost use Rattle.xs_adviser.specs.Round.{negations};
 
-    ghost view = { λ a. record { answers = negations a.vars; place = a.place; told = a.told } };
+    ghost view = { λ a. record { answers = negations a.vars; place = a.place; told = a.told; asked = a.asked } };
 
     ghost invariant = { λ a. (a.vars < 2 ^ 63) × ((a.place ≡ 0) ⊎ (a.place < a.vars)) };
 }
@@ -32,12 +34,13 @@ impl Model for InOrder {
 impl InOrder {
     /// No variable yet.
     pub fn new() -> InOrder
-        ensures { result ≡ record { answers = []; place = 0; told = 0 } }
+        ensures { result ≡ record { answers = []; place = 0; told = 0; asked = 0 } }
     {
         InOrder {
             vars: 0,
             place: 0,
             told: 0,
+            asked: 0,
         }
     }
 }
@@ -47,12 +50,14 @@ impl Adviser for InOrder {
 
     ghost told = { λ a. a.told };
 
+    ghost asked = { λ a. a.asked };
+
     ghost room = { λ a. Some (length a.answers) };
 
     // No literal has a variable of 2^63 or more.
     fn ready(&mut self, vars: u64) -> Result<(), OutOfMemory>
         ensures ok { IsOk result }
-        ensures first { self.new ≡ record { answers = negations (min vars (2 ^ 63 - 1)); place = 0; told = self.old.told } }
+        ensures first { self.new ≡ record { answers = negations (min vars (2 ^ 63 - 1)); place = 0; told = self.old.told; asked = self.old.asked } }
         ensures room { vars < 2 ^ 62 → length self.new.answers ≡ vars }
     {
         self.vars = vars.min(9223372036854775807) as usize;
@@ -62,8 +67,9 @@ impl Adviser for InOrder {
 
     fn pick(&mut self) -> u64
         ensures answer { result ≡ answer_of self.old }
-        ensures next { self.new ≡ record self.old { place = place_after self.old.place (length self.old.answers) } }
+        ensures next { self.new ≡ record self.old { place = place_after self.old.place (length self.old.answers); asked = risen self.old.asked } }
     {
+        self.asked = self.asked.saturating_add(1);
         if self.vars == 0 {
             return 0;
         }
@@ -82,5 +88,11 @@ impl Adviser for InOrder {
         ensures { result ≡ self.now.told }
     {
         self.told
+    }
+
+    fn asked(&self) -> u64
+        ensures { result ≡ self.now.asked }
+    {
+        self.asked
     }
 }

@@ -1,11 +1,13 @@
 //! Advisers, which suggest free choices to the clause search.
 //!
-//! An [`Adviser`] is code of the caller's own behind a box. It is seen by contracts as one number, how
-//! many learned clauses it was told; what it picks is any number at all, so nothing rests on it. The
-//! layer above hands one [`Panel`] of them to the search, which asks the present adviser at each free
-//! choice, tells it each learned clause, and goes on to the next one at each restart. No call but
-//! `ready` takes memory. [`InOrder`] and [`Scripted`] are seen as an endless round of answers,
-//! [`Active`] as its count alone. What a count, a round and a panel are stands in `specs/`.
+//! An [`Adviser`] is code of the caller's own behind a box. Contracts see of it two counts, how many
+//! learned clauses it was told and how often it was asked; what it picks is any number at all, so
+//! nothing rests on it. The layer above hands one [`Panel`] of them to the search, which asks the
+//! present adviser at each free choice, tells it each learned clause, and goes on to the next one at
+//! each restart. The panel hears whether what it picked was taken, and drops an adviser after a
+//! thousand misses in a row. No call but `ready` takes memory. [`InOrder`] and [`Scripted`] are seen as
+//! an endless round of answers, [`Active`] as its counts alone. What counts and rounds are, and what
+//! becomes of advisers that are judged, stands in `specs/`.
 //!
 //! ```text
 //! let mut panel = Panel::new(advisers);    // InOrder and Active, say

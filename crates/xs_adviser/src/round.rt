@@ -1,3 +1,4 @@
+//! Places of a list that are gone through over and over.
 ghost use Rattle.std.specs.Prelude.{◌≡◌, ◌<◌};
 ghost use Rattle.xs_adviser.specs.Round.{place_after};
 

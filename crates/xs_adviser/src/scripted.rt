@@ -1,3 +1,4 @@
+//! An adviser that answers what it was given, seen as an endless round of answers.
 ghost use Rattle.std.specs.Prelude.{◌≡◌, IsOk, length};
 ghost use Rattle.xs_adviser.specs.Count.{risen};
 ghost use Rattle.xs_adviser.specs.Round.{answer_of, place_after};
@@ -17,6 +18,7 @@ pub struct Scripted {
     answers: CodeList,
     place: usize,
     told: u64,
+    asked: u64,
 }
 
 impl Model for Scripted {
@@ -26,7 +28,7 @@ impl Model for Scripted {
 
     ghost use Rattle.std.specs.Prelude.{◌⊎◌, ◌≡◌, ◌<◌, length};
 
-    ghost view = { λ s. record { answers = s.answers; place = s.place; told = s.told } };
+    ghost view = { λ s. record { answers = s.answers; place = s.place; told = s.told; asked = s.asked } };
 
     ghost invariant = { λ s. (s.place ≡ 0) ⊎ (s.place < length s.answers) };
 }
@@ -34,18 +36,21 @@ impl Model for Scripted {
 impl Scripted {
     /// Begins with the first answer of the list.
     pub fn new(answers: CodeList) -> Scripted
-        ensures { result ≡ record { answers = answers; place = 0; told = 0 } }
+        ensures { result ≡ record { answers = answers; place = 0; told = 0; asked = 0 } }
     {
         Scripted {
             answers,
             place: 0,
             told: 0,
+            asked: 0,
         }
     }
 }
 
 impl Adviser for Scripted {
     ghost told = { λ s. s.told };
+
+    ghost asked = { λ s. s.asked };
 
     fn ready(&mut self, _vars: u64) -> Result<(), OutOfMemory>
         ensures ok { IsOk result }
@@ -56,8 +61,9 @@ impl Adviser for Scripted {
 
     fn pick(&mut self) -> u64
         ensures answer { result ≡ answer_of self.old }
-        ensures next { self.new ≡ record self.old { place = place_after self.old.place (length self.old.answers) } }
+        ensures next { self.new ≡ record self.old { place = place_after self.old.place (length self.old.answers); asked = risen self.old.asked } }
     {
+        self.asked = self.asked.saturating_add(1);
         if self.answers.is_empty() {
             return 0;
         }
@@ -76,5 +82,11 @@ impl Adviser for Scripted {
         ensures { result ≡ self.now.told }
     {
         self.told
+    }
+
+    fn asked(&self) -> u64
+        ensures { result ≡ self.now.asked }
+    {
+        self.asked
     }
 }

@@ -14,17 +14,21 @@ use xs_value::OutOfMemory;
 #[derive(Drop)]
 struct Hearing {
     told: u64,
+    asked: u64,
     mix: u64,
 }
 
 impl Adviser for Hearing {
     ghost told = { λ h. h.told };
 
+    ghost asked = { λ h. h.asked };
+
     fn ready(&mut self, _vars: u64) -> Result<(), OutOfMemory> {
         Ok(())
     }
 
     fn pick(&mut self) -> u64 {
+        self.asked = self.asked.saturating_add(1);
         self.mix.saturating_add(1_000_000)
     }
 
@@ -35,6 +39,10 @@ impl Adviser for Hearing {
 
     fn told(&self) -> u64 {
         self.told
+    }
+
+    fn asked(&self) -> u64 {
+        self.asked
     }
 }
 
@@ -50,7 +58,12 @@ fn mixed(mix: u64, lits: &[Lit]) -> u64 {
 // A panel of one adviser, which heard nothing.
 fn panel_of_hearing(alloc: Global) -> Result<Panel, OutOfMemory> {
     let mut advisers: Vec<Box<dyn Adviser>> = Vec::new(alloc);
-    advisers.push(Box::new(alloc, Hearing { told: 0, mix: 0 })?)?;
+    let hearing = Hearing {
+        told: 0,
+        asked: 0,
+        mix: 0,
+    };
+    advisers.push(Box::new(alloc, hearing)?)?;
     Ok(Panel::new(advisers))
 }
 

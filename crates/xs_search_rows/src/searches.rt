@@ -32,6 +32,8 @@ struct Counting {
 impl Adviser for Counting {
     ghost told = { λ c. c.told };
 
+    ghost asked = { λ c. c.asked };
+
     fn ready(&mut self, _vars: u64) -> Result<(), OutOfMemory> {
         Ok(())
     }
@@ -49,6 +51,10 @@ impl Adviser for Counting {
 
     fn told(&self) -> u64 {
         self.told
+    }
+
+    fn asked(&self) -> u64 {
+        self.asked
     }
 }
 
