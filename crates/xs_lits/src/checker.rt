@@ -1,3 +1,10 @@
+//! The checker of derivations: clauses by number, to which a step adds one where it follows by its hints.
+//!
+//! [`Checker::step`] is the main call. It goes by reverse unit propagation: the literals of the step's clause are
+//! made false, each hint's clause makes its one remaining literal true in turn, and the last one is false
+//! ([`crate::hints`] does this). The clauses lie in [`crate::clause_store`] and the assignment in
+//! [`crate::checker_trail`]. What it accepts is true in every model of the clauses before it, whatever made the
+//! step.
 ghost use Rattle.std.specs.Prelude.{◌≡◌, ◌↔◌, ℕ, ◌^◌, ◌<◌, ◌≤◌, [], ◌∷◌, ◌++◌, length, All, IsTrue, Some, IsOk, IfOk, OnOk, OnErr};
 ghost use Rattle.std.specs.Result.{IsErrOf};
 ghost use Rattle.xs_lits.specs.Models.{FollowsFrom};
