@@ -11,14 +11,18 @@ use xs_value::OutOfMemory;
 /// A clause, and the number of the highest frame in which it holds.
 #[derive(Drop)]
 pub struct Held {
+    /// The clause, over state bits now.
     pub clause: Clause,
+    /// The number of the last frame in which it stands.
     pub highest: usize,
 }
 
 /// The clauses of the frames of numbers 0 to the last.
 #[derive(Drop)]
 pub struct Levels {
+    /// The clauses, as they came.
     pub held: Vec<Held>,
+    /// The number of the last frame, the frontier.
     pub last: usize,
 }
 
