@@ -6,7 +6,7 @@
 //! reaches and which faults it has failed are parameters: flat traces, traces of a program and extended traces share
 //! the definition. `specs/Laws.antt` has what follows: for all traces the listed sets are exactly the minimal cut sets
 //! of at most so many faults, and traces that correspond are covered alike (`proofs/Carried.antt`, which the crates
-//! above cite).
+//! above cite). `proofs/Examples.antt` has four traces, a list of sets that is right for them, and two that are not.
 //!
 //! ```text
 //! // sets 1 and 2 3, size 2: a reaching trace that has failed 2 and 4 would be one too many
