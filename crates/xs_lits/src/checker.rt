@@ -16,7 +16,7 @@ use crate::checker_trail::Trail;
 use crate::clause::Clause;
 use crate::clause_store::ClauseStore;
 use crate::hints::{follow, has_no_opposites};
-use crate::lit::Lit;
+use crate::lit::{Lit, are_up_to};
 use crate::step::{Step, StepFault};
 use std::alloc::Global;
 use std::marker::Model;
@@ -145,11 +145,4 @@ impl Checker {
         }
         outcome
     }
-}
-
-// Whether the variables of the literals are at most `vars`.
-fn are_up_to(lits: &[Lit], vars: u64) -> bool
-    ensures { IsTrue result ↔ All (IsUpTo vars) lits.now }
-{
-    lits.iter().all(|lit| lit.var() <= vars)
 }
