@@ -4,7 +4,7 @@
 //! a slice is in order and without repetition, and the order in which sets are listed. Each answers exactly what
 //! its definition computes.
 
-ghost use Rattle.std.specs.Prelude.{◌≡◌, ◌↔◌, ◌&&◌, not, IsTrue};
+ghost use Rattle.std.specs.Prelude.{◌≡◌, ◌↔◌, IsTrue};
 ghost use Rattle.xs_right_laws.specs.Sets.{IsRising, has_number as has, is_contained as contained, is_before_in_order, stands_before as before};
 ghost use Rattle.xs_sets.specs.Tests.{is_rising as rising, are_apart as apart};
 
