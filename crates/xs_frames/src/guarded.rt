@@ -6,14 +6,14 @@
 //! clause`, and each guard implies the next frame's: so under the guard of a frame just its clauses have to hold.
 //! The frame of number 0 is the list of the first states. Bad states and frames that are not asked about any more
 //! are retired: their guard is false from then on. What the search learns stays.
-ghost use Rattle.std.specs.Prelude.{◌≡◌, ◌≤◌, ◌<◌, ◌+◌, ◌*◌, ◌-◌, ◌^◌, ◌∷◌, ◌++◌, [], IfOk, OnOk, All, length, false};
-ghost use Rattle.xs_lits.specs.Literal.{opposite, plain};
+ghost use Rattle.std.specs.Prelude.{◌≡◌, ◌≤◌, ◌<◌, ◌+◌, ◌*◌, ◌^◌, ◌∷◌, ◌++◌, [], IfOk, OnOk, All, length};
+ghost use Rattle.xs_lits.specs.Literal.{opposite};
 ghost use Rattle.xs_lits.specs.Derivation.{IsUpTo};
 ghost use Rattle.xs_lits.specs.Hints.{HasNoOpposites};
 ghost use Rattle.xs_frames.specs.Apart.{apart_system, apart_list, IsNear};
 ghost use Rattle.xs_frames.specs.Condition.{IsLow, IsFit};
 ghost use Rattle.xs_frames.specs.Roles.{renamed_literal, renamed_clause, under_list};
-ghost use Rattle.xs_frames.specs.Guards.{unguarded, guards_next};
+ghost use Rattle.xs_frames.specs.Guards.{unguarded};
 ghost use Rattle.xs_frames.specs.Guarding.{IsWell, IsHolding, IsGuardIn, HasRoomFor, IsEmpty, HasPut, HasWidened, HasNewBad, HasNewFrame, HasAsked, Tells, TakesBad, AddsBad, Puts, Grows, BeginsAgain, asked_guards};
 
 use crate::apart::list_apart;

@@ -1,7 +1,7 @@
 //! Each clause of the frames once, with the number of the highest frame in which it holds: it stands in the frames up to that
 //! one. The frame of number i is then all clauses whose number is i or more, and a clause goes to the next frame by a
 //! change of its number. Contracts see the frames as `frames_of` lists them (`specs/Levels.antt`).
-ghost use Rattle.std.specs.Prelude.{◌≡◌, ◌≢◌, ◌≤◌, ◌<◌, ◌+◌, [], ◌∷◌, ◌++◌, length, slice_set, IfOk, OnOk, OnErr, IsTrue, All, false};
+ghost use Rattle.std.specs.Prelude.{◌≡◌, ◌≢◌, ◌<◌, [], ◌∷◌, ◌++◌, length, slice_set, IfOk, OnOk, OnErr, IsTrue, All, false};
 ghost use Rattle.xs_frames.specs.Levels.{standing_in, held_at, IsFilledLevel};
 
 use std::alloc::Global;
