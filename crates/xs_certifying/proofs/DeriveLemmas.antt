@@ -22,6 +22,7 @@ use Rattle.xs_solver.specs.Search.{CanSolve, Grows}
 use Rattle.xs_solver.specs.Verdict.{IsVerdict}
 use Rattle.xs_solver.specs.declared.solve.Verdict.{Verdict}
 use Rattle.xs_lits.proofs.FalseLemmas.{All-slice_get}
+use Rattle.xs_solver.proofs.KeptLemmas.{length_with_steps}
 use Rattle.xs_certificate_laws.specs.Accepted.{highest_in, highest}
 use Rattle.xs_certificate_laws.specs.CertificateText.{IsCount, IsLiteral, IsHint, IsWritableStep, AreWritable}
 use Rattle.xs_certificate_laws.specs.Derived.{asked}
@@ -158,15 +159,11 @@ steps_writable vars cs (s ∷ ss) low few are positive = (
     one_on : (n k m : ℕ) → n + suc k < m → n + 1 + k < m
     one_on n k m h = omega (arith, h)
 
-length_with : (cs : List (List Literal)) (steps : List Step) → length (with_steps cs steps) ≡ length cs + length steps
-length_with cs [] = omega arith
-length_with cs (s ∷ ss) = length_with (cs ++ s.clause ∷ []) ss ∙ (let e : length (cs ++ s.clause ∷ []) ≡ length cs + 1 = length-append cs (s.clause ∷ []) in omega (arith, e))
-
 -- the steps of a derivation of fewer than 2^63 clauses, over fewer variables
 pub writable : (givens : List (List Literal)) (store : StoreValue) (steps : List Step) (covered : List (List Literal)) → IsPartWay givens store steps covered → highest givens < 2 ^ 62 → length store.clauses < 2 ^ 63 →
     All HasPositive steps → AreWritable steps
 writable givens store steps covered way low few positive =
-    let whole : length givens + length steps < 2 ^ 63 = subst (λ n. n < 2 ^ 63) (ap length way.clauses ∙ length_with givens steps) few in
+    let whole : length givens + length steps < 2 ^ 63 = subst (λ n. n < 2 ^ 63) (ap length way.clauses ∙ length_with_steps givens steps) few in
     record {
       count = fewer (length givens) (length steps) (2 ^ 63) whole;
       each = steps_writable (highest givens) givens steps (lower (highest givens) low) whole way.so_far.are_steps (recursion_from_All HasPositive steps positive);

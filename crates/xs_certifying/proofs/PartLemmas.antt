@@ -66,7 +66,3 @@ module _ (bits : ℕ) where
   moved_apart [] all = All-nil HasNoOpposites
   moved_apart (c ∷ cs) all =
       All-cons HasNoOpposites (map (moved_on bits) c) (map (map (moved_on bits)) cs) (moved_clause_apart c (All-head HasNoOpposites c cs all)) (moved_apart cs (All-tail HasNoOpposites c cs all))
-
--- the clause without literals has none
-pub empty_apart : All HasNoOpposites ([] ∷ [])
-empty_apart = All-cons HasNoOpposites [] [] (All-nil (LacksOpposite [])) (All-nil HasNoOpposites)

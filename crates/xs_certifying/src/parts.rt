@@ -3,7 +3,7 @@
 //!
 //! [`derive_parts`] makes them, each from the clauses given for its part to the clauses that the part is to show. For the second the
 //! invariant is to be shown of the state next, so [`moved`] writes its clauses over the bits of that state.
-ghost use Rattle.std.specs.Prelude.{◌≡◌, ◌++◌, [], ◌∷◌, map, All, IfOk, OnOk};
+ghost use Rattle.std.specs.Prelude.{◌≡◌, ◌++◌, [], ◌∷◌, map, All, IfOk};
 ghost use Rattle.xs_lits.specs.Hints.{HasNoOpposites};
 ghost use Rattle.xs_lits.specs.States.{moved_on, IsOverBits, IsInvariant};
 ghost use Rattle.xs_certificate_laws.specs.CertificateText.{AreWritable};

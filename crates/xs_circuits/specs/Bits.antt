@@ -2,6 +2,7 @@
 use Rattle.std.specs.Prelude.{◌≡◌, ℕ, zero, suc, ◌+◌, ◌-◌, ◌*◌, ◌^◌, Bool, false, ◌&&◌, ◌||◌, if◌then◌else◌, List, length, [], ◌∷◌, ℤ, pos, ◌+ℤ◌, ◌-ℤ◌, ◌≤ℤ◌, ◌<ℤ◌, neg_ℤ}
 use Rattle.xs_circuits.specs.Gates.{differ}
 
+-- 1 for true, 0 for false
 abbrev pub bit_value : Bool → ℕ
 bit_value b = if b then 1 else 0
 

@@ -1,4 +1,7 @@
-//! Comparisons of words.
+//! Comparisons of words: whether the one number is less than the other, or the same.
+//!
+//! [`less`] and [`equal`] are the main functions, for words of at most 34 literals, each answering one literal. The
+//! first is the sign of the difference at one bit more, the second goes bit by bit at the width of the wider word.
 ghost use Rattle.std.specs.Prelude.{◌≡◌, ◌+◌, ◌-◌, ◌*◌, ◌^◌, ◌<◌, ◌≤◌, max, IfOk, OnOk, OnErr, length, int_lt, zip};
 ghost use Rattle.std.specs.Ordering.{int_eq};
 ghost use Rattle.xs_lits.specs.Models.{IsBelow};

@@ -1,4 +1,7 @@
-//! Words of constants.
+//! Words of constants: the two's complement of a number, each bit the constant true or false.
+//!
+//! [`number`] is the main function. It takes the fewest literals that hold the number, and [`number_at`] the same
+//! at a given width. No gate is made.
 ghost use Rattle.std.specs.Prelude.{◌≡◌, ◌≤◌, length, true, IfOk};
 ghost use Rattle.xs_lits.specs.Models.{TotalAssignment};
 ghost use Rattle.xs_circuits.specs.Words.{IsWordOf, fit, word_value};

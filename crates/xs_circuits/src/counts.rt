@@ -1,4 +1,7 @@
-//! Counts of true literals.
+//! Whether at most so many of some literals are true: a sequential counter.
+//!
+//! [`at_most`] is the main function. With counters for 'more than n', 'at least n' and so on down to 'at least 0',
+//! it takes two gates for each counter and literal.
 ghost use Rattle.std.specs.Prelude.{◌≡◌, ◌+◌, ◌*◌, ◌^◌, ◌<◌, ◌≤◌, IfOk, OnOk, OnErr, length, nat_le};
 ghost use Rattle.xs_lits.specs.Models.{IsBelow};
 ghost use Rattle.xs_circuits.specs.Meaning.{AllBelow, GivesBool, StopsWithin};

@@ -1,4 +1,9 @@
-//! The clauses of logic gates.
+//! Logic gates as clauses (Tseitin's encoding), and the clause list that they are added to.
+//!
+//! [`Gates`] is the list under construction with the next variable that is free. Each gate takes that variable and
+//! appends the clauses by which it is true exactly where its operands say so; [`Gates::and`], [`Gates::xor`] and
+//! [`Gates::mux`] are the gates with clauses of their own, and [`Gates::or`] is made of the first. Variable 1 is
+//! true, and is the constant of [`Gates::constant`].
 ghost use Rattle.std.specs.Prelude.{◌≡◌, ◌+◌, ◌-◌, ◌^◌, ◌<◌, ◌≤◌, [], ◌∷◌, ◌++◌, IfOk, OnOk, OnErr, map, ◌&&◌, ◌||◌, true, if◌then◌else◌};
 ghost use Rattle.xs_lits.specs.Models.{literal_value, IsBelow};
 ghost use Rattle.xs_circuits.specs.Circuit.{Circuit, with_gate};

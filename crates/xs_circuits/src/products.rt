@@ -1,4 +1,7 @@
-//! Products of words.
+//! Products of words by long multiplication.
+//!
+//! [`multiply`] is the main function, for words of at most 34 literals: the product, cut to a width. It adds up one
+//! row for each bit of the second word: the first word, so many places up, where the bit is true.
 ghost use Rattle.std.specs.Prelude.{◌≡◌, ◌+◌, ◌*◌, ◌-◌, ◌^◌, ◌<◌, ◌≤◌, IfOk, OnOk, OnErr, length, ◌*ℤ◌};
 ghost use Rattle.xs_lits.specs.Models.{IsBelow};
 ghost use Rattle.xs_circuits.specs.Meaning.{AllBelow, StopsWithin};

@@ -1,4 +1,8 @@
-//! Sums and differences of words.
+//! Sums and differences of words, by a chain of full adders (a ripple-carry adder).
+//!
+//! [`add`], [`subtract`] and [`negate`] are the main functions, for words of at most 34 literals, each cut to a
+//! width. A difference is the sum of the first word, the second with all literals negated, and 1. `difference` and
+//! `negation` do the same at any width for which there is room.
 ghost use Rattle.std.specs.Prelude.{◌≡◌, ◌+◌, ◌-◌, ◌*◌, ◌^◌, ◌<◌, ◌≤◌, IfOk, OnOk, OnErr, length, ◌+ℤ◌, ◌-ℤ◌, neg_ℤ};
 ghost use Rattle.xs_lits.specs.Models.{IsBelow};
 ghost use Rattle.xs_circuits.specs.Meaning.{AllBelow, StopsWithin};

@@ -1,4 +1,7 @@
-//! Words of literals.
+//! Words of literals: numbers in two's complement, bit by bit.
+//!
+//! [`Word`] is such a list, the least significant literal first and the sign last. [`fitted`] brings it to another width, which
+//! keeps its number where it is no narrower. Nothing here makes a gate.
 ghost use Rattle.std.specs.Prelude.{◌≡◌, ◌<◌, length, IfOk, map};
 ghost use Rattle.xs_lits.specs.Literal.{opposite};
 ghost use Rattle.xs_circuits.specs.Words.{fit, sign_of, zeros};

@@ -21,9 +21,10 @@ use Rattle.xs_encode_laws.specs.Encoded.{bit_of, IsBadMoment}
 use Rattle.xs_cut_laws.specs.Searched.{FlatTrace, FixedIsInvariant, FewerAreBad, ChainStays, ChainGrows}
 use Rattle.xs_encode_laws.proofs.SetLaws.{contained_through, not_both}
 use Rattle.xs_cut_laws.proofs.FoundLaws.{each_found, each_both}
-use Rattle.xs_encode_laws.proofs.HistoryFacts.{range_length, unlisted_means, unlisted_comes}
+use Rattle.xs_encode_laws.proofs.HistoryFacts.{unlisted_means, unlisted_comes}
 use Rattle.xs_cut_laws.proofs.Excluded.{at_frontier}
 use Rattle.std.proofs.lemmas.Bool.{false_from_ne_true as refuted}
+use Rattle.std.proofs.lemmas.List.FromFn.{length-range_with_len}
 
 pub no_place : {A : Type 0} (i : ℕ) (x : A) → slice_get [] i ≡ Some x → ⊥
 no_place i x e = cc
@@ -85,7 +86,7 @@ module _ (m : FlatModel) (fs : List Mode) (top : Tree FlatLeaf) (system : System
   fewer_are_bad size before now bad worse searched are are' contain lists lists' s h = by_moment (lists'.bad_means s h)
     where
       long : (set : List ℕ) → IsNumbered (length fs) set → IsNumbered (length (history_of m fs)) set
-      long set n = subst (λ k. IsNumbered k set) (sym (range_length (length m.variables) (length fs))) n
+      long set n = subst (λ k. IsNumbered k set) (sym (length-range_with_len (length m.variables) (length fs))) n
 
       Is : Found FlatTrace → Type 0
       Is f = IsFound FlatTrace (IsFlatTrace m) (ReachesTop m top) (HasFailedNumber m fs) (length fs) size f
@@ -108,7 +109,7 @@ module _ (m : FlatModel) (fs : List Mode) (top : Tree FlatLeaf) (system : System
           none =
               each_both (λ g. IsFound FlatTrace (IsFlatTrace m) (ReachesTop m top) (HasFailedNumber m fs) (length fs) size g) (λ g. AtSome (λ i. bit_of (history_of m fs) b.0 i ≡ false) g.set)
               (λ g. is_contained g.set (failed_in (history_of m fs) b.0) ≡ false)
-              (λ g is some. unlisted_means (history_of m fs) b.0 g.set (subst (λ k. IsNumbered k g.set) (sym (range_length (length m.variables) (length fs))) is.numbered) some) now
+              (λ g is some. unlisted_means (history_of m fs) b.0 g.set (subst (λ k. IsNumbered k g.set) (sym (length-range_with_len (length m.variables) (length fs))) is.numbered) some) now
               (each_found FlatTrace (IsFlatTrace m) (ReachesTop m top) (HasFailedNumber m fs) (length fs) size now are') (each_of_map (AtSome (λ i. bit_of (history_of m fs) b.0 i ≡ false)) (λ f. f.set) now b.1.unlisted)
 
           outside : (f : Found FlatTrace) (gs : List (Found FlatTrace)) → Each (λ g. is_contained g.set (failed_in (history_of m fs) b.0) ≡ false) gs → AtSome (λ g. is_contained g.set f.set ≡ true) gs →
@@ -121,7 +122,7 @@ module _ (m : FlatModel) (fs : List Mode) (top : Tree FlatLeaf) (system : System
           one : (f : Found FlatTrace) → IsFound FlatTrace (IsFlatTrace m) (ReachesTop m top) (HasFailedNumber m fs) (length fs) size f → AtSome (λ g. is_contained g.set f.set ≡ true) now →
               AtSome (λ i. bit_of (history_of m fs) b.0 i ≡ false) f.set
           one f is some =
-              unlisted_comes (history_of m fs) b.0 f.set (subst (λ k. IsNumbered k f.set) (sym (range_length (length m.variables) (length fs))) is.numbered) (outside f now none some)
+              unlisted_comes (history_of m fs) b.0 f.set (subst (λ k. IsNumbered k f.set) (sym (length-range_with_len (length m.variables) (length fs))) is.numbered) (outside f now none some)
 
   pub chain_stays : ChainStays m fs top system state_of inputs_of
   chain_stays bad worse k fewer has = (

@@ -1,5 +1,5 @@
 -- Each new set leaves fewer patterns of faults uncovered.
-use Rattle.std.proofs.Common.{◌≡◌, ℕ, zero, suc, ◌+◌, ◌-◌, ◌<◌, ◌≤◌, nat_eq, Bool, true, false, not, ◌||◌, ◌&&◌, List, [], ◌∷◌, length, map, refl, sym, ap, ◌∙◌, subst, arith, ◌⊎◌, inl, inr}
+use Rattle.std.proofs.Common.{◌≡◌, ℕ, zero, suc, ◌+◌, ◌-◌, ◌<◌, ◌≤◌, nat_eq, Bool, true, false, not, List, [], ◌∷◌, length, map, refl, sym, ap, ◌∙◌, subst, arith, inl, inr}
 use Rattle.std.proofs.lemmas.List.{length-map}
 use Rattle.std.specs.Prelude.{slice_index_or}
 use Rattle.std.specs.List.{range_with_len, list_all}
@@ -18,8 +18,8 @@ use Rattle.xs_cut_laws.specs.Searched.{FlatTrace, SearchEnds}
 use Rattle.xs_cut_laws.specs.Uncovered.{is_in_pattern, is_covered, uncovered}
 use Rattle.xs_encode_laws.proofs.SetLaws.{or_cases, either_of, not_both, contained_has, contained_in_itself, has_first, has_later}
 use Rattle.xs_cut_laws.proofs.FoundLaws.{some_kept, each_found, still_contain, new_is_listed}
-use Rattle.xs_encode_laws.proofs.HistoryFacts.{range_length}
-use Rattle.std.proofs.lemmas.Bool.{or_left, or_right, and_parts, and_from as and_both, false_from_ne_true as refuted}
+use Rattle.std.proofs.lemmas.Bool.{or_left, or_right, and_parts, and_from as and_both, false_from_ne_true as refuted, not_from_true, not_from_false}
+use Rattle.std.proofs.lemmas.List.FromFn.{length-range_with_len}
 
 -- a test of all passes the test of each part
 all_has : (p : ℕ → Bool) (set : List ℕ) (i : ℕ) → list_all p set ≡ true → has_number set i ≡ true → p i ≡ true
@@ -92,22 +92,16 @@ module _ (T : Type 0) (is_trace reaches : T → Type 0) (has_failed : T → ℕ 
       uncovered faults (sets_of (with_found new fs)) < uncovered faults (sets_of fs)
   falls new fs are is fresh =
       count_less faults (λ pattern. not (is_covered (sets_of (with_found new fs)) pattern)) (λ pattern. not (is_covered (sets_of fs) pattern)) (pattern_of faults new.set) within
-      (length-map (range_with_len 1 faults) (has_number new.set) ∙ range_length 1 faults) (turned (is_covered (sets_of fs) (pattern_of faults new.set)) none_covers)
-      (turned' (is_covered (sets_of (with_found new fs)) (pattern_of faults new.set)) shut)
+      (length-map (range_with_len 1 faults) (has_number new.set) ∙ length-range_with_len 1 faults) (not_from_false (is_covered (sets_of fs) (pattern_of faults new.set)) none_covers)
+      (not_from_true (is_covered (sets_of (with_found new fs)) (pattern_of faults new.set)) shut)
     where
-      turned : (b : Bool) → b ≡ false → not b ≡ true
-      turned b e = rw e refl
-
-      turned' : (b : Bool) → b ≡ true → not b ≡ false
-      turned' b e = rw e refl
-
       back : (b : Bool) → not b ≡ true → b ≡ false
       back true e = cc
       back false e = refl
 
       within : Within faults (λ pattern. not (is_covered (sets_of (with_found new fs)) pattern)) (λ pattern. not (is_covered (sets_of fs) pattern))
       within = λ s e h.
-          turned (is_covered (sets_of fs) s)
+          not_from_false (is_covered (sets_of fs) s)
           (refuted (is_covered (sets_of fs) s) (λ t. not_both (is_covered (sets_of (with_found new fs)) s) (still_covered s (with_found new fs) fs (still_contain new fs) t) (back (is_covered (sets_of (with_found new fs)) s) h)))
 
       shut : is_covered (sets_of (with_found new fs)) (pattern_of faults new.set) ≡ true

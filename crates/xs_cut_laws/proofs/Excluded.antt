@@ -1,6 +1,7 @@
 -- No trace ends in a bad moment where the frames or an invariant exclude it, and so the listed sets are right.
 use Rattle.std.proofs.Common.{◌≡◌, ℕ, zero, suc, ◌+◌, ◌-◌, ◌<◌, ◌≤◌, Bool, true, false, List, [], ◌∷◌, ◌++◌, length, refl, sym, ap, ◌∙◌, subst, arith, ◌⊎◌, inl, inr}
 use Rattle.std.specs.Prelude.{Contains}
+use Rattle.std.proofs.lemmas.List.FromFn.{length-range_with_len}
 use Rattle.xs_tree.specs.Tree.{Tree}
 use Rattle.xs_tree.specs.Values.{Value, truth}
 use Rattle.xs_tree.specs.Evaluate.{evaluate}
@@ -25,7 +26,7 @@ use Rattle.xs_cut_laws.specs.Searched.{FlatTrace, IsSearched, AreFoundFlat, Clea
 use Rattle.xs_encode_laws.proofs.SetLaws.{here, later, contained_has, true_or_false, contains_has, has_contains}
 use Rattle.xs_cut_laws.proofs.FoundLaws.{each_found, each_both, found_is_right}
 use Rattle.xs_encode_laws.proofs.Numbers.{count_where}
-use Rattle.xs_encode_laws.proofs.HistoryFacts.{at_last, each_last, last_told, last_tells, range_length, unlisted_comes, failed_exactly, failed_small}
+use Rattle.xs_encode_laws.proofs.HistoryFacts.{at_last, each_last, last_told, last_tells, unlisted_comes, failed_exactly, failed_small}
 
 -- under some inputs a step is a step
 pub any_inputs : (system : System) (inputs : List Bool) (s t : State) → IsStepUnder system inputs s t → IsStepOf system s t
@@ -150,7 +151,7 @@ module _ (m : FlatModel) (fs : List Mode) (top : Tree FlatLeaf) (system : System
         one : (f : Found FlatTrace) → IsFound FlatTrace (IsFlatTrace m) (ReachesTop m top) (HasFailedNumber m fs) (length fs) size f → is_contained f.set (failed_set m fs (v ∷ vs)) ≡ false →
             AtSome (λ i. bit_of (history_of m fs) (last_of (v ∷ vs) ++ bits_after m fs (v ∷ vs)) i ≡ false) f.set
         one f is e =
-            unlisted_comes (history_of m fs) (last_of (v ∷ vs) ++ bits_after m fs (v ∷ vs)) f.set (subst (λ n. IsNumbered n f.set) (sym (range_length (length m.variables) (length fs))) is.numbered)
+            unlisted_comes (history_of m fs) (last_of (v ∷ vs) ++ bits_after m fs (v ∷ vs)) f.set (subst (λ n. IsNumbered n f.set) (sym (length-range_with_len (length m.variables) (length fs))) is.numbered)
             (subst (λ failed. is_contained f.set failed ≡ false) (sym (last_tells m fs (v ∷ vs) (last_of (v ∷ vs)) (domains_length m.variables (last_of (v ∷ vs)) (each_last (IsFlatMoment m) v vs trace.moments).domains))) e)
 
     -- where no trace of a class ends in a bad moment, its reaching traces have failed a listed set

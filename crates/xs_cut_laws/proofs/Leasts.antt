@@ -1,5 +1,5 @@
 -- The least values of an encodable model, and its valuations with the least inputs.
-use Rattle.std.proofs.Common.{◌≡◌, ◌≤ℤ◌, ℤ, List, [], ◌∷◌, Some, refl, sym, ap, subst, arith}
+use Rattle.std.proofs.Common.{◌≡◌, ◌≤ℤ◌, List, [], ◌∷◌, Some, refl, sym, ap, subst, arith}
 use Rattle.xs_tree.specs.ProgramTree.{Text, DeclaredTree, boolean, range, members, instance}
 use Rattle.xs_tree.specs.Trace.{Each}
 use Rattle.xs_tree.specs.Values.{opposite}

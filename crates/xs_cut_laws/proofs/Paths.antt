@@ -2,6 +2,7 @@
 use Rattle.std.proofs.Common.{◌≡◌, ℕ, zero, suc, ◌+◌, ◌-◌, ◌*◌, ◌<◌, ◌≤◌, Bool, true, false, List, [], ◌∷◌, ◌++◌, length, map, take, refl, sym, ap, ◌∙◌, subst, arith, ◌⊎◌, inl, inr}
 use Rattle.std.proofs.lemmas.Bool.{cases_lt}
 use Rattle.std.specs.Prelude.{slice_index_or}
+use Rattle.std.proofs.lemmas.List.FromFn.{length-range_with_len}
 use Rattle.xs_tree.specs.Tree.{Tree}
 use Rattle.xs_tree.specs.Values.{Value, truth}
 use Rattle.xs_tree.specs.Trace.{Each, EachPair, AtSome, AtFirst}
@@ -23,7 +24,7 @@ use Rattle.xs_cut_laws.specs.Searched.{FlatTrace, AreReadFrom, IsSearched, IsBad
 use Rattle.xs_cut_laws.proofs.FoundLaws.{each_found, each_both}
 use Rattle.xs_encode_laws.proofs.SetLaws.{each_kept}
 use Rattle.xs_encode_laws.proofs.Numbers.{count_where, where_within, where_rising}
-use Rattle.xs_encode_laws.proofs.HistoryFacts.{to_last, each_last, last_told, last_tells, range_length, unlisted_means, failed_exactly}
+use Rattle.xs_encode_laws.proofs.HistoryFacts.{to_last, each_last, last_told, last_tells, unlisted_means, failed_exactly}
 use Rattle.xs_cut_laws.proofs.Excluded.{reached_shorter}
 use Rattle.xs_frames.proofs.BitLemmas.{length_read as read_length}
 
@@ -212,13 +213,13 @@ module _ (m : FlatModel) (fs : List Mode) (top : Tree FlatLeaf) (system : System
           new =
               each_both (IsFound FlatTrace (IsFlatTrace m) (ReachesTop m top) (HasFailedNumber m fs) (length fs) size) (λ f. AtSome (λ i. bit_of (history_of m fs) (last_of long) i ≡ false) f.set)
               (λ f. is_contained f.set (failed_in (history_of m fs) (last_of long)) ≡ false)
-              (λ f h s. unlisted_means (history_of m fs) (last_of long) f.set (subst (λ n. IsNumbered n f.set) (sym (range_length (length m.variables) (length fs))) h.numbered) s) found
+              (λ f h s. unlisted_means (history_of m fs) (last_of long) f.set (subst (λ n. IsNumbered n f.set) (sym (length-range_with_len (length m.variables) (length fs))) h.numbered) s) found
               (each_found FlatTrace (IsFlatTrace m) (ReachesTop m top) (HasFailedNumber m fs) (length fs) size found are)
               (each_of_map (AtSome (λ i. bit_of (history_of m fs) (last_of long) i ≡ false)) (λ f. f.set) found ends.unlisted)
 
           numbered : IsNumbered (length fs) (failed_in (history_of m fs) (last_of long))
           numbered =
-              each_kept (λ i. (1 ≤ i) × (i < 1 + length (history_of m fs))) (λ i. (1 ≤ i) × (i ≤ length fs)) (λ i h. (h.0, at_most i (length (history_of m fs)) (length fs) (range_length (length m.variables) (length fs)) h.1))
+              each_kept (λ i. (1 ≤ i) × (i < 1 + length (history_of m fs))) (λ i. (1 ≤ i) × (i ≤ length fs)) (λ i h. (h.0, at_most i (length (history_of m fs)) (length fs) (length-range_with_len (length m.variables) (length fs)) h.1))
               (failed_in (history_of m fs) (last_of long)) (where_within (is_true_at (last_of long)) 1 (history_of m fs))
             where
               at_most : (i a b : ℕ) → a ≡ b → i < 1 + a → i ≤ b

@@ -10,9 +10,11 @@ pub record Found (T : Type 0) : Type 0 where
   pub set : List ℕ
   pub trace : T
 
+-- the sets alone
 abbrev pub sets_of : {T : Type 0} → List (Found T) → List (List ℕ)
 sets_of found = map (λ f. f.set) found
 
+-- the traces alone
 abbrev pub traces_of : {T : Type 0} → List (Found T) → List T
 traces_of found = map (λ f. f.trace) found
 

@@ -47,6 +47,7 @@ module _ (m : FlatModel) (fs : List Mode) (top : Tree FlatLeaf) (system : System
   abbrev pub AreFoundFlat : ℕ → List (Found FlatTrace) → Type 0
   AreFoundFlat size found = AreFound FlatTrace (IsFlatTrace m) (ReachesTop m top) (HasFailedNumber m fs) (length fs) size found
 
+  -- one of them
   abbrev pub IsFoundFlat : ℕ → Found FlatTrace → Type 0
   IsFoundFlat size f = IsFound FlatTrace (IsFlatTrace m) (ReachesTop m top) (HasFailedNumber m fs) (length fs) size f
 
@@ -79,6 +80,7 @@ module _ (m : FlatModel) (fs : List Mode) (top : Tree FlatLeaf) (system : System
     pub state : state_of values ≡ state_in system (slice_index_or path i [])
     pub inputs : i + 1 < length path → inputs_of values ≡ inputs_in system (slice_index_or path i [])
 
+  -- a path into bad states has lawful moments alone
   abbrev pub PathIsLawful : Type 0
   PathIsLawful =
       (size : ℕ) (sets : List (List ℕ)) (bad : List (List Literal)) (k : ℕ) (path : List Assignment) → IsSearched → IsBadFor size sets bad → IsPath system bad k path → (i : ℕ) → i < length path → IsLawfulMoment path i

@@ -1,7 +1,6 @@
 -- The highest variable of clauses.
-use Rattle.std.proofs.Common.{◌≡◌, ℕ, zero, suc, ◌+◌, ◌<◌, ◌≤◌, List, [], ◌∷◌, ◌++◌, length, drop, get_or, sym, ap, subst, ◌∙◌, arith}
+use Rattle.std.proofs.Common.{◌≡◌, ℕ, zero, suc, ◌<◌, ◌≤◌, List, [], ◌∷◌, ◌++◌, length, drop, get_or, sym, ap, subst, ◌∙◌, arith}
 use Rattle.std.specs.Prelude.{max, All}
-use Rattle.std.proofs.lemmas.List.{drop_more, drop_all}
 use Rattle.std.proofs.lemmas.List.Elements.{All-nil, All-cons}
 use Rattle.xs_lits.specs.Literal.{Literal}
 use Rattle.xs_lits.specs.Derivation.{IsUpTo}
@@ -48,17 +47,7 @@ begin cs = from_one (highest cs) (least cs)
 grouped : (a b c : ℕ) → max (max a b) c ≡ max a (max b c)
 grouped a b c = omega arith
 
--- nothing is left
-to_one : (n : ℕ) → 1 ≤ n → max n 1 ≡ n
-to_one n h = omega (arith, h)
-
-pub end : (most : ℕ) (cs : List (List Literal)) (i : ℕ) → length cs ≤ i → 1 ≤ most → max most (highest (drop i cs)) ≡ most
-end most cs i l h = ap (λ xs. max most (highest xs)) (drop_all i cs l) ∙ to_one most h
-
 -- two lists
-joined : (a b c : ℕ) → 1 ≤ c → max a c ≡ c → max a c ≡ c
-joined a b c h e = e
-
 pub of_both : (cs ds : List (List Literal)) → highest (cs ++ ds) ≡ max (highest cs) (highest ds)
 of_both [] ds = sym (from_one (highest ds) (least ds))
 of_both (c ∷ cs) ds = ap (max (highest_in c)) (of_both cs ds) ∙ sym (grouped (highest_in c) (highest cs) (highest ds))

@@ -1,5 +1,5 @@
 -- What the answer of a checker says of a step.
-use Rattle.std.proofs.Common.{eqb, cond, Bool, true, false, ◌≡◌, ◌⊎◌, inl, inr, ℕ, suc, ◌+◌, ◌-◌, ◌<◌, arith, List, Result, Ok, Err, Option, Some, None, refl, sym, ap, subst, ◌∙◌}
+use Rattle.std.proofs.Common.{eqb, cond, Bool, true, false, ◌≡◌, ◌⊎◌, inl, inr, ℕ, suc, ◌+◌, ◌-◌, ◌<◌, arith, List, Result, Ok, Err, Some, None, refl, sym, ap, subst, ◌∙◌}
 use Rattle.std.specs.Prelude.{◌↔◌, ◌≤◌, All, Contains, IsErrOf, length, slice_get}
 use Rattle.xs_lits.specs.Literal.{Literal}
 use Rattle.xs_lits.specs.CanTake.{CanTake}
@@ -11,7 +11,7 @@ use Rattle.xs_certificate_laws.specs.Accepted.{Covers}
 use Rattle.xs_lits.specs.declared.step.Step.{Step}
 use Rattle.xs_lits.specs.declared.step.StepFault.{StepFault}
 use Rattle.xs_lits.specs.declared.step.StepFault.TheVariants.{BadHint, NoConflict}
-use Rattle.xs_derivations.specs.Steps.{HasItsLiterals, BreaksStep, foreign, hint, no_false, IsTaken, FindsStep, fault_rule}
+use Rattle.xs_derivations.specs.Steps.{HasItsLiterals, BreaksStep, foreign, hint, no_false, IsTaken, fault_rule}
 
 module _ {A : Type 0} (d : Derivation) (s : Step) (can : CanTake d s.clause) (r : Result A StepFault)
     (bad : (i : ℕ) → IsErrOf r (BadHint i) ↔ FailsAt d.clauses (assumed_false d.vars s.clause) s.hints i) (opened : IsErrOf r NoConflict ↔ EndsOpen d.clauses (assumed_false d.vars s.clause) s.hints) where

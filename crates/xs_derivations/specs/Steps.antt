@@ -9,12 +9,15 @@ use Rattle.xs_lits.specs.declared.step.StepFault.TheVariants.{BadHint, NoConflic
 
 -- over variables up to the highest, after the clauses that are known
 module _ (most : ℕ) (known : List (List Literal)) (s : Step) where
+  -- rule 8: over variables up to the highest, and no literal with its opposite
   abbrev pub HasItsLiterals : Type 0
   HasItsLiterals = All (IsUpTo most) s.clause × HasNoOpposites s.clause
 
+  -- rule 9: no hint is the first that is useless
   abbrev pub HasNoBadHint : Type 0
   HasNoBadHint = (n : ℕ) → FailsAt known (assumed_false most s.clause) s.hints n → ⊥
 
+  -- rule 10: the hints do not run out before one is false
   abbrev pub HasFalseHint : Type 0
   HasFalseHint = EndsOpen known (assumed_false most s.clause) s.hints → ⊥
 
@@ -32,6 +35,7 @@ module _ (most : ℕ) (known : List (List Literal)) (s : Step) where
     pub hints : HasNoBadHint
     pub conflict : HasFalseHint
 
+  -- what is answered: nothing of a step that was taken, or the rule that it breaks first
   abbrev pub FindsStep : Derivation → Option ℕ → Type 0
   FindsStep new None = IsTaken new
   FindsStep new (Some number) = BreaksStep number

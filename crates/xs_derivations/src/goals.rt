@@ -1,4 +1,7 @@
 //! Clauses that a derivation is to show.
+//!
+//! An invariant is to hold first as it stands, to be kept as [`moved`] writes it, over the bits of the state next,
+//! and to exclude the bad states by the empty clause, which is the list of [`only_empty`].
 
 ghost use Rattle.std.specs.Prelude.{◌≡◌, ◌+◌, ◌<◌, ◌≤◌, IfOk, All, [], ◌∷◌, map};
 ghost use Rattle.xs_lits.specs.States.{moved_on};

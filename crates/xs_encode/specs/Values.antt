@@ -82,6 +82,7 @@ abbrev pub is_below : ℤ → Bool
 is_below (pos n) = false
 is_below (negsuc n) = true
 
+-- the least number of the interval is below 0
 abbrev pub has_sign : Option Interval → Bool
 has_sign None = false
 has_sign (Some i) = is_below i.lo
@@ -91,6 +92,7 @@ abbrev pub as_symbol : ℤ → ℕ
 as_symbol (pos n) = if nat_lt n 4294967296 then n else 0
 as_symbol (negsuc n) = 0
 
+-- the number is not 0
 abbrev pub is_nonzero : ℤ → Bool
 is_nonzero (pos n) = not (nat_eq n 0)
 is_nonzero (negsuc n) = true
@@ -145,6 +147,7 @@ bits_set symbols a p q _ _ = a
 abbrev pub state_size : List Text → List Variable → ℕ
 state_size symbols xs = sum_by (state_width symbols) (map variable_tree xs)
 
+-- the same of the inputs
 abbrev pub input_size : List Text → List Variable → ℕ
 input_size symbols xs = sum_by (input_width symbols) (map variable_tree xs)
 

@@ -1,4 +1,8 @@
-//! The clause list of a model's bad states.
+//! The clause list of a model's bad states: what a search for cut sets asks for.
+//!
+//! [`bad_clauses`] is the main function. A bad state is one at which the top event is TRUE, of which no more
+//! history bits are TRUE than the size says, and at least one of each listed set is FALSE. The clauses are those of
+//! the states, the top event and a counter, with one more for each listed set.
 
 ghost use Rattle.std.specs.Prelude.{◌≡◌, ◌≤◌, ◌-◌, ◌+◌, ◌*◌, ◌^◌, ◌++◌, IfOk, IsOk, OnOk, length, map};
 ghost use Rattle.std.specs.List.{range_with_len};

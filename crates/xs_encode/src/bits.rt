@@ -1,4 +1,8 @@
-//! The bits of values, and the values of bits.
+//! From the bits of an assignment to the values of a model's variables.
+//!
+//! [`valuation_of`] is the main function: it reads each variable from the bits that stand for it now. [`state_of`]
+//! does so for the state alone and gives each input its least value, for the last moment of a path.
+//! `src/setting.rt` goes the other way.
 
 ghost use Rattle.std.specs.Prelude.{◌≡◌, ◌≤◌, ◌<◌, ◌+◌, ◌^◌, ◌&&◌, nat_eq, ◌≤ℤ◌, ◌<ℤ◌, ◌+ℤ◌, neg_ℤ, pos, List, length, if◌then◌else◌};
 ghost use Rattle.xs_tree.specs.Values.{Value as Told};

@@ -1,4 +1,7 @@
-//! The domains of a model's variables as gates.
+//! The domains of a model's variables as gates: that each signal has one of its variable's values.
+//!
+//! `domains` is the main function. A boolean needs nothing; of a range both ends are compared; of a set of numbers
+//! or symbols one has to be the value.
 
 ghost use Rattle.std.specs.Prelude.{◌≡◌, ◌≤◌, ◌||◌, not, false, IfOk, OnOk, map, if◌then◌else◌};
 ghost use Rattle.xs_tree.specs.Trace.{Each};

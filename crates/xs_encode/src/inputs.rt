@@ -15,7 +15,9 @@ use xs_value::OutOfMemory;
 /// What is known of reading inputs: the model's variables, and for each definition whether it reads one.
 #[derive(Drop)]
 pub(crate) struct Reading<'a> {
+    /// The variables, by number.
     pub variables: &'a [Variable],
+    /// Whether the definition of a number reads an input, as far as they were looked at.
     pub definitions: Vec<bool>,
 }
 
@@ -46,6 +48,7 @@ fn names_input(reading: &Reading<'_>, name: Flat) -> bool
     }
 }
 
+// Whether the variable of a number is an input.
 fn is_input(variables: &[Variable], i: u32) -> bool
     ensures { result ≡ is_input_variable (slice_get (map variable_tree variables.now) i) }
 {
@@ -55,6 +58,7 @@ fn is_input(variables: &[Variable], i: u32) -> bool
     }
 }
 
+// Whether the definition of a number reads one.
 fn is_flagged(flags: &[bool], i: u32) -> bool
     ensures { result ≡ is_flagged (slice_get flags.now i) }
 {
@@ -83,6 +87,7 @@ pub(crate) fn reads_input(reading: &Reading<'_>, e: &Expr<Flat>) -> bool
     }
 }
 
+// Whether a member of a set does.
 #[cycle(reads)]
 fn member_reads(reading: &Reading<'_>, members: &[Expr<Flat>]) -> bool
     ensures { result ≡ trees_any (names_read reading.now) (trees_map leaf_of (trees_of members.now)) }
@@ -95,6 +100,7 @@ fn member_reads(reading: &Reading<'_>, members: &[Expr<Flat>]) -> bool
     false
 }
 
+// Whether a condition or a value of a case does.
 #[cycle(reads)]
 fn branch_reads(reading: &Reading<'_>, branches: &[(Expr<Flat>, Expr<Flat>)]) -> bool
     ensures { result ≡ branches_any (names_read reading.now) (branches_map leaf_of (branches_of branches.now)) }

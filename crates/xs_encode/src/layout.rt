@@ -24,7 +24,9 @@ use xs_value::{Domain, Items, OutOfMemory};
 /// The least and the greatest of some numbers.
 #[derive(Clone, Copy)]
 pub(crate) struct Ends {
+    /// The least.
     pub lo: i64,
+    /// The greatest.
     pub hi: i64,
 }
 
@@ -50,6 +52,7 @@ pub(crate) fn ends_of(domain: &Domain) -> Option<Ends>
     }
 }
 
+// The ends of some numbers, if there are any.
 fn number_ends(numbers: &[i64]) -> Option<Ends>
     ensures { result ≡ spread None numbers.now }
 {
@@ -60,6 +63,7 @@ fn number_ends(numbers: &[i64]) -> Option<Ends>
     ends
 }
 
+// The ends of the numbers of some symbols, if there are any.
 fn symbol_ends(symbols: &[u32]) -> Option<Ends>
     ensures { result ≡ spread None (map pos symbols.now) }
 {
@@ -93,6 +97,7 @@ pub(crate) fn domain_width(domain: &Domain) -> u32
     }
 }
 
+// The bits of any number between the ends.
 fn ends_width(ends: Option<Ends>) -> u32
     ensures { result ≡ width_in ends }
 {
@@ -105,7 +110,9 @@ fn ends_width(ends: Option<Ends>) -> u32
 /// Where the bits of variables are: the next state bit, and the next input bit.
 #[derive(Clone, Copy)]
 pub(crate) struct Places {
+    /// The variable of the next state bit.
     pub state: u64,
+    /// The variable of the next input bit.
     pub input: u64,
 }
 

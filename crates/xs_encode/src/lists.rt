@@ -1,4 +1,8 @@
-//! The clause lists of a model.
+//! The clause lists of a model: of its first states, its steps and its states.
+//!
+//! [`encode`] is the main function. A copy of the model at one moment is the gates of its definitions, with the
+//! clauses that its domains and its INVAR formulas hold; the first states are one copy with INIT, the steps two
+//! with TRANS. What reads an input is left out of the copy of a state, so that states do not depend on inputs.
 
 ghost use Rattle.std.specs.Prelude.{◌≡◌, ◌≤◌, ◌<◌, [], false, IfOk, OnOk, map};
 ghost use Rattle.xs_tree.specs.Trace.{Each};
@@ -34,9 +38,13 @@ use xs_value::{Items, OutOfMemory};
 /// What all lists of a model are made from.
 #[derive(Drop)]
 pub(crate) struct Source<'a> {
+    /// The model with its kinds.
     pub model: &'a Typed,
+    /// Which definitions read an input.
     pub reading: Reading<'a>,
+    /// The bits of the word of a symbol.
     pub symbols: u32,
+    /// How many bits the inputs have.
     pub inputs: u32,
 }
 

@@ -1,4 +1,6 @@
-//! The bits of values as those of an assignment.
+//! From the values of a model's variables to the bits of an assignment.
+//!
+//! [`bits_of`] is the main function: it sets the bits that stand for each variable now. `src/bits.rt` reads them back.
 
 ghost use Rattle.std.specs.Prelude.{ℕ, None, slice_index_or, ◌≡◌, ◌≤◌, ◌<◌, ◌+◌, ◌^◌, List, length};
 ghost use Rattle.xs_tree.specs.Values.{Value as Told};

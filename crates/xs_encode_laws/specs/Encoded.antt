@@ -35,6 +35,8 @@ abbrev pub bit_of : List ℕ → List Value → ℕ → Bool
 bit_of history v i = is_true_in v (slice_get history (i - 1))
 
 module _ (m : FlatModel) (system : System) (state_of inputs_of : List Value → List Bool) where
+  -- The lists mean the model: their first states and steps are those of its moments, different valuations have different bits, and
+  -- states do not depend on inputs.
   pub record IsEncodingOf : Type 0 where
     -- a first state is that of some first moment
     pub first_means : (s : State) → IsFirstState system s → (v : List Value) × IsFlatMoment m v × IsFlatFirst m v × (state_of v ≡ s)
@@ -59,6 +61,7 @@ module _ (m : FlatModel) (top : Tree FlatLeaf) (history : List ℕ) (sets : List
     pub unlisted : Each (AtSome (λ i. bit_of history v i ≡ false)) sets
 
 module _ (m : FlatModel) (system : System) (state_of : List Value → List Bool) (top : Tree FlatLeaf) (history : List ℕ) (sets : List (List ℕ)) (size : ℕ) where
+  -- the list means the bad moments: its states are exactly theirs
   pub record IsBadListOf (bad : List (List Literal)) : Type 0 where
     -- a bad state is that of some bad moment, and then of bad moments alone
     pub bad_means : (s : State) → IsBad system bad s → (v : List Value) × IsBadMoment m top history sets size v × (state_of v ≡ s)

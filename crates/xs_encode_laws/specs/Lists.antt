@@ -122,12 +122,15 @@ step_circuit m =
     let next = copy_gates m (signals_next m) false now.0 in
     formulas_gates (names_of m now.1 next.1) m.at_step next.0
 
+-- the clauses of all states
 abbrev pub state_list : FlatModel → List (List Literal)
 state_list m = (state_circuit m).0.clauses
 
+-- the clauses of the first states
 abbrev pub first_list : FlatModel → List (List Literal)
 first_list m = (first_circuit m).clauses
 
+-- the clauses of the steps
 abbrev pub step_list : FlatModel → List (List Literal)
 step_list m = (step_circuit m).clauses
 

@@ -44,5 +44,6 @@ pub record AreSmallLists (m : FlatModel) : Type 0 where
       → ClausesBelow (bad_room m top history size) (bad_list m top history sets size)
   pub fits : input_bits m ≤ 2 ^ 30 → (top : Tree FlatLeaf) (history : List ℕ) (size : ℕ) → cost_of top ≤ 60000 → length history ≤ 256 → size ≤ 256 → bad_room m top history size < 2 ^ 31
 
+-- the lists of an encodable model are small
 abbrev pub ListsAreSmall : Type 0
 ListsAreSmall = (m : FlatModel) → IsEncodable m → AreSmallLists m

@@ -19,6 +19,7 @@ abbrev pub width_of_sort : ℕ → Class → Option Interval → ℕ
 width_of_sort symbols Number (Some i) = word_width i
 width_of_sort symbols _ i = symbols
 
+-- the width of a word with such values
 abbrev pub sort_width : ℕ → Sort → ℕ
 sort_width symbols s = width_of_sort symbols s.class s.interval
 

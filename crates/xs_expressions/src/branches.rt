@@ -22,8 +22,11 @@ use xs_value::{Items, OutOfMemory};
 /// The conditions of a case's branches, but the last, their values, and what is known of all of these.
 #[derive(Drop)]
 pub struct Parts {
+    /// The literal of each condition.
     pub conditions: Word,
+    /// The signal of each value.
     pub values: SignalList,
+    /// What is known of any of the values; of none where there is none.
     pub sort: Option<Sort>,
 }
 
@@ -106,6 +109,7 @@ pub fn first_of(
     }
 }
 
+// Whether there is one more of the second than of the first.
 fn is_one_more(few: usize, many: usize) -> bool
     ensures { IsTrue result ↔ (many ≡ few + 1) }
 {

@@ -1,4 +1,7 @@
-//! The choices of a case.
+//! The choices of a case: its value as a chain of multiplexers.
+//!
+//! [`choices`] is the main function. The last value stands where no condition holds; from the last condition back
+//! to the first each chooses between its own value and what came out behind it.
 
 ghost use Rattle.std.specs.Prelude.{◌≡◌, ◌≤◌, ◌+◌, IfOk, length};
 ghost use Rattle.xs_circuits.specs.Meaning.{AllBelow};

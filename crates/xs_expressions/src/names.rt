@@ -1,4 +1,8 @@
-//! What the names of a model are in a circuit.
+//! What the names of a model are in a circuit: the signals of its variables and definitions, and the numbers of its
+//! symbols.
+//!
+//! [`Copied`] has the signals at one moment, [`Names`] those now and at the next one, and [`Names::signal`] is what
+//! an expression asks. Under `next` [`Names::at_next`] puts the next moment in the place of now.
 
 ghost use Rattle.std.specs.Prelude.{◌≡◌, ◌≤◌, IfOk, pos, slice_get};
 ghost use Rattle.xs_tree.specs.ModelTree.{leaf_of};
@@ -36,16 +40,22 @@ pub fn copy_signals(signals: &SignalList) -> Result<SignalList, OutOfMemory>
 /// A model's variables and definitions at one moment.
 #[derive(Drop)]
 pub struct Copied {
+    /// By the numbers of the variables.
     pub variables: SignalList,
+    /// By the numbers of the definitions.
     pub definitions: SignalList,
 }
 
 /// The names of a model now and at the next moment, and the bits of its symbols.
 #[derive(Clone, Copy)]
 pub struct Names<'a> {
+    /// The model, for what is known of the values.
     pub model: &'a Typed,
+    /// The signals now.
     pub current: &'a Copied,
+    /// The signals at the next moment.
     pub next: &'a Copied,
+    /// The bits of the word of a symbol.
     pub symbols: u32,
 }
 

@@ -1,4 +1,8 @@
-//! The gates of operators on values.
+//! The gates of operators on the signals of their operands.
+//!
+//! [`operator`] is the main function, for all operators with two operands; [`negated`] is the sign turned round.
+//! Each has a function of its own, which first sees that the circuit has room. Arithmetic goes to `xs_circuits`,
+//! cut to a width that the caller takes from what is known of the result.
 
 ghost use Rattle.std.specs.Prelude.{◌≤◌, IfOk};
 ghost use Rattle.xs_lits.specs.Literal.{opposite};

@@ -35,7 +35,9 @@ use xs_value::OutOfMemory;
 /// What is asked of an expression: its value, or whether that of a signal is among its values.
 #[derive(Clone, Copy)]
 pub enum Asked<'a> {
+    /// Its value.
     ItsValue,
+    /// Whether the value of this signal is among its values, as on the right of `in`.
     WhetherHas(&'a Signal),
 }
 
@@ -43,8 +45,11 @@ pub enum Asked<'a> {
 /// those of the other.
 #[derive(Clone, Copy)]
 pub enum Form {
+    /// The values of both, as most operators do.
     Values,
+    /// The values of each: `union`.
     Union,
+    /// The value of the left, which may be among those of the right: `in`.
     Within,
 }
 
@@ -62,7 +67,9 @@ pub fn form_of(op: Op) -> Form
 /// The value of an expression: its signal, and what is known of it.
 #[derive(Drop)]
 pub struct Part {
+    /// The literal of a truth value, or the word of a number or a symbol.
     pub signal: Signal,
+    /// What is known of the value, which gives the widths of words.
     pub sort: Sort,
 }
 

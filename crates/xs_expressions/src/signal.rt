@@ -1,4 +1,8 @@
-//! What an expression becomes in a circuit.
+//! What an expression becomes in a circuit: the literal of a truth value, or the word of a number or a symbol.
+//!
+//! [`Signal`] is that. [`same`] compares two, [`choice`] is the one or the other by a condition, [`between`] tests
+//! a word by the ends of an interval, and [`is_less`] compares words. Each sees first that the circuit has room for
+//! its gates, and answers want of memory where it has not.
 
 ghost use Rattle.std.specs.Prelude.{◌≡◌, ◌≤◌, ◌<◌, ◌-◌, ◌^◌, length, IfOk, OnOk};
 ghost use Rattle.xs_lits.specs.Models.{IsBelow};

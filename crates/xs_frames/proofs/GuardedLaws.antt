@@ -6,7 +6,6 @@ use Rattle.std.proofs.lemmas.List.Elements.{All-cons, All-nil, All-head, All-tai
 use Rattle.xs_lits.specs.Literal.{Literal, plain, opposite}
 use Rattle.xs_lits.specs.Derivation.{IsUpTo}
 use Rattle.xs_solver.specs.Kept.{added_of}
-use Rattle.xs_solver.specs.KeptRecord.{KeptValue}
 use Rattle.xs_lits.specs.declared.system.System.{System}
 use Rattle.xs_frames.specs.Roles.{Listed, first, step, bad, Role, renamed, renamed_literal, renamed_clause, under_guard, under_list}
 use Rattle.xs_frames.specs.Guards.{Layout, AreHeld, guards_next}
@@ -421,48 +420,6 @@ takes_from old a b new p base x n cs w r h low is_places is_base is_guard put =
     (subst (λ (q : ℕ). HasPut b new (under_list q (old.search.kept.vars + 1) (old.search.kept.vars + 1) cs)) (is_places ∙ h.guards.places ∙ r.places)
     (subst (λ (q : ℕ). HasPut b new (under_list p q (old.search.kept.vars + 1) cs)) (is_base ∙ r.well.vars ∙ r.vars)
     (subst (λ (q : ℕ). HasPut b new (under_list p base q cs)) (is_guard ∙ ap (λ (l : Literal). l.var) (h.guards.bad ∙ r.bad)) put)))
-
--- no clause, and the guards of the three lists
-pub empty_is : (last highest : ℕ) (g : Guarded) → last < 2 ^ 31 → last + 3 ≤ highest → highest < 2 ^ 62 → g.search.kept ≡ record { failed = false; vars = highest; clauses = []; marks = [] } → g.vars ≡ highest → g.places ≡ last →
-    g.frames.items ≡ plain (last + 1) ∷ [] → g.step ≡ plain (last + 2) → g.bad ≡ plain (last + 3) → IsEmpty last highest g
-empty_is last highest g low room small kept vars places frames steps bads = record {
-  well = record {
-    low = subst (λ (n : ℕ). n < 2 ^ 31) (sym places) low;
-    vars = vars ∙ sym same;
-    small = subst (λ (n : ℕ). n < 2 ^ 62) (sym same) small;
-    room = subst (λ (n : ℕ). n ≤ g.search.kept.vars) (sym places) (subst (λ (n : ℕ). last ≤ n) (sym same) (up last highest room));
-    some = subst (λ (ls : List Literal). 0 < length ls) (sym frames) (omega arith);
-    frames = subst (All (IsGuardIn g.places g.search.kept.vars)) (sym frames) (All-cons (IsGuardIn g.places g.search.kept.vars) (plain (last + 1)) [] (guard 1 (omega arith) (omega arith)) (All-nil (IsGuardIn g.places g.search.kept.vars)));
-    step = subst (IsGuardIn g.places g.search.kept.vars) (sym steps) (guard 2 (omega arith) (omega arith));
-    bad = subst (IsGuardIn g.places g.search.kept.vars) (sym bads) (guard 3 (omega arith) (omega arith));
-    marked = ap (λ (k : KeptValue). length k.marks) kept ∙ sym (ap (λ (k : KeptValue). length k.clauses) kept);
-  };
-  places = places;
-  vars = same;
-  frames = frames;
-  step = steps;
-  bad = bads;
-  added = ap (λ (k : KeptValue). added_of k.clauses k.marks) kept;
-}
-  where
-    same : g.search.kept.vars ≡ highest
-    same = ap (λ (k : KeptValue). k.vars) kept
-
-    up : (l h : ℕ) → l + 3 ≤ h → l ≤ h
-    up l h le = omega (arith, le)
-
-    above : (l k : ℕ) → 0 < k → l < l + k
-    above l k lt = omega (arith, lt)
-
-    inside : (l k h : ℕ) → k ≤ 3 → l + 3 ≤ h → l + k ≤ h
-    inside l k h a b = omega (arith, a, b)
-
-    guard : (k : ℕ) → 0 < k → k ≤ 3 → IsGuardIn g.places g.search.kept.vars (plain (last + k))
-    guard k lt le = record {
-      positive = refl;
-      above = subst (λ (n : ℕ). n < last + k) (sym places) (above last k lt);
-      in_range = subst (λ (n : ℕ). last + k ≤ n) (sym same) (inside last k highest le room);
-    }
 
 -- the clauses of a list, one more of which was put under its guard
 pub fill_more : (a b c : Guarded) (base : ℕ) (guard : Literal) (done : List (List Literal)) (d under : List Literal) → guard.negated ≡ false → HasPut a b (under_list a.places base guard.var done) → HasPut b c (under ∷ []) →

@@ -107,11 +107,6 @@ put_both a b c cs ds p q = record {
   added = q.added ∙ ap (λ (es : List (List Literal)). es ++ ds) p.added ∙ append_assoc (added_in a) cs ds;
 }
 
-pub widen_none : (g : Guarded) → IsWell g → HasWidened g g 0
-widen_none g w = record { well = w; guards = same_itself g; vars = none g.search.kept.vars; added = refl } where
-  none : (n : ℕ) → n ≡ n + 0
-  none n = omega arith
-
 -- after a variable more
 pub widen_more : (a b c : Guarded) (n : ℕ) → HasWidened a b n → HasSameGuards b c → c.vars ≡ b.search.kept.vars + 1 → b.search.kept.vars + 1 < 2 ^ 62 →
     c.search.kept ≡ record b.search.kept { vars = b.search.kept.vars + 1 } → HasWidened a c (n + 1)

@@ -16,7 +16,7 @@ use Rattle.xs_solver.specs.declared.solve.Verdict.TheVariants.{Sat, Unsat}
 use Rattle.xs_lits.specs.declared.system.System.{System}
 use Rattle.xs_frames.specs.Bits.{values_of}
 use Rattle.xs_frames.specs.Framed.{frame_at}
-use Rattle.xs_frames.specs.Roles.{Listed, first, step, bad, Role, list_guard}
+use Rattle.xs_frames.specs.Roles.{Listed, first, step, bad, list_guard}
 use Rattle.xs_frames.specs.Roles as roles
 use Rattle.xs_frames.specs.Guards.{Layout, StandsUpTo, unguarded}
 use Rattle.xs_frames.specs.Guarding.{Meets, places_of, MeetsFrame, MeetsBeside, added_in, IsGuardIn, IsWell, asked_guards, guard_at, guard_of, Tells}

@@ -8,7 +8,7 @@ use Rattle.xs_lits.specs.Models.{TotalAssignment, literal_value, clause_value, S
 use Rattle.xs_lits.proofs.ModelLemmas.{clause_value-same, literal_value-same, Satisfies-from_All, literal_value-opposite}
 use Rattle.xs_lits.specs.Derivation.{IsUpTo}
 use Rattle.xs_frames.specs.Framed.{frame_at}
-use Rattle.xs_frames.specs.Roles.{Listed, Role, place, list_guard, gate, retired, renamed, renamed_clause, under_guard}
+use Rattle.xs_frames.specs.Roles.{Listed, place, list_guard, gate, retired, renamed, renamed_clause, under_guard}
 use Rattle.xs_frames.specs.Roles as roles
 use Rattle.xs_frames.specs.Guards.{guards_next, StandsUpTo, Layout, IsHeld, of_list, of_frame, of_next, of_retired, AreHeld, unguarded}
 use Rattle.xs_frames.specs.Guarding.{Meets}

@@ -10,6 +10,7 @@ use Rattle.xs_frames.specs.Guards.{guards_next, Layout, IsHeld, of_list, of_fram
 use Rattle.xs_frames.specs.Guarding.{HasPut, IsWell, lists_of, guard_of, guard_at, added_in, AddsBad}
 use Rattle.xs_frames.specs.declared.guarded.Guarded.{Guarded}
 use Rattle.xs_frames.proofs.RoleLaws.{renamed_low}
+use Rattle.xs_frames.proofs.AnswerLemmas.{all_raised}
 use Rattle.xs_frames.proofs.HeldLists.{bad_at}
 use Rattle.xs_frames.proofs.GuardedLaws.{holding, layout_of, guards_same, guard_same}
 
@@ -46,9 +47,6 @@ later_other a b x lt le = by_test (leb_tells a b) where
   by_test (inl t) = let e = t.0 in at (rw e refl)
   by_test (inr t) = let e = t.0 in let is : later a b ≡ a = rw e refl in omega (arith, le, is)
 
-raised : (a b : ℕ) (c : List Literal) → a ≤ b → All (IsUpTo a) c → All (IsUpTo b) c
-raised a b c le low = λ k d lt. let h = low k d lt in omega (arith, h, le)
-
 -- a clause over the places more in the list of the bad states
 pub held_bad : (l : Layout) (vars : ℕ) (added : List (List Literal)) (c : List Literal) (list : Listed → List (List Literal)) → AreHeld l vars added → list first ≡ l.list first → list step ≡ l.list step →
     list bad ≡ l.list bad ++ c ∷ [] → All (IsUpTo l.places) c → AreHeld (record l { list = list; top = bad_at l.top (later (l.top bad) l.places) }) vars (added ++ under_guard (l.guard bad) c ∷ [])
@@ -78,8 +76,8 @@ held_bad l vars added c list are same_first same_step more low = record {
     is_gate bad x lt le = are.is_gate bad x lt (later_other (l.top bad) l.places x lt le)
 
     low_bad : (d : List Literal) → Contains (l.list bad) d ⊎ (c ≡ d) → All (IsUpTo (later (l.top bad) l.places)) d
-    low_bad d (inl m) = raised (l.top bad) (later (l.top bad) l.places) d (later_first (l.top bad) l.places) (are.list_low bad d m)
-    low_bad d (inr e) = subst (All (IsUpTo (later (l.top bad) l.places))) e (raised l.places (later (l.top bad) l.places) c (later_second (l.top bad) l.places) low)
+    low_bad d (inl m) = all_raised (l.top bad) (later (l.top bad) l.places) d (later_first (l.top bad) l.places) (are.list_low bad d m)
+    low_bad d (inr e) = subst (All (IsUpTo (later (l.top bad) l.places))) e (all_raised l.places (later (l.top bad) l.places) c (later_second (l.top bad) l.places) low)
 
     list_low : (which : Listed) (d : List Literal) → Contains (list which) d → All (IsUpTo (top which)) d
     list_low first d m = are.list_low first d (subst (λ ds. Contains ds d) same_first m)

@@ -10,6 +10,7 @@ use Rattle.xs_frames.specs.Guards.{IsPut}
 use Rattle.xs_frames.specs.Levels.{standing_in, frames_from, frames_of, HasGained}
 use Rattle.xs_frames.specs.declared.levels.Held.{Held}
 use Rattle.xs_frames.specs.declared.levels.Levels.{Levels}
+use Rattle.xs_frames.proofs.Short.{first_member, later_member}
 
 -- whether a clause stands in a frame
 stands : (i : ℕ) (h : Held) (hs : List Held) → i ≤ h.highest → standing_in i (h ∷ hs) ≡ h.clause ∷ standing_in i hs
@@ -44,12 +45,6 @@ cons_cases x c xs m = by_place m.0 m.1 m.2
     by_place zero lt e = inl e
     by_place (suc k) lt e = inr (k, grind (arith, lt), e)
 
-cons_first : (c : List Literal) (xs : List (List Literal)) → Contains (c ∷ xs) c
-cons_first c xs = (0, grind arith, refl)
-
-cons_later : (x c : List Literal) (xs : List (List Literal)) → Contains xs c → Contains (x ∷ xs) c
-cons_later x c xs m = (suc m.0, grind (arith, m.1), m.2)
-
 pub standing_has : (i : ℕ) (hs : List Held) (c : List Literal) → Contains (standing_in i hs) c → IsStanding i hs c
 standing_has i [] c m = absurd (omega (arith, m.1))
 standing_has i (h ∷ hs) c m = by_order (cases_lt h.highest i) (λ r. standing_has i hs c r)
@@ -67,12 +62,12 @@ standing_has i (h ∷ hs) c m = by_order (cases_lt h.highest i) (λ r. standing_
 
 pub standing_of : (i : ℕ) (hs : List Held) (k : ℕ) → k < length hs → i ≤ (held_in hs k).highest → Contains (standing_in i hs) (held_in hs k).clause
 standing_of i [] k lt le = absurd (omega (arith, lt))
-standing_of i (h ∷ hs) zero lt le = subst (λ xs. Contains xs h.clause) (sym (stands i h hs le)) (cons_first h.clause (standing_in i hs))
+standing_of i (h ∷ hs) zero lt le = subst (λ xs. Contains xs h.clause) (sym (stands i h hs le)) (first_member h.clause (standing_in i hs))
 standing_of i (h ∷ hs) (suc k) lt le = by_order (cases_lt h.highest i) (standing_of i hs k (grind (arith, lt)) le)
   where
     by_order : (h.highest < i) ⊎ (i ≤ h.highest) → Contains (standing_in i hs) (held_in hs k).clause → Contains (standing_in i (h ∷ hs)) (held_in hs k).clause
     by_order (inl lt) m = subst (λ xs. Contains xs (held_in hs k).clause) (sym (stands_not i h hs lt)) m
-    by_order (inr le) m = subst (λ xs. Contains xs (held_in hs k).clause) (sym (stands i h hs le)) (cons_later h.clause (held_in hs k).clause (standing_in i hs) m)
+    by_order (inr le) m = subst (λ xs. Contains xs (held_in hs k).clause) (sym (stands i h hs le)) (later_member h.clause (held_in hs k).clause (standing_in i hs) m)
 
 -- the list of a number
 from_is : (k n i m : ℕ) (hs : List Held) → m ≡ i + k → i < n → frame_at (frames_from k n hs) i ≡ standing_in m hs
@@ -154,7 +149,7 @@ standing_push i (g ∷ hs) h = by_order (cases_lt g.highest i) (standing_push i 
 pub gained_push : (l now : Levels) (j : ℕ) (c : List Literal) → now.last ≡ l.last → j ≤ l.last → now.held.items ≡ l.held.items ++ record { clause = c; highest = j } ∷ [] → HasGained j c (frames_of l) (frames_of now)
 gained_push l now j c last le items = gained_from l now j c last le
     (λ i below. subst (λ hs. Contains (standing_in i hs) c) (sym items) (subst (λ xs. Contains xs c) (sym (standing_push i l.held.items more))
-    (Contains-append_right (standing_in i l.held.items) (standing_in i (more ∷ [])) c (subst (λ xs. Contains xs c) (sym (stands i more [] below)) (cons_first c [])))))
+    (Contains-append_right (standing_in i l.held.items) (standing_in i (more ∷ [])) c (subst (λ xs. Contains xs c) (sym (stands i more [] below)) (first_member c [])))))
     (λ i d m. subst (λ hs. Contains (standing_in i hs) d) (sym items) (subst (λ xs. Contains xs d) (sym (standing_push i l.held.items more)) (Contains-append_left (standing_in i l.held.items) (standing_in i (more ∷ [])) d m)))
     (λ i d m. old i d (Contains-append_cases (standing_in i l.held.items) (standing_in i (more ∷ [])) d
     (subst (λ xs. Contains xs d) (standing_push i l.held.items more) (subst (λ hs. Contains (standing_in i hs) d) items m))))

@@ -37,9 +37,6 @@ part_true v c d a t = let m = true_member v c t in from_member v d m.0 (All-cont
 pub stands_itself : (frame : List (List Literal)) (c : List Literal) → Contains frame c → Stands frame c
 stands_itself frame c m = (m.0, c, m.1, m.2, (All-contains_itself c, All-contains_itself c))
 
-pub stands_grown : (f g : List (List Literal)) (c : List Literal) → ((d : List Literal) → Contains f d → Contains g d) → Stands f c → Stands g c
-stands_grown f g c w s = let m = w s.1 (s.0, s.2, s.3) in (m.0, s.1, m.1, m.2, s.4)
-
 -- literals of one variable and one sign, and items that stand at one place of two lists
 pub same_literal : (k m : Literal) → k.var ≡ m.var → k.negated ≡ m.negated → k ≡ m
 same_literal k m e f = ap (λ v. record { var = v; negated = k.negated }) e ∙ ap (λ b. record { var = m.var; negated = b }) f

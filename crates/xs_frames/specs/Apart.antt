@@ -16,15 +16,19 @@ use Rattle.xs_frames.specs.declared.guarded.Guarded.{Guarded}
 abbrev pub apart : ℕ → ℕ → ℕ
 apart places x = if nat_le 2 x then (if nat_le x places then x else x + 2) else x + places + 1
 
+-- the literal, its variable apart
 abbrev pub apart_literal : ℕ → Literal → Literal
 apart_literal places l = record { var = apart places l.var; negated = l.negated }
 
+-- the clause, its variables apart
 abbrev pub apart_clause : ℕ → List Literal → List Literal
 apart_clause places c = map (apart_literal places) c
 
+-- the list, its variables apart
 abbrev pub apart_list : ℕ → List (List Literal) → List (List Literal)
 apart_list places list = map (apart_clause places) list
 
+-- the system with the variables of its lists `first` and `step` apart
 abbrev pub apart_system : System → System
 apart_system system = record system { first = apart_list (places_of system) system.first; step = apart_list (places_of system) system.step }
 

@@ -5,6 +5,7 @@ use Rattle.xs_lits.specs.Assignment.{Assignment}
 use Rattle.xs_lits.specs.Models.{all_true}
 use Rattle.xs_frames.specs.Chain.{State}
 
+-- 1 for true, 0 for false
 abbrev pub one_if : Bool → ℕ
 one_if true = 1
 one_if false = 0
@@ -18,6 +19,7 @@ count (suc n) p = count n (λ s. p (true ∷ s)) + count n (λ s. p (false ∷ s
 abbrev pub passes : List (List Literal) → State → Bool
 passes frame s = all_true (λ v. slice_index_or s (v - 2) false) frame
 
+-- the states of each frame, counted frame by frame
 abbrev pub states_left : ℕ → List (List (List Literal)) → ℕ
 states_left bits [] = 0
 states_left bits (f ∷ fs) = count bits (passes f) + states_left bits fs

@@ -47,6 +47,7 @@ pub record IsCoreOf (system : System) (list : List (List Literal)) (frames : Lis
   pub negated : All (λ l. Contains assumptions (opposite l)) core
   pub follows : (v : TotalAssignment) → MeetsFrame system frames i v → MeetsBeside system list asked v → IsTrue (clause_value v core)
 
+-- the verdict of a question is right
 abbrev pub IsToldBy : System → List (List Literal) → List (List (List Literal)) → Beside → ℕ → List Literal → Verdict → Type 0
 IsToldBy system list frames beside i assumptions (Sat a) = IsModelOf system list frames beside i assumptions a
 IsToldBy system list frames beside i assumptions (Unsat core) = IsCoreOf system list frames beside i assumptions core

@@ -4,7 +4,7 @@ use Rattle.std.specs.Prelude.{◌≡◌, ◌⊎◌, ℕ, suc, ◌+◌, ◌-◌, 
 use Rattle.xs_lits.specs.Literal.{Literal, plain, opposite}
 use Rattle.xs_lits.specs.Derivation.{IsUpTo}
 use Rattle.xs_frames.specs.Framed.{frame_at}
-use Rattle.xs_frames.specs.Roles.{Listed, Role, place, list_guard, gate, retired, unused, renamed, renamed_clause, under_guard}
+use Rattle.xs_frames.specs.Roles.{Listed, Role, place, list_guard, gate, retired, unused, renamed_clause, under_guard}
 use Rattle.xs_frames.specs.Roles as roles
 
 -- the clause stands in each frame from number 1 up to another

@@ -45,6 +45,7 @@ pub record IsFilledLevel (l : Levels) (i : ℕ) : Type 0 where
   pub inside : place < length l.held.items
   pub number : (held_at l place).highest ≡ i
 
+-- each number from 1 on below n is some clause's
 abbrev pub AreFilledBelow : Levels → ℕ → Type 0
 AreFilledBelow l n = (j : ℕ) → 0 < j → j < n → IsFilledLevel l j
 
@@ -69,5 +70,6 @@ module _ (system : System) where
   abbrev pub IsLevelPushed : Levels → ℕ → Type 0
   IsLevelPushed l i = (k : ℕ) → k < length l.held.items → IsStuck l i (held_at l k)
 
+  -- that is so of each frame from 1 on below n
   abbrev pub AreLevelsPushed : Levels → ℕ → Type 0
   AreLevelsPushed l n = (j : ℕ) → 0 < j → j < n → IsLevelPushed l j

@@ -22,9 +22,11 @@ pub data Role : Type 0 where
 abbrev pub renamed : ℕ → ℕ → ℕ → ℕ
 renamed places base x = if nat_le x places then x else x - places + base
 
+-- the literal, its variable renumbered
 abbrev pub renamed_literal : ℕ → ℕ → Literal → Literal
 renamed_literal places base l = record { var = renamed places base l.var; negated = l.negated }
 
+-- the clause, its variables renumbered
 abbrev pub renamed_clause : ℕ → ℕ → List Literal → List Literal
 renamed_clause places base c = map (renamed_literal places base) c
 

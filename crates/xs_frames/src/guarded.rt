@@ -1,18 +1,19 @@
 //! One search over the lists of a system and the clauses of frames, each under a guard of its own.
 //!
-//! A guard is a variable above those of states and inputs. The first states, the steps and the bad states that are asked about stand
-//! in the search as `guard of the list -> clause`, with their gates renamed, so that those of two lists never meet. A clause that
-//! holds in the frames up to a number is kept once, as `guard of that frame -> clause`, and each guard implies the next frame's: so
-//! under the guard of a frame just its clauses have to hold. The frame of number 0 is the list of the first states. Bad states and
-//! frames that are not asked about any more are retired: their guard is false from then on. What the search learns stays.
-ghost use Rattle.std.specs.Prelude.{◌≡◌, ◌≤◌, ◌<◌, ◌+◌, ◌*◌, ◌-◌, ◌^◌, ◌∷◌, ◌++◌, [], IfOk, OnOk, All, length, false};
-ghost use Rattle.xs_lits.specs.Literal.{opposite, plain};
+//! A guard is a variable above those of states and inputs. The first states, the steps and the bad states that are
+//! asked about stand in the search as `guard of the list -> clause`, with their gates renamed, so that those of two
+//! lists never meet. A clause that holds in the frames up to a number is kept once, as `guard of that frame ->
+//! clause`, and each guard implies the next frame's: so under the guard of a frame just its clauses have to hold.
+//! The frame of number 0 is the list of the first states. Bad states and frames that are not asked about any more
+//! are retired: their guard is false from then on. What the search learns stays.
+ghost use Rattle.std.specs.Prelude.{◌≡◌, ◌≤◌, ◌<◌, ◌+◌, ◌*◌, ◌^◌, ◌∷◌, ◌++◌, [], IfOk, OnOk, All, length};
+ghost use Rattle.xs_lits.specs.Literal.{opposite};
 ghost use Rattle.xs_lits.specs.Derivation.{IsUpTo};
 ghost use Rattle.xs_lits.specs.Hints.{HasNoOpposites};
 ghost use Rattle.xs_frames.specs.Apart.{apart_system, apart_list, IsNear};
 ghost use Rattle.xs_frames.specs.Condition.{IsLow, IsFit};
 ghost use Rattle.xs_frames.specs.Roles.{renamed_literal, renamed_clause, under_list};
-ghost use Rattle.xs_frames.specs.Guards.{unguarded, guards_next};
+ghost use Rattle.xs_frames.specs.Guards.{unguarded};
 ghost use Rattle.xs_frames.specs.Guarding.{IsWell, IsHolding, IsGuardIn, HasRoomFor, IsEmpty, HasPut, HasWidened, HasNewBad, HasNewFrame, HasAsked, Tells, TakesBad, AddsBad, Puts, Grows, BeginsAgain, asked_guards};
 
 use crate::apart::list_apart;
@@ -30,14 +31,18 @@ use xs_value::OutOfMemory;
 /// What is asked about beside a frame.
 #[derive(Clone, Copy, Debug, PartialEq, Eq)]
 pub enum Beside {
+    /// The frame alone.
     Nothing,
+    /// A step from a state of the frame.
     Step,
+    /// The bad states.
     Bad,
 }
 
-/// One search over the lists of a system and the clauses of frames, each under a guard of its own.
+/// The search, and which of its literals are guards.
 #[derive(Drop)]
 pub struct Guarded {
+    /// The search that is kept from question to question.
     pub search: Search<KeepNone>,
     /// The highest variable of the search.
     pub vars: u64,

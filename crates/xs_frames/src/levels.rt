@@ -1,7 +1,7 @@
 //! Each clause of the frames once, with the number of the highest frame in which it holds: it stands in the frames up to that
 //! one. The frame of number i is then all clauses whose number is i or more, and a clause goes to the next frame by a
 //! change of its number. Contracts see the frames as `frames_of` lists them (`specs/Levels.antt`).
-ghost use Rattle.std.specs.Prelude.{◌≡◌, ◌≢◌, ◌≤◌, ◌<◌, ◌+◌, [], ◌∷◌, ◌++◌, length, slice_set, IfOk, OnOk, OnErr, IsTrue, All, false};
+ghost use Rattle.std.specs.Prelude.{◌≡◌, ◌≢◌, ◌<◌, [], ◌∷◌, ◌++◌, length, slice_set, IfOk, OnOk, OnErr, IsTrue, All, false};
 ghost use Rattle.xs_frames.specs.Levels.{standing_in, held_at, IsFilledLevel};
 
 use std::alloc::Global;
@@ -11,14 +11,18 @@ use xs_value::OutOfMemory;
 /// A clause, and the number of the highest frame in which it holds.
 #[derive(Drop)]
 pub struct Held {
+    /// The clause, over state bits now.
     pub clause: Clause,
+    /// The number of the last frame in which it stands.
     pub highest: usize,
 }
 
 /// The clauses of the frames of numbers 0 to the last.
 #[derive(Drop)]
 pub struct Levels {
+    /// The clauses, as they came.
     pub held: Vec<Held>,
+    /// The number of the last frame, the frontier.
     pub last: usize,
 }
 

@@ -1,3 +1,8 @@
+//! Comparisons of lists of clauses, and their highest variable: what tells which of the bad states' clauses are
+//! new.
+//!
+//! [`goes_on`] is the main function: whether a list is another one with clauses over states and inputs after it, so
+//! that only these have to be added to the search. [`highest`] tells how many variables a list that is added takes.
 ghost use Rattle.std.specs.Prelude.{◌≡◌, ◌<◌, ◌^◌, ◌↔◌, IsTrue, All};
 ghost use Rattle.xs_lits.specs.Derivation.{IsUpTo};
 ghost use Rattle.xs_frames.specs.Apart.{IsNear, IsPlace, GoesOn};
@@ -75,12 +80,14 @@ fn is_of_places(places: u64, lit: Lit) -> bool
     2 <= lit.var() && lit.var() <= places
 }
 
+// Whether each variable of the clause is one of states and inputs.
 fn is_clause_of_places(places: u64, clause: &Clause) -> bool
     ensures { IsTrue result ↔ All (IsPlace places) clause.now }
 {
     clause.lits().iter().all(|lit| is_of_places(places, *lit))
 }
 
+// Whether each variable of the list is one of states and inputs.
 fn are_of_places(places: u64, list: &[Clause]) -> bool
     ensures { IsTrue result ↔ All (All (IsPlace places)) list.now }
 {

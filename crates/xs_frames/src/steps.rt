@@ -1,3 +1,7 @@
+//! Paths as data: one assignment for each moment.
+//!
+//! [`StepList`] is the list of the moments, from a first state to a bad one. While a path is looked for it has the
+//! obligations, the bad state's first, and is turned round at the end.
 ghost use Rattle.std.specs.Prelude.{◌≡◌, ◌<◌, ◌↔◌, [], ◌∷◌, ◌++◌, length, reverse, Some, slice_get, IfOk, OnOk, OnErr, IsTrue};
 ghost use Rattle.xs_lits.specs.Assignment.{Assignment};
 

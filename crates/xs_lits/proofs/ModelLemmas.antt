@@ -20,12 +20,6 @@ signed-not false b = refl
 pub literal_value-opposite : (v : TotalAssignment) (l : Literal) → literal_value v (opposite l) ≡ not (literal_value v l)
 literal_value-opposite v l = signed-not l.negated (v l.var)
 
-pub opposite-var : (l : Literal) → (opposite l).var ≡ l.var
-opposite-var l = refl
-
-pub literal_value-plain : (v : TotalAssignment) (x : ℕ) → literal_value v (plain x) ≡ v x
-literal_value-plain v x = refl
-
 -- where two assignments agree below n, they agree on what has only variables below n
 pub literal_value-same : (n : ℕ) (v w : TotalAssignment) (l : Literal) → SameBelow n v w → IsBelow n l → literal_value w l ≡ literal_value v l
 literal_value-same n v w l same below = ap (signed l.negated) (same l.var below)

@@ -4,6 +4,7 @@ use Rattle.std.specs.Prelude.{ℕ, ◌+◌, ◌<◌, Bool, false, not, List, len
 use Rattle.std.specs.Option.{option_map}
 use Rattle.xs_lits.specs.Literal.{Literal, signed}
 
+-- a place for each number up to the highest variable
 abbrev pub Assignment : Type 0
 Assignment = List (Option Bool)
 

@@ -4,6 +4,7 @@ use Rattle.xs_lits.specs.Literal.{Literal}
 use Rattle.xs_lits.specs.Derivation.{Derivation, IsUpTo}
 use Rattle.xs_lits.specs.Hints.{HasNoOpposites}
 
+-- there is room for the clause, its variables are at most the highest, and no literal has its opposite there
 pub record CanTake (d : Derivation) (c : List Literal) : Type 0 where
   pub room_for_clause : 1 ≤ d.spare_clauses
   pub room_for_lits : length c ≤ d.spare_lits

@@ -4,6 +4,7 @@ use Rattle.xs_lits.specs.Assignment.{all_free, IsInRange}
 use Rattle.xs_lits.specs.Derivation.{Derivation}
 use Rattle.xs_lits.specs.declared.checker.Checker.TheInside.{Inside}
 
+-- what contracts see of the parts: the trail has a place for each variable and for 0
 abbrev pub derivation_of : Inside → Derivation
 derivation_of c = record {
   vars = length c.trail - 1;
@@ -12,6 +13,7 @@ derivation_of c = record {
   spare_lits = c.clauses.spare_lits;
 }
 
+-- between two calls no variable has a value, and each clause is over variables of the trail
 pub record IsSound (c : Inside) : Type 0 where
   pub free : c.trail ≡ all_free (length c.trail - 1)
   pub in_range : All (All (IsInRange c.trail)) c.clauses.clauses

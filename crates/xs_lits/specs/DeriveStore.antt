@@ -9,9 +9,11 @@ use Rattle.xs_lits.specs.declared.clause_store.ClauseStore.TheInside.{Inside}
 abbrev pub spanned : List Literal → Span → List Literal
 spanned lits span = slice_range lits span.start span.end
 
+-- the span begins no later than it ends, within the list
 abbrev pub LiesIn : List Literal → Span → Type 0
 LiesIn lits span = (span.start ≤ span.end) × (span.end ≤ length lits)
 
+-- the clauses are what the spans cut out of the one list of literals
 abbrev pub store_of : Inside → Store
 store_of s = record {
   clauses = map (spanned s.lits.items) s.spans.items;
@@ -19,6 +21,7 @@ store_of s = record {
   spare_lits = s.spare_lits;
 }
 
+-- each span lies in the list, and both lists have the memory for the room that is left
 pub record IsSound (s : Inside) : Type 0 where
   pub spans_lie : All (LiesIn s.lits.items) s.spans.items
   pub room_for_clauses : vec_len s.spans + s.spare_clauses ≤ vec_capacity s.spans

@@ -3,9 +3,11 @@ use Rattle.std.specs.Prelude.{◌≡◌, ◌≢◌, ℕ, ◌+◌, ◌<◌, ◌�
 use Rattle.xs_lits.specs.Assignment.{Assignment}
 use Rattle.xs_lits.specs.declared.checker_trail.Trail.TheInside.{Inside}
 
+-- contracts see the assignment alone
 abbrev pub assignment_of : Inside → Assignment
 assignment_of t = t.assign
 
+-- what has a value is listed, so it can be made free, and the list never needs more memory
 pub record IsSound (t : Inside) : Type 0 where
   -- each variable that has a value is listed
   pub listed : (x : ℕ) → slice_index_or t.assign x None ≢ None → Contains t.set.items x

@@ -18,12 +18,15 @@ abbrev pub moved_on : ℕ → Literal → Literal
 moved_on bits l = record { var = l.var + bits; negated = l.negated }
 
 module _ (system : System) where
+  -- a state has as many bits as the system says
   abbrev pub IsState : State → Type 0
   IsState s = length s ≡ system.state_bits
 
+  -- the clauses of first states can be made true with its bits as the state now
   abbrev pub IsFirstState : State → Type 0
   IsFirstState s = IsState s × ((v : TotalAssignment) × Agrees v 2 s × IsTrue (all_true v system.first))
 
+  -- the clauses of steps can be made true with the bits of both, as the states now and next
   abbrev pub IsStepOf : State → State → Type 0
   IsStepOf s t = IsState s × IsState t × ((v : TotalAssignment) × Agrees v 2 s × Agrees v (system.state_bits + 2) t × IsTrue (all_true v system.step))
 
@@ -40,6 +43,7 @@ module _ (system : System) where
       × IsTrue (all_true v system.step)
       )
 
+  -- the clauses of bad states can be made true with its bits
   abbrev pub IsBad : List (List Literal) → State → Type 0
   IsBad bad s = IsState s × ((v : TotalAssignment) × Agrees v 2 s × IsTrue (all_true v bad))
 
@@ -47,12 +51,15 @@ module _ (system : System) where
   abbrev pub state_values : State → TotalAssignment
   state_values s v = slice_index_or s (v - 2) false
 
+  -- the bits of the state make the clause true; other variables count as false
   abbrev pub Makes : State → List Literal → Type 0
   Makes s c = IsTrue (clause_value (state_values s) c)
 
+  -- the bits of the state make each clause of the frame true
   abbrev pub InFrame : List (List Literal) → State → Type 0
   InFrame frame s = IsState s × IsTrue (all_true (state_values s) frame)
 
+  -- each variable of the clause is a bit of the state now
   abbrev pub IsOverBits : List Literal → Type 0
   IsOverBits c = All (λ l. (2 ≤ l.var) × (l.var < system.state_bits + 2)) c
 

@@ -1,3 +1,10 @@
+//! The checker of derivations: clauses by number, to which a step adds one where it follows by its hints.
+//!
+//! [`Checker::step`] is the main call. It goes by reverse unit propagation: the literals of the step's clause are
+//! made false, each hint's clause makes its one remaining literal true in turn, and the last one is false
+//! ([`crate::hints`] does this). The clauses lie in [`crate::clause_store`] and the assignment in
+//! [`crate::checker_trail`]. What it accepts is true in every model of the clauses before it, whatever made the
+//! step.
 ghost use Rattle.std.specs.Prelude.{◌≡◌, ◌↔◌, ℕ, ◌^◌, ◌<◌, ◌≤◌, [], ◌∷◌, ◌++◌, length, All, IsTrue, Some, IsOk, IfOk, OnOk, OnErr};
 ghost use Rattle.std.specs.Result.{IsErrOf};
 ghost use Rattle.xs_lits.specs.Models.{FollowsFrom};
@@ -9,7 +16,7 @@ use crate::checker_trail::Trail;
 use crate::clause::Clause;
 use crate::clause_store::ClauseStore;
 use crate::hints::{follow, has_no_opposites};
-use crate::lit::Lit;
+use crate::lit::{Lit, are_up_to};
 use crate::step::{Step, StepFault};
 use std::alloc::Global;
 use std::marker::Model;
@@ -138,11 +145,4 @@ impl Checker {
         }
         outcome
     }
-}
-
-// Whether the variables of the literals are at most `vars`.
-fn are_up_to(lits: &[Lit], vars: u64) -> bool
-    ensures { IsTrue result ↔ All (IsUpTo vars) lits.now }
-{
-    lits.iter().all(|lit| lit.var() <= vars)
 }

@@ -1,4 +1,10 @@
-ghost use Rattle.std.specs.Prelude.{◌≡◌, ◌↔◌, ℕ, ◌+◌, ◌-◌, ◌<◌, length, replicate, Some, None, All, IsTrue, IsOk};
+//! Whether the clause of a step follows by its hints: reverse unit propagation along numbered clauses.
+//!
+//! [`follow`] is the main function. It makes each literal of the clause false, takes the hints in turn, and makes
+//! the trail free again. A hint whose clause is unit makes one more literal true; the one whose clause is false has
+//! to be the last. Any other hint is refused, by its number from 1. [`has_no_opposites`] is the test that the
+//! literals can all be made false.
+ghost use Rattle.std.specs.Prelude.{◌≡◌, ◌↔◌, ℕ, ◌-◌, length, replicate, Some, None, All, IsTrue, IsOk};
 ghost use Rattle.std.specs.Result.{result_err, IsErrOf};
 ghost use Rattle.xs_lits.specs.Literal.{Literal};
 ghost use Rattle.xs_lits.specs.Assignment.{all_free, IsInRange, value_of};

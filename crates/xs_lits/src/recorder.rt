@@ -1,3 +1,7 @@
+//! Recorders: what a search hands its steps to.
+//!
+//! [`Recorder`] is the trait, an observer whose one call [`Recorder::keep`] takes a step. [`KeepAll`] keeps all steps in a
+//! [`StepsList`], for a certificate, and [`KeepNone`] forgets them, for a search whose answer alone is wanted.
 ghost use Rattle.std.specs.Prelude.{◌≡◌, ◌<◌, ◌↔◌, IsTrue, [], ◌∷◌, ◌++◌, length, IfOk, OnOk, OnErr, Some, None, slice_get};
 ghost use Rattle.std.specs.Option.{option_map};
 

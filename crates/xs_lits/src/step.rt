@@ -1,3 +1,7 @@
+//! Steps of a derivation, as data: a clause, and hints by which it follows.
+//!
+//! [`Step`] has both, [`HintList`] is the list of hints, which are numbers of earlier clauses, and [`StepFault`] says why
+//! [`crate::checker`] refuses a step.
 ghost use Rattle.std.specs.Prelude.{◌≡◌, ◌<◌, ◌↔◌, IsTrue, [], ◌∷◌, ◌++◌, length, IfOk, OnOk, OnErr, Some, slice_get};
 
 use crate::clause::Clause;
@@ -80,7 +84,9 @@ impl HintList {
 /// A clause with the numbers of the clauses by which it follows, in the order of unit propagation.
 #[derive(Drop)]
 pub struct Step {
+    /// The clause that follows.
     pub clause: Clause,
+    /// Numbers of earlier clauses, from 1, the last of which is false at its turn.
     pub hints: HintList,
 }
 

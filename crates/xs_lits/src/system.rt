@@ -1,3 +1,8 @@
+//! A system of clause lists: the first states, the steps and the states of a model, as clauses over the bits of a
+//! state.
+//!
+//! The head of the crate says which variables are which; `specs/States.antt` says which patterns of bits are
+//! states, first states and steps of a system.
 use crate::clause::ClauseList;
 
 /// The clauses of a model, over variables below 2^31.

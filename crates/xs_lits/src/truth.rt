@@ -1,3 +1,8 @@
+//! What a clause is under an assignment: the four answers by which unit propagation goes.
+//!
+//! [`truth`] is the main function, and [`truth_of_lits`] the same of a slice of literals. Both go through the
+//! literals up to three times: for a true one, for the first free one, and for one that is neither false nor that
+//! one.
 ghost use Rattle.std.specs.Prelude.{◌≡◌, ◌↔◌, ◌||◌, not, true, false, Some, All, Any, find};
 ghost use Rattle.std.specs.List.{list_any, list_all};
 ghost use Rattle.xs_lits.specs.Literal.{Literal};

@@ -6,7 +6,7 @@
 //! reaches and which faults it has failed are parameters: flat traces, traces of a program and extended traces share
 //! the definition. `specs/Laws.antt` has what follows: for all traces the listed sets are exactly the minimal cut sets
 //! of at most so many faults, and traces that correspond are covered alike (`proofs/Carried.antt`, which the crates
-//! above cite).
+//! above cite). `proofs/Examples.antt` has four traces, a list of sets that is right for them, and two that are not.
 //!
 //! ```text
 //! // sets 1 and 2 3, size 2: a reaching trace that has failed 2 and 4 would be one too many
@@ -19,10 +19,13 @@ ghost use Rattle.xs_right_laws.specs.Laws.{RightSetsAreMinimal, RightIsCarried};
 pub trait Traces {
     ghost use Rattle.std.specs.Prelude.{ℕ};
 
+    /// That it is a trace.
     ghost is_trace: { Self → Type 0 };
 
+    /// That it reaches the top event.
     ghost reaches: { Self → Type 0 };
 
+    /// That it has failed the fault of this number, from 1 on.
     ghost has_failed: { Self → ℕ → Type 0 };
 }
 
@@ -33,10 +36,13 @@ pub fn right_sets_are_minimal<T: Traces>()
 
 /// Traces that may correspond to others, with a class of each kind.
 pub trait Corresponding<U>: Traces {
+    /// That a trace corresponds to one of the other kind.
     ghost related: { Self → U → Type 0 };
 
+    /// The class of traces of this kind.
     ghost class: { Self → Type 0 };
 
+    /// The class of those of the other kind.
     ghost other_class: { U → Type 0 };
 }
 

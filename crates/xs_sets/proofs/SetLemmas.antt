@@ -1,6 +1,7 @@
 -- Steps of the loops over sets.
-use Rattle.std.proofs.Common.{◌≡◌, ℕ, zero, suc, ◌+◌, ◌-◌, ◌<◌, ◌≤◌, nat_eq, nat_lt, Bool, true, false, List, [], ◌∷◌, length, drop, get_or, refl, subst, length-drop, sym, ap, ◌∙◌, arith, eq-eqb}
+use Rattle.std.proofs.Common.{◌≡◌, ℕ, zero, suc, ◌+◌, ◌-◌, ◌<◌, ◌≤◌, nat_eq, nat_lt, true, false, List, [], ◌∷◌, length, drop, get_or, refl, subst, length-drop, sym, ap, ◌∙◌, arith, eq-eqb}
 use Rattle.std.specs.Prelude.{◌&&◌}
+use Rattle.std.proofs.lemmas.Bool.{and_parts}
 use Rattle.std.proofs.Math.Seq.{drop-cons}
 use Rattle.std.proofs.Math.ListN.{drop_of_length-le}
 use Rattle.xs_right_laws.specs.Sets.{IsRising, is_before_in_order}
@@ -63,17 +64,10 @@ less_then i j e = grind arith
 less_where : (i j : ℕ) → i < j → nat_lt i j ≡ true
 less_where i j h = grind arith
 
-and_then : (a b : Bool) → (a && b) ≡ true → (a ≡ true) × (b ≡ true)
-and_then true b e = (refl, e)
-and_then false b e = absurd (bad e)
-  where
-    bad : false ≡ true → ⊥
-    bad e = cc
-
 pub rises_then : (s : List ℕ) → is_rising s ≡ true → IsRising s
 rises_then [] e = tt
 rises_then (i ∷ []) e = tt
-rises_then (i ∷ j ∷ s) e = let both = and_then (nat_lt i j) (is_rising (j ∷ s)) e in (less_then i j both.0, rises_then (j ∷ s) both.1)
+rises_then (i ∷ j ∷ s) e = let both = and_parts (nat_lt i j) (is_rising (j ∷ s)) e in (less_then i j both.0, rises_then (j ∷ s) both.1)
 
 pub rises_where : (s : List ℕ) → IsRising s → is_rising s ≡ true
 rises_where [] h = refl

@@ -1,6 +1,10 @@
-//! Tests of fault sets.
+//! Tests of fault sets, each a slice of numbers of faults.
+//!
+//! [`is_contained`], [`is_rising`] and [`stands_before`] are the main functions: which set contains which, whether
+//! a slice is in order and without repetition, and the order in which sets are listed. Each answers exactly what
+//! its definition computes.
 
-ghost use Rattle.std.specs.Prelude.{◌≡◌, ◌↔◌, ◌&&◌, not, IsTrue};
+ghost use Rattle.std.specs.Prelude.{◌≡◌, ◌↔◌, IsTrue};
 ghost use Rattle.xs_right_laws.specs.Sets.{IsRising, has_number as has, is_contained as contained, is_before_in_order, stands_before as before};
 ghost use Rattle.xs_sets.specs.Tests.{is_rising as rising, are_apart as apart};
 
@@ -32,7 +36,7 @@ pub fn is_rising(set: &[u32]) -> bool
     rises(set)
 }
 
-/// The same, as it is computed from the front on.
+// The same, as it is computed from the front on.
 #[tactic(auto, using(crate::proofs::SetLemmas::rising_more, crate::proofs::SetLemmas::rising_none, crate::proofs::SetLemmas::rising_one))]
 fn rises(set: &[u32]) -> bool
     ensures { result ≡ rising set.now }
@@ -45,7 +49,7 @@ fn rises(set: &[u32]) -> bool
     true
 }
 
-/// Whether the one set comes before the other by their numbers.
+// Whether the one set comes before the other by their numbers.
 #[tactic(auto, using(crate::proofs::SetLemmas::before_ended, crate::proofs::SetLemmas::before_shorter, crate::proofs::SetLemmas::before_differs, crate::proofs::SetLemmas::before_same))]
 fn is_before(set: &[u32], other: &[u32]) -> bool
     ensures { result ≡ is_before_in_order set.now other.now }

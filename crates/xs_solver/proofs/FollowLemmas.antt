@@ -1,7 +1,7 @@
 -- The store's trail begins with the literals that it has followed, whatever is made true or taken back.
 use Rattle.std.proofs.Common.{◌≡◌, ℕ, ◌+◌, ◌≤◌, List, [], ◌∷◌, ◌++◌, length, take, reverse, replicate, Option, None, Some, refl, sym, ap, ◌∙◌, arith}
 use Rattle.std.specs.Prelude.{slice_get}
-use Rattle.std.proofs.lemmas.List.{map-append, take-map, take-take, take-append-le, take_all, replicate-append-replicate, length-map, length-take, length-append, reverse-reverse, reverse-append}
+use Rattle.std.proofs.lemmas.List.{map-append, take-map, take-take, take-append-le, replicate-append-replicate, length-map, length-take, length-append, reverse-reverse, reverse-append}
 use Rattle.xs_lits.specs.Literal.{Literal}
 use Rattle.xs_lits.specs.Assignment.{Assignment, value_of, made_true}
 use Rattle.xs_lits.specs.Trail.{assigned_from, assigned_by}
@@ -63,10 +63,6 @@ followed_begins s t h = h.same ∙ lits_of_take t.followed t.entries
 -- the store made one more of them true
 pub begins_more : (s : List Literal) (xs : List Entry) (i : ℕ) (e : Entry) → slice_get xs i ≡ Some e → s ≡ lits_of (take i xs) → s ++ e.lit ∷ [] ≡ lits_of (take (i + 1) xs)
 begins_more s xs i e at is = ap (λ ls. ls ++ e.lit ∷ []) is ∙ (sym (lits_of_push (take i xs) e) ∙ ap lits_of (sym (slice_push xs i e at)))
-
--- the store has made all of them true
-pub begins_all : (s : List Literal) (xs : List Entry) (i : ℕ) → length xs ≤ i → s ≡ lits_of (take i xs) → s ≡ lits_of xs
-begins_all s xs i over is = is ∙ ap lits_of (take_all i xs over)
 
 -- all are followed
 pub followed_all : (s : List Literal) (t : TrailValue) → t.followed ≡ length t.entries → s ≡ lits_of t.entries → IsFollowed s t

@@ -1,9 +1,9 @@
 -- The literals of a new clause that became false last.
-use Rattle.std.proofs.Common.{◌≡◌, ◌≢◌, ◌⊎◌, ◌↔◌, inl, inr, ⊎_elim, ℕ, ◌+◌, ◌<◌, ◌≤◌, false, List, [], ◌∷◌, ◌++◌, length, get_or, take, All, Some, None, refl, sym, ap, ◌∙◌, subst, arith}
+use Rattle.std.proofs.Common.{◌≡◌, ◌≢◌, ◌⊎◌, inl, inr, ⊎_elim, ℕ, ◌+◌, ◌<◌, ◌≤◌, false, List, [], ◌∷◌, ◌++◌, length, get_or, take, Some, None, sym, ap, ◌∙◌, subst, arith}
 use Rattle.std.specs.Option.{option_map}
 use Rattle.std.proofs.lemmas.Bool.{cases_eq}
 use Rattle.std.proofs.lemmas.List.{get_or_push, get_or_append_left, length-append, replicate_more, length-replicate}
-use Rattle.std.proofs.lemmas.List.Elements.{All-push, All-nil, All-contains, Contains-push, Contains-append_left}
+use Rattle.std.proofs.lemmas.List.Elements.{All-contains}
 use Rattle.xs_lits.specs.Literal.{Literal, signed}
 use Rattle.xs_lits.specs.Code.{code_of}
 use Rattle.xs_lits.specs.Models.{ClauseBelow, ClausesBelow}
@@ -14,7 +14,7 @@ use Rattle.xs_lits.proofs.TrailLemmas.{value_later, AreFresh_take, assigned_from
 use Rattle.xs_solver.specs.Threads.{at}
 use Rattle.xs_solver.specs.Watch.{IsWatch, IsReady, IsWatched}
 use Rattle.xs_solver.specs.Pass.{clause_of}
-use Rattle.xs_solver.specs.Pick.{IsFalseAfter, IsRank, IsRankedUpTo, IsRanked, IsBest, IsPick}
+use Rattle.xs_solver.specs.Pick.{IsFalseAfter, IsRank, IsRankedUpTo, IsBest, IsPick}
 use Rattle.xs_solver.specs.Arena.{AreWatched}
 
 -- a literal that is not false
@@ -25,54 +25,7 @@ rank_open vars t m trail ne = record {
   false_if = λ k lt within. absurd (omega arith);
 }
 
-pub rank_false : (vars : ℕ) (t : List Literal) (m : Literal) (r : ℕ) → r < length t → ((k : ℕ) → (value_of (assigned_by vars (take k t)) m ≡ Some false) ↔ (r < k)) → IsRank vars t m r
-rank_false vars t m r within since = record {
-  less = λ k e. (since k).0 e;
-  within = λ k e. within;
-  false_if = λ k lt w. (since k).1 lt;
-}
-
 module _ (vars : ℕ) (t : List Literal) (but : ℕ) where
-  pub best_none : IsBest vars t but [] 0 0
-  best_none = record { none = λ e. All-nil (λ (m : Literal). code_of m ≡ but); some = λ ne. absurd (ne refl); all = All-nil (λ (m : Literal). (code_of m ≡ but) ⊎ IsRankedUpTo vars t 0 m); real = All-nil (λ (m : Literal). 2 ≤ code_of m) }
-
-  ranked_more : (c : List Literal) (l : Literal) (p r : ℕ) → IsRanked vars t c but p r → IsRanked vars t (c ++ l ∷ []) but p r
-  ranked_more c l p r h = record { literal = h.literal; listed = Contains-append_left c (l ∷ []) h.literal h.listed; coded = h.coded; real = h.real; apart = h.apart; is_rank = h.is_rank }
-
-  -- one more literal has the code that is left out
-  pub best_same : (c : List Literal) (l : Literal) (p r : ℕ) → code_of l ≡ but → 2 ≤ code_of l → IsBest vars t but c p r → IsBest vars t but (c ++ l ∷ []) p r
-  best_same c l p r e real b = record {
-    none = λ z. All-push (λ (m : Literal). code_of m ≡ but) c l (b.none z) e;
-    some = λ ne. ranked_more c l p r (b.some ne);
-    all = All-push (λ (m : Literal). (code_of m ≡ but) ⊎ IsRankedUpTo vars t r m) c l b.all (inl e);
-    real = All-push (λ (m : Literal). 2 ≤ code_of m) c l b.real real;
-  }
-
-  -- it has no higher rank
-  pub best_kept : (c : List Literal) (l : Literal) (p r k : ℕ) → 0 < p → 2 ≤ code_of l → IsRank vars t l k → k ≤ r → IsBest vars t but c p r → IsBest vars t but (c ++ l ∷ []) p r
-  best_kept c l p r k some real rank le b = record {
-    none = λ z. absurd (omega arith);
-    some = λ ne. ranked_more c l p r (b.some ne);
-    all = All-push (λ (m : Literal). (code_of m ≡ but) ⊎ IsRankedUpTo vars t r m) c l b.all (inr (record { rank = k; is_rank = rank; at_most = le }));
-    real = All-push (λ (m : Literal). 2 ≤ code_of m) c l b.real real;
-  }
-
-  -- it is better, or the first
-  pub best_new : (c : List Literal) (l : Literal) (p r k : ℕ) → code_of l ≢ but → 2 ≤ code_of l → IsRank vars t l k → (p ≡ 0) ⊎ (r < k) → IsBest vars t but c p r → IsBest vars t but (c ++ l ∷ []) (code_of l) k
-  best_new c l p r k apart real rank better b = record {
-    none = λ z. absurd (omega arith);
-    some = λ ne. record { literal = l; listed = Contains-push c l; coded = refl; real = real; apart = apart; is_rank = rank };
-    all = All-push (λ (m : Literal). (code_of m ≡ but) ⊎ IsRankedUpTo vars t k m) c l (older better) (inr (record { rank = k; is_rank = rank; at_most = omega arith }));
-    real = All-push (λ (m : Literal). 2 ≤ code_of m) c l b.real real;
-  } where
-    higher : (m : Literal) → r < k → (code_of m ≡ but) ⊎ IsRankedUpTo vars t r m → (code_of m ≡ but) ⊎ IsRankedUpTo vars t k m
-    higher m lt (inl e) = inl e
-    higher m lt (inr h) = inr (record { rank = h.rank; is_rank = h.is_rank; at_most = let z = h.at_most in omega arith })
-
-    older : (p ≡ 0) ⊎ (r < k) → All (λ m. (code_of m ≡ but) ⊎ IsRankedUpTo vars t k m) c
-    older (inl z) = λ i d lt. inl (b.none z i d lt)
-    older (inr lt) = λ i d within. higher (get_or c i d) lt (b.all i d within)
-
   pub pick_from_best : (c : List Literal) (p r : ℕ) → IsBest vars t but c p r → IsPick vars t c but p
   pick_from_best c p r b = record {
     none = b.none;

@@ -9,7 +9,8 @@ use Rattle.xs_lits.specs.Code.{code_of}
 use Rattle.xs_lits.specs.Assignment.{Assignment, all_free, value_of}
 use Rattle.xs_lits.specs.Trail.{assigned_by, IsTrail}
 use Rattle.xs_lits.proofs.CodeLemmas.{code_of-injective}
-use Rattle.xs_lits.proofs.TrailLemmas.{assigned_from_push, value_later, was_free, free_place, length-assigned_from}
+use Rattle.xs_lits.proofs.TrailLemmas.{assigned_from_push, value_later, was_free, length-assigned_from}
+use Rattle.xs_lits.proofs.DeriveTrailLemmas.{None-from_value}
 use Rattle.xs_solver.specs.Watch.{IsWatch, HasTrue, HasCode, OthersFalse, IsReady, IsWatched}
 use Rattle.xs_solver.specs.Pass.{is_hit, CanVisit, IsKept, IsNewList}
 use Rattle.xs_solver.proofs.VisitLemmas.{not_hit_true, not_hit_free}
@@ -77,7 +78,7 @@ was_false vars t l trail m other e = ⊎_elim
 pub not_false_before : (vars : ℕ) (t : List Literal) (l : Literal) → IsTrail vars (t ++ l ∷ []) → value_of (assigned_by vars t) (opposite l) ≢ Some false
 not_false_before vars t l trail e =
     let w = was_free (all_free vars) t l trail in
-    let place = free_place l.negated (get_or (assigned_by vars t) l.var None) w.free in
+    let place = None-from_value l.negated (get_or (assigned_by vars t) l.var None) w.free in
     differ (sym (ap (option_map (signed (not l.negated))) place) ∙ e)
   where
     differ : ◌≡◌ {A = Option Bool} None (Some false) → ⊥

@@ -8,6 +8,7 @@ use Rattle.xs_solver.specs.Watch.{IsWatched}
 use Rattle.xs_solver.specs.Pass.{clause_of}
 use Rattle.xs_solver.specs.declared.arena.Arena.TheInside.{Inside}
 
+-- what contracts see of its parts
 abbrev pub arena_of : Inside → StoreValue
 arena_of s = record { vars = s.trail.vars; clauses = s.clauses.clauses; trail = s.trail.lits; found = s.found.items }
 
@@ -19,6 +20,7 @@ pub record AreWatched (vars : ℕ) (trail : List Literal) (clauses : List (List 
   pub unused_second : (i : ℕ) → length clauses ≤ i → at seconds i ≡ 0
   pub watched : (i : ℕ) → i < length clauses → IsWatched vars trail (clause_of clauses i) (at firsts i) (at seconds i)
 
+-- both tables have a list for each literal and a place for each clause, and each clause is watched
 pub record IsSound (s : Inside) : Type 0 where
   pub in_range : ClausesBelow (s.trail.vars + 1) s.clauses.clauses
   pub lists_first : 2 * (s.trail.vars + 1) ≤ s.firsts.lists

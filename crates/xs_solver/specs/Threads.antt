@@ -3,6 +3,7 @@ use Rattle.std.specs.Prelude.{◌≡◌, ℕ, ◌+◌, ◌<◌, List, length, sl
 use Rattle.xs_solver.specs.ThreadsRecord.{ThreadsValue}
 use Rattle.xs_solver.specs.declared.threads.Threads.TheInside.{Inside}
 
+-- what contracts see of its parts
 abbrev pub threads_of : Inside → ThreadsValue
 threads_of t = record { lists = length t.heads.items; homes = t.homes.items }
 
@@ -25,6 +26,7 @@ pub record AreThreaded (lists : ℕ) (head next home : ℕ → ℕ) : Type 0 whe
   pub beneath_depth : (n m : ℕ) → 0 < home n → next n ≡ m + 1 → depth m + 1 ≡ depth n
   pub apart : (n m : ℕ) → 0 < home n → home m ≡ home n → depth n ≡ depth m → n ≡ m
 
+-- the arrays fit each other, and the lists are threaded through them
 pub record IsSound (t : Inside) : Type 0 where
   pub as_many : length t.next.items ≡ length t.homes.items
   pub some_list : 0 < length t.heads.items

@@ -3,7 +3,7 @@
 //! Each clause is filed twice: in one table under its first watched literal, and in the other under its second.
 //! Where a literal becomes false, [`crate::pass`] visits the clauses that watch it. Where literals are taken
 //! back, nothing is done: what `IsWatched` says holds after every beginning of the trail.
-ghost use Rattle.std.specs.Prelude.{◌≡◌, ◌≢◌, ℕ, ◌+◌, ◌-◌, ◌*◌, ◌^◌, ◌<◌, ◌≤◌, [], ◌∷◌, ◌++◌, length, take, IfOk, OnOk, OnErr, Some, None, slice_get};
+ghost use Rattle.std.specs.Prelude.{◌≡◌, ◌≢◌, ℕ, ◌+◌, ◌^◌, ◌<◌, ◌≤◌, [], length, IfOk, OnOk};
 ghost use Rattle.xs_solver.specs.Threads.{at};
 
 use crate::pass::pass;

@@ -4,7 +4,7 @@
 //! are true because of a guard that is free. So before a free choice is made, [`complete`] sees whether all clauses are true
 //! once each free variable is false. The clause at which it stopped last is looked at first, so that mostly one clause
 //! is looked at for each choice; that all are true is seen clause by clause before it is answered.
-ghost use Rattle.std.specs.Prelude.{◌≡◌, ◌<◌, ◌≤◌, length, All, IfOk, IfSome};
+ghost use Rattle.std.specs.Prelude.{◌≡◌, ◌≤◌, length, All, IfOk, IfSome};
 ghost use Rattle.xs_lits.specs.Assignment.{IsInRange};
 ghost use Rattle.xs_solver.specs.Trail.{IsLeast};
 ghost use Rattle.xs_solver.specs.Complete.{IsFilled, IsCompletion};

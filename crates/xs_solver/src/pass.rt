@@ -3,7 +3,7 @@
 //! [`pass`] is the main function. It takes the clauses one by one out of the list of the literal and files them
 //! anew: where another literal can be watched under that one, and else in a list of those that were visited,
 //! from which they come back at the end.
-ghost use Rattle.std.specs.Prelude.{◌≡◌, ◌≢◌, ◌↔◌, IsTrue, ℕ, ◌+◌, ◌*◌, ◌<◌, ◌≤◌, ◌^◌, [], ◌∷◌, ◌++◌, true, false, Some, All, AllPairs, Contains, IfSome, IfNone, length, find, vec_len, vec_capacity, if◌then◌else◌};
+ghost use Rattle.std.specs.Prelude.{◌≡◌, ◌≢◌, ◌↔◌, IsTrue, ℕ, ◌+◌, ◌*◌, ◌<◌, ◌≤◌, [], ◌∷◌, ◌++◌, true, Some, All, AllPairs, Contains, length, find, vec_len, vec_capacity, if◌then◌else◌};
 ghost use Rattle.xs_lits.specs.Code.{code_of, literal_of};
 ghost use Rattle.xs_lits.specs.Assignment.{IsInRange, value_of};
 ghost use Rattle.xs_solver.specs.Threads.{at};

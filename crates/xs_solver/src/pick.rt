@@ -3,7 +3,7 @@
 //! Under an empty trail any two different ones would do. A clause may come under any trail, and then the two
 //! that became false last are watched, where one that is not false counts as the last of all: so each time that
 //! literals are taken back, a watched one is free before the others are.
-ghost use Rattle.std.specs.Prelude.{◌≡◌, ◌≢◌, ℕ, ◌+◌, ◌≤◌, ◌<◌, [], ◌∷◌, ◌++◌, length, List, All};
+ghost use Rattle.std.specs.Prelude.{◌+◌, ◌≤◌, [], ◌∷◌, ◌++◌, List};
 ghost use Rattle.xs_lits.specs.Literal.{Literal};
 ghost use Rattle.xs_lits.specs.Models.{ClauseBelow};
 ghost use Rattle.xs_solver.specs.Pick.{IsRank, IsBest, IsPick};

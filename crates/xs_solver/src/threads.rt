@@ -2,7 +2,7 @@
 //!
 //! Contracts see in which list each number is filed, and not its place there. A number goes from one list to
 //! another without taking memory.
-ghost use Rattle.std.specs.Prelude.{◌≡◌, ◌≢◌, ℕ, ◌+◌, ◌<◌, ◌≤◌, ◌^◌, [], ◌∷◌, ◌++◌, length, slice_set, IfOk, IfSome, IfNone, OnOk, OnErr};
+ghost use Rattle.std.specs.Prelude.{◌≡◌, ◌≢◌, ℕ, ◌+◌, ◌<◌, [], ◌∷◌, ◌++◌, length, slice_set, IfOk, IfSome, IfNone, OnOk, OnErr};
 ghost use Rattle.xs_solver.specs.Threads.{at};
 
 use std::alloc::Global;
