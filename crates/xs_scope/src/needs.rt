@@ -192,6 +192,7 @@ impl Spread {
     }
 }
 
+/// Whether a place is marked; one beyond the list is not.
 fn is_true(marks: &[bool], place: usize) -> bool
     ensures { result ≡ is_marked marks.now place }
 {
@@ -201,6 +202,7 @@ fn is_true(marks: &[bool], place: usize) -> bool
     }
 }
 
+/// Marks a place, where the list has it.
 fn set_true(marks: &mut Vec<bool>, place: usize)
     ensures { marks.new.items ≡ set marks.old.items place true }
 {
@@ -292,6 +294,7 @@ fn mark_of(marks: &[Mark], place: usize) -> Mark
     }
 }
 
+/// Notes how far the walk is with a definition.
 fn set_mark(marks: &mut Vec<Mark>, place: usize, mark: Mark)
     ensures { marks.new.items ≡ set marks.old.items place mark }
 {
