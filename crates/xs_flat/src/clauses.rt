@@ -48,6 +48,7 @@ pub(crate) fn clause_of<'a>(asked: Asked, item: Item<'a>) -> Option<Clause<'a>>
     }
 }
 
+/// What an item asks of the first moment.
 fn first_clause<'a>(item: Item<'a>) -> Option<Clause<'a>>
     ensures { clauses_told result ≡ first_conditions (item_tree item.entry) }
 {
@@ -61,6 +62,7 @@ fn first_clause<'a>(item: Item<'a>) -> Option<Clause<'a>>
     }
 }
 
+/// What an item asks of each moment.
 fn each_clause<'a>(item: Item<'a>) -> Option<Clause<'a>>
     ensures { clauses_told result ≡ each_conditions (item_tree item.entry) }
 {
@@ -74,6 +76,7 @@ fn each_clause<'a>(item: Item<'a>) -> Option<Clause<'a>>
     }
 }
 
+/// What an item asks of each step.
 fn step_clause<'a>(item: Item<'a>) -> Option<Clause<'a>>
     ensures { clauses_told result ≡ step_conditions (item_tree item.entry) }
 {
@@ -87,6 +90,7 @@ fn step_clause<'a>(item: Item<'a>) -> Option<Clause<'a>>
     }
 }
 
+/// What an item asks of each step because it declares a frozen variable.
 fn kept_clause<'a>(item: Item<'a>) -> Option<Clause<'a>>
     ensures { clauses_told result ≡ kept_conditions (item_tree item.entry) }
 {
@@ -96,6 +100,7 @@ fn kept_clause<'a>(item: Item<'a>) -> Option<Clause<'a>>
     }
 }
 
+/// That a declared variable keeps its value; an instance has none.
 fn kept_of<'a>(decl: &'a Decl) -> Option<Clause<'a>>
     ensures { clauses_told result ≡ kept_declared decl.now.name (declared_tree decl.now.what) }
 {
@@ -119,6 +124,7 @@ fn now_clause<'a>(assignment: &'a Assignment) -> Option<Clause<'a>>
     }
 }
 
+/// What an assignment to the next value asks; a dotted target asks nothing.
 fn next_clause<'a>(assignment: &'a Assignment) -> Option<Clause<'a>>
     ensures { clauses_told result ≡ assigned_step After assignment.now.target (tree_of assignment.now.value) }
 {

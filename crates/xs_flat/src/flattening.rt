@@ -1,4 +1,8 @@
-//! The public calls: a program's flat model, and expressions at one of its instances.
+//! The public calls: a program's flat model ([`flatten`]), and expressions at one of its instances ([`resolve_top`],
+//! [`resolve_at`], and [`Scope`] where many of them are read over one program).
+//!
+//! Each makes the tables of `xs_scope`, judges by `judge` or `values`, and builds by `build` or `resolve`. What breaks a
+//! rule of names is told as a [`FlatFault`]: its item is one of the program, or 0 for an expression that is none of its parts.
 
 ghost use Rattle.std.specs.Prelude.{◌≡◌, ◌∷◌, [], ◌↔◌, ◌&&◌, codes, not, true, false, None, IfOk, IfErr, OnOk, IsErrOf};
 ghost use Rattle.xs_tree.specs.ProgramTree.{ProgramTree, program_tree};
@@ -90,6 +94,7 @@ impl<'a> Scope<'a> {
     }
 }
 
+/// The scope of a program whose module `main` stands at a place.
 #[tactic(auto, using(crate::proofs::FlatFaults::want_fault))]
 fn scope_from<'a>(alloc: Global, p: &'a Program, main: usize) -> Result<Scope<'a>, FlatFault>
     requires main { module_from 0 (program_tree p.now) (codes "main") ≡ Some main }
