@@ -1,4 +1,5 @@
-//! Expressions over a typed model that are no part of it.
+//! Expressions over a typed model that are no part of it: values, top events, guards. [`kind_of`] tells the kind of
+//! what breaks no rule, and [`check_value`] and [`check_top`] judge. A fault has the item 0.
 
 ghost use Rattle.std.specs.Prelude.{◌≡◌, true, false, [], nat_lt, OnOk};
 ghost use Rattle.xs_tree.specs.ModelTree.{model_tree, flat_tree};

@@ -1,4 +1,5 @@
-//! The variables of a model.
+//! The variables of a model: their domains, what is known of their values, their state bits, and the first rule that a
+//! declaration breaks ([`declare_all`]).
 
 ghost use Rattle.std.specs.Prelude.{◌≡◌, ◌+◌, [], ◌∷◌, ◌++◌, min, map, IfOk};
 ghost use Rattle.xs_tree.specs.ProgramTree.{declared_tree};
@@ -44,6 +45,7 @@ pub(crate) fn declare_all(alloc: Global, m: &FlatModel) -> Result<Declarations, 
     declare_each(alloc, &numbers, m.variables.as_slice())
 }
 
+/// These variables, one after the other.
 fn declare_each(
     alloc: Global,
     numbers: &SymbolNumbers<'_>,
