@@ -1,4 +1,8 @@
-//! The rules that are tried at each item of the instructions, in written order.
+//! The rules that are tried at each item of the instructions, in written order. [`placed_slices`] is the main function.
+//!
+//! [`Met`] has what the items so far add, so that each item is judged after those before it: an EXTENSION by its module; a
+//! SLICE by its variable, its name, whether the variable is affected already, and the names that it adds, in this order;
+//! and then its modes (`modes`). What is added is noted only for an item that breaks no rule.
 
 ghost use Rattle.std.specs.Prelude.{◌≡◌, ◌≢◌, ◌+◌, ◌||◌, ◌++◌, [], ◌∷◌, IfOk, IfErr, OnOk, Some, None, map, length, option_map};
 ghost use Rattle.std.specs.Result.{result_err};
@@ -67,6 +71,7 @@ pub fn placed_slices<'a>(
 }
 
 impl<'a> Met<'a> {
+    /// Before the first item.
     fn none(alloc: Global) -> Met<'a>
         ensures met { IsMet result }
         ensures last { result.last ≡ 0 }
@@ -83,6 +88,7 @@ impl<'a> Met<'a> {
         }
     }
 
+    /// Takes extensions in their order.
     fn take_extensions(
         &mut self,
         alloc: Global,
@@ -101,6 +107,7 @@ impl<'a> Met<'a> {
         Ok(())
     }
 
+    /// Takes an extension, whose module must be there, and its slices.
     fn take_extension(
         &mut self,
         alloc: Global,
@@ -124,6 +131,7 @@ impl<'a> Met<'a> {
         self.take_slices(alloc, known, &extension.module, extension.slices.as_slice())
     }
 
+    /// Takes the slices of an extension in their order.
     fn take_slices(
         &mut self,
         alloc: Global,
@@ -143,6 +151,7 @@ impl<'a> Met<'a> {
         Ok(())
     }
 
+    /// Takes a slice, if it breaks no rule, and its modes.
     fn take_slice(
         &mut self,
         alloc: Global,
@@ -218,6 +227,7 @@ impl<'a> Met<'a> {
         self.add_states(alloc, names)
     }
 
+    /// Notes the names that a slice adds for its state.
     fn add_states(&mut self, alloc: Global, names: &SliceNames) -> Result<(), OutOfMemory>
         ensures states { OnOk result (self.new.states ≡ with_texts self.old.states (names.now.switch ∷ names.now.nominal ∷ [])) }
         ensures owns { OnOk result (self.new.owns ≡ self.old.owns) }
@@ -300,6 +310,7 @@ impl<'a> Met<'a> {
         known.has_name(name) || (self.states.has(name.text()) || self.is_own(own, name))
     }
 
+    /// Whether the name is that of an own value: of an earlier slice, or of this one.
     fn is_own(&self, own: &Name, name: &Name) -> bool
         ensures { result ≡ (is_among self.now.owns name.now || same_text own.now name.now) }
     {
@@ -308,6 +319,7 @@ impl<'a> Met<'a> {
 }
 
 impl SliceNames {
+    /// The names that the slice adds.
     fn of(alloc: Global, slice: &Slice) -> Result<SliceNames, OutOfMemory>
         ensures { IfOk result (λ names. names ≡ names_of (slice_tree slice.now)) }
     {
@@ -345,6 +357,7 @@ fn hides_symbol(known: &Known<'_>, owner: &Name, declared: &Declared) -> bool
     }
 }
 
+/// Whether a symbol among the members is a name that the module declares.
 #[tactic(auto, using(xs_fei::proofs::AllowedLaws::any_more))]
 fn has_local(known: &Known<'_>, owner: &Name, members: &[Member]) -> bool
     requires { IsKnown known.now }
@@ -358,6 +371,7 @@ fn has_local(known: &Known<'_>, owner: &Name, members: &[Member]) -> bool
     false
 }
 
+/// Whether the member is a symbol that the module declares as a name.
 fn is_local(known: &Known<'_>, owner: &Name, member: &Member) -> bool
     requires { IsKnown known.now }
     ensures { result ≡ is_local_member (find_module (program_tree known.now.program.now) owner.now) member.now }
