@@ -278,6 +278,7 @@ fn judged(typed: &Typed, e: Option<&Expr<Flat>>) -> Verdict
     }
 }
 
+/// What is answered of kinds, as a verdict.
 fn of_answer(answer: Result<Kind, TypeFault>) -> Verdict
     ensures { result ≡ judged_by answer }
 {
@@ -348,6 +349,7 @@ fn has_class_of(kind: Kind, first: Option<&Member>) -> bool
     }
 }
 
+/// Whether the kind is that of truth values.
 fn is_truth(kind: Kind) -> bool
     ensures { result ≡ same_class (class_shown kind) truth_class }
 {
@@ -357,6 +359,7 @@ fn is_truth(kind: Kind) -> bool
     }
 }
 
+/// Whether the kind is one of numbers.
 fn is_number(kind: Kind) -> bool
     ensures { result ≡ same_class (class_shown kind) number_class }
 {
@@ -366,6 +369,7 @@ fn is_number(kind: Kind) -> bool
     }
 }
 
+/// Whether the kind is that of symbols.
 fn is_symbol(kind: Kind) -> bool
     ensures { result ≡ same_class (class_shown kind) symbol_class }
 {
@@ -375,6 +379,7 @@ fn is_symbol(kind: Kind) -> bool
     }
 }
 
+/// A broken rule of kinds as a cause.
 fn kind_fault(rule: Rule) -> Cause
     ensures { result ≡ causes.Kinds (fault_of rule) }
 {
@@ -391,6 +396,7 @@ pub(crate) fn flat_cause(fault: FlatFault) -> Cause
     }
 }
 
+/// Want of memory is told as such, and never inside a fault of kinds.
 pub(crate) fn type_cause(fault: TypeFault) -> Cause
     ensures want { fault.rule ≡ type_rules.OutOfMemory → result ≡ causes.Weave weave_rules.OutOfMemory }
     ensures other { fault.rule ≢ type_rules.OutOfMemory → result ≡ causes.Kinds fault }
@@ -433,6 +439,7 @@ fn lower_kind(first: Option<Rule>, second: Option<Rule>) -> Option<Rule>
     }
 }
 
+/// Of two rules the one with the lower number.
 fn lesser_kind(first: Rule, second: Rule) -> Rule
     ensures { result ≡ lesser_rule first second }
 {
