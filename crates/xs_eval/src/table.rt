@@ -1,4 +1,5 @@
-//! The values of a model's variables and definitions at a moment.
+//! The values of a model's variables and definitions at a moment ([`Table`]). Definitions are evaluated once for each
+//! moment ([`fill`]), so that what names them costs no more than its own size.
 
 ghost use Rattle.std.specs.Prelude.{◌≡◌, [], length, IfOk};
 ghost use Rattle.xs_tree.specs.Written.{tree_of};
