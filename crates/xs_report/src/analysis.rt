@@ -1,4 +1,4 @@
-//! The report of an analysis.
+//! The report of an analysis ([`print_analysis`]), piece by piece at the end of one buffer. Its text stands in `xs_text_laws`.
 
 ghost use Rattle.std.specs.Prelude.{◌≡◌, ◌∷◌, ◌++◌, codes, map, length, IfOk, OnOk};
 ghost use Rattle.std.specs.Fmt.{decimal};

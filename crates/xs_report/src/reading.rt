@@ -1,4 +1,5 @@
-//! A text of a trace read line by line.
+//! A text of a trace read line by line: [`Reading::take`] takes a line, and [`Reading::end_moment`] keeps the moment that
+//! ends. A variable's slot has the number of the moment in which it was given last, so no moment begins by clearing them.
 
 ghost use Rattle.std.specs.Prelude.{◌≡◌, ◌<◌, ◌-◌, ◌^◌, [], ◌∷◌, ◌++◌, List, length, map, replicate, false, nat_eq, IfOk, IfErr, OnOk};
 ghost use Rattle.std.specs.List.{list_all};

@@ -1,4 +1,5 @@
-//! The trace that a text gives.
+//! The trace that a text gives, or what is wrong with it first ([`read_trace`]): line after line, and moments that lack a
+//! value after all faults of lines.
 
 ghost use Rattle.std.specs.Prelude.{◌≡◌, IfOk, IfErr};
 ghost use Rattle.xs_tree.specs.ModelTree.{model_tree};
