@@ -1,4 +1,6 @@
-// A model, its extension and a top event, as the work on them has them in memory.
+// A model, its extension and a top event, as the work on them has them in memory ([`load_event`]): the three loads one
+// after the other, each with its refusal.
+
 ghost use Rattle.std.specs.Prelude.{◌≡◌, ◌≤◌, IfOk, IfSome, IsErrOf};
 ghost use Rattle.xs_desk.specs.Desk.{Rose};
 ghost use Rattle.xs_loading.specs.Cases.{HoldsCase};

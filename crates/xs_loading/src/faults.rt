@@ -1,4 +1,6 @@
-// An instruction file as the extension of a model: the text that is written, and what is said.
+// An instruction file as the extension of a model: the text that is written, and what is said ([`load_extension`]). Before
+// anything is written, the whole is flattened and typed once more, for the limits that neither file passes alone.
+
 ghost use Rattle.std.specs.Prelude.{◌≡◌, ◌≤◌, ◌++◌, codes, length, map, IfOk, OnOk, IfErr, IfSome, IsErrOf};
 ghost use Rattle.xs_desk.specs.Desk.{Rose};
 ghost use Rattle.xs_tree.specs.ProgramTree.{program_tree};

@@ -1,4 +1,6 @@
-// The input files, as bytes.
+// The input files, as bytes ([`read_input`]), and why work stops: a refusal of a file, a call of the desk that failed, or
+// want of memory ([`Stop`]).
+
 ghost use Rattle.std.specs.Prelude.{◌≡◌, ◌≤◌, length, IfOk, IfSome, IsErrOf};
 ghost use Rattle.xs_desk.specs.Desk.{Rose};
 ghost use Rattle.xs_loading.specs.Inputs.{refusal_at, stop_at, IsRefusedFile, HasBytes};

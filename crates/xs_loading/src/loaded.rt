@@ -1,4 +1,6 @@
-// An instruction file as the extension of a model in memory, with its faults and its flat model.
+// An instruction file as the extension of a model in memory, with its faults and its flat model ([`load_case`]), for the
+// work that reads and searches it. The same rules are tried as where an extension is written.
+
 ghost use Rattle.std.specs.Prelude.{◌≡◌, ◌≤◌, length, map, IfOk, OnOk, IfErr, IfSome, IsErrOf};
 ghost use Rattle.xs_desk.specs.Desk.{Rose};
 ghost use Rattle.xs_tree.specs.ProgramTree.{program_tree};

@@ -1,4 +1,6 @@
-// A model file as a program, and that as a flat model with its kinds.
+// A model file as a program, and that as a flat model with its kinds ([`load_model`]). The first reader or layer that
+// refuses it is told.
+
 ghost use Rattle.std.specs.Prelude.{◌≡◌, ◌≤◌, length, IfOk, IfErr, IfSome, IsErrOf};
 ghost use Rattle.xs_desk.specs.Desk.{Rose};
 ghost use Rattle.xs_tree.specs.ProgramTree.{program_tree};
