@@ -32,6 +32,7 @@ is_without_value (found.Variable k role) = false
 is_without_value (found.Definition k) = false
 is_without_value (found.Symbol k) = false
 
+-- a mark, where it is there
 abbrev pub mark_or : Option Bool → Bool
 mark_or None = false
 mark_or (Some b) = b
@@ -60,10 +61,11 @@ is_circle_found n found.Loop = false
 is_circle_found n (found.Instance k) = false
 is_circle_found n (found.Symbol k) = false
 
--- the names of flagged ones, and those under `next`
+-- the names, without their flags
 abbrev pub names_in : {L : Type 0} → List (L × Bool) → List L
 names_in us = map (λ u. u.0) us
 
+-- the names of those that are flagged
 abbrev pub names_under : {L : Type 0} → List (L × Bool) → List L
 names_under [] = []
 names_under (u ∷ us) = if u.1 then u.0 ∷ names_under us else names_under us
@@ -123,6 +125,7 @@ is_nothing_known known.Circle = false
 is_nothing_known known.Begun = false
 is_nothing_known known.Unknown = false
 
+-- a formal that comes back to itself
 abbrev pub is_circle_known : Formal → Bool
 is_circle_known known.Circle = true
 is_circle_known (known.Means f) = false
