@@ -29,10 +29,11 @@ abbrev pub first_fault : (Site → Option Rule) → ℕ → List Site → Option
 first_fault told n [] = None
 first_fault told n (site ∷ sites) = fault_at (told site) (n + 1) (first_fault told (n + 1) sites)
 
--- the slices of an EXTENSION with its module, and of a file
+-- the slices of an EXTENSION, each with its module
 abbrev pub owned_slices : ExtensionTree → List OwnedSlice
 owned_slices x = map (owned x.of_module) x.slices
 
+-- the slices of a file, each with its module
 abbrev pub file_slices : List ExtensionTree → List OwnedSlice
 file_slices xs = flat_map owned_slices xs
 
@@ -75,9 +76,11 @@ mode_faults p owns s type states names n [] = None
 mode_faults p owns s type states names n (m ∷ ms) =
     fault_at (mode_rule p owns s type states names m) (n + 1) (mode_faults p owns s type (with_text states (mode_symbol s (Some m.name))) (with_text names m.name) (n + 1) ms)
 
+-- the first rule that a mode breaks, after these states and modes
 abbrev pub rule_of : Judged → List Text → List Text → ModeTree → Option Rule
 rule_of judged states names m = mode_rule (program_tree judged.known.now.program.now) judged.owns.now judged.slice.now.name (declared_tree judged.declared.now) states names m
 
+-- the first fault of modes, after the item of this number
 abbrev pub faults_of : Judged → List Text → List Text → ℕ → List ModeTree → Option RuleFault
 faults_of judged states names n ms = mode_faults (program_tree judged.known.now.program.now) judged.owns.now judged.slice.now.name (declared_tree judged.declared.now) states names n ms
 
@@ -85,6 +88,7 @@ faults_of judged states names n ms = mode_faults (program_tree judged.known.now.
 abbrev pub mode_symbols : Text → List ModeTree → List Text
 mode_symbols s ms = map (λ m. mode_symbol s (Some m.name)) ms
 
+-- a slice of the code with its module
 abbrev pub placed_tree : Placed → OwnedSlice
 placed_tree placed = owned placed.owner.now (slice_tree placed.slice.now)
 
@@ -97,9 +101,11 @@ pub record IsKnown (known : Known) : Type 0 where
 abbrev pub slices_in : Met → List OwnedSlice
 slices_in met = map placed_tree met.placed.items
 
+-- the name of a slice
 abbrev pub slice_name : OwnedSlice → Text
 slice_name o = o.slice.name
 
+-- the variable that a slice affects, with its module
 abbrev pub target_pair : OwnedSlice → Text × Text
 target_pair o = (o.owner, o.slice.target)
 
