@@ -79,13 +79,6 @@ impl Needs {
     {
         is_true(self.on_circle.as_slice(), definition)
     }
-
-    /// Whether a definition reads an input, also through others.
-    pub fn is_reading_input(&self, definition: usize) -> bool
-        ensures { result ≡ is_marked self.now.reads_input.items definition }
-    {
-        is_true(self.reads_input.as_slice(), definition)
-    }
 }
 
 /// Which definitions are reached so far, and which are still to be looked at.
