@@ -2,7 +2,6 @@
 //! frozen variable as it is. [`clause_of`] is the main function.
 
 ghost use Rattle.std.specs.Prelude.{◌≡◌, Some, []};
-ghost use Rattle.xs_tree.specs.declared.expr.Op.TheVariants as op;
 ghost use Rattle.xs_tree.specs.Trace.{Each};
 ghost use Rattle.xs_tree.specs.Written.{tree_of};
 ghost use Rattle.xs_tree.specs.ProgramTree.{declared_tree};

@@ -20,7 +20,7 @@ use xs_scope::walk::Meaning;
 use xs_tree::copy_model::boxed;
 use xs_tree::model::Flat;
 use xs_tree::{BranchList, Expr, ExprList};
-use xs_value::{Dotted, Items, OutOfMemory};
+use xs_value::{Dotted, Items};
 
 /// Where an expression is written, and what it may name: the instance, the item that a fault tells, and
 /// the numbers that are there.
