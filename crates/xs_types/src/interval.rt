@@ -4,7 +4,7 @@
 
 ghost use Rattle.std.specs.Prelude.{◌≡◌, ◌≢◌, ◌≤ℤ◌, ◌*ℤ◌, pos, neg_ℤ, false, int_div, int_lt, if◌then◌else◌};
 ghost use Rattle.std.specs.Int.{int_min, int_max};
-ghost use Rattle.xs_type_laws.specs.Intervals.{just, hull, sum_of, difference_of, negative_of, product_of, quotient_of, remainder_of, most_left, has_zero, fits_number, fits};
+ghost use Rattle.xs_type_laws.specs.Intervals.{just, hull, sum_of, difference_of, negative_of, product_of, quotient_of, remainder_of, most_left, has_zero, fits_number};
 ghost use Rattle.xs_types.specs.Told.{fitting, IsSmall};
 
 use std::marker::Model;

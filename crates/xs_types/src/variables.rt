@@ -5,7 +5,6 @@ ghost use Rattle.std.specs.Prelude.{◌≡◌, ◌+◌, [], ◌∷◌, ◌++◌,
 ghost use Rattle.xs_tree.specs.ProgramTree.{declared_tree};
 ghost use Rattle.xs_tree.specs.ModelTree.{model_tree, variable_tree};
 ghost use Rattle.xs_type_laws.specs.Declared.{judged_declared};
-ghost use Rattle.xs_type_laws.specs.Costs.{state_bits};
 ghost use Rattle.xs_type_laws.specs.FirstBreach.{first_of};
 ghost use Rattle.xs_type_laws.specs.Models.{judged_variables, variable_breaches};
 ghost use Rattle.xs_types.specs.Answers.{told_rules};
