@@ -1,5 +1,5 @@
 -- What a woven program means: its traces are the extended traces, and its faultless ones those of the program.
-use Rattle.std.specs.Prelude.{◌≡◌, ◌↔◌, List, [], ◌∷◌, ◌++◌, Some, None, Contains, codes}
+use Rattle.std.specs.Prelude.{◌≡◌, ◌↔◌, List, [], ◌∷◌, Some, None, Contains}
 use Rattle.xs_tree.specs.ProgramTree.{Text, DeclaredTree, ModuleTree, ProgramTree}
 use Rattle.xs_tree.specs.Values.{symbol}
 use Rattle.xs_tree.specs.Scope.{Place, Role}

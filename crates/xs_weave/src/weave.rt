@@ -1,10 +1,9 @@
 //! The weave of a program ([`woven_program`]): module by module, its own sections with the names of own values (`rename`),
 //! and behind them those of each slice that affects it (`slices`).
 
-ghost use Rattle.std.specs.Prelude.{◌≡◌, [], ◌∷◌, ◌++◌, IfOk, OnOk, All, map, flat_map, if◌then◌else◌};
-ghost use Rattle.xs_tree.specs.Texts.{same_text};
+ghost use Rattle.std.specs.Prelude.{◌≡◌, ◌++◌, IfOk, OnOk, All, map, flat_map};
 ghost use Rattle.xs_tree.specs.ProgramTree.{program_tree, module_tree, section_tree};
-ghost use Rattle.xs_fei.specs.Instructions.{instruction_tree, slice_tree, slices_of, is_affected};
+ghost use Rattle.xs_fei.specs.Instructions.{instruction_tree, slice_tree, is_affected};
 ghost use Rattle.xs_weave.specs.Woven.{woven, woven_tree, woven_section, added_sections, slice_sections, own_slices};
 ghost use Rattle.xs_fei.specs.Instructions.{extension_tree};
 ghost use Rattle.xs_fei.specs.WeaveNumbers.{ExtensionHasNegations, SliceHasNegations, ModuleHasNegations};
