@@ -1,13 +1,13 @@
 //! The limits of faults and modes ([`judge_counts`]): one pass over the items counts, for each mode, the faults that it is
 //! at the instances of its module, and tells the first mode with which there are too many.
 
-ghost use Rattle.std.specs.Prelude.{◌≡◌, ◌≢◌, ◌+◌, ◌≤◌, Ok, Err, IfOk, IfErr, OnOk, map, length};
+ghost use Rattle.std.specs.Prelude.{◌≡◌, ◌≢◌, Ok, Err, IfOk, IfErr, OnOk, map};
 ghost use Rattle.xs_tree.specs.Texts.{same_text};
 ghost use Rattle.xs_fei.specs.Instructions.{instruction_tree, extension_tree, slice_tree, mode_tree};
 ghost use Rattle.xs_weave_rules.specs.Sites.{item_sites};
 ghost use Rattle.xs_weave_rules.specs.FirstBroken.{AllKept, IsFirstBroken};
 ghost use Rattle.xs_weave_rules.specs.Counting.{instances_of as instances_among, count_broken_at};
-ghost use Rattle.xs_weave_rules.specs.Counted.{module_names, start, counted_mode, counted_modes, counted_slice, counted_slices, counted_extension, counted_extensions};
+ghost use Rattle.xs_weave_rules.specs.Counted.{module_names, counted_mode, counted_modes, counted_slice, counted_slices, counted_extension, counted_extensions};
 ghost use Rattle.xs_weave_rules.specs.declared.fault.Rule.TheVariants as broken;
 
 use crate::fault::{Rule, RuleFault};

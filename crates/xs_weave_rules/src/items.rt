@@ -4,7 +4,7 @@
 //! SLICE by its variable, its name, whether the variable is affected already, and the names that it adds, in this order;
 //! and then its modes (`modes`). What is added is noted only for an item that breaks no rule.
 
-ghost use Rattle.std.specs.Prelude.{◌≡◌, ◌≢◌, ◌+◌, ◌||◌, ◌++◌, [], ◌∷◌, IfOk, IfErr, OnOk, Some, None, map, length, option_map};
+ghost use Rattle.std.specs.Prelude.{◌≡◌, ◌≢◌, ◌||◌, ◌++◌, [], ◌∷◌, IfOk, IfErr, OnOk, Some, None, map, option_map};
 ghost use Rattle.std.specs.Result.{result_err};
 ghost use Rattle.std.specs.List.{list_any};
 ghost use Rattle.xs_tree.specs.ProgramTree.{program_tree, declared_tree};

@@ -1,12 +1,12 @@
 //! The modules of a program by name, and what names are in them. [`Known::read`] goes through the program once; then
 //! each question of a rule is one look-up.
 
-ghost use Rattle.std.specs.Prelude.{◌≡◌, [], ◌++◌, IfOk, OnOk, map, flat_map, option_map, is_some};
+ghost use Rattle.std.specs.Prelude.{◌≡◌, [], IfOk, OnOk, map, flat_map, option_map, is_some};
 ghost use Rattle.std.specs.Option.{option_copied};
 ghost use Rattle.xs_tree.specs.ProgramTree.{program_tree, module_tree, section_tree, decl_tree, define_tree, declared_tree};
 ghost use Rattle.xs_tree.specs.Scope.{find_module, kind_at};
 ghost use Rattle.xs_weave_rules.specs.Keyed.{first_with, with_entry, with_entries};
-ghost use Rattle.xs_weave_rules.specs.Locals.{local_tree, declared_local, formal_entry, variable_entry, other_entry, define_entry, section_locals, locals_of, scope_of, scopes_of, locals_in, scopes_in, local_in, seen_kind, other};
+ghost use Rattle.xs_weave_rules.specs.Locals.{local_tree, declared_local, formal_entry, variable_entry, other_entry, define_entry, section_locals, locals_of, scope_of, locals_in, scopes_in, seen_kind};
 ghost use Rattle.xs_weave_rules.specs.Rules.{is_program_name, is_missing, is_local, opposite_of};
 ghost use Rattle.xs_weave_rules.specs.Faults.{IsKnown};
 

@@ -3,7 +3,6 @@
 
 ghost use Rattle.std.specs.Prelude.{◌≡◌, ◌+◌, ◌^◌, ◌<◌, IfOk, IsOk};
 
-use std::alloc::Global;
 use xs_fei::Slice;
 use xs_tree::Declared;
 use xs_value::{Name, OutOfMemory};
