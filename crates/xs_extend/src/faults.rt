@@ -1,8 +1,8 @@
 //! The faults of a woven program, by instances, then slices, then modes ([`woven_faults`]): a fault is a mode of a slice at
 //! an instance of the slice's module. This order is that of the numbers of faults in all reports.
 
-ghost use Rattle.std.specs.Prelude.{◌≡◌, [], ◌∷◌, ◌++◌, IfOk, OnOk, map, flat_map};
-ghost use Rattle.xs_fei.specs.Instructions.{instruction_tree, slice_tree, mode_tree, extension_tree};
+ghost use Rattle.std.specs.Prelude.{◌≡◌, ◌++◌, IfOk, OnOk, map, flat_map};
+ghost use Rattle.xs_fei.specs.Instructions.{instruction_tree, slice_tree, extension_tree};
 ghost use Rattle.xs_tree.specs.ProgramTree.{program_tree};
 ghost use Rattle.xs_tree.specs.Texts.{same_text};
 ghost use Rattle.xs_weave.specs.Woven.{own_slices};

@@ -1,7 +1,7 @@
 //! The faults with the numbers that they have in the woven program's flat model ([`fault_list`]): of the variable that holds
 //! a slice's state and of the symbol that stands for a mode. A search reads by them in a state which modes stand.
 
-ghost use Rattle.std.specs.Prelude.{◌≡◌, ◌↔◌, ◌∷◌, ◌++◌, ◌^◌, ◌<◌, [], ℕ, IfOk, IsOk, OnOk, Some, IsTrue, slice_get};
+ghost use Rattle.std.specs.Prelude.{◌≡◌, ◌↔◌, ◌∷◌, ◌++◌, ◌^◌, ◌<◌, [], IfOk, IsOk, OnOk, Some, IsTrue, slice_get};
 ghost use Rattle.xs_tree.specs.Trace.{Each};
 ghost use Rattle.xs_tree.specs.ProgramTree.{Text};
 ghost use Rattle.xs_fei.specs.AddedNames.{mode_variable as mode_variable_of, mode_symbol as mode_symbol_of};
