@@ -1,17 +1,19 @@
 -- The first broken rule, item by item, and what the items so far have left behind.
-use Rattle.std.specs.Prelude.{◌≡◌, ℕ, ◌+◌, Bool, ◌||◌, List, [], ◌∷◌, ◌++◌, Option, Some, None, map, flat_map, length}
+use Rattle.std.specs.Prelude.{◌≡◌, ◌≢◌, ℕ, ◌+◌, Bool, ◌||◌, List, [], ◌∷◌, ◌++◌, Option, Some, None, map, flat_map, length}
 use Rattle.xs_tree.specs.ProgramTree.{Text, DeclaredTree, ProgramTree, program_tree, declared_tree}
+use Rattle.xs_tree.specs.Scope.{find_module}
 use Rattle.xs_tree.specs.Texts.{same_text, is_among}
+use Rattle.xs_fei.specs.declared.instructions.Slice.{Slice}
 use Rattle.xs_fei.specs.Instructions.{ModeTree, SliceTree, ExtensionTree, slice_tree}
 use Rattle.xs_fei.specs.AddedNames.{own_name, mode_variable, mode_symbol}
 use Rattle.xs_fei.specs.Allowed.{fault_of}
 use Rattle.xs_weave_rules.specs.Sites.{OwnedSlice, owned, Site, an_extension, slice_sites}
-use Rattle.xs_weave_rules.specs.Rules.{first_of, effect_rules, is_program_name, is_taken, states_before, owns_before, broken_at}
+use Rattle.xs_weave_rules.specs.Rules.{first_of, effect_rules, is_program_name, is_taken, hides_symbol, states_before, owns_before, broken_at}
 use Rattle.xs_weave_rules.specs.Names.{program_names}
-use Rattle.xs_weave_rules.specs.Keyed.{with_text, with_texts, with_pairs, with_entries}
+use Rattle.xs_weave_rules.specs.Keyed.{is_pair_among, with_text, with_texts, with_pairs, with_entries}
 use Rattle.xs_weave_rules.specs.Locals.{LocalTree, formal, variable, other, scopes_of, scopes_in}
 use Rattle.xs_weave_rules.specs.declared.fault.Rule.{Rule}
-use Rattle.xs_weave_rules.specs.declared.fault.Rule.TheVariants.{NoSuchVariable, NotAStateVariable, DoubleSlice, VariableTaken, DoubleMode, NameTaken}
+use Rattle.xs_weave_rules.specs.declared.fault.Rule.TheVariants.{NoSuchVariable, NotAStateVariable, DoubleSlice, VariableTaken, DoubleMode, NameTaken, OutOfMemory}
 use Rattle.xs_weave_rules.specs.declared.fault.RuleFault.{RuleFault}
 use Rattle.xs_weave_rules.specs.declared.modules.Known.{Known}
 use Rattle.xs_weave_rules.specs.declared.modes.Judged.{Judged}
@@ -92,6 +94,10 @@ mode_symbols s ms = map (λ m. mode_symbol s (Some m.name)) ms
 abbrev pub placed_tree : Placed → OwnedSlice
 placed_tree placed = owned placed.owner.now (slice_tree placed.slice.now)
 
+-- the program of which this is known
+abbrev pub program_known : Known → ProgramTree
+program_known known = program_tree known.program.now
+
 -- what is known of a program is what the program has
 pub record IsKnown (known : Known) : Type 0 where
   pub scopes : scopes_in known ≡ with_entries [] (scopes_of (program_tree known.program.now))
@@ -100,6 +106,11 @@ pub record IsKnown (known : Known) : Type 0 where
 -- the slices so far
 abbrev pub slices_in : Met → List OwnedSlice
 slices_in met = map placed_tree met.placed.items
+
+-- the rule that a slice of the module breaks after those on its target, after the items so far, where its variable is declared so
+abbrev pub later_rule : ProgramTree → Met → Text → Slice → SliceNames → DeclaredTree → Option Rule
+later_rule p met owner s names type =
+    slice_rule (is_among met.slices s.name) (is_pair_among met.targets (owner, s.target)) (adds_taken p met.states met.owns names) (hides_symbol (find_module p owner) type)
 
 -- the name of a slice
 abbrev pub slice_name : OwnedSlice → Text
@@ -129,3 +140,7 @@ pub record IsLeft (p : ProgramTree) (old now : Met) (all left : List Site) (slic
   pub last : now.last + length left ≡ old.last + length all
   pub slices_are : slices_in now ++ slices_left ≡ slices_in old ++ slices
   pub met : IsMet now
+
+-- the fault is the first that is broken at items after this number, or memory was wanting
+abbrev pub IsFirstAfter : ProgramTree → ℕ → List Site → RuleFault → Type 0
+IsFirstAfter p n sites fault = fault.rule ≢ OutOfMemory → first_fault (broken_at p) n sites ≡ Some fault
