@@ -22,6 +22,7 @@ use Rattle.xs_scope.specs.declared.names.Formal.TheVariants as known
 use Rattle.xs_scope.specs.declared.needs.Needs.{Needs}
 use Rattle.xs_scope.specs.declared.walk.Meaning.{Meaning as Found}
 use Rattle.xs_scope.specs.declared.walk.Meaning.TheVariants as found
+use Rattle.xs_scope.specs.Links.{is_marked}
 
 -- a name with this meaning has no value
 abbrev pub is_without_value : Found → Bool
@@ -32,21 +33,12 @@ is_without_value (found.Variable k role) = false
 is_without_value (found.Definition k) = false
 is_without_value (found.Symbol k) = false
 
--- a mark, where it is there
-abbrev pub mark_or : Option Bool → Bool
-mark_or None = false
-mark_or (Some b) = b
-
--- the mark of a definition
-abbrev pub mark_at : List Bool → ℕ → Bool
-mark_at marks k = mark_or (slice_get marks k)
-
 -- the meaning is an input, or a definition that reads one
 abbrev pub is_input_found : Needs → Found → Bool
 is_input_found n (found.Variable k Input) = true
 is_input_found n (found.Variable k State) = false
 is_input_found n (found.Variable k Frozen) = false
-is_input_found n (found.Definition k) = mark_at n.reads_input.items k
+is_input_found n (found.Definition k) = is_marked n.reads_input.items k
 is_input_found n found.Nothing = false
 is_input_found n found.Loop = false
 is_input_found n (found.Instance k) = false
@@ -54,7 +46,7 @@ is_input_found n (found.Symbol k) = false
 
 -- the meaning is a definition that is needed by itself
 abbrev pub is_circle_found : Needs → Found → Bool
-is_circle_found n (found.Definition k) = mark_at n.on_circle.items k
+is_circle_found n (found.Definition k) = is_marked n.on_circle.items k
 is_circle_found n (found.Variable k role) = false
 is_circle_found n found.Nothing = false
 is_circle_found n found.Loop = false
