@@ -2,7 +2,7 @@
 use Rattle.std.proofs.Common.{◌≡◌, ◌↔◌, Bool, true, false, ◌&&◌, List, [], ◌∷◌, map, IsTrue, refl, sym, ap, ◌∙◌}
 use Rattle.xs_tree.specs.Trace.{Each}
 use Rattle.xs_tree.specs.Values as told
-use Rattle.xs_tree.specs.Values.{Values, one, has, same_value, same_bool}
+use Rattle.xs_tree.specs.Values.{Values, one, has, same_bool}
 use Rattle.xs_tree.specs.Written.{tree_of}
 use Rattle.xs_tree.proofs.ValueLaws.{both_true}
 use Rattle.xs_tree.specs.Flat.{FlatModel as ModelTree, Holds}

@@ -13,9 +13,10 @@ use Rattle.xs_flat_laws.specs.History.{Mode}
 use Rattle.xs_flat_laws.proofs.Lists.{get_within}
 use Rattle.xs_eval.specs.Failed.{is_symbol, has_symbol}
 use Rattle.xs_eval.specs.Named.{text_at, named, named_all, named_trace, IsNumbered, IsEvaluable, IsLawful}
-use Rattle.xs_eval.proofs.FilledLaws.{each_at, lawful_length}
+use Rattle.xs_eval.proofs.FilledLaws.{lawful_length}
 use Rattle.xs_eval.proofs.Rows.{same_symbol}
 use Rattle.xs_type_laws.proofs.WrittenLaws.{get_map as get_mapped}
+use Rattle.xs_flat_laws.proofs.Conditions.{each_at}
 
 module _ (m : FlatModel) (able : IsEvaluable m) (f : Mode) (variable : f.variable < length m.variables) (symbol : f.symbol < length m.symbols) where
   symbol_is : (y : Text) → slice_get m.symbols f.symbol ≡ Some y → (v : Value) → IsNumbered m.symbols v → is_symbol f.symbol v ≡ is_symbol_value (Some y) (Some (named m.symbols v))

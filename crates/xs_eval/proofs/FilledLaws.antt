@@ -1,5 +1,5 @@
 -- The table that is computed at a moment has what each definition gives there.
-use Rattle.std.proofs.Common.{◌≡◌, ℕ, zero, suc, ◌+◌, ◌<◌, arith, false, List, [], ◌∷◌, ◌++◌, length, map, Option, Some, refl, sym, ap, ◌∙◌, subst}
+use Rattle.std.proofs.Common.{◌≡◌, ℕ, suc, ◌<◌, false, List, [], ◌∷◌, ◌++◌, length, map, Option, Some, refl, sym, ap, ◌∙◌, subst}
 use Rattle.std.specs.Prelude.{slice_get, All}
 use Rattle.std.proofs.lemmas.List.Elements.{All-nil, All-cons}
 use Rattle.xs_tree.specs.ProgramTree.{Text}
@@ -23,35 +23,25 @@ use Rattle.xs_type_laws.specs.Laws.{IsKnown, AreInOrder}
 use Rattle.xs_type_laws.proofs.Parts.{Alone}
 use Rattle.xs_type_laws.proofs.TreeLaws.{sound, single}
 use Rattle.xs_type_laws.proofs.SafeLaws.{safe}
-use Rattle.xs_type_laws.proofs.ModelLaws.{each_end, each_before, ValueHolds, GivenHolds, IsRight, names_hold}
+use Rattle.xs_type_laws.proofs.ModelLaws.{each_end, each_before, ValueHolds, GivenHolds, IsRight, names_hold, both_end}
 use Rattle.xs_type_laws.proofs.Typed.{variables_hold, parts_of, as_many_variables}
 use Rattle.xs_eval.specs.declared.ask.Asked.TheVariants.{ItsValue}
 use Rattle.xs_eval.specs.Asked.{leaf_value, asked_of}
 use Rattle.xs_eval.specs.Failed.{HasVariable}
-use Rattle.xs_eval.specs.Filled.{definition_value, definition_values, filled, HasRoom, HasValues}
+use Rattle.xs_eval.specs.Filled.{definition_value, definition_values, filled, HasValues}
 use Rattle.xs_eval.specs.Named.{named, named_all, gives_one, IsNumbered, AreApart, IsEvaluable, IsLawful, IsFilled}
 use Rattle.xs_eval.proofs.Rows.{Is}
 use Rattle.xs_eval.proofs.Answered.{Knows, answered}
 use Rattle.xs_eval.proofs.Mapped.{asked_mapped}
 use Rattle.xs_type_laws.proofs.WrittenLaws.{get_map as get_mapped}
 use Rattle.xs_type_laws.proofs.ClosedLaws.{same_length as both_length}
-
-pub each_at : {A : Type 0} (P : A → Type 0) (xs : List A) (i : ℕ) (x : A) → Each P xs → slice_get xs i ≡ Some x → P x
-each_at P [] i x h e = cc
-each_at P (a ∷ as') zero x h e = let same : a ≡ x = cc in subst P same h.0
-each_at P (a ∷ as') (suc i) x h e = each_at P as' i x h.1 e
-
-both_end : {A B : Type 0} (R : A → B → Type 0) (as' : List A) (bs : List B) (a : A) (b : B) → EachBoth R as' bs → R a b → EachBoth R (as' ++ a ∷ []) (bs ++ b ∷ [])
-both_end R [] [] a b h r = (r, tt)
-both_end R [] (y ∷ bs) a b h r = absurd h
-both_end R (x ∷ as') [] a b h r = absurd h
-both_end R (x ∷ as') (y ∷ bs) a b h r = (h.0, both_end R as' bs a b h.1 r)
+use Rattle.xs_flat_laws.proofs.Conditions.{each_at}
 
 pub map_length : {A B : Type 0} (f : A → B) (xs : List A) → length (map f xs) ≡ length xs
 map_length f [] = refl
 map_length f (x ∷ xs) = ap suc (map_length f xs)
 
-each_join : {A : Type 0} (P : A → Type 0) (xs : List A) (x : A) → Each P xs → P x → Each P (xs ++ x ∷ [])
+pub each_join : {A : Type 0} (P : A → Type 0) (xs : List A) (x : A) → Each P xs → P x → Each P (xs ++ x ∷ [])
 each_join P [] x h p = (p, tt)
 each_join P (y ∷ xs) x h p = (h.0, each_join P xs x h.1 p)
 
@@ -127,16 +117,6 @@ filled_law m v able t lawful =
     let order = subst (λ n. AreInOrder n (length m.symbols) 0 tree.definitions) (sym (as_many_variables tree.variables)) able.closed.definitions in
     let all = filled_in m.symbols able.apart v vs hv lawful.numbered m.definitions [] [] tt tt parts.definitions order in
     record { lawful = lawful; definitions = all.gives; numbered = all.numbered }
-
-values_length : (v done : List Value) (ds : List Formula) → length (definition_values v done ds) ≡ length done + length ds
-values_length v done [] = omega arith
-values_length v done (d ∷ ds) =
-    let longer = length_end done (definition_value v done d) in
-    values_length v (done ++ definition_value v done d ∷ []) ds ∙ ap (λ n. n + length ds) longer ∙ omega arith
-
--- what is filled in is as much as there is room for
-pub room_law : (m : FlatModel) (v : List Value) → length v ≡ length m.variables → HasRoom m (filled m v)
-room_law m v h = record { variables = h; definitions = values_length v [] m.definitions ∙ omega arith }
 
 -- a lawful valuation has a value for each variable
 pub lawful_values : (m : FlatModel) (v : List Value) → IsLawful (model_tree m) v → HasValues m v

@@ -3,7 +3,7 @@ use Rattle.std.proofs.Common.{◌≡◌, ◌↔◌, suc, ◌<◌, arith, Bool, t
 use Rattle.xs_tree.specs.Tree.{Tree}
 use Rattle.xs_tree.specs.Trace.{Each, EachPair, AtFirst, AtLast}
 use Rattle.xs_tree.specs.Values as told
-use Rattle.xs_tree.specs.Values.{has, truth}
+use Rattle.xs_tree.specs.Values.{truth}
 use Rattle.xs_tree.specs.Written.{tree_of}
 use Rattle.xs_tree.specs.declared.expr.Expr.{Expr}
 use Rattle.xs_value.specs.declared.value.Value.{Value}
@@ -24,13 +24,8 @@ use Rattle.xs_eval.specs.Filled.{filled, first_holds, step_holds}
 use Rattle.xs_eval.specs.Named.{named_all, named_trace, IsEvaluable, IsLawful, IsFilled}
 use Rattle.xs_eval.specs.Stops.{bad_first, bad_step, no_top, IsFirstMoment, IsNextMoment}
 use Rattle.xs_eval.specs.Replayed.{is_reached, replayed_from, replayed, IsReplayed}
-use Rattle.xs_eval.proofs.FilledLaws.{filled_law}
+use Rattle.xs_eval.proofs.FilledLaws.{filled_law, each_join}
 use Rattle.xs_eval.proofs.ConditionLaws.{condition_law, first_law, step_law}
-
--- lists with one more at the end
-each_last : {A : Type 0} (P : A → Type 0) (xs : List A) (y : A) → Each P xs → P y → Each P (xs ++ y ∷ [])
-each_last P [] y h p = (p, tt)
-each_last P (x ∷ xs) y h p = (h.0, each_last P xs y h.1 p)
 
 pairs_last : {A : Type 0} (R : A → A → Type 0) (xs : List A) (x y : A) → EachPair R (xs ++ x ∷ []) → R x y → EachPair R ((xs ++ x ∷ []) ++ y ∷ [])
 pairs_last R [] x y h r = (r, tt)
@@ -60,7 +55,7 @@ pub goes_on : (m : ModelTree) (before : List (List told.Value)) (v w : List told
 goes_on m before v w t n =
     record {
       first = first_more _ before v w t.first;
-      moments = each_last (IsFlatMoment m) (before ++ v ∷ []) w t.moments n.moment;
+      moments = each_join (IsFlatMoment m) (before ++ v ∷ []) w t.moments n.moment;
       steps = pairs_last (IsFlatStep m) before v w t.steps n.step;
     }
 

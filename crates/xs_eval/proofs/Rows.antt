@@ -86,9 +86,6 @@ module _ (symbols : List Text) (apart : AreApart symbols) where
       one_named {y} o = record { numbered = o.numbered; name = let same : one y ≡ one (named symbols r) = o.alone in cc }
   answer_row (Whether v) given r h = λ vs e p. ap truth (same_named r v (h vs e).numbered p ∙ ap (λ us. has us (named symbols v)) (sym (h vs e).alone))
 
-  only : (r : Value) → IsNumbered symbols r → IsOnly symbols (one (named symbols r)) r
-  only r p = record { numbered = p; alone = refl }
-
   -- a constant or a name
   pub value_row : (asked : Asked) (given : Option Values) (r : Value) → IsNumbered symbols r → given ≡ Some (one (named symbols r)) → Answers symbols asked given (answer asked r)
   value_row asked given r p e = answer_row asked given r (λ vs f. record { numbered = p; alone = cc (e, f) })

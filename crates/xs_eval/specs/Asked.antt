@@ -24,9 +24,11 @@ leaf_value variables definitions (flat_variable i) = value_at (slice_get variabl
 leaf_value variables definitions (flat_definition i) = value_at (slice_get definitions i)
 leaf_value variables definitions (flat_symbol i) = Sym i
 
+-- the value of a name of the code
 abbrev pub name_value : List Value → List Value → Flat → Value
 name_value variables definitions name = leaf_value variables definitions (leaf_of name)
 
+-- the value of a name, from what the code knows at a moment
 abbrev pub known_value : Known → Flat → Value
 known_value k = name_value k.variables.now k.definitions.now
 
@@ -35,11 +37,12 @@ abbrev pub answer : Asked → Value → Value
 answer ItsValue v = v
 answer (Whether w) v = truth (same v w)
 
--- what is asked of an operator's sides
+-- what is asked of an operator's left side
 abbrev pub on_left : Op → Asked → Asked
 on_left op.Union asked = asked
 on_left _ asked = ItsValue
 
+-- what is asked of the right side, once the left one has its value
 abbrev pub on_right : Op → Asked → Value → Asked
 on_right op.Union asked left = asked
 on_right op.Within asked left = Whether left

@@ -2,6 +2,7 @@
 use Rattle.std.specs.Prelude.{List}
 use Rattle.xs_value.specs.declared.value.Value.{Value}
 
+-- the entries of a table, by the numbers of variables and of definitions
 pub record Entries : Type 0 where
   pub variables : List Value
   pub definitions : List Value

@@ -8,10 +8,12 @@ abbrev pub is_symbol : ℕ → Value → Bool
 is_symbol symbol (Sym i) = nat_eq i symbol
 is_symbol symbol _ = false
 
+-- so of a value that may be missing
 abbrev pub is_symbol_there : ℕ → Option Value → Bool
 is_symbol_there symbol None = false
 is_symbol_there symbol (Some v) = is_symbol symbol v
 
+-- the variable of this number has this symbol as its value
 abbrev pub has_symbol : ℕ → ℕ → List Value → Bool
 has_symbol variable symbol v = is_symbol_there symbol (slice_get v variable)
 

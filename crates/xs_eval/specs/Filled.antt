@@ -51,9 +51,10 @@ holds now next f = is_true (answer_in now next ItsValue (tree_of f.value))
 abbrev pub all_hold : Entries → Entries → List Formula → Bool
 all_hold now next fs = list_all (holds now next) fs
 
--- a moment may be the first one, or come after another
+-- a moment may be the first one
 abbrev pub first_holds : FlatModel → Entries → Bool
 first_holds m now = all_hold now now m.init && all_hold now now m.invar
 
+-- a moment may come after another
 abbrev pub step_holds : FlatModel → Entries → Entries → Bool
 step_holds m now next = all_hold now next m.trans && all_hold next next m.invar

@@ -23,10 +23,11 @@ named symbols (truth b) = told.truth b
 named symbols (Num n) = told.number n
 named symbols (Sym i) = told.symbol (text_at (slice_get symbols i))
 
--- the values of a moment, and the moments of a trace
+-- the values of a moment
 abbrev pub named_all : List Text → List Value → List told.Value
 named_all symbols vs = map (named symbols) vs
 
+-- the values of the moments of a trace
 abbrev pub named_trace : List Text → List (List Value) → List (List told.Value)
 named_trace symbols trace = map (named_all symbols) trace
 

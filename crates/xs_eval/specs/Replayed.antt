@@ -20,6 +20,7 @@ use Rattle.xs_eval.specs.Stops.{Stops, at_first, at_step, at_top}
 abbrev pub is_reached : Tree Flat → Entries → Bool
 is_reached top last = is_true (answer_in last last ItsValue top)
 
+-- what becomes of a trace whose last moment has these entries
 abbrev pub ended : Tree Flat → Entries → Replayed
 ended top last = if is_reached top last then Reaches else NoTop
 

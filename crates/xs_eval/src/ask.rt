@@ -1,4 +1,5 @@
-//! The value of an expression, or whether it may have a given one, by one pass over its tree.
+//! The value of an expression, or whether it may have a given one, by one pass over its tree ([`ask`]). A set has no value
+//! of its own, so both questions are needed: `x in {1, 2}` asks of the set whether it may have the value of `x`.
 
 ghost use Rattle.std.specs.Prelude.{◌≡◌, slice_get};
 ghost use Rattle.xs_tree.specs.Written.{tree_of, trees_of, branches_of};
@@ -34,6 +35,7 @@ fn known_value(known: &Known<'_>, name: Flat) -> Value
     }
 }
 
+/// The value at a place of a list; FALSE where the list is shorter.
 fn value_at(values: &[Value], number: u32) -> Value
     ensures { result ≡ value_at (slice_get values.now number) }
 {

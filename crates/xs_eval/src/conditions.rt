@@ -1,4 +1,4 @@
-//! The conditions of a model on a first moment, on each moment and on a step.
+//! The conditions of a model on a first moment ([`holds_first`]), and on a step ([`holds_step`]), tried formula by formula.
 
 ghost use Rattle.std.specs.Prelude.{◌≡◌, ◌↔◌, IsTrue};
 ghost use Rattle.xs_tree.specs.ModelTree.{model_tree};

@@ -1,4 +1,4 @@
-//! Which faults a trace has failed.
+//! Which faults a trace has failed ([`has_failed`]): those whose mode stands at some moment.
 
 ghost use Rattle.std.specs.Prelude.{◌≡◌, ◌<◌, length, All};
 ghost use Rattle.std.specs.List.{list_any};

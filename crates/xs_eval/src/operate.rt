@@ -87,6 +87,7 @@ pub(crate) fn applied(op: Op, a: Value, b: Value) -> Value
     }
 }
 
+/// An operator on two numbers: their result, or how they compare.
 fn on_numbers(op: Op, a: i64, b: i64) -> Value
     ensures { result ≡ on_numbers op a b }
 {
@@ -132,6 +133,7 @@ fn product(a: i64, b: i64) -> i64
     a * b
 }
 
+/// Whether two numbers compare so.
 fn compared(op: Op, a: i64, b: i64) -> bool
     ensures { result ≡ compared op a b }
 {
@@ -146,6 +148,7 @@ fn compared(op: Op, a: i64, b: i64) -> bool
     }
 }
 
+/// A connective on two truth values.
 fn on_truths(op: Op, a: bool, b: bool) -> bool
     ensures { result ≡ on_truths op a b }
 {
@@ -159,6 +162,7 @@ fn on_truths(op: Op, a: bool, b: bool) -> bool
     }
 }
 
+/// Whether two symbols, by their numbers, are the same or differ.
 fn on_symbols(op: Op, a: u32, b: u32) -> bool
     ensures { result ≡ on_symbols op a b }
 {

@@ -1,7 +1,7 @@
-//! The values of a model's variables and definitions at a moment.
+//! The values of a model's variables and definitions at a moment ([`Table`]). Definitions are evaluated once for each
+//! moment ([`fill`]), so that what names them costs no more than its own size.
 
 ghost use Rattle.std.specs.Prelude.{◌≡◌, [], length, IfOk};
-ghost use Rattle.xs_tree.specs.Written.{tree_of};
 ghost use Rattle.xs_tree.specs.ModelTree.{model_tree};
 ghost use Rattle.xs_eval.specs.Filled.{definition_value, definition_values, filled, HasRoom, HasValues};
 ghost use Rattle.xs_eval.specs.Named.{IsEvaluable, IsLawful, IsFilled};

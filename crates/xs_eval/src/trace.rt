@@ -1,4 +1,5 @@
-//! Whether a list of moments is a trace that reaches a top event.
+//! Whether a list of moments is a trace that reaches a top event, or where and why it stops being one ([`replay`]). Two
+//! tables go over the moments, one for the moment before and one for the next.
 
 ghost use Rattle.std.specs.Prelude.{◌≡◌, ◌<◌, ◌^◌, [], drop, length, All, false};
 ghost use Rattle.xs_tree.specs.Trace.{Each};
@@ -54,6 +55,7 @@ pub fn replay(
     replay_in(t.model(), trace.as_slice(), top, now, next)
 }
 
+/// Goes over the moments, of which there is one at least, with these tables.
 fn replay_in(
     model: &FlatModel,
     moments: &[Valuation],

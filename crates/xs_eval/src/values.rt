@@ -1,4 +1,5 @@
-//! The values of expressions over a typed model, from the tables of a moment and of the next.
+//! The values of expressions over a typed model, from the tables of a moment and of the next: [`value`] and [`may`]. Both
+//! ask for an expression that breaks no rule.
 
 ghost use Rattle.std.specs.Prelude.{◌≡◌, ◌↔◌, IsTrue, false, true, []};
 ghost use Rattle.xs_tree.specs.Written.{tree_of};

@@ -37,9 +37,6 @@ want_or (Flat fault) P Q f h = record { rule = h.rule; is_cause = h.is_cause; ho
 want_or (Kinds fault) P Q f h = record { rule = h.rule; is_cause = h.is_cause; holds = f h.rule h.holds }
 
 module _ (p : ProgramTree) (m : FlatModel) where
-  pub decides_all : (all : List Use) → Decides p m all all
-  decides_all all = record { kept = λ h. h; first = λ r n f. f }
-
   -- past modes that are kept
   pub decides_next : (here left all : List Use) → Decides p m (here ++ left) all → Each (KeepsUse p m) here → Decides p m left all
   decides_next here left all d kept = record {

@@ -4,7 +4,7 @@ use Rattle.std.specs.Prelude.{codes, slice_get, Result, Ok, Err, IfOk, OnOk}
 use Rattle.xs_tree.specs.Tree.{Tree}
 use Rattle.xs_tree.specs.ProgramTree.{Text, Formula, DeclaredTree, ModuleTree, ProgramTree, program_tree}
 use Rattle.xs_tree.specs.Texts.{same_text}
-use Rattle.xs_tree.specs.Trace.{Each, AtSome, IsInstance}
+use Rattle.xs_tree.specs.Trace.{Each, IsInstance}
 use Rattle.xs_tree.specs.Scope.{Place, find_module}
 use Rattle.xs_fei.specs.Instructions.{EffectTree, follows, stuck_at, inverted, random, erroneous, frozen, stuck_at_pick, offset, ramp_down, ModeTree, SliceTree, ExtensionTree, InstructionTree, slices_from}
 use Rattle.xs_tree.specs.Flat.{FlatLeaf, FlatInstance, FlatModel}
@@ -41,6 +41,7 @@ use Rattle.xs_extend.specs.JudgedLaws.{IsGoodCondition, IsGoodValue, IsGoodEffec
 use Rattle.xs_extend.proofs.LawfulLaws.{lawful_instance}
 use Rattle.xs_extend.proofs.JudgedModes.{good_is_judged}
 use Rattle.std.proofs.lemmas.Bool.{false_from_ne_true as not_true}
+use Rattle.xs_flat.proofs.JudgeValues.{some_split}
 
 -- no rule of kinds: the lists of which the least is taken are empty
 abbrev NoneOfBoth : List KindRule → List KindRule → Type 0
@@ -107,15 +108,6 @@ IsGoodSlice p m is at o = same_text o.owner at.module_name ≡ true → Each (Is
 slice_good : (p : ProgramTree) (m : FlatModel) (is : IsFlatOf p m) (at : FlatInstance) (s : PlacedSlice) → Each (KeepsUse p m) (uses_of_slice at s) → IsGoodSlice p m is at s.of
 slice_good p m is at s h same = modes_good p m is at.place s.type (suc s.item) s.of.slice.modes (rw same at h)
 
-split_some : {A : Type 0} (P : A → Type 0) (xs ys : List A) → AtSome P (xs ++ ys) → AtSome P xs ⊎ AtSome P ys
-split_some P [] ys h = inr h
-split_some P (x ∷ xs) ys (inl h) = inl (inl h)
-split_some P (x ∷ xs) ys (inr h) = by_rest (split_some P xs ys h)
-  where
-    by_rest : AtSome P xs ⊎ AtSome P ys → AtSome P (x ∷ xs) ⊎ AtSome P ys
-    by_rest (inl k) = inl (inr k)
-    by_rest (inr k) = inr k
-
 -- a slice of a module's is one of the file's, with an owner of that name
 pub record OwnedBy (P : OwnedSlice → Type 0) (n : Text) (s : SliceTree) : Type 0 where
   pub of : OwnedSlice
@@ -138,7 +130,7 @@ owned_by P n s (x ∷ xs) h a =
     by_part same rest (inr k) = rest k
 
     by_name : (b : Bool) → same_text x.of_module n ≡ b → (Among (slices_from xs n) s → OwnedBy P n s) → OwnedBy P n s
-    by_name true t rest = by_part t rest (split_some (λ y. y ≡ s) x.slices (slices_from xs n) (rw t at a))
+    by_name true t rest = by_part t rest (some_split (λ y. y ≡ s) x.slices (slices_from xs n) (rw t at a))
     by_name false t rest = rest (rw t at a)
 
 -- where all modes keep the rules, the modes of each slice are good at each instance of its module

@@ -165,11 +165,6 @@ section_of (first ∷ more) name m h e = by_name (same_text first.name name) e (
     by_name false e rest = rest e
 
 module _ (p : ProgramTree) (accepted : IsAccepted p) (in_var : HasInstancesInVar p) where
-  -- so many deep, the instances from one on are those of the walk
-  Joined : ℕ → Type 0
-  Joined n = (on : List Text) (at : Place) (name : Text) (m : ModuleTree) → find_module p name ≡ Some m → module_at p at ≡ Some m → AreApart (name ∷ on) → Each (IsThere p) (name ∷ on) →
-      n + length on ≡ length p → Each (VisitFacts p) (walk n p on at name) → instances_in n p at ≡ Some (at ∷ list_places (walk n p on at name))
-
   module _ (n : ℕ) (more : (on : List Text) (at : Place) (name : Text) (m : ModuleTree) → find_module p name ≡ Some m → module_at p at ≡ Some m → AreApart (name ∷ on) → Each (IsThere p) (name ∷ on) →
       n + length on ≡ length p → Each (VisitFacts p) (walk n p on at name) → instances_in n p at ≡ Some (at ∷ list_places (walk n p on at name)))
       (on : List Text) (at : Place) (m : ModuleTree) (here : module_at p at ≡ Some m) (apart : AreApart on) (all : Each (IsThere p) on) (deep : n + length on ≡ length p) where

@@ -17,7 +17,7 @@ use Rattle.xs_flat_laws.specs.Rules.{IsAccepted}
 use Rattle.xs_flat_laws.specs.Model.{IsVariableOf, EachBoth, IsFlatOf}
 use Rattle.xs_flat_laws.proofs.Conditions.{each_at}
 use Rattle.xs_flat_laws.proofs.Lists.{each_more}
-use Rattle.xs_flat_laws.proofs.Resolving.{Known, names_known}
+use Rattle.xs_flat_laws.proofs.Resolving.{Known, names_known, each_leaf}
 use Rattle.xs_flat_laws.proofs.Places.{has_main}
 use Rattle.xs_flat_laws.proofs.Walkable.{accepted_walkable, main_is_there}
 use Rattle.xs_flat_laws.proofs.Variables.{variables_are}
@@ -59,15 +59,10 @@ mutual
       let rest : (has_next a || branches_have_next bs) ≡ false = or_right (has_next c) (has_next a || branches_have_next bs) h in
       (no_next c (or_left (has_next c) (has_next a || branches_have_next bs) h), no_next a (or_left (has_next a) (branches_have_next bs) rest), no_next_branches bs (or_right (has_next a) (branches_have_next bs) rest))
 
--- the names of an expression that is resolved soundly mean something
-each_unit : (ls : List FlatLeaf) → Each (λ l. Unit {0}) ls
-each_unit [] = tt
-each_unit (l ∷ ls) = (tt, each_unit ls)
-
 pub resolved_readable : (p : ProgramTree) (m : FlatModel) (ds : List Definition) (r : Resolver) → IsSound p m ds r → (at : Place) (e : Formula) (flat : Tree FlatLeaf) → IsResolved (r at) e flat → IsReadable p at e
 resolved_readable p m ds r sound at e flat is =
     all_leaves (HasMeaning p at) e (each_more (λ name. Known (λ l. Unit {0}) (r at name)) (HasMeaning p at) (leaves_in e)
-    (λ name known. let found = sound at name known.found known.is in (found.0, found.1)) (names_known (λ l. Unit {0}) (r at) e flat is (each_unit (leaves_in flat))))
+    (λ name known. let found = sound at name known.found known.is in (found.0, found.1)) (names_known (λ l. Unit {0}) (r at) e flat is (each_leaf (leaves_in flat))))
 
 effect_readable : (p : ProgramTree) (m : FlatModel) (ds : List Definition) (at : Place) (e : EffectTree) → IsGoodEffect p m ds at e → IsReadableEffect p at e
 effect_readable p m ds at (follows e) good = resolved_readable p m ds good.resolver good.sound at e good.flat good.resolved

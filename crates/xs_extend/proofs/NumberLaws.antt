@@ -1,18 +1,16 @@
 -- Faults with their numbers, one on, the symbols by their texts, and the place of a variable, one on.
-use Rattle.std.proofs.Common.{arith, inl, inr, ◌≡◌, ℕ, zero, suc, ◌+◌, ◌<◌, Bool, true, false, List, [], ◌∷◌, ◌++◌, Some, None, refl, sym, ◌∙◌, ap, subst, nat_eq}
-use Rattle.std.proofs.lemmas.Bool.Decides.{nat_tests}
+use Rattle.std.proofs.Common.{inl, inr, ◌≡◌, ℕ, Bool, true, false, List, [], ◌∷◌, ◌++◌, Some, None, refl, sym, ◌∙◌, ap, subst, nat_eq}
 use Rattle.std.specs.Prelude.{slice_get, cond, if◌then◌else◌, IfSome}
 use Rattle.std.specs.Cmp.Lexicographic.{pointwise}
 use Rattle.std.specs.Map.{lookup}
 use Rattle.indexmap.specs.IndexMap.{insert_entry}
-use Rattle.xs_tree.specs.ProgramTree.{Text, Path}
+use Rattle.xs_tree.specs.ProgramTree.{Text}
 use Rattle.xs_tree.specs.Trace.{Each, AtSome}
 use Rattle.xs_tree.proofs.ValueLaws.{both_true}
 use Rattle.xs_tree.specs.declared.model.FlatModel.{FlatModel}
-use Rattle.xs_tree.specs.declared.model.Variable.{Variable}
 use Rattle.xs_tree.specs.declared.model.Fault.{Fault}
 use Rattle.xs_extend.specs.declared.faults.WovenFault.{WovenFault}
-use Rattle.xs_extend.specs.NumberedFaults.{IsThere, IsNumbered, AreNumbered}
+use Rattle.xs_extend.specs.NumberedFaults.{IsNumbered, AreNumbered}
 use borrow.Author.Tests.{eqb-true, eq-eqb}
 
 pub numbered_push : (m : FlatModel) (ws : List WovenFault) (fs : List Fault) (w : WovenFault) (f : Fault) → AreNumbered m ws fs → IsNumbered m w f → AreNumbered m (ws ++ w ∷ []) (fs ++ f ∷ [])
@@ -20,18 +18,6 @@ numbered_push m [] [] w f h n = (n, tt)
 numbered_push m [] (g ∷ fs) w f h n = absurd h
 numbered_push m (x ∷ ws) [] w f h n = absurd h
 numbered_push m (x ∷ ws) (g ∷ fs) w f h n = (h.0, numbered_push m ws fs w f h.1 n)
-
--- where the variable at a place has another path, the one that has it stands later
-pub there_later : (vs : List Variable) (place : ℕ) (path : Path) (v : Variable) → IsThere vs place path → slice_get vs place ≡ Some v → (v.path ≡ path → ⊥) → IsThere vs (place + 1) path
-there_later vs place path v there is other = by_test (nat_eq place there.number) refl
-  where
-    by_test : (b : Bool) → nat_eq place there.number ≡ b → IsThere vs (place + 1) path
-    by_test true t =
-        let here : place ≡ there.number = eqb-true place there.number t in
-        let both : Some v ≡ Some there.has.variable = sym is ∙ ap (slice_get vs) here ∙ there.has.is in
-        let same : v ≡ there.has.variable = cc in
-        absurd (other (ap (λ (w : Variable). w.path) same ∙ there.has.same))
-    by_test false t = record { number = there.number; after = grind (arith, nat_tests, there.after, t); has = there.has }
 
 pub same_bytes : (x y : Text) → pointwise nat_eq x y ≡ true → x ≡ y
 same_bytes [] [] h = refl
@@ -103,12 +89,6 @@ module _ {K : Type 0} (text : K → Text) (names : List Text) where
       go : (b : Bool) → cond b (Some e.1) (lookup (λ k. pointwise nat_eq x (text k)) es) ≡ None → (lookup (λ k. pointwise nat_eq x (text k)) es ≡ None → ⊥) → ⊥
       go true none more = cc
       go false none more = more none
-
--- what every symbol has, the symbol at a place has
-pub each_symbol : (P : Text → Type 0) (xs : List Text) (n : ℕ) (x : Text) → Each P xs → slice_get xs n ≡ Some x → P x
-each_symbol P [] n x h e = cc
-each_symbol P (y ∷ ys) zero x h e = let same : y ≡ x = cc in subst P same h.0
-each_symbol P (y ∷ ys) (suc n) x h e = each_symbol P ys n x h.1 e
 
 -- what each had, each has still
 pub each_kept : (P Q : Text → Type 0) (xs : List Text) → ((x : Text) → P x → Q x) → Each P xs → Each Q xs

@@ -26,9 +26,11 @@ use Rattle.xs_extend.specs.declared.guards.Nominal.{Nominal}
 use Rattle.xs_extend.specs.declared.guards.Resolved.{Resolved}
 use Rattle.xs_extend.specs.declared.guards.Verdict.{Verdict}
 
+-- the program as a tree
 abbrev pub program_in : Nominal → ProgramTree
 program_in n = program_tree n.program.now
 
+-- its flat model as a tree
 abbrev pub model_in : Nominal → FlatModel
 model_in n = model_tree n.typed.now.model
 
@@ -74,6 +76,7 @@ abbrev pub member_class : Option Member → Class
 member_class None = truth_class
 member_class (Some m) = (member_kind m).class
 
+-- the class of a declared type
 abbrev pub class_declared : DeclaredTree → Class
 class_declared type = (judged_declared type).kind.class
 

@@ -12,12 +12,14 @@ use Rattle.xs_extend.specs.WovenFaults.{place_of, AreInstancesOf}
 abbrev pub instance_tree : Instance → FlatInstance
 instance_tree at = record { place = place_of at.path; module_name = at.«module» }
 
+-- the type is not that of an instance
 abbrev pub IsNoInstance : DeclaredTree → Type 0
 IsNoInstance boolean = Unit {0}
 IsNoInstance (range lo hi) = Unit {0}
 IsNoInstance (members ms) = Unit {0}
 IsNoInstance (instance m actuals) = ⊥
 
+-- none of the declarations is that of an instance
 abbrev pub AreNoInstances : List DeclTree → Type 0
 AreNoInstances ds = Each (λ d. IsNoInstance d.what) ds
 
@@ -33,6 +35,7 @@ DeclaresInVar (init e) = Unit {0}
 DeclaresInVar (invar e) = Unit {0}
 DeclaresInVar (trans e) = Unit {0}
 
+-- so in each section of the program
 abbrev pub HasInstancesInVar : ProgramTree → Type 0
 HasInstancesInVar p = Each (λ m. Each DeclaresInVar m.sections) p
 

@@ -34,6 +34,7 @@ module _ (p : ProgramTree) (m : FlatModel) (written : List Definition) (at : Pla
     pub no_next : has_next e ≡ false
     pub kept : (judged_in m false flat).broken ≡ []
 
+  -- what an effect follows at an instance, if it follows something, is good
   abbrev pub IsGoodEffect : EffectTree → Type 0
   IsGoodEffect (follows e) = IsGoodValue e
   IsGoodEffect (stuck_at c) = Unit {0}
@@ -45,6 +46,7 @@ module _ (p : ProgramTree) (m : FlatModel) (written : List Definition) (at : Pla
   IsGoodEffect (offset d) = Unit {0}
   IsGoodEffect (ramp_down d f) = Unit {0}
 
+  -- a guard, if one is written, is good
   abbrev pub IsGoodGuard : Option Formula → Type 0
   IsGoodGuard None = Unit {0}
   IsGoodGuard (Some e) = IsGoodCondition e

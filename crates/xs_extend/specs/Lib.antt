@@ -4,4 +4,5 @@ pub mod JudgedLaws
 pub mod InstanceLaws
 pub mod NumberedFaults
 pub mod Guarded
+pub mod Nominals
 pub mod ToldLaws

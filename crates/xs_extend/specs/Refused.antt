@@ -61,6 +61,7 @@ IsToldBy p m i modules (Weave rule) item = rule ≢ OutOfMemory → IsFirstOfGro
 IsToldBy p m i modules (Flat fault) item = IsToldOfUses p m i modules (Flat fault) item
 IsToldBy p m i modules (Kinds fault) item = IsToldOfUses p m i modules (Kinds fault) item
 
+-- the fault is the first that the instructions have, by the groups of rules
 abbrev pub IsTold : ProgramTree → FlatModel → InstructionTree → List Text → WeaveFault → Type 0
 IsTold p m i modules fault = IsToldBy p m i modules fault.cause fault.item
 
@@ -70,13 +71,15 @@ IsOfExpressions (Weave rule) = rule ≡ OutOfMemory
 IsOfExpressions (Flat fault) = Unit {0}
 IsOfExpressions (Kinds fault) = Unit {0}
 
+-- so of a fault with its item
 abbrev pub IsFromExpressions : WeaveFault → Type 0
 IsFromExpressions fault = IsOfExpressions fault.cause
 
--- the fault of a rule, and want of memory
+-- the fault of a rule
 abbrev pub of_rule : RuleFault → WeaveFault
 of_rule fault = record { cause = Weave fault.rule; item = fault.item }
 
+-- the fault says that memory was wanting
 abbrev pub IsWant : WeaveFault → Type 0
 IsWant fault = fault.cause ≡ Weave OutOfMemory
 

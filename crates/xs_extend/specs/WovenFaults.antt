@@ -13,6 +13,7 @@ abbrev pub place_of : Option Path → Place
 place_of None = []
 place_of (Some path) = reverse path
 
+-- a fault of the code as one of the definitions
 abbrev pub fault_tree : WovenFault → Fault
 fault_tree f = record { place = place_of f.path; slice = f.slice; mode = f.mode }
 
@@ -28,6 +29,7 @@ faults_at i instances = flat_map (instance_faults i) instances
 abbrev pub IsOfModule : ProgramTree → Instance → Type 0
 IsOfModule p at = (m : ModuleTree) × IsInstance p (place_of at.path) m × (m.name ≡ at.«module»)
 
+-- the places of instances of the code
 abbrev pub places_of : List Instance → List Place
 places_of instances = map (λ at. place_of at.path) instances
 

@@ -1,3 +1,6 @@
+//! Why instructions can't be woven into a program ([`WeaveFault`]): the rules of three layers in one type. Want of memory in
+//! any of them is one cause, `Weave(OutOfMemory)`.
+
 ghost use Rattle.std.specs.Prelude.{◌≡◌};
 ghost use Rattle.xs_extend.specs.Refused.{of_rule, IsWant};
 

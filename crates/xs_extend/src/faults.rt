@@ -1,7 +1,8 @@
-//! The faults of a woven program, by instances, then slices, then modes.
+//! The faults of a woven program, by instances, then slices, then modes ([`woven_faults`]): a fault is a mode of a slice at
+//! an instance of the slice's module. This order is that of the numbers of faults in all reports.
 
-ghost use Rattle.std.specs.Prelude.{◌≡◌, [], ◌∷◌, ◌++◌, IfOk, OnOk, map, flat_map};
-ghost use Rattle.xs_fei.specs.Instructions.{instruction_tree, slice_tree, mode_tree, extension_tree};
+ghost use Rattle.std.specs.Prelude.{◌≡◌, ◌++◌, IfOk, OnOk, map, flat_map};
+ghost use Rattle.xs_fei.specs.Instructions.{instruction_tree, slice_tree, extension_tree};
 ghost use Rattle.xs_tree.specs.ProgramTree.{program_tree};
 ghost use Rattle.xs_tree.specs.Texts.{same_text};
 ghost use Rattle.xs_weave.specs.Woven.{own_slices};
@@ -65,6 +66,7 @@ fn add_instance(
     Ok(())
 }
 
+/// Appends the faults of an extension, if it is one of the instance's module.
 #[tactic(auto, using(crate::proofs::FaultLaws::fault_rules))]
 fn add_extension(
     instance: &Instance,
@@ -86,6 +88,7 @@ fn extends(extension: &Extension, instance: &Instance) -> bool
     extension.module.is_same(&instance.module)
 }
 
+/// Appends the faults of slices.
 #[tactic(auto, using(crate::proofs::FaultLaws::fault_rules))]
 fn add_slices(
     instance: &Instance,
@@ -100,6 +103,7 @@ fn add_slices(
     Ok(())
 }
 
+/// Appends the faults of a slice, one for each mode.
 #[tactic(auto, using(crate::proofs::FaultLaws::fault_rules))]
 fn add_slice(
     instance: &Instance,
@@ -114,6 +118,7 @@ fn add_slice(
     Ok(())
 }
 
+/// The fault of a mode at an instance.
 fn woven_fault(
     instance: &Instance,
     slice: &Name,

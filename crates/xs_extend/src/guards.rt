@@ -1,18 +1,14 @@
 //! The rules of guards and Follows expressions, tried by instances, then items. Each expression is judged
 //! as a DEFINE of its module would be: first by the rules of names, then by those of kinds.
 
-ghost use Rattle.std.specs.Prelude.{◌≡◌, ◌≢◌, ◌+◌, ℕ, IfErr, IfOk, OnOk, Some, None, MatchOption, map, flat_map, option_copied, option_map};
-ghost use Rattle.xs_tree.specs.Trace.{Each};
+ghost use Rattle.std.specs.Prelude.{◌≡◌, ◌≢◌, ℕ, IfErr, IfOk, OnOk, Some, None, MatchOption, map, option_copied, option_map};
 ghost use Rattle.xs_tree.specs.ProgramTree.{DeclaredTree, program_tree, declared_tree};
-ghost use Rattle.xs_tree.specs.Written.{tree_of};
 ghost use Rattle.xs_fei.specs.Instructions.{effect_tree, guard_tree, mode_tree};
 ghost use Rattle.xs_type_laws.specs.Judged.{truth_class, number_class, symbol_class, same_class};
 ghost use Rattle.xs_tree.specs.Flat.{FlatInstance};
 ghost use Rattle.xs_flat_laws.specs.Rules.{IsAccepted};
-ghost use Rattle.xs_flat_laws.specs.Model.{IsFlatOf};
 ghost use Rattle.xs_scope.specs.Faults.{rule_of};
 ghost use Rattle.xs_tree.specs.ModelTree.{flat_tree, model_tree};
-ghost use Rattle.xs_flat.specs.ResolvedAt.{IsAt};
 ghost use Rattle.xs_flat.specs.ScopeOf.{IsScopeOf};
 ghost use Rattle.xs_types.specs.Answers.{told_first, told_rules};
 ghost use Rattle.xs_types.specs.Calls.{fault_of, shown};
@@ -20,10 +16,11 @@ ghost use Rattle.xs_types.specs.Rows.{lower, lesser_rule, unless};
 ghost use Rattle.xs_types.specs.declared.fault.Rule.TheVariants as type_rules;
 ghost use Rattle.xs_weave_rules.specs.Placing.{seen_placed};
 ghost use Rattle.xs_weave_rules.specs.declared.fault.Rule.TheVariants as weave_rules;
-ghost use Rattle.xs_extend_laws.specs.Expressions.{followed, IsForm, broken_by, kind_rule, KeepsNames, KeepsUse, IsBrokenAt};
-ghost use Rattle.xs_extend_laws.specs.SliceUses.{modes_from, uses_of_slices};
-ghost use Rattle.xs_extend.specs.Guarded.{program_in, model_in, use_at, IsSomeKept, IsSomeFault, told_number, kind_of_form, class_shown, fits_class, member_class, class_declared, judged_by, lower_fault, both_forms};
-ghost use Rattle.xs_extend.specs.Refused.{IsOfExpressions, IsFromExpressions, IsWant, IsWantOr, IsFirstFault};
+ghost use Rattle.xs_extend_laws.specs.Expressions.{followed, broken_by, kind_rule, KeepsNames};
+ghost use Rattle.xs_extend_laws.specs.SliceUses.{uses_of_slices};
+ghost use Rattle.xs_extend.specs.Guarded.{program_in, use_at, IsSomeKept, IsSomeFault, told_number, kind_of_form, class_shown, fits_class, member_class, class_declared, judged_by, lower_fault, both_forms};
+ghost use Rattle.xs_extend.specs.Nominals.{WhereFlat, IsInstanceAt, all_uses, uses_of_placed, IsUseKept, AreUsesKept, IsUseBroken, IsFirstOfUses, written, IsFormAt};
+ghost use Rattle.xs_extend.specs.Refused.{IsOfExpressions, IsFromExpressions, IsWant, IsWantOr};
 ghost use Rattle.xs_extend.specs.declared.fault.Cause.TheVariants as causes;
 
 use crate::fault::{Cause, WeaveFault};
@@ -64,8 +61,8 @@ pub(crate) fn judge_guards(
     slices: &[Placed<'_>],
 ) -> Result<(), WeaveFault>
     ensures want { IfErr result IsFromExpressions }
-    ensures kept { IsAccepted (program_in nominal.entry) → IsFlatOf (program_in nominal.entry) (model_in nominal.entry) → OnOk result (Each (KeepsUse (program_in nominal.entry) (model_in nominal.entry)) (flat_map (uses_of_slices (map seen_placed slices.now)) (model_in nominal.entry).instances)) }
-    ensures told { IsAccepted (program_in nominal.entry) → IsFlatOf (program_in nominal.entry) (model_in nominal.entry) → IfErr result (IsFirstFault (program_in nominal.entry) (model_in nominal.entry) (flat_map (uses_of_slices (map seen_placed slices.now)) (model_in nominal.entry).instances)) }
+    ensures kept { WhereFlat nominal.entry (OnOk result (AreUsesKept nominal.entry (all_uses nominal.entry (map seen_placed slices.now)))) }
+    ensures told { WhereFlat nominal.entry (IfErr result (IsFirstOfUses nominal.entry (all_uses nominal.entry (map seen_placed slices.now)))) }
 {
     let scope = scope_of(alloc, nominal.program)?;
     judge_instances(alloc, nominal, &scope, slices)
@@ -80,8 +77,8 @@ fn judge_instances(
 ) -> Result<(), WeaveFault>
     requires scope { IsScopeOf (program_in nominal) scope.now }
     ensures want { IfErr result IsFromExpressions }
-    ensures kept { IsAccepted (program_in nominal.entry) → IsFlatOf (program_in nominal.entry) (model_in nominal.entry) → OnOk result (Each (KeepsUse (program_in nominal.entry) (model_in nominal.entry)) (flat_map (uses_of_slices (map seen_placed slices.now)) (model_in nominal.entry).instances)) }
-    ensures told { IsAccepted (program_in nominal.entry) → IsFlatOf (program_in nominal.entry) (model_in nominal.entry) → IfErr result (IsFirstFault (program_in nominal.entry) (model_in nominal.entry) (flat_map (uses_of_slices (map seen_placed slices.now)) (model_in nominal.entry).instances)) }
+    ensures kept { WhereFlat nominal.entry (OnOk result (AreUsesKept nominal.entry (all_uses nominal.entry (map seen_placed slices.now)))) }
+    ensures told { WhereFlat nominal.entry (IfErr result (IsFirstOfUses nominal.entry (all_uses nominal.entry (map seen_placed slices.now)))) }
 {
     let mut number = 0;
     for instance in nominal.typed.model().instances.as_slice() {
@@ -117,8 +114,8 @@ fn judge_instance(
 ) -> Result<(), WeaveFault>
     requires scope { IsScopeOf (program_in nominal) scope.now }
     ensures want { IfErr result IsFromExpressions }
-    ensures kept { (at : FlatInstance) → IsAt (program_in nominal.entry) (model_in nominal.entry) «instance» at → at.module_name ≡ «module».now → OnOk result (Each (KeepsUse (program_in nominal.entry) (model_in nominal.entry)) (uses_of_slices (map seen_placed slices.now) at)) }
-    ensures told { (at : FlatInstance) → IsAt (program_in nominal.entry) (model_in nominal.entry) «instance» at → at.module_name ≡ «module».now → IfErr result (IsFirstFault (program_in nominal.entry) (model_in nominal.entry) (uses_of_slices (map seen_placed slices.now) at)) }
+    ensures kept { (at : FlatInstance) → IsInstanceAt nominal.entry «instance» at → at.module_name ≡ «module».now → OnOk result (AreUsesKept nominal.entry (uses_of_slices (map seen_placed slices.now) at)) }
+    ensures told { (at : FlatInstance) → IsInstanceAt nominal.entry «instance» at → at.module_name ≡ «module».now → IfErr result (IsFirstOfUses nominal.entry (uses_of_slices (map seen_placed slices.now) at)) }
 {
     for placed in slices {
         if placed.owner.is_same(module) {
@@ -138,8 +135,8 @@ fn judge_slice(
 ) -> Result<(), WeaveFault>
     requires scope { IsScopeOf (program_in nominal) scope.now }
     ensures want { IfErr result IsFromExpressions }
-    ensures kept { (at : FlatInstance) → IsAt (program_in nominal.entry) (model_in nominal.entry) «instance» at → OnOk result (Each (KeepsUse (program_in nominal.entry) (model_in nominal.entry)) (modes_from at.place (declared_tree placed.entry.declared.now) (placed.entry.item + 1) (map mode_tree placed.entry.slice.now.modes))) }
-    ensures told { (at : FlatInstance) → IsAt (program_in nominal.entry) (model_in nominal.entry) «instance» at → IfErr result (IsFirstFault (program_in nominal.entry) (model_in nominal.entry) (modes_from at.place (declared_tree placed.entry.declared.now) (placed.entry.item + 1) (map mode_tree placed.entry.slice.now.modes))) }
+    ensures kept { (at : FlatInstance) → IsInstanceAt nominal.entry «instance» at → OnOk result (AreUsesKept nominal.entry (uses_of_placed placed.entry at)) }
+    ensures told { (at : FlatInstance) → IsInstanceAt nominal.entry «instance» at → IfErr result (IsFirstOfUses nominal.entry (uses_of_placed placed.entry at)) }
 {
     let mut item = placed.item;
     for mode in placed.slice.modes.as_slice() {
@@ -164,8 +161,8 @@ fn judge_mode(
 ) -> Result<(), Cause>
     requires scope { IsScopeOf (program_in nominal) scope.now }
     ensures want { IfErr result IsOfExpressions }
-    ensures kept { (at : FlatInstance) (n : ℕ) → IsAt (program_in nominal.entry) (model_in nominal.entry) «instance» at → OnOk result (KeepsUse (program_in nominal.entry) (model_in nominal.entry) (use_at at.place (declared_tree declared.now) (mode_tree mode.now) n)) }
-    ensures told { (at : FlatInstance) (n : ℕ) → IsAt (program_in nominal.entry) (model_in nominal.entry) «instance» at → IfErr result (λ cause. IsWantOr cause (IsBrokenAt (program_in nominal.entry) (model_in nominal.entry) (use_at at.place (declared_tree declared.now) (mode_tree mode.now) n))) }
+    ensures kept { (at : FlatInstance) (n : ℕ) → IsInstanceAt nominal.entry «instance» at → OnOk result (IsUseKept nominal.entry (use_at at.place (declared_tree declared.now) (mode_tree mode.now) n)) }
+    ensures told { (at : FlatInstance) (n : ℕ) → IsInstanceAt nominal.entry «instance» at → IfErr result (λ cause. IsWantOr cause (IsUseBroken nominal.entry (use_at at.place (declared_tree declared.now) (mode_tree mode.now) n))) }
 {
     let resolved = resolve_mode(alloc, nominal, scope, instance, mode)?;
     match first_of_kinds(nominal.typed, &resolved, declared) {
@@ -184,10 +181,10 @@ fn resolve_mode(
 ) -> Result<Resolved, Cause>
     requires scope { IsScopeOf (program_in nominal) scope.now }
     ensures want { IfErr result IsOfExpressions }
-    ensures follows { (at : FlatInstance) → IsAt (program_in nominal.entry) (model_in nominal.entry) «instance» at → IfOk result (λ r. IsForm (program_in nominal.entry) (model_in nominal.entry) at.place (followed (effect_tree mode.now.effect)) (option_map flat_tree r.follows)) }
-    ensures guard { (at : FlatInstance) → IsAt (program_in nominal.entry) (model_in nominal.entry) «instance» at → IfOk result (λ r. IsForm (program_in nominal.entry) (model_in nominal.entry) at.place (guard_tree mode.now.guard) (option_map flat_tree r.guard)) }
-    ensures kept { (at : FlatInstance) (type : DeclaredTree) (n : ℕ) → IsAt (program_in nominal.entry) (model_in nominal.entry) «instance» at → OnOk result (KeepsNames (program_in nominal.entry) (use_at at.place type (mode_tree mode.now) n)) }
-    ensures told { (at : FlatInstance) (type : DeclaredTree) (n : ℕ) → IsAt (program_in nominal.entry) (model_in nominal.entry) «instance» at → IfErr result (λ cause. IsWantOr cause (IsBrokenAt (program_in nominal.entry) (model_in nominal.entry) (use_at at.place type (mode_tree mode.now) n))) }
+    ensures follows { (at : FlatInstance) → IsInstanceAt nominal.entry «instance» at → IfOk result (λ r. IsFormAt nominal.entry at (followed (effect_tree mode.now.effect)) r.follows) }
+    ensures guard { (at : FlatInstance) → IsInstanceAt nominal.entry «instance» at → IfOk result (λ r. IsFormAt nominal.entry at (guard_tree mode.now.guard) r.guard) }
+    ensures kept { (at : FlatInstance) (type : DeclaredTree) (n : ℕ) → IsInstanceAt nominal.entry «instance» at → OnOk result (KeepsNames (program_in nominal.entry) (use_at at.place type (mode_tree mode.now) n)) }
+    ensures told { (at : FlatInstance) (type : DeclaredTree) (n : ℕ) → IsInstanceAt nominal.entry «instance» at → IfErr result (λ cause. IsWantOr cause (IsUseBroken nominal.entry (use_at at.place type (mode_tree mode.now) n))) }
 {
     let follows = resolve(
         alloc,
@@ -229,9 +226,9 @@ fn resolve(
     e: Option<&Expr<Dotted>>,
 ) -> Result<Option<Expr<Flat>>, FlatFault>
     requires scope { IsScopeOf (program_in nominal) scope.now }
-    ensures form { (at : FlatInstance) → IsAt (program_in nominal.entry) (model_in nominal.entry) «instance» at → IfOk result (λ made. IsForm (program_in nominal.entry) (model_in nominal.entry) at.place (option_map tree_of (option_copied e.entry)) (option_map flat_tree made)) }
-    ensures kept { (at : FlatInstance) → IsAt (program_in nominal.entry) (model_in nominal.entry) «instance» at → OnOk result (IsSomeKept (program_in nominal.entry) at.place inputs (option_map tree_of (option_copied e.entry))) }
-    ensures told { (at : FlatInstance) → IsAt (program_in nominal.entry) (model_in nominal.entry) «instance» at → IfErr result (IsSomeFault (program_in nominal.entry) at.place inputs (option_map tree_of (option_copied e.entry))) }
+    ensures form { (at : FlatInstance) → IsInstanceAt nominal.entry «instance» at → IfOk result (IsFormAt nominal.entry at (written e.entry)) }
+    ensures kept { (at : FlatInstance) → IsInstanceAt nominal.entry «instance» at → OnOk result (IsSomeKept (program_in nominal.entry) at.place inputs (written e.entry)) }
+    ensures told { (at : FlatInstance) → IsInstanceAt nominal.entry «instance» at → IfErr result (IsSomeFault (program_in nominal.entry) at.place inputs (written e.entry)) }
 {
     let Some(e) = e else {
         return Ok(None);
@@ -243,7 +240,7 @@ fn resolve(
 
 /// The expression that an effect follows.
 fn follows_of(effect: &Effect) -> Option<&Expr<Dotted>>
-    ensures { option_map tree_of (option_copied result) ≡ followed (effect_tree effect.now) }
+    ensures { written result ≡ followed (effect_tree effect.now) }
 {
     match effect {
         Effect::Follows(e) => Some(e),
@@ -278,6 +275,7 @@ fn judged(typed: &Typed, e: Option<&Expr<Flat>>) -> Verdict
     }
 }
 
+/// What is answered of kinds, as a verdict.
 fn of_answer(answer: Result<Kind, TypeFault>) -> Verdict
     ensures { result ≡ judged_by answer }
 {
@@ -348,6 +346,7 @@ fn has_class_of(kind: Kind, first: Option<&Member>) -> bool
     }
 }
 
+/// Whether the kind is that of truth values.
 fn is_truth(kind: Kind) -> bool
     ensures { result ≡ same_class (class_shown kind) truth_class }
 {
@@ -357,6 +356,7 @@ fn is_truth(kind: Kind) -> bool
     }
 }
 
+/// Whether the kind is one of numbers.
 fn is_number(kind: Kind) -> bool
     ensures { result ≡ same_class (class_shown kind) number_class }
 {
@@ -366,6 +366,7 @@ fn is_number(kind: Kind) -> bool
     }
 }
 
+/// Whether the kind is that of symbols.
 fn is_symbol(kind: Kind) -> bool
     ensures { result ≡ same_class (class_shown kind) symbol_class }
 {
@@ -375,6 +376,7 @@ fn is_symbol(kind: Kind) -> bool
     }
 }
 
+/// A broken rule of kinds as a cause.
 fn kind_fault(rule: Rule) -> Cause
     ensures { result ≡ causes.Kinds (fault_of rule) }
 {
@@ -391,6 +393,7 @@ pub(crate) fn flat_cause(fault: FlatFault) -> Cause
     }
 }
 
+/// Want of memory is told as such, and never inside a fault of kinds.
 pub(crate) fn type_cause(fault: TypeFault) -> Cause
     ensures want { fault.rule ≡ type_rules.OutOfMemory → result ≡ causes.Weave weave_rules.OutOfMemory }
     ensures other { fault.rule ≢ type_rules.OutOfMemory → result ≡ causes.Kinds fault }
@@ -433,6 +436,7 @@ fn lower_kind(first: Option<Rule>, second: Option<Rule>) -> Option<Rule>
     }
 }
 
+/// Of two rules the one with the lower number.
 fn lesser_kind(first: Rule, second: Rule) -> Rule
     ensures { result ≡ lesser_rule first second }
 {

@@ -1,6 +1,7 @@
-//! The faults with the numbers that they have in the woven program's flat model.
+//! The faults with the numbers that they have in the woven program's flat model ([`fault_list`]): of the variable that holds
+//! a slice's state and of the symbol that stands for a mode. A search reads by them in a state which modes stand.
 
-ghost use Rattle.std.specs.Prelude.{◌≡◌, ◌↔◌, ◌∷◌, ◌++◌, ◌^◌, ◌<◌, [], ℕ, IfOk, IsOk, OnOk, Some, IsTrue, slice_get};
+ghost use Rattle.std.specs.Prelude.{◌≡◌, ◌↔◌, ◌∷◌, ◌++◌, ◌^◌, ◌<◌, [], IfOk, IsOk, OnOk, Some, IsTrue, slice_get};
 ghost use Rattle.xs_tree.specs.Trace.{Each};
 ghost use Rattle.xs_tree.specs.ProgramTree.{Text};
 ghost use Rattle.xs_fei.specs.AddedNames.{mode_variable as mode_variable_of, mode_symbol as mode_symbol_of};
@@ -30,6 +31,7 @@ pub fn fault_list(alloc: Global, w: &Woven, m: &FlatModel) -> Result<FaultList, 
     numbered_list(alloc, m, w.faults.as_slice())
 }
 
+/// The faults with their numbers, in order.
 fn numbered_list(
     alloc: Global,
     m: &FlatModel,
@@ -46,6 +48,7 @@ fn numbered_list(
     Ok(faults)
 }
 
+/// A fault with its name and its numbers.
 fn numbered(
     alloc: Global,
     m: &FlatModel,
@@ -131,6 +134,7 @@ fn is_same(x: &[Name], y: &[Name]) -> bool
 }
 
 impl<'a> Symbols<'a> {
+    /// The symbols of these names, each with its number.
     fn of_names(alloc: Global, names: &'a [Name]) -> Result<Symbols<'a>, OutOfMemory>
         ensures own { IfOk result (λ symbols. symbols.names.now ≡ names.now) }
         ensures symbols { IfOk result AreSymbols }
@@ -146,6 +150,7 @@ impl<'a> Symbols<'a> {
         Ok(symbols)
     }
 
+    /// Adds a symbol with its number.
     fn add(&mut self, symbol: &'a Name, number: u32) -> Result<(), OutOfMemory>
         requires is { slice_get self.old.names.now number ≡ Some symbol.now }
         requires symbols { AreSymbols self.old }
@@ -168,6 +173,7 @@ impl<'a> Symbols<'a> {
         Ok(self.number_of(&symbol))
     }
 
+    /// The number of a symbol that is known.
     fn number_of(&self, symbol: &Name) -> u32
         requires symbols { AreSymbols self.now }
         requires known { KnowsSymbol self.now symbol.now }

@@ -1,4 +1,5 @@
-//! The public calls: the woven program with its faults.
+//! The public calls: the woven program with its faults, from a program ([`weave`]), or from a program whose flat model and
+//! kinds are known already ([`weave_typed`]).
 
 ghost use Rattle.std.specs.Prelude.{◌≡◌, ◌≢◌, IfOk, IfErr, OnOk, map};
 ghost use Rattle.xs_tree.specs.ProgramTree.{program_tree};

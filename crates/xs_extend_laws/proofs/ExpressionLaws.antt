@@ -9,9 +9,8 @@ use Rattle.xs_tree.specs.Flat.{FlatModel}
 use Rattle.xs_flat_laws.specs.Rules.{Rule, number_of, no_main, main_has_parameters, double_module, double_name, no_such_module, wrong_count, module_loop, no_such_name, not_a_target, double_assign, define_loop, next_here, input_here, too_many, IsAccepted}
 use Rattle.xs_flat_laws.specs.Model.{IsFlatOf}
 use Rattle.xs_flat_laws.specs.ValueRules.{BreaksValue}
-use Rattle.xs_type_laws.specs.Judged.{KindRule}
 use Rattle.xs_extend_laws.specs.Uses.{Use}
-use Rattle.xs_extend_laws.specs.Expressions.{followed, SomeBreaks, BreaksNames, IsLeastOfNames, KeepsNames, Forms, kind_rule, KeepsUse, AllUsesKept, UseRule, of_names, of_kinds, IsBrokenAt, by_names, by_kinds, IsFirstUse}
+use Rattle.xs_extend_laws.specs.Expressions.{followed, SomeBreaks, BreaksNames, IsLeastOfNames, Forms, kind_rule, KeepsUse, AllUsesKept, UseRule, of_names, of_kinds, IsBrokenAt, by_names, by_kinds, IsFirstUse}
 use Rattle.xs_extend_laws.proofs.OneForm.{same_form}
 use Rattle.xs_extend_laws.proofs.Splits.{one_split, none_broken}
 

@@ -1,5 +1,5 @@
 -- What the rules give at each item of each instance of an accepted program.
-use Rattle.std.proofs.Common.{◌≡◌, ℕ, zero, suc, ◌+◌, true, false, ◌||◌, List, [], ◌∷◌, ◌++◌, Some, refl, sym, ◌∙◌, ap, subst, inl, inr}
+use Rattle.std.proofs.Common.{◌≡◌, ℕ, zero, suc, true, false, List, [], ◌∷◌, ◌++◌, Some, refl, sym, ◌∙◌, ap, subst, inl, inr}
 use Rattle.std.specs.Prelude.{slice_get, map, flat_map}
 use Rattle.xs_tree.specs.ProgramTree.{Text, Formula, DeclaredTree, boolean, range, members, instance, DeclTree, DefineTree, AssignmentTree, ModuleTree, ProgramTree}
 use Rattle.xs_tree.specs.declared.program.Moment.{Moment}

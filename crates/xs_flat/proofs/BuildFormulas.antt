@@ -137,9 +137,6 @@ module _ (p : ProgramTree) where
     kept_facts at y (members ms) means = (means (λ m actuals e. cc), tt)
     kept_facts at y (instance m actuals) means = tt
 
-    nothing_asked : (a : Asked) (at : Place) (item : Item) → conditions_asked a item ≡ [] → Each (CondFacts at) (conditions_asked a item)
-    nothing_asked a at item e = subst (Each (CondFacts at)) (sym e) tt
-
     pub facts_of : (a : Asked) (i : ℕ) (x : FlatInstance) → slice_get (instances_of p) i ≡ Some x → (j : ℕ) (n : NumberedItem) → slice_get (items_named p x.module_name) j ≡ Some n → (item : Item) → n.item ≡ item →
         Each (CondFacts x.place) (conditions_asked a item)
     facts_of a i x e j n f item is = by_item a item is

@@ -1,19 +1,17 @@
 -- What is asked of a list is what is asked of its first item and of the rest.
-use Rattle.std.proofs.Common.{◌≡◌, ℕ, zero, suc, ◌+◌, ◌<◌, ◌≤◌, List, [], ◌∷◌, ◌++◌, length, drop, Option, Some, None, refl, sym, ◌∙◌, ap, subst, arith, append_assoc, append-nil, slice_index_or}
-use Rattle.std.specs.Prelude.{slice_get, flat_map, option_map}
-use Rattle.xs_tree.specs.Trace.{Each}
+use Rattle.std.proofs.Common.{◌≡◌, ℕ, zero, suc, ◌+◌, ◌<◌, ◌≤◌, List, [], ◌∷◌, ◌++◌, length, drop, Option, Some, None, refl, sym, ◌∙◌, ap, arith, append_assoc, append-nil, slice_index_or}
+use Rattle.std.specs.Prelude.{slice_get}
 use Rattle.xs_tree.specs.Flat.{FlatInstance}
 use Rattle.xs_flat_laws.specs.Items.{Item, NumberedItem, instances_of}
 use Rattle.xs_flat_laws.specs.Model.{Condition}
-use Rattle.xs_scope.specs.declared.bounds.Bounds.{Bounds}
 use Rattle.xs_scope.specs.declared.names.Scene.{Scene}
 use Rattle.xs_scope.specs.declared.walk.Spot.{Spot}
 use Rattle.xs_scope.specs.declared.modules.Names.{Names}
 use Rattle.xs_tree.specs.ModelTree.{place_of}
 use Rattle.xs_scope.specs.declared.needs.Needs.{Needs}
-use Rattle.xs_scope.specs.SceneTree.{program_of, IsScene, IsSpot, number_and_item, items_of_instance, items_at}
+use Rattle.xs_scope.specs.SceneTree.{program_of, IsScene, IsSpot, items_of_instance, items_at}
 use Rattle.xs_flat.specs.ResolverOf.{leaf_at}
-use Rattle.xs_flat.specs.Asked.{IsConditionKnown, AreConditionsKnown, asked_conditions, asked_item, asked_items, asked_from, item_listed, instance_in, instance_told}
+use Rattle.xs_flat.specs.Asked.{asked_item, asked_items, asked_from, item_listed, instance_in, instance_told}
 use Rattle.xs_flat_laws.proofs.Lists.{get_within}
 use Rattle.xs_scope.proofs.SceneNeeds.{both_size}
 
@@ -53,9 +51,6 @@ module _ (s : Scene) (n : Needs) (what : Item → List Condition) where
           ap (asked_items s n what spot) (drop_at is k i e)
           ∙ ap (λ ts. ts ++ asked_items s n what spot (drop (k + 1) is)) (sym (append-nil (asked_item (leaf_at s n spot) spot what i)))
 
-  pub items_end : (spot k : ℕ) (is : List NumberedItem) → length is ≤ k → asked_items s n what spot (drop k is) ≡ []
-  items_end spot k is h = ap (asked_items s n what spot) (drop_past is k h)
-
   -- the instance of a number, and then the rest
   pub spots_step : (k : ℕ) → k < length (instances_of (program_of s)) →
       asked_from s n what k (drop k (instances_of (program_of s))) ≡ asked_items s n what k (items_at (program_of s) k) ++ asked_from s n what (k + 1) (drop (k + 1) (instances_of (program_of s)))
@@ -68,38 +63,6 @@ module _ (s : Scene) (n : Needs) (what : Item → List Condition) where
 
   pub spots_end : (k : ℕ) → length (instances_of (program_of s)) ≤ k → asked_from s n what k (drop k (instances_of (program_of s))) ≡ []
   spots_end k h = ap (asked_from s n what k) (drop_past (instances_of (program_of s)) k h)
-
-  -- an item that is read is one of the instance's
-  listed : (o : Option NumberedItem) (number : ℕ) (item : Item) → Some (number, item) ≡ option_map number_and_item o → (i : NumberedItem) × (o ≡ Some i) × (i.number ≡ number) × (i.item ≡ item)
-  listed None number item e = cc
-  listed (Some i) number item e = (i, refl, sym (ap (first_of number) e), sym (ap (second_of item) e))
-    where
-      first_of : ℕ → Option (ℕ × Item) → ℕ
-      first_of d None = d
-      first_of d (Some x) = x.0
-
-      second_of : Item → Option (ℕ × Item) → Item
-      second_of d None = d
-      second_of d (Some x) = x.1
-
-  pub item_known : (b : Bounds) (spot place number : ℕ) (item : Item) → AreConditionsKnown s n b what → Some (number, item) ≡ option_map number_and_item (slice_get (items_at (program_of s) spot) place) →
-      Each (IsConditionKnown (leaf_at s n spot) b) (what item)
-  item_known b spot place number item known e =
-      let l : (i : NumberedItem) × (slice_get (items_at (program_of s) spot) place ≡ Some i) × (i.number ≡ number) × (i.item ≡ item) = listed (slice_get (items_at (program_of s) spot) place) number item e in
-      subst (λ i. Each (IsConditionKnown (leaf_at s n spot) b) (what i)) l.3 (known spot place l.0 l.1)
-
-  pub item_asked : (spot place number : ℕ) (item : Item) → Some (number, item) ≡ option_map number_and_item (slice_get (items_at (program_of s) spot) place) →
-      asked_conditions (leaf_at s n spot) spot number (what item) ≡ asked_items s n what spot (item_listed (slice_get (items_at (program_of s) spot) place))
-  item_asked spot place number item e =
-      let l : (i : NumberedItem) × (slice_get (items_at (program_of s) spot) place ≡ Some i) × (i.number ≡ number) × (i.item ≡ item) = listed (slice_get (items_at (program_of s) spot) place) number item e in
-      ap (λ j. asked_conditions (leaf_at s n spot) spot j (what item)) (sym l.2)
-      ∙ ap (λ i. asked_conditions (leaf_at s n spot) spot l.0.number (what i)) (sym l.3)
-      ∙ sym (append-nil (asked_item (leaf_at s n spot) spot what l.0))
-      ∙ ap (λ o. asked_items s n what spot (item_listed o)) (sym l.1)
-
-  pub none_asked : (spot : ℕ) (o : Option NumberedItem) → None ≡ option_map number_and_item o → asked_items s n what spot (item_listed o) ≡ []
-  none_asked spot None e = refl
-  none_asked spot (Some i) e = cc
 
 pub many_spots : (s : Scene) → IsScene s → length (instances_of (program_of s)) ≡ length s.spots.items
 many_spots s is = both_size (IsSpot (program_of s)) (instances_of (program_of s)) s.spots.items is.set.spots

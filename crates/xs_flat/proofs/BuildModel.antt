@@ -46,15 +46,9 @@ use Rattle.xs_scope.proofs.SceneItems.{both_more}
 use Rattle.xs_flat.proofs.BuildSound.{definition_of, keys_of_definitions, definitions, definition_at, sound, resolver_at}
 use Rattle.xs_flat.proofs.BuildFormulas.{all_known, formulas_are, both_are}
 use Rattle.xs_flat_laws.proofs.Kept.{module_named}
-use Rattle.xs_scope.proofs.SceneNeeds.{both_size}
+use Rattle.xs_scope.proofs.SceneNeeds.{both_size, both_from}
 use Rattle.std.proofs.lemmas.Option.{slice_get_within as get_less}
 use Rattle.xs_scope.proofs.KeyLaws.{map_get as get_mapped}
-
-pub both_from : {A B : Type 0} (R : A → B → Type 0) (xs : List A) (ys : List B) → length xs ≡ length ys → ((i : ℕ) (x : A) (y : B) → slice_get xs i ≡ Some x → slice_get ys i ≡ Some y → R x y) → EachBoth R xs ys
-both_from R [] [] e h = tt
-both_from R [] (y ∷ ys) e h = absurd (omega (arith, e))
-both_from R (x ∷ xs) [] e h = absurd (omega (arith, e))
-both_from R (x ∷ xs) (y ∷ ys) e h = (h 0 x y refl refl, both_from R xs ys (omega (arith, e)) (λ i. h (suc i)))
 
 abbrev bounds_made : ℕ → ℕ → ℕ → Bounds
 bounds_made v t d = record { variables = v; symbols = t; definitions = d }

@@ -38,12 +38,6 @@ get_more : (es : List Formula) (k : ℕ) (actuals : List Formula) (e : Formula) 
     (i : ℕ) (f : Formula) → slice_get es i ≡ Some f → slice_get actuals (suc k + i) ≡ Some f
 get_more es k actuals e at i f h = let same : k + suc i ≡ suc k + i = omega arith in subst (λ n. slice_get actuals n ≡ Some f) same (at (suc i) f h)
 
-decl_formal : (role : Role) (what : DeclaredTree) (i : ℕ) → kind_declared role what ≡ a_formal i → ⊥
-decl_formal role boolean i e = cc
-decl_formal role (range lo hi) i e = cc
-decl_formal role (members ms) i e = cc
-decl_formal role (instance m as') i e = cc
-
 module _ (p : ProgramTree) (accepted : IsAccepted p) where
   -- an instance that an item declares has as many actuals as its module has formals
   pub record Counted (m : Text) (actuals : List Formula) : Type 0 where

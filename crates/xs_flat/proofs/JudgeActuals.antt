@@ -1,12 +1,10 @@
 -- What is known of the formals of an instance tells what is wrong with its actuals.
-use Rattle.std.proofs.Common.{◌≡◌, ℕ, zero, suc, ◌+◌, arith, Bool, true, false, List, [], ◌∷◌, Option, Some, None, refl, sym, ◌∙◌, ap, subst}
-use Rattle.std.specs.Prelude.{◌↔◌, slice_get, if◌then◌else◌}
+use Rattle.std.proofs.Common.{◌≡◌, ℕ, zero, suc, ◌+◌, arith, true, false, List, [], ◌∷◌, Option, Some, None, refl, sym, ◌∙◌, ap, subst}
+use Rattle.std.specs.Prelude.{◌↔◌, slice_get}
 use Rattle.std.proofs.lemmas.List.{append-nil}
 use Rattle.xs_tree.specs.Tree.{leaf}
-use Rattle.xs_tree.specs.Texts.{same_text, is_among}
 use Rattle.xs_tree.specs.ProgramTree.{Text, Path, Formula, ModuleTree, ProgramTree}
 use Rattle.xs_tree.specs.Scope.{Place, a_formal, an_instance, Key, actual_key, Meaning, an_expression_at, Means, means_in, find_module, kind_after_formals, kind_in_sections, kind_at, module_of_kind, module_at, actual_of_kind, plain_name, through_actual, through_plain, by_kind}
-use Rattle.xs_tree.proofs.ValueLaws.{same_text_refl}
 use Rattle.xs_flat_laws.specs.Looks.{Look, at_actual, plain_of, step_kind, step_of, look_after, ComesBack, MeetsLoop, MeansNothing}
 use Rattle.xs_flat_laws.specs.Resolved.{has_next}
 use Rattle.xs_flat_laws.specs.Rules.{has_twice, ActualHasNoMeaning, ActualLoops}
@@ -26,9 +24,7 @@ use Rattle.xs_flat.proofs.JudgeNames.{not_nothing, definition_circles}
 use Rattle.xs_flat.proofs.JudgeLists.{never}
 use Rattle.xs_scope.proofs.KeyLaws.{same_means}
 use Rattle.xs_scope.proofs.LookFound.{no_loop_meant}
-use Rattle.xs_tree.proofs.OneTree.{same_text_equal}
 use Rattle.std.proofs.lemmas.Option.{none-some as none_some, same_Some as some_same}
-use Rattle.std.proofs.lemmas.Bool.{or_parts as neither}
 use Rattle.xs_scope.proofs.HeadKinds.{formal_first as formal_place}
 use Rattle.xs_scope.proofs.Frames.{actual_there as nth_get}
 
@@ -77,19 +73,6 @@ known_definition p n needs at x (known.Means (found.Symbol i)) h key place e k =
 known_definition p n needs at x known.Circle h key place e k = absurd (no_loop_meant p at (x ∷ []) (an_expression_at key place e) k (back_loops p at x h))
 known_definition p n needs at x known.Begun h key place e k = absurd h
 known_definition p n needs at x known.Unknown h key place e k = absurd h
-
--- The formal of a number, where no two have one name.
-not_among : (fs : List Text) (i : ℕ) (x y : Text) → slice_get fs i ≡ Some x → is_among fs y ≡ false → same_text y x ≡ false
-not_among [] i x y e h = absurd (none_some x e)
-not_among (z ∷ fs) zero x y e h = by_test (same_text y x) refl
-  where
-    by_test : (b : Bool) → same_text y x ≡ b → same_text y x ≡ false
-    by_test false t = t
-    by_test true t =
-        let s : (same_text z y ≡ false) × (is_among fs y ≡ false) = neither _ _ h in
-        let same : z ≡ y = some_same z x e ∙ sym (same_text_equal y x t) in
-        never (sym s.0 ∙ ap (λ w. same_text w y) same ∙ same_text_refl y)
-not_among (z ∷ fs) (suc i) x y e h = let s : (same_text z y ≡ false) × (is_among fs y ≡ false) = neither _ _ h in not_among fs i x y e s.1
 
 -- An actual with its formal.
 pub record IsFormalOf (p : ProgramTree) (at : Place) (own : Text) (index : ℕ) (x : Text) (e : Formula) : Type 0 where

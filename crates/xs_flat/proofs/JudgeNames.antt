@@ -15,7 +15,7 @@ use Rattle.xs_flat_laws.proofs.Walkable.{main_is_there}
 use Rattle.xs_tree.specs.ModelTree.{role_of}
 use Rattle.xs_scope.specs.SceneTree.{Denotes, IsFound}
 use Rattle.xs_scope.specs.NeedsTree.{AreNeeds, KeyReadsInput, HasInput, HasCircle, keys_of}
-use Rattle.xs_flat.specs.Verdicts.{is_without_value, mark_or, mark_at, is_input_found, is_circle_found}
+use Rattle.xs_flat.specs.Verdicts.{is_without_value, is_input_found, is_circle_found}
 use Rattle.xs_tree.specs.declared.model.Role.TheVariants.{State, Input, Frozen}
 use Rattle.xs_scope.specs.declared.needs.Needs.{Needs}
 use Rattle.xs_scope.specs.declared.walk.Meaning.{Meaning as Found}
@@ -24,6 +24,7 @@ use Rattle.xs_flat.proofs.JudgeLists.{never}
 use Rattle.xs_scope.proofs.KeyLaws.{same_means, get_map}
 use Rattle.xs_scope.proofs.LookFound.{no_loop_meant}
 use Rattle.std.proofs.lemmas.Option.{none-some as none_some}
+use Rattle.xs_scope.specs.Links.{is_marked, told_mark}
 
 pub not_nothing : (p : ProgramTree) (at : Place) (name : Path) (m : Meaning) → Means p at name m → MeansNothing p at name → ⊥
 not_nothing p at name m h k = none_some m (sym (k.no_meaning h.0) ∙ h.1)
@@ -102,11 +103,11 @@ found_kind p walkable k role at x d =
 
 -- The marks of a definition.
 mark_of : (R : Key → Bool → Type 0) (p : ProgramTree) (marks : List Bool) → EachBoth R (keys_of p) marks → (k : ℕ) (key : Key) (at : Place) (e : Formula) →
-    Denotes p (found.Definition k) (an_expression_at key at e) → R key (mark_at marks k)
+    Denotes p (found.Definition k) (an_expression_at key at e) → R key (is_marked marks k)
 mark_of R p marks both k key at e d =
     let listed : slice_get (keys_of p) k ≡ Some d.0.key = get_map (λ (r : Root). r.key) (roots_of p) k d.0 d.1 in
     let m : (b : Bool) × (slice_get marks k ≡ Some b) × R d.0.key b = both_at R (keys_of p) marks k d.0.key both listed in
-    subst (λ q. R q (mark_at marks k)) d.2 (subst (R d.0.key) (sym (ap mark_or m.1)) m.2)
+    subst (λ q. R q (is_marked marks k)) d.2 (subst (R d.0.key) (sym (ap told_mark m.1)) m.2)
 
 pub definition_circles : (p : ProgramTree) (n : Needs) → AreNeeds p n → (k : ℕ) (key : Key) (at : Place) (e : Formula) →
     Denotes p (found.Definition k) (an_expression_at key at e) → HasCircle p key (is_circle_found n (found.Definition k))

@@ -1,14 +1,13 @@
 -- What the tables of a scene hold at an instance: its module, its items with their meanings, and the instances that it declares.
-use Rattle.std.proofs.Common.{◌≡◌, ℕ, suc, ◌+◌, Bool, true, false, List, [], ◌∷◌, ◌++◌, length, Some, refl, sym, ◌∙◌, ap, subst, eqb-true}
-use Rattle.std.specs.Prelude.{slice_get, codes, nat_eq, flat_map, if◌then◌else◌, Vec}
+use Rattle.std.proofs.Common.{◌≡◌, ℕ, Bool, true, false, List, [], ◌∷◌, ◌++◌, length, Some, refl, sym, ◌∙◌, ap, subst, eqb-true}
+use Rattle.std.specs.Prelude.{slice_get, codes, nat_eq, flat_map, Vec}
 use Rattle.std.specs.declared.alloc.Global.{Global}
-use Rattle.xs_tree.specs.Texts.{same_text}
 use Rattle.xs_tree.specs.ProgramTree.{Text, Formula, instance, DeclTree, ModuleTree, ProgramTree}
 use Rattle.xs_tree.specs.Scope.{Place, Role, Kind, an_instance, kind_declared, kind_at, module_at, find_module}
-use Rattle.xs_tree.specs.Trace.{Each, IsInstance}
+use Rattle.xs_tree.specs.Trace.{IsInstance}
 use Rattle.xs_tree.specs.Values.{opposite}
 use Rattle.xs_tree.specs.Flat.{FlatInstance}
-use Rattle.xs_flat_laws.specs.Items.{a_declaration, NumberedItem, NumberedModule, items_of, items_named, modules_from, Visit, visits_of, walk, visits, instances_of}
+use Rattle.xs_flat_laws.specs.Items.{a_declaration, NumberedItem, items_of, items_named, Visit, visits_of, walk, visits, instances_of}
 use Rattle.xs_flat_laws.specs.Rules.{is_other_count, is_miscounted, names_of_item, is_name_again, IsWalkable}
 use Rattle.xs_flat_laws.specs.Model.{EachBoth}
 use Rattle.xs_flat_laws.proofs.Conditions.{each_at}
@@ -25,7 +24,6 @@ use Rattle.xs_scope.specs.declared.walk.Meaning.{Meaning as Found}
 use Rattle.xs_scope.specs.declared.walk.Spot.{Spot}
 use Rattle.xs_flat.proofs.BuildRoots.{counts_kept}
 use Rattle.xs_flat_laws.proofs.Meant.{formals_once}
-use Rattle.std.proofs.lemmas.Option.{none-some as none_some, same_Some as some_same}
 use Rattle.xs_scope.proofs.EnterLaws.{get_here as get_split}
 
 -- an instance with its module
@@ -100,16 +98,6 @@ same_count p walkable d v name actuals m what named = sym (eqb-true (length m.fo
       where
         differ : true ≡ false → nat_eq (length m.formals) (length actuals) ≡ true
         differ q = cc
-
--- a module that is found breaks no rule of its formals
-found_in : (P : ModuleTree → Type 0) (p : ProgramTree) (n : ℕ) (before : List ModuleTree) (x : Text) (m : ModuleTree) → find_module p x ≡ Some m →
-    Each (λ (k : NumberedModule). P k.tree) (modules_from n before p) → P m
-found_in P [] n before x m e h = absurd (none_some m e)
-found_in P (first ∷ more) n before x m e h = by_name (same_text first.name x) refl (λ found. found_in P more (n + suc (length (items_of first))) (before ++ first ∷ []) x m found h.1)
-  where
-    by_name : (b : Bool) → same_text first.name x ≡ b → (find_module more x ≡ Some m → P m) → P m
-    by_name true t rest = subst P (some_same first m (sym (ap (λ b. if b then Some first else find_module more x) t) ∙ e)) h.0
-    by_name false t rest = rest (sym (ap (λ b. if b then Some first else find_module more x) t) ∙ e)
 
 -- The spot of an instance.
 pub record HasSpot (s : Scene) (k : ℕ) (at : FlatInstance) : Type 0 where

@@ -1,5 +1,5 @@
 -- An expression that breaks no rule is resolved over each reading of the model, and one that breaks some is told the least.
-use Rattle.std.proofs.Common.{◌≡◌, ℕ, ◌<◌, ◌≤◌, Bool, true, false, not, ◌&&◌, List, [], ◌∷◌, length, Option, Some, None, refl, sym, ◌∙◌, ap, subst, arith}
+use Rattle.std.proofs.Common.{◌≡◌, ℕ, Bool, true, false, not, ◌&&◌, List, [], ◌∷◌, length, Some, None, refl, sym, ◌∙◌, ap, subst}
 use Rattle.std.specs.Prelude.{slice_get, map, IfSome}
 use Rattle.std.proofs.lemmas.List.{length-map}
 use Rattle.xs_tree.specs.Tree.{Tree}
@@ -7,13 +7,11 @@ use Rattle.xs_tree.specs.ProgramTree.{Text, Formula, ProgramTree}
 use Rattle.xs_tree.specs.Leaves.{tree_map}
 use Rattle.xs_tree.specs.Scope.{Place}
 use Rattle.xs_tree.specs.Flat.{FlatLeaf, FlatInstance, FlatVariable, FlatFormula, FlatModel}
-use Rattle.xs_flat_laws.specs.Resolved.{has_next, Definition, IsSound}
+use Rattle.xs_flat_laws.specs.Resolved.{Definition, IsSound}
 use Rattle.xs_flat_laws.specs.Items.{Visit, instances_of, variables_of}
-use Rattle.xs_flat_laws.specs.Rules as rules
-use Rattle.xs_flat_laws.specs.Rules.{number_of, no_main, main_has_parameters, double_module, double_name, no_such_module, wrong_count, module_loop, no_such_name, not_a_target, double_assign, define_loop, next_here, input_here, too_many, SomeHasNoValue, IsAccepted, expression_of}
+use Rattle.xs_flat_laws.specs.Rules.{no_main, main_has_parameters, double_module, double_name, no_such_module, wrong_count, module_loop, no_such_name, not_a_target, double_assign, define_loop, next_here, input_here, too_many, SomeHasNoValue, IsAccepted, expression_of}
 use Rattle.xs_flat_laws.specs.Model.{EachBoth, symbols_of, IsVariableOf, IsDefinitionOf, IsFlatOf}
 use Rattle.xs_scope.specs.declared.bounds.Bounds.{Bounds}
-use Rattle.xs_scope.specs.declared.fault.Rule.{Rule}
 use Rattle.xs_scope.specs.declared.fault.Rule.TheVariants.{NoSuchName, NextHere, InputHere}
 use Rattle.xs_scope.specs.declared.fault.FlatFault.{FlatFault}
 use Rattle.xs_flat.specs.declared.values.Judged.{Judged}
@@ -28,7 +26,7 @@ use Rattle.xs_scope.specs.NeedsTree.{IsKeyAt, AreNeeds}
 use Rattle.xs_scope.specs.Walked.{IsDeclaredBy}
 use Rattle.xs_flat.specs.Judging.{IsJudged}
 use Rattle.xs_flat.specs.ResolverOf.{leaf_at, leaf_by, resolver, AreKnown}
-use Rattle.xs_flat_laws.specs.ValueRules.{BreaksValue, IsLeastBroken}
+use Rattle.xs_flat_laws.specs.ValueRules.{IsLeastBroken}
 use Rattle.xs_flat_laws.specs.ResolvedAt.{IsResolvedAt}
 use Rattle.xs_flat.specs.ResolvedAt.{IsAt, IsValueFault, IsValueKept}
 use Rattle.xs_flat.proofs.BuildLeaves.{order, bounds_with, value_known}
@@ -105,84 +103,10 @@ module _ (s : Scene) (n : Needs) (is : IsScene s) (needs : AreNeeds (program_of 
       same : bounds_with (program_of s) (length n.order.items) ≡ bounds_made (length m.variables) (length m.symbols) (length m.definitions)
       same = cc (variables, symbols, many)
 
--- The least rule.
+-- No rule is broken.
 module _ (p : ProgramTree) (at : Place) (inputs : Bool) (e : Formula) where
-  nothing_before : (bound : ℕ) → bound ≤ 8 → (other : rules.Rule) → number_of other < bound → BreaksValue p at inputs e other → ⊥
-  nothing_before bound few no_main less b = b
-  nothing_before bound few main_has_parameters less b = b
-  nothing_before bound few double_module less b = b
-  nothing_before bound few double_name less b = b
-  nothing_before bound few no_such_module less b = b
-  nothing_before bound few wrong_count less b = b
-  nothing_before bound few module_loop less b = b
-  nothing_before bound few no_such_name less b = omega (arith, few, less)
-  nothing_before bound few not_a_target less b = b
-  nothing_before bound few double_assign less b = b
-  nothing_before bound few define_loop less b = b
-  nothing_before bound few next_here less b = omega (arith, few, less)
-  nothing_before bound few input_here less b = omega (arith, few, less)
-  nothing_before bound few too_many less b = b
-
-  before_next : (SomeHasNoValue p at e → ⊥) → (other : rules.Rule) → number_of other < 12 → BreaksValue p at inputs e other → ⊥
-  before_next value no_main less b = b
-  before_next value main_has_parameters less b = b
-  before_next value double_module less b = b
-  before_next value double_name less b = b
-  before_next value no_such_module less b = b
-  before_next value wrong_count less b = b
-  before_next value module_loop less b = b
-  before_next value no_such_name less b = value b
-  before_next value not_a_target less b = b
-  before_next value double_assign less b = b
-  before_next value define_loop less b = b
-  before_next value next_here less b = omega (arith, less)
-  before_next value input_here less b = omega (arith, less)
-  before_next value too_many less b = b
-
-  before_input : (SomeHasNoValue p at e → ⊥) → has_next e ≡ false → (other : rules.Rule) → number_of other < 13 → BreaksValue p at inputs e other → ⊥
-  before_input value now no_main less b = b
-  before_input value now main_has_parameters less b = b
-  before_input value now double_module less b = b
-  before_input value now double_name less b = b
-  before_input value now no_such_module less b = b
-  before_input value now wrong_count less b = b
-  before_input value now module_loop less b = b
-  before_input value now no_such_name less b = value b
-  before_input value now not_a_target less b = b
-  before_input value now double_assign less b = b
-  before_input value now define_loop less b = b
-  before_input value now next_here less b = let bad : true ≡ false = sym b ∙ now in cc
-  before_input value now input_here less b = omega (arith, less)
-  before_input value now too_many less b = b
-
   no_value : (j : Judged) → IsJudged p at e j → j.no_value ≡ false → SomeHasNoValue p at e → ⊥
   no_value j is f bad = let both : true ≡ false = sym (is.no_value.1 bad) ∙ f in cc
-
-  both_parts : (a b : Bool) → (a && not b) ≡ true → (a ≡ true) × (b ≡ false)
-  both_parts true false h = (refl, refl)
-  both_parts true true h = cc
-  both_parts false true h = cc
-  both_parts false false h = cc
-
-  value_fault_of : (rule told : Rule) → Some told ≡ Some rule → IfSome (rule_of told) (IsLeastBroken p at inputs e) → IfSome (rule_of rule) (λ r. (◌≡◌ {A = ℕ} 0 0) × IsLeastBroken p at inputs e r)
-  value_fault_of rule told same h = let one : told ≡ rule = cc in subst (λ r. IfSome (rule_of r) (λ r. (◌≡◌ {A = ℕ} 0 0) × IsLeastBroken p at inputs e r)) one (with_item (rule_of told) h)
-    where
-      with_item : (o : Option rules.Rule) → IfSome o (IsLeastBroken p at inputs e) → IfSome o (λ r. (◌≡◌ {A = ℕ} 0 0) × IsLeastBroken p at inputs e r)
-      with_item None h = tt
-      with_item (Some r) h = (refl, h)
-
-  pub least_told : (j : Judged) → IsJudged p at e j → (rule : Rule) → first_of ((j.no_value, NoSuchName) ∷ (j.next, NextHere) ∷ (j.input && not inputs, InputHere) ∷ []) ≡ Some rule →
-      IsValueFault p at inputs e (record { rule = rule; item = 0 })
-  least_told j is rule h = by_flags j.no_value j.next (j.input && not inputs) refl refl refl h
-    where
-      by_flags : (a b c : Bool) → j.no_value ≡ a → j.next ≡ b → (j.input && not inputs) ≡ c → first_of ((a, NoSuchName) ∷ (b, NextHere) ∷ (c, InputHere) ∷ []) ≡ Some rule →
-          IfSome (rule_of rule) (λ r. (◌≡◌ {A = ℕ} 0 0) × IsLeastBroken p at inputs e r)
-      by_flags true b c ea eb ec t = value_fault_of rule NoSuchName t (record { broken = is.no_value.0 ea; lowest = nothing_before 8 (omega arith) })
-      by_flags false true c ea eb ec t = value_fault_of rule NextHere t (record { broken = sym is.next ∙ eb; lowest = before_next (no_value j is ea) })
-      by_flags false false true ea eb ec t =
-          let parts : (j.input ≡ true) × (inputs ≡ false) = both_parts j.input inputs ec in
-          value_fault_of rule InputHere t (record { broken = (parts.1, is.input.0 parts.0); lowest = before_input (no_value j is ea) (sym is.next ∙ eb) })
-      by_flags false false false ea eb ec t = cc
 
   pub none_told : (j : Judged) → IsJudged p at e j → first_of ((j.no_value, NoSuchName) ∷ (j.next, NextHere) ∷ (j.input && not inputs, InputHere) ∷ []) ≡ None → SomeHasNoValue p at e → ⊥
   none_told j is h = by_flag j.no_value refl h

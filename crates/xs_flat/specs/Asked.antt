@@ -30,6 +30,7 @@ pub record Told : Type 0 where
   pub item : ℕ
   pub number : ℕ
 
+-- a formula of the code, with what its names got
 abbrev pub told : FormulaOf → Told
 told f = record { tree = told_tree f.value; item = f.item; number = f.«instance» }
 
@@ -67,6 +68,7 @@ clause_tree (clause.Now x e) = now_among x.now (tree_of e.now)
 clause_tree (clause.Next x e) = next_among x.now (tree_of e.now)
 clause_tree (clause.Kept x) = kept x.now
 
+-- what the code takes an item to ask
 abbrev pub clauses_told : Option Clause → List Condition
 clauses_told None = []
 clauses_told (Some c) = clause_tree c ∷ []
@@ -101,6 +103,7 @@ AreConditionsKnown s n b what =
 abbrev pub asked_conditions : (Path → Option FlatLeaf) → ℕ → ℕ → List Condition → List Told
 asked_conditions q spot item cs = map (λ c. record { tree = asked_condition q c; item = item; number = spot }) cs
 
+-- what an item asks at the instance of a number, of the conditions that are asked for
 abbrev pub asked_item : (Path → Option FlatLeaf) → ℕ → (Item → List Condition) → NumberedItem → List Told
 asked_item q spot what i = asked_conditions q spot i.number (what i.item)
 
@@ -123,5 +126,6 @@ abbrev pub instance_in : Spot → Option Names → List FlatInstance
 instance_in spot None = []
 instance_in spot (Some names) = record { place = place_of spot.path; module_name = names.«module».now.name } ∷ []
 
+-- the instance with the name of its module, where that is there
 abbrev pub instance_told : Scene → Spot → List FlatInstance
 instance_told s spot = instance_in spot (slice_get s.modules.list.items spot.«module»)

@@ -29,6 +29,7 @@ meant_by s spot (Some (local.Item place)) = own_at s spot place
 meant_by s spot (Some (local.Formal i)) = found.Nothing
 meant_by s spot None = found.Nothing
 
+-- what an instance's own name means there
 abbrev pub local_meant : Scene → ℕ → Text → Found
 local_meant s spot x = meant_by s spot (local_at s spot x)
 
@@ -45,21 +46,25 @@ may_assign (found.Symbol k) when = false
 may_assign found.Nothing when = false
 may_assign found.Loop when = false
 
+-- an assignment of each moment
 abbrev pub is_always : Moment → Bool
 is_always Always = true
 is_always First = false
 is_always After = false
 
+-- an assignment of the first moment
 abbrev pub is_first : Moment → Bool
 is_first First = true
 is_first Always = false
 is_first After = false
 
+-- an assignment of the next moment
 abbrev pub is_after : Moment → Bool
 is_after After = true
 is_after Always = false
 is_after First = false
 
+-- no assignment speaks of the target
 abbrev pub no_times : Times
 no_times = record { always = false; first = false; after = false }
 
@@ -91,6 +96,7 @@ assigns_at test x (an_init e) = false
 assigns_at test x (an_invar e) = false
 assigns_at test x (a_trans e) = false
 
+-- one of the items assigns the variable, at a moment that passes the test
 abbrev pub some_assigns : (Moment → Bool) → Text → List Item → Bool
 some_assigns test x [] = false
 some_assigns test x (i ∷ is) = assigns_at test x i || some_assigns test x is
@@ -134,6 +140,7 @@ abbrev pub IsFaultAt : ProgramTree → Site → Option FlatFault → Type 0
 IsFaultAt p site None = IsTold p site None
 IsFaultAt p site (Some f) = IsTold p site (Some f.rule) × (f.item ≡ item_of site)
 
+-- the fault of the item at a place; and where there is none, the times then are those up to it
 pub record IsPlaceTold (p : ProgramTree) (spot place : ℕ) (old new : List (Bor (List ℕ) × Times)) (o : Option FlatFault) : Type 0 where
   pub told : (at : FlatInstance) → slice_get (instances_of p) spot ≡ Some at → (i : NumberedItem) → slice_get (items_named p at.module_name) place ≡ Some i →
       AreTimes old i.before → IsFaultAt p (a_use at i) o

@@ -7,6 +7,7 @@ use Rattle.xs_flat_laws.specs.Resolved.{leaves_in, has_next}
 use Rattle.xs_flat_laws.specs.Rules.{SomeHasNoValue, GivesInput, next_under_next, leaves_under}
 use Rattle.xs_flat.specs.declared.values.Judged.{Judged}
 
+-- what is judged of an expression is true of it
 pub record IsJudged (p : ProgramTree) (at : Place) (e : Formula) (j : Judged) : Type 0 where
   pub no_value : (j.no_value ≡ true) ↔ SomeHasNoValue p at e
   pub next : j.next ≡ has_next e

@@ -1,11 +1,17 @@
 -- An instance of a program by its number in the flat model, and which rule an expression breaks there.
-use Rattle.std.specs.Prelude.{◌≡◌, ℕ, Bool, Some, slice_get, IfSome}
-use Rattle.xs_tree.specs.ProgramTree.{Formula, ProgramTree}
+use Rattle.std.specs.Prelude.{◌≡◌, ℕ, Bool, false, Some, slice_get, IfSome, Result, IfOk, IfErr, OnOk}
+use Rattle.xs_tree.specs.ProgramTree.{Path, Formula, ProgramTree}
 use Rattle.xs_tree.specs.Scope.{Place}
+use Rattle.xs_tree.specs.Written.{tree_of}
 use Rattle.xs_tree.specs.Flat.{FlatInstance, FlatModel}
+use Rattle.xs_tree.specs.ModelTree.{flat_tree}
+use Rattle.xs_tree.specs.declared.expr.Expr.{Expr}
+use Rattle.xs_tree.specs.declared.model.Flat.{Flat}
 use Rattle.xs_flat_laws.specs.Rules.{Rule, IsAccepted}
 use Rattle.xs_flat_laws.specs.ValueRules.{BreaksValue, IsLeastBroken}
 use Rattle.xs_flat_laws.specs.Model.{IsFlatOf}
+use Rattle.xs_flat_laws.specs.Resolved.{has_next}
+use Rattle.xs_flat_laws.specs.ResolvedAt.{IsResolvedAt}
 use Rattle.xs_scope.specs.declared.fault.FlatFault.{FlatFault}
 use Rattle.xs_scope.specs.Faults.{rule_of}
 
@@ -22,3 +28,21 @@ IsValueKept p at inputs e = (r : Rule) → BreaksValue p at inputs e r → ⊥
 -- the fault is the least rule that the value breaks, at item 0, or want of memory
 abbrev pub IsValueFault : ProgramTree → Place → Bool → Formula → FlatFault → Type 0
 IsValueFault p at inputs e f = IfSome (rule_of f.rule) (λ r. (f.item ≡ 0) × IsLeastBroken p at inputs e r)
+
+-- What an answer for an expression tells at the instance of a number.
+
+-- what is made means what the expression means there
+abbrev pub ResolvesAt : ProgramTree → FlatModel → ℕ → Expr Path → Result (Expr Flat) FlatFault → Type 0
+ResolvesAt p m number e answer = (at : FlatInstance) → IsAt p m number at → IfOk answer (λ made. IsResolvedAt p m at.place (tree_of e) (flat_tree made))
+
+-- an expression that is resolved has no `next`
+abbrev pub HasNoNextAt : ProgramTree → FlatModel → ℕ → Expr Path → Result (Expr Flat) FlatFault → Type 0
+HasNoNextAt p m number e answer = (at : FlatInstance) → IsAt p m number at → OnOk answer (has_next (tree_of e) ≡ false)
+
+-- and breaks no rule there
+abbrev pub KeepsAt : ProgramTree → FlatModel → ℕ → Bool → Expr Path → Result (Expr Flat) FlatFault → Type 0
+KeepsAt p m number inputs e answer = (at : FlatInstance) → IsAt p m number at → OnOk answer (IsValueKept p at.place inputs (tree_of e))
+
+-- a refusal is the least rule that the expression breaks there, or want of memory
+abbrev pub TellsAt : ProgramTree → FlatModel → ℕ → Bool → Expr Path → Result (Expr Flat) FlatFault → Type 0
+TellsAt p m number inputs e answer = (at : FlatInstance) → IsAt p m number at → IfErr answer (IsValueFault p at.place inputs (tree_of e))

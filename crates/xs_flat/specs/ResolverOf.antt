@@ -43,6 +43,7 @@ abbrev pub number_from : ℕ → List FlatInstance → Place → Option ℕ
 number_from k [] at = None
 number_from k (i ∷ is) at = if same_place i.place at then Some k else number_from (suc k) is at
 
+-- what a name stands for at an instance, where the instance is there
 abbrev pub leaf_by : Scene → Needs → Option ℕ → Path → Option FlatLeaf
 leaf_by s n None name = None
 leaf_by s n (Some spot) name = leaf_at s n spot name
@@ -97,11 +98,14 @@ asked_tree q e = tree_map q (tree_of e)
 abbrev pub told_branch : Expr Flat × Expr Flat → Tree (Option FlatLeaf) × Tree (Option FlatLeaf)
 told_branch b = (told_tree b.0, told_tree b.1)
 
+-- a branch with what its names ask for
 abbrev pub asked_branch : (Path → Option FlatLeaf) → Expr Path × Expr Path → Tree (Option FlatLeaf) × Tree (Option FlatLeaf)
 asked_branch q b = (asked_tree q b.0, asked_tree q b.1)
 
+-- each name of an expression stands for something within the bounds
 abbrev pub IsKnown : (Path → Option FlatLeaf) → Bounds → Expr Path → Type 0
 IsKnown q b e = AreKnown q b (tree_of e)
 
+-- so of a branch
 abbrev pub IsBranchKnown : (Path → Option FlatLeaf) → Bounds → Expr Path × Expr Path → Type 0
 IsBranchKnown q b branch = IsKnown q b branch.0 × IsKnown q b branch.1

@@ -22,6 +22,7 @@ use Rattle.xs_scope.specs.declared.names.Formal.TheVariants as known
 use Rattle.xs_scope.specs.declared.needs.Needs.{Needs}
 use Rattle.xs_scope.specs.declared.walk.Meaning.{Meaning as Found}
 use Rattle.xs_scope.specs.declared.walk.Meaning.TheVariants as found
+use Rattle.xs_scope.specs.Links.{is_marked}
 
 -- a name with this meaning has no value
 abbrev pub is_without_value : Found → Bool
@@ -32,20 +33,12 @@ is_without_value (found.Variable k role) = false
 is_without_value (found.Definition k) = false
 is_without_value (found.Symbol k) = false
 
-abbrev pub mark_or : Option Bool → Bool
-mark_or None = false
-mark_or (Some b) = b
-
--- the mark of a definition
-abbrev pub mark_at : List Bool → ℕ → Bool
-mark_at marks k = mark_or (slice_get marks k)
-
 -- the meaning is an input, or a definition that reads one
 abbrev pub is_input_found : Needs → Found → Bool
 is_input_found n (found.Variable k Input) = true
 is_input_found n (found.Variable k State) = false
 is_input_found n (found.Variable k Frozen) = false
-is_input_found n (found.Definition k) = mark_at n.reads_input.items k
+is_input_found n (found.Definition k) = is_marked n.reads_input.items k
 is_input_found n found.Nothing = false
 is_input_found n found.Loop = false
 is_input_found n (found.Instance k) = false
@@ -53,17 +46,18 @@ is_input_found n (found.Symbol k) = false
 
 -- the meaning is a definition that is needed by itself
 abbrev pub is_circle_found : Needs → Found → Bool
-is_circle_found n (found.Definition k) = mark_at n.on_circle.items k
+is_circle_found n (found.Definition k) = is_marked n.on_circle.items k
 is_circle_found n (found.Variable k role) = false
 is_circle_found n found.Nothing = false
 is_circle_found n found.Loop = false
 is_circle_found n (found.Instance k) = false
 is_circle_found n (found.Symbol k) = false
 
--- the names of flagged ones, and those under `next`
+-- the names, without their flags
 abbrev pub names_in : {L : Type 0} → List (L × Bool) → List L
 names_in us = map (λ u. u.0) us
 
+-- the names of those that are flagged
 abbrev pub names_under : {L : Type 0} → List (L × Bool) → List L
 names_under [] = []
 names_under (u ∷ us) = if u.1 then u.0 ∷ names_under us else names_under us
@@ -123,6 +117,7 @@ is_nothing_known known.Circle = false
 is_nothing_known known.Begun = false
 is_nothing_known known.Unknown = false
 
+-- a formal that comes back to itself
 abbrev pub is_circle_known : Formal → Bool
 is_circle_known known.Circle = true
 is_circle_known (known.Means f) = false

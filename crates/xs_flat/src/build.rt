@@ -1,4 +1,10 @@
-//! The flat model of a scene that breaks no rule.
+//! The flat model of a scene that breaks no rule. [`build`] is the main function.
+//!
+//! The definitions come first, in the order that `Needs` gives, so that each names earlier ones alone; then the
+//! formulas of the first moment, of each moment and of each step, by instances and then items. Each formula keeps
+//! the item and the instance that it comes from, for the faults that the layers above tell.
+//!
+//! `judge` has been called before and has refused nothing, so nothing can be refused here but for want of memory.
 
 ghost use Rattle.std.specs.Prelude.{◌≡◌, Some, ◌++◌, ◌∷◌, [], true, length, map, flat_map, IfOk, IfErr, OnOk, slice_get};
 ghost use Rattle.xs_tree.specs.declared.expr.Op.TheVariants as op;
@@ -109,6 +115,7 @@ fn with_formulas(
     })
 }
 
+/// The instances of a scene, each by its path and the name of its module.
 fn instances_of(alloc: Global, scene: &Scene<'_>) -> Result<InstanceList, OutOfMemory>
     ensures { IfOk result (λ made. map instance_tree made ≡ flat_map (instance_told scene.now) scene.now.spots.items) }
 {
@@ -119,6 +126,7 @@ fn instances_of(alloc: Global, scene: &Scene<'_>) -> Result<InstanceList, OutOfM
     Ok(instances)
 }
 
+/// Appends an instance of the scene; one whose module is not there has no entry.
 fn add_instance(
     alloc: Global,
     scene: &Scene<'_>,
@@ -215,6 +223,7 @@ fn push_definition(
     list.push(formula(source, value)?)
 }
 
+/// An expression as a formula that knows where it comes from.
 fn formula(source: Source, value: Expr<Flat>) -> Result<Formula, OutOfMemory>
     ensures value { IfOk result (λ made. made.value ≡ value) }
     ensures told { IfOk result (λ made. told made ≡ record { tree = told_tree value; item = source.item; number = source.spot }) }
@@ -394,6 +403,7 @@ fn clause_value(
     }
 }
 
+/// That a variable has now one of the values of an expression.
 #[tactic(auto, using(xs_scope::proofs::ClosedLaws::closed_within))]
 fn now_value(
     alloc: Global,
@@ -413,6 +423,7 @@ fn now_value(
     Ok(within(alloc, Expr::Leaf(target), value)?)
 }
 
+/// That a variable has next one of the values of an expression.
 #[tactic(auto, using(xs_scope::proofs::ClosedLaws::closed_within))]
 fn next_value(
     alloc: Global,
@@ -432,6 +443,7 @@ fn next_value(
     Ok(within_next(alloc, target, value)?)
 }
 
+/// That a variable has next the value that it has now.
 #[tactic(auto, using(xs_scope::proofs::ClosedLaws::closed_within))]
 fn kept_value(
     alloc: Global,

@@ -2,7 +2,6 @@
 //! frozen variable as it is. [`clause_of`] is the main function.
 
 ghost use Rattle.std.specs.Prelude.{◌≡◌, Some, []};
-ghost use Rattle.xs_tree.specs.declared.expr.Op.TheVariants as op;
 ghost use Rattle.xs_tree.specs.Trace.{Each};
 ghost use Rattle.xs_tree.specs.Written.{tree_of};
 ghost use Rattle.xs_tree.specs.ProgramTree.{declared_tree};
@@ -48,6 +47,7 @@ pub(crate) fn clause_of<'a>(asked: Asked, item: Item<'a>) -> Option<Clause<'a>>
     }
 }
 
+/// What an item asks of the first moment.
 fn first_clause<'a>(item: Item<'a>) -> Option<Clause<'a>>
     ensures { clauses_told result ≡ first_conditions (item_tree item.entry) }
 {
@@ -61,6 +61,7 @@ fn first_clause<'a>(item: Item<'a>) -> Option<Clause<'a>>
     }
 }
 
+/// What an item asks of each moment.
 fn each_clause<'a>(item: Item<'a>) -> Option<Clause<'a>>
     ensures { clauses_told result ≡ each_conditions (item_tree item.entry) }
 {
@@ -74,6 +75,7 @@ fn each_clause<'a>(item: Item<'a>) -> Option<Clause<'a>>
     }
 }
 
+/// What an item asks of each step.
 fn step_clause<'a>(item: Item<'a>) -> Option<Clause<'a>>
     ensures { clauses_told result ≡ step_conditions (item_tree item.entry) }
 {
@@ -87,6 +89,7 @@ fn step_clause<'a>(item: Item<'a>) -> Option<Clause<'a>>
     }
 }
 
+/// What an item asks of each step because it declares a frozen variable.
 fn kept_clause<'a>(item: Item<'a>) -> Option<Clause<'a>>
     ensures { clauses_told result ≡ kept_conditions (item_tree item.entry) }
 {
@@ -96,6 +99,7 @@ fn kept_clause<'a>(item: Item<'a>) -> Option<Clause<'a>>
     }
 }
 
+/// That a declared variable keeps its value; an instance has none.
 fn kept_of<'a>(decl: &'a Decl) -> Option<Clause<'a>>
     ensures { clauses_told result ≡ kept_declared decl.now.name (declared_tree decl.now.what) }
 {
@@ -119,6 +123,7 @@ fn now_clause<'a>(assignment: &'a Assignment) -> Option<Clause<'a>>
     }
 }
 
+/// What an assignment to the next value asks; a dotted target asks nothing.
 fn next_clause<'a>(assignment: &'a Assignment) -> Option<Clause<'a>>
     ensures { clauses_told result ≡ assigned_step After assignment.now.target (tree_of assignment.now.value) }
 {

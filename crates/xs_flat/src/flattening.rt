@@ -1,4 +1,8 @@
-//! The public calls: a program's flat model, and expressions at one of its instances.
+//! The public calls: a program's flat model ([`flatten`]), and expressions at one of its instances ([`resolve_top`],
+//! [`resolve_at`], and [`Scope`] where many of them are read over one program).
+//!
+//! Each makes the tables of `xs_scope`, judges by `judge` or `values`, and builds by `build` or `resolve`. What breaks a
+//! rule of names is told as a [`FlatFault`]: its item is one of the program, or 0 for an expression that is none of its parts.
 
 ghost use Rattle.std.specs.Prelude.{◌≡◌, ◌∷◌, [], ◌↔◌, ◌&&◌, codes, not, true, false, None, IfOk, IfErr, OnOk, IsErrOf};
 ghost use Rattle.xs_tree.specs.ProgramTree.{ProgramTree, program_tree};
@@ -6,7 +10,7 @@ ghost use Rattle.xs_tree.specs.Scope.{find_module};
 ghost use Rattle.xs_scope.specs.declared.fault.Rule.TheVariants.{NoMain, NoSuchName, NextHere, InputHere};
 ghost use Rattle.xs_flat.specs.Shape.{shape};
 ghost use Rattle.xs_scope.specs.Closed.{is_closed, bounds_of, IsClosedModel};
-ghost use Rattle.xs_tree.specs.ModelTree.{model_tree, flat_tree};
+ghost use Rattle.xs_tree.specs.ModelTree.{model_tree};
 ghost use Rattle.xs_flat_laws.specs.FlatTrace.{NamesOwn};
 ghost use Rattle.xs_scope.specs.Faults.{first_of, IsFaultOf};
 ghost use Rattle.std.specs.Prelude.{Some};
@@ -17,12 +21,9 @@ ghost use Rattle.xs_scope.specs.Closed.{AreVariables};
 ghost use Rattle.xs_scope.specs.Walked.{AreDeclared};
 ghost use Rattle.xs_scope.specs.NeedsTree.{AreNeeds};
 ghost use Rattle.xs_flat.specs.ScopeOf.{IsScopeOf, IsAnyScope};
-ghost use Rattle.xs_flat_laws.specs.ResolvedAt.{IsResolvedAt};
-ghost use Rattle.xs_flat.specs.ResolvedAt.{IsAt, IsValueFault, IsValueKept};
-ghost use Rattle.xs_tree.specs.Flat.{FlatInstance, FlatModel as ModelTree};
+ghost use Rattle.xs_flat.specs.ResolvedAt.{ResolvesAt, HasNoNextAt, KeepsAt, TellsAt};
+ghost use Rattle.xs_tree.specs.Flat.{FlatModel as ModelTree};
 ghost use Rattle.xs_flat_laws.specs.Looks.{ActualsMean};
-ghost use Rattle.xs_flat_laws.specs.Resolved.{has_next};
-ghost use Rattle.xs_tree.specs.Written.{tree_of};
 
 use crate::build::build;
 use crate::judge::judge;
@@ -73,10 +74,10 @@ impl<'a> Scope<'a> {
         requires scope { IsAnyScope self.now }
         ensures shape { IfOk result (λ made. shape made ≡ shape e.now) }
         ensures closed { IfOk result (λ made. is_closed (bounds_of m.now) made ≡ true) }
-        ensures resolved { (p : ProgramTree) → IsScopeOf p self.now → (at : FlatInstance) → IsAt p (model_tree m.now) «instance» at → IfOk result (λ made. IsResolvedAt p (model_tree m.now) at.place (tree_of e.now) (flat_tree made)) }
-        ensures no_next { (p : ProgramTree) → IsScopeOf p self.now → (at : FlatInstance) → IsAt p (model_tree m.now) «instance» at → OnOk result (has_next (tree_of e.now) ≡ false) }
-        ensures kept { (p : ProgramTree) → IsScopeOf p self.now → (at : FlatInstance) → IsAt p (model_tree m.now) «instance» at → OnOk result (IsValueKept p at.place inputs (tree_of e.now)) }
-        ensures fault { (p : ProgramTree) → IsScopeOf p self.now → (at : FlatInstance) → IsAt p (model_tree m.now) «instance» at → IfErr result (IsValueFault p at.place inputs (tree_of e.now)) }
+        ensures resolved { (p : ProgramTree) → IsScopeOf p self.now → ResolvesAt p (model_tree m.now) «instance» e.now result }
+        ensures no_next { (p : ProgramTree) → IsScopeOf p self.now → HasNoNextAt p (model_tree m.now) «instance» e.now result }
+        ensures kept { (p : ProgramTree) → IsScopeOf p self.now → KeepsAt p (model_tree m.now) «instance» inputs e.now result }
+        ensures fault { (p : ProgramTree) → IsScopeOf p self.now → TellsAt p (model_tree m.now) «instance» inputs e.now result }
     {
         resolve_value(
             alloc,
@@ -90,6 +91,7 @@ impl<'a> Scope<'a> {
     }
 }
 
+/// The scope of a program whose module `main` stands at a place.
 #[tactic(auto, using(crate::proofs::FlatFaults::want_fault))]
 fn scope_from<'a>(alloc: Global, p: &'a Program, main: usize) -> Result<Scope<'a>, FlatFault>
     requires main { module_from 0 (program_tree p.now) (codes "main") ≡ Some main }
@@ -192,10 +194,10 @@ pub fn resolve_top(
 ) -> Result<Expr<Flat>, FlatFault>
     ensures shape { IfOk result (λ made. shape made ≡ shape e.now) }
     ensures closed { IfOk result (λ made. is_closed (bounds_of m.now) made ≡ true) }
-    ensures resolved { (at : FlatInstance) → IsAt (program_tree p.now) (model_tree m.now) 0 at → IfOk result (λ made. IsResolvedAt (program_tree p.now) (model_tree m.now) at.place (tree_of e.now) (flat_tree made)) }
-    ensures no_next { (at : FlatInstance) → IsAt (program_tree p.now) (model_tree m.now) 0 at → OnOk result (has_next (tree_of e.now) ≡ false) }
-    ensures kept { (at : FlatInstance) → IsAt (program_tree p.now) (model_tree m.now) 0 at → OnOk result (IsValueKept (program_tree p.now) at.place false (tree_of e.now)) }
-    ensures fault { (at : FlatInstance) → IsAt (program_tree p.now) (model_tree m.now) 0 at → IfErr result (IsValueFault (program_tree p.now) at.place false (tree_of e.now)) }
+    ensures resolved { ResolvesAt (program_tree p.now) (model_tree m.now) 0 e.now result }
+    ensures no_next { HasNoNextAt (program_tree p.now) (model_tree m.now) 0 e.now result }
+    ensures kept { KeepsAt (program_tree p.now) (model_tree m.now) 0 false e.now result }
+    ensures fault { TellsAt (program_tree p.now) (model_tree m.now) 0 false e.now result }
 {
     resolve_at(alloc, p, m, 0, false, e)
 }
@@ -212,10 +214,10 @@ pub fn resolve_at(
 ) -> Result<Expr<Flat>, FlatFault>
     ensures shape { IfOk result (λ made. shape made ≡ shape e.now) }
     ensures closed { IfOk result (λ made. is_closed (bounds_of m.now) made ≡ true) }
-    ensures resolved { (at : FlatInstance) → IsAt (program_tree p.now) (model_tree m.now) «instance» at → IfOk result (λ made. IsResolvedAt (program_tree p.now) (model_tree m.now) at.place (tree_of e.now) (flat_tree made)) }
-    ensures no_next { (at : FlatInstance) → IsAt (program_tree p.now) (model_tree m.now) «instance» at → OnOk result (has_next (tree_of e.now) ≡ false) }
-    ensures kept { (at : FlatInstance) → IsAt (program_tree p.now) (model_tree m.now) «instance» at → OnOk result (IsValueKept (program_tree p.now) at.place inputs (tree_of e.now)) }
-    ensures fault { (at : FlatInstance) → IsAt (program_tree p.now) (model_tree m.now) «instance» at → IfErr result (IsValueFault (program_tree p.now) at.place inputs (tree_of e.now)) }
+    ensures resolved { ResolvesAt (program_tree p.now) (model_tree m.now) «instance» e.now result }
+    ensures no_next { HasNoNextAt (program_tree p.now) (model_tree m.now) «instance» e.now result }
+    ensures kept { KeepsAt (program_tree p.now) (model_tree m.now) «instance» inputs e.now result }
+    ensures fault { TellsAt (program_tree p.now) (model_tree m.now) «instance» inputs e.now result }
 {
     match main_place(p.modules.as_slice()) {
         Some(main) => resolve_from(alloc, p, main, m, instance as usize, inputs, e),
@@ -239,10 +241,10 @@ fn resolve_from(
     requires main { module_from 0 (program_tree p.now) (codes "main") ≡ Some main }
     ensures shape { IfOk result (λ made. shape made ≡ shape e.now) }
     ensures closed { IfOk result (λ made. is_closed (bounds_of m.now) made ≡ true) }
-    ensures resolved { (at : FlatInstance) → IsAt (program_tree p.now) (model_tree m.now) spot at → IfOk result (λ made. IsResolvedAt (program_tree p.now) (model_tree m.now) at.place (tree_of e.now) (flat_tree made)) }
-    ensures no_next { (at : FlatInstance) → IsAt (program_tree p.now) (model_tree m.now) spot at → OnOk result (has_next (tree_of e.now) ≡ false) }
-    ensures kept { (at : FlatInstance) → IsAt (program_tree p.now) (model_tree m.now) spot at → OnOk result (IsValueKept (program_tree p.now) at.place inputs (tree_of e.now)) }
-    ensures fault { (at : FlatInstance) → IsAt (program_tree p.now) (model_tree m.now) spot at → IfErr result (IsValueFault (program_tree p.now) at.place inputs (tree_of e.now)) }
+    ensures resolved { ResolvesAt (program_tree p.now) (model_tree m.now) spot e.now result }
+    ensures no_next { HasNoNextAt (program_tree p.now) (model_tree m.now) spot e.now result }
+    ensures kept { KeepsAt (program_tree p.now) (model_tree m.now) spot inputs e.now result }
+    ensures fault { TellsAt (program_tree p.now) (model_tree m.now) spot inputs e.now result }
 {
     let (scene, _variables) = scene_of(alloc, p, main)?;
     resolve_in(alloc, &scene, m, spot, inputs, e)
@@ -260,10 +262,10 @@ fn resolve_in(
     requires scene { IsScene scene.now }
     ensures shape { IfOk result (λ made. shape made ≡ shape e.now) }
     ensures closed { IfOk result (λ made. is_closed (bounds_of m.now) made ≡ true) }
-    ensures resolved { (at : FlatInstance) → IsAt (program_of scene.now) (model_tree m.now) spot at → IfOk result (λ made. IsResolvedAt (program_of scene.now) (model_tree m.now) at.place (tree_of e.now) (flat_tree made)) }
-    ensures no_next { (at : FlatInstance) → IsAt (program_of scene.now) (model_tree m.now) spot at → OnOk result (has_next (tree_of e.now) ≡ false) }
-    ensures kept { (at : FlatInstance) → IsAt (program_of scene.now) (model_tree m.now) spot at → OnOk result (IsValueKept (program_of scene.now) at.place inputs (tree_of e.now)) }
-    ensures fault { (at : FlatInstance) → IsAt (program_of scene.now) (model_tree m.now) spot at → IfErr result (IsValueFault (program_of scene.now) at.place inputs (tree_of e.now)) }
+    ensures resolved { ResolvesAt (program_of scene.now) (model_tree m.now) spot e.now result }
+    ensures no_next { HasNoNextAt (program_of scene.now) (model_tree m.now) spot e.now result }
+    ensures kept { KeepsAt (program_of scene.now) (model_tree m.now) spot inputs e.now result }
+    ensures fault { TellsAt (program_of scene.now) (model_tree m.now) spot inputs e.now result }
 {
     let needs = Needs::of_scene(alloc, scene)?;
     resolve_value(alloc, scene, &needs, m, spot, inputs, e)
@@ -283,10 +285,10 @@ fn resolve_value(
     requires needs { AreNeeds (program_of scene.now) needs.now }
     ensures shape { IfOk result (λ made. shape made ≡ shape e.now) }
     ensures closed { IfOk result (λ made. is_closed (bounds_of m.now) made ≡ true) }
-    ensures resolved { (at : FlatInstance) → IsAt (program_of scene.now) (model_tree m.now) spot at → IfOk result (λ made. IsResolvedAt (program_of scene.now) (model_tree m.now) at.place (tree_of e.now) (flat_tree made)) }
-    ensures no_next { (at : FlatInstance) → IsAt (program_of scene.now) (model_tree m.now) spot at → OnOk result (has_next (tree_of e.now) ≡ false) }
-    ensures kept { (at : FlatInstance) → IsAt (program_of scene.now) (model_tree m.now) spot at → OnOk result (IsValueKept (program_of scene.now) at.place inputs (tree_of e.now)) }
-    ensures fault { (at : FlatInstance) → IsAt (program_of scene.now) (model_tree m.now) spot at → IfErr result (IsValueFault (program_of scene.now) at.place inputs (tree_of e.now)) }
+    ensures resolved { ResolvesAt (program_of scene.now) (model_tree m.now) spot e.now result }
+    ensures no_next { HasNoNextAt (program_of scene.now) (model_tree m.now) spot e.now result }
+    ensures kept { KeepsAt (program_of scene.now) (model_tree m.now) spot inputs e.now result }
+    ensures fault { TellsAt (program_of scene.now) (model_tree m.now) spot inputs e.now result }
 {
     let judged = judge_value(alloc, scene, needs, spot, e)?;
     match rule_at(judged, inputs) {

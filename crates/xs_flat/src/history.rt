@@ -1,4 +1,6 @@
 //! A model with one more bit for each fault, which tells whether the fault's mode stands or stood before.
+//! [`with_history`] is the main function. The search asks of such a model which faults a state has in its past, and
+//! so needs to look at no trace.
 
 ghost use Rattle.std.specs.Prelude.{◌≡◌, map, IfOk, OnOk};
 ghost use Rattle.xs_tree.specs.declared.expr.Op.TheVariants as op;

@@ -1,4 +1,9 @@
-//! The rules of names, targets and moments, tried by instances, then items, then numbers.
+//! The rules of names, targets and moments, tried by instances, then items, then numbers. [`judge`] is the main
+//! function; each kind of item has a function `judge_..` that asks `values` what may be wrong, and one `rule_of_..`
+//! that tells which rule that breaks first where the expression stands.
+//!
+//! Whether a target is assigned twice is known from the assignments before: for each target of an instance [`Times`] has
+//! the moments of which they speak.
 
 ghost use Rattle.std.specs.Prelude.{◌≡◌, ◌∷◌, [], if◌then◌else◌, IfOk, IfErr, OnOk};
 ghost use Rattle.std.specs.Prelude.{Some};
@@ -224,6 +229,7 @@ fn judge_step(
     Ok(rule_of_step(judged))
 }
 
+/// The first rule that the value of a define breaks.
 fn rule_of_definition(value: Judged, on_circle: bool) -> Option<Rule>
     ensures { result ≡ first_of ((value.no_value, NoSuchName) ∷ (on_circle, DefineLoop) ∷ (value.next, NextHere) ∷ []) }
 {
@@ -238,6 +244,7 @@ fn rule_of_definition(value: Judged, on_circle: bool) -> Option<Rule>
     }
 }
 
+/// The first rule that the actuals of an instance break.
 fn rule_of_actuals(actuals: JudgedActual) -> Option<Rule>
     ensures { result ≡ first_of ((actuals.no_value, NoSuchName) ∷ (actuals.circle, DefineLoop) ∷ (actuals.next, NextHere) ∷ []) }
 {
@@ -388,6 +395,7 @@ fn times_at(assigned: &IndexMap<&[u8], Times>, target: &[u8]) -> Times
     }
 }
 
+/// Notes the moments of which the assignments of a target speak.
 fn note_times<'a>(
     assigned: &mut IndexMap<&'a [u8], Times>,
     target: &'a [u8],

@@ -1,4 +1,6 @@
-//! Written expressions over the numbers of a flat model.
+//! Written expressions over the numbers of a flat model. [`resolve`] is the main function: a copy of the tree whose names
+//! are variables, definitions and symbols by their numbers. A name that has none is refused, so that what is made
+//! is within its bounds even where nobody has judged the expression before.
 
 ghost use Rattle.std.specs.Prelude.{◌≡◌, true, Some, IfOk, IfErr, map, slice_get};
 ghost use Rattle.std.specs.List.{list_all, All};
@@ -18,7 +20,7 @@ use xs_scope::walk::Meaning;
 use xs_tree::copy_model::boxed;
 use xs_tree::model::Flat;
 use xs_tree::{BranchList, Expr, ExprList};
-use xs_value::{Dotted, Items, OutOfMemory};
+use xs_value::{Dotted, Items};
 
 /// Where an expression is written, and what it may name: the instance, the item that a fault tells, and
 /// the numbers that are there.
@@ -70,6 +72,7 @@ pub(crate) fn resolve(
     }
 }
 
+/// An operand, resolved and boxed.
 #[cycle(resolve)]
 fn resolve_boxed(
     alloc: Global,
@@ -87,6 +90,7 @@ fn resolve_boxed(
     Ok(boxed(alloc, made)?)
 }
 
+/// The members of a set, resolved.
 #[cycle(resolve)]
 #[tactic(auto, using(xs_scope::proofs::ClosedLaws::all_push))]
 fn resolve_members(
@@ -108,6 +112,7 @@ fn resolve_members(
     Ok(made)
 }
 
+/// The branches of a case, resolved.
 #[cycle(resolve)]
 #[tactic(auto, using(xs_scope::proofs::ClosedLaws::all_push))]
 fn resolve_branches(

@@ -11,7 +11,8 @@ ghost use Rattle.xs_flat_laws.specs.Items.{instances_of};
 ghost use Rattle.xs_scope.specs.SceneTree.{IsScene, program_of};
 ghost use Rattle.xs_scope.specs.NeedsTree.{AreNeeds};
 ghost use Rattle.xs_flat.specs.Judging.{IsJudged};
-ghost use Rattle.xs_flat.specs.Verdicts.{is_without_value, mark_at, is_input_found, is_circle_found, with_flags, AreJudged, is_nothing_known, is_circle_known, is_circle_meant, JudgesActual, JudgesActuals, joined_actual};
+ghost use Rattle.xs_scope.specs.Links.{is_marked as is_marked_in};
+ghost use Rattle.xs_flat.specs.Verdicts.{is_without_value, is_input_found, is_circle_found, with_flags, AreJudged, is_nothing_known, is_circle_known, is_circle_meant, JudgesActual, JudgesActuals, joined_actual};
 
 use std::alloc::Global;
 use xs_scope::names::{Formal, Scene};
@@ -265,7 +266,7 @@ fn is_input(needs: &Needs, meaning: Meaning) -> bool
 
 /// Whether the definition of a number is marked.
 fn is_marked(marks: &[bool], definition: usize) -> bool
-    ensures { result ≡ mark_at marks.now definition }
+    ensures { result ≡ is_marked_in marks.now definition }
 {
     match marks.get(definition) {
         Some(mark) => *mark,

@@ -131,7 +131,7 @@ apart_pairs : (vs : List Visit) → Apart vs → Pairwise Differ vs
 apart_pairs [] h = tt
 apart_pairs (v ∷ vs) h = (h.0, apart_pairs vs h.1)
 
-one_variable : (p : ProgramTree) → IsWalkable p → (i j : ℕ) (v w : Visit) → slice_get (variables_of p) i ≡ Some v → slice_get (variables_of p) j ≡ Some w → v.place ≡ w.place → v.decl.name ≡ w.decl.name → i ≡ j
+pub one_variable : (p : ProgramTree) → IsWalkable p → (i j : ℕ) (v w : Visit) → slice_get (variables_of p) i ≡ Some v → slice_get (variables_of p) j ≡ Some w → v.place ≡ w.place → v.decl.name ≡ w.decl.name → i ≡ j
 one_variable p walkable i j v w e f places names =
     let main : (k : ModuleTree) × (find_module p (codes "main") ≡ Some k) = main_is_there p walkable in
     pairwise_same Differ (variables_of p) i j v w (apart_pairs (variables_of p) (variables_apart p walkable main.0 main.1)) e f (λ d. d places names) (λ d. d (sym places) (sym names))

@@ -1,6 +1,6 @@
 -- The names that a weave adds are words that are not reserved.
 use Rattle.std.proofs.Common.{◌≡◌, ℕ, Bool, true, false, List, [], ◌∷◌, ◌++◌, Some, None, codes, refl, subst, sym, arith, append_assoc}
-use Rattle.std.specs.Prelude.{not, nat_eq, ◌&&◌, ◌||◌, ◌==◌}
+use Rattle.std.specs.Prelude.{not, nat_eq, ◌||◌, ◌==◌}
 use Rattle.std.specs.List.{list_all}
 use Rattle.std.proofs.lemmas.Bool.Decides.{nat_tests}
 use Rattle.xs_lexer.specs.Bytes.{is_word_start}

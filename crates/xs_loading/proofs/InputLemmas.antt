@@ -19,10 +19,9 @@ use Rattle.xs_loading.specs.declared.wrong.Wrong.{Wrong}
 use Rattle.xs_loading.specs.declared.wrong.Wrong.TheVariants as wrong
 use Rattle.xs_loading.specs.declared.input.Input.TheVariants as input
 use Rattle.xs_loading.specs.declared.input.Stop.TheVariants as stop
-use Rattle.xs_loading.specs.declared.faults.Made.{Made}
 use Rattle.xs_loading.specs.Wrongs.{IfRefused}
-use Rattle.xs_loading.specs.Models.{IsModelText, IsLawful, IsWrongModel}
-use Rattle.xs_loading.specs.Inputs.{refusal_at, stop_at, modules_named, IsRefusedFile, HasBytes, RefusesModel, model_file, model_bytes, HoldsModel, IsWrongFaults, RefusesFaults, faults_file, faults_bytes, IsMade, HoldsExtension}
+use Rattle.xs_loading.specs.Models.{IsLawful, IsWrongModel}
+use Rattle.xs_loading.specs.Inputs.{refusal_at, stop_at, modules_named, IsRefusedFile, HasBytes, RefusesModel, model_file, model_bytes, IsWrongFaults, RefusesFaults, faults_file, faults_bytes}
 
 -- a stop at the one refusal is a stop at no other
 pub same_refusal : {x r : Refusal} → stop.Refused x ≡ stop.Refused r → r ≡ x

@@ -15,7 +15,6 @@ use Rattle.xs_eval.specs.Named.{IsEvaluable}
 use Rattle.xs_eval.proofs.ModelLaws.{evaluable}
 use Rattle.xs_extend.specs.NumberedFaults.{AreNumbered}
 use Rattle.xs_extend.specs.declared.faults.WovenFault.{WovenFault}
-use Rattle.xs_report.specs.declared.fault.TraceFault.TheVariants as fault
 use Rattle.xs_text_laws.specs.Given.{IsPrintable, HasItsSymbols}
 use Rattle.xs_text_laws.proofs.Named.{named_is_printable}
 use Rattle.xs_text_laws.proofs.FlatNames.{flat_models_named}

@@ -21,14 +21,16 @@ bits_of c = state_bits (whole_of c)
 abbrev pub Told : Type 0
 Told = Option (List NamedFile)
 
+-- bytes that were said, where it is told
 abbrev pub Said : Type 0
 Said = Option (List ℕ)
 
--- the files once the text was written, where there is one; and a part of that
+-- the files once the text was written, where there is one
 abbrev pub told_maybe : Told → Text → Option (List ℕ) → Told
 told_maybe told name None = told
 told_maybe told name (Some bytes) = told_with told name bytes
 
+-- a beginning of the text was written, where there is a text
 abbrev pub WritesPrefixMaybe : Told → Told → Text → Option (List ℕ) → Type 0
 WritesPrefixMaybe before after name None = after ≡ before
 WritesPrefixMaybe before after name (Some bytes) = WritesPrefix before after name bytes

@@ -36,6 +36,7 @@ pub record Case : Type 0 where
   pub flat : FlatModel
   pub modes : List Mode
 
+-- the program of a case's extension
 abbrev pub extension_of : Case → ProgramTree
 extension_of c = woven c.program c.instructions
 

@@ -20,5 +20,6 @@ pub record IsAnalysable (p : ProgramTree) (l : LoadedCase) (word : Text) (tree :
 abbrev pub case_in : LoadedEvent → Case
 case_in l = case_of (program_tree l.model.program) l.case
 
+-- what was loaded is a case and the top event that the word spells
 abbrev pub IsEvent : Text → LoadedEvent → Type 0
 IsEvent word l = IsAnalysable (program_tree l.model.program) l.case word (flat_tree l.top)

@@ -15,6 +15,7 @@ use Rattle.xs_loading.specs.declared.status.Refusal.TheVariants as refusal
 use Rattle.xs_loading.specs.declared.status.Status.{Status}
 use Rattle.xs_loading.specs.declared.status.Status.TheVariants as status
 
+-- the number that the program ends with
 abbrev pub number_of : Status → ℤ
 number_of status.Done = pos 0
 number_of (status.Bounded k) = pos 1
@@ -26,6 +27,7 @@ number_of (status.NotAccepted o) = pos 6
 number_of status.Desk = pos 7
 number_of status.Memory = pos 8
 
+-- the status that a run ends with after a refusal
 abbrev pub status_of : Refusal → Status
 status_of (refusal.Words fault) = status.Words fault
 status_of (refusal.Model fault) = status.Model fault
@@ -33,6 +35,7 @@ status_of (refusal.Faults fault) = status.Faults fault
 status_of (refusal.Top fault) = status.Top fault
 status_of (refusal.NotAccepted o) = status.NotAccepted o
 
+-- the part as the line names it
 abbrev pub part_text : Part → Text
 part_text part.Absent = codes "absent "
 part_text part.Length = codes "length "

@@ -5,6 +5,7 @@ use Rattle.xs_loading.specs.declared.wrong.Wrong.TheVariants as wrong
 use Rattle.xs_loading.specs.declared.input.Stop.{Stop}
 use Rattle.xs_loading.specs.declared.input.Stop.TheVariants as stop
 
+-- a top event that is wrong is refused
 abbrev pub stop_at_top : Wrong → Stop
 stop_at_top (wrong.Refused fault) = stop.Refused (refusal.Top fault)
 stop_at_top wrong.Memory = stop.Memory

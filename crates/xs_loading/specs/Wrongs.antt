@@ -62,6 +62,7 @@ flat_rule rule.InputHere at = broken part.Flat 13 at
 flat_rule rule.TooMany at = broken part.Flat 14 at
 flat_rule rule.OutOfMemory at = wrong.Memory
 
+-- so of a fault of names with its item
 abbrev pub flat_wrong : FlatFault → Wrong
 flat_wrong fault = flat_rule fault.rule fault.item
 
@@ -79,6 +80,7 @@ type_rule kind.TooLarge at = broken part.Kinds 9 at
 type_rule kind.DoubleMember at = broken part.Kinds 10 at
 type_rule kind.OutOfMemory at = wrong.Memory
 
+-- so of a fault of kinds with its item
 abbrev pub type_wrong : TypeFault → Wrong
 type_wrong fault = type_rule fault.rule fault.item
 
@@ -103,6 +105,7 @@ cause_wrong (cause.Weave rule) at = weave_rule rule at
 cause_wrong (cause.Flat fault) at = flat_rule fault.rule at
 cause_wrong (cause.Kinds fault) at = type_rule fault.rule at
 
+-- so of a fault of the weave with its item
 abbrev pub weave_wrong : WeaveFault → Wrong
 weave_wrong fault = cause_wrong fault.cause fault.item
 

@@ -1,4 +1,6 @@
-// A model, its extension and a top event, as the work on them has them in memory.
+// A model, its extension and a top event, as the work on them has them in memory ([`load_event`]): the three loads one
+// after the other, each with its refusal.
+
 ghost use Rattle.std.specs.Prelude.{◌≡◌, ◌≤◌, IfOk, IfSome, IsErrOf};
 ghost use Rattle.xs_desk.specs.Desk.{Rose};
 ghost use Rattle.xs_loading.specs.Cases.{HoldsCase};
@@ -36,7 +38,6 @@ pub fn load_event<D: Desk>(
     ensures event { IfOk result (IsEvent word.now) }
     ensures refused { (r : Refusal) → IsErrOf result (stop.Refused r) → IfSome (D.files desk.old) (λ files. RefusesEvent files model.now faults.now word.now r) }
     ensures failed { IsErrOf result stop.Desk → Rose (D.faults desk.old) (D.faults desk.new) }
-
     ensures files { D.files desk.new ≡ D.files desk.old }
     ensures said { D.said desk.new ≡ D.said desk.old }
     ensures later { D.faults desk.old ≤ D.faults desk.new }

@@ -1,4 +1,6 @@
-// The input files, as bytes.
+// The input files, as bytes ([`read_input`]), and why work stops: a refusal of a file, a call of the desk that failed, or
+// want of memory ([`Stop`]).
+
 ghost use Rattle.std.specs.Prelude.{◌≡◌, ◌≤◌, length, IfOk, IfSome, IsErrOf};
 ghost use Rattle.xs_desk.specs.Desk.{Rose};
 ghost use Rattle.xs_loading.specs.Inputs.{refusal_at, stop_at, IsRefusedFile, HasBytes};
@@ -72,7 +74,6 @@ pub(crate) fn read_input<D: Desk>(
     ensures refused { (r : Refusal) → IsErrOf result (stop.Refused r) →
         (fault : InputFault) × (r ≡ refusal_at input fault) × IfSome (D.files desk.old) (λ files. IsRefusedFile files name.now fault) }
     ensures failed { IsErrOf result stop.Desk → Rose (D.faults desk.old) (D.faults desk.new) }
-
     ensures files { D.files desk.new ≡ D.files desk.old }
     ensures said { D.said desk.new ≡ D.said desk.old }
     ensures later { D.faults desk.old ≤ D.faults desk.new }

@@ -1,4 +1,6 @@
-// An instruction file as the extension of a model in memory, with its faults and its flat model.
+// An instruction file as the extension of a model in memory, with its faults and its flat model ([`load_case`]), for the
+// work that reads and searches it. The same rules are tried as where an extension is written.
+
 ghost use Rattle.std.specs.Prelude.{◌≡◌, ◌≤◌, length, map, IfOk, OnOk, IfErr, IfSome, IsErrOf};
 ghost use Rattle.xs_desk.specs.Desk.{Rose};
 ghost use Rattle.xs_tree.specs.ProgramTree.{program_tree};
@@ -59,7 +61,6 @@ pub fn load_case<D: Desk>(
     ensures loaded { IfOk result (IsLoaded (program_tree model.now.program)) }
     ensures refused { (r : Refusal) → IsErrOf result (stop.Refused r) → IfSome (D.files desk.old) (λ files. RefusesFaults files name.now (program_tree model.now.program) r) }
     ensures failed { IsErrOf result stop.Desk → Rose (D.faults desk.old) (D.faults desk.new) }
-
     ensures files { D.files desk.new ≡ D.files desk.old }
     ensures said { D.said desk.new ≡ D.said desk.old }
     ensures later { D.faults desk.old ≤ D.faults desk.new }

@@ -1,4 +1,6 @@
-// A model file as a program, and that as a flat model with its kinds.
+// A model file as a program, and that as a flat model with its kinds ([`load_model`]). The first reader or layer that
+// refuses it is told.
+
 ghost use Rattle.std.specs.Prelude.{◌≡◌, ◌≤◌, length, IfOk, IfErr, IfSome, IsErrOf};
 ghost use Rattle.xs_desk.specs.Desk.{Rose};
 ghost use Rattle.xs_tree.specs.ProgramTree.{program_tree};
@@ -34,7 +36,6 @@ pub fn load_model<D: Desk>(alloc: Global, desk: &mut D, name: &str) -> Result<Lo
     ensures spelled { IfOk result (λ l. IsSpelled (program_tree l.program)) }
     ensures refused { (r : Refusal) → IsErrOf result (stop.Refused r) → IfSome (D.files desk.old) (λ files. RefusesModel files name.now r) }
     ensures failed { IsErrOf result stop.Desk → Rose (D.faults desk.old) (D.faults desk.new) }
-
     ensures files { D.files desk.new ≡ D.files desk.old }
     ensures said { D.said desk.new ≡ D.said desk.old }
     ensures later { D.faults desk.old ≤ D.faults desk.new }

@@ -1,4 +1,6 @@
-// What is said once the extension is written, and the names of faults.
+// What is said once the extension is written: the number of faults, and each with its number and name. The name of a
+// fault is made here from its path, slice and mode ([`append_name`]).
+
 ghost use Rattle.std.specs.Prelude.{◌≡◌, ◌++◌, IfOk, OnOk, codes, map};
 ghost use Rattle.xs_extend.specs.WovenFaults.{place_of, fault_tree};
 ghost use Rattle.xs_report.specs.FaultText.{name_of, faults_text};

@@ -1,4 +1,6 @@
-// How a run ends, and the line that a refusal says.
+// How a run ends ([`Status`]), with which number, and the line that a refusal says ([`Refusal::line`]). Each line is made
+// of fixed words and numbers alone, so that nothing of a file's text gets into it.
+
 ghost use Rattle.std.specs.Prelude.{◌≡◌, ◌≤ℤ◌, pos, ◌++◌, IfOk, OnOk, codes};
 ghost use Rattle.std.specs.Fmt.{decimal};
 ghost use Rattle.xs_loading.specs.Statuses.{number_of, status_of, part_text, fault_text, words_text, refusal_text, why_text, moment_text, line_text};

@@ -1,6 +1,8 @@
-// The word of a top event, judged on the model and read over its extension.
-ghost use Rattle.std.specs.Prelude.{◌≡◌, ◌≤◌, [], false, length, IfOk, OnOk, IfErr, IsErrOf};
-ghost use Rattle.xs_tree.specs.ProgramTree.{Formula, program_tree};
+// The word of a top event, judged on the model and read over its extension ([`load_top`]). What is wrong with it is told
+// over the model that the user wrote; over the extension it then breaks no rule.
+
+ghost use Rattle.std.specs.Prelude.{◌≡◌, [], false, IfOk, OnOk, IfErr, IsErrOf};
+ghost use Rattle.xs_tree.specs.ProgramTree.{program_tree};
 ghost use Rattle.xs_tree.specs.Written.{tree_of};
 ghost use Rattle.xs_tree.specs.ModelTree.{model_tree, flat_tree};
 ghost use Rattle.xs_flat_laws.specs.Model.{IsFlatOf};

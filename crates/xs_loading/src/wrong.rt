@@ -1,4 +1,6 @@
-// What is wrong with an input, from the faults of the layers that read it.
+// What is wrong with an input ([`Wrong`]), from the faults of the layers that read it: each has a `From`, by which its rule
+// becomes a part, a number and a place.
+
 ghost use Rattle.std.specs.Prelude.{◌≡◌};
 ghost use Rattle.xs_loading.specs.declared.wrong.Wrong.TheVariants as wrong;
 ghost use Rattle.xs_loading.specs.Wrongs.{lex_wrong, parse_wrong, flat_wrong, type_wrong, weave_wrong, weave_rule};

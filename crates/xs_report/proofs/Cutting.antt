@@ -52,8 +52,3 @@ no_words line name rest value e f b r none n w q =
     let same : (name ≡ n) × (rest ≡ 32 ∷ 61 ∷ 32 ∷ w) = same_words line name rest n w e f b q in
     let values : w ≡ value = tail_of 32 32 w value (tail_of 61 61 (32 ∷ w) (32 ∷ value) (tail_of 32 32 (61 ∷ 32 ∷ w) (61 ∷ 32 ∷ value) (sym same.1 ∙ r))) in
     none (subst IsSpaceless (sym same.0) (q.name_word.some, q.name_word.free)) (subst IsSpaceless values (q.value_word.some, q.value_word.free))
-
--- The line of a moment.
-same_after : (front xs ys : List ℕ) → front ++ xs ≡ front ++ ys → xs ≡ ys
-same_after [] xs ys e = e
-same_after (x ∷ front) xs ys e = same_after front xs ys (tail_of x x (front ++ xs) (front ++ ys) e)

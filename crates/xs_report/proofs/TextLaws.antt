@@ -1,16 +1,15 @@
 -- Text that is appended piece by piece.
-use Rattle.std.proofs.Common.{◌≡◌, ℕ, zero, suc, ◌+◌, ◌<◌, ◌≤◌, List, [], ◌∷◌, ◌++◌, length, get_or, drop, Some, None, refl, sym, ◌∙◌, ap, subst, arith, add-one, reverse}
+use Rattle.std.proofs.Common.{◌≡◌, ℕ, zero, suc, ◌+◌, ◌<◌, ◌≤◌, List, [], ◌∷◌, ◌++◌, length, drop, Some, None, refl, sym, ◌∙◌, ap, arith, add-one, reverse}
 use Rattle.std.specs.Prelude.{slice_get, map}
-use Rattle.std.proofs.lemmas.List.{append_assoc, append-nil, length-map, length-reverse, drop_more, reverse-reverse}
+use Rattle.std.proofs.lemmas.List.{append_assoc, append-nil, length-map, length-reverse, reverse-reverse}
 use Rattle.xs_tree.specs.ProgramTree.{Text}
 use Rattle.xs_tree.specs.Text.{dotted_text}
 use Rattle.xs_tree.specs.Flat.{FlatVariable, FlatModel}
 use Rattle.xs_text_laws.specs.Lines.{fed}
-use Rattle.xs_text_laws.proofs.Cuts.{fed_joined}
 use Rattle.xs_tree.specs.declared.model.Variable.{Variable}
 use Rattle.xs_tree.specs.ModelTree.{name_in, place_in, variable_tree}
 use Rattle.xs_value.specs.declared.value.Value.{Value as Numbered}
-use Rattle.xs_text_laws.specs.TraceText.{value_line, value_lines, moment_line, trace_lines}
+use Rattle.xs_text_laws.specs.TraceText.{value_line, value_lines, trace_lines}
 use Rattle.xs_report.specs.Names.{printed_name}
 use Rattle.xs_report.specs.Told.{told_value, told_moment, told_trace}
 

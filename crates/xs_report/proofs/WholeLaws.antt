@@ -15,13 +15,12 @@ use Rattle.xs_text_laws.specs.Lines.{Line, fed, IsLine}
 use Rattle.xs_text_laws.proofs.Separators.{fed_end}
 use Rattle.xs_text_laws.specs.TraceText.{value_text, moment_line}
 use Rattle.xs_text_laws.specs.Given.{IsPrintable, GivesMoments, BytesGive}
-use Rattle.xs_text_laws.specs.Wrong.{LineFault, moments_after, AreSound, IsLeast, IsWrongLine, Lacks, Misses}
+use Rattle.xs_text_laws.specs.Wrong.{moments_after, Lacks, Misses}
 use Rattle.xs_text_laws.proofs.OneTrace.{no_items}
 use Rattle.xs_text_laws.proofs.Moments.{after_both, none_begins, no_fewer, next_begins}
 use Rattle.xs_text_laws.proofs.LineJudged.{AllAre}
 use Rattle.xs_text_laws.proofs.TextJudged.{Own, cut_own, all_bare}
 use Rattle.xs_value.specs.declared.value.Value.{Value as Numbered}
-use Rattle.xs_report.specs.declared.fault.Cause.TheVariants as cause
 use Rattle.xs_report.specs.declared.fault.TraceFault.{TraceFault}
 use Rattle.xs_report.specs.declared.fault.TraceFault.TheVariants as fault
 use Rattle.xs_report.specs.declared.reading.Slot.{Slot}
@@ -60,21 +59,6 @@ first_after m r n s none nothing same zeroth many =
     all_same zero i t e = absurd (never t e)
     all_same (suc n) zero t e = sym (some_same s t e)
     all_same (suc n) (suc i) t e = all_same n i t e
-
--- A wrong line.
-line_wrong : (m : FlatModel) (bytes rest line after : List ℕ) (lines : List Line) (f : LineFault) → AreSound m lines → bytes ≡ fed lines ++ rest → AllByRecursion IsLine lines → IsLineThen rest line after → IsLeast m lines line f →
-    IsWrongLine m bytes f (suc (length lines))
-line_wrong m bytes rest line after lines f sound e ls l least = record {
-  before = lines;
-  line = line;
-  after = 10 ∷ after;
-  lie = e ∙ ap (λ bs. fed lines ++ bs) l.lie;
-  are_lines = ls;
-  is_line = l.is_line;
-  sound = sound;
-  place = refl;
-  cause = inl (after, refl, least);
-}
 
 -- bytes after the last line feed
 pub tail_wrong : (m : FlatModel) (bytes rest : List ℕ) (lines : List Line) (r : Reading) (number : ℕ) → IsAfter m lines r → bytes ≡ fed lines ++ rest → AllByRecursion IsLine lines → IsLine rest → rest ≢ [] → number ≡ suc (length lines) →

@@ -61,6 +61,7 @@ pub record IsAfter (m : FlatModel) (lines : List Line) (r : Reading) : Type 0 wh
 abbrev pub is_complete : ℕ → List Slot → List (List Numbered) → Bool
 is_complete begun slots moments = nat_lt 0 begun && (nat_eq (length moments) (begun - 1) && list_all (λ s. nat_eq s.moment begun) slots)
 
+-- what each variable was given last
 abbrev pub values_of : List Slot → List Numbered
 values_of slots = map (λ s. s.value) slots
 
@@ -72,10 +73,11 @@ with_last begun slots moments = if is_complete begun slots moments then moments 
 abbrev pub ended : Reading → Reading
 ended r = record r { moments = with_last r.begun r.slots.items r.moments }
 
--- the variable of this number has no value in the last moment, or has one
+-- the variable of this number has no value in the last moment
 abbrev pub IsFree : Reading → ℕ → Type 0
 IsFree r i = (s : Slot) → slice_get r.slots.items i ≡ Some s → s.moment ≢ r.begun
 
+-- the variable of this number has a value in the last moment
 abbrev pub IsTaken : Reading → ℕ → Type 0
 IsTaken r i = (s : Slot) → slice_get r.slots.items i ≡ Some s → s.moment ≡ r.begun
 

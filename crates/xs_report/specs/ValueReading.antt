@@ -16,15 +16,17 @@ pub record HasText (symbols : List Text) (text : Text) (v : Numbered) : Type 0 w
   pub stands : StandsFor symbols v (told_value symbols v)
   pub same : value_text (told_value symbols v) ≡ text
 
--- the classes of values; a number is one of 64 bits
+-- the value is a truth value
 abbrev pub IsTruth : Numbered → Type 0
 IsTruth (ABool b) = Unit {0}
 IsTruth _ = ⊥
 
+-- the value is a number of 64 bits
 abbrev pub IsNumber : Numbered → Type 0
 IsNumber (Num n) = mag n < 2 ^ 63
 IsNumber _ = ⊥
 
+-- the value is a symbol
 abbrev pub IsSymbol : Numbered → Type 0
 IsSymbol (Sym i) = Unit {0}
 IsSymbol _ = ⊥

@@ -1,6 +1,6 @@
-//! The report of an analysis.
+//! The report of an analysis ([`print_analysis`]), piece by piece at the end of one buffer. Its text stands in `xs_text_laws`.
 
-ghost use Rattle.std.specs.Prelude.{◌≡◌, ◌∷◌, ◌++◌, codes, map, length, IfOk, OnOk};
+ghost use Rattle.std.specs.Prelude.{◌≡◌, ◌++◌, codes, map, length, IfOk, OnOk};
 ghost use Rattle.std.specs.Fmt.{decimal};
 ghost use Rattle.xs_tree.specs.ModelTree.{model_tree};
 ghost use Rattle.xs_text_laws.specs.AnalysisText.{numbers_text, set_lines, trace_parts, first_line, ending_text, size_line, analysis_text};

@@ -1,4 +1,5 @@
-//! What is wrong first with the text of a trace.
+//! What is wrong first with the text of a trace ([`TraceFault`]). Inside, a line that is wrong has a cause, which becomes a
+//! fault with the line's number.
 
 ghost use Rattle.std.specs.Prelude.{◌≡◌};
 ghost use Rattle.xs_report.specs.Faults.{fault_at};

@@ -1,4 +1,4 @@
-//! The lines of the faults of a report.
+//! The lines of the faults of a report: their number, and each with its own number and name ([`print_faults`]).
 
 ghost use Rattle.std.specs.Prelude.{◌≡◌, ◌++◌, map, IfOk, OnOk};
 ghost use Rattle.xs_report.specs.FaultText.{name_of, fault_line, fault_lines, faults_text};

@@ -1,4 +1,5 @@
-//! Bytes cut into lines, and lines into words.
+//! Bytes cut into lines, and lines into words: [`first_line`] and [`equation_words`]. What is cut off is borrowed from the
+//! text, and nothing is copied.
 
 ghost use Rattle.std.specs.Prelude.{◌≡◌, ◌≢◌, ◌↔◌, ℕ, ◌<◌, ◌≤◌, [], ◌∷◌, ◌++◌, List, codes, length, slice_index, IsTrue, IfOk, MatchOption};
 ghost use Rattle.xs_text_laws.specs.Lines.{IsLine};

@@ -1,4 +1,5 @@
-//! The variables of a model by their printed names, and their values by their texts.
+//! The variables of a model by their printed names, and their values by their texts ([`Lookup`]), as the lines of a trace
+//! name them.
 
 ghost use Rattle.std.specs.Prelude.{◌≡◌, ◌<◌, length, map, IfOk, IfSome};
 ghost use Rattle.xs_tree.specs.ModelTree.{model_tree};

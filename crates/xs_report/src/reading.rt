@@ -1,12 +1,13 @@
-//! A text of a trace read line by line.
+//! A text of a trace read line by line: [`Reading::take`] takes a line, and [`Reading::end_moment`] keeps the moment that
+//! ends. A variable's slot has the number of the moment in which it was given last, so no moment begins by clearing them.
 
-ghost use Rattle.std.specs.Prelude.{◌≡◌, ◌<◌, ◌-◌, ◌^◌, [], ◌∷◌, ◌++◌, List, length, map, replicate, false, nat_eq, IfOk, IfErr, OnOk};
+ghost use Rattle.std.specs.Prelude.{◌≡◌, ◌<◌, ◌-◌, ◌^◌, [], ◌∷◌, ◌++◌, List, length, replicate, false, nat_eq, IfOk, IfErr, OnOk};
 ghost use Rattle.std.specs.List.{list_all};
 ghost use Rattle.xs_text_laws.specs.Lines.{Line, IsLine};
 ghost use Rattle.xs_tree.specs.ModelTree.{model_tree};
 ghost use Rattle.xs_text_laws.specs.Given.{IsPrintable};
 ghost use Rattle.xs_report.specs.Faults.{IsCauseOf};
-ghost use Rattle.xs_report.specs.Reading.{IsAfter, is_complete, values_of, ended, IsFree, IsTaken, IsGivenTo, Gives, IsRefusal, Begins, GivesLine, IsRefusedLine};
+ghost use Rattle.xs_report.specs.Reading.{IsAfter, is_complete, values_of, ended, IsTaken, IsGivenTo, Gives, IsRefusal, Begins, GivesLine, IsRefusedLine};
 ghost use Rattle.xs_text_laws.specs.Given.{HasItsSymbols};
 ghost use Rattle.xs_report.specs.declared.fault.Cause.TheVariants as cause;
 ghost use Rattle.xs_value.specs.declared.value.Value.TheVariants.{Bool as ABool};

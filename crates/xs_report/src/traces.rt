@@ -1,4 +1,4 @@
-//! The text of a trace.
+//! The text of a trace ([`print_trace`]): each moment, and in it each variable's value.
 
 ghost use Rattle.std.specs.Prelude.{◌≡◌, ◌∷◌, ◌++◌, [], map, slice_get, IfOk, OnOk};
 ghost use Rattle.xs_text_laws.specs.Lines.{fed};
@@ -20,6 +20,7 @@ pub fn print_trace(alloc: Global, t: &Typed, trace: &MomentList) -> Result<ByteL
     print_moments(alloc, t.model(), trace.as_slice())
 }
 
+/// The text of moments over a flat model.
 #[tactic(auto, using(crate::proofs::TextLaws::text_rules))]
 fn print_moments(alloc: Global, m: &FlatModel, trace: &[Valuation]) -> Result<ByteList, OutOfMemory>
     ensures { IfOk result (λ text. text ≡ trace_text (model_tree m.now) (told_trace m.now.symbols trace.now)) }

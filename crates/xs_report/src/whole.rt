@@ -1,6 +1,7 @@
-//! The trace that a text gives.
+//! The trace that a text gives, or what is wrong with it first ([`read_trace`]): line after line, and moments that lack a
+//! value after all faults of lines.
 
-ghost use Rattle.std.specs.Prelude.{◌≡◌, IfOk, IfErr};
+ghost use Rattle.std.specs.Prelude.{IfOk, IfErr};
 ghost use Rattle.xs_tree.specs.ModelTree.{model_tree};
 ghost use Rattle.xs_text_laws.specs.Given.{IsPrintable, BytesGive};
 ghost use Rattle.xs_report.specs.Told.{told_trace};

@@ -1,5 +1,5 @@
 -- Formals are answered one after another, until all are.
-use Rattle.std.proofs.Common.{◌≡◌, ℕ, ◌+◌, ◌<◌, ◌≤◌, arith, Bool, true, false, ltb, List, [], length, Option, Some, None, Vec, refl, sym, ◌∙◌, ap, subst}
+use Rattle.std.proofs.Common.{◌≡◌, ℕ, ◌+◌, ◌<◌, ◌≤◌, arith, Bool, true, false, ltb, List, length, Option, Some, None, Vec, refl, sym, ◌∙◌, ap, subst}
 use Rattle.std.specs.Prelude.{slice_get, option_map}
 use Rattle.std.specs.declared.alloc.Global.{Global}
 use Rattle.std.proofs.lemmas.Bool.{ltb-true, ltb-false}
@@ -12,22 +12,18 @@ use Rattle.xs_scope.specs.SceneTree.{formals_of, program_of}
 use Rattle.xs_scope.specs.FoundAt.{formal_or, formal_at}
 use Rattle.xs_scope.specs.Steps.{is_open, row_count_in, row_count}
 use Rattle.xs_scope.specs.Known.{rows, row_or, formal_of, IsOpen, IsSized, IsSameButFormals}
-use Rattle.xs_scope.specs.Waiting.{IsReady, has_frame, AreSettled, IsRowAnswered}
+use Rattle.xs_scope.specs.Waiting.{IsReady, AreSettled, IsRowAnswered}
 use Rattle.xs_scope.specs.declared.names.Formal.{Formal}
 use Rattle.xs_scope.specs.declared.names.Scene.{Scene}
-use Rattle.xs_scope.specs.declared.formals.Frame.{Frame}
 use Rattle.xs_scope.proofs.SceneItems.{get_map}
 use Rattle.xs_scope.proofs.Naming.{program_same}
-use Rattle.xs_scope.proofs.NamingItems.{get_within}
 use Rattle.xs_scope.proofs.Frames.{formal_by_rows}
 use Rattle.xs_scope.proofs.Turns.{not_open}
 use Rattle.std.proofs.lemmas.Option.{same_Some as of_some, slice_get_past as get_past, slice_get_within as get_less}
+use Rattle.xs_flat_laws.proofs.Lists.{get_within}
 
 pub settled_then : (a b c : List (List Formal)) → AreSettled a b → AreSettled b c → AreSettled a c
 settled_then a b c h g k i is = h k i (g k i is)
-
-pub none_waits : (rs : List (List Formal)) (fs : List Frame) (k i : ℕ) → fs ≡ [] → (IsOpen (formal_of rs k i) → has_frame fs k i ≡ true) → IsOpen (formal_of rs k i) → ⊥
-none_waits rs fs k i none waits is = let bad : false ≡ true = sym (ap (λ gs. has_frame gs k i) none) ∙ waits is in cc
 
 -- the formals of an instance
 abbrev pub AnsweredTo : Scene → ℕ → ℕ → Type 0
@@ -111,9 +107,6 @@ row_done old new spot n same ready ready' all answered i = by_order (ltb i n) re
 -- the instances
 abbrev pub RowsTo : Scene → ℕ → Type 0
 RowsTo s n = (k : ℕ) → k < n → IsRowAnswered (rows s) k
-
-pub rows_more : (mid new : Scene) (n : ℕ) → RowsTo mid n → AreSettled (rows mid) (rows new) → IsRowAnswered (rows new) n → RowsTo new (n + 1)
-rows_more mid new n before settled here = one_more (IsRowAnswered (rows new)) n (λ k lt i is. before k lt i (settled k i is)) here
 
 pub rows_done : (old new : Scene) (n : ℕ) → IsSameButFormals old new → IsReady old → IsReady new → length old.formals.items ≤ n → RowsTo new n → (spot : ℕ) → IsRowAnswered (rows new) spot
 rows_done old new n same ready ready' all answered spot = by_order (ltb spot n) refl

@@ -7,11 +7,10 @@ use Rattle.std.proofs.lemmas.Bool.{ltb-true, ltb-false}
 use Rattle.std.proofs.lemmas.List.{append-nil, take_all}
 use Rattle.xs_tree.specs.declared.expr.Expr.{Expr}
 use Rattle.xs_tree.specs.ProgramTree.{Text, Path, Formula, instance, ProgramTree}
-use Rattle.xs_tree.specs.Texts.{same_text}
 use Rattle.xs_tree.specs.Written.{tree_of}
 use Rattle.xs_tree.specs.Scope.{Place, Kind, a_formal, a_variable, a_define, an_instance, undeclared, Meaning, a_variable_at, an_expression_at, an_instance_at, a_symbol, Means, formal_from, kind_after_formals, kind_at, module_at, plain_name, actual_of_kind, nth_formula}
 use Rattle.xs_tree.specs.Flat.{FlatInstance}
-use Rattle.xs_flat_laws.specs.Items.{a_definition, an_assignment, some_constants, an_init, an_invar, a_trans, items_of, instances_of}
+use Rattle.xs_flat_laws.specs.Items.{items_of, instances_of}
 use Rattle.xs_flat_laws.specs.Looks.{Look, at_actual, plain_of, step_kind, step_of, look_after}
 use Rattle.xs_flat_laws.proofs.EndLaws.{steps_more}
 use Rattle.xs_flat_laws.proofs.KindLaws.{kind_in_items}
@@ -280,17 +279,6 @@ module _ (s : Scene) (ready : IsReady s) (f : Frame) (is : IsFrame (program_of s
     where
       symbol_other : (k : ℕ) → found.Symbol n ≡ found.Instance k → ⊥
       symbol_other k h = cc
-
--- a look-up that has gone on goes on further
-pub on_itself : (p : ProgramTree) (rs : List (List Formal)) (f : Frame) → IsFrame p rs f → GoesOn p rs f f
-on_itself p rs f is = record { frame = is; spot = refl; formal = refl }
-
-pub on_then : (p : ProgramTree) (rs : List (List Formal)) (f g h : Frame) → GoesOn p rs f g → GoesOn p rs g h → GoesOn p rs f h
-on_then p rs f g h a b = record { frame = b.frame; spot = b.spot ∙ a.spot; formal = b.formal ∙ a.formal }
-
--- the answer of a look-up that has gone on
-pub answer_after : (p : ProgramTree) (rs : List (List Formal)) (f g : Frame) (m : Found) → GoesOn p rs f g → IsAnswer p rs g.spot g.formal m → IsAnswer p rs f.spot f.formal m
-answer_after p rs f g m on a = subst (λ k. IsAnswer p rs k f.formal m) on.spot (subst (λ i. IsAnswer p rs g.spot i m) on.formal a)
 
 -- the look-up of a formal begins at its actual
 pub actual_there : (es : List Formula) (k : ℕ) (e : Formula) → slice_get es k ≡ Some e → nth_formula es k ≡ Some e

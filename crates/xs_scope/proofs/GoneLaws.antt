@@ -16,8 +16,9 @@ use Rattle.xs_scope.specs.Reading.{told_first, IsTold}
 use Rattle.xs_scope.specs.Walking.{Call, calls_in, calls_declared, variables_in, visits_told, program_in, call_of, calls_of, variables_of_walk, on_path_of, place_at, walk_from, visits_at, visits_here, told_from, IsOwnIn, HasWalked, HasMet, HasGone, IsStanding}
 use Rattle.xs_scope.proofs.ReadingLaws.{told_as, told_here, none_first}
 use Rattle.xs_scope.proofs.ModuleFaults.{flat_end}
-use Rattle.xs_scope.proofs.WalkLaws.{both_more, flat_join, walked_none, own_stays, calls_grow, variables_grow, spots_count, variables_count, path_stays, place_stays, walked_then, told_join}
+use Rattle.xs_scope.proofs.WalkLaws.{flat_join, walked_none, own_stays, calls_grow, variables_grow, spots_count, variables_count, path_stays, place_stays, walked_then, told_join}
 use Rattle.xs_scope.proofs.Naming.{both_push}
+use Rattle.xs_scope.proofs.SceneItems.{both_more}
 
 -- the items up to one of them, with what they mean, and what is told of those that are left
 pub record GoneSoFar (ms : Modules) (w0 : Walk) (spot : ℕ) (items : List Numbered) (k : ℕ) (w1 : Walk) (meanings : List Found) : Type 0 where

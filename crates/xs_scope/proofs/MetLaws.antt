@@ -1,14 +1,14 @@
 -- What the walk has met at an item: nothing, a variable or an instance.
-use Rattle.std.proofs.Common.{◌≡◌, ℕ, suc, ◌+◌, ◌<◌, arith, Bool, true, false, List, [], ◌∷◌, ◌++◌, length, map, if◌then◌else◌, Some, None, refl, ap, ◌∙◌, sym, subst}
+use Rattle.std.proofs.Common.{◌≡◌, ℕ, suc, ◌+◌, ◌<◌, arith, true, false, List, [], ◌∷◌, ◌++◌, length, map, if◌then◌else◌, Some, None, refl, ap, ◌∙◌, sym, subst}
 use Rattle.std.specs.Prelude.{slice_get}
 use Rattle.std.proofs.lemmas.List.{append-nil, map-append, length-map}
-use Rattle.xs_tree.specs.ProgramTree.{Text, Formula, DeclaredTree, boolean, range, members, instance, declared_tree, ModuleTree, ProgramTree}
+use Rattle.xs_tree.specs.ProgramTree.{Text, Formula, DeclaredTree, boolean, range, members, instance, declared_tree, ModuleTree}
 use Rattle.std.specs.Borrow.{Bor}
 use Rattle.xs_tree.specs.declared.program.Decl.{Decl}
 use Rattle.xs_tree.specs.declared.program.Declared.{Declared}
 use Rattle.xs_tree.specs.declared.program.Declared.TheVariants as declared
-use Rattle.xs_tree.specs.Scope.{Place, Role, find_module}
-use Rattle.xs_tree.specs.Texts.{same_text, is_among}
+use Rattle.xs_tree.specs.Scope.{Place, Role}
+use Rattle.xs_tree.specs.Texts.{is_among}
 use Rattle.xs_tree.specs.Written.{tree_of}
 use Rattle.xs_tree.specs.Flat.{FlatVariable}
 use Rattle.xs_flat_laws.specs.Items.{Item as ItemOf, a_declaration, Visit}
@@ -31,7 +31,7 @@ use Rattle.xs_scope.specs.Walking.{Call, calls_in, variables_in, instance_told, 
 use Rattle.xs_scope.proofs.EnterLaws.{get_here}
 use Rattle.xs_scope.proofs.WalkLaws.{walked_none}
 use Rattle.xs_scope.proofs.KeyLaws.{get_map}
-use Rattle.xs_tree.proofs.OneTree.{same_text_equal}
+use Rattle.xs_flat_laws.proofs.Kept.{module_named as tree_named}
 
 -- An instance.
 pub calls_met : (ms : Modules) (calls : List Call) (vars : List FlatVariable) (cs : List Call) (spots : List Spot) → EachBoth (IsSpotOf ms calls vars) cs spots → map (call_of ms) spots ≡ cs
@@ -179,19 +179,8 @@ module _ (ms : Modules) (w : Walk) (spot n : ℕ) where
   told_other i other = ap (told_from ms w) (nothing_at i other)
 
 -- The instance that a declaration hands to the walk.
-find_named : (p : ProgramTree) (x : Text) (t : ModuleTree) → find_module p x ≡ Some t → t.name ≡ x
-find_named [] x t e = cc
-find_named (m ∷ p) x t e = by_test (same_text m.name x) refl (find_named p x t)
-  where
-    by_test : (b : Bool) → same_text m.name x ≡ b → (find_module p x ≡ Some t → t.name ≡ x) → t.name ≡ x
-    by_test true e' rest =
-        let here : Some m ≡ Some t = rw e' at e in
-        let same : m ≡ t = cc in
-        sym (ap (λ (k : ModuleTree). k.name) same) ∙ same_text_equal m.name x e'
-    by_test false e' rest = rest (rw e' at e)
-
 pub module_named : (ms : Modules) (x : Text) (k : ℕ) (names : Names) → IsModuleAt ms x k names → name_at ms k ≡ x
-module_named ms x k names is = ap name_in is.listed ∙ ap (λ (t : ModuleTree). t.name) is.has.tree ∙ find_named (program_in ms) x is.tree.tree is.named
+module_named ms x k names is = ap name_in is.listed ∙ ap (λ (t : ModuleTree). t.name) is.has.tree ∙ tree_named (program_in ms) x is.tree.tree is.named
 
 module _ (ms : Modules) (w0 : Walk) (x m : Text) (inner : Spot) (standing : IsStanding ms w0 inner.caller) (at_module : IsModuleOf ms w0 m inner.«module») (placed : place_of inner.path ≡ x ∷ place_at w0 inner.caller) where
   caller_there : IsCaller (calls_of ms w0) (x ∷ place_at w0 inner.caller) inner.caller

@@ -41,6 +41,7 @@ use Rattle.xs_scope.proofs.HeadKinds.{definition_kind, declaration_kind}
 use Rattle.xs_scope.proofs.Naming.{both_push, program_same, naming_at, naming_pushed, left_number}
 use Rattle.xs_scope.proofs.Frames.{actual_there}
 use Rattle.std.proofs.lemmas.Option.{same_Some as of_some, slice_get_within as get_less}
+use Rattle.xs_flat_laws.proofs.Lists.{get_within}
 
 -- the item that the tables have is the program's
 pub record Listed (n : Numbered) (y : NumberedItem) : Type 0 where
@@ -214,11 +215,6 @@ pub take_there : {A : Type 0} (xs : List A) (k : ℕ) (x : A) → slice_get xs k
 take_there [] k x h = never x h
 take_there (y ∷ xs) zero x h = ap (λ z. z ∷ []) (of_some y x h)
 take_there (y ∷ xs) (suc k) x h = ap (λ zs. y ∷ zs) (take_there xs k x h)
-
-pub get_within : {A : Type 0} (xs : List A) (k : ℕ) → k < length xs → (x : A) × (slice_get xs k ≡ Some x)
-get_within [] k h = absurd (omega (arith, h))
-get_within (y ∷ xs) zero h = (y, refl)
-get_within (y ∷ xs) (suc k) h = get_within xs k (omega (arith, h))
 
 pub one_item : (old mid new : Scene) (spot k : ℕ) (own : List Found) (walked meaning : Found) → IsSameProgram old mid → walked ≡ own_at mid spot k → k < count_in (slice_get old.spots.items spot) →
     NamedItems old mid spot k own → NamesItem mid new spot k walked meaning → NamedItems old new spot (k + 1) (own ++ meaning ∷ [])

@@ -236,7 +236,7 @@ declared_apart at (members ms) is h k = k
 declared_apart at (instance m actuals) is h k =
     (each_more (λ (i : FlatInstance). i.place ≡ at → ⊥) (OtherPlace (record { place = at; module_name = m })) is (λ i other e. other (sym e)) h, k)
 
-visits_places : (vs : List Visit) → Apart vs → PlacesApart (flat_map instances_of_visit vs)
+pub visits_places : (vs : List Visit) → Apart vs → PlacesApart (flat_map instances_of_visit vs)
 visits_places [] h = tt
 visits_places (v ∷ vs) h = declared_apart (v.decl.name ∷ v.place) v.decl.what (flat_map instances_of_visit vs) (visits_other v vs h.0) (visits_places vs h.1)
 

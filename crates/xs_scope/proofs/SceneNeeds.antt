@@ -32,7 +32,7 @@ both_size R [] (y ∷ ys) h = absurd h
 both_size R (x ∷ xs) [] h = absurd h
 both_size R (x ∷ xs) (y ∷ ys) h = ap suc (both_size R xs ys h.1)
 
-both_from : {A B : Type 0} (R : A → B → Type 0) (xs : List A) (ys : List B) → length xs ≡ length ys →
+pub both_from : {A B : Type 0} (R : A → B → Type 0) (xs : List A) (ys : List B) → length xs ≡ length ys →
     ((k : ℕ) (x : A) (y : B) → slice_get xs k ≡ Some x → slice_get ys k ≡ Some y → R x y) → EachBoth R xs ys
 both_from R [] [] e each = tt
 both_from R [] (y ∷ ys) e each = absurd (omega (arith, e))

@@ -17,9 +17,6 @@ pub grouped : (a b c : Bool) → ((a || b) || c) ≡ (a || (b || c))
 grouped true b c = refl
 grouped false b c = refl
 
-again : (a b : Bool) → (a ≡ true) → (a || b) ≡ true
-again a b e = rw e refl
-
 exchanged : (a b : Bool) → (a || b) ≡ (b || a)
 exchanged true true = refl
 exchanged true false = refl

@@ -1,7 +1,6 @@
 -- A set of texts that grows by those that it lacks has them by first appearance.
-use Rattle.std.proofs.Common.{◌≡◌, ℕ, Bool, true, false, List, [], ◌∷◌, ◌++◌, drop, get_or, length, ◌<◌, ◌+◌, refl, ap, ◌∙◌, sym, if◌then◌else◌, eqb-true, eq-eqb, Bor}
-use Rattle.std.proofs.lemmas.List.{map-append, drop_more}
-use Rattle.std.specs.Prelude.{nat_eq}
+use Rattle.std.proofs.Common.{◌≡◌, ℕ, List, [], ◌∷◌, ◌++◌, drop, get_or, length, ◌<◌, ◌+◌, refl, ap, ◌∙◌, sym, if◌then◌else◌}
+use Rattle.std.proofs.lemmas.List.{drop_more}
 use Rattle.std.specs.List.{flat_map}
 use Rattle.xs_tree.specs.Texts.{is_among}
 use Rattle.xs_flat_laws.specs.Model.{first_appearances}

@@ -1,5 +1,5 @@
 -- One turn of the look-ups of formals.
-use Rattle.std.proofs.Common.{◌≡◌, ℕ, ◌<◌, arith, Bool, true, false, ◌&&◌, List, [], ◌∷◌, ◌++◌, length, Option, Some, None, Vec, refl, sym, ◌∙◌, ap, subst, ◌⊎◌, inl, inr}
+use Rattle.std.proofs.Common.{◌≡◌, ℕ, ◌<◌, arith, true, false, List, [], ◌∷◌, ◌++◌, length, Option, Some, None, Vec, refl, sym, ◌∙◌, ap, subst, ◌⊎◌, inl, inr}
 use Rattle.std.specs.Prelude.{slice_get, option_map}
 use Rattle.std.specs.declared.alloc.Global.{Global}
 use Rattle.std.proofs.lemmas.List.{length-map}
@@ -14,7 +14,7 @@ use Rattle.xs_flat_laws.specs.Looks.{ComesBack}
 use Rattle.xs_tree.specs.BorrowedTexts.{texts}
 use Rattle.xs_scope.specs.SceneTree.{AreModules, IsSpot, IsDefined, IsKnown, formals_of, AreKnown, program_of, IsSet, IsScene}
 use Rattle.xs_scope.specs.FoundAt.{formal_or, formal_at}
-use Rattle.xs_scope.specs.Steps.{is_open, is_begun, row_count_in, row_count}
+use Rattle.xs_scope.specs.Steps.{is_open, row_count_in, row_count}
 use Rattle.xs_scope.specs.Known.{rows, row_or, rows_with, formal_of, IsHead, IsOpen, IsTold, IsSized, AreTold, IsActualTold, IsSameButFormals}
 use Rattle.xs_scope.specs.Waiting.{IsFormal, IsFrame, LastWaits, IsStack, IsReady, has_frame, IsWaiting, IsAnswer, GoesOn, Waits, circled, IsCircled, AreSettled, IsRowAnswered, IsTurn}
 use Rattle.xs_scope.specs.declared.walk.Meaning.{Meaning as Found}
@@ -28,7 +28,7 @@ use Rattle.xs_scope.proofs.LookSplit.{never}
 use Rattle.xs_scope.proofs.SceneItems.{get_map}
 use Rattle.xs_scope.proofs.Told.{IsNoMoreOpen, no_more_open, IsChanged, changed, in_row, begun_one, answered_one}
 use Rattle.xs_scope.proofs.Naming.{still_answered, program_same}
-use Rattle.xs_scope.proofs.NamingItems.{both_from, get_within}
+use Rattle.xs_scope.proofs.NamingItems.{both_from}
 use Rattle.xs_scope.proofs.Frames.{formal_by_rows}
 use Rattle.xs_scope.proofs.Stacks.{frame_on, stack_on, stack_pop, stack_push, last_waits, circled_less, own_circle, circle_told}
 use Rattle.xs_scope.proofs.Work.{SameShape, shape_same, shape_with, shape_circled, has_below, has_last, has_split, settled_with, settled_circled, popped_turn, begun_turn, closed_turn, turn_after}
@@ -36,6 +36,7 @@ use Rattle.xs_scope.proofs.Starting.{symbols_by}
 use Rattle.std.proofs.lemmas.Option.{same_Some as of_some, slice_get_within as get_less}
 use Rattle.std.proofs.lemmas.Bool.{false_from_ne_true as not_true}
 use Rattle.xs_scope.proofs.Heads.{not_both as true_false}
+use Rattle.xs_flat_laws.proofs.Lists.{get_within}
 
 pub set_same : (old new : Scene) → IsSameButFormals old new → IsSet old → IsSet new
 set_same old new same set = record {
@@ -152,27 +153,6 @@ begun_turned old new fs fs' f k i open' fresh at_spot at_formal made pushed =
 
 pub begun_has : (fs fs' : List Frame) (f : Frame) (k i : ℕ) → f.spot ≡ k → f.formal ≡ i → fs' ≡ fs ++ f ∷ [] → has_frame fs' k i ≡ true
 begun_has fs fs' f k i at_spot at_formal pushed = ap (λ gs. has_frame gs k i) pushed ∙ has_last fs f k i at_spot at_formal
-
--- a look-up that is to begin is not there
-pub not_begun : (s : Scene) (fs : List Frame) (k i : ℕ) → IsWaiting s fs → IsOpen (formal_at s k i) → is_begun (formal_at s k i) ≡ false → has_frame fs k i ≡ false
-not_begun s fs k i waiting open' other = waiting.fresh k i (sym (formal_by_rows s k i) ∙ is_unknown (formal_at s k i) open' other)
-  where
-    is_unknown : (f : Formal) → IsOpen f → is_begun f ≡ false → f ≡ known.Unknown
-    is_unknown known.Unknown o h = refl
-    is_unknown known.Begun o h = let bad : true ≡ false = h in cc
-    is_unknown known.Circle o h = absurd o
-    is_unknown (known.Means f) o h = absurd o
-
-pub not_there : (s : Scene) (fs : List Frame) (k i : ℕ) → IsWaiting s fs → IsOpen (formal_at s k i) → (is_begun (formal_at s k i) && has_frame fs k i) ≡ false → has_frame fs k i ≡ false
-not_there s fs k i waiting open' h = by_begun (is_begun (formal_at s k i)) refl h
-  where
-    by_begun : (b : Bool) → is_begun (formal_at s k i) ≡ b → (b && has_frame fs k i) ≡ false → has_frame fs k i ≡ false
-    by_begun true e g = g
-    by_begun false e g = not_begun s fs k i waiting open' e
-
-pub is_there : (a b : Bool) → (a && b) ≡ true → b ≡ true
-is_there true b h = h
-is_there false b h = let bad : false ≡ true = h in cc
 
 -- a circle closes
 pub circle_closed : (old new : Scene) (fs : List Frame) (k i : ℕ) → IsWaiting old fs → LastWaits (program_of old) fs k i → IsSameButFormals old new → IsCircled (rows old) (rows new) fs k i → IsWaiting new fs

@@ -1,9 +1,8 @@
 -- The names of an expression, with whether each stands under `next`.
-use Rattle.std.proofs.Common.{◌≡◌, Bool, true, false, ◌||◌, List, [], ◌∷◌, ◌++◌, map, refl, ap, ◌∙◌, sym, inl, inr}
+use Rattle.std.proofs.Common.{◌≡◌, Bool, true, false, ◌||◌, List, [], ◌∷◌, ◌++◌, map, refl, ap, ◌∙◌, sym}
 use Rattle.std.proofs.lemmas.List.{append-nil, append_assoc, map-append}
 use Rattle.xs_tree.specs.Tree.{Tree, Trees, Branches, truth, number, leaf, not_of, negate, next_of, binary, choice, case_of, set_of, span, no_tree, tree_then, no_branch, branch_then}
 use Rattle.xs_tree.specs.ProgramTree.{Path}
-use Rattle.xs_tree.specs.Trace.{AtSome}
 use Rattle.xs_flat_laws.specs.Resolved.{leaves_in, trees_leaves, branches_leaves, has_next, trees_have_next, branches_have_next}
 use Rattle.xs_flat_laws.specs.Rules.{leaves_under, trees_leaves_under, branches_leaves_under, next_under_next, trees_next_under, branches_next_under}
 use Rattle.xs_scope.specs.Flagged.{flagged, trees_flagged, branches_flagged}
@@ -270,34 +269,3 @@ mutual
   flagged_are_under_branches (branch_then c a bs) =
       only_both (flagged false c) (flagged false a ++ branches_flagged false bs) (leaves_under c) (leaves_under a ++ branches_leaves_under bs) (flagged_are_under c)
       (only_both (flagged false a) (branches_flagged false bs) (leaves_under a) (branches_leaves_under bs) (flagged_are_under a) (flagged_are_under_branches bs))
-
--- the name is flagged, and so it is for it
-pub record IsFlagged {L : Type 0} (P : L → Type 0) (u : L × Bool) : Type 0 where
-  pub is_under : u.1 ≡ true
-  pub holds : P u.0
-
-some_first : {L : Type 0} (P : L → Type 0) (us : List (L × Bool)) → AtSome (λ u. P u.0) us → AtSome P (map (λ u. u.0) us)
-some_first P [] h = absurd h
-some_first P (u ∷ us) (inl h) = inl h
-some_first P (u ∷ us) (inr h) = inr (some_first P us h)
-
-some_first_back : {L : Type 0} (P : L → Type 0) (us : List (L × Bool)) → AtSome P (map (λ u. u.0) us) → AtSome (λ u. P u.0) us
-some_first_back P [] h = absurd h
-some_first_back P (u ∷ us) (inl h) = inl h
-some_first_back P (u ∷ us) (inr h) = inr (some_first_back P us h)
-
-some_kept : {L : Type 0} (P : L → Type 0) (us : List (L × Bool)) → AtSome (IsFlagged P) us → AtSome P (flagged_only us)
-some_kept P [] h = absurd h
-some_kept P ((l, true) ∷ us) (inl h) = inl h.holds
-some_kept P ((l, false) ∷ us) (inl h) = absurd (differs h.is_under)
-  where
-    differs : false ≡ true → ⊥
-    differs e = cc
-some_kept P ((l, true) ∷ us) (inr h) = inr (some_kept P us h)
-some_kept P ((l, false) ∷ us) (inr h) = some_kept P us h
-
-some_kept_back : {L : Type 0} (P : L → Type 0) (us : List (L × Bool)) → AtSome P (flagged_only us) → AtSome (IsFlagged P) us
-some_kept_back P [] h = absurd h
-some_kept_back P ((l, true) ∷ us) (inl h) = inl (record { is_under = refl; holds = h })
-some_kept_back P ((l, true) ∷ us) (inr h) = inr (some_kept_back P us h)
-some_kept_back P ((l, false) ∷ us) h = inr (some_kept_back P us h)

@@ -15,15 +15,8 @@ use Rattle.xs_scope.specs.declared.walk.Walk.{Walk}
 use Rattle.xs_tree.specs.ModelTree.{variable_tree}
 use Rattle.xs_scope.specs.Reading.{Told, told_first}
 use Rattle.xs_tree.specs.BorrowedTexts.{texts}
-use Rattle.xs_scope.specs.Walking.{Call, calls_declared, calls_in, variables_in, visit_told, visits_told, program_in, call_of, calls_of, variables_of_walk, on_path_of, place_of_spot, place_at, IsInstanceIn, IsVariableIn, IsDeclarationIn, IsOwnIn, IsCaller, IsSpotOf, IsDeclaredIn, HasWalked, IsPath, IsStanding}
-use Rattle.xs_scope.proofs.SceneItems.{both_length}
-
--- Lists.
-pub both_more : {A B : Type 0} (R S : A → B → Type 0) (xs : List A) (ys : List B) → ((x : A) (y : B) → R x y → S x y) → EachBoth R xs ys → EachBoth S xs ys
-both_more R S [] [] f h = tt
-both_more R S [] (y ∷ ys) f h = absurd h
-both_more R S (x ∷ xs) [] f h = absurd h
-both_more R S (x ∷ xs) (y ∷ ys) f h = (f x y h.0, both_more R S xs ys f h.1)
+use Rattle.xs_scope.specs.Walking.{Call, calls_declared, calls_in, variables_in, visit_told, visits_told, program_in, call_of, calls_of, variables_of_walk, on_path_of, place_of_spot, place_at, IsInstanceIn, IsVariableIn, IsDeclarationIn, IsOwnIn, IsCaller, IsSpotOf, IsDeclaredIn, HasWalked}
+use Rattle.xs_scope.proofs.SceneItems.{both_length, both_more}
 
 pub both_join : {A B : Type 0} (R : A → B → Type 0) (xs xs' : List A) (ys ys' : List B) → EachBoth R xs ys → EachBoth R xs' ys' → EachBoth R (xs ++ xs') (ys ++ ys')
 both_join R [] xs' [] ys' h k = k
@@ -124,12 +117,6 @@ module _ (ms : Modules) (old new : Walk) (cs : List Call) (vs : List Visit) (h :
       let s : (s : Spot) × (slice_get old.spots.items k ≡ Some s) = get_within old.spots.items k within in
       ap (λ ss. place_of_spot (slice_get ss k)) h.spots
       ∙ ap place_of_spot (get_left old.spots.items h.more k s.0 s.1 ∙ sym s.1)
-
-  pub stands : (k : ℕ) → IsStanding ms old k → IsStanding ms new k
-  stands k s = record {
-    within = omega (arith, s.within, spots_count);
-    path = subst (λ (on : List Text). IsPath (program_in ms) on) (sym path_stays) s.path;
-  }
 
 pub walked_none : (ms : Modules) (w : Walk) → HasWalked ms w [] [] w
 walked_none ms w = record {

@@ -33,8 +33,8 @@ use Rattle.xs_scope.proofs.FoundModule.{main_at}
 use Rattle.xs_scope.proofs.MetLaws.{calls_met, module_named}
 use Rattle.xs_scope.proofs.ReadingLaws.{told_as}
 use Rattle.xs_scope.proofs.VisitFaults.{walkable, visits_fault}
-use Rattle.xs_scope.proofs.WalkLaws.{both_more}
 use Rattle.xs_scope.proofs.KeyLaws.{get_map}
+use Rattle.xs_scope.proofs.SceneItems.{both_more}
 
 -- Lists.
 both_to_map : {A B C : Type 0} (f : A → C) (R : C → B → Type 0) (xs : List A) (ys : List B) → EachBoth (λ (x : A). R (f x)) xs ys → EachBoth R (map f xs) ys

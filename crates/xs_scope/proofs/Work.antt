@@ -1,5 +1,5 @@
 -- Each turn of the look-ups leaves less to do.
-use Rattle.std.proofs.Common.{◌≡◌, ℕ, zero, suc, ◌+◌, ◌<◌, ◌≤◌, arith, Bool, true, false, ◌||◌, ◌&&◌, eqb-true, eq-eqb, ◌==◌, if◌then◌else◌, List, [], ◌∷◌, ◌++◌, length, refl, sym, ◌∙◌, ap, subst, ◌⊎◌, inl, inr}
+use Rattle.std.proofs.Common.{◌≡◌, ℕ, zero, suc, ◌+◌, ◌<◌, ◌≤◌, arith, Bool, true, false, ◌||◌, eqb-true, eq-eqb, ◌==◌, if◌then◌else◌, List, [], ◌∷◌, ◌++◌, length, refl, sym, ◌∙◌, ap, subst, ◌⊎◌, inl, inr}
 use Rattle.std.specs.Prelude.{slice_get}
 use Rattle.std.proofs.lemmas.List.{length-set}
 use Rattle.std.proofs.lemmas.List.Folds.{list_any-append}
@@ -124,7 +124,7 @@ told_left b known.Circle told = refl
 told_left b (known.Means m) told = refl
 
 -- whether a look-up waits
-or_split : (a b : Bool) → (a || b) ≡ true → (a ≡ true) ⊎ (b ≡ true)
+pub or_split : (a b : Bool) → (a || b) ≡ true → (a ≡ true) ⊎ (b ≡ true)
 or_split true b h = inl refl
 or_split false b h = inr h
 
@@ -154,13 +154,6 @@ has_split fs f k i h = by_end (or_split (has_frame fs k i) (is_of k i f || false
     by_end : (has_frame fs k i ≡ true) ⊎ ((is_of k i f || false) ≡ true) → (has_frame fs k i ≡ true) ⊎ ((f.spot ≡ k) × (f.formal ≡ i))
     by_end (inl e) = inl e
     by_end (inr e) = by_own (or_split (is_of k i f) false e)
-
-pub below_has : (fs : List Frame) (f : Frame) (k i : ℕ) → has_frame (fs ++ f ∷ []) k i ≡ true → (f.spot ≡ k → f.formal ≡ i → ⊥) → has_frame fs k i ≡ true
-below_has fs f k i h other = by_split (has_split fs f k i h)
-  where
-    by_split : (has_frame fs k i ≡ true) ⊎ ((f.spot ≡ k) × (f.formal ≡ i)) → has_frame fs k i ≡ true
-    by_split (inl e) = e
-    by_split (inr e) = absurd (other e.0 e.1)
 
 -- a turn
 module _ (rs rs' : List (List Formal)) (fs fs' : List Frame) (shape : SameShape rs rs') (settled : AreSettled rs rs')

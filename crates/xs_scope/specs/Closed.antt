@@ -46,6 +46,7 @@ abbrev mutual
 abbrev pub is_closed : Bounds → Expr Flat → Bool
 is_closed b e = tree_all (is_within b) (tree_of e)
 
+-- so of the condition and the value of a branch
 abbrev pub is_branch_closed : Bounds → Expr Flat × Expr Flat → Bool
 is_branch_closed b branch = is_closed b branch.0 && is_closed b branch.1
 
@@ -66,10 +67,11 @@ is_instance (declared.Range lo hi) = false
 is_instance (declared.Members ms) = false
 is_instance (declared.Instance m actuals) = true
 
--- few enough, and each has values
+-- its type is not that of an instance, so it has values
 abbrev pub is_variable : Variable → Bool
 is_variable v = not (is_instance v.declared)
 
+-- variables of a model: no more than the limit, and none of the type of an instance
 pub record AreVariables (vs : List Variable) : Type 0 where
   pub few : length vs ≤ 2000
   pub each : list_all is_variable vs ≡ true

@@ -25,10 +25,12 @@ abbrev pub place_from : ℕ → List Text → Text → Option ℕ
 place_from k [] x = None
 place_from k (y ∷ ys) x = if same_text y x then Some k else place_from (suc k) ys x
 
+-- the names of an instance's module, where the instance is there
 abbrev pub names_of_spot : Scene → Option Spot → Option Names
 names_of_spot s None = None
 names_of_spot s (Some spot) = slice_get s.modules.list.items spot.«module»
 
+-- what a name is in these names of a module
 abbrev pub local_in : Option Names → Text → Option Local
 local_in None x = None
 local_in (Some n) x = entry_of (named n.locals.entries) x
@@ -37,10 +39,12 @@ local_in (Some n) x = entry_of (named n.locals.entries) x
 abbrev pub local_at : Scene → ℕ → Text → Option Local
 local_at s spot x = local_in (names_of_spot s (slice_get s.spots.items spot)) x
 
+-- what is found, or nothing
 abbrev pub found_or : Option Found → Found
 found_or None = found.Nothing
 found_or (Some f) = f
 
+-- what the item at a place means at this instance
 abbrev pub own_in : Option Spot → ℕ → Found
 own_in None place = found.Nothing
 own_in (Some spot) place = found_or (slice_get spot.own.items place)
@@ -49,10 +53,12 @@ own_in (Some spot) place = found_or (slice_get spot.own.items place)
 abbrev pub own_at : Scene → ℕ → ℕ → Found
 own_at s spot place = own_in (slice_get s.spots.items spot) place
 
+-- what is known of a formal; one that is not there means nothing
 abbrev pub formal_or : Option Formal → Formal
 formal_or None = known.Means found.Nothing
 formal_or (Some f) = f
 
+-- what is known of the formal of a number, in the row of an instance
 abbrev pub formal_in : Option (Vec Formal Global) → ℕ → Formal
 formal_in None i = known.Means found.Nothing
 formal_in (Some fs) i = formal_or (slice_get fs.items i)
@@ -68,6 +74,7 @@ told known.Circle = found.Loop
 told known.Begun = found.Loop
 told known.Unknown = found.Loop
 
+-- the symbol of this number, where there is one of 32 bits
 abbrev pub symbol_or : Option ℕ → Found
 symbol_or None = found.Nothing
 symbol_or (Some k) = if nat_lt k 4294967296 then found.Symbol k else found.Nothing
@@ -76,6 +83,7 @@ symbol_or (Some k) = if nat_lt k 4294967296 then found.Symbol k else found.Nothi
 abbrev pub symbol_at : Scene → Text → Found
 symbol_at s x = symbol_or (place_from 0 (texts s.symbols.keys) x)
 
+-- what a part of a name means, by what it is in its module: only the last part may be a symbol
 abbrev pub by_local : Scene → ℕ → Bool → Text → Option Local → Found
 by_local s spot last x (Some (local.Formal i)) = told (formal_at s spot i)
 by_local s spot last x (Some (local.Item place)) = own_at s spot place

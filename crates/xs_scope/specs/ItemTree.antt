@@ -28,6 +28,7 @@ pub record Counted : Type 0 where
   pub items : List (ℕ × ItemOf)
   pub last : ℕ
 
+-- the items of a list of the code, and its last number
 abbrev pub counted_of : ItemList → Counted
 counted_of list = record { items = map numbered_tree list.items.items; last = list.last }
 

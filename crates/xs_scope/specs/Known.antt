@@ -14,6 +14,7 @@ use Rattle.xs_scope.specs.declared.names.Formal.{Formal}
 use Rattle.xs_scope.specs.declared.names.Formal.TheVariants as known
 use Rattle.xs_scope.specs.declared.names.Scene.{Scene}
 
+-- the rows of the code as lists
 abbrev pub rows_of : List (Vec Formal Global) → List (List Formal)
 rows_of fs = map (λ (v : Vec Formal Global). v.items) fs
 
@@ -21,10 +22,12 @@ rows_of fs = map (λ (v : Vec Formal Global). v.items) fs
 abbrev pub rows : Scene → List (List Formal)
 rows s = rows_of s.formals.items
 
+-- the row of an instance; none where it is not there
 abbrev pub row_or : Option (List Formal) → List Formal
 row_or None = []
 row_or (Some fs) = fs
 
+-- the number of formals of these names of a module
 abbrev pub formals_in : Option Names → ℕ
 formals_in None = 0
 formals_in (Some names) = length names.«module».now.formals
@@ -49,6 +52,7 @@ pub record IsSameButFormals (old new : Scene) : Type 0 where
   pub symbols : new.symbols ≡ old.symbols
   pub definitions : new.definitions ≡ old.definitions
 
+-- what these rows tell of the formal of a number at an instance
 abbrev pub formal_of : List (List Formal) → ℕ → ℕ → Formal
 formal_of rs spot i = formal_or (slice_get (row_or (slice_get rs spot)) i)
 

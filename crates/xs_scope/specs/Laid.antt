@@ -75,6 +75,7 @@ pub record AreActualsAt (p : ProgramTree) (spot inner : ℕ) (es : List Formula)
   pub name : Text
   pub kind : kind_at (module_at p at.place) own ≡ an_instance name es
 
+-- where the actuals of an instance come next among the roots, they are numbered: what comes after them is next then
 abbrev pub NamesActuals : Scene → Scene → ℕ → ℕ → ℕ → List Formula → Type 0
 NamesActuals old new spot item inner es =
     (at inside : FlatInstance) (rest : List Root) → AreActualsAt (program_of old) spot inner es at inside →
@@ -92,6 +93,7 @@ NamesItem old new spot place walked meaning =
     (at : FlatInstance) (item : NumberedItem) (rest : List Root) → IsItemAt old spot place at item walked →
     IsNaming old (roots_of_item at.place item.number item.item ++ rest) → IsNaming new rest × IsOwn (program_of old) at.place item meaning
 
+-- the roots that the items of an instance give
 abbrev pub roots_at : FlatInstance → List NumberedItem → List Root
 roots_at at is = flat_map (λ (i : NumberedItem). roots_of_item at.place i.number i.item) is
 
@@ -102,6 +104,7 @@ NamesItems old new spot own =
     IsSpotWalked (program_of old) at walked → IsNaming old (roots_at at (items_named (program_of old) at.module_name) ++ rest) →
     IsNaming new rest × EachBoth (IsOwn (program_of old) at.place) (items_named (program_of old) at.module_name) own
 
+-- the same, where the instance was looked up already
 abbrev pub with_own_in : List Spot → ℕ → Vec Meaning Global → Option Spot → List Spot
 with_own_in spots k own None = spots
 with_own_in spots k own (Some spot) =

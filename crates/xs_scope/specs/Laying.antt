@@ -13,6 +13,7 @@ abbrev pub upto_from : ℕ → ℕ → List ℕ
 upto_from k zero = []
 upto_from k (suc n) = k ∷ upto_from (suc k) n
 
+-- the numbers below the count
 abbrev pub upto : ℕ → List ℕ
 upto count = upto_from 0 count
 
@@ -47,19 +48,24 @@ pub record Lay : Type 0 where
   pub tasks : List Task
   pub circle : Bool
 
+-- the walk of the code, whose tasks have the next one at their end
 abbrev pub lay_of : Laying → Lay
 lay_of l = record { marks = l.marks.items; order = l.order.items; tasks = reverse l.tasks.items; circle = l.circle }
 
+-- the mark, where there is one; else the number was not met
 abbrev pub mark_or : Option Mark → Mark
 mark_or None = Unmet
 mark_or (Some m) = m
 
+-- how far the walk is with a number
 abbrev pub mark_at : List Mark → ℕ → Mark
 mark_at marks k = mark_or (slice_get marks k)
 
+-- to visit these numbers, in this order
 abbrev pub visits : List ℕ → List Task
 visits ks = map Visit ks
 
+-- a visit of a number, by how far the walk is with it: one that is begun and not ended shows a circle
 abbrev pub visit_by : Graph → Lay → ℕ → Mark → Lay
 visit_by g s k Ended = s
 visit_by g s k Unmet = record { marks = set s.marks k Begun; order = s.order; tasks = visits (g k) ++ End k ∷ s.tasks; circle = s.circle }
@@ -76,6 +82,7 @@ Ends g done [] after = after ≡ done
 Ends g done (Visit k ∷ ts) after = (between : List ℕ) × Lays g done k between × Ends g between ts after
 Ends g done (End k ∷ ts) after = Ends g (done ++ k ∷ []) ts after
 
+-- the number that a task is about
 abbrev pub number_of : Task → ℕ
 number_of (Visit k) = k
 number_of (End k) = k

@@ -10,6 +10,7 @@ abbrev pub open_work : {M : Type 0} → (M → Bool) → (ℕ → ℕ) → List 
 open_work is_open work [] = 0
 open_work is_open work (mark ∷ marks) = (if is_open mark then work zero else 0) + open_work is_open (λ k. work (suc k)) marks
 
+-- the number is still to be reached
 abbrev pub is_unmarked : Bool → Bool
 is_unmarked true = false
 is_unmarked false = true
@@ -18,6 +19,7 @@ is_unmarked false = true
 abbrev pub left_to_spread : Graph → Spread → ℕ
 left_to_spread g s = length s.waiting + open_work is_unmarked (λ k. length (g k)) s.reached
 
+-- the number is still to be visited
 abbrev pub is_unmet : Mark → Bool
 is_unmet Unmet = true
 is_unmet Begun = false

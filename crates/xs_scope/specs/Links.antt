@@ -12,10 +12,12 @@ Has ks k = AtSome (λ j. j ≡ k) ks
 abbrev pub Graph : Type 0
 Graph = ℕ → List ℕ
 
+-- the links of a row, where it is there
 abbrev pub row_of : Option (Vec ℕ Global) → List ℕ
 row_of None = []
 row_of (Some v) = v.items
 
+-- the links of the code as a graph; a number that is not there has none
 abbrev pub graph_of : Links → Graph
 graph_of l k = row_of (slice_get l.of.items k)
 
@@ -38,10 +40,12 @@ pub record IsCircle (g : Graph) (some : Bool) (k : ℕ) (b : Bool) : Type 0 wher
   pub told : some ≡ true → (b ≡ true) ↔ Reaches g (g k) k
   pub none : some ≡ false → b ≡ false
 
+-- marks of so many numbers, each of which tells whether its number leads back to itself
 pub record AreCircles (g : Graph) (count : ℕ) (some : Bool) (marks : List Bool) : Type 0 where
   pub size : length marks ≡ count
   pub each : (k : ℕ) (b : Bool) → slice_get marks k ≡ Some b → IsCircle g some k b
 
+-- a mark, where it is there
 abbrev pub told_mark : Option Bool → Bool
 told_mark None = false
 told_mark (Some b) = b

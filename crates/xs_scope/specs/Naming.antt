@@ -26,6 +26,7 @@ needed (found.Symbol k) = []
 needed found.Nothing = []
 needed found.Loop = []
 
+-- the role of inputs
 abbrev pub is_input_role : Role → Bool
 is_input_role Input = true
 is_input_role State = false
@@ -54,15 +55,19 @@ reads_in s spot (x ∷ xs) = is_input (found_at s spot x) || reads_in s spot xs
 abbrev pub first_names : List (Path × Bool) → List Path
 first_names us = map (λ u. u.0) us
 
+-- the names of a definition
 abbrev pub names_of : Defined → List Path
 names_of d = leaves_in (tree_of d.value.now)
 
+-- the definitions that a definition of the scene names, in written order
 abbrev pub needs_of : Scene → Defined → List ℕ
 needs_of s d = needs_in s d.spot (names_of d)
 
+-- a definition of the scene names an input itself
 abbrev pub reads_of : Scene → Defined → Bool
 reads_of s d = reads_in s d.spot (names_of d)
 
+-- the number alone, or none
 abbrev pub number_if : Bool → ℕ → List ℕ
 number_if true k = k ∷ []
 number_if false k = []
@@ -76,6 +81,7 @@ inputs_from s k (d ∷ ds) = number_if (reads_of s d) k ++ inputs_from s (suc k)
 pub record IsFoundAt (s : Scene) (spot : ℕ) (name : Path) : Type 0 where
   pub found : (at : FlatInstance) → slice_get (instances_of (program_of s)) spot ≡ Some at → IsFound (program_of s) at.place name (found_at s spot name)
 
+-- what is found for each name of a definition is what it means
 abbrev pub AreFoundIn : Scene → Defined → Type 0
 AreFoundIn s d = Each (IsFoundAt s d.spot) (names_of d)
 

@@ -27,9 +27,11 @@ keys_of p = map (λ (r : Root). r.key) (roots_of p)
 abbrev pub IsKeyAt : ProgramTree → ℕ → Key → Type 0
 IsKeyAt p k key = slice_get (keys_of p) k ≡ Some key
 
+-- this tells whether the definition of a key needs itself
 abbrev pub HasCircle : ProgramTree → Key → Bool → Type 0
 HasCircle p key b = (b ≡ true) ↔ NeedsItself p key
 
+-- this tells whether the definition of a key reads an input, also through others
 abbrev pub HasInput : ProgramTree → Key → Bool → Type 0
 HasInput p key b = (b ≡ true) ↔ KeyReadsInput p key
 
@@ -52,6 +54,7 @@ pub record IsOrder (p : ProgramTree) (order places : List ℕ) : Type 0 where
   pub back : (k i : ℕ) → slice_get order i ≡ Some k → slice_get places k ≡ Some i
   pub all : (k i : ℕ) → slice_get places k ≡ Some i → slice_get order i ≡ Some k
 
+-- the needs of a program: which definitions need themselves, which read inputs, and, where none needs itself, their order
 pub record AreNeeds (p : ProgramTree) (n : Needs) : Type 0 where
   pub circles : EachBoth (HasCircle p) (keys_of p) n.on_circle.items
   pub inputs : EachBoth (HasInput p) (keys_of p) n.reads_input.items

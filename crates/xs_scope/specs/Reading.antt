@@ -19,6 +19,7 @@ use Rattle.xs_scope.specs.declared.modules.Modules.{Modules}
 abbrev pub Told : Type 0
 Told = Option (Rule × ℕ)
 
+-- the rule at an item, where it is broken
 abbrev pub told_if : Bool → Rule → ℕ → Told
 told_if true rule item = Some (rule, item)
 told_if false rule item = None
@@ -52,9 +53,11 @@ header_told before header m =
     told_first (told_if (same_text m.name (codes "main") && has_formals m.formals) main_has_parameters header)
     (told_if (is_module_among before m.name) double_module header)
 
+-- the first name of a module that stands twice, from its formals on
 abbrev pub names_told : ℕ → ModuleTree → Told
 names_told header m = told_first (formals_told header [] m.formals) (items_told m.formals (counted_from (suc header) (items_of m)))
 
+-- the first rule that a module breaks after others: by its header, then by its names
 abbrev pub module_told : List ModuleTree → ℕ → ModuleTree → Told
 module_told before header m = told_first (header_told before header m) (names_told header m)
 
@@ -68,9 +71,11 @@ abbrev pub next_header : ℕ → List ModuleTree → ℕ
 next_header n [] = n
 next_header n (m ∷ ms) = next_header (n + suc (length (items_of m))) ms
 
+-- an item of the code without its number
 abbrev pub item_of_numbered : Numbered → ItemOf
 item_of_numbered n = item_tree n.item
 
+-- the module of these names
 abbrev pub tree_of_names : Names → ModuleTree
 tree_of_names n = module_tree n.«module».now
 

@@ -42,6 +42,7 @@ abbrev pub item_from : ℕ → List ItemOf → Text → Option ℕ
 item_from k [] x = None
 item_from k (i ∷ is) x = if gives_name x i then Some k else item_from (suc k) is x
 
+-- a formal or else an item, where the name is one
 abbrev pub local_after : Option ℕ → Option ℕ → Option Local
 local_after (Some i) place = Some (local.Formal i)
 local_after None (Some k) = Some (local.Item k)
@@ -60,6 +61,7 @@ abbrev pub formal_entries : ℕ → List Text → List (Text × Local)
 formal_entries k [] = []
 formal_entries k (x ∷ xs) = (x, local.Formal k) ∷ formal_entries (suc k) xs
 
+-- the name that an item gives to its place, if it gives one
 abbrev pub entries_of_item : ℕ → ItemOf → List (Text × Local)
 entries_of_item k (a_declaration role d) = (d.name, local.Item k) ∷ []
 entries_of_item k (a_definition d) = (d.name, local.Item k) ∷ []
@@ -119,11 +121,13 @@ abbrev pub meaning_of_declared : Place → Text → DeclaredTree → Meaning
 meaning_of_declared at x (instance m actuals) = an_instance_at (x ∷ at)
 meaning_of_declared at x _ = a_variable_at at x
 
+-- what an item means at an instance of its module, if it means anything
 abbrev pub meaning_of_item : Place → ItemOf → Option Meaning
 meaning_of_item at (a_declaration role d) = Some (meaning_of_declared at d.name d.what)
 meaning_of_item at (a_definition d) = Some (an_expression_at (define_key at d.name) at d.value)
 meaning_of_item at _ = None
 
+-- what is found for an item is what it means
 abbrev pub IsOwnMeaning : ProgramTree → Option Meaning → Found → Type 0
 IsOwnMeaning p None f = f ≡ found.Nothing
 IsOwnMeaning p (Some m) f = Denotes p f m
@@ -176,6 +180,7 @@ IsKnown p at x known.Circle = ComesBack p at x
 IsKnown p at x known.Begun = ⊥
 IsKnown p at x known.Unknown = ⊥
 
+-- the formals of a module, where it is there
 abbrev pub formals_of : Option ModuleTree → List Text
 formals_of None = []
 formals_of (Some m) = m.formals
@@ -189,6 +194,7 @@ abbrev pub items_of_instance : ProgramTree → Option FlatInstance → List Numb
 items_of_instance p None = []
 items_of_instance p (Some i) = items_named p i.module_name
 
+-- the items of the instance of a number, in the program
 abbrev pub items_at : ProgramTree → ℕ → List NumberedItem
 items_at p k = items_of_instance p (slice_get (instances_of p) k)
 

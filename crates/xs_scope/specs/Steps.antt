@@ -22,6 +22,7 @@ use Rattle.xs_scope.specs.declared.names.Scene.{Scene}
 use Rattle.xs_scope.specs.declared.names.Step.{Step}
 use Rattle.xs_scope.specs.declared.names.Step.TheVariants as step
 
+-- one step of a look-up, by what the part is in its module
 abbrev pub step_by_local : Scene → ℕ → Bool → Text → Option Local → Step
 step_by_local s spot last x (Some (local.Formal i)) = step.Formal i
 step_by_local s spot last x (Some (local.Item place)) = step.Means (own_at s spot place)
@@ -36,6 +37,7 @@ abbrev pub found_by : Scene → ℕ → Step → Found
 found_by s spot (step.Means f) = f
 found_by s spot (step.Formal i) = told (formal_at s spot i)
 
+-- the item at a place of these names of a module
 abbrev pub numbered_in : Option Names → ℕ → Option Numbered
 numbered_in None place = None
 numbered_in (Some names) place = slice_get names.items.items place
@@ -44,6 +46,7 @@ numbered_in (Some names) place = slice_get names.items.items place
 abbrev pub numbered_at : Scene → ℕ → ℕ → Option Numbered
 numbered_at s spot place = numbered_in (names_of_spot s (slice_get s.spots.items spot)) place
 
+-- the number of items of an instance, where it is there
 abbrev pub count_in : Option Spot → ℕ
 count_in None = 0
 count_in (Some spot) = length spot.own.items
@@ -62,13 +65,16 @@ is_begun known.Unknown = false
 is_begun known.Circle = false
 is_begun (known.Means f) = false
 
+-- the number of formals in a row, where it is there
 abbrev pub row_count_in : Option (Vec Formal Global) → ℕ
 row_count_in None = 0
 row_count_in (Some v) = length v.items
 
+-- the number of formals of an instance
 abbrev pub row_count : Scene → ℕ → ℕ
 row_count s spot = row_count_in (slice_get s.formals.items spot)
 
+-- what a step comes to: a formal that has no answer makes it wait
 abbrev pub known_by : Scene → ℕ → Step → Part
 known_by s spot (step.Means f) = part.Known f
 known_by s spot (step.Formal i) = if is_open (formal_at s spot i) then part.Waits i else part.Known (told (formal_at s spot i))

@@ -1,6 +1,5 @@
 -- The symbols so far, and the items that have them.
-use Rattle.std.specs.Prelude.{ℕ, List, map, flat_map}
-use Rattle.std.specs.Borrow.{Bor}
+use Rattle.std.specs.Prelude.{ℕ, List, flat_map}
 use Rattle.xs_scope.specs.declared.items.Numbered.{Numbered}
 use Rattle.xs_scope.specs.declared.modules.Names.{Names}
 use Rattle.xs_scope.specs.ItemTree.{item_tree}

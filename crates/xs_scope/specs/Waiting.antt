@@ -94,15 +94,18 @@ pub record GoesOn (p : ProgramTree) (rs : List (List Formal)) (f g : Frame) : Ty
   pub spot : g.spot ≡ f.spot
   pub formal : g.formal ≡ f.formal
 
+-- the look-up comes to a formal that has no answer
 pub record Waits (p : ProgramTree) (rs : List (List Formal)) (f : Frame) (i : ℕ) : Type 0 where
   pub waits : WaitsFor p f f.here i
   pub unanswered : IsOpen (formal_of rs f.here i)
 
+-- one part of a look-up: it goes on with fewer parts, or has its answer, or waits
 abbrev pub IsProgress : ProgramTree → List (List Formal) → Frame → Progress → Type 0
 IsProgress p rs f (progress.Further g) = GoesOn p rs f g × (length g.rest.now < length f.rest.now)
 IsProgress p rs f (progress.Ended m) = IsAnswer p rs f.spot f.formal m
 IsProgress p rs f (progress.Waits i) = Waits p rs f i
 
+-- a look-up ends: it has its answer, or went on to where it waits
 abbrev pub IsStop : ProgramTree → List (List Formal) → Frame → Stop → Type 0
 IsStop p rs f (stop.Ended m) = IsAnswer p rs f.spot f.formal m
 IsStop p rs f (stop.Waits g i) = GoesOn p rs f g × Waits p rs g i
@@ -140,10 +143,12 @@ IsRowAnswered rs spot = (i : ℕ) → IsOpen (formal_of rs spot i) → ⊥
 abbrev pub left_of : Bool → Formal → ℕ
 left_of waits f = if is_open f then (if waits then 1 else 3) else 0
 
+-- what the formals of one instance still take
 abbrev pub row_left : (ℕ → Formal → ℕ) → List Formal → ℕ
 row_left each [] = 0
 row_left each (f ∷ fs) = each 0 f + row_left (λ i. each (suc i)) fs
 
+-- what the formals of all instances still take
 abbrev pub rows_left : (ℕ → ℕ → Formal → ℕ) → List (List Formal) → ℕ
 rows_left each [] = 0
 rows_left each (r ∷ rs) = row_left (each 0) r + rows_left (λ spot. each (suc spot)) rs

@@ -30,6 +30,7 @@ pub record Call : Type 0 where
   pub module_name : Text
   pub actuals : List Formula
 
+-- the instance that a declaration makes, if it makes one
 abbrev pub calls_declared : Place → DeclaredTree → List Call
 calls_declared at (instance m actuals) = record { place = at; module_name = m; actuals = actuals } ∷ []
 calls_declared at _ = []
@@ -38,6 +39,7 @@ calls_declared at _ = []
 abbrev pub calls_in : List Visit → List Call
 calls_in vs = flat_map (λ v. calls_declared (v.decl.name ∷ v.place) v.decl.what) vs
 
+-- the variables that visits declare
 abbrev pub variables_in : List Visit → List Visit
 variables_in vs = flat_map (λ v. variable_declared v v.decl.what) vs
 
@@ -54,6 +56,7 @@ visit_told p instances variables v =
     (told_first (told_if (is_on_path v.on_path v.decl.what) module_loop v.number)
     (told_if (passes_limit instances variables v.decl.what) too_many v.number)))
 
+-- the first rule that visits break, each after what those before it declare
 abbrev pub visits_told : ProgramTree → ℕ → ℕ → List Visit → Told
 visits_told p instances variables [] = None
 visits_told p instances variables (v ∷ vs) =
@@ -72,9 +75,11 @@ instance_told p on instances item m actuals =
 abbrev pub walk_from : ProgramTree → List Text → Place → Text → List Visit
 walk_from p on at name = walk (length p - length on) p on at name
 
+-- the program of these modules
 abbrev pub program_in : Modules → ProgramTree
 program_in ms = program_tree ms.program.now
 
+-- the name of a module, where it is there
 abbrev pub name_in : Option Names → Text
 name_in None = []
 name_in (Some n) = n.«module».now.name
@@ -83,6 +88,7 @@ name_in (Some n) = n.«module».now.name
 abbrev pub name_at : Modules → ℕ → Text
 name_at ms k = name_in (slice_get ms.list.items k)
 
+-- an instance of the walk with what it is handed
 abbrev pub call_of : Modules → Spot → Call
 call_of ms spot = record { place = place_of spot.path; module_name = name_at ms spot.«module»; actuals = map tree_of spot.actuals.now }
 
@@ -98,6 +104,7 @@ variables_of_walk w = map variable_tree w.variables
 abbrev pub on_path_of : Walk → List Text
 on_path_of w = reverse (texts w.inside.items)
 
+-- the place of an instance, where it is there
 abbrev pub place_of_spot : Option Spot → Place
 place_of_spot None = []
 place_of_spot (Some spot) = place_of spot.path
@@ -110,6 +117,7 @@ place_at w k = place_of_spot (slice_get w.spots.items k)
 abbrev pub visits_at : Modules → Walk → ℕ → ℕ × ItemOf → List Visit
 visits_at ms w spot i = visits_of (walk_from (program_in ms) (on_path_of w)) (on_path_of w) (place_at w spot) i.0 i.1
 
+-- the visits of some items of the instance of a number
 abbrev pub visits_here : Modules → Walk → ℕ → List (ℕ × ItemOf) → List Visit
 visits_here ms w spot is = flat_map (visits_at ms w spot) is
 
@@ -117,6 +125,7 @@ visits_here ms w spot is = flat_map (visits_at ms w spot) is
 abbrev pub visits_within : Modules → Walk → Spot → List Visit
 visits_within ms w spot = walk_from (program_in ms) (on_path_of w) (place_of spot.path) (name_at ms spot.«module»)
 
+-- the first rule that visits break after what the walk has met
 abbrev pub told_from : Modules → Walk → List Visit → Told
 told_from ms w vs = visits_told (program_in ms) (length w.spots.items) (length w.variables) vs
 
@@ -128,6 +137,7 @@ pub record IsInstanceIn (calls : List Call) (at : Place) (f : Found) : Type 0 wh
   pub is : slice_get calls number ≡ Some call
   pub place : call.place ≡ at
 
+-- a number among the variables whose variable has this place, name and role
 pub record IsVariableIn (vars : List FlatVariable) (at : Place) (x : Text) (role : Role) (f : Found) : Type 0 where
   pub number : ℕ
   pub word : RoleWord
@@ -139,10 +149,12 @@ pub record IsVariableIn (vars : List FlatVariable) (at : Place) (x : Text) (role
   pub role_is : variable.role ≡ role
   pub same_role : role_of word ≡ role
 
+-- what a declaration means by number: an instance, or a variable
 abbrev pub IsDeclarationIn : List Call → List FlatVariable → Place → Text → Role → DeclaredTree → Found → Type 0
 IsDeclarationIn calls vars at x role (instance m actuals) f = IsInstanceIn calls (x ∷ at) f
 IsDeclarationIn calls vars at x role _ f = IsVariableIn vars at x role f
 
+-- what an item means by number; one that declares nothing means nothing
 abbrev pub IsOwnIn : List Call → List FlatVariable → Place → ItemOf → Found → Type 0
 IsOwnIn calls vars at (a_declaration role d) f = IsDeclarationIn calls vars at d.name role d.what f
 IsOwnIn calls vars at _ f = f ≡ found.Nothing
@@ -205,6 +217,7 @@ pub record IsPath (p : ProgramTree) (on : List Text) : Type 0 where
 abbrev pub own_of : Spot → Vec Found Global → Spot
 own_of spot own = record spot { own = own }
 
+-- the instances, where what the items of one of them mean was put in
 abbrev pub with_own : List Spot → ℕ → Vec Found Global → List Spot
 with_own [] k own = []
 with_own (spot ∷ spots) zero own = own_of spot own ∷ spots

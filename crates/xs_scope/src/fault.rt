@@ -1,3 +1,8 @@
+//! The rules of a program's names and instances, and the first that is broken.
+//!
+//! All fourteen rules have one list, though those from 8 to 13 are tried in the layer above (`xs_flat`). Want of memory
+//! counts as the last one, and every call below turns it into a [`FlatFault`] by `From`.
+
 use std::alloc::{AllocError, AllocFailed};
 use xs_value::OutOfMemory;
 

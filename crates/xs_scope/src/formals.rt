@@ -75,6 +75,7 @@ impl<'a> Scene<'a> {
         Ok(())
     }
 
+    /// How many formals the module of an instance has room for.
     fn formal_count(&self, spot: usize) -> usize
         ensures { result ≡ row_count self.now spot }
     {

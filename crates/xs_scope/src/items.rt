@@ -1,4 +1,5 @@
-//! The items of a module, numbered as in the whole program.
+//! The items of a module, numbered as in the whole program. [`ItemList::of_module`] is the main function: the modules are
+//! read in written order, and each goes on with the numbers of the one before it. By these numbers faults tell where they are.
 
 ghost use Rattle.std.specs.Prelude.{◌≡◌, ◌+◌, ◌^◌, ◌<◌, [], ◌∷◌, map, IfOk, IsOk, OnOk};
 ghost use Rattle.xs_tree.specs.ProgramTree.{module_tree, section_tree, decl_tree, define_tree, assignment_tree};
@@ -64,6 +65,7 @@ impl<'a> ItemList<'a> {
         self.last
     }
 
+    /// Adds an item with the next number.
     fn add(&mut self, item: Item<'a>) -> Result<(), OutOfMemory>
         ensures { OnOk result (counted_of self.new ≡ with_items (counted_of self.old) (item_tree item.entry ∷ [])) }
     {
@@ -73,6 +75,7 @@ impl<'a> ItemList<'a> {
         Ok(())
     }
 
+    /// Adds the items of a section.
     fn add_section(&mut self, section: &'a Section) -> Result<(), OutOfMemory>
         ensures { OnOk result (counted_of self.new ≡ with_items (counted_of self.old) (items_of_section (section_tree section.now))) }
     {
@@ -89,6 +92,7 @@ impl<'a> ItemList<'a> {
         }
     }
 
+    /// Adds the declarations of a section, whose variables have this role.
     fn add_decls(&mut self, role: Role, decls: &'a [Decl]) -> Result<(), OutOfMemory>
         ensures { OnOk result (counted_of self.new ≡ with_items (counted_of self.old) (map (a_declaration (role_of role)) (map decl_tree decls.now))) }
     {
@@ -98,6 +102,7 @@ impl<'a> ItemList<'a> {
         Ok(())
     }
 
+    /// Adds the definitions of a section.
     fn add_defines(&mut self, defines: &'a [Define]) -> Result<(), OutOfMemory>
         ensures { OnOk result (counted_of self.new ≡ with_items (counted_of self.old) (map a_definition (map define_tree defines.now))) }
     {
@@ -107,6 +112,7 @@ impl<'a> ItemList<'a> {
         Ok(())
     }
 
+    /// Adds the assignments of a section.
     fn add_assignments(&mut self, assignments: &'a [Assignment]) -> Result<(), OutOfMemory>
         ensures { OnOk result (counted_of self.new ≡ with_items (counted_of self.old) (map an_assignment (map assignment_tree assignments.now))) }
     {

@@ -103,6 +103,7 @@ impl<'a> Scene<'a> {
         Ok(())
     }
 
+    /// Appends what is known of the formals of the next instance.
     fn push_formals(&mut self, formals: Vec<Formal>) -> Result<(), OutOfMemory>
         ensures same { IsSameButFormals self.old self.new }
         ensures pushed { OnOk result (self.new.formals.items ≡ self.old.formals.items ++ formals ∷ []) }
@@ -216,6 +217,7 @@ impl<'a> Scene<'a> {
         Ok(())
     }
 
+    /// Numbers an actual, unless it is a plain name: the formal then means the new definition.
     fn add_actual(
         &mut self,
         spot: usize,
@@ -252,6 +254,7 @@ impl<'a> Scene<'a> {
         Ok(made)
     }
 
+    /// Gives an instance what its items mean.
     fn set_own(&mut self, spot: usize, own: Vec<Meaning>)
         ensures modules { self.new.modules ≡ self.old.modules }
         ensures symbols { self.new.symbols ≡ self.old.symbols }
@@ -292,6 +295,7 @@ impl<'a> Scene<'a> {
         }
     }
 
+    /// The item at a place of an instance's module, as the module's list has it.
     fn numbered_at(&self, spot: usize, place: usize) -> Option<Numbered<'a>>
         ensures { result ≡ numbered_at self.now spot place }
     {
@@ -327,6 +331,7 @@ impl<'a> Scene<'a> {
         }
     }
 
+    /// Notes what is known of an instance's formal. Where the instance has no such formal nothing changes.
     pub fn set_formal(&mut self, spot: usize, formal: usize, known: Formal)
         ensures same { IsSameButFormals self.old self.new }
         ensures formals { rows self.new ≡ rows_with (rows self.old) spot formal known }
@@ -370,6 +375,7 @@ impl<'a> Scene<'a> {
         }
     }
 
+    /// The symbol of this text, or nothing where the program has none.
     fn symbol(&self, part: &Name) -> Meaning
         ensures symbol { result ≡ symbol_at self.now part.now }
     {

@@ -79,13 +79,6 @@ impl Needs {
     {
         is_true(self.on_circle.as_slice(), definition)
     }
-
-    /// Whether a definition reads an input, also through others.
-    pub fn is_reading_input(&self, definition: usize) -> bool
-        ensures { result ≡ is_marked self.now.reads_input.items definition }
-    {
-        is_true(self.reads_input.as_slice(), definition)
-    }
 }
 
 /// Which definitions are reached so far, and which are still to be looked at.
@@ -192,6 +185,7 @@ impl Spread {
     }
 }
 
+/// Whether a place is marked; one beyond the list is not.
 fn is_true(marks: &[bool], place: usize) -> bool
     ensures { result ≡ is_marked marks.now place }
 {
@@ -201,6 +195,7 @@ fn is_true(marks: &[bool], place: usize) -> bool
     }
 }
 
+/// Marks a place, where the list has it.
 fn set_true(marks: &mut Vec<bool>, place: usize)
     ensures { marks.new.items ≡ set marks.old.items place true }
 {
@@ -292,6 +287,7 @@ fn mark_of(marks: &[Mark], place: usize) -> Mark
     }
 }
 
+/// Notes how far the walk is with a definition.
 fn set_mark(marks: &mut Vec<Mark>, place: usize, mark: Mark)
     ensures { marks.new.items ≡ set marks.old.items place mark }
 {

@@ -1,4 +1,6 @@
-//! The symbols of a program.
+//! The symbols of a program: the members of types and the names in CONSTANTS, of all modules, each once.
+//! [`symbols_of`] gathers them as texts that are borrowed from the program, by whose places a look-up finds a symbol's
+//! number, and [`symbol_names`] copies them for the flat model.
 
 ghost use Rattle.std.specs.Prelude.{◌≡◌, [], ◌∷◌, flat_map, IfOk, OnOk};
 ghost use Rattle.xs_flat_laws.specs.Model.{first_appearances, symbols_of_members, symbols_of_item};
@@ -27,6 +29,7 @@ pub fn symbols_of<'a>(
     Ok(symbols)
 }
 
+/// Adds the symbols of items, in their order.
 fn add_of_items<'a>(
     symbols: &mut IndexSet<&'a [u8]>,
     items: &[Numbered<'a>],
@@ -39,6 +42,7 @@ fn add_of_items<'a>(
     Ok(())
 }
 
+/// Adds the symbols of an item: those of CONSTANTS and the members of a type.
 fn add_of_item<'a>(symbols: &mut IndexSet<&'a [u8]>, item: Item<'a>) -> Result<(), OutOfMemory>
     ensures { OnOk result (texts symbols.new.keys ≡ first_appearances (texts symbols.old.keys) (symbols_of_item (item_tree item.entry))) }
 {
@@ -52,6 +56,7 @@ fn add_of_item<'a>(symbols: &mut IndexSet<&'a [u8]>, item: Item<'a>) -> Result<(
     }
 }
 
+/// Adds the symbols of CONSTANTS.
 fn add_names<'a>(symbols: &mut IndexSet<&'a [u8]>, names: &'a [Name]) -> Result<(), OutOfMemory>
     ensures { OnOk result (texts symbols.new.keys ≡ first_appearances (texts symbols.old.keys) names.now) }
 {
@@ -69,6 +74,7 @@ fn add_name<'a>(symbols: &mut IndexSet<&'a [u8]>, name: &'a Name) -> Result<(), 
     Ok(())
 }
 
+/// Adds the members of a type that are symbols.
 fn add_members<'a>(
     symbols: &mut IndexSet<&'a [u8]>,
     members: &'a [Member],

@@ -1,4 +1,5 @@
-//! The names of an expression.
+//! The names of an expression, gathered by one pass over its tree ([`Uses::of_value`]). The rules of names and moments
+//! ask of each name what it means and whether it stands under `next`, and of the whole expression where it has `next`.
 
 ghost use Rattle.std.specs.Prelude.{◌≡◌, false, IfOk, OnOk};
 ghost use Rattle.xs_tree.specs.Written.{tree_of, trees_of, branches_of};
@@ -96,6 +97,7 @@ impl<'a> Uses<'a> {
         }
     }
 
+    /// Adds the names of the members of a set.
     #[cycle(uses)]
     fn add_members(&mut self, members: &'a [Expr<Dotted>], next: bool) -> Result<(), OutOfMemory>
         ensures { OnOk result (seen_in self.new ≡ seen_after_trees next (trees_of members.now) (seen_in self.old)) }
@@ -106,6 +108,7 @@ impl<'a> Uses<'a> {
         Ok(())
     }
 
+    /// Adds the names of the branches of a case, each condition before its value.
     #[cycle(uses)]
     fn add_branches(
         &mut self,

@@ -1,4 +1,8 @@
-//! The walk over the instances of a program, depth first by items.
+//! The walk over the instances of a program, depth first by items. [`Walk::whole`] is the main function: from `main` on
+//! it enters the module of each declared instance, makes its variables, and tries the rules of modules that are
+//! missing, of the number of actuals, of modules that lie in themselves, and of the two limits.
+//!
+//! The walk keeps the names of the modules that it stands in, so that an instance of one of them is found at once.
 
 ghost use Rattle.std.specs.Prelude.{◌≡◌, ◌<◌, ◌-◌, suc, false, None, [], ◌∷◌, length, map, reverse, take, IfOk, IfErr, OnOk};
 ghost use Rattle.xs_tree.specs.ProgramTree.{program_tree};

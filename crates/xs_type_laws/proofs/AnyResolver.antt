@@ -1,5 +1,5 @@
 -- An expression that is resolved soundly has exactly the values of the written one, whatever resolves it.
-use Rattle.std.proofs.Common.{◌≡◌, ◌↔◌, ℕ, suc, arith, List, [], ◌∷◌, Some, sym, ap, ◌∙◌}
+use Rattle.std.proofs.Common.{◌≡◌, ◌↔◌, ℕ, suc, arith, List, Some, sym, ap, ◌∙◌}
 use Rattle.xs_tree.specs.Tree.{Tree}
 use Rattle.xs_tree.specs.ProgramTree.{Path, Formula, ProgramTree}
 use Rattle.xs_tree.specs.Values.{Value, Values}
@@ -14,11 +14,7 @@ use Rattle.xs_flat_laws.specs.Model.{IsFlatOf}
 use Rattle.xs_flat_laws.proofs.Reaches.{BothReach, tree_reaches}
 use Rattle.xs_flat_laws.proofs.Lists.{each_more}
 use Rattle.xs_flat_laws.proofs.Now.{BothBelow, below_on}
-use Rattle.xs_flat_laws.proofs.Resolving.{Known, names_known, resolved_gives, flat_has, written_has}
-
-all_leaves_there : (ls : List FlatLeaf) → Each (λ l. Unit {0}) ls
-all_leaves_there [] = tt
-all_leaves_there (l ∷ ls) = (tt, all_leaves_there ls)
+use Rattle.xs_flat_laws.proofs.Resolving.{Known, names_known, resolved_gives, flat_has, written_has, each_leaf}
 
 abbrev past : FlatLeaf → ℕ
 past (flat_variable i) = 0
@@ -42,7 +38,7 @@ module _ (p : ProgramTree) (m : FlatModel) (is : IsFlatOf p m) (r : Resolver) (s
       there = λ name. leaf_gives (leaves_at m w) (r at name)
 
       names : Each (λ name. Known (λ l. Unit {0}) (r at name)) (leaves_in e)
-      names = names_known (λ l. Unit {0}) (r at) e flat h (all_leaves_there (leaves_in flat))
+      names = names_known (λ l. Unit {0}) (r at) e flat h (each_leaf (leaves_in flat))
 
       to : (n : ℕ) × (evaluate (name_values n p at now next) (name_values n p at next next) e ≡ Some vs) → FlatGives m v w flat vs
       to g = resolved_gives (r at) e flat (leaves_at m v) (leaves_at m w) h

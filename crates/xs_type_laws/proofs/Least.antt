@@ -62,15 +62,3 @@ at_number mixed_enum = refl
 at_number case_end = refl
 at_number too_large = refl
 at_number double_member = refl
-
-same_number : (r q : KindRule) → number_of r ≡ number_of q → r ≡ q
-same_number r q e = sym (at_number r) ∙ ap rule_at e ∙ at_number q
-
-lesser_swap : (r q : KindRule) → lesser r q ≡ lesser q r
-lesser_swap r q = by (nat_lt (number_of q) (number_of r)) refl (nat_lt (number_of r) (number_of q)) refl
-  where
-    by : (a : Bool) → nat_lt (number_of q) (number_of r) ≡ a → (b : Bool) → nat_lt (number_of r) (number_of q) ≡ b → lesser r q ≡ lesser q r
-    by true e true f = absurd (omega (arith, ltb-true _ _ e, ltb-true _ _ f))
-    by true e false f = second r q e ∙ sym (first q r f)
-    by false e true f = first r q e ∙ sym (second q r f)
-    by false e false f = first r q e ∙ same_number r q (omega (arith, ltb-false _ _ e, ltb-false _ _ f)) ∙ sym (first q r f)

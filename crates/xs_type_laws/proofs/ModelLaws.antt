@@ -32,7 +32,7 @@ both_at R (a ∷ as') (b ∷ bs) (suc i) h l =
     let more = both_at R as' bs i h.1 (omega (arith, l)) in
     record { left = more.left; right = more.right; is_left = more.is_left; is_right = more.is_right; related = more.related }
 
-both_end : {A B : Type 0} (R : A → B → Type 0) (as' : List A) (bs : List B) (a : A) (b : B) → EachBoth R as' bs → R a b → EachBoth R (as' ++ a ∷ []) (bs ++ b ∷ [])
+pub both_end : {A B : Type 0} (R : A → B → Type 0) (as' : List A) (bs : List B) (a : A) (b : B) → EachBoth R as' bs → R a b → EachBoth R (as' ++ a ∷ []) (bs ++ b ∷ [])
 both_end R [] [] a b h r = (r, tt)
 both_end R [] (y ∷ bs) a b h r = absurd h
 both_end R (x ∷ as') [] a b h r = absurd h

@@ -44,14 +44,6 @@ digits_are (suc most) n h = by (nat_eq n 0) refl (λ g. digits_are most (n / 2) 
         let some : 0 < n = grind (arith, nat_tests) in
         subst (AreDigits n) (sym (digits_step most n false e)) (halved n (digits_in most (n / 2)) some (more (omega (arith, pow-suc 2 most))))
 
--- the number of digits is the one that fits
-pub digits_unique : (n d : ℕ) → n < 2 ^ 64 → AreDigits n d → digits_of n ≡ d
-digits_unique n d h a =
-    let b = digits_are 64 n h in
-    let p = b.least d a.below in
-    let q = a.least (digits_of n) b.below in
-    omega arith
-
 small : (n : ℕ) → ltb n (2 ^ 31) ≡ true → AreDigits n (digits_of n)
 small n e =
     let h = ltb-true n (2 ^ 31) e in

@@ -26,6 +26,7 @@ abbrev pub least_member : List Text → Member → List Member → Member
 least_member symbols m [] = m
 least_member symbols m (k ∷ ks) = if is_less symbols m k then least_member symbols k ks else least_member symbols m ks
 
+-- the least of listed members
 abbrev pub least_of_members : List Text → List Member → Value
 least_of_members symbols [] = truth false
 least_of_members symbols (m ∷ ms) = value_of_member (least_member symbols m ms)

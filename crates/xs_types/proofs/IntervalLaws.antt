@@ -1,9 +1,9 @@
 -- Intervals by their ends, and products of numbers within 32 bits.
-use Rattle.std.proofs.Common.{◌≡◌, ℤ, ◌+ℤ◌, ◌-ℤ◌, ◌*ℤ◌, Option, ap, ◌∙◌, arith}
+use Rattle.std.proofs.Common.{◌≡◌, ℤ, ◌+ℤ◌, ◌-ℤ◌, ◌*ℤ◌, ap, ◌∙◌, arith}
 use Rattle.std.proofs.lemmas.Int.{ints, fits_signed_mul, fits_signed_from_abs}
 use Rattle.std.specs.Prelude.{◌≤◌, unsigned_abs, FitsSigned}
 use mir.Syntax.{w64}
-use Rattle.xs_type_laws.specs.Intervals.{Interval, just, hull}
+use Rattle.xs_type_laws.specs.Intervals.{just, hull}
 use Rattle.xs_types.specs.Told.{fitting, IsSmall}
 
 small_size : (a : ℤ) → IsSmall a → unsigned_abs a ≤ 2147483648

@@ -11,7 +11,7 @@ use Rattle.xs_tree.specs.declared.model.Formula.{Formula}
 use Rattle.xs_tree.specs.declared.model.Variable.{Variable}
 use Rattle.xs_tree.specs.declared.model.FlatModel.{FlatModel}
 use Rattle.xs_tree.specs.ModelTree.{leaf_of, formula_tree, variable_tree, model_tree}
-use Rattle.xs_type_laws.specs.Costs.{cost_of, declared_cost, declared_width, role_width, model_cost, state_bits, formulas_cost as cost_of_formulas}
+use Rattle.xs_type_laws.specs.Costs.{cost_of, declared_cost, model_cost, formulas_cost as cost_of_formulas}
 use Rattle.xs_type_laws.proofs.Mapped.{cost_mapped}
 use Rattle.xs_types.specs.Sizes.{formula_cost, formulas_cost, variable_cost, variables_cost, variable_bits, variables_bits}
 

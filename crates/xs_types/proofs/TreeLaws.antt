@@ -2,7 +2,6 @@
 use Rattle.std.proofs.Common.{◌≡◌, ℕ, ◌+◌, ◌<◌, List, length, get_or, drop, ap}
 use Rattle.std.proofs.lemmas.List.{drop_more}
 use Rattle.xs_tree.specs.declared.expr.Expr.{Expr}
-use Rattle.xs_tree.specs.declared.expr.Expr.TheOpen as open_
 use Rattle.xs_tree.specs.Written.{tree_of, trees_of, branches_of}
 use Rattle.xs_type_laws.specs.Costs.{cost_of, trees_cost, branches_cost}
 

@@ -10,11 +10,13 @@ use Rattle.xs_types.specs.declared.sort.Class.TheVariants.{Truth, Number, Symbol
 use Rattle.xs_types.specs.declared.sort.Sort.{Sort}
 use Rattle.xs_types.specs.declared.sort.Judged.{Judged}
 
+-- a class of the definitions as the code has it
 abbrev pub told_class : found.Class → Class
 told_class truth_class = Truth
 told_class number_class = Number
 told_class symbol_class = Symbol
 
+-- a rule of the definitions as the code has it
 abbrev pub told_rule : KindRule → Rule
 told_rule mismatch = Mismatch
 told_rule not_boolean = NotBoolean
@@ -27,6 +29,7 @@ told_rule case_end = CaseEnd
 told_rule too_large = TooLarge
 told_rule double_member = DoubleMember
 
+-- the rule, where there is one
 abbrev pub told_first : Option KindRule → Option Rule
 told_first None = None
 told_first (Some r) = Some (told_rule r)
@@ -35,9 +38,11 @@ told_first (Some r) = Some (told_rule r)
 abbrev pub told_rules : List KindRule → Option Rule
 told_rules rs = told_first (least rs)
 
+-- a kind as the code has it
 abbrev pub told_sort : Kind → Sort
 told_sort k = record { class = told_class k.class; interval = k.interval }
 
+-- a judgement as the code has it, with the first of its rules
 abbrev pub told : found.Judged → Judged
 told j = record { sort = told_sort j.kind; is_set = j.is_set; broken = told_rules j.broken }
 
@@ -47,5 +52,6 @@ seen_class Truth = truth_class
 seen_class Number = number_class
 seen_class Symbol = symbol_class
 
+-- the code's word for a kind, as the definitions have it
 abbrev pub seen_sort : Sort → Kind
 seen_sort s = record { class = seen_class s.class; interval = s.interval }

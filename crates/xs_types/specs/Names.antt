@@ -13,6 +13,7 @@ abbrev pub sort_at : Option Sort → Sort
 sort_at None = record { class = Truth; interval = None }
 sort_at (Some s) = s
 
+-- what is known of a name: of a variable, a definition or a symbol
 abbrev pub name_sort : Sorts → Flat → Sort
 name_sort s (flat.Var i) = sort_at (slice_get s.variables.items i)
 name_sort s (flat.Definition i) = sort_at (slice_get s.definitions.items i)

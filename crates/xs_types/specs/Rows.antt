@@ -13,6 +13,7 @@ use Rattle.xs_types.specs.declared.sort.Sort.{Sort}
 use Rattle.xs_types.specs.declared.sort.Judged.{Judged}
 use Rattle.xs_types.specs.declared.sort.Exact.{Exact}
 
+-- the number of a rule
 abbrev pub rule_number : Rule → ℕ
 rule_number Mismatch = 1
 rule_number NotBoolean = 2
@@ -26,6 +27,7 @@ rule_number TooLarge = 9
 rule_number DoubleMember = 10
 rule_number OutOfMemory = 11
 
+-- the rule with the lower number
 abbrev pub lesser_rule : Rule → Rule → Rule
 lesser_rule a b = if nat_lt (rule_number b) (rule_number a) then b else a
 
@@ -40,12 +42,14 @@ abbrev pub unless : Bool → Rule → Option Rule
 unless true r = None
 unless false r = Some r
 
+-- the classes are the same
 abbrev pub same_class : Class → Class → Bool
 same_class Truth Truth = true
 same_class Number Number = true
 same_class Symbol Symbol = true
 same_class _ _ = false
 
+-- the rule, where values are of another class
 abbrev pub class_rule : Class → Rule → Sort → Option Rule
 class_rule c r s = unless (same_class s.class c) r
 
@@ -54,9 +58,11 @@ abbrev pub where_kept : Option Rule → Option Interval → Option Interval
 where_kept None i = i
 where_kept (Some r) i = None
 
+-- a single value of this class, which breaks this rule itself and this one in its parts
 abbrev pub one_value : Option Rule → Class → Option Interval → Option Rule → Judged
 one_value own c i parts = record { sort = record { class = c; interval = where_kept own i }; is_set = false; broken = lower own parts }
 
+-- values that are a set or not, and whether a set may stand here
 abbrev pub some_values : Bool → Bool → Option Rule → Sort → Option Rule → Judged
 some_values sets is_set own s parts =
     let all = lower own (unless (sets || not is_set) SetHere) in
@@ -72,9 +78,11 @@ abbrev pub found : Option Interval → Exact
 found None = record { interval = None; wide = Some TooWide }
 found (Some i) = record { interval = Some i; wide = None }
 
+-- a number that is written
 abbrev pub row_literal : ℤ → Judged
 row_literal n = let e = exact_of (Some (just n)) in one_value e.wide Number e.interval None
 
+-- the numbers from one to another, as a set
 abbrev pub row_span : Bool → ℤ → ℤ → Judged
 row_span sets lo hi =
     let e = exact_of (Some (record { lo = lo; hi = hi })) in
@@ -84,37 +92,46 @@ row_span sets lo hi =
 abbrev pub row_range : ℤ → ℤ → Judged
 row_range lo hi = let all = row_span true lo hi in record { sort = all.sort; is_set = false; broken = all.broken }
 
+-- a truth value negated
 abbrev pub row_not : Judged → Judged
 row_not a = one_value (class_rule Truth NotBoolean a.sort) Truth None a.broken
 
+-- two truth values joined
 abbrev pub row_connective : Judged → Judged → Judged
 row_connective a b = one_value (lower (class_rule Truth NotBoolean a.sort) (class_rule Truth NotBoolean b.sort)) Truth None (lower a.broken b.broken)
 
+-- a number negated
 abbrev pub row_negative : Judged → Judged
 row_negative a =
     let e = exact_of (negative_interval a.sort.interval) in one_value (lower (class_rule Number Mismatch a.sort) e.wide) Number e.interval a.broken
 
+-- the operator divides, and the divisor may be 0
 abbrev pub is_divided : Op → Option Interval → Bool
 is_divided op.Over (Some j) = has_zero j
 is_divided op.Mod (Some j) = has_zero j
 is_divided _ _ = false
 
+-- two numbers under an arithmetic operator
 abbrev pub row_number : Op → Judged → Judged → Judged
 row_number o a b =
     let e = exact_of (on_both (exact_interval o) a.sort.interval b.sort.interval) in
     one_value (lower (class_rule Number Mismatch a.sort) (lower (class_rule Number Mismatch b.sort) (lower (unless (not (is_divided o b.sort.interval)) MayDivideByZero) e.wide)))
     Number e.interval (lower a.broken b.broken)
 
+-- two numbers compared
 abbrev pub row_order : Judged → Judged → Judged
 row_order a b = one_value (lower (class_rule Number Mismatch a.sort) (class_rule Number Mismatch b.sort)) Truth None (lower a.broken b.broken)
 
+-- two values of one class compared
 abbrev pub row_same : Judged → Judged → Judged
 row_same a b = one_value (class_rule a.sort.class Mismatch b.sort) Truth None (lower a.broken b.broken)
 
+-- the union of two values or sets of one class
 abbrev pub row_union : Bool → Judged → Judged → Judged
 row_union sets a b =
     some_values sets true (class_rule a.sort.class Mismatch b.sort) (record { class = a.sort.class; interval = joined a.sort.interval b.sort.interval }) (lower a.broken b.broken)
 
+-- an operator on two parts
 abbrev pub row_binary : Bool → Op → Judged → Judged → Judged
 row_binary sets op.Times a b = row_number op.Times a b
 row_binary sets op.Over a b = row_number op.Over a b
@@ -136,6 +153,7 @@ row_binary sets op.Xnor a b = row_connective a b
 row_binary sets op.Iff a b = row_connective a b
 row_binary sets op.Implies a b = row_connective a b
 
+-- a condition and two values of one class
 abbrev pub row_choice : Bool → Judged → Judged → Judged → Judged
 row_choice sets c a b =
     some_values sets (a.is_set || b.is_set) (lower (class_rule Truth NotBoolean c.sort) (class_rule a.sort.class Mismatch b.sort))

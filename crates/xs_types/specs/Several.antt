@@ -21,6 +21,7 @@ add_to (Some s) j =
       parts = lower s.parts j.broken;
     }
 
+-- values one after the other
 abbrev pub add_all : Option Several → List Found → Option Several
 add_all s [] = s
 add_all s (j ∷ js) = add_all (Some (add_to s (told j))) js
@@ -29,17 +30,21 @@ add_all s (j ∷ js) = add_all (Some (add_to s (told j))) js
 abbrev pub guard_by : Guards → Judged → Bool → Guards
 guard_by g j ends = record { own = lower g.own (class_rule Truth NotBoolean j.sort); parts = lower g.parts j.broken; ends = ends }
 
+-- the conditions of branches one after the other
 abbrev pub guard_all : {L : Type 0} → (L → Kind) → Guards → Branches L → Guards
 guard_all k g no_branch = g
 guard_all k g (branch_then c a bs) = guard_all k (guard_by g (told (judge k false c)) (is_word_true c)) bs
 
+-- before the first condition
 abbrev pub no_guards : Guards
 no_guards = record { own = None; parts = None; ends = false }
 
+-- a set of these members
 abbrev pub row_set : Bool → Option Several → Judged
 row_set sets None = some_values sets true None (record { class = Truth; interval = None }) None
 row_set sets (Some s) = some_values sets true s.own s.sort s.parts
 
+-- a case of these conditions and values
 abbrev pub row_case : Bool → Guards → Option Several → Judged
 row_case sets g None = some_values sets false (lower g.own (unless g.ends CaseEnd)) (record { class = Truth; interval = None }) g.parts
 row_case sets g (Some s) = some_values sets s.is_set (lower g.own (lower s.own (unless g.ends CaseEnd))) s.sort (lower g.parts s.parts)

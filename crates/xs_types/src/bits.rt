@@ -1,4 +1,5 @@
-//! How many bits stand for a variable's value.
+//! How many bits stand for a variable's value ([`declared_bits`]). The bits of state and frozen variables are added up
+//! for the limit of a model, and the encoding of a model gives each variable as many.
 
 ghost use Rattle.std.specs.Prelude.{◌≡◌, ◌≤◌, None, map};
 ghost use Rattle.xs_tree.specs.ProgramTree.{declared_tree};

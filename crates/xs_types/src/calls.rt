@@ -1,6 +1,7 @@
-//! Expressions over a typed model that are no part of it.
+//! Expressions over a typed model that are no part of it: values, top events, guards. [`kind_of`] tells the kind of
+//! what breaks no rule, and [`check_value`] and [`check_top`] judge. A fault has the item 0.
 
-ghost use Rattle.std.specs.Prelude.{◌≡◌, true, false, [], nat_lt, OnOk};
+ghost use Rattle.std.specs.Prelude.{◌≡◌, true, false, [], OnOk};
 ghost use Rattle.xs_tree.specs.ModelTree.{model_tree, flat_tree};
 ghost use Rattle.xs_type_laws.specs.Models.{judged_in, broken_condition, value_fault, top_fault};
 ghost use Rattle.xs_types.specs.Answers.{told};

@@ -1,4 +1,4 @@
-//! The conditions of a model.
+//! The conditions of a model: each formula must be one truth value ([`judge_conditions`]).
 
 ghost use Rattle.std.specs.Prelude.{◌≡◌, ◌++◌};
 ghost use Rattle.xs_type_laws.specs.FirstBreach.{first_of};
@@ -21,6 +21,7 @@ pub(crate) fn judge_conditions(sorts: &Sorts, m: &FlatModel) -> Option<Site>
     earlier(init, earlier(invar, trans))
 }
 
+/// The first rule that some formulas break.
 fn judge_formulas(sorts: &Sorts, formulas: &[Formula]) -> Option<Site>
     ensures { result ≡ told_first_site (first_of (formula_breaches (name_kind sorts.now) formulas.now)) }
 {

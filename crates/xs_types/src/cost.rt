@@ -1,4 +1,5 @@
-//! The cost of expressions and of models, by which large models are refused.
+//! The cost of expressions ([`cost`]) and of models ([`model_cost`]), by which large models are refused. It counts nodes,
+//! and more for arithmetic, whose circuits are large: what passes the limit would make long clause lists.
 
 ghost use Rattle.std.specs.Prelude.{◌≡◌, ◌+◌, min};
 ghost use Rattle.xs_tree.specs.Written.{tree_of, trees_of, branches_of};
@@ -40,6 +41,7 @@ pub(crate) fn cost(e: &Expr<Flat>) -> u64
     }
 }
 
+/// The cost of the members of a set.
 #[cycle(cost)]
 #[tactic(auto, using(crate::proofs::TreeLaws::trees_cost_more))]
 fn members_cost(members: &[Expr<Flat>]) -> u64
@@ -52,6 +54,7 @@ fn members_cost(members: &[Expr<Flat>]) -> u64
     total
 }
 
+/// The cost of the branches of a case.
 #[cycle(cost)]
 #[tactic(auto, using(crate::proofs::TreeLaws::branches_cost_more))]
 fn parts_cost(branches: &[(Expr<Flat>, Expr<Flat>)]) -> u64
@@ -64,6 +67,7 @@ fn parts_cost(branches: &[(Expr<Flat>, Expr<Flat>)]) -> u64
     total
 }
 
+/// The cost of the node of an operator.
 fn weight(op: Op) -> u64
     ensures { result ≡ op_cost op }
 {
@@ -92,6 +96,7 @@ pub(crate) fn model_cost(m: &FlatModel) -> u64
     )
 }
 
+/// The cost of some formulas.
 #[tactic(auto, using(crate::proofs::SizeLaws::formulas_cost_more))]
 fn formulas_cost(formulas: &[Formula]) -> u64
     ensures { result ≡ min (formulas_cost formulas.now) 50001 }
@@ -103,6 +108,7 @@ fn formulas_cost(formulas: &[Formula]) -> u64
     total
 }
 
+/// The cost of the declared types of variables.
 #[tactic(auto, using(crate::proofs::SizeLaws::variables_cost_more))]
 fn variables_cost(variables: &[Variable]) -> u64
     ensures { result ≡ min (variables_cost variables.now) 50001 }
@@ -114,6 +120,7 @@ fn variables_cost(variables: &[Variable]) -> u64
     total
 }
 
+/// The cost of a declared type.
 fn declared_cost(declared: &Declared) -> u64
     ensures { result ≡ declared_cost (declared_tree declared.now) }
 {

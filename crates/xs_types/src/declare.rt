@@ -1,4 +1,5 @@
-//! The domains of declared variables.
+//! What declared types are judged as ([`judge_declared`]), and the domains of the variables that have them
+//! ([`declare`]). A domain is made also of a type that breaks a rule, and then says nothing.
 
 ghost use Rattle.std.specs.Prelude.{◌≡◌, IfOk};
 ghost use Rattle.xs_tree.specs.ProgramTree.{declared_tree};
@@ -68,6 +69,7 @@ fn begins_with_number(members: &[Member]) -> bool
     matches!(members, [Member::Number(_), ..])
 }
 
+/// The members that are numbers.
 fn listed_numbers(alloc: Global, members: &[Member]) -> Result<NumList, OutOfMemory>
     ensures { IfOk result (λ listed. listed ≡ numbers_in members.now) }
 {
@@ -80,6 +82,7 @@ fn listed_numbers(alloc: Global, members: &[Member]) -> Result<NumList, OutOfMem
     Ok(listed)
 }
 
+/// The numbers of the members that are symbols.
 fn listed_symbols(
     alloc: Global,
     numbers: &SymbolNumbers<'_>,

@@ -1,4 +1,5 @@
-//! The definitions of a model.
+//! The definitions of a model, judged in order ([`judge_definitions`]): each names earlier ones alone, so one pass knows
+//! what it needs.
 
 ghost use Rattle.std.specs.Prelude.{◌≡◌, false, [], ◌∷◌, ◌++◌, IfOk};
 ghost use Rattle.xs_tree.specs.Written.{tree_of};

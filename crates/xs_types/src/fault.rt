@@ -1,3 +1,6 @@
+//! The rules of kinds and limits, and the first that is broken ([`TypeFault`]). Of two rules that are broken at one
+//! item the one with the lower number is told: [`lower`] chooses it.
+
 ghost use Rattle.std.specs.Prelude.{◌≡◌};
 ghost use Rattle.xs_types.specs.Rows.{rule_number, lower, lesser_rule, unless};
 

@@ -1,4 +1,5 @@
-//! What is known of an expression's values and the rule that it breaks, by one pass over its tree.
+//! What is known of an expression's values and the rule that it breaks, by one pass over its tree ([`judge`]). Each node
+//! is judged by `sort` or `several`, over what is known of its parts.
 
 ghost use Rattle.std.specs.Prelude.{◌≡◌, false, None, slice_get};
 ghost use Rattle.xs_tree.specs.Written.{tree_of, trees_of, branches_of};
@@ -35,6 +36,7 @@ pub(crate) fn name_sort(sorts: &Sorts, name: Flat) -> Sort
     }
 }
 
+/// What is known at a place of a list; a truth value where the list is shorter.
 fn sort_at(sorts: &[Sort], number: u32) -> Sort
     ensures { result ≡ sort_at (slice_get sorts.now number) }
 {
@@ -82,6 +84,7 @@ pub(crate) fn judge(sorts: &Sorts, sets: bool, e: &Expr<Flat>) -> Judged
     }
 }
 
+/// The members of a set, judged one after the other.
 #[cycle(judge)]
 #[tactic(auto, using(crate::proofs::ListLaws::judged_more))]
 fn judge_members(sorts: &Sorts, members: &[Expr<Flat>]) -> Option<Several>
@@ -94,6 +97,7 @@ fn judge_members(sorts: &Sorts, members: &[Expr<Flat>]) -> Option<Several>
     values
 }
 
+/// The values of the branches of a case, judged one after the other.
 #[cycle(judge)]
 #[tactic(auto, using(crate::proofs::ListLaws::values_more))]
 fn judge_values(sorts: &Sorts, sets: bool, branches: &[(Expr<Flat>, Expr<Flat>)]) -> Option<Several>
@@ -106,6 +110,7 @@ fn judge_values(sorts: &Sorts, sets: bool, branches: &[(Expr<Flat>, Expr<Flat>)]
     values
 }
 
+/// The conditions of the branches of a case, judged one after the other.
 #[cycle(judge)]
 #[tactic(auto, using(crate::proofs::ListLaws::guards_more))]
 fn judge_conditions(sorts: &Sorts, branches: &[(Expr<Flat>, Expr<Flat>)]) -> Guards

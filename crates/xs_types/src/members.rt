@@ -1,6 +1,6 @@
-//! The members of a type that lists its values.
+//! The members of a type that lists its values ([`judge_members`]): all numbers or all symbols, and none twice.
 
-ghost use Rattle.std.specs.Prelude.{◌≡◌, None, not, map, IfOk, OnOk};
+ghost use Rattle.std.specs.Prelude.{◌≡◌, None, not, IfOk, OnOk};
 ghost use Rattle.xs_type_laws.specs.Declared.{has_double, judged_members};
 ghost use Rattle.xs_types.specs.Answers.{told};
 ghost use Rattle.xs_types.specs.Several.{add_all};
@@ -68,6 +68,7 @@ pub(crate) fn judge_members(alloc: Global, members: &[Member]) -> Result<Judged,
     Ok(whole_type(all_members(members), double))
 }
 
+/// The members, judged one after the other.
 fn all_members(members: &[Member]) -> Option<Several>
     ensures { result ≡ add_all None (members_judged members.now) }
 {

@@ -1,4 +1,5 @@
-//! The members of a set and the branches of a case, one after the other.
+//! The members of a set and the branches of a case, one after the other: [`add_to`] and [`guard_by`] take one more, and
+//! [`whole_set`] and [`whole_case`] judge the node over all of them.
 
 ghost use Rattle.std.specs.Prelude.{◌≡◌, Some, None};
 ghost use Rattle.xs_types.specs.Several.{add_to, guard_by, row_set, row_case};
@@ -41,6 +42,7 @@ pub(crate) fn add_to(before: Option<Several>, value: Judged) -> Several
     }
 }
 
+/// One more value after others: it has to be of the class of the first.
 fn add_to_some(before: Several, value: Judged) -> Several
     ensures { result ≡ add_to (Some before) value }
 {
@@ -98,6 +100,7 @@ pub(crate) fn whole_case(sets: bool, guards: Guards, values: Option<Several>) ->
     }
 }
 
+/// What is told of no values at all.
 pub(crate) fn no_sort() -> Sort
     ensures { result ≡ record { class = Truth; interval = None } }
 {

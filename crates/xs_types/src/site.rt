@@ -1,4 +1,5 @@
-//! The first place at which a model breaks a rule.
+//! The first place at which a model breaks a rule: by instances, then items, then numbers of rules ([`earlier`]). The
+//! parts of a model are judged one after the other, and the earliest of what they find is told.
 
 ghost use Rattle.std.specs.Prelude.{◌≡◌};
 ghost use Rattle.xs_types.specs.Sites.{is_before, earlier_site, site_at};

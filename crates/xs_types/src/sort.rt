@@ -1,4 +1,6 @@
-//! What is known of an expression's values, and the rules of one node over its parts.
+//! What is known of an expression's values, and the rules of one node over its parts. For each node there is a function
+//! of what is known of its parts: [`literal`], [`negative`], [`operation`], and those for spans, ranges, negations and
+//! choices. A node that breaks a rule has a class and no interval, so that a rule is told once, where it is broken.
 
 ghost use Rattle.std.specs.Prelude.{◌≡◌, false, None};
 ghost use Rattle.xs_type_laws.specs.Judged.{joined, on_both, exact_interval, negative_interval};
@@ -201,6 +203,7 @@ pub fn negative(a: Judged) -> Judged
     one_value(own, Class::Number, interval, a.broken)
 }
 
+/// The interval of a negated number, where that of the number is known.
 #[tactic(auto, using(crate::proofs::RowLaws::found_fitting))]
 fn negative_found(a: Option<Interval>) -> Exact
     ensures { result ≡ exact_of (negative_interval a) }
@@ -224,6 +227,7 @@ pub fn operation(sets: bool, op: Op, a: Judged, b: Judged) -> Judged
     }
 }
 
+/// Two truth values joined to one.
 fn connective(a: Judged, b: Judged) -> Judged
     ensures { result ≡ row_connective a b }
 {
@@ -242,6 +246,7 @@ fn same(a: Judged, b: Judged) -> Judged
     one_value(own, Class::Truth, None, lower(a.broken, b.broken))
 }
 
+/// Two numbers compared.
 fn order(a: Judged, b: Judged) -> Judged
     ensures { result ≡ row_order a b }
 {
@@ -290,6 +295,7 @@ fn made_by(op: Op, a: Option<Interval>, b: Option<Interval>) -> Exact
     }
 }
 
+/// The interval of an arithmetic operator, where no divisor may be 0.
 #[tactic(auto, using(crate::proofs::RowLaws::found_fitting))]
 fn made_by_two(op: Op, a: Interval, b: Interval) -> Exact
     ensures { result ≡ exact_of (exact_interval op a b) }
@@ -304,6 +310,7 @@ fn made_by_two(op: Op, a: Interval, b: Interval) -> Exact
     }
 }
 
+/// The union of two values or sets of one class.
 fn union(sets: bool, a: Judged, b: Judged) -> Judged
     ensures { result ≡ row_union sets a b }
 {

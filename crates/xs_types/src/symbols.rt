@@ -1,4 +1,5 @@
-//! The numbers of a model's symbols.
+//! The numbers of a model's symbols: each text by its first place in the model's list, found in a map
+//! ([`SymbolNumbers`]).
 
 ghost use Rattle.std.specs.Prelude.{◌≡◌, ◌≤◌, length, IfOk, IsOk, OnOk};
 ghost use Rattle.xs_type_laws.specs.Costs.{symbol_number, member_number};

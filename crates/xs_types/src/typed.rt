@@ -1,6 +1,7 @@
-//! Models that break no rule.
+//! Models that break no rule. [`check_model`] is the main function: a [`Typed`] model, or the first rule that is broken.
+//! The fields of a typed model are private and their ghost fields say what holds of it, so whoever has one knows that.
 
-ghost use Rattle.std.specs.Prelude.{◌≡◌, ◌<◌, ◌≤◌, ◌||◌, nat_lt, map, length, slice_get, Some, IfOk, IfErr};
+ghost use Rattle.std.specs.Prelude.{◌≡◌, ◌<◌, ◌≤◌, map, length, slice_get, Some, IfOk, IfErr};
 ghost use Rattle.xs_tree.specs.ModelTree.{model_tree, leaf_of};
 ghost use Rattle.xs_type_laws.specs.Costs.{model_cost, state_bits};
 ghost use Rattle.xs_type_laws.specs.Models.{IsTyped, kind_of_leaf};

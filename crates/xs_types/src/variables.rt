@@ -1,10 +1,10 @@
-//! The variables of a model.
+//! The variables of a model: their domains, what is known of their values, their state bits, and the first rule that a
+//! declaration breaks ([`declare_all`]).
 
 ghost use Rattle.std.specs.Prelude.{◌≡◌, ◌+◌, [], ◌∷◌, ◌++◌, min, map, IfOk};
 ghost use Rattle.xs_tree.specs.ProgramTree.{declared_tree};
 ghost use Rattle.xs_tree.specs.ModelTree.{model_tree, variable_tree};
 ghost use Rattle.xs_type_laws.specs.Declared.{judged_declared};
-ghost use Rattle.xs_type_laws.specs.Costs.{state_bits};
 ghost use Rattle.xs_type_laws.specs.FirstBreach.{first_of};
 ghost use Rattle.xs_type_laws.specs.Models.{judged_variables, variable_breaches};
 ghost use Rattle.xs_types.specs.Answers.{told_rules};
@@ -44,6 +44,7 @@ pub(crate) fn declare_all(alloc: Global, m: &FlatModel) -> Result<Declarations, 
     declare_each(alloc, &numbers, m.variables.as_slice())
 }
 
+/// These variables, one after the other.
 fn declare_each(
     alloc: Global,
     numbers: &SymbolNumbers<'_>,

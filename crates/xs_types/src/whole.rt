@@ -1,4 +1,5 @@
-//! All that is known of a model, and the first rule that it breaks.
+//! All that is known of a model ([`find_all`]), and the first rule that it breaks ([`fault_of`]): the earliest of its
+//! variables, definitions and formulas, and the limits of size last.
 
 ghost use Rattle.std.specs.Prelude.{◌≡◌, ◌||◌, min, nat_lt, map, IfOk};
 ghost use Rattle.xs_tree.specs.ModelTree.{model_tree};

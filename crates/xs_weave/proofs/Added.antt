@@ -1,12 +1,12 @@
 -- What the added names are and give in the woven program.
-use Rattle.std.proofs.Common.{◌≡◌, ◌≢◌, ◌⊎◌, inl, inr, ℕ, zero, suc, ◌<◌, arith, Bool, true, false, List, [], ◌∷◌, ◌++◌, length, Some, None, refl, sym, ◌∙◌, ap, subst}
-use Rattle.std.specs.Prelude.{if◌then◌else◌, map, flat_map, Contains, slice_index_or, codes, ◌||◌}
-use Rattle.std.proofs.lemmas.List.{append_cancel_left, append_cancel_right}
+use Rattle.std.proofs.Common.{◌≡◌, ◌≢◌, inl, inr, ℕ, zero, suc, ◌<◌, arith, Bool, true, false, List, [], ◌∷◌, ◌++◌, length, Some, None, refl, sym, ◌∙◌, ap, subst}
+use Rattle.std.specs.Prelude.{if◌then◌else◌, map, flat_map, Contains, slice_index_or, codes}
+use Rattle.std.proofs.lemmas.List.{append_cancel_right}
 use Rattle.std.proofs.lemmas.List.Elements.{Contains-append_right}
 use Rattle.xs_tree.specs.declared.program.Member.TheVariants as member
 use Rattle.xs_tree.specs.ProgramTree.{Text, SectionTree, var, ivar, frozen, define, constants, assign, init, invar, trans, ModuleTree, ProgramTree}
 use Rattle.xs_tree.specs.Texts.{same_text, is_among}
-use Rattle.xs_tree.specs.Scope.{state, a_variable, find_module, kind_declared, kind_in_sections, kind_in, is_symbol, is_symbol_of_sections, is_symbol_of_members, is_symbol_of_decls}
+use Rattle.xs_tree.specs.Scope.{state, a_variable, kind_declared, kind_in_sections, kind_in, is_symbol, is_symbol_of_sections, is_symbol_of_members, is_symbol_of_decls}
 use Rattle.xs_tree.specs.Trace.{AtSome}
 use Rattle.xs_tree.proofs.ValueLaws.{same_text_refl}
 use Rattle.xs_fei.specs.Instructions.{ModeTree, SliceTree, InstructionTree, is_target, is_affected}

@@ -1,10 +1,10 @@
 -- The cut is one to one, up to what the two sides speak of, and onto.
 use Rattle.std.proofs.Common.{◌≡◌, ◌⊎◌, inl, inr, List, [], ◌∷◌, refl, sym, ◌∙◌, subst}
-use Rattle.xs_tree.specs.ProgramTree.{Text, DeclaredTree, ModuleTree, ProgramTree}
+use Rattle.xs_tree.specs.ProgramTree.{ModuleTree, ProgramTree}
 use Rattle.xs_tree.specs.Values.{symbol}
-use Rattle.xs_tree.specs.Scope.{Place, Role, Kind, a_formal, a_variable, a_define, an_instance, undeclared, kind_in, kind_in_sections}
+use Rattle.xs_tree.specs.Scope.{Place, Kind, a_formal, a_variable, a_define, an_instance, undeclared, kind_in, kind_in_sections}
 use Rattle.xs_tree.specs.May.{Valuation}
-use Rattle.xs_tree.specs.Trace.{IsInstance, IsVariable, Each}
+use Rattle.xs_tree.specs.Trace.{IsInstance, Each}
 use Rattle.xs_fei.specs.Instructions.{SliceTree, InstructionTree, slices_of}
 use Rattle.xs_weave.specs.Extended.{Moment}
 use Rattle.xs_fei.specs.AddedNames.{mode_symbol}

@@ -2,7 +2,7 @@
 use Rattle.std.proofs.Common.{◌≡◌, ℕ, List, [], ◌∷◌, ◌≤◌, length, map, take, refl, ◌∙◌, ap}
 use Rattle.std.proofs.lemmas.List.{take_all}
 use Rattle.xs_tree.specs.declared.expr.Expr.{Expr}
-use Rattle.xs_tree.specs.Tree.{Tree, Trees, Branches, tree_then, branch_then, trees_from, branches_from}
+use Rattle.xs_tree.specs.Tree.{Tree, tree_then, branch_then, trees_from, branches_from}
 use Rattle.xs_tree.specs.ProgramTree.{Text, Path}
 use Rattle.std.specs.Prelude.{Bool}
 use Rattle.xs_tree.specs.Written.{tree_of, trees_of, branches_of, branch_trees}

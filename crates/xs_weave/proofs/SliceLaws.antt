@@ -1,15 +1,15 @@
 -- Sections that are appended slice by slice.
-use Rattle.std.proofs.Common.{◌≡◌, ℕ, ◌+◌, ◌<◌, Bool, true, false, List, [], ◌∷◌, ◌++◌, length, get_or, drop, map, refl, sym, ◌∙◌, ap}
+use Rattle.std.proofs.Common.{◌≡◌, ℕ, ◌+◌, ◌<◌, Bool, true, false, List, [], ◌∷◌, ◌++◌, length, get_or, drop, map, refl, ◌∙◌, ap}
 use Rattle.std.specs.Prelude.{flat_map, if◌then◌else◌}
 use Rattle.std.proofs.lemmas.List.{append_assoc, append-nil, drop_more}
 use Rattle.std.proofs.lemmas.Grind.{flat_map-append}
 use Rattle.xs_tree.specs.Texts.{same_text}
-use Rattle.xs_tree.specs.Tree.{Tree, Branches, truth, case_of, branch_then, branches_from}
-use Rattle.xs_tree.specs.ProgramTree.{Text, Path, Formula, SectionTree, ModuleTree}
+use Rattle.xs_tree.specs.Tree.{Tree, truth, case_of, branch_then, branches_from}
+use Rattle.xs_tree.specs.ProgramTree.{Text, Path, Formula, SectionTree}
 use Rattle.xs_fei.specs.declared.instructions.Extension.{Extension}
 use Rattle.xs_fei.specs.Instructions.{ModeTree, SliceTree, ExtensionTree, extension_tree, slices_from}
 use Rattle.xs_fei.specs.Templates.{stands}
-use Rattle.xs_weave.specs.Woven.{mode_branches, slice_sections, own_slices}
+use Rattle.xs_weave.specs.Woven.{mode_branches, own_slices}
 
 -- the branches of a case over modes, from a list
 mode_branches_from : (slice : Text) (f : ModeTree → Formula) (last : Formula) (ms : List ModeTree) →

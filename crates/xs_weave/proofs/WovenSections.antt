@@ -12,25 +12,19 @@ use Rattle.xs_tree.specs.Trace.{Keeps, IsInstance, FirstAssigned, EachAssigned, 
 use Rattle.xs_tree.proofs.Monotone.{Extends, evaluate_below, name_values_more}
 use Rattle.xs_fei.specs.Instructions.{SliceTree, InstructionTree, slices_of, is_affected}
 use Rattle.xs_weave.specs.Extended as extended
-use Rattle.xs_weave.specs.Extended.{Moment, with_own, own_reading, target_value}
+use Rattle.xs_weave.specs.Extended.{Moment, with_own, own_reading}
 use Rattle.xs_fei.specs.AddedNames.{own_name}
 use Rattle.xs_weave.specs.Conservative.{IsSlice, IsCutMoment}
 use Rattle.xs_weave.specs.Woven.{rename, same_path, tree_map_both, woven_assignment, woven_section, woven}
 use Rattle.xs_fei.specs.Weavable.{Among, HasMeaning, IsReadable, IsLawfulTarget, IsLawfulAssignment, IsLawfulSection, IsWeavable, IsLawfulDecl}
 use Rattle.xs_fei.proofs.Equivalence.{iff_trans, iff_refl}
 use Rattle.xs_fei.proofs.AmongLaws.{each_iff, each_map, each_at}
-use Rattle.xs_weave.proofs.Agreement.{Agree, evaluate_leaves, evaluate_map_both, values_agree, may_agree}
+use Rattle.xs_weave.proofs.Agreement.{evaluate_leaves, evaluate_map_both, values_agree, may_agree}
 use Rattle.xs_weave.proofs.Added.{contains_among, affected_slice}
 use Rattle.xs_weave.proofs.LeafValues.{slice_leaves}
 
 module _ (p : ProgramTree) (i : InstructionTree) (ok : IsWeavable p i) where
-  pub cut_agrees : (v : Valuation) (mo : Moment) → IsCutMoment p i v mo → Agree p v mo.read
-  cut_agrees v mo cut = cut.read
-
   module _ (at : Place) (m : ModuleTree) (is : IsInstance p at m) where
-    affected : Text → Bool
-    affected = is_affected i m.name
-
     pub own_value : (v : Valuation) (mo : Moment) → IsCutMoment p i v mo → (x : Text) → is_affected i m.name x ≡ true → v at (own_name x) ≡ mo.own at x
     own_value v mo cut x h =
         let found : (s : SliceTree) × Among (slices_of i m.name) s × (s.target ≡ x) = affected_slice (slices_of i m.name) x h in

@@ -1,5 +1,5 @@
 -- What a woven program means: its traces are the extended traces, and its faultless ones those of the program.
-use Rattle.std.specs.Prelude.{◌≡◌, ◌↔◌, List, [], ◌∷◌, ◌++◌, Some, None, Contains, codes}
+use Rattle.std.specs.Prelude.{◌≡◌, ◌↔◌, List, [], ◌∷◌, Some, None, Contains}
 use Rattle.xs_tree.specs.ProgramTree.{Text, DeclaredTree, ModuleTree, ProgramTree}
 use Rattle.xs_tree.specs.Values.{symbol}
 use Rattle.xs_tree.specs.Scope.{Place, Role}
@@ -16,6 +16,7 @@ EachBoth R (a ∷ more) (b ∷ others) = R a b × EachBoth R more others
 EachBoth R _ _ = ⊥
 
 module _ (p : ProgramTree) (i : InstructionTree) where
+  -- a slice of the module of an instance
   abbrev pub IsSlice : Place → SliceTree → Type 0
   IsSlice at s = (m : ModuleTree) × IsInstance p at m × Contains (slices_of i m.name) s
 
@@ -32,6 +33,7 @@ module _ (p : ProgramTree) (i : InstructionTree) where
     pub known : (at : Place) (s : SliceTree) → IsSlice at s → IsStateOf s (mo.mode at s.name)
     pub mode : (at : Place) (s : SliceTree) → IsSlice at s → v at (mode_variable s.name) ≡ symbol (mode_symbol s.name (mo.mode at s.name))
 
+  -- each moment is cut from the valuation at its place
   abbrev pub IsCut : List Valuation → List Moment → Type 0
   IsCut vs trace = EachBoth IsCutMoment vs trace
 
@@ -44,6 +46,7 @@ module _ (p : ProgramTree) (i : InstructionTree) where
   IsHidden trace vs =
       EachBoth (λ (mo : Moment) (v : Valuation). (at : Place) (x : Text) (role : Role) (type : DeclaredTree) → IsVariable p at x role type → v at x ≡ mo.read at x) trace vs
 
+  -- the program means the extension of the other by the instructions
   pub record IsExtensionOf (w : ProgramTree) : Type 0 where
     -- a list of valuations is a trace of the woven program exactly where what it is cut to is an extended trace
     pub traces : (vs : List Valuation) (trace : List Moment) → IsCut vs trace → (IsTrace w vs ↔ IsExtended p i trace)

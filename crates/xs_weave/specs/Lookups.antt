@@ -5,6 +5,7 @@ use Rattle.xs_tree.specs.Texts.{same_text}
 use Rattle.xs_fei.specs.Instructions.{ExtensionTree, is_target}
 use Rattle.xs_tree.specs.ProgramTree.{Text, DeclaredTree, boolean, range, members, instance, DeclTree, DefineTree, SectionTree, var, ivar, frozen, define, constants, assign, init, invar, trans}
 
+-- the type of a variable; an instance counts as boolean
 abbrev pub variable_type : DeclaredTree → DeclaredTree
 variable_type boolean = boolean
 variable_type (range lo hi) = range lo hi
@@ -16,6 +17,7 @@ abbrev pub type_in_decls : List DeclTree → Text → Option DeclaredTree
 type_in_decls [] x = None
 type_in_decls (d ∷ ds) x = if same_text d.name x then Some (variable_type d.what) else type_in_decls ds x
 
+-- boolean, where the name is that of a definition
 abbrev pub type_in_defines : List DefineTree → Text → Option DeclaredTree
 type_in_defines [] x = None
 type_in_defines (d ∷ ds) x = if same_text d.name x then Some boolean else type_in_defines ds x

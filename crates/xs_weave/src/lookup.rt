@@ -1,3 +1,6 @@
+//! What the weave asks of a program and its instructions: whether a slice affects a variable ([`is_affected`]), and which
+//! type a module declares for a name ([`target_type`]). Each answer goes once through the lists that it is about.
+
 ghost use Rattle.std.specs.Prelude.{◌≡◌, IfOk, map, option_map};
 ghost use Rattle.std.specs.List.{list_any};
 ghost use Rattle.xs_tree.specs.Texts.{same_text};
@@ -25,6 +28,7 @@ pub fn is_affected(i: &Instructions, owner: &Name, x: &Name) -> bool
     any_affects(i.extensions.as_slice(), owner, x)
 }
 
+/// Whether a slice of some extension of the module affects the variable.
 fn any_affects(extensions: &[Extension], owner: &Name, x: &Name) -> bool
     ensures { result ≡ is_target_of (slices_from (map extension_tree extensions.now) owner.now) x.now }
 {
@@ -36,6 +40,7 @@ fn any_affects(extensions: &[Extension], owner: &Name, x: &Name) -> bool
     false
 }
 
+/// Whether this is an extension of the module with a slice that affects the variable.
 #[tactic(auto, unfolding(crate::specs::Lookups::affects))]
 fn affects(extension: &Extension, owner: &Name, x: &Name) -> bool
     ensures { result ≡ affects_in (extension_tree extension.now) owner.now x.now }
@@ -43,6 +48,7 @@ fn affects(extension: &Extension, owner: &Name, x: &Name) -> bool
     has_text(&extension.module, owner) && is_target(extension.slices.as_slice(), x)
 }
 
+/// Whether one of the slices affects the variable.
 #[tactic(auto, using(crate::proofs::LookupLaws::target_more))]
 fn is_target(slices: &[Slice], x: &Name) -> bool
     ensures { result ≡ is_target_of (map slice_tree slices.now) x.now }
@@ -65,18 +71,21 @@ pub fn target_type(m: &Module, x: &Name) -> Result<Declared, OutOfMemory>
     declared_type(m, x)
 }
 
+/// Whether the name is a formal of the module.
 fn has_formal(m: &Module, x: &Name) -> bool
     ensures { result ≡ list_any (λ f. same_text f x.now) m.now.formals }
 {
     is_formal(m.formals.as_slice(), x)
 }
 
+/// The type with which the module declares the name; boolean where it declares none.
 fn declared_type(m: &Module, x: &Name) -> Result<Declared, OutOfMemory>
     ensures { IfOk result (λ made. declared_tree made ≡ type_of_kind (kind_in_sections (map section_tree m.now.sections) x.now)) }
 {
     type_among(m.sections.as_slice(), x)
 }
 
+/// Whether the name is one of these formals.
 #[tactic(auto, using(xs_fei::proofs::AllowedLaws::any_more))]
 fn is_formal(formals: &[Name], x: &Name) -> bool
     ensures { result ≡ list_any (λ f. same_text f x.now) formals.now }
@@ -89,6 +98,7 @@ fn is_formal(formals: &[Name], x: &Name) -> bool
     false
 }
 
+/// The type of the first declaration of the name in these sections.
 fn type_among(sections: &[Section], x: &Name) -> Result<Declared, OutOfMemory>
     ensures { IfOk result (λ made. declared_tree made ≡ type_of_kind (kind_in_sections (map section_tree sections.now) x.now)) }
 {
@@ -102,6 +112,7 @@ fn type_among(sections: &[Section], x: &Name) -> Result<Declared, OutOfMemory>
     Ok(Declared::Boolean)
 }
 
+/// The type of the first declaration of the name in a section, where there is one.
 #[tactic(auto, unfolding(crate::specs::Lookups::type_in_section))]
 fn type_of_section(section: &Section, x: &Name) -> Result<Option<Declared>, OutOfMemory>
     ensures { IfOk result (λ found. option_map declared_tree found ≡ type_in_section (section_tree section.now) x.now) }
@@ -119,6 +130,7 @@ fn type_of_section(section: &Section, x: &Name) -> Result<Option<Declared>, OutO
     }
 }
 
+/// The type of the first of these declarations that is one of the name.
 #[tactic(auto, using(crate::proofs::LookupLaws::decls_more))]
 fn type_of_decls(decls: &[Decl], x: &Name) -> Result<Option<Declared>, OutOfMemory>
     ensures { IfOk result (λ found. option_map declared_tree found ≡ type_in_decls (map decl_tree decls.now) x.now) }
@@ -131,6 +143,7 @@ fn type_of_decls(decls: &[Decl], x: &Name) -> Result<Option<Declared>, OutOfMemo
     Ok(None)
 }
 
+/// The type of a define: boolean, since none is written.
 #[tactic(auto, using(crate::proofs::LookupLaws::defines_more))]
 fn type_of_defines(defines: &[Define], x: &Name) -> Option<Declared>
     ensures { option_map declared_tree result ≡ type_in_defines (map define_tree defines.now) x.now }
@@ -143,6 +156,7 @@ fn type_of_defines(defines: &[Define], x: &Name) -> Option<Declared>
     None
 }
 
+/// The type of a variable; an instance counts as boolean.
 fn variable_type(what: &Declared) -> Result<Declared, OutOfMemory>
     ensures { IfOk result (λ made. declared_tree made ≡ variable_type_of (declared_tree what.now)) }
 {

@@ -1,5 +1,6 @@
-//! Names of own values in the nominal text: targets of assignments, single names in an INIT, and single
-//! names under `next` in a TRANS.
+//! Names of own values in the nominal text: targets of assignments, single names in an INIT, and single names under
+//! `next` in a TRANS. [`renamed_sections`] is the main function. There the text says what a variable is by itself;
+//! everywhere else it reads the variable, and the name stays.
 
 ghost use Rattle.std.specs.Prelude.{◌≡◌, [], ◌∷◌, IfOk, map};
 ghost use Rattle.xs_tree.specs.Written.{tree_of, trees_of, branches_of};
@@ -29,6 +30,7 @@ pub fn renamed_sections(
     Ok(made)
 }
 
+/// A section, with the names of own values where its kind has them.
 fn renamed_section(
     alloc: Global,
     i: &Instructions,
@@ -53,6 +55,7 @@ fn renamed_section(
     }
 }
 
+/// The assignments of a section, with the names of own values as targets.
 fn renamed_assignments(
     alloc: Global,
     i: &Instructions,
@@ -68,6 +71,7 @@ fn renamed_assignments(
     Ok(made)
 }
 
+/// An assignment; its value reads variables, and so keeps its names.
 fn renamed_assignment(
     alloc: Global,
     i: &Instructions,
@@ -101,6 +105,7 @@ fn renamed_name(
     }
 }
 
+/// A name of one part: that of the own value, where a slice affects the variable.
 fn renamed_single(
     alloc: Global,
     i: &Instructions,
@@ -117,6 +122,7 @@ fn renamed_single(
     Dotted::new(alloc, same)
 }
 
+/// A name of an expression, renamed where it speaks of own values.
 fn renamed_leaf(
     alloc: Global,
     i: &Instructions,
@@ -176,6 +182,7 @@ fn renamed(
     }
 }
 
+/// An operand, renamed and boxed.
 #[cycle(renamed)]
 fn renamed_boxed(
     alloc: Global,
@@ -194,6 +201,7 @@ fn renamed_boxed(
     }
 }
 
+/// The members of a set, renamed.
 #[cycle(renamed)]
 fn renamed_members(
     alloc: Global,
@@ -212,6 +220,7 @@ fn renamed_members(
     Ok(made)
 }
 
+/// The branches of a case, renamed.
 #[cycle(renamed)]
 fn renamed_branches(
     alloc: Global,

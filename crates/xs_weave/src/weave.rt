@@ -1,7 +1,9 @@
-ghost use Rattle.std.specs.Prelude.{◌≡◌, [], ◌∷◌, ◌++◌, IfOk, OnOk, All, map, flat_map, if◌then◌else◌};
-ghost use Rattle.xs_tree.specs.Texts.{same_text};
+//! The weave of a program ([`woven_program`]): module by module, its own sections with the names of own values (`rename`),
+//! and behind them those of each slice that affects it (`slices`).
+
+ghost use Rattle.std.specs.Prelude.{◌≡◌, ◌++◌, IfOk, OnOk, All, map, flat_map};
 ghost use Rattle.xs_tree.specs.ProgramTree.{program_tree, module_tree, section_tree};
-ghost use Rattle.xs_fei.specs.Instructions.{instruction_tree, slice_tree, slices_of, is_affected};
+ghost use Rattle.xs_fei.specs.Instructions.{instruction_tree, slice_tree, is_affected};
 ghost use Rattle.xs_weave.specs.Woven.{woven, woven_tree, woven_section, added_sections, slice_sections, own_slices};
 ghost use Rattle.xs_fei.specs.Instructions.{extension_tree};
 ghost use Rattle.xs_fei.specs.WeaveNumbers.{ExtensionHasNegations, SliceHasNegations, ModuleHasNegations};
@@ -26,6 +28,7 @@ pub fn woven_program(alloc: Global, p: &Program, i: &Instructions) -> Result<Pro
     Ok(Program { modules })
 }
 
+/// The modules, woven in their order.
 fn woven_modules(
     alloc: Global,
     i: &Instructions,
@@ -42,6 +45,7 @@ fn woven_modules(
     Ok(made)
 }
 
+/// A module with its name and formals, and woven sections.
 #[tactic(auto, unfolding(crate::specs::Woven::woven_tree))]
 fn woven_module(alloc: Global, i: &Instructions, m: &Module) -> Result<Module, OutOfMemory>
     requires types { ModuleHasNegations m.now }
@@ -58,6 +62,7 @@ fn woven_module(alloc: Global, i: &Instructions, m: &Module) -> Result<Module, O
     })
 }
 
+/// The sections of a module with the names of own values, and behind them what slices add.
 fn woven_sections(alloc: Global, i: &Instructions, m: &Module) -> Result<SectionList, OutOfMemory>
     requires types { ModuleHasNegations m.now }
     requires effects { All ExtensionHasNegations i.now.extensions }
@@ -86,6 +91,7 @@ fn add_extensions(
     Ok(())
 }
 
+/// Appends what the slices of an extension add, if it is one of the module.
 #[tactic(auto, using(crate::proofs::SliceLaws::weave_rules))]
 fn add_extension(
     alloc: Global,
@@ -103,6 +109,7 @@ fn add_extension(
     Ok(())
 }
 
+/// Appends what slices add, in their order.
 #[tactic(auto, using(crate::proofs::SliceLaws::weave_rules))]
 fn add_slices(
     alloc: Global,
@@ -120,6 +127,7 @@ fn add_slices(
     Ok(())
 }
 
+/// Appends what a slice adds: its variables, its assignments and its rules.
 #[tactic(auto, using(crate::proofs::SliceLaws::weave_rules))]
 fn add_slice(
     alloc: Global,

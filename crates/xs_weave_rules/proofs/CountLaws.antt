@@ -41,9 +41,6 @@ module _ (names : List Text) where
   counted_item n u site sites (Err f) none g = ap (λ q. fault_at q (n + 1) (first_fault (count_broken_at names) (n + 1) sites)) none ∙ g
 
   module _ (before : List OwnedSlice) (o : OwnedSlice) where
-    many : ℕ
-    many = instances_of names o.owner
-
     one_mode : (n : ℕ) (earlier : List ModeTree) (m : ModeTree) (c : Counted) → c.item ≡ n → c.faults ≡ faults_of names before + length earlier * instances_of names o.owner →
         IsCounted n (a_mode before o earlier m ∷ []) (faults_of names before + suc (length earlier) * instances_of names o.owner) (counted_mode (instances_of names o.owner) (length earlier) c)
     one_mode n earlier m c at has =

@@ -22,7 +22,7 @@ pub among_right : {A : Type 0} (xs ys : List A) (x : A) → Among ys x → Among
 among_right [] ys x a = a
 among_right (y ∷ xs) ys x a = inr (among_right xs ys x a)
 
-among_either : {A : Type 0} (xs ys : List A) (x : A) → Among (xs ++ ys) x → Among xs x ⊎ Among ys x
+pub among_either : {A : Type 0} (xs ys : List A) (x : A) → Among (xs ++ ys) x → Among xs x ⊎ Among ys x
 among_either [] ys x a = inr a
 among_either (y ∷ xs) ys x (inl e) = inl (inl e)
 among_either (y ∷ xs) ys x (inr a) = go (among_either xs ys x a)

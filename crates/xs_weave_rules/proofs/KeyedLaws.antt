@@ -101,10 +101,6 @@ module _ {K V B : Type 0} (text : K → Text) (value : V → B) (es : List (K ×
   has_first : is_some (lookup (λ j. pointwise nat_eq (text k) (text j)) es) ≡ is_some (first_with (seen es) (text k))
   has_first = sym (some_mapped value (lookup (λ j. pointwise nat_eq (text k) (text j)) es)) ∙ ap is_some (found_first text value es (text k))
 
-  -- an entry stays away where its text has one
-  pub entry_kept : is_some (lookup (λ j. pointwise nat_eq (text k) (text j)) es) ≡ true → seen es ≡ with_entry (seen es) (text k, value v)
-  entry_kept h = sym (if_true (is_some (first_with (seen es) (text k))) (seen es) (seen es ++ (text k, value v) ∷ []) (sym has_first ∙ h))
-
   -- and goes last where its text has none
   pub entry_put : is_some (lookup (λ j. pointwise nat_eq (text k) (text j)) es) ≡ false →
       seen (insert_entry (λ i j. pointwise nat_eq (text i) (text j)) es k v) ≡ with_entry (seen es) (text k, value v)

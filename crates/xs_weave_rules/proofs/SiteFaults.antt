@@ -155,14 +155,6 @@ module _ (p : ProgramTree) (old now : Met) (all sites rest : List Site) (slices 
   pub left_stops : (f : RuleFault) → IsLeft p old now all (sites ++ rest) slices (more ++ more_left) → first_fault (broken_at p) now.last sites ≡ Some f → first_fault (broken_at p) old.last all ≡ Some f
   left_stops f left told = sym left.faults ∙ faults_some (broken_at p) now.last sites rest f told
 
-pub left_done : (p : ProgramTree) (old now : Met) (all : List Site) (slices : List OwnedSlice) → IsLeft p old now all [] slices [] → IsTaken p old.last old now all slices
-left_done p old now all slices left = record {
-  kept = sym left.faults;
-  last = let a : now.last + 0 ≡ old.last + length all = left.last in omega arith;
-  slices_are = sym (append-nil (slices_in now)) ∙ left.slices_are;
-  met = left.met;
-}
-
 -- the items of one slice before those of others
 pub slice_first : (before : List OwnedSlice) (owner : Text) (s : SliceTree) (ss : List SliceTree) →
     slice_sites before owner (s ∷ ss) ≡ slice_sites before owner (s ∷ []) ++ slice_sites (before ++ owned owner s ∷ []) owner ss

@@ -23,5 +23,6 @@ is_one_too_many instances (a_slice before o) = false
 is_one_too_many instances (a_mode before o earlier m) =
     nat_lt 255 (length earlier) || nat_lt 256 (faults_of instances before + (suc (length earlier) * instances_of instances o.owner))
 
+-- the limit as a rule of the item
 abbrev pub count_broken_at : List Text → Site → Option Rule
 count_broken_at instances site = if is_one_too_many instances site then Some TooManyFaults else None

@@ -1,17 +1,19 @@
 -- The first broken rule, item by item, and what the items so far have left behind.
-use Rattle.std.specs.Prelude.{◌≡◌, ℕ, ◌+◌, Bool, ◌||◌, List, [], ◌∷◌, ◌++◌, Option, Some, None, map, flat_map, length}
+use Rattle.std.specs.Prelude.{◌≡◌, ◌≢◌, ℕ, ◌+◌, Bool, ◌||◌, List, [], ◌∷◌, ◌++◌, Option, Some, None, map, flat_map, length}
 use Rattle.xs_tree.specs.ProgramTree.{Text, DeclaredTree, ProgramTree, program_tree, declared_tree}
+use Rattle.xs_tree.specs.Scope.{find_module}
 use Rattle.xs_tree.specs.Texts.{same_text, is_among}
+use Rattle.xs_fei.specs.declared.instructions.Slice.{Slice}
 use Rattle.xs_fei.specs.Instructions.{ModeTree, SliceTree, ExtensionTree, slice_tree}
 use Rattle.xs_fei.specs.AddedNames.{own_name, mode_variable, mode_symbol}
 use Rattle.xs_fei.specs.Allowed.{fault_of}
 use Rattle.xs_weave_rules.specs.Sites.{OwnedSlice, owned, Site, an_extension, slice_sites}
-use Rattle.xs_weave_rules.specs.Rules.{first_of, effect_rules, is_program_name, is_taken, states_before, owns_before, broken_at}
+use Rattle.xs_weave_rules.specs.Rules.{first_of, effect_rules, is_program_name, is_taken, hides_symbol, states_before, owns_before, broken_at}
 use Rattle.xs_weave_rules.specs.Names.{program_names}
-use Rattle.xs_weave_rules.specs.Keyed.{with_text, with_texts, with_pairs, with_entries}
+use Rattle.xs_weave_rules.specs.Keyed.{is_pair_among, with_text, with_texts, with_pairs, with_entries}
 use Rattle.xs_weave_rules.specs.Locals.{LocalTree, formal, variable, other, scopes_of, scopes_in}
 use Rattle.xs_weave_rules.specs.declared.fault.Rule.{Rule}
-use Rattle.xs_weave_rules.specs.declared.fault.Rule.TheVariants.{NoSuchVariable, NotAStateVariable, DoubleSlice, VariableTaken, DoubleMode, NameTaken}
+use Rattle.xs_weave_rules.specs.declared.fault.Rule.TheVariants.{NoSuchVariable, NotAStateVariable, DoubleSlice, VariableTaken, DoubleMode, NameTaken, OutOfMemory}
 use Rattle.xs_weave_rules.specs.declared.fault.RuleFault.{RuleFault}
 use Rattle.xs_weave_rules.specs.declared.modules.Known.{Known}
 use Rattle.xs_weave_rules.specs.declared.modes.Judged.{Judged}
@@ -29,10 +31,11 @@ abbrev pub first_fault : (Site → Option Rule) → ℕ → List Site → Option
 first_fault told n [] = None
 first_fault told n (site ∷ sites) = fault_at (told site) (n + 1) (first_fault told (n + 1) sites)
 
--- the slices of an EXTENSION with its module, and of a file
+-- the slices of an EXTENSION, each with its module
 abbrev pub owned_slices : ExtensionTree → List OwnedSlice
 owned_slices x = map (owned x.of_module) x.slices
 
+-- the slices of a file, each with its module
 abbrev pub file_slices : List ExtensionTree → List OwnedSlice
 file_slices xs = flat_map owned_slices xs
 
@@ -75,9 +78,11 @@ mode_faults p owns s type states names n [] = None
 mode_faults p owns s type states names n (m ∷ ms) =
     fault_at (mode_rule p owns s type states names m) (n + 1) (mode_faults p owns s type (with_text states (mode_symbol s (Some m.name))) (with_text names m.name) (n + 1) ms)
 
+-- the first rule that a mode breaks, after these states and modes
 abbrev pub rule_of : Judged → List Text → List Text → ModeTree → Option Rule
 rule_of judged states names m = mode_rule (program_tree judged.known.now.program.now) judged.owns.now judged.slice.now.name (declared_tree judged.declared.now) states names m
 
+-- the first fault of modes, after the item of this number
 abbrev pub faults_of : Judged → List Text → List Text → ℕ → List ModeTree → Option RuleFault
 faults_of judged states names n ms = mode_faults (program_tree judged.known.now.program.now) judged.owns.now judged.slice.now.name (declared_tree judged.declared.now) states names n ms
 
@@ -85,8 +90,13 @@ faults_of judged states names n ms = mode_faults (program_tree judged.known.now.
 abbrev pub mode_symbols : Text → List ModeTree → List Text
 mode_symbols s ms = map (λ m. mode_symbol s (Some m.name)) ms
 
+-- a slice of the code with its module
 abbrev pub placed_tree : Placed → OwnedSlice
 placed_tree placed = owned placed.owner.now (slice_tree placed.slice.now)
+
+-- the program of which this is known
+abbrev pub program_known : Known → ProgramTree
+program_known known = program_tree known.program.now
 
 -- what is known of a program is what the program has
 pub record IsKnown (known : Known) : Type 0 where
@@ -97,9 +107,16 @@ pub record IsKnown (known : Known) : Type 0 where
 abbrev pub slices_in : Met → List OwnedSlice
 slices_in met = map placed_tree met.placed.items
 
+-- the rule that a slice of the module breaks after those on its target, after the items so far, where its variable is declared so
+abbrev pub later_rule : ProgramTree → Met → Text → Slice → SliceNames → DeclaredTree → Option Rule
+later_rule p met owner s names type =
+    slice_rule (is_among met.slices s.name) (is_pair_among met.targets (owner, s.target)) (adds_taken p met.states met.owns names) (hides_symbol (find_module p owner) type)
+
+-- the name of a slice
 abbrev pub slice_name : OwnedSlice → Text
 slice_name o = o.slice.name
 
+-- the variable that a slice affects, with its module
 abbrev pub target_pair : OwnedSlice → Text × Text
 target_pair o = (o.owner, o.slice.target)
 
@@ -123,3 +140,7 @@ pub record IsLeft (p : ProgramTree) (old now : Met) (all left : List Site) (slic
   pub last : now.last + length left ≡ old.last + length all
   pub slices_are : slices_in now ++ slices_left ≡ slices_in old ++ slices
   pub met : IsMet now
+
+-- the fault is the first that is broken at items after this number, or memory was wanting
+abbrev pub IsFirstAfter : ProgramTree → ℕ → List Site → RuleFault → Type 0
+IsFirstAfter p n sites fault = fault.rule ≢ OutOfMemory → first_fault (broken_at p) n sites ≡ Some fault

@@ -20,6 +20,7 @@ pub record IsJudgedMode (p : ProgramTree) (at : Place) (m : ModuleTree) (mode : 
   pub effect : IsReadableEffect p at mode.effect
   pub guard : IsLawfulGuard p at m mode.guard
 
+-- a program and instructions without a fault of names and kinds, as far as a weave asks
 pub record IsJudged (p : ProgramTree) (i : InstructionTree) : Type 0 where
   -- the program breaks no rule of flattening
   pub instances : (at : Place) (m : ModuleTree) → IsInstance p at m → IsLawfulInstance p at m

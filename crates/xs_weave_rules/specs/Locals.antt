@@ -14,6 +14,7 @@ pub data LocalTree : Type 0 where
   variable : DeclaredTree → LocalTree
   other : LocalTree
 
+-- what a name is, as the code has it
 abbrev pub local_tree : Local → LocalTree
 local_tree local.Formal = formal
 local_tree (local.Variable what) = variable (declared_tree what.now)
@@ -36,15 +37,19 @@ declared_local (range lo hi) = variable (range lo hi)
 declared_local (members ms) = variable (members ms)
 declared_local (instance m actuals) = other
 
+-- the entry of a formal
 abbrev pub formal_entry : Text → Text × LocalTree
 formal_entry x = (x, formal)
 
+-- the entry of a declaration of a VAR section
 abbrev pub variable_entry : DeclTree → Text × LocalTree
 variable_entry d = (d.name, declared_local d.what)
 
+-- the entry of another declaration
 abbrev pub other_entry : DeclTree → Text × LocalTree
 other_entry d = (d.name, other)
 
+-- the entry of a definition
 abbrev pub define_entry : DefineTree → Text × LocalTree
 define_entry d = (d.name, other)
 
@@ -68,13 +73,15 @@ locals_of m = map formal_entry m.formals ++ flat_map section_locals m.sections
 abbrev pub scope_of : ModuleTree → Text × List (Text × LocalTree)
 scope_of m = (m.name, with_entries [] (locals_of m))
 
+-- the names of each module, by its name
 abbrev pub scopes_of : ProgramTree → List (Text × List (Text × LocalTree))
 scopes_of p = map scope_of p
 
--- what the code keeps of a module, and of all
+-- what the code keeps of a module
 abbrev pub locals_in : Scope → List (Text × LocalTree)
 locals_in s = map (λ e. (e.0.now, local_tree e.1)) s.locals.entries
 
+-- what the code keeps of all modules
 abbrev pub scopes_in : Known → List (Text × List (Text × LocalTree))
 scopes_in k = map (λ e. (e.0.now, locals_in e.1)) k.scopes.entries
 

@@ -11,6 +11,7 @@ use Rattle.xs_fei.specs.Instructions.{EffectTree, stuck_at, follows, inverted, r
 abbrev pub has_negation : ℤ → Bool
 has_negation n = at_most (negsuc 9223372036854775806) n
 
+-- so of a member, if it is a number
 abbrev pub member_negates : Member → Bool
 member_negates (member.Number n) = has_negation n
 member_negates (member.Symbol x) = true
@@ -22,6 +23,7 @@ declared_negates (range lo hi) = has_negation lo && has_negation hi
 declared_negates (members ms) = list_all member_negates ms
 declared_negates (instance m actuals) = true
 
+-- each number of the type of a declaration
 abbrev pub decl_negates : DeclTree → Bool
 decl_negates d = declared_negates d.what
 
@@ -37,9 +39,11 @@ section_negates (init e) = true
 section_negates (invar e) = true
 section_negates (trans e) = true
 
+-- each number of a type that the module declares
 abbrev pub module_negates : ModuleTree → Bool
 module_negates m = list_all section_negates m.sections
 
+-- so of a constant, if it is a number
 abbrev pub value_negates : Value → Bool
 value_negates (truth b) = true
 value_negates (number n) = has_negation n
@@ -57,11 +61,14 @@ effect_negates stuck_at_pick = true
 effect_negates (offset d) = has_negation d
 effect_negates (ramp_down d f) = has_negation d && has_negation f
 
+-- each number of the effect of a mode
 abbrev pub mode_negates : ModeTree → Bool
 mode_negates m = effect_negates m.effect
 
+-- each number of an effect of the slice
 abbrev pub slice_negates : SliceTree → Bool
 slice_negates s = list_all mode_negates s.modes
 
+-- each number of an effect of the extension
 abbrev pub extension_negates : ExtensionTree → Bool
 extension_negates x = list_all slice_negates x.slices

@@ -25,8 +25,10 @@ abbrev pub placed_from : ProgramTree → ℕ → List Site → List PlacedSlice
 placed_from p n [] = []
 placed_from p n (s ∷ ss) = placed_at p (suc n) s ++ placed_from p (suc n) ss
 
+-- a placed slice of the code, with its item and the type of its variable
 abbrev pub seen_placed : Placed → PlacedSlice
 seen_placed placed = record { of = placed_tree placed; item = placed.item; type = declared_tree placed.declared.now }
 
+-- the placed slices so far
 abbrev pub places_in : Met → List PlacedSlice
 places_in met = map seen_placed met.placed.items

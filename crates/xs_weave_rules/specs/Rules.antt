@@ -15,6 +15,7 @@ use Rattle.xs_weave_rules.specs.Sites.{OwnedSlice, Site, an_extension, a_slice, 
 use Rattle.xs_weave_rules.specs.declared.fault.Rule.{Rule}
 use Rattle.xs_weave_rules.specs.declared.fault.Rule.TheVariants.{NoSuchModule, NoSuchVariable, NotAStateVariable, DoubleSlice, DoubleMode, VariableTaken, Effect, NameTaken}
 
+-- no module has the name
 abbrev pub is_missing : Option ModuleTree → Bool
 is_missing None = true
 is_missing (Some m) = false
@@ -41,13 +42,16 @@ is_state_variable (an_instance m actuals) = false
 is_state_variable (a_formal i) = false
 is_state_variable undeclared = false
 
+-- not so
 abbrev pub opposite_of : Bool → Bool
 opposite_of true = false
 opposite_of false = true
 
+-- an earlier slice has the name
 abbrev pub is_slice_name : List OwnedSlice → Text → Bool
 is_slice_name before x = list_any (λ o. same_text o.slice.name x) before
 
+-- an earlier mode of the slice has the name
 abbrev pub is_mode_name : List ModeTree → Text → Bool
 is_mode_name earlier x = list_any (λ m. same_text m.name x) earlier
 
@@ -59,9 +63,11 @@ is_affected_already before o = list_any (λ b. same_text b.owner o.owner && same
 abbrev pub is_name_of_decls : List DeclTree → Text → Bool
 is_name_of_decls ds x = list_any (λ d. same_text d.name x || is_symbol_of_type d.what x) ds
 
+-- a definition has the name
 abbrev pub is_name_of_defines : List DefineTree → Text → Bool
 is_name_of_defines ds x = list_any (λ d. same_text d.name x) ds
 
+-- the section declares or lists the name
 abbrev pub is_name_of_section : Text → SectionTree → Bool
 is_name_of_section x (var ds) = is_name_of_decls ds x
 is_name_of_section x (ivar ds) = is_name_of_decls ds x
@@ -73,9 +79,11 @@ is_name_of_section x (init e) = false
 is_name_of_section x (invar e) = false
 is_name_of_section x (trans e) = false
 
+-- the module has the name, or one in it has
 abbrev pub is_name_of_module : Text → ModuleTree → Bool
 is_name_of_module x m = same_text m.name x || (is_among m.formals x || list_any (is_name_of_section x) m.sections)
 
+-- some module has the name, or one in it has
 abbrev pub is_program_name : ProgramTree → Text → Bool
 is_program_name p x = list_any (is_name_of_module x) p
 
@@ -83,9 +91,11 @@ is_program_name p x = list_any (is_name_of_module x) p
 abbrev pub state_names : Text → List ModeTree → List Text
 state_names s modes = mode_variable s ∷ mode_symbol s None ∷ map (λ m. mode_symbol s (Some m.name)) modes
 
+-- the names that earlier slices add for their states
 abbrev pub states_before : List OwnedSlice → List Text
 states_before before = flat_map (λ o. state_names o.slice.name o.slice.modes) before
 
+-- the names of own values that earlier slices add
 abbrev pub owns_before : List OwnedSlice → List Text
 owns_before before = map (λ o. own_name o.slice.target) before
 
@@ -105,6 +115,7 @@ is_known (an_instance n actuals) = true
 abbrev pub is_local : Option ModuleTree → Text → Bool
 is_local m x = is_known (kind_at m x)
 
+-- the member is a symbol that is a name of the module
 abbrev pub is_local_member : Option ModuleTree → Member → Bool
 is_local_member m (member.Number n) = false
 is_local_member m (member.Symbol x) = is_local m x

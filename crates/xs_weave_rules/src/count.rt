@@ -1,12 +1,13 @@
-//! The limits of faults and modes.
+//! The limits of faults and modes ([`judge_counts`]): one pass over the items counts, for each mode, the faults that it is
+//! at the instances of its module, and tells the first mode with which there are too many.
 
-ghost use Rattle.std.specs.Prelude.{◌≡◌, ◌≢◌, ◌+◌, ◌≤◌, Ok, Err, IfOk, IfErr, OnOk, map, length};
+ghost use Rattle.std.specs.Prelude.{◌≡◌, ◌≢◌, Ok, Err, IfOk, IfErr, OnOk, map};
 ghost use Rattle.xs_tree.specs.Texts.{same_text};
 ghost use Rattle.xs_fei.specs.Instructions.{instruction_tree, extension_tree, slice_tree, mode_tree};
 ghost use Rattle.xs_weave_rules.specs.Sites.{item_sites};
 ghost use Rattle.xs_weave_rules.specs.FirstBroken.{AllKept, IsFirstBroken};
 ghost use Rattle.xs_weave_rules.specs.Counting.{instances_of as instances_among, count_broken_at};
-ghost use Rattle.xs_weave_rules.specs.Counted.{module_names, start, counted_mode, counted_modes, counted_slice, counted_slices, counted_extension, counted_extensions};
+ghost use Rattle.xs_weave_rules.specs.Counted.{module_names, counted_mode, counted_modes, counted_slice, counted_slices, counted_extension, counted_extensions};
 ghost use Rattle.xs_weave_rules.specs.declared.fault.Rule.TheVariants as broken;
 
 use crate::fault::{Rule, RuleFault};
@@ -35,6 +36,7 @@ pub fn judge_counts(instances: &[&Name], i: &Instructions) -> Result<(), RuleFau
     Ok(())
 }
 
+/// Counts the items and faults of extensions.
 fn count_extensions(
     instances: &[&Name],
     extensions: &[Extension],
@@ -50,6 +52,7 @@ fn count_extensions(
     Ok(counted)
 }
 
+/// Counts an extension and its slices, at so many instances as its module has.
 fn count_extension(
     instances: &[&Name],
     extension: &Extension,
@@ -77,6 +80,7 @@ fn instances_of(instances: &[&Name], module: &Name) -> usize
     many
 }
 
+/// Counts the items and faults of slices.
 fn count_slices(instances: usize, slices: &[Slice], before: Counted) -> Result<Counted, RuleFault>
     ensures counted { IfOk result (λ counted. counted_slices instances (map slice_tree slices.now) before ≡ Ok counted) }
     ensures told { IfErr result (λ fault. fault.rule ≢ broken.OutOfMemory → counted_slices instances (map slice_tree slices.now) before ≡ Err fault) }
@@ -88,6 +92,7 @@ fn count_slices(instances: usize, slices: &[Slice], before: Counted) -> Result<C
     Ok(counted)
 }
 
+/// Counts a slice and its modes.
 fn count_slice(instances: usize, slice: &Slice, before: Counted) -> Result<Counted, RuleFault>
     ensures counted { IfOk result (λ counted. counted_slice instances (slice_tree slice.now) before ≡ Ok counted) }
     ensures told { IfErr result (λ fault. fault.rule ≢ broken.OutOfMemory → counted_slice instances (slice_tree slice.now) before ≡ Err fault) }
@@ -97,6 +102,7 @@ fn count_slice(instances: usize, slice: &Slice, before: Counted) -> Result<Count
     count_modes(instances, slice.modes.as_slice(), Counted { item, faults })
 }
 
+/// Counts the modes of a slice.
 fn count_modes(instances: usize, modes: &[ModeRule], before: Counted) -> Result<Counted, RuleFault>
     ensures counted { IfOk result (λ counted. counted_modes instances 0 (map mode_tree modes.now) before ≡ Ok counted) }
     ensures told { IfErr result (λ fault. fault.rule ≢ broken.OutOfMemory → counted_modes instances 0 (map mode_tree modes.now) before ≡ Err fault) }

@@ -1,3 +1,6 @@
+//! The rules that instructions keep about a program, and the first that is broken ([`RuleFault`]). Want of memory counts as
+//! the last rule, and every call turns it into a fault by `From`.
+
 ghost use Rattle.xs_weave_rules.specs.OutOfMemory.{IsWant};
 
 use std::alloc::{AllocError, AllocFailed};

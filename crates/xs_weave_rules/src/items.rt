@@ -1,6 +1,10 @@
-//! The rules that are tried at each item of the instructions, in written order.
+//! The rules that are tried at each item of the instructions, in written order. [`placed_slices`] is the main function.
+//!
+//! [`Met`] has what the items so far add, so that each item is judged after those before it: an EXTENSION by its module; a
+//! SLICE by its variable, its name, whether the variable is affected already, and the names that it adds, in this order;
+//! and then its modes (`modes`). What is added is noted only for an item that breaks no rule.
 
-ghost use Rattle.std.specs.Prelude.{◌≡◌, ◌≢◌, ◌+◌, ◌||◌, ◌++◌, [], ◌∷◌, IfOk, IfErr, OnOk, Some, None, map, length, option_map};
+ghost use Rattle.std.specs.Prelude.{◌≡◌, ◌≢◌, ◌||◌, ◌++◌, [], ◌∷◌, IfOk, IfErr, OnOk, Some, None, map, option_map};
 ghost use Rattle.std.specs.Result.{result_err};
 ghost use Rattle.std.specs.List.{list_any};
 ghost use Rattle.xs_tree.specs.ProgramTree.{program_tree, declared_tree};
@@ -11,8 +15,8 @@ ghost use Rattle.xs_weave_rules.specs.Sites.{owned, a_slice, item_sites, mode_si
 ghost use Rattle.xs_weave_rules.specs.Rules.{broken_at, target_kind, is_program_name, is_local_member, hides_symbol as hides_symbol_of};
 ghost use Rattle.xs_weave_rules.specs.FirstBroken.{AllKept, IsFirstBroken};
 ghost use Rattle.xs_weave_rules.specs.Locals.{local_tree, variable};
-ghost use Rattle.xs_weave_rules.specs.Faults.{IsKnown, IsMet, IsTaken, first_fault, sites_of, slices_in, names_of, target_rule, slice_rule, is_taken_with, adds_taken as adds_taken_by, owned_slices, file_slices, placed_tree};
-ghost use Rattle.xs_weave_rules.specs.Keyed.{with_text, with_texts, is_pair_among, with_pair};
+ghost use Rattle.xs_weave_rules.specs.Faults.{IsKnown, IsMet, IsTaken, IsFirstAfter, program_known, later_rule as later_rule_of, sites_of, slices_in, names_of, target_rule, is_taken_with, adds_taken as adds_taken_by, owned_slices, file_slices, placed_tree};
+ghost use Rattle.xs_weave_rules.specs.Keyed.{with_text, with_texts, with_pair};
 ghost use Rattle.xs_weave_rules.specs.Placing.{placed_from, seen_placed, places_in};
 ghost use Rattle.xs_tree.specs.Texts.{same_text, is_among};
 ghost use Rattle.xs_weave_rules.specs.declared.fault.Rule.TheVariants as broken;
@@ -67,6 +71,7 @@ pub fn placed_slices<'a>(
 }
 
 impl<'a> Met<'a> {
+    /// Before the first item.
     fn none(alloc: Global) -> Met<'a>
         ensures met { IsMet result }
         ensures last { result.last ≡ 0 }
@@ -83,6 +88,7 @@ impl<'a> Met<'a> {
         }
     }
 
+    /// Takes extensions in their order.
     fn take_extensions(
         &mut self,
         alloc: Global,
@@ -91,9 +97,9 @@ impl<'a> Met<'a> {
     ) -> Result<(), RuleFault>
         requires known { IsKnown known.now }
         requires met { IsMet self.old }
-        ensures kept { OnOk result (IsTaken (program_tree known.now.program.now) self.old.last self.old self.new (extension_sites (slices_in self.old) (map extension_tree extensions.now)) (file_slices (map extension_tree extensions.now))) }
-        ensures places { OnOk result (places_in self.new ≡ places_in self.old ++ placed_from (program_tree known.now.program.now) self.old.last (extension_sites (slices_in self.old) (map extension_tree extensions.now))) }
-        ensures told { IfErr result (λ fault. fault.rule ≢ broken.OutOfMemory → first_fault (broken_at (program_tree known.now.program.now)) self.old.last (extension_sites (slices_in self.old) (map extension_tree extensions.now)) ≡ Some fault) }
+        ensures kept { OnOk result (IsTaken (program_known known.now) self.old.last self.old self.new (extension_sites (slices_in self.old) (map extension_tree extensions.now)) (file_slices (map extension_tree extensions.now))) }
+        ensures places { OnOk result (places_in self.new ≡ places_in self.old ++ placed_from (program_known known.now) self.old.last (extension_sites (slices_in self.old) (map extension_tree extensions.now))) }
+        ensures told { IfErr result (IsFirstAfter (program_known known.now) self.old.last (extension_sites (slices_in self.old) (map extension_tree extensions.now))) }
     {
         for extension in extensions {
             self.take_extension(alloc, known, extension)?;
@@ -101,6 +107,7 @@ impl<'a> Met<'a> {
         Ok(())
     }
 
+    /// Takes an extension, whose module must be there, and its slices.
     fn take_extension(
         &mut self,
         alloc: Global,
@@ -109,9 +116,9 @@ impl<'a> Met<'a> {
     ) -> Result<(), RuleFault>
         requires known { IsKnown known.now }
         requires met { IsMet self.old }
-        ensures kept { OnOk result (IsTaken (program_tree known.now.program.now) self.old.last self.old self.new (sites_of (slices_in self.old) (extension_tree extension.now)) (owned_slices (extension_tree extension.now))) }
-        ensures places { OnOk result (places_in self.new ≡ places_in self.old ++ placed_from (program_tree known.now.program.now) self.old.last (sites_of (slices_in self.old) (extension_tree extension.now))) }
-        ensures told { IfErr result (λ fault. fault.rule ≢ broken.OutOfMemory → first_fault (broken_at (program_tree known.now.program.now)) self.old.last (sites_of (slices_in self.old) (extension_tree extension.now)) ≡ Some fault) }
+        ensures kept { OnOk result (IsTaken (program_known known.now) self.old.last self.old self.new (sites_of (slices_in self.old) (extension_tree extension.now)) (owned_slices (extension_tree extension.now))) }
+        ensures places { OnOk result (places_in self.new ≡ places_in self.old ++ placed_from (program_known known.now) self.old.last (sites_of (slices_in self.old) (extension_tree extension.now))) }
+        ensures told { IfErr result (IsFirstAfter (program_known known.now) self.old.last (sites_of (slices_in self.old) (extension_tree extension.now))) }
     {
         let item = item_after(self.last)?;
         if !known.has_module(&extension.module) {
@@ -124,6 +131,7 @@ impl<'a> Met<'a> {
         self.take_slices(alloc, known, &extension.module, extension.slices.as_slice())
     }
 
+    /// Takes the slices of an extension in their order.
     fn take_slices(
         &mut self,
         alloc: Global,
@@ -133,9 +141,9 @@ impl<'a> Met<'a> {
     ) -> Result<(), RuleFault>
         requires known { IsKnown known.now }
         requires met { IsMet self.old }
-        ensures kept { OnOk result (IsTaken (program_tree known.now.program.now) self.old.last self.old self.new (slice_sites (slices_in self.old) owner.now (map slice_tree slices.now)) (map (owned owner.now) (map slice_tree slices.now))) }
-        ensures places { OnOk result (places_in self.new ≡ places_in self.old ++ placed_from (program_tree known.now.program.now) self.old.last (slice_sites (slices_in self.old) owner.now (map slice_tree slices.now))) }
-        ensures told { IfErr result (λ fault. fault.rule ≢ broken.OutOfMemory → first_fault (broken_at (program_tree known.now.program.now)) self.old.last (slice_sites (slices_in self.old) owner.now (map slice_tree slices.now)) ≡ Some fault) }
+        ensures kept { OnOk result (IsTaken (program_known known.now) self.old.last self.old self.new (slice_sites (slices_in self.old) owner.now (map slice_tree slices.now)) (map (owned owner.now) (map slice_tree slices.now))) }
+        ensures places { OnOk result (places_in self.new ≡ places_in self.old ++ placed_from (program_known known.now) self.old.last (slice_sites (slices_in self.old) owner.now (map slice_tree slices.now))) }
+        ensures told { IfErr result (IsFirstAfter (program_known known.now) self.old.last (slice_sites (slices_in self.old) owner.now (map slice_tree slices.now))) }
     {
         for slice in slices {
             self.take_slice(alloc, known, owner, slice)?;
@@ -143,6 +151,7 @@ impl<'a> Met<'a> {
         Ok(())
     }
 
+    /// Takes a slice, if it breaks no rule, and its modes.
     fn take_slice(
         &mut self,
         alloc: Global,
@@ -152,9 +161,9 @@ impl<'a> Met<'a> {
     ) -> Result<(), RuleFault>
         requires known { IsKnown known.now }
         requires met { IsMet self.old }
-        ensures kept { OnOk result (IsTaken (program_tree known.now.program.now) self.old.last self.old self.new (slice_sites (slices_in self.old) owner.now (slice_tree slice.now ∷ [])) (owned owner.now (slice_tree slice.now) ∷ [])) }
-        ensures places { OnOk result (places_in self.new ≡ places_in self.old ++ placed_from (program_tree known.now.program.now) self.old.last (slice_sites (slices_in self.old) owner.now (slice_tree slice.now ∷ []))) }
-        ensures told { IfErr result (λ fault. fault.rule ≢ broken.OutOfMemory → first_fault (broken_at (program_tree known.now.program.now)) self.old.last (slice_sites (slices_in self.old) owner.now (slice_tree slice.now ∷ [])) ≡ Some fault) }
+        ensures kept { OnOk result (IsTaken (program_known known.now) self.old.last self.old self.new (slice_sites (slices_in self.old) owner.now (slice_tree slice.now ∷ [])) (owned owner.now (slice_tree slice.now) ∷ [])) }
+        ensures places { OnOk result (places_in self.new ≡ places_in self.old ++ placed_from (program_known known.now) self.old.last (slice_sites (slices_in self.old) owner.now (slice_tree slice.now ∷ []))) }
+        ensures told { IfErr result (IsFirstAfter (program_known known.now) self.old.last (slice_sites (slices_in self.old) owner.now (slice_tree slice.now ∷ []))) }
     {
         let item = item_after(self.last)?;
         let names = SliceNames::of(alloc, slice)?;
@@ -182,10 +191,10 @@ impl<'a> Met<'a> {
         requires known { IsKnown known.now }
         requires met { IsMet self.old }
         requires names { names.now ≡ names_of (slice_tree placed.now.slice.now) }
-        requires declared { declared_tree placed.now.declared.now ≡ type_of_kind (target_kind (program_tree known.now.program.now) (placed_tree placed.now)) }
-        ensures kept { OnOk result (IsTaken (program_tree known.now.program.now) placed.now.item self.old self.new (mode_sites (slices_in self.old) (placed_tree placed.now) [] (placed_tree placed.now).slice.modes) (placed_tree placed.now ∷ [])) }
+        requires declared { declared_tree placed.now.declared.now ≡ type_of_kind (target_kind (program_known known.now) (placed_tree placed.now)) }
+        ensures kept { OnOk result (IsTaken (program_known known.now) placed.now.item self.old self.new (mode_sites (slices_in self.old) (placed_tree placed.now) [] (placed_tree placed.now).slice.modes) (placed_tree placed.now ∷ [])) }
         ensures places { OnOk result (places_in self.new ≡ places_in self.old ++ seen_placed placed.now ∷ []) }
-        ensures told { IfErr result (λ fault. fault.rule ≢ broken.OutOfMemory → first_fault (broken_at (program_tree known.now.program.now)) placed.now.item (mode_sites (slices_in self.old) (placed_tree placed.now) [] (placed_tree placed.now).slice.modes) ≡ Some fault) }
+        ensures told { IfErr result (IsFirstAfter (program_known known.now) placed.now.item (mode_sites (slices_in self.old) (placed_tree placed.now) [] (placed_tree placed.now).slice.modes)) }
     {
         self.add_slice(alloc, names, placed)?;
         let judged = Judged {
@@ -218,6 +227,7 @@ impl<'a> Met<'a> {
         self.add_states(alloc, names)
     }
 
+    /// Notes the names that a slice adds for its state.
     fn add_states(&mut self, alloc: Global, names: &SliceNames) -> Result<(), OutOfMemory>
         ensures states { OnOk result (self.new.states ≡ with_texts self.old.states (names.now.switch ∷ names.now.nominal ∷ [])) }
         ensures owns { OnOk result (self.new.owns ≡ self.old.owns) }
@@ -240,8 +250,8 @@ impl<'a> Met<'a> {
         requires known { IsKnown known.now }
         requires met { IsMet self.now }
         requires names { names.now ≡ names_of (slice_tree slice.now) }
-        ensures rule { result_err result ≡ broken_at (program_tree known.now.program.now) (a_slice (slices_in self.now) (owned owner.now (slice_tree slice.now))) }
-        ensures declared { IfOk result (λ declared. declared_tree declared.now ≡ type_of_kind (target_kind (program_tree known.now.program.now) (owned owner.now (slice_tree slice.now)))) }
+        ensures rule { result_err result ≡ broken_at (program_known known.now) (a_slice (slices_in self.now) (owned owner.now (slice_tree slice.now))) }
+        ensures declared { IfOk result (λ declared. declared_tree declared.now ≡ type_of_kind (target_kind (program_known known.now) (owned owner.now (slice_tree slice.now)))) }
     {
         let declared = target_of(known.local(owner, &slice.target))?;
         match self.later_rule(known, owner, slice, names, declared) {
@@ -260,7 +270,7 @@ impl<'a> Met<'a> {
         declared: &Declared,
     ) -> Option<Rule>
         requires known { IsKnown known.now }
-        ensures { result ≡ slice_rule (is_among self.now.slices slice.now.name) (is_pair_among self.now.targets (owner.now, slice.now.target)) (adds_taken_by (program_tree known.now.program.now) self.now.states self.now.owns names.now) (hides_symbol_of (find_module (program_tree known.now.program.now) owner.now) (declared_tree declared.now)) }
+        ensures { result ≡ later_rule_of (program_known known.now) self.now owner.now slice.now names.now (declared_tree declared.now) }
     {
         if self.slices.has(slice.name.text()) {
             return Some(Rule::DoubleSlice);
@@ -277,7 +287,7 @@ impl<'a> Met<'a> {
     /// Whether a name that the slice adds is taken.
     fn adds_taken(&self, known: &Known<'a>, names: &SliceNames) -> bool
         requires { IsKnown known.now }
-        ensures { result ≡ adds_taken_by (program_tree known.now.program.now) self.now.states self.now.owns names.now }
+        ensures { result ≡ adds_taken_by (program_known known.now) self.now.states self.now.owns names.now }
     {
         self.is_own_taken(known, &names.own)
             || (self.is_taken(known, &names.own, &names.switch)
@@ -287,7 +297,7 @@ impl<'a> Met<'a> {
     /// Whether the name is taken for that of an own value.
     fn is_own_taken(&self, known: &Known<'a>, own: &Name) -> bool
         requires { IsKnown known.now }
-        ensures { result ≡ (is_program_name (program_tree known.now.program.now) own.now || is_among self.now.states own.now) }
+        ensures { result ≡ (is_program_name (program_known known.now) own.now || is_among self.now.states own.now) }
     {
         known.has_name(own) || self.states.has(own.text())
     }
@@ -295,11 +305,12 @@ impl<'a> Met<'a> {
     /// Whether the name is taken, also by the name of an own value that comes with it.
     fn is_taken(&self, known: &Known<'a>, own: &Name, name: &Name) -> bool
         requires { IsKnown known.now }
-        ensures { result ≡ is_taken_with (program_tree known.now.program.now) self.now.states self.now.owns own.now name.now }
+        ensures { result ≡ is_taken_with (program_known known.now) self.now.states self.now.owns own.now name.now }
     {
         known.has_name(name) || (self.states.has(name.text()) || self.is_own(own, name))
     }
 
+    /// Whether the name is that of an own value: of an earlier slice, or of this one.
     fn is_own(&self, own: &Name, name: &Name) -> bool
         ensures { result ≡ (is_among self.now.owns name.now || same_text own.now name.now) }
     {
@@ -308,6 +319,7 @@ impl<'a> Met<'a> {
 }
 
 impl SliceNames {
+    /// The names that the slice adds.
     fn of(alloc: Global, slice: &Slice) -> Result<SliceNames, OutOfMemory>
         ensures { IfOk result (λ names. names ≡ names_of (slice_tree slice.now)) }
     {
@@ -337,7 +349,7 @@ fn target_of<'a>(local: Option<Local<'a>>) -> Result<&'a Declared, Rule>
 /// Whether a symbol of the type is a name of the module, so that a template would mean that.
 fn hides_symbol(known: &Known<'_>, owner: &Name, declared: &Declared) -> bool
     requires { IsKnown known.now }
-    ensures { result ≡ hides_symbol_of (find_module (program_tree known.now.program.now) owner.now) (declared_tree declared.now) }
+    ensures { result ≡ hides_symbol_of (find_module (program_known known.now) owner.now) (declared_tree declared.now) }
 {
     match declared {
         Declared::Members(members) => has_local(known, owner, members.as_slice()),
@@ -345,10 +357,11 @@ fn hides_symbol(known: &Known<'_>, owner: &Name, declared: &Declared) -> bool
     }
 }
 
+/// Whether a symbol among the members is a name that the module declares.
 #[tactic(auto, using(xs_fei::proofs::AllowedLaws::any_more))]
 fn has_local(known: &Known<'_>, owner: &Name, members: &[Member]) -> bool
     requires { IsKnown known.now }
-    ensures { result ≡ list_any (is_local_member (find_module (program_tree known.now.program.now) owner.now)) members.now }
+    ensures { result ≡ list_any (is_local_member (find_module (program_known known.now) owner.now)) members.now }
 {
     for member in members {
         if is_local(known, owner, member) {
@@ -358,9 +371,10 @@ fn has_local(known: &Known<'_>, owner: &Name, members: &[Member]) -> bool
     false
 }
 
+/// Whether the member is a symbol that the module declares as a name.
 fn is_local(known: &Known<'_>, owner: &Name, member: &Member) -> bool
     requires { IsKnown known.now }
-    ensures { result ≡ is_local_member (find_module (program_tree known.now.program.now) owner.now) member.now }
+    ensures { result ≡ is_local_member (find_module (program_known known.now) owner.now) member.now }
 {
     match member {
         Member::Number(_) => false,

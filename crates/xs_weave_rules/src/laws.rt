@@ -1,4 +1,5 @@
-//! What the rules are for.
+//! What the rules are for: where no item breaks one, instructions are such that a weave of them means what it should
+//! (`IsWeavable` of `xs_fei`).
 
 ghost use Rattle.xs_weave_rules.specs.Judged.{KeptIsWeavable};
 

@@ -1,4 +1,5 @@
-//! The rules that are tried at the items of modes.
+//! The rules that are tried at the items of modes ([`take_modes`]): a mode's name is new in its slice, its effect may stand
+//! at the variable, and the symbol that it adds is free.
 
 ghost use Rattle.std.specs.Prelude.{◌≡◌, ◌≢◌, ◌+◌, [], IfOk, IfErr, OnOk, Some, None, map, length};
 ghost use Rattle.xs_tree.specs.ProgramTree.{program_tree};
@@ -44,6 +45,7 @@ pub(crate) fn take_modes(
     take_each(alloc, judged, states, item, judged.slice.modes.as_slice())
 }
 
+/// Takes modes in their order.
 fn take_each(
     alloc: Global,
     judged: &Judged<'_, '_>,
@@ -123,6 +125,7 @@ fn is_taken(judged: &Judged<'_, '_>, states: &Texts, name: &Name) -> bool
     judged.known.has_name(name) || (states.has(name.text()) || judged.owns.has(name.text()))
 }
 
+/// Notes a mode: the symbol that it adds, and its name.
 fn add_mode(
     alloc: Global,
     states: &mut Texts,

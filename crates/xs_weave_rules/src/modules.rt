@@ -1,11 +1,12 @@
-//! The modules of a program by name, and what names are in them.
+//! The modules of a program by name, and what names are in them. [`Known::read`] goes through the program once; then
+//! each question of a rule is one look-up.
 
-ghost use Rattle.std.specs.Prelude.{◌≡◌, [], ◌++◌, IfOk, OnOk, map, flat_map, option_map, is_some};
+ghost use Rattle.std.specs.Prelude.{◌≡◌, [], IfOk, OnOk, map, flat_map, option_map, is_some};
 ghost use Rattle.std.specs.Option.{option_copied};
 ghost use Rattle.xs_tree.specs.ProgramTree.{program_tree, module_tree, section_tree, decl_tree, define_tree, declared_tree};
 ghost use Rattle.xs_tree.specs.Scope.{find_module, kind_at};
 ghost use Rattle.xs_weave_rules.specs.Keyed.{first_with, with_entry, with_entries};
-ghost use Rattle.xs_weave_rules.specs.Locals.{local_tree, declared_local, formal_entry, variable_entry, other_entry, define_entry, section_locals, locals_of, scope_of, scopes_of, locals_in, scopes_in, local_in, seen_kind, other};
+ghost use Rattle.xs_weave_rules.specs.Locals.{local_tree, declared_local, formal_entry, variable_entry, other_entry, define_entry, section_locals, locals_of, scope_of, locals_in, scopes_in, seen_kind};
 ghost use Rattle.xs_weave_rules.specs.Rules.{is_program_name, is_missing, is_local, opposite_of};
 ghost use Rattle.xs_weave_rules.specs.Faults.{IsKnown};
 
@@ -90,12 +91,14 @@ impl<'a> Known<'a> {
         self.local(owner, name).is_some()
     }
 
+    /// The names of the first module of this name.
     fn find(&self, owner: &Name) -> Option<&Scope<'a>>
         ensures { option_map locals_in (option_copied result) ≡ first_with (scopes_in self.now) owner.now }
     {
         self.scopes.get(owner.text())
     }
 
+    /// Adds modules in their order.
     #[tactic(auto, using(crate::proofs::KeyedLaws::keyed_rules))]
     fn add_modules(&mut self, alloc: Global, modules: &'a [Module]) -> Result<(), OutOfMemory>
         ensures program { OnOk result (self.new.program ≡ self.old.program) }
@@ -108,6 +111,7 @@ impl<'a> Known<'a> {
         Ok(())
     }
 
+    /// Adds a module, unless one of its name is there.
     fn add_module(&mut self, alloc: Global, module: &'a Module) -> Result<(), OutOfMemory>
         ensures program { OnOk result (self.new.program ≡ self.old.program) }
         ensures names { OnOk result (self.new.names ≡ self.old.names) }
@@ -123,6 +127,7 @@ impl<'a> Known<'a> {
 }
 
 impl<'a> Scope<'a> {
+    /// The names of a module.
     #[tactic(auto, using(crate::proofs::KeyedLaws::keyed_rules))]
     fn of_module(alloc: Global, module: &'a Module) -> Result<Scope<'a>, OutOfMemory>
         ensures { IfOk result (λ scope. locals_in scope ≡ with_entries [] (locals_of (module_tree «module».now))) }
@@ -133,6 +138,7 @@ impl<'a> Scope<'a> {
         Ok(scope)
     }
 
+    /// No name.
     fn empty(alloc: Global) -> Scope<'a>
         ensures { locals_in result ≡ [] }
     {
@@ -151,6 +157,7 @@ impl<'a> Scope<'a> {
         }
     }
 
+    /// Adds a name, unless it is there.
     fn add(&mut self, name: &'a Name, local: Local<'a>) -> Result<(), OutOfMemory>
         ensures { OnOk result (locals_in self.new ≡ with_entry (locals_in self.old) (name.now, local_tree local.entry)) }
     {
@@ -161,6 +168,7 @@ impl<'a> Scope<'a> {
         Ok(())
     }
 
+    /// Adds formals.
     #[tactic(auto, using(crate::proofs::KeyedLaws::keyed_rules))]
     fn add_formals(&mut self, formals: &'a [Name]) -> Result<(), OutOfMemory>
         ensures { OnOk result (locals_in self.new ≡ with_entries (locals_in self.old) (map formal_entry formals.now)) }
@@ -171,6 +179,7 @@ impl<'a> Scope<'a> {
         Ok(())
     }
 
+    /// Adds what sections declare.
     #[tactic(auto, using(crate::proofs::KeyedLaws::keyed_rules))]
     fn add_sections(&mut self, sections: &'a [Section]) -> Result<(), OutOfMemory>
         ensures { OnOk result (locals_in self.new ≡ with_entries (locals_in self.old) (flat_map section_locals (map section_tree sections.now))) }
@@ -181,6 +190,7 @@ impl<'a> Scope<'a> {
         Ok(())
     }
 
+    /// Adds what a section declares.
     fn add_section(&mut self, section: &'a Section) -> Result<(), OutOfMemory>
         ensures { OnOk result (locals_in self.new ≡ with_entries (locals_in self.old) (section_locals (section_tree section.now))) }
     {
@@ -197,6 +207,7 @@ impl<'a> Scope<'a> {
         }
     }
 
+    /// Adds the declarations of a VAR section.
     #[tactic(auto, using(crate::proofs::KeyedLaws::keyed_rules))]
     fn add_variables(&mut self, decls: &'a [Decl]) -> Result<(), OutOfMemory>
         ensures { OnOk result (locals_in self.new ≡ with_entries (locals_in self.old) (map variable_entry (map decl_tree decls.now))) }
@@ -207,6 +218,7 @@ impl<'a> Scope<'a> {
         Ok(())
     }
 
+    /// Adds the declarations of a section whose variables no slice may affect.
     #[tactic(auto, using(crate::proofs::KeyedLaws::keyed_rules))]
     fn add_others(&mut self, decls: &'a [Decl]) -> Result<(), OutOfMemory>
         ensures { OnOk result (locals_in self.new ≡ with_entries (locals_in self.old) (map other_entry (map decl_tree decls.now))) }
@@ -217,6 +229,7 @@ impl<'a> Scope<'a> {
         Ok(())
     }
 
+    /// Adds the names of definitions.
     #[tactic(auto, using(crate::proofs::KeyedLaws::keyed_rules))]
     fn add_defines(&mut self, defines: &'a [Define]) -> Result<(), OutOfMemory>
         ensures { OnOk result (locals_in self.new ≡ with_entries (locals_in self.old) (map define_entry (map define_tree defines.now))) }

@@ -1,4 +1,5 @@
-//! The names of a program: of its modules, their formals, what they declare, and symbols.
+//! The names of a program: of its modules, their formals, what they declare, and symbols ([`program_names`]). An added
+//! name must be none of them.
 
 ghost use Rattle.std.specs.Prelude.{◌≡◌, [], IfOk, OnOk, map, flat_map};
 ghost use Rattle.xs_tree.specs.ProgramTree.{program_tree, module_tree, section_tree, decl_tree, define_tree, declared_tree};
@@ -20,6 +21,7 @@ pub(crate) fn program_names(alloc: Global, p: &Program) -> Result<Texts, OutOfMe
     Ok(names)
 }
 
+/// Adds the names of modules.
 #[tactic(auto, using(crate::proofs::KeyedLaws::keyed_rules))]
 fn add_modules(alloc: Global, names: &mut Texts, modules: &[Module]) -> Result<(), OutOfMemory>
     ensures { OnOk result (names.new ≡ with_texts names.old (flat_map module_names (map module_tree modules.now))) }
@@ -30,6 +32,7 @@ fn add_modules(alloc: Global, names: &mut Texts, modules: &[Module]) -> Result<(
     Ok(())
 }
 
+/// Adds the name of a module and those in it.
 #[tactic(auto, using(crate::proofs::KeyedLaws::keyed_rules))]
 fn add_module(alloc: Global, names: &mut Texts, module: &Module) -> Result<(), OutOfMemory>
     ensures { OnOk result (names.new ≡ with_texts names.old (module_names (module_tree «module».now))) }
@@ -39,6 +42,7 @@ fn add_module(alloc: Global, names: &mut Texts, module: &Module) -> Result<(), O
     add_sections(alloc, names, module.sections.as_slice())
 }
 
+/// Adds these names.
 #[tactic(auto, using(crate::proofs::KeyedLaws::keyed_rules))]
 fn add_names(alloc: Global, names: &mut Texts, more: &[Name]) -> Result<(), OutOfMemory>
     ensures { OnOk result (names.new ≡ with_texts names.old more.now) }
@@ -49,6 +53,7 @@ fn add_names(alloc: Global, names: &mut Texts, more: &[Name]) -> Result<(), OutO
     Ok(())
 }
 
+/// Adds the names of sections.
 #[tactic(auto, using(crate::proofs::KeyedLaws::keyed_rules))]
 fn add_sections(alloc: Global, names: &mut Texts, sections: &[Section]) -> Result<(), OutOfMemory>
     ensures { OnOk result (names.new ≡ with_texts names.old (flat_map section_names (map section_tree sections.now))) }
@@ -59,6 +64,7 @@ fn add_sections(alloc: Global, names: &mut Texts, sections: &[Section]) -> Resul
     Ok(())
 }
 
+/// Adds the names that a section declares or lists.
 fn add_section(alloc: Global, names: &mut Texts, section: &Section) -> Result<(), OutOfMemory>
     ensures { OnOk result (names.new ≡ with_texts names.old (section_names (section_tree section.now))) }
 {
@@ -72,6 +78,7 @@ fn add_section(alloc: Global, names: &mut Texts, section: &Section) -> Result<()
     }
 }
 
+/// Adds the names of declarations.
 #[tactic(auto, using(crate::proofs::KeyedLaws::keyed_rules))]
 fn add_decls(alloc: Global, names: &mut Texts, decls: &[Decl]) -> Result<(), OutOfMemory>
     ensures { OnOk result (names.new ≡ with_texts names.old (flat_map decl_names (map decl_tree decls.now))) }
@@ -82,6 +89,7 @@ fn add_decls(alloc: Global, names: &mut Texts, decls: &[Decl]) -> Result<(), Out
     Ok(())
 }
 
+/// Adds the name of a declaration and the symbols of its type.
 fn add_decl(alloc: Global, names: &mut Texts, decl: &Decl) -> Result<(), OutOfMemory>
     ensures { OnOk result (names.new ≡ with_texts names.old (decl_names (decl_tree decl.now))) }
 {
@@ -89,6 +97,7 @@ fn add_decl(alloc: Global, names: &mut Texts, decl: &Decl) -> Result<(), OutOfMe
     add_symbols(alloc, names, &decl.what)
 }
 
+/// Adds the symbols of a declared type.
 fn add_symbols(alloc: Global, names: &mut Texts, what: &Declared) -> Result<(), OutOfMemory>
     ensures { OnOk result (names.new ≡ with_texts names.old (type_names (declared_tree what.now))) }
 {
@@ -98,6 +107,7 @@ fn add_symbols(alloc: Global, names: &mut Texts, what: &Declared) -> Result<(), 
     }
 }
 
+/// Adds the members of a type that are symbols.
 #[tactic(auto, using(crate::proofs::KeyedLaws::keyed_rules))]
 fn add_members(alloc: Global, names: &mut Texts, members: &[Member]) -> Result<(), OutOfMemory>
     ensures { OnOk result (names.new ≡ with_texts names.old (flat_map member_names members.now)) }
@@ -108,6 +118,7 @@ fn add_members(alloc: Global, names: &mut Texts, members: &[Member]) -> Result<(
     Ok(())
 }
 
+/// Adds a member that is a symbol.
 fn add_member(alloc: Global, names: &mut Texts, member: &Member) -> Result<(), OutOfMemory>
     ensures { OnOk result (names.new ≡ with_texts names.old (member_names member.now)) }
 {
@@ -117,6 +128,7 @@ fn add_member(alloc: Global, names: &mut Texts, member: &Member) -> Result<(), O
     }
 }
 
+/// Adds the names of definitions.
 #[tactic(auto, using(crate::proofs::KeyedLaws::keyed_rules))]
 fn add_defines(alloc: Global, names: &mut Texts, defines: &[Define]) -> Result<(), OutOfMemory>
     ensures { OnOk result (names.new ≡ with_texts names.old (map define_name (map define_tree defines.now))) }

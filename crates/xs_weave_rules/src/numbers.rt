@@ -27,6 +27,7 @@ pub fn extensions_have_negations(extensions: &[Extension]) -> bool
     extensions_negate(extensions)
 }
 
+/// Whether each number of a type in the modules is negated within 64 bits.
 #[tactic(auto, using(crate::proofs::NegationLaws::mapped_more))]
 fn modules_negate(modules: &[Module]) -> bool
     ensures { result ≡ list_all module_negates (map module_tree modules.now) }
@@ -39,6 +40,7 @@ fn modules_negate(modules: &[Module]) -> bool
     true
 }
 
+/// The same of the types in sections.
 #[tactic(auto, using(crate::proofs::NegationLaws::mapped_more))]
 fn sections_negate(sections: &[Section]) -> bool
     ensures { result ≡ list_all section_negates (map section_tree sections.now) }
@@ -51,6 +53,7 @@ fn sections_negate(sections: &[Section]) -> bool
     true
 }
 
+/// The same of the types in one section.
 fn section_negates(section: &Section) -> bool
     ensures { result ≡ section_negates (section_tree section.now) }
 {
@@ -67,6 +70,7 @@ fn section_negates(section: &Section) -> bool
     }
 }
 
+/// The same of the types of declarations.
 #[tactic(auto, using(crate::proofs::NegationLaws::mapped_more))]
 fn decls_negate(decls: &[Decl]) -> bool
     ensures { result ≡ list_all decl_negates (map decl_tree decls.now) }
@@ -79,6 +83,7 @@ fn decls_negate(decls: &[Decl]) -> bool
     true
 }
 
+/// The same of the ends of a range and of listed numbers.
 fn declared_negates(what: &Declared) -> bool
     ensures { result ≡ declared_negates (declared_tree what.now) }
 {
@@ -89,6 +94,7 @@ fn declared_negates(what: &Declared) -> bool
     }
 }
 
+/// The same of the members of a type.
 #[tactic(auto, using(crate::proofs::NegationLaws::all_more))]
 fn members_negate(members: &[Member]) -> bool
     ensures { result ≡ list_all member_negates members.now }
@@ -101,6 +107,7 @@ fn members_negate(members: &[Member]) -> bool
     true
 }
 
+/// The same of a member, if it is a number.
 fn member_negates(member: &Member) -> bool
     ensures { result ≡ member_negates member.now }
 {
@@ -110,12 +117,14 @@ fn member_negates(member: &Member) -> bool
     }
 }
 
+/// Whether a number is negated within 64 bits: all are but the least.
 fn has_negation(n: i64) -> bool
     ensures { result ≡ negates n }
 {
     -9_223_372_036_854_775_807 <= n
 }
 
+/// Whether each number of an effect in the extensions is negated within 64 bits.
 #[tactic(auto, using(crate::proofs::NegationLaws::mapped_more))]
 fn extensions_negate(extensions: &[Extension]) -> bool
     ensures { result ≡ list_all extension_negates (map extension_tree extensions.now) }
@@ -128,6 +137,7 @@ fn extensions_negate(extensions: &[Extension]) -> bool
     true
 }
 
+/// The same of the effects in slices.
 #[tactic(auto, using(crate::proofs::NegationLaws::mapped_more))]
 fn slices_negate(slices: &[Slice]) -> bool
     ensures { result ≡ list_all slice_negates (map slice_tree slices.now) }
@@ -140,6 +150,7 @@ fn slices_negate(slices: &[Slice]) -> bool
     true
 }
 
+/// The same of the effects of modes.
 #[tactic(auto, using(crate::proofs::NegationLaws::mapped_more))]
 fn modes_negate(modes: &[ModeRule]) -> bool
     ensures { result ≡ list_all mode_negates (map mode_tree modes.now) }
@@ -152,6 +163,7 @@ fn modes_negate(modes: &[ModeRule]) -> bool
     true
 }
 
+/// The same of the numbers that an effect has.
 fn effect_negates(effect: &Effect) -> bool
     ensures { result ≡ effect_negates (effect_tree effect.now) }
 {
@@ -168,6 +180,7 @@ fn effect_negates(effect: &Effect) -> bool
     }
 }
 
+/// The same of a constant, if it is a number.
 fn constant_negates(c: &Constant) -> bool
     ensures { result ≡ value_negates (constant_value c.now) }
 {

@@ -1,6 +1,8 @@
+//! Slices with what the rules found of them ([`Placed`]), as the layer above judges and weaves them, and the numbers of
+//! items.
+
 ghost use Rattle.std.specs.Prelude.{◌≡◌, ◌+◌, ◌^◌, ◌<◌, IfOk, IsOk};
 
-use std::alloc::Global;
 use xs_fei::Slice;
 use xs_tree::Declared;
 use xs_value::{Name, OutOfMemory};

@@ -1,3 +1,5 @@
+//! The variables that slices affect, each with its module: a variable is affected once.
+
 ghost use Rattle.std.specs.Prelude.{◌≡◌, [], OnOk};
 ghost use Rattle.xs_weave_rules.specs.Keyed.{is_pair_among, with_pair};
 

@@ -1,3 +1,5 @@
+//! A set of texts, for the names that are taken.
+
 ghost use Rattle.std.specs.Prelude.{◌≡◌, [], OnOk};
 ghost use Rattle.xs_tree.specs.Texts.{is_among};
 ghost use Rattle.xs_weave_rules.specs.Keyed.{with_text};

@@ -1,5 +1,5 @@
 -- Trees with no `next`, each of whose leaves is good: what the weave writes is put together from such.
-use Rattle.std.proofs.Common.{◌≡◌, inl, inr, suc, Bool, true, false, ◌||◌, List, [], ◌∷◌, Some, None, refl}
+use Rattle.std.proofs.Common.{◌≡◌, inl, inr, suc, Bool, true, false, List, [], ◌∷◌, Some, None, refl}
 use Rattle.std.specs.Prelude.{ℤ, pos, negsuc, nat_eq, map, if◌then◌else◌}
 use Rattle.xs_tree.specs.declared.expr.Op.{Op}
 use Rattle.xs_tree.specs.declared.expr.Op.TheVariants as op

@@ -1,5 +1,5 @@
 -- A model breaks no rule where its variables, its definitions and the conditions at its instances do not.
-use Rattle.std.proofs.Common.{◌≡◌, ◌↔◌, ℕ, arith, false, List, [], ◌∷◌, ◌++◌, length, flat_map, Some, refl, sym, ap, ◌∙◌, subst}
+use Rattle.std.proofs.Common.{◌≡◌, ◌↔◌, ℕ, arith, false, List, [], ◌∷◌, ◌++◌, flat_map, Some, refl, sym, ap, ◌∙◌, subst}
 use Rattle.std.specs.Prelude.{slice_get, codes}
 use Rattle.xs_tree.specs.Tree.{Tree}
 use Rattle.xs_tree.specs.ProgramTree.{ModuleTree, ProgramTree}
@@ -20,7 +20,7 @@ use Rattle.xs_type_laws.specs.Models.{judged_definitions, judged_variables, judg
 use Rattle.xs_type_laws.proofs.ModelLaws.{IsRight, after_length}
 use Rattle.xs_type_laws.proofs.Parts.{none_first, none_second}
 use Rattle.xs_woven_laws.proofs.Rightly.{none_joined}
-use Rattle.xs_type_laws.proofs.Typed.{none_at as no_breach}
+use Rattle.xs_type_laws.proofs.Typed.{none_at as no_breach, definitions_right}
 
 -- Instances.
 pub listed : (p : ProgramTree) → IsWalkable p → AreInstances p
@@ -94,14 +94,6 @@ variables_right (x ∷ xs) h =
 pub variables_keep : (xs : List FlatVariable) → Each (λ x. (judged_declared x.declared).broken ≡ []) xs → variable_breaches xs ≡ []
 variables_keep [] h = refl
 variables_keep (x ∷ xs) h = none_joined (breaches_at x.number x.item (judged_declared x.declared).broken) (variable_breaches xs) (ap (breaches_at x.number x.item) h.0) (variables_keep xs h.1)
-
-definitions_right : (ds : List FlatFormula) (js : List Judged) → definition_breaches ds js ≡ [] → length ds ≡ length js → Each IsRight js
-definitions_right [] [] e l = tt
-definitions_right [] (j ∷ js) e l = absurd (omega (arith, l))
-definitions_right (d ∷ ds) [] e l = absurd (omega (arith, l))
-definitions_right (d ∷ ds) (j ∷ js) e l =
-    let here = breaches_at d.number d.item j.broken in
-    (no_breach d.number d.item j.broken (none_first here (definition_breaches ds js) e), definitions_right ds js (none_second here (definition_breaches ds js) e) (omega (arith, l)))
 
 definitions_keep : (ds : List FlatFormula) (js : List Judged) → Each IsRight js → definition_breaches ds js ≡ []
 definitions_keep [] js h = refl

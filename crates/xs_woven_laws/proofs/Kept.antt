@@ -1,26 +1,24 @@
 -- The items of a program break no rule in the woven program's flat model.
-use Rattle.std.proofs.Common.{◌≡◌, ◌⊎◌, inl, inr, ℕ, Bool, true, false, List, [], ◌∷◌, ◌++◌, map, flat_map, refl, sym, ap, ◌∙◌, subst}
+use Rattle.std.proofs.Common.{◌≡◌, ◌⊎◌, inl, inr, ℕ, Bool, true, false, [], ◌∷◌, refl, sym, ap, ◌∙◌, subst}
 use Rattle.std.specs.Prelude.{if◌then◌else◌}
-use Rattle.std.proofs.lemmas.List.{append_assoc}
 use Rattle.xs_tree.specs.declared.program.Moment.{Moment}
 use Rattle.xs_tree.specs.declared.program.Moment.TheVariants.{Always, First, After}
 use Rattle.xs_tree.specs.Tree.{Tree}
-use Rattle.xs_tree.specs.ProgramTree.{Text, Path, Formula, DeclaredTree, boolean, range, members, instance, SectionTree, var, ivar, frozen, define, constants, assign, init, invar, trans, ModuleTree, ProgramTree}
+use Rattle.xs_tree.specs.ProgramTree.{Text, Path, Formula, DeclaredTree, boolean, range, members, instance, ModuleTree, ProgramTree}
 use Rattle.xs_tree.specs.Scope.{Place, state, a_variable, kind_declared, kind_at as name_kind_at, module_at}
 use Rattle.xs_tree.specs.Trace.{Each, IsInstance, IsVariable}
 use Rattle.xs_fei.specs.Instructions.{SliceTree, InstructionTree, slices_of, is_affected}
 use Rattle.xs_fei.specs.AddedNames.{own_name}
-use Rattle.xs_weave.specs.Woven.{tree_map_both, rename, same_path, woven_assignment, woven_section, woven}
+use Rattle.xs_weave.specs.Woven.{tree_map_both, rename, same_path, woven}
 use Rattle.xs_fei.specs.KindTypes.{type_of_kind}
 use Rattle.xs_fei.specs.Weavable.{Among, IsFinite, IsLawfulSlice, IsWeavable}
 use Rattle.xs_weave.proofs.Added.{affected_slice}
 use Rattle.xs_weave.proofs.LeafValues.{own_variable}
 use Rattle.xs_tree.specs.Flat.{FlatLeaf, flat_variable, FlatModel}
-use Rattle.xs_flat_laws.specs.Items.{Item, a_declaration, a_definition, an_assignment, some_constants, an_init, an_invar, a_trans, items_of_section}
+use Rattle.xs_flat_laws.specs.Items.{Item, a_declaration, a_definition, an_assignment, some_constants, an_init, an_invar, a_trans}
 use Rattle.xs_flat_laws.specs.Resolved.{IsResolved}
 use Rattle.xs_flat_laws.specs.Rules.{IsWalkable}
 use Rattle.xs_flat_laws.specs.Model.{Condition, plain, now_among, next_among, assigned_first, assigned_each, assigned_step, first_conditions, each_conditions, step_conditions, IsVariableNumber, IsFlatOf}
-use Rattle.xs_flat_laws.proofs.Lists.{map_joined}
 use Rattle.xs_type_laws.specs.Judged.{Kind, Judged, judged_same}
 use Rattle.xs_type_laws.specs.Declared.{judged_declared}
 use Rattle.xs_type_laws.specs.Models.{kind_of_leaf, judged_in, broken_condition}
@@ -29,44 +27,7 @@ use Rattle.xs_woven_laws.proofs.Definitions.{variable_there, variable_woven, sam
 use Rattle.xs_woven_laws.proofs.Items.{IsKeptAt, KeepsAt}
 use Rattle.xs_woven_laws.proofs.Renamed.{name_variable, KeepsKinds, judge_both}
 use Rattle.xs_type_laws.proofs.TraceLaws.{one_type}
-
--- The items of a woven section are the section's items, woven.
-abbrev pub woven_item : (Text → Bool) → Item → Item
-woven_item affected (a_declaration role d) = a_declaration role d
-woven_item affected (a_definition d) = a_definition d
-woven_item affected (an_assignment a) = an_assignment (woven_assignment affected a)
-woven_item affected (some_constants xs) = some_constants xs
-woven_item affected (an_init e) = an_init (tree_map_both (rename affected) same_path e)
-woven_item affected (an_invar e) = an_invar e
-woven_item affected (a_trans e) = a_trans (tree_map_both same_path (rename affected) e)
-
-mapped_twice : {A B C D : Type 0} (f : A → B) (g : B → D) (h : A → C) (j : C → D) → ((a : A) → g (f a) ≡ j (h a)) → (xs : List A) → map g (map f xs) ≡ map j (map h xs)
-mapped_twice f g h j e [] = refl
-mapped_twice f g h j e (x ∷ xs) = ap (λ y. y ∷ map g (map f xs)) (e x) ∙ ap (λ ys. j (h x) ∷ ys) (mapped_twice f g h j e xs)
-
-same_mapped : {A B : Type 0} (f : A → B) (g : B → B) → ((a : A) → f a ≡ g (f a)) → (xs : List A) → map f xs ≡ map g (map f xs)
-same_mapped f g e [] = refl
-same_mapped f g e (x ∷ xs) = ap (λ y. y ∷ map f xs) (e x) ∙ ap (λ ys. g (f x) ∷ ys) (same_mapped f g e xs)
-
-section_items : (affected : Text → Bool) (s : SectionTree) → items_of_section (woven_section affected s) ≡ map (woven_item affected) (items_of_section s)
-section_items affected (var ds) = same_mapped (a_declaration state) (woven_item affected) (λ d. refl) ds
-section_items affected (ivar ds) = same_mapped (a_declaration _) (woven_item affected) (λ d. refl) ds
-section_items affected (frozen ds) = same_mapped (a_declaration _) (woven_item affected) (λ d. refl) ds
-section_items affected (define ds) = same_mapped a_definition (woven_item affected) (λ d. refl) ds
-section_items affected (constants xs) = refl
-section_items affected (assign list) = mapped_twice (woven_assignment affected) an_assignment an_assignment (woven_item affected) (λ a. refl) list
-section_items affected (init e) = refl
-section_items affected (invar e) = refl
-section_items affected (trans e) = refl
-
-pub woven_items : (affected : Text → Bool) (ss ts : List SectionTree) →
-    flat_map items_of_section (map (woven_section affected) ss ++ ts) ≡ map (woven_item affected) (flat_map items_of_section ss) ++ flat_map items_of_section ts
-woven_items affected [] ts = refl
-woven_items affected (s ∷ ss) ts =
-    ap (λ l. l ++ flat_map items_of_section (map (woven_section affected) ss ++ ts)) (section_items affected s)
-    ∙ ap (λ l. map (woven_item affected) (items_of_section s) ++ l) (woven_items affected ss ts)
-    ∙ sym (append_assoc (map (woven_item affected) (items_of_section s)) (map (woven_item affected) (flat_map items_of_section ss)) (flat_map items_of_section ts))
-    ∙ ap (λ l. l ++ flat_map items_of_section ts) (sym (map_joined (woven_item affected) (items_of_section s) (flat_map items_of_section ss)))
+use Rattle.xs_woven_laws.proofs.WovenNamesItems.{woven_item}
 
 -- what is asked at first, at each moment and at each step
 abbrev pub EachAsked : (Condition → Type 0) → Item → Type 0

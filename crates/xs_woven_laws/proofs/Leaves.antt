@@ -14,7 +14,7 @@ use Rattle.xs_flat_laws.specs.Model.{IsVariableOf, IsVariableNumber, IsFlatOf}
 use Rattle.xs_flat_laws.proofs.Conditions.{each_at}
 use Rattle.xs_flat_laws.proofs.Lists.{each_more, get_end, get_within, length_end}
 use Rattle.xs_flat_laws.proofs.Places.{has_main}
-use Rattle.xs_flat_laws.proofs.Resolving.{Known, names_known}
+use Rattle.xs_flat_laws.proofs.Resolving.{Known, names_known, each_leaf}
 use Rattle.xs_flat_laws.proofs.Variables.{both_at_second}
 use Rattle.xs_flat_laws.proofs.Walkable.{main_is_there}
 use Rattle.xs_type_laws.specs.Judged.{Kind, Judged, truth_class, judge}
@@ -40,10 +40,6 @@ pub resolved_judged : (m : FlatModel) (q : Path → Option FlatLeaf) (e : Formul
     judged_in m sets flat ≡ judge (λ name. kind_given m (q name)) sets e
 resolved_judged m q e flat sets is = sym (judge_mapped Some (kind_given m) sets flat) ∙ ap (judge (kind_given m) sets) is ∙ judge_mapped q (kind_given m) sets e
 
-each_unit : (ls : List FlatLeaf) → Each (λ l. Unit {0}) ls
-each_unit [] = tt
-each_unit (l ∷ ls) = (tt, each_unit ls)
-
 -- a leaf with what is known of it
 abbrev pub HasKnown : (FlatLeaf → Type 0) → (Path → Option FlatLeaf) → Path → Type 0
 HasKnown P q name = (l : FlatLeaf) × (q name ≡ Some l) × P l
@@ -55,7 +51,7 @@ known_leaves P q e flat is h =
 -- a leaf is given for each name of a resolved expression
 pub has_leaves : (q : Path → Option FlatLeaf) (e : Formula) (flat : Tree FlatLeaf) → IsResolved q e flat → AllLeaves (HasLeaf q) e
 has_leaves q e flat is =
-    all_leaves (HasLeaf q) e (each_more (λ name. Known (λ l. Unit {0}) (q name)) (HasLeaf q) (leaves_in e) (λ name k. (k.found, k.is)) (names_known (λ l. Unit {0}) q e flat is (each_unit (leaves_in flat))))
+    all_leaves (HasLeaf q) e (each_more (λ name. Known (λ l. Unit {0}) (q name)) (HasLeaf q) (leaves_in e) (λ name k. (k.found, k.is)) (names_known (λ l. Unit {0}) q e flat is (each_leaf (leaves_in flat))))
 
 module _ (p : ProgramTree) (m : FlatModel) (walkable : IsWalkable p) (is : IsFlatOf p m) where
   -- a numbered variable is declared with its role and type

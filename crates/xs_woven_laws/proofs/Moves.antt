@@ -1,7 +1,7 @@
 -- What the cases of a slice are judged as: how its mode moves, and what is read.
 use Rattle.std.proofs.Common.{◌≡◌, true, false, map, List, [], ◌∷◌, Option, Some, None, refl}
 use Rattle.xs_tree.specs.declared.expr.Op.TheVariants as op
-use Rattle.xs_tree.specs.Tree.{Branches, Trees, binary, choice, case_of, set_of, no_branch, branch_then, trees_from}
+use Rattle.xs_tree.specs.Tree.{Branches, binary, choice, case_of, no_branch, branch_then, trees_from}
 use Rattle.xs_tree.specs.Laws.{AllLeaves, AllLeavesOfTrees, AllLeavesOfBranches}
 use Rattle.xs_tree.specs.ProgramTree.{Text, Path, Formula, DeclaredTree}
 use Rattle.xs_tree.specs.Trace.{Each}

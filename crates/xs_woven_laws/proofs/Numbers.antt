@@ -1,17 +1,18 @@
 -- The kinds of the number trees of templates.
-use Rattle.std.proofs.Common.{◌≡◌, ℕ, suc, ◌^◌, ◌<◌, Bool, true, false, ltb-true, lt-ltb, eqb-true, eq-eqb, arith, [], Some, ℤ, pos, negsuc, ◌-ℤ◌, ◌≤ℤ◌, int_lt, refl, ap, sym, ◌∙◌}
+use Rattle.std.proofs.Common.{◌≡◌, ℕ, suc, ◌^◌, ◌<◌, Bool, true, false, ltb-true, lt-ltb, eqb-true, eq-eqb, arith, [], Some, ℤ, pos, negsuc, ◌-ℤ◌, ◌≤ℤ◌, refl, ap, sym, ◌∙◌}
 use Rattle.std.specs.Prelude.{nat_eq, not, if◌then◌else◌}
 use Rattle.std.proofs.lemmas.Int.{ints}
 use Rattle.xs_tree.specs.declared.expr.Op.TheVariants as op
 use Rattle.xs_tree.specs.Tree.{number as is_number, negate, binary}
 use Rattle.xs_tree.specs.ProgramTree.{Path}
-use Rattle.xs_tree.specs.Values.{number, at_most, opposite, is_between}
+use Rattle.xs_tree.specs.Values.{number, at_most, is_between}
 use Rattle.xs_tree.proofs.ValueLaws.{both_true}
 use Rattle.xs_fei.specs.Allowed.{is_small}
 use Rattle.xs_fei.specs.Templates.{number_tree}
 use Rattle.xs_type_laws.specs.Intervals.{Interval, just, sum_of, difference_of, fits_number, fits}
 use Rattle.xs_type_laws.specs.Judged.{number_class, Kind, too_wide, rule_if, wide, one_value, Judged, judged_number, judged_negative, judge}
 use Rattle.xs_woven_laws.proofs.Rightly.{Rightly}
+use Rattle.xs_type_laws.proofs.Parts.{not_less}
 
 -- numbers of this interval, with no rule broken
 abbrev pub numbers_in : Interval → Judged
@@ -19,14 +20,6 @@ numbers_in i = record { kind = record { class = number_class; interval = Some i 
 
 pub numbers_right : (j : Judged) (i : Interval) → j ≡ numbers_in i → Rightly number_class j
 numbers_right j i e = record { kept = ap (λ (k : Judged). k.broken) e; class = ap (λ (k : Judged). k.kind.class) e }
-
--- what is within 32 bits
-not_opposite : (b : Bool) → opposite b ≡ true → b ≡ false
-not_opposite true e = sym e
-not_opposite false e = refl
-
-at_most_le : (a b : ℤ) → at_most a b ≡ true → a ≤ℤ b
-at_most_le a b e = let h = not_opposite (int_lt b a) e in omega (arith, ints)
 
 fits_between : (n : ℤ) → negsuc 2147483647 ≤ℤ n → n ≤ℤ pos 2147483647 → fits_number n ≡ true
 fits_between (pos n) h g = let below : n < 2 ^ 31 = omega (arith, ints) in lt-ltb n (2 ^ 31) below
@@ -39,13 +32,13 @@ fits_bounds (negsuc n) e = let below : n < 2 ^ 31 = ltb-true n (2 ^ 31) e in (om
 pub small_fits : (n : ℤ) → is_small n ≡ true → fits_number n ≡ true
 small_fits n e =
     let h = both_true (at_most (negsuc 2147483647) n) (at_most n (pos 2147483647)) e in
-    fits_between n (at_most_le (negsuc 2147483647) n h.0) (at_most_le n (pos 2147483647) h.1)
+    fits_between n (not_less (negsuc 2147483647) n h.0) (not_less n (pos 2147483647) h.1)
 
 pub between_fits : (lo hi n : ℤ) → fits_number lo ≡ true → fits_number hi ≡ true → is_between lo hi (number n) ≡ true → fits_number n ≡ true
 between_fits lo hi n f g e =
     let h = both_true (at_most lo n) (at_most n hi) e in
-    let below = at_most_le lo n h.0 in
-    let above = at_most_le n hi h.1 in
+    let below = not_less lo n h.0 in
+    let above = not_less n hi h.1 in
     let least = (fits_bounds lo f).0 in
     let most = (fits_bounds hi g).1 in
     fits_between n (omega (arith, ints)) (omega (arith, ints))

@@ -5,6 +5,7 @@ use Rattle.xs_flat_laws.specs.Items.{Item, NumberedItem, numbered_from}
 use Rattle.xs_flat_laws.proofs.Reaches.{each_left, each_right}
 use Rattle.xs_flat_laws.proofs.Conditions.{each_join}
 use Rattle.xs_flat_laws.proofs.Lists.{each_more}
+use Rattle.xs_flat_laws.proofs.KindLaws.{with_both}
 
 -- what holds at none holds not at some
 pub none_some : {A : Type 0} (P : A → Type 0) (xs : List A) → Each (λ x. P x → ⊥) xs → AtSome P xs → ⊥
@@ -15,10 +16,6 @@ none_some P (x ∷ xs) h (inr a) = none_some P xs h.1 a
 pub not_some : {A : Type 0} (P : A → Type 0) (xs : List A) → (AtSome P xs → ⊥) → Each (λ x. P x → ⊥) xs
 not_some P [] h = tt
 not_some P (x ∷ xs) h = ((λ e. h (inl e)), not_some P xs (λ a. h (inr a)))
-
-pub each_two : {A : Type 0} (P Q R : A → Type 0) (xs : List A) → ((x : A) → P x → Q x → R x) → Each P xs → Each Q xs → Each R xs
-each_two P Q R [] f h k = tt
-each_two P Q R (x ∷ xs) f h k = (f x h.0 k.0, each_two P Q R xs f h.1 k.1)
 
 -- each member by those before it
 abbrev pub EachAfter : {A : Type 0} → (List A → A → Type 0) → List A → List A → Type 0
@@ -95,7 +92,7 @@ pairs_after {A = A} R before [] h = (empty before, tt)
 pairs_after R before (x ∷ xs) h =
     let more : Across R (before ++ x ∷ []) xs × Pairwise R xs = pairs_after R (before ++ x ∷ []) xs h.1 in
     let last : Each (λ y. Each (R y) xs) (x ∷ []) = each_right (λ y. Each (R y) xs) before (x ∷ []) more.0 in (
-      each_two (λ y. R y x) (λ y. Each (R y) xs) (λ y. R y x × Each (R y) xs) before (λ y a b. (a, b)) h.0 (each_left (λ y. Each (R y) xs) before (x ∷ []) more.0),
+      with_both (λ y. R y x) (λ y. Each (R y) xs) (λ y. R y x × Each (R y) xs) before (λ y a b. (a, b)) h.0 (each_left (λ y. Each (R y) xs) before (x ∷ []) more.0),
       (last.0, more.1),
     )
 

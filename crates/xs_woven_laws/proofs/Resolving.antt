@@ -27,11 +27,11 @@ use Rattle.xs_flat_laws.proofs.Variables.{both_at, variables_are}
 use Rattle.xs_type_laws.proofs.ModelLaws.{all_leaves_more}
 use Rattle.xs_encode_laws.proofs.FlatEncodable.{appears}
 use Rattle.xs_woven_laws.proofs.Definitions.{expression_same, means_woven, variable_woven}
-use Rattle.xs_woven_laws.proofs.Kept.{woven_item, woven_items}
 use Rattle.xs_woven_laws.proofs.Leaves.{HasLeaf, has_leaves, declared_so}
 use Rattle.xs_woven_laws.proofs.WovenModel.{ItemHas, roots_down, roots_up}
 use Rattle.xs_woven_laws.specs.Tops.{HaveFlatModels}
 use Rattle.xs_woven_laws.specs.WovenTopsLaws.{WovenResolves}
+use Rattle.xs_woven_laws.proofs.WovenNamesItems.{woven_item, sections_woven}
 
 -- Symbols: those of the program are symbols of the woven program.
 in_parts : {A : Type 0} (y : A) (xs ys : List A) → In y (xs ++ ys) → In y xs ⊎ In y ys
@@ -77,7 +77,7 @@ module_keeps : (i : InstructionTree) (k : ModuleTree) (y : Text) → In y (modul
 module_keeps i k y h =
     let affected = is_affected i k.name in
     let more : List Item = flat_map items_of_section (added_sections i k) in
-    subst (λ (items : List Item). In y (flat_map symbols_of_item items)) (sym (woven_items affected k.sections (added_sections i k)))
+    subst (λ (items : List Item). In y (flat_map symbols_of_item items)) (sym (sections_woven affected k.sections (added_sections i k)))
     (subst (λ (xs : List Text). In y xs) (sym (flat_map-append symbols_of_item (map (woven_item affected) (items_of k)) more))
     (in_left y (flat_map symbols_of_item (map (woven_item affected) (items_of k))) (flat_map symbols_of_item more)
     (subst (λ (xs : List Text). In y xs) (sym (items_symbols affected (items_of k))) h)))
@@ -161,7 +161,7 @@ module _ (p : ProgramTree) (m : FlatModel) (i : InstructionTree) (w : FlatModel)
           let all : Each (ItemHas HasKey at) (items_of (woven_module i k)) =
           (all_instances p i have.weavable (λ at' k'. Each (ItemHas HasKey at') (items_of k'))).0 (roots_down HasKey (woven p i) have.woven_program written) at k is in
           let parts : Each (ItemHas HasKey at) (map (woven_item affected) (items_of k) ++ flat_map items_of_section (added_sections i k)) =
-          subst (Each (ItemHas HasKey at)) (woven_items affected k.sections (added_sections i k)) all in
+          subst (Each (ItemHas HasKey at)) (sections_woven affected k.sections (added_sections i k)) all in
           each_more (λ item. ItemHas HasKey at (woven_item affected item)) (ItemHas HasKey at) (items_of k) (has_woven HasKey affected at)
           (each_of_map (ItemHas HasKey at) (woven_item affected) (items_of k) (each_left (ItemHas HasKey at) (map (woven_item affected) (items_of k)) (flat_map items_of_section (added_sections i k)) parts))
 

@@ -1,5 +1,5 @@
 -- What the items of instructions say of a slice of a module and of its modes.
-use Rattle.std.proofs.Common.{◌≡◌, ◌≢◌, ◌⊎◌, inl, inr, Bool, true, false, List, [], ◌∷◌, ◌++◌, map, flat_map, Some, None, refl, ap, ◌∙◌, subst}
+use Rattle.std.proofs.Common.{◌≡◌, ◌≢◌, ◌⊎◌, inl, inr, Bool, true, false, List, [], ◌∷◌, ◌++◌, map, flat_map, Some, None, refl, ap, subst}
 use Rattle.std.specs.Prelude.{if◌then◌else◌, ◌||◌, codes}
 use Rattle.xs_tree.specs.declared.program.Member.{Member}
 use Rattle.xs_tree.specs.declared.program.Member.TheVariants as member
@@ -17,22 +17,13 @@ use Rattle.xs_fei.specs.Weavable.{Among}
 use Rattle.xs_weave_rules.specs.Sites.{OwnedSlice, owned, Site, a_slice, a_mode, mode_sites, slice_sites, extension_sites}
 use Rattle.xs_weave_rules.specs.Rules.{broken_at}
 use Rattle.xs_weave_rules.specs.FirstBroken.{AllKept}
-use Rattle.xs_weave_rules.proofs.KeptItems.{among_left, among_right}
+use Rattle.xs_weave_rules.proofs.KeptItems.{among_left, among_right, among_either}
 use Rattle.xs_weave_rules.proofs.KeptFacts.{ModeKept, mode_facts}
 use Rattle.xs_weave_rules.proofs.ProgramNames.{any_false}
 use Rattle.xs_flat_laws.proofs.Reaches.{each_left, each_right}
 use Rattle.xs_woven_laws.proofs.Rightly.{none_joined}
 use Rattle.std.proofs.lemmas.Bool.{or_from as or_none}
-
--- What holds of each item holds of those of a slice of a module.
-among_either : {A : Type 0} (xs ys : List A) (x : A) → Among (xs ++ ys) x → Among xs x ⊎ Among ys x
-among_either [] ys x a = inr a
-among_either (y ∷ xs) ys x (inl e) = inl (inl e)
-among_either (y ∷ xs) ys x (inr a) = go (among_either xs ys x a)
-  where
-    go : Among xs x ⊎ Among ys x → Among (y ∷ xs) x ⊎ Among ys x
-    go (inl b) = inl (inr b)
-    go (inr b) = inr b
+use Rattle.xs_encode_laws.proofs.SetLaws.{not_both}
 
 module _ (Q : Site → Type 0) where
   -- the item of the slice, and those of its modes
@@ -80,9 +71,6 @@ text_differs x y h = by (same_text x y) refl
     by true e = absurd (h (same_text_equal x y e))
     by false e = e
 
-true_not_false : (b : Bool) → b ≡ true → b ≡ false → ⊥
-true_not_false b e f = cc
-
 abbrev symbol_of : Text → ModeTree → Member
 symbol_of s m = member.Symbol (mode_symbol s (Some m.name))
 
@@ -98,7 +86,7 @@ module _ (p : ProgramTree) (before : List OwnedSlice) (o : OwnedSlice) where
       apart e =
           let facts : ModeKept p before o earlier n = mode_facts p before o earlier n kept.0 in
           let other : same_text m.name n.name ≡ false = any_false (λ k. same_text k.name n.name) earlier m facts.name a in
-          true_not_false (same_text m.name n.name) (subst (λ x. same_text m.name x ≡ true) (mode_symbol_same o.slice.name m.name n.name e) (same_text_refl m.name)) other
+          not_both (same_text m.name n.name) (subst (λ x. same_text m.name x ≡ true) (mode_symbol_same o.slice.name m.name n.name e) (same_text_refl m.name)) other
 
   no_double : (earlier ms : List ModeTree) → AllKept (broken_at p) (mode_sites before o earlier ms) → has_double (map (symbol_of o.slice.name) ms) ≡ false
   no_double earlier [] kept = refl

@@ -1,6 +1,6 @@
 -- A woven program breaks no rule of flattening but its limits.
 use Rattle.std.proofs.Common.{◌≡◌, ℕ, true, false, List, [], ◌∷◌, ◌++◌, map, flat_map, Some, refl, sym, ◌∙◌, ap, subst}
-use Rattle.std.specs.Prelude.{slice_get, codes, option_map, if◌then◌else◌}
+use Rattle.std.specs.Prelude.{slice_get, codes, option_map}
 use Rattle.xs_tree.specs.ProgramTree.{ModuleTree, ProgramTree}
 use Rattle.xs_tree.specs.Scope.{Place, find_module}
 use Rattle.xs_tree.specs.Trace.{Each, IsInstance}
@@ -17,7 +17,7 @@ use Rattle.xs_weave.specs.Woven.{woven_module, woven}
 use Rattle.xs_weave.proofs.WovenKinds.{find_woven}
 use Rattle.xs_fei.proofs.AmongLaws.{each_at as each_among}
 use Rattle.xs_woven_laws.specs.WovenNamesLaws.{OnlyLimits, WithinLimits, IsExtendable, WovenKeepsNames, WovenBreaksLimitsAlone, WovenIsAccepted}
-use Rattle.xs_woven_laws.proofs.Orders.{EachAfter, after_numbered, numbered_after, after_two, after_more, after_each, each_after, each_two}
+use Rattle.xs_woven_laws.proofs.Orders.{EachAfter, after_numbered, numbered_after, after_two, after_more, after_each, each_after}
 use Rattle.xs_woven_laws.proofs.WovenNamesItems.{woven_item, slice_items, woven_items, added_flat, of_slices, items_numbered}
 use Rattle.xs_woven_laws.proofs.Walks.{visits_kept, same_instances}
 use Rattle.xs_woven_laws.proofs.Slices.{slices_apart}
@@ -27,6 +27,7 @@ use Rattle.xs_woven_laws.proofs.WovenNamesUses.{KeepsMode, uses_kept}
 use Rattle.xs_woven_laws.proofs.NewItems.{new_kept}
 use Rattle.xs_woven_laws.proofs.Once.{IsOnce, once_kept}
 use Rattle.xs_weave_rules.proofs.KeptFacts.{found_named as found_name}
+use Rattle.xs_flat_laws.proofs.KindLaws.{with_both}
 
 -- the walk
 visit_limits : (q : ProgramTree) (before : List Visit) (v : Visit) → VisitFacts q v → OnlyLimits q (a_visit before v)
@@ -129,5 +130,5 @@ woven_breaks_limits p i can rule item first =
 
 pub woven_accepted : WovenIsAccepted
 woven_accepted p i can within =
-    each_two (OnlyLimits (woven p i)) (WithinLimits (woven p i)) (IsKept (woven p i)) (sites (woven p i)) (λ site only in_limits rule b. in_limits (subst (λ r. Breaks (woven p i) r site) (only rule b) b))
+    with_both (OnlyLimits (woven p i)) (WithinLimits (woven p i)) (IsKept (woven p i)) (sites (woven p i)) (λ site only in_limits rule b. in_limits (subst (λ r. Breaks (woven p i) r site) (only rule b) b))
     (all_limits p i can) within

@@ -1,6 +1,5 @@
 -- The one fault of kinds that a woven program's flat model may have.
 use Rattle.std.proofs.Common.{◌≡◌, ℕ, true, List, [], ◌∷◌, ap, subst}
-use Rattle.xs_tree.specs.declared.program.Member.TheVariants as member
 use Rattle.xs_tree.specs.ProgramTree.{ProgramTree}
 use Rattle.xs_tree.specs.Values.{number}
 use Rattle.xs_tree.specs.Scope.{state}

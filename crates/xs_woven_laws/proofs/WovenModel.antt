@@ -42,11 +42,12 @@ use Rattle.xs_woven_laws.proofs.Rightly.{Rightly, condition_right, same_right}
 use Rattle.xs_woven_laws.proofs.Leaves.{declared_so}
 use Rattle.xs_woven_laws.proofs.Definitions.{variable_there, slice_finite, definitions_agree}
 use Rattle.xs_woven_laws.proofs.Items.{over_items, over_conditions, IsKeptAt, KeepsAt, conditions_there, conditions_keep, parts_of, none_broken}
-use Rattle.xs_woven_laws.proofs.Kept.{woven_item, woven_items, EachAsked, own_kind_at, target_kind_at, item_keeps}
+use Rattle.xs_woven_laws.proofs.Kept.{EachAsked, own_kind_at, target_kind_at, item_keeps}
 use Rattle.xs_woven_laws.proofs.Sites.{mode_type_right}
 use Rattle.xs_woven_laws.proofs.Uses.{type_right, kept_items}
 use Rattle.xs_woven_laws.proofs.Added.{added_keep}
 use Rattle.xs_type_laws.proofs.ClosedLaws.{same_length}
+use Rattle.xs_woven_laws.proofs.WovenNamesItems.{woven_item, sections_woven}
 
 each_three : {A : Type 0} (P Q R : A → Type 0) (xs : List A) → Each P xs → Each Q xs → Each R xs → Each (λ x. P x × Q x × R x) xs
 each_three P Q R [] h g j = tt
@@ -246,7 +247,7 @@ module _ (p : ProgramTree) (i : InstructionTree) (ok : IsWeavable p i) (m w : Fl
   woven_roots =
       roots_up HasDefinition (woven p i) also
       ((all_instances p i ok (λ at k. Each (ItemHas HasDefinition at) (items_of k))).1
-      (λ at k here. subst (Each (ItemHas HasDefinition at)) (sym (woven_items (is_affected i k.name) k.sections (added_sections i k)))
+      (λ at k here. subst (Each (ItemHas HasDefinition at)) (sym (sections_woven (is_affected i k.name) k.sections (added_sections i k)))
       (each_join (ItemHas HasDefinition at) (map (woven_item (is_affected i k.name)) (items_of k)) (flat_map items_of_section (added_sections i k))
       (each_map (ItemHas HasDefinition at) (woven_item (is_affected i k.name)) (items_of k)
       (each_more (ItemHas HasDefinition at) (λ item. ItemHas HasDefinition at (woven_item (is_affected i k.name) item)) (items_of k) (woven_has HasDefinition (is_affected i k.name) at)
@@ -284,7 +285,7 @@ module _ (p : ProgramTree) (i : InstructionTree) (ok : IsWeavable p i) (m w : Fl
   asked_after : (at : Place) (k : ModuleTree) → IsInstance (woven p i) at k → Each (EachAsked (KeepsAt w iw.resolver at)) (items_of k)
   asked_after =
       (all_instances p i ok (λ at k. Each (EachAsked (KeepsAt w iw.resolver at)) (items_of k))).1
-      (λ at k here. subst (Each (EachAsked (KeepsAt w iw.resolver at))) (sym (woven_items (is_affected i k.name) k.sections (added_sections i k)))
+      (λ at k here. subst (Each (EachAsked (KeepsAt w iw.resolver at))) (sym (sections_woven (is_affected i k.name) k.sections (added_sections i k)))
       (each_join (EachAsked (KeepsAt w iw.resolver at)) (map (woven_item (is_affected i k.name)) (items_of k)) (flat_map items_of_section (added_sections i k))
       (each_map (EachAsked (KeepsAt w iw.resolver at)) (woven_item (is_affected i k.name)) (items_of k)
       (each_more (EachAsked (IsKeptAt m is.resolver at)) (λ item. EachAsked (KeepsAt w iw.resolver at) (woven_item (is_affected i k.name) item)) (items_of k)

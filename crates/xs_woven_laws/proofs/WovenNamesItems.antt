@@ -13,8 +13,8 @@ use Rattle.xs_flat_laws.proofs.Conditions.{each_join}
 use Rattle.xs_fei.specs.declared.instructions.Start.{Start}
 use Rattle.xs_fei.specs.declared.instructions.Start.TheVariants.{Nominal, Any}
 use Rattle.xs_fei.specs.Instructions.{EffectTree, stuck_at, follows, inverted, random, erroneous, stuck_at_pick, offset, ramp_down, frozen as frozen_effect, ModeTree, SliceTree, InstructionTree, slices_of, is_affected}
-use Rattle.xs_fei.specs.AddedNames.{own_name, mode_variable, mode_symbol}
-use Rattle.xs_fei.specs.Templates.{named, erroneous_rule, frozen_rule, pick_rule, ramp_rule, frozen_first, ramp_first, rules, first_rules}
+use Rattle.xs_fei.specs.AddedNames.{own_name, mode_variable}
+use Rattle.xs_fei.specs.Templates.{erroneous_rule, frozen_rule, pick_rule, ramp_rule, frozen_first, ramp_first, rules, first_rules}
 use Rattle.xs_weave.specs.Woven.{tree_map_both, rename, same_path, woven_assignment, woven_section, mode_type, start_tree, start_rules, mode_rules, moves_tree, read_tree, slice_rules, slice_sections, added_sections, woven_module}
 use Rattle.xs_fei.specs.KindTypes.{type_of_kind}
 use Rattle.xs_fei.specs.Weavable.{Among}
@@ -52,7 +52,7 @@ section_woven affected (init e) = refl
 section_woven affected (invar e) = refl
 section_woven affected (trans e) = refl
 
-sections_woven : (affected : Text → Bool) (ss ts : List SectionTree) →
+pub sections_woven : (affected : Text → Bool) (ss ts : List SectionTree) →
     flat_map items_of_section (map (woven_section affected) ss ++ ts) ≡ map (woven_item affected) (flat_map items_of_section ss) ++ flat_map items_of_section ts
 sections_woven affected [] ts = refl
 sections_woven affected (s ∷ ss) ts =

@@ -1,4 +1,4 @@
-use Rattle.std.proofs.Common.{arith, ◌≡◌, ◌<◌, ◌∙◌, sym, length}
+use Rattle.std.proofs.Common.{arith, ◌<◌, ◌∙◌, sym, length}
 use Rattle.xs_weave.proofs.LookupLaws.{affected_here, affected_later}
 use Rattle.xs_weave.proofs.lookup.any_affects.Goals as goal
 

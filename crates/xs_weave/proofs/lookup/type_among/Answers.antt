@@ -1,4 +1,4 @@
-use Rattle.std.proofs.Common.{arith, ◌≡◌, ◌<◌, ◌∙◌, sym, ap, length}
+use Rattle.std.proofs.Common.{arith, ◌<◌, ◌∙◌, sym, ap, length}
 use Rattle.std.specs.Prelude.{option_map}
 use Rattle.xs_tree.specs.ProgramTree.{declared_tree}
 use Rattle.xs_weave.proofs.LookupLaws.{found_here, found_later}

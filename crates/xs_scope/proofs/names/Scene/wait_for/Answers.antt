@@ -4,8 +4,9 @@ use Rattle.xs_scope.specs.FoundAt.{formal_at}
 use Rattle.xs_scope.specs.Steps.{is_begun}
 use Rattle.xs_scope.specs.Known.{rows}
 use Rattle.xs_scope.specs.Waiting.{has_frame, IsCircled}
-use Rattle.xs_scope.proofs.Turns.{is_there, circle_closed, circle_turned}
+use Rattle.xs_scope.proofs.Turns.{circle_closed, circle_turned}
 use Rattle.xs_scope.proofs.names.Scene.wait_for.Goals as goal
+use Rattle.xs_scope.proofs.ClosedLaws.{right_true}
 
 pub returns-then-comes_back-clause-waiting : goal.returns-then-comes_back-clause-waiting
 returns-then-comes_back-clause-waiting c =
@@ -16,5 +17,5 @@ pub returns-then-comes_back-clause-turn : goal.returns-then-comes_back-clause-tu
 returns-then-comes_back-clause-turn c =
     let both : (is_begun (formal_at c.args.self.now c.args.spot c.args.formal) && has_frame c.args.waiting.now.items c.args.spot c.args.formal) ≡ true = search rules in
     circle_turned c.args.self.now c.close_circle.new.self c.args.waiting.now.items c.args.spot c.args.formal c.requires.waiting c.requires.formal c.requires.unanswered
-    (is_there (is_begun (formal_at c.args.self.now c.args.spot c.args.formal)) (has_frame c.args.waiting.now.items c.args.spot c.args.formal) both)
+    (right_true (is_begun (formal_at c.args.self.now c.args.spot c.args.formal)) (has_frame c.args.waiting.now.items c.args.spot c.args.formal) both)
     (subst (λ fs. IsCircled (rows c.args.self.now) (rows c.close_circle.new.self) fs c.args.spot c.args.formal) c.deref-then-comes_back.ensures.value c.close_circle.ensures.circle)
