@@ -31,7 +31,7 @@ mod traces;
 mod values;
 mod whole;
 
-pub use analysis::print_analysis;
+pub use analysis::{append_ending, append_sets, print_analysis};
 pub use fault::TraceFault;
 pub use fault_list::print_faults;
 pub use traces::print_trace;

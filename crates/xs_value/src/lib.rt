@@ -14,6 +14,7 @@
 //! ```
 #![tactic(auto)]
 
+mod digits;
 mod domain;
 mod ending;
 mod items;
