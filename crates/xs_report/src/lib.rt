@@ -8,7 +8,7 @@
 //!
 //! The files from below: `text` (pieces that are appended to a buffer), `traces` and `fault_list` (printing),
 //! `numbers` (texts by their numbers), `values` (one value's text), `lookup` (a model's names and values),
-//! `lines` (bytes cut into lines and words), `fault` (what is wrong with a text), `reading` (a text read line
+//! `lines` (lines cut into words), `fault` (what is wrong with a text), `reading` (a text read line
 //! by line) and `whole` (the whole text). All
 //! of it is linear in the text: names are looked up in a map, and a moment that lacks a value costs no more
 //! than its lines.
