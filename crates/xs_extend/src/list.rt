@@ -1,6 +1,6 @@
 //! The faults with the numbers that they have in the woven program's flat model.
 
-ghost use Rattle.std.specs.Prelude.{◌≡◌, ◌↔◌, ◌∷◌, ◌++◌, ◌^◌, ◌<◌, [], ℕ, IfOk, IsOk, OnOk, Some, IsTrue, slice_get};
+ghost use Rattle.std.specs.Prelude.{◌≡◌, ◌↔◌, ◌∷◌, ◌++◌, [], ℕ, IfOk, OnOk, Some, IsTrue, slice_get};
 ghost use Rattle.xs_tree.specs.Trace.{Each};
 ghost use Rattle.xs_tree.specs.ProgramTree.{Text};
 ghost use Rattle.xs_fei.specs.AddedNames.{mode_variable as mode_variable_of, mode_symbol as mode_symbol_of};
@@ -10,6 +10,7 @@ use crate::faults::{Woven, WovenFault};
 use indexmap::IndexMap;
 use std::alloc::Global;
 use xs_fei::{mode_symbol, mode_variable};
+use xs_scope::items::number_of;
 use xs_tree::model::{Fault, FaultList, FlatModel, Variable};
 use xs_value::{Dotted, Items, Name, OutOfMemory};
 
@@ -177,16 +178,5 @@ impl<'a> Symbols<'a> {
             unreachable!();
         };
         *number
-    }
-}
-
-/// A place in a list as a number of 32 bits. A longer list counts as want of memory.
-fn number_of(place: usize) -> Result<u32, OutOfMemory>
-    ensures same { IfOk result (λ number. number ≡ place) }
-    ensures fits { place < 2 ^ 32 → IsOk result }
-{
-    match u32::try_from(place) {
-        Ok(number) => Ok(number),
-        Err(_too_large) => Err(OutOfMemory),
     }
 }
