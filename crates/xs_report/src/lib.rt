@@ -7,7 +7,7 @@
 //! faults, whose text stands in `specs/FaultText.antt`.
 //!
 //! The files from below: `text` (pieces that are appended to a buffer), `traces` and `fault_list` (printing),
-//! `numbers` (texts by their numbers), `values` (one value's text), `lookup` (a model's names and values),
+//! `values` (one value's text), `lookup` (a model's names and values),
 //! `lines` (lines cut into words), `fault` (what is wrong with a text), `reading` (a text read line
 //! by line) and `whole` (the whole text). All
 //! of it is linear in the text: names are looked up in a map, and a moment that lacks a value costs no more
@@ -24,7 +24,6 @@ mod fault;
 mod fault_list;
 mod lines;
 mod lookup;
-mod numbers;
 mod reading;
 mod text;
 mod traces;
