@@ -1,25 +1,13 @@
--- Bytes cut at a byte, and the words of a line.
-use Rattle.std.proofs.Common.{◌≡◌, ◌≢◌, ℕ, zero, suc, ◌<◌, ◌≤◌, ◌+◌, ◌-◌, Bool, true, false, ◌&&◌, nat_eq, List, [], ◌∷◌, ◌++◌, length, take, drop, get_or, refl, sym, ◌∙◌, ap, arith, eq-eqb, length-append}
+-- The words of a line.
+use Rattle.std.proofs.Common.{◌≡◌, ℕ, ◌≤◌, ◌+◌, ◌-◌, Bool, true, false, ◌&&◌, nat_eq, List, [], ◌∷◌, ◌++◌, length, take, drop, refl, sym, ◌∙◌, ap, arith, eq-eqb, length-append}
 use Rattle.std.proofs.lemmas.List.{take_rest}
 use Rattle.std.specs.Cmp.Lexicographic.{pointwise}
 use Rattle.xs_text_laws.specs.Lines.{Line}
 use Rattle.xs_certificate_laws.specs.LineReading.{same_bytes, with_byte, words_in}
 use Rattle.xs_certificate_laws.proofs.LineReading.{same_then, same_itself, taken, refused, differs as differ}
-use Rattle.xs_cert.specs.Cuts.{Lacks, BeginsWith, words_after, IsWordThen, LacksWord, IsAfterWord}
+use Rattle.xs_value.specs.Cuts.{Lacks, BeginsWith}
+use Rattle.xs_cert.specs.Cuts.{words_after, IsWordThen, LacksWord, IsAfterWord}
 
-pub front_free : (b : ℕ) (bytes : List ℕ) (n : ℕ) → n ≤ length bytes → ((k : ℕ) → k < n → get_or bytes k 0 ≢ b) → Lacks b (take n bytes)
-front_free b [] zero h f = tt
-front_free b (c ∷ bytes) zero h f = tt
-front_free b [] (suc n) h f = absurd (omega (arith, h))
-front_free b (c ∷ bytes) (suc n) h f = (f 0 (omega arith), front_free b bytes n (omega (arith, h)) (λ k g. f (suc k) (omega (arith, g))))
-
-pub back_begins : (b : ℕ) (bytes : List ℕ) (n : ℕ) → n ≤ length bytes → (n < length bytes → get_or bytes n 0 ≡ b) → BeginsWith b (drop n bytes)
-back_begins b [] zero h f = tt
-back_begins b (c ∷ bytes) zero h f = f (omega arith)
-back_begins b [] (suc n) h f = absurd (omega (arith, h))
-back_begins b (c ∷ bytes) (suc n) h f = back_begins b bytes n (omega (arith, h)) (λ g. f (omega (arith, g)))
-
--- Words.
 words_begin : (word rest : Line) → Lacks 32 word → BeginsWith 32 rest → words_in (word ++ rest) ≡ word ∷ words_after rest
 words_begin [] [] f b = refl
 words_begin [] (c ∷ rest) f b = taken (nat_eq c 32) ([] ∷ words_in rest) (with_byte c (words_in rest)) (eq-eqb c 32 b)

@@ -3,7 +3,7 @@ use Rattle.std.proofs.Common.{◌≡◌, ◌≢◌, inl, inr, ℕ, suc, ◌+◌,
 use Rattle.std.specs.Option.{option_map}
 use Rattle.std.specs.List.{AllByRecursion}
 use Rattle.xs_text_laws.specs.Lines.{Line, fed, IsLine}
-use Rattle.xs_text_laws.proofs.Separators.{fed_end}
+use Rattle.xs_text_laws.proofs.Cuts.{line_lies, length_more, fed_long, rest_shorter}
 use Rattle.xs_text_laws.proofs.Words.{all_joined}
 use Rattle.xs_certificate_laws.specs.Certificate.{Certificate}
 use Rattle.xs_certificate_laws.specs.CertificateText.{AreLinesOf, SpellsCertificate, BeginsOne, IsBadLine, EndsBefore}
@@ -18,7 +18,7 @@ use Rattle.xs_cert.specs.declared.reading.Expect.TheVariants as expect
 use Rattle.xs_cert.specs.declared.reading.Refusal.{Refusal}
 use Rattle.xs_cert.specs.declared.reading.Refusal.TheVariants as refusal
 use Rattle.xs_cert.specs.declared.reading.Reading.{Reading}
-use Rattle.xs_cert.specs.Cuts.{IsLineThen}
+use Rattle.xs_value.specs.Cuts.{IsLineThen}
 use Rattle.xs_cert.specs.Faults.{IsFaultOf, IsRefused, fault_at}
 use Rattle.xs_cert.specs.Reading.{then_read, read_line, read_lines, unread}
 use Rattle.xs_cert.specs.Seen.{seen}
@@ -37,13 +37,6 @@ pub record IsRead (bytes rest : List ℕ) (number : ℕ) (r : Reading) : Type 0 
 pub read_start : (bytes : List ℕ) (r : Reading) → r ≡ unread → IsRead bytes bytes 1 r
 read_start bytes r e = record { lines = []; lie = refl; are_lines = tt; after = ap (λ q. Some q) (sym e); count = refl }
 
-line_lies : (bytes rest line after : List ℕ) (lines : List Line) → bytes ≡ fed lines ++ rest → IsLineThen rest line after → bytes ≡ fed (lines ++ line ∷ []) ++ after
-line_lies bytes rest line after lines e l = e ∙ ap (λ bs. fed lines ++ bs) l.lie ∙ fed_end lines line after
-
-length_more : (lines : List Line) (line : Line) → length (lines ++ line ∷ []) ≡ suc (length lines)
-length_more [] line = refl
-length_more (l ∷ lines) line = ap suc (length_more lines line)
-
 pub read_more : (bytes rest line after : List ℕ) (number : ℕ) (old new : Reading) → IsRead bytes rest number old → IsLineThen rest line after → read_line old line ≡ Some new → IsRead bytes after (number + 1) new
 read_more bytes rest line after number old new h l step = record {
   lines = h.lines ++ line ∷ [];
@@ -52,20 +45,6 @@ read_more bytes rest line after number old new h l step = record {
   after = read_joined (Some unread) h.lines (line ∷ []) ∙ ap (λ o. then_read o line) h.after ∙ step;
   count = let longer : length (h.lines ++ line ∷ []) ≡ suc (length h.lines) = length_more h.lines line in omega (arith, longer, h.count);
 }
-
--- a line takes a byte
-fed_long : (lines : List Line) → length lines ≤ length (fed lines)
-fed_long [] = omega arith
-fed_long (l ∷ lines) =
-    let both : length ((l ++ 10 ∷ []) ++ fed lines) ≡ length (l ++ 10 ∷ []) + length (fed lines) = length-append (l ++ 10 ∷ []) (fed lines) in
-    let one : length (l ++ 10 ∷ []) ≡ length l + 1 = length-append l (10 ∷ []) in
-    omega (arith, both, one, fed_long lines)
-
-pub rest_shorter : (rest line after : List ℕ) → IsLineThen rest line after → length after < length rest
-rest_shorter rest line after l =
-    let whole : length rest ≡ length (line ++ 10 ∷ after) = ap length l.lie in
-    let sum : length (line ++ 10 ∷ after) ≡ length line + suc (length after) = length-append line (10 ∷ after) in
-    omega (arith, whole, sum)
 
 pub read_few : (bytes rest line after : List ℕ) (number : ℕ) (r : Reading) → IsRead bytes rest number r → IsLineThen rest line after → number ≤ length bytes
 read_few bytes rest line after number r h l =

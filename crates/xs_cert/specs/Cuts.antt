@@ -1,22 +1,7 @@
--- Bytes that are cut at a byte.
-use Rattle.std.specs.Prelude.{◌≡◌, ◌≢◌, ℕ, ◌<◌, List, [], ◌∷◌, ◌++◌, length}
-use Rattle.std.specs.List.{AllByRecursion}
-use Rattle.xs_text_laws.specs.Lines.{Line, IsLine}
+-- Lines that are cut into words.
+use Rattle.std.specs.Prelude.{◌≡◌, ◌≢◌, ℕ, ◌<◌, List, [], ◌∷◌, length}
+use Rattle.xs_text_laws.specs.Lines.{Line}
 use Rattle.xs_certificate_laws.specs.LineReading.{words_in}
-
--- no byte is this one
-abbrev pub Lacks : ℕ → List ℕ → Type 0
-Lacks b bytes = AllByRecursion (λ c. c ≢ b) bytes
-
--- there is no byte, or this one is the first
-abbrev pub BeginsWith : ℕ → List ℕ → Type 0
-BeginsWith b [] = Unit {0}
-BeginsWith b (c ∷ cs) = c ≡ b
-
--- the bytes are a line, its feed and more
-pub record IsLineThen (bytes line after : List ℕ) : Type 0 where
-  pub is_line : IsLine line
-  pub lie : bytes ≡ line ++ 10 ∷ after
 
 -- the words in what stands after a word: nothing, or a space and words
 abbrev pub words_after : List ℕ → List Line

@@ -13,18 +13,6 @@ use xs_lits::lit::Lit;
 use xs_lits::step::Step;
 use xs_value::{ByteList, FaultSet, OutOfMemory};
 
-/// Appends the digits of a number.
-pub(crate) fn append_number(
-    alloc: Global,
-    text: &mut ByteList,
-    number: u64,
-) -> Result<(), OutOfMemory>
-    ensures { OnOk result (text.new ≡ text.old ++ decimal number) }
-{
-    let digits = format!(in alloc; "{number}")?;
-    text.append(digits.as_bytes())
-}
-
 /// Appends the line of a word and a count.
 #[tactic(auto, using(crate::proofs::PieceLaws::piece_rules))]
 pub(crate) fn append_counted(
@@ -37,7 +25,7 @@ pub(crate) fn append_counted(
 {
     text.append(word)?;
     text.append(b" ")?;
-    append_number(alloc, text, count as u64)?;
+    text.append_number(alloc, count as u64)?;
     text.append(b"\n")
 }
 
@@ -74,7 +62,7 @@ fn append_faults(alloc: Global, text: &mut ByteList, faults: &[u32]) -> Result<(
 {
     for fault in faults {
         text.append(b" ")?;
-        append_number(alloc, text, u64::from(*fault))?;
+        text.append_number(alloc, u64::from(*fault))?;
     }
     Ok(())
 }
@@ -113,7 +101,7 @@ fn append_literal(alloc: Global, text: &mut ByteList, lit: Lit) -> Result<(), Ou
     if lit.is_negated() {
         text.append(b"-")?;
     }
-    append_number(alloc, text, lit.var())
+    text.append_number(alloc, lit.var())
 }
 
 /// Appends the line of a step.
@@ -139,7 +127,7 @@ fn append_hints(alloc: Global, text: &mut ByteList, hints: &[u64]) -> Result<(),
 {
     for hint in hints {
         text.append(b" ")?;
-        append_number(alloc, text, *hint)?;
+        text.append_number(alloc, *hint)?;
     }
     Ok(())
 }

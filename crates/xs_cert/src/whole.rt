@@ -9,8 +9,8 @@ ghost use Rattle.xs_cert.specs.declared.reading.Expect.TheVariants as expect;
 
 use crate::certificate::{CertFault, Certificate};
 use crate::reading::{Expect, Reading};
-use crate::words::first_line;
 use std::alloc::Global;
+use xs_value::first_line;
 
 /// The certificate that a text spells, in version 1 or 2, or the line that is wrong first or missing.
 ///

@@ -8,9 +8,7 @@ ghost use Rattle.xs_cert.specs.Pieces.{head_text, traced_lines, listed_lines, in
 ghost use Rattle.xs_cert.specs.Seen.{seen};
 
 use crate::certificate::{Certificate, LineList};
-use crate::pieces::{
-    append_clause, append_counted, append_lines, append_number, append_set, append_step,
-};
+use crate::pieces::{append_clause, append_counted, append_lines, append_set, append_step};
 use std::alloc::Global;
 use xs_lits::clause::{Clause, ClauseList};
 use xs_lits::recorder::StepsList;
@@ -76,7 +74,7 @@ fn append_named(
     ensures { OnOk result (text.new ≡ text.old ++ (name.now ++ decimal number)) }
 {
     text.append(name)?;
-    append_number(alloc, text, u64::from(number))
+    text.append_number(alloc, u64::from(number))
 }
 
 /// Appends the number of sets, and the sets with their traces.

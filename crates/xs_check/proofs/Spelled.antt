@@ -7,7 +7,7 @@ use Rattle.xs_lits.specs.declared.step.Step.{Step}
 use Rattle.xs_certificate_laws.specs.Certificate.{Certificate, part_bad, an_end, line_of, lines_of_sets}
 use Rattle.xs_certificate_laws.specs.CertificateText.{Version, lines_of, set_lines, part_lines, clause_line, step_line, IsWritableText}
 use Rattle.xs_check.specs.Fit.{IsShortText, SpelledAreCheckable}
-use Rattle.xs_report.proofs.WholeLaws.{fed_long as few_lines}
+use Rattle.xs_text_laws.proofs.Cuts.{fed_long as few_lines}
 use Rattle.xs_certificate_laws.proofs.Sites.{lines_first}
 
 set_length : (sets : List (List ℕ)) (texts : List (List Line)) → length texts ≡ length sets → length (set_lines sets texts) ≡ lines_of_sets texts

@@ -1,8 +1,7 @@
 //! Which variables of the clause lists are the bits of a model's variables.
 
 ghost use Rattle.std.specs.Prelude.{◌≡◌, ◌≤◌, ◌<◌, ◌+◌, ◌^◌, pos, None, Some, map, IfOk, IsOk, OnOk};
-ghost use Rattle.xs_type_laws.specs.Costs.{width_of, width_in};
-ghost use Rattle.xs_types.specs.Types.{widened, spread};
+ghost use Rattle.xs_types.specs.Types.{spread};
 ghost use Rattle.xs_tree.specs.ModelTree.{model_tree, role_of};
 ghost use Rattle.xs_encode_laws.specs.Widths.{symbol_width};
 ghost use Rattle.xs_encode_laws.specs.Encodable.{IsEncodable};
@@ -11,34 +10,14 @@ ghost use Rattle.xs_expressions.specs.Built.{signal_of, signals_of};
 ghost use Rattle.xs_encode.specs.Domains.{domain_interval, domain_width, value_width, domain_signal, places_after, capped};
 
 use std::alloc::Global;
-use std::marker::Model;
 use xs_circuits::word::{Word, fitted};
 use xs_expressions::names::SignalList;
 use xs_expressions::signal::Signal;
 use xs_expressions::width::word_width;
 use xs_lits::lit::Lit;
 use xs_tree::model::Role;
-use xs_types::{Typed, width};
+use xs_types::{Ends, Typed, ends_width, widened, width};
 use xs_value::{Domain, Items, OutOfMemory};
-
-/// The least and the greatest of some numbers.
-#[derive(Clone, Copy)]
-pub(crate) struct Ends {
-    /// The least.
-    pub lo: i64,
-    /// The greatest.
-    pub hi: i64,
-}
-
-impl Model for Ends {
-    ghost use Rattle.xs_type_laws.specs.Intervals.{Interval};
-
-    ghost Value = { Interval };
-
-    ghost view = { λ e. record { lo = e.lo; hi = e.hi } };
-
-    ghost inverse = { λ e. record { lo = e.lo; hi = e.hi } };
-}
 
 /// The least and the greatest number of a domain, where symbols are their numbers. Truth values have none.
 pub(crate) fn ends_of(domain: &Domain) -> Option<Ends>
@@ -74,19 +53,6 @@ fn symbol_ends(symbols: &[u32]) -> Option<Ends>
     ends
 }
 
-/// The ends with one more number.
-fn widened(ends: Option<Ends>, n: i64) -> Ends
-    ensures { result ≡ widened ends n }
-{
-    match ends {
-        Some(ends) => Ends {
-            lo: ends.lo.min(n),
-            hi: ends.hi.max(n),
-        },
-        None => Ends { lo: n, hi: n },
-    }
-}
-
 /// The bits of a variable with this domain.
 pub(crate) fn domain_width(domain: &Domain) -> u32
     ensures { result ≡ domain_width domain.now }
@@ -94,16 +60,6 @@ pub(crate) fn domain_width(domain: &Domain) -> u32
     match domain {
         Domain::Boolean => 1,
         _ => ends_width(ends_of(domain)),
-    }
-}
-
-// The bits of any number between the ends.
-fn ends_width(ends: Option<Ends>) -> u32
-    ensures { result ≡ width_in ends }
-{
-    match ends {
-        Some(ends) => width(ends.lo, ends.hi),
-        None => 0,
     }
 }
 

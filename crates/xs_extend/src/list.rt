@@ -1,7 +1,7 @@
 //! The faults with the numbers that they have in the woven program's flat model ([`fault_list`]): of the variable that holds
 //! a slice's state and of the symbol that stands for a mode. A search reads by them in a state which modes stand.
 
-ghost use Rattle.std.specs.Prelude.{◌≡◌, ◌↔◌, ◌∷◌, ◌++◌, ◌^◌, ◌<◌, [], IfOk, IsOk, OnOk, Some, IsTrue, slice_get};
+ghost use Rattle.std.specs.Prelude.{◌≡◌, ◌↔◌, ◌∷◌, ◌++◌, [], IfOk, OnOk, Some, IsTrue, slice_get};
 ghost use Rattle.xs_tree.specs.Trace.{Each};
 ghost use Rattle.xs_tree.specs.ProgramTree.{Text};
 ghost use Rattle.xs_fei.specs.AddedNames.{mode_variable as mode_variable_of, mode_symbol as mode_symbol_of};
@@ -11,6 +11,7 @@ use crate::faults::{Woven, WovenFault};
 use indexmap::IndexMap;
 use std::alloc::Global;
 use xs_fei::{mode_symbol, mode_variable};
+use xs_scope::items::number_of;
 use xs_tree::model::{Fault, FaultList, FlatModel, Variable};
 use xs_value::{Dotted, Items, Name, OutOfMemory};
 
@@ -183,16 +184,5 @@ impl<'a> Symbols<'a> {
             unreachable!();
         };
         *number
-    }
-}
-
-/// A place in a list as a number of 32 bits. A longer list counts as want of memory.
-fn number_of(place: usize) -> Result<u32, OutOfMemory>
-    ensures same { IfOk result (λ number. number ≡ place) }
-    ensures fits { place < 2 ^ 32 → IsOk result }
-{
-    match u32::try_from(place) {
-        Ok(number) => Ok(number),
-        Err(_too_large) => Err(OutOfMemory),
     }
 }

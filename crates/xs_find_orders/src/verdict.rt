@@ -11,7 +11,6 @@ ghost use Rattle.xs_find_orders.specs.Claimed.{is_true_value, relation_at as rel
 use crate::pair::StagedCase;
 use std::alloc::Global;
 use xs_orders::Relation;
-use xs_reach_status::report::append_count;
 use xs_report::print_trace;
 use xs_types::Typed;
 use xs_value::{ByteList, Ending, MomentList, OutOfMemory, Valuation, Value};
@@ -168,7 +167,7 @@ fn pair(alloc: Global, first: u32, second: u32) -> Result<ByteList, OutOfMemory>
 fn append_number(alloc: Global, text: &mut ByteList, number: u32) -> Result<(), OutOfMemory>
     ensures { OnOk result (text.new ≡ text.old ++ (decimal number ++ codes " ")) }
 {
-    append_count(alloc, text, number as usize)?;
+    text.append_number(alloc, u64::from(number))?;
     text.append(b" ")
 }
 
@@ -211,8 +210,8 @@ fn append_steps(
     ensures { OnOk result (text.new ≡ text.old ++ (codes " to " ++ (decimal steps ++ (codes " bits " ++ (decimal bits ++ codes "\n"))))) }
 {
     text.append(b" to ")?;
-    append_count(alloc, text, steps as usize)?;
+    text.append_number(alloc, u64::from(steps))?;
     text.append(b" bits ")?;
-    append_count(alloc, text, bits as usize)?;
+    text.append_number(alloc, u64::from(bits))?;
     text.append(b"\n")
 }

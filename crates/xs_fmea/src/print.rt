@@ -54,7 +54,7 @@ fn append_table(
     ensures { OnOk result (text.new ≡ text.old ++ (codes "tops " ++ (decimal (length t.now.endings) ++ (codes "\n" ++ (ending_lines bits 1 (map told_ending t.now.endings) ++ entry_lines t.now.rows (map (map told_entry) t.now.entries)))))) }
 {
     text.append(b"tops ")?;
-    append_count(alloc, text, t.endings.len())?;
+    text.append_number(alloc, t.endings.len() as u64)?;
     text.append(b"\n")?;
     append_endings(alloc, text, bits, t.endings.as_slice())?;
     append_rows(alloc, text, t.rows.as_slice(), t.entries.as_slice())
@@ -88,7 +88,7 @@ fn append_ending_line(
     ensures { OnOk result (text.new ≡ text.old ++ ending_line bits number (told_ending ending)) }
 {
     text.append(b"top ")?;
-    append_count(alloc, text, number)?;
+    text.append_number(alloc, number as u64)?;
     text.append(b" ")?;
     append_ending(alloc, text, bits, ending)?;
     text.append(b"\n")
@@ -108,9 +108,9 @@ fn append_ending(
         Ending::Complete => text.append(b"complete"),
         Ending::Bounded(steps) => {
             text.append(b"bounded ")?;
-            append_number(alloc, text, steps)?;
+            text.append_number(alloc, u64::from(steps))?;
             text.append(b" bits ")?;
-            append_number(alloc, text, bits)
+            text.append_number(alloc, u64::from(bits))
         }
     }
 }
@@ -171,7 +171,7 @@ fn append_numbers(alloc: Global, text: &mut ByteList, numbers: &[u32]) -> Result
 {
     for number in numbers {
         text.append(b" ")?;
-        append_number(alloc, text, *number)?;
+        text.append_number(alloc, u64::from(*number))?;
     }
     Ok(())
 }
@@ -196,20 +196,4 @@ fn entry_text(entry: Entry) -> &'static [u8]
         Entry::No => b" no",
         Entry::Unknown => b" unknown",
     }
-}
-
-/// Appends the digits of a number.
-fn append_number(alloc: Global, text: &mut ByteList, number: u32) -> Result<(), OutOfMemory>
-    ensures { OnOk result (text.new ≡ text.old ++ decimal number) }
-{
-    let digits = format!(in alloc; "{number}")?;
-    text.append(digits.as_bytes())
-}
-
-/// Appends the digits of how many there are.
-fn append_count(alloc: Global, text: &mut ByteList, number: usize) -> Result<(), OutOfMemory>
-    ensures { OnOk result (text.new ≡ text.old ++ decimal number) }
-{
-    let digits = format!(in alloc; "{number}")?;
-    text.append(digits.as_bytes())
 }

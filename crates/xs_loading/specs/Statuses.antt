@@ -48,13 +48,17 @@ part_text part.Effect = codes "effect "
 part_text part.Count = codes "count "
 part_text part.Read = codes "read "
 
+-- the number of a rule and a place, with a line feed
+abbrev pub rule_text : ℕ → ℕ → Text
+rule_text number place = decimal number ++ (codes " at " ++ (decimal place ++ codes "\n"))
+
 -- the part, the number of its rule, and the place
 abbrev pub fault_text : InputFault → Text
-fault_text fault = part_text fault.part ++ (decimal fault.number ++ (codes " at " ++ (decimal fault.place ++ codes "\n")))
+fault_text fault = part_text fault.part ++ rule_text fault.number fault.place
 
 -- the number of the rule that words break, and the place
 abbrev pub words_text : WordFault → Text
-words_text fault = decimal (rule_of fault) ++ (codes " at " ++ (decimal (place_of fault) ++ codes "\n"))
+words_text fault = rule_text (rule_of fault) (place_of fault)
 
 -- why a moment is not accepted
 abbrev pub why_text : Why → Text

@@ -2,8 +2,7 @@
 // of fixed words and numbers alone, so that nothing of a file's text gets into it.
 
 ghost use Rattle.std.specs.Prelude.{◌≡◌, ◌≤ℤ◌, pos, ◌++◌, IfOk, OnOk, codes};
-ghost use Rattle.std.specs.Fmt.{decimal};
-ghost use Rattle.xs_loading.specs.Statuses.{number_of, status_of, part_text, fault_text, words_text, refusal_text, why_text, moment_text, line_text};
+ghost use Rattle.xs_loading.specs.Statuses.{number_of, status_of, part_text, rule_text, fault_text, words_text, refusal_text, why_text, moment_text, line_text};
 
 use std::alloc::Global;
 use xs_value::{ByteList, OutOfMemory};
@@ -158,19 +157,21 @@ impl Refusal {
 fn words_line(alloc: Global, fault: WordFault) -> Result<ByteList, OutOfMemory>
     ensures { IfOk result (λ line. line ≡ codes "refused words " ++ words_text fault) }
 {
-    let mut line = ByteList::from_slice(alloc, b"refused words ")?;
-    append_place(alloc, &mut line, fault.number(), u64::from(fault.place()))?;
-    Ok(line)
+    let place = u64::from(fault.place());
+    refusal_line(alloc, b"refused words ", b"", fault.number(), place)
 }
 
 /// The line of a refused input, after its beginning.
 fn fault_line(alloc: Global, begin: &[u8], fault: InputFault) -> Result<ByteList, OutOfMemory>
     ensures { IfOk result (λ line. line ≡ begin.now ++ fault_text fault) }
 {
-    let mut line = ByteList::from_slice(alloc, begin)?;
-    line.append(part_name(fault.part))?;
-    append_place(alloc, &mut line, fault.number, fault.place)?;
-    Ok(line)
+    refusal_line(
+        alloc,
+        begin,
+        part_name(fault.part),
+        fault.number,
+        fault.place,
+    )
 }
 
 /// The line of a moment that is not accepted.
@@ -205,6 +206,22 @@ fn why_name(why: Why) -> &'static [u8]
     }
 }
 
+/// The line of a refusal: its beginning, the name of a part, the rule's number and the place.
+pub fn refusal_line(
+    alloc: Global,
+    begin: &[u8],
+    part: &[u8],
+    number: u32,
+    place: u64,
+) -> Result<ByteList, OutOfMemory>
+    ensures { IfOk result (λ line. line ≡ begin.now ++ (part.now ++ rule_text number place)) }
+{
+    let mut line = ByteList::from_slice(alloc, begin)?;
+    line.append(part)?;
+    append_place(alloc, &mut line, number, place)?;
+    Ok(line)
+}
+
 /// Appends the rule's number and the place, and ends the line.
 fn append_place(
     alloc: Global,
@@ -212,7 +229,7 @@ fn append_place(
     number: u32,
     place: u64,
 ) -> Result<(), OutOfMemory>
-    ensures { OnOk result (line.new ≡ line.old ++ (decimal number ++ (codes " at " ++ (decimal place ++ codes "\n")))) }
+    ensures { OnOk result (line.new ≡ line.old ++ rule_text number place) }
 {
     let text = format!(in alloc; "{number} at {place}\n")?;
     line.append(text.as_bytes())

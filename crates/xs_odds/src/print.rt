@@ -51,7 +51,7 @@ fn append_line(
     ensures { OnOk result (text.new ≡ text.old ++ (codes "odds " ++ (decimal number ++ (codes " " ++ (units_text bound ++ codes "\n"))))) }
 {
     text.append(b"odds ")?;
-    append_count(alloc, text, number)?;
+    text.append_number(alloc, number as u64)?;
     text.append(b" ")?;
     append_units(alloc, text, bound)?;
     text.append(b"\n")
@@ -120,14 +120,6 @@ fn append_last_digits(text: &mut ByteList, count: u32, number: u128) -> Result<(
     }
     append_last_digits(text, count - 1, number / 10)?;
     text.push(b'0' + (number % 10) as u8)
-}
-
-/// Appends the digits of how many there are.
-fn append_count(alloc: Global, text: &mut ByteList, number: usize) -> Result<(), OutOfMemory>
-    ensures { OnOk result (text.new ≡ text.old ++ decimal number) }
-{
-    let digits = format!(in alloc; "{number}")?;
-    text.append(digits.as_bytes())
 }
 
 /// Appends the digits of a large number.

@@ -1,6 +1,5 @@
 -- How a run of a further verb ends: its number, and the line that a refusal says.
 use Rattle.std.specs.Prelude.{◌≡◌, ℕ, ℤ, pos, ◌++◌, codes}
-use Rattle.std.specs.Fmt.{decimal}
 use Rattle.xs_tree.specs.ProgramTree.{Text}
 use Rattle.xs_desk.specs.declared.desk.WriteStop.{WriteStop}
 use Rattle.xs_desk.specs.declared.desk.WriteStop.TheVariants as write_stop
@@ -40,11 +39,11 @@ part_text part.Cause = codes "cause "
 
 -- the part, the number of its rule, and the place
 abbrev pub fault_text : InputFault → Text
-fault_text fault = part_text fault.part ++ (decimal fault.number ++ (codes " at " ++ (decimal fault.place ++ codes "\n")))
+fault_text fault = part_text fault.part ++ shared.rule_text fault.number fault.place
 
 -- the number of the rule that words break, and the place
 abbrev pub words_text : WordFault → Text
-words_text fault = decimal (rule_of fault) ++ (codes " at " ++ (decimal (place_of fault) ++ codes "\n"))
+words_text fault = shared.rule_text (rule_of fault) (place_of fault)
 
 -- the one line of a refusal
 abbrev pub refusal_text : Refusal → Text

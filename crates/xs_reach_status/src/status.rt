@@ -1,6 +1,5 @@
 // How a run of a further verb ends, and the line that a refusal says.
-ghost use Rattle.std.specs.Prelude.{◌≡◌, ◌≤ℤ◌, pos, ◌++◌, IfOk, OnOk, codes};
-ghost use Rattle.std.specs.Fmt.{decimal};
+ghost use Rattle.std.specs.Prelude.{◌≡◌, ◌≤ℤ◌, pos, ◌++◌, IfOk, codes};
 ghost use Rattle.xs_text_laws.specs.Analysis.{told_ending};
 ghost use Rattle.xs_reach_status.specs.Finished.{IsFinished, ended_with};
 ghost use Rattle.xs_reach_status.specs.Statuses.{number_of, refusal_number, part_text, fault_text, words_text, refusal_text};
@@ -106,32 +105,16 @@ impl Refusal {
 fn words_line(alloc: Global, fault: WordFault) -> Result<ByteList, OutOfMemory>
     ensures { IfOk result (λ line. line ≡ codes "refused words " ++ words_text fault) }
 {
-    let mut line = ByteList::from_slice(alloc, b"refused words ")?;
-    append_place(alloc, &mut line, fault.number(), u64::from(fault.place()))?;
-    Ok(line)
+    let place = u64::from(fault.place());
+    shared::refusal_line(alloc, b"refused words ", b"", fault.number(), place)
 }
 
 /// The line of a refused input, after its beginning.
 fn fault_line(alloc: Global, begin: &[u8], fault: InputFault) -> Result<ByteList, OutOfMemory>
     ensures { IfOk result (λ line. line ≡ begin.now ++ fault_text fault) }
 {
-    let mut line = ByteList::from_slice(alloc, begin)?;
-    line.append(part_name(fault.part))?;
-    append_place(alloc, &mut line, fault.number, fault.place)?;
-    Ok(line)
-}
-
-/// Appends the rule's number and the place, and ends the line.
-fn append_place(
-    alloc: Global,
-    line: &mut ByteList,
-    number: u32,
-    place: u64,
-) -> Result<(), OutOfMemory>
-    ensures { OnOk result (line.new ≡ line.old ++ (decimal number ++ (codes " at " ++ (decimal place ++ codes "\n")))) }
-{
-    let text = format!(in alloc; "{number} at {place}\n")?;
-    line.append(text.as_bytes())
+    let part = part_name(fault.part);
+    shared::refusal_line(alloc, begin, part, fault.number, fault.place)
 }
 
 /// The part as the line names it, with a space after it.

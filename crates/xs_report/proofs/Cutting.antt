@@ -1,23 +1,12 @@
--- Bytes cut at a byte, and a line cut into the words of an equation.
-use Rattle.std.proofs.Common.{◌≡◌, ◌≢◌, ℕ, zero, suc, ◌<◌, ◌≤◌, List, [], ◌∷◌, ◌++◌, length, take, drop, get_or, sym, ◌∙◌, ap, subst, arith}
+-- A line cut into the words of an equation.
+use Rattle.std.proofs.Common.{◌≡◌, ◌≢◌, ℕ, List, [], ◌∷◌, ◌++◌, sym, ◌∙◌, ap, subst}
 use Rattle.xs_text_laws.specs.Lines.{Line, IsLine}
 use Rattle.xs_text_laws.proofs.Separators.{same_front, no_separator}
 use Rattle.xs_text_laws.specs.TraceText.{equation}
 use Rattle.xs_text_laws.specs.Wrong.{IsEquation}
-use Rattle.xs_report.specs.Cuts.{Lacks, BeginsWith, IsNoEquation, IsSpaceless}
+use Rattle.xs_value.specs.Cuts.{Lacks, BeginsWith}
+use Rattle.xs_report.specs.Cuts.{IsNoEquation, IsSpaceless}
 use Rattle.std.proofs.lemmas.List.{append-nil as append_none}
-
-pub front_free : (b : ℕ) (bytes : List ℕ) (n : ℕ) → n ≤ length bytes → ((k : ℕ) → k < n → get_or bytes k 0 ≢ b) → Lacks b (take n bytes)
-front_free b [] zero h f = tt
-front_free b (c ∷ bytes) zero h f = tt
-front_free b [] (suc n) h f = absurd (omega (arith, h))
-front_free b (c ∷ bytes) (suc n) h f = (f 0 (omega arith), front_free b bytes n (omega (arith, h)) (λ k g. f (suc k) (omega (arith, g))))
-
-pub back_begins : (b : ℕ) (bytes : List ℕ) (n : ℕ) → n ≤ length bytes → (n < length bytes → get_or bytes n 0 ≡ b) → BeginsWith b (drop n bytes)
-back_begins b [] zero h f = tt
-back_begins b (c ∷ bytes) zero h f = f (omega arith)
-back_begins b [] (suc n) h f = absurd (omega (arith, h))
-back_begins b (c ∷ bytes) (suc n) h f = back_begins b bytes n (omega (arith, h)) (λ g. f (omega (arith, g)))
 
 tail_of : (x y : ℕ) (xs ys : List ℕ) → (x ∷ xs) ≡ (y ∷ ys) → xs ≡ ys
 tail_of x y xs ys e = cc

@@ -12,7 +12,7 @@ use Rattle.xs_tree.specs.Flat.{FlatVariable, FlatModel}
 use Rattle.xs_flat_laws.specs.FlatTrace.{AreInDomains}
 use Rattle.xs_flat_laws.proofs.Lists.{get_within}
 use Rattle.xs_text_laws.specs.Lines.{Line, fed, IsLine}
-use Rattle.xs_text_laws.proofs.Separators.{fed_end}
+use Rattle.xs_text_laws.proofs.Cuts.{line_lies, length_more, fed_long, rest_shorter}
 use Rattle.xs_text_laws.specs.TraceText.{value_text, moment_line}
 use Rattle.xs_text_laws.specs.Given.{IsPrintable, GivesMoments, BytesGive}
 use Rattle.xs_text_laws.specs.Wrong.{moments_after, Lacks, Misses}
@@ -25,7 +25,7 @@ use Rattle.xs_report.specs.declared.fault.TraceFault.{TraceFault}
 use Rattle.xs_report.specs.declared.fault.TraceFault.TheVariants as fault
 use Rattle.xs_report.specs.declared.reading.Slot.{Slot}
 use Rattle.xs_report.specs.declared.reading.Reading.{Reading}
-use Rattle.xs_report.specs.Cuts.{IsLineThen}
+use Rattle.xs_value.specs.Cuts.{IsLineThen}
 use Rattle.xs_report.specs.Faults.{IsFaultOf}
 use Rattle.xs_report.specs.Reading.{IsGiven, IsSaid, IsAfter, with_last, ended, IsUnfinished, IsFinished}
 use Rattle.xs_report.specs.Told.{told_value, told_moment, told_trace}
@@ -76,16 +76,9 @@ tail_wrong m bytes rest lines r number h e ls l some count = subst (λ n. IsFaul
 }))
 
 -- one line more
-pub line_lies : (bytes rest line after : List ℕ) (lines : List Line) → bytes ≡ fed lines ++ rest → IsLineThen rest line after → bytes ≡ fed (lines ++ line ∷ []) ++ after
-line_lies bytes rest line after lines e l = e ∙ ap (λ bs. fed lines ++ bs) l.lie ∙ fed_end lines line after
-
 pub are_more : (lines : List Line) (line : Line) → AllByRecursion IsLine lines → IsLine line → AllByRecursion IsLine (lines ++ line ∷ [])
 are_more [] line ls l = (l, tt)
 are_more (x ∷ lines) line ls l = (ls.0, are_more lines line ls.1 l)
-
-pub length_more : (lines : List Line) (line : Line) → length (lines ++ line ∷ []) ≡ suc (length lines)
-length_more [] line = refl
-length_more (x ∷ lines) line = ap suc (length_more lines line)
 
 -- the values of a moment as they are told
 in_domains : (symbols : List Text) (xs : List FlatVariable) (v : List Numbered) → length v ≡ length xs → ((i : ℕ) (x : FlatVariable) (w : Numbered) → slice_get xs i ≡ Some x → slice_get v i ≡ Some w → IsTrue (in_domain x.declared (told_value symbols w))) →
@@ -221,19 +214,6 @@ begun_few n (l ∷ lines) = by (same_text l (moment_line n)) (begun_few (suc n) 
     by : (b : Bool) → moments_after (suc n) lines ≤ suc n + length lines → moments_after n lines ≤ n + length lines → moments_after (if b then suc n else n) lines ≤ n + suc (length lines)
     by true h g = omega (arith, h)
     by false h g = omega (arith, g)
-
-pub fed_long : (lines : List Line) → length lines ≤ length (fed lines)
-fed_long [] = omega arith
-fed_long (l ∷ lines) =
-    let both : length ((l ++ 10 ∷ []) ++ fed lines) ≡ length (l ++ 10 ∷ []) + length (fed lines) = length-append (l ++ 10 ∷ []) (fed lines) in
-    let one : length (l ++ 10 ∷ []) ≡ length l + 1 = length-append l (10 ∷ []) in
-    omega (arith, both, one, fed_long lines)
-
-pub rest_shorter : (rest line after : List ℕ) → IsLineThen rest line after → length after < length rest
-rest_shorter rest line after l =
-    let whole : length rest ≡ length (line ++ 10 ∷ after) = ap length l.lie in
-    let sum : length (line ++ 10 ∷ after) ≡ length line + suc (length after) = length-append line (10 ∷ after) in
-    omega (arith, whole, sum)
 
 pub read_few : (m : FlatModel) (bytes rest line after : List ℕ) (number : ℕ) (r : Reading) → IsRead m bytes rest number r → IsLineThen rest line after → number ≤ length bytes
 read_few m bytes rest line after number r h l =

@@ -11,7 +11,6 @@ ghost use Rattle.xs_report.specs.Analysed.{told_analysis, told_traces};
 ghost use Rattle.xs_text_laws.specs.Analysis.{told_ending};
 
 use crate::fault_list::print_faults;
-use crate::text::append_count;
 use crate::traces::print_trace;
 use std::alloc::Global;
 use xs_tree::model::FaultList;
@@ -54,7 +53,7 @@ fn append_found(
     ensures { OnOk result (text.new ≡ text.old ++ (codes "sets " ++ (decimal (length sets.now) ++ (codes "\n" ++ (set_lines sets.now ++ trace_parts (model_tree t.now.model) 1 (told_traces t.now.model.symbols traces.now)))))) }
 {
     text.append(b"sets ")?;
-    append_count(alloc, text, sets.len())?;
+    text.append_number(alloc, sets.len() as u64)?;
     text.append(b"\n")?;
     append_sets(alloc, text, sets.as_slice())?;
     append_traces(alloc, text, t, traces.as_slice())
@@ -62,7 +61,7 @@ fn append_found(
 
 /// Appends a line for each set.
 #[tactic(auto, using(crate::proofs::TextLaws::text_rules))]
-fn append_sets(alloc: Global, text: &mut ByteList, sets: &[FaultSet]) -> Result<(), OutOfMemory>
+pub fn append_sets(alloc: Global, text: &mut ByteList, sets: &[FaultSet]) -> Result<(), OutOfMemory>
     ensures { OnOk result (text.new ≡ text.old ++ set_lines sets.now) }
 {
     for set in sets {
@@ -88,7 +87,7 @@ fn append_numbers(alloc: Global, text: &mut ByteList, numbers: &[u32]) -> Result
 {
     for number in numbers {
         text.append(b" ")?;
-        append_count(alloc, text, *number as usize)?;
+        text.append_number(alloc, u64::from(*number))?;
     }
     Ok(())
 }
@@ -121,7 +120,7 @@ fn append_trace(
     ensures { OnOk result (text.new ≡ text.old ++ (codes "trace " ++ (decimal number ++ (codes "\n" ++ trace_text (model_tree t.now.model) (told_trace t.now.model.symbols trace.now))))) }
 {
     text.append(b"trace ")?;
-    append_count(alloc, text, number)?;
+    text.append_number(alloc, number as u64)?;
     text.append(b"\n")?;
     let moments = print_trace(alloc, t, trace)?;
     text.append(moments.as_slice())
@@ -155,7 +154,7 @@ fn append_first(text: &mut ByteList, first: bool) -> Result<(), OutOfMemory>
 
 /// Appends how an analysis ended, with the bits of a state where it is bounded.
 #[tactic(auto, using(crate::proofs::TextLaws::text_rules))]
-fn append_ending(
+pub fn append_ending(
     alloc: Global,
     text: &mut ByteList,
     ending: Ending,
@@ -180,9 +179,9 @@ fn append_bounded(
     ensures { OnOk result (text.new ≡ text.old ++ (codes "bounded " ++ (decimal steps ++ (codes " bits " ++ decimal bits)))) }
 {
     text.append(b"bounded ")?;
-    append_count(alloc, text, steps as usize)?;
+    text.append_number(alloc, u64::from(steps))?;
     text.append(b" bits ")?;
-    append_count(alloc, text, bits as usize)
+    text.append_number(alloc, u64::from(bits))
 }
 
 /// Appends the size, where it is below the number of faults.
@@ -199,6 +198,6 @@ fn append_size(
         return Ok(());
     }
     text.append(b"size ")?;
-    append_count(alloc, text, size as usize)?;
+    text.append_number(alloc, u64::from(size))?;
     text.append(b"\n")
 }

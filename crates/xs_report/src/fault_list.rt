@@ -3,8 +3,8 @@
 ghost use Rattle.std.specs.Prelude.{◌≡◌, ◌++◌, map, IfOk, OnOk};
 ghost use Rattle.xs_report.specs.FaultText.{name_of, fault_line, fault_lines, faults_text};
 
-use crate::text::{append_count, append_dotted};
 use std::alloc::Global;
+use xs_tree::append_dotted;
 use xs_tree::model::{Fault, FaultList};
 use xs_value::{ByteList, OutOfMemory};
 
@@ -14,7 +14,7 @@ pub fn print_faults(alloc: Global, faults: &FaultList) -> Result<ByteList, OutOf
     ensures { IfOk result (λ text. text ≡ faults_text (map name_of faults.now)) }
 {
     let mut text = ByteList::from_slice(alloc, b"faults ")?;
-    append_count(alloc, &mut text, faults.len())?;
+    text.append_number(alloc, faults.len() as u64)?;
     text.append(b"\n")?;
     append_faults(alloc, &mut text, faults.as_slice())?;
     Ok(text)
@@ -42,7 +42,7 @@ fn append_fault(
     ensures { OnOk result (text.new ≡ text.old ++ fault_line number (name_of fault.now)) }
 {
     text.append(b"fault ")?;
-    append_count(alloc, text, number)?;
+    text.append_number(alloc, number as u64)?;
     text.append(b" ")?;
     append_dotted(text, &fault.name)?;
     text.append(b"\n")

@@ -7,8 +7,8 @@
 //! faults, whose text stands in `specs/FaultText.antt`.
 //!
 //! The files from below: `text` (pieces that are appended to a buffer), `traces` and `fault_list` (printing),
-//! `numbers` (texts by their numbers), `values` (one value's text), `lookup` (a model's names and values),
-//! `lines` (bytes cut into lines and words), `fault` (what is wrong with a text), `reading` (a text read line
+//! `values` (one value's text), `lookup` (a model's names and values),
+//! `lines` (lines cut into words), `fault` (what is wrong with a text), `reading` (a text read line
 //! by line) and `whole` (the whole text). All
 //! of it is linear in the text: names are looked up in a map, and a moment that lacks a value costs no more
 //! than its lines.
@@ -24,14 +24,13 @@ mod fault;
 mod fault_list;
 mod lines;
 mod lookup;
-mod numbers;
 mod reading;
 mod text;
 mod traces;
 mod values;
 mod whole;
 
-pub use analysis::print_analysis;
+pub use analysis::{append_ending, append_sets, print_analysis};
 pub use fault::TraceFault;
 pub use fault_list::print_faults;
 pub use traces::print_trace;

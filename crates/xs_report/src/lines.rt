@@ -1,48 +1,14 @@
-//! Bytes cut into lines, and lines into words: [`first_line`] and [`equation_words`]. What is cut off is borrowed from the
+//! Lines cut into words: [`equation_words`] gives the two words of an equation. What is cut off is borrowed from the
 //! text, and nothing is copied.
 
-ghost use Rattle.std.specs.Prelude.{◌≡◌, ◌≢◌, ◌↔◌, ℕ, ◌<◌, ◌≤◌, [], ◌∷◌, ◌++◌, List, codes, length, slice_index, IsTrue, IfOk, MatchOption};
+ghost use Rattle.std.specs.Prelude.{◌≡◌, ◌≢◌, ◌↔◌, ℕ, ◌∷◌, ◌++◌, List, codes, IsTrue, IfOk, MatchOption};
 ghost use Rattle.xs_text_laws.specs.Lines.{IsLine};
 ghost use Rattle.xs_text_laws.specs.TraceText.{moment_line};
 ghost use Rattle.xs_text_laws.specs.Wrong.{IsEquation};
-ghost use Rattle.xs_report.specs.Cuts.{Lacks, BeginsWith, IsLineThen, IsNoEquation, IsSpaceless};
+ghost use Rattle.xs_report.specs.Cuts.{IsNoEquation, IsSpaceless};
 
 use std::alloc::Global;
-use xs_value::OutOfMemory;
-
-/// The bytes before the first line feed and those after it, where there is one.
-pub(crate) fn first_line(bytes: &[u8]) -> Option<(&[u8], &[u8])>
-    ensures { MatchOption result (IsLine bytes.now) (λ p. IsLineThen bytes.now p.0.now p.1.now) }
-{
-    let (line, rest) = cut(bytes, b'\n');
-    match rest {
-        [_, after @ ..] => Some((line, after)),
-        [] => None,
-    }
-}
-
-/// The bytes before the first one of this kind, and those from it on.
-fn cut(bytes: &[u8], byte: u8) -> (&[u8], &[u8])
-    ensures whole { bytes.now ≡ result.0.now ++ result.1.now }
-    ensures front { Lacks byte result.0.now }
-    ensures back { BeginsWith byte result.1.now }
-{
-    bytes.split_at(length_before(bytes, byte))
-}
-
-/// How many bytes stand before the first one of this kind.
-fn length_before(bytes: &[u8], byte: u8) -> usize
-    ensures bound { result ≤ length bytes.now }
-    ensures before { (k : ℕ) → k < result → slice_index bytes.now k ≢ byte }
-    ensures found { result < length bytes.now → slice_index bytes.now result ≡ byte }
-{
-    for (i, b) in bytes.iter().enumerate() {
-        if *b == byte {
-            return i;
-        }
-    }
-    bytes.len()
-}
+use xs_value::{OutOfMemory, cut, length_before};
 
 /// The name and the value of a line that is a word, ` = ` and a word.
 pub(crate) fn equation_words(line: &[u8]) -> Option<(&[u8], &[u8])>

@@ -8,12 +8,11 @@ ghost use Rattle.xs_report.specs.Names.{printed_name};
 ghost use Rattle.xs_text_laws.specs.Given.{HasItsSymbols};
 ghost use Rattle.xs_report.specs.Lookups.{IsPlaceOf, IsFoundAt};
 
-use crate::numbers::TextNumbers;
 use crate::text::append_variable;
 use crate::values::value_of;
 use std::alloc::Global;
 use xs_tree::model::Variable;
-use xs_types::Typed;
+use xs_types::{TextNumbers, Typed};
 use xs_value::{ByteList, Name, NameList, OutOfMemory, Value};
 
 /// The variables of a model by their printed names, and its symbols by theirs.

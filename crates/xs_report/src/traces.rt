@@ -6,7 +6,7 @@ ghost use Rattle.xs_tree.specs.ModelTree.{model_tree, variable_tree};
 ghost use Rattle.xs_text_laws.specs.TraceText.{value_text, value_line, value_lines, moment_line, trace_text};
 ghost use Rattle.xs_report.specs.Told.{text_at, told_value, told_moment, told_trace};
 
-use crate::text::{append_count, append_number, append_variable};
+use crate::text::append_variable;
 use std::alloc::Global;
 use xs_tree::model::{FlatModel, Variable};
 use xs_types::Typed;
@@ -44,7 +44,7 @@ fn append_moment(
     ensures { OnOk result (text.new ≡ text.old ++ fed (moment_line number ∷ value_lines (map variable_tree m.now.variables) (told_moment m.now.symbols moment.now))) }
 {
     text.append(b"moment ")?;
-    append_count(alloc, text, number)?;
+    text.append_number(alloc, number as u64)?;
     text.append(b"\n")?;
     append_values(alloc, text, m, moment)
 }
@@ -96,7 +96,7 @@ fn append_value(
     match value {
         Value::Bool(true) => text.append(b"TRUE"),
         Value::Bool(false) => text.append(b"FALSE"),
-        Value::Num(number) => append_number(alloc, text, number),
+        Value::Num(number) => text.append_signed(alloc, number),
         Value::Sym(symbol) => text.append(symbol_text(symbols, symbol)),
     }
 }

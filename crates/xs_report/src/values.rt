@@ -6,8 +6,8 @@ ghost use Rattle.std.specs.Fmt.{signed_decimal};
 ghost use Rattle.xs_tree.specs.ProgramTree.{Text};
 ghost use Rattle.xs_report.specs.ValueReading.{IsTruth, IsNumber, IsSymbol, IsReadOf, IsAmong, IsReadIn, IsParsed};
 
-use crate::numbers::TextNumbers;
 use std::alloc::Global;
+use xs_types::TextNumbers;
 use xs_value::{Domain, OutOfMemory, Value};
 
 /// The value of a domain that has this text, where one has it.

@@ -10,12 +10,11 @@ ghost use Rattle.xs_report.specs.Reading.{ended, IsFinished, IsUnfinished};
 ghost use Rattle.xs_text_laws.specs.Given.{HasItsSymbols};
 
 use crate::fault::TraceFault;
-use crate::lines::first_line;
 use crate::lookup::{Lookup, printed_names};
 use crate::reading::Reading;
 use std::alloc::Global;
 use xs_types::Typed;
-use xs_value::MomentList;
+use xs_value::{MomentList, first_line};
 
 /// The trace that a text gives, or what is wrong first with it.
 ///

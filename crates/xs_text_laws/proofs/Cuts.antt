@@ -1,9 +1,10 @@
 -- Bytes cut into lines.
-use Rattle.std.proofs.Common.{◌≡◌, ◌⊎◌, inl, inr, ℕ, Bool, true, false, nat_eq, List, [], ◌∷◌, ◌++◌, refl, sym, ◌∙◌, ap, append_assoc, eq-eqb, eqb-true}
+use Rattle.std.proofs.Common.{◌≡◌, ◌⊎◌, inl, inr, ℕ, suc, ◌+◌, ◌<◌, ◌≤◌, Bool, true, false, nat_eq, List, [], ◌∷◌, ◌++◌, length, refl, sym, ◌∙◌, ap, arith, append_assoc, length-append, eq-eqb, eqb-true}
 use Rattle.std.specs.List.{AllByRecursion}
+use Rattle.xs_value.specs.Cuts.{IsLineThen}
 use Rattle.xs_text_laws.specs.Lines.{Line, fed, IsLine}
 pub use Rattle.xs_text_laws.proofs.Separators.{grouped}
-use Rattle.xs_text_laws.proofs.Separators.{no_separator, comparable}
+use Rattle.xs_text_laws.proofs.Separators.{no_separator, comparable, fed_end}
 use Rattle.std.proofs.lemmas.List.{append-nil as append_none}
 
 -- a line is no line with its feed and more
@@ -56,3 +57,27 @@ cut (b ∷ bytes) = by_byte (nat_eq b 10) refl (cut bytes)
 pub fed_joined : (xs ys : List Line) → fed (xs ++ ys) ≡ fed xs ++ fed ys
 fed_joined [] ys = refl
 fed_joined (x ∷ xs) ys = ap (λ bs. (x ++ 10 ∷ []) ++ bs) (fed_joined xs ys) ∙ sym (append_assoc (x ++ 10 ∷ []) (fed xs) (fed ys))
+
+-- the bytes up to the end of one more line
+pub line_lies : (bytes rest line after : List ℕ) (lines : List Line) → bytes ≡ fed lines ++ rest → IsLineThen rest line after → bytes ≡ fed (lines ++ line ∷ []) ++ after
+line_lies bytes rest line after lines e l = e ∙ ap (λ bs. fed lines ++ bs) l.lie ∙ fed_end lines line after
+
+-- one more line is one more
+pub length_more : (lines : List Line) (line : Line) → length (lines ++ line ∷ []) ≡ suc (length lines)
+length_more [] line = refl
+length_more (l ∷ lines) line = ap suc (length_more lines line)
+
+-- a line takes a byte
+pub fed_long : (lines : List Line) → length lines ≤ length (fed lines)
+fed_long [] = omega arith
+fed_long (l ∷ lines) =
+    let both : length ((l ++ 10 ∷ []) ++ fed lines) ≡ length (l ++ 10 ∷ []) + length (fed lines) = length-append (l ++ 10 ∷ []) (fed lines) in
+    let one : length (l ++ 10 ∷ []) ≡ length l + 1 = length-append l (10 ∷ []) in
+    omega (arith, both, one, fed_long lines)
+
+-- what stands after a line is shorter
+pub rest_shorter : (rest line after : List ℕ) → IsLineThen rest line after → length after < length rest
+rest_shorter rest line after l =
+    let whole : length rest ≡ length (line ++ 10 ∷ after) = ap length l.lie in
+    let sum : length (line ++ 10 ∷ after) ≡ length line + suc (length after) = length-append line (10 ∷ after) in
+    omega (arith, whole, sum)

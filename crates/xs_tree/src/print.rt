@@ -1,7 +1,6 @@
 //! Printing an expression: [`print_expr`]. All text goes to the end of one buffer, so the work is linear in the text.
 
 ghost use Rattle.std.specs.Prelude.{◌≡◌, ◌++◌, IfOk, OnOk, map};
-ghost use Rattle.std.specs.Fmt.{signed_decimal};
 ghost use Rattle.xs_tree.specs.Text.{text_of, op_text, after_minus, span_text, dotted_text, commas, branches_text, joined};
 ghost use Rattle.xs_tree.specs.Written.{tree_of, branches_of};
 ghost use Rattle.xs_tree.specs.Printed.{IsWritable};
@@ -37,7 +36,7 @@ pub(crate) fn append_expr(
     match e {
         Expr::Truth(true) => text.append(b"TRUE"),
         Expr::Truth(false) => text.append(b"FALSE"),
-        Expr::Number(n) => append_number(alloc, text, *n),
+        Expr::Number(n) => text.append_signed(alloc, *n),
         Expr::Leaf(name) => append_dotted(text, name),
         Expr::Not(a) => append_between(alloc, text, b"(!", a, b")"),
         Expr::Negate(a) => {
@@ -159,21 +158,13 @@ pub(crate) fn append_span(
 ) -> Result<(), OutOfMemory>
     ensures { OnOk result (text.new ≡ text.old ++ span_text lo hi) }
 {
-    append_number(alloc, text, lo)?;
+    text.append_signed(alloc, lo)?;
     text.append(b"..")?;
-    append_number(alloc, text, hi)
-}
-
-/// Appends the digits of a number, after a `-` where it is negative.
-pub(crate) fn append_number(alloc: Global, text: &mut ByteList, n: i64) -> Result<(), OutOfMemory>
-    ensures { OnOk result (text.new ≡ text.old ++ signed_decimal n) }
-{
-    let digits = format!(in alloc; "{n}")?;
-    text.append(digits.as_bytes())
+    text.append_signed(alloc, hi)
 }
 
 /// Appends the parts of a name, with dots between.
-pub(crate) fn append_dotted(text: &mut ByteList, name: &Dotted) -> Result<(), OutOfMemory>
+pub fn append_dotted(text: &mut ByteList, name: &Dotted) -> Result<(), OutOfMemory>
     ensures { OnOk result (text.new ≡ text.old ++ dotted_text name.now) }
 {
     append_names(text, name.parts(), b".")
@@ -181,11 +172,7 @@ pub(crate) fn append_dotted(text: &mut ByteList, name: &Dotted) -> Result<(), Ou
 
 /// Appends names with a mark between.
 #[tactic(auto, using(crate::proofs::TextLaws::print_rules))]
-pub(crate) fn append_names(
-    text: &mut ByteList,
-    names: &[Name],
-    mark: &[u8],
-) -> Result<(), OutOfMemory>
+pub fn append_names(text: &mut ByteList, names: &[Name], mark: &[u8]) -> Result<(), OutOfMemory>
     ensures { OnOk result (text.new ≡ text.old ++ joined mark.now names.now) }
 {
     let [first, more @ ..] = names else {

@@ -8,9 +8,7 @@ ghost use Rattle.xs_tree.specs.WritableProgram.{IsWritableProgram};
 ghost use Rattle.xs_tree.specs.Bytes.{BytesSpellProgram};
 
 use crate::expr::Expr;
-use crate::print::{
-    append_dotted, append_expr, append_expressions, append_names, append_number, append_span,
-};
+use crate::print::{append_dotted, append_expr, append_expressions, append_names, append_span};
 use crate::program::{
     Assignment, Decl, Declared, Define, Member, Module, Moment, Program, Section,
 };
@@ -226,7 +224,7 @@ fn append_member(alloc: Global, text: &mut ByteList, member: &Member) -> Result<
     ensures { OnOk result (text.new ≡ text.old ++ member_text member.now) }
 {
     match member {
-        Member::Number(n) => append_number(alloc, text, *n),
+        Member::Number(n) => text.append_signed(alloc, *n),
         Member::Symbol(name) => text.append(name.text()),
     }
 }

@@ -6,15 +6,15 @@ ghost use Rattle.xs_tree.specs.ProgramTree.{declared_tree};
 ghost use Rattle.xs_type_laws.specs.Costs.{digits_of, digits_above, width_of, width_in, member_number, declared_width};
 ghost use Rattle.xs_types.specs.Types.{widened, spread};
 
-use crate::symbols::SymbolNumbers;
+use crate::numbers::TextNumbers;
 use std::marker::Model;
 use xs_tree::{Declared, Member};
 
 /// The least and the greatest of some numbers.
 #[derive(Clone, Copy)]
-struct Ends {
-    lo: i64,
-    hi: i64,
+pub struct Ends {
+    pub lo: i64,
+    pub hi: i64,
 }
 
 impl Model for Ends {
@@ -31,8 +31,8 @@ impl Model for Ends {
 /// as the greatest has binary digits, and at least 1; others have the least width at which both ends are
 /// numbers in two's complement. A symbol is its number, and an instance has none. Takes no memory.
 #[tactic(auto, using(crate::proofs::TypeLaws::hull_spread))]
-pub(crate) fn declared_bits(numbers: &SymbolNumbers<'_>, declared: &Declared) -> u32
-    ensures { result ≡ declared_width numbers.now.symbols.now (declared_tree declared.now) }
+pub(crate) fn declared_bits(numbers: &TextNumbers<'_>, declared: &Declared) -> u32
+    ensures { result ≡ declared_width numbers.now.texts.now (declared_tree declared.now) }
 {
     match declared {
         Declared::Boolean => 1,
@@ -43,8 +43,8 @@ pub(crate) fn declared_bits(numbers: &SymbolNumbers<'_>, declared: &Declared) ->
 }
 
 /// The least and the greatest number of some members.
-fn ends_of(numbers: &SymbolNumbers<'_>, members: &[Member]) -> Option<Ends>
-    ensures { result ≡ spread None (map (member_number numbers.now.symbols.now) members.now) }
+fn ends_of(numbers: &TextNumbers<'_>, members: &[Member]) -> Option<Ends>
+    ensures { result ≡ spread None (map (member_number numbers.now.texts.now) members.now) }
 {
     let mut ends = None;
     for member in members {
@@ -54,7 +54,7 @@ fn ends_of(numbers: &SymbolNumbers<'_>, members: &[Member]) -> Option<Ends>
 }
 
 /// The ends with one more number.
-fn widened(ends: Option<Ends>, n: i64) -> Ends
+pub fn widened(ends: Option<Ends>, n: i64) -> Ends
     ensures { result ≡ widened ends n }
 {
     match ends {
@@ -67,7 +67,7 @@ fn widened(ends: Option<Ends>, n: i64) -> Ends
 }
 
 /// The bits of the numbers between two ends, and none where there are no numbers.
-fn ends_width(ends: Option<Ends>) -> u32
+pub fn ends_width(ends: Option<Ends>) -> u32
     ensures { result ≡ width_in ends }
 {
     match ends {

@@ -8,8 +8,8 @@ ghost use Rattle.xs_types.specs.Answers.{told};
 ghost use Rattle.xs_types.specs.Types.{begins_with_number, numbers_in, symbols_in, members_domain, domain_of};
 
 use crate::members::judge_members;
+use crate::numbers::TextNumbers;
 use crate::sort::{Class, Judged, Sort, kept, range};
-use crate::symbols::SymbolNumbers;
 use std::alloc::Global;
 use xs_tree::{Declared, Member};
 use xs_value::{Domain, NumList, OutOfMemory, SymList};
@@ -33,10 +33,10 @@ pub(crate) fn judge_declared(alloc: Global, declared: &Declared) -> Result<Judge
 /// The domain of a declared type. Where it breaks a rule the domain says nothing.
 pub(crate) fn declare(
     alloc: Global,
-    numbers: &SymbolNumbers<'_>,
+    numbers: &TextNumbers<'_>,
     declared: &Declared,
 ) -> Result<Domain, OutOfMemory>
-    ensures { IfOk result (λ d. d ≡ domain_of numbers.now.symbols.now (declared_tree declared.now)) }
+    ensures { IfOk result (λ d. d ≡ domain_of numbers.now.texts.now (declared_tree declared.now)) }
 {
     match declared {
         Declared::Boolean | Declared::Instance(_, _) => Ok(Domain::Boolean),
@@ -48,10 +48,10 @@ pub(crate) fn declare(
 /// The domain of a type that lists its values, in written order.
 fn declare_members(
     alloc: Global,
-    numbers: &SymbolNumbers<'_>,
+    numbers: &TextNumbers<'_>,
     members: &[Member],
 ) -> Result<Domain, OutOfMemory>
-    ensures { IfOk result (λ d. d ≡ members_domain numbers.now.symbols.now members.now) }
+    ensures { IfOk result (λ d. d ≡ members_domain numbers.now.texts.now members.now) }
 {
     if begins_with_number(members) {
         let listed = listed_numbers(alloc, members)?;
@@ -85,10 +85,10 @@ fn listed_numbers(alloc: Global, members: &[Member]) -> Result<NumList, OutOfMem
 /// The numbers of the members that are symbols.
 fn listed_symbols(
     alloc: Global,
-    numbers: &SymbolNumbers<'_>,
+    numbers: &TextNumbers<'_>,
     members: &[Member],
 ) -> Result<SymList, OutOfMemory>
-    ensures { IfOk result (λ listed. listed ≡ symbols_in numbers.now.symbols.now members.now) }
+    ensures { IfOk result (λ listed. listed ≡ symbols_in numbers.now.texts.now members.now) }
 {
     let mut listed = SymList::new(alloc);
     for member in members {

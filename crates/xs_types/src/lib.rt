@@ -9,7 +9,7 @@
 //! that no divisor is 0 and no number passes 32 bits.
 //!
 //! The files from below: `fault` (the rules), `interval` (arithmetic on intervals), `sort` and `several`
-//! (one node over its parts), `judge` (a whole expression), `symbols`, `members` and `declare` (declared
+//! (one node over its parts), `judge` (a whole expression), `numbers`, `members` and `declare` (declared
 //! types and their domains), `bits` and `cost` (sizes), `site` (which fault comes first), `variables`,
 //! `definitions` and `conditions` (the parts of a model), `whole` and `typed` (models) and `calls` (single
 //! expressions). An expression that breaks a rule has a class and no interval, so that each rule is told
@@ -34,17 +34,18 @@ mod fault;
 mod interval;
 mod judge;
 mod members;
+mod numbers;
 mod several;
 mod site;
 mod sort;
-mod symbols;
 mod typed;
 mod variables;
 mod whole;
 
-pub use bits::{digits, width};
+pub use bits::{Ends, digits, ends_width, widened, width};
 pub use calls::{Kind, check_top, check_value, kind_of};
 pub use fault::{Rule, TypeFault};
 pub use interval::Interval;
+pub use numbers::TextNumbers;
 pub use sort::{Class, Judged, Sort, joined, kept, literal, negative, operation};
 pub use typed::{Typed, check_model};

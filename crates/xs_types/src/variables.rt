@@ -16,9 +16,9 @@ ghost use Rattle.xs_types.specs.Types.{variable_domain};
 use crate::bits::declared_bits;
 use crate::cost::both;
 use crate::declare::{declare, judge_declared};
+use crate::numbers::TextNumbers;
 use crate::site::{Site, earlier, site_of};
 use crate::sort::Sort;
-use crate::symbols::SymbolNumbers;
 use std::alloc::Global;
 use xs_tree::model::{FlatModel, Role, Variable};
 use xs_value::{Domain, OutOfMemory};
@@ -40,20 +40,20 @@ pub(crate) fn declare_all(alloc: Global, m: &FlatModel) -> Result<Declarations, 
     ensures first { IfOk result (λ d. d.first ≡ told_first_site (first_of (variable_breaches (model_tree m.now).variables))) }
     ensures bits { IfOk result (λ d. d.bits ≡ min (variables_bits m.now.symbols m.now.variables) 50001) }
 {
-    let numbers = SymbolNumbers::of(alloc, m.symbols.as_slice())?;
+    let numbers = TextNumbers::of(alloc, m.symbols.as_slice())?;
     declare_each(alloc, &numbers, m.variables.as_slice())
 }
 
 /// These variables, one after the other.
 fn declare_each(
     alloc: Global,
-    numbers: &SymbolNumbers<'_>,
+    numbers: &TextNumbers<'_>,
     variables: &[Variable],
 ) -> Result<Declarations, OutOfMemory>
-    ensures domains { IfOk result (λ d. d.domains.items ≡ map (variable_domain numbers.now.symbols.now) variables.now) }
+    ensures domains { IfOk result (λ d. d.domains.items ≡ map (variable_domain numbers.now.texts.now) variables.now) }
     ensures kinds { IfOk result (λ d. d.sorts.items ≡ kept_sorts (judged_variables (map variable_tree variables.now))) }
     ensures first { IfOk result (λ d. d.first ≡ told_first_site (first_of (variable_breaches (map variable_tree variables.now)))) }
-    ensures bits { IfOk result (λ d. d.bits ≡ min (variables_bits numbers.now.symbols.now variables.now) 50001) }
+    ensures bits { IfOk result (λ d. d.bits ≡ min (variables_bits numbers.now.texts.now variables.now) 50001) }
 {
     let mut all = Declarations {
         domains: Vec::new(alloc),
@@ -70,14 +70,14 @@ fn declare_each(
 /// One more variable.
 fn add_variable(
     alloc: Global,
-    numbers: &SymbolNumbers<'_>,
+    numbers: &TextNumbers<'_>,
     before: Declarations,
     variable: &Variable,
 ) -> Result<Declarations, OutOfMemory>
-    ensures domains { IfOk result (λ d. d.domains.items ≡ before.domains.items ++ variable_domain numbers.now.symbols.now variable.now ∷ []) }
+    ensures domains { IfOk result (λ d. d.domains.items ≡ before.domains.items ++ variable_domain numbers.now.texts.now variable.now ∷ []) }
     ensures kinds { IfOk result (λ d. d.sorts.items ≡ before.sorts.items ++ kept_sort (judged_declared (declared_tree variable.now.declared)) ∷ []) }
     ensures first { IfOk result (λ d. d.first ≡ earlier_site before.first (site_at variable.now.«instance» variable.now.item (told_rules (judged_declared (declared_tree variable.now.declared)).broken))) }
-    ensures bits { IfOk result (λ d. d.bits ≡ min (before.bits + variable_bits numbers.now.symbols.now variable.now) 50001) }
+    ensures bits { IfOk result (λ d. d.bits ≡ min (before.bits + variable_bits numbers.now.texts.now variable.now) 50001) }
 {
     let Declarations {
         mut domains,
@@ -99,8 +99,8 @@ fn add_variable(
 }
 
 /// The state bits of a variable; inputs are no part of a state.
-fn variable_bits(numbers: &SymbolNumbers<'_>, variable: &Variable) -> u64
-    ensures { result ≡ variable_bits numbers.now.symbols.now variable.now }
+fn variable_bits(numbers: &TextNumbers<'_>, variable: &Variable) -> u64
+    ensures { result ≡ variable_bits numbers.now.texts.now variable.now }
 {
     match variable.role {
         Role::State | Role::Frozen => declared_bits(numbers, &variable.declared) as u64,

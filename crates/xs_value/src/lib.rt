@@ -5,7 +5,8 @@
 //! [`Valuation`] as a list of values. Every `..List` type of the layers above is an alias of `Items`,
 //! also where a type reaches itself through the list: `specs/formers/items/Items.antt` tells the
 //! toolchain how `Items` stores what it holds. Want of memory is [`OutOfMemory`], and `?` makes it
-//! from each refusal of std. What a domain's values are stands in `specs/Domains.antt`.
+//! from each refusal of std. What a domain's values are stands in `specs/Domains.antt`, and how bytes are
+//! cut at a byte in `specs/Cuts.antt`.
 //!
 //! ```text
 //! let mut names = NameList::new(alloc);
@@ -14,6 +15,8 @@
 //! ```
 #![tactic(auto)]
 
+mod cuts;
+mod digits;
 mod domain;
 mod ending;
 mod items;
@@ -21,6 +24,7 @@ mod memory;
 mod name;
 mod value;
 
+pub use cuts::{cut, first_line, length_before};
 pub use domain::{Domain, NumList, SymList};
 pub use ending::Ending;
 pub use items::Items;

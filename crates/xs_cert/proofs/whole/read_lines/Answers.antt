@@ -1,6 +1,7 @@
 use Rattle.std.proofs.Common.{rules, w64, Fits, ◌+◌, ◌≡◌, ◌≢◌, ◌<◌, ◌≤◌, List, ℕ, [], ◌∷◌, length, refl, sym, ap, subst, arith}
 use Rattle.xs_cert.specs.Faults.{IsFaultOf}
-use Rattle.xs_cert.proofs.WholeLaws.{read_start, read_more, read_few, rest_shorter, read_refused, read_tail, read_given, read_wanting}
+use Rattle.xs_text_laws.proofs.Cuts.{rest_shorter}
+use Rattle.xs_cert.proofs.WholeLaws.{read_start, read_more, read_few, read_refused, read_tail, read_given, read_wanting}
 use Rattle.xs_cert.proofs.whole.read_lines.Goals as goal
 
 none_left : (xs : List ℕ) → length xs ≤ 0 → xs ≡ []

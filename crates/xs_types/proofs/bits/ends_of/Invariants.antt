@@ -6,4 +6,4 @@ use Rattle.xs_types.proofs.bits.ends_of.Given as goal
 
 abbrev pub invariant-loop-member : goal.invariant-loop-member
 invariant-loop-member l =
-    spread l.ends (map (member_number l.numbers.symbols.now) (drop l.member-index l.members)) ≡ spread None (map (member_number l.numbers.symbols.now) l.members)
+    spread l.ends (map (member_number l.numbers.texts.now) (drop l.member-index l.members)) ≡ spread None (map (member_number l.numbers.texts.now) l.members)

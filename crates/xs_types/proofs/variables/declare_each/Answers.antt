@@ -18,7 +18,7 @@ use Rattle.xs_types.proofs.variables.declare_each.Goals as goal
 
 pub loop-variable-preserved : goal.loop-variable-preserved
 loop-variable-preserved c =
-    let symbols = c.args.numbers.now.symbols.now in
+    let symbols = c.args.numbers.now.texts.now in
     let vs = c.args.variables.now in
     let i = c.loop-variable.variable-index in
     let v = c.variable-item.result in

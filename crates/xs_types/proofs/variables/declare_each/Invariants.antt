@@ -11,9 +11,9 @@ use Rattle.xs_types.proofs.variables.declare_each.Given as goal
 
 abbrev pub invariant-loop-variable : goal.invariant-loop-variable
 invariant-loop-variable l = record {
-  domains : l.all.domains.items ≡ map (variable_domain l.numbers.symbols.now) (take l.variable-index l.variables);
+  domains : l.all.domains.items ≡ map (variable_domain l.numbers.texts.now) (take l.variable-index l.variables);
   kinds : l.all.sorts.items ≡ kept_sorts (judged_variables (map variable_tree (take l.variable-index l.variables)));
   first : l.all.first ≡ told_first_site (first_of (variable_breaches (map variable_tree (take l.variable-index l.variables))));
-  bits : min (l.all.bits + variables_bits l.numbers.symbols.now (drop l.variable-index l.variables)) 50001 ≡ min (variables_bits l.numbers.symbols.now l.variables) 50001;
+  bits : min (l.all.bits + variables_bits l.numbers.texts.now (drop l.variable-index l.variables)) 50001 ≡ min (variables_bits l.numbers.texts.now l.variables) 50001;
   few : l.all.bits ≤ 50001;
 }

@@ -1,8 +1,8 @@
 use Rattle.std.proofs.Common.{◌++◌, sym, ◌∙◌, ap, subst, drop}
 use Rattle.std.proofs.lemmas.List.{take-append-drop}
-use Rattle.xs_report.specs.Cuts.{Lacks, BeginsWith}
-use Rattle.xs_report.proofs.Cutting.{front_free, back_begins}
-use Rattle.xs_report.proofs.lines.cut.Goals as goal
+use Rattle.xs_value.specs.Cuts.{Lacks, BeginsWith}
+use Rattle.xs_value.proofs.Cutting.{front_free, back_begins}
+use Rattle.xs_value.proofs.cuts.cut.Goals as goal
 
 pub returns-clause-whole : goal.returns-clause-whole
 returns-clause-whole c = sym (take-append-drop c.length_before.result c.args.bytes.now) ∙ ap (λ x. x ++ drop c.length_before.result c.args.bytes.now) (sym c.split_at.ensures.front) ∙ ap (λ y. c.split_at.result.0.now ++ y) (sym c.split_at.ensures.back)

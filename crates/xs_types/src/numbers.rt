@@ -1,23 +1,27 @@
-//! Texts by their numbers.
+//! Texts by their numbers, as a model numbers its symbols: each by its first place in a list, found in a map
+//! ([`TextNumbers`]).
 
 ghost use Rattle.std.specs.Prelude.{◌≡◌, ◌≤◌, length, IfOk, IsOk, OnOk};
+ghost use Rattle.xs_type_laws.specs.Costs.{symbol_number, member_number};
 ghost use Rattle.xs_types.specs.Numbering.{number_from, AreNumbered};
 
 use indexmap::IndexMap;
 use std::alloc::Global;
+use xs_tree::Member;
 use xs_value::{Name, OutOfMemory};
 
 /// Texts, each with its first place, from 0.
 #[derive(Drop)]
-pub(crate) struct TextNumbers<'a> {
-    pub(crate) texts: &'a [Name],
+pub struct TextNumbers<'a> {
+    texts: &'a [Name],
     places: IndexMap<&'a [u8], u32>,
     ghost numbered: { AreNumbered 0 texts.now places },
+    ghost few: { length texts.now ≤ 4294967295 },
 }
 
 impl<'a> TextNumbers<'a> {
     /// The numbers of these texts.
-    pub(crate) fn of(alloc: Global, texts: &'a [Name]) -> Result<TextNumbers<'a>, OutOfMemory>
+    pub fn of(alloc: Global, texts: &'a [Name]) -> Result<TextNumbers<'a>, OutOfMemory>
         ensures { IfOk result (λ numbers. numbers.texts.now ≡ texts.now) }
     {
         check_count(texts)?;
@@ -25,13 +29,34 @@ impl<'a> TextNumbers<'a> {
         Ok(TextNumbers { texts, places })
     }
 
-    /// The first place of a text, where it is one of them.
-    pub(crate) fn number(&self, text: &[u8]) -> Option<u32>
+    /// The first place of a text, where it is one of them. Takes no memory.
+    pub fn number(&self, text: &[u8]) -> Option<u32>
         ensures { result ≡ number_from 0 self.now.texts.now text.now }
     {
         match self.places.get(text) {
             Some(place) => Some(*place),
             None => None,
+        }
+    }
+
+    /// The number of a symbol, where the texts are a model's symbols. A text that is none of them has the
+    /// number after the last.
+    pub(crate) fn symbol(&self, text: &Name) -> u32
+        ensures { result ≡ symbol_number self.now.texts.now text.now }
+    {
+        match self.places.get(text.text()) {
+            Some(place) => *place,
+            None => self.texts.len() as u32,
+        }
+    }
+
+    /// The number that a member is or has.
+    pub(crate) fn member(&self, member: &Member) -> i64
+        ensures { result ≡ member_number self.now.texts.now member.now }
+    {
+        match member {
+            Member::Number(n) => *n,
+            Member::Symbol(text) => self.symbol(text) as i64,
         }
     }
 }

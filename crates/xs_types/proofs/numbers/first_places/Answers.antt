@@ -1,6 +1,6 @@
 use Rattle.std.proofs.Common.{◌∙◌, arith}
 use Rattle.xs_types.proofs.NumberingLaws.{numbered_before}
-use Rattle.xs_report.proofs.numbers.first_places.Goals as goal
+use Rattle.xs_types.proofs.numbers.first_places.Goals as goal
 
 pub loop-place-preserved : goal.loop-place-preserved
 loop-place-preserved c = (
