@@ -25,6 +25,7 @@ pub mod Carried
 pub mod Alike
 pub mod Staged
 pub mod CausesExtendedCarried
+mod UncausedExtended
 mod Differ
 mod Declared
 mod Places

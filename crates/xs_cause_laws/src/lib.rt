@@ -40,7 +40,7 @@
 ghost use Rattle.xs_cause_laws.specs.Laws.{StagedTracesAreCaused, OneTraceEach, StagedEventsAreEvents, UncausedAreTraces};
 ghost use Rattle.xs_cause_laws.specs.AddedLaws.{AdditionsAreExact};
 ghost use Rattle.xs_cause_laws.specs.CausesRightLaws.{AllRightIsCaused, ShortRightIsCaused};
-ghost use Rattle.xs_cause_laws.specs.CausesExtendedLaws.{ExtensionsAreStaged, AllRightIsCausedExtended, ShortRightIsCausedExtended};
+ghost use Rattle.xs_cause_laws.specs.CausesExtendedLaws.{ExtensionsAreStaged, UncausedAreExtended, AllRightIsCausedExtended, ShortRightIsCausedExtended};
 ghost use Rattle.xs_cause_laws.specs.FaultNamesLaws.{NamesDiffer, NamesTellFaults, NamesMeanOne, CausesReadAsOne, EventNamesDiffer};
 ghost use Rattle.xs_cause_laws.specs.Lamps.{LampsHaveTwoNames};
 
@@ -59,9 +59,11 @@ pub fn staged_events_are_events()
     ensures { StagedEventsAreEvents }
 {}
 
-/// Where no cause has a moment, the caused traces are the traces, and their events the faults that have failed.
+/// Where no cause has a moment, the caused traces are the traces, and their events the faults that have failed: so it is with
+/// the flat traces of a model, and with extended traces.
 pub fn uncaused_are_traces()
-    ensures { UncausedAreTraces }
+    ensures flat { UncausedAreTraces }
+    ensures extended { UncausedAreExtended }
 {}
 
 /// The traces of a model with an addition are its own traces with values of the added variables that meet what is asked
