@@ -26,6 +26,12 @@ pub mod Alike
 pub mod Staged
 pub mod CausesExtendedCarried
 mod UncausedExtended
+pub mod AddedKinds
+pub mod RightTrees
+pub mod HistoryKinds
+mod FormulaKinds
+pub mod StagedKinds
+pub mod ShortCauses
 mod Differ
 mod Declared
 mod Places
