@@ -25,6 +25,13 @@ pub mod Carried
 pub mod Alike
 pub mod Staged
 pub mod CausesExtendedCarried
+mod UncausedExtended
+pub mod AddedKinds
+pub mod RightTrees
+pub mod HistoryKinds
+mod FormulaKinds
+pub mod StagedKinds
+pub mod ShortCauses
 mod Differ
 mod Declared
 mod Places

@@ -62,7 +62,7 @@ mode_same fs i f e =
     inner a b e = cc
 
 -- Where no cause has a moment.
-no_times : (cs : List CommonCause) (j t : ℕ) → slice_get (map (λ c. None) cs) j ≡ Some (Some t) → ⊥
+pub no_times : (cs : List CommonCause) (j t : ℕ) → slice_get (map (λ c. None) cs) j ≡ Some (Some t) → ⊥
 no_times [] j t e = cc
 no_times (c ∷ cs) zero t e = let bad : None ≡ Some t = inner None (Some t) e in cc
   where
@@ -70,11 +70,11 @@ no_times (c ∷ cs) zero t e = let bad : None ≡ Some t = inner None (Some t) e
     inner a b e = cc
 no_times (c ∷ cs) (suc j) t e = no_times cs j t e
 
-none_occur : (total : ℕ) (Stands : ℕ → ℕ → Type 0) (cs : List CommonCause) → AreCaused total Stands cs (map (λ c. None) cs)
+pub none_occur : (total : ℕ) (Stands : ℕ → ℕ → Type 0) (cs : List CommonCause) → AreCaused total Stands cs (map (λ c. None) cs)
 none_occur total Stands [] = tt
 none_occur total Stands (c ∷ cs) = (tt, none_occur total Stands cs)
 
-all_free : (i k : ℕ) (cs : List CommonCause) → IsFree cs (map (λ c. None) cs) i k
+pub all_free : (i k : ℕ) (cs : List CommonCause) → IsFree cs (map (λ c. None) cs) i k
 all_free i k [] = tt
 all_free i k (c ∷ cs) = ((λ e w. w), all_free i k cs)
 

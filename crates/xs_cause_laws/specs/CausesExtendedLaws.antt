@@ -1,5 +1,5 @@
 -- The laws of caused traces over extended traces.
-use Rattle.std.specs.Prelude.{◌≡◌, ℕ, List, length}
+use Rattle.std.specs.Prelude.{◌≡◌, ◌↔◌, ℕ, List, None, length, map}
 use Rattle.xs_tree.specs.Tree.{Tree}
 use Rattle.xs_tree.specs.ProgramTree.{Formula, ProgramTree}
 use Rattle.xs_tree.specs.Trace.{Each}
@@ -7,20 +7,28 @@ use Rattle.xs_tree.specs.Flat.{FlatLeaf, FlatModel}
 use Rattle.xs_flat_laws.specs.History.{Mode}
 use Rattle.xs_flat_laws.specs.Resolved.{leaves_in}
 use Rattle.xs_fei.specs.Instructions.{InstructionTree}
+use Rattle.xs_weave.specs.Extended.{Moment, IsExtended}
 use Rattle.xs_weave.specs.Faults.{Fault}
 use Rattle.xs_cause_laws.specs.Added.{IsKnownName}
 use Rattle.xs_right_laws.specs.Laws.{AreBoth}
-use Rattle.xs_certificate_laws.specs.ExtendedTraces.{IsExtensionModel, IsFlatCut}
+use Rattle.xs_certificate_laws.specs.ExtendedTraces.{IsExtensionModel, IsFlatCut, HasFailedFault}
 use Rattle.xs_cause_laws.specs.Causes.{CommonCause, IsCauseOf}
 use Rattle.xs_cause_laws.specs.Laws.{AreStaged}
 use Rattle.xs_cause_laws.specs.CausesRightLaws.{Caused, IsCaused, IsShortCaused, IsRightCaused}
-use Rattle.xs_cause_laws.specs.CausedTraces.{CausedTrace, IsCausedExtended, IsShortCausedExtended, IsRightCausedExtended}
+use Rattle.xs_cause_laws.specs.CausedTraces.{CausedTrace, IsCausedExtended, IsShortCausedExtended, HasEvent, IsRightCausedExtended}
 
 -- an extension's model, with causes that strike its faults, meets what the staged model asks, and its top event is an expression of it
 abbrev pub ExtensionsAreStaged : Type 0
 ExtensionsAreStaged =
     (p : ProgramTree) (i : InstructionTree) (faults : List Fault) (top : Formula) (m : FlatModel) (fs : List Mode) (flat_top : Tree FlatLeaf) → IsExtensionModel p i faults top m fs flat_top →
     (cs : List CommonCause) → Each (IsCauseOf (length fs)) cs → AreStaged m fs cs × Each (IsKnownName (length m.variables) (length m.symbols)) (leaves_in flat_top)
+
+-- the caused traces in which no cause has a moment are the extended traces, with the faults that they have failed as events
+abbrev pub UncausedAreExtended : Type 0
+UncausedAreExtended =
+    (p : ProgramTree) (i : InstructionTree) (faults : List Fault) (cs : List CommonCause) (trace : List Moment) →
+    (IsCausedExtended p i faults cs (trace, map (λ c. None) cs) ↔ IsExtended p i trace)
+    × ((n : ℕ) → HasEvent p i faults cs (trace, map (λ c. None) cs) n ↔ HasFailedFault faults trace n)
 
 -- the flat caused trace is cut to the caused trace, with the same moments of causes
 abbrev pub IsCausedCut : ProgramTree → InstructionTree → FlatModel → Caused → CausedTrace → Type 0

@@ -11,5 +11,6 @@ pub mod AddedLaws
 pub mod CausesRightLaws
 pub mod CausedTraces
 pub mod CausesExtendedLaws
+pub mod KindLaws
 pub mod FaultNamesLaws
 pub mod Lamps

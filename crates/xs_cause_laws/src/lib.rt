@@ -13,6 +13,9 @@
 //! (`specs/Added.antt`). The traces of the model with it are the model's own, each with values of the added variables that meet
 //! the added formulas (`AddedLaws`): so whoever adds variables speaks of the added formulas alone.
 //!
+//! By `KindLaws` the staged model breaks no rule of kinds at an item where the model breaks none. `AddedKinds` has this of any addition,
+//! `RightTrees` of expressions by their parts, and `FormulaKinds` and `StagedKinds` of the formulas of causes and of all of them.
+//!
 //! A caused trace corresponds to what the staged model tells of it, so that sets of events that are right for all staged traces,
 //! or for those of at most k steps, are right for caused traces, and so exactly their minimal cut sets (`CausesRightLaws`). A
 //! caused trace of an extension is an extended trace with a moment or none for each cause (`specs/CausedTraces.antt`). By
@@ -40,7 +43,8 @@
 ghost use Rattle.xs_cause_laws.specs.Laws.{StagedTracesAreCaused, OneTraceEach, StagedEventsAreEvents, UncausedAreTraces};
 ghost use Rattle.xs_cause_laws.specs.AddedLaws.{AdditionsAreExact};
 ghost use Rattle.xs_cause_laws.specs.CausesRightLaws.{AllRightIsCaused, ShortRightIsCaused};
-ghost use Rattle.xs_cause_laws.specs.CausesExtendedLaws.{ExtensionsAreStaged, AllRightIsCausedExtended, ShortRightIsCausedExtended};
+ghost use Rattle.xs_cause_laws.specs.CausesExtendedLaws.{ExtensionsAreStaged, UncausedAreExtended, AllRightIsCausedExtended, ShortRightIsCausedExtended};
+ghost use Rattle.xs_cause_laws.specs.KindLaws.{StagedBreaksNone, StagedBreaksSizeAlone};
 ghost use Rattle.xs_cause_laws.specs.FaultNamesLaws.{NamesDiffer, NamesTellFaults, NamesMeanOne, CausesReadAsOne, EventNamesDiffer};
 ghost use Rattle.xs_cause_laws.specs.Lamps.{LampsHaveTwoNames};
 
@@ -59,9 +63,11 @@ pub fn staged_events_are_events()
     ensures { StagedEventsAreEvents }
 {}
 
-/// Where no cause has a moment, the caused traces are the traces, and their events the faults that have failed.
+/// Where no cause has a moment, the caused traces are the traces, and their events the faults that have failed: so it is with
+/// the flat traces of a model, and with extended traces.
 pub fn uncaused_are_traces()
-    ensures { UncausedAreTraces }
+    ensures flat { UncausedAreTraces }
+    ensures extended { UncausedAreExtended }
 {}
 
 /// The traces of a model with an addition are its own traces with values of the added variables that meet what is asked
@@ -79,6 +85,13 @@ pub fn right_is_caused()
 /// An extension's model, its modes and causes that strike its faults can be staged, and its top event is an expression of it.
 pub fn extensions_are_staged()
     ensures { ExtensionsAreStaged }
+{}
+
+/// The model that is staged for causes, with the history of its events or without, breaks no rule of kinds at an item where the
+/// model breaks none: the one rule for which it may be refused is that of its size, which has item 0.
+pub fn staged_breaks_size_alone()
+    ensures none { StagedBreaksNone }
+    ensures size { StagedBreaksSizeAlone }
 {}
 
 /// Sets of events that are right for flat caused traces, for all or for those of at most k steps, are right for caused traces.

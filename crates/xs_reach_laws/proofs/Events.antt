@@ -1,7 +1,6 @@
 -- The model with causes can be searched with its events.
 use Rattle.std.proofs.Common.{◌≡◌, ℕ, zero, suc, ◌^◌, ◌≤◌, Bool, true, false, ◌||◌, List, [], ◌∷◌, ◌++◌, length, Some, refl, sym, ◌∙◌, ap, subst}
 use Rattle.std.specs.Prelude.{slice_get, IsTrue}
-use Rattle.std.proofs.lemmas.List.{append-nil}
 use Rattle.xs_tree.specs.declared.program.Member.{Member}
 use Rattle.xs_tree.specs.declared.program.Member.TheVariants as member
 use Rattle.xs_tree.specs.ProgramTree.{Text, DeclaredTree, boolean, range, members, instance}
@@ -12,12 +11,11 @@ use Rattle.xs_tree.specs.Laws.{AllLeaves}
 use Rattle.xs_tree.specs.Trace.{Each, is_member, in_domain}
 use Rattle.xs_tree.proofs.ValueLaws.{same_text_equal}
 use Rattle.xs_tree.specs.Flat.{FlatLeaf, flat_variable, flat_symbol, flat_definition, FlatVariable, FlatFormula, FlatModel}
-use Rattle.xs_flat_laws.specs.History.{Mode, bit_variables, bits_at_first, bits_at_step, with_history}
+use Rattle.xs_flat_laws.specs.History.{Mode, bit_variables, with_history}
 use Rattle.xs_flat_laws.specs.FlatTrace.{IsOwnName, IsOwnFormula, NamesOwn, IsModeOf}
 use Rattle.xs_flat_laws.specs.Resolved.{leaves_in}
 use Rattle.xs_flat_laws.proofs.Lists.{get_within, each_more}
 use Rattle.xs_flat_laws.proofs.Conditions.{each_at}
-use Rattle.xs_cause_laws.specs.Added.{Addition, with_addition}
 use Rattle.xs_type_laws.specs.Models.{IsTyped}
 use Rattle.xs_type_laws.specs.Laws.{IsKnown, AreInOrder, ReadOwn, IsClosed}
 use Rattle.xs_encode_laws.specs.EncodedLaws.{AreOwn}
@@ -32,6 +30,7 @@ use Rattle.xs_text_laws.specs.Given.{HasItsSymbols}
 use Rattle.xs_cause_laws.specs.Causes.{CommonCause}
 use Rattle.xs_cause_laws.specs.Staged.{with_causes, events_of}
 use Rattle.xs_reach_laws.specs.CausedLaws.{CanHaveCauses, CausedAreSearchable}
+use Rattle.xs_cause_laws.proofs.HistoryKinds.{history_addition, history_is}
 use Rattle.xs_reach_laws.proofs.Widened.{HasClauses, fit_wide}
 use Rattle.xs_reach_laws.proofs.Carried.{IsEventIn, Carries, StagedGoes, staged_goes, same_inputs}
 
@@ -104,31 +103,7 @@ module _ (n : FlatModel) (e : Mode) (is : IsEventIn n e) where
   event_state_mode : IsStateMode n e
   event_state_mode = record { variable = is.variable; is_variable = is.is_variable; is_state = is.is_state; is_symbol = is.is_symbol }
 
--- ---- history is an addition
-
-abbrev pub history_addition : FlatModel → List Mode → Addition
-history_addition m fs =
-    record {
-      variables = bit_variables 0 fs;
-      symbols = [];
-      at_first = bits_at_first (length m.variables) fs;
-      at_each = [];
-      at_step = bits_at_step (length m.variables) fs;
-    }
-
-pub history_is : (m : FlatModel) (fs : List Mode) → with_addition m (history_addition m fs) ≡ with_history m fs
-history_is m fs =
-    let symbols : m.symbols ++ [] ≡ m.symbols = append-nil m.symbols in
-    let each : m.at_each ++ [] ≡ m.at_each = append-nil m.at_each in
-    (λ j. record {
-      instances = m.instances;
-      variables = m.variables ++ bit_variables 0 fs;
-      definitions = m.definitions;
-      symbols = symbols j;
-      at_first = m.at_first ++ bits_at_first (length m.variables) fs;
-      at_each = each j;
-      at_step = m.at_step ++ bits_at_step (length m.variables) fs;
-    })
+-- ---- history is of the state
 
 pub bits_of_state : (k : ℕ) (fs : List Mode) → Each (λ x. is_input x.role ≡ false) (bit_variables k fs)
 bits_of_state k [] = tt

@@ -14,7 +14,8 @@ use Rattle.xs_cause_laws.specs.Causes.{CommonCause}
 use Rattle.xs_cause_laws.specs.Staged.{with_cause, with_each_cause, with_own, with_owns, age_numbers, with_causes}
 use Rattle.xs_staging.proofs.Counts.{cause_symbols, own_symbols}
 use Rattle.xs_reach_laws.proofs.Carried.{same_inputs}
-use Rattle.xs_reach_laws.proofs.Events.{history_addition, history_is, bits_of_state}
+use Rattle.xs_cause_laws.proofs.HistoryKinds.{history_addition, history_is}
+use Rattle.xs_reach_laws.proofs.Events.{bits_of_state}
 use Rattle.std.proofs.lemmas.Option.{slice_get_within as got_below}
 
 second : (a b c : Bool) → (a || (b || c)) ≡ false → b ≡ false
