@@ -1,4 +1,6 @@
 //! The names that causes add, and whether they are taken.
+//!
+//! [`cause_names`] are the names that one cause adds, and [`own_names`] those that are added for a fault after all causes.
 
 ghost use Rattle.std.specs.Prelude.{◌≡◌, IfOk, OnOk};
 ghost use Rattle.std.specs.List.{list_any};

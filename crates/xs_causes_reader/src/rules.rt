@@ -1,4 +1,7 @@
 //! The rules of causes, over the faults of an extension and the names of the woven program.
+//!
+//! The main function is [`lawful`]: it judges the causes in the order of their file, and then gives each the faults that it strikes by
+//! their numbers.
 
 ghost use Rattle.std.specs.Prelude.{◌≡◌, ◌^◌, ◌<◌, None, [], true, false, length, map, flat_map, option_map, IfOk, IfErr, IsOk, OnOk};
 ghost use Rattle.std.specs.List.{list_any};
