@@ -1,4 +1,6 @@
 //! Bytes cut into lines, and lines into words.
+//!
+//! [`first_line`] cuts a line off at its line feed; [`after_word`] and [`next_word`] cut a word off a line at its space.
 
 ghost use Rattle.std.specs.Prelude.{◌≡◌, ◌≢◌, ℕ, ◌<◌, ◌≤◌, [], ◌++◌, length, slice_index, MatchOption};
 ghost use Rattle.xs_text_laws.specs.Lines.{IsLine};
