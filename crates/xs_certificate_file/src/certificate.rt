@@ -1,4 +1,6 @@
-// The file of a certificate, the end of the work where one is refused, and what is said of one that is accepted.
+//! The file of a certificate, the end of the work where one is refused, and what is said of one that is accepted.
+//!
+//! The main function is [`load_certificate`]: it reads the file through the desk, and its bytes by `xs_cert`.
 ghost use Rattle.std.specs.Prelude.{◌≡◌, ◌≤◌, ◌++◌, codes, length, IfOk, IfSome, IsErrOf};
 ghost use Rattle.xs_desk.specs.Desk.{Rose};
 ghost use Rattle.xs_cert.specs.Seen.{seen};
