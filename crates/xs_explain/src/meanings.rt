@@ -1,5 +1,5 @@
-// What each refusal means: one sentence for each part and number. The tables of refusals in docs/MANUAL.md have the same sentences
-// under the same parts and numbers, word for word and in this order; `tools/meanings` compares the two.
+//! What each refusal means: one sentence for each part and number. The tables of refusals in docs/MANUAL.md have the same sentences
+//! under the same parts and numbers, word for word and in this order; `tools/meanings` compares the two.
 
 use crate::refusal::{Part, Refusal, Subject, Why};
 
