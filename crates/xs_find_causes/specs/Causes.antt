@@ -72,13 +72,15 @@ stop_at_causes wrong.Memory = stop.Memory
 abbrev pub modes_in : LoadedCase → List Mode
 modes_in case = map mode_of case.limited.faults
 
+-- the flat model of what was loaded
 abbrev pub flat_in : LoadedCase → FlatModel
 flat_in case = model_tree case.limited.typed.model
 
--- its faults, and the woven program
+-- the faults of what was loaded
 abbrev pub faults_in : LoadedCase → List Fault
 faults_in case = map fault_tree case.limited.woven.faults
 
+-- the woven program of what was loaded
 abbrev pub extension_in : LoadedCase → ProgramTree
 extension_in case = program_tree case.limited.woven.program
 
@@ -122,13 +124,15 @@ pub record IsStagedCase (case : LoadedCase) (l : StagedCase) : Type 0 where
   pub staged : IsStagedOf case (map cause_of l.causes) (model_tree l.typed.model) (model_tree l.full.model) (map mode_of l.events)
   pub told : AreToldEvents (faults_in case) (map cause_of l.causes) l.events
 
--- the causes of what was loaded, its staged model, and the events of that
+-- the causes of what was loaded
 abbrev pub causes_in : StagedEvent → List CommonCause
 causes_in l = map cause_of l.causes
 
+-- the staged model of what was loaded
 abbrev pub staged_in : StagedEvent → FlatModel
 staged_in l = model_tree l.typed.model
 
+-- the events of the staged model
 abbrev pub events_in : StagedEvent → List Mode
 events_in l = map mode_of l.events
 

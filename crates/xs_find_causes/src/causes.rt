@@ -1,4 +1,6 @@
-// Common causes: their minimal cut sets, and certificates of them.
+//! Common causes: their minimal cut sets, and certificates of them.
+//!
+//! The main functions are [`find_causes`] and [`check_causes`], one for each verb. What both load stands in `staged`.
 ghost use Rattle.std.specs.Prelude.{◌≡◌, ◌<◌, ◌≤◌, ◌^◌, ℕ, length, map, IfOk, OnOk, OnErr, IfSome, IsErrOf};
 ghost use Rattle.xs_desk.specs.Desk.{Rose, said_more};
 ghost use Rattle.xs_desk.specs.declared.desk.WriteStop.TheVariants as write_stop;

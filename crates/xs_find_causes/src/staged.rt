@@ -1,4 +1,6 @@
-// A model, its extension with common causes, and a top event, as the work on them has them in memory.
+//! A model, its extension with common causes, and a top event, as the work on them has them in memory.
+//!
+//! The main function is [`load_staged`]: the model and the instructions are read first, then the causes, and the top event last.
 ghost use Rattle.std.specs.Prelude.{◌≡◌, ◌≤◌, List, ℕ, length, map, IfOk, IfErr, IfSome, IsErrOf};
 ghost use Rattle.xs_desk.specs.Desk.{Rose};
 ghost use Rattle.xs_staging.specs.CauseOf.{cause_of};
