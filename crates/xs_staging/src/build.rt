@@ -1,4 +1,6 @@
 //! Expressions, formulas and variables that are added to a flat model.
+//!
+//! Each function makes one form, and `staging` and `events` put them together.
 
 ghost use Rattle.std.specs.Prelude.{◌≡◌, ◌<◌, ◌^◌, ◌∷◌, [], false, IfOk};
 ghost use Rattle.xs_tree.specs.declared.expr.Op.TheVariants as op;
