@@ -1,5 +1,6 @@
 //! Extends SMV models with faults, replays traces of the extensions, finds their minimal cut sets, checks
-//! certificates of them, makes tables of them, generates cases, and bounds probabilities.
+//! certificates of them, makes tables of them, generates cases, bounds probabilities, searches with common causes, and tells in
+//! which order two faults come.
 //!
 //! `main` hands [`xs_run::run::run`], or for a further verb [`reach::run`], the words of the command line, a desk
 //! over real files, and but for the further verbs the advisers of the search; all that is promised of a run stands at these calls.
@@ -14,6 +15,8 @@
 //! xsap_program fmea --model lamp.smv --faults lamp.fei --tops lamp.tops --size 1 --depth 4
 //! xsap_program make --number 1 --stages 8 --depth 50 --model rails.smv --faults rails.fei
 //! xsap_program odds --model lamp.smv --faults lamp.fei --top '!on' --depth 4
+//! xsap_program causes --model pair.smv --faults pair.fei --causes surge.txt --top 'a & b' --depth 200 --cert pair.cert
+//! xsap_program orders --model pair.smv --faults pair.fei --top 'a & b' --set '1 2' --first 1 --second 2 --depth 200 --cert pair.cert
 //! ```
 #![tactic(auto)]
 
@@ -35,6 +38,7 @@ mod verbs;
 /// The number that the program ends with where a word is not text, which no status has.
 const NOT_TEXT: u8 = 11;
 
+/// Runs what the words of the command line ask for, and ends with the number of its status.
 fn main(rt: HostRuntime) -> ExitCode {
     let alloc = rt.alloc();
     let number = match env::args(&rt) {
