@@ -9,11 +9,11 @@ ghost use Rattle.xs_weave_rules.specs.Keyed.{with_texts};
 ghost use Rattle.xs_cause_laws.specs.CauseRules.{names_of_cause, own_names as names_of_own};
 ghost use Rattle.xs_causes_reader.specs.ReadView.{written_tree};
 
-use crate::texts::Texts;
 use crate::written::Written;
 use std::alloc::Global;
 use xs_staging::names::{joined, numbered};
 use xs_value::{NameList, OutOfMemory};
+use xs_weave_rules::Texts;
 
 /// The names that a cause adds.
 pub(crate) fn cause_names(alloc: Global, cause: &Written) -> Result<NameList, OutOfMemory>
