@@ -9,9 +9,11 @@ use Rattle.xs_tree.specs.Flat.{FlatLeaf, FlatModel as ModelTree}
 use Rattle.xs_flat_laws.specs.History.{Mode, with_history}
 use Rattle.xs_cut_laws.specs.Searchable.{IsSearchable}
 
+-- faults as modes of a flat model
 abbrev pub modes_of : List Fault → List Mode
 modes_of faults = map mode_of faults
 
+-- the flat model in memory with the history of its faults
 abbrev pub whole_of : FlatModel → List Fault → ModelTree
 whole_of m faults = with_history (model_tree m) (modes_of faults)
 

@@ -1,4 +1,4 @@
-//! How a report tells the answer of a search.
+//! How a report tells the answer of a search: [`told`] gives the ending of a report for the end of a search.
 
 ghost use Rattle.std.specs.Prelude.{◌≡◌};
 ghost use Rattle.xs_text_laws.specs.Analysis.{told_ending};

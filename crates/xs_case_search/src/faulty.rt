@@ -1,4 +1,7 @@
 //! A model with faults and a top event, as a search sees it.
+//!
+//! [`Faulty`] has the one impl of `Encoded`, the trait by which the search of `xs_cuts` asks for clause lists and reads moments. What
+//! they are stands in the trait; the lists are made in `xs_encode`.
 
 ghost use Rattle.std.specs.Prelude.{◌≡◌, IfOk, length};
 ghost use Rattle.xs_tree.specs.ModelTree.{model_tree};

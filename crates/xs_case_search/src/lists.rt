@@ -1,4 +1,6 @@
 //! The derivations over the clause lists of a model with history.
+//!
+//! The main function is [`parts_of`], which makes the lists and has `xs_certifying` search over them.
 ghost use Rattle.std.specs.Prelude.{IfOk};
 ghost use Rattle.xs_tree.specs.ModelTree.{model_tree, flat_tree};
 ghost use Rattle.xs_encode_laws.specs.Lists.{system_of};

@@ -1,4 +1,7 @@
-// The search of a case for the minimal cut sets of a top event.
+//! The search of a case for the minimal cut sets of a top event.
+//!
+//! The main function is [`analysed`]; [`frames_of_case`] and [`analysed_in`] do the same for many top events of one case. Here a case
+//! with too many symbols ends as want of memory; the search itself stands in `typed`.
 ghost use Rattle.std.specs.Prelude.{◌≡◌, ◌<◌, ◌^◌, IfOk, IsOk, OnOk, length, map};
 ghost use Rattle.xs_tree.specs.ModelTree.{model_tree, flat_tree};
 ghost use Rattle.xs_flat_laws.specs.FaultModes.{mode_of};

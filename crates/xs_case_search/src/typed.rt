@@ -1,4 +1,7 @@
 //! The analysis of a typed model.
+//!
+//! The main function is [`analyse`], the search of `xs_cuts` over a [`Faulty`] model; [`frames_of`] and [`analyse_in`] do the same for
+//! many top events of one model.
 
 ghost use Rattle.std.specs.Prelude.{◌≡◌, IfOk};
 ghost use Rattle.xs_tree.specs.ModelTree.{model_tree, flat_tree};

@@ -1,5 +1,5 @@
 -- A model with an addition reads its own names alone, where the added formulas do.
-use Rattle.std.proofs.Common.{◌≡◌, ℕ, suc, ◌+◌, ◌<◌, ◌≤◌, List, [], ◌∷◌, ◌++◌, length, ◌∙◌, arith}
+use Rattle.std.proofs.Common.{◌≡◌, ℕ, suc, ◌+◌, ◌<◌, ◌≤◌, List, [], ◌∷◌, ◌++◌, length, arith}
 use Rattle.std.proofs.lemmas.List.{length-append}
 use Rattle.xs_tree.specs.Trace.{Each}
 use Rattle.xs_tree.specs.Flat.{FlatLeaf, flat_variable, flat_symbol, flat_definition, FlatFormula, FlatModel}

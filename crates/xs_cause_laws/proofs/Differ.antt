@@ -1,9 +1,9 @@
 -- Lists of which any two members are judged, and those in which none stands twice.
-use Rattle.std.proofs.Common.{◌≡◌, ◌≢◌, ℕ, zero, suc, List, [], ◌∷◌, ◌++◌, map, Some, refl, ap, subst}
+use Rattle.std.proofs.Common.{◌≡◌, ◌≢◌, ℕ, zero, suc, List, [], ◌∷◌, ◌++◌, map, Some, refl, ap}
 use Rattle.std.specs.Prelude.{flat_map, slice_get}
 use Rattle.xs_tree.specs.Trace.{Each}
 use Rattle.xs_flat_laws.proofs.Reaches.{each_left, each_right}
-use Rattle.xs_flat_laws.proofs.Conditions.{each_join}
+use Rattle.xs_flat_laws.proofs.Conditions.{each_join, each_at}
 use Rattle.xs_flat_laws.proofs.Lists.{each_more, each_of_map, each_map}
 
 -- each member with each later one
@@ -68,15 +68,10 @@ module _ (A B : Type 0) (R : A → A → Type 0) (Of : A → B → Type 0) (f : 
       pairs_join (λ y z. y ≢ z) (f x) (flat_map f xs) k.0 (flat_differ xs h.1 k.1)
       (across_kinds (Of x) (OfLater x) (λ y z. y ≢ z) (λ y z o l. apart x l.0 y z l.1 o l.2) (f x) (flat_map f xs) (own x) (of_later x xs h.0))
 
-each_get : {A : Type 0} (P : A → Type 0) (xs : List A) (k : ℕ) (x : A) → Each P xs → slice_get xs k ≡ Some x → P x
-each_get P [] k x h e = cc
-each_get P (y ∷ xs) zero x h e = let same : y ≡ x = cc in subst P same h.0
-each_get P (y ∷ xs) (suc k) x h e = each_get P xs k x h.1 e
-
 -- two places with one member are one place
 pub one_place : {A : Type 0} (xs : List A) → Differ xs → (j k : ℕ) (x : A) → slice_get xs j ≡ Some x → slice_get xs k ≡ Some x → j ≡ k
 one_place [] h j k x e q = cc
 one_place (y ∷ xs) h zero zero x e q = refl
-one_place (y ∷ xs) h zero (suc k) x e q = let same : y ≡ x = cc in absurd (each_get (λ z. y ≢ z) xs k x h.0 q same)
-one_place (y ∷ xs) h (suc j) zero x e q = let same : y ≡ x = cc in absurd (each_get (λ z. y ≢ z) xs j x h.0 e same)
+one_place (y ∷ xs) h zero (suc k) x e q = let same : y ≡ x = cc in absurd (each_at (λ z. y ≢ z) xs k x h.0 q same)
+one_place (y ∷ xs) h (suc j) zero x e q = let same : y ≡ x = cc in absurd (each_at (λ z. y ≢ z) xs j x h.0 e same)
 one_place (y ∷ xs) h (suc j) (suc k) x e q = ap suc (one_place xs h.1 j k x e q)

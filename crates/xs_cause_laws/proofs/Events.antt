@@ -21,10 +21,11 @@ use Rattle.xs_cause_laws.proofs.Known.{Knows}
 use Rattle.xs_cause_laws.proofs.EachCause.{WithAges, causes_known, causes_length}
 use Rattle.xs_cause_laws.proofs.StagedTraces.{wanted, known_trace}
 use Rattle.xs_cause_laws.proofs.Stood.{stood_from, stood_to}
-use Rattle.xs_cause_laws.proofs.Readings.{ReadsAt, HaveSize, own_reads, owns_keep, CauseRead, cause_reads, own_event_at, own_events_count, cause_events_count, own_symbol, CauseSymbol, cause_symbol, owns_symbol_kept, owns_length}
+use Rattle.xs_cause_laws.proofs.Readings.{ReadsAt, HaveSize, own_reads, owns_keep, CauseRead, cause_reads, own_event_at, own_events_count, cause_events_count, own_symbol, CauseSymbol, cause_symbol, owns_keep_symbol, owns_length}
 use Rattle.std.proofs.lemmas.Bool.{and_from as and_both}
 use Rattle.std.proofs.lemmas.Option.{same_Some as same_some, slice_get_within as within_of}
 use Rattle.xs_flat_laws.proofs.Conditions.{same_text_same}
+use Rattle.std.proofs.lemmas.Bool.{and_parts}
 
 -- The symbols tell the test.
 self_tells : (i : ℕ) (t : Bool) → same_text (cond t (self_name i) (none_name i)) (self_name i) ≡ t
@@ -58,14 +59,6 @@ module _ (staged : FlatModel) (f : Mode) (wanted_text other : Text) (test : ℕ 
   )
 
 -- The test of an own event is that it begins freely.
-and_left : (a b : Bool) → (a && b) ≡ true → a ≡ true
-and_left true b h = refl
-and_left false b h = cc
-
-and_right : (a b : Bool) → (a && b) ≡ true → b ≡ true
-and_right true b h = h
-and_right false b h = cc
-
 not_true : (a : Bool) → opposite a ≡ true → a ≡ true → ⊥
 not_true true h e = let bad : false ≡ true = h in cc
 not_true false h e = cc
@@ -99,7 +92,7 @@ module _ (st : ℕ → ℕ → Bool) (total : ℕ) (i k : ℕ) where
   from_free [] times f h = let bad : false ≡ true = h in cc
   from_free (c ∷ cs) [] f h = absurd f
   from_free (c ∷ cs) (time ∷ times) f h = by_or (has_number c.strikes i && is_in_window c time k) (is_covered cs times i k) h
-      (λ e. f.0 (and_left (has_number c.strikes i) (is_in_window c time k) e) ((in_window c time k).0 (and_right (has_number c.strikes i) (is_in_window c time k) e))) (from_free cs times f.1)
+      (λ e. f.0 (and_parts (has_number c.strikes i) (is_in_window c time k) e).0 ((in_window c time k).0 (and_parts (has_number c.strikes i) (is_in_window c time k) e).1)) (from_free cs times f.1)
     where
       by_or : (a b : Bool) → (a || b) ≡ true → (a ≡ true → ⊥) → (b ≡ true → ⊥) → ⊥
       by_or true b h f g = f refl
@@ -108,8 +101,8 @@ module _ (st : ℕ → ℕ → Bool) (total : ℕ) (i k : ℕ) where
 begun_means : (st : ℕ → ℕ → Bool) (i k : ℕ) → begins st i k ≡ true → (st k i ≡ true) × ((j : ℕ) → suc j ≡ k → st j i ≡ true → ⊥)
 begun_means st i zero h = (h, λ j e t. absurd (omega arith))
 begun_means st i (suc k) h = (
-  and_left (st (suc k) i) (opposite (st k i)) h,
-  λ j e t. let same : j ≡ k = omega arith in not_true (st k i) (and_right (st (suc k) i) (opposite (st k i)) h) (subst (λ x. st x i ≡ true) same t),
+  (and_parts (st (suc k) i) (opposite (st k i)) h).0,
+  λ j e t. let same : j ≡ k = omega arith in not_true (st k i) (and_parts (st (suc k) i) (opposite (st k i)) h).1 (subst (λ x. st x i ≡ true) same t),
 )
 
 begun_comes : (st : ℕ → ℕ → Bool) (i k : ℕ) → st k i ≡ true → ((j : ℕ) → suc j ≡ k → st j i ≡ true → ⊥) → begins st i k ≡ true
@@ -172,10 +165,6 @@ module _ (m : FlatModel) (fs : List Mode) (cs : List CommonCause) (are : AreStag
       each_from_more (Knows fs (wanted m fs are.modes) st (length trace) (WithAges cs times (age_numbers (length m.variables) cs) (λ k v. Unit {0})) (length causes.variables)) (λ k v. length v ≡ length causes.variables) 0 part (λ k v h. h.sized)
       (causes_known fs (wanted m fs are.modes) st (length trace) cs times m (λ k v. Unit {0}) (λ k v b x. tt) are.causes trace is.caused (known_trace m fs are.modes trace is.is_trace.moments))
 
-  -- the own event of a fault, whose number is one more than j
-  own_test : (j : ℕ) → ℕ → Bool
-  own_test j k = begins st (suc j) k && opposite (is_covered cs times (suc j) k)
-
   abbrev own_mode : ℕ → Mode
   own_mode j = record { variable = length causes.variables + j; symbol = suc (length causes.symbols + (j + j)) }
 
@@ -191,14 +180,14 @@ module _ (m : FlatModel) (fs : List Mode) (cs : List CommonCause) (are : AreStag
         (λ h.
             let x : (k : ℕ) × (k < length told) × ((begins st (suc j) k && opposite (is_covered cs times (suc j) k)) ≡ true) = by.0 h in
             let small : x.0 < length trace = subst (λ z. x.0 < z) length_is x.1 in
-            let begun : (st x.0 (suc j) ≡ true) × ((i : ℕ) → suc i ≡ x.0 → st i (suc j) ≡ true → ⊥) = begun_means st (suc j) x.0 (and_left (begins st (suc j) x.0) (opposite (is_covered cs times (suc j) x.0)) x.2) in (
+            let begun : (st x.0 (suc j) ≡ true) × ((i : ℕ) → suc i ≡ x.0 → st i (suc j) ≡ true → ⊥) = begun_means st (suc j) x.0 (and_parts (begins st (suc j) x.0) (opposite (is_covered cs times (suc j) x.0)) x.2).0 in (
               x.0,
               small,
               record {
                 within = small;
                 begins = begun.0;
                 not_before = begun.1;
-                free = to_free st (length trace) (suc j) x.0 cs times is.caused (not_true (is_covered cs times (suc j) x.0) (and_right (begins st (suc j) x.0) (opposite (is_covered cs times (suc j) x.0)) x.2));
+                free = to_free st (length trace) (suc j) x.0 cs times is.caused (not_true (is_covered cs times (suc j) x.0) (and_parts (begins st (suc j) x.0) (opposite (is_covered cs times (suc j) x.0)) x.2).1);
               },
             )),
         (λ k b. by.1 k (subst (λ z. k < z) (sym length_is) b.within)
@@ -217,7 +206,7 @@ module _ (m : FlatModel) (fs : List Mode) (cs : List CommonCause) (are : AreStag
       let cause_is : of.cause ≡ read.cause = same_some of.cause read.cause (sym of.has_cause ∙ read.has_cause) in
       let symbol_is : slice_get staged.symbols e.symbol ≡ Some (now_name read.cause.name) =
       subst (λ (x : Mode). slice_get staged.symbols x.symbol ≡ Some (now_name read.cause.name)) event_is
-      (owns_symbol_kept fs cs (age_numbers (length m.variables) cs) fs 1 causes of.event.symbol (now_name read.cause.name) (of.has_symbol ∙ ap (λ (x : CommonCause). Some (now_name x.name)) cause_is)) in
+      (owns_keep_symbol fs cs (age_numbers (length m.variables) cs) fs 1 causes of.event.symbol (now_name read.cause.name) (of.has_symbol ∙ ap (λ (x : CommonCause). Some (now_name x.name)) cause_is)) in
       let reads : ReadsAt e.variable (event_value read.cause read.time) told =
       subst (λ x. ReadsAt x (event_value read.cause read.time) told) variable_is (owns_keep st cs times 1 fs read.variable (event_value read.cause read.time) part read.reads) in
       let by : (stands_in_some staged e told ≡ true → (k : ℕ) × (k < length told) × (nat_eq (age_at read.cause read.time k) 1 ≡ true))

@@ -17,6 +17,7 @@ use Rattle.xs_cause_laws.specs.Staged.{in_window, stands_of, mode_of, windows_on
 use Rattle.xs_cause_laws.specs.Told.{age_at, age_value, is_in_window, is_covered}
 use Rattle.xs_cause_laws.proofs.Ages.{window_by_age}
 use Rattle.xs_flat_laws.proofs.HistoryTraces.{or_false, applied_or as gives_or}
+use Rattle.xs_weave_rules.proofs.KeyedLaws.{or_assoc}
 
 -- a window gives whether the moment lies in it
 pub window_gives : (f g : Leaves FlatLeaf) (c : CommonCause) → c.from ≤ c.to → (age : ℕ) (time : Option ℕ) (k : ℕ) → f (flat_variable age) ≡ Some (one (age_value c time k)) →
@@ -39,10 +40,6 @@ AgesRead read (c ∷ cs) [] ages k = ⊥
 AgesRead read (c ∷ cs) (time ∷ times) [] k = ⊥
 AgesRead read (c ∷ cs) (time ∷ times) (age ∷ ages) k = (c.from ≤ c.to) × (read age ≡ Some (one (age_value c time k))) × AgesRead read cs times ages k
 
-or_more : (a b c : Bool) → ((a || b) || c) ≡ (a || (b || c))
-or_more true b c = refl
-or_more false b c = refl
-
 joined_gives : (f g : Leaves FlatLeaf) (i : ℕ) (cs : List CommonCause) (times : List (Option ℕ)) (ages : List ℕ) (k : ℕ) → AgesRead (λ n. f (flat_variable n)) cs times ages k →
     (e : Tree FlatLeaf) (b : Bool) → evaluate f g e ≡ Some (one (truth b)) → evaluate f g (joined_after e (windows_on i cs ages)) ≡ Some (one (truth (b || is_covered cs times i k)))
 joined_gives f g i [] times ages k r e b is = is ∙ ap (λ x. Some (one (truth x))) (sym (or_false b))
@@ -57,7 +54,7 @@ joined_gives f g i (c ∷ cs) (time ∷ times) (age ∷ ages) k r e b is =
     by_strike true more =
         more (binary op.Or e (in_window c age)) (b || is_in_window c time k)
         (gives_or (evaluate f g e) (evaluate f g (in_window c age)) b (is_in_window c time k) is (window_gives f g c r.0 age time k r.1))
-        ∙ ap (λ x. Some (one (truth x))) (or_more b (is_in_window c time k) (is_covered cs times i k))
+        ∙ ap (λ x. Some (one (truth x))) (or_assoc b (is_in_window c time k) (is_covered cs times i k))
 
 -- an expression of windows gives whether the fault is covered
 pub covered_gives : (f g : Leaves FlatLeaf) (i : ℕ) (cs : List CommonCause) (times : List (Option ℕ)) (ages : List ℕ) (k : ℕ) → AgesRead (λ n. f (flat_variable n)) cs times ages k →

@@ -1,5 +1,5 @@
 -- What a model's own formulas say of a valuation, they say of a longer one over more symbols.
-use Rattle.std.proofs.Common.{◌≡◌, ◌<◌, true, List, [], ◌∷◌, ◌++◌, length, Option, refl, ap, ◌∙◌, sym, subst}
+use Rattle.std.proofs.Common.{◌≡◌, true, List, [], ◌∷◌, ◌++◌, length, Option, refl, ap, ◌∙◌, sym, subst}
 use Rattle.std.specs.Prelude.{◌↔◌}
 use Rattle.xs_tree.specs.ProgramTree.{Text}
 use Rattle.xs_tree.specs.Values.{Value, truth, Values}

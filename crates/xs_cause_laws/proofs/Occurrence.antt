@@ -10,14 +10,7 @@ use Rattle.xs_cause_laws.specs.Told.{age_at, is_in_window, some_up_to, is_hit}
 use Rattle.xs_cause_laws.proofs.Ages.{IsMomentOf, age_lands, decides_window, some_means, some_from}
 use Rattle.xs_cause_laws.proofs.Hits.{Landed}
 use Rattle.std.proofs.lemmas.Bool.{and_from as and_both}
-
-and_left : (a b : Bool) → (a && b) ≡ true → a ≡ true
-and_left true b h = refl
-and_left false b h = cc
-
-and_right : (a b : Bool) → (a && b) ≡ true → b ≡ true
-and_right true b h = h
-and_right false b h = cc
+use Rattle.std.proofs.lemmas.Bool.{and_parts}
 
 module _ (stands : ℕ → ℕ → Bool) (total : ℕ) (c : CommonCause) where
   abbrev Stands : ℕ → ℕ → Type 0
@@ -27,8 +20,8 @@ module _ (stands : ℕ → ℕ → Bool) (total : ℕ) (c : CommonCause) where
   struck_of t i l landed =
       let hit : is_hit stands c (Some t) i (t + c.to) ≡ true = at_end (nat_eq (age_at c (Some t) (t + c.to)) (c.to + 1)) (is_hit stands c (Some t) i (t + c.to)) (eq-eqb _ _ ((age_lands c t (t + c.to)).1 refl)) (landed (t + c.to) l) in
       let some : (j : ℕ) × (j ≤ t + c.to) × ((is_in_window c (Some t) j && stands j i) ≡ true) =
-      some_means (λ j. is_in_window c (Some t) j && stands j i) (t + c.to) (and_right (is_in_window c (Some t) (t + c.to)) (some_up_to (λ j. is_in_window c (Some t) j && stands j i) (t + c.to)) hit) in
-      (some.0, (decides_window c t some.0).0 (and_left (is_in_window c (Some t) some.0) (stands some.0 i) some.2), and_right (is_in_window c (Some t) some.0) (stands some.0 i) some.2)
+      some_means (λ j. is_in_window c (Some t) j && stands j i) (t + c.to) (and_parts (is_in_window c (Some t) (t + c.to)) (some_up_to (λ j. is_in_window c (Some t) j && stands j i) (t + c.to)) hit).1 in
+      (some.0, (decides_window c t some.0).0 (and_parts (is_in_window c (Some t) some.0) (stands some.0 i) some.2).0, (and_parts (is_in_window c (Some t) some.0) (stands some.0 i) some.2).1)
     where
       at_end : (a h : Bool) → a ≡ true → (opposite a || h) ≡ true → h ≡ true
       at_end true h e g = g

@@ -1,5 +1,5 @@
 -- No instance of a program stands twice in the list of its instances.
-use Rattle.std.proofs.Common.{◌≡◌, ◌≢◌, ℕ, zero, suc, ◌+◌, List, [], ◌∷◌, ◌++◌, Option, Some, None, refl, sym, ◌∙◌, ap, subst}
+use Rattle.std.proofs.Common.{◌≡◌, ◌≢◌, ℕ, zero, suc, List, [], ◌∷◌, ◌++◌, Option, Some, None, refl, sym, ◌∙◌, ap, subst}
 use Rattle.xs_tree.specs.ProgramTree.{Text, ModuleTree, ProgramTree}
 use Rattle.xs_tree.specs.Scope.{Place, module_at}
 use Rattle.xs_tree.specs.Trace.{Each}

@@ -146,7 +146,7 @@ cause_events_count (c ∷ cs) n s = ap suc (cause_events_count cs (n + (2 + leng
 own_symbols_count : (fs : List Mode) (cs : List CommonCause) (ages : List ℕ) (i : ℕ) (m : FlatModel) → length (with_own fs cs ages i m).symbols ≡ length m.symbols + 2
 own_symbols_count fs cs ages i m = length-append m.symbols (none_name i ∷ self_name i ∷ [])
 
-owns_keep_symbol : (fs : List Mode) (cs : List CommonCause) (ages : List ℕ) (more : List Mode) (i : ℕ) (m : FlatModel) (s : ℕ) (x : Text) → slice_get m.symbols s ≡ Some x → slice_get (with_owns fs cs ages i more m).symbols s ≡ Some x
+pub owns_keep_symbol : (fs : List Mode) (cs : List CommonCause) (ages : List ℕ) (more : List Mode) (i : ℕ) (m : FlatModel) (s : ℕ) (x : Text) → slice_get m.symbols s ≡ Some x → slice_get (with_owns fs cs ages i more m).symbols s ≡ Some x
 owns_keep_symbol fs cs ages [] i m s x e = e
 owns_keep_symbol fs cs ages (f ∷ more) i m s x e = owns_keep_symbol fs cs ages more (suc i) (with_own fs cs ages i m) s x (get_left m.symbols (none_name i ∷ self_name i ∷ []) s x e)
 
@@ -211,9 +211,6 @@ module _ (fs : List Mode) (wanted : ℕ → Text) where
       let g : length (with_cause fs m c).symbols ≡ length m.symbols + 2 = cause_symbols fs wanted c are.0 m in
       let rest : CauseSymbol cs j (n + (2 + length c.strikes)) (suc (suc s)) (with_cause fs m c) = cause_symbol cs j (n + (2 + length c.strikes)) (suc (suc s)) (with_cause fs m c) are.1 (omega arith) (omega arith) in
       record { cause = rest.cause; has_cause = rest.has_cause; event = rest.event; has_event = rest.has_event; has_symbol = rest.has_symbol }
-
-pub owns_symbol_kept : (fs : List Mode) (cs : List CommonCause) (ages : List ℕ) (more : List Mode) (i : ℕ) (m : FlatModel) (s : ℕ) (x : Text) → slice_get m.symbols s ≡ Some x → slice_get (with_owns fs cs ages i more m).symbols s ≡ Some x
-owns_symbol_kept = owns_keep_symbol
 
 pub owns_length : (stands : ℕ → ℕ → Bool) (cs : List CommonCause) (times : List (Option ℕ)) (i : ℕ) (more : List Mode) (vs : List (List Value)) → length (owns_told stands cs times i more vs) ≡ length vs
 owns_length stands cs times i [] vs = refl

@@ -107,9 +107,6 @@ module _ (m : FlatModel) (fs : List Mode) (cs : List CommonCause) (are : AreStag
   ready' : IsReady fs text caused_model
   ready' = causes_ready fs text cs m are.causes ready
 
-  ages : List ℕ
-  ages = age_numbers (length m.variables) cs
-
   forward : (long : List (List Value)) → IsFlatTrace (with_causes m fs cs) long →
       (trace : List (List Value)) × (times : List (Option ℕ)) × IsCausedTrace m fs cs trace times × (long ≡ caused_told m fs cs trace times)
   forward long h =

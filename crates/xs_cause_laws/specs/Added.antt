@@ -38,6 +38,7 @@ IsKnownName variables symbols (flat_definition i) = Unit {0}
 abbrev pub IsKnownFormula : ℕ → ℕ → FlatFormula → Type 0
 IsKnownFormula variables symbols f = Each (IsKnownName variables symbols) (leaves_in f.value)
 
+-- formulas read no variable and no symbol but those of a model
 abbrev pub ReadsKnown : FlatModel → List FlatFormula → Type 0
 ReadsKnown m fs = Each (IsKnownFormula (length m.variables) (length m.symbols)) fs
 

@@ -14,11 +14,13 @@ use Rattle.xs_cause_laws.specs.Staged.{age_name, event_name, quiet_name, now_nam
 abbrev pub fault_path : Fault → Path
 fault_path f = reverse f.place ++ f.slice ∷ f.mode ∷ []
 
+-- whether two names have the same parts
 abbrev pub same_path : Path → Path → Bool
 same_path [] [] = true
 same_path (x ∷ xs) (y ∷ ys) = same_text x y && same_path xs ys
 same_path _ _ = false
 
+-- whether a name is one of these
 abbrev pub is_path_among : List Path → Path → Bool
 is_path_among paths x = list_any (λ y. same_path y x) paths
 
@@ -32,6 +34,7 @@ abbrev pub hit_names : Text → ℕ → List Path → List Text
 hit_names x k [] = []
 hit_names x k (p ∷ ps) = hit_name x k ∷ hit_names x (suc k) ps
 
+-- the names that a cause adds
 abbrev pub names_of_cause : WrittenCause → List Text
 names_of_cause c = age_name c.name ∷ event_name c.name ∷ quiet_name c.name ∷ now_name c.name ∷ hit_names c.name 1 c.strikes
 
@@ -44,6 +47,7 @@ own_names i (suc more) = own_name i ∷ none_name i ∷ self_name i ∷ own_name
 abbrev pub is_any_taken : ProgramTree → List Text → List Text → Bool
 is_any_taken w before names = list_any (λ x. is_program_name w x || is_among before x) names
 
+-- the rules of causes, in the order in which they are tried
 pub data CauseRule : Type 0 where
   no_such_fault : CauseRule
   double_cause : CauseRule

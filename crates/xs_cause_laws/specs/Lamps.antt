@@ -21,6 +21,7 @@ main_module = record {
   sections = var (record { name = codes "a"; what = instance (codes "Lamp") [] } ∷ record { name = codes "b"; what = instance (codes "Lamp") [] } ∷ []) ∷ [];
 }
 
+-- the program of both modules
 abbrev pub lamps : ProgramTree
 lamps = lamp_module ∷ main_module ∷ []
 

@@ -15,28 +15,35 @@ use Rattle.xs_cause_laws.specs.Added.{with_addition}
 use Rattle.xs_right_laws.specs.Sets.{has_number}
 use Rattle.xs_cause_laws.specs.Causes.{CommonCause}
 
--- the names of what is added
+-- the name of a cause's age
 abbrev pub age_name : Text → Text
 age_name c = c ++ codes "#age"
 
+-- the name of a cause's event
 abbrev pub event_name : Text → Text
 event_name c = c ++ codes "#event"
 
+-- its value where the cause does not come
 abbrev pub quiet_name : Text → Text
 quiet_name c = c ++ codes "#quiet"
 
+-- its value where the cause comes
 abbrev pub now_name : Text → Text
 now_name c = c ++ codes "#now"
 
+-- the name of a cause's hit, by the number of the strike
 abbrev pub hit_name : Text → ℕ → Text
 hit_name c k = c ++ (codes "#hit#" ++ decimal k)
 
+-- the name of a fault's own event
 abbrev pub own_name : ℕ → Text
 own_name i = codes "own#" ++ decimal i
 
+-- its value where the fault does not begin by itself
 abbrev pub none_name : ℕ → Text
 none_name i = codes "none#" ++ decimal i
 
+-- its value where the fault begins by itself
 abbrev pub self_name : ℕ → Text
 self_name i = codes "self#" ++ decimal i
 
@@ -44,16 +51,19 @@ self_name i = codes "self#" ++ decimal i
 abbrev pub added_variable : Text → DeclaredTree → FlatVariable
 added_variable name declared = record { place = []; name = name; role = state; declared = declared; item = 0; number = 0 }
 
--- a variable and a number in an expression, and sets of one and of two
+-- a variable in an expression
 abbrev pub value_of : ℕ → Tree FlatLeaf
 value_of n = leaf (flat_variable n)
 
+-- a number in an expression
 abbrev pub whole : ℕ → Tree FlatLeaf
 whole n = number (pos n)
 
+-- the set of one expression
 abbrev pub only : Tree FlatLeaf → Tree FlatLeaf
 only e = set_of (tree_then e no_tree)
 
+-- the set of 0 and 1
 abbrev pub zero_or_one : Tree FlatLeaf
 zero_or_one = set_of (tree_then (whole 0) (tree_then (whole 1) no_tree))
 
@@ -73,12 +83,14 @@ in_window c age = binary op.And (binary op.AtLeast (value_of age) (whole (c.from
 abbrev pub age_at_first : ℕ → FlatFormula
 age_at_first age = added (binary op.Within (value_of age) zero_or_one)
 
+-- how an age goes on: 0 or 1 after 0, and else one more, up to one more than the window's end
 abbrev pub age_at_step : CommonCause → ℕ → FlatFormula
 age_at_step c age =
     added (binary op.Within (next_of (value_of age))
     (choice (binary op.Equal (value_of age) (whole 0)) zero_or_one
     (only (choice (binary op.Equal (value_of age) (whole (c.to + 2))) (whole (c.to + 2)) (binary op.Plus (value_of age) (whole 1))))))
 
+-- a model with a cause's age
 abbrev pub with_age : FlatModel → CommonCause → FlatModel
 with_age m c =
     with_addition m (record {
@@ -95,6 +107,7 @@ event_at_each event age symbols =
     added (binary op.Within (value_of event)
     (choice (binary op.Equal (value_of age) (whole 1)) (only (leaf (flat_symbol (suc symbols)))) (only (leaf (flat_symbol symbols)))))
 
+-- a model with a cause's event
 abbrev pub with_event : FlatModel → CommonCause → ℕ → FlatModel
 with_event m c age =
     with_addition m (record {
@@ -109,9 +122,11 @@ with_event m c age =
 abbrev pub hit_at_first : List Mode → CommonCause → ℕ → ℕ → ℕ → FlatFormula
 hit_at_first fs c hit age i = added (binary op.Within (value_of hit) (binary op.And (in_window c age) (stands_of fs i)))
 
+-- that a hit is TRUE at the window's end
 abbrev pub landed_at_each : CommonCause → ℕ → ℕ → FlatFormula
 landed_at_each c hit age = added (binary op.Implies (binary op.Equal (value_of age) (whole (c.to + 1))) (value_of hit))
 
+-- that a hit is next TRUE where the fault then stands in the window, or stood before in it
 abbrev pub hit_at_step : List Mode → CommonCause → ℕ → ℕ → ℕ → FlatFormula
 hit_at_step fs c hit age i =
     added (binary op.Within (next_of (value_of hit)) (binary op.And (next_of (in_window c age)) (binary op.Or (next_of (stands_of fs i)) (value_of hit))))
@@ -156,6 +171,7 @@ abbrev pub joined_after : Tree FlatLeaf → List (Tree FlatLeaf) → Tree FlatLe
 joined_after e [] = e
 joined_after e (f ∷ fs) = joined_after (binary op.Or e f) fs
 
+-- expressions joined by `|` in order, or FALSE
 abbrev pub joined : List (Tree FlatLeaf) → Tree FlatLeaf
 joined [] = truth false
 joined (e ∷ es) = joined_after e es
@@ -166,6 +182,7 @@ own_at_first stands windows own symbols =
     added (binary op.Within (value_of own)
     (choice (binary op.And stands (not_of windows)) (only (leaf (flat_symbol (suc symbols)))) (only (leaf (flat_symbol symbols)))))
 
+-- that a fault's event is next told where its mode then begins to stand under no window
 abbrev pub own_at_step : Tree FlatLeaf → Tree FlatLeaf → ℕ → ℕ → FlatFormula
 own_at_step stands windows own symbols =
     added (binary op.Within (next_of (value_of own))
@@ -198,11 +215,13 @@ abbrev pub own_events : ℕ → ℕ → List Mode → List Mode
 own_events variable symbols [] = []
 own_events variable symbols (f ∷ fs) = record { variable = variable; symbol = suc symbols } ∷ own_events (suc variable) (suc (suc symbols)) fs
 
+-- the events of causes, whose variables go on from a number, and symbols from one
 abbrev pub cause_events : ℕ → ℕ → List CommonCause → List Mode
 cause_events variable symbols [] = []
 cause_events variable symbols (c ∷ cs) =
     record { variable = suc variable; symbol = suc symbols } ∷ cause_events (variable + (2 + length c.strikes)) (suc (suc symbols)) cs
 
+-- the events of a model with causes: each fault's own, and then each cause's
 abbrev pub events_of : FlatModel → List Mode → List CommonCause → List Mode
 events_of m fs cs =
     let causes = with_each_cause fs m cs in

@@ -47,16 +47,19 @@ abbrev pub begins : (ℕ → ℕ → Bool) → ℕ → ℕ → Bool
 begins stands i zero = stands 0 i
 begins stands i (suc k) = stands (suc k) i && opposite (stands k i)
 
--- the values of the added variables, by moments
+-- the value of a cause's age at a moment
 abbrev pub age_value : CommonCause → Option ℕ → ℕ → Value
 age_value c time k = number (pos (age_at c time k))
 
+-- the value of a cause's event at a moment
 abbrev pub event_value : CommonCause → Option ℕ → ℕ → Value
 event_value c time k = symbol (if nat_eq (age_at c time k) 1 then now_name c.name else quiet_name c.name)
 
+-- the value of a cause's hit at a moment
 abbrev pub hit_value : (ℕ → ℕ → Bool) → CommonCause → Option ℕ → ℕ → ℕ → Value
 hit_value stands c time i k = truth (is_hit stands c time i k)
 
+-- the value of a fault's own event at a moment
 abbrev pub own_value : (ℕ → ℕ → Bool) → List CommonCause → List (Option ℕ) → ℕ → ℕ → Value
 own_value stands cs times i k = symbol (if begins stands i k && opposite (is_covered cs times i k) then self_name i else none_name i)
 
@@ -65,9 +68,11 @@ abbrev pub hits_told : (ℕ → ℕ → Bool) → CommonCause → Option ℕ →
 hits_told stands c time [] trace = trace
 hits_told stands c time (i ∷ is) trace = hits_told stands c time is (with_value (hit_value stands c time i) trace)
 
+-- a trace with the values of a cause's variables
 abbrev pub cause_told : (ℕ → ℕ → Bool) → CommonCause → Option ℕ → List (List Value) → List (List Value)
 cause_told stands c time trace = hits_told stands c time c.strikes (with_value (event_value c time) (with_value (age_value c time) trace))
 
+-- a trace with the values of all causes' variables
 abbrev pub causes_told : (ℕ → ℕ → Bool) → List CommonCause → List (Option ℕ) → List (List Value) → List (List Value)
 causes_told stands (c ∷ cs) (time ∷ times) trace = causes_told stands cs times (cause_told stands c time trace)
 causes_told stands _ _ trace = trace

@@ -6,7 +6,7 @@ use Rattle.xs_lexer.specs.declared.token.TokenKind.TheVariants as k
 use Rattle.xs_tree.specs.ProgramTree.{Text, Path}
 use Rattle.xs_tree.specs.Lexemes.{Lexeme, word, num, sign, is_reserved}
 use Rattle.xs_tree.specs.Spells.{SpellsDotted, one_name, more_names}
-use Rattle.xs_tree.specs.SpellsProgram.{SpellsCommas, last_one, one_comma, SpellsMany, no_more, one_more}
+use Rattle.xs_tree.specs.SpellsProgram.{SpellsCommas, last_one, one_comma, no_more, one_more}
 use Rattle.xs_expression_reader.proofs.Marks.{mark_of_name}
 use Rattle.xs_cause_laws.specs.CausesText.{WrittenCause, SpellsCause, a_cause, SpellsCauses}
 use Rattle.xs_causes_reader.specs.CausesRead.{start, named, within, part, after, ReadSoFar, so_far, name_read, part_read, cause_read, read_more, run}

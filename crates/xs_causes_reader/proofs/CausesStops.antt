@@ -2,12 +2,11 @@
 use Rattle.std.proofs.Common.{◌≡◌, ℕ, ◌+◌, ◌<◌, ◌≤◌, Bool, true, false, List, [], ◌∷◌, ◌++◌, Option, Some, None, length, take, get_or, refl, sym, ap, ◌∙◌, subst, arith}
 use Rattle.std.specs.Prelude.{codes, slice_get}
 use Rattle.std.specs.Option.{option_map}
-use Rattle.std.proofs.lemmas.List.{take_more, take_all, length-map, append-nil}
+use Rattle.std.proofs.lemmas.List.{take_more, take_all, length-map}
 use Rattle.std.proofs.lemmas.Option.{slice_get-map, same_Some as some_same}
 use Rattle.xs_lexer.specs.declared.token.TokenKind.TheVariants as k
 use Rattle.xs_lexer.specs.declared.token.Token.{Token}
 use Rattle.xs_lexer.specs.Tokens.{HasTokens}
-use Rattle.xs_tree.specs.ProgramTree.{Path}
 use Rattle.xs_tree.specs.Lexemes.{Lexeme, word, num, sign, lexemes_of}
 use Rattle.xs_expression_reader.specs.declared.fault.ParseFault.{ParseFault}
 use Rattle.xs_expression_reader.specs.declared.reading.Reading.{Reading}

@@ -1,5 +1,3 @@
-mod Keyed
-mod ProgramNames
 mod CausesReads
 mod CausesSpelled
 mod CausesStops
@@ -8,4 +6,3 @@ mod PathLaws
 mod RuleSteps
 mod ReadLaws
 pub mod OneReading
-mod BrokenSteps

@@ -1,23 +1,20 @@
 -- From the rules that are tried to what the reading of a causes file says.
-use Rattle.std.proofs.Common.{◌≡◌, ◌⊎◌, inl, inr, ℕ, List, [], ◌∷◌, Option, Some, None, length, map, refl, sym, ap, ◌∙◌, subst, false}
-use Rattle.std.specs.Prelude.{Bool, flat_map}
+use Rattle.std.proofs.Common.{◌≡◌, inl, inr, ℕ, List, [], ◌∷◌, None, length, map, sym, ap, ◌∙◌, subst, false}
+use Rattle.std.specs.Prelude.{flat_map}
 use Rattle.std.proofs.lemmas.List.{length-map}
 use Rattle.xs_tree.specs.ProgramTree.{Text, Path, ProgramTree}
 use Rattle.xs_flat_laws.specs.Model.{EachBoth}
 use Rattle.xs_weave.specs.Faults.{Fault as WovenFault}
 use Rattle.xs_weave_rules.specs.Keyed.{with_texts}
 use Rattle.xs_tree.specs.declared.model.Fault.{Fault}
-use Rattle.xs_expression_reader.specs.declared.fault.ParseFault.{ParseFault}
-use Rattle.xs_expression_reader.specs.Stops.{FaultMeans}
 use Rattle.xs_cause_laws.specs.Causes.{CommonCause}
 use Rattle.xs_cause_laws.specs.CausesText.{WrittenCause, BytesSpellCauses}
-use Rattle.xs_cause_laws.specs.CauseRules.{fault_path, names_of_cause, CauseRule, are_owns_taken}
+use Rattle.xs_cause_laws.specs.CauseRules.{fault_path, names_of_cause}
 use Rattle.xs_causes_reader.specs.declared.fault.CauseFault.{CauseFault}
 use Rattle.xs_causes_reader.specs.declared.fault.CauseFault.TheVariants as f
-use Rattle.xs_causes_reader.specs.CausesRead.{IsCauses}
 use Rattle.xs_causes_reader.specs.FaultPaths.{path_of, paths_of}
-use Rattle.xs_causes_reader.specs.Broken.{rule_of, first_broken, are_owns_among, owns_told, TellsFirst, taken_in}
-use Rattle.xs_causes_reader.specs.Read.{AreNamed, AreStrikes, AreRead, BreakRule, FaultSays, IsReadIn, IsReading, IsRefusal}
+use Rattle.xs_causes_reader.specs.Broken.{rule_of, first_broken, are_owns_among, TellsFirst, taken_in}
+use Rattle.xs_causes_reader.specs.Read.{AreNamed, AreStrikes, FaultSays, IsReadIn, IsReading, IsRefusal}
 use Rattle.xs_causes_reader.proofs.RuleLaws.{all_kept, is_broken, owns_same, owns_taken, read_as}
 
 -- what is taken once all causes were read

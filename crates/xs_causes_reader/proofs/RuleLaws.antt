@@ -1,8 +1,9 @@
 -- The first rule that is found is the first that is broken.
-use Rattle.std.proofs.Common.{◌≡◌, ◌⊎◌, inl, inr, ℕ, suc, ◌+◌, ◌-◌, ◌<◌, Bool, true, false, List, [], ◌∷◌, ◌++◌, Option, Some, None, length, map, refl, sym, ap, ◌∙◌, subst, arith}
+use Rattle.std.proofs.Common.{◌≡◌, ℕ, suc, ◌+◌, ◌-◌, Bool, true, false, List, [], ◌∷◌, ◌++◌, Option, Some, None, length, map, refl, sym, ap, ◌∙◌}
 use Rattle.std.specs.Prelude.{nat_lt, not, ◌||◌, flat_map, slice_get, option_map}
 use Rattle.std.specs.List.{list_any}
-use Rattle.std.proofs.lemmas.List.{length-map, append-nil, append_assoc, length-append}
+use Rattle.std.proofs.lemmas.Grind.{flat_map-append}
+use Rattle.std.proofs.lemmas.List.{length-map, append-nil, append_assoc}
 use Rattle.std.proofs.lemmas.Option.{slice_get-map, same_Some as some_same}
 use Rattle.xs_tree.specs.ProgramTree.{Text, Path, ProgramTree}
 use Rattle.xs_tree.specs.Texts.{same_text, is_among}
@@ -12,20 +13,15 @@ use Rattle.xs_weave_rules.specs.Keyed.{with_texts}
 use Rattle.xs_weave_rules.specs.Rules.{is_program_name}
 use Rattle.xs_cause_laws.specs.Causes.{CommonCause}
 use Rattle.xs_cause_laws.specs.CausesText.{WrittenCause}
-use Rattle.xs_cause_laws.specs.CauseRules.{fault_path, is_path_among, has_double, names_of_cause, own_names, is_any_taken, CauseRule, no_such_fault, double_cause, double_strike, empty_window, too_wide, too_many, name_taken, first_of, broken_at, AllKept, are_owns_taken, IsBrokenAt, AreOwnsTaken, IsStrikeOf, IsReadAs, AreReadAs}
+use Rattle.xs_cause_laws.specs.CauseRules.{fault_path, is_path_among, has_double, names_of_cause, own_names, is_any_taken, CauseRule, no_such_fault, double_cause, double_strike, empty_window, too_wide, too_many, name_taken, first_of, broken_at, AllKept, are_owns_taken, IsBrokenAt, AreOwnsTaken, IsStrikeOf, AreReadAs}
 use Rattle.xs_causes_reader.specs.Broken.{is_any_among, broken_by, told_at, first_broken, are_owns_among, owns_told, taken_in}
 use Rattle.xs_causes_reader.specs.Read.{IsNumberOf, IsReadIn}
-use Rattle.xs_causes_reader.proofs.Keyed.{or_assoc, among_append}
-use Rattle.xs_causes_reader.proofs.ProgramNames.{program_has}
-use Rattle.xs_weave_rules.proofs.KeyedLaws.{among_texts}
+use Rattle.xs_weave_rules.proofs.KeyedLaws.{or_assoc, among_append, among_texts}
+use Rattle.xs_weave_rules.proofs.LocalLaws.{program_has}
 
 any_same : {A : Type 0} (t u : A → Bool) → ((a : A) → t a ≡ u a) → (xs : List A) → list_any t xs ≡ list_any u xs
 any_same t u same [] = refl
 any_same t u same (x ∷ xs) = λ i. same x i || any_same t u same xs i
-
-pub flat_append : {A B : Type 0} (f : A → List B) (xs ys : List A) → flat_map f (xs ++ ys) ≡ flat_map f xs ++ flat_map f ys
-flat_append f [] ys = refl
-flat_append f (x ∷ xs) ys = ap (λ z. f x ++ z) (flat_append f xs ys) ∙ sym (append_assoc (f x) (flat_map f xs) (flat_map f ys))
 
 module _ (faults : List Fault) (w : ProgramTree) where
   abbrev paths : List Path
@@ -48,7 +44,7 @@ module _ (faults : List Fault) (w : ProgramTree) where
       ∙ or_assoc (is_program_name w x) (is_among (flat_map names_of_cause before) x) (is_among (names_of_cause c) x)
       ∙ ap (λ b. is_program_name w x || b) (sym (among_append (flat_map names_of_cause before) (names_of_cause c) x)
       ∙ ap (λ z. is_among (flat_map names_of_cause before ++ z) x) (sym (append-nil (names_of_cause c)))
-      ∙ ap (λ z. is_among z x) (sym (flat_append names_of_cause before (c ∷ []))))
+      ∙ ap (λ z. is_among z x) (sym (flat_map-append names_of_cause before (c ∷ []))))
 
   -- the rules with what they are told of the number of faults and of names
   abbrev rules : ℕ → Bool → List WrittenCause → WrittenCause → Option CauseRule

@@ -1,29 +1,23 @@
 -- The loops over causes, strikes and faults, one on.
-use Rattle.std.proofs.Common.{◌≡◌, ℕ, zero, suc, ◌+◌, ◌-◌, ◌<◌, ◌≤◌, Bool, true, false, ◌||◌, List, [], ◌∷◌, ◌++◌, Option, Some, None, length, map, take, drop, get_or, refl, sym, ap, ◌∙◌, subst, arith}
-use Rattle.std.specs.Prelude.{◌&&◌, ◌↔◌, IsTrue, flat_map, slice_get}
+use Rattle.std.proofs.Common.{◌≡◌, ℕ, zero, suc, ◌+◌, ◌-◌, ◌<◌, Bool, true, false, ◌||◌, List, [], ◌∷◌, ◌++◌, Option, Some, None, length, map, take, drop, get_or, refl, sym, ap, ◌∙◌, subst, arith}
+use Rattle.std.specs.Prelude.{flat_map, slice_get}
+use Rattle.std.proofs.lemmas.Grind.{flat_map-append}
 use Rattle.std.proofs.lemmas.List.{drop_more, take_more, append-nil, append_assoc, length-map, length-take-le}
 use Rattle.xs_tree.specs.ProgramTree.{Text, Path}
 use Rattle.xs_tree.specs.Texts.{same_text, is_among}
-use Rattle.xs_tree.proofs.ValueLaws.{same_text_equal, same_text_refl}
+use Rattle.xs_tree.proofs.ValueLaws.{same_text_equal}
 use Rattle.xs_flat_laws.specs.Model.{EachBoth}
 use Rattle.xs_weave_rules.specs.Keyed.{with_texts}
 use Rattle.xs_cause_laws.specs.CausesText.{WrittenCause}
-use Rattle.xs_cause_laws.specs.CauseRules.{CauseRule, hit_names, names_of_cause, own_names, same_path, is_path_among, has_double}
+use Rattle.xs_cause_laws.specs.CauseRules.{CauseRule, hit_names, names_of_cause, own_names, same_path, is_path_among}
 use Rattle.xs_cause_laws.specs.Staged.{hit_name, own_name, none_name, self_name}
 use Rattle.xs_causes_reader.specs.Read.{IsNumberOf}
 use Rattle.xs_causes_reader.specs.Broken.{is_any_among, broken_by, told_at, first_broken}
-use Rattle.xs_causes_reader.proofs.RuleLaws.{flat_append}
-use Rattle.xs_causes_reader.proofs.PathLaws.{same_next, double_next}
 use Rattle.std.proofs.lemmas.Bool.{and_parts as both, or_parts as neither}
+use Rattle.xs_scope.proofs.Naming.{both_push}
 use Rattle.xs_weave_rules.proofs.KeyedLaws.{map_push as map_end, texts_more}
 
 -- ---- lists of members that are related
-
-pub both_push : {A B : Type 0} (R : A → B → Type 0) (xs : List A) (ys : List B) (x : A) (y : B) → EachBoth R xs ys → R x y → EachBoth R (xs ++ x ∷ []) (ys ++ y ∷ [])
-both_push R [] [] x y h r = (r, tt)
-both_push R [] (b ∷ ys) x y h r = absurd h
-both_push R (a ∷ xs) [] x y h r = absurd h
-both_push R (a ∷ xs) (b ∷ ys) x y h r = (h.0, both_push R xs ys x y h.1 r)
 
 -- one member more on both sides
 pub both_more : {A B : Type 0} (R : A → B → Type 0) (xs : List A) (ys ys' : List B) (i : ℕ) (x : A) (y : B) → i < length xs → x ≡ get_or xs i x → ys' ≡ ys ++ y ∷ [] → R x y → EachBoth R (take i xs) ys →
@@ -82,7 +76,7 @@ module _ {A : Type 0} (paths : List Path) (g : A → WrittenCause) (xs : List A)
       more ∙ ap (λ t. with_texts t (names_of_cause (g x))) so_far
       ∙ sym (texts_more first (flat_map names_of_cause (map g (take i xs))) (names_of_cause (g x)))
       ∙ ap (λ ns. with_texts first (flat_map names_of_cause (map g (take i xs)) ++ ns)) (sym (append-nil (names_of_cause (g x))))
-      ∙ ap (with_texts first) (sym (flat_append names_of_cause (map g (take i xs)) (g x ∷ [])))
+      ∙ ap (with_texts first) (sym (flat_map-append names_of_cause (map g (take i xs)) (g x ∷ [])))
       ∙ ap (λ ys. with_texts first (flat_map names_of_cause ys)) (sym done)
 
 -- ---- names
@@ -96,15 +90,6 @@ hits_more x names names' all ps i d below pushed rest =
     ∙ append_assoc names (hit_name x (i + 1) ∷ []) (hit_names x (i + 1 + 1) (drop (i + 1) ps))
     ∙ ap (λ k. names ++ hit_name x (i + 1) ∷ hit_names x k (drop (i + 1) ps)) one
     ∙ sym (ap (λ qs. names ++ hit_names x (i + 1) qs) (drop_more ps i d below)) ∙ rest
-
--- whether texts are the same
-pub same_test : (b : Bool) (x y : Text) → (IsTrue b ↔ (x ≡ y)) → b ≡ same_text x y
-same_test true x y h = sym (ap (λ z. same_text z y) (h.0 refl) ∙ same_text_refl y)
-same_test false x y h = by (same_text x y) refl
-  where
-    by : (t : Bool) → same_text x y ≡ t → false ≡ t
-    by false e = refl
-    by true e = h.1 (same_text_equal x y e)
 
 -- the names of one fault more
 any_join : (taken xs ys : List Text) → is_any_among taken (xs ++ ys) ≡ (is_any_among taken xs || is_any_among taken ys)
@@ -140,31 +125,6 @@ same_path_equal (a ∷ x) (b ∷ y) h =
     let first = same_text_equal a b parts.0 in
     let rest = same_path_equal x y parts.1 in
     (λ j. first j ∷ rest j)
-
--- parts that differ, and parts that don't
-module _ (x y : Path) (i : ℕ) (a b : Text) (all : Bool) (h : i < length x) (g : i < length y) (is_a : a ≡ get_or x i a) (is_b : b ≡ get_or y i b) (rest : same_path (drop i x) (drop i y) ≡ all) where
-  parts_opened : (t : Bool) → same_text a b ≡ t → (t && same_path (drop (i + 1) x) (drop (i + 1) y)) ≡ all
-  parts_opened t e =
-      sym (same_next x y i a b h g ∙ ap (λ z. same_text z (get_or y i b) && same_path (drop (i + 1) x) (drop (i + 1) y)) (sym is_a)
-      ∙ ap (λ z. same_text a z && same_path (drop (i + 1) x) (drop (i + 1) y)) (sym is_b) ∙ ap (λ z. z && same_path (drop (i + 1) x) (drop (i + 1) y)) e) ∙ rest
-
-  pub parts_differ : same_text a b ≡ false → false ≡ all
-  parts_differ e = parts_opened false e
-
-  pub parts_same : same_text a b ≡ true → same_path (drop (i + 1) x) (drop (i + 1) y) ≡ all
-  parts_same e = parts_opened true e
-
--- a path that stands again behind, or doesn't
-module _ (ps : List Path) (i : ℕ) (p : Path) (all : Bool) (h : i < length ps) (is : p ≡ get_or ps i p) (rest : has_double (drop i ps) ≡ all) where
-  double_opened : (t : Bool) → is_path_among (drop (i + 1) ps) p ≡ t → (t || has_double (drop (i + 1) ps)) ≡ all
-  double_opened t e =
-      sym (double_next ps i p h ∙ ap (λ q. is_path_among (drop (i + 1) ps) q || has_double (drop (i + 1) ps)) (sym is) ∙ ap (λ z. z || has_double (drop (i + 1) ps)) e) ∙ rest
-
-  pub double_here : is_path_among (drop (i + 1) ps) p ≡ true → true ≡ all
-  double_here e = double_opened true e
-
-  pub double_later : is_path_among (drop (i + 1) ps) p ≡ false → has_double (drop (i + 1) ps) ≡ all
-  double_later e = double_opened false e
 
 -- the path of a place is got there
 pub get_place : {A : Type 0} (g : A → Path) (xs : List A) (i : ℕ) (x : A) → i < length xs → x ≡ get_or xs i x → slice_get (map g xs) i ≡ Some (g x)

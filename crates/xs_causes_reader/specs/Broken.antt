@@ -1,5 +1,5 @@
 -- The first rule that a list of causes breaks, by the names of faults and the texts that are taken.
-use Rattle.std.specs.Prelude.{◌≡◌, ◌⊎◌, ℕ, suc, ◌+◌, nat_lt, Bool, true, false, not, List, [], ◌∷◌, ◌++◌, Option, Some, None, length, flat_map}
+use Rattle.std.specs.Prelude.{◌≡◌, ◌⊎◌, ℕ, suc, ◌+◌, nat_lt, Bool, true, false, not, List, [], ◌∷◌, ◌++◌, Option, Some, None, length}
 use Rattle.std.specs.List.{list_any}
 use Rattle.xs_tree.specs.ProgramTree.{Text, Path, ProgramTree}
 use Rattle.xs_tree.specs.Texts.{same_text, is_among}
@@ -12,6 +12,7 @@ use Rattle.xs_causes_reader.specs.declared.fault.CauseRule.TheVariants as r
 use Rattle.xs_causes_reader.specs.declared.fault.CauseFault.{CauseFault}
 use Rattle.xs_causes_reader.specs.declared.fault.CauseFault.TheVariants as f
 
+-- the code's rule as the definitions see it
 abbrev pub rule_of : CauseRule → Rule
 rule_of r.NoSuchFault = no_such_fault
 rule_of r.DoubleCause = double_cause
@@ -46,6 +47,7 @@ broken_by paths taken before c =
     ∷ (is_any_among taken (names_of_cause c), name_taken)
     ∷ [])
 
+-- the rule with the number of its cause, or what comes of the causes after it
 abbrev pub told_at : Option Rule → ℕ → Option (Rule × ℕ) → Option (Rule × ℕ)
 told_at None n more = more
 told_at (Some rule) n more = Some (rule, n)

@@ -46,10 +46,11 @@ FaultSays faults w bytes (f.Parse fault) = FaultMeans IsCauses ⊥ bytes fault
 FaultSays faults w bytes (f.Broken rule number) = BreakRule faults w bytes (rule_of rule) number
 FaultSays faults w bytes f.OutOfMemory = Unit {0}
 
--- so it is for each extension whose faults have these names
+-- the bytes are read as these causes, for each extension whose faults have these names
 pub record IsReading (faults : List Fault) (w : ProgramTree) (bytes : List ℕ) (causes : List CommonCause) : Type 0 where
   pub of_each : (woven : List WovenFault) → AreNamed faults woven → AreRead woven w bytes causes
 
+-- the bytes are refused by this fault, for each extension whose faults have these names
 pub record IsRefusal (faults : List Fault) (w : ProgramTree) (bytes : List ℕ) (fault : CauseFault) : Type 0 where
   pub of_each : (woven : List WovenFault) → AreNamed faults woven → FaultSays woven w bytes fault
 

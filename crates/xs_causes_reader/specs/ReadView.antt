@@ -9,12 +9,15 @@ use Rattle.xs_causes_reader.specs.declared.step.State.TheVariants as s
 use Rattle.xs_causes_reader.specs.declared.written.Written.{Written}
 use Rattle.xs_causes_reader.specs.CausesRead.{Stage, start, named, within, first, dots, last, strikes, part, after, ReadSoFar, so_far, keep, read_of}
 
+-- the written cause in memory as the definitions see it
 abbrev pub written_tree : Written → WrittenCause
 written_tree c = record { name = c.name; from = c.from; to = c.to; strikes = c.strikes }
 
+-- written causes in memory as the definitions see them
 abbrev pub written_trees : List Written → List WrittenCause
 written_trees cs = map written_tree cs
 
+-- the code's state as the definitions see it
 abbrev pub stage_of : State → Stage
 stage_of s.Start = start
 stage_of s.Named = named
@@ -40,6 +43,7 @@ abbrev pub reading_at : Bool → Reading
 reading_at true = reading.Whole
 reading_at false = reading.Unfinished
 
+-- something is read
 abbrev pub Goes : Option ReadSoFar → Type 0
 Goes o = (r : ReadSoFar) × (o ≡ Some r)
 

@@ -1,4 +1,6 @@
 //! The names that causes add, and whether they are taken.
+//!
+//! [`cause_names`] are the names that one cause adds, and [`own_names`] those that are added for a fault after all causes.
 
 ghost use Rattle.std.specs.Prelude.{◌≡◌, IfOk, OnOk};
 ghost use Rattle.std.specs.List.{list_any};
@@ -7,11 +9,11 @@ ghost use Rattle.xs_weave_rules.specs.Keyed.{with_texts};
 ghost use Rattle.xs_cause_laws.specs.CauseRules.{names_of_cause, own_names as names_of_own};
 ghost use Rattle.xs_causes_reader.specs.ReadView.{written_tree};
 
-use crate::texts::Texts;
 use crate::written::Written;
 use std::alloc::Global;
 use xs_staging::names::{joined, numbered};
 use xs_value::{NameList, OutOfMemory};
+use xs_weave_rules::Texts;
 
 /// The names that a cause adds.
 pub(crate) fn cause_names(alloc: Global, cause: &Written) -> Result<NameList, OutOfMemory>

@@ -7,7 +7,7 @@
 //! first place that no text goes on from, or else the first rule that is broken, at the number of its cause.
 //!
 //! One token decides what comes next, and nothing nests, so a text is read once: `step` has what is read of a cause so
-//! far (`State`), `reader` goes through the tokens, and `rules` through the causes. `names` collects the program's names.
+//! far (`State`), `reader` goes through the tokens, and `rules` through the causes, with the program's names from `xs_weave_rules`.
 //!
 //! ```text
 //! // CAUSE Surge WITHIN 0..0 STRIKES A.on, B.on;      strikes 1 and 2
@@ -17,12 +17,10 @@
 
 mod added;
 mod fault;
-mod names;
 mod paths;
 mod reader;
 mod rules;
 mod step;
-mod texts;
 mod written;
 
 pub use fault::{CauseFault, CauseRule};

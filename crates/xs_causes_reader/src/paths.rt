@@ -1,4 +1,7 @@
 //! The names of faults, as paths of names.
+//!
+//! A path is compared part by part, by the texts of its parts. [`is_fault_name`], [`has_double`] and [`names_no_fault`] are what the
+//! rules of causes ask.
 
 ghost use Rattle.std.specs.Prelude.{◌≡◌, not};
 ghost use Rattle.std.specs.List.{list_any};

@@ -1,4 +1,6 @@
 //! The call: tokens, then the causes that they spell, then the rules.
+//!
+//! The main function is [`read_causes`].
 
 ghost use Rattle.std.specs.Prelude.{◌≡◌, ◌<◌, ◌^◌, List, [], length, map, IfOk, IfErr};
 ghost use Rattle.xs_lexer.specs.declared.token.Token.{Token};

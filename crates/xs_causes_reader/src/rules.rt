@@ -1,4 +1,7 @@
 //! The rules of causes, over the faults of an extension and the names of the woven program.
+//!
+//! The main function is [`lawful`]: it judges the causes in the order of their file, and then gives each the faults that it strikes by
+//! their numbers.
 
 ghost use Rattle.std.specs.Prelude.{◌≡◌, ◌^◌, ◌<◌, None, [], true, false, length, map, flat_map, option_map, IfOk, IfErr, IsOk, OnOk};
 ghost use Rattle.std.specs.List.{list_any};
@@ -16,15 +19,14 @@ ghost use Rattle.xs_causes_reader.specs.Read.{IsNumberOf, IsReadIn};
 
 use crate::added::{add_names, cause_names, is_any_taken, own_names};
 use crate::fault::{CauseFault, CauseRule};
-use crate::names::program_names;
 use crate::paths::{has_double, has_text, is_same_path, names_no_fault};
-use crate::texts::Texts;
 use crate::written::{Written, WrittenList};
 use std::alloc::Global;
 use xs_staging::{Cause, CauseList};
 use xs_tree::Program;
 use xs_tree::model::{Fault, FaultList};
 use xs_value::{FaultSet, Name, NameList, OutOfMemory};
+use xs_weave_rules::{Texts, program_names};
 
 /// The most faults and causes together.
 const MOST_EVENTS: usize = 256;

@@ -1,4 +1,6 @@
 //! What is read of a cause so far, and what one more token makes of it.
+//!
+//! The main function is [`step`]; [`State`] has a case for each place in the line of a cause.
 
 ghost use Rattle.std.specs.Prelude.{◌≡◌, [], codes, option_map, IfOk};
 ghost use Rattle.xs_expression_reader.specs.Marks.{mark_of};
@@ -70,6 +72,7 @@ fn where_so(fits: bool, to: State) -> Option<State>
     if fits { Some(to) } else { None }
 }
 
+/// Whether the token is the two dots of a window.
 fn is_dots(token: &TokenText) -> bool
     ensures { result ≡ is_dots_mark (mark_of token.now) }
 {
@@ -166,6 +169,7 @@ fn after_step(
     }
 }
 
+/// The cause of this head that strikes these faults.
 fn written(head: Head, strikes: PathList) -> Written
     ensures { written_tree result ≡ cause_read head.name head.from head.to strikes }
 {

@@ -1,4 +1,4 @@
-//! Causes as they are written.
+//! Causes as they are written: [`Written`] has the names of the faults that a cause strikes, which may be names of no fault.
 
 use xs_value::{Items, Name, NameList};
 

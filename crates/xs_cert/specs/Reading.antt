@@ -22,15 +22,18 @@ abbrev pub sets_left : ℕ → Expect
 sets_left zero = expect.ClausesCount
 sets_left (suc k) = expect.SetLine k
 
+-- what comes next where so many clauses are left
 abbrev pub clauses_left : ℕ → Expect
 clauses_left zero = expect.StepsCount part.First
 clauses_left (suc n) = expect.ClauseLine n
 
+-- what comes next after a derivation
 abbrev pub after_part : Part → Expect
 after_part part.First = expect.StepsCount part.Next
 after_part part.Next = expect.StepsCount part.Bad
 after_part part.Bad = expect.End
 
+-- what comes next where so many steps of a derivation are left
 abbrev pub steps_left : Part → ℕ → Expect
 steps_left p zero = after_part p
 steps_left p (suc n) = expect.StepLine p n
@@ -43,9 +46,11 @@ version_in line = if same_bytes line (version_line version_one) then Some versio
 abbrev pub then_expecting : Reading → Expect → Reading
 then_expecting r e = record r { expect = e }
 
+-- the reading after the line of the numbers
 abbrev pub with_numbers : Reading → Numbers → Reading
 with_numbers r x = record r { expect = expect.SetsCount; certificate = record r.certificate { bits = x.bits; faults = x.faults; size = x.size } }
 
+-- the reading after the line of a set
 abbrev pub with_set : ℕ → Reading → List ℕ → Reading
 with_set k r set = record r { expect = expect.TraceCount k; certificate = record r.certificate { sets = r.certificate.sets ++ set ∷ [] } }
 
@@ -54,20 +59,25 @@ abbrev pub text_left : ℕ → ℕ → Reading → Reading
 text_left zero k r = record r { expect = sets_left k; trace = []; certificate = record r.certificate { traces = r.certificate.traces ++ r.trace ∷ [] } }
 text_left (suc n) k r = record r { expect = expect.TextLine n k }
 
+-- the reading after a line of a trace's text
 abbrev pub with_line : ℕ → ℕ → Reading → Line → Reading
 with_line n k r line = text_left n k (record r { trace = r.trace ++ line ∷ [] })
 
+-- the reading after the line of a clause
 abbrev pub with_clause : ℕ → Reading → List Literal → Reading
 with_clause n r clause = record r { expect = clauses_left n; certificate = record r.certificate { invariant = r.certificate.invariant ++ clause ∷ [] } }
 
+-- a certificate with one more step in a derivation
 abbrev pub keeping : Part → Certificate → Step → Certificate
 keeping part.First c s = record c { first = c.first ++ s ∷ [] }
 keeping part.Next c s = record c { next = c.next ++ s ∷ [] }
 keeping part.Bad c s = record c { bad = c.bad ++ s ∷ [] }
 
+-- the reading after the line of a step
 abbrev pub with_step : Part → ℕ → Reading → Step → Reading
 with_step p n r s = record r { expect = steps_left p n; certificate = keeping p r.certificate s }
 
+-- what comes next after the last line
 abbrev pub end_in : Line → Option Expect
 end_in line = if same_bytes line (codes "end") then Some expect.NoLine else None
 
@@ -86,6 +96,7 @@ read_as (expect.StepLine p n) r line = option_map (with_step p n r) (step_in lin
 read_as expect.End r line = option_map (then_expecting r) (end_in line)
 read_as expect.NoLine r line = None
 
+-- the reading after one more line, where it has its form
 abbrev pub read_line : Reading → Line → Option Reading
 read_line r line = read_as r.expect r line
 
@@ -94,6 +105,7 @@ abbrev pub then_read : Option Reading → Line → Option Reading
 then_read None line = None
 then_read (Some r) line = read_line r line
 
+-- the reading after lines, where each has its form
 abbrev pub read_lines : Option Reading → List Line → Option Reading
 read_lines o [] = o
 read_lines o (line ∷ lines) = read_lines (then_read o line) lines

@@ -10,18 +10,22 @@ use Rattle.xs_cert.specs.declared.reading.Part.TheVariants as part
 use Rattle.xs_cert.specs.declared.reading.Expect.{Expect as Wanted}
 use Rattle.xs_cert.specs.declared.reading.Expect.TheVariants as expect
 
+-- the code's version as the definitions see it
 abbrev pub told_version : Named → Version
 told_version version.One = version_one
 told_version version.Two = version_two
 
+-- the code's numbers as the definitions see them
 abbrev pub told_numbers : Given → Numbers
 told_numbers n = record { bits = n.bits; faults = n.faults; size = n.size }
 
+-- the code's derivation as the definitions see it
 abbrev pub told_part : Kind → Part
 told_part part.First = part_first
 told_part part.Next = part_next
 told_part part.Bad = part_bad
 
+-- what the code waits for as the definitions see it
 abbrev pub told : Wanted → Expect
 told expect.Version = a_version
 told (expect.Numbers v) = the_numbers_of (told_version v)

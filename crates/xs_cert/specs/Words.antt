@@ -29,6 +29,7 @@ abbrev pub after_bits : Version → ℕ → List Line → Option Numbers
 after_bits version b (f ∷ n ∷ words) = if same_bytes f (codes "faults") then numbers_from (Some b) (small_in n) (size_of version (small_in n) words) else None
 after_bits version b _ = None
 
+-- the numbers that the words after `faults` say, where that of bits is given
 abbrev pub after_faults : Version → ℕ → List Line → Option Numbers
 after_faults version b (n ∷ words) = numbers_from (Some b) (small_in n) (size_of version (small_in n) words)
 after_faults version b [] = None

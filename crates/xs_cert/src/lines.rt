@@ -1,4 +1,7 @@
 //! What a line of a certificate says.
+//!
+//! There is a function for each form of line: [`version_in`], [`numbers_in`], [`count_in`], [`set_in`], [`clause_in`] and [`step_in`].
+//! Each gives what a line of its form says, and nothing for another line. `reading` asks them for one line after another.
 
 ghost use Rattle.std.specs.Prelude.{◌≡◌, ℕ, ◌∷◌, IfOk, Option, Some, MatchOption};
 ghost use Rattle.std.specs.Option.{option_map};

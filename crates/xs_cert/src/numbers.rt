@@ -1,4 +1,6 @@
 //! Numbers and literals in the words of a line.
+//!
+//! [`small`], [`count`] and [`hint`] read numbers, each with its limit and without leading zeros, and [`literal`] a literal.
 
 ghost use Rattle.std.specs.Prelude.{◌≡◌, ◌≢◌, ◌<◌, ◌≤◌, ◌^◌, IfSome, MatchOption, slice_index_or};
 ghost use Rattle.std.specs.Option.{option_map};

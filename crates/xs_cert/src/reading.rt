@@ -1,4 +1,7 @@
 //! The lines of a certificate read one after another.
+//!
+//! The main function is [`Reading::take`]: it reads one more line, as what the lines before it make it, and keeps what it says.
+//! [`Expect`] says what the next line is to be, with how many of its kind come after it.
 
 ghost use Rattle.std.specs.Prelude.{◌≡◌, IfErr, OnOk, Some, codes};
 ghost use Rattle.std.specs.Option.{option_map};

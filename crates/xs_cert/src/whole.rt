@@ -1,4 +1,6 @@
 //! A certificate's text read line by line.
+//!
+//! The main function is [`read`]. It gives line after line to `reading`, and a text is whole where none is missing at its end.
 
 ghost use Rattle.std.specs.Prelude.{◌≡◌, ◌≢◌, ℕ, IfOk, IfErr, IsErrOf};
 ghost use Rattle.xs_certificate_laws.specs.CertificateText.{SpellsCertificate, IsBadLine, EndsBefore};

@@ -1,4 +1,4 @@
-//! Lines cut into words.
+//! Lines cut into words: [`after_word`] and [`next_word`] cut a word off a line at its space.
 
 ghost use Rattle.std.specs.Prelude.{◌≡◌, [], MatchOption};
 ghost use Rattle.xs_cert.specs.Cuts.{IsWordThen, LacksWord, IsAfterWord};

@@ -1,4 +1,6 @@
 //! A certificate written.
+//!
+//! The main function is [`write`]. Each part of a certificate has a function that appends its lines, by the `pieces` below.
 
 ghost use Rattle.std.specs.Prelude.{◌≡◌, [], ◌∷◌, ◌++◌, IfOk, OnOk, codes, map};
 ghost use Rattle.std.specs.Fmt.{decimal};

@@ -11,10 +11,11 @@ use Rattle.xs_loading.specs.declared.status.Refusal.{Refusal}
 use Rattle.xs_loading.specs.declared.status.Refusal.TheVariants as refusal
 use Rattle.xs_loading.specs.Tasks.{IsRefusedAbove, HasAtMost}
 
--- what is wrong first with bytes that spell no certificate, as it is told: a line, from 1, that is wrong or that is missing
+-- what is told of a line of a certificate, from 1
 abbrev pub text_fault : ℕ → ℕ → InputFault
 text_fault number line = record { part = part.Read; number = number; place = line }
 
+-- what is wrong first with bytes that spell no certificate, as it is told: a line, from 1, that is wrong or that is missing
 pub data IsWrongText (bytes : List ℕ) (fault : InputFault) : Type 0 where
   a_bad_line : (n : ℕ) → fault ≡ text_fault 1 n → IsBadLine bytes n → IsWrongText bytes fault
   a_missing_line : (n : ℕ) → fault ≡ text_fault 2 n → EndsBefore bytes n → IsWrongText bytes fault

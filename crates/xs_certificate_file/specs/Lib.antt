@@ -1,1 +1,2 @@
 pub mod CertificateFiles
+pub mod Conclusions

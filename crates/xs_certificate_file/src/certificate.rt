@@ -1,4 +1,6 @@
-// The file of a certificate, the end of the work where one is refused, and what is said of one that is accepted.
+//! The file of a certificate, the end of the work where one is refused, and what is said of one that is accepted.
+//!
+//! The main function is [`load_certificate`]: it reads the file through the desk, and its bytes by `xs_cert`.
 ghost use Rattle.std.specs.Prelude.{◌≡◌, ◌≤◌, ◌++◌, codes, length, IfOk, IfSome, IsErrOf};
 ghost use Rattle.xs_desk.specs.Desk.{Rose};
 ghost use Rattle.xs_cert.specs.Seen.{seen};
@@ -33,7 +35,6 @@ pub fn load_certificate<D: Desk>(
     ensures checkable { IfOk result (λ a. IsCheckable (seen a)) }
     ensures refused { (r : Refusal) → IsErrOf result (stop.Refused r) → IfSome (D.files desk.old) (λ files. RefusesCertificate files name.now r) }
     ensures failed { IsErrOf result stop.Desk → Rose (D.faults desk.old) (D.faults desk.new) }
-
     ensures files { D.files desk.new ≡ D.files desk.old }
     ensures said { D.said desk.new ≡ D.said desk.old }
     ensures later { D.faults desk.old ≤ D.faults desk.new }
@@ -57,7 +58,6 @@ fn read_certificate_file<D: Desk>(alloc: Global, desk: &mut D, name: &str) -> Re
     ensures refused { (r : Refusal) → IsErrOf result (stop.Refused r) →
         (fault : InputFault) × (r ≡ refusal.NotAccepted (objection.Cert fault)) × IfSome (D.files desk.old) (λ files. IsRefusedAbove 268435456 files name.now fault) }
     ensures failed { IsErrOf result stop.Desk → Rose (D.faults desk.old) (D.faults desk.new) }
-
     ensures files { D.files desk.new ≡ D.files desk.old }
     ensures said { D.said desk.new ≡ D.said desk.old }
     ensures later { D.faults desk.old ≤ D.faults desk.new }

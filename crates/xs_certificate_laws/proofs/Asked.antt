@@ -16,8 +16,8 @@ use Rattle.xs_lits.specs.Steps.{with_steps}
 use Rattle.xs_lits.proofs.FalseLemmas.{opposite-opposite}
 use Rattle.xs_certificate_laws.specs.Accepted.{Covers}
 use Rattle.xs_certificate_laws.specs.Derived.{asked, Solves, MayBeAsked, DerivationsGoOn}
-use Rattle.xs_certificate_laws.proofs.Values.{all_from_each}
 use Rattle.xs_certificate_laws.proofs.Steps.{steps_joined, with_joined, covers_by, covers_with, follows_with}
+use Rattle.xs_lits.proofs.ModelLemmas.{Satisfies-from_All}
 
 module _ (vars : ℕ) where
   -- what is asked has opposites of the goal's literals, all in range
@@ -133,7 +133,7 @@ module _ (vars : ℕ) (a : Assignment) (goal : List Literal) (places : length a 
 -- an assignment that solves what is asked would make the goal false
 no_solution : (vars : ℕ) (clauses : List (List Literal)) (goal : List Literal) → HasNoOpposites goal → FollowsFrom clauses goal → (a : Assignment) → Solves vars clauses (asked vars goal) a → ⊥
 no_solution vars clauses goal apart follows a solves =
-    let holds : clause_value (filled vars a goal) goal ≡ true = follows (filled vars a goal) (all_from_each (filled vars a goal) clauses all_hold) in
+    let holds : clause_value (filled vars a goal) goal ≡ true = follows (filled vars a goal) (Satisfies-from_All (filled vars a goal) clauses all_hold) in
     let some : Any (λ l. literal_value (filled vars a goal) l ≡ true) goal = Any-from_list_any (literal_value (filled vars a goal)) goal holds in
     false_one some.1 (some.0, some.2, some.3) some.4 (cases_lt vars some.1.var)
   where

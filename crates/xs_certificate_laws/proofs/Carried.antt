@@ -1,11 +1,11 @@
 -- What is right for flat traces of an extension's model is right for extended traces.
-use Rattle.std.proofs.Common.{◌≡◌, ◌↔◌, ℕ, zero, suc, ◌+◌, ◌-◌, ◌≤◌, true, List, [], ◌∷◌, map, length, Some, refl, sym, ap, ◌∙◌, subst}
+use Rattle.std.proofs.Common.{◌≡◌, ◌↔◌, ℕ, suc, ◌+◌, ◌-◌, ◌≤◌, true, List, [], ◌∷◌, map, length, Some, refl, sym, ap, ◌∙◌, subst}
 use Rattle.std.specs.Prelude.{slice_get}
 use Rattle.xs_tree.specs.Tree.{Tree}
 use Rattle.xs_tree.specs.ProgramTree.{Formula, ProgramTree}
 use Rattle.xs_tree.specs.Values.{Value, truth}
 use Rattle.xs_tree.specs.May.{Valuation, May}
-use Rattle.xs_tree.specs.Trace.{Each, IsTrace}
+use Rattle.xs_tree.specs.Trace.{IsTrace}
 use Rattle.xs_tree.specs.Flat.{FlatLeaf, FlatModel, FlatMay}
 use Rattle.xs_flat_laws.specs.History.{Mode}
 use Rattle.xs_flat_laws.specs.FlatTrace.{IsFlatTrace}
@@ -29,14 +29,7 @@ use Rattle.xs_certificate_laws.specs.ExtendedTraces.{IsModeOfFault, HasFailedFau
 use Rattle.xs_certificate_laws.specs.Laws.{FlatTracesAreCut, AllRightIsExtended, ShortRightIsExtended}
 use Rattle.xs_certificate_laws.proofs.Modes.{IsOfSlice, of_program, fails_iff}
 use Rattle.xs_flat_laws.proofs.Variables.{both_at as both_left, both_at_second as both_right}
-
-pub each_place : {A : Type 0} (P : A → Type 0) (xs : List A) (k : ℕ) (x : A) → Each P xs → slice_get xs k ≡ Some x → P x
-each_place P [] k x h e = cc
-each_place P (a ∷ xs) zero x h e = subst P (same a x e) h.0
-  where
-    same : {A : Type 0} (a x : A) → Some a ≡ Some x → a ≡ x
-    same a x e = cc
-each_place P (a ∷ xs) (suc k) x h e = each_place P xs k x h.1 e
+use Rattle.xs_flat_laws.proofs.Conditions.{each_at}
 
 module _ (p : ProgramTree) (i : InstructionTree) (faults : List Fault) (top : Formula) (m : FlatModel) (fs : List Mode) (flat_top : Tree FlatLeaf) (model : IsExtensionModel p i faults top m fs flat_top) where
   extension : IsExtensionOf p i (woven p i)
@@ -62,7 +55,7 @@ module _ (p : ProgramTree) (i : InstructionTree) (faults : List Fault) (top : Fo
   reaches_iff (v ∷ w ∷ vs) (mo ∷ next ∷ trace) cut = reaches_iff (w ∷ vs) (next ∷ trace) cut.1
 
   pub fault_of_slice : (k : ℕ) (f : Fault) → slice_get faults k ≡ Some f → IsOfSlice p i f
-  fault_of_slice k f at = each_place (IsOfSlice p i) faults k f (of_program p i faults model.has_faults) at
+  fault_of_slice k f at = each_at (IsOfSlice p i) faults k f (of_program p i faults model.has_faults) at
 
   failed_iff : (vs : List Valuation) (trace : List Moment) → IsCut p i vs trace → (n : ℕ) → HasFailedNumber m fs (map (values_by_number m) vs) n ↔ HasFailedFault faults trace n
   failed_iff vs trace cut n = (

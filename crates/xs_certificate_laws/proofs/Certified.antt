@@ -19,11 +19,7 @@ use Rattle.xs_text_laws.specs.Lines.{Line}
 use Rattle.xs_certificate_laws.specs.Accepted.{Subject, other_numbers, no_set, contains_a_set, no_text, no_trace, does_not_reach, other_faults, HasNumbers, IsSetAt, IsApart}
 use Rattle.xs_certificate_laws.proofs.Invariant.{accepted_is_invariant}
 use Rattle.xs_certificate_laws.specs.Certified.{IsSubjectOf, IsCertified, CertifiedIsRight}
-
--- what holds at each place holds of each
-each_from_places : {A : Type 0} (P : A → Type 0) (xs : List A) → ((k : ℕ) (x : A) → slice_get xs k ≡ Some x → P x) → Each P xs
-each_from_places P [] h = tt
-each_from_places P (x ∷ xs) h = (h zero x refl, each_from_places P xs (λ k y e. h (suc k) y e))
+use Rattle.xs_flat_laws.proofs.Conditions.{each_from}
 
 -- texts that each give a trace give a list of them
 pub all_given : {A B : Type 0} (R : A → B → Type 0) (xs : List A) → ((k : ℕ) (x : A) → slice_get xs k ≡ Some x → (y : B) × R x y) → (ys : List B) × AreBoth R xs ys
@@ -51,7 +47,7 @@ module _ (reads : List Line → List (List Value) → Type 0) (m : FlatModel) (f
 
   numbered : Each (IsNumbered (length fs)) c.sets
   numbered =
-      each_from_places (IsNumbered (length fs)) c.sets
+      each_from (IsNumbered (length fs)) c.sets
       (λ k set at. numbered_from (length fs) set (λ i h. subst (λ n. (1 ≤ i) × (i ≤ n)) is_subject.faults ((set_at k set at).names i h)))
 
   -- the set of a trace text's place

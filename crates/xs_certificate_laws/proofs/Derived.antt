@@ -14,7 +14,8 @@ use Rattle.xs_right_laws.proofs.Places.{get_within}
 use Rattle.xs_certificate_laws.specs.Certificate.{Certificate, Part, a_step, an_end, steps_in}
 use Rattle.xs_text_laws.specs.Lines.{Line}
 use Rattle.xs_certificate_laws.specs.Accepted.{Subject, bad_hint, no_conflict, not_covered, known_before, Covers, givens, goals, known_at, vars_of, IsAccepted}
-use Rattle.xs_certificate_laws.proofs.Values.{satisfies_both, satisfies_one, one_of_them, covered_true}
+use Rattle.xs_certificate_laws.proofs.Values.{satisfies_one, one_of_them, covered_true}
+use Rattle.xs_lits.proofs.ModelLemmas.{Satisfies-append}
 
 -- hints that are neither bad nor all open end false
 ends_false : (clauses : List (List Literal)) (vars : ℕ) (c : List Literal) (hints : List ℕ) →
@@ -43,9 +44,6 @@ known_next gs steps i s at =
     ap (λ ss. gs ++ map (λ (s : Step). s.clause) ss) (take_next steps i s at) ∙ ap (λ cs. gs ++ cs) (map_end (λ (s : Step). s.clause) (take i steps) s)
     ∙ sym (append_assoc gs (map (λ (s : Step). s.clause) (take i steps)) (s.clause ∷ []))
 
-none_more : (gs : List (List Literal)) (steps : List Step) → known_before gs steps zero ≡ gs ++ []
-none_more gs steps = refl
-
 module _ (T : Type 0) (reads : List Line → T → Type 0) (is_trace reaches : T → Type 0) (has_failed : T → ℕ → Type 0) (subject : Subject) (c : Certificate)
     (accepted : IsAccepted T reads is_trace reaches has_failed subject c) where
   step_follows : (part : Part) (i : ℕ) (s : Step) → slice_get (steps_in c part) i ≡ Some s → FollowsFrom (known_at subject c part i) s.clause
@@ -54,12 +52,12 @@ module _ (T : Type 0) (reads : List Line → T → Type 0) (is_trace reaches : T
       (ends_false (known_at subject c part i) (vars_of subject c part) s.clause s.hints (accepted (a_step part i s) at bad_hint) (accepted (a_step part i s) at no_conflict))
 
   all_follow : (part : Part) (v : TotalAssignment) → Satisfies v (givens subject c part) → (i : ℕ) → i ≤ length (steps_in c part) → Satisfies v (known_at subject c part i)
-  all_follow part v h zero le = satisfies_both v (givens subject c part) [] h refl
+  all_follow part v h zero le = Satisfies-append v (givens subject c part) [] h refl
   all_follow part v h (suc i) le =
       let there : (s : Step) × (slice_get (steps_in c part) i ≡ Some s) = get_within (steps_in c part) i (omega (arith, le)) in
       let before : Satisfies v (known_at subject c part i) = all_follow part v h i (omega (arith, le)) in
       subst (Satisfies v) (sym (known_next (givens subject c part) (steps_in c part) i there.0 there.1))
-      (satisfies_both v (known_at subject c part i) (there.0.clause ∷ []) before (satisfies_one v there.0.clause (step_follows part i there.0 there.1 v before)))
+      (Satisfies-append v (known_at subject c part i) (there.0.clause ∷ []) before (satisfies_one v there.0.clause (step_follows part i there.0 there.1 v before)))
 
   -- what the steps of a part are to show is true wherever the part's givens are
   pub goal_true : (part : Part) (v : TotalAssignment) → Satisfies v (givens subject c part) → (needed : List Literal) → Contains (goals subject c part) needed → clause_value v needed ≡ true

@@ -280,10 +280,6 @@ numbers_exact v line x = line_exact (codes "bits") (numbers_of_words v) (words_o
     frees : (x : Numbers) → AreSmall v x → AllByRecursion (AllByRecursion (λ b. b ≡ 32 → ⊥)) (words_of v x)
     frees x h = (digits x.bits h.bits, (free_by_test 32 (codes "faults") refl, (digits x.faults h.faults, of_size v x h)))
 
-says_of : (v : Version) (c : Certificate) (x : Numbers) → x.size ≡ c.size → x.faults ≡ c.faults → SizeSays v x → CanSay v c
-says_of version_one c x e f h = sym e ∙ h ∙ f
-says_of version_two c x e f h = tt
-
 -- The whole.
 record VersionThen (l : Line) (lines : List Line) : Type 0 where
   pub version : Version

@@ -11,8 +11,9 @@ use Rattle.xs_certificate_laws.specs.Certificate.{Part, part_first, part_next, p
 use Rattle.xs_text_laws.specs.Lines.{Line}
 use Rattle.xs_certificate_laws.specs.Accepted.{givens, goals, foreign_literal}
 use Rattle.xs_certificate_laws.specs.CertificateLaws.{AcceptedIsInvariant}
-use Rattle.xs_certificate_laws.proofs.Values.{satisfies_both, all_from_each, one_of_them, agrees_at, same_clause, map_same}
+use Rattle.xs_certificate_laws.proofs.Values.{one_of_them, agrees_at, same_clause, map_same}
 use Rattle.xs_certificate_laws.proofs.Derived.{goal_true}
+use Rattle.xs_lits.proofs.ModelLemmas.{Satisfies-append, Satisfies-from_All}
 
 module _ (system : System) (s : State) (is_state : IsState system s) where
   -- the value of a state bit under an assignment that agrees from n on
@@ -40,7 +41,7 @@ module _ (system : System) (s : State) (is_state : IsState system s) where
 
   -- a state makes the clauses true where each of them has the value true
   pub in_frame : (clauses : List (List Literal)) → ((c : List Literal) → Contains clauses c → clause_value (state_values system s) c ≡ true) → InFrame system clauses s
-  in_frame clauses h = (is_state, all_from_each (state_values system s) clauses (λ k d within. h (slice_index_or clauses k d) (Contains-get_or clauses k d within)))
+  in_frame clauses h = (is_state, Satisfies-from_All (state_values system s) clauses (λ k d within. h (slice_index_or clauses k d) (Contains-get_or clauses k d within)))
 
 map_contains : (f : List Literal → List Literal) (cs : List (List Literal)) (c : List Literal) → Contains cs c → Contains (map f cs) (f c)
 map_contains f cs c m = by_place cs m.0 m.1 m.2
@@ -63,11 +64,11 @@ module _ (T : Type 0) (reads : List Line → T → Type 0) (is_trace reaches : T
     is_kept = λ s t inside step.
         in_frame subject.system t step.1 c.invariant
         (λ d m. sym (next_value subject.system t step.1 step.2.0 step.2.2 d (over d m))
-        ∙ shown part_next step.2.0 (satisfies_both step.2.0 subject.system.step c.invariant step.2.3 (keeps s inside step.2.0 step.2.1)) (map (moved_on subject.system.state_bits) d)
+        ∙ shown part_next step.2.0 (Satisfies-append step.2.0 subject.system.step c.invariant step.2.3 (keeps s inside step.2.0 step.2.1)) (map (moved_on subject.system.state_bits) d)
         (map_contains (map (moved_on subject.system.state_bits)) c.invariant d m));
     excludes = λ s inside bad.
         never (clause_value bad.1.0 []) refl
-        (shown part_bad bad.1.0 (satisfies_both bad.1.0 (subject.bad c.sets c.size) c.invariant bad.1.2 (keeps s inside bad.1.0 bad.1.1)) [] (0, omega arith, refl));
+        (shown part_bad bad.1.0 (Satisfies-append bad.1.0 (subject.bad c.sets c.size) c.invariant bad.1.2 (keeps s inside bad.1.0 bad.1.1)) [] (0, omega arith, refl));
   }
     where
       over : (d : List Literal) → Contains c.invariant d → IsOverBits subject.system d
@@ -79,7 +80,7 @@ module _ (T : Type 0) (reads : List Line → T → Type 0) (is_trace reaches : T
       -- an assignment that agrees with a state of the invariant makes it true
       keeps : (s : State) → InFrame subject.system c.invariant s → (v : TotalAssignment) → Agrees v 2 s → Satisfies v c.invariant
       keeps s inside v agrees =
-          all_from_each v c.invariant
+          Satisfies-from_All v c.invariant
           (λ k d within. let m : Contains c.invariant (slice_index_or c.invariant k d) = Contains-get_or c.invariant k d within in
           now_value subject.system s inside.0 v agrees (slice_index_or c.invariant k d) (over (slice_index_or c.invariant k d) m)
           ∙ one_of_them (state_values subject.system s) c.invariant (slice_index_or c.invariant k d) inside.1 m)

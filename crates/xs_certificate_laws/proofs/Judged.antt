@@ -11,7 +11,7 @@ use Rattle.xs_certificate_laws.specs.LineReading.{count_in, set_in, clause_in, s
 use Rattle.xs_certificate_laws.specs.Expecting.{Expect, a_version, the_numbers_of, sets_count, a_set_line, trace_count, a_text_line, clauses_count, a_clause_line, steps_count, a_step_line, the_end, no_line, sets_left, text_left, clauses_left, after_part, steps_left, part_word, numbers_in, after, after_lines, TakenLinesBegin, EachTextIsJudged}
 use Rattle.xs_text_laws.proofs.Words.{free_by_test, all_joined}
 use Rattle.xs_certificate_laws.proofs.LineReading.{counts_exact, sets_exact, clauses_exact, steps_exact}
-use Rattle.xs_certificate_laws.proofs.FirstWrong.{counted_line, clause_lines, step_lines, numbers_lines}
+use Rattle.xs_certificate_laws.proofs.FirstWrong.{all_left, counted_line, clause_lines, step_lines, numbers_lines}
 use Rattle.xs_text_laws.proofs.Cuts.{grouped, Cut, cut, fed_joined}
 use Rattle.xs_certificate_laws.proofs.Expecting.{Finishes, none_after, after_joined, is_done, not_done, free_word, free_trace, numbers_exact, whole_then}
 use Rattle.std.proofs.lemmas.List.{append-nil as append_none}
@@ -249,10 +249,6 @@ scan e (l ∷ lines) = by_next (after e l) refl (λ f. scan f lines)
     by_next None t rest = inr (record { good = []; line = l; more = lines; expected = e; is = refl; taken_so_far = refl; not_taken = t })
     by_next (Some f) t rest = on f t (rest f)
 
-all_first : {A : Type 0} (P : A → Type 0) (xs ys : List A) → AllByRecursion P (xs ++ ys) → AllByRecursion P xs
-all_first P [] ys h = tt
-all_first P (x ∷ xs) ys h = (h.0, all_first P xs ys h.1)
-
 all_last : {A : Type 0} (P : A → Type 0) (xs ys : List A) → AllByRecursion P (xs ++ ys) → AllByRecursion P ys
 all_last P [] ys h = h
 all_last P (x ∷ xs) ys h = all_last P xs ys h.1
@@ -287,7 +283,7 @@ module _ (bytes : List ℕ) where
           is_line = (all_last IsLine s.good (s.line ∷ s.more) all).0;
           lie = c.lie ∙ ap (λ ls. fed ls ++ c.tail) s.is ∙ ap (λ bs. bs ++ c.tail) (fed_joined s.good (s.line ∷ s.more)) ∙ append_assoc (fed s.good) (fed (s.line ∷ s.more)) c.tail
               ∙ ap (λ bs. fed s.good ++ bs) (grouped s.line s.more c.tail);
-          begun = begins s.good s.expected (all_first IsLine s.good (s.line ∷ s.more) all) s.taken_so_far;
+          begun = begins s.good s.expected (all_left IsLine s.good (s.line ∷ s.more) all) s.taken_so_far;
           place = refl;
           cause = inl (fed s.more ++ c.tail, refl, not_begun (s.good ++ s.line ∷ []) (after_joined (Some a_version) s.good (s.line ∷ []) ∙ ap (λ o. after_lines o (s.line ∷ [])) s.taken_so_far ∙ s.not_taken));
         },

@@ -1,9 +1,9 @@
 -- A certificate that was made is accepted, and what its parts are to show follows from what is given there.
-use Rattle.std.proofs.Common.{◌≡◌, ℕ, zero, suc, ◌+◌, ◌<◌, Bool, true, false, ◌&&◌, List, [], ◌∷◌, ◌++◌, length, map, Some, None, refl, sym, ◌∙◌, ap, subst, arith}
+use Rattle.std.proofs.Common.{◌≡◌, ℕ, zero, suc, ◌+◌, ◌<◌, true, List, [], ◌∷◌, ◌++◌, length, map, Some, None, refl, sym, ◌∙◌, ap, subst, arith}
 use Rattle.std.specs.Prelude.{Contains, All, slice_get, slice_index_or}
 use Rattle.std.proofs.lemmas.List.Elements.{All-contains}
 use Rattle.xs_lits.specs.Literal.{Literal}
-use Rattle.xs_lits.specs.Models.{TotalAssignment, clause_value, all_true, Satisfies}
+use Rattle.xs_lits.specs.Models.{TotalAssignment, clause_value, Satisfies}
 use Rattle.xs_lits.specs.Hints.{HasNoOpposites, EndsFalse, EndsOpen, FailsAt, assumed_false}
 use Rattle.xs_lits.specs.Steps.{IsStep}
 use Rattle.xs_lits.specs.declared.step.Step.{Step}
@@ -15,9 +15,10 @@ use Rattle.xs_certificate_laws.specs.Certificate.{Certificate, Part, part_first,
 use Rattle.xs_text_laws.specs.Lines.{Line}
 use Rattle.xs_certificate_laws.specs.Accepted.{Subject, Rule, Keeps, other_numbers, no_set, contains_a_set, foreign_literal, bad_hint, no_conflict, not_covered, givens, vars_of, known_at, Covers}
 use Rattle.xs_certificate_laws.specs.Derived.{IsMade, MadeIsAccepted, GoalsFollow}
-use Rattle.xs_certificate_laws.proofs.Values.{satisfies_left, one_of_them}
+use Rattle.xs_certificate_laws.proofs.Values.{one_of_them}
 use Rattle.xs_certificate_laws.proofs.Invariant.{now_value, next_value, in_frame}
 use Rattle.xs_certificate_laws.proofs.Steps.{step_at, all_known}
+use Rattle.xs_lits.proofs.ModelLemmas.{Satisfies-front, Satisfies-back}
 
 -- hints that end false are not bad, and not all open
 not_bad : (clauses : List (List Literal)) (vars : ℕ) (c : List Literal) (hints : List ℕ) → EndsFalse clauses (assumed_false vars c) hints → (n : ℕ) → FailsAt clauses (assumed_false vars c) hints n → ⊥
@@ -82,14 +83,6 @@ agrees_bits : (n k : ℕ) (v : TotalAssignment) → Agrees v n (bits_from n k v)
 agrees_bits n zero v = tt
 agrees_bits n (suc k) v = (refl, agrees_bits (n + 1) k v)
 
-satisfies_right : (v : TotalAssignment) (cs ds : List (List Literal)) → Satisfies v (cs ++ ds) → Satisfies v ds
-satisfies_right v [] ds h = h
-satisfies_right v (c ∷ cs) ds h = satisfies_right v cs ds (second (clause_value v c) (all_true v (cs ++ ds)) h)
-  where
-    second : (a b : Bool) → (a && b) ≡ true → b ≡ true
-    second true b e = e
-    second false b e = cc
-
 -- a member of a mapped list comes from one of the list
 from_map : (f : List Literal → List Literal) (cs : List (List Literal)) (d : List Literal) → Contains (map f cs) d → (c : List Literal) × Contains cs c × (f c ≡ d)
 from_map f cs d m = by_place cs m.0 m.1 m.2
@@ -127,14 +120,14 @@ module _ (subject : Subject) (c : Certificate) (over : All (IsOverBits subject.s
       let is_next : IsState subject.system next = length_bits (subject.system.state_bits + 2) subject.system.state_bits v in
       let agrees : Agrees v (subject.system.state_bits + 2) next = agrees_bits (subject.system.state_bits + 2) subject.system.state_bits v in
       let frame : InFrame subject.system c.invariant next =
-      invariant.is_kept (now v) next (inside v (satisfies_right v subject.system.step c.invariant holds))
-      (is_now v, is_next, (v, agrees_bits 2 subject.system.state_bits v, agrees, satisfies_left v subject.system.step c.invariant holds)) in
+      invariant.is_kept (now v) next (inside v (Satisfies-back v subject.system.step c.invariant holds))
+      (is_now v, is_next, (v, agrees_bits 2 subject.system.state_bits v, agrees, Satisfies-front v subject.system.step c.invariant holds)) in
       next_value subject.system next is_next v agrees d (over_one d m) ∙ one_of_them (state_values subject.system next) c.invariant d frame.1 m
 
   bad_follows : (v : TotalAssignment) → Satisfies v (subject.bad c.sets c.size ++ c.invariant) → ⊥
   bad_follows v holds =
-      invariant.excludes (now v) (inside v (satisfies_right v (subject.bad c.sets c.size) c.invariant holds))
-      (is_now v, (v, agrees_bits 2 subject.system.state_bits v, satisfies_left v (subject.bad c.sets c.size) c.invariant holds))
+      invariant.excludes (now v) (inside v (Satisfies-back v (subject.bad c.sets c.size) c.invariant holds))
+      (is_now v, (v, agrees_bits 2 subject.system.state_bits v, Satisfies-front v (subject.bad c.sets c.size) c.invariant holds))
 
 pub goals_follow : GoalsFollow
 goals_follow subject c over invariant part_first needed m = λ v holds. first_follows subject c over invariant v holds needed m

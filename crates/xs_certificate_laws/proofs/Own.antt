@@ -34,9 +34,9 @@ use Rattle.xs_encode_laws.specs.EncodedLaws.{AreOwn}
 use Rattle.xs_certificate_laws.specs.ExtendedTraces.{IsModeOfFault, IsExtensionModel}
 use Rattle.xs_certificate_laws.specs.Laws.{ExtensionModelsAreOwn}
 use Rattle.xs_certificate_laws.proofs.Modes.{IsOfSlice, of_program}
-use Rattle.xs_certificate_laws.proofs.Carried.{each_place}
 use Rattle.xs_type_laws.proofs.TraceLaws.{one_type}
 use Rattle.xs_flat_laws.proofs.Variables.{both_at_second as both_right}
+use Rattle.xs_flat_laws.proofs.Conditions.{each_at}
 
 -- What holds of all leaves holds of each of them.
 mutual
@@ -67,14 +67,14 @@ own_name v s d (flat_variable i) h = h
 own_name v s d (flat_symbol i) h = tt
 own_name v s d (flat_definition i) h = tt
 
-own_names : (v s d : ℕ) (e : Tree FlatLeaf) → AllLeaves (IsKnown v s d) e → Each (IsOwnName v) (leaves_in e)
+pub own_names : (v s d : ℕ) (e : Tree FlatLeaf) → AllLeaves (IsKnown v s d) e → Each (IsOwnName v) (leaves_in e)
 own_names v s d e h = each_more (IsKnown v s d) (IsOwnName v) (leaves_in e) (own_name v s d) (each_leaf (IsKnown v s d) e h)
 
 own_definitions : (v s k : ℕ) (ds : List FlatFormula) → AreInOrder v s k ds → Each (IsOwnFormula v) ds
 own_definitions v s k [] h = tt
 own_definitions v s k (d ∷ ds) h = (own_names v s k d.value h.0, own_definitions v s (suc k) ds h.1)
 
-closed_own : (m : FlatModel) → IsClosed m → NamesOwn m
+pub closed_own : (m : FlatModel) → IsClosed m → NamesOwn m
 closed_own m closed = record {
   definitions = own_definitions (length m.variables) (length m.symbols) 0 m.definitions closed.definitions;
   at_first = formulas m.at_first closed.at_first;
@@ -105,7 +105,7 @@ module _ (p : ProgramTree) (i : InstructionTree) (faults : List Fault) (top : Fo
       let main : (n : ModuleTree) × (find_module (woven p i) (codes "main") ≡ Some n) = main_is_there (woven p i) (accepted_walkable (woven p i) model.accepted) in
       let from : (w : Visit) × (slice_get (variables_of (woven p i)) k ≡ Some w) × IsVariableOf m w v = both_right (IsVariableOf m) (variables_of (woven p i)) m.variables k v model.flat.variables e in
       let real : IsReal (woven p i) from.0 =
-      each_place (IsReal (woven p i)) (variables_of (woven p i)) k from.0 (real_all (woven p i) (visits (woven p i)) (has_main (woven p i) (accepted_walkable (woven p i) model.accepted) main.0 main.1)) from.1 in
+      each_at (IsReal (woven p i)) (variables_of (woven p i)) k from.0 (real_all (woven p i) (visits (woven p i)) (has_main (woven p i) (accepted_walkable (woven p i) model.accepted) main.0 main.1)) from.1 in
       let by = from.2 in
       subst (λ at. IsVariable (woven p i) at v.name v.role v.declared) (sym by.place)
       (subst (λ x. IsVariable (woven p i) from.0.place x v.role v.declared) (sym by.name)

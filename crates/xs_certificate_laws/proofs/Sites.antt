@@ -10,6 +10,7 @@ use Rattle.xs_certificate_laws.specs.Certificate.{Certificate, Part, part_first,
 use Rattle.xs_text_laws.specs.Lines.{Line}
 use Rattle.xs_certificate_laws.specs.Accepted.{Subject, Rule, number_of, Keeps}
 use Rattle.xs_certificate_laws.specs.Sites.{set_sites, clause_sites, step_sites, sites_of, KeepsAll, BreaksFirst, FirstBrokenIsObjection}
+use Rattle.std.proofs.Math.Seq.{take-append_seam}
 
 -- Members by recursion.
 abbrev In : {A : Type 0} → A → List A → Type 0
@@ -136,10 +137,6 @@ lines_none = refl
 pub lines_joined : (xs ys : List (List Line)) → lines_of_sets (xs ++ ys) ≡ lines_of_sets xs + lines_of_sets ys
 lines_joined xs ys = sum_by-append (λ text. length text + 2) xs ys
 
-take_front : {A : Type 0} (xs ys : List A) → take (length xs) (xs ++ ys) ≡ xs
-take_front [] ys = refl
-take_front (x ∷ xs) ys = ap (λ zs. x ∷ zs) (take_front xs ys)
-
 module _ (c : Certificate) where
   -- lines from one on, each below the next
   abbrev Rise : ℕ → List Site → Type 0
@@ -193,7 +190,7 @@ module _ (c : Certificate) where
   )
     where
       same : lines_of_sets (take k c.traces) ≡ lines_of_sets pre
-      same = ap lines_of_sets (ap (λ n. take n c.traces) p ∙ ap (take (length pre)) e ∙ take_front pre (text ∷ texts))
+      same = ap lines_of_sets (ap (λ n. take n c.traces) p ∙ ap (take (length pre)) e ∙ take-append_seam pre (text ∷ texts))
 
       length_more : (xs : List (List Line)) → length (xs ++ text ∷ []) ≡ suc (length xs)
       length_more [] = refl

@@ -7,8 +7,9 @@ use Rattle.xs_lits.specs.Models.{FollowsFrom}
 use Rattle.xs_lits.specs.Steps.{IsStep, AreSteps, with_steps}
 use Rattle.xs_lits.specs.declared.step.Step.{Step}
 use Rattle.xs_certificate_laws.specs.Accepted.{known_before, Covers}
-use Rattle.xs_certificate_laws.proofs.Values.{satisfies_left}
 use Rattle.std.proofs.lemmas.List.{append-nil as append_none}
+use Rattle.xs_lits.proofs.ModelLemmas.{Satisfies-front}
+use Rattle.std.proofs.Math.Seq.{take-length}
 
 -- steps, and then more
 pub steps_joined : (vars : ℕ) (cs : List (List Literal)) (xs ys : List Step) → AreSteps vars cs xs → AreSteps vars (with_steps cs xs) ys → AreSteps vars cs (xs ++ ys)
@@ -24,12 +25,8 @@ pub with_more : (cs : List (List Literal)) (xs : List Step) → with_steps cs xs
 with_more cs [] = sym (append_none cs)
 with_more cs (x ∷ xs) = with_more (cs ++ x.clause ∷ []) xs ∙ append_assoc cs (x.clause ∷ []) (map (λ (s : Step). s.clause) xs)
 
-take_all : {A : Type 0} (xs : List A) → take (length xs) xs ≡ xs
-take_all [] = refl
-take_all (x ∷ xs) = ap (λ ys. x ∷ ys) (take_all xs)
-
 pub all_known : (cs : List (List Literal)) (xs : List Step) → known_before cs xs (length xs) ≡ with_steps cs xs
-all_known cs xs = ap (λ ys. cs ++ map (λ (s : Step). s.clause) ys) (take_all xs) ∙ sym (with_more cs xs)
+all_known cs xs = ap (λ ys. cs ++ map (λ (s : Step). s.clause) ys) (take-length xs) ∙ sym (with_more cs xs)
 
 -- each step follows from what stands before it
 pub step_at : (vars : ℕ) (cs : List (List Literal)) (xs : List Step) (k : ℕ) (s : Step) → AreSteps vars cs xs → slice_get xs k ≡ Some s → IsStep vars (known_before cs xs k) s
@@ -53,4 +50,4 @@ covers_with cs xs needed h = subst (λ ds. Covers ds needed) (sym (with_more cs 
 
 -- what follows from clauses follows from more
 pub follows_with : (cs : List (List Literal)) (xs : List Step) (c : List Literal) → FollowsFrom cs c → FollowsFrom (with_steps cs xs) c
-follows_with cs xs c h = λ v model. h v (satisfies_left v cs (map (λ (s : Step). s.clause) xs) (subst (λ ds. Rattle.xs_lits.specs.Models.Satisfies v ds) (with_more cs xs) model))
+follows_with cs xs c h = λ v model. h v (Satisfies-front v cs (map (λ (s : Step). s.clause) xs) (subst (λ ds. Rattle.xs_lits.specs.Models.Satisfies v ds) (with_more cs xs) model))

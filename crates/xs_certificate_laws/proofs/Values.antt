@@ -1,33 +1,16 @@
 -- What clauses are under assignments that agree with a state.
-use Rattle.std.proofs.Common.{◌≡◌, ℕ, zero, suc, ◌+◌, ◌<◌, true, false, ◌||◌, ◌&&◌, List, [], ◌∷◌, ◌++◌, length, map, refl, sym, ◌∙◌, ap, arith}
+use Rattle.std.proofs.Common.{◌≡◌, ℕ, zero, suc, ◌+◌, ◌<◌, true, false, ◌||◌, List, [], ◌∷◌, length, map, refl, sym, ◌∙◌, ap, arith}
 use Rattle.std.specs.Prelude.{Contains, All, Any, slice_index_or}
 use Rattle.std.proofs.lemmas.List.Elements.{All-contains, All-head, All-tail}
 use Rattle.std.proofs.lemmas.List.Folds.{Any-from_list_any, list_any-from_Any}
 use Rattle.xs_lits.specs.Literal.{Literal}
-use Rattle.xs_lits.specs.Models.{TotalAssignment, literal_value, clause_value, all_true, Satisfies}
+use Rattle.xs_lits.specs.Models.{TotalAssignment, literal_value, clause_value, Satisfies}
 use Rattle.xs_lits.specs.States.{State, Agrees}
 use Rattle.std.proofs.lemmas.Bool.{and_from as both_true}
-use Rattle.xs_text_laws.proofs.Plain.{right_true}
-use Rattle.xs_text_laws.proofs.Named.{left_true}
 use Rattle.xs_lits.proofs.ModelLemmas.{All-from_Satisfies as each_true}
-
-pub satisfies_left : (v : TotalAssignment) (cs ds : List (List Literal)) → Satisfies v (cs ++ ds) → Satisfies v cs
-satisfies_left v [] ds h = refl
-satisfies_left v (c ∷ cs) ds h =
-    both_true (clause_value v c) (all_true v cs) (left_true (clause_value v c) (all_true v (cs ++ ds)) h) (satisfies_left v cs ds (right_true (clause_value v c) (all_true v (cs ++ ds)) h))
-
-pub satisfies_both : (v : TotalAssignment) (cs ds : List (List Literal)) → Satisfies v cs → Satisfies v ds → Satisfies v (cs ++ ds)
-satisfies_both v [] ds h k = k
-satisfies_both v (c ∷ cs) ds h k =
-    both_true (clause_value v c) (all_true v (cs ++ ds)) (left_true (clause_value v c) (all_true v cs) h) (satisfies_both v cs ds (right_true (clause_value v c) (all_true v cs) h) k)
 
 pub satisfies_one : (v : TotalAssignment) (c : List Literal) → clause_value v c ≡ true → Satisfies v (c ∷ [])
 satisfies_one v c e = both_true (clause_value v c) true e refl
-
-pub all_from_each : (v : TotalAssignment) (cs : List (List Literal)) → All (λ c. clause_value v c ≡ true) cs → Satisfies v cs
-all_from_each v [] h = refl
-all_from_each v (c ∷ cs) h =
-    both_true (clause_value v c) (all_true v cs) (All-head (λ c. clause_value v c ≡ true) c cs h) (all_from_each v cs (All-tail (λ c. clause_value v c ≡ true) c cs h))
 
 pub one_of_them : (v : TotalAssignment) (cs : List (List Literal)) (c : List Literal) → Satisfies v cs → Contains cs c → clause_value v c ≡ true
 one_of_them v cs c h m = All-contains (λ c. clause_value v c ≡ true) cs c (each_true v cs h) m

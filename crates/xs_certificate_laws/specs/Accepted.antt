@@ -35,6 +35,7 @@ pub data Rule : Type 0 where
   no_conflict : Rule
   not_covered : Rule
 
+-- the number by which a rule is told
 abbrev pub number_of : Rule → ℕ
 number_of other_numbers = 1
 number_of no_set = 2
@@ -53,6 +54,7 @@ abbrev pub highest_in : List Literal → ℕ
 highest_in [] = 1
 highest_in (l ∷ ls) = max l.var (highest_in ls)
 
+-- the greatest variable of clauses, and 1 where there is none
 abbrev pub highest : List (List Literal) → ℕ
 highest [] = 1
 highest (c ∷ clauses) = max (highest_in c) (highest clauses)

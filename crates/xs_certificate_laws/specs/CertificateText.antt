@@ -16,17 +16,21 @@ pub data Version : Type 0 where
 abbrev pub literal_text : Literal → Line
 literal_text l = if l.negated then codes "-" ++ decimal l.var else decimal l.var
 
+-- the first line, which names the version
 abbrev pub version_line : Version → Line
 version_line version_one = codes "xsap-certificate 1"
 version_line version_two = codes "xsap-certificate 2"
 
+-- the words of the size, which version 1 does not have
 abbrev pub size_words : Version → ℕ → List Line
 size_words version_one size = []
 size_words version_two size = codes "size" ∷ decimal size ∷ []
 
+-- the line of the numbers of bits and faults, and of the size
 abbrev pub numbers_line : Version → Certificate → Line
 numbers_line version c = spaced (codes "bits" ∷ decimal c.bits ∷ codes "faults" ∷ decimal c.faults ∷ size_words version c.size)
 
+-- the line of a set: its faults by their numbers
 abbrev pub set_line : List ℕ → Line
 set_line set = spaced (codes "set" ∷ map decimal set)
 
@@ -36,9 +40,11 @@ set_lines [] texts = []
 set_lines (set ∷ sets) [] = []
 set_lines (set ∷ sets) (text ∷ texts) = set_line set ∷ counted (codes "trace") (length text) ∷ (text ++ set_lines sets texts)
 
+-- the line of a clause: its literals
 abbrev pub clause_line : List Literal → Line
 clause_line clause = spaced (codes "clause" ∷ map literal_text clause)
 
+-- the line of a step: the literals of its clause, a colon, and its hints
 abbrev pub step_line : Step → Line
 step_line s = spaced (codes "step" ∷ (map literal_text s.clause ++ codes ":" ∷ map decimal s.hints))
 
@@ -46,26 +52,30 @@ step_line s = spaced (codes "step" ∷ (map literal_text s.clause ++ codes ":" �
 abbrev pub part_lines : Line → List Step → List Line
 part_lines word steps = counted word (length steps) ∷ map step_line steps
 
+-- all lines of a certificate
 abbrev pub lines_of : Version → Certificate → List Line
 lines_of version c =
     version_line version ∷ numbers_line version c ∷ counted (codes "sets") (length c.sets) ∷
     (set_lines c.sets c.traces ++ counted (codes "invariant") (length c.invariant) ∷
     (map clause_line c.invariant ++ (part_lines (codes "first") c.first ++ (part_lines (codes "next") c.next ++ (part_lines (codes "bad") c.bad ++ codes "end" ∷ [])))))
 
--- a number of bits or faults, a size or a fault is below 2^31, and every other number below 2^63
+-- a number of bits or faults, a size or a fault is below 2^31
 abbrev pub IsSmall : ℕ → Type 0
 IsSmall n = n < 2 ^ 31
 
+-- every other number is below 2^63
 abbrev pub IsCount : ℕ → Type 0
 IsCount n = n < 2 ^ 63
 
--- literals and hints are not 0
+-- a literal's variable is not 0
 abbrev pub IsLiteral : Literal → Type 0
 IsLiteral l = (1 ≤ l.var) × IsCount l.var
 
+-- a hint is such a number, and not 0
 abbrev pub IsHint : ℕ → Type 0
 IsHint n = (1 ≤ n) × IsCount n
 
+-- a step has literals and hints that can be written
 pub record IsWritableStep (s : Step) : Type 0 where
   pub clause : AllByRecursion IsLiteral s.clause
   pub hints : AllByRecursion IsHint s.hints

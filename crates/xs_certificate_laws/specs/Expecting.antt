@@ -22,28 +22,33 @@ pub data Expect : Type 0 where
   the_end : Expect
   no_line : Expect
 
--- where so many are left
+-- what comes next where so many sets are left
 abbrev pub sets_left : ℕ → Expect
 sets_left zero = clauses_count
 sets_left (suc k) = a_set_line k
 
+-- what comes next where so many lines of a trace's text are left, and so many sets after it
 abbrev pub text_left : ℕ → ℕ → Expect
 text_left zero k = sets_left k
 text_left (suc n) k = a_text_line n k
 
+-- what comes next where so many clauses are left
 abbrev pub clauses_left : ℕ → Expect
 clauses_left zero = steps_count part_first
 clauses_left (suc n) = a_clause_line n
 
+-- what comes next after a derivation
 abbrev pub after_part : Part → Expect
 after_part part_first = steps_count part_next
 after_part part_next = steps_count part_bad
 after_part part_bad = the_end
 
+-- what comes next where so many steps of a derivation are left
 abbrev pub steps_left : Part → ℕ → Expect
 steps_left p zero = after_part p
 steps_left p (suc n) = a_step_line p n
 
+-- the word that begins a derivation
 abbrev pub part_word : Part → Line
 part_word part_first = codes "first"
 part_word part_next = codes "next"
@@ -55,22 +60,27 @@ pub record Numbers : Type 0 where
   pub faults : ℕ
   pub size : ℕ
 
+-- the numbers of bits and faults and the size, where all are given
 abbrev pub numbers_from : Option ℕ → Option ℕ → Option ℕ → Option Numbers
 numbers_from (Some b) (Some f) (Some s) = Some (record { bits = b; faults = f; size = s })
 numbers_from _ _ _ = None
 
+-- the number below 2^31 that a word is
 abbrev pub small_in : Line → Option ℕ
 small_in w = number_in (2 ^ 31) w
 
+-- the size: in version 1 the number of faults, in version 2 the word after `size`
 abbrev pub size_of : Version → Option ℕ → List Line → Option ℕ
 size_of version_one faults [] = faults
 size_of version_two faults (z ∷ s ∷ []) = if same_bytes z (codes "size") then small_in s else None
 size_of _ faults words = None
 
+-- the numbers that the words after `bits` say
 abbrev pub numbers_of_words : Version → List Line → Option Numbers
 numbers_of_words version (b ∷ f ∷ n ∷ words) = if same_bytes f (codes "faults") then numbers_from (small_in b) (small_in n) (size_of version (small_in n) words) else None
 numbers_of_words version _ = None
 
+-- the numbers that the second line says
 abbrev pub numbers_in : Version → Line → Option Numbers
 numbers_in version line = after_word (codes "bits") (numbers_of_words version) (words_in line)
 
@@ -90,6 +100,7 @@ after (a_step_line p n) line = option_map (λ x. steps_left p n) (step_in line)
 after the_end line = if same_bytes line (codes "end") then Some no_line else None
 after no_line line = None
 
+-- what comes next after a line, where something was to come before it
 abbrev pub then_after : Option Expect → Line → Option Expect
 then_after None line = None
 then_after (Some e) line = after e line

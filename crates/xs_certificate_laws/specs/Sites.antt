@@ -13,6 +13,7 @@ set_sites k [] texts = []
 set_sites k (set ∷ sets) [] = []
 set_sites k (set ∷ sets) (text ∷ texts) = a_set k set ∷ a_trace k set text ∷ set_sites (suc k) sets texts
 
+-- each clause, by places from one on
 abbrev pub clause_sites : ℕ → List (List Literal) → List Site
 clause_sites i [] = []
 clause_sites i (clause ∷ clauses) = a_clause i clause ∷ clause_sites (suc i) clauses
@@ -22,6 +23,7 @@ abbrev pub step_sites : Part → ℕ → List Step → List Site
 step_sites part i [] = an_end part ∷ []
 step_sites part i (s ∷ steps) = a_step part i s ∷ step_sites part (suc i) steps
 
+-- all sites of a certificate, in the order of their lines
 abbrev pub sites_of : Certificate → List Site
 sites_of c =
     the_numbers ∷

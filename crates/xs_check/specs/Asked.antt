@@ -6,6 +6,7 @@ use Rattle.xs_cert.specs.Seen.{seen}
 use Rattle.xs_check.specs.Matter.{Matter, matter_of}
 use Rattle.xs_check.specs.declared.question.Question.{Question}
 
+-- what a question is about, as the definitions see it
 abbrev pub asked : Question → Matter
 asked q = matter_of q.full.now.model q.plain.now.model q.faults.now q.top.now (seen q.certificate.now)
 

@@ -39,6 +39,7 @@ module _ (a : Matter) (set : List ℕ) (trace : List (List Value)) where
 abbrev pub is_same : Bool → Bool → Bool
 is_same b c = if b then c else not c
 
+-- whether the modes that pass the test are those of the set, numbered from one on
 abbrev pub are_those_of : (Mode → Bool) → List ℕ → ℕ → List Mode → Bool
 are_those_of test set n [] = true
 are_those_of test set n (f ∷ fs) = is_same (test f) (has_number set n) && are_those_of test set (suc n) fs

@@ -1,4 +1,6 @@
 //! The clauses of an invariant: rule 8.
+//!
+//! The main function is [`judge_clauses`]: each clause is over the state bits now, and no literal stands in it with its opposite.
 
 ghost use Rattle.std.specs.Prelude.{◌≡◌, ◌↔◌, ◌+◌, ◌<◌, ◌≤◌, ◌^◌, IsTrue, All, length};
 ghost use Rattle.xs_lits.specs.Hints.{HasNoOpposites};

@@ -1,4 +1,6 @@
 //! All sites of a certificate judged in the order of their lines.
+//!
+//! The main function is [`check`]: the numbers first, then each set with its trace, the invariant's clauses, and the derivations.
 
 ghost use Rattle.std.specs.Prelude.{◌≡◌, ◌++◌, map, length, IfOk};
 ghost use Rattle.xs_tree.specs.ModelTree.{model_tree, flat_tree};

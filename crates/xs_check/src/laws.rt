@@ -1,4 +1,6 @@
 //! The law of which certificates can be checked, which the layer above cites.
+//!
+//! [`spelled_are_checkable`] runs nothing: its contract is the law.
 
 ghost use Rattle.xs_check.specs.Fit.{SpelledAreCheckable};
 

@@ -1,4 +1,6 @@
 //! At which lines of its text the parts of a certificate stand.
+//!
+//! The main function is [`invariant_line`], by the lines of the sets and of their traces before it.
 
 ghost use Rattle.std.specs.Prelude.{◌≡◌, ◌+◌, ◌<◌, ◌^◌, length};
 ghost use Rattle.xs_certificate_laws.specs.Certificate.{lines_of_sets, invariant_line};

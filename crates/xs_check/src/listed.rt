@@ -1,4 +1,6 @@
 //! The sets of a certificate, each with its trace.
+//!
+//! The main function is [`judge_sets`]: it asks `sets` about each set and `traces` about the trace that stands with it.
 
 ghost use Rattle.std.specs.Prelude.{◌≡◌, ◌+◌, ◌<◌, ◌^◌, [], ◌∷◌, IfOk, length, slice_get, slice_index_or, take, Some};
 ghost use Rattle.xs_tree.specs.ModelTree.{model_tree};

@@ -1,4 +1,7 @@
 //! The three derivations of a certificate, each from the clauses that it is given.
+//!
+//! The main function is [`judge_parts`]. A derivation starts from a list of the model and from the invariant, and is to show clauses
+//! of its own; its steps are judged in `steps`.
 
 ghost use Rattle.std.specs.Prelude.{◌≡◌, ◌++◌, IfOk, All};
 ghost use Rattle.xs_lits.specs.States.{IsOverBits};

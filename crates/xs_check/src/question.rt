@@ -1,4 +1,6 @@
 //! What is asked: a certificate with the model, the faults and the top event that it is about.
+//!
+//! [`Question`] is handed through all files of the checker, and [`Part`] names the three derivations.
 
 ghost use Rattle.std.specs.Prelude.{◌≡◌};
 ghost use Rattle.xs_certificate_laws.specs.Certificate.{steps_in};

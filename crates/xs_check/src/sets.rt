@@ -1,4 +1,6 @@
 //! The numbers of a certificate and its sets: rules 1 to 3.
+//!
+//! [`has_numbers`] judges the numbers of the certificate, and [`set_rule`] a set at its place in the list.
 
 ghost use Rattle.std.specs.Prelude.{◌≡◌, ◌↔◌, ◌<◌, ◌≤◌, ◌&&◌, IsTrue, Some, slice_get, length, All, take};
 ghost use Rattle.std.specs.List.{list_all};

@@ -1,4 +1,7 @@
 //! One derivation of a certificate: rules 8 to 11.
+//!
+//! The main function is [`judge_derivation`]: each step follows from the clauses before it by unit propagation along its hints, and at
+//! the end each clause that is to be shown is there.
 
 ghost use Rattle.std.specs.Prelude.{◌≡◌, ◌+◌, ◌<◌, ◌^◌, [], ◌∷◌, IfOk, length};
 ghost use Rattle.xs_certificate_laws.specs.Certificate.{an_end, head_line, steps_in};

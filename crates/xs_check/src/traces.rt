@@ -1,4 +1,7 @@
 //! The trace texts of a certificate: rules 4 to 7.
+//!
+//! The main function is [`trace_rule`]: it reads a text as moments, and asks of these that they are a trace which reaches the top event
+//! and has failed exactly the faults of its set.
 
 ghost use Rattle.std.specs.Prelude.{◌≡◌, ◌↔◌, ◌<◌, ◌++◌, [], Some, IsTrue, IfOk, length, map};
 ghost use Rattle.xs_text_laws.specs.Lines.{fed};

@@ -1,4 +1,6 @@
 //! Certificates that may list no set.
+//!
+//! The main function is [`check_unlisted`]: it judges as `judge` does, but that a listed set breaks a rule of its own.
 
 ghost use Rattle.std.specs.Prelude.{◌≡◌, Some, slice_get, map, IfOk};
 ghost use Rattle.xs_tree.specs.ModelTree.{model_tree, flat_tree};

@@ -10,6 +10,7 @@ use Rattle.xs_explain.specs.declared.refusal.Why.TheVariants as why
 use Rattle.xs_explain.specs.declared.refusal.Refusal.{Refusal}
 use Rattle.xs_explain.specs.declared.refusal.Refusal.TheVariants as refusal
 
+-- the word of what is refused
 abbrev pub subject_text : Subject → List ℕ
 subject_text subject.Model = codes "model"
 subject_text subject.Faults = codes "faults"
@@ -19,6 +20,7 @@ subject_text subject.Cert = codes "cert"
 subject_text subject.Causes = codes "causes"
 subject_text subject.Set = codes "set"
 
+-- the word of how far the work came
 abbrev pub part_text : Part → List ℕ
 part_text part.Absent = codes "absent"
 part_text part.Length = codes "length"
@@ -33,6 +35,7 @@ part_text part.Cause = codes "cause"
 part_text part.Count = codes "count"
 part_text part.Read = codes "read"
 
+-- the word of why a moment is not accepted
 abbrev pub why_text : Why → List ℕ
 why_text why.First = codes "first"
 why_text why.Step = codes "step"

@@ -1,5 +1,5 @@
-// Which tokens begin the items of a file, and which belong to them. A file whose items are counted was read as a whole, so that its
-// tokens spell a model, instructions, top events or causes; and then a few words tell where each item begins.
+//! Which tokens begin the items of a file, and which belong to them. A file whose items are counted was read as a whole, so that its
+//! tokens spell a model, instructions, top events or causes; and then a few words tell where each item begins.
 
 ghost use Rattle.std.specs.Prelude.{◌≡◌, ◌↔◌, codes};
 ghost use Rattle.xs_explain.specs.Items.{IsBetween, IsFirst};

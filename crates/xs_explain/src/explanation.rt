@@ -1,4 +1,7 @@
-// The text that explains a refusal.
+//! The text that explains a refusal.
+//!
+//! [`look_up`] finds what a refusal means and how its place is found, and [`Explanation::text`] makes the text, with the place as it
+//! stands in the refused file.
 
 ghost use Rattle.std.specs.Prelude.{◌≡◌, ◌++◌, IfOk, IfSome, List, ℕ, string_bytes};
 ghost use Rattle.xs_explain.specs.Spelled.{head_text, place_of};

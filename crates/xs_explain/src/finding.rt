@@ -1,5 +1,5 @@
-// How the place of a refusal is found, and what is shown of a file there. The table in docs/MANUAL.md on how a place is found has
-// the same sentences, word for word and in this order; `tools/meanings` compares the two.
+//! How the place of a refusal is found, and what is shown of a file there. The table in docs/MANUAL.md on how a place is found has
+//! the same sentences, word for word and in this order; `tools/meanings` compares the two.
 
 ghost use Rattle.std.specs.Prelude.{◌≡◌, ◌<◌};
 ghost use Rattle.xs_explain.specs.declared.finding.Shown.TheVariants as shown;

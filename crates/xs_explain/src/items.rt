@@ -1,4 +1,6 @@
-// Finds the item of a number in a file, by its tokens.
+//! Finds the item of a number in a file, by its tokens.
+//!
+//! The main function is [`find_item`]; which tokens begin an item is decided in `counting`.
 ghost use Rattle.std.specs.Prelude.{◌≡◌, ◌≤◌, length, slice_range};
 
 use crate::counting::{Counter, Role};

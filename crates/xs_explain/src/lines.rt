@@ -1,4 +1,6 @@
-// Where a byte of a file stands: its line and its column, and the line itself.
+//! Where a byte of a file stands: its line and its column, and the line itself.
+//!
+//! The main function is [`spot_of`].
 ghost use Rattle.std.specs.Prelude.{◌≡◌, ◌<◌, ◌≤◌, ◌+◌, ◌-◌, ◌↔◌, length, slice_range, IsNone, IfSome};
 ghost use Rattle.std.specs.Prelude.{count_by, reverse};
 ghost use Rattle.std.specs.List.{position};

@@ -1,5 +1,6 @@
-// What each refusal means: one sentence for each part and number. The tables of refusals in docs/MANUAL.md have the same sentences
-// under the same parts and numbers, word for word and in this order; `tools/meanings` compares the two.
+//! What each refusal means: one sentence for each part and number. The tables of refusals in docs/MANUAL.md have the same sentences
+//! under the same parts and numbers, word for word and in this order; `tools/meanings` compares the two. There is a function for each
+//! table; what several tables say stands once, in [`of_text`] and [`of_expressions`]. The main function is [`meaning`].
 
 use crate::refusal::{Part, Refusal, Subject, Why};
 
@@ -49,8 +50,8 @@ fn words(number: u32) -> Option<&'static str> {
     }
 }
 
-/// The model.
-fn model(part: Part, number: u32) -> Option<&'static str> {
+/// What is said of the text of every file of tokens, but for what its own table says.
+fn of_text(part: Part, number: u32) -> Option<&'static str> {
     match (part, number) {
         (Part::Absent, 1) => Some("there is no such file"),
         (Part::Length, 1) => Some("the file has more than 1,048,576 bytes"),
@@ -59,10 +60,29 @@ fn model(part: Part, number: u32) -> Option<&'static str> {
         (Part::Lex, 3) => Some("a number is too big"),
         (Part::Parse, 1) => Some("this token can't stand here; a `;` may be missing before it"),
         (Part::Parse, 2) => Some("the file ends too soon"),
+        (Part::Parse, 4) => Some("this word is left out of the language"),
+        _ => None,
+    }
+}
+
+/// What is said of the text and the expressions of an input, but for what its own table says.
+fn of_expressions(part: Part, number: u32) -> Option<&'static str> {
+    match (part, number) {
+        (Part::Kinds, 1) => Some("classes do not go together, or a number is needed"),
+        (Part::Kinds, 4) => Some("the divisor may be 0"),
+        (Part::Kinds, 5) => Some("a value may be beyond 32 bits"),
+        (Part::Kinds, 6) => Some("a range is empty"),
+        (Part::Kinds, 8) => Some("the last condition of a `case` is not the word TRUE"),
+        _ => of_text(part, number),
+    }
+}
+
+/// The model.
+fn model(part: Part, number: u32) -> Option<&'static str> {
+    match (part, number) {
         (Part::Parse, 3) => Some(
             "an expression is higher, or parentheses are nested deeper, than 1,000",
         ),
-        (Part::Parse, 4) => Some("this word is left out of the language"),
         (Part::Flat, 1) => Some("no module is `main`"),
         (Part::Flat, 2) => Some("`main` has parameters"),
         (Part::Flat, 3) => Some("a second module of the name"),
@@ -87,34 +107,21 @@ fn model(part: Part, number: u32) -> Option<&'static str> {
             "an input where it may not stand, also through definitions: in INIT, INVAR, `init` and `:=`, or under `next`",
         ),
         (Part::Flat, 14) => Some("more than 1,000 instances or 2,000 variables"),
-        (Part::Kinds, 1) => Some("classes do not go together, or a number is needed"),
         (Part::Kinds, 2) => Some("a truth value is needed"),
         (Part::Kinds, 3) => Some("a set where one value is needed"),
-        (Part::Kinds, 4) => Some("the divisor may be 0"),
-        (Part::Kinds, 5) => Some("a value may be beyond 32 bits"),
-        (Part::Kinds, 6) => Some("a range is empty"),
         (Part::Kinds, 7) => Some("members are symbols and numbers"),
-        (Part::Kinds, 8) => Some("the last condition of a `case` is not the word TRUE"),
         (Part::Kinds, 9) => Some(
             "the model costs more than 50,000 or has more than 4,096 state bits",
         ),
         (Part::Kinds, 10) => Some("a member stands twice"),
-        _ => None,
+        _ => of_expressions(part, number),
     }
 }
 
 /// The instructions.
 fn faults(part: Part, number: u32) -> Option<&'static str> {
     match (part, number) {
-        (Part::Absent, 1) => Some("there is no such file"),
-        (Part::Length, 1) => Some("the file has more than 1,048,576 bytes"),
-        (Part::Lex, 1) => Some("no token and no blank begins here"),
-        (Part::Lex, 2) => Some("a comment is not closed"),
-        (Part::Lex, 3) => Some("a number is too big"),
-        (Part::Parse, 1) => Some("this token can't stand here; a `;` may be missing before it"),
-        (Part::Parse, 2) => Some("the file ends too soon"),
         (Part::Parse, 3) => Some("a guard or `Follows` is too high or too deeply nested"),
-        (Part::Parse, 4) => Some("this word is left out of the language"),
         (Part::Weave, 1) => Some("no such module"),
         (Part::Weave, 2) => Some("the target is no declared name of the module"),
         (Part::Weave, 3) => Some("the target is no variable of a VAR section with a finite type"),
@@ -138,15 +145,11 @@ fn faults(part: Part, number: u32) -> Option<&'static str> {
         ),
         (Part::Kinds, 2) => Some("a truth value is needed, as of a guard"),
         (Part::Kinds, 3) => Some("a set where one value is needed, as behind `Follows`"),
-        (Part::Kinds, 4) => Some("the divisor may be 0"),
-        (Part::Kinds, 5) => Some("a value may be beyond 32 bits"),
-        (Part::Kinds, 6) => Some("a range is empty"),
-        (Part::Kinds, 8) => Some("the last condition of a `case` is not the word TRUE"),
         (Part::Flat, 14) => Some("the extension has too many instances or variables"),
         (Part::Kinds, 9) => Some("the extension costs too much or has too many state bits"),
         (Part::Mark, 1) => Some("a mode has no mark, and the verb is odds"),
         (Part::Mark, 2) => Some("a mark is no probability, and the verb is odds"),
-        _ => None,
+        _ => of_expressions(part, number),
     }
 }
 
@@ -157,28 +160,19 @@ fn top(part: Part, number: u32) -> Option<&'static str> {
         (Part::Length, 1) => Some(
             "the word has more than 65,536 bytes, or the file more than 1,048,576",
         ),
-        (Part::Lex, 1) => Some("no token and no blank begins here"),
-        (Part::Lex, 2) => Some("a comment is not closed"),
-        (Part::Lex, 3) => Some("a number is too big"),
         (Part::Parse, 1) => Some("this token can't stand here"),
         (Part::Parse, 2) => Some("the word or file ends too soon"),
         (Part::Parse, 3) => Some(
             "the event is higher, or its parentheses are nested deeper, than 1,000",
         ),
-        (Part::Parse, 4) => Some("this word is left out of the language"),
         (Part::Count, 1) => Some("the file has more than 64 top events"),
         (Part::Flat, 8) => Some("a name means nothing in the model"),
         (Part::Flat, 12) => Some("`next` stands in the event"),
         (Part::Flat, 13) => Some("the event reaches an input"),
-        (Part::Kinds, 1) => Some("classes do not go together, or a number is needed"),
         (Part::Kinds, 2) => Some("a truth value is needed, as of the event"),
         (Part::Kinds, 3) => Some("a set where one value is needed, as of the event"),
-        (Part::Kinds, 4) => Some("the divisor may be 0"),
-        (Part::Kinds, 5) => Some("a value may be beyond 32 bits"),
-        (Part::Kinds, 6) => Some("a range is empty"),
-        (Part::Kinds, 8) => Some("the last condition of a `case` is not the word TRUE"),
         (Part::Kinds, 9) => Some("the event costs more than 50,000"),
-        _ => None,
+        _ => of_expressions(part, number),
     }
 }
 
@@ -223,14 +217,6 @@ fn cert(part: Part, number: u32) -> Option<&'static str> {
 /// The file of causes, and the model that is staged for it.
 fn causes(part: Part, number: u32) -> Option<&'static str> {
     match (part, number) {
-        (Part::Absent, 1) => Some("there is no such file"),
-        (Part::Length, 1) => Some("the file has more than 1,048,576 bytes"),
-        (Part::Lex, 1) => Some("no token and no blank begins here"),
-        (Part::Lex, 2) => Some("a comment is not closed"),
-        (Part::Lex, 3) => Some("a number is too big"),
-        (Part::Parse, 1) => Some("this token can't stand here; a `;` may be missing before it"),
-        (Part::Parse, 2) => Some("the file ends too soon"),
-        (Part::Parse, 4) => Some("this word is left out of the language"),
         (Part::Cause, 1) => Some("a name is that of no fault"),
         (Part::Cause, 2) => Some("an earlier cause has this name"),
         (Part::Cause, 3) => Some("a fault is named twice"),
@@ -239,7 +225,7 @@ fn causes(part: Part, number: u32) -> Option<&'static str> {
         (Part::Cause, 6) => Some("more than 256 faults and causes"),
         (Part::Cause, 7) => Some("a name that is added is taken"),
         (Part::Kinds, 9) => Some("the staged model costs too much or has too many state bits"),
-        _ => None,
+        _ => of_text(part, number),
     }
 }
 

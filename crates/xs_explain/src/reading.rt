@@ -1,5 +1,5 @@
-// Reads the line of a refusal. What its words seem to say is spelled anew, and taken only where that is the line itself; so the
-// look at the words may be a rough one.
+//! Reads the line of a refusal. What its words seem to say is spelled anew, and taken only where that is the line itself; so the
+//! look at the words may be a rough one.
 ghost use Rattle.std.specs.Prelude.{◌≡◌, IfOk, IfSome};
 ghost use Rattle.xs_explain.specs.Spelled.{line_of};
 

@@ -1,5 +1,7 @@
-// Refusals, and the line that each is said by.
-ghost use Rattle.std.specs.Prelude.{◌≡◌, ◌++◌, IfOk, codes, string_bytes};
+//! Refusals, and the line that each is said by.
+//!
+//! [`Refusal`] has a case for each form of line, [`Refusal::line`] spells it, and `named` finds a subject, a part or a reason by its word.
+ghost use Rattle.std.specs.Prelude.{◌≡◌, IfOk, string_bytes};
 ghost use Rattle.xs_explain.specs.Spelled.{subject_text, part_text, why_text, words_line, file_line, moment_line, rule_line, line_of, place_of};
 
 use std::alloc::Global;

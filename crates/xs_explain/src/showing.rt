@@ -1,4 +1,6 @@
-// Lines and items of a file as they are shown, and the lines that are looked for by a number or by a moment.
+//! Lines and items of a file as they are shown, and the lines that are looked for by a number or by a moment.
+//!
+//! [`append_spot`] shows a line with a caret under the place; [`line_of_number`] and [`line_of_moment`] find lines.
 ghost use Rattle.std.specs.Prelude.{◌≡◌, ◌+◌, ◌<◌, length, IfSome, IsNone};
 ghost use Rattle.xs_explain.specs.Lines.{is_feed, feeds_before, HasNoLine};
 
@@ -79,6 +81,7 @@ fn line_start(bytes: &[u8], number: u64) -> Option<usize>
     None
 }
 
+/// Whether the byte is a line feed.
 fn is_feed(byte: u8) -> bool
     ensures { result ≡ is_feed byte }
 {

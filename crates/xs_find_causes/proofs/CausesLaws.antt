@@ -1,5 +1,5 @@
 -- From the parts of the work on common causes to what it comes to.
-use Rattle.std.proofs.Common.{◌≡◌, inl, inr, ℕ, List, Option, Some, None, Result, OnOk, OnErr, IfSome, map, length, ◌++◌, refl, sym, subst, ap, ◌∙◌}
+use Rattle.std.proofs.Common.{◌≡◌, inr, ℕ, List, Option, Some, None, Result, OnOk, OnErr, IfSome, length, ◌++◌, refl, sym, subst, ap, ◌∙◌}
 use Rattle.std.specs.Prelude.{codes}
 use Rattle.xs_desk.specs.declared.files.NamedFile.{NamedFile}
 use Rattle.xs_desk.specs.Desk.{said_more, SaysPrefix}
@@ -46,8 +46,9 @@ use Rattle.xs_reach_status.specs.declared.stop.Stop.TheVariants as stop
 use Rattle.xs_reach_status.specs.Statuses.{stop_of}
 use Rattle.xs_reach_status.specs.Finished.{ended_with}
 use Rattle.xs_find_causes.specs.declared.staged.StagedEvent.{StagedEvent}
-use Rattle.xs_find_causes.specs.declared.causes.FoundCauses.{FoundCauses}
-use Rattle.xs_find_causes.specs.Causes.{shared_fault, stop_at_causes, flat_in, modes_in, faults_in, extension_in, AreCausesOf, HoldsCauses, HasCauses, IsStagedOf, causes_in, staged_in, events_in, IsStagedEvent, CertifiesStaged, AcceptsStaged, HoldsStaged, AcceptsCauses, HasCheckedCauses, ChecksCausesInPart, LeavesCheck, IsCausesFinding, FindsCauses, HasFoundCauses, ConcludesInPart, FindsCausesInPart, LeavesCauses}
+use Rattle.xs_certificate_file.specs.declared.conclusion.Conclusion.{Conclusion}
+use Rattle.xs_certificate_file.specs.Conclusions.{ConcludesInPart}
+use Rattle.xs_find_causes.specs.Causes.{shared_fault, stop_at_causes, flat_in, modes_in, faults_in, extension_in, AreCausesOf, HoldsCauses, HasCauses, IsStagedOf, causes_in, staged_in, events_in, IsStagedEvent, CertifiesStaged, AcceptsStaged, HoldsStaged, AcceptsCauses, HasCheckedCauses, ChecksCausesInPart, LeavesCheck, IsCausesFinding, FindsCauses, HasFoundCauses, FindsCausesInPart, LeavesCauses}
 use Rattle.xs_find_causes.specs.Refusals.{broken_cause, stop_of_causes, IsRefusedCausesFile, KeepsLimits, BreaksStaged, whole_breaks, model_breaks, not_spelled, rule_broken, past_limit, RefusesBytes, RefusesCauses, causes_file, causes_bytes, RefusesStaged, at_model, at_faults, at_causes, at_top, BreaksLine, RefusesJudged, no_certificate, not_accepted, RefusesCauseCheck, at_staged, at_certificate}
 
 -- ---- why the work can't go on
@@ -188,12 +189,12 @@ module _ (model faults causes top : Text) where
 
   -- ---- a search
 
-  pub finds_causes : (told : Option (List NamedFile)) (depth : ℕ) (l : StagedEvent) (f : FoundCauses) → IfSome told (λ files. HoldsStaged files model faults causes top l) → IsCausesFinding l depth f →
+  pub finds_causes : (told : Option (List NamedFile)) (depth : ℕ) (l : StagedEvent) (f : Conclusion) → IfSome told (λ files. HoldsStaged files model faults causes top l) → IsCausesFinding l depth f →
       IfSome told (λ files. FindsCauses files model faults causes top depth f)
   finds_causes None depth l f holds finding = tt
   finds_causes (Some files) depth l f holds finding = record { loaded = l; holds = holds; finding = finding }
 
-  module _ (cert : Text) (depth : ℕ) (told : Option (List NamedFile)) (f : FoundCauses) (finds : IfSome told (λ files. FindsCauses files model faults causes top depth f)) where
+  module _ (cert : Text) (depth : ℕ) (told : Option (List NamedFile)) (f : Conclusion) (finds : IfSome told (λ files. FindsCauses files model faults causes top depth f)) where
     -- what was found, written and said
     pub has_found : (s : Status) (before after : Told) (said now : Said) → s ≡ ended_with (told_ending f.ending) → after ≡ told_maybe before cert f.cert → now ≡ said_more said f.report →
         IfSome told (λ files. HasFoundCauses files model faults causes top cert depth s before after said now)

@@ -5,7 +5,6 @@ use Rattle.xs_desk.specs.Desk.{said_more, SaysPrefix}
 use Rattle.xs_tree.specs.Tree.{Tree}
 use Rattle.xs_tree.specs.ProgramTree.{Text, Path, Formula, ProgramTree, program_tree}
 use Rattle.xs_tree.specs.Values.{Value}
-use Rattle.xs_tree.specs.Trace.{Each}
 use Rattle.xs_tree.specs.ModelTree.{model_tree, flat_tree}
 use Rattle.xs_flat_laws.specs.FaultModes.{mode_of}
 use Rattle.xs_tree.specs.Flat.{FlatLeaf, FlatModel}
@@ -16,7 +15,6 @@ use Rattle.xs_encode_laws.specs.FlatTraces.{ReachesTop, HasFailedNumber}
 use Rattle.xs_type_laws.specs.Models.{IsTyped}
 use Rattle.xs_weave.specs.Faults.{Fault}
 use Rattle.xs_extend.specs.WovenFaults.{fault_tree}
-use Rattle.xs_text_laws.specs.Laws.{IsNamed}
 use Rattle.xs_text_laws.specs.Given.{GivesTrace}
 use Rattle.xs_certificate_laws.specs.Certificate.{Certificate}
 use Rattle.xs_certificate_laws.specs.Accepted.{Rule, IsObjection}
@@ -28,13 +26,11 @@ use Rattle.xs_report.specs.Analysed.{told_analysis}
 use Rattle.xs_text_laws.specs.Analysis.{told_ending}
 use Rattle.xs_report.specs.FaultText.{name_of, faults_text}
 use Rattle.xs_type_laws.specs.Costs.{state_bits}
-use Rattle.xs_cause_laws.specs.Causes.{CommonCause, IsCauseOf}
+use Rattle.xs_cause_laws.specs.Causes.{CommonCause}
 use Rattle.xs_cause_laws.specs.CauseRules.{fault_path}
 use Rattle.xs_cause_laws.specs.Staged.{with_causes, events_of}
-use Rattle.xs_staging.specs.declared.cause.Cause.{Cause}
 use Rattle.xs_staging.specs.CauseOf.{cause_of}
 use Rattle.xs_causes_reader.specs.Read.{AreRead}
-use Rattle.xs_reach_laws.specs.Names.{AreApart}
 use Rattle.xs_reach_laws.specs.CausedLaws.{AreNamed}
 use Rattle.xs_reach_laws.specs.Shown.{CertifiesCauses, IsCausedAnalysis}
 use Rattle.xs_loading.specs.declared.loaded.LoadedCase.{LoadedCase}
@@ -43,10 +39,10 @@ use Rattle.xs_loading.specs.declared.wrong.Wrong.{Wrong}
 use Rattle.xs_loading.specs.declared.wrong.Wrong.TheVariants as wrong
 use Rattle.xs_loading.specs.Cases.{Case, extension_of, HoldsCase, IsTopWord}
 use Rattle.xs_loading.specs.Tasks.{HasAtMost}
-use Rattle.xs_loading.specs.Loaded.{case_of, IsLoaded}
+use Rattle.xs_loading.specs.Loaded.{IsLoaded}
 use Rattle.xs_loading.specs.LoadedEvents.{case_in, IsEvent}
 use Rattle.xs_case_search.specs.Searches.{IsSearched, HasCertificate}
-use Rattle.xs_loading.specs.Answered.{told_maybe, WritesPrefixMaybe, Told, Said}
+use Rattle.xs_loading.specs.Answered.{told_maybe, Told, Said}
 use Rattle.xs_certificate_file.specs.CertificateFiles.{HoldsCertificate}
 use Rattle.xs_reach_status.specs.declared.status.InputFault.{InputFault}
 use Rattle.xs_reach_status.specs.declared.status.Part.TheVariants as part
@@ -55,7 +51,8 @@ use Rattle.xs_reach_status.specs.declared.stop.Stop.{Stop}
 use Rattle.xs_reach_status.specs.declared.stop.Stop.TheVariants as stop
 use Rattle.xs_find_causes.specs.declared.staged.StagedCase.{StagedCase}
 use Rattle.xs_find_causes.specs.declared.staged.StagedEvent.{StagedEvent}
-use Rattle.xs_find_causes.specs.declared.causes.FoundCauses.{FoundCauses}
+use Rattle.xs_certificate_file.specs.declared.conclusion.Conclusion.{Conclusion}
+use Rattle.xs_certificate_file.specs.Conclusions.{ConcludesInPart}
 use Rattle.xs_reach_status.specs.declared.status.Status.{Status}
 use Rattle.xs_reach_status.specs.Finished.{ended_with}
 
@@ -72,13 +69,15 @@ stop_at_causes wrong.Memory = stop.Memory
 abbrev pub modes_in : LoadedCase → List Mode
 modes_in case = map mode_of case.limited.faults
 
+-- the flat model of what was loaded
 abbrev pub flat_in : LoadedCase → FlatModel
 flat_in case = model_tree case.limited.typed.model
 
--- its faults, and the woven program
+-- the faults of what was loaded
 abbrev pub faults_in : LoadedCase → List Fault
 faults_in case = map fault_tree case.limited.woven.faults
 
+-- the woven program of what was loaded
 abbrev pub extension_in : LoadedCase → ProgramTree
 extension_in case = program_tree case.limited.woven.program
 
@@ -122,13 +121,15 @@ pub record IsStagedCase (case : LoadedCase) (l : StagedCase) : Type 0 where
   pub staged : IsStagedOf case (map cause_of l.causes) (model_tree l.typed.model) (model_tree l.full.model) (map mode_of l.events)
   pub told : AreToldEvents (faults_in case) (map cause_of l.causes) l.events
 
--- the causes of what was loaded, its staged model, and the events of that
+-- the causes of what was loaded
 abbrev pub causes_in : StagedEvent → List CommonCause
 causes_in l = map cause_of l.causes
 
+-- the staged model of what was loaded
 abbrev pub staged_in : StagedEvent → FlatModel
 staged_in l = model_tree l.typed.model
 
+-- the events of the staged model
 abbrev pub events_in : StagedEvent → List Mode
 events_in l = map mode_of l.events
 
@@ -191,7 +192,7 @@ LeavesCheck model faults causes top cert before said now = (now ≡ said) ⊎ If
 
 -- What a search of the staged model found: an answer with as many events in a set as there are, which is right for caused traces; its
 -- report; and for a complete one a certificate.
-pub record IsCausesFinding (l : StagedEvent) (depth : ℕ) (f : FoundCauses) : Type 0 where
+pub record IsCausesFinding (l : StagedEvent) (depth : ℕ) (f : Conclusion) : Type 0 where
   pub event : Formula
   pub is_event : IsTopWord (case_in l.loaded).program l.word.now event
   pub analysis : Searched
@@ -204,27 +205,22 @@ pub record IsCausesFinding (l : StagedEvent) (depth : ℕ) (f : FoundCauses) : T
       (told_analysis l.typed.model.symbols analysis.sets analysis.traces analysis.first f.ending)
 
 -- The files hold a case and causes of it, and the word spells a top event: this was found of them.
-pub record FindsCauses (files : List NamedFile) (model faults causes top : Text) (depth : ℕ) (f : FoundCauses) : Type 0 where
+pub record FindsCauses (files : List NamedFile) (model faults causes top : Text) (depth : ℕ) (f : Conclusion) : Type 0 where
   pub loaded : StagedEvent
   pub holds : HoldsStaged files model faults causes top loaded
   pub finding : IsCausesFinding loaded depth f
 
 -- It was written and said.
 pub record HasFoundCauses (files : List NamedFile) (model faults causes top cert : Text) (depth : ℕ) (s : Status) (before after : Told) (said now : Said) : Type 0 where
-  pub found : FoundCauses
+  pub found : Conclusion
   pub finds : FindsCauses files model faults causes top depth found
   pub ends : s ≡ ended_with (told_ending found.ending)
   pub written : after ≡ told_maybe before cert found.cert
   pub reported : now ≡ said_more said found.report
 
 -- a part of the certificate was written and nothing said, or the whole, and a part of the report said
-abbrev pub ConcludesInPart : Text → FoundCauses → Told → Told → Said → Said → Type 0
-ConcludesInPart name f before after said now =
-    (WritesPrefixMaybe before after name f.cert × (now ≡ said)) ⊎ ((after ≡ told_maybe before name f.cert) × SaysPrefix said now f.report)
-
--- so it is of what was found
 pub record FindsCausesInPart (files : List NamedFile) (model faults causes top cert : Text) (depth : ℕ) (before after : Told) (said now : Said) : Type 0 where
-  pub found : FoundCauses
+  pub found : Conclusion
   pub finds : FindsCauses files model faults causes top depth found
   pub in_part : ConcludesInPart cert found before after said now
 

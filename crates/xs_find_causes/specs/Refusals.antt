@@ -88,6 +88,7 @@ pub data IsWrongCauses (faults : List Fault) (w : ProgramTree) (m : FlatModel) (
   rule_broken : (rule : CauseRule) (number : ℕ) → BreakRule faults w bytes rule number → told ≡ broken_cause rule number → IsWrongCauses faults w m fs bytes told
   past_limit : (cs : List CommonCause) (fault : SharedFault) → AreRead faults w bytes cs → BreaksStaged m fs cs fault → told ≡ shared_fault fault → IsWrongCauses faults w m fs bytes told
 
+-- the bytes of causes are refused for what is wrong with them
 abbrev pub RefusesBytes : List Fault → ProgramTree → FlatModel → List Mode → List ℕ → Refusal → Type 0
 RefusesBytes faults w m fs bytes r = (told : InputFault) × (r ≡ refusal.Causes told) × IsWrongCauses faults w m fs bytes told
 

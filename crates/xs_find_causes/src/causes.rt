@@ -1,21 +1,19 @@
-// Common causes: their minimal cut sets, and certificates of them.
-ghost use Rattle.std.specs.Prelude.{◌≡◌, ◌<◌, ◌≤◌, ◌^◌, ℕ, length, map, IfOk, OnOk, OnErr, IfSome, IsErrOf};
-ghost use Rattle.xs_desk.specs.Desk.{Rose, said_more};
-ghost use Rattle.xs_desk.specs.declared.desk.WriteStop.TheVariants as write_stop;
-ghost use Rattle.xs_tree.specs.ModelTree.{model_tree, flat_tree};
-ghost use Rattle.xs_flat_laws.specs.FaultModes.{mode_of};
-ghost use Rattle.xs_text_laws.specs.Analysis.{told_ending};
+//! Common causes: their minimal cut sets, and certificates of them.
+//!
+//! The main functions are [`find_causes`] and [`check_causes`], one for each verb. What both load stands in `staged`.
+ghost use Rattle.std.specs.Prelude.{◌≡◌, ◌<◌, ◌≤◌, ◌^◌, ℕ, length, map, IfOk, OnOk, IfSome, IsErrOf};
+ghost use Rattle.xs_desk.specs.Desk.{Rose};
+ghost use Rattle.xs_tree.specs.ModelTree.{flat_tree};
 ghost use Rattle.xs_cert.specs.Seen.{seen};
 ghost use Rattle.xs_check.specs.Fit.{IsCheckable};
 ghost use Rattle.xs_cuts.specs.declared.answer.End.TheVariants as ends;
 ghost use Rattle.xs_report.specs.Told.{told_trace};
 ghost use Rattle.xs_case_search.specs.Found.{IsCertificateFor};
 ghost use Rattle.xs_case_search.specs.Searches.{IsSearched, HasCertificate};
-ghost use Rattle.xs_loading.specs.Answered.{told_maybe, WritesPrefixMaybe};
 ghost use Rattle.xs_reach_status.specs.declared.status.Refusal.{Refusal};
 ghost use Rattle.xs_reach_status.specs.declared.stop.Stop.TheVariants as stop;
-ghost use Rattle.xs_reach_status.specs.Finished.{IsFinished, ended_with};
-ghost use Rattle.xs_find_causes.specs.Causes.{staged_in, events_in, IsStagedEvent, CertifiesStaged, AcceptsStaged, AcceptsCauses, HasCheckedCauses, LeavesCheck, IsCausesFinding, FindsCauses, HasFoundCauses, ConcludesInPart, LeavesCauses};
+ghost use Rattle.xs_reach_status.specs.Finished.{IsFinished};
+ghost use Rattle.xs_find_causes.specs.Causes.{staged_in, events_in, IsStagedEvent, CertifiesStaged, AcceptsStaged, AcceptsCauses, HasCheckedCauses, LeavesCheck, IsCausesFinding, FindsCauses, HasFoundCauses, LeavesCauses};
 ghost use Rattle.xs_find_causes.specs.Refusals.{RefusesStaged, BreaksLine, RefusesJudged, RefusesCauseCheck};
 
 use crate::staged::{StagedEvent, discard, load_staged};
@@ -24,26 +22,19 @@ use xs_adviser::Panel;
 use xs_case_search::{analyse, certify, told};
 use xs_cert::{Certificate, write};
 use xs_certificate_file::certificate::{accepted_report, line_stop, load_certificate};
+use xs_certificate_file::conclusion::{Conclusion, conclude};
 use xs_check::{Judged, check};
 use xs_cuts::answer::{Analysis, End};
-use xs_desk::{Desk, WriteStop, say_whole, write_whole};
+use xs_desk::{Desk, say_whole};
 use xs_reach_status::status::{Status, ended_as};
 use xs_reach_status::stop::Stop;
 use xs_reach_words::{CheckCauses, FindCauses};
 use xs_report::print_analysis;
 use xs_scope::items::number_of;
-use xs_value::{ByteList, Ending, OutOfMemory};
+use xs_value::{ByteList, OutOfMemory};
 
 /// A search gives each symbol a number below this. A model of three files within their limits has far fewer.
 const MOST_SYMBOLS: usize = 2_147_483_648;
-
-/// What a search found: the report, how it ended, and for a complete answer the text of a certificate.
-#[derive(Drop)]
-pub struct FoundCauses {
-    pub cert: Option<ByteList>,
-    pub report: ByteList,
-    pub ending: Ending,
-}
 
 /// Searches for the minimal cut sets of faults and common causes, writes a certificate of a complete answer, and says the
 /// report.
@@ -64,8 +55,8 @@ pub fn find_causes<D: Desk>(
     ensures quiet { D.quiet desk.old → D.quiet desk.new × (D.faults desk.new ≡ D.faults desk.old) }
 {
     let found = prepare_causes(alloc, desk, asked, panel)?;
-    let status = conclude(desk, asked.cert, &found)?;
-    Ok(status)
+    conclude(desk, asked.cert, &found)?;
+    Ok(ended_as(found.ending))
 }
 
 /// Judges a certificate of faults and common causes, and says that it is accepted.
@@ -82,7 +73,6 @@ pub fn check_causes<D: Desk>(
     ensures untouched { (r : Refusal) → IsErrOf result (stop.Refused r) → (D.files desk.new ≡ D.files desk.old) × (D.said desk.new ≡ D.said desk.old) }
     ensures left { LeavesCheck asked.now.model.now asked.now.faults.now asked.now.causes.now asked.now.top.now asked.now.cert.now (D.files desk.old) (D.said desk.old) (D.said desk.new) }
     ensures failed { IsErrOf result stop.Desk → Rose (D.faults desk.old) (D.faults desk.new) }
-
     ensures files { D.files desk.new ≡ D.files desk.old }
     ensures later { D.faults desk.old ≤ D.faults desk.new }
     ensures quiet { D.quiet desk.old → D.quiet desk.new × (D.faults desk.new ≡ D.faults desk.old) }
@@ -98,12 +88,11 @@ fn prepare_causes<D: Desk>(
     desk: &mut D,
     asked: &FindCauses,
     panel: &mut Panel,
-) -> Result<FoundCauses, Stop>
+) -> Result<Conclusion, Stop>
     ensures ok { IfOk result (λ found. IfSome (D.files desk.old) (λ files. FindsCauses files asked.now.model.now asked.now.faults.now asked.now.causes.now asked.now.top.now asked.now.depth found)) }
     ensures refused { (r : Refusal) → IsErrOf result (stop.Refused r) →
         IfSome (D.files desk.old) (λ files. RefusesStaged files asked.now.model.now asked.now.faults.now asked.now.causes.now asked.now.top.now r) }
     ensures failed { IsErrOf result stop.Desk → Rose (D.faults desk.old) (D.faults desk.new) }
-
     ensures files { D.files desk.new ≡ D.files desk.old }
     ensures said { D.said desk.new ≡ D.said desk.old }
     ensures later { D.faults desk.old ≤ D.faults desk.new }
@@ -135,7 +124,6 @@ fn prepare_check<D: Desk>(
     ensures refused { (r : Refusal) → IsErrOf result (stop.Refused r) →
         IfSome (D.files desk.old) (λ files. RefusesCauseCheck files asked.now.model.now asked.now.faults.now asked.now.causes.now asked.now.top.now asked.now.cert.now r) }
     ensures failed { IsErrOf result stop.Desk → Rose (D.faults desk.old) (D.faults desk.new) }
-
     ensures files { D.files desk.new ≡ D.files desk.old }
     ensures said { D.said desk.new ≡ D.said desk.old }
     ensures later { D.faults desk.old ≤ D.faults desk.new }
@@ -166,7 +154,6 @@ fn judge_file<D: Desk>(
     ensures refused { (r : Refusal) → IsErrOf result (stop.Refused r) →
         IfSome (D.files desk.old) (λ files. RefusesJudged files (staged_in staged.now) (events_in staged.now) (flat_tree staged.now.loaded.top) name.now r) }
     ensures failed { IsErrOf result stop.Desk → Rose (D.faults desk.old) (D.faults desk.new) }
-
     ensures files { D.files desk.new ≡ D.files desk.old }
     ensures said { D.said desk.new ≡ D.said desk.old }
     ensures later { D.faults desk.old ≤ D.faults desk.new }
@@ -209,7 +196,7 @@ fn search(
     staged: &StagedEvent,
     depth: u32,
     panel: &mut Panel,
-) -> Result<FoundCauses, OutOfMemory>
+) -> Result<Conclusion, OutOfMemory>
     requires { IsStagedEvent staged.now }
     ensures { IfOk result (IsCausesFinding staged.now depth) }
 {
@@ -227,7 +214,7 @@ fn search(
         a.size,
         ending,
     )?;
-    Ok(FoundCauses {
+    Ok(Conclusion {
         cert,
         report,
         ending,
@@ -306,34 +293,4 @@ fn certificate_text(
         panel,
     )?;
     write(alloc, &certificate)
-}
-
-/// Writes the certificate, where there is one, and says the report.
-fn conclude<D: Desk>(desk: &mut D, name: &str, found: &FoundCauses) -> Result<Status, WriteStop>
-    ensures ends { IfOk result (λ s. s ≡ ended_with (told_ending found.now.ending)) }
-    ensures finished { IfOk result IsFinished }
-    ensures ok { OnOk result ((D.files desk.new ≡ told_maybe (D.files desk.old) name.now found.now.cert) × (D.said desk.new ≡ said_more (D.said desk.old) found.now.report)) }
-    ensures part { ConcludesInPart name.now found.now (D.files desk.old) (D.files desk.new) (D.said desk.old) (D.said desk.new) }
-    ensures later { D.faults desk.old ≤ D.faults desk.new }
-    ensures failed { IsErrOf result write_stop.Failed → Rose (D.faults desk.old) (D.faults desk.new) }
-    ensures quiet { D.quiet desk.old → D.quiet desk.new × (D.faults desk.new ≡ D.faults desk.old) }
-{
-    write_maybe(desk, name, &found.cert)?;
-    say_whole(desk, found.report.as_slice())?;
-    Ok(ended_as(found.ending))
-}
-
-/// Writes a text where there is one.
-fn write_maybe<D: Desk>(desk: &mut D, name: &str, text: &Option<ByteList>) -> Result<(), WriteStop>
-    ensures ok { OnOk result (D.files desk.new ≡ told_maybe (D.files desk.old) name.now text.now) }
-    ensures err { OnErr result (WritesPrefixMaybe (D.files desk.old) (D.files desk.new) name.now text.now) }
-    ensures said { D.said desk.new ≡ D.said desk.old }
-    ensures later { D.faults desk.old ≤ D.faults desk.new }
-    ensures failed { IsErrOf result write_stop.Failed → Rose (D.faults desk.old) (D.faults desk.new) }
-    ensures quiet { D.quiet desk.old → D.quiet desk.new × (D.faults desk.new ≡ D.faults desk.old) }
-{
-    match text {
-        Some(text) => write_whole(desk, name, text.as_slice()),
-        None => Ok(()),
-    }
 }

@@ -1,4 +1,6 @@
-// A model, its extension with common causes, and a top event, as the work on them has them in memory.
+//! A model, its extension with common causes, and a top event, as the work on them has them in memory.
+//!
+//! The main function is [`load_staged`]: the model and the instructions are read first, then the causes, and the top event last.
 ghost use Rattle.std.specs.Prelude.{◌≡◌, ◌≤◌, List, ℕ, length, map, IfOk, IfErr, IfSome, IsErrOf};
 ghost use Rattle.xs_desk.specs.Desk.{Rose};
 ghost use Rattle.xs_staging.specs.CauseOf.{cause_of};
@@ -85,7 +87,6 @@ pub(crate) fn load_staged<'a, D: Desk>(
     ensures refused { (r : Refusal) → IsErrOf result (stop.Refused r) →
         IfSome (D.files desk.old) (λ files. RefusesStaged files model.now faults.now causes.now word.now r) }
     ensures failed { IsErrOf result stop.Desk → Rose (D.faults desk.old) (D.faults desk.new) }
-
     ensures files { D.files desk.new ≡ D.files desk.old }
     ensures said { D.said desk.new ≡ D.said desk.old }
     ensures later { D.faults desk.old ≤ D.faults desk.new }
@@ -132,7 +133,6 @@ fn load_causes_and_top<D: Desk>(
         IfSome (D.files desk.old) (λ files. HoldsCase files of_model of_faults (case_of (program_tree model.now.program) case.now)) →
         IfSome (D.files desk.old) (λ files. RefusesStaged files of_model of_faults name.now word.now r) }
     ensures failed { IsErrOf result stop.Desk → Rose (D.faults desk.old) (D.faults desk.new) }
-
     ensures files { D.files desk.new ≡ D.files desk.old }
     ensures said { D.said desk.new ≡ D.said desk.old }
     ensures later { D.faults desk.old ≤ D.faults desk.new }
@@ -164,7 +164,6 @@ fn load_causes<D: Desk>(
     ensures refused { (r : Refusal) → IsErrOf result (stop.Refused r) →
         IfSome (D.files desk.old) (λ files. RefusesCauses files name.now (faults_in case.now) (extension_in case.now) (flat_in case.now) (modes_in case.now) r) }
     ensures failed { IsErrOf result stop.Desk → Rose (D.faults desk.old) (D.faults desk.new) }
-
     ensures files { D.files desk.new ≡ D.files desk.old }
     ensures said { D.said desk.new ≡ D.said desk.old }
     ensures later { D.faults desk.old ≤ D.faults desk.new }
@@ -185,7 +184,6 @@ fn read_causes_file<D: Desk>(alloc: Global, desk: &mut D, name: &str) -> Result<
     ensures refused { (r : Refusal) → IsErrOf result (stop.Refused r) →
         (told : InputFault) × (r ≡ refusal.Causes told) × IfSome (D.files desk.old) (λ files. IsRefusedCausesFile files name.now told) }
     ensures failed { IsErrOf result stop.Desk → Rose (D.faults desk.old) (D.faults desk.new) }
-
     ensures files { D.files desk.new ≡ D.files desk.old }
     ensures said { D.said desk.new ≡ D.said desk.old }
     ensures later { D.faults desk.old ≤ D.faults desk.new }

@@ -1,4 +1,6 @@
-// Bounds on the probabilities of minimal cut sets, by the marks of modes.
+//! Bounds on the probabilities of minimal cut sets, by the marks of modes.
+//!
+//! The main function is [`find_odds`]. All files are read and judged in [`prepare_odds`], which also searches; then the report is said.
 ghost use Rattle.std.specs.Prelude.{◌≡◌, ◌≤◌, ◌<◌, ◌++◌, ◌⊎◌, OnErr, All, length, map, IfOk, IfSome, IsErrOf};
 ghost use Rattle.xs_desk.specs.Desk.{Rose};
 ghost use Rattle.xs_tree.specs.ProgramTree.{ProgramTree};

@@ -64,6 +64,7 @@ is_true_value (Some (Sym i)) = false
 abbrev pub relation_at : List Numbered → Relation
 relation_at v = told_relation (is_true_value (slice_get v (length v - 2))) (is_true_value (slice_get v (length v - 1)))
 
+-- the relation that the last moment of a trace tells
 abbrev pub relation_of_last : Option (List Numbered) → Relation
 relation_of_last None = Together
 relation_of_last (Some v) = relation_at v
@@ -84,10 +85,11 @@ abbrev pub IsToldBy : StagedCase → Option Relation → Type 0
 IsToldBy s None = Unit {0}
 IsToldBy s (Some r) = (trace : List (List Numbered)) × IsTraceAgainst s None trace × (relation_in trace ≡ r)
 
--- the model of a case staged for its two faults, and what speaks against a claim there
+-- the model of a case staged for its two faults
 abbrev pub staged_in : StagedCase → FlatModel
 staged_in s = staged_of (case_in s.loaded) s.asked.first s.asked.second
 
+-- what speaks against a claim of a staged case
 abbrev pub against_in : StagedCase → Option Relation → Tree FlatLeaf
 against_in s claim = against_of (case_in s.loaded) s.set.items s.asked.first s.asked.second (flat_tree s.loaded.top) claim
 
@@ -112,6 +114,7 @@ pub record Concludes (c : Case) (top : Text) (set : List ℕ) (first second dept
   pub certified : IsCertifiedOrder c set first second found.tree found.order found.ending k.cert
   pub reported : k.report ≡ order_report c first second found.order found.ending
 
+-- so it is of the two faults of a staged case
 abbrev pub IsConclusion : StagedCase → ℕ → Conclusion → Type 0
 IsConclusion s depth k = Concludes (case_in s.loaded) s.asked.top.now s.set.items s.asked.first s.asked.second depth k
 

@@ -97,10 +97,11 @@ module _ (c : Case) (event : Formula) (set : List ℕ) (one other : Fault) where
   IsOrder ending (claimed claim) = IsClaimed ending claim × IsShown claim
   IsOrder ending (either values others) = Differ values others
 
--- the model of a case staged for two faults, and what speaks against a claim there
+-- the model of a case staged for two faults
 abbrev pub staged_of : Case → ℕ → ℕ → FlatModel
 staged_of c first second = stage c.flat c.modes first second
 
+-- what speaks against a claim of two faults
 abbrev pub against_of : Case → List ℕ → ℕ → ℕ → Tree FlatLeaf → Option Relation → Tree FlatLeaf
 against_of c set first second tree claim = against (staged_of c first second) (length c.modes) tree set claim
 
@@ -129,12 +130,14 @@ IsClaimBegun c set first second tree _ _ cert before after = after ≡ before
 
 -- ---- the line that is said
 
+-- the word of a claim
 abbrev pub claim_word : Option Relation → Text
 claim_word None = codes "none"
 claim_word (Some Before) = codes "before"
 claim_word (Some After) = codes "after"
 claim_word (Some Together) = codes "together"
 
+-- the word of what was found
 abbrev pub order_word : Order → Text
 order_word (claimed claim) = claim_word claim
 order_word (either values others) = codes "either"
@@ -149,6 +152,7 @@ abbrev pub traces_text : FlatModel → Order → Text
 traces_text m (claimed claim) = []
 traces_text m (either values others) = codes "trace 1\n" ++ (trace_text m values ++ (codes "trace 2\n" ++ trace_text m others))
 
+-- the text that is said of two faults
 abbrev pub order_text : FlatModel → ℕ → ℕ → Order → Ending → ℕ → Text
 order_text m first second order ending bits =
     codes "pair " ++ (decimal first ++ (codes " " ++ (decimal second ++ (codes " " ++ (order_word order ++ (reach_text ending bits ++ traces_text m order))))))

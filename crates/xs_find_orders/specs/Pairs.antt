@@ -101,12 +101,14 @@ pub record IsStagedCase (s : StagedCase) : Type 0 where
 abbrev pub IsAsked : PairWords → Type 0
 IsAsked asked = IsAskedPair asked.set.now asked.first asked.second
 
+-- what was asked for of two faults is refused
 abbrev pub RefusesAsked : List NamedFile → PairWords → Refusal → Type 0
 RefusesAsked files asked r = RefusesPair files asked.model.now asked.faults.now asked.top.now (numbers_of asked.set.now) asked.first asked.second r
 
--- the words of an order, or of a check of one, ask for two numbers of a set
+-- the words of an order ask for two numbers of a set
 abbrev pub OrdersAskPairs : Type 0
 OrdersAskPairs = (words : List Text) (model faults top set : Text) (first second depth : ℕ) (cert : Text) → Means words (orders model faults top set first second depth cert) → IsAskedPair set first second
 
+-- the words of a check of an order ask for two numbers of a set
 abbrev pub ChecksAskPairs : Type 0
 ChecksAskPairs = (words : List Text) (model faults top set : Text) (first second : ℕ) (claim cert : Text) → Means words (check_orders model faults top set first second claim cert) → IsAskedPair set first second

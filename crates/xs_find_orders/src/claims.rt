@@ -1,4 +1,6 @@
-// Certificates of an order of two faults.
+//! Certificates of an order of two faults.
+//!
+//! The main function is [`check_orders`]. A certificate of an order lists no set: it shows that no trace speaks against the claim.
 ghost use Rattle.std.specs.Prelude.{◌≡◌, ◌≤◌, ◌⊎◌, [], codes, IfOk, IfSome, IsErrOf, OnOk};
 ghost use Rattle.xs_desk.specs.Desk.{Rose, SaysPrefix};
 ghost use Rattle.xs_tree.specs.ModelTree.{model_tree, flat_tree};

@@ -1,4 +1,7 @@
-// Orders of two faults of a set: what is found, written and said.
+//! Orders of two faults of a set: what is found, written and said.
+//!
+//! The main function is [`find_orders`]: a first search looks for a trace that reaches the top event with exactly the set, and a second
+//! for one that speaks against the order that the first shows.
 ghost use Rattle.std.specs.Prelude.{◌≡◌, ◌≤◌, ◌⊎◌, ℕ, Some, None, IfOk, IfSome, IsErrOf, OnOk, OnErr, length};
 ghost use Rattle.xs_desk.specs.Desk.{Rose, said_more};
 ghost use Rattle.xs_desk.specs.declared.desk.WriteStop.TheVariants as write_stop;

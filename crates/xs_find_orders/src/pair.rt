@@ -1,4 +1,6 @@
-// A set of faults with two of them, and the extension staged for these two.
+//! A set of faults with two of them, and the extension staged for these two.
+//!
+//! The main function is [`load_pair`]: it reads the files, refuses a set with a number that is none of a fault, and stages the model.
 ghost use Rattle.std.specs.Prelude.{◌≡◌, ◌≢◌, ◌≤◌, ◌↔◌, ℕ, false, IsTrue, length, map, IfOk, IfSome, IsErrOf, OnOk};
 ghost use Rattle.xs_desk.specs.Desk.{Rose};
 ghost use Rattle.xs_tree.specs.ModelTree.{model_tree};

@@ -1,4 +1,6 @@
-// The search of a staged model for a trace that speaks against a claim.
+//! The search of a staged model for a trace that speaks against a claim.
+//!
+//! The main function is [`search`].
 ghost use Rattle.std.specs.Prelude.{◌≡◌, [], ℕ, IsTrue, IfOk, length};
 ghost use Rattle.xs_tree.specs.ModelTree.{model_tree, flat_tree};
 ghost use Rattle.xs_cut_laws.specs.Searchable.{IsSearchable};

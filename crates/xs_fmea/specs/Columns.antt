@@ -10,6 +10,7 @@ use Rattle.xs_fmea.specs.declared.columns.Entry.TheVariants as entered
 use Rattle.xs_fmea.specs.declared.columns.Column.{Column}
 use Rattle.xs_fmea.specs.declared.columns.FmeaTable.{FmeaTable}
 
+-- the code's entry as the definitions see it
 abbrev pub told_entry : Entered → Entry
 told_entry entered.Yes = yes
 told_entry entered.No = no
@@ -33,14 +34,16 @@ pub record IsTableOf (faults size : ℕ) (columns : List Analysis) (t : FmeaTabl
   pub entries : map (map told_entry) t.entries ≡ map (λ row. map (entry_of row) columns) (rows_of size faults)
   pub endings : map told_ending t.endings ≡ map (λ a. a.ending) columns
 
--- the lines of a table: how each column ends, numbered from this one on
+-- the line of how the column of a number ends
 abbrev pub ending_line : ℕ → ℕ → Ending → Text
 ending_line bits n e = codes "top " ++ (decimal n ++ (codes " " ++ (ending_text e bits ++ codes "\n")))
 
+-- the lines of how columns end, numbered from this one on
 abbrev pub ending_lines : ℕ → ℕ → List Ending → Text
 ending_lines bits n [] = []
 ending_lines bits n (e ∷ es) = ending_line bits n e ++ ending_lines bits (suc n) es
 
+-- the line of a row with its entries
 abbrev pub entry_line : List ℕ → List Entry → Text
 entry_line row es = codes "row" ++ (numbers_text row ++ (codes " :" ++ (entries_text es ++ codes "\n")))
 
@@ -55,9 +58,11 @@ abbrev pub line_of : List ℕ → Option (List Entry) → Text
 line_of row None = []
 line_of row (Some es) = entry_line row es
 
+-- the line of a row, with the entries of a place
 abbrev pub line_at : List ℕ → List (List Entry) → ℕ → Text
 line_at row entries i = line_of row (slice_get entries i)
 
+-- the text of a table
 abbrev pub printed_table : Text → ℕ → FmeaTable → Text
 printed_table fault_lines bits t =
     fault_lines ++ (codes "tops " ++ (decimal (length t.endings) ++ (codes "\n" ++ (ending_lines bits 1 (map told_ending t.endings) ++ entry_lines t.rows (map (map told_entry) t.entries)))))

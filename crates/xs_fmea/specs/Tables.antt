@@ -22,24 +22,28 @@ absent_entry (bounded k) = unknown
 abbrev pub entry_of : List ℕ → Analysis → Entry
 entry_of row column = if list_any (λ set. is_contained set row) column.sets then yes else absent_entry column.ending
 
--- the rows of at most two faults: none, each fault, and each pair, in the order of sets
+-- the pairs of a fault with each of so many after it
 abbrev pub pairs_after : ℕ → ℕ → List (List ℕ)
 pairs_after i n = map (λ j. i ∷ j ∷ []) (range_with_len (suc i) n)
 
+-- each pair of so many faults, numbered from this one on
 abbrev pub pairs_from : ℕ → ℕ → List (List ℕ)
 pairs_from i zero = []
 pairs_from i (suc n) = pairs_after i n ++ pairs_from (suc i) n
 
+-- the rows of at most so many faults: none, each fault, and each pair, in the order of sets
 abbrev pub rows_of : ℕ → ℕ → List (List ℕ)
 rows_of zero faults = [] ∷ []
 rows_of (suc zero) faults = [] ∷ map (λ i. i ∷ []) (range_with_len 1 faults)
 rows_of (suc (suc more)) faults = [] ∷ map (λ i. i ∷ []) (range_with_len 1 faults) ++ pairs_from 1 faults
 
+-- the text of an entry, after a space
 abbrev pub entry_text : Entry → Text
 entry_text yes = codes " yes"
 entry_text no = codes " no"
 entry_text unknown = codes " unknown"
 
+-- the text of the entries of a row
 abbrev pub entries_text : List Entry → Text
 entries_text [] = []
 entries_text (e ∷ es) = entry_text e ++ entries_text es

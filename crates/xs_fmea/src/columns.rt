@@ -1,4 +1,6 @@
 //! Columns, which are answers of analyses, and the table that is made of them.
+//!
+//! [`Column`] is what a table takes, and [`FmeaTable`] what it is; both have copies of their own.
 
 ghost use Rattle.std.specs.Prelude.{◌≡◌, IfOk};
 

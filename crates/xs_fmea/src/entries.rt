@@ -1,4 +1,6 @@
 //! The table of columns: an entry for each row and column.
+//!
+//! The main function is [`table`]. An entry is `yes` where a listed set lies within its row; else the ending of the column decides.
 
 ghost use Rattle.std.specs.Prelude.{◌≡◌, ◌≤◌, ◌<◌, [], List, All, map, IfOk};
 ghost use Rattle.std.specs.List.{list_any};

@@ -1,4 +1,6 @@
 //! The text of a table. All text goes to the end of one buffer, so the work is linear in the text.
+//!
+//! The main function is [`print_table`].
 
 ghost use Rattle.std.specs.Prelude.{◌≡◌, ◌+◌, ◌++◌, ℕ, List, codes, map, length, IfOk, OnOk};
 ghost use Rattle.std.specs.Fmt.{decimal};

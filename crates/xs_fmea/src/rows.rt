@@ -1,4 +1,6 @@
 //! The rows of a table, made by counting: the empty set, each fault, and each pair.
+//!
+//! The main function is [`rows_of`].
 
 ghost use Rattle.std.specs.Prelude.{◌≡◌, ◌≤◌, ◌-◌, [], ◌∷◌, ◌++◌, suc, map, IfOk, OnOk};
 ghost use Rattle.std.specs.List.{range_with_len};

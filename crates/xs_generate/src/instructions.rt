@@ -1,4 +1,6 @@
 //! The instructions of generated models: each relay's output may be stuck at FALSE for good.
+//!
+//! The main function is [`generated_instructions`]; they are the same for every number and so many stages.
 
 ghost use Rattle.std.specs.Prelude.{◌≡◌, IfOk};
 ghost use Rattle.xs_fei.specs.Instructions.{mode_tree, slice_tree, extension_tree, instruction_tree};

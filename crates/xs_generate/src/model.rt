@@ -1,4 +1,6 @@
 //! The model and its top event: a module of relays, and `main` with the stages and the event.
+//!
+//! The main functions are [`generated_model`] and [`generated_top`]. The stages come from `rails`.
 
 ghost use Rattle.std.specs.Prelude.{◌≡◌, [], ◌∷◌, IfOk};
 ghost use Rattle.xs_tree.specs.Tree.{not_of};
@@ -74,6 +76,7 @@ fn two(alloc: Global, first: Section, second: Section) -> Result<SectionList, Ou
     Ok(sections)
 }
 
+/// The declaration of a relay's output.
 fn relay_variables(alloc: Global) -> Result<Section, OutOfMemory>
     ensures { IfOk result (λ made. section_tree made ≡ relay_variables_tree) }
 {
@@ -86,6 +89,7 @@ fn relay_variables(alloc: Global) -> Result<Section, OutOfMemory>
     Ok(Section::Var(list))
 }
 
+/// That a relay's output is always what feeds it.
 fn relay_assignments(alloc: Global) -> Result<Section, OutOfMemory>
     ensures { IfOk result (λ made. section_tree made ≡ relay_assignments_tree) }
 {
@@ -144,6 +148,7 @@ fn dead(
     Ok(Expr::Binary(Op::And, a, b))
 }
 
+/// That the last output of a rail is not TRUE.
 fn no_output(alloc: Global, last: Option<u32>) -> Result<Expr<Dotted>, OutOfMemory>
     ensures { IfOk result (λ made. tree_of made ≡ not_of (output_tree last)) }
 {

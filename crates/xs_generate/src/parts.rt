@@ -1,4 +1,6 @@
 //! Names, lists and formulas of which generated trees are made.
+//!
+//! [`output_of`] is what feeds a stage: the output of the last stage of its rail, or TRUE.
 
 ghost use Rattle.std.specs.Prelude.{◌≡◌, [], ◌∷◌, codes, IfOk};
 ghost use Rattle.xs_tree.specs.Tree.{leaf};

@@ -1,4 +1,6 @@
 //! The stages of a model: on which rail each is, and by which it is fed.
+//!
+//! The main function is [`rails`]. Each stage has the number that follows the one before it, and a bit of that chooses the rail.
 
 ghost use Rattle.std.specs.Prelude.{◌≡◌, ◌<◌, ◌^◌, true, false, IfOk, OnOk};
 ghost use Rattle.xs_tree.specs.ProgramTree.{decl_tree};
@@ -63,6 +65,7 @@ impl TwoRails {
         }
     }
 
+    /// Adds a stage to rail A.
     fn add_to_a(&mut self, alloc: Global, number: u32) -> Result<(), OutOfMemory>
         ensures { OnOk result (told_rails self.new ≡ with_stage true number (told_rails self.old)) }
     {
@@ -72,6 +75,7 @@ impl TwoRails {
         Ok(())
     }
 
+    /// Adds a stage to rail B.
     fn add_to_b(&mut self, alloc: Global, number: u32) -> Result<(), OutOfMemory>
         ensures { OnOk result (told_rails self.new ≡ with_stage false number (told_rails self.old)) }
     {

@@ -10,6 +10,7 @@ use Rattle.xs_odds.specs.declared.mode_marks.OddsFault.TheVariants as fault
 use Rattle.xs_odds.specs.Units.{units_of}
 use Rattle.xs_odds.specs.Marks.{IsFirstMarkFault}
 
+-- a fault that is want of memory
 abbrev pub IsWant : OddsFault → Type 0
 IsWant e = e ≡ fault.OutOfMemory
 
@@ -35,10 +36,12 @@ IsMarkFault i (fault.NoMark n) = IsFirstMarkFault i wrong.NoMark n
 IsMarkFault i (fault.BadMark n) = IsFirstMarkFault i wrong.BadMark n
 IsMarkFault i fault.OutOfMemory = Unit {0}
 
+-- the units of a mark, where there is one
 abbrev pub mark_units : Option (List Text) → Option ℕ
 mark_units None = None
 mark_units (Some mark) = units_of mark
 
+-- the first of two numbers that is there
 abbrev pub or_else : Option ℕ → Option ℕ → Option ℕ
 or_else (Some n) other = Some n
 or_else None other = other
@@ -48,6 +51,7 @@ abbrev pub mode_units : Text → List ModeTree → Option ℕ
 mode_units mode [] = None
 mode_units mode (m ∷ ms) = if same_text m.name mode then mark_units m.mark else mode_units mode ms
 
+-- the units of a mode in a slice, where it has the name
 abbrev pub units_in_slice : Text → Text → SliceTree → Option ℕ
 units_in_slice slice mode s = if same_text s.name slice then mode_units mode s.modes else None
 
@@ -56,6 +60,7 @@ abbrev pub slice_units : Text → Text → List SliceTree → Option ℕ
 slice_units slice mode [] = None
 slice_units slice mode (s ∷ ss) = or_else (units_in_slice slice mode s) (slice_units slice mode ss)
 
+-- in the first extension that gives them
 abbrev pub extension_units : Text → Text → List ExtensionTree → Option ℕ
 extension_units slice mode [] = None
 extension_units slice mode (x ∷ xs) = or_else (slice_units slice mode x.slices) (extension_units slice mode xs)
@@ -65,5 +70,6 @@ abbrev pub or_zero : Option ℕ → ℕ
 or_zero None = 0
 or_zero (Some n) = n
 
+-- the units of a mode of a slice, by the names of both
 abbrev pub units_at : InstructionTree → Text → Text → ℕ
 units_at i slice mode = or_zero (extension_units slice mode i.extensions)

@@ -1,4 +1,7 @@
 //! The marks of modes as probabilities in units, and the first mode whose mark is none.
+//!
+//! The main function is [`marks`]: it judges every mode of the instructions in the order of their items, and then gives each fault the
+//! units of its mode, which it finds by the names of slice and mode.
 
 ghost use Rattle.std.specs.Prelude.{◌≡◌, ◌^◌, ◌<◌, ◌≤◌, ◌⊎◌, ◌++◌, flat_map, map, None, IfOk, IfErr, OnOk};
 ghost use Rattle.xs_tree.specs.ProgramTree.{ProgramTree};
@@ -98,6 +101,7 @@ fn wrong_at(fault: MarkFault, number: usize) -> OddsFault
     }
 }
 
+/// The fault of the item of a number.
 fn fault_at(fault: MarkFault, item: u32) -> OddsFault
     ensures { result ≡ fault_at_item fault item }
 {
@@ -119,6 +123,7 @@ fn item_marks(alloc: Global, i: &Instructions) -> Result<Items<Option<MarkFault>
     Ok(marks)
 }
 
+/// Appends what is wrong at the items of an extension: nothing at its own, and then those of its slices.
 #[tactic(auto, using(crate::proofs::MarkLemmas::list_rules))]
 fn add_extension(
     extension: &Extension,
@@ -130,6 +135,7 @@ fn add_extension(
     add_slices(extension.slices.as_slice(), marks)
 }
 
+/// Appends what is wrong at the items of slices.
 #[tactic(auto, using(crate::proofs::MarkLemmas::list_rules))]
 fn add_slices(slices: &[Slice], marks: &mut Items<Option<MarkFault>>) -> Result<(), OutOfMemory>
     ensures { OnOk result (marks.new ≡ marks.old ++ flat_map slice_marks (map slice_tree slices.now)) }
@@ -140,6 +146,7 @@ fn add_slices(slices: &[Slice], marks: &mut Items<Option<MarkFault>>) -> Result<
     Ok(())
 }
 
+/// Appends what is wrong at the items of a slice: nothing at its own, and then those of its modes.
 #[tactic(auto, using(crate::proofs::MarkLemmas::list_rules))]
 fn add_slice(slice: &Slice, marks: &mut Items<Option<MarkFault>>) -> Result<(), OutOfMemory>
     ensures { OnOk result (marks.new ≡ marks.old ++ slice_marks (slice_tree slice.now)) }
@@ -148,6 +155,7 @@ fn add_slice(slice: &Slice, marks: &mut Items<Option<MarkFault>>) -> Result<(), 
     add_modes(slice.modes.as_slice(), marks)
 }
 
+/// Appends what is wrong with the mark of each mode.
 #[tactic(auto, using(crate::proofs::MarkLemmas::list_rules))]
 fn add_modes(modes: &[ModeRule], marks: &mut Items<Option<MarkFault>>) -> Result<(), OutOfMemory>
     ensures { OnOk result (marks.new ≡ marks.old ++ map (λ m. fault_of_mark m.mark) (map mode_tree modes.now)) }
@@ -168,6 +176,7 @@ fn fault_of(mark: &Option<MarkList>) -> Option<MarkFault>
     }
 }
 
+/// What is wrong with a mark of these units.
 fn fault_of_units(units: Option<u64>) -> Option<MarkFault>
     ensures { result ≡ fault_of_number units }
 {
@@ -204,6 +213,7 @@ fn units_or_zero(i: &Instructions, slice: &Name, mode: &Name) -> u64
     extension_units(i.extensions.as_slice(), slice, mode).unwrap_or(0)
 }
 
+/// The units of a mode of a slice in the first extension that has units for it.
 fn extension_units(extensions: &[Extension], slice: &Name, mode: &Name) -> Option<u64>
     ensures units { result ≡ units_of_extensions slice.now mode.now (map extension_tree extensions.now) }
 {
@@ -216,6 +226,7 @@ fn extension_units(extensions: &[Extension], slice: &Name, mode: &Name) -> Optio
     None
 }
 
+/// The units of a mode in the first slice of the name that has units for it.
 fn slice_units(slices: &[Slice], slice: &Name, mode: &Name) -> Option<u64>
     ensures { result ≡ units_of_slices slice.now mode.now (map slice_tree slices.now) }
 {
@@ -251,6 +262,7 @@ fn mode_units(modes: &[ModeRule], mode: &Name) -> Option<u64>
     None
 }
 
+/// The units of a mark, where there is one.
 fn units_of_some(mark: &Option<MarkList>) -> Option<u64>
     ensures { result ≡ mark_units mark.now }
 {
@@ -260,6 +272,7 @@ fn units_of_some(mark: &Option<MarkList>) -> Option<u64>
     }
 }
 
+/// Whether two names have the same text.
 fn is_named(name: &Name, other: &Name) -> bool
     ensures { result ≡ same_text name.now other.now }
 {

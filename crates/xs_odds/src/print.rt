@@ -1,4 +1,6 @@
 //! The text of bounds and of their sum.
+//!
+//! The main function is [`print_odds`].
 
 ghost use Rattle.std.specs.Prelude.{◌≡◌, ◌+◌, ◌-◌, ◌++◌, ◌<◌, ◌≤◌, ◌^◌, codes, decimal, length, map, All, IfOk, OnOk};
 ghost use Rattle.xs_odds.specs.Bounds.{bound_of, bound_sum, slack_of, units_in};

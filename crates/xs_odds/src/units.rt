@@ -1,4 +1,6 @@
 //! Marks that are probabilities, in units of 10^-18.
+//!
+//! The main function is [`units_of_mark`]; what is no decimal number from 0 to 1 has no units.
 
 ghost use Rattle.std.specs.Prelude.{◌≡◌, ◌↔◌, ◌<◌, ◌≤◌, ◌-◌, ◌*◌, ◌^◌, true, length, codes, Some, None, [], ◌∷◌, IfSome, IsTrue};
 ghost use Rattle.std.specs.List.{list_all};
@@ -34,24 +36,28 @@ fn with_digits(whole: &[u8], point: &[u8], digits: &[u8]) -> Option<u64>
     }
 }
 
+/// Whether both texts have the same bytes.
 fn is_equal(text: &[u8], other: &[u8]) -> bool
     ensures { IsTrue result ↔ (text.now ≡ other.now) }
 {
     text == other
 }
 
+/// Whether the text is `.`.
 fn is_point(text: &[u8]) -> bool
     ensures { result ≡ same_text text.now (codes ".") }
 {
     is_equal(text, b".")
 }
 
+/// Whether the text is `0`.
 fn is_zero(text: &[u8]) -> bool
     ensures { result ≡ same_text text.now (codes "0") }
 {
     is_equal(text, b"0")
 }
 
+/// Whether the text is `1`.
 fn is_one(text: &[u8]) -> bool
     ensures { result ≡ same_text text.now (codes "1") }
 {
@@ -78,12 +84,14 @@ fn is_fraction(text: &[u8]) -> bool
     are_digits(text) && (1 <= text.len() && text.len() <= 18)
 }
 
+/// Whether each byte is a digit.
 fn are_digits(text: &[u8]) -> bool
     ensures { result ≡ list_all is_digit_byte text.now }
 {
     text.iter().all(|byte| is_digit(*byte))
 }
 
+/// Whether the byte is one of `0` to `9`.
 fn is_digit(byte: u8) -> bool
     ensures { result ≡ is_digit_byte byte }
 {

@@ -1,5 +1,7 @@
 //! A model with the history of its faults and two more booleans, of which each tells that one of two faults came before the
 //! other.
+//!
+//! The main function is [`stage`].
 
 ghost use Rattle.std.specs.Prelude.{◌≡◌, ◌≢◌, ◌^◌, ◌<◌, ◌≤◌, length, map, IfOk, IsOk, OnOk};
 ghost use Rattle.xs_tree.specs.Tree.{binary, not_of, next_of};

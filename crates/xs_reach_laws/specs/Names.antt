@@ -8,10 +8,11 @@ use Rattle.xs_flat_laws.specs.History.{Mode}
 use Rattle.xs_cause_laws.specs.Causes.{CommonCause}
 use Rattle.xs_cause_laws.specs.Staged.{age_name, event_name, quiet_name, now_name, hit_name, own_name, none_name, self_name}
 
--- no text stands twice, by places and one after another
+-- no text stands twice, by places
 abbrev pub AreApart : List Text → Type 0
 AreApart xs = (i j : ℕ) (x : Text) → slice_get xs i ≡ Some x → slice_get xs j ≡ Some x → i ≡ j
 
+-- no text stands twice, one after another
 abbrev pub AreDistinct : List Text → Type 0
 AreDistinct [] = Unit {0}
 AreDistinct (x ∷ xs) = Each (λ y. x ≢ y) xs × AreDistinct xs
@@ -21,11 +22,12 @@ pub record IsNewName (m : FlatModel) (x : Text) : Type 0 where
   pub no_variable : (i : ℕ) (v : FlatVariable) → slice_get m.variables i ≡ Some v → v.place ≡ [] → v.name ≡ x → ⊥
   pub no_symbol : (i : ℕ) → slice_get m.symbols i ≡ Some x → ⊥
 
--- the names of a cause's hits, which go on from a number, and all names that it adds
+-- the names of a cause's hits, which go on from a number
 abbrev pub hit_names_of : Text → ℕ → List ℕ → List Text
 hit_names_of x k [] = []
 hit_names_of x k (i ∷ is) = hit_name x k ∷ hit_names_of x (suc k) is
 
+-- all names that a cause adds
 abbrev pub names_added_by : CommonCause → List Text
 names_added_by c = age_name c.name ∷ event_name c.name ∷ quiet_name c.name ∷ now_name c.name ∷ hit_names_of c.name 1 c.strikes
 

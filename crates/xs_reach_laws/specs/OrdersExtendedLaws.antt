@@ -54,6 +54,7 @@ OrdersAreSaid =
     (set : List ℕ) (first second : ℕ) (f g : Mode) (one other : Fault) → IsAsked faults m fs flat_top set first second f g one other → (class : ℕ → Bool) (r : Relation) →
     NoneAgainst m fs first second flat_top set (Some r) class → (trace : List Moment) → IsSuch p i faults top set trace → IsTrue (class (length trace)) → HasRelation Moment r (FaultStands one) (FaultStands other) trace
 
+-- where no staged trace reaches the top event with exactly the set, no such extended trace does
 abbrev pub NoneIsSaid : Type 0
 NoneIsSaid =
     (p : ProgramTree) (i : InstructionTree) (faults : List Fault) (top : Formula) (m : FlatModel) (fs : List Mode) (flat_top : Tree FlatLeaf) → IsExtensionModel p i faults top m fs flat_top →

@@ -12,6 +12,7 @@ use Rattle.xs_loading.specs.Reports.{name_text}
 use Rattle.xs_loading.specs.Cases.{Case, extension_of}
 use Rattle.xs_loading.specs.Answered.{bits_of}
 
+-- the name of a fault, where there is one
 abbrev pub name_or_none : Option Fault → Text
 name_or_none None = []
 name_or_none (Some f) = name_text f
@@ -29,11 +30,12 @@ replay_text c trace = codes "reaches\nfailed" ++ (failed_names c.faults (failed_
 abbrev pub check_text : Case → ℕ → Text
 check_text c size = codes "accepted\n" ++ size_line size (length c.faults)
 
--- the summary of a generated case: its stages, variables, faults and state bits, how many sets there are, and how the search ended
+-- how the search of a generated case ended
 abbrev pub summary_ending : Ending → Text
 summary_ending complete = codes "complete\n"
 summary_ending (bounded k) = codes "bounded " ++ (decimal k ++ codes "\n")
 
+-- the summary of a generated case: its stages, variables, faults and state bits, how many sets there are, and how the search ended
 abbrev pub summary_text : Case → ℕ → Analysis → Text
 summary_text c stages a =
     codes "stages " ++ (decimal stages

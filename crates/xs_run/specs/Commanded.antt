@@ -4,6 +4,7 @@ use Rattle.xs_words.specs.Commands.{Command, extend, replay, analyse, check, fme
 use Rattle.xs_run.specs.declared.asked.Asked.{Asked}
 use Rattle.xs_run.specs.declared.asked.Asked.TheVariants as ask
 
+-- the command that the words of each verb make
 abbrev pub command_of : Asked → Command
 command_of (ask.Extend e) = extend e.model.now e.faults.now e.extended.now
 command_of (ask.Replay r) = replay r.model.now r.faults.now r.trace.now r.top.now

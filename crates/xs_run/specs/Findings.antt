@@ -16,10 +16,11 @@ use Rattle.xs_case_search.specs.Found.{size_for, IsFound}
 use Rattle.xs_run.specs.Analyses.{Certifies, report_of}
 use Rattle.xs_loading.specs.LoadedEvents.{case_in}
 
--- the case that is analysed, and the size with which it is
+-- the case that is analysed
 abbrev pub analysed_case : Analysing → Case
 analysed_case a = case_in a.loaded
 
+-- the size with which it is analysed
 abbrev pub analysed_size : Analysing → ℕ
 analysed_size a = size_for a.size (length (analysed_case a).faults)
 

@@ -90,6 +90,7 @@ summary_line stages variables faults bits sets ending =
     ++ (codes " sets " ++ (decimal sets
     ++ (codes " " ++ summary_ending ending))))))))))
 
+-- the case of a generated model
 abbrev pub made_case : Making → Case
 made_case m = case_in m.made.loaded
 

@@ -50,10 +50,11 @@ pub record IsFitTrace (m : FlatModel) (trace : List (List Numbered)) : Type 0 wh
   pub few : length trace < 2 ^ 32
   pub lawful : Each (IsLawful m) trace
 
--- why the work can't go on where this is wrong with the text of a trace
+-- the end of the work where this is wrong with the text of a trace, at a place
 abbrev pub read_wrong : ℕ → ℕ → Stop
 read_wrong number place = stop.Refused (refusal.NotAccepted (objection.Trace (record { part = part.Read; number = number; place = place })))
 
+-- why the work can't go on where this is wrong with the text of a trace
 abbrev pub stop_at_text : read.TraceFault → Stop
 stop_at_text (fault.BadLine n) = read_wrong 1 n
 stop_at_text (fault.UnknownName n) = read_wrong 2 n

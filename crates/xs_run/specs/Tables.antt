@@ -88,6 +88,7 @@ abbrev pub after_column : Ending → Status → Status
 after_column complete rest = rest
 after_column (bounded k) rest = status.Bounded k
 
+-- the status after the columns' endings: bounded where one of them is
 abbrev pub ended_with_all : List Ending → Status
 ended_with_all [] = status.Done
 ended_with_all (e ∷ es) = after_column e (ended_with_all es)
@@ -162,10 +163,11 @@ pub record AreColumns (c : Case) (depth : ℕ) (events : List Formula) (columns 
   pub told : AreTold analyses columns
   pub named : All (NamesFaults (length c.faults)) columns
 
--- the case and the events of a table
+-- the case of a table
 abbrev pub tabulated_case : Tabulating → Case
 tabulated_case a = case_of (program_tree a.model.program) a.case
 
+-- the top events of a table
 abbrev pub tabulated_events : Tabulating → List Formula
 tabulated_events a = map tree_of a.tops.written
 

@@ -1,4 +1,6 @@
-// An analysis: what is written and said.
+//! An analysis: what is written and said.
+//!
+//! The main function is [`deliver_analysis`]: the extension is written first, and the report said last.
 ghost use Rattle.std.specs.Prelude.{◌≡◌, ◌≤◌, IfOk, OnOk, OnErr, IsErrOf};
 ghost use Rattle.xs_desk.specs.Desk.{Rose, said_more};
 ghost use Rattle.xs_desk.specs.declared.desk.WriteStop.TheVariants as write_stop;

@@ -1,4 +1,4 @@
-// What the words of a command line ask for.
+//! What the words of a command line ask for.
 ghost use Rattle.std.specs.Prelude.{◌≡◌, IfOk, IfErr, map};
 ghost use Rattle.xs_words.specs.Meaning.{Means as WordsMean};
 ghost use Rattle.xs_words.specs.Seen.{seen};

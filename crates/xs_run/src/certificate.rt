@@ -1,4 +1,6 @@
-// A certificate judged over the extension.
+//! A certificate judged over the extension.
+//!
+//! The main function is [`check_file`]: `xs_certificate_file` reads the certificate, and `xs_check` judges it.
 ghost use Rattle.std.specs.Prelude.{◌≡◌, ◌≤◌, IfOk, OnOk, IfSome, IsErrOf};
 ghost use Rattle.xs_desk.specs.Desk.{Rose};
 ghost use Rattle.xs_tree.specs.ModelTree.{flat_tree};

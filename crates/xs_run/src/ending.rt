@@ -1,4 +1,6 @@
-// How a run ends: what stops it, and the status of its last work.
+//! How a run ends: what stops it, and the status of its last work.
+//!
+//! [`stopped`] ends a run that can't go on and says the line of a refusal; [`finished`] and [`ended`] end one that wrote and said.
 ghost use Rattle.std.specs.Prelude.{◌≡◌, ◌≤◌, ◌⊎◌, OnOk, IsErrOf};
 ghost use Rattle.xs_desk.specs.Desk.{Rose, told_with, WritesPrefix, said_more, SaysPrefix};
 ghost use Rattle.xs_desk.specs.declared.desk.WriteStop.TheVariants as write_stop;

@@ -1,7 +1,7 @@
-// A generated case: its files, and the summary of its analysis.
-//
-// The case is read back from the two texts that are written, so that all that is known of a case from files is known of it, and
-// the files hold it. The reading refuses none of them, so that it ends for want of memory alone.
+//! A generated case: its files, and the summary of its analysis.
+//!
+//! The case is read back from the two texts that are written, so that all that is known of a case from files is known of it, and
+//! the files hold it. The reading refuses none of them, so that it ends for want of memory alone.
 ghost use Rattle.std.specs.Prelude.{◌≡◌, ◌≤◌, ◌++◌, IfOk, OnOk, IsErrOf};
 ghost use Rattle.xs_desk.specs.Desk.{Rose};
 ghost use Rattle.xs_desk.specs.declared.desk.WriteStop.TheVariants as write_stop;

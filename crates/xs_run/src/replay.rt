@@ -1,4 +1,6 @@
-// A trace judged over the extension, and what is said of one that reaches the top event.
+//! A trace judged over the extension, and what is said of one that reaches the top event.
+//!
+//! The main function is [`replay_file`]: [`judge_trace`] refuses moments that are none, and [`replay_report`] names the failed faults.
 ghost use Rattle.std.specs.Prelude.{◌≤◌, IfSome, ◌≡◌, ◌++◌, if◌then◌else◌, [], codes, map, false, length, IfOk, OnOk, IsErrOf};
 ghost use Rattle.xs_tree.specs.ModelTree.{model_tree, flat_tree};
 ghost use Rattle.xs_flat_laws.specs.FaultModes.{mode_of};

@@ -1,4 +1,6 @@
-// The top call.
+//! The top call.
+//!
+//! The main function is [`run`]. Its contract has all that is promised of a run; `verbs` does the work of each verb.
 ghost use Rattle.std.specs.Prelude.{◌≡◌, ◌≤◌, ◌⊎◌, IfSome, IsSomeAnd, ℕ, Option, map};
 ghost use Rattle.xs_desk.specs.Desk.{Rose};
 ghost use Rattle.xs_tree.specs.ProgramTree.{Text};

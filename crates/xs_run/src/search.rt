@@ -1,4 +1,6 @@
-// The search of a case for its minimal cut sets, and the texts that are made of what it finds.
+//! The search of a case for its minimal cut sets, and the texts that are made of what it finds.
+//!
+//! The main function is [`search`]: the report, how it ended, and for a complete answer the text of a certificate.
 ghost use Rattle.std.specs.Prelude.{◌≡◌, ◌<◌, ℕ, IfOk, map};
 ghost use Rattle.xs_tree.specs.ModelTree.{model_tree, flat_tree};
 ghost use Rattle.xs_flat_laws.specs.FaultModes.{mode_of};

@@ -1,4 +1,7 @@
-// A file of top events, and the table of their analyses.
+//! A file of top events, and the table of their analyses.
+//!
+//! [`load_table`] reads the three files and refuses; [`deliver_table`] searches for each event, in frames that are made once, and says
+//! the table.
 ghost use Rattle.std.specs.Prelude.{◌≡◌, ◌≤◌, ◌<◌, List, All, [], false, length, map, IfOk, OnOk, IfErr, IfSome, IsErrOf};
 ghost use Rattle.xs_desk.specs.Desk.{Rose};
 ghost use Rattle.xs_desk.specs.declared.desk.WriteStop.TheVariants as write_stop;

@@ -1,4 +1,6 @@
-// The file of a trace, as moments of the extension.
+//! The file of a trace, as moments of the extension.
+//!
+//! The main function is [`load_trace`].
 ghost use Rattle.std.specs.Prelude.{◌≡◌, ◌≤◌, length, IfOk, IfErr, IfSome, IsErrOf};
 ghost use Rattle.xs_desk.specs.Desk.{Rose};
 ghost use Rattle.xs_tree.specs.ModelTree.{model_tree};

@@ -1,7 +1,7 @@
-// The verbs: what each reads and refuses, and then writes and says.
-//
-// Each has two halves: `prepare_..` reads its files, tries every refusal, and changes nothing; what follows writes and says, and
-// refuses nothing. The main function is `carry_out`.
+//! The verbs: what each reads and refuses, and then writes and says.
+//!
+//! Each has two halves: `prepare_..` reads its files, tries every refusal, and changes nothing; what follows writes and says, and
+//! refuses nothing. The main function is `carry_out`.
 ghost use Rattle.std.specs.Prelude.{◌≡◌, ◌≤◌, IfOk, IfSome, IsErrOf};
 ghost use Rattle.xs_desk.specs.Desk.{Rose};
 ghost use Rattle.xs_loading.specs.declared.status.Refusal.{Refusal};

@@ -155,10 +155,6 @@ each_map_get P f [] i d e h = absurd (omega (arith, h))
 each_map_get P f (x ∷ xs) zero d e h = e.0
 each_map_get P f (x ∷ xs) (suc i) d e h = each_map_get P f xs i d e.1 (omega (arith, h))
 
-pub map_push : {A B : Type 0} (f : A → B) (xs : List A) (x : A) → map f (xs ++ x ∷ []) ≡ map f xs ++ f x ∷ []
-map_push f [] x = refl
-map_push f (y ∷ xs) x = ap (λ ys. f y ∷ ys) (map_push f xs x)
-
 -- one name more is told
 pub told_next : {A B : Type 0} (g : A → B) (xs : List A) (i : ℕ) (d : A) → i < length xs → (names all : List B) → names ++ map g (drop i xs) ≡ all →
     (names ++ g (get_or xs i d) ∷ []) ++ map g (drop (i + 1) xs) ≡ all

@@ -10,13 +10,15 @@ use Rattle.xs_cause_laws.specs.Causes.{CommonCause}
 use Rattle.xs_cause_laws.specs.Staged.{joined, joined_after}
 use Rattle.xs_staging.specs.declared.cause.Cause.{Cause}
 
+-- the cause in memory as the definitions see it
 abbrev pub cause_of : Cause → CommonCause
 cause_of c = record { name = c.name; from = c.from; to = c.to; strikes = c.strikes }
 
--- the name by which an event is told, and the one by which a cause's event is
+-- the name by which a fault's event is told
 abbrev pub told_name : Fault → Path
 told_name f = f.name
 
+-- the name by which a cause's event is told
 abbrev pub told_cause : Cause → Path
 told_cause c = c.name ∷ []
 

@@ -1,4 +1,6 @@
 //! Expressions, formulas and variables that are added to a flat model.
+//!
+//! Each function makes one form, and `staging` and `events` put them together. Those of any model are public.
 
 ghost use Rattle.std.specs.Prelude.{◌≡◌, ◌<◌, ◌^◌, ◌∷◌, [], false, IfOk};
 ghost use Rattle.xs_tree.specs.declared.expr.Op.TheVariants as op;
@@ -46,7 +48,7 @@ pub(crate) fn whole(number: u64) -> Expr<Flat>
 }
 
 /// Two expressions with an operator between them.
-pub(crate) fn binary(
+pub fn binary(
     alloc: Global,
     op: Op,
     a: Expr<Flat>,
@@ -58,7 +60,7 @@ pub(crate) fn binary(
 }
 
 /// The opposite of a truth value.
-pub(crate) fn opposite(alloc: Global, a: Expr<Flat>) -> Result<Expr<Flat>, OutOfMemory>
+pub fn opposite(alloc: Global, a: Expr<Flat>) -> Result<Expr<Flat>, OutOfMemory>
     ensures { IfOk result (λ made. flat_tree made ≡ not_of (flat_tree a)) }
 {
     Ok(Expr::Not(boxed(alloc, a)?))
@@ -103,7 +105,7 @@ pub(crate) fn zero_or_one(alloc: Global) -> Result<Expr<Flat>, OutOfMemory>
 }
 
 /// A formula that no item has.
-pub(crate) fn added(value: Expr<Flat>) -> Formula
+pub fn added(value: Expr<Flat>) -> Formula
     ensures { formula_tree result ≡ added_tree (flat_tree value) }
 {
     Formula {

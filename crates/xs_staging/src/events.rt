@@ -1,4 +1,7 @@
 //! The events of faults that begin by themselves.
+//!
+//! The main function is [`add_own_events`]: a fault's event is told at the moment at which its mode begins outside every window of a
+//! cause that strikes it.
 
 ghost use Rattle.std.specs.Prelude.{◌≡◌, ◌<◌, ◌≤◌, ◌++◌, suc, length, map, option_map, IfOk, OnOk};
 ghost use Rattle.xs_tree.specs.Tree.{choice as choice_tree, leaf};

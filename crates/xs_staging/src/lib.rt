@@ -11,7 +11,7 @@
 //! ```
 #![tactic(auto)]
 
-mod build;
+pub mod build;
 mod cause;
 mod events;
 pub mod names;

@@ -1,4 +1,7 @@
 //! The model with causes: each cause's variables, one after another.
+//!
+//! The main function is [`with_causes`]. A cause adds its age, its event, and a hit for each fault that it strikes; after all causes
+//! come the events of the faults, from `events`.
 
 ghost use Rattle.std.specs.Prelude.{◌≡◌, ◌<◌, ◌≤◌, ◌++◌, suc, length, map, IfOk, OnOk};
 ghost use Rattle.xs_tree.specs.Trace.{Each};

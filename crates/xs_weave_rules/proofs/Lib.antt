@@ -4,7 +4,7 @@ pub mod KeptItems
 pub mod KeptFacts
 pub mod WeavableLaw
 pub mod KeyedLaws
-mod LocalLaws
+pub mod LocalLaws
 pub mod SiteFaults
 mod CountLaws
 pub mod PlacingLaws

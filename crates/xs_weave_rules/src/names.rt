@@ -13,7 +13,7 @@ use xs_value::{Name, OutOfMemory};
 
 /// The names of a program.
 #[tactic(auto, using(crate::proofs::KeyedLaws::keyed_rules))]
-pub(crate) fn program_names(alloc: Global, p: &Program) -> Result<Texts, OutOfMemory>
+pub fn program_names(alloc: Global, p: &Program) -> Result<Texts, OutOfMemory>
     ensures { IfOk result (λ names. names ≡ with_texts [] (program_names_of (program_tree p.now))) }
 {
     let mut names = Texts::new(alloc);

@@ -11,7 +11,7 @@ use xs_value::OutOfMemory;
 
 /// A set of texts, which contracts see as the list of its texts in the order in which each was first added.
 #[derive(Drop)]
-pub(crate) struct Texts {
+pub struct Texts {
     set: IndexSet<Vec<u8>>,
 }
 
@@ -25,7 +25,7 @@ impl Model for Texts {
 
 impl Texts {
     /// No text.
-    pub(crate) fn new(alloc: Global) -> Texts
+    pub fn new(alloc: Global) -> Texts
         ensures { result ≡ [] }
     {
         Texts {
@@ -34,14 +34,14 @@ impl Texts {
     }
 
     /// Whether the text is one of the set.
-    pub(crate) fn has(&self, text: &[u8]) -> bool
+    pub fn has(&self, text: &[u8]) -> bool
         ensures { result ≡ is_among self.now text.now }
     {
         self.set.contains(text)
     }
 
     /// Adds a text.
-    pub(crate) fn add(&mut self, alloc: Global, text: &[u8]) -> Result<(), OutOfMemory>
+    pub fn add(&mut self, alloc: Global, text: &[u8]) -> Result<(), OutOfMemory>
         ensures { OnOk result (self.new ≡ with_text self.old text.now) }
     {
         let text = Vec::from_slice(alloc, text)?;

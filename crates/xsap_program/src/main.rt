@@ -39,6 +39,7 @@ mod verbs;
 /// The number that the program ends with where a word is not text, which no status has.
 const NOT_TEXT: u8 = 11;
 
+/// Runs what the words of the command line ask for, and ends with the number of its status.
 fn main(rt: HostRuntime) -> ExitCode {
     let alloc = rt.alloc();
     let number = match env::args(&rt) {

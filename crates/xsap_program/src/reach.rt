@@ -1,4 +1,6 @@
-// The top call of the further verbs.
+//! The top call of the further verbs.
+//!
+//! The main function is [`run`]. Its contract has all that is promised of a run of a further verb; `verbs` calls the crate of each.
 ghost use Rattle.std.specs.Prelude.{◌≡◌, ◌≤◌, ◌⊎◌, ℕ, IfOk, IfSome, IsErrOf, OnOk};
 ghost use Rattle.xs_desk.specs.Desk.{Rose, said_more, SaysPrefix};
 ghost use Rattle.xs_desk.specs.declared.desk.WriteStop.TheVariants as write_stop;

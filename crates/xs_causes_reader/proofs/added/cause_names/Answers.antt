@@ -1,4 +1,4 @@
-use Rattle.std.proofs.Common.{[], ◌≡◌, ◌+◌, ◌<◌, ◌++◌, ◌∷◌, length, ap, ◌∙◌, subst, arith}
+use Rattle.std.proofs.Common.{[], ◌+◌, ◌<◌, ◌++◌, ◌∷◌, length, ap, ◌∙◌, arith}
 use Rattle.xs_cause_laws.specs.CauseRules.{names_of_cause}
 use Rattle.xs_cause_laws.specs.Staged.{hit_name}
 use Rattle.xs_causes_reader.specs.ReadView.{written_tree}

@@ -1,4 +1,4 @@
-use Rattle.std.proofs.Common.{◌≡◌, sym, ap, ◌∙◌, [], Option, Some, None, take}
+use Rattle.std.proofs.Common.{sym, ap, ◌∙◌, []}
 use Rattle.std.specs.Prelude.{option_map}
 use Rattle.xs_weave_rules.specs.Keyed.{with_texts}
 use Rattle.xs_causes_reader.specs.FaultPaths.{paths_of}

@@ -1,8 +1,7 @@
-use Rattle.std.proofs.Common.{rules, ◌≡◌, ◌<◌, ◌≤◌, ◌^◌, length, arith, sym, ◌∙◌}
+use Rattle.std.proofs.Common.{rules, ◌<◌, ◌^◌, length, sym, ◌∙◌}
 use Rattle.std.proofs.lemmas.List.{length-map}
 use Rattle.std.proofs.lemmas.Result.{IfOk-weaker}
 use Rattle.xs_flat_laws.specs.FaultModes.{mode_of}
-use Rattle.xs_find_causes.specs.Causes.{staged_in, events_in}
 use Rattle.xs_find_causes.proofs.StagedLaws.{event_searchable, event_searched}
 use Rattle.xs_find_causes.proofs.causes.analysed.Goals as goal
 

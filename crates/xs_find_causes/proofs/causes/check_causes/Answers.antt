@@ -1,4 +1,4 @@
-use Rattle.std.proofs.Common.{Err, IsErrOf, inl, sym, ap, ◌∙◌}
+use Rattle.std.proofs.Common.{Err, inl, sym, ap, ◌∙◌}
 use Rattle.std.proofs.lemmas.Result.{err_from_is_err_and}
 use Rattle.xs_desk.specs.Desk.{said_more}
 use Rattle.xs_loading.proofs.InputLemmas.{same_error}

@@ -1,4 +1,4 @@
-use Rattle.std.proofs.Common.{Err, IsErrOf, inl, sym, ap, ◌∙◌}
+use Rattle.std.proofs.Common.{Err, inl, sym, ap, ◌∙◌}
 use Rattle.std.proofs.lemmas.Result.{err_from_is_err_and}
 use Rattle.xs_desk.specs.Desk.{said_more}
 use Rattle.xs_loading.specs.Answered.{told_maybe}
@@ -11,31 +11,31 @@ use Rattle.xs_find_causes.proofs.causes.find_causes.Goals as goal
 pub returns-in_err-found-clause-left : goal.returns-in_err-found-clause-left
 returns-in_err-found-clause-left g c = inl (c.prepare_causes.ensures.files, c.prepare_causes.ensures.said)
 
-pub returns-in_err-status-clause-refused : goal.returns-in_err-status-clause-refused
-returns-in_err-status-clause-refused g c r e =
-    let exit = err_from_is_err_and c.from_residual-in_err-status.result c.from_residual-in_err-status.ensures.1 in
+pub returns-in_err-conclude-clause-refused : goal.returns-in_err-conclude-clause-refused
+returns-in_err-conclude-clause-refused g c r e =
+    let exit = err_from_is_err_and c.from_residual-in_err-conclude.result c.from_residual-in_err-conclude.ensures.1 in
     absurd (write_refused _ r (sym exit.2 ∙ same_error (sym exit.1 ∙ e)))
 
-pub returns-in_err-status-clause-untouched : goal.returns-in_err-status-clause-untouched
-returns-in_err-status-clause-untouched g c r e =
-    let exit = err_from_is_err_and c.from_residual-in_err-status.result c.from_residual-in_err-status.ensures.1 in
+pub returns-in_err-conclude-clause-untouched : goal.returns-in_err-conclude-clause-untouched
+returns-in_err-conclude-clause-untouched g c r e =
+    let exit = err_from_is_err_and c.from_residual-in_err-conclude.result c.from_residual-in_err-conclude.ensures.1 in
     absurd (write_refused _ r (sym exit.2 ∙ same_error (sym exit.1 ∙ e)))
 
-pub returns-in_err-status-clause-left : goal.returns-in_err-status-clause-left
-returns-in_err-status-clause-left g c =
+pub returns-in_err-conclude-clause-left : goal.returns-in_err-conclude-clause-left
+returns-in_err-conclude-clause-left g c =
     leaves_found _ _ _ _ c.args.asked.now.cert.now c.args.asked.now.depth _ c.in_ok-found.found c.in_ok-found.ensures.ok _ _ _ _ _ c.prepare_causes.ensures.files c.prepare_causes.ensures.said c.conclude.ensures.part
 
-pub returns-in_err-status-clause-failed : goal.returns-in_err-status-clause-failed
-returns-in_err-status-clause-failed g c e =
-    let exit = err_from_is_err_and c.from_residual-in_err-status.result c.from_residual-in_err-status.ensures.1 in
+pub returns-in_err-conclude-clause-failed : goal.returns-in_err-conclude-clause-failed
+returns-in_err-conclude-clause-failed g c e =
+    let exit = err_from_is_err_and c.from_residual-in_err-conclude.result c.from_residual-in_err-conclude.ensures.1 in
     let is = write_desk _ (sym exit.2 ∙ same_error (sym exit.1 ∙ e)) in
-    rose_later _ _ _ c.prepare_causes.ensures.later (c.conclude.ensures.failed (c.in_err-status.was ∙ ap (λ s. Err s) is))
+    rose_later _ _ _ c.prepare_causes.ensures.later (c.conclude.ensures.failed (c.in_err-conclude.was ∙ ap (λ s. Err s) is))
 
 pub returns-clause-ok : goal.returns-clause-ok
 returns-clause-ok g c =
-    has_found _ _ _ _ c.args.asked.now.cert.now c.args.asked.now.depth _ c.in_ok-found.found c.in_ok-found.ensures.ok c.in_ok-status.status _ _ _ _ c.in_ok-status.ensures.ends
-    (c.in_ok-status.ensures.ok.0 ∙ ap (λ t. told_maybe t c.args.asked.now.cert.now c.in_ok-found.found.cert) c.prepare_causes.ensures.files)
-    (c.in_ok-status.ensures.ok.1 ∙ ap (λ t. said_more t c.in_ok-found.found.report) c.prepare_causes.ensures.said)
+    has_found _ _ _ _ c.args.asked.now.cert.now c.args.asked.now.depth _ c.in_ok-found.found c.in_ok-found.ensures.ok c.ended_as.result _ _ _ _ c.ended_as.ensures.ends
+    (c.in_ok-conclude.ensures.ok.0 ∙ ap (λ t. told_maybe t c.args.asked.now.cert.now c.in_ok-found.found.cert) c.prepare_causes.ensures.files)
+    (c.in_ok-conclude.ensures.ok.1 ∙ ap (λ t. said_more t c.in_ok-found.found.report) c.prepare_causes.ensures.said)
 
 pub returns-clause-left : goal.returns-clause-left
 returns-clause-left g c =

@@ -1,4 +1,4 @@
-use Rattle.std.proofs.Common.{rules, ◌<◌, ◌^◌, length, sym, subst, ◌∙◌}
+use Rattle.std.proofs.Common.{rules, ◌<◌, ◌^◌, length, sym, subst}
 use Rattle.xs_cert.specs.Seen.{seen}
 use Rattle.xs_check.specs.Matter.{matter_of}
 use Rattle.xs_check.specs.Found.{IsJudged}

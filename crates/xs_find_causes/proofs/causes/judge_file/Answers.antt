@@ -1,4 +1,4 @@
-use Rattle.std.proofs.Common.{arith, Err, IsErrOf, map, ◌++◌, sym, ap, ◌∙◌}
+use Rattle.std.proofs.Common.{Err, IsErrOf, ◌++◌, sym, ap, ◌∙◌}
 use Rattle.std.specs.Prelude.{codes}
 use Rattle.std.proofs.lemmas.List.{length-map}
 use Rattle.std.proofs.lemmas.Result.{err_from_is_err_and}

@@ -1,4 +1,4 @@
-use Rattle.std.proofs.Common.{◌≡◌, length, subst, sym, map, ap, ◌∙◌}
+use Rattle.std.proofs.Common.{length, subst, sym, map, ap, ◌∙◌}
 use Rattle.xs_tree.specs.ModelTree.{flat_tree}
 use Rattle.xs_text_laws.specs.AnalysisText.{analysis_text}
 use Rattle.xs_report.specs.Analysed.{told_analysis}

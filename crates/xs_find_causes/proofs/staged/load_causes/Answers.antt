@@ -1,4 +1,4 @@
-use Rattle.std.proofs.Common.{◌≡◌, Err, IsErrOf, sym, ap, map, subst, ◌∙◌}
+use Rattle.std.proofs.Common.{Err, IsErrOf, sym, ap, map, subst, ◌∙◌}
 use Rattle.std.proofs.lemmas.Result.{err_from_is_err_and}
 use Rattle.xs_staging.specs.CauseOf.{cause_of}
 use Rattle.xs_loading.proofs.InputLemmas.{same_error}

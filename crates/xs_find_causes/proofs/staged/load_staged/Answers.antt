@@ -1,4 +1,4 @@
-use Rattle.std.proofs.Common.{arith, Err, IsErrOf, IfSome, sym, ap, subst, map, ◌∙◌}
+use Rattle.std.proofs.Common.{arith, Err, IsErrOf, sym, ap, map, ◌∙◌}
 use Rattle.std.proofs.lemmas.Result.{err_from_is_err_and}
 use Rattle.xs_tree.specs.ProgramTree.{program_tree}
 use Rattle.xs_tree.specs.ModelTree.{model_tree}

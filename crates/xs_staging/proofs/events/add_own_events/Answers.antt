@@ -1,10 +1,11 @@
-use Rattle.std.proofs.Common.{◌≡◌, ◌+◌, ◌++◌, ◌∷◌, [], length, map, drop, sym, ap, ◌∙◌}
+use Rattle.std.proofs.Common.{◌≡◌, ◌+◌, ◌++◌, ◌∷◌, [], length, map, drop, ap, ◌∙◌}
 use Rattle.xs_tree.specs.ModelTree.{model_tree}
 use Rattle.xs_flat_laws.specs.FaultModes.{mode_of}
 use Rattle.xs_cause_laws.specs.Staged.{with_own, with_owns, own_events}
 use Rattle.xs_staging.specs.CauseOf.{cause_of, told_name}
-use Rattle.xs_staging.proofs.Counts.{owns_next, own_events_next, told_next, map_push, first_of}
+use Rattle.xs_staging.proofs.Counts.{owns_next, own_events_next, told_next, first_of}
 use Rattle.xs_staging.proofs.events.add_own_events.Goals as goal
+use Rattle.std.proofs.lemmas.List.{map-append}
 
 pub loop-i-preserved : goal.loop-i-preserved
 loop-i-preserved c =
@@ -18,13 +19,13 @@ loop-i-preserved c =
           (with_owns (map mode_of c.args.faults.now) (map cause_of c.args.causes.now) c.args.ages.now 1 (map mode_of c.args.faults.now) (model_tree c.args.made.now)) step c.loop-i.invariant.made;
       events = ap (λ z. z ++ own_events (length (model_tree c.add_own_event.new.made).variables) (length (model_tree c.add_own_event.new.made).symbols)
           (map mode_of (drop (c.loop-i.i + 1) c.args.faults.now)))
-          (ap (map mode_of) c.in_ok-push.ensures.ok ∙ map_push mode_of c.loop-i.events c.in_ok-event.event ∙ ap (λ f. map mode_of c.loop-i.events ++ f ∷ []) c.in_ok-event.ensures.event)
+          (ap (map mode_of) c.in_ok-push.ensures.ok ∙ map-append mode_of c.loop-i.events (c.in_ok-event.event ∷ []) ∙ ap (λ f. map mode_of c.loop-i.events ++ f ∷ []) c.in_ok-event.ensures.event)
           ∙ own_events_next (map mode_of c.args.faults.now) (map cause_of c.args.causes.now) c.args.ages.now mode_of c.args.faults.now c.loop-i.i some c.loop-i-test.true (model_tree c.loop-i.made)
           (model_tree c.add_own_event.new.made) (map mode_of c.loop-i.events)
           (map mode_of c.args.events.now ++ own_events (length (model_tree c.args.made.now).variables) (length (model_tree c.args.made.now).symbols) (map mode_of c.args.faults.now)) step
           c.loop-i.invariant.events;
       names = ap (λ z. z ++ map told_name (drop (c.loop-i.i + 1) c.args.faults.now))
-          (ap (map told_name) c.in_ok-push.ensures.ok ∙ map_push told_name c.loop-i.events c.in_ok-event.event
+          (ap (map told_name) c.in_ok-push.ensures.ok ∙ map-append told_name c.loop-i.events (c.in_ok-event.event ∷ [])
           ∙ ap (λ f. map told_name c.loop-i.events ++ f ∷ []) (c.in_ok-event.ensures.name ∙ ap told_name c.index-faults-i.is))
           ∙ told_next told_name c.args.faults.now c.loop-i.i c.index-faults-i.result c.loop-i-test.true (map told_name c.loop-i.events)
           (map told_name c.args.events.now ++ map told_name c.args.faults.now) c.loop-i.invariant.names;

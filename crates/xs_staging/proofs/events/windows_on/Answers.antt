@@ -1,4 +1,4 @@
-use Rattle.std.proofs.Common.{arith, ◌≡◌, ◌+◌, ◌<◌, ◌≤◌, Option, Some, None, [], true, false, length, map, drop, sym, ap, ◌∙◌, get_or}
+use Rattle.std.proofs.Common.{arith, ◌≡◌, ◌+◌, ◌<◌, Option, [], true, false, length, map, drop, sym, ap, ◌∙◌, get_or}
 use Rattle.std.specs.Prelude.{option_map}
 use Rattle.std.proofs.lemmas.List.{drop_all}
 use Rattle.xs_tree.specs.declared.expr.Expr.{Expr}

@@ -5,8 +5,9 @@ use Rattle.xs_flat_laws.specs.FaultModes.{mode_of}
 use Rattle.xs_cause_laws.specs.Causes.{IsCauseOf}
 use Rattle.xs_cause_laws.specs.Staged.{with_cause, with_each_cause, age_numbers, cause_events}
 use Rattle.xs_staging.specs.CauseOf.{cause_of, told_name, told_cause}
-use Rattle.xs_staging.proofs.Counts.{each_map_get, causes_next, ages_next, events_next, told_next, map_push}
+use Rattle.xs_staging.proofs.Counts.{each_map_get, causes_next, ages_next, events_next, told_next}
 use Rattle.xs_staging.proofs.staging.add_causes.Goals as goal
+use Rattle.std.proofs.lemmas.List.{map-append}
 
 pub add_cause-requires : goal.add_cause-requires
 add_cause-requires c =
@@ -30,13 +31,13 @@ loop-cause-preserved c =
           c.loop-cause.ages.items (c.args.ages.now.items ++ age_numbers (length (model_tree c.args.made.now).variables) (map cause_of c.args.causes.now)) step c.loop-cause.invariant.ages;
       events = ap (λ z. z ++ cause_events (length (model_tree c.add_cause.new.made).variables) (length (model_tree c.add_cause.new.made).symbols)
           (map cause_of (drop (c.loop-cause.cause-index + 1) c.args.causes.now)))
-          (ap (map mode_of) c.in_ok-push-2.ensures.ok ∙ map_push mode_of c.loop-cause.events c.in_ok-add_cause.field-0 ∙ ap (λ f. map mode_of c.loop-cause.events ++ f ∷ []) c.in_ok-add_cause.ensures.event)
+          (ap (map mode_of) c.in_ok-push-2.ensures.ok ∙ map-append mode_of c.loop-cause.events (c.in_ok-add_cause.field-0 ∷ []) ∙ ap (λ f. map mode_of c.loop-cause.events ++ f ∷ []) c.in_ok-add_cause.ensures.event)
           ∙ events_next (map mode_of c.args.faults.now) cause_of c.args.causes.now c.loop-cause.cause-index c.cause-item.result below (model_tree c.loop-cause.made) (model_tree c.add_cause.new.made)
           (map mode_of c.loop-cause.events)
           (map mode_of c.args.events.now ++ cause_events (length (model_tree c.args.made.now).variables) (length (model_tree c.args.made.now).symbols) (map cause_of c.args.causes.now)) step
           c.loop-cause.invariant.events;
       names = ap (λ z. z ++ map told_cause (drop (c.loop-cause.cause-index + 1) c.args.causes.now))
-          (ap (map told_name) c.in_ok-push-2.ensures.ok ∙ map_push told_name c.loop-cause.events c.in_ok-add_cause.field-0
+          (ap (map told_name) c.in_ok-push-2.ensures.ok ∙ map-append told_name c.loop-cause.events (c.in_ok-add_cause.field-0 ∷ [])
           ∙ ap (λ f. map told_name c.loop-cause.events ++ f ∷ []) (c.in_ok-add_cause.ensures.name ∙ ap told_cause c.cause-item.is))
           ∙ told_next told_cause c.args.causes.now c.loop-cause.cause-index c.cause-item.result below (map told_name c.loop-cause.events)
           (map told_name c.args.events.now ++ map told_cause c.args.causes.now) c.loop-cause.invariant.names;

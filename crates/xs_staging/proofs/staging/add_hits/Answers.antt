@@ -1,7 +1,7 @@
-use Rattle.std.proofs.Common.{◌≡◌, ◌+◌, ◌<◌, ◌≤◌, length, map, sym, ap, ◌∙◌, subst, get_or}
+use Rattle.std.proofs.Common.{◌<◌, ◌≤◌, length, map}
 use Rattle.xs_tree.specs.ModelTree.{model_tree}
 use Rattle.xs_flat_laws.specs.FaultModes.{mode_of}
-use Rattle.xs_cause_laws.specs.Staged.{with_hit, with_hits}
+use Rattle.xs_cause_laws.specs.Staged.{with_hits}
 use Rattle.xs_staging.specs.CauseOf.{cause_of}
 use Rattle.xs_staging.proofs.Counts.{each_get, hits_next}
 use Rattle.xs_staging.proofs.staging.add_hits.Goals as goal
