@@ -6,11 +6,13 @@ use Rattle.xs_tree.specs.ModelTree.{model_tree}
 use Rattle.xs_tree.specs.declared.model.FlatModel.{FlatModel as Made}
 use Rattle.xs_tree.specs.Flat.{FlatLeaf, FlatModel}
 use Rattle.xs_flat_laws.specs.History.{Mode, with_history}
+use Rattle.xs_text_laws.specs.Lines.{fed}
 use Rattle.xs_text_laws.specs.TraceText.{trace_lines}
 use Rattle.xs_text_laws.specs.Given.{GivesTrace}
 use Rattle.xs_cert.specs.Seen.{seen}
 use Rattle.xs_cert.specs.declared.certificate.Certificate.{Certificate as Written}
-use Rattle.xs_certificate_laws.specs.CertificateText.{SpellsCertificate}
+use Rattle.xs_certificate_laws.specs.CertificateText.{IsWritable, SpellsCertificate, version_two, lines_of}
+use Rattle.xs_certificate_laws.specs.Certificate.{Certificate}
 use Rattle.xs_certificate_laws.specs.Certified.{IsCertified}
 use Rattle.xs_case_search.specs.Certifiable.{IsCompleteAnswer}
 use Rattle.xs_certificate_laws.specs.Subject.{subject_of}
@@ -36,15 +38,20 @@ complete_answer m fs tree depth a is never = by_end a.end refl
     by_end (Complete clauses) e = record { depth = depth; clauses = clauses; answer = is.answer; complete = e; small = is.small; printable = λ some. is.printable }
     by_end (Bounded k) e = absurd (never k e)
 
+-- the text of a certificate in version 2 spells it
+pub spells_written : (bytes : List ℕ) (c : Certificate) → IsWritable c → bytes ≡ fed (lines_of version_two c) → SpellsCertificate bytes c
+spells_written bytes c writable is = (lines_of version_two c, is, (writable, (version_two, tt, refl)))
+
 -- a certificate that was made of it and written
 pub certificate_for : (m whole : Made) (fs : List Mode) (tree : Tree FlatLeaf) (a : Searched) (x : Written) (bytes : List ℕ) → model_tree whole ≡ with_history (model_tree m) fs →
     IsCertified (model_tree m) fs tree (GivesTrace (model_tree m)) (subject_of (model_tree whole) (model_tree m) fs tree) (seen x) → x.size ≡ a.size → x.sets ≡ a.sets →
-    x.traces ≡ map (text_lines m) a.traces → SpellsCertificate bytes (seen x) →
+    x.traces ≡ map (text_lines m) a.traces → IsWritable (seen x) → bytes ≡ fed (lines_of version_two (seen x)) →
     IsCertificateFor (model_tree m) fs tree a.size a.sets (map (told_trace m.symbols) a.traces) bytes
-certificate_for m whole fs tree a x bytes history certified size sets traces spelled =
+certificate_for m whole fs tree a x bytes history certified size sets traces writable text =
     record {
       certificate = seen x;
-      spells = spelled;
+      spells = spells_written bytes (seen x) writable text;
+      in_version_two = text;
       accepted = subst (λ f. IsCertified (model_tree m) fs tree (GivesTrace (model_tree m)) (subject_of f (model_tree m) fs tree) (seen x)) history certified;
       has_size = size;
       has_sets = sets;

@@ -1,4 +1,5 @@
 pub mod Analysable
+pub mod CaseKinds
 pub mod Certifying
 pub mod Readings
 pub mod BadLists

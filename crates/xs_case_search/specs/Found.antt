@@ -9,9 +9,10 @@ use Rattle.xs_encode_laws.specs.Bits.{state_of, inputs_of}
 use Rattle.xs_encode_laws.specs.Lists.{system_of}
 use Rattle.xs_cuts.specs.Progress.{HasChainFor}
 use Rattle.xs_text_laws.specs.Given.{GivesTrace}
+use Rattle.xs_text_laws.specs.Lines.{fed}
 use Rattle.xs_text_laws.specs.TraceText.{trace_lines}
 use Rattle.xs_certificate_laws.specs.Certificate.{Certificate}
-use Rattle.xs_certificate_laws.specs.CertificateText.{SpellsCertificate}
+use Rattle.xs_certificate_laws.specs.CertificateText.{SpellsCertificate, version_two, lines_of}
 use Rattle.xs_certificate_laws.specs.Certified.{IsCertified}
 use Rattle.xs_certificate_laws.specs.Subject.{subject_of}
 use Rattle.xs_report_laws.specs.ExtendedTraces.{Ending, complete, bounded, Analysis, IsAnalysisOf}
@@ -38,11 +39,13 @@ pub record IsFound (c : Case) (top : Formula) (size depth : ℕ) (a : Analysis) 
   pub right : IsAnalysisOf c.program c.instructions c.faults c.flat top size a
   pub ends : EndsBy c top size depth a.sets a.ending
 
--- The bytes spell a certificate of this size with these sets, and texts of these traces for them, which is accepted for the flat
--- model with its faults and the event: its invariant holds first, is kept by every step, and excludes each unlisted bad state.
+-- The bytes are the text in version 2 of a certificate of this size with these sets, and texts of these traces for them, which is
+-- accepted for the flat model with its faults and the event: its invariant holds first, is kept by every step, and excludes each
+-- unlisted bad state.
 pub record IsCertificateFor (m : FlatModel) (fs : List Mode) (tree : Tree FlatLeaf) (size : ℕ) (sets : List (List ℕ)) (shown : List (List (List Value))) (bytes : List ℕ) : Type 0 where
   pub certificate : Certificate
   pub spells : SpellsCertificate bytes certificate
+  pub in_version_two : bytes ≡ fed (lines_of version_two certificate)
   pub accepted : IsCertified m fs tree (GivesTrace m) (subject_of (with_history m fs) m fs tree) certificate
   pub has_size : certificate.size ≡ size
   pub has_sets : certificate.sets ≡ sets

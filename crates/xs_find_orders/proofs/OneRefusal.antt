@@ -6,7 +6,9 @@ use Rattle.xs_tree.specs.ProgramTree.{Text, Formula, ProgramTree}
 use Rattle.xs_tree.specs.Values.{Value}
 use Rattle.xs_tree.specs.Flat.{FlatLeaf, FlatModel}
 use Rattle.xs_flat_laws.specs.FlatTrace.{IsFlatTrace}
-use Rattle.xs_type_laws.specs.Models.{IsTyped}
+use Rattle.xs_type_laws.specs.Judged.{too_large}
+use Rattle.xs_type_laws.specs.Models.{IsTyped, IsFault}
+use Rattle.xs_type_laws.proofs.Typed.{typed_has_none}
 use Rattle.xs_encode_laws.specs.FlatTraces.{IsNumbered, ReachesTop, HasFailedNumber}
 use Rattle.xs_extend_laws.proofs.Splits.{one_split, none_broken}
 use Rattle.xs_text_laws.specs.Given.{GivesTrace}
@@ -24,16 +26,15 @@ use Rattle.xs_loading.specs.Answered.{Told, Said}
 use Rattle.xs_loading.specs.Cases.{Case, HoldsCase, IsTopWord, IsWrongWord}
 use Rattle.xs_certificate_file.specs.CertificateFiles.{HoldsCertificate}
 use Rattle.xs_loading.specs.Inputs.{RefusesModel, HoldsModel, RefusesFaults}
-use Rattle.xs_loading.specs.Wholes.{BreaksKinds}
 use Rattle.xs_loading.proofs.OneCase.{case_not_refused, one_case}
 use Rattle.xs_certificate_file.proofs.OneCertificate.{one_refused_certificate, held_certificate_not_refused, one_held_certificate, moved}
 use Rattle.xs_loading.proofs.OneExtending.{one_refused_faults}
-use Rattle.xs_loading.proofs.OneModelFault.{one_breach, typed_breaks_none, one_refused_model, held_not_refused, one_held_model}
+use Rattle.xs_loading.proofs.OneModelFault.{one_refused_model, held_not_refused, one_held_model}
 use Rattle.xs_loading.proofs.OneTop.{one_wrong_word, word_not_wrong}
 use Rattle.xs_reach_status.specs.declared.status.Refusal.{Refusal}
 use Rattle.xs_reach_status.specs.declared.status.Refusal.TheVariants as refusal
 use Rattle.xs_reach_status.specs.declared.status.Status.{Status}
-use Rattle.xs_find_orders.specs.Pairs.{IsFirstOutside, outside_refusal, stage_refusal, HoldsPair, RefusesPair, at_model, at_faults, at_set, at_stage, at_top}
+use Rattle.xs_find_orders.specs.Pairs.{IsFirstOutside, outside_refusal, HoldsPair, RefusesPair, at_model, at_faults, at_set, at_stage, at_top}
 use Rattle.xs_find_orders.specs.Orders.{staged_of, against_of, claim_in, staged_matter, RefusesClaim, at_line, IsAcceptedClaim, RefusesCheck, no_pair, no_certificate, not_accepted, AcceptsOrder, HasOrder, HasCheckedOrder}
 
 -- ---- one number outside, and one rule of kinds
@@ -71,8 +72,8 @@ module _ (files : List NamedFile) (model faults top : Text) (set : List ℕ) (fi
   abbrev OutsideIn : ℕ → Case → Type 0
   OutsideIn position c = IsFirstOutside (length c.faults) set position
 
-  abbrev BreaksIn : SharedFault → Case → Type 0
-  BreaksIn fault c = BreaksKinds (staged_of c first second) fault
+  abbrev BreaksIn : Case → Type 0
+  BreaksIn c = IsFault (staged_of c first second) too_large 0
 
   abbrev WrongIn : SharedFault → Case → Type 0
   WrongIn fault c = IsWrongWord c.program top fault
@@ -84,14 +85,14 @@ module _ (files : List NamedFile) (model faults top : Text) (set : List ℕ) (fi
   apart_set : (c d : Case) (position : ℕ) → Holds c → Holds d → NumberedIn c → OutsideIn position d → ⊥
   apart_set c d position held other numbered out = none_outside (length c.faults) set position numbered (of_case files model faults (OutsideIn position) c d held other out)
 
-  apart_stage : (c d : Case) (fault : SharedFault) → Holds c → Holds d → IsTyped (staged_of c first second) → BreaksIn fault d → ⊥
-  apart_stage c d fault held other typed breaks = typed_breaks_none (staged_of c first second) fault typed (of_case files model faults (BreaksIn fault) c d held other breaks)
+  apart_stage : (c d : Case) → Holds c → Holds d → IsTyped (staged_of c first second) → BreaksIn d → ⊥
+  apart_stage c d held other typed breaks = typed_has_none (staged_of c first second) too_large 0 typed (of_case files model faults BreaksIn c d held other breaks)
 
   pub one_refused_pair : (r s : Refusal) → RefusesPair files model faults top set first second r → RefusesPair files model faults top set first second s → r ≡ s
   one_refused_pair r s (at_model a is bad) (at_model b was also) = is ∙ ap (λ t. refusal.Shared t) (one_refused_model files model a b bad also) ∙ sym was
   one_refused_pair r s (at_model a is bad) (at_faults p b was holds wrong) = absurd (held_not_refused files model p a holds bad)
   one_refused_pair r s (at_model a is bad) (at_set d k was other out) = absurd (no_model files model faults d a other bad)
-  one_refused_pair r s (at_model a is bad) (at_stage d b was other numbered breaks) = absurd (no_model files model faults d a other bad)
+  one_refused_pair r s (at_model a is bad) (at_stage d was other numbered breaks) = absurd (no_model files model faults d a other bad)
   one_refused_pair r s (at_model a is bad) (at_top d b was other numbered typed wrong) = absurd (no_model files model faults d a other bad)
   one_refused_pair r s (at_faults p a is holds bad) (at_model b was wrong) = absurd (held_not_refused files model p b holds wrong)
   one_refused_pair r s (at_faults p a is holds bad) (at_faults q b was other also) =
@@ -100,24 +101,23 @@ module _ (files : List NamedFile) (model faults top : Text) (set : List ℕ) (fi
       (one_refused_faults files faults p holds.flat holds.lawful a b bad (subst (λ u. RefusesFaults files faults u b) (one_held_model files model p q holds other) also))
       ∙ sym was
   one_refused_pair r s (at_faults p a is holds bad) (at_set d k was other out) = absurd (no_faults files model faults d p a other holds bad)
-  one_refused_pair r s (at_faults p a is holds bad) (at_stage d b was other numbered breaks) = absurd (no_faults files model faults d p a other holds bad)
+  one_refused_pair r s (at_faults p a is holds bad) (at_stage d was other numbered breaks) = absurd (no_faults files model faults d p a other holds bad)
   one_refused_pair r s (at_faults p a is holds bad) (at_top d b was other numbered typed wrong) = absurd (no_faults files model faults d p a other holds bad)
   one_refused_pair r s (at_set c k is held out) (at_model b was bad) = absurd (no_model files model faults c b held bad)
   one_refused_pair r s (at_set c k is held out) (at_faults p b was holds bad) = absurd (no_faults files model faults c p b held holds bad)
   one_refused_pair r s (at_set c k is held out) (at_set d l was other also) =
       is ∙ ap outside_refusal (one_outside (length c.faults) set k l out (of_case files model faults (OutsideIn l) c d held other also)) ∙ sym was
-  one_refused_pair r s (at_set c k is held out) (at_stage d b was other numbered breaks) = absurd (apart_set d c k other held numbered out)
+  one_refused_pair r s (at_set c k is held out) (at_stage d was other numbered breaks) = absurd (apart_set d c k other held numbered out)
   one_refused_pair r s (at_set c k is held out) (at_top d b was other numbered typed wrong) = absurd (apart_set d c k other held numbered out)
-  one_refused_pair r s (at_stage c a is held numbered breaks) (at_model b was bad) = absurd (no_model files model faults c b held bad)
-  one_refused_pair r s (at_stage c a is held numbered breaks) (at_faults p b was holds bad) = absurd (no_faults files model faults c p b held holds bad)
-  one_refused_pair r s (at_stage c a is held numbered breaks) (at_set d l was other out) = absurd (apart_set c d l held other numbered out)
-  one_refused_pair r s (at_stage c a is held numbered breaks) (at_stage d b was other numbered' also) =
-      is ∙ ap stage_refusal (one_breach (staged_of c first second) a b breaks (of_case files model faults (BreaksIn b) c d held other also)) ∙ sym was
-  one_refused_pair r s (at_stage c a is held numbered breaks) (at_top d b was other numbered' typed wrong) = absurd (apart_stage d c a other held typed breaks)
+  one_refused_pair r s (at_stage c is held numbered breaks) (at_model b was bad) = absurd (no_model files model faults c b held bad)
+  one_refused_pair r s (at_stage c is held numbered breaks) (at_faults p b was holds bad) = absurd (no_faults files model faults c p b held holds bad)
+  one_refused_pair r s (at_stage c is held numbered breaks) (at_set d l was other out) = absurd (apart_set c d l held other numbered out)
+  one_refused_pair r s (at_stage c is held numbered breaks) (at_stage d was other numbered' also) = is ∙ sym was
+  one_refused_pair r s (at_stage c is held numbered breaks) (at_top d b was other numbered' typed wrong) = absurd (apart_stage d c other held typed breaks)
   one_refused_pair r s (at_top c a is held numbered typed wrong) (at_model b was bad) = absurd (no_model files model faults c b held bad)
   one_refused_pair r s (at_top c a is held numbered typed wrong) (at_faults p b was holds bad) = absurd (no_faults files model faults c p b held holds bad)
   one_refused_pair r s (at_top c a is held numbered typed wrong) (at_set d l was other out) = absurd (apart_set c d l held other numbered out)
-  one_refused_pair r s (at_top c a is held numbered typed wrong) (at_stage d b was other numbered' breaks) = absurd (apart_stage c d b held other typed breaks)
+  one_refused_pair r s (at_top c a is held numbered typed wrong) (at_stage d was other numbered' breaks) = absurd (apart_stage c d held other typed breaks)
   one_refused_pair r s (at_top c a is held numbered typed wrong) (at_top d b was other numbered' typed' also) =
       is
       ∙ ap (λ f. refusal.Shared (shared_refusal.Top f))
@@ -129,7 +129,7 @@ module _ (files : List NamedFile) (model faults top : Text) (set : List ℕ) (fi
   pair_not_refused c e r held word (at_model a is bad) = no_model files model faults c a held.holds bad
   pair_not_refused c e r held word (at_faults p a is holds bad) = no_faults files model faults c p a held.holds holds bad
   pair_not_refused c e r held word (at_set d k is other out) = apart_set c d k held.holds other held.numbered out
-  pair_not_refused c e r held word (at_stage d a is other numbered breaks) = apart_stage c d a held.holds other held.typed breaks
+  pair_not_refused c e r held word (at_stage d is other numbered breaks) = apart_stage c d held.holds other held.typed breaks
   pair_not_refused c e r held word (at_top d a is other numbered typed wrong) =
       word_not_wrong c.program held.holds.program.lawful.accepted top e a word (of_case files model faults (WrongIn a) c d held.holds other wrong)
 

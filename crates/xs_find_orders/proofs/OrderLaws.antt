@@ -16,6 +16,7 @@ use Rattle.xs_type_laws.specs.Costs.{state_bits}
 use Rattle.xs_encode_laws.specs.Bits.{state_of, inputs_of}
 use Rattle.xs_encode_laws.specs.Lists.{system_of}
 use Rattle.xs_text_laws.specs.Given.{GivesTrace}
+use Rattle.xs_text_laws.specs.Lines.{fed}
 use Rattle.xs_report.specs.Told.{told_trace}
 use Rattle.xs_text_laws.specs.Analysis.{told_ending}
 use Rattle.xs_value.specs.declared.ending.Ending.{Ending as Printed}
@@ -27,7 +28,7 @@ use Rattle.xs_cuts.specs.declared.answer.End.TheVariants.{Complete, Bounded}
 use Rattle.xs_report_laws.specs.Answered.{ending_of}
 use Rattle.xs_cert.specs.Seen.{seen}
 use Rattle.xs_cert.specs.declared.certificate.Certificate.{Certificate as Written}
-use Rattle.xs_certificate_laws.specs.CertificateText.{SpellsCertificate}
+use Rattle.xs_certificate_laws.specs.CertificateText.{IsWritable, version_two, lines_of}
 use Rattle.xs_certificate_laws.specs.Certified.{IsCertified}
 use Rattle.xs_certificate_laws.specs.Subject.{subject_of}
 use Rattle.xs_case_search.specs.Texts.{text_lines}
@@ -37,6 +38,7 @@ use Rattle.xs_reach_laws.specs.FaultlessLaws.{class_of, NoneReaches}
 use Rattle.xs_reach_laws.proofs.Refuted.{empty_refute, found_reach}
 use Rattle.xs_report_laws.specs.ExtendedTraces.{Ending, complete, bounded}
 use Rattle.xs_case_search.specs.Found.{IsCertificateFor}
+use Rattle.xs_case_search.proofs.Certifying.{spells_written}
 use Rattle.xs_loading.specs.Cases.{Case, HoldsCase}
 use Rattle.xs_loading.specs.Answered.{Told, Said, told_maybe, WritesPrefixMaybe}
 use Rattle.xs_loading.specs.LoadedEvents.{case_in}
@@ -255,13 +257,15 @@ module _ (s : StagedCase) (is : IsStagedCase s) (claim : Option Relation) (depth
   abbrev IsCertifiedWith : FlatModel → List FaultOf → Type 0
   IsCertifiedWith whole fs = IsCertified made (map mode_of fs) spoken (GivesTrace made) (subject_of whole made (map mode_of fs) spoken) (seen x)
 
-  pub claim_certified : IsCertifiedWith made faults → x.sets ≡ r.analysis.sets → x.size ≡ r.analysis.size → x.traces ≡ map (text_lines s.typed.model) r.analysis.traces → SpellsCertificate bytes (seen x) →
+  pub claim_certified : IsCertifiedWith made faults → x.sets ≡ r.analysis.sets → x.size ≡ r.analysis.size → x.traces ≡ map (text_lines s.typed.model) r.analysis.traces → IsWritable (seen x) →
+      bytes ≡ fed (lines_of version_two (seen x)) →
       CertifiesClaim (case_in s.loaded) s.set.items s.asked.first s.asked.second (flat_tree s.loaded.top) claim bytes
-  claim_certified certified sets size traces spells =
+  claim_certified certified sets size traces writable text =
       at_stage s is (λ m e. IsCertificateFor m [] e 0 [] [] bytes) claim spoken search.speaks
       (record {
         certificate = seen x;
-        spells = spells;
+        spells = spells_written bytes (seen x) writable text;
+        in_version_two = text;
         accepted = subst (λ whole. IsCertifiedWith whole []) (sym (no_bits made)) (subst (λ (fs : List FaultOf). IsCertifiedWith made fs) alone certified);
         has_size = size ∙ search.answer.size_is;
         has_sets = sets ∙ no_sets s claim depth r search none;

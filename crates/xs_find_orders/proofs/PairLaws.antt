@@ -6,13 +6,17 @@ use Rattle.xs_tree.specs.ProgramTree.{Text, ProgramTree}
 use Rattle.xs_tree.specs.ModelTree.{model_tree}
 use Rattle.xs_tree.specs.declared.model.FlatModel.{FlatModel as Model}
 use Rattle.xs_tree.specs.Flat.{FlatModel}
+use Rattle.xs_flat_laws.specs.FaultModes.{mode_of}
 use Rattle.xs_right_laws.specs.Sets.{has_number}
 use Rattle.xs_encode_laws.specs.FlatTraces.{IsNumbered}
 use Rattle.xs_encode_laws.proofs.Numbers.{each_has}
 use Rattle.xs_encode_laws.proofs.NameMeans.{each_joined}
 use Rattle.xs_type_laws.specs.Models.{IsTyped}
 use Rattle.xs_extend.specs.WovenFaults.{fault_tree}
+use Rattle.xs_cause_laws.specs.KindLaws.{AreOfKinds}
 use Rattle.xs_orders.specs.Stage.{stage}
+use Rattle.xs_orders.specs.KindLaws.{AreFaultNumbers}
+use Rattle.xs_orders.proofs.StageKinds.{stage_size_alone}
 use Rattle.xs_reach_laws.specs.Laws.{IsFaultNumber}
 use Rattle.xs_loading.specs.declared.status.Refusal.{Refusal as SharedRefusal}
 use Rattle.xs_loading.specs.declared.status.Refusal.TheVariants as shared_refusal
@@ -24,9 +28,10 @@ use Rattle.xs_loading.specs.declared.loaded.LoadedCase.{LoadedCase}
 use Rattle.xs_loading.specs.Inputs.{stop_at, RefusesModel, HoldsModel, RefusesFaults}
 use Rattle.xs_loading.specs.Wrongs.{IfRefused}
 use Rattle.xs_loading.specs.Wholes.{BreaksKinds}
-use Rattle.xs_loading.specs.Cases.{HoldsCase, IsWrongWord}
+use Rattle.xs_loading.specs.Cases.{Case, HoldsCase, IsWrongWord}
 use Rattle.xs_loading.specs.Loaded.{case_of, IsLoaded}
 use Rattle.xs_loading.proofs.LoadedLaws.{same_counts}
+use Rattle.xs_case_search.proofs.CaseKinds.{case_kinds, size_told}
 use Rattle.xs_reach_status.specs.declared.status.Refusal.{Refusal}
 use Rattle.xs_reach_status.specs.declared.status.Refusal.TheVariants as refusal
 use Rattle.xs_reach_status.specs.declared.stop.Stop.{Stop}
@@ -105,7 +110,19 @@ module _ (model faults top : Text) (set : List ℕ) (first second : ℕ) where
 
     by : RefusesStage l.limited set first second r → Refuses files r
     by (outside position e is) = at_set (case_of p l) position e holds (subst (λ n. IsFirstOutside n set position) same is)
-    by (unlawful fault e numbered breaks) = at_stage (case_of p l) fault e holds (subst (λ n. IsNumbered n set) same numbered) breaks
+    by (unlawful fault e numbered one other breaks) =
+        let c : Case = case_of p l in
+        let h = case_kinds c holds.program.flat holds.program.lawful holds.is_case in
+        let are : AreOfKinds c.flat c.modes = record { closed = h.closed; no_breach = h.no_breach; modes = h.modes; symbols = h.symbols } in
+        let many = length-map l.limited.faults mode_of in
+        let a = one.counts in
+        let b = one.within in
+        let d = other.counts in
+        let f = other.within in
+        let numbers : AreFaultNumbers (length c.modes) first second =
+        record { first_counts = omega (arith, a); first_within = omega (arith, b, many); second_counts = omega (arith, d); second_within = omega (arith, f, many) } in
+        let told = size_told (stage c.flat c.modes first second) fault breaks (λ rule item. stage_size_alone c.flat c.modes first second are numbers rule item) in
+        at_stage c (e ∙ ap stage_refusal told.1) holds (subst (λ n. IsNumbered n set) same numbered) told.0
 
   pub pair_no_top : (told : Option (List NamedFile)) (p : ProgramTree) (l : LoadedCase) (r : Refusal) (s : SharedRefusal) → r ≡ refusal.Shared s → IsLoaded p l →
       IfSome told (λ files. HoldsCase files model faults (case_of p l)) → IsNumbered (length l.limited.faults) set → IsTyped (stage (case_of p l).flat (case_of p l).modes first second) →

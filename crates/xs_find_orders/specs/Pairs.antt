@@ -6,7 +6,8 @@ use Rattle.xs_tree.specs.ModelTree.{model_tree}
 use Rattle.xs_flat_laws.specs.FaultModes.{mode_of}
 use Rattle.xs_right_laws.specs.Sets.{has_number}
 use Rattle.xs_encode_laws.specs.FlatTraces.{IsNumbered}
-use Rattle.xs_type_laws.specs.Models.{IsTyped}
+use Rattle.xs_type_laws.specs.Judged.{too_large}
+use Rattle.xs_type_laws.specs.Models.{IsTyped, IsFault}
 use Rattle.xs_types.specs.declared.typed.Typed.{Typed}
 use Rattle.xs_orders.specs.Stage.{stage}
 use Rattle.xs_reach_laws.specs.Laws.{IsFaultNumber}
@@ -19,6 +20,7 @@ use Rattle.xs_loading.specs.declared.status.Refusal.{Refusal as SharedRefusal}
 use Rattle.xs_loading.specs.declared.status.Refusal.TheVariants as shared_refusal
 use Rattle.xs_loading.specs.declared.loaded.Limited.{Limited}
 use Rattle.xs_loading.specs.Inputs.{RefusesModel, HoldsModel, RefusesFaults}
+use Rattle.xs_loading.specs.Wrongs.{kinds_fault}
 use Rattle.xs_loading.specs.Wholes.{BreaksKinds}
 use Rattle.xs_loading.specs.Cases.{Case, HoldsCase, IsWrongWord}
 use Rattle.xs_loading.specs.LoadedEvents.{IsEvent}
@@ -57,11 +59,11 @@ outside_refusal position = refusal.Set (record { part = part.Shared shared_part.
 abbrev pub stage_refusal : SharedFault → Refusal
 stage_refusal fault = refusal.Shared (shared_refusal.Faults fault)
 
--- A number of the set is that of no fault; or all are, and the model staged for the two is refused by a rule of kinds, or by its
--- limit of size.
+-- A number of the set is that of no fault; or all are, and so the two, and the model staged for these is refused by a rule of kinds, or
+-- by its limit of size.
 pub data RefusesStage (limited : Limited) (set : List ℕ) (first second : ℕ) (r : Refusal) : Type 0 where
   outside : (position : ℕ) → r ≡ outside_refusal position → IsFirstOutside (length limited.faults) set position → RefusesStage limited set first second r
-  unlawful : (fault : SharedFault) → r ≡ stage_refusal fault → IsNumbered (length limited.faults) set →
+  unlawful : (fault : SharedFault) → r ≡ stage_refusal fault → IsNumbered (length limited.faults) set → IsFaultNumber (length limited.faults) first → IsFaultNumber (length limited.faults) second →
       BreaksKinds (stage (model_tree limited.typed.model) (map mode_of limited.faults) first second) fault → RefusesStage limited set first second r
 
 -- The files hold a case; the numbers of the set are those of its faults; and the model staged for the two breaks no rule of kinds.
@@ -71,14 +73,14 @@ pub record HoldsPair (files : List NamedFile) (model faults : Text) (set : List 
   pub typed : IsTyped (stage c.flat c.modes first second)
 
 -- What a pair of faults of a set is refused for, in the order of the work: the model; the instructions; a number of the set; the
--- staged model; and the top event.
+-- limit of size of the staged model, which breaks no other rule of kinds; and the top event.
 pub data RefusesPair (files : List NamedFile) (model faults top : Text) (set : List ℕ) (first second : ℕ) (r : Refusal) : Type 0 where
   at_model : (s : SharedRefusal) → r ≡ refusal.Shared s → RefusesModel files model s → RefusesPair files model faults top set first second r
   at_faults : (p : ProgramTree) (s : SharedRefusal) → r ≡ refusal.Shared s → HoldsModel files model p → RefusesFaults files faults p s → RefusesPair files model faults top set first second r
   at_set : (c : Case) (position : ℕ) → r ≡ outside_refusal position → HoldsCase files model faults c → IsFirstOutside (length c.faults) set position →
       RefusesPair files model faults top set first second r
-  at_stage : (c : Case) (fault : SharedFault) → r ≡ stage_refusal fault → HoldsCase files model faults c → IsNumbered (length c.faults) set →
-      BreaksKinds (stage c.flat c.modes first second) fault → RefusesPair files model faults top set first second r
+  at_stage : (c : Case) → r ≡ stage_refusal (kinds_fault too_large 0) → HoldsCase files model faults c → IsNumbered (length c.faults) set →
+      IsFault (stage c.flat c.modes first second) too_large 0 → RefusesPair files model faults top set first second r
   at_top : (c : Case) (fault : SharedFault) → r ≡ refusal.Shared (shared_refusal.Top fault) → HoldsCase files model faults c → IsNumbered (length c.faults) set →
       IsTyped (stage c.flat c.modes first second) → IsWrongWord c.program top fault → RefusesPair files model faults top set first second r
 

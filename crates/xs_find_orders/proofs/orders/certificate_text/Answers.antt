@@ -1,8 +1,10 @@
+use Rattle.std.proofs.Common.{◌≡◌}
 use Rattle.std.proofs.lemmas.Result.{IfOk-weaker}
 use Rattle.xs_tree.specs.ModelTree.{model_tree, flat_tree}
 use Rattle.xs_loading.specs.LoadedEvents.{case_in}
 use Rattle.xs_cert.specs.Seen.{seen}
-use Rattle.xs_certificate_laws.specs.CertificateText.{SpellsCertificate}
+use Rattle.xs_text_laws.specs.Lines.{fed}
+use Rattle.xs_certificate_laws.specs.CertificateText.{version_two, lines_of}
 use Rattle.xs_find_orders.specs.Orders.{CertifiesClaim}
 use Rattle.xs_find_orders.proofs.StagedCases.{alone, certifiable_alone, complete_alone}
 use Rattle.xs_find_orders.proofs.OrderLaws.{claim_certified}
@@ -24,7 +26,7 @@ pub returns : goal.returns
 returns g c =
     let s = c.args.staged.now in
     let x = c.in_ok-certificate.certificate in
-    IfOk-weaker c.write.result (λ text. SpellsCertificate text (seen x)) (CertifiesClaim (case_in s.loaded) s.set.items s.asked.first s.asked.second (flat_tree s.loaded.top) c.args.claim)
-    (λ text spells. claim_certified s c.requires.staged c.args.claim c.args.depth c.args.searched.now c.requires.searched c.requires.none s.none c.requires.staged.none x text c.in_ok-certificate.ensures.certified
-    c.in_ok-certificate.ensures.sets c.in_ok-certificate.ensures.size c.in_ok-certificate.ensures.traces spells)
-    c.write.ensures.spells
+    IfOk-weaker c.write.result (λ bytes. bytes ≡ fed (lines_of version_two (seen x))) (CertifiesClaim (case_in s.loaded) s.set.items s.asked.first s.asked.second (flat_tree s.loaded.top) c.args.claim)
+    (λ bytes text. claim_certified s c.requires.staged c.args.claim c.args.depth c.args.searched.now c.requires.searched c.requires.none s.none c.requires.staged.none x bytes c.in_ok-certificate.ensures.certified
+    c.in_ok-certificate.ensures.sets c.in_ok-certificate.ensures.size c.in_ok-certificate.ensures.traces c.in_ok-certificate.ensures.writable text)
+    c.write.ensures.text

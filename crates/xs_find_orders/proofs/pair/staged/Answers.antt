@@ -46,4 +46,5 @@ pub returns-clause-refused : goal.returns-clause-refused
 returns-clause-refused c r e =
     let numbered : IsNumbered (length c.args.limited.now.faults) c.args.set.now = subst (λ n. IsNumbered n c.args.set.now) c.len.ensures c.in_ok-judge_set.ensures.ok in
     let bad = c.staged_model.ensures.refused r e in
-    unlawful bad.0 bad.1 numbered bad.2
+    unlawful bad.0 bad.1 numbered (number_of_fault (length c.args.limited.now.faults) c.args.set.now c.args.first numbered c.requires.one)
+    (number_of_fault (length c.args.limited.now.faults) c.args.set.now c.args.second numbered c.requires.other) bad.2

@@ -12,5 +12,5 @@ pub returns : goal.returns
 returns g c =
     let made = c.in_ok-certificate.ensures in
     IfOk-weaker c.write.result _ _
-    (λ text spelled. certificate_for c.args.case.now.limited.typed.model c.args.case.now.limited.full.model _ _ c.args.a.now c.in_ok-certificate.certificate text c.requires.whole made.certified made.size made.sets made.traces spelled)
-    c.write.ensures.spells
+    (λ bytes text. certificate_for c.args.case.now.limited.typed.model c.args.case.now.limited.full.model _ _ c.args.a.now c.in_ok-certificate.certificate bytes c.requires.whole made.certified made.size made.sets made.traces made.writable text)
+    c.write.ensures.text
