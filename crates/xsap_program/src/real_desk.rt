@@ -1,6 +1,6 @@
 //! The desk over the system's files and standard output: the trusted edge, which tells nothing of what
 //! files hold.
-ghost use Rattle.std.specs.Prelude.{◌≡◌, ◌≤◌, None, IsErrOf, IfOk, length};
+ghost use Rattle.std.specs.Prelude.{◌≤◌, None, IsErrOf, IfOk, length};
 ghost use Rattle.xs_desk.specs.Desk.{Rose};
 ghost use Rattle.xs_desk.specs.declared.desk.WriteStop.TheVariants as write_stop;
 
