@@ -1,13 +1,13 @@
 -- What a staged trace shows: the model's own values at the front of each valuation, and the relation at the end.
-use Rattle.std.proofs.Common.{◌≡◌, ℕ, zero, suc, ◌+◌, ◌<◌, ◌≤◌, Bool, true, false, List, [], ◌∷◌, ◌++◌, length, map, take, refl, ap, ◌∙◌, sym, subst, arith, ◌⊎◌, inl, inr}
-use Rattle.std.specs.Prelude.{nat_lt, IsTrue}
+use Rattle.std.proofs.Common.{◌≡◌, ℕ, zero, suc, ◌+◌, ◌<◌, ◌≤◌, Bool, true, false, List, [], ◌∷◌, ◌++◌, length, map, take, refl, ap, ◌∙◌, sym, arith, ◌⊎◌, inl, inr}
+use Rattle.std.specs.Prelude.{nat_lt}
 use Rattle.std.proofs.lemmas.Bool.Decides.{leb_tells}
 use Rattle.std.proofs.lemmas.List.{append_assoc, length-append}
 use Rattle.xs_tree.specs.Values.{Value, truth}
 use Rattle.xs_tree.specs.Trace.{Each}
 use Rattle.xs_tree.specs.Flat.{FlatModel}
 use Rattle.xs_flat_laws.specs.History.{Mode}
-use Rattle.xs_flat_laws.specs.FlatTrace.{IsFlatMoment, stands, stands_in_some, bits_after, told_from}
+use Rattle.xs_flat_laws.specs.FlatTrace.{IsFlatMoment, bits_after, told_from}
 use Rattle.xs_encode_laws.specs.FlatTraces.{last_of}
 use Rattle.xs_encode_laws.proofs.HistoryFacts.{last_told}
 use Rattle.xs_cause_laws.specs.Columns.{with_values, with_value}

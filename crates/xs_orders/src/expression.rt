@@ -3,18 +3,17 @@
 //! The main function is [`against`]. The claim itself is spoken of by the two booleans that `staging` adds.
 
 ghost use Rattle.std.specs.Prelude.{◌≡◌, ◌<◌, ◌≤◌, ◌+◌, ◌^◌, length, IfOk, if◌then◌else◌};
-ghost use Rattle.xs_tree.specs.Tree.{binary, not_of};
-ghost use Rattle.xs_tree.specs.declared.expr.Op.TheVariants as op;
+ghost use Rattle.xs_tree.specs.Tree.{not_of};
 ghost use Rattle.xs_tree.specs.ModelTree.{flat_tree, model_tree};
-ghost use Rattle.xs_right_laws.specs.Sets.{has_number as has};
 ghost use Rattle.xs_encode_laws.specs.FlatTraces.{IsNumbered};
 ghost use Rattle.xs_orders.specs.Stage.{against as against_tree, with_set as set_tree, with_claim as claim_tree, now_of};
 
 use crate::Relation;
-use crate::staging::{joined, negated, now};
+use crate::staging::now;
 use std::alloc::Global;
 use xs_scope::items::number_of;
 use xs_sets::has_number;
+use xs_staging::build::{binary, opposite};
 use xs_tree::copy_model::copy_flat;
 use xs_tree::model::{Flat, FlatModel};
 use xs_tree::{Expr, Op};
@@ -54,7 +53,7 @@ fn with_set(
     let mut made = copy_flat(alloc, top)?;
     for k in 0..faults {
         let part = failed(alloc, bit + k, has_number(set, u64::from(k) + 1))?;
-        made = joined(alloc, Op::And, made, part)?;
+        made = binary(alloc, Op::And, made, part)?;
     }
     Ok(made)
 }
@@ -66,7 +65,7 @@ fn failed(alloc: Global, bit: u32, is_in: bool) -> Result<Expr<Flat>, OutOfMemor
     if is_in {
         Ok(now(bit))
     } else {
-        negated(alloc, now(bit))
+        opposite(alloc, now(bit))
     }
 }
 
@@ -82,9 +81,9 @@ fn with_claim(
 {
     let against = match claim {
         None => return Ok(made),
-        Some(Relation::Before) => negated(alloc, now(ahead))?,
-        Some(Relation::After) => negated(alloc, now(ahead + 1))?,
-        Some(Relation::Together) => joined(alloc, Op::Or, now(ahead), now(ahead + 1))?,
+        Some(Relation::Before) => opposite(alloc, now(ahead))?,
+        Some(Relation::After) => opposite(alloc, now(ahead + 1))?,
+        Some(Relation::Together) => binary(alloc, Op::Or, now(ahead), now(ahead + 1))?,
     };
-    joined(alloc, Op::And, made, against)
+    binary(alloc, Op::And, made, against)
 }

@@ -4,16 +4,16 @@
 //! The main function is [`stage`].
 
 ghost use Rattle.std.specs.Prelude.{◌≡◌, ◌≢◌, ◌^◌, ◌<◌, ◌≤◌, length, map, IfOk, IsOk, OnOk};
-ghost use Rattle.xs_tree.specs.Tree.{binary, not_of, next_of};
+ghost use Rattle.xs_tree.specs.Tree.{binary as binary_tree, not_of};
 ghost use Rattle.xs_tree.specs.declared.expr.Op.TheVariants as op;
 ghost use Rattle.xs_tree.specs.ModelTree.{variable_tree, formula_tree, flat_tree, model_tree};
 ghost use Rattle.xs_flat_laws.specs.FaultModes.{mode_of};
-ghost use Rattle.xs_flat_laws.specs.History.{added as added_tree};
 ghost use Rattle.xs_orders.specs.Stage.{stage as stage_of, with_order, order_variable as variable_of, order_at_first as first_of, order_at_step as step_of, now_of, later_of, bit_number as bit_of};
 
 use std::alloc::Global;
 use xs_flat::with_history;
 use xs_scope::items::number_of;
+use xs_staging::build::{added, binary, opposite};
 use xs_tree::copy_model::boxed;
 use xs_tree::model::{FaultList, Flat, FlatModel, Formula, Role, Variable};
 use xs_tree::{Declared, Expr, Op};
@@ -88,7 +88,7 @@ fn order_at_first(alloc: Global, bit: u32, one: u32, other: u32) -> Result<Formu
     ensures { IfOk result (λ made. formula_tree made ≡ first_of bit one other) }
 {
     let value = alone(alloc, now(one), now(other))?;
-    Ok(added(joined(alloc, Op::Within, now(bit), value)?))
+    Ok(added(binary(alloc, Op::Within, now(bit), value)?))
 }
 
 /// `next(bit) in (bit | (next(one) & (!next(other))))`.
@@ -96,36 +96,17 @@ fn order_at_step(alloc: Global, bit: u32, one: u32, other: u32) -> Result<Formul
     ensures { IfOk result (λ made. formula_tree made ≡ step_of bit one other) }
 {
     let comes = alone(alloc, later(alloc, one)?, later(alloc, other)?)?;
-    let value = joined(alloc, Op::Or, now(bit), comes)?;
+    let value = binary(alloc, Op::Or, now(bit), comes)?;
     let target = later(alloc, bit)?;
-    Ok(added(joined(alloc, Op::Within, target, value)?))
+    Ok(added(binary(alloc, Op::Within, target, value)?))
 }
 
 /// The one and not the other.
 fn alone(alloc: Global, one: Expr<Flat>, other: Expr<Flat>) -> Result<Expr<Flat>, OutOfMemory>
-    ensures { IfOk result (λ made. flat_tree made ≡ binary op.And (flat_tree one) (not_of (flat_tree other))) }
+    ensures { IfOk result (λ made. flat_tree made ≡ binary_tree op.And (flat_tree one) (not_of (flat_tree other))) }
 {
-    let other = negated(alloc, other)?;
-    joined(alloc, Op::And, one, other)
-}
-
-/// Two expressions with an operator between.
-pub(crate) fn joined(
-    alloc: Global,
-    op: Op,
-    one: Expr<Flat>,
-    other: Expr<Flat>,
-) -> Result<Expr<Flat>, OutOfMemory>
-    ensures { IfOk result (λ made. flat_tree made ≡ binary op (flat_tree one) (flat_tree other)) }
-{
-    Ok(Expr::Binary(op, boxed(alloc, one)?, boxed(alloc, other)?))
-}
-
-/// That an expression is not TRUE.
-pub(crate) fn negated(alloc: Global, e: Expr<Flat>) -> Result<Expr<Flat>, OutOfMemory>
-    ensures { IfOk result (λ made. flat_tree made ≡ not_of (flat_tree e)) }
-{
-    Ok(Expr::Not(boxed(alloc, e)?))
+    let other = opposite(alloc, other)?;
+    binary(alloc, Op::And, one, other)
 }
 
 /// The variable of a number.
@@ -140,15 +121,4 @@ fn later(alloc: Global, number: u32) -> Result<Expr<Flat>, OutOfMemory>
     ensures { IfOk result (λ made. flat_tree made ≡ later_of number) }
 {
     Ok(Expr::Next(boxed(alloc, now(number))?))
-}
-
-/// A formula that no item has.
-fn added(value: Expr<Flat>) -> Formula
-    ensures { formula_tree result ≡ added_tree (flat_tree value) }
-{
-    Formula {
-        value,
-        item: 0,
-        instance: 0,
-    }
 }

@@ -23,9 +23,8 @@ use Rattle.xs_reach_status.specs.Finished.{ended_with}
 use Rattle.xs_reach_status.specs.declared.status.Status.{Status}
 use Rattle.xs_reach_status.specs.declared.status.Status.TheVariants as status
 use Rattle.xs_find_causes.specs.declared.staged.StagedEvent.{StagedEvent}
-use Rattle.xs_find_causes.specs.Causes.{staged_in, events_in, HasFoundCauses}
-use Rattle.xs_find_orders.specs.Orders.{Order, claimed, either, staged_of, EndsOrder, HasOrder}
-use Rattle.xs_find_odds.specs.Odds.{HasOdds}
+use Rattle.xs_find_causes.specs.Causes.{staged_in, events_in}
+use Rattle.xs_find_orders.specs.Orders.{Order, claimed, either, staged_of, EndsOrder}
 use Rattle.xsap_program.specs.Runs.{IsDone, IsShort}
 
 never : {A : Type 0} {s : Status} {k : ℕ} → s ≡ status.Done → s ≡ status.Bounded k → A

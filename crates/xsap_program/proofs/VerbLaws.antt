@@ -1,14 +1,9 @@
 -- From what a verb promises to what is promised of the command.
-use Rattle.std.proofs.Common.{◌≡◌, ◌⊎◌, inl, inr, List, Option, Some, None, Result, Ok, Err, IfOk, IfSome}
+use Rattle.std.proofs.Common.{◌⊎◌, inl, inr, List, Option, Some, None, Result, Ok, Err, IfOk, IfSome}
 use Rattle.std.specs.Prelude.{OnErr}
 use Rattle.xs_desk.specs.declared.files.NamedFile.{NamedFile}
 use Rattle.xs_reach_status.specs.declared.status.Status.{Status}
 use Rattle.xs_reach_status.specs.declared.stop.Stop.{Stop}
-
--- what holds however a call ends holds where it is stopped
-pub on_stop : (r : Result Status Stop) (P : Type 0) → P → OnErr r P
-on_stop (Ok s) P h = tt
-on_stop (Err e) P h = h
 
 -- what is so where something is given is so
 pub given_done : (r : Result Status Stop) (A : Type 0) (P : Status → Type 0) → IfOk r (λ s. A → P s) → A → IfOk r P

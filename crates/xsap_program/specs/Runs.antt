@@ -1,5 +1,5 @@
 -- What a run of a further verb comes to: what words ask for is done, or refused, or a part of it stands.
-use Rattle.std.specs.Prelude.{◌≡◌, ◌⊎◌, ℕ, ◌+◌, ◌^◌, ◌<◌, List, [], IfSome, codes}
+use Rattle.std.specs.Prelude.{◌≡◌, ◌⊎◌, ℕ, ◌+◌, ◌^◌, ◌<◌, List, [], Result, IfOk, IfSome, IsErrOf, OnErr, codes}
 use Rattle.xs_desk.specs.declared.files.NamedFile.{NamedFile}
 use Rattle.xs_desk.specs.Desk.{SaysPrefix}
 use Rattle.xs_flat_laws.specs.History.{with_history}
@@ -16,6 +16,8 @@ use Rattle.xs_reach_status.specs.declared.status.Refusal.{Refusal}
 use Rattle.xs_reach_status.specs.declared.status.Refusal.TheVariants as refusal
 use Rattle.xs_reach_status.specs.declared.status.Status.{Status}
 use Rattle.xs_reach_status.specs.declared.status.Status.TheVariants as status
+use Rattle.xs_reach_status.specs.declared.stop.Stop.{Stop}
+use Rattle.xs_reach_status.specs.declared.stop.Stop.TheVariants as stop
 use Rattle.xs_reach_status.specs.Statuses.{refusal_text}
 use Rattle.xs_find_odds.specs.Odds.{RefusesOdds, HasOdds, SaysOddsInPart}
 use Rattle.xs_find_causes.specs.declared.staged.StagedEvent.{StagedEvent}
@@ -62,6 +64,22 @@ RefusesCommand (check_causes model faults file top cert) files r = RefusesCauseC
 RefusesCommand (orders model faults top set first second depth cert) files r = RefusesPair files model faults top (numbers_of set) first second r
 RefusesCommand (check_orders model faults top set first second claim cert) files r = RefusesCheck files model faults top (numbers_of set) first second claim cert r
 RefusesCommand (odds model faults top depth) files r = RefusesOdds files model faults top r
+
+-- where a call ends well, it has done what the command asks for
+abbrev pub HasDone : Command → Result Status Stop → Told → Told → Said → Said → Type 0
+HasDone c done before after said now = IfOk done (λ s. IfSome before (λ files. IsDone c files s before after said now))
+
+-- where a call refuses, what the command asks for is refused so
+abbrev pub Refuses : Command → Result Status Stop → Told → Type 0
+Refuses c done before = (r : Refusal) → IsErrOf done (stop.Refused r) → IfSome before (λ files. RefusesCommand c files r)
+
+-- where a call refuses, no file has changed, and nothing was said
+abbrev pub ChangesNothing : Result Status Stop → Told → Told → Said → Said → Type 0
+ChangesNothing done before after said now = (r : Refusal) → IsErrOf done (stop.Refused r) → (after ≡ before) × (now ≡ said)
+
+-- where a call is stopped, nothing was done, or a part of what the command asks for
+abbrev pub LeavesPart : Command → Result Status Stop → Told → Told → Said → Said → Type 0
+LeavesPart c done before after said now = OnErr done (((after ≡ before) × (now ≡ said)) ⊎ IfSome before (λ files. IsDoneInPart c files before after said now))
 
 -- the words are refused, or what they ask for is
 pub data IsRefused (files : List NamedFile) (words : List Text) (r : Refusal) : Type 0 where

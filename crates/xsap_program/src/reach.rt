@@ -1,13 +1,13 @@
 //! The top call of the further verbs.
 //!
 //! The main function is [`run`]. Its contract has all that is promised of a run of a further verb; `verbs` calls the crate of each.
-ghost use Rattle.std.specs.Prelude.{◌≡◌, ◌≤◌, ◌⊎◌, ℕ, IfOk, IfSome, IsErrOf, OnOk};
+ghost use Rattle.std.specs.Prelude.{◌≡◌, ◌≤◌, ◌⊎◌, ℕ, IfSome, IsErrOf, OnOk};
 ghost use Rattle.xs_desk.specs.Desk.{Rose, said_more, SaysPrefix};
 ghost use Rattle.xs_desk.specs.declared.desk.WriteStop.TheVariants as write_stop;
 ghost use Rattle.xs_reach_words.specs.Commands.{Command as Asked};
 ghost use Rattle.xs_reach_words.specs.Meaning.{Means, BreaksFirst};
 ghost use Rattle.xs_reach_words.specs.Reading.{begins_further};
-ghost use Rattle.xs_reach_words.specs.Seen.{texts, seen, rule_of, place_of};
+ghost use Rattle.xs_reach_words.specs.Seen.{texts, rule_of, place_of};
 ghost use Rattle.xs_reach_words.specs.declared.fault.WordFault.{WordFault};
 ghost use Rattle.xs_reach_status.specs.declared.status.Refusal.{Refusal};
 ghost use Rattle.xs_reach_status.specs.declared.status.Refusal.TheVariants as refused;

@@ -1,7 +1,7 @@
 //! The desk over the system's files and standard output: the trusted edge, which tells nothing of what
 //! files hold. A file is absent where the system finds none of the name, also since a part of the name is no folder;
 //! want of memory is told as that, and whatever else fails is counted.
-ghost use Rattle.std.specs.Prelude.{◌≡◌, ◌≤◌, None, IsErrOf, IfOk, length};
+ghost use Rattle.std.specs.Prelude.{◌≤◌, None, IsErrOf, IfOk, length};
 ghost use Rattle.xs_desk.specs.Desk.{Rose};
 ghost use Rattle.xs_desk.specs.declared.desk.WriteStop.TheVariants as write_stop;
 

@@ -1,16 +1,15 @@
 //! The further verbs: what each has done, refuses, and leaves behind.
 //!
 //! Each verb stands in a crate of its own; here its clauses are told of the command. The main function is `carry_out`.
-ghost use Rattle.std.specs.Prelude.{◌≡◌, ◌≤◌, ◌⊎◌, List, IfOk, IfSome, IsErrOf, OnErr};
+ghost use Rattle.std.specs.Prelude.{◌≡◌, ◌≤◌, List, IfOk, IsErrOf};
 ghost use Rattle.xs_desk.specs.Desk.{Rose};
 ghost use Rattle.xs_reach_words.specs.Commands.{Text};
 ghost use Rattle.xs_reach_words.specs.Meaning.{Means};
 ghost use Rattle.xs_reach_words.specs.Seen.{seen};
 ghost use Rattle.xs_reach_words.specs.declared.command.Command.TheVariants as asks;
-ghost use Rattle.xs_reach_status.specs.declared.status.Refusal.{Refusal};
 ghost use Rattle.xs_reach_status.specs.declared.stop.Stop.TheVariants as stops;
 ghost use Rattle.xs_reach_status.specs.Finished.{IsFinished};
-ghost use Rattle.xsap_program.specs.Runs.{IsDone, IsDoneInPart, RefusesCommand};
+ghost use Rattle.xsap_program.specs.Runs.{HasDone, Refuses, ChangesNothing, LeavesPart};
 
 use std::alloc::Global;
 use xs_adviser::Panel;
@@ -30,12 +29,13 @@ pub(crate) fn carry_out<D: Desk>(
     desk: &mut D,
     command: &Command,
 ) -> Result<Status, Stop>
-    ensures done { (words : List Text) → Means words (seen command.now) → IfOk result (λ s. IfSome (D.files desk.old) (λ files. IsDone (seen command.now) files s (D.files desk.old) (D.files desk.new) (D.said desk.old) (D.said desk.new))) }
+    ensures done { (words : List Text) → Means words (seen command.now) →
+        HasDone (seen command.now) result (D.files desk.old) (D.files desk.new) (D.said desk.old) (D.said desk.new) }
     ensures finished { IfOk result IsFinished }
-    ensures refused { (words : List Text) → Means words (seen command.now) → (r : Refusal) → IsErrOf result (stops.Refused r) → IfSome (D.files desk.old) (λ files. RefusesCommand (seen command.now) files r) }
-    ensures untouched { (r : Refusal) → IsErrOf result (stops.Refused r) → (D.files desk.new ≡ D.files desk.old) × (D.said desk.new ≡ D.said desk.old) }
-    ensures left { (words : List Text) → Means words (seen command.now) → OnErr result (((D.files desk.new ≡ D.files desk.old) × (D.said desk.new ≡ D.said desk.old)) ⊎ IfSome (D.files desk.old) (λ files.
-        IsDoneInPart (seen command.now) files (D.files desk.old) (D.files desk.new) (D.said desk.old) (D.said desk.new))) }
+    ensures refused { (words : List Text) → Means words (seen command.now) → Refuses (seen command.now) result (D.files desk.old) }
+    ensures untouched { ChangesNothing result (D.files desk.old) (D.files desk.new) (D.said desk.old) (D.said desk.new) }
+    ensures left { (words : List Text) → Means words (seen command.now) →
+        LeavesPart (seen command.now) result (D.files desk.old) (D.files desk.new) (D.said desk.old) (D.said desk.new) }
     ensures failed { IsErrOf result stops.Desk → Rose (D.faults desk.old) (D.faults desk.new) }
     ensures later { D.faults desk.old ≤ D.faults desk.new }
     ensures quiet { D.quiet desk.old → D.quiet desk.new × (D.faults desk.new ≡ D.faults desk.old) }
@@ -51,12 +51,11 @@ pub(crate) fn carry_out<D: Desk>(
 
 /// Finds the minimal cut sets of faults and common causes.
 fn causes<D: Desk>(alloc: Global, desk: &mut D, asked: &FindCauses) -> Result<Status, Stop>
-    ensures done { IfOk result (λ s. IfSome (D.files desk.old) (λ files. IsDone (seen (asks.Causes asked.now)) files s (D.files desk.old) (D.files desk.new) (D.said desk.old) (D.said desk.new))) }
+    ensures done { HasDone (seen (asks.Causes asked.now)) result (D.files desk.old) (D.files desk.new) (D.said desk.old) (D.said desk.new) }
     ensures finished { IfOk result IsFinished }
-    ensures refused { (r : Refusal) → IsErrOf result (stops.Refused r) → IfSome (D.files desk.old) (λ files. RefusesCommand (seen (asks.Causes asked.now)) files r) }
-    ensures untouched { (r : Refusal) → IsErrOf result (stops.Refused r) → (D.files desk.new ≡ D.files desk.old) × (D.said desk.new ≡ D.said desk.old) }
-    ensures left { OnErr result (((D.files desk.new ≡ D.files desk.old) × (D.said desk.new ≡ D.said desk.old)) ⊎ IfSome (D.files desk.old) (λ files.
-        IsDoneInPart (seen (asks.Causes asked.now)) files (D.files desk.old) (D.files desk.new) (D.said desk.old) (D.said desk.new))) }
+    ensures refused { Refuses (seen (asks.Causes asked.now)) result (D.files desk.old) }
+    ensures untouched { ChangesNothing result (D.files desk.old) (D.files desk.new) (D.said desk.old) (D.said desk.new) }
+    ensures left { LeavesPart (seen (asks.Causes asked.now)) result (D.files desk.old) (D.files desk.new) (D.said desk.old) (D.said desk.new) }
     ensures failed { IsErrOf result stops.Desk → Rose (D.faults desk.old) (D.faults desk.new) }
     ensures later { D.faults desk.old ≤ D.faults desk.new }
     ensures quiet { D.quiet desk.old → D.quiet desk.new × (D.faults desk.new ≡ D.faults desk.old) }
@@ -66,12 +65,11 @@ fn causes<D: Desk>(alloc: Global, desk: &mut D, asked: &FindCauses) -> Result<St
 
 /// Judges a certificate of faults and common causes.
 fn checked_causes<D: Desk>(alloc: Global, desk: &mut D, asked: &CheckCauses) -> Result<Status, Stop>
-    ensures done { IfOk result (λ s. IfSome (D.files desk.old) (λ files. IsDone (seen (asks.CheckCauses asked.now)) files s (D.files desk.old) (D.files desk.new) (D.said desk.old) (D.said desk.new))) }
+    ensures done { HasDone (seen (asks.CheckCauses asked.now)) result (D.files desk.old) (D.files desk.new) (D.said desk.old) (D.said desk.new) }
     ensures finished { IfOk result IsFinished }
-    ensures refused { (r : Refusal) → IsErrOf result (stops.Refused r) → IfSome (D.files desk.old) (λ files. RefusesCommand (seen (asks.CheckCauses asked.now)) files r) }
-    ensures untouched { (r : Refusal) → IsErrOf result (stops.Refused r) → (D.files desk.new ≡ D.files desk.old) × (D.said desk.new ≡ D.said desk.old) }
-    ensures left { OnErr result (((D.files desk.new ≡ D.files desk.old) × (D.said desk.new ≡ D.said desk.old)) ⊎ IfSome (D.files desk.old) (λ files.
-        IsDoneInPart (seen (asks.CheckCauses asked.now)) files (D.files desk.old) (D.files desk.new) (D.said desk.old) (D.said desk.new))) }
+    ensures refused { Refuses (seen (asks.CheckCauses asked.now)) result (D.files desk.old) }
+    ensures untouched { ChangesNothing result (D.files desk.old) (D.files desk.new) (D.said desk.old) (D.said desk.new) }
+    ensures left { LeavesPart (seen (asks.CheckCauses asked.now)) result (D.files desk.old) (D.files desk.new) (D.said desk.old) (D.said desk.new) }
     ensures failed { IsErrOf result stops.Desk → Rose (D.faults desk.old) (D.faults desk.new) }
     ensures later { D.faults desk.old ≤ D.faults desk.new }
     ensures quiet { D.quiet desk.old → D.quiet desk.new × (D.faults desk.new ≡ D.faults desk.old) }
@@ -81,12 +79,14 @@ fn checked_causes<D: Desk>(alloc: Global, desk: &mut D, asked: &CheckCauses) -> 
 
 /// Finds in which order two faults of a set come.
 fn orders<D: Desk>(alloc: Global, desk: &mut D, asked: &FindOrders) -> Result<Status, Stop>
-    ensures done { (words : List Text) → Means words (seen (asks.Orders asked.now)) → IfOk result (λ s. IfSome (D.files desk.old) (λ files. IsDone (seen (asks.Orders asked.now)) files s (D.files desk.old) (D.files desk.new) (D.said desk.old) (D.said desk.new))) }
+    ensures done { (words : List Text) → Means words (seen (asks.Orders asked.now)) →
+        HasDone (seen (asks.Orders asked.now)) result (D.files desk.old) (D.files desk.new) (D.said desk.old) (D.said desk.new) }
     ensures finished { IfOk result IsFinished }
-    ensures refused { (words : List Text) → Means words (seen (asks.Orders asked.now)) → (r : Refusal) → IsErrOf result (stops.Refused r) → IfSome (D.files desk.old) (λ files. RefusesCommand (seen (asks.Orders asked.now)) files r) }
-    ensures untouched { (r : Refusal) → IsErrOf result (stops.Refused r) → (D.files desk.new ≡ D.files desk.old) × (D.said desk.new ≡ D.said desk.old) }
-    ensures left { (words : List Text) → Means words (seen (asks.Orders asked.now)) → OnErr result (((D.files desk.new ≡ D.files desk.old) × (D.said desk.new ≡ D.said desk.old)) ⊎ IfSome (D.files desk.old) (λ files.
-        IsDoneInPart (seen (asks.Orders asked.now)) files (D.files desk.old) (D.files desk.new) (D.said desk.old) (D.said desk.new))) }
+    ensures refused { (words : List Text) → Means words (seen (asks.Orders asked.now)) →
+        Refuses (seen (asks.Orders asked.now)) result (D.files desk.old) }
+    ensures untouched { ChangesNothing result (D.files desk.old) (D.files desk.new) (D.said desk.old) (D.said desk.new) }
+    ensures left { (words : List Text) → Means words (seen (asks.Orders asked.now)) →
+        LeavesPart (seen (asks.Orders asked.now)) result (D.files desk.old) (D.files desk.new) (D.said desk.old) (D.said desk.new) }
     ensures failed { IsErrOf result stops.Desk → Rose (D.faults desk.old) (D.faults desk.new) }
     ensures later { D.faults desk.old ≤ D.faults desk.new }
     ensures quiet { D.quiet desk.old → D.quiet desk.new × (D.faults desk.new ≡ D.faults desk.old) }
@@ -97,12 +97,14 @@ fn orders<D: Desk>(alloc: Global, desk: &mut D, asked: &FindOrders) -> Result<St
 
 /// Judges a certificate of such an order.
 fn checked_orders<D: Desk>(alloc: Global, desk: &mut D, asked: &CheckOrders) -> Result<Status, Stop>
-    ensures done { (words : List Text) → Means words (seen (asks.CheckOrders asked.now)) → IfOk result (λ s. IfSome (D.files desk.old) (λ files. IsDone (seen (asks.CheckOrders asked.now)) files s (D.files desk.old) (D.files desk.new) (D.said desk.old) (D.said desk.new))) }
+    ensures done { (words : List Text) → Means words (seen (asks.CheckOrders asked.now)) →
+        HasDone (seen (asks.CheckOrders asked.now)) result (D.files desk.old) (D.files desk.new) (D.said desk.old) (D.said desk.new) }
     ensures finished { IfOk result IsFinished }
-    ensures refused { (words : List Text) → Means words (seen (asks.CheckOrders asked.now)) → (r : Refusal) → IsErrOf result (stops.Refused r) → IfSome (D.files desk.old) (λ files. RefusesCommand (seen (asks.CheckOrders asked.now)) files r) }
-    ensures untouched { (r : Refusal) → IsErrOf result (stops.Refused r) → (D.files desk.new ≡ D.files desk.old) × (D.said desk.new ≡ D.said desk.old) }
-    ensures left { (words : List Text) → Means words (seen (asks.CheckOrders asked.now)) → OnErr result (((D.files desk.new ≡ D.files desk.old) × (D.said desk.new ≡ D.said desk.old)) ⊎ IfSome (D.files desk.old) (λ files.
-        IsDoneInPart (seen (asks.CheckOrders asked.now)) files (D.files desk.old) (D.files desk.new) (D.said desk.old) (D.said desk.new))) }
+    ensures refused { (words : List Text) → Means words (seen (asks.CheckOrders asked.now)) →
+        Refuses (seen (asks.CheckOrders asked.now)) result (D.files desk.old) }
+    ensures untouched { ChangesNothing result (D.files desk.old) (D.files desk.new) (D.said desk.old) (D.said desk.new) }
+    ensures left { (words : List Text) → Means words (seen (asks.CheckOrders asked.now)) →
+        LeavesPart (seen (asks.CheckOrders asked.now)) result (D.files desk.old) (D.files desk.new) (D.said desk.old) (D.said desk.new) }
     ensures failed { IsErrOf result stops.Desk → Rose (D.faults desk.old) (D.faults desk.new) }
     ensures later { D.faults desk.old ≤ D.faults desk.new }
     ensures quiet { D.quiet desk.old → D.quiet desk.new × (D.faults desk.new ≡ D.faults desk.old) }
@@ -113,12 +115,11 @@ fn checked_orders<D: Desk>(alloc: Global, desk: &mut D, asked: &CheckOrders) -> 
 
 /// Finds the minimal cut sets, and bounds their probabilities.
 fn odds<D: Desk>(alloc: Global, desk: &mut D, asked: &FindOdds) -> Result<Status, Stop>
-    ensures done { IfOk result (λ s. IfSome (D.files desk.old) (λ files. IsDone (seen (asks.Odds asked.now)) files s (D.files desk.old) (D.files desk.new) (D.said desk.old) (D.said desk.new))) }
+    ensures done { HasDone (seen (asks.Odds asked.now)) result (D.files desk.old) (D.files desk.new) (D.said desk.old) (D.said desk.new) }
     ensures finished { IfOk result IsFinished }
-    ensures refused { (r : Refusal) → IsErrOf result (stops.Refused r) → IfSome (D.files desk.old) (λ files. RefusesCommand (seen (asks.Odds asked.now)) files r) }
-    ensures untouched { (r : Refusal) → IsErrOf result (stops.Refused r) → (D.files desk.new ≡ D.files desk.old) × (D.said desk.new ≡ D.said desk.old) }
-    ensures left { OnErr result (((D.files desk.new ≡ D.files desk.old) × (D.said desk.new ≡ D.said desk.old)) ⊎ IfSome (D.files desk.old) (λ files.
-        IsDoneInPart (seen (asks.Odds asked.now)) files (D.files desk.old) (D.files desk.new) (D.said desk.old) (D.said desk.new))) }
+    ensures refused { Refuses (seen (asks.Odds asked.now)) result (D.files desk.old) }
+    ensures untouched { ChangesNothing result (D.files desk.old) (D.files desk.new) (D.said desk.old) (D.said desk.new) }
+    ensures left { LeavesPart (seen (asks.Odds asked.now)) result (D.files desk.old) (D.files desk.new) (D.said desk.old) (D.said desk.new) }
     ensures failed { IsErrOf result stops.Desk → Rose (D.faults desk.old) (D.faults desk.new) }
     ensures later { D.faults desk.old ≤ D.faults desk.new }
     ensures quiet { D.quiet desk.old → D.quiet desk.new × (D.faults desk.new ≡ D.faults desk.old) }

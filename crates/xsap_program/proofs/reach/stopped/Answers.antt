@@ -1,5 +1,4 @@
-use Rattle.std.proofs.Common.{inl, inr, refl, sym, ◌∙◌, ◌≡◌}
-use Rattle.xs_reach_status.specs.declared.stop.Stop.TheVariants as stops
+use Rattle.std.proofs.Common.{inl, inr, refl, sym, ◌∙◌}
 use Rattle.xsap_program.proofs.RunLaws.{desk_unrefused, memory_unrefused}
 use Rattle.xsap_program.proofs.reach.stopped.Goals as goal
 

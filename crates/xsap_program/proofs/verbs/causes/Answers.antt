@@ -1,5 +1,5 @@
-use Rattle.xsap_program.proofs.VerbLaws.{on_stop}
 use Rattle.xsap_program.proofs.verbs.causes.Goals as goal
+use Rattle.xs_find_odds.proofs.OddsLaws.{on_stop}
 
 pub returns-clause-done : goal.returns-clause-done
 returns-clause-done g c = c.find_causes.ensures.ok

@@ -1,5 +1,6 @@
-use Rattle.xsap_program.proofs.VerbLaws.{on_stop, done_so, said_left}
+use Rattle.xsap_program.proofs.VerbLaws.{done_so, said_left}
 use Rattle.xsap_program.proofs.verbs.checked_causes.Goals as goal
+use Rattle.xs_find_odds.proofs.OddsLaws.{on_stop}
 
 pub returns-clause-done : goal.returns-clause-done
 returns-clause-done g c = done_so _ _ c.check_causes.result _ _ c.check_causes.ensures.ok c.check_causes.ensures.ends c.check_causes.ensures.files

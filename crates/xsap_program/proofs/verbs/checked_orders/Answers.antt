@@ -1,5 +1,6 @@
-use Rattle.xsap_program.proofs.VerbLaws.{on_stop, given_done, done_and, line_left}
+use Rattle.xsap_program.proofs.VerbLaws.{given_done, done_and, line_left}
 use Rattle.xsap_program.proofs.verbs.checked_orders.Goals as goal
+use Rattle.xs_find_odds.proofs.OddsLaws.{on_stop}
 
 pub returns-clause-done : goal.returns-clause-done
 returns-clause-done g c words means =

@@ -1,5 +1,6 @@
-use Rattle.xsap_program.proofs.VerbLaws.{on_stop, given_done, given_left}
+use Rattle.xsap_program.proofs.VerbLaws.{given_done, given_left}
 use Rattle.xsap_program.proofs.verbs.orders.Goals as goal
+use Rattle.xs_find_odds.proofs.OddsLaws.{on_stop}
 
 pub returns-clause-done : goal.returns-clause-done
 returns-clause-done g c words means = given_done c.find_orders.result _ _ c.find_orders.ensures.ok (c.words_ask_pairs.ensures.orders _ _ _ _ _ _ _ _ _ means)
