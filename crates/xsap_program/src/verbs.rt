@@ -3,7 +3,7 @@
 //! Each verb stands in a crate of its own; here its clauses are told of the command. The main function is `carry_out`.
 ghost use Rattle.std.specs.Prelude.{◌≡◌, ◌≤◌, ◌⊎◌, List, IfOk, IfSome, IsErrOf, OnErr};
 ghost use Rattle.xs_desk.specs.Desk.{Rose};
-ghost use Rattle.xs_reach_words.specs.Commands.{Text};
+ghost use Rattle.xs_words.specs.Commands.{Text};
 ghost use Rattle.xs_reach_words.specs.Meaning.{Means};
 ghost use Rattle.xs_reach_words.specs.Seen.{seen};
 ghost use Rattle.xs_reach_words.specs.declared.command.Command.TheVariants as asks;
