@@ -3,14 +3,17 @@ use Rattle.std.proofs.Common.{◌≡◌, ◌⊎◌, inl, inr, ℕ, Bool, true, f
 use Rattle.std.specs.Prelude.{codes, nat_eq, IsTrue}
 use Rattle.std.proofs.lemmas.Bool.{eq-eqb}
 use Rattle.xs_right_laws.specs.Sets.{has_number}
-use Rattle.xs_reach_words.specs.declared.choice.Kind.{Kind}
-use Rattle.xs_reach_words.specs.declared.choice.Kind.TheVariants as kind
+use Rattle.xs_words.specs.declared.choice.Kind.{Kind}
+use Rattle.xs_words.specs.declared.choice.Kind.TheVariants as kind
+use Rattle.xs_words.specs.Commands.{Text, Given}
+use Rattle.xs_words.specs.Sets.{number_of, numbers_of, IsSet, Each}
+use Rattle.xs_words.specs.Table.{kind_in, Fits}
+use Rattle.xs_words.specs.Meaning.{Gives, GivesNumber, IsLawful, AreLawful}
 use Rattle.xs_reach_words.specs.declared.verb.Verb.{Verb}
 use Rattle.xs_reach_words.specs.declared.verb.Verb.TheVariants as verb
-use Rattle.xs_reach_words.specs.Commands.{Text, Command, Given, orders, check_orders}
-use Rattle.xs_reach_words.specs.Sets.{number_of, numbers_of, IsSet, Each}
-use Rattle.xs_reach_words.specs.Table.{options_of, kind_in, Fits}
-use Rattle.xs_reach_words.specs.Meaning.{Makes, finds_causes, checks_causes, finds_orders, checks_orders, finds_odds, Gives, GivesNumber, IsLawful, AreLawful, IsOfPair, IsOneOf, not_of_set, both_one, IsInside, AreInside}
+use Rattle.xs_reach_words.specs.Commands.{Command, orders, check_orders}
+use Rattle.xs_reach_words.specs.Table.{options_of}
+use Rattle.xs_reach_words.specs.Meaning.{Makes, finds_causes, checks_causes, finds_orders, checks_orders, finds_odds, IsOfPair, IsOneOf, not_of_set, both_one, IsInside, AreInside}
 use Rattle.xs_find_orders.specs.Pairs.{IsPair, IsAskedPair, OrdersAskPairs, ChecksAskPairs}
 
 -- a pair of the list that gives an option this value, and what holds of each pair

@@ -36,7 +36,7 @@ use Rattle.xs_loading.specs.Cases.{HoldsCase, IsTopWord}
 use Rattle.xs_certificate_file.specs.CertificateFiles.{RefusesCertificate, HoldsCertificate}
 use Rattle.xs_loading.specs.Answered.{Said}
 use Rattle.xs_loading.specs.LoadedEvents.{case_in}
-use Rattle.xs_reach_words.specs.Sets.{numbers_of}
+use Rattle.xs_words.specs.Sets.{numbers_of}
 use Rattle.xs_reach_status.specs.declared.status.Refusal.{Refusal}
 use Rattle.xs_reach_status.specs.declared.status.Refusal.TheVariants as refusal
 use Rattle.xs_reach_status.specs.declared.status.Status.TheVariants as status

@@ -48,7 +48,7 @@ use Rattle.xs_find_orders.specs.declared.pair.PairWords.{PairWords}
 use Rattle.xs_find_orders.specs.declared.pair.StagedCase.{StagedCase}
 use Rattle.xs_find_orders.specs.declared.searched.Searched.{Searched}
 use Rattle.xs_find_orders.specs.declared.orders.Conclusion.{Conclusion}
-use Rattle.xs_reach_words.specs.Sets.{numbers_of}
+use Rattle.xs_words.specs.Sets.{numbers_of}
 use Rattle.xs_find_orders.specs.Pairs.{IsAsked, IsStagedCase}
 use Rattle.xs_find_orders.specs.Orders.{Order, claimed, either, IsClaimed, IsShown, EndsOrder, CertifiesClaim, IsClaimWritten, IsClaimBegun, order_text, order_report, HasOrder, OrdersInPart}
 use Rattle.xs_find_orders.specs.Claimed.{IsSearchOf, IsTraceAgainst, IsToldBy, IsCertifiedOrder, HasClaimCertificate, Concludes, IsConclusion, ConcludesFrom, ConcludesInPart, relation_in}

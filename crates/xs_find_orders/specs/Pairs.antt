@@ -11,7 +11,7 @@ use Rattle.xs_type_laws.specs.Models.{IsTyped, IsFault}
 use Rattle.xs_types.specs.declared.typed.Typed.{Typed}
 use Rattle.xs_orders.specs.Stage.{stage}
 use Rattle.xs_reach_laws.specs.Laws.{IsFaultNumber}
-use Rattle.xs_reach_words.specs.Sets.{numbers_of, IsSet}
+use Rattle.xs_words.specs.Sets.{numbers_of, IsSet}
 use Rattle.xs_reach_words.specs.Commands.{orders, check_orders}
 use Rattle.xs_reach_words.specs.Meaning.{Means}
 use Rattle.xs_loading.specs.declared.status.InputFault.{InputFault as SharedFault}

@@ -9,7 +9,7 @@ ghost use Rattle.xs_cert.specs.Seen.{seen};
 ghost use Rattle.xs_check.specs.Fit.{IsCheckable};
 ghost use Rattle.xs_check.specs.Found.{IsJudgedUnlisted};
 ghost use Rattle.xs_loading.specs.LoadedEvents.{case_in};
-ghost use Rattle.xs_reach_words.specs.Sets.{numbers_of};
+ghost use Rattle.xs_words.specs.Sets.{numbers_of};
 ghost use Rattle.xs_reach_status.specs.declared.status.Refusal.{Refusal};
 ghost use Rattle.xs_reach_status.specs.declared.stop.Stop.TheVariants as stop;
 ghost use Rattle.xs_reach_status.specs.Finished.{IsFinished};

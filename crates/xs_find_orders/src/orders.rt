@@ -10,7 +10,7 @@ ghost use Rattle.xs_text_laws.specs.Analysis.{told_ending};
 ghost use Rattle.xs_cuts.specs.declared.answer.End.TheVariants as ends;
 ghost use Rattle.xs_loading.specs.LoadedEvents.{case_in};
 ghost use Rattle.xs_loading.specs.Answered.{told_maybe, WritesPrefixMaybe};
-ghost use Rattle.xs_reach_words.specs.Sets.{numbers_of};
+ghost use Rattle.xs_words.specs.Sets.{numbers_of};
 ghost use Rattle.xs_reach_status.specs.declared.status.Refusal.{Refusal};
 ghost use Rattle.xs_reach_status.specs.declared.stop.Stop.TheVariants as stop;
 ghost use Rattle.xs_reach_status.specs.Finished.{IsFinished, ended_with};

@@ -9,7 +9,7 @@ ghost use Rattle.xs_type_laws.specs.Models.{IsTyped};
 ghost use Rattle.xs_encode_laws.specs.FlatTraces.{IsNumbered};
 ghost use Rattle.xs_orders.specs.Stage.{stage as stage_of};
 ghost use Rattle.xs_reach_laws.specs.Laws.{IsFaultNumber};
-ghost use Rattle.xs_reach_words.specs.Sets.{numbers_of, IsSet};
+ghost use Rattle.xs_words.specs.Sets.{numbers_of, IsSet};
 ghost use Rattle.xs_loading.specs.declared.input.Input.TheVariants as input;
 ghost use Rattle.xs_loading.specs.declared.status.InputFault.{InputFault as SharedFault};
 ghost use Rattle.xs_loading.specs.Inputs.{stop_at};
@@ -33,10 +33,11 @@ use xs_loading::wrong::Wrong;
 use xs_orders::stage;
 use xs_reach_status::status::{InputFault, Part, Refusal};
 use xs_reach_status::stop::Stop;
-use xs_reach_words::{WordFault, set_numbers};
 use xs_sets::has_number;
 use xs_tree::model::FaultList;
 use xs_types::Typed;
+use xs_words::WordFault;
+use xs_words::set::set_numbers;
 
 /// The files of a model and its instructions, and the words of a top event, a set of faults, and two of its numbers.
 #[derive(Clone, Copy)]

@@ -3,8 +3,8 @@ use Rattle.std.specs.Prelude.{◌≡◌, ℕ, ℤ, pos, ◌++◌, codes}
 use Rattle.xs_tree.specs.ProgramTree.{Text}
 use Rattle.xs_desk.specs.declared.desk.WriteStop.{WriteStop}
 use Rattle.xs_desk.specs.declared.desk.WriteStop.TheVariants as write_stop
-use Rattle.xs_reach_words.specs.declared.fault.WordFault.{WordFault}
-use Rattle.xs_reach_words.specs.Seen.{rule_of, place_of}
+use Rattle.xs_words.specs.declared.fault.WordFault.{WordFault}
+use Rattle.xs_words.specs.Seen.{rule_of, place_of}
 use Rattle.xs_loading.specs.Statuses as shared
 use Rattle.xs_loading.specs.declared.input.Stop.{Stop as SharedStop}
 use Rattle.xs_loading.specs.declared.input.Stop.TheVariants as shared_stop

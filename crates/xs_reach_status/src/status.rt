@@ -6,8 +6,8 @@ ghost use Rattle.xs_reach_status.specs.Statuses.{number_of, refusal_number, part
 
 use std::alloc::Global;
 use xs_loading::status as shared;
-use xs_reach_words::WordFault;
 use xs_value::{ByteList, Ending, OutOfMemory};
+use xs_words::WordFault;
 
 /// What is wrong with an input: how far the work on it came.
 #[derive(Clone, Copy, Debug, PartialEq, Eq)]

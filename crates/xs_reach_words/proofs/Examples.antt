@@ -1,14 +1,9 @@
 -- What the definitions give for a few words.
-use Rattle.std.proofs.Common.{◌≡◌, [], ◌∷◌, refl, codes}
-use Rattle.xs_reach_words.specs.declared.fault.WordFault.TheVariants as fault
+use Rattle.std.proofs.Common.{[], ◌∷◌, refl, codes}
+use Rattle.xs_words.specs.declared.fault.WordFault.TheVariants as fault
 use Rattle.xs_reach_words.specs.Commands.{odds}
-use Rattle.xs_reach_words.specs.Sets.{numbers_of}
 use Rattle.xs_reach_words.specs.Meaning.{Means, BreaksFirst}
 use Rattle.xs_reach_words.proofs.ReadingLaws.{read_means, read_breaks}
-
--- the numbers of a set
-numbers_of_set : numbers_of (codes "2 10 256") ≡ 2 ∷ 10 ∷ 256 ∷ []
-numbers_of_set = refl
 
 -- the options may stand in any order
 any_order : Means (codes "odds" ∷ codes "--depth" ∷ codes "4" ∷ codes "--top" ∷ codes "t" ∷ codes "--faults" ∷ codes "f" ∷ codes "--model" ∷ codes "m" ∷ []) (odds (codes "m") (codes "f") (codes "t") 4)

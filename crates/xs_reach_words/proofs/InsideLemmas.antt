@@ -4,21 +4,24 @@ use Rattle.std.specs.Prelude.{nat_eq}
 use Rattle.std.proofs.lemmas.Bool.Decides.{nat_tests}
 use Rattle.std.proofs.lemmas.List.{append-nil}
 use Rattle.std.proofs.lemmas.Bool.{false≢true, and_parts, and_from, or_cases, or_left, or_right}
-use Rattle.xs_reach_words.specs.declared.choice.Kind.TheVariants as kind
+use Rattle.xs_words.specs.declared.choice.Kind.TheVariants as kind
+use Rattle.xs_words.specs.declared.fault.WordFault.{WordFault}
+use Rattle.xs_words.specs.declared.fault.WordFault.TheVariants as fault
+use Rattle.xs_words.specs.Commands.{Text, Given}
+use Rattle.xs_words.specs.Sets.{Each, number_of, IsNumeral, words_of, IsSet}
+use Rattle.xs_words.specs.Table.{Choice, kind_in, IsWithin, Fits}
+use Rattle.xs_words.specs.Meaning.{Gives, IsGiven, IsLawful, AreLawful, AreThere, option_place}
+use Rattle.xs_words.specs.Reading.{number_in, value_in, text_in, first_of, same_number, has_number}
+use Rattle.xs_words.proofs.ListLemmas.{bytes_same, same_bytes, Each-append, is_false}
+use Rattle.xs_words.proofs.NumberLemmas.{numbered, true-is_numeral}
+use Rattle.xs_words.proofs.PairLemmas.{value-given, given-value}
+use Rattle.xs_words.proofs.SoundLemmas.{first_none}
+use Rattle.xs_words.proofs.ValueLemmas.{fits_given, text_given, text_is}
 use Rattle.xs_reach_words.specs.declared.verb.Verb.{Verb}
 use Rattle.xs_reach_words.specs.declared.verb.Verb.TheVariants as verb
-use Rattle.xs_reach_words.specs.declared.fault.WordFault.{WordFault}
-use Rattle.xs_reach_words.specs.declared.fault.WordFault.TheVariants as fault
-use Rattle.xs_reach_words.specs.Commands.{Text, Given}
-use Rattle.xs_reach_words.specs.Sets.{Each, number_of, IsNumeral, words_of, IsSet}
-use Rattle.xs_reach_words.specs.Table.{Choice, options_of, kind_in, IsWithin, Fits}
-use Rattle.xs_reach_words.specs.Meaning.{Gives, IsGiven, IsLawful, AreLawful, AreThere, IsOneOf, IsOfPair, IsOutside, not_of_set, both_one, IsInside, AreInside, option_place}
-use Rattle.xs_reach_words.specs.Reading.{number_in, value_in, text_in, first_of, same_number, has_number, is_second, is_of_pair, is_outside, outside_here, outside_from, set_fault_by, set_fault}
-use Rattle.xs_reach_words.proofs.ListLemmas.{bytes_same, same_bytes, Each-append, is_false}
-use Rattle.xs_reach_words.proofs.NumberLemmas.{numbered, true-is_numeral}
-use Rattle.xs_reach_words.proofs.PairLemmas.{value-given, given-value}
-use Rattle.xs_reach_words.proofs.SoundLemmas.{first_none}
-use Rattle.xs_reach_words.proofs.MadeLemmas.{fits_given, text_given, text_is}
+use Rattle.xs_reach_words.specs.Table.{options_of}
+use Rattle.xs_reach_words.specs.Meaning.{IsOneOf, IsOfPair, IsOutside, not_of_set, both_one, IsInside, AreInside}
+use Rattle.xs_reach_words.specs.Reading.{is_second, is_of_pair, is_outside, outside_here, outside_from, set_fault_by, set_fault}
 
 number_is : (w : Text) → IsNumeral w → number_in w ≡ Some (number_of w)
 number_is w n = numbered w (true-is_numeral w n)
@@ -143,8 +146,8 @@ record HasPair (options : List Choice) (ps : List Given) : Type 0 where
 has_pair : (v : Verb) (ps : List Given) → AreThere (options_of v) ps → (kind_in (options_of v) (codes "--set") ≡ None) ⊎ HasPair (options_of v) ps
 has_pair verb.Causes ps there = inl refl
 has_pair verb.CheckCauses ps there = inl refl
-has_pair verb.Orders ps there = inr (record { set = refl; first = refl; second = refl; there = there.1.1.1.1.0 })
-has_pair verb.CheckOrders ps there = inr (record { set = refl; first = refl; second = refl; there = there.1.1.1.1.0 })
+has_pair verb.Orders ps there = inr (record { set = refl; first = refl; second = refl; there = there.1.1.1.1.0 refl })
+has_pair verb.CheckOrders ps there = inr (record { set = refl; first = refl; second = refl; there = there.1.1.1.1.0 refl })
 has_pair verb.Odds ps there = inl refl
 
 -- an option that is none of the verb's is not given

@@ -2,18 +2,19 @@
 use Rattle.std.proofs.Common.{◌≡◌, ℕ, ◌+◌, ◌-◌, ◌*◌, ◌≤◌, ◌<◌, Bool, true, false, List, [], ◌∷◌, ◌++◌, length, take, drop, get_or, Option, Some, None, is_some, Bor, if◌then◌else◌, sym, subst, ap, ◌∙◌, refl, arith}
 use Rattle.std.proofs.lemmas.Bool.{false≢true}
 use Rattle.std.proofs.lemmas.List.{length-map}
+use Rattle.xs_words.specs.declared.fault.WordFault.{WordFault}
+use Rattle.xs_words.specs.declared.fault.WordFault.TheVariants as fault
+use Rattle.xs_words.specs.Commands.{Text}
+use Rattle.xs_words.specs.Reading.{pairs_of, first_of, pair_fault, missing_from, same_from, option_fault}
+use Rattle.xs_words.specs.Seen.{texts}
+use Rattle.xs_words.proofs.PairLemmas.{no_pair}
+use Rattle.xs_words.proofs.SoundLemmas.{first_none}
+use Rattle.xs_words.proofs.LoopLemmas.{Read, read_none, read_more, few_words}
+use Rattle.xs_words.proofs.StepLemmas.{Words, two_more}
 use Rattle.xs_reach_words.specs.declared.verb.Verb.{Verb}
 use Rattle.xs_reach_words.specs.declared.verb.Verb.TheVariants as verb
-use Rattle.xs_reach_words.specs.declared.fault.WordFault.{WordFault}
-use Rattle.xs_reach_words.specs.declared.fault.WordFault.TheVariants as fault
-use Rattle.xs_reach_words.specs.Commands.{Text}
 use Rattle.xs_reach_words.specs.Table.{options_of}
-use Rattle.xs_reach_words.specs.Reading.{pairs_of, first_of, pair_fault, missing_from, same_from, option_fault, is_outside, outside_here, outside_from, set_fault, fault_after}
-use Rattle.xs_reach_words.specs.Seen.{texts}
-use Rattle.xs_reach_words.proofs.PairLemmas.{no_pair}
-use Rattle.xs_reach_words.proofs.SoundLemmas.{first_none}
-use Rattle.xs_reach_words.proofs.LoopLemmas.{Read, read_none, read_more, few_words}
-use Rattle.xs_reach_words.proofs.StepLemmas.{Words, two_more}
+use Rattle.xs_reach_words.specs.Reading.{is_outside, outside_here, outside_from, set_fault, fault_after}
 
 -- What stands of the search: what was read has no fault outside, and what is left has the fault of all.
 pub record Passed (set first : Text) (words : List Text) (at : ℕ) (rest : List Text) : Type 0 where

@@ -1,38 +1,38 @@
 -- What is read is what the words mean, or the rule that they break first, and each is one.
-use Rattle.std.proofs.Common.{◌≡◌, ◌≢◌, ⊎_elim, ℕ, ◌+◌, ◌-◌, ◌≤◌, Bool, true, false, List, [], ◌∷◌, ◌++◌, length, take, drop, get_or, Option, Some, None, Result, Ok, Err, IfOk, IfErr, codes, Bor, if◌then◌else◌, sym, subst, ap, ◌∙◌, refl}
+use Rattle.std.proofs.Common.{◌≡◌, ◌≢◌, ⊎_elim, ℕ, ◌+◌, ◌-◌, ◌≤◌, List, [], ◌∷◌, ◌++◌, length, take, drop, get_or, Option, Some, None, Result, Ok, Err, IfOk, IfErr, codes, Bor, sym, subst, ap, ◌∙◌, refl}
 use Rattle.std.specs.Str.{bytes_eq}
+use Rattle.xs_words.specs.declared.fault.WordFault.{WordFault}
+use Rattle.xs_words.specs.declared.fault.WordFault.TheVariants as fault
+use Rattle.xs_words.specs.Commands.{Text, Given, spread}
+use Rattle.xs_words.specs.Meaning.{Gives, AreLawful, AreThere, AreDifferent, option_place}
+use Rattle.xs_words.specs.Reading.{pairs_of, first_of, option_fault, command_or}
+use Rattle.xs_words.specs.Seen.{texts, rule_of, place_of}
+use Rattle.xs_words.proofs.ListLemmas.{bytes_same}
+use Rattle.xs_words.proofs.PairLemmas.{pairs_of-spread}
+use Rattle.xs_words.proofs.SoundLemmas.{first_cases, first_none, option_sound, option_holds}
+use Rattle.xs_words.proofs.CompleteLemmas.{option_complete, option_clear}
+use Rattle.xs_words.proofs.StepLemmas.{first_word}
+use Rattle.xs_words.proofs.VerbLemmas.{verb_if, or_err, or_ok}
 use Rattle.xs_reach_words.specs.declared.verb.Verb.{Verb}
 use Rattle.xs_reach_words.specs.declared.verb.Verb.TheVariants as verb
-use Rattle.xs_reach_words.specs.declared.fault.WordFault.{WordFault}
-use Rattle.xs_reach_words.specs.declared.fault.WordFault.TheVariants as fault
 use Rattle.xs_reach_words.specs.declared.command.Command as code
-use Rattle.xs_reach_words.specs.Commands.{Text, Command, Given, spread}
+use Rattle.xs_reach_words.specs.Commands.{Command}
 use Rattle.xs_reach_words.specs.Table.{name_of, options_of}
-use Rattle.xs_reach_words.specs.Meaning.{Gives, AreLawful, AreThere, AreDifferent, AreInside, Makes, Means, BreaksFirst, no_verb, unknown_verb, not_in_set, an_option, option_place}
+use Rattle.xs_reach_words.specs.Meaning.{AreInside, Makes, Means, BreaksFirst, no_verb, unknown_verb, not_in_set, an_option}
 use Rattle.xs_reach_words.specs.Laws.{OneCommand, OneFault, CommandsHaveNoFault}
-use Rattle.xs_reach_words.specs.Reading.{verb_in, pairs_of, first_of, option_fault, set_fault, fault_after, made, command_or, verb_read, reading}
-use Rattle.xs_reach_words.specs.Seen.{texts, seen, seen_result, rule_of, place_of}
-use Rattle.xs_reach_words.proofs.ListLemmas.{bytes_same}
-use Rattle.xs_reach_words.proofs.PairLemmas.{pairs_of-spread}
-use Rattle.xs_reach_words.proofs.SoundLemmas.{first_cases, first_none, option_sound, option_holds}
+use Rattle.xs_reach_words.specs.Reading.{verb_in, set_fault, fault_after, made, verb_read, reading}
+use Rattle.xs_reach_words.specs.Seen.{seen, seen_result}
 use Rattle.xs_reach_words.proofs.InsideLemmas.{inside_sound, inside_complete, outside_found, outside_told}
-use Rattle.xs_reach_words.proofs.CompleteLemmas.{option_complete, option_clear}
 use Rattle.xs_reach_words.proofs.MadeLemmas.{made_makes, makes_made}
-use Rattle.xs_reach_words.proofs.StepLemmas.{first_word}
 
 -- Verbs.
-verb_if : (name : Text) (t : Bool) (v : Verb) (next : Option Verb) → (t ≡ true → name ≡ name_of v) → ((w : Verb) → next ≡ Some w → name ≡ name_of w) →
-    (w : Verb) → (if t then Some v else next) ≡ Some w → name ≡ name_of w
-verb_if name true v next here later w e = let same : v ≡ w = cc in here refl ∙ ap name_of same
-verb_if name false v next here later w e = later w e
-
 verb_sound : (name : Text) (v : Verb) → verb_in name ≡ Some v → name ≡ name_of v
 verb_sound name =
-    verb_if name (bytes_eq name (codes "causes")) verb.Causes _ (bytes_same name (codes "causes"))
-    (verb_if name (bytes_eq name (codes "check-causes")) verb.CheckCauses _ (bytes_same name (codes "check-causes"))
-    (verb_if name (bytes_eq name (codes "orders")) verb.Orders _ (bytes_same name (codes "orders"))
-    (verb_if name (bytes_eq name (codes "check-orders")) verb.CheckOrders _ (bytes_same name (codes "check-orders"))
-    (verb_if name (bytes_eq name (codes "odds")) verb.Odds None (bytes_same name (codes "odds")) (λ w e. cc)))))
+    verb_if name_of name (bytes_eq name (codes "causes")) verb.Causes _ (bytes_same name (codes "causes"))
+    (verb_if name_of name (bytes_eq name (codes "check-causes")) verb.CheckCauses _ (bytes_same name (codes "check-causes"))
+    (verb_if name_of name (bytes_eq name (codes "orders")) verb.Orders _ (bytes_same name (codes "orders"))
+    (verb_if name_of name (bytes_eq name (codes "check-orders")) verb.CheckOrders _ (bytes_same name (codes "check-orders"))
+    (verb_if name_of name (bytes_eq name (codes "odds")) verb.Odds None (bytes_same name (codes "odds")) (λ w e. cc)))))
 
 verb_complete : (v : Verb) → verb_in (name_of v) ≡ Some v
 verb_complete verb.Causes = refl
@@ -55,14 +55,6 @@ after_sound v words f e =
     (first_cases (option_fault (options_of v) words) (set_fault (pairs_of words)) f e)
 
 -- What is read stands.
-or_err : (o : Option WordFault) (c : Command) (f : WordFault) → command_or o c ≡ Err f → o ≡ Some f
-or_err None c f e = cc
-or_err (Some g) c f e = cc
-
-or_ok : (o : Option WordFault) (c d : Command) → command_or o c ≡ Ok d → (o ≡ None) × (c ≡ d)
-or_ok None c d e = (refl, cc)
-or_ok (Some g) c d e = cc
-
 err_by : (name : Text) (words : List Text) (f : WordFault) (o : Option Verb) → verb_in name ≡ o → verb_read o words ≡ Err f → BreaksFirst (name ∷ words) (rule_of f) (place_of f)
 err_by name words f None is e =
     let same : fault.UnknownVerb 1 ≡ f = cc in

@@ -1,6 +1,7 @@
 -- What holds of all words: they mean at most one command, break at most one rule first, and never both.
 use Rattle.std.specs.Prelude.{◌≡◌, ℕ, List}
-use Rattle.xs_reach_words.specs.Commands.{Text, Command}
+use Rattle.xs_words.specs.Commands.{Text}
+use Rattle.xs_reach_words.specs.Commands.{Command}
 use Rattle.xs_reach_words.specs.Meaning.{Means, BreaksFirst}
 
 abbrev pub OneCommand : List Text → Type 0

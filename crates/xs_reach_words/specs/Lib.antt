@@ -1,5 +1,4 @@
 pub mod Commands
-pub mod Sets
 pub mod Table
 pub mod Meaning
 pub mod Laws

@@ -1,68 +1,12 @@
 -- The command that words mean, and the rule that they break first, with its place. Places of words count from 1.
-use Rattle.std.specs.Prelude.{◌≡◌, ◌≢◌, ◌⊎◌, ℕ, ◌+◌, ◌*◌, List, [], ◌∷◌, ◌++◌, Some, None, length, codes}
-use Rattle.xs_reach_words.specs.declared.choice.Kind.{Kind}
-use Rattle.xs_reach_words.specs.declared.choice.Kind.TheVariants as kind
+use Rattle.std.specs.Prelude.{◌≡◌, ◌≢◌, ◌⊎◌, ℕ, ◌+◌, List, [], ◌∷◌, ◌++◌, codes}
+use Rattle.xs_words.specs.Commands.{Text, Given, spread}
+use Rattle.xs_words.specs.Sets.{Each, number_of, numbers_of}
+use Rattle.xs_words.specs.Meaning.{Gives, GivesNumber, AreLawful, AreThere, AreDifferent, option_place, BreaksOption}
 use Rattle.xs_reach_words.specs.declared.verb.Verb.{Verb}
 use Rattle.xs_reach_words.specs.declared.verb.Verb.TheVariants as verb
-use Rattle.xs_reach_words.specs.Commands.{Text, Command, causes, check_causes, orders, check_orders, odds, Given, spread}
-pub use Rattle.xs_reach_words.specs.Sets.{Each}
-use Rattle.xs_reach_words.specs.Sets.{number_of, numbers_of}
-use Rattle.xs_reach_words.specs.Table.{Choice, name_of, options_of, kind_in, Fits}
-
--- each two of the list, the earlier one first
-abbrev pub EachTwo : {A : Type 0} → (A → A → Type 0) → List A → Type 0
-EachTwo R [] = Unit {0}
-EachTwo R (x ∷ xs) = Each (R x) xs × EachTwo R xs
-
--- the pairs give the option this value
-abbrev pub Gives : List Given → Text → Text → Type 0
-Gives [] option value = ⊥
-Gives (p ∷ ps) option value = ((p.option ≡ option) × (p.value ≡ value)) ⊎ Gives ps option value
-
-abbrev pub IsGiven : List Given → Text → Type 0
-IsGiven pairs option = (value : Text) × Gives pairs option value
-
-abbrev pub IsNotGiven : List Given → Text → Type 0
-IsNotGiven pairs option = Each (λ p. p.option ≢ option) pairs
-
--- the pair is one of the options with a value that fits it
-pub record IsLawful (options : List Choice) (pair : Given) : Type 0 where
-  pub kind : Kind
-  pub known : kind_in options pair.option ≡ Some kind
-  pub fits : Fits kind pair.value
-
--- each pair is one of the options with a value that fits it, and no option comes twice
-pub record AreLawful (options : List Choice) (pairs : List Given) : Type 0 where
-  pub each : Each (IsLawful options) pairs
-  pub once : EachTwo (λ p q. p.option ≢ q.option) pairs
-
--- the option is there
-abbrev pub IsThere : List Given → Choice → Type 0
-IsThere pairs c = IsGiven pairs c.name
-
--- no option is left out
-abbrev pub AreThere : List Choice → List Given → Type 0
-AreThere options pairs = Each (IsThere pairs) options
-
--- the value of the pair is the name of a file
-abbrev pub IsFile : List Choice → Given → Type 0
-IsFile options p = kind_in options p.option ≡ Some kind.File
-
--- both are files and have one name
-pub record SameFile (options : List Choice) (p q : Given) : Type 0 where
-  pub first : IsFile options p
-  pub second : IsFile options q
-  pub same : p.value ≡ q.value
-
--- no two files have one name
-abbrev pub AreDifferent : List Choice → List Given → Type 0
-AreDifferent options pairs = EachTwo (λ p q. SameFile options p q → ⊥) pairs
-
--- the pairs give the option this number
-pub record GivesNumber (pairs : List Given) (option : Text) (number : ℕ) : Type 0 where
-  pub value : Text
-  pub given : Gives pairs option value
-  pub is : number_of value ≡ number
+use Rattle.xs_reach_words.specs.Commands.{Command, causes, check_causes, orders, check_orders, odds}
+use Rattle.xs_reach_words.specs.Table.{name_of, options_of}
 
 -- The two faults of a set.
 abbrev pub IsOfPair : Text → Type 0
@@ -109,27 +53,6 @@ pub record Means (words : List Text) (command : Command) : Type 0 where
   pub different : AreDifferent (options_of verb) pairs
   pub inside : AreInside pairs
   pub makes : Makes pairs verb command
-
--- the place of the option after these pairs
-abbrev pub option_place : List Given → ℕ
-option_place before = 2 * length before + 2
-
--- what is broken first by the words after the verb, where these are its options: the pairs from left to right, in each the
--- option before its value; then the options that are missing; then the names of files
-pub data BreaksOption (options : List Choice) (words : List Text) : ℕ → ℕ → Type 0 where
-  unknown_option : (before : List Given) (option : Text) (after : List Text) → words ≡ spread before ++ option ∷ after → AreLawful options before →
-      kind_in options option ≡ None → BreaksOption options words 3 (option_place before)
-  comes_twice : (before : List Given) (option : Text) (after : List Text) (k : Kind) → words ≡ spread before ++ option ∷ after → AreLawful options before →
-      kind_in options option ≡ Some k → IsGiven before option → BreaksOption options words 4 (option_place before)
-  no_value : (before : List Given) (option : Text) (k : Kind) → words ≡ spread before ++ option ∷ [] → AreLawful options before →
-      kind_in options option ≡ Some k → IsNotGiven before option → BreaksOption options words 6 (option_place before)
-  bad_number : (before : List Given) (option value : Text) (after : List Text) (k : Kind) → words ≡ spread before ++ option ∷ value ∷ after → AreLawful options before →
-      kind_in options option ≡ Some k → IsNotGiven before option → (Fits k value → ⊥) → BreaksOption options words 7 (option_place before + 1)
-  missing : (pairs : List Given) (front : List Choice) (c : Choice) (back : List Choice) → words ≡ spread pairs → AreLawful options pairs →
-      options ≡ front ++ c ∷ back → Each (IsThere pairs) front → IsNotGiven pairs c.name → BreaksOption options words 5 (length front + 1)
-  same_name : (before : List Given) (p : Given) (after : List Given) (q : Given) → words ≡ spread (before ++ p ∷ after) → AreLawful options (before ++ p ∷ after) →
-      AreThere options (before ++ p ∷ after) → AreDifferent options before → Gives before q.option q.value → SameFile options q p →
-      BreaksOption options words 8 (option_place before + 1)
 
 -- the rule that the words break first, and its place; the two faults of a set come last
 pub data BreaksFirst (words : List Text) : ℕ → ℕ → Type 0 where

@@ -1,19 +1,9 @@
--- Words, commands, faults and options of the program as contracts see them.
-use Rattle.std.specs.Prelude.{ℕ, List, map, Result, Ok, Err}
-use Rattle.std.specs.Borrow.{Bor}
-use Rattle.xs_reach_words.specs.declared.choice.Choice.{Choice}
-use Rattle.xs_reach_words.specs.declared.fault.WordFault.{WordFault}
-use Rattle.xs_reach_words.specs.declared.fault.WordFault.TheVariants as fault
+-- Commands of the program as contracts see them.
+use Rattle.std.specs.Prelude.{Result, Ok, Err}
+use Rattle.xs_words.specs.declared.fault.WordFault.{WordFault}
 use Rattle.xs_reach_words.specs.declared.command.Command.{Command}
 use Rattle.xs_reach_words.specs.declared.command.Command.TheVariants as command
 use Rattle.xs_reach_words.specs.Commands as meant
-use Rattle.xs_reach_words.specs.Table as table
-
-abbrev pub texts : List (Bor (List ℕ)) → List (List ℕ)
-texts words = map (λ w. w.now) words
-
-abbrev pub viewed : Choice → table.Choice
-viewed c = record { name = c.name.now; kind = c.kind }
 
 abbrev pub seen : Command → meant.Command
 seen (command.Causes c) = meant.causes c.model.now c.faults.now c.causes.now c.top.now c.depth c.cert.now
@@ -26,26 +16,3 @@ seen (command.Odds c) = meant.odds c.model.now c.faults.now c.top.now c.depth
 abbrev pub seen_result : Result Command WordFault → Result meant.Command WordFault
 seen_result (Ok c) = Ok (seen c)
 seen_result (Err f) = Err f
-
--- the number of a rule
-abbrev pub rule_of : WordFault → ℕ
-rule_of (fault.NoVerb at) = 1
-rule_of (fault.UnknownVerb at) = 2
-rule_of (fault.UnknownOption at) = 3
-rule_of (fault.Twice at) = 4
-rule_of (fault.Missing at) = 5
-rule_of (fault.NoValue at) = 6
-rule_of (fault.BadNumber at) = 7
-rule_of (fault.SameName at) = 8
-rule_of (fault.NotInSet at) = 9
-
-abbrev pub place_of : WordFault → ℕ
-place_of (fault.NoVerb at) = at
-place_of (fault.UnknownVerb at) = at
-place_of (fault.UnknownOption at) = at
-place_of (fault.Twice at) = at
-place_of (fault.Missing at) = at
-place_of (fault.NoValue at) = at
-place_of (fault.BadNumber at) = at
-place_of (fault.SameName at) = at
-place_of (fault.NotInSet at) = at

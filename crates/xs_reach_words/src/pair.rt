@@ -1,12 +1,13 @@
 // The two faults of a set, which are in it and differ.
 ghost use Rattle.std.specs.Prelude.{◌≡◌, ◌≤◌, [], length};
-ghost use Rattle.xs_reach_words.specs.Reading.{pairs_of, is_of_pair as is_one_of_pair, is_outside as is_outside_by, outside_from, set_fault};
-ghost use Rattle.xs_reach_words.specs.Seen.{texts};
+ghost use Rattle.xs_words.specs.Reading.{pairs_of};
+ghost use Rattle.xs_words.specs.Seen.{texts};
+ghost use Rattle.xs_reach_words.specs.Reading.{is_of_pair as is_one_of_pair, is_outside as is_outside_by, outside_from, set_fault};
 
-use crate::fault::WordFault;
-use crate::number::number;
-use crate::pairs::{text, value_of};
-use crate::set::{has_number, is_same};
+use xs_words::WordFault;
+use xs_words::number::number;
+use xs_words::pairs::{text, value_of};
+use xs_words::set::{has_number, is_same};
 
 /// The first of the two faults, by its place in the words, that is not in the set, or is the second where both are one.
 pub(crate) fn not_in_set(words: &[&str]) -> Option<WordFault>

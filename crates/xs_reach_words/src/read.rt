@@ -3,15 +3,16 @@ ghost use Rattle.std.specs.Prelude.{◌≡◌, is_some, IfOk, IfErr};
 ghost use Rattle.xs_reach_words.specs.declared.command.Command.TheVariants as command;
 ghost use Rattle.xs_reach_words.specs.Meaning.{Means, BreaksFirst};
 ghost use Rattle.xs_reach_words.specs.Laws.{OneCommand, OneFault, CommandsHaveNoFault};
-ghost use Rattle.xs_reach_words.specs.Reading.{pairs_of, reading, fault_after, made, begins_further};
-ghost use Rattle.xs_reach_words.specs.Seen.{texts, seen, seen_result, rule_of, place_of};
+ghost use Rattle.xs_words.specs.Reading.{pairs_of};
+ghost use Rattle.xs_words.specs.Seen.{texts, rule_of, place_of};
+ghost use Rattle.xs_reach_words.specs.Reading.{reading, fault_after, made, begins_further};
+ghost use Rattle.xs_reach_words.specs.Seen.{seen, seen_result};
 
 use crate::command::{CheckCauses, CheckOrders, Command, FindCauses, FindOdds, FindOrders};
-use crate::fault::WordFault;
-use crate::faults::fault_in;
 use crate::pair::not_in_set;
-use crate::pairs::{number, text};
 use crate::verb::Verb;
+use xs_words::pairs::{number, text};
+use xs_words::{WordFault, fault_in};
 
 /// Whether the first word is one of the further verbs.
 pub fn is_further(words: &[&str]) -> bool

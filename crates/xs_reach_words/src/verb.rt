@@ -2,9 +2,9 @@
 ghost use Rattle.std.specs.Prelude.{◌≡◌, map};
 ghost use Rattle.xs_reach_words.specs.Table.{options_of};
 ghost use Rattle.xs_reach_words.specs.Reading.{verb_in};
-ghost use Rattle.xs_reach_words.specs.Seen.{viewed};
+ghost use Rattle.xs_words.specs.Seen.{viewed};
 
-use crate::choice::{Choice, Kind};
+use xs_words::{Choice, Kind};
 
 /// What is to be done.
 #[derive(Clone, Copy, Debug, PartialEq, Eq)]
@@ -19,26 +19,31 @@ pub enum Verb {
 const MODEL: Choice = Choice {
     name: "--model",
     kind: Kind::File,
+    required: true,
 };
 
 const FAULTS: Choice = Choice {
     name: "--faults",
     kind: Kind::File,
+    required: true,
 };
 
 const CAUSES: Choice = Choice {
     name: "--causes",
     kind: Kind::File,
+    required: true,
 };
 
 const TOP: Choice = Choice {
     name: "--top",
     kind: Kind::Event,
+    required: true,
 };
 
 const SET: Choice = Choice {
     name: "--set",
     kind: Kind::Set,
+    required: true,
 };
 
 const FIRST: Choice = Choice {
@@ -47,6 +52,7 @@ const FIRST: Choice = Choice {
         least: 1,
         most: 256,
     },
+    required: true,
 };
 
 const SECOND: Choice = Choice {
@@ -55,11 +61,13 @@ const SECOND: Choice = Choice {
         least: 1,
         most: 256,
     },
+    required: true,
 };
 
 const CLAIM: Choice = Choice {
     name: "--claim",
     kind: Kind::Claim,
+    required: true,
 };
 
 const DEPTH: Choice = Choice {
@@ -68,11 +76,13 @@ const DEPTH: Choice = Choice {
         least: 0,
         most: 1_000_000_000,
     },
+    required: true,
 };
 
 const CERT: Choice = Choice {
     name: "--cert",
     kind: Kind::File,
+    required: true,
 };
 
 impl Verb {

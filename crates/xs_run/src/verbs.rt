@@ -6,16 +6,16 @@ ghost use Rattle.std.specs.Prelude.{◌≡◌, ◌≤◌, IfOk, IfSome, IsErrOf}
 ghost use Rattle.xs_desk.specs.Desk.{Rose};
 ghost use Rattle.xs_loading.specs.declared.status.Refusal.{Refusal};
 ghost use Rattle.xs_loading.specs.declared.input.Stop.TheVariants as stops;
-ghost use Rattle.xs_run.specs.declared.asked.Asked.TheVariants as ask;
+ghost use Rattle.xs_words.specs.declared.command.Command.TheVariants as ask;
+ghost use Rattle.xs_words.specs.Seen.{seen};
 ghost use Rattle.xs_run.specs.Runs.{refuses, extends, says, analyses, tabulates, makes, ComesTo, ReplayComesTo, CheckComesTo, TableComesTo, MakeComesTo, CommandComesTo, IsAnswer, IsDelivered, IsDeliveredInPart, IsCarriedOut, IsLeftInPart};
-ghost use Rattle.xs_run.specs.Commanded.{command_of, IsAskable};
+ghost use Rattle.xs_run.specs.Commanded.{IsAskable};
 ghost use Rattle.xs_loading.specs.LoadedEvents.{IsEvent};
 ghost use Rattle.xs_run.specs.Findings.{analysed_case, analysed_size};
 ghost use Rattle.xs_run.specs.Tables.{IsTabulable, tabulated_case, tabulated_events};
 ghost use Rattle.xs_run.specs.Made.{IsMaking, made_case};
 
 use crate::analysis::{Analysing, deliver_analysis};
-use crate::asked::{Analyse, Asked, Check, Extend, Fmea, Make, Replay};
 use crate::certificate::check_file;
 use crate::ending::{ended, finished, stopped, write_and_say};
 use crate::make::{Making, deliver_made, generate};
@@ -32,35 +32,36 @@ use xs_loading::model::load_model;
 use xs_loading::status::Status;
 use xs_loading::top::load_top;
 use xs_value::{ByteList, OutOfMemory};
+use xs_words::{Analyse, Check, Command, Extend, Fmea, Make, Replay};
 
 /// Carries out what was asked for.
 pub(crate) fn carry_out<D: Desk>(
     alloc: Global,
     desk: &mut D,
-    asked: &Asked,
+    asked: &Command,
     panel: &mut Panel,
 ) -> Status
     requires { IsAskable asked.now }
-    ensures answered { IsCarriedOut (command_of asked.now) result (D.files desk.old) (D.files desk.new) (D.said desk.old) (D.said desk.new) }
-    ensures left { IsLeftInPart (command_of asked.now) (D.files desk.old) (D.files desk.new) (D.said desk.old) (D.said desk.new) }
+    ensures answered { IsCarriedOut (seen asked.now) result (D.files desk.old) (D.files desk.new) (D.said desk.old) (D.said desk.new) }
+    ensures left { IsLeftInPart (seen asked.now) (D.files desk.old) (D.files desk.new) (D.said desk.old) (D.said desk.new) }
     ensures failed { result ≡ Status.Desk → Rose (D.faults desk.old) (D.faults desk.new) }
     ensures later { D.faults desk.old ≤ D.faults desk.new }
     ensures quiet { D.quiet desk.old → D.quiet desk.new × (D.faults desk.new ≡ D.faults desk.old) }
 {
     match asked {
-        Asked::Extend(files) => extend_model(alloc, desk, files),
-        Asked::Replay(files) => replay_trace(alloc, desk, files),
-        Asked::Analyse(asked) => analyse_event(alloc, desk, asked, panel),
-        Asked::Check(files) => check_certificate(alloc, desk, files),
-        Asked::Fmea(asked) => tabulate(alloc, desk, asked, panel),
-        Asked::Make(asked) => make_case(alloc, desk, asked, panel),
+        Command::Extend(files) => extend_model(alloc, desk, files),
+        Command::Replay(files) => replay_trace(alloc, desk, files),
+        Command::Analyse(asked) => analyse_event(alloc, desk, asked, panel),
+        Command::Check(files) => check_certificate(alloc, desk, files),
+        Command::Fmea(asked) => tabulate(alloc, desk, asked, panel),
+        Command::Make(asked) => make_case(alloc, desk, asked, panel),
     }
 }
 
 /// Reads both files, writes the extension, and says its faults.
 fn extend_model<D: Desk>(alloc: Global, desk: &mut D, asked: &Extend) -> Status
-    ensures answered { IsCarriedOut (command_of (ask.Extend asked.now)) result (D.files desk.old) (D.files desk.new) (D.said desk.old) (D.said desk.new) }
-    ensures left { IsLeftInPart (command_of (ask.Extend asked.now)) (D.files desk.old) (D.files desk.new) (D.said desk.old) (D.said desk.new) }
+    ensures answered { IsCarriedOut (seen (ask.Extend asked.now)) result (D.files desk.old) (D.files desk.new) (D.said desk.old) (D.said desk.new) }
+    ensures left { IsLeftInPart (seen (ask.Extend asked.now)) (D.files desk.old) (D.files desk.new) (D.said desk.old) (D.said desk.new) }
     ensures failed { result ≡ Status.Desk → Rose (D.faults desk.old) (D.faults desk.new) }
     ensures later { D.faults desk.old ≤ D.faults desk.new }
     ensures quiet { D.quiet desk.old → D.quiet desk.new × (D.faults desk.new ≡ D.faults desk.old) }
@@ -73,8 +74,8 @@ fn extend_model<D: Desk>(alloc: Global, desk: &mut D, asked: &Extend) -> Status
 
 /// Reads the three files and the top event, and says what a reaching trace has failed.
 fn replay_trace<D: Desk>(alloc: Global, desk: &mut D, asked: &Replay) -> Status
-    ensures answered { IsCarriedOut (command_of (ask.Replay asked.now)) result (D.files desk.old) (D.files desk.new) (D.said desk.old) (D.said desk.new) }
-    ensures left { IsLeftInPart (command_of (ask.Replay asked.now)) (D.files desk.old) (D.files desk.new) (D.said desk.old) (D.said desk.new) }
+    ensures answered { IsCarriedOut (seen (ask.Replay asked.now)) result (D.files desk.old) (D.files desk.new) (D.said desk.old) (D.said desk.new) }
+    ensures left { IsLeftInPart (seen (ask.Replay asked.now)) (D.files desk.old) (D.files desk.new) (D.said desk.old) (D.said desk.new) }
     ensures failed { result ≡ Status.Desk → Rose (D.faults desk.old) (D.faults desk.new) }
     ensures later { D.faults desk.old ≤ D.faults desk.new }
     ensures quiet { D.quiet desk.old → D.quiet desk.new × (D.faults desk.new ≡ D.faults desk.old) }
@@ -87,8 +88,8 @@ fn replay_trace<D: Desk>(alloc: Global, desk: &mut D, asked: &Replay) -> Status
 
 /// Reads both files and the top event, writes the extension, searches, and says the report.
 fn analyse_event<D: Desk>(alloc: Global, desk: &mut D, asked: &Analyse, panel: &mut Panel) -> Status
-    ensures answered { IsCarriedOut (command_of (ask.Analyse asked.now)) result (D.files desk.old) (D.files desk.new) (D.said desk.old) (D.said desk.new) }
-    ensures left { IsLeftInPart (command_of (ask.Analyse asked.now)) (D.files desk.old) (D.files desk.new) (D.said desk.old) (D.said desk.new) }
+    ensures answered { IsCarriedOut (seen (ask.Analyse asked.now)) result (D.files desk.old) (D.files desk.new) (D.said desk.old) (D.said desk.new) }
+    ensures left { IsLeftInPart (seen (ask.Analyse asked.now)) (D.files desk.old) (D.files desk.new) (D.said desk.old) (D.said desk.new) }
     ensures failed { result ≡ Status.Desk → Rose (D.faults desk.old) (D.faults desk.new) }
     ensures later { D.faults desk.old ≤ D.faults desk.new }
     ensures quiet { D.quiet desk.old → D.quiet desk.new × (D.faults desk.new ≡ D.faults desk.old) }
@@ -101,8 +102,8 @@ fn analyse_event<D: Desk>(alloc: Global, desk: &mut D, asked: &Analyse, panel: &
 
 /// Reads the three files and the top event, and says that the certificate is accepted.
 fn check_certificate<D: Desk>(alloc: Global, desk: &mut D, asked: &Check) -> Status
-    ensures answered { IsCarriedOut (command_of (ask.Check asked.now)) result (D.files desk.old) (D.files desk.new) (D.said desk.old) (D.said desk.new) }
-    ensures left { IsLeftInPart (command_of (ask.Check asked.now)) (D.files desk.old) (D.files desk.new) (D.said desk.old) (D.said desk.new) }
+    ensures answered { IsCarriedOut (seen (ask.Check asked.now)) result (D.files desk.old) (D.files desk.new) (D.said desk.old) (D.said desk.new) }
+    ensures left { IsLeftInPart (seen (ask.Check asked.now)) (D.files desk.old) (D.files desk.new) (D.said desk.old) (D.said desk.new) }
     ensures failed { result ≡ Status.Desk → Rose (D.faults desk.old) (D.faults desk.new) }
     ensures later { D.faults desk.old ≤ D.faults desk.new }
     ensures quiet { D.quiet desk.old → D.quiet desk.new × (D.faults desk.new ≡ D.faults desk.old) }
@@ -116,8 +117,8 @@ fn check_certificate<D: Desk>(alloc: Global, desk: &mut D, asked: &Check) -> Sta
 /// Reads the three files, searches for each top event, and says the table.
 fn tabulate<D: Desk>(alloc: Global, desk: &mut D, asked: &Fmea, panel: &mut Panel) -> Status
     requires { asked.now.size ≤ 2 }
-    ensures answered { IsCarriedOut (command_of (ask.Fmea asked.now)) result (D.files desk.old) (D.files desk.new) (D.said desk.old) (D.said desk.new) }
-    ensures left { IsLeftInPart (command_of (ask.Fmea asked.now)) (D.files desk.old) (D.files desk.new) (D.said desk.old) (D.said desk.new) }
+    ensures answered { IsCarriedOut (seen (ask.Fmea asked.now)) result (D.files desk.old) (D.files desk.new) (D.said desk.old) (D.said desk.new) }
+    ensures left { IsLeftInPart (seen (ask.Fmea asked.now)) (D.files desk.old) (D.files desk.new) (D.said desk.old) (D.said desk.new) }
     ensures failed { result ≡ Status.Desk → Rose (D.faults desk.old) (D.faults desk.new) }
     ensures later { D.faults desk.old ≤ D.faults desk.new }
     ensures quiet { D.quiet desk.old → D.quiet desk.new × (D.faults desk.new ≡ D.faults desk.old) }
@@ -131,8 +132,8 @@ fn tabulate<D: Desk>(alloc: Global, desk: &mut D, asked: &Fmea, panel: &mut Pane
 /// Generates a case, writes it, searches it, and says its line.
 fn make_case<D: Desk>(alloc: Global, desk: &mut D, asked: &Make, panel: &mut Panel) -> Status
     requires { asked.now.stages ≤ 64 }
-    ensures answered { IsCarriedOut (command_of (ask.Make asked.now)) result (D.files desk.old) (D.files desk.new) (D.said desk.old) (D.said desk.new) }
-    ensures left { IsLeftInPart (command_of (ask.Make asked.now)) (D.files desk.old) (D.files desk.new) (D.said desk.old) (D.said desk.new) }
+    ensures answered { IsCarriedOut (seen (ask.Make asked.now)) result (D.files desk.old) (D.files desk.new) (D.said desk.old) (D.said desk.new) }
+    ensures left { IsLeftInPart (seen (ask.Make asked.now)) (D.files desk.old) (D.files desk.new) (D.said desk.old) (D.said desk.new) }
     ensures failed { result ≡ Status.Desk → Rose (D.faults desk.old) (D.faults desk.new) }
     ensures later { D.faults desk.old ≤ D.faults desk.new }
     ensures quiet { D.quiet desk.old → D.quiet desk.new × (D.faults desk.new ≡ D.faults desk.old) }
@@ -185,9 +186,9 @@ fn prepare_analysis<'a, D: Desk>(
     desk: &mut D,
     asked: &Analyse<'a>,
 ) -> Result<Analysing<'a>, Stop>
-    ensures ok { IfOk result (λ a. IfSome (D.files desk.old) (λ files. CommandComesTo files (command_of (ask.Analyse asked.now)) (analyses (analysed_case a) a.word.now a.depth (analysed_size a) a.extended.now a.cert.now))) }
+    ensures ok { IfOk result (λ a. IfSome (D.files desk.old) (λ files. CommandComesTo files (seen (ask.Analyse asked.now)) (analyses (analysed_case a) a.word.now a.depth (analysed_size a) a.extended.now a.cert.now))) }
     ensures event { IfOk result (λ a. IsEvent a.word.now a.loaded) }
-    ensures refused { (r : Refusal) → IsErrOf result (stops.Refused r) → IfSome (D.files desk.old) (λ files. CommandComesTo files (command_of (ask.Analyse asked.now)) (refuses r)) }
+    ensures refused { (r : Refusal) → IsErrOf result (stops.Refused r) → IfSome (D.files desk.old) (λ files. CommandComesTo files (seen (ask.Analyse asked.now)) (refuses r)) }
     ensures failed { IsErrOf result stops.Desk → Rose (D.faults desk.old) (D.faults desk.new) }
 
     ensures files { D.files desk.new ≡ D.files desk.old }

@@ -1,21 +1,20 @@
 -- What the definitions say of options is what is read.
-use Rattle.std.proofs.Common.{◌≡◌, ◌≢◌, ◌⊎◌, inl, inr, ℕ, ◌+◌, ◌*◌, ◌&&◌, Bool, true, false, List, [], ◌∷◌, ◌++◌, length, Option, Some, None, if◌then◌else◌, sym, subst, ap, ◌∙◌, refl, arith, append_assoc}
+use Rattle.std.proofs.Common.{◌≡◌, ◌≢◌, inl, inr, ℕ, ◌+◌, ◌&&◌, Bool, true, false, List, [], ◌∷◌, ◌++◌, length, Some, None, if◌then◌else◌, sym, subst, ap, ◌∙◌, refl, arith, append_assoc}
 use Rattle.std.specs.Str.{bytes_eq}
 use Rattle.std.proofs.lemmas.List.{append-nil}
 use Rattle.std.proofs.lemmas.Bool.{and_parts, and_from, or_left, or_right}
 use Rattle.xs_words.specs.declared.choice.Kind.{Kind}
-use Rattle.xs_words.specs.declared.choice.Kind.TheVariants as kind
 use Rattle.xs_words.specs.declared.fault.WordFault.{WordFault}
 use Rattle.xs_words.specs.declared.fault.WordFault.TheVariants as fault
 use Rattle.xs_words.specs.Commands.{Text, Given, spread}
 use Rattle.xs_words.specs.Table.{Choice, kind_in, Fits}
-use Rattle.xs_words.specs.Meaning.{Each, EachTwo, Gives, IsGiven, IsNotGiven, IsLawful, AreLawful, IsThere, AreThere, IsFile, SameFile, AreDifferent, option_place, BreaksOption, unknown_option, comes_twice, no_value, bad_number, missing, same_name}
+use Rattle.xs_words.specs.Meaning.{Each, Gives, IsNotGiven, IsLawful, AreLawful, IsThere, AreThere, IsFile, SameFile, AreDifferent, option_place, BreaksOption, unknown_option, comes_twice, no_value, bad_number, missing, same_name}
 use Rattle.xs_words.specs.Reading.{fits, pairs_of, value_in, first_of, fault_by, fault_here, pair_fault, missing_by, missing_from, is_file_of, is_file_in, has_file, same_here, same_from, option_fault}
 use Rattle.xs_words.specs.Seen.{rule_of, place_of}
-use Rattle.xs_words.proofs.ListLemmas.{same_bytes, Each-back, EachTwo-at, EachTwo-front, is_false}
-use Rattle.xs_words.proofs.NumberLemmas.{fits-Fits, Fits-fits}
+use Rattle.xs_words.proofs.ListLemmas.{same_bytes, Each-back, EachTwo-at, is_false}
+use Rattle.xs_words.proofs.FitLemmas.{fits-Fits, Fits-fits}
 use Rattle.xs_words.proofs.PairLemmas.{pairs_of-spread, not-none, given-some}
-use Rattle.xs_words.proofs.SoundLemmas.{next_of, has_sound, file_sound, HasFile}
+use Rattle.xs_words.proofs.SoundLemmas.{next_of, has_sound, file_sound}
 
 -- An option that fits is no fault.
 here_clear : (options : List Choice) (before : List Given) (option value : Text) (k : Kind) → kind_in options option ≡ Some k → Fits k value → IsNotGiven before option →

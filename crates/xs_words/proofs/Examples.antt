@@ -1,17 +1,21 @@
 -- What the definitions give for a few words.
-use Rattle.std.proofs.Common.{◌≡◌, ℕ, [], ◌∷◌, Ok, Err, None, Some, refl, codes}
+use Rattle.std.proofs.Common.{◌≡◌, [], ◌∷◌, refl, codes}
 use Rattle.xs_words.specs.declared.fault.WordFault.TheVariants as fault
 use Rattle.xs_words.specs.declared.verb.Verb.TheVariants as verb
-use Rattle.xs_words.specs.Commands.{extend, fmea}
-use Rattle.xs_words.specs.Table.{number_of, options_of}
+use Rattle.xs_words.specs.Commands.{extend}
+use Rattle.xs_words.specs.Sets.{number_of, numbers_of}
+use Rattle.xs_words.specs.Table.{options_of}
 use Rattle.xs_words.specs.Meaning.{Means, BreaksFirst, no_verb, an_option, no_value}
-use Rattle.xs_words.specs.Reading.{reading}
 use Rattle.xs_words.proofs.SoundLemmas.{lawful_none}
 use Rattle.xs_words.proofs.ReadingLaws.{read_means, read_breaks}
 
 -- zeros before a number count for nothing
 leading_zeros : number_of (codes "0000000002") ≡ 2
 leading_zeros = refl
+
+-- the numbers of a set
+numbers_of_set : numbers_of (codes "2 10 256") ≡ 2 ∷ 10 ∷ 256 ∷ []
+numbers_of_set = refl
 
 -- the options may stand in any order, and a value may look like an option
 any_order : Means (codes "extend" ∷ codes "--faults" ∷ codes "--model" ∷ codes "--extended" ∷ codes "x" ∷ codes "--model" ∷ codes "m" ∷ []) (extend (codes "m") (codes "--model") (codes "x"))

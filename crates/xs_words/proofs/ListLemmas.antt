@@ -28,10 +28,6 @@ pub Each-append : {A : Type 0} (P : A → Type 0) (xs ys : List A) → Each P xs
 Each-append P [] ys f g = g
 Each-append P (x ∷ xs) ys f g = (f.0, Each-append P xs ys f.1 g)
 
-pub Each-front : {A : Type 0} (P : A → Type 0) (xs ys : List A) → Each P (xs ++ ys) → Each P xs
-Each-front P [] ys f = tt
-Each-front P (x ∷ xs) ys f = (f.0, Each-front P xs ys f.1)
-
 pub Each-back : {A : Type 0} (P : A → Type 0) (xs ys : List A) → Each P (xs ++ ys) → Each P ys
 Each-back P [] ys f = f
 Each-back P (x ∷ xs) ys f = Each-back P xs ys f.1
@@ -39,10 +35,6 @@ Each-back P (x ∷ xs) ys f = Each-back P xs ys f.1
 pub EachTwo-push : {A : Type 0} (R : A → A → Type 0) (xs : List A) (y : A) → EachTwo R xs → Each (λ x. R x y) xs → EachTwo R (xs ++ y ∷ [])
 EachTwo-push R [] y f g = (tt, tt)
 EachTwo-push R (x ∷ xs) y f g = (Each-append (R x) xs (y ∷ []) f.0 (g.0, tt), EachTwo-push R xs y f.1 g.1)
-
-pub EachTwo-front : {A : Type 0} (R : A → A → Type 0) (xs ys : List A) → EachTwo R (xs ++ ys) → EachTwo R xs
-EachTwo-front R [] ys f = tt
-EachTwo-front R (x ∷ xs) ys f = (Each-front (R x) xs ys f.0, EachTwo-front R xs ys f.1)
 
 -- the earlier ones with the one after them
 pub EachTwo-at : {A : Type 0} (R : A → A → Type 0) (xs : List A) (y : A) (ys : List A) → EachTwo R (xs ++ y ∷ ys) → Each (λ x. R x y) xs

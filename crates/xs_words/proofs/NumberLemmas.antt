@@ -1,15 +1,14 @@
 -- Words of digits and the numbers that they stand for.
-use Rattle.std.proofs.Common.{◌≡◌, ℕ, ◌^◌, ◌<◌, ◌≤◌, ◌&&◌, Bool, true, false, List, length, Option, Some, None, Result, Ok, if◌then◌else◌, sym, ◌∙◌, ap, refl, arith, rules}
+use Rattle.std.proofs.Common.{◌≡◌, ℕ, ◌^◌, ◌<◌, Bool, true, false, List, Option, Some, None, Result, if◌then◌else◌, sym, ◌∙◌, ap, arith, rules}
 use Rattle.std.specs.Char.{is_ascii_digit}
 use Rattle.std.specs.List.{list_all}
 use Rattle.std.specs.Result.{result_ok}
 use Rattle.std.specs.Str.Parse.{ParsesUnsigned}
 use Rattle.std.proofs.lemmas.Bool.{false≢true, and_parts, and_from, ltb-true, leb-true, lt-ltb, le-leb}
 use Rattle.std.proofs.lemmas.Str.Parse.{IsNumeralModel, numerals_by_weight, digits_value_short, parse_gives}
-use Rattle.xs_words.specs.declared.choice.Kind.{Kind}
-use Rattle.xs_words.specs.declared.choice.Kind.TheVariants as kind
-use Rattle.xs_words.specs.Table.{number_of, IsNumeral, IsWithin, Fits}
-use Rattle.xs_words.specs.Reading.{is_numeral, number_in, is_within, fits}
+use Rattle.xs_words.specs.Sets.{number_of, IsNumeral}
+use Rattle.xs_words.specs.Table.{IsWithin}
+use Rattle.xs_words.specs.Reading.{is_numeral, number_in, is_within}
 
 numerals : IsNumeralModel (λ ds. list_all is_ascii_digit ds ≡ true) number_of
 numerals = numerals_by_weight _ (search rules) number_of (search rules)
@@ -36,19 +35,7 @@ parsed_number word r o h passes is =
     let n = is_numeral-true word passes in
     is ∙ ap result_ok (parse_gives numerals 64 word r h n.digits n.some (short_number word n)) ∙ sym (numbered word passes)
 
-within_by : (least most : ℕ) (word : List ℕ) (t : Bool) → is_numeral word ≡ t → is_within least most (if t then Some (number_of word) else None) ≡ true → IsWithin least most word
+pub within_by : (least most : ℕ) (word : List ℕ) (t : Bool) → is_numeral word ≡ t → is_within least most (if t then Some (number_of word) else None) ≡ true → IsWithin least most word
 within_by least most word true is e =
     let parts = and_parts _ _ e in record { numeral = is_numeral-true word is; above = leb-true _ _ parts.0; below = leb-true _ _ parts.1 }
 within_by least most word false is e = absurd (false≢true e)
-
--- the test of a value says whether it fits
-pub fits-Fits : (k : Kind) (word : List ℕ) → fits k word ≡ true → Fits k word
-fits-Fits kind.File word e = tt
-fits-Fits kind.Event word e = tt
-fits-Fits (kind.Number least most) word e = within_by least most word (is_numeral word) refl e
-
-pub Fits-fits : (k : Kind) (word : List ℕ) → Fits k word → fits k word ≡ true
-Fits-fits kind.File word f = refl
-Fits-fits kind.Event word f = refl
-Fits-fits (kind.Number least most) word f =
-    ap (is_within least most) (numbered word (true-is_numeral word f.numeral)) ∙ and_from _ _ (le-leb _ _ f.above) (le-leb _ _ f.below)

@@ -1,8 +1,8 @@
 -- Words as pairs, and the values of options.
-use Rattle.std.proofs.Common.{◌≡◌, ◌≢◌, ◌⊎◌, inl, inr, ℕ, ◌<◌, Bool, true, false, List, [], ◌∷◌, ◌++◌, length, Option, Some, None, Bor, if◌then◌else◌, sym, subst, ap, ◌∙◌, refl, arith}
+use Rattle.std.proofs.Common.{◌≡◌, ◌≢◌, inl, inr, ℕ, ◌<◌, Bool, true, false, List, [], ◌∷◌, ◌++◌, length, Option, Some, None, Bor, if◌then◌else◌, sym, subst, ap, ◌∙◌, refl, arith}
 use Rattle.std.specs.Str.{bytes_eq}
 use Rattle.xs_words.specs.Commands.{Text, Given, spread}
-use Rattle.xs_words.specs.Meaning.{Each, EachTwo, Gives, IsGiven, IsNotGiven}
+use Rattle.xs_words.specs.Meaning.{Each, EachTwo, Gives, IsNotGiven}
 use Rattle.xs_words.specs.Reading.{pairs_of, value_in}
 use Rattle.xs_words.specs.Seen.{texts}
 use Rattle.xs_words.proofs.ListLemmas.{bytes_same, bytes_refl, bytes_differ, bytes_apart}

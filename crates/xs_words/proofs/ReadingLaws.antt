@@ -1,5 +1,5 @@
 -- What is read is what the words mean, or the rule that they break first, and each is one.
-use Rattle.std.proofs.Common.{◌≡◌, ◌≢◌, ℕ, ◌-◌, ◌≤◌, Bool, true, false, List, [], ◌∷◌, length, take, drop, get_or, Option, Some, None, Result, Ok, Err, IfOk, IfErr, codes, Bor, if◌then◌else◌, sym, subst, ap, ◌∙◌, refl}
+use Rattle.std.proofs.Common.{◌≡◌, ◌≢◌, ℕ, ◌-◌, ◌≤◌, List, [], ◌∷◌, length, take, drop, get_or, Option, Some, None, Result, Ok, Err, IfOk, IfErr, codes, Bor, sym, subst, ap, ◌∙◌, refl}
 use Rattle.std.specs.Str.{bytes_eq}
 use Rattle.xs_words.specs.declared.verb.Verb.{Verb}
 use Rattle.xs_words.specs.declared.verb.Verb.TheVariants as verb
@@ -18,21 +18,17 @@ use Rattle.xs_words.proofs.SoundLemmas.{option_sound, option_holds}
 use Rattle.xs_words.proofs.CompleteLemmas.{option_complete, option_clear}
 use Rattle.xs_words.proofs.MadeLemmas.{made_makes, makes_made}
 use Rattle.xs_words.proofs.StepLemmas.{first_word}
+use Rattle.xs_words.proofs.VerbLemmas.{verb_if, or_err, or_ok}
 
 -- Verbs.
-verb_if : (name : Text) (t : Bool) (v : Verb) (next : Option Verb) → (t ≡ true → name ≡ name_of v) → ((w : Verb) → next ≡ Some w → name ≡ name_of w) →
-    (w : Verb) → (if t then Some v else next) ≡ Some w → name ≡ name_of w
-verb_if name true v next here later w e = let same : v ≡ w = cc in here refl ∙ ap name_of same
-verb_if name false v next here later w e = later w e
-
 verb_sound : (name : Text) (v : Verb) → verb_in name ≡ Some v → name ≡ name_of v
 verb_sound name =
-    verb_if name (bytes_eq name (codes "extend")) verb.Extend _ (bytes_same name (codes "extend"))
-    (verb_if name (bytes_eq name (codes "replay")) verb.Replay _ (bytes_same name (codes "replay"))
-    (verb_if name (bytes_eq name (codes "analyse")) verb.Analyse _ (bytes_same name (codes "analyse"))
-    (verb_if name (bytes_eq name (codes "check")) verb.Check _ (bytes_same name (codes "check"))
-    (verb_if name (bytes_eq name (codes "fmea")) verb.Fmea _ (bytes_same name (codes "fmea"))
-    (verb_if name (bytes_eq name (codes "make")) verb.Make None (bytes_same name (codes "make")) (λ w e. cc))))))
+    verb_if name_of name (bytes_eq name (codes "extend")) verb.Extend _ (bytes_same name (codes "extend"))
+    (verb_if name_of name (bytes_eq name (codes "replay")) verb.Replay _ (bytes_same name (codes "replay"))
+    (verb_if name_of name (bytes_eq name (codes "analyse")) verb.Analyse _ (bytes_same name (codes "analyse"))
+    (verb_if name_of name (bytes_eq name (codes "check")) verb.Check _ (bytes_same name (codes "check"))
+    (verb_if name_of name (bytes_eq name (codes "fmea")) verb.Fmea _ (bytes_same name (codes "fmea"))
+    (verb_if name_of name (bytes_eq name (codes "make")) verb.Make None (bytes_same name (codes "make")) (λ w e. cc))))))
 
 verb_complete : (v : Verb) → verb_in (name_of v) ≡ Some v
 verb_complete verb.Extend = refl
@@ -43,29 +39,23 @@ verb_complete verb.Fmea = refl
 verb_complete verb.Make = refl
 
 -- What is read stands.
-err_broken : (v : Verb) (name : Text) (words : List Text) (f : WordFault) (o : Option WordFault) (c : Command) → name ≡ name_of v → option_fault (options_of v) words ≡ o →
-    command_or o c ≡ Err f → BreaksFirst (name ∷ words) (rule_of f) (place_of f)
-err_broken v name words f None c named is e = cc
-err_broken v name words f (Some g) c named is e =
-    let same : g ≡ f = cc in
-    an_option v words (rule_of f) (place_of f) (ap (λ n. n ∷ words) named) (option_sound (options_of v) words f (is ∙ ap (λ h. Some h) same))
-
 err_by : (name : Text) (words : List Text) (f : WordFault) (o : Option Verb) → verb_in name ≡ o → verb_read o words ≡ Err f → BreaksFirst (name ∷ words) (rule_of f) (place_of f)
 err_by name words f None is e =
     let same : fault.UnknownVerb 1 ≡ f = cc in
     subst (λ (g : WordFault). BreaksFirst (name ∷ words) (rule_of g) (place_of g)) same
     (unknown_verb name words refl (λ v named. let found : Some v ≡ None = sym (verb_complete v) ∙ ap verb_in named ∙ is in cc))
-err_by name words f (Some v) is e = err_broken v name words f (option_fault (options_of v) words) (made v (pairs_of words)) (verb_sound name v is) refl e
+err_by name words f (Some v) is e =
+    an_option v words (rule_of f) (place_of f) (ap (λ n. n ∷ words) (verb_sound name v is))
+    (option_sound (options_of v) words f (or_err (option_fault (options_of v) words) (made v (pairs_of words)) f e))
 
 pub read_breaks : (words : List Text) (f : WordFault) → reading words ≡ Err f → BreaksFirst words (rule_of f) (place_of f)
 read_breaks [] f e = let same : fault.NoVerb 0 ≡ f = cc in subst (λ (g : WordFault). BreaksFirst [] (rule_of g) (place_of g)) same (no_verb refl)
 read_breaks (name ∷ words) f e = err_by name words f (verb_in name) refl e
 
-ok_meant : (v : Verb) (name : Text) (words : List Text) (o : Option WordFault) (c : Command) → name ≡ name_of v → option_fault (options_of v) words ≡ o →
-    command_or o (made v (pairs_of words)) ≡ Ok c → Means (name ∷ words) c
-ok_meant v name words None c named is e =
-    let holds = option_holds (options_of v) words is in
-    let same : made v (pairs_of words) ≡ c = cc in
+ok_meant : (v : Verb) (name : Text) (words : List Text) (c : Command) → name ≡ name_of v → command_or (option_fault (options_of v) words) (made v (pairs_of words)) ≡ Ok c → Means (name ∷ words) c
+ok_meant v name words c named e =
+    let clear = or_ok (option_fault (options_of v) words) (made v (pairs_of words)) c e in
+    let holds = option_holds (options_of v) words clear.0 in
     record {
       verb = v;
       pairs = pairs_of words;
@@ -73,13 +63,12 @@ ok_meant v name words None c named is e =
       lawful = holds.lawful;
       complete = holds.there;
       different = holds.different;
-      makes = subst (λ (d : Command). Makes (pairs_of words) v d) same (made_makes v (pairs_of words) holds.lawful holds.there);
+      makes = subst (λ (d : Command). Makes (pairs_of words) v d) clear.1 (made_makes v (pairs_of words) holds.lawful holds.there);
     }
-ok_meant v name words (Some g) c named is e = cc
 
 ok_by : (name : Text) (words : List Text) (c : Command) (o : Option Verb) → verb_in name ≡ o → verb_read o words ≡ Ok c → Means (name ∷ words) c
 ok_by name words c None is e = cc
-ok_by name words c (Some v) is e = ok_meant v name words (option_fault (options_of v) words) c (verb_sound name v is) refl e
+ok_by name words c (Some v) is e = ok_meant v name words c (verb_sound name v is) e
 
 pub read_means : (words : List Text) (c : Command) → reading words ≡ Ok c → Means words c
 read_means [] c e = cc

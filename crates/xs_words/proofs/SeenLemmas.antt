@@ -15,7 +15,8 @@ fault_with rule place =
     else (if nat_eq rule 5 then fault.Missing place
     else (if nat_eq rule 6 then fault.NoValue place
     else (if nat_eq rule 7 then fault.BadNumber place
-    else fault.SameName place))))))
+    else (if nat_eq rule 8 then fault.SameName place
+    else fault.NotInSet place)))))))
 
 is_with : (f : WordFault) → fault_with (rule_of f) (place_of f) ≡ f
 is_with (fault.NoVerb at) = refl
@@ -26,6 +27,7 @@ is_with (fault.Missing at) = refl
 is_with (fault.NoValue at) = refl
 is_with (fault.BadNumber at) = refl
 is_with (fault.SameName at) = refl
+is_with (fault.NotInSet at) = refl
 
 pub same_fault : (f g : WordFault) → rule_of f ≡ rule_of g → place_of f ≡ place_of g → f ≡ g
 same_fault f g rules places = sym (is_with f) ∙ ap (λ r. fault_with r (place_of f)) rules ∙ ap (λ p. fault_with (rule_of g) p) places ∙ is_with g

@@ -1,5 +1,5 @@
 -- What is read of options, their values and their files is so.
-use Rattle.std.proofs.Common.{◌≡◌, ◌≢◌, ◌⊎◌, inl, inr, ⊎_elim, ℕ, ◌+◌, ◌*◌, ◌&&◌, Bool, true, false, List, [], ◌∷◌, ◌++◌, length, Option, Some, None, if◌then◌else◌, sym, subst, ap, ◌∙◌, refl, arith, append_assoc}
+use Rattle.std.proofs.Common.{◌≡◌, ◌≢◌, ◌⊎◌, inl, inr, ⊎_elim, ℕ, ◌+◌, ◌&&◌, Bool, true, false, List, [], ◌∷◌, ◌++◌, length, Option, Some, None, if◌then◌else◌, sym, subst, ap, ◌∙◌, refl, arith, append_assoc}
 use Rattle.std.specs.Str.{bytes_eq}
 use Rattle.std.proofs.lemmas.List.{append-nil}
 use Rattle.std.proofs.lemmas.Bool.{false≢true, and_parts, and_from, and_cases, or_cases, or_parts}
@@ -8,12 +8,12 @@ use Rattle.xs_words.specs.declared.choice.Kind.TheVariants as kind
 use Rattle.xs_words.specs.declared.fault.WordFault.{WordFault}
 use Rattle.xs_words.specs.declared.fault.WordFault.TheVariants as fault
 use Rattle.xs_words.specs.Commands.{Text, Given, spread}
-use Rattle.xs_words.specs.Table.{Choice, kind_in, Fits}
-use Rattle.xs_words.specs.Meaning.{Each, EachTwo, Gives, IsGiven, IsNotGiven, IsLawful, AreLawful, IsThere, AreThere, IsFile, SameFile, AreDifferent, option_place, BreaksOption, unknown_option, comes_twice, no_value, bad_number, missing, same_name}
-use Rattle.xs_words.specs.Reading.{fits, is_file_kind, pairs_of, value_in, first_of, fault_by, fault_here, pair_fault, missing_by, missing_from, is_file_of, is_file_in, has_file, same_here, same_from, option_fault}
+use Rattle.xs_words.specs.Table.{Choice, kind_in}
+use Rattle.xs_words.specs.Meaning.{Each, Gives, IsNotGiven, IsLawful, AreLawful, IsThere, AreThere, IsFile, SameFile, AreDifferent, option_place, BreaksOption, unknown_option, comes_twice, no_value, bad_number, missing, same_name}
+use Rattle.xs_words.specs.Reading.{fits, pairs_of, value_in, first_of, fault_by, fault_here, pair_fault, missing_by, missing_from, is_file_of, is_file_in, has_file, same_here, same_from, option_fault}
 use Rattle.xs_words.specs.Seen.{rule_of, place_of}
 use Rattle.xs_words.proofs.ListLemmas.{bytes_same, same_bytes, Each-append, EachTwo-push}
-use Rattle.xs_words.proofs.NumberLemmas.{fits-Fits, Fits-fits}
+use Rattle.xs_words.proofs.FitLemmas.{fits-Fits, Fits-fits}
 use Rattle.xs_words.proofs.PairLemmas.{spread-append, value-given, none-not}
 
 -- Two outcomes one after another.
@@ -186,6 +186,8 @@ file_by None e = absurd (false≢true e)
 file_by (Some kind.File) e = refl
 file_by (Some kind.Event) e = absurd (false≢true e)
 file_by (Some (kind.Number least most)) e = absurd (false≢true e)
+file_by (Some kind.Set) e = absurd (false≢true e)
+file_by (Some kind.Claim) e = absurd (false≢true e)
 
 pub file_sound : (options : List Choice) (p : Given) → is_file_in options p.option ≡ true → IsFile options p
 file_sound options p e = file_by (kind_in options p.option) e

@@ -17,7 +17,7 @@ Words = List (Bor (List ℕ))
 taken : (at : ℕ) (words : Words) → texts (take at words) ≡ take at (texts words)
 taken at words = sym (take-map (λ w. w.now) at words)
 
-two_more : (rest : Words) (d : Bor (List ℕ)) → 2 ≤ length rest → texts rest ≡ (get_or rest 0 d).now ∷ (get_or rest 1 d).now ∷ texts (take (length rest - 2) (drop 2 rest))
+pub two_more : (rest : Words) (d : Bor (List ℕ)) → 2 ≤ length rest → texts rest ≡ (get_or rest 0 d).now ∷ (get_or rest 1 d).now ∷ texts (take (length rest - 2) (drop 2 rest))
 two_more [] d two = absurd (omega (arith, two))
 two_more (a ∷ []) d two = absurd (omega (arith, two))
 two_more (a ∷ b ∷ more) d two =

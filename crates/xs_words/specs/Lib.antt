@@ -1,4 +1,5 @@
 pub mod Commands
+pub mod Sets
 pub mod Table
 pub mod Meaning
 pub mod Laws

@@ -1,15 +1,13 @@
 -- The command that words mean, and the rule that they break first, with its place. Places of words count from 1.
-use Rattle.std.specs.Prelude.{◌≡◌, ◌≢◌, ◌⊎◌, ℕ, ◌+◌, ◌*◌, Bool, true, List, [], ◌∷◌, ◌++◌, Option, Some, None, length, codes}
+use Rattle.std.specs.Prelude.{◌≡◌, ◌≢◌, ◌⊎◌, ℕ, ◌+◌, ◌*◌, true, List, [], ◌∷◌, ◌++◌, Option, Some, None, length, codes}
 use Rattle.xs_words.specs.declared.choice.Kind.{Kind}
 use Rattle.xs_words.specs.declared.choice.Kind.TheVariants as kind
 use Rattle.xs_words.specs.declared.verb.Verb.{Verb}
 use Rattle.xs_words.specs.declared.verb.Verb.TheVariants as verb
 use Rattle.xs_words.specs.Commands.{Text, Command, extend, replay, analyse, check, fmea, make, Given, spread}
-use Rattle.xs_words.specs.Table.{Choice, name_of, options_of, kind_in, number_of, Fits}
-
-abbrev pub Each : {A : Type 0} → (A → Type 0) → List A → Type 0
-Each P [] = Unit {0}
-Each P (x ∷ xs) = P x × Each P xs
+pub use Rattle.xs_words.specs.Sets.{Each}
+use Rattle.xs_words.specs.Sets.{number_of}
+use Rattle.xs_words.specs.Table.{Choice, name_of, options_of, kind_in, Fits}
 
 -- each two of the list, the earlier one first
 abbrev pub EachTwo : {A : Type 0} → (A → A → Type 0) → List A → Type 0

@@ -1,5 +1,5 @@
 -- How words are read: what the code computes, which laws of proofs/ join to Meaning.
-use Rattle.std.specs.Prelude.{ℕ, ◌+◌, ◌*◌, ◌^◌, ◌&&◌, ◌||◌, Bool, true, false, not, nat_lt, nat_le, List, [], ◌∷◌, ◌++◌, Option, Some, None, Result, Ok, Err, length, codes, unwrap_or, option_and_then, if◌then◌else◌}
+use Rattle.std.specs.Prelude.{ℕ, suc, ◌+◌, ◌*◌, ◌^◌, ◌&&◌, ◌||◌, Bool, true, false, nat_lt, nat_le, nat_eq, List, [], ◌∷◌, ◌++◌, Option, Some, None, Result, Ok, Err, length, codes, unwrap_or, option_and_then, if◌then◌else◌}
 use Rattle.std.specs.Str.{bytes_eq}
 use Rattle.std.specs.Char.{is_ascii_digit}
 use Rattle.std.specs.List.{list_all}
@@ -10,7 +10,8 @@ use Rattle.xs_words.specs.declared.verb.Verb.TheVariants as verb
 use Rattle.xs_words.specs.declared.fault.WordFault.{WordFault}
 use Rattle.xs_words.specs.declared.fault.WordFault.TheVariants as fault
 use Rattle.xs_words.specs.Commands.{Text, Command, extend, replay, analyse, check, fmea, make, Given}
-use Rattle.xs_words.specs.Table.{Choice, options_of, kind_in, number_of}
+use Rattle.xs_words.specs.Sets.{number_of, words_of}
+use Rattle.xs_words.specs.Table.{Choice, options_of, kind_in}
 
 -- the verb of a name
 abbrev pub verb_in : Text → Option Verb
@@ -43,16 +44,66 @@ abbrev pub is_within : ℕ → ℕ → Option ℕ → Bool
 is_within least most None = false
 is_within least most (Some n) = nat_le least n && nat_le n most
 
+-- Sets.
+abbrev pub rises : ℕ → ℕ → Bool
+rises last n = nat_lt last n && nat_le n 256
+
+abbrev pub rises_by : ℕ → Option ℕ → Bool
+rises_by last None = false
+rises_by last (Some n) = rises last n
+
+abbrev pub is_rising : ℕ → List Text → Bool
+is_rising last [] = true
+is_rising last (w ∷ ws) = rises_by last (number_in w) && is_rising (number_of w) ws
+
+abbrev pub is_set_text : Text → Bool
+is_set_text word = nat_lt 1 (length (words_of word)) && is_rising 0 (words_of word)
+
+-- both are numbers, and one
+abbrev pub same_number : Option ℕ → Option ℕ → Bool
+same_number (Some m) (Some n) = nat_eq m n
+same_number (Some m) None = false
+same_number None o = false
+
+abbrev pub has_number : List Text → Option ℕ → Bool
+has_number [] n = false
+has_number (w ∷ ws) n = same_number (number_in w) n || has_number ws n
+
+-- the words that are left, and how many bytes there are and one more
+abbrev pub words_left : Option Text → List Text
+words_left None = []
+words_left (Some text) = words_of text
+
+abbrev pub left_length : Option Text → ℕ
+left_length None = 0
+left_length (Some text) = suc (length text)
+
+-- the numbers of 32 bits among words
+abbrev pub small_then : Option ℕ → List ℕ → List ℕ
+small_then None ns = ns
+small_then (Some n) ns = n ∷ ns
+
+abbrev pub smalls : List Text → List ℕ
+smalls [] = []
+smalls (w ∷ ws) = small_then (small_number_in w) (smalls ws)
+
+abbrev pub is_claim : Text → Bool
+is_claim word = bytes_eq word (codes "before") || (bytes_eq word (codes "after") || (bytes_eq word (codes "together") || bytes_eq word (codes "none")))
+
 -- whether a word may be the value of an option
 abbrev pub fits : Kind → Text → Bool
 fits kind.File word = true
 fits kind.Event word = true
 fits (kind.Number least most) word = is_within least most (number_in word)
+fits kind.Set word = is_set_text word
+fits kind.Claim word = is_claim word
 
 abbrev pub is_file_kind : Kind → Bool
 is_file_kind kind.File = true
 is_file_kind kind.Event = false
 is_file_kind (kind.Number least most) = false
+is_file_kind kind.Set = false
+is_file_kind kind.Claim = false
 
 -- Words as pairs; a last word alone is passed over.
 abbrev pub pairs_of : List Text → List Given
@@ -142,8 +193,8 @@ made verb.Check ps = check (text_in ps (codes "--model")) (text_in ps (codes "--
 made verb.Fmea ps = fmea (text_in ps (codes "--model")) (text_in ps (codes "--faults")) (text_in ps (codes "--tops")) (number_at ps (codes "--size")) (number_at ps (codes "--depth"))
 made verb.Make ps = make (number_at ps (codes "--number")) (number_at ps (codes "--stages")) (number_at ps (codes "--depth")) (text_in ps (codes "--model")) (text_in ps (codes "--faults"))
 
--- what is read
-abbrev pub command_or : Option WordFault → Command → Result Command WordFault
+-- what is read: the command where there is no fault
+abbrev pub command_or : {C : Type 0} → Option WordFault → C → Result C WordFault
 command_or None c = Ok c
 command_or (Some f) c = Err f
 

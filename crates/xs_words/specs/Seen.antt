@@ -16,12 +16,12 @@ abbrev pub viewed : Choice → table.Choice
 viewed c = record { name = c.name.now; kind = c.kind; required = c.required }
 
 abbrev pub seen : Command → meant.Command
-seen (command.Extend model faults extended) = meant.extend model.now faults.now extended.now
-seen (command.Replay model faults trace top) = meant.replay model.now faults.now trace.now top.now
-seen (command.Analyse model faults top depth extended cert size) = meant.analyse model.now faults.now top.now depth extended.now cert.now size
-seen (command.Check model faults top cert) = meant.check model.now faults.now top.now cert.now
-seen (command.Fmea model faults tops size depth) = meant.fmea model.now faults.now tops.now size depth
-seen (command.Make number stages depth model faults) = meant.make number stages depth model.now faults.now
+seen (command.Extend c) = meant.extend c.model.now c.faults.now c.extended.now
+seen (command.Replay c) = meant.replay c.model.now c.faults.now c.trace.now c.top.now
+seen (command.Analyse c) = meant.analyse c.model.now c.faults.now c.top.now c.depth c.extended.now c.cert.now c.size
+seen (command.Check c) = meant.check c.model.now c.faults.now c.top.now c.cert.now
+seen (command.Fmea c) = meant.fmea c.model.now c.faults.now c.tops.now c.size c.depth
+seen (command.Make c) = meant.make c.number c.stages c.depth c.model.now c.faults.now
 
 -- what was read, with the command as contracts see it
 abbrev pub seen_result : Result Command WordFault → Result meant.Command WordFault
@@ -38,6 +38,7 @@ rule_of (fault.Missing at) = 5
 rule_of (fault.NoValue at) = 6
 rule_of (fault.BadNumber at) = 7
 rule_of (fault.SameName at) = 8
+rule_of (fault.NotInSet at) = 9
 
 abbrev pub place_of : WordFault → ℕ
 place_of (fault.NoVerb at) = at
@@ -48,3 +49,4 @@ place_of (fault.Missing at) = at
 place_of (fault.NoValue at) = at
 place_of (fault.BadNumber at) = at
 place_of (fault.SameName at) = at
+place_of (fault.NotInSet at) = at

@@ -1,13 +1,12 @@
 -- The verbs, their options, and what the values of options are.
-use Rattle.std.specs.Prelude.{◌≡◌, ℕ, ◌+◌, ◌*◌, ◌-◌, ◌^◌, ◌≤◌, ◌<◌, Bool, true, false, List, [], ◌∷◌, Option, Some, None, length, codes, if◌then◌else◌}
+use Rattle.std.specs.Prelude.{◌≡◌, ◌⊎◌, ℕ, ◌≤◌, Bool, true, false, List, [], ◌∷◌, Option, Some, None, codes, if◌then◌else◌}
 use Rattle.std.specs.Str.{bytes_eq}
-use Rattle.std.specs.Char.{is_ascii_digit}
-use Rattle.std.specs.List.{list_all}
 use Rattle.xs_words.specs.declared.choice.Kind.{Kind}
 use Rattle.xs_words.specs.declared.choice.Kind.TheVariants as kind
 use Rattle.xs_words.specs.declared.verb.Verb.{Verb}
 use Rattle.xs_words.specs.declared.verb.Verb.TheVariants as verb
 use Rattle.xs_words.specs.Commands.{Text}
+use Rattle.xs_words.specs.Sets.{number_of, IsNumeral, IsSet}
 
 -- an option of a verb: its name, what its value is, and whether it may not be left out
 pub record Choice : Type 0 where
@@ -48,25 +47,20 @@ abbrev pub kind_in : List Choice → Text → Option Kind
 kind_in [] option = None
 kind_in (c ∷ cs) option = if bytes_eq c.name option then Some c.kind else kind_in cs option
 
--- the number that decimal digits stand for: each counts as often as its place says
-abbrev pub number_of : Text → ℕ
-number_of [] = 0
-number_of (c ∷ cs) = (c - 48) * 10 ^ length cs + number_of cs
-
--- the word is 1 to 10 decimal digits
-pub record IsNumeral (word : Text) : Type 0 where
-  pub digits : list_all is_ascii_digit word ≡ true
-  pub some : 0 < length word
-  pub few : length word ≤ 10
-
 -- the word is a number within these limits
 pub record IsWithin (least most : ℕ) (word : Text) : Type 0 where
   pub numeral : IsNumeral word
   pub above : least ≤ number_of word
   pub below : number_of word ≤ most
 
+-- the word is a claim
+abbrev pub IsClaim : Text → Type 0
+IsClaim word = (word ≡ codes "before") ⊎ ((word ≡ codes "after") ⊎ ((word ≡ codes "together") ⊎ (word ≡ codes "none")))
+
 -- the word may be the value of an option
 abbrev pub Fits : Kind → Text → Type 0
 Fits kind.File word = Unit {0}
 Fits kind.Event word = Unit {0}
 Fits (kind.Number least most) word = IsWithin least most word
+Fits kind.Set word = IsSet word
+Fits kind.Claim word = IsClaim word

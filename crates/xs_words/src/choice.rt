@@ -1,8 +1,9 @@
 // The options of verbs, and what their values may be.
 ghost use Rattle.std.specs.Prelude.{◌≡◌};
-ghost use Rattle.xs_words.specs.Reading.{fits, is_file_kind};
+ghost use Rattle.xs_words.specs.Reading.{fits, is_claim as is_claim_text, is_file_kind};
 
 use crate::number::number;
+use crate::set::is_set;
 
 /// What the value of an option is.
 #[derive(Clone, Copy, Debug, PartialEq, Eq)]
@@ -13,6 +14,10 @@ pub enum Kind {
     Event,
     /// A number of 1 to 10 digits within these limits.
     Number { least: u32, most: u32 },
+    /// At least two rising numbers from 1 to 256 with one space between.
+    Set,
+    /// What is claimed of two faults: `before`, `after`, `together` or `none`.
+    Claim,
 }
 
 impl Kind {
@@ -26,6 +31,8 @@ impl Kind {
                 Some(number) => u64::from(least) <= number && number <= u64::from(most),
                 None => false,
             },
+            Kind::Set => is_set(word),
+            Kind::Claim => is_claim(word),
         }
     }
 
@@ -37,10 +44,20 @@ impl Kind {
     }
 }
 
+/// Whether the word is a claim.
+fn is_claim(word: &str) -> bool
+    ensures { result ≡ is_claim_text word.now }
+{
+    match word {
+        "before" | "after" | "together" | "none" => true,
+        _ => false,
+    }
+}
+
 /// An option of a verb: its name, what its value is, and whether it may not be left out.
 #[derive(Clone, Copy)]
-pub(crate) struct Choice {
-    pub(crate) name: &'static str,
-    pub(crate) kind: Kind,
-    pub(crate) required: bool,
+pub struct Choice {
+    pub name: &'static str,
+    pub kind: Kind,
+    pub required: bool,
 }

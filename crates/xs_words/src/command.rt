@@ -1,54 +1,78 @@
-// What words may mean.
+// What words may mean. Files are names; a top event is a text of its own, and a list of events a file.
 
-/// A verb with the values of its options. Files are names; a top event or a list of events is a text or a
-/// file of its own.
+/// The files of `extend`: the model, the instructions, and the extension that is written.
+#[derive(Clone, Copy, Debug, PartialEq, Eq)]
+pub struct Extend<'a> {
+    pub model: &'a str,
+    pub faults: &'a str,
+    pub extended: &'a str,
+}
+
+/// The files of `replay`: the model, the instructions and the trace; and the word of the top event.
+#[derive(Clone, Copy, Debug, PartialEq, Eq)]
+pub struct Replay<'a> {
+    pub model: &'a str,
+    pub faults: &'a str,
+    pub trace: &'a str,
+    pub top: &'a str,
+}
+
+/// The files and the words of `analyse`: the model, the instructions, the extension and the certificate that are
+/// written; the top event, in how many steps it is looked for at most, and by how many faults where a size is given.
+#[derive(Clone, Copy, Debug, PartialEq, Eq)]
+pub struct Analyse<'a> {
+    pub model: &'a str,
+    pub faults: &'a str,
+    pub top: &'a str,
+    pub depth: u32,
+    pub extended: &'a str,
+    pub cert: &'a str,
+    pub size: Option<u32>,
+}
+
+/// The files of `check`: the model, the instructions and the certificate; and the word of the top event.
+#[derive(Clone, Copy, Debug, PartialEq, Eq)]
+pub struct Check<'a> {
+    pub model: &'a str,
+    pub faults: &'a str,
+    pub top: &'a str,
+    pub cert: &'a str,
+}
+
+/// The files and the words of `fmea`: the model, the instructions and the top events; how many faults a row has at most,
+/// and how far the searches go.
+#[derive(Clone, Copy, Debug, PartialEq, Eq)]
+pub struct Fmea<'a> {
+    pub model: &'a str,
+    pub faults: &'a str,
+    pub tops: &'a str,
+    pub size: u32,
+    pub depth: u32,
+}
+
+/// The words of `make`: the number and the stages of a case, how far the search goes, and the two files that are written.
+#[derive(Clone, Copy, Debug, PartialEq, Eq)]
+pub struct Make<'a> {
+    pub number: u32,
+    pub stages: u32,
+    pub depth: u32,
+    pub model: &'a str,
+    pub faults: &'a str,
+}
+
+/// A verb with the values of its options.
 #[derive(Clone, Copy, Debug, PartialEq, Eq)]
 pub enum Command<'a> {
     /// Extends a model with faults.
-    Extend {
-        model: &'a str,
-        faults: &'a str,
-        extended: &'a str,
-    },
+    Extend(Extend<'a>),
     /// Judges a trace of the extension.
-    Replay {
-        model: &'a str,
-        faults: &'a str,
-        trace: &'a str,
-        top: &'a str,
-    },
-    /// Finds the minimal cut sets of a top event, of at most `size` faults where a size is given, in at most
-    /// `depth` steps.
-    Analyse {
-        model: &'a str,
-        faults: &'a str,
-        top: &'a str,
-        depth: u32,
-        extended: &'a str,
-        cert: &'a str,
-        size: Option<u32>,
-    },
+    Replay(Replay<'a>),
+    /// Finds the minimal cut sets of a top event.
+    Analyse(Analyse<'a>),
     /// Judges a certificate of an analysis.
-    Check {
-        model: &'a str,
-        faults: &'a str,
-        top: &'a str,
-        cert: &'a str,
-    },
-    /// Makes a table of fault sets of at most `size` faults and top events.
-    Fmea {
-        model: &'a str,
-        faults: &'a str,
-        tops: &'a str,
-        size: u32,
-        depth: u32,
-    },
-    /// Generates a case of so many stages from a number, and analyses it.
-    Make {
-        number: u32,
-        stages: u32,
-        depth: u32,
-        model: &'a str,
-        faults: &'a str,
-    },
+    Check(Check<'a>),
+    /// Makes a table of fault sets and top events.
+    Fmea(Fmea<'a>),
+    /// Generates a case from a number, and analyses it.
+    Make(Make<'a>),
 }

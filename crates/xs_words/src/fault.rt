@@ -32,10 +32,13 @@ pub enum WordFault {
     /// A file has the name of an earlier one.
     #[error("word {at} names the file of an earlier option")]
     SameName { at: u32 },
+    /// One of the two faults of a set is not in it, or both are one.
+    #[error("word {at} is no other fault of the set")]
+    NotInSet { at: u32 },
 }
 
 impl WordFault {
-    /// The number of the rule, from 1 to 8.
+    /// The number of the rule, from 1 to 9.
     pub fn number(&self) -> u32
         ensures { result ≡ rule_of self.now }
     {
@@ -48,6 +51,7 @@ impl WordFault {
             WordFault::NoValue { .. } => 6,
             WordFault::BadNumber { .. } => 7,
             WordFault::SameName { .. } => 8,
+            WordFault::NotInSet { .. } => 9,
         }
     }
 
@@ -63,7 +67,8 @@ impl WordFault {
             | WordFault::Missing { at }
             | WordFault::NoValue { at }
             | WordFault::BadNumber { at }
-            | WordFault::SameName { at } => *at,
+            | WordFault::SameName { at }
+            | WordFault::NotInSet { at } => *at,
         }
     }
 }

@@ -1,5 +1,5 @@
 // The rules of the options, in the order in which they are tried.
-ghost use Rattle.std.specs.Prelude.{◌≡◌, ◌+◌, ◌*◌, ◌<◌, ◌≤◌, ◌^◌, ◌&&◌, [], map, length, IsNone};
+ghost use Rattle.std.specs.Prelude.{◌≡◌, ◌+◌, ◌*◌, ◌<◌, ◌≤◌, ◌^◌, ◌&&◌, [], map, length};
 ghost use Rattle.std.specs.Option.{option_map};
 ghost use Rattle.xs_words.specs.Table.{kind_in};
 ghost use Rattle.xs_words.specs.Reading.{pairs_of, value_in, fault_by, pair_fault, missing_from, same_from, has_file, is_file_in, option_fault};
@@ -9,8 +9,9 @@ use crate::choice::{Choice, Kind};
 use crate::fault::WordFault;
 use crate::pairs::value_of;
 
-/// The first rule that the words break, as pairs of these options and their values.
-pub(crate) fn fault_in(options: &[Choice], words: &[&str]) -> Option<WordFault>
+/// The first rule that the words after a verb break, as pairs of these options and their values: each option and its value from left
+/// to right, then the options that are missing, then the names of files.
+pub fn fault_in(options: &[Choice], words: &[&str]) -> Option<WordFault>
     requires { length options.now ≤ 8 }
     ensures { result ≡ option_fault (map viewed options.now) (texts words.now) }
 {

@@ -8,7 +8,11 @@
 //! mean, or a [`WordFault`] with the first broken rule and its place, where they mean none. It takes no memory.
 //!
 //! The verbs, their options and what a value may be stand in `specs/Table.antt` and in `verb` and `choice`
-//! here; `number` reads numbers, `pairs` looks options up, `faults` tries the rules and `read` makes the command.
+//! here; `number` reads numbers, `set` sets of numbers, `pairs` looks options up, `faults` tries the rules and `read` makes the command.
+//!
+//! The rules of options are those of each verb, also of one that a crate above has: it hands its options to [`fault_in`], and looks
+//! their values up by [`pairs`]. `BreaksOption` in `specs/Meaning.antt` says what such words break first, and `option_sound`,
+//! `option_holds`, `option_complete` and `option_clear` in `proofs` that this is what is found.
 //!
 //! ```text
 //! read_words(&["extend", "--model", "m", "--faults", "f", "--extended", "x"])  // Ok(Extend { .. })
@@ -20,13 +24,15 @@ mod choice;
 mod command;
 mod fault;
 mod faults;
-mod number;
-mod pairs;
+pub mod number;
+pub mod pairs;
 mod read;
+pub mod set;
 mod verb;
 
-pub use choice::Kind;
-pub use command::Command;
+pub use choice::{Choice, Kind};
+pub use command::{Analyse, Check, Command, Extend, Fmea, Make, Replay};
 pub use fault::WordFault;
+pub use faults::fault_in;
 pub use read::read_words;
 pub use verb::Verb;

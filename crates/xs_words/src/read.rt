@@ -1,11 +1,12 @@
 // The command that words mean.
 ghost use Rattle.std.specs.Prelude.{◌≡◌, IfOk, IfErr};
+ghost use Rattle.xs_words.specs.declared.command.Command.TheVariants as command;
 ghost use Rattle.xs_words.specs.Meaning.{Means, BreaksFirst};
 ghost use Rattle.xs_words.specs.Laws.{OneCommand, OneFault, CommandsHaveNoFault};
 ghost use Rattle.xs_words.specs.Reading.{pairs_of, reading, made};
 ghost use Rattle.xs_words.specs.Seen.{texts, seen, seen_result, rule_of, place_of};
 
-use crate::command::Command;
+use crate::command::{Analyse, Check, Command, Extend, Fmea, Make, Replay};
 use crate::fault::WordFault;
 use crate::faults::fault_in;
 use crate::pairs::{number, optional_number, text};
@@ -44,29 +45,29 @@ fn command<'a>(verb: Verb, words: &[&'a str]) -> Command<'a>
     ensures { seen result ≡ made verb (pairs_of (texts words.now)) }
 {
     match verb {
-        Verb::Extend => extend(words),
-        Verb::Replay => replay(words),
-        Verb::Analyse => analyse(words),
-        Verb::Check => check(words),
-        Verb::Fmea => fmea(words),
-        Verb::Make => make(words),
+        Verb::Extend => Command::Extend(extend(words)),
+        Verb::Replay => Command::Replay(replay(words)),
+        Verb::Analyse => Command::Analyse(analyse(words)),
+        Verb::Check => Command::Check(check(words)),
+        Verb::Fmea => Command::Fmea(fmea(words)),
+        Verb::Make => Command::Make(make(words)),
     }
 }
 
-fn extend<'a>(words: &[&'a str]) -> Command<'a>
-    ensures { seen result ≡ made Verb.Extend (pairs_of (texts words.now)) }
+fn extend<'a>(words: &[&'a str]) -> Extend<'a>
+    ensures { seen (command.Extend result) ≡ made Verb.Extend (pairs_of (texts words.now)) }
 {
-    Command::Extend {
+    Extend {
         model: text(words, "--model"),
         faults: text(words, "--faults"),
         extended: text(words, "--extended"),
     }
 }
 
-fn replay<'a>(words: &[&'a str]) -> Command<'a>
-    ensures { seen result ≡ made Verb.Replay (pairs_of (texts words.now)) }
+fn replay<'a>(words: &[&'a str]) -> Replay<'a>
+    ensures { seen (command.Replay result) ≡ made Verb.Replay (pairs_of (texts words.now)) }
 {
-    Command::Replay {
+    Replay {
         model: text(words, "--model"),
         faults: text(words, "--faults"),
         trace: text(words, "--trace"),
@@ -74,10 +75,10 @@ fn replay<'a>(words: &[&'a str]) -> Command<'a>
     }
 }
 
-fn analyse<'a>(words: &[&'a str]) -> Command<'a>
-    ensures { seen result ≡ made Verb.Analyse (pairs_of (texts words.now)) }
+fn analyse<'a>(words: &[&'a str]) -> Analyse<'a>
+    ensures { seen (command.Analyse result) ≡ made Verb.Analyse (pairs_of (texts words.now)) }
 {
-    Command::Analyse {
+    Analyse {
         model: text(words, "--model"),
         faults: text(words, "--faults"),
         top: text(words, "--top"),
@@ -88,10 +89,10 @@ fn analyse<'a>(words: &[&'a str]) -> Command<'a>
     }
 }
 
-fn check<'a>(words: &[&'a str]) -> Command<'a>
-    ensures { seen result ≡ made Verb.Check (pairs_of (texts words.now)) }
+fn check<'a>(words: &[&'a str]) -> Check<'a>
+    ensures { seen (command.Check result) ≡ made Verb.Check (pairs_of (texts words.now)) }
 {
-    Command::Check {
+    Check {
         model: text(words, "--model"),
         faults: text(words, "--faults"),
         top: text(words, "--top"),
@@ -99,10 +100,10 @@ fn check<'a>(words: &[&'a str]) -> Command<'a>
     }
 }
 
-fn fmea<'a>(words: &[&'a str]) -> Command<'a>
-    ensures { seen result ≡ made Verb.Fmea (pairs_of (texts words.now)) }
+fn fmea<'a>(words: &[&'a str]) -> Fmea<'a>
+    ensures { seen (command.Fmea result) ≡ made Verb.Fmea (pairs_of (texts words.now)) }
 {
-    Command::Fmea {
+    Fmea {
         model: text(words, "--model"),
         faults: text(words, "--faults"),
         tops: text(words, "--tops"),
@@ -111,10 +112,10 @@ fn fmea<'a>(words: &[&'a str]) -> Command<'a>
     }
 }
 
-fn make<'a>(words: &[&'a str]) -> Command<'a>
-    ensures { seen result ≡ made Verb.Make (pairs_of (texts words.now)) }
+fn make<'a>(words: &[&'a str]) -> Make<'a>
+    ensures { seen (command.Make result) ≡ made Verb.Make (pairs_of (texts words.now)) }
 {
-    Command::Make {
+    Make {
         number: number(words, "--number"),
         stages: number(words, "--stages"),
         depth: number(words, "--depth"),

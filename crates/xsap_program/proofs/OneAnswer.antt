@@ -2,7 +2,7 @@
 use Rattle.std.proofs.Common.{◌≡◌, inl, inr, List, Option, Some, None, IfSome, refl, ap}
 use Rattle.xs_desk.specs.declared.files.NamedFile.{NamedFile}
 use Rattle.xs_reach_words.specs.Commands.{Command, causes, check_causes, orders, check_orders, odds}
-use Rattle.xs_reach_words.specs.Sets.{numbers_of}
+use Rattle.xs_words.specs.Sets.{numbers_of}
 use Rattle.xs_loading.specs.Answered.{Told, Said}
 use Rattle.xs_reach_status.specs.declared.status.Refusal.{Refusal}
 use Rattle.xs_reach_status.specs.declared.status.Status.{Status}

@@ -14,8 +14,8 @@ use Rattle.xs_reach_status.specs.Finished.{IsFinished, IsAnswer}
 use Rattle.xs_reach_status.specs.declared.status.Refusal.TheVariants as refusal
 use Rattle.xs_reach_status.specs.declared.stop.Stop.TheVariants as stops
 use Rattle.xs_reach_status.specs.Statuses.{refusal_text}
-use Rattle.xs_reach_words.specs.declared.fault.WordFault.{WordFault}
-use Rattle.xs_reach_words.specs.Seen.{rule_of, place_of}
+use Rattle.xs_words.specs.declared.fault.WordFault.{WordFault}
+use Rattle.xs_words.specs.Seen.{rule_of, place_of}
 use Rattle.xs_desk.specs.Desk.{SaysPrefix}
 use Rattle.xsap_program.specs.Runs.{IsDone, IsDoneInPart, RefusesCommand, IsLeft, nothing, part_of_line, part_of_work, wrong_words, wrong_files}
 

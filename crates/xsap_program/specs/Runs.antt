@@ -7,9 +7,9 @@ use Rattle.xs_type_laws.specs.Costs.{state_bits}
 use Rattle.xs_tree.specs.ProgramTree.{Text}
 use Rattle.xs_reach_words.specs.Commands.{Command, causes, check_causes, orders, check_orders, odds}
 use Rattle.xs_reach_words.specs.Meaning.{Means, BreaksFirst}
-use Rattle.xs_reach_words.specs.Seen.{rule_of, place_of}
-use Rattle.xs_reach_words.specs.Sets.{numbers_of}
-use Rattle.xs_reach_words.specs.declared.fault.WordFault.{WordFault}
+use Rattle.xs_words.specs.Seen.{rule_of, place_of}
+use Rattle.xs_words.specs.Sets.{numbers_of}
+use Rattle.xs_words.specs.declared.fault.WordFault.{WordFault}
 use Rattle.xs_loading.specs.Answered.{Told, Said, bits_of}
 use Rattle.xs_loading.specs.Cases.{Case, HoldsCase}
 use Rattle.xs_reach_status.specs.declared.status.Refusal.{Refusal}

@@ -7,8 +7,8 @@ ghost use Rattle.xs_desk.specs.declared.desk.WriteStop.TheVariants as write_stop
 ghost use Rattle.xs_reach_words.specs.Commands.{Command as Asked};
 ghost use Rattle.xs_reach_words.specs.Meaning.{Means, BreaksFirst};
 ghost use Rattle.xs_reach_words.specs.Reading.{begins_further};
-ghost use Rattle.xs_reach_words.specs.Seen.{texts, rule_of, place_of};
-ghost use Rattle.xs_reach_words.specs.declared.fault.WordFault.{WordFault};
+ghost use Rattle.xs_words.specs.Seen.{texts, rule_of, place_of};
+ghost use Rattle.xs_words.specs.declared.fault.WordFault.{WordFault};
 ghost use Rattle.xs_reach_status.specs.declared.status.Refusal.{Refusal};
 ghost use Rattle.xs_reach_status.specs.declared.status.Refusal.TheVariants as refused;
 ghost use Rattle.xs_reach_status.specs.declared.stop.Stop.TheVariants as stops;

@@ -4,7 +4,7 @@
 //! The advisers of the panel say what the searches try first; no clause depends on them.
 ghost use Rattle.std.specs.Prelude.{◌≡◌, ◌≤◌, List, IfOk, IsErrOf};
 ghost use Rattle.xs_desk.specs.Desk.{Rose};
-ghost use Rattle.xs_reach_words.specs.Commands.{Text};
+ghost use Rattle.xs_words.specs.Commands.{Text};
 ghost use Rattle.xs_reach_words.specs.Meaning.{Means};
 ghost use Rattle.xs_reach_words.specs.Seen.{seen};
 ghost use Rattle.xs_reach_words.specs.declared.command.Command.TheVariants as asks;

@@ -1,6 +1,6 @@
 use Rattle.std.proofs.Common.{Err, inl, inr, sym, ap, ◌∙◌}
 use Rattle.std.proofs.lemmas.Result.{err_from_is_err_and}
-use Rattle.xs_reach_words.specs.Sets.{numbers_of}
+use Rattle.xs_words.specs.Sets.{numbers_of}
 use Rattle.xs_loading.proofs.InputLemmas.{same_error}
 use Rattle.xs_loading.proofs.SaidLaws.{rose_later}
 use Rattle.xs_reach_status.proofs.StopLaws.{write_refused, write_desk}

@@ -4,7 +4,7 @@ use Rattle.xs_tree.specs.ProgramTree.{program_tree}
 use Rattle.xs_tree.specs.ModelTree.{model_tree}
 use Rattle.xs_encode_laws.specs.FlatTraces.{IsNumbered}
 use Rattle.xs_type_laws.specs.Models.{IsTyped}
-use Rattle.xs_reach_words.specs.Sets.{numbers_of}
+use Rattle.xs_words.specs.Sets.{numbers_of}
 use Rattle.xs_loading.proofs.InputLemmas.{same_error}
 use Rattle.xs_loading.proofs.LoadedLaws.{holds_case}
 use Rattle.xs_reach_status.specs.declared.stop.Stop.TheVariants as stops

@@ -1,7 +1,7 @@
 use Rattle.std.proofs.Common.{[], arith}
-use Rattle.xs_reach_words.specs.Seen.{texts}
+use Rattle.xs_words.specs.Seen.{texts}
+use Rattle.xs_words.proofs.StepLemmas.{fewer_left, at_within}
 use Rattle.xs_reach_words.proofs.OutsideLoop.{passed_none, outside_on, outside_out, outside_end}
-use Rattle.xs_reach_words.proofs.StepLemmas.{fewer_left, at_within}
 use Rattle.xs_reach_words.proofs.pair.first_outside.Goals as goal
 
 pub loop-rest-init : goal.loop-rest-init

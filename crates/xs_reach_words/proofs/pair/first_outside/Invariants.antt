@@ -1,5 +1,5 @@
 use Rattle.std.proofs.Common.{length}
-use Rattle.xs_reach_words.specs.Seen.{texts}
+use Rattle.xs_words.specs.Seen.{texts}
 use Rattle.xs_reach_words.proofs.OutsideLoop.{Passed}
 use Rattle.xs_reach_words.proofs.pair.first_outside.Given as goal
 

@@ -1,6 +1,6 @@
 use Rattle.std.proofs.Common.{sym, ap, ◌∙◌}
-use Rattle.xs_reach_words.specs.Reading.{option_fault}
-use Rattle.xs_reach_words.specs.Seen.{texts}
+use Rattle.xs_words.specs.Reading.{option_fault}
+use Rattle.xs_words.specs.Seen.{texts}
 use Rattle.xs_reach_words.proofs.OutsideLoop.{few_after, after_some, after_none}
 use Rattle.xs_reach_words.proofs.read.broken_by.Goals as goal
 

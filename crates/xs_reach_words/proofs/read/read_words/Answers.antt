@@ -1,4 +1,4 @@
-use Rattle.xs_reach_words.specs.Seen.{texts}
+use Rattle.xs_words.specs.Seen.{texts}
 use Rattle.xs_reach_words.proofs.ReadingLaws.{means_seen, breaks_seen, one_command, one_fault, commands_have_no_fault}
 use Rattle.xs_reach_words.proofs.read.read_words.Goals as goal
 

@@ -1,15 +1,15 @@
 use Rattle.std.proofs.Common.{map, inr, refl}
-use Rattle.xs_run.specs.Commanded.{command_of}
+use Rattle.xs_words.specs.Seen.{seen}
 use Rattle.xs_run.specs.Runs.{Means}
 use Rattle.xs_run.proofs.OutcomeLemmas.{means_refused, answers_refusal, stops_at_refusal, answers_carried, stops_carried}
 use Rattle.xs_run.proofs.run.answer.Goals as goal
 
 pub returns-in-Ok-clause-answered : goal.returns-in-Ok-clause-answered
 returns-in-Ok-clause-answered g c answer =
-    answers_carried _ _ _ _ _ (command_of c.in-Ok.command) c.carry_out.result c.in-Ok.ensures.found c.carry_out.ensures.answered answer
+    answers_carried _ _ _ _ _ (seen c.in-Ok.command) c.carry_out.result c.in-Ok.ensures.found c.carry_out.ensures.answered answer
 
 pub returns-in-Ok-clause-left : goal.returns-in-Ok-clause-left
-returns-in-Ok-clause-left g c = stops_carried _ _ _ _ _ (command_of c.in-Ok.command) c.in-Ok.ensures.found c.carry_out.ensures.left
+returns-in-Ok-clause-left g c = stops_carried _ _ _ _ _ (seen c.in-Ok.command) c.in-Ok.ensures.found c.carry_out.ensures.left
 
 pub returns-in-Err-clause-answered : goal.returns-in-Err-clause-answered
 returns-in-Err-clause-answered g c answer =

@@ -1,6 +1,6 @@
 use Rattle.std.proofs.Common.{Err, inr, ap, ◌∙◌}
-use Rattle.xs_run.specs.declared.asked.Asked.TheVariants as ask
-use Rattle.xs_run.specs.Commanded.{command_of}
+use Rattle.xs_words.specs.declared.command.Command.TheVariants as ask
+use Rattle.xs_words.specs.Seen.{seen}
 use Rattle.xs_run.specs.Findings.{analysed_case, analysed_size}
 use Rattle.xs_run.specs.Runs.{analyses, CommandComesTo, IsDelivered}
 use Rattle.xs_run.proofs.OutcomeLemmas.{answers_prepared, stops_at_prepared, finished_answers, failed_finish, not_desk, answers_stop, leaves_stop}
@@ -10,7 +10,7 @@ use Rattle.xs_run.proofs.verbs.analyse_event.Goals as goal
 pub returns-in-Ok-clause-answered : goal.returns-in-Ok-clause-answered
 returns-in-Ok-clause-answered g c answer =
     let a = c.in-Ok.analysing in
-    answers_prepared (λ files o. CommandComesTo files (command_of (ask.Analyse c.args.asked.now)) o) _ _ _ _ _ _ c.prepare_analysis.ensures.files c.prepare_analysis.ensures.said
+    answers_prepared (λ files o. CommandComesTo files (seen (ask.Analyse c.args.asked.now)) o) _ _ _ _ _ _ c.prepare_analysis.ensures.files c.prepare_analysis.ensures.said
     (analyses (analysed_case a) a.word.now a.depth (analysed_size a) a.extended.now a.cert.now) c.finished.result c.in-Ok.ensures.ok
     (finished_answers
     (λ s. IsDelivered (analyses (analysed_case a) a.word.now a.depth (analysed_size a) a.extended.now a.cert.now) s (g.D.Desk.files c.prepare_analysis.new.desk) (g.D.Desk.files c.deliver_analysis.new.desk) (g.D.Desk.said c.prepare_analysis.new.desk) (g.D.Desk.said c.deliver_analysis.new.desk))
@@ -21,18 +21,18 @@ pub returns-in-Ok-clause-left : goal.returns-in-Ok-clause-left
 returns-in-Ok-clause-left g c =
     let a = c.in-Ok.analysing in
     inr (
-    stops_at_prepared (λ files o. CommandComesTo files (command_of (ask.Analyse c.args.asked.now)) o) _ _ _ _ _ _ c.prepare_analysis.ensures.files c.prepare_analysis.ensures.said
+    stops_at_prepared (λ files o. CommandComesTo files (seen (ask.Analyse c.args.asked.now)) o) _ _ _ _ _ _ c.prepare_analysis.ensures.files c.prepare_analysis.ensures.said
     (analyses (analysed_case a) a.word.now a.depth (analysed_size a) a.extended.now a.cert.now) c.in-Ok.ensures.ok c.deliver_analysis.ensures.part
     )
 
 pub returns-in-Err-clause-answered : goal.returns-in-Err-clause-answered
 returns-in-Err-clause-answered g c answer =
-    answers_stop (λ files o. CommandComesTo files (command_of (ask.Analyse c.args.asked.now)) o) _ _ _ _ _ _ c.prepare_analysis.ensures.files c.prepare_analysis.ensures.said c.in-Err.stop c.stopped.result
+    answers_stop (λ files o. CommandComesTo files (seen (ask.Analyse c.args.asked.now)) o) _ _ _ _ _ _ c.prepare_analysis.ensures.files c.prepare_analysis.ensures.said c.in-Err.stop c.stopped.result
     (λ r is. c.in-Err.ensures.refused r (ap (λ s. Err s) is)) c.stopped.ensures.stopped answer
 
 pub returns-in-Err-clause-left : goal.returns-in-Err-clause-left
 returns-in-Err-clause-left g c =
-    leaves_stop (λ files o. CommandComesTo files (command_of (ask.Analyse c.args.asked.now)) o) _ _ _ _ _ _ c.prepare_analysis.ensures.files c.prepare_analysis.ensures.said c.in-Err.stop c.stopped.result
+    leaves_stop (λ files o. CommandComesTo files (seen (ask.Analyse c.args.asked.now)) o) _ _ _ _ _ _ c.prepare_analysis.ensures.files c.prepare_analysis.ensures.said c.in-Err.stop c.stopped.result
     (λ r is. c.in-Err.ensures.refused r (ap (λ s. Err s) is)) c.stopped.ensures.stopped
 
 pub returns-in-Ok-clause-failed : goal.returns-in-Ok-clause-failed

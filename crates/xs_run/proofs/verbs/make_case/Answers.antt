@@ -1,6 +1,6 @@
 use Rattle.std.proofs.Common.{inl, inr, refl}
-use Rattle.xs_run.specs.declared.asked.Asked.TheVariants as ask
-use Rattle.xs_run.specs.Commanded.{command_of}
+use Rattle.xs_words.specs.declared.command.Command.TheVariants as ask
+use Rattle.xs_words.specs.Seen.{seen}
 use Rattle.xs_run.specs.Made.{made_case}
 use Rattle.xs_run.specs.Runs.{makes, MakeComesTo, CommandComesTo, IsDelivered}
 use Rattle.xs_run.proofs.OutcomeLemmas.{answers_prepared, stops_at_prepared, finished_answers, failed_finish, not_desk, for_files}
@@ -9,7 +9,7 @@ use Rattle.xs_run.proofs.verbs.make_case.Goals as goal
 pub returns-in-Ok-clause-answered : goal.returns-in-Ok-clause-answered
 returns-in-Ok-clause-answered g c answer =
     let a = c.in-Ok.making in
-    answers_prepared (λ files o. CommandComesTo files (command_of (ask.Make c.args.asked.now)) o) _ _ _ _ _ _ refl refl
+    answers_prepared (λ files o. CommandComesTo files (seen (ask.Make c.args.asked.now)) o) _ _ _ _ _ _ refl refl
     (makes (made_case a) a.stages a.depth a.model.now a.faults.now) c.finished.result (for_files (MakeComesTo c.args.asked.now.number c.args.asked.now.stages c.args.asked.now.depth c.args.asked.now.model.now c.args.asked.now.faults.now (makes (made_case a) a.stages a.depth a.model.now a.faults.now)) (g.D.Desk.files c.args.desk.now) c.in-Ok.ensures.ok)
     (finished_answers
     (λ s. IsDelivered (makes (made_case a) a.stages a.depth a.model.now a.faults.now) s (g.D.Desk.files c.args.desk.now) (g.D.Desk.files c.deliver_made.new.desk) (g.D.Desk.said c.args.desk.now) (g.D.Desk.said c.deliver_made.new.desk))
@@ -20,7 +20,7 @@ pub returns-in-Ok-clause-left : goal.returns-in-Ok-clause-left
 returns-in-Ok-clause-left g c =
     let a = c.in-Ok.making in
     inr (
-    stops_at_prepared (λ files o. CommandComesTo files (command_of (ask.Make c.args.asked.now)) o) _ _ _ _ _ _ refl refl
+    stops_at_prepared (λ files o. CommandComesTo files (seen (ask.Make c.args.asked.now)) o) _ _ _ _ _ _ refl refl
     (makes (made_case a) a.stages a.depth a.model.now a.faults.now) (for_files (MakeComesTo c.args.asked.now.number c.args.asked.now.stages c.args.asked.now.depth c.args.asked.now.model.now c.args.asked.now.faults.now (makes (made_case a) a.stages a.depth a.model.now a.faults.now)) (g.D.Desk.files c.args.desk.now) c.in-Ok.ensures.ok) c.deliver_made.ensures.part
     )
 

@@ -1,6 +1,6 @@
 use Rattle.std.proofs.Common.{Err, inr, map, ap}
-use Rattle.xs_run.specs.declared.asked.Asked.TheVariants as ask
-use Rattle.xs_run.specs.Commanded.{command_of}
+use Rattle.xs_words.specs.declared.command.Command.TheVariants as ask
+use Rattle.xs_words.specs.Seen.{seen}
 use Rattle.xs_run.specs.Tables.{tabulated_case, tabulated_events}
 use Rattle.xs_run.specs.Runs.{tabulates, CommandComesTo, IsDelivered}
 use Rattle.xs_run.proofs.OutcomeLemmas.{answers_prepared, stops_at_prepared, finished_answers, failed_finish, no_column_desk, answers_stop, leaves_stop}
@@ -10,7 +10,7 @@ use Rattle.xs_run.proofs.verbs.tabulate.Goals as goal
 pub returns-in-Ok-clause-answered : goal.returns-in-Ok-clause-answered
 returns-in-Ok-clause-answered g c answer =
     let a = c.in-Ok.tabulating in
-    answers_prepared (λ files o. CommandComesTo files (command_of (ask.Fmea c.args.asked.now)) o) _ _ _ _ _ _ c.prepare_table.ensures.files c.prepare_table.ensures.said
+    answers_prepared (λ files o. CommandComesTo files (seen (ask.Fmea c.args.asked.now)) o) _ _ _ _ _ _ c.prepare_table.ensures.files c.prepare_table.ensures.said
     (tabulates (tabulated_case a) (tabulated_events a) a.size a.depth) c.finished.result c.in-Ok.ensures.ok
     (finished_answers
     (λ s. IsDelivered (tabulates (tabulated_case a) (tabulated_events a) a.size a.depth) s (g.D.Desk.files c.prepare_table.new.desk) (g.D.Desk.files c.deliver_table.new.desk) (g.D.Desk.said c.prepare_table.new.desk) (g.D.Desk.said c.deliver_table.new.desk))
@@ -21,18 +21,18 @@ pub returns-in-Ok-clause-left : goal.returns-in-Ok-clause-left
 returns-in-Ok-clause-left g c =
     let a = c.in-Ok.tabulating in
     inr (
-    stops_at_prepared (λ files o. CommandComesTo files (command_of (ask.Fmea c.args.asked.now)) o) _ _ _ _ _ _ c.prepare_table.ensures.files c.prepare_table.ensures.said
+    stops_at_prepared (λ files o. CommandComesTo files (seen (ask.Fmea c.args.asked.now)) o) _ _ _ _ _ _ c.prepare_table.ensures.files c.prepare_table.ensures.said
     (tabulates (tabulated_case a) (tabulated_events a) a.size a.depth) c.in-Ok.ensures.ok c.deliver_table.ensures.part
     )
 
 pub returns-in-Err-clause-answered : goal.returns-in-Err-clause-answered
 returns-in-Err-clause-answered g c answer =
-    answers_stop (λ files o. CommandComesTo files (command_of (ask.Fmea c.args.asked.now)) o) _ _ _ _ _ _ c.prepare_table.ensures.files c.prepare_table.ensures.said c.in-Err.stop c.stopped.result
+    answers_stop (λ files o. CommandComesTo files (seen (ask.Fmea c.args.asked.now)) o) _ _ _ _ _ _ c.prepare_table.ensures.files c.prepare_table.ensures.said c.in-Err.stop c.stopped.result
     (λ r is. c.in-Err.ensures.refused r (ap (λ s. Err s) is)) c.stopped.ensures.stopped answer
 
 pub returns-in-Err-clause-left : goal.returns-in-Err-clause-left
 returns-in-Err-clause-left g c =
-    leaves_stop (λ files o. CommandComesTo files (command_of (ask.Fmea c.args.asked.now)) o) _ _ _ _ _ _ c.prepare_table.ensures.files c.prepare_table.ensures.said c.in-Err.stop c.stopped.result
+    leaves_stop (λ files o. CommandComesTo files (seen (ask.Fmea c.args.asked.now)) o) _ _ _ _ _ _ c.prepare_table.ensures.files c.prepare_table.ensures.said c.in-Err.stop c.stopped.result
     (λ r is. c.in-Err.ensures.refused r (ap (λ s. Err s) is)) c.stopped.ensures.stopped
 
 pub returns-in-Ok-clause-failed : goal.returns-in-Ok-clause-failed

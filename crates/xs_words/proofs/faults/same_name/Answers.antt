@@ -1,4 +1,4 @@
-use Rattle.std.proofs.Common.{◌≤◌, [], map, sym, ◌∙◌, arith}
+use Rattle.std.proofs.Common.{[], map, arith}
 use Rattle.xs_words.specs.Seen.{texts, viewed}
 use Rattle.xs_words.proofs.LoopLemmas.{compared_none}
 use Rattle.xs_words.proofs.StepLemmas.{fewer_left, front_read, at_within, name_on, name_out, name_end}

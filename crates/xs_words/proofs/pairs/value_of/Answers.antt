@@ -1,5 +1,4 @@
 use Rattle.std.proofs.Common.{ap, sym, ◌∙◌}
-use Rattle.xs_words.specs.Commands.{Given}
 use Rattle.xs_words.specs.Reading.{value_in}
 use Rattle.xs_words.proofs.PairLemmas.{no_pair}
 use Rattle.xs_words.proofs.pairs.value_of.Goals as goal

@@ -1,4 +1,4 @@
-use Rattle.std.proofs.Common.{ℕ, ◌-◌, List, [], length, take, drop, Some, None, Ok, Bor, sym, ap, ◌∙◌}
+use Rattle.std.proofs.Common.{◌-◌, [], length, take, drop, Some, None, Ok, sym, ap, ◌∙◌}
 use Rattle.xs_words.specs.Reading.{option_fault}
 use Rattle.xs_words.specs.Seen.{texts}
 use Rattle.xs_words.proofs.ReadingLaws.{verb_then}

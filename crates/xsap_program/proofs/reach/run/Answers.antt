@@ -1,6 +1,7 @@
 use Rattle.std.proofs.Common.{Err, ◌≡◌, inr, ap, ◌∙◌}
 use Rattle.xs_desk.specs.Desk.{said_more}
-use Rattle.xs_reach_words.specs.Seen.{texts, seen}
+use Rattle.xs_words.specs.Seen.{texts}
+use Rattle.xs_reach_words.specs.Seen.{seen}
 use Rattle.xs_reach_status.specs.Statuses.{refusal_text}
 use Rattle.xs_reach_status.specs.declared.status.Refusal.TheVariants as refused
 use Rattle.xsap_program.proofs.RunLaws.{done_for, refused_for, refused_unfinished, answer_refused, finished_kept, told_after, unstopped, left_at_words, left_at_stop}
