@@ -1,5 +1,5 @@
 -- The certificate of a complete analysis is accepted, and can be written.
-use Rattle.std.proofs.Common.{◌≡◌, ◌≢◌, ◌⊎◌, inl, inr, ℕ, ◌+◌, ◌-◌, ◌≤◌, ◌<◌, ◌^◌, Bool, true, false, ◌||◌, nat_lt, lt-ltb, List, [], ◌∷◌, ◌++◌, length, map, Some, refl, sym, ◌∙◌, ap, subst, arith}
+use Rattle.std.proofs.Common.{◌≡◌, ◌≢◌, ◌⊎◌, inl, inr, ℕ, ◌+◌, ◌≤◌, ◌<◌, ◌^◌, Bool, true, false, ◌||◌, nat_lt, lt-ltb, List, [], ◌∷◌, ◌++◌, length, map, Some, refl, sym, ◌∙◌, ap, subst, arith}
 use Rattle.std.specs.Prelude.{All, slice_get}
 use Rattle.std.specs.List.{AllByRecursion}
 use Rattle.std.proofs.lemmas.Bool.{cases_lt}
@@ -10,7 +10,6 @@ use Rattle.xs_tree.specs.ProgramTree.{Text}
 use Rattle.xs_tree.specs.Values.{Value as Told}
 use Rattle.xs_tree.specs.Trace.{Each}
 use Rattle.xs_value.specs.declared.value.Value.{Value}
-use Rattle.xs_value.specs.declared.value.Value.TheVariants as value
 use Rattle.xs_tree.specs.Flat.{FlatLeaf, FlatModel}
 use Rattle.xs_flat_laws.specs.FlatTrace.{AreInDomains, IsFlatMoment, IsFlatTrace}
 use Rattle.xs_flat_laws.specs.History.{Mode, with_history}
@@ -56,11 +55,12 @@ use Rattle.xs_certificate_laws.specs.Subject.{subject_of}
 use Rattle.xs_certificate_laws.proofs.Subjects.{subjects_right}
 use Rattle.xs_case_search.specs.Texts.{text_lines, CanBePrinted}
 use Rattle.xs_case_search.specs.Certifiable.{IsCertifiable, IsCompleteAnswer, IsProof, bad_of, certificate_of}
-use Rattle.xs_case_search.proofs.Places.{all_by_place, each_weaker, recursion_from_each, recursion_from_all, pair_at, both_mapped}
+use Rattle.xs_case_search.proofs.Places.{all_by_place, recursion_from_each, recursion_from_all, pair_at, both_mapped}
 use Rattle.xs_flat_laws.proofs.HistoryLaws.{all_variables}
 use Rattle.xs_report_laws.proofs.Printed.{same_value, map_same as same_maps}
 use Rattle.xs_case_search.proofs.BadLists.{last_history as history_is_last}
 use Rattle.xs_type_laws.proofs.WrittenLaws.{get_map}
+use Rattle.xs_encode_laws.proofs.SetLaws.{each_kept}
 
 same_told : (symbols : List Text) (trace : List (List Value)) → told_trace symbols trace ≡ trace_of symbols trace
 same_told symbols trace = same_maps (told_moment symbols) (values_of symbols) (λ v. same_maps (told_value symbols) (value_of symbols) (same_value symbols) v) trace
@@ -147,7 +147,7 @@ module _ (plain : Model) (fs : List Mode) (top : Tree FlatLeaf) (able : IsCertif
   some_set k set at none = let within : k < length a.sets = place_within a.sets k set at in let e : length a.sets ≡ 0 = ap length none in absurd (omega (arith, within, e))
 
   domains : (k : ℕ) (trace : List (List Value)) → slice_get a.traces k ≡ Some trace → Each (AreInDomains m.variables) (trace_of m.symbols trace)
-  domains k trace at = each_weaker (IsFlatMoment m) (AreInDomains m.variables) (λ v h. h.domains) (trace_of m.symbols trace) (shown k trace at).2.is_one.moments
+  domains k trace at = each_kept (IsFlatMoment m) (AreInDomains m.variables) (λ v h. h.domains) (trace_of m.symbols trace) (shown k trace at).2.is_one.moments
 
   can_print : (k : ℕ) (trace : List (List Value)) → slice_get a.traces k ≡ Some trace → CanBePrinted plain trace
   can_print k trace at = record {

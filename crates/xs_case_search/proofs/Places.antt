@@ -15,10 +15,6 @@ all_by_place P xs h k d within = let there : (x : _) × (slice_get xs k ≡ Some
     mirrored : {A : Type 0} (a b : A) → a ≡ b → b ≡ a
     mirrored a b e = cc
 
-pub each_weaker : {A : Type 0} (P Q : A → Type 0) → ((x : A) → P x → Q x) → (xs : List A) → Each P xs → Each Q xs
-each_weaker P Q f [] h = tt
-each_weaker P Q f (x ∷ xs) h = (f x h.0, each_weaker P Q f xs h.1)
-
 pub recursion_from_each : {A : Type 0} (P Q : A → Type 0) → ((x : A) → P x → Q x) → (xs : List A) → Each P xs → AllByRecursion Q xs
 recursion_from_each P Q f [] h = tt
 recursion_from_each P Q f (x ∷ xs) h = (f x h.0, recursion_from_each P Q f xs h.1)

@@ -1,5 +1,5 @@
 -- A model with the history of its faults, over the models and faults of the code.
-use Rattle.std.specs.Prelude.{◌≡◌, List, map}
+use Rattle.std.specs.Prelude.{◌≡◌, ℕ, List, map}
 use Rattle.xs_tree.specs.Tree.{Tree}
 use Rattle.xs_tree.specs.declared.model.FlatModel.{FlatModel}
 use Rattle.xs_tree.specs.declared.model.Fault.{Fault}
@@ -8,6 +8,10 @@ use Rattle.xs_flat_laws.specs.FaultModes.{mode_of}
 use Rattle.xs_tree.specs.Flat.{FlatLeaf, FlatModel as ModelTree}
 use Rattle.xs_flat_laws.specs.History.{Mode, with_history}
 use Rattle.xs_cut_laws.specs.Searchable.{IsSearchable}
+use Rattle.xs_encode_laws.specs.Bits.{state_of, inputs_of}
+use Rattle.xs_encode_laws.specs.Lists.{system_of}
+use Rattle.xs_cuts.specs.Answer.{IsAnswer}
+use Rattle.xs_cuts.specs.declared.answer.Analysis.{Analysis}
 
 -- faults as modes of a flat model
 abbrev pub modes_of : List Fault → List Mode
@@ -21,3 +25,8 @@ whole_of m faults = with_history (model_tree m) (modes_of faults)
 pub record CanBeSearched (plain full : FlatModel) (faults : List Fault) (top : Tree FlatLeaf) : Type 0 where
   pub whole : model_tree full ≡ whole_of plain faults
   pub searchable : IsSearchable (model_tree plain) (modes_of faults) top
+
+-- this answers a search of the model as deep as the depth, for sets of at most so many faults as the size
+abbrev pub AnswersSearch : FlatModel → List Fault → Tree FlatLeaf → ℕ → ℕ → (Analysis → Type 0)
+AnswersSearch m faults top depth size =
+    IsAnswer (model_tree m) (modes_of faults) top (system_of (whole_of m faults)) (state_of (whole_of m faults)) (inputs_of (whole_of m faults)) depth size

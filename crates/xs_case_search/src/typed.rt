@@ -5,11 +5,9 @@
 
 ghost use Rattle.std.specs.Prelude.{◌≡◌, IfOk};
 ghost use Rattle.xs_tree.specs.ModelTree.{model_tree, flat_tree};
-ghost use Rattle.xs_cuts.specs.Answer.{IsAnswer};
-ghost use Rattle.xs_encode_laws.specs.Bits.{state_of, inputs_of};
 ghost use Rattle.xs_encode_laws.specs.Lists.{system_of};
 ghost use Rattle.xs_cut_laws.specs.Searchable.{IsSearchable};
-ghost use Rattle.xs_case_search.specs.Wholes.{modes_of, whole_of};
+ghost use Rattle.xs_case_search.specs.Wholes.{modes_of, whole_of, AnswersSearch};
 
 use crate::faulty::Faulty;
 use std::alloc::Global;
@@ -37,7 +35,7 @@ pub fn analyse(
 ) -> Result<Analysis, OutOfMemory>
     requires whole { model_tree full.now.model ≡ whole_of plain.now.model faults.now }
     requires searchable { IsSearchable (model_tree plain.now.model) (modes_of faults.now) (flat_tree top.now) }
-    ensures { IfOk result (IsAnswer (model_tree plain.now.model) (modes_of faults.now) (flat_tree top.now) (system_of (whole_of plain.now.model faults.now)) (state_of (whole_of plain.now.model faults.now)) (inputs_of (whole_of plain.now.model faults.now)) depth size) }
+    ensures { IfOk result (AnswersSearch plain.now.model faults.now (flat_tree top.now) depth size) }
 {
     let model = Faulty {
         plain,
@@ -88,7 +86,7 @@ pub fn analyse_in(
     requires searchable { IsSearchable (model_tree plain.now.model) (modes_of faults.now) (flat_tree top.now) }
     requires system { frames.old.system ≡ system_of (whole_of plain.now.model faults.now) }
     ensures system { frames.new.system ≡ frames.old.system }
-    ensures answer { IfOk result (IsAnswer (model_tree plain.now.model) (modes_of faults.now) (flat_tree top.now) (system_of (whole_of plain.now.model faults.now)) (state_of (whole_of plain.now.model faults.now)) (inputs_of (whole_of plain.now.model faults.now)) depth size) }
+    ensures answer { IfOk result (AnswersSearch plain.now.model faults.now (flat_tree top.now) depth size) }
 {
     let model = Faulty {
         plain,

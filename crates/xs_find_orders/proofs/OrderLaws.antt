@@ -47,11 +47,12 @@ use Rattle.xs_reach_status.specs.Finished.{ended_with}
 use Rattle.xs_find_orders.specs.declared.pair.PairWords.{PairWords}
 use Rattle.xs_find_orders.specs.declared.pair.StagedCase.{StagedCase}
 use Rattle.xs_find_orders.specs.declared.searched.Searched.{Searched}
-use Rattle.xs_find_orders.specs.declared.orders.Conclusion.{Conclusion}
+use Rattle.xs_certificate_file.specs.declared.conclusion.Conclusion.{Conclusion}
+use Rattle.xs_certificate_file.specs.Conclusions.{ConcludesInPart}
 use Rattle.xs_words.specs.Sets.{numbers_of}
 use Rattle.xs_find_orders.specs.Pairs.{IsAsked, IsStagedCase}
 use Rattle.xs_find_orders.specs.Orders.{Order, claimed, either, IsClaimed, IsShown, EndsOrder, CertifiesClaim, IsClaimWritten, IsClaimBegun, order_text, order_report, HasOrder, OrdersInPart}
-use Rattle.xs_find_orders.specs.Claimed.{IsSearchOf, IsTraceAgainst, IsToldBy, IsCertifiedOrder, HasClaimCertificate, Concludes, IsConclusion, ConcludesFrom, ConcludesInPart, relation_in}
+use Rattle.xs_find_orders.specs.Claimed.{IsSearchOf, IsTraceAgainst, IsToldBy, IsCertifiedOrder, HasClaimCertificate, Concludes, IsConclusion, ConcludesFrom, relation_in}
 use Rattle.xs_find_orders.proofs.StagedCases.{empty_sets, no_sets}
 use Rattle.xs_find_orders.proofs.AskedLaws.{the_faults, are_faults, holds_asked, at_stage, claim_of_class, of_class}
 use Rattle.xs_find_orders.proofs.ShownLaws.{shown_such, traces_differ}

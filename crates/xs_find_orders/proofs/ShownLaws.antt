@@ -37,12 +37,9 @@ use Rattle.xs_cuts.proofs.PathLemmas.{take_mapped as map_take}
 
 -- ---- the relation that values tell
 
-same_truth : (a b : Bool) → truth a ≡ truth b → a ≡ b
-same_truth a b e = cc
-
 module _ (symbols : List Text) where
   value_true : (x : Numbered) (a : Bool) → value_of symbols x ≡ truth a → is_true_value (Some x) ≡ a
-  value_true (ABool b) a e = same_truth b a e
+  value_true (ABool b) a e = cc
   value_true (Num n) a e = cc
   value_true (Sym i) a e = cc
 

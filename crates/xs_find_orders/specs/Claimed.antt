@@ -1,7 +1,6 @@
 -- A search over a staged model for a trace that speaks against a claim, and what is concluded of it.
-use Rattle.std.specs.Prelude.{◌≡◌, ◌⊎◌, ℕ, ◌-◌, ◌<◌, ◌≤◌, ◌^◌, List, [], Option, Some, None, Bool, false, length, slice_get}
+use Rattle.std.specs.Prelude.{◌≡◌, ℕ, ◌-◌, ◌<◌, ◌≤◌, ◌^◌, List, [], Option, Some, None, Bool, false, length, slice_get}
 use Rattle.xs_desk.specs.declared.files.NamedFile.{NamedFile}
-use Rattle.xs_desk.specs.Desk.{SaysPrefix}
 use Rattle.xs_tree.specs.Tree.{Tree}
 use Rattle.xs_tree.specs.ProgramTree.{Text}
 use Rattle.xs_value.specs.declared.value.Value.{Value as Numbered}
@@ -26,11 +25,10 @@ use Rattle.xs_orders.specs.Stage.{against}
 use Rattle.xs_orders.specs.Told.{told_relation}
 use Rattle.xs_report_laws.specs.ExtendedTraces.{Ending, complete, bounded}
 use Rattle.xs_loading.specs.Cases.{Case}
-use Rattle.xs_loading.specs.Answered.{Told, Said, told_maybe, WritesPrefixMaybe}
 use Rattle.xs_loading.specs.LoadedEvents.{case_in}
 use Rattle.xs_find_orders.specs.declared.pair.StagedCase.{StagedCase}
 use Rattle.xs_find_orders.specs.declared.searched.Searched.{Searched}
-use Rattle.xs_find_orders.specs.declared.orders.Conclusion.{Conclusion}
+use Rattle.xs_certificate_file.specs.declared.conclusion.Conclusion.{Conclusion}
 use Rattle.xs_find_orders.specs.Pairs.{HoldsPair}
 use Rattle.xs_find_orders.specs.Orders.{Order, claimed, either, CertifiesClaim, FoundOrder, order_report, staged_of, against_of}
 
@@ -123,8 +121,3 @@ pub record ConcludesFrom (files : List NamedFile) (model faults top : Text) (set
   pub c : Case
   pub holds : HoldsPair files model faults set first second c
   pub is : Concludes c top set first second depth k
-
--- a part of the certificate was written and nothing said, or the whole, and a part of the report said
-abbrev pub ConcludesInPart : Text → Conclusion → Told → Told → Said → Said → Type 0
-ConcludesInPart name k before after said now =
-    (WritesPrefixMaybe before after name k.cert × (now ≡ said)) ⊎ ((after ≡ told_maybe before name k.cert) × SaysPrefix said now k.report)

@@ -2,21 +2,18 @@
 //!
 //! The main function is [`find_orders`]: a first search looks for a trace that reaches the top event with exactly the set, and a second
 //! for one that speaks against the order that the first shows.
-ghost use Rattle.std.specs.Prelude.{◌≡◌, ◌≤◌, ◌⊎◌, ℕ, Some, None, IfOk, IfSome, IsErrOf, OnOk, OnErr, length};
-ghost use Rattle.xs_desk.specs.Desk.{Rose, said_more};
-ghost use Rattle.xs_desk.specs.declared.desk.WriteStop.TheVariants as write_stop;
+ghost use Rattle.std.specs.Prelude.{◌≡◌, ◌≤◌, ◌⊎◌, ℕ, Some, None, IfOk, IfSome, IsErrOf, length};
+ghost use Rattle.xs_desk.specs.Desk.{Rose};
 ghost use Rattle.xs_tree.specs.ModelTree.{flat_tree};
-ghost use Rattle.xs_text_laws.specs.Analysis.{told_ending};
 ghost use Rattle.xs_cuts.specs.declared.answer.End.TheVariants as ends;
 ghost use Rattle.xs_loading.specs.LoadedEvents.{case_in};
-ghost use Rattle.xs_loading.specs.Answered.{told_maybe, WritesPrefixMaybe};
 ghost use Rattle.xs_words.specs.Sets.{numbers_of};
 ghost use Rattle.xs_reach_status.specs.declared.status.Refusal.{Refusal};
 ghost use Rattle.xs_reach_status.specs.declared.stop.Stop.TheVariants as stop;
-ghost use Rattle.xs_reach_status.specs.Finished.{IsFinished, ended_with};
+ghost use Rattle.xs_reach_status.specs.Finished.{IsFinished};
 ghost use Rattle.xs_find_orders.specs.Pairs.{IsAskedPair, RefusesPair, IsStagedCase};
 ghost use Rattle.xs_find_orders.specs.Orders.{CertifiesClaim, HasOrder, OrdersInPart};
-ghost use Rattle.xs_find_orders.specs.Claimed.{IsSearchOf, IsTraceAgainst, IsToldBy, HasClaimCertificate, IsConclusion, ConcludesFrom, ConcludesInPart, relation_in};
+ghost use Rattle.xs_find_orders.specs.Claimed.{IsSearchOf, IsTraceAgainst, IsToldBy, HasClaimCertificate, IsConclusion, ConcludesFrom, relation_in};
 
 use crate::pair::{PairWords, StagedCase, discard_case, load_pair};
 use crate::searched::{Searched, discard_search, search};
@@ -25,21 +22,14 @@ use std::alloc::Global;
 use xs_adviser::Panel;
 use xs_case_search::{certify, told};
 use xs_cert::write;
+use xs_certificate_file::conclusion::{Conclusion, conclude};
 use xs_cuts::answer::End;
-use xs_desk::{Desk, WriteStop, say_whole, write_whole};
+use xs_desk::Desk;
 use xs_orders::Relation;
 use xs_reach_status::status::{Status, ended_as};
 use xs_reach_status::stop::Stop;
 use xs_reach_words::FindOrders;
 use xs_value::{ByteList, Ending, MomentList, OutOfMemory, TraceList};
-
-/// What is written and said: a certificate of a complete claim, and the report; and how the search ended.
-#[derive(Drop)]
-pub struct Conclusion {
-    pub cert: Option<ByteList>,
-    pub report: ByteList,
-    pub ending: Ending,
-}
 
 /// Searches for the order of the two faults, writes a certificate of a complete answer, and says the line of the pair.
 pub fn find_orders<D: Desk>(
@@ -64,8 +54,8 @@ pub fn find_orders<D: Desk>(
         (D.files desk.old) (D.files desk.new) (D.said desk.old) (D.said desk.new))) }
 {
     let found = prepare(alloc, desk, asked, panel)?;
-    let status = conclude(desk, asked.cert, &found)?;
-    Ok(status)
+    conclude(desk, asked.cert, &found)?;
+    Ok(ended_as(found.ending))
 }
 
 /// Reads the model and the instructions, and searches for the order of the two faults. Nothing is written or said.
@@ -80,7 +70,6 @@ fn prepare<D: Desk>(
     ensures refused { (r : Refusal) → IsErrOf result (stop.Refused r) → IsAskedPair asked.now.set.now asked.now.first asked.now.second → IfSome (D.files desk.old) (λ files.
         RefusesPair files asked.now.model.now asked.now.faults.now asked.now.top.now (numbers_of asked.now.set.now) asked.now.first asked.now.second r) }
     ensures failed { IsErrOf result stop.Desk → Rose (D.faults desk.old) (D.faults desk.new) }
-
     ensures files { D.files desk.new ≡ D.files desk.old }
     ensures said { D.said desk.new ≡ D.said desk.old }
     ensures later { D.faults desk.old ≤ D.faults desk.new }
@@ -274,34 +263,4 @@ fn certificate_text(
         panel,
     )?;
     write(alloc, &certificate)
-}
-
-/// Writes the text, where there is one.
-fn write_maybe<D: Desk>(desk: &mut D, name: &str, text: &Option<ByteList>) -> Result<(), WriteStop>
-    ensures ok { OnOk result (D.files desk.new ≡ told_maybe (D.files desk.old) name.now text.now) }
-    ensures err { OnErr result (WritesPrefixMaybe (D.files desk.old) (D.files desk.new) name.now text.now) }
-    ensures said { D.said desk.new ≡ D.said desk.old }
-    ensures later { D.faults desk.old ≤ D.faults desk.new }
-    ensures failed { IsErrOf result write_stop.Failed → Rose (D.faults desk.old) (D.faults desk.new) }
-    ensures quiet { D.quiet desk.old → D.quiet desk.new × (D.faults desk.new ≡ D.faults desk.old) }
-{
-    match text {
-        Some(bytes) => write_whole(desk, name, bytes.as_slice()),
-        None => Ok(()),
-    }
-}
-
-/// Writes the certificate, where there is one, and says the report.
-fn conclude<D: Desk>(desk: &mut D, name: &str, found: &Conclusion) -> Result<Status, WriteStop>
-    ensures ends { IfOk result (λ s. s ≡ ended_with (told_ending found.now.ending)) }
-    ensures finished { IfOk result IsFinished }
-    ensures ok { OnOk result ((D.files desk.new ≡ told_maybe (D.files desk.old) name.now found.now.cert) × (D.said desk.new ≡ said_more (D.said desk.old) found.now.report)) }
-    ensures part { ConcludesInPart name.now found.now (D.files desk.old) (D.files desk.new) (D.said desk.old) (D.said desk.new) }
-    ensures later { D.faults desk.old ≤ D.faults desk.new }
-    ensures failed { IsErrOf result write_stop.Failed → Rose (D.faults desk.old) (D.faults desk.new) }
-    ensures quiet { D.quiet desk.old → D.quiet desk.new × (D.faults desk.new ≡ D.faults desk.old) }
-{
-    write_maybe(desk, name, &found.cert)?;
-    say_whole(desk, found.report.as_slice())?;
-    Ok(ended_as(found.ending))
 }

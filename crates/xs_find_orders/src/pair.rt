@@ -82,7 +82,6 @@ pub(crate) fn load_pair<'a, D: Desk>(
     ensures numbers { IfOk result (λ s. IsAsked asked.now → s.set.items ≡ numbers_of asked.now.set.now) }
     ensures refused { (r : Refusal) → IsErrOf result (stops.Refused r) → IsAsked asked.now → IfSome (D.files desk.old) (λ files. RefusesAsked files asked.now r) }
     ensures failed { IsErrOf result stops.Desk → Rose (D.faults desk.old) (D.faults desk.new) }
-
     ensures files { D.files desk.new ≡ D.files desk.old }
     ensures said { D.said desk.new ≡ D.said desk.old }
     ensures later { D.faults desk.old ≤ D.faults desk.new }

@@ -1,7 +1,7 @@
 //! The search of a staged model for a trace that speaks against a claim.
 //!
 //! The main function is [`search`].
-ghost use Rattle.std.specs.Prelude.{◌≡◌, [], ℕ, IsTrue, IfOk, length};
+ghost use Rattle.std.specs.Prelude.{◌≡◌, [], IsTrue, IfOk};
 ghost use Rattle.xs_tree.specs.ModelTree.{model_tree, flat_tree};
 ghost use Rattle.xs_cut_laws.specs.Searchable.{IsSearchable};
 ghost use Rattle.xs_find_orders.specs.Pairs.{IsStagedCase};

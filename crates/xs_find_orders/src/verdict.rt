@@ -1,7 +1,7 @@
 //! How the order of two faults is said, and what the moments of a staged trace tell of it.
 //!
 //! [`relation_of`] reads the relation from a trace; [`report_claim`] and [`report_either`] make the reports.
-ghost use Rattle.std.specs.Prelude.{◌≡◌, ◌∷◌, [], ℕ, ◌-◌, ◌++◌, codes, map, take, length, slice_get, IfOk, OnOk};
+ghost use Rattle.std.specs.Prelude.{◌≡◌, ℕ, ◌-◌, ◌++◌, codes, map, take, length, slice_get, IfOk, OnOk};
 ghost use Rattle.std.specs.Fmt.{decimal};
 ghost use Rattle.xs_tree.specs.ModelTree.{model_tree};
 ghost use Rattle.xs_text_laws.specs.TraceText.{trace_text};

@@ -59,23 +59,7 @@ mutual
   branches_long (more_branches {zs = zs} {xs = xs} {ys = ys} p q m) =
       omega (arith, spelling_long p, spelling_long q, branches_long m, length-append zs (sign k.Colon ∷ (xs ++ sign k.Semicolon ∷ ys)), length-append xs (sign k.Semicolon ∷ ys))
 
--- Each token has a byte or more.
-among_long : (ss : List Sign) (kind : TokenKind) (text : List ℕ) → Each (λ (s : Sign). 0 < length s.text) ss → IsAmong ss kind text → 0 < length text
-among_long [] kind text h among = absurd among
-among_long (s ∷ ss) kind text h (inl here) = subst (λ (t : List ℕ). 0 < length t) here.1 h.0
-among_long (s ∷ ss) kind text h (inr later) = among_long ss kind text h.1 later
-
-abbrev are_long : List Sign → Bool
-are_long [] = true
-are_long (s ∷ ss) = nat_lt 0 (length s.text) && are_long ss
-
-each_long : (ss : List Sign) → are_long ss ≡ true → Each (λ (s : Sign). 0 < length s.text) ss
-each_long [] h = tt
-each_long (s ∷ ss) h = let both = both_true (nat_lt 0 (length s.text)) (are_long ss) h in (ltb-true 0 (length s.text) both.0, each_long ss both.1)
-
-signs_long : Each (λ (s : Sign). 0 < length s.text) signs
-signs_long = each_long signs refl
-
+-- A text has no more tokens than bytes.
 pieces_long : (start : ℕ) (pieces : List Piece) (bytes rest : List ℕ) → Splits pieces bytes rest → length (tokens_from start pieces) ≤ length bytes
 pieces_long start [] bytes rest h = omega arith
 pieces_long start (piece ∷ pieces) bytes rest h = by_kind piece.kind h.2 (pieces_long (start + length piece.text) pieces h.0 rest h.3)

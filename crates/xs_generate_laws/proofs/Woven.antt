@@ -13,7 +13,7 @@ use Rattle.xs_fei.specs.AddedNames.{own_name, mode_variable}
 use Rattle.xs_weave.specs.Woven.{mode_type, woven_module, woven}
 use Rattle.xs_generate.specs.Generator.{stage_name, relay_module, relay_slice, generated_instructions, generated_model}
 use Rattle.xs_generate_laws.specs.Laws.{WovenIsWithinNumbers, WovenBreaksNoNumber}
-use Rattle.xs_generate_laws.proofs.Stages.{program_with, program_of, generated_of_stages}
+use Rattle.xs_generate_laws.proofs.Stages.{program_with, generated_of_stages}
 use Rattle.xs_generate_laws.proofs.Items.{items_from, item_stage}
 use Rattle.xs_generate_laws.proofs.Accepted.{stage_visit, instances_and, variables_and}
 use Rattle.xs_generate_laws.proofs.Roots.{stage_instances, instances_with}
@@ -24,9 +24,6 @@ woven_sections = (woven_module generated_instructions relay_module).sections
 
 abbrev pub woven_of : List (Option ℕ) → Option ℕ → Option ℕ → ProgramTree
 woven_of fs last_a last_b = program_with woven_sections fs last_a last_b
-
-pub same_woven : (fs : List (Option ℕ)) (last_a last_b : Option ℕ) → woven (program_of fs last_a last_b) generated_instructions ≡ woven_of fs last_a last_b
-same_woven fs last_a last_b = refl
 
 -- the walk comes to each stage, and inside it to its output, its own value and the state of its slice
 abbrev pub inner_visit : ℕ → ℕ → Text → DeclaredTree → Visit

@@ -1,31 +1,25 @@
 -- The model with causes can be searched with its events.
-use Rattle.std.proofs.Common.{◌≡◌, ℕ, zero, suc, ◌^◌, ◌≤◌, Bool, true, false, ◌||◌, List, [], ◌∷◌, ◌++◌, length, Some, refl, sym, ◌∙◌, ap, subst}
-use Rattle.std.specs.Prelude.{slice_get, IsTrue}
+use Rattle.std.proofs.Common.{◌≡◌, ℕ, suc, ◌^◌, ◌≤◌, Bool, true, false, ◌||◌, List, [], ◌∷◌, length, Some, refl, sym, ◌∙◌, ap, subst}
+use Rattle.std.specs.Prelude.{slice_get}
 use Rattle.xs_tree.specs.declared.program.Member.{Member}
 use Rattle.xs_tree.specs.declared.program.Member.TheVariants as member
 use Rattle.xs_tree.specs.ProgramTree.{Text, DeclaredTree, boolean, range, members, instance}
 use Rattle.xs_tree.specs.Tree.{Tree}
 use Rattle.xs_tree.specs.Texts.{same_text}
 use Rattle.xs_tree.specs.Values.{Value, truth, number, symbol}
-use Rattle.xs_tree.specs.Laws.{AllLeaves}
 use Rattle.xs_tree.specs.Trace.{Each, is_member, in_domain}
 use Rattle.xs_tree.proofs.ValueLaws.{same_text_equal}
-use Rattle.xs_tree.specs.Flat.{FlatLeaf, flat_variable, flat_symbol, flat_definition, FlatVariable, FlatFormula, FlatModel}
+use Rattle.xs_tree.specs.Flat.{FlatLeaf, FlatVariable, FlatModel}
 use Rattle.xs_flat_laws.specs.History.{Mode, bit_variables, with_history}
-use Rattle.xs_flat_laws.specs.FlatTrace.{IsOwnName, IsOwnFormula, NamesOwn, IsModeOf}
-use Rattle.xs_flat_laws.specs.Resolved.{leaves_in}
+use Rattle.xs_flat_laws.specs.FlatTrace.{IsModeOf}
 use Rattle.xs_flat_laws.proofs.Lists.{get_within, each_more}
 use Rattle.xs_flat_laws.proofs.Conditions.{each_at}
-use Rattle.xs_type_laws.specs.Models.{IsTyped}
-use Rattle.xs_type_laws.specs.Laws.{IsKnown, AreInOrder, ReadOwn, IsClosed}
 use Rattle.xs_encode_laws.specs.EncodedLaws.{AreOwn}
 use Rattle.xs_encode_laws.specs.Inputs.{is_input}
 use Rattle.xs_encode_laws.specs.Layout.{input_bits}
-use Rattle.xs_encode_laws.specs.Meanings.{AreSymbols}
 use Rattle.xs_encode_laws.specs.Encodable.{IsListedMember, IsListedType, IsEncodable, IsFitTop}
 use Rattle.xs_encode_laws.specs.HistoryBits.{IsStateMode}
 use Rattle.xs_encode_laws.proofs.HistoryEncodable.{history_encodable}
-use Rattle.xs_encode_laws.proofs.NameMeans.{each_leaf}
 use Rattle.xs_text_laws.specs.Given.{HasItsSymbols}
 use Rattle.xs_cause_laws.specs.Causes.{CommonCause}
 use Rattle.xs_cause_laws.specs.Staged.{with_causes, events_of}
@@ -33,33 +27,9 @@ use Rattle.xs_reach_laws.specs.CausedLaws.{CanHaveCauses, CausedAreSearchable}
 use Rattle.xs_cause_laws.proofs.HistoryKinds.{history_addition, history_is}
 use Rattle.xs_reach_laws.proofs.Widened.{HasClauses, fit_wide}
 use Rattle.xs_reach_laws.proofs.Carried.{IsEventIn, Carries, StagedGoes, staged_goes, same_inputs}
+use Rattle.xs_certificate_laws.proofs.Own.{own_names, closed_own}
 
 -- ---- names
-
-own_name : (v s d : ℕ) (l : FlatLeaf) → IsKnown v s d l → IsOwnName v l
-own_name v s d (flat_variable i) h = h
-own_name v s d (flat_symbol i) h = tt
-own_name v s d (flat_definition i) h = tt
-
-own_names : (v s d : ℕ) (e : Tree FlatLeaf) → AllLeaves (IsKnown v s d) e → Each (IsOwnName v) (leaves_in e)
-own_names v s d e h = each_more (IsKnown v s d) (IsOwnName v) (leaves_in e) (own_name v s d) (each_leaf (IsKnown v s d) e h)
-
-own_definitions : (v s k : ℕ) (ds : List FlatFormula) → AreInOrder v s k ds → Each (IsOwnFormula v) ds
-own_definitions v s k [] h = tt
-own_definitions v s k (d ∷ ds) h = (own_names v s k d.value h.0, own_definitions v s (suc k) ds h.1)
-
-own_formulas : (n : FlatModel) (gs : List FlatFormula) → ReadOwn n gs → Each (IsOwnFormula (length n.variables)) gs
-own_formulas n [] h = tt
-own_formulas n (g ∷ gs) h = (own_names (length n.variables) (length n.symbols) (length n.definitions) g.value h.0, own_formulas n gs h.1)
-
-closed_own : (n : FlatModel) → IsClosed n → NamesOwn n
-closed_own n closed =
-    record {
-      definitions = own_definitions (length n.variables) (length n.symbols) 0 n.definitions closed.definitions;
-      at_first = own_formulas n n.at_first closed.at_first;
-      at_each = own_formulas n n.at_each closed.at_each;
-      at_step = own_formulas n n.at_step closed.at_step;
-    }
 
 -- ---- symbols of types
 

@@ -2,11 +2,11 @@
 use Rattle.std.proofs.Common.{◌≡◌, ℕ, suc, ◌≤◌, Bool, true, false, ◌||◌, List, [], ◌∷◌, ◌++◌, length, Some, refl, sym, ◌∙◌, ap, arith}
 use Rattle.std.specs.Prelude.{slice_get}
 use Rattle.xs_tree.specs.Trace.{Each}
-use Rattle.xs_tree.specs.Flat.{flat_variable, FlatVariable, FlatModel}
+use Rattle.xs_tree.specs.Flat.{flat_variable, FlatModel}
 use Rattle.xs_flat_laws.specs.FlatTrace.{IsModeOf}
 use Rattle.xs_flat_laws.specs.History.{Mode, bit_variables, bits_at_first, with_history}
 use Rattle.xs_flat_laws.proofs.Lists.{get_left}
-use Rattle.xs_encode_laws.specs.Inputs.{is_input, is_input_variable, reads_input}
+use Rattle.xs_encode_laws.specs.Inputs.{is_input_variable, reads_input}
 use Rattle.xs_encode_laws.specs.Layout.{input_bits}
 use Rattle.xs_encode_laws.specs.Encodable.{IsEncodable, is_input_name}
 use Rattle.xs_encode_laws.specs.HistoryBits.{IsStateMode}
@@ -17,6 +17,7 @@ use Rattle.xs_reach_laws.proofs.Carried.{same_inputs}
 use Rattle.xs_cause_laws.proofs.HistoryKinds.{history_addition, history_is}
 use Rattle.xs_reach_laws.proofs.Events.{bits_of_state}
 use Rattle.std.proofs.lemmas.Option.{slice_get_within as got_below}
+use Rattle.xs_flat_laws.proofs.Reaches.{each_right}
 
 second : (a b c : Bool) → (a || (b || c)) ≡ false → b ≡ false
 second true b c h = cc
@@ -41,14 +42,10 @@ module _ (m : FlatModel) (all : List Mode) where
   modes_from n [] is quiet = tt
   modes_from n (f ∷ fs) is quiet = (state_mode n f is.0 quiet.0, modes_from (suc n) fs is.1 quiet.1)
 
-each_second : {A : Type 0} (P : A → Type 0) (xs ys : List A) → Each P (xs ++ ys) → Each P ys
-each_second P [] ys h = h
-each_second P (x ∷ xs) ys h = each_second P xs ys h.1
-
 -- the modes of a model whose history is encodable are of the state
 pub state_modes : (m : FlatModel) (fs : List Mode) → Each (IsModeOf m) fs → IsEncodable (with_history m fs) → Each (IsStateMode m) fs
 state_modes m fs are is =
-    modes_from m fs (length m.variables) fs are (each_second (λ f. reads_input (with_history m fs) f.value ≡ false) m.at_first (bits_at_first (length m.variables) fs) is.at_first)
+    modes_from m fs (length m.variables) fs are (each_right (λ f. reads_input (with_history m fs) f.value ≡ false) m.at_first (bits_at_first (length m.variables) fs) is.at_first)
 
 -- ---- inputs
 

@@ -1,8 +1,7 @@
 -- Causes that break no rule leave names apart, and causes that are spelled have words as names.
-use Rattle.std.proofs.Common.{◌≡◌, ◌++◌, List, [], ◌∷◌, length, sym, subst}
-use Rattle.xs_lexer.specs.declared.token.TokenKind.TheVariants as k
+use Rattle.std.proofs.Common.{List, [], subst}
 use Rattle.xs_lexer.specs.Tokens.{IsWord}
-use Rattle.xs_tree.specs.Lexemes.{Lexeme, word, num, sign}
+use Rattle.xs_tree.specs.Lexemes.{Lexeme}
 use Rattle.xs_tree.specs.Trace.{Each}
 use Rattle.xs_tree.proofs.Spelled.{AllFit, many_writable, tokens_fit}
 use Rattle.xs_cause_laws.specs.Causes.{IsCauseOf}

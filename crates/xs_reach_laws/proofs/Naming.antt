@@ -1,5 +1,5 @@
 -- Variables and symbols with new names: the variables keep different names, and the symbols stay different.
-use Rattle.std.proofs.Common.{◌≡◌, ◌≢◌, ◌⊎◌, inl, inr, ℕ, zero, suc, ◌+◌, ◌-◌, ◌<◌, ◌≤◌, List, [], ◌∷◌, ◌++◌, length, Some, reverse, refl, sym, ◌∙◌, ap, subst, arith}
+use Rattle.std.proofs.Common.{◌≡◌, ◌≢◌, ◌⊎◌, inl, inr, ℕ, zero, suc, ◌+◌, ◌≤◌, List, [], ◌∷◌, ◌++◌, length, Some, reverse, refl, sym, ◌∙◌, ap, subst, arith}
 use Rattle.std.specs.Prelude.{slice_get, pos}
 use Rattle.xs_tree.specs.declared.program.Member.TheVariants as member
 use Rattle.xs_tree.specs.ProgramTree.{Text, DeclaredTree, boolean, range, members}
@@ -9,7 +9,6 @@ use Rattle.xs_tree.specs.WritableProgram.{IsWritableType}
 use Rattle.xs_tree.specs.Flat.{FlatVariable, FlatFormula, FlatModel}
 use Rattle.xs_flat_laws.specs.History.{Mode}
 use Rattle.xs_flat_laws.proofs.Conditions.{each_at}
-use Rattle.xs_flat_laws.proofs.Lists.{each_more}
 use Rattle.xs_cause_laws.specs.Added.{with_addition}
 use Rattle.xs_cause_laws.proofs.Columns.{one_added}
 use Rattle.xs_text_laws.specs.Laws.{IsNamed}

@@ -1,5 +1,5 @@
 -- An accepted certificate of the model with causes is right for all caused traces, and lists the minimal sets.
-use Rattle.std.proofs.Common.{◌≡◌, List, [], ◌∷◌, length, refl}
+use Rattle.std.proofs.Common.{List, [], ◌∷◌, length, refl}
 use Rattle.xs_tree.specs.Tree.{Tree}
 use Rattle.xs_tree.specs.ProgramTree.{Formula, ProgramTree}
 use Rattle.xs_tree.specs.Trace.{Each}
@@ -9,10 +9,9 @@ use Rattle.xs_flat_laws.specs.FlatTrace.{IsFlatTrace}
 use Rattle.xs_flat_laws.specs.History.{Mode}
 use Rattle.xs_fei.specs.Instructions.{InstructionTree}
 use Rattle.xs_weave.specs.Faults.{Fault}
-use Rattle.xs_weave.specs.Extended.{Moment}
 use Rattle.xs_right_laws.specs.Laws.{AreBoth}
 use Rattle.xs_right_laws.proofs.Minimal.{right_sets_minimal}
-use Rattle.xs_certificate_laws.specs.ExtendedTraces.{IsExtensionModel, IsFlatCut}
+use Rattle.xs_certificate_laws.specs.ExtendedTraces.{IsExtensionModel}
 use Rattle.xs_certificate_laws.proofs.Carried.{flat_traces_cut}
 use Rattle.xs_text_laws.specs.Lines.{Line}
 use Rattle.xs_text_laws.specs.Given.{GivesTrace}

@@ -1,21 +1,15 @@
 -- The staged model can be searched.
-use Rattle.std.proofs.Common.{◌≡◌, ℕ, suc, ◌+◌, ◌-◌, ◌^◌, ◌<◌, ◌≤◌, List, [], ◌∷◌, Option, length, codes, sym, ◌∙◌, ap, subst, arith}
+use Rattle.std.proofs.Common.{◌≡◌, ℕ, suc, ◌+◌, ◌-◌, ◌^◌, ◌<◌, ◌≤◌, List, [], Option, length, codes, sym, ◌∙◌, ap, subst, arith}
 use Rattle.xs_tree.specs.Tree.{Tree}
-use Rattle.xs_tree.specs.Laws.{AllLeaves}
-use Rattle.xs_tree.specs.Trace.{Each}
-use Rattle.xs_tree.specs.Flat.{FlatLeaf, flat_variable, flat_symbol, flat_definition, FlatFormula, FlatModel}
+use Rattle.xs_tree.specs.Flat.{FlatLeaf, FlatModel}
 use Rattle.xs_flat_laws.specs.History.{Mode, with_history}
-use Rattle.xs_flat_laws.specs.FlatTrace.{IsOwnName, IsOwnFormula, NamesOwn}
-use Rattle.xs_flat_laws.specs.Resolved.{leaves_in}
 use Rattle.xs_flat_laws.proofs.HistoryLaws.{no_bits, all_variables as with_bits}
-use Rattle.xs_flat_laws.proofs.Lists.{each_more, length_end}
+use Rattle.xs_flat_laws.proofs.Lists.{length_end}
 use Rattle.xs_type_laws.specs.Costs.{cost_of}
-use Rattle.xs_type_laws.specs.Laws.{IsKnown, AreInOrder, ReadOwn, IsClosed}
 use Rattle.xs_type_laws.specs.Models.{IsTyped}
 use Rattle.xs_encode_laws.specs.Layout.{input_bits}
 use Rattle.xs_encode_laws.specs.Encodable.{IsEncodable, IsStateBoolean, IsFitTop}
 use Rattle.xs_encode_laws.proofs.HistoryPlaces.{is_bit}
-use Rattle.xs_encode_laws.proofs.NameMeans.{each_leaf}
 use Rattle.xs_cut_laws.specs.Searchable.{IsSearchable}
 use Rattle.xs_orders.specs.declared.Relation.{Relation}
 use Rattle.xs_orders.specs.Stage.{order_variable, with_order, bit_number, stage, with_set, with_claim, against}
@@ -23,6 +17,7 @@ use Rattle.xs_reach_laws.specs.Laws.{IsFaultNumber, StagedAreSearchable}
 use Rattle.xs_reach_laws.proofs.Grown.{HasClauses}
 use Rattle.xs_reach_laws.proofs.Fits.{fit_set, fit_claim, set_cost, claim_cost}
 use Rattle.xs_reach_laws.proofs.Ordered.{boolean_kept, boolean_added, clauses_kept, fit_kept, no_more_inputs}
+use Rattle.xs_certificate_laws.proofs.Own.{own_names, closed_own}
 
 pub staged_length : (m : FlatModel) (fs : List Mode) (i j : ℕ) → length (stage m fs i j).variables ≡ suc (suc (length m.variables + length fs))
 staged_length m fs i j =
@@ -121,31 +116,6 @@ module _ (m : FlatModel) (fs : List Mode) (top : Tree FlatLeaf) (is : IsSearchab
   encodable typed =
       let c = staged_clauses in
       record { closed = c.closed; typed = typed; symbols = c.symbols; types = c.types; at_first = c.at_first; at_each = c.at_each; at_step = c.at_step }
-
-own_name : (v s d : ℕ) (l : FlatLeaf) → IsKnown v s d l → IsOwnName v l
-own_name v s d (flat_variable i) h = h
-own_name v s d (flat_symbol i) h = tt
-own_name v s d (flat_definition i) h = tt
-
-own_names : (v s d : ℕ) (e : Tree FlatLeaf) → AllLeaves (IsKnown v s d) e → Each (IsOwnName v) (leaves_in e)
-own_names v s d e h = each_more (IsKnown v s d) (IsOwnName v) (leaves_in e) (own_name v s d) (each_leaf (IsKnown v s d) e h)
-
-own_definitions : (v s k : ℕ) (ds : List FlatFormula) → AreInOrder v s k ds → Each (IsOwnFormula v) ds
-own_definitions v s k [] h = tt
-own_definitions v s k (d ∷ ds) h = (own_names v s k d.value h.0, own_definitions v s (suc k) ds h.1)
-
-own_formulas : (n : FlatModel) (gs : List FlatFormula) → ReadOwn n gs → Each (IsOwnFormula (length n.variables)) gs
-own_formulas n [] h = tt
-own_formulas n (g ∷ gs) h = (own_names (length n.variables) (length n.symbols) (length n.definitions) g.value h.0, own_formulas n gs h.1)
-
-closed_own : (n : FlatModel) → IsClosed n → NamesOwn n
-closed_own n closed =
-    record {
-      definitions = own_definitions (length n.variables) (length n.symbols) 0 n.definitions closed.definitions;
-      at_first = own_formulas n n.at_first closed.at_first;
-      at_each = own_formulas n n.at_each closed.at_each;
-      at_step = own_formulas n n.at_step closed.at_step;
-    }
 
 -- what is asked of a model without faults, over the model itself
 without_faults : (n : FlatModel) (e : Tree FlatLeaf) → IsEncodable n → IsFitTop n e → input_bits n ≤ 2 ^ 30 → cost_of e ≤ 60000 → IsSearchable n [] e

@@ -1,11 +1,9 @@
 -- What a staged trace shows of extended traces.
-use Rattle.std.proofs.Common.{◌≡◌, ℕ, suc, ◌-◌, ◌<◌, ◌≤◌, true, List, [], ◌∷◌, ◌++◌, length, map, Option, Some, None, ◌∙◌, sym, subst, arith, ◌⊎◌, ⊎_elim}
+use Rattle.std.proofs.Common.{◌≡◌, ℕ, ◌-◌, true, List, [], ◌∷◌, ◌++◌, length, Option, Some, None, sym, subst, arith, ⊎_elim}
 use Rattle.std.proofs.lemmas.Bool.{cases_lt}
-use Rattle.std.specs.Prelude.{slice_get, IsTrue}
 use Rattle.xs_tree.specs.Tree.{Tree}
 use Rattle.xs_tree.specs.ProgramTree.{Formula, ProgramTree}
 use Rattle.xs_tree.specs.Values.{Value, truth}
-use Rattle.xs_tree.specs.May.{Valuation}
 use Rattle.xs_tree.specs.Flat.{FlatLeaf, FlatModel}
 use Rattle.xs_flat_laws.specs.History.{Mode}
 use Rattle.xs_flat_laws.specs.FlatTrace.{IsFlatTrace, stands_in_some}
@@ -27,7 +25,7 @@ use Rattle.xs_orders.proofs.Ordered.{orders_told}
 use Rattle.xs_orders.proofs.Begins.{Stood, begins_somewhere}
 use Rattle.xs_orders.proofs.Speaking.{against_exactly}
 use Rattle.xs_orders.proofs.Ends.{ends_tell}
-use Rattle.xs_reach_laws.specs.OrdersExtendedLaws.{FaultStands, IsAsked, IsSuch, ShowsSuch, TellsRelation, FoundAreSuch, OthersAreSuch}
+use Rattle.xs_reach_laws.specs.OrdersExtendedLaws.{FaultStands, IsAsked, ShowsSuch, TellsRelation, FoundAreSuch, OthersAreSuch}
 use Rattle.xs_reach_laws.proofs.Said.{moved, staged_facts, begins_cut, stood_of, mode_one, mode_other}
 
 -- a fact begins once

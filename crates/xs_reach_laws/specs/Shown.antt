@@ -1,7 +1,7 @@
 -- What an accepted certificate, and what an analysis, of the model with causes shows of caused traces.
-use Rattle.std.specs.Prelude.{◌≡◌, ◌↔◌, ℕ, Bool, List, map, length}
+use Rattle.std.specs.Prelude.{◌↔◌, ℕ, Bool, List, map, length}
 use Rattle.xs_tree.specs.Tree.{Tree}
-use Rattle.xs_tree.specs.ProgramTree.{Text, Formula, ProgramTree}
+use Rattle.xs_tree.specs.ProgramTree.{Formula, ProgramTree}
 use Rattle.xs_tree.specs.Values.{Value}
 use Rattle.xs_tree.specs.Trace.{Each}
 use Rattle.xs_tree.specs.Flat.{FlatLeaf, FlatModel}

@@ -1,7 +1,6 @@
 -- An accepted program has few variables, and so few bits of inputs.
-use Rattle.std.proofs.Common.{◌≡◌, ℕ, zero, suc, ◌+◌, ◌*◌, ◌^◌, ◌≤◌, nat_eq, Bool, true, false, List, [], ◌∷◌, ◌++◌, length, Option, Some, None, ℤ, pos, negsuc, refl, sym, ap, ◌∙◌, subst, arith, ⊎_elim}
-use Rattle.std.specs.Prelude.{flat_map, map, sum_by, ◌/◌}
-use Rattle.std.proofs.lemmas.Bool.{cases_lt}
+use Rattle.std.proofs.Common.{◌≡◌, ℕ, ◌+◌, ◌*◌, ◌^◌, ◌≤◌, List, [], ◌∷◌, ◌++◌, length, Option, Some, None, ℤ, pos, negsuc, refl, sym, ap, ◌∙◌, subst, arith, ⊎_elim}
+use Rattle.std.specs.Prelude.{flat_map, map, sum_by}
 use Rattle.std.proofs.lemmas.List.{length-append, append_assoc, append-nil}
 use Rattle.std.proofs.lemmas.List.Sums.{sum_by-cons}
 use Rattle.xs_tree.specs.ProgramTree.{Text, DeclaredTree, boolean, range, members, instance, ProgramTree}
@@ -16,10 +15,11 @@ use Rattle.xs_flat_laws.proofs.HistoryLaws.{length_bits}
 use Rattle.xs_flat_laws.proofs.Walkable.{accepted_walkable}
 use Rattle.xs_type_laws.specs.Intervals.{Interval}
 use Rattle.xs_type_laws.specs.Judged.{hull_of}
-use Rattle.xs_type_laws.specs.Costs.{digits_in, digits_above, width_of, width_in, declared_width, number_kind, member_number}
+use Rattle.xs_type_laws.specs.Costs.{digits_above, width_of, width_in, declared_width, number_kind, member_number}
 use Rattle.xs_encode_laws.specs.Layout.{width_as_input, input_width, input_bits}
 use Rattle.xs_type_laws.proofs.ClosedLaws.{same_length as both_long}
 use Rattle.xs_encode_laws.proofs.SizeLists.{digits_most}
+use Rattle.std.proofs.lemmas.Bool.{cases_lt}
 
 -- ---- variables
 
@@ -30,12 +30,6 @@ more_before (w ∷ vs) v =
     let two = length-append (variable_declared w w.decl.what) (flat_map (λ x. variable_declared x x.decl.what) vs) in
     let rest = more_before vs v in
     omega (arith, one, two, rest)
-
-one_variable : (v : Visit) (d : DeclaredTree) → length (variable_declared v d) ≤ 1
-one_variable v boolean = omega arith
-one_variable v (range lo hi) = omega arith
-one_variable v (members ms) = omega arith
-one_variable v (instance m actuals) = omega arith
 
 below_limit : (n one : ℕ) → (2000 ≤ n → ⊥) → one ≤ 1 → n + one ≤ 2000
 below_limit n one none h = ⊎_elim (λ less. omega (arith, less, h)) (λ more. absurd (none more)) (cases_lt n 2000)

@@ -1,5 +1,5 @@
 -- The flat model of an extension, with its faults and a top event that fits it, can be searched.
-use Rattle.std.proofs.Common.{◌≡◌, ℕ, suc, ◌<◌, List, [], ◌∷◌, Some, refl, sym, ap, ◌∙◌, subst}
+use Rattle.std.proofs.Common.{◌≡◌, ℕ, suc, List, [], ◌∷◌, Some, refl, sym, ap, ◌∙◌, subst}
 use Rattle.std.specs.Prelude.{slice_get}
 use Rattle.xs_tree.specs.Tree.{Tree}
 use Rattle.xs_tree.specs.ProgramTree.{Text, Formula, DeclaredTree, boolean, range, members, instance, ProgramTree}
@@ -38,7 +38,7 @@ written_member (range lo hi) h = tt
 written_member (members ms) h = h.0
 written_member (instance m actuals) h = absurd h
 
-written_members : (xs : List FlatVariable) → ((i : ℕ) (x : FlatVariable) → slice_get xs i ≡ Some x → IsWritableType x.declared) → Each (λ x. HasMember x.declared) xs
+pub written_members : (xs : List FlatVariable) → ((i : ℕ) (x : FlatVariable) → slice_get xs i ≡ Some x → IsWritableType x.declared) → Each (λ x. HasMember x.declared) xs
 written_members [] types = tt
 written_members (x ∷ xs) types = (written_member x.declared (types 0 x refl), written_members xs (λ i y e. types (suc i) y e))
 

@@ -1,5 +1,5 @@
 -- When what an analysis of an extension finds is right.
-use Rattle.std.specs.Prelude.{◌≡◌, ◌↔◌, ℕ, ◌+◌, ◌≤◌, Bool, true, List, Some, length, slice_get}
+use Rattle.std.specs.Prelude.{◌≡◌, ◌↔◌, ℕ, ◌+◌, ◌≤◌, true, List, Some, length, slice_get}
 use Rattle.xs_tree.specs.ProgramTree.{Formula, ProgramTree}
 use Rattle.xs_tree.specs.Values.{Value}
 use Rattle.xs_tree.specs.Trace.{Each}

@@ -15,22 +15,22 @@ returns-in_err-found-clause-refused g c r e asked =
 pub returns-in_err-found-clause-left : goal.returns-in_err-found-clause-left
 returns-in_err-found-clause-left g c = inl (c.prepare.ensures.files, c.prepare.ensures.said)
 
-pub returns-in_err-status-clause-refused : goal.returns-in_err-status-clause-refused
-returns-in_err-status-clause-refused g c r e asked =
-    let exit = err_from_is_err_and c.from_residual-in_err-status.result c.from_residual-in_err-status.ensures.1 in absurd (write_refused _ r (sym exit.2 ∙ same_error (sym exit.1 ∙ e)))
+pub returns-in_err-conclude-clause-refused : goal.returns-in_err-conclude-clause-refused
+returns-in_err-conclude-clause-refused g c r e asked =
+    let exit = err_from_is_err_and c.from_residual-in_err-conclude.result c.from_residual-in_err-conclude.ensures.1 in absurd (write_refused _ r (sym exit.2 ∙ same_error (sym exit.1 ∙ e)))
 
-pub returns-in_err-status-clause-untouched : goal.returns-in_err-status-clause-untouched
-returns-in_err-status-clause-untouched g c r e =
-    let exit = err_from_is_err_and c.from_residual-in_err-status.result c.from_residual-in_err-status.ensures.1 in absurd (write_refused _ r (sym exit.2 ∙ same_error (sym exit.1 ∙ e)))
+pub returns-in_err-conclude-clause-untouched : goal.returns-in_err-conclude-clause-untouched
+returns-in_err-conclude-clause-untouched g c r e =
+    let exit = err_from_is_err_and c.from_residual-in_err-conclude.result c.from_residual-in_err-conclude.ensures.1 in absurd (write_refused _ r (sym exit.2 ∙ same_error (sym exit.1 ∙ e)))
 
-pub returns-in_err-status-clause-failed : goal.returns-in_err-status-clause-failed
-returns-in_err-status-clause-failed g c e =
-    let exit = err_from_is_err_and c.from_residual-in_err-status.result c.from_residual-in_err-status.ensures.1 in
+pub returns-in_err-conclude-clause-failed : goal.returns-in_err-conclude-clause-failed
+returns-in_err-conclude-clause-failed g c e =
+    let exit = err_from_is_err_and c.from_residual-in_err-conclude.result c.from_residual-in_err-conclude.ensures.1 in
     let is = write_desk _ (sym exit.2 ∙ same_error (sym exit.1 ∙ e)) in
-    rose_later _ _ _ c.prepare.ensures.later (c.conclude.ensures.failed (c.in_err-status.was ∙ ap (λ s. Err s) is))
+    rose_later _ _ _ c.prepare.ensures.later (c.conclude.ensures.failed (c.in_err-conclude.was ∙ ap (λ s. Err s) is))
 
-pub returns-in_err-status-clause-left : goal.returns-in_err-status-clause-left
-returns-in_err-status-clause-left g c =
+pub returns-in_err-conclude-clause-left : goal.returns-in_err-conclude-clause-left
+returns-in_err-conclude-clause-left g c =
     let a = c.args.asked.now in
     inr
     (λ asked. orders_in_part a.model.now a.faults.now a.top.now (numbers_of a.set.now) a.first a.second a.depth a.cert.now c.in_ok-found.found _ _ _ _ _ _ c.prepare.ensures.files c.prepare.ensures.said _
@@ -39,8 +39,8 @@ returns-in_err-status-clause-left g c =
 pub returns-clause-ok : goal.returns-clause-ok
 returns-clause-ok g c asked =
     let a = c.args.asked.now in
-    has_order a.model.now a.faults.now a.top.now (numbers_of a.set.now) a.first a.second a.depth a.cert.now c.in_ok-found.found _ _ _ _ _ _ c.prepare.ensures.files c.prepare.ensures.said _ c.in_ok-status.status
-    (c.in_ok-found.ensures.ok asked) c.in_ok-status.ensures.ends c.in_ok-status.ensures.ok.0 c.in_ok-status.ensures.ok.1
+    has_order a.model.now a.faults.now a.top.now (numbers_of a.set.now) a.first a.second a.depth a.cert.now c.in_ok-found.found _ _ _ _ _ _ c.prepare.ensures.files c.prepare.ensures.said _ c.ended_as.result
+    (c.in_ok-found.ensures.ok asked) c.ended_as.ensures.ends c.in_ok-conclude.ensures.ok.0 c.in_ok-conclude.ensures.ok.1
 
 pub returns-clause-left : goal.returns-clause-left
 returns-clause-left g c =
