@@ -5,6 +5,7 @@ use Rattle.xs_desk.specs.declared.files.NamedFile.{NamedFile}
 use Rattle.xs_desk.specs.Desk.{said_more, SaysPrefix}
 use Rattle.xs_tree.specs.Tree.{Tree}
 use Rattle.xs_tree.specs.ProgramTree.{Text, ProgramTree}
+use Rattle.xs_tree.specs.Trace.{Each}
 use Rattle.xs_tree.specs.Flat.{FlatLeaf, FlatModel}
 use Rattle.xs_flat_laws.specs.History.{Mode, with_history}
 use Rattle.xs_tree.specs.ModelTree.{flat_tree}
@@ -15,6 +16,8 @@ use Rattle.xs_text_laws.specs.Analysis.{told_ending}
 use Rattle.xs_certificate_laws.specs.Certificate.{Certificate}
 use Rattle.xs_cause_laws.specs.Causes.{CommonCause}
 use Rattle.xs_cause_laws.specs.Staged.{with_causes, events_of}
+use Rattle.xs_cause_laws.specs.KindLaws.{AreOfKinds, IsShortCause}
+use Rattle.xs_cause_laws.proofs.StagedKinds.{staged_size_alone}
 use Rattle.xs_causes_reader.specs.declared.fault.CauseFault.{CauseFault}
 use Rattle.xs_causes_reader.specs.declared.fault.CauseFault.TheVariants as cause_fault
 use Rattle.xs_causes_reader.specs.Broken.{rule_of}
@@ -37,6 +40,7 @@ use Rattle.xs_loading.specs.LoadedEvents.{case_in}
 use Rattle.xs_loading.specs.Answered.{told_maybe, Told, Said}
 use Rattle.xs_certificate_file.specs.CertificateFiles.{RefusesCertificate, HoldsCertificate}
 use Rattle.xs_loading.proofs.SaidLaws.{says_in_part}
+use Rattle.xs_case_search.proofs.CaseKinds.{case_kinds, size_told}
 use Rattle.xs_reach_status.specs.declared.status.InputFault.{InputFault}
 use Rattle.xs_reach_status.specs.declared.status.Refusal.{Refusal}
 use Rattle.xs_reach_status.specs.declared.status.Refusal.TheVariants as refusal
@@ -48,7 +52,7 @@ use Rattle.xs_reach_status.specs.Finished.{ended_with}
 use Rattle.xs_find_causes.specs.declared.staged.StagedEvent.{StagedEvent}
 use Rattle.xs_certificate_file.specs.declared.conclusion.Conclusion.{Conclusion}
 use Rattle.xs_certificate_file.specs.Conclusions.{ConcludesInPart}
-use Rattle.xs_find_causes.specs.Causes.{shared_fault, stop_at_causes, flat_in, modes_in, faults_in, extension_in, AreCausesOf, HoldsCauses, HasCauses, IsStagedOf, causes_in, staged_in, events_in, IsStagedEvent, CertifiesStaged, AcceptsStaged, HoldsStaged, AcceptsCauses, HasCheckedCauses, ChecksCausesInPart, LeavesCheck, IsCausesFinding, FindsCauses, HasFoundCauses, FindsCausesInPart, LeavesCauses}
+use Rattle.xs_find_causes.specs.Causes.{shared_fault, stop_at_causes, flat_in, modes_in, faults_in, extension_in, AreCausesOf, HoldsCauses, HasCauses, IsStagedOf, causes_in, staged_in, events_in, IsStagedEvent, CertifiesStaged, AcceptsStaged, HoldsStaged, AcceptsCauses, HasCheckedCauses, ChecksCausesInPart, LeavesCheck, IsCausesFinding, FindsCauses, HasFoundCauses, FindsCausesInPart, LeavesCauses, IsSomeCase}
 use Rattle.xs_find_causes.specs.Refusals.{broken_cause, stop_of_causes, IsRefusedCausesFile, KeepsLimits, BreaksStaged, whole_breaks, model_breaks, not_spelled, rule_broken, past_limit, RefusesBytes, RefusesCauses, causes_file, causes_bytes, RefusesStaged, at_model, at_faults, at_causes, at_top, BreaksLine, RefusesJudged, no_certificate, not_accepted, RefusesCauseCheck, at_staged, at_certificate}
 
 -- ---- why the work can't go on
@@ -125,17 +129,28 @@ has_causes told mid p l name cs is same has =
 
 -- ---- the limits of the staged model
 
+-- the faults of what was loaded are modes of its flat model, which breaks no rule of kinds
+pub loaded_kinds : (case : LoadedCase) → IsSomeCase case → AreOfKinds (flat_in case) (modes_in case)
+loaded_kinds case is =
+    let h = case_kinds (case_of is.0 case) is.2.0 is.2.1 is.1.is_case in
+    record { closed = h.closed; no_breach = h.no_breach; modes = h.modes; symbols = h.symbols }
+
 module _ (m : FlatModel) (fs : List Mode) (cs : List CommonCause) (n whole : FlatModel) (es : List Mode) (model : n ≡ with_causes m fs cs) (events : es ≡ events_of m fs cs) (full : whole ≡ with_history n es) where
   whole_is : whole ≡ with_history (with_causes m fs cs) (events_of m fs cs)
   whole_is = full ∙ (λ j. with_history (model j) (events j))
 
-  pub whole_past_limit : (wr : Wrong) → IfRefused (BreaksKinds whole) wr → IfRefused (BreaksStaged m fs cs) wr
-  whole_past_limit (wrong.Refused fault) bad = whole_breaks (subst (λ k. BreaksKinds k fault) whole_is bad)
-  whole_past_limit wrong.Memory bad = tt
+  module _ (are : AreOfKinds m fs) (short : Each (IsShortCause (length fs)) cs) where
+    pub whole_past_limit : (wr : Wrong) → IfRefused (BreaksKinds whole) wr → IfRefused (BreaksStaged m fs cs) wr
+    whole_past_limit (wrong.Refused fault) bad =
+        let told = size_told (with_history (with_causes m fs cs) (events_of m fs cs)) fault (subst (λ k. BreaksKinds k fault) whole_is bad) (λ rule item. (staged_size_alone m fs cs are short rule item).1) in
+        whole_breaks told.0 told.1
+    whole_past_limit wrong.Memory bad = tt
 
-  pub model_past_limit : IsTyped whole → (wr : Wrong) → IfRefused (BreaksKinds n) wr → IfRefused (BreaksStaged m fs cs) wr
-  model_past_limit typed (wrong.Refused fault) bad = model_breaks (subst IsTyped whole_is typed) (subst (λ k. BreaksKinds k fault) model bad)
-  model_past_limit typed wrong.Memory bad = tt
+    pub model_past_limit : IsTyped whole → (wr : Wrong) → IfRefused (BreaksKinds n) wr → IfRefused (BreaksStaged m fs cs) wr
+    model_past_limit typed (wrong.Refused fault) bad =
+        let told = size_told (with_causes m fs cs) fault (subst (λ k. BreaksKinds k fault) model bad) (λ rule item. (staged_size_alone m fs cs are short rule item).0) in
+        model_breaks (subst IsTyped whole_is typed) told.0 told.1
+    model_past_limit typed wrong.Memory bad = tt
 
 pub keeps_limits : (case : LoadedCase) (cs : List CommonCause) (n whole : FlatModel) (es : List Mode) → IsStagedOf case cs n whole es → KeepsLimits (flat_in case) (modes_in case) cs
 keeps_limits case cs n whole es is =

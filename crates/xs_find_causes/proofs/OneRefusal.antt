@@ -8,6 +8,8 @@ use Rattle.xs_tree.specs.ModelTree.{flat_tree}
 use Rattle.xs_tree.specs.Flat.{FlatLeaf, FlatModel}
 use Rattle.xs_flat_laws.specs.FlatTrace.{IsFlatTrace}
 use Rattle.xs_flat_laws.specs.History.{Mode, with_history}
+use Rattle.xs_type_laws.specs.Judged.{too_large}
+use Rattle.xs_type_laws.proofs.Typed.{typed_has_none}
 use Rattle.xs_encode_laws.specs.FlatTraces.{ReachesTop, HasFailedNumber}
 use Rattle.xs_weave.specs.Faults.{Fault}
 use Rattle.xs_text_laws.specs.Given.{GivesTrace}
@@ -31,7 +33,8 @@ use Rattle.xs_loading.specs.LoadedEvents.{case_in}
 use Rattle.xs_loading.proofs.Told.{one_refusal}
 use Rattle.xs_loading.proofs.TextFaults.{reason, of_this_kind, same_reason}
 use Rattle.xs_loading.proofs.OneExtending.{one_refused_faults}
-use Rattle.xs_loading.proofs.OneModelFault.{one_breach, typed_breaks_none, one_refused_model, held_not_refused, one_held_model}
+use Rattle.xs_loading.proofs.OneModelFault.{one_refused_model, held_not_refused, one_held_model}
+use Rattle.xs_loading.specs.Wrongs.{kinds_fault}
 use Rattle.xs_loading.proofs.OneCase.{case_not_refused, one_case}
 use Rattle.xs_loading.proofs.OneTop.{one_wrong_word, word_not_wrong}
 use Rattle.xs_loading.proofs.FilesWithin.{no_bytes_within, one_fault_above, same_bytes_within}
@@ -48,14 +51,15 @@ use Rattle.xs_find_causes.proofs.CausesLaws.{keeps_limits}
 
 module _ (m : FlatModel) (fs : List Mode) (cs : List CommonCause) where
   one_limit : (a b : SharedFault) → BreaksStaged m fs cs a → BreaksStaged m fs cs b → a ≡ b
-  one_limit a b (whole_breaks h) (whole_breaks g) = one_breach _ a b h g
-  one_limit a b (whole_breaks h) (model_breaks typed g) = absurd (typed_breaks_none _ a typed h)
-  one_limit a b (model_breaks typed h) (whole_breaks g) = absurd (typed_breaks_none _ b typed g)
-  one_limit a b (model_breaks typed h) (model_breaks also g) = one_breach _ a b h g
+  one_limit a b h g = told a h ∙ sym (told b g)
+    where
+      told : (fault : SharedFault) → BreaksStaged m fs cs fault → fault ≡ kinds_fault too_large 0
+      told fault (whole_breaks passes is) = is
+      told fault (model_breaks typed passes is) = is
 
   kept_breaks_none : (a : SharedFault) → KeepsLimits m fs cs → BreaksStaged m fs cs a → ⊥
-  kept_breaks_none a kept (whole_breaks h) = typed_breaks_none _ a kept.whole h
-  kept_breaks_none a kept (model_breaks typed h) = typed_breaks_none _ a kept.typed h
+  kept_breaks_none a kept (whole_breaks passes is) = typed_has_none (with_history (with_causes m fs cs) (events_of m fs cs)) too_large 0 kept.whole passes
+  kept_breaks_none a kept (model_breaks typed passes is) = typed_has_none (with_causes m fs cs) too_large 0 kept.typed passes
 
 -- ---- the bytes of causes
 

@@ -49,6 +49,8 @@ use Rattle.xs_woven_laws.proofs.Fits.{tops_fit}
 use Rattle.xs_cause_laws.specs.Causes.{CommonCause, IsCauseOf}
 use Rattle.xs_cause_laws.specs.CauseRules.{fault_path}
 use Rattle.xs_cause_laws.specs.Staged.{with_causes, events_of}
+use Rattle.xs_cause_laws.specs.KindLaws.{IsShortCause}
+use Rattle.xs_cause_laws.proofs.ShortCauses.{short_causes}
 use Rattle.xs_staging.specs.declared.cause.Cause.{Cause}
 use Rattle.xs_staging.specs.CauseOf.{cause_of, told_name, told_cause}
 use Rattle.xs_causes_reader.specs.FaultPaths.{path_of, paths_of}
@@ -73,7 +75,7 @@ use Rattle.xs_loading.proofs.TopLaws.{have_models}
 use Rattle.xs_reach_status.specs.declared.status.Refusal.{Refusal}
 use Rattle.xs_reach_status.specs.declared.status.Refusal.TheVariants as refusal
 use Rattle.xs_find_causes.specs.declared.staged.StagedEvent.{StagedEvent}
-use Rattle.xs_find_causes.specs.Causes.{modes_in, flat_in, faults_in, cause_path, AreToldEvents, AreCausesOf, causes_in, staged_in, events_in, IsStagedEvent, CertifiesStaged}
+use Rattle.xs_find_causes.specs.Causes.{modes_in, flat_in, faults_in, extension_in, cause_path, AreToldEvents, IsSomeCase, AreCausesOf, causes_in, staged_in, events_in, IsStagedEvent, CertifiesStaged}
 use Rattle.xs_find_causes.specs.Refusals.{BreaksLine, at_line}
 
 -- ---- the names of faults
@@ -143,6 +145,11 @@ module _ (p : ProgramTree) (l : LoadedCase) (is : IsLoaded p l) where
   causes_named bytes cs r =
       caused_named (map fault_tree l.limited.woven.faults) extension (flat_in l) (modes_in l) r.written cs accepted flat names (loaded_evaluable p l is).apart few many r.lawful r.read_as
       (spelled_words bytes r.written r.spelled)
+
+-- and their windows end soon
+pub staged_short : (case : LoadedCase) → IsSomeCase case → (cs : List CommonCause) → (bytes : List ℕ) × AreCausesOf case bytes cs → Each (IsShortCause (length (modes_in case))) cs
+staged_short case is cs (bytes, read) =
+    short_causes (faults_in case) (extension_in case) read.written read.lawful.kept cs read.read_as (length (modes_in case)) (causes_named is.0 case is.1 bytes cs read).strikes
 
 -- ---- the staged model
 

@@ -39,7 +39,8 @@ use Rattle.xs_loading.specs.declared.wrong.Wrong.{Wrong}
 use Rattle.xs_loading.specs.declared.wrong.Wrong.TheVariants as wrong
 use Rattle.xs_loading.specs.Cases.{Case, extension_of, HoldsCase, IsTopWord}
 use Rattle.xs_loading.specs.Tasks.{HasAtMost}
-use Rattle.xs_loading.specs.Loaded.{IsLoaded}
+use Rattle.xs_loading.specs.Loaded.{case_of, IsLoaded}
+use Rattle.xs_loading.specs.Models.{IsLawful}
 use Rattle.xs_loading.specs.LoadedEvents.{case_in, IsEvent}
 use Rattle.xs_case_search.specs.Searches.{IsSearched, HasCertificate}
 use Rattle.xs_loading.specs.Answered.{told_maybe, Told, Said}
@@ -81,9 +82,9 @@ faults_in case = map fault_tree case.limited.woven.faults
 abbrev pub extension_in : LoadedCase → ProgramTree
 extension_in case = program_tree case.limited.woven.program
 
--- some program has this extension
+-- some lawful program has this extension
 abbrev pub IsSomeCase : LoadedCase → Type 0
-IsSomeCase case = (p : ProgramTree) × IsLoaded p case
+IsSomeCase case = (p : ProgramTree) × IsLoaded p case × ((flat : FlatModel) × IsLawful p flat)
 
 -- the bytes spell causes that break no rule of the extension, and these are they
 abbrev pub AreCausesOf : LoadedCase → List ℕ → List CommonCause → Type 0

@@ -9,7 +9,8 @@ use Rattle.xs_tree.specs.Flat.{FlatLeaf, FlatModel}
 use Rattle.xs_flat_laws.specs.FlatTrace.{IsFlatTrace}
 use Rattle.xs_flat_laws.specs.History.{Mode, with_history}
 use Rattle.xs_encode_laws.specs.FlatTraces.{ReachesTop, HasFailedNumber}
-use Rattle.xs_type_laws.specs.Models.{IsTyped}
+use Rattle.xs_type_laws.specs.Judged.{too_large}
+use Rattle.xs_type_laws.specs.Models.{IsTyped, IsFault}
 use Rattle.xs_expression_reader.specs.declared.fault.ParseFault.{ParseFault}
 use Rattle.xs_expression_reader.specs.Stops.{FaultMeans}
 use Rattle.xs_weave.specs.Faults.{Fault}
@@ -31,8 +32,7 @@ use Rattle.xs_loading.specs.declared.status.Refusal.{Refusal as SharedRefusal}
 use Rattle.xs_loading.specs.declared.status.Refusal.TheVariants as shared_refusal
 use Rattle.xs_loading.specs.declared.wrong.Wrong.TheVariants as wrong
 use Rattle.xs_loading.specs.Statuses.{absent, too_long}
-use Rattle.xs_loading.specs.Wrongs.{parse_wrong}
-use Rattle.xs_loading.specs.Wholes.{BreaksKinds}
+use Rattle.xs_loading.specs.Wrongs.{parse_wrong, kinds_fault}
 use Rattle.xs_loading.specs.Inputs.{RefusesModel, HoldsModel, RefusesFaults}
 use Rattle.xs_loading.specs.Cases.{Case, extension_of, HoldsCase, IsTopWord, IsWrongWord}
 use Rattle.xs_loading.specs.Tasks.{HasAtMost, IsTopTree}
@@ -75,10 +75,11 @@ pub record KeepsLimits (m : FlatModel) (fs : List Mode) (cs : List CommonCause) 
   pub whole : IsTyped (with_history (with_causes m fs cs) (events_of m fs cs))
   pub typed : IsTyped (with_causes m fs cs)
 
--- it passes one with the history of its events, or else without
+-- It passes that of size with the history of its events, or else without. No other rule of kinds can be broken where the model breaks
+-- none, so that the limit's rule is told, at place 0.
 pub data BreaksStaged (m : FlatModel) (fs : List Mode) (cs : List CommonCause) (fault : SharedFault) : Type 0 where
-  whole_breaks : BreaksKinds (with_history (with_causes m fs cs) (events_of m fs cs)) fault → BreaksStaged m fs cs fault
-  model_breaks : IsTyped (with_history (with_causes m fs cs) (events_of m fs cs)) → BreaksKinds (with_causes m fs cs) fault → BreaksStaged m fs cs fault
+  whole_breaks : IsFault (with_history (with_causes m fs cs) (events_of m fs cs)) too_large 0 → fault ≡ kinds_fault too_large 0 → BreaksStaged m fs cs fault
+  model_breaks : IsTyped (with_history (with_causes m fs cs) (events_of m fs cs)) → IsFault (with_causes m fs cs) too_large 0 → fault ≡ kinds_fault too_large 0 → BreaksStaged m fs cs fault
 
 -- What is wrong with the bytes of causes, for faults of an extension and its program, and for its flat model with the modes of its
 -- faults: they spell no causes; or the first rule is told that a cause breaks, with the cause's number; or the staged model passes a

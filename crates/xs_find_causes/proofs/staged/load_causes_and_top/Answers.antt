@@ -1,6 +1,7 @@
 use Rattle.std.proofs.Common.{Err, IsErrOf, refl, sym, ap, map, ◌∙◌}
 use Rattle.std.proofs.lemmas.Result.{err_from_is_err_and}
 use Rattle.xs_tree.specs.ProgramTree.{program_tree}
+use Rattle.xs_tree.specs.ModelTree.{model_tree}
 use Rattle.xs_staging.specs.CauseOf.{cause_of}
 use Rattle.xs_loading.specs.Loaded.{case_of}
 use Rattle.xs_loading.proofs.InputLemmas.{same_error}
@@ -10,7 +11,7 @@ use Rattle.xs_find_causes.proofs.CausesLaws.{has_causes, keeps_limits, staged_no
 use Rattle.xs_find_causes.proofs.staged.load_causes_and_top.Goals as goal
 
 pub load_causes-requires : goal.load_causes-requires
-load_causes-requires g c = (program_tree c.args.model.now.program, c.requires.loaded)
+load_causes-requires g c = (program_tree c.args.model.now.program, c.requires.loaded, (model_tree c.args.model.now.typed.model, c.requires.lawful))
 
 pub returns-in-Ok-clause-causes : goal.returns-in-Ok-clause-causes
 returns-in-Ok-clause-causes g c = c.in_ok-staged.ensures.ok

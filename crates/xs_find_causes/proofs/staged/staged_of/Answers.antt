@@ -10,9 +10,9 @@ use Rattle.xs_type_laws.specs.Models.{IsTyped}
 use Rattle.xs_cause_laws.specs.Causes.{IsCauseOf}
 use Rattle.xs_cause_laws.specs.Staged.{with_causes, events_of}
 use Rattle.xs_staging.specs.CauseOf.{cause_of}
-use Rattle.xs_find_causes.proofs.StagedLaws.{causes_named, events_told}
+use Rattle.xs_find_causes.proofs.StagedLaws.{causes_named, staged_short, events_told}
 use Rattle.xs_find_causes.specs.Causes.{flat_in, modes_in}
-use Rattle.xs_find_causes.proofs.CausesLaws.{whole_past_limit, model_past_limit}
+use Rattle.xs_find_causes.proofs.CausesLaws.{loaded_kinds, whole_past_limit, model_past_limit}
 use Rattle.xs_find_causes.proofs.staged.staged_of.Goals as goal
 
 pub with_causes-requires : goal.with_causes-requires
@@ -49,7 +49,7 @@ returns-in_err-full-clause-wrong c =
     let model = c.in_ok-staged.ensures.model ∙ ap (λ (m : Made). with_causes (model_tree m) modes cs) c.model.ensures.model in
     let events = c.in_ok-staged.ensures.events ∙ ap (λ (m : Made). events_of (model_tree m) modes cs) c.model.ensures.model in
     rw (exit.1, exit.2) (whole_past_limit (flat_in case) (modes_in case) cs (model_tree c.in_ok-staged.staged.model) (model_tree c.in_ok-whole.whole) (map mode_of c.in_ok-staged.staged.events)
-    model events c.in_ok-whole.ensures.model _ c.in_err-full.ensures.wrong)
+    model events c.in_ok-whole.ensures.model (loaded_kinds case c.requires.case) (staged_short case c.requires.case cs c.requires.causes) _ c.in_err-full.ensures.wrong)
 
 pub returns-in_err-typed-clause-wrong : goal.returns-in_err-typed-clause-wrong
 returns-in_err-typed-clause-wrong c =
@@ -60,4 +60,4 @@ returns-in_err-typed-clause-wrong c =
     let model = c.in_ok-staged.ensures.model ∙ ap (λ (m : Made). with_causes (model_tree m) modes cs) c.model.ensures.model in
     let events = c.in_ok-staged.ensures.events ∙ ap (λ (m : Made). events_of (model_tree m) modes cs) c.model.ensures.model in
     rw (exit.1, exit.2) (model_past_limit (flat_in case) (modes_in case) cs (model_tree c.in_ok-staged.staged.model) (model_tree c.in_ok-whole.whole) (map mode_of c.in_ok-staged.staged.events)
-    model events c.in_ok-whole.ensures.model c.in_ok-full.ensures.typed _ c.in_err-typed.ensures.wrong)
+    model events c.in_ok-whole.ensures.model (loaded_kinds case c.requires.case) (staged_short case c.requires.case cs c.requires.causes) c.in_ok-full.ensures.typed _ c.in_err-typed.ensures.wrong)
