@@ -39,7 +39,7 @@ use Rattle.xs_loading.specs.declared.wrong.Wrong.{Wrong}
 use Rattle.xs_loading.specs.declared.wrong.Wrong.TheVariants as wrong
 use Rattle.xs_loading.specs.Cases.{Case, extension_of, HoldsCase, IsTopWord}
 use Rattle.xs_loading.specs.Tasks.{HasAtMost}
-use Rattle.xs_loading.specs.Loaded.{case_of, IsLoaded}
+use Rattle.xs_loading.specs.Loaded.{IsLoaded}
 use Rattle.xs_loading.specs.Models.{IsLawful}
 use Rattle.xs_loading.specs.LoadedEvents.{case_in, IsEvent}
 use Rattle.xs_case_search.specs.Searches.{IsSearched, HasCertificate}
