@@ -69,7 +69,6 @@ pub fn find_odds<D: Desk>(
     ensures left { OnErr result ((D.said desk.new ≡ D.said desk.old) ⊎ IfSome (D.files desk.old) (λ files.
         SaysOddsInPart files asked.now.model.now asked.now.faults.now asked.now.top.now asked.now.depth (D.said desk.old) (D.said desk.new))) }
     ensures failed { IsErrOf result stop.Desk → Rose (D.faults desk.old) (D.faults desk.new) }
-
     ensures files { D.files desk.new ≡ D.files desk.old }
     ensures later { D.faults desk.old ≤ D.faults desk.new }
     ensures quiet { D.quiet desk.old → D.quiet desk.new × (D.faults desk.new ≡ D.faults desk.old) }
@@ -90,7 +89,6 @@ fn prepare_odds<D: Desk>(
     ensures refused { (r : Refusal) → IsErrOf result (stop.Refused r) →
         IfSome (D.files desk.old) (λ files. RefusesOdds files asked.now.model.now asked.now.faults.now asked.now.top.now r) }
     ensures failed { IsErrOf result stop.Desk → Rose (D.faults desk.old) (D.faults desk.new) }
-
     ensures files { D.files desk.new ≡ D.files desk.old }
     ensures said { D.said desk.new ≡ D.said desk.old }
     ensures later { D.faults desk.old ≤ D.faults desk.new }
@@ -120,7 +118,6 @@ fn load_marked<'a, D: Desk>(
     ensures refused { (r : Refusal) → IsErrOf result (stop.Refused r) →
         IfSome (D.files desk.old) (λ files. RefusesOdds files asked.now.model.now asked.now.faults.now asked.now.top.now r) }
     ensures failed { IsErrOf result stop.Desk → Rose (D.faults desk.old) (D.faults desk.new) }
-
     ensures files { D.files desk.new ≡ D.files desk.old }
     ensures said { D.said desk.new ≡ D.said desk.old }
     ensures later { D.faults desk.old ≤ D.faults desk.new }

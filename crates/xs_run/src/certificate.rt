@@ -35,7 +35,6 @@ pub fn check_file<D: Desk>(
     ensures ok { IfOk result (λ report. IfSome (D.files desk.old) (λ files. CertSays files (case_in loaded.now) (flat_tree loaded.now.top) name.now report)) }
     ensures refused { (r : Refusal) → IsErrOf result (stop.Refused r) → IfSome (D.files desk.old) (λ files. CertRefuses files (case_in loaded.now) (flat_tree loaded.now.top) name.now r) }
     ensures failed { IsErrOf result stop.Desk → Rose (D.faults desk.old) (D.faults desk.new) }
-
     ensures files { D.files desk.new ≡ D.files desk.old }
     ensures said { D.said desk.new ≡ D.said desk.old }
     ensures later { D.faults desk.old ≤ D.faults desk.new }

@@ -151,7 +151,6 @@ fn prepare_extension<D: Desk>(alloc: Global, desk: &mut D, asked: &Extend) -> Re
     ensures refused { (r : Refusal) → IsErrOf result (stops.Refused r) → IfSome (D.files desk.old) (λ files.
         ComesTo files asked.now.model.now asked.now.faults.now asked.now.extended.now (refuses r)) }
     ensures failed { IsErrOf result stops.Desk → Rose (D.faults desk.old) (D.faults desk.new) }
-
     ensures files { D.files desk.new ≡ D.files desk.old }
     ensures said { D.said desk.new ≡ D.said desk.old }
     ensures later { D.faults desk.old ≤ D.faults desk.new }
@@ -168,7 +167,6 @@ fn prepare_replay<D: Desk>(alloc: Global, desk: &mut D, asked: &Replay) -> Resul
     ensures refused { (r : Refusal) → IsErrOf result (stops.Refused r) → IfSome (D.files desk.old) (λ files.
         ReplayComesTo files asked.now.model.now asked.now.faults.now asked.now.trace.now asked.now.top.now (refuses r)) }
     ensures failed { IsErrOf result stops.Desk → Rose (D.faults desk.old) (D.faults desk.new) }
-
     ensures files { D.files desk.new ≡ D.files desk.old }
     ensures said { D.said desk.new ≡ D.said desk.old }
     ensures later { D.faults desk.old ≤ D.faults desk.new }
@@ -190,7 +188,6 @@ fn prepare_analysis<'a, D: Desk>(
     ensures event { IfOk result (λ a. IsEvent a.word.now a.loaded) }
     ensures refused { (r : Refusal) → IsErrOf result (stops.Refused r) → IfSome (D.files desk.old) (λ files. CommandComesTo files (seen (ask.Analyse asked.now)) (refuses r)) }
     ensures failed { IsErrOf result stops.Desk → Rose (D.faults desk.old) (D.faults desk.new) }
-
     ensures files { D.files desk.new ≡ D.files desk.old }
     ensures said { D.said desk.new ≡ D.said desk.old }
     ensures later { D.faults desk.old ≤ D.faults desk.new }
@@ -214,7 +211,6 @@ fn prepare_check<D: Desk>(alloc: Global, desk: &mut D, asked: &Check) -> Result<
     ensures refused { (r : Refusal) → IsErrOf result (stops.Refused r) → IfSome (D.files desk.old) (λ files.
         CheckComesTo files asked.now.model.now asked.now.faults.now asked.now.top.now asked.now.cert.now (refuses r)) }
     ensures failed { IsErrOf result stops.Desk → Rose (D.faults desk.old) (D.faults desk.new) }
-
     ensures files { D.files desk.new ≡ D.files desk.old }
     ensures said { D.said desk.new ≡ D.said desk.old }
     ensures later { D.faults desk.old ≤ D.faults desk.new }
@@ -234,7 +230,6 @@ fn prepare_table<D: Desk>(alloc: Global, desk: &mut D, asked: &Fmea) -> Result<T
     ensures refused { (r : Refusal) → IsErrOf result (stops.Refused r) → IfSome (D.files desk.old) (λ files.
         TableComesTo files asked.now.model.now asked.now.faults.now asked.now.tops.now asked.now.size asked.now.depth (refuses r)) }
     ensures failed { IsErrOf result stops.Desk → Rose (D.faults desk.old) (D.faults desk.new) }
-
     ensures files { D.files desk.new ≡ D.files desk.old }
     ensures said { D.said desk.new ≡ D.said desk.old }
     ensures later { D.faults desk.old ≤ D.faults desk.new }
