@@ -47,9 +47,6 @@ trace_is_told symbols [] = refl
 trace_is_told symbols (v ∷ vs) = λ j. all_are_told symbols v j ∷ trace_is_told symbols vs j
 
 -- The empty text is no value of a type that can be written.
-never : {P : Type 0} → IsTrue false → P
-never h = cc
-
 pub no_empty_member : (ms : List Member) → Each IsWritableMember ms → is_member ms (told.symbol []) ≡ true → ⊥
 no_empty_member [] w e = cc
 no_empty_member (member.Number n ∷ ms) w e = no_empty_member ms w.1 e
@@ -66,7 +63,7 @@ pub is_true : (b : Bool) → IsTrue b → b ≡ true
 is_true b h = h
 
 -- A value of such a type has the number of a symbol, where it is one.
-numbered : (symbols : List Text) (d : DeclaredTree) → IsWritableType d → (v : Value) → IsTrue (in_domain d (told_value symbols v)) → IsNumbered symbols v
+pub numbered : (symbols : List Text) (d : DeclaredTree) → IsWritableType d → (v : Value) → IsTrue (in_domain d (told_value symbols v)) → IsNumbered symbols v
 numbered symbols d w (ABool b) h = tt
 numbered symbols d w (Num n) h = tt
 numbered symbols d w (Sym i) h = by_text (slice_get symbols i) refl (is_true (in_domain d (told_value symbols (Sym i))) h)
@@ -75,7 +72,7 @@ numbered symbols d w (Sym i) h = by_text (slice_get symbols i) refl (is_true (in
     by_text None e f = absurd (no_empty_symbol d w f)
     by_text (Some x) e f = record { text = x; there = e }
 
-all_numbered : (symbols : List Text) (xs : List FlatVariable) → ((i : ℕ) (x : FlatVariable) → slice_get xs i ≡ Some x → IsWritableType x.declared) → (vs : List Value) →
+pub all_numbered : (symbols : List Text) (xs : List FlatVariable) → ((i : ℕ) (x : FlatVariable) → slice_get xs i ≡ Some x → IsWritableType x.declared) → (vs : List Value) →
     AreInDomains xs (told_moment symbols vs) → Each (IsNumbered symbols) vs
 all_numbered symbols [] w [] h = tt
 all_numbered symbols [] w (v ∷ vs) h = absurd h

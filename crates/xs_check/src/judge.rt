@@ -2,7 +2,7 @@
 //!
 //! The main function is [`check`]: the numbers first, then each set with its trace, the invariant's clauses, and the derivations.
 
-ghost use Rattle.std.specs.Prelude.{◌≡◌, ◌++◌, map, length, IfOk};
+ghost use Rattle.std.specs.Prelude.{◌≡◌, ◌++◌, map, IfOk};
 ghost use Rattle.xs_tree.specs.ModelTree.{model_tree, flat_tree};
 ghost use Rattle.xs_flat_laws.specs.FaultModes.{mode_of};
 ghost use Rattle.xs_flat_laws.specs.History.{with_history};

@@ -34,4 +34,5 @@ mod unlisted;
 pub use judge::check;
 pub use judged::Judged;
 pub use laws::spelled_are_checkable;
+pub use sets::is_fault;
 pub use unlisted::check_unlisted;

@@ -2,7 +2,7 @@
 //!
 //! The main function is [`invariant_line`], by the lines of the sets and of their traces before it.
 
-ghost use Rattle.std.specs.Prelude.{◌≡◌, ◌+◌, ◌<◌, ◌^◌, length};
+ghost use Rattle.std.specs.Prelude.{◌≡◌, ◌+◌, ◌<◌, ◌^◌};
 ghost use Rattle.xs_certificate_laws.specs.Certificate.{lines_of_sets, invariant_line};
 ghost use Rattle.xs_check.specs.Asked.{asked};
 ghost use Rattle.xs_check.specs.Fit.{IsCheckable};

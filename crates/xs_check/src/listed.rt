@@ -2,7 +2,7 @@
 //!
 //! The main function is [`judge_sets`]: it asks `sets` about each set and `traces` about the trace that stands with it.
 
-ghost use Rattle.std.specs.Prelude.{◌≡◌, ◌+◌, ◌<◌, ◌^◌, [], ◌∷◌, IfOk, length, slice_get, slice_index_or, take, Some};
+ghost use Rattle.std.specs.Prelude.{◌≡◌, ◌+◌, ◌<◌, ◌^◌, [], ◌∷◌, IfOk, slice_get, take, Some};
 ghost use Rattle.xs_tree.specs.ModelTree.{model_tree};
 ghost use Rattle.xs_certificate_laws.specs.Certificate.{a_set, a_trace, lines_of_sets};
 ghost use Rattle.xs_certificate_laws.specs.Sites.{set_sites};

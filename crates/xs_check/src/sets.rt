@@ -4,11 +4,9 @@
 
 ghost use Rattle.std.specs.Prelude.{◌≡◌, ◌↔◌, ◌<◌, ◌≤◌, ◌&&◌, IsTrue, Some, slice_get, length, All, take};
 ghost use Rattle.std.specs.List.{list_all};
-ghost use Rattle.xs_tree.specs.ModelTree.{model_tree};
-ghost use Rattle.xs_right_laws.specs.Sets.{IsRising, stands_before as before};
 ghost use Rattle.xs_sets.specs.Tests.{are_apart as apart};
 ghost use Rattle.xs_certificate_laws.specs.Certificate.{a_set};
-ghost use Rattle.xs_certificate_laws.specs.Accepted.{HasNumbers, IsSetAt, IsApart};
+ghost use Rattle.xs_certificate_laws.specs.Accepted.{HasNumbers, IsSetAt};
 ghost use Rattle.xs_check.specs.Asked.{asked};
 ghost use Rattle.xs_check.specs.Order.{is_after_in};
 ghost use Rattle.xs_check.specs.Found.{FindsAt};
@@ -70,7 +68,7 @@ pub(crate) fn are_faults(set: &[u32], faults: usize) -> bool
 }
 
 /// Whether the number is that of one of so many faults.
-fn is_fault(number: u32, faults: usize) -> bool
+pub fn is_fault(number: u32, faults: usize) -> bool
     ensures { IsTrue result ↔ ((1 ≤ number) × (number ≤ faults)) }
 {
     1 <= number && number as usize <= faults

@@ -3,9 +3,8 @@
 //! The main function is [`trace_rule`]: it reads a text as moments, and asks of these that they are a trace which reaches the top event
 //! and has failed exactly the faults of its set.
 
-ghost use Rattle.std.specs.Prelude.{◌≡◌, ◌↔◌, ◌<◌, ◌++◌, [], Some, IsTrue, IfOk, length, map};
+ghost use Rattle.std.specs.Prelude.{◌≡◌, ◌↔◌, Some, IsTrue, IfOk, map};
 ghost use Rattle.xs_text_laws.specs.Lines.{fed};
-ghost use Rattle.xs_tree.specs.ModelTree.{model_tree};
 ghost use Rattle.xs_flat_laws.specs.FaultModes.{mode_of};
 ghost use Rattle.xs_flat_laws.specs.FlatTrace.{stands_in_some};
 ghost use Rattle.xs_eval.specs.Named.{named_trace};

@@ -1,17 +1,14 @@
 -- From what was loaded with causes to what a search and a judgement of its staged model ask.
-use Rattle.std.proofs.Common.{arith, ◌≡◌, ◌≢◌, ◌<◌, ◌≤◌, ◌^◌, ℕ, suc, List, [], ◌∷◌, ◌++◌, length, map, reverse, Option, Some, None, refl, sym, ap, subst, ◌∙◌}
-use Rattle.std.specs.Prelude.{slice_get}
+use Rattle.std.proofs.Common.{arith, ◌≡◌, ◌<◌, ◌≤◌, ◌^◌, ℕ, List, [], ◌∷◌, ◌++◌, length, map, reverse, Option, Some, None, refl, sym, ap, subst, ◌∙◌}
 use Rattle.std.proofs.lemmas.List.{length-map, reverse-reverse}
 use Rattle.xs_tree.specs.Tree.{Tree}
-use Rattle.xs_tree.specs.ProgramTree.{Text, Path, DeclaredTree, boolean, range, members, instance, ProgramTree, program_tree}
-use Rattle.xs_tree.specs.Trace.{Each}
+use Rattle.xs_tree.specs.ProgramTree.{Path, ProgramTree, program_tree}
 use Rattle.xs_tree.specs.Values.{Value}
-use Rattle.xs_tree.specs.WritableProgram.{IsWritableType}
-use Rattle.xs_tree.specs.ModelTree.{model_tree, flat_tree}
+use Rattle.xs_tree.specs.ModelTree.{flat_tree}
 use Rattle.xs_flat_laws.specs.FaultModes.{mode_of}
 use Rattle.xs_tree.specs.declared.model.Fault.{Fault}
 use Rattle.xs_tree.specs.declared.model.FlatModel.{FlatModel as Made}
-use Rattle.xs_tree.specs.Flat.{FlatLeaf, FlatVariable, FlatModel}
+use Rattle.xs_tree.specs.Flat.{FlatLeaf, FlatModel}
 use Rattle.xs_flat_laws.specs.FlatTrace.{IsFlatTrace}
 use Rattle.xs_flat_laws.specs.History.{Mode, with_history}
 use Rattle.xs_flat_laws.specs.Model.{IsFlatOf}
@@ -21,7 +18,6 @@ use Rattle.xs_encode_laws.specs.FlatTraces.{ReachesTop, HasFailedNumber}
 use Rattle.xs_encode_laws.specs.EncodedLaws.{AreOwn}
 use Rattle.xs_encode_laws.specs.Bits.{state_of, inputs_of}
 use Rattle.xs_encode_laws.specs.Lists.{system_of}
-use Rattle.xs_encode_laws.specs.Laws.{HasMember}
 use Rattle.xs_cuts.specs.Answer.{IsAnswer}
 use Rattle.xs_cuts.specs.declared.answer.Analysis.{Analysis as Searched}
 use Rattle.xs_encode_laws.specs.Encodable.{IsEncodable}
@@ -46,17 +42,17 @@ use Rattle.xs_check.specs.Found.{IsObjectionOf}
 use Rattle.xs_check.specs.Fit.{IsFit, IsCheckable}
 use Rattle.xs_woven_laws.specs.Tops.{IsReadAs, IsTopOf}
 use Rattle.xs_woven_laws.proofs.Fits.{tops_fit}
-use Rattle.xs_cause_laws.specs.Causes.{CommonCause, IsCauseOf}
+use Rattle.xs_cause_laws.specs.Causes.{CommonCause}
 use Rattle.xs_cause_laws.specs.CauseRules.{fault_path}
 use Rattle.xs_cause_laws.specs.Staged.{with_causes, events_of}
 use Rattle.xs_cause_laws.specs.KindLaws.{IsShortCause}
 use Rattle.xs_cause_laws.proofs.ShortCauses.{short_causes}
 use Rattle.xs_staging.specs.declared.cause.Cause.{Cause}
 use Rattle.xs_staging.specs.CauseOf.{cause_of, told_name, told_cause}
-use Rattle.xs_causes_reader.specs.FaultPaths.{path_of, paths_of}
+use Rattle.xs_causes_reader.specs.FaultPaths.{paths_of}
 use Rattle.xs_causes_reader.specs.Read.{AreNamed as AreFaultNames}
 use Rattle.xs_reach_laws.specs.CausedLaws.{CanHaveCauses, IsSearchableStaged, AreNamed}
-use Rattle.xs_reach_laws.specs.Shown.{CertifiesCauses, IsCausedAnalysis}
+use Rattle.xs_reach_laws.specs.Shown.{IsCausedAnalysis}
 use Rattle.xs_reach_laws.proofs.Events.{caused_searchable}
 use Rattle.xs_reach_laws.proofs.Loaded.{state_modes, history_inputs, staged_symbols}
 use Rattle.xs_reach_laws.proofs.NamedLaws.{caused_named, spelled_words}
@@ -77,6 +73,7 @@ use Rattle.xs_reach_status.specs.declared.status.Refusal.TheVariants as refusal
 use Rattle.xs_find_causes.specs.declared.staged.StagedEvent.{StagedEvent}
 use Rattle.xs_find_causes.specs.Causes.{modes_in, flat_in, faults_in, extension_in, cause_path, AreToldEvents, IsSomeCase, AreCausesOf, causes_in, staged_in, events_in, IsStagedEvent, CertifiesStaged}
 use Rattle.xs_find_causes.specs.Refusals.{BreaksLine, at_line}
+use Rattle.xs_report_laws.proofs.Searchables.{written_members}
 
 -- ---- the names of faults
 
@@ -99,16 +96,6 @@ causes_told [] = refl
 causes_told (c ∷ cs) = ap (λ names. (c.name ∷ []) ∷ names) (causes_told cs)
 
 -- ---- the extension
-
-written_member : (d : DeclaredTree) → IsWritableType d → HasMember d
-written_member boolean h = tt
-written_member (range lo hi) h = tt
-written_member (members ms) h = h.0
-written_member (instance m actuals) h = absurd h
-
-written_members : (xs : List FlatVariable) → ((i : ℕ) (x : FlatVariable) → slice_get xs i ≡ Some x → IsWritableType x.declared) → Each (λ x. HasMember x.declared) xs
-written_members [] types = tt
-written_members (x ∷ xs) types = (written_member x.declared (types 0 x refl), written_members xs (λ i y e. types (suc i) y e))
 
 module _ (p : ProgramTree) (l : LoadedCase) (is : IsLoaded p l) where
   abbrev the_case : Case
@@ -281,10 +268,6 @@ module _ (l : StagedEvent) (is : IsStagedEvent l) where
               (taken (λ n es. AreOwn n es tree) fits.own) subject (taken (λ n es. IsSubjectOf n es tree subject) is_subject) a
               (taken (λ n es. IsCertified n es tree (GivesTrace n) subject a) certified);
         }
-
-    -- as many events as a search counts
-    pub few_events : length (events_in l) ≤ 4096
-    few_events = few_faults (staged_in l) (events_in l) (subst IsTyped is.staged.full is.staged.whole).small
 
     -- what answers a search of it
     pub event_searched : (depth size : ℕ) (a : Searched) → size ≡ length (events_in l) →

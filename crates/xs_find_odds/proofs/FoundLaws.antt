@@ -1,5 +1,5 @@
 -- From the answer of a search to the bounds of its sets and the report of them.
-use Rattle.std.proofs.Common.{arith, ◌≡◌, ◌<◌, ◌≤◌, ◌-◌, ◌+◌, ◌*◌, ◌^◌, ℕ, List, [], ◌∷◌, ◌++◌, length, map, codes, refl, sym, ap, subst, ◌∙◌}
+use Rattle.std.proofs.Common.{arith, ◌≡◌, ◌<◌, ◌≤◌, ◌-◌, ◌+◌, ℕ, List, [], ◌∷◌, ◌++◌, length, map, refl, sym, ap, subst, ◌∙◌}
 use Rattle.std.specs.Prelude.{All}
 use Rattle.std.specs.List.{AllByRecursion}
 use Rattle.std.proofs.lemmas.List.{length-map}
@@ -17,7 +17,6 @@ use Rattle.xs_encode_laws.specs.FlatTraces.{IsNumbered}
 use Rattle.xs_extend.specs.WovenFaults.{fault_tree}
 use Rattle.xs_fei.specs.Instructions.{InstructionTree}
 use Rattle.xs_weave.specs.Faults.{Fault}
-use Rattle.xs_odds.specs.Units.{one_in_units}
 use Rattle.xs_odds.specs.Marks.{AreOdds}
 use Rattle.xs_odds.specs.Bounds.{bound_of, units_in}
 use Rattle.xs_odds.specs.Laws.{AreAtMostOne}
@@ -46,9 +45,9 @@ use Rattle.xs_case_search.specs.Found.{EndsBy}
 use Rattle.xs_loading.specs.LoadedEvents.{IsAnalysable}
 use Rattle.xs_case_search.proofs.Analysable.{model_of_case, case_counts}
 use Rattle.xs_loading.proofs.ListedLaws.{are_listed, named_lines}
-use Rattle.xs_find_odds.specs.declared.odds.FoundOdds.{FoundOdds}
 use Rattle.xs_reach_status.specs.Reports.{sets_text, ending_line}
-use Rattle.xs_find_odds.specs.Odds.{AreBounded, IsOddsFinding, odds_report}
+use Rattle.xs_find_odds.specs.Odds.{AreBounded, IsOddsFinding}
+use Rattle.xs_encode_laws.proofs.SetLaws.{each_kept}
 
 by_recursion : {A : Type 0} (P : A → Type 0) (xs : List A) → Each P xs → AllByRecursion P xs
 by_recursion P [] h = tt
@@ -56,10 +55,6 @@ by_recursion P (x ∷ xs) h = (h.0, by_recursion P xs h.1)
 
 each_all : {A : Type 0} (P : A → Type 0) (xs : List A) → Each P xs → All P xs
 each_all P xs h = All-from_recursion P xs (by_recursion P xs h)
-
-weaker : {A : Type 0} (P Q : A → Type 0) → ((x : A) → P x → Q x) → (xs : List A) → Each P xs → Each Q xs
-weaker P Q f [] h = tt
-weaker P Q f (x ∷ xs) h = (f x h.0, weaker P Q f xs h.1)
 
 -- each fault has its units
 odds_count : (i : InstructionTree) (faults : List Fault) (odds : List ℕ) → AreOdds i faults odds → length odds ≡ length faults
@@ -70,7 +65,7 @@ odds_count i (f ∷ fs) (n ∷ ns) h = ap (λ k. Rattle.std.proofs.Common.suc k)
 
 -- numbers of faults are numbers of their units
 named_set : (n m : ℕ) → n ≡ m → (set : List ℕ) → IsNumbered n set → All (λ i. (0 < i) × (i ≤ m)) set
-named_set n m e set h = each_all (λ i. (0 < i) × (i ≤ m)) set (weaker (λ i. (1 ≤ i) × (i ≤ n)) (λ i. (0 < i) × (i ≤ m)) (λ i k. within i k.0 k.1) set h)
+named_set n m e set h = each_all (λ i. (0 < i) × (i ≤ m)) set (each_kept (λ i. (1 ≤ i) × (i ≤ n)) (λ i. (0 < i) × (i ≤ m)) (λ i k. within i k.0 k.1) set h)
   where
     within : (i : ℕ) → 1 ≤ i → i ≤ n → (0 < i) × (i ≤ m)
     within i a b = (omega (arith, a), omega (arith, b, e))
@@ -110,7 +105,7 @@ module _ (p : ProgramTree) (l : LoadedCase) (word : Text) (tree : Tree FlatLeaf)
       All (All (λ i. (0 < i) × (i ≤ length odds))) a.sets
   sets_named depth size a answer =
       each_all (All (λ i. (0 < i) × (i ≤ length odds))) a.sets
-      (weaker (IsNumbered (length the_case.modes)) (All (λ i. (0 < i) × (i ≤ length odds))) (named_set (length the_case.modes) (length odds) counted) a.sets
+      (each_kept (IsNumbered (length the_case.modes)) (All (λ i. (0 < i) × (i ≤ length odds))) (named_set (length the_case.modes) (length odds) counted) a.sets
       (sets_numbered the_case.flat the_case.modes tree (system_of (whole_of the_case)) (state_of (whole_of the_case)) (inputs_of (whole_of the_case)) size answer.found a.sets answer.sets answer.are))
 
   fault_lines_are : lines.faults_text (map name_of l.limited.faults) ≡ faults_text (map fault_tree l.limited.woven.faults)

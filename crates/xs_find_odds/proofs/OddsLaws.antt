@@ -1,5 +1,5 @@
 -- From the parts of the work on bounds to what it comes to.
-use Rattle.std.proofs.Common.{◌≡◌, ℕ, List, Option, Some, None, IfSome, length, refl, sym, subst, ap, ◌∙◌, Result, Ok, Err}
+use Rattle.std.proofs.Common.{◌≡◌, ℕ, List, Option, Some, None, IfSome, length, subst, ap, ◌∙◌, Result, Ok, Err}
 use Rattle.std.specs.Prelude.{OnErr}
 use Rattle.xs_reach_status.specs.declared.stop.Stop.{Stop}
 use Rattle.xs_desk.specs.declared.files.NamedFile.{NamedFile}
@@ -21,7 +21,7 @@ use Rattle.xs_find_odds.specs.declared.odds.Marked.{Marked}
 use Rattle.xs_find_odds.specs.declared.odds.FoundOdds.{FoundOdds}
 use Rattle.xs_text_laws.specs.Analysis.{told_ending}
 use Rattle.xs_reach_status.specs.Finished.{ended_with}
-use Rattle.xs_find_odds.specs.Odds.{RefusesOdds, at_model, at_faults, at_mark, at_top, RefusesMark, IsMarked, IsOddsFinding, IsOddsAnswer, FindsOdds, HasOdds, SaysOddsInPart}
+use Rattle.xs_find_odds.specs.Odds.{RefusesOdds, at_model, at_faults, at_mark, at_top, RefusesMark, IsMarked, IsOddsFinding, FindsOdds, HasOdds, SaysOddsInPart}
 
 module _ (model faults top : Text) where
   pub odds_no_model : (told : Option (List NamedFile)) (r : Refusal) (s : SharedRefusal) → r ≡ refusal.Shared s → IfSome told (λ files. RefusesModel files model s) →

@@ -1,7 +1,7 @@
 //! A set of faults with two of them, and the extension staged for these two.
 //!
 //! The main function is [`load_pair`]: it reads the files, refuses a set with a number that is none of a fault, and stages the model.
-ghost use Rattle.std.specs.Prelude.{◌≡◌, ◌≢◌, ◌≤◌, ◌↔◌, ℕ, false, IsTrue, length, map, IfOk, IfSome, IsErrOf, OnOk};
+ghost use Rattle.std.specs.Prelude.{◌≡◌, ◌≢◌, ◌≤◌, ℕ, false, IsTrue, length, map, IfOk, IfSome, IsErrOf, OnOk};
 ghost use Rattle.xs_desk.specs.Desk.{Rose};
 ghost use Rattle.xs_tree.specs.ModelTree.{model_tree};
 ghost use Rattle.xs_flat_laws.specs.FaultModes.{mode_of};
@@ -9,7 +9,7 @@ ghost use Rattle.xs_type_laws.specs.Models.{IsTyped};
 ghost use Rattle.xs_encode_laws.specs.FlatTraces.{IsNumbered};
 ghost use Rattle.xs_orders.specs.Stage.{stage as stage_of};
 ghost use Rattle.xs_reach_laws.specs.Laws.{IsFaultNumber};
-ghost use Rattle.xs_words.specs.Sets.{numbers_of, IsSet};
+ghost use Rattle.xs_words.specs.Sets.{numbers_of};
 ghost use Rattle.xs_loading.specs.declared.input.Input.TheVariants as input;
 ghost use Rattle.xs_loading.specs.declared.status.InputFault.{InputFault as SharedFault};
 ghost use Rattle.xs_loading.specs.Inputs.{stop_at};
@@ -22,6 +22,7 @@ ghost use Rattle.xs_reach_status.specs.Statuses.{stop_of};
 ghost use Rattle.xs_find_orders.specs.Pairs.{ChecksAskPairs, OrdersAskPairs, IsPair, IsAsked, IsFirstOutside, outside_refusal, stage_refusal, RefusesStage, RefusesAsked, IsStaged, IsStagedCase};
 
 use std::alloc::Global;
+use xs_check::is_fault;
 use xs_desk::Desk;
 use xs_loading::event::LoadedEvent;
 use xs_loading::input::Input;
@@ -193,13 +194,6 @@ fn judge_set(set: &[u32], faults: usize) -> Result<(), Stop>
         }
     }
     Ok(())
-}
-
-/// Whether the number is that of one of so many faults.
-fn is_fault(number: u32, faults: usize) -> bool
-    ensures { IsTrue result ↔ ((1 ≤ number) × (number ≤ faults)) }
-{
-    1 <= number && number as usize <= faults
 }
 
 /// The end of the work where the number at a position of the set is none of a fault.

@@ -3,7 +3,7 @@ use Rattle.std.proofs.Common.{◌≡◌, ℕ, zero, suc, ◌+◌, ◌-◌, ◌<�
 use Rattle.std.proofs.lemmas.List.{append_assoc}
 use Rattle.std.specs.Prelude.{map}
 use Rattle.std.specs.List.{range_with_len}
-use Rattle.xs_fmea.specs.Tables.{pairs_after, pairs_from}
+use Rattle.xs_fmea.specs.Tables.{pairs_from}
 
 -- what is appended next is the first of what is left
 pub step : {A : Type 0} (rows whole left rest : List A) (x : A) → rows ++ left ≡ whole → left ≡ x ∷ rest → (rows ++ x ∷ []) ++ rest ≡ whole

@@ -1,5 +1,5 @@
 -- Text that is appended piece by piece, and the text of a table by its columns.
-use Rattle.std.proofs.Common.{◌≡◌, ℕ, zero, suc, ◌+◌, ◌<◌, ◌≤◌, List, [], ◌∷◌, ◌++◌, length, get_or, drop, refl, sym, ◌∙◌, ap, subst, arith}
+use Rattle.std.proofs.Common.{◌≡◌, ℕ, zero, suc, ◌+◌, ◌<◌, List, [], ◌∷◌, ◌++◌, length, get_or, drop, refl, sym, ◌∙◌, ap, arith}
 use Rattle.std.specs.Prelude.{map, codes}
 use Rattle.std.specs.Fmt.{decimal}
 use Rattle.std.proofs.lemmas.List.{append_assoc, append-nil, length-map, drop_more}
@@ -7,11 +7,10 @@ use Rattle.xs_tree.specs.ProgramTree.{Text}
 use Rattle.xs_text_laws.specs.Analysis.{Analysis}
 use Rattle.xs_text_laws.specs.AnalysisText.{numbers_text, ending_text}
 use Rattle.xs_fmea.specs.Tables.{entry_of, rows_of, entries_text, column_lines, row_lines, table_text}
-use Rattle.xs_fmea.specs.Columns.{told_entry, IsTableOf, ending_line, ending_lines, entry_lines, line_at, printed_table}
+use Rattle.xs_fmea.specs.Columns.{told_entry, IsTableOf, ending_lines, entry_lines, line_at, printed_table}
 use Rattle.xs_text_laws.specs.Analysis.{told_ending}
 use Rattle.xs_fmea.specs.declared.columns.FmeaTable.{FmeaTable}
 use Rattle.xs_fmea.specs.declared.columns.Entry.{Entry as Entered}
-use Rattle.xs_value.specs.declared.ending.Ending.{Ending as Ended}
 
 pub ruleset text_rules = (append_assoc, append-nil, length-map)
 

@@ -2,11 +2,11 @@
 //!
 //! The main function is [`table`]. An entry is `yes` where a listed set lies within its row; else the ending of the column decides.
 
-ghost use Rattle.std.specs.Prelude.{◌≡◌, ◌≤◌, ◌<◌, [], List, All, map, IfOk};
+ghost use Rattle.std.specs.Prelude.{◌≡◌, ◌≤◌, List, All, map, IfOk};
 ghost use Rattle.std.specs.List.{list_any};
 ghost use Rattle.xs_right_laws.specs.Sets.{has_number, is_contained as contained};
 ghost use Rattle.xs_text_laws.specs.Analysis.{Analysis};
-ghost use Rattle.xs_fmea.specs.Tables.{entry_of, absent_entry, rows_of as rows_within};
+ghost use Rattle.xs_fmea.specs.Tables.{entry_of, absent_entry};
 ghost use Rattle.xs_fmea.specs.Columns.{told_entry, told_column, AreTold, NamesFaults, IsTableOf};
 ghost use Rattle.xs_text_laws.specs.Analysis.{told_ending};
 

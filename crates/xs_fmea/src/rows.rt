@@ -2,7 +2,7 @@
 //!
 //! The main function is [`rows_of`].
 
-ghost use Rattle.std.specs.Prelude.{◌≡◌, ◌≤◌, ◌-◌, [], ◌∷◌, ◌++◌, suc, map, IfOk, OnOk};
+ghost use Rattle.std.specs.Prelude.{◌≡◌, ◌≤◌, ◌-◌, [], ◌∷◌, ◌++◌, map, IfOk, OnOk};
 ghost use Rattle.std.specs.List.{range_with_len};
 ghost use Rattle.xs_fmea.specs.Tables.{rows_of as rows_within, pairs_after, pairs_from};
 

@@ -17,6 +17,8 @@ use Rattle.xs_odds.specs.Units.{one_in_units, is_fraction, whole_units, at_most_
 use Rattle.xs_odds.specs.Marks.{fault_of_units, fault_of_mark, slice_marks, extension_marks, HasProbabilities, HasUnits, AreOdds}
 use Rattle.xs_odds.specs.Laws.{AreAtMostOne}
 use Rattle.xs_odds.specs.FirstMark.{mark_units, or_else, mode_units, units_in_slice, slice_units, extension_units, or_zero, units_at}
+use Rattle.xs_flat_laws.proofs.Lists.{each_more}
+use Rattle.xs_flat_laws.proofs.Conditions.{each_join}
 
 -- where no mark is wrong, a mark gives units
 mark_there : (mark : Option (List Text)) → fault_of_mark mark ≡ None → (u : ℕ) × (mark_units mark ≡ Some u)
@@ -90,22 +92,17 @@ extension_there slice mode [] good at = absurd at
 extension_there slice mode (x ∷ xs) good (inl is) = first_or (slice_units slice mode x.slices) (extension_units slice mode xs) (inl (slice_there slice mode x.slices good.0 is))
 extension_there slice mode (x ∷ xs) good (inr later) = first_or (slice_units slice mode x.slices) (extension_units slice mode xs) (inr (extension_there slice mode xs good.1 later))
 
--- with right marks, every mode is good
-each_kept : {A : Type 0} (P Q : A → Type 0) (xs : List A) → ((x : A) → P x → Q x) → Each P xs → Each Q xs
-each_kept P Q [] f h = tt
-each_kept P Q (x ∷ xs) f h = (f x h.0, each_kept P Q xs f h.1)
-
 good_slice : (s : SliceTree) → Each (λ f. f ≡ None) (slice_marks s) → GoodModes s.modes
 good_slice s h = (each_mapped (λ f. f ≡ None) (λ m. fault_of_mark m.mark) s.modes).0 h.1
 
 good_extension : (x : ExtensionTree) → Each (λ f. f ≡ None) (extension_marks x) → GoodSlices x.slices
 good_extension x h =
-    each_kept (λ s. Each (λ f. f ≡ None) (slice_marks s)) (λ s. GoodModes s.modes) x.slices good_slice
+    each_more (λ s. Each (λ f. f ≡ None) (slice_marks s)) (λ s. GoodModes s.modes) x.slices good_slice
     ((each_flat (λ f. f ≡ None) slice_marks x.slices).0 h.1)
 
 good_all : (i : InstructionTree) → HasProbabilities i → GoodExtensions i.extensions
 good_all i h =
-    each_kept (λ x. Each (λ f. f ≡ None) (extension_marks x)) (λ x. GoodSlices x.slices) i.extensions good_extension
+    each_more (λ x. Each (λ f. f ≡ None) (extension_marks x)) (λ x. GoodSlices x.slices) i.extensions good_extension
     ((each_flat (λ f. f ≡ None) extension_marks i.extensions).0 h)
 
 -- a place of a list
@@ -218,10 +215,6 @@ module _ (xs : List ExtensionTree) where
   slices_there : Each (λ x. Each AllThere x.slices) xs
   slices_there = all_in (λ x. Each AllThere x.slices) xs (λ x a. all_in AllThere x.slices (λ s b. all_in (λ m. ModeThere xs s.name m.name) s.modes (mode_is x a s b)))
 
-each_join : {A : Type 0} (P : A → Type 0) (xs ys : List A) → Each P xs → Each P ys → Each P (xs ++ ys)
-each_join P [] ys h k = k
-each_join P (x ∷ xs) ys h k = (h.0, each_join P xs ys h.1 k)
-
 from_all : (P : SliceTree → Type 0) (xs : List ExtensionTree) (m : Text) → Each (λ x. Each P x.slices) xs → Each P (slices_from xs m)
 from_all P [] m h = tt
 from_all P (x ∷ xs) m h = by_test (same_text x.of_module m) (from_all P xs m h.1)
@@ -238,7 +231,7 @@ module _ (p : ProgramTree) (i : InstructionTree) where
   of_slice at s h = (each_mapped FaultThere (λ m. record { place = at; slice = s.name; mode = m.name }) s.modes).1 h
 
   of_slices : (at : Place) (ss : List SliceTree) → Each (AllThere i.extensions) ss → Each FaultThere (flat_map (slice_faults at) ss)
-  of_slices at ss h = (each_flat FaultThere (slice_faults at) ss).1 (each_kept (AllThere i.extensions) (λ s. Each FaultThere (slice_faults at s)) ss (of_slice at) h)
+  of_slices at ss h = (each_flat FaultThere (slice_faults at) ss).1 (each_more (AllThere i.extensions) (λ s. Each FaultThere (slice_faults at s)) ss (of_slice at) h)
 
   of_module : (at : Place) (m : Option ModuleTree) → Each FaultThere (flat_map (slice_faults at) (module_slices i m))
   of_module at None = tt

@@ -2,7 +2,7 @@
 //!
 //! [`OddsList`] has the units of each fault, and [`bound`] is the product of a set's units, rounded up at each factor.
 
-ghost use Rattle.std.specs.Prelude.{◌≡◌, ◌≤◌, ◌<◌, ◌-◌, ◌*◌, [], ◌∷◌, ◌++◌, All, length, slice_get, slice_index_or, Some, IfOk, OnOk, OnErr};
+ghost use Rattle.std.specs.Prelude.{◌≡◌, ◌≤◌, ◌<◌, ◌-◌, ◌*◌, [], ◌∷◌, ◌++◌, All, length, slice_index_or, IfOk, OnOk, OnErr};
 ghost use Rattle.std.specs.Int.{div_ceil};
 ghost use Rattle.xs_odds.specs.Units.{one_in_units};
 ghost use Rattle.xs_odds.specs.Bounds.{Bounds, bound_of, multiplied, units_in};

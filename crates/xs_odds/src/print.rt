@@ -3,8 +3,8 @@
 //! The main function is [`print_odds`].
 
 ghost use Rattle.std.specs.Prelude.{◌≡◌, ◌+◌, ◌-◌, ◌++◌, ◌<◌, ◌≤◌, ◌^◌, codes, decimal, length, map, All, IfOk, OnOk};
-ghost use Rattle.xs_odds.specs.Bounds.{bound_of, bound_sum, slack_of, units_in};
-ghost use Rattle.xs_odds.specs.OddsText.{last_digits, units_text, odds_line, odds_lines, sum_line, odds_text};
+ghost use Rattle.xs_odds.specs.Bounds.{bound_sum, slack_of, units_in};
+ghost use Rattle.xs_odds.specs.OddsText.{last_digits, units_text, odds_lines, odds_text};
 
 use crate::odds::{ONE, OddsList, bound};
 use std::alloc::Global;

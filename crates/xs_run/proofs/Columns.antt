@@ -1,8 +1,8 @@
 -- From the searches of all events to the table of their analyses, and what its entries mean.
 use Rattle.std.proofs.Common.{arith, ◌≡◌, inr, ℕ, zero, suc, ◌+◌, ◌-◌, ◌<◌, ◌≤◌, ◌++◌, List, [], ◌∷◌, All, Some, length, map, drop, get_or, refl, sym, ap, subst, ◌∙◌}
-use Rattle.std.specs.Prelude.{slice_get, Contains}
+use Rattle.std.specs.Prelude.{Contains}
 use Rattle.std.specs.List.{range_with_len}
-use Rattle.std.proofs.lemmas.Option.{slice_get_within, slice_get-get_or}
+use Rattle.std.proofs.lemmas.Option.{slice_get_within}
 use Rattle.std.proofs.Math.Seq.{take-length}
 use Rattle.std.proofs.lemmas.List.{at_drop_more, at_drop_all}
 use Rattle.std.proofs.lemmas.List.Elements.{All-nil, All-cons, All-weaker, All-contains, All-contains_itself, All-append}
@@ -42,15 +42,12 @@ use Rattle.xs_loading.specs.Answered.{Told, Said, faults_text}
 use Rattle.xs_loading.proofs.ListedLaws.{are_listed, named_lines}
 use Rattle.xs_run.proofs.TableLemmas.{both_over, both_back}
 use Rattle.xs_case_search.specs.Found.{IsFound}
-
--- what is so at each place is so of all
-all_at : {A : Type 0} (P : A → Type 0) (xs : List A) → ((k : ℕ) (x : A) → slice_get xs k ≡ Some x → P x) → All P xs
-all_at P xs h k d below = h k (get_or xs k d) (slice_get-get_or xs k d below)
+use Rattle.xs_case_search.proofs.Places.{all_by_place}
 
 -- the sets of an analysis name the case's faults
 pub names_faults : (c : Case) (e : Formula) (size depth : ℕ) (a : Analysis) → IsFound c e size depth a → All (All (λ i. (0 < i) × (i ≤ length c.faults))) a.sets
 names_faults c e size depth a found =
-    all_at (All (λ i. (0 < i) × (i ≤ length c.faults))) a.sets
+    all_by_place (All (λ i. (0 < i) × (i ≤ length c.faults))) a.sets
     (λ k set there.
     let right = found.right.right in
     let trace = there_too a.sets found.right.traces k set there right.one_each in

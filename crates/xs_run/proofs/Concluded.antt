@@ -1,22 +1,20 @@
 -- From what is written and said of an analysis to what stands, whole or in part.
-use Rattle.std.proofs.Common.{arith, ◌≡◌, inl, inr, ◌≤◌, ℕ, List, Option, Some, None, Result, Ok, Err, IfOk, OnOk, length, refl, sym, ap, subst, ◌∙◌}
+use Rattle.std.proofs.Common.{arith, ◌≡◌, inl, inr, ◌≤◌, ℕ, List, Option, Some, None, length, refl, sym, ap, subst, ◌∙◌}
 use Rattle.std.proofs.Math.Seq.{take-length}
 use Rattle.xs_desk.specs.Desk.{told_with, WritesPrefix, SaysPrefix, said_more}
-use Rattle.xs_desk.specs.declared.desk.WriteStop.{WriteStop}
-use Rattle.xs_desk.specs.declared.desk.WriteStop.TheVariants as write_stop
 use Rattle.xs_tree.specs.ProgramTree.{Text, program_tree}
 use Rattle.xs_tree.specs.Text.{program_text}
 use Rattle.xs_text_laws.specs.Analysis.{told_ending}
 use Rattle.xs_report_laws.specs.ExtendedTraces.{Ending, complete, bounded}
-use Rattle.xs_run.specs.declared.search.Found.{Found}
+use Rattle.xs_certificate_file.specs.declared.conclusion.Conclusion.{Conclusion}
 use Rattle.xs_run.specs.declared.analysis.Analysing.{Analysing}
 use Rattle.xs_loading.specs.declared.status.Status.{Status}
 use Rattle.xs_loading.specs.Cases.{Case, extension_of}
 use Rattle.xs_loading.specs.Answered.{Told, Said, told_maybe, WritesPrefixMaybe}
 use Rattle.xs_run.specs.AnswerTexts.{extension_text}
 use Rattle.xs_run.specs.Analyses.{ended_with, AreWritten, HasAnalysed, AnalysesInPart, part_of_extension, part_of_certificate, part_of_report}
-use Rattle.xs_run.specs.Findings.{IsCertifiedAs, IsFinding, analysed_case, ConcludesInPart, finished_as}
-use Rattle.xs_run.specs.Runs.{IsAnswer}
+use Rattle.xs_run.specs.Findings.{IsCertifiedAs, IsFinding, analysed_case}
+use Rattle.xs_certificate_file.specs.Conclusions.{ConcludesInPart}
 
 -- a text that was written whole
 pub whole_prefix : (before after : Told) (name bytes : Text) → after ≡ told_with before name bytes → WritesPrefix before after name bytes
@@ -27,7 +25,7 @@ pub written_extension : (a : Analysing) → program_tree a.loaded.case.limited.w
     text ≡ program_text (program_tree a.loaded.case.limited.woven.program) → bytes ≡ text → after ≡ told_with before a.extended.now bytes → after ≡ told_with before a.extended.now (extension_text (analysed_case a))
 written_extension a program before after text bytes printed same written = written ∙ ap (told_with before a.extended.now) (same ∙ printed ∙ ap program_text program)
 
-module _ (c : Case) (word : Text) (depth size : ℕ) (extended cert : Text) (f : Found) (found : IsFinding c word depth size f) (before mid after : Told) (said now : Said)
+module _ (c : Case) (word : Text) (depth size : ℕ) (extended cert : Text) (f : Conclusion) (found : IsFinding c word depth size f) (before mid after : Told) (said now : Said)
     (first : mid ≡ told_with before extended (extension_text c)) where
   files_written : (ending : Ending) (o : Option (List ℕ)) → IsCertifiedAs c found.event size found.analysis ending o → after ≡ told_maybe mid cert o →
       AreWritten c found.event size found.analysis extended cert before after ending
@@ -64,11 +62,3 @@ module _ (c : Case) (word : Text) (depth size : ℕ) (extended cert : Text) (f :
   analyses_in_part mid_said same (inr part) =
       part_of_report found.event found.analysis found.is_event found.found (files_written found.analysis.ending f.cert found.certified part.0)
       (subst (λ t. SaysPrefix said now t) found.reported (subst (λ t. SaysPrefix t now f.report) same part.1))
-
--- all of it, where it was concluded
-pub has_analysed_if : (c : Case) (word : Text) (depth size : ℕ) (extended cert : Text) (f : Found) → IsFinding c word depth size f → (before mid after : Told) (said mid_said now : Said) →
-    mid ≡ told_with before extended (extension_text c) → mid_said ≡ said → (done : Result Status WriteStop) → IfOk done (λ s. s ≡ ended_with (told_ending f.ending)) →
-    OnOk done ((after ≡ told_maybe mid cert f.cert) × (now ≡ said_more mid_said f.report)) → IfOk done (λ s. HasAnalysed c word depth size extended cert s before after said now)
-has_analysed_if c word depth size extended cert f found before mid after said mid_said now first same (Ok s) ends both =
-    has_analysed c word depth size extended cert f found before mid after said now first s ends both.0 (both.1 ∙ ap (λ t. said_more t f.report) same)
-has_analysed_if c word depth size extended cert f found before mid after said mid_said now first same (Err stop) ends both = tt

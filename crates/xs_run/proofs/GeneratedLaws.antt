@@ -1,5 +1,5 @@
 -- No reading refuses the texts of a generated case.
-use Rattle.std.proofs.Common.{◌≡◌, ℕ, suc, ◌≤◌, arith, true, false, List, [], ◌∷◌, length, Option, Some, None, refl, sym, ap, subst, ◌∙◌}
+use Rattle.std.proofs.Common.{◌≡◌, ℕ, ◌≤◌, arith, true, false, List, [], length, Option, Some, None, refl, sym, ap, subst, ◌∙◌}
 use Rattle.std.specs.Prelude.{codes}
 use Rattle.xs_tree.specs.ProgramTree.{Text, Formula, ProgramTree}
 use Rattle.xs_tree.specs.Text.{program_text}
@@ -16,7 +16,7 @@ use Rattle.xs_expression_reader.specs.declared.fault.ParseFault.{ParseFault}
 use Rattle.xs_expression_reader.specs.declared.fault.ParseFault.TheVariants as parse
 use Rattle.xs_tree.specs.Flat.{FlatModel}
 use Rattle.xs_flat_laws.specs.History.{with_history}
-use Rattle.xs_flat_laws.specs.Model.{EachBoth, IsFlatOf}
+use Rattle.xs_flat_laws.specs.Model.{IsFlatOf}
 use Rattle.xs_flat_laws.specs.Rules.{IsAccepted}
 use Rattle.xs_flat_laws.proofs.Laws.{accepted_unbroken}
 use Rattle.xs_flat_laws.proofs.Lists.{each_more}
@@ -59,6 +59,7 @@ use Rattle.xs_loading.specs.Inputs.{modules_named, AreTaken, IsWrongFaults, not_
 use Rattle.xs_loading.specs.Cases.{IsWrongTop, by_names, by_kinds, IsWrongWord, too_long, not_spelled as no_word, not_kept}
 use Rattle.xs_run.specs.Made.{IsOfGenerator, IsGeneratedText}
 use Rattle.xs_loading.proofs.LimitLaws.{of_program, slice_modes, are_woven}
+use Rattle.xs_generate_laws.proofs.Typed.{both_long}
 
 -- want of memory refuses nothing
 want_refuses_none : (f : ParseFault) (a : InputFault) → f ≡ parse.OutOfMemory → wrong.Refused a ≡ parse_wrong f → ⊥
@@ -71,12 +72,6 @@ weave_want_refuses_none f a e is = let bad : wrong.Refused a ≡ wrong.Memory = 
 small_has_none : (m : FlatModel) → breaches m ≡ [] → is_too_large m ≡ false → (r : KindRule) (item : ℕ) → IsFault m r item → ⊥
 small_has_none m none small r item (at_an_item first is rule at) = none_among first (breaches m) none is.among
 small_has_none m none small r item (of_its_size kept large rule at) = let bad : true ≡ false = sym large ∙ small in cc
-
-both_long : {A B : Type 0} (R : A → B → Type 0) (xs : List A) (ys : List B) → EachBoth R xs ys → length ys ≡ length xs
-both_long R [] [] h = refl
-both_long R [] (y ∷ ys) h = absurd h
-both_long R (x ∷ xs) [] h = absurd h
-both_long R (x ∷ xs) (y ∷ ys) h = ap suc (both_long R xs ys h.1)
 
 module _ (number stages : ℕ) (few : stages ≤ 64) where
   abbrev p : ProgramTree
@@ -140,7 +135,7 @@ module _ (number stages : ℕ) (few : stages ≤ 64) where
             (omega (arith, both_long (IsModeOf is.flat) faults is.modes is.are_modes, generated_faults_are_stages number stages lawful_size faults has))
 
     -- nor with the text of the instructions
-    pub instructions_not_wrong : (a : InputFault) → IsWrongFaults p (instructions_text generated_instructions) a → ⊥
+    instructions_not_wrong : (a : InputFault) → IsWrongFaults p (instructions_text generated_instructions) a → ⊥
     instructions_not_wrong a (not_spelled f h e) = want_refuses_none f a (instruction_text_is_read f h) e
     instructions_not_wrong a (not_woven i n f text is told e) =
         let same : i ≡ generated_instructions = text.only generated_instructions (instructions_spell generated_instructions instructions_writable) in

@@ -1,5 +1,5 @@
 -- What the three files of a table come to is one.
-use Rattle.std.proofs.Common.{arith, ◌≡◌, ⊎_elim, ◌<◌, ◌≤◌, ◌+◌, ℕ, zero, suc, List, [], ◌∷◌, Some, length, refl, sym, ap, subst, ◌∙◌}
+use Rattle.std.proofs.Common.{arith, ◌≡◌, ⊎_elim, ◌<◌, ◌≤◌, ◌+◌, ℕ, List, Some, length, sym, ap, subst, ◌∙◌}
 use Rattle.std.specs.Prelude.{slice_get}
 use Rattle.std.proofs.lemmas.Bool.{cases_lt}
 use Rattle.xs_desk.specs.declared.files.NamedFile.{NamedFile}
@@ -29,6 +29,7 @@ use Rattle.xs_loading.proofs.OneExtending.{one_refused_faults}
 use Rattle.xs_loading.proofs.OneModelFault.{one_refused_model, held_not_refused, one_held_model}
 use Rattle.xs_loading.proofs.OneCase.{case_not_refused}
 use Rattle.xs_loading.proofs.OneFaults.{same_given as same_there}
+use Rattle.xs_flat_laws.proofs.Conditions.{each_at}
 
 module _ (bytes : List ℕ) where
   not_deep : (es : List Formula) → IsListText bytes es → AreTooDeep bytes → ⊥
@@ -56,12 +57,6 @@ module _ (bytes : List ℕ) where
   list_not_wrong es a texts (long_list fs text more is) =
       let fits : length fs ≤ 64 = subst (λ (xs : List Formula). length xs ≤ 64) (one_list_text es fs texts.text text) texts.few in omega (arith, more, fits)
 
--- the one of a place among all
-pub each_there : {A : Type 0} (P : A → Type 0) (xs : List A) (k : ℕ) (x : A) → Each P xs → slice_get xs k ≡ Some x → P x
-each_there P [] k x h there = cc
-each_there P (y ∷ xs) zero x h there = subst P (same_there refl there) h.0
-each_there P (y ∷ xs) (suc k) x h there = each_there P xs k x h.1 there
-
 module _ (p : ProgramTree) (accepted : IsAccepted p) where
   module _ (es : List Formula) where
     no_later : (a b : InputFault) (x : IsFirstNoTop p es a) (y : IsFirstNoTop p es b) → x.place < y.place → ⊥
@@ -79,7 +74,7 @@ module _ (p : ProgramTree) (accepted : IsAccepted p) where
         one_wrong_top p accepted x.event (x.place + 1) a b x.wrong (subst (λ k. IsWrongTop p x.event (k + 1) b) (sym places) (subst (λ e. IsWrongTop p e (y.place + 1) b) events y.wrong))
 
     none_wrong : (a : InputFault) → Each (IsTop p) es → IsFirstNoTop p es a → ⊥
-    none_wrong a tops x = top_not_wrong p accepted x.event (x.place + 1) a (each_there (IsTop p) es x.place x.event tops x.is_there) x.wrong
+    none_wrong a tops x = top_not_wrong p accepted x.event (x.place + 1) a (each_at (IsTop p) es x.place x.event tops x.is_there) x.wrong
 
   one_wrong_tops : (bytes : List ℕ) (a b : InputFault) → IsWrongTops p bytes a → IsWrongTops p bytes b → a ≡ b
   one_wrong_tops bytes a b (wrong_list bad) (wrong_list also) = one_wrong_list bytes a b bad also

@@ -48,14 +48,6 @@ pub each_of : {A : Type 0} (P : A → Type 0) (xs : List A) → AreBefore P xs (
 each_of P [] h = tt
 each_of P (x ∷ xs) h = (h 0 x (omega arith) refl, each_of P xs (λ j y less there. h (suc j) y (omega (arith, less)) there))
 
-pub each_map : {A B : Type 0} (P : B → Type 0) (f : A → B) (xs : List A) → Each P (map f xs) → Each (λ x. P (f x)) xs
-each_map P f [] h = tt
-each_map P f (x ∷ xs) h = (h.0, each_map P f xs h.1)
-
-pub each_weaker : {A : Type 0} (P Q : A → Type 0) → ((x : A) → P x → Q x) → (xs : List A) → Each P xs → Each Q xs
-each_weaker P Q so [] h = tt
-each_weaker P Q so (x ∷ xs) h = (so x h.0, each_weaker P Q so xs h.1)
-
 pub each_at : {A : Type 0} (P : A → Type 0) (xs : List A) (i : ℕ) (x : A) → Each P xs → i < length xs → x ≡ get_or xs i x → P x
 each_at P [] i x h below here = absurd (omega (arith, below))
 each_at P (y ∷ xs) zero x h below here = subst P (sym here) h.0

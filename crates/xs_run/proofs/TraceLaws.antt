@@ -1,40 +1,16 @@
 -- Moments that the text of a trace gives can be replayed.
-use Rattle.std.proofs.Common.{arith, ◌≡◌, ◌≢◌, ◌≤◌, ◌<◌, ◌^◌, ℕ, suc, true, List, [], ◌∷◌, ◌++◌, length, Option, Some, None, refl, sym, ap, subst}
-use Rattle.std.specs.Prelude.{slice_get, IsTrue}
+use Rattle.std.proofs.Common.{arith, ◌≡◌, ◌≢◌, ◌≤◌, ◌<◌, ◌^◌, ℕ, suc, List, [], ◌∷◌, ◌++◌, length, refl, sym, ap, subst}
 use Rattle.std.proofs.lemmas.List.{length-append}
-use Rattle.xs_tree.specs.declared.program.Member.TheVariants as member
-use Rattle.xs_tree.specs.ProgramTree.{Text, DeclaredTree}
-use Rattle.xs_tree.specs.Trace.{Each, in_domain}
-use Rattle.xs_tree.specs.Values as told
-use Rattle.xs_tree.specs.WritableProgram.{IsWritableType}
+use Rattle.xs_tree.specs.Trace.{Each}
 use Rattle.xs_value.specs.declared.value.Value.{Value}
-use Rattle.xs_value.specs.declared.value.Value.TheVariants.{Bool as ABool, Num, Sym}
-use Rattle.xs_tree.specs.Flat.{FlatVariable, FlatModel}
+use Rattle.xs_tree.specs.Flat.{FlatModel}
 use Rattle.xs_flat_laws.specs.FlatTrace.{AreInDomains}
 use Rattle.xs_text_laws.specs.Lines.{Line, fed}
-use Rattle.xs_eval.specs.Named as eval
-use Rattle.xs_eval.specs.Named.{IsPlaceOf, IsNumbered, IsLawful}
-use Rattle.xs_report.specs.Told.{text_at, told_value, told_moment, told_trace}
+use Rattle.xs_eval.specs.Named.{IsLawful}
+use Rattle.xs_report.specs.Told.{told_moment, told_trace}
 use Rattle.xs_text_laws.specs.Given.{IsPrintable, GivesMoments, BytesGive}
 use Rattle.xs_run.specs.Replays.{IsFitTrace}
-use Rattle.xs_check.proofs.TraceLaws.{all_are_told, no_empty_symbol, is_true}
-
--- A value of such a type has the number of a symbol, where it is one.
-numbered : (symbols : List Text) (d : DeclaredTree) → IsWritableType d → (v : Value) → IsTrue (in_domain d (told_value symbols v)) → IsNumbered symbols v
-numbered symbols d w (ABool b) h = tt
-numbered symbols d w (Num n) h = tt
-numbered symbols d w (Sym i) h = by_text (slice_get symbols i) refl (is_true (in_domain d (told_value symbols (Sym i))) h)
-  where
-    by_text : (o : Option Text) → slice_get symbols i ≡ o → in_domain d (told.symbol (text_at o)) ≡ true → IsPlaceOf symbols i
-    by_text None e f = absurd (no_empty_symbol d w f)
-    by_text (Some x) e f = record { text = x; there = e }
-
-all_numbered : (symbols : List Text) (xs : List FlatVariable) → ((i : ℕ) (x : FlatVariable) → slice_get xs i ≡ Some x → IsWritableType x.declared) → (vs : List Value) →
-    AreInDomains xs (told_moment symbols vs) → Each (IsNumbered symbols) vs
-all_numbered symbols [] w [] h = tt
-all_numbered symbols [] w (v ∷ vs) h = absurd h
-all_numbered symbols (x ∷ xs) w [] h = absurd h
-all_numbered symbols (x ∷ xs) w (v ∷ vs) h = (numbered symbols x.declared (w 0 x refl) v h.0, all_numbered symbols xs (λ i y e. w (suc i) y e) vs h.1)
+use Rattle.xs_check.proofs.TraceLaws.{all_are_told, all_numbered}
 
 module _ (m : FlatModel) (printable : IsPrintable m) where
   lawful_moment : (v : List Value) → AreInDomains m.variables (told_moment m.symbols v) → IsLawful m v

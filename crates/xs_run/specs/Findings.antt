@@ -1,17 +1,15 @@
 -- What the code of an analysis has in memory: what is analysed, what a search found of it, and how the writing ends.
-use Rattle.std.specs.Prelude.{◌≡◌, ◌⊎◌, ℕ, List, Option, Some, None, length, Result, Ok, Err}
-use Rattle.xs_desk.specs.Desk.{SaysPrefix}
+use Rattle.std.specs.Prelude.{◌≡◌, ℕ, List, Option, Some, None, length, Result, Ok, Err}
 use Rattle.xs_desk.specs.declared.desk.WriteStop.{WriteStop}
 use Rattle.xs_desk.specs.declared.desk.WriteStop.TheVariants as stop
 use Rattle.xs_tree.specs.ProgramTree.{Text, Formula}
 use Rattle.xs_text_laws.specs.Analysis.{told_ending}
 use Rattle.xs_report_laws.specs.ExtendedTraces.{Ending, complete, bounded, Analysis}
-use Rattle.xs_run.specs.declared.search.Found.{Found}
+use Rattle.xs_certificate_file.specs.declared.conclusion.Conclusion.{Conclusion}
 use Rattle.xs_run.specs.declared.analysis.Analysing.{Analysing}
 use Rattle.xs_loading.specs.declared.status.Status.{Status}
 use Rattle.xs_loading.specs.declared.status.Status.TheVariants as status
 use Rattle.xs_loading.specs.Cases.{Case, IsTopWord}
-use Rattle.xs_loading.specs.Answered.{Told, Said, told_maybe, WritesPrefixMaybe}
 use Rattle.xs_case_search.specs.Found.{size_for, IsFound}
 use Rattle.xs_run.specs.Analyses.{Certifies, report_of}
 use Rattle.xs_loading.specs.LoadedEvents.{case_in}
@@ -31,7 +29,7 @@ IsCertifiedAs c e size a (bounded k) None = Unit {0}
 IsCertifiedAs c e size a _ _ = ⊥
 
 -- what a search found of a case: an analysis, its ending and its report, and for a complete answer a certificate
-pub record IsFinding (c : Case) (word : Text) (depth size : ℕ) (f : Found) : Type 0 where
+pub record IsFinding (c : Case) (word : Text) (depth size : ℕ) (f : Conclusion) : Type 0 where
   pub event : Formula
   pub is_event : IsTopWord c.program word event
   pub analysis : Analysis
@@ -39,11 +37,6 @@ pub record IsFinding (c : Case) (word : Text) (depth size : ℕ) (f : Found) : T
   pub ends : told_ending f.ending ≡ analysis.ending
   pub reported : f.report ≡ report_of c size analysis
   pub certified : IsCertifiedAs c event size analysis analysis.ending f.cert
-
--- a part of the certificate was written and nothing said, or the whole, and a part of the report said
-abbrev pub ConcludesInPart : Text → Found → Told → Told → Said → Said → Type 0
-ConcludesInPart name f before after said now =
-    (WritesPrefixMaybe before after name f.cert × (now ≡ said)) ⊎ ((after ≡ told_maybe before name f.cert) × SaysPrefix said now f.report)
 
 -- the status where the work was done, and else why it was not
 abbrev pub finished_as : Result Status WriteStop → Status

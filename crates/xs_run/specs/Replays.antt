@@ -1,5 +1,5 @@
 -- What the file of a trace comes to, and what a replay of it does.
-use Rattle.std.specs.Prelude.{◌≡◌, ℕ, ◌<◌, ◌^◌, ◌++◌, List, [], ◌∷◌, Bool, if◌then◌else◌, codes, length}
+use Rattle.std.specs.Prelude.{◌≡◌, ℕ, ◌<◌, ◌^◌, ◌++◌, List, [], ◌∷◌, Bool, if◌then◌else◌, codes, length, map}
 use Rattle.xs_desk.specs.declared.files.NamedFile.{NamedFile}
 use Rattle.xs_tree.specs.ProgramTree.{Text}
 use Rattle.xs_tree.specs.Tree.{Tree}
@@ -8,7 +8,7 @@ use Rattle.xs_tree.specs.Values.{Value}
 use Rattle.xs_value.specs.declared.value.Value.{Value as Numbered}
 use Rattle.xs_tree.specs.Flat.{FlatLeaf, FlatModel}
 use Rattle.xs_flat_laws.specs.History.{Mode}
-use Rattle.xs_eval.specs.Named.{IsLawful}
+use Rattle.xs_eval.specs.Named.{IsLawful, named_trace}
 use Rattle.xs_eval.specs.Stops as stops
 use Rattle.xs_text_laws.specs.Given.{BytesGive}
 use Rattle.xs_text_laws.specs.Wrong.{TraceFault, wrong_line, missing_value, number_of, IsFirstFault}
@@ -26,6 +26,13 @@ use Rattle.xs_loading.specs.declared.input.Stop.{Stop}
 use Rattle.xs_loading.specs.declared.input.Stop.TheVariants as stop
 use Rattle.xs_loading.specs.Reports.{name_text}
 use Rattle.xs_loading.specs.Tasks.{IsRefusedAbove, HasAtMost}
+use Rattle.xs_tree.specs.declared.model.FlatModel.{FlatModel as Model}
+use Rattle.xs_tree.specs.declared.model.Fault.{Fault as Numbering}
+use Rattle.xs_tree.specs.ModelTree.{model_tree}
+use Rattle.xs_flat_laws.specs.FaultModes.{mode_of}
+use Rattle.xs_flat_laws.specs.FlatTrace.{stands_in_some}
+use Rattle.xs_extend.specs.declared.faults.WovenFault.{WovenFault}
+use Rattle.xs_extend.specs.WovenFaults.{fault_tree}
 
 -- what is wrong first with the text of a trace, as it is told: its number, and the line from 1, or the moment from 0
 abbrev pub text_fault : TraceFault → InputFault
@@ -79,3 +86,7 @@ names_where test [] modes = []
 names_where test (f ∷ faults) [] = []
 names_where test (f ∷ faults) (mode ∷ modes) =
     if test mode then codes " " ++ (name_text f ++ names_where test faults modes) else names_where test faults modes
+
+-- the names of the faults that a trace of a model in memory has failed, each after a space
+abbrev pub failed_in : Model → List WovenFault → List Numbering → List (List Numbered) → Text
+failed_in m woven faults trace = names_where (λ f. stands_in_some (model_tree m) f (named_trace m.symbols trace)) (map fault_tree woven) (map mode_of faults)

@@ -1,7 +1,7 @@
 //! A trace judged over the extension, and what is said of one that reaches the top event.
 //!
 //! The main function is [`replay_file`]: [`judge_trace`] refuses moments that are none, and [`replay_report`] names the failed faults.
-ghost use Rattle.std.specs.Prelude.{◌≤◌, IfSome, ◌≡◌, ◌++◌, if◌then◌else◌, [], codes, map, false, length, IfOk, OnOk, IsErrOf};
+ghost use Rattle.std.specs.Prelude.{◌≤◌, IfSome, ◌≡◌, ◌++◌, if◌then◌else◌, [], codes, false, length, IfOk, OnOk, IsErrOf};
 ghost use Rattle.xs_tree.specs.ModelTree.{model_tree, flat_tree};
 ghost use Rattle.xs_flat_laws.specs.FaultModes.{mode_of};
 ghost use Rattle.xs_flat_laws.specs.FlatTrace.{stands_in_some};
@@ -16,7 +16,7 @@ ghost use Rattle.xs_tree.specs.ProgramTree.{program_tree};
 ghost use Rattle.xs_loading.specs.Loaded.{case_of, IsLoaded};
 ghost use Rattle.xs_run.specs.Runs.{refuses, says, TraceComesTo};
 ghost use Rattle.xs_loading.specs.Reports.{name_text};
-ghost use Rattle.xs_run.specs.Replays.{IsFitTrace, RefusesMoment, names_where};
+ghost use Rattle.xs_run.specs.Replays.{IsFitTrace, RefusesMoment, failed_in};
 ghost use Rattle.xs_loading.specs.declared.status.Refusal.{Refusal};
 ghost use Rattle.xs_loading.specs.declared.status.Refusal.TheVariants as refusal;
 ghost use Rattle.xs_loading.specs.declared.status.Objection.TheVariants as objection;
@@ -52,7 +52,6 @@ pub(crate) fn replay_file<D: Desk>(
     ensures ok { IfOk result (λ report. IfSome (D.files desk.old) (λ files. TraceComesTo files (case_of (program_tree model.now.program) case.now) (flat_tree top.now) name.now (says report))) }
     ensures refused { (r : Refusal) → IsErrOf result (stop.Refused r) → IfSome (D.files desk.old) (λ files. TraceComesTo files (case_of (program_tree model.now.program) case.now) (flat_tree top.now) name.now (refuses r)) }
     ensures failed { IsErrOf result stop.Desk → Rose (D.faults desk.old) (D.faults desk.new) }
-
     ensures files { D.files desk.new ≡ D.files desk.old }
     ensures said { D.said desk.new ≡ D.said desk.old }
     ensures later { D.faults desk.old ≤ D.faults desk.new }
@@ -105,7 +104,7 @@ pub(crate) fn replay_report(
     requires model { IsEvaluable (model_tree case.now.limited.typed.model) }
     requires fit { IsFitTrace (model_tree case.now.limited.typed.model) trace.now }
     requires numbered { AreNumbered case.now.limited.typed.model case.now.limited.woven.faults case.now.limited.faults }
-    ensures { IfOk result (λ text. text ≡ codes "reaches\nfailed" ++ (names_where (λ f. stands_in_some (model_tree case.now.limited.typed.model) f (named_trace case.now.limited.typed.model.symbols trace.now)) (map fault_tree case.now.limited.woven.faults) (map mode_of case.now.limited.faults) ++ codes "\n")) }
+    ensures { IfOk result (λ text. text ≡ codes "reaches\nfailed" ++ (failed_in case.now.limited.typed.model case.now.limited.woven.faults case.now.limited.faults trace.now ++ codes "\n")) }
 {
     let mut text = ByteList::from_slice(alloc, b"reaches\nfailed")?;
     append_failed(
@@ -132,7 +131,7 @@ fn append_failed(
     requires fit { IsFitTrace (model_tree typed.now.model) trace.now }
     requires numbered { AreNumbered typed.now.model woven.now faults.now }
     requires length { length woven.now ≡ length faults.now }
-    ensures { OnOk result (text.new ≡ text.old ++ names_where (λ f. stands_in_some (model_tree typed.now.model) f (named_trace typed.now.model.symbols trace.now)) (map fault_tree woven.now) (map mode_of faults.now)) }
+    ensures { OnOk result (text.new ≡ text.old ++ failed_in typed.now.model woven.now faults.now trace.now) }
 {
     for (i, fault) in woven.iter().enumerate() {
         append_if_failed(text, typed, fault, &faults[i], trace)?;

@@ -1,7 +1,7 @@
 //! The search of a case for its minimal cut sets, and the texts that are made of what it finds.
 //!
 //! The main function is [`search`]: the report, how it ended, and for a complete answer the text of a certificate.
-ghost use Rattle.std.specs.Prelude.{◌≡◌, ◌<◌, ℕ, IfOk, map};
+ghost use Rattle.std.specs.Prelude.{◌≡◌, ℕ, IfOk, map};
 ghost use Rattle.xs_tree.specs.ModelTree.{model_tree, flat_tree};
 ghost use Rattle.xs_flat_laws.specs.FaultModes.{mode_of};
 ghost use Rattle.xs_flat_laws.specs.History.{with_history};
@@ -20,6 +20,7 @@ use xs_adviser::Panel;
 use xs_case_search::search::{analysed, size_of};
 use xs_case_search::{certify, told};
 use xs_cert::write;
+use xs_certificate_file::conclusion::Conclusion;
 use xs_cuts::answer::{Analysis, End};
 use xs_loading::loaded::LoadedCase;
 use xs_loading::status::Status;
@@ -27,14 +28,6 @@ use xs_report::print_analysis;
 use xs_tree::Expr;
 use xs_tree::model::Flat;
 use xs_value::{ByteList, Ending, OutOfMemory};
-
-/// What a search found: the report, how it ended, and for a complete answer the text of a certificate.
-#[derive(Drop)]
-pub struct Found {
-    pub cert: Option<ByteList>,
-    pub report: ByteList,
-    pub ending: Ending,
-}
 
 /// The status of a run whose analysis ends so.
 pub(crate) fn status_of(ending: Ending) -> Status
@@ -100,7 +93,7 @@ pub(crate) fn search(
     alloc: Global,
     asked: &Analysing,
     panel: &mut Panel,
-) -> Result<Found, OutOfMemory>
+) -> Result<Conclusion, OutOfMemory>
     requires { IsEvent asked.now.word.now asked.now.loaded }
     ensures { IfOk result (IsFinding (analysed_case asked.now) asked.now.word.now asked.now.depth (analysed_size asked.now)) }
 {
@@ -121,7 +114,7 @@ pub(crate) fn search(
         a.size,
         ending,
     )?;
-    Ok(Found {
+    Ok(Conclusion {
         cert,
         report,
         ending,

@@ -2,7 +2,7 @@
 //!
 //! [`load_table`] reads the three files and refuses; [`deliver_table`] searches for each event, in frames that are made once, and says
 //! the table.
-ghost use Rattle.std.specs.Prelude.{◌≡◌, ◌≤◌, ◌<◌, List, All, [], false, length, map, IfOk, OnOk, IfErr, IfSome, IsErrOf};
+ghost use Rattle.std.specs.Prelude.{◌≡◌, ◌≤◌, List, All, [], false, length, map, IfOk, OnOk, IfErr, IfSome, IsErrOf};
 ghost use Rattle.xs_desk.specs.Desk.{Rose};
 ghost use Rattle.xs_desk.specs.declared.desk.WriteStop.TheVariants as write_stop;
 ghost use Rattle.xs_tree.specs.ProgramTree.{Formula, program_tree};
@@ -88,7 +88,6 @@ pub(crate) fn load_table<D: Desk>(
     ensures asked { IfOk result (λ a. (a.size ≡ size) × (a.depth ≡ depth)) }
     ensures refused { (r : Refusal) → IsErrOf result (stop.Refused r) → IfSome (D.files desk.old) (λ files. RefusesTable files model.now faults.now tops.now r) }
     ensures failed { IsErrOf result stop.Desk → Rose (D.faults desk.old) (D.faults desk.new) }
-
     ensures files { D.files desk.new ≡ D.files desk.old }
     ensures said { D.said desk.new ≡ D.said desk.old }
     ensures later { D.faults desk.old ≤ D.faults desk.new }
@@ -120,7 +119,6 @@ pub(crate) fn load_tops<D: Desk>(
     ensures events { IfOk result (λ t. EachBoth (IsEventOf (case_of (program_tree model.now.program) case.now)) (map tree_of t.written) (map flat_tree t.over)) }
     ensures refused { (r : Refusal) → IsErrOf result (stop.Refused r) → IfSome (D.files desk.old) (λ files. RefusesTops files name.now (program_tree model.now.program) r) }
     ensures failed { IsErrOf result stop.Desk → Rose (D.faults desk.old) (D.faults desk.new) }
-
     ensures files { D.files desk.new ≡ D.files desk.old }
     ensures said { D.said desk.new ≡ D.said desk.old }
     ensures later { D.faults desk.old ≤ D.faults desk.new }
@@ -140,7 +138,6 @@ fn read_tops<D: Desk>(alloc: Global, desk: &mut D, name: &str) -> Result<Vec<u8>
     ensures refused { (r : Refusal) → IsErrOf result (stop.Refused r) →
         (fault : InputFault) × (r ≡ refusal.Top fault) × IfSome (D.files desk.old) (λ files. IsRefusedFile files name.now fault) }
     ensures failed { IsErrOf result stop.Desk → Rose (D.faults desk.old) (D.faults desk.new) }
-
     ensures files { D.files desk.new ≡ D.files desk.old }
     ensures said { D.said desk.new ≡ D.said desk.old }
     ensures later { D.faults desk.old ≤ D.faults desk.new }

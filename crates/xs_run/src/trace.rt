@@ -1,7 +1,7 @@
 //! The file of a trace, as moments of the extension.
 //!
 //! The main function is [`load_trace`].
-ghost use Rattle.std.specs.Prelude.{◌≡◌, ◌≤◌, length, IfOk, IfErr, IfSome, IsErrOf};
+ghost use Rattle.std.specs.Prelude.{◌≡◌, ◌≤◌, length, IfOk, IfSome, IsErrOf};
 ghost use Rattle.xs_desk.specs.Desk.{Rose};
 ghost use Rattle.xs_tree.specs.ModelTree.{model_tree};
 ghost use Rattle.xs_report.specs.Told.{told_trace};
@@ -38,7 +38,6 @@ pub(crate) fn load_trace<D: Desk>(
     ensures fit { IfOk result (IsFitTrace (model_tree typed.now.model)) }
     ensures refused { (r : Refusal) → IsErrOf result (stop.Refused r) → IfSome (D.files desk.old) (λ files. RefusesTrace files name.now (model_tree typed.now.model) r) }
     ensures failed { IsErrOf result stop.Desk → Rose (D.faults desk.old) (D.faults desk.new) }
-
     ensures files { D.files desk.new ≡ D.files desk.old }
     ensures said { D.said desk.new ≡ D.said desk.old }
     ensures later { D.faults desk.old ≤ D.faults desk.new }
@@ -58,7 +57,6 @@ fn read_trace_file<D: Desk>(alloc: Global, desk: &mut D, name: &str) -> Result<V
     ensures refused { (r : Refusal) → IsErrOf result (stop.Refused r) →
         (fault : InputFault) × (r ≡ refusal.NotAccepted (objection.Trace fault)) × IfSome (D.files desk.old) (λ files. IsRefusedAbove 16777216 files name.now fault) }
     ensures failed { IsErrOf result stop.Desk → Rose (D.faults desk.old) (D.faults desk.new) }
-
     ensures files { D.files desk.new ≡ D.files desk.old }
     ensures said { D.said desk.new ≡ D.said desk.old }
     ensures later { D.faults desk.old ≤ D.faults desk.new }

@@ -15,8 +15,10 @@ use Rattle.xs_loading.specs.Loaded.{case_of}
 use Rattle.xs_run.specs.Tables.{IsWrongList, IsFirstNoTop, IsWrongTops, wrong_list, wrong_event}
 use Rattle.xs_loading.proofs.Told.{refused_weaker}
 use Rattle.xs_loading.proofs.TopLaws.{names_over}
-use Rattle.xs_run.proofs.TableLemmas.{each_map, each_weaker, are_events}
+use Rattle.xs_run.proofs.TableLemmas.{are_events}
 use Rattle.xs_run.proofs.tops.tops_of.Goals as goal
+use Rattle.xs_encode_laws.proofs.SetLaws.{each_kept}
+use Rattle.xs_flat_laws.proofs.Lists.{each_of_map}
 
 pub returns-in_err-written-clause-wrong : goal.returns-in_err-written-clause-wrong
 returns-in_err-written-clause-wrong c =
@@ -52,9 +54,9 @@ over_case-requires-clause-names c =
     let xs = c.in_ok-written.written in
     let judged = subst (λ es. Each (IsTop p) (map tree_of es)) c.as_slice.ensures c.in_ok-judge_tops.ensures.ok in
     let kept : Each (λ e. KeepsValue q [] false e) (map tree_of xs) =
-    each_weaker (IsTop p) (λ e. KeepsValue q [] false e)
+    each_kept (IsTop p) (λ e. KeepsValue q [] false e)
     (λ e top. subst (λ r. KeepsValue r [] false e) (sym c.requires.loaded.program) (names_over (case_of p l) c.requires.loaded.is_case m c.requires.lawful e top)) (map tree_of xs) judged in
-    subst (λ es. Each (λ e. KeepsValue q [] false (tree_of e)) es) (sym c.as_slice-2.ensures) (each_map (λ e. KeepsValue q [] false e) tree_of xs kept)
+    subst (λ es. Each (λ e. KeepsValue q [] false (tree_of e)) es) (sym c.as_slice-2.ensures) (each_of_map (λ e. KeepsValue q [] false e) tree_of xs kept)
 
 pub returns-in_err-over-clause-wrong : goal.returns-in_err-over-clause-wrong
 returns-in_err-over-clause-wrong c =
