@@ -9,8 +9,8 @@
 //! it (`xs_cuts::encoded::Encoded`). What these must be is `IsSearchable` of `xs_cut_laws`, and what is
 //! answered is `IsAnswer` of `xs_cuts`, over the exact lists and bits of `xs_encode_laws`. The last moment of a trace gives no
 //! inputs: they get the least values of their domains. Frames know a model with its faults and no top event. So for many events of
-//! one model [`frames_of`] makes them once, and [`analyse_in`] searches in them for one event after another: the first states are
-//! learned once.
+//! one model [`frames_of`] makes them once, and [`analyse_in`] searches in them for one event after another: the
+//! search that they keep has all that it has learned.
 //!
 //! [`certify`] prints the traces of an analysis, derives the three parts of its invariant by searches over the exact lists of the model
 //! with history, and puts all together. The certificate is accepted for that model, whoever judges it, and some text spells it

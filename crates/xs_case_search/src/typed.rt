@@ -69,8 +69,8 @@ pub fn frames_of(
     Ok(frames)
 }
 
-/// What `analyse` answers, found in frames of the model that may have served for other top events. What they learned of
-/// the first states stays, which holds whatever the top event is; the rest is learned anew.
+/// What `analyse` answers, found in frames of the model that may have served for other top events. Their one search stays, with
+/// all that it has learned; the clauses of the frames, which were blocked for the earlier events, are found anew.
 pub fn analyse_in(
     alloc: Global,
     plain: &Typed,

@@ -317,8 +317,8 @@ fn columns_in(
     Ok(columns)
 }
 
-/// The column of a top event: what its analysis found, with the size of all faults. Of what the frames learned for other
-/// columns only what holds of every first state is used.
+/// The column of a top event: what its analysis found, with the size of all faults. The frames keep their
+/// search, with what it has learned for other columns.
 fn column_of(
     alloc: Global,
     asked: &Tabulating,
