@@ -3,12 +3,12 @@ use Rattle.std.proofs.Common.{◌≡◌, ◌⊎◌, inl, inr, ℕ, Bool, true, f
 use Rattle.std.specs.Prelude.{codes, nat_eq, IsTrue}
 use Rattle.std.proofs.lemmas.Bool.{eq-eqb}
 use Rattle.xs_right_laws.specs.Sets.{has_number}
-use Rattle.xs_words.specs.declared.choice.Kind.{Kind}
 use Rattle.xs_words.specs.declared.choice.Kind.TheVariants as kind
 use Rattle.xs_words.specs.Commands.{Text, Given}
-use Rattle.xs_words.specs.Sets.{number_of, numbers_of, IsSet, Each}
-use Rattle.xs_words.specs.Table.{kind_in, Fits}
-use Rattle.xs_words.specs.Meaning.{Gives, GivesNumber, IsLawful, AreLawful}
+use Rattle.xs_words.specs.Sets.{number_of, numbers_of, Each}
+use Rattle.xs_words.specs.Table.{kind_in}
+use Rattle.xs_words.specs.Meaning.{Gives, GivesNumber, AreLawful}
+use Rattle.xs_words.proofs.ValueLemmas.{fits_given}
 use Rattle.xs_reach_words.specs.declared.verb.Verb.{Verb}
 use Rattle.xs_reach_words.specs.declared.verb.Verb.TheVariants as verb
 use Rattle.xs_reach_words.specs.Commands.{Command, orders, check_orders}
@@ -62,9 +62,6 @@ module _ (pairs : List Given) (set value other : Text) (has_set : Gives pairs (c
             at.holds (both_one at.option_is (is_first ∙ same ∙ sym is_second ∙ ap number_of (sym at.value_is)));
       }
 
-same_kind : (k : Kind) (word : Text) → Some kind.Set ≡ Some k → Fits k word → IsSet word
-same_kind k word e h = let same : kind.Set ≡ k = cc in subst (λ x. Fits x word) (sym same) h
-
 -- what the pairs give where the verb is one of the two
 record GivesPair (pairs : List Given) (set : Text) (first second : ℕ) : Type 0 where
   has_set : Gives pairs (codes "--set") set
@@ -110,10 +107,8 @@ of_checks pairs v c (finds_odds m f t d a b o p) model faults top set first seco
 asked_pair : (v : Verb) (pairs : List Given) (set : Text) (first second : ℕ) → kind_in (options_of v) (codes "--set") ≡ Some kind.Set → AreLawful (options_of v) pairs → AreInside pairs → GivesPair pairs set first second →
     IsAskedPair set first second
 asked_pair v pairs set first second known lawful inside g =
-    let at : At (IsLawful (options_of v)) (codes "--set") set = given_at (IsLawful (options_of v)) pairs (codes "--set") set g.has_set lawful.each in
     record {
-      is_set =
-          same_kind at.holds.kind set (sym known ∙ ap (kind_in (options_of v)) (sym at.option_is) ∙ at.holds.known) (subst (Fits at.holds.kind) at.value_is at.holds.fits);
+      is_set = fits_given (options_of v) pairs (codes "--set") set kind.Set lawful.each g.has_set known;
       pair = words_pair pairs set g.has_first.value g.has_second.value g.has_set g.has_first.given g.has_second.given inside first second g.has_first.is g.has_second.is;
     }
 
