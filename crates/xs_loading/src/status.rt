@@ -154,7 +154,7 @@ impl Refusal {
 }
 
 /// The line of refused words.
-fn words_line(alloc: Global, fault: WordFault) -> Result<ByteList, OutOfMemory>
+pub fn words_line(alloc: Global, fault: WordFault) -> Result<ByteList, OutOfMemory>
     ensures { IfOk result (λ line. line ≡ codes "refused words " ++ words_text fault) }
 {
     let place = u64::from(fault.place());

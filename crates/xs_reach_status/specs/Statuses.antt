@@ -3,8 +3,6 @@ use Rattle.std.specs.Prelude.{◌≡◌, ℕ, ℤ, pos, ◌++◌, codes}
 use Rattle.xs_tree.specs.ProgramTree.{Text}
 use Rattle.xs_desk.specs.declared.desk.WriteStop.{WriteStop}
 use Rattle.xs_desk.specs.declared.desk.WriteStop.TheVariants as write_stop
-use Rattle.xs_words.specs.declared.fault.WordFault.{WordFault}
-use Rattle.xs_words.specs.Seen.{rule_of, place_of}
 use Rattle.xs_loading.specs.Statuses as shared
 use Rattle.xs_loading.specs.declared.input.Stop.{Stop as SharedStop}
 use Rattle.xs_loading.specs.declared.input.Stop.TheVariants as shared_stop
@@ -41,13 +39,9 @@ part_text part.Cause = codes "cause "
 abbrev pub fault_text : InputFault → Text
 fault_text fault = part_text fault.part ++ shared.rule_text fault.number fault.place
 
--- the number of the rule that words break, and the place
-abbrev pub words_text : WordFault → Text
-words_text fault = shared.rule_text (rule_of fault) (place_of fault)
-
 -- the one line of a refusal
 abbrev pub refusal_text : Refusal → Text
-refusal_text (refusal.Words fault) = codes "refused words " ++ words_text fault
+refusal_text (refusal.Words fault) = codes "refused words " ++ shared.words_text fault
 refusal_text (refusal.Shared r) = shared.refusal_text r
 refusal_text (refusal.Faults fault) = codes "refused faults " ++ fault_text fault
 refusal_text (refusal.Causes fault) = codes "refused causes " ++ fault_text fault

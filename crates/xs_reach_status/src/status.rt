@@ -1,8 +1,8 @@
 // How a run of a further verb ends, and the line that a refusal says.
-ghost use Rattle.std.specs.Prelude.{◌≡◌, ◌≤ℤ◌, pos, ◌++◌, IfOk, codes};
+ghost use Rattle.std.specs.Prelude.{◌≡◌, ◌≤ℤ◌, pos, ◌++◌, IfOk};
 ghost use Rattle.xs_text_laws.specs.Analysis.{told_ending};
 ghost use Rattle.xs_reach_status.specs.Finished.{IsFinished, ended_with};
-ghost use Rattle.xs_reach_status.specs.Statuses.{number_of, refusal_number, part_text, fault_text, words_text, refusal_text};
+ghost use Rattle.xs_reach_status.specs.Statuses.{number_of, refusal_number, part_text, fault_text, refusal_text};
 
 use std::alloc::Global;
 use xs_loading::status as shared;
@@ -92,21 +92,13 @@ impl Refusal {
         ensures { IfOk result (λ line. line ≡ refusal_text self) }
     {
         match self {
-            Refusal::Words(fault) => words_line(alloc, fault),
+            Refusal::Words(fault) => shared::words_line(alloc, fault),
             Refusal::Shared(refusal) => refusal.line(alloc),
             Refusal::Faults(fault) => fault_line(alloc, b"refused faults ", fault),
             Refusal::Causes(fault) => fault_line(alloc, b"refused causes ", fault),
             Refusal::Set(fault) => fault_line(alloc, b"refused set ", fault),
         }
     }
-}
-
-/// The line of refused words.
-fn words_line(alloc: Global, fault: WordFault) -> Result<ByteList, OutOfMemory>
-    ensures { IfOk result (λ line. line ≡ codes "refused words " ++ words_text fault) }
-{
-    let place = u64::from(fault.place());
-    shared::refusal_line(alloc, b"refused words ", b"", fault.number(), place)
 }
 
 /// The line of a refused input, after its beginning.
