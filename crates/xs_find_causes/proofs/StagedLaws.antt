@@ -4,6 +4,7 @@ use Rattle.std.proofs.lemmas.List.{length-map, reverse-reverse}
 use Rattle.xs_tree.specs.Tree.{Tree}
 use Rattle.xs_tree.specs.ProgramTree.{Path, ProgramTree, program_tree}
 use Rattle.xs_tree.specs.Values.{Value}
+use Rattle.xs_tree.specs.Trace.{Each}
 use Rattle.xs_tree.specs.ModelTree.{flat_tree}
 use Rattle.xs_flat_laws.specs.FaultModes.{mode_of}
 use Rattle.xs_tree.specs.declared.model.Fault.{Fault}

@@ -10,6 +10,7 @@ use Rattle.xs_tree.specs.ProgramTree.{Text, Formula, ProgramTree}
 use Rattle.xs_extend.proofs.EachItem.{item_there}
 use Rattle.xs_tree.specs.Flat.{FlatLeaf}
 use Rattle.xs_flat_laws.specs.Model.{EachBoth}
+use Rattle.xs_flat_laws.proofs.Lists.{each_of_map}
 use Rattle.xs_loading.specs.declared.status.InputFault.{InputFault}
 use Rattle.xs_loading.specs.declared.status.Refusal.{Refusal}
 use Rattle.xs_loading.specs.declared.status.Refusal.TheVariants as refusal
@@ -111,7 +112,7 @@ pub are_events : (c : Case) {A B : Type 0} (f : A → Formula) (g : B → Tree F
     EachBoth (IsEventOf c) (map f xs) (map g ys)
 are_events c f g xs ys tops trees =
     both_of (IsEventOf c) f g xs ys
-    (both_zip (λ x. IsTop c.program (f x)) (λ x y. IsTopTree c (f x) (g y)) (λ x y. IsEventOf c (f x) (g y)) (λ x y top tree. record { is_top = top; is_tree = tree }) xs ys (each_map (IsTop c.program) f xs tops) trees)
+    (both_zip (λ x. IsTop c.program (f x)) (λ x y. IsTopTree c (f x) (g y)) (λ x y. IsEventOf c (f x) (g y)) (λ x y top tree. record { is_top = top; is_tree = tree }) xs ys (each_of_map (IsTop c.program) f xs tops) trees)
 
 -- The file.
 pub refuses_tops_file : (told : Option (List NamedFile)) (name : Text) (p : ProgramTree) (r : Refusal) (a : InputFault) → r ≡ refusal.Top a → IfSome told (λ files. IsRefusedFile files name a) →
