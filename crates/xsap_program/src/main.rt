@@ -2,7 +2,7 @@
 //! certificates of them, makes tables of them, generates cases, bounds probabilities, and takes in common causes and orders of faults.
 //!
 //! `main` hands [`xs_run::run::run`], or for a further verb [`reach::run`], the words of the command line, a desk
-//! over real files, and the advisers of the search; all that is promised of a run stands at these calls.
+//! over real files, and but for the further verbs the advisers of the search; all that is promised of a run stands at these calls.
 //! The desk over real files is `real_desk`. The file `reach` is the top call of the further verbs, over any desk, and `verbs` calls
 //! the crate of each; what a run of one comes to stands in `specs/Runs.antt`.
 //!
@@ -68,16 +68,17 @@ fn number_of(rt: HostRuntime, alloc: Global, words: &[String]) -> u8 {
     }
 }
 
-/// The number of a run. Two advisers serve it: one in the order of the variables, one that prefers what was learned lately.
+/// The number of a run. Two advisers serve it, unless it is of a further verb: one in the order of the variables, one that
+/// prefers what was learned lately.
 fn advised(rt: HostRuntime, alloc: Global, words: &[&str]) -> Result<u8, OutOfMemory> {
     let mut desk = RealDesk::new(rt);
+    if is_reach(words) {
+        let status = reach::run(alloc, words, &mut desk);
+        return Ok(status.number() as u8);
+    }
     let mut advisers: Vec<Box<dyn Adviser>> = Vec::new(alloc);
     advisers.push(Box::new(alloc, InOrder::new())?)?;
     advisers.push(Box::new(alloc, Active::new(alloc))?)?;
-    if is_reach(words) {
-        let status = reach::run(alloc, words, &mut desk, advisers);
-        return Ok(status.number() as u8);
-    }
     let status = run(alloc, words, &mut desk, advisers);
     Ok(exit_number(&status))
 }

@@ -18,7 +18,6 @@ ghost use Rattle.xsap_program.specs.Runs.{IsDone, IsShort, RefusesCommand, IsLef
 
 use crate::verbs::carry_out;
 use std::alloc::Global;
-use xs_adviser::{Adviser, Panel};
 use xs_desk::{Desk, WriteStop, say_whole};
 use xs_reach_status::status::{Refusal, Status};
 use xs_reach_status::stop::Stop;
@@ -36,14 +35,9 @@ pub fn is_reach(words: &[&str]) -> bool
 /// `causes` searches for the minimal cut sets of faults and common causes, and `check-causes` judges a certificate of
 /// them. `orders` finds in which order two faults of a set come, and `check-orders` judges a certificate of that.
 /// All files are read, and every refusal is tried, before anything is written or said. A refusal says its one
-/// line and changes no file. The words are those of the command line without the program's own name. The advisers say
-/// what the searches try first; no answer is trusted to them.
-pub fn run<D: Desk>(
-    alloc: Global,
-    words: &[&str],
-    desk: &mut D,
-    advisers: Vec<Box<dyn Adviser>>,
-) -> Status
+/// line and changes no file. The words are those of the command line without the program's own name. The searches
+/// take no advisers.
+pub fn run<D: Desk>(alloc: Global, words: &[&str], desk: &mut D) -> Status
     // A run that has finished has done what the words ask for.
     ensures finished { (c : Asked) → Means (texts words.now) c → IsFinished result →
         IfSome (D.files desk.old) (λ files. IsDone c files result (D.files desk.old) (D.files desk.new) (D.said desk.old) (D.said desk.new)) }
@@ -68,7 +62,7 @@ pub fn run<D: Desk>(
         Ok(command) => command,
         Err(fault) => return refuse(alloc, desk, Refusal::Words(fault)),
     };
-    match carry_out(alloc, desk, &command, &mut Panel::new(advisers)) {
+    match carry_out(alloc, desk, &command) {
         Ok(status) => status,
         Err(stop) => stopped(alloc, desk, stop),
     }

@@ -1,7 +1,6 @@
 //! The further verbs: what each has done, refuses, and leaves behind.
 //!
 //! Each verb stands in a crate of its own; here its clauses are told of the command. The main function is `carry_out`.
-//! The advisers of the panel say what the searches try first; no clause depends on them.
 ghost use Rattle.std.specs.Prelude.{◌≡◌, ◌≤◌, List, IfOk, IsErrOf};
 ghost use Rattle.xs_desk.specs.Desk.{Rose};
 ghost use Rattle.xs_words.specs.Commands.{Text};
@@ -29,7 +28,6 @@ pub(crate) fn carry_out<D: Desk>(
     alloc: Global,
     desk: &mut D,
     command: &Command,
-    panel: &mut Panel,
 ) -> Result<Status, Stop>
     ensures done { (words : List Text) → Means words (seen command.now) →
         HasDone (seen command.now) result (D.files desk.old) (D.files desk.new) (D.said desk.old) (D.said desk.new) }
@@ -43,21 +41,16 @@ pub(crate) fn carry_out<D: Desk>(
     ensures quiet { D.quiet desk.old → D.quiet desk.new × (D.faults desk.new ≡ D.faults desk.old) }
 {
     match command {
-        Command::Causes(asked) => causes(alloc, desk, asked, panel),
+        Command::Causes(asked) => causes(alloc, desk, asked),
         Command::CheckCauses(asked) => checked_causes(alloc, desk, asked),
-        Command::Orders(asked) => orders(alloc, desk, asked, panel),
+        Command::Orders(asked) => orders(alloc, desk, asked),
         Command::CheckOrders(asked) => checked_orders(alloc, desk, asked),
-        Command::Odds(asked) => odds(alloc, desk, asked, panel),
+        Command::Odds(asked) => odds(alloc, desk, asked),
     }
 }
 
 /// Finds the minimal cut sets of faults and common causes.
-fn causes<D: Desk>(
-    alloc: Global,
-    desk: &mut D,
-    asked: &FindCauses,
-    panel: &mut Panel,
-) -> Result<Status, Stop>
+fn causes<D: Desk>(alloc: Global, desk: &mut D, asked: &FindCauses) -> Result<Status, Stop>
     ensures done { HasDone (seen (asks.Causes asked.now)) result (D.files desk.old) (D.files desk.new) (D.said desk.old) (D.said desk.new) }
     ensures finished { IfOk result IsFinished }
     ensures refused { Refuses (seen (asks.Causes asked.now)) result (D.files desk.old) }
@@ -67,7 +60,7 @@ fn causes<D: Desk>(
     ensures later { D.faults desk.old ≤ D.faults desk.new }
     ensures quiet { D.quiet desk.old → D.quiet desk.new × (D.faults desk.new ≡ D.faults desk.old) }
 {
-    find_causes(alloc, desk, asked, panel)
+    find_causes(alloc, desk, asked, &mut Panel::new(Vec::new(alloc)))
 }
 
 /// Judges a certificate of faults and common causes.
@@ -85,12 +78,7 @@ fn checked_causes<D: Desk>(alloc: Global, desk: &mut D, asked: &CheckCauses) -> 
 }
 
 /// Finds in which order two faults of a set come.
-fn orders<D: Desk>(
-    alloc: Global,
-    desk: &mut D,
-    asked: &FindOrders,
-    panel: &mut Panel,
-) -> Result<Status, Stop>
+fn orders<D: Desk>(alloc: Global, desk: &mut D, asked: &FindOrders) -> Result<Status, Stop>
     ensures done { (words : List Text) → Means words (seen (asks.Orders asked.now)) →
         HasDone (seen (asks.Orders asked.now)) result (D.files desk.old) (D.files desk.new) (D.said desk.old) (D.said desk.new) }
     ensures finished { IfOk result IsFinished }
@@ -104,7 +92,7 @@ fn orders<D: Desk>(
     ensures quiet { D.quiet desk.old → D.quiet desk.new × (D.faults desk.new ≡ D.faults desk.old) }
 {
     words_ask_pairs();
-    find_orders(alloc, desk, asked, panel)
+    find_orders(alloc, desk, asked, &mut Panel::new(Vec::new(alloc)))
 }
 
 /// Judges a certificate of such an order.
@@ -126,12 +114,7 @@ fn checked_orders<D: Desk>(alloc: Global, desk: &mut D, asked: &CheckOrders) -> 
 }
 
 /// Finds the minimal cut sets, and bounds their probabilities.
-fn odds<D: Desk>(
-    alloc: Global,
-    desk: &mut D,
-    asked: &FindOdds,
-    panel: &mut Panel,
-) -> Result<Status, Stop>
+fn odds<D: Desk>(alloc: Global, desk: &mut D, asked: &FindOdds) -> Result<Status, Stop>
     ensures done { HasDone (seen (asks.Odds asked.now)) result (D.files desk.old) (D.files desk.new) (D.said desk.old) (D.said desk.new) }
     ensures finished { IfOk result IsFinished }
     ensures refused { Refuses (seen (asks.Odds asked.now)) result (D.files desk.old) }
@@ -141,5 +124,5 @@ fn odds<D: Desk>(
     ensures later { D.faults desk.old ≤ D.faults desk.new }
     ensures quiet { D.quiet desk.old → D.quiet desk.new × (D.faults desk.new ≡ D.faults desk.old) }
 {
-    find_odds(alloc, desk, asked, panel)
+    find_odds(alloc, desk, asked, &mut Panel::new(Vec::new(alloc)))
 }
