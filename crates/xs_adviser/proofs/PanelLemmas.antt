@@ -4,18 +4,19 @@ use Rattle.std.specs.Prelude.{Option, remove, if◌then◌else◌, nat_lt}
 use Rattle.std.specs.Option.{option_map}
 use Rattle.std.proofs.lemmas.List.{map-set, get_or-map, length-map}
 use Rattle.std.proofs.Math.Seq.{map-set_same}
-use Rattle.xs_adviser.specs.Count.{risen, risen_at}
+use Rattle.xs_adviser.specs.Count.{risen_at}
 use Rattle.xs_adviser.specs.Drops.{Drops}
 use Rattle.xs_adviser.specs.Judges.{Stays, Judges}
 use Rattle.xs_adviser.specs.Room.{first_mapped, AreSomeReady}
+use Rattle.xs_value.specs.Counts.{next_count}
 
 -- the counts where the adviser x at place i has become y, which was told or asked once more
 pub counts_risen : {X : Type 0} (f : X → ℕ) (xs : List X) (i : ℕ) (x y : X)
-    → i < length xs → x ≡ slice_index_or xs i x → f y ≡ risen (f x)
+    → i < length xs → x ≡ slice_index_or xs i x → f y ≡ next_count (f x)
     → map f (slice_set xs i y) ≡ risen_at (map f xs) i
 counts_risen f xs i x y lt at e =
     let count : f x ≡ slice_index_or (map f xs) i 0 = ap f at ∙ sym (get_or-map f xs i x 0 lt) in
-    map-set f xs i y ∙ ap (λ n. slice_set (map f xs) i n) (e ∙ ap risen count)
+    map-set f xs i y ∙ ap (λ n. slice_set (map f xs) i n) (e ∙ ap next_count count)
 
 -- the meanings where the adviser x at place i has become y, and means the same
 pub counts_same : {X Y : Type 0} (f : X → Y) (xs : List X) (i : ℕ) (x y : X)

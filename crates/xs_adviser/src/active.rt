@@ -1,6 +1,6 @@
 //! An adviser that prefers what was learned lately. Contracts see its counts alone, so that nothing rests on what it answers.
 ghost use Rattle.std.specs.Prelude.{◌≡◌};
-ghost use Rattle.xs_adviser.specs.Count.{risen};
+ghost use Rattle.xs_value.specs.Counts.{next_count};
 
 use crate::adviser::Adviser;
 use std::alloc::Global;
@@ -83,7 +83,7 @@ impl Adviser for Active {
     }
 
     fn pick(&mut self) -> u64
-        ensures { self.new ≡ record self.old { asked = risen self.old.asked } }
+        ensures { self.new ≡ record self.old { asked = next_count self.old.asked } }
     {
         self.asked = self.asked.saturating_add(1);
         let len = self.codes.len();
@@ -100,7 +100,7 @@ impl Adviser for Active {
     }
 
     fn learned(&mut self, lits: &[Lit])
-        ensures { self.new ≡ record self.old { told = risen self.old.told } }
+        ensures { self.new ≡ record self.old { told = next_count self.old.told } }
     {
         for lit in lits {
             self.remember(lit.code());

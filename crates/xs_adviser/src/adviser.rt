@@ -4,7 +4,7 @@
 //! that. What it answers is any number.
 ghost use Rattle.std.specs.Prelude.{◌≡◌, ◌<◌, ◌^◌, OnOk, OnErr};
 ghost use Rattle.std.specs.Option.{option_map};
-ghost use Rattle.xs_adviser.specs.Count.{risen};
+ghost use Rattle.xs_value.specs.Counts.{next_count};
 
 use xs_lits::lit::Lit;
 use xs_value::OutOfMemory;
@@ -35,12 +35,12 @@ pub trait Adviser: Drop {
     /// any other number.
     fn pick(&mut self) -> u64
         ensures told { told self.new ≡ told self.old }
-        ensures asked { asked self.new ≡ risen (asked self.old) }
+        ensures asked { asked self.new ≡ next_count (asked self.old) }
         ensures room { room self.new ≡ room self.old };
 
     /// Hears the literals of a clause that the search learned.
     fn learned(&mut self, lits: &[Lit])
-        ensures told { told self.new ≡ risen (told self.old) }
+        ensures told { told self.new ≡ next_count (told self.old) }
         ensures asked { asked self.new ≡ asked self.old }
         ensures room { room self.new ≡ room self.old };
 

@@ -1,7 +1,7 @@
 //! An adviser that makes variables false in the order of their numbers, seen as an endless round of answers.
 ghost use Rattle.std.specs.Prelude.{◌≡◌, ◌-◌, ◌^◌, ◌<◌, [], length, min, IsOk};
-ghost use Rattle.xs_adviser.specs.Count.{risen};
 ghost use Rattle.xs_adviser.specs.Round.{answer_of, negations, place_after};
+ghost use Rattle.xs_value.specs.Counts.{next_count};
 
 use crate::adviser::Adviser;
 use crate::round::place_after;
@@ -67,7 +67,7 @@ impl Adviser for InOrder {
 
     fn pick(&mut self) -> u64
         ensures answer { result ≡ answer_of self.old }
-        ensures next { self.new ≡ record self.old { place = place_after self.old.place (length self.old.answers); asked = risen self.old.asked } }
+        ensures next { self.new ≡ record self.old { place = place_after self.old.place (length self.old.answers); asked = next_count self.old.asked } }
     {
         self.asked = self.asked.saturating_add(1);
         if self.vars == 0 {
@@ -79,7 +79,7 @@ impl Adviser for InOrder {
     }
 
     fn learned(&mut self, _lits: &[Lit])
-        ensures { self.new ≡ record self.old { told = risen self.old.told } }
+        ensures { self.new ≡ record self.old { told = next_count self.old.told } }
     {
         self.told = self.told.saturating_add(1);
     }

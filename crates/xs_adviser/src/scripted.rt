@@ -1,7 +1,7 @@
 //! An adviser that answers what it was given, seen as an endless round of answers.
 ghost use Rattle.std.specs.Prelude.{◌≡◌, IsOk, length};
-ghost use Rattle.xs_adviser.specs.Count.{risen};
 ghost use Rattle.xs_adviser.specs.Round.{answer_of, place_after};
+ghost use Rattle.xs_value.specs.Counts.{next_count};
 
 use crate::adviser::Adviser;
 use crate::round::place_after;
@@ -61,7 +61,7 @@ impl Adviser for Scripted {
 
     fn pick(&mut self) -> u64
         ensures answer { result ≡ answer_of self.old }
-        ensures next { self.new ≡ record self.old { place = place_after self.old.place (length self.old.answers); asked = risen self.old.asked } }
+        ensures next { self.new ≡ record self.old { place = place_after self.old.place (length self.old.answers); asked = next_count self.old.asked } }
     {
         self.asked = self.asked.saturating_add(1);
         if self.answers.is_empty() {
@@ -73,7 +73,7 @@ impl Adviser for Scripted {
     }
 
     fn learned(&mut self, _lits: &[Lit])
-        ensures { self.new ≡ record self.old { told = risen self.old.told } }
+        ensures { self.new ≡ record self.old { told = next_count self.old.told } }
     {
         self.told = self.told.saturating_add(1);
     }

@@ -20,7 +20,7 @@ use Rattle.xs_loading.specs.Cases.{Case, whole_of}
 use Rattle.xs_loading.specs.Loaded.{case_of}
 use Rattle.xs_loading.specs.LoadedEvents.{IsAnalysable}
 use Rattle.xs_loading.proofs.FlatLimits.{flat_typed}
-use Rattle.xs_loading.proofs.LoadedLaws.{same_counts, modes_of_faults}
+use Rattle.xs_loading.proofs.LoadedLaws.{same_counts}
 use Rattle.xs_loading.proofs.TopLaws.{have_models}
 
 module _ (p : ProgramTree) (l : LoadedCase) (word : Text) (tree : Tree FlatLeaf) (is : IsAnalysable p l word tree) where
@@ -36,7 +36,7 @@ module _ (p : ProgramTree) (l : LoadedCase) (word : Text) (tree : Tree FlatLeaf)
       let c : Case = the_case in
       let top = is.event.is_word.is_top in
       tops_of_extensions c.program top.flat c.instructions c.flat (have_models c is.loaded.is_case is.flat is.lawful is.event.top top) is.loaded.is_case.within.accepted c.faults c.modes
-      is.loaded.is_case.are_faults (modes_of_faults c.flat c.faults c.modes is.loaded.is_case.are_modes) is.event.top top.tree tree read_as
+      is.loaded.is_case.are_faults is.loaded.is_case.are_modes is.event.top top.tree tree read_as
 
   pub top_fits : IsTopOf (whole_of the_case) tree
   top_fits =

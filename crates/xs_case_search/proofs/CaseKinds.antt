@@ -1,9 +1,8 @@
 -- The flat model of a case breaks no rule of kinds, and its faults are modes whose variables have symbols.
 use Rattle.std.proofs.Common.{◌≡◌, ℕ, List, [], ◌∷◌, refl, ap, subst, ◌∙◌}
-use Rattle.xs_tree.specs.Trace.{Each}
+use Rattle.xs_tree.specs.Trace.{Each, EachBoth}
 use Rattle.xs_tree.specs.Flat.{FlatModel}
 use Rattle.xs_flat_laws.specs.History.{Mode}
-use Rattle.xs_flat_laws.specs.Model.{EachBoth}
 use Rattle.xs_flat_laws.specs.FlatTrace.{IsModeOf}
 use Rattle.xs_flat_laws.proofs.Lists.{each_more}
 use Rattle.xs_type_laws.specs.Judged.{KindRule, too_large}
@@ -17,10 +16,11 @@ use Rattle.xs_woven_laws.proofs.WovenLaws.{modes_symbols, modes_are_modes}
 use Rattle.xs_loading.specs.Models.{IsLawful}
 use Rattle.xs_loading.specs.declared.status.InputFault.{InputFault}
 use Rattle.xs_loading.specs.Wrongs.{kinds_fault}
-use Rattle.xs_loading.specs.Wholes.{IsModeOf as IsModeOfFault, IsWhole, BreaksKinds}
+use Rattle.xs_loading.specs.Wholes.{IsWhole, BreaksKinds}
 use Rattle.xs_loading.specs.Cases.{Case, extension_of, whole_of, IsCase}
 use Rattle.xs_loading.proofs.LimitLaws.{of_program, slice_modes, are_woven}
 use Rattle.xs_loading.proofs.FlatLimits.{flat_typed}
+use Rattle.xs_certificate_laws.specs.ExtendedTraces.{IsModeOfFault}
 
 pub record HasKinds (c : Case) : Type 0 where
   pub closed : IsClosed c.flat

@@ -17,7 +17,7 @@ use Rattle.xs_certificate_laws.specs.Certified.{IsCertified}
 use Rattle.xs_case_search.specs.Certifiable.{IsCompleteAnswer}
 use Rattle.xs_certificate_laws.specs.Subject.{subject_of}
 use Rattle.xs_case_search.specs.Texts.{text_lines}
-use Rattle.xs_report.specs.Told.{told_trace}
+use Rattle.xs_tree.specs.Told.{told_trace}
 use Rattle.xs_cuts.specs.declared.answer.Analysis.{Analysis as Searched}
 use Rattle.xs_cuts.specs.declared.answer.End.{End}
 use Rattle.xs_cuts.specs.declared.answer.End.TheVariants.{Complete, Bounded}

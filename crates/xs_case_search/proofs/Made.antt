@@ -30,7 +30,6 @@ use Rattle.xs_encode_laws.specs.Encodable.{IsEncodable}
 use Rattle.xs_encode_laws.proofs.EncodingLaws.{bad_states_encoded}
 use Rattle.xs_encode_laws.proofs.HistoryPlaces.{history_last}
 use Rattle.xs_cut_laws.specs.Found.{traces_of}
-use Rattle.xs_cut_laws.proofs.FoundLaws.{each_at}
 use Rattle.xs_cuts.specs.Answer.{IsEnd}
 use Rattle.xs_cuts.specs.Progress.{CodeFound}
 use Rattle.xs_cuts.specs.Values.{value_of, values_of, trace_of, all_found}
@@ -40,7 +39,7 @@ use Rattle.xs_cuts.proofs.SearchLemmas.{sets_same, sets_numbered}
 use Rattle.xs_text_laws.specs.Given.{GivesTrace}
 use Rattle.xs_text_laws.specs.TraceText.{trace_lines}
 use Rattle.xs_text_laws.proofs.Printed.{printed_gives_alone}
-use Rattle.xs_report.specs.Told.{told_value, told_moment, told_trace}
+use Rattle.xs_tree.specs.Told.{told_value, told_moment, told_trace}
 use Rattle.xs_certificate_laws.specs.Certificate.{Certificate, Part, part_first, part_next, part_bad, steps_in}
 use Rattle.xs_certificate_laws.specs.Accepted.{Subject, givens, goals}
 use Rattle.xs_certificate_laws.specs.CertificateText.{IsLiteral, IsSmall, IsWritableText, IsWritable}
@@ -59,10 +58,11 @@ use Rattle.xs_case_search.proofs.Places.{all_by_place, recursion_from_each, recu
 use Rattle.xs_flat_laws.proofs.HistoryLaws.{all_variables}
 use Rattle.xs_report_laws.proofs.Printed.{same_value, map_same as same_maps}
 use Rattle.xs_case_search.proofs.BadLists.{last_history as history_is_last}
-use Rattle.xs_type_laws.proofs.WrittenLaws.{get_map}
 use Rattle.xs_encode_laws.proofs.SetLaws.{each_kept}
+use Rattle.xs_flat_laws.proofs.Conditions.{each_at}
+use Rattle.xs_tree.proofs.ListLaws.{get_map}
 
-same_told : (symbols : List Text) (trace : List (List Value)) → told_trace symbols trace ≡ trace_of symbols trace
+pub same_told : (symbols : List Text) (trace : List (List Value)) → told_trace symbols trace ≡ trace_of symbols trace
 same_told symbols trace = same_maps (told_moment symbols) (values_of symbols) (λ v. same_maps (told_value symbols) (value_of symbols) (same_value symbols) v) trace
 
 traces_same : (symbols : List Text) (found : List CodeFound) → traces_of (all_found symbols found) ≡ map (trace_of symbols) (traces_of found)

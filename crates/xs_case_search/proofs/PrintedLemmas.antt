@@ -8,7 +8,7 @@ use Rattle.xs_text_laws.specs.Lines.{Line, IsLine}
 use Rattle.xs_text_laws.specs.TraceText.{trace_text}
 use Rattle.xs_text_laws.proofs.Printed.{printed_lines}
 use Rattle.xs_certificate_laws.specs.CertificateText.{IsWritableText}
-use Rattle.xs_report.specs.Told.{told_trace}
+use Rattle.xs_tree.specs.Told.{told_trace}
 use Rattle.xs_case_search.specs.Texts.{AreLinesIn, text_lines, CanBePrinted}
 use Rattle.xs_case_search.proofs.TextLemmas.{lines_are}
 

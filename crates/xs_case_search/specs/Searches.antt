@@ -9,7 +9,7 @@ use Rattle.xs_encode_laws.specs.Bits.{state_of, inputs_of}
 use Rattle.xs_encode_laws.specs.Encodable.{IsEncodable, IsFitTop}
 use Rattle.xs_encode_laws.specs.Lists.{system_of}
 use Rattle.xs_text_laws.specs.Given.{IsPrintable}
-use Rattle.xs_report.specs.Told.{told_trace}
+use Rattle.xs_tree.specs.Told.{told_trace}
 use Rattle.xs_cuts.specs.Answer.{IsAnswer}
 use Rattle.xs_cuts.specs.declared.answer.Analysis.{Analysis as Searched}
 use Rattle.xs_cuts.specs.declared.answer.End.{End}

@@ -9,7 +9,7 @@ use Rattle.xs_tree.specs.ModelTree.{model_tree}
 use Rattle.xs_text_laws.specs.Lines.{Line, fed, IsLine}
 use Rattle.xs_text_laws.specs.Given.{IsPrintable}
 use Rattle.xs_text_laws.specs.TraceText.{trace_lines}
-use Rattle.xs_report.specs.Told.{told_trace}
+use Rattle.xs_tree.specs.Told.{told_trace}
 
 -- the bytes are these lines, each with its line feed, and then some without
 pub record AreLinesIn (bytes : List ℕ) (lines : List Line) : Type 0 where

@@ -5,7 +5,7 @@ use Rattle.std.proofs.lemmas.List.{length-append}
 use Rattle.xs_tree.specs.Tree.{Tree}
 use Rattle.xs_tree.specs.Trace.{Each}
 use Rattle.xs_tree.specs.Flat.{FlatLeaf, flat_variable, flat_symbol, flat_definition, FlatVariable, FlatFormula, FlatModel}
-use Rattle.xs_flat_laws.proofs.Lists.{get_left, each_more}
+use Rattle.xs_flat_laws.proofs.Lists.{each_more}
 use Rattle.xs_flat_laws.proofs.Conditions.{each_join}
 use Rattle.xs_type_laws.specs.Declared.{judged_declared}
 use Rattle.xs_type_laws.specs.Models.{leaf_kind, judged_variables, judged_definitions, kind_of_leaf, judged_in, broken_condition, breaches_at, condition_breaches, breaches}
@@ -15,14 +15,15 @@ use Rattle.xs_encode_laws.proofs.HistoryTyped.{same_kind as same_kind_in, same_d
 use Rattle.xs_woven_laws.proofs.Rightly.{none_joined}
 use Rattle.xs_woven_laws.proofs.Items.{parts_of, none_broken}
 use Rattle.xs_cause_laws.specs.Added.{Addition, with_addition}
+use Rattle.xs_value.proofs.ListLaws.{get_left}
 
 -- more variables and symbols
-known_wider : (nv nw ns nt k : ℕ) → nv ≤ nw → ns ≤ nt → (l : FlatLeaf) → IsKnown nv ns k l → IsKnown nw nt k l
+pub known_wider : (nv nw ns nt k : ℕ) → nv ≤ nw → ns ≤ nt → (l : FlatLeaf) → IsKnown nv ns k l → IsKnown nw nt k l
 known_wider nv nw ns nt k h g (flat_variable i) known = omega (arith, h, known)
 known_wider nv nw ns nt k h g (flat_symbol i) known = omega (arith, g, known)
 known_wider nv nw ns nt k h g (flat_definition i) known = known
 
-order_wider : (nv nw ns nt k : ℕ) → nv ≤ nw → ns ≤ nt → (ds : List FlatFormula) → AreInOrder nv ns k ds → AreInOrder nw nt k ds
+pub order_wider : (nv nw ns nt k : ℕ) → nv ≤ nw → ns ≤ nt → (ds : List FlatFormula) → AreInOrder nv ns k ds → AreInOrder nw nt k ds
 order_wider nv nw ns nt k h g [] o = tt
 order_wider nv nw ns nt k h g (d ∷ ds) o =
     (all_leaves_more (IsKnown nv ns k) (IsKnown nw nt k) (known_wider nv nw ns nt k h g) d.value o.0, order_wider nv nw ns nt (suc k) h g ds o.1)

@@ -1,7 +1,6 @@
 -- Causes that are written with names of faults are read in one way.
 use Rattle.std.proofs.Common.{◌≡◌, ℕ, List, [], ◌∷◌, refl, sym, ◌∙◌}
 use Rattle.xs_tree.specs.ProgramTree.{Path, ProgramTree}
-use Rattle.xs_flat_laws.specs.Model.{EachBoth}
 use Rattle.xs_fei.specs.Instructions.{InstructionTree}
 use Rattle.xs_weave.specs.Faults.{Fault}
 use Rattle.xs_cause_laws.specs.Causes.{CommonCause}
@@ -9,6 +8,7 @@ use Rattle.xs_cause_laws.specs.CausesText.{WrittenCause}
 use Rattle.xs_cause_laws.specs.CauseRules.{IsStrikeOf, IsReadAs, AreReadAs}
 use Rattle.xs_cause_laws.specs.FaultNamesLaws.{AreFaultsOf, CausesReadAsOne}
 use Rattle.xs_cause_laws.proofs.Names.{names_mean_one}
+use Rattle.xs_tree.specs.Trace.{EachBoth}
 
 module _ (p : ProgramTree) (i : InstructionTree) (faults : List Fault) (are : AreFaultsOf p i faults) (w : ProgramTree) where
   one_strikes : (names : List Path) (is js : List ℕ) → EachBoth (IsStrikeOf faults w) names is → EachBoth (IsStrikeOf faults w) names js → is ≡ js

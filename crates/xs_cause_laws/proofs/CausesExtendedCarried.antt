@@ -1,5 +1,5 @@
 -- A flat caused trace corresponds to the caused trace that it is cut to.
-use Rattle.std.proofs.Common.{◌≡◌, ℕ, zero, suc, ◌+◌, ◌-◌, ◌≤◌, true, List, [], ◌∷◌, length, map, Option, Some, None, refl, ap, ◌∙◌, sym, subst, arith}
+use Rattle.std.proofs.Common.{◌≡◌, ℕ, ◌+◌, ◌-◌, ◌≤◌, true, List, length, map, Option, Some, None, refl, ap, ◌∙◌, sym, subst, arith}
 use Rattle.std.specs.Prelude.{slice_get, IsTrue, ◌↔◌}
 use Rattle.xs_tree.specs.Tree.{Tree}
 use Rattle.xs_tree.specs.ProgramTree.{Formula, ProgramTree}
@@ -30,21 +30,13 @@ use Rattle.xs_cause_laws.specs.CausesRightLaws.{Caused, IsCaused, IsShortCaused,
 use Rattle.xs_cause_laws.specs.CausedTraces.{CausedTrace, FaultStandsAt, IsCausedExtended, IsShortCausedExtended, CausedReachesTop, HasEvent}
 use Rattle.xs_cause_laws.specs.CausesExtendedLaws.{IsCausedCut, AllRightIsCausedExtended, ShortRightIsCausedExtended}
 use Rattle.xs_cause_laws.proofs.Alike.{AreAlike, caused_alike, happened_alike}
-use Rattle.xs_type_laws.proofs.WrittenLaws.{get_map as map_get}
-use Rattle.xs_type_laws.proofs.ClosedLaws.{same_length as both_count}
 use Rattle.xs_flat_laws.proofs.Variables.{both_at as both_left, both_at_second as both_right}
-
-pub get_mapped : {A B : Type 0} (h : A → B) (xs : List A) (k : ℕ) (y : B) → slice_get (map h xs) k ≡ Some y → (x : A) × (slice_get xs k ≡ Some x) × (h x ≡ y)
-get_mapped h [] k y e = cc
-get_mapped h (x ∷ xs) zero y e = (x, refl, same (h x) y e)
-  where
-    same : {B : Type 0} (a b : B) → Some a ≡ Some b → a ≡ b
-    same a b e = cc
-get_mapped h (x ∷ xs) (suc k) y e = get_mapped h xs k y e
+use Rattle.xs_tree.proofs.ListLaws.{get_mapped, get_map}
+use Rattle.xs_flat_laws.proofs.BothLaws.{both_size}
 
 module _ (p : ProgramTree) (i : InstructionTree) (faults : List Fault) (top : Formula) (m : FlatModel) (fs : List Mode) (flat_top : Tree FlatLeaf) (model : IsExtensionModel p i faults top m fs flat_top) where
   many : length faults ≡ length fs
-  many = both_count (IsModeOfFault m) faults fs model.modes
+  many = both_size (IsModeOfFault m) faults fs model.modes
 
   -- a mode stands at a moment of a flat trace exactly where its fault stands at that of its cut
   stand_alike : (vs : List Valuation) (trace : List Moment) → IsCut p i vs trace → AreAlike (length fs) (StandsAt m fs (map (values_by_number m) vs)) (FaultStandsAt faults trace)
@@ -66,7 +58,7 @@ module _ (p : ProgramTree) (i : InstructionTree) (faults : List Fault) (top : Fo
           let v : (v : Valuation) × (slice_get vs k ≡ Some v) × IsCutMoment p i v h.3.0 = both_right (IsCutMoment p i) vs trace k h.3.0 cut h.3.1 in
           let stands_now : stands m (mode_of fs n) (values_by_number m v.0) ≡ true =
           (stands_iff p i model.weavable m f (mode_of fs n) is (fault_of_slice p i faults top m fs flat_top model (n - 1) f at) v.0 h.3.0 v.2).1 (subst (λ (z : Fault). h.3.0.mode z.place z.slice ≡ Some z.mode) same h.3.2) in
-          ap (stands_there m (mode_of fs n)) (map_get (values_by_number m) vs k v.0 v.1) ∙ stands_now
+          ap (stands_there m (mode_of fs n)) (get_map (values_by_number m) vs k v.0 v.1) ∙ stands_now
         where
           inner : (a b : Fault) → Some a ≡ Some b → a ≡ b
           inner a b e = cc

@@ -13,31 +13,30 @@ use Rattle.xs_flat_laws.proofs.Reaches.{each_right}
 use Rattle.xs_flat_laws.proofs.KindLaws.{ItemFacts, among_split}
 use Rattle.xs_flat_laws.proofs.Places.{facts_named}
 use Rattle.xs_weave.specs.Faults.{instance_names_in, instance_names}
-use Rattle.xs_cause_laws.proofs.Differ.{Differ, pairs_right}
+use Rattle.xs_cause_laws.proofs.Differ.{Differ}
 use Rattle.xs_weave.proofs.WovenExamples.{texts_differ as differs}
-
-abbrev names_of : List Item → List Text
-names_of items = flat_map names_of_item items
+use Rattle.xs_flat_laws.proofs.Pairs.{pairs_right}
+use Rattle.xs_woven_laws.proofs.Headers.{names_in}
 
 -- a name that the items have not
 abbrev IsNew : List Item → Text → Type 0
-IsNew before x = is_among (names_of before) x ≡ false
+IsNew before x = is_among (names_in before) x ≡ false
 
 module _ (m : ModuleTree) where
   abbrev AreApart : List Item → List Text → Type 0
   AreApart before names = Differ names × Each (IsNew before) names
 
-  split : (before : List Item) (item : Item) (x : Text) → IsNew (before ++ item ∷ []) x → IsNew before x × (is_among (names_of (item ∷ [])) x ≡ false)
-  split before item x h = among_split (names_of before) (names_of (item ∷ [])) x (subst (λ ns. is_among ns x ≡ false) (flat_map-append names_of_item before (item ∷ [])) h)
+  split : (before : List Item) (item : Item) (x : Text) → IsNew (before ++ item ∷ []) x → IsNew before x × (is_among (names_in (item ∷ [])) x ≡ false)
+  split before item x h = among_split (names_in before) (names_in (item ∷ [])) x (subst (λ ns. is_among ns x ≡ false) (flat_map-append names_of_item before (item ∷ [])) h)
 
   more : (before : List Item) (item : Item) (names : List Text) → AreApart (before ++ item ∷ []) names → AreApart before names
   more before item names h = (h.0, each_more (IsNew (before ++ item ∷ [])) (IsNew before) names (λ x k. (split before item x k).0) h.1)
 
-  one_more : (before : List Item) (item : Item) (x : Text) (names : List Text) → ((y : Text) → is_among (names_of (item ∷ [])) y ≡ false → x ≢ y) →
-      is_among (m.formals ++ names_of before) x ≡ false → AreApart (before ++ item ∷ []) names → AreApart before (x ∷ names)
+  one_more : (before : List Item) (item : Item) (x : Text) (names : List Text) → ((y : Text) → is_among (names_in (item ∷ [])) y ≡ false → x ≢ y) →
+      is_among (m.formals ++ names_in before) x ≡ false → AreApart (before ++ item ∷ []) names → AreApart before (x ∷ names)
   one_more before item x names other fresh h = (
     (each_more (IsNew (before ++ item ∷ [])) (λ y. x ≢ y) names (λ y k. other y (split before item y k).1) h.1, h.0),
-    ((among_split m.formals (names_of before) x fresh).1, (more before item names h).1),
+    ((among_split m.formals (names_in before) x fresh).1, (more before item names h).1),
   )
 
   only : (x y : Text) → is_among (x ∷ []) y ≡ false → x ≢ y
@@ -47,16 +46,16 @@ module _ (m : ModuleTree) where
       go true t h = let bad : true ≡ false = rw t at h in cc
       go false t h = differs x y t
 
-  items_apart : (n : ℕ) (before items : List Item) → Each (ItemFacts m) (numbered_from n before items) → AreApart before (names_of items)
+  items_apart : (n : ℕ) (before items : List Item) → Each (ItemFacts m) (numbered_from n before items) → AreApart before (names_in items)
   items_apart n before [] h = (tt, tt)
   items_apart n before (a_declaration role d ∷ items) h =
-      one_more before (a_declaration role d) d.name (names_of items) (only d.name) h.0.fresh (items_apart (suc n) (before ++ a_declaration role d ∷ []) items h.1)
-  items_apart n before (a_definition d ∷ items) h = one_more before (a_definition d) d.name (names_of items) (only d.name) h.0.fresh (items_apart (suc n) (before ++ a_definition d ∷ []) items h.1)
-  items_apart n before (an_assignment a ∷ items) h = more before (an_assignment a) (names_of items) (items_apart (suc n) (before ++ an_assignment a ∷ []) items h.1)
-  items_apart n before (some_constants xs ∷ items) h = more before (some_constants xs) (names_of items) (items_apart (suc n) (before ++ some_constants xs ∷ []) items h.1)
-  items_apart n before (an_init e ∷ items) h = more before (an_init e) (names_of items) (items_apart (suc n) (before ++ an_init e ∷ []) items h.1)
-  items_apart n before (an_invar e ∷ items) h = more before (an_invar e) (names_of items) (items_apart (suc n) (before ++ an_invar e ∷ []) items h.1)
-  items_apart n before (a_trans e ∷ items) h = more before (a_trans e) (names_of items) (items_apart (suc n) (before ++ a_trans e ∷ []) items h.1)
+      one_more before (a_declaration role d) d.name (names_in items) (only d.name) h.0.fresh (items_apart (suc n) (before ++ a_declaration role d ∷ []) items h.1)
+  items_apart n before (a_definition d ∷ items) h = one_more before (a_definition d) d.name (names_in items) (only d.name) h.0.fresh (items_apart (suc n) (before ++ a_definition d ∷ []) items h.1)
+  items_apart n before (an_assignment a ∷ items) h = more before (an_assignment a) (names_in items) (items_apart (suc n) (before ++ an_assignment a ∷ []) items h.1)
+  items_apart n before (some_constants xs ∷ items) h = more before (some_constants xs) (names_in items) (items_apart (suc n) (before ++ some_constants xs ∷ []) items h.1)
+  items_apart n before (an_init e ∷ items) h = more before (an_init e) (names_in items) (items_apart (suc n) (before ++ an_init e ∷ []) items h.1)
+  items_apart n before (an_invar e ∷ items) h = more before (an_invar e) (names_in items) (items_apart (suc n) (before ++ an_invar e ∷ []) items h.1)
+  items_apart n before (a_trans e ∷ items) h = more before (a_trans e) (names_in items) (items_apart (suc n) (before ++ a_trans e ∷ []) items h.1)
 
 -- The names of instances are some of these, in their order.
 module _ (P : Text → Type 0) where
@@ -67,15 +66,15 @@ module _ (P : Text → Type 0) where
   each_named x (members ms) ns names h k = k
   each_named x (instance q actuals) ns names h k = (h, k)
 
-  each_in : (ds : List DeclTree) (items : List Item) (names : List Text) → (Each P (names_of items) → Each P names) → Each P (names_of (map (a_declaration state) ds ++ items)) →
+  each_in : (ds : List DeclTree) (items : List Item) (names : List Text) → (Each P (names_in items) → Each P names) → Each P (names_in (map (a_declaration state) ds ++ items)) →
       Each P (instance_names_in ds ++ names)
   each_in [] items names f h = f h
   each_in (d ∷ ds) items names f h = each_named d.name d.what (instance_names_in ds) names h.0 (each_in ds items names f h.1)
 
-  each_after : (items others : List Item) → Each P (names_of (items ++ others)) → Each P (names_of others)
-  each_after items others h = each_right P (names_of items) (names_of others) (subst (Each P) (flat_map-append names_of_item items others) h)
+  each_after : (items others : List Item) → Each P (names_in (items ++ others)) → Each P (names_in others)
+  each_after items others h = each_right P (names_in items) (names_in others) (subst (Each P) (flat_map-append names_of_item items others) h)
 
-  each_instance : (ss : List SectionTree) → Each P (names_of (flat_map items_of_section ss)) → Each P (instance_names ss)
+  each_instance : (ss : List SectionTree) → Each P (names_in (flat_map items_of_section ss)) → Each P (instance_names ss)
   each_instance [] h = tt
   each_instance (var ds ∷ ss) h = each_in ds (flat_map items_of_section ss) (instance_names ss) (each_instance ss) h
   each_instance (ivar ds ∷ ss) h = each_instance ss (each_after (items_of_section (ivar ds)) (flat_map items_of_section ss) h)
@@ -94,17 +93,17 @@ differ_named x (range lo hi) ns names h k = k
 differ_named x (members ms) ns names h k = k
 differ_named x (instance q actuals) ns names h k = (h, k)
 
-differ_in : (ds : List DeclTree) (ss : List SectionTree) → (Differ (names_of (flat_map items_of_section ss)) → Differ (instance_names ss)) →
-    Differ (names_of (map (a_declaration state) ds ++ flat_map items_of_section ss)) → Differ (instance_names_in ds ++ instance_names ss)
+differ_in : (ds : List DeclTree) (ss : List SectionTree) → (Differ (names_in (flat_map items_of_section ss)) → Differ (instance_names ss)) →
+    Differ (names_in (map (a_declaration state) ds ++ flat_map items_of_section ss)) → Differ (instance_names_in ds ++ instance_names ss)
 differ_in [] ss f h = f h
 differ_in (d ∷ ds) ss f h =
     differ_named d.name d.what (instance_names_in ds) (instance_names ss) (each_in (λ y. d.name ≢ y) ds (flat_map items_of_section ss) (instance_names ss) (each_instance (λ y. d.name ≢ y) ss) h.0)
     (differ_in ds ss f h.1)
 
-differ_after : (items others : List Item) → Differ (names_of (items ++ others)) → Differ (names_of others)
-differ_after items others h = pairs_right (λ x y. x ≢ y) (names_of items) (names_of others) (subst (λ ns. Differ ns) (flat_map-append names_of_item items others) h)
+differ_after : (items others : List Item) → Differ (names_in (items ++ others)) → Differ (names_in others)
+differ_after items others h = pairs_right (λ x y. x ≢ y) (names_in items) (names_in others) (subst (λ ns. Differ ns) (flat_map-append names_of_item items others) h)
 
-differ_instances : (ss : List SectionTree) → Differ (names_of (flat_map items_of_section ss)) → Differ (instance_names ss)
+differ_instances : (ss : List SectionTree) → Differ (names_in (flat_map items_of_section ss)) → Differ (instance_names ss)
 differ_instances [] h = tt
 differ_instances (var ds ∷ ss) h = differ_in ds ss (differ_instances ss) h
 differ_instances (ivar ds ∷ ss) h = differ_instances ss (differ_after (items_of_section (ivar ds)) (flat_map items_of_section ss) h)

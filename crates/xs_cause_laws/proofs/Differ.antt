@@ -1,43 +1,18 @@
 -- Lists of which any two members are judged, and those in which none stands twice.
-use Rattle.std.proofs.Common.{◌≡◌, ◌≢◌, ℕ, zero, suc, List, [], ◌∷◌, ◌++◌, map, Some, refl, ap}
+use Rattle.std.proofs.Common.{◌≡◌, ◌≢◌, ℕ, zero, suc, List, [], ◌∷◌, map, Some, refl, ap}
 use Rattle.std.specs.Prelude.{flat_map, slice_get}
 use Rattle.xs_tree.specs.Trace.{Each}
-use Rattle.xs_flat_laws.proofs.Reaches.{each_left, each_right}
 use Rattle.xs_flat_laws.proofs.Conditions.{each_join, each_at}
 use Rattle.xs_flat_laws.proofs.Lists.{each_more, each_of_map, each_map}
-
--- each member with each later one
-abbrev pub Pairwise : {A : Type 0} → (A → A → Type 0) → List A → Type 0
-Pairwise R [] = Unit {0}
-Pairwise R (x ∷ xs) = Each (R x) xs × Pairwise R xs
+use Rattle.xs_flat_laws.proofs.Pairs.{Pairwise, pairs_join, across_kinds}
 
 -- no member stands twice
 abbrev pub Differ : {A : Type 0} → List A → Type 0
 Differ xs = Pairwise (λ x y. x ≢ y) xs
 
--- each of the first with each of the second
-abbrev pub Across : {A : Type 0} → (A → A → Type 0) → List A → List A → Type 0
-Across R xs ys = Each (λ x. Each (R x) ys) xs
-
 pub each_all : {A : Type 0} (P : A → Type 0) (xs : List A) → ((x : A) → P x) → Each P xs
 each_all P [] f = tt
 each_all P (x ∷ xs) f = (f x, each_all P xs f)
-
-pub pairs_join : {A : Type 0} (R : A → A → Type 0) (xs ys : List A) → Pairwise R xs → Pairwise R ys → Across R xs ys → Pairwise R (xs ++ ys)
-pairs_join R [] ys h k c = k
-pairs_join R (x ∷ xs) ys h k c = (each_join (R x) xs ys h.0 c.0, pairs_join R xs ys h.1 k c.1)
-
-pub pairs_left : {A : Type 0} (R : A → A → Type 0) (xs ys : List A) → Pairwise R (xs ++ ys) → Pairwise R xs
-pairs_left R [] ys h = tt
-pairs_left R (x ∷ xs) ys h = (each_left (R x) xs ys h.0, pairs_left R xs ys h.1)
-
-pub pairs_right : {A : Type 0} (R : A → A → Type 0) (xs ys : List A) → Pairwise R (xs ++ ys) → Pairwise R ys
-pairs_right R [] ys h = h
-pairs_right R (x ∷ xs) ys h = pairs_right R xs ys h.1
-
-pub pairs_across : {A : Type 0} (R : A → A → Type 0) (xs ys : List A) → Pairwise R (xs ++ ys) → Across R xs ys
-pairs_across R [] ys h = tt
-pairs_across R (x ∷ xs) ys h = (each_right (R x) xs ys h.0, pairs_across R xs ys h.1)
 
 pub pairs_map : {A B : Type 0} (R : A → A → Type 0) (S : B → B → Type 0) (f : A → B) → ((a b : A) → R a b → S (f a) (f b)) → (xs : List A) → Pairwise R xs → Pairwise S (map f xs)
 pairs_map R S f g [] h = tt
@@ -46,11 +21,6 @@ pairs_map R S f g (x ∷ xs) h = (each_map (S (f x)) f xs (each_more (R x) (λ y
 pub pairs_of_map : {A B : Type 0} (S : B → B → Type 0) (f : A → B) (xs : List A) → Pairwise S (map f xs) → Pairwise (λ a b. S (f a) (f b)) xs
 pairs_of_map S f [] h = tt
 pairs_of_map S f (x ∷ xs) h = (each_of_map (S (f x)) f xs h.0, pairs_of_map S f xs h.1)
-
--- each of one kind with each of another
-pub across_kinds : {A : Type 0} (P Q : A → Type 0) (R : A → A → Type 0) → ((x y : A) → P x → Q y → R x y) → (xs ys : List A) → Each P xs → Each Q ys → Across R xs ys
-across_kinds P Q R f [] ys h k = tt
-across_kinds P Q R f (x ∷ xs) ys h k = (each_more Q (R x) ys (λ y q. f x y h.0 q) k, across_kinds P Q R f xs ys h.1 k)
 
 -- lists of each member of a list, put together: none stands twice where none does in one of them, and where those
 -- of two members are others

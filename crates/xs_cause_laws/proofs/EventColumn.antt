@@ -9,7 +9,6 @@ use Rattle.xs_tree.specs.Texts.{same_text}
 use Rattle.xs_tree.specs.Evaluate.{gives_choice, gives_applied, gives_either}
 use Rattle.xs_tree.specs.Trace.{in_domain}
 use Rattle.xs_tree.specs.Flat.{FlatModel, FlatVariable, one_of, symbol_of, Holds}
-use Rattle.xs_flat_laws.proofs.Lists.{get_left}
 use Rattle.xs_flat_laws.proofs.Conditions.{MayBe, same_text_same}
 use Rattle.xs_cause_laws.specs.Added.{Addition, with_addition}
 use Rattle.xs_cause_laws.proofs.AddedReadings.{within_any, get_last}
@@ -18,6 +17,7 @@ use Rattle.xs_cause_laws.specs.Causes.{CommonCause}
 use Rattle.xs_cause_laws.specs.Staged.{event_name, quiet_name, now_name, added_variable, event_at_each}
 use Rattle.xs_cause_laws.specs.Told.{age_at, age_value, event_value}
 use Rattle.xs_cause_laws.proofs.Formulas.{only_one, with_only, get_two}
+use Rattle.xs_value.proofs.ListLaws.{get_left}
 
 module _ (m : FlatModel) (c : CommonCause) (age : ℕ) (time : Option ℕ) (K : ℕ → List Value → Type 0) (sized : (k : ℕ) (v : List Value) → K k v → length v ≡ length m.variables)
     (read : (k : ℕ) (v : List Value) → K k v → slice_get v age ≡ Some (age_value c time k)) where

@@ -7,7 +7,6 @@ use Rattle.xs_tree.specs.Texts.{same_text}
 use Rattle.xs_tree.specs.Flat.{FlatModel}
 use Rattle.xs_flat_laws.specs.FlatTrace.{is_symbol_value, stands, stands_in_some}
 use Rattle.xs_flat_laws.specs.History.{Mode}
-use Rattle.xs_flat_laws.proofs.Lists.{get_left}
 use Rattle.xs_encode_laws.specs.FlatTraces.{HasFailedNumber}
 use Rattle.xs_right_laws.specs.Sets.{has_number}
 use Rattle.xs_cause_laws.proofs.Columns.{EachFrom, each_from_more}
@@ -26,13 +25,14 @@ use Rattle.std.proofs.lemmas.Bool.{and_from as and_both}
 use Rattle.std.proofs.lemmas.Option.{same_Some as same_some, slice_get_within as within_of}
 use Rattle.xs_flat_laws.proofs.Conditions.{same_text_same}
 use Rattle.std.proofs.lemmas.Bool.{and_parts}
+use Rattle.xs_value.proofs.ListLaws.{get_left}
 
 -- The symbols tell the test.
 self_tells : (i : ℕ) (t : Bool) → same_text (cond t (self_name i) (none_name i)) (self_name i) ≡ t
 self_tells i true = same_text_same (self_name i)
 self_tells i false = refl
 
-after_name : (x a b : Text) → same_text (x ++ a) (x ++ b) ≡ same_text a b
+pub after_name : (x a b : Text) → same_text (x ++ a) (x ++ b) ≡ same_text a b
 after_name [] a b = refl
 after_name (c ∷ x) a b = rw (eq-eqb c c refl) (after_name x a b)
 

@@ -8,9 +8,10 @@ use Rattle.xs_cause_laws.specs.Causes.{CommonCause}
 use Rattle.xs_cause_laws.specs.CausesText.{WrittenCause}
 use Rattle.xs_cause_laws.specs.CauseRules.{fault_path, CauseRule, no_such_fault, double_cause, AllKept, AreReadAs}
 use Rattle.xs_cause_laws.specs.FaultNamesLaws.{EventNamesDiffer}
-use Rattle.xs_cause_laws.proofs.Differ.{Pairwise, Differ, each_all, pairs_join, pairs_map, across_kinds, one_place}
+use Rattle.xs_cause_laws.proofs.Differ.{Differ, each_all, pairs_map, one_place}
 use Rattle.xs_cause_laws.proofs.NewNames.{AreNew, new_differ}
 use Rattle.xs_cause_laws.proofs.Names.{turned, paths_differ}
+use Rattle.xs_flat_laws.proofs.Pairs.{Pairwise, pairs_join, across_kinds}
 
 abbrev written_name : WrittenCause → Text
 written_name c = c.name

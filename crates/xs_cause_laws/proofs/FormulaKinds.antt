@@ -1,5 +1,5 @@
 -- The formulas of the staged model break no rule of kinds.
-use Rattle.std.proofs.Common.{◌≡◌, ℕ, suc, ◌+◌, ◌<◌, ◌≤◌, Bool, true, false, cond, int_lt, le-ltb, List, [], ◌∷◌, ◌++◌, length, Some, ℤ, pos, ◌+ℤ◌, refl, ◌∙◌, ap, arith}
+use Rattle.std.proofs.Common.{◌≡◌, ℕ, suc, ◌+◌, ◌<◌, ◌≤◌, Bool, true, false, cond, int_lt, le-ltb, List, [], ◌∷◌, ◌++◌, length, Some, pos, ◌+ℤ◌, refl, ◌∙◌, ap, arith}
 use Rattle.std.proofs.lemmas.Int.{ints}
 use Rattle.std.specs.Prelude.{not}
 use Rattle.xs_tree.specs.declared.expr.Op.TheVariants as op
@@ -12,11 +12,11 @@ use Rattle.xs_type_laws.specs.Judged.{truth_class, number_class, symbol_class, K
 use Rattle.xs_type_laws.specs.Declared.{judged_declared}
 use Rattle.xs_type_laws.specs.Models.{judged_in}
 use Rattle.xs_woven_laws.proofs.Rightly.{Rightly, choice_alone}
-use Rattle.xs_woven_laws.proofs.Numbers.{numbers_in, numbers_right, sum_judged}
+use Rattle.xs_woven_laws.proofs.Numbers.{numbers_in, numbers_right, sum_judged, both_fit}
 use Rattle.xs_cause_laws.specs.Causes.{CommonCause}
 use Rattle.xs_cause_laws.specs.Staged.{value_of, whole, only, zero_or_one, in_window, age_at_first, age_at_step, event_at_each, windows_on, joined_after, joined, own_at_first, own_at_step}
 use Rattle.xs_cause_laws.proofs.AddedKinds.{IsRightFormula}
-use Rattle.xs_cause_laws.proofs.RightTrees.{fits_small, both_fit, HasType, IsRightTree, as_formula, variable_kind, variable_right, symbol_right, literal, number_right, not_tree, next_tree, and_tree, or_tree, least_tree, most_tree, equal_tree, within_tree, choice_tree, only_tree, two_numbers_tree}
+use Rattle.xs_cause_laws.proofs.RightTrees.{fits_small, HasType, IsRightTree, as_formula, variable_kind, variable_right, symbol_right, literal, number_right, not_tree, next_tree, and_tree, or_tree, least_tree, most_tree, equal_tree, within_tree, choice_tree, only_tree, two_numbers_tree}
 
 -- numbers from 0 on
 abbrev from_zero : ℕ → Interval

@@ -16,8 +16,8 @@ use Rattle.xs_cause_laws.specs.Causes.{CommonCause}
 use Rattle.xs_cause_laws.specs.Staged.{in_window, stands_of, mode_of, windows_on, joined_after, joined}
 use Rattle.xs_cause_laws.specs.Told.{age_at, age_value, is_in_window, is_covered}
 use Rattle.xs_cause_laws.proofs.Ages.{window_by_age}
-use Rattle.xs_flat_laws.proofs.HistoryTraces.{or_false, applied_or as gives_or}
-use Rattle.xs_weave_rules.proofs.KeyedLaws.{or_assoc}
+use Rattle.xs_flat_laws.proofs.HistoryTraces.{applied_or as gives_or}
+use Rattle.xs_tree.proofs.BoolLaws.{or_false, or_assoc}
 
 -- a window gives whether the moment lies in it
 pub window_gives : (f g : Leaves FlatLeaf) (c : CommonCause) → c.from ≤ c.to → (age : ℕ) (time : Option ℕ) (k : ℕ) → f (flat_variable age) ≡ Some (one (age_value c time k)) →

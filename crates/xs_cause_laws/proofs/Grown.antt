@@ -15,7 +15,7 @@ use Rattle.xs_flat_laws.proofs.Conditions.{MayBe}
 use Rattle.xs_cause_laws.specs.Added.{Addition, with_addition, KnowsNames, IsKnownName, beside}
 use Rattle.xs_cause_laws.specs.Columns.{with_values, with_value}
 use Rattle.xs_cause_laws.proofs.Longer.{hold_longer, same_longer}
-use Rattle.xs_flat_laws.proofs.HistoryTraces.{domains_length}
+use Rattle.xs_flat_laws.proofs.HistoryTraces.{domains_length, joined}
 
 -- the model has more symbols after those of the other, and the same definitions
 pub record HasGrown (m made : FlatModel) : Type 0 where
@@ -37,9 +37,6 @@ pub record IsLonger (trace long : List (List Value)) : Type 0 where
   pub more : List (List Value)
   pub one_each : length more ≡ length trace
   pub is : long ≡ beside trace more
-
-pub joined : (u v : List Value) (us vs : List (List Value)) → u ≡ v → us ≡ vs → (u ∷ us) ≡ (v ∷ vs)
-joined u v us vs e g = cc
 
 pub not_longer : (trace : List (List Value)) → IsLonger trace trace
 not_longer [] = record { more = []; one_each = refl; is = refl }

@@ -9,7 +9,6 @@ use Rattle.xs_tree.specs.Evaluate.{evaluate, gives_applied}
 use Rattle.xs_tree.specs.Trace.{Each}
 use Rattle.xs_tree.specs.Flat.{FlatModel, FlatVariable, one_of, symbol_of, leaves_at, Holds}
 use Rattle.xs_flat_laws.specs.History.{Mode}
-use Rattle.xs_flat_laws.proofs.Lists.{get_left}
 use Rattle.xs_flat_laws.proofs.Conditions.{MayBe, may_one}
 use Rattle.xs_cause_laws.specs.Added.{Addition, with_addition}
 use Rattle.xs_cause_laws.specs.Columns.{with_values}
@@ -21,6 +20,7 @@ use Rattle.xs_cause_laws.specs.Told.{age_at, age_value, hit_value, is_in_window,
 use Rattle.xs_cause_laws.proofs.Ages.{hit_first, hit_next}
 use Rattle.xs_cause_laws.proofs.Formulas.{window_gives, stands_gives}
 use Rattle.xs_flat_laws.proofs.HistoryTraces.{within_one, applied_or as gives_or}
+use Rattle.xs_value.proofs.ListLaws.{get_left}
 
 -- the mode's variable has a symbol, which tells whether the fault stands at the moment
 pub record ReadsMode (fs : List Mode) (i : ℕ) (wanted : Text) (stands : ℕ → ℕ → Bool) (k : ℕ) (v : List Value) : Type 0 where

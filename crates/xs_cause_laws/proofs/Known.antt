@@ -6,13 +6,13 @@ use Rattle.xs_tree.specs.ProgramTree.{Text}
 use Rattle.xs_tree.specs.Values.{Value, symbol}
 use Rattle.xs_tree.specs.Flat.{FlatModel}
 use Rattle.xs_flat_laws.specs.History.{Mode}
-use Rattle.xs_flat_laws.proofs.Lists.{get_left}
 use Rattle.xs_cause_laws.specs.Added.{Addition, with_addition, KnowsNames}
 use Rattle.xs_cause_laws.specs.Columns.{with_value}
 use Rattle.xs_cause_laws.proofs.Columns.{EachFrom, grown}
 use Rattle.xs_cause_laws.proofs.AddedKnown.{AddsKnown, knows_added}
 use Rattle.xs_cause_laws.specs.Staged.{mode_of}
 use Rattle.xs_cause_laws.proofs.HitColumn.{ReadsMode}
+use Rattle.xs_value.proofs.ListLaws.{get_left}
 
 -- the model knows its names, and the modes have variables and symbols of it
 pub record IsReady (fs : List Mode) (wanted : ℕ → Text) (m : FlatModel) : Type 0 where

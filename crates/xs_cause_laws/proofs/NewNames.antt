@@ -8,8 +8,8 @@ use Rattle.xs_flat_laws.proofs.Lists.{each_more}
 use Rattle.xs_fei.specs.Weavable.{Among}
 use Rattle.xs_weave_rules.proofs.ProgramNames.{any_false}
 use Rattle.xs_weave_rules.proofs.KeptItems.{among_left, among_right}
-use Rattle.xs_cause_laws.proofs.Differ.{Pairwise}
 use Rattle.xs_weave.proofs.WovenExamples.{texts_differ as differs}
+use Rattle.xs_flat_laws.proofs.Pairs.{Pairwise}
 
 -- each has a name that none before it has
 abbrev pub AreNew : {A : Type 0} → (A → Text) → List A → List A → Type 0

@@ -9,7 +9,6 @@ use Rattle.xs_tree.specs.Trace.{Each}
 use Rattle.xs_tree.specs.Flat.{FlatModel, FlatVariable}
 use Rattle.xs_flat_laws.specs.FlatTrace.{IsFlatTrace}
 use Rattle.xs_flat_laws.specs.History.{Mode}
-use Rattle.xs_flat_laws.proofs.Lists.{get_left}
 use Rattle.xs_cause_laws.specs.Added.{Addition, beside, AreAdded}
 use Rattle.xs_cause_laws.specs.Columns.{with_value}
 use Rattle.xs_cause_laws.proofs.Traces.{taken_apart}
@@ -25,6 +24,7 @@ use Rattle.xs_cause_laws.proofs.EventColumn.{event_forced, event_fits}
 use Rattle.xs_cause_laws.proofs.Known.{IsReady, ready_added, Lasting, Knows, reads_longer, known_value}
 use Rattle.xs_cause_laws.proofs.Hits.{Landed, HitsTold, hits_ready, hits_count, hits_symbols, hits_forward, hits_backward, hits_known, hits_length}
 use Rattle.xs_cause_laws.proofs.Occurrence.{to_occurs, from_occurs}
+use Rattle.xs_value.proofs.ListLaws.{get_left}
 
 -- the age of the cause is known beside the rest
 abbrev pub WithAge : CommonCause → Option ℕ → ℕ → (ℕ → List Value → Type 0) → ℕ → List Value → Type 0

@@ -1,8 +1,7 @@
 -- What is told of two caused traces is the same only where they are.
 use Rattle.std.proofs.Common.{◌≡◌, ℕ, zero, suc, ◌+◌, ◌<◌, Bool, List, [], ◌∷◌, ◌++◌, length, Option, Some, None, refl, ap, ◌∙◌, sym, subst, arith}
-use Rattle.std.specs.Prelude.{pos}
 use Rattle.xs_tree.specs.ProgramTree.{Text}
-use Rattle.xs_tree.specs.Values.{Value, number}
+use Rattle.xs_tree.specs.Values.{Value}
 use Rattle.xs_tree.specs.Trace.{Each}
 use Rattle.xs_tree.specs.Flat.{FlatModel}
 use Rattle.xs_flat_laws.specs.History.{Mode}
@@ -15,7 +14,8 @@ use Rattle.xs_cause_laws.proofs.Ages.{age_at_moment}
 use Rattle.xs_cause_laws.proofs.EachCause.{causes_length}
 use Rattle.xs_cause_laws.proofs.OneCause.{cause_length}
 use Rattle.xs_cause_laws.proofs.StagedTraces.{wanted}
-use Rattle.xs_cause_laws.proofs.Grown.{joined}
+use Rattle.xs_flat_laws.proofs.HistoryTraces.{joined}
+use Rattle.xs_text_laws.proofs.FlatNames.{same_number}
 
 -- lists that end alike
 snoc_front : (v w : List Value) (a b : Value) → (v ++ a ∷ []) ≡ (w ++ b ∷ []) → (v ≡ w) × (a ≡ b)
@@ -86,23 +86,20 @@ hits_from s s' c time other [] vs ws e = e
 hits_from s s' c time other (i ∷ is) vs ws e =
     (value_from (hit_value s c time i) (hit_value s' c other i) vs ws (hits_from s s' c time other is (with_value (hit_value s c time i) vs) (with_value (hit_value s' c other i) ws) e)).0
 
-same_age : (a b : ℕ) → number (pos a) ≡ number (pos b) → a ≡ b
-same_age a b e = cc
-
 -- ages at all moments tell the moment of the cause
 same_time : (c : CommonCause) (total : ℕ) (S S' : ℕ → ℕ → Type 0) (time other : Option ℕ) → Occurs total S c time → Occurs total S' c other → ((j : ℕ) → j < total → age_value c time j ≡ age_value c other j) → time ≡ other
 same_time c total S S' None None h g e = refl
 same_time c total S S' None (Some t) h g e =
     let one : age_at c (Some t) t ≡ 1 = (age_at_moment c t t).1 refl in
-    let zero_there : 0 ≡ age_at c (Some t) t = same_age 0 (age_at c (Some t) t) (e t g.0) in
+    let zero_there : 0 ≡ age_at c (Some t) t = same_number 0 (age_at c (Some t) t) (e t g.0) in
     absurd (omega (arith, zero_there ∙ one))
 same_time c total S S' (Some t) None h g e =
     let one : age_at c (Some t) t ≡ 1 = (age_at_moment c t t).1 refl in
-    let zero_there : age_at c (Some t) t ≡ 0 = same_age (age_at c (Some t) t) 0 (e t h.0) in
+    let zero_there : age_at c (Some t) t ≡ 0 = same_number (age_at c (Some t) t) 0 (e t h.0) in
     absurd (omega (arith, sym zero_there ∙ one))
 same_time c total S S' (Some t) (Some u) h g e =
     let one : age_at c (Some t) t ≡ 1 = (age_at_moment c t t).1 refl in
-    let both : age_at c (Some t) t ≡ age_at c (Some u) t = same_age (age_at c (Some t) t) (age_at c (Some u) t) (e t h.0) in
+    let both : age_at c (Some t) t ≡ age_at c (Some u) t = same_number (age_at c (Some t) t) (age_at c (Some u) t) (e t h.0) in
     ap Some (sym ((age_at_moment c u t).0 (sym both ∙ one)))
 
 cause_from : (s s' : ℕ → ℕ → Bool) (c : CommonCause) (total : ℕ) (S S' : ℕ → ℕ → Type 0) (time other : Option ℕ) (vs ws : List (List Value)) → length vs ≡ total → Occurs total S c time → Occurs total S' c other →

@@ -11,7 +11,6 @@ use Rattle.xs_tree.specs.Evaluate.{evaluate, gives_choice, gives_applied, gives_
 use Rattle.xs_tree.specs.Trace.{in_domain}
 use Rattle.xs_tree.specs.Flat.{FlatLeaf, FlatModel, FlatVariable, one_of, symbol_of, leaves_at, Holds}
 use Rattle.xs_flat_laws.specs.History.{Mode}
-use Rattle.xs_flat_laws.proofs.Lists.{get_left}
 use Rattle.xs_flat_laws.proofs.Conditions.{MayBe, same_text_same}
 use Rattle.xs_cause_laws.specs.Added.{Addition, with_addition}
 use Rattle.xs_cause_laws.proofs.AddedReadings.{within_any, gives_and, gives_opposite, get_last}
@@ -21,6 +20,7 @@ use Rattle.xs_cause_laws.specs.Staged.{own_name, none_name, self_name, added_var
 use Rattle.xs_cause_laws.specs.Told.{age_value, own_value, begins, is_covered}
 use Rattle.xs_cause_laws.proofs.Formulas.{AgesRead, covered_gives, stands_gives, only_one, with_only, get_two}
 use Rattle.xs_cause_laws.proofs.HitColumn.{ReadsMode}
+use Rattle.xs_value.proofs.ListLaws.{get_left}
 
 -- the ages of causes in a valuation
 abbrev pub AgesAt : List Value → List CommonCause → List (Option ℕ) → List ℕ → ℕ → Type 0

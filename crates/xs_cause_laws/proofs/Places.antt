@@ -9,8 +9,9 @@ use Rattle.xs_flat_laws.proofs.Conditions.{each_join}
 use Rattle.xs_flat_laws.proofs.Apart.{Under, not_inside, same_length_ends as one_name, places_joined as joined_again}
 use Rattle.xs_weave.specs.Faults.{instance_names, joined, each_joined, below, instances_in, HasInstances}
 use Rattle.xs_weave_rules.proofs.KeptFacts.{instance_found}
-use Rattle.xs_cause_laws.proofs.Differ.{Differ, pairs_join, across_kinds}
+use Rattle.xs_cause_laws.proofs.Differ.{Differ}
 use Rattle.xs_cause_laws.proofs.Declared.{declared_differ}
+use Rattle.xs_flat_laws.proofs.Pairs.{pairs_join, across_kinds}
 
 -- two lists that were joined
 record AreParts (a b : Option (List Place)) (places : List Place) : Type 0 where

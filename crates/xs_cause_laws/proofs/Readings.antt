@@ -7,7 +7,6 @@ use Rattle.xs_tree.specs.Values.{Value}
 use Rattle.xs_tree.specs.Trace.{Each}
 use Rattle.xs_tree.specs.Flat.{FlatModel}
 use Rattle.xs_flat_laws.specs.History.{Mode}
-use Rattle.xs_flat_laws.proofs.Lists.{get_left}
 use Rattle.xs_cause_laws.specs.Columns.{with_value}
 use Rattle.xs_cause_laws.proofs.AddedReadings.{get_last}
 use Rattle.xs_cause_laws.proofs.Columns.{EachFrom, grown, with_values_length}
@@ -17,6 +16,7 @@ use Rattle.xs_cause_laws.specs.Staged.{quiet_name, now_name, none_name, self_nam
 use Rattle.xs_cause_laws.specs.Told.{age_value, event_value, hit_value, own_value, hits_told, cause_told, causes_told, owns_told}
 use Rattle.xs_cause_laws.proofs.Formulas.{get_two}
 use Rattle.xs_cause_laws.proofs.OneCause.{cause_symbols}
+use Rattle.xs_value.proofs.ListLaws.{get_left}
 
 -- the variable has the values, moment by moment; and valuations have so many values
 abbrev pub ReadsAt : ℕ → (ℕ → Value) → List (List Value) → Type 0

@@ -1,5 +1,5 @@
 -- Expressions of a model that name what it has, break no rule, and have a class.
-use Rattle.std.proofs.Common.{◌≡◌, ℕ, ◌<◌, ◌≤◌, ◌^◌, Bool, true, false, lt-ltb, [], ◌∷◌, ◌++◌, length, Some, ℤ, pos, refl, ◌∙◌, ap, arith}
+use Rattle.std.proofs.Common.{◌≡◌, ℕ, ◌<◌, ◌≤◌, ◌^◌, Bool, true, false, lt-ltb, [], ◌∷◌, ◌++◌, length, Some, pos, refl, ◌∙◌, ap, arith}
 use Rattle.std.specs.Prelude.{slice_get, flat_map, not, ◌||◌}
 use Rattle.std.proofs.lemmas.Option.{slice_get_within as within_of}
 use Rattle.xs_tree.specs.declared.expr.Op.TheVariants as op
@@ -9,7 +9,7 @@ use Rattle.xs_tree.specs.ProgramTree.{Text, DeclaredTree, members}
 use Rattle.xs_tree.specs.Texts.{same_text}
 use Rattle.xs_tree.specs.Flat.{FlatLeaf, flat_variable, flat_symbol, FlatVariable, FlatModel}
 use Rattle.xs_flat_laws.specs.History.{Mode, added, stands_now}
-use Rattle.xs_type_laws.specs.Intervals.{just, fits_number, fits}
+use Rattle.xs_type_laws.specs.Intervals.{just, fits_number}
 use Rattle.xs_type_laws.specs.Judged.{Class, truth_class, number_class, symbol_class, Kind, too_wide, mixed_enum, double_member, rule_if, wide, one_value, unlike_first, hull_of, Judged}
 use Rattle.xs_type_laws.specs.Declared.{member_kind, judged_declared}
 use Rattle.xs_type_laws.specs.Models.{kind_at, kind_of_leaf, judged_in}
@@ -17,7 +17,7 @@ use Rattle.xs_type_laws.specs.Laws.{ReadsOwn}
 use Rattle.xs_encode_laws.proofs.HistoryTyped.{got_judged}
 use Rattle.xs_woven_laws.specs.Modes.{HasSymbols}
 use Rattle.xs_woven_laws.proofs.Rightly.{Rightly, condition_right, not_right, connective_right, order_right, same_right, choice_right, set_right}
-use Rattle.xs_woven_laws.proofs.Numbers.{numbers_in}
+use Rattle.xs_woven_laws.proofs.Numbers.{numbers_in, both_fit}
 use Rattle.xs_cause_laws.specs.Staged.{value_of, whole, only, zero_or_one}
 use Rattle.xs_cause_laws.proofs.AddedKinds.{IsRightFormula, Grows}
 
@@ -26,9 +26,6 @@ use Rattle.xs_cause_laws.proofs.AddedKinds.{IsRightFormula, Grows}
 -- a number up to 200 is one of a signed word
 pub fits_small : (n : ℕ) → n ≤ 200 → fits_number (pos n) ≡ true
 fits_small n h = let below : n < 2 ^ 31 = omega (arith, h) in lt-ltb n (2 ^ 31) below
-
-pub both_fit : (lo hi : ℤ) → fits_number lo ≡ true → fits_number hi ≡ true → fits (record { lo = lo; hi = hi }) ≡ true
-both_fit lo hi e f = rw (e, f) refl
 
 -- a type of two different symbols breaks no rule
 pub two_symbols_right : (x y : Text) → same_text x y ≡ false → (judged_declared (members (member.Symbol x ∷ member.Symbol y ∷ []))).broken ≡ []

@@ -13,11 +13,10 @@ use Rattle.xs_weave_rules.specs.Rules.{broken_at}
 use Rattle.xs_weave_rules.specs.FirstBroken.{AllKept}
 use Rattle.xs_weave_rules.proofs.KeptItems.{all_slices, AreKeptSlices, extensions_kept}
 use Rattle.xs_weave_rules.proofs.KeptFacts.{slice_facts, mode_facts}
-use Rattle.xs_cause_laws.proofs.Differ.{Pairwise, pairs_join, pairs_left, pairs_right, pairs_across, pairs_of_map}
+use Rattle.xs_cause_laws.proofs.Differ.{pairs_of_map}
 use Rattle.xs_cause_laws.proofs.NewNames.{AreNew, new_differ}
-
-abbrev slice_name : OwnedSlice → Text
-slice_name o = o.slice.name
+use Rattle.xs_flat_laws.proofs.Pairs.{Pairwise, pairs_join, pairs_left, pairs_right, pairs_across}
+use Rattle.xs_weave_rules.specs.Faults.{slice_name}
 
 abbrev mode_name : ModeTree → Text
 mode_name m = m.name

@@ -1,23 +1,22 @@
 -- The staged model breaks no rule of kinds but that of its size.
-use Rattle.std.proofs.Common.{◌≡◌, ℕ, suc, ◌+◌, ◌-◌, ◌<◌, ◌≤◌, true, false, List, [], ◌∷◌, ◌++◌, length, codes, Some, pos, eq-eqb, refl, sym, ap, subst, arith}
+use Rattle.std.proofs.Common.{◌≡◌, ℕ, suc, ◌+◌, ◌-◌, ◌<◌, ◌≤◌, true, false, List, [], ◌∷◌, ◌++◌, length, codes, Some, pos, refl, sym, ap, subst, arith}
 use Rattle.std.specs.Prelude.{slice_get}
 use Rattle.std.proofs.lemmas.List.{length-append}
 use Rattle.xs_tree.specs.declared.expr.Op.TheVariants as op
 use Rattle.xs_tree.specs.declared.program.Member.TheVariants as member
 use Rattle.xs_tree.specs.Tree.{next_of, binary}
 use Rattle.xs_tree.specs.ProgramTree.{Text, DeclaredTree, boolean, range, members}
-use Rattle.xs_tree.specs.Texts.{same_text}
 use Rattle.xs_tree.specs.Trace.{Each}
 use Rattle.xs_tree.specs.Flat.{FlatVariable, FlatModel}
 use Rattle.xs_flat_laws.specs.History.{Mode, with_history}
 use Rattle.xs_flat_laws.proofs.Lists.{get_end, length_end, each_more}
 use Rattle.xs_flat_laws.proofs.Conditions.{each_join, each_at}
-use Rattle.xs_type_laws.specs.Judged.{KindRule, truth_class, symbol_class, too_large, Judged}
+use Rattle.xs_type_laws.specs.Judged.{truth_class, symbol_class, Judged}
 use Rattle.xs_type_laws.specs.Declared.{judged_declared}
-use Rattle.xs_type_laws.specs.Models.{breaches, IsFault, at_an_item, of_its_size}
+use Rattle.xs_type_laws.specs.Models.{breaches}
 use Rattle.xs_woven_laws.specs.Modes.{HasSymbols}
 use Rattle.xs_woven_laws.proofs.History.{history_kept}
-use Rattle.xs_woven_laws.proofs.WovenLaws.{none_among}
+use Rattle.xs_woven_laws.proofs.WovenLaws.{size_alone}
 use Rattle.xs_cause_laws.specs.Added.{Addition, with_addition}
 use Rattle.xs_cause_laws.specs.Causes.{CommonCause}
 use Rattle.xs_cause_laws.specs.Staged.{age_name, event_name, quiet_name, now_name, hit_name, own_name, none_name, self_name, added_variable, value_of, whole, mode_of, stands_of, in_window, age_at_first, age_at_step, with_age, event_at_each, with_event, hit_at_first, landed_at_each, hit_at_step, with_hit, with_hits, with_cause, with_each_cause, age_numbers, windows_on, joined, own_at_first, own_at_step, with_own, with_owns, with_causes, own_events, cause_events, events_of}
@@ -28,6 +27,7 @@ use Rattle.xs_cause_laws.proofs.HistoryKinds.{modes_of_kinds}
 use Rattle.xs_cause_laws.proofs.StagedTraces.{mode_there}
 use Rattle.xs_cause_laws.proofs.OneCause.{cause_count, cause_symbols}
 use Rattle.xs_cause_laws.proofs.FormulaKinds.{range_judged, age_first, age_step, window_tree, ends_tree, event_each, HasAge, HaveAges, windows_tree, own_first, own_step}
+use Rattle.xs_cause_laws.proofs.Events.{after_name}
 
 -- ---- what has grown
 
@@ -46,13 +46,8 @@ ages_grown n n' g (c ∷ cs) (age ∷ ages) h = (age_grown n n' g c age h.0, age
 last_type : (n : FlatModel) (a : Addition) (x : FlatVariable) (d : DeclaredTree) → a.variables ≡ x ∷ [] → x.declared ≡ d → HasType (with_addition n a) (length n.variables) d
 last_type n a x d e t = record { variable = x; is_variable = subst (λ xs. slice_get (n.variables ++ xs) (length n.variables) ≡ Some x) (sym e) (get_end n.variables x); declared = t }
 
--- names after one text differ where the rest does
-apart_after : (x a b : Text) → same_text (x ++ a) (x ++ b) ≡ same_text a b
-apart_after [] a b = refl
-apart_after (c ∷ x) a b = rw (eq-eqb c c refl) (apart_after x a b)
-
 event_type_right : (c : Text) → (judged_declared (members (member.Symbol (quiet_name c) ∷ member.Symbol (now_name c) ∷ []))).broken ≡ []
-event_type_right c = two_symbols_right (quiet_name c) (now_name c) (apart_after c (codes "#quiet") (codes "#now"))
+event_type_right c = two_symbols_right (quiet_name c) (now_name c) (after_name c (codes "#quiet") (codes "#now"))
 
 own_type_right : (i : ℕ) → (judged_declared (members (member.Symbol (none_name i) ∷ member.Symbol (self_name i) ∷ []))).broken ≡ []
 own_type_right i = two_symbols_right (none_name i) (self_name i) refl
@@ -342,11 +337,6 @@ staged_none m fs cs are short =
     (events_grown causes staged second.goes.grows (cause_events (length m.variables) (length m.symbols) cs) first.events) in
     let model : IsRightModel staged = second.goes.kinds.model in
     (model.no_breach, history_kept staged (events_of m fs cs) model.closed events model.no_breach)
-
--- where no rule is broken at an item there is the fault of the size alone
-pub size_alone : (m : FlatModel) → breaches m ≡ [] → (rule : KindRule) (item : ℕ) → IsFault m rule item → (rule ≡ too_large) × (item ≡ 0)
-size_alone m right rule item (at_an_item first is r n) = absurd (none_among first (breaches m) right is.among)
-size_alone m right rule item (of_its_size none large r n) = (r, n)
 
 pub staged_size_alone : StagedBreaksSizeAlone
 staged_size_alone m fs cs are short rule item =

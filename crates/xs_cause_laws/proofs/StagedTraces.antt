@@ -1,9 +1,9 @@
 -- The traces of the staged model are exactly the caused traces.
-use Rattle.std.proofs.Common.{◌≡◌, ℕ, zero, suc, ◌+◌, ◌-◌, ◌<◌, ◌≤◌, List, [], ◌∷◌, length, Option, Some, None, refl, ap, ◌∙◌, sym, subst, arith}
+use Rattle.std.proofs.Common.{◌≡◌, ℕ, zero, suc, ◌+◌, ◌-◌, ◌<◌, ◌≤◌, List, [], ◌∷◌, length, Option, Some, refl, ap, ◌∙◌, sym, subst, arith}
 use Rattle.std.specs.Prelude.{slice_get, slice_index_or, IsTrue, ◌↔◌}
 use Rattle.xs_tree.specs.ProgramTree.{Text}
 use Rattle.xs_tree.specs.Values.{Value, symbol}
-use Rattle.xs_tree.specs.Texts.{same_text}
+use Rattle.xs_tree.specs.Texts.{same_text, text_or_none}
 use Rattle.xs_tree.specs.Trace.{Each, in_domain}
 use Rattle.xs_tree.specs.Flat.{FlatModel}
 use Rattle.xs_flat_laws.specs.FlatTrace.{AreInDomains, IsFlatMoment, IsFlatTrace, IsModeOf, is_symbol_value}
@@ -23,11 +23,6 @@ use Rattle.xs_cause_laws.proofs.EachCause.{WithAges, causes_ready, causes_known,
 use Rattle.xs_cause_laws.proofs.Owns.{AreVariables, OwnsTold, owns_forward, owns_backward}
 use Rattle.std.proofs.lemmas.Option.{slice_get_within as within_of}
 use Rattle.xs_flat_laws.proofs.HistoryTraces.{domain_at, domains_length}
-
--- the text of a symbol that is there
-abbrev pub text_or_none : Option Text → Text
-text_or_none None = []
-text_or_none (Some x) = x
 
 -- the mode of a number is one of the list
 pub mode_there : (fs : List Mode) (j : ℕ) (d : Mode) → j < length fs → slice_get fs j ≡ Some (slice_index_or fs j d)

@@ -15,11 +15,11 @@ use Rattle.xs_cause_laws.specs.Laws.{AreStaged, StandsAt, IsCausedTrace}
 use Rattle.xs_cause_laws.proofs.StagedTraces.{mode_there}
 use Rattle.std.proofs.lemmas.Bool.{or_left, or_right}
 use Rattle.std.proofs.lemmas.Option.{slice_get_within as within_of}
-use Rattle.xs_fei.proofs.TemplateLaws.{or_cases' as or_parts}
+use Rattle.xs_tree.proofs.BoolLaws.{or_cases}
 
 pub stood_from : (m : FlatModel) (f : Mode) (g : ℕ → Bool) (k : ℕ) (vs : List (List Value)) → EachFrom (λ j v. stands m f v ≡ g j) k vs → stands_in_some m f vs ≡ true → (j : ℕ) × (k ≤ j) × (j < k + length vs) × (g j ≡ true)
 stood_from m f g k [] h e = cc
-stood_from m f g k (v ∷ vs) h e = elim (or_parts (stands m f v) (stands_in_some m f vs) e) [ inl a ↦ (k, omega arith, omega arith, sym h.0 ∙ a) | inr b ↦ later (stood_from m f g (suc k) vs h.1 b) ]
+stood_from m f g k (v ∷ vs) h e = elim (or_cases (stands m f v) (stands_in_some m f vs) e) [ inl a ↦ (k, omega arith, omega arith, sym h.0 ∙ a) | inr b ↦ later (stood_from m f g (suc k) vs h.1 b) ]
   where
     later : (j : ℕ) × (suc k ≤ j) × (j < suc k + length vs) × (g j ≡ true) → (j : ℕ) × (k ≤ j) × (j < k + suc (length vs)) × (g j ≡ true)
     later x = (x.0, omega (arith, x.1), omega (arith, x.2), x.3)

@@ -3,7 +3,6 @@ use Rattle.std.proofs.Common.{◌≡◌, ◌⊎◌, inl, inr, ℕ, zero, suc, �
 use Rattle.std.specs.Prelude.{slice_get}
 use Rattle.std.proofs.lemmas.Option.{same_Some as same_some, slice_get_within as within_of}
 use Rattle.xs_tree.specs.ProgramTree.{Text}
-use Rattle.xs_tree.specs.Texts.{same_text}
 use Rattle.xs_tree.specs.Trace.{AtSome}
 use Rattle.xs_tree.proofs.ValueLaws.{same_text_equal}
 use Rattle.xs_flat_laws.proofs.Conditions.{same_text_same}
@@ -16,24 +15,15 @@ use Rattle.xs_cause_laws.specs.Caused.{BeginsFreely, HasHappened}
 use Rattle.xs_cause_laws.specs.CausedTraces.{FaultStandsAt}
 use Rattle.xs_cause_laws.specs.CausesExtendedLaws.{UncausedAreExtended}
 use Rattle.xs_cause_laws.proofs.Stood.{no_times, none_occur, all_free}
+use Rattle.xs_tree.proofs.EachLaws.{some_at}
+use Rattle.xs_fei.specs.EffectLaw.{stands_at}
 
--- the state is this mode
-abbrev is_mode : ModeState → Text → Bool
-is_mode None x = false
-is_mode (Some y) x = same_text y x
-
-is_mode_so : (s : ModeState) (x : Text) → is_mode s x ≡ true → s ≡ Some x
+is_mode_so : (s : ModeState) (x : Text) → stands_at s x ≡ true → s ≡ Some x
 is_mode_so None x e = cc
 is_mode_so (Some y) x e = ap Some (same_text_equal y x e)
 
-so_is_mode : (s : ModeState) (x : Text) → s ≡ Some x → is_mode s x ≡ true
-so_is_mode s x e = ap (λ t. is_mode t x) e ∙ same_text_same x
-
--- what holds at a place holds at some place
-some_at : {A : Type 0} (P : A → Type 0) (xs : List A) (k : ℕ) (x : A) → slice_get xs k ≡ Some x → P x → AtSome P xs
-some_at P [] k x e h = cc
-some_at P (y ∷ xs) zero x e h = let same : y ≡ x = same_some y x e in inl (subst P (sym same) h)
-some_at P (y ∷ xs) (suc k) x e h = inr (some_at P xs k x e h)
+so_is_mode : (s : ModeState) (x : Text) → s ≡ Some x → stands_at s x ≡ true
+so_is_mode s x e = ap (λ t. stands_at t x) e ∙ same_text_same x
 
 -- the first moment that passes a test
 record IsFirst (test : Moment → Bool) (trace : List Moment) : Type 0 where
@@ -76,9 +66,9 @@ module _ (faults : List Fault) (cs : List CommonCause) (trace : List Moment) whe
   from_failed : (n : ℕ) → HasFailedFault faults trace n → Happened n
   from_failed n h =
       let f : Fault = h.0 in
-      let first : IsFirst (λ (mo : Moment). is_mode (mo.mode f.place f.slice) f.mode) trace =
-      first_of (λ (mo : Moment). is_mode (mo.mode f.place f.slice) f.mode) trace
-      (some_more (λ (mo : Moment). mo.mode f.place f.slice ≡ Some f.mode) (λ (mo : Moment). is_mode (mo.mode f.place f.slice) f.mode ≡ true) trace (λ mo e. so_is_mode (mo.mode f.place f.slice) f.mode e) h.3) in
+      let first : IsFirst (λ (mo : Moment). stands_at (mo.mode f.place f.slice) f.mode) trace =
+      first_of (λ (mo : Moment). stands_at (mo.mode f.place f.slice) f.mode) trace
+      (some_more (λ (mo : Moment). mo.mode f.place f.slice ≡ Some f.mode) (λ (mo : Moment). stands_at (mo.mode f.place f.slice) f.mode ≡ true) trace (λ mo e. so_is_mode (mo.mode f.place f.slice) f.mode e) h.3) in
       inl (
         h.1,
         within_number n (length faults) (within_of faults (n - 1) f h.2),

@@ -3,8 +3,7 @@
 -- A trace is known here by its number of moments and by which fault's mode stands at which moment, so that flat traces and
 -- extended traces share these definitions.
 use Rattle.std.specs.Prelude.{◌≡◌, ◌⊎◌, ℕ, suc, ◌+◌, ◌-◌, ◌<◌, ◌≤◌, true, List, Option, Some, None, slice_get}
-use Rattle.xs_tree.specs.Trace.{Each}
-use Rattle.xs_flat_laws.specs.Model.{EachBoth}
+use Rattle.xs_tree.specs.Trace.{Each, EachBoth}
 use Rattle.xs_right_laws.specs.Sets.{has_number}
 use Rattle.xs_cause_laws.specs.Causes.{CommonCause}
 

@@ -8,7 +8,6 @@ use Rattle.xs_tree.specs.ProgramTree.{Path, ProgramTree}
 use Rattle.xs_tree.specs.Texts.{same_text}
 use Rattle.xs_tree.specs.Lexemes.{lexemes_of}
 use Rattle.xs_tree.proofs.ValueLaws.{same_text_refl}
-use Rattle.xs_flat_laws.specs.Model.{EachBoth}
 use Rattle.xs_weave.specs.Faults.{Fault}
 use Rattle.xs_cause_laws.specs.Causes.{CommonCause}
 use Rattle.xs_cause_laws.specs.CausesText.{WrittenCause, SpellsCauses, BytesSpellCauses}
@@ -17,6 +16,7 @@ use Rattle.xs_causes_reader.specs.CausesRead.{start, so_far}
 use Rattle.xs_causes_reader.specs.Read.{IsNumberOf, AreStrikes, AreRead, BreakRule}
 use Rattle.xs_causes_reader.proofs.CausesReads.{causes_are_read}
 use Rattle.std.proofs.lemmas.Option.{same_Some as some_same}
+use Rattle.xs_tree.specs.Trace.{EachBoth}
 
 -- the bytes spell one list of causes
 pub one_written : (bytes : List ℕ) (cs ds : List WrittenCause) → BytesSpellCauses bytes cs → BytesSpellCauses bytes ds → cs ≡ ds

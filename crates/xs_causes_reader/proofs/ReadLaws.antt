@@ -3,7 +3,6 @@ use Rattle.std.proofs.Common.{◌≡◌, inl, inr, ℕ, List, [], ◌∷◌, Non
 use Rattle.std.specs.Prelude.{flat_map}
 use Rattle.std.proofs.lemmas.List.{length-map}
 use Rattle.xs_tree.specs.ProgramTree.{Text, Path, ProgramTree}
-use Rattle.xs_flat_laws.specs.Model.{EachBoth}
 use Rattle.xs_weave.specs.Faults.{Fault as WovenFault}
 use Rattle.xs_weave_rules.specs.Keyed.{with_texts}
 use Rattle.xs_tree.specs.declared.model.Fault.{Fault}
@@ -12,10 +11,12 @@ use Rattle.xs_cause_laws.specs.CausesText.{WrittenCause, BytesSpellCauses}
 use Rattle.xs_cause_laws.specs.CauseRules.{fault_path, names_of_cause}
 use Rattle.xs_causes_reader.specs.declared.fault.CauseFault.{CauseFault}
 use Rattle.xs_causes_reader.specs.declared.fault.CauseFault.TheVariants as f
-use Rattle.xs_causes_reader.specs.FaultPaths.{path_of, paths_of}
+use Rattle.xs_causes_reader.specs.FaultPaths.{paths_of}
 use Rattle.xs_causes_reader.specs.Broken.{rule_of, first_broken, are_owns_among, TellsFirst, taken_in}
 use Rattle.xs_causes_reader.specs.Read.{AreNamed, AreStrikes, FaultSays, IsReadIn, IsReading, IsRefusal}
 use Rattle.xs_causes_reader.proofs.RuleLaws.{all_kept, is_broken, owns_same, owns_taken, read_as}
+use Rattle.xs_tree.specs.Trace.{EachBoth}
+use Rattle.xs_tree.specs.ModelTree.{name_of_fault}
 
 -- what is taken once all causes were read
 abbrev all_taken : ProgramTree → List WrittenCause → List Text
@@ -29,7 +30,7 @@ strikes_read paths (x ∷ xs) [] h = absurd h
 
 module _ (faults : List Fault) (w : ProgramTree) (bytes : List ℕ) (written : List WrittenCause) (spelled : BytesSpellCauses bytes written) where
   counted : (woven : List WovenFault) → AreNamed faults woven → length faults ≡ length (map fault_path woven)
-  counted woven named = sym (length-map faults path_of) ∙ ap length named
+  counted woven named = sym (length-map faults name_of_fault) ∙ ap length named
 
   pub is_reading : (causes : List CommonCause) → first_broken (paths_of faults) (taken_in w) [] written ≡ None → are_owns_among (all_taken w written) (length faults) ≡ false →
       EachBoth (IsReadIn (paths_of faults)) written causes → IsReading faults w bytes causes

@@ -7,7 +7,6 @@ use Rattle.std.proofs.lemmas.List.{length-map, append-nil, append_assoc}
 use Rattle.std.proofs.lemmas.Option.{slice_get-map, same_Some as some_same}
 use Rattle.xs_tree.specs.ProgramTree.{Text, Path, ProgramTree}
 use Rattle.xs_tree.specs.Texts.{same_text, is_among}
-use Rattle.xs_flat_laws.specs.Model.{EachBoth}
 use Rattle.xs_weave.specs.Faults.{Fault}
 use Rattle.xs_weave_rules.specs.Keyed.{with_texts}
 use Rattle.xs_weave_rules.specs.Rules.{is_program_name}
@@ -16,8 +15,11 @@ use Rattle.xs_cause_laws.specs.CausesText.{WrittenCause}
 use Rattle.xs_cause_laws.specs.CauseRules.{fault_path, is_path_among, has_double, names_of_cause, own_names, is_any_taken, CauseRule, no_such_fault, double_cause, double_strike, empty_window, too_wide, too_many, name_taken, first_of, broken_at, AllKept, are_owns_taken, IsBrokenAt, AreOwnsTaken, IsStrikeOf, AreReadAs}
 use Rattle.xs_causes_reader.specs.Broken.{is_any_among, broken_by, told_at, first_broken, are_owns_among, owns_told, taken_in}
 use Rattle.xs_causes_reader.specs.Read.{IsNumberOf, IsReadIn}
-use Rattle.xs_weave_rules.proofs.KeyedLaws.{or_assoc, among_append, among_texts}
+use Rattle.xs_weave_rules.proofs.KeyedLaws.{among_texts}
 use Rattle.xs_weave_rules.proofs.LocalLaws.{program_has}
+use Rattle.xs_tree.proofs.BoolLaws.{or_assoc}
+use Rattle.xs_tree.specs.Trace.{EachBoth}
+use Rattle.xs_tree.proofs.AmongLaws.{among_joined}
 
 any_same : {A : Type 0} (t u : A → Bool) → ((a : A) → t a ≡ u a) → (xs : List A) → list_any t xs ≡ list_any u xs
 any_same t u same [] = refl
@@ -42,7 +44,7 @@ module _ (faults : List Fault) (w : ProgramTree) where
   taken_more taken before c are x =
       among_texts taken (names_of_cause c) x ∙ ap (λ b. b || is_among (names_of_cause c) x) (are x)
       ∙ or_assoc (is_program_name w x) (is_among (flat_map names_of_cause before) x) (is_among (names_of_cause c) x)
-      ∙ ap (λ b. is_program_name w x || b) (sym (among_append (flat_map names_of_cause before) (names_of_cause c) x)
+      ∙ ap (λ b. is_program_name w x || b) (sym (among_joined (flat_map names_of_cause before) (names_of_cause c) x)
       ∙ ap (λ z. is_among (flat_map names_of_cause before ++ z) x) (sym (append-nil (names_of_cause c)))
       ∙ ap (λ z. is_among z x) (sym (flat_map-append names_of_cause before (c ∷ []))))
 

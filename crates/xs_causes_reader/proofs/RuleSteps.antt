@@ -6,7 +6,6 @@ use Rattle.std.proofs.lemmas.List.{drop_more, take_more, append-nil, append_asso
 use Rattle.xs_tree.specs.ProgramTree.{Text, Path}
 use Rattle.xs_tree.specs.Texts.{same_text, is_among}
 use Rattle.xs_tree.proofs.ValueLaws.{same_text_equal}
-use Rattle.xs_flat_laws.specs.Model.{EachBoth}
 use Rattle.xs_weave_rules.specs.Keyed.{with_texts}
 use Rattle.xs_cause_laws.specs.CausesText.{WrittenCause}
 use Rattle.xs_cause_laws.specs.CauseRules.{CauseRule, hit_names, names_of_cause, own_names, same_path, is_path_among}
@@ -14,8 +13,9 @@ use Rattle.xs_cause_laws.specs.Staged.{hit_name, own_name, none_name, self_name}
 use Rattle.xs_causes_reader.specs.Read.{IsNumberOf}
 use Rattle.xs_causes_reader.specs.Broken.{is_any_among, broken_by, told_at, first_broken}
 use Rattle.std.proofs.lemmas.Bool.{and_parts as both, or_parts as neither}
-use Rattle.xs_scope.proofs.Naming.{both_push}
 use Rattle.xs_weave_rules.proofs.KeyedLaws.{map_push as map_end, texts_more}
+use Rattle.xs_flat_laws.proofs.BothLaws.{both_push}
+use Rattle.xs_tree.specs.Trace.{EachBoth}
 
 -- ---- lists of members that are related
 

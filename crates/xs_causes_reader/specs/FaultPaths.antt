@@ -2,11 +2,8 @@
 use Rattle.std.specs.Prelude.{List, map}
 use Rattle.xs_tree.specs.ProgramTree.{Path}
 use Rattle.xs_tree.specs.declared.model.Fault.{Fault}
-
--- the name of a fault
-abbrev pub path_of : Fault → Path
-path_of f = f.name
+use Rattle.xs_tree.specs.ModelTree.{name_of_fault}
 
 -- the names of faults
 abbrev pub paths_of : List Fault → List Path
-paths_of faults = map path_of faults
+paths_of faults = map name_of_fault faults

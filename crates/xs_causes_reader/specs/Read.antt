@@ -1,7 +1,6 @@
 -- What the reading of a causes file says: the causes that the bytes spell, or why they are none.
 use Rattle.std.specs.Prelude.{◌≡◌, ◌⊎◌, ℕ, ◌-◌, ◌<◌, false, List, Some, map, take, slice_get}
 use Rattle.xs_tree.specs.ProgramTree.{Path, ProgramTree}
-use Rattle.xs_flat_laws.specs.Model.{EachBoth}
 use Rattle.xs_weave.specs.Faults.{Fault as WovenFault}
 use Rattle.xs_tree.specs.declared.model.Fault.{Fault}
 use Rattle.xs_expression_reader.specs.Stops.{FaultMeans}
@@ -13,6 +12,7 @@ use Rattle.xs_causes_reader.specs.declared.fault.CauseFault.TheVariants as f
 use Rattle.xs_causes_reader.specs.CausesRead.{IsCauses}
 use Rattle.xs_causes_reader.specs.FaultPaths.{paths_of}
 use Rattle.xs_causes_reader.specs.Broken.{rule_of}
+use Rattle.xs_tree.specs.Trace.{EachBoth}
 
 -- the list has the names of these faults of a woven program
 abbrev pub AreNamed : List Fault → List WovenFault → Type 0

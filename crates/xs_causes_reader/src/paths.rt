@@ -7,8 +7,9 @@ ghost use Rattle.std.specs.Prelude.{◌≡◌, not};
 ghost use Rattle.std.specs.List.{list_any};
 ghost use Rattle.xs_tree.specs.Texts.{same_text};
 ghost use Rattle.xs_tree.specs.declared.model.Fault.{Fault};
-ghost use Rattle.xs_causes_reader.specs.FaultPaths.{path_of, paths_of};
+ghost use Rattle.xs_causes_reader.specs.FaultPaths.{paths_of};
 ghost use Rattle.xs_cause_laws.specs.CauseRules.{same_path, is_path_among, has_double as has_double_path};
+ghost use Rattle.xs_tree.specs.ModelTree.{name_of_fault};
 
 use xs_tree::model::Fault;
 use xs_value::{Name, NameList};
@@ -53,7 +54,7 @@ pub(crate) fn is_fault_name(faults: &[Fault], path: &NameList) -> bool
 
 /// Whether some fault has the name.
 fn has_path(faults: &[Fault], path: &NameList) -> bool
-    ensures { result ≡ list_any (λ (f : Fault). same_path (path_of f) path.now) faults.now }
+    ensures { result ≡ list_any (λ (f : Fault). same_path (name_of_fault f) path.now) faults.now }
 {
     faults
         .iter()

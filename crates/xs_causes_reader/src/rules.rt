@@ -7,7 +7,6 @@ ghost use Rattle.std.specs.Prelude.{◌≡◌, ◌^◌, ◌<◌, None, [], true,
 ghost use Rattle.std.specs.List.{list_any};
 ghost use Rattle.xs_tree.specs.Texts.{same_text};
 ghost use Rattle.xs_tree.specs.ProgramTree.{program_tree};
-ghost use Rattle.xs_flat_laws.specs.Model.{EachBoth};
 ghost use Rattle.xs_weave_rules.specs.Keyed.{with_texts};
 ghost use Rattle.xs_cause_laws.specs.CauseRules.{names_of_cause, is_path_among};
 ghost use Rattle.xs_staging.specs.CauseOf.{cause_of};
@@ -16,6 +15,7 @@ ghost use Rattle.xs_causes_reader.specs.declared.written.Written.{Written};
 ghost use Rattle.xs_causes_reader.specs.ReadView.{written_tree, written_trees};
 ghost use Rattle.xs_causes_reader.specs.Broken.{rule_of, bound_broken, broken_by, first_broken, are_owns_among, owns_told, Tells, TellsFirst, taken_in};
 ghost use Rattle.xs_causes_reader.specs.Read.{IsNumberOf, IsReadIn};
+ghost use Rattle.xs_tree.specs.Trace.{EachBoth};
 
 use crate::added::{add_names, cause_names, is_any_taken, own_names};
 use crate::fault::{CauseFault, CauseRule};

@@ -1,18 +1,22 @@
 -- The words of a line.
-use Rattle.std.proofs.Common.{◌≡◌, ℕ, ◌≤◌, ◌+◌, ◌-◌, Bool, true, false, ◌&&◌, nat_eq, List, [], ◌∷◌, ◌++◌, length, take, drop, refl, sym, ◌∙◌, ap, arith, eq-eqb, length-append}
+use Rattle.std.proofs.Common.{◌≡◌, ℕ, ◌≤◌, ◌+◌, ◌-◌, Bool, true, false, nat_eq, List, [], ◌∷◌, ◌++◌, length, take, drop, refl, sym, ◌∙◌, ap, arith, eq-eqb, length-append}
 use Rattle.std.proofs.lemmas.List.{take_rest}
 use Rattle.std.specs.Cmp.Lexicographic.{pointwise}
 use Rattle.xs_text_laws.specs.Lines.{Line}
-use Rattle.xs_certificate_laws.specs.LineReading.{same_bytes, with_byte, words_in}
-use Rattle.xs_certificate_laws.proofs.LineReading.{same_then, same_itself, taken, refused, differs as differ}
+use Rattle.xs_certificate_laws.specs.LineReading.{with_byte, words_in}
+use Rattle.xs_certificate_laws.proofs.LineReading.{differs as differ}
 use Rattle.xs_value.specs.Cuts.{Lacks, BeginsWith}
 use Rattle.xs_cert.specs.Cuts.{words_after, IsWordThen, LacksWord, IsAfterWord}
+use Rattle.xs_tree.proofs.BoolLaws.{if_true, if_false}
+use Rattle.xs_tree.specs.Texts.{same_text}
+use Rattle.xs_tree.proofs.AmongLaws.{pointwise_is}
+use Rattle.xs_tree.proofs.ValueLaws.{same_text_equal, same_text_refl}
 
 words_begin : (word rest : Line) → Lacks 32 word → BeginsWith 32 rest → words_in (word ++ rest) ≡ word ∷ words_after rest
 words_begin [] [] f b = refl
-words_begin [] (c ∷ rest) f b = taken (nat_eq c 32) ([] ∷ words_in rest) (with_byte c (words_in rest)) (eq-eqb c 32 b)
+words_begin [] (c ∷ rest) f b = if_true (nat_eq c 32) ([] ∷ words_in rest) (with_byte c (words_in rest)) (eq-eqb c 32 b)
 words_begin (x ∷ word) rest f b =
-    refused (nat_eq x 32) ([] ∷ words_in (word ++ rest)) (with_byte x (words_in (word ++ rest))) (differ x 32 f.0) ∙ ap (with_byte x) (words_begin word rest f.1 b)
+    if_false (nat_eq x 32) ([] ∷ words_in (word ++ rest)) (with_byte x (words_in (word ++ rest))) (differ x 32 f.0) ∙ ap (with_byte x) (words_begin word rest f.1 b)
 
 -- where a line is cut at its first space, the words are the one before it and those after it
 pub words_cut : (bytes word rest : Line) → bytes ≡ word ++ rest → Lacks 32 word → BeginsWith 32 rest → words_in bytes ≡ word ∷ words_after rest
@@ -35,15 +39,8 @@ lacks_first line word rest name e f b other words g = other (heads word name (wo
     heads : (x y : Line) (xs ys : List Line) → (x ∷ xs) ≡ (y ∷ ys) → x ≡ y
     heads x y xs ys e = cc
 
--- A test whether bytes are the same.
-pub pointwise_is : (x y : List ℕ) → pointwise nat_eq x y ≡ same_bytes x y
-pointwise_is [] [] = refl
-pointwise_is [] (b ∷ y) = refl
-pointwise_is (a ∷ x) [] = refl
-pointwise_is (a ∷ x) (b ∷ y) = ap (λ t. nat_eq a b && t) (pointwise_is x y)
-
 pub equal_then : (x y : List ℕ) (t : Bool) → t ≡ pointwise nat_eq x y → t ≡ true → x ≡ y
-equal_then x y t e h = same_then x y (sym (pointwise_is x y) ∙ sym e ∙ h)
+equal_then x y t e h = same_text_equal x y (sym (pointwise_is x y) ∙ sym e ∙ h)
 
 pub unequal_then : (x y : List ℕ) (t : Bool) → t ≡ pointwise nat_eq x y → t ≡ false → x ≡ y → ⊥
-unequal_then x y t e h s = let bad : true ≡ false = sym (ap (λ z. same_bytes z y) s ∙ same_itself y) ∙ sym (pointwise_is x y) ∙ sym e ∙ h in cc
+unequal_then x y t e h s = let bad : true ≡ false = sym (ap (λ z. same_text z y) s ∙ same_text_refl y) ∙ sym (pointwise_is x y) ∙ sym e ∙ h in cc

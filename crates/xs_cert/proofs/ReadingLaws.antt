@@ -10,11 +10,11 @@ use Rattle.xs_text_laws.proofs.Words.{free_by_test}
 use Rattle.xs_certificate_laws.specs.Certificate.{Certificate}
 use Rattle.xs_certificate_laws.specs.CertificateText.{version_one, version_two, version_line, numbers_line, set_line, set_lines, clause_line, step_line, part_lines, lines_of, IsSmall, IsLiteral, IsWritableStep, AreWritable, IsWritableText, IsWritable, CanSay}
 use Rattle.xs_certificate_laws.specs.CertificateText.{Version as Named}
-use Rattle.xs_certificate_laws.specs.LineReading.{same_bytes, count_in, set_in, clause_in, step_in}
+use Rattle.xs_certificate_laws.specs.LineReading.{count_in, set_in, clause_in, step_in}
 use Rattle.xs_certificate_laws.specs.Expecting.{numbers_in, part_word, after, after_lines, then_after, a_version, sets_count, trace_count, no_line}
 use Rattle.xs_certificate_laws.specs.Expecting.{Expect as Awaited, sets_left as sets_awaited, text_left as text_awaited, clauses_left as clauses_awaited, steps_left as steps_awaited}
 use Rattle.xs_certificate_laws.proofs.LineReading.{counts_exact, sets_exact, clauses_exact, steps_exact}
-use Rattle.xs_certificate_laws.proofs.Expecting.{numbers_exact, free_word, free_trace}
+use Rattle.xs_certificate_laws.proofs.Expecting.{free_word, free_trace}
 use Rattle.xs_cert.specs.declared.certificate.Certificate.{Certificate as Read}
 use Rattle.xs_cert.specs.declared.lines.Version.TheVariants as version
 use Rattle.xs_cert.specs.declared.reading.Part.{Part}
@@ -24,6 +24,9 @@ use Rattle.xs_cert.specs.declared.reading.Expect.TheVariants as expect
 use Rattle.xs_cert.specs.declared.reading.Reading.{Reading}
 use Rattle.xs_cert.specs.Told.{told, told_version, told_part}
 use Rattle.xs_cert.specs.Reading.{sets_left, clauses_left, after_part, steps_left, text_left, with_numbers, with_set, with_clause, keeping, with_step, then_expecting, read_as, then_read, read_lines, unread}
+use Rattle.xs_certificate_laws.proofs.Judged.{numbers_on}
+use Rattle.xs_tree.specs.Texts.{same_text}
+use Rattle.xs_certificate_laws.proofs.OneText.{from_bad, from_next}
 
 -- The reading expects what the definitions do.
 fused : {A B C : Type 0} (f : A → B) (g : B → C) (h : A → C) → ((a : A) → h a ≡ g (f a)) → (o : Option A) → option_map h o ≡ option_map g (option_map f o)
@@ -52,7 +55,7 @@ abbrev awaited : Reading → Awaited
 awaited r = told r.expect
 
 told_as : (e : Expect) (r : Reading) (line : Line) → after (told e) line ≡ option_map awaited (read_as e r line)
-told_as expect.Version r line = by (same_bytes line (version_line version_one)) (same_bytes line (version_line version_two))
+told_as expect.Version r line = by (same_text line (version_line version_one)) (same_text line (version_line version_two))
   where
     by : (t u : Bool) → (if t then Some (told (expect.Numbers version.One)) else (if u then Some (told (expect.Numbers version.Two)) else None))
         ≡ option_map awaited (option_map (λ v. then_expecting r (expect.Numbers v)) (if t then Some version.One else (if u then Some version.Two else None)))
@@ -68,7 +71,7 @@ told_as expect.ClausesCount r line = fused (λ n. then_expecting r (clauses_left
 told_as (expect.ClauseLine n) r line = fused (with_clause n r) awaited (λ x. clauses_awaited n) (λ c. sym (told_clauses n)) (clause_in line)
 told_as (expect.StepsCount p) r line = fused (λ n. then_expecting r (steps_left p n)) awaited (steps_awaited (told_part p)) (λ n. sym (told_steps p n)) (count_in (part_word (told_part p)) line)
 told_as (expect.StepLine p n) r line = fused (with_step p n r) awaited (λ x. steps_awaited (told_part p) n) (λ s. sym (told_steps p n)) (step_in line)
-told_as expect.End r line = by (same_bytes line (codes "end"))
+told_as expect.End r line = by (same_text line (codes "end"))
   where
     by : (t : Bool) → (if t then Some no_line else None) ≡ option_map awaited (option_map (then_expecting r) (if t then Some expect.NoLine else None))
     by true = refl
@@ -173,12 +176,6 @@ wholly_read c = record { expect = expect.NoLine; trace = []; certificate = unsee
 abbrev with_head : Expect → Certificate → Reading
 with_head e c = record unread { expect = e; certificate = record unread.certificate { bits = c.bits; faults = c.faults; size = c.size } }
 
-abbrev from_bad : Certificate → List Line
-from_bad c = part_lines (codes "bad") c.bad ++ codes "end" ∷ []
-
-abbrev from_next : Certificate → List Line
-from_next c = part_lines (codes "next") c.next ++ from_bad c
-
 abbrev from_first : Certificate → List Line
 from_first c = part_lines (codes "first") c.first ++ from_next c
 
@@ -188,13 +185,9 @@ from_invariant c = counted (codes "invariant") (length c.invariant) ∷ (map cla
 abbrev from_sets : Certificate → List Line
 from_sets c = counted (codes "sets") (length c.sets) ∷ (set_lines c.sets c.traces ++ from_invariant c)
 
-numbers_said : (v : Named) (c : Certificate) → IsWritable c → CanSay v c → numbers_in v (numbers_line v c) ≡ Some (record { bits = c.bits; faults = c.faults; size = c.size })
-numbers_said version_one c w s = (numbers_exact version_one (numbers_line version_one c) (record { bits = c.bits; faults = c.faults; size = c.size })).1 (refl, record { bits = w.bits; faults = w.faults; size = w.size; says = s })
-numbers_said version_two c w s = (numbers_exact version_two (numbers_line version_two c) (record { bits = c.bits; faults = c.faults; size = c.size })).1 (refl, record { bits = w.bits; faults = w.faults; size = w.size; says = tt })
-
 head_on : (v : Named) (c : Certificate) → IsWritable c → CanSay v c → read_lines (Some unread) (version_line v ∷ numbers_line v c ∷ from_sets c) ≡ read_lines (Some (with_head expect.SetsCount c)) (from_sets c)
-head_on version_one c w s = says (with_numbers (then_expecting unread (expect.Numbers version.One))) (numbers_in version_one (numbers_line version_one c)) (record { bits = c.bits; faults = c.faults; size = c.size }) (from_sets c) (numbers_said version_one c w s)
-head_on version_two c w s = says (with_numbers (then_expecting unread (expect.Numbers version.Two))) (numbers_in version_two (numbers_line version_two c)) (record { bits = c.bits; faults = c.faults; size = c.size }) (from_sets c) (numbers_said version_two c w s)
+head_on version_one c w s = says (with_numbers (then_expecting unread (expect.Numbers version.One))) (numbers_in version_one (numbers_line version_one c)) (record { bits = c.bits; faults = c.faults; size = c.size }) (from_sets c) (numbers_on version_one c w s)
+head_on version_two c w s = says (with_numbers (then_expecting unread (expect.Numbers version.Two))) (numbers_in version_two (numbers_line version_two c)) (record { bits = c.bits; faults = c.faults; size = c.size }) (from_sets c) (numbers_on version_two c w s)
 
 -- what the reading is after the sets, after the clauses, and after each derivation
 abbrev after_sets : Expect → Certificate → Reading

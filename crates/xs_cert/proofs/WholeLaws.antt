@@ -4,7 +4,6 @@ use Rattle.std.specs.Option.{option_map}
 use Rattle.std.specs.List.{AllByRecursion}
 use Rattle.xs_text_laws.specs.Lines.{Line, fed, IsLine}
 use Rattle.xs_text_laws.proofs.Cuts.{line_lies, length_more, fed_long, rest_shorter}
-use Rattle.xs_text_laws.proofs.Words.{all_joined}
 use Rattle.xs_certificate_laws.specs.Certificate.{Certificate}
 use Rattle.xs_certificate_laws.specs.CertificateText.{AreLinesOf, SpellsCertificate, BeginsOne, IsBadLine, EndsBefore}
 use Rattle.xs_certificate_laws.specs.Expecting.{Expect as Awaited, after_lines, a_version, no_line}
@@ -25,6 +24,7 @@ use Rattle.xs_cert.specs.Seen.{seen}
 use Rattle.xs_cert.specs.Told.{told}
 use Rattle.xs_cert.proofs.ReadingLaws.{reading_expects, read_joined, wholly_read, whole_read}
 use Rattle.std.proofs.lemmas.Option.{none-some as never, same_Some as some_same}
+use Rattle.xs_value.proofs.ListLaws.{all_joined}
 
 -- The text up to a line.
 pub record IsRead (bytes rest : List ℕ) (number : ℕ) (r : Reading) : Type 0 where

@@ -5,7 +5,7 @@ use Rattle.xs_lits.specs.Literal.{Literal}
 use Rattle.xs_lits.specs.declared.step.Step.{Step}
 use Rattle.xs_text_laws.specs.Lines.{Line}
 use Rattle.xs_certificate_laws.specs.CertificateText.{version_line, version_one, version_two}
-use Rattle.xs_certificate_laws.specs.LineReading.{same_bytes, count_in, set_in, clause_in, step_in}
+use Rattle.xs_certificate_laws.specs.LineReading.{count_in, set_in, clause_in, step_in}
 use Rattle.xs_certificate_laws.specs.Expecting.{Numbers, numbers_in, part_word}
 use Rattle.xs_cert.specs.declared.certificate.Certificate.{Certificate}
 use Rattle.xs_cert.specs.declared.lines.Version.{Version}
@@ -16,6 +16,7 @@ use Rattle.xs_cert.specs.declared.reading.Expect.{Expect}
 use Rattle.xs_cert.specs.declared.reading.Expect.TheVariants as expect
 use Rattle.xs_cert.specs.declared.reading.Reading.{Reading}
 use Rattle.xs_cert.specs.Told.{told_version, told_part}
+use Rattle.xs_tree.specs.Texts.{same_text}
 
 -- what comes next where so many sets, clauses or steps are left
 abbrev pub sets_left : ℕ → Expect
@@ -40,7 +41,7 @@ steps_left p (suc n) = expect.StepLine p n
 
 -- the version that the line names
 abbrev pub version_in : Line → Option Version
-version_in line = if same_bytes line (version_line version_one) then Some version.One else (if same_bytes line (version_line version_two) then Some version.Two else None)
+version_in line = if same_text line (version_line version_one) then Some version.One else (if same_text line (version_line version_two) then Some version.Two else None)
 
 -- what the reading is with what a line gives
 abbrev pub then_expecting : Reading → Expect → Reading
@@ -79,7 +80,7 @@ with_step p n r s = record r { expect = steps_left p n; certificate = keeping p 
 
 -- what comes next after the last line
 abbrev pub end_in : Line → Option Expect
-end_in line = if same_bytes line (codes "end") then Some expect.NoLine else None
+end_in line = if same_text line (codes "end") then Some expect.NoLine else None
 
 -- what the reading is after one more line of what is expected, or None where the line has not its form
 abbrev pub read_as : Expect → Reading → Line → Option Reading

@@ -14,8 +14,10 @@ use Rattle.xs_right_laws.proofs.Places.{get_within}
 use Rattle.xs_certificate_laws.specs.Certificate.{Certificate, Part, a_step, an_end, steps_in}
 use Rattle.xs_text_laws.specs.Lines.{Line}
 use Rattle.xs_certificate_laws.specs.Accepted.{Subject, bad_hint, no_conflict, not_covered, known_before, Covers, givens, goals, known_at, vars_of, IsAccepted}
-use Rattle.xs_certificate_laws.proofs.Values.{satisfies_one, one_of_them, covered_true}
+use Rattle.xs_certificate_laws.proofs.Values.{satisfies_one}
 use Rattle.xs_lits.proofs.ModelLemmas.{Satisfies-append}
+use Rattle.xs_tree.proofs.ListLaws.{take_there}
+use Rattle.xs_lits.proofs.ClauseLists.{member_true, covered_true}
 
 -- hints that are neither bad nor all open end false
 ends_false : (clauses : List (List Literal)) (vars : ℕ) (c : List Literal) (hints : List ℕ) →
@@ -27,21 +29,13 @@ ends_false clauses vars c hints good closed = by_fault (fault_of clauses (assume
     by_fault (Some (BadHint n)) e = absurd (good n ((fault-BadHint clauses (assumed_false vars c) hints n).0 e))
     by_fault (Some NoConflict) e = absurd (closed ((fault-NoConflict clauses (assumed_false vars c) hints).0 e))
 
-take_next : {A : Type 0} (xs : List A) (i : ℕ) (x : A) → slice_get xs i ≡ Some x → take (suc i) xs ≡ take i xs ++ x ∷ []
-take_next [] i x e = cc
-take_next (y ∷ xs) zero x e = same y x e
-  where
-    same : {A : Type 0} (y x : A) → Some y ≡ Some x → (y ∷ []) ≡ (x ∷ [])
-    same y x e = cc
-take_next (y ∷ xs) (suc i) x e = ap (λ zs. y ∷ zs) (take_next xs i x e)
-
 map_end : (f : Step → List Literal) (xs : List Step) (x : Step) → map f (xs ++ x ∷ []) ≡ map f xs ++ f x ∷ []
 map_end f [] x = refl
 map_end f (y ∷ xs) x = ap (λ zs. f y ∷ zs) (map_end f xs x)
 
 known_next : (gs : List (List Literal)) (steps : List Step) (i : ℕ) (s : Step) → slice_get steps i ≡ Some s → known_before gs steps (suc i) ≡ known_before gs steps i ++ s.clause ∷ []
 known_next gs steps i s at =
-    ap (λ ss. gs ++ map (λ (s : Step). s.clause) ss) (take_next steps i s at) ∙ ap (λ cs. gs ++ cs) (map_end (λ (s : Step). s.clause) (take i steps) s)
+    ap (λ ss. gs ++ map (λ (s : Step). s.clause) ss) (take_there steps i s at) ∙ ap (λ cs. gs ++ cs) (map_end (λ (s : Step). s.clause) (take i steps) s)
     ∙ sym (append_assoc gs (map (λ (s : Step). s.clause) (take i steps)) (s.clause ∷ []))
 
 module _ (T : Type 0) (reads : List Line → T → Type 0) (is_trace reaches : T → Type 0) (has_failed : T → ℕ → Type 0) (subject : Subject) (c : Certificate)
@@ -65,4 +59,4 @@ module _ (T : Type 0) (reads : List Line → T → Type 0) (is_trace reaches : T
       let covers : Covers (known_at subject c part (length (steps_in c part))) needed = accepted (an_end part) tt not_covered needed m in
       let all : Satisfies v (known_at subject c part (length (steps_in c part))) = all_follow part v h (length (steps_in c part)) (omega arith) in
       covered_true v covers.1 needed covers.4
-      (one_of_them v (known_at subject c part (length (steps_in c part))) covers.1 all (covers.0, covers.2, covers.3))
+      (member_true v (known_at subject c part (length (steps_in c part))) covers.1 all (covers.0, covers.2, covers.3))

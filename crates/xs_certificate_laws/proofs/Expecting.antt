@@ -9,13 +9,16 @@ use Rattle.xs_lits.specs.declared.step.Step.{Step}
 use Rattle.xs_certificate_laws.specs.Certificate.{Certificate, Part, part_first, part_next, part_bad}
 use Rattle.xs_text_laws.specs.Lines.{Line, spaced, counted, IsLine}
 use Rattle.xs_certificate_laws.specs.CertificateText.{Version, version_one, version_two, version_line, size_words, set_line, set_lines, clause_line, step_line, part_lines, lines_of, IsSmall, IsCount, IsLiteral, IsWritableStep, AreWritable, IsWritableText, CanSay, AreLinesOf}
-use Rattle.xs_certificate_laws.specs.LineReading.{same_bytes, count_in, set_in, clause_in, step_in}
+use Rattle.xs_certificate_laws.specs.LineReading.{count_in, set_in, clause_in, step_in}
 use Rattle.xs_certificate_laws.specs.Expecting.{Expect, a_version, the_numbers_of, sets_count, a_set_line, trace_count, a_text_line, clauses_count, a_clause_line, steps_count, a_step_line, the_end, no_line, sets_left, text_left, clauses_left, after_part, steps_left, part_word, Numbers, numbers_from, small_in, size_of, numbers_of_words, numbers_in, after, then_after, after_lines}
 use Rattle.xs_certificate_laws.proofs.Words.{number_word}
 use Rattle.xs_text_laws.proofs.Words.{free_by_test}
-use Rattle.xs_certificate_laws.proofs.LineReading.{same_then, same_itself, chosen, taken, number_exact, line_exact, counts_exact, sets_exact, clauses_exact, steps_exact}
+use Rattle.xs_certificate_laws.proofs.LineReading.{chosen, number_exact, line_exact, counts_exact, sets_exact, clauses_exact, steps_exact}
 use Rattle.std.proofs.lemmas.Option.{same_Some as some_same, none-some as never}
 use Rattle.xs_text_laws.proofs.OneTrace.{both_of as two}
+use Rattle.xs_tree.proofs.BoolLaws.{if_true}
+use Rattle.xs_tree.specs.Texts.{same_text}
+use Rattle.xs_tree.proofs.ValueLaws.{same_text_equal, same_text_refl}
 
 -- Going on.
 pub none_after : (lines : List Line) → after_lines None lines ≡ None
@@ -176,15 +179,15 @@ sets_then (suc k) (l ∷ t ∷ lines) f h =
 
 end_then : (lines : List Line) → Finishes (Some the_end) lines → lines ≡ codes "end" ∷ []
 end_then [] h = absurd (not_done the_end refl h)
-end_then (l ∷ lines) h = by_branch (chosen (same_bytes l (codes "end")) (Some no_line) None (after the_end l) refl) lines h
+end_then (l ∷ lines) h = by_branch (chosen (same_text l (codes "end")) (Some no_line) None (after the_end l) refl) lines h
   where
     by_rest : (lines : List Line) → Finishes (Some no_line) lines → lines ≡ []
     by_rest [] g = refl
     by_rest (m ∷ lines) g = absurd (never no_line (sym (none_after lines) ∙ g))
 
-    by_branch : ((same_bytes l (codes "end") ≡ true) × (Some no_line ≡ after the_end l)) ⊎ ((same_bytes l (codes "end") ≡ false) × (None ≡ after the_end l)) → (lines : List Line) → after_lines (after the_end l) lines ≡ Some no_line →
+    by_branch : ((same_text l (codes "end") ≡ true) × (Some no_line ≡ after the_end l)) ⊎ ((same_text l (codes "end") ≡ false) × (None ≡ after the_end l)) → (lines : List Line) → after_lines (after the_end l) lines ≡ Some no_line →
         (l ∷ lines) ≡ codes "end" ∷ []
-    by_branch (inl t) lines g = two l (codes "end") lines [] (same_then l (codes "end") t.0) (by_rest lines (ap (λ o. after_lines o lines) t.1 ∙ g))
+    by_branch (inl t) lines g = two l (codes "end") lines [] (same_text_equal l (codes "end") t.0) (by_rest lines (ap (λ o. after_lines o lines) t.1 ∙ g))
     by_branch (inr t) lines g = absurd (never no_line (sym (none_after lines) ∙ ap (λ o. after_lines o lines) t.1 ∙ g))
 
 -- The numbers.
@@ -218,19 +221,19 @@ size_is version_one n [] x e h =
 size_is version_one n (z ∷ words) x e h = absurd (never x.size h)
 size_is version_two n [] x e h = absurd (never x.size h)
 size_is version_two n (z ∷ []) x e h = absurd (never x.size h)
-size_is version_two n (z ∷ s ∷ []) x e h = by_branch (chosen (same_bytes z (codes "size")) (small_in s) None (Some x.size) h)
+size_is version_two n (z ∷ s ∷ []) x e h = by_branch (chosen (same_text z (codes "size")) (small_in s) None (Some x.size) h)
   where
     three : (z y s t : Line) → z ≡ y → s ≡ t → (z ∷ s ∷ []) ≡ (y ∷ t ∷ [])
     three z y s t e f = cc
 
-    by_branch : ((same_bytes z (codes "size") ≡ true) × (small_in s ≡ Some x.size)) ⊎ ((same_bytes z (codes "size") ≡ false) × (None ≡ Some x.size)) → ((z ∷ s ∷ []) ≡ size_words version_two x.size) × IsSmall x.size × SizeSays version_two x
-    by_branch (inl t) = let number : (s ≡ decimal x.size) × IsSmall x.size = (small_exact s x.size).0 t.1 in (three z (codes "size") s (decimal x.size) (same_then z (codes "size") t.0) number.0, number.1, tt)
+    by_branch : ((same_text z (codes "size") ≡ true) × (small_in s ≡ Some x.size)) ⊎ ((same_text z (codes "size") ≡ false) × (None ≡ Some x.size)) → ((z ∷ s ∷ []) ≡ size_words version_two x.size) × IsSmall x.size × SizeSays version_two x
+    by_branch (inl t) = let number : (s ≡ decimal x.size) × IsSmall x.size = (small_exact s x.size).0 t.1 in (three z (codes "size") s (decimal x.size) (same_text_equal z (codes "size") t.0) number.0, number.1, tt)
     by_branch (inr t) = absurd (never x.size t.1)
 size_is version_two n (z ∷ s ∷ t ∷ words) x e h = absurd (never x.size h)
 
 size_back : (v : Version) (x : Numbers) → AreSmall v x → size_of v (Some x.faults) (size_words v x.size) ≡ Some x.size
 size_back version_one x h = ap (λ n. Some n) (sym h.says)
-size_back version_two x h = taken (same_bytes (codes "size") (codes "size")) (small_in (decimal x.size)) None (same_itself (codes "size")) ∙ (small_exact (decimal x.size) x.size).1 (refl, h.size)
+size_back version_two x h = if_true (same_text (codes "size") (codes "size")) (small_in (decimal x.size)) None (same_text_refl (codes "size")) ∙ (small_exact (decimal x.size) x.size).1 (refl, h.size)
 
 words_exact : (v : Version) (ws : List Line) (x : Numbers) → (numbers_of_words v ws ≡ Some x ↔ ((ws ≡ words_of v x) × AreSmall v x))
 words_exact v ws x = (to ws, back)
@@ -242,16 +245,16 @@ words_exact v ws x = (to ws, back)
     to [] e = absurd (never x e)
     to (b ∷ []) e = absurd (never x e)
     to (b ∷ f ∷ []) e = absurd (never x e)
-    to (b ∷ f ∷ n ∷ words) e = by_branch (chosen (same_bytes f (codes "faults")) (numbers_from (small_in b) (small_in n) (size_of v (small_in n) words)) None (Some x) e)
+    to (b ∷ f ∷ n ∷ words) e = by_branch (chosen (same_text f (codes "faults")) (numbers_from (small_in b) (small_in n) (size_of v (small_in n) words)) None (Some x) e)
       where
-        by_branch : ((same_bytes f (codes "faults") ≡ true) × (numbers_from (small_in b) (small_in n) (size_of v (small_in n) words) ≡ Some x)) ⊎ ((same_bytes f (codes "faults") ≡ false) × (None ≡ Some x)) →
+        by_branch : ((same_text f (codes "faults") ≡ true) × (numbers_from (small_in b) (small_in n) (size_of v (small_in n) words) ≡ Some x)) ⊎ ((same_text f (codes "faults") ≡ false) × (None ≡ Some x)) →
             ((b ∷ f ∷ n ∷ words) ≡ words_of v x) × AreSmall v x
         by_branch (inl t) =
             let parts = all_three (small_in b) (small_in n) (size_of v (small_in n) words) x t.1 in
             let bits : (b ≡ decimal x.bits) × IsSmall x.bits = (small_exact b x.bits).0 parts.0 in
             let faults : (n ≡ decimal x.faults) × IsSmall x.faults = (small_exact n x.faults).0 parts.1 in
             let size : (words ≡ size_words v x.size) × IsSmall x.size × SizeSays v x = size_is v n words x parts.1 parts.2 in
-            (four b (decimal x.bits) f (codes "faults") n (decimal x.faults) words (size_words v x.size) bits.0 (same_then f (codes "faults") t.0) faults.0 size.0, record { bits = bits.1; faults = faults.1; size = size.1; says = size.2 })
+            (four b (decimal x.bits) f (codes "faults") n (decimal x.faults) words (size_words v x.size) bits.0 (same_text_equal f (codes "faults") t.0) faults.0 size.0, record { bits = bits.1; faults = faults.1; size = size.1; says = size.2 })
         by_branch (inr t) = absurd (never x t.1)
 
     back : (ws ≡ words_of v x) × AreSmall v x → numbers_of_words v ws ≡ Some x
@@ -259,7 +262,7 @@ words_exact v ws x = (to ws, back)
         let bits : small_in (decimal x.bits) ≡ Some x.bits = (small_exact (decimal x.bits) x.bits).1 (refl, h.1.bits) in
         let faults : small_in (decimal x.faults) ≡ Some x.faults = (small_exact (decimal x.faults) x.faults).1 (refl, h.1.faults) in
         ap (numbers_of_words v) h.0
-        ∙ taken (same_bytes (codes "faults") (codes "faults")) (numbers_from (small_in (decimal x.bits)) (small_in (decimal x.faults)) (size_of v (small_in (decimal x.faults)) (size_words v x.size))) None (same_itself (codes "faults"))
+        ∙ if_true (same_text (codes "faults") (codes "faults")) (numbers_from (small_in (decimal x.bits)) (small_in (decimal x.faults)) (size_of v (small_in (decimal x.faults)) (size_words v x.size))) None (same_text_refl (codes "faults"))
         ∙ ap (λ o. numbers_from o (small_in (decimal x.faults)) (size_of v (small_in (decimal x.faults)) (size_words v x.size))) bits
         ∙ ap (λ o. numbers_from (Some x.bits) o (size_of v o (size_words v x.size))) faults
         ∙ ap (numbers_from (Some x.bits) (Some x.faults)) (size_back v x h.1)
@@ -287,18 +290,18 @@ record VersionThen (l : Line) (lines : List Line) : Type 0 where
   pub rest : Finishes (Some (the_numbers_of version)) lines
 
 version_then : (l : Line) (lines : List Line) → Finishes (Some a_version) (l ∷ lines) → VersionThen l lines
-version_then l lines h = by_first (chosen (same_bytes l (version_line version_one)) (Some (the_numbers_of version_one)) (if same_bytes l (version_line version_two) then Some (the_numbers_of version_two) else None) (after a_version l) refl)
+version_then l lines h = by_first (chosen (same_text l (version_line version_one)) (Some (the_numbers_of version_one)) (if same_text l (version_line version_two) then Some (the_numbers_of version_two) else None) (after a_version l) refl)
   where
-    by_second : (o : Option Expect) → o ≡ after a_version l → ((same_bytes l (version_line version_two) ≡ true) × (Some (the_numbers_of version_two) ≡ o)) ⊎ ((same_bytes l (version_line version_two) ≡ false) × (None ≡ o)) → VersionThen l lines
-    by_second o e (inl t) = record { version = version_two; is = same_then l (version_line version_two) t.0; rest = ap (λ p. after_lines p lines) (t.1 ∙ e) ∙ h }
+    by_second : (o : Option Expect) → o ≡ after a_version l → ((same_text l (version_line version_two) ≡ true) × (Some (the_numbers_of version_two) ≡ o)) ⊎ ((same_text l (version_line version_two) ≡ false) × (None ≡ o)) → VersionThen l lines
+    by_second o e (inl t) = record { version = version_two; is = same_text_equal l (version_line version_two) t.0; rest = ap (λ p. after_lines p lines) (t.1 ∙ e) ∙ h }
     by_second o e (inr t) = absurd (never no_line (sym (none_after lines) ∙ ap (λ p. after_lines p lines) (t.1 ∙ e) ∙ h))
 
-    by_first : ((same_bytes l (version_line version_one) ≡ true) × (Some (the_numbers_of version_one) ≡ after a_version l))
-        ⊎ ((same_bytes l (version_line version_one) ≡ false) × ((if same_bytes l (version_line version_two) then Some (the_numbers_of version_two) else None) ≡ after a_version l)) → VersionThen l lines
-    by_first (inl t) = record { version = version_one; is = same_then l (version_line version_one) t.0; rest = ap (λ p. after_lines p lines) t.1 ∙ h }
+    by_first : ((same_text l (version_line version_one) ≡ true) × (Some (the_numbers_of version_one) ≡ after a_version l))
+        ⊎ ((same_text l (version_line version_one) ≡ false) × ((if same_text l (version_line version_two) then Some (the_numbers_of version_two) else None) ≡ after a_version l)) → VersionThen l lines
+    by_first (inl t) = record { version = version_one; is = same_text_equal l (version_line version_one) t.0; rest = ap (λ p. after_lines p lines) t.1 ∙ h }
     by_first (inr t) =
-        by_second (if same_bytes l (version_line version_two) then Some (the_numbers_of version_two) else None) t.1
-        (chosen (same_bytes l (version_line version_two)) (Some (the_numbers_of version_two)) None (if same_bytes l (version_line version_two) then Some (the_numbers_of version_two) else None) refl)
+        by_second (if same_text l (version_line version_two) then Some (the_numbers_of version_two) else None) t.1
+        (chosen (same_text l (version_line version_two)) (Some (the_numbers_of version_two)) None (if same_text l (version_line version_two) then Some (the_numbers_of version_two) else None) refl)
 
 record InvariantThen (lines : List Line) : Type 0 where
   pub clauses : List (List Literal)

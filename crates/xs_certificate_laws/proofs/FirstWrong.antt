@@ -8,12 +8,13 @@ use Rattle.xs_certificate_laws.specs.Certificate.{Certificate}
 use Rattle.xs_text_laws.specs.Lines.{Line, counted, fed, IsLine}
 use Rattle.xs_certificate_laws.specs.CertificateText.{Version, version_one, version_two, literal_text, version_line, numbers_line, set_lines, clause_line, step_line, part_lines, lines_of, IsSmall, IsCount, IsLiteral, IsHint, IsWritableStep, AreWritable, IsWritableText, IsWritable, AreLinesOf, BeginsOne, IsBadLine, EndsBefore}
 use Rattle.xs_certificate_laws.specs.TextLaws.{OneCertificate, OneWrongLine, SpelledHasNone}
-use Rattle.xs_text_laws.proofs.Separators.{IsFree, same_front, comparable}
+use Rattle.xs_text_laws.proofs.Separators.{IsFree, same_front, comparable, all_front}
 use Rattle.xs_certificate_laws.proofs.Words.{number_free, literal_free}
-use Rattle.xs_text_laws.proofs.Words.{free_by_test, spaced_line, all_texts, all_joined}
+use Rattle.xs_text_laws.proofs.Words.{free_by_test, spaced_line, all_texts}
 use Rattle.xs_certificate_laws.proofs.OneText.{one_certificate}
 use Rattle.xs_text_laws.proofs.Cuts.{grouped, no_feed, same_fed}
 use Rattle.std.proofs.lemmas.List.{append-nil as append_none}
+use Rattle.xs_value.proofs.ListLaws.{all_joined}
 
 -- No line of a certificate has a line feed.
 small_line : (n : ℕ) → IsSmall n → IsFree 10 (decimal n)
@@ -86,15 +87,11 @@ all_lines v c f = (
   ),
 )
 
-pub all_left : {A : Type 0} (P : A → Type 0) (xs ys : List A) → AllByRecursion P (xs ++ ys) → AllByRecursion P xs
-all_left P [] ys h = tt
-all_left P (x ∷ xs) ys h = (h.0, all_left P xs ys h.1)
-
 pub are_lines : (lines : List Line) (c : Certificate) → AreLinesOf lines c → AllByRecursion IsLine lines
 are_lines lines c h = subst (AllByRecursion IsLine) (sym h.1.2) (all_lines h.1.0 c h.0)
 
 pub begun_lines : (lines : List Line) → BeginsOne lines → AllByRecursion IsLine lines
-begun_lines lines b = all_left IsLine lines b.1 (are_lines (lines ++ b.1) b.0 b.2)
+begun_lines lines b = all_front IsLine lines b.1 (are_lines (lines ++ b.1) b.0 b.2)
 
 -- lines that begin a certificate are begun by lines that begin one
 begun_before : (xs ys : List Line) → BeginsOne (xs ++ ys) → BeginsOne xs

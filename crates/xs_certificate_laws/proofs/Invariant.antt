@@ -1,5 +1,5 @@
 -- The invariant of an accepted certificate is one.
-use Rattle.std.proofs.Common.{◌≡◌, ℕ, zero, suc, ◌+◌, ◌-◌, ◌≤◌, ◌<◌, Bool, true, false, List, [], ◌∷◌, length, map, Some, refl, sym, ◌∙◌, ap, arith}
+use Rattle.std.proofs.Common.{◌≡◌, ℕ, ◌+◌, ◌-◌, ◌≤◌, ◌<◌, true, List, [], map, Some, refl, sym, ◌∙◌, ap, arith}
 use Rattle.std.specs.Prelude.{Contains, slice_get, slice_index_or}
 use Rattle.std.proofs.lemmas.List.Elements.{Contains-get_or}
 use Rattle.xs_lits.specs.Literal.{Literal, signed}
@@ -11,9 +11,11 @@ use Rattle.xs_certificate_laws.specs.Certificate.{Part, part_first, part_next, p
 use Rattle.xs_text_laws.specs.Lines.{Line}
 use Rattle.xs_certificate_laws.specs.Accepted.{givens, goals, foreign_literal}
 use Rattle.xs_certificate_laws.specs.CertificateLaws.{AcceptedIsInvariant}
-use Rattle.xs_certificate_laws.proofs.Values.{one_of_them, agrees_at, same_clause, map_same}
+use Rattle.xs_certificate_laws.proofs.Values.{agrees_at, same_clause, map_same}
 use Rattle.xs_certificate_laws.proofs.Derived.{goal_true}
 use Rattle.xs_lits.proofs.ModelLemmas.{Satisfies-append, Satisfies-from_All}
+use Rattle.xs_lits.proofs.ClauseLists.{map_contains, member_true}
+use Rattle.xs_tree.proofs.BoolLaws.{never}
 
 module _ (system : System) (s : State) (is_state : IsState system s) where
   -- the value of a state bit under an assignment that agrees from n on
@@ -43,18 +45,6 @@ module _ (system : System) (s : State) (is_state : IsState system s) where
   pub in_frame : (clauses : List (List Literal)) → ((c : List Literal) → Contains clauses c → clause_value (state_values system s) c ≡ true) → InFrame system clauses s
   in_frame clauses h = (is_state, Satisfies-from_All (state_values system s) clauses (λ k d within. h (slice_index_or clauses k d) (Contains-get_or clauses k d within)))
 
-map_contains : (f : List Literal → List Literal) (cs : List (List Literal)) (c : List Literal) → Contains cs c → Contains (map f cs) (f c)
-map_contains f cs c m = by_place cs m.0 m.1 m.2
-  where
-    by_place : (cs : List (List Literal)) (i : ℕ) → i < length cs → slice_index_or cs i c ≡ c → Contains (map f cs) (f c)
-    by_place [] i h e = absurd (omega (arith, h))
-    by_place (d ∷ cs) zero h e = (zero, omega arith, ap f e)
-    by_place (d ∷ cs) (suc i) h e =
-        let rest : Contains (map f cs) (f c) = by_place cs i (omega (arith, h)) e in (suc rest.0, omega (arith, rest.1), rest.2)
-
-never : (b : Bool) → b ≡ false → b ≡ true → ⊥
-never b e g = cc
-
 module _ (T : Type 0) (reads : List Line → T → Type 0) (is_trace reaches : T → Type 0) (has_failed : T → ℕ → Type 0) where
   pub accepted_is_invariant : AcceptedIsInvariant T reads is_trace reaches has_failed
   accepted_is_invariant subject c accepted = record {
@@ -83,4 +73,4 @@ module _ (T : Type 0) (reads : List Line → T → Type 0) (is_trace reaches : T
           Satisfies-from_All v c.invariant
           (λ k d within. let m : Contains c.invariant (slice_index_or c.invariant k d) = Contains-get_or c.invariant k d within in
           now_value subject.system s inside.0 v agrees (slice_index_or c.invariant k d) (over (slice_index_or c.invariant k d) m)
-          ∙ one_of_them (state_values subject.system s) c.invariant (slice_index_or c.invariant k d) inside.1 m)
+          ∙ member_true (state_values subject.system s) c.invariant (slice_index_or c.invariant k d) inside.1 m)

@@ -9,13 +9,15 @@ use Rattle.xs_text_laws.specs.Lines.{Line, counted, fed, IsLine}
 use Rattle.xs_certificate_laws.specs.CertificateText.{Version, version_one, version_two, version_line, numbers_line, set_line, set_lines, clause_line, step_line, part_lines, lines_of, IsSmall, IsCount, IsLiteral, IsWritableStep, AreWritable, IsWritableText, IsWritable, CanSay, AreLinesOf, SpellsCertificate, BeginsOne, IsBadLine, EndsBefore}
 use Rattle.xs_certificate_laws.specs.LineReading.{count_in, set_in, clause_in, step_in}
 use Rattle.xs_certificate_laws.specs.Expecting.{Expect, a_version, the_numbers_of, sets_count, a_set_line, trace_count, a_text_line, clauses_count, a_clause_line, steps_count, a_step_line, the_end, no_line, sets_left, text_left, clauses_left, after_part, steps_left, part_word, numbers_in, after, after_lines, TakenLinesBegin, EachTextIsJudged}
-use Rattle.xs_text_laws.proofs.Words.{free_by_test, all_joined}
+use Rattle.xs_text_laws.proofs.Words.{free_by_test}
 use Rattle.xs_certificate_laws.proofs.LineReading.{counts_exact, sets_exact, clauses_exact, steps_exact}
-use Rattle.xs_certificate_laws.proofs.FirstWrong.{all_left, counted_line, clause_lines, step_lines, numbers_lines}
+use Rattle.xs_certificate_laws.proofs.FirstWrong.{counted_line, clause_lines, step_lines, numbers_lines}
 use Rattle.xs_text_laws.proofs.Cuts.{grouped, Cut, cut, fed_joined}
 use Rattle.xs_certificate_laws.proofs.Expecting.{Finishes, none_after, after_joined, is_done, not_done, free_word, free_trace, numbers_exact, whole_then}
 use Rattle.std.proofs.lemmas.List.{append-nil as append_none}
 use Rattle.std.proofs.lemmas.Option.{none-some as never}
+use Rattle.xs_text_laws.proofs.Separators.{all_front}
+use Rattle.xs_value.proofs.ListLaws.{all_joined}
 
 -- Forwards: a certificate's lines are taken.
 step_on : {A : Type 0} (f : A → Expect) (o : Option A) (a : A) (lines : List Line) → o ≡ Some a → after_lines (option_map f o) lines ≡ after_lines (Some (f a)) lines
@@ -58,7 +60,7 @@ version_on : (v : Version) → after a_version (version_line v) ≡ Some (the_nu
 version_on version_one = refl
 version_on version_two = refl
 
-numbers_on : (v : Version) (c : Certificate) → IsWritable c → CanSay v c → numbers_in v (numbers_line v c) ≡ Some (record { bits = c.bits; faults = c.faults; size = c.size })
+pub numbers_on : (v : Version) (c : Certificate) → IsWritable c → CanSay v c → numbers_in v (numbers_line v c) ≡ Some (record { bits = c.bits; faults = c.faults; size = c.size })
 numbers_on version_one c w s = (numbers_exact version_one (numbers_line version_one c) (record { bits = c.bits; faults = c.faults; size = c.size })).1 (refl, record { bits = w.bits; faults = w.faults; size = w.size; says = s })
 numbers_on version_two c w s = (numbers_exact version_two (numbers_line version_two c) (record { bits = c.bits; faults = c.faults; size = c.size })).1 (refl, record { bits = w.bits; faults = w.faults; size = w.size; says = tt })
 
@@ -283,7 +285,7 @@ module _ (bytes : List ℕ) where
           is_line = (all_last IsLine s.good (s.line ∷ s.more) all).0;
           lie = c.lie ∙ ap (λ ls. fed ls ++ c.tail) s.is ∙ ap (λ bs. bs ++ c.tail) (fed_joined s.good (s.line ∷ s.more)) ∙ append_assoc (fed s.good) (fed (s.line ∷ s.more)) c.tail
               ∙ ap (λ bs. fed s.good ++ bs) (grouped s.line s.more c.tail);
-          begun = begins s.good s.expected (all_left IsLine s.good (s.line ∷ s.more) all) s.taken_so_far;
+          begun = begins s.good s.expected (all_front IsLine s.good (s.line ∷ s.more) all) s.taken_so_far;
           place = refl;
           cause = inl (fed s.more ++ c.tail, refl, not_begun (s.good ++ s.line ∷ []) (after_joined (Some a_version) s.good (s.line ∷ []) ∙ ap (λ o. after_lines o (s.line ∷ [])) s.taken_so_far ∙ s.not_taken));
         },

@@ -22,3 +22,4 @@ pub mod Judged
 pub mod Settled
 pub mod Judging
 pub mod Subjects
+pub mod Highest

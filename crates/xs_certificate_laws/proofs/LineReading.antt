@@ -10,34 +10,16 @@ use Rattle.xs_lits.specs.Literal.{Literal, plain, opposite}
 use Rattle.xs_lits.specs.declared.step.Step.{Step}
 use Rattle.xs_text_laws.specs.Lines.{Line, spaced}
 use Rattle.xs_certificate_laws.specs.CertificateText.{literal_text, IsSmall, IsCount, IsLiteral, IsHint, IsWritableStep}
-use Rattle.xs_certificate_laws.specs.LineReading.{same_bytes, with_byte, words_in, number_in, cons_both, each_in, after_word, one_number, not_zero, hint_in, literal_in, before_first, cut_at_colon, step_of, step_of_parts, step_of_words, CountsAreExact, SetsAreExact, ClausesAreExact, StepsAreExact}
+use Rattle.xs_certificate_laws.specs.LineReading.{with_byte, words_in, number_in, cons_both, each_in, after_word, one_number, not_zero, hint_in, literal_in, before_first, cut_at_colon, step_of, step_of_parts, step_of_words, CountsAreExact, SetsAreExact, ClausesAreExact, StepsAreExact}
 use Rattle.xs_text_laws.proofs.Separators.{IsFree, no_separator}
 use Rattle.xs_certificate_laws.proofs.Words.{number_free, number_word, literal_free, literal_word}
-use Rattle.xs_text_laws.proofs.Words.{free_by_test, all_texts, all_joined}
+use Rattle.xs_text_laws.proofs.Words.{free_by_test, all_texts}
 use Rattle.std.proofs.lemmas.Bool.{and_parts as both_parts}
 use Rattle.std.proofs.lemmas.Option.{same_Some as some_same, none-some as never}
-
-pub same_then : (a b : List ℕ) → same_bytes a b ≡ true → a ≡ b
-same_then [] [] e = refl
-same_then [] (y ∷ b) e = cc
-same_then (x ∷ a) [] e = cc
-same_then (x ∷ a) (y ∷ b) e =
-    let parts : (nat_eq x y ≡ true) × (same_bytes a b ≡ true) = both_parts (nat_eq x y) (same_bytes a b) e in
-    two x y a b (eqb-true x y parts.0) (same_then a b parts.1)
-  where
-    two : (x y : ℕ) (a b : List ℕ) → x ≡ y → a ≡ b → (x ∷ a) ≡ (y ∷ b)
-    two x y a b e f = cc
-
-pub same_itself : (a : List ℕ) → same_bytes a a ≡ true
-same_itself [] = refl
-same_itself (x ∷ a) = rw (eq-eqb x x refl, same_itself a) refl
-
--- what a test answers, and the branch that is then taken
-pub taken : {A : Type 0} (b : Bool) (x y : A) → b ≡ true → (if b then x else y) ≡ x
-taken b x y e = rw e refl
-
-pub refused : {A : Type 0} (b : Bool) (x y : A) → b ≡ false → (if b then x else y) ≡ y
-refused b x y e = rw e refl
+use Rattle.xs_tree.proofs.BoolLaws.{if_true, if_false}
+use Rattle.xs_value.proofs.ListLaws.{all_joined}
+use Rattle.xs_tree.specs.Texts.{same_text}
+use Rattle.xs_tree.proofs.ValueLaws.{same_text_equal, same_text_refl}
 
 pub chosen : {A : Type 0} (b : Bool) (x y z : A) → (if b then x else y) ≡ z → ((b ≡ true) × (x ≡ z)) ⊎ ((b ≡ false) × (y ≡ z))
 chosen true x y z e = inl (refl, e)
@@ -50,11 +32,11 @@ differs a b h = go (nat_eq a b) refl
     go true e = absurd (h (eqb-true a b e))
     go false e = e
 
-pub not_same : (a b : List ℕ) → (a ≡ b → ⊥) → same_bytes a b ≡ false
-not_same a b h = go (same_bytes a b) refl
+pub not_same : (a b : List ℕ) → (a ≡ b → ⊥) → same_text a b ≡ false
+not_same a b h = go (same_text a b) refl
   where
-    go : (t : Bool) → same_bytes a b ≡ t → same_bytes a b ≡ false
-    go true e = absurd (h (same_then a b e))
+    go : (t : Bool) → same_text a b ≡ t → same_text a b ≡ false
+    go true e = absurd (h (same_text_equal a b e))
     go false e = e
 
 -- Words.
@@ -90,12 +72,12 @@ words_spaced (b ∷ bs) = by_rest (words_in bs) (some_words bs) (words_spaced bs
 -- and words without spaces are read from their line
 words_of_free : (w : Line) → IsFree 32 w → words_in w ≡ w ∷ []
 words_of_free [] f = refl
-words_of_free (b ∷ w) f = refused (nat_eq b 32) ([] ∷ words_in w) (with_byte b (words_in w)) (differs b 32 f.0) ∙ ap (with_byte b) (words_of_free w f.1)
+words_of_free (b ∷ w) f = if_false (nat_eq b 32) ([] ∷ words_in w) (with_byte b (words_in w)) (differs b 32 f.0) ∙ ap (with_byte b) (words_of_free w f.1)
 
 words_of_front : (w rest : Line) → IsFree 32 w → words_in (w ++ 32 ∷ rest) ≡ w ∷ words_in rest
 words_of_front [] rest f = refl
 words_of_front (b ∷ w) rest f =
-    refused (nat_eq b 32) ([] ∷ words_in (w ++ 32 ∷ rest)) (with_byte b (words_in (w ++ 32 ∷ rest))) (differs b 32 f.0) ∙ ap (with_byte b) (words_of_front w rest f.1)
+    if_false (nat_eq b 32) ([] ∷ words_in (w ++ 32 ∷ rest)) (with_byte b (words_in (w ++ 32 ∷ rest))) (differs b 32 f.0) ∙ ap (with_byte b) (words_of_front w rest f.1)
 
 words_of_spaced : (w : Line) (ws : List Line) → AllByRecursion (IsFree 32) (w ∷ ws) → words_in (spaced (w ∷ ws)) ≡ w ∷ ws
 words_of_spaced w [] f = words_of_free w f.0
@@ -109,22 +91,22 @@ pub number_exact : (limit : ℕ) → limit ≤ 2 ^ 64 → (w : Line) (n : ℕ) �
 number_exact limit low w n = (to, back)
   where
     to : number_in limit w ≡ Some n → (w ≡ decimal n) × (n < limit)
-    to e = by_branch (chosen (same_bytes w (decimal (digits_value 10 w)) && nat_lt (digits_value 10 w) limit) (Some (digits_value 10 w)) None (Some n) e)
+    to e = by_branch (chosen (same_text w (decimal (digits_value 10 w)) && nat_lt (digits_value 10 w) limit) (Some (digits_value 10 w)) None (Some n) e)
       where
-        by_branch : (((same_bytes w (decimal (digits_value 10 w)) && nat_lt (digits_value 10 w) limit) ≡ true) × (Some (digits_value 10 w) ≡ Some n))
-            ⊎ (((same_bytes w (decimal (digits_value 10 w)) && nat_lt (digits_value 10 w) limit) ≡ false) × (None ≡ Some n)) → (w ≡ decimal n) × (n < limit)
+        by_branch : (((same_text w (decimal (digits_value 10 w)) && nat_lt (digits_value 10 w) limit) ≡ true) × (Some (digits_value 10 w) ≡ Some n))
+            ⊎ (((same_text w (decimal (digits_value 10 w)) && nat_lt (digits_value 10 w) limit) ≡ false) × (None ≡ Some n)) → (w ≡ decimal n) × (n < limit)
         by_branch (inl h) =
-            let parts : (same_bytes w (decimal (digits_value 10 w)) ≡ true) × (nat_lt (digits_value 10 w) limit ≡ true) = both_parts (same_bytes w (decimal (digits_value 10 w))) (nat_lt (digits_value 10 w) limit) h.0 in
+            let parts : (same_text w (decimal (digits_value 10 w)) ≡ true) × (nat_lt (digits_value 10 w) limit ≡ true) = both_parts (same_text w (decimal (digits_value 10 w))) (nat_lt (digits_value 10 w) limit) h.0 in
             let same : digits_value 10 w ≡ n = some_same (digits_value 10 w) n h.1 in
-            (same_then w (decimal (digits_value 10 w)) parts.0 ∙ ap decimal same, subst (λ k. k < limit) same (ltb-true (digits_value 10 w) limit parts.1))
+            (same_text_equal w (decimal (digits_value 10 w)) parts.0 ∙ ap decimal same, subst (λ k. k < limit) same (ltb-true (digits_value 10 w) limit parts.1))
         by_branch (inr h) = absurd (never n h.1)
 
     back : (w ≡ decimal n) × (n < limit) → number_in limit w ≡ Some n
     back h =
         let value : digits_value 10 w ≡ n = ap (digits_value 10) h.0 ∙ value_of_decimal n (below h.1) in
-        let itself : same_bytes w (decimal (digits_value 10 w)) ≡ true = ap (λ k. same_bytes w (decimal k)) value ∙ ap (λ x. same_bytes x (decimal n)) h.0 ∙ same_itself (decimal n) in
+        let itself : same_text w (decimal (digits_value 10 w)) ≡ true = ap (λ k. same_text w (decimal k)) value ∙ ap (λ x. same_text x (decimal n)) h.0 ∙ same_text_refl (decimal n) in
         let small : nat_lt (digits_value 10 w) limit ≡ true = ap (λ k. nat_lt k limit) value ∙ lt-ltb n limit h.1 in
-        taken (same_bytes w (decimal (digits_value 10 w)) && nat_lt (digits_value 10 w) limit) (Some (digits_value 10 w)) None (both (same_bytes w (decimal (digits_value 10 w))) (nat_lt (digits_value 10 w) limit) itself small) ∙ ap (λ k. Some k) value
+        if_true (same_text w (decimal (digits_value 10 w)) && nat_lt (digits_value 10 w) limit) (Some (digits_value 10 w)) None (both (same_text w (decimal (digits_value 10 w))) (nat_lt (digits_value 10 w) limit) itself small) ∙ ap (λ k. Some k) value
       where
         below : n < limit → n < 2 ^ 64
         below h = omega (arith, h, low)
@@ -193,18 +175,18 @@ line_exact {A = A} word g words P free frees exact line a = (to (some_words line
 
     to : ((w : Line) × (ws : List Line) × (words_in line ≡ w ∷ ws)) → after_word word g (words_in line) ≡ Some a → (line ≡ spaced (word ∷ words a)) × P a
     to some e =
-        by_branch (chosen (same_bytes some.0 word) (g some.1) None (Some a) (ap (after_word word g) (sym some.2) ∙ e))
+        by_branch (chosen (same_text some.0 word) (g some.1) None (Some a) (ap (after_word word g) (sym some.2) ∙ e))
       where
-        by_branch : ((same_bytes some.0 word ≡ true) × (g some.1 ≡ Some a)) ⊎ ((same_bytes some.0 word ≡ false) × (None ≡ Some a)) → (line ≡ spaced (word ∷ words a)) × P a
+        by_branch : ((same_text some.0 word ≡ true) × (g some.1 ≡ Some a)) ⊎ ((same_text some.0 word ≡ false) × (None ≡ Some a)) → (line ≡ spaced (word ∷ words a)) × P a
         by_branch (inl h) =
             let rest : (some.1 ≡ words a) × P a = (exact some.1 a).0 h.1 in
-            (sym (words_spaced line) ∙ ap spaced (some.2 ∙ two some.0 word some.1 (words a) (same_then some.0 word h.0) rest.0), rest.1)
+            (sym (words_spaced line) ∙ ap spaced (some.2 ∙ two some.0 word some.1 (words a) (same_text_equal some.0 word h.0) rest.0), rest.1)
         by_branch (inr h) = absurd (never a h.1)
 
     back : (line ≡ spaced (word ∷ words a)) × P a → after_word word g (words_in line) ≡ Some a
     back h =
         ap (after_word word g) (ap words_in h.0 ∙ words_of_spaced word (words a) (free, frees a h.1))
-        ∙ taken (same_bytes word word) (g (words a)) None (same_itself word) ∙ (exact (words a) a).1 (refl, h.1)
+        ∙ if_true (same_text word word) (g (words a)) None (same_text_refl word) ∙ (exact (words a) a).1 (refl, h.1)
 
 -- Counts and sets.
 one_exact : (ws : List Line) (n : ℕ) → (one_number ws ≡ Some n ↔ ((ws ≡ decimal n ∷ []) × IsCount n))
@@ -250,7 +232,7 @@ hint_exact w n = (to (number_in (2 ^ 63) w) refl, back)
             (number.0 ∙ ap decimal same, (subst (λ x. 1 ≤ x) same (positive k t.0), subst (λ x. x < 2 ^ 63) same number.1))
 
     back : (w ≡ decimal n) × IsHint n → hint_in w ≡ Some n
-    back h = ap not_zero ((number_exact (2 ^ 63) (omega arith) w n).1 (h.0, h.1.1)) ∙ refused (nat_eq n 0) None (Some n) (differs n 0 (λ e. absurd (omega (arith, e, h.1.0))))
+    back h = ap not_zero ((number_exact (2 ^ 63) (omega arith) w n).1 (h.0, h.1.1)) ∙ if_false (nat_eq n 0) None (Some n) (differs n 0 (λ e. absurd (omega (arith, e, h.1.0))))
 
 -- what a literal with this variable is
 negative_is : (l : Literal) (n : ℕ) → l.negated ≡ true → l.var ≡ n → l ≡ opposite (plain n)
@@ -267,7 +249,7 @@ positive_is l n e f = one l.var n l.negated f e
 
 of_digits : (w : Line) → 0 < length w → IsFree 45 w → literal_in w ≡ option_map plain (hint_in w)
 of_digits [] h f = absurd (omega (arith, h))
-of_digits (b ∷ bs) h f = refused (nat_eq b 45) (option_map (λ x. opposite (plain x)) (hint_in bs)) (option_map plain (hint_in (b ∷ bs))) (differs b 45 f.0)
+of_digits (b ∷ bs) h f = if_false (nat_eq b 45) (option_map (λ x. opposite (plain x)) (hint_in bs)) (option_map plain (hint_in (b ∷ bs))) (differs b 45 f.0)
 
 literal_read : (l : Literal) → IsLiteral l → literal_in (literal_text l) ≡ Some l
 literal_read l h = by_sign l.negated refl
@@ -277,7 +259,7 @@ literal_read l h = by_sign l.negated refl
 
     by_sign : (n : Bool) → l.negated ≡ n → literal_in (if n then 45 ∷ decimal l.var else decimal l.var) ≡ Some l
     by_sign true e =
-        taken (nat_eq 45 45) (option_map (λ x. opposite (plain x)) (hint_in (decimal l.var))) (option_map plain (hint_in (45 ∷ decimal l.var))) (eq-eqb 45 45 refl)
+        if_true (nat_eq 45 45) (option_map (λ x. opposite (plain x)) (hint_in (decimal l.var))) (option_map plain (hint_in (45 ∷ decimal l.var))) (eq-eqb 45 45 refl)
         ∙ ap (option_map (λ x. opposite (plain x))) hint ∙ ap (λ k. Some k) (sym (negative_is l l.var e refl))
     by_sign false e =
         of_digits (decimal l.var) (number_word l.var h.1).some (number_free 45 (inl (omega arith)) l.var h.1) ∙ ap (option_map plain) hint ∙ ap (λ k. Some k) (sym (positive_is l l.var e refl))
@@ -321,7 +303,7 @@ some_parts a b = Some (a, b)
 
 cut_from : (ws a b : List Line) → cut_at_colon ws ≡ some_parts a b → ws ≡ a ++ codes ":" ∷ b
 cut_from [] a b e = absurd (never {A = List Line × List Line} (a, b) e)
-cut_from (w ∷ ws) a b e = by_branch (chosen (same_bytes w (codes ":")) (some_parts [] ws) (before_first w (cut_at_colon ws)) (some_parts a b) e) (λ c d f. cut_from ws c d f)
+cut_from (w ∷ ws) a b e = by_branch (chosen (same_text w (codes ":")) (some_parts [] ws) (before_first w (cut_at_colon ws)) (some_parts a b) e) (λ c d f. cut_from ws c d f)
   where
     two : (x y : Line) (xs ys : List Line) → x ≡ y → xs ≡ ys → (x ∷ xs) ≡ (y ∷ ys)
     two x y xs ys e f = cc
@@ -332,17 +314,17 @@ cut_from (w ∷ ws) a b e = by_branch (chosen (same_bytes w (codes ":")) (some_p
         let same : ◌≡◌ {A = List Line × List Line} (w ∷ parts.0, parts.1) (a, b) = some_same {A = List Line × List Line} (w ∷ parts.0, parts.1) (a, b) f in
         ap (λ zs. w ∷ zs) (more parts.0 parts.1 h) ∙ ap (λ (t : List Line × List Line). t.0 ++ codes ":" ∷ t.1) same
 
-    by_branch : ((same_bytes w (codes ":") ≡ true) × (some_parts [] ws ≡ some_parts a b)) ⊎ ((same_bytes w (codes ":") ≡ false) × (before_first w (cut_at_colon ws) ≡ some_parts a b)) →
+    by_branch : ((same_text w (codes ":") ≡ true) × (some_parts [] ws ≡ some_parts a b)) ⊎ ((same_text w (codes ":") ≡ false) × (before_first w (cut_at_colon ws) ≡ some_parts a b)) →
         ((c d : List Line) → cut_at_colon ws ≡ some_parts c d → ws ≡ c ++ codes ":" ∷ d) → (w ∷ ws) ≡ a ++ codes ":" ∷ b
     by_branch (inl t) more =
         let same : ◌≡◌ {A = List Line × List Line} ([], ws) (a, b) = some_same {A = List Line × List Line} ([], ws) (a, b) t.1 in
-        two w (codes ":") ws ws (same_then w (codes ":") t.0) refl ∙ ap (λ (u : List Line × List Line). u.0 ++ codes ":" ∷ u.1) same
+        two w (codes ":") ws ws (same_text_equal w (codes ":") t.0) refl ∙ ap (λ (u : List Line × List Line). u.0 ++ codes ":" ∷ u.1) same
     by_branch (inr t) more = by_rest (cut_at_colon ws) refl t.1 more
 
 cut_joined : (a b : List Line) → AllByRecursion (λ x. x ≡ codes ":" → ⊥) a → cut_at_colon (a ++ codes ":" ∷ b) ≡ some_parts a b
-cut_joined [] b f = taken (same_bytes (codes ":") (codes ":")) (some_parts [] b) (before_first (codes ":") (cut_at_colon b)) (same_itself (codes ":"))
+cut_joined [] b f = if_true (same_text (codes ":") (codes ":")) (some_parts [] b) (before_first (codes ":") (cut_at_colon b)) (same_text_refl (codes ":"))
 cut_joined (w ∷ a) b f =
-    refused (same_bytes w (codes ":")) (some_parts [] (a ++ codes ":" ∷ b)) (before_first w (cut_at_colon (a ++ codes ":" ∷ b))) (not_same w (codes ":") f.0) ∙ ap (before_first w) (cut_joined a b f.1)
+    if_false (same_text w (codes ":")) (some_parts [] (a ++ codes ":" ∷ b)) (before_first w (cut_at_colon (a ++ codes ":" ∷ b))) (not_same w (codes ":") f.0) ∙ ap (before_first w) (cut_joined a b f.1)
 
 pub no_colon : (l : Literal) → IsLiteral l → literal_text l ≡ codes ":" → ⊥
 no_colon l h e = no_separator 58 (literal_text l) [] [] (literal_free 58 (inr (omega arith)) l h) e

@@ -1,6 +1,6 @@
 -- A certificate that was made is accepted, and what its parts are to show follows from what is given there.
-use Rattle.std.proofs.Common.{◌≡◌, ℕ, zero, suc, ◌+◌, ◌<◌, true, List, [], ◌∷◌, ◌++◌, length, map, Some, None, refl, sym, ◌∙◌, ap, subst, arith}
-use Rattle.std.specs.Prelude.{Contains, All, slice_get, slice_index_or}
+use Rattle.std.proofs.Common.{◌≡◌, ℕ, zero, suc, ◌+◌, true, List, [], ◌∷◌, ◌++◌, length, map, Some, None, refl, sym, ◌∙◌, ap, subst}
+use Rattle.std.specs.Prelude.{Contains, All, slice_get}
 use Rattle.std.proofs.lemmas.List.Elements.{All-contains}
 use Rattle.xs_lits.specs.Literal.{Literal}
 use Rattle.xs_lits.specs.Models.{TotalAssignment, clause_value, Satisfies}
@@ -15,10 +15,10 @@ use Rattle.xs_certificate_laws.specs.Certificate.{Certificate, Part, part_first,
 use Rattle.xs_text_laws.specs.Lines.{Line}
 use Rattle.xs_certificate_laws.specs.Accepted.{Subject, Rule, Keeps, other_numbers, no_set, contains_a_set, foreign_literal, bad_hint, no_conflict, not_covered, givens, vars_of, known_at, Covers}
 use Rattle.xs_certificate_laws.specs.Derived.{IsMade, MadeIsAccepted, GoalsFollow}
-use Rattle.xs_certificate_laws.proofs.Values.{one_of_them}
 use Rattle.xs_certificate_laws.proofs.Invariant.{now_value, next_value, in_frame}
 use Rattle.xs_certificate_laws.proofs.Steps.{step_at, all_known}
 use Rattle.xs_lits.proofs.ModelLemmas.{Satisfies-front, Satisfies-back}
+use Rattle.xs_lits.proofs.ClauseLists.{from_mapped, member_true}
 
 -- hints that end false are not bad, and not all open
 not_bad : (clauses : List (List Literal)) (vars : ℕ) (c : List Literal) (hints : List ℕ) → EndsFalse clauses (assumed_false vars c) hints → (n : ℕ) → FailsAt clauses (assumed_false vars c) hints n → ⊥
@@ -83,17 +83,6 @@ agrees_bits : (n k : ℕ) (v : TotalAssignment) → Agrees v n (bits_from n k v)
 agrees_bits n zero v = tt
 agrees_bits n (suc k) v = (refl, agrees_bits (n + 1) k v)
 
--- a member of a mapped list comes from one of the list
-from_map : (f : List Literal → List Literal) (cs : List (List Literal)) (d : List Literal) → Contains (map f cs) d → (c : List Literal) × Contains cs c × (f c ≡ d)
-from_map f cs d m = by_place cs m.0 m.1 m.2
-  where
-    by_place : (cs : List (List Literal)) (i : ℕ) → i < length (map f cs) → slice_index_or (map f cs) i d ≡ d → (c : List Literal) × Contains cs c × (f c ≡ d)
-    by_place [] i h e = absurd (omega (arith, h))
-    by_place (c ∷ cs) zero h e = (c, (0, omega arith, refl), e)
-    by_place (c ∷ cs) (suc i) h e =
-        let rest : (b : List Literal) × Contains cs b × (f b ≡ d) = by_place cs i (omega (arith, h)) e in
-        (rest.0, (suc rest.1.0, omega (arith, rest.1.1), rest.1.2), rest.2)
-
 module _ (subject : Subject) (c : Certificate) (over : All (IsOverBits subject.system) c.invariant) (invariant : IsInvariant subject.system (subject.bad c.sets c.size) c.invariant) where
   abbrev now : TotalAssignment → State
   now v = bits_from 2 subject.system.state_bits v
@@ -106,13 +95,13 @@ module _ (subject : Subject) (c : Certificate) (over : All (IsOverBits subject.s
 
   inside : (v : TotalAssignment) → Satisfies v c.invariant → InFrame subject.system c.invariant (now v)
   inside v holds = in_frame subject.system (now v) (is_now v) c.invariant
-      (λ d m. sym (now_value subject.system (now v) (is_now v) v (agrees_bits 2 subject.system.state_bits v) d (over_one d m)) ∙ one_of_them v c.invariant d holds m)
+      (λ d m. sym (now_value subject.system (now v) (is_now v) v (agrees_bits 2 subject.system.state_bits v) d (over_one d m)) ∙ member_true v c.invariant d holds m)
 
   first_follows : (v : TotalAssignment) → Satisfies v subject.system.first → (d : List Literal) → Contains c.invariant d → clause_value v d ≡ true
   first_follows v holds d m =
       let frame : InFrame subject.system c.invariant (now v) = invariant.holds_first (now v) (is_now v, (v, agrees_bits 2 subject.system.state_bits v, holds)) in
       now_value subject.system (now v) (is_now v) v (agrees_bits 2 subject.system.state_bits v) d (over_one d m)
-      ∙ one_of_them (state_values subject.system (now v)) c.invariant d frame.1 m
+      ∙ member_true (state_values subject.system (now v)) c.invariant d frame.1 m
 
   next_follows : (v : TotalAssignment) → Satisfies v (subject.system.step ++ c.invariant) → (d : List Literal) → Contains c.invariant d → clause_value v (map (moved_on subject.system.state_bits) d) ≡ true
   next_follows v holds d m =
@@ -122,7 +111,7 @@ module _ (subject : Subject) (c : Certificate) (over : All (IsOverBits subject.s
       let frame : InFrame subject.system c.invariant next =
       invariant.is_kept (now v) next (inside v (Satisfies-back v subject.system.step c.invariant holds))
       (is_now v, is_next, (v, agrees_bits 2 subject.system.state_bits v, agrees, Satisfies-front v subject.system.step c.invariant holds)) in
-      next_value subject.system next is_next v agrees d (over_one d m) ∙ one_of_them (state_values subject.system next) c.invariant d frame.1 m
+      next_value subject.system next is_next v agrees d (over_one d m) ∙ member_true (state_values subject.system next) c.invariant d frame.1 m
 
   bad_follows : (v : TotalAssignment) → Satisfies v (subject.bad c.sets c.size ++ c.invariant) → ⊥
   bad_follows v holds =
@@ -132,6 +121,6 @@ module _ (subject : Subject) (c : Certificate) (over : All (IsOverBits subject.s
 pub goals_follow : GoalsFollow
 goals_follow subject c over invariant part_first needed m = λ v holds. first_follows subject c over invariant v holds needed m
 goals_follow subject c over invariant part_next needed m =
-    λ v holds. let d : (d : List Literal) × Contains c.invariant d × (map (moved_on subject.system.state_bits) d ≡ needed) = from_map (map (moved_on subject.system.state_bits)) c.invariant needed m in
+    λ v holds. let d : (d : List Literal) × Contains c.invariant d × (map (moved_on subject.system.state_bits) d ≡ needed) = from_mapped (map (moved_on subject.system.state_bits)) c.invariant needed m in
     subst (λ e. clause_value v e ≡ true) d.2 (next_follows subject c over invariant v holds d.0 d.1)
 goals_follow subject c over invariant part_bad needed m = λ v holds. absurd (bad_follows subject c over invariant v holds)

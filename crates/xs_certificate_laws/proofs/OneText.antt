@@ -11,8 +11,9 @@ use Rattle.xs_text_laws.specs.Lines.{Line, counted}
 use Rattle.xs_certificate_laws.specs.CertificateText.{Version, version_one, version_two, literal_text, version_line, numbers_line, set_line, set_lines, clause_line, step_line, part_lines, lines_of, IsSmall, IsCount, IsLiteral, IsHint, IsWritableStep, AreWritable, IsWritableText, IsWritable, CanSay}
 use Rattle.xs_text_laws.proofs.Separators.{IsFree, same_front}
 use Rattle.xs_certificate_laws.proofs.Words.{number_word, same_number, literal_word, same_literals, same_numbers}
-use Rattle.xs_text_laws.proofs.Words.{free_by_test, IsWord, same_words, same_texts, all_texts, all_more, all_joined}
+use Rattle.xs_text_laws.proofs.Words.{free_by_test, IsWord, same_words, same_texts, all_texts}
 use Rattle.xs_certificate_laws.proofs.LineReading.{no_colon as not_colon}
+use Rattle.xs_value.proofs.ListLaws.{all_more, all_joined}
 
 small_counts : (n : ℕ) → IsSmall n → IsCount n
 small_counts n h = omega (arith, h)
@@ -244,10 +245,10 @@ is_bad : IsWord (codes "bad")
 is_bad = word_by_test (codes "bad") (omega arith) (free_by_test 32 (codes "bad") refl)
 
 -- what stands after the parts and the sets
-abbrev from_bad : Certificate → List Line
+abbrev pub from_bad : Certificate → List Line
 from_bad c = part_lines (codes "bad") c.bad ++ codes "end" ∷ []
 
-abbrev from_next : Certificate → List Line
+abbrev pub from_next : Certificate → List Line
 from_next c = part_lines (codes "next") c.next ++ from_bad c
 
 abbrev from : Certificate → List Line

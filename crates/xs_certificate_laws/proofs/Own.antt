@@ -8,11 +8,11 @@ use Rattle.xs_tree.specs.ProgramTree.{Text, Formula, ModuleTree, ProgramTree}
 use Rattle.xs_tree.specs.Values.{Value, truth, number, symbol}
 use Rattle.xs_tree.specs.Laws.{AllLeaves, AllLeavesOfTrees, AllLeavesOfBranches}
 use Rattle.xs_tree.specs.Scope.{Place, state, kind_at, module_at, find_module}
-use Rattle.xs_tree.specs.Trace.{Each, is_member, in_domain, IsInstance, IsVariable}
+use Rattle.xs_tree.specs.Trace.{Each, is_member, in_domain, IsInstance, IsVariable, EachBoth}
 use Rattle.xs_tree.specs.Flat.{FlatLeaf, flat_variable, flat_symbol, flat_definition, FlatVariable, FlatFormula, FlatModel}
 use Rattle.xs_flat_laws.specs.History.{Mode}
 use Rattle.xs_flat_laws.specs.Items.{Visit, visits, variables_of}
-use Rattle.xs_flat_laws.specs.Model.{IsVariableOf, EachBoth}
+use Rattle.xs_flat_laws.specs.Model.{IsVariableOf}
 use Rattle.xs_flat_laws.specs.FlatTrace.{IsOwnName, IsOwnFormula, NamesOwn, IsModeOf}
 use Rattle.xs_flat_laws.specs.Resolved.{leaves_in, trees_leaves, branches_leaves, Resolver, IsSound, IsResolved}
 use Rattle.xs_flat_laws.proofs.Conditions.{each_join}

@@ -1,26 +1,14 @@
 -- What clauses are under assignments that agree with a state.
 use Rattle.std.proofs.Common.{◌≡◌, ℕ, zero, suc, ◌+◌, ◌<◌, true, false, ◌||◌, List, [], ◌∷◌, length, map, refl, sym, ◌∙◌, ap, arith}
-use Rattle.std.specs.Prelude.{Contains, All, Any, slice_index_or}
-use Rattle.std.proofs.lemmas.List.Elements.{All-contains, All-head, All-tail}
-use Rattle.std.proofs.lemmas.List.Folds.{Any-from_list_any, list_any-from_Any}
+use Rattle.std.specs.Prelude.{All, slice_index_or}
+use Rattle.std.proofs.lemmas.List.Elements.{All-head, All-tail}
 use Rattle.xs_lits.specs.Literal.{Literal}
 use Rattle.xs_lits.specs.Models.{TotalAssignment, literal_value, clause_value, Satisfies}
 use Rattle.xs_lits.specs.States.{State, Agrees}
 use Rattle.std.proofs.lemmas.Bool.{and_from as both_true}
-use Rattle.xs_lits.proofs.ModelLemmas.{All-from_Satisfies as each_true}
 
 pub satisfies_one : (v : TotalAssignment) (c : List Literal) → clause_value v c ≡ true → Satisfies v (c ∷ [])
 satisfies_one v c e = both_true (clause_value v c) true e refl
-
-pub one_of_them : (v : TotalAssignment) (cs : List (List Literal)) (c : List Literal) → Satisfies v cs → Contains cs c → clause_value v c ≡ true
-one_of_them v cs c h m = All-contains (λ c. clause_value v c ≡ true) cs c (each_true v cs h) m
-
--- a clause whose literals are all in another makes that true
-pub covered_true : (v : TotalAssignment) (c needed : List Literal) → All (Contains needed) c → clause_value v c ≡ true → clause_value v needed ≡ true
-covered_true v c needed inside e =
-    let some : Any (λ l. literal_value v l ≡ true) c = Any-from_list_any (literal_value v) c e in
-    let there : Contains needed some.1 = All-contains (Contains needed) c some.1 inside (some.0, some.2, some.3) in
-    list_any-from_Any (literal_value v) needed (there.0, some.1, there.1, there.2, some.4)
 
 -- States.
 next_place : (n i : ℕ) → n + 1 + i ≡ n + suc i

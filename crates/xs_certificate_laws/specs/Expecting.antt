@@ -5,7 +5,8 @@ use Rattle.std.specs.List.{AllByRecursion}
 use Rattle.xs_certificate_laws.specs.Certificate.{Certificate, Part, part_first, part_next, part_bad}
 use Rattle.xs_text_laws.specs.Lines.{Line, IsLine}
 use Rattle.xs_certificate_laws.specs.CertificateText.{Version, version_one, version_two, version_line, AreLinesOf, BeginsOne, SpellsCertificate, IsBadLine, EndsBefore}
-use Rattle.xs_certificate_laws.specs.LineReading.{same_bytes, words_in, number_in, after_word, count_in, set_in, clause_in, step_in}
+use Rattle.xs_certificate_laws.specs.LineReading.{words_in, number_in, after_word, count_in, set_in, clause_in, step_in}
+use Rattle.xs_tree.specs.Texts.{same_text}
 
 -- what the next line is to be; with a set, a text line, a clause or a step, how many of them come after it
 pub data Expect : Type 0 where
@@ -72,12 +73,12 @@ small_in w = number_in (2 ^ 31) w
 -- the size: in version 1 the number of faults, in version 2 the word after `size`
 abbrev pub size_of : Version → Option ℕ → List Line → Option ℕ
 size_of version_one faults [] = faults
-size_of version_two faults (z ∷ s ∷ []) = if same_bytes z (codes "size") then small_in s else None
+size_of version_two faults (z ∷ s ∷ []) = if same_text z (codes "size") then small_in s else None
 size_of _ faults words = None
 
 -- the numbers that the words after `bits` say
 abbrev pub numbers_of_words : Version → List Line → Option Numbers
-numbers_of_words version (b ∷ f ∷ n ∷ words) = if same_bytes f (codes "faults") then numbers_from (small_in b) (small_in n) (size_of version (small_in n) words) else None
+numbers_of_words version (b ∷ f ∷ n ∷ words) = if same_text f (codes "faults") then numbers_from (small_in b) (small_in n) (size_of version (small_in n) words) else None
 numbers_of_words version _ = None
 
 -- the numbers that the second line says
@@ -87,7 +88,7 @@ numbers_in version line = after_word (codes "bits") (numbers_of_words version) (
 -- what is expected after a line, or None where the line has not its form
 abbrev pub after : Expect → Line → Option Expect
 after a_version line =
-    if same_bytes line (version_line version_one) then Some (the_numbers_of version_one) else (if same_bytes line (version_line version_two) then Some (the_numbers_of version_two) else None)
+    if same_text line (version_line version_one) then Some (the_numbers_of version_one) else (if same_text line (version_line version_two) then Some (the_numbers_of version_two) else None)
 after (the_numbers_of version) line = option_map (λ x. sets_count) (numbers_in version line)
 after sets_count line = option_map sets_left (count_in (codes "sets") line)
 after (a_set_line k) line = option_map (λ x. trace_count k) (set_in line)
@@ -97,7 +98,7 @@ after clauses_count line = option_map clauses_left (count_in (codes "invariant")
 after (a_clause_line n) line = option_map (λ x. clauses_left n) (clause_in line)
 after (steps_count p) line = option_map (steps_left p) (count_in (part_word p) line)
 after (a_step_line p n) line = option_map (λ x. steps_left p n) (step_in line)
-after the_end line = if same_bytes line (codes "end") then Some no_line else None
+after the_end line = if same_text line (codes "end") then Some no_line else None
 after no_line line = None
 
 -- what comes next after a line, where something was to come before it

@@ -6,7 +6,7 @@ use Rattle.xs_tree.specs.Values.{Value}
 use Rattle.xs_tree.specs.May.{Valuation}
 use Rattle.xs_tree.specs.Flat.{FlatLeaf, FlatModel}
 use Rattle.xs_flat_laws.specs.History.{Mode}
-use Rattle.xs_flat_laws.specs.Model.{IsVariableNumber, IsFlatOf, EachBoth}
+use Rattle.xs_flat_laws.specs.Model.{IsVariableNumber, IsFlatOf}
 use Rattle.xs_flat_laws.specs.ResolvedAt.{IsResolvedAt}
 use Rattle.xs_flat_laws.specs.Rules.{IsAccepted}
 use Rattle.xs_type_laws.specs.Laws.{values_by_number}
@@ -18,6 +18,7 @@ use Rattle.xs_weave.specs.Faults.{Fault, HasFaults}
 use Rattle.xs_weave.specs.Woven.{woven}
 use Rattle.xs_fei.specs.Weavable.{IsReadable, IsWeavable}
 use Rattle.xs_right_laws.specs.Right.{IsRight}
+use Rattle.xs_tree.specs.Trace.{EachBoth}
 
 -- the fault's mode in a flat model: the variable holds the state of the slice at the instance, and the symbol is that of the mode
 pub record IsModeOfFault (m : FlatModel) (fault : Fault) (mode : Mode) : Type 0 where

@@ -1,5 +1,5 @@
 -- What a line of a certificate says, computed: each reading is exact, and what it answers has that line as its text.
-use Rattle.std.specs.Prelude.{◌≡◌, ◌↔◌, ◌≢◌, ℕ, ◌^◌, nat_lt, nat_eq, Bool, true, false, ◌&&◌, if◌then◌else◌, List, [], ◌∷◌, Option, Some, None, codes}
+use Rattle.std.specs.Prelude.{◌≡◌, ◌↔◌, ◌≢◌, ℕ, ◌^◌, nat_lt, nat_eq, ◌&&◌, if◌then◌else◌, List, [], ◌∷◌, Option, Some, None, codes}
 use Rattle.std.specs.Option.{option_map}
 use Rattle.std.specs.List.{AllByRecursion}
 use Rattle.std.specs.Fmt.{decimal}
@@ -8,12 +8,7 @@ use Rattle.xs_lits.specs.Literal.{Literal, plain, opposite}
 use Rattle.xs_lits.specs.declared.step.Step.{Step}
 use Rattle.xs_text_laws.specs.Lines.{Line, counted}
 use Rattle.xs_certificate_laws.specs.CertificateText.{set_line, clause_line, step_line, IsSmall, IsCount, IsLiteral, IsWritableStep}
-
--- the bytes are the same
-abbrev pub same_bytes : List ℕ → List ℕ → Bool
-same_bytes [] [] = true
-same_bytes (a ∷ as') (b ∷ bs) = nat_eq a b && same_bytes as' bs
-same_bytes _ _ = false
+use Rattle.xs_tree.specs.Texts.{same_text}
 
 -- words with a byte before the first of them
 abbrev pub with_byte : ℕ → List Line → List Line
@@ -27,7 +22,7 @@ words_in (b ∷ bs) = if nat_eq b 32 then [] ∷ words_in bs else with_byte b (w
 
 -- the number below the limit that is written so
 abbrev pub number_in : ℕ → Line → Option ℕ
-number_in limit w = if same_bytes w (decimal (digits_value 10 w)) && nat_lt (digits_value 10 w) limit then Some (digits_value 10 w) else None
+number_in limit w = if same_text w (decimal (digits_value 10 w)) && nat_lt (digits_value 10 w) limit then Some (digits_value 10 w) else None
 
 -- something before a list, where both are there
 abbrev pub cons_both : {A : Type 0} → Option A → Option (List A) → Option (List A)
@@ -42,7 +37,7 @@ each_in f (w ∷ words) = cons_both (f w) (each_in f words)
 -- what the words after this first one say
 abbrev pub after_word : {A : Type 0} → Line → (List Line → Option A) → List Line → Option A
 after_word word f [] = None
-after_word word f (w ∷ words) = if same_bytes w word then f words else None
+after_word word f (w ∷ words) = if same_text w word then f words else None
 
 -- the number that the only word is
 abbrev pub one_number : List Line → Option ℕ
@@ -83,7 +78,7 @@ before_first w (Some parts) = Some (w ∷ parts.0, parts.1)
 -- the words before the first colon, and those after it
 abbrev pub cut_at_colon : List Line → Option (List Line × List Line)
 cut_at_colon [] = None
-cut_at_colon (w ∷ words) = if same_bytes w (codes ":") then Some ([], words) else before_first w (cut_at_colon words)
+cut_at_colon (w ∷ words) = if same_text w (codes ":") then Some ([], words) else before_first w (cut_at_colon words)
 
 -- a step of a clause and hints, where both are given
 abbrev pub step_of : Option (List Literal) → Option (List ℕ) → Option Step

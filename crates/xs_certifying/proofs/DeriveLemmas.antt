@@ -30,18 +30,10 @@ use Rattle.xs_certificate_laws.proofs.Steps.{with_joined}
 use Rattle.xs_certifying.specs.Queries.{IsSoFar, IsOneFurther}
 use Rattle.xs_certifying.specs.Deriving.{IsPartWay, HasPositive}
 use Rattle.xs_certifying.proofs.Queries.{queries_derive}
-
--- The highest variable so far with that of the rest.
-at_least_one : (c : List Literal) → 1 ≤ highest_in c
-at_least_one [] = omega arith
-at_least_one (l ∷ ls) = let h : 1 ≤ highest_in ls = at_least_one ls in omega (arith, h)
+use Rattle.xs_certificate_laws.proofs.Highest.{at_least_one, at_least_one_of}
 
 pub begins_highest_in : (c : List Literal) → max 1 (highest_in c) ≡ highest_in c
 begins_highest_in c = let h : 1 ≤ highest_in c = at_least_one c in omega (arith, h)
-
-at_least_one_of : (cs : List (List Literal)) → 1 ≤ highest cs
-at_least_one_of [] = omega arith
-at_least_one_of (c ∷ cs) = let h : 1 ≤ highest cs = at_least_one_of cs in omega (arith, h)
 
 pub begins_highest : (cs : List (List Literal)) → max 1 (highest cs) ≡ highest cs
 begins_highest cs = let h : 1 ≤ highest cs = at_least_one_of cs in omega (arith, h)

@@ -19,8 +19,9 @@ use Rattle.xs_eval.specs.Stops.{Why, Stops, bad_first, bad_step, no_top, at_firs
 use Rattle.xs_eval.proofs.StopLaws.{one_stop, reaching_does_not}
 use Rattle.xs_check.specs.Matter.{Matter}
 use Rattle.xs_check.specs.Moments.{FailsExactly, is_same, are_those_of}
-use Rattle.xs_check.proofs.SetLaws.{each_in, all_from}
+use Rattle.xs_check.proofs.SetLaws.{each_in}
 use Rattle.std.proofs.lemmas.Bool.{and_parts, and_from as and_both}
+use Rattle.xs_value.proofs.ListLaws.{all_from}
 
 -- Two truth values that are the same.
 same_then : (b c : Bool) → is_same b c ≡ true → b ≡ c

@@ -1,8 +1,7 @@
 -- What is found in the rest of a part's sites is found in all of them, site after site.
-use Rattle.std.proofs.Common.{◌≡◌, ℕ, suc, ◌+◌, ◌<◌, ◌≤◌, List, [], ◌∷◌, length, drop, get_or, Some, sym, ap, subst, ◌∙◌, arith}
+use Rattle.std.proofs.Common.{◌≡◌, ℕ, suc, ◌+◌, ◌≤◌, List, [], ◌∷◌, length, drop, Some, sym, ap, subst, ◌∙◌, arith}
 use Rattle.std.specs.Prelude.{slice_get}
-use Rattle.std.proofs.lemmas.List.{drop_more, drop_all}
-use Rattle.std.proofs.lemmas.Option.{slice_get_within, get_or_from_slice_get}
+use Rattle.std.proofs.lemmas.List.{drop_all}
 use Rattle.xs_text_laws.specs.Lines.{Line}
 use Rattle.xs_lits.specs.Literal.{Literal}
 use Rattle.xs_lits.specs.declared.step.Step.{Step}
@@ -12,16 +11,11 @@ use Rattle.xs_check.specs.Matter.{Matter}
 use Rattle.xs_check.specs.Found.{IsKeptAt, IsBrokenAt, AreKept, IsFirstBroken, Finds, GoesOn}
 use Rattle.xs_check.specs.declared.judged.Judged.TheVariants.{Yes, No}
 use Rattle.xs_check.proofs.Finding.{kept_none, kept_then, broken_here, kept_both, broken_front}
+use Rattle.xs_value.proofs.ListLaws.{drop_there}
 
 -- the place of an item and what is left
 next : (k : ℕ) → suc k ≡ k + 1
 next k = omega arith
-
-drop_here : {A : Type 0} (xs : List A) (i : ℕ) (x : A) → i < length xs → x ≡ get_or xs i x → drop i xs ≡ x ∷ drop (i + 1) xs
-drop_here xs i x l e = drop_more xs i x l ∙ ap (λ y. y ∷ drop (i + 1) xs) (sym e)
-
-pub drop_there : {A : Type 0} (xs : List A) (i : ℕ) (x : A) → slice_get xs i ≡ Some x → drop i xs ≡ x ∷ drop (i + 1) xs
-drop_there xs i x e = drop_here xs i x (slice_get_within xs i x e) (sym (get_or_from_slice_get xs i x x e))
 
 module _ (a : Matter) where
   pub goes_itself : (xs : List Site) → GoesOn a xs xs

@@ -1,8 +1,8 @@
 -- What the tests of numbers and sets find, as the rules ask it.
 use Rattle.std.proofs.Common.{◌≡◌, ℕ, zero, suc, ◌<◌, ◌≤◌, Bool, true, false, not, List, [], ◌∷◌, length, take, Option, Some, None, refl, sym, ap, subst, ◌∙◌, arith}
-use Rattle.std.specs.Prelude.{◌&&◌, All, Contains, IsTrue, slice_get, slice_index_or}
+use Rattle.std.specs.Prelude.{◌&&◌, All, Contains, IsTrue, slice_get}
 use Rattle.std.specs.List.{list_all}
-use Rattle.std.proofs.lemmas.List.Elements.{All-contains, Contains-get_or}
+use Rattle.std.proofs.lemmas.List.Elements.{All-contains}
 use Rattle.xs_right_laws.specs.Sets.{IsRising, is_contained, stands_before}
 use Rattle.xs_right_laws.specs.Right.{IsContained}
 use Rattle.xs_encode_laws.proofs.SetLaws.{has_contains, contains_has, contained_has, contained_from}
@@ -12,13 +12,11 @@ use Rattle.xs_certificate_laws.specs.Accepted.{Subject, IsSetAt, IsApart}
 use Rattle.xs_check.specs.Order.{stands_after, is_after_in}
 use Rattle.std.proofs.lemmas.Option.{same_Some as some_same, none-some as none_some}
 use Rattle.std.proofs.lemmas.Bool.{and_parts, and_from as and_both}
+use Rattle.xs_value.proofs.ListLaws.{all_from}
 
 -- All of a list, by its members.
 pub each_in : {A : Type 0} (P : A → Type 0) (xs : List A) → All P xs → (x : A) → Contains xs x → P x
 each_in P xs h x m = All-contains P xs x h m
-
-pub all_from : {A : Type 0} (P : A → Type 0) (xs : List A) → ((x : A) → Contains xs x → P x) → All P xs
-all_from P xs h = λ k y within. h (slice_index_or xs k y) (Contains-get_or xs k y within)
 
 -- Containment.
 contained_then : (s t : List ℕ) → is_contained s t ≡ true → IsContained s t

@@ -15,7 +15,8 @@ use Rattle.xs_check.proofs.Finding.{kept_none, kept_then, broken_here}
 use Rattle.xs_derivations.specs.Steps.{BreaksStep, foreign, hint, no_false, IsTaken, FindsStep}
 use Rattle.xs_check.specs.Parts.{list_of, also_given}
 use Rattle.xs_check.proofs.SiteLaws.{step_kept, literals_broken, hints_broken, conflict_broken, end_kept, end_broken}
-use Rattle.xs_check.proofs.SetLaws.{each_in, all_from}
+use Rattle.xs_check.proofs.SetLaws.{each_in}
+use Rattle.xs_value.proofs.ListLaws.{all_from}
 
 module _ (a : Matter) (part : Part) (i : ℕ) (s : Step) (most : ℕ) (known : List (List Literal)) (vars : most ≡ vars_of a.subject a.certificate part) (clauses : known ≡ known_at a.subject a.certificate part i) where
   found_same : (new : Derivation) (o : Option ℕ) → FindsStep most known s new o → FindsStep (vars_of a.subject a.certificate part) (known_at a.subject a.certificate part i) s new o

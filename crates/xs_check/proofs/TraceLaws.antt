@@ -1,5 +1,5 @@
 -- Moments that a text gives can be replayed, and which rule is broken where it gives none.
-use Rattle.std.proofs.Common.{arith, ◌≡◌, ◌≢◌, ◌≤◌, ◌<◌, ℕ, suc, Bool, true, false, List, [], ◌∷◌, ◌++◌, length, Option, Some, None, refl, sym, ap, subst}
+use Rattle.std.proofs.Common.{arith, ◌≡◌, ◌≢◌, ◌≤◌, ◌<◌, ℕ, suc, Bool, true, List, [], ◌∷◌, ◌++◌, length, Option, Some, None, refl, ap, subst}
 use Rattle.std.specs.Prelude.{slice_get, IsTrue}
 use Rattle.std.proofs.lemmas.List.{length-append}
 use Rattle.xs_tree.specs.declared.program.Member.{Member}
@@ -13,9 +13,8 @@ use Rattle.xs_value.specs.declared.value.Value.TheVariants.{Bool as ABool, Num, 
 use Rattle.xs_tree.specs.Flat.{FlatVariable, FlatModel}
 use Rattle.xs_flat_laws.specs.FlatTrace.{AreInDomains}
 use Rattle.xs_text_laws.specs.Lines.{Line, fed}
-use Rattle.xs_eval.specs.Named as eval
-use Rattle.xs_eval.specs.Named.{named, named_all, named_trace, IsPlaceOf, IsNumbered, IsLawful}
-use Rattle.xs_report.specs.Told.{text_at, told_value, told_moment, told_trace}
+use Rattle.xs_eval.specs.Named.{IsPlaceOf, IsNumbered, IsLawful}
+use Rattle.xs_tree.specs.Told.{told_value, told_moment, told_trace}
 use Rattle.xs_text_laws.specs.Given.{IsPrintable, GivesMoments, GivesTrace, BytesGive}
 use Rattle.std.specs.List.{AllByRecursion}
 use Rattle.xs_text_laws.specs.Lines.{IsLine}
@@ -27,24 +26,7 @@ use Rattle.xs_report.specs.declared.fault.TraceFault.{TraceFault}
 use Rattle.xs_report.specs.declared.fault.TraceFault.TheVariants as fault
 use Rattle.xs_check.specs.Fit.{IsShortText}
 use Rattle.xs_check.specs.Moments.{CanBeReplayed, IsTextFault}
-
--- Both layers name values alike.
-pub same_text_at : (o : Option Text) → eval.text_at o ≡ text_at o
-same_text_at None = refl
-same_text_at (Some x) = refl
-
-pub named_is_told : (symbols : List Text) (v : Value) → named symbols v ≡ told_value symbols v
-named_is_told symbols (ABool b) = refl
-named_is_told symbols (Num n) = refl
-named_is_told symbols (Sym i) = ap told.symbol (same_text_at (slice_get symbols i))
-
-pub all_are_told : (symbols : List Text) (vs : List Value) → named_all symbols vs ≡ told_moment symbols vs
-all_are_told symbols [] = refl
-all_are_told symbols (v ∷ vs) = λ j. named_is_told symbols v j ∷ all_are_told symbols vs j
-
-pub trace_is_told : (symbols : List Text) (trace : List (List Value)) → named_trace symbols trace ≡ told_trace symbols trace
-trace_is_told symbols [] = refl
-trace_is_told symbols (v ∷ vs) = λ j. all_are_told symbols v j ∷ trace_is_told symbols vs j
+use Rattle.xs_tree.specs.Texts.{text_or_none}
 
 -- The empty text is no value of a type that can be written.
 pub no_empty_member : (ms : List Member) → Each IsWritableMember ms → is_member ms (told.symbol []) ≡ true → ⊥
@@ -68,7 +50,7 @@ numbered symbols d w (ABool b) h = tt
 numbered symbols d w (Num n) h = tt
 numbered symbols d w (Sym i) h = by_text (slice_get symbols i) refl (is_true (in_domain d (told_value symbols (Sym i))) h)
   where
-    by_text : (o : Option Text) → slice_get symbols i ≡ o → in_domain d (told.symbol (text_at o)) ≡ true → IsPlaceOf symbols i
+    by_text : (o : Option Text) → slice_get symbols i ≡ o → in_domain d (told.symbol (text_or_none o)) ≡ true → IsPlaceOf symbols i
     by_text None e f = absurd (no_empty_symbol d w f)
     by_text (Some x) e f = record { text = x; there = e }
 
@@ -81,14 +63,14 @@ all_numbered symbols (x ∷ xs) w (v ∷ vs) h = (numbered symbols x.declared (w
 
 module _ (m : FlatModel) (printable : IsPrintable m) where
   lawful_moment : (v : List Value) → AreInDomains m.variables (told_moment m.symbols v) → IsLawful m v
-  lawful_moment v h = record { domains = subst (AreInDomains m.variables) (sym (all_are_told m.symbols v)) h; numbered = all_numbered m.symbols m.variables printable.types v h }
+  lawful_moment v h = record { domains = h; numbered = all_numbered m.symbols m.variables printable.types v h }
 
-  all_lawful : (n : ℕ) (lines : List Line) (trace : List (List Value)) → GivesMoments m n lines (told_trace m.symbols trace) → Each (IsLawful m) trace
+  pub all_lawful : (n : ℕ) (lines : List Line) (trace : List (List Value)) → GivesMoments m n lines (told_trace m.symbols trace) → Each (IsLawful m) trace
   all_lawful n lines [] h = tt
   all_lawful n lines (v ∷ vs) h = (lawful_moment v h.3.domains, all_lawful (suc n) h.1 vs h.4)
 
   -- there are no more moments than lines
-  few_moments : (n : ℕ) (lines : List Line) (trace : List (List Value)) → GivesMoments m n lines (told_trace m.symbols trace) → length trace ≤ length lines
+  pub few_moments : (n : ℕ) (lines : List Line) (trace : List (List Value)) → GivesMoments m n lines (told_trace m.symbols trace) → length trace ≤ length lines
   few_moments n lines [] h = omega arith
   few_moments n lines (v ∷ vs) h =
       let more = few_moments (suc n) h.1 vs h.4 in
@@ -96,7 +78,7 @@ module _ (m : FlatModel) (printable : IsPrintable m) where
       let joined = length-append h.0 h.1 in
       omega (arith, more, whole, joined)
 
-  some_moments : (trace : List (List Value)) → told_trace m.symbols trace ≢ [] → 0 < length trace
+  pub some_moments : (trace : List (List Value)) → told_trace m.symbols trace ≢ [] → 0 < length trace
   some_moments [] h = absurd (h refl)
   some_moments (v ∷ vs) h = omega arith
 

@@ -7,7 +7,6 @@ ghost use Rattle.std.specs.Prelude.{◌≡◌, ◌↔◌, Some, IsTrue, IfOk, ma
 ghost use Rattle.xs_text_laws.specs.Lines.{fed};
 ghost use Rattle.xs_flat_laws.specs.FaultModes.{mode_of};
 ghost use Rattle.xs_flat_laws.specs.FlatTrace.{stands_in_some};
-ghost use Rattle.xs_eval.specs.Named.{named_trace};
 ghost use Rattle.xs_eval.specs.Replayed.{IsReaching};
 ghost use Rattle.xs_certificate_laws.specs.Certificate.{a_trace};
 ghost use Rattle.xs_check.specs.Asked.{asked};
@@ -23,6 +22,7 @@ use xs_eval::{Replayed, Table, has_failed, replay};
 use xs_report::{TraceFault, read_trace};
 use xs_sets::has_number;
 use xs_value::{ByteList, MomentList, OutOfMemory};
+ghost use Rattle.xs_tree.specs.Told.{told_trace};
 
 /// The rule that is broken first at the text of a trace for a set.
 pub(crate) fn trace_rule(
@@ -79,7 +79,7 @@ fn moments_rule(
 ) -> Result<Option<u32>, OutOfMemory>
     requires fit { IsFit (asked q.now).model (asked q.now).modes (asked q.now).top }
     requires replayed { CanBeReplayed (asked q.now).model trace.now }
-    ensures { IfOk result (FindsMoments (asked q.now) set.now (named_trace q.now.plain.now.model.symbols trace.now)) }
+    ensures { IfOk result (FindsMoments (asked q.now) set.now (told_trace q.now.plain.now.model.symbols trace.now)) }
 {
     let mut now = Table::for_model(alloc, q.plain)?;
     let mut next = Table::for_model(alloc, q.plain)?;
@@ -95,8 +95,8 @@ fn moments_rule(
 fn failed_rule(q: &Question<'_>, set: &[u32], trace: &MomentList) -> Option<u32>
     requires fit { IsFit (asked q.now).model (asked q.now).modes (asked q.now).top }
     requires replayed { CanBeReplayed (asked q.now).model trace.now }
-    requires reaching { IsReaching (asked q.now).model (asked q.now).top (named_trace q.now.plain.now.model.symbols trace.now) }
-    ensures { FindsMoments (asked q.now) set.now (named_trace q.now.plain.now.model.symbols trace.now) result }
+    requires reaching { IsReaching (asked q.now).model (asked q.now).top (told_trace q.now.plain.now.model.symbols trace.now) }
+    ensures { FindsMoments (asked q.now) set.now (told_trace q.now.plain.now.model.symbols trace.now) result }
 {
     if has_failed_exactly(q, set, trace) {
         None
@@ -109,7 +109,7 @@ fn failed_rule(q: &Question<'_>, set: &[u32], trace: &MomentList) -> Option<u32>
 fn has_failed_exactly(q: &Question<'_>, set: &[u32], trace: &MomentList) -> bool
     requires fit { IsFit (asked q.now).model (asked q.now).modes (asked q.now).top }
     requires replayed { CanBeReplayed (asked q.now).model trace.now }
-    ensures { IsTrue result ↔ FailsExactly (asked q.now) set.now (named_trace q.now.plain.now.model.symbols trace.now) }
+    ensures { IsTrue result ↔ FailsExactly (asked q.now) set.now (told_trace q.now.plain.now.model.symbols trace.now) }
 {
     if !are_faults(set, q.faults.len()) {
         return false;
@@ -121,7 +121,7 @@ fn has_failed_exactly(q: &Question<'_>, set: &[u32], trace: &MomentList) -> bool
 fn are_failed(q: &Question<'_>, set: &[u32], trace: &MomentList) -> bool
     requires fit { IsFit (asked q.now).model (asked q.now).modes (asked q.now).top }
     requires replayed { CanBeReplayed (asked q.now).model trace.now }
-    ensures { result ≡ are_those_of (λ f. stands_in_some (asked q.now).model f (named_trace q.now.plain.now.model.symbols trace.now)) set.now 1 (map mode_of q.now.faults.now) }
+    ensures { result ≡ are_those_of (λ f. stands_in_some (asked q.now).model f (told_trace q.now.plain.now.model.symbols trace.now)) set.now 1 (map mode_of q.now.faults.now) }
 {
     for i in 0..q.faults.len() {
         let failed = has_failed(q.plain, q.faults.at(i), trace);

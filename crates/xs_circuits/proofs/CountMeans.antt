@@ -53,14 +53,6 @@ abbrev CountValues : ℕ → List Bool → Type 0
 CountValues count [] = Unit {0}
 CountValues count (c ∷ cs) = (c ≡ leb (length cs) count) × CountValues count cs
 
-to_values : (v : TotalAssignment) (m : ℕ) (cs : List Literal) → Counts v m cs → CountValues m (map (literal_value v) cs)
-to_values v m [] h = tt
-to_values v m (c ∷ cs) h = (h.0 ∙ ap (λ k. leb k m) (sym (length-values cs)), to_values v m cs h.1)
-  where
-    length-values : (cs : List Literal) → length (map (literal_value v) cs) ≡ length cs
-    length-values [] = refl
-    length-values (c ∷ cs) = ap suc (length-values cs)
-
 from_values : (v : TotalAssignment) (m : ℕ) (cs : List Literal) → CountValues m (map (literal_value v) cs) → Counts v m cs
 from_values v m [] h = tt
 from_values v m (c ∷ cs) h = (h.0 ∙ ap (λ k. leb k m) (length-values cs), from_values v m cs h.1)
@@ -231,9 +223,6 @@ module _ (lits : List Literal) (n : ℕ) (s : Circuit) (limit : ℕ) (cs : List 
   unfolding at_most_gates after
   count_loop-end h =
       ap (λ (z : Circuit × List Literal). (z.0, opposite (first_from (constant_lit false) z.1))) (Turns-end count_step (CountShape n limit) count_step-adds lits s _ i cs g turns h)
-
-  pub count_loop-long : length cs ≡ suc (suc n)
-  count_loop-long = turns.shape.long
 
   module _ (l : Literal) (e : slice_get lits i ≡ Some l) where
     pub count_loop-here : CountShape n limit (l ∷ drop (i + 1) lits) g cs

@@ -11,28 +11,21 @@ use Rattle.xs_lits.proofs.ModelLemmas.{Satisfies-front, Satisfies-append, all_tr
 use Rattle.xs_circuits.specs.Circuit.{Circuit, with_gate, after, fold_gates}
 use Rattle.xs_circuits.specs.Gates.{constant_lit}
 use Rattle.xs_circuits.specs.Meaning.{AllBelow, BeginsWith, Extends, Means, HasTruth, StopsWithin}
+use Rattle.xs_value.proofs.ListLaws.{all_more, all_joined}
 
 -- ---- facts on each item
 
-pub each-weaker : {X : Type 0} (P Q : X → Type 0) → ((x : X) → P x → Q x) → (xs : List X) → AllByRecursion P xs → AllByRecursion Q xs
-each-weaker P Q h [] e = tt
-each-weaker P Q h (x ∷ xs) e = (h x e.0, each-weaker P Q h xs e.1)
-
-pub each-append : {X : Type 0} (P : X → Type 0) (xs ys : List X) → AllByRecursion P xs → AllByRecursion P ys → AllByRecursion P (xs ++ ys)
-each-append P [] ys e f = f
-each-append P (x ∷ xs) ys e f = (e.0, each-append P xs ys e.1 f)
-
 pub AllBelow-more : (m n : ℕ) → m ≤ n → (w : List Literal) → AllBelow m w → AllBelow n w
-AllBelow-more m n h w b = each-weaker (IsBelow m) (IsBelow n) (λ l k. omega arith) w b
+AllBelow-more m n h w b = all_more (IsBelow m) (IsBelow n) (λ l k. omega arith) w b
 
 pub AllBelow-append : (n : ℕ) (w u : List Literal) → AllBelow n w → AllBelow n u → AllBelow n (w ++ u)
-AllBelow-append n w u b d = each-append (IsBelow n) w u b d
+AllBelow-append n w u b d = all_joined (IsBelow n) w u b d
 
 -- a list of clauses that is written out
 pub ClausesBelow-from : (n : ℕ) (cs : List (List Literal)) → AllByRecursion (λ c. AllBelow n c) cs → ClausesBelow n cs
-ClausesBelow-from n cs b = All-from_recursion (ClauseBelow n) cs (each-weaker (λ c. AllBelow n c) (ClauseBelow n) (λ c k. All-from_recursion (IsBelow n) c k) cs b)
+ClausesBelow-from n cs b = All-from_recursion (ClauseBelow n) cs (all_more (λ c. AllBelow n c) (ClauseBelow n) (λ c k. All-from_recursion (IsBelow n) c k) cs b)
 
-ClausesBelow-more : (m n : ℕ) → m ≤ n → (cs : List (List Literal)) → ClausesBelow m cs → ClausesBelow n cs
+pub ClausesBelow-more : (m n : ℕ) → m ≤ n → (cs : List (List Literal)) → ClausesBelow m cs → ClausesBelow n cs
 ClausesBelow-more m n h cs b = All-weaker (ClauseBelow m) (ClauseBelow n) (λ c k. All-weaker (IsBelow m) (IsBelow n) (λ l j. omega arith) c k) cs b
 
 -- ---- what is built later

@@ -9,6 +9,7 @@ use Rattle.std.proofs.Math.Pow.{pow_mono}
 use Rattle.xs_circuits.specs.Gates.{differ}
 use Rattle.xs_circuits.specs.Bits.{bit_value, natural_value, last_bit, signed_value, IsCutTo, fit_from}
 use Rattle.xs_circuits.proofs.Numbers.{natural_value-below, signed_value-cut, IsCutTo-fits, SameModulo-fit_from, SameModulo-signed, SameModulo-trans, SameModulo-refl, length-fit_from}
+use Rattle.xs_value.proofs.BoolLaws.{bool_same}
 
 -- ---- what fits a number of bits
 
@@ -101,14 +102,9 @@ same_from_signed xs ys e h = same_from_natural xs ys e (natural (last_bit xs) (l
     natural false true x y p q e h k s = omega (arith, ints, s)
     natural false false x y p q e h k s = omega (arith, ints, s)
 
-same_bool : (p q : Bool) → (p ≡ true → q ≡ true) → (q ≡ true → p ≡ true) → p ≡ q
-same_bool true q f g = sym (f refl)
-same_bool false true f g = g refl
-same_bool false false f g = refl
-
 -- two lists of one length agree where their numbers are equal
 pub agree-int_eq : (xs ys : List Bool) → length xs ≡ length ys → agree xs ys ≡ int_eq (signed_value xs) (signed_value ys)
 agree-int_eq xs ys e =
-    same_bool (agree xs ys) (int_eq (signed_value xs) (signed_value ys))
+    bool_same (agree xs ys) (int_eq (signed_value xs) (signed_value ys))
     (λ h. (Decides-int_eq (signed_value xs) (signed_value ys)).1 (ap signed_value (same_from_agree xs ys e h)))
     (λ h. ap (agree xs) (sym (same_from_signed xs ys e ((Decides-int_eq (signed_value xs) (signed_value ys)).0 h))) ∙ agree-same xs)

@@ -9,7 +9,7 @@ use Rattle.xs_lits.specs.Models.{TotalAssignment, literal_value, IsBelow}
 use Rattle.xs_circuits.specs.Circuit.{Circuit, after, fold_gates}
 use Rattle.xs_circuits.specs.Gates.{differ, constant_lit}
 use Rattle.xs_circuits.specs.Meaning.{AllBelow, Means, HasTruth, BeginsWith, StopsWithin}
-use Rattle.xs_circuits.proofs.Extension.{each-weaker, AllBelow-more, AllBelow-append, Means-after, Means-done, Means-weaker, Means-fold, Means-keep, begins-after, BeginsWith-refl, StopsWithin-here}
+use Rattle.xs_circuits.proofs.Extension.{AllBelow-more, AllBelow-append, Means-after, Means-done, Means-weaker, Means-fold, Means-keep, begins-after, BeginsWith-refl, StopsWithin-here}
 use Rattle.xs_circuits.proofs.Rows.{gates_begin, and_gate-means, or_gate-means, xor_gate-means}
 use Rattle.xs_circuits.proofs.Turns.{Turns, Turns-end, Turns-between, Turns-here, Turns-next, Turns-stops, fold_gates-begins}
 use Rattle.xs_circuits.specs.Bits.{carry_of, signed_value, IsCutTo}
@@ -17,6 +17,7 @@ use Rattle.xs_circuits.specs.Words.{word_value, fit, IsWordOf, IsOfWidth, GivesC
 use Rattle.xs_circuits.specs.Sums.{full_adder, sum_step, sum_gates, add_gates, subtract_gates, negate_gates}
 use Rattle.xs_circuits.proofs.Numbers.{add_bits, plain_bits-cut, subtract_bits-cut, SameModulo-add, SameModulo-sub, IsCutTo-same}
 use Rattle.xs_circuits.proofs.WordMeans.{PairBelow, PairBelow-later, zip-below, length-pairs, map-first, map-second, map-push, slice_get-zip, width_of, length-fit, length-values, AllBelow-fit, AllBelow-opposite, map-opposite, word_value-fit}
+use Rattle.xs_value.proofs.ListLaws.{all_more}
 
 pub full_adder-means : (s : Circuit) (x y c : Literal) → IsBelow s.free x → IsBelow s.free y → IsBelow s.free c
     → Means s (full_adder x y c s) (λ t r. IsBelow t.free r.0 × IsBelow t.free r.1 × (t.free ≡ s.free + 5))
@@ -63,7 +64,7 @@ sum_step-turn n limit target p ps a t h =
     Means-after t _ _ _ _ _ _ (full_adder-means t p.0 p.1 a.1 h.pairs.0.0 h.pairs.0.1 h.carry) (λ r u hr e.
     Means-done u (a.0 ++ r.0 ∷ [], r.1) _ _
     (record {
-      pairs = each-weaker (PairBelow t.free) (PairBelow u.free) (PairBelow-later t.free u.free e.counted) ps h.pairs.1;
+      pairs = all_more (PairBelow t.free) (PairBelow u.free) (PairBelow-later t.free u.free e.counted) ps h.pairs.1;
       word = AllBelow-append u.free a.0 (r.0 ∷ []) (AllBelow-more t.free u.free e.counted a.0 h.word) (hr.0, tt);
       carry = hr.1;
       long = omega (arith, length-append {A = Literal} a.0 (r.0 ∷ []), h.long);

@@ -9,7 +9,7 @@ use Rattle.xs_lits.proofs.ModelLemmas.{literal_value-opposite}
 use Rattle.xs_circuits.specs.Circuit.{Circuit, after, fold_gates}
 use Rattle.xs_circuits.specs.Gates.{constant_lit, and_gate, xor_gate}
 use Rattle.xs_circuits.specs.Meaning.{AllBelow, Means, GivesBool, HasTruth, BeginsWith, StopsWithin}
-use Rattle.xs_circuits.proofs.Extension.{each-weaker, Means-after, Means-done, Means-weaker, Means-fold, Means-keep, begins-after, BeginsWith-refl, StopsWithin-here, StopsWithin-later}
+use Rattle.xs_circuits.proofs.Extension.{Means-after, Means-done, Means-weaker, Means-fold, Means-keep, begins-after, BeginsWith-refl, StopsWithin-here, StopsWithin-later}
 use Rattle.xs_circuits.proofs.Rows.{and_gate-means, xor_gate-means, xor_gate-begins, and_gate-begins}
 use Rattle.xs_circuits.proofs.Turns.{Turns, Turns-end, Turns-here, Turns-next, Turns-stops, fold_gates-begins}
 use Rattle.xs_circuits.specs.Words.{word_value, fit, sign_of, IsWordOf}
@@ -17,6 +17,7 @@ use Rattle.xs_circuits.specs.Sums.{subtract_gates, less_gates, equal_step, equal
 use Rattle.xs_circuits.proofs.Orders.{Fits, Fits-more, Fits-difference, exact, int_lt-difference, agree, agree-int_eq}
 use Rattle.xs_circuits.proofs.WordMeans.{PairBelow, PairBelow-later, zip-below, slice_get-zip, length-pairs, map-first, map-second, length-fit, length-values, AllBelow-fit, word_value-fit_exact, Fits-word, sign-below, sign-value}
 use Rattle.xs_circuits.proofs.SumMeans.{subtract_gates-means, subtract_gates-adds}
+use Rattle.xs_value.proofs.ListLaws.{all_more}
 
 pub less_gates-means : (a b : List Literal) (s : Circuit) → HasTruth s → 1 < s.free → IsWordOf s a → IsWordOf s b
     → Means s (less_gates a b s) (λ t l. IsBelow t.free l × (t.free ≡ s.free + 5 * (max (length a) (length b) + 1)))
@@ -59,7 +60,7 @@ equal_step-turn limit target p ps r t h =
     Means-after t _ _ _ _ _ _ (xor_gate-means t p.0 p.1 h.pairs.0.0 h.pairs.0.1) (λ x u hx e.
     Means-weaker u _ _ (EqualShape limit ps) _ _ (and_gate-means u r (opposite x) (omega (arith, h.agree, e.counted)) hx.below)
     (λ k. record {
-      pairs = each-weaker (PairBelow t.free) _ (PairBelow-later t.free _ (omega (arith, hx.next, k.next))) ps h.pairs.1;
+      pairs = all_more (PairBelow t.free) _ (PairBelow-later t.free _ (omega (arith, hx.next, k.next))) ps h.pairs.1;
       agree = k.below;
       room = omega (arith, hx.next, k.next, h.room);
     })

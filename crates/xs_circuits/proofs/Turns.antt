@@ -1,11 +1,11 @@
 -- A loop that builds a circuit item by item.
 use Rattle.std.proofs.Common.{◌≡◌, ℕ, ◌+◌, ◌≤◌, List, [], ◌∷◌, length, drop, refl, sym, ◌∙◌, ap, subst, Some}
-use Rattle.std.proofs.lemmas.List.{drop_all, drop_more}
-use Rattle.std.proofs.lemmas.Option.{slice_get_within, get_or_from_slice_get}
+use Rattle.std.proofs.lemmas.List.{drop_all}
 use Rattle.std.specs.Prelude.{slice_get}
 use Rattle.xs_circuits.specs.Circuit.{Circuit, after, fold_gates}
 use Rattle.xs_circuits.specs.Meaning.{BeginsWith, StopsWithin}
 use Rattle.xs_circuits.proofs.Extension.{begins-after, BeginsWith-refl, BeginsWith-trans, StopsWithin-here, StopsWithin-from, StopsWithin-none}
+use Rattle.xs_value.proofs.ListLaws.{drop_there}
 
 -- After i items the loop has given a and left the circuit g: what the items that are left build onto g is the whole,
 -- and S holds of those items, g and a.
@@ -24,9 +24,6 @@ pub fold_gates-begins : {X A : Type 0} (step : X → A → Circuit → Circuit �
 unfolding fold_gates
 fold_gates-begins step adds [] a s = BeginsWith-refl s.clauses
 fold_gates-begins step adds (x ∷ xs) a s = begins-after s _ _ (adds x a s) (λ b t. fold_gates-begins step adds xs b t)
-
-drop-slice_get : {X : Type 0} (xs : List X) (i : ℕ) (x : X) → slice_get xs i ≡ Some x → drop i xs ≡ x ∷ drop (i + 1) xs
-drop-slice_get xs i x e = drop_more xs i x (slice_get_within xs i x e) ∙ ap (λ y. y ∷ drop (i + 1) xs) (get_or_from_slice_get xs i x x e)
 
 pub Turns-first : {X A : Type 0} (step : X → A → Circuit → Circuit × A) (S : List X → Circuit → A → Type 0) (xs : List X) (a : A) (s : Circuit)
     → S xs s a → Turns step S xs s (fold_gates step xs a s) 0 a s
@@ -49,11 +46,11 @@ module _ {X A : Type 0} (step : X → A → Circuit → Circuit × A) (S : List 
 
   module _ (x : X) (e : slice_get xs i ≡ Some x) where
     here : whole ≡ fold_gates step (x ∷ drop (i + 1) xs) a g
-    here = turns.left ∙ ap (λ ys. fold_gates step ys a g) (drop-slice_get xs i x e)
+    here = turns.left ∙ ap (λ ys. fold_gates step ys a g) (drop_there xs i x e)
 
     -- what the step may rely on
     pub Turns-here : S (x ∷ drop (i + 1) xs) g a
-    Turns-here = subst (λ (ys : List X). S ys g a) (drop-slice_get xs i x e) turns.shape
+    Turns-here = subst (λ (ys : List X). S ys g a) (drop_there xs i x e) turns.shape
 
     pub Turns-next : (t : Circuit) (b : A) → step x a g ≡ (t, b) → S (drop (i + 1) xs) (step x a g).0 (step x a g).1 → Turns step S xs s whole (i + 1) b t
     unfolding fold_gates after

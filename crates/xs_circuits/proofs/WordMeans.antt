@@ -9,12 +9,13 @@ use Rattle.xs_lits.proofs.ModelLemmas.{literal_value-opposite}
 use Rattle.xs_circuits.specs.Circuit.{Circuit, after}
 use Rattle.xs_circuits.specs.Gates.{constant_lit}
 use Rattle.xs_circuits.specs.Meaning.{AllBelow, Means, BeginsWith, StopsWithin}
-use Rattle.xs_circuits.proofs.Extension.{each-weaker, AllBelow-more, AllBelow-append, Means-after, Means-done, Means-weaker, Means-fold, begins-after, BeginsWith-refl, StopsWithin-here}
+use Rattle.xs_circuits.proofs.Extension.{AllBelow-more, AllBelow-append, Means-after, Means-done, Means-weaker, Means-fold, begins-after, BeginsWith-refl, StopsWithin-here}
 use Rattle.xs_circuits.proofs.Turns.{Turns, Turns-first, Turns-end, Turns-between, Turns-here, Turns-next, Turns-stops}
 use Rattle.xs_circuits.specs.Bits.{last_from, signed_value, SameModulo, fit_from}
 use Rattle.xs_circuits.specs.Words.{word_value, fit, sign_of, zeros, IsOfWidth, IsSized, push_gate, map_gates}
 use Rattle.xs_circuits.proofs.Numbers.{length-fit_from, map-fit_from, SameModulo-fit_from}
 use Rattle.xs_circuits.proofs.Orders.{Fits, Fits-signed, signed_value-fit_from, last_bit-sign}
+use Rattle.xs_value.proofs.ListLaws.{all_more}
 
 -- ---- words at another width
 
@@ -198,7 +199,7 @@ module _ {X : Type 0} (gate : X → Circuit → Circuit × Literal) (k : ℕ) (B
       Means-after t _ _ _ _ _ _ (m.means x t h.items.0) (λ l u hl e.
       Means-done u (w ++ l ∷ []) _ _
       (record {
-        items = each-weaker (B t.free) (B u.free) (m.later t.free u.free e.counted) xs h.items.1;
+        items = all_more (B t.free) (B u.free) (m.later t.free u.free e.counted) xs h.items.1;
         word = AllBelow-append u.free w (l ∷ []) (AllBelow-more t.free u.free e.counted w h.word) (hl.0, tt);
         long = omega (arith, length-append {A = Literal} w (l ∷ []), h.long);
         room = omega (arith, hl.1, h.room);

@@ -19,12 +19,14 @@ use Rattle.xs_cut_laws.specs.Found.{Found, sets_of, IsFound}
 use Rattle.xs_encode_laws.specs.FlatTraces.{IsNumbered, ReachesTop, HasFailedNumber, history_of, failed_in}
 use Rattle.xs_encode_laws.specs.Encoded.{bit_of, IsBadMoment}
 use Rattle.xs_cut_laws.specs.Searched.{FlatTrace, FixedIsInvariant, FewerAreBad, ChainStays, ChainGrows}
-use Rattle.xs_encode_laws.proofs.SetLaws.{contained_through, not_both}
-use Rattle.xs_cut_laws.proofs.FoundLaws.{each_found, each_both}
+use Rattle.xs_encode_laws.proofs.SetLaws.{contained_through}
+use Rattle.xs_cut_laws.proofs.FoundLaws.{each_found}
 use Rattle.xs_encode_laws.proofs.HistoryFacts.{unlisted_means, unlisted_comes}
 use Rattle.xs_cut_laws.proofs.Excluded.{at_frontier}
 use Rattle.std.proofs.lemmas.Bool.{false_from_ne_true as refuted}
 use Rattle.std.proofs.lemmas.List.FromFn.{length-range_with_len}
+use Rattle.xs_type_laws.proofs.ClosedLaws.{each_both}
+use Rattle.xs_tree.proofs.BoolLaws.{not_both}
 
 pub no_place : {A : Type 0} (i : ℕ) (x : A) → slice_get [] i ≡ Some x → ⊥
 no_place i x e = cc

@@ -16,10 +16,11 @@ use Rattle.xs_cut_laws.specs.Found.{Found, sets_of, with_found, IsFound, AreFoun
 use Rattle.xs_encode_laws.specs.FlatTraces.{IsNumbered, ReachesTop, HasFailedNumber}
 use Rattle.xs_cut_laws.specs.Searched.{FlatTrace, SearchEnds}
 use Rattle.xs_cut_laws.specs.Uncovered.{is_in_pattern, is_covered, uncovered}
-use Rattle.xs_encode_laws.proofs.SetLaws.{or_cases, either_of, not_both, contained_has, contained_in_itself, has_first, has_later}
+use Rattle.xs_encode_laws.proofs.SetLaws.{either_of, contained_has, contained_in_itself, has_first, has_later}
 use Rattle.xs_cut_laws.proofs.FoundLaws.{some_kept, each_found, still_contain, new_is_listed}
 use Rattle.std.proofs.lemmas.Bool.{or_left, or_right, and_parts, and_from as and_both, false_from_ne_true as refuted, not_from_true, not_from_false}
 use Rattle.std.proofs.lemmas.List.FromFn.{length-range_with_len}
+use Rattle.xs_tree.proofs.BoolLaws.{or_cases, not_both}
 
 -- a test of all passes the test of each part
 all_has : (p : ℕ → Bool) (set : List ℕ) (i : ℕ) → list_all p set ≡ true → has_number set i ≡ true → p i ≡ true

@@ -23,10 +23,13 @@ use Rattle.xs_cut_laws.specs.Found.{Found, sets_of, IsFound}
 use Rattle.xs_encode_laws.specs.FlatTraces.{IsNumbered, ReachesTop, HasFailedNumber, failed_set, last_of, history_of, failed_in}
 use Rattle.xs_encode_laws.specs.Encoded.{is_true_at, bit_of, IsEncodingOf, IsBadMoment}
 use Rattle.xs_cut_laws.specs.Searched.{FlatTrace, IsSearched, AreFoundFlat, ClearIsRight, InvariantIsRight, FirstStatesShow}
-use Rattle.xs_encode_laws.proofs.SetLaws.{here, later, contained_has, true_or_false, contains_has, has_contains}
-use Rattle.xs_cut_laws.proofs.FoundLaws.{each_found, each_both, found_is_right}
+use Rattle.xs_encode_laws.proofs.SetLaws.{contained_has, true_or_false, contains_has, has_contains}
+use Rattle.xs_cut_laws.proofs.FoundLaws.{each_found, found_is_right}
 use Rattle.xs_encode_laws.proofs.Numbers.{count_where}
 use Rattle.xs_encode_laws.proofs.HistoryFacts.{at_last, each_last, last_told, last_tells, unlisted_comes, failed_exactly, failed_small}
+use Rattle.xs_flat_laws.proofs.HistoryLaws.{length_told}
+use Rattle.xs_type_laws.proofs.ClosedLaws.{each_both}
+use Rattle.xs_tree.proofs.ListLaws.{contains_here, contains_later}
 
 -- under some inputs a step is a step
 pub any_inputs : (system : System) (inputs : List Bool) (s t : State) → IsStepUnder system inputs s t → IsStepOf system s t
@@ -118,8 +121,8 @@ module _ (m : FlatModel) (fs : List Mode) (top : Tree FlatLeaf) (system : System
       by_test : (is_contained f.set failed ≡ true) ⊎ (is_contained f.set failed ≡ false) →
           ((set : List ℕ) × Contains (sets_of found) set × (is_contained set failed ≡ true)) ⊎ Each (λ f. is_contained f.set failed ≡ false) found →
           ((set : List ℕ) × Contains (sets_of (f ∷ found)) set × (is_contained set failed ≡ true)) ⊎ Each (λ f. is_contained f.set failed ≡ false) (f ∷ found)
-      by_test (inl e) rest = inl (f.set, here f.set (sets_of found), e)
-      by_test (inr e) (inl r) = inl (r.0, later r.0 f.set (sets_of found) r.1, r.2)
+      by_test (inl e) rest = inl (f.set, contains_here f.set (sets_of found), e)
+      by_test (inr e) (inl r) = inl (r.0, contains_later r.0 f.set (sets_of found) r.1, r.2)
       by_test (inr e) (inr r) = inr (e, r)
 
   module _ (size : ℕ) (found : List (Found FlatTrace)) (are : AreFoundFlat m fs top system state_of inputs_of size found) where
@@ -170,10 +173,6 @@ module _ (m : FlatModel) (fs : List Mode) (top : Tree FlatLeaf) (system : System
         by_listed (inl l) =
             (l.0, l.1, λ i inside. (failed_exactly m fs (v ∷ vs) i).1 (has_contains (failed_set m fs (v ∷ vs)) i (contained_has l.0 (failed_set m fs (v ∷ vs)) i l.2 (contains_has l.0 i inside))))
         by_listed (inr none) = absurd (excluded v vs c long (ends_bad v vs (is_one (v ∷ vs) c) long reaches (failed_small m fs (v ∷ vs) size few) none))
-
-length_told : (m : FlatModel) (fs : List Mode) (before trace : List (List Value)) → length (told_from m fs before trace) ≡ length trace
-length_told m fs before [] = refl
-length_told m fs before (v ∷ vs) = ap suc (length_told m fs (before ++ v ∷ []) vs)
 
 module _ (m : FlatModel) (fs : List Mode) (top : Tree FlatLeaf) (system : System) (state_of inputs_of : List Value → List Bool) where
   pub clear_is_right : ClearIsRight m fs top system state_of inputs_of

@@ -1,5 +1,5 @@
 -- The list of found sets: a new set keeps it, every earlier set contains one of the list, and it is right.
-use Rattle.std.proofs.Common.{◌≡◌, ◌≢◌, ℕ, zero, suc, ◌<◌, ◌≤◌, Bool, true, false, not, List, [], ◌∷◌, length, map, Some, refl, sym, ap, ◌∙◌, subst, arith, ◌⊎◌, inl, inr}
+use Rattle.std.proofs.Common.{◌≡◌, ◌≢◌, ℕ, zero, suc, ◌<◌, ◌≤◌, Bool, true, false, not, List, [], ◌∷◌, length, Some, refl, sym, ap, ◌∙◌, subst, arith, ◌⊎◌, inl, inr}
 use Rattle.std.proofs.lemmas.List.{length-map}
 use Rattle.std.proofs.lemmas.Bool.{cases_lt}
 use Rattle.std.specs.Prelude.{slice_get, Contains, IsTrue, cond, if◌then◌else◌, filter}
@@ -7,7 +7,11 @@ use Rattle.xs_tree.specs.Trace.{Each, AtSome}
 use Rattle.xs_right_laws.specs.Right.{IsContained, HasFailedAll, HasFailedAtMost, Shows, IsRight}
 use Rattle.xs_right_laws.specs.Sets.{IsRising, is_contained, stands_before}
 use Rattle.xs_cut_laws.specs.Found.{AreInOrder, Found, sets_of, traces_of, without, placed, with_found, AreApart, IsNew, IsFound, AreFound, ContainOneOf}
-use Rattle.xs_encode_laws.proofs.SetLaws.{each_kept, not_both, has_contains, contains_has, contained_from, contained_in_itself, before_through, before_either}
+use Rattle.xs_encode_laws.proofs.SetLaws.{each_kept, has_contains, contains_has, contained_from, contained_in_itself, before_through, before_either}
+use Rattle.xs_tree.proofs.ListLaws.{get_mapped}
+use Rattle.xs_flat_laws.proofs.Conditions.{each_at}
+use Rattle.xs_type_laws.proofs.ClosedLaws.{each_both}
+use Rattle.xs_tree.proofs.BoolLaws.{not_both}
 
 -- Lists.
 pub each_filtered : {A : Type 0} (P : A → Type 0) (test : A → Bool) (xs : List A) → Each P xs → Each P (filter test xs)
@@ -18,31 +22,10 @@ each_filtered P test (x ∷ xs) h = by_test (test x) (each_filtered P test xs h.
     by_test true k = (h.0, k)
     by_test false k = k
 
-pub each_both : {A : Type 0} (P Q R : A → Type 0) → ((x : A) → P x → Q x → R x) → (xs : List A) → Each P xs → Each Q xs → Each R xs
-each_both P Q R f [] h k = tt
-each_both P Q R f (x ∷ xs) h k = (f x h.0 k.0, each_both P Q R f xs h.1 k.1)
-
-pub each_at : {A : Type 0} (P : A → Type 0) (xs : List A) (k : ℕ) (x : A) → Each P xs → slice_get xs k ≡ Some x → P x
-each_at P [] k x h e = cc
-each_at P (y ∷ xs) zero x h e = subst P (some_same y x e) h.0
-  where
-    some_same : {A : Type 0} (y x : A) → Some y ≡ Some x → y ≡ x
-    some_same y x e = cc
-each_at P (y ∷ xs) (suc k) x h e = each_at P xs k x h.1 e
-
 pub some_kept : {A : Type 0} (P Q : A → Type 0) → ((x : A) → P x → Q x) → (xs : List A) → AtSome P xs → AtSome Q xs
 some_kept P Q f [] h = absurd h
 some_kept P Q f (x ∷ xs) (inl h) = inl (f x h)
 some_kept P Q f (x ∷ xs) (inr h) = inr (some_kept P Q f xs h)
-
--- what a place of a mapped list has comes from what the list has there
-pub get_mapped : {A B : Type 0} (f : A → B) (xs : List A) (k : ℕ) (y : B) → slice_get (map f xs) k ≡ Some y → (x : A) × (slice_get xs k ≡ Some x) × (f x ≡ y)
-get_mapped f [] k y e = cc
-get_mapped f (x ∷ xs) zero y e = (x, refl, some_same (f x) y e)
-  where
-    some_same : {B : Type 0} (y x : B) → Some y ≡ Some x → y ≡ x
-    some_same y x e = cc
-get_mapped f (x ∷ xs) (suc k) y e = get_mapped f xs k y e
 
 -- Taking out and putting in.
 pub taken_out : {T : Type 0} (set : List ℕ) (fs : List (Found T)) → Each (λ f. is_contained set f.set ≡ false) (without set fs)

@@ -21,12 +21,14 @@ use Rattle.xs_cut_laws.specs.Found.{sets_of, IsFound, IsNew}
 use Rattle.xs_encode_laws.specs.FlatTraces.{IsNumbered, ReachesTop, HasFailedNumber, failed_set, last_of, history_of, failed_in}
 use Rattle.xs_encode_laws.specs.Encoded.{is_true_at, bit_of, IsFlatFirst, IsBadMoment}
 use Rattle.xs_cut_laws.specs.Searched.{FlatTrace, AreReadFrom, IsSearched, IsBadFor, IsFoundFlat, found_of, PathIsFound, IsLawfulMoment, PathIsLawful}
-use Rattle.xs_cut_laws.proofs.FoundLaws.{each_found, each_both}
+use Rattle.xs_cut_laws.proofs.FoundLaws.{each_found}
 use Rattle.xs_encode_laws.proofs.SetLaws.{each_kept}
 use Rattle.xs_encode_laws.proofs.Numbers.{count_where, where_within, where_rising}
 use Rattle.xs_encode_laws.proofs.HistoryFacts.{to_last, each_last, last_told, last_tells, unlisted_means, failed_exactly}
 use Rattle.xs_cut_laws.proofs.Excluded.{reached_shorter}
 use Rattle.xs_frames.proofs.BitLemmas.{length_read as read_length}
+use Rattle.xs_type_laws.proofs.ClosedLaws.{each_both}
+use Rattle.xs_tree.proofs.ListLaws.{take_own}
 
 -- Lists by place.
 pub place_of_each : {A : Type 0} (P : A → Type 0) (xs : List A) (i : ℕ) (d : A) → Each P xs → i < length xs → P (slice_index_or xs i d)
@@ -60,10 +62,6 @@ last_place (x ∷ y ∷ xs) = last_place (y ∷ xs) ∙ ap (λ n. slice_index_or
   where
     next : (n : ℕ) → suc (suc n - 1) ≡ suc (suc n) - 1
     next n = omega arith
-
-take_own : {A : Type 0} (v bs : List A) → take (length v) (v ++ bs) ≡ v
-take_own [] bs = refl
-take_own (x ∷ v) bs = ap (λ more. x ∷ more) (take_own v bs)
 
 -- without history the trace is as it was
 pub cut_told : (m : FlatModel) (fs : List Mode) (n : ℕ) (before trace : List (List Value)) → Each (λ v. length v ≡ n) trace → map (take n) (told_from m fs before trace) ≡ trace

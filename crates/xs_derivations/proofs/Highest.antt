@@ -5,15 +5,13 @@ use Rattle.std.proofs.lemmas.List.Elements.{All-nil, All-cons}
 use Rattle.xs_lits.specs.Literal.{Literal}
 use Rattle.xs_lits.specs.Derivation.{IsUpTo}
 use Rattle.xs_certificate_laws.specs.Accepted.{highest, highest_in}
+use Rattle.xs_certificate_laws.proofs.Highest.{at_least_one, at_least_one_of}
 
 left : (a b n : ℕ) → max a b ≤ n → a ≤ n
 left a b n h = omega (arith, h)
 
 right : (a b n : ℕ) → max a b ≤ n → b ≤ n
 right a b n h = omega (arith, h)
-
-above : (a b : ℕ) → 1 ≤ b → 1 ≤ max a b
-above a b h = omega (arith, h)
 
 all_below : (n : ℕ) (ls : List Literal) → highest_in ls ≤ n → All (IsUpTo n) ls
 all_below n [] h = All-nil (IsUpTo n)
@@ -25,23 +23,15 @@ each_below n [] i x h l e = absurd (omega (arith, l))
 each_below n (c ∷ cs) zero x h l e = subst (All (IsUpTo n)) (sym e) (all_below n c (left (highest_in c) (highest cs) n h))
 each_below n (c ∷ cs) (suc i) x h l e = each_below n cs i x (right (highest_in c) (highest cs) n h) (omega (arith, l)) e
 
-pub least_in : (ls : List Literal) → 1 ≤ highest_in ls
-least_in [] = omega arith
-least_in (l ∷ ls) = above l.var (highest_in ls) (least_in ls)
-
-pub least : (cs : List (List Literal)) → 1 ≤ highest cs
-least [] = omega arith
-least (c ∷ cs) = above (highest_in c) (highest cs) (least cs)
-
 -- from 1 on
 from_one : (n : ℕ) → 1 ≤ n → max 1 n ≡ n
 from_one n h = omega (arith, h)
 
 pub begin_in : (ls : List Literal) → max 1 (highest_in (drop 0 ls)) ≡ highest_in ls
-begin_in ls = from_one (highest_in ls) (least_in ls)
+begin_in ls = from_one (highest_in ls) (at_least_one ls)
 
 pub begin : (cs : List (List Literal)) → max 1 (highest (drop 0 cs)) ≡ highest cs
-begin cs = from_one (highest cs) (least cs)
+begin cs = from_one (highest cs) (at_least_one_of cs)
 
 -- one more
 grouped : (a b c : ℕ) → max (max a b) c ≡ max a (max b c)
@@ -49,5 +39,5 @@ grouped a b c = omega arith
 
 -- two lists
 pub of_both : (cs ds : List (List Literal)) → highest (cs ++ ds) ≡ max (highest cs) (highest ds)
-of_both [] ds = sym (from_one (highest ds) (least ds))
+of_both [] ds = sym (from_one (highest ds) (at_least_one_of ds))
 of_both (c ∷ cs) ds = ap (max (highest_in c)) (of_both cs ds) ∙ sym (grouped (highest_in c) (highest cs) (highest ds))

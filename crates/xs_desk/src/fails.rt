@@ -3,7 +3,8 @@
 // Calls are counted by their kind, from 1. An append or a saying that fails may keep its first bytes all the same, as a disk
 // that is full does; `kept_of` tells how many.
 ghost use Rattle.std.specs.Prelude.{◌≡◌, ◌≤◌};
-ghost use Rattle.xs_desk.specs.Memory.{count_of, counted, next_count, kept_at};
+ghost use Rattle.xs_desk.specs.Memory.{count_of, counted, kept_at};
+ghost use Rattle.xs_value.specs.Counts.{next_count};
 
 use xs_value::Items;
 

@@ -1,6 +1,5 @@
 -- The literals of the history bits, and the counters of those that are true.
-use Rattle.std.proofs.Common.{◌≡◌, ℕ, suc, ◌+◌, ◌-◌, ◌*◌, ◌<◌, ◌≤◌, List, [], ◌∷◌, ◌++◌, length, map, sym, ◌∙◌, ap, arith, append_assoc, mul-le-mul, lt-ltb}
-use Rattle.std.proofs.lemmas.List.{append-nil}
+use Rattle.std.proofs.Common.{◌≡◌, ℕ, suc, ◌+◌, ◌-◌, ◌<◌, ◌≤◌, List, [], ◌∷◌, ◌++◌, length, map, sym, ◌∙◌, ap, arith, append_assoc, lt-ltb}
 use Rattle.std.specs.List.{range_with_len}
 use Rattle.std.specs.Prelude.{slice_get, Some, if◌then◌else◌}
 use Rattle.xs_lits.specs.Literal.{Literal}

@@ -5,7 +5,7 @@ use Rattle.xs_tree.specs.Flat.{FlatModel}
 use Rattle.xs_circuits.specs.Circuit.{Circuit, after}
 use Rattle.xs_circuits.specs.Meaning.{HasTruth}
 use Rattle.xs_encode_laws.specs.Signals.{Signal}
-use Rattle.xs_encode_laws.specs.Layout.{input_place, next_place, gates_place, variable_signals}
+use Rattle.xs_encode_laws.specs.Layout.{variable_signals}
 use Rattle.xs_encode_laws.specs.Lists.{Copy, copy_of as the_copy, names_of, formulas_gates, domains_gates, definitions_gates, moment_gates, copy_gates}
 use Rattle.xs_encode_laws.specs.Meanings.{IsSignal, IsReady}
 use Rattle.xs_encode_laws.specs.Encodable.{IsEncodable}

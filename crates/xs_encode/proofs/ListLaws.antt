@@ -30,8 +30,8 @@ use Rattle.xs_encode.specs.Reading.{names_read, tree_any}
 use Rattle.xs_encode.specs.Copies.{source_model, IsSource, IsRightFormula, definition_signal, Defines, BuildsDefinitions, Builds}
 use Rattle.xs_encode.specs.History.{counted_circuit}
 use Rattle.xs_encode.proofs.ReadLaws.{tree_any_is}
-use Rattle.xs_encode.proofs.ModelParts.{drop_at}
 use Rattle.xs_encode.proofs.LoopLaws.{definitions_next, definitions_end}
+use Rattle.xs_value.proofs.ListLaws.{drop_there}
 
 -- ---- reading inputs
 
@@ -40,7 +40,7 @@ pub reading_next : (vs : List FlatVariable) (bs : List Bool) (ds : List Formula)
     → reading_after vs bs (map formula_tree (drop i ds)) ≡ whole → reading_after vs (bs ++ b ∷ []) (map formula_tree (drop (i + 1) ds)) ≡ whole
 reading_next vs bs ds i d b whole at reads before =
     ap (λ x. reading_after vs (bs ++ x ∷ []) (map formula_tree (drop (i + 1) ds))) (reads ∙ tree_any_is (names_input vs bs) (flat_tree d.value))
-    ∙ sym (ap (λ l. reading_after vs bs (map formula_tree l)) (drop_at ds i d at)) ∙ before
+    ∙ sym (ap (λ l. reading_after vs bs (map formula_tree l)) (drop_there ds i d at)) ∙ before
 
 -- the expression reads an input of the model
 pub read_is : (s : Source) → IsSource s → (t : Tree FlatLeaf) → tree_any (names_read s.reading) t ≡ reads_input (source_model s) t

@@ -31,8 +31,9 @@ use Rattle.xs_expressions.specs.declared.signal.Signal.{Signal as Built}
 use Rattle.xs_expressions.specs.Built.{signal_of, signals_of, BuildsLiteral, BuildsSignal}
 use Rattle.xs_encode.specs.Domains.{domain_width, domain_signal, asserted_literal, domain_gates}
 use Rattle.xs_encode.specs.Copies.{Builds, definition_signal}
-use Rattle.xs_encode.proofs.ModelParts.{drop_at, width_at, signal_at, gates_at, rest_at}
-use Rattle.xs_type_laws.proofs.WrittenLaws.{get_map as at_mapped}
+use Rattle.xs_encode.proofs.ModelParts.{width_at, signal_at, gates_at, rest_at}
+use Rattle.xs_value.proofs.ListLaws.{drop_there}
+use Rattle.xs_tree.proofs.ListLaws.{get_map}
 
 -- ---- the bits of inputs, and the signals of variables
 
@@ -80,7 +81,7 @@ module _ (m : Model) (is : IsEncodable (model_tree m)) (i : ℕ) (x : Variable) 
       (sym built.exact ∙ ap (λ u. if all || not (is_input (role_of x.role)) then u else g) (gates_at m is i x d at told now next w (signal_of e) g wide)
       ∙ asked_same (is_input (role_of x.role)) all g (type_gates M c (declared_tree x.declared) (signal_of e) g))
       ∙ sym (ap (λ l. domains_gates M c all l (signal_of e ∷ es) g) (rest_at m is i x d at told))
-      ∙ sym (ap (λ l. domains_gates M c all (drop i (map variable_tree m.variables)) l g) (drop_at (signals_of signals) i (signal_of e) (at_mapped signal_of signals i e e_at)))
+      ∙ sym (ap (λ l. domains_gates M c all (drop i (map variable_tree m.variables)) l g) (drop_there (signals_of signals) i (signal_of e) (get_map signal_of signals i e e_at)))
       ∙ before
 
 domains_none : (m : FlatModel) (c : TheNames FlatLeaf) (all : Bool) (xs : List FlatVariable) (s : Circuit) → domains_gates m c all xs [] s ≡ s
@@ -109,10 +110,7 @@ module _ (c : TheNames FlatLeaf) (fs : List FlatFormula) where
   pub formulas_next : (i : ℕ) (f : FlatFormula) (g t whole : Circuit) → slice_get fs i ≡ Some f → Builds g (asserted_signal (encoded c its_value f.value g)) t
       → formulas_gates c (drop i fs) g ≡ whole → formulas_gates c (drop (i + 1) fs) t ≡ whole
   formulas_next i f g t whole at built before =
-      ap (λ u. formulas_gates c (drop (i + 1) fs) u) (sym built.exact) ∙ sym (ap (λ l. formulas_gates c l g) (drop_at fs i f at)) ∙ before
-
-  pub formulas_end : (i : ℕ) (g whole : Circuit) → length fs ≤ i → formulas_gates c (drop i fs) g ≡ whole → whole ≡ g
-  formulas_end i g whole end before = sym before ∙ ap (λ l. formulas_gates c l g) (drop_all i fs end)
+      ap (λ u. formulas_gates c (drop (i + 1) fs) u) (sym built.exact) ∙ sym (ap (λ l. formulas_gates c l g) (drop_there fs i f at)) ∙ before
 
 -- ---- definitions
 
@@ -140,7 +138,7 @@ module _ (m : FlatModel) (variables : List Signal) (all : Bool) where
   definitions_next ds i d done made g t whole at built before =
       let rest = λ (r : Circuit × List Signal). fold_gates (definition_gates m variables all) (drop (i + 1) ds) r.1 r.0 in
       before
-      ∙ ap (λ l. fold_gates (definition_gates m variables all) l (signals_of done) g) (drop_at ds i d at)
+      ∙ ap (λ l. fold_gates (definition_gates m variables all) l (signals_of done) g) (drop_there ds i d at)
       ∙ ap rest (one_definition d (signals_of done) g)
       ∙ ap (λ (r : Circuit × Signal). rest (r.0, signals_of done ++ r.1 ∷ [])) built.exact
       ∙ sym (ap (λ l. rest (t, l)) (map-append signal_of done (made ∷ [])))

@@ -1,8 +1,7 @@
 -- What the passes rely on of an encodable model: no type and no formula breaks a rule, and a variable's domain tells its bits.
-use Rattle.std.proofs.Common.{◌≡◌, ℕ, zero, suc, ◌+◌, ◌<◌, List, [], ◌∷◌, length, get_or, drop, map, Some, sym, ◌∙◌, ap, subst, arith}
+use Rattle.std.proofs.Common.{◌≡◌, ℕ, ◌+◌, ◌<◌, List, [], ◌∷◌, length, get_or, drop, map, Some, sym, ◌∙◌, ap, arith}
 use Rattle.std.specs.Prelude.{slice_get}
-use Rattle.std.proofs.lemmas.List.{drop_more}
-use Rattle.std.proofs.lemmas.Option.{slice_get_within, get_or_from_slice_get, same_Some}
+use Rattle.std.proofs.lemmas.Option.{same_Some}
 use Rattle.xs_tree.specs.Trace.{Each}
 use Rattle.xs_tree.specs.ProgramTree.{declared_tree}
 use Rattle.xs_value.specs.declared.domain.Domain.{Domain}
@@ -25,25 +24,13 @@ use Rattle.xs_encode_laws.proofs.Readings.{IsRightType}
 use Rattle.xs_encode.specs.Domains.{domain_width, domain_signal, domain_gates}
 use Rattle.xs_encode.specs.Copies.{IsRightFormula}
 use Rattle.xs_encode.proofs.DomainLaws.{width_is, signal_is, gates_are}
-use Rattle.xs_type_laws.proofs.WrittenLaws.{get_map as at_mapped}
-
-pub each_at : {A : Type 0} (P : A → Type 0) (xs : List A) (k : ℕ) (x : A) → Each P xs → slice_get xs k ≡ Some x → P x
-each_at P [] k x h e = cc
-each_at P (y ∷ xs) zero x h e = let same : y ≡ x = cc in subst P same h.0
-each_at P (y ∷ xs) (suc k) x h e = each_at P xs k x h.1 e
-
-pub got : {A : Type 0} (xs : List A) (i : ℕ) (x : A) → i < length xs → x ≡ get_or xs i x → slice_get xs i ≡ Some x
-got [] i x h e = absurd (omega (arith, h))
-got (y ∷ xs) zero x h e = ap Some (sym e)
-got (y ∷ xs) (suc i) x h e = got xs i x (omega (arith, h)) e
+use Rattle.xs_value.proofs.ListLaws.{drop_there}
+use Rattle.xs_flat_laws.proofs.Conditions.{each_at}
+use Rattle.xs_tree.proofs.ListLaws.{get_there, get_map}
 
 -- the same in an equal list
 pub got_in : {A : Type 0} (xs ys : List A) (i : ℕ) (x : A) → xs ≡ ys → i < length xs → x ≡ get_or xs i x → slice_get ys i ≡ Some x
-got_in xs ys i x same h e = sym (ap (λ l. slice_get l i) same) ∙ got xs i x h e
-
--- what is left of a list begins with the item at the place
-pub drop_at : {A : Type 0} (xs : List A) (i : ℕ) (x : A) → slice_get xs i ≡ Some x → drop i xs ≡ x ∷ drop (i + 1) xs
-drop_at xs i x e = drop_more xs i x (slice_get_within xs i x e) ∙ ap (λ y. y ∷ drop (i + 1) xs) (get_or_from_slice_get xs i x x e)
+got_in xs ys i x same h e = sym (ap (λ l. slice_get l i) same) ∙ get_there xs i x h e
 
 -- ---- formulas
 
@@ -66,10 +53,10 @@ step_right m is = formulas_right m m.at_step (parts_of m is.typed).at_step
 
 module _ (m : Model) (is : IsEncodable (model_tree m)) (i : ℕ) (x : Variable) (d : Domain) (at : slice_get m.variables i ≡ Some x) (told : slice_get (map (variable_domain m.symbols) m.variables) i ≡ Some d) where
   pub right_at : IsRightType m.symbols (variable_tree x)
-  right_at = each_at (IsRightType m.symbols) (map variable_tree m.variables) i (variable_tree x) (model_types (model_tree m) is) (at_mapped variable_tree m.variables i x at)
+  right_at = each_at (IsRightType m.symbols) (map variable_tree m.variables) i (variable_tree x) (model_types (model_tree m) is) (get_map variable_tree m.variables i x at)
 
   pub domain_at : domain_of m.symbols (declared_tree x.declared) ≡ d
-  domain_at = same_Some _ _ (sym (at_mapped (variable_domain m.symbols) m.variables i x at) ∙ told)
+  domain_at = same_Some _ _ (sym (get_map (variable_domain m.symbols) m.variables i x at) ∙ told)
 
   pub width_at : domain_width d ≡ declared_width m.symbols (declared_tree x.declared)
   width_at = sym (ap domain_width domain_at) ∙ width_is m.symbols (declared_tree x.declared) right_at.0 right_at.1
@@ -84,4 +71,4 @@ module _ (m : Model) (is : IsEncodable (model_tree m)) (i : ℕ) (x : Variable) 
 
   -- the rest of the variables begins with this one
   pub rest_at : drop i (map variable_tree m.variables) ≡ variable_tree x ∷ drop (i + 1) (map variable_tree m.variables)
-  rest_at = drop_at (map variable_tree m.variables) i (variable_tree x) (at_mapped variable_tree m.variables i x at)
+  rest_at = drop_there (map variable_tree m.variables) i (variable_tree x) (get_map variable_tree m.variables i x at)

@@ -1,12 +1,11 @@
 -- What is read from an assignment that has the bits of a moment, or of a state.
-use Rattle.std.proofs.Common.{◌≡◌, ℕ, ◌+◌, ◌^◌, ◌<◌, ◌≤◌, Bool, true, false, ◌&&◌, ◌||◌, List, [], ◌∷◌, ◌++◌, length, set, take, drop, Some, append_assoc, refl, sym, ◌∙◌, ap, subst, arith}
+use Rattle.std.proofs.Common.{◌≡◌, ℕ, ◌+◌, ◌^◌, ◌<◌, ◌≤◌, Bool, true, false, ◌&&◌, List, [], ◌∷◌, ◌++◌, length, set, take, drop, Some, append_assoc, refl, sym, ◌∙◌, ap, subst, arith}
 use Rattle.std.specs.Prelude.{nat_lt, slice_get, if◌then◌else◌}
 use Rattle.std.proofs.lemmas.List.{take_more_set}
 use Rattle.xs_tree.specs.ProgramTree.{Text}
 use Rattle.xs_tree.specs.declared.model.Variable.{Variable}
 use Rattle.xs_types.specs.Types.{variable_domain}
 use Rattle.xs_encode_laws.specs.Inputs.{is_input}
-use Rattle.xs_encode.proofs.ModelParts.{drop_at}
 use Rattle.std.proofs.lemmas.Bool.{ltb-false}
 use Rattle.xs_tree.specs.Values.{Value}
 use Rattle.xs_value.specs.declared.value.Value.{Value as AValue}
@@ -25,6 +24,7 @@ use Rattle.xs_encode.specs.Domains.{capped, domain_interval, domain_width}
 use Rattle.xs_encode.specs.Values.{StandFor, HasState, HasMoment, values_in, least_in, domain_read, values_read}
 use Rattle.xs_encode.proofs.ValueLaws.{expected, values_stand}
 use Rattle.xs_type_laws.proofs.SetRows.{or_false_second as second_false}
+use Rattle.xs_value.proofs.ListLaws.{drop_there}
 
 few_bits : (m : FlatModel) → IsTyped m → state_bits m ≤ 4096
 few_bits m t = ltb-false 4096 (state_bits m) (second_false (nat_lt 50000 (model_cost m)) (nat_lt 4096 (state_bits m)) t.small)
@@ -66,5 +66,5 @@ read_next symbols least a xs i x into new v p q p' q' whole at low is value e f 
     ∙ ap (λ l. l ++ tail) (take_more_set into i v low)
     ∙ append_assoc (take i into) (v ∷ []) tail
     ∙ ap (λ y. take i into ++ (y ∷ tail)) value
-    ∙ sym (ap (λ l. take i into ++ values_read symbols least a p q l) (drop_at xs i x at))
+    ∙ sym (ap (λ l. take i into ++ values_read symbols least a p q l) (drop_there xs i x at))
     ∙ before

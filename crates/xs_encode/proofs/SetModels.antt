@@ -14,12 +14,13 @@ use Rattle.xs_encode_laws.specs.Bits.{number_bits}
 use Rattle.xs_encode_laws.specs.Encodable.{IsEncodable}
 use Rattle.xs_encode.specs.Domains.{domain_width}
 use Rattle.xs_encode.specs.Values.{AreFree, number_of, with_bits, bits_set, AreLeft}
-use Rattle.xs_encode.proofs.ModelParts.{drop_at, domain_at, right_at}
+use Rattle.xs_encode.proofs.ModelParts.{domain_at, right_at}
 use Rattle.xs_encode.proofs.SettingLaws.{own_free, left_next}
+use Rattle.xs_value.proofs.ListLaws.{drop_there}
 
 module _ (m : Model) (is : IsEncodable (model_tree m)) (i : ℕ) (x : Variable) (d : Domain) (at : slice_get m.variables i ≡ Some x) (told : slice_get (map (variable_domain m.symbols) m.variables) i ≡ Some d) where
   here : (a : Assignment) (p q ends_p ends_q : ℕ) → AreLeft m.symbols a p q ends_p ends_q (drop i m.variables) → AreLeft m.symbols a p q ends_p ends_q (x ∷ drop (i + 1) m.variables)
-  here a p q ends_p ends_q left = subst (λ (xs : List Variable). AreLeft m.symbols a p q ends_p ends_q xs) (drop_at m.variables i x at) left
+  here a p q ends_p ends_q left = subst (λ (xs : List Variable). AreLeft m.symbols a p q ends_p ends_q xs) (drop_there m.variables i x at) left
 
   -- the places of the variable at hand are free
   pub own_here : (a : Assignment) (p q ends_p ends_q : ℕ) → AreLeft m.symbols a p q ends_p ends_q (drop i m.variables)
@@ -40,6 +41,6 @@ module _ (m : Model) (is : IsEncodable (model_tree m)) (i : ℕ) (x : Variable) 
       → bits_set m.symbols (with_bits a (place_of (role_of x.role) p q) (number_bits (domain_width d) (number_of v))) (p + role_width (role_of x.role) (domain_width d)) (q + width_as_input (role_of x.role) (domain_width d)) (drop (i + 1) m.variables) (drop (i + 1) vs) ≡ whole
   set_here a p q vs v whole value before =
       sym (ap (λ (y : Domain). bits_set m.symbols (with_bits a (place_of (role_of x.role) p q) (number_bits (domain_width y) (number_of v))) (p + role_width (role_of x.role) (domain_width y)) (q + width_as_input (role_of x.role) (domain_width y)) (drop (i + 1) m.variables) (drop (i + 1) vs)) (domain_at m is i x d at told))
-      ∙ sym (ap (λ l. bits_set m.symbols a p q (x ∷ drop (i + 1) m.variables) l) (drop_at vs i v value))
-      ∙ sym (ap (λ l. bits_set m.symbols a p q l (drop i vs)) (drop_at m.variables i x at))
+      ∙ sym (ap (λ l. bits_set m.symbols a p q (x ∷ drop (i + 1) m.variables) l) (drop_there vs i v value))
+      ∙ sym (ap (λ l. bits_set m.symbols a p q l (drop i vs)) (drop_there m.variables i x at))
       ∙ before

@@ -10,7 +10,7 @@ use Rattle.xs_tree.specs.declared.program.Member.TheVariants as member
 use Rattle.xs_tree.specs.ProgramTree.{Text, DeclaredTree, boolean, range, members, instance, declared_tree}
 use Rattle.xs_tree.specs.Scope.{Role, state, input, frozen_role}
 use Rattle.xs_value.specs.declared.value.Value.{Value as AValue}
-use Rattle.xs_tree.specs.Trace.{Each, in_domain}
+use Rattle.xs_tree.specs.Trace.{Each, in_domain, value_of_member}
 use Rattle.xs_tree.specs.Values.{Value, truth, number, symbol, one}
 use Rattle.xs_value.specs.declared.domain.Domain.TheVariants as domain
 use Rattle.xs_flat_laws.specs.FlatTrace.{AreInDomains}
@@ -21,8 +21,6 @@ use Rattle.xs_type_laws.specs.Judged.{number_class, symbol_class, mixed_enum, un
 use Rattle.xs_type_laws.specs.Declared.{member_kind, judged_declared}
 use Rattle.xs_type_laws.specs.Costs.{width_of, symbol_number, declared_width, role_width}
 use Rattle.xs_type_laws.specs.Laws.{BitsHold}
-use Rattle.xs_type_laws.specs.Safe.{IsOfClass}
-use Rattle.xs_type_laws.proofs.VariableLaws.{variable_holds}
 use Rattle.xs_type_laws.proofs.Widths.{widths_least}
 use Rattle.xs_lexer.proofs.SignLemmas.{both_true}
 use Rattle.xs_types.specs.Types.{spread, numbers_in, symbols_in, domain_of, StandsFor}
@@ -30,17 +28,16 @@ use Rattle.xs_lits.specs.States.{Agrees}
 use Rattle.xs_lits.specs.Assignment.{Assignment}
 use Rattle.xs_circuits.specs.Bits.{bit_value, natural_value, last_bit, signed_value}
 use Rattle.xs_circuits.proofs.Orders.{Fits}
-use Rattle.xs_type_laws.specs.Least.{value_of_member, least_member, least_value, least_values, by_role, with_inputs}
+use Rattle.xs_type_laws.specs.Least.{least_member, least_value, least_values, by_role, with_inputs}
 use Rattle.xs_encode_laws.specs.Layout.{declared_interval, state_width, input_width, width_as_input, place_of}
 use Rattle.xs_encode_laws.specs.Inputs.{is_input}
 use Rattle.xs_encode_laws.specs.Bits.{natural_bits, number_bits, value_number, value_bits}
 use Rattle.xs_encode_laws.specs.Meanings.{AreSymbols}
 use Rattle.xs_encode_laws.specs.Encodable.{IsListedMember, IsListedType}
-use Rattle.xs_encode_laws.proofs.Answering.{one_same}
 use Rattle.xs_encode_laws.proofs.TypeBits.{length-number, natural-value, signed-value}
 use Rattle.xs_encode_laws.proofs.NumberWords.{bits_hold, some_bits}
 use Rattle.xs_encode_laws.proofs.TypeMeans.{IsNumbers, numbers_of, symbol_found, members_kept, member_listed}
-use Rattle.xs_encode_laws.proofs.VariableMeans.{numbers_width}
+use Rattle.xs_encode_laws.proofs.VariableMeans.{numbers_width, class_of}
 use Rattle.xs_encode_laws.proofs.Readings.{IsRightType, HasBits}
 use Rattle.xs_encode.specs.Domains.{domain_interval, domain_width, capped}
 use Rattle.xs_encode.specs.Values.{StandFor, values_in, bits_at, last_digit, bits_number, is_below, has_sign, as_symbol, is_nonzero, value_of, domain_read, least_in, values_read}
@@ -117,11 +114,6 @@ narrow : (i : Interval) → i.lo ≤ℤ i.hi → fits i ≡ true → width_of i 
 narrow i h f = let e = both_true (fits_number i.lo) (fits_number i.hi) f in (widths_least i h f).1 33 (few_bits i.lo i.hi e.0 e.1)
 
 -- ---- the value of a number
-
-class_of : (d : DeclaredTree) (u : Value) → (judged_declared d).broken ≡ [] → in_domain d u ≡ true → IsOfClass (judged_declared d).kind.class u
-class_of d u e h =
-    let g = (variable_holds d u e h).gives in
-    subst (λ (x : Value). IsOfClass (judged_declared d).kind.class x) (one_same g.value u (Some (one u)) g.is refl) g.of_kind.class
 
 module _ (symbols : List Text) (are : AreSymbols symbols) where
   -- a listed symbol is read by its number

@@ -6,7 +6,6 @@ use Rattle.std.specs.List.{AllByRecursion}
 use Rattle.xs_lits.specs.Literal.{Literal, opposite}
 use Rattle.xs_circuits.specs.Circuit.{Circuit, with_gate, after, fold_gates}
 use Rattle.xs_circuits.specs.Gates.{and_gate, or_gate, xor_gate, mux_gate, constant_lit, differ}
-use Rattle.xs_circuits.proofs.Extension.{each-append}
 use Rattle.xs_circuits.specs.Bits.{fit_from, last_from}
 use Rattle.xs_circuits.specs.Words.{fit, sign_of, zeros, push_gate, map_gates}
 use Rattle.xs_circuits.specs.Sums.{full_adder, sum_step, sum_gates, add_gates, subtract_gates, negate_gates, less_gates, equal_step, equal_gates}
@@ -14,6 +13,7 @@ use Rattle.xs_circuits.specs.Numbers.{digits_from, number_word}
 use Rattle.xs_circuits.specs.Products.{row_gates, product_step, product_gates, multiply_gates}
 use Rattle.xs_circuits.specs.Quotients.{choose_gates, negate_where_gates, magnitude_gates, divide_bit, quotient_step, long_division_gates, magnitudes_gates, divide_gates, remainder_gates}
 use Rattle.xs_circuits.specs.Counts.{count_gate, count_step, first_from, at_most_gates}
+use Rattle.xs_value.proofs.ListLaws.{all_joined}
 
 -- a set of variables with the constant's, and every one from n on
 pub record IsOpen (n : ℕ) (A : ℕ → Type 0) : Type 0 where
@@ -87,7 +87,7 @@ module _ (n : ℕ) (A : ℕ → Type 0) (open_from : IsOpen n A) where
   clean_drop (suc k) (x ∷ w) h = clean_drop k w h.1
 
   pub clean_append : (w u : List Literal) → CleanWord w → CleanWord u → CleanWord (w ++ u)
-  clean_append w u h k = each-append CleanLiteral w u h k
+  clean_append w u h k = all_joined CleanLiteral w u h k
 
   abbrev CleanPair : Literal × Literal → Type 0
   CleanPair p = CleanLiteral p.0 × CleanLiteral p.1
@@ -114,7 +114,7 @@ module _ (n : ℕ) (A : ℕ → Type 0) (open_from : IsOpen n A) where
 
   clean_with : (s : Circuit) (cs : List (List Literal)) → IsClean s → CleanClauses cs → IsClean (with_gate s cs)
   unfolding with_gate
-  clean_with s cs h k = record { clauses = each-append CleanWord s.clauses cs h.clauses k; from = omega (arith, h.from) }
+  clean_with s cs h k = record { clauses = all_joined CleanWord s.clauses cs h.clauses k; from = omega (arith, h.from) }
 
   pub clean_and : (a b : Literal) (s : Circuit) → IsClean s → CleanLiteral a → CleanLiteral b → Clean CleanLiteral (and_gate a b s)
   unfolding and_gate

@@ -16,7 +16,6 @@ use Rattle.xs_type_laws.specs.Costs.{state_bits, declared_width, role_width, wid
 use Rattle.xs_lits.specs.Literal.{Literal}
 use Rattle.xs_circuits.specs.Circuit.{Circuit, after, fold_gates}
 use Rattle.xs_circuits.specs.Gates.{constant_lit}
-use Rattle.xs_circuits.proofs.Extension.{each-append, each-weaker}
 use Rattle.xs_circuits.specs.Counts.{at_most_gates}
 use Rattle.xs_circuits.specs.Numbers.{number_word}
 use Rattle.xs_encode_laws.specs.Widths.{kind_width, symbol_width}
@@ -35,6 +34,7 @@ use Rattle.xs_encode_laws.proofs.VariableMeans.{numbers_signal, numbers_width}
 use Rattle.xs_encode_laws.proofs.NameMeans.{KnownTo, left_out, reads_kept, definition_reads, StandFrom, stand_here, stand_later}
 use Rattle.xs_encode_laws.proofs.Readings.{IsRightType}
 use Rattle.xs_encode_laws.proofs.MomentMeans.{model_types}
+use Rattle.xs_value.proofs.ListLaws.{all_more, all_joined}
 
 module _ (m : FlatModel) (is : IsEncodable m) where
   states_open : IsOpen (gates_place m) (IsOfState m)
@@ -127,12 +127,12 @@ module _ (m : FlatModel) (is : IsEncodable m) where
       by : (b : Bool) → (reads_input m d.value && not false) ≡ b
           → BuiltHere SignalsHere (cond b (s, ds ++ bit (constant_lit false) ∷ [])
           (after (encoded (names_of m (copy_of (signals_now m) ds) (copy_of (signals_now m) ds)) its_value d.value s) (λ e t. (t, ds ++ e ∷ []))))
-      by true out = record { circuit = h; given = each-append CleanHere ds (bit (constant_lit false) ∷ []) hd (states_open.one, tt) }
+      by true out = record { circuit = h; given = all_joined CleanHere ds (bit (constant_lit false) ∷ []) hd (states_open.one, tt) }
       by false out =
           clean_after (gates_place m) (IsOfState m) states_open CleanHere SignalsHere _ _
           (clean_encoded (gates_place m) (IsOfState m) states_open FlatLeaf (KnownTo m is k) (names_of m (copy_of (signals_now m) ds) (copy_of (signals_now m) ds)) (left_out m false) (left_out m false)
           (copy_clean (KnownTo m is k) ds hd) its_value tt d.value (definition_reads m is false k d at out) s h)
-          (λ e t ht he. record { circuit = ht; given = each-append CleanHere ds (e ∷ []) hd (he, tt) })
+          (λ e t ht he. record { circuit = ht; given = all_joined CleanHere ds (e ∷ []) hd (he, tt) })
 
   definitions_clean : (ds : List FlatFormula) (k : ℕ) → StandFrom m is k ds → (done : List Signal) (s : Circuit) → CircuitHere s → SignalsHere done → BuiltHere SignalsHere (fold_gates (definition_gates m (signals_now m) false) ds done s)
   unfolding fold_gates
@@ -147,7 +147,7 @@ module _ (m : FlatModel) (is : IsEncodable m) where
   unfolding asserted
   asserted_clean r c =
       record {
-        clauses = each-append WordHere r.0.clauses ((literal_in r.1 ∷ []) ∷ []) c.circuit.clauses ((clean_literal (gates_place m) (IsOfState m) states_open r.1 c.given, tt), tt);
+        clauses = all_joined WordHere r.0.clauses ((literal_in r.1 ∷ []) ∷ []) c.circuit.clauses ((clean_literal (gates_place m) (IsOfState m) states_open r.1 c.given, tt), tt);
         from = c.circuit.from;
       }
 
@@ -268,7 +268,7 @@ module _ (m : FlatModel) (is : IsEncodable m) where
   as_all : (cs : List (List Literal)) → AllByRecursion WordHere cs → UseStates m cs
   as_all cs h =
       All-from_recursion (All (λ (l : Literal). IsOfState m l.var)) cs
-      (each-weaker WordHere (All (λ (l : Literal). IsOfState m l.var)) (λ w k. All-from_recursion (λ (l : Literal). IsOfState m l.var) w k) cs h)
+      (all_more WordHere (All (λ (l : Literal). IsOfState m l.var)) (λ w k. All-from_recursion (λ (l : Literal). IsOfState m l.var) w k) cs h)
 
 pub lists_use_states : ListsUseStates
 lists_use_states m is = (
@@ -277,5 +277,5 @@ lists_use_states m is = (
   (λ top history sets size fit bits.
       let ls = history_literals m history in
       let hl = history_clean m is history bits in
-      as_all m is _ (each-append (WordHere m is) _ (map (unlisted_clause ls) sets) (size_clean m is ls hl size _ (top_clean m is top fit)).clauses (sets_clean m is ls hl sets))),
+      as_all m is _ (all_joined (WordHere m is) _ (map (unlisted_clause ls) sets) (size_clean m is ls hl size _ (top_clean m is top fit)).clauses (sets_clean m is ls hl sets))),
 )

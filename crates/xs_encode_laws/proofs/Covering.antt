@@ -16,9 +16,10 @@ use Rattle.xs_right_laws.specs.Right.{HasFailedAll, HasFailedAtMost}
 use Rattle.xs_encode_laws.specs.Encoded.{is_true_at, bit_of, IsEncodingOf, IsBadListOf}
 use Rattle.xs_encode_laws.specs.FlatTraces.{ReachesTop, HasFailedNumber, failed_set, last_of, history_of, failed_in, IsNumbered}
 use Rattle.xs_encode_laws.specs.EncodedLaws.{AreOwn, IsEncoded, InvariantsCover}
-use Rattle.xs_encode_laws.proofs.SetLaws.{true_or_false, has_contains, contains_has, contained_has, here, later}
+use Rattle.xs_encode_laws.proofs.SetLaws.{true_or_false, has_contains, contains_has, contained_has}
 use Rattle.xs_encode_laws.proofs.Numbers.{count_where}
 use Rattle.xs_encode_laws.proofs.HistoryFacts.{at_last, each_last, last_told, last_tells, range_length, unlisted_comes, failed_exactly, failed_small}
+use Rattle.xs_tree.proofs.ListLaws.{contains_here, contains_later}
 
 -- a set is within the numbers, or none is
 some_within : (numbers : List ℕ) (sets : List (List ℕ)) →
@@ -29,8 +30,8 @@ some_within numbers (set ∷ sets) = by_first (true_or_false (is_contained set n
     by_first : (is_contained set numbers ≡ true) ⊎ (is_contained set numbers ≡ false) →
         ((s : List ℕ) × Contains sets s × (is_contained s numbers ≡ true)) ⊎ Each (λ s. is_contained s numbers ≡ false) sets →
         ((s : List ℕ) × Contains (set ∷ sets) s × (is_contained s numbers ≡ true)) ⊎ Each (λ s. is_contained s numbers ≡ false) (set ∷ sets)
-    by_first (inl e) rest = inl (set, here set sets, e)
-    by_first (inr e) (inl found) = inl (found.0, later found.0 set sets found.1, found.2)
+    by_first (inl e) rest = inl (set, contains_here set sets, e)
+    by_first (inr e) (inl found) = inl (found.0, contains_later found.0 set sets found.1, found.2)
     by_first (inr e) (inr none) = inr (e, none)
 
 -- a step under some inputs is a step

@@ -11,7 +11,7 @@ use Rattle.xs_tree.specs.Tree.{trees_from}
 use Rattle.xs_tree.specs.Trace.{Each, is_member, in_domain}
 use Rattle.xs_tree.specs.Values.{Value, truth, number, symbol, same_int}
 use Rattle.xs_tree.specs.Texts.{same_text}
-use Rattle.xs_tree.proofs.ValueLaws.{same_int_equal, same_text_equal, same_text_refl}
+use Rattle.xs_tree.proofs.ValueLaws.{same_int_equal, same_text_equal, same_text_refl, no_truth}
 use Rattle.xs_tree.specs.Flat.{FlatModel}
 use Rattle.xs_lits.specs.Literal.{Literal}
 use Rattle.xs_lits.specs.Models.{TotalAssignment, literal_value, IsBelow}
@@ -40,7 +40,7 @@ use Rattle.xs_encode_laws.specs.Encodable.{IsListedMember, IsListedType}
 use Rattle.xs_encode_laws.proofs.Parts.{ready_later, word_later, literal_below, as_bit-means}
 use Rattle.xs_encode_laws.proofs.Fitting.{number_value, symbol_value, fits_symbol, fit_same}
 use Rattle.xs_encode_laws.proofs.Choices.{word_fitted, between_gates-means}
-use Rattle.xs_encode_laws.proofs.TypeMeans.{symbol_found, no_truth, members_kept, IsNumbers, numbers_of}
+use Rattle.xs_encode_laws.proofs.TypeMeans.{symbol_found, members_kept, IsNumbers, numbers_of}
 use Rattle.xs_encode_laws.proofs.VariableMeans.{read_symbol, symbol_or_false, read_as, numbers_word, numbers_signal}
 use Rattle.std.proofs.lemmas.Option.{slice_get_within as got_below}
 

@@ -11,7 +11,7 @@ use Rattle.xs_encode_laws.specs.Meanings.{IsSignal}
 use Rattle.xs_encode_laws.specs.Reads.{Reads, ReadsTrees, ReadsBranches}
 use Rattle.xs_encode_laws.specs.Encodable.{IsKnownName}
 use Rattle.xs_encode_laws.specs.Laws.{ExpressionsAreEncoded, WordsHoldKinds, ModelsAreEncoded, BadStatesAreEncoded, IsAskedIn, IsAskedOf}
-use Rattle.xs_encode_laws.proofs.ExpressionMeans.{IsAsked, MayAsk, encoded-means}
+use Rattle.xs_encode_laws.proofs.ExpressionMeans.{encoded-means}
 use Rattle.xs_encode_laws.proofs.Fitting.{fits_width}
 use Rattle.xs_encode_laws.proofs.SystemMeans.{encoding_of}
 use Rattle.xs_encode_laws.proofs.BadMeans.{bad_list_of}
@@ -53,11 +53,11 @@ expressions_encoded m is c s ready names asked hu sets may e own right =
     })
     (reads_all (IsKnownName m) e own) sets (may_ask asked may) right)
   where
-    usable : (asked : Asked) → IsAskedIn s asked → IsAsked s asked
+    usable : (asked : Asked) → IsAskedIn s asked → IsAskedIn s asked
     usable its_value h = tt
     usable (whether_has u) h = h
 
-    may_ask : (asked : Asked) → IsAskedOf asked sets → MayAsk asked sets
+    may_ask : (asked : Asked) → IsAskedOf asked sets → IsAskedOf asked sets
     may_ask its_value h = h
     may_ask (whether_has u) h = tt
 

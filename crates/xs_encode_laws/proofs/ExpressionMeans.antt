@@ -44,6 +44,7 @@ use Rattle.xs_encode_laws.proofs.Fitting.{number_value}
 use Rattle.xs_encode_laws.proofs.Operators.{AreAlike, Tells, tells_test, same_value_from, other_is_not, same_gates-means, operator_gates-means}
 use Rattle.xs_encode_laws.proofs.Choices.{FitsWord, signal_fitted, fitted_value, Chooses, choice_gates-means, between_gates-means}
 use Rattle.xs_encode_laws.proofs.Answering.{one_same, some_same, one_and_some, applied, alike_from_class, kept_interval, kind_value_fits, alone_fits, value_fits, TakesValues, plain_gives, plain_parts, divides_right, MayChoose, choice_answers, may_choose}
+use Rattle.xs_encode_laws.specs.Laws.{IsAskedIn, IsAskedOf}
 
 -- the width of a kind is that of at least one bit
 pub some_width : (symbols : List Text) (c : Class) (i : Option Interval) → 0 < width_by symbols c i
@@ -52,19 +53,9 @@ some_width symbols number_class None = omega arith
 some_width symbols truth_class i = omega arith
 some_width symbols symbol_class i = omega arith
 
--- the signal that is asked for may be used
-abbrev pub IsAsked : Circuit → Asked → Type 0
-IsAsked s its_value = Unit {0}
-IsAsked s (whether_has u) = IsSignal s u
-
-asked_later : (s t : Circuit) → Extends s t → (m : Asked) → IsAsked s m → IsAsked t m
+asked_later : (s t : Circuit) → Extends s t → (m : Asked) → IsAskedIn s m → IsAskedIn t m
 asked_later s t e its_value h = tt
 asked_later s t e (whether_has u) h = signal_later s t e u h
-
--- a value is asked of what is no set
-abbrev pub MayAsk : Asked → Bool → Type 0
-MayAsk its_value sets = sets ≡ false
-MayAsk (whether_has u) sets = Unit {0}
 
 module _ (L : Type 0) (symbols : List Text) (are : AreSymbols symbols) (k : L → Kind) (good : L → Type 0) where
   -- the names have signals that may be used, and words the widths of kinds
@@ -84,7 +75,7 @@ module _ (L : Type 0) (symbols : List Text) (are : AreSymbols symbols) (k : L �
   -- the signal answers for the tree, where that breaks no rule
   abbrev pub Right : Names L → Asked → Tree L → TotalAssignment → Signal → Type 0
   Right c m t v e =
-      (tn tx : L → Bool) (now next : Leaves L) → IsFit v c tn tx now next → Reads good tn tx t → (sets : Bool) → MayAsk m sets → (judge k sets t).broken ≡ [] →
+      (tn tx : L → Bool) (now next : Leaves L) → IsFit v c tn tx now next → Reads good tn tx t → (sets : Bool) → IsAskedOf m sets → (judge k sets t).broken ≡ [] →
       Answers symbols v m (judge k sets t).kind.class (evaluate now next t) e
 
   -- the signal has the value of the tree
@@ -138,7 +129,7 @@ module _ (L : Type 0) (symbols : List Text) (are : AreSymbols symbols) (k : L �
       subst (λ (i : ℕ). FitsWord symbols i x) (sym (n.width t)) (alone_fits symbols are (judge k false t) (evaluate now next t) x (lone v c tn tx now next f t own e) is)
 
   -- where its value is right, so is what is asked of a tree that is never a set
-  answer-means : (c : Names L) (m : Asked) (t : Tree L) → ((sets : Bool) → judge k sets t ≡ judge k false t) → (s : Circuit) → IsReady s → IsAsked s m → (r : Circuit × Signal)
+  answer-means : (c : Names L) (m : Asked) (t : Tree L) → ((sets : Bool) → judge k sets t ≡ judge k false t) → (s : Circuit) → IsReady s → IsAskedIn s m → (r : Circuit × Signal)
       → Means s r IsSignal (Valued c t) → Means s (answer m r) IsSignal (Right c m t)
   answer-means c its_value t plain s ready asked r mm =
       Means-weaker s r IsSignal IsSignal _ _ mm (λ h. h)
@@ -262,7 +253,7 @@ module _ (L : Type 0) (symbols : List Text) (are : AreSymbols symbols) (k : L �
 
   -- ---- choices and branches
 
-  no_sets : (m : Asked) (sets : Bool) → MayAsk m sets → m ≡ its_value → sets ≡ false
+  no_sets : (m : Asked) (sets : Bool) → IsAskedOf m sets → m ≡ its_value → sets ≡ false
   no_sets its_value sets may e = may
   no_sets (whether_has u) sets may e = cc
 
@@ -277,7 +268,7 @@ module _ (L : Type 0) (symbols : List Text) (are : AreSymbols symbols) (k : L �
   FitsTarget m c n target = m ≡ its_value → (x : Value) → IsOfClass c x → LiesIn target x → FitsWord symbols n x
 
   -- a part may be chosen
-  part_chosen : (c : Names L) (m : Asked) (v : TotalAssignment) (tn tx : L → Bool) (now next : Leaves L) → IsFit v c tn tx now next → (sets : Bool) → MayAsk m sets → (a : Tree L) → Reads good tn tx a → (judge k sets a).broken ≡ []
+  part_chosen : (c : Names L) (m : Asked) (v : TotalAssignment) (tn tx : L → Bool) (now next : Leaves L) → IsFit v c tn tx now next → (sets : Bool) → IsAskedOf m sets → (a : Tree L) → Reads good tn tx a → (judge k sets a).broken ≡ []
       → (class : Class) → (judge k sets a).kind.class ≡ class → (n : ℕ) (target : Option Interval) → Inside target (judge k sets a).kind → FitsTarget m class n target
       → MayChoose symbols m class n (evaluate now next a)
   part_chosen c m v tn tx now next fit sets may a own kept class same n target inside fits =
@@ -335,7 +326,7 @@ module _ (L : Type 0) (symbols : List Text) (are : AreSymbols symbols) (k : L �
   -- the signal answers for the branches, whose values are of one class and in the target
   abbrev pub BranchesRight : Names L → Asked → ℕ → Branches L → TotalAssignment → Signal → Type 0
   BranchesRight c m n bs v e =
-      (tn tx : L → Bool) (now next : Leaves L) → IsFit v c tn tx now next → ReadsBranches good tn tx bs → (sets : Bool) → MayAsk m sets → ends_in_true bs ≡ true →
+      (tn tx : L → Bool) (now next : Leaves L) → IsFit v c tn tx now next → ReadsBranches good tn tx bs → (sets : Bool) → IsAskedOf m sets → ends_in_true bs ≡ true →
       flat_map (unless_class truth_class not_boolean) (kinds_in (judge_conditions k bs)) ≡ [] → broken_in (judge_conditions k bs) ≡ [] → broken_in (judge_values k sets bs) ≡ [] →
       (class : Class) → flat_map (unless_class class mismatch) (kinds_in (judge_values k sets bs)) ≡ [] → (target : Option Interval) → Each (Inside target) (kinds_in (judge_values k sets bs)) →
       FitsTarget m class n target → Answers symbols v m class (evaluate_branches now next bs) e
@@ -347,7 +338,7 @@ module _ (L : Type 0) (symbols : List Text) (are : AreSymbols symbols) (k : L �
       let more = values_no_set bs (none_second (judge k false a).broken _ e) in
       rw (here, more) refl
 
-  branches_chosen : (c : Names L) (m : Asked) (v : TotalAssignment) (tn tx : L → Bool) (now next : Leaves L) → IsFit v c tn tx now next → (sets : Bool) → MayAsk m sets → (bs : Branches L) → ReadsBranches good tn tx bs
+  branches_chosen : (c : Names L) (m : Asked) (v : TotalAssignment) (tn tx : L → Bool) (now next : Leaves L) → IsFit v c tn tx now next → (sets : Bool) → IsAskedOf m sets → (bs : Branches L) → ReadsBranches good tn tx bs
       → ends_in_true bs ≡ true → flat_map (unless_class truth_class not_boolean) (kinds_in (judge_conditions k bs)) ≡ [] → broken_in (judge_conditions k bs) ≡ [] → broken_in (judge_values k sets bs) ≡ []
       → (class : Class) → flat_map (unless_class class mismatch) (kinds_in (judge_values k sets bs)) ≡ [] → (n : ℕ) (target : Option Interval) → Each (Inside target) (kinds_in (judge_values k sets bs))
       → FitsTarget m class n target → MayChoose symbols m class n (evaluate_branches now next bs)
@@ -485,7 +476,7 @@ module _ (L : Type 0) (symbols : List Text) (are : AreSymbols symbols) (k : L �
   mutual
     unfolding encoded
 
-    pub encoded-means : (c : Names L) (m : Asked) (t : Tree L) (s : Circuit) → IsReady s → IsNaming s c → IsAsked s m → Means s (encoded c m t s) IsSignal (Right c m t)
+    pub encoded-means : (c : Names L) (m : Asked) (t : Tree L) (s : Circuit) → IsReady s → IsNaming s c → IsAskedIn s m → Means s (encoded c m t s) IsSignal (Right c m t)
     encoded-means c m (is_truth b) s ready naming asked =
         answer-means c m (is_truth b) (λ sets. refl) s ready asked _
         (Means-done s (bit (constant_lit b)) IsSignal (Valued c (is_truth b)) ready.least
@@ -554,7 +545,7 @@ module _ (L : Type 0) (symbols : List Text) (are : AreSymbols symbols) (k : L �
     encoded-means c (whether_has u) (span lo hi) s ready naming asked =
         as_bit-means s _ _ _ ready.truth (between_gates-means symbols s ready u asked lo hi) (λ v one_true between. span_right c u lo hi v _ one_true between)
 
-    branches-means : (c : Names L) (m : Asked) (n : ℕ) → 0 < n → (bs : Branches L) (s : Circuit) → IsReady s → IsNaming s c → IsAsked s m
+    branches-means : (c : Names L) (m : Asked) (n : ℕ) → 0 < n → (bs : Branches L) (s : Circuit) → IsReady s → IsNaming s c → IsAskedIn s m
         → Means s (encoded_branches c m n bs s) IsSignal (BranchesRight c m n bs)
     branches-means c m n some no_branch s ready naming asked = Means-done s (bit (constant_lit false)) IsSignal _ ready.least (λ v h tn tx now next fit own sets may ends. cc)
     branches-means c m n some (branch_then d a no_branch) s ready naming asked =
@@ -573,7 +564,7 @@ module _ (L : Type 0) (symbols : List Text) (are : AreSymbols symbols) (k : L �
         (choice_gates-means symbols s3 ready3 n some (literal_in p) (literal_below s3 ready3.least p (signal_later s2 s3 e3 p (signal_later s1 s2 e2 p hp))) e f (signal_later s2 s3 e3 e he) hf) (λ h. h)
         (λ v h ch pb pa pd. more_right c m n d a d' a' bs v p e f _ pd pa pb ch))))
 
-    members-means : (c : Names L) (m : Asked) (ts : Trees L) (r : Literal) (s : Circuit) → IsReady s → IsNaming s c → IsAsked s m → IsBelow s.free r
+    members-means : (c : Names L) (m : Asked) (ts : Trees L) (r : Literal) (s : Circuit) → IsReady s → IsNaming s c → IsAskedIn s m → IsBelow s.free r
         → Means s (encoded_members c m ts r s) IsSignal (MembersRight c m ts r)
     members-means c m no_tree r s ready naming asked hr = Means-done s (bit r) IsSignal _ hr (λ v h. none_right c m r v)
     members-means c m (tree_then t ts) r s ready naming asked hr =

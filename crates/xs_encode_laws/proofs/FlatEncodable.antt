@@ -1,58 +1,29 @@
 -- The typed flat model of an accepted program is encodable.
-use Rattle.std.proofs.Common.{◌≡◌, ◌⊎◌, inl, inr, ℕ, zero, suc, ◌<◌, ◌^◌, Bool, true, false, List, [], ◌∷◌, ◌++◌, length, Option, Some, None, refl, sym, ◌∙◌, ap, subst}
-use Rattle.std.specs.Prelude.{slice_get, flat_map, if◌then◌else◌}
+use Rattle.std.proofs.Common.{◌≡◌, inr, ℕ, zero, suc, ◌<◌, ◌^◌, List, [], ◌∷◌, length, Option, Some, None, refl, sym, ◌∙◌, ap, subst}
+use Rattle.std.specs.Prelude.{slice_get, flat_map}
 use Rattle.xs_tree.specs.declared.program.Member.{Member}
 use Rattle.xs_tree.specs.declared.program.Member.TheVariants as member
 use Rattle.xs_tree.specs.ProgramTree.{Text, DeclaredTree, boolean, range, members, instance, ModuleTree, ProgramTree}
-use Rattle.xs_tree.specs.Texts.{same_text, is_among}
-use Rattle.xs_tree.specs.Scope.{Kind, a_variable, find_module, formal_from, kind_after_formals, kind_in_sections}
+use Rattle.xs_tree.specs.Scope.{Kind, a_variable, formal_from, kind_after_formals, kind_in_sections}
 use Rattle.xs_tree.specs.Trace.{Each, IsVariable}
-use Rattle.xs_tree.proofs.ValueLaws.{same_text_equal}
 use Rattle.xs_tree.specs.Flat.{FlatVariable, FlatModel}
 use Rattle.xs_flat_laws.specs.Items.{a_declaration, items_of, Visit, variable_declared}
 use Rattle.xs_flat_laws.specs.Rules.{IsAccepted}
-use Rattle.xs_flat_laws.specs.Model.{symbols_of_members, symbols_of_type, symbols_of_item, first_appearances, symbols_of, IsFlatOf}
-use Rattle.xs_flat_laws.proofs.Places.{In, in_left, in_right, in_flat, walked}
+use Rattle.xs_flat_laws.specs.Model.{symbols_of_members, symbols_of_type, symbols_of_item, symbols_of, IsFlatOf}
+use Rattle.xs_flat_laws.proofs.Places.{In, in_flat, walked}
 use Rattle.xs_flat_laws.proofs.Walkable.{accepted_walkable}
 use Rattle.xs_flat_laws.proofs.Variables.{DeclaredAs, declared_as}
 use Rattle.xs_flat_laws.proofs.KindLaws.{sections_kind}
-use Rattle.xs_flat_laws.proofs.KeysApart.{pairwise_same}
 use Rattle.xs_flat_laws.proofs.OneModel.{OtherText, symbols_apart}
 use Rattle.xs_type_laws.proofs.ClosedLaws.{models_closed}
 use Rattle.xs_encode_laws.specs.Meanings.{AreSymbols}
 use Rattle.xs_encode_laws.specs.Encodable.{IsListedMember, IsListedType}
 use Rattle.xs_encode_laws.specs.Laws.{HasMember, FlatModelsAreEncodable}
 use Rattle.xs_encode_laws.proofs.FlatInputs.{is_there, first_reads_none, each_reads_none, step_reads_none}
+use Rattle.xs_flat_laws.proofs.Found.{find_in, appears}
+use Rattle.xs_flat_laws.proofs.Pairs.{pairwise_same}
 
 -- ---- symbols by first appearance
-
-among_in : (xs : List Text) (y : Text) → is_among xs y ≡ true → In y xs
-among_in [] y h = cc
-among_in (x ∷ xs) y h = by (same_text x y) refl h (among_in xs y)
-  where
-    by : (b : Bool) → same_text x y ≡ b → is_among (x ∷ xs) y ≡ true → (is_among xs y ≡ true → In y xs) → In y (x ∷ xs)
-    by true t h more = (0, ap Some (same_text_equal x y t))
-    by false t h more = let rest : is_among xs y ≡ true = rw t at h in let m = more rest in (suc m.0, m.1)
-
-pub appears : (seen xs : List Text) (y : Text) → In y seen ⊎ In y xs → In y (first_appearances seen xs)
-appears seen [] y (inl h) = h
-appears seen [] y (inr h) = cc (h.1)
-appears seen (x ∷ xs) y h = appears (if is_among seen x then seen else seen ++ x ∷ []) xs y (by (is_among seen x) refl h)
-  where
-    by : (b : Bool) → is_among seen x ≡ b → In y seen ⊎ In y (x ∷ xs) → In y (if is_among seen x then seen else seen ++ x ∷ []) ⊎ In y xs
-    by true t (inl h) = inl (rw t h)
-    by false t (inl h) = inl (rw t (in_left y seen (x ∷ []) h))
-    by true t (inr (zero, e)) = let same : x ≡ y = cc in inl (rw t (subst (λ (z : Text). In z seen) same (among_in seen x t)))
-    by false t (inr (zero, e)) = let same : x ≡ y = cc in inl (rw t (subst (λ (z : Text). In z (seen ++ x ∷ [])) same (in_right x seen (x ∷ []) (0, refl))))
-    by b t (inr (suc i, e)) = inr (i, e)
-
-find_in : (p : ProgramTree) (x : Text) (k : ModuleTree) → find_module p x ≡ Some k → In k p
-find_in [] x k e = cc
-find_in (first ∷ more) x k e = by (same_text first.name x) refl (find_in more x k)
-  where
-    by : (b : Bool) → same_text first.name x ≡ b → (find_module more x ≡ Some k → In k more) → In k (first ∷ more)
-    by true t rest = let found : Some first ≡ Some k = rw t at e in (0, found)
-    by false t rest = let found : find_module more x ≡ Some k = rw t at e in let m = rest found in (suc m.0, m.1)
 
 member_in : (ms : List Member) (i : ℕ) (y : Text) → slice_get ms i ≡ Some (member.Symbol y) → In y (symbols_of_members ms)
 member_in [] i y e = cc

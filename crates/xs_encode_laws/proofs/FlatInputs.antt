@@ -8,12 +8,12 @@ use Rattle.xs_tree.specs.Tree.{Tree, Trees, Branches, truth as is_truth, number 
 use Rattle.xs_tree.specs.Leaves.{tree_map, trees_map, branches_map}
 use Rattle.xs_tree.specs.ProgramTree.{Text, Path, Formula, DeclaredTree, boolean, range, members, instance, ModuleTree, ProgramTree}
 use Rattle.xs_tree.specs.Scope.{Place, Role, state, input, frozen_role, Kind, a_variable, a_formal, a_define, an_instance, undeclared, kind_declared, kind_at, module_at, Key, Meaning, a_variable_at, an_expression_at, a_symbol, an_instance_at, Means}
-use Rattle.xs_tree.specs.Trace.{Each, AtSome, IsInstance, IsVariable}
+use Rattle.xs_tree.specs.Trace.{Each, AtSome, IsInstance, IsVariable, EachBoth}
 use Rattle.xs_tree.specs.Flat.{FlatLeaf, flat_variable, flat_symbol, flat_definition, FlatInstance, FlatVariable, FlatFormula, FlatModel}
 use Rattle.xs_flat_laws.specs.Items.{Item, a_declaration, a_definition, an_assignment, some_constants, an_init, an_invar, a_trans, items_of, NumberedItem, visits, variables_of, items_named, instances_of}
 use Rattle.xs_flat_laws.specs.Resolved.{leaves_in, Definition, StandsFor, IsLeafOf, IsResolved, IsBefore}
 use Rattle.xs_flat_laws.specs.Rules.{not_a_target, input_here, leaves_under, trees_leaves_under, branches_leaves_under, is_later, inputs_judged, may_be_assigned, is_target, names_of_item, is_name_again, BreaksInputs, BreaksTarget, a_use, module_sites, visit_sites, use_sites, IsKept, is_input_kind, MeansInput, GivesInput, Leads, expression_of, IsAccepted, IsWalkable}
-use Rattle.xs_flat_laws.specs.Model.{Condition, plain, now_among, next_among, kept, assigned_first, assigned_each, assigned_step, first_conditions, each_conditions, step_conditions, kept_declared, kept_conditions, Written, written_at, conditions, IsVariableNumber, IsConditionTree, IsFormulaOf, EachBoth, IsFlatOf, IsVariableOf, IsDefinitionOf}
+use Rattle.xs_flat_laws.specs.Model.{Condition, plain, now_among, next_among, kept, assigned_first, assigned_each, assigned_step, first_conditions, each_conditions, step_conditions, kept_declared, kept_conditions, Written, written_at, conditions, IsVariableNumber, IsConditionTree, IsFormulaOf, IsFlatOf, IsVariableOf, IsDefinitionOf}
 use Rattle.xs_flat_laws.proofs.Variables.{both_at, both_at_second, RealVariable, real_variables}
 use Rattle.xs_flat_laws.proofs.Conditions.{each_at, each_flat, each_mapped, each_from, each_join}
 use Rattle.xs_flat_laws.proofs.Reaches.{each_right}
@@ -27,6 +27,7 @@ use Rattle.xs_encode_laws.specs.Inputs.{is_input, is_input_variable, reads_input
 use Rattle.xs_encode_laws.specs.Encodable.{is_input_name, reads_next_input}
 use Rattle.xs_encode_laws.proofs.NameMeans.{flag_is}
 use Rattle.std.proofs.lemmas.Bool.{true_from_ne_false as not_false_true}
+use Rattle.xs_tree.proofs.EachLaws.{some_at, each_not}
 
 -- ---- lists
 
@@ -38,11 +39,6 @@ found_at_some f (x ∷ xs) e = by (f x) refl e (found_at_some f xs)
     by : (b : Bool) → f x ≡ b → (b || list_any f xs) ≡ true → (list_any f xs ≡ true → (i : ℕ) × (y : _) × (slice_get xs i ≡ Some y) × (f y ≡ true)) → (i : ℕ) × (y : _) × (slice_get (x ∷ xs) i ≡ Some y) × (f y ≡ true)
     by true t h more = (0, x, refl, t)
     by false t h more = let m = more h in (suc m.0, m.1, m.2, m.3)
-
-at_some_from : {A : Type 0} (P : A → Type 0) (xs : List A) (i : ℕ) (x : A) → slice_get xs i ≡ Some x → P x → AtSome P xs
-at_some_from P [] i x e h = cc
-at_some_from P (y ∷ xs) zero x e h = let same : y ≡ x = cc in inl (subst P (sym same) h)
-at_some_from P (y ∷ xs) (suc i) x e h = inr (at_some_from P xs i x e h)
 
 pub none_any : {A : Type 0} (f : A → Bool) (xs : List A) → Each (λ x. f x ≡ false) xs → list_any f xs ≡ false
 none_any f [] h = refl
@@ -136,7 +132,7 @@ module _ (p : ProgramTree) (accepted : IsAccepted p) (m : FlatModel) (is : IsFla
         last_place = d.place;
         last_written = d.written;
         is_last = here;
-        names_input = at_some_from (MeansInput p d.place) (leaves_in d.written) k name at (variable_input d.place name j stands.0 stands.1 stands.2 flagged);
+        names_input = some_at (MeansInput p d.place) (leaves_in d.written) k name at (variable_input d.place name j stands.0 stands.1 stands.2 flagged);
       }
       by k (flat_symbol j) flagged name at stands before here more = cc
       by k (flat_definition j) flagged name at stands before here more =
@@ -151,7 +147,7 @@ module _ (p : ProgramTree) (accepted : IsAccepted p) (m : FlatModel) (is : IsFla
                 place = d.place;
                 written = d.written;
                 is = here;
-                named = at_some_from (λ y. (a : Place) × (e : Formula) × Means p d.place y (an_expression_at next.0.key a e)) (leaves_in d.written) k name at (next.2, next.3, next.4);
+                named = some_at (λ y. (a : Place) × (e : Formula) × Means p d.place y (an_expression_at next.0.key a e)) (leaves_in d.written) k name at (next.2, next.3, next.4);
               },
               rest.leads,
             );
@@ -232,10 +228,6 @@ given_each P Q q f (l ∷ ls) (name ∷ names) e h =
     let tail : map Some ls ≡ map q names = cc in
     (f name l head h.0, given_each P Q q f ls names tail h.1)
 
-each_none : {A : Type 0} (P : A → Type 0) (xs : List A) → (AtSome P xs → ⊥) → Each (λ x. P x → ⊥) xs
-each_none P [] h = tt
-each_none P (x ∷ xs) h = ((λ k. h (inl k)), each_none P xs (λ k. h (inr k)))
-
 assigned_no_input : (when : Moment) (k : Kind) → may_be_assigned when k ≡ true → is_input_kind k ≡ false
 assigned_no_input when (a_variable state t) h = refl
 assigned_no_input when (a_variable frozen_role t) h = refl
@@ -286,7 +278,7 @@ module _ (p : ProgramTree) where
 
   first_assigned : (at : Place) (when : Moment) (target : Path) (e : Formula) → (AtSome (GivesInput p at) (inputs_judged (is_later when) e) → ⊥) → (is_target p at when target ≡ false → ⊥)
       → Each (QuietNow at) (assigned_first when target e)
-  first_assigned at First (x ∷ []) e h k = ((own_target at First x k, each_none (GivesInput p at) (leaves_in e) h), tt)
+  first_assigned at First (x ∷ []) e h k = ((own_target at First x k, each_not (GivesInput p at) (leaves_in e) h), tt)
   first_assigned at First [] e h k = tt
   first_assigned at First (x ∷ (y ∷ ys)) e h k = tt
   first_assigned at Always target e h k = tt
@@ -294,7 +286,7 @@ module _ (p : ProgramTree) where
 
   each_assigned : (at : Place) (when : Moment) (target : Path) (e : Formula) → (AtSome (GivesInput p at) (inputs_judged (is_later when) e) → ⊥) → (is_target p at when target ≡ false → ⊥)
       → Each (QuietNow at) (assigned_each when target e)
-  each_assigned at Always (x ∷ []) e h k = ((own_target at Always x k, each_none (GivesInput p at) (leaves_in e) h), tt)
+  each_assigned at Always (x ∷ []) e h k = ((own_target at Always x k, each_not (GivesInput p at) (leaves_in e) h), tt)
   each_assigned at Always [] e h k = tt
   each_assigned at Always (x ∷ (y ∷ ys)) e h k = tt
   each_assigned at First target e h k = tt
@@ -302,14 +294,14 @@ module _ (p : ProgramTree) where
 
   step_assigned : (at : Place) (when : Moment) (target : Path) (e : Formula) → (AtSome (GivesInput p at) (inputs_judged (is_later when) e) → ⊥) → (is_target p at when target ≡ false → ⊥)
       → Each (QuietNext at) (assigned_step when target e)
-  step_assigned at After (x ∷ []) e h k = ((own_target at After x k, each_none (GivesInput p at) (leaves_under e) h), tt)
+  step_assigned at After (x ∷ []) e h k = ((own_target at After x k, each_not (GivesInput p at) (leaves_under e) h), tt)
   step_assigned at After [] e h k = tt
   step_assigned at After (x ∷ (y ∷ ys)) e h k = tt
   step_assigned at First target e h k = tt
   step_assigned at Always target e h k = tt
 
   first_item : (at : Place) (i : Item) → (BreaksInputs p at i → ⊥) → (BreaksTarget p at i → ⊥) → Each (QuietNow at) (first_conditions i)
-  first_item at (an_init e) h k = (each_none (GivesInput p at) (leaves_in e) h, tt)
+  first_item at (an_init e) h k = (each_not (GivesInput p at) (leaves_in e) h, tt)
   first_item at (an_assignment a) h k = first_assigned at a.when a.target a.value h k
   first_item at (a_declaration role d) h k = tt
   first_item at (a_definition d) h k = tt
@@ -318,7 +310,7 @@ module _ (p : ProgramTree) where
   first_item at (a_trans e) h k = tt
 
   each_item : (at : Place) (i : Item) → (BreaksInputs p at i → ⊥) → (BreaksTarget p at i → ⊥) → Each (QuietNow at) (each_conditions i)
-  each_item at (an_invar e) h k = (each_none (GivesInput p at) (leaves_in e) h, tt)
+  each_item at (an_invar e) h k = (each_not (GivesInput p at) (leaves_in e) h, tt)
   each_item at (an_assignment a) h k = each_assigned at a.when a.target a.value h k
   each_item at (a_declaration role d) h k = tt
   each_item at (a_definition d) h k = tt
@@ -327,7 +319,7 @@ module _ (p : ProgramTree) where
   each_item at (a_trans e) h k = tt
 
   step_item : (at : Place) (i : Item) → (BreaksInputs p at i → ⊥) → (BreaksTarget p at i → ⊥) → Each (QuietNext at) (step_conditions i)
-  step_item at (a_trans e) h k = (each_none (GivesInput p at) (leaves_under e) h, tt)
+  step_item at (a_trans e) h k = (each_not (GivesInput p at) (leaves_under e) h, tt)
   step_item at (an_assignment a) h k = step_assigned at a.when a.target a.value h k
   step_item at (a_declaration role d) h k = tt
   step_item at (a_definition d) h k = tt

@@ -8,39 +8,41 @@ use Rattle.xs_tree.specs.Flat.{FlatLeaf, flat_variable, flat_symbol, flat_defini
 use Rattle.xs_flat_laws.specs.History.{Mode, bit_variables, bits_at_first, bits_at_step, with_history}
 use Rattle.xs_flat_laws.specs.Resolved.{leaves_in}
 use Rattle.xs_flat_laws.specs.Rules.{leaves_under, trees_leaves_under, branches_leaves_under}
-use Rattle.xs_flat_laws.proofs.Lists.{get_left, get_within, each_more}
+use Rattle.xs_flat_laws.proofs.Lists.{get_within, each_more}
 use Rattle.xs_flat_laws.proofs.HistoryLaws.{length_bits}
 use Rattle.xs_type_laws.specs.Laws.{IsKnown, AreInOrder, ReadOwn}
 use Rattle.xs_type_laws.proofs.ModelLaws.{all_leaves_more}
 use Rattle.xs_encode_laws.specs.Inputs.{is_input_variable, names_input, tree_reads_input, reading_after, reads_input}
 use Rattle.xs_encode_laws.specs.Encodable.{IsListedType, is_input_name, reads_next_input, IsEncodable}
 use Rattle.xs_encode_laws.specs.HistoryBits.{IsStateMode, HistoryKeepsEncodable}
-use Rattle.xs_encode_laws.proofs.NameMeans.{each_joined, each_leaf, same_any}
+use Rattle.xs_encode_laws.proofs.NameMeans.{each_leaf, same_any}
 use Rattle.xs_encode_laws.proofs.HistoryPlaces.{is_bit}
 use Rattle.std.proofs.lemmas.Option.{slice_get_within as got_below}
+use Rattle.xs_flat_laws.proofs.Conditions.{each_join}
+use Rattle.xs_value.proofs.ListLaws.{get_left}
 
 -- what holds of each leaf holds of those under `next`
 mutual
-  each_under : {L : Type 0} (P : L → Type 0) (t : Tree L) → AllLeaves P t → Each P (leaves_under t)
+  pub each_under : {L : Type 0} (P : L → Type 0) (t : Tree L) → AllLeaves P t → Each P (leaves_under t)
   each_under P (is_truth b) h = tt
   each_under P (is_number n) h = tt
   each_under P (leaf l) h = tt
   each_under P (not_of a) h = each_under P a h
   each_under P (negate a) h = each_under P a h
   each_under P (next_of a) h = each_leaf P a h
-  each_under P (binary o a b) h = each_joined P (leaves_under a) _ (each_under P a h.0) (each_under P b h.1)
-  each_under P (choice d a b) h = each_joined P (leaves_under d) _ (each_under P d h.0) (each_joined P (leaves_under a) _ (each_under P a h.1) (each_under P b h.2))
+  each_under P (binary o a b) h = each_join P (leaves_under a) _ (each_under P a h.0) (each_under P b h.1)
+  each_under P (choice d a b) h = each_join P (leaves_under d) _ (each_under P d h.0) (each_join P (leaves_under a) _ (each_under P a h.1) (each_under P b h.2))
   each_under P (case_of bs) h = branches_each P bs h
   each_under P (set_of ts) h = trees_each P ts h
   each_under P (span lo hi) h = tt
 
   trees_each : {L : Type 0} (P : L → Type 0) (ts : Trees L) → AllLeavesOfTrees P ts → Each P (trees_leaves_under ts)
   trees_each P no_tree h = tt
-  trees_each P (tree_then t ts) h = each_joined P (leaves_under t) _ (each_under P t h.0) (trees_each P ts h.1)
+  trees_each P (tree_then t ts) h = each_join P (leaves_under t) _ (each_under P t h.0) (trees_each P ts h.1)
 
   branches_each : {L : Type 0} (P : L → Type 0) (bs : Branches L) → AllLeavesOfBranches P bs → Each P (branches_leaves_under bs)
   branches_each P no_branch h = tt
-  branches_each P (branch_then d a bs) h = each_joined P (leaves_under d) _ (each_under P d h.0) (each_joined P (leaves_under a) _ (each_under P a h.1) (branches_each P bs h.2))
+  branches_each P (branch_then d a bs) h = each_join P (leaves_under d) _ (each_under P d h.0) (each_join P (leaves_under a) _ (each_under P a h.1) (branches_each P bs h.2))
 
 -- ---- more variables
 
@@ -49,7 +51,7 @@ known_wider nv nw ns k h (flat_variable i) known = omega (arith, h, known)
 known_wider nv nw ns k h (flat_symbol i) known = known
 known_wider nv nw ns k h (flat_definition i) known = known
 
-order_wider : (nv nw ns k : ℕ) → nv ≤ nw → (ds : List FlatFormula) → AreInOrder nv ns k ds → AreInOrder nw ns k ds
+pub order_wider : (nv nw ns k : ℕ) → nv ≤ nw → (ds : List FlatFormula) → AreInOrder nv ns k ds → AreInOrder nw ns k ds
 order_wider nv nw ns k h [] o = tt
 order_wider nv nw ns k h (d ∷ ds) o = (all_leaves_more (IsKnown nv ns k) (IsKnown nw ns k) (known_wider nv nw ns k h) d.value o.0, order_wider nv nw ns (suc k) h ds o.1)
 
@@ -155,14 +157,14 @@ history_encodable m fs is modes typed =
     record {
       closed = record {
         definitions = order_wider (length m.variables) (length (m.variables ++ bit_variables 0 fs)) (length m.symbols) 0 (wider m fs is modes) m.definitions is.closed.definitions;
-        at_first = each_joined _ m.at_first _ (read_own m fs is modes m.at_first is.closed.at_first) (first_own m fs is modes fs 0 (omega arith) modes (length m.variables) start);
+        at_first = each_join _ m.at_first _ (read_own m fs is modes m.at_first is.closed.at_first) (first_own m fs is modes fs 0 (omega arith) modes (length m.variables) start);
         at_each = read_own m fs is modes m.at_each is.closed.at_each;
-        at_step = each_joined _ m.at_step _ (read_own m fs is modes m.at_step is.closed.at_step) (step_own m fs is modes fs 0 (omega arith) modes (length m.variables) start);
+        at_step = each_join _ m.at_step _ (read_own m fs is modes m.at_step is.closed.at_step) (step_own m fs is modes fs 0 (omega arith) modes (length m.variables) start);
       };
       typed = typed;
       symbols = is.symbols;
-      types = each_joined _ m.variables _ is.types (bit_types m fs is modes 0 fs);
-      at_first = each_joined _ m.at_first _ (quiet_now m fs is modes m.at_first is.closed.at_first is.at_first) (first_quiet m fs is modes fs 0 (omega arith) modes (length m.variables) start);
+      types = each_join _ m.variables _ is.types (bit_types m fs is modes 0 fs);
+      at_first = each_join _ m.at_first _ (quiet_now m fs is modes m.at_first is.closed.at_first is.at_first) (first_quiet m fs is modes fs 0 (omega arith) modes (length m.variables) start);
       at_each = quiet_now m fs is modes m.at_each is.closed.at_each is.at_each;
-      at_step = each_joined _ m.at_step _ (quiet_next m fs is modes m.at_step is.closed.at_step is.at_step) (step_quiet m fs is modes fs 0 (omega arith) modes (length m.variables) start);
+      at_step = each_join _ m.at_step _ (quiet_next m fs is modes m.at_step is.closed.at_step is.at_step) (step_quiet m fs is modes fs 0 (omega arith) modes (length m.variables) start);
     }

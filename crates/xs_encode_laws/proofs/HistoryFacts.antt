@@ -15,9 +15,10 @@ use Rattle.xs_right_laws.specs.Sets.{has_number, is_contained}
 use Rattle.xs_encode_laws.specs.FlatTraces.{IsNumbered}
 use Rattle.xs_encode_laws.specs.Encoded.{is_true_value, is_true_at, is_true_in, bit_of}
 use Rattle.xs_encode_laws.specs.FlatTraces.{HasFailedNumber, numbers_where, failed_set, last_of, history_of, failed_in}
-use Rattle.xs_encode_laws.proofs.SetLaws.{not_both, true_or_false, has_contains, contains_has}
+use Rattle.xs_encode_laws.proofs.SetLaws.{true_or_false, has_contains, contains_has}
 use Rattle.xs_encode_laws.proofs.Numbers.{where_has, where_from, where_to, where_rising, no_more_numbers}
 use Rattle.std.proofs.lemmas.Bool.{and_parts, and_from as and_both, false_from_ne_true as refuted}
+use Rattle.xs_tree.proofs.BoolLaws.{not_both}
 
 -- What holds of the last.
 pub at_last : (P : List Value → Type 0) (v : List Value) (vs : List (List Value)) → AtLast P (v ∷ vs) → P (last_of (v ∷ vs))

@@ -5,7 +5,6 @@ use Rattle.xs_tree.specs.declared.expr.Op.TheVariants as op
 use Rattle.xs_tree.specs.Trace.{Each}
 use Rattle.xs_tree.specs.Flat.{FlatLeaf, flat_variable, flat_symbol, flat_definition, FlatVariable, FlatFormula, FlatModel}
 use Rattle.xs_flat_laws.specs.History.{Mode, bit_variables, bits_at_first, bits_at_step, with_history}
-use Rattle.xs_flat_laws.proofs.Lists.{get_left}
 use Rattle.xs_type_laws.specs.Judged.{Class, truth_class, symbol_class, Judged, judge, judged_binary}
 use Rattle.xs_type_laws.specs.Declared.{judged_declared}
 use Rattle.xs_type_laws.specs.Models.{kind_at, leaf_kind, judged_variables, judged_after, judged_definitions, kind_of_leaf, judged_in, broken_condition, breaches_at, variable_breaches, definition_breaches, condition_breaches}
@@ -15,6 +14,7 @@ use Rattle.xs_type_laws.proofs.ModelLaws.{judge_agrees, all_leaves_more}
 use Rattle.xs_type_laws.proofs.Typed.{parts_of}
 use Rattle.xs_encode_laws.specs.HistoryBits.{IsSymbolMode, HistoryKeepsTyped}
 use Rattle.xs_encode_laws.proofs.HistoryPlaces.{is_bit}
+use Rattle.xs_value.proofs.ListLaws.{get_left}
 
 -- the kind of a variable, where there are more after it
 pub got_same : (xs ys : List FlatVariable) (i : ℕ) → i < length xs → slice_get (judged_variables (xs ++ ys)) i ≡ slice_get (judged_variables xs) i

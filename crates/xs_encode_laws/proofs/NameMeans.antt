@@ -12,7 +12,7 @@ use Rattle.xs_tree.specs.Flat.{FlatLeaf, flat_variable, flat_symbol, flat_defini
 use Rattle.xs_flat_laws.specs.FlatTrace.{AreInDomains}
 use Rattle.xs_flat_laws.specs.Resolved.{leaves_in, trees_leaves, branches_leaves, IsBefore}
 use Rattle.xs_flat_laws.specs.Rules.{leaves_under, trees_leaves_under, branches_leaves_under}
-use Rattle.xs_flat_laws.proofs.Lists.{get_left, get_end, length_end, get_within, each_more}
+use Rattle.xs_flat_laws.proofs.Lists.{get_end, length_end, get_within, each_more}
 use Rattle.xs_flat_laws.proofs.Table.{definition_law}
 use Rattle.xs_type_laws.specs.Judged.{judge}
 use Rattle.xs_type_laws.specs.Models.{kind_of_leaf, judged_variables}
@@ -41,6 +41,8 @@ use Rattle.xs_encode_laws.proofs.Fitting.{symbol_value, fits_symbol, fit_same}
 use Rattle.xs_encode_laws.proofs.Choices.{word_fitted}
 use Rattle.xs_encode_laws.proofs.ExpressionMeans.{IsNaming, IsFit, encoded-means}
 use Rattle.std.proofs.lemmas.Option.{slice_get_within as got_below}
+use Rattle.xs_flat_laws.proofs.Conditions.{each_at, each_join}
+use Rattle.xs_value.proofs.ListLaws.{get_left}
 
 -- ---- what a tree reads
 
@@ -129,10 +131,6 @@ mutual
     branches_under good out bs h.2 (any_right out (leaves_under a) _ (any_right out (leaves_under d) _ e)),
   )
 
-pub each_joined : {A : Type 0} (P : A → Type 0) (xs ys : List A) → Each P xs → Each P ys → Each P (xs ++ ys)
-each_joined P [] ys h k = k
-each_joined P (x ∷ xs) ys h k = (h.0, each_joined P xs ys h.1 k)
-
 -- what holds of each leaf holds of the list of them
 mutual
   pub each_leaf : {L : Type 0} (P : L → Type 0) (t : Tree L) → AllLeaves P t → Each P (leaves_in t)
@@ -142,19 +140,19 @@ mutual
   each_leaf P (not_of a) h = each_leaf P a h
   each_leaf P (negate a) h = each_leaf P a h
   each_leaf P (next_of a) h = each_leaf P a h
-  each_leaf P (binary o a b) h = each_joined P (leaves_in a) _ (each_leaf P a h.0) (each_leaf P b h.1)
-  each_leaf P (choice d a b) h = each_joined P (leaves_in d) _ (each_leaf P d h.0) (each_joined P (leaves_in a) _ (each_leaf P a h.1) (each_leaf P b h.2))
+  each_leaf P (binary o a b) h = each_join P (leaves_in a) _ (each_leaf P a h.0) (each_leaf P b h.1)
+  each_leaf P (choice d a b) h = each_join P (leaves_in d) _ (each_leaf P d h.0) (each_join P (leaves_in a) _ (each_leaf P a h.1) (each_leaf P b h.2))
   each_leaf P (case_of bs) h = each_of_branches P bs h
   each_leaf P (set_of ts) h = each_of_trees P ts h
   each_leaf P (span lo hi) h = tt
 
   each_of_trees : {L : Type 0} (P : L → Type 0) (ts : Trees L) → AllLeavesOfTrees P ts → Each P (trees_leaves ts)
   each_of_trees P no_tree h = tt
-  each_of_trees P (tree_then t ts) h = each_joined P (leaves_in t) _ (each_leaf P t h.0) (each_of_trees P ts h.1)
+  each_of_trees P (tree_then t ts) h = each_join P (leaves_in t) _ (each_leaf P t h.0) (each_of_trees P ts h.1)
 
   each_of_branches : {L : Type 0} (P : L → Type 0) (bs : Branches L) → AllLeavesOfBranches P bs → Each P (branches_leaves bs)
   each_of_branches P no_branch h = tt
-  each_of_branches P (branch_then d a bs) h = each_joined P (leaves_in d) _ (each_leaf P d h.0) (each_joined P (leaves_in a) _ (each_leaf P a h.1) (each_of_branches P bs h.2))
+  each_of_branches P (branch_then d a bs) h = each_join P (leaves_in d) _ (each_leaf P d h.0) (each_join P (leaves_in a) _ (each_leaf P a h.1) (each_of_branches P bs h.2))
 
 pub same_any : {A : Type 0} (f g : A → Bool) (xs : List A) → Each (λ x. f x ≡ g x) xs → list_any f xs ≡ list_any g xs
 same_any f g [] h = refl
@@ -217,11 +215,6 @@ order_at nv ns (d' ∷ ds) n (suc k) d o e =
 -- a definition of a closed model names those before it
 pub definition_own : (m : FlatModel) → IsClosed m → (k : ℕ) (d : FlatFormula) → slice_get m.definitions k ≡ Some d → AllLeaves (IsKnown (length m.variables) (length m.symbols) k) d.value
 definition_own m closed k d e = subst (λ (i : ℕ). AllLeaves (IsKnown (length m.variables) (length m.symbols) i) d.value) (omega arith) (order_at (length m.variables) (length m.symbols) m.definitions 0 k d closed.definitions e)
-
-each_at : {A : Type 0} (P : A → Type 0) (xs : List A) (k : ℕ) (x : A) → Each P xs → slice_get xs k ≡ Some x → P x
-each_at P [] k x h e = cc
-each_at P (y ∷ xs) zero x h e = let same : y ≡ x = cc in subst P same h.0
-each_at P (y ∷ xs) (suc k) x h e = each_at P xs k x h.1 e
 
 -- ---- the names of a copy
 
@@ -404,14 +397,14 @@ module _ (m : FlatModel) (is : IsEncodable m) where
             → Means s (cond b (s, ds ++ bit (constant_lit false) ∷ []) (after (encoded (names_of m (copy_of vs ds) (copy_of vs ds)) its_value d.value s) (λ e t. (t, ds ++ e ∷ [])))) (DefinitionShape (suc k))
             (λ v es. SoFar v ds → SoFar v es)
         by true out =
-            Means-done s (ds ++ bit (constant_lit false) ∷ []) (DefinitionShape (suc k)) _ (each_joined (IsSignal s) ds _ hd (ready.least, tt), length_end ds (bit (constant_lit false)) ∙ ap suc long)
+            Means-done s (ds ++ bit (constant_lit false) ∷ []) (DefinitionShape (suc k)) _ (each_join (IsSignal s) ds _ hd (ready.least, tt), length_end ds (bit (constant_lit false)) ∙ ap suc long)
             (λ v h before. more_right k d at v ds (bit (constant_lit false)) long before (λ x inside right kept y given. some_true _ (flagged ∙ out) kept))
         by false out =
             let copy = copy_of vs ds in
             let there : k ≤ length m.definitions = omega (arith, got_below m.definitions k d at) in
             let enough : k ≤ length ds = omega (arith, long) in
             Means-after s _ _ _ _ _ _ (encoded-means FlatLeaf m.symbols is.symbols (kind_of_leaf m) (KnownTo k) (names_of m copy copy) its_value d.value s ready (naming s ready copy copy hv hd hv hd k) tt) (λ e t he et.
-            Means-done t (ds ++ e ∷ []) (DefinitionShape (suc k)) _ (each_joined (IsSignal t) ds _ (signals_later s t et ds hd) (he, tt), length_end ds e ∙ ap suc long)
+            Means-done t (ds ++ e ∷ []) (DefinitionShape (suc k)) _ (each_join (IsSignal t) ds _ (signals_later s t et ds hd) (he, tt), length_end ds e ∙ ap suc long)
             (λ v h value before. more_right k d at v ds e long before (λ x inside right kept y given.
             let fit = fit_copies all all v ((ready_later s t et ready).truth v h) copy copy x x inside inside right (before x inside right) right (before x inside right) k there enough enough in
             let law = definition_law m x k d at (each_more (KnownTo k) (IsBefore k) (leaves_in d.value) (λ l known. known_before (length m.variables) (length m.symbols) k l known) (each_leaf (KnownTo k) d.value (definition_own m is.closed k d at))) in

@@ -46,10 +46,6 @@ signed-below m (negsuc a) k n f h = literals-below m k n h
 signed-below m (pos a) zero n f h = (f, tt)
 signed-below m (pos a) (suc k) n f h = (omega (arith, h), signed-below m (pos a) k (n + 1) f (omega (arith, h)))
 
-pub length-signed : (lo : ℤ) (k n : ℕ) → k ≤ length (with_sign lo (literals_from k n))
-length-signed (negsuc a) k n = omega (arith, length-literals k n)
-length-signed (pos a) k n = omega (arith, length-literals k n, length-append {A = Literal} (literals_from k n) (constant_lit false ∷ []))
-
 -- ---- the word and its bits
 
 -- the first n literals of a word are what n bits take of it

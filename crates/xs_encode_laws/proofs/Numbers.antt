@@ -4,9 +4,10 @@ use Rattle.std.specs.Prelude.{slice_get, slice_index_or, cond, if◌then◌else�
 use Rattle.xs_tree.specs.Trace.{Each}
 use Rattle.xs_right_laws.specs.Sets.{IsRising, has_number}
 use Rattle.xs_encode_laws.specs.FlatTraces.{numbers_where}
-use Rattle.xs_encode_laws.proofs.SetLaws.{or_cases, either_of, has_first, has_later}
+use Rattle.xs_encode_laws.proofs.SetLaws.{either_of, has_first, has_later}
 use Rattle.xs_encode_laws.proofs.SetLaws.{each_kept}
 use Rattle.std.proofs.lemmas.Bool.{or_left, or_right, false_from_ne_true as refuted}
+use Rattle.xs_tree.proofs.BoolLaws.{or_cases}
 
 module _ {A : Type 0} (test : A → Bool) where
   -- there are as many of them as members that pass

@@ -7,7 +7,7 @@ use Rattle.xs_tree.specs.declared.expr.Op.{Op}
 use Rattle.xs_tree.specs.declared.expr.Op.TheVariants as op
 use Rattle.xs_tree.specs.ProgramTree.{Text}
 use Rattle.xs_tree.specs.Values.{Value, truth, number, symbol, apply, on_numbers, on_truths, on_symbols, same_value, same_bool, at_most, opposite as other}
-use Rattle.xs_tree.proofs.ValueLaws.{same_value_equal, same_text_refl}
+use Rattle.xs_tree.proofs.ValueLaws.{same_value_equal, same_value_refl}
 use Rattle.xs_lits.specs.Literal.{Literal, opposite}
 use Rattle.xs_lits.specs.Models.{TotalAssignment, literal_value, IsBelow}
 use Rattle.xs_lits.proofs.ModelLemmas.{literal_value-opposite}
@@ -26,7 +26,6 @@ use Rattle.xs_circuits.proofs.DivideMeans.{divide_gates-gives, remainder_gates-g
 use Rattle.xs_encode_laws.specs.Signals.{Signal, bit, word, literal_in, word_in, as_bit, as_word, turned, same_gates, operator_gates}
 use Rattle.xs_encode_laws.specs.Meanings.{IsNumberOf, HasValue, AreSymbols, IsSignal, IsReady}
 use Rattle.xs_encode_laws.proofs.Parts.{literal_below, word_usable, number_in_word, truth_in_bit, IsLiteral, as_bit-means, as_word-means, turned-means}
-use Rattle.xs_type_laws.proofs.LeastLaws.{same_int_self as same_int_refl}
 
 -- a number fits so many bits
 abbrev pub FitsValue : ℕ → Value → Type 0
@@ -133,15 +132,6 @@ alike_applied o (truth a) (number b) z e = cc
 alike_applied o (truth a) (symbol b) z e = cc
 alike_applied o (symbol a) (number b) z e = cc
 alike_applied o (symbol a) (truth b) z e = cc
-
-same_bool_refl : (a : Bool) → same_bool a a ≡ true
-same_bool_refl true = refl
-same_bool_refl false = refl
-
-same_value_refl : (x : Value) → same_value x x ≡ true
-same_value_refl (truth b) = same_bool_refl b
-same_value_refl (number n) = same_int_refl n
-same_value_refl (symbol x) = same_text_refl x
 
 pub same_value_from : (x y : Value) → x ≡ y → same_value x y ≡ true
 same_value_from x y e = ap (same_value x) (sym e) ∙ same_value_refl x

@@ -1,18 +1,15 @@
 -- What a list of clauses under construction says of the variables that no gate defines.
 use Rattle.std.proofs.Common.{◌≡◌, ℕ, ◌<◌, ◌≤◌, Bool, true, false, ◌&&◌, ◌||◌, List, [], ◌∷◌, refl, sym, ◌∙◌, subst, arith}
-use Rattle.std.proofs.lemmas.List.Elements.{All-append, All-weaker}
+use Rattle.std.proofs.lemmas.List.Elements.{All-append}
 use Rattle.xs_lits.specs.Literal.{Literal}
 use Rattle.xs_lits.specs.Models.{TotalAssignment, literal_value, Satisfies, SameBelow, IsBelow, ClauseBelow, ClausesBelow}
 use Rattle.xs_lits.proofs.ModelLemmas.{Satisfies-front, Satisfies-back, Satisfies-append, all_true-same}
 use Rattle.xs_circuits.specs.Circuit.{Circuit}
 use Rattle.xs_circuits.specs.Gates.{constant_lit}
 use Rattle.xs_circuits.specs.Meaning.{Means}
-use Rattle.xs_circuits.proofs.Extension.{ClausesBelow-from, Satisfies-earlier, HasTruth-later, HasTruth-from}
+use Rattle.xs_circuits.proofs.Extension.{ClausesBelow-from, Satisfies-earlier, HasTruth-later, HasTruth-from, ClausesBelow-more}
 use Rattle.xs_encode_laws.specs.Meanings.{IsReady}
 use Rattle.xs_encode_laws.specs.Lists.{asserted}
-
-pub clauses_later : (m n : ℕ) → m ≤ n → (cs : List (List Literal)) → ClausesBelow m cs → ClausesBelow n cs
-clauses_later m n h cs b = All-weaker (ClauseBelow m) (ClauseBelow n) (λ c k. All-weaker (IsBelow m) (IsBelow n) (λ l j. omega arith) c k) cs b
 
 -- In each model of the clauses C holds, and F too; and where C holds of the variables below n, the others can be chosen
 -- so that the clauses are true.
@@ -55,7 +52,7 @@ says_built n s C F r S P says m = record {
   from = omega (arith, says.from, m.extends.counted);
   below =
       subst (λ (cs : List (List Literal)). ClausesBelow r.0.free cs) (sym m.extends.begins.same)
-      (All-append (ClauseBelow r.0.free) s.clauses m.extends.begins.more (clauses_later s.free r.0.free m.extends.counted s.clauses says.below) m.extends.below);
+      (All-append (ClauseBelow r.0.free) s.clauses m.extends.begins.more (ClausesBelow-more s.free r.0.free m.extends.counted s.clauses says.below) m.extends.below);
   sound = λ v h. let old = says.sound v (Satisfies-earlier s r.0 m.extends v h) in (old.0, (old.1, m.means v h));
   complete = λ v one_true c.
       let first = says.complete v one_true c in

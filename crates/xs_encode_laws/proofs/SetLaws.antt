@@ -1,13 +1,11 @@
 -- Which sets contain which, and the order of sets.
-use Rattle.std.proofs.Common.{◌≡◌, ℕ, zero, suc, ◌<◌, ◌≤◌, nat_eq, nat_lt, Bool, true, false, ◌||◌, ◌&&◌, List, [], ◌∷◌, length, refl, sym, ◌∙◌, subst, arith, ◌⊎◌, inl, inr, eq-eqb, eqb-true, lt-ltb, ltb-true}
+use Rattle.std.proofs.Common.{◌≡◌, ℕ, ◌<◌, ◌≤◌, nat_eq, nat_lt, Bool, true, false, List, [], ◌∷◌, length, refl, sym, ◌∙◌, subst, arith, ◌⊎◌, inl, inr, eq-eqb, eqb-true, lt-ltb, ltb-true}
 use Rattle.xs_tree.specs.Trace.{Each}
 use Rattle.std.specs.Prelude.{Contains, if◌then◌else◌}
 use Rattle.std.proofs.lemmas.Bool.{cases_eq, cases_lt, or_left, or_right, and_parts, and_from as and_both}
 use Rattle.xs_right_laws.specs.Sets.{has_number, is_contained, is_before_in_order, stands_before}
-
-pub or_cases : (a b : Bool) → (a || b) ≡ true → (a ≡ true) ⊎ (b ≡ true)
-or_cases true b h = inl refl
-or_cases false b h = inr h
+use Rattle.xs_tree.proofs.BoolLaws.{or_cases, not_both}
+use Rattle.xs_tree.proofs.ListLaws.{contains_here, contains_later, none_contained, contains_cases}
 
 -- what follows from each of two follows from either
 pub either_of : {A B C : Type 0} → (A → C) → (B → C) → A ⊎ B → C
@@ -18,36 +16,15 @@ pub true_or_false : (b : Bool) → (b ≡ true) ⊎ (b ≡ false)
 true_or_false true = inl refl
 true_or_false false = inr refl
 
-pub not_both : (b : Bool) → b ≡ true → b ≡ false → ⊥
-not_both true e f = cc
-not_both false e f = cc
-
-pub here : {A : Type 0} (x : A) (xs : List A) → Contains (x ∷ xs) x
-here x xs = (0, grind arith, refl)
-
-pub later : {A : Type 0} (x y : A) (ys : List A) → Contains ys x → Contains (y ∷ ys) x
-later x y ys m = (suc m.0, grind (arith, m.1), m.2)
-
-pub none_contained : {A : Type 0} (x : A) → Contains [] x → ⊥
-none_contained x m = absurd (omega (arith, m.1))
-
--- a member of a list is its first or one of the rest
-pub split_member : {A : Type 0} (x y : A) (ys : List A) → Contains (y ∷ ys) x → (y ≡ x) ⊎ Contains ys x
-split_member x y ys m = by_place m.0 m.1 m.2
-  where
-    by_place : (k : ℕ) → k < length (y ∷ ys) → Rattle.std.specs.Prelude.slice_index_or (y ∷ ys) k x ≡ x → (y ≡ x) ⊎ Contains ys x
-    by_place zero h e = inl e
-    by_place (suc k) h e = inr (k, grind (arith, h), e)
-
 pub has_contains : (set : List ℕ) (i : ℕ) → has_number set i ≡ true → Contains set i
 has_contains [] i h = cc
 has_contains (j ∷ js) i h =
-    either_of (λ e. subst (λ k. Contains (j ∷ js) k) (eqb-true j i e) (here j js)) (λ g. later i j js (has_contains js i g)) (or_cases (nat_eq j i) (has_number js i) h)
+    either_of (λ e. subst (λ k. Contains (j ∷ js) k) (eqb-true j i e) (contains_here j js)) (λ g. contains_later i j js (has_contains js i g)) (or_cases (nat_eq j i) (has_number js i) h)
 
 pub contains_has : (set : List ℕ) (i : ℕ) → Contains set i → has_number set i ≡ true
 contains_has [] i m = absurd (none_contained i m)
 contains_has (j ∷ js) i m =
-    either_of (λ e. or_left (nat_eq j i) (has_number js i) (eq-eqb j i e)) (λ g. or_right (nat_eq j i) (has_number js i) (contains_has js i g)) (split_member i j js m)
+    either_of (λ e. or_left (nat_eq j i) (has_number js i) (eq-eqb j i e)) (λ g. or_right (nat_eq j i) (has_number js i) (contains_has js i g)) (contains_cases i j js m)
 
 pub has_first : (i : ℕ) (is : List ℕ) → has_number (i ∷ is) i ≡ true
 has_first i is = or_left (nat_eq i i) (has_number is i) (eq-eqb i i refl)

@@ -1,5 +1,5 @@
 -- How many variables the lists of a model take.
-use Rattle.std.proofs.Common.{◌≡◌, ◌⊎◌, inl, inr, ℕ, zero, suc, ◌+◌, ◌-◌, ◌*◌, ◌/◌, ◌<◌, ◌≤◌, ◌^◌, ◌||◌, nat_eq, nat_lt, Bool, true, false, not, cond, ◌&&◌, ◌++◌, ℤ, pos, negsuc, List, [], ◌∷◌, length, map, Option, Some, None, refl, sym, ap, subst, arith}
+use Rattle.std.proofs.Common.{◌≡◌, ◌⊎◌, inl, inr, ℕ, zero, suc, ◌+◌, ◌-◌, ◌*◌, ◌/◌, ◌<◌, ◌≤◌, ◌^◌, nat_eq, nat_lt, Bool, true, false, not, cond, ◌&&◌, ◌++◌, ℤ, pos, negsuc, List, [], ◌∷◌, length, map, Option, Some, None, refl, sym, ap, subst, arith}
 use Rattle.std.proofs.lemmas.List.Sums.{sum_by-cons}
 use Rattle.std.specs.Prelude.{slice_get, sum_by}
 use Rattle.xs_tree.specs.declared.program.Member.{Member}
@@ -33,22 +33,22 @@ use Rattle.xs_encode_laws.proofs.ExpressionMeans.{some_width}
 use Rattle.xs_encode_laws.proofs.Parts.{ready_later, literal_below}
 use Rattle.xs_encode_laws.proofs.TypeMeans.{IsNumbers, numbers_of}
 use Rattle.xs_encode_laws.proofs.VariableMeans.{numbers_signal}
-use Rattle.xs_encode_laws.proofs.NameMeans.{signal_at_usable, AreSignals, signals_later, each_joined, leaf_usable}
+use Rattle.xs_encode_laws.proofs.NameMeans.{signal_at_usable, AreSignals, signals_later, leaf_usable}
 use Rattle.xs_encode_laws.proofs.Readings.{IsRightType}
 use Rattle.xs_encode_laws.proofs.MomentMeans.{signals_moved, model_types}
 use Rattle.xs_encode_laws.proofs.SystemMeans.{placed_now, placed_next, start_ready, defaults, state_says, first_says, step_says}
 use Rattle.xs_encode_laws.proofs.BadMeans.{size_says}
-use Rattle.xs_encode_laws.proofs.Says.{clauses_later}
 use Rattle.xs_circuits.specs.Counts.{at_most_gates}
 use Rattle.xs_circuits.proofs.CountMeans.{at_most_gates-means}
 use Rattle.xs_circuits.specs.Meaning.{AllBelow}
-use Rattle.xs_circuits.proofs.Extension.{AllBelow-more, ClausesBelow-from}
+use Rattle.xs_circuits.proofs.Extension.{AllBelow-more, ClausesBelow-from, ClausesBelow-more}
 use Rattle.std.proofs.lemmas.List.Elements.{All-append}
 use Rattle.std.proofs.lemmas.List.{length-map}
 use Rattle.std.proofs.lemmas.Bool.{ltb-false, or_parts as both_false}
 use Rattle.std.proofs.Math.Nat.{mul-le-mul_left}
 use Rattle.std.specs.List.{AllByRecursion}
 use Rattle.xs_encode_laws.proofs.SizeExpressions.{IsShort, Takes, AreShortNames, encoded_takes}
+use Rattle.xs_flat_laws.proofs.Conditions.{each_join}
 
 -- ---- short words
 
@@ -213,13 +213,13 @@ module _ (m : FlatModel) (is : IsEncodable m) (vs : List Signal) (all : Bool) wh
       copy = record { variables = hv; definitions = hd; short_variables = gv; short_definitions = gd }
 
       by : (b : Bool) → Defines s (1024 * cost_of d.value) (cond b (s, ds ++ bit (constant_lit false) ∷ []) (after (encoded (names_of m (copy_of vs ds) (copy_of vs ds)) its_value d.value s) (λ e t. (t, ds ++ e ∷ []))))
-      by true = record { reaches = reaches_none s _ ready; usable = each_joined (IsSignal s) ds _ hd (ready.least, tt); short = each_joined IsShort ds _ gd (tt, tt) }
+      by true = record { reaches = reaches_none s _ ready; usable = each_join (IsSignal s) ds _ hd (ready.least, tt); short = each_join IsShort ds _ gd (tt, tt) }
       by false =
           let g = encoded_takes FlatLeaf (names_of m (copy_of vs ds) (copy_of vs ds)) its_value d.value s ready (short_names m s ready (copy_of vs ds) (copy_of vs ds) copy copy) tt in
           record {
             reaches = record { ready = ready_later s _ g.extends ready; grows = g.extends.counted; most = omega (arith, g.shape.2) };
-            usable = each_joined (IsSignal _) ds _ (signals_later s _ g.extends ds hd) (g.shape.0, tt);
-            short = each_joined IsShort ds _ gd (g.shape.1, tt);
+            usable = each_join (IsSignal _) ds _ (signals_later s _ g.extends ds hd) (g.shape.0, tt);
+            short = each_join IsShort ds _ gd (g.shape.1, tt);
           }
 
   definitions_define : (fs : List FlatFormula) (ds : List Signal) (s : Circuit) → IsReady s → AreSignals s vs → AreShort vs → AreSignals s ds → AreShort ds
@@ -348,7 +348,7 @@ module _ (m : FlatModel) (is : IsEncodable m) where
         let ls = history_literals m history in
         let start = AllBelow-more (gates_place m) (bad_room m top history size) (omega arith) ls (history_usable (start_of m) (start_ready m is) (omega arith) history) in
         All-append (ClauseBelow (bad_room m top history size)) _ (map (unlisted_clause ls) sets)
-        (clauses_later _ (bad_room m top history size) (size_most size) _ says.below)
+        (ClausesBelow-more _ (bad_room m top history size) (size_most size) _ says.below)
         (ClausesBelow-from (bad_room m top history size) (map (unlisted_clause ls) sets) (sets_below (bad_room m top history size) (omega arith) ls start sets))
 
   rooms_fit : input_bits m ≤ 2 ^ 30 → (top : Tree FlatLeaf) (history : List ℕ) (size : ℕ) → cost_of top ≤ 60000 → length history ≤ 256 → size ≤ 256 → bad_room m top history size < 2 ^ 31
@@ -364,9 +364,9 @@ module _ (m : FlatModel) (is : IsEncodable m) where
       let us = defaults m is in
       let c = counted in
       record {
-        first = clauses_later (first_circuit m).free (lists_room m) c.first (first_list m) (first_says m is us.0 us.1).below;
-        states = clauses_later (state_circuit m).0.free (lists_room m) c.states (state_list m) (state_says m is us.0 us.1).goes.says.below;
-        steps = clauses_later (step_circuit m).free (lists_room m) c.steps (step_list m) (step_says m is us.0 us.0 us.1 us.1).below;
+        first = ClausesBelow-more (first_circuit m).free (lists_room m) c.first (first_list m) (first_says m is us.0 us.1).below;
+        states = ClausesBelow-more (state_circuit m).0.free (lists_room m) c.states (state_list m) (state_says m is us.0 us.1).goes.says.below;
+        steps = ClausesBelow-more (step_circuit m).free (lists_room m) c.steps (step_list m) (step_says m is us.0 us.0 us.1 us.1).below;
         bad = λ top history sets size fit bits. bad_below top fit history bits sets size;
         fits = rooms_fit;
       }

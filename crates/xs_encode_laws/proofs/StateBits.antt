@@ -9,8 +9,8 @@ use Rattle.xs_tree.specs.declared.program.Member.TheVariants as member
 use Rattle.xs_tree.specs.ProgramTree.{Text, DeclaredTree, boolean, range, members, instance}
 use Rattle.xs_tree.specs.Scope.{Role, state, input, frozen_role}
 use Rattle.xs_tree.specs.Trace.{Each, in_domain}
-use Rattle.xs_tree.specs.Values.{Value, truth, number, symbol, at_most, opposite}
-use Rattle.xs_tree.proofs.ValueLaws.{same_text_refl}
+use Rattle.xs_tree.specs.Values.{Value, truth, number, symbol}
+use Rattle.xs_tree.proofs.ValueLaws.{same_text_refl, at_most_from}
 use Rattle.xs_tree.specs.Flat.{FlatVariable}
 use Rattle.xs_flat_laws.specs.FlatTrace.{AreInDomains}
 use Rattle.xs_type_laws.specs.Declared.{judged_declared}
@@ -30,9 +30,6 @@ use Rattle.xs_type_laws.proofs.LeastLaws.{same_int_self as same_int_refl}
 
 pub not_below : (a b : ℤ) → a ≤ℤ b → int_lt b a ≡ false
 not_below a b h = grind (arith, ints)
-
-at_most_from : (a b : ℤ) → a ≤ℤ b → at_most a b ≡ true
-at_most_from a b h = ap opposite (not_below a b h)
 
 -- ---- assignments and bits
 

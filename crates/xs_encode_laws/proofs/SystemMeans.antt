@@ -17,7 +17,7 @@ use Rattle.xs_encode_laws.specs.Meanings.{IsReady}
 use Rattle.xs_encode_laws.specs.Reads.{Reads}
 use Rattle.xs_encode_laws.specs.Inputs.{is_input, reads_input}
 use Rattle.xs_encode_laws.specs.Layout.{input_bits, next_place, input_place, gates_place, variable_signals, signals_now, signals_next}
-use Rattle.xs_encode_laws.specs.Lists.{Copy, names_of, formulas_gates, copy_gates, start_of, state_circuit, first_circuit, step_circuit, state_list, first_list, system_of}
+use Rattle.xs_encode_laws.specs.Lists.{Copy, names_of, formulas_gates, copy_gates, start_of, state_circuit, first_circuit, step_circuit, first_list, system_of}
 use Rattle.xs_encode_laws.specs.Bits.{state_of, inputs_of}
 use Rattle.xs_encode_laws.specs.Encodable.{IsEncodable, is_input_name, reads_next_input}
 use Rattle.xs_encode_laws.specs.Encoded.{IsFlatFirst, IsEncodingOf}
@@ -112,25 +112,6 @@ module _ (m : FlatModel) (is : IsEncodable m) where
   moment_is : (x y : List Value) → x ≡ y → AreInDomains m.variables y → Each (Holds m x x) m.at_each → IsFlatMoment m y
   moment_is x y e h k = record { domains = h; holds = subst (λ (z : List Value). Each (Holds m z z) m.at_each) e k }
 
-  -- an assignment of the state's bits that makes a list of the states true: the valuation is a moment
-  pub state_tells : (x : List Value) (a : TotalAssignment) → AreInDomains m.variables x → Agrees a 2 (state_of m x) → Satisfies a (state_list m) → IsFlatMoment m x
-  state_tells x a h bits sat =
-      let says = (state_says x h).goes.says in
-      let reads = now_reads x a h (says.ready.truth a sat) bits in
-      moment_is (Now x a) x reads.0 h (says.sound a sat).0.1
-
-  -- and each moment gives one
-  pub state_true : (x : List Value) → IsFlatMoment m x → (a : TotalAssignment) × Agrees a 2 (state_of m x) × Satisfies a (state_list m)
-  state_true x k =
-      let says = (state_says x k.domains).goes.says in
-      let a = with_bits (state_of m x ++ ([] ++ [])) in
-      let one_true = with_bits_truth (state_of m x ++ ([] ++ [])) in
-      let bits = bits_first (state_of m x) [] [] in
-      let reads = now_reads x a k.domains one_true bits in
-      let made = says.complete a one_true ((tt, reads.1), subst (λ (z : List Value). Each (Holds m z z) m.at_each) (sym reads.0) k.holds) in
-      let long = states_long x k.domains in
-      (made.0, agrees_same (gates_place m) a made.0 made.1 2 (state_of m x) (omega (arith, long)) bits, made.2)
-
   first_tells : (x : List Value) (a : TotalAssignment) → AreInDomains m.variables x → Agrees a 2 (state_of m x) → Satisfies a (first_list m) → IsFlatMoment m x × Each (Holds m x x) m.at_first
   first_tells x a h bits sat =
       let says = first_says x h in
@@ -150,17 +131,6 @@ module _ (m : FlatModel) (is : IsEncodable m) where
       (((tt, reads.1), subst (λ (z : List Value). Each (Holds m z z) m.at_each) (sym reads.0) k.holds), subst (λ (z : List Value). Each (Holds m z z) m.at_first) (sym reads.0) first) in
       let long = states_long x k.domains in
       (made.0, agrees_same (gates_place m) a made.0 made.1 2 (state_of m x) (omega (arith, long)) bits, made.2)
-
-  -- the valuation of a state that makes a list true
-  pub state_spelled : (s : List Bool) → length s ≡ state_bits m → (a : TotalAssignment) → Agrees a 2 s → Satisfies a (state_list m) → (x : List Value) × (state_of m x ≡ s) × AreInDomains m.variables x
-  state_spelled s long a bits sat =
-      let us = defaults in
-      let says = (state_says us.0 us.1).goes.says in
-      let one_true = says.ready.truth a sat in
-      let inside = (says.sound a sat).0.0.1 in
-      let x = Now us.0 a in
-      let hx = copy_inside m is false 2 (input_place m) us.0 a us.1 inside in
-      (x, agrees_one a 2 (state_of m x) s (states_long x hx ∙ sym long) (now_bits us.0 a us.1 one_true inside) bits, hx)
 
   first_spelled : (s : List Bool) → length s ≡ state_bits m → (a : TotalAssignment) → Agrees a 2 s → Satisfies a (first_list m) → (x : List Value) × (state_of m x ≡ s) × AreInDomains m.variables x
   first_spelled s long a bits sat =

@@ -8,7 +8,7 @@ use Rattle.xs_tree.specs.ProgramTree.{Text, DeclaredTree, boolean, range, member
 use Rattle.xs_tree.specs.Trace.{Each, is_member, in_domain}
 use Rattle.xs_tree.specs.Values.{Value, truth, number, symbol, same_int, opposite as other}
 use Rattle.xs_tree.specs.Texts.{same_text}
-use Rattle.xs_tree.proofs.ValueLaws.{same_int_equal, same_text_equal, same_text_refl}
+use Rattle.xs_tree.proofs.ValueLaws.{same_int_equal, same_text_equal, same_text_refl, no_truth, not_less}
 use Rattle.xs_lits.specs.Literal.{Literal}
 use Rattle.xs_lits.specs.Models.{TotalAssignment}
 use Rattle.xs_circuits.specs.Words.{word_value}
@@ -18,7 +18,7 @@ use Rattle.xs_type_laws.specs.Judged.{Class, number_class, symbol_class, KindRul
 use Rattle.xs_type_laws.specs.Declared.{member_kind, has_double, judged_declared}
 use Rattle.xs_type_laws.specs.Costs.{width_of, number_kind, symbol_number, member_number}
 use Rattle.xs_type_laws.proofs.Products.{in_just, in_hull_left, in_hull_right}
-use Rattle.xs_type_laws.proofs.Parts.{none_first, none_second, not_if, not_less, or_true, wide_bounded, hull_fits}
+use Rattle.xs_type_laws.proofs.Parts.{none_first, none_second, not_if, wide_bounded, hull_fits}
 use Rattle.xs_lexer.proofs.SignLemmas.{both_true}
 use Rattle.xs_encode_laws.specs.Widths.{word_width, symbol_interval, symbol_width, kind_width, width_by}
 use Rattle.xs_encode_laws.specs.Signals.{word}
@@ -30,6 +30,7 @@ use Rattle.xs_encode_laws.proofs.Fitting.{fits_width, fits_symbol}
 use Rattle.xs_encode_laws.proofs.NumberWords.{bits_within_word, symbols_within_word}
 use Rattle.xs_encode_laws.proofs.Answering.{kept_interval}
 use Rattle.std.proofs.lemmas.Option.{slice_get_within as got_below}
+use Rattle.xs_tree.proofs.BoolLaws.{or_cases}
 
 -- ---- symbols by their numbers
 
@@ -135,11 +136,11 @@ range_numbers symbols lo hi e =
 member_holds : (symbols : List Text) (P : ℤ → Type 0) (ms : List Member) (u : Value) → is_member ms u ≡ true → Each P (map (member_number symbols) ms) → P (value_number symbols u)
 member_holds symbols P [] u h e = cc
 member_holds symbols P (member.Number n ∷ ms) (number k) h e =
-    ⊎_elim (λ s. subst P (same_int_equal n k s) e.0) (λ s. member_holds symbols P ms (number k) s e.1) (or_true (same_int n k) (is_member ms (number k)) h)
+    ⊎_elim (λ s. subst P (same_int_equal n k s) e.0) (λ s. member_holds symbols P ms (number k) s e.1) (or_cases (same_int n k) (is_member ms (number k)) h)
 member_holds symbols P (member.Number n ∷ ms) (truth b) h e = member_holds symbols P ms (truth b) h e.1
 member_holds symbols P (member.Number n ∷ ms) (symbol y) h e = member_holds symbols P ms (symbol y) h e.1
 member_holds symbols P (member.Symbol x ∷ ms) (symbol y) h e =
-    ⊎_elim (λ s. subst P (ap (λ z. pos (symbol_number symbols z)) (same_text_equal x y s)) e.0) (λ s. member_holds symbols P ms (symbol y) s e.1) (or_true (same_text x y) (is_member ms (symbol y)) h)
+    ⊎_elim (λ s. subst P (ap (λ z. pos (symbol_number symbols z)) (same_text_equal x y s)) e.0) (λ s. member_holds symbols P ms (symbol y) s e.1) (or_cases (same_text x y) (is_member ms (symbol y)) h)
 member_holds symbols P (member.Symbol x ∷ ms) (truth b) h e = member_holds symbols P ms (truth b) h e.1
 member_holds symbols P (member.Symbol x ∷ ms) (number k) h e = member_holds symbols P ms (number k) h e.1
 
@@ -148,13 +149,7 @@ pub member_listed : (symbols : List Text) (ms : List Member) (x : Text) → is_m
 member_listed symbols [] x h e = cc
 member_listed symbols (member.Number n ∷ ms) x h e = member_listed symbols ms x h e.1
 member_listed symbols (member.Symbol y ∷ ms) x h e =
-    ⊎_elim (λ s. (e.0.0, e.0.1 ∙ ap Some (same_text_equal y x s))) (λ s. member_listed symbols ms x s e.1) (or_true (same_text y x) (is_member ms (symbol x)) h)
-
--- no truth value is a member
-pub no_truth : (ms : List Member) (b : Bool) → is_member ms (truth b) ≡ false
-no_truth [] b = refl
-no_truth (member.Number n ∷ ms) b = no_truth ms b
-no_truth (member.Symbol x ∷ ms) b = no_truth ms b
+    ⊎_elim (λ s. (e.0.0, e.0.1 ∙ ap Some (same_text_equal y x s))) (λ s. member_listed symbols ms x s e.1) (or_cases (same_text y x) (is_member ms (symbol x)) h)
 
 -- of numbers alone, the interval of the class is that of the numbers
 numbers_alike : (symbols : List Text) (ms : List Member) → flat_map (unless_class number_class mixed_enum) (map member_kind ms) ≡ [] → map member_kind ms ≡ map number_kind (map (member_number symbols) ms)

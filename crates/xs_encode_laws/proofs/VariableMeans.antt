@@ -23,7 +23,8 @@ use Rattle.xs_encode_laws.specs.Bits.{number_bits, value_number, value_bits}
 use Rattle.xs_encode_laws.specs.Encodable.{IsListedType}
 use Rattle.xs_encode_laws.proofs.NumberWords.{word_from_bits, bits_from_word, bits_hold, some_bits, signed-below}
 use Rattle.xs_encode_laws.proofs.Answering.{one_same}
-use Rattle.xs_encode_laws.proofs.TypeMeans.{symbol_found, no_truth, IsNumbers, numbers_of}
+use Rattle.xs_encode_laws.proofs.TypeMeans.{symbol_found, IsNumbers, numbers_of}
+use Rattle.xs_tree.proofs.ValueLaws.{no_truth}
 
 -- ---- the signal of a type of numbers
 
@@ -68,7 +69,7 @@ read_value symbols truth_class v (word w) = truth false
 abbrev pub read_as : List Text → DeclaredTree → TotalAssignment → Signal → Value
 read_as symbols d v e = read_value symbols (judged_declared d).kind.class v e
 
-class_of : (d : DeclaredTree) (u : Value) → (judged_declared d).broken ≡ [] → in_domain d u ≡ true → IsOfClass (judged_declared d).kind.class u
+pub class_of : (d : DeclaredTree) (u : Value) → (judged_declared d).broken ≡ [] → in_domain d u ≡ true → IsOfClass (judged_declared d).kind.class u
 class_of d u e h =
     let g = (variable_holds d u e h).gives in
     subst (λ (x : Value). IsOfClass (judged_declared d).kind.class x) (one_same g.value u (Some (one u)) g.is refl) g.of_kind.class

@@ -1,5 +1,5 @@
 -- From what the tests find out of models, values and top events to what the calls ask of them.
-use Rattle.std.proofs.Common.{arith, ◌≡◌, ℕ, zero, suc, ◌<◌, ◌^◌, Bool, true, false, ◌&&◌, ◌||◌, IsTrue, List, [], ◌∷◌, All, length, map, Option, Some, refl, sym, ap, subst, ◌∙◌}
+use Rattle.std.proofs.Common.{arith, ◌≡◌, ℕ, zero, suc, ◌<◌, ◌^◌, Bool, true, false, ◌&&◌, ◌||◌, IsTrue, List, [], ◌∷◌, All, length, map, Some, refl, sym, subst}
 use Rattle.std.specs.Prelude.{slice_get}
 use Rattle.std.specs.List.{list_any, AllByRecursion}
 use Rattle.std.proofs.lemmas.Bool.{ltb-true}
@@ -25,21 +25,22 @@ use Rattle.xs_tree.specs.declared.model.Formula.{Formula}
 use Rattle.xs_tree.specs.declared.model.FlatModel.{FlatModel}
 use Rattle.xs_scope.specs.Closed.{is_within, tree_all, trees_all, branches_all, is_closed, bounds_of}
 use Rattle.xs_tree.specs.ModelTree.{leaf_of, role_of, flat_tree, variable_tree, formula_tree, model_tree}
-use Rattle.xs_scope.proofs.ClosedLaws.{left_true, right_true}
 use Rattle.xs_tree.specs.Flat.{FlatLeaf, flat_variable, flat_symbol, flat_definition}
 use Rattle.xs_flat_laws.specs.Resolved.{leaves_in}
 use Rattle.xs_flat_laws.specs.FlatTrace.{AreInDomains}
 use Rattle.xs_type_laws.specs.Laws.{IsKnown, ReadsOwn}
 use Rattle.xs_type_laws.specs.Models.{judged_in, broken_condition}
 use Rattle.xs_types.specs.Types.{StandsFor, IsType, AreValuesOf}
-use Rattle.xs_encode_laws.specs.Inputs.{is_input, is_input_variable, names_input, reading_after, reads_input}
+use Rattle.xs_encode_laws.specs.Inputs.{is_input, is_input_variable, names_input, reading_after}
 use Rattle.xs_encode_laws.specs.Meanings.{AreSymbols}
 use Rattle.xs_encode_laws.specs.Encodable.{IsListedType, IsEncodable, IsFitTop}
 use Rattle.xs_encode_laws.specs.Laws.{HasMember}
 use Rattle.xs_encode_laws.proofs.TypeMeans.{symbol_found}
-use Rattle.xs_eval.specs.Named.{named, named_all, IsPlaceOf, IsNumbered, IsLawful}
+use Rattle.xs_eval.specs.Named.{IsNumbered, IsLawful}
 use Rattle.xs_encode_rows.specs.Values.{IsKnownSymbol, HasAt}
 use Rattle.std.proofs.lemmas.Option.{slice_get_within as got_below}
+use Rattle.xs_tree.proofs.BoolLaws.{left_true, right_true}
+use Rattle.xs_tree.specs.Told.{told_moment, told_value}
 
 -- Types that have members.
 members_by : (xs : List Variable) → AllByRecursion (λ x. HasMember (declared_tree x.declared)) xs → Each (λ x. HasMember x.declared) (map variable_tree xs)
@@ -58,7 +59,7 @@ some_at [] i h = absurd (omega (arith, h))
 some_at (x ∷ xs) zero h = (x, refl)
 some_at (x ∷ xs) (suc i) h = some_at xs i (omega (arith, h))
 
-stands : (symbols : List Text) → AreSymbols symbols → (v : Value) → IsKnownSymbol (length symbols) v → StandsFor symbols v (named symbols v)
+stands : (symbols : List Text) → AreSymbols symbols → (v : Value) → IsKnownSymbol (length symbols) v → StandsFor symbols v (told_value symbols v)
 stands symbols are (truth b) k = refl
 stands symbols are (Num n) k = refl
 stands symbols are (Sym i) k =
@@ -83,13 +84,13 @@ type_at symbols (y ∷ xs) h (suc i) x e = type_at symbols xs h.1 i x e
 
 pub value_at : (m : FlatModel) → IsEncodable (model_tree m) → (i : ℕ) (d : Domain) (value : Value) → AreValuesOf m i d → Has d value → IsKnownSymbol (length m.symbols) value → HasAt m i value
 value_at m encodable i d value values has known = record {
-  domain = λ x e. (values x e (type_at m.symbols m.variables encodable.types i x e) value (named m.symbols value) (stands m.symbols encodable.symbols value known)).0 has;
+  domain = λ x e. (values x e (type_at m.symbols m.variables encodable.types i x e) value (told_value m.symbols value) (stands m.symbols encodable.symbols value known)).0 has;
   numbered = numbered m.symbols value known;
 }
 
 in_domains : (symbols : List Text) (xs : List Variable) (v : List Value) → length v ≡ length xs →
-    ((i : ℕ) (value : Value) → slice_get v i ≡ Some value → (x : Variable) → slice_get xs i ≡ Some x → IsTrue (in_domain (declared_tree x.declared) (named symbols value))) →
-    AreInDomains (map variable_tree xs) (named_all symbols v)
+    ((i : ℕ) (value : Value) → slice_get v i ≡ Some value → (x : Variable) → slice_get xs i ≡ Some x → IsTrue (in_domain (declared_tree x.declared) (told_value symbols value))) →
+    AreInDomains (map variable_tree xs) (told_moment symbols v)
 in_domains symbols [] [] e h = tt
 in_domains symbols [] (value ∷ v) e h = absurd (omega (arith, e))
 in_domains symbols (x ∷ xs) [] e h = absurd (omega (arith, e))

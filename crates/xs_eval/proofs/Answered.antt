@@ -11,9 +11,11 @@ use Rattle.xs_type_laws.specs.Safe.{GivesSmall, IsSafe, AreSafe, AreSafeBranches
 use Rattle.xs_eval.specs.declared.ask.Asked.{Asked}
 use Rattle.xs_eval.specs.declared.ask.Asked.TheVariants.{ItsValue}
 use Rattle.xs_eval.specs.Asked.{on_left, on_right, asked_of, members_of, taken_of}
-use Rattle.xs_eval.specs.Named.{named, IsNumbered, AreApart}
+use Rattle.xs_eval.specs.Named.{IsNumbered}
 use Rattle.xs_eval.proofs.AskedLaws.{members_truth, either_is}
 use Rattle.xs_eval.proofs.Rows.{Answers, value_row, not_row, negative_row, binary_row, choice_row, span_row, union_row, no_member_row, no_branch_row}
+use Rattle.xs_tree.specs.Texts.{AreApart}
+use Rattle.xs_tree.specs.Told.{told_value}
 
 small_of : {L : Type 0} (now next : Leaves L) (t : Tree L) → IsSafe now next t → GivesSmall (evaluate now next t)
 small_of now next (is_truth b) s = s
@@ -32,7 +34,7 @@ module _ (L : Type 0) (symbols : List Text) (apart : AreApart symbols) (good : L
   -- a name has one value, which the code knows
   pub record HasValue (leaves : Leaves L) (values : L → Value) (l : L) : Type 0 where
     pub numbered : IsNumbered symbols (values l)
-    pub gives : leaves l ≡ Some (one (named symbols (values l)))
+    pub gives : leaves l ≡ Some (one (told_value symbols (values l)))
 
   abbrev pub Knows : Leaves L → (L → Value) → Type 0
   Knows leaves values = (l : L) → good l → HasValue leaves values l

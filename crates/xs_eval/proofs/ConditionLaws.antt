@@ -15,10 +15,11 @@ use Rattle.xs_type_laws.proofs.Typed.{conditions_decided}
 use Rattle.xs_eval.specs.declared.ask.Asked.TheVariants.{ItsValue}
 use Rattle.xs_eval.specs.Entries.{Entries}
 use Rattle.xs_eval.specs.Filled.{answer_in, holds, all_hold, first_holds, step_holds}
-use Rattle.xs_eval.specs.Named.{named_all, IsEvaluable, IsFilled}
+use Rattle.xs_eval.specs.Named.{IsEvaluable, IsFilled}
 use Rattle.xs_eval.specs.Stops.{IsFirstMoment, IsNextMoment}
 use Rattle.xs_eval.proofs.Rows.{Is, truth_is}
 use Rattle.xs_eval.proofs.ValueLaws.{answers}
+use Rattle.xs_tree.specs.Told.{told_moment}
 
 truth_true : (b : Bool) → same_bool b true ≡ b
 truth_true true = refl
@@ -26,8 +27,8 @@ truth_true false = refl
 
 -- one condition
 pub condition_law : (m : ModelTree) → IsEvaluable m → (now next : Entries) → IsFilled m now → IsFilled m next → (f : Formula) → ReadsOwn m (formula_tree f).value →
-    IsDecided m (named_all m.symbols now.variables) (named_all m.symbols next.variables) (formula_tree f) →
-    (IsTrue (holds now next f) ↔ Holds m (named_all m.symbols now.variables) (named_all m.symbols next.variables) (formula_tree f))
+    IsDecided m (told_moment m.symbols now.variables) (told_moment m.symbols next.variables) (formula_tree f) →
+    (IsTrue (holds now next f) ↔ Holds m (told_moment m.symbols now.variables) (told_moment m.symbols next.variables) (formula_tree f))
 condition_law m able now next p q f own d = (there, back)
   where
     is : Is m.symbols (answer_in now next ItsValue (tree_of f.value)) (told.truth d.value)
@@ -36,10 +37,10 @@ condition_law m able now next p q f own d = (there, back)
     same : holds now next f ≡ d.value
     same = truth_is m.symbols able.apart (answer_in now next ItsValue (tree_of f.value)) d.value is
 
-    there : IsTrue (holds now next f) → Holds m (named_all m.symbols now.variables) (named_all m.symbols next.variables) (formula_tree f)
+    there : IsTrue (holds now next f) → Holds m (told_moment m.symbols now.variables) (told_moment m.symbols next.variables) (formula_tree f)
     there h = (one (told.truth d.value), d.gives, truth_true d.value ∙ (sym same ∙ h))
 
-    back : Holds m (named_all m.symbols now.variables) (named_all m.symbols next.variables) (formula_tree f) → IsTrue (holds now next f)
+    back : Holds m (told_moment m.symbols now.variables) (told_moment m.symbols next.variables) (formula_tree f) → IsTrue (holds now next f)
     back may =
         let only : may.0 ≡ one (told.truth d.value) = cc (may.1, d.gives) in
         same ∙ (sym (truth_true d.value) ∙ (sym (ap (λ vs. has vs (told.truth true)) only) ∙ may.2))
@@ -51,8 +52,8 @@ both_are false b x y = cc
 
 -- all of a list
 pub all_law : (m : ModelTree) → IsEvaluable m → (now next : Entries) → IsFilled m now → IsFilled m next → (fs : List Formula) → ReadOwn m (map formula_tree fs) →
-    Each (IsDecided m (named_all m.symbols now.variables) (named_all m.symbols next.variables)) (map formula_tree fs) →
-    (IsTrue (all_hold now next fs) ↔ Each (Holds m (named_all m.symbols now.variables) (named_all m.symbols next.variables)) (map formula_tree fs))
+    Each (IsDecided m (told_moment m.symbols now.variables) (told_moment m.symbols next.variables)) (map formula_tree fs) →
+    (IsTrue (all_hold now next fs) ↔ Each (Holds m (told_moment m.symbols now.variables) (told_moment m.symbols next.variables)) (map formula_tree fs))
 all_law m able now next p q [] own d = ((λ h. tt), (λ h. refl))
 all_law m able now next p q (f ∷ fs) own d =
     let here = condition_law m able now next p q f own.0 d.0 in
@@ -61,10 +62,10 @@ all_law m able now next p q (f ∷ fs) own d =
 
 -- a first moment
 pub first_law : (m : FlatModel) → IsEvaluable (model_tree m) → IsTyped (model_tree m) → (now : Entries) → IsFilled (model_tree m) now →
-    (IsTrue (first_holds m now) ↔ IsFirstMoment (model_tree m) (named_all m.symbols now.variables))
+    (IsTrue (first_holds m now) ↔ IsFirstMoment (model_tree m) (told_moment m.symbols now.variables))
 first_law m able t now p =
     let tree : ModelTree = model_tree m in
-    let v = named_all m.symbols now.variables in
+    let v = told_moment m.symbols now.variables in
     let d = conditions_decided tree able.closed t v v p.lawful.domains p.lawful.domains in
     let first = all_law tree able now now p p m.init able.closed.at_first d.0 in
     let each = all_law tree able now now p p m.invar able.closed.at_each d.1 in (
@@ -76,11 +77,11 @@ first_law m able t now p =
 
 -- a moment after another
 pub step_law : (m : FlatModel) → IsEvaluable (model_tree m) → IsTyped (model_tree m) → (now next : Entries) → IsFilled (model_tree m) now → IsFilled (model_tree m) next →
-    (IsTrue (step_holds m now next) ↔ IsNextMoment (model_tree m) (named_all m.symbols now.variables) (named_all m.symbols next.variables))
+    (IsTrue (step_holds m now next) ↔ IsNextMoment (model_tree m) (told_moment m.symbols now.variables) (told_moment m.symbols next.variables))
 step_law m able t now next p q =
     let tree : ModelTree = model_tree m in
-    let v = named_all m.symbols now.variables in
-    let w = named_all m.symbols next.variables in
+    let v = told_moment m.symbols now.variables in
+    let w = told_moment m.symbols next.variables in
     let d = conditions_decided tree able.closed t v w p.lawful.domains q.lawful.domains in
     let c = conditions_decided tree able.closed t w w q.lawful.domains q.lawful.domains in
     let step = all_law tree able now next p q m.trans able.closed.at_step d.2 in

@@ -9,8 +9,8 @@ use Rattle.xs_tree.specs.Flat.{FlatLeaf, flat_variable, flat_definition}
 use Rattle.xs_eval.specs.declared.ask.Asked.{Asked}
 use Rattle.xs_eval.specs.declared.ask.Asked.TheVariants.{ItsValue, Whether}
 use Rattle.xs_eval.specs.Asked.{leaf_value, asked_of}
-use Rattle.xs_eval.specs.Named.{named_all}
 use Rattle.xs_eval.specs.Failed.{has_symbol}
+use Rattle.xs_tree.specs.Told.{told_moment}
 
 -- a variable that is 3 now and 4 next, with a definition that is TRUE now and FALSE next
 abbrev now_value : FlatLeaf → Value
@@ -50,7 +50,7 @@ first_true : answer_of ItsValue (case_of (branch_then (is_truth false) (number (
 first_true = refl
 
 -- the symbol of number 1 by its name
-by_name : named_all ((97 ∷ []) ∷ (98 ∷ []) ∷ []) (Sym 1 ∷ truth true ∷ []) ≡ told.symbol (98 ∷ []) ∷ told.truth true ∷ []
+by_name : told_moment ((97 ∷ []) ∷ (98 ∷ []) ∷ []) (Sym 1 ∷ truth true ∷ []) ≡ told.symbol (98 ∷ []) ∷ told.truth true ∷ []
 by_name = refl
 
 has_it : has_symbol 0 1 (Sym 1 ∷ []) ≡ true

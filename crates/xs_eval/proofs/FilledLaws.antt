@@ -4,7 +4,7 @@ use Rattle.std.specs.Prelude.{slice_get, All}
 use Rattle.std.proofs.lemmas.List.Elements.{All-nil, All-cons}
 use Rattle.xs_tree.specs.ProgramTree.{Text}
 use Rattle.xs_tree.specs.Tree.{Tree}
-use Rattle.xs_tree.specs.Trace.{Each}
+use Rattle.xs_tree.specs.Trace.{Each, EachBoth}
 use Rattle.xs_tree.specs.Values as told
 use Rattle.xs_tree.specs.Values.{Values, one}
 use Rattle.xs_tree.specs.Evaluate.{evaluate}
@@ -12,7 +12,6 @@ use Rattle.xs_tree.specs.Written.{tree_of}
 use Rattle.xs_value.specs.declared.value.Value.{Value}
 use Rattle.xs_tree.specs.Flat.{FlatLeaf, flat_variable, flat_symbol, flat_definition, FlatVariable, FlatModel as ModelTree, flat_leaves, table_after}
 use Rattle.xs_flat_laws.specs.FlatTrace.{AreInDomains}
-use Rattle.xs_flat_laws.specs.Model.{EachBoth}
 use Rattle.xs_flat_laws.proofs.Lists.{get_within, length_end, map_joined}
 use Rattle.xs_tree.specs.declared.model.Formula.{Formula}
 use Rattle.xs_tree.specs.declared.model.FlatModel.{FlatModel}
@@ -23,27 +22,22 @@ use Rattle.xs_type_laws.specs.Laws.{IsKnown, AreInOrder}
 use Rattle.xs_type_laws.proofs.Parts.{Alone}
 use Rattle.xs_type_laws.proofs.TreeLaws.{sound, single}
 use Rattle.xs_type_laws.proofs.SafeLaws.{safe}
-use Rattle.xs_type_laws.proofs.ModelLaws.{each_end, each_before, ValueHolds, GivenHolds, IsRight, names_hold, both_end}
+use Rattle.xs_type_laws.proofs.ModelLaws.{each_end, each_before, ValueHolds, GivenHolds, IsRight, names_hold}
 use Rattle.xs_type_laws.proofs.Typed.{variables_hold, parts_of, as_many_variables}
 use Rattle.xs_eval.specs.declared.ask.Asked.TheVariants.{ItsValue}
 use Rattle.xs_eval.specs.Asked.{leaf_value, asked_of}
 use Rattle.xs_eval.specs.Failed.{HasVariable}
 use Rattle.xs_eval.specs.Filled.{definition_value, definition_values, filled, HasValues}
-use Rattle.xs_eval.specs.Named.{named, named_all, gives_one, IsNumbered, AreApart, IsEvaluable, IsLawful, IsFilled}
+use Rattle.xs_eval.specs.Named.{gives_one, IsNumbered, IsEvaluable, IsLawful, IsFilled}
 use Rattle.xs_eval.proofs.Rows.{Is}
 use Rattle.xs_eval.proofs.Answered.{Knows, answered}
 use Rattle.xs_eval.proofs.Mapped.{asked_mapped}
-use Rattle.xs_type_laws.proofs.WrittenLaws.{get_map as get_mapped}
-use Rattle.xs_type_laws.proofs.ClosedLaws.{same_length as both_length}
 use Rattle.xs_flat_laws.proofs.Conditions.{each_at}
-
-pub map_length : {A B : Type 0} (f : A → B) (xs : List A) → length (map f xs) ≡ length xs
-map_length f [] = refl
-map_length f (x ∷ xs) = ap suc (map_length f xs)
-
-pub each_join : {A : Type 0} (P : A → Type 0) (xs : List A) (x : A) → Each P xs → P x → Each P (xs ++ x ∷ [])
-each_join P [] x h p = (p, tt)
-each_join P (y ∷ xs) x h p = (h.0, each_join P xs x h.1 p)
+use Rattle.xs_tree.proofs.EachLaws.{each_end as each_join}
+use Rattle.xs_tree.proofs.ListLaws.{get_map, map_length}
+use Rattle.xs_flat_laws.proofs.BothLaws.{both_push, both_size}
+use Rattle.xs_tree.specs.Texts.{AreApart}
+use Rattle.xs_tree.specs.Told.{told_moment, told_value}
 
 pub domains_length : (xs : List FlatVariable) (v : List told.Value) → AreInDomains xs v → length xs ≡ length v
 domains_length [] [] h = refl
@@ -53,7 +47,7 @@ domains_length (x ∷ xs) (y ∷ v) h = ap suc (domains_length xs v h.1)
 
 -- a lawful valuation has each variable
 pub lawful_is : (m : ModelTree) (v : List Value) → IsLawful m v → length v ≡ length m.variables
-lawful_is m v p = sym (map_length (named m.symbols) v) ∙ sym (domains_length m.variables (named_all m.symbols v) p.domains)
+lawful_is m v p = sym (map_length (told_value m.symbols) v) ∙ sym (domains_length m.variables (told_moment m.symbols v) p.domains)
 
 pub lawful_length : (m : ModelTree) (v : List Value) → IsLawful m v → (i : ℕ) → i < length m.variables → i < length v
 lawful_length m v p i h = subst (λ n. i < n) (sym (lawful_is m v p)) h
@@ -61,40 +55,40 @@ lawful_length m v p i h = subst (λ n. i < n) (sym (lawful_is m v p)) h
 -- A table has the values of names.
 module _ (symbols : List Text) (apart : AreApart symbols) where
   pub knows : (nv nd : ℕ) (v done : List Value) → length v ≡ nv → length done ≡ nd → Each (IsNumbered symbols) v → Each (IsNumbered symbols) done →
-      Knows FlatLeaf symbols apart (IsKnown nv (length symbols) nd) (flat_leaves symbols (named_all symbols v) (map (gives_one symbols) done)) (leaf_value v done)
+      Knows FlatLeaf symbols apart (IsKnown nv (length symbols) nd) (flat_leaves symbols (told_moment symbols v) (map (gives_one symbols) done)) (leaf_value v done)
   knows nv nd v done lv ld p q (flat_variable i) known =
       let x : (x : Value) × (slice_get v i ≡ Some x) = get_within v i (subst (λ n. i < n) (sym lv) known) in
-      record { numbered = rw x.1 (each_at (IsNumbered symbols) v i x.0 p x.1); gives = rw (x.1, get_mapped (named symbols) v i x.0 x.1) refl }
+      record { numbered = rw x.1 (each_at (IsNumbered symbols) v i x.0 p x.1); gives = rw (x.1, get_map (told_value symbols) v i x.0 x.1) refl }
   knows nv nd v done lv ld p q (flat_symbol i) known =
       let x : (x : Text) × (slice_get symbols i ≡ Some x) = get_within symbols i known in
       record { numbered = record { text = x.0; there = x.1 }; gives = rw x.1 refl }
   knows nv nd v done lv ld p q (flat_definition i) known =
       let x : (x : Value) × (slice_get done i ≡ Some x) = get_within done i (subst (λ n. i < n) (sym ld) known) in
-      record { numbered = rw x.1 (each_at (IsNumbered symbols) done i x.0 q x.1); gives = rw (x.1, get_mapped (gives_one symbols) done i x.0 x.1) refl }
+      record { numbered = rw x.1 (each_at (IsNumbered symbols) done i x.0 q x.1); gives = rw (x.1, get_map (gives_one symbols) done i x.0 x.1) refl }
 
   -- what is filled in for definitions
   pub record IsFilledIn (variables : List told.Value) (ds : List Formula) (done all : List Value) : Type 0 where
     pub gives : map (gives_one symbols) all ≡ table_after symbols variables (map (gives_one symbols) done) (map formula_tree ds)
     pub numbered : Each (IsNumbered symbols) all
 
-  pub filled_in : (v : List Value) (vs : List Judged) → EachBoth ValueHolds vs (named_all symbols v) → Each (IsNumbered symbols) v → (ds : List Formula) (js : List Judged) (done : List Value) →
+  pub filled_in : (v : List Value) (vs : List Judged) → EachBoth ValueHolds vs (told_moment symbols v) → Each (IsNumbered symbols) v → (ds : List Formula) (js : List Judged) (done : List Value) →
       EachBoth GivenHolds js (map (gives_one symbols) done) → Each (IsNumbered symbols) done → Each IsRight (judged_after vs js (map formula_tree ds)) →
-      AreInOrder (length vs) (length symbols) (length js) (map formula_tree ds) → IsFilledIn (named_all symbols v) ds done (definition_values v done ds)
+      AreInOrder (length vs) (length symbols) (length js) (map formula_tree ds) → IsFilledIn (told_moment symbols v) ds done (definition_values v done ds)
   filled_in v vs hv nv [] js done hj nj r o = record { gives = refl; numbered = nj }
   filled_in v vs hv nv (d ∷ ds) js done hj nj r o =
       let e : Tree FlatLeaf = flat_tree d.value in
       let k = leaf_kind vs js in
       let j : Judged = judge k false e in
       let table : List (Option Values) = map (gives_one symbols) done in
-      let variables : List told.Value = named_all symbols v in
+      let variables : List told.Value = told_moment symbols v in
       let leaves = flat_leaves symbols variables table in
       let right = (each_end IsRight js j (each_before IsRight vs (js ++ j ∷ []) (map formula_tree ds) r)).1 in
       let hold = names_hold symbols variables vs js table hv hj in
       let good = IsKnown (length vs) (length symbols) (length js) in
       let given : Alone j (evaluate leaves leaves e) = single k e (evaluate leaves leaves e) (sound FlatLeaf k good leaves leaves hold hold false e o.0) right in
       let small = safe FlatLeaf k good leaves leaves hold hold false e o.0 right in
-      let as_many : length v ≡ length vs = sym (map_length (named symbols) v) ∙ sym (both_length ValueHolds vs variables hv) in
-      let so_many : length done ≡ length js = sym (map_length (gives_one symbols) done) ∙ sym (both_length GivenHolds js table hj) in
+      let as_many : length v ≡ length vs = sym (map_length (told_value symbols) v) ∙ sym (both_size ValueHolds vs variables hv) in
+      let so_many : length done ≡ length js = sym (map_length (gives_one symbols) done) ∙ sym (both_size GivenHolds js table hj) in
       let known = knows (length vs) (length js) v done as_many so_many nv nj in
       let x : Value = definition_value v done d in
       let told_x : Is symbols (asked_of (leaf_value v done) (leaf_value v done) ItsValue e) given.gives.value =
@@ -103,7 +97,7 @@ module _ (symbols : List Text) (apart : AreApart symbols) where
       let gives_x : evaluate leaves leaves e ≡ gives_one symbols x = given.gives.is ∙ ap (λ y. Some (one y)) (sym is.name) in
       let longer : map (gives_one symbols) (done ++ x ∷ []) ≡ table ++ evaluate leaves leaves e ∷ [] = map_joined (gives_one symbols) done (x ∷ []) ∙ ap (λ g. table ++ g ∷ []) (sym gives_x) in
       let held : EachBoth GivenHolds (js ++ j ∷ []) (map (gives_one symbols) (done ++ x ∷ [])) =
-      subst (λ t. EachBoth GivenHolds (js ++ j ∷ []) t) (sym longer) (both_end GivenHolds js table j (evaluate leaves leaves e) hj (record { bounded = given.bounded; gives = given.gives })) in
+      subst (λ t. EachBoth GivenHolds (js ++ j ∷ []) t) (sym longer) (both_push GivenHolds js table j (evaluate leaves leaves e) hj (record { bounded = given.bounded; gives = given.gives })) in
       let rest = filled_in v vs hv nv ds (js ++ j ∷ []) (done ++ x ∷ []) held (each_join (IsNumbered symbols) done x nj is.numbered) r
       (subst (λ n. AreInOrder (length vs) (length symbols) n (map formula_tree ds)) (sym (length_end js j)) o.1) in
       record { gives = rest.gives ∙ ap (λ t. table_after symbols variables t (map formula_tree ds)) longer; numbered = rest.numbered }
@@ -113,7 +107,7 @@ filled_law m v able t lawful =
     let tree : ModelTree = model_tree m in
     let parts = parts_of tree t in
     let vs : List Judged = judged_variables tree.variables in
-    let hv = variables_hold tree.variables (named_all m.symbols v) parts.variables lawful.domains in
+    let hv = variables_hold tree.variables (told_moment m.symbols v) parts.variables lawful.domains in
     let order = subst (λ n. AreInOrder n (length m.symbols) 0 tree.definitions) (sym (as_many_variables tree.variables)) able.closed.definitions in
     let all = filled_in m.symbols able.apart v vs hv lawful.numbered m.definitions [] [] tt tt parts.definitions order in
     record { lawful = lawful; definitions = all.gives; numbered = all.numbered }

@@ -3,10 +3,10 @@ use Rattle.std.proofs.Common.{◌≡◌, List, Some, refl, subst}
 use Rattle.std.specs.Prelude.{slice_get}
 use Rattle.xs_tree.specs.ProgramTree.{Text}
 use Rattle.xs_flat_laws.specs.Model.{symbols_of}
-use Rattle.xs_flat_laws.proofs.KeysApart.{pairwise_same}
 use Rattle.xs_flat_laws.proofs.OneModel.{OtherText, symbols_apart}
 use Rattle.xs_type_laws.proofs.ClosedLaws.{models_closed}
 use Rattle.xs_eval.specs.Laws.{FlatModelsAreEvaluable}
+use Rattle.xs_flat_laws.proofs.Pairs.{pairwise_same}
 
 pub evaluable : FlatModelsAreEvaluable
 evaluable p m is = record {

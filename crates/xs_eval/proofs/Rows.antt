@@ -4,7 +4,7 @@ use Rattle.std.specs.Prelude.{nat_eq, slice_get}
 use Rattle.xs_tree.specs.declared.expr.Op.{Op}
 use Rattle.xs_tree.specs.declared.expr.Op.TheVariants as op
 use Rattle.xs_tree.specs.ProgramTree.{Text}
-use Rattle.xs_tree.specs.Texts.{same_text}
+use Rattle.xs_tree.specs.Texts.{same_text, text_or_none, AreApart}
 use Rattle.xs_tree.specs.Values as told
 use Rattle.xs_tree.specs.Values.{same_int, same_value, Values, no_value, one, from_to, has, apply, is_between}
 use Rattle.xs_tree.specs.Evaluate.{gives_one as gives, gives_not, gives_negative, gives_either, gives_within, gives_applied, gives_binary, gives_choice}
@@ -17,8 +17,9 @@ use Rattle.xs_eval.specs.declared.ask.Asked.{Asked}
 use Rattle.xs_eval.specs.declared.ask.Asked.TheVariants.{ItsValue, Whether}
 use Rattle.xs_eval.specs.Operated.{same, is_true, opposite, negative, either, between, on_numbers, on_truths, on_symbols, applied}
 use Rattle.xs_eval.specs.Asked.{answer, on_left, on_right, operation, in_span}
-use Rattle.xs_eval.specs.Named.{text_at, named, IsPlaceOf, IsNumbered, AreApart}
+use Rattle.xs_eval.specs.Named.{IsPlaceOf, IsNumbered}
 use Rattle.xs_type_laws.proofs.LeastLaws.{same_int_self as same_number}
+use Rattle.xs_tree.specs.Told.{told_value}
 
 small_number : (n : ℤ) → (same_int n n ≡ true → fits_number n ≡ true) → fits_number n ≡ true
 small_number n f = f (same_number n)
@@ -34,23 +35,23 @@ module _ (symbols : List Text) where
   -- the value is this one of the definitions
   pub record Is (r : Value) (y : told.Value) : Type 0 where
     pub numbered : IsNumbered symbols r
-    pub name : named symbols r ≡ y
+    pub name : told_value symbols r ≡ y
 
   -- the values are this one alone
   pub record IsOnly (vs : Values) (r : Value) : Type 0 where
     pub numbered : IsNumbered symbols r
-    pub alone : vs ≡ one (named symbols r)
+    pub alone : vs ≡ one (told_value symbols r)
 
   -- the answer is right for what an expression gives
   abbrev pub Answers : Asked → Option Values → Value → Type 0
   Answers ItsValue given r = (y : told.Value) → given ≡ Some (one y) → Is r y
-  Answers (Whether v) given r = (vs : Values) → given ≡ Some vs → IsNumbered symbols v → r ≡ truth (has vs (named symbols v))
+  Answers (Whether v) given r = (vs : Values) → given ≡ Some vs → IsNumbered symbols v → r ≡ truth (has vs (told_value symbols v))
 
 module _ (symbols : List Text) (apart : AreApart symbols) where
-  pub same_symbol : (i j : ℕ) → IsPlaceOf symbols i → IsPlaceOf symbols j → nat_eq i j ≡ same_text (text_at (slice_get symbols i)) (text_at (slice_get symbols j))
+  pub same_symbol : (i j : ℕ) → IsPlaceOf symbols i → IsPlaceOf symbols j → nat_eq i j ≡ same_text (text_or_none (slice_get symbols i)) (text_or_none (slice_get symbols j))
   same_symbol i j p q = by_text (same_text p.text q.text) refl ∙ sym shown
     where
-      shown : same_text (text_at (slice_get symbols i)) (text_at (slice_get symbols j)) ≡ same_text p.text q.text
+      shown : same_text (text_or_none (slice_get symbols i)) (text_or_none (slice_get symbols j)) ≡ same_text p.text q.text
       shown = rw (p.there, q.there) refl
 
       differ : (b : Bool) → nat_eq i j ≡ b → same_text p.text q.text ≡ false → b ≡ false
@@ -67,7 +68,7 @@ module _ (symbols : List Text) (apart : AreApart symbols) where
           eq-eqb i j (apart i j p.text p.there (q.there ∙ ap Some (sym texts)))
       by_text false e = differ (nat_eq i j) refl e
 
-  pub same_named : (v w : Value) → IsNumbered symbols v → IsNumbered symbols w → same v w ≡ same_value (named symbols v) (named symbols w)
+  pub same_named : (v w : Value) → IsNumbered symbols v → IsNumbered symbols w → same v w ≡ same_value (told_value symbols v) (told_value symbols w)
   same_named (truth a) (truth b) p q = refl
   same_named (truth a) (Num n) p q = refl
   same_named (truth a) (Sym j) p q = refl
@@ -83,11 +84,11 @@ module _ (symbols : List Text) (apart : AreApart symbols) where
   answer_row ItsValue given r h = λ y e. one_named (h (one y) e)
     where
       one_named : {y : told.Value} → IsOnly symbols (one y) r → Is symbols r y
-      one_named {y} o = record { numbered = o.numbered; name = let same : one y ≡ one (named symbols r) = o.alone in cc }
-  answer_row (Whether v) given r h = λ vs e p. ap truth (same_named r v (h vs e).numbered p ∙ ap (λ us. has us (named symbols v)) (sym (h vs e).alone))
+      one_named {y} o = record { numbered = o.numbered; name = let same : one y ≡ one (told_value symbols r) = o.alone in cc }
+  answer_row (Whether v) given r h = λ vs e p. ap truth (same_named r v (h vs e).numbered p ∙ ap (λ us. has us (told_value symbols v)) (sym (h vs e).alone))
 
   -- a constant or a name
-  pub value_row : (asked : Asked) (given : Option Values) (r : Value) → IsNumbered symbols r → given ≡ Some (one (named symbols r)) → Answers symbols asked given (answer asked r)
+  pub value_row : (asked : Asked) (given : Option Values) (r : Value) → IsNumbered symbols r → given ≡ Some (one (told_value symbols r)) → Answers symbols asked given (answer asked r)
   value_row asked given r p e = answer_row asked given r (λ vs f. record { numbered = p; alone = cc (e, f) })
 
   not_only : (g : Option Values) (r : Value) → Answers symbols ItsValue g r → (vs : Values) → gives_not g ≡ Some vs → IsOnly symbols vs (opposite r)
@@ -102,7 +103,7 @@ module _ (symbols : List Text) (apart : AreApart symbols) where
       record { numbered = tt; alone = let is : c ≡ b = cc in rw is (cc e) }
   not_only (Some (one (told.truth b))) (Num n) h vs e = let same : told.number n ≡ told.truth b = (h (told.truth b) refl).name in cc
   not_only (Some (one (told.truth b))) (Sym i) h vs e =
-      let same : told.symbol (text_at (slice_get symbols i)) ≡ told.truth b = (h (told.truth b) refl).name in cc
+      let same : told.symbol (text_or_none (slice_get symbols i)) ≡ told.truth b = (h (told.truth b) refl).name in cc
 
   pub not_row : (asked : Asked) (g : Option Values) (r : Value) → Answers symbols ItsValue g r → Answers symbols asked (gives_not g) (answer asked (opposite r))
   not_row asked g r h = answer_row asked (gives_not g) (opposite r) (not_only g r h)
@@ -116,7 +117,7 @@ module _ (symbols : List Text) (apart : AreApart symbols) where
   negated_only (Some (one (told.symbol x))) r small h vs e = cc
   negated_only (Some (one (told.number n))) (truth c) small h vs e = let same : told.truth c ≡ told.number n = (h (told.number n) refl).name in cc
   negated_only (Some (one (told.number n))) (Sym i) small h vs e =
-      let same : told.symbol (text_at (slice_get symbols i)) ≡ told.number n = (h (told.number n) refl).name in cc
+      let same : told.symbol (text_or_none (slice_get symbols i)) ≡ told.number n = (h (told.number n) refl).name in cc
   negated_only (Some (one (told.number n))) (Num k) small h vs e =
       let same : told.number k ≡ told.number n = (h (told.number n) refl).name in
       let is : k ≡ n = cc in
@@ -170,7 +171,7 @@ module _ (symbols : List Text) (apart : AreApart symbols) where
   truths_only op.Implies a b x e = record { numbered = tt; name = cc e }
 
   symbols_only : (o : Op) (i j : ℕ) (x : told.Value) → IsPlaceOf symbols i → IsPlaceOf symbols j →
-      told.on_symbols o (text_at (slice_get symbols i)) (text_at (slice_get symbols j)) ≡ Some x → Is symbols (truth (on_symbols o i j)) x
+      told.on_symbols o (text_or_none (slice_get symbols i)) (text_or_none (slice_get symbols j)) ≡ Some x → Is symbols (truth (on_symbols o i j)) x
   symbols_only op.Times i j x p q e = cc e
   symbols_only op.Over i j x p q e = cc e
   symbols_only op.Mod i j x p q e = cc e
@@ -197,13 +198,13 @@ module _ (symbols : List Text) (apart : AreApart symbols) where
   IsSmall (truth b) = Unit {0}
   IsSmall (Sym i) = Unit {0}
 
-  small_value : (g : Option Values) (r : Value) → GivesSmall g → g ≡ Some (one (named symbols r)) → IsSmall r
+  small_value : (g : Option Values) (r : Value) → GivesSmall g → g ≡ Some (one (told_value symbols r)) → IsSmall r
   small_value g (Num n) small e = small_number n (small (one (told.number n)) e n)
   small_value g (truth b) small e = tt
   small_value g (Sym i) small e = tt
 
   values_only : (o : Op) (r s : Value) (x : told.Value) → IsNumbered symbols r → IsNumbered symbols s → IsSmall r → IsSmall s →
-      DividesByNoZero o (Some (one (named symbols s))) → apply o (named symbols r) (named symbols s) ≡ Some x → Is symbols (applied o r s) x
+      DividesByNoZero o (Some (one (told_value symbols s))) → apply o (told_value symbols r) (told_value symbols s) ≡ Some x → Is symbols (applied o r s) x
   values_only o (Num a) (Num b) x p q fa fb d e = numbers_only o a b x fa fb d e
   values_only o (truth a) (truth b) x p q fa fb d e = truths_only o a b x e
   values_only o (Sym i) (Sym j) x p q fa fb d e = symbols_only o i j x p q e
@@ -245,9 +246,9 @@ module _ (symbols : List Text) (apart : AreApart symbols) where
       let a : IsApplied o g h vs = is_applied o g h vs e in
       let left : Is symbols r a.left = hl a.left a.is_left in
       let right : Is symbols s a.right = hr a.right a.is_right in
-      let gives_left : g ≡ Some (one (named symbols r)) = a.is_left ∙ ap (λ x. Some (one x)) (sym left.name) in
-      let gives_right : h ≡ Some (one (named symbols s)) = a.is_right ∙ ap (λ x. Some (one x)) (sym right.name) in
-      let applies : apply o (named symbols r) (named symbols s) ≡ Some a.value = (λ i. apply o (left.name i) (right.name i)) ∙ a.applies in
+      let gives_left : g ≡ Some (one (told_value symbols r)) = a.is_left ∙ ap (λ x. Some (one x)) (sym left.name) in
+      let gives_right : h ≡ Some (one (told_value symbols s)) = a.is_right ∙ ap (λ x. Some (one x)) (sym right.name) in
+      let applies : apply o (told_value symbols r) (told_value symbols s) ≡ Some a.value = (λ i. apply o (left.name i) (right.name i)) ∙ a.applies in
       let v : Is symbols (applied o r s) a.value =
       values_only o r s a.value left.numbered right.numbered (small_value g r sg gives_left) (small_value h s sh gives_right) (subst (DividesByNoZero o) gives_right d) applies in
       record { numbered = v.numbered; alone = a.is ∙ ap one (sym v.name) }
@@ -260,10 +261,10 @@ module _ (symbols : List Text) (apart : AreApart symbols) where
   union_row (Whether v) None h r s hl hr = λ vs e p. cc e
   union_row (Whether v) (Some a) None r s hl hr = λ vs e p. cc e
   union_row (Whether v) (Some a) (Some b) r s hl hr = λ vs e p.
-      let left : r ≡ truth (has a (named symbols v)) = hl a refl p in
-      let right : s ≡ truth (has b (named symbols v)) = hr b refl p in
+      let left : r ≡ truth (has a (told_value symbols v)) = hl a refl p in
+      let right : s ≡ truth (has b (told_value symbols v)) = hr b refl p in
       let is : told.either a b ≡ vs = cc e in
-      (λ i. either (left i) (right i)) ∙ ap (λ us. truth (has us (named symbols v))) is
+      (λ i. either (left i) (right i)) ∙ ap (λ us. truth (has us (told_value symbols v))) is
 
   -- one of the other's
   within_only : (g h : Option Values) (r s : Value) → Answers symbols ItsValue g r → Answers symbols (Whether r) h s → (vs : Values) → gives_within g h ≡ Some vs → IsOnly symbols vs s
@@ -274,8 +275,8 @@ module _ (symbols : List Text) (apart : AreApart symbols) where
   within_only (Some (one x)) None r s hl hr vs e = cc e
   within_only (Some (one x)) (Some w) r s hl hr vs e =
       let left : Is symbols r x = hl x refl in
-      let right : s ≡ truth (has w (named symbols r)) = hr w refl left.numbered in
-      let name : named symbols r ≡ x = left.name in
+      let right : s ≡ truth (has w (told_value symbols r)) = hr w refl left.numbered in
+      let name : told_value symbols r ≡ x = left.name in
       rw right (record { numbered = tt; alone = cc (e, name) })
 
   -- an operator on what both sides answer
@@ -308,7 +309,7 @@ module _ (symbols : List Text) (apart : AreApart symbols) where
   pub truth_is : (r : Value) (b : Bool) → Is symbols r (told.truth b) → is_true r ≡ b
   truth_is (truth c) b i = let same : told.truth c ≡ told.truth b = i.name in cc
   truth_is (Num n) b i = let same : told.number n ≡ told.truth b = i.name in cc
-  truth_is (Sym j) b i = let same : told.symbol (text_at (slice_get symbols j)) ≡ told.truth b = i.name in cc
+  truth_is (Sym j) b i = let same : told.symbol (text_or_none (slice_get symbols j)) ≡ told.truth b = i.name in cc
 
   -- the branch taken
   pub choice_row : (asked : Asked) (g a b : Option Values) (c r s : Value) → Answers symbols ItsValue g c → Answers symbols asked a r → Answers symbols asked b s →
@@ -322,7 +323,7 @@ module _ (symbols : List Text) (apart : AreApart symbols) where
   choice_row asked (Some (one (told.truth true))) a b c r s hc hl hr = rw (truth_is c true (hc (told.truth true) refl)) hl
   choice_row asked (Some (one (told.truth false))) a b c r s hc hl hr = rw (truth_is c false (hc (told.truth false) refl)) hr
 
-  between_named : (lo hi : ℤ) (v : Value) → between lo hi v ≡ is_between lo hi (named symbols v)
+  between_named : (lo hi : ℤ) (v : Value) → between lo hi v ≡ is_between lo hi (told_value symbols v)
   between_named lo hi (truth b) = refl
   between_named lo hi (Num n) = refl
   between_named lo hi (Sym i) = refl
@@ -331,12 +332,12 @@ module _ (symbols : List Text) (apart : AreApart symbols) where
   span_row ItsValue lo hi = λ y e. cc e
   span_row (Whether v) lo hi = λ vs e p.
       let is : from_to lo hi ≡ vs = cc e in
-      ap truth (between_named lo hi v ∙ ap (λ us. has us (named symbols v)) is)
+      ap truth (between_named lo hi v ∙ ap (λ us. has us (told_value symbols v)) is)
 
   -- no members, and no branches
   pub no_member_row : (asked : Asked) → Answers symbols asked (Some no_value) (truth false)
   no_member_row ItsValue = λ y e. cc e
-  no_member_row (Whether v) = λ vs e p. let is : no_value ≡ vs = cc e in ap (λ us. truth (has us (named symbols v))) is
+  no_member_row (Whether v) = λ vs e p. let is : no_value ≡ vs = cc e in ap (λ us. truth (has us (told_value symbols v))) is
 
   pub no_branch_row : (asked : Asked) → Answers symbols asked None (truth false)
   no_branch_row asked = nothing asked (truth false)

@@ -7,11 +7,12 @@ ghost use Rattle.xs_flat_laws.specs.FlatTrace.{stands_in_some};
 ghost use Rattle.xs_tree.specs.ModelTree.{model_tree};
 ghost use Rattle.xs_flat_laws.specs.FaultModes.{mode_of};
 ghost use Rattle.xs_eval.specs.Failed.{has_symbol, HasVariable};
-ghost use Rattle.xs_eval.specs.Named.{named_trace, IsEvaluable, IsLawful};
+ghost use Rattle.xs_eval.specs.Named.{IsEvaluable, IsLawful};
 
 use xs_tree::model::Fault;
 use xs_types::Typed;
 use xs_value::{MomentList, Valuation, Value};
+ghost use Rattle.xs_tree.specs.Told.{told_trace};
 
 /// Whether the mode of a fault stands at some moment. Takes no memory.
 pub fn has_failed(t: &Typed, fault: &Fault, trace: &MomentList) -> bool
@@ -19,7 +20,7 @@ pub fn has_failed(t: &Typed, fault: &Fault, trace: &MomentList) -> bool
     requires lawful { Each (IsLawful (model_tree t.now.model)) trace.now }
     requires variable { fault.now.variable < length t.now.model.variables }
     requires symbol { fault.now.symbol < length t.now.model.symbols }
-    ensures { result ≡ stands_in_some (model_tree t.now.model) (mode_of fault.now) (named_trace t.now.model.symbols trace.now) }
+    ensures { result ≡ stands_in_some (model_tree t.now.model) (mode_of fault.now) (told_trace t.now.model.symbols trace.now) }
 {
     stands_in_some(trace.as_slice(), fault.variable as usize, fault.symbol)
 }

@@ -8,7 +8,7 @@ ghost use Rattle.xs_tree.specs.ModelTree.{model_tree, flat_tree};
 ghost use Rattle.xs_type_laws.specs.Laws.{ReadsOwn};
 ghost use Rattle.xs_type_laws.specs.Models.{judged_in, broken_condition};
 ghost use Rattle.xs_eval.specs.Filled.{filled, step_holds, HasRoom, HasValues};
-ghost use Rattle.xs_eval.specs.Named.{named_trace, IsEvaluable, IsLawful};
+ghost use Rattle.xs_eval.specs.Named.{IsEvaluable, IsLawful};
 ghost use Rattle.xs_eval.specs.Replayed.{ended, replayed_from, replayed, IsReplayed};
 
 use crate::conditions::{first_holds, step_holds};
@@ -20,6 +20,7 @@ use xs_tree::Expr;
 use xs_tree::model::{Flat, FlatModel};
 use xs_types::Typed;
 use xs_value::{MomentList, Valuation};
+ghost use Rattle.xs_tree.specs.Told.{told_trace};
 
 /// What becomes of a list of moments: it is a trace that reaches the top event; it is one, and the event is
 /// FALSE at its last moment; its first moment breaks a condition; or the moment of this number, from 0, is
@@ -48,7 +49,7 @@ pub fn replay(
     requires kept { broken_condition (judged_in (model_tree t.now.model) false (flat_tree top.now)) ≡ [] }
     requires room_now { HasRoom t.now.model now.old }
     requires room_next { HasRoom t.now.model next.old }
-    ensures answer { IsReplayed (model_tree t.now.model) (flat_tree top.now) (named_trace t.now.model.symbols trace.now) result }
+    ensures answer { IsReplayed (model_tree t.now.model) (flat_tree top.now) (told_trace t.now.model.symbols trace.now) result }
     ensures room_now { HasRoom t.now.model now.new }
     ensures room_next { HasRoom t.now.model next.new }
 {

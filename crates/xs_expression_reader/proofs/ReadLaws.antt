@@ -1,6 +1,6 @@
 -- Parts that are read one after another, and the longest expression of a list.
 use Rattle.std.proofs.Common.{◌≡◌, ℕ, zero, suc, ◌+◌, ◌-◌, ◌<◌, ◌≤◌, Bool, true, false, List, [], ◌∷◌, ◌++◌, Option, Some, None, length, map, take, drop, refl, sym, ap, ◌∙◌, arith, append_assoc, append-nil, add-one}
-use Rattle.std.specs.Prelude.{nat_lt, ◌||◌, Result, Err, if◌then◌else◌}
+use Rattle.std.specs.Prelude.{nat_lt, ◌||◌, if◌then◌else◌}
 use Rattle.std.proofs.Math.Seq.{take-append_seam}
 use Rattle.std.proofs.lemmas.List.{map-append}
 use Rattle.std.proofs.lemmas.Bool.Decides.{nat_tests}
@@ -228,6 +228,3 @@ are_within (s ∷ ss) e = go (is_too_deep s) refl e (are_within ss)
 pub within_are : (ss : List Spelling) → AreWithin ss → are_too_deep ss ≡ false
 within_are [] w = refl
 within_are (s ∷ ss) w = rw (one_within s w.0, within_are ss w.1) refl
-
-pub same_fault : {T E : Type 0} {a b : E} → Path (Result T E) (Err a) (Err b) → a ≡ b
-same_fault e = cc

@@ -20,7 +20,6 @@ use Rattle.xs_circuits.proofs.Extension.{AllBelow-more, AllBelow-append}
 use Rattle.xs_encode_laws.specs.Signals.{Signal, literal_in}
 use Rattle.xs_encode_laws.specs.Expressions.{Asked as TheAsked, its_value, whether_has, encoded}
 use Rattle.xs_encode_laws.specs.Meanings.{IsSignal}
-use Rattle.xs_encode_laws.proofs.NameMeans.{each_joined}
 use Rattle.xs_expressions.specs.Built.{signal_of, signals_of}
 use Rattle.xs_expressions.proofs.ChoiceLoop.{usable_later}
 use Rattle.xs_expressions.specs.Naming.{model_of, names_in}
@@ -29,6 +28,7 @@ use Rattle.xs_expressions.specs.Branches.{listed_gates, widened_sort, spread_sor
 use Rattle.xs_expressions.specs.declared.names.Names.{Names}
 use Rattle.xs_expressions.specs.declared.branches.Parts.{Parts}
 use Rattle.xs_expressions.specs.declared.part.Part.{Part}
+use Rattle.xs_flat_laws.proofs.Conditions.{each_join}
 
 -- a list with one item more, and what comes after it
 grown : {A : Type 0} (xs : List A) (x : A) (ys zs : List A) → ys ≡ xs ++ x ∷ [] → xs ++ (x ∷ zs) ≡ ys ++ zs
@@ -82,12 +82,12 @@ module _ (n : Names) where
   told_next its_value bs d a rest parts made p before told e f =
       ap (λ x. spread_sort x (kinds_in (judge_values (kind_of_leaf (model_of n)) false rest))) (f ∙ ap (λ x. Some (widened_sort parts.sort x)) told) ∙ before
   told_next (whether_has v) bs d a rest parts made p before told e f =
-      subst (Each IsBit) (sym e) (each_joined IsBit (signals_of parts.values) (signal_of p.signal ∷ []) before (told, tt))
+      subst (Each IsBit) (sym e) (each_join IsBit (signals_of parts.values) (signal_of p.signal ∷ []) before (told, tt))
 
   values_next : (g t : Circuit) (parts made : Parts) (p : Part) → g.free ≤ t.free → Each (IsSignal g) (signals_of parts.values) → IsSignal t (signal_of p.signal)
       → signals_of made.values ≡ signals_of parts.values ++ signal_of p.signal ∷ [] → Each (IsSignal t) (signals_of made.values)
   values_next g t parts made p more before here e =
-      subst (Each (IsSignal t)) (sym e) (each_joined (IsSignal t) (signals_of parts.values) (signal_of p.signal ∷ []) (usable_later g t more parts.values before) (here, tt))
+      subst (Each (IsSignal t)) (sym e) (each_join (IsSignal t) (signals_of parts.values) (signal_of p.signal ∷ []) (usable_later g t more parts.values before) (here, tt))
 
   -- the last branch has its value alone
   pub branch_last : (asked : TheAsked) (bs : Branches FlatLeaf) (d a : Tree FlatLeaf) (s g t : Circuit) (parts made : Parts) (p : Part) → BuildsFirst n asked bs (branch_then d a no_branch) s g parts → BuildsPart n asked a g t p

@@ -1,15 +1,16 @@
 -- The choices of a case, from the last but one to the first.
-use Rattle.std.proofs.Common.{◌≡◌, ℕ, zero, suc, ◌+◌, ◌<◌, ◌≤◌, List, [], ◌∷◌, ◌++◌, length, take, drop, get_or, Some, refl, sym, ◌∙◌, ap, subst, arith}
+use Rattle.std.proofs.Common.{◌≡◌, ℕ, zero, suc, ◌+◌, ◌≤◌, List, [], ◌∷◌, ◌++◌, length, take, drop, Some, refl, sym, ◌∙◌, ap, subst, arith}
 use Rattle.std.specs.Prelude.{slice_get}
 use Rattle.xs_tree.specs.Trace.{Each}
 use Rattle.xs_lits.specs.Literal.{Literal}
 use Rattle.xs_circuits.specs.Circuit.{Circuit, after}
-use Rattle.xs_circuits.proofs.Extension.{AllBelow-more}
-use Rattle.xs_encode_laws.specs.Signals.{Signal, bit, word, fitted, choice_gates}
+use Rattle.xs_encode_laws.specs.Signals.{Signal, fitted, choice_gates}
 use Rattle.xs_encode_laws.specs.Meanings.{IsSignal}
 use Rattle.xs_expressions.specs.declared.signal.Signal.{Signal as Built}
 use Rattle.xs_expressions.specs.Built.{signal_of, signals_of, BuildsSignal}
 use Rattle.xs_expressions.specs.Choices.{first_signal, chosen_gates, upward_gates}
+use Rattle.xs_tree.proofs.ListLaws.{take_there}
+use Rattle.xs_encode_laws.proofs.MomentMeans.{signal_moved}
 
 -- the last value, and then the choices upward
 pub chosen_upward : (n : ℕ) (ps : List Literal) (es : List Signal) (s : Circuit) → chosen_gates n ps es s ≡ upward_gates n ps es (s, fitted n (first_signal (drop (length ps) es)))
@@ -27,16 +28,6 @@ upward_last n [] p (x ∷ es) e r h = absurd (omega (arith, h))
 upward_last n (q ∷ ps) p [] e r h = absurd (omega (arith, h))
 upward_last n (q ∷ ps) p (x ∷ es) e r h = ap (λ z. after z (λ f w. choice_gates n q x f w)) (upward_last n ps p es e r (omega (arith, h)))
 
-pub take_one : {A : Type 0} (xs : List A) (i : ℕ) (x : A) → slice_get xs i ≡ Some x → take (suc i) xs ≡ take i xs ++ x ∷ []
-take_one [] i x h = cc
-take_one (y ∷ xs) zero x h = cc
-take_one (y ∷ xs) (suc i) x h = ap (λ zs. y ∷ zs) (take_one xs i x h)
-
-pub got : {A : Type 0} (xs : List A) (i : ℕ) (x : A) → i < length xs → x ≡ get_or xs i x → slice_get xs i ≡ Some x
-got [] i x h e = absurd (omega (arith, h))
-got (y ∷ xs) zero x h e = ap Some (sym e)
-got (y ∷ xs) (suc i) x h e = got xs i x (omega (arith, h)) e
-
 pub get_mapped : (es : List Built) (i : ℕ) (e : Built) → slice_get es i ≡ Some e → slice_get (signals_of es) i ≡ Some (signal_of e)
 get_mapped [] i e h = cc
 get_mapped (y ∷ es) zero e h = cc
@@ -53,14 +44,10 @@ usable_at s (y ∷ es) zero e f h same all =
     let here : y ≡ e = cc in subst (λ x. IsSignal s x) (ap signal_of here ∙ sym same) all.0
 usable_at s (y ∷ es) (suc i) e f h same all = usable_at s es i e f h same all.1
 
-later_signal : (s t : Circuit) → s.free ≤ t.free → (e : Signal) → IsSignal s e → IsSignal t e
-later_signal s t h (bit l) k = omega (arith, h, k)
-later_signal s t h (word w) k = record { signed = k.signed; below = AllBelow-more s.free t.free h w k.below }
-
 -- signals may be used in a circuit with no fewer variables
 pub usable_later : (s t : Circuit) → s.free ≤ t.free → (es : List Built) → Each (IsSignal s) (signals_of es) → Each (IsSignal t) (signals_of es)
 usable_later s t h [] all = tt
-usable_later s t h (e ∷ es) all = (later_signal s t h (signal_of e) all.0, usable_later s t h es all.1)
+usable_later s t h (e ∷ es) all = (signal_moved s t h (signal_of e) all.0, usable_later s t h es all.1)
 
 first_at : (es : List Signal) (i : ℕ) (e : Signal) → slice_get es i ≡ Some e → first_signal (drop i es) ≡ e
 first_at [] i e h = cc
@@ -99,8 +86,8 @@ pub choices_next : (n : ℕ) (ps : List Literal) (es : List Built) (g t : Circui
 choices_next n ps es g t chosen e f made p left j whole is long within at_p at_e same built before =
     let long' : length (signals_of es) ≡ length ps + 1 = length_signals es ∙ long in
     subst (λ k. whole ≡ upward_gates n (take k ps) (take k (signals_of es)) (g, signal_of chosen)) is before
-    ∙ ap (λ qs. upward_gates n qs (take (suc j) (signals_of es)) (g, signal_of chosen)) (take_one ps j p at_p)
-    ∙ ap (λ qs. upward_gates n (take j ps ++ p ∷ []) qs (g, signal_of chosen)) (take_one (signals_of es) j (signal_of e) (get_mapped es j e at_e))
+    ∙ ap (λ qs. upward_gates n qs (take (suc j) (signals_of es)) (g, signal_of chosen)) (take_there ps j p at_p)
+    ∙ ap (λ qs. upward_gates n (take j ps ++ p ∷ []) qs (g, signal_of chosen)) (take_there (signals_of es) j (signal_of e) (get_mapped es j e at_e))
     ∙ upward_last n (take j ps) p (take j (signals_of es)) (signal_of e) (g, signal_of chosen) (taken_alike j ps (signals_of es) (omega (arith, is, within)) (omega (arith, is, within, long')))
     ∙ ap (λ x. upward_gates n (take j ps) (take j (signals_of es)) (choice_gates n p x (signal_of chosen) g)) (sym same)
     ∙ ap (λ r. upward_gates n (take j ps) (take j (signals_of es)) r) built.exact

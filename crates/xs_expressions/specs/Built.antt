@@ -3,7 +3,6 @@ use Rattle.std.specs.Prelude.{◌≡◌, ◌<◌, ◌≤◌, List, length, map}
 use Rattle.xs_lits.specs.Literal.{Literal}
 use Rattle.xs_lits.specs.Models.{IsBelow}
 use Rattle.xs_circuits.specs.Circuit.{Circuit}
-use Rattle.xs_circuits.specs.Words.{IsWordOf}
 use Rattle.xs_encode_laws.specs.Signals.{Signal, bit, word}
 use Rattle.xs_encode_laws.specs.Meanings.{IsSignal}
 use Rattle.xs_expressions.specs.declared.signal.Signal.{Signal as Built}
@@ -27,12 +26,6 @@ IsSigned (word w) = 0 < length w
 pub record BuildsLiteral (s : Circuit) (r : Circuit × Literal) (t : Circuit) (l : Literal) : Type 0 where
   pub exact : r ≡ (t, l)
   pub below : IsBelow t.free l
-  pub grows : s.free ≤ t.free
-
--- r, which was built onto s, is t with a word that may be used there
-pub record BuildsWord (s : Circuit) (r : Circuit × List Literal) (t : Circuit) (w : List Literal) : Type 0 where
-  pub exact : r ≡ (t, w)
-  pub usable : IsWordOf t w
   pub grows : s.free ≤ t.free
 
 -- r, which was built onto s, is t with a signal that may be used there

@@ -13,7 +13,7 @@ ghost use Rattle.xs_circuits.specs.Sums.{equal_gates, less_gates};
 ghost use Rattle.xs_circuits.specs.Quotients.{choose_gates};
 ghost use Rattle.xs_encode_laws.specs.Signals.{literal_in, word_in, fitted, as_bit, as_word, turned, same_gates, choice_gates, between_gates};
 ghost use Rattle.xs_encode_laws.specs.Meanings.{IsSignal};
-ghost use Rattle.xs_expressions.specs.Built.{signal_of, IsSigned, BuildsLiteral, BuildsWord, BuildsSignal};
+ghost use Rattle.xs_expressions.specs.Built.{signal_of, IsSigned, BuildsLiteral, BuildsSignal};
 
 use crate::room::{check_narrow, check_room, check_width};
 use std::alloc::Global;

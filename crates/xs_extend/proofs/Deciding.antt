@@ -23,7 +23,7 @@ use Rattle.xs_extend.specs.declared.fault.WeaveFault.{WeaveFault}
 use Rattle.xs_extend.specs.Guarded.{use_at}
 use Rattle.xs_extend.specs.Refused.{IsWantOr, IsFirstFault}
 use Rattle.std.proofs.lemmas.Bool.{false_from_ne_true as not_true}
-use Rattle.xs_weave_rules.proofs.SiteFaults.{drop_item}
+use Rattle.xs_tree.proofs.ListLaws.{drop_here}
 
 -- where what is left is kept, all are, and what is first among what is left is first among all
 pub record Decides (p : ProgramTree) (m : FlatModel) (left all : List Use) : Type 0 where
@@ -76,7 +76,7 @@ module _ (p : ProgramTree) (m : FlatModel) where
     modes_split : Decides p m ((use_at at type (mode_tree x) new ∷ []) ++ modes_from at type (new + 1) (map mode_tree (drop (i + 1) xs))) all
     modes_split =
         subst (λ us. Decides p m us all)
-        (ap (λ ys. modes_from at type (n + 1) (map mode_tree ys)) (drop_item xs i x below here)
+        (ap (λ ys. modes_from at type (n + 1) (map mode_tree ys)) (drop_here xs i x below here)
         ∙ ap (λ k. use_at at type (mode_tree x) k ∷ modes_from at type (suc k) (map mode_tree (drop (i + 1) xs))) (sym next)
         ∙ ap (λ k. use_at at type (mode_tree x) new ∷ modes_from at type k (map mode_tree (drop (i + 1) xs))) (one_more new)) d
       where
@@ -95,7 +95,7 @@ module _ (p : ProgramTree) (m : FlatModel) where
   module _ (at : FlatInstance) (xs : List Placed) (i : ℕ) (x : Placed) (all : List Use) (below : i < length xs) (here : x ≡ get_or xs i x)
       (d : Decides p m (uses_of_slices (map seen_placed (drop i xs)) at) all) where
     slices_split : Decides p m (uses_of_slice at (seen_placed x) ++ uses_of_slices (map seen_placed (drop (i + 1) xs)) at) all
-    slices_split = subst (λ ys. Decides p m (uses_of_slices (map seen_placed ys) at) all) (drop_item xs i x below here) d
+    slices_split = subst (λ ys. Decides p m (uses_of_slices (map seen_placed ys) at) all) (drop_here xs i x below here) d
 
     pub slice_next : Each (KeepsUse p m) (uses_of_slice at (seen_placed x)) → Decides p m (uses_of_slices (map seen_placed (drop (i + 1) xs)) at) all
     slice_next kept = decides_next (uses_of_slice at (seen_placed x)) (uses_of_slices (map seen_placed (drop (i + 1) xs)) at) all slices_split kept
@@ -109,7 +109,7 @@ module _ (p : ProgramTree) (m : FlatModel) where
   module _ (slices : List PlacedSlice) (xs : List Instance) (i : ℕ) (x : Instance) (all : List Use) (below : i < length xs) (here : x ≡ get_or xs i x)
       (d : Decides p m (flat_map (uses_of_slices slices) (map instance_tree (drop i xs))) all) where
     instances_split : Decides p m (uses_of_slices slices (instance_tree x) ++ flat_map (uses_of_slices slices) (map instance_tree (drop (i + 1) xs))) all
-    instances_split = subst (λ ys. Decides p m (flat_map (uses_of_slices slices) (map instance_tree ys)) all) (drop_item xs i x below here) d
+    instances_split = subst (λ ys. Decides p m (flat_map (uses_of_slices slices) (map instance_tree ys)) all) (drop_here xs i x below here) d
 
     pub instance_next : Each (KeepsUse p m) (uses_of_slices slices (instance_tree x)) → Decides p m (flat_map (uses_of_slices slices) (map instance_tree (drop (i + 1) xs))) all
     instance_next kept = decides_next (uses_of_slices slices (instance_tree x)) (flat_map (uses_of_slices slices) (map instance_tree (drop (i + 1) xs))) all instances_split kept

@@ -7,11 +7,12 @@ use Rattle.xs_tree.specs.ProgramTree.{Text, ProgramTree}
 use Rattle.xs_tree.specs.Trace.{Each}
 use Rattle.xs_tree.specs.declared.model.Instance.{Instance}
 use Rattle.xs_weave.specs.Faults.{Fault, slice_faults, module_slices, slices_at, place_faults, HasFaults}
-use Rattle.xs_extend.specs.WovenFaults.{place_of, faults_at, IsOfModule, places_of, AreInstancesOf}
+use Rattle.xs_extend.specs.WovenFaults.{faults_at, IsOfModule, places_of, AreInstancesOf}
 use Rattle.xs_fei.specs.declared.instructions.Extension.{Extension}
 use Rattle.xs_fei.specs.Instructions.{SliceTree, InstructionTree, extension_tree, slices_from, slices_of}
 use Rattle.xs_weave.specs.Woven.{own_slices}
 use Rattle.xs_weave.proofs.SliceLaws.{own_first}
+use Rattle.xs_tree.specs.ModelTree.{place_of}
 
 pub extensions_more : {A : Type 0} (f : SliceTree → List A) (m : Text) (xs : List Extension) (i : ℕ) (d : Extension) → i < length xs →
     flat_map f (slices_from (map extension_tree (drop i xs)) m)

@@ -19,7 +19,6 @@ use Rattle.xs_flat_laws.proofs.Conditions.{each_at, each_flat}
 use Rattle.xs_flat_laws.proofs.Sections.{AreInstances}
 use Rattle.xs_flat_laws.proofs.Places.{are_instances}
 use Rattle.xs_flat_laws.proofs.Walkable.{accepted_walkable, main_is_there}
-use Rattle.xs_flat_laws.proofs.Kept.{module_named}
 use Rattle.xs_type_laws.specs.Judged.{KindRule}
 use Rattle.xs_type_laws.specs.Models.{least, judged_in, IsTyped}
 use Rattle.xs_type_laws.proofs.Least.{least_none}
@@ -42,6 +41,7 @@ use Rattle.xs_extend.proofs.LawfulLaws.{lawful_instance}
 use Rattle.xs_extend.proofs.JudgedModes.{good_is_judged}
 use Rattle.std.proofs.lemmas.Bool.{false_from_ne_true as not_true}
 use Rattle.xs_flat.proofs.JudgeValues.{some_split}
+use Rattle.xs_tree.proofs.ProgramLaws.{found_named}
 
 -- no rule of kinds: the lists of which the least is taken are empty
 abbrev NoneOfBoth : List KindRule → List KindRule → Type 0
@@ -142,7 +142,7 @@ guards_good p m i accepted is kept at k s here among =
     let found : (j : ℕ) × (x : FlatInstance) × (slice_get (instances_of p) j ≡ Some x) × (x.place ≡ at) = are.all at k here in
     let real : (n : ModuleTree) × IsInstance p found.1.place n × (find_module p found.1.module_name ≡ Some n) = are.real found.0 found.1 found.2 in
     let same : real.0 ≡ k = one_module real.0 k (sym (subst (λ a. IsInstance p a real.0) found.3 real.1) ∙ here) in
-    let name : k.name ≡ found.1.module_name = module_named p found.1.module_name k (real.2 ∙ ap Some same) in
+    let name : k.name ≡ found.1.module_name = found_named p found.1.module_name k (real.2 ∙ ap Some same) in
     let o : OwnedBy (IsGoodSlice p m is found.1) k.name s = owned_by (IsGoodSlice p m is found.1) k.name s i.extensions (slices_good found.1 (each_at (λ x. Each (KeepsUse p m) (uses_at p i x)) (instances_of p) found.0 found.1
     ((each_flat (KeepsUse p m) (uses_at p i) (instances_of p)).0 kept) found.2)) among in
     let modes : Each (IsGoodMode p m is.written found.1.place) s.modes =

@@ -20,9 +20,10 @@ use Rattle.xs_flat_laws.proofs.Sections.{items_are}
 use Rattle.xs_flat_laws.proofs.Pigeons.{IsThere, AreApart, no_more_names}
 use Rattle.xs_flat_laws.proofs.Places.{VisitFacts, there, facts_named, all_visit_facts, are_instances}
 use Rattle.xs_flat_laws.proofs.Walkable.{accepted_walkable, main_is_there}
-use Rattle.xs_extend.specs.WovenFaults.{place_of, places_of, IsOfModule}
+use Rattle.xs_extend.specs.WovenFaults.{places_of, IsOfModule}
 use Rattle.xs_extend.specs.InstanceLaws.{instance_tree, IsNoInstance, AreNoInstances, DeclaresInVar, HasInstancesInVar, InstancesAreListed}
-use Rattle.xs_type_laws.proofs.WrittenLaws.{get_map as get_mapped}
+use Rattle.xs_tree.proofs.ListLaws.{get_map}
+use Rattle.xs_tree.specs.ModelTree.{place_of}
 
 -- the places of the instances that visits declare
 abbrev list_places : List Visit → List Place
@@ -240,6 +241,6 @@ instances_listed p instances accepted in_var same = record {
     of_module : (i : ℕ) (at : Instance) → slice_get instances i ≡ Some at → IsOfModule p at
     of_module i at e =
         let main : (m : ModuleTree) × (find_module p (codes "main") ≡ Some m) = main_is_there p (accepted_walkable p accepted) in
-        let listed : slice_get (instances_of p) i ≡ Some (instance_tree at) = subst (λ xs. slice_get xs i ≡ Some (instance_tree at)) same (get_mapped instance_tree instances i at e) in
+        let listed : slice_get (instances_of p) i ≡ Some (instance_tree at) = subst (λ xs. slice_get xs i ≡ Some (instance_tree at)) same (get_map instance_tree instances i at e) in
         let real : (m : ModuleTree) × IsInstance p (place_of at.path) m × (find_module p at.«module» ≡ Some m) = (are_instances p (accepted_walkable p accepted) main.0 main.1).real i (instance_tree at) listed in
         (real.0, real.1, found_name p at.«module» real.0 real.2)

@@ -6,7 +6,7 @@ use Rattle.xs_tree.specs.declared.program.Member.TheVariants as member
 use Rattle.xs_tree.specs.Tree.{Tree, Trees, Branches, truth as is_truth, number as is_number, leaf, not_of, negate, next_of, binary, choice, case_of, set_of, span, no_tree, tree_then, no_branch, branch_then}
 use Rattle.xs_tree.specs.ProgramTree.{Formula, DeclaredTree, boolean, range, members, instance, ModuleTree, ProgramTree}
 use Rattle.xs_tree.specs.Scope.{Place, find_module}
-use Rattle.xs_tree.specs.Trace.{Each, IsVariable}
+use Rattle.xs_tree.specs.Trace.{Each, IsVariable, EachBoth}
 use Rattle.xs_fei.specs.Instructions.{EffectTree, stuck_at, follows, inverted, random, erroneous, frozen, stuck_at_pick, offset, ramp_down}
 use Rattle.xs_fei.specs.Types.{IsUniform, IsNumberMember, IsSymbolMember}
 use Rattle.xs_fei.specs.Weavable.{NoNext, NoNextInTrees, NoNextInBranches, HasMeaning, IsReadable, IsLawfulGuard}
@@ -14,7 +14,7 @@ use Rattle.xs_tree.specs.Flat.{FlatLeaf, FlatVariable, FlatModel}
 use Rattle.xs_flat_laws.specs.Items.{Visit, visits, variables_of}
 use Rattle.xs_flat_laws.specs.Resolved.{Definition, Resolver, IsSound, IsResolved, leaves_in, has_next, trees_have_next, branches_have_next}
 use Rattle.xs_flat_laws.specs.Rules.{IsAccepted}
-use Rattle.xs_flat_laws.specs.Model.{IsVariableOf, EachBoth, IsFlatOf}
+use Rattle.xs_flat_laws.specs.Model.{IsVariableOf, IsFlatOf}
 use Rattle.xs_flat_laws.proofs.Conditions.{each_at}
 use Rattle.xs_flat_laws.proofs.Lists.{each_more}
 use Rattle.xs_flat_laws.proofs.Resolving.{Known, names_known, each_leaf}
@@ -23,15 +23,15 @@ use Rattle.xs_flat_laws.proofs.Walkable.{accepted_walkable, main_is_there}
 use Rattle.xs_flat_laws.proofs.Variables.{variables_are}
 use Rattle.xs_type_laws.specs.Judged.{Class, number_class, symbol_class, mixed_enum, unless_class, first_class}
 use Rattle.xs_type_laws.specs.Declared.{member_kind, judged_declared}
-use Rattle.xs_type_laws.specs.Models.{breaches_at, variable_breaches, IsTyped}
+use Rattle.xs_type_laws.specs.Models.{variable_breaches, IsTyped}
 use Rattle.xs_type_laws.proofs.Parts.{none_first, none_second, class_kept}
 use Rattle.xs_type_laws.proofs.ClosedLaws.{all_leaves}
 use Rattle.xs_type_laws.proofs.WrittenLaws.{written_conditions_decided, IsReal, real_all}
 use Rattle.xs_weave_rules.specs.Judged.{IsReadableEffect, IsJudgedMode}
 use Rattle.xs_extend.specs.JudgedLaws.{IsGoodMode, IsGoodEffect, IsGoodGuard, GoodModesAreJudged, TypesAreUniform, GoodIsJudged}
 use Rattle.xs_type_laws.proofs.TraceLaws.{one_type}
-use Rattle.xs_type_laws.proofs.Typed.{none_at as no_breach}
 use Rattle.xs_type_laws.proofs.SetRows.{or_false_second as or_right, or_false_first as or_left}
+use Rattle.xs_type_laws.proofs.VariableTypes.{types_right}
 
 mutual
   pub no_next : {L : Type 0} (t : Tree L) → has_next t ≡ false → NoNext t
@@ -115,12 +115,6 @@ type_uniform boolean h = tt
 type_uniform (range lo hi) h = tt
 type_uniform (instance k actuals) h = tt
 type_uniform (members ms) h = members_uniform ms (none_first _ _ (none_first _ _ h))
-
-types_right : (xs : List FlatVariable) → variable_breaches xs ≡ [] → Each (λ x. (judged_declared x.declared).broken ≡ []) xs
-types_right [] h = tt
-types_right (x ∷ xs) h =
-    let here = breaches_at x.number x.item (judged_declared x.declared).broken in
-    (no_breach x.number x.item (judged_declared x.declared).broken (none_first here (variable_breaches xs) h), types_right xs (none_second here (variable_breaches xs) h))
 
 -- a flat variable at a place of the list, with the declaration that it comes from
 record From (p : ProgramTree) (m : FlatModel) (x : FlatVariable) : Type 0 where

@@ -20,7 +20,8 @@ use Rattle.xs_extend_laws.specs.Expressions.{followed, KeepsNames, IsForm, broke
 use Rattle.xs_extend.specs.declared.fault.Cause.{Cause}
 use Rattle.xs_extend.specs.declared.fault.Cause.TheVariants.{Kinds}
 use Rattle.xs_extend.specs.Refused.{IsWantOr}
-use Rattle.xs_extend.specs.Guarded.{kind_of_form, class_shown, fits_class, class_declared}
+use Rattle.xs_extend.specs.Guarded.{kind_of_form, class_shown, fits_class}
+use Rattle.xs_type_laws.specs.Declared.{class_declared}
 
 or_told : (o q : Option KindRule) (rule : Rule) → told_first o ≡ Some rule → Some rule ≡ told_first (or_else o q)
 or_told None q rule e = cc

@@ -6,14 +6,14 @@ use Rattle.xs_tree.specs.declared.program.Moment.TheVariants.{Always, First, Aft
 use Rattle.xs_tree.specs.Tree.{Tree, truth as is_truth, number as is_number, leaf, not_of, negate, next_of, binary, choice, case_of, set_of, span}
 use Rattle.xs_tree.specs.ProgramTree.{Text, Path, Formula, DeclaredTree, instance, SectionTree, var, ivar, frozen, define, constants, assign, init, invar, trans, ModuleTree, ProgramTree}
 use Rattle.xs_tree.specs.Scope.{Place, Role, state, input, frozen_role, Kind, a_formal, a_variable, a_define, an_instance, undeclared, define_key, actual_key, kind_in, kind_at, plain_name, nth_formula, actual_of_kind}
-use Rattle.xs_tree.specs.Trace.{Each, IsInstance}
+use Rattle.xs_tree.specs.Trace.{Each, IsInstance, EachBoth}
 use Rattle.xs_fei.specs.Weavable.{NoNext, HasMeaning, IsReadable, IsLawfulTarget, IsLawfulAssignment, IsLawfulDecl, IsLawfulSection, IsLawfulInstance}
 use Rattle.xs_tree.specs.Flat.{FlatLeaf, FlatFormula, FlatModel}
 use Rattle.xs_flat_laws.specs.Looks.{ActualsMean}
 use Rattle.xs_flat_laws.specs.Items.{Item, a_declaration, a_definition, an_assignment, some_constants, an_init, an_invar, a_trans, items_of_section, items_of}
 use Rattle.xs_flat_laws.specs.Resolved.{Definition, IsResolved, leaves_in}
 use Rattle.xs_flat_laws.specs.Rules.{names_of_item, is_name_again, not_a_target, may_be_assigned, is_target, BreaksTarget, expression_of, expression_in, expression_of_kind, IsAccepted}
-use Rattle.xs_flat_laws.specs.Model.{Condition, plain, now_among, next_among, kept, Written, conditions, first_conditions, each_conditions, step_conditions, kept_conditions, IsConditionTree, IsFormulaOf, EachBoth, Root, roots_of_type, roots_of, IsDefinitionOf, IsFlatOf}
+use Rattle.xs_flat_laws.specs.Model.{Condition, plain, now_among, next_among, kept, Written, conditions, first_conditions, each_conditions, step_conditions, kept_conditions, IsConditionTree, IsFormulaOf, Root, roots_of_type, roots_of, IsDefinitionOf, IsFlatOf}
 use Rattle.xs_flat_laws.proofs.Conditions.{each_from}
 use Rattle.xs_flat_laws.proofs.Lists.{each_more, each_of_map}
 use Rattle.xs_flat_laws.proofs.Reaches.{each_left, each_right}

@@ -10,7 +10,7 @@ use Rattle.xs_tree.specs.Flat.{FlatLeaf, FlatModel}
 use Rattle.xs_flat_laws.specs.Rules.{Rule, number_of}
 use Rattle.xs_type_laws.specs.Judged as found
 use Rattle.xs_type_laws.specs.Judged.{Class, truth_class, number_class, symbol_class, same_class}
-use Rattle.xs_type_laws.specs.Declared.{member_kind, judged_declared}
+use Rattle.xs_type_laws.specs.Declared.{member_kind}
 use Rattle.xs_type_laws.specs.Models.{judged_in}
 use Rattle.xs_tree.specs.declared.expr.Expr.{Expr}
 use Rattle.xs_tree.specs.declared.model.Flat.{Flat}
@@ -75,10 +75,6 @@ fits_class (Some k) c = same_class (class_shown k) c
 abbrev pub member_class : Option Member → Class
 member_class None = truth_class
 member_class (Some m) = (member_kind m).class
-
--- the class of a declared type
-abbrev pub class_declared : DeclaredTree → Class
-class_declared type = (judged_declared type).kind.class
 
 -- what an answer for an expression says
 abbrev pub judged_by : Result Kind TypeFault → Verdict

@@ -6,7 +6,8 @@ use Rattle.xs_tree.specs.declared.model.Instance.{Instance}
 use Rattle.xs_tree.specs.Flat.{FlatInstance}
 use Rattle.xs_flat_laws.specs.Items.{instances_of}
 use Rattle.xs_flat_laws.specs.Rules.{IsAccepted}
-use Rattle.xs_extend.specs.WovenFaults.{place_of, AreInstancesOf}
+use Rattle.xs_extend.specs.WovenFaults.{AreInstancesOf}
+use Rattle.xs_tree.specs.ModelTree.{place_of}
 
 -- an instance of the code as one of the definitions
 abbrev pub instance_tree : Instance → FlatInstance

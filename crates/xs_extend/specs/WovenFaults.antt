@@ -1,17 +1,13 @@
 -- The list of faults that a weave gives, over the instances of a flat model.
-use Rattle.std.specs.Prelude.{◌≡◌, List, [], Option, Some, None, map, flat_map, reverse}
-use Rattle.xs_tree.specs.ProgramTree.{Path, ModuleTree, ProgramTree}
+use Rattle.std.specs.Prelude.{◌≡◌, List, map, flat_map}
+use Rattle.xs_tree.specs.ProgramTree.{ModuleTree, ProgramTree}
 use Rattle.xs_tree.specs.Trace.{Each, IsInstance}
 use Rattle.xs_tree.specs.Scope.{Place}
 use Rattle.xs_fei.specs.Instructions.{InstructionTree, slices_of}
 use Rattle.xs_tree.specs.declared.model.Instance.{Instance}
 use Rattle.xs_weave.specs.Faults.{Fault, slice_faults, HasInstances}
 use Rattle.xs_extend.specs.declared.faults.WovenFault.{WovenFault}
-
--- a path is written from `main` on, and a place has the innermost name first
-abbrev pub place_of : Option Path → Place
-place_of None = []
-place_of (Some path) = reverse path
+use Rattle.xs_tree.specs.ModelTree.{place_of}
 
 -- a fault of the code as one of the definitions
 abbrev pub fault_tree : WovenFault → Fault

@@ -7,7 +7,8 @@ ghost use Rattle.xs_tree.specs.ProgramTree.{program_tree};
 ghost use Rattle.xs_tree.specs.Texts.{same_text};
 ghost use Rattle.xs_weave.specs.Woven.{own_slices};
 ghost use Rattle.xs_weave.specs.Faults.{slice_faults};
-ghost use Rattle.xs_extend.specs.WovenFaults.{place_of, fault_tree, instance_faults, faults_at};
+ghost use Rattle.xs_extend.specs.WovenFaults.{fault_tree, instance_faults, faults_at};
+ghost use Rattle.xs_tree.specs.ModelTree.{place_of};
 
 use std::alloc::Global;
 use xs_fei::{Extension, Instructions, ModeRule, Slice};

@@ -18,10 +18,11 @@ ghost use Rattle.xs_weave_rules.specs.Placing.{seen_placed};
 ghost use Rattle.xs_weave_rules.specs.declared.fault.Rule.TheVariants as weave_rules;
 ghost use Rattle.xs_extend_laws.specs.Expressions.{followed, broken_by, kind_rule, KeepsNames};
 ghost use Rattle.xs_extend_laws.specs.SliceUses.{uses_of_slices};
-ghost use Rattle.xs_extend.specs.Guarded.{program_in, use_at, IsSomeKept, IsSomeFault, told_number, kind_of_form, class_shown, fits_class, member_class, class_declared, judged_by, lower_fault, both_forms};
+ghost use Rattle.xs_extend.specs.Guarded.{program_in, use_at, IsSomeKept, IsSomeFault, told_number, kind_of_form, class_shown, fits_class, member_class, judged_by, lower_fault, both_forms};
 ghost use Rattle.xs_extend.specs.Nominals.{WhereFlat, IsInstanceAt, all_uses, uses_of_placed, IsUseKept, AreUsesKept, IsUseBroken, IsFirstOfUses, written, IsFormAt};
 ghost use Rattle.xs_extend.specs.Refused.{IsOfExpressions, IsFromExpressions, IsWant, IsWantOr};
 ghost use Rattle.xs_extend.specs.declared.fault.Cause.TheVariants as causes;
+ghost use Rattle.xs_type_laws.specs.Declared.{class_declared};
 
 use crate::fault::{Cause, WeaveFault};
 use std::alloc::Global;

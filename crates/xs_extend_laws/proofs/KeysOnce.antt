@@ -1,16 +1,14 @@
 -- A flat model has no definition twice.
-use Rattle.std.proofs.Common.{◌≡◌, ◌⊎◌, inl, inr, ℕ, zero, suc, ◌<◌, arith, true, false, List, [], ◌∷◌, Some, refl, sym, ◌∙◌, ap, subst, eq-eqb}
+use Rattle.std.proofs.Common.{◌≡◌, ◌⊎◌, inl, inr, ℕ, zero, suc, ◌<◌, arith, true, false, List, [], ◌∷◌, Some, refl, sym, ◌∙◌, ap, subst}
 use Rattle.std.specs.Prelude.{slice_get, map}
 use Rattle.xs_tree.specs.ProgramTree.{Path, Formula, ProgramTree}
-use Rattle.xs_tree.specs.Scope.{Place, Key, define_key, actual_key, Meaning, a_variable_at, an_expression_at, an_instance_at, a_symbol, Means}
+use Rattle.xs_tree.specs.Scope.{Place, Key, Meaning, a_variable_at, an_expression_at, an_instance_at, a_symbol, Means}
 use Rattle.xs_tree.specs.Trace.{Each}
-use Rattle.xs_tree.proofs.ValueLaws.{same_text_refl}
 use Rattle.xs_tree.specs.Flat.{FlatLeaf, flat_variable, flat_symbol, flat_definition, FlatFormula, FlatModel}
 use Rattle.xs_flat_laws.specs.Resolved.{leaves_in, Definition, StandsFor, IsLeafOf, IsBefore}
 use Rattle.xs_flat_laws.specs.Rules.{expression_of}
 use Rattle.xs_flat_laws.specs.Model.{Root, roots_of, keys_of_meaning, AreNamed, same_key, is_key_among, Adds, AddsAll, stands, comes, no_more, one_more, IsDefinitionOf, KeysDiffer, IsFlatOf}
 use Rattle.xs_flat_laws.proofs.Conditions.{each_at, each_from, each_join}
-use Rattle.xs_flat_laws.proofs.KeysApart.{Pairwise, pairwise_join}
 use Rattle.xs_flat_laws.proofs.Listed.{root_written}
 use Rattle.xs_flat_laws.proofs.Lists.{each_more, each_of_map}
 use Rattle.xs_flat_laws.proofs.Places.{In}
@@ -18,12 +16,9 @@ use Rattle.xs_flat_laws.proofs.Resolving.{same_meaning, Known, names_known}
 use Rattle.xs_flat_laws.proofs.Variables.{both_at}
 use Rattle.std.proofs.lemmas.Bool.{or_right}
 use Rattle.std.proofs.lemmas.Option.{some_pair_parts as both_parts}
-use Rattle.xs_type_laws.proofs.WrittenLaws.{get_map as map_at}
-use Rattle.xs_flat_laws.proofs.Numbered.{same_place_refl}
-
-same_key_refl : (k : Key) → same_key k k ≡ true
-same_key_refl (define_key at x) = rw (same_place_refl at) (same_text_refl x)
-same_key_refl (actual_key at i) = rw (same_place_refl at) (eq-eqb i i refl)
+use Rattle.xs_tree.proofs.ListLaws.{get_mapped, get_map}
+use Rattle.xs_flat_laws.proofs.Numbered.{same_key_refl}
+use Rattle.xs_flat_laws.proofs.Pairs.{pairs_join, Pairwise}
 
 among_there : (done : List Key) (k : Key) → In k done → is_key_among done k ≡ true
 among_there [] k h = cc
@@ -32,11 +27,6 @@ among_there (j ∷ js) k (zero, e) =
     let t : same_key j k ≡ true = subst (λ x. same_key x k ≡ true) (sym same) (same_key_refl k) in
     rw t refl
 among_there (j ∷ js) k (suc i, e) = or_right (same_key j k) (is_key_among js k) (among_there js k (i, e))
-
-mapped_at : {A B : Type 0} (f : A → B) (xs : List A) (i : ℕ) (y : B) → slice_get (map f xs) i ≡ Some y → (x : A) × (slice_get xs i ≡ Some x) × (f x ≡ y)
-mapped_at f [] i y e = cc
-mapped_at f (x ∷ xs) zero y e = let same : f x ≡ y = cc in (x, refl, same)
-mapped_at f (x ∷ xs) (suc i) y e = mapped_at f xs i y e
 
 abbrev keys_of : List Definition → List Key
 keys_of ds = map (λ (d : Definition). d.key) ds
@@ -53,7 +43,7 @@ module _ (p : ProgramTree) (m : FlatModel) (is : IsFlatOf p m) where
   leaf_below : (i : ℕ) (l : FlatLeaf) (key : Key) (at : Place) (e : Formula) → StandsFor m is.written l (an_expression_at key at e) → IsBefore i l → Below (keys_of is.written) i key
   leaf_below i (flat_variable q) key at e h b = absurd h
   leaf_below i (flat_symbol q) key at e h b = absurd h
-  leaf_below i (flat_definition q) key at e h b = (q, b, map_at (λ (d : Definition). d.key) is.written q _ h)
+  leaf_below i (flat_definition q) key at e h b = (q, b, get_map (λ (d : Definition). d.key) is.written q _ h)
 
   meaning_below : (i : ℕ) (at : Place) (name : Path) (meaning : Meaning) → Means p at name meaning → Known (IsBefore i) (is.resolver at name) → Each (Below (keys_of is.written) i) (keys_of_meaning meaning)
   meaning_below i at name (a_variable_at bt x) h k = tt
@@ -75,7 +65,7 @@ module _ (p : ProgramTree) (m : FlatModel) (is : IsFlatOf p m) where
   needs_below : (i : ℕ) (k : Key) (at : Place) (e : Formula) (needs : List Key) → slice_get (keys_of is.written) i ≡ Some k → expression_of p k ≡ Some (at, e) → AreNamed p at (leaves_in e) needs →
       Each (Below (keys_of is.written) i) needs
   needs_below i k at e needs here x named =
-      let d : (d : Definition) × (slice_get is.written i ≡ Some d) × (d.key ≡ k) = mapped_at (λ (d : Definition). d.key) is.written i k here in
+      let d : (d : Definition) × (slice_get is.written i ≡ Some d) × (d.key ≡ k) = get_mapped (λ (d : Definition). d.key) is.written i k here in
       let f : (f : FlatFormula) × (slice_get m.definitions i ≡ Some f) × IsDefinitionOf p m d.0 f = both_at (IsDefinitionOf p m) is.written m.definitions i d.0 is.placed d.1 in
       let same : (d.0.place ≡ at) × (d.0.written ≡ e) = both_parts d.0.place at d.0.written e (sym f.2.expression ∙ ap (expression_of p) d.2 ∙ x) in
       let r = is.definitions i d.0 d.1 in
@@ -124,7 +114,7 @@ module _ (p : ProgramTree) (m : FlatModel) (is : IsFlatOf p m) where
     added_once : (done : List Key) (k : Key) (a : List Key) → In k (keys_of is.written) → Pairwise OtherKey done → Adds p done k a → Pairwise OtherKey a
     added_once done k a here once (stands h) = once
     added_once done k a here once (comes {after = u} {needs = ks} {at = at} {e = e} h x n r) =
-        pairwise_join OtherKey u (k ∷ [])
+        pairs_join OtherKey u (k ∷ [])
         (all_once done ks u (each_more (Below (keys_of is.written) here.0) (λ j. In j (keys_of is.written)) ks (λ j q. (q.0, q.2)) (needs_below here.0 k at e ks here.1 x n)) once r) (tt, tt)
         (each_from (λ j. Each (OtherKey j) (k ∷ [])) u
         (λ i j f. ((λ same. apart_from_needs (suc here.0) done ks u k at e h x n r here.0 (omega arith) here.1 (i, subst (λ z. slice_get u i ≡ Some z) same f)), tt)))
@@ -135,9 +125,9 @@ module _ (p : ProgramTree) (m : FlatModel) (is : IsFlatOf p m) where
 
   root_there : (i : ℕ) (k : Key) → slice_get (map (λ (r : Root). r.key) (roots_of p)) i ≡ Some k → In k (keys_of is.written)
   root_there i k e =
-      let r : (r : Root) × (slice_get (roots_of p) i ≡ Some r) × (r.key ≡ k) = mapped_at (λ (r : Root). r.key) (roots_of p) i k e in
+      let r : (r : Root) × (slice_get (roots_of p) i ≡ Some r) × (r.key ≡ k) = get_mapped (λ (r : Root). r.key) (roots_of p) i k e in
       let d : (d : Definition) × In d is.written × (d.key ≡ r.0.key) = root_written p m is r.0 (i, r.1) in
-      (d.1.0, map_at (λ (d : Definition). d.key) is.written d.1.0 d.0 d.1.1 ∙ ap Some (d.2 ∙ r.2))
+      (d.1.0, get_map (λ (d : Definition). d.key) is.written d.1.0 d.0 d.1.1 ∙ ap Some (d.2 ∙ r.2))
 
   pub keys_differ : KeysDiffer is.written
   keys_differ = of_keys is.written (all_once [] (map (λ (r : Root). r.key) (roots_of p)) (keys_of is.written) (each_from (λ k. In k (keys_of is.written)) (map (λ (r : Root). r.key) (roots_of p)) root_there) tt is.order)

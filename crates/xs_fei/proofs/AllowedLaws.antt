@@ -10,14 +10,13 @@ use Rattle.xs_tree.specs.declared.program.Member.TheVariants as member
 use Rattle.xs_tree.specs.ProgramTree.{Text}
 use Rattle.xs_tree.specs.Values.{Value, truth, number, symbol, same_value, same_int}
 use Rattle.xs_tree.specs.Texts.{same_text}
-use Rattle.xs_tree.specs.Trace.{is_member}
-use Rattle.xs_tree.proofs.ValueLaws.{same_text_refl, same_int_equal}
-use Rattle.xs_fei.specs.Templates.{member_value}
-use Rattle.xs_fei.proofs.TemplateLaws.{bool_same, same_value_refl}
+use Rattle.xs_tree.specs.Trace.{is_member, value_of_member}
+use Rattle.xs_tree.proofs.ValueLaws.{same_text_refl, same_int_equal, same_value_refl}
 use Rattle.xs_tree.proofs.OneTree.{same_text_equal}
+use Rattle.xs_value.proofs.BoolLaws.{bool_same}
 
 -- a member that is the value, or a later one
-member_first : (m : Member) (ms : List Member) (v : Value) → is_member (m ∷ ms) v ≡ (same_value (member_value m) v || is_member ms v)
+member_first : (m : Member) (ms : List Member) (v : Value) → is_member (m ∷ ms) v ≡ (same_value (value_of_member m) v || is_member ms v)
 member_first (member.Number n) ms (truth b) = refl
 member_first (member.Number n) ms (number k) = refl
 member_first (member.Number n) ms (symbol y) = refl
@@ -26,7 +25,7 @@ member_first (member.Symbol z) ms (number k) = refl
 member_first (member.Symbol z) ms (symbol y) = refl
 
 pub member_more : (ms : List Member) (v : Value) (i : ℕ) (d : Member) → i < length ms →
-    is_member (drop i ms) v ≡ (same_value (member_value (get_or ms i d)) v || is_member (drop (i + 1) ms) v)
+    is_member (drop i ms) v ≡ (same_value (value_of_member (get_or ms i d)) v || is_member (drop (i + 1) ms) v)
 member_more ms v i d h = ap (λ ns. is_member ns v) (drop_more ms i d h) ∙ member_first (get_or ms i d) (drop (i + 1) ms) v
 
 -- an element that passes, or a later one

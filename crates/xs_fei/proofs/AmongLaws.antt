@@ -2,8 +2,9 @@
 use Rattle.std.proofs.Common.{inl, inr, ◌↔◌, List, [], ◌∷◌, ◌++◌, refl, subst}
 use Rattle.std.specs.Prelude.{map, flat_map}
 use Rattle.xs_tree.specs.Trace.{Each}
-use Rattle.xs_fei.proofs.Equivalence.{iff_trans, iff_refl, iff_both}
+use Rattle.xs_fei.proofs.Equivalence.{iff_refl, iff_both}
 use Rattle.xs_fei.specs.Weavable.{Among}
+use Rattle.xs_tree.proofs.BoolLaws.{iff_trans}
 
 pub each_mono : {A : Type 0} (P Q : A → Type 0) (xs : List A) → ((x : A) → Among xs x → P x → Q x) → Each P xs → Each Q xs
 each_mono P Q [] f h = tt

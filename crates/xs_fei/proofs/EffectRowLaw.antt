@@ -12,9 +12,9 @@ use Rattle.xs_fei.specs.Effects.{Allows, IsRamp}
 use Rattle.xs_fei.specs.Templates.{branch, erroneous_rule, frozen_rule, pick_rule, ramp_rule, frozen_first, ramp_first, rules, first_rules}
 use Rattle.xs_fei.specs.Types.{IsKnown, IsUniform}
 use Rattle.xs_fei.specs.EffectLaw.{SliceLeaves, stands_at, MayStand, Gives, RuleHolds, FirstRuleHolds, EffectLaw, FirstEffectLaw}
-use Rattle.xs_fei.proofs.Equivalence.{iff_refl, iff_trans, iff_sym, iff_both}
-use Rattle.xs_fei.proofs.TemplateLaws.{is_state}
+use Rattle.xs_fei.proofs.Equivalence.{iff_refl, iff_both}
 use Rattle.xs_fei.proofs.EffectRows.{BranchAllows, RuleNow, RuleStep, Fits, row, branch_gives, erroneous_value, frozen_value, pick_value, ramp_value, frozen_first_value, ramp_first_value, equal_value, differs_value}
+use Rattle.xs_tree.proofs.BoolLaws.{iff_trans, iff_sym}
 
 -- one value decides
 pub gives_value : (now next : Leaves Path) (e : Formula) (vs : Values) (x : Value) → evaluate now next e ≡ Some vs → Gives now next e x ↔ IsTrue (has vs x)
@@ -27,7 +27,7 @@ gives_test now next e b h = iff_trans (gives_value now next e (one (truth b)) (t
     test true = ((λ h. refl), (λ h. refl))
     test false = ((λ h. cc), (λ h. cc))
 
-stands_is : (st : ModeState) (m : Text) → stands_at st m ≡ is_state st m
+stands_is : (st : ModeState) (m : Text) → stands_at st m ≡ stands_at st m
 stands_is None m = refl
 stands_is (Some n) m = refl
 
@@ -62,7 +62,7 @@ module _ (s : SliceTree) (type : DeclaredTree) (mode : Text) (now next : Leaves 
           iff_trans (gives_value next next (branch e type s.target) gives.0 x gives.1) (gives.2 x)
       go (inr f) = subst (λ g. Gives next next (branch g type s.target) x ↔ BranchAllows g (Gives next next) type own x) (sym f.1) iff_refl
 
-  stands_now : is_state (Some mode) mode ≡ true
+  stands_now : stands_at (Some mode) mode ≡ true
   stands_now = same_text_refl mode
 
   simplify : (a b : Bool) → a ≡ true → (opposite a || b) ≡ b
@@ -82,7 +82,7 @@ module _ (s : SliceTree) (type : DeclaredTree) (mode : Text) (now next : Leaves 
   number_in (range lo hi) (truth b) d f h q = cc
   number_in (range lo hi) (symbol z) d f h q = cc
 
-  rules_law : (e : EffectTree) → MayStand e type → Each (RuleHolds now next) (rules e s.name mode s.target) ↔ (RuleNow e own x × RuleStep e before (opposite (is_state st mode)) x)
+  rules_law : (e : EffectTree) → MayStand e type → Each (RuleHolds now next) (rules e s.name mode s.target) ↔ (RuleNow e own x × RuleStep e before (opposite (stands_at st mode)) x)
   rules_law (stuck_at c) h = ((λ q. (tt, tt)), (λ q. tt))
   rules_law (follows f) h = ((λ q. (tt, tt)), (λ q. tt))
   rules_law inverted h = ((λ q. (tt, tt)), (λ q. tt))
@@ -91,17 +91,17 @@ module _ (s : SliceTree) (type : DeclaredTree) (mode : Text) (now next : Leaves 
   rules_law erroneous h =
       let test : Gives next next (erroneous_rule s.name mode s.target) (truth true) ↔ (x ≢ own) =
       iff_trans (gives_test next next (erroneous_rule s.name mode s.target) (opposite (same_value x own))
-      (erroneous_value s type next next x own (Some mode) l' uniform dx dw mode known other ∙ ap (λ b. Some (one (truth b))) (simplify (is_state (Some mode) mode) (opposite (same_value x own)) stands_now))) (differs_value x own) in
+      (erroneous_value s type next next x own (Some mode) l' uniform dx dw mode known other ∙ ap (λ b. Some (one (truth b))) (simplify (stands_at (Some mode) mode) (opposite (same_value x own)) stands_now))) (differs_value x own) in
       ((λ q. (test.0 q.0, tt)), (λ q. (test.1 q.0, tt)))
   rules_law frozen h =
       let test : Gives now next (frozen_rule s.name mode s.target) (truth true) ↔ (x ≡ before) =
       iff_trans (gives_test now next (frozen_rule s.name mode s.target) (same_value x before)
-      (frozen_value s type now next before own_before x own st (Some mode) l l' uniform db dx mode known other ∙ ap (λ b. Some (one (truth b))) (simplify (is_state (Some mode) mode) (same_value x before) stands_now))) (equal_value x before) in
+      (frozen_value s type now next before own_before x own st (Some mode) l l' uniform db dx mode known other ∙ ap (λ b. Some (one (truth b))) (simplify (stands_at (Some mode) mode) (same_value x before) stands_now))) (equal_value x before) in
       ((λ q. (tt, test.0 q.0)), (λ q. (test.1 q.1, tt)))
   rules_law stuck_at_pick h =
-      let test : Gives now next (pick_rule s.name mode s.target) (truth true) ↔ (opposite (is_state st mode) ≡ false → same_value x before ≡ true) =
-      iff_trans (gives_test now next (pick_rule s.name mode s.target) (opposite (is_state st mode && is_state (Some mode) mode) || same_value x before)
-      (pick_value s type now next before own_before x own st (Some mode) l l' uniform db dx mode known other)) (simplify_both (is_state st mode) (is_state (Some mode) mode) (same_value x before) stands_now) in
+      let test : Gives now next (pick_rule s.name mode s.target) (truth true) ↔ (opposite (stands_at st mode) ≡ false → same_value x before ≡ true) =
+      iff_trans (gives_test now next (pick_rule s.name mode s.target) (opposite (stands_at st mode && stands_at (Some mode) mode) || same_value x before)
+      (pick_value s type now next before own_before x own st (Some mode) l l' uniform db dx mode known other)) (simplify_both (stands_at st mode) (stands_at (Some mode) mode) (same_value x before) stands_now) in
       ((λ q. (tt, λ n. (equal_value x before).0 (test.0 q.0 n))), (λ q. (test.1 (λ n. (equal_value x before).1 (q.1 n)), tt)))
   rules_law (ramp_down d f) h =
       let b : (n : ℤ) × (before ≡ number n) = number_in type before d f h db in
@@ -109,7 +109,7 @@ module _ (s : SliceTree) (type : DeclaredTree) (mode : Text) (now next : Leaves 
       let test : Gives now next (ramp_rule d f s.name mode s.target) (truth true) ↔ (number y.0 ≡ number (if int_lt f (b.0 -ℤ d) then b.0 -ℤ d else f)) =
       iff_trans (gives_test now next (ramp_rule d f s.name mode s.target) (same_value (number y.0) (number (if int_lt f (b.0 -ℤ d) then b.0 -ℤ d else f)))
       (ramp_value s type now next before own_before x own st (Some mode) l l' uniform db dx mode d f b.0 y.0 known other b.1 y.1
-      ∙ ap (λ c. Some (one (truth c))) (simplify (is_state (Some mode) mode) (same_value (number y.0) (number (if int_lt f (b.0 -ℤ d) then b.0 -ℤ d else f))) stands_now)))
+      ∙ ap (λ c. Some (one (truth c))) (simplify (stands_at (Some mode) mode) (same_value (number y.0) (number (if int_lt f (b.0 -ℤ d) then b.0 -ℤ d else f))) stands_now)))
       (equal_value (number y.0) (number (if int_lt f (b.0 -ℤ d) then b.0 -ℤ d else f))) in (
         (λ q. (tt, subst (λ u. IsRamp d f u x) (sym b.1) (subst (λ u. IsRamp d f (number b.0) u) (sym y.1) (test.0 q.0)))),
         (λ q. (test.1 (subst (λ u. IsRamp d f (number b.0) u) y.1 (subst (λ u. IsRamp d f u x) b.1 q.1)), tt)),
@@ -119,7 +119,7 @@ module _ (s : SliceTree) (type : DeclaredTree) (mode : Text) (now next : Leaves 
       (Gives next next (branch e type s.target) x × Each (RuleHolds now next) (rules e s.name mode s.target)) ↔ Allows e (Gives next next) type own before (opposite (stands_at st mode)) x
   law e h =
       subst (λ b. (Gives next next (branch e type s.target) x × Each (RuleHolds now next) (rules e s.name mode s.target)) ↔ Allows e (Gives next next) type own before (opposite b) x) (sym (stands_is st mode))
-      (iff_trans (iff_both (branch_law e h) (rules_law e h)) (iff_trans regroup (iff_sym (row e (Gives next next) type own before (opposite (is_state st mode)) x dx))))
+      (iff_trans (iff_both (branch_law e h) (rules_law e h)) (iff_trans regroup (iff_sym (row e (Gives next next) type own before (opposite (stands_at st mode)) x dx))))
     where
       regroup : {A B C : Type 0} → (A × (B × C)) ↔ (A × B × C)
       regroup = ((λ h. (h.0, h.1.0, h.1.1)), (λ h. (h.0, (h.1, h.2))))
@@ -132,7 +132,7 @@ effect_law e s type mode now next before own_before own x st known other h unifo
 module _ (s : SliceTree) (type : DeclaredTree) (mode : Text) (now : Leaves Path) (own x : Value)
     (known : IsKnown s (Some mode)) (other : mode ≢ codes "nominal") (uniform : IsUniform type)
     (dw : IsTrue (in_domain type own)) (dx : IsTrue (in_domain type x)) (l : SliceLeaves s type now x own (Some mode)) where
-  stands_here : is_state (Some mode) mode ≡ true
+  stands_here : stands_at (Some mode) mode ≡ true
   stands_here = same_text_refl mode
 
   plain : (a b : Bool) → a ≡ true → (opposite a || b) ≡ b
@@ -158,12 +158,12 @@ module _ (s : SliceTree) (type : DeclaredTree) (mode : Text) (now : Leaves Path)
   first_rules_law erroneous h =
       let test : Gives now now (erroneous_rule s.name mode s.target) (truth true) ↔ (x ≢ own) =
       iff_trans (gives_test now now (erroneous_rule s.name mode s.target) (opposite (same_value x own))
-      (erroneous_value s type now now x own (Some mode) l uniform dx dw mode known other ∙ ap (λ b. Some (one (truth b))) (plain (is_state (Some mode) mode) (opposite (same_value x own)) stands_here))) (differs_value x own) in
+      (erroneous_value s type now now x own (Some mode) l uniform dx dw mode known other ∙ ap (λ b. Some (one (truth b))) (plain (stands_at (Some mode) mode) (opposite (same_value x own)) stands_here))) (differs_value x own) in
       ((λ q. (test.0 q.0.0, tt)), (λ q. ((test.1 q.0, tt), tt)))
   first_rules_law frozen h =
       let test : Gives now now (frozen_first s.name mode s.target) (truth true) ↔ (x ≡ own) =
       iff_trans (gives_test now now (frozen_first s.name mode s.target) (same_value x own)
-      (frozen_first_value s type now now x own (Some mode) l uniform dx dw mode known other ∙ ap (λ b. Some (one (truth b))) (plain (is_state (Some mode) mode) (same_value x own) stands_here))) (equal_value x own) in
+      (frozen_first_value s type now now x own (Some mode) l uniform dx dw mode known other ∙ ap (λ b. Some (one (truth b))) (plain (stands_at (Some mode) mode) (same_value x own) stands_here))) (equal_value x own) in
       ((λ q. (tt, test.0 q.1.0)), (λ q. ((tt, tt), (test.1 q.1, tt))))
   first_rules_law (ramp_down d f) h =
       let b : (n : ℤ) × (own ≡ number n) = a_number type own d f h dw in
@@ -171,7 +171,7 @@ module _ (s : SliceTree) (type : DeclaredTree) (mode : Text) (now : Leaves Path)
       let test : Gives now now (ramp_first d f s.name mode s.target) (truth true) ↔ (number y.0 ≡ number (if int_lt f (b.0 -ℤ d) then b.0 -ℤ d else f)) =
       iff_trans (gives_test now now (ramp_first d f s.name mode s.target) (same_value (number y.0) (number (if int_lt f (b.0 -ℤ d) then b.0 -ℤ d else f)))
       (ramp_first_value s type now now x own (Some mode) l uniform dx dw mode d f b.0 y.0 known other b.1 y.1
-      ∙ ap (λ c. Some (one (truth c))) (plain (is_state (Some mode) mode) (same_value (number y.0) (number (if int_lt f (b.0 -ℤ d) then b.0 -ℤ d else f))) stands_here)))
+      ∙ ap (λ c. Some (one (truth c))) (plain (stands_at (Some mode) mode) (same_value (number y.0) (number (if int_lt f (b.0 -ℤ d) then b.0 -ℤ d else f))) stands_here)))
       (equal_value (number y.0) (number (if int_lt f (b.0 -ℤ d) then b.0 -ℤ d else f))) in (
         (λ q. (tt, subst (λ u. IsRamp d f u x) (sym b.1) (subst (λ u. IsRamp d f (number b.0) u) (sym y.1) (test.0 q.1.0)))),
         (λ q. ((tt, tt), (test.1 (subst (λ u. IsRamp d f (number b.0) u) y.1 (subst (λ u. IsRamp d f u x) b.1 q.1)), tt))),

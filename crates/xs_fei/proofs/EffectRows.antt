@@ -7,15 +7,15 @@ use Rattle.xs_tree.specs.ProgramTree.{Text, Path, Formula, DeclaredTree, boolean
 use Rattle.xs_tree.specs.Values.{Value, truth, number, symbol, Values, one, has, same_value, opposite}
 use Rattle.xs_tree.specs.Evaluate.{Leaves, evaluate, gives_choice}
 use Rattle.xs_tree.specs.Trace.{in_domain}
-use Rattle.xs_tree.proofs.ValueLaws.{same_value_equal}
+use Rattle.xs_tree.proofs.ValueLaws.{same_value_equal, same_value_refl}
 use Rattle.xs_fei.specs.Instructions.{EffectTree, stuck_at, follows, inverted, random, erroneous, frozen, stuck_at_pick, offset, ramp_down, SliceTree}
 use Rattle.xs_fei.specs.AddedNames.{ModeState}
 use Rattle.xs_fei.specs.Effects.{Allows, clipped, IsOffset, IsRamp, IsInverse}
 use Rattle.xs_fei.specs.AddedNames.{own_name}
 use Rattle.xs_fei.specs.Templates.{named, number_tree, domain_tree, clipped_tree, branch, greater_tree, stands, stands_next, stays_tree, frozen_first, ramp_first}
 use Rattle.xs_fei.specs.Types.{IsKnown, IsUniform}
-use Rattle.xs_fei.specs.EffectLaw.{SliceLeaves}
-use Rattle.xs_fei.proofs.TemplateLaws.{same_value_refl, one_has, is_state, same_state, number_value, domain_values, domain_has, domain_value, constant_gives, compared}
+use Rattle.xs_fei.specs.EffectLaw.{SliceLeaves, stands_at}
+use Rattle.xs_fei.proofs.TemplateLaws.{one_has, same_state, number_value, domain_values, domain_has, domain_value, constant_gives, compared}
 
 -- the part of an effect's row that its branch says
 abbrev pub BranchAllows : EffectTree → (Formula → Value → Type 0) → DeclaredTree → Value → Value → Type 0
@@ -144,13 +144,13 @@ module _ (s : SliceTree) (type : DeclaredTree) (now next : Leaves Path) (read ow
 
 -- the test of a mode
 module _ (s : SliceTree) (type : DeclaredTree) (now next : Leaves Path) (read own : Value) (st : ModeState) (l : SliceLeaves s type now read own st) where
-  pub stands_value : (m : Text) → IsKnown s (Some m) → m ≢ codes "nominal" → evaluate now next (stands s.name m) ≡ Some (one (truth (is_state st m)))
+  pub stands_value : (m : Text) → IsKnown s (Some m) → m ≢ codes "nominal" → evaluate now next (stands s.name m) ≡ Some (one (truth (stands_at st m)))
   stands_value m known h = rw (l.mode_leaf, l.symbol_leaves (Some m) known) (ap (λ b. Some (one (truth b))) (same_state s.name st m h))
 
 -- over two moments
 module _ (s : SliceTree) (type : DeclaredTree) (now next : Leaves Path) (read own read' own' : Value) (st st' : ModeState)
     (l : SliceLeaves s type now read own st) (l' : SliceLeaves s type next read' own' st') (uniform : IsUniform type) (d : IsTrue (in_domain type read)) (d' : IsTrue (in_domain type read')) where
-  pub stands_next_value : (m : Text) → IsKnown s (Some m) → m ≢ codes "nominal" → evaluate now next (stands_next s.name m) ≡ Some (one (truth (is_state st' m)))
+  pub stands_next_value : (m : Text) → IsKnown s (Some m) → m ≢ codes "nominal" → evaluate now next (stands_next s.name m) ≡ Some (one (truth (stands_at st' m)))
   stands_next_value m known h = rw (l'.mode_leaf, l.symbol_leaves (Some m) known) (ap (λ b. Some (one (truth b))) (same_state s.name st' m h))
 
   pub stays_value : evaluate now next (stays_tree s.target) ≡ Some (one (truth (same_value read' read)))
@@ -158,17 +158,17 @@ module _ (s : SliceTree) (type : DeclaredTree) (now next : Leaves Path) (read ow
 
   -- what the TRANS of a mode gives, for the modes that have one
   pub frozen_value : (m : Text) → IsKnown s (Some m) → m ≢ codes "nominal" →
-      evaluate now next (binary op.Implies (stands_next s.name m) (stays_tree s.target)) ≡ Some (one (truth (opposite (is_state st' m) || same_value read' read)))
+      evaluate now next (binary op.Implies (stands_next s.name m) (stays_tree s.target)) ≡ Some (one (truth (opposite (stands_at st' m) || same_value read' read)))
   frozen_value m known h = rw (stands_next_value m known h, stays_value) refl
 
   pub pick_value : (m : Text) → IsKnown s (Some m) → m ≢ codes "nominal" →
       evaluate now next (binary op.Implies (binary op.And (stands s.name m) (stands_next s.name m)) (stays_tree s.target))
-      ≡ Some (one (truth (opposite (is_state st m && is_state st' m) || same_value read' read)))
+      ≡ Some (one (truth (opposite (stands_at st m && stands_at st' m) || same_value read' read)))
   pick_value m known h = rw (stands_value s type now next read own st l m known h, stands_next_value m known h, stays_value) refl
 
   pub ramp_value : (m : Text) (k f n n' : ℤ) → IsKnown s (Some m) → m ≢ codes "nominal" → read ≡ number n → read' ≡ number n' →
       evaluate now next (binary op.Implies (stands_next s.name m) (binary op.Equal (next_of (named s.target)) (greater_tree (binary op.Minus (named s.target) (number_tree k)) f)))
-      ≡ Some (one (truth (opposite (is_state st' m) || same_value (number n') (number (if int_lt f (n -ℤ k) then n -ℤ k else f)))))
+      ≡ Some (one (truth (opposite (stands_at st' m) || same_value (number n') (number (if int_lt f (n -ℤ k) then n -ℤ k else f)))))
   ramp_value m k f n n' known h e e' =
       let difference : evaluate now next (binary op.Minus (named s.target) (number_tree k)) ≡ Some (one (number (n -ℤ k))) = rw (l.read_leaf, e, number_value now next k) refl in
       rw (stands_next_value m known h, l'.read_leaf, e', greater_value now next (binary op.Minus (named s.target) (number_tree k)) (n -ℤ k) f difference) refl
@@ -178,17 +178,17 @@ module _ (s : SliceTree) (type : DeclaredTree) (now next : Leaves Path) (read ow
     (l : SliceLeaves s type now read own st) (uniform : IsUniform type) (d : IsTrue (in_domain type read)) (o : IsTrue (in_domain type own)) where
   pub erroneous_value : (m : Text) → IsKnown s (Some m) → m ≢ codes "nominal" →
       evaluate now next (binary op.Implies (stands s.name m) (binary op.Differs (named s.target) (named (own_name s.target))))
-      ≡ Some (one (truth (opposite (is_state st m) || opposite (same_value read own))))
+      ≡ Some (one (truth (opposite (stands_at st m) || opposite (same_value read own))))
   erroneous_value m known h = rw (stands_value s type now next read own st l m known h, l.read_leaf, l.own_leaf, (compared type read own uniform d o).1) refl
 
   -- and at a first moment
   pub frozen_first_value : (m : Text) → IsKnown s (Some m) → m ≢ codes "nominal" →
-      evaluate now next (frozen_first s.name m s.target) ≡ Some (one (truth (opposite (is_state st m) || same_value read own)))
+      evaluate now next (frozen_first s.name m s.target) ≡ Some (one (truth (opposite (stands_at st m) || same_value read own)))
   frozen_first_value m known h = rw (stands_value s type now next read own st l m known h, l.read_leaf, l.own_leaf, (compared type read own uniform d o).0) refl
 
   pub ramp_first_value : (m : Text) (k f n n' : ℤ) → IsKnown s (Some m) → m ≢ codes "nominal" → own ≡ number n → read ≡ number n' →
       evaluate now next (ramp_first k f s.name m s.target)
-      ≡ Some (one (truth (opposite (is_state st m) || same_value (number n') (number (if int_lt f (n -ℤ k) then n -ℤ k else f)))))
+      ≡ Some (one (truth (opposite (stands_at st m) || same_value (number n') (number (if int_lt f (n -ℤ k) then n -ℤ k else f)))))
   ramp_first_value m k f n n' known h e e' =
       let difference : evaluate now next (binary op.Minus (named (own_name s.target)) (number_tree k)) ≡ Some (one (number (n -ℤ k))) = rw (l.own_leaf, e, number_value now next k) refl in
       rw (

@@ -11,7 +11,7 @@ use Rattle.xs_tree.specs.Spells.{plain_int, minus_int}
 use Rattle.xs_tree.specs.SpellsProgram.{SpellsMany, no_more, one_more}
 use Rattle.xs_tree.proofs.Ends.{end_of_bracket}
 use Rattle.xs_tree.proofs.OneTree.{Same, not_reserved, one_int, regrouped, second, tails}
-use Rattle.xs_tree.proofs.OneParts.{OneBefore, Any, Nothing, Semicolon, semicolon_stops, one_expr, one_many, words_differ}
+use Rattle.xs_tree.proofs.OneParts.{OneBefore, Any, Nothing, Semicolon, semicolon_stops, one_expr, one_many, words_differ, Braced}
 use Rattle.xs_fei.specs.Instructions.{EffectTree, ModeTree, SliceTree, ExtensionTree, InstructionTree}
 use Rattle.xs_fei.specs.SpellsInstructions.{SpellsConst, const_true, const_false, const_int, const_name, SpellsEffect, e_stuck, e_follows, e_inverted, e_random, e_erroneous, e_frozen, e_pick, e_offset, e_ramp, SpellsDynamics, d_permanent, d_transient, SpellsGuard, no_guard, a_guard, IsTokenText, number_text, word_text, sign_of, SpellsMark, no_mark, a_mark, SpellsMode, a_mode, SpellsStart, at_nominal, at_any, SpellsSlice, a_slice, SpellsExtension, an_extension, SpellsInstructions, unnamed, named}
 
@@ -130,7 +130,7 @@ one_guard xs ys a b r s (a_guard {ts = x0} {g = m} p) (a_guard {ts = y0} {g = n}
     (rw inner.0 refl, rw inner.1 refl, inner.2)
 
 -- a token of a mark, and its text
-abbrev OneToken : List Lexeme → Text → Type 0
+abbrev pub OneToken : List Lexeme → Text → Type 0
 OneToken us x = (t : Lexeme) × (us ≡ t ∷ []) × IsTokenText t x
 
 one_text : (t t' : Lexeme) (x y : Text) → t ≡ t' → IsTokenText t x → IsTokenText t' y → x ≡ y
@@ -150,10 +150,6 @@ one_token xs ys a b r s (t, is, p) (t', is', q) e u v =
     let heads : t ≡ t' = cc in
     let tails : r ≡ s = cc in
     (is ∙ (ap (λ z. z ∷ []) heads ∙ sym is'), one_text t t' a b heads p q, tails)
-
-abbrev Braced : List Lexeme → Type 0
-Braced (sign k.CloseBrace ∷ ts) = Unit {0}
-Braced _ = ⊥
 
 no_brace : (t : Lexeme) (x : Text) (z : List Lexeme) → IsTokenText t x → Braced (t ∷ z) → ⊥
 no_brace t x z number_text h = h

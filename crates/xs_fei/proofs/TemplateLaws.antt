@@ -6,45 +6,24 @@ use Rattle.xs_tree.specs.declared.program.Member.{Member}
 use Rattle.xs_tree.specs.declared.program.Member.TheVariants as member
 use Rattle.xs_tree.specs.Tree.{binary, negate, number as is_number}
 use Rattle.xs_tree.specs.ProgramTree.{Text, Path, DeclaredTree, boolean, range, members, instance}
-use Rattle.xs_tree.specs.Values.{Value, truth, number, symbol, Values, no_value, one, from_to, either, has, same_value, same_int, same_bool, opposite, apply}
+use Rattle.xs_tree.specs.Values.{Value, truth, number, symbol, Values, no_value, one, from_to, either, has, same_value, same_int, opposite, apply}
 use Rattle.xs_tree.specs.Texts.{same_text}
 use Rattle.xs_tree.specs.Evaluate.{Leaves, evaluate, evaluate_trees}
-use Rattle.xs_tree.specs.Trace.{Each, in_domain, is_member}
-use Rattle.xs_tree.proofs.ValueLaws.{same_text_refl, same_value_equal}
+use Rattle.xs_tree.specs.Trace.{Each, in_domain, is_member, value_of_member}
+use Rattle.xs_tree.proofs.ValueLaws.{same_text_refl, same_value_equal, same_value_refl}
 use Rattle.xs_fei.specs.AddedNames.{ModeState, mode_symbol}
-use Rattle.xs_fei.specs.Templates.{number_tree, value_tree, member_value, member_trees, domain_tree}
+use Rattle.xs_fei.specs.Templates.{number_tree, value_tree, member_trees, domain_tree}
 use Rattle.xs_fei.specs.Types.{IsUniform, IsNumberMember, IsSymbolMember}
 use Rattle.xs_fei.proofs.AddedNameLaws.{mode_symbol_same, nominal_symbol_same}
 use Rattle.xs_tree.proofs.OneTree.{same_text_equal}
-
-pub bool_same : (a b : Bool) → (a ≡ true → b ≡ true) → (b ≡ true → a ≡ true) → a ≡ b
-bool_same true true h k = refl
-bool_same true false h k = sym (h refl)
-bool_same false true h k = k refl
-bool_same false false h k = refl
-
-pub same_bool_refl : (a : Bool) → same_bool a a ≡ true
-same_bool_refl true = refl
-same_bool_refl false = refl
-
-pub nat_refl : (n : ℕ) → nat_eq n n ≡ true
-nat_refl n = grind arith
-
-pub same_value_refl : (a : Value) → same_value a a ≡ true
-same_value_refl (truth a) = same_bool_refl a
-same_value_refl (number (pos n)) = nat_refl n
-same_value_refl (number (negsuc n)) = nat_refl n
-same_value_refl (symbol a) = same_text_refl a
+use Rattle.xs_tree.proofs.BoolLaws.{or_cases}
+use Rattle.xs_value.proofs.BoolLaws.{bool_same}
+use Rattle.xs_fei.specs.EffectLaw.{stands_at}
 
 pub one_has : (a x : Value) → IsTrue (has (one a) x) ↔ (x ≡ a)
 one_has a x = ((λ h. sym (same_value_equal a x h)), (λ e. subst (λ y. same_value a y ≡ true) (sym e) (same_value_refl a)))
 
--- the mode of this name stands
-abbrev pub is_state : ModeState → Text → Bool
-is_state None m = false
-is_state (Some n) m = same_text n m
-
-pub same_state : (s : Text) (st : ModeState) (m : Text) → m ≢ codes "nominal" → same_text (mode_symbol s st) (mode_symbol s (Some m)) ≡ is_state st m
+pub same_state : (s : Text) (st : ModeState) (m : Text) → m ≢ codes "nominal" → same_text (mode_symbol s st) (mode_symbol s (Some m)) ≡ stands_at st m
 same_state s None m h = bool_same _ _ (λ e. absurd (h (nominal_symbol_same s m (same_text_equal _ _ e)))) (λ e. cc)
 same_state s (Some n) m h =
     bool_same _ _ (λ e. subst (λ k. same_text n k ≡ true) (mode_symbol_same s n m (same_text_equal _ _ e)) (same_text_refl n))
@@ -66,7 +45,7 @@ number_value now next (negsuc n) = go (nat_eq n 2147483647) refl
 -- the values of a domain
 abbrev pub members_values : List Member → Values
 members_values [] = no_value
-members_values (m ∷ ms) = either (one (member_value m)) (members_values ms)
+members_values (m ∷ ms) = either (one (value_of_member m)) (members_values ms)
 
 abbrev pub domain_values : DeclaredTree → Values
 domain_values boolean = either (one (truth false)) (either (one (truth true)) no_value)
@@ -106,14 +85,10 @@ domain_value now next (range lo hi) h = refl
 domain_value now next (members ms) h = members_give now next ms (h ms refl)
 domain_value now next (instance m actuals) h = refl
 
-pub or_cases' : (a b : Bool) → (a || b) ≡ true → (a ≡ true) ⊎ (b ≡ true)
-or_cases' true b h = inl refl
-or_cases' false b h = inr h
-
 member_leaf : (now : Leaves Path) (ms : List Member) (y : Text) → is_member ms (symbol y) ≡ true → MemberLeaves now ms → now (y ∷ []) ≡ Some (one (symbol y))
 member_leaf now [] y h l = cc
 member_leaf now (member.Number n ∷ ms) y h l = member_leaf now ms y h l.1
-member_leaf now (member.Symbol z ∷ ms) y h l = go (or_cases' _ _ h) (λ m. member_leaf now ms y m l.1)
+member_leaf now (member.Symbol z ∷ ms) y h l = go (or_cases _ _ h) (λ m. member_leaf now ms y m l.1)
   where
     go : (same_text z y ≡ true) ⊎ (is_member ms (symbol y) ≡ true) → (is_member ms (symbol y) ≡ true → now (y ∷ []) ≡ Some (one (symbol y))) → now (y ∷ []) ≡ Some (one (symbol y))
     go (inl e) more = l.0 y (ap member.Symbol (same_text_equal z y e))

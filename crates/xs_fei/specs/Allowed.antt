@@ -4,9 +4,8 @@ use Rattle.std.specs.List.{list_any}
 use Rattle.xs_tree.specs.declared.program.Member.{Member}
 use Rattle.xs_tree.specs.ProgramTree.{DeclaredTree, boolean, range, members, instance}
 use Rattle.xs_tree.specs.Values.{Value, truth, number, symbol, opposite, same_value, at_most, is_between}
-use Rattle.xs_tree.specs.Trace.{in_domain}
+use Rattle.xs_tree.specs.Trace.{in_domain, value_of_member}
 use Rattle.xs_fei.specs.Instructions.{EffectTree, stuck_at, follows, inverted, random, erroneous, frozen, stuck_at_pick, offset, ramp_down}
-use Rattle.xs_fei.specs.Templates.{member_value}
 use Rattle.xs_fei.specs.declared.fault.EffectFault.{EffectFault}
 use Rattle.xs_fei.specs.declared.fault.EffectFault.TheVariants.{WrongKind, Outside, OneValueOnly}
 
@@ -20,7 +19,7 @@ same_kind _ _ = false
 -- an enumeration has the kind of its first member
 abbrev pub kind_of_members : List Member → Value → Bool
 kind_of_members [] v = false
-kind_of_members (m ∷ ms) v = same_kind (member_value m) v
+kind_of_members (m ∷ ms) v = same_kind (value_of_member m) v
 
 -- the value is of the kind of the type's values
 abbrev pub is_of_kind : DeclaredTree → Value → Bool
@@ -31,7 +30,7 @@ is_of_kind (instance m actuals) v = false
 
 -- some member differs from the first
 abbrev pub differs : Member → Member → Bool
-differs m n = opposite (same_value (member_value m) (member_value n))
+differs m n = opposite (same_value (value_of_member m) (value_of_member n))
 
 -- some member is another value than the first
 abbrev pub members_differ : List Member → Bool

@@ -9,6 +9,7 @@ use Rattle.xs_tree.specs.ProgramTree.{Text, Path, Formula, DeclaredTree, boolean
 use Rattle.xs_tree.specs.Values.{Value, truth, number, symbol}
 use Rattle.xs_fei.specs.Instructions.{EffectTree, stuck_at, follows, inverted, random, erroneous, frozen, stuck_at_pick, offset, ramp_down}
 use Rattle.xs_fei.specs.AddedNames.{own_name, mode_variable, mode_symbol}
+use Rattle.xs_tree.specs.Trace.{value_of_member}
 
 -- the single name
 abbrev pub named : Text → Formula
@@ -26,14 +27,9 @@ value_tree (truth b) = is_truth b
 value_tree (number n) = number_tree n
 value_tree (symbol x) = named x
 
--- the value of a member
-abbrev pub member_value : Member → Value
-member_value (member.Number n) = number n
-member_value (member.Symbol x) = symbol x
-
 -- the members in written order
 abbrev pub member_trees : List Member → Trees Path
-member_trees ms = trees_from (map (λ m. value_tree (member_value m)) ms)
+member_trees ms = trees_from (map (λ m. value_tree (value_of_member m)) ms)
 
 -- the set of a domain
 abbrev pub domain_tree : DeclaredTree → Formula

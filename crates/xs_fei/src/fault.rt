@@ -6,9 +6,8 @@ ghost use Rattle.std.specs.List.{list_any};
 ghost use Rattle.xs_tree.specs.ProgramTree.{declared_tree};
 ghost use Rattle.xs_tree.specs.Values.{same_value, is_between, at_most, opposite, number};
 ghost use Rattle.xs_tree.specs.Texts.{same_text};
-ghost use Rattle.xs_tree.specs.Trace.{in_domain, is_member};
+ghost use Rattle.xs_tree.specs.Trace.{in_domain, is_member, value_of_member};
 ghost use Rattle.xs_fei.specs.Instructions.{effect_tree, constant_value};
-ghost use Rattle.xs_fei.specs.Templates.{member_value};
 ghost use Rattle.xs_fei.specs.Allowed.{kind_of_members, is_of_kind as is_of_kind_of, differs as differs_from, members_differ, has_two_values as has_two_values_of, is_small as is_small_number, offset_fits as offset_fits_in, ramp_fits as ramp_fits_in, constant_fault, inverted_fault, offset_fault, ramp_fault, fault_of};
 
 use crate::{Constant, Effect};
@@ -219,7 +218,7 @@ fn is_listed(members: &[Member], c: &Constant) -> bool
 /// Whether the member is this constant.
 #[tactic(auto, using(crate::proofs::AllowedLaws::same_int_test))]
 fn is_constant(member: &Member, c: &Constant) -> bool
-    ensures { result ≡ same_value (member_value member.now) (constant_value c.now) }
+    ensures { result ≡ same_value (value_of_member member.now) (constant_value c.now) }
 {
     match (member, c) {
         (Member::Number(n), Constant::Number(k)) => *n == *k,

@@ -8,7 +8,8 @@ ghost use Rattle.xs_tree.specs.Written.{tree_of};
 ghost use Rattle.xs_fei.specs.Instructions.{effect_tree, constant_value};
 ghost use Rattle.xs_fei.specs.AddedNames.{own_name as own_name_of};
 ghost use Rattle.xs_fei.specs.Numbers.{HasNegation, ValueHasNegation, MemberHasNegation, EffectHasNegations, TypeHasNegations};
-ghost use Rattle.xs_fei.specs.Templates.{named as named_tree, number_tree, value_tree, member_value, domain_tree, clipped_tree, branch as branch_of};
+ghost use Rattle.xs_fei.specs.Templates.{named as named_tree, number_tree, value_tree, domain_tree, clipped_tree, branch as branch_of};
+ghost use Rattle.xs_tree.specs.Trace.{value_of_member};
 
 use crate::build::{binary, choice, named, not, number, set_of_two};
 use crate::names::own_name;
@@ -98,7 +99,7 @@ fn constant(alloc: Global, c: &Constant) -> Result<Expr<Dotted>, OutOfMemory>
 /// A member of a type, as an expression.
 fn member(alloc: Global, member: &Member) -> Result<Expr<Dotted>, OutOfMemory>
     requires { MemberHasNegation member.now }
-    ensures { IfOk result (λ made. tree_of made ≡ value_tree (member_value member.now)) }
+    ensures { IfOk result (λ made. tree_of made ≡ value_tree (value_of_member member.now)) }
 {
     match member {
         Member::Number(n) => number(alloc, *n),
@@ -109,7 +110,7 @@ fn member(alloc: Global, member: &Member) -> Result<Expr<Dotted>, OutOfMemory>
 /// The members of a type, as expressions.
 fn members(alloc: Global, members: &[Member]) -> Result<ExprList<Dotted>, OutOfMemory>
     requires { All MemberHasNegation members.now }
-    ensures { IfOk result (λ made. map tree_of made ≡ map (λ m. value_tree (member_value m)) members.now) }
+    ensures { IfOk result (λ made. map tree_of made ≡ map (λ m. value_tree (value_of_member m)) members.now) }
 {
     let mut made = Items::new(alloc);
     for one in members {

@@ -5,7 +5,7 @@ use Rattle.xs_tree.specs.Tree.{Tree}
 use Rattle.xs_tree.specs.ProgramTree.{Path, ProgramTree, program_tree}
 use Rattle.xs_tree.specs.Values.{Value}
 use Rattle.xs_tree.specs.Trace.{Each}
-use Rattle.xs_tree.specs.ModelTree.{flat_tree}
+use Rattle.xs_tree.specs.ModelTree.{flat_tree, place_of, name_of_fault}
 use Rattle.xs_flat_laws.specs.FaultModes.{mode_of}
 use Rattle.xs_tree.specs.declared.model.Fault.{Fault}
 use Rattle.xs_tree.specs.declared.model.FlatModel.{FlatModel as Made}
@@ -25,7 +25,7 @@ use Rattle.xs_encode_laws.specs.Encodable.{IsEncodable}
 use Rattle.xs_encode_laws.proofs.FlatEncodable.{flat_models_encodable}
 use Rattle.xs_cut_laws.specs.Searchable.{IsSearchable}
 use Rattle.xs_cut_laws.proofs.Fitting.{few_faults}
-use Rattle.xs_extend.specs.WovenFaults.{place_of, fault_tree}
+use Rattle.xs_extend.specs.WovenFaults.{fault_tree}
 use Rattle.xs_extend.specs.NumberedFaults.{parts_of, AreNumbered}
 use Rattle.xs_extend.specs.declared.faults.WovenFault.{WovenFault}
 use Rattle.xs_text_laws.specs.Laws.{IsNamed}
@@ -49,7 +49,7 @@ use Rattle.xs_cause_laws.specs.Staged.{with_causes, events_of}
 use Rattle.xs_cause_laws.specs.KindLaws.{IsShortCause}
 use Rattle.xs_cause_laws.proofs.ShortCauses.{short_causes}
 use Rattle.xs_staging.specs.declared.cause.Cause.{Cause}
-use Rattle.xs_staging.specs.CauseOf.{cause_of, told_name, told_cause}
+use Rattle.xs_staging.specs.CauseOf.{cause_of, told_cause}
 use Rattle.xs_causes_reader.specs.FaultPaths.{paths_of}
 use Rattle.xs_causes_reader.specs.Read.{AreNamed as AreFaultNames}
 use Rattle.xs_reach_laws.specs.CausedLaws.{CanHaveCauses, IsSearchableStaged, AreNamed}
@@ -108,7 +108,7 @@ module _ (p : ProgramTree) (l : LoadedCase) (is : IsLoaded p l) where
   pub faults_named : AreFaultNames l.limited.faults (map fault_tree l.limited.woven.faults)
   faults_named = paths_are l.limited.typed.model l.limited.woven.faults l.limited.faults is.numbered
 
-  pub events_told : (cs : List Cause) (events : List Fault) → map told_name events ≡ map told_name l.limited.faults ++ map told_cause cs → AreToldEvents (faults_in l) (map cause_of cs) events
+  pub events_told : (cs : List Cause) (events : List Fault) → map name_of_fault events ≡ map name_of_fault l.limited.faults ++ map told_cause cs → AreToldEvents (faults_in l) (map cause_of cs) events
   events_told cs events e = e ∙ ap (λ names. names ++ map told_cause cs) faults_named ∙ ap (λ names. map fault_path (faults_in l) ++ names) (causes_told cs)
 
   many : length (map fault_tree l.limited.woven.faults) ≡ length (modes_in l)

@@ -5,7 +5,7 @@ use Rattle.xs_desk.specs.Desk.{said_more, SaysPrefix}
 use Rattle.xs_tree.specs.Tree.{Tree}
 use Rattle.xs_tree.specs.ProgramTree.{Text, Path, Formula, ProgramTree, program_tree}
 use Rattle.xs_tree.specs.Values.{Value}
-use Rattle.xs_tree.specs.ModelTree.{model_tree, flat_tree}
+use Rattle.xs_tree.specs.ModelTree.{model_tree, flat_tree, name_of_fault}
 use Rattle.xs_flat_laws.specs.FaultModes.{mode_of}
 use Rattle.xs_tree.specs.Flat.{FlatLeaf, FlatModel}
 use Rattle.xs_flat_laws.specs.FlatTrace.{IsFlatTrace}
@@ -24,7 +24,7 @@ use Rattle.xs_report_laws.specs.Answered.{ending_of}
 use Rattle.xs_text_laws.specs.AnalysisText.{size_line, analysis_text}
 use Rattle.xs_report.specs.Analysed.{told_analysis}
 use Rattle.xs_text_laws.specs.Analysis.{told_ending}
-use Rattle.xs_report.specs.FaultText.{name_of, faults_text}
+use Rattle.xs_report.specs.FaultText.{faults_text}
 use Rattle.xs_type_laws.specs.Costs.{state_bits}
 use Rattle.xs_cause_laws.specs.Causes.{CommonCause}
 use Rattle.xs_cause_laws.specs.CauseRules.{fault_path}
@@ -115,7 +115,7 @@ cause_path c = c.name ∷ []
 
 -- events are told by the names of the faults, in their order, and then by those of the causes
 abbrev pub AreToldEvents : List Fault → List CommonCause → List Event → Type 0
-AreToldEvents faults causes events = map name_of events ≡ map fault_path faults ++ map cause_path causes
+AreToldEvents faults causes events = map name_of_fault events ≡ map fault_path faults ++ map cause_path causes
 
 -- the extension in memory with its causes, and its events by their names
 pub record IsStagedCase (case : LoadedCase) (l : StagedCase) : Type 0 where
@@ -202,7 +202,7 @@ pub record IsCausesFinding (l : StagedEvent) (depth : ℕ) (f : Conclusion) : Ty
   pub ends : told_ending f.ending ≡ ending_of analysis.end
   pub certified : HasCertificate (staged_in l) (events_in l) (flat_tree l.loaded.top) l.typed.model.symbols analysis analysis.end f.cert
   pub reported : f.report ≡
-      analysis_text (faults_text (map name_of l.events)) (staged_in l) (state_bits (model_tree l.full.model)) (length l.events) analysis.size
+      analysis_text (faults_text (map name_of_fault l.events)) (staged_in l) (state_bits (model_tree l.full.model)) (length l.events) analysis.size
       (told_analysis l.typed.model.symbols analysis.sets analysis.traces analysis.first f.ending)
 
 -- The files hold a case and causes of it, and the word spells a top event: this was found of them.

@@ -7,7 +7,7 @@ ghost use Rattle.xs_tree.specs.ModelTree.{flat_tree};
 ghost use Rattle.xs_cert.specs.Seen.{seen};
 ghost use Rattle.xs_check.specs.Fit.{IsCheckable};
 ghost use Rattle.xs_cuts.specs.declared.answer.End.TheVariants as ends;
-ghost use Rattle.xs_report.specs.Told.{told_trace};
+ghost use Rattle.xs_tree.specs.Told.{told_trace};
 ghost use Rattle.xs_case_search.specs.Found.{IsCertificateFor};
 ghost use Rattle.xs_case_search.specs.Searches.{IsSearched, HasCertificate};
 ghost use Rattle.xs_reach_status.specs.declared.status.Refusal.{Refusal};

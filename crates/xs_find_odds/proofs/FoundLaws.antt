@@ -7,7 +7,7 @@ use Rattle.std.proofs.lemmas.List.Elements.{All-from_recursion}
 use Rattle.xs_tree.specs.Tree.{Tree}
 use Rattle.xs_tree.specs.Trace.{Each}
 use Rattle.xs_tree.specs.ProgramTree.{Text, Formula, ProgramTree}
-use Rattle.xs_tree.specs.ModelTree.{model_tree}
+use Rattle.xs_tree.specs.ModelTree.{model_tree, name_of_fault}
 use Rattle.xs_flat_laws.specs.FaultModes.{mode_of}
 use Rattle.xs_type_laws.specs.Costs.{state_bits}
 use Rattle.xs_tree.specs.Flat.{FlatLeaf}
@@ -26,7 +26,6 @@ use Rattle.xs_odds.proofs.Products.{product_bounded}
 use Rattle.xs_odds.proofs.Sums.{sums_bounded}
 use Rattle.xs_odds.proofs.UnitLemmas.{odds_at_most_one}
 use Rattle.xs_report.specs.FaultText as lines
-use Rattle.xs_report.specs.FaultText.{name_of}
 use Rattle.xs_text_laws.specs.Analysis.{told_ending}
 use Rattle.xs_value.specs.declared.ending.Ending.{Ending as Printed}
 use Rattle.xs_cuts.specs.Answer.{IsAnswer}
@@ -108,13 +107,13 @@ module _ (p : ProgramTree) (l : LoadedCase) (word : Text) (tree : Tree FlatLeaf)
       (each_kept (IsNumbered (length the_case.modes)) (All (λ i. (0 < i) × (i ≤ length odds))) (named_set (length the_case.modes) (length odds) counted) a.sets
       (sets_numbered the_case.flat the_case.modes tree (system_of (whole_of the_case)) (state_of (whole_of the_case)) (inputs_of (whole_of the_case)) size answer.found a.sets answer.sets answer.are))
 
-  fault_lines_are : lines.faults_text (map name_of l.limited.faults) ≡ faults_text (map fault_tree l.limited.woven.faults)
+  fault_lines_are : lines.faults_text (map name_of_fault l.limited.faults) ≡ faults_text (map fault_tree l.limited.woven.faults)
   fault_lines_are = named_lines l.limited.woven.faults l.limited.faults (are_listed l.limited.typed.model l.limited.woven.faults l.limited.faults is.loaded.numbered)
 
   -- an answer with the size of all faults is a finding with its bounds and its report
   pub odds_found : (depth len size : ℕ) (a : Searched) (ending : Printed) (report : Text) → len ≡ length l.limited.faults → size ≡ len →
       IsAnswer the_case.flat the_case.modes tree (system_of (whole_of the_case)) (state_of (whole_of the_case)) (inputs_of (whole_of the_case)) depth size a → told_ending ending ≡ ending_of a.end →
-      report ≡ lines.faults_text (map name_of l.limited.faults) ++ (sets_text a.sets ++ (odds_text odds a.sets ++ ending_line (told_ending ending) (state_bits (model_tree l.limited.full.model)))) →
+      report ≡ lines.faults_text (map name_of_fault l.limited.faults) ++ (sets_text a.sets ++ (odds_text odds a.sets ++ ending_line (told_ending ending) (state_bits (model_tree l.limited.full.model)))) →
       IsOddsFinding the_case word depth odds (record { report = report; ending = ending })
   odds_found depth len size a ending report counts sized answer told printed =
       let c : Case = the_case in

@@ -4,12 +4,12 @@
 ghost use Rattle.std.specs.Prelude.{◌≡◌, ◌≤◌, ◌<◌, ◌++◌, ◌⊎◌, OnErr, All, length, map, IfOk, IfSome, IsErrOf};
 ghost use Rattle.xs_desk.specs.Desk.{Rose};
 ghost use Rattle.xs_tree.specs.ProgramTree.{ProgramTree};
-ghost use Rattle.xs_tree.specs.ModelTree.{model_tree};
+ghost use Rattle.xs_tree.specs.ModelTree.{model_tree, name_of_fault};
 ghost use Rattle.xs_fei.specs.Instructions.{instruction_tree};
 ghost use Rattle.xs_odds.specs.Marks.{HasProbabilities, AreOdds};
 ghost use Rattle.xs_odds.specs.OddsText.{odds_text};
 ghost use Rattle.xs_text_laws.specs.Analysis.{told_ending};
-ghost use Rattle.xs_report.specs.FaultText.{name_of, faults_text};
+ghost use Rattle.xs_report.specs.FaultText.{faults_text};
 ghost use Rattle.xs_type_laws.specs.Costs.{state_bits};
 ghost use Rattle.xs_loading.specs.Loaded.{case_of, IsLoaded};
 ghost use Rattle.xs_loading.specs.LoadedEvents.{case_in};
@@ -203,7 +203,7 @@ fn report_of(
     ending: Ending,
 ) -> Result<ByteList, OutOfMemory>
     requires named { All (All (λ i. (0 < i) × (i ≤ length odds.now))) a.now.sets }
-    ensures { IfOk result (λ text. text ≡ faults_text (map name_of case.now.limited.faults) ++ (sets_text a.now.sets ++ (odds_text odds.now a.now.sets ++ ending_line (told_ending ending) (state_bits (model_tree case.now.limited.full.model))))) }
+    ensures { IfOk result (λ text. text ≡ faults_text (map name_of_fault case.now.limited.faults) ++ (sets_text a.now.sets ++ (odds_text odds.now a.now.sets ++ ending_line (told_ending ending) (state_bits (model_tree case.now.limited.full.model))))) }
 {
     let mut text = print_faults(alloc, &case.limited.faults)?;
     append_sets(alloc, &mut text, a.sets.as_slice())?;

@@ -10,7 +10,6 @@ use Rattle.xs_flat_laws.specs.FaultModes.{mode_of}
 use Rattle.xs_right_laws.specs.Sets.{has_number}
 use Rattle.xs_encode_laws.specs.FlatTraces.{IsNumbered}
 use Rattle.xs_encode_laws.proofs.Numbers.{each_has}
-use Rattle.xs_encode_laws.proofs.NameMeans.{each_joined}
 use Rattle.xs_type_laws.specs.Models.{IsTyped}
 use Rattle.xs_extend.specs.WovenFaults.{fault_tree}
 use Rattle.xs_cause_laws.specs.KindLaws.{AreOfKinds}
@@ -38,6 +37,7 @@ use Rattle.xs_reach_status.specs.declared.stop.Stop.{Stop}
 use Rattle.xs_reach_status.specs.declared.stop.Stop.TheVariants as stops
 use Rattle.xs_reach_status.specs.Statuses.{stop_of}
 use Rattle.xs_find_orders.specs.Pairs.{IsFirstOutside, stage_refusal, RefusesStage, outside, unlawful, RefusesPair, at_model, at_faults, at_set, at_stage, at_top}
+use Rattle.xs_flat_laws.proofs.Conditions.{each_join}
 
 -- a number of the set is that of a fault where all are
 pub number_of_fault : (n : ℕ) (set : List ℕ) (i : ℕ) → IsNumbered n set → IsTrue (has_number set i) → IsFaultNumber n i
@@ -48,7 +48,7 @@ number_of_fault n set i h has =
 pub one_numbered : (n : ℕ) (set : List ℕ) (k : ℕ) → k < length set → IsFaultNumber n (get_or set k 0) → IsNumbered n (take k set) → IsNumbered n (take (k + 1) set)
 one_numbered n set k within is h =
     let P : ℕ → Type 0 = λ j. (1 ≤ j) × (j ≤ n) in
-    subst (IsNumbered n) (sym (take_more set k 0 within)) (each_joined P (take k set) (get_or set k 0 ∷ []) h ((is.counts, is.within), tt))
+    subst (IsNumbered n) (sym (take_more set k 0 within)) (each_join P (take k set) (get_or set k 0 ∷ []) h ((is.counts, is.within), tt))
 
 -- a list around a place
 around : (set : List ℕ) (k : ℕ) → k < length set → set ≡ take k set ++ get_or set k 0 ∷ drop (suc k) set

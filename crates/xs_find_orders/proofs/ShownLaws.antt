@@ -1,5 +1,5 @@
 -- What the traces of a search over a staged case show: extended traces, their relation, and the values that are printed.
-use Rattle.std.proofs.Common.{◌≡◌, ℕ, suc, ◌+◌, ◌-◌, Bool, true, List, [], ◌∷◌, ◌++◌, length, map, take, Some, None, refl, sym, ap, subst, ◌∙◌, arith}
+use Rattle.std.proofs.Common.{◌≡◌, ℕ, suc, ◌+◌, ◌-◌, Bool, List, [], ◌∷◌, ◌++◌, length, map, take, Some, None, refl, sym, ap, subst, ◌∙◌, arith}
 use Rattle.std.specs.Prelude.{slice_get}
 use Rattle.std.proofs.lemmas.List.{length-map, length-append, append-nil}
 use Rattle.xs_tree.specs.ProgramTree.{Text}
@@ -12,14 +12,9 @@ use Rattle.xs_flat_laws.specs.History.{Mode}
 use Rattle.xs_flat_laws.specs.FlatTrace.{IsFlatTrace}
 use Rattle.xs_encode_laws.specs.FlatTraces.{ReachesTop, last_of}
 use Rattle.xs_certificate_laws.specs.ExtendedTraces.{IsFlatCut}
-use Rattle.xs_report.specs.Told.{told_trace}
-use Rattle.xs_report.specs.Analysed.{told_traces}
+use Rattle.xs_tree.specs.Told.{told_trace}
 use Rattle.xs_value.specs.declared.ending.Ending.TheVariants as printed
 use Rattle.xs_cuts.specs.Values.{value_of, values_of, trace_of}
-use Rattle.xs_cuts.specs.declared.answer.Analysis.{Analysis}
-use Rattle.xs_cuts.specs.declared.answer.End.TheVariants.{Complete}
-use Rattle.xs_report_laws.proofs.Printed.{answers_printed}
-use Rattle.xs_text_laws.specs.Analysis.{Analysis as Told}
 use Rattle.xs_orders.specs.declared.Relation.{Relation}
 use Rattle.xs_orders.specs.Stage.{stage}
 use Rattle.xs_orders.specs.Told.{told_relation}
@@ -33,7 +28,8 @@ use Rattle.xs_find_orders.specs.Pairs.{IsStagedCase}
 use Rattle.xs_find_orders.specs.Orders.{Relates, Differ}
 use Rattle.xs_find_orders.specs.Claimed.{IsTraceAgainst, is_true_value, relation_of_last, relation_in}
 use Rattle.xs_find_orders.proofs.AskedLaws.{the_model, the_faults, at_stage}
-use Rattle.xs_cuts.proofs.PathLemmas.{take_mapped as map_take}
+use Rattle.xs_cuts.proofs.PathLemmas.{cut_read}
+use Rattle.xs_case_search.proofs.Made.{same_told}
 
 -- ---- the relation that values tell
 
@@ -81,22 +77,6 @@ module _ (symbols : List Text) where
 
 -- ---- the values that are printed
 
-taken : (symbols : List Text) (n : ℕ) (trace : List (List Numbered)) → trace_of symbols (map (take n) trace) ≡ map (take n) (trace_of symbols trace)
-taken symbols n [] = refl
-taken symbols n (v ∷ vs) = both (map_take (value_of symbols) n v) (taken symbols n vs)
-  where
-    both : {x y : List Value} {xs ys : List (List Value)} → x ≡ y → xs ≡ ys → (x ∷ xs) ≡ (y ∷ ys)
-    both e g = cc
-
-one_of : (a b : List (List Value)) → (a ∷ []) ≡ (b ∷ []) → a ≡ b
-one_of a b e = cc
-
-same_told : (symbols : List Text) (trace : List (List Numbered)) → told_trace symbols trace ≡ trace_of symbols trace
-same_told symbols trace =
-    let a : Analysis = record { sets = []; traces = trace ∷ []; first = true; end = Complete []; size = 0 } in
-    let shown : told_traces symbols (trace ∷ []) ≡ trace_of symbols trace ∷ [] = ap (λ (x : Told). x.shown) (answers_printed symbols a printed.Complete refl) in
-    one_of (told_trace symbols trace) (trace_of symbols trace) shown
-
 -- the staged model has the symbols of the case
 staged_symbols : (m : FlatModel) (fs : List Mode) (i j : ℕ) → (stage m fs i j).symbols ≡ m.symbols
 staged_symbols m fs i j = append-nil (m.symbols ++ []) ∙ append-nil m.symbols
@@ -131,7 +111,7 @@ module _ (s : StagedCase) (is : IsStagedCase s) where
       sym (own_kept c.flat c.modes (the_faults s is).f (the_faults s is).g x.flat x.is_flat)
       ∙ ap (map (take (length c.flat.variables))) (sym x.told)
       ∙ ap (λ k. map (take k) (long_of trace)) (sym own)
-      ∙ sym (taken s.typed.model.symbols n trace)
+      ∙ sym (cut_read s.typed.model.symbols n trace)
       ∙ ap (λ ys. trace_of ys (map (take n) trace)) symbols
       ∙ sym (same_told s.loaded.case.limited.typed.model.symbols (map (take n) trace))
 

@@ -6,7 +6,7 @@ ghost use Rattle.std.specs.Fmt.{decimal};
 ghost use Rattle.xs_tree.specs.ModelTree.{model_tree};
 ghost use Rattle.xs_text_laws.specs.TraceText.{trace_text};
 ghost use Rattle.xs_text_laws.specs.Analysis.{told_ending};
-ghost use Rattle.xs_report.specs.Told.{told_trace};
+ghost use Rattle.xs_tree.specs.Told.{told_trace};
 ghost use Rattle.xs_find_orders.specs.Orders.{claimed, either, claim_word, order_text, reach_text, traces_text};
 ghost use Rattle.xs_find_orders.specs.Claimed.{is_true_value, relation_at as relation_at_end, relation_in};
 

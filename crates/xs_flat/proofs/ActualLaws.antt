@@ -5,12 +5,11 @@ use Rattle.std.specs.declared.alloc.Global.{Global}
 use Rattle.xs_tree.specs.Tree.{leaf}
 use Rattle.xs_tree.specs.ProgramTree.{Text, Path, ModuleTree, ProgramTree}
 use Rattle.xs_tree.specs.Scope.{Place, find_module, kind_at, module_of_kind}
-use Rattle.xs_tree.specs.Trace.{IsInstance}
+use Rattle.xs_tree.specs.Trace.{IsInstance, EachBoth}
 use Rattle.xs_tree.specs.Flat.{FlatInstance}
 use Rattle.xs_flat_laws.specs.Items.{instances_of}
 use Rattle.xs_flat_laws.specs.Looks.{ActualsMean}
 use Rattle.xs_flat_laws.specs.Rules.{IsWalkable, IsAccepted}
-use Rattle.xs_flat_laws.specs.Model.{EachBoth}
 use Rattle.xs_flat_laws.proofs.Sections.{AreInstances}
 use Rattle.xs_flat_laws.proofs.Places.{are_instances}
 use Rattle.xs_flat_laws.proofs.Variables.{both_at}

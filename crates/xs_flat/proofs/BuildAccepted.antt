@@ -1,11 +1,11 @@
 -- What the rules give at each item of each instance of an accepted program.
-use Rattle.std.proofs.Common.{◌≡◌, ℕ, zero, suc, true, false, List, [], ◌∷◌, ◌++◌, Some, refl, sym, ◌∙◌, ap, subst, inl, inr}
+use Rattle.std.proofs.Common.{◌≡◌, ℕ, zero, suc, true, false, List, [], ◌∷◌, ◌++◌, Some, refl, ◌∙◌, ap, subst}
 use Rattle.std.specs.Prelude.{slice_get, map, flat_map}
 use Rattle.xs_tree.specs.ProgramTree.{Text, Formula, DeclaredTree, boolean, range, members, instance, DeclTree, DefineTree, AssignmentTree, ModuleTree, ProgramTree}
 use Rattle.xs_tree.specs.declared.program.Moment.{Moment}
 use Rattle.xs_tree.specs.declared.program.Moment.TheVariants.{Always, First, After}
 use Rattle.xs_tree.specs.Scope.{Place, Role, state, input, frozen_role, Kind, a_formal, a_variable, a_define, an_instance, undeclared, kind_declared, kind_in, kind_at, module_at, find_module, nth_formula, a_variable_at, Means, means_in, by_kind}
-use Rattle.xs_tree.specs.Trace.{Each, AtSome, IsInstance}
+use Rattle.xs_tree.specs.Trace.{Each, IsInstance}
 use Rattle.xs_tree.specs.Flat.{FlatInstance}
 use Rattle.xs_flat_laws.specs.Resolved.{has_next}
 use Rattle.xs_flat_laws.specs.Items.{a_declaration, a_definition, an_assignment, NumberedItem, items_of, items_named, visits, instances_of}
@@ -20,16 +20,6 @@ use Rattle.xs_flat_laws.proofs.Places.{facts_named, are_instances}
 use Rattle.xs_flat_laws.proofs.Walkable.{accepted_walkable, main_is_there}
 use Rattle.xs_scope.proofs.HeadKinds.{kind_of_definition}
 use Rattle.std.proofs.lemmas.Bool.{true_from_ne_false as not_false, or_right as or_true}
-
--- Lists.
-pub each_not : {A : Type 0} (P : A → Type 0) (xs : List A) → (AtSome P xs → ⊥) → Each (λ x. P x → ⊥) xs
-each_not P [] h = tt
-each_not P (x ∷ xs) h = ((λ q. h (inl q)), each_not P xs (λ q. h (inr q)))
-
-pub some_at : {A : Type 0} (P : A → Type 0) (xs : List A) (i : ℕ) (x : A) → slice_get xs i ≡ Some x → P x → AtSome P xs
-some_at P [] i x e h = cc
-some_at P (y ∷ xs) zero x e h = let same : y ≡ x = cc in inl (subst P (sym same) h)
-some_at P (y ∷ xs) (suc i) x e h = inr (some_at P xs i x e h)
 
 pub nth_slice : (es : List Formula) (i : ℕ) → nth_formula es i ≡ slice_get es i
 nth_slice [] i = refl

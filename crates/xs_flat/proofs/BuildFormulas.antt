@@ -9,12 +9,12 @@ use Rattle.xs_tree.specs.Tree.{Tree, truth, number, leaf, not_of, negate, next_o
 use Rattle.xs_tree.specs.ProgramTree.{Text, Path, Formula, DeclaredTree, boolean, range, members, instance, ProgramTree}
 use Rattle.xs_tree.specs.Leaves.{tree_map}
 use Rattle.xs_tree.specs.Scope.{Place, state, input, frozen_role, Meaning, a_variable_at, Means}
-use Rattle.xs_tree.specs.Trace.{Each}
+use Rattle.xs_tree.specs.Trace.{Each, EachBoth}
 use Rattle.xs_tree.specs.Flat.{FlatLeaf, flat_variable, flat_symbol, flat_definition, FlatInstance, FlatFormula, FlatModel}
 use Rattle.xs_flat_laws.specs.Resolved.{StandsFor, IsLeafOf, IsResolved}
 use Rattle.xs_flat_laws.specs.Items.{Item, a_declaration, a_definition, an_assignment, some_constants, an_init, an_invar, a_trans, NumberedItem, items_named, Visit, instances_of, variables_of}
 use Rattle.xs_flat_laws.specs.Rules.{IsAccepted, IsKept, a_use, no_such_name, SomeHasNoValue}
-use Rattle.xs_flat_laws.specs.Model.{Condition, plain, now_among, next_among, kept, assigned_first, assigned_each, assigned_step, kept_declared, Written, written_at, conditions, IsVariableNumber, IsConditionTree, IsFormulaOf, EachBoth, symbols_of}
+use Rattle.xs_flat_laws.specs.Model.{Condition, plain, now_among, next_among, kept, assigned_first, assigned_each, assigned_step, kept_declared, Written, written_at, conditions, IsVariableNumber, IsConditionTree, IsFormulaOf, symbols_of}
 use Rattle.xs_flat_laws.proofs.Resolving.{same_meaning}
 use Rattle.xs_tree.specs.declared.model.Formula.{Formula as FormulaOf}
 use Rattle.xs_scope.specs.declared.walk.Meaning.{Meaning as Found}

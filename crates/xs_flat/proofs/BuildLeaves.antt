@@ -1,17 +1,17 @@
 -- Each name of an accepted program has a leaf, which is what the name means, and which stands before.
-use Rattle.std.proofs.Common.{◌≡◌, ℕ, zero, suc, ◌<◌, Bool, true, false, List, [], ◌∷◌, ◌++◌, length, Some, None, refl, sym, ◌∙◌, ap, subst, arith, inl, inr}
+use Rattle.std.proofs.Common.{◌≡◌, ℕ, suc, ◌<◌, Bool, true, false, List, [], ◌∷◌, ◌++◌, length, Some, None, refl, sym, ◌∙◌, ap, subst, arith, inl, inr}
 use Rattle.std.specs.Prelude.{◌⊎◌, slice_get, map, nat_lt}
 use Rattle.std.proofs.lemmas.Bool.{ltb-false}
 use Rattle.xs_tree.specs.Tree.{Tree, Trees, Branches, truth, number, leaf, not_of, negate, next_of, binary, choice, case_of, set_of, span, no_tree, tree_then, no_branch, branch_then}
 use Rattle.xs_tree.specs.ProgramTree.{Path, Formula, ProgramTree}
 use Rattle.xs_tree.specs.Written.{tree_of}
 use Rattle.xs_tree.specs.Scope.{Place, Key, Meaning, a_variable_at, an_expression_at, an_instance_at, a_symbol, Means}
-use Rattle.xs_tree.specs.Trace.{Each, AtSome}
+use Rattle.xs_tree.specs.Trace.{Each, AtSome, EachBoth}
 use Rattle.xs_tree.specs.Flat.{FlatInstance}
 use Rattle.xs_flat_laws.specs.Resolved.{leaves_in, trees_leaves, branches_leaves}
 use Rattle.xs_flat_laws.specs.Items.{instances_of, variables_of}
 use Rattle.xs_flat_laws.specs.Rules.{IsAccepted, HasNoValue, nothing, only_an_instance, SomeHasNoValue, Needs as NeedsOf, NeedsItself, expression_of}
-use Rattle.xs_flat_laws.specs.Model.{EachBoth, Root, roots_of, symbols_of, is_key_among, same_key}
+use Rattle.xs_flat_laws.specs.Model.{Root, roots_of, symbols_of, is_key_among, same_key}
 use Rattle.xs_flat_laws.proofs.Reaches.{each_left, each_right}
 use Rattle.xs_flat_laws.proofs.Conditions.{each_at, each_from}
 use Rattle.xs_flat_laws.proofs.Variables.{both_at, both_at_second}
@@ -29,18 +29,14 @@ use Rattle.xs_scope.specs.FoundAt.{found_at}
 use Rattle.xs_flat.specs.ResolverOf.{leaf_placed, leaf_found, leaf_at, is_leaf_within, TreeAll, TreesAll, BranchesAll, AreKnown}
 use Rattle.xs_scope.proofs.SceneFound.{scene_found}
 use Rattle.xs_flat.proofs.BuildOrder.{AllAfter, ordered_after, needs_before, one_place}
-use Rattle.xs_flat.proofs.BuildAccepted.{some_at, each_not, IsGoodRoot}
+use Rattle.xs_flat.proofs.BuildAccepted.{IsGoodRoot}
 use Rattle.xs_flat.proofs.BuildRoots.{good_roots, no_come_back}
 use Rattle.xs_flat.proofs.BuildUnique.{one_written}
 use Rattle.xs_flat_laws.proofs.Lists.{each_more, get_within}
 use Rattle.xs_flat_laws.proofs.Listed.{key_equal}
 use Rattle.std.proofs.lemmas.Option.{slice_get_within as get_less}
-use Rattle.xs_scope.proofs.KeyLaws.{map_get as get_mapped}
-
-pub get_map : {A B : Type 0} (f : A → B) (xs : List A) (i : ℕ) (x : A) → slice_get xs i ≡ Some x → slice_get (map f xs) i ≡ Some (f x)
-get_map f [] i x e = cc
-get_map f (y ∷ xs) zero x e = let same : y ≡ x = cc in ap (λ z. Some (f z)) same
-get_map f (y ∷ xs) (suc i) x e = get_map f xs i x e
+use Rattle.xs_tree.proofs.ListLaws.{get_mapped, get_map}
+use Rattle.xs_tree.proofs.EachLaws.{some_at, each_not}
 
 pub less_is : (i n : ℕ) → i < n → nat_lt i n ≡ true
 less_is i n h = by_test (nat_lt i n) refl

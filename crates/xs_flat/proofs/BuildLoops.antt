@@ -13,20 +13,9 @@ use Rattle.xs_scope.specs.SceneTree.{program_of, IsScene, IsSpot, items_of_insta
 use Rattle.xs_flat.specs.ResolverOf.{leaf_at}
 use Rattle.xs_flat.specs.Asked.{asked_item, asked_items, asked_from, item_listed, instance_in, instance_told}
 use Rattle.xs_flat_laws.proofs.Lists.{get_within}
-use Rattle.xs_scope.proofs.SceneNeeds.{both_size}
-
-pub drop_at : {A : Type 0} (xs : List A) (k : ℕ) (x : A) → slice_get xs k ≡ Some x → drop k xs ≡ x ∷ drop (k + 1) xs
-drop_at [] k x e = cc
-drop_at (y ∷ xs) zero x e = let same : y ≡ x = cc in ap (λ z. z ∷ xs) same
-drop_at (y ∷ xs) (suc k) x e =
-    let later : suc (k + 1) ≡ suc k + 1 = omega arith in
-    drop_at xs k x e ∙ ap (λ n. x ∷ drop n (y ∷ xs)) later
-
-drop_past : {A : Type 0} (xs : List A) (k : ℕ) → length xs ≤ k → drop k xs ≡ []
-drop_past [] zero h = refl
-drop_past [] (suc k) h = refl
-drop_past (y ∷ xs) zero h = absurd (omega (arith, h))
-drop_past (y ∷ xs) (suc k) h = drop_past xs k (omega (arith, h))
+use Rattle.xs_value.proofs.ListLaws.{drop_there}
+use Rattle.xs_tree.proofs.ListLaws.{drop_past}
+use Rattle.xs_flat_laws.proofs.BothLaws.{both_size}
 
 get_none : {A : Type 0} (xs : List A) (k : ℕ) → slice_get xs k ≡ None → length xs ≤ k
 get_none [] k e = omega arith
@@ -48,7 +37,7 @@ module _ (s : Scene) (n : Needs) (what : Item → List Condition) where
           let later : length is ≤ k + 1 = omega (arith, past) in
           ap (asked_items s n what spot) (drop_past is k past) ∙ sym (ap (asked_items s n what spot) (drop_past is (k + 1) later))
       by_get (Some i) e =
-          ap (asked_items s n what spot) (drop_at is k i e)
+          ap (asked_items s n what spot) (drop_there is k i e)
           ∙ ap (λ ts. ts ++ asked_items s n what spot (drop (k + 1) is)) (sym (append-nil (asked_item (leaf_at s n spot) spot what i)))
 
   -- the instance of a number, and then the rest
@@ -57,7 +46,7 @@ module _ (s : Scene) (n : Needs) (what : Item → List Condition) where
   spots_step k less =
       let x : (x : FlatInstance) × (slice_get (instances_of (program_of s)) k ≡ Some x) = get_within (instances_of (program_of s)) k less in
       let later : suc k ≡ k + 1 = omega arith in
-      ap (asked_from s n what k) (drop_at (instances_of (program_of s)) k x.0 x.1)
+      ap (asked_from s n what k) (drop_there (instances_of (program_of s)) k x.0 x.1)
       ∙ ap (λ is. asked_items s n what k is ++ asked_from s n what (suc k) (drop (k + 1) (instances_of (program_of s)))) (sym (ap (items_of_instance (program_of s)) x.1))
       ∙ ap (λ j. asked_items s n what k (items_at (program_of s) k) ++ asked_from s n what j (drop (k + 1) (instances_of (program_of s)))) later
 

@@ -8,12 +8,12 @@ use Rattle.xs_tree.specs.ProgramTree.{Text, Formula, ModuleTree}
 use Rattle.xs_tree.specs.Leaves.{tree_map, trees_map, branches_map}
 use Rattle.xs_tree.specs.Written.{tree_of}
 use Rattle.xs_tree.specs.Scope.{Place, Key}
-use Rattle.xs_tree.specs.Trace.{Each}
+use Rattle.xs_tree.specs.Trace.{Each, EachBoth}
 use Rattle.xs_tree.specs.Flat.{FlatInstance, FlatVariable, FlatFormula, FlatModel}
 use Rattle.xs_flat_laws.specs.Resolved.{leaves_in, trees_leaves, branches_leaves, has_next, Definition, IsBefore, IsResolved, AreDefinitions}
 use Rattle.xs_flat_laws.specs.Items.{modules_of, Visit, instances_of, variables_of}
 use Rattle.xs_flat_laws.specs.Rules.{IsAccepted, expression_of}
-use Rattle.xs_flat_laws.specs.Model.{EachBoth, Root, roots_of, symbols_of, AddsAll, IsInstanceNumber, IsVariableOf, IsDefinitionOf, IsFlatOf}
+use Rattle.xs_flat_laws.specs.Model.{Root, roots_of, symbols_of, AddsAll, IsInstanceNumber, IsVariableOf, IsDefinitionOf, IsFlatOf}
 use Rattle.xs_flat_laws.proofs.Conditions.{each_at, each_join}
 use Rattle.xs_flat_laws.proofs.Variables.{both_at, both_at_second}
 use Rattle.xs_flat_laws.proofs.Lists.{get_within}
@@ -38,19 +38,20 @@ use Rattle.xs_scope.specs.NeedsTree.{keys_of, IsKeyAt, AreNeeds}
 use Rattle.xs_scope.specs.Walked.{IsDeclaredBy, AreDeclared}
 use Rattle.xs_flat.specs.ResolverOf.{leaf_at, leaf_by, resolver}
 use Rattle.xs_flat.specs.Asked.{Told, told, asked_defined, asked_definition, AreReady, AreConditionsKnown, conditions_asked, asked_from, instance_in, instance_told}
-use Rattle.xs_scope.proofs.ClosedLaws.{left_true, right_true}
 use Rattle.xs_flat.proofs.BuildAccepted.{IsGoodRoot}
 use Rattle.xs_flat.proofs.BuildRoots.{good_roots}
-use Rattle.xs_flat.proofs.BuildLeaves.{get_map, order, bounds_with, definition_known}
+use Rattle.xs_flat.proofs.BuildLeaves.{order, bounds_with, definition_known}
 use Rattle.xs_scope.proofs.SceneItems.{both_more}
 use Rattle.xs_flat.proofs.BuildSound.{definition_of, keys_of_definitions, definitions, definition_at, sound, resolver_at}
 use Rattle.xs_flat.proofs.BuildFormulas.{all_known, formulas_are, both_are}
-use Rattle.xs_flat_laws.proofs.Kept.{module_named}
-use Rattle.xs_scope.proofs.SceneNeeds.{both_size, both_from}
+use Rattle.xs_scope.proofs.SceneNeeds.{both_from}
 use Rattle.std.proofs.lemmas.Option.{slice_get_within as get_less}
-use Rattle.xs_scope.proofs.KeyLaws.{map_get as get_mapped}
+use Rattle.xs_tree.proofs.ListLaws.{get_mapped, get_map}
+use Rattle.xs_tree.proofs.BoolLaws.{left_true, right_true}
+use Rattle.xs_tree.proofs.ProgramLaws.{found_named}
+use Rattle.xs_flat_laws.proofs.BothLaws.{both_size}
 
-abbrev bounds_made : ℕ → ℕ → ℕ → Bounds
+abbrev pub bounds_made : ℕ → ℕ → ℕ → Bounds
 bounds_made v t d = record { variables = v; symbols = t; definitions = d }
 
 abbrev made_instance : Place → Text → FlatInstance
@@ -142,7 +143,7 @@ module _ (s : Scene) (n : Needs) (is : IsScene s) (needs : AreNeeds (program_of 
   name_there i spot placed =
       let b : (names : Names) × (slice_get s.modules.list.items spot.«module» ≡ Some names) × HasNames placed.tree names =
       both_at HasNames (modules_of (program_of s)) s.modules.list.items spot.«module» placed.tree is.set.modules.list placed.is in
-      let name : b.0.«module».now.name ≡ i.module_name = ap (λ (m : ModuleTree). m.name) b.2.tree ∙ module_named (program_of s) i.module_name placed.tree.tree placed.named in
+      let name : b.0.«module».now.name ≡ i.module_name = ap (λ (m : ModuleTree). m.name) b.2.tree ∙ found_named (program_of s) i.module_name placed.tree.tree placed.named in
       ap (instance_in spot) b.1 ∙ ap (λ x. x ∷ []) (same_instance (place_of spot.path) i.place b.0.«module».now.name i.module_name placed.path name)
     where
       same_instance : (at bt : Place) (x y : Text) → at ≡ bt → x ≡ y → made_instance at x ≡ made_instance bt y

@@ -9,13 +9,13 @@ use Rattle.xs_flat_laws.specs.Rules.{Needs, Leads, NeedsItself, expression_of}
 use Rattle.xs_flat_laws.specs.Model.{keys_of_meaning, AreNamed, same_key, is_key_among, Adds, AddsAll, stands, comes, no_more, one_more}
 use Rattle.xs_flat_laws.proofs.Resolving.{same_meaning}
 use Rattle.xs_flat_laws.proofs.Listed.{key_equal}
-use Rattle.xs_scope.proofs.AddLaws.{same_key_refl}
 use Rattle.std.proofs.lemmas.Bool.{or_right as or_true, or_left}
-use Rattle.xs_scope.proofs.Work.{or_split}
+use Rattle.xs_tree.proofs.BoolLaws.{or_cases}
+use Rattle.xs_flat_laws.proofs.Numbered.{same_key_refl}
 
 pub among_left : (xs ys : List Key) (k : Key) → is_key_among xs k ≡ true → is_key_among (xs ++ ys) k ≡ true
 among_left [] ys k h = cc
-among_left (x ∷ xs) ys k h = by_cases (or_split (same_key x k) (is_key_among xs k) h) (λ e. among_left xs ys k e)
+among_left (x ∷ xs) ys k h = by_cases (or_cases (same_key x k) (is_key_among xs k) h) (λ e. among_left xs ys k e)
   where
     by_cases : (same_key x k ≡ true) ⊎ (is_key_among xs k ≡ true) → (is_key_among xs k ≡ true → is_key_among (xs ++ ys) k ≡ true) → (same_key x k || is_key_among (xs ++ ys) k) ≡ true
     by_cases (inl e) rest = or_left (same_key x k) (is_key_among (xs ++ ys) k) e
@@ -26,12 +26,12 @@ among_last [] k = or_left (same_key k k) false (same_key_refl k)
 among_last (x ∷ xs) k = or_true (same_key x k) (is_key_among (xs ++ k ∷ []) k) (among_last xs k)
 
 pub among_push : (xs : List Key) (j k : Key) → is_key_among (xs ++ j ∷ []) k ≡ true → (is_key_among xs k ≡ true) ⊎ (j ≡ k)
-among_push [] j k h = by_cases (or_split (same_key j k) false h)
+among_push [] j k h = by_cases (or_cases (same_key j k) false h)
   where
     by_cases : (same_key j k ≡ true) ⊎ (false ≡ true) → (false ≡ true) ⊎ (j ≡ k)
     by_cases (inl e) = inr (key_equal j k e)
     by_cases (inr e) = cc
-among_push (x ∷ xs) j k h = by_cases (or_split (same_key x k) (is_key_among (xs ++ j ∷ []) k) h) (λ e. among_push xs j k e)
+among_push (x ∷ xs) j k h = by_cases (or_cases (same_key x k) (is_key_among (xs ++ j ∷ []) k) h) (λ e. among_push xs j k e)
   where
     by_rest : (is_key_among xs k ≡ true) ⊎ (j ≡ k) → ((same_key x k || is_key_among xs k) ≡ true) ⊎ (j ≡ k)
     by_rest (inl e) = inl (or_true (same_key x k) (is_key_among xs k) e)
@@ -82,7 +82,7 @@ module _ (p : ProgramTree) where
   named_only at name (a_variable_at bt x) more other means h = inr h
   named_only at name (an_instance_at bt) more other means h = inr h
   named_only at name (a_symbol x) more other means h = inr h
-  named_only at name (an_expression_at key bt e) more other means h = by_cases (or_split (same_key key other) (is_key_among more other) h)
+  named_only at name (an_expression_at key bt e) more other means h = by_cases (or_cases (same_key key other) (is_key_among more other) h)
     where
       by_cases : (same_key key other ≡ true) ⊎ (is_key_among more other ≡ true) → (Naming at other name) ⊎ (is_key_among more other ≡ true)
       by_cases (inl same) = inl (bt, e, subst (λ k. Means p at name (an_expression_at k bt e)) (key_equal key other same) means)
@@ -134,7 +134,7 @@ module _ (p : ProgramTree) where
 
   module _ (Ok : Key → Type 0) (ok_needs : (k other : Key) → Ok k → Needs p k other → Ok other) (free : (k : Key) → Ok k → NeedsItself p k → ⊥) where
     one_key : (j k : Key) → is_key_among (k ∷ []) j ≡ true → k ≡ j
-    one_key j k h = by_cases (or_split (same_key k j) false h)
+    one_key j k h = by_cases (or_cases (same_key k j) false h)
       where
         by_cases : (same_key k j ≡ true) ⊎ (false ≡ true) → k ≡ j
         by_cases (inl e) = key_equal k j e
@@ -204,7 +204,7 @@ module _ (p : ProgramTree) where
           record {
             good = m.good;
             kept = λ j h. m.kept j (g.kept j h);
-            there = λ j h. there_both k more between after j g.there m.kept m.there (or_split (same_key k j) (is_key_among more j) h);
+            there = λ j h. there_both k more between after j g.there m.kept m.there (or_cases (same_key k j) (is_key_among more j) h);
             led = λ j h. led_both done between k more j g.led (m.led j h);
           }
 

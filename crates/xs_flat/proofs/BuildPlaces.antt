@@ -3,20 +3,13 @@ use Rattle.std.proofs.Common.{◌≡◌, List, [], ◌∷◌}
 use Rattle.std.specs.Prelude.{flat_map, codes}
 use Rattle.xs_tree.specs.ProgramTree.{DeclaredTree, boolean, range, members, instance, ProgramTree}
 use Rattle.xs_tree.specs.Trace.{Each}
-use Rattle.xs_tree.specs.Flat.{FlatInstance}
 use Rattle.xs_flat_laws.specs.Items.{Visit, visits, instance_declared, instances_of_visit, instances_of}
 use Rattle.xs_flat_laws.specs.Rules.{IsWalkable}
 use Rattle.xs_flat_laws.proofs.Conditions.{each_join}
 use Rattle.xs_flat_laws.proofs.Apart.{visits_apart}
 use Rattle.xs_flat_laws.proofs.Walkable.{main_is_there}
-use Rattle.xs_scope.proofs.RootLaws.{visits_places}
-
-abbrev pub OtherPlace : FlatInstance → FlatInstance → Type 0
-OtherPlace i j = i.place ≡ j.place → ⊥
-
-abbrev pub PlacesApart : List FlatInstance → Type 0
-PlacesApart [] = Unit {0}
-PlacesApart (i ∷ is) = Each (OtherPlace i) is × PlacesApart is
+use Rattle.xs_scope.proofs.RootLaws.{visits_places, PlacesApart}
+use Rattle.xs_flat_laws.proofs.KeysApart.{OtherPlace}
 
 main_other : (vs : List Visit) → Each (OtherPlace (record { place = []; module_name = codes "main" })) (flat_map instances_of_visit vs)
 main_other [] = tt

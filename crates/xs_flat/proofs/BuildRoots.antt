@@ -15,10 +15,11 @@ use Rattle.xs_flat_laws.proofs.Conditions.{each_flat, each_at, each_from, each_j
 use Rattle.xs_flat_laws.proofs.KindLaws.{sections_kind, DeclaredBy, declared_by}
 use Rattle.xs_flat_laws.proofs.Places.{In, VisitFacts, there, Walked, walked, in_items, found_at, all_visit_facts}
 use Rattle.xs_flat_laws.proofs.EndLaws.{ended_stays}
-use Rattle.xs_flat.proofs.BuildAccepted.{some_at, nth_slice, next_among, IsGoodRoot, walkable, are, kept_at, ItemAt, item_at, fresh_declared, fresh_defined}
+use Rattle.xs_flat.proofs.BuildAccepted.{nth_slice, next_among, IsGoodRoot, walkable, are, kept_at, ItemAt, item_at, fresh_declared, fresh_defined}
 use Rattle.xs_flat_laws.proofs.Meant.{declares_no_formal, formal_is as formal_named}
-use Rattle.xs_flat_laws.proofs.Kept.{module_named}
 use Rattle.std.proofs.lemmas.Bool.{false_from_ne_true as not_true}
+use Rattle.xs_tree.proofs.EachLaws.{some_at}
+use Rattle.xs_tree.proofs.ProgramLaws.{found_named}
 
 counted : (a b : ℕ) → opposite (nat_eq a b) ≡ false → a ≡ b
 counted a b h = by_test (nat_eq a b) refl
@@ -62,7 +63,7 @@ module _ (p : ProgramTree) (accepted : IsAccepted p) where
       w = walked p (walkable p accepted) x.place t.tree t.is
 
       same : x.module_name ≡ w.name
-      same = sym (module_named p x.module_name t.tree t.found) ∙ module_named p w.name t.tree w.found
+      same = sym (found_named p x.module_name t.tree t.found) ∙ found_named p w.name t.tree w.found
 
       visit : Visit
       visit = record { place = x.place; on_path = w.name ∷ w.on; number = n.number; role = role; decl = d }

@@ -8,7 +8,7 @@ use Rattle.xs_tree.specs.Flat.{FlatLeaf, flat_variable, flat_symbol, flat_defini
 use Rattle.xs_flat_laws.specs.Resolved.{Definition, StandsFor, IsLeafOf, IsSound}
 use Rattle.xs_flat_laws.specs.Items.{instances_of, variables_of}
 use Rattle.xs_flat_laws.specs.Rules.{IsAccepted, expression_of}
-use Rattle.xs_flat_laws.specs.Model.{EachBoth, Root, roots_of, symbols_of, same_place}
+use Rattle.xs_flat_laws.specs.Model.{Root, roots_of, symbols_of, same_place}
 use Rattle.xs_flat_laws.proofs.Variables.{both_at}
 use Rattle.xs_scope.specs.declared.walk.Meaning.{Meaning as Found}
 use Rattle.xs_scope.specs.declared.walk.Meaning.TheVariants as found
@@ -20,11 +20,15 @@ use Rattle.xs_scope.specs.Walked.{IsDeclaredBy}
 use Rattle.xs_scope.specs.FoundAt.{found_at}
 use Rattle.xs_flat.specs.ResolverOf.{leaf_placed, leaf_found, leaf_by, number_from, resolver}
 use Rattle.xs_scope.proofs.SceneFound.{scene_found}
-use Rattle.xs_flat.proofs.BuildPlaces.{OtherPlace, PlacesApart, places_apart}
+use Rattle.xs_flat.proofs.BuildPlaces.{places_apart}
 use Rattle.xs_flat.proofs.BuildAccepted.{walkable}
-use Rattle.xs_flat.proofs.BuildLeaves.{get_map, order}
+use Rattle.xs_flat.proofs.BuildLeaves.{order}
 use Rattle.xs_flat_laws.proofs.Conditions.{each_at}
 use Rattle.xs_flat_laws.proofs.Numbered.{same_place_refl, same_place_equal}
+use Rattle.xs_tree.proofs.ListLaws.{get_map}
+use Rattle.xs_flat_laws.proofs.KeysApart.{OtherPlace}
+use Rattle.xs_tree.specs.Trace.{EachBoth}
+use Rattle.xs_scope.proofs.RootLaws.{PlacesApart}
 
 -- The number of a place.
 pub number_back : (k : ℕ) (is : List FlatInstance) (at : Place) (j : ℕ) → number_from k is at ≡ Some j → (i : ℕ) × (j ≡ k + i) × (x : FlatInstance) × (slice_get is i ≡ Some x) × (x.place ≡ at)

@@ -5,8 +5,8 @@ use Rattle.xs_tree.specs.Scope.{Place, Key}
 use Rattle.xs_flat_laws.specs.Resolved.{leaves_in}
 use Rattle.xs_flat_laws.specs.Rules.{expression_of}
 use Rattle.xs_flat_laws.specs.Model.{AreNamed, is_key_among, Adds, AddsAll, stands, comes, no_more, one_more}
-use Rattle.xs_scope.proofs.Heads.{not_both}
 use Rattle.xs_flat_laws.proofs.OneModel.{named_one}
+use Rattle.xs_tree.proofs.BoolLaws.{not_both}
 
 abbrev Written : Option (Place × Formula) → Place → Formula → Type 0
 Written None at e = ⊥

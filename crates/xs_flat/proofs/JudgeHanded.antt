@@ -10,7 +10,7 @@ use Rattle.xs_tree.specs.Flat.{FlatInstance}
 use Rattle.xs_flat_laws.specs.Items.{a_declaration, NumberedItem}
 use Rattle.xs_flat_laws.specs.Resolved.{has_next}
 use Rattle.xs_flat_laws.specs.Rules.{ActualHasNoMeaning, SomeActualLoops, LoopsInside, some_has_next, a_use}
-use Rattle.xs_flat_laws.proofs.Lists.{get_left, get_end, get_within}
+use Rattle.xs_flat_laws.proofs.Lists.{get_end, get_within}
 use Rattle.xs_scope.specs.Faults.{first_of}
 use Rattle.xs_scope.specs.FoundAt.{formal_at}
 use Rattle.xs_scope.specs.SceneTree.{IsKnown, IsScene, program_of}
@@ -27,8 +27,9 @@ use Rattle.xs_flat.proofs.JudgeItems.{Judges, told_tests, told_item, nowhere}
 use Rattle.xs_flat.proofs.JudgeLists.{take_step, take_end}
 use Rattle.xs_flat.proofs.JudgePlaces.{formal_is}
 use Rattle.xs_flat.proofs.JudgeValues.{one_more}
-use Rattle.std.proofs.lemmas.Option.{slice_get_within as get_less, none-some as none_some, same_Some as some_same}
+use Rattle.std.proofs.lemmas.Option.{slice_get_within as get_less, none-some as none_some}
 use Rattle.xs_scope.proofs.NamingItems.{tree_there as mapped_at}
+use Rattle.xs_value.proofs.ListLaws.{push_get, get_left}
 
 -- each actual has a formal
 formal_there : (actuals : List Formula) (formals : List Text) (index : ℕ) (e : Formula) → slice_get actuals index ≡ Some e → length actuals ≡ length formals → (x : Text) × (slice_get formals index ≡ Some x)
@@ -105,16 +106,6 @@ next_more (f ∷ es) e = ap (λ b. has_next f || b) (next_more es e) ∙ sym (or
     or_more true b c = refl
     or_more false b c = refl
 
-split_get : {A : Type 0} (xs : List A) (x : A) (i : ℕ) (y : A) → slice_get (xs ++ x ∷ []) i ≡ Some y → (slice_get xs i ≡ Some y) ⊎ ((i ≡ length xs) × (x ≡ y))
-split_get [] x zero y e = inr (refl, some_same x y e)
-split_get [] x (suc i) y e = absurd (none_some y e)
-split_get (z ∷ xs) x zero y e = inl e
-split_get (z ∷ xs) x (suc i) y e = by_rest (split_get xs x i y e)
-  where
-    by_rest : (slice_get xs i ≡ Some y) ⊎ ((i ≡ length xs) × (x ≡ y)) → (slice_get (z ∷ xs) (suc i) ≡ Some y) ⊎ ((suc i ≡ length (z ∷ xs)) × (x ≡ y))
-    by_rest (inl h) = inl h
-    by_rest (inr h) = inr (ap (λ n. suc n) h.0, h.1)
-
 circles_more : (p : ProgramTree) (inside : Place) (m : ModuleTree) (es : List Formula) (e : Formula) (a b : Bool) → (a ≡ true) ↔ SomeActualLoops p inside m es →
     (b ≡ true) ↔ LoopsAt p inside m (length es) e → ((a || b) ≡ true) ↔ SomeActualLoops p inside m (es ++ e ∷ [])
 circles_more p inside m es e a b h k = (to a b h k, from)
@@ -137,7 +128,7 @@ circles_more p inside m es e a b h k = (to a b h k, from)
     right false b t = t
 
     from : SomeActualLoops p inside m (es ++ e ∷ []) → (a || b) ≡ true
-    from l = by_place (split_get es e l.index l.actual l.is_actual)
+    from l = by_place (push_get es e l.index l.actual l.is_actual)
       where
         by_place : (slice_get es l.index ≡ Some l.actual) ⊎ ((l.index ≡ length es) × (e ≡ l.actual)) → (a || b) ≡ true
         by_place (inl q) = left a b (h.1 (record { index = l.index; formal = l.formal; actual = l.actual; is_formal = l.is_formal; is_actual = q; loops = l.loops }))

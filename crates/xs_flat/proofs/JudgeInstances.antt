@@ -1,5 +1,5 @@
 -- The items of an instance one after another, and the instances one after another.
-use Rattle.std.proofs.Common.{◌≡◌, ℕ, zero, suc, ◌+◌, ◌<◌, ◌≤◌, arith, List, [], ◌∷◌, ◌++◌, length, take, Option, Some, None, map, refl, sym, ◌∙◌, ap, subst, Bor}
+use Rattle.std.proofs.Common.{◌≡◌, ℕ, zero, suc, ◌+◌, ◌<◌, ◌≤◌, List, [], ◌∷◌, ◌++◌, length, take, Option, Some, None, map, refl, sym, ◌∙◌, ap, subst, Bor}
 use Rattle.std.specs.Prelude.{slice_get, flat_map, option_map, IfSome}
 use Rattle.std.proofs.lemmas.List.{take_all}
 use Rattle.xs_tree.specs.ProgramTree.{ProgramTree}
@@ -21,11 +21,8 @@ use Rattle.xs_flat.specs.declared.judge.Times.{Times}
 use Rattle.xs_scope.specs.declared.names.Scene.{Scene}
 use Rattle.xs_flat.proofs.JudgePlaces.{HasSpot, has_spot}
 use Rattle.xs_flat.proofs.BuildLoops.{many_spots}
-use Rattle.xs_scope.proofs.NamingItems.{take_there}
 use Rattle.std.proofs.lemmas.Option.{none-some as none_some, same_Some as some_same}
-
-next_take : {A : Type 0} (xs : List A) (k : ℕ) (x : A) → slice_get xs k ≡ Some x → take (k + 1) xs ≡ take k xs ++ x ∷ []
-next_take xs k x e = let one : k + 1 ≡ suc k = omega arith in ap (λ n. take n xs) one ∙ take_there xs k x e
+use Rattle.xs_tree.proofs.ListLaws.{take_next}
 
 split_at : {A : Type 0} (xs : List A) (k : ℕ) (x : A) → slice_get xs k ≡ Some x → (after : List A) × (xs ≡ take k xs ++ x ∷ after)
 split_at [] k x e = absurd (none_some x e)
@@ -130,7 +127,7 @@ one_more_item s scene spot place es new within h so_far at at_spot = record {
     i = there_is (program_of s) spot place at at_spot within
 
     step : items_to (program_of s) at (place + 1) ≡ items_to (program_of s) at place ++ i.0 ∷ []
-    step = next_take (items_named (program_of s) at.module_name) place i.0 i.1
+    step = take_next (items_named (program_of s) at.module_name) place i.0 i.1
 
     before : ItemsSoFar (program_of s) at place es
     before = so_far at at_spot
@@ -187,7 +184,7 @@ sites_joined p (x ∷ xs) ys = ap (λ ss. map (a_use x) (items_named p x.module_
 
 pub one_more_instance : (s : Scene) → IsScene s → (spot : ℕ) → spot < length s.spots.items → IsInstanceTold (program_of s) spot None → InstancesSoFar (program_of s) spot → InstancesSoFar (program_of s) (spot + 1)
 one_more_instance s scene spot within h so_far =
-    subst (λ ats. Each (IsKept (program_of s)) (sites_of (program_of s) ats)) (sym (next_take (instances_of (program_of s)) spot at.0 at.1))
+    subst (λ ats. Each (IsKept (program_of s)) (sites_of (program_of s) ats)) (sym (take_next (instances_of (program_of s)) spot at.0 at.1))
     (subst (Each (IsKept (program_of s))) (sym (sites_joined (program_of s) (take spot (instances_of (program_of s))) (at.0 ∷ [])))
     (each_join (IsKept (program_of s)) (sites_of (program_of s) (take spot (instances_of (program_of s)))) (sites_of (program_of s) (at.0 ∷ [])) so_far
     (each_join (IsKept (program_of s)) (map (a_use at.0) (items_named (program_of s) at.0.module_name)) [] (h at.0 at.1) tt)))

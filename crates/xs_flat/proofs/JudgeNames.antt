@@ -3,11 +3,11 @@ use Rattle.std.proofs.Common.{◌≡◌, ℕ, Bool, true, List, [], ◌∷◌, S
 use Rattle.std.specs.Prelude.{◌↔◌, IsTrue, slice_get, flat_map, codes}
 use Rattle.xs_tree.specs.ProgramTree.{Text, Path, Formula, DeclaredTree, boolean, range, members, instance, ModuleTree, ProgramTree}
 use Rattle.xs_tree.specs.Scope.{Place, a_variable, kind_declared, kind_at, module_at, Key, Meaning, a_variable_at, an_expression_at, an_instance_at, a_symbol, Means, find_module}
-use Rattle.xs_tree.specs.Trace.{Each}
+use Rattle.xs_tree.specs.Trace.{Each, EachBoth}
 use Rattle.xs_flat_laws.specs.Items.{Visit, visits, variable_declared, variables_of}
 use Rattle.xs_flat_laws.specs.Looks.{MeansNothing, MeetsLoop}
 use Rattle.xs_flat_laws.specs.Rules.{HasNoValue, nothing, only_an_instance, ReadsInput, GivesInput, is_input_kind, IsWalkable}
-use Rattle.xs_flat_laws.specs.Model.{Root, roots_of, EachBoth}
+use Rattle.xs_flat_laws.specs.Model.{Root, roots_of}
 use Rattle.xs_flat_laws.proofs.Conditions.{each_join, each_at}
 use Rattle.xs_flat_laws.proofs.Places.{Real, has_main}
 use Rattle.xs_flat_laws.proofs.Variables.{both_at}
@@ -21,10 +21,11 @@ use Rattle.xs_scope.specs.declared.needs.Needs.{Needs}
 use Rattle.xs_scope.specs.declared.walk.Meaning.{Meaning as Found}
 use Rattle.xs_scope.specs.declared.walk.Meaning.TheVariants as found
 use Rattle.xs_flat.proofs.JudgeLists.{never}
-use Rattle.xs_scope.proofs.KeyLaws.{same_means, get_map}
+use Rattle.xs_scope.proofs.KeyLaws.{same_means}
 use Rattle.xs_scope.proofs.LookFound.{no_loop_meant}
 use Rattle.std.proofs.lemmas.Option.{none-some as none_some}
 use Rattle.xs_scope.specs.Links.{is_marked, told_mark}
+use Rattle.xs_tree.proofs.ListLaws.{get_map}
 
 pub not_nothing : (p : ProgramTree) (at : Place) (name : Path) (m : Meaning) → Means p at name m → MeansNothing p at name → ⊥
 not_nothing p at name m h k = none_some m (sym (k.no_meaning h.0) ∙ h.1)

@@ -4,12 +4,11 @@ use Rattle.std.specs.Prelude.{slice_get, codes, nat_eq, flat_map, Vec}
 use Rattle.std.specs.declared.alloc.Global.{Global}
 use Rattle.xs_tree.specs.ProgramTree.{Text, Formula, instance, DeclTree, ModuleTree, ProgramTree}
 use Rattle.xs_tree.specs.Scope.{Place, Role, Kind, an_instance, kind_declared, kind_at, module_at, find_module}
-use Rattle.xs_tree.specs.Trace.{IsInstance}
+use Rattle.xs_tree.specs.Trace.{IsInstance, EachBoth}
 use Rattle.xs_tree.specs.Values.{opposite}
 use Rattle.xs_tree.specs.Flat.{FlatInstance}
 use Rattle.xs_flat_laws.specs.Items.{a_declaration, NumberedItem, items_of, items_named, Visit, visits_of, walk, visits, instances_of}
 use Rattle.xs_flat_laws.specs.Rules.{is_other_count, is_miscounted, names_of_item, is_name_again, IsWalkable}
-use Rattle.xs_flat_laws.specs.Model.{EachBoth}
 use Rattle.xs_flat_laws.proofs.Conditions.{each_at}
 use Rattle.xs_flat_laws.proofs.KindLaws.{ItemFacts, kind_of_declaration}
 use Rattle.xs_flat_laws.proofs.Places.{In, facts_named, Walked, in_items, found_at, walked, are_instances}

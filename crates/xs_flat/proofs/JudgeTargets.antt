@@ -3,17 +3,17 @@ use Rattle.std.proofs.Common.{◌≡◌, ℕ, suc, ◌+◌, arith, Bool, true, f
 use Rattle.std.specs.Prelude.{slice_get}
 use Rattle.xs_tree.specs.declared.program.Moment.{Moment}
 use Rattle.xs_tree.specs.declared.program.Moment.TheVariants.{Always, First, After}
-use Rattle.xs_tree.specs.Texts.{same_text}
+use Rattle.xs_tree.specs.Texts.{same_text, first_with}
 use Rattle.xs_tree.specs.ProgramTree.{Text, DeclaredTree, boolean, range, members, instance, ModuleTree, ProgramTree}
 use Rattle.xs_tree.specs.Scope.{Place, a_formal, a_variable, a_define, an_instance, undeclared, Key, define_key, a_variable_at, an_expression_at, an_instance_at, kind_declared, formal_from, kind_after_formals, kind_in, kind_in_sections, kind_at, module_at}
 use Rattle.xs_tree.specs.Flat.{FlatInstance}
 use Rattle.xs_flat_laws.specs.Items.{Item, a_declaration, a_definition, an_assignment, some_constants, an_init, an_invar, a_trans, NumberedItem, items_of, items_named, modules_of, instances_of}
 use Rattle.xs_flat_laws.specs.Rules.{may_be_assigned, is_target, IsWalkable}
-use Rattle.xs_flat_laws.proofs.KindLaws.{kind_of_item, kind_in_items, sections_kind}
+use Rattle.xs_flat_laws.proofs.KindLaws.{kind_of_item, kind_in_items, sections_kind, not_assigned_none}
 use Rattle.xs_flat_laws.proofs.Places.{found_at}
 use Rattle.xs_flat_laws.proofs.Variables.{both_at}
 use Rattle.xs_flat.specs.Assigned.{meant_by, local_meant, may_assign}
-use Rattle.xs_scope.specs.FoundAt.{entry_of, names_of_spot, local_in, local_at, own_at}
+use Rattle.xs_scope.specs.FoundAt.{names_of_spot, local_in, local_at, own_at}
 use Rattle.xs_tree.specs.ModelTree.{role_of}
 use Rattle.xs_scope.specs.SceneTree.{gives_name, formal_entries, item_entries, local_entries, HasNames, Denotes, meaning_of_declared, meaning_of_item, IsOwnMeaning, IsScene, program_of}
 use Rattle.xs_tree.specs.declared.model.Role.TheVariants.{State, Input, Frozen}
@@ -36,11 +36,11 @@ pub data SaysLocal (m : ModuleTree) (x : Text) (o : Option Local) : Type 0 where
 
 -- an item of some items gives the name, or none does
 data SaysItem (k : ℕ) (is : List Item) (x : Text) : Type 0 where
-  at_item : (j : ℕ) (item : Item) → entry_of (item_entries k is) x ≡ Some (local.Item (k + j)) → slice_get is j ≡ Some item → gives_name x item ≡ true →
+  at_item : (j : ℕ) (item : Item) → first_with (item_entries k is) x ≡ Some (local.Item (k + j)) → slice_get is j ≡ Some item → gives_name x item ≡ true →
       kind_in_items is x ≡ kind_of_item item x undeclared → SaysItem k is x
-  at_none : entry_of (item_entries k is) x ≡ None → kind_in_items is x ≡ undeclared → SaysItem k is x
+  at_none : first_with (item_entries k is) x ≡ None → kind_in_items is x ≡ undeclared → SaysItem k is x
 
-skip_item : (k : ℕ) (i : Item) (is : List Item) (x : Text) → entry_of (item_entries k (i ∷ is)) x ≡ entry_of (item_entries (suc k) is) x → kind_in_items (i ∷ is) x ≡ kind_in_items is x →
+skip_item : (k : ℕ) (i : Item) (is : List Item) (x : Text) → first_with (item_entries k (i ∷ is)) x ≡ first_with (item_entries (suc k) is) x → kind_in_items (i ∷ is) x ≡ kind_in_items is x →
     SaysItem (suc k) is x → SaysItem k (i ∷ is) x
 skip_item k i is x entry kind (at_item j item e stands gives q) =
     let next : suc k + j ≡ k + suc j = omega arith in
@@ -56,19 +56,19 @@ items_say k (a_declaration role d ∷ is) x = by_name (same_text d.name x) refl 
   where
     by_name : (b : Bool) → same_text d.name x ≡ b → SaysItem (suc k) is x → SaysItem k (a_declaration role d ∷ is) x
     by_name true t rest =
-        at_item 0 (a_declaration role d) (ap (λ b. if b then Some (local.Item k) else entry_of (item_entries (suc k) is) x) t ∙ ap (λ n. Some (local.Item n)) (here k)) refl t
+        at_item 0 (a_declaration role d) (ap (λ b. if b then Some (local.Item k) else first_with (item_entries (suc k) is) x) t ∙ ap (λ n. Some (local.Item n)) (here k)) refl t
         (ap (λ b. if b then kind_declared role d.what else kind_in_items is x) t ∙ sym (ap (λ b. if b then kind_declared role d.what else undeclared) t))
     by_name false t rest =
-        skip_item k (a_declaration role d) is x (ap (λ b. if b then Some (local.Item k) else entry_of (item_entries (suc k) is) x) t)
+        skip_item k (a_declaration role d) is x (ap (λ b. if b then Some (local.Item k) else first_with (item_entries (suc k) is) x) t)
         (ap (λ b. if b then kind_declared role d.what else kind_in_items is x) t) rest
 items_say k (a_definition d ∷ is) x = by_name (same_text d.name x) refl (items_say (suc k) is x)
   where
     by_name : (b : Bool) → same_text d.name x ≡ b → SaysItem (suc k) is x → SaysItem k (a_definition d ∷ is) x
     by_name true t rest =
-        at_item 0 (a_definition d) (ap (λ b. if b then Some (local.Item k) else entry_of (item_entries (suc k) is) x) t ∙ ap (λ n. Some (local.Item n)) (here k)) refl t
+        at_item 0 (a_definition d) (ap (λ b. if b then Some (local.Item k) else first_with (item_entries (suc k) is) x) t ∙ ap (λ n. Some (local.Item n)) (here k)) refl t
         (ap (λ b. if b then a_define d.value else kind_in_items is x) t ∙ sym (ap (λ b. if b then a_define d.value else undeclared) t))
     by_name false t rest =
-        skip_item k (a_definition d) is x (ap (λ b. if b then Some (local.Item k) else entry_of (item_entries (suc k) is) x) t)
+        skip_item k (a_definition d) is x (ap (λ b. if b then Some (local.Item k) else first_with (item_entries (suc k) is) x) t)
         (ap (λ b. if b then a_define d.value else kind_in_items is x) t) rest
 items_say k (an_assignment a ∷ is) x = skip_item k (an_assignment a) is x refl refl (items_say (suc k) is x)
 items_say k (some_constants xs ∷ is) x = skip_item k (some_constants xs) is x refl refl (items_say (suc k) is x)
@@ -78,8 +78,8 @@ items_say k (a_trans e ∷ is) x = skip_item k (a_trans e) is x refl refl (items
 
 -- a formal has the name, or what comes after the formals is looked at
 data SaysFormal (k : ℕ) (fs : List Text) (es : List (Text × Local)) (x : Text) : Type 0 where
-  at_formal : (i : ℕ) → formal_from k fs x ≡ Some i → entry_of (formal_entries k fs ++ es) x ≡ Some (local.Formal i) → SaysFormal k fs es x
-  after_formals : formal_from k fs x ≡ None → entry_of (formal_entries k fs ++ es) x ≡ entry_of es x → SaysFormal k fs es x
+  at_formal : (i : ℕ) → formal_from k fs x ≡ Some i → first_with (formal_entries k fs ++ es) x ≡ Some (local.Formal i) → SaysFormal k fs es x
+  after_formals : formal_from k fs x ≡ None → first_with (formal_entries k fs ++ es) x ≡ first_with es x → SaysFormal k fs es x
 
 formals_say : (k : ℕ) (fs : List Text) (es : List (Text × Local)) (x : Text) → SaysFormal k fs es x
 formals_say k [] es x = after_formals refl refl
@@ -87,33 +87,33 @@ formals_say k (y ∷ fs) es x = by_name (same_text y x) refl (formals_say (suc k
   where
     by_name : (b : Bool) → same_text y x ≡ b → SaysFormal (suc k) fs es x → SaysFormal k (y ∷ fs) es x
     by_name true t rest =
-        at_formal k (ap (λ b. if b then Some k else formal_from (suc k) fs x) t) (ap (λ b. if b then Some (local.Formal k) else entry_of (formal_entries (suc k) fs ++ es) x) t)
+        at_formal k (ap (λ b. if b then Some k else formal_from (suc k) fs x) t) (ap (λ b. if b then Some (local.Formal k) else first_with (formal_entries (suc k) fs ++ es) x) t)
     by_name false t (at_formal i e f) =
-        at_formal i (ap (λ b. if b then Some k else formal_from (suc k) fs x) t ∙ e) (ap (λ b. if b then Some (local.Formal k) else entry_of (formal_entries (suc k) fs ++ es) x) t ∙ f)
+        at_formal i (ap (λ b. if b then Some k else formal_from (suc k) fs x) t ∙ e) (ap (λ b. if b then Some (local.Formal k) else first_with (formal_entries (suc k) fs ++ es) x) t ∙ f)
     by_name false t (after_formals e f) =
-        after_formals (ap (λ b. if b then Some k else formal_from (suc k) fs x) t ∙ e) (ap (λ b. if b then Some (local.Formal k) else entry_of (formal_entries (suc k) fs ++ es) x) t ∙ f)
+        after_formals (ap (λ b. if b then Some k else formal_from (suc k) fs x) t ∙ e) (ap (λ b. if b then Some (local.Formal k) else first_with (formal_entries (suc k) fs ++ es) x) t ∙ f)
 
-pub says_local : (m : ModuleTree) (x : Text) → SaysLocal m x (entry_of (local_entries m) x)
+pub says_local : (m : ModuleTree) (x : Text) → SaysLocal m x (first_with (local_entries m) x)
 says_local m x = by_formal (formals_say 0 m.formals (item_entries 0 (items_of m)) x)
   where
     kind_here : formal_from 0 m.formals x ≡ None → kind_in m x ≡ kind_in_items (items_of m) x
     kind_here e = ap (λ o. kind_after_formals o (kind_in_sections m.sections x)) e ∙ sym (sections_kind m.sections x)
 
-    by_item : formal_from 0 m.formals x ≡ None → entry_of (local_entries m) x ≡ entry_of (item_entries 0 (items_of m)) x → SaysItem 0 (items_of m) x → SaysLocal m x (entry_of (local_entries m) x)
+    by_item : formal_from 0 m.formals x ≡ None → first_with (local_entries m) x ≡ first_with (item_entries 0 (items_of m)) x → SaysItem 0 (items_of m) x → SaysLocal m x (first_with (local_entries m) x)
     by_item e f (at_item j item q stands gives kind) =
         let from_none : 0 + j ≡ j = omega arith in
         an_item_there j item (f ∙ q ∙ ap (λ n. Some (local.Item n)) from_none) stands gives (kind_here e ∙ kind)
     by_item e f (at_none q kind) = not_there (f ∙ q) (kind_here e ∙ kind)
 
-    by_formal : SaysFormal 0 m.formals (item_entries 0 (items_of m)) x → SaysLocal m x (entry_of (local_entries m) x)
+    by_formal : SaysFormal 0 m.formals (item_entries 0 (items_of m)) x → SaysLocal m x (first_with (local_entries m) x)
     by_formal (at_formal i e f) = a_formal_there i f i (ap (λ o. kind_after_formals o (kind_in_sections m.sections x)) e)
     by_formal (after_formals e f) = by_item e f (items_say 0 (items_of m) x)
 
 -- what the tables tell of a name in the module of an instance
 pub local_is : (s : Scene) → IsScene s → (k : ℕ) (at : FlatInstance) → slice_get (instances_of (program_of s)) k ≡ Some at → (h : HasModule (program_of s) at) (x : Text) →
-    local_at s k x ≡ entry_of (local_entries h.tree) x
+    local_at s k x ≡ first_with (local_entries h.tree) x
 local_is s scene k at e h x =
-    ap (λ o. local_in (names_of_spot s o) x) spot.is ∙ ap (λ o. local_in o x) names.1 ∙ ap (λ es. entry_of es x) names.2.locals ∙ ap (λ (m : ModuleTree). entry_of (local_entries m) x) same
+    ap (λ o. local_in (names_of_spot s o) x) spot.is ∙ ap (λ o. local_in o x) names.1 ∙ ap (λ es. first_with es x) names.2.locals ∙ ap (λ (m : ModuleTree). first_with (local_entries m) x) same
   where
     spot : HasSpot s k at
     spot = has_spot s scene k at e
@@ -138,11 +138,6 @@ not_assigned_formal : (i : ℕ) (when : Moment) → may_be_assigned when (a_form
 not_assigned_formal i Always = refl
 not_assigned_formal i First = refl
 not_assigned_formal i After = refl
-
-not_assigned_none : (when : Moment) → may_be_assigned when undeclared ≡ false
-not_assigned_none Always = refl
-not_assigned_none First = refl
-not_assigned_none After = refl
 
 variable_target : (p : ProgramTree) → IsWalkable p → (at : Place) (x y : Text) → y ≡ x → (f : Found) → Denotes p f (a_variable_at at y) → (when : Moment) → may_assign f when ≡ may_be_assigned when (kind_at (module_at p at) x)
 variable_target p walkable at x y same (found.Variable k role) d when =
@@ -204,13 +199,13 @@ target_is s scene k at e x when = ap (λ o. may_assign (meant_by s k o) when) to
     h : HasModule (program_of s) at
     h = has_module (program_of s) walkable k at e
 
-    told : local_at s k x ≡ entry_of (local_entries h.tree) x
+    told : local_at s k x ≡ first_with (local_entries h.tree) x
     told = local_is s scene k at e h x
 
     kind : kind_at (module_at (program_of s) at.place) x ≡ kind_in h.tree x
     kind = ap (λ o. kind_at o x) h.is
 
-    by_local : SaysLocal h.tree x (entry_of (local_entries h.tree) x) → may_assign (meant_by s k (entry_of (local_entries h.tree) x)) when ≡ may_be_assigned when (kind_at (module_at (program_of s) at.place) x)
+    by_local : SaysLocal h.tree x (first_with (local_entries h.tree) x) → may_assign (meant_by s k (first_with (local_entries h.tree) x)) when ≡ may_be_assigned when (kind_at (module_at (program_of s) at.place) x)
     by_local (a_formal_there i o j q) =
         ap (λ o. may_assign (meant_by s k o) when) o ∙ sym (ap (may_be_assigned when) (kind ∙ q) ∙ not_assigned_formal j when)
     by_local (not_there o q) =

@@ -11,15 +11,15 @@ use Rattle.xs_tree.specs.Texts.{same_text}
 use Rattle.xs_tree.specs.Trace.{AtSome}
 use Rattle.xs_tree.proofs.ValueLaws.{same_text_refl}
 use Rattle.xs_flat_laws.specs.Items.{Item, a_declaration, a_definition, an_assignment, some_constants, an_init, an_invar, a_trans}
-use Rattle.xs_flat_laws.specs.Rules.{at_one_time, Assigns}
-use Rattle.xs_flat.specs.Assigned.{is_always, is_first, is_after, no_times, with_moment, is_met, is_only, assigns_at, some_assigns, times_in, times_of, AreTimes}
+use Rattle.xs_flat_laws.specs.Rules.{at_one_time, Assigns, is_later}
+use Rattle.xs_flat.specs.Assigned.{is_always, is_first, no_times, with_moment, is_met, is_only, assigns_at, some_assigns, times_in, times_of, AreTimes}
 use Rattle.xs_flat.specs.declared.judge.Times.{Times}
-use Rattle.xs_scope.proofs.SymbolKinds.{grouped}
 use Rattle.xs_tree.proofs.BorrowedTexts.{same_bytes}
 use Rattle.xs_lexer.proofs.SignLemmas.{both_true}
 use Rattle.xs_tree.proofs.OneTree.{same_text_equal}
-use Rattle.xs_flat_laws.proofs.HistoryTraces.{or_false}
 use Rattle.xs_flat_laws.proofs.Apart.{or_true}
+use Rattle.xs_tree.proofs.BoolLaws.{or_false, or_assoc}
+use Rattle.xs_tree.specs.BorrowedTexts.{same_borrowed}
 
 abbrev pub times_or : Option Times → Times
 times_or None = no_times
@@ -35,9 +35,6 @@ looked_up (e ∷ es) x =
     told_or (pointwise nat_eq x e.0.now) e.1 (lookup (λ (k : Bor (List ℕ)). pointwise nat_eq x k.now) es)
     ∙ ap (λ b. if b then e.1 else times_or (lookup (λ (k : Bor (List ℕ)). pointwise nat_eq x k.now) es)) (same_bytes x e.0.now)
     ∙ ap (λ t. if same_text e.0.now x then e.1 else t) (looked_up es x)
-
-abbrev pub key_eq : Bor (List ℕ) → Bor (List ℕ) → Bool
-key_eq a b = pointwise nat_eq a.now b.now
 
 one_test : (b : Bool) (v w u : Times) → (if b then v else u) ≡ (if b then v else (if b then w else u))
 one_test true v w u = refl
@@ -56,25 +53,25 @@ two_tests x y z false true e f other v w u = refl
 two_tests x y z false false e f other v w u = refl
 
 pub inserted : (es : List (Bor (List ℕ) × Times)) (k : Bor (List ℕ)) (v : Times) (x : List ℕ) →
-    times_of (insert_entry key_eq es k v) x ≡ (if same_text k.now x then v else times_of es x)
+    times_of (insert_entry same_borrowed es k v) x ≡ (if same_text k.now x then v else times_of es x)
 inserted [] k v x = refl
 inserted (e ∷ es) k v x =
-    ap (λ b. times_of (if b then (e.0, v) ∷ es else e ∷ insert_entry key_eq es k v) x) (same_bytes k.now e.0.now) ∙ by_key (same_text e.0.now k.now) refl (inserted es k v x)
+    ap (λ b. times_of (if b then (e.0, v) ∷ es else e ∷ insert_entry same_borrowed es k v) x) (same_bytes k.now e.0.now) ∙ by_key (same_text e.0.now k.now) refl (inserted es k v x)
   where
-    by_key : (b : Bool) → same_text e.0.now k.now ≡ b → times_of (insert_entry key_eq es k v) x ≡ (if same_text k.now x then v else times_of es x) →
-        times_of (if same_text e.0.now k.now then (e.0, v) ∷ es else e ∷ insert_entry key_eq es k v) x ≡ (if same_text k.now x then v else times_of (e ∷ es) x)
+    by_key : (b : Bool) → same_text e.0.now k.now ≡ b → times_of (insert_entry same_borrowed es k v) x ≡ (if same_text k.now x then v else times_of es x) →
+        times_of (if same_text e.0.now k.now then (e.0, v) ∷ es else e ∷ insert_entry same_borrowed es k v) x ≡ (if same_text k.now x then v else times_of (e ∷ es) x)
     by_key true q rest =
-        ap (λ b. times_of (if b then (e.0, v) ∷ es else e ∷ insert_entry key_eq es k v) x) q
+        ap (λ b. times_of (if b then (e.0, v) ∷ es else e ∷ insert_entry same_borrowed es k v) x) q
         ∙ one_test (same_text e.0.now x) v e.1 (times_of es x)
         ∙ ap (λ t. if same_text t x then v else times_of (e ∷ es) x) (same_text_equal e.0.now k.now q)
     by_key false q rest =
-        ap (λ b. times_of (if b then (e.0, v) ∷ es else e ∷ insert_entry key_eq es k v) x) q
+        ap (λ b. times_of (if b then (e.0, v) ∷ es else e ∷ insert_entry same_borrowed es k v) x) q
         ∙ ap (λ t. if same_text e.0.now x then e.1 else t) rest
         ∙ two_tests e.0.now k.now x (same_text e.0.now x) (same_text k.now x) refl refl q v e.1 (times_of es x)
 
 assigns_more : (test : Moment → Bool) (x : Text) (is : List Item) (i : Item) → some_assigns test x (is ++ i ∷ []) ≡ (some_assigns test x is || assigns_at test x i)
 assigns_more test x [] i = or_false (assigns_at test x i)
-assigns_more test x (j ∷ is) i = ap (λ b. assigns_at test x j || b) (assigns_more test x is i) ∙ sym (grouped (assigns_at test x j) (some_assigns test x is) (assigns_at test x i))
+assigns_more test x (j ∷ is) i = ap (λ b. assigns_at test x j || b) (assigns_more test x is i) ∙ sym (or_assoc (assigns_at test x j) (some_assigns test x is) (assigns_at test x i))
 
 abbrev times : Bool → Bool → Bool → Times
 times a b c = record { always = a; first = b; after = c }
@@ -87,8 +84,8 @@ none_more test x is i e = assigns_more test x is i ∙ ap (λ b. some_assigns te
 
 times_same : (is : List Item) (i : Item) (x : Text) → ((test : Moment → Bool) → assigns_at test x i ≡ false) → times_in (is ++ i ∷ []) x ≡ times_in is x
 times_same is i x none =
-    same_times (some_assigns is_always x (is ++ i ∷ [])) (some_assigns is_first x (is ++ i ∷ [])) (some_assigns is_after x (is ++ i ∷ [])) (some_assigns is_always x is) (some_assigns is_first x is) (some_assigns is_after x is)
-    (none_more is_always x is i (none is_always)) (none_more is_first x is i (none is_first)) (none_more is_after x is i (none is_after))
+    same_times (some_assigns is_always x (is ++ i ∷ [])) (some_assigns is_first x (is ++ i ∷ [])) (some_assigns is_later x (is ++ i ∷ [])) (some_assigns is_always x is) (some_assigns is_first x is) (some_assigns is_later x is)
+    (none_more is_always x is i (none is_always)) (none_more is_first x is i (none is_first)) (none_more is_later x is i (none is_later))
 
 -- an item that is no assignment
 abbrev pub is_assignment : Item → Bool
@@ -112,7 +109,7 @@ times_kept es is i e h x = h x ∙ sym (times_same is i x (λ test. by_item test
     by_item test (an_invar f) q = refl
     by_item test (a_trans f) q = refl
 
-with_is : (t : Times) (when : Moment) → with_moment t when ≡ times (t.always || is_always when) (t.first || is_first when) (t.after || is_after when)
+with_is : (t : Times) (when : Moment) → with_moment t when ≡ times (t.always || is_always when) (t.first || is_first when) (t.after || is_later when)
 with_is t Always = same_times true t.first t.after _ _ _ (sym (or_true t.always)) (sym (or_false t.first)) (sym (or_false t.after))
 with_is t First = same_times t.always true t.after _ _ _ (sym (or_false t.always)) (sym (or_true t.first)) (sym (or_false t.after))
 with_is t After = same_times t.always t.first true _ _ _ (sym (or_false t.always)) (sym (or_false t.first)) (sym (or_true t.after))
@@ -131,14 +128,14 @@ times_added es new is a x target added h y = added y ∙ by_text (same_text x y)
         ∙ ap (λ z. with_moment (times_of es z) a.when) (same_text_equal x y e)
         ∙ ap (λ t. with_moment t a.when) (h y)
         ∙ with_is (times_in is y) a.when
-        ∙ same_times _ _ _ _ _ _ (sym (here is_always)) (sym (here is_first)) (sym (here is_after))
+        ∙ same_times _ _ _ _ _ _ (sym (here is_always)) (sym (here is_first)) (sym (here is_later))
       where
         here : (test : Moment → Bool) → some_assigns test y (is ++ an_assignment a ∷ []) ≡ (some_assigns test y is || test a.when)
         here test = step test ∙ ap (λ b. some_assigns test y is || (b && test a.when)) e
     by_text false e =
         ap (λ b. if b then with_moment (times_of es x) a.when else times_of es y) e
         ∙ h y
-        ∙ same_times _ _ _ _ _ _ (sym (here is_always)) (sym (here is_first)) (sym (here is_after))
+        ∙ same_times _ _ _ _ _ _ (sym (here is_always)) (sym (here is_first)) (sym (here is_later))
       where
         here : (test : Moment → Bool) → some_assigns test y (is ++ an_assignment a ∷ []) ≡ some_assigns test y is
         here test = step test ∙ ap (λ b. some_assigns test y is || (b && test a.when)) e ∙ or_false (some_assigns test y is)
@@ -147,7 +144,7 @@ times_added es new is a x target added h y = added y ∙ by_text (same_text x y)
 abbrev speaks_at : Moment → Moment → Bool
 speaks_at when w = at_one_time w when
 
-add_always : (b a f t : Bool) (w : Moment) → ((((b && is_always w) || a) || (((b && is_first w) || f) || ((b && is_after w) || t))) ≡ ((b && speaks_at Always w) || (a || (f || t))))
+add_always : (b a f t : Bool) (w : Moment) → ((((b && is_always w) || a) || (((b && is_first w) || f) || ((b && is_later w) || t))) ≡ ((b && speaks_at Always w) || (a || (f || t))))
 add_always true a f t Always = refl
 add_always true true f t First = refl
 add_always true false f t First = refl
@@ -163,7 +160,7 @@ add_first true false f First = refl
 add_first true a f After = refl
 add_first false a f w = refl
 
-add_after : (b a t : Bool) (w : Moment) → ((((b && is_always w) || a) || ((b && is_after w) || t)) ≡ ((b && speaks_at After w) || (a || t)))
+add_after : (b a t : Bool) (w : Moment) → ((((b && is_always w) || a) || ((b && is_later w) || t)) ≡ ((b && speaks_at After w) || (a || t)))
 add_after true a t Always = refl
 add_after true true t After = refl
 add_after true false t After = refl
@@ -173,7 +170,7 @@ add_after false a t w = refl
 same_met : (when : Moment) (x : Text) (i : Item) (is : List Item) → ((test : Moment → Bool) → assigns_at test x i ≡ false) → is_met (times_in is x) when ≡ some_assigns (speaks_at when) x is →
     is_met (times_in (i ∷ is) x) when ≡ some_assigns (speaks_at when) x (i ∷ is)
 same_met when x i is none h =
-    ap (λ t. is_met t when) (same_times _ _ _ _ _ _ (skip is_always) (skip is_first) (skip is_after)) ∙ h ∙ sym (skip (speaks_at when))
+    ap (λ t. is_met t when) (same_times _ _ _ _ _ _ (skip is_always) (skip is_first) (skip is_later)) ∙ h ∙ sym (skip (speaks_at when))
   where
     skip : (test : Moment → Bool) → some_assigns test x (i ∷ is) ≡ some_assigns test x is
     skip test = ap (λ b. b || some_assigns test x is) (none test)
@@ -183,11 +180,11 @@ met_is Always x [] = refl
 met_is First x [] = refl
 met_is After x [] = refl
 met_is Always x (an_assignment a ∷ is) =
-    add_always (is_only a.target x) (some_assigns is_always x is) (some_assigns is_first x is) (some_assigns is_after x is) a.when ∙ ap (λ b. (is_only a.target x && speaks_at Always a.when) || b) (met_is Always x is)
+    add_always (is_only a.target x) (some_assigns is_always x is) (some_assigns is_first x is) (some_assigns is_later x is) a.when ∙ ap (λ b. (is_only a.target x && speaks_at Always a.when) || b) (met_is Always x is)
 met_is First x (an_assignment a ∷ is) =
     add_first (is_only a.target x) (some_assigns is_always x is) (some_assigns is_first x is) a.when ∙ ap (λ b. (is_only a.target x && speaks_at First a.when) || b) (met_is First x is)
 met_is After x (an_assignment a ∷ is) =
-    add_after (is_only a.target x) (some_assigns is_always x is) (some_assigns is_after x is) a.when ∙ ap (λ b. (is_only a.target x && speaks_at After a.when) || b) (met_is After x is)
+    add_after (is_only a.target x) (some_assigns is_always x is) (some_assigns is_later x is) a.when ∙ ap (λ b. (is_only a.target x && speaks_at After a.when) || b) (met_is After x is)
 met_is when x (a_declaration role d ∷ is) = same_met when x (a_declaration role d) is (λ test. refl) (met_is when x is)
 met_is when x (a_definition d ∷ is) = same_met when x (a_definition d) is (λ test. refl) (met_is when x is)
 met_is when x (some_constants xs ∷ is) = same_met when x (some_constants xs) is (λ test. refl) (met_is when x is)

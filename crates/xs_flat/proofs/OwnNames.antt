@@ -13,11 +13,11 @@ use Rattle.xs_tree.specs.declared.model.FlatModel.{FlatModel}
 use Rattle.xs_scope.specs.declared.bounds.Bounds.{Bounds}
 use Rattle.xs_scope.specs.Closed.{is_within, tree_all, trees_all, branches_all, are_closed, are_earlier, IsClosedModel, bounds_of}
 use Rattle.xs_tree.specs.ModelTree.{leaf_of, variable_tree, formula_tree, model_tree}
-use Rattle.xs_scope.proofs.ClosedLaws.{left_true, right_true}
 use Rattle.xs_tree.specs.Flat.{FlatFormula}
 use Rattle.xs_flat_laws.specs.Resolved.{leaves_in, trees_leaves, branches_leaves}
 use Rattle.xs_flat_laws.specs.FlatTrace.{IsOwnName, IsOwnFormula, NamesOwn}
 use Rattle.xs_flat_laws.proofs.Conditions.{each_join}
+use Rattle.xs_tree.proofs.BoolLaws.{left_true, right_true}
 
 mutual
   own_names : (b : Bounds) (t : Tree Flat) → tree_all (is_within b) t ≡ true → Each (IsOwnName b.variables) (leaves_in (tree_map leaf_of t))

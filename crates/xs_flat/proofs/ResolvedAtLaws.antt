@@ -10,8 +10,7 @@ use Rattle.xs_tree.specs.Flat.{FlatLeaf, FlatInstance, FlatVariable, FlatFormula
 use Rattle.xs_flat_laws.specs.Resolved.{Definition, IsSound}
 use Rattle.xs_flat_laws.specs.Items.{Visit, instances_of, variables_of}
 use Rattle.xs_flat_laws.specs.Rules.{no_main, main_has_parameters, double_module, double_name, no_such_module, wrong_count, module_loop, no_such_name, not_a_target, double_assign, define_loop, next_here, input_here, too_many, SomeHasNoValue, IsAccepted, expression_of}
-use Rattle.xs_flat_laws.specs.Model.{EachBoth, symbols_of, IsVariableOf, IsDefinitionOf, IsFlatOf}
-use Rattle.xs_scope.specs.declared.bounds.Bounds.{Bounds}
+use Rattle.xs_flat_laws.specs.Model.{symbols_of, IsVariableOf, IsDefinitionOf, IsFlatOf}
 use Rattle.xs_scope.specs.declared.fault.Rule.TheVariants.{NoSuchName, NextHere, InputHere}
 use Rattle.xs_scope.specs.declared.fault.FlatFault.{FlatFault}
 use Rattle.xs_flat.specs.declared.values.Judged.{Judged}
@@ -26,15 +25,17 @@ use Rattle.xs_scope.specs.NeedsTree.{IsKeyAt, AreNeeds}
 use Rattle.xs_scope.specs.Walked.{IsDeclaredBy}
 use Rattle.xs_flat.specs.Judging.{IsJudged}
 use Rattle.xs_flat.specs.ResolverOf.{leaf_at, leaf_by, resolver, AreKnown}
-use Rattle.xs_flat_laws.specs.ValueRules.{IsLeastBroken}
+use Rattle.xs_flat_laws.specs.ValueRules.{IsLeastBroken, KeepsValue}
 use Rattle.xs_flat_laws.specs.ResolvedAt.{IsResolvedAt}
-use Rattle.xs_flat.specs.ResolvedAt.{IsAt, IsValueFault, IsValueKept}
+use Rattle.xs_flat.specs.ResolvedAt.{IsAt, IsValueFault}
 use Rattle.xs_flat.proofs.BuildLeaves.{order, bounds_with, value_known}
 use Rattle.xs_scope.proofs.SceneItems.{both_more}
 use Rattle.xs_flat.proofs.BuildSound.{definition_of, written_with, definitions, sound, resolver_at}
 use Rattle.xs_flat.proofs.BuildUnique.{all_one}
 use Rattle.xs_flat.proofs.OnlyModel.{second_not}
-use Rattle.xs_scope.proofs.SceneNeeds.{both_size}
+use Rattle.xs_flat_laws.proofs.BothLaws.{both_size}
+use Rattle.xs_tree.specs.Trace.{EachBoth}
+use Rattle.xs_flat.proofs.BuildModel.{bounds_made}
 
 -- a definition is what its key stands for
 one_definition : (p : ProgramTree) (d : Definition) → expression_of p d.key ≡ Some (d.place, d.written) → definition_of p d.key ≡ d
@@ -48,9 +49,6 @@ all_definitions p m (d ∷ ds) (f ∷ fs) h =
     let one : definition_of p d.key ≡ d = one_definition p d h.0.expression in
     let rest : map (definition_of p) (map (λ (d : Definition). d.key) ds) ≡ ds = all_definitions p m ds fs h.1 in
     ap (λ x. x ∷ map (definition_of p) (map (λ (d : Definition). d.key) ds)) one ∙ ap (λ xs. d ∷ xs) rest
-
-abbrev bounds_made : ℕ → ℕ → ℕ → Bounds
-bounds_made v t d = record { variables = v; symbols = t; definitions = d }
 
 module _ (s : Scene) (n : Needs) (is : IsScene s) (needs : AreNeeds (program_of s) n) (accepted : IsAccepted (program_of s)) where
   -- each reading of the model has the definitions of the scene
@@ -127,7 +125,7 @@ module _ (p : ProgramTree) (at : Place) (inputs : Bool) (e : Formula) where
   input_told false may h k e = cc
 
   -- where no rule is told, none is broken
-  pub none_broken : (j : Judged) → IsJudged p at e j → first_of ((j.no_value, NoSuchName) ∷ (j.next, NextHere) ∷ (j.input && not inputs, InputHere) ∷ []) ≡ None → IsValueKept p at inputs e
+  pub none_broken : (j : Judged) → IsJudged p at e j → first_of ((j.no_value, NoSuchName) ∷ (j.next, NextHere) ∷ (j.input && not inputs, InputHere) ∷ []) ≡ None → KeepsValue p at inputs e
   none_broken j is h no_main b = absurd b
   none_broken j is h main_has_parameters b = absurd b
   none_broken j is h double_module b = absurd b

@@ -7,7 +7,7 @@ use Rattle.xs_tree.specs.ProgramTree.{Text, Path, ProgramTree}
 use Rattle.xs_tree.specs.Texts.{same_text}
 use Rattle.xs_tree.specs.Flat.{FlatInstance}
 use Rattle.xs_flat_laws.specs.Items.{Item, NumberedItem, items_named, instances_of, a_declaration, a_definition, an_assignment, some_constants, an_init, an_invar, a_trans}
-use Rattle.xs_flat_laws.specs.Rules.{Site, item_of, a_use}
+use Rattle.xs_flat_laws.specs.Rules.{Site, item_of, a_use, is_later}
 use Rattle.xs_scope.specs.Faults.{first_of}
 use Rattle.xs_scope.specs.FoundAt.{local_at, own_at}
 use Rattle.xs_flat.specs.Verdicts.{IsTold}
@@ -58,12 +58,6 @@ is_first First = true
 is_first Always = false
 is_first After = false
 
--- an assignment of the next moment
-abbrev pub is_after : Moment → Bool
-is_after After = true
-is_after Always = false
-is_after First = false
-
 -- no assignment speaks of the target
 abbrev pub no_times : Times
 no_times = record { always = false; first = false; after = false }
@@ -103,7 +97,7 @@ some_assigns test x (i ∷ is) = assigns_at test x i || some_assigns test x is
 
 -- at which moments the items assign the variable
 abbrev pub times_in : List Item → Text → Times
-times_in is x = record { always = some_assigns is_always x is; first = some_assigns is_first x is; after = some_assigns is_after x is }
+times_in is x = record { always = some_assigns is_always x is; first = some_assigns is_first x is; after = some_assigns is_later x is }
 
 -- the times of a variable in a table
 abbrev pub times_of : List (Bor (List ℕ) × Times) → Text → Times

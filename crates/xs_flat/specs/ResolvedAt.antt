@@ -7,8 +7,8 @@ use Rattle.xs_tree.specs.Flat.{FlatInstance, FlatModel}
 use Rattle.xs_tree.specs.ModelTree.{flat_tree}
 use Rattle.xs_tree.specs.declared.expr.Expr.{Expr}
 use Rattle.xs_tree.specs.declared.model.Flat.{Flat}
-use Rattle.xs_flat_laws.specs.Rules.{Rule, IsAccepted}
-use Rattle.xs_flat_laws.specs.ValueRules.{BreaksValue, IsLeastBroken}
+use Rattle.xs_flat_laws.specs.Rules.{IsAccepted}
+use Rattle.xs_flat_laws.specs.ValueRules.{IsLeastBroken, KeepsValue}
 use Rattle.xs_flat_laws.specs.Model.{IsFlatOf}
 use Rattle.xs_flat_laws.specs.Resolved.{has_next}
 use Rattle.xs_flat_laws.specs.ResolvedAt.{IsResolvedAt}
@@ -20,10 +20,6 @@ pub record IsAt (p : ProgramTree) (m : FlatModel) (number : ℕ) (at : FlatInsta
   pub accepted : IsAccepted p
   pub flat : IsFlatOf p m
   pub is_at : slice_get m.instances number ≡ Some at
-
--- the value breaks no rule
-abbrev pub IsValueKept : ProgramTree → Place → Bool → Formula → Type 0
-IsValueKept p at inputs e = (r : Rule) → BreaksValue p at inputs e r → ⊥
 
 -- the fault is the least rule that the value breaks, at item 0, or want of memory
 abbrev pub IsValueFault : ProgramTree → Place → Bool → Formula → FlatFault → Type 0
@@ -41,7 +37,7 @@ HasNoNextAt p m number e answer = (at : FlatInstance) → IsAt p m number at →
 
 -- and breaks no rule there
 abbrev pub KeepsAt : ProgramTree → FlatModel → ℕ → Bool → Expr Path → Result (Expr Flat) FlatFault → Type 0
-KeepsAt p m number inputs e answer = (at : FlatInstance) → IsAt p m number at → OnOk answer (IsValueKept p at.place inputs (tree_of e))
+KeepsAt p m number inputs e answer = (at : FlatInstance) → IsAt p m number at → OnOk answer (KeepsValue p at.place inputs (tree_of e))
 
 -- a refusal is the least rule that the expression breaks there, or want of memory
 abbrev pub TellsAt : ProgramTree → FlatModel → ℕ → Bool → Expr Path → Result (Expr Flat) FlatFault → Type 0

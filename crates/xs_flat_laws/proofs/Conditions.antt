@@ -1,29 +1,23 @@
 -- The formulas of a flat model hold exactly where the conditions of the written program do.
 use Rattle.std.proofs.Common.{◌≡◌, ℕ, zero, suc, Bool, true, false, List, [], ◌∷◌, ◌++◌, Option, Some, None, refl, sym, ◌∙◌, ap, subst, eq-eqb}
-use Rattle.std.specs.Prelude.{pos, negsuc, slice_get, map, flat_map, ◌↔◌, IsTrue}
+use Rattle.std.specs.Prelude.{slice_get, map, flat_map, ◌↔◌, IsTrue}
 use Rattle.xs_tree.specs.Tree.{Tree}
 use Rattle.xs_tree.specs.ProgramTree.{Text, ProgramTree}
-use Rattle.xs_tree.specs.Values.{Value, truth, number, symbol, Values, one, has, same_value}
+use Rattle.xs_tree.specs.Values.{Value, truth, number, Values, one, has}
 use Rattle.xs_tree.specs.Evaluate.{evaluate, gives_within}
 use Rattle.xs_tree.specs.Scope.{Place}
 use Rattle.xs_tree.specs.May.{Valuation, May}
-use Rattle.xs_tree.specs.Trace.{Each}
-use Rattle.xs_tree.proofs.ValueLaws.{same_value_equal}
+use Rattle.xs_tree.specs.Trace.{Each, EachBoth}
+use Rattle.xs_tree.proofs.ValueLaws.{same_value_equal, same_value_refl}
 use Rattle.xs_tree.specs.Flat.{FlatLeaf, flat_variable, FlatFormula, FlatModel, one_of, leaves_at, FlatMay, Holds, Numbers}
 use Rattle.xs_flat_laws.specs.Resolved.{Definition, Resolver, IsSound, AreDefinitions}
-use Rattle.xs_flat_laws.specs.Model.{Condition, plain, now_among, next_among, kept, Written, IsVariableNumber, IsConditionTree, IsFormulaOf, EachBoth}
+use Rattle.xs_flat_laws.specs.Model.{Condition, plain, now_among, next_among, kept, Written, IsVariableNumber, IsConditionTree, IsFormulaOf}
 use Rattle.xs_flat_laws.proofs.Reaches.{each_left, each_right}
 use Rattle.xs_flat_laws.proofs.Lists.{each_map, each_of_map, each_more}
 use Rattle.xs_flat_laws.proofs.Resolving.{may_exactly}
 use Rattle.xs_tree.specs.Texts.{same_text}
 use Rattle.std.proofs.lemmas.Option.{same_Some as one_same}
-
--- Equivalences.
-pub iff_then : {A B C : Type 0} → (A ↔ B) → (B ↔ C) → (A ↔ C)
-iff_then f g = ((λ a. g.0 (f.0 a)), (λ c. f.1 (g.1 c)))
-
-pub iff_back : {A B : Type 0} → (A ↔ B) → (B ↔ A)
-iff_back f = (f.1, f.0)
+use Rattle.xs_tree.proofs.BoolLaws.{iff_trans, iff_sym}
 
 pub each_iff : {A : Type 0} (P Q : A → Type 0) (xs : List A) → ((x : A) → P x ↔ Q x) → (Each P xs ↔ Each Q xs)
 each_iff P Q xs h = (each_more P Q xs (λ x. (h x).0), each_more Q P xs (λ x. (h x).1))
@@ -64,13 +58,6 @@ pub same_text_same : (x : Text) → same_text x x ≡ true
 same_text_same [] = refl
 same_text_same (c ∷ cs) = rw (eq-eqb c c refl) (same_text_same cs)
 
-same_value_same : (a : Value) → same_value a a ≡ true
-same_value_same (truth true) = refl
-same_value_same (truth false) = refl
-same_value_same (number (pos n)) = eq-eqb n n refl
-same_value_same (number (negsuc n)) = eq-eqb n n refl
-same_value_same (symbol x) = same_text_same x
-
 true_alone : (b : Bool) → IsTrue (has (one (truth b)) (truth true)) → b ≡ true
 true_alone true h = refl
 true_alone false h = cc
@@ -91,7 +78,7 @@ within_iff (Some s) x = (
 pub may_one : (w x : Value) → (MayBe (Some (one w)) x ↔ (x ≡ w))
 may_one w x = (
   (λ h. let same : one w ≡ h.0 = one_same (one w) h.0 h.1 in sym (same_value_equal w x (subst (λ vs. IsTrue (has vs x)) (sym same) h.2))),
-  (λ e. (one w, refl, rw e (same_value_same w))),
+  (λ e. (one w, refl, rw e (same_value_refl w))),
 )
 
 -- What a condition asks of a valuation and the next.
@@ -109,24 +96,24 @@ variable_gives m v now at x i num is =
 module _ (p : ProgramTree) (m : FlatModel) (ds : List Definition) (r : Resolver) (sound : IsSound p m ds r) (are : AreDefinitions p m ds r) where
   condition_exactly : (v w : List Value) (now next : Valuation) → Numbers m v now → Numbers m w next →
       (at : Place) (c : Condition) (flat : Tree FlatLeaf) → IsConditionTree m r at c flat → (FlatMay m v w flat (truth true) ↔ Asks p now next at c)
-  condition_exactly v w now next num num' at (plain e) flat is = iff_back (may_exactly p m ds r sound are v w now next num num' at e flat is (truth true))
+  condition_exactly v w now next num num' at (plain e) flat is = iff_sym (may_exactly p m ds r sound are v w now next num num' at e flat is (truth true))
   condition_exactly v w now next num num' at (now_among x e) flat is =
-      iff_then (subst (λ t. FlatMay m v w t (truth true) ↔ MayBe (evaluate (leaves_at m v) (leaves_at m w) is.value) (now at x)) (sym is.is)
+      iff_trans (subst (λ t. FlatMay m v w t (truth true) ↔ MayBe (evaluate (leaves_at m v) (leaves_at m w) is.value) (now at x)) (sym is.is)
       (subst (λ o. MayBe (gives_within o (evaluate (leaves_at m v) (leaves_at m w) is.value)) (truth true) ↔ MayBe (evaluate (leaves_at m v) (leaves_at m w) is.value) (now at x))
       (sym (variable_gives m v now at x is.number num is.is_number)) (within_iff (evaluate (leaves_at m v) (leaves_at m w) is.value) (now at x))))
-      (iff_back (may_exactly p m ds r sound are v w now next num num' at e is.value is.resolved (now at x)))
+      (iff_sym (may_exactly p m ds r sound are v w now next num num' at e is.value is.resolved (now at x)))
   condition_exactly v w now next num num' at (next_among x e) flat is =
-      iff_then (subst (λ t. FlatMay m v w t (truth true) ↔ MayBe (evaluate (leaves_at m v) (leaves_at m w) is.value) (next at x)) (sym is.is)
+      iff_trans (subst (λ t. FlatMay m v w t (truth true) ↔ MayBe (evaluate (leaves_at m v) (leaves_at m w) is.value) (next at x)) (sym is.is)
       (subst (λ o. MayBe (gives_within o (evaluate (leaves_at m v) (leaves_at m w) is.value)) (truth true) ↔ MayBe (evaluate (leaves_at m v) (leaves_at m w) is.value) (next at x))
       (sym (variable_gives m w next at x is.number num' is.is_number)) (within_iff (evaluate (leaves_at m v) (leaves_at m w) is.value) (next at x))))
-      (iff_back (may_exactly p m ds r sound are v w now next num num' at e is.value is.resolved (next at x)))
+      (iff_sym (may_exactly p m ds r sound are v w now next num num' at e is.value is.resolved (next at x)))
   condition_exactly v w now next num num' at (kept x) flat is =
       subst (λ t. FlatMay m v w t (truth true) ↔ (next at x ≡ now at x)) (sym is.is)
       (subst (λ o. MayBe (gives_within o (leaves_at m v (flat_variable is.number))) (truth true) ↔ (next at x ≡ now at x))
       (sym (variable_gives m w next at x is.number num' is.is_number))
       (subst (λ o. MayBe (gives_within (Some (one (next at x))) o) (truth true) ↔ (next at x ≡ now at x))
       (sym (variable_gives m v now at x is.number num is.is_number))
-      (iff_then (within_iff (Some (one (now at x))) (next at x)) (may_one (now at x) (next at x)))))
+      (iff_trans (within_iff (Some (one (now at x))) (next at x)) (may_one (now at x) (next at x)))))
 
   pub formulas_exactly : (v w : List Value) (now next : Valuation) → Numbers m v now → Numbers m w next → (ws : List Written) (fs : List FlatFormula) →
       EachBoth (IsFormulaOf m r) ws fs → (Each (Holds m v w) fs ↔ Each (λ (c : Written). Asks p now next c.place c.condition) ws)

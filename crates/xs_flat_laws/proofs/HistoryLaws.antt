@@ -3,6 +3,8 @@ use Rattle.std.proofs.Common.{◌≡◌, ℕ, suc, ◌+◌, ◌<◌, List, [], �
 use Rattle.std.proofs.lemmas.List.{append-nil, append_assoc, length-append, map_more, length-map, length-take-le}
 use Rattle.xs_tree.specs.Flat.{FlatVariable, FlatFormula, FlatModel}
 use Rattle.xs_flat_laws.specs.History.{Mode, bit_variable, bit_at_first, bit_at_step, bit_variables, bits_at_first, bits_at_step, with_history, with_bit}
+use Rattle.xs_tree.specs.Values.{Value}
+use Rattle.xs_flat_laws.specs.FlatTrace.{told_from}
 
 -- a model with other variables and other formulas at first and at each step
 abbrev changed : FlatModel → List FlatVariable → List FlatFormula → List FlatFormula → FlatModel
@@ -73,3 +75,7 @@ more_bits mode m fs k d within =
     let many : length (map mode (take k fs)) ≡ k = length-map (take k fs) mode ∙ length-take-le k fs (omega arith) in
     ap (with_history m) (map_more mode fs k d within) ∙ one_bit_more m (map mode (take k fs)) (mode (get_or fs k d))
     ∙ ap (λ i. with_bit i (mode (get_or fs k d)) (with_history m (map mode (take k fs)))) (ap suc many ∙ omega arith)
+
+pub length_told : (m : FlatModel) (fs : List Mode) (before trace : List (List Value)) → length (told_from m fs before trace) ≡ length trace
+length_told m fs before [] = refl
+length_told m fs before (v ∷ vs) = ap suc (length_told m fs (before ++ v ∷ []) vs)

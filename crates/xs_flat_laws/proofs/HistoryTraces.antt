@@ -1,5 +1,5 @@
 -- The traces of a model with history bits are those of the model, each with the bits of its history.
-use Rattle.std.proofs.Common.{◌≡◌, ℕ, zero, suc, ◌<◌, Bool, true, false, ◌||◌, List, [], ◌∷◌, ◌++◌, length, map, Option, Some, refl, ap, ◌∙◌, sym, subst, arith}
+use Rattle.std.proofs.Common.{◌≡◌, ℕ, zero, suc, ◌<◌, Bool, true, ◌||◌, List, [], ◌∷◌, ◌++◌, length, map, Option, Some, refl, ap, ◌∙◌, sym, subst, arith}
 use Rattle.std.proofs.lemmas.List.{append_assoc, length-map}
 use Rattle.std.specs.Prelude.{slice_get, ◌↔◌, IsTrue}
 use Rattle.xs_tree.specs.declared.expr.Op.TheVariants as op
@@ -11,10 +11,12 @@ use Rattle.xs_tree.specs.Flat.{FlatLeaf, flat_variable, flat_symbol, flat_defini
 use Rattle.xs_flat_laws.specs.Resolved.{leaves_in}
 use Rattle.xs_flat_laws.specs.History.{Mode, bit_variables, bit_at_first, bit_at_step, bits_at_first, bits_at_step, with_history}
 use Rattle.xs_flat_laws.specs.FlatTrace.{AreInDomains, IsFlatMoment, IsFlatStep, IsFlatTrace, is_symbol_value, stands, stands_in_some, bits_after, told_from, IsOwnName, IsOwnFormula, NamesOwn, IsModeOf}
-use Rattle.xs_flat_laws.proofs.Lists.{get_left, length_end, get_within, each_more}
+use Rattle.xs_flat_laws.proofs.Lists.{length_end, get_within, each_more}
 use Rattle.xs_flat_laws.proofs.Reaches.{each_left, each_right}
-use Rattle.xs_flat_laws.proofs.Conditions.{iff_then, each_join, MayBe, within_iff, may_one}
+use Rattle.xs_flat_laws.proofs.Conditions.{each_join, MayBe, within_iff, may_one}
 use Rattle.xs_flat_laws.proofs.Now.{BothSame, same_on}
+use Rattle.xs_tree.proofs.BoolLaws.{iff_trans, or_false, or_grouped}
+use Rattle.xs_value.proofs.ListLaws.{get_left}
 
 -- More values change nothing for formulas that do not read them.
 pub get_before : {A : Type 0} (xs ys : List A) (i : ℕ) → i < length xs → slice_get (xs ++ ys) i ≡ slice_get xs i
@@ -82,13 +84,13 @@ stands_gives m u f r = rw (r.has, r.of_model) refl
 pub within_one : (a b : Option Values) (x y : Value) → a ≡ Some (one x) → b ≡ Some (one y) → (MayBe (gives_within a b) (truth true) ↔ (x ≡ y))
 within_one a b x y e g =
     subst (λ o. MayBe (gives_within o b) (truth true) ↔ (x ≡ y)) (sym e)
-    (subst (λ o. MayBe (gives_within (Some (one x)) o) (truth true) ↔ (x ≡ y)) (sym g) (iff_then (within_iff (Some (one y)) x) (may_one y x)))
+    (subst (λ o. MayBe (gives_within (Some (one x)) o) (truth true) ↔ (x ≡ y)) (sym g) (iff_trans (within_iff (Some (one y)) x) (may_one y x)))
 
 pub get_middle : {A : Type 0} (xs ys : List A) (x : A) → slice_get (xs ++ x ∷ ys) (length xs) ≡ Some x
 get_middle [] ys x = refl
 get_middle (y ∷ xs) ys x = get_middle xs ys x
 
-joined : (a b : List Value) (as' bs : List (List Value)) → a ≡ b → as' ≡ bs → (a ∷ as') ≡ (b ∷ bs)
+pub joined : (a b : List Value) (as' bs : List (List Value)) → a ≡ b → as' ≡ bs → (a ∷ as') ≡ (b ∷ bs)
 joined a b as' bs e g = cc
 
 -- lists with a bit in front, put together and taken apart
@@ -236,17 +238,9 @@ stands_longer m v more f h is =
     let b : (b : Value) × (slice_get v f.variable ≡ Some b) × IsTrue (in_domain is.variable.declared b) = domain_at m.variables v f.variable is.variable h is.is_variable in
     ap (is_symbol_value (slice_get m.symbols f.symbol)) (get_left v more f.variable b.0 b.1 ∙ sym b.1)
 
-pub or_false : (a : Bool) → (a || false) ≡ a
-or_false true = refl
-or_false false = refl
-
-or_more : (a b c : Bool) → (a || (b || c)) ≡ ((a || b) || c)
-or_more true b c = refl
-or_more false b c = refl
-
 stands_last : (m : FlatModel) (f : Mode) (vs : List (List Value)) (v : List Value) → stands_in_some m f (vs ++ v ∷ []) ≡ (stands_in_some m f vs || stands m f v)
 stands_last m f [] v = or_false (stands m f v)
-stands_last m f (w ∷ vs) v = ap (λ b. stands m f w || b) (stands_last m f vs v) ∙ or_more (stands m f w) (stands_in_some m f vs) (stands m f v)
+stands_last m f (w ∷ vs) v = ap (λ b. stands m f w || b) (stands_last m f vs v) ∙ or_grouped (stands m f w) (stands_in_some m f vs) (stands m f v)
 
 map_truths : (a : Mode → Bool) (fs : List Mode) → map truth (map a fs) ≡ map (λ f. truth (a f)) fs
 map_truths a [] = refl

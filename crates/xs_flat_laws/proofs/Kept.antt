@@ -4,7 +4,6 @@ use Rattle.std.specs.Prelude.{codes, slice_get, map, nat_eq}
 use Rattle.std.proofs.Common.{eqb-true}
 use Rattle.xs_tree.specs.ProgramTree.{Text, Formula, instance, ModuleTree, ProgramTree}
 use Rattle.xs_tree.specs.Values.{opposite}
-use Rattle.xs_tree.specs.Texts.{same_text}
 use Rattle.xs_tree.specs.Scope.{Place, an_instance, find_module, formal_from, kind_in_sections, kind_in}
 use Rattle.xs_tree.specs.Trace.{Each, IsInstance}
 use Rattle.xs_tree.specs.Flat.{FlatInstance}
@@ -16,16 +15,6 @@ use Rattle.xs_flat_laws.proofs.KindLaws.{no_formal_instance, DeclaredBy, declare
 use Rattle.xs_flat_laws.proofs.Sections.{AreInstances, one_tree}
 use Rattle.xs_flat_laws.proofs.Places.{VisitFacts, all_visit_facts, Walked, walked, found_at, in_items, are_instances, there, In}
 use Rattle.xs_flat_laws.proofs.Walkable.{accepted_walkable, main_is_there}
-use Rattle.xs_tree.proofs.OneTree.{same_text_equal}
-
--- the module of a name has the name
-pub module_named : (p : ProgramTree) (x : Text) (m : ModuleTree) → find_module p x ≡ Some m → m.name ≡ x
-module_named [] x m e = cc
-module_named (k ∷ ms) x m e = by_name (same_text k.name x) refl (module_named ms x m)
-  where
-    by_name : (b : Bool) → same_text k.name x ≡ b → (find_module ms x ≡ Some m → m.name ≡ x) → m.name ≡ x
-    by_name true t rest = let found : Some k ≡ Some m = rw t at e in let same : k ≡ m = cc in subst (λ (j : ModuleTree). j.name ≡ x) same (same_text_equal k.name x t)
-    by_name false t rest = rest (rw t at e)
 
 -- an item of an instance, at which no rule is broken
 pub record KeptItem (p : ProgramTree) (at : Place) (item : Item) : Type 0 where

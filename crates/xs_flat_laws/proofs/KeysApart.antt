@@ -1,5 +1,5 @@
 -- No instance and no definition is listed twice.
-use Rattle.std.proofs.Common.{◌≡◌, ℕ, zero, suc, ◌≤◌, arith, Bool, true, false, ◌||◌, List, [], ◌∷◌, ◌++◌, Option, Some, None, length, refl, sym, ◌∙◌, ap, subst}
+use Rattle.std.proofs.Common.{◌≡◌, ℕ, suc, ◌≤◌, arith, Bool, true, false, ◌||◌, List, [], ◌∷◌, ◌++◌, Option, Some, None, length, refl, sym, ◌∙◌, subst}
 use Rattle.std.specs.Prelude.{flat_map, codes, slice_get}
 use Rattle.xs_tree.specs.ProgramTree.{Text, Path, Formula, DeclaredTree, boolean, range, members, instance, ModuleTree, ProgramTree}
 use Rattle.xs_tree.proofs.ValueLaws.{same_text_refl}
@@ -11,33 +11,12 @@ use Rattle.xs_flat_laws.specs.Items.{Item, a_declaration, a_definition, an_assig
 use Rattle.xs_flat_laws.specs.Rules.{names_of_item, is_name_again, IsWalkable}
 use Rattle.xs_flat_laws.specs.Model.{Root, root_of_actual, roots_of_actuals, roots_of_type, roots_of_item, roots_of}
 use Rattle.xs_flat_laws.proofs.Lists.{each_more}
-use Rattle.xs_flat_laws.proofs.Conditions.{each_join, each_at, each_from}
+use Rattle.xs_flat_laws.proofs.Conditions.{each_join, each_from}
 use Rattle.xs_flat_laws.proofs.KindLaws.{ItemFacts}
 use Rattle.xs_flat_laws.proofs.Places.{facts_named, all_visit_facts, are_instances}
 use Rattle.xs_flat_laws.proofs.Apart.{Differ, Apart, LaterThan, Ordered, among_right, found_ordered, walk_apart}
 use Rattle.xs_flat_laws.proofs.Walkable.{main_is_there}
-
--- each item of a list is so to each after it
-abbrev pub Pairwise : {A : Type 0} → (A → A → Type 0) → List A → Type 0
-Pairwise R [] = Unit {0}
-Pairwise R (x ∷ xs) = Each (R x) xs × Pairwise R xs
-
-pub pairwise_join : {A : Type 0} (R : A → A → Type 0) (xs ys : List A) → Pairwise R xs → Pairwise R ys → Each (λ x. Each (R x) ys) xs → Pairwise R (xs ++ ys)
-pairwise_join R [] ys h k c = k
-pairwise_join R (x ∷ xs) ys h k c = (each_join (R x) xs ys h.0 c.0, pairwise_join R xs ys h.1 k c.1)
-
--- two places of a list hold what is not so to one another: they are one place
-pub pairwise_same : {A : Type 0} (R : A → A → Type 0) (xs : List A) (i j : ℕ) (x y : A) → Pairwise R xs → slice_get xs i ≡ Some x → slice_get xs j ≡ Some y →
-    (R x y → ⊥) → (R y x → ⊥) → i ≡ j
-pairwise_same R [] i j x y h e f m n = cc
-pairwise_same R (z ∷ xs) zero zero x y h e f m n = refl
-pairwise_same R (z ∷ xs) zero (suc j) x y h e f m n = let same : z ≡ x = cc in absurd (m (subst (λ w. R w y) same (each_at (R z) xs j y h.0 f)))
-pairwise_same R (z ∷ xs) (suc i) zero x y h e f m n = let same : z ≡ y = cc in absurd (n (subst (λ w. R w x) same (each_at (R z) xs i x h.0 e)))
-pairwise_same R (z ∷ xs) (suc i) (suc j) x y h e f m n = ap suc (pairwise_same R xs i j x y h.1 e f m n)
-
-cross : {A : Type 0} (R : A → A → Type 0) (P Q : A → Type 0) (xs ys : List A) → ((x y : A) → P x → Q y → R x y) → Each P xs → Each Q ys → Each (λ x. Each (R x) ys) xs
-cross R P Q [] ys f h k = tt
-cross R P Q (x ∷ xs) ys f h k = (each_more Q (R x) ys (λ y q. f x y h.0 q) k, cross R P Q xs ys f h.1 k)
+use Rattle.xs_flat_laws.proofs.Pairs.{Pairwise, pairwise_same, pairs_join, across_kinds}
 
 -- Instances.
 abbrev pub OtherPlace : FlatInstance → FlatInstance → Type 0
@@ -65,7 +44,7 @@ visited_apart (v ∷ vs) h = of_one v.decl.what (inside_differs v vs h.0) (visit
     of_one (members ms) d rest = rest
     of_one (instance m actuals) d rest = (d, rest)
 
-below_main : (vs : List Visit) → Each (λ (b : FlatInstance). [] ≡ b.place → ⊥) (flat_map instances_of_visit vs)
+pub below_main : (vs : List Visit) → Each (λ (b : FlatInstance). [] ≡ b.place → ⊥) (flat_map instances_of_visit vs)
 below_main [] = tt
 below_main (v ∷ vs) = each_join (λ (b : FlatInstance). [] ≡ b.place → ⊥) (instances_of_visit v) (flat_map instances_of_visit vs) (of_one v.decl.what) (below_main vs)
   where
@@ -206,8 +185,8 @@ items_keys at m (i ∷ is) facts ordered = of_item i.item ordered.0 (items_keys 
         Each (λ (r : Root). KeyOf at x r.key) (roots_of_item at i.number item) → Pairwise OtherKey (roots_of_items at is) × Each (KeySome at) (roots_of_items at is) →
         Pairwise OtherKey (roots_of_item at i.number item ++ roots_of_items at is) × Each (KeySome at) (roots_of_item at i.number item ++ roots_of_items at is)
     joined item x named later apart keys rest = (
-      pairwise_join OtherKey (roots_of_item at i.number item) (roots_of_items at is) apart rest.0
-          (cross OtherKey (λ (r : Root). KeyOf at x r.key) (KeyElse at x) (roots_of_item at i.number item) (roots_of_items at is) (λ r s k e. other_names at x e.0 r.key s.key e.1 k e.2) keys
+      pairs_join OtherKey (roots_of_item at i.number item) (roots_of_items at is) apart rest.0
+          (across_kinds (λ (r : Root). KeyOf at x r.key) (KeyElse at x) OtherKey (λ r s k e. other_names at x e.0 r.key s.key e.1 k e.2) (roots_of_item at i.number item) (roots_of_items at is) keys
           (keys_else at m i.before item x named is facts.1 later)),
       each_join (KeySome at) (roots_of_item at i.number item) (roots_of_items at is) (each_more (λ (r : Root). KeyOf at x r.key) (KeySome at) (roots_of_item at i.number item) (λ r k. (x, k)) keys) rest.1,
     )
@@ -239,9 +218,9 @@ some_at p a (b ∷ bs) other keys =
 all_keys : (p : ProgramTree) (as' : List FlatInstance) → Pairwise OtherPlace as' → Each (HasKeys p) as' → Pairwise OtherKey (flat_map (roots_at p) as')
 all_keys p [] apart keys = tt
 all_keys p (a ∷ as') apart keys =
-    pairwise_join OtherKey (roots_at p a) (flat_map (roots_at p) as') keys.0.0 (all_keys p as' apart.1 keys.1)
-    (cross OtherKey (KeySome a.place) (λ (r : Root). (bt : Place) × (a.place ≡ bt → ⊥) × KeySome bt r) (roots_at p a) (flat_map (roots_at p) as')
-    (λ r s k e. other_places a.place e.0 k.0 e.2.0 r.key s.key e.1 k.1 e.2.1) keys.0.1 (some_at p a as' apart.0 keys.1))
+    pairs_join OtherKey (roots_at p a) (flat_map (roots_at p) as') keys.0.0 (all_keys p as' apart.1 keys.1)
+    (across_kinds (KeySome a.place) (λ (r : Root). (bt : Place) × (a.place ≡ bt → ⊥) × KeySome bt r) OtherKey
+    (λ r s k e. other_places a.place e.0 k.0 e.2.0 r.key s.key e.1 k.1 e.2.1) (roots_at p a) (flat_map (roots_at p) as') keys.0.1 (some_at p a as' apart.0 keys.1))
 
 -- no definition is listed twice
 pub keys_apart : (p : ProgramTree) → IsWalkable p → Pairwise OtherKey (roots_of p)

@@ -3,15 +3,18 @@ use Rattle.std.proofs.Common.{◌≡◌, ℕ, suc, ◌+◌, Bool, true, false, L
 use Rattle.std.specs.Prelude.{slice_get, map, flat_map, length, if◌then◌else◌}
 use Rattle.xs_tree.specs.ProgramTree.{Text, Formula, DeclaredTree, boolean, range, members, instance, DeclTree, DefineTree, AssignmentTree, SectionTree, var, ivar, frozen, define, constants, assign, init, invar, trans, ModuleTree, ProgramTree}
 use Rattle.xs_tree.proofs.ValueLaws.{same_text_refl}
-use Rattle.xs_tree.specs.Scope.{Role, state, input, frozen_role, Kind, a_define, an_instance, undeclared, formal_from, kind_declared, kind_in_decls, kind_in_defines, kind_in_sections, kind_after_formals, kind_in, find_module}
+use Rattle.xs_tree.specs.Scope.{Role, state, input, frozen_role, Kind, a_define, an_instance, undeclared, kind_declared, kind_in_decls, kind_in_defines, kind_in_sections, kind_after_formals, kind_in, find_module}
 use Rattle.xs_tree.specs.Trace.{Each}
 use Rattle.xs_flat_laws.specs.Items.{Item, a_declaration, a_definition, an_assignment, some_constants, an_init, an_invar, a_trans, NumberedItem, NumberedModule, items_of_section, items_of, numbered_from, modules_from, modules_of, numbered_items, items_found}
-use Rattle.xs_flat_laws.specs.Rules.{names_of_item, is_name_again, double_name, a_header, an_item, IsKept, IsWalkable}
+use Rattle.xs_flat_laws.specs.Rules.{names_of_item, is_name_again, double_name, a_header, an_item, IsKept, IsWalkable, may_be_assigned}
 use Rattle.xs_flat_laws.proofs.Lists.{each_of_map, each_more}
 use Rattle.xs_flat_laws.proofs.Conditions.{each_flat}
 use Rattle.xs_tree.specs.Texts.{same_text, is_among}
 use Rattle.xs_tree.proofs.OneTree.{same_text_equal}
 use Rattle.std.proofs.lemmas.Bool.{false_from_ne_true as not_true, or_parts as neither}
+use Rattle.xs_tree.specs.declared.program.Moment.{Moment}
+use Rattle.xs_tree.specs.declared.program.Moment.TheVariants.{Always, First, After}
+use Rattle.xs_tree.proofs.ProgramLaws.{no_formal}
 
 abbrev pub kind_of_item : Item → Text → Kind → Kind
 kind_of_item (a_declaration role d) x other = if same_text d.name x then kind_declared role d.what else other
@@ -57,11 +60,6 @@ among_split [] ys x h = (refl, h)
 among_split (z ∷ xs) ys x h =
     let s : (same_text z x ≡ false) × (is_among (xs ++ ys) x ≡ false) = neither _ _ h in
     let r : (is_among xs x ≡ false) × (is_among ys x ≡ false) = among_split xs ys x s.1 in (rw s.0 r.0, r.1)
-
-pub no_formal : (i : ℕ) (formals : List Text) (x : Text) → is_among formals x ≡ false → formal_from i formals x ≡ None
-no_formal i [] x h = refl
-no_formal i (y ∷ formals) x h =
-    let s : (same_text y x ≡ false) × (is_among formals x ≡ false) = neither _ _ h in rw s.0 (no_formal (suc i) formals x s.1)
 
 declared_kind : (before : List Item) (role : Role) (d : DeclTree) (after : List Item) → is_among (flat_map names_of_item before) d.name ≡ false →
     kind_in_items (before ++ a_declaration role d ∷ after) d.name ≡ kind_declared role d.what
@@ -167,3 +165,8 @@ found_facts (first ∷ more) n before x m e h = by_name (same_text first.name x)
     by_name false t rest =
         let found : find_module more x ≡ Some m = rw t at e in
         rw t (rest found)
+
+pub not_assigned_none : (when : Moment) → may_be_assigned when undeclared ≡ false
+not_assigned_none Always = refl
+not_assigned_none First = refl
+not_assigned_none After = refl

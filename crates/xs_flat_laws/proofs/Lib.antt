@@ -22,6 +22,7 @@ pub mod Mirror
 pub mod Variables
 pub mod Apart
 pub mod Numbered
+pub mod Pairs
 pub mod KeysApart
 pub mod OneTree
 pub mod OneModel
@@ -31,3 +32,6 @@ pub mod Kept
 pub mod Meant
 pub mod Listed
 pub mod OneOfTwo
+pub mod VariableCounts
+pub mod BothLaws
+pub mod Found

@@ -1,16 +1,16 @@
 -- Each list of values by number is that of a valuation.
-use Rattle.std.proofs.Common.{◌≡◌, ℕ, zero, suc, arith, Bool, true, false, ◌&&◌, List, [], ◌∷◌, length, Some, refl, sym, ◌∙◌, subst}
+use Rattle.std.proofs.Common.{◌≡◌, ℕ, zero, suc, arith, Bool, true, false, ◌&&◌, List, [], ◌∷◌, length, Some, refl, sym, ◌∙◌, subst, eq-eqb}
 use Rattle.std.specs.Prelude.{slice_get, if◌then◌else◌, codes}
 use Rattle.xs_tree.specs.ProgramTree.{ModuleTree, ProgramTree}
 use Rattle.xs_tree.specs.Values.{Value, truth}
 use Rattle.xs_tree.proofs.ValueLaws.{same_text_refl}
-use Rattle.xs_tree.specs.Scope.{Place, find_module}
+use Rattle.xs_tree.specs.Scope.{Place, Key, define_key, actual_key, find_module}
 use Rattle.xs_tree.specs.May.{Valuation}
-use Rattle.xs_tree.specs.Trace.{Each}
+use Rattle.xs_tree.specs.Trace.{Each, EachBoth}
 use Rattle.xs_tree.specs.Flat.{FlatVariable, FlatModel, Numbers}
 use Rattle.xs_flat_laws.specs.Items.{Visit, variables_of}
 use Rattle.xs_flat_laws.specs.Rules.{IsAccepted}
-use Rattle.xs_flat_laws.specs.Model.{same_place, IsVariableOf, EachBoth, IsFlatOf}
+use Rattle.xs_flat_laws.specs.Model.{same_place, same_key, IsVariableOf, IsFlatOf}
 use Rattle.xs_flat_laws.proofs.Apart.{Differ, Apart, variables_apart}
 use Rattle.xs_flat_laws.proofs.Walkable.{accepted_walkable, main_is_there}
 use Rattle.xs_tree.specs.Texts.{same_text}
@@ -20,6 +20,10 @@ use Rattle.xs_tree.proofs.OneTree.{same_text_equal}
 pub same_place_refl : (at : Place) → same_place at at ≡ true
 same_place_refl [] = refl
 same_place_refl (x ∷ at) = rw (same_text_refl x, same_place_refl at) refl
+
+pub same_key_refl : (k : Key) → same_key k k ≡ true
+same_key_refl (define_key at x) = rw (same_place_refl at) (same_text_refl x)
+same_key_refl (actual_key at i) = rw (same_place_refl at) (eq-eqb i i refl)
 
 pub same_place_equal : (at bt : Place) → same_place at bt ≡ true → at ≡ bt
 same_place_equal [] [] h = refl

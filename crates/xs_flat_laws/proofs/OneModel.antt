@@ -7,19 +7,20 @@ use Rattle.xs_tree.specs.ProgramTree.{Text, Path, Formula, ModuleTree, ProgramTr
 use Rattle.xs_tree.specs.Texts.{same_text, is_among}
 use Rattle.xs_tree.proofs.ValueLaws.{same_text_refl}
 use Rattle.xs_tree.specs.Scope.{Place, Key, Meaning, a_variable_at, an_expression_at, an_instance_at, a_symbol, find_module}
-use Rattle.xs_tree.specs.Trace.{Each}
+use Rattle.xs_tree.specs.Trace.{Each, EachBoth}
 use Rattle.xs_tree.specs.Flat.{FlatLeaf, flat_variable, flat_symbol, flat_definition, FlatVariable, FlatFormula, FlatModel}
 use Rattle.xs_flat_laws.specs.Resolved.{leaves_in, Definition, StandsFor, IsLeafOf, IsResolved}
 use Rattle.xs_flat_laws.specs.Items.{items_of, Visit, variables_of}
 use Rattle.xs_flat_laws.specs.Rules.{IsWalkable, expression_of}
-use Rattle.xs_flat_laws.specs.Model.{Condition, plain, now_among, next_among, kept, Written, conditions, first_conditions, each_conditions, step_conditions, kept_conditions, IsVariableNumber, IsConditionTree, IsInstanceNumber, IsFormulaOf, IsVariableOf, EachBoth, first_appearances, symbols_of_item, symbols_of, Root, roots_of, keys_of_meaning, AreNamed, Adds, AddsAll, stands, comes, no_more, one_more, IsDefinitionOf, KeysDiffer, IsFlatOf}
+use Rattle.xs_flat_laws.specs.Model.{Condition, plain, now_among, next_among, kept, Written, conditions, first_conditions, each_conditions, step_conditions, kept_conditions, IsVariableNumber, IsConditionTree, IsInstanceNumber, IsFormulaOf, IsVariableOf, first_appearances, symbols_of_item, symbols_of, Root, roots_of, keys_of_meaning, AreNamed, Adds, AddsAll, stands, comes, no_more, one_more, IsDefinitionOf, KeysDiffer, IsFlatOf}
 use Rattle.xs_flat_laws.proofs.Resolving.{same_meaning}
 use Rattle.xs_flat_laws.proofs.Variables.{both_at_second}
 use Rattle.xs_flat_laws.proofs.Apart.{Differ, Apart, variables_apart}
-use Rattle.xs_flat_laws.proofs.KeysApart.{Pairwise, pairwise_join, pairwise_same, one_number, one_root}
+use Rattle.xs_flat_laws.proofs.KeysApart.{one_number, one_root}
 use Rattle.xs_flat_laws.proofs.OneTree.{one_tree}
 use Rattle.xs_flat_laws.proofs.Walkable.{main_is_there}
 use Rattle.std.proofs.lemmas.Option.{some_pair_parts as both_parts}
+use Rattle.xs_flat_laws.proofs.Pairs.{pairs_join, Pairwise, pairwise_same}
 
 -- The order of definitions.
 pub named_one : (p : ProgramTree) (at : Place) (names : List Path) (ks js : List Key) → AreNamed p at names ks → AreNamed p at names js → ks ≡ js
@@ -120,7 +121,7 @@ appear_apart seen (x ∷ xs) h = appear_apart (if is_among seen x then seen else
   where
     by_test : (b : Bool) → is_among seen x ≡ b → Pairwise OtherText (if is_among seen x then seen else seen ++ x ∷ [])
     by_test true t = rw t h
-    by_test false t = rw t (pairwise_join OtherText seen (x ∷ []) h (tt, tt) (one_after seen x (not_among seen x t)))
+    by_test false t = rw t (pairs_join OtherText seen (x ∷ []) h (tt, tt) (one_after seen x (not_among seen x t)))
 
 -- no symbol is listed twice
 pub symbols_apart : (p : ProgramTree) → Pairwise OtherText (symbols_of p)

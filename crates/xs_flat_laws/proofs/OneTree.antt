@@ -46,7 +46,7 @@ mutual
       ∙ ap (branch_then (tree_map g c) (tree_map g a)) (branches_same f g bs (each_right (λ l. f l ≡ g l) (leaves_in a) (branches_leaves bs) more))
 
 -- a leaf that is there, and another one where there is none
-abbrev leaf_or : Option FlatLeaf → FlatLeaf
+abbrev pub leaf_or : Option FlatLeaf → FlatLeaf
 leaf_or None = flat_symbol 0
 leaf_or (Some l) = l
 

@@ -8,13 +8,13 @@ use Rattle.xs_tree.specs.Flat.{FlatInstance}
 use Rattle.xs_flat_laws.specs.Items.{Item, a_declaration, a_definition, an_assignment, some_constants, an_init, an_invar, a_trans, NumberedItem, items_of, items_named, items_found, numbered_from, modules_from, Visit, visits_inside, visits_of, walk_items, walk, visits, instance_declared, instances_of_visit, instances_of}
 use Rattle.xs_flat_laws.specs.Rules.{is_missing_instance, is_miscounted, is_on_path, no_such_module, wrong_count, module_loop, visit_sites, IsKept, IsWalkable}
 use Rattle.xs_flat_laws.proofs.Reaches.{each_left, each_right}
-use Rattle.xs_flat_laws.proofs.Lists.{get_left}
 use Rattle.xs_flat_laws.proofs.Conditions.{each_join, each_at}
 use Rattle.xs_flat_laws.proofs.Sections.{AreInstances}
 use Rattle.xs_flat_laws.proofs.KindLaws.{no_formal_instance, ItemFacts, kind_of_declaration, sections_kind, DeclaredBy, declared_by, all_facts, found_facts}
 use Rattle.xs_flat_laws.proofs.Pigeons.{IsThere, AreApart, no_more_names}
 use Rattle.xs_tree.specs.Texts.{same_text, is_among}
 use Rattle.std.proofs.lemmas.Bool.{false_from_ne_true as not_true}
+use Rattle.xs_value.proofs.ListLaws.{get_left}
 
 -- Membership by place.
 abbrev pub In : {A : Type 0} → A → List A → Type 0

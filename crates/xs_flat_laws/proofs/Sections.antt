@@ -11,8 +11,9 @@ use Rattle.xs_tree.specs.Flat.{FlatInstance, FlatModel}
 use Rattle.xs_flat_laws.specs.Items.{Item, a_declaration, a_definition, an_assignment, NumberedItem, items_of_section, items_of, numbered_from, modules_from, items_found, items_named, instances_of}
 use Rattle.xs_flat_laws.specs.Model.{Condition, kept_declared, assigned_first, assigned_each, assigned_step, first_conditions, each_conditions, step_conditions, kept_conditions, Written, written_at, conditions, IsFlatOf, IsFlattened}
 use Rattle.xs_flat_laws.proofs.Reaches.{each_left, each_right}
-use Rattle.xs_flat_laws.proofs.Conditions.{iff_then, each_iff, each_join, each_flat, each_mapped, each_at, each_from, Asks, formulas_exactly}
+use Rattle.xs_flat_laws.proofs.Conditions.{each_iff, each_join, each_flat, each_mapped, each_at, each_from, Asks, formulas_exactly}
 use Rattle.xs_tree.specs.Texts.{same_text}
+use Rattle.xs_tree.proofs.BoolLaws.{iff_trans}
 
 -- the listed instances are those of the program
 pub record AreInstances (p : ProgramTree) : Type 0 where
@@ -70,10 +71,10 @@ module _ (p : ProgramTree) (are : AreInstances p) where
       (Each (λ (c : Written). A c.place c.condition) (conditions what p)
       ↔ ((at : Place) (m : ModuleTree) → IsInstance p at m → Each (λ i. Each (A at) (what i)) (items_of m)))
   conditions_are what A =
-      iff_then (each_flat (λ (c : Written). A c.place c.condition) (λ (x : FlatInstance). flat_map (written_at what x.place) (items_named p x.module_name)) (instances_of p))
-      (iff_then (each_iff (λ (x : FlatInstance). Each (λ (c : Written). A c.place c.condition) (flat_map (written_at what x.place) (items_named p x.module_name)))
+      iff_trans (each_flat (λ (c : Written). A c.place c.condition) (λ (x : FlatInstance). flat_map (written_at what x.place) (items_named p x.module_name)) (instances_of p))
+      (iff_trans (each_iff (λ (x : FlatInstance). Each (λ (c : Written). A c.place c.condition) (flat_map (written_at what x.place) (items_named p x.module_name)))
       (λ (x : FlatInstance). Each (λ (i : NumberedItem). Each (A x.place) (what i.item)) (items_named p x.module_name)) (instances_of p)
-      (λ x. iff_then (each_flat (λ (c : Written). A c.place c.condition) (written_at what x.place) (items_named p x.module_name))
+      (λ x. iff_trans (each_flat (λ (c : Written). A c.place c.condition) (written_at what x.place) (items_named p x.module_name))
       (each_iff (λ (i : NumberedItem). Each (λ (c : Written). A c.place c.condition) (written_at what x.place i)) (λ (i : NumberedItem). Each (A x.place) (what i.item)) (items_named p x.module_name)
       (λ i. each_mapped (λ (c : Written). A c.place c.condition) (λ c. record { place = x.place; item = i.number; condition = c }) (what i.item)))))
       (at_instances (λ at i. Each (A at) (what i))))
@@ -123,7 +124,7 @@ module _ (p : ProgramTree) (are : AreInstances p) where
   first_section v at (define ds) = from_nothing (nothing_asked (Asks p v v at) first_conditions a_definition ds (λ d. refl))
   first_section v at (constants xs) = from_nothing (tt, tt)
   first_section v at (assign xs) =
-      iff_then (each_mapped (λ i. Each (Asks p v v at) (first_conditions i)) an_assignment xs)
+      iff_trans (each_mapped (λ i. Each (Asks p v v at) (first_conditions i)) an_assignment xs)
       (each_iff (λ a. Each (Asks p v v at) (assigned_first a.when a.target a.value)) (λ a. FirstAssigned p at v a.when a.target a.value) xs (λ a. first_assigned v at a.when a.target a.value))
   first_section v at (init e) = one_asked
   first_section v at (invar e) = from_nothing (tt, tt)
@@ -136,7 +137,7 @@ module _ (p : ProgramTree) (are : AreInstances p) where
   each_section v at (define ds) = from_nothing (nothing_asked (Asks p v v at) each_conditions a_definition ds (λ d. refl))
   each_section v at (constants xs) = from_nothing (tt, tt)
   each_section v at (assign xs) =
-      iff_then (each_mapped (λ i. Each (Asks p v v at) (each_conditions i)) an_assignment xs)
+      iff_trans (each_mapped (λ i. Each (Asks p v v at) (each_conditions i)) an_assignment xs)
       (each_iff (λ a. Each (Asks p v v at) (assigned_each a.when a.target a.value)) (λ a. EachAssigned p at v a.when a.target a.value) xs (λ a. each_assigned v at a.when a.target a.value))
   each_section v at (init e) = from_nothing (tt, tt)
   each_section v at (invar e) = one_asked
@@ -160,7 +161,7 @@ module _ (p : ProgramTree) (are : AreInstances p) where
       from_nothing (nothing_asked (Asks p v w at) step_conditions (a_declaration input) ds (λ d. refl), nothing_asked (Asks p v w at) kept_conditions (a_declaration input) ds (λ d. refl))
   step_section v w at (frozen ds) =
       let kept_each : Each (λ i. Each (Asks p v w at) (kept_conditions i)) (map (a_declaration frozen_role) ds) ↔ Each (λ (d : DeclTree). Keeps v w at d.name d.what) ds =
-      iff_then (each_mapped (λ i. Each (Asks p v w at) (kept_conditions i)) (a_declaration frozen_role) ds)
+      iff_trans (each_mapped (λ i. Each (Asks p v w at) (kept_conditions i)) (a_declaration frozen_role) ds)
       (each_iff (λ (d : DeclTree). Each (Asks p v w at) (kept_declared d.name d.what)) (λ (d : DeclTree). Keeps v w at d.name d.what) ds (λ d. declared_keeps v w at d.name d.what)) in
       ((λ h. kept_each.0 h.1), (λ h. (nothing_asked (Asks p v w at) step_conditions (a_declaration frozen_role) ds (λ d. refl), kept_each.1 h)))
   step_section v w at (define ds) =
@@ -168,7 +169,7 @@ module _ (p : ProgramTree) (are : AreInstances p) where
   step_section v w at (constants xs) = from_nothing ((tt, tt), (tt, tt))
   step_section v w at (assign xs) =
       let each_of : Each (λ i. Each (Asks p v w at) (step_conditions i)) (map an_assignment xs) ↔ Each (λ (a : AssignmentTree). NextAssigned p at v w a.when a.target a.value) xs =
-      iff_then (each_mapped (λ i. Each (Asks p v w at) (step_conditions i)) an_assignment xs)
+      iff_trans (each_mapped (λ i. Each (Asks p v w at) (step_conditions i)) an_assignment xs)
       (each_iff (λ (a : AssignmentTree). Each (Asks p v w at) (assigned_step a.when a.target a.value)) (λ (a : AssignmentTree). NextAssigned p at v w a.when a.target a.value) xs (λ a. step_assigned v w at a.when a.target a.value)) in
       ((λ h. each_of.0 h.0), (λ h. (each_of.1 h, nothing_asked (Asks p v w at) kept_conditions an_assignment xs (λ d. refl))))
   step_section v w at (init e) = from_nothing ((tt, tt), (tt, tt))
@@ -182,7 +183,7 @@ module _ (p : ProgramTree) (are : AreInstances p) where
       ((λ g at m is. (at_module at m).0 (g at m is)), (λ g at m is. (at_module at m).1 (g at m is)))
     where
       at_module : (at : Place) (m : ModuleTree) → (Each (C at) (items_of m) ↔ Each (S at) m.sections)
-      at_module at m = iff_then (each_flat (C at) items_of_section m.sections) (each_iff (λ s. Each (C at) (items_of_section s)) (S at) m.sections (h at))
+      at_module at m = iff_trans (each_flat (C at) items_of_section m.sections) (each_iff (λ s. Each (C at) (items_of_section s)) (S at) m.sections (h at))
 
   two_each : {T : Type 0} (P Q R : T → Type 0) (ts : List T) → ((t : T) → (P t × Q t) ↔ R t) → ((Each P ts × Each Q ts) ↔ Each R ts)
   two_each P Q R [] h = ((λ g. tt), (λ g. (tt, tt)))
@@ -205,21 +206,21 @@ module _ (p : ProgramTree) (are : AreInstances p) where
           each_flat (λ i. Each (Asks p v w at) (step_conditions i)) items_of_section m.sections in
           let b : Each (λ i. Each (Asks p v w at) (kept_conditions i)) (items_of m) ↔ Each (λ s. Each (λ i. Each (Asks p v w at) (kept_conditions i)) (items_of_section s)) m.sections =
           each_flat (λ i. Each (Asks p v w at) (kept_conditions i)) items_of_section m.sections in
-          iff_then ((λ g. (a.0 g.0, b.0 g.1)), (λ g. (a.1 g.0, b.1 g.1)))
+          iff_trans ((λ g. (a.0 g.0, b.0 g.1)), (λ g. (a.1 g.0, b.1 g.1)))
           (two_each (λ s. Each (λ i. Each (Asks p v w at) (step_conditions i)) (items_of_section s)) (λ s. Each (λ i. Each (Asks p v w at) (kept_conditions i)) (items_of_section s)) (StepSection p at v w) m.sections (step_section v w at))
 
   -- the law: the model's formulas hold exactly where the program's conditions do
   pub flattened : (m : FlatModel) → IsFlatOf p m → IsFlattened p m
   flattened m is = record {
     first = λ v named num.
-        iff_then (formulas_exactly p m is.written is.resolver is.sound is.definitions v v named named num num (conditions first_conditions p) m.at_first is.at_first)
-        (iff_then (conditions_are first_conditions (Asks p named named)) (sections_are (λ at i. Each (Asks p named named at) (first_conditions i)) (λ at. FirstSection p at named) (first_section named)));
+        iff_trans (formulas_exactly p m is.written is.resolver is.sound is.definitions v v named named num num (conditions first_conditions p) m.at_first is.at_first)
+        (iff_trans (conditions_are first_conditions (Asks p named named)) (sections_are (λ at i. Each (Asks p named named at) (first_conditions i)) (λ at. FirstSection p at named) (first_section named)));
     each = λ v named num.
-        iff_then (formulas_exactly p m is.written is.resolver is.sound is.definitions v v named named num num (conditions each_conditions p) m.at_each is.at_each)
-        (iff_then (conditions_are each_conditions (Asks p named named)) (sections_are (λ at i. Each (Asks p named named at) (each_conditions i)) (λ at. EachSection p at named) (each_section named)));
+        iff_trans (formulas_exactly p m is.written is.resolver is.sound is.definitions v v named named num num (conditions each_conditions p) m.at_each is.at_each)
+        (iff_trans (conditions_are each_conditions (Asks p named named)) (sections_are (λ at i. Each (Asks p named named at) (each_conditions i)) (λ at. EachSection p at named) (each_section named)));
     step = λ v w now next num num'.
-        iff_then (formulas_exactly p m is.written is.resolver is.sound is.definitions v w now next num num' (conditions step_conditions p ++ conditions kept_conditions p) m.at_step is.at_step)
-        (iff_then (both now next) (steps_are now next));
+        iff_trans (formulas_exactly p m is.written is.resolver is.sound is.definitions v w now next num num' (conditions step_conditions p ++ conditions kept_conditions p) m.at_step is.at_step)
+        (iff_trans (both now next) (steps_are now next));
   }
     where
       both : (now next : Valuation) →

@@ -7,8 +7,9 @@ use Rattle.xs_tree.specs.Evaluate.{evaluate}
 use Rattle.xs_tree.specs.Trace.{Each}
 use Rattle.xs_tree.specs.Flat.{FlatLeaf, flat_variable, flat_symbol, flat_definition, FlatFormula, FlatModel, given, flat_leaves, definition_gives, table_after, leaves_at}
 use Rattle.xs_flat_laws.specs.Resolved.{leaves_in, IsBefore}
-use Rattle.xs_flat_laws.proofs.Lists.{get_left, get_end, length_end, get_within, each_more}
+use Rattle.xs_flat_laws.proofs.Lists.{get_end, length_end, get_within, each_more}
 use Rattle.xs_flat_laws.proofs.Now.{BothSame, same_on}
+use Rattle.xs_value.proofs.ListLaws.{get_left}
 
 -- a table that has all of another's places
 abbrev pub Holds : List (Option Values) → List (Option Values) → Type 0

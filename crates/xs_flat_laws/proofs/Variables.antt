@@ -3,11 +3,11 @@ use Rattle.std.proofs.Common.{◌≡◌, ℕ, zero, suc, Bool, true, false, List
 use Rattle.std.specs.Prelude.{slice_get, flat_map, codes, ◌↔◌}
 use Rattle.xs_tree.specs.ProgramTree.{Text, DeclaredTree, boolean, range, members, instance, DeclTree, ModuleTree, ProgramTree}
 use Rattle.xs_tree.specs.Scope.{Place, Role, Kind, a_variable, a_define, kind_declared, kind_in_sections, formal_from, kind_after_formals, find_module}
-use Rattle.xs_tree.specs.Trace.{Each, IsVariable}
+use Rattle.xs_tree.specs.Trace.{Each, IsVariable, EachBoth}
 use Rattle.xs_tree.specs.Flat.{FlatVariable, FlatModel}
 use Rattle.xs_flat_laws.specs.Items.{Item, a_declaration, a_definition, an_assignment, some_constants, an_init, an_invar, a_trans, NumberedItem, items_of, items_named, Visit, visits_of, walk, visits, variable_declared, variables_of}
 use Rattle.xs_flat_laws.specs.Rules.{IsWalkable}
-use Rattle.xs_flat_laws.specs.Model.{IsVariableOf, EachBoth, IsFlatOf}
+use Rattle.xs_flat_laws.specs.Model.{IsVariableOf, IsFlatOf}
 use Rattle.xs_flat_laws.proofs.Conditions.{each_join, each_at}
 use Rattle.xs_flat_laws.proofs.KindLaws.{kind_in_items, sections_kind}
 use Rattle.xs_flat_laws.proofs.Places.{In, in_flat, Real, Walked, in_items, found_at, walked, has_main}

@@ -124,3 +124,7 @@ variable_declared v _ = v ∷ []
 -- the declarations of variables in flat order
 abbrev pub variables_of : ProgramTree → List Visit
 variables_of p = flat_map (λ v. variable_declared v v.decl.what) (visits p)
+
+-- the modules of a program's instances
+abbrev pub modules_of_instances : ProgramTree → List Text
+modules_of_instances p = map (λ (at : FlatInstance). at.module_name) (instances_of p)

@@ -10,7 +10,7 @@ use Rattle.xs_tree.specs.ProgramTree.{Text, Path, Formula, DeclaredTree, members
 use Rattle.xs_tree.specs.Values.{Value}
 use Rattle.xs_tree.specs.Scope.{Place, frozen_role, Key, define_key, actual_key, Meaning, an_expression_at, Means, plain_name}
 use Rattle.xs_tree.specs.May.{Valuation}
-use Rattle.xs_tree.specs.Trace.{Each, IsFirst, IsInvariant, IsStep}
+use Rattle.xs_tree.specs.Trace.{Each, IsFirst, IsInvariant, IsStep, EachBoth}
 use Rattle.xs_tree.specs.Flat.{FlatLeaf, flat_variable, FlatInstance, FlatVariable, FlatFormula, FlatModel, Holds, Numbers}
 use Rattle.xs_flat_laws.specs.Resolved.{leaves_in, Definition, Resolver, IsSound, IsResolved, AreDefinitions}
 use Rattle.xs_flat_laws.specs.Items.{Item, a_declaration, a_definition, an_assignment, some_constants, an_init, an_invar, a_trans, NumberedItem, items_named, items_of, Visit, instances_of, variables_of}
@@ -135,12 +135,6 @@ pub record IsVariableOf (m : FlatModel) (v : Visit) (x : FlatVariable) : Type 0 
   pub declared : x.declared ≡ v.decl.what
   pub item : x.item ≡ v.number
   pub number : IsInstanceNumber m v.place x.number
-
--- each of one list with that of the other at its place
-abbrev pub EachBoth : {A B : Type 0} → (A → B → Type 0) → List A → List B → Type 0
-EachBoth R [] [] = Unit {0}
-EachBoth R (a ∷ as') (b ∷ bs) = R a b × EachBoth R as' bs
-EachBoth R _ _ = ⊥
 
 -- Symbols by first appearance.
 abbrev pub symbols_of_members : List Member → List Text

@@ -13,6 +13,10 @@ BreaksValue p at inputs e next_here = has_next e ≡ true
 BreaksValue p at inputs e input_here = (inputs ≡ false) × AtSome (GivesInput p at) (leaves_in e)
 BreaksValue p at inputs e _ = ⊥
 
+-- the expression breaks no rule as the value of a DEFINE, which may read inputs or not
+abbrev pub KeepsValue : ProgramTree → Place → Bool → Formula → Type 0
+KeepsValue p at inputs e = (rule : Rule) → BreaksValue p at inputs e rule → ⊥
+
 -- the rule is broken, and none of a lower number
 pub record IsLeastBroken (p : ProgramTree) (at : Place) (inputs : Bool) (e : Formula) (rule : Rule) : Type 0 where
   pub broken : BreaksValue p at inputs e rule

@@ -24,9 +24,11 @@ use Rattle.xs_frames.specs.declared.guarded.Beside.{Beside}
 use Rattle.xs_frames.specs.declared.guarded.Beside.TheVariants.{Nothing, Step, Bad}
 use Rattle.xs_frames.specs.declared.guarded.Guarded.{Guarded}
 use Rattle.xs_frames.proofs.AnswerLemmas.{true_value, true_clause}
-use Rattle.xs_frames.proofs.RoleLaws.{all_of, first_in, later_in, member_true, Asked, spread, spread_at}
+use Rattle.xs_frames.proofs.RoleLaws.{first_in, later_in, Asked, spread, spread_at}
 use Rattle.xs_frames.proofs.HeldLaws.{AreAsked, list_met, frame_met, core_follows, core_negated}
 use Rattle.xs_frames.proofs.GuardedLaws.{layout_of, plain_guard, frame_plain}
+use Rattle.xs_lits.proofs.ClauseLists.{member_true}
+use Rattle.xs_value.proofs.ListLaws.{all_from}
 
 one_in : (P : Literal → Type 0) (k l : Literal) → P k → Contains (k ∷ []) l → P l
 one_in P k l p m = at m.0 m.1 m.2 where
@@ -52,7 +54,7 @@ are_guards g b i w lt l m = all_guards (IsGuardIn g.places g.search.kept.vars) g
 
 -- the literals of a question are those of the search
 pub asked_up_to : (g : Guarded) (b : Beside) (i : ℕ) (assumptions : List Literal) → IsWell g → i < length g.frames.items → All (IsUpTo g.places) assumptions → All (IsUpTo g.search.kept.vars) (asked_guards g b i ++ assumptions)
-asked_up_to g b i assumptions w lt low = all_of (IsUpTo g.search.kept.vars) (asked_guards g b i ++ assumptions) (λ l m. by_part l (Contains-append_cases (asked_guards g b i) assumptions l m))
+asked_up_to g b i assumptions w lt low = all_from (IsUpTo g.search.kept.vars) (asked_guards g b i ++ assumptions) (λ l m. by_part l (Contains-append_cases (asked_guards g b i) assumptions l m))
   where
     up : (x v n : ℕ) → x ≤ v → v ≤ n → x ≤ n
     up x v n a b = omega (arith, a, b)
@@ -63,7 +65,7 @@ asked_up_to g b i assumptions w lt low = all_of (IsUpTo g.search.kept.vars) (ask
 
 -- and no two of them are opposite
 pub asked_apart : (g : Guarded) (b : Beside) (i : ℕ) (assumptions : List Literal) → IsWell g → i < length g.frames.items → All (IsUpTo g.places) assumptions → HasNoOpposites assumptions → HasNoOpposites (asked_guards g b i ++ assumptions)
-asked_apart g b i assumptions w lt low apart = all_of (LacksOpposite all) all (λ l m. record { absent = λ o. absent l (Contains-append_cases guards assumptions l m) (Contains-append_cases guards assumptions (opposite l) o) })
+asked_apart g b i assumptions w lt low apart = all_from (LacksOpposite all) all (λ l m. record { absent = λ o. absent l (Contains-append_cases guards assumptions l m) (Contains-append_cases guards assumptions (opposite l) o) })
   where
     guards : List Literal
     guards = asked_guards g b i
@@ -89,7 +91,7 @@ pub tells_sat : (g : Guarded) (b : Beside) (i vars : ℕ) (assumptions : List Li
 tells_sat g b i vars assumptions a w lt s system list frames h = record {
   frame = frame i lt (is_true (slice_index_or g.frames.items i g.step) (there i b));
   beside = beside b (λ l m. is_true l m);
-  assumed = all_of (λ l. IsTrue (literal_value (values_of a) l)) assumptions (λ l m. true_value a l (All-contains (λ k. value_of a k ≡ Some true) (asked_guards g b i ++ assumptions) l s.assumptions_true
+  assumed = all_from (λ l. IsTrue (literal_value (values_of a) l)) assumptions (λ l m. true_value a l (All-contains (λ k. value_of a k ≡ Some true) (asked_guards g b i ++ assumptions) l s.assumptions_true
       (Contains-append_right (asked_guards g b i) assumptions l m)));
 }
   where

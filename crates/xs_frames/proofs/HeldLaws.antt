@@ -13,7 +13,9 @@ use Rattle.xs_frames.specs.Roles as roles
 use Rattle.xs_frames.specs.Guards.{guards_next, StandsUpTo, Layout, IsHeld, of_list, of_frame, of_next, of_retired, AreHeld, unguarded}
 use Rattle.xs_frames.specs.Guarding.{Meets}
 use Rattle.xs_frames.proofs.Sets.{from_member, true_member}
-use Rattle.xs_frames.proofs.RoleLaws.{all_of, order, first_in, later_in, member_true, renamed_low, renamed_high, renamed_value, unguards, unasked, anyway, Asked, spread, spread_at}
+use Rattle.xs_frames.proofs.RoleLaws.{order, first_in, later_in, renamed_low, renamed_high, renamed_value, unguards, unasked, anyway, Asked, spread, spread_at}
+use Rattle.xs_lits.proofs.ClauseLists.{member_true}
+use Rattle.xs_value.proofs.ListLaws.{all_from}
 
 -- a clause of literals up to a variable is over those below the next
 pub below_next : (vars : ℕ) (c : List Literal) → All (IsUpTo vars) c → All (IsBelow (vars + 1)) c
@@ -74,7 +76,7 @@ module _ (l : Layout) (vars : ℕ) (added : List (List Literal)) (are : AreHeld 
 
   -- where what is asked about is true, all added clauses are
   held_true : (q : Asked) (v : TotalAssignment) → AreAsked l q v → Satisfies (spread q l.role v) added
-  held_true q v h = Satisfies-from_All w added (all_of (λ d. clause_value w d ≡ true) added (λ d m. of_kind d (are.each d m)))
+  held_true q v h = Satisfies-from_All w added (all_from (λ d. clause_value w d ≡ true) added (λ d m. of_kind d (are.each d m)))
     where
       w : TotalAssignment
       w = spread q l.role v
@@ -117,7 +119,7 @@ module _ (l : Layout) (vars : ℕ) (added : List (List Literal)) (are : AreHeld 
   list_met which v t on = record {
     values = λ x. v (renamed l.places (l.base which) x);
     agree = λ x le. ap v (renamed_low l.places (l.base which) x le);
-    all = Satisfies-from_All (λ x. v (renamed l.places (l.base which) x)) (l.list which) (all_of (λ c. clause_value (λ x. v (renamed l.places (l.base which) x)) c ≡ true) (l.list which) (λ c m. each c m));
+    all = Satisfies-from_All (λ x. v (renamed l.places (l.base which) x)) (l.list which) (all_from (λ c. clause_value (λ x. v (renamed l.places (l.base which) x)) c ≡ true) (l.list which) (λ c m. each c m));
   }
     where
       each : (c : List Literal) → Contains (l.list which) c → clause_value (λ x. v (renamed l.places (l.base which) x)) c ≡ true
@@ -128,7 +130,7 @@ module _ (l : Layout) (vars : ℕ) (added : List (List Literal)) (are : AreHeld 
 
   -- a frame from number 1 on whose guard is true is met
   pub frame_met : (i : ℕ) (v : TotalAssignment) → 0 < i → i < length l.frames → Satisfies v added → v (l.guard_at i) ≡ true → Satisfies v (frame_at l.frames i)
-  frame_met i v some lt t on = Satisfies-from_All v (frame_at l.frames i) (all_of (λ c. clause_value v c ≡ true) (frame_at l.frames i) (λ c m. each c m))
+  frame_met i v some lt t on = Satisfies-from_All v (frame_at l.frames i) (all_from (λ c. clause_value v c ≡ true) (frame_at l.frames i) (λ c m. each c m))
     where
       later : (n : ℕ) → i + n < length l.frames → v (l.guard_at (i + n)) ≡ true
       later zero lt = subst (λ k. v (l.guard_at k) ≡ true) (omega arith) on
@@ -191,7 +193,7 @@ module _ (l : Layout) (vars : ℕ) (added : List (List Literal)) (are : AreHeld 
 -- the negated assumptions of a core under guards
 pub core_negated : (places : ℕ) (guards assumptions core : List Literal) → ((g : Literal) → Contains guards g → places < g.var) → All (λ k. Contains (guards ++ assumptions) (opposite k)) core →
     All (λ k. Contains assumptions (opposite k)) (unguarded places core)
-core_negated places guards assumptions core high negated = all_of (λ k. Contains assumptions (opposite k)) (unguarded places core) (λ k m. of_kept k (from_kept places k core m))
+core_negated places guards assumptions core high negated = all_from (λ k. Contains assumptions (opposite k)) (unguarded places core) (λ k m. of_kept k (from_kept places k core m))
   where
     of_kept : (k : Literal) → Contains core k × (k.var ≤ places) → Contains assumptions (opposite k)
     of_kept k m = by_part (Contains-append_cases guards assumptions (opposite k) (All-contains (λ j. Contains (guards ++ assumptions) (opposite j)) core k negated m.0)) where

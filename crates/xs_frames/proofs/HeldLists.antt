@@ -9,8 +9,9 @@ use Rattle.xs_frames.specs.Framed.{frame_at}
 use Rattle.xs_frames.specs.Roles.{Listed, first, step, bad, Role, place, list_guard, gate, retired, unused, renamed_clause, under_guard, under_list}
 use Rattle.xs_frames.specs.Roles as roles
 use Rattle.xs_frames.specs.Guards.{guards_next, Layout, IsHeld, of_list, of_frame, of_next, of_retired, IsUnder, AreHeld}
-use Rattle.xs_frames.proofs.RoleLaws.{first_in, to_mapped, from_mapped}
+use Rattle.xs_frames.proofs.RoleLaws.{first_in}
 use Rattle.xs_frames.proofs.HeldSteps.{grown, grown_high, grown_used, grown_there, grown_above, one_more, is_used, same_role, retire_bad, held_push}
+use Rattle.xs_lits.proofs.ClauseLists.{map_contains, from_mapped}
 
 no_member : (cs : List (List Literal)) (c : List Literal) → cs ≡ [] → Contains cs c → ⊥
 no_member cs c e m = none (subst (λ ds. Contains ds c) e m) where
@@ -204,7 +205,7 @@ held_list l vars added which cs list are none here same low = record {
 
     has_list : (u : Listed) (c : List Literal) → Contains (list u) c → (u ≡ which) ⊎ (list u ≡ l.list u) → Contains (added ++ more) (under_guard (l.guard u) (renamed_clause l.places (l.base u) c))
     has_list u c m (inl e) = subst (λ w. Contains (added ++ more) (under_guard (l.guard w) (renamed_clause l.places (l.base w) c))) (sym e)
-        (Contains-append_right added more (made c) (to_mapped made cs c (among u c e m)))
+        (Contains-append_right added more (made c) (map_contains made cs c (among u c e m)))
     has_list u c m (inr e) = Contains-append_left added more (under_guard (l.guard u) (renamed_clause l.places (l.base u) c)) (are.has_list u c (subst (λ ds. Contains ds c) e m))
 
     of_kept : (u : Listed) (d c : List Literal) → d ≡ under_guard (l.guard u) (renamed_clause l.places (l.base u) c) → Contains (l.list u) c → (u ≡ which) ⊎ (list u ≡ l.list u) → IsHeld (record l { list = list }) d

@@ -1,17 +1,12 @@
 -- The values that the roles of variables give where some guards are asked about, and what renamed clauses say.
-use Rattle.std.proofs.Common.{◌≡◌, ◌⊎◌, inl, inr, ◌≤◌, ◌<◌, ℕ, zero, suc, ◌+◌, ◌-◌, nat_le, Bool, true, false, not, List, [], ◌∷◌, refl, ap, arith, length, map}
-use Rattle.std.specs.Prelude.{slice_index_or, Contains, All}
+use Rattle.std.proofs.Common.{◌≡◌, ◌⊎◌, inl, inr, ◌≤◌, ◌<◌, ℕ, suc, ◌+◌, ◌-◌, nat_le, Bool, true, false, not, List, [], ◌∷◌, refl, ap, arith}
+use Rattle.std.specs.Prelude.{Contains}
 use Rattle.std.proofs.lemmas.Bool.{le-leb, lt-leb}
 use Rattle.std.proofs.lemmas.Bool.Decides.{leb_tells}
-use Rattle.std.proofs.lemmas.List.Elements.{All-contains, Contains-get_or}
 use Rattle.xs_lits.specs.Literal.{Literal, plain, opposite}
-use Rattle.xs_lits.specs.Models.{TotalAssignment, literal_value, clause_value, Satisfies}
-use Rattle.xs_lits.proofs.ModelLemmas.{All-from_Satisfies}
+use Rattle.xs_lits.specs.Models.{TotalAssignment, literal_value, clause_value}
 use Rattle.xs_frames.specs.Roles.{Listed, Role, place, frame_guard, list_guard, gate, retired, unused, renamed, renamed_clause, under_guard}
 use Rattle.xs_frames.proofs.Sets.{from_member, true_member}
-
-pub all_of : {X : Type 0} (P : X → Type 0) (xs : List X) → ((x : X) → Contains xs x → P x) → All P xs
-all_of P xs f = λ k d lt. f (slice_index_or xs k d) (Contains-get_or xs k d lt)
 
 pub order : (i j : ℕ) → (i ≤ j) ⊎ (j < i)
 order i j = by_test (leb_tells i j) where
@@ -24,26 +19,6 @@ first_in l c = (0, grind arith, refl)
 
 pub later_in : (l k : Literal) (c : List Literal) → Contains c k → Contains (l ∷ c) k
 later_in l k c m = (suc m.0, (let lt = m.1 in grind (arith, lt)), m.2)
-
-pub member_true : (v : TotalAssignment) (cs : List (List Literal)) (c : List Literal) → Satisfies v cs → Contains cs c → clause_value v c ≡ true
-member_true v cs c t m = All-contains (λ d. clause_value v d ≡ true) cs c (All-from_Satisfies v cs t) m
-
--- the members of a list and of what a function makes of it
-pub to_mapped : (f : List Literal → List Literal) (cs : List (List Literal)) (c : List Literal) → Contains cs c → Contains (map f cs) (f c)
-to_mapped f [] c m = absurd (omega (arith, m.1))
-to_mapped f (d ∷ cs) c m = by_place m.0 m.1 m.2 (λ r. to_mapped f cs c r)
-  where
-    by_place : (i : ℕ) → i < length (d ∷ cs) → slice_index_or (d ∷ cs) i c ≡ c → (Contains cs c → Contains (map f cs) (f c)) → Contains (map f (d ∷ cs)) (f c)
-    by_place zero lt e more = (0, grind arith, ap f e)
-    by_place (suc i) lt e more = let m = more (i, grind arith, e) in (suc m.0, (let r = m.1 in grind (arith, r)), m.2)
-
-pub from_mapped : (f : List Literal → List Literal) (cs : List (List Literal)) (x : List Literal) → Contains (map f cs) x → (c : List Literal) × Contains cs c × (f c ≡ x)
-from_mapped f [] x m = absurd (omega (arith, m.1))
-from_mapped f (d ∷ cs) x m = by_place m.0 m.1 m.2 (λ r. from_mapped f cs x r)
-  where
-    by_place : (i : ℕ) → i < length (map f (d ∷ cs)) → slice_index_or (map f (d ∷ cs)) i x ≡ x → (Contains (map f cs) x → (c : List Literal) × Contains cs c × (f c ≡ x)) → (c : List Literal) × Contains (d ∷ cs) c × (f c ≡ x)
-    by_place zero lt e more = (d, (0, grind arith, refl), e)
-    by_place (suc i) lt e more = let m = more (i, grind arith, e) in (m.0, (suc m.1.0, (let r = m.1.1 in grind (arith, r)), m.1.2), m.2)
 
 -- the places keep their numbers, and those above them get others
 pub renamed_low : (places base x : ℕ) → x ≤ places → renamed places base x ≡ x

@@ -1,7 +1,7 @@
 -- Clauses as sets of literals, and frames as sets of clauses.
 use Rattle.std.proofs.Common.{◌≡◌, ◌<◌, ℕ, zero, suc, Bool, true, false, List, [], ◌∷◌, refl, sym, ◌∙◌, ap, arith, length}
-use Rattle.std.specs.Prelude.{slice_index_or, Contains, All}
-use Rattle.std.proofs.lemmas.List.Elements.{All-contains, All-contains_itself}
+use Rattle.std.specs.Prelude.{slice_index_or, Contains}
+use Rattle.std.proofs.lemmas.List.Elements.{All-contains_itself}
 use Rattle.xs_lits.specs.Literal.{Literal}
 use Rattle.xs_lits.specs.Models.{TotalAssignment, literal_value, clause_value}
 use Rattle.xs_frames.specs.Chain.{Stands}
@@ -30,16 +30,8 @@ from_member v (k ∷ c) l m t = by_place m.0 m.1 m.2 (λ r. from_member v c l r 
         go true q r = rw q refl
         go false q r = rw (q, r) refl
 
--- a clause that contains the literals of a true one is true
-pub part_true : (v : TotalAssignment) (c d : List Literal) → All (Contains d) c → clause_value v c ≡ true → clause_value v d ≡ true
-part_true v c d a t = let m = true_member v c t in from_member v d m.0 (All-contains (Contains d) c m.0 a m.1) m.2
-
 pub stands_itself : (frame : List (List Literal)) (c : List Literal) → Contains frame c → Stands frame c
 stands_itself frame c m = (m.0, c, m.1, m.2, (All-contains_itself c, All-contains_itself c))
-
--- literals of one variable and one sign, and items that stand at one place of two lists
-pub same_literal : (k m : Literal) → k.var ≡ m.var → k.negated ≡ m.negated → k ≡ m
-same_literal k m e f = ap (λ v. record { var = v; negated = k.negated }) e ∙ ap (λ b. record { var = m.var; negated = b }) f
 
 pub same_item : {A : Type 0} (xs ys : List A) (i : ℕ) (x y : A) → x ≡ y → x ≡ slice_index_or xs i x → y ≡ slice_index_or ys i y → slice_index_or xs i y ≡ slice_index_or ys i y
 same_item xs ys i x y e f g = ap (slice_index_or xs i) (sym e) ∙ sym f ∙ e ∙ g

@@ -1,11 +1,10 @@
 -- The generated trees can be written: every name in them is a name.
-use Rattle.std.proofs.Common.{◌≡◌, ℕ, zero, suc, ap, ◌+◌, ◌<◌, ◌≤◌, ◌^◌, Bool, true, false, List, [], ◌∷◌, ◌++◌, length, Option, Some, None, refl, arith}
+use Rattle.std.proofs.Common.{◌≡◌, ℕ, zero, suc, ap, ◌+◌, ◌<◌, ◌≤◌, ◌^◌, Bool, true, false, List, [], ◌∷◌, length, Option, Some, None, refl, arith}
 use Rattle.std.specs.Prelude.{nat_eq, codes}
 use Rattle.std.specs.Char.{is_ascii_digit}
 use Rattle.std.specs.Fmt.{decimal}
 use Rattle.std.proofs.lemmas.Bool.Decides.{nat_tests}
-use Rattle.xs_lexer.specs.Bytes.{is_word_byte}
-use Rattle.xs_lexer.specs.Runs.{Runs, takes_word, takes_digit}
+use Rattle.xs_lexer.specs.Runs.{Runs, takes_digit}
 use Rattle.xs_tree.specs.Trace.{Each}
 use Rattle.xs_tree.specs.Lexemes.{is_reserved}
 use Rattle.xs_tree.specs.Printed.{IsName, IsWritable}
@@ -13,20 +12,11 @@ use Rattle.xs_tree.specs.WritableProgram.{IsWritableDecl, IsWritableSection, IsW
 use Rattle.xs_tree.proofs.TokenTexts.{decimal_digits}
 use Rattle.xs_fei.specs.WritableInstructions.{IsWritableMode, IsWritableSlice, IsWritableInstructions}
 use Rattle.xs_generate.specs.Generator.{next_number, stage_name, output_of, stage, with_stage, with_stages, rails_after, rails_of, Rails, relay_variables, relay_assignments, relay_module, dead_section, main_module, generated_model, off_mode, relay_slice, generated_instructions, generated_top}
-
--- a digit goes on a word, and is no letter
-digit_in_word : (d : ℕ) → is_ascii_digit d ≡ true → is_word_byte d ≡ true
-digit_in_word d h = grind (arith, nat_tests)
-
-no_dash : (d : ℕ) → is_ascii_digit d ≡ true → nat_eq d 45 ≡ false
-no_dash d h = grind (arith, nat_tests)
+use Rattle.xs_tree.proofs.EachLaws.{each_end}
+use Rattle.xs_lexer.proofs.ByteLaws.{digits_in_word}
 
 no_letter : (d : ℕ) → is_ascii_digit d ≡ true → nat_eq 101 d ≡ false
 no_letter d h = grind (arith, nat_tests)
-
-digits_in_word : (ds : List ℕ) → Runs takes_digit ds [] → Runs takes_word ds []
-digits_in_word [] h = tt
-digits_in_word (d ∷ ds) h = (rw (digit_in_word d h.0, no_dash d h.0) refl, digits_in_word ds h.1)
 
 not_reserved : (ds : List ℕ) → Runs takes_digit ds [] → is_reserved (114 ∷ ds) ≡ false
 not_reserved [] h = refl
@@ -70,13 +60,9 @@ record AreWritableRails (rails : Rails) : Type 0 where
   last_a : IsSmallLast rails.last_a
   last_b : IsSmallLast rails.last_b
 
-each_more : {A : Type 0} (P : A → Type 0) (xs : List A) (x : A) → Each P xs → P x → Each P (xs ++ x ∷ [])
-each_more P [] x h p = (p, tt)
-each_more P (y ∷ ys) x h p = (h.0, each_more P ys x h.1 p)
-
 with_writable : (b : Bool) (i : ℕ) (rails : Rails) → i < 2 ^ 64 → AreWritableRails rails → AreWritableRails (with_stage b i rails)
-with_writable true i rails h are = record { stages = each_more IsWritableDecl rails.stages (stage i rails.last_a) are.stages (stage_writable i rails.last_a h are.last_a); last_a = h; last_b = are.last_b }
-with_writable false i rails h are = record { stages = each_more IsWritableDecl rails.stages (stage i rails.last_b) are.stages (stage_writable i rails.last_b h are.last_b); last_a = are.last_a; last_b = h }
+with_writable true i rails h are = record { stages = each_end IsWritableDecl rails.stages (stage i rails.last_a) are.stages (stage_writable i rails.last_a h are.last_a); last_a = h; last_b = are.last_b }
+with_writable false i rails h are = record { stages = each_end IsWritableDecl rails.stages (stage i rails.last_b) are.stages (stage_writable i rails.last_b h are.last_b); last_a = are.last_a; last_b = h }
 
 rails_writable : (bs : List Bool) (i : ℕ) (rails : Rails) → i + length bs ≤ 2 ^ 64 → AreWritableRails rails → AreWritableRails (with_stages bs i rails)
 rails_writable [] i rails h are = are

@@ -5,14 +5,16 @@ use Rattle.xs_tree.specs.ProgramTree.{boolean, ProgramTree}
 use Rattle.xs_tree.specs.Scope.{state}
 use Rattle.xs_tree.specs.Trace.{Each}
 use Rattle.xs_tree.specs.Flat.{FlatInstance}
-use Rattle.xs_flat_laws.specs.Items.{Item, numbered_from, items_named, Visit, walk_items, walk, visits, instance_declared, variable_declared, instances_of_visit}
+use Rattle.xs_flat_laws.specs.Items.{Item, numbered_from, items_named, Visit, walk_items, walk, visits, instance_declared, instances_of_visit}
 use Rattle.xs_flat_laws.specs.Rules.{no_such_module, wrong_count, module_loop, too_many, a_visit, an_item, a_use, instances_before, variables_before, visit_sites, module_sites, use_sites, IsKept, IsAccepted}
 use Rattle.xs_flat_laws.proofs.Conditions.{each_join}
 use Rattle.xs_generate_laws.specs.Laws.{GeneratedIsAccepted}
 use Rattle.xs_generate.specs.Generator.{stage_name, stage}
 use Rattle.xs_generate_laws.proofs.Stages.{relay_sections, IsStageBefore, program_of, AreStages, generated_of_stages}
 use Rattle.xs_generate_laws.proofs.Meanings.{stage_there}
-use Rattle.xs_generate_laws.proofs.Items.{item_stage, items_from, flat_end, AreEarlier, one_earlier, main_numbered, main_is, program_kept, relay_kept, main_kept, out_kept, follows_kept, stage_kept, dead_kept, stage_used, dead_used, out_used, follows_used}
+use Rattle.xs_generate_laws.proofs.Items.{item_stage, items_from, AreEarlier, one_earlier, main_numbered, main_is, program_kept, relay_kept, main_kept, out_kept, follows_kept, stage_kept, dead_kept, stage_used, dead_used, out_used, follows_used}
+use Rattle.xs_flat_laws.proofs.VariableCounts.{variables_and}
+use Rattle.xs_tree.proofs.ListLaws.{flat_end}
 
 -- the walk comes to each stage, and inside it to its output
 abbrev pub stage_visit : ℕ → ℕ → Option ℕ → Visit
@@ -35,9 +37,6 @@ record AreCounted (i : ℕ) (before : List Visit) : Type 0 where
 
 pub instances_and : (before : List Visit) (v : Visit) → instances_before (before ++ v ∷ []) ≡ instances_before before + length (instance_declared v.place v.decl.what)
 instances_and before v = omega (arith, count_end (λ (v : Visit). instance_declared v.place v.decl.what) before v)
-
-pub variables_and : (before : List Visit) (v : Visit) → variables_before (before ++ v ∷ []) ≡ variables_before before + length (variable_declared v v.decl.what)
-variables_and before v = count_end (λ v. variable_declared v v.decl.what) before v
 
 counted_more : (k i : ℕ) (f : Option ℕ) (before : List Visit) → AreCounted i before → AreCounted (suc i) ((before ++ stage_visit k i f ∷ []) ++ out_visit i ∷ [])
 counted_more k i f before are = record {

@@ -7,7 +7,7 @@ use Rattle.xs_tree.specs.Texts.{same_text}
 use Rattle.xs_tree.specs.Scope.{Place, is_symbol_of_type}
 use Rattle.xs_tree.specs.Trace.{Each}
 use Rattle.xs_tree.specs.Flat.{FlatInstance, FlatModel}
-use Rattle.xs_flat_laws.specs.Items.{instances_of_visit, instances_of}
+use Rattle.xs_flat_laws.specs.Items.{instances_of_visit, instances_of, modules_of_instances}
 use Rattle.xs_flat_laws.proofs.Conditions.{each_flat}
 use Rattle.xs_fei.specs.AddedNames.{own_name, mode_variable, mode_symbol}
 use Rattle.xs_fei.specs.KindTypes.{type_of_kind}
@@ -17,7 +17,7 @@ use Rattle.xs_weave_rules.specs.Counting.{instances_of as count_of, count_broken
 use Rattle.xs_weave_rules.specs.FirstBroken.{AllKept}
 use Rattle.xs_extend_laws.specs.Uses.{Use, uses_at}
 use Rattle.xs_extend_laws.specs.Expressions.{KeepsNames, KeepsUse}
-use Rattle.xs_generate_laws.specs.Laws.{GeneratedItemsAreKept, GeneratedFaultsAreFew, GeneratedUsesAreKept, modules_of_instances}
+use Rattle.xs_generate_laws.specs.Laws.{GeneratedItemsAreKept, GeneratedFaultsAreFew, GeneratedUsesAreKept}
 use Rattle.xs_generate.specs.Generator.{stage_name, off_mode, relay_slice, generated_instructions}
 use Rattle.xs_generate_laws.proofs.Stages.{stages_from, program_of, AreStages, generated_of_stages}
 use Rattle.xs_generate_laws.proofs.Accepted.{visits_from, visits_are}

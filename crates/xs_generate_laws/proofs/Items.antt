@@ -1,9 +1,9 @@
 -- No item of a program of stages breaks a rule, in its module or at an instance.
-use Rattle.std.proofs.Common.{◌≡◌, ℕ, suc, ◌<◌, ◌≤◌, ◌^◌, arith, Bool, true, false, List, [], ◌∷◌, ◌++◌, length, Option, Some, None, refl, sym, ◌∙◌, ap, inl, inr, append_assoc, append-nil}
+use Rattle.std.proofs.Common.{◌≡◌, ℕ, suc, ◌<◌, ◌≤◌, ◌^◌, arith, true, false, List, [], ◌∷◌, ◌++◌, length, Option, Some, None, refl, sym, ◌∙◌, ap, inl, inr}
 use Rattle.std.specs.Prelude.{map, codes, flat_map}
 use Rattle.xs_tree.specs.Tree.{leaf}
 use Rattle.xs_tree.specs.ProgramTree.{Text, boolean, ModuleTree, ProgramTree}
-use Rattle.xs_tree.specs.Texts.{same_text, is_among}
+use Rattle.xs_tree.specs.Texts.{is_among}
 use Rattle.xs_tree.specs.declared.program.Moment.TheVariants.{Always}
 use Rattle.xs_tree.specs.Scope.{kind_at, state}
 use Rattle.xs_flat_laws.specs.Resolved.{has_next}
@@ -13,6 +13,8 @@ use Rattle.xs_flat_laws.specs.Rules.{no_main, main_has_parameters, double_module
 use Rattle.xs_generate.specs.Generator.{stage_name, stage, output_of, relay_module, dead_formula}
 use Rattle.xs_generate_laws.proofs.Stages.{stages_from, relay_sections, IsStageBefore, main_of, program_of, AreStages, names_differ}
 use Rattle.xs_generate_laws.proofs.Meanings.{IsStage, stage_there, relay_there, none_dead, output_has_value, output_means_something, feed_has_value, dead_is_no_loop, no_actual_loops, feed_gives_no_input}
+use Rattle.xs_tree.proofs.ListLaws.{flat_end}
+use Rattle.xs_tree.proofs.AmongLaws.{among_none}
 
 -- the items of both modules
 abbrev pub item_out : Item
@@ -31,22 +33,9 @@ item_dead last_a last_b = a_definition (record { name = codes "dead"; value = de
 abbrev pub items_from : Option ℕ → Option ℕ → ℕ → List (Option ℕ) → List Item
 items_from last_a last_b i fs = map (a_declaration state) (stages_from i fs) ++ item_dead last_a last_b ∷ []
 
--- Names of items.
-among_more : (xs ys : List Text) (x : Text) → is_among xs x ≡ false → is_among ys x ≡ false → is_among (xs ++ ys) x ≡ false
-among_more [] ys x h k = k
-among_more (y ∷ xs) ys x h k = by_test (same_text y x) refl (among_more xs ys x)
-  where
-    by_test : (b : Bool) → same_text y x ≡ b → (is_among xs x ≡ false → is_among ys x ≡ false → is_among (xs ++ ys) x ≡ false) → is_among (y ∷ (xs ++ ys)) x ≡ false
-    by_test true e rest = let bad : true ≡ false = rw e at h in cc
-    by_test false e rest = let left : is_among xs x ≡ false = rw e at h in rw e (rest left k)
-
-pub flat_end : {A B : Type 0} (g : A → List B) (xs : List A) (x : A) → flat_map g (xs ++ x ∷ []) ≡ flat_map g xs ++ g x
-flat_end g [] x = append-nil (g x)
-flat_end g (y ∷ xs) x = ap (λ zs. g y ++ zs) (flat_end g xs x) ∙ sym (append_assoc (g y) (flat_map g xs) (g x))
-
 names_more : (before : List Item) (item : Item) (x : Text) → is_among (flat_map names_of_item before) x ≡ false → is_among (names_of_item item) x ≡ false →
     is_among (flat_map names_of_item (before ++ item ∷ [])) x ≡ false
-names_more before item x h k = ap (λ names. is_among names x) (flat_end names_of_item before item) ∙ among_more (flat_map names_of_item before) (names_of_item item) x h k
+names_more before item x h k = ap (λ names. is_among names x) (flat_end names_of_item before item) ∙ among_none (flat_map names_of_item before) (names_of_item item) x h k
 
 -- no name of the items before is that of a stage from this number on, or `dead`
 pub record AreEarlier (i : ℕ) (before : List Item) : Type 0 where

@@ -1,17 +1,15 @@
 -- A short text is within the depths of parentheses: each pair that stands in another takes two tokens more.
-use Rattle.std.proofs.Common.{◌≡◌, ℕ, ◌+◌, ◌*◌, ◌<◌, ◌≤◌, arith, Bool, true, ◌&&◌, List, [], ◌∷◌, ◌++◌, length, Option, Some, None, refl, sym, ◌∙◌, ap, subst, inl, inr, length-append, ltb-true}
-use Rattle.std.specs.Prelude.{codes, nat_lt}
+use Rattle.std.proofs.Common.{◌≡◌, ℕ, ◌+◌, ◌*◌, ◌≤◌, arith, List, [], ◌∷◌, ◌++◌, length, Option, Some, None, sym, ◌∙◌, ap, subst, length-append}
+use Rattle.std.specs.Prelude.{codes}
 use Rattle.std.proofs.lemmas.List.{length-map}
 use Rattle.xs_lexer.specs.declared.token.Token.{Token}
 use Rattle.xs_lexer.specs.declared.token.TokenKind.{TokenKind}
 use Rattle.xs_lexer.specs.declared.token.TokenKind.TheVariants as k
-use Rattle.xs_lexer.specs.Tokens.{Sign, signs, IsAmong, Piece, Splits, IsPiece, token_of, tokens_from, HasTokens}
+use Rattle.xs_lexer.specs.Tokens.{Piece, Splits, IsPiece, token_of, tokens_from, HasTokens}
 use Rattle.xs_tree.specs.Tree.{Tree, Trees, Branches}
 use Rattle.xs_tree.specs.ProgramTree.{Path}
 use Rattle.xs_tree.specs.Lexemes.{Lexeme, word, sign, lexemes_of}
-use Rattle.xs_tree.specs.Trace.{Each}
 use Rattle.xs_tree.specs.Spells.{SpellsDotted, one_name, more_names, Spells, only_iff, implies, repeated, only_or, chooses, only_not, negates, only_atom, inverts, SpellsMore, no_operator, one_operator, SpellsAtom, is_true, is_false, is_number, is_span, is_name, in_parentheses, is_next, is_set, is_case, SpellsTrees, one_tree, more_trees, SpellsBranches, one_branch, more_branches}
-use Rattle.xs_tree.proofs.ValueLaws.{both_true}
 use Rattle.xs_expression_reader.specs.Places.{lexeme_at}
 use Rattle.xs_tree.specs.Nesting.{nesting_of, more_nesting, atom_nesting, trees_nesting, branches_nesting}
 use Rattle.xs_lexer.proofs.PieceLemmas.{text_some as token_long}

@@ -4,18 +4,17 @@ use Rattle.std.specs.Prelude.{codes, map, flat_map, slice_get}
 use Rattle.std.proofs.lemmas.List.{length-map}
 use Rattle.std.proofs.lemmas.List.Sums.{sum_by-cons, sum_by-append}
 use Rattle.xs_tree.specs.Tree.{Tree}
-use Rattle.xs_tree.specs.ProgramTree.{Text, Path, Formula, DeclaredTree, boolean, ProgramTree}
+use Rattle.xs_tree.specs.ProgramTree.{Text, DeclaredTree, boolean, ProgramTree}
 use Rattle.xs_tree.specs.Scope.{Place, Role, state, input, frozen_role, undeclared, formal_from, kind_in_decls, kind_in_sections, kind_in}
 use Rattle.xs_tree.specs.Flat.{FlatLeaf, FlatInstance, FlatVariable, FlatFormula, FlatModel}
-use Rattle.xs_flat_laws.specs.Resolved.{Resolver, IsResolved, Definition}
+use Rattle.xs_flat_laws.specs.Resolved.{Resolver, Definition}
 use Rattle.xs_flat_laws.specs.History.{Mode, bit_variable, bit_variables, bit_at_first, bits_at_first, bit_at_step, bits_at_step, with_history}
 use Rattle.xs_flat_laws.specs.Items.{Item, items_named, Visit, variable_declared, variables_of}
-use Rattle.xs_flat_laws.specs.Model.{Condition, plain, now_among, next_among, kept, Written, written_at, conditions, first_conditions, each_conditions, step_conditions, kept_conditions, IsConditionTree, IsFormulaOf, IsVariableOf, EachBoth, first_appearances, symbols_of_item, symbols_of, IsDefinitionOf, IsFlatOf}
+use Rattle.xs_flat_laws.specs.Model.{Condition, plain, now_among, next_among, kept, Written, written_at, conditions, first_conditions, each_conditions, step_conditions, kept_conditions, IsConditionTree, IsFormulaOf, IsVariableOf, first_appearances, symbols_of_item, symbols_of, IsDefinitionOf, IsFlatOf}
 use Rattle.xs_flat_laws.proofs.Conditions.{each_from}
 use Rattle.xs_flat_laws.proofs.Variables.{both_at_second}
 use Rattle.xs_type_laws.specs.Costs.{cost_of, declared_cost, formulas_cost, model_cost, digits_in, role_width, declared_width, state_bits}
 use Rattle.xs_type_laws.specs.Models.{is_too_large}
-use Rattle.xs_type_laws.proofs.Mapped.{cost_mapped}
 use Rattle.xs_fei.specs.AddedNames.{own_name, mode_variable, mode_symbol}
 use Rattle.xs_weave.specs.Woven.{mode_type, woven}
 use Rattle.xs_generate.specs.Generator.{stage_name, relay_slice, generated_instructions}
@@ -25,12 +24,11 @@ use Rattle.xs_generate_laws.proofs.Items.{items_from, item_stage, item_dead}
 use Rattle.xs_generate_laws.proofs.Truths.{sum_most}
 use Rattle.xs_generate_laws.proofs.Expressions.{IsLogicKind, variables_logic, formals_logic, expression_logic}
 use Rattle.xs_generate_laws.proofs.Roots.{stage_instances, few_keys}
-use Rattle.xs_generate_laws.proofs.Typed.{main_asks_none, both_long}
+use Rattle.xs_generate_laws.proofs.Typed.{main_asks_none}
 use Rattle.xs_generate_laws.proofs.Woven.{woven_sections, woven_of, out_inside, own_inside, mode_inside, woven_visits, woven_visits_are, woven_instances_are}
-
--- What a written condition costs.
-resolved_cost : (r : Path → Option FlatLeaf) (e : Formula) (flat : Tree FlatLeaf) → IsResolved r e flat → cost_of flat ≡ cost_of e
-resolved_cost r e flat is = sym (cost_mapped Some flat) ∙ ap cost_of is ∙ cost_mapped r e
+use Rattle.xs_type_laws.proofs.ResolvedCosts.{resolved_cost}
+use Rattle.xs_flat_laws.proofs.BothLaws.{both_long}
+use Rattle.xs_tree.specs.Trace.{EachBoth}
 
 abbrev condition_cost : Condition → ℕ
 condition_cost (plain e) = cost_of e

@@ -11,6 +11,7 @@ use Rattle.xs_tree.proofs.ValueLaws.{same_text_equal, same_text_refl}
 use Rattle.xs_flat_laws.proofs.Lists.{each_more}
 use Rattle.xs_generate.specs.Generator.{rails_after, stage_name, output_of, Rails, stage, with_stage, with_stages, rails_of, relay_variables, relay_assignments, relay_module, main_module, generated_model}
 use Rattle.xs_generate.proofs.Writable.{as_many}
+use Rattle.xs_tree.proofs.EachLaws.{each_end}
 
 -- stages numbered from this one on, by what feeds each
 abbrev pub stages_from : ℕ → List (Option ℕ) → List DeclTree
@@ -57,10 +58,6 @@ record AreRails (rails : Rails) (next : ℕ) (fs : List (Option ℕ)) : Type 0 w
 before_later : (n : ℕ) (f : Option ℕ) → IsStageBefore n f → IsStageBefore (suc n) f
 before_later n None h = tt
 before_later n (Some j) h = (h.0, omega (arith, h.1))
-
-each_end : {A : Type 0} (P : A → Type 0) (xs : List A) (x : A) → Each P xs → P x → Each P (xs ++ x ∷ [])
-each_end P [] x h p = (p, tt)
-each_end P (y ∷ xs) x h p = (h.0, each_end P xs x h.1 p)
 
 length_more : (fs : List (Option ℕ)) (f : Option ℕ) → length (fs ++ f ∷ []) ≡ suc (length fs)
 length_more [] f = refl

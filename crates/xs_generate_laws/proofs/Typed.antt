@@ -5,11 +5,11 @@ use Rattle.std.proofs.lemmas.List.{length-map}
 use Rattle.xs_tree.specs.Tree.{Tree, leaf}
 use Rattle.xs_tree.specs.ProgramTree.{Text, Formula, ProgramTree}
 use Rattle.xs_tree.specs.Scope.{Place, Meaning, a_variable_at, an_expression_at, an_instance_at, a_symbol}
-use Rattle.xs_tree.specs.Trace.{Each}
+use Rattle.xs_tree.specs.Trace.{Each, EachBoth}
 use Rattle.xs_tree.specs.Flat.{FlatLeaf, flat_variable, flat_symbol, flat_definition, FlatInstance, FlatVariable, FlatFormula, FlatModel}
 use Rattle.xs_flat_laws.specs.Resolved.{StandsFor, Resolver, IsSound, IsResolved, Definition}
 use Rattle.xs_flat_laws.specs.Items.{instances_of, Item, numbered_from, items_named, Visit, variable_declared, variables_of, instances_of_visit}
-use Rattle.xs_flat_laws.specs.Model.{Condition, now_among, Written, written_at, conditions, first_conditions, each_conditions, step_conditions, kept_conditions, IsVariableOf, IsFormulaOf, EachBoth, first_appearances, symbols_of_item, symbols_of, IsDefinitionOf, IsFlatOf}
+use Rattle.xs_flat_laws.specs.Model.{Condition, now_among, Written, written_at, conditions, first_conditions, each_conditions, step_conditions, kept_conditions, IsVariableOf, IsFormulaOf, first_appearances, symbols_of_item, symbols_of, IsDefinitionOf, IsFlatOf}
 use Rattle.xs_flat_laws.proofs.Conditions.{each_from}
 use Rattle.xs_flat_laws.proofs.Variables.{both_at_second}
 use Rattle.xs_type_laws.specs.Models.{IsTyped}
@@ -22,17 +22,12 @@ use Rattle.xs_generate_laws.proofs.Truths.{IsNoSymbol, IsLogical, IsBoolean, IsD
 use Rattle.xs_generate_laws.proofs.Expressions.{IsCheapLogic, relay_logic, expression_logic}
 use Rattle.xs_generate_laws.proofs.Roots.{stage_instances, instances_with, few_keys}
 use Rattle.std.proofs.lemmas.Option.{none-some as never_some}
+use Rattle.xs_flat_laws.proofs.BothLaws.{both_long}
 
 both_none : {A B : Type 0} (R : A → B → Type 0) (xs : List A) (ys : List B) → xs ≡ [] → EachBoth R xs ys → ys ≡ []
 both_none R [] [] e h = refl
 both_none R [] (y ∷ ys) e h = absurd h
 both_none R (x ∷ xs) ys e h = let bad : x ∷ xs ≡ [] = e in cc
-
-pub both_long : {A B : Type 0} (R : A → B → Type 0) (xs : List A) (ys : List B) → EachBoth R xs ys → length ys ≡ length xs
-both_long R [] [] h = refl
-both_long R [] (y ∷ ys) h = absurd h
-both_long R (x ∷ xs) [] h = absurd h
-both_long R (x ∷ xs) (y ∷ ys) h = ap suc (both_long R xs ys h.1)
 
 -- the outputs of stages, and what each follows
 abbrev outs_from : ℕ → List (Option ℕ) → List Visit

@@ -15,8 +15,9 @@ use Rattle.xs_generate.specs.Generator.{stage_name, relay_module, relay_slice, g
 use Rattle.xs_generate_laws.specs.Laws.{WovenIsWithinNumbers, WovenBreaksNoNumber}
 use Rattle.xs_generate_laws.proofs.Stages.{program_with, generated_of_stages}
 use Rattle.xs_generate_laws.proofs.Items.{items_from, item_stage}
-use Rattle.xs_generate_laws.proofs.Accepted.{stage_visit, instances_and, variables_and}
+use Rattle.xs_generate_laws.proofs.Accepted.{stage_visit, instances_and}
 use Rattle.xs_generate_laws.proofs.Roots.{stage_instances, instances_with}
+use Rattle.xs_flat_laws.proofs.VariableCounts.{variables_and}
 
 -- the sections of the woven module of relays
 abbrev pub woven_sections : List SectionTree

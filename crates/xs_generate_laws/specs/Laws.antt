@@ -1,7 +1,7 @@
 -- What the generator's models and instructions keep, as statements.
-use Rattle.std.specs.Prelude.{◌≡◌, ℕ, ◌≤◌, false, List, [], None, length, map, codes}
+use Rattle.std.specs.Prelude.{◌≡◌, ℕ, ◌≤◌, false, List, [], None, length, codes}
 use Rattle.xs_tree.specs.Tree.{Tree}
-use Rattle.xs_tree.specs.ProgramTree.{Text, ProgramTree}
+use Rattle.xs_tree.specs.ProgramTree.{ProgramTree}
 use Rattle.xs_tree.specs.Text.{program_text}
 use Rattle.xs_tree.specs.Trace.{Each}
 use Rattle.xs_tree.specs.Bytes.{HasDepths}
@@ -13,9 +13,9 @@ use Rattle.xs_expression_reader.specs.declared.fault.ParseFault.TheVariants.{Out
 use Rattle.xs_expression_reader.specs.Stops.{IsExpression, IsTooDeep, FaultMeans}
 use Rattle.xs_parse.specs.Symbols.{IsProgram}
 use Rattle.xs_parse.specs.Within.{HasProgramDepths, IsProgramTooDeep}
-use Rattle.xs_tree.specs.Flat.{FlatLeaf, FlatInstance, FlatModel}
+use Rattle.xs_tree.specs.Flat.{FlatLeaf, FlatModel}
 use Rattle.xs_flat_laws.specs.History.{Mode, with_history}
-use Rattle.xs_flat_laws.specs.Items.{instances_of}
+use Rattle.xs_flat_laws.specs.Items.{modules_of_instances}
 use Rattle.xs_flat_laws.specs.Rules.{Rule, too_many, sites, Breaks, IsFirstBroken, IsAccepted}
 use Rattle.xs_flat_laws.specs.ValueRules.{BreaksValue}
 use Rattle.xs_flat_laws.specs.ResolvedAt.{IsResolvedAt}
@@ -47,10 +47,6 @@ abbrev pub GeneratedTopIsTyped : Type 0
 GeneratedTopIsTyped =
     (number stages : ℕ) → stages ≤ 999 → (m : FlatModel) → IsFlatOf (generated_model number stages) m → (tree : Tree FlatLeaf) →
     IsResolvedAt (generated_model number stages) m [] generated_top tree → top_fault m tree ≡ None
-
--- the modules of a program's instances
-abbrev pub modules_of_instances : ProgramTree → List Text
-modules_of_instances p = map (λ (at : FlatInstance). at.module_name) (instances_of p)
 
 -- the generator's instructions break no rule of items at it
 abbrev pub GeneratedItemsAreKept : Type 0

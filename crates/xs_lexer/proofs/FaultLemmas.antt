@@ -20,6 +20,7 @@ use Rattle.xs_lexer.proofs.SignLemmas.{sign_some, sign_no_number}
 use Rattle.xs_lexer.proofs.BlockLemmas.{block_len-some}
 use Rattle.xs_lexer.proofs.PieceLemmas.{PieceHere, IsStop, stopped, err_same, text_some, no_stop, piece_found, piece_stops, piece_at-piece}
 use Rattle.xs_lexer.proofs.SplitLemmas.{one_piece}
+use Rattle.xs_lexer.proofs.TokenLemmas.{head_same}
 
 no_end : (inner : List ℕ) (len : Option ℕ) → block_len inner ≡ len → ((front back : List ℕ) → inner ≡ front ++ (codes "--/" ++ back) → ⊥) → block_len inner ≡ None
 no_end inner None at never = at
@@ -57,9 +58,6 @@ bad_result bytes (Err why) bad at = bad_stop bytes why bad (piece_stops bytes wh
 number_no_word : Number ≡ Word → ⊥
 number_no_word e = cc
 
-head_is : (b c : ℕ) (bs cs : List ℕ) → b ∷ bs ≡ c ∷ cs → b ≡ c
-head_is b c bs cs e = cc
-
 -- the first byte of a number is a digit
 digit_first : (digits after : List ℕ) → IsToken Number digits after → (b : ℕ) × (bs : List ℕ) × (digits ≡ b ∷ bs) × (is_ascii_digit b ≡ true)
 digit_first [] after token =
@@ -76,15 +74,15 @@ digit_first (b ∷ bs) after token = (
 
 digit_blank : (b : ℕ) (bs text after : List ℕ) → is_ascii_digit b ≡ true → b ∷ bs ≡ text ++ after → IsLineComment text after ⊎ (IsBlockComment text ⊎ IsBlankByte text) → ⊥
 digit_blank b bs text after digit e (inl line) =
-    let same : b ≡ 45 = head_is b 45 bs (45 ∷ (line.inner ++ after)) (e ∙ ap (λ t. t ++ after) line.spelled) in
+    let same : b ≡ 45 = head_same b 45 bs (45 ∷ (line.inner ++ after)) (e ∙ ap (λ t. t ++ after) line.spelled) in
     let clash : true ≡ false = sym digit ∙ ap is_ascii_digit same in
     cc
 digit_blank b bs text after digit e (inr (inl block)) =
-    let same : b ≡ 47 = head_is b 47 bs (45 ∷ 45 ∷ ((block.inner ++ codes "--/") ++ after)) (e ∙ ap (λ t. t ++ after) block.spelled) in
+    let same : b ≡ 47 = head_same b 47 bs (45 ∷ 45 ∷ ((block.inner ++ codes "--/") ++ after)) (e ∙ ap (λ t. t ++ after) block.spelled) in
     let clash : true ≡ false = sym digit ∙ ap is_ascii_digit same in
     cc
 digit_blank b bs text after digit e (inr (inr (c, blank, spelled))) =
-    let same : b ≡ c = head_is b c bs after (e ∙ ap (λ t. t ++ after) spelled) in
+    let same : b ≡ c = head_same b c bs after (e ∙ ap (λ t. t ++ after) spelled) in
     let clash : true ≡ false = sym (ap is_blank same ∙ blank) ∙ digit_not_blank b digit in
     cc
 
@@ -104,7 +102,7 @@ big_stop : (bytes : List ℕ) (why : Stop) → IsBigNumber bytes → IsStop why 
 big_stop bytes stop.BadByte big is = absurd (is.no_token Number big.digits big.after big.spelled big.number.token)
 big_stop bytes stop.OpenComment big is =
     let first = big_begins bytes big in
-    let same : first.0 ≡ 47 = head_is first.0 47 first.1 (45 ∷ 45 ∷ is.inner) (sym first.2 ∙ is.spelled) in
+    let same : first.0 ≡ 47 = head_same first.0 47 first.1 (45 ∷ 45 ∷ is.inner) (sym first.2 ∙ is.spelled) in
     let clash : true ≡ false = sym first.3 ∙ ap is_ascii_digit same in
     cc
 big_stop bytes stop.NumberTooBig big is = refl

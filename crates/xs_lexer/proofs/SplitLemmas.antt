@@ -94,9 +94,6 @@ pub record IsSplitTo (bytes rest : List ℕ) (tokens : List Token) : Type 0 wher
   pub splits : Splits pieces bytes rest
   pub same : tokens ≡ tokens_from 0 pieces
 
-pub IsSplitTo-none : (bytes : List ℕ) → IsSplitTo bytes bytes []
-IsSplitTo-none bytes = record { pieces = []; splits = refl; same = refl }
-
 -- the piece that was found makes the split longer
 pub IsSplitTo-more : (bytes rest : List ℕ) (tokens more : List Token) (start : ℕ) (here : Found) → IsSplitTo bytes rest tokens → 0 < length rest → start + length rest ≡ length bytes → piece_at rest ≡ Ok here → more ≡ tokens ++ token_of start here.kind here.len → IsSplitTo bytes (drop here.len rest) more
 IsSplitTo-more bytes rest tokens more start here split some place at pushed =

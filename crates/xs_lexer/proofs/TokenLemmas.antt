@@ -13,7 +13,7 @@ use Rattle.xs_lexer.proofs.RunLemmas.{Runs-run_len, Runs-le, run_len-le}
 use Rattle.xs_lexer.proofs.SignLemmas.{sign_starts, sign_some, sign_at-none, sign_at-some, sign_at-longest, signs_descend, signs_differ, one_kind, same_front}
 use Rattle.xs_lexer.proofs.BlockLemmas.{tail_same}
 
-head_same : (x y : ℕ) (xs ys : List ℕ) → x ∷ xs ≡ y ∷ ys → x ≡ y
+pub head_same : (x y : ℕ) (xs ys : List ℕ) → x ∷ xs ≡ y ∷ ys → x ≡ y
 head_same x y xs ys e = cc
 
 split_run : (test : List ℕ → Bool) (bytes : List ℕ) → take (run_len test bytes) bytes ++ drop (run_len test bytes) bytes ≡ bytes

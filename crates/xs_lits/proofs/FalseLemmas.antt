@@ -38,7 +38,7 @@ sign_of_false false false e = refl
 pub opposite-opposite : (l : Literal) → opposite (opposite l) ≡ l
 opposite-opposite l = ap (λ b. record { var = l.var; negated = b }) (not_not l.negated)
 
-literal_is : (l m : Literal) → l.var ≡ m.var → l.negated ≡ m.negated → l ≡ m
+pub literal_is : (l m : Literal) → l.var ≡ m.var → l.negated ≡ m.negated → l ≡ m
 literal_is l m e f = ap (λ x. record { var = x; negated = l.negated }) e ∙ ap (λ b. record { var = m.var; negated = b }) f
 
 -- what is true where a literal was made true was true, or is that literal

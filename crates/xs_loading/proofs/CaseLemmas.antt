@@ -7,7 +7,6 @@ use Rattle.xs_tree.specs.ModelTree.{model_tree}
 use Rattle.xs_flat_laws.specs.FaultModes.{mode_of}
 use Rattle.xs_tree.specs.Flat.{FlatModel as ModelTree}
 use Rattle.xs_flat_laws.specs.History.{with_history}
-use Rattle.xs_flat_laws.specs.Model.{EachBoth}
 use Rattle.xs_fei.specs.Instructions.{instruction_tree}
 use Rattle.xs_fei.specs.declared.instructions.Instructions.{Instructions}
 use Rattle.xs_type_laws.specs.Models.{IsTyped}
@@ -18,12 +17,14 @@ use Rattle.xs_extend.specs.NumberedFaults.{AreNumbered}
 use Rattle.xs_extend.specs.declared.faults.Woven.{Woven}
 use Rattle.xs_loading.specs.declared.loaded.Limited.{Limited}
 use Rattle.xs_loading.specs.Models.{IsModelOf, IsSpelled}
-use Rattle.xs_loading.specs.Wholes.{IsModeOf, IsWithinLimits}
+use Rattle.xs_loading.specs.Wholes.{IsWithinLimits}
 use Rattle.xs_loading.specs.Inputs.{IsInstructionText, AreTaken}
 use Rattle.xs_loading.specs.Loaded.{IsLoaded, IsLimited}
 use Rattle.xs_loading.proofs.OneModes.{one_modes}
 use Rattle.xs_loading.proofs.WholeLemmas.{numbered_modes}
 use Rattle.xs_loading.proofs.WovenSpells.{woven_text_spells}
+use Rattle.xs_certificate_laws.specs.ExtendedTraces.{IsModeOfFault}
+use Rattle.xs_tree.specs.Trace.{EachBoth}
 
 -- a woven program within the limits is loaded with the instructions that it was woven with
 pub is_loaded : (p : ProgramTree) (bytes : List ℕ) (i : Instructions) (w : Woven) (l : Limited) → IsSpelled p → IsInstructionText bytes (instruction_tree i) → AreTaken p (instruction_tree i) →
@@ -33,11 +34,11 @@ is_loaded p bytes i w l spelled text taken faults program limited =
     let m : ModelTree = model_tree l.typed.model in
     let within : IsWithinLimits extension (map fault_tree w.faults) = subst (λ q. IsWithinLimits q (map fault_tree w.faults)) program limited.within in
     let flat : IsModelOf extension m = subst (λ q. IsModelOf q m) program limited.is_flat in
-    let modes : EachBoth (IsModeOf m) (map fault_tree w.faults) (map mode_of l.faults) = numbered_modes l.typed.model w.faults l.faults limited.numbered in
+    let modes : EachBoth (IsModeOfFault m) (map fault_tree w.faults) (map mode_of l.faults) = numbered_modes l.typed.model w.faults l.faults limited.numbered in
     let whole = within.is_whole in
     let flats : whole.flat ≡ m = flat.only whole.flat whole.model.is in
     let same : whole.modes ≡ map mode_of l.faults =
-    one_modes extension within.accepted m flat.is (map fault_tree w.faults) whole.modes (map mode_of l.faults) (subst (λ k. EachBoth (IsModeOf k) (map fault_tree w.faults) whole.modes) flats whole.are_modes) modes in
+    one_modes extension within.accepted m flat.is (map fault_tree w.faults) whole.modes (map mode_of l.faults) (subst (λ k. EachBoth (IsModeOfFault k) (map fault_tree w.faults) whole.modes) flats whole.are_modes) modes in
     let typed : IsTyped (with_history m (map mode_of l.faults)) = subst IsTyped (whole.is ∙ (λ j. with_history (flats j) (same j))) within.typed in
     let kept : l.woven ≡ w = limited.kept in
     record {
@@ -46,7 +47,7 @@ is_loaded p bytes i w l spelled text taken faults program limited =
         are_faults = subst (λ v. HasFaults p (instruction_tree i) (map fault_tree v.faults)) (sym kept) faults;
         within = subst (λ v. IsWithinLimits extension (map fault_tree v.faults)) (sym kept) within;
         is_flat = flat;
-        are_modes = subst (λ v. EachBoth (IsModeOf m) (map fault_tree v.faults) (map mode_of l.faults)) (sym kept) modes;
+        are_modes = subst (λ v. EachBoth (IsModeOfFault m) (map fault_tree v.faults) (map mode_of l.faults)) (sym kept) modes;
         typed = typed;
       };
       program = ap (λ v. program_tree v.program) kept ∙ program;

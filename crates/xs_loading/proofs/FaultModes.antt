@@ -17,7 +17,7 @@ use Rattle.xs_flat_laws.proofs.Variables.{variables_are}
 use Rattle.xs_flat_laws.proofs.Walkable.{accepted_walkable}
 use Rattle.xs_tree.specs.declared.model.FlatModel.{FlatModel}
 use Rattle.xs_tree.specs.declared.model.Variable.{Variable}
-use Rattle.xs_tree.specs.ModelTree.{place_in, name_in, variable_tree, model_tree}
+use Rattle.xs_tree.specs.ModelTree.{place_in, name_in, variable_tree, model_tree, place_of}
 use Rattle.xs_scope.proofs.SymbolKinds.{symbols_among}
 use Rattle.xs_fei.specs.Instructions.{SliceTree, InstructionTree, slices_of}
 use Rattle.xs_fei.specs.AddedNames.{mode_variable, mode_symbol}
@@ -29,11 +29,11 @@ use Rattle.xs_weave.proofs.LeafValues.{instance_among, mode_variable_kind}
 use Rattle.xs_weave.proofs.Meanings.{module_woven}
 use Rattle.xs_certificate_laws.proofs.Modes.{IsOfSlice, of_program}
 use Rattle.xs_extend.specs.declared.faults.WovenFault.{WovenFault}
-use Rattle.xs_extend.specs.WovenFaults.{place_of, fault_tree}
+use Rattle.xs_extend.specs.WovenFaults.{fault_tree}
 use Rattle.xs_extend.specs.NumberedFaults.{parts_of, HasPath, HaveModes}
 use Rattle.xs_loading.specs.Wholes.{HasModeOf, HasItsModes}
 use Rattle.xs_loading.proofs.WholeLemmas.{turned}
-use Rattle.xs_scope.proofs.KeyLaws.{map_get as mapped_from}
+use Rattle.xs_tree.proofs.ListLaws.{get_mapped}
 
 -- a text among others has a place
 among_at : (xs : List Text) (x : Text) → is_among xs x ≡ true → (n : ℕ) × (slice_get xs n ≡ Some x)
@@ -91,7 +91,7 @@ path_is v path x some place name = sym (reverse-reverse v.path) ∙ ap reverse (
 
 path_there : (m : FlatModel) (path : Option Path) (x : Text) (n : ℕ) → x ≢ [] → IsVariableNumber (model_tree m) (place_of path) x n → HasPath m.variables n (parts_of path ++ x ∷ [])
 path_there m path x n some is =
-    let made : (v : Variable) × (slice_get m.variables n ≡ Some v) × (variable_tree v ≡ is.variable) = mapped_from variable_tree m.variables n is.variable is.is in
+    let made : (v : Variable) × (slice_get m.variables n ≡ Some v) × (variable_tree v ≡ is.variable) = get_mapped variable_tree m.variables n is.variable is.is in
     record {
       variable = made.0;
       is = made.1;

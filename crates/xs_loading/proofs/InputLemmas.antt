@@ -1,5 +1,5 @@
 -- What the reading of an input file comes to.
-use Rattle.std.proofs.Common.{◌≡◌, ◌∙◌, ap, subst, sym, refl, ℕ, List, [], ◌∷◌, map, Option, Some, None, Result, Err, IfSome}
+use Rattle.std.proofs.Common.{◌≡◌, ◌∙◌, ap, subst, sym, refl, ℕ, List, [], ◌∷◌, map, Option, Some, None, IfSome}
 use Rattle.xs_tree.specs.ProgramTree.{Text, ProgramTree}
 use Rattle.xs_tree.specs.Flat.{FlatInstance, FlatModel as ModelTree}
 use Rattle.xs_flat_laws.specs.Model.{IsFlatOf}
@@ -21,7 +21,8 @@ use Rattle.xs_loading.specs.declared.input.Input.TheVariants as input
 use Rattle.xs_loading.specs.declared.input.Stop.TheVariants as stop
 use Rattle.xs_loading.specs.Wrongs.{IfRefused}
 use Rattle.xs_loading.specs.Models.{IsLawful, IsWrongModel}
-use Rattle.xs_loading.specs.Inputs.{refusal_at, stop_at, modules_named, IsRefusedFile, HasBytes, RefusesModel, model_file, model_bytes, IsWrongFaults, RefusesFaults, faults_file, faults_bytes}
+use Rattle.xs_loading.specs.Inputs.{refusal_at, stop_at, IsRefusedFile, HasBytes, RefusesModel, model_file, model_bytes, IsWrongFaults, RefusesFaults, faults_file, faults_bytes}
+use Rattle.xs_flat_laws.specs.Items.{modules_of_instances}
 
 -- a stop at the one refusal is a stop at no other
 pub same_refusal : {x r : Refusal} → stop.Refused x ≡ stop.Refused r → r ≡ x
@@ -51,11 +52,8 @@ refuses_faults_bytes None name p bytes w r is has bad = tt
 refuses_faults_bytes (Some files) name p bytes (wrong.Refused fault) r is has bad = let same : r ≡ refusal.Faults fault = cc in faults_bytes bytes fault same has bad
 refuses_faults_bytes (Some files) name p bytes wrong.Memory r is has bad = cc
 
-pub same_error : {T E : Type 0} {a b : E} → Path (Result T E) (Err a) (Err b) → a ≡ b
-same_error e = cc
-
 -- the modules of a model's instances are those of the program's
-pub modules_are : (p : ProgramTree) (m : FlatModel) → IsFlatOf p (model_tree m) → modules_in m.instances ≡ modules_named p
+pub modules_are : (p : ProgramTree) (m : FlatModel) → IsFlatOf p (model_tree m) → modules_in m.instances ≡ modules_of_instances p
 modules_are p m is = twice m.instances ∙ ap (map (λ (at : FlatInstance). at.module_name)) is.instances
   where
     twice : (xs : List Instance) → modules_in xs ≡ map (λ (at : FlatInstance). at.module_name) (map instance_tree xs)

@@ -3,7 +3,7 @@ use Rattle.std.proofs.Common.{◌≡◌, List, [], ◌∷◌, map, Option, Some,
 use Rattle.std.specs.Prelude.{flat_map}
 use Rattle.xs_tree.specs.ProgramTree.{ModuleTree, ProgramTree}
 use Rattle.xs_tree.specs.Scope.{Place, module_at}
-use Rattle.xs_tree.specs.Trace.{Each}
+use Rattle.xs_tree.specs.Trace.{Each, EachBoth}
 use Rattle.xs_fei.specs.Instructions.{ModeTree, SliceTree, InstructionTree, slices_of}
 use Rattle.xs_fei.specs.AddedNames.{mode_variable}
 use Rattle.xs_weave.specs.Conservative.{IsSlice}
@@ -13,7 +13,7 @@ use Rattle.xs_weave.specs.Woven.{woven}
 use Rattle.xs_weave.proofs.Added.{contains_among}
 use Rattle.xs_tree.specs.Flat.{FlatModel}
 use Rattle.xs_flat_laws.specs.History.{Mode}
-use Rattle.xs_flat_laws.specs.Model.{IsVariableNumber, EachBoth}
+use Rattle.xs_flat_laws.specs.Model.{IsVariableNumber}
 use Rattle.xs_flat_laws.specs.Rules.{too_many, IsFirstBroken, IsAccepted}
 use Rattle.xs_flat_laws.proofs.Conditions.{each_flat}
 use Rattle.xs_flat_laws.proofs.Lists.{each_more}
@@ -30,8 +30,9 @@ use Rattle.xs_woven_laws.proofs.WovenLaws.{size_alone_woven}
 use Rattle.xs_loading.specs.declared.status.InputFault.{InputFault}
 use Rattle.xs_loading.specs.Wrongs.{names_fault, kinds_fault}
 use Rattle.xs_loading.specs.Models.{IsLawful}
-use Rattle.xs_loading.specs.Wholes.{IsModeOf, IsWhole, IsWrongWhole, by_names, by_kinds, PassesLimit, by_number, by_size}
+use Rattle.xs_loading.specs.Wholes.{IsWhole, IsWrongWhole, by_names, by_kinds, PassesLimit, by_number, by_size}
 use Rattle.xs_loading.specs.Inputs.{AreTaken}
+use Rattle.xs_certificate_laws.specs.ExtendedTraces.{IsModeOfFault}
 
 -- the fault is of a slice of its instance
 pub record IsOfSlice (p : ProgramTree) (i : InstructionTree) (fault : Fault) : Type 0 where
@@ -65,7 +66,7 @@ module _ (p : ProgramTree) (i : InstructionTree) where
       every [] = tt
       every (at ∷ places) = (of_slices at (slices_at p i at) (of_module at (module_at p at) refl), every places)
 
-  pub slice_modes : (w : FlatModel) (faults : List Fault) (modes : List Mode) → EachBoth (IsModeOf w) faults modes → Each (IsOfSlice p i) faults → Each (IsSliceMode p i w) modes
+  pub slice_modes : (w : FlatModel) (faults : List Fault) (modes : List Mode) → EachBoth (IsModeOfFault w) faults modes → Each (IsOfSlice p i) faults → Each (IsSliceMode p i w) modes
   slice_modes w [] [] are of = tt
   slice_modes w [] (f ∷ modes) are of = absurd are
   slice_modes w (a ∷ faults) [] are of = absurd are

@@ -8,13 +8,13 @@ use Rattle.xs_tree.specs.Text.{each_after, dotted_text}
 use Rattle.xs_tree.specs.declared.model.FlatModel.{FlatModel}
 use Rattle.xs_tree.specs.declared.model.Fault.{Fault}
 use Rattle.xs_extend.specs.declared.faults.WovenFault.{WovenFault}
-use Rattle.xs_extend.specs.WovenFaults.{place_of, fault_tree}
+use Rattle.xs_extend.specs.WovenFaults.{fault_tree}
 use Rattle.xs_extend.specs.NumberedFaults.{parts_of, AreNumbered}
 use Rattle.xs_report.specs.FaultText as lines
-use Rattle.xs_report.specs.FaultText.{name_of}
 use Rattle.xs_loading.specs.Reports.{parts_text, place_text, fault_lines, report_text}
 use Rattle.xs_loading.specs.Inputs.{path_of, AreListed}
 use Rattle.xs_loading.specs.Answered.{faults_text}
+use Rattle.xs_tree.specs.ModelTree.{place_of, name_of_fault}
 
 pub are_listed : (m : FlatModel) (ws : List WovenFault) (fs : List Fault) → AreNumbered m ws fs → AreListed ws fs
 are_listed m [] [] h = refl
@@ -53,11 +53,11 @@ named_report : (ws : List WovenFault) →
     codes "faults " ++ (decimal (length (map path_of ws)) ++ (codes "\n" ++ (lines.fault_lines 1 (map path_of ws) ++ codes "extended\n"))) ≡ report_text (map fault_tree ws)
 named_report ws = λ j. codes "faults " ++ (decimal (counts ws j) ++ (codes "\n" ++ (lines_are 1 ws j ++ codes "extended\n")))
 
-pub report_is : (ws : List WovenFault) (fs : List Fault) → AreListed ws fs → lines.faults_text (map name_of fs) ++ codes "extended\n" ≡ report_text (map fault_tree ws)
+pub report_is : (ws : List WovenFault) (fs : List Fault) → AreListed ws fs → lines.faults_text (map name_of_fault fs) ++ codes "extended\n" ≡ report_text (map fault_tree ws)
 report_is ws fs listed =
     ap (λ names. lines.faults_text names ++ codes "extended\n") listed
     ∙ pieces (codes "faults ") (decimal (length (map path_of ws))) (codes "\n") (lines.fault_lines 1 (map path_of ws)) (codes "extended\n") ∙ named_report ws
 
 -- the number and the lines of faults alone
-pub named_lines : (ws : List WovenFault) (fs : List Fault) → AreListed ws fs → lines.faults_text (map name_of fs) ≡ faults_text (map fault_tree ws)
+pub named_lines : (ws : List WovenFault) (fs : List Fault) → AreListed ws fs → lines.faults_text (map name_of_fault fs) ≡ faults_text (map fault_tree ws)
 named_lines ws fs listed = ap lines.faults_text listed ∙ (λ j. codes "faults " ++ (decimal (counts ws j) ++ (codes "\n" ++ lines_are 1 ws j)))

@@ -2,7 +2,6 @@
 use Rattle.std.proofs.Common.{◌≡◌, List, [], ◌∷◌, Option, Some, None, IfSome, length, refl, ap, subst, suc}
 use Rattle.xs_desk.specs.declared.files.NamedFile.{NamedFile}
 use Rattle.xs_tree.specs.ProgramTree.{Text, ProgramTree}
-use Rattle.xs_tree.specs.Flat.{FlatModel}
 use Rattle.xs_loading.specs.Inputs.{HoldsModel}
 use Rattle.xs_loading.specs.Cases.{HoldsCase, extension_of}
 use Rattle.xs_loading.specs.Loaded.{case_of, HoldsLoaded, IsLoaded}
@@ -19,11 +18,6 @@ use Rattle.xs_text_laws.specs.Given.{IsPrintable, HasItsSymbols}
 use Rattle.xs_text_laws.proofs.Named.{named_is_printable}
 use Rattle.xs_text_laws.proofs.FlatNames.{flat_models_named}
 use Rattle.xs_text_laws.proofs.FlatSymbols.{flat_models_have_symbols}
-use Rattle.xs_flat_laws.specs.History.{Mode}
-use Rattle.xs_flat_laws.specs.Model.{EachBoth}
-use Rattle.xs_weave.specs.Faults.{Fault}
-use Rattle.xs_certificate_laws.specs.ExtendedTraces.{IsModeOfFault}
-use Rattle.xs_loading.specs.Wholes.{IsModeOf}
 
 module _ (model faults trace top : Text) where
   -- both are taken
@@ -52,10 +46,3 @@ same_counts m [] [] h = refl
 same_counts m [] (f ∷ fs) h = absurd h
 same_counts m (w ∷ ws) [] h = absurd h
 same_counts m (w ∷ ws) (f ∷ fs) h = ap suc (same_counts m ws fs h.1)
-
--- the modes of faults, as the layer below says it
-pub modes_of_faults : (m : FlatModel) (faults : List Fault) (modes : List Mode) → EachBoth (IsModeOf m) faults modes → EachBoth (IsModeOfFault m) faults modes
-modes_of_faults m [] [] h = tt
-modes_of_faults m [] (mode ∷ modes) h = absurd h
-modes_of_faults m (fault ∷ faults) [] h = absurd h
-modes_of_faults m (fault ∷ faults) (mode ∷ modes) h = (record { variable = h.0.variable; symbol = h.0.symbol }, modes_of_faults m faults modes h.1)

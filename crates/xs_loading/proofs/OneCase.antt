@@ -7,7 +7,6 @@ use Rattle.xs_tree.specs.WritableProgram.{IsWritableProgram}
 use Rattle.xs_tree.proofs.Spelled.{program_writable}
 use Rattle.xs_tree.specs.Flat.{FlatModel}
 use Rattle.xs_flat_laws.specs.History.{Mode}
-use Rattle.xs_flat_laws.specs.Model.{EachBoth}
 use Rattle.xs_fei.specs.Instructions.{InstructionTree}
 use Rattle.xs_weave.specs.Faults.{Fault}
 use Rattle.xs_weave.specs.Woven.{woven}
@@ -15,7 +14,6 @@ use Rattle.xs_text_laws.specs.Given.{IsPrintable}
 use Rattle.xs_text_laws.proofs.Named.{named_is_printable}
 use Rattle.xs_text_laws.proofs.FlatNames.{flat_models_named}
 use Rattle.xs_loading.specs.declared.status.Refusal.{Refusal}
-use Rattle.xs_loading.specs.Wholes.{IsModeOf}
 use Rattle.xs_loading.specs.Reports.{report_text}
 use Rattle.xs_loading.specs.Inputs.{IsInstructionText, RefusesFaults, HoldsFaults}
 use Rattle.xs_loading.specs.Cases.{Case, extension_of, IsCase, HoldsCase}
@@ -26,6 +24,8 @@ use Rattle.xs_loading.proofs.OneModelFault.{one_held_model}
 use Rattle.xs_loading.proofs.OneInstructions.{one_instructions}
 use Rattle.xs_loading.proofs.OneExtending.{taken_not_refused}
 use Rattle.xs_loading.proofs.WovenSpells.{woven_text_spells}
+use Rattle.xs_certificate_laws.specs.ExtendedTraces.{IsModeOfFault}
+use Rattle.xs_tree.specs.Trace.{EachBoth}
 
 module _ (files : List NamedFile) (model faults : Text) where
   -- the case's instructions are held as those of an extension
@@ -68,7 +68,7 @@ module _ (files : List NamedFile) (model faults : Text) where
   same_case p i fs gs m n ms ns a b =
       let lists : gs ≡ fs = one_list p i gs fs b.are_faults a.are_faults in
       let flats : n ≡ m = a.is_flat.only n b.is_flat.is in
-      let modes : ms ≡ ns = one_modes (woven p i) a.within.accepted m a.is_flat.is fs ms ns a.are_modes (subst (λ xs. EachBoth (IsModeOf m) xs ns) lists (subst (λ k. EachBoth (IsModeOf k) gs ns) flats b.are_modes)) in
+      let modes : ms ≡ ns = one_modes (woven p i) a.within.accepted m a.is_flat.is fs ms ns a.are_modes (subst (λ xs. EachBoth (IsModeOfFault m) xs ns) lists (subst (λ k. EachBoth (IsModeOfFault k) gs ns) flats b.are_modes)) in
       same_parts p i fs gs m n ms ns (sym lists) (sym flats) modes
 
   pub one_case : (c d : Case) → HoldsCase files model faults c → HoldsCase files model faults d → c ≡ d

@@ -19,13 +19,14 @@ use Rattle.xs_loading.specs.Wrongs.{cause_wrong, weave_wrong}
 use Rattle.xs_loading.specs.Models.{IsLawful}
 use Rattle.xs_loading.specs.Wholes.{PassesLimit, IsWithinLimits}
 use Rattle.xs_loading.specs.Reports.{report_text}
-use Rattle.xs_loading.specs.Inputs.{modules_named, AreTaken, IsWrongFaults, not_spelled, not_woven, past_limit, RefusesFaults, faults_file, faults_bytes, IsExtensionText, HoldsFaults}
+use Rattle.xs_loading.specs.Inputs.{AreTaken, IsWrongFaults, not_spelled, not_woven, past_limit, RefusesFaults, faults_file, faults_bytes, IsExtensionText, HoldsFaults}
 use Rattle.xs_loading.proofs.FileFacts.{no_bytes, one_file_fault, same_bytes}
 use Rattle.xs_loading.proofs.OneFaults.{one_list}
 use Rattle.xs_loading.proofs.OneExtension.{one_wrong_whole, within_not_wrong}
 use Rattle.xs_loading.proofs.LimitLaws.{passes_wrong}
 use Rattle.xs_loading.proofs.Told.{one_refusal}
 use Rattle.xs_loading.proofs.OneInstructions.{no_instructions, one_text_fault, one_instructions}
+use Rattle.xs_flat_laws.specs.Items.{modules_of_instances}
 
 -- a fault that refuses is no want of memory
 refuses_no_want : (f : WeaveFault) (a : InputFault) → wrong.Refused a ≡ weave_wrong f → IsWant f → ⊥
@@ -33,20 +34,20 @@ refuses_no_want f a e memory = let bad : wrong.Refused a ≡ wrong.Memory = e �
 
 module _ (p : ProgramTree) (m : FlatModel) (lawful : IsLawful p m) where
   -- what is told over a flat model of the program is told over this one, which is the only one
-  told_over : (n : FlatModel) (i : InstructionTree) (f : WeaveFault) → IsFlatOf p n → IsTold p n i (modules_named p) f → IsTold p m i (modules_named p) f
-  told_over n i f is told = subst (λ o. IsTold p o i (modules_named p) f) (lawful.model.only n is) told
+  told_over : (n : FlatModel) (i : InstructionTree) (f : WeaveFault) → IsFlatOf p n → IsTold p n i (modules_of_instances p) f → IsTold p m i (modules_of_instances p) f
+  told_over n i f is told = subst (λ o. IsTold p o i (modules_of_instances p) f) (lawful.model.only n is) told
 
   -- what is told of instructions for a lawful program is one fault
-  told_once : (i : InstructionTree) (n k : FlatModel) (f g : WeaveFault) (a b : InputFault) → IsFlatOf p n → IsFlatOf p k → IsTold p n i (modules_named p) f → IsTold p k i (modules_named p) g →
+  told_once : (i : InstructionTree) (n k : FlatModel) (f g : WeaveFault) (a b : InputFault) → IsFlatOf p n → IsFlatOf p k → IsTold p n i (modules_of_instances p) f → IsTold p k i (modules_of_instances p) g →
       wrong.Refused a ≡ weave_wrong f → wrong.Refused b ≡ weave_wrong g → a ≡ b
   told_once i n k f g a b is was told also e d =
-      let same : f ≡ g = one_told p m i (modules_named p) f g lawful.accepted lawful.model.is (told_over n i f is told) (told_over k i g was also) (refuses_no_want f a e) (refuses_no_want g b d) in
+      let same : f ≡ g = one_told p m i (modules_of_instances p) f g lawful.accepted lawful.model.is (told_over n i f is told) (told_over k i g was also) (refuses_no_want f a e) (refuses_no_want g b d) in
       one_refusal (e ∙ ap weave_wrong same ∙ sym d)
 
   -- and nothing is told of instructions that are taken
-  taken_untold : (i : InstructionTree) (n : FlatModel) (f : WeaveFault) (a : InputFault) → AreTaken p i → IsFlatOf p n → IsTold p n i (modules_named p) f → wrong.Refused a ≡ weave_wrong f → ⊥
+  taken_untold : (i : InstructionTree) (n : FlatModel) (f : WeaveFault) (a : InputFault) → AreTaken p i → IsFlatOf p n → IsTold p n i (modules_of_instances p) f → wrong.Refused a ≡ weave_wrong f → ⊥
   taken_untold i n f a taken is told e =
-      none_told p m i (modules_named p) f lawful.accepted lawful.model.is taken.kept (taken.uses m lawful.model.is) (told_over n i f is told) (refuses_no_want f a e)
+      none_told p m i (modules_of_instances p) f lawful.accepted lawful.model.is taken.kept (taken.uses m lawful.model.is) (told_over n i f is told) (refuses_no_want f a e)
 
 module _ (p : ProgramTree) (m : FlatModel) (lawful : IsLawful p m) (bytes : List ℕ) where
   one_wrong_faults : (a b : InputFault) → IsWrongFaults p bytes a → IsWrongFaults p bytes b → a ≡ b
@@ -55,12 +56,12 @@ module _ (p : ProgramTree) (m : FlatModel) (lawful : IsLawful p m) (bytes : List
   one_wrong_faults a b (not_spelled f h e) (past_limit j faults text taken are bad) = absurd (no_instructions bytes j f a e h text)
   one_wrong_faults a b (not_woven i n f text is told e) (not_spelled g k d) = absurd (no_instructions bytes i g b d k text)
   one_wrong_faults a b (not_woven i n f text is told e) (not_woven j k g other was also d) =
-      told_once p m lawful i n k f g a b is was told (subst (λ t. IsTold p k t (modules_named p) g) (one_instructions bytes j i other text) also) e d
+      told_once p m lawful i n k f g a b is was told (subst (λ t. IsTold p k t (modules_of_instances p) g) (one_instructions bytes j i other text) also) e d
   one_wrong_faults a b (not_woven i n f text is told e) (past_limit j faults other taken are bad) =
       absurd (taken_untold p m lawful i n f a (subst (AreTaken p) (one_instructions bytes j i other text) taken) is told e)
   one_wrong_faults a b (past_limit i faults text taken are bad) (not_spelled g k d) = absurd (no_instructions bytes i g b d k text)
   one_wrong_faults a b (past_limit i faults text taken are bad) (not_woven j n g other is told d) =
-      absurd (taken_untold p m lawful i n g b taken is (subst (λ t. IsTold p n t (modules_named p) g) (one_instructions bytes j i other text) told) d)
+      absurd (taken_untold p m lawful i n g b taken is (subst (λ t. IsTold p n t (modules_of_instances p) g) (one_instructions bytes j i other text) told) d)
   one_wrong_faults a b (past_limit i faults text taken are bad) (past_limit j others other taken' are' bad') =
       let same : j ≡ i = one_instructions bytes j i other text in
       let lists : others ≡ faults = one_list p i others faults (subst (λ t. HasFaults p t others) same are') are in

@@ -4,21 +4,22 @@ use Rattle.xs_tree.specs.ProgramTree.{ProgramTree}
 use Rattle.xs_tree.specs.Flat.{FlatModel}
 use Rattle.xs_flat_laws.specs.History.{with_history}
 use Rattle.xs_flat_laws.specs.Rules.{IsAccepted}
-use Rattle.xs_flat_laws.specs.Model.{EachBoth}
 use Rattle.xs_flat_laws.proofs.Laws.{accepted_unbroken}
 use Rattle.xs_type_laws.specs.Models.{IsFault, IsTyped}
 use Rattle.xs_type_laws.proofs.Typed.{typed_has_none}
 use Rattle.xs_weave.specs.Faults.{Fault}
 use Rattle.xs_loading.specs.declared.status.InputFault.{InputFault}
-use Rattle.xs_loading.specs.Wholes.{IsModeOf, IsWhole, IsWrongWhole, by_names, by_kinds, IsWithinLimits}
+use Rattle.xs_loading.specs.Wholes.{IsWhole, IsWrongWhole, by_names, by_kinds, IsWithinLimits}
 use Rattle.xs_loading.proofs.OneModes.{one_modes}
 use Rattle.xs_loading.proofs.OneModelFault.{one_name, one_kind}
+use Rattle.xs_certificate_laws.specs.ExtendedTraces.{IsModeOfFault}
+use Rattle.xs_tree.specs.Trace.{EachBoth}
 
 module _ (extension : ProgramTree) (faults : List Fault) where
   one_whole : (a b : FlatModel) → IsAccepted extension → IsWhole extension faults a → IsWhole extension faults b → a ≡ b
   one_whole a b accepted h g =
       let flats : g.flat ≡ h.flat = h.model.only g.flat g.model.is in
-      let modes : h.modes ≡ g.modes = one_modes extension accepted h.flat h.model.is faults h.modes g.modes h.are_modes (subst (λ m. EachBoth (IsModeOf m) faults g.modes) flats g.are_modes) in
+      let modes : h.modes ≡ g.modes = one_modes extension accepted h.flat h.model.is faults h.modes g.modes h.are_modes (subst (λ m. EachBoth (IsModeOfFault m) faults g.modes) flats g.are_modes) in
       h.is ∙ (λ i. with_history (sym flats i) (modes i)) ∙ sym g.is
 
   pub one_wrong_whole : (a b : InputFault) → IsWrongWhole extension faults a → IsWrongWhole extension faults b → a ≡ b

@@ -22,7 +22,6 @@ use Rattle.xs_loading.specs.declared.status.Part.{Part}
 use Rattle.xs_loading.specs.declared.status.Refusal.{Refusal}
 use Rattle.xs_loading.specs.declared.status.Refusal.TheVariants as refusal
 use Rattle.xs_loading.specs.Wrongs.{parse_wrong, names_fault, kinds_fault}
-use Rattle.xs_loading.specs.Wholes.{BreaksKinds}
 use Rattle.xs_loading.specs.Models.{IsModelText, IsModelFault, IsLawful, IsWrongModel, not_read, not_flat, not_typed}
 use Rattle.xs_loading.specs.Inputs.{RefusesModel, model_file, model_bytes, HoldsModel}
 use Rattle.xs_loading.proofs.Told.{one_refusal}
@@ -37,16 +36,9 @@ one_place p a b i j e f = ap (λ n. record { part = p; number = n; place = i }) 
 pub one_name : (p : ProgramTree) (r q : Rule) (i j : ℕ) → IsFirstBroken p r i → IsFirstBroken p q j → (at : ℕ → ℕ) → names_fault r (at i) ≡ names_fault q (at j)
 one_name p r q i j a b at = let one = one_broken p r q i j a b in one_place _ (number_of r) (number_of q) (at i) (at j) one.0 (ap at one.1)
 
+-- and so are the first broken rules of kinds
 pub one_kind : (m : FlatModel) (r q : KindRule) (i j : ℕ) → IsFault m r i → IsFault m q j → (at : ℕ → ℕ) → kinds_fault r (at i) ≡ kinds_fault q (at j)
 one_kind m r q i j a b at = let one = one_kind_fault m r q i j a b in one_place _ (kind_number r) (kind_number q) (at i) (at j) one.0 (ap at one.1)
-
--- a model breaks one rule of kinds first, and none where it is typed
-module _ (m : FlatModel) where
-  pub one_breach : (a b : InputFault) → BreaksKinds m a → BreaksKinds m b → a ≡ b
-  one_breach a b h g = h.is ∙ one_kind m h.rule g.rule h.item g.item h.broken g.broken (λ n. 0) ∙ sym g.is
-
-  pub typed_breaks_none : (a : InputFault) → IsTyped m → BreaksKinds m a → ⊥
-  typed_breaks_none a typed h = typed_has_none m h.rule h.item typed h.broken
 
 module _ (bytes : List ℕ) where
   -- a model that is taken is not too deep

@@ -7,14 +7,15 @@ use Rattle.xs_tree.specs.Flat.{FlatModel}
 use Rattle.xs_flat_laws.specs.Items.{Visit, variables_of}
 use Rattle.xs_flat_laws.specs.Rules.{IsAccepted}
 use Rattle.xs_flat_laws.specs.History.{Mode}
-use Rattle.xs_flat_laws.specs.Model.{IsVariableNumber, IsVariableOf, EachBoth, IsFlatOf}
+use Rattle.xs_flat_laws.specs.Model.{IsVariableNumber, IsVariableOf, IsFlatOf}
 use Rattle.xs_flat_laws.proofs.OneModel.{OtherText, symbols_apart, one_variable as same_visit}
-use Rattle.xs_flat_laws.proofs.KeysApart.{Pairwise, pairwise_same}
 use Rattle.xs_flat_laws.proofs.Variables.{both_at_second}
 use Rattle.xs_flat_laws.proofs.Walkable.{accepted_walkable}
 use Rattle.xs_fei.specs.AddedNames.{mode_variable, mode_symbol}
 use Rattle.xs_weave.specs.Faults.{Fault}
-use Rattle.xs_loading.specs.Wholes.{IsModeOf}
+use Rattle.xs_flat_laws.proofs.Pairs.{Pairwise, pairwise_same}
+use Rattle.xs_certificate_laws.specs.ExtendedTraces.{IsModeOfFault}
+use Rattle.xs_tree.specs.Trace.{EachBoth}
 
 module _ (p : ProgramTree) (accepted : IsAccepted p) (m : FlatModel) (is : IsFlatOf p m) where
   one_variable : (at : Place) (x : Text) (i j : ℕ) → IsVariableNumber m at x i → IsVariableNumber m at x j → i ≡ j
@@ -29,12 +30,12 @@ module _ (p : ProgramTree) (accepted : IsAccepted p) (m : FlatModel) (is : IsFla
   one_symbol x i j h g =
       pairwise_same OtherText m.symbols i j x x (subst (Pairwise OtherText) (sym is.symbols) (symbols_apart p)) h g (λ d. d refl) (λ d. d refl)
 
-  one_mode : (fault : Fault) (a b : Mode) → IsModeOf m fault a → IsModeOf m fault b → a ≡ b
+  one_mode : (fault : Fault) (a b : Mode) → IsModeOfFault m fault a → IsModeOfFault m fault b → a ≡ b
   one_mode fault a b h g =
       ap (λ v. record { variable = v; symbol = a.symbol }) (one_variable fault.place (mode_variable fault.slice) a.variable b.variable h.variable g.variable)
       ∙ ap (λ s. record { variable = b.variable; symbol = s }) (one_symbol (mode_symbol fault.slice (Some fault.mode)) a.symbol b.symbol h.symbol g.symbol)
 
-  pub one_modes : (faults : List Fault) (some others : List Mode) → EachBoth (IsModeOf m) faults some → EachBoth (IsModeOf m) faults others → some ≡ others
+  pub one_modes : (faults : List Fault) (some others : List Mode) → EachBoth (IsModeOfFault m) faults some → EachBoth (IsModeOfFault m) faults others → some ≡ others
   one_modes [] [] [] h g = refl
   one_modes [] [] (b ∷ others) h g = absurd g
   one_modes [] (a ∷ some) others h g = absurd h

@@ -7,7 +7,7 @@ use Rattle.xs_tree.specs.Flat.{FlatLeaf, FlatInstance, FlatModel}
 use Rattle.xs_flat_laws.specs.Model.{IsFlatOf}
 use Rattle.xs_flat_laws.specs.ResolvedAt.{IsResolvedAt}
 use Rattle.xs_flat_laws.specs.Rules.{Rule, IsAccepted}
-use Rattle.xs_flat_laws.specs.ValueRules.{IsLeastBroken}
+use Rattle.xs_flat_laws.specs.ValueRules.{IsLeastBroken, KeepsValue}
 use Rattle.xs_flat_laws.proofs.Walkable.{accepted_walkable}
 use Rattle.xs_flat.specs.ResolvedAt.{IsAt, IsValueFault}
 use Rattle.xs_scope.specs.Faults.{rule_of}
@@ -18,7 +18,7 @@ use Rattle.xs_type_laws.specs.Costs.{cost_of}
 use Rattle.xs_types.specs.Answers.{told_rule}
 use Rattle.xs_types.specs.Calls.{top_answer}
 use Rattle.xs_types.specs.declared.fault.TypeFault.{TypeFault}
-use Rattle.xs_woven_laws.specs.Tops.{KeepsValue, HaveFlatModels, IsReadAs}
+use Rattle.xs_woven_laws.specs.Tops.{HaveFlatModels, IsReadAs}
 use Rattle.xs_woven_laws.proofs.Judging.{woven_own, none_refused}
 use Rattle.xs_woven_laws.proofs.Names.{values_kept}
 use Rattle.xs_loading.specs.declared.status.InputFault.{InputFault}

@@ -4,18 +4,20 @@ use Rattle.std.specs.Prelude.{reverse}
 use Rattle.std.proofs.lemmas.List.{reverse-append}
 use Rattle.xs_tree.specs.ProgramTree.{Text, Path, ProgramTree}
 use Rattle.xs_flat_laws.specs.History.{with_history}
-use Rattle.xs_flat_laws.specs.Model.{IsVariableNumber, EachBoth}
+use Rattle.xs_flat_laws.specs.Model.{IsVariableNumber}
 use Rattle.xs_tree.specs.declared.model.FlatModel.{FlatModel}
 use Rattle.xs_tree.specs.declared.model.Fault.{Fault}
-use Rattle.xs_tree.specs.ModelTree.{place_in, name_in, variable_tree, model_tree}
+use Rattle.xs_tree.specs.ModelTree.{place_in, name_in, variable_tree, model_tree, place_of}
 use Rattle.xs_flat_laws.specs.FaultModes.{mode_of}
 use Rattle.xs_fei.specs.AddedNames.{mode_variable}
 use Rattle.xs_extend.specs.declared.faults.WovenFault.{WovenFault}
-use Rattle.xs_extend.specs.WovenFaults.{place_of, fault_tree}
+use Rattle.xs_extend.specs.WovenFaults.{fault_tree}
 use Rattle.xs_extend.specs.NumberedFaults.{parts_of, HasPath, AreNumbered}
 use Rattle.xs_loading.specs.Models.{IsModelOf}
-use Rattle.xs_loading.specs.Wholes.{IsModeOf, IsWhole}
-use Rattle.xs_type_laws.proofs.WrittenLaws.{get_map as mapped_at}
+use Rattle.xs_loading.specs.Wholes.{IsWhole}
+use Rattle.xs_tree.proofs.ListLaws.{get_map}
+use Rattle.xs_certificate_laws.specs.ExtendedTraces.{IsModeOfFault}
+use Rattle.xs_tree.specs.Trace.{EachBoth}
 
 -- the path of a name at an instance, turned
 pub turned : (path : Option Path) (x : Text) → reverse (parts_of path ++ x ∷ []) ≡ x ∷ place_of path
@@ -27,12 +29,12 @@ numbered_variable m path x i has =
     let back : reverse has.variable.path ≡ x ∷ place_of path = ap reverse has.same ∙ turned path x in
     record {
       variable = variable_tree has.variable;
-      is = mapped_at variable_tree m.variables i has.variable has.is;
+      is = get_map variable_tree m.variables i has.variable has.is;
       same_place = ap place_in back;
       same_name = ap name_in back;
     }
 
-pub numbered_modes : (m : FlatModel) (ws : List WovenFault) (fs : List Fault) → AreNumbered m ws fs → EachBoth (IsModeOf (model_tree m)) (map fault_tree ws) (map mode_of fs)
+pub numbered_modes : (m : FlatModel) (ws : List WovenFault) (fs : List Fault) → AreNumbered m ws fs → EachBoth (IsModeOfFault (model_tree m)) (map fault_tree ws) (map mode_of fs)
 numbered_modes m [] [] h = tt
 numbered_modes m [] (f ∷ fs) h = absurd h
 numbered_modes m (w ∷ ws) [] h = absurd h

@@ -9,7 +9,7 @@ use Rattle.xs_tree.specs.ProgramTree.{Text, Path, Formula, DeclaredTree, boolean
 use Rattle.xs_tree.specs.Values.{Value, truth as a_truth, number, symbol}
 use Rattle.xs_tree.specs.Scope.{Role, state, input, frozen_role, Kind, a_formal, a_variable, a_define, an_instance, undeclared, formal_from, kind_declared, kind_in_decls, kind_in_defines, kind_in_sections, kind_after_formals, kind_in}
 use Rattle.xs_tree.specs.Texts.{same_text}
-use Rattle.xs_tree.specs.Trace.{Each}
+use Rattle.xs_tree.specs.Trace.{Each, value_of_member}
 use Rattle.xs_tree.specs.Text.{program_text}
 use Rattle.xs_tree.specs.Bytes.{BytesSpellProgram}
 use Rattle.xs_tree.specs.Printed.{IsName, AreNames, IsSmall, IsEnd, IsWritable, AreWritable, AreWritableBranches}
@@ -23,13 +23,15 @@ use Rattle.xs_fei.specs.declared.instructions.Start.TheVariants.{Nominal, Any}
 use Rattle.xs_fei.specs.Instructions.{EffectTree, stuck_at, follows, inverted, random, erroneous, frozen, stuck_at_pick, offset, ramp_down, ModeTree, SliceTree, ExtensionTree, InstructionTree, slices_from, slices_of, is_affected}
 use Rattle.xs_fei.specs.SpellsInstructions.{BytesSpellInstructions}
 use Rattle.xs_fei.specs.AddedNames.{own_name, mode_variable, mode_symbol}
-use Rattle.xs_fei.specs.Templates.{named, number_tree, value_tree, member_value, member_trees, domain_tree, clipped_tree, branch, stands, stands_next, rules, first_rules}
+use Rattle.xs_fei.specs.Templates.{named, number_tree, value_tree, member_trees, domain_tree, clipped_tree, branch, stands, stands_next, rules, first_rules}
 use Rattle.xs_weave.specs.Woven.{start_tree, start_rules, mode_rules, mode_branches, set_one, guard_formula, entries_from, entries, stay_branch, moves_tree, read_tree, slice_rules, slice_sections, tree_map_both, trees_map_both, branches_map_both, rename, same_path, woven_assignment, woven_section, added_sections, woven_module, woven}
 use Rattle.xs_fei.specs.KindTypes.{type_of_kind}
 use Rattle.xs_fei.proofs.AmongLaws.{each_append, each_map}
 use Rattle.xs_loading.proofs.AddedNames.{own_is_name, mode_variable_is_name, nominal_is_name, symbol_is_name}
 use Rattle.xs_fei.specs.WritableInstructions.{IsWritableConstant, IsWritableEffect, IsWritableGuard, IsWritableMode, IsWritableSlice, IsWritableExtension, IsWritableInstructions}
 use Rattle.xs_fei.proofs.SpelledInstructions.{instructions_writable}
+use Rattle.xs_encode_laws.proofs.SetLaws.{each_kept}
+use Rattle.xs_text_laws.proofs.FlatNames.{type_declared}
 
 -- a single name can be written
 pub one_name : (x : Text) → IsName x → IsWritable (named x)
@@ -41,10 +43,6 @@ only_one x h = (λ e. cc, (one_name x h, tt))
 each_of_all : {A B : Type 0} (P : B → Type 0) (Q : A → Type 0) (f : A → List B) → ((a : A) → Q a → Each P (f a)) → (xs : List A) → Each Q xs → Each P (flat_map f xs)
 each_of_all P Q f each [] h = tt
 each_of_all P Q f each (x ∷ xs) h = (each_append P (f x) (flat_map f xs)).1 (each x h.0, each_of_all P Q f each xs h.1)
-
-each_weaker : {A : Type 0} (P Q : A → Type 0) → ((a : A) → P a → Q a) → (xs : List A) → Each P xs → Each Q xs
-each_weaker P Q weaker [] h = tt
-each_weaker P Q weaker (x ∷ xs) h = (weaker x h.0, each_weaker P Q weaker xs h.1)
 
 either : {A : Type 0} (P : A → Type 0) (b : Bool) (x y : A) → P x → P y → P (if b then x else y)
 either P true x y h g = h
@@ -85,11 +83,11 @@ defines_typed (d ∷ ds) x k g = either IsTyped (same_text d.name x) (a_define d
 sections_typed : (ss : List SectionTree) (x : Text) → Each IsWritableSection ss → IsTyped (kind_in_sections ss x)
 sections_typed [] x h = tt
 sections_typed (var ds ∷ ss) x h =
-    decls_typed state ds x (kind_in_sections ss x) (each_weaker IsWritableDecl (λ d. IsTyped (kind_declared state d.what)) (λ d w. declared_typed state d.what w.1) ds h.0) (sections_typed ss x h.1)
+    decls_typed state ds x (kind_in_sections ss x) (each_kept IsWritableDecl (λ d. IsTyped (kind_declared state d.what)) (λ d w. declared_typed state d.what w.1) ds h.0) (sections_typed ss x h.1)
 sections_typed (ivar ds ∷ ss) x h =
-    decls_typed input ds x (kind_in_sections ss x) (each_weaker IsWritableTyped (λ d. IsTyped (kind_declared input d.what)) (λ d w. type_typed input d.what w.1) ds h.0) (sections_typed ss x h.1)
+    decls_typed input ds x (kind_in_sections ss x) (each_kept IsWritableTyped (λ d. IsTyped (kind_declared input d.what)) (λ d w. type_typed input d.what w.1) ds h.0) (sections_typed ss x h.1)
 sections_typed (frozen_section ds ∷ ss) x h =
-    decls_typed frozen_role ds x (kind_in_sections ss x) (each_weaker IsWritableTyped (λ d. IsTyped (kind_declared frozen_role d.what)) (λ d w. type_typed frozen_role d.what w.1) ds h.0) (sections_typed ss x h.1)
+    decls_typed frozen_role ds x (kind_in_sections ss x) (each_kept IsWritableTyped (λ d. IsTyped (kind_declared frozen_role d.what)) (λ d w. type_typed frozen_role d.what w.1) ds h.0) (sections_typed ss x h.1)
 sections_typed (define ds ∷ ss) x h = defines_typed ds x (kind_in_sections ss x) (sections_typed ss x h.1)
 sections_typed (constants xs ∷ ss) x h = sections_typed ss x h.1
 sections_typed (assign list ∷ ss) x h = sections_typed ss x h.1
@@ -103,12 +101,6 @@ after_formals_typed (Some i) k h = tt
 
 type_is_writable : (m : ModuleTree) (x : Text) → IsWritableModule m → IsWritableType (type_of_kind (kind_in m x))
 type_is_writable m x h = typed_type (kind_in m x) (after_formals_typed (formal_from 0 m.formals x) (kind_in_sections m.sections x) (sections_typed m.sections x h.2))
-
-type_declared : (t : DeclaredTree) → IsWritableType t → IsWritableDeclared t
-type_declared boolean h = tt
-type_declared (range lo hi) h = h
-type_declared (members ms) h = h
-type_declared (instance m actuals) h = absurd h
 
 -- the templates
 number_by : (b : Bool) (n : ℕ) → IsSmall (n + 1) →
@@ -125,7 +117,7 @@ value_writable (a_truth b) h = tt
 value_writable (number n) h = number_writable n h
 value_writable (symbol x) h = one_name x h
 
-member_writable : (m : Member) → IsWritableMember m → IsWritable (value_tree (member_value m))
+member_writable : (m : Member) → IsWritableMember m → IsWritable (value_tree (value_of_member m))
 member_writable (member.Number n) h = number_writable n h
 member_writable (member.Symbol x) h = one_name x h
 
@@ -365,7 +357,7 @@ section_woven affected (frozen_section ds) h = h
 section_woven affected (define ds) h = h
 section_woven affected (constants xs) h = h
 section_woven affected (assign list) h =
-    (each_map IsWritableAssignment (woven_assignment affected) list).1 (each_weaker IsWritableAssignment (λ a. IsWritableAssignment (woven_assignment affected a)) (assignment_woven affected) list h)
+    (each_map IsWritableAssignment (woven_assignment affected) list).1 (each_kept IsWritableAssignment (λ a. IsWritableAssignment (woven_assignment affected a)) (assignment_woven affected) list h)
 section_woven affected (init e) h = mapped_writable (rename affected) same_path (keeps_rename affected) keeps_same e h
 section_woven affected (invar e) h = h
 section_woven affected (trans e) h = mapped_writable same_path (rename affected) keeps_same (keeps_rename affected) e h
@@ -381,12 +373,12 @@ module_woven : (i : InstructionTree) → IsWritableInstructions i → (m : Modul
 module_woven i h m w =
     let affected = is_affected i m.name in
     let old = (each_map IsWritableSection (woven_section affected) m.sections).1
-    (each_weaker IsWritableSection (λ s. IsWritableSection (woven_section affected s)) (section_woven affected) m.sections w.2) in
+    (each_kept IsWritableSection (λ s. IsWritableSection (woven_section affected s)) (section_woven affected) m.sections w.2) in
     let added = each_of_all IsWritableSection IsWritableSlice (slice_sections m) (λ s g. slice_writable s g m w) (slices_of i m.name) (slices_writable i.extensions m.name h.1) in
     (w.0, w.1, (each_append IsWritableSection (map (woven_section affected) m.sections) (added_sections i m)).1 (old, added))
 
 pub woven_writable : (p : ProgramTree) (i : InstructionTree) → IsWritableProgram p → IsWritableInstructions i → IsWritableProgram (woven p i)
-woven_writable p i w h = (each_map IsWritableModule (woven_module i) p).1 (each_weaker IsWritableModule (λ m. IsWritableModule (woven_module i m)) (module_woven i h) p w)
+woven_writable p i w h = (each_map IsWritableModule (woven_module i) p).1 (each_kept IsWritableModule (λ m. IsWritableModule (woven_module i m)) (module_woven i h) p w)
 
 -- the text of what is woven from two texts spells it
 pub woven_text_spells : (model_bytes fault_bytes : List ℕ) (p : ProgramTree) (i : InstructionTree) → BytesSpellProgram model_bytes p → BytesSpellInstructions fault_bytes i →

@@ -4,14 +4,13 @@ use Rattle.xs_desk.specs.declared.files.NamedFile.{NamedFile}
 use Rattle.xs_tree.specs.Tree.{Tree}
 use Rattle.xs_tree.specs.ProgramTree.{Text, Formula, ProgramTree}
 use Rattle.xs_tree.specs.Bytes.{BytesSpellExpr, HasDepths}
-use Rattle.xs_tree.specs.Trace.{Each}
+use Rattle.xs_tree.specs.Trace.{Each, EachBoth}
 use Rattle.xs_expression_reader.specs.declared.fault.ParseFault.{ParseFault}
 use Rattle.xs_expression_reader.specs.Stops.{IsExpression, IsTooDeep, FaultMeans}
 use Rattle.xs_expression_reader.specs.Lists.{BytesSpellExpressions}
 use Rattle.xs_expression_reader.specs.Within.{HaveDepths}
 use Rattle.xs_tree.specs.Flat.{FlatLeaf, FlatModel}
 use Rattle.xs_flat_laws.specs.History.{Mode, with_history}
-use Rattle.xs_flat_laws.specs.Model.{EachBoth}
 use Rattle.xs_flat_laws.specs.ResolvedAt.{IsResolvedAt}
 use Rattle.xs_flat_laws.specs.Rules.{Rule}
 use Rattle.xs_flat_laws.specs.ValueRules.{BreaksValue, IsLeastBroken}
@@ -25,8 +24,9 @@ use Rattle.xs_loading.specs.declared.status.Part.TheVariants as part
 use Rattle.xs_loading.specs.declared.wrong.Wrong.TheVariants as wrong
 use Rattle.xs_loading.specs.Wrongs.{parse_wrong, names_fault, kinds_fault}
 use Rattle.xs_loading.specs.Models.{IsModelOf}
-use Rattle.xs_loading.specs.Wholes.{IsModeOf, IsWithinLimits}
+use Rattle.xs_loading.specs.Wholes.{IsWithinLimits}
 use Rattle.xs_loading.specs.Inputs.{HasBytes, HoldsModel, IsInstructionText, AreTaken}
+use Rattle.xs_certificate_laws.specs.ExtendedTraces.{IsModeOfFault}
 
 -- a model and its instructions, the faults, the extension's flat model, and the modes of the faults in it
 pub record Case : Type 0 where
@@ -50,7 +50,7 @@ pub record IsCase (c : Case) : Type 0 where
   pub are_faults : HasFaults c.program c.instructions c.faults
   pub within : IsWithinLimits (extension_of c) c.faults
   pub is_flat : IsModelOf (extension_of c) c.flat
-  pub are_modes : EachBoth (IsModeOf c.flat) c.faults c.modes
+  pub are_modes : EachBoth (IsModeOfFault c.flat) c.faults c.modes
   pub typed : IsTyped (whole_of c)
 
 -- the two files hold the case's model and instructions

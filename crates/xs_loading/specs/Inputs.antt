@@ -6,8 +6,8 @@ use Rattle.xs_tree.specs.ProgramTree.{Text, Path, ProgramTree}
 use Rattle.xs_tree.specs.Text.{program_text}
 use Rattle.xs_expression_reader.specs.declared.fault.ParseFault.{ParseFault}
 use Rattle.xs_expression_reader.specs.Stops.{FaultMeans}
-use Rattle.xs_tree.specs.Flat.{FlatInstance, FlatModel}
-use Rattle.xs_flat_laws.specs.Items.{instances_of}
+use Rattle.xs_tree.specs.Flat.{FlatModel}
+use Rattle.xs_flat_laws.specs.Items.{modules_of_instances}
 use Rattle.xs_flat_laws.specs.Model.{IsFlatOf}
 use Rattle.xs_extend_laws.specs.Expressions.{AllUsesKept}
 use Rattle.xs_fei.specs.Instructions.{InstructionTree}
@@ -20,7 +20,6 @@ use Rattle.xs_fei.specs.Weavable.{IsWeavable}
 use Rattle.xs_extend.specs.Refused.{KeepsRules, IsTold}
 use Rattle.xs_extend.specs.NumberedFaults.{parts_of}
 use Rattle.xs_extend.specs.declared.faults.WovenFault.{WovenFault}
-use Rattle.xs_report.specs.FaultText.{name_of}
 use Rattle.xs_tree.specs.declared.model.Fault.{Fault as Numbered}
 use Rattle.xs_extend.specs.declared.fault.WeaveFault.{WeaveFault}
 use Rattle.xs_loading.specs.declared.status.InputFault.{InputFault}
@@ -38,6 +37,7 @@ use Rattle.xs_loading.specs.Wrongs.{parse_wrong, weave_wrong}
 use Rattle.xs_loading.specs.Models.{IsModelText, IsLawful, IsWrongModel}
 use Rattle.xs_loading.specs.Wholes.{PassesLimit, IsWithinLimits}
 use Rattle.xs_loading.specs.Reports.{report_text}
+use Rattle.xs_tree.specs.ModelTree.{name_of_fault}
 
 -- the refusal of one of the two input files
 abbrev pub refusal_at : Input → InputFault → Refusal
@@ -81,21 +81,17 @@ pub record IsInstructionText (bytes : List ℕ) (i : InstructionTree) : Type 0 w
 abbrev pub IsFaultOfInstructions : List ℕ → ParseFault → Type 0
 IsFaultOfInstructions bytes f = FaultMeans IsInstructions (AreInstructionsTooDeep bytes) bytes f
 
--- the modules of the instances of a program
-abbrev pub modules_named : ProgramTree → List Text
-modules_named p = map (λ (at : FlatInstance). at.module_name) (instances_of p)
-
 -- instructions that a weave takes: they keep its rules, and no guard and nothing that is followed breaks one
 pub record AreTaken (p : ProgramTree) (i : InstructionTree) : Type 0 where
   pub weavable : IsWeavable p i
-  pub kept : KeepsRules p i (modules_named p)
+  pub kept : KeepsRules p i (modules_of_instances p)
   pub uses : (m : FlatModel) → IsFlatOf p m → AllUsesKept p m i
 
 -- what is wrong with the bytes of instructions for a program: they spell no instructions within the depths, these break a rule
 -- of the weave, or the extension passes a limit
 pub data IsWrongFaults (p : ProgramTree) (bytes : List ℕ) (fault : InputFault) : Type 0 where
   not_spelled : (f : ParseFault) → IsFaultOfInstructions bytes f → wrong.Refused fault ≡ parse_wrong f → IsWrongFaults p bytes fault
-  not_woven : (i : InstructionTree) (m : FlatModel) (f : WeaveFault) → IsInstructionText bytes i → IsFlatOf p m → IsTold p m i (modules_named p) f → wrong.Refused fault ≡ weave_wrong f →
+  not_woven : (i : InstructionTree) (m : FlatModel) (f : WeaveFault) → IsInstructionText bytes i → IsFlatOf p m → IsTold p m i (modules_of_instances p) f → wrong.Refused fault ≡ weave_wrong f →
       IsWrongFaults p bytes fault
   past_limit : (i : InstructionTree) (faults : List Fault) → IsInstructionText bytes i → AreTaken p i → HasFaults p i faults → PassesLimit (woven p i) faults fault →
       IsWrongFaults p bytes fault
@@ -137,4 +133,4 @@ path_of w = parts_of w.path ++ (w.slice ∷ w.mode ∷ [])
 
 -- the faults have the names of the woven ones, in their order
 abbrev pub AreListed : List WovenFault → List Numbered → Type 0
-AreListed woven faults = map name_of faults ≡ map path_of woven
+AreListed woven faults = map name_of_fault faults ≡ map path_of woven

@@ -1,27 +1,22 @@
 -- An extension as a whole: it is flattened and typed with a bit for each fault, and may pass a limit.
-use Rattle.std.specs.Prelude.{ℕ, ◌≡◌, List, Some, slice_get}
+use Rattle.std.specs.Prelude.{ℕ, ◌≡◌, List}
 use Rattle.xs_tree.specs.ProgramTree.{ProgramTree}
-use Rattle.xs_tree.specs.Trace.{Each}
+use Rattle.xs_tree.specs.Trace.{Each, EachBoth}
 use Rattle.xs_tree.specs.Flat.{FlatModel}
 use Rattle.xs_flat_laws.specs.History.{Mode, with_history}
 use Rattle.xs_flat_laws.specs.Rules.{Rule, too_many, IsFirstBroken, IsAccepted}
-use Rattle.xs_flat_laws.specs.Model.{IsVariableNumber, EachBoth, IsFlatOf}
+use Rattle.xs_flat_laws.specs.Model.{IsFlatOf}
 use Rattle.xs_type_laws.specs.Judged.{KindRule, too_large}
 use Rattle.xs_type_laws.specs.Models.{IsTyped, IsFault}
-use Rattle.xs_fei.specs.AddedNames.{mode_variable, mode_symbol}
 use Rattle.xs_weave.specs.Faults.{Fault}
 use Rattle.xs_loading.specs.declared.status.InputFault.{InputFault}
 use Rattle.xs_loading.specs.Wrongs.{names_fault, kinds_fault}
 use Rattle.xs_loading.specs.Models.{IsModelOf}
-
--- the fault's mode: the variable holds the state of the slice at the instance, and the symbol is that of the mode
-pub record IsModeOf (m : FlatModel) (fault : Fault) (mode : Mode) : Type 0 where
-  pub variable : IsVariableNumber m fault.place (mode_variable fault.slice) mode.variable
-  pub symbol : slice_get m.symbols mode.symbol ≡ Some (mode_symbol fault.slice (Some fault.mode))
+use Rattle.xs_certificate_laws.specs.ExtendedTraces.{IsModeOfFault}
 
 -- the model has the fault's mode
 abbrev pub HasModeOf : FlatModel → Fault → Type 0
-HasModeOf m fault = (mode : Mode) × IsModeOf m fault mode
+HasModeOf m fault = (mode : Mode) × IsModeOfFault m fault mode
 
 -- where the extension breaks no rule of names, its flat model has the mode of each of these faults
 abbrev pub HasItsModes : ProgramTree → List Fault → Type 0
@@ -32,7 +27,7 @@ pub record IsWhole (extension : ProgramTree) (faults : List Fault) (whole : Flat
   pub flat : FlatModel
   pub modes : List Mode
   pub model : IsModelOf extension flat
-  pub are_modes : EachBoth (IsModeOf flat) faults modes
+  pub are_modes : EachBoth (IsModeOfFault flat) faults modes
   pub is : whole ≡ with_history flat modes
 
 -- the first rule of names that an extension breaks, told at no item of either file

@@ -4,13 +4,13 @@
 ghost use Rattle.std.specs.Prelude.{◌≡◌, ◌≤◌, ◌++◌, codes, length, map, IfOk, OnOk, IfErr, IfSome, IsErrOf};
 ghost use Rattle.xs_desk.specs.Desk.{Rose};
 ghost use Rattle.xs_tree.specs.ProgramTree.{program_tree};
-ghost use Rattle.xs_tree.specs.ModelTree.{model_tree};
+ghost use Rattle.xs_tree.specs.ModelTree.{model_tree, name_of_fault};
 ghost use Rattle.xs_flat_laws.specs.Rules.{IsAccepted};
 ghost use Rattle.xs_extend.specs.InstanceLaws.{HasInstancesInVar};
 ghost use Rattle.xs_extend.specs.WovenFaults.{fault_tree};
 ghost use Rattle.xs_loading.specs.Wrongs.{IfRefused};
 ghost use Rattle.xs_tree.specs.Text.{program_text};
-ghost use Rattle.xs_report.specs.FaultText.{name_of, faults_text};
+ghost use Rattle.xs_report.specs.FaultText.{faults_text};
 ghost use Rattle.xs_loading.specs.Models.{IsModelOf, IsLawful};
 ghost use Rattle.xs_type_laws.specs.Models.{IsTyped};
 ghost use Rattle.xs_loading.specs.Wholes.{BreaksNames, BreaksKinds, HasItsModes, IsWrongWhole, IsWithinLimits};
@@ -124,7 +124,7 @@ pub fn check_whole(alloc: Global, flat: FlatModel) -> Result<(), Wrong>
 /// The text of an extension, and what is said of its faults.
 fn made_of(alloc: Global, program: &Program, faults: &FaultList) -> Result<Made, OutOfMemory>
     ensures text { IfOk result (λ made. made.text.items ≡ program_text (program_tree program.now)) }
-    ensures report { IfOk result (λ made. made.report ≡ faults_text (map name_of faults.now) ++ codes "extended\n") }
+    ensures report { IfOk result (λ made. made.report ≡ faults_text (map name_of_fault faults.now) ++ codes "extended\n") }
 {
     let text = print_program(alloc, program)?;
     let report = report(alloc, faults)?;

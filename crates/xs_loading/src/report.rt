@@ -2,9 +2,10 @@
 // fault is made here from its path, slice and mode ([`append_name`]).
 
 ghost use Rattle.std.specs.Prelude.{◌≡◌, ◌++◌, IfOk, OnOk, codes, map};
-ghost use Rattle.xs_extend.specs.WovenFaults.{place_of, fault_tree};
-ghost use Rattle.xs_report.specs.FaultText.{name_of, faults_text};
+ghost use Rattle.xs_extend.specs.WovenFaults.{fault_tree};
+ghost use Rattle.xs_report.specs.FaultText.{faults_text};
 ghost use Rattle.xs_loading.specs.Reports.{name_text, place_text, parts_text};
+ghost use Rattle.xs_tree.specs.ModelTree.{place_of, name_of_fault};
 
 use std::alloc::Global;
 use xs_extend::WovenFault;
@@ -14,7 +15,7 @@ use xs_value::{ByteList, Dotted, Name, OutOfMemory};
 
 /// The number of faults, each fault with its number and name, and that the extension is written.
 pub(crate) fn report(alloc: Global, faults: &FaultList) -> Result<ByteList, OutOfMemory>
-    ensures { IfOk result (λ text. text ≡ faults_text (map name_of faults.now) ++ codes "extended\n") }
+    ensures { IfOk result (λ text. text ≡ faults_text (map name_of_fault faults.now) ++ codes "extended\n") }
 {
     let mut text = print_faults(alloc, faults)?;
     text.append(b"extended\n")?;

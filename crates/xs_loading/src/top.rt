@@ -8,7 +8,6 @@ ghost use Rattle.xs_tree.specs.ModelTree.{model_tree, flat_tree};
 ghost use Rattle.xs_flat_laws.specs.Model.{IsFlatOf};
 ghost use Rattle.xs_flat_laws.specs.ResolvedAt.{IsResolvedAt};
 ghost use Rattle.xs_flat_laws.specs.Rules.{IsAccepted};
-ghost use Rattle.xs_woven_laws.specs.Tops.{KeepsValue};
 ghost use Rattle.xs_loading.specs.Wrongs.{IfRefused};
 ghost use Rattle.xs_loading.specs.Models.{IsLawful};
 ghost use Rattle.xs_loading.specs.Cases.{IsTop, IsWrongTop, IsWrongWord};
@@ -18,6 +17,7 @@ ghost use Rattle.xs_loading.specs.declared.status.InputFault.{InputFault};
 ghost use Rattle.xs_loading.specs.declared.status.Refusal.TheVariants as refusal;
 ghost use Rattle.xs_loading.specs.declared.input.Stop.TheVariants as stop;
 ghost use Rattle.xs_loading.specs.Tops.{stop_at_top};
+ghost use Rattle.xs_flat_laws.specs.ValueRules.{KeepsValue};
 
 use crate::input::Stop;
 use crate::loaded::LoadedCase;

@@ -5,7 +5,7 @@ use Rattle.xs_tree.specs.ProgramTree.{Text, ModuleTree, ProgramTree}
 use Rattle.xs_tree.specs.Scope.{Place, module_at}
 use Rattle.xs_tree.specs.Texts.{same_text}
 use Rattle.xs_tree.specs.Trace.{Each, AtSome}
-use Rattle.xs_tree.proofs.ValueLaws.{same_text_equal, same_text_refl}
+use Rattle.xs_tree.proofs.ValueLaws.{same_text_equal}
 use Rattle.xs_fei.specs.Instructions.{ModeTree, SliceTree, ExtensionTree, InstructionTree, slices_from, slices_of}
 use Rattle.xs_weave.specs.Faults.{Fault, slice_faults, module_slices, place_faults, HasFaults}
 use Rattle.xs_flat_laws.proofs.Conditions.{each_flat, each_mapped}
@@ -19,6 +19,8 @@ use Rattle.xs_odds.specs.Laws.{AreAtMostOne}
 use Rattle.xs_odds.specs.FirstMark.{mark_units, or_else, mode_units, units_in_slice, slice_units, extension_units, or_zero, units_at}
 use Rattle.xs_flat_laws.proofs.Lists.{each_more}
 use Rattle.xs_flat_laws.proofs.Conditions.{each_join}
+use Rattle.xs_tree.proofs.AmongLaws.{not_itself}
+use Rattle.xs_tree.proofs.EachLaws.{some_kept}
 
 -- where no mark is wrong, a mark gives units
 mark_there : (mark : Option (List Text)) → fault_of_mark mark ≡ None → (u : ℕ) × (mark_units mark ≡ Some u)
@@ -35,19 +37,12 @@ GoodModes ms = Each (λ m. fault_of_mark m.mark ≡ None) ms
 abbrev HasNamed : Text → List ModeTree → Type 0
 HasNamed mode ms = AtSome (λ m. m.name ≡ mode) ms
 
-differ : (a b : Text) → same_text a b ≡ false → a ≡ b → ⊥
-differ a b h e = no (same_text a b) h (ap (same_text a) (sym e) ∙ same_text_refl a)
-  where
-    no : (t : Bool) → t ≡ false → t ≡ true → ⊥
-    no true f g = cc
-    no false f g = cc
-
 mode_there : (mode : Text) (ms : List ModeTree) → GoodModes ms → HasNamed mode ms → (u : ℕ) × (mode_units mode ms ≡ Some u)
 mode_there mode [] good at = absurd at
 mode_there mode (m ∷ ms) good at = by_test (same_text m.name mode) refl (mode_there mode ms good.1)
   where
     other : same_text m.name mode ≡ false → HasNamed mode ms
-    other f = elim at [ inl e ↦ absurd (differ m.name mode f e) | inr later ↦ later ]
+    other f = elim at [ inl e ↦ absurd (not_itself m.name mode f e) | inr later ↦ later ]
 
     by_test : (b : Bool) → same_text m.name mode ≡ b → (HasNamed mode ms → (u : ℕ) × (mode_units mode ms ≡ Some u)) → (u : ℕ) × ((if b then mark_units m.mark else mode_units mode ms) ≡ Some u)
     by_test true e more = mark_there m.mark good.0
@@ -64,7 +59,7 @@ in_slice slice mode s good is = by_test (same_text s.name slice) refl
   where
     by_test : (b : Bool) → same_text s.name slice ≡ b → (u : ℕ) × ((if b then mode_units mode s.modes else None) ≡ Some u)
     by_test true e = mode_there mode s.modes good is.1
-    by_test false e = absurd (differ s.name slice e is.0)
+    by_test false e = absurd (not_itself s.name slice e is.0)
 
 -- the first of two, where one of them has units
 first_or : (first other : Option ℕ) → ((u : ℕ) × (first ≡ Some u)) ⊎ ((u : ℕ) × (other ≡ Some u)) → (u : ℕ) × (or_else first other ≡ Some u)
@@ -195,11 +190,6 @@ odds_right i (f ∷ faults) good at = (units_right i f.slice f.mode good at.0, o
 all_in : {A : Type 0} (P : A → Type 0) (xs : List A) → ((x : A) → AtSome (λ y. y ≡ x) xs → P x) → Each P xs
 all_in P [] h = tt
 all_in P (x ∷ xs) h = (h x (inl refl), all_in P xs (λ y a. h y (inr a)))
-
-some_kept : {A : Type 0} (P Q : A → Type 0) (xs : List A) → ((x : A) → P x → Q x) → AtSome P xs → AtSome Q xs
-some_kept P Q [] f a = absurd a
-some_kept P Q (x ∷ xs) f (inl p) = inl (f x p)
-some_kept P Q (x ∷ xs) f (inr a) = inr (some_kept P Q xs f a)
 
 module _ (xs : List ExtensionTree) where
   abbrev AllThere : SliceTree → Type 0

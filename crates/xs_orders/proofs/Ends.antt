@@ -16,8 +16,9 @@ use Rattle.xs_orders.specs.Relations.{BeginsAt, HasRelation}
 use Rattle.xs_orders.specs.Told.{begins_before, order_value, ordered_told, told_relation}
 use Rattle.xs_orders.specs.Laws.{EndsTellOrders, OwnValuesAreKept}
 use Rattle.xs_orders.proofs.Begins.{Stood, begins_somewhere, order_of}
-use Rattle.xs_orders.proofs.Speaking.{last_value, take_all, told_count}
+use Rattle.xs_orders.proofs.Speaking.{last_value, take_all}
 use Rattle.xs_flat_laws.proofs.HistoryTraces.{domains_length}
+use Rattle.xs_flat_laws.proofs.HistoryLaws.{length_told}
 
 -- ---- the end
 
@@ -38,9 +39,9 @@ module _ (m : FlatModel) (fs : List Mode) (f g : Mode) (v : List Value) (vs : Li
   ends_with =
       let inner : last_of (with_value (order_value m f g all) (told_from m fs [] all)) ≡ front_of ++ truth (begins_before m f g all) ∷ [] =
       last_value (order_value m f g all) 0 (v ++ bits_after m fs ([] ++ v ∷ [])) (told_from m fs ([] ++ v ∷ []) vs)
-      ∙ joined _ _ _ _ (last_told m fs [] v vs) (ap (λ n. order_value m f g all (0 + n)) (told_count m fs ([] ++ v ∷ []) vs) ∙ value_at_end m f g v vs) in
+      ∙ joined _ _ _ _ (last_told m fs [] v vs) (ap (λ n. order_value m f g all (0 + n)) (length_told m fs ([] ++ v ∷ []) vs) ∙ value_at_end m f g v vs) in
       last_value (order_value m g f all) 0 ((v ++ bits_after m fs ([] ++ v ∷ [])) ++ order_value m f g all 0 ∷ []) (with_values (order_value m f g all) 1 (told_from m fs ([] ++ v ∷ []) vs))
-      ∙ joined _ _ _ _ inner (ap (λ n. order_value m g f all (0 + n)) (with_values_length (order_value m f g all) 1 (told_from m fs ([] ++ v ∷ []) vs) ∙ told_count m fs ([] ++ v ∷ []) vs) ∙ value_at_end m g f v vs)
+      ∙ joined _ _ _ _ inner (ap (λ n. order_value m g f all (0 + n)) (with_values_length (order_value m f g all) 1 (told_from m fs ([] ++ v ∷ []) vs) ∙ length_told m fs ([] ++ v ∷ []) vs) ∙ value_at_end m g f v vs)
 
 -- two first moments stand as the two booleans tell
 stands_told : (m : FlatModel) (f g : Mode) (trace : List (List Value)) (j k : ℕ) → BeginsAt (List Value) (Stood m f) trace j → BeginsAt (List Value) (Stood m g) trace k → (a b : Bool) → a ≡ nat_lt j k → b ≡ nat_lt k j →

@@ -13,9 +13,9 @@ use Rattle.xs_cause_laws.specs.KindLaws.{AreOfKinds}
 use Rattle.xs_cause_laws.proofs.AddedKinds.{IsRightModel, right_added, grows_added}
 use Rattle.xs_cause_laws.proofs.RightTrees.{HasType, type_grown, IsRightTree, as_formula, variable_right, not_tree, next_tree, and_tree, or_tree, within_tree}
 use Rattle.xs_cause_laws.proofs.HistoryKinds.{modes_of_kinds, right_history}
-use Rattle.xs_cause_laws.proofs.StagedKinds.{size_alone}
 use Rattle.xs_orders.specs.Stage.{now_of, later_of, order_variable, order_at_first, order_at_step, with_order, bit_number, stage}
 use Rattle.xs_orders.specs.KindLaws.{AreFaultNumbers, StageBreaksNone, StageBreaksSizeAlone}
+use Rattle.xs_woven_laws.proofs.WovenLaws.{size_alone}
 
 module _ (name : Text) (x y : ℕ) (n : FlatModel) where
   abbrev order_addition : Addition

@@ -4,7 +4,7 @@ use Rattle.std.specs.Prelude.{codes, pos}
 use Rattle.xs_lexer.specs.declared.token.TokenKind.TheVariants as k
 use Rattle.xs_tree.specs.declared.program.Member.{Member}
 use Rattle.xs_tree.specs.declared.program.Member.TheVariants as mem
-use Rattle.xs_tree.specs.ProgramTree.{Text, Formula, DeclaredTree, boolean, DeclTree, DefineTree, AssignmentTree, SectionTree, init, ProgramTree, Path}
+use Rattle.xs_tree.specs.ProgramTree.{Text, Formula, DeclaredTree, boolean, DeclTree, DefineTree, AssignmentTree, SectionTree, ProgramTree, Path}
 use Rattle.xs_tree.specs.Lexemes.{Lexeme, word, num, sign, is_reserved}
 use Rattle.xs_tree.specs.Spells.{SpellsInt, plain_int, minus_int, SpellsDotted, one_name, more_names}
 use Rattle.xs_tree.specs.SpellsProgram.{SpellsMany, no_more, one_more, SpellsBracketed, no_brackets, brackets, SpellsName, SpellsExpr, SpellsMember, a_symbol, SpellsType, is_boolean, is_range, is_members, SpellsDeclared, is_type, is_instance, is_empty_instance, SpellsDecl, declares, SpellsDefine, defines, always, first, SpellsAssignment, assigns, SpellsFormula, open_ended, ended, HasNoSection, a_var, an_ivar, a_frozen, a_define, some_constants, an_assign, an_init, an_invar, a_trans, SpellsSections, no_section, a_section, skipped, SpellsFormals, some_formals, empty_formals, SpellsModule, a_module}
@@ -12,7 +12,7 @@ use Rattle.xs_tree.specs.SpellsProgram as g
 use Rattle.xs_expression_reader.specs.Recognise.{role_of, start}
 use Rattle.xs_expression_reader.specs.Recognise as machine
 use Rattle.xs_expression_reader.specs.Marks.{Mark, a_name, s_close, mark_of}
-use Rattle.xs_parse.specs.ProgramRead.{the_name, the_number, the_colon, the_becomes, the_semicolon, the_open, the_close, the_dots, Sym, Tail, tail_end, tail_more, is_single, IsName, IsExpr, IsMember, IsFormals, IsActuals, spelled, empty, expr, live, alone, passing, after_type, after_declared, after_section, after, after_actual, next, shortest, programs}
+use Rattle.xs_parse.specs.ProgramRead.{the_name, the_number, the_colon, the_becomes, the_semicolon, the_open, the_close, the_dots, Sym, Tail, tail_end, tail_more, is_single, IsName, IsMember, IsFormals, IsActuals, spelled, empty, expr, live, alone, passing, after_type, after_declared, after_section, after, after_actual, next, shortest, programs}
 use Rattle.xs_parse.specs.ProgramRead as s
 use Rattle.xs_expression_reader.proofs.Accepted.{spelled_accepted}
 use Rattle.xs_expression_reader.proofs.Exact.{completes}
@@ -20,6 +20,8 @@ use Rattle.xs_expression_reader.proofs.Marks.{Marked, marked, mark_of_name, mark
 use Rattle.xs_parse.proofs.SymbolMeanings.{That, Means_of, as_one, an_expr, commas_tail, Through}
 use Rattle.xs_parse.proofs.ProgramSound.{to_assign, live_complete}
 use Rattle.xs_expression_reader.proofs.Meanings.{as_last, Leads}
+use Rattle.xs_tree.proofs.SpelledLaws.{some_int}
+use Rattle.xs_expression_reader.specs.Stops.{IsExpression}
 
 -- the other way: a name
 named : (x : Sym) (w : List ℕ) (ts : List Lexeme) → is_reserved w ≡ false → Through (after x a_name) ts → Through (after x (mark_of (word w))) ts
@@ -162,7 +164,7 @@ unfolding Leads Marked
 expr_actual s_close t ts m h = absurd (subst (λ z. Through (live (machine.step start (role_of z)) (s.more_actuals ∷ [])) ts) m h)
 expr_actual c t ts m h = h
 
-expr_first : (us ws : List Lexeme) (t : Lexeme) (ts : List Lexeme) (rest : List Sym) → IsExpr us → us ++ ws ≡ t ∷ ts → Means_of rest ws → Through (live (machine.step start (role_of t)) rest) ts
+expr_first : (us ws : List Lexeme) (t : Lexeme) (ts : List Lexeme) (rest : List Sym) → IsExpression us → us ++ ws ≡ t ∷ ts → Means_of rest ws → Through (live (machine.step start (role_of t)) rest) ts
 unfolding Leads
 expr_first [] ws t ts rest p e m = let clash : false ≡ true = spelled_accepted p.1 in cc
 expr_first (u ∷ us) ws t ts rest p e m =
@@ -184,7 +186,7 @@ complete_first_actual t ts (inr b) = go (sign k.Open ∷ t ∷ ts) b.0 b.1 refl
         let front : list.0 ++ list.1 ≡ t ∷ ts = cc in
         expr_actual (mark_of t) t ts (marked t) (expr_first list.0 list.1 t ts (s.more_actuals ∷ []) list.3 front (as_last programs s.more_actuals list.1 list.4))
 
-complete_more_actuals : (us : List Lexeme) (t : Lexeme) (ts : List Lexeme) → Tail IsExpr (sign k.Close) us → us ≡ t ∷ ts → Through (next s.more_actuals t) ts
+complete_more_actuals : (us : List Lexeme) (t : Lexeme) (ts : List Lexeme) → Tail IsExpression (sign k.Close) us → us ≡ t ∷ ts → Through (next s.more_actuals t) ts
 unfolding Leads
 complete_more_actuals us t ts tail_end e = let head : sign k.Close ≡ t = cc in let rest : ts ≡ [] = cc in subst (λ z. Through (next s.more_actuals z) ts) head rest
 complete_more_actuals us t ts (tail_more {xs = xs} {ys = ys} p tail) e =
@@ -245,7 +247,7 @@ complete_more_dots t ts (inr d) =
     (subst (Means_of (s.single the_name ∷ s.more_dots ∷ [])) whole (as_one the_name (s.more_dots ∷ []) (word parts.name) parts.tail (parts.name, refl, parts.free) (as_last programs s.more_dots parts.tail parts.more)))
 
 -- after a target
-after_target : (xs ys : List Lexeme) (list : List AssignmentTree) → IsExpr xs → SpellsMany SpellsAssignment ys list → Means_of to_assign (sign k.Becomes ∷ ((xs ++ sign k.Semicolon ∷ []) ++ ys))
+after_target : (xs ys : List Lexeme) (list : List AssignmentTree) → IsExpression xs → SpellsMany SpellsAssignment ys list → Means_of to_assign (sign k.Becomes ∷ ((xs ++ sign k.Semicolon ∷ []) ++ ys))
 unfolding That
 after_target xs ys list p more =
     as_one the_becomes (expr ∷ s.single the_semicolon ∷ s.assigns ∷ []) (sign k.Becomes) ((xs ++ sign k.Semicolon ∷ []) ++ ys) refl
@@ -415,10 +417,6 @@ tail_some : {P : List Lexeme → Type 0} {end : Lexeme} (us : List Lexeme) → T
 tail_some us tail_end e = cc
 tail_some us (tail_more p t) e = cc
 
-int_some : (us : List Lexeme) (n : ℤ) → SpellsInt us n → us ≡ [] → ⊥
-int_some us n plain_int e = cc
-int_some us n minus_int e = cc
-
 type_some : (us : List Lexeme) (d : DeclaredTree) → SpellsType us d → us ≡ [] → ⊥
 type_some us d is_boolean e = cc
 type_some us d (is_range plain_int q) e = cc
@@ -451,12 +449,12 @@ emptied s.type h = absurd (type_some [] h.0 h.1 refl)
 emptied s.first_actual (inl e) = cc
 emptied s.first_actual (inr h) = absurd (actuals_some (sign k.Open ∷ []) h.0 h.1 refl)
 emptied s.more_actuals h = absurd (tail_some [] h refl)
-emptied s.int h = absurd (int_some [] h.0 h.1 refl)
+emptied s.int h = absurd (some_int [] h.0 h.1 refl)
 emptied s.member h = absurd (go [] h.0 h.1 refl)
   where
     go : (us : List Lexeme) (x : Member) → SpellsMember us x → us ≡ [] → ⊥
     go us x (a_symbol n) e = cc
-    go us x (g.a_number p) e = int_some us _ p e
+    go us x (g.a_number p) e = some_int us _ p e
 emptied s.more_members h = absurd (tail_some [] h refl)
 emptied s.more_constants h = absurd (tail_some [] h refl)
 

@@ -13,13 +13,14 @@ use Rattle.xs_tree.specs.SpellsProgram as g
 use Rattle.xs_expression_reader.specs.Recognise.{role_of, State, stuck, is_whole, start}
 use Rattle.xs_expression_reader.specs.Recognise as machine
 use Rattle.xs_expression_reader.specs.Marks.{Mark, w_module, w_var, w_ivar, w_frozen, w_define, w_constants, w_assign, w_init, w_invar, w_trans, w_skipped, w_boolean, w_first, w_after, a_name, a_number, s_open, s_close, s_open_brace, s_close_brace, s_comma, s_semicolon, s_dot, s_minus, mark_of, is_section}
-use Rattle.xs_parse.specs.ProgramRead.{Single, the_name, the_number, the_colon, the_becomes, the_semicolon, the_open, the_close, the_dots, Sym, Tail, tail_end, tail_more, is_single, IsName, IsExpr, IsMember, IsFormals, IsActuals, spelled, expr, live, alone, passing, after_type, after_declared, after_section, after, after_actual, next, programs}
+use Rattle.xs_parse.specs.ProgramRead.{Single, the_name, the_number, the_colon, the_becomes, the_semicolon, the_open, the_close, the_dots, Sym, Tail, tail_end, tail_more, is_single, IsName, IsMember, IsFormals, IsActuals, spelled, expr, live, alone, passing, after_type, after_declared, after_section, after, after_actual, next, programs}
 use Rattle.xs_parse.specs.ProgramRead as s
 use Rattle.xs_expression_reader.proofs.Accepted.{run_stuck}
 use Rattle.xs_expression_reader.proofs.Rest.{accepted_spelled}
 use Rattle.xs_expression_reader.proofs.Marks.{Marked, marked}
 use Rattle.xs_parse.proofs.SymbolMeanings.{That, Means_of, One, one, tail_commas, Through}
 use Rattle.xs_expression_reader.proofs.Meanings.{last, Leads}
+use Rattle.xs_expression_reader.specs.Stops.{IsExpression}
 
 -- a dotted name after its first name
 dotted_sound : (x : List ℕ) (xs : List Lexeme) → is_reserved x ≡ false → spelled s.more_dots xs → (p : Path) × SpellsDotted (word x ∷ xs) p
@@ -336,13 +337,13 @@ unfolding Marked Leads
 sound_actuals s_open t ts m h = subst (λ z. IsActuals (z ∷ ts)) (sym m) (last programs s.first_actual ts h)
 sound_actuals c t ts m h = absurd h
 
-sound_more_actuals : (c : Mark) (t : Lexeme) (ts : List Lexeme) → Marked c t → Through (after s.more_actuals c) ts → Tail IsExpr (sign k.Close) (t ∷ ts)
+sound_more_actuals : (c : Mark) (t : Lexeme) (ts : List Lexeme) → Marked c t → Through (after s.more_actuals c) ts → Tail IsExpression (sign k.Close) (t ∷ ts)
 unfolding Marked Leads
-sound_more_actuals s_close t ts m h = let whole : sign k.Close ∷ [] ≡ t ∷ ts = cc in subst (Tail IsExpr (sign k.Close)) whole tail_end
+sound_more_actuals s_close t ts m h = let whole : sign k.Close ∷ [] ≡ t ∷ ts = cc in subst (Tail IsExpression (sign k.Close)) whole tail_end
 sound_more_actuals s_comma t ts m h =
     let e = h.2 in
     let whole : sign k.Comma ∷ (h.0 ++ h.1) ≡ t ∷ ts = cc in
-    subst (Tail IsExpr (sign k.Close)) whole (tail_more (accepted_spelled h.0 h.3) (last programs s.more_actuals h.1 h.4))
+    subst (Tail IsExpression (sign k.Close)) whole (tail_more (accepted_spelled h.0 h.3) (last programs s.more_actuals h.1 h.4))
 sound_more_actuals c t ts m h = absurd h
 
 sound_more_dots : (c : Mark) (t : Lexeme) (ts : List Lexeme) → Marked c t → Through (after s.more_dots c) ts → spelled s.more_dots (t ∷ ts)

@@ -5,11 +5,12 @@ use Rattle.xs_tree.specs.Lexemes.{Lexeme, word, num, sign, is_reserved}
 use Rattle.xs_tree.specs.SpellsProgram.{SpellsCommas, last_one, one_comma}
 use Rattle.xs_expression_reader.specs.Predict.{Means}
 use Rattle.xs_expression_reader.specs.Marks.{Mark, a_name, a_number, s_becomes, s_dots, s_open, s_close, s_semicolon, s_colon, mark_of}
-use Rattle.xs_parse.specs.ProgramRead.{Single, the_name, the_number, the_colon, the_becomes, the_semicolon, the_open, the_close, the_dots, Sym, Tail, tail_end, tail_more, is_single, IsExpr, spelled, expr, programs}
+use Rattle.xs_parse.specs.ProgramRead.{Single, the_name, the_number, the_colon, the_becomes, the_semicolon, the_open, the_close, the_dots, Sym, Tail, tail_end, tail_more, is_single, spelled, expr, programs}
 use Rattle.xs_parse.specs.ProgramRead as s
 use Rattle.xs_expression_reader.proofs.Marks.{Marked, marked, mark_of_name}
 use Rattle.xs_expression_reader.proofs.Meanings.{Leads}
 use Rattle.xs_expression_reader.proofs.Accepted.{spelled_accepted}
+use Rattle.xs_expression_reader.specs.Stops.{IsExpression}
 
 -- single lexemes
 unfoldable pub That : Single → Lexeme → Type 0
@@ -68,7 +69,7 @@ one w syms ts m = record {
 pub as_one : (w : Single) (syms : List Sym) (t : Lexeme) (ts : List Lexeme) → That w t → Means_of syms ts → Means_of (s.single w ∷ syms) (t ∷ ts)
 as_one w syms t ts h m = (t ∷ [], ts, refl, (t, refl, is_that w t h), m)
 
-pub an_expr : (xs : List Lexeme) → IsExpr xs → spelled expr xs
+pub an_expr : (xs : List Lexeme) → IsExpression xs → spelled expr xs
 an_expr xs e = spelled_accepted e.1
 
 -- lists with commas, and their tails

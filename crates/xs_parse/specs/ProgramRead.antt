@@ -11,6 +11,7 @@ use Rattle.xs_expression_reader.specs.Recognise as machine
 use Rattle.xs_expression_reader.specs.Complete.{completion}
 use Rattle.xs_expression_reader.specs.Predict.{Grammar}
 use Rattle.xs_expression_reader.specs.Marks.{Mark, w_module, w_var, w_ivar, w_frozen, w_define, w_constants, w_assign, w_init, w_invar, w_trans, w_skipped, w_boolean, w_first, w_after, a_name, a_number, s_becomes, s_dots, s_open, s_close, s_open_brace, s_close_brace, s_comma, s_semicolon, s_colon, s_dot, s_minus, mark_of, is_section}
+use Rattle.xs_expression_reader.specs.Stops.{IsExpression}
 
 -- the lexemes that stand alone between others
 pub data Single : Type 0 where
@@ -70,10 +71,6 @@ is_single _ _ = false
 abbrev pub IsName : List Lexeme → Type 0
 IsName ts = (x : Text) × SpellsName ts x
 
--- the list is some expression
-abbrev pub IsExpr : List Lexeme → Type 0
-IsExpr ts = (e : Formula) × SpellsExpr ts e
-
 -- the list is some member of a type
 abbrev pub IsMember : List Lexeme → Type 0
 IsMember ts = (m : Member) × SpellsMember ts m
@@ -101,7 +98,7 @@ spelled declared ts = (d : DeclaredTree) × SpellsDeclared ts d
 spelled type ts = (d : DeclaredTree) × SpellsType ts d
 spelled actuals ts = IsActuals ts
 spelled first_actual ts = IsActuals (sign k.Open ∷ ts)
-spelled more_actuals ts = Tail IsExpr (sign k.Close) ts
+spelled more_actuals ts = Tail IsExpression (sign k.Close) ts
 spelled int ts = (n : _) × SpellsInt ts n
 spelled member ts = IsMember ts
 spelled more_members ts = Tail IsMember (sign k.CloseBrace) ts

@@ -1,7 +1,7 @@
 -- What answers a search of the model with causes is right for caused traces.
-use Rattle.std.proofs.Common.{◌≡◌, ℕ, Bool, List, [], ◌∷◌, length, map, refl, sym, ap, ◌∙◌, subst}
+use Rattle.std.proofs.Common.{◌≡◌, ℕ, Bool, List, [], ◌∷◌, length, map, sym, ap, ◌∙◌, subst}
 use Rattle.xs_tree.specs.Tree.{Tree}
-use Rattle.xs_tree.specs.ProgramTree.{Text, Formula, ProgramTree}
+use Rattle.xs_tree.specs.ProgramTree.{Formula, ProgramTree}
 use Rattle.xs_tree.specs.Trace.{Each}
 use Rattle.xs_tree.specs.Flat.{FlatLeaf, FlatModel}
 use Rattle.xs_flat_laws.specs.FlatTrace.{IsFlatTrace}
@@ -29,11 +29,7 @@ use Rattle.xs_cause_laws.proofs.Staged.{extensions_staged}
 use Rattle.xs_cause_laws.proofs.CausesExtendedCarried.{all_right_caused_extended, short_right_caused_extended}
 use Rattle.xs_reach_laws.specs.Shown.{ShowsCaused, IsOfEnd, AnswersAreCaused}
 use Rattle.xs_reach_laws.proofs.Shown.{shown, Parts, parts_of}
-
--- the traces, as values are read
-traces_same : (symbols : List Text) (found : List CodeFound) → map (trace_of symbols) (traces_of found) ≡ traces_of (all_found symbols found)
-traces_same symbols [] = refl
-traces_same symbols (f ∷ fs) = ap (λ more. trace_of symbols f.trace ∷ more) (traces_same symbols fs)
+use Rattle.xs_cuts.proofs.TraceLaws.{traces_same}
 
 module _ (p : ProgramTree) (i : InstructionTree) (faults : List Fault) (top : Formula) (m : FlatModel) (fs : List Mode) (flat_top : Tree FlatLeaf) (model : IsExtensionModel p i faults top m fs flat_top) (cs : List CommonCause) (are : Each (IsCauseOf (length fs)) cs) where
   abbrev staged : FlatModel

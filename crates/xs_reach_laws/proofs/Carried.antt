@@ -15,7 +15,7 @@ use Rattle.xs_tree.specs.Trace.{Each}
 use Rattle.xs_tree.proofs.ValueLaws.{same_text_refl}
 use Rattle.xs_tree.specs.Flat.{FlatLeaf, FlatVariable, FlatModel}
 use Rattle.xs_flat_laws.specs.History.{Mode, stands_now}
-use Rattle.xs_flat_laws.proofs.Lists.{get_left, get_end, length_end, each_more}
+use Rattle.xs_flat_laws.proofs.Lists.{get_end, length_end, each_more}
 use Rattle.xs_cause_laws.specs.Added.{Addition, with_addition}
 use Rattle.xs_type_laws.specs.Judged.{hull_of}
 use Rattle.xs_type_laws.specs.Costs.{symbol_number, member_number, number_kind, width_in, declared_width}
@@ -29,6 +29,8 @@ use Rattle.xs_cause_laws.specs.Staged.{age_name, event_name, quiet_name, now_nam
 use Rattle.xs_staging.proofs.Counts.{cause_count, cause_symbols, own_count, own_symbols, each_get}
 use Rattle.xs_reach_laws.proofs.Widened.{IsStateVariable, IsStateName, HasClauses, IsOfState, variable_kept, more_symbols, mode_kept, fit_wide, clauses_wide}
 use Rattle.xs_flat_laws.proofs.HistoryTraces.{get_middle as get_first}
+use Rattle.xs_value.proofs.ListLaws.{get_left}
+use Rattle.xs_cause_laws.proofs.AddedKinds.{Grows}
 
 -- ---- the bits of inputs
 
@@ -93,11 +95,6 @@ same_inputs n a types quiet =
 get_second : {A : Type 0} (xs ys : List A) (x y : A) → slice_get (xs ++ x ∷ y ∷ ys) (suc (length xs)) ≡ Some y
 get_second [] ys x y = refl
 get_second (z ∷ xs) ys x y = get_second xs ys x y
-
--- one model has the variables of the other at their places, and its symbols
-pub record Grows (n n' : FlatModel) : Type 0 where
-  pub variables : (i : ℕ) (x : FlatVariable) → slice_get n.variables i ≡ Some x → slice_get n'.variables i ≡ Some x
-  pub symbols : length n.symbols ≤ length n'.symbols
 
 grows_same : (n : FlatModel) → Grows n n
 grows_same n = record { variables = λ i x e. e; symbols = omega arith }

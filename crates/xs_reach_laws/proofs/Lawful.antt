@@ -10,12 +10,12 @@ use Rattle.xs_tree.specs.declared.program.Member.TheVariants as member
 use Rattle.xs_tree.specs.ProgramTree.{Text, Path, DeclaredTree, boolean, range, members, instance, DeclTree, SectionTree, var, ivar, frozen as frozen_section, define, constants, assign, init, invar, trans, ModuleTree, ProgramTree}
 use Rattle.xs_tree.specs.Scope.{Role, state, input, frozen_role, is_symbol_of_type, is_symbol_of_members}
 use Rattle.xs_tree.specs.Texts.{same_text, is_among}
-use Rattle.xs_tree.specs.Trace.{Each, IsVariable}
+use Rattle.xs_tree.specs.Trace.{Each, IsVariable, EachBoth}
 use Rattle.xs_tree.proofs.ValueLaws.{same_text_refl}
 use Rattle.xs_tree.specs.Flat.{FlatVariable, FlatModel}
 use Rattle.xs_flat_laws.specs.History.{Mode}
 use Rattle.xs_flat_laws.specs.Items.{Item, a_declaration, a_definition, an_assignment, some_constants, an_init, an_invar, a_trans, items_of_section, items_of}
-use Rattle.xs_flat_laws.specs.Model.{EachBoth, symbols_of_members, symbols_of_type, symbols_of_item, first_appearances, symbols_of, IsFlatOf}
+use Rattle.xs_flat_laws.specs.Model.{symbols_of_members, symbols_of_type, symbols_of_item, first_appearances, symbols_of, IsFlatOf}
 use Rattle.xs_flat_laws.specs.Rules.{IsAccepted}
 use Rattle.xs_flat_laws.proofs.Conditions.{each_at, each_join}
 use Rattle.xs_flat_laws.proofs.Lists.{each_more}
@@ -35,9 +35,9 @@ use Rattle.xs_reach_laws.proofs.Naming.{each_of}
 use Rattle.xs_reach_laws.proofs.Words.{cause_words, cause_distinct, own_words, owns_distinct}
 use Rattle.std.proofs.lemmas.Bool.{or_parts as neither}
 use Rattle.std.proofs.lemmas.Option.{slice_get_within as got_within}
-use Rattle.xs_type_laws.proofs.ClosedLaws.{same_length as both_long}
 use Rattle.xs_weave.proofs.WovenExamples.{texts_differ as differs}
 use Rattle.xs_encode_laws.proofs.InputsFree.{each_none as none_of}
+use Rattle.xs_flat_laws.proofs.BothLaws.{both_size}
 
 -- ---- tests
 
@@ -227,7 +227,7 @@ same_hits x y k (p ∷ ps) (i ∷ is) e s = let rest = same_hits x y (suc k) ps 
 module _ (faults : List Fault) (prog : ProgramTree) where
   same_names : (w : WrittenCause) (c : CommonCause) → IsReadAs faults prog w c → names_added_by c ≡ names_of_cause w
   same_names w c is =
-      let long : length w.strikes ≡ length c.strikes = both_long (IsStrikeOf faults prog) w.strikes c.strikes is.strikes in
+      let long : length w.strikes ≡ length c.strikes = both_size (IsStrikeOf faults prog) w.strikes c.strikes is.strikes in
       let n = is.name in
       let hits = same_hits c.name w.name 1 w.strikes c.strikes long n in
       (λ j. age_name (n j) ∷ event_name (n j) ∷ quiet_name (n j) ∷ now_name (n j) ∷ hits j)

@@ -5,7 +5,6 @@ use Rattle.xs_tree.specs.Trace.{Each}
 use Rattle.xs_tree.specs.Flat.{flat_variable, FlatModel}
 use Rattle.xs_flat_laws.specs.FlatTrace.{IsModeOf}
 use Rattle.xs_flat_laws.specs.History.{Mode, bit_variables, bits_at_first, with_history}
-use Rattle.xs_flat_laws.proofs.Lists.{get_left}
 use Rattle.xs_encode_laws.specs.Inputs.{is_input_variable, reads_input}
 use Rattle.xs_encode_laws.specs.Layout.{input_bits}
 use Rattle.xs_encode_laws.specs.Encodable.{IsEncodable, is_input_name}
@@ -18,6 +17,7 @@ use Rattle.xs_cause_laws.proofs.HistoryKinds.{history_addition, history_is}
 use Rattle.xs_reach_laws.proofs.Events.{bits_of_state}
 use Rattle.std.proofs.lemmas.Option.{slice_get_within as got_below}
 use Rattle.xs_flat_laws.proofs.Reaches.{each_right}
+use Rattle.xs_value.proofs.ListLaws.{get_left}
 
 second : (a b c : Bool) → (a || (b || c)) ≡ false → b ≡ false
 second true b c h = cc

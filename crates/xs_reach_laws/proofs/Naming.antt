@@ -14,15 +14,11 @@ use Rattle.xs_cause_laws.proofs.Columns.{one_added}
 use Rattle.xs_text_laws.specs.Laws.{IsNamed}
 use Rattle.xs_cause_laws.specs.Causes.{CommonCause}
 use Rattle.xs_cause_laws.specs.Staged.{age_name, event_name, quiet_name, now_name, hit_name, own_name, none_name, self_name, added_variable, stands_of, age_at_first, age_at_step, with_age, event_at_each, with_event, hit_at_first, landed_at_each, hit_at_step, with_hit, with_hits, with_cause, with_each_cause, age_numbers, windows_on, joined, own_at_first, own_at_step, with_own, with_owns, with_causes}
-use Rattle.xs_reach_laws.specs.Names.{AreDistinct, AreApart, IsNewName, hit_names_of, names_added_by, names_of_each, own_names_from, names_added, AreNewNames}
+use Rattle.xs_reach_laws.specs.Names.{AreDistinct, IsNewName, hit_names_of, names_added_by, names_of_each, own_names_from, names_added, AreNewNames}
+use Rattle.xs_value.proofs.ListLaws.{push_get}
+use Rattle.xs_tree.specs.Texts.{AreApart}
 
 -- ---- places of lists
-
-push_get : {A : Type 0} (xs : List A) (y : A) (i : ℕ) (v : A) → slice_get (xs ++ y ∷ []) i ≡ Some v → (slice_get xs i ≡ Some v) ⊎ ((i ≡ length xs) × (y ≡ v))
-push_get [] y zero v e = inr (refl, cc)
-push_get [] y (suc i) v e = cc
-push_get (x ∷ xs) y zero v e = inl e
-push_get (x ∷ xs) y (suc i) v e = elim (push_get xs y i v e) [ inl h ↦ inl h | inr h ↦ inr (ap suc h.0, h.1) ]
 
 join_get : {A : Type 0} (xs ys : List A) (i : ℕ) (x : A) → slice_get (xs ++ ys) i ≡ Some x → (slice_get xs i ≡ Some x) ⊎ ((k : ℕ) × (i ≡ length xs + k) × (slice_get ys k ≡ Some x))
 join_get [] ys i x e = inr (i, omega arith, e)

@@ -5,7 +5,7 @@ use Rattle.std.proofs.lemmas.List.{append-nil}
 use Rattle.std.proofs.lemmas.List.Sums.{sum_by-append, sum_by-cons}
 use Rattle.xs_tree.specs.ProgramTree.{Text}
 use Rattle.xs_tree.specs.Flat.{flat_variable, FlatFormula, FlatModel}
-use Rattle.xs_flat_laws.proofs.Lists.{get_left, get_end as got_end}
+use Rattle.xs_flat_laws.proofs.Lists.{get_end as got_end}
 use Rattle.xs_type_laws.specs.Laws.{IsClosed}
 use Rattle.xs_encode_laws.specs.Layout.{input_width, input_bits}
 use Rattle.xs_encode_laws.specs.Encodable.{is_input_name, IsStateBoolean, IsFitTop}
@@ -14,6 +14,7 @@ use Rattle.xs_tree.specs.Flat.{FlatLeaf}
 use Rattle.xs_orders.specs.Stage.{order_variable, order_at_first, order_at_step, with_order}
 use Rattle.xs_reach_laws.proofs.Grown.{HasClauses, grown, AreOwnFormulas, clauses_grown}
 use Rattle.xs_reach_laws.proofs.Fits.{bit_quiet, bit_within, fit_grown}
+use Rattle.xs_value.proofs.ListLaws.{get_left}
 
 module _ (name : Text) (x y : ℕ) (m : FlatModel) where
   abbrev first : FlatFormula

@@ -29,7 +29,6 @@ use Rattle.xs_cause_laws.specs.Columns.{with_value}
 use Rattle.xs_cause_laws.proofs.Columns.{with_values_length}
 use Rattle.xs_cause_laws.specs.Laws.{AreStaged}
 use Rattle.xs_cause_laws.proofs.Staged.{extensions_staged}
-use Rattle.xs_cause_laws.proofs.CausesExtendedCarried.{get_mapped}
 use Rattle.xs_orders.specs.declared.Relation.{Relation}
 use Rattle.xs_orders.specs.declared.Relation.TheVariants.{Before, After, Together}
 use Rattle.xs_orders.specs.Relations.{BeginsAt, Stands, HasRelation}
@@ -37,11 +36,12 @@ use Rattle.xs_orders.specs.Told.{order_value, ordered_told}
 use Rattle.xs_orders.specs.Laws.{SpeaksAgainst}
 use Rattle.xs_orders.proofs.Ordered.{orders_told}
 use Rattle.xs_orders.proofs.Begins.{Stood, begins_somewhere, begins_once}
-use Rattle.xs_orders.proofs.Speaking.{against_exactly, told_count}
+use Rattle.xs_orders.proofs.Speaking.{against_exactly}
 use Rattle.xs_reach_laws.specs.OrdersExtendedLaws.{FaultStands, IsAsked, NoneAgainst, IsSuch}
 use Rattle.std.proofs.lemmas.Option.{same_Some as same_some}
-use Rattle.xs_type_laws.proofs.WrittenLaws.{get_map as map_get}
 use Rattle.xs_flat_laws.proofs.Variables.{both_at as both_left, both_at_second as both_right}
+use Rattle.xs_tree.proofs.ListLaws.{get_mapped, get_map}
+use Rattle.xs_flat_laws.proofs.HistoryLaws.{length_told}
 
 -- two numbers stand in some relation, whichever is asked
 related : (r : Relation) (j k : ℕ) → Stands (List Value) r j k ⊎ (Stands (List Value) r j k → ⊥)
@@ -71,7 +71,7 @@ module _ (p : ProgramTree) (i : InstructionTree) (faults : List Fault) (top : Fo
         holds = (stands_iff p i model.weavable m fault mode is (fault_of_slice p i faults top m fs flat_top model k fault at) v.0 mo.0 mo.2).0 (subst (λ x. stands m mode x ≡ true) (sym v.2) b.holds);
         none_before = λ n other l there fact.
             let w : (w : Valuation) × (slice_get vs n ≡ Some w) × IsCutMoment p i w other = both_right (IsCutMoment p i) vs trace n other cut there in
-            b.none_before n (values_by_number m w.0) l (map_get (values_by_number m) vs n w.0 w.1)
+            b.none_before n (values_by_number m w.0) l (get_map (values_by_number m) vs n w.0 w.1)
             ((stands_iff p i model.weavable m fault mode is (fault_of_slice p i faults top m fs flat_top model k fault at) w.0 other w.2).1 fact);
       }
 
@@ -81,7 +81,7 @@ module _ (p : ProgramTree) (i : InstructionTree) (faults : List Fault) (top : Fo
   module _ (set : List ℕ) (first second : ℕ) (f g : Mode) (one other : Fault) (asked : IsAsked faults m fs flat_top set first second f g one other) where
     told_length : (t : List (List Value)) → length (ordered_told m fs f g t) ≡ length t
     told_length t =
-        with_values_length (order_value m g f t) 0 (with_value (order_value m f g t) (told_from m fs [] t)) ∙ with_values_length (order_value m f g t) 0 (told_from m fs [] t) ∙ told_count m fs [] t
+        with_values_length (order_value m g f t) 0 (with_value (order_value m f g t) (told_from m fs [] t)) ∙ with_values_length (order_value m f g t) 0 (told_from m fs [] t) ∙ length_told m fs [] t
 
     -- the trace does not speak against the claim
     not_against : (class : ℕ → Bool) (claim : Option Relation) → NoneAgainst m fs first second flat_top set claim class → (t : List (List Value)) → IsFlatTrace m t → IsTrue (class (length t)) → SpeaksAgainst m fs flat_top set f g claim t → ⊥

@@ -1,30 +1,33 @@
 -- A model with an addition that reads the state alone: what the model read and was, it reads and is.
-use Rattle.std.proofs.Common.{◌≡◌, ℕ, suc, ◌<◌, ◌≤◌, false, List, [], ◌∷◌, ◌++◌, length, Some, refl, ◌∙◌, ap, arith}
+use Rattle.std.proofs.Common.{◌≡◌, ℕ, ◌<◌, ◌≤◌, false, List, [], ◌∷◌, ◌++◌, length, Some, refl, ◌∙◌, ap, arith}
 use Rattle.std.specs.Prelude.{slice_get}
 use Rattle.std.proofs.lemmas.List.{length-append}
 use Rattle.xs_tree.specs.declared.program.Member.{Member}
 use Rattle.xs_tree.specs.declared.program.Member.TheVariants as member
 use Rattle.xs_tree.specs.ProgramTree.{Text, DeclaredTree, boolean, range, members, instance}
-use Rattle.xs_tree.specs.Tree.{Tree, Trees, Branches, truth as is_truth, number as is_number, leaf, not_of, negate, next_of, binary, choice, case_of, set_of, span, no_tree, tree_then, no_branch, branch_then}
-use Rattle.xs_tree.specs.Laws.{AllLeaves, AllLeavesOfTrees, AllLeavesOfBranches}
+use Rattle.xs_tree.specs.Tree.{Tree}
+use Rattle.xs_tree.specs.Laws.{AllLeaves}
 use Rattle.xs_tree.specs.Trace.{Each}
 use Rattle.xs_tree.specs.Flat.{FlatLeaf, flat_variable, flat_symbol, flat_definition, FlatVariable, FlatFormula, FlatModel}
 use Rattle.xs_flat_laws.specs.History.{Mode}
 use Rattle.xs_flat_laws.specs.Resolved.{leaves_in}
-use Rattle.xs_flat_laws.specs.Rules.{leaves_under, trees_leaves_under, branches_leaves_under}
-use Rattle.xs_flat_laws.proofs.Lists.{get_left, each_more}
+use Rattle.xs_flat_laws.specs.Rules.{leaves_under}
+use Rattle.xs_flat_laws.proofs.Lists.{each_more}
 use Rattle.xs_cause_laws.specs.Added.{Addition, with_addition}
 use Rattle.xs_type_laws.specs.Models.{leaf_kind, judged_variables, judged_definitions, kind_of_leaf, judged_in, broken_condition}
-use Rattle.xs_type_laws.specs.Laws.{IsKnown, AreInOrder, ReadsOwn, ReadOwn, IsClosed}
+use Rattle.xs_type_laws.specs.Laws.{IsKnown, ReadsOwn, ReadOwn, IsClosed}
 use Rattle.xs_type_laws.proofs.ModelLaws.{judge_agrees, all_leaves_more}
 use Rattle.xs_encode_laws.specs.Inputs.{is_input, is_input_variable, names_input, reading_after, reads_input}
 use Rattle.xs_encode_laws.specs.Encodable.{IsListedMember, IsListedType, is_input_name, reads_next_input, IsFitTop}
 use Rattle.xs_encode_laws.specs.HistoryBits.{IsStateMode}
-use Rattle.xs_encode_laws.proofs.HistoryEncodable.{same_name, same_reading}
-use Rattle.xs_encode_laws.proofs.NameMeans.{each_joined, each_leaf, same_any}
+use Rattle.xs_encode_laws.proofs.HistoryEncodable.{each_under, same_name, same_reading}
+use Rattle.xs_encode_laws.proofs.NameMeans.{each_leaf, same_any}
 use Rattle.std.proofs.lemmas.Option.{slice_get_within as got_below}
 use Rattle.xs_encode_laws.proofs.HistoryTyped.{same_kind as same_kind_in, same_definitions}
 use Rattle.xs_encode_laws.proofs.FlatInputs.{none_any}
+use Rattle.xs_cause_laws.proofs.AddedKinds.{known_wider, order_wider}
+use Rattle.xs_flat_laws.proofs.Conditions.{each_join}
+use Rattle.xs_value.proofs.ListLaws.{get_left}
 
 -- the number is that of a variable of the state
 pub record IsStateVariable (n : FlatModel) (i : ℕ) : Type 0 where
@@ -69,29 +72,6 @@ quiet_of n (flat_variable i) h = ap is_input_variable h.is_variable ∙ h.is_sta
 quiet_of n (flat_symbol i) h = refl
 quiet_of n (flat_definition i) h = absurd h
 
--- what holds of each leaf holds of those under `next`
-mutual
-  each_under : {L : Type 0} (P : L → Type 0) (t : Tree L) → AllLeaves P t → Each P (leaves_under t)
-  each_under P (is_truth b) h = tt
-  each_under P (is_number n) h = tt
-  each_under P (leaf l) h = tt
-  each_under P (not_of a) h = each_under P a h
-  each_under P (negate a) h = each_under P a h
-  each_under P (next_of a) h = each_leaf P a h
-  each_under P (binary o a b) h = each_joined P (leaves_under a) _ (each_under P a h.0) (each_under P b h.1)
-  each_under P (choice d a b) h = each_joined P (leaves_under d) _ (each_under P d h.0) (each_joined P (leaves_under a) _ (each_under P a h.1) (each_under P b h.2))
-  each_under P (case_of bs) h = branches_each P bs h
-  each_under P (set_of ts) h = trees_each P ts h
-  each_under P (span lo hi) h = tt
-
-  trees_each : {L : Type 0} (P : L → Type 0) (ts : Trees L) → AllLeavesOfTrees P ts → Each P (trees_leaves_under ts)
-  trees_each P no_tree h = tt
-  trees_each P (tree_then t ts) h = each_joined P (leaves_under t) _ (each_under P t h.0) (trees_each P ts h.1)
-
-  branches_each : {L : Type 0} (P : L → Type 0) (bs : Branches L) → AllLeavesOfBranches P bs → Each P (branches_leaves_under bs)
-  branches_each P no_branch h = tt
-  branches_each P (branch_then d a bs) h = each_joined P (leaves_under d) _ (each_under P d h.0) (each_joined P (leaves_under a) _ (each_under P a h.1) (branches_each P bs h.2))
-
 module _ (n : FlatModel) where
   state_own : (fs : List FlatFormula) → ReadState n fs → ReadOwn n fs
   state_own fs h =
@@ -112,16 +92,6 @@ module _ (n : FlatModel) where
       (none_any (is_input_name n) (leaves_under f.value) (each_under (λ l. is_input_name n l ≡ false) f.value (quiet_leaves f.value h.0)), state_quiet_next fs h.1)
 
 -- ---- more variables and symbols
-
-known_wider : (nv nw ns nt k : ℕ) → nv ≤ nw → ns ≤ nt → (l : FlatLeaf) → IsKnown nv ns k l → IsKnown nw nt k l
-known_wider nv nw ns nt k h g (flat_variable i) known = omega (arith, h, known)
-known_wider nv nw ns nt k h g (flat_symbol i) known = omega (arith, g, known)
-known_wider nv nw ns nt k h g (flat_definition i) known = known
-
-order_wider : (nv nw ns nt k : ℕ) → nv ≤ nw → ns ≤ nt → (ds : List FlatFormula) → AreInOrder nv ns k ds → AreInOrder nw nt k ds
-order_wider nv nw ns nt k h g [] o = tt
-order_wider nv nw ns nt k h g (d ∷ ds) o =
-    (all_leaves_more (IsKnown nv ns k) (IsKnown nw nt k) (known_wider nv nw ns nt k h g) d.value o.0, order_wider nv nw ns nt (suc k) h g ds o.1)
 
 listed_member : (symbols more : List Text) (x : Member) → IsListedMember symbols x → IsListedMember (symbols ++ more) x
 listed_member symbols more (member.Number n) h = tt
@@ -209,15 +179,15 @@ module _ (m : FlatModel) (a : Addition) where
       record {
         closed = record {
           definitions = order_wider (length m.variables) (length (m.variables ++ a.variables)) (length m.symbols) (length (m.symbols ++ a.symbols)) 0 more_variables more_symbols m.definitions c.definitions;
-          at_first = each_joined (λ (e : FlatFormula). ReadsOwn (with_addition m a) e.value) m.at_first a.at_first (own_all c m.at_first c.at_first) (state_own (with_addition m a) a.at_first of.at_first);
-          at_each = each_joined (λ (e : FlatFormula). ReadsOwn (with_addition m a) e.value) m.at_each a.at_each (own_all c m.at_each c.at_each) (state_own (with_addition m a) a.at_each of.at_each);
-          at_step = each_joined (λ (e : FlatFormula). ReadsOwn (with_addition m a) e.value) m.at_step a.at_step (own_all c m.at_step c.at_step) (state_own (with_addition m a) a.at_step of.at_step);
+          at_first = each_join (λ (e : FlatFormula). ReadsOwn (with_addition m a) e.value) m.at_first a.at_first (own_all c m.at_first c.at_first) (state_own (with_addition m a) a.at_first of.at_first);
+          at_each = each_join (λ (e : FlatFormula). ReadsOwn (with_addition m a) e.value) m.at_each a.at_each (own_all c m.at_each c.at_each) (state_own (with_addition m a) a.at_each of.at_each);
+          at_step = each_join (λ (e : FlatFormula). ReadsOwn (with_addition m a) e.value) m.at_step a.at_step (own_all c m.at_step c.at_step) (state_own (with_addition m a) a.at_step of.at_step);
         };
-        types = each_joined (λ (x : FlatVariable). IsListedType (m.symbols ++ a.symbols) x.declared) m.variables a.variables (listed_types m.symbols a.symbols m.variables is.types) of.types;
-        at_first = each_joined (λ (e : FlatFormula). reads_input (with_addition m a) e.value ≡ false) m.at_first a.at_first (quiet_all c m.at_first c.at_first is.at_first)
+        types = each_join (λ (x : FlatVariable). IsListedType (m.symbols ++ a.symbols) x.declared) m.variables a.variables (listed_types m.symbols a.symbols m.variables is.types) of.types;
+        at_first = each_join (λ (e : FlatFormula). reads_input (with_addition m a) e.value ≡ false) m.at_first a.at_first (quiet_all c m.at_first c.at_first is.at_first)
             (state_quiet (with_addition m a) a.at_first of.at_first);
-        at_each = each_joined (λ (e : FlatFormula). reads_input (with_addition m a) e.value ≡ false) m.at_each a.at_each (quiet_all c m.at_each c.at_each is.at_each)
+        at_each = each_join (λ (e : FlatFormula). reads_input (with_addition m a) e.value ≡ false) m.at_each a.at_each (quiet_all c m.at_each c.at_each is.at_each)
             (state_quiet (with_addition m a) a.at_each of.at_each);
-        at_step = each_joined (λ (e : FlatFormula). reads_next_input (with_addition m a) e.value ≡ false) m.at_step a.at_step (quiet_next_all c m.at_step c.at_step is.at_step)
+        at_step = each_join (λ (e : FlatFormula). reads_next_input (with_addition m a) e.value ≡ false) m.at_step a.at_step (quiet_next_all c m.at_step c.at_step is.at_step)
             (state_quiet_next (with_addition m a) a.at_step of.at_step);
       }

@@ -22,7 +22,7 @@ use Rattle.xs_cause_laws.specs.Causes.{CommonCause, IsCauseOf}
 use Rattle.xs_cause_laws.specs.CausesText.{WrittenCause, BytesSpellCauses}
 use Rattle.xs_cause_laws.specs.CauseRules.{AreLawful, AreReadAs}
 use Rattle.xs_cause_laws.specs.Staged.{with_causes, events_of}
-use Rattle.xs_reach_laws.specs.Names.{AreApart}
+use Rattle.xs_tree.specs.Texts.{AreApart}
 
 -- The model is encodable, its faults are modes of its state, the causes strike them, and the top event fits; inputs and event are small.
 pub record CanHaveCauses (m : FlatModel) (fs : List Mode) (cs : List CommonCause) (top : Tree FlatLeaf) : Type 0 where

@@ -8,10 +8,6 @@ use Rattle.xs_flat_laws.specs.History.{Mode}
 use Rattle.xs_cause_laws.specs.Causes.{CommonCause}
 use Rattle.xs_cause_laws.specs.Staged.{age_name, event_name, quiet_name, now_name, hit_name, own_name, none_name, self_name}
 
--- no text stands twice, by places
-abbrev pub AreApart : List Text → Type 0
-AreApart xs = (i j : ℕ) (x : Text) → slice_get xs i ≡ Some x → slice_get xs j ≡ Some x → i ≡ j
-
 -- no text stands twice, one after another
 abbrev pub AreDistinct : List Text → Type 0
 AreDistinct [] = Unit {0}

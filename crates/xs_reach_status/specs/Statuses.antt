@@ -1,5 +1,5 @@
 -- How a run of a further verb ends: its number, and the line that a refusal says.
-use Rattle.std.specs.Prelude.{◌≡◌, ℕ, ℤ, pos, ◌++◌, codes}
+use Rattle.std.specs.Prelude.{ℤ, pos, ◌++◌, codes}
 use Rattle.xs_tree.specs.ProgramTree.{Text}
 use Rattle.xs_desk.specs.declared.desk.WriteStop.{WriteStop}
 use Rattle.xs_desk.specs.declared.desk.WriteStop.TheVariants as write_stop

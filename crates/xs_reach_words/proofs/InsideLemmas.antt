@@ -15,7 +15,7 @@ use Rattle.xs_words.specs.Reading.{number_in, value_in, text_in, first_of, same_
 use Rattle.xs_words.proofs.ListLemmas.{bytes_same, same_bytes, Each-append, is_false}
 use Rattle.xs_words.proofs.NumberLemmas.{numbered, true-is_numeral}
 use Rattle.xs_words.proofs.PairLemmas.{value-given, given-value}
-use Rattle.xs_words.proofs.SoundLemmas.{first_none}
+use Rattle.xs_words.proofs.SoundLemmas.{first_none, different_by}
 use Rattle.xs_words.proofs.ValueLemmas.{fits_given, text_given, text_is}
 use Rattle.xs_reach_words.specs.declared.verb.Verb.{Verb}
 use Rattle.xs_reach_words.specs.declared.verb.Verb.TheVariants as verb
@@ -62,10 +62,6 @@ not_true false e = refl
 true_not : (t : Bool) → t ≡ false → not t ≡ true
 true_not t e = ap not e
 
-test_none : (t : Bool) (f : WordFault) → (if t then Some f else None) ≡ None → t ≡ false
-test_none true f e = cc
-test_none false f e = refl
-
 -- Pairs of which the faults are numbers.
 abbrev IsNumbered : Given → Type 0
 IsNumbered p = IsOfPair p.option → IsNumeral p.value
@@ -97,7 +93,7 @@ module _ (set first : Text) (ns : Each IsNumeral (words_of set)) (n : IsNumeral 
   from_none before [] is e = tt
   from_none before (p ∷ ps) is e =
       let both = first_none (outside_here set first before p) (outside_from set first (before ++ p ∷ []) ps) e in (
-        λ out. false≢true (sym (test_none (is_outside set first p.option p.value) (fault.NotInSet (option_place before + 1)) both.0) ∙ outside_complete p is.0 out),
+        λ out. false≢true (sym (different_by (is_outside set first p.option p.value) (fault.NotInSet (option_place before + 1)) both.0) ∙ outside_complete p is.0 out),
         from_none (before ++ p ∷ []) ps is.1 both.1,
       )
 

@@ -1,13 +1,13 @@
 -- What is wrong with a line.
 use Rattle.std.proofs.Common.{◌≡◌, ◌≢◌, inl, inr, ℕ, ◌<◌, ◌≤◌, List, [], ◌∷◌, ◌++◌, length, Some, sym, ◌∙◌, ap, subst, arith}
 use Rattle.std.specs.Prelude.{slice_get, IsTrue}
-use Rattle.xs_tree.specs.Values.{Value}
+use Rattle.xs_tree.specs.Values.{Value, value_text}
 use Rattle.xs_tree.specs.Trace.{in_domain}
 use Rattle.xs_tree.specs.Flat.{FlatVariable, FlatModel}
 use Rattle.xs_flat_laws.proofs.Lists.{get_within}
 use Rattle.std.proofs.lemmas.Option.{slice_get_within, same_Some as some_same}
 use Rattle.xs_text_laws.specs.Lines.{Line}
-use Rattle.xs_text_laws.specs.TraceText.{value_text, moment_line, equation}
+use Rattle.xs_text_laws.specs.TraceText.{moment_line, equation}
 use Rattle.xs_text_laws.specs.Given.{IsPrintable}
 use Rattle.xs_text_laws.specs.Wrong.{LineFault, bad_line, unknown_name, outside, twice, number_of, moments_after, IsEquation, IsNameIn, WasSaid, Breaks, IsLeast}
 use Rattle.xs_text_laws.proofs.OneTrace.{same_equation}
@@ -19,7 +19,7 @@ use Rattle.xs_report.specs.Cuts.{IsNoEquation}
 use Rattle.xs_report.specs.Faults.{IsCauseOf}
 use Rattle.xs_report.specs.Lookups.{IsNamedAt, HasNoValue}
 use Rattle.xs_report.specs.Reading.{IsGiven, IsAfter, IsTaken, IsRefusal, IsRefusedLine}
-use Rattle.xs_report.specs.Told.{told_value}
+use Rattle.xs_tree.specs.Told.{told_value}
 use Rattle.xs_text_laws.proofs.LineJudged.{number_least}
 
 -- a bad line has the smallest number

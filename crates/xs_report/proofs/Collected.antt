@@ -1,11 +1,11 @@
 -- The trace of the lines of a text, from the valuations whose values are said in its moments.
 use Rattle.std.proofs.Common.{◌≡◌, ◌⊎◌, inl, inr, ℕ, zero, suc, ◌+◌, ◌≤◌, List, [], ◌∷◌, ◌++◌, length, refl, sym, ◌∙◌, ap, subst, arith, append_assoc, length-append, Some}
 use Rattle.std.specs.Prelude.{slice_get}
-use Rattle.xs_tree.specs.Values.{Value}
+use Rattle.xs_tree.specs.Values.{Value, value_text}
 use Rattle.xs_tree.specs.Flat.{FlatVariable, FlatModel}
 use Rattle.xs_flat_laws.specs.FlatTrace.{AreInDomains}
 use Rattle.xs_text_laws.specs.Lines.{Line}
-use Rattle.xs_text_laws.specs.TraceText.{value_text, variable_text, moment_line, equation, value_line}
+use Rattle.xs_text_laws.specs.TraceText.{variable_text, moment_line, equation, value_line}
 use Rattle.xs_text_laws.specs.Given.{IsLineWord, IsPrintable, GivesMoments}
 use Rattle.xs_text_laws.specs.Wrong.{moments_after}
 use Rattle.xs_text_laws.proofs.OneTrace.{HasNoMoment, head_of, no_items, no_moment}

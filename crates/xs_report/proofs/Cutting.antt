@@ -7,19 +7,15 @@ use Rattle.xs_text_laws.specs.Wrong.{IsEquation}
 use Rattle.xs_value.specs.Cuts.{Lacks, BeginsWith}
 use Rattle.xs_report.specs.Cuts.{IsNoEquation, IsSpaceless}
 use Rattle.std.proofs.lemmas.List.{append-nil as append_none}
+use Rattle.xs_text_laws.proofs.LineJudged.{line_front}
 
 tail_of : (x y : ℕ) (xs ys : List ℕ) → (x ∷ xs) ≡ (y ∷ ys) → xs ≡ ys
 tail_of x y xs ys e = cc
 
--- Equations.
-lines_of : (xs ys : Line) → IsLine (xs ++ ys) → IsLine xs × IsLine ys
-lines_of [] ys h = (tt, h)
-lines_of (x ∷ xs) ys h = let more : IsLine xs × IsLine ys = lines_of xs ys h.1 in ((h.0, more.0), more.1)
-
 pub equation_made : (line name rest value : Line) → IsLine line → line ≡ name ++ rest → rest ≡ 32 ∷ 61 ∷ 32 ∷ value → IsSpaceless name → IsSpaceless value → IsEquation name value line
 equation_made line name rest value l e r n v =
     let whole : line ≡ equation name value = e ∙ ap (λ x. name ++ x) r in
-    let parts : IsLine name × IsLine (32 ∷ 61 ∷ 32 ∷ value) = lines_of name (32 ∷ 61 ∷ 32 ∷ value) (subst IsLine whole l) in
+    let parts : IsLine name × IsLine (32 ∷ 61 ∷ 32 ∷ value) = line_front name (32 ∷ 61 ∷ 32 ∷ value) (subst IsLine whole l) in
     record {
       name_word = record { some = n.0; free = n.1; line = parts.0 };
       value_word = record { some = v.0; free = v.1; line = parts.1.1.1.1 };

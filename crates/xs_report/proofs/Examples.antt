@@ -3,7 +3,7 @@ use Rattle.std.proofs.Common.{◌≡◌, refl, [], ◌∷◌, codes, true, pos}
 use Rattle.std.specs.Fmt.{digits}
 use Rattle.xs_tree.specs.Values.{truth, number, symbol}
 use Rattle.xs_value.specs.declared.value.Value.TheVariants.{Bool as ABool, Num, Sym}
-use Rattle.xs_report.specs.Told.{told_trace}
+use Rattle.xs_tree.specs.Told.{told_trace}
 use Rattle.xs_report.specs.FaultText.{faults_text}
 
 an_example : told_trace (codes "on" ∷ codes "off" ∷ []) ((Sym 1 ∷ Num (pos 3) ∷ ABool true ∷ []) ∷ []) ≡ (symbol (codes "off") ∷ number (pos 3) ∷ truth true ∷ []) ∷ []

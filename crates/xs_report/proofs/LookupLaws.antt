@@ -4,7 +4,7 @@ use Rattle.std.specs.Prelude.{slice_get, IsTrue, map}
 use Rattle.std.proofs.lemmas.Option.{same_Some as some_same, none-some as never}
 use Rattle.xs_tree.specs.ProgramTree.{Text, DeclaredTree, boolean, range, members, instance, declared_tree}
 use Rattle.xs_tree.specs.Texts.{same_text}
-use Rattle.xs_tree.specs.Values.{Value, truth, number, symbol}
+use Rattle.xs_tree.specs.Values.{Value, truth, number, symbol, value_text}
 use Rattle.xs_tree.specs.Trace.{in_domain}
 use Rattle.xs_tree.specs.WritableProgram.{IsWritableType}
 use Rattle.xs_tree.proofs.ValueLaws.{same_text_equal, same_text_refl}
@@ -13,7 +13,7 @@ use Rattle.xs_type_laws.specs.Costs.{symbol_number}
 use Rattle.xs_tree.specs.declared.model.FlatModel.{FlatModel}
 use Rattle.xs_tree.specs.declared.model.Variable.{Variable}
 use Rattle.xs_tree.specs.ModelTree.{model_tree, variable_tree}
-use Rattle.xs_text_laws.specs.TraceText.{value_text, variable_text}
+use Rattle.xs_text_laws.specs.TraceText.{variable_text}
 use Rattle.xs_text_laws.specs.Given.{IsPrintable}
 use Rattle.xs_text_laws.specs.Wrong.{IsNameIn}
 use Rattle.xs_text_laws.proofs.Plain.{domain_plain, small_end as end_small}
@@ -23,13 +23,13 @@ use Rattle.xs_value.specs.declared.value.Value.TheVariants.{Bool as ABool, Num, 
 use Rattle.xs_value.specs.Domains.{Has}
 use Rattle.xs_types.specs.Numbering.{number_from}
 use Rattle.xs_types.specs.Types.{StandsFor, IsType, AreValuesOf}
-use Rattle.xs_report.specs.Told.{told_value}
+use Rattle.xs_tree.specs.Told.{told_value}
 use Rattle.xs_report.specs.Names.{printed_name}
 use Rattle.xs_text_laws.specs.Given.{HasItsSymbols}
 use Rattle.xs_report.specs.ValueReading.{HasText, IsShort, IsReadIn}
 use Rattle.xs_report.specs.Lookups.{IsNamedAt, IsFoundAt}
 use Rattle.xs_report.proofs.ValueLaws.{StandsAt, number_stands, none_stands, symbol_text}
-use Rattle.xs_type_laws.proofs.WrittenLaws.{get_map as image_at}
+use Rattle.xs_tree.proofs.ListLaws.{get_map}
 
 -- an item of a list of images is the image of the item
 pub record IsImage {A B : Type 0} (f : A → B) (xs : List A) (i : ℕ) (y : B) : Type 0 where
@@ -44,7 +44,7 @@ image f (x ∷ xs) (suc i) y e = let more : IsImage f xs i y = image f xs i y e 
 
 -- Places.
 pub place_found : (m : FlatModel) (name : Text) (i : ℕ) → number_from 0 (map printed_name m.variables) name ≡ Some i → IsNamedAt (model_tree m) name i
-place_found m name i e = record { variable = variable_tree x.item; is_variable = image_at variable_tree m.variables i x.item x.is; is_name = x.same }
+place_found m name i e = record { variable = variable_tree x.item; is_variable = get_map variable_tree m.variables i x.item x.is; is_name = x.same }
   where
     s : StandsAt (map printed_name m.variables) 0 name i
     s = number_stands 0 (map printed_name m.variables) name i e
@@ -68,7 +68,7 @@ place_within m name i e =
 pub no_place : (m : FlatModel) (name : Text) → number_from 0 (map printed_name m.variables) name ≡ None → IsNameIn (model_tree m) name → ⊥
 no_place m name e n =
     let x : IsImage variable_tree m.variables n.place n.variable = image variable_tree m.variables n.place n.variable n.is_variable in
-    none_stands 0 (map printed_name m.variables) name e n.place (image_at printed_name m.variables n.place x.item x.is ∙ ap Some (ap variable_text x.same ∙ n.is_name))
+    none_stands 0 (map printed_name m.variables) name e n.place (get_map printed_name m.variables n.place x.item x.is ∙ ap Some (ap variable_text x.same ∙ n.is_name))
 
 -- Values.
 type_there : (d : DeclaredTree) → IsWritableType d → IsType d
@@ -111,12 +111,12 @@ pub value_found : (m : FlatModel) (i : ℕ) (d : Domain) → i < length m.variab
 value_found m i d within p listed values text None read = λ x e w.
     let v : IsImage variable_tree m.variables i x = image variable_tree m.variables i x e in
     subst (λ (z : FlatVariable). IsTrue (in_domain z.declared w) → value_text w ≢ text) v.same
-    (no_value m i v.item v.is d values (p.types i (variable_tree v.item) (image_at variable_tree m.variables i v.item v.is)) text read
-    (λ y h. listed i (variable_tree v.item) y (image_at variable_tree m.variables i v.item v.is) h) w)
+    (no_value m i v.item v.is d values (p.types i (variable_tree v.item) (get_map variable_tree m.variables i v.item v.is)) text read
+    (λ y h. listed i (variable_tree v.item) y (get_map variable_tree m.variables i v.item v.is) h) w)
 value_found m i d within p listed values text (Some n) read = record {
   inside = λ x e.
       let v : IsImage variable_tree m.variables i x = image variable_tree m.variables i x e in
       subst (λ (z : FlatVariable). IsTrue (in_domain z.declared (told_value m.symbols n))) v.same
-      (value_has m i v.item v.is d values (p.types i (variable_tree v.item) (image_at variable_tree m.variables i v.item v.is)) text n read.0 read.1);
+      (value_has m i v.item v.is d values (p.types i (variable_tree v.item) (get_map variable_tree m.variables i v.item v.is)) text n read.0 read.1);
   is_text = read.1.same;
 }

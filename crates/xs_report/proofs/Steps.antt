@@ -6,14 +6,14 @@ use Rattle.std.proofs.lemmas.Bool.Decides.{nat_tests}
 use Rattle.std.proofs.lemmas.Option.{slice_get_within, same_Some as some_same, none-some as never}
 use Rattle.std.proofs.lemmas.List.{length-set}
 use Rattle.xs_tree.specs.ProgramTree.{Text}
-use Rattle.xs_tree.specs.Values.{Value}
+use Rattle.xs_tree.specs.Values.{Value, value_text}
 use Rattle.xs_tree.specs.Trace.{in_domain}
 use Rattle.xs_tree.specs.Flat.{FlatVariable, FlatModel}
 use Rattle.xs_flat_laws.proofs.Lists.{get_within}
 use Rattle.xs_flat_laws.proofs.OneOfTwo.{set_get, set_own}
 use Rattle.xs_text_laws.specs.Lines.{Line}
 use Rattle.xs_text_laws.proofs.Separators.{same_front}
-use Rattle.xs_text_laws.specs.TraceText.{value_text, variable_text, moment_line, equation, value_line}
+use Rattle.xs_text_laws.specs.TraceText.{variable_text, moment_line, equation, value_line}
 use Rattle.xs_text_laws.specs.Given.{IsLineWord, IsPrintable}
 use Rattle.xs_text_laws.specs.Wrong.{moments_after, IsEquation, WasSaid, Breaks, Lacks}
 use Rattle.xs_text_laws.proofs.OneTrace.{some_moment, no_moment, equation_some}
@@ -23,10 +23,11 @@ use Rattle.xs_text_laws.proofs.LineJudged.{LineIs, says, line_sound}
 use Rattle.xs_value.specs.declared.value.Value.{Value as Numbered}
 use Rattle.xs_report.specs.declared.reading.Slot.{Slot}
 use Rattle.xs_report.specs.declared.reading.Reading.{Reading}
-use Rattle.xs_report.specs.Told.{told_value}
+use Rattle.xs_tree.specs.Told.{told_value}
 use Rattle.xs_report.specs.Reading.{IsGiven, IsSilent, IsLast, IsSaid, AreSaid, IsAfter, values_of, with_last, Gives}
 use Rattle.xs_report.proofs.Positions.{last_or_in, sound_more, still, one_begins, front_begun, lacks_more, lacks_at_moment}
 use Rattle.std.proofs.lemmas.Bool.{and_parts as first_true}
+use Rattle.xs_value.proofs.ListLaws.{push_get}
 
 -- What was said stays said.
 given_more : (lines : List Line) (l : Line) (x : FlatVariable) (w : Value) (k : ℕ) → IsGiven lines x w k → IsGiven (lines ++ l ∷ []) x w k
@@ -183,17 +184,6 @@ length_values : (slots : List Slot) → length (values_of slots) ≡ length slot
 length_values [] = refl
 length_values (s ∷ slots) = ap suc (length_values slots)
 
--- an item of a list with one more at the end
-last_item : {A : Type 0} (xs : List A) (y : A) (k : ℕ) (v : A) → slice_get (xs ++ y ∷ []) k ≡ Some v → (slice_get xs k ≡ Some v) ⊎ ((k ≡ length xs) × (y ≡ v))
-last_item [] y zero v e = inr (refl, some_same y v e)
-last_item [] y (suc k) v e = absurd (never v e)
-last_item (x ∷ xs) y zero v e = inl e
-last_item (x ∷ xs) y (suc k) v e = by_side (last_item xs y k v e)
-  where
-    by_side : (slice_get xs k ≡ Some v) ⊎ ((k ≡ length xs) × (y ≡ v)) → (slice_get xs k ≡ Some v) ⊎ ((suc k ≡ suc (length xs)) × (y ≡ v))
-    by_side (inl f) = inl f
-    by_side (inr f) = inr (ap suc f.0, f.1)
-
 pub moment_ended : (m : FlatModel) (lines : List Line) (r : Reading) → IsAfter m lines r → IsEnded m lines r.begun (with_last r.begun r.slots.items r.moments)
 moment_ended m lines r h = by_tests (nat_lt 0 r.begun) (nat_eq (length r.moments) (r.begun - 1)) (list_all (λ s. nat_eq s.moment r.begun) r.slots.items) refl refl refl
   where
@@ -213,7 +203,7 @@ moment_ended m lines r h = by_tests (nat_lt 0 r.begun) (nat_eq (length r.moments
                 (subst (λ (u : Numbered). IsGiven lines x (told_value m.symbols u) r.begun) v.same ((h.last i x v.slot at v.is).given some (all i v.slot v.is)))
 
         kept : AreSaid m lines (r.moments ++ values_of r.slots.items ∷ [])
-        kept k v e = by_side (last_item r.moments (values_of r.slots.items) k v e)
+        kept k v e = by_side (push_get r.moments (values_of r.slots.items) k v e)
           where
             by_side : (slice_get r.moments k ≡ Some v) ⊎ ((k ≡ length r.moments) × (values_of r.slots.items ≡ v)) → IsSaid m lines v (suc k)
             by_side (inl f) = h.kept k v f

@@ -1,5 +1,5 @@
 -- Text that is appended piece by piece.
-use Rattle.std.proofs.Common.{◌≡◌, ℕ, zero, suc, ◌+◌, ◌<◌, ◌≤◌, List, [], ◌∷◌, ◌++◌, length, drop, Some, None, refl, sym, ◌∙◌, ap, arith, add-one, reverse}
+use Rattle.std.proofs.Common.{◌≡◌, ℕ, suc, ◌+◌, ◌<◌, ◌≤◌, List, [], ◌∷◌, ◌++◌, length, drop, Some, refl, sym, ◌∙◌, ap, arith, add-one, reverse}
 use Rattle.std.specs.Prelude.{slice_get, map}
 use Rattle.std.proofs.lemmas.List.{append_assoc, append-nil, length-map, length-reverse, reverse-reverse}
 use Rattle.xs_tree.specs.ProgramTree.{Text}
@@ -11,7 +11,8 @@ use Rattle.xs_tree.specs.ModelTree.{name_in, place_in, variable_tree}
 use Rattle.xs_value.specs.declared.value.Value.{Value as Numbered}
 use Rattle.xs_text_laws.specs.TraceText.{value_line, value_lines, trace_lines}
 use Rattle.xs_report.specs.Names.{printed_name}
-use Rattle.xs_report.specs.Told.{told_value, told_moment, told_trace}
+use Rattle.xs_tree.specs.Told.{told_value, told_moment, told_trace}
+use Rattle.xs_tree.proofs.ListLaws.{drop_past, drop_item}
 
 pub ruleset text_rules = (append_assoc, append-nil, length-map)
 
@@ -25,25 +26,6 @@ path_text x some = ap dotted_text (ap reverse (both (reverse x.path) many) ∙ r
 
     many : 0 < length (reverse x.path)
     many = let same : length (reverse x.path) ≡ length x.path = length-reverse x.path in omega (arith, same, some)
-
--- what is left of a list, from the item at a place
-pub drop_item : {A : Type 0} (xs : List A) (i : ℕ) (x : A) → slice_get xs i ≡ Some x → drop i xs ≡ x ∷ drop (suc i) xs
-drop_item [] i x e = absurd (never x e)
-  where
-    never : {A : Type 0} (x : A) → None ≡ Some x → ⊥
-    never x e = cc
-drop_item (y ∷ xs) zero x e = ap (λ z. z ∷ xs) (some_same y x e)
-  where
-    some_same : {A : Type 0} (x y : A) → Some x ≡ Some y → x ≡ y
-    some_same x y e = cc
-drop_item (y ∷ xs) (suc i) x e = drop_item xs i x e
-
--- nothing is left past the end
-drop_past : {A : Type 0} (xs : List A) (i : ℕ) → length xs ≤ i → drop i xs ≡ []
-drop_past [] zero h = refl
-drop_past [] (suc i) h = refl
-drop_past (x ∷ xs) zero h = absurd (omega (arith, h))
-drop_past (x ∷ xs) (suc i) h = drop_past xs i (omega (arith, h))
 
 no_lines : (xs : List FlatVariable) → value_lines xs [] ≡ []
 no_lines [] = refl

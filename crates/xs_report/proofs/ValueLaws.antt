@@ -3,7 +3,7 @@ use Rattle.std.proofs.Common.{◌≡◌, inl, inr, ℕ, zero, suc, ◌+◌, ◌<
 use Rattle.std.specs.Prelude.{slice_get, if◌then◌else◌}
 use Rattle.std.proofs.lemmas.Fmt.{signed_decimal_injective}
 use Rattle.xs_tree.specs.ProgramTree.{Text}
-use Rattle.xs_tree.specs.Texts.{same_text}
+use Rattle.xs_tree.specs.Texts.{same_text, text_or_none}
 use Rattle.xs_tree.proofs.ValueLaws.{same_text_equal, same_text_refl}
 use Rattle.xs_type_laws.specs.Costs.{symbol_number}
 use Rattle.xs_value.specs.declared.domain.Domain.{Domain}
@@ -13,7 +13,6 @@ use Rattle.xs_value.specs.declared.value.Value.TheVariants.{Bool as ABool, Num, 
 use Rattle.xs_value.specs.Domains.{Has}
 use Rattle.xs_types.specs.Numbering.{number_from}
 use Rattle.xs_types.proofs.NumberingLaws.{number_told}
-use Rattle.xs_report.specs.Told.{text_at}
 use Rattle.xs_report.specs.ValueReading.{HasText, IsTruth, IsNumber, IsSymbol, IsReadOf, IsParsed, IsAmong, IsShort, IsReadIn}
 use Rattle.std.proofs.lemmas.Option.{same_Some as some_same, none-some as never}
 
@@ -48,7 +47,7 @@ none_stands i (t ∷ texts) x e j g = by (same_text t x) refl e j g (none_stands
 -- the symbol of a place stands for its name
 pub symbol_text : (symbols : List Text) (i : ℕ) (x : Text) → slice_get symbols i ≡ Some x → symbol_number symbols x ≡ i → HasText symbols x (Sym i)
 symbol_text symbols i x at e =
-    let there : text_at (slice_get symbols i) ≡ x = ap text_at at in
+    let there : text_or_none (slice_get symbols i) ≡ x = ap text_or_none at in
     record { stands = (at ∙ ap Some (sym there), ap (symbol_number symbols) there ∙ e); same = there }
 
 pub read_symbol : (symbols : List Text) (text : Text) (i : ℕ) → number_from 0 symbols text ≡ Some i → IsReadOf IsSymbol symbols text (Some (Sym i))

@@ -6,14 +6,14 @@ use Rattle.std.proofs.lemmas.Option.{slice_get_within, none-some as never, same_
 use Rattle.std.proofs.lemmas.List.{length-replicate, append-nil as append_none}
 use Rattle.xs_tree.specs.ProgramTree.{Text}
 use Rattle.xs_tree.specs.Texts.{same_text}
-use Rattle.xs_tree.specs.Values.{Value}
+use Rattle.xs_tree.specs.Values.{Value, value_text}
 use Rattle.xs_tree.specs.Trace.{in_domain}
 use Rattle.xs_tree.specs.Flat.{FlatVariable, FlatModel}
 use Rattle.xs_flat_laws.specs.FlatTrace.{AreInDomains}
 use Rattle.xs_flat_laws.proofs.Lists.{get_within}
 use Rattle.xs_text_laws.specs.Lines.{Line, fed, IsLine}
 use Rattle.xs_text_laws.proofs.Cuts.{line_lies, length_more, fed_long, rest_shorter}
-use Rattle.xs_text_laws.specs.TraceText.{value_text, moment_line}
+use Rattle.xs_text_laws.specs.TraceText.{moment_line}
 use Rattle.xs_text_laws.specs.Given.{IsPrintable, GivesMoments, BytesGive}
 use Rattle.xs_text_laws.specs.Wrong.{moments_after, Lacks, Misses}
 use Rattle.xs_text_laws.proofs.OneTrace.{no_items}
@@ -28,7 +28,7 @@ use Rattle.xs_report.specs.declared.reading.Reading.{Reading}
 use Rattle.xs_value.specs.Cuts.{IsLineThen}
 use Rattle.xs_report.specs.Faults.{IsFaultOf}
 use Rattle.xs_report.specs.Reading.{IsGiven, IsSaid, IsAfter, with_last, ended, IsUnfinished, IsFinished}
-use Rattle.xs_report.specs.Told.{told_value, told_moment, told_trace}
+use Rattle.xs_tree.specs.Told.{told_value, told_moment, told_trace}
 use Rattle.xs_report.proofs.Positions.{sound_are}
 use Rattle.xs_report.proofs.LookupLaws.{IsImage, image}
 use Rattle.xs_report.proofs.Steps.{IsEnded, moment_ended}

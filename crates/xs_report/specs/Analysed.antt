@@ -5,7 +5,7 @@ use Rattle.xs_tree.specs.Values.{Value}
 use Rattle.xs_value.specs.declared.value.Value.{Value as Numbered}
 use Rattle.xs_text_laws.specs.Analysis.{Analysis, told_ending}
 use Rattle.xs_value.specs.declared.ending.Ending.{Ending as CodeEnding}
-use Rattle.xs_report.specs.Told.{told_trace}
+use Rattle.xs_tree.specs.Told.{told_trace}
 
 -- the values of its traces
 abbrev pub told_traces : List Text → List (List (List Numbered)) → List (List (List Value))

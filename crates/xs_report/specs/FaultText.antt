@@ -3,11 +3,6 @@ use Rattle.std.specs.Prelude.{ℕ, ◌+◌, List, [], ◌∷◌, ◌++◌, lengt
 use Rattle.std.specs.Fmt.{decimal}
 use Rattle.xs_tree.specs.ProgramTree.{Text, Path}
 use Rattle.xs_tree.specs.Text.{dotted_text}
-use Rattle.xs_tree.specs.declared.model.Fault.{Fault}
-
--- a fault's name
-abbrev pub name_of : Fault → Path
-name_of f = f.name
 
 -- a fault's line: its number and its name
 abbrev pub fault_line : ℕ → Path → Text

@@ -1,4 +1,3 @@
-pub mod Told
 pub mod FaultText
 pub mod Analysed
 pub mod Names

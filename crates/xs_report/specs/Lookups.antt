@@ -1,13 +1,13 @@
 -- Variables by their printed names, and values by their texts.
 use Rattle.std.specs.Prelude.{◌≡◌, ◌≢◌, ℕ, IsTrue, Option, Some, None, slice_get}
 use Rattle.xs_tree.specs.ProgramTree.{Text}
-use Rattle.xs_tree.specs.Values.{Value}
+use Rattle.xs_tree.specs.Values.{Value, value_text}
 use Rattle.xs_tree.specs.Trace.{in_domain}
 use Rattle.xs_tree.specs.Flat.{FlatVariable, FlatModel}
-use Rattle.xs_text_laws.specs.TraceText.{value_text, variable_text}
+use Rattle.xs_text_laws.specs.TraceText.{variable_text}
 use Rattle.xs_text_laws.specs.Wrong.{IsNameIn}
 use Rattle.xs_value.specs.declared.value.Value.{Value as Numbered}
-use Rattle.xs_report.specs.Told.{told_value}
+use Rattle.xs_tree.specs.Told.{told_value}
 
 -- the variable of this number is printed so
 pub record IsNamedAt (m : FlatModel) (name : Text) (i : ℕ) : Type 0 where

@@ -15,7 +15,7 @@ use Rattle.xs_report.specs.declared.fault.Cause.{Cause}
 use Rattle.xs_report.specs.declared.fault.Cause.TheVariants as cause
 use Rattle.xs_report.specs.declared.fault.TraceFault.{TraceFault}
 use Rattle.xs_report.specs.declared.fault.TraceFault.TheVariants as fault
-use Rattle.xs_report.specs.Told.{told_value}
+use Rattle.xs_tree.specs.Told.{told_value}
 use Rattle.xs_report.specs.Cuts.{IsNoEquation}
 use Rattle.xs_report.specs.Lookups.{IsNamedAt, IsValueAt, HasNoValue}
 

@@ -2,14 +2,14 @@
 use lib.Signed.{mag}
 use Rattle.std.specs.Prelude.{◌≡◌, ◌⊎◌, ◌<◌, ◌^◌, List, Option, Some, None}
 use Rattle.xs_tree.specs.ProgramTree.{Text}
-use Rattle.xs_text_laws.specs.TraceText.{value_text}
 use Rattle.xs_value.specs.declared.domain.Domain.{Domain}
 use Rattle.xs_value.specs.declared.domain.Domain.TheVariants as domain
 use Rattle.xs_value.specs.declared.value.Value.{Value as Numbered}
 use Rattle.xs_value.specs.declared.value.Value.TheVariants.{Bool as ABool, Num, Sym}
 use Rattle.xs_value.specs.Domains.{Has}
 use Rattle.xs_types.specs.Types.{StandsFor}
-use Rattle.xs_report.specs.Told.{told_value}
+use Rattle.xs_tree.specs.Told.{told_value}
+use Rattle.xs_tree.specs.Values.{value_text}
 
 -- the value has this text; a symbol has the number of its first place
 pub record HasText (symbols : List Text) (text : Text) (v : Numbered) : Type 0 where

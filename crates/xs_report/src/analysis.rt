@@ -2,11 +2,11 @@
 
 ghost use Rattle.std.specs.Prelude.{◌≡◌, ◌++◌, codes, map, length, IfOk, OnOk};
 ghost use Rattle.std.specs.Fmt.{decimal};
-ghost use Rattle.xs_tree.specs.ModelTree.{model_tree};
+ghost use Rattle.xs_tree.specs.ModelTree.{model_tree, name_of_fault};
 ghost use Rattle.xs_text_laws.specs.AnalysisText.{numbers_text, set_lines, trace_parts, first_line, ending_text, size_line, analysis_text};
 ghost use Rattle.xs_text_laws.specs.TraceText.{trace_text};
-ghost use Rattle.xs_report.specs.FaultText.{name_of, faults_text};
-ghost use Rattle.xs_report.specs.Told.{told_trace};
+ghost use Rattle.xs_report.specs.FaultText.{faults_text};
+ghost use Rattle.xs_tree.specs.Told.{told_trace};
 ghost use Rattle.xs_report.specs.Analysed.{told_analysis, told_traces};
 ghost use Rattle.xs_text_laws.specs.Analysis.{told_ending};
 
@@ -32,7 +32,7 @@ pub fn print_analysis(
     size: u32,
     ending: Ending,
 ) -> Result<ByteList, OutOfMemory>
-    ensures { IfOk result (λ text. text ≡ analysis_text (faults_text (map name_of faults.now)) (model_tree t.now.model) bits (length faults.now) size (told_analysis t.now.model.symbols sets.now traces.now first ending)) }
+    ensures { IfOk result (λ text. text ≡ analysis_text (faults_text (map name_of_fault faults.now)) (model_tree t.now.model) bits (length faults.now) size (told_analysis t.now.model.symbols sets.now traces.now first ending)) }
 {
     let mut text = print_faults(alloc, faults)?;
     append_found(alloc, &mut text, t, sets, traces)?;

@@ -3,8 +3,10 @@
 ghost use Rattle.std.specs.Prelude.{◌≡◌, ◌∷◌, ◌++◌, [], map, slice_get, IfOk, OnOk};
 ghost use Rattle.xs_text_laws.specs.Lines.{fed};
 ghost use Rattle.xs_tree.specs.ModelTree.{model_tree, variable_tree};
-ghost use Rattle.xs_text_laws.specs.TraceText.{value_text, value_line, value_lines, moment_line, trace_text};
-ghost use Rattle.xs_report.specs.Told.{text_at, told_value, told_moment, told_trace};
+ghost use Rattle.xs_text_laws.specs.TraceText.{value_line, value_lines, moment_line, trace_text};
+ghost use Rattle.xs_tree.specs.Told.{told_value, told_moment, told_trace};
+ghost use Rattle.xs_tree.specs.Values.{value_text};
+ghost use Rattle.xs_tree.specs.Texts.{text_or_none};
 
 use crate::text::append_variable;
 use std::alloc::Global;
@@ -103,7 +105,7 @@ fn append_value(
 
 /// The name of a symbol, by its number. A number beyond the last names none.
 fn symbol_text(symbols: &[Name], symbol: u32) -> &[u8]
-    ensures { result.now ≡ text_at (slice_get symbols.now symbol) }
+    ensures { result.now ≡ text_or_none (slice_get symbols.now symbol) }
 {
     match symbols.get(symbol as usize) {
         Some(name) => name.text(),

@@ -4,7 +4,7 @@
 ghost use Rattle.std.specs.Prelude.{IfOk, IfErr};
 ghost use Rattle.xs_tree.specs.ModelTree.{model_tree};
 ghost use Rattle.xs_text_laws.specs.Given.{IsPrintable, BytesGive};
-ghost use Rattle.xs_report.specs.Told.{told_trace};
+ghost use Rattle.xs_tree.specs.Told.{told_trace};
 ghost use Rattle.xs_report.specs.Faults.{IsFaultOf};
 ghost use Rattle.xs_report.specs.Reading.{ended, IsFinished, IsUnfinished};
 ghost use Rattle.xs_text_laws.specs.Given.{HasItsSymbols};

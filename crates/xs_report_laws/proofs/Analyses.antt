@@ -1,8 +1,8 @@
 -- An answer for the flat model of an extension is an analysis of the extension.
-use Rattle.std.proofs.Common.{◌≡◌, ◌↔◌, ℕ, zero, suc, Bool, true, List, [], ◌∷◌, map, length, Some, refl, sym, ap, ◌∙◌, subst}
+use Rattle.std.proofs.Common.{◌≡◌, ◌↔◌, ℕ, zero, suc, Bool, true, List, [], ◌∷◌, map, length, Some, sym, ap, ◌∙◌, subst}
 use Rattle.std.specs.Prelude.{slice_get}
 use Rattle.xs_tree.specs.Tree.{Tree}
-use Rattle.xs_tree.specs.ProgramTree.{Text, Formula, ProgramTree}
+use Rattle.xs_tree.specs.ProgramTree.{Formula, ProgramTree}
 use Rattle.xs_tree.specs.Values.{Value}
 use Rattle.xs_tree.specs.Flat.{FlatLeaf, FlatModel}
 use Rattle.xs_flat_laws.specs.History.{Mode}
@@ -28,6 +28,7 @@ use Rattle.xs_cuts.proofs.SearchLemmas.{sets_same}
 use Rattle.xs_report_laws.specs.Answered.{ending_of, analysis_of, EndsBy}
 use Rattle.xs_report_laws.specs.Laws.{AnswersAreAnalyses}
 use Rattle.xs_right_laws.proofs.Places.{both_long}
+use Rattle.xs_cuts.proofs.TraceLaws.{traces_same}
 
 -- two lists whose members are related, by place
 both_at : {A B : Type 0} (R : A → B → Type 0) (xs : List A) (ys : List B) (k : ℕ) (x : A) (y : B) → AreBoth R xs ys → slice_get xs k ≡ Some x → slice_get ys k ≡ Some y → R x y
@@ -38,11 +39,6 @@ both_at {A = A} {B = B} R (a ∷ xs) (b ∷ ys) zero x y h e g = subst (R x) (sa
     same : {X : Type 0} (a x : X) → Some a ≡ Some x → a ≡ x
     same a x e = cc
 both_at R (a ∷ xs) (b ∷ ys) (suc k) x y h e g = both_at R xs ys k x y h.1 e g
-
--- the traces, as values are read
-traces_same : (symbols : List Text) (found : List CodeFound) → map (trace_of symbols) (traces_of found) ≡ traces_of (all_found symbols found)
-traces_same symbols [] = refl
-traces_same symbols (f ∷ fs) = ap (λ more. trace_of symbols f.trace ∷ more) (traces_same symbols fs)
 
 module _ (p : ProgramTree) (i : InstructionTree) (faults : List Fault) (top : Formula) (m : FlatModel) (fs : List Mode) (flat_top : Tree FlatLeaf) (model : IsExtensionModel p i faults top m fs flat_top) where
   -- each found trace is cut to an extended one

@@ -9,11 +9,13 @@ use Rattle.xs_weave.specs.Extended.{Moment, IsExtended, Reaches}
 use Rattle.xs_right_laws.specs.Sets.{is_contained}
 use Rattle.xs_right_laws.specs.Right.{Shows, HasFailedAll}
 use Rattle.xs_certificate_laws.specs.ExtendedTraces.{IsRightExtended, HasFailedFault}
-use Rattle.xs_encode_laws.proofs.SetLaws.{either_of, or_cases, none_contained, split_member, has_contains, contains_has, contained_has, contained_from}
+use Rattle.xs_encode_laws.proofs.SetLaws.{either_of, has_contains, contains_has, contained_has, contained_from}
 use Rattle.xs_report_laws.specs.ExtendedTraces.{Ending, complete, bounded, IsOfClass, Analysis}
 use Rattle.xs_fmea.specs.Tables.{yes, absent_entry}
 use Rattle.xs_report_laws.specs.Tables.{Suffices, IsEntry, EntriesAreRight}
 use Rattle.xs_cut_laws.proofs.Chains.{no_place}
+use Rattle.xs_tree.proofs.BoolLaws.{or_cases}
+use Rattle.xs_tree.proofs.ListLaws.{none_contained, contains_cases}
 
 record Within (row : List ℕ) (sets : List (List ℕ)) : Type 0 where
   place : ℕ
@@ -41,7 +43,7 @@ at_place (x' ∷ xs) (y ∷ ys) (suc k) x e h = at_place xs ys k x e (omega (ari
 none_within : (row set : List ℕ) (sets : List (List ℕ)) → list_any (λ s. is_contained s row) sets ≡ false → Contains sets set → is_contained set row ≡ true → ⊥
 none_within row set [] h m e = none_contained set m
 none_within row set (s ∷ ss) h m e =
-    either_of (λ same. first (is_contained s row) (list_any (λ t. is_contained t row) ss) h (subst (λ t. is_contained t row ≡ true) (sym same) e)) (λ more. none_within row set ss (rest (is_contained s row) (list_any (λ t. is_contained t row) ss) h) more e) (split_member set s ss m)
+    either_of (λ same. first (is_contained s row) (list_any (λ t. is_contained t row) ss) h (subst (λ t. is_contained t row ≡ true) (sym same) e)) (λ more. none_within row set ss (rest (is_contained s row) (list_any (λ t. is_contained t row) ss) h) more e) (contains_cases set s ss m)
   where
     first : (a b : Bool) → (a || b) ≡ false → a ≡ true → ⊥
     first true b f g = cc

@@ -1,6 +1,6 @@
 -- An accepted program has few variables, and so few bits of inputs.
 use Rattle.std.proofs.Common.{◌≡◌, ℕ, ◌+◌, ◌*◌, ◌^◌, ◌≤◌, List, [], ◌∷◌, ◌++◌, length, Option, Some, None, ℤ, pos, negsuc, refl, sym, ap, ◌∙◌, subst, arith, ⊎_elim}
-use Rattle.std.specs.Prelude.{flat_map, map, sum_by}
+use Rattle.std.specs.Prelude.{map, sum_by}
 use Rattle.std.proofs.lemmas.List.{length-append, append_assoc, append-nil}
 use Rattle.std.proofs.lemmas.List.Sums.{sum_by-cons}
 use Rattle.xs_tree.specs.ProgramTree.{Text, DeclaredTree, boolean, range, members, instance, ProgramTree}
@@ -17,19 +17,12 @@ use Rattle.xs_type_laws.specs.Intervals.{Interval}
 use Rattle.xs_type_laws.specs.Judged.{hull_of}
 use Rattle.xs_type_laws.specs.Costs.{digits_above, width_of, width_in, declared_width, number_kind, member_number}
 use Rattle.xs_encode_laws.specs.Layout.{width_as_input, input_width, input_bits}
-use Rattle.xs_type_laws.proofs.ClosedLaws.{same_length as both_long}
 use Rattle.xs_encode_laws.proofs.SizeLists.{digits_most}
 use Rattle.std.proofs.lemmas.Bool.{cases_lt}
+use Rattle.xs_flat_laws.proofs.VariableCounts.{variables_and}
+use Rattle.xs_flat_laws.proofs.BothLaws.{both_size}
 
 -- ---- variables
-
-more_before : (vs : List Visit) (v : Visit) → variables_before (vs ++ v ∷ []) ≡ variables_before vs + length (variable_declared v v.decl.what)
-more_before [] v = let same = ap length (append-nil (variable_declared v v.decl.what)) in omega (arith, same)
-more_before (w ∷ vs) v =
-    let one = length-append (variable_declared w w.decl.what) (flat_map (λ x. variable_declared x x.decl.what) (vs ++ v ∷ [])) in
-    let two = length-append (variable_declared w w.decl.what) (flat_map (λ x. variable_declared x x.decl.what) vs) in
-    let rest = more_before vs v in
-    omega (arith, one, two, rest)
 
 below_limit : (n one : ℕ) → (2000 ≤ n → ⊥) → one ≤ 1 → n + one ≤ 2000
 below_limit n one none h = ⊎_elim (λ less. omega (arith, less, h)) (λ more. absurd (none more)) (cases_lt n 2000)
@@ -45,13 +38,13 @@ module _ (p : ProgramTree) where
   few_after : (before vs : List Visit) → Each (IsKept p) (visit_sites before vs) → variables_before before ≤ 2000 → variables_before (before ++ vs) ≤ 2000
   few_after before [] kept h = subst (λ xs. variables_before xs ≤ 2000) (sym (append-nil before)) h
   few_after before (v ∷ vs) kept h =
-      let here : variables_before (before ++ v ∷ []) ≤ 2000 = subst (λ n. n ≤ 2000) (sym (more_before before v)) (room_for before v v.decl.what refl kept.0 h) in
+      let here : variables_before (before ++ v ∷ []) ≤ 2000 = subst (λ n. n ≤ 2000) (sym (variables_and before v)) (room_for before v v.decl.what refl kept.0 h) in
       subst (λ xs. variables_before xs ≤ 2000) (append_assoc before (v ∷ []) vs) (few_after (before ++ v ∷ []) vs kept.1 here)
 
 few_variables : (p : ProgramTree) (m : FlatModel) → IsAccepted p → IsFlatOf p m → length m.variables ≤ 2000
 few_variables p m accepted is =
     let few = few_after p [] (visits p) (accepted_walkable p accepted).visits (omega arith) in
-    let same = both_long (IsVariableOf m) (variables_of p) m.variables is.variables in
+    let same = both_size (IsVariableOf m) (variables_of p) m.variables is.variables in
     omega (arith, few, same)
 
 -- ---- bits

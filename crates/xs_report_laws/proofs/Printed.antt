@@ -5,12 +5,13 @@ use Rattle.xs_tree.specs.ProgramTree.{Text}
 use Rattle.xs_tree.specs.Values.{symbol}
 use Rattle.xs_value.specs.declared.value.Value.{Value}
 use Rattle.xs_value.specs.declared.value.Value.TheVariants.{Bool as ABool, Num, Sym}
-use Rattle.xs_report.specs.Told.{text_at, told_value, told_moment, told_trace}
+use Rattle.xs_tree.specs.Told.{told_value, told_moment, told_trace}
 use Rattle.xs_report.specs.Analysed.{told_traces}
 use Rattle.xs_cuts.specs.Values.{value_of, values_of, trace_of}
 use Rattle.xs_report_laws.specs.Laws.{AnswersArePrinted}
+use Rattle.xs_tree.specs.Texts.{text_or_none}
 
-pub same_text_at : (xs : List Text) (i : ℕ) → text_at (slice_get xs i) ≡ slice_index_or xs i []
+pub same_text_at : (xs : List Text) (i : ℕ) → text_or_none (slice_get xs i) ≡ slice_index_or xs i []
 same_text_at [] i = refl
 same_text_at (x ∷ xs) zero = refl
 same_text_at (x ∷ xs) (suc i) = same_text_at xs i

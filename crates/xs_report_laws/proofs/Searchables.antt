@@ -4,11 +4,10 @@ use Rattle.std.specs.Prelude.{slice_get}
 use Rattle.xs_tree.specs.Tree.{Tree}
 use Rattle.xs_tree.specs.ProgramTree.{Text, Formula, DeclaredTree, boolean, range, members, instance, ProgramTree}
 use Rattle.xs_tree.specs.Scope.{Place, Role, state, a_variable, kind_in}
-use Rattle.xs_tree.specs.Trace.{Each, IsVariable}
+use Rattle.xs_tree.specs.Trace.{Each, IsVariable, EachBoth}
 use Rattle.xs_tree.specs.WritableProgram.{IsWritableType}
 use Rattle.xs_tree.specs.Flat.{FlatLeaf, FlatVariable, FlatModel}
 use Rattle.xs_flat_laws.specs.History.{Mode}
-use Rattle.xs_flat_laws.specs.Model.{EachBoth}
 use Rattle.xs_fei.specs.Instructions.{InstructionTree, slices_of}
 use Rattle.xs_fei.specs.AddedNames.{mode_variable}
 use Rattle.xs_weave.specs.Faults.{Fault}

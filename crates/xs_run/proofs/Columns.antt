@@ -22,12 +22,10 @@ use Rattle.xs_loading.specs.Loaded.{case_of}
 use Rattle.xs_loading.specs.Cases.{whole_of, Case, HoldsCase, HoldsTops}
 use Rattle.xs_run.specs.Tables.{IsExtensible, IsEventOf, IsColumn, AreColumns, AreFound, HasTabulated, TabulatesInPart, MeansColumn, IsTabulated, table_of, after_column, ended_with_all}
 use Rattle.xs_run.proofs.TopEvents.{counts_in_case, event_found}
-use Rattle.xs_flat_laws.specs.Model.{EachBoth}
-use Rattle.xs_tree.specs.ModelTree.{model_tree}
+use Rattle.xs_tree.specs.ModelTree.{model_tree, name_of_fault}
 use Rattle.xs_type_laws.specs.Costs.{state_bits}
 use Rattle.xs_extend.specs.WovenFaults.{fault_tree}
 use Rattle.xs_report.specs.FaultText as lines
-use Rattle.xs_report.specs.FaultText.{name_of}
 use Rattle.xs_fmea.specs.Columns.{AreTold, NamesFaults, IsTableOf}
 use Rattle.xs_text_laws.specs.Analysis.{told_ending}
 use Rattle.xs_fmea.specs.declared.columns.FmeaTable.{FmeaTable}
@@ -43,6 +41,7 @@ use Rattle.xs_loading.proofs.ListedLaws.{are_listed, named_lines}
 use Rattle.xs_run.proofs.TableLemmas.{both_over, both_back}
 use Rattle.xs_case_search.specs.Found.{IsFound}
 use Rattle.xs_case_search.proofs.Places.{all_by_place}
+use Rattle.xs_tree.specs.Trace.{EachBoth}
 
 -- the sets of an analysis name the case's faults
 pub names_faults : (c : Case) (e : Formula) (size depth : ℕ) (a : Analysis) → IsFound c e size depth a → All (All (λ i. (0 < i) × (i ≤ length c.faults))) a.sets
@@ -105,11 +104,11 @@ module _ (p : ProgramTree) (l : LoadedCase) (is : IsExtensible p l) (len count :
   pub named_in_case : (columns : List Column) → All (NamesFaults (length (case_of p l).faults)) columns → All (NamesFaults count) columns
   named_in_case columns named = subst (λ n. All (NamesFaults n) columns) (sym counts_as) named
 
-  lines_in_case : lines.faults_text (map name_of l.limited.faults) ≡ faults_text (map fault_tree l.limited.woven.faults)
+  lines_in_case : lines.faults_text (map name_of_fault l.limited.faults) ≡ faults_text (map fault_tree l.limited.woven.faults)
   lines_in_case = named_lines l.limited.woven.faults l.limited.faults (are_listed l.limited.typed.model l.limited.woven.faults l.limited.faults is.loaded.numbered)
 
   pub text_in_case : (size bits : ℕ) (front shown : Text) (columns : List Column) (t : FmeaTable) (text : Text) → bits ≡ state_bits (model_tree l.limited.full.model) →
-      front ≡ lines.faults_text (map name_of l.limited.faults) → shown ≡ front → ((found : List Analysis) → AreTold found columns → IsTableOf count size found t) →
+      front ≡ lines.faults_text (map name_of_fault l.limited.faults) → shown ≡ front → ((found : List Analysis) → AreTold found columns → IsTableOf count size found t) →
       ((faults most : ℕ) (found : List Analysis) → IsTableOf faults most found t → text ≡ table_text shown bits faults most found) →
       (found : List Analysis) → AreTold found columns → text ≡ table_of (case_of p l) size found
   text_in_case size bits front shown columns t text counts printed same made told found are =

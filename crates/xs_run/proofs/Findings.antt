@@ -6,7 +6,7 @@ use Rattle.xs_tree.specs.Tree.{Tree}
 use Rattle.xs_tree.specs.ProgramTree.{Text, Formula, ProgramTree}
 use Rattle.xs_tree.specs.Values.{Value}
 use Rattle.xs_type_laws.specs.Costs.{state_bits}
-use Rattle.xs_tree.specs.ModelTree.{model_tree}
+use Rattle.xs_tree.specs.ModelTree.{model_tree, name_of_fault}
 use Rattle.xs_flat_laws.specs.FaultModes.{mode_of}
 use Rattle.xs_tree.specs.Flat.{FlatLeaf}
 use Rattle.xs_encode_laws.specs.Bits.{state_of, inputs_of}
@@ -14,8 +14,7 @@ use Rattle.xs_encode_laws.specs.Lists.{system_of}
 use Rattle.xs_cut_laws.specs.Searchable.{IsSearchable}
 use Rattle.xs_extend.specs.WovenFaults.{fault_tree}
 use Rattle.xs_report.specs.FaultText as lines
-use Rattle.xs_report.specs.FaultText.{name_of}
-use Rattle.xs_report.specs.Told.{told_trace}
+use Rattle.xs_tree.specs.Told.{told_trace}
 use Rattle.xs_report.specs.Analysed.{told_analysis}
 use Rattle.xs_text_laws.specs.Analysis.{told_ending}
 use Rattle.xs_value.specs.declared.ending.Ending.{Ending as Printed}
@@ -80,12 +79,12 @@ module _ (p : ProgramTree) (l : LoadedCase) (word : Text) (tree : Tree FlatLeaf)
   abbrev symbols : List Text
   symbols = l.limited.typed.model.symbols
 
-  fault_lines_are : lines.faults_text (map name_of l.limited.faults) ≡ faults_text (map fault_tree l.limited.woven.faults)
+  fault_lines_are : lines.faults_text (map name_of_fault l.limited.faults) ≡ faults_text (map fault_tree l.limited.woven.faults)
   fault_lines_are = named_lines l.limited.woven.faults l.limited.faults (are_listed l.limited.typed.model l.limited.woven.faults l.limited.faults is.loaded.numbered)
 
   -- the report of what was found is that of the analysis
   report_is : (size : ℕ) (a : Searched) (ending : Printed) → a.size ≡ size → told_ending ending ≡ ending_of a.end →
-      analysis_text (lines.faults_text (map name_of l.limited.faults)) the_case.flat (state_bits (model_tree l.limited.full.model)) (length l.limited.faults) a.size
+      analysis_text (lines.faults_text (map name_of_fault l.limited.faults)) the_case.flat (state_bits (model_tree l.limited.full.model)) (length l.limited.faults) a.size
       (told_analysis symbols a.sets a.traces a.first ending)
       ≡ report_of the_case size (analysis_of symbols a)
   report_is size a ending sizes told = λ j.
@@ -94,7 +93,7 @@ module _ (p : ProgramTree) (l : LoadedCase) (word : Text) (tree : Tree FlatLeaf)
   pub finding : (depth size : ℕ) (a : Searched) (cert : Option (List ℕ)) (report : Text) (ending : Printed) →
       IsAnswer the_case.flat the_case.modes tree (system_of (whole_of the_case)) (state_of (whole_of the_case)) (inputs_of (whole_of the_case)) depth size a →
       HasCertificate the_case.flat the_case.modes tree symbols a a.end cert → told_ending ending ≡ ending_of a.end →
-      report ≡ analysis_text (lines.faults_text (map name_of l.limited.faults)) the_case.flat (state_bits (model_tree l.limited.full.model)) (length l.limited.faults) a.size
+      report ≡ analysis_text (lines.faults_text (map name_of_fault l.limited.faults)) the_case.flat (state_bits (model_tree l.limited.full.model)) (length l.limited.faults) a.size
       (told_analysis symbols a.sets a.traces a.first ending) →
       IsFinding the_case word depth size (record { cert = cert; report = report; ending = ending })
   finding depth size a cert report ending answer has told printed =
@@ -132,9 +131,9 @@ module _ (p : ProgramTree) (l : LoadedCase) (word : Text) (tree : Tree FlatLeaf)
     pub case_found : (depth bits : ℕ) (a : Searched) (cert : Option (List ℕ)) (report : Text) (ending : Printed) →
         IsAnswer the_case.flat the_case.modes tree (system_of (whole_of the_case)) (state_of (whole_of the_case)) (inputs_of (whole_of the_case)) depth size a →
         HasCertificate the_case.flat the_case.modes tree symbols a a.end cert → told_ending ending ≡ ending_of a.end → bits ≡ state_bits (model_tree l.limited.full.model) →
-        report ≡ analysis_text (lines.faults_text (map name_of l.limited.faults)) the_case.flat bits (length l.limited.faults) a.size (told_analysis symbols a.sets a.traces a.first ending) →
+        report ≡ analysis_text (lines.faults_text (map name_of_fault l.limited.faults)) the_case.flat bits (length l.limited.faults) a.size (told_analysis symbols a.sets a.traces a.first ending) →
         IsFinding the_case word depth (size_for given (length the_case.faults)) (record { cert = cert; report = report; ending = ending })
     case_found depth bits a cert report ending answer has told counts printed =
         finding depth (size_for given (length the_case.faults)) a cert report ending
         (subst (λ n. IsAnswer the_case.flat the_case.modes tree (system_of (whole_of the_case)) (state_of (whole_of the_case)) (inputs_of (whole_of the_case)) depth n a) size_is answer) has told
-        (printed ∙ ap (λ b. analysis_text (lines.faults_text (map name_of l.limited.faults)) the_case.flat b (length l.limited.faults) a.size (told_analysis symbols a.sets a.traces a.first ending)) counts)
+        (printed ∙ ap (λ b. analysis_text (lines.faults_text (map name_of_fault l.limited.faults)) the_case.flat b (length l.limited.faults) a.size (told_analysis symbols a.sets a.traces a.first ending)) counts)

@@ -54,12 +54,14 @@ use Rattle.xs_loading.specs.declared.wrong.Wrong.{Wrong}
 use Rattle.xs_loading.specs.declared.wrong.Wrong.TheVariants as wrong
 use Rattle.xs_loading.specs.Wrongs.{parse_wrong, cause_wrong, weave_wrong, IfRefused}
 use Rattle.xs_loading.specs.Models.{IsModelText, IsLawful, IsWrongModel, not_read, not_flat, not_typed}
-use Rattle.xs_loading.specs.Wholes.{IsModeOf, PassesLimit, by_number, by_size}
-use Rattle.xs_loading.specs.Inputs.{modules_named, AreTaken, IsWrongFaults, not_spelled, not_woven, past_limit}
+use Rattle.xs_loading.specs.Wholes.{PassesLimit, by_number, by_size}
+use Rattle.xs_loading.specs.Inputs.{AreTaken, IsWrongFaults, not_spelled, not_woven, past_limit}
 use Rattle.xs_loading.specs.Cases.{IsWrongTop, by_names, by_kinds, IsWrongWord, too_long, not_spelled as no_word, not_kept}
 use Rattle.xs_run.specs.Made.{IsOfGenerator, IsGeneratedText}
 use Rattle.xs_loading.proofs.LimitLaws.{of_program, slice_modes, are_woven}
-use Rattle.xs_generate_laws.proofs.Typed.{both_long}
+use Rattle.xs_flat_laws.proofs.BothLaws.{both_long}
+use Rattle.xs_certificate_laws.specs.ExtendedTraces.{IsModeOfFault}
+use Rattle.xs_flat_laws.specs.Items.{modules_of_instances}
 
 -- want of memory refuses nothing
 want_refuses_none : (f : ParseFault) (a : InputFault) → f ≡ parse.OutOfMemory → wrong.Refused a ≡ parse_wrong f → ⊥
@@ -108,7 +110,7 @@ module _ (number stages : ℕ) (few : stages ≤ 64) where
           let bad : Path (Option KindRule) None (Some r) = sym (generated_top_typed number stages lawful_size m has.is tree resolved) ∙ told in cc
 
   module _ (m : FlatModel) (lawful : IsLawful p m) where
-    keeps_rules : KeepsRules p generated_instructions (modules_named p)
+    keeps_rules : KeepsRules p generated_instructions (modules_of_instances p)
     keeps_rules = record { items = generated_items_kept number stages lawful_size; counts = generated_faults_few number stages (omega (arith, few)) }
 
     -- an extension passes no limit
@@ -132,14 +134,14 @@ module _ (number stages : ℕ) (few : stages ≤ 64) where
         small : is_too_large (with_history is.flat is.modes) ≡ false
         small =
             generated_small number stages (omega (arith, few)) is.flat is.model.is is.modes
-            (omega (arith, both_long (IsModeOf is.flat) faults is.modes is.are_modes, generated_faults_are_stages number stages lawful_size faults has))
+            (omega (arith, both_long (IsModeOfFault is.flat) faults is.modes is.are_modes, generated_faults_are_stages number stages lawful_size faults has))
 
     -- nor with the text of the instructions
     instructions_not_wrong : (a : InputFault) → IsWrongFaults p (instructions_text generated_instructions) a → ⊥
     instructions_not_wrong a (not_spelled f h e) = want_refuses_none f a (instruction_text_is_read f h) e
     instructions_not_wrong a (not_woven i n f text is told e) =
         let same : i ≡ generated_instructions = text.only generated_instructions (instructions_spell generated_instructions instructions_writable) in
-        none_told p n generated_instructions (modules_named p) f lawful.accepted is keeps_rules (generated_uses_kept p n) (subst (λ j. IsTold p n j (modules_named p) f) same told)
+        none_told p n generated_instructions (modules_of_instances p) f lawful.accepted is keeps_rules (generated_uses_kept p n) (subst (λ j. IsTold p n j (modules_of_instances p) f) same told)
         (λ want. weave_want_refuses_none f a want e)
     instructions_not_wrong a (past_limit i faults text taken has passes) =
         let same : i ≡ generated_instructions = text.only generated_instructions (instructions_spell generated_instructions instructions_writable) in

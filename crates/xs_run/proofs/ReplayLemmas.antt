@@ -11,12 +11,11 @@ use Rattle.xs_tree.specs.ModelTree.{model_tree}
 use Rattle.xs_flat_laws.specs.FaultModes.{mode_of}
 use Rattle.xs_tree.specs.Flat.{FlatLeaf, FlatModel}
 use Rattle.xs_flat_laws.specs.FlatTrace.{stands_in_some}
-use Rattle.xs_eval.specs.Named.{named_all, named_trace}
 use Rattle.xs_eval.specs.Replayed.{IsReaching}
 use Rattle.xs_eval.specs.Stops.{Stops}
 use Rattle.xs_extend.specs.WovenFaults.{fault_tree}
 use Rattle.xs_extend.specs.NumberedFaults.{AreNumbered}
-use Rattle.xs_report.specs.Told.{told_trace}
+use Rattle.xs_tree.specs.Told.{told_trace, told_moment}
 use Rattle.xs_report.specs.Faults.{IsFaultOf}
 use Rattle.xs_report.specs.declared.fault.TraceFault as read
 use Rattle.xs_report.specs.declared.fault.TraceFault.TheVariants as fault
@@ -36,7 +35,6 @@ use Rattle.xs_run.specs.Replays.{text_fault, stop_at_text, RefusesTrace, trace_f
 use Rattle.xs_run.specs.Runs.{refuses, says, TraceComesTo, refuses_trace, refuses_moment, is_reached}
 use Rattle.xs_run.proofs.FailedLaws.{said_of_replay}
 use Rattle.xs_loading.proofs.LoadedLaws.{same_counts}
-use Rattle.xs_check.proofs.TraceLaws.{trace_is_told}
 
 -- The file of a trace.
 pub refuses_trace_file : (told : Option (List NamedFile)) (name : Text) (m : FlatModel) (r : Refusal) (a : InputFault) → r ≡ refusal.NotAccepted (objection.Trace a) →
@@ -76,36 +74,32 @@ module _ (told : Option (List NamedFile)) (p : ProgramTree) (l : LoadedCase) (tr
       at_told (Some files) bad = refuses_trace r bad
 
   module _ (trace : List (List Numbered)) (holds : IfSome told (λ files. HoldsTrace files name (model_tree l.limited.typed.model) (told_trace l.limited.typed.model.symbols trace))) where
-    held : (t : Option (List NamedFile)) → IfSome t (λ files. HoldsTrace files name (model_tree l.limited.typed.model) (told_trace l.limited.typed.model.symbols trace)) →
-        IfSome t (λ files. HoldsTrace files name (model_tree l.limited.typed.model) (named_trace l.limited.typed.model.symbols trace))
-    held t h = subst (λ u. IfSome t (λ files. HoldsTrace files name (model_tree l.limited.typed.model) u)) (sym (trace_is_told l.limited.typed.model.symbols trace)) h
-
-    pub moment_refused : (r : Refusal) → RefusesMoment (model_tree l.limited.typed.model) tree (named_trace l.limited.typed.model.symbols trace) r →
+    pub moment_refused : (r : Refusal) → RefusesMoment (model_tree l.limited.typed.model) tree (told_trace l.limited.typed.model.symbols trace) r →
         IfSome told (λ files. TraceComesTo files (case_of p l) tree name (refuses r))
-    moment_refused r bad = at_told told (held told holds)
+    moment_refused r bad = at_told told holds
       where
-        at_told : (t : Option (List NamedFile)) → IfSome t (λ files. HoldsTrace files name (model_tree l.limited.typed.model) (named_trace l.limited.typed.model.symbols trace)) →
+        at_told : (t : Option (List NamedFile)) → IfSome t (λ files. HoldsTrace files name (model_tree l.limited.typed.model) (told_trace l.limited.typed.model.symbols trace)) →
             IfSome t (λ files. TraceComesTo files (case_of p l) tree name (refuses r))
         at_told None h = tt
-        at_told (Some files) h = refuses_moment (named_trace l.limited.typed.model.symbols trace) r h bad
+        at_told (Some files) h = refuses_moment (told_trace l.limited.typed.model.symbols trace) r h bad
 
     pub trace_reaches : (text : Text) → AreNumbered l.limited.typed.model l.limited.woven.faults l.limited.faults →
-        IsReaching (model_tree l.limited.typed.model) tree (named_trace l.limited.typed.model.symbols trace) →
-        text ≡ codes "reaches\nfailed" ++ (names_where (λ f. stands_in_some (model_tree l.limited.typed.model) f (named_trace l.limited.typed.model.symbols trace)) (map fault_tree l.limited.woven.faults) (map mode_of l.limited.faults) ++ codes "\n") →
+        IsReaching (model_tree l.limited.typed.model) tree (told_trace l.limited.typed.model.symbols trace) →
+        text ≡ codes "reaches\nfailed" ++ (names_where (λ f. stands_in_some (model_tree l.limited.typed.model) f (told_trace l.limited.typed.model.symbols trace)) (map fault_tree l.limited.woven.faults) (map mode_of l.limited.faults) ++ codes "\n") →
         IfSome told (λ files. TraceComesTo files (case_of p l) tree name (says text))
-    trace_reaches text numbered reaching is = at_told told (held told holds)
+    trace_reaches text numbered reaching is = at_told told holds
       where
         counts : length (map fault_tree l.limited.woven.faults) ≡ length (map mode_of l.limited.faults)
         counts = length-map l.limited.woven.faults fault_tree ∙ same_counts l.limited.typed.model l.limited.woven.faults l.limited.faults numbered ∙ sym (length-map l.limited.faults mode_of)
 
-        whole : text ≡ replay_text (case_of p l) (named_trace l.limited.typed.model.symbols trace)
-        whole = is ∙ said_of_replay (case_of p l) (named_trace l.limited.typed.model.symbols trace) counts
+        whole : text ≡ replay_text (case_of p l) (told_trace l.limited.typed.model.symbols trace)
+        whole = is ∙ said_of_replay (case_of p l) (told_trace l.limited.typed.model.symbols trace) counts
 
-        at_told : (t : Option (List NamedFile)) → IfSome t (λ files. HoldsTrace files name (model_tree l.limited.typed.model) (named_trace l.limited.typed.model.symbols trace)) →
+        at_told : (t : Option (List NamedFile)) → IfSome t (λ files. HoldsTrace files name (model_tree l.limited.typed.model) (told_trace l.limited.typed.model.symbols trace)) →
             IfSome t (λ files. TraceComesTo files (case_of p l) tree name (says text))
         at_told None h = tt
         at_told (Some files) h =
-            subst (λ said. TraceComesTo files (case_of p l) tree name (says said)) (sym whole) (is_reached (named_trace l.limited.typed.model.symbols trace) h reaching)
+            subst (λ said. TraceComesTo files (case_of p l) tree name (says said)) (sym whole) (is_reached (told_trace l.limited.typed.model.symbols trace) h reaching)
 
 -- A moment that is not accepted.
 pub moment_told : (m : FlatModel) (top : Tree FlatLeaf) (trace : List (List Value)) (i : ℕ) (w : Why) (r : Refusal) → stop.Refused r ≡ stop.Refused (refusal.NotAccepted (objection.Moment i w)) →
@@ -113,5 +107,5 @@ pub moment_told : (m : FlatModel) (top : Tree FlatLeaf) (trace : List (List Valu
 moment_told m top trace i w r is stops = let same : r ≡ refusal.NotAccepted (objection.Moment i w) = cc in at_moment i w same stops
 
 -- so many moments, named or not
-pub as_many : (symbols : List Text) (trace : List (List Numbered)) → length (named_trace symbols trace) ≡ length trace
-as_many symbols trace = length-map trace (named_all symbols)
+pub as_many : (symbols : List Text) (trace : List (List Numbered)) → length (told_trace symbols trace) ≡ length trace
+as_many symbols trace = length-map trace (told_moment symbols)

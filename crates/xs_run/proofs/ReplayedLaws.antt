@@ -38,7 +38,6 @@ use Rattle.xs_run.specs.Replayed.{HoldsReaching, IsReplayed}
 use Rattle.xs_run.proofs.ExtensionLemmas.{never_done}
 use Rattle.xs_run.proofs.OneOutcome.{one_outcome}
 use Rattle.xs_loading.proofs.TopLaws.{have_models}
-use Rattle.xs_loading.proofs.LoadedLaws.{modes_of_faults}
 
 module _ (files : List NamedFile) (model faults : Text) (c : Case) (holds : HoldsCase files model faults c) (word : Text) (e : Formula) (event : IsTopWord c.program word e) where
   -- the event has an expression over the extension
@@ -53,7 +52,7 @@ module _ (files : List NamedFile) (model faults : Text) (c : Case) (holds : Hold
   extension_model tree resolved =
       let top = event.is_top in
       tops_of_extensions c.program top.flat c.instructions c.flat (have_models c holds.is_case holds.program.flat holds.program.lawful e top) holds.is_case.within.accepted c.faults c.modes
-      holds.is_case.are_faults (modes_of_faults c.flat c.faults c.modes holds.is_case.are_modes) e top.tree tree (record { before = top.resolved; after = resolved })
+      holds.is_case.are_faults holds.is_case.are_modes e top.tree tree (record { before = top.resolved; after = resolved })
 
   same_traces : (tree : Tree FlatLeaf) → IsTopTree c e tree →
       Correspond (List (List Value)) (List Moment) (IsFlatTrace c.flat) (ReachesTop c.flat tree) (HasFailedNumber c.flat c.modes) (IsExtended c.program c.instructions) (Reaches c.program e) (HasFailedFault c.faults)

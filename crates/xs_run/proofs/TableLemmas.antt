@@ -5,11 +5,10 @@ use Rattle.std.proofs.lemmas.Bool.{cases_lt}
 use Rattle.std.proofs.lemmas.List.{take_more, take_all}
 use Rattle.xs_desk.specs.declared.files.NamedFile.{NamedFile}
 use Rattle.xs_tree.specs.Tree.{Tree}
-use Rattle.xs_tree.specs.Trace.{Each}
+use Rattle.xs_tree.specs.Trace.{Each, EachBoth}
 use Rattle.xs_tree.specs.ProgramTree.{Text, Formula, ProgramTree}
 use Rattle.xs_extend.proofs.EachItem.{item_there}
 use Rattle.xs_tree.specs.Flat.{FlatLeaf}
-use Rattle.xs_flat_laws.specs.Model.{EachBoth}
 use Rattle.xs_flat_laws.proofs.Lists.{each_of_map}
 use Rattle.xs_loading.specs.declared.status.InputFault.{InputFault}
 use Rattle.xs_loading.specs.declared.status.Refusal.{Refusal}
@@ -24,6 +23,7 @@ use Rattle.xs_loading.specs.Tasks.{IsTopTree}
 use Rattle.xs_loading.specs.Tops.{stop_at_top}
 use Rattle.xs_run.specs.Tables.{IsEventOf, told_at, AreTopTexts, IsWrongTops, RefusesTops, tops_file, tops_bytes, RefusesTable, table_no_model, table_no_faults, table_no_tops}
 use Rattle.xs_loading.proofs.OneFaults.{same_given as same_item}
+use Rattle.xs_flat_laws.proofs.BothLaws.{both_push}
 
 -- what is wrong with an event is told at any place
 pub wrong_at : (p : ProgramTree) (e : Formula) (a : InputFault) (place : ℕ) → IsWrongTop p e 0 a → IsWrongTop p e place (record { part = a.part; number = a.number; place = place })
@@ -53,13 +53,6 @@ pub each_at : {A : Type 0} (P : A → Type 0) (xs : List A) (i : ℕ) (x : A) �
 each_at P [] i x h below here = absurd (omega (arith, below))
 each_at P (y ∷ xs) zero x h below here = subst P (sym here) h.0
 each_at P (y ∷ xs) (suc i) x h below here = each_at P xs i x h.1 (omega (arith, below)) here
-
--- pairs of two lists
-pub both_push : {A B : Type 0} (R : A → B → Type 0) (xs : List A) (ys : List B) (x : A) (y : B) → EachBoth R xs ys → R x y → EachBoth R (xs ++ x ∷ []) (ys ++ y ∷ [])
-both_push R [] [] x y h is = (is, tt)
-both_push R [] (b ∷ ys) x y h is = absurd h
-both_push R (a ∷ xs) [] x y h is = absurd h
-both_push R (a ∷ xs) (b ∷ ys) x y h is = (h.0, both_push R xs ys x y h.1 is)
 
 -- one pair more, where the first list is read place by place
 pub both_next : {A B : Type 0} (R : A → B → Type 0) (xs : List A) (ys more : List B) (i : ℕ) (x : A) (y : B) → i < length xs → x ≡ get_or xs i x → EachBoth R (take i xs) ys → R x y → more ≡ ys ++ y ∷ [] →

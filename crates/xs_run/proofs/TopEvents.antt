@@ -29,7 +29,7 @@ use Rattle.xs_loading.specs.Loaded.{case_of}
 use Rattle.xs_case_search.specs.Found.{EndsBy, IsFound}
 use Rattle.xs_run.specs.Tables.{IsExtensible, IsEventOf}
 use Rattle.xs_loading.proofs.FlatLimits.{flat_typed}
-use Rattle.xs_loading.proofs.LoadedLaws.{same_counts, modes_of_faults}
+use Rattle.xs_loading.proofs.LoadedLaws.{same_counts}
 use Rattle.xs_loading.proofs.TopLaws.{have_models}
 
 module _ (p : ProgramTree) (l : LoadedCase) (is : IsExtensible p l) where
@@ -53,7 +53,7 @@ module _ (p : ProgramTree) (l : LoadedCase) (is : IsExtensible p l) where
         let c : Case = case_is in
         let top = event.is_top in
         tops_of_extensions c.program top.flat c.instructions c.flat (have_models c is.loaded.is_case is.flat is.lawful e top) is.loaded.is_case.within.accepted c.faults c.modes
-        is.loaded.is_case.are_faults (modes_of_faults c.flat c.faults c.modes is.loaded.is_case.are_modes) e top.tree tree read_as
+        is.loaded.is_case.are_faults is.loaded.is_case.are_modes e top.tree tree read_as
 
     event_fits : IsTopOf (whole_of case_is) tree
     event_fits =

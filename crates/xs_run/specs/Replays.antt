@@ -1,14 +1,12 @@
 -- What the file of a trace comes to, and what a replay of it does.
-use Rattle.std.specs.Prelude.{◌≡◌, ℕ, ◌<◌, ◌^◌, ◌++◌, List, [], ◌∷◌, Bool, if◌then◌else◌, codes, length, map}
+use Rattle.std.specs.Prelude.{◌≡◌, ℕ, ◌++◌, List, [], ◌∷◌, Bool, if◌then◌else◌, codes, map}
 use Rattle.xs_desk.specs.declared.files.NamedFile.{NamedFile}
 use Rattle.xs_tree.specs.ProgramTree.{Text}
 use Rattle.xs_tree.specs.Tree.{Tree}
-use Rattle.xs_tree.specs.Trace.{Each}
 use Rattle.xs_tree.specs.Values.{Value}
 use Rattle.xs_value.specs.declared.value.Value.{Value as Numbered}
 use Rattle.xs_tree.specs.Flat.{FlatLeaf, FlatModel}
 use Rattle.xs_flat_laws.specs.History.{Mode}
-use Rattle.xs_eval.specs.Named.{IsLawful, named_trace}
 use Rattle.xs_eval.specs.Stops as stops
 use Rattle.xs_text_laws.specs.Given.{BytesGive}
 use Rattle.xs_text_laws.specs.Wrong.{TraceFault, wrong_line, missing_value, number_of, IsFirstFault}
@@ -33,6 +31,7 @@ use Rattle.xs_flat_laws.specs.FaultModes.{mode_of}
 use Rattle.xs_flat_laws.specs.FlatTrace.{stands_in_some}
 use Rattle.xs_extend.specs.declared.faults.WovenFault.{WovenFault}
 use Rattle.xs_extend.specs.WovenFaults.{fault_tree}
+use Rattle.xs_tree.specs.Told.{told_trace}
 
 -- what is wrong first with the text of a trace, as it is told: its number, and the line from 1, or the moment from 0
 abbrev pub text_fault : TraceFault → InputFault
@@ -50,12 +49,6 @@ pub record HoldsTrace (files : List NamedFile) (name : Text) (m : FlatModel) (tr
   pub bytes : List ℕ
   pub has : HasAtMost 16777216 files name bytes
   pub gives : BytesGive m bytes trace
-
--- moments by number that can be replayed: there are some, fewer than 2 ^ 32, and each has a value of its type for each variable
-pub record IsFitTrace (m : FlatModel) (trace : List (List Numbered)) : Type 0 where
-  pub some : 0 < length trace
-  pub few : length trace < 2 ^ 32
-  pub lawful : Each (IsLawful m) trace
 
 -- the end of the work where this is wrong with the text of a trace, at a place
 abbrev pub read_wrong : ℕ → ℕ → Stop
@@ -89,4 +82,4 @@ names_where test (f ∷ faults) (mode ∷ modes) =
 
 -- the names of the faults that a trace of a model in memory has failed, each after a space
 abbrev pub failed_in : Model → List WovenFault → List Numbering → List (List Numbered) → Text
-failed_in m woven faults trace = names_where (λ f. stands_in_some (model_tree m) f (named_trace m.symbols trace)) (map fault_tree woven) (map mode_of faults)
+failed_in m woven faults trace = names_where (λ f. stands_in_some (model_tree m) f (told_trace m.symbols trace)) (map fault_tree woven) (map mode_of faults)

@@ -11,7 +11,6 @@ use Rattle.xs_expression_reader.specs.Stops.{FaultMeans}
 use Rattle.xs_expression_reader.specs.Lists.{IsExpressions, BytesSpellExpressions}
 use Rattle.xs_expression_reader.specs.Within.{HaveDepths, AreTooDeep}
 use Rattle.xs_tree.specs.Flat.{FlatLeaf, FlatModel}
-use Rattle.xs_flat_laws.specs.Model.{EachBoth}
 use Rattle.xs_tree.specs.ModelTree.{flat_tree}
 use Rattle.xs_fmea.specs.Tables.{table_text, rows_of, entry_of}
 use Rattle.xs_fmea.specs.Columns.{AreTold, NamesFaults}
@@ -37,6 +36,7 @@ use Rattle.xs_loading.specs.Tasks.{IsTopTree}
 use Rattle.xs_loading.specs.Loaded.{case_of, IsLoaded}
 use Rattle.xs_loading.specs.Answered.{Told, Said, faults_text, bits_of}
 use Rattle.xs_case_search.specs.Found.{IsFound}
+use Rattle.xs_tree.specs.Trace.{EachBoth}
 
 -- there are more than 64
 abbrev pub too_many_tops : InputFault

@@ -7,7 +7,7 @@ ghost use Rattle.xs_flat_laws.specs.FaultModes.{mode_of};
 ghost use Rattle.xs_flat_laws.specs.FlatTrace.{stands_in_some};
 ghost use Rattle.xs_type_laws.specs.Laws.{ReadsOwn};
 ghost use Rattle.xs_type_laws.specs.Models.{judged_in, broken_condition};
-ghost use Rattle.xs_eval.specs.Named.{named_trace, IsEvaluable};
+ghost use Rattle.xs_eval.specs.Named.{IsEvaluable};
 ghost use Rattle.xs_eval.specs.Replayed.{IsReaching};
 ghost use Rattle.xs_extend.specs.WovenFaults.{fault_tree};
 ghost use Rattle.xs_extend.specs.NumberedFaults.{IsNumbered, AreNumbered};
@@ -16,11 +16,12 @@ ghost use Rattle.xs_tree.specs.ProgramTree.{program_tree};
 ghost use Rattle.xs_loading.specs.Loaded.{case_of, IsLoaded};
 ghost use Rattle.xs_run.specs.Runs.{refuses, says, TraceComesTo};
 ghost use Rattle.xs_loading.specs.Reports.{name_text};
-ghost use Rattle.xs_run.specs.Replays.{IsFitTrace, RefusesMoment, failed_in};
+ghost use Rattle.xs_run.specs.Replays.{RefusesMoment, failed_in};
 ghost use Rattle.xs_loading.specs.declared.status.Refusal.{Refusal};
 ghost use Rattle.xs_loading.specs.declared.status.Refusal.TheVariants as refusal;
 ghost use Rattle.xs_loading.specs.declared.status.Objection.TheVariants as objection;
 ghost use Rattle.xs_loading.specs.declared.input.Stop.TheVariants as stop;
+ghost use Rattle.xs_check.specs.Moments.{CanBeReplayed};
 
 use crate::trace::load_trace;
 use std::alloc::Global;
@@ -36,6 +37,7 @@ use xs_tree::Expr;
 use xs_tree::model::{Fault, Flat};
 use xs_types::Typed;
 use xs_value::{ByteList, MomentList, OutOfMemory};
+ghost use Rattle.xs_tree.specs.Told.{told_trace};
 
 /// Judges the trace of a file over the extension, and makes what is to be said of it.
 pub(crate) fn replay_file<D: Desk>(
@@ -70,11 +72,11 @@ pub(crate) fn judge_trace(
     top: &Expr<Flat>,
 ) -> Result<(), Stop>
     requires model { IsEvaluable (model_tree typed.now.model) }
-    requires fit { IsFitTrace (model_tree typed.now.model) trace.now }
+    requires fit { CanBeReplayed (model_tree typed.now.model) trace.now }
     requires own { ReadsOwn (model_tree typed.now.model) (flat_tree top.now) }
     requires kept { broken_condition (judged_in (model_tree typed.now.model) false (flat_tree top.now)) ≡ [] }
-    ensures ok { OnOk result (IsReaching (model_tree typed.now.model) (flat_tree top.now) (named_trace typed.now.model.symbols trace.now)) }
-    ensures refused { (r : Refusal) → IsErrOf result (stop.Refused r) → RefusesMoment (model_tree typed.now.model) (flat_tree top.now) (named_trace typed.now.model.symbols trace.now) r }
+    ensures ok { OnOk result (IsReaching (model_tree typed.now.model) (flat_tree top.now) (told_trace typed.now.model.symbols trace.now)) }
+    ensures refused { (r : Refusal) → IsErrOf result (stop.Refused r) → RefusesMoment (model_tree typed.now.model) (flat_tree top.now) (told_trace typed.now.model.symbols trace.now) r }
     ensures desk { IsErrOf result stop.Desk → ⊥ }
 {
     let mut now = Table::for_model(alloc, typed)?;
@@ -102,7 +104,7 @@ pub(crate) fn replay_report(
     trace: &MomentList,
 ) -> Result<ByteList, OutOfMemory>
     requires model { IsEvaluable (model_tree case.now.limited.typed.model) }
-    requires fit { IsFitTrace (model_tree case.now.limited.typed.model) trace.now }
+    requires fit { CanBeReplayed (model_tree case.now.limited.typed.model) trace.now }
     requires numbered { AreNumbered case.now.limited.typed.model case.now.limited.woven.faults case.now.limited.faults }
     ensures { IfOk result (λ text. text ≡ codes "reaches\nfailed" ++ (failed_in case.now.limited.typed.model case.now.limited.woven.faults case.now.limited.faults trace.now ++ codes "\n")) }
 {
@@ -128,7 +130,7 @@ fn append_failed(
     trace: &MomentList,
 ) -> Result<(), OutOfMemory>
     requires model { IsEvaluable (model_tree typed.now.model) }
-    requires fit { IsFitTrace (model_tree typed.now.model) trace.now }
+    requires fit { CanBeReplayed (model_tree typed.now.model) trace.now }
     requires numbered { AreNumbered typed.now.model woven.now faults.now }
     requires length { length woven.now ≡ length faults.now }
     ensures { OnOk result (text.new ≡ text.old ++ failed_in typed.now.model woven.now faults.now trace.now) }
@@ -149,9 +151,9 @@ fn append_if_failed(
     trace: &MomentList,
 ) -> Result<(), OutOfMemory>
     requires model { IsEvaluable (model_tree typed.now.model) }
-    requires fit { IsFitTrace (model_tree typed.now.model) trace.now }
+    requires fit { CanBeReplayed (model_tree typed.now.model) trace.now }
     requires numbered { IsNumbered typed.now.model woven.now fault.now }
-    ensures { OnOk result (text.new ≡ text.old ++ (if stands_in_some (model_tree typed.now.model) (mode_of fault.now) (named_trace typed.now.model.symbols trace.now) then codes " " ++ name_text (fault_tree woven.now) else [])) }
+    ensures { OnOk result (text.new ≡ text.old ++ (if stands_in_some (model_tree typed.now.model) (mode_of fault.now) (told_trace typed.now.model.symbols trace.now) then codes " " ++ name_text (fault_tree woven.now) else [])) }
 {
     if has_failed(typed, fault, trace) {
         text.append(b" ")?;

@@ -6,7 +6,7 @@ ghost use Rattle.xs_tree.specs.ModelTree.{model_tree, flat_tree};
 ghost use Rattle.xs_flat_laws.specs.FaultModes.{mode_of};
 ghost use Rattle.xs_flat_laws.specs.History.{with_history};
 ghost use Rattle.xs_text_laws.specs.Analysis.{told_ending};
-ghost use Rattle.xs_report.specs.Told.{told_trace};
+ghost use Rattle.xs_tree.specs.Told.{told_trace};
 ghost use Rattle.xs_cuts.specs.declared.answer.End.TheVariants as ends;
 ghost use Rattle.xs_run.specs.Analyses.{ended_with};
 ghost use Rattle.xs_case_search.specs.Found.{IsCertificateFor};

@@ -6,13 +6,12 @@ ghost use Rattle.std.specs.Prelude.{◌≡◌, ◌≤◌, List, All, [], false, 
 ghost use Rattle.xs_desk.specs.Desk.{Rose};
 ghost use Rattle.xs_desk.specs.declared.desk.WriteStop.TheVariants as write_stop;
 ghost use Rattle.xs_tree.specs.ProgramTree.{Formula, program_tree};
-ghost use Rattle.xs_tree.specs.Trace.{Each};
+ghost use Rattle.xs_tree.specs.Trace.{Each, EachBoth};
 ghost use Rattle.xs_tree.specs.Written.{tree_of};
 ghost use Rattle.xs_tree.specs.ModelTree.{model_tree, flat_tree};
-ghost use Rattle.xs_flat_laws.specs.Model.{IsFlatOf, EachBoth};
+ghost use Rattle.xs_flat_laws.specs.Model.{IsFlatOf};
 ghost use Rattle.xs_flat_laws.specs.ResolvedAt.{IsResolvedAt};
 ghost use Rattle.xs_flat_laws.specs.Rules.{IsAccepted};
-ghost use Rattle.xs_woven_laws.specs.Tops.{KeepsValue};
 ghost use Rattle.xs_encode_laws.specs.Lists.{system_of};
 ghost use Rattle.xs_fmea.specs.Columns.{AreTold, NamesFaults};
 ghost use Rattle.xs_text_laws.specs.Analysis.{told_ending};
@@ -28,6 +27,7 @@ ghost use Rattle.xs_loading.specs.declared.status.Refusal.{Refusal};
 ghost use Rattle.xs_loading.specs.declared.status.Refusal.TheVariants as refusal;
 ghost use Rattle.xs_loading.specs.declared.input.Stop.TheVariants as stop;
 ghost use Rattle.xs_loading.specs.declared.wrong.Wrong.{Wrong};
+ghost use Rattle.xs_flat_laws.specs.ValueRules.{KeepsValue};
 
 use std::alloc::Global;
 use xs_adviser::Panel;

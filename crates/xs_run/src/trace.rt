@@ -4,15 +4,16 @@
 ghost use Rattle.std.specs.Prelude.{◌≡◌, ◌≤◌, length, IfOk, IfSome, IsErrOf};
 ghost use Rattle.xs_desk.specs.Desk.{Rose};
 ghost use Rattle.xs_tree.specs.ModelTree.{model_tree};
-ghost use Rattle.xs_report.specs.Told.{told_trace};
+ghost use Rattle.xs_tree.specs.Told.{told_trace};
 ghost use Rattle.xs_text_laws.specs.Given.{IsPrintable, HasItsSymbols};
 ghost use Rattle.xs_loading.specs.Tasks.{IsRefusedAbove, HasAtMost};
-ghost use Rattle.xs_run.specs.Replays.{RefusesTrace, HoldsTrace, IsFitTrace, stop_at_text};
+ghost use Rattle.xs_run.specs.Replays.{RefusesTrace, HoldsTrace, stop_at_text};
 ghost use Rattle.xs_loading.specs.declared.status.InputFault.{InputFault};
 ghost use Rattle.xs_loading.specs.declared.status.Refusal.{Refusal};
 ghost use Rattle.xs_loading.specs.declared.status.Refusal.TheVariants as refusal;
 ghost use Rattle.xs_loading.specs.declared.status.Objection.TheVariants as objection;
 ghost use Rattle.xs_loading.specs.declared.input.Stop.TheVariants as stop;
+ghost use Rattle.xs_check.specs.Moments.{CanBeReplayed};
 
 use std::alloc::Global;
 use xs_desk::{Desk, DeskFault, read_whole};
@@ -35,7 +36,7 @@ pub(crate) fn load_trace<D: Desk>(
     requires printable { IsPrintable (model_tree typed.now.model) }
     requires symbols { HasItsSymbols (model_tree typed.now.model) }
     ensures ok { IfOk result (λ trace. IfSome (D.files desk.old) (λ files. HoldsTrace files name.now (model_tree typed.now.model) (told_trace typed.now.model.symbols trace))) }
-    ensures fit { IfOk result (IsFitTrace (model_tree typed.now.model)) }
+    ensures fit { IfOk result (CanBeReplayed (model_tree typed.now.model)) }
     ensures refused { (r : Refusal) → IsErrOf result (stop.Refused r) → IfSome (D.files desk.old) (λ files. RefusesTrace files name.now (model_tree typed.now.model) r) }
     ensures failed { IsErrOf result stop.Desk → Rose (D.faults desk.old) (D.faults desk.new) }
     ensures files { D.files desk.new ≡ D.files desk.old }

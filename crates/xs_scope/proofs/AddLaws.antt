@@ -1,13 +1,12 @@
 -- An order that is laid by numbers is the order of keys that a program asks for.
-use Rattle.std.proofs.Common.{◌≡◌, ℕ, suc, ◌+◌, arith, Bool, true, false, ◌||◌, List, [], ◌∷◌, ◌++◌, length, map, Some, refl, ap, ◌∙◌, sym, subst, ◌⊎◌, inl, inr, eq-eqb}
+use Rattle.std.proofs.Common.{◌≡◌, ℕ, suc, ◌+◌, arith, Bool, true, false, ◌||◌, List, [], ◌∷◌, ◌++◌, length, map, Some, refl, ap, ◌∙◌, sym, subst, ◌⊎◌, inl, inr}
 use Rattle.std.proofs.lemmas.List.{map-append}
 use Rattle.std.specs.Prelude.{slice_get}
-use Rattle.xs_tree.proofs.ValueLaws.{same_text_refl}
 use Rattle.xs_tree.specs.ProgramTree.{ProgramTree}
-use Rattle.xs_tree.specs.Scope.{Key, define_key, actual_key}
+use Rattle.xs_tree.specs.Scope.{Key}
 use Rattle.xs_flat_laws.specs.Rules.{IsWalkable, expression_of}
 use Rattle.xs_flat_laws.specs.Model as model
-use Rattle.xs_flat_laws.specs.Model.{EachBoth, Adds, AddsAll, same_key, is_key_among}
+use Rattle.xs_flat_laws.specs.Model.{Adds, AddsAll, same_key, is_key_among}
 use Rattle.xs_scope.specs.NeedsTree.{keys_of, IsKeyAt, AreMeant}
 use Rattle.xs_scope.specs.Links.{Graph, Has}
 use Rattle.xs_scope.specs.Laying.{upto, upto_from, Lays, stands, comes, LaysAll, no_more, one_more}
@@ -15,12 +14,9 @@ use Rattle.xs_scope.proofs.LinkLaws.{has_either}
 use Rattle.xs_scope.proofs.KeyLaws.{key_at, key_is}
 use Rattle.xs_scope.proofs.RootLaws.{keys_once}
 use Rattle.xs_scope.proofs.NeedLaws.{IsLinked}
-use Rattle.xs_flat_laws.proofs.Numbered.{same_place_refl}
 use Rattle.xs_flat_laws.proofs.Listed.{key_equal as same_key_equal}
-
-pub same_key_refl : (k : Key) → same_key k k ≡ true
-same_key_refl (define_key at x) = rw (same_place_refl at, same_text_refl x) refl
-same_key_refl (actual_key at i) = rw (same_place_refl at, eq-eqb i i refl) refl
+use Rattle.xs_flat_laws.proofs.Numbered.{same_key_refl}
+use Rattle.xs_tree.specs.Trace.{EachBoth}
 
 -- the keys of all numbers are all keys
 all_keys : {A : Type 0} (f : ℕ → A) (from : ℕ) (xs : List A) → ((k : ℕ) (x : A) → slice_get xs k ≡ Some x → f (from + k) ≡ x) → map f (upto_from from (length xs)) ≡ xs

@@ -15,6 +15,7 @@ use Rattle.xs_tree.specs.declared.model.Variable.{Variable}
 use Rattle.xs_scope.specs.declared.bounds.Bounds.{Bounds}
 use Rattle.xs_scope.specs.Closed.{is_within, tree_all, trees_all, branches_all, is_closed, is_branch_closed, are_closed, are_earlier, AreVariables, is_variable, is_instance}
 use Rattle.std.proofs.lemmas.Bool.{and_from as both_true}
+use Rattle.xs_tree.proofs.BoolLaws.{left_true, right_true}
 
 and_more : (a b c : Bool) → ((a && b) && c) ≡ (a && (b && c))
 and_more true b c = refl
@@ -39,14 +40,6 @@ closed_case b bs = ap (tree_all (is_within b)) (tree_of_case bs) ∙ branches_cl
 pub all_push : {X : Type 0} (p : X → Bool) (xs : List X) (x : X) → list_all p xs ≡ true → p x ≡ true → list_all p (xs ++ x ∷ []) ≡ true
 all_push p xs x all one =
     list_all-append p xs (x ∷ []) ∙ both_true (list_all p xs) (list_all p (x ∷ [])) all (both_true (p x) true one refl)
-
-pub left_true : (a b : Bool) → (a && b) ≡ true → a ≡ true
-left_true true b both = refl
-left_true false b both = both
-
-pub right_true : (a b : Bool) → (a && b) ≡ true → b ≡ true
-right_true true b both = both
-right_true false b both = grind (arith)
 
 earlier_after : (v s k : ℕ) (ds : List Formula) (d : Formula) → are_earlier v s k ds ≡ true →
     is_closed (record { variables = v; symbols = s; definitions = k + length ds }) d.value ≡ true → are_earlier v s k (ds ++ d ∷ []) ≡ true

@@ -7,7 +7,6 @@ use Rattle.xs_tree.specs.ProgramTree.{Text, ModuleTree, ProgramTree}
 use Rattle.xs_tree.specs.Scope.{Place}
 use Rattle.xs_tree.specs.Flat.{FlatVariable}
 use Rattle.xs_flat_laws.specs.Items.{Item as ItemOf, items_of, NumberedItem, modules_from, modules_of, items_named, Visit, visits_of, walk_items, walk}
-use Rattle.xs_flat_laws.specs.Model.{EachBoth}
 use Rattle.xs_flat_laws.specs.Rules.{is_missing}
 use Rattle.xs_flat_laws.proofs.Pigeons.{no_more_names}
 use Rattle.xs_scope.specs.declared.items.Numbered.{Numbered}
@@ -24,17 +23,14 @@ use Rattle.xs_tree.specs.BorrowedTexts.{texts}
 use Rattle.xs_scope.specs.Walking.{Call, calls_in, variables_in, walk_from, program_in, name_in, name_at, call_of, calls_of, variables_of_walk, on_path_of, place_of_spot, place_at, visits_here, visits_within, visits_told, told_from, IsOwnIn, IsCaller, IsSpotOf, IsDeclaredIn, HasWalked, HasGone, HasEntered, IsPath, IsStanding, IsEntry, own_of, with_own}
 use Rattle.xs_scope.proofs.PathLaws.{path_more}
 use Rattle.xs_scope.proofs.WalkLaws.{both_of_map, caller_stays}
-use Rattle.xs_scope.proofs.SceneItems.{both_length}
-
--- Lists.
-take_front : {A : Type 0} (xs ys : List A) → take (length xs) (xs ++ ys) ≡ xs
-take_front [] ys = refl
-take_front (x ∷ xs) ys = ap (λ zs. x ∷ zs) (take_front xs ys)
+use Rattle.xs_tree.proofs.ListLaws.{take_own}
+use Rattle.xs_flat_laws.proofs.BothLaws.{both_long}
+use Rattle.xs_tree.specs.Trace.{EachBoth}
 
 without_last : {A : Type 0} (xs : List A) (x : A) → take (length (xs ++ x ∷ []) - 1) (xs ++ x ∷ []) ≡ xs
 without_last xs x =
     let count : length (xs ++ x ∷ []) - 1 ≡ length xs = omega (arith, length-append xs (x ∷ [])) in
-    ap (λ n. take n (xs ++ x ∷ [])) count ∙ take_front xs (x ∷ [])
+    ap (λ n. take n (xs ++ x ∷ [])) count ∙ take_own xs (x ∷ [])
 
 pub get_here : {A : Type 0} (xs : List A) (y : A) (ys : List A) → slice_get (xs ++ y ∷ ys) (length xs) ≡ Some y
 get_here [] y ys = refl
@@ -90,7 +86,7 @@ module _ (ms : Modules) (known : AreModules ms) (w0 : Walk) (spot : Spot) (entry
         few,
         length-reverse (texts w0.inside.items),
         length-map w0.inside.items (λ (k : Bor (List ℕ)). k.now),
-        both_length HasNames (modules_of (program_in ms)) ms.list.items known.list,
+        both_long HasNames (modules_of (program_in ms)) ms.list.items known.list,
         modules_count 1 [] (program_in ms),
       )
 

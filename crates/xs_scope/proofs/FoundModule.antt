@@ -5,22 +5,22 @@ use Rattle.indexmap.specs.IndexMap.{get_by}
 use Rattle.std.specs.Borrow.{Bor}
 use Rattle.xs_tree.specs.ProgramTree.{Text, ModuleTree, ProgramTree, program_tree}
 use Rattle.xs_tree.specs.Scope.{find_module}
-use Rattle.xs_tree.specs.Texts.{same_text}
+use Rattle.xs_tree.specs.Texts.{same_text, first_with}
 use Rattle.xs_flat_laws.specs.Items.{items_of, NumberedModule, modules_from, modules_of, numbered_items, items_found}
 use Rattle.xs_flat_laws.proofs.Variables.{both_at}
 use Rattle.xs_scope.specs.declared.modules.Names.{Names}
 use Rattle.xs_scope.specs.declared.modules.Modules.{Modules}
-use Rattle.xs_scope.specs.FoundAt.{entry_of}
 use Rattle.xs_scope.specs.Reading.{IsModuleAt}
 use Rattle.xs_scope.specs.SceneTree.{AreModules, HasNames, module_entries, module_from}
-use Rattle.xs_scope.proofs.MapLaws.{same_key, looked_up}
+use Rattle.xs_scope.proofs.Tables.{looked_up}
+use Rattle.xs_tree.specs.BorrowedTexts.{same_borrowed}
 
 -- a name without an entry has no module
-no_entry : (k : ℕ) (p : ProgramTree) (x : Text) → entry_of (module_entries k p) x ≡ None → find_module p x ≡ None
+no_entry : (k : ℕ) (p : ProgramTree) (x : Text) → first_with (module_entries k p) x ≡ None → find_module p x ≡ None
 no_entry k [] x e = refl
 no_entry k (m ∷ p) x e = by_test (same_text m.name x) refl (no_entry (suc k) p x)
   where
-    by_test : (b : Bool) → same_text m.name x ≡ b → (entry_of (module_entries (suc k) p) x ≡ None → find_module p x ≡ None) → find_module (m ∷ p) x ≡ None
+    by_test : (b : Bool) → same_text m.name x ≡ b → (first_with (module_entries (suc k) p) x ≡ None → find_module p x ≡ None) → find_module (m ∷ p) x ≡ None
     by_test true t rest = let bad : Some k ≡ None = rw t at e in cc
     by_test false t rest = rw t (rest (rw t at e))
 
@@ -33,12 +33,12 @@ pub record EntryFacts (k place n : ℕ) (before : List ModuleTree) (p : ProgramT
   pub found : find_module p x ≡ Some tree.tree
   pub items : items_found (modules_from n before p) x ≡ numbered_items tree
 
-entry_facts : (k place n : ℕ) (before : List ModuleTree) (p : ProgramTree) (x : Text) → entry_of (module_entries k p) x ≡ Some place → EntryFacts k place n before p x
+entry_facts : (k place n : ℕ) (before : List ModuleTree) (p : ProgramTree) (x : Text) → first_with (module_entries k p) x ≡ Some place → EntryFacts k place n before p x
 entry_facts k place n before [] x e = cc
 entry_facts k place n before (m ∷ p) x e = by_test (same_text m.name x) refl (entry_facts (suc k) place (n + suc (length (items_of m))) (before ++ m ∷ []) p x)
   where
     by_test : (b : Bool) → same_text m.name x ≡ b →
-        (entry_of (module_entries (suc k) p) x ≡ Some place → EntryFacts (suc k) place (n + suc (length (items_of m))) (before ++ m ∷ []) p x) → EntryFacts k place n before (m ∷ p) x
+        (first_with (module_entries (suc k) p) x ≡ Some place → EntryFacts (suc k) place (n + suc (length (items_of m))) (before ++ m ∷ []) p x) → EntryFacts k place n before (m ∷ p) x
     by_test true t rest =
         let here : Some k ≡ Some place = rw t at e in
         let same : k ≡ place = cc in
@@ -62,17 +62,17 @@ entry_facts k place n before (m ∷ p) x e = by_test (same_text m.name x) refl (
         }
 
 module _ (ms : Modules) (known : AreModules ms) (k : Bor (List ℕ)) where
-  entry_same : (o : Option ℕ) → o ≡ get_by (same_key k) ms.places → entry_of (module_entries 0 (program_tree ms.program.now)) k.now ≡ o
-  entry_same o e = sym (e ∙ looked_up ms.places.entries k ∙ ap (λ es. entry_of es k.now) known.places)
+  entry_same : (o : Option ℕ) → o ≡ get_by (same_borrowed k) ms.places → first_with (module_entries 0 (program_tree ms.program.now)) k.now ≡ o
+  entry_same o e = sym (e ∙ looked_up k.now ms.places.entries ∙ ap (λ es. first_with es k.now) known.places)
 
-  pub not_found : (o : Option ℕ) → o ≡ get_by (same_key k) ms.places → o ≡ None → find_module (program_tree ms.program.now) k.now ≡ None
+  pub not_found : (o : Option ℕ) → o ≡ get_by (same_borrowed k) ms.places → o ≡ None → find_module (program_tree ms.program.now) k.now ≡ None
   not_found o e none = no_entry 0 (program_tree ms.program.now) k.now (entry_same o e ∙ none)
 
-  facts : (o : Option ℕ) (place : ℕ) → o ≡ get_by (same_key k) ms.places → o ≡ Some place → EntryFacts 0 place 1 [] (program_tree ms.program.now) k.now
+  facts : (o : Option ℕ) (place : ℕ) → o ≡ get_by (same_borrowed k) ms.places → o ≡ Some place → EntryFacts 0 place 1 [] (program_tree ms.program.now) k.now
   facts o place e some = entry_facts 0 place 1 [] (program_tree ms.program.now) k.now (entry_same o e ∙ some)
 
   -- a place is never empty
-  pub listed : (o : Option ℕ) (place : ℕ) → o ≡ get_by (same_key k) ms.places → o ≡ Some place → (names : Names) × (slice_get ms.list.items place ≡ Some names)
+  pub listed : (o : Option ℕ) (place : ℕ) → o ≡ get_by (same_borrowed k) ms.places → o ≡ Some place → (names : Names) × (slice_get ms.list.items place ≡ Some names)
   listed o place e some =
       let f : EntryFacts 0 place 1 [] (program_tree ms.program.now) k.now = facts o place e some in
       let at : f.steps ≡ place = omega (arith, f.away) in
@@ -80,7 +80,7 @@ module _ (ms : Modules) (known : AreModules ms) (k : Bor (List ℕ)) where
       both_at HasNames (modules_of (program_tree ms.program.now)) ms.list.items f.steps f.tree known.list f.is in
       (both.0, sym (ap (λ i. slice_get ms.list.items i) at) ∙ both.1)
 
-  pub found : (o : Option ℕ) (place : ℕ) (names : Names) → o ≡ get_by (same_key k) ms.places → o ≡ Some place → slice_get ms.list.items place ≡ Some names → IsModuleAt ms k.now place names
+  pub found : (o : Option ℕ) (place : ℕ) (names : Names) → o ≡ get_by (same_borrowed k) ms.places → o ≡ Some place → slice_get ms.list.items place ≡ Some names → IsModuleAt ms k.now place names
   found o place names e some there =
       let f : EntryFacts 0 place 1 [] (program_tree ms.program.now) k.now = facts o place e some in
       let at : f.steps ≡ place = omega (arith, f.away) in
@@ -98,7 +98,7 @@ module _ (ms : Modules) (known : AreModules ms) (k : Bor (List ℕ)) where
       }
 
 -- The module `main` stands at its place.
-place_entry : (k : ℕ) (p : ProgramTree) (x : Text) → entry_of (module_entries k p) x ≡ module_from k p x
+place_entry : (k : ℕ) (p : ProgramTree) (x : Text) → first_with (module_entries k p) x ≡ module_from k p x
 place_entry k [] x = refl
 place_entry k (m ∷ p) x = ap (λ o. if same_text m.name x then Some k else o) (place_entry (suc k) p x)
 

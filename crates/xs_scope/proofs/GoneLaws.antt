@@ -4,7 +4,6 @@ use Rattle.std.proofs.lemmas.List.{take_more, drop_more, map-append}
 use Rattle.xs_tree.specs.Scope.{Place}
 use Rattle.xs_tree.specs.Flat.{FlatVariable}
 use Rattle.xs_flat_laws.specs.Items.{Item as ItemOf, Visit, visits_of}
-use Rattle.xs_flat_laws.specs.Model.{EachBoth}
 use Rattle.xs_scope.specs.declared.fault.FlatFault.{FlatFault}
 use Rattle.xs_scope.specs.declared.items.Numbered.{Numbered}
 use Rattle.xs_scope.specs.declared.modules.Modules.{Modules}
@@ -15,10 +14,11 @@ use Rattle.xs_tree.specs.ModelTree.{variable_tree}
 use Rattle.xs_scope.specs.Reading.{told_first, IsTold}
 use Rattle.xs_scope.specs.Walking.{Call, calls_in, calls_declared, variables_in, visits_told, program_in, call_of, calls_of, variables_of_walk, on_path_of, place_at, walk_from, visits_at, visits_here, told_from, IsOwnIn, HasWalked, HasMet, HasGone, IsStanding}
 use Rattle.xs_scope.proofs.ReadingLaws.{told_as, told_here, none_first}
-use Rattle.xs_scope.proofs.ModuleFaults.{flat_end}
 use Rattle.xs_scope.proofs.WalkLaws.{flat_join, walked_none, own_stays, calls_grow, variables_grow, spots_count, variables_count, path_stays, place_stays, walked_then, told_join}
-use Rattle.xs_scope.proofs.Naming.{both_push}
 use Rattle.xs_scope.proofs.SceneItems.{both_more}
+use Rattle.xs_tree.proofs.ListLaws.{flat_end}
+use Rattle.xs_flat_laws.proofs.BothLaws.{both_push}
+use Rattle.xs_tree.specs.Trace.{EachBoth}
 
 -- the items up to one of them, with what they mean, and what is told of those that are left
 pub record GoneSoFar (ms : Modules) (w0 : Walk) (spot : ℕ) (items : List Numbered) (k : ℕ) (w1 : Walk) (meanings : List Found) : Type 0 where

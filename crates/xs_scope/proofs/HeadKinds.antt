@@ -10,17 +10,19 @@ use Rattle.xs_tree.specs.Flat.{FlatInstance}
 use Rattle.xs_flat_laws.specs.Items.{Item, a_declaration, a_definition, an_assignment, some_constants, an_init, an_invar, a_trans, NumberedItem, items_of, items_named, instances_of}
 use Rattle.xs_flat_laws.specs.Rules.{has_twice, names_of_item, IsWalkable}
 use Rattle.xs_flat_laws.proofs.Conditions.{each_at}
-use Rattle.xs_flat_laws.proofs.KindLaws.{kind_in_items, sections_kind, ItemFacts, kind_of_declaration, no_formal, among_split}
+use Rattle.xs_flat_laws.proofs.KindLaws.{kind_in_items, sections_kind, ItemFacts, kind_of_declaration, among_split}
 use Rattle.xs_flat_laws.proofs.Places.{facts_named, are_instances}
 use Rattle.xs_flat_laws.proofs.Sections.{AreInstances}
 use Rattle.xs_flat_laws.proofs.Walkable.{main_is_there}
 use Rattle.xs_scope.specs.Known.{IsHead}
 use Rattle.xs_scope.proofs.LookSplit.{never}
-use Rattle.xs_scope.proofs.Heads.{not_both, among_there}
+use Rattle.xs_scope.proofs.Heads.{among_there}
 use Rattle.xs_flat_laws.proofs.Meant.{formals_once}
 use Rattle.xs_tree.proofs.OneTree.{same_text_equal}
 use Rattle.std.proofs.lemmas.Option.{same_Some as of_some}
 use Rattle.std.proofs.lemmas.Bool.{or_parts as neither}
+use Rattle.xs_tree.proofs.BoolLaws.{not_both}
+use Rattle.xs_tree.proofs.ProgramLaws.{no_formal}
 
 -- a formal that stands once is found by its name
 pub formal_first : (k : ℕ) (xs : List Text) (j : ℕ) (x : Text) → has_twice xs ≡ false → slice_get xs j ≡ Some x → formal_from k xs x ≡ Some (k + j)

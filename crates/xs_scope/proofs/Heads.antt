@@ -14,6 +14,7 @@ use Rattle.xs_flat_laws.proofs.KeysApart.{one_number}
 use Rattle.xs_flat_laws.proofs.Meant.{formals_once}
 use Rattle.std.proofs.lemmas.Option.{same_Some as of_some}
 use Rattle.std.proofs.lemmas.Bool.{or_parts as neither}
+use Rattle.xs_tree.proofs.BoolLaws.{not_both}
 
 -- no two formals of a module have one name
 pub among_there : (xs : List Text) (j : ℕ) (x : Text) → slice_get xs j ≡ Some x → is_among xs x ≡ true
@@ -24,9 +25,6 @@ among_there (y ∷ xs) (suc j) x e = rw (among_there xs j x e) (or_true (same_te
     or_true : (b : Bool) → (b || true) ≡ true
     or_true true = refl
     or_true false = refl
-
-pub not_both : (b : Bool) → b ≡ true → b ≡ false → ⊥
-not_both b e f = let bad : true ≡ false = sym e ∙ f in cc
 
 pub formal_number : (xs : List Text) (i j : ℕ) (x : Text) → has_twice xs ≡ false → slice_get xs i ≡ Some x → slice_get xs j ≡ Some x → i ≡ j
 formal_number [] i j x h e f = never x e

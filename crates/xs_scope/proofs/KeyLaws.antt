@@ -22,22 +22,13 @@ use Rattle.xs_scope.specs.SceneTree.{Denotes, IsFound}
 use Rattle.xs_scope.specs.NeedsTree.{keys_of, IsKeyAt}
 use Rattle.xs_scope.specs.Links.{Has}
 use Rattle.xs_scope.specs.Naming.{needed, is_input_role, is_input}
+use Rattle.xs_tree.proofs.ListLaws.{get_map}
 
 -- the key of a number
 abbrev pub key_at : List Key → ℕ → Key
 key_at [] k = define_key [] []
 key_at (key ∷ keys) zero = key
 key_at (key ∷ keys) (suc k) = key_at keys k
-
-pub get_map : {A B : Type 0} (f : A → B) (xs : List A) (k : ℕ) (x : A) → slice_get xs k ≡ Some x → slice_get (map f xs) k ≡ Some (f x)
-get_map f [] k x e = cc
-get_map f (y ∷ xs) zero x e = cc
-get_map f (y ∷ xs) (suc k) x e = get_map f xs k x e
-
-pub map_get : {A B : Type 0} (f : A → B) (xs : List A) (k : ℕ) (y : B) → slice_get (map f xs) k ≡ Some y → (x : A) × (slice_get xs k ≡ Some x) × (f x ≡ y)
-map_get f [] k y e = cc
-map_get f (x ∷ xs) zero y e = let same : f x ≡ y = cc in (x, refl, same)
-map_get f (x ∷ xs) (suc k) y e = map_get f xs k y e
 
 pub key_is : (keys : List Key) (k : ℕ) (key : Key) → slice_get keys k ≡ Some key → key_at keys k ≡ key
 key_is [] k key e = cc

@@ -11,8 +11,9 @@ use Rattle.xs_scope.specs.declared.needs.Task.{Task}
 use Rattle.xs_scope.specs.declared.needs.Task.TheVariants.{Visit, End}
 use Rattle.xs_scope.specs.Links.{Has, Graph, IsWithin, Spread, is_marked, told_mark, spread_by}
 use Rattle.xs_scope.specs.Laying.{Lay, mark_or, mark_at, visits, visit_by, lay_by, number_of, IsLaying}
-use Rattle.xs_scope.specs.Left.{open_work, is_unmarked, left_to_spread, is_unmet, left_to_lay}
+use Rattle.xs_scope.specs.Left.{open_work, left_to_spread, is_unmet, left_to_lay}
 use Rattle.std.proofs.lemmas.Option.{same_Some as some_same}
+use Rattle.xs_tree.specs.Values.{opposite}
 
 -- an open mark is closed
 work_taken : {M : Type 0} (is_open : M → Bool) (work : ℕ → ℕ) (marks : List M) (k : ℕ) (old new : M) → slice_get marks k ≡ Some old → is_open old ≡ true → is_open new ≡ false →
@@ -39,7 +40,7 @@ unlinked (k ∷ ks) none = absurd (none k (inl refl))
 
 -- an unmarked number is marked
 links_taken : (g : Graph) (count : ℕ) → IsWithin g count → (r : List Bool) (k : ℕ) → length r ≡ count → is_marked r k ≡ false →
-    length (g k) + open_work is_unmarked (λ i. length (g i)) (set r k true) ≤ open_work is_unmarked (λ i. length (g i)) r
+    length (g k) + open_work opposite (λ i. length (g i)) (set r k true) ≤ open_work opposite (λ i. length (g i)) r
 links_taken g count within r k size m = by_place (cases_lt k (length r))
   where
     is_false : (b : Bool) → slice_get r k ≡ Some b → b ≡ false
@@ -48,15 +49,15 @@ links_taken g count within r k size m = by_place (cases_lt k (length r))
     no_more : length r ≤ k → length (g k) ≡ 0
     no_more past = unlinked (g k) (λ b h. let inside : k < count = within k b h in absurd (omega (arith, inside, past, size)))
 
-    by_value : (b : Bool) × (slice_get r k ≡ Some b) → length (g k) + open_work is_unmarked (λ i. length (g i)) (set r k true) ≤ open_work is_unmarked (λ i. length (g i)) r
+    by_value : (b : Bool) × (slice_get r k ≡ Some b) → length (g k) + open_work opposite (λ i. length (g i)) (set r k true) ≤ open_work opposite (λ i. length (g i)) r
     by_value (b, e) =
-        let is = work_taken is_unmarked (λ i. length (g i)) r k b true e (ap is_unmarked (is_false b e)) refl in
+        let is = work_taken opposite (λ i. length (g i)) r k b true e (ap opposite (is_false b e)) refl in
         omega (arith, is)
 
-    by_place : (k < length r) ⊎ (length r ≤ k) → length (g k) + open_work is_unmarked (λ i. length (g i)) (set r k true) ≤ open_work is_unmarked (λ i. length (g i)) r
+    by_place : (k < length r) ⊎ (length r ≤ k) → length (g k) + open_work opposite (λ i. length (g i)) (set r k true) ≤ open_work opposite (λ i. length (g i)) r
     by_place (inl inside) = by_value (get_within r k inside)
     by_place (inr past) =
-        let same = work_not_more is_unmarked (λ i. length (g i)) r k true refl in
+        let same = work_not_more opposite (λ i. length (g i)) r k true refl in
         let none = no_more past in
         omega (arith, same, none)
 

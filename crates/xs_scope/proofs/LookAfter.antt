@@ -13,11 +13,8 @@ use Rattle.xs_scope.specs.declared.walk.Meaning.{Meaning as Found}
 use Rattle.xs_scope.specs.declared.walk.Meaning.TheVariants as found
 use Rattle.xs_scope.specs.declared.names.Formal.{Formal}
 use Rattle.xs_scope.proofs.LookSplit.{never, HasPart, with_more, named_look, Split, within, beyond, split}
-use Rattle.xs_scope.proofs.LookFound.{same_part}
+use Rattle.xs_scope.proofs.LookFound.{same_part, look_at}
 use Rattle.std.proofs.lemmas.Option.{same_Some as of_some}
-
-abbrev look_at : Place → Path → Look
-look_at at name = record { place = at; name = name }
 
 -- a loop that is met early is met late
 abbrev MeetsAt : ProgramTree → Place → Path → ℕ → Type 0

@@ -38,7 +38,7 @@ pub nothing_at_all : (p : ProgramTree) (at : Place) → MeansNothing p at []
 nothing_at_all p at = record { no_meaning = λ n. none_at_all n p at; no_loop = λ loop. no_part loop.0 p at loop.1 loop.2 loop.3 loop.4 }
 
 -- a loop that the first part alone meets
-abbrev look_at : Place → Path → Look
+abbrev pub look_at : Place → Path → Look
 look_at at name = record { place = at; name = name }
 
 first_part : (w z : Text) (ws r more : Path) → (w ∷ ws) ++ more ≡ z ∷ r → w ≡ z

@@ -12,7 +12,6 @@ use Rattle.xs_tree.specs.Texts.{is_among}
 use Rattle.xs_tree.specs.Written.{tree_of}
 use Rattle.xs_tree.specs.Flat.{FlatVariable}
 use Rattle.xs_flat_laws.specs.Items.{Item as ItemOf, a_declaration, Visit}
-use Rattle.xs_flat_laws.specs.Model.{EachBoth}
 use Rattle.xs_flat_laws.proofs.Lists.{get_within}
 use Rattle.xs_scope.specs.declared.items.Item.{Item}
 use Rattle.xs_scope.specs.declared.items.Item.TheVariants as code
@@ -30,8 +29,9 @@ use Rattle.xs_scope.specs.Reading.{told_first, IsModuleAt}
 use Rattle.xs_scope.specs.Walking.{Call, calls_in, variables_in, instance_told, visits_told, walk_from, program_in, name_in, name_at, IsCaller, IsEntry, IsModuleOf, IsStanding, call_of, calls_of, variables_of_walk, on_path_of, place_of_spot, place_at, visits_at, visits_within, told_from, IsVariableIn, IsOwnIn, IsSpotOf, IsDeclaredIn, HasWalked, HasMet, HasEntered}
 use Rattle.xs_scope.proofs.EnterLaws.{get_here}
 use Rattle.xs_scope.proofs.WalkLaws.{walked_none}
-use Rattle.xs_scope.proofs.KeyLaws.{get_map}
-use Rattle.xs_flat_laws.proofs.Kept.{module_named as tree_named}
+use Rattle.xs_tree.proofs.ListLaws.{get_map}
+use Rattle.xs_tree.proofs.ProgramLaws.{found_named}
+use Rattle.xs_tree.specs.Trace.{EachBoth}
 
 -- An instance.
 pub calls_met : (ms : Modules) (calls : List Call) (vars : List FlatVariable) (cs : List Call) (spots : List Spot) → EachBoth (IsSpotOf ms calls vars) cs spots → map (call_of ms) spots ≡ cs
@@ -180,7 +180,7 @@ module _ (ms : Modules) (w : Walk) (spot n : ℕ) where
 
 -- The instance that a declaration hands to the walk.
 pub module_named : (ms : Modules) (x : Text) (k : ℕ) (names : Names) → IsModuleAt ms x k names → name_at ms k ≡ x
-module_named ms x k names is = ap name_in is.listed ∙ ap (λ (t : ModuleTree). t.name) is.has.tree ∙ tree_named (program_in ms) x is.tree.tree is.named
+module_named ms x k names is = ap name_in is.listed ∙ ap (λ (t : ModuleTree). t.name) is.has.tree ∙ found_named (program_in ms) x is.tree.tree is.named
 
 module _ (ms : Modules) (w0 : Walk) (x m : Text) (inner : Spot) (standing : IsStanding ms w0 inner.caller) (at_module : IsModuleOf ms w0 m inner.«module») (placed : place_of inner.path ≡ x ∷ place_at w0 inner.caller) where
   caller_there : IsCaller (calls_of ms w0) (x ∷ place_at w0 inner.caller) inner.caller

@@ -16,8 +16,9 @@ use Rattle.xs_scope.specs.ItemTree.{counted_from}
 use Rattle.xs_scope.specs.Reading.{Told, told_if, told_first, IsTold, formals_told, items_told, header_told, module_told, modules_told}
 use Rattle.xs_scope.specs.SceneTree.{module_from}
 use Rattle.xs_scope.proofs.MainLaws.{nowhere}
-use Rattle.xs_flat_laws.proofs.HistoryTraces.{or_false}
 use Rattle.xs_tree.proofs.OneTree.{same_text_equal}
+use Rattle.xs_tree.proofs.ListLaws.{flat_end}
+use Rattle.xs_tree.proofs.BoolLaws.{never, or_false}
 
 -- what is told of a part, or else of the part after it
 pub told_both : (p : ProgramTree) (ss ts : List Site) (o o' : Told) → Outcome p ss o → Outcome p ts o' → Outcome p (ss ++ ts) (told_first o o')
@@ -68,10 +69,6 @@ item_step : (p : ProgramTree) (m : NumberedModule) (i : NumberedItem) (ss : List
     is_name_again (m.tree.formals ++ flat_map names_of_item i.before) (names_of_item i.item) ≡ b → Outcome p ss o → Outcome p (an_item m i ∷ ss) (told_first (told_if b double_name i.number) o)
 item_step p m i ss o true e h = here p (an_item m i) ss double_name i.number (item_lowest p m i e) refl
 item_step p m i ss o false e h = after_part p (an_item m i ∷ []) ss o (item_kept p m i (λ k. let bad : true ≡ false = sym k ∙ e in cc), tt) h
-
-pub flat_end : {A B : Type 0} (f : A → List B) (xs : List A) (x : A) → flat_map f (xs ++ x ∷ []) ≡ flat_map f xs ++ f x
-flat_end f [] x = append-nil (f x)
-flat_end f (y ∷ xs) x = ap (λ zs. f y ++ zs) (flat_end f xs x) ∙ sym (append_assoc (f y) (flat_map f xs) (f x))
 
 items_outcome : (p : ProgramTree) (m : NumberedModule) (n : ℕ) (before is : List ItemOf) →
     Outcome p (map (an_item m) (numbered_from n before is)) (items_told (m.tree.formals ++ flat_map names_of_item before) (counted_from n is))
@@ -151,10 +148,6 @@ formals_as header seen (x ∷ xs) =
 
 formals_twice : (header : ℕ) (xs : List Text) → formals_told header [] xs ≡ told_if (has_twice xs) double_name header
 formals_twice header xs = formals_as header [] xs ∙ ap (λ b. told_if b double_name header) (ap (λ b. has_twice xs || b) (none_among xs) ∙ or_false (has_twice xs))
-
--- Headers.
-pub never : (b : Bool) → b ≡ false → b ≡ true → ⊥
-never b e f = let bad : true ≡ false = sym f ∙ e in cc
 
 module _ (p : ProgramTree) (m : NumberedModule) where
   abbrev BadMain : Bool

@@ -2,12 +2,11 @@
 use Rattle.std.proofs.Common.{◌≡◌, ℕ, suc, ◌+◌, arith, Bool, true, false, List, [], ◌∷◌, ◌++◌, Option, Some, None, refl, sym, ◌∙◌, ap}
 use Rattle.std.specs.Prelude.{slice_get}
 use Rattle.xs_tree.specs.ProgramTree.{Text, ModuleTree}
-use Rattle.xs_tree.specs.Texts.{same_text}
+use Rattle.xs_tree.specs.Texts.{same_text, first_with}
 use Rattle.xs_tree.specs.Scope.{undeclared, formal_from, kind_after_formals, kind_in}
 use Rattle.xs_flat_laws.specs.Items.{Item, a_declaration, a_definition, an_assignment, some_constants, an_init, an_invar, a_trans, items_of}
 use Rattle.xs_flat_laws.proofs.KindLaws.{kind_of_item, kind_in_items, sections_kind}
 use Rattle.xs_scope.specs.SceneTree.{gives_name, item_from, local_after, local_of, formal_entries, item_entries, local_entries}
-use Rattle.xs_scope.specs.FoundAt.{entry_of}
 use Rattle.xs_scope.specs.declared.modules.Local.{Local}
 use Rattle.xs_scope.specs.declared.modules.Local.TheVariants as local
 use Rattle.xs_scope.proofs.LookSplit.{never}
@@ -17,28 +16,28 @@ after_formal : Option ℕ → Option Local → Option Local
 after_formal (Some i) o = Some (local.Formal i)
 after_formal None o = o
 
-formals_told : (k : ℕ) (xs : List Text) (es : List (Text × Local)) (x : Text) → entry_of (formal_entries k xs ++ es) x ≡ after_formal (formal_from k xs x) (entry_of es x)
+formals_told : (k : ℕ) (xs : List Text) (es : List (Text × Local)) (x : Text) → first_with (formal_entries k xs ++ es) x ≡ after_formal (formal_from k xs x) (first_with es x)
 unfolding after_formal
 formals_told k [] es x = refl
 formals_told k (y ∷ xs) es x = by_name (same_text y x) refl (formals_told (suc k) xs es x)
   where
-    by_name : (b : Bool) → same_text y x ≡ b → entry_of (formal_entries (suc k) xs ++ es) x ≡ after_formal (formal_from (suc k) xs x) (entry_of es x) →
-        entry_of (formal_entries k (y ∷ xs) ++ es) x ≡ after_formal (formal_from k (y ∷ xs) x) (entry_of es x)
+    by_name : (b : Bool) → same_text y x ≡ b → first_with (formal_entries (suc k) xs ++ es) x ≡ after_formal (formal_from (suc k) xs x) (first_with es x) →
+        first_with (formal_entries k (y ∷ xs) ++ es) x ≡ after_formal (formal_from k (y ∷ xs) x) (first_with es x)
     by_name true t rest = rw t refl
     by_name false t rest = rw t rest
 
-items_told : (k : ℕ) (is : List Item) (x : Text) → entry_of (item_entries k is) x ≡ local_after None (item_from k is x)
+items_told : (k : ℕ) (is : List Item) (x : Text) → first_with (item_entries k is) x ≡ local_after None (item_from k is x)
 items_told k [] x = refl
 items_told k (a_declaration role d ∷ is) x = by_name (same_text d.name x) refl (items_told (suc k) is x)
   where
-    by_name : (b : Bool) → same_text d.name x ≡ b → entry_of (item_entries (suc k) is) x ≡ local_after None (item_from (suc k) is x) →
-        entry_of (item_entries k (a_declaration role d ∷ is)) x ≡ local_after None (item_from k (a_declaration role d ∷ is) x)
+    by_name : (b : Bool) → same_text d.name x ≡ b → first_with (item_entries (suc k) is) x ≡ local_after None (item_from (suc k) is x) →
+        first_with (item_entries k (a_declaration role d ∷ is)) x ≡ local_after None (item_from k (a_declaration role d ∷ is) x)
     by_name true t rest = rw t refl
     by_name false t rest = rw t rest
 items_told k (a_definition d ∷ is) x = by_name (same_text d.name x) refl (items_told (suc k) is x)
   where
-    by_name : (b : Bool) → same_text d.name x ≡ b → entry_of (item_entries (suc k) is) x ≡ local_after None (item_from (suc k) is x) →
-        entry_of (item_entries k (a_definition d ∷ is)) x ≡ local_after None (item_from k (a_definition d ∷ is) x)
+    by_name : (b : Bool) → same_text d.name x ≡ b → first_with (item_entries (suc k) is) x ≡ local_after None (item_from (suc k) is x) →
+        first_with (item_entries k (a_definition d ∷ is)) x ≡ local_after None (item_from k (a_definition d ∷ is) x)
     by_name true t rest = rw t refl
     by_name false t rest = rw t rest
 items_told k (an_assignment a ∷ is) x = items_told (suc k) is x
@@ -53,7 +52,7 @@ joined_told None i = refl
 joined_told (Some k) None = refl
 joined_told (Some k) (Some j) = refl
 
-pub locals_told : (m : ModuleTree) (x : Text) → entry_of (local_entries m) x ≡ local_of m x
+pub locals_told : (m : ModuleTree) (x : Text) → first_with (local_entries m) x ≡ local_of m x
 locals_told m x =
     formals_told 0 m.formals (item_entries 0 (items_of m)) x
     ∙ ap (after_formal (formal_from 0 m.formals x)) (items_told 0 (items_of m) x)

@@ -7,12 +7,12 @@ use Rattle.xs_tree.specs.declared.expr.Expr.{Expr}
 use Rattle.xs_tree.specs.ProgramTree.{Text, Path, Formula, ProgramTree, program_tree}
 use Rattle.xs_tree.specs.Written.{tree_of}
 use Rattle.xs_tree.specs.Scope.{Place, a_formal, actual_key, Meaning, an_expression_at, plain_name, through_plain, through_actual, by_kind, kind_at, module_at, actual_of_kind, means_in, Means}
-use Rattle.xs_tree.specs.Trace.{Each}
+use Rattle.xs_tree.specs.Trace.{Each, EachBoth}
 use Rattle.xs_tree.specs.Flat.{FlatInstance}
 use Rattle.xs_flat_laws.specs.Items.{instances_of}
 use Rattle.xs_flat_laws.specs.Looks.{Look, at_actual, plain_of, step_kind, step_of, step_on, look_after, ComesBack}
 use Rattle.xs_flat_laws.specs.Rules.{IsWalkable, expression_of, expression_in}
-use Rattle.xs_flat_laws.specs.Model.{EachBoth, Root, root_of_actual, roots_of}
+use Rattle.xs_flat_laws.specs.Model.{Root, root_of_actual, roots_of}
 use Rattle.xs_flat_laws.proofs.LookLaws.{comes_back_nothing}
 use Rattle.xs_scope.specs.SceneTree.{AreModules, Denotes, IsKnown, IsDefined, program_of}
 use Rattle.xs_scope.specs.Known.{rows, rows_with, formal_of, IsHead, IsOpen, IsTold, ShutAt, ShutBeyond, AreTold, IsActualTold, IsSameButFormals}
@@ -27,7 +27,6 @@ use Rattle.xs_scope.specs.declared.names.Formal.TheVariants as known
 use Rattle.xs_scope.specs.declared.names.Defined.{Defined}
 use Rattle.xs_scope.specs.declared.names.Scene.{Scene}
 use Rattle.xs_scope.proofs.LookSplit.{never}
-use Rattle.xs_scope.proofs.SceneItems.{both_length}
 use Rattle.xs_scope.proofs.Told.{told_one, answered_one, in_row, told_there}
 use Rattle.xs_scope.proofs.Work.{settled_with}
 use Rattle.xs_scope.proofs.HeadKinds.{head_kind}
@@ -37,12 +36,7 @@ use Rattle.xs_flat_laws.proofs.KindLaws.{joined_more}
 use Rattle.xs_flat_laws.proofs.Lists.{each_more}
 use Rattle.std.proofs.lemmas.Option.{same_Some as of_some}
 use Rattle.xs_scope.proofs.EnterLaws.{get_here as get_mid}
-
-pub both_push : {A B : Type 0} (R : A → B → Type 0) (xs : List A) (ys : List B) (x : A) (y : B) → EachBoth R xs ys → R x y → EachBoth R (xs ++ x ∷ []) (ys ++ y ∷ [])
-both_push R [] [] x y h r = (r, tt)
-both_push R [] (z ∷ ys) x y h r = absurd h
-both_push R (z ∷ xs) [] x y h r = absurd h
-both_push R (z ∷ xs) (w ∷ ys) x y h r = (h.0, both_push R xs ys x y h.1 r)
+use Rattle.xs_flat_laws.proofs.BothLaws.{both_push, both_long}
 
 -- formals whose actuals are definitions keep their answers
 pub still_answered : (p : ProgramTree) (rs rs' : List (List Formal)) (roots : List Root) → AreSettled rs rs' → Each (IsActualTold p rs) roots → Each (IsActualTold p rs') roots
@@ -60,7 +54,7 @@ left_one p rs rs' ds r rest d left is settled told = record {
 pub left_number : (p : ProgramTree) (rs : List (List Formal)) (ds : List Defined) (r : Root) (rest : List Root) → IsLeft p rs ds (r ∷ rest) → slice_get (roots_of p) (length ds) ≡ Some r
 left_number p rs ds r rest left =
     ap (λ rs. slice_get rs (length ds)) left.roots
-    ∙ ap (λ n. slice_get (left.before ++ r ∷ rest) n) (both_length (IsDefined p) left.before ds left.numbered)
+    ∙ ap (λ n. slice_get (left.before ++ r ∷ rest) n) (both_long (IsDefined p) left.before ds left.numbered)
     ∙ get_mid left.before r rest
 
 pub program_same : (old new : Scene) → new.modules ≡ old.modules → program_of new ≡ program_of old

@@ -1,5 +1,5 @@
 -- The definitions of items get their numbers, and items mean what they are numbered as.
-use Rattle.std.proofs.Common.{◌≡◌, ℕ, zero, suc, ◌+◌, ◌<◌, ◌≤◌, arith, Bool, true, false, eqb, ltb, ◌⊎◌, inl, inr, eqb-true, eq-eqb, List, [], ◌∷◌, ◌++◌, length, map, get_or, drop, take, Option, Some, None, Vec, refl, sym, ◌∙◌, ap, subst, append_assoc}
+use Rattle.std.proofs.Common.{◌≡◌, ℕ, suc, ◌+◌, ◌<◌, ◌≤◌, arith, Bool, true, false, eqb, ltb, ◌⊎◌, inl, inr, eqb-true, eq-eqb, List, [], ◌∷◌, ◌++◌, length, map, get_or, drop, take, Option, Some, None, Vec, refl, sym, ◌∙◌, ap, subst, append_assoc}
 use Rattle.std.specs.Prelude.{slice_get, slice_set, option_map, flat_map}
 use Rattle.std.specs.declared.alloc.Global.{Global}
 use Rattle.std.proofs.lemmas.List.{drop_all, take_all, length-set, append-nil}
@@ -14,7 +14,7 @@ use Rattle.xs_tree.specs.Scope.{Place, Role, kind_declared, a_define, define_key
 use Rattle.xs_tree.specs.Flat.{FlatInstance}
 use Rattle.xs_flat_laws.specs.Items.{Item as ItemOf, a_declaration, a_definition, an_assignment, some_constants, an_init, an_invar, a_trans, NumberedItem, items_named, instances_of}
 use Rattle.xs_flat_laws.specs.Rules.{IsWalkable, expression_of, expression_of_kind}
-use Rattle.xs_flat_laws.specs.Model.{EachBoth, Root, root_of_actual, roots_of_actuals, roots_of_type, roots_of_item, roots_of, symbols_of}
+use Rattle.xs_flat_laws.specs.Model.{Root, root_of_actual, roots_of_actuals, roots_of_type, roots_of_item, roots_of, symbols_of}
 use Rattle.xs_flat_laws.proofs.Variables.{both_at, both_at_second}
 use Rattle.xs_scope.specs.ItemTree.{item_tree, numbered_tree}
 use Rattle.xs_tree.specs.BorrowedTexts.{texts}
@@ -34,14 +34,16 @@ use Rattle.xs_scope.specs.declared.names.Formal.{Formal}
 use Rattle.xs_scope.specs.declared.names.Defined.{Defined}
 use Rattle.xs_scope.specs.declared.names.Scene.{Scene}
 use Rattle.xs_scope.proofs.LookSplit.{never}
-use Rattle.xs_scope.proofs.SceneItems.{both_length, item_listed, get_map}
-use Rattle.xs_scope.proofs.RowLaws.{get_there}
+use Rattle.xs_scope.proofs.SceneItems.{item_listed, get_map}
 use Rattle.xs_flat_laws.proofs.OneOfTwo.{set_get, set_own}
 use Rattle.xs_scope.proofs.HeadKinds.{definition_kind, declaration_kind}
-use Rattle.xs_scope.proofs.Naming.{both_push, program_same, naming_at, naming_pushed, left_number}
+use Rattle.xs_scope.proofs.Naming.{program_same, naming_at, naming_pushed, left_number}
 use Rattle.xs_scope.proofs.Frames.{actual_there}
 use Rattle.std.proofs.lemmas.Option.{same_Some as of_some, slice_get_within as get_less}
 use Rattle.xs_flat_laws.proofs.Lists.{get_within}
+use Rattle.xs_tree.proofs.ListLaws.{take_there, get_there, drop_item}
+use Rattle.xs_flat_laws.proofs.BothLaws.{both_push, both_long}
+use Rattle.xs_tree.specs.Trace.{EachBoth}
 
 -- the item that the tables have is the program's
 pub record Listed (n : Numbered) (y : NumberedItem) : Type 0 where
@@ -180,11 +182,6 @@ NamedActuals old new spot item inner es k =
     (at inside : FlatInstance) (rest : List Root) → AreActualsAt (program_of old) spot inner es at inside →
     IsNaming old (roots_of_actuals inside.place 0 item es ++ rest) → IsNaming new (roots_of_actuals inside.place k item (drop k es) ++ rest)
 
-drop_there : {A : Type 0} (xs : List A) (k : ℕ) (x : A) → slice_get xs k ≡ Some x → drop k xs ≡ x ∷ drop (suc k) xs
-drop_there [] k x h = never x h
-drop_there (y ∷ xs) zero x h = ap (λ z. z ∷ xs) (of_some y x h)
-drop_there (y ∷ xs) (suc k) x h = drop_there xs k x h
-
 pub one_actual : (old mid new : Scene) (spot item inner : ℕ) (es : List Formula) (k : ℕ) (e : Formula) → slice_get es k ≡ Some e → program_of mid ≡ program_of old →
     NamedActuals old mid spot item inner es k → NamesActual mid new spot item inner k e → NamedActuals old new spot item inner es (k + 1)
 one_actual old mid new spot item inner es k e there same so_far one = λ at inside rest actuals naming.
@@ -193,7 +190,7 @@ one_actual old mid new spot item inner es k e there same so_far one = λ at insi
     record { caller = actuals.caller; instance = actuals.instance; own = actuals.own; below = actuals.below; actual = ap (λ q. actual_of_kind q k) actuals.kind ∙ actual_there es k e there } in
     let here : IsNaming mid (root_of_actual inside.place k item (plain_name e) ++ (roots_of_actuals inside.place (suc k) item (drop (suc k) es) ++ rest)) =
     subst (IsNaming mid)
-    (ap (λ xs. roots_of_actuals inside.place k item xs ++ rest) (drop_there es k e there)
+    (ap (λ xs. roots_of_actuals inside.place k item xs ++ rest) (drop_item es k e there)
     ∙ append_assoc (root_of_actual inside.place k item (plain_name e)) (roots_of_actuals inside.place (suc k) item (drop (suc k) es)) rest)
     (so_far at inside rest actuals naming) in
     subst (λ j. IsNaming new (roots_of_actuals inside.place j item (drop j es) ++ rest)) next
@@ -211,11 +208,6 @@ NamedItems old new spot k own =
     IsNaming new (roots_at at (drop k (items_named (program_of old) at.module_name)) ++ rest)
     × EachBoth (IsOwn (program_of old) at.place) (take k (items_named (program_of old) at.module_name)) own
 
-pub take_there : {A : Type 0} (xs : List A) (k : ℕ) (x : A) → slice_get xs k ≡ Some x → take (suc k) xs ≡ take k xs ++ x ∷ []
-take_there [] k x h = never x h
-take_there (y ∷ xs) zero x h = ap (λ z. z ∷ []) (of_some y x h)
-take_there (y ∷ xs) (suc k) x h = ap (λ zs. y ∷ zs) (take_there xs k x h)
-
 pub one_item : (old mid new : Scene) (spot k : ℕ) (own : List Found) (walked meaning : Found) → IsSameProgram old mid → walked ≡ own_at mid spot k → k < count_in (slice_get old.spots.items spot) →
     NamedItems old mid spot k own → NamesItem mid new spot k walked meaning → NamedItems old new spot (k + 1) (own ++ meaning ∷ [])
 one_item old mid new spot k own walked meaning same is within so_far one = λ at w rest there is_w walked_w naming.
@@ -232,7 +224,7 @@ one_item old mid new spot k own walked meaning same is within so_far one = λ at
     let s : IsNaming mid (roots_at at (drop k items) ++ rest) × EachBoth (IsOwn p at.place) (take k items) own = so_far at w rest there is_w walked_w naming in
     let here : IsNaming mid (roots_of_item at.place y.0.number y.0.item ++ (roots_at at (drop (suc k) items) ++ rest)) =
     subst (IsNaming mid)
-    (ap (λ xs. roots_at at xs ++ rest) (drop_there items k y.0 y.1)
+    (ap (λ xs. roots_at at xs ++ rest) (drop_item items k y.0 y.1)
     ∙ append_assoc (roots_of_item at.place y.0.number y.0.item) (roots_at at (drop (suc k) items)) rest) s.0 in
     let ia : IsItemAt mid spot k at y.0 walked =
     record {
@@ -251,7 +243,7 @@ pub all_items : (old new : Scene) (spot k : ℕ) (own : List Found) → count_in
 all_items old new spot k own past so_far = λ at w rest there is_w walked_w naming.
     let p = program_of old in
     let items = items_named p at.module_name in
-    let many : length w.own.items ≡ length items = both_length (λ (n : NumberedItem). IsWalked p at.place n.item) items w.own.items walked_w.own in
+    let many : length w.own.items ≡ length items = both_long (λ (n : NumberedItem). IsWalked p at.place n.item) items w.own.items walked_w.own in
     let past_w : length w.own.items ≤ k = subst (λ o. count_in o ≤ k) is_w past in
     let past_items : length items ≤ k = omega (arith, many, past_w) in
     let s : IsNaming new (roots_at at (drop k items) ++ rest) × EachBoth (IsOwn p at.place) (take k items) own = so_far at w rest there is_w walked_w naming in (
@@ -281,10 +273,10 @@ spot_laid p k j at spots by = by_order (ltb j k) refl
     by_order : (b : Bool) → ltb j k ≡ b → IsLaidSpot p at by.spot
     by_order true e =
         let s : IsSpot p at by.spot = by.done (ltb-true j k e) in
-        record { placed = s.placed; count = both_length (IsOwn p at.place) (items_named p at.module_name) by.spot.own.items s.own }
+        record { placed = s.placed; count = both_long (IsOwn p at.place) (items_named p at.module_name) by.spot.own.items s.own }
     by_order false e =
         let s : IsSpotWalked p at by.spot = by.walked (ltb-false j k e) in
-        record { placed = s.placed; count = both_length (λ (n : NumberedItem). IsWalked p at.place n.item) (items_named p at.module_name) by.spot.own.items s.own }
+        record { placed = s.placed; count = both_long (λ (n : NumberedItem). IsWalked p at.place n.item) (items_named p at.module_name) by.spot.own.items s.own }
 
 pub spots_laid : (s : Scene) (k : ℕ) → AreModules s.modules → IsWalkable (program_of s) → length s.spots.items ≡ length (instances_of (program_of s)) →
     ((j : ℕ) (at : FlatInstance) → slice_get (instances_of (program_of s)) j ≡ Some at → IsSpotBy (program_of s) k j at s.spots.items) → IsLaid s
@@ -327,7 +319,7 @@ module _ (old mid new : Scene) (k : ℕ) (own : Vec Found Global) (named : IsNam
   results : IsNaming mid (roots_by (program_of old) (drop (suc k) (instances_of (program_of old)))) × EachBoth (IsOwn (program_of old) here.0.place) (items_named (program_of old) here.0.module_name) own.items
   results =
       names here.0 by.spot (roots_by (program_of old) (drop (suc k) (instances_of (program_of old)))) here.1 by.is (by.walked (omega arith))
-      (subst (λ xs. IsNaming old (roots_by (program_of old) xs)) (drop_there (instances_of (program_of old)) k here.0 here.1) named.naming)
+      (subst (λ xs. IsNaming old (roots_by (program_of old) xs)) (drop_item (instances_of (program_of old)) k here.0 here.1) named.naming)
 
   is_made : (at : FlatInstance) → here.0 ≡ at → IsSpot (program_of old) at made
   unfolding made
@@ -418,10 +410,10 @@ named_set s named symbols few = record {
 pub none_named : (s : Scene) → AreModules s.modules → IsWalkable (program_of s) → EachBoth (IsSpotWalked (program_of s)) (instances_of (program_of s)) s.spots.items → s.definitions.items ≡ [] →
     AreTold (program_of s) (rows s) → IsNamedTo s 0
 none_named s modules walkable spots none told = record {
-  many = both_length (IsSpotWalked (program_of s)) (instances_of (program_of s)) s.spots.items spots;
+  many = both_long (IsSpotWalked (program_of s)) (instances_of (program_of s)) s.spots.items spots;
   spots = by;
   naming = record {
-    laid = spots_laid s 0 modules walkable (both_length (IsSpotWalked (program_of s)) (instances_of (program_of s)) s.spots.items spots) by;
+    laid = spots_laid s 0 modules walkable (both_long (IsSpotWalked (program_of s)) (instances_of (program_of s)) s.spots.items spots) by;
     left = record { before = []; roots = refl; numbered = subst (EachBoth (IsDefined (program_of s)) []) (sym none) tt; actuals = tt };
     told = told;
   };

@@ -23,8 +23,9 @@ use Rattle.xs_scope.specs.NeedsTree.{KeyReadsInput, keys_of, IsKeyAt, IsMeant}
 use Rattle.xs_scope.specs.Links.{Graph, Has, Reaches, start, further}
 use Rattle.xs_scope.specs.Naming.{needed, is_input, needs_in, reads_in, names_of, needs_of, reads_of, number_if, inputs_from, IsFoundAt, AreFoundIn}
 use Rattle.xs_scope.proofs.LinkLaws.{has_left, has_right, has_either}
-use Rattle.xs_scope.proofs.KeyLaws.{key_at, get_map, map_get, needed_key, needed_from, named_one, input_is, input_from}
+use Rattle.xs_scope.proofs.KeyLaws.{key_at, needed_key, needed_from, named_one, input_is, input_from}
 use Rattle.xs_scope.proofs.RootLaws.{keys_once}
+use Rattle.xs_tree.proofs.ListLaws.{get_mapped, get_map}
 
 -- a definition that is found has a key
 found_keyed : (p : ProgramTree) (at : Place) (name : Path) (f : Found) (j : ℕ) → IsFound p at name f → Has (needed f) j → (other : Key) × IsKeyAt p j other
@@ -207,7 +208,7 @@ module _ (s : Scene) (is : IsScene s) (g : Graph) (links : (k : ℕ) (d : Define
       }
     where
       root : (r : Root) × (slice_get (roots_of (program_of s)) k ≡ Some r) × (r.key ≡ key)
-      root = map_get (λ (r : Root). r.key) (roots_of (program_of s)) k key at_k
+      root = get_mapped (λ (r : Root). r.key) (roots_of (program_of s)) k key at_k
 
       there : (d : Defined) × (slice_get s.definitions.items k ≡ Some d) × IsDefined (program_of s) root.0 d
       there = both_at (IsDefined (program_of s)) (roots_of (program_of s)) s.definitions.items k root.0 is.set.definitions root.1

@@ -3,9 +3,8 @@ use Rattle.std.proofs.Common.{◌≡◌, ℕ, suc, ◌+◌, ◌<◌, arith, code
 use Rattle.std.proofs.lemmas.List.{append-nil, append_assoc, map-append, length-map, drop_more}
 use Rattle.xs_tree.specs.declared.program.Module.{Module}
 use Rattle.xs_tree.specs.ProgramTree.{ModuleTree, ProgramTree, module_tree, program_tree}
-use Rattle.xs_tree.specs.Trace.{Each}
+use Rattle.xs_tree.specs.Trace.{Each, EachBoth}
 use Rattle.xs_flat_laws.specs.Items.{Item as ItemOf, items_of, NumberedModule, modules_from, modules_of, numbered_from}
-use Rattle.xs_flat_laws.specs.Model.{EachBoth}
 use Rattle.xs_flat_laws.specs.Rules.{the_program, module_sites, IsKept}
 use Rattle.xs_scope.specs.declared.fault.FlatFault.{FlatFault}
 use Rattle.xs_scope.specs.declared.modules.Names.{Names}
@@ -15,7 +14,7 @@ use Rattle.xs_scope.specs.Reading.{Told, told_first, IsTold, module_told, module
 use Rattle.xs_scope.specs.SceneTree.{HasNames, named, number_and_item, local_entries, module_entries, module_from, AreModules}
 use Rattle.xs_scope.proofs.ReadingLaws.{told_as, told_here, none_first}
 use Rattle.xs_scope.proofs.ModuleFaults.{modules_kept}
-use Rattle.xs_scope.proofs.Naming.{both_push}
+use Rattle.xs_flat_laws.proofs.BothLaws.{both_push}
 
 pub counted_numbered : (n : ℕ) (before is : List ItemOf) → map number_and_item (numbered_from n before is) ≡ counted_from n is
 counted_numbered n before [] = refl

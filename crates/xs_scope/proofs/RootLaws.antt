@@ -17,11 +17,8 @@ use Rattle.xs_flat_laws.proofs.Lists.{each_more}
 use Rattle.xs_flat_laws.proofs.Places.{facts_named}
 use Rattle.xs_flat_laws.proofs.Walkable.{main_is_there}
 use Rattle.xs_scope.specs.NeedsTree.{keys_of}
-use Rattle.xs_scope.proofs.KeyLaws.{map_get}
-use Rattle.xs_flat_laws.proofs.KeysApart.{among_left}
-
-abbrev OtherKey : Root → Root → Type 0
-OtherKey a b = a.key ≡ b.key → ⊥
+use Rattle.xs_flat_laws.proofs.KeysApart.{among_left, below_main, OtherPlace, OtherKey}
+use Rattle.xs_tree.proofs.ListLaws.{get_mapped}
 
 abbrev KeysApart : List Root → Type 0
 KeysApart [] = Unit {0}
@@ -201,11 +198,7 @@ roots_home at (i ∷ is) =
     each_join (λ (r : Root). home_place r.key ≡ at) (roots_of_item at i.number i.item) (flat_map (λ (i : NumberedItem). roots_of_item at i.number i.item) is)
     (each_more (HasNameOf at i.item) (λ (r : Root). home_place r.key ≡ at) (roots_of_item at i.number i.item) (λ r a. a.0) (item_names at i.number i.item)) (roots_home at is)
 
--- no instance is listed twice
-abbrev OtherPlace : FlatInstance → FlatInstance → Type 0
-OtherPlace a b = a.place ≡ b.place → ⊥
-
-abbrev PlacesApart : List FlatInstance → Type 0
+abbrev pub PlacesApart : List FlatInstance → Type 0
 PlacesApart [] = Unit {0}
 PlacesApart (i ∷ is) = Each (OtherPlace i) is × PlacesApart is
 
@@ -240,25 +233,11 @@ pub visits_places : (vs : List Visit) → Apart vs → PlacesApart (flat_map ins
 visits_places [] h = tt
 visits_places (v ∷ vs) h = declared_apart (v.decl.name ∷ v.place) v.decl.what (flat_map instances_of_visit vs) (visits_other v vs h.0) (visits_places vs h.1)
 
-declared_inside : (x : Text) (at : Place) (what : DeclaredTree) → Each (λ (i : FlatInstance). [] ≡ i.place → ⊥) (instance_declared (x ∷ at) what)
-declared_inside x at boolean = tt
-declared_inside x at (range lo hi) = tt
-declared_inside x at (members ms) = tt
-declared_inside x at (instance m actuals) = ((λ e. differs e), tt)
-  where
-    differs : [] ≡ x ∷ at → ⊥
-    differs e = cc
-
-all_inside : (vs : List Visit) → Each (λ (i : FlatInstance). [] ≡ i.place → ⊥) (flat_map instances_of_visit vs)
-all_inside [] = tt
-all_inside (v ∷ vs) =
-    each_join (λ (i : FlatInstance). [] ≡ i.place → ⊥) (instances_of_visit v) (flat_map instances_of_visit vs) (declared_inside v.decl.name v.place v.decl.what) (all_inside vs)
-
 module _ (p : ProgramTree) (walkable : IsWalkable p) where
   places_apart : PlacesApart (instances_of p)
   places_apart =
       let main : (m : ModuleTree) × (find_module p (codes "main") ≡ Some m) = main_is_there p walkable in
-      (all_inside (visits p), visits_places (visits p) (visits_apart p walkable main.0 main.1))
+      (below_main (visits p), visits_places (visits p) (visits_apart p walkable main.0 main.1))
 
   abbrev roots_at : FlatInstance → List Root
   roots_at at = flat_map (λ (i : NumberedItem). roots_of_item at.place i.number i.item) (items_named p at.module_name)
@@ -310,6 +289,6 @@ module _ (p : ProgramTree) (walkable : IsWalkable p) where
   -- no key is listed twice
   pub keys_once : (i j : ℕ) (key : Key) → slice_get (keys_of p) i ≡ Some key → slice_get (keys_of p) j ≡ Some key → i ≡ j
   keys_once i j key e f =
-      let a : (r : Root) × (slice_get (roots_of p) i ≡ Some r) × (r.key ≡ key) = map_get (λ (r : Root). r.key) (roots_of p) i key e in
-      let b : (r : Root) × (slice_get (roots_of p) j ≡ Some r) × (r.key ≡ key) = map_get (λ (r : Root). r.key) (roots_of p) j key f in
+      let a : (r : Root) × (slice_get (roots_of p) i ≡ Some r) × (r.key ≡ key) = get_mapped (λ (r : Root). r.key) (roots_of p) i key e in
+      let b : (r : Root) × (slice_get (roots_of p) j ≡ Some r) × (r.key ≡ key) = get_mapped (λ (r : Root). r.key) (roots_of p) j key f in
       roots_once (roots_of p) (all_apart (instances_of p) places_apart) i j a.0 b.0 a.1 b.1 (a.2 ∙ sym b.2)

@@ -1,5 +1,5 @@
 -- What is known of formals, after one of them is told.
-use Rattle.std.proofs.Common.{◌≡◌, ℕ, zero, suc, ◌<◌, ◌≤◌, arith, get_or, List, [], ◌∷◌, length, Some, Vec, sym, ◌∙◌, ap}
+use Rattle.std.proofs.Common.{◌≡◌, ℕ, ◌≤◌, List, length, Some, Vec, sym, ◌∙◌, ap}
 use Rattle.std.specs.Prelude.{slice_get, slice_set, option_map}
 use Rattle.std.specs.declared.alloc.Global.{Global}
 use Rattle.std.proofs.lemmas.List.{map-set, set_past}
@@ -22,8 +22,3 @@ written fs k v w i f is items =
 pub written_past : (fs : List (Vec Formal Global)) (k : ℕ) (v : Vec Formal Global) (i : ℕ) (f : Formal) → slice_get fs k ≡ Some v → length v.items ≤ i →
     rows_of (slice_set fs k v) ≡ rows_with (rows_of fs) k i f
 written_past fs k v i f is past = written fs k v v i f is (sym (set_past v.items i f past))
-
-pub get_there : {A : Type 0} (xs : List A) (k : ℕ) (v : A) → k < length xs → v ≡ get_or xs k v → slice_get xs k ≡ Some v
-get_there [] k v within e = absurd (omega (arith, within))
-get_there (x ∷ xs) zero v within e = ap Some (sym e)
-get_there (x ∷ xs) (suc k) v within e = get_there xs k v (omega (arith, within)) e

@@ -19,7 +19,7 @@ use Rattle.xs_flat_laws.proofs.Variables.{both_at}
 use Rattle.xs_flat_laws.proofs.Walkable.{main_is_there}
 use Rattle.xs_tree.specs.BorrowedTexts.{texts}
 use Rattle.xs_scope.specs.SceneTree.{gives_name, item_from, local_after, local_of, HasNames, Denotes, IsFound, meaning_of_declared, meaning_of_item, IsOwnMeaning, IsOwn, IsSpot, IsKnown, formals_of, AreKnown, program_of, IsSet, IsScene}
-use Rattle.xs_scope.specs.FoundAt.{entry_of, place_from, names_of_spot, local_in, local_at, found_or, own_in, own_at, formal_or, formal_in, formal_at, told, symbol_or, symbol_at, by_local, part_at, found_inside}
+use Rattle.xs_scope.specs.FoundAt.{place_from, names_of_spot, local_in, local_at, found_or, own_in, own_at, formal_or, formal_in, formal_at, told, symbol_or, symbol_at, by_local, part_at, found_inside}
 use Rattle.xs_scope.specs.FoundAt as tables
 use Rattle.xs_scope.specs.declared.modules.Local.{Local}
 use Rattle.xs_scope.specs.declared.modules.Local.TheVariants as local
@@ -35,6 +35,7 @@ use Rattle.xs_scope.proofs.NameKinds.{locals_told, Given, item_given, none_given
 use Rattle.xs_scope.proofs.SymbolKinds.{symbols_among, PlacedAt, placed_at, not_placed}
 use Rattle.xs_tree.proofs.OneTree.{same_text_equal}
 use Rattle.xs_flat_laws.proofs.Meant.{formal_is as formal_named}
+use Rattle.xs_tree.specs.Texts.{first_with}
 
 -- a meaning that is denoted is found
 pub denoted : (p : ProgramTree) (at : Place) (name : Path) (f : Found) (m : Meaning) → Means p at name m → Denotes p f m → IsFound p at name f
@@ -135,7 +136,7 @@ module _ (s : Scene) (set : IsSet s) where
     locals = λ x.
         ap (λ o. local_in (names_of_spot s o) x) here.1
         ∙ ap (λ o. local_in o x) names.1
-        ∙ ap (λ es. entry_of es x) names.2.locals
+        ∙ ap (λ es. first_with es x) names.2.locals
         ∙ locals_told here.2.placed.tree.tree x;
   }
     where

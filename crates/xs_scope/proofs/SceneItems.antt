@@ -3,7 +3,6 @@ use Rattle.std.proofs.Common.{◌≡◌, ℕ, zero, suc, List, [], ◌∷◌, le
 use Rattle.std.specs.Prelude.{slice_get, option_map}
 use Rattle.xs_tree.specs.Flat.{FlatInstance}
 use Rattle.xs_flat_laws.specs.Items.{items_named, modules_of, numbered_items, instances_of}
-use Rattle.xs_flat_laws.specs.Model.{EachBoth}
 use Rattle.xs_flat_laws.proofs.Variables.{both_at}
 use Rattle.xs_scope.specs.ItemTree.{numbered_tree}
 use Rattle.xs_scope.specs.SceneTree.{HasNames, IsOwn, IsSpot, number_and_item, items_of_instance, items_at, program_of, IsSet}
@@ -13,12 +12,8 @@ use Rattle.xs_scope.specs.Laid.{IsLaidSpot, IsLaid}
 use Rattle.xs_scope.specs.declared.modules.Names.{Names}
 use Rattle.xs_scope.specs.declared.walk.Spot.{Spot}
 use Rattle.xs_scope.specs.declared.names.Scene.{Scene}
-
-pub both_length : {A B : Type 0} (R : A → B → Type 0) (xs : List A) (ys : List B) → EachBoth R xs ys → length ys ≡ length xs
-both_length R [] [] h = refl
-both_length R [] (y ∷ ys) h = absurd h
-both_length R (x ∷ xs) [] h = absurd h
-both_length R (x ∷ xs) (y ∷ ys) h = ap suc (both_length R xs ys h.1)
+use Rattle.xs_flat_laws.proofs.BothLaws.{both_long}
+use Rattle.xs_tree.specs.Trace.{EachBoth}
 
 pub both_none : {A B : Type 0} (R : A → B → Type 0) (xs : List A) (ys : List B) (i : ℕ) → EachBoth R xs ys → slice_get xs i ≡ None → slice_get ys i ≡ None
 both_none R [] [] i h e = refl
@@ -44,7 +39,7 @@ set_laid s set = record {
   walkable = set.walkable;
   spots =
       both_more (IsSpot (program_of s)) (IsLaidSpot (program_of s)) (instances_of (program_of s)) s.spots.items
-      (λ at own h. record { placed = h.placed; count = both_length (IsOwn (program_of s) at.place) (items_named (program_of s) at.module_name) own.own.items h.own })
+      (λ at own h. record { placed = h.placed; count = both_long (IsOwn (program_of s) at.place) (items_named (program_of s) at.module_name) own.own.items h.own })
       set.spots;
 }
 

@@ -5,9 +5,9 @@ use Rattle.std.proofs.lemmas.Option.{slice_get_within}
 use Rattle.std.specs.Prelude.{slice_get, Vec}
 use Rattle.std.specs.declared.alloc.Global.{Global}
 use Rattle.xs_tree.specs.Scope.{Key}
-use Rattle.xs_tree.specs.Trace.{Each}
+use Rattle.xs_tree.specs.Trace.{Each, EachBoth}
 use Rattle.xs_flat_laws.specs.Rules.{NeedsItself}
-use Rattle.xs_flat_laws.specs.Model.{EachBoth, Root, roots_of, AddsAll}
+use Rattle.xs_flat_laws.specs.Model.{Root, roots_of, AddsAll}
 use Rattle.xs_flat_laws.proofs.Conditions.{each_at}
 use Rattle.xs_flat_laws.proofs.Lists.{get_within}
 use Rattle.xs_scope.specs.declared.names.Scene.{Scene}
@@ -25,12 +25,7 @@ use Rattle.xs_scope.proofs.OrderLaws.{Grows, grown, has_at, at_has, in_upto, upt
 use Rattle.xs_scope.proofs.KeyLaws.{key_at}
 use Rattle.xs_scope.proofs.NeedLaws.{IsLinked, linked, circle_is, circle_from, reads_is, reads_from_input}
 use Rattle.xs_scope.proofs.AddLaws.{AreKeyed, keys_upto, keyed_each, adds_from}
-
-pub both_size : {A B : Type 0} (R : A → B → Type 0) (xs : List A) (ys : List B) → EachBoth R xs ys → length xs ≡ length ys
-both_size R [] [] h = refl
-both_size R [] (y ∷ ys) h = absurd h
-both_size R (x ∷ xs) [] h = absurd h
-both_size R (x ∷ xs) (y ∷ ys) h = ap suc (both_size R xs ys h.1)
+use Rattle.xs_flat_laws.proofs.BothLaws.{both_size}
 
 pub both_from : {A B : Type 0} (R : A → B → Type 0) (xs : List A) (ys : List B) → length xs ≡ length ys →
     ((k : ℕ) (x : A) (y : B) → slice_get xs k ≡ Some x → slice_get ys k ≡ Some y → R x y) → EachBoth R xs ys

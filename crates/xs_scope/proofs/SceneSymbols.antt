@@ -3,13 +3,14 @@ use Rattle.std.proofs.Common.{◌≡◌, ℕ, suc, ◌+◌, List, [], ◌∷◌,
 use Rattle.std.specs.Prelude.{flat_map}
 use Rattle.xs_tree.specs.ProgramTree.{Text, ModuleTree, program_tree}
 use Rattle.xs_flat_laws.specs.Items.{Item, NumberedModule, items_of, numbered_from, modules_from, modules_of}
-use Rattle.xs_flat_laws.specs.Model.{EachBoth, symbols_of_item, first_appearances, symbols_of}
+use Rattle.xs_flat_laws.specs.Model.{symbols_of_item, first_appearances, symbols_of}
 use Rattle.xs_scope.specs.ItemTree.{numbered_tree}
 use Rattle.xs_scope.specs.Symbols.{symbols_of_numbered, symbols_in}
 use Rattle.xs_scope.specs.SceneTree.{HasNames, AreModules, number_and_item}
 use Rattle.xs_scope.specs.declared.items.Numbered.{Numbered}
 use Rattle.xs_scope.specs.declared.modules.Names.{Names}
 use Rattle.xs_scope.specs.declared.modules.Modules.{Modules}
+use Rattle.xs_tree.specs.Trace.{EachBoth}
 
 -- the symbols of items with numbers
 abbrev symbols_of_pairs : List (ℕ × Item) → List Text

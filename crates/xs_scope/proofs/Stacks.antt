@@ -9,7 +9,6 @@ use Rattle.xs_tree.specs.Flat.{FlatInstance}
 use Rattle.xs_flat_laws.specs.Items.{instances_of}
 use Rattle.xs_flat_laws.specs.Looks.{Look, look_after, ComesBack}
 use Rattle.xs_flat_laws.specs.Rules.{IsWalkable}
-use Rattle.xs_flat_laws.specs.Model.{EachBoth}
 use Rattle.xs_flat_laws.proofs.LookLaws.{after_longer}
 use Rattle.xs_flat_laws.proofs.EndLaws.{steps_more, goes_on}
 use Rattle.xs_scope.specs.SceneTree.{IsKnown, formals_of}
@@ -25,6 +24,7 @@ use Rattle.xs_scope.proofs.Heads.{head_place, head_numbers}
 use Rattle.xs_scope.proofs.Told.{IsNoMoreOpen, IsChanged, changed, shut_on, told_on, still_sized}
 use Rattle.xs_flat_laws.proofs.OneOfTwo.{set_own}
 use Rattle.std.proofs.lemmas.Option.{same_Some as of_some, slice_get_within as get_less}
+use Rattle.xs_tree.specs.Trace.{EachBoth}
 
 module _ (p : ProgramTree) (rs rs' : List (List Formal)) (less : IsNoMoreOpen p rs rs') where
   pub frame_on : (f : Frame) → IsFrame p rs f → IsFrame p rs' f

@@ -2,10 +2,10 @@
 use Rattle.std.proofs.Common.{◌≡◌, ◌<◌, [], length, Vec, sym, ◌∙◌, ap, subst}
 use Rattle.std.specs.declared.alloc.Global.{Global}
 use Rattle.xs_tree.specs.ProgramTree.{ProgramTree}
-use Rattle.xs_tree.specs.Trace.{Each}
+use Rattle.xs_tree.specs.Trace.{Each, EachBoth}
 use Rattle.xs_flat_laws.specs.Items.{NumberedItem, items_named, instances_of}
 use Rattle.xs_flat_laws.specs.Rules.{IsWalkable}
-use Rattle.xs_flat_laws.specs.Model.{EachBoth, symbols_of}
+use Rattle.xs_flat_laws.specs.Model.{symbols_of}
 use Rattle.xs_tree.specs.BorrowedTexts.{texts}
 use Rattle.xs_scope.specs.SceneTree.{AreModules, IsWalked, IsSpotWalked, program_of}
 use Rattle.xs_scope.specs.Known.{rows, AreTold, IsActualTold, IsSameButFormals}
@@ -14,9 +14,10 @@ use Rattle.xs_scope.specs.Waiting.{IsReady}
 use Rattle.xs_scope.specs.declared.walk.Spot.{Spot}
 use Rattle.xs_scope.specs.declared.names.Defined.{Defined}
 use Rattle.xs_scope.specs.declared.names.Scene.{Scene}
-use Rattle.xs_scope.proofs.SceneItems.{both_length, both_more}
+use Rattle.xs_scope.proofs.SceneItems.{both_more}
 use Rattle.xs_scope.proofs.Naming.{program_same}
 use Rattle.xs_scope.proofs.NamingItems.{all_roots, none_named, named_set}
+use Rattle.xs_flat_laws.proofs.BothLaws.{both_long}
 
 pub laid_start : (s : Scene) → AreModules s.modules → IsWalkable (program_of s) → EachBoth (IsSpotWalked (program_of s)) (instances_of (program_of s)) s.spots.items → IsLaid s
 laid_start s modules walkable spots = record {
@@ -24,7 +25,7 @@ laid_start s modules walkable spots = record {
   walkable = walkable;
   spots =
       both_more (IsSpotWalked (program_of s)) (IsLaidSpot (program_of s)) (instances_of (program_of s)) s.spots.items
-      (λ at own h. record { placed = h.placed; count = both_length (λ (n : NumberedItem). IsWalked (program_of s) at.place n.item) (items_named (program_of s) at.module_name) own.own.items h.own })
+      (λ at own h. record { placed = h.placed; count = both_long (λ (n : NumberedItem). IsWalked (program_of s) at.place n.item) (items_named (program_of s) at.module_name) own.own.items h.own })
       spots;
 }
 

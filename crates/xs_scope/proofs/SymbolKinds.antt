@@ -12,20 +12,14 @@ use Rattle.xs_scope.specs.FoundAt.{place_from}
 use Rattle.xs_scope.proofs.LookSplit.{never}
 use Rattle.xs_tree.proofs.OneTree.{same_text_equal}
 use Rattle.std.proofs.lemmas.Option.{same_Some as of_some}
-
-pub grouped : (a b c : Bool) → ((a || b) || c) ≡ (a || (b || c))
-grouped true b c = refl
-grouped false b c = refl
+use Rattle.xs_tree.proofs.BoolLaws.{or_assoc}
+use Rattle.xs_tree.proofs.AmongLaws.{among_joined}
 
 exchanged : (a b : Bool) → (a || b) ≡ (b || a)
 exchanged true true = refl
 exchanged true false = refl
 exchanged false true = refl
 exchanged false false = refl
-
-pub among_joined : (xs ys : List Text) (x : Text) → is_among (xs ++ ys) x ≡ (is_among xs x || is_among ys x)
-among_joined [] ys x = refl
-among_joined (y ∷ xs) ys x = ap (λ b. same_text y x || b) (among_joined xs ys x) ∙ sym (grouped (same_text y x) (is_among xs x) (is_among ys x))
 
 -- one that is there already adds none
 absorbed : (seen y : Bool) (rest : Bool) → (y ≡ true → seen ≡ true) → (seen || (y || rest)) ≡ (seen || rest)
@@ -48,7 +42,7 @@ appearances_among seen (y ∷ xs) x = by_seen (is_among seen y) refl (appearance
         rw t
         (more
         ∙ ap (λ b. b || is_among xs x) (among_joined seen (y ∷ []) x ∙ ap (λ b. is_among seen x || b) (exchanged (same_text y x) false))
-        ∙ grouped (is_among seen x) (same_text y x) (is_among xs x))
+        ∙ or_assoc (is_among seen x) (same_text y x) (is_among xs x))
 
 members_among : (ms : List Member) (x : Text) → is_among (symbols_of_members ms) x ≡ is_symbol_of_members ms x
 members_among [] x = refl
@@ -70,7 +64,7 @@ decls_among role (d ∷ ds) rest x =
     among_joined (symbols_of_type d.what) (flat_map symbols_of_item (map (a_declaration role) ds ++ rest)) x
     ∙ ap (λ b. b || among_items (map (a_declaration role) ds ++ rest) x) (type_among d.what x)
     ∙ ap (λ b. is_symbol_of_type d.what x || b) (decls_among role ds rest x)
-    ∙ sym (grouped (is_symbol_of_type d.what x) (is_symbol_of_decls ds x) (among_items rest x))
+    ∙ sym (or_assoc (is_symbol_of_type d.what x) (is_symbol_of_decls ds x) (among_items rest x))
 
 defines_among : (ds : List DefineTree) (rest : List Item) (x : Text) → among_items (map a_definition ds ++ rest) x ≡ among_items rest x
 defines_among [] rest x = refl

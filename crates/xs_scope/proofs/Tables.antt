@@ -8,10 +8,11 @@ use Rattle.std.proofs.lemmas.Iterator.Adapters.{position_from-zero}
 use Rattle.std.specs.Map.{lookup}
 use Rattle.xs_tree.specs.BorrowedTexts.{texts}
 use Rattle.xs_scope.specs.SceneTree.{named}
-use Rattle.xs_scope.specs.FoundAt.{entry_of, place_from}
+use Rattle.xs_scope.specs.FoundAt.{place_from}
 use Rattle.xs_tree.proofs.BorrowedTexts.{same_bytes}
+use Rattle.xs_tree.specs.Texts.{first_with}
 
-pub looked_up : {V : Type 0} (x : List ℕ) (es : List (Bor (List ℕ) × V)) → lookup (λ (k : Bor (List ℕ)). pointwise nat_eq x k.now) es ≡ entry_of (named es) x
+pub looked_up : {V : Type 0} (x : List ℕ) (es : List (Bor (List ℕ) × V)) → lookup (λ (k : Bor (List ℕ)). pointwise nat_eq x k.now) es ≡ first_with (named es) x
 looked_up x [] = refl
 looked_up x (e ∷ es) = rw (same_bytes x e.0.now, looked_up x es) refl
 

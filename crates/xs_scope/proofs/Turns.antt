@@ -5,11 +5,11 @@ use Rattle.std.specs.declared.alloc.Global.{Global}
 use Rattle.std.proofs.lemmas.List.{length-map}
 use Rattle.xs_tree.specs.ProgramTree.{Text, ModuleTree, ProgramTree}
 use Rattle.xs_tree.specs.Scope.{Place, find_module}
-use Rattle.xs_tree.specs.Trace.{Each}
+use Rattle.xs_tree.specs.Trace.{Each, EachBoth}
 use Rattle.xs_tree.specs.Flat.{FlatInstance}
 use Rattle.xs_flat_laws.specs.Items.{instances_of}
 use Rattle.xs_flat_laws.specs.Rules.{IsWalkable}
-use Rattle.xs_flat_laws.specs.Model.{EachBoth, roots_of, symbols_of}
+use Rattle.xs_flat_laws.specs.Model.{roots_of, symbols_of}
 use Rattle.xs_flat_laws.specs.Looks.{ComesBack}
 use Rattle.xs_tree.specs.BorrowedTexts.{texts}
 use Rattle.xs_scope.specs.SceneTree.{AreModules, IsSpot, IsDefined, IsKnown, formals_of, AreKnown, program_of, IsSet, IsScene}
@@ -35,8 +35,8 @@ use Rattle.xs_scope.proofs.Work.{SameShape, shape_same, shape_with, shape_circle
 use Rattle.xs_scope.proofs.Starting.{symbols_by}
 use Rattle.std.proofs.lemmas.Option.{same_Some as of_some, slice_get_within as get_less}
 use Rattle.std.proofs.lemmas.Bool.{false_from_ne_true as not_true}
-use Rattle.xs_scope.proofs.Heads.{not_both as true_false}
 use Rattle.xs_flat_laws.proofs.Lists.{get_within}
+use Rattle.xs_tree.proofs.BoolLaws.{not_both}
 
 pub set_same : (old new : Scene) → IsSameButFormals old new → IsSet old → IsSet new
 set_same old new same set = record {
@@ -77,19 +77,19 @@ fresh_circled rs fs (g ∷ gs) fresh = fresh_with (circled rs gs) fs g.spot g.fo
     circle_known h = cc
 
 fresh_below : (rs : List (List Formal)) (fs : List Frame) (f : Frame) → AreFresh rs (fs ++ f ∷ []) → AreFresh rs fs
-fresh_below rs fs f fresh k i unknown = not_true (has_frame fs k i) (λ h. true_false (has_frame (fs ++ f ∷ []) k i) (has_below fs f k i h) (fresh k i unknown))
+fresh_below rs fs f fresh k i unknown = not_true (has_frame fs k i) (λ h. not_both (has_frame (fs ++ f ∷ []) k i) (has_below fs f k i h) (fresh k i unknown))
 
 fresh_pushed : (rs : List (List Formal)) (fs : List Frame) (f : Frame) → AreFresh rs fs → (formal_of rs f.spot f.formal ≡ known.Unknown → ⊥) → AreFresh rs (fs ++ f ∷ [])
 fresh_pushed rs fs f fresh other k i unknown = not_true (has_frame (fs ++ f ∷ []) k i) (λ h. by_split (has_split fs f k i h))
   where
     by_split : (has_frame fs k i ≡ true) ⊎ ((f.spot ≡ k) × (f.formal ≡ i)) → ⊥
-    by_split (inl h) = true_false (has_frame fs k i) h (fresh k i unknown)
+    by_split (inl h) = not_both (has_frame fs k i) h (fresh k i unknown)
     by_split (inr e) = other (ap (λ n. formal_of rs n f.formal) e.0 ∙ ap (formal_of rs k) e.1 ∙ unknown)
 
 fresh_after : (rs : List (List Formal)) (fs : List Frame) (f g : Frame) → g.spot ≡ f.spot → g.formal ≡ f.formal → AreFresh rs (fs ++ f ∷ []) → AreFresh rs (fs ++ g ∷ [])
 fresh_after rs fs f g spot formal fresh =
     fresh_pushed rs fs g (fresh_below rs fs f fresh)
-    (λ unknown. true_false (has_frame (fs ++ f ∷ []) g.spot g.formal) (has_last fs f g.spot g.formal (sym spot) (sym formal)) (fresh g.spot g.formal unknown))
+    (λ unknown. not_both (has_frame (fs ++ f ∷ []) g.spot g.formal) (has_last fs f g.spot g.formal (sym spot) (sym formal)) (fresh g.spot g.formal unknown))
 
 pub waiting_made : (old new : Scene) → IsSameButFormals old new → IsReady old → (rs : List (List Formal)) → rows new ≡ rs → AreSettled (rows old) rs → AreTold (program_of old) rs →
     (fs : List Frame) → IsStack (program_of old) rs fs → AreFresh rs fs → IsWaiting new fs

@@ -18,9 +18,10 @@ use Rattle.xs_scope.specs.declared.walk.Spot.{Spot}
 use Rattle.xs_scope.specs.declared.names.Formal.{Formal}
 use Rattle.xs_scope.specs.declared.names.Formal.TheVariants as known
 use Rattle.xs_scope.specs.declared.names.Scene.{Scene}
-use Rattle.xs_scope.proofs.SceneItems.{both_length, laid_at, names_laid}
+use Rattle.xs_scope.proofs.SceneItems.{laid_at, names_laid}
 use Rattle.std.proofs.lemmas.Option.{slice_get_within as get_less}
 use Rattle.xs_flat_laws.proofs.Lists.{get_end, length_end}
+use Rattle.xs_flat_laws.proofs.BothLaws.{both_long}
 
 pub unknown_more : (s mid : Scene) (k : ℕ) (fs : List (Vec Formal Global)) (v : Vec Formal Global) (count : ℕ) → IsSameButFormals s mid → rows mid ≡ unknown_to s k → fs ≡ mid.formals.items ++ v ∷ [] →
     v.items ≡ replicate count known.Unknown → count ≡ formals_at mid k → rows_of fs ≡ unknown_to s (k + 1)
@@ -88,7 +89,7 @@ unknown_told s laid k all = record {
 }
   where
     same_many : k ≡ length (instances_of (program_of s))
-    same_many = all ∙ both_length (IsLaidSpot (program_of s)) (instances_of (program_of s)) s.spots.items laid.spots
+    same_many = all ∙ both_long (IsLaidSpot (program_of s)) (instances_of (program_of s)) s.spots.items laid.spots
 
     there : (spot : ℕ) (at : FlatInstance) → slice_get (instances_of (program_of s)) spot ≡ Some at → slice_get (unknown_to s k) spot ≡ Some (replicate (formals_at s spot) known.Unknown)
     there spot at e =

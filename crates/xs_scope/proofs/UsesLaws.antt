@@ -7,7 +7,7 @@ use Rattle.xs_flat_laws.specs.Resolved.{leaves_in, trees_leaves, branches_leaves
 use Rattle.xs_flat_laws.specs.Rules.{leaves_under, trees_leaves_under, branches_leaves_under, next_under_next, trees_next_under, branches_next_under}
 use Rattle.xs_scope.specs.Flagged.{flagged, trees_flagged, branches_flagged}
 use Rattle.xs_scope.specs.Seen.{Seen, seen_after, seen_after_trees, seen_after_branches}
-use Rattle.xs_scope.proofs.SymbolKinds.{grouped}
+use Rattle.xs_tree.proofs.BoolLaws.{or_assoc}
 
 four : {A : Type 0} (xs ys zs ws : List A) → ((xs ++ ys) ++ zs) ++ ws ≡ xs ++ (ys ++ (zs ++ ws))
 four xs ys zs ws = append_assoc (xs ++ ys) zs ws ∙ append_assoc xs ys (zs ++ ws)
@@ -18,7 +18,7 @@ or_false false = refl
 
 or_four : (a b c d : Bool) → (((a || b) || c) || d) ≡ (a || (b || (c || d)))
 or_four true b c d = refl
-or_four false b c d = grouped b c d
+or_four false b c d = or_assoc b c d
 
 -- the names that are seen are those that are flagged
 mutual
@@ -71,7 +71,7 @@ mutual
   next_seen under (binary o a b) s =
       next_seen under b (seen_after under a s)
       ∙ ap (λ x. x || has_next b) (next_seen under a s)
-      ∙ grouped s.next (has_next a) (has_next b)
+      ∙ or_assoc s.next (has_next a) (has_next b)
   next_seen under (choice c a b) s =
       next_seen under b (seen_after under a (seen_after under c s))
       ∙ ap (λ x. x || has_next b) (next_seen under a (seen_after under c s) ∙ ap (λ x. x || has_next a) (next_seen under c s))
@@ -85,7 +85,7 @@ mutual
   next_seen_trees under (tree_then t ts) s =
       next_seen_trees under ts (seen_after under t s)
       ∙ ap (λ x. x || trees_have_next ts) (next_seen under t s)
-      ∙ grouped s.next (has_next t) (trees_have_next ts)
+      ∙ or_assoc s.next (has_next t) (trees_have_next ts)
 
   next_seen_branches : (under : Bool) (bs : Branches Path) (s : Seen) → (seen_after_branches under bs s).next ≡ (s.next || branches_have_next bs)
   next_seen_branches under no_branch s = or_false s.next
@@ -108,7 +108,7 @@ mutual
   nested_under (binary o a b) s =
       nested_under b (seen_after true a s)
       ∙ ap (λ x. x || has_next b) (nested_under a s)
-      ∙ grouped s.nested (has_next a) (has_next b)
+      ∙ or_assoc s.nested (has_next a) (has_next b)
   nested_under (choice c a b) s =
       nested_under b (seen_after true a (seen_after true c s))
       ∙ ap (λ x. x || has_next b) (nested_under a (seen_after true c s) ∙ ap (λ x. x || has_next a) (nested_under c s))
@@ -122,7 +122,7 @@ mutual
   nested_under_trees (tree_then t ts) s =
       nested_under_trees ts (seen_after true t s)
       ∙ ap (λ x. x || trees_have_next ts) (nested_under t s)
-      ∙ grouped s.nested (has_next t) (trees_have_next ts)
+      ∙ or_assoc s.nested (has_next t) (trees_have_next ts)
 
   nested_under_branches : (bs : Branches Path) (s : Seen) → (seen_after_branches true bs s).nested ≡ (s.nested || branches_have_next bs)
   nested_under_branches no_branch s = or_false s.nested
@@ -146,7 +146,7 @@ mutual
   nested_seen (binary o a b) s =
       nested_seen b (seen_after false a s)
       ∙ ap (λ x. x || next_under_next b) (nested_seen a s)
-      ∙ grouped s.nested (next_under_next a) (next_under_next b)
+      ∙ or_assoc s.nested (next_under_next a) (next_under_next b)
   nested_seen (choice c a b) s =
       nested_seen b (seen_after false a (seen_after false c s))
       ∙ ap (λ x. x || next_under_next b) (nested_seen a (seen_after false c s) ∙ ap (λ x. x || next_under_next a) (nested_seen c s))
@@ -160,7 +160,7 @@ mutual
   nested_seen_trees (tree_then t ts) s =
       nested_seen_trees ts (seen_after false t s)
       ∙ ap (λ x. x || trees_next_under ts) (nested_seen t s)
-      ∙ grouped s.nested (next_under_next t) (trees_next_under ts)
+      ∙ or_assoc s.nested (next_under_next t) (trees_next_under ts)
 
   nested_seen_branches : (bs : Branches Path) (s : Seen) → (seen_after_branches false bs s).nested ≡ (s.nested || branches_next_under bs)
   nested_seen_branches no_branch s = or_false s.nested

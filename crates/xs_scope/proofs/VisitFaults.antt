@@ -14,7 +14,9 @@ use Rattle.xs_scope.specs.Faults.{rule_of, IsFaultOf}
 use Rattle.xs_scope.specs.Reading.{Told, told_if, told_first, IsTold}
 use Rattle.xs_scope.specs.SceneTree.{AreModules}
 use Rattle.xs_scope.specs.Walking.{calls_declared, passes_limit, visits_told, program_in}
-use Rattle.xs_scope.proofs.ModuleFaults.{never, flat_end}
+use Rattle.xs_flat_laws.proofs.VariableCounts.{variables_and}
+use Rattle.xs_tree.proofs.ListLaws.{flat_end}
+use Rattle.xs_tree.proofs.BoolLaws.{never}
 
 limit_passed : (before : List Visit) (what : DeclaredTree) → passes_limit (instances_before before) (variables_before before) what ≡ true → PassesLimit before what
 limit_passed before boolean e = omega (arith, ltb-true 1999 (variables_before before) e)
@@ -104,10 +106,6 @@ more_instances before v =
     ap length (flat_end (λ (w : Visit). instance_declared w.place w.decl.what) before v) ∙ length-append (flat_map (λ (w : Visit). instance_declared w.place w.decl.what) before) (instance_declared v.place v.decl.what) in
     omega (arith, count, same_number v.place (v.decl.name ∷ v.place) v.decl.what)
 
-more_variables : (before : List Visit) (v : Visit) → variables_before (before ++ v ∷ []) ≡ variables_before before + length (variable_declared v v.decl.what)
-more_variables before v =
-    ap length (flat_end (λ (w : Visit). variable_declared w w.decl.what) before v) ∙ length-append (flat_map (λ (w : Visit). variable_declared w w.decl.what) before) (variable_declared v v.decl.what)
-
 visits_outcome : (p : ProgramTree) (before vs : List Visit) → Outcome p (visit_sites before vs) (visits_told p (instances_before before) (variables_before before) vs)
 visits_outcome p before [] = tt
 visits_outcome p before (v ∷ vs) =
@@ -115,7 +113,7 @@ visits_outcome p before (v ∷ vs) =
     (visits_told p (instances_before before + length (calls_declared (v.decl.name ∷ v.place) v.decl.what)) (variables_before before + length (variable_declared v v.decl.what)) vs)
     (Missing p before v) (Miscounted p before v) (Inside p before v) (passes_limit (instances_before before) (variables_before before) v.decl.what) refl refl refl refl
     (subst (λ (n : ℕ). Outcome p (visit_sites (before ++ v ∷ []) vs) (visits_told p n (variables_before before + length (variable_declared v v.decl.what)) vs)) (more_instances before v)
-    (subst (λ (n : ℕ). Outcome p (visit_sites (before ++ v ∷ []) vs) (visits_told p (instances_before (before ++ v ∷ [])) n vs)) (more_variables before v)
+    (subst (λ (n : ℕ). Outcome p (visit_sites (before ++ v ∷ []) vs) (visits_told p (instances_before (before ++ v ∷ [])) n vs)) (variables_and before v)
     (visits_outcome p (before ++ v ∷ []) vs)))
 
 pub walkable : (ms : Modules) → AreModules ms → visits_told (program_in ms) 1 0 (visits (program_in ms)) ≡ None → IsWalkable (program_in ms)

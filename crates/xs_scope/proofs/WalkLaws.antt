@@ -6,8 +6,7 @@ use Rattle.xs_tree.specs.ProgramTree.{Text, DeclaredTree, boolean, range, member
 use Rattle.xs_tree.specs.Scope.{Place, Role}
 use Rattle.xs_tree.specs.Flat.{FlatVariable}
 use Rattle.xs_flat_laws.specs.Items.{Item as ItemOf, a_declaration, a_definition, an_assignment, some_constants, an_init, an_invar, a_trans, NumberedItem, items_named, Visit, variable_declared}
-use Rattle.xs_flat_laws.specs.Model.{EachBoth}
-use Rattle.xs_flat_laws.proofs.Lists.{get_left, get_within}
+use Rattle.xs_flat_laws.proofs.Lists.{get_within}
 use Rattle.xs_scope.specs.declared.modules.Modules.{Modules}
 use Rattle.xs_scope.specs.declared.walk.Meaning.{Meaning as Found}
 use Rattle.xs_scope.specs.declared.walk.Spot.{Spot}
@@ -16,7 +15,10 @@ use Rattle.xs_tree.specs.ModelTree.{variable_tree}
 use Rattle.xs_scope.specs.Reading.{Told, told_first}
 use Rattle.xs_tree.specs.BorrowedTexts.{texts}
 use Rattle.xs_scope.specs.Walking.{Call, calls_declared, calls_in, variables_in, visit_told, visits_told, program_in, call_of, calls_of, variables_of_walk, on_path_of, place_of_spot, place_at, IsInstanceIn, IsVariableIn, IsDeclarationIn, IsOwnIn, IsCaller, IsSpotOf, IsDeclaredIn, HasWalked}
-use Rattle.xs_scope.proofs.SceneItems.{both_length, both_more}
+use Rattle.xs_scope.proofs.SceneItems.{both_more}
+use Rattle.xs_value.proofs.ListLaws.{get_left}
+use Rattle.xs_flat_laws.proofs.BothLaws.{both_long}
+use Rattle.xs_tree.specs.Trace.{EachBoth}
 
 pub both_join : {A B : Type 0} (R : A → B → Type 0) (xs xs' : List A) (ys ys' : List B) → EachBoth R xs ys → EachBoth R xs' ys' → EachBoth R (xs ++ xs') (ys ++ ys')
 both_join R [] xs' [] ys' h k = k
@@ -102,12 +104,12 @@ module _ (ms : Modules) (old new : Walk) (cs : List Call) (vs : List Visit) (h :
   variables_grow = ap (map variable_tree) h.variables ∙ map-append variable_tree old.variables h.added
 
   pub spots_count : length new.spots.items ≡ length old.spots.items + length cs
-  spots_count = ap length h.spots ∙ length-append old.spots.items h.more ∙ ap (λ n. length old.spots.items + n) (both_length (IsSpotOf ms (calls_of ms new) (variables_of_walk new)) cs h.more h.done)
+  spots_count = ap length h.spots ∙ length-append old.spots.items h.more ∙ ap (λ n. length old.spots.items + n) (both_long (IsSpotOf ms (calls_of ms new) (variables_of_walk new)) cs h.more h.done)
 
   pub variables_count : length new.variables ≡ length old.variables + length (variables_in vs)
   variables_count =
       ap length h.variables ∙ length-append old.variables h.added
-      ∙ ap (λ n. length old.variables + n) (sym (length-map h.added variable_tree) ∙ both_length (IsDeclaredIn (calls_of ms new)) (variables_in vs) (map variable_tree h.added) h.declared)
+      ∙ ap (λ n. length old.variables + n) (sym (length-map h.added variable_tree) ∙ both_long (IsDeclaredIn (calls_of ms new)) (variables_in vs) (map variable_tree h.added) h.declared)
 
   pub path_stays : on_path_of new ≡ on_path_of old
   path_stays = ap (λ ks. reverse (texts ks)) h.inside

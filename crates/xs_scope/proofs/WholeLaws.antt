@@ -5,11 +5,10 @@ use Rattle.std.proofs.lemmas.List.{map-append}
 use Rattle.xs_tree.specs.ProgramTree.{Text, Formula, DeclaredTree, boolean, range, members, instance, ModuleTree, ProgramTree}
 use Rattle.xs_tree.specs.Scope.{Place, Role, an_instance, kind_declared, kind_at, module_at, find_module}
 use Rattle.xs_tree.specs.Texts.{is_among}
-use Rattle.xs_tree.specs.Trace.{Each}
+use Rattle.xs_tree.specs.Trace.{Each, EachBoth}
 use Rattle.xs_tree.specs.Written.{tree_of}
 use Rattle.xs_tree.specs.Flat.{FlatInstance, FlatVariable}
 use Rattle.xs_flat_laws.specs.Items.{Item as ItemOf, a_declaration, a_definition, an_assignment, some_constants, an_init, an_invar, a_trans, NumberedItem, items_named, Visit, walk, visits, instance_declared, instances_of_visit, instances_of, variables_of}
-use Rattle.xs_flat_laws.specs.Model.{EachBoth}
 use Rattle.xs_flat_laws.specs.Rules.{IsWalkable}
 use Rattle.xs_flat_laws.proofs.Conditions.{each_join}
 use Rattle.xs_flat_laws.proofs.Places.{Real, has_main}
@@ -33,8 +32,8 @@ use Rattle.xs_scope.proofs.FoundModule.{main_at}
 use Rattle.xs_scope.proofs.MetLaws.{calls_met, module_named}
 use Rattle.xs_scope.proofs.ReadingLaws.{told_as}
 use Rattle.xs_scope.proofs.VisitFaults.{walkable, visits_fault}
-use Rattle.xs_scope.proofs.KeyLaws.{get_map}
 use Rattle.xs_scope.proofs.SceneItems.{both_more}
+use Rattle.xs_tree.proofs.ListLaws.{get_map}
 
 -- Lists.
 both_to_map : {A B C : Type 0} (f : A → C) (R : C → B → Type 0) (xs : List A) (ys : List B) → EachBoth (λ (x : A). R (f x)) xs ys → EachBoth R (map f xs) ys

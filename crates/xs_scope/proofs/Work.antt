@@ -11,6 +11,7 @@ use Rattle.xs_scope.specs.declared.names.Formal.TheVariants as known
 use Rattle.xs_scope.specs.declared.formals.Frame.{Frame}
 use Rattle.xs_scope.proofs.Told.{IsChanged, changed}
 use Rattle.std.proofs.lemmas.Bool.{or_left, or_right, and_parts as and_both, and_from as and_true}
+use Rattle.xs_tree.proofs.BoolLaws.{or_cases}
 
 -- sums over as many formals
 abbrev pub SameShape : List (List Formal) → List (List Formal) → Type 0
@@ -123,11 +124,6 @@ told_left b known.Begun told = absurd (told tt)
 told_left b known.Circle told = refl
 told_left b (known.Means m) told = refl
 
--- whether a look-up waits
-pub or_split : (a b : Bool) → (a || b) ≡ true → (a ≡ true) ⊎ (b ≡ true)
-or_split true b h = inl refl
-or_split false b h = inr h
-
 pub of_frame : (k i : ℕ) (f : Frame) → is_of k i f ≡ true → (f.spot ≡ k) × (f.formal ≡ i)
 of_frame k i f h =
     let both : ((f.spot == k) ≡ true) × ((f.formal == i) ≡ true) = and_both (f.spot == k) (f.formal == i) h in (eqb-true f.spot k both.0, eqb-true f.formal i both.1)
@@ -145,7 +141,7 @@ pub has_last : (fs : List Frame) (f : Frame) (k i : ℕ) → f.spot ≡ k → f.
 has_last fs f k i e d = has_end fs f k i ∙ or_right (has_frame fs k i) (is_of k i f || false) (or_left (is_of k i f) false (own_frame k i f e d))
 
 pub has_split : (fs : List Frame) (f : Frame) (k i : ℕ) → has_frame (fs ++ f ∷ []) k i ≡ true → (has_frame fs k i ≡ true) ⊎ ((f.spot ≡ k) × (f.formal ≡ i))
-has_split fs f k i h = by_end (or_split (has_frame fs k i) (is_of k i f || false) (sym (has_end fs f k i) ∙ h))
+has_split fs f k i h = by_end (or_cases (has_frame fs k i) (is_of k i f || false) (sym (has_end fs f k i) ∙ h))
   where
     by_own : (is_of k i f ≡ true) ⊎ (false ≡ true) → (has_frame fs k i ≡ true) ⊎ ((f.spot ≡ k) × (f.formal ≡ i))
     by_own (inl e) = inr (of_frame k i f e)
@@ -153,7 +149,7 @@ has_split fs f k i h = by_end (or_split (has_frame fs k i) (is_of k i f || false
 
     by_end : (has_frame fs k i ≡ true) ⊎ ((is_of k i f || false) ≡ true) → (has_frame fs k i ≡ true) ⊎ ((f.spot ≡ k) × (f.formal ≡ i))
     by_end (inl e) = inl e
-    by_end (inr e) = by_own (or_split (is_of k i f) false e)
+    by_end (inr e) = by_own (or_cases (is_of k i f) false e)
 
 -- a turn
 module _ (rs rs' : List (List Formal)) (fs fs' : List Frame) (shape : SameShape rs rs') (settled : AreSettled rs rs')

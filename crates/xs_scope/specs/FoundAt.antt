@@ -2,7 +2,7 @@
 use Rattle.std.specs.Prelude.{ℕ, suc, Bool, true, false, if◌then◌else◌, List, [], ◌∷◌, Option, Some, None, slice_get, nat_lt, Vec}
 use Rattle.std.specs.declared.alloc.Global.{Global}
 use Rattle.xs_tree.specs.ProgramTree.{Text, Path}
-use Rattle.xs_tree.specs.Texts.{same_text}
+use Rattle.xs_tree.specs.Texts.{same_text, first_with}
 use Rattle.xs_tree.specs.BorrowedTexts.{texts}
 use Rattle.xs_scope.specs.SceneTree.{named}
 use Rattle.xs_scope.specs.declared.modules.Local.{Local}
@@ -14,11 +14,6 @@ use Rattle.xs_scope.specs.declared.walk.Spot.{Spot}
 use Rattle.xs_scope.specs.declared.names.Formal.{Formal}
 use Rattle.xs_scope.specs.declared.names.Formal.TheVariants as known
 use Rattle.xs_scope.specs.declared.names.Scene.{Scene}
-
--- the first entry of a text
-abbrev pub entry_of : {V : Type 0} → List (Text × V) → Text → Option V
-entry_of [] x = None
-entry_of (e ∷ es) x = if same_text e.0 x then Some e.1 else entry_of es x
 
 -- the place of a text, counted on from a number
 abbrev pub place_from : ℕ → List Text → Text → Option ℕ
@@ -33,7 +28,7 @@ names_of_spot s (Some spot) = slice_get s.modules.list.items spot.«module»
 -- what a name is in these names of a module
 abbrev pub local_in : Option Names → Text → Option Local
 local_in None x = None
-local_in (Some n) x = entry_of (named n.locals.entries) x
+local_in (Some n) x = first_with (named n.locals.entries) x
 
 -- what a name is in the module of an instance
 abbrev pub local_at : Scene → ℕ → Text → Option Local

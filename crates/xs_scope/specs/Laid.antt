@@ -3,11 +3,11 @@ use Rattle.std.specs.Prelude.{◌≡◌, ℕ, ◌<◌, ◌≤◌, List, ◌∷�
 use Rattle.std.specs.declared.alloc.Global.{Global}
 use Rattle.xs_tree.specs.ProgramTree.{Text, Formula, DeclTree, ProgramTree}
 use Rattle.xs_tree.specs.Scope.{Role, kind_declared, an_instance, kind_at, module_at, actual_of_kind, plain_name}
-use Rattle.xs_tree.specs.Trace.{Each}
+use Rattle.xs_tree.specs.Trace.{Each, EachBoth}
 use Rattle.xs_tree.specs.Flat.{FlatInstance}
 use Rattle.xs_flat_laws.specs.Items.{NumberedItem, items_named, instances_of}
 use Rattle.xs_flat_laws.specs.Rules.{IsWalkable}
-use Rattle.xs_flat_laws.specs.Model.{EachBoth, Root, root_of_actual, roots_of_actuals, roots_of_type, roots_of_item, roots_of}
+use Rattle.xs_flat_laws.specs.Model.{Root, root_of_actual, roots_of_actuals, roots_of_type, roots_of_item, roots_of}
 use Rattle.xs_scope.specs.SceneTree.{AreModules, IsPlaced, IsWalked, IsOwn, IsSpotWalked, IsSpot, IsDefined, Denotes, meaning_of_declared, program_of}
 use Rattle.xs_scope.specs.Known.{rows, AreTold, IsActualTold}
 use Rattle.xs_scope.specs.declared.walk.Meaning.{Meaning}

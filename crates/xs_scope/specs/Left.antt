@@ -4,20 +4,16 @@ use Rattle.xs_scope.specs.declared.needs.Mark.{Mark}
 use Rattle.xs_scope.specs.declared.needs.Mark.TheVariants.{Unmet, Begun, Ended}
 use Rattle.xs_scope.specs.Links.{Graph, Spread}
 use Rattle.xs_scope.specs.Laying.{Lay}
+use Rattle.xs_tree.specs.Values.{opposite}
 
 -- the work of all numbers whose marks are open
 abbrev pub open_work : {M : Type 0} → (M → Bool) → (ℕ → ℕ) → List M → ℕ
 open_work is_open work [] = 0
 open_work is_open work (mark ∷ marks) = (if is_open mark then work zero else 0) + open_work is_open (λ k. work (suc k)) marks
 
--- the number is still to be reached
-abbrev pub is_unmarked : Bool → Bool
-is_unmarked true = false
-is_unmarked false = true
-
 -- the numbers that wait, and the links of those that are not marked yet
 abbrev pub left_to_spread : Graph → Spread → ℕ
-left_to_spread g s = length s.waiting + open_work is_unmarked (λ k. length (g k)) s.reached
+left_to_spread g s = length s.waiting + open_work opposite (λ k. length (g k)) s.reached
 
 -- the number is still to be visited
 abbrev pub is_unmet : Mark → Bool

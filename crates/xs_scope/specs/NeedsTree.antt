@@ -2,11 +2,11 @@
 use Rattle.std.specs.Prelude.{◌≡◌, ◌↔◌, ℕ, Bool, true, false, List, [], length, map, Some, slice_get}
 use Rattle.xs_tree.specs.ProgramTree.{Path, Formula, ProgramTree}
 use Rattle.xs_tree.specs.Scope.{Place, Key}
-use Rattle.xs_tree.specs.Trace.{Each, AtSome}
+use Rattle.xs_tree.specs.Trace.{Each, AtSome, EachBoth}
 use Rattle.xs_flat_laws.specs.Looks.{MeansNothing, MeetsLoop}
 use Rattle.xs_flat_laws.specs.Resolved.{leaves_in}
 use Rattle.xs_flat_laws.specs.Rules.{Leads, NeedsItself, MeansInput, expression_of}
-use Rattle.xs_flat_laws.specs.Model.{EachBoth, Root, roots_of, AddsAll}
+use Rattle.xs_flat_laws.specs.Model.{Root, roots_of, AddsAll}
 use Rattle.xs_scope.specs.declared.needs.Needs.{Needs}
 
 -- a definition names an input, itself or through others

@@ -6,7 +6,6 @@ use Rattle.xs_tree.specs.Scope.{find_module}
 use Rattle.xs_tree.specs.Texts.{same_text, is_among}
 use Rattle.xs_flat_laws.specs.Items.{Item as ItemOf, NumberedModule, modules_of, numbered_items, items_of, items_named}
 use Rattle.xs_flat_laws.specs.Rules.{Rule, main_has_parameters, double_module, double_name, has_formals, is_module_among, names_of_item, is_name_again}
-use Rattle.xs_flat_laws.specs.Model.{EachBoth}
 use Rattle.xs_scope.specs.ItemTree.{counted_from, item_tree}
 use Rattle.xs_scope.specs.Faults.{rule_of}
 use Rattle.xs_scope.specs.SceneTree.{HasNames, named, module_entries}
@@ -14,6 +13,7 @@ use Rattle.xs_scope.specs.declared.fault.FlatFault.{FlatFault}
 use Rattle.xs_scope.specs.declared.items.Numbered.{Numbered}
 use Rattle.xs_scope.specs.declared.modules.Names.{Names}
 use Rattle.xs_scope.specs.declared.modules.Modules.{Modules}
+use Rattle.xs_tree.specs.Trace.{EachBoth}
 
 -- a rule and the item that breaks it, if one does
 abbrev pub Told : Type 0

@@ -6,12 +6,12 @@ use Rattle.xs_tree.specs.ProgramTree.{Text, Path, Formula, DeclaredTree, instanc
 use Rattle.xs_tree.specs.Texts.{same_text}
 use Rattle.xs_tree.specs.Written.{tree_of}
 use Rattle.xs_tree.specs.Scope.{Place, define_key, Meaning, a_variable_at, an_expression_at, an_instance_at, a_symbol, Means, find_module, formal_from, kind_at, module_at, an_instance}
-use Rattle.xs_tree.specs.Trace.{Each}
+use Rattle.xs_tree.specs.Trace.{Each, EachBoth}
 use Rattle.xs_tree.specs.Flat.{FlatInstance}
 use Rattle.xs_flat_laws.specs.Items.{Item as ItemOf, a_declaration, a_definition, NumberedItem, NumberedModule, modules_of, numbered_items, items_of, items_named, Visit, instances_of, variables_of}
 use Rattle.xs_flat_laws.specs.Looks.{ComesBack, MeetsLoop, MeansNothing}
 use Rattle.xs_flat_laws.specs.Rules.{the_program, module_sites, IsKept, IsWalkable, expression_of}
-use Rattle.xs_flat_laws.specs.Model.{EachBoth, Root, roots_of, symbols_of}
+use Rattle.xs_flat_laws.specs.Model.{Root, roots_of, symbols_of}
 use Rattle.xs_scope.specs.ItemTree.{numbered_tree}
 use Rattle.xs_tree.specs.ModelTree.{role_of, place_of}
 use Rattle.xs_tree.specs.BorrowedTexts.{texts}

@@ -4,11 +4,11 @@ use Rattle.xs_tree.specs.ProgramTree.{ProgramTree}
 use Rattle.xs_tree.specs.Flat.{FlatInstance, FlatVariable}
 use Rattle.xs_flat_laws.specs.Items.{Visit, instances_of, variables_of}
 use Rattle.xs_flat_laws.specs.Rules.{IsWalkable}
-use Rattle.xs_flat_laws.specs.Model.{EachBoth}
 use Rattle.xs_tree.specs.ModelTree.{variable_tree}
 use Rattle.xs_scope.specs.SceneTree.{IsSpotWalked}
 use Rattle.xs_tree.specs.declared.model.Variable.{Variable}
 use Rattle.xs_scope.specs.declared.walk.Walk.{Walk}
+use Rattle.xs_tree.specs.Trace.{EachBoth}
 
 -- a variable as it is declared, with its instance by number
 pub record IsDeclaredBy (p : ProgramTree) (v : Visit) (x : FlatVariable) : Type 0 where

@@ -4,11 +4,10 @@ use Rattle.std.specs.declared.alloc.Global.{Global}
 use Rattle.xs_tree.specs.ProgramTree.{Text, Formula, DeclaredTree, instance, ProgramTree, program_tree, decl_tree, declared_tree}
 use Rattle.xs_tree.specs.Scope.{Place, Role, find_module}
 use Rattle.xs_tree.specs.Texts.{is_among}
-use Rattle.xs_tree.specs.Trace.{Each}
+use Rattle.xs_tree.specs.Trace.{Each, EachBoth}
 use Rattle.xs_tree.specs.Written.{tree_of}
 use Rattle.xs_tree.specs.Flat.{FlatVariable}
 use Rattle.xs_flat_laws.specs.Items.{Item as ItemOf, a_declaration, NumberedItem, items_named, Visit, visits_of, walk, variable_declared}
-use Rattle.xs_flat_laws.specs.Model.{EachBoth}
 use Rattle.xs_flat_laws.proofs.Pigeons.{IsThere, AreApart}
 use Rattle.xs_flat_laws.specs.Rules.{no_such_module, wrong_count, module_loop, too_many, is_missing, is_missing_instance, is_miscounted, is_on_path, is_other_count}
 use Rattle.xs_tree.specs.declared.model.Role.{Role as RoleWord}

@@ -8,13 +8,13 @@ ghost use Rattle.xs_tree.specs.Scope.{plain_name};
 ghost use Rattle.xs_tree.specs.Flat.{FlatInstance};
 ghost use Rattle.xs_flat_laws.specs.Items.{instances_of};
 ghost use Rattle.xs_flat_laws.specs.Rules.{IsWalkable};
-ghost use Rattle.xs_flat_laws.specs.Model.{EachBoth};
 ghost use Rattle.xs_scope.specs.ItemTree.{item_tree};
 ghost use Rattle.xs_scope.specs.SceneTree.{AreModules, IsSpotWalked, IsScene, IsFound, program_of, items_at, number_and_item};
 ghost use Rattle.xs_scope.specs.FoundAt.{names_of_spot, local_at, own_at, formal_at, symbol_or, symbol_at, part_at, found_at, told};
 ghost use Rattle.xs_scope.specs.Steps.{step_at, numbered_at, count_in};
 ghost use Rattle.xs_scope.specs.Known.{rows, rows_with, formals_at, IsSameButFormals, AreTold};
 ghost use Rattle.xs_scope.specs.Laid.{IsLaid, IsNamedTo, IsSameProgram, NamesItems, NamesItem, NamesDeclared, NamesActuals, NamesActual, with_own};
+ghost use Rattle.xs_tree.specs.Trace.{EachBoth};
 
 use crate::items::{Item, Numbered};
 use crate::modules::{Local, Modules, Names};

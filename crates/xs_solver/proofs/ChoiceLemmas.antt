@@ -1,18 +1,17 @@
 -- What is known of a trail from its free choices, and from a variable below which none is free.
-use Rattle.std.proofs.Common.{zero, suc, ◌≡◌, ◌≢◌, ◌<◌, ◌≤◌, ◌+◌, ◌⊎◌, inl, inr, ⊎_elim, ℕ, Bool, true, List, [], ◌∷◌, ◌++◌, All, length, reverse, replicate, get_or, set, Some, None, sym, ap, ◌∙◌, subst, arith}
+use Rattle.std.proofs.Common.{zero, suc, ◌≡◌, ◌≢◌, ◌<◌, ◌≤◌, ◌+◌, ◌⊎◌, inl, inr, ⊎_elim, ℕ, true, List, [], ◌∷◌, ◌++◌, All, length, reverse, replicate, set, Some, None, sym, ap, ◌∙◌, subst, arith}
 use Rattle.std.specs.Prelude.{slice_get}
-use Rattle.std.proofs.lemmas.List.{reverse-append, length-append, get_or_append_left, length-set, length-replicate, get_or-set_other}
-use Rattle.std.proofs.lemmas.Bool.{cases_lt, cases_eq}
+use Rattle.std.proofs.lemmas.List.{reverse-append, length-set, length-replicate, get_or-set_other}
 use Rattle.std.proofs.lemmas.List.Elements.{All-weaker}
 use Rattle.xs_lits.specs.Literal.{Literal}
-use Rattle.xs_lits.specs.Assignment.{Assignment, all_free, value_of, made_true}
+use Rattle.xs_lits.specs.Assignment.{Assignment, all_free, value_of}
 use Rattle.xs_lits.specs.Derivation.{IsUpTo}
 use Rattle.xs_solver.specs.declared.trail.Entry.{Entry}
 use Rattle.xs_solver.specs.declared.trail.Reason.TheVariants.{Chosen}
 use Rattle.xs_solver.specs.TrailRecord.{TrailValue}
 use Rattle.xs_solver.specs.Trail.{assigned, IsFresh, HasChoice, IsLeast}
 use Rattle.xs_solver.specs.Search.{IsReason, IsJustified, IsSound}
-use Rattle.xs_solver.proofs.ExplainLemmas.{value_part, IsPart-more, made_true_here, made_true_else}
+use Rattle.xs_solver.proofs.ExplainLemmas.{value_part, IsPart-more}
 
 -- one of these was a free choice
 abbrev HasChosen : List Entry → Type 0
@@ -60,24 +59,7 @@ choice_assumes clauses assumptions t sound has =
     (true_since clauses assumptions (length t.values) (reverse t.entries) sound.lawful.fresh sound.justified
     (chosen_reverse t.entries (chosen_at t.entries has.place has.entry has.is_there has.chosen)))
 
--- what is given a value is free no longer, and what is freed may be the least free variable
-pub least_set : (a : Assignment) (n : ℕ) (l : Literal) → IsLeast a n → IsLeast (made_true a l) n
-least_set a n l least = record {
-  positive = least.positive;
-  within = subst (λ (m : ℕ). n ≤ m) (sym (length-set a l.var _)) least.within;
-  taken = λ x positive below. ⊎_elim
-      (λ same. by_place x same (cases_lt l.var (length a)) positive below)
-      (λ other. λ is. least.taken x positive below (sym (made_true_else a l x other) ∙ is))
-      (cases_eq x l.var);
-}
-  where
-    none_some : {b : Bool} → None ≡ Some b → ⊥
-    none_some is = cc
-
-    by_place : (x : ℕ) → x ≡ l.var → (l.var < length a) ⊎ (length a ≤ l.var) → 0 < x → x < n → get_or (made_true a l) x None ≢ None
-    by_place x same (inl inside) positive below = λ is. none_some (sym is ∙ (ap (λ y. get_or (made_true a l) y None) same ∙ made_true_here a l inside))
-    by_place x same (inr outside) positive below = absurd (omega (arith, same, outside, below, least.within))
-
+-- a variable that is freed may be the least free one
 pub least_freed : (a : Assignment) (n v : ℕ) → IsLeast a n → 1 ≤ v → v < n → IsLeast (set a v None) v
 least_freed a n v least positive below = record {
   positive = positive;
@@ -97,14 +79,6 @@ least_kept a n v least above = record {
   where
     other : (x : ℕ) → x < n → x ≢ v
     other x lt same = omega (arith, lt, same, above)
-
--- a variable more is free, and is not below the others
-pub least_more : (a b : Assignment) (n : ℕ) → b ≡ a ++ None ∷ [] → IsLeast a n → IsLeast b n
-least_more a b n more least = record {
-  positive = least.positive;
-  within = omega (arith, least.within, ap length more, length-append a (None ∷ []));
-  taken = λ x some lt. λ is. least.taken x some lt (sym (ap (λ (d : Assignment). get_or d x None) more ∙ get_or_append_left a (None ∷ []) None x (omega (arith, lt, least.within))) ∙ is);
-}
 
 -- a trail without literals is sound
 pub sound_first : (clauses : List (List Literal)) (assumptions : List Literal) (vars : ℕ) (t : TrailValue) → t.values ≡ all_free vars → t.entries ≡ [] → All (All (IsUpTo vars)) clauses → IsSound clauses assumptions t

@@ -3,7 +3,6 @@ use Rattle.std.specs.Prelude.{suc, List, [], ◌∷◌, Option, Some, None, leng
 use Rattle.xs_tree.specs.declared.expr.Op.TheVariants as op
 use Rattle.xs_tree.specs.Tree.{Tree, binary}
 use Rattle.xs_tree.specs.ProgramTree.{Path}
-use Rattle.xs_tree.specs.declared.model.Fault.{Fault}
 use Rattle.xs_tree.specs.Flat.{FlatLeaf, FlatModel}
 use Rattle.xs_flat_laws.specs.History.{Mode}
 use Rattle.xs_cause_laws.specs.Causes.{CommonCause}
@@ -13,10 +12,6 @@ use Rattle.xs_staging.specs.declared.cause.Cause.{Cause}
 -- the cause in memory as the definitions see it
 abbrev pub cause_of : Cause → CommonCause
 cause_of c = record { name = c.name; from = c.from; to = c.to; strikes = c.strikes }
-
--- the name by which a fault's event is told
-abbrev pub told_name : Fault → Path
-told_name f = f.name
 
 -- the name by which a cause's event is told
 abbrev pub told_cause : Cause → Path

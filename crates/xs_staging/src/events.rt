@@ -7,10 +7,10 @@ ghost use Rattle.std.specs.Prelude.{◌≡◌, ◌<◌, ◌≤◌, ◌++◌, suc
 ghost use Rattle.xs_tree.specs.Tree.{choice as choice_tree, leaf};
 ghost use Rattle.xs_tree.specs.Flat.{flat_symbol};
 ghost use Rattle.xs_right_laws.specs.Sets.{has_number as has_number_of};
-ghost use Rattle.xs_tree.specs.ModelTree.{model_tree, formula_tree, flat_tree};
+ghost use Rattle.xs_tree.specs.ModelTree.{model_tree, formula_tree, flat_tree, name_of_fault};
 ghost use Rattle.xs_flat_laws.specs.FaultModes.{mode_of};
 ghost use Rattle.xs_cause_laws.specs.Staged.{with_own as own_with, with_owns, own_events, own_at_first as own_first, own_at_step as own_step, stands_of, joined as windows_of, windows_on as windows_on_of, only as only_tree};
-ghost use Rattle.xs_staging.specs.CauseOf.{cause_of, told_name, either_tree};
+ghost use Rattle.xs_staging.specs.CauseOf.{cause_of, either_tree};
 
 use crate::build::{
     binary, choice, falsehood, next, only, opposite, state, symbol, two_symbols, within,
@@ -37,7 +37,7 @@ pub(crate) fn add_own_events(
     requires ages { length ages.now ≡ length causes.now }
     ensures model { OnOk result (model_tree made.new ≡ with_owns (map mode_of faults.now) (map cause_of causes.now) ages.now 1 (map mode_of faults.now) (model_tree made.old)) }
     ensures events { OnOk result (map mode_of events.new ≡ map mode_of events.old ++ own_events (length (model_tree made.old).variables) (length (model_tree made.old).symbols) (map mode_of faults.now)) }
-    ensures names { OnOk result (map told_name events.new ≡ map told_name events.old ++ map told_name faults.now) }
+    ensures names { OnOk result (map name_of_fault events.new ≡ map name_of_fault events.old ++ map name_of_fault faults.now) }
 {
     for (i, fault) in faults.iter().enumerate() {
         let number = number_of(i + 1)?;
@@ -61,7 +61,7 @@ fn add_own_event(
     requires ages { length ages.now ≡ length causes.now }
     ensures model { OnOk result (model_tree made.new ≡ own_with (map mode_of faults.now) (map cause_of causes.now) ages.now number (model_tree made.old)) }
     ensures event { IfOk result (λ f. mode_of f ≡ record { variable = length (model_tree made.old).variables; symbol = suc (length (model_tree made.old).symbols) }) }
-    ensures name { IfOk result (λ f. told_name f ≡ name.now) }
+    ensures name { IfOk result (λ f. name_of_fault f ≡ name.now) }
 {
     let own = number_of(made.variables.len())?;
     let none = number_of(made.symbols.len())?;

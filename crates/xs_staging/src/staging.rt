@@ -5,11 +5,11 @@
 
 ghost use Rattle.std.specs.Prelude.{◌≡◌, ◌<◌, ◌≤◌, ◌++◌, suc, length, map, IfOk, OnOk};
 ghost use Rattle.xs_tree.specs.Trace.{Each};
-ghost use Rattle.xs_tree.specs.ModelTree.{model_tree, formula_tree, flat_tree};
+ghost use Rattle.xs_tree.specs.ModelTree.{model_tree, formula_tree, flat_tree, name_of_fault};
 ghost use Rattle.xs_flat_laws.specs.FaultModes.{mode_of};
 ghost use Rattle.xs_cause_laws.specs.Causes.{IsCauseOf};
 ghost use Rattle.xs_cause_laws.specs.Staged.{with_age as age_of, with_event as event_of, with_hit as hit_of, with_hits, with_cause as cause_with, with_each_cause, age_numbers, cause_events, with_causes as causes_with, stands_of, in_window as window_of, age_at_step as age_step, event_at_each as event_each, hit_at_first as hit_first, hit_at_step as hit_step, landed_at_each as landed_each, events_of};
-ghost use Rattle.xs_staging.specs.CauseOf.{cause_of, told_name, told_cause, event_mode};
+ghost use Rattle.xs_staging.specs.CauseOf.{cause_of, told_cause, event_mode};
 
 use crate::build::{
     added, binary, choice, next, only, state, symbol, two_symbols, value, whole, within,
@@ -54,7 +54,7 @@ pub fn with_causes(
     requires causes { Each (IsCauseOf (length faults.now)) (map cause_of causes.now) }
     ensures model { IfOk result (λ s. model_tree s.model ≡ causes_with (model_tree m.now) (map mode_of faults.now) (map cause_of causes.now)) }
     ensures events { IfOk result (λ s. map mode_of s.events ≡ events_of (model_tree m.now) (map mode_of faults.now) (map cause_of causes.now)) }
-    ensures names { IfOk result (λ s. map told_name s.events ≡ map told_name faults.now ++ map told_cause causes.now) }
+    ensures names { IfOk result (λ s. map name_of_fault s.events ≡ map name_of_fault faults.now ++ map told_cause causes.now) }
 {
     let mut model = m.copy()?;
     let mut ages = Vec::new(alloc);
@@ -103,7 +103,7 @@ fn add_causes(
     ensures model { OnOk result (model_tree made.new ≡ with_each_cause (map mode_of faults.now) (model_tree made.old) (map cause_of causes.now)) }
     ensures ages { OnOk result (ages.new.items ≡ ages.old.items ++ age_numbers (length (model_tree made.old).variables) (map cause_of causes.now)) }
     ensures events { OnOk result (map mode_of events.new ≡ map mode_of events.old ++ cause_events (length (model_tree made.old).variables) (length (model_tree made.old).symbols) (map cause_of causes.now)) }
-    ensures names { OnOk result (map told_name events.new ≡ map told_name events.old ++ map told_cause causes.now) }
+    ensures names { OnOk result (map name_of_fault events.new ≡ map name_of_fault events.old ++ map told_cause causes.now) }
 {
     for cause in causes {
         ages.push(number_of(made.variables.len())?)?;
@@ -122,7 +122,7 @@ fn add_cause(
     requires { IsCauseOf (length faults.now) (cause_of cause.now) }
     ensures model { OnOk result (model_tree made.new ≡ cause_with (map mode_of faults.now) (model_tree made.old) (cause_of cause.now)) }
     ensures event { IfOk result (λ f. mode_of f ≡ event_mode (model_tree made.old)) }
-    ensures name { IfOk result (λ f. told_name f ≡ told_cause cause.now) }
+    ensures name { IfOk result (λ f. name_of_fault f ≡ told_cause cause.now) }
 {
     let age = number_of(made.variables.len())?;
     add_age(alloc, made, cause, age)?;
@@ -184,7 +184,7 @@ fn add_event(
 ) -> Result<Fault, OutOfMemory>
     ensures model { OnOk result (model_tree made.new ≡ event_of (model_tree made.old) (cause_of cause.now) age) }
     ensures event { IfOk result (λ f. mode_of f ≡ record { variable = length (model_tree made.old).variables; symbol = suc (length (model_tree made.old).symbols) }) }
-    ensures name { IfOk result (λ f. told_name f ≡ told_cause cause.now) }
+    ensures name { IfOk result (λ f. name_of_fault f ≡ told_cause cause.now) }
 {
     let event = number_of(made.variables.len())?;
     let quiet = number_of(made.symbols.len())?;

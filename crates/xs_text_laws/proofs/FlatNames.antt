@@ -27,7 +27,7 @@ abbrev IsWritableItem : Item → Type 0
 IsWritableItem (a_declaration role d) = IsName d.name × IsWritableDeclared d.what
 IsWritableItem _ = Unit {0}
 
-type_declared : (d : DeclaredTree) → IsWritableType d → IsWritableDeclared d
+pub type_declared : (d : DeclaredTree) → IsWritableType d → IsWritableDeclared d
 type_declared boolean h = tt
 type_declared (range lo hi) h = h
 type_declared (members ms) h = h
@@ -105,7 +105,7 @@ numbered_at n [] i x e = cc
 numbered_at n (y ∷ xs) zero x e = ap (λ k. Some (number (pos k))) (omega arith)
 numbered_at n (y ∷ xs) (suc i) x e = numbered_at (suc n) xs i x e ∙ ap (λ k. Some (number (pos k))) (omega arith)
 
-same_number : (i j : ℕ) → number (pos i) ≡ number (pos j) → i ≡ j
+pub same_number : (i j : ℕ) → number (pos i) ≡ number (pos j) → i ≡ j
 same_number i j e = cc
 
 variables_apart : (p : ProgramTree) (m : FlatModel) → IsAccepted p → IsFlatOf p m → (i j : ℕ) (x y : FlatVariable) → slice_get m.variables i ≡ Some x → slice_get m.variables j ≡ Some y → x.place ≡ y.place → x.name ≡ y.name → i ≡ j

@@ -1,9 +1,8 @@
 -- The declarations of a flat model's variables.
-use Rattle.std.proofs.Common.{◌≡◌, ℕ, suc, Bool, true, false, List, [], ◌∷◌, Option, Some, None, refl, sym, ◌∙◌, subst}
+use Rattle.std.proofs.Common.{◌≡◌, ℕ, List, [], ◌∷◌, Option, Some, None, refl, sym, ◌∙◌, subst}
 use Rattle.std.specs.Prelude.{slice_get, codes}
 use Rattle.xs_tree.specs.ProgramTree.{Text, Formula, DeclaredTree, ModuleTree, ProgramTree}
-use Rattle.xs_tree.specs.Scope.{Place, Role, Kind, a_formal, a_variable, a_define, an_instance, undeclared, kind_in, kind_in_sections, formal_from, kind_after_formals, kind_at, module_of_kind, module_at, find_module}
-use Rattle.xs_tree.specs.Texts.{same_text}
+use Rattle.xs_tree.specs.Scope.{Place, Role, Kind, a_formal, a_variable, a_define, an_instance, undeclared, kind_in, kind_in_sections, formal_from, kind_after_formals, kind_at, module_of_kind, module_at}
 use Rattle.xs_tree.specs.Trace.{IsInstance, IsVariable}
 use Rattle.xs_tree.specs.Flat.{FlatVariable, FlatModel}
 use Rattle.xs_flat_laws.specs.Items.{items_of, variables_of, visits}
@@ -14,15 +13,7 @@ use Rattle.xs_flat_laws.proofs.KindLaws.{sections_kind, DeclaredBy, declared_by}
 use Rattle.xs_flat_laws.proofs.Places.{In, has_main}
 use Rattle.xs_flat_laws.proofs.Variables.{DeclaredAs, declared_as, both_at_second, RealVariable, real_variables}
 use Rattle.xs_flat_laws.proofs.Walkable.{accepted_walkable, main_is_there}
-
--- a module that is found is one of the program's
-pub find_in : (p : ProgramTree) (x : Text) (k : ModuleTree) → find_module p x ≡ Some k → In k p
-find_in [] x k e = cc
-find_in (first ∷ more) x k e = by (same_text first.name x) refl (find_in more x k)
-  where
-    by : (b : Bool) → same_text first.name x ≡ b → (find_module more x ≡ Some k → In k more) → In k (first ∷ more)
-    by true t rest = let found : Some first ≡ Some k = rw t at e in (0, found)
-    by false t rest = let found : find_module more x ≡ Some k = rw t at e in let m = rest found in (suc m.0, m.1)
+use Rattle.xs_flat_laws.proofs.Found.{find_in}
 
 pub module_in : (p : ProgramTree) (at : Place) (k : ModuleTree) → IsInstance p at k → In k p
 module_in p [] k e = find_in p (codes "main") k e

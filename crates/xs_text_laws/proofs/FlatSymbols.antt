@@ -1,40 +1,20 @@
 -- The flat model of a program has the symbols of its types.
-use Rattle.std.proofs.Common.{◌≡◌, ◌⊎◌, inl, inr, zero, suc, Bool, true, false, ◌||◌, List, [], ◌∷◌, ◌++◌, Some, refl, sym, ap, subst}
-use Rattle.std.specs.Prelude.{flat_map, if◌then◌else◌, IsTrue}
+use Rattle.std.proofs.Common.{◌≡◌, inr, suc, Bool, true, false, ◌||◌, List, [], ◌∷◌, Some, refl, sym, ap, subst}
+use Rattle.std.specs.Prelude.{flat_map, IsTrue}
 use Rattle.xs_tree.specs.declared.program.Member.{Member}
 use Rattle.xs_tree.specs.declared.program.Member.TheVariants as member
 use Rattle.xs_tree.specs.ProgramTree.{Text, DeclaredTree, boolean, range, members, instance, ModuleTree}
-use Rattle.xs_tree.specs.Texts.{same_text, is_among}
+use Rattle.xs_tree.specs.Texts.{same_text}
 use Rattle.xs_tree.specs.Trace.{IsVariable, in_domain, is_member}
 use Rattle.xs_tree.specs.Values.{symbol}
 use Rattle.xs_tree.proofs.ValueLaws.{same_text_equal}
 use Rattle.xs_flat_laws.specs.Items.{a_declaration, items_of}
-use Rattle.xs_flat_laws.specs.Model.{symbols_of_members, symbols_of_type, symbols_of_item, first_appearances}
-use Rattle.xs_flat_laws.proofs.Places.{In, in_left, in_right, in_flat}
+use Rattle.xs_flat_laws.specs.Model.{symbols_of_members, symbols_of_type, symbols_of_item}
+use Rattle.xs_flat_laws.proofs.Places.{In, in_flat}
 use Rattle.xs_flat_laws.proofs.Variables.{DeclaredAs}
 use Rattle.xs_text_laws.specs.Laws.{FlatModelsHaveSymbols}
 use Rattle.xs_text_laws.proofs.FlatPlaces.{module_in, variable_there, variable_declared_as}
-
-among_in : (xs : List Text) (y : Text) → is_among xs y ≡ true → In y xs
-among_in [] y h = cc
-among_in (x ∷ xs) y h = by (same_text x y) refl h (among_in xs y)
-  where
-    by : (b : Bool) → same_text x y ≡ b → is_among (x ∷ xs) y ≡ true → (is_among xs y ≡ true → In y xs) → In y (x ∷ xs)
-    by true t h more = (0, ap Some (same_text_equal x y t))
-    by false t h more = let rest : is_among xs y ≡ true = rw t at h in let m = more rest in (suc m.0, m.1)
-
--- what is listed, or was seen before, is among the first appearances
-appears : (seen xs : List Text) (y : Text) → In y seen ⊎ In y xs → In y (first_appearances seen xs)
-appears seen [] y (inl h) = h
-appears seen [] y (inr h) = cc (h.1)
-appears seen (x ∷ xs) y h = appears (if is_among seen x then seen else seen ++ x ∷ []) xs y (by (is_among seen x) refl h)
-  where
-    by : (b : Bool) → is_among seen x ≡ b → In y seen ⊎ In y (x ∷ xs) → In y (if is_among seen x then seen else seen ++ x ∷ []) ⊎ In y xs
-    by true t (inl h) = inl (rw t h)
-    by false t (inl h) = inl (rw t (in_left y seen (x ∷ []) h))
-    by true t (inr (zero, e)) = let same : x ≡ y = cc in inl (rw t (subst (λ (z : Text). In z seen) same (among_in seen x t)))
-    by false t (inr (zero, e)) = let same : x ≡ y = cc in inl (rw t (subst (λ (z : Text). In z (seen ++ x ∷ [])) same (in_right x seen (x ∷ []) (0, refl))))
-    by b t (inr (suc i, e)) = inr (i, e)
+use Rattle.xs_flat_laws.proofs.Found.{appears}
 
 -- a symbol that is a member is one of the members' symbols
 member_in : (ms : List Member) (y : Text) → is_member ms (symbol y) ≡ true → In y (symbols_of_members ms)

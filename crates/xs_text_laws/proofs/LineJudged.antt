@@ -9,13 +9,13 @@ use Rattle.std.proofs.lemmas.Bool.Decides.{nat_tests}
 use Rattle.xs_tree.specs.Texts.{same_text}
 use Rattle.xs_tree.specs.ProgramTree.{DeclaredTree}
 use Rattle.xs_tree.specs.Printed.{IsEnd}
-use Rattle.xs_tree.specs.Values.{Value, truth, number, symbol}
+use Rattle.xs_tree.specs.Values.{Value, truth, number, symbol, value_text}
 use Rattle.xs_tree.specs.Trace.{in_domain}
 use Rattle.xs_tree.specs.WritableProgram.{IsWritableType}
 use Rattle.xs_tree.specs.Flat.{FlatVariable, FlatModel}
 use Rattle.xs_text_laws.specs.Lines.{Line, IsLine}
 use Rattle.xs_text_laws.proofs.Separators.{IsFree, same_front, no_separator, head_of, tail_of, both_of}
-use Rattle.xs_text_laws.specs.TraceText.{value_text, variable_text, moment_line, equation, value_line}
+use Rattle.xs_text_laws.specs.TraceText.{variable_text, moment_line, equation, value_line}
 use Rattle.xs_text_laws.specs.Given.{IsLineWord, IsPrintable}
 use Rattle.xs_text_laws.specs.Wrong.{LineFault, bad_line, unknown_name, outside, twice, number_of, moments_after, IsEquation, IsNameIn, WasSaid, Breaks, IsLeast}
 use Rattle.xs_text_laws.proofs.Plain.{IsPlain, value_word, domain_plain, same_text_then, decimal_digits}
@@ -80,7 +80,7 @@ some_or_none : (w : Line) → Decided (w ≡ [])
 some_or_none [] = inl refl
 some_or_none (b ∷ w) = inr (λ e. no_items b w (b ∷ w) e refl)
 
-line_front : (xs ys : Line) → IsLine (xs ++ ys) → IsLine xs × IsLine ys
+pub line_front : (xs ys : Line) → IsLine (xs ++ ys) → IsLine xs × IsLine ys
 line_front [] ys h = (tt, h)
 line_front (x ∷ xs) ys h = let more : IsLine xs × IsLine ys = line_front xs ys h.1 in ((h.0, more.0), more.1)
 

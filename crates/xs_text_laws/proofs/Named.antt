@@ -11,11 +11,11 @@ use Rattle.xs_tree.specs.Text.{each_after, dotted_text}
 use Rattle.xs_tree.specs.Flat.{FlatVariable}
 use Rattle.xs_text_laws.proofs.Separators.{IsFree, same_front, no_separator, head_of, tail_of, both_of}
 use Rattle.xs_text_laws.proofs.Words.{free_joined}
-pub use Rattle.xs_text_laws.proofs.Words.{left_true}
 use Rattle.xs_text_laws.specs.Given.{IsLineWord}
 use Rattle.xs_text_laws.specs.Laws.{NamedIsPrintable}
 use Rattle.xs_text_laws.proofs.Plain.{word_word, start_word}
 use Rattle.xs_text_laws.proofs.OneTrace.{no_items}
+use Rattle.xs_tree.proofs.BoolLaws.{left_true}
 
 byte_no_dot : (b : ℕ) → is_word_byte b ≡ true → b ≢ 46
 byte_no_dot b h e = no_dot (subst (λ c. is_word_byte c ≡ true) e h)

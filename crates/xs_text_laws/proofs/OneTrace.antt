@@ -3,7 +3,7 @@ use Rattle.std.proofs.Common.{◌≡◌, ◌≢◌, ◌⊎◌, inl, inr, ℕ, ze
 use Rattle.std.specs.Prelude.{slice_get, IsTrue}
 use Rattle.std.specs.List.{AllByRecursion}
 use Rattle.std.specs.Fmt.{decimal}
-use Rattle.xs_tree.specs.Values.{Value}
+use Rattle.xs_tree.specs.Values.{Value, value_text}
 use Rattle.xs_tree.specs.Trace.{in_domain}
 use Rattle.xs_tree.specs.Flat.{FlatVariable, FlatModel}
 use Rattle.xs_flat_laws.specs.FlatTrace.{AreInDomains}
@@ -12,7 +12,7 @@ pub use Rattle.xs_text_laws.proofs.Separators.{head_of, tail_of, both_of}
 use Rattle.xs_text_laws.proofs.Separators.{IsFree, same_front, no_separator, all_at}
 use Rattle.xs_text_laws.proofs.Words.{free_by_test}
 use Rattle.xs_text_laws.proofs.Cuts.{same_fed}
-use Rattle.xs_text_laws.specs.TraceText.{value_text, variable_text, moment_line, equation, value_line}
+use Rattle.xs_text_laws.specs.TraceText.{variable_text, moment_line, equation, value_line}
 use Rattle.xs_text_laws.specs.Given.{IsLineWord, IsPrintable, SaysOf, StandsOnce, GivesMoment, GivesMoments, GivesTrace}
 use Rattle.xs_text_laws.specs.Laws.{OneTrace}
 use Rattle.xs_text_laws.proofs.Plain.{IsPlain, same_value_text, domain_plain, decimal_free}

@@ -1,8 +1,8 @@
 -- The texts of values: words that tell values apart.
 use lib.Signed.{mag}
-use Rattle.std.proofs.Common.{◌≡◌, ◌≢◌, ◌⊎◌, inl, inr, ℕ, zero, suc, ◌+◌, ◌/◌, ◌%◌, ◌<◌, ◌≤◌, ◌^◌, Bool, true, false, not, ◌&&◌, ◌||◌, List, [], ◌∷◌, ◌++◌, length, refl, sym, ◌∙◌, ap, subst, arith, codes, ℤ, pos, negsuc, eqb-true}
+use Rattle.std.proofs.Common.{◌≡◌, ◌≢◌, ◌⊎◌, inl, inr, ℕ, zero, suc, ◌+◌, ◌/◌, ◌%◌, ◌<◌, ◌≤◌, ◌^◌, Bool, true, false, not, ◌&&◌, List, [], ◌∷◌, ◌++◌, length, refl, sym, ◌∙◌, ap, subst, arith, codes, ℤ, pos, negsuc, eqb-true}
 use Rattle.std.proofs.lemmas.Int.{ints}
-use Rattle.std.specs.Prelude.{if◌then◌else◌, ◌==◌, IsTrue, nat_eq, int_lt, ◌≤ℤ◌}
+use Rattle.std.specs.Prelude.{if◌then◌else◌, ◌==◌, IsTrue, nat_eq, ◌≤ℤ◌}
 use Rattle.std.specs.List.{AllByRecursion}
 use Rattle.std.specs.Fmt.{decimal, signed_decimal, digit_glyph, digits_onto, digits}
 use Rattle.std.proofs.lemmas.Bool.Decides.{nat_tests}
@@ -13,18 +13,18 @@ use Rattle.xs_lexer.specs.Tokens.{IsWord}
 use Rattle.xs_tree.specs.declared.program.Member.{Member}
 use Rattle.xs_tree.specs.declared.program.Member.TheVariants as member
 use Rattle.xs_tree.specs.ProgramTree.{Text, DeclaredTree, boolean, range, members, instance}
-use Rattle.xs_tree.specs.Values.{Value, truth, number, symbol, at_most, opposite, same_int, is_between}
+use Rattle.xs_tree.specs.Values.{Value, truth, number, symbol, at_most, same_int, is_between, value_text}
 use Rattle.xs_tree.specs.Printed.{IsName, IsEnd}
 use Rattle.xs_tree.specs.Trace.{Each, in_domain, is_member}
 use Rattle.xs_tree.specs.WritableProgram.{IsWritableType, IsWritableMember}
 use Rattle.xs_tree.specs.Lexemes.{is_reserved}
 use Rattle.xs_tree.specs.Texts.{same_text}
 use Rattle.xs_text_laws.proofs.Separators.{IsFree}
-use Rattle.xs_text_laws.proofs.Words.{free_by_test, left_true}
-pub use Rattle.xs_text_laws.proofs.Words.{right_true}
-use Rattle.xs_text_laws.specs.TraceText.{value_text}
+use Rattle.xs_text_laws.proofs.Words.{free_by_test}
 use Rattle.xs_text_laws.specs.Given.{IsLineWord}
-use Rattle.xs_tree.proofs.ValueLaws.{same_int_equal as same_int_then}
+use Rattle.xs_tree.proofs.ValueLaws.{same_int_equal as same_int_then, not_less}
+use Rattle.xs_tree.proofs.BoolLaws.{or_cases, left_true, right_true}
+use Rattle.xs_tree.proofs.TokenTexts.{Begins}
 
 -- Digits.
 glyph_is : (d : ℕ) → d < 10 → digit_glyph false d ≡ 48 + d
@@ -136,12 +136,6 @@ value_word (number (negsuc n)) h =
     record { some = some_then (45 ∷ decimal (suc n)) (omega arith); free = (λ e. omega (arith, e), (decimal_word (suc n)).free); line = (λ e. omega (arith, e), (decimal_word (suc n)).line) }
 value_word (symbol x) h = word_word x h.1
 
--- Texts tell values apart.
--- the first byte passes
-abbrev Begins : (ℕ → Type 0) → List ℕ → Type 0
-Begins P [] = ⊥
-Begins P (c ∷ cs) = P c
-
 low_start : (n : ℤ) → Begins (λ c. c < 58) (signed_decimal n)
 low_start (pos n) = first (decimal n) (decimal_some n) (decimal_digits n)
   where
@@ -206,32 +200,21 @@ same_text_then (x ∷ a) (y ∷ b) e = two x y a b (eqb-true x y (left_true (nat
     two : (x y : ℕ) (a b : Text) → x ≡ y → a ≡ b → (x ∷ a) ≡ (y ∷ b)
     two x y a b e f = cc
 
-by_or : (a b : Bool) → (a || b) ≡ true → (a ≡ true) ⊎ (b ≡ true)
-by_or true b e = inl refl
-by_or false b e = inr e
-
 member_plain : (ms : List Member) (v : Value) → Each IsWritableMember ms → is_member ms v ≡ true → IsPlain v
 member_plain [] v h e = cc
 member_plain (m ∷ ms) (truth b) h e = tt
-member_plain (member.Number n ∷ ms) (number k) h e = by_side (by_or (same_int n k) (is_member ms (number k)) e) (member_plain ms (number k) h.1)
+member_plain (member.Number n ∷ ms) (number k) h e = by_side (or_cases (same_int n k) (is_member ms (number k)) e) (member_plain ms (number k) h.1)
   where
     by_side : (same_int n k ≡ true) ⊎ (is_member ms (number k) ≡ true) → (is_member ms (number k) ≡ true → IsEnd k) → IsEnd k
     by_side (inl s) more = subst IsEnd (same_int_then n k s) h.0
     by_side (inr s) more = more s
 member_plain (member.Symbol x ∷ ms) (number k) h e = member_plain ms (number k) h.1 e
 member_plain (member.Number n ∷ ms) (symbol y) h e = member_plain ms (symbol y) h.1 e
-member_plain (member.Symbol x ∷ ms) (symbol y) h e = by_side (by_or (same_text x y) (is_member ms (symbol y)) e) (member_plain ms (symbol y) h.1)
+member_plain (member.Symbol x ∷ ms) (symbol y) h e = by_side (or_cases (same_text x y) (is_member ms (symbol y)) e) (member_plain ms (symbol y) h.1)
   where
     by_side : (same_text x y ≡ true) ⊎ (is_member ms (symbol y) ≡ true) → (is_member ms (symbol y) ≡ true → IsName y) → IsName y
     by_side (inl s) more = subst IsName (same_text_then x y s) h.0
     by_side (inr s) more = more s
-
-not_less : (a b : ℤ) → at_most a b ≡ true → a ≤ℤ b
-not_less a b h = by (int_lt b a) refl h
-  where
-    by : (t : Bool) → int_lt b a ≡ t → opposite t ≡ true → a ≤ℤ b
-    by true e h' = cc
-    by false e h' = omega (arith, ints)
 
 end_between : (lo hi n : ℤ) → IsEnd lo → IsEnd hi → is_between lo hi (number n) ≡ true → IsEnd n
 end_between lo hi n f g e = by_sign n lo hi f g (not_less lo n (left_true (at_most lo n) (at_most n hi) e)) (not_less n hi (right_true (at_most lo n) (at_most n hi) e))

@@ -3,18 +3,19 @@ use Rattle.std.proofs.Common.{◌≡◌, ◌≢◌, ◌⊎◌, inl, inr, ℕ, ze
 use Rattle.std.specs.Prelude.{slice_get}
 use Rattle.std.specs.List.{AllByRecursion}
 use Rattle.std.specs.Fmt.{decimal}
-use Rattle.xs_tree.specs.Values.{Value}
+use Rattle.xs_tree.specs.Values.{Value, value_text}
 use Rattle.xs_tree.specs.Trace.{Each}
 use Rattle.xs_tree.specs.Flat.{FlatVariable, FlatModel}
 use Rattle.xs_flat_laws.specs.FlatTrace.{AreInDomains}
 use Rattle.xs_text_laws.specs.Lines.{Line, IsLine}
-use Rattle.xs_text_laws.proofs.Words.{free_by_test, spaced_line, all_joined}
-use Rattle.xs_text_laws.specs.TraceText.{value_text, variable_text, moment_line, value_line, value_lines, trace_lines, trace_text}
+use Rattle.xs_text_laws.proofs.Words.{free_by_test, spaced_line}
+use Rattle.xs_text_laws.specs.TraceText.{variable_text, moment_line, value_line, value_lines, trace_lines, trace_text}
 use Rattle.xs_text_laws.specs.Given.{IsLineWord, IsPrintable, SaysOf, StandsOnce, GivesMoment, GivesMoments, GivesTrace, BytesGive}
 use Rattle.xs_text_laws.specs.Laws.{PrintedGivesAlone}
 use Rattle.xs_text_laws.proofs.Plain.{value_word, decimal_free}
 use Rattle.xs_text_laws.proofs.OneTrace.{same_equation, plain_at, one_trace}
 use Rattle.std.proofs.lemmas.Option.{same_Some as some_same, none-some as never}
+use Rattle.xs_value.proofs.ListLaws.{all_joined}
 
 -- each line of variables and values passes, where each variable's with its value does
 each_line : (Q : Line → Type 0) (xs : List FlatVariable) (vs : List Value) → ((i : ℕ) (x : FlatVariable) (w : Value) → slice_get xs i ≡ Some x → slice_get vs i ≡ Some w → Q (value_line x w)) → AllByRecursion Q (value_lines xs vs)

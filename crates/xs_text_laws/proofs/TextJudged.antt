@@ -3,12 +3,12 @@ use Rattle.std.proofs.Common.{◌≡◌, ◌≢◌, ◌⊎◌, inl, inr, ℕ, ze
 use Rattle.std.proofs.lemmas.Bool.Decides.{nat_tests}
 use Rattle.std.specs.Prelude.{slice_get, IsTrue}
 use Rattle.std.specs.List.{AllByRecursion}
-use Rattle.xs_tree.specs.Values.{Value}
+use Rattle.xs_tree.specs.Values.{Value, value_text}
 use Rattle.xs_tree.specs.Trace.{in_domain}
 use Rattle.xs_tree.specs.Flat.{FlatVariable, FlatModel}
 use Rattle.xs_flat_laws.specs.FlatTrace.{AreInDomains}
 use Rattle.xs_text_laws.specs.Lines.{Line, fed, IsLine}
-use Rattle.xs_text_laws.specs.TraceText.{value_text, variable_text, moment_line, equation, value_line}
+use Rattle.xs_text_laws.specs.TraceText.{variable_text, moment_line, equation, value_line}
 use Rattle.xs_text_laws.specs.Given.{IsLineWord, IsPrintable, SaysOf, StandsOnce, GivesMoment, GivesMoments, BytesGive}
 use Rattle.xs_text_laws.specs.Wrong.{LineFault, bad_line, moments_after, WasSaid, IsWrongLine, Lacks, TraceFault, wrong_line, missing_value, IsFirstFault}
 use Rattle.xs_text_laws.specs.Laws.{EachTextIsJudged}

@@ -1,17 +1,9 @@
 -- Words in lines, and lists without a separator.
-use Rattle.std.proofs.Common.{◌≡◌, ◌≢◌, ℕ, ◌<◌, Bool, true, false, not, ◌&&◌, nat_eq, List, [], ◌∷◌, ◌++◌, length, map, refl, sym, ap, arith, eq-eqb}
+use Rattle.std.proofs.Common.{◌≡◌, ◌≢◌, ℕ, ◌<◌, Bool, true, false, not, nat_eq, List, [], ◌∷◌, ◌++◌, length, map, refl, sym, ap, arith, eq-eqb}
 use Rattle.std.specs.List.{AllByRecursion, list_all}
 use Rattle.xs_text_laws.specs.Lines.{Line, spaced}
 use Rattle.xs_text_laws.proofs.Separators.{IsFree, same_front, no_separator, both_of}
-
--- each side of what holds
-pub left_true : (a b : Bool) → (a && b) ≡ true → a ≡ true
-left_true true b e = refl
-left_true false b e = cc
-
-pub right_true : (a b : Bool) → (a && b) ≡ true → b ≡ true
-right_true true b e = e
-right_true false b e = cc
+use Rattle.xs_tree.proofs.BoolLaws.{left_true, right_true}
 
 -- a list that passes the test is free of the separator
 pub free_by_test : (s : ℕ) (xs : List ℕ) → list_all (λ x. not (nat_eq x s)) xs ≡ true → IsFree s xs
@@ -81,11 +73,3 @@ same_texts {A = A} text P one (a ∷ as') (b ∷ bs) f g e =
 pub all_texts : {A : Type 0} (text : A → Line) (P : A → Type 0) (Q : Line → Type 0) → ((a : A) → P a → Q (text a)) → (as' : List A) → AllByRecursion P as' → AllByRecursion Q (map text as')
 all_texts text P Q f [] h = tt
 all_texts text P Q f (a ∷ as') h = (f a h.0, all_texts text P Q f as' h.1)
-
-pub all_more : {A : Type 0} (P Q : A → Type 0) → ((a : A) → P a → Q a) → (as' : List A) → AllByRecursion P as' → AllByRecursion Q as'
-all_more P Q f [] h = tt
-all_more P Q f (a ∷ as') h = (f a h.0, all_more P Q f as' h.1)
-
-pub all_joined : {A : Type 0} (P : A → Type 0) (xs ys : List A) → AllByRecursion P xs → AllByRecursion P ys → AllByRecursion P (xs ++ ys)
-all_joined P [] ys f g = g
-all_joined P (x ∷ xs) ys f g = (f.0, all_joined P xs ys f.1 g)

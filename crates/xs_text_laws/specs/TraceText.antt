@@ -1,18 +1,10 @@
 -- The text of a trace of a flat model: for each moment its number, and each variable's value in flat order.
-use Rattle.std.specs.Prelude.{ℕ, suc, true, false, List, [], ◌∷◌, ◌++◌, codes, reverse}
-use Rattle.std.specs.Fmt.{signed_decimal}
+use Rattle.std.specs.Prelude.{ℕ, suc, List, [], ◌∷◌, ◌++◌, codes, reverse}
 use Rattle.xs_tree.specs.ProgramTree.{Text}
 use Rattle.xs_tree.specs.Text.{dotted_text}
-use Rattle.xs_tree.specs.Values.{Value, truth, number, symbol}
+use Rattle.xs_tree.specs.Values.{Value, value_text}
 use Rattle.xs_tree.specs.Flat.{FlatVariable, FlatModel}
 use Rattle.xs_text_laws.specs.Lines.{Line, spaced, counted, fed}
-
--- a value as it is written in a trace
-abbrev pub value_text : Value → Text
-value_text (truth true) = codes "TRUE"
-value_text (truth false) = codes "FALSE"
-value_text (number n) = signed_decimal n
-value_text (symbol x) = x
 
 -- a variable's name from `main`, with dots between; a place has the innermost name first
 abbrev pub variable_text : FlatVariable → Text

@@ -2,11 +2,11 @@
 use Rattle.std.specs.Prelude.{◌≡◌, ◌≢◌, ◌⊎◌, ℕ, suc, ◌<◌, ◌≤◌, if◌then◌else◌, IsTrue, List, [], ◌∷◌, ◌++◌, length, Some, slice_get}
 use Rattle.std.specs.List.{AllByRecursion}
 use Rattle.xs_tree.specs.Texts.{same_text}
-use Rattle.xs_tree.specs.Values.{Value}
+use Rattle.xs_tree.specs.Values.{Value, value_text}
 use Rattle.xs_tree.specs.Trace.{in_domain}
 use Rattle.xs_tree.specs.Flat.{FlatVariable, FlatModel}
 use Rattle.xs_text_laws.specs.Lines.{Line, fed, IsLine}
-use Rattle.xs_text_laws.specs.TraceText.{value_text, variable_text, moment_line, equation}
+use Rattle.xs_text_laws.specs.TraceText.{variable_text, moment_line, equation}
 use Rattle.xs_text_laws.specs.Given.{IsLineWord}
 
 -- how many moments have begun in order after these lines, where so many had before

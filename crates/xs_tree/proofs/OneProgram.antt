@@ -3,7 +3,7 @@ use Rattle.std.proofs.Common.{◌≡◌, ◌≢◌, ℕ, true, false, List, [], 
 use Rattle.std.specs.Prelude.{codes, if◌then◌else◌}
 use Rattle.xs_lexer.specs.declared.token.TokenKind.TheVariants as k
 use Rattle.xs_tree.specs.declared.program.Moment.{Moment}
-use Rattle.xs_tree.specs.ProgramTree.{Text, Path, Formula, DeclaredTree, DeclTree, DefineTree, AssignmentTree, SectionTree, init, ModuleTree, ProgramTree}
+use Rattle.xs_tree.specs.ProgramTree.{Text, Path, Formula, DeclaredTree, DeclTree, DefineTree, AssignmentTree, SectionTree, ModuleTree, ProgramTree}
 use Rattle.xs_tree.specs.Lexemes.{Lexeme, word, num, sign, is_reserved, section_words}
 use Rattle.xs_tree.specs.Texts.{same_text, is_among}
 use Rattle.xs_tree.specs.Tree.{Tree}

@@ -1,9 +1,13 @@
 -- Values that the tests find equal are equal, and the other way round.
-use Rattle.std.proofs.Common.{◌≡◌, ℕ, Bool, true, false, List, [], ◌∷◌, refl, ap, eqb-true, eq-eqb}
-use Rattle.std.specs.Prelude.{ℤ, pos, negsuc, nat_eq}
+use Rattle.std.proofs.Common.{◌≡◌, ℕ, Bool, true, false, List, [], ◌∷◌, refl, ap, eqb-true, eq-eqb, ◌≤ℤ◌, arith}
+use Rattle.std.specs.Prelude.{ℤ, pos, negsuc, nat_eq, int_lt}
 pub use Rattle.xs_lexer.proofs.SignLemmas.{both_true}
-use Rattle.xs_tree.specs.Values.{Value, truth, number, symbol, same_int, same_bool, same_value}
+use Rattle.xs_tree.specs.Values.{Value, truth, number, symbol, same_int, same_bool, same_value, at_most, opposite}
 use Rattle.xs_tree.specs.Texts.{same_text}
+use Rattle.std.proofs.lemmas.Int.{ints}
+use Rattle.xs_tree.specs.declared.program.Member.{Member}
+use Rattle.xs_tree.specs.declared.program.Member.TheVariants as member
+use Rattle.xs_tree.specs.Trace.{is_member}
 
 pub same_text_equal : (a b : List ℕ) → same_text a b ≡ true → a ≡ b
 same_text_equal [] [] h = refl
@@ -40,3 +44,29 @@ same_value_equal (number a) (symbol b) h = cc
 same_value_equal (symbol a) (truth b) h = cc
 same_value_equal (symbol a) (number b) h = cc
 same_value_equal (symbol a) (symbol b) h = ap symbol (same_text_equal a b h)
+
+pub same_value_refl : (v : Value) → same_value v v ≡ true
+same_value_refl (truth true) = refl
+same_value_refl (truth false) = refl
+same_value_refl (number (pos n)) = eq-eqb n n refl
+same_value_refl (number (negsuc n)) = eq-eqb n n refl
+same_value_refl (symbol x) = same_text_refl x
+
+pub at_most_from : (a b : ℤ) → a ≤ℤ b → at_most a b ≡ true
+at_most_from a b h = by (int_lt b a) refl
+  where
+    by : (t : Bool) → int_lt b a ≡ t → opposite t ≡ true
+    by true e = absurd (omega (arith, ints))
+    by false e = refl
+
+pub no_truth : (ms : List Member) (b : Bool) → is_member ms (truth b) ≡ false
+no_truth [] b = refl
+no_truth (member.Number n ∷ ms) b = no_truth ms b
+no_truth (member.Symbol x ∷ ms) b = no_truth ms b
+
+pub not_less : (a b : ℤ) → at_most a b ≡ true → a ≤ℤ b
+not_less a b h = by (int_lt b a) refl h
+  where
+    by : (t : Bool) → int_lt b a ≡ t → opposite t ≡ true → a ≤ℤ b
+    by true e h' = cc
+    by false e h' = omega (arith, ints)

@@ -6,6 +6,7 @@ use Rattle.xs_tree.specs.Scope.{Place, Role as RoleOf, state, input, frozen_role
 use Rattle.xs_tree.specs.Leaves.{tree_map}
 use Rattle.xs_tree.specs.Written.{tree_of}
 use Rattle.xs_tree.specs.declared.expr.Expr.{Expr}
+use Rattle.xs_tree.specs.declared.model.Fault.{Fault}
 use Rattle.xs_tree.specs.declared.model.Flat.{Flat}
 use Rattle.xs_tree.specs.declared.model.Flat.TheVariants.{Var, Symbol, Definition}
 use Rattle.xs_tree.specs.declared.model.Role.{Role}
@@ -79,3 +80,7 @@ model_tree m =
       at_each = map formula_tree m.invar;
       at_step = map formula_tree m.trans;
     }
+
+-- a fault's name
+abbrev pub name_of_fault : Fault → Path
+name_of_fault f = f.name

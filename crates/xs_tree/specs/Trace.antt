@@ -10,6 +10,11 @@ use Rattle.xs_tree.specs.Texts.{same_text}
 use Rattle.xs_tree.specs.Scope.{Place, Role, a_variable, kind_in, module_at}
 use Rattle.xs_tree.specs.May.{Valuation, May}
 
+-- the value of a member
+abbrev pub value_of_member : Member → Value
+value_of_member (member.Number n) = number n
+value_of_member (member.Symbol x) = symbol x
+
 -- the value is one of the members
 abbrev pub is_member : List Member → Value → Bool
 is_member [] v = false
@@ -41,6 +46,12 @@ IsVariable p at x role type = (m : ModuleTree) × IsInstance p at m × (kind_in 
 abbrev pub Each : {A : Type 0} → (A → Type 0) → List A → Type 0
 Each P [] = Unit {0}
 Each P (a ∷ more) = P a × Each P more
+
+-- each of one list with that of the other at its place, where they are as long as each other
+abbrev pub EachBoth : {A B : Type 0} → (A → B → Type 0) → List A → List B → Type 0
+EachBoth R [] [] = Unit {0}
+EachBoth R (a ∷ as') (b ∷ bs) = R a b × EachBoth R as' bs
+EachBoth R _ _ = ⊥
 
 -- of each two neighbours
 abbrev pub EachPair : {A : Type 0} → (A → A → Type 0) → List A → Type 0

@@ -1,5 +1,6 @@
 -- What expressions give: a value, or several.
-use Rattle.std.specs.Prelude.{ℤ, Bool, true, false, Option, Some, None, nat_eq, ◌&&◌, ◌||◌, pos, negsuc, int_lt, int_div, int_rem, ◌+ℤ◌, ◌-ℤ◌, ◌*ℤ◌}
+use Rattle.std.specs.Prelude.{ℤ, Bool, true, false, Option, Some, None, nat_eq, ◌&&◌, ◌||◌, pos, negsuc, int_lt, int_div, int_rem, ◌+ℤ◌, ◌-ℤ◌, ◌*ℤ◌, codes}
+use Rattle.std.specs.Fmt.{signed_decimal}
 use Rattle.xs_tree.specs.declared.expr.Op.{Op}
 use Rattle.xs_tree.specs.declared.expr.Op.TheVariants as op
 use Rattle.xs_tree.specs.ProgramTree.{Text}
@@ -10,6 +11,13 @@ pub data Value : Type 0 where
   truth : Bool → Value
   number : ℤ → Value
   symbol : Text → Value
+
+-- a value as it is written
+abbrev pub value_text : Value → Text
+value_text (truth true) = codes "TRUE"
+value_text (truth false) = codes "FALSE"
+value_text (number n) = signed_decimal n
+value_text (symbol x) = x
 
 -- both are the same number
 abbrev pub same_int : ℤ → ℤ → Bool

@@ -6,13 +6,14 @@ use Rattle.xs_tree.specs.Tree.{Tree, Trees, Branches, truth as is_truth, number 
 use Rattle.xs_tree.specs.ProgramTree.{Path, Formula, ProgramTree}
 use Rattle.xs_tree.specs.Laws.{AllLeaves, AllLeavesOfTrees, AllLeavesOfBranches}
 use Rattle.xs_tree.specs.Scope.{Place, Meaning, a_variable_at, an_expression_at, an_instance_at, a_symbol}
-use Rattle.xs_tree.specs.Trace.{Each}
+use Rattle.xs_tree.specs.Trace.{Each, EachBoth}
 use Rattle.xs_tree.specs.Flat.{FlatLeaf, flat_variable, flat_symbol, flat_definition, FlatFormula, FlatModel}
 use Rattle.xs_flat_laws.specs.Resolved.{leaves_in, trees_leaves, branches_leaves, StandsFor, Resolver, IsSound, IsResolved, IsBefore}
-use Rattle.xs_flat_laws.specs.Model.{Condition, plain, now_among, next_among, kept, Written, IsVariableNumber, IsConditionTree, IsFormulaOf, IsDefinitionOf, EachBoth, IsFlatOf}
+use Rattle.xs_flat_laws.specs.Model.{Condition, plain, now_among, next_among, kept, Written, IsVariableNumber, IsConditionTree, IsFormulaOf, IsDefinitionOf, IsFlatOf}
 use Rattle.xs_flat_laws.proofs.Reaches.{each_left, each_right}
 use Rattle.xs_flat_laws.proofs.Lists.{leaves_map}
 use Rattle.xs_type_laws.specs.Laws.{IsKnown, ReadsOwn, AreInOrder, ReadOwn, FlatModelsAreClosed}
+use Rattle.xs_flat_laws.proofs.BothLaws.{both_size}
 
 -- What holds of each of the leaves holds of all leaves.
 mutual
@@ -44,7 +45,7 @@ mutual
         all_branches P bs (each_right P (leaves_in a) (branches_leaves bs) sides),
       )
 
-each_both : {A : Type 0} (P Q R : A → Type 0) → ((a : A) → P a → Q a → R a) → (xs : List A) → Each P xs → Each Q xs → Each R xs
+pub each_both : {A : Type 0} (P Q R : A → Type 0) → ((a : A) → P a → Q a → R a) → (xs : List A) → Each P xs → Each Q xs → Each R xs
 each_both P Q R f [] h g = tt
 each_both P Q R f (x ∷ xs) h g = (f x h.0 g.0, each_both P Q R f xs h.1 g.1)
 
@@ -61,12 +62,6 @@ given_leaves P q f (l ∷ ls) (name ∷ names) e =
 pub resolved_leaves : (P : FlatLeaf → Type 0) (q : Path → Option FlatLeaf) → ((name : Path) (l : FlatLeaf) → q name ≡ Some l → P l) → (e : Formula) (flat : Tree FlatLeaf) →
     IsResolved q e flat → Each P (leaves_in flat)
 resolved_leaves P q f e flat is = given_leaves P q f (leaves_in flat) (leaves_in e) (sym (leaves_map Some flat) ∙ ap leaves_in is ∙ leaves_map q e)
-
-pub same_length : {A B : Type 0} (R : A → B → Type 0) (xs : List A) (ys : List B) → EachBoth R xs ys → length xs ≡ length ys
-same_length R [] [] h = refl
-same_length R [] (y ∷ ys) h = absurd h
-same_length R (x ∷ xs) [] h = absurd h
-same_length R (x ∷ xs) (y ∷ ys) h = ap suc (same_length R xs ys h.1)
 
 -- what stands beside an element
 pub record Beside {A B : Type 0} (R : A → B → Type 0) (xs : List A) (i : ℕ) (y : B) : Type 0 where
@@ -95,7 +90,7 @@ module _ (p : ProgramTree) (m : FlatModel) (is : IsFlatOf p m) where
   stands_own (flat_symbol i) (an_expression_at key at e) h = absurd h
   stands_own (flat_symbol i) (an_instance_at at) h = absurd h
   stands_own (flat_definition i) (an_expression_at key at e) h =
-      subst (λ n. i < n) (same_length (IsDefinitionOf p m) is.written m.definitions is.placed) (slice_get_within is.written i _ h)
+      subst (λ n. i < n) (both_size (IsDefinitionOf p m) is.written m.definitions is.placed) (slice_get_within is.written i _ h)
   stands_own (flat_definition i) (a_variable_at at x) h = absurd h
   stands_own (flat_definition i) (an_instance_at at) h = absurd h
   stands_own (flat_definition i) (a_symbol x) h = absurd h

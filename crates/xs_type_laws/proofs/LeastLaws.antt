@@ -7,10 +7,10 @@ use Rattle.xs_tree.specs.ProgramTree.{Text, DeclaredTree, boolean, range, member
 use Rattle.xs_tree.specs.Values.{number, symbol, opposite, same_int, at_most}
 use Rattle.xs_tree.specs.Texts.{same_text}
 use Rattle.xs_tree.specs.Scope.{Role, state, input, frozen_role}
-use Rattle.xs_tree.specs.Trace.{is_member, in_domain}
+use Rattle.xs_tree.specs.Trace.{is_member, in_domain, value_of_member}
 use Rattle.xs_tree.proofs.ValueLaws.{same_text_refl}
 use Rattle.xs_flat_laws.specs.FlatTrace.{AreInDomains}
-use Rattle.xs_type_laws.specs.Least.{value_of_member, is_less, least_member, least_value, least_values, HasValues, by_role, LeastValuesLie, MixedValuesLie, LeastInputsServe}
+use Rattle.xs_type_laws.specs.Least.{is_less, least_member, least_value, least_values, HasValues, by_role, LeastValuesLie, MixedValuesLie, LeastInputsServe}
 use Rattle.std.proofs.lemmas.Bool.{or_left, or_right}
 
 pub same_int_self : (n : ℤ) → same_int n n ≡ true

@@ -19,3 +19,5 @@ pub mod Flags
 pub mod TraceLaws
 pub mod Mapped
 pub mod LeastLaws
+pub mod VariableTypes
+pub mod ResolvedCosts

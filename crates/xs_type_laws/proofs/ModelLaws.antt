@@ -3,18 +3,19 @@ use Rattle.std.proofs.Common.{◌≡◌, ℕ, zero, suc, ◌+◌, ◌<◌, arith
 use Rattle.std.specs.Prelude.{slice_get}
 use Rattle.xs_tree.specs.Tree.{Tree, Trees, Branches, truth as is_truth, number as is_number, leaf, not_of, negate, next_of, binary, choice, case_of, set_of, span, no_tree, tree_then, no_branch, branch_then}
 use Rattle.xs_tree.specs.ProgramTree.{Text}
-use Rattle.xs_tree.specs.Trace.{Each}
+use Rattle.xs_tree.specs.Trace.{Each, EachBoth}
 use Rattle.xs_tree.specs.Values.{Value, symbol, Values, one}
 use Rattle.xs_tree.specs.Evaluate.{evaluate}
 use Rattle.xs_tree.specs.Laws.{AllLeaves, AllLeavesOfTrees, AllLeavesOfBranches}
 use Rattle.xs_tree.specs.Flat.{FlatLeaf, flat_variable, flat_symbol, flat_definition, FlatFormula, flat_leaves, definition_gives, table_after}
-use Rattle.xs_flat_laws.specs.Model.{EachBoth}
-use Rattle.xs_flat_laws.proofs.Lists.{get_left, get_within, length_end}
+use Rattle.xs_flat_laws.proofs.Lists.{get_within, length_end}
 use Rattle.xs_type_laws.specs.Judged.{Kind, Judged, judge, judge_trees, judge_conditions, judge_values}
 use Rattle.xs_type_laws.specs.Models.{leaf_kind, judged_after}
 use Rattle.xs_type_laws.specs.Laws.{IsKnown, AreInOrder}
 use Rattle.xs_type_laws.proofs.Parts.{Alone}
 use Rattle.xs_type_laws.proofs.TreeLaws.{AtLeaf, Hold, sound, single}
+use Rattle.xs_flat_laws.proofs.BothLaws.{both_push}
+use Rattle.xs_value.proofs.ListLaws.{get_left}
 
 -- Lists by place.
 pub record Both {A B : Type 0} (R : A → B → Type 0) (as' : List A) (bs : List B) (i : ℕ) : Type 0 where
@@ -31,12 +32,6 @@ both_at R (a ∷ as') (b ∷ bs) zero h l = record { left = a; right = b; is_lef
 both_at R (a ∷ as') (b ∷ bs) (suc i) h l =
     let more = both_at R as' bs i h.1 (omega (arith, l)) in
     record { left = more.left; right = more.right; is_left = more.is_left; is_right = more.is_right; related = more.related }
-
-pub both_end : {A B : Type 0} (R : A → B → Type 0) (as' : List A) (bs : List B) (a : A) (b : B) → EachBoth R as' bs → R a b → EachBoth R (as' ++ a ∷ []) (bs ++ b ∷ [])
-both_end R [] [] a b h r = (r, tt)
-both_end R [] (y ∷ bs) a b h r = absurd h
-both_end R (x ∷ as') [] a b h r = absurd h
-both_end R (x ∷ as') (y ∷ bs) a b h r = (h.0, both_end R as' bs a b h.1 r)
 
 pub each_end : {A : Type 0} (P : A → Type 0) (xs : List A) (x : A) → Each P (xs ++ x ∷ []) → Each P xs × P x
 each_end P [] x h = (tt, h.0)
@@ -144,5 +139,5 @@ table_holds symbols v vs hv (d ∷ ds) js table hj r o =
     let hold = names_hold symbols v vs js table hv hj in
     let good = IsKnown (length vs) (length symbols) (length js) in
     let given = single k d.value (evaluate leaves leaves d.value) (sound FlatLeaf k good leaves leaves hold hold false d.value o.0) right in
-    table_holds symbols v vs hv ds (js ++ j ∷ []) (table ++ definition_gives symbols v table d ∷ []) (both_end GivenHolds js table j (evaluate leaves leaves d.value) hj (at_leaf j _ given)) r
+    table_holds symbols v vs hv ds (js ++ j ∷ []) (table ++ definition_gives symbols v table d ∷ []) (both_push GivenHolds js table j (evaluate leaves leaves d.value) hj (at_leaf j _ given)) r
     (subst (λ n. AreInOrder (length vs) (length symbols) n ds) (sym (length_end js j)) o.1)

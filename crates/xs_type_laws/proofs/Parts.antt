@@ -1,15 +1,15 @@
 -- What follows where no rule of a table's row is broken.
-use Rattle.std.proofs.Common.{◌≡◌, Bool, true, false, not, cond, ◌&&◌, ◌||◌, ◌⊎◌, inl, inr, List, [], ◌∷◌, ◌++◌, Option, Some, None, ℤ, ◌≤ℤ◌, int_lt, IsTrue, refl, subst, arith}
+use Rattle.std.proofs.Common.{◌≡◌, Bool, true, false, not, cond, ◌&&◌, ◌⊎◌, inl, inr, List, [], ◌∷◌, ◌++◌, Option, Some, None, ℤ, ◌≤ℤ◌, int_lt, IsTrue, refl, subst}
 use Rattle.std.specs.Int.{int_min, int_max}
-use Rattle.std.proofs.lemmas.Int.{ints}
 use Rattle.xs_tree.specs.Trace.{Each}
-use Rattle.xs_tree.specs.Values.{Value, truth, number, symbol, Values, one, from_to, either, has, at_most, opposite}
-use Rattle.xs_tree.proofs.ValueLaws.{same_value_equal}
+use Rattle.xs_tree.specs.Values.{Value, truth, number, symbol, Values, one, from_to, either, has, at_most}
+use Rattle.xs_tree.proofs.ValueLaws.{same_value_equal, not_less}
 use Rattle.xs_type_laws.specs.Intervals.{Interval, hull, fits, fits_number}
 use Rattle.xs_type_laws.specs.Judged.{Class, truth_class, number_class, symbol_class, Kind, KindRule, set_here, same_class, rule_if, unless_class, wide, joined, where_kept, one_value, some_values, Judged, hull_from, hull_of, first_class}
 use Rattle.xs_type_laws.specs.Safe.{LiesIn, IsOfKind, GivesOne, GivesSome}
 use Rattle.xs_type_laws.proofs.Products.{in_hull_left, in_hull_right}
 use Rattle.xs_lexer.proofs.SignLemmas.{both_true}
+use Rattle.xs_tree.proofs.BoolLaws.{or_cases}
 
 pub none_first : {A : Type 0} (xs ys : List A) → xs ++ ys ≡ [] → xs ≡ []
 none_first [] ys e = refl
@@ -124,23 +124,12 @@ hull_of_bounded (k ∷ ks) h = hull_from_bounded k.class k.interval ks h.0 h.1
 pub of_one : (P : Value → Type 0) (w : Value) → P w → (v : Value) → IsTrue (has (one w) v) → P v
 of_one P w p v h = subst P (same_value_equal w v h) p
 
-pub or_true : (a b : Bool) → (a || b) ≡ true → (a ≡ true) ⊎ (b ≡ true)
-or_true true b h = inl refl
-or_true false b h = inr h
-
 pub of_either : (P : Value → Type 0) (s t : Values) → ((v : Value) → IsTrue (has s v) → P v) → ((v : Value) → IsTrue (has t v) → P v) → (v : Value) → IsTrue (has (either s t) v) → P v
-of_either P s t p q v h = by (or_true (has s v) (has t v) h)
+of_either P s t p q v h = by (or_cases (has s v) (has t v) h)
   where
     by : (has s v ≡ true) ⊎ (has t v ≡ true) → P v
     by (inl e) = p v e
     by (inr e) = q v e
-
-pub not_less : (a b : ℤ) → at_most a b ≡ true → a ≤ℤ b
-not_less a b h = by (int_lt b a) refl h
-  where
-    by : (t : Bool) → int_lt b a ≡ t → opposite t ≡ true → a ≤ℤ b
-    by true e h' = cc
-    by false e h' = omega (arith, ints)
 
 pub of_span : (P : Value → Type 0) (lo hi : ℤ) → ((n : ℤ) → lo ≤ℤ n → n ≤ℤ hi → P (number n)) → (v : Value) → IsTrue (has (from_to lo hi) v) → P v
 of_span P lo hi p (number n) h = let e = both_true (at_most lo n) (at_most n hi) h in p n (not_less lo n e.0) (not_less n hi e.1)

@@ -5,12 +5,12 @@ use Rattle.xs_tree.specs.ProgramTree.{Text, DeclaredTree, boolean, range, member
 use Rattle.xs_tree.specs.Scope.{Place, Role, state, input, frozen_role, a_variable, kind_declared, kind_in, find_module}
 use Rattle.xs_tree.specs.Values.{Value}
 use Rattle.xs_tree.specs.May.{Valuation}
-use Rattle.xs_tree.specs.Trace.{Each, EachPair, AtFirst, in_domain, IsInstance, IsVariable, Declares, DomainSection, IsFirst, IsMoment, IsStep, IsTrace}
+use Rattle.xs_tree.specs.Trace.{Each, EachPair, AtFirst, in_domain, IsInstance, IsVariable, Declares, DomainSection, IsFirst, IsMoment, IsStep, IsTrace, EachBoth}
 use Rattle.xs_tree.specs.Flat.{FlatVariable, FlatModel, Holds}
 use Rattle.xs_flat_laws.specs.FlatTrace.{AreInDomains, IsFlatMoment, IsFlatStep, IsFlatTrace}
 use Rattle.xs_flat_laws.specs.Items.{Item, a_declaration, a_definition, an_assignment, some_constants, an_init, an_invar, a_trans, NumberedItem, items_of_section, items_of, items_named, Visit, visits, variables_of}
 use Rattle.xs_flat_laws.specs.Rules.{IsAccepted}
-use Rattle.xs_flat_laws.specs.Model.{IsVariableOf, EachBoth, IsFlatOf}
+use Rattle.xs_flat_laws.specs.Model.{IsVariableOf, IsFlatOf}
 use Rattle.xs_flat_laws.proofs.Reaches.{each_left, each_right}
 use Rattle.xs_flat_laws.proofs.Lists.{each_more}
 use Rattle.xs_flat_laws.proofs.KindLaws.{ItemFacts, kind_of_declaration}

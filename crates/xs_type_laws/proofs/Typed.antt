@@ -1,10 +1,9 @@
 -- The laws of typed models.
 use Rattle.std.proofs.Common.{◌≡◌, ℕ, suc, ◌+◌, ◌<◌, ◌≤◌, arith, true, false, List, [], ◌∷◌, ◌++◌, length, refl, sym, ap, ◌∙◌, subst, inl, inr, ⊎_elim, ◌⊎◌}
-use Rattle.xs_tree.specs.Trace.{Each, AtSome}
+use Rattle.xs_tree.specs.Trace.{Each, AtSome, EachBoth}
 use Rattle.xs_tree.specs.Values.{Value, Values, has}
 use Rattle.xs_tree.specs.Laws.{AllLeaves}
 use Rattle.xs_tree.specs.Flat.{FlatLeaf, flat_variable, flat_symbol, flat_definition, FlatVariable, FlatFormula, FlatModel, table_after, leaves_at}
-use Rattle.xs_flat_laws.specs.Model.{EachBoth}
 use Rattle.xs_flat_laws.proofs.Lists.{get_within, length_end}
 use Rattle.xs_flat_laws.specs.FlatTrace.{AreInDomains}
 use Rattle.xs_type_laws.specs.Judged.{KindRule, number_of, truth_class, not_boolean, unless_class, Judged, judge}

@@ -12,8 +12,9 @@ use Rattle.xs_type_laws.specs.Judged.{Class, number_class, KindRule, mixed_enum,
 use Rattle.xs_type_laws.specs.Declared.{member_kind, has_double, judged_declared}
 use Rattle.xs_type_laws.specs.Safe.{IsOfClass, IsOfKind}
 use Rattle.xs_type_laws.proofs.Products.{in_just}
-use Rattle.xs_type_laws.proofs.Parts.{none_first, none_second, class_kept, Bounded, BoundedAs, Inside, wide_bounded, hull_of_holds, hull_of_bounded, or_true, of_span, kind_as}
+use Rattle.xs_type_laws.proofs.Parts.{none_first, none_second, class_kept, Bounded, BoundedAs, Inside, wide_bounded, hull_of_holds, hull_of_bounded, of_span, kind_as}
 use Rattle.xs_type_laws.proofs.TreeLaws.{AtLeaf}
+use Rattle.xs_tree.proofs.BoolLaws.{or_cases}
 
 of_member : (c : Class) (target : Option Interval) (m : Member) → (member_kind m).class ≡ c → Inside target (member_kind m) → (v : Value) → IsOfKind (member_kind m) v →
     IsOfKind (kind_as c target) v
@@ -27,13 +28,13 @@ member_of c target (member.Number n ∷ ms) (number k) h e f =
     ⊎_elim (λ s. subst (λ i. IsOfKind (kind_as c target) (number i)) (same_int_equal n k s)
     (of_member c target (member.Number n) (class_kept c mixed_enum (member_kind (member.Number n)) (none_first _ _ e)) f.0 (number n) (record { class = tt; lies = in_just n })))
     (λ s. member_of c target ms (number k) s (none_second (unless_class c mixed_enum (member_kind (member.Number n))) _ e) f.1)
-    (or_true (same_int n k) (is_member ms (number k)) h)
+    (or_cases (same_int n k) (is_member ms (number k)) h)
 member_of c target (member.Number n ∷ ms) (truth b) h e f = member_of c target ms (truth b) h (none_second (unless_class c mixed_enum (member_kind (member.Number n))) _ e) f.1
 member_of c target (member.Number n ∷ ms) (symbol y) h e f = member_of c target ms (symbol y) h (none_second (unless_class c mixed_enum (member_kind (member.Number n))) _ e) f.1
 member_of c target (member.Symbol x ∷ ms) (symbol y) h e f =
     ⊎_elim (λ s. of_member c target (member.Symbol x) (class_kept c mixed_enum (member_kind (member.Symbol x)) (none_first _ _ e)) f.0 (symbol y) (record { class = tt; lies = tt }))
     (λ s. member_of c target ms (symbol y) s (none_second (unless_class c mixed_enum (member_kind (member.Symbol x))) _ e) f.1)
-    (or_true (same_text x y) (is_member ms (symbol y)) h)
+    (or_cases (same_text x y) (is_member ms (symbol y)) h)
 member_of c target (member.Symbol x ∷ ms) (truth b) h e f = member_of c target ms (truth b) h (none_second (unless_class c mixed_enum (member_kind (member.Symbol x))) _ e) f.1
 member_of c target (member.Symbol x ∷ ms) (number k) h e f = member_of c target ms (number k) h (none_second (unless_class c mixed_enum (member_kind (member.Symbol x))) _ e) f.1
 

@@ -1,18 +1,18 @@
 -- What a written expression of a lawful program may have lies in the kind of its flat form.
-use Rattle.std.proofs.Common.{◌≡◌, ℕ, zero, suc, pos, negsuc, eq-eqb, Bool, true, false, List, [], ◌∷◌, map, Option, Some, None, IsTrue, refl, sym, ap, ◌∙◌, subst}
-use Rattle.std.specs.Prelude.{slice_get, flat_map, codes}
+use Rattle.std.proofs.Common.{◌≡◌, Bool, true, false, List, [], ◌∷◌, map, Some, IsTrue, refl, sym, ap, ◌∙◌, subst}
+use Rattle.std.specs.Prelude.{flat_map, codes}
 use Rattle.xs_tree.specs.Tree.{Tree}
 use Rattle.xs_tree.specs.ProgramTree.{Text, Formula, DeclaredTree, boolean, range, members, instance, DeclTree, DefineTree, SectionTree, var, ivar, frozen, define, constants, assign, init, invar, trans, ModuleTree, ProgramTree}
 use Rattle.xs_tree.specs.Texts.{same_text}
-use Rattle.xs_tree.specs.Values.{Value, truth, number, symbol, one, same_value}
-use Rattle.xs_tree.specs.Scope.{Place, Role, state, input, frozen_role, Kind, a_variable, kind_declared, kind_in_decls, kind_in_defines, kind_in_sections, formal_from, kind_after_formals, find_module}
+use Rattle.xs_tree.specs.Values.{Value, truth, number, symbol, one}
+use Rattle.xs_tree.specs.Scope.{Place, Role, state, input, frozen_role, Kind, a_variable, kind_declared, kind_in_decls, kind_in_defines, kind_in_sections, formal_from, find_module}
 use Rattle.xs_tree.specs.May.{Valuation}
-use Rattle.xs_tree.specs.Trace.{Each, in_domain, IsVariable, Declares, DomainSection, InDomains}
-use Rattle.xs_tree.proofs.ValueLaws.{same_text_refl}
+use Rattle.xs_tree.specs.Trace.{Each, in_domain, IsVariable, Declares, DomainSection, InDomains, EachBoth}
+use Rattle.xs_tree.proofs.ValueLaws.{same_value_refl}
 use Rattle.xs_tree.specs.Flat.{FlatLeaf, FlatVariable, FlatModel, Numbers}
 use Rattle.xs_flat_laws.specs.Items.{Visit, visits, variable_declared, variables_of}
 use Rattle.xs_flat_laws.specs.Rules.{IsAccepted}
-use Rattle.xs_flat_laws.specs.Model.{IsVariableOf, EachBoth, IsFlatOf}
+use Rattle.xs_flat_laws.specs.Model.{IsVariableOf, IsFlatOf}
 use Rattle.xs_flat_laws.specs.Resolved.{Resolver, IsSound, IsResolved}
 use Rattle.xs_flat_laws.proofs.Conditions.{each_join}
 use Rattle.xs_flat_laws.proofs.Places.{Real, has_main}
@@ -28,6 +28,8 @@ use Rattle.xs_type_laws.proofs.Typed.{values_lie}
 use Rattle.xs_type_laws.proofs.ClosedLaws.{own_by, models_closed}
 use Rattle.xs_type_laws.proofs.AnyResolver.{resolved_by, may_by}
 use Rattle.xs_tree.proofs.OneTree.{same_text_equal}
+use Rattle.xs_tree.proofs.ListLaws.{get_map}
+use Rattle.xs_tree.proofs.ProgramLaws.{after_formals}
 
 -- A declared variable has a value of its domain.
 declared_value : (v : Valuation) (at : Place) (x : Text) (role r : Role) (what type : DeclaredTree) → kind_declared r what ≡ a_variable role type → Declares v at x what → IsTrue (in_domain type (v at x))
@@ -69,20 +71,10 @@ in_sections v at x role type (init f ∷ ss) h e = in_sections v at x role type 
 in_sections v at x role type (invar f ∷ ss) h e = in_sections v at x role type ss h.1 e
 in_sections v at x role type (trans f ∷ ss) h e = in_sections v at x role type ss h.1 e
 
-no_formal : (o : Option ℕ) (k : Kind) (role : Role) (type : DeclaredTree) → kind_after_formals o k ≡ a_variable role type → k ≡ a_variable role type
-no_formal None k role type e = e
-no_formal (Some i) k role type e = cc
-
 variable_value : (p : ProgramTree) (v : Valuation) → InDomains p v → (at : Place) (x : Text) (role : Role) (type : DeclaredTree) → IsVariable p at x role type → IsTrue (in_domain type (v at x))
 variable_value p v h at x role type is =
     let m = is.0 in
-    in_sections v at x role type m.sections (h at m is.1) (no_formal (formal_from 0 m.formals x) (kind_in_sections m.sections x) role type is.2)
-
--- The values of the numbered variables, in their order.
-pub get_map : {A B : Type 0} (f : A → B) (xs : List A) (i : ℕ) (x : A) → slice_get xs i ≡ Some x → slice_get (map f xs) i ≡ Some (f x)
-get_map f [] i x e = cc
-get_map f (y ∷ xs) zero x e = cc
-get_map f (y ∷ xs) (suc i) x e = get_map f xs i x e
+    in_sections v at x role type m.sections (h at m is.1) (after_formals (formal_from 0 m.formals x) (kind_in_sections m.sections x) role type is.2)
 
 pub numbers : (m : FlatModel) (v : Valuation) → Numbers m (values_by_number m v) v
 numbers m v i x e = get_map (λ y. v y.place y.name) m.variables i x e
@@ -136,13 +128,6 @@ written_values_lie p m accepted is typed q sound now next h g at e flat r sets r
           let given = (resolved_by p m is q sound (values_by_number m now) (values_by_number m next) now next (numbers m now) (numbers m next) at e flat r (one one'.0)).1 one'.1 in
           (one'.0, given.0, given.1);
     }
-
-same_value_refl : (v : Value) → same_value v v ≡ true
-same_value_refl (truth true) = refl
-same_value_refl (truth false) = refl
-same_value_refl (number (pos n)) = eq-eqb n n refl
-same_value_refl (number (negsuc n)) = eq-eqb n n refl
-same_value_refl (symbol x) = same_text_refl x
 
 truth_value : (j : Judged) (v : Value) → j.kind.class ≡ truth_class → IsOfKind j.kind v → (b : Bool) × (v ≡ truth b)
 truth_value j v e h = by v (subst (λ c. IsOfClass c v) e h.class)

@@ -6,7 +6,7 @@ use Rattle.xs_tree.specs.ProgramTree.{DeclaredTree, boolean, range, members, ins
 use Rattle.xs_tree.specs.Values.{same_int}
 use Rattle.xs_tree.specs.Texts.{same_text}
 use Rattle.xs_type_laws.specs.Intervals.{just}
-use Rattle.xs_type_laws.specs.Judged.{Kind, truth_class, number_class, symbol_class, empty_range, mixed_enum, double_member, Judged, rule_if, wide, one_value, first_class, unlike_first, hull_of}
+use Rattle.xs_type_laws.specs.Judged.{Class, Kind, truth_class, number_class, symbol_class, empty_range, mixed_enum, double_member, Judged, rule_if, wide, one_value, first_class, unlike_first, hull_of}
 
 -- a member of a type has one value
 abbrev pub member_kind : Member → Kind
@@ -47,3 +47,7 @@ judged_declared boolean = one_value [] truth_class None []
 judged_declared (range lo hi) = judged_range lo hi
 judged_declared (members ms) = judged_members ms
 judged_declared (instance m actuals) = one_value [] truth_class None []
+
+-- the class of a declared type
+abbrev pub class_declared : DeclaredTree → Class
+class_declared type = (judged_declared type).kind.class

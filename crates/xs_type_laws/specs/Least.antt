@@ -3,17 +3,12 @@ use Rattle.std.specs.Prelude.{◌≡◌, ◌<◌, nat_lt, int_lt, Bool, false, I
 use Rattle.xs_tree.specs.declared.program.Member.{Member}
 use Rattle.xs_tree.specs.declared.program.Member.TheVariants as member
 use Rattle.xs_tree.specs.ProgramTree.{Text, DeclaredTree, boolean, range, members, instance}
-use Rattle.xs_tree.specs.Values.{Value, truth, number, symbol, at_most}
+use Rattle.xs_tree.specs.Values.{Value, truth, number, at_most}
 use Rattle.xs_tree.specs.Scope.{Role, state, input, frozen_role}
-use Rattle.xs_tree.specs.Trace.{Each}
+use Rattle.xs_tree.specs.Trace.{Each, value_of_member}
 use Rattle.xs_tree.specs.Flat.{FlatVariable, FlatModel}
 use Rattle.xs_flat_laws.specs.FlatTrace.{AreInDomains}
 use Rattle.xs_type_laws.specs.Costs.{symbol_number}
-
--- the value of a member
-abbrev pub value_of_member : Member → Value
-value_of_member (member.Number n) = number n
-value_of_member (member.Symbol x) = symbol x
 
 -- the second member is less: a smaller number, or the symbol with the smaller number
 abbrev pub is_less : List Text → Member → Member → Bool

@@ -1,22 +1,21 @@
 -- A domain has the values of its type.
-use Rattle.std.proofs.Common.{◌≡◌, ◌↔◌, ◌⊎◌, inl, inr, ⊎_elim, ℕ, zero, suc, ◌<◌, ◌≤ℤ◌, Bool, true, false, ◌||◌, List, [], ◌∷◌, ◌++◌, length, Some, option_map, IsTrue, Contains, refl, sym, ap, ◌∙◌, subst, ℤ, arith}
-use Rattle.std.specs.Prelude.{flat_map, map, slice_get, slice_index_or, int_lt}
-use Rattle.std.proofs.lemmas.Int.{ints}
+use Rattle.std.proofs.Common.{◌≡◌, ◌↔◌, ◌⊎◌, ⊎_elim, ℕ, zero, suc, Bool, true, false, ◌||◌, List, [], ◌∷◌, ◌++◌, Some, option_map, IsTrue, Contains, refl, sym, ap, ◌∙◌, subst, ℤ}
+use Rattle.std.specs.Prelude.{flat_map, map, slice_get}
 use Rattle.std.proofs.lemmas.Option.{slice_get-map, same_Some}
 use Rattle.xs_tree.specs.declared.program.Member.{Member}
 use Rattle.xs_tree.specs.declared.program.Member.TheVariants as member
 use Rattle.xs_tree.specs.ProgramTree.{Text, DeclaredTree, boolean, range, members, instance, declared_tree}
 use Rattle.xs_tree.specs.Texts.{same_text}
 use Rattle.xs_tree.specs.Trace.{in_domain, is_member}
-use Rattle.xs_tree.specs.Values.{Value, truth, number, symbol, same_int, is_between, at_most, opposite}
-use Rattle.xs_tree.proofs.ValueLaws.{same_text_refl, same_int_equal}
+use Rattle.xs_tree.specs.Values.{Value, truth, number, symbol, same_int, is_between, at_most}
+use Rattle.xs_tree.proofs.ValueLaws.{same_text_refl, same_int_equal, at_most_from, no_truth, not_less}
 use Rattle.xs_value.specs.declared.domain.Domain.TheVariants as domain
 use Rattle.xs_value.specs.declared.value.Value.{Value as AValue}
 use Rattle.xs_value.specs.declared.value.Value.TheVariants as value
 use Rattle.xs_value.specs.Domains.{Has}
 use Rattle.xs_type_laws.specs.Judged.{number_class, symbol_class, mixed_enum, double_member, rule_if, unless_class, unlike_first, wide}
 use Rattle.xs_type_laws.specs.Costs.{symbol_number}
-use Rattle.xs_type_laws.proofs.Parts.{none_first, none_second, not_less}
+use Rattle.xs_type_laws.proofs.Parts.{none_first, none_second}
 use Rattle.xs_type_laws.specs.Declared.{member_kind, has_double, judged_declared}
 use Rattle.xs_types.specs.Types.{numbers_in, symbols_in, members_domain, domain_of, StandsFor, HasValuesOf, variable_domain, AreValuesOf}
 use Rattle.xs_type_laws.specs.Models.{breaches_at, variable_breaches, IsTyped}
@@ -29,29 +28,13 @@ use Rattle.xs_tree.proofs.OneTree.{same_text_equal}
 use Rattle.std.proofs.lemmas.Bool.{or_left, or_right as or_true}
 use Rattle.xs_type_laws.proofs.Typed.{none_at as no_rules}
 use Rattle.xs_type_laws.proofs.LeastLaws.{same_int_self as int_itself}
-
--- Contained items.
-at_head : {A : Type 0} (x : A) (xs : List A) → Contains (x ∷ xs) x
-at_head x xs = (0, omega arith, refl)
-
-in_tail : {A : Type 0} (x y : A) (xs : List A) → Contains xs x → Contains (y ∷ xs) x
-in_tail x y xs c = (suc c.0, omega (arith, c.1), c.2)
-
-by_place : {A : Type 0} (x y : A) (xs : List A) → Contains (y ∷ xs) x → (y ≡ x) ⊎ Contains xs x
-by_place x y xs c = by c.0 c.1 c.2
-  where
-    by : (k : ℕ) → k < suc (length xs) → slice_index_or (y ∷ xs) k x ≡ x → (y ≡ x) ⊎ Contains xs x
-    by zero lt e = inl e
-    by (suc k) lt e = inr (k, omega (arith, lt), e)
-
-none_within : {A : Type 0} (x : A) → Contains [] x → ⊥
-none_within x c = omega (arith, c.1)
+use Rattle.xs_tree.proofs.ListLaws.{contains_here, contains_later, none_contained, contains_cases}
 
 -- Numbers among members.
 number_there : (ms : List Member) (n : ℤ) → Contains (numbers_in ms) n → is_member ms (number n) ≡ true
-number_there [] n c = absurd (none_within n c)
+number_there [] n c = absurd (none_contained n c)
 number_there (member.Number k ∷ ms) n c =
-    ⊎_elim (λ (e : k ≡ n). or_left (same_int k n) (is_member ms (number n)) (subst (λ x. same_int k x ≡ true) e (int_itself k))) (λ d. or_true (same_int k n) (is_member ms (number n)) (number_there ms n d)) (by_place n k (numbers_in ms) c)
+    ⊎_elim (λ (e : k ≡ n). or_left (same_int k n) (is_member ms (number n)) (subst (λ x. same_int k x ≡ true) e (int_itself k))) (λ d. or_true (same_int k n) (is_member ms (number n)) (number_there ms n d)) (contains_cases n k (numbers_in ms) c)
 number_there (member.Symbol x ∷ ms) n c = number_there ms n c
 
 number_found : (ms : List Member) (n : ℤ) → is_member ms (number n) ≡ true → Contains (numbers_in ms) n
@@ -59,8 +42,8 @@ number_found [] n e = cc
 number_found (member.Number k ∷ ms) n e = by (same_int k n) refl e (λ f. number_found ms n f)
   where
     by : (b : Bool) → same_int k n ≡ b → (b || is_member ms (number n)) ≡ true → (is_member ms (number n) ≡ true → Contains (numbers_in ms) n) → Contains (k ∷ numbers_in ms) n
-    by true f g more = subst (Contains (k ∷ numbers_in ms)) (same_int_equal k n f) (at_head k (numbers_in ms))
-    by false f g more = in_tail n k (numbers_in ms) (more g)
+    by true f g more = subst (Contains (k ∷ numbers_in ms)) (same_int_equal k n f) (contains_here k (numbers_in ms))
+    by false f g more = contains_later n k (numbers_in ms) (more g)
 number_found (member.Symbol x ∷ ms) n e = number_found ms n e
 
 -- Symbols among members.
@@ -73,12 +56,12 @@ named (t ∷ symbols) y x e = by (same_text t y) refl e (λ f. named symbols y x
     by false f g more = more g
 
 symbol_there : (symbols : List Text) (ms : List Member) (i : ℕ) (x : Text) → slice_get symbols i ≡ Some x → Contains (symbols_in symbols ms) i → is_member ms (symbol x) ≡ true
-symbol_there symbols [] i x at c = absurd (none_within i c)
+symbol_there symbols [] i x at c = absurd (none_contained i c)
 symbol_there symbols (member.Number n ∷ ms) i x at c = symbol_there symbols ms i x at c
 symbol_there symbols (member.Symbol y ∷ ms) i x at c =
     ⊎_elim
     (λ (e : symbol_number symbols y ≡ i). or_left (same_text y x) (is_member ms (symbol x)) (subst (λ z. same_text y z ≡ true) (named symbols y x (ap (slice_get symbols) e ∙ at)) (same_text_refl y)))
-    (λ d. or_true (same_text y x) (is_member ms (symbol x)) (symbol_there symbols ms i x at d)) (by_place i (symbol_number symbols y) (symbols_in symbols ms) c)
+    (λ d. or_true (same_text y x) (is_member ms (symbol x)) (symbol_there symbols ms i x at d)) (contains_cases i (symbol_number symbols y) (symbols_in symbols ms) c)
 
 symbol_found : (symbols : List Text) (ms : List Member) (i : ℕ) (x : Text) → symbol_number symbols x ≡ i → is_member ms (symbol x) ≡ true → Contains (symbols_in symbols ms) i
 symbol_found symbols [] i x number_is e = cc
@@ -86,8 +69,8 @@ symbol_found symbols (member.Number n ∷ ms) i x number_is e = symbol_found sym
 symbol_found symbols (member.Symbol y ∷ ms) i x number_is e = by (same_text y x) refl e (λ f. symbol_found symbols ms i x number_is f)
   where
     by : (b : Bool) → same_text y x ≡ b → (b || is_member ms (symbol x)) ≡ true → (is_member ms (symbol x) ≡ true → Contains (symbols_in symbols ms) i) → Contains (symbol_number symbols y ∷ symbols_in symbols ms) i
-    by true f g more = subst (Contains (symbol_number symbols y ∷ symbols_in symbols ms)) (ap (symbol_number symbols) (same_text_equal y x f) ∙ number_is) (at_head (symbol_number symbols y) (symbols_in symbols ms))
-    by false f g more = in_tail i (symbol_number symbols y) (symbols_in symbols ms) (more g)
+    by true f g more = subst (Contains (symbol_number symbols y ∷ symbols_in symbols ms)) (ap (symbol_number symbols) (same_text_equal y x f) ∙ number_is) (contains_here (symbol_number symbols y) (symbols_in symbols ms))
+    by false f g more = contains_later i (symbol_number symbols y) (symbols_in symbols ms) (more g)
 
 -- Members of one class.
 no_symbol : (ms : List Member) (x : Text) → flat_map (unless_class number_class mixed_enum) (map member_kind ms) ≡ [] → is_member ms (symbol x) ≡ false
@@ -99,11 +82,6 @@ no_number : (ms : List Member) (n : ℤ) → flat_map (unless_class symbol_class
 no_number [] n e = refl
 no_number (member.Number k ∷ ms) n e = cc
 no_number (member.Symbol x ∷ ms) n e = no_number ms n e
-
-no_truth : (ms : List Member) (b : Bool) → is_member ms (truth b) ≡ false
-no_truth [] b = refl
-no_truth (member.Number n ∷ ms) b = no_truth ms b
-no_truth (member.Symbol x ∷ ms) b = no_truth ms b
 
 never : {P : Type 0} (b : Bool) → b ≡ false → (P → ⊥) → P ↔ IsTrue b
 never b e none = ((λ p. absurd (none p)), λ t. let both : true ≡ false = sym t ∙ e in cc)
@@ -143,17 +121,10 @@ members_has symbols [] e v w s = symbols_has symbols [] refl v w s
 members_has symbols (member.Number n ∷ ms) e v w s = numbers_has symbols (member.Number n ∷ ms) (unlike_none (member.Number n ∷ ms) e) v w s
 members_has symbols (member.Symbol x ∷ ms) e v w s = symbols_has symbols (member.Symbol x ∷ ms) (unlike_none (member.Symbol x ∷ ms) e) v w s
 
-less_not : (a b : ℤ) → a ≤ℤ b → at_most a b ≡ true
-less_not a b h = by (int_lt b a) refl
-  where
-    by : (t : Bool) → int_lt b a ≡ t → opposite t ≡ true
-    by true e = absurd (omega (arith, ints))
-    by false e = refl
-
 range_has : (symbols : List Text) (lo hi : ℤ) (v : AValue) (w : Value) → StandsFor symbols v w → Has (domain.Range lo hi) v ↔ IsTrue (is_between lo hi w)
 range_has symbols lo hi (value.Num n) (number k) s =
     subst (λ z. Has (domain.Range lo hi) (value.Num n) ↔ IsTrue (is_between lo hi (number z))) s (
-      (λ h. let a : at_most lo n ≡ true = less_not lo n h.0 in let b : at_most n hi ≡ true = less_not n hi h.1 in rw (a, b) refl),
+      (λ h. let a : at_most lo n ≡ true = at_most_from lo n h.0 in let b : at_most n hi ≡ true = at_most_from n hi h.1 in rw (a, b) refl),
       λ t. let e = both_true (at_most lo n) (at_most n hi) t in (not_less lo n e.0, not_less n hi e.1),
     )
 range_has symbols lo hi (value.Bool b) (truth c) s = never false refl (λ x. x)

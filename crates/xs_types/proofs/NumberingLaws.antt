@@ -6,21 +6,16 @@ use Rattle.std.proofs.lemmas.List.{drop_more}
 use Rattle.indexmap.specs.IndexMap.{IndexMap, get}
 use Rattle.xs_tree.specs.Texts.{same_text}
 use Rattle.xs_type_laws.specs.Costs.{symbol_number}
-use Rattle.xs_types.specs.Numbering.{same_borrowed, number_from, AreNumbered}
-
--- both tests of texts answer the same
-pub same_bytes : (x y : List ℕ) → pointwise nat_eq x y ≡ same_text x y
-same_bytes [] [] = refl
-same_bytes [] (d ∷ ds) = refl
-same_bytes (c ∷ cs) [] = refl
-same_bytes (c ∷ cs) (d ∷ ds) = rw (same_bytes cs ds) refl
+use Rattle.xs_types.specs.Numbering.{number_from, AreNumbered}
+use Rattle.xs_tree.specs.BorrowedTexts.{same_borrowed}
+use Rattle.xs_tree.proofs.AmongLaws.{pointwise_is}
 
 -- an insertion of the text at a place numbers the texts from that place on
 pub numbered_more : {S : Type 0} (texts : List (List ℕ)) (i : ℕ) (d : List ℕ) (key : Bor (List ℕ)) (before after : IndexMap (Bor (List ℕ)) ℕ S) → i < length texts → key.now ≡ get_or texts i d →
     AreNumbered (i + 1) (drop (i + 1) texts) before → ((x : Bor (List ℕ)) → get same_borrowed after x ≡ cond (same_borrowed key x) (Some i) (get same_borrowed before x)) →
     AreNumbered i (drop i texts) after
 numbered_more texts i d key before after h is numbered updated x =
-    updated x ∙ ap (λ b. cond b (Some i) (get same_borrowed before x)) (ap (λ k. pointwise nat_eq k x.now) is ∙ same_bytes (get_or texts i d) x.now)
+    updated x ∙ ap (λ b. cond b (Some i) (get same_borrowed before x)) (ap (λ k. pointwise nat_eq k x.now) is ∙ pointwise_is (get_or texts i d) x.now)
     ∙ ap (λ o. cond (same_text (get_or texts i d) x.now) (Some i) o) (numbered x) ∙ sym (ap (λ ts. number_from i ts x.now) (drop_more texts i d h))
 
 pub numbered_before : {S : Type 0} (texts : List (List ℕ)) (p : ℕ) (d : List ℕ) (key : Bor (List ℕ)) (before after : IndexMap (Bor (List ℕ)) ℕ S) → 0 < p → p ≤ length texts → key.now ≡ get_or texts (p - 1) d →

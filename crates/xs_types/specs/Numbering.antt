@@ -1,13 +1,9 @@
 -- Symbols by their numbers, as a map keeps them.
-use lib.Pointwise.{pointwise}
-use Rattle.std.specs.Prelude.{◌≡◌, ℕ, ◌+◌, Bool, Option, Some, None, List, [], ◌∷◌, nat_eq, if◌then◌else◌}
+use Rattle.std.specs.Prelude.{◌≡◌, ℕ, ◌+◌, Option, Some, None, List, [], ◌∷◌, if◌then◌else◌}
 use Rattle.std.specs.Borrow.{Bor}
 use Rattle.indexmap.specs.IndexMap.{IndexMap, get}
 use Rattle.xs_tree.specs.Texts.{same_text}
-
--- both borrowed texts have the same bytes
-abbrev pub same_borrowed : Bor (List ℕ) → Bor (List ℕ) → Bool
-same_borrowed x y = pointwise nat_eq x.now y.now
+use Rattle.xs_tree.specs.BorrowedTexts.{same_borrowed}
 
 -- the first place of a text among texts that are numbered from i on
 abbrev pub number_from : ℕ → List (List ℕ) → List ℕ → Option ℕ

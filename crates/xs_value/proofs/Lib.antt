@@ -1,2 +1,5 @@
+pub mod BoolLaws
 mod Cutting
 mod Different
+pub mod ListLaws
+pub mod ResultLaws

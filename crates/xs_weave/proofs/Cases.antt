@@ -10,21 +10,21 @@ use Rattle.xs_tree.proofs.ValueLaws.{same_text_refl}
 use Rattle.xs_fei.specs.Instructions.{ModeTree}
 use Rattle.xs_fei.specs.AddedNames.{ModeState}
 use Rattle.xs_fei.specs.Templates.{stands}
-use Rattle.xs_fei.proofs.TemplateLaws.{is_state}
 use Rattle.xs_weave.specs.Woven.{mode_branches}
 use Rattle.xs_fei.specs.Weavable.{Among}
 use Rattle.xs_tree.proofs.OneTree.{same_text_equal}
+use Rattle.xs_fei.specs.EffectLaw.{stands_at}
 
 -- the branch that the case takes
 abbrev pub chosen : (ModeTree → Formula) → Formula → ModeState → List ModeTree → Formula
 chosen f last st [] = last
-chosen f last st (m ∷ ms) = if is_state st m.name then f m else chosen f last st ms
+chosen f last st (m ∷ ms) = if stands_at st m.name then f m else chosen f last st ms
 
 pub case_value : (now next : Leaves Path) (s : Text) (st : ModeState) (f : ModeTree → Formula) (last : Formula) (ms : List ModeTree) →
-    Each (λ m. evaluate now next (stands s m.name) ≡ Some (one (truth (is_state st m.name)))) ms →
+    Each (λ m. evaluate now next (stands s m.name) ≡ Some (one (truth (stands_at st m.name)))) ms →
     evaluate_branches now next (mode_branches s f last ms) ≡ evaluate now next (chosen f last st ms)
 case_value now next s st f last [] h = refl
-case_value now next s st f last (m ∷ ms) h = rw (h.0) (go (is_state st m.name) (case_value now next s st f last ms h.1))
+case_value now next s st f last (m ∷ ms) h = rw (h.0) (go (stands_at st m.name) (case_value now next s st f last ms h.1))
   where
     go : (b : Bool) → evaluate_branches now next (mode_branches s f last ms) ≡ evaluate now next (chosen f last st ms) →
         gives_choice (Some (one (truth b))) (evaluate now next (f m)) (evaluate_branches now next (mode_branches s f last ms)) ≡ evaluate now next (if b then f m else chosen f last st ms)

@@ -1,14 +1,15 @@
 -- The declaration of a variable, found, and the symbols of its type.
-use Rattle.std.proofs.Common.{◌≡◌, ◌⊎◌, inl, inr, ℕ, Bool, true, false, List, [], ◌∷◌, Option, Some, None, refl, sym, ap, subst}
+use Rattle.std.proofs.Common.{◌≡◌, ◌⊎◌, inl, inr, Bool, true, false, List, [], ◌∷◌, refl, sym, ap, subst}
 use Rattle.std.specs.Prelude.{if◌then◌else◌, ◌||◌}
 use Rattle.xs_tree.specs.ProgramTree.{Text, DeclaredTree, boolean, range, members, instance, DeclTree, DefineTree, SectionTree, var, ivar, frozen, define, constants, assign, init, invar, trans, ModuleTree, ProgramTree}
 use Rattle.xs_tree.specs.Texts.{same_text, is_among}
-use Rattle.xs_tree.specs.Scope.{Role, state, input, frozen_role, Kind, a_variable, a_define, kind_declared, kind_in_decls, kind_in_defines, kind_in_sections, kind_after_formals, formal_from, kind_in, is_symbol, is_symbol_of_sections, is_symbol_of_decls, is_symbol_of_type}
+use Rattle.xs_tree.specs.Scope.{Role, state, input, frozen_role, Kind, a_variable, a_define, kind_declared, kind_in_decls, kind_in_defines, kind_in_sections, formal_from, kind_in, is_symbol, is_symbol_of_sections, is_symbol_of_decls, is_symbol_of_type}
 use Rattle.xs_tree.specs.Trace.{Each}
 use Rattle.xs_fei.specs.KindTypes.{type_of_kind}
 use Rattle.xs_fei.specs.Weavable.{Among}
 use Rattle.xs_fei.proofs.AmongLaws.{each_all}
 use Rattle.xs_tree.proofs.OneTree.{same_text_equal}
+use Rattle.xs_tree.proofs.ProgramLaws.{after_formals}
 
 -- the declaration of a variable, found
 module _ (P : DeclTree → Type 0) (R : Type 0) (x : Text) (role' : Role) (type : DeclaredTree) (found : (d : DeclTree) → P d → d.name ≡ x → d.what ≡ type → R) where
@@ -47,10 +48,6 @@ module _ (P : DeclTree → Type 0) (R : Type 0) (x : Text) (role' : Role) (type 
   sections_find D v n f (init t ∷ ss) e h = sections_find D v n f ss e h.1
   sections_find D v n f (invar t ∷ ss) e h = sections_find D v n f ss e h.1
   sections_find D v n f (trans t ∷ ss) e h = sections_find D v n f ss e h.1
-
-pub after_formals : (o : Option ℕ) (k : Kind) (role : Role) (type : DeclaredTree) → kind_after_formals o k ≡ a_variable role type → k ≡ a_variable role type
-after_formals None k role type e = e
-after_formals (Some n) k role type e = cc
 
 pub or_true : (a b : Bool) → (a ≡ true) ⊎ (b ≡ true) → (a || b) ≡ true
 or_true true b h = refl

@@ -14,6 +14,7 @@ use Rattle.xs_fei.specs.declared.instructions.Extension.{Extension}
 use Rattle.xs_fei.specs.Instructions.{SliceTree, ExtensionTree, slice_tree, extension_tree, slices_from, is_target}
 use Rattle.xs_fei.specs.KindTypes.{type_of_kind}
 use Rattle.xs_weave.specs.Lookups.{affects, variable_type, type_in_decls, type_in_defines, type_in_section, first_type}
+use Rattle.xs_tree.proofs.BoolLaws.{or_grouped}
 
 if_true : (b c : Bool) → (if b then true else c) ≡ (b || c)
 if_true true c = refl
@@ -25,14 +26,10 @@ pub target_more : (ss : List Slice) (x : Text) (i : ℕ) (d : Slice) → i < len
 target_more ss x i d h =
     ap (λ ts. is_target (map slice_tree ts) x) (drop_more ss i d h) ∙ if_true (same_text (slice_tree (get_or ss i d)).target x) (is_target (map slice_tree (drop (i + 1) ss)) x)
 
-or_assoc : (a b c : Bool) → (a || (b || c)) ≡ ((a || b) || c)
-or_assoc true b c = refl
-or_assoc false b c = refl
-
 target_append : (ss ts : List SliceTree) (x : Text) → is_target (ss ++ ts) x ≡ (is_target ss x || is_target ts x)
 target_append [] ts x = refl
 target_append (s ∷ ss) ts x =
-    if_true (same_text s.target x) (is_target (ss ++ ts) x) ∙ ap (λ b. same_text s.target x || b) (target_append ss ts x) ∙ or_assoc (same_text s.target x) (is_target ss x) (is_target ts x)
+    if_true (same_text s.target x) (is_target (ss ++ ts) x) ∙ ap (λ b. same_text s.target x || b) (target_append ss ts x) ∙ or_grouped (same_text s.target x) (is_target ss x) (is_target ts x)
     ∙ ap (λ b. b || is_target ts x) (sym (if_true (same_text s.target x) (is_target ss x)))
 
 -- a slice of the module affects the variable where one of the first extension or of a later one does

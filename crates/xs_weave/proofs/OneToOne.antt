@@ -4,11 +4,11 @@ use Rattle.xs_tree.specs.ProgramTree.{ModuleTree, ProgramTree}
 use Rattle.xs_tree.specs.Values.{symbol}
 use Rattle.xs_tree.specs.Scope.{Place, Kind, a_formal, a_variable, a_define, an_instance, undeclared, kind_in, kind_in_sections}
 use Rattle.xs_tree.specs.May.{Valuation}
-use Rattle.xs_tree.specs.Trace.{IsInstance, Each}
+use Rattle.xs_tree.specs.Trace.{IsInstance, Each, EachBoth}
 use Rattle.xs_fei.specs.Instructions.{SliceTree, InstructionTree, slices_of}
 use Rattle.xs_weave.specs.Extended.{Moment}
 use Rattle.xs_fei.specs.AddedNames.{mode_symbol}
-use Rattle.xs_weave.specs.Conservative.{EachBoth, IsSlice, IsCutMoment, IsCut, SameMoment, SameValuation, HasModes, IsOneToOne}
+use Rattle.xs_weave.specs.Conservative.{IsSlice, IsCutMoment, IsCut, SameMoment, SameValuation, HasModes, IsOneToOne}
 use Rattle.xs_weave.specs.Woven.{added_sections, woven}
 use Rattle.xs_fei.specs.Weavable.{Among, IsWeavable}
 use Rattle.xs_weave.proofs.WovenKinds.{kind_or, kind_woven, Adds, IsAddedBy, added_or_not}

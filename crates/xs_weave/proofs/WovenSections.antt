@@ -17,11 +17,12 @@ use Rattle.xs_fei.specs.AddedNames.{own_name}
 use Rattle.xs_weave.specs.Conservative.{IsSlice, IsCutMoment}
 use Rattle.xs_weave.specs.Woven.{rename, same_path, tree_map_both, woven_assignment, woven_section, woven}
 use Rattle.xs_fei.specs.Weavable.{Among, HasMeaning, IsReadable, IsLawfulTarget, IsLawfulAssignment, IsLawfulSection, IsWeavable, IsLawfulDecl}
-use Rattle.xs_fei.proofs.Equivalence.{iff_trans, iff_refl}
+use Rattle.xs_fei.proofs.Equivalence.{iff_refl}
 use Rattle.xs_fei.proofs.AmongLaws.{each_iff, each_map, each_at}
 use Rattle.xs_weave.proofs.Agreement.{evaluate_leaves, evaluate_map_both, values_agree, may_agree}
 use Rattle.xs_weave.proofs.Added.{contains_among, affected_slice}
 use Rattle.xs_weave.proofs.LeafValues.{slice_leaves}
+use Rattle.xs_tree.proofs.BoolLaws.{iff_trans}
 
 module _ (p : ProgramTree) (i : InstructionTree) (ok : IsWeavable p i) where
   module _ (at : Place) (m : ModuleTree) (is : IsInstance p at m) where

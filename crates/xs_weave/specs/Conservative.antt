@@ -1,19 +1,13 @@
 -- What a woven program means: its traces are the extended traces, and its faultless ones those of the program.
-use Rattle.std.specs.Prelude.{◌≡◌, ◌↔◌, List, [], ◌∷◌, Some, None, Contains}
+use Rattle.std.specs.Prelude.{◌≡◌, ◌↔◌, List, Some, None, Contains}
 use Rattle.xs_tree.specs.ProgramTree.{Text, DeclaredTree, ModuleTree, ProgramTree}
 use Rattle.xs_tree.specs.Values.{symbol}
 use Rattle.xs_tree.specs.Scope.{Place, Role}
 use Rattle.xs_tree.specs.May.{Valuation}
-use Rattle.xs_tree.specs.Trace.{IsInstance, IsVariable, IsTrace, Each, AtSome}
+use Rattle.xs_tree.specs.Trace.{IsInstance, IsVariable, IsTrace, Each, AtSome, EachBoth}
 use Rattle.xs_fei.specs.Instructions.{InstructionTree, SliceTree, slices_of}
 use Rattle.xs_fei.specs.AddedNames.{ModeState, own_name, mode_variable, mode_symbol}
 use Rattle.xs_weave.specs.Extended.{Moment, IsExtended}
-
--- the two lists are as long as each other, and each member of the one is related to that of the other
-abbrev pub EachBoth : {A B : Type 0} → (A → B → Type 0) → List A → List B → Type 0
-EachBoth R [] [] = Unit {0}
-EachBoth R (a ∷ more) (b ∷ others) = R a b × EachBoth R more others
-EachBoth R _ _ = ⊥
 
 module _ (p : ProgramTree) (i : InstructionTree) where
   -- a slice of the module of an instance

@@ -9,7 +9,6 @@ use Rattle.xs_tree.specs.ProgramTree.{Text, DeclaredTree, boolean, range, member
 use Rattle.xs_tree.specs.Texts.{same_text, is_among}
 use Rattle.xs_tree.specs.Scope.{Place, Role, state, input, frozen_role, Kind, a_formal, a_variable, a_define, an_instance, undeclared, find_module, kind_in, kind_in_decls, kind_in_defines, kind_in_sections, kind_after_formals, formal_from, kind_declared, kind_at, module_at, module_of_kind}
 use Rattle.xs_tree.specs.Trace.{IsInstance, Each, AtSome, in_domain}
-use Rattle.xs_tree.proofs.ValueLaws.{same_text_equal}
 use Rattle.xs_fei.specs.Instructions.{EffectTree, stuck_at, follows, inverted, random, erroneous, frozen, stuck_at_pick, offset, ramp_down, ModeTree, SliceTree}
 use Rattle.xs_fei.specs.AddedNames.{ModeState, own_name, mode_variable, mode_symbol}
 use Rattle.xs_fei.specs.Allowed.{fault_of, constant_fault, is_of_kind, inverted_fault}
@@ -21,11 +20,13 @@ use Rattle.xs_fei.proofs.OwnNames.{own_not_mode}
 use Rattle.xs_weave_rules.specs.Sites.{OwnedSlice, a_slice, a_mode}
 use Rattle.xs_weave_rules.specs.declared.fault.Rule.{Rule}
 use Rattle.xs_weave_rules.specs.declared.fault.Rule.TheVariants.{NoSuchVariable, NotAStateVariable, DoubleSlice, DoubleMode, VariableTaken, NameTaken}
-use Rattle.xs_weave_rules.specs.Rules.{target_kind, is_not_declared, is_state_variable, opposite_of, is_slice_name, is_mode_name, is_affected_already, is_program_name, state_names, states_before, owns_before, is_taken, is_known, is_local_member, hides_symbol, slice_adds_taken, mode_adds_taken, effect_rules, first_of, broken_at}
+use Rattle.xs_weave_rules.specs.Rules.{target_kind, is_not_declared, is_state_variable, is_slice_name, is_mode_name, is_affected_already, is_program_name, state_names, states_before, owns_before, is_taken, is_known, is_local_member, hides_symbol, slice_adds_taken, mode_adds_taken, effect_rules, first_of, broken_at}
 use Rattle.xs_weave_rules.specs.Judged.{IsReadableEffect}
 use Rattle.xs_weave_rules.proofs.ProgramNames.{among_not}
 use Rattle.xs_weave_rules.proofs.KeptItems.{among_left, among_right, among_map, IsKeptSlice, ModeAfter, mode_at}
 use Rattle.std.proofs.lemmas.Bool.{or_parts as or_false}
+use Rattle.xs_tree.proofs.ProgramLaws.{found_named}
+use Rattle.xs_tree.specs.Values.{opposite}
 
 first_none : (b : Bool) (r : Rule) (rs : List (Bool × Rule)) → first_of ((b, r) ∷ rs) ≡ None → (b ≡ false) × (first_of rs ≡ None)
 first_none true r rs h = cc
@@ -48,7 +49,7 @@ five_kept a b c d e h =
 
 -- a slice's item
 pub record SliceKept (p : ProgramTree) (before : List OwnedSlice) (o : OwnedSlice) : Type 0 where
-  pub is_state : opposite_of (is_state_variable (target_kind p o)) ≡ false
+  pub is_state : opposite (is_state_variable (target_kind p o)) ≡ false
   pub name : is_slice_name before o.slice.name ≡ false
   pub target : is_affected_already before o ≡ false
   pub own : is_taken p (states_before before) [] (own_name o.slice.target) ≡ false
@@ -58,7 +59,7 @@ pub record SliceKept (p : ProgramTree) (before : List OwnedSlice) (o : OwnedSlic
 
 pub slice_facts : (p : ProgramTree) (before : List OwnedSlice) (o : OwnedSlice) → broken_at p (a_slice before o) ≡ None → SliceKept p before o
 slice_facts p before o h =
-    let rules = five_kept (is_not_declared (target_kind p o)) (opposite_of (is_state_variable (target_kind p o))) (is_slice_name before o.slice.name) (is_affected_already before o)
+    let rules = five_kept (is_not_declared (target_kind p o)) (opposite (is_state_variable (target_kind p o))) (is_slice_name before o.slice.name) (is_affected_already before o)
     (slice_adds_taken p before o || hides_symbol (find_module p o.owner) (type_of_kind (target_kind p o))) h in
     let names = or_false (slice_adds_taken p before o) (hides_symbol (find_module p o.owner) (type_of_kind (target_kind p o))) rules.1.1.1 in
     let added = or_false (is_taken p (states_before before) [] (own_name o.slice.target))
@@ -138,7 +139,7 @@ not_nominal p before o earlier m kept e =
     f.states_not (among_right (states_before before) (state_names o.slice.name earlier) (mode_symbol o.slice.name (Some m.name)) (inr (inl same)))
 
 -- a variable of a VAR section
-pub state_type : (k : Kind) → opposite_of (is_state_variable k) ≡ false → (type : DeclaredTree) × (k ≡ a_variable state type)
+pub state_type : (k : Kind) → opposite (is_state_variable k) ≡ false → (type : DeclaredTree) × (k ≡ a_variable state type)
 state_type (a_variable state type) h = (type, refl)
 state_type (a_variable input type) h = cc
 state_type (a_variable frozen_role type) h = cc
@@ -243,19 +244,6 @@ module _ (p : ProgramTree) (at : Place) (m : ModuleTree) where
   effect_allowed (ramp_down d f) (range lo hi) h r = tt
   effect_allowed (ramp_down d f) (members ms) h r = cc
   effect_allowed (ramp_down d f) (instance n actuals) h r = cc
-
--- the module of an instance is the one of its name
-pub found_named : (p : ProgramTree) (x : Text) (m : ModuleTree) → find_module p x ≡ Some m → m.name ≡ x
-found_named [] x m h = cc
-found_named (n ∷ p) x m h = go (same_text n.name x) refl h (found_named p x m)
-  where
-    name_of : Option ModuleTree → Text
-    name_of None = []
-    name_of (Some k) = k.name
-
-    go : (b : Bool) → same_text n.name x ≡ b → (if b then Some n else find_module p x) ≡ Some m → (find_module p x ≡ Some m → m.name ≡ x) → m.name ≡ x
-    go true t h more = sym (ap name_of h) ∙ same_text_equal n.name x t
-    go false t h more = more h
 
 named_found : (p : ProgramTree) (x : Text) (m : ModuleTree) → find_module p x ≡ Some m → find_module p m.name ≡ Some m
 named_found p x m h = subst (λ y. find_module p y ≡ Some m) (sym (found_named p x m h)) h

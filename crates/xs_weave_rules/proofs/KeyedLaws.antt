@@ -7,17 +7,12 @@ use Rattle.std.specs.Map.{lookup}
 use Rattle.std.proofs.lemmas.List.{drop_more}
 use Rattle.indexmap.specs.IndexMap.{insert_entry}
 use Rattle.xs_tree.specs.ProgramTree.{Text}
-use Rattle.xs_tree.specs.Texts.{same_text, is_among}
+use Rattle.xs_tree.specs.Texts.{same_text, is_among, first_with}
 use Rattle.xs_tree.proofs.ValueLaws.{both_true, same_text_equal}
-use Rattle.xs_weave_rules.specs.Keyed.{with_text, with_texts, first_with, with_entry, with_entries, is_pair_among, with_pair, with_pairs}
-use Rattle.xs_tree.proofs.BorrowedTexts.{turned as eq_sym}
-
--- the test of a key is the test of texts
-pub same_bytes : (x y : Text) → pointwise nat_eq x y ≡ same_text y x
-same_bytes [] [] = refl
-same_bytes [] (d ∷ ds) = refl
-same_bytes (c ∷ cs) [] = refl
-same_bytes (c ∷ cs) (d ∷ ds) = λ i. eq_sym c d i && same_bytes cs ds i
+use Rattle.xs_weave_rules.specs.Keyed.{with_text, with_texts, with_entry, with_entries, is_pair_among, with_pair, with_pairs}
+use Rattle.xs_tree.proofs.BorrowedTexts.{same_bytes}
+use Rattle.xs_tree.proofs.BoolLaws.{if_true, if_false, or_false, or_assoc}
+use Rattle.xs_tree.proofs.AmongLaws.{among_joined}
 
 -- a set of texts has those of its list
 pub any_text : {K : Type 0} (text : K → Text) (ks : List K) (x : Text) → list_any (λ k. pointwise nat_eq x (text k)) ks ≡ is_among (map text ks) x
@@ -38,18 +33,6 @@ put_text text ks k = go (list_any (λ j. pointwise nat_eq (text k) (text j)) ks)
     go false false e = map_push text ks k
     go true false e = cc
     go false true e = cc
-
-pub or_assoc : (a b c : Bool) → ((a || b) || c) ≡ (a || (b || c))
-or_assoc true b c = refl
-or_assoc false b c = refl
-
-pub or_false : (a : Bool) → (a || false) ≡ a
-or_false true = refl
-or_false false = refl
-
-pub among_append : (xs ys : List Text) (x : Text) → is_among (xs ++ ys) x ≡ (is_among xs x || is_among ys x)
-among_append [] ys x = refl
-among_append (y ∷ xs) ys x = ap (λ b. same_text y x || b) (among_append xs ys x) ∙ sym (or_assoc (same_text y x) (is_among xs x) (is_among ys x))
 
 pub texts_more : (xs ys zs : List Text) → with_texts xs (ys ++ zs) ≡ with_texts (with_texts xs ys) zs
 texts_more xs [] zs = refl
@@ -85,14 +68,6 @@ none_of value (Some v) h = cc
 pub some_mapped : {V B : Type 0} (value : V → B) (o : Option V) → is_some (option_map value o) ≡ is_some o
 some_mapped value None = refl
 some_mapped value (Some v) = refl
-
-if_true : {A : Type 0} (b : Bool) (x y : A) → b ≡ true → (if b then x else y) ≡ x
-if_true true x y h = refl
-if_true false x y h = cc
-
-if_false : {A : Type 0} (b : Bool) (x y : A) → b ≡ false → (if b then x else y) ≡ y
-if_false true x y h = cc
-if_false false x y h = refl
 
 module _ {K V B : Type 0} (text : K → Text) (value : V → B) (es : List (K × V)) (k : K) (v : V) where
   abbrev seen : List (K × V) → List (Text × B)
@@ -150,7 +125,7 @@ among_with xs y x = go (is_among xs y) refl
   where
     go : (a : Bool) → is_among xs y ≡ a → is_among (if a then xs else xs ++ y ∷ []) x ≡ (is_among xs x || same_text y x)
     go true h = or_same xs y x (same_text y x) h (same_text_equal y x)
-    go false h = among_append xs (y ∷ []) x ∙ ap (λ b. is_among xs x || b) (or_false (same_text y x))
+    go false h = among_joined xs (y ∷ []) x ∙ ap (λ b. is_among xs x || b) (or_false (same_text y x))
 
 -- and with some more where it is among either
 pub among_texts : (xs ys : List Text) (x : Text) → is_among (with_texts xs ys) x ≡ (is_among xs x || is_among ys x)

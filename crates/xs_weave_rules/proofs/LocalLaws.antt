@@ -5,13 +5,15 @@ use Rattle.std.specs.List.{list_any}
 use Rattle.xs_tree.specs.declared.program.Member.{Member}
 use Rattle.xs_tree.specs.declared.program.Member.TheVariants as member
 use Rattle.xs_tree.specs.ProgramTree.{Text, DeclaredTree, boolean, range, members, instance, DeclTree, DefineTree, SectionTree, var, ivar, frozen as frozen_section, define, constants, assign, init, invar, trans, ModuleTree, ProgramTree}
-use Rattle.xs_tree.specs.Texts.{same_text, is_among}
+use Rattle.xs_tree.specs.Texts.{same_text, is_among, first_with}
 use Rattle.xs_tree.specs.Scope.{Role, state, input, frozen_role, Kind, a_define, find_module, kind_in, kind_in_decls, kind_in_defines, kind_in_sections, kind_after_formals, formal_from, kind_declared, kind_at, is_symbol_of_type, is_symbol_of_members}
-use Rattle.xs_weave_rules.specs.Rules.{is_missing, opposite_of, is_name_of_decls, is_name_of_defines, is_name_of_section, is_name_of_module, is_program_name}
-use Rattle.xs_weave_rules.specs.Keyed.{first_with, with_texts, with_entries}
+use Rattle.xs_weave_rules.specs.Rules.{is_missing, is_name_of_decls, is_name_of_defines, is_name_of_section, is_name_of_module, is_program_name}
+use Rattle.xs_weave_rules.specs.Keyed.{with_texts, with_entries}
 use Rattle.xs_weave_rules.specs.Locals.{LocalTree, formal, other, seen_kind, declared_local, formal_entry, define_entry, section_locals, locals_of, scopes_of, local_in}
 use Rattle.xs_weave_rules.specs.Names.{member_names, type_names, decl_names, define_name, section_names, module_names, program_names}
-use Rattle.xs_weave_rules.proofs.KeyedLaws.{first_entries, among_append, among_texts}
+use Rattle.xs_weave_rules.proofs.KeyedLaws.{first_entries, among_texts}
+use Rattle.xs_tree.specs.Values.{opposite}
+use Rattle.xs_tree.proofs.AmongLaws.{among_joined}
 
 module _ (x : Text) (rest : List (Text × LocalTree)) where
   formals_first : (i : ℕ) (fs : List Text) (k : Kind) → first_with rest x ≡ seen_kind k →
@@ -92,23 +94,23 @@ module _ (x : Text) where
   local_there p owner = ap (λ o. local_in o x) (first_entries [] (scopes_of p) owner) ∙ scopes_first p owner
 
 -- whether a module has the name
-missing_first : (p : ProgramTree) (owner : Text) → is_missing (find_module p owner) ≡ opposite_of (is_some (first_with (scopes_of p) owner))
+missing_first : (p : ProgramTree) (owner : Text) → is_missing (find_module p owner) ≡ opposite (is_some (first_with (scopes_of p) owner))
 missing_first [] owner = refl
 missing_first (m ∷ p) owner = go (same_text m.name owner) (missing_first p owner)
   where
-    go : (b : Bool) → is_missing (find_module p owner) ≡ opposite_of (is_some (first_with (scopes_of p) owner)) →
-        is_missing (if b then Some m else find_module p owner) ≡ opposite_of (is_some (if b then Some (with_entries [] (locals_of m)) else first_with (scopes_of p) owner))
+    go : (b : Bool) → is_missing (find_module p owner) ≡ opposite (is_some (first_with (scopes_of p) owner)) →
+        is_missing (if b then Some m else find_module p owner) ≡ opposite (is_some (if b then Some (with_entries [] (locals_of m)) else first_with (scopes_of p) owner))
     go true more = refl
     go false more = more
 
-pub missing_is : (p : ProgramTree) (owner : Text) → is_missing (find_module p owner) ≡ opposite_of (is_some (first_with (with_entries [] (scopes_of p)) owner))
-missing_is p owner = missing_first p owner ∙ ap (λ o. opposite_of (is_some o)) (sym (first_entries [] (scopes_of p) owner))
+pub missing_is : (p : ProgramTree) (owner : Text) → is_missing (find_module p owner) ≡ opposite (is_some (first_with (with_entries [] (scopes_of p)) owner))
+missing_is p owner = missing_first p owner ∙ ap (λ o. opposite (is_some o)) (sym (first_entries [] (scopes_of p) owner))
 
 -- the names of a program
 module _ (x : Text) where
   flat_names : {A : Type 0} (f : A → List Text) (test : A → Bool) → ((a : A) → is_among (f a) x ≡ test a) → (xs : List A) → is_among (flat_map f xs) x ≡ list_any test xs
   flat_names f test one [] = refl
-  flat_names f test one (a ∷ xs) = among_append (f a) (flat_map f xs) x ∙ (λ i. one a i || flat_names f test one xs i)
+  flat_names f test one (a ∷ xs) = among_joined (f a) (flat_map f xs) x ∙ (λ i. one a i || flat_names f test one xs i)
 
   members_have : (ms : List Member) → is_among (flat_map member_names ms) x ≡ is_symbol_of_members ms x
   members_have [] = refl
@@ -141,7 +143,7 @@ module _ (x : Text) where
 
   module_has : (m : ModuleTree) → is_among (module_names m) x ≡ is_name_of_module x m
   module_has m =
-      ap (λ b. same_text m.name x || b) (among_append m.formals (flat_map section_names m.sections) x
+      ap (λ b. same_text m.name x || b) (among_joined m.formals (flat_map section_names m.sections) x
       ∙ ap (λ b. is_among m.formals x || b) (flat_names section_names (is_name_of_section x) section_has m.sections))
 
   pub program_has : (p : ProgramTree) → is_among (with_texts [] (program_names p)) x ≡ is_program_name p x

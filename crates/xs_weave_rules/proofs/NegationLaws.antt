@@ -1,5 +1,5 @@
 -- What the tests of negations say.
-use Rattle.std.proofs.Common.{◌≡◌, ℕ, ◌+◌, ◌<◌, drop, length, get_or, ap, Bool, true, false, ◌&&◌, Option, Some, None, List, [], ◌∷◌, map, All, refl, arith}
+use Rattle.std.proofs.Common.{◌≡◌, ℕ, ◌+◌, ◌<◌, drop, length, get_or, ap, Bool, true, false, ◌&&◌, Option, Some, None, List, [], ◌∷◌, map, All, arith}
 use Rattle.std.specs.Prelude.{ℤ, if◌then◌else◌}
 use Rattle.std.specs.List.{list_all}
 use Rattle.std.proofs.lemmas.List.{drop_more}
@@ -19,6 +19,7 @@ use Rattle.xs_fei.specs.Numbers.{HasNegation, ValueHasNegation, MemberHasNegatio
 use Rattle.xs_fei.specs.KindTypes.{type_of_kind}
 use Rattle.xs_fei.specs.WeaveNumbers.{ModeHasNegations, SliceHasNegations, ExtensionHasNegations, ModuleHasNegations}
 use Rattle.xs_weave_rules.specs.Negations.{has_negation, member_negates, declared_negates, decl_negates, section_negates, module_negates, value_negates, effect_negates, mode_negates, slice_negates, extension_negates}
+use Rattle.xs_tree.proofs.BoolLaws.{left_true, right_true}
 
 -- a test of each element, one element on
 pub all_more : {A : Type 0} (test : A → Bool) (xs : List A) (i : ℕ) (d : A) → i < length xs → list_all test (drop i xs) ≡ (test (get_or xs i d) && list_all test (drop (i + 1) xs))
@@ -31,23 +32,15 @@ mapped_more f test xs i d h = ap (λ ys. list_all test (map f ys)) (drop_more xs
 number_has : (n : ℤ) → has_negation n ≡ true → HasNegation n
 number_has n h = grind arith
 
-left : (a b : Bool) → (a && b) ≡ true → a ≡ true
-left true b h = refl
-left false b h = h
-
-right : (a b : Bool) → (a && b) ≡ true → b ≡ true
-right true b h = h
-right false b h = absurd cc
-
 -- a test of each, and what it says of one
 each_has : {A B : Type 0} (f : A → B) (test : B → Bool) (P : A → Type 0) → ((a : A) → test (f a) ≡ true → P a) → (xs : List A) → list_all test (map f xs) ≡ true → All P xs
 each_has f test P one [] h = All-nil P
 each_has f test P one (x ∷ xs) h =
-    All-cons P x xs (one x (left (test (f x)) (list_all test (map f xs)) h)) (each_has f test P one xs (right (test (f x)) (list_all test (map f xs)) h))
+    All-cons P x xs (one x (left_true (test (f x)) (list_all test (map f xs)) h)) (each_has f test P one xs (right_true (test (f x)) (list_all test (map f xs)) h))
 
 all_have : {A : Type 0} (test : A → Bool) (P : A → Type 0) → ((a : A) → test a ≡ true → P a) → (xs : List A) → list_all test xs ≡ true → All P xs
 all_have test P one [] h = All-nil P
-all_have test P one (x ∷ xs) h = All-cons P x xs (one x (left (test x) (list_all test xs) h)) (all_have test P one xs (right (test x) (list_all test xs) h))
+all_have test P one (x ∷ xs) h = All-cons P x xs (one x (left_true (test x) (list_all test xs) h)) (all_have test P one xs (right_true (test x) (list_all test xs) h))
 
 member_has : (m : Member) → member_negates m ≡ true → MemberHasNegation m
 member_has (member.Number n) h = number_has n h
@@ -55,7 +48,7 @@ member_has (member.Symbol x) h = tt
 
 type_has : (d : DeclaredTree) → declared_negates d ≡ true → TypeHasNegations d
 type_has boolean h = tt
-type_has (range lo hi) h = (number_has lo (left (has_negation lo) (has_negation hi) h), number_has hi (right (has_negation lo) (has_negation hi) h))
+type_has (range lo hi) h = (number_has lo (left_true (has_negation lo) (has_negation hi) h), number_has hi (right_true (has_negation lo) (has_negation hi) h))
 type_has (members ms) h = all_have member_negates MemberHasNegation member_has ms h
 type_has (instance m actuals) h = tt
 
@@ -69,7 +62,7 @@ decls_have : (role : Role) (ds : List DeclTree) (x : Text) (otherwise : Kind) �
     TypeHasNegations (type_of_kind (kind_in_decls role ds x otherwise))
 decls_have role [] x otherwise h k = k
 decls_have role (d ∷ ds) x otherwise h k =
-    by_name (same_text d.name x) (declared_has role d.what (left (decl_negates d) (list_all decl_negates ds) h)) (decls_have role ds x otherwise (right (decl_negates d) (list_all decl_negates ds) h) k)
+    by_name (same_text d.name x) (declared_has role d.what (left_true (decl_negates d) (list_all decl_negates ds) h)) (decls_have role ds x otherwise (right_true (decl_negates d) (list_all decl_negates ds) h) k)
   where
     by_name : (b : Bool) → TypeHasNegations (type_of_kind (kind_declared role d.what)) → TypeHasNegations (type_of_kind (kind_in_decls role ds x otherwise)) →
         TypeHasNegations (type_of_kind (if b then kind_declared role d.what else kind_in_decls role ds x otherwise))
@@ -88,11 +81,11 @@ defines_have (d ∷ ds) x otherwise k = by_name (same_text d.name x) (defines_ha
 sections_have : (ss : List SectionTree) (x : Text) → list_all section_negates ss ≡ true → TypeHasNegations (type_of_kind (kind_in_sections ss x))
 sections_have [] x h = tt
 sections_have (var ds ∷ ss) x h =
-    decls_have state ds x (kind_in_sections ss x) (left (list_all decl_negates ds) (list_all section_negates ss) h) (sections_have ss x (right (list_all decl_negates ds) (list_all section_negates ss) h))
+    decls_have state ds x (kind_in_sections ss x) (left_true (list_all decl_negates ds) (list_all section_negates ss) h) (sections_have ss x (right_true (list_all decl_negates ds) (list_all section_negates ss) h))
 sections_have (ivar ds ∷ ss) x h =
-    decls_have input ds x (kind_in_sections ss x) (left (list_all decl_negates ds) (list_all section_negates ss) h) (sections_have ss x (right (list_all decl_negates ds) (list_all section_negates ss) h))
+    decls_have input ds x (kind_in_sections ss x) (left_true (list_all decl_negates ds) (list_all section_negates ss) h) (sections_have ss x (right_true (list_all decl_negates ds) (list_all section_negates ss) h))
 sections_have (frozen_section ds ∷ ss) x h =
-    decls_have frozen_role ds x (kind_in_sections ss x) (left (list_all decl_negates ds) (list_all section_negates ss) h) (sections_have ss x (right (list_all decl_negates ds) (list_all section_negates ss) h))
+    decls_have frozen_role ds x (kind_in_sections ss x) (left_true (list_all decl_negates ds) (list_all section_negates ss) h) (sections_have ss x (right_true (list_all decl_negates ds) (list_all section_negates ss) h))
 sections_have (define ds ∷ ss) x h = defines_have ds x (kind_in_sections ss x) (sections_have ss x h)
 sections_have (constants xs ∷ ss) x h = sections_have ss x h
 sections_have (assign list ∷ ss) x h = sections_have ss x h
@@ -125,7 +118,7 @@ effect_has erroneous h = tt
 effect_has frozen h = tt
 effect_has stuck_at_pick h = tt
 effect_has (offset d) h = number_has d h
-effect_has (ramp_down d f) h = (number_has d (left (has_negation d) (has_negation f) h), number_has f (right (has_negation d) (has_negation f) h))
+effect_has (ramp_down d f) h = (number_has d (left_true (has_negation d) (has_negation f) h), number_has f (right_true (has_negation d) (has_negation f) h))
 
 mode_has : (m : ModeRule) → mode_negates (mode_tree m) ≡ true → ModeHasNegations m
 mode_has m h = effect_has (effect_tree m.effect) h

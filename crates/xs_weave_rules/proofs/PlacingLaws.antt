@@ -12,7 +12,8 @@ use Rattle.xs_weave_rules.specs.Placing.{PlacedSlice, placed_at, placed_from, se
 use Rattle.xs_weave_rules.specs.declared.placed.Placed.{Placed}
 use Rattle.xs_weave_rules.specs.declared.items.Met.{Met}
 use Rattle.xs_weave_rules.proofs.KeyedLaws.{map_push}
-use Rattle.xs_weave_rules.proofs.SiteFaults.{drop_item, slice_first}
+use Rattle.xs_weave_rules.proofs.SiteFaults.{slice_first}
+use Rattle.xs_tree.proofs.ListLaws.{drop_here}
 
 module _ (p : ProgramTree) where
   pub places_joined : (n : ℕ) (xs ys : List Site) → placed_from p n (xs ++ ys) ≡ placed_from p n xs ++ placed_from p (n + length xs) ys
@@ -54,7 +55,7 @@ module _ (p : ProgramTree) where
       ap (λ before. places_in new ++ placed_from p new.last (slice_sites before owner later)) slices
       ∙ places_next all (places_in now) (places_in new) now.last new.last (slice_sites (slices_in now) owner (slice_tree x ∷ [])) (slice_sites (slices_in now ++ owned owner (slice_tree x) ∷ []) owner later)
       (ap (λ sites. places_in now ++ placed_from p now.last sites) (sym (slice_first (slices_in now) owner (slice_tree x) later))
-      ∙ ap (λ ys. places_in now ++ placed_from p now.last (slice_sites (slices_in now) owner (map slice_tree ys))) (sym (drop_item xs i x below here)) ∙ left)
+      ∙ ap (λ ys. places_in now ++ placed_from p now.last (slice_sites (slices_in now) owner (map slice_tree ys))) (sym (drop_here xs i x below here)) ∙ left)
       taken last
 
   pub extensions_placed : (all : List PlacedSlice) (now new : Met) (xs : List Extension) (i : ℕ) (x : Extension) → i < length xs → x ≡ get_or xs i x →
@@ -65,7 +66,7 @@ module _ (p : ProgramTree) where
   extensions_placed all now new xs i x below here left taken slices last =
       ap (λ before. places_in new ++ placed_from p new.last (extension_sites before (map extension_tree (drop (i + 1) xs)))) slices
       ∙ places_next all (places_in now) (places_in new) now.last new.last (sites_of (slices_in now) (extension_tree x)) (extension_sites (slices_in now ++ owned_slices (extension_tree x)) (map extension_tree (drop (i + 1) xs)))
-      (ap (λ ys. places_in now ++ placed_from p now.last (extension_sites (slices_in now) (map extension_tree ys))) (sym (drop_item xs i x below here)) ∙ left)
+      (ap (λ ys. places_in now ++ placed_from p now.last (extension_sites (slices_in now) (map extension_tree ys))) (sym (drop_here xs i x below here)) ∙ left)
       taken last
 
 pub seen_more : (old new : List Placed) (placed : Placed) → new ≡ old ++ placed ∷ [] → map seen_placed new ≡ map seen_placed old ++ seen_placed placed ∷ []

@@ -1,14 +1,15 @@
 -- A name that is none of the program's means nothing in its modules.
-use Rattle.std.proofs.Common.{◌≡◌, inl, inr, ℕ, suc, Bool, true, false, List, [], ◌∷◌, None, refl, ◌∙◌, subst}
+use Rattle.std.proofs.Common.{◌≡◌, inl, inr, Bool, true, false, List, [], ◌∷◌, refl, ◌∙◌, subst}
 use Rattle.std.specs.Prelude.{◌||◌}
 use Rattle.std.specs.List.{list_any}
 use Rattle.xs_tree.specs.ProgramTree.{Text, DeclTree, DefineTree, SectionTree, var, ivar, frozen as frozen_section, define, constants, assign, init, invar, trans, ModuleTree, ProgramTree}
 use Rattle.xs_tree.specs.Texts.{same_text, is_among}
-use Rattle.xs_tree.specs.Scope.{Role, state, input, frozen_role, Kind, undeclared, kind_in, kind_in_decls, kind_in_defines, kind_in_sections, formal_from, is_symbol, is_symbol_of_sections, is_symbol_of_decls, is_symbol_of_type}
+use Rattle.xs_tree.specs.Scope.{Role, state, input, frozen_role, Kind, undeclared, kind_in, kind_in_decls, kind_in_defines, kind_in_sections, is_symbol, is_symbol_of_sections, is_symbol_of_decls, is_symbol_of_type}
 use Rattle.xs_tree.proofs.ValueLaws.{same_text_refl}
 use Rattle.xs_fei.specs.Weavable.{Among}
 use Rattle.xs_weave_rules.specs.Rules.{is_name_of_decls, is_name_of_defines, is_name_of_section, is_name_of_module, is_program_name}
 use Rattle.std.proofs.lemmas.Bool.{or_parts as or_false}
+use Rattle.xs_tree.proofs.ProgramLaws.{no_formal}
 
 pub any_false : {A : Type 0} (test : A → Bool) (xs : List A) (x : A) → list_any test xs ≡ false → Among xs x → test x ≡ false
 any_false test [] x h a = absurd a
@@ -22,10 +23,6 @@ pub among_not : (xs : List Text) (x : Text) → is_among xs x ≡ false → Amon
 among_not [] x h a = a
 among_not (y ∷ ys) x h (inl e) = not_same x (subst (λ z. same_text z x ≡ false) e (or_false (same_text y x) (is_among ys x) h).0)
 among_not (y ∷ ys) x h (inr a) = among_not ys x (or_false (same_text y x) (is_among ys x) h).1 a
-
-formals_none : (i : ℕ) (ys : List Text) (x : Text) → is_among ys x ≡ false → formal_from i ys x ≡ None
-formals_none i [] x h = refl
-formals_none i (y ∷ ys) x h = rw ((or_false (same_text y x) (is_among ys x) h).0) (formals_none (suc i) ys x (or_false (same_text y x) (is_among ys x) h).1)
 
 decls_undeclared : (role : Role) (ds : List DeclTree) (x : Text) (otherwise : Kind) → is_name_of_decls ds x ≡ false → kind_in_decls role ds x otherwise ≡ otherwise
 decls_undeclared role [] x otherwise h = refl
@@ -80,7 +77,7 @@ module _ (x : Text) where
   module_undeclared m h =
       let inside : (is_among m.formals x ≡ false) × (list_any (is_name_of_section x) m.sections ≡ false) =
       or_false (is_among m.formals x) (list_any (is_name_of_section x) m.sections) (or_false (same_text m.name x) (declares m) h).1 in
-      rw (formals_none 0 m.formals x inside.0) (sections_undeclared m.sections inside.1)
+      rw (no_formal 0 m.formals x inside.0) (sections_undeclared m.sections inside.1)
 
   module_no_symbol : (m : ModuleTree) → is_name_of_module x m ≡ false → is_symbol_of_sections m.sections x ≡ false
   module_no_symbol m h =

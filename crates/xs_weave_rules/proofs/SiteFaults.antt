@@ -1,8 +1,7 @@
 -- The first fault of items, step by step.
 use Rattle.std.proofs.Common.{◌≡◌, ℕ, suc, ◌+◌, ◌<◌, Bool, List, [], ◌∷◌, ◌++◌, Option, Some, None, map, length, drop, get_or, refl, sym, ◌∙◌, ap, subst, append_assoc, append-nil, length-append, arith}
-use Rattle.std.specs.Prelude.{flat_map, ◌||◌, ◌&&◌}
+use Rattle.std.specs.Prelude.{◌||◌, ◌&&◌}
 use Rattle.std.specs.List.{list_any}
-use Rattle.std.proofs.lemmas.List.{drop_more}
 use Rattle.xs_tree.specs.ProgramTree.{Text, DeclaredTree, ProgramTree}
 use Rattle.xs_tree.specs.Texts.{same_text, is_among}
 use Rattle.xs_tree.specs.Scope.{Kind, a_formal, a_variable, a_define, an_instance, undeclared, state, input, frozen_role, find_module}
@@ -14,7 +13,7 @@ use Rattle.xs_fei.specs.AddedNames.{own_name, mode_variable, mode_symbol}
 use Rattle.xs_fei.specs.Allowed.{fault_of}
 use Rattle.xs_fei.specs.KindTypes.{type_of_kind}
 use Rattle.xs_weave_rules.specs.Sites.{OwnedSlice, owned, Site, a_slice, a_mode, mode_sites, slice_sites, extension_sites}
-use Rattle.xs_weave_rules.specs.Rules.{first_of, effect_rules, target_kind, is_not_declared, is_state_variable, opposite_of, is_slice_name, is_mode_name, is_affected_already, is_program_name, is_taken, state_names, states_before, owns_before, slice_adds_taken, hides_symbol, broken_at}
+use Rattle.xs_weave_rules.specs.Rules.{first_of, effect_rules, target_kind, is_not_declared, is_state_variable, is_slice_name, is_mode_name, is_affected_already, is_program_name, is_taken, state_names, states_before, owns_before, slice_adds_taken, hides_symbol, broken_at}
 use Rattle.xs_weave_rules.specs.FirstBroken.{AllKept, IsFirstBroken}
 use Rattle.xs_weave_rules.specs.Keyed.{with_text, with_texts, with_pair, with_pairs, is_pair_among}
 use Rattle.xs_weave_rules.specs.Locals.{variable, seen_kind}
@@ -26,16 +25,17 @@ use Rattle.xs_weave_rules.specs.declared.modes.Judged.{Judged}
 use Rattle.xs_weave_rules.specs.declared.placed.Placed.{Placed}
 use Rattle.xs_weave_rules.specs.declared.items.Met.{Met}
 use Rattle.xs_weave_rules.specs.declared.items.SliceNames.{SliceNames}
-use Rattle.xs_weave_rules.proofs.KeyedLaws.{among_append, among_with, among_texts, among_pairs, texts_more, pairs_more, map_push, or_assoc, or_false}
-
-pub drop_item : {A : Type 0} (xs : List A) (i : ℕ) (x : A) → i < length xs → x ≡ get_or xs i x → drop i xs ≡ x ∷ drop (i + 1) xs
-drop_item xs i x h e = drop_more xs i x h ∙ ap (λ y. y ∷ drop (i + 1) xs) (sym e)
+use Rattle.xs_weave_rules.proofs.KeyedLaws.{among_with, among_texts, among_pairs, texts_more, pairs_more, map_push}
+use Rattle.xs_tree.proofs.ListLaws.{flat_end, drop_here, map_length}
+use Rattle.xs_tree.proofs.BoolLaws.{or_false, or_assoc}
+use Rattle.xs_tree.specs.Values.{opposite}
+use Rattle.xs_tree.proofs.AmongLaws.{among_joined}
 
 -- modes, one on
 module _ (judged : Judged) (states names : List Text) (n : ℕ) (ms : List ModeRule) (i : ℕ) (m : ModeRule) (below : i < length ms) (here : m ≡ get_or ms i m) where
   mode_here : faults_of judged states names n (map mode_tree (drop i ms)) ≡
       fault_at (rule_of judged states names (mode_tree m)) (n + 1) (faults_of judged (with_text states (mode_symbol judged.slice.now.name (Some m.name))) (with_text names m.name) (n + 1) (map mode_tree (drop (i + 1) ms)))
-  mode_here = ap (λ xs. faults_of judged states names n (map mode_tree xs)) (drop_item ms i m below here)
+  mode_here = ap (λ xs. faults_of judged states names n (map mode_tree xs)) (drop_here ms i m below here)
 
   pub mode_next : (states' names' : List Text) (n' : ℕ) → rule_of judged states names (mode_tree m) ≡ None → states' ≡ with_text states (mode_symbol judged.slice.now.name (Some m.name)) →
       names' ≡ with_text names m.name → n' ≡ n + 1 → faults_of judged states' names' n' (map mode_tree (drop (i + 1) ms)) ≡ faults_of judged states names n (map mode_tree (drop i ms))
@@ -54,10 +54,10 @@ module _ (judged : Judged) (states names : List Text) (n : ℕ) (ms : List ModeR
       with_texts states' (mode_symbols judged.slice.now.name (map mode_tree (drop (i + 1) ms))) ≡ with_texts states (mode_symbols judged.slice.now.name (map mode_tree (drop i ms)))
   states_next states' s =
       ap (λ ss. with_texts ss (mode_symbols judged.slice.now.name (map mode_tree (drop (i + 1) ms)))) s
-      ∙ sym (ap (λ xs. with_texts states (mode_symbols judged.slice.now.name (map mode_tree xs))) (drop_item ms i m below here))
+      ∙ sym (ap (λ xs. with_texts states (mode_symbols judged.slice.now.name (map mode_tree xs))) (drop_here ms i m below here))
 
   pub last_next : (n' : ℕ) → n' ≡ n + 1 → n' + length (drop (i + 1) ms) ≡ n + length (drop i ms)
-  last_next n' e = let l : length (drop i ms) ≡ suc (length (drop (i + 1) ms)) = ap length (drop_item ms i m below here) in omega arith
+  last_next n' e = let l : length (drop i ms) ≡ suc (length (drop (i + 1) ms)) = ap length (drop_here ms i m below here) in omega arith
 
 -- items after others
 module _ (told : Site → Option Rule) where
@@ -193,7 +193,7 @@ module _ (p : ProgramTree) (before : List OwnedSlice) (o : OwnedSlice) (owns : L
       states_after x =
           among_with states (mode_symbol o.slice.name (Some m.name)) x ∙ ap (λ b. b || same_text (mode_symbol o.slice.name (Some m.name)) x) (states_same x)
           ∙ ap (λ b. is_among (states_before before ++ state_names o.slice.name earlier) x || b) (sym (or_false (same_text (mode_symbol o.slice.name (Some m.name)) x)))
-          ∙ sym (among_append (states_before before ++ state_names o.slice.name earlier) (mode_symbol o.slice.name (Some m.name) ∷ []) x) ∙ ap (λ xs. is_among xs x) (sym (states_push earlier m))
+          ∙ sym (among_joined (states_before before ++ state_names o.slice.name earlier) (mode_symbol o.slice.name (Some m.name) ∷ []) x) ∙ ap (λ xs. is_among xs x) (sym (states_push earlier m))
 
       names_after : (x : Text) → is_among (with_text names m.name) x ≡ is_mode_name (earlier ++ m ∷ []) x
       names_after x = among_with names m.name x ∙ ap (λ b. b || same_text m.name x) (names_same x) ∙ sym (names_push earlier m x)
@@ -222,11 +222,11 @@ module _ (met : Met) (is : IsMet met) where
 
   pub owns_pushed : (o : OwnedSlice) (x : Text) → is_among (met.owns ++ own_name o.slice.target ∷ []) x ≡ is_among (owns_before (slices_in met ++ o ∷ [])) x
   owns_pushed o x =
-      among_append met.owns (own_name o.slice.target ∷ []) x ∙ ap (λ b. b || is_among (own_name o.slice.target ∷ []) x) (owns_have x)
-      ∙ sym (among_append (owns_before (slices_in met)) (own_name o.slice.target ∷ []) x) ∙ ap (λ xs. is_among xs x) (sym (map_push (λ b. own_name b.slice.target) (slices_in met) o))
+      among_joined met.owns (own_name o.slice.target ∷ []) x ∙ ap (λ b. b || is_among (own_name o.slice.target ∷ []) x) (owns_have x)
+      ∙ sym (among_joined (owns_before (slices_in met)) (own_name o.slice.target ∷ []) x) ∙ ap (λ xs. is_among xs x) (sym (map_push (λ b. own_name b.slice.target) (slices_in met) o))
 
   own_pushed : (o : OwnedSlice) (x : Text) → (is_among met.owns x || same_text (own_name o.slice.target) x) ≡ is_among (owns_before (slices_in met ++ o ∷ [])) x
-  own_pushed o x = ap (λ b. is_among met.owns x || b) (sym (or_false (same_text (own_name o.slice.target) x))) ∙ sym (among_append met.owns (own_name o.slice.target ∷ []) x) ∙ owns_pushed o x
+  own_pushed o x = ap (λ b. is_among met.owns x || b) (sym (or_false (same_text (own_name o.slice.target) x))) ∙ sym (among_joined met.owns (own_name o.slice.target ∷ []) x) ∙ owns_pushed o x
 
   adds_same : (p : ProgramTree) (o : OwnedSlice) → adds_taken p met.states met.owns (names_of o.slice) ≡ slice_adds_taken p (slices_in met) o
   adds_same p o = λ i.
@@ -238,7 +238,7 @@ module _ (met : Met) (is : IsMet met) where
       own_free = states_have (own_name o.slice.target) ∙ sym (or_false (is_among (states_before (slices_in met)) (own_name o.slice.target)))
 
   typed_rule : (p : ProgramTree) (o : OwnedSlice) (k : Kind) (type : DeclaredTree) (double affected taken : Bool) → seen_kind k ≡ Some (variable type) →
-      first_of ((is_not_declared k, NoSuchVariable) ∷ (opposite_of (is_state_variable k), NotAStateVariable) ∷ (double, DoubleSlice) ∷ (affected, VariableTaken)
+      first_of ((is_not_declared k, NoSuchVariable) ∷ (opposite (is_state_variable k), NotAStateVariable) ∷ (double, DoubleSlice) ∷ (affected, VariableTaken)
       ∷ (taken || hides_symbol (find_module p o.owner) (type_of_kind k), NameTaken) ∷ []) ≡ slice_rule double affected taken (hides_symbol (find_module p o.owner) type)
   typed_rule p o undeclared type double affected taken h = cc
   typed_rule p o (a_formal j) type double affected taken h = cc
@@ -256,17 +256,12 @@ module _ (met : Met) (is : IsMet met) where
       (λ i. slice_rule (slice_names_have o.slice.name i) (targets_have o i) (adds_same p o i) (hides_symbol (find_module p o.owner) type))
       ∙ sym (typed_rule p o (target_kind p o) type (is_slice_name (slices_in met) o.slice.name) (is_affected_already (slices_in met) o) (slice_adds_taken p (slices_in met) o) h)
 
--- what is met after a slice
-flat_push : {A B : Type 0} (f : A → List B) (xs : List A) (x : A) → flat_map f (xs ++ x ∷ []) ≡ flat_map f xs ++ f x
-flat_push f [] x = append-nil (f x)
-flat_push f (y ∷ xs) x = ap (λ ys. f y ++ ys) (flat_push f xs x) ∙ sym (append_assoc (f y) (flat_map f xs) (f x))
-
 module _ (old new : Met) (o : OwnedSlice) (is : IsMet old) (slices_are : slices_in new ≡ slices_in old ++ o ∷ []) where
   pub met_after : new.states ≡ with_texts old.states (state_names o.slice.name o.slice.modes) → new.owns ≡ with_text old.owns (own_name o.slice.target) →
       new.slices ≡ with_text old.slices o.slice.name → new.targets ≡ with_pair old.targets (target_pair o) → IsMet new
   met_after states owns slices targets = record {
     states = states ∙ ap (λ xs. with_texts xs (state_names o.slice.name o.slice.modes)) is.states ∙ sym (texts_more [] (states_before (slices_in old)) (state_names o.slice.name o.slice.modes))
-        ∙ ap (with_texts []) (sym (flat_push (λ b. state_names b.slice.name b.slice.modes) (slices_in old) o)) ∙ ap (λ os. with_texts [] (states_before os)) (sym slices_are);
+        ∙ ap (with_texts []) (sym (flat_end (λ b. state_names b.slice.name b.slice.modes) (slices_in old) o)) ∙ ap (λ os. with_texts [] (states_before os)) (sym slices_are);
     owns = owns ∙ ap (λ xs. with_text xs (own_name o.slice.target)) is.owns ∙ sym (texts_more [] (owns_before (slices_in old)) (own_name o.slice.target ∷ []))
         ∙ ap (with_texts []) (sym (map_push (λ b. own_name b.slice.target) (slices_in old) o)) ∙ ap (λ os. with_texts [] (owns_before os)) (sym slices_are);
     slices = slices ∙ ap (λ xs. with_text xs o.slice.name) is.slices ∙ sym (texts_more [] (map slice_name (slices_in old)) (o.slice.name ∷ []))
@@ -280,12 +275,8 @@ mode_count : (before : List OwnedSlice) (o : OwnedSlice) (earlier ms : List Mode
 mode_count before o earlier [] = refl
 mode_count before o earlier (m ∷ ms) = ap suc (mode_count before o (earlier ++ m ∷ []) ms)
 
-map_count : {A B : Type 0} (f : A → B) (xs : List A) → length (map f xs) ≡ length xs
-map_count f [] = refl
-map_count f (x ∷ xs) = ap suc (map_count f xs)
-
 pub modes_last : (before : List OwnedSlice) (o : OwnedSlice) (ms : List ModeRule) (n last : ℕ) → last ≡ n + length ms → last ≡ n + length (mode_sites before o [] (map mode_tree ms))
-modes_last before o ms n last e = e ∙ ap (λ k. n + k) (sym (mode_count before o [] (map mode_tree ms) ∙ map_count mode_tree ms))
+modes_last before o ms n last e = e ∙ ap (λ k. n + k) (sym (mode_count before o [] (map mode_tree ms) ∙ map_length mode_tree ms))
 
 module _ (p : ProgramTree) (old : Met) (is : IsMet old) (o : OwnedSlice) (names : SliceNames) (named : names ≡ names_of o.slice) (states owns : List Text)
     (with_states : states ≡ with_texts old.states (names.switch ∷ names.nominal ∷ [])) (with_own : owns ≡ with_text old.owns names.own) where
@@ -301,7 +292,7 @@ module _ (p : ProgramTree) (old : Met) (is : IsMet old) (o : OwnedSlice) (names 
   states_same : (x : Text) → is_among states x ≡ is_among (states_before (slices_in old) ++ state_names o.slice.name []) x
   states_same x =
       ap (λ xs. is_among xs x) places_states ∙ among_texts old.states (state_names o.slice.name []) x ∙ ap (λ b. b || is_among (state_names o.slice.name []) x) (states_have old is x)
-      ∙ sym (among_append (states_before (slices_in old)) (state_names o.slice.name []) x)
+      ∙ sym (among_joined (states_before (slices_in old)) (state_names o.slice.name []) x)
 
   pub place_faults : (type : DeclaredTree) (n : ℕ) (ms : List ModeTree) → type ≡ type_of_kind (target_kind p o) →
       mode_faults p owns o.slice.name type states [] n ms ≡ first_fault (broken_at p) n (mode_sites (slices_in old) o [] ms)
@@ -327,7 +318,7 @@ module _ (p : ProgramTree) (old now : Met) (owner : Text) (all : List Site) (fil
       IsLeft p old now all (slice_sites (slices_in now) owner (slice_tree x ∷ []) ++ slice_sites (slices_in now ++ owned owner (slice_tree x) ∷ []) owner later) file ((owned owner (slice_tree x) ∷ []) ++ map (owned owner) later)
   slices_left left =
       subst (λ sites. IsLeft p old now all sites file (owned owner (slice_tree x) ∷ map (owned owner) later)) (slice_first (slices_in now) owner (slice_tree x) later)
-      (subst (λ ys. IsLeft p old now all (slice_sites (slices_in now) owner (map slice_tree ys)) file (map (owned owner) (map slice_tree ys))) (drop_item xs i x below here) left)
+      (subst (λ ys. IsLeft p old now all (slice_sites (slices_in now) owner (map slice_tree ys)) file (map (owned owner) (map slice_tree ys))) (drop_here xs i x below here) left)
 
   pub slices_next : (new : Met) → IsLeft p old now all (slice_sites (slices_in now) owner (map slice_tree (drop i xs))) file (map (owned owner) (map slice_tree (drop i xs))) →
       IsTaken p now.last now new (slice_sites (slices_in now) owner (slice_tree x ∷ [])) (owned owner (slice_tree x) ∷ []) → IsLeft p old new all (slice_sites (slices_in new) owner later) file (map (owned owner) later)
@@ -348,7 +339,7 @@ module _ (p : ProgramTree) (old now : Met) (all : List Site) (file : List OwnedS
 
   extensions_left : IsLeft p old now all (extension_sites (slices_in now) (map extension_tree (drop i xs))) file (file_slices (map extension_tree (drop i xs))) →
       IsLeft p old now all (sites_of (slices_in now) (extension_tree x) ++ extension_sites (slices_in now ++ owned_slices (extension_tree x)) others) file (owned_slices (extension_tree x) ++ file_slices others)
-  extensions_left left = subst (λ ys. IsLeft p old now all (extension_sites (slices_in now) (map extension_tree ys)) file (file_slices (map extension_tree ys))) (drop_item xs i x below here) left
+  extensions_left left = subst (λ ys. IsLeft p old now all (extension_sites (slices_in now) (map extension_tree ys)) file (file_slices (map extension_tree ys))) (drop_here xs i x below here) left
 
   pub extensions_next : (new : Met) → IsLeft p old now all (extension_sites (slices_in now) (map extension_tree (drop i xs))) file (file_slices (map extension_tree (drop i xs))) →
       IsTaken p now.last now new (sites_of (slices_in now) (extension_tree x)) (owned_slices (extension_tree x)) → IsLeft p old new all (extension_sites (slices_in new) others) file (file_slices others)

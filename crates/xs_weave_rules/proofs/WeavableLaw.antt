@@ -13,12 +13,13 @@ use Rattle.xs_fei.specs.Weavable.{Among, IsLawfulMode, IsLawfulSlice, IsWeavable
 use Rattle.xs_fei.proofs.AmongLaws.{each_all, each_at}
 use Rattle.xs_fei.proofs.FoundModules.{found_among}
 use Rattle.xs_weave_rules.specs.Sites.{OwnedSlice, owned, item_sites}
-use Rattle.xs_weave_rules.specs.Rules.{target_kind, opposite_of, is_state_variable, state_names, states_before, owns_before, hides_symbol, broken_at}
+use Rattle.xs_weave_rules.specs.Rules.{target_kind, is_state_variable, state_names, states_before, owns_before, hides_symbol, broken_at}
 use Rattle.xs_weave_rules.specs.FirstBroken.{AllKept}
 use Rattle.xs_weave_rules.specs.Judged.{IsJudged, IsJudgedMode}
 use Rattle.xs_weave_rules.proofs.ProgramNames.{any_false, undeclared_there, no_symbol}
 use Rattle.xs_weave_rules.proofs.KeptItems.{among_left, among_right, among_map, among_flat, all_slices, slice_in_file, IsKeptSlice, StandsAfter, kept_at, two_slices, extensions_kept, ModeAfter, mode_at, two_modes}
 use Rattle.xs_weave_rules.proofs.KeptFacts.{SliceKept, slice_facts, ModeKept, mode_facts, IsFree, free, state_among, symbol_kept, not_nominal, state_type, finite_type, free_symbols, effect_allowed, instance_found}
+use Rattle.xs_tree.specs.Values.{opposite}
 
 abbrev slice_of : OwnedSlice → SliceTree
 slice_of o = o.slice
@@ -130,7 +131,7 @@ module _ (p : ProgramTree) (i : InstructionTree) (judged : IsJudged p i) (kept :
     kind_is = ap (λ o. kind_at o s.target) found
 
     typed : (type : DeclaredTree) × (kind_in m s.target ≡ a_variable state type)
-    typed = state_type (kind_in m s.target) (subst (λ k. opposite_of (is_state_variable k) ≡ false) kind_is facts.is_state)
+    typed = state_type (kind_in m s.target) (subst (λ k. opposite (is_state_variable k) ≡ false) kind_is facts.is_state)
 
     type_is : type_of_kind (target_kind p (owned m.name s)) ≡ typed.0
     type_is = ap type_of_kind (kind_is ∙ typed.1)

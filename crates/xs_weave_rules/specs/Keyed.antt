@@ -1,8 +1,8 @@
 -- Texts and entries in the order in which each text was first put.
-use Rattle.std.specs.Prelude.{Bool, List, [], ◌∷◌, ◌++◌, Option, Some, None, is_some, ◌&&◌, if◌then◌else◌}
+use Rattle.std.specs.Prelude.{Bool, List, [], ◌∷◌, ◌++◌, is_some, ◌&&◌, if◌then◌else◌}
 use Rattle.std.specs.List.{list_any}
 use Rattle.xs_tree.specs.ProgramTree.{Text}
-use Rattle.xs_tree.specs.Texts.{same_text, is_among}
+use Rattle.xs_tree.specs.Texts.{same_text, is_among, first_with}
 
 -- texts, and one more where it is not among them
 abbrev pub with_text : List Text → Text → List Text
@@ -12,11 +12,6 @@ with_text xs x = if is_among xs x then xs else xs ++ x ∷ []
 abbrev pub with_texts : List Text → List Text → List Text
 with_texts xs [] = xs
 with_texts xs (y ∷ ys) = with_texts (with_text xs y) ys
-
--- what the first entry of the text has
-abbrev pub first_with : {B : Type 0} → List (Text × B) → Text → Option B
-first_with [] x = None
-first_with (e ∷ es) x = if same_text e.0 x then Some e.1 else first_with es x
 
 -- entries, and one more where its text has none
 abbrev pub with_entry : {B : Type 0} → List (Text × B) → Text × B → List (Text × B)

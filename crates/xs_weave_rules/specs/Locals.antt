@@ -2,11 +2,12 @@
 use Rattle.std.specs.Prelude.{List, [], ◌++◌, Option, Some, None, map, flat_map}
 use Rattle.xs_tree.specs.ProgramTree.{Text, DeclaredTree, boolean, range, members, instance, DeclTree, DefineTree, SectionTree, var, ivar, frozen, define, constants, assign, init, invar, trans, ModuleTree, ProgramTree, declared_tree}
 use Rattle.xs_tree.specs.Scope.{state, input, frozen_role, Kind, a_formal, a_variable, a_define, an_instance, undeclared}
-use Rattle.xs_weave_rules.specs.Keyed.{first_with, with_entries}
+use Rattle.xs_weave_rules.specs.Keyed.{with_entries}
 use Rattle.xs_weave_rules.specs.declared.modules.Local.{Local}
 use Rattle.xs_weave_rules.specs.declared.modules.Local.TheVariants as local
 use Rattle.xs_weave_rules.specs.declared.modules.Scope.{Scope}
 use Rattle.xs_weave_rules.specs.declared.modules.Known.{Known}
+use Rattle.xs_tree.specs.Texts.{first_with}
 
 -- a formal, a variable of a VAR section, or something else that is declared
 pub data LocalTree : Type 0 where

@@ -14,6 +14,7 @@ use Rattle.xs_fei.specs.KindTypes.{type_of_kind}
 use Rattle.xs_weave_rules.specs.Sites.{OwnedSlice, Site, an_extension, a_slice, a_mode}
 use Rattle.xs_weave_rules.specs.declared.fault.Rule.{Rule}
 use Rattle.xs_weave_rules.specs.declared.fault.Rule.TheVariants.{NoSuchModule, NoSuchVariable, NotAStateVariable, DoubleSlice, DoubleMode, VariableTaken, Effect, NameTaken}
+use Rattle.xs_tree.specs.Values.{opposite}
 
 -- no module has the name
 abbrev pub is_missing : Option ModuleTree → Bool
@@ -41,11 +42,6 @@ is_state_variable (a_define e) = false
 is_state_variable (an_instance m actuals) = false
 is_state_variable (a_formal i) = false
 is_state_variable undeclared = false
-
--- not so
-abbrev pub opposite_of : Bool → Bool
-opposite_of true = false
-opposite_of false = true
 
 -- an earlier slice has the name
 abbrev pub is_slice_name : List OwnedSlice → Text → Bool
@@ -148,7 +144,7 @@ effect_rules (Some fault) = (true, Effect fault) ∷ []
 abbrev pub rules_at : ProgramTree → Site → List (Bool × Rule)
 rules_at p (an_extension owner) = (is_missing (find_module p owner), NoSuchModule) ∷ []
 rules_at p (a_slice before o) =
-    (is_not_declared (target_kind p o), NoSuchVariable) ∷ (opposite_of (is_state_variable (target_kind p o)), NotAStateVariable) ∷ (is_slice_name before o.slice.name, DoubleSlice)
+    (is_not_declared (target_kind p o), NoSuchVariable) ∷ (opposite (is_state_variable (target_kind p o)), NotAStateVariable) ∷ (is_slice_name before o.slice.name, DoubleSlice)
     ∷ (is_affected_already before o, VariableTaken)
     ∷ (slice_adds_taken p before o || hides_symbol (find_module p o.owner) (type_of_kind (target_kind p o)), NameTaken)
     ∷ []

@@ -5,10 +5,12 @@ ghost use Rattle.std.specs.Prelude.{◌≡◌, [], IfOk, OnOk, map, flat_map, op
 ghost use Rattle.std.specs.Option.{option_copied};
 ghost use Rattle.xs_tree.specs.ProgramTree.{program_tree, module_tree, section_tree, decl_tree, define_tree, declared_tree};
 ghost use Rattle.xs_tree.specs.Scope.{find_module, kind_at};
-ghost use Rattle.xs_weave_rules.specs.Keyed.{first_with, with_entry, with_entries};
+ghost use Rattle.xs_weave_rules.specs.Keyed.{with_entry, with_entries};
 ghost use Rattle.xs_weave_rules.specs.Locals.{local_tree, declared_local, formal_entry, variable_entry, other_entry, define_entry, section_locals, locals_of, scope_of, locals_in, scopes_in, seen_kind};
-ghost use Rattle.xs_weave_rules.specs.Rules.{is_program_name, is_missing, is_local, opposite_of};
+ghost use Rattle.xs_weave_rules.specs.Rules.{is_program_name, is_missing, is_local};
 ghost use Rattle.xs_weave_rules.specs.Faults.{IsKnown};
+ghost use Rattle.xs_tree.specs.Texts.{first_with};
+ghost use Rattle.xs_tree.specs.Values.{opposite};
 
 use crate::names::program_names;
 use crate::texts::Texts;
@@ -59,7 +61,7 @@ impl<'a> Known<'a> {
     /// Whether a module has the name.
     pub(crate) fn has_module(&self, name: &Name) -> bool
         requires { IsKnown self.now }
-        ensures { is_missing (find_module (program_tree self.now.program.now) name.now) ≡ opposite_of result }
+        ensures { is_missing (find_module (program_tree self.now.program.now) name.now) ≡ opposite result }
     {
         self.scopes.contains_key(name.text())
     }

@@ -8,9 +8,6 @@ use Rattle.xs_words.specs.Meaning.{Each, EachTwo}
 pub bytes_same : (a b : List ℕ) → bytes_eq a b ≡ true → a ≡ b
 bytes_same a b e = (bytes_eq-Decides a b).0 e
 
-pub bytes_refl : (a : List ℕ) → bytes_eq a a ≡ true
-bytes_refl a = (bytes_eq-Decides a a).1 refl
-
 pub same_bytes : (a b : List ℕ) → a ≡ b → bytes_eq a b ≡ true
 same_bytes a b same = (bytes_eq-Decides a b).1 same
 

@@ -5,7 +5,8 @@ use Rattle.xs_words.specs.Commands.{Text, Given, spread}
 use Rattle.xs_words.specs.Meaning.{Each, EachTwo, Gives, IsNotGiven}
 use Rattle.xs_words.specs.Reading.{pairs_of, value_in}
 use Rattle.xs_words.specs.Seen.{texts}
-use Rattle.xs_words.proofs.ListLemmas.{bytes_same, bytes_refl, bytes_differ, bytes_apart}
+use Rattle.xs_words.proofs.ListLemmas.{bytes_same, bytes_differ, bytes_apart}
+use Rattle.xs_value.proofs.ListLaws.{bytes_eq-refl}
 
 -- fewer than two words are no pair
 pub no_pair : (words : List (Bor (List ℕ))) → length words < 2 → pairs_of (texts words) ≡ []
@@ -60,7 +61,7 @@ gives-differs p (q ∷ qs) option value f (inr more) = gives-differs p qs option
 pub given-value : (ps : List Given) (option value : Text) → EachTwo (λ p q. p.option ≢ q.option) ps → Gives ps option value → value_in ps option ≡ Some value
 given-value [] option value once g = absurd g
 given-value (p ∷ ps) option value once (inl here) =
-    let is : bytes_eq p.option option ≡ true = subst (λ (o : Text). bytes_eq p.option o ≡ true) here.0 (bytes_refl p.option) in
+    let is : bytes_eq p.option option ≡ true = subst (λ (o : Text). bytes_eq p.option o ≡ true) here.0 (bytes_eq-refl p.option) in
     ap (λ t. if t then Some p.value else value_in ps option) is ∙ ap (λ v. Some v) here.1
 given-value (p ∷ ps) option value once (inr more) =
     ap (λ t. if t then Some p.value else value_in ps option) (bytes_apart p.option option (gives-differs p ps option value once.0 more)) ∙ given-value ps option value once.1 more

@@ -259,7 +259,7 @@ same_sound options before (p ∷ ps) all f split different e =
     repeats_by options before p ps all f (is_file_in options p.option && has_file options before p.value) split different refl
     (λ d. same_sound options (before ++ p ∷ []) ps all f (split ∙ sym (append_assoc before (p ∷ []) ps)) d) e
 
-different_by : (t : Bool) (f : WordFault) → (if t then Some f else None) ≡ None → t ≡ false
+pub different_by : (t : Bool) (f : WordFault) → (if t then Some f else None) ≡ None → t ≡ false
 different_by true f e = cc
 different_by false f e = refl
 

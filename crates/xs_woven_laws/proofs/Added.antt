@@ -23,11 +23,10 @@ use Rattle.xs_flat_laws.specs.Rules.{IsWalkable}
 use Rattle.xs_flat_laws.specs.Model.{plain, now_among, next_among, IsFlatOf}
 use Rattle.xs_flat_laws.proofs.Conditions.{each_flat, each_join}
 use Rattle.xs_type_laws.specs.Judged.{Class, truth_class, symbol_class, Kind, Judged, judge}
-use Rattle.xs_type_laws.specs.Declared.{judged_declared}
+use Rattle.xs_type_laws.specs.Declared.{judged_declared, class_declared}
 use Rattle.xs_type_laws.specs.Models.{kind_of_leaf, judged_in, broken_condition, breaches}
 use Rattle.xs_extend_laws.specs.Expressions.{AllUsesKept}
 use Rattle.xs_woven_laws.proofs.Rightly.{Rightly, condition_right, same_right}
-use Rattle.xs_woven_laws.proofs.Domains.{class_of}
 use Rattle.xs_woven_laws.proofs.Effects.{SliceKinds, RuleRight, rules_right, start_right}
 use Rattle.xs_woven_laws.proofs.Moves.{ModesJudged, start_state_right, moves_right, read_right}
 use Rattle.xs_woven_laws.proofs.Leaves.{kind_given, HasLeaf, resolved_judged, has_leaves, variable_kind}
@@ -52,12 +51,12 @@ module _ (q : ProgramTree) (w : FlatModel) (also : IsWalkable q) (iw : IsFlatOf 
   plain_right e right flat is =
       condition_right (judged_in w false flat) (right_flat truth_class false e flat (right (has_leaves (iw.resolver at) e flat is)) (resolved_judged w (iw.resolver at) e flat false is))
 
-  alone_right : (c : Class) (type : DeclaredTree) → class_of type ≡ c → (j : ℕ) → kind_of_leaf w (flat_variable j) ≡ (judged_declared type).kind →
+  alone_right : (c : Class) (type : DeclaredTree) → class_declared type ≡ c → (j : ℕ) → kind_of_leaf w (flat_variable j) ≡ (judged_declared type).kind →
       Rightly c (judged_in w false (leaf (flat_variable j)))
   alone_right c type same j is = record { kept = refl; class = ap (λ (kind : Kind). kind.class) is ∙ same }
 
   -- a variable among the values of a formula of its class, now and at the next moment
-  module _ (c : Class) (x : Text) (role : Role) (type : DeclaredTree) (there : IsVariable q at x role type) (same : class_of type ≡ c) (e : Formula) (right : AllLeaves resolved e → Rightly c (judge after true e)) where
+  module _ (c : Class) (x : Text) (role : Role) (type : DeclaredTree) (there : IsVariable q at x role type) (same : class_declared type ≡ c) (e : Formula) (right : AllLeaves resolved e → Rightly c (judge after true e)) where
     pub now_right : KeepsAt w iw.resolver at (now_among x e)
     now_right flat among =
         let kind = variable_kind q w also iw at x role type among.number there among.is_number in
@@ -132,7 +131,7 @@ module _ (p : ProgramTree) (i : InstructionTree) (ok : IsWeavable p i) (m w : Fl
             ((now_right q w also iw at symbol_class (mode_variable s.name) state (mode_type s) mode_there refl (start_tree s.name s.start s.modes) (λ h. start_state_right K P s type kinds s.start judged h), tt), tt, tt),
             (
               (tt, tt, (next_right q w also iw at symbol_class (mode_variable s.name) state (mode_type s) mode_there refl (moves_tree s) (λ h. moves_right K P s type kinds judged h), tt)),
-              ((tt, (now_right q w also iw at (class_of type) s.target state type target_there refl (read_tree type s) (λ h. read_right K P s type kinds judged h), tt), tt), tt),
+              ((tt, (now_right q w also iw at (class_declared type) s.target state type target_there refl (read_tree type s) (λ h. read_right K P s type kinds judged h), tt), tt), tt),
             ),
           ),
           rules_keep q w also iw at s type kinds s.modes judged,

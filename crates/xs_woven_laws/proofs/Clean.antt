@@ -7,7 +7,7 @@ use Rattle.xs_tree.specs.declared.program.Member.{Member}
 use Rattle.xs_tree.specs.declared.program.Member.TheVariants as member
 use Rattle.xs_tree.specs.Tree.{Branches, truth as is_truth, number as is_number, not_of, negate, binary, choice, trees_from}
 use Rattle.xs_tree.specs.ProgramTree.{Text, Path, Formula, DeclaredTree, boolean, range, members, instance}
-use Rattle.xs_tree.specs.Trace.{Each}
+use Rattle.xs_tree.specs.Trace.{Each, value_of_member}
 use Rattle.xs_flat_laws.specs.Resolved.{leaves_in, branches_leaves, trees_leaves, has_next, branches_have_next, trees_have_next}
 use Rattle.xs_flat_laws.proofs.Conditions.{each_join}
 use Rattle.xs_fei.specs.declared.instructions.Dynamics.{Dynamics}
@@ -15,7 +15,7 @@ use Rattle.xs_fei.specs.declared.instructions.Dynamics.TheVariants.{Permanent, T
 use Rattle.xs_fei.specs.declared.instructions.Start.TheVariants.{Any}
 use Rattle.xs_fei.specs.Instructions.{ModeTree}
 use Rattle.xs_fei.specs.AddedNames.{mode_symbol}
-use Rattle.xs_fei.specs.Templates.{named, number_tree, value_tree, member_value, member_trees, domain_tree, clipped_tree, greater_tree, stands}
+use Rattle.xs_fei.specs.Templates.{named, number_tree, value_tree, member_trees, domain_tree, clipped_tree, greater_tree, stands}
 use Rattle.xs_weave.specs.Woven.{start_tree, mode_branches, set_one, guard_formula, entries_from, stay_branch}
 use Rattle.xs_fei.specs.Weavable.{Among}
 use Rattle.xs_woven_laws.proofs.WovenNamesLeaves.{join_three}
@@ -73,7 +73,7 @@ module _ (P : Path → Type 0) where
   IsGoodType (members ms) = Each IsGoodMember ms
   IsGoodType _ = Unit {0}
 
-  member_clean : (m : Member) → IsGoodMember m → Clean (value_tree (member_value m))
+  member_clean : (m : Member) → IsGoodMember m → Clean (value_tree (value_of_member m))
   member_clean (member.Number n) h = clean_number n
   member_clean (member.Symbol x) h = clean_name x h
 
@@ -82,7 +82,7 @@ module _ (P : Path → Type 0) where
   members_clean (m ∷ ms) h =
       let first = member_clean m h.0 in
       let rest = members_clean ms h.1 in
-      (each_join P (leaves_in (value_tree (member_value m))) (trees_leaves (member_trees ms)) first.leaves rest.0, neither_one _ _ first.free rest.1)
+      (each_join P (leaves_in (value_tree (value_of_member m))) (trees_leaves (member_trees ms)) first.leaves rest.0, neither_one _ _ first.free rest.1)
 
   pub clean_domain : (type : DeclaredTree) → IsGoodType type → Clean (domain_tree type)
   clean_domain boolean h = record { leaves = tt; free = refl }

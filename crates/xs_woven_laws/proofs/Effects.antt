@@ -20,10 +20,10 @@ use Rattle.xs_fei.specs.declared.fault.EffectFault.TheVariants.{Outside}
 use Rattle.xs_fei.specs.Allowed.{is_small, offset_fits, ramp_fits, fault_unless, is_of_kind, fault_of}
 use Rattle.xs_type_laws.specs.Intervals.{Interval, just, sum_of, difference_of, fits}
 use Rattle.xs_type_laws.specs.Judged.{Class, truth_class, number_class, symbol_class, Kind, Judged, judged_number, judge}
-use Rattle.xs_type_laws.specs.Declared.{judged_declared}
+use Rattle.xs_type_laws.specs.Declared.{judged_declared, class_declared}
 use Rattle.xs_woven_laws.proofs.Rightly.{Rightly, not_right, connective_right, order_right, same_right, choice_right, choice_alone}
 use Rattle.xs_woven_laws.proofs.Numbers.{numbers_in, numbers_right, small_fits, between_fits, number_judged, sum_judged, difference_judged}
-use Rattle.xs_woven_laws.proofs.Domains.{class_of, range_kept, range_kind, MembersKnown, domain_right, value_right}
+use Rattle.xs_woven_laws.proofs.Domains.{range_kept, range_kind, MembersKnown, domain_right, value_right}
 use Rattle.xs_weave_rules.proofs.KeptFacts.{constant_within}
 
 -- no fault
@@ -44,18 +44,18 @@ module _ (K : Path → Kind) (P : Path → Type 0) where
   -- the expressions of a mode are judged, and its effect is allowed
   pub record ModeKinds (type : DeclaredTree) (m : ModeTree) : Type 0 where
     pub allowed : fault_of m.effect type ≡ None
-    pub followed : (e : Formula) → m.effect ≡ follows e → AllLeaves P e → Rightly (class_of type) (judge K true e)
+    pub followed : (e : Formula) → m.effect ≡ follows e → AllLeaves P e → Rightly (class_declared type) (judge K true e)
     pub guard : (g : Formula) → m.guard ≡ Some g → AllLeaves P g → Rightly truth_class (judge K false g)
 
   named_right : (sets : Bool) (c : Class) (x : Text) → (K (x ∷ [])).class ≡ c → Rightly c (judge K sets (named x))
   named_right sets c x e = record { kept = refl; class = e }
 
   module _ (s : SliceTree) (type : DeclaredTree) (kinds : SliceKinds s type) where
-    target_right : (sets : Bool) → P (s.target ∷ []) → Rightly (class_of type) (judge K sets (named s.target))
-    target_right sets h = named_right sets (class_of type) s.target (ap (λ (k : Kind). k.class) (kinds.target h))
+    target_right : (sets : Bool) → P (s.target ∷ []) → Rightly (class_declared type) (judge K sets (named s.target))
+    target_right sets h = named_right sets (class_declared type) s.target (ap (λ (k : Kind). k.class) (kinds.target h))
 
-    pub own_right : (sets : Bool) → P (own_name s.target ∷ []) → Rightly (class_of type) (judge K sets (named (own_name s.target)))
-    own_right sets h = named_right sets (class_of type) (own_name s.target) (ap (λ (k : Kind). k.class) (kinds.own h))
+    pub own_right : (sets : Bool) → P (own_name s.target ∷ []) → Rightly (class_declared type) (judge K sets (named (own_name s.target)))
+    own_right sets h = named_right sets (class_declared type) (own_name s.target) (ap (λ (k : Kind). k.class) (kinds.own h))
 
     pub symbol_right : (sets : Bool) (st : ModeState) → IsKnown s st → P (mode_symbol s.name st ∷ []) → Rightly symbol_class (judge K sets (named (mode_symbol s.name st)))
     symbol_right sets st known h = named_right sets symbol_class (mode_symbol s.name st) (kinds.symbols st known h)
@@ -71,7 +71,7 @@ module _ (K : Path → Kind) (P : Path → Type 0) where
         (named_right false symbol_class (mode_variable s.name) (kinds.mode h.0)) (symbol_right false (Some mode) known h.1)
 
     stays_right : AllLeaves P (stays_tree s.target) → Rightly truth_class (judge K false (stays_tree s.target))
-    stays_right h = same_right (class_of type) (judge K false (named s.target)) (judge K false (named s.target)) (target_right false h.0) (target_right false h.1)
+    stays_right h = same_right (class_declared type) (judge K false (named s.target)) (judge K false (named s.target)) (target_right false h.0) (target_right false h.1)
 
   -- Of a range.
   module _ (s : SliceTree) (lo hi : ℤ) (kinds : SliceKinds s (range lo hi)) where
@@ -124,7 +124,7 @@ module _ (K : Path → Kind) (P : Path → Type 0) where
 
   -- the branch of a mode has the class of the variable
   pub branch_right : (e : EffectTree) (s : SliceTree) (type : DeclaredTree) → SliceKinds s type → fault_of e type ≡ None →
-      ((f : Formula) → e ≡ follows f → AllLeaves P f → Rightly (class_of type) (judge K true f)) → AllLeaves P (branch e type s.target) → Rightly (class_of type) (judge K true (branch e type s.target))
+      ((f : Formula) → e ≡ follows f → AllLeaves P f → Rightly (class_declared type) (judge K true f)) → AllLeaves P (branch e type s.target) → Rightly (class_declared type) (judge K true (branch e type s.target))
   branch_right (stuck_at c) s type kinds a follow h = value_right K P true type c kinds.right kinds.members (constant_within (is_of_kind type c) (in_domain type c) a) h
   branch_right (follows f) s type kinds a follow h = follow f refl h
   branch_right inverted s boolean kinds a follow h = not_right (judge K false (named (own_name s.target))) (own_right s boolean kinds false h)
@@ -156,7 +156,7 @@ module _ (K : Path → Kind) (P : Path → Type 0) where
   rules_right random s type mode kinds known a = tt
   rules_right erroneous s type mode kinds known a = (
     λ h. connective_right (judge K false (stands s.name mode)) (judge K false (binary op.Differs (named s.target) (named (own_name s.target)))) (stands_right s type kinds mode known h.0)
-        (same_right (class_of type) (judge K false (named s.target)) (judge K false (named (own_name s.target))) (target_right s type kinds false h.1.0) (own_right s type kinds false h.1.1)),
+        (same_right (class_declared type) (judge K false (named s.target)) (judge K false (named (own_name s.target))) (target_right s type kinds false h.1.0) (own_right s type kinds false h.1.1)),
     tt,
   )
   rules_right frozen s type mode kinds known a = (
@@ -192,7 +192,7 @@ module _ (K : Path → Kind) (P : Path → Type 0) where
   first_right (offset d) s type mode kinds known a = tt
   first_right frozen s type mode kinds known a = (
     λ h. connective_right (judge K false (stands s.name mode)) (judge K false (binary op.Equal (named s.target) (named (own_name s.target)))) (stands_right s type kinds mode known h.0)
-        (same_right (class_of type) (judge K false (named s.target)) (judge K false (named (own_name s.target))) (target_right s type kinds false h.1.0) (own_right s type kinds false h.1.1)),
+        (same_right (class_declared type) (judge K false (named s.target)) (judge K false (named (own_name s.target))) (target_right s type kinds false h.1.0) (own_right s type kinds false h.1.1)),
     tt,
   )
   first_right (ramp_down d f) s boolean mode kinds known a = cc

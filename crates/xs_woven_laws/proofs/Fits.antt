@@ -27,11 +27,12 @@ use Rattle.xs_encode_laws.specs.Encodable.{is_input_name}
 use Rattle.xs_encode_laws.proofs.FlatInputs.{none_any, given_each, leaf_input}
 use Rattle.xs_encode_laws.proofs.HistoryEncodable.{known_wider, same_name, same_reading}
 use Rattle.xs_encode_laws.proofs.NameMeans.{each_leaf, same_any}
-use Rattle.xs_woven_laws.proofs.Orders.{not_some}
-use Rattle.xs_woven_laws.specs.Tops.{KeepsValue, IsJudgedAlike, IsTopOf}
+use Rattle.xs_woven_laws.specs.Tops.{IsJudgedAlike, IsTopOf}
 use Rattle.xs_woven_laws.specs.WovenTopsLaws.{TopsFitModels}
 use Rattle.xs_woven_laws.proofs.Names.{values_kept}
 use Rattle.xs_woven_laws.proofs.Judging.{woven_alike, woven_own, whole_alike}
+use Rattle.xs_flat_laws.specs.ValueRules.{KeepsValue}
+use Rattle.xs_tree.proofs.EachLaws.{each_not}
 
 -- `next` stands where it stood in a tree with its leaves changed
 mutual
@@ -83,7 +84,7 @@ module _ (p : ProgramTree) (accepted : IsAccepted p) (m : FlatModel) (is : IsFla
   quiet_tree at e tree resolved kept =
       none_any (is_input_name m) (leaves_in tree)
       (given_each (λ l. is_input_name m l ≡ false) (λ name. GivesInput p at name → ⊥) (r at) (quiet_leaf at) (leaves_in tree) (leaves_in e)
-      (sym (leaves_map Some tree) ∙ ap leaves_in resolved ∙ leaves_map (r at) e) (not_some (GivesInput p at) (leaves_in e) (λ gives. kept input_here (refl, gives))))
+      (sym (leaves_map Some tree) ∙ ap leaves_in resolved ∙ leaves_map (r at) e) (each_not (GivesInput p at) (leaves_in e) (λ gives. kept input_here (refl, gives))))
 
 -- What reads a model's own names does so with history, and reads no input where it read none.
 module _ (m : FlatModel) (fs : List Mode) (closed : IsClosed m) where

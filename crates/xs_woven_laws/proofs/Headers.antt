@@ -26,14 +26,16 @@ use Rattle.xs_weave_rules.specs.Rules.{is_name_of_section, is_name_of_decls, is_
 use Rattle.xs_weave_rules.specs.FirstBroken.{AllKept}
 use Rattle.xs_weave_rules.proofs.ProgramNames.{any_false}
 use Rattle.xs_woven_laws.specs.WovenNamesLaws.{OnlyLimits}
-use Rattle.xs_woven_laws.proofs.Orders.{EachAfter, after_numbered, numbered_after, after_more, after_two, after_each, each_after, Pairwise, pairs_join, pairs_after, after_pairs}
+use Rattle.xs_woven_laws.proofs.Orders.{EachAfter, after_numbered, numbered_after, after_more, after_two, after_each, each_after, pairs_after, after_pairs}
 use Rattle.xs_woven_laws.proofs.WovenNamesItems.{woven_item, slice_items, taken_woven, slice_rules_nothing}
 use Rattle.xs_woven_laws.proofs.Slices.{SlicesApart, slices_apart, own_new, mode_new}
 use Rattle.std.proofs.lemmas.Bool.{false_from_ne_true as not_true, or_parts as neither}
 use Rattle.xs_flat_laws.proofs.KindLaws.{among_split as among_parts}
+use Rattle.xs_tree.proofs.AmongLaws.{among_none}
+use Rattle.xs_flat_laws.proofs.Pairs.{Pairwise, pairs_join}
 
 -- the names of items
-abbrev names_in : List Item → List Text
+abbrev pub names_in : List Item → List Text
 names_in items = flat_map names_of_item items
 
 -- each name is new: no formal, and none of the names before it
@@ -83,10 +85,6 @@ Unlike x y = same_text x y ≡ false
 
 unlike : (x y : Text) → (x ≡ y → ⊥) → Unlike x y
 unlike x y h = not_true (same_text x y) (λ e. h (same_text_equal x y e))
-
-among_none : (xs ys : List Text) (x : Text) → is_among xs x ≡ false → is_among ys x ≡ false → is_among (xs ++ ys) x ≡ false
-among_none [] ys x h k = k
-among_none (z ∷ xs) ys x h k = let s : (same_text z x ≡ false) × (is_among xs x ≡ false) = neither _ _ h in rw s.0 (among_none xs ys x s.1 k)
 
 each_unlike : (xs : List Text) (x : Text) → is_among xs x ≡ false → Each (λ y. Unlike y x) xs
 each_unlike [] x h = tt

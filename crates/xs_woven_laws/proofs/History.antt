@@ -8,7 +8,7 @@ use Rattle.xs_tree.specs.Trace.{Each}
 use Rattle.xs_tree.specs.Flat.{FlatLeaf, flat_variable, flat_symbol, flat_definition, FlatVariable, FlatFormula, FlatModel}
 use Rattle.xs_flat_laws.specs.History.{Mode, stands_now, stands_next, bit_variables, bits_at_first, bits_at_step, bit_at_first, bit_at_step, with_history}
 use Rattle.xs_flat_laws.proofs.Conditions.{each_join}
-use Rattle.xs_flat_laws.proofs.Lists.{get_left, length_end}
+use Rattle.xs_flat_laws.proofs.Lists.{length_end}
 use Rattle.xs_type_laws.specs.Judged.{Class, truth_class, symbol_class, Judged, judge}
 use Rattle.xs_type_laws.specs.Declared.{judged_declared}
 use Rattle.xs_type_laws.specs.Laws.{IsKnown, ReadsOwn, AreInOrder, ReadOwn, IsClosed}
@@ -18,7 +18,8 @@ use Rattle.xs_woven_laws.specs.Modes.{HasSymbols}
 use Rattle.xs_woven_laws.proofs.Rightly.{Rightly, none_joined, condition_right, connective_right, same_right}
 use Rattle.xs_woven_laws.proofs.Items.{parts_of, none_broken}
 use Rattle.xs_encode_laws.proofs.HistoryTyped.{conditions_joined as joined_breaches}
-use Rattle.xs_type_laws.proofs.WrittenLaws.{get_map}
+use Rattle.xs_tree.proofs.ListLaws.{get_map}
+use Rattle.xs_value.proofs.ListLaws.{get_left}
 
 -- What is judged of the first variables stays with more.
 same_below : {A B : Type 0} (f : A → B) (xs ys : List A) (i : ℕ) → i < length xs → slice_get (map f (xs ++ ys)) i ≡ slice_get (map f xs) i

@@ -4,13 +4,13 @@ use Rattle.std.specs.Prelude.{slice_get, codes}
 use Rattle.xs_tree.specs.Tree.{Tree}
 use Rattle.xs_tree.specs.ProgramTree.{ModuleTree, ProgramTree}
 use Rattle.xs_tree.specs.Scope.{Place, find_module}
-use Rattle.xs_tree.specs.Trace.{Each, IsInstance}
+use Rattle.xs_tree.specs.Trace.{Each, IsInstance, EachBoth}
 use Rattle.xs_tree.specs.Flat.{FlatLeaf, FlatInstance, FlatVariable, FlatFormula, FlatModel}
 use Rattle.xs_flat_laws.specs.Items.{Item, NumberedItem, items_of, items_named, instances_of}
 use Rattle.xs_flat_laws.specs.Resolved.{Resolver}
 use Rattle.xs_flat_laws.specs.Rules.{IsWalkable}
-use Rattle.xs_flat_laws.specs.Model.{Condition, Written, written_at, conditions, IsConditionTree, IsFormulaOf, EachBoth}
-use Rattle.xs_flat_laws.proofs.Conditions.{iff_then, each_iff, each_at, each_from, each_flat, each_mapped}
+use Rattle.xs_flat_laws.specs.Model.{Condition, Written, written_at, conditions, IsConditionTree, IsFormulaOf}
+use Rattle.xs_flat_laws.proofs.Conditions.{each_iff, each_at, each_from, each_flat, each_mapped}
 use Rattle.xs_flat_laws.proofs.Places.{are_instances}
 use Rattle.xs_flat_laws.proofs.Sections.{AreInstances, items_are}
 use Rattle.xs_flat_laws.proofs.Walkable.{main_is_there}
@@ -21,6 +21,8 @@ use Rattle.xs_type_laws.proofs.ModelLaws.{IsRight, after_length}
 use Rattle.xs_type_laws.proofs.Parts.{none_first, none_second}
 use Rattle.xs_woven_laws.proofs.Rightly.{none_joined}
 use Rattle.xs_type_laws.proofs.Typed.{none_at as no_breach, definitions_right}
+use Rattle.xs_type_laws.proofs.VariableTypes.{types_right}
+use Rattle.xs_tree.proofs.BoolLaws.{iff_trans}
 
 -- Instances.
 pub listed : (p : ProgramTree) → IsWalkable p → AreInstances p
@@ -51,10 +53,10 @@ module _ (p : ProgramTree) (walkable : IsWalkable p) where
   pub over_conditions : (A : Place → Condition → Type 0) (what : Item → List Condition) →
       (Each (λ (c : Written). A c.place c.condition) (conditions what p) ↔ ((at : Place) (m : ModuleTree) → IsInstance p at m → Each (λ item. Each (A at) (what item)) (items_of m)))
   over_conditions A what =
-      iff_then (each_flat (λ (c : Written). A c.place c.condition) (λ (x : FlatInstance). flat_map (written_at what x.place) (items_named p x.module_name)) (instances_of p))
-      (iff_then (each_iff (λ (x : FlatInstance). Each (λ (c : Written). A c.place c.condition) (flat_map (written_at what x.place) (items_named p x.module_name)))
+      iff_trans (each_flat (λ (c : Written). A c.place c.condition) (λ (x : FlatInstance). flat_map (written_at what x.place) (items_named p x.module_name)) (instances_of p))
+      (iff_trans (each_iff (λ (x : FlatInstance). Each (λ (c : Written). A c.place c.condition) (flat_map (written_at what x.place) (items_named p x.module_name)))
       (λ (x : FlatInstance). Each (λ (i : NumberedItem). Each (A x.place) (what i.item)) (items_named p x.module_name)) (instances_of p)
-      (λ x. iff_then (each_flat (λ (c : Written). A c.place c.condition) (written_at what x.place) (items_named p x.module_name))
+      (λ x. iff_trans (each_flat (λ (c : Written). A c.place c.condition) (written_at what x.place) (items_named p x.module_name))
       (each_iff (λ (i : NumberedItem). Each (λ (c : Written). A c.place c.condition) (written_at what x.place i)) (λ (i : NumberedItem). Each (A x.place) (what i.item)) (items_named p x.module_name)
       (λ i. each_mapped (λ (c : Written). A c.place c.condition) (λ c. record { place = x.place; item = i.number; condition = c }) (what i.item)))))
       (over_items (λ at i. Each (A at) (what i))))
@@ -83,13 +85,6 @@ conditions_keep m r [] (f ∷ fs) b h = absurd b
 conditions_keep m r (c ∷ ws) [] b h = absurd b
 conditions_keep m r (c ∷ ws) (f ∷ fs) b h =
     none_joined (breaches_at f.number f.item (broken_condition (judged_in m false f.value))) (condition_breaches m fs) (ap (breaches_at f.number f.item) (h.0 f.value b.0.tree)) (conditions_keep m r ws fs b.1 h.1)
-
--- Variables and definitions.
-pub variables_right : (xs : List FlatVariable) → variable_breaches xs ≡ [] → Each (λ x. (judged_declared x.declared).broken ≡ []) xs
-variables_right [] h = tt
-variables_right (x ∷ xs) h =
-    let here = breaches_at x.number x.item (judged_declared x.declared).broken in
-    (no_breach x.number x.item (judged_declared x.declared).broken (none_first here (variable_breaches xs) h), variables_right xs (none_second here (variable_breaches xs) h))
 
 pub variables_keep : (xs : List FlatVariable) → Each (λ x. (judged_declared x.declared).broken ≡ []) xs → variable_breaches xs ≡ []
 variables_keep [] h = refl
@@ -120,7 +115,7 @@ parts_of m kept =
     let r = none_second c (d ++ f) q in
     let as_many = after_length (judged_variables m.variables) [] m.definitions in
     record {
-      variables = variables_right m.variables (none_first a _ kept);
+      variables = types_right m.variables (none_first a _ kept);
       definitions = definitions_right m.definitions (judged_definitions m) (none_first b _ p) (omega (arith, as_many));
       at_first = none_first c _ q;
       at_each = none_first d f r;

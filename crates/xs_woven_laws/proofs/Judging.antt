@@ -1,8 +1,8 @@
 -- An expression is judged over the woven program's flat model, with history or without, as over the program's.
-use Rattle.std.proofs.Common.{◌≡◌, ℕ, Bool, false, Option, Some, None, List, refl, sym, ap, ◌∙◌}
+use Rattle.std.proofs.Common.{◌≡◌, ℕ, Bool, false, Option, Some, None, List, refl, sym, ◌∙◌}
 use Rattle.std.specs.Prelude.{length, nat_lt}
 use Rattle.xs_tree.specs.Tree.{Tree}
-use Rattle.xs_tree.specs.ProgramTree.{Path, Formula, ProgramTree}
+use Rattle.xs_tree.specs.ProgramTree.{Formula, ProgramTree}
 use Rattle.xs_tree.specs.Scope.{Place}
 use Rattle.xs_fei.specs.Instructions.{InstructionTree}
 use Rattle.xs_weave.specs.Woven.{woven}
@@ -14,13 +14,13 @@ use Rattle.xs_type_laws.specs.Judged.{KindRule, Judged}
 use Rattle.xs_type_laws.specs.Laws.{IsKnown, ReadsOwn}
 use Rattle.xs_type_laws.specs.Models.{kind_of_leaf, judged_in, broken_condition, least, size_fault}
 use Rattle.xs_type_laws.proofs.ClosedLaws.{own_by, models_closed}
-use Rattle.xs_type_laws.proofs.Mapped.{cost_mapped}
 use Rattle.xs_type_laws.proofs.ModelLaws.{judge_agrees, all_leaves_more}
 use Rattle.xs_woven_laws.proofs.Definitions.{written_agrees}
 use Rattle.xs_woven_laws.proofs.History.{own_kind}
 use Rattle.xs_woven_laws.proofs.Leaves.{resolved_judged, has_leaves}
 use Rattle.xs_woven_laws.specs.Tops.{HaveFlatModels, IsReadAs, IsJudgedAlike}
 use Rattle.xs_woven_laws.specs.WovenTopsLaws.{WovenJudgesAlike, HistoryJudgesAlike, WovenRefusesNone}
+use Rattle.xs_type_laws.proofs.ResolvedCosts.{resolved_cost}
 
 -- what a condition is refused for, from what is judged of it and what it costs
 abbrev told : Judged → ℕ → Option KindRule
@@ -29,10 +29,6 @@ told j cost = elim (least (broken_condition j)) [ Some r ↦ Some r | None ↦ s
 alike : (m : FlatModel) (e : Tree FlatLeaf) (n : FlatModel) (f : Tree FlatLeaf) → ((sets : Bool) → judged_in n sets f ≡ judged_in m sets e) → cost_of f ≡ cost_of e → IsJudgedAlike m e n f
 alike m e n f judged cost = record { judged = judged; cost = cost; fault = λ z. told (judged false z) (cost z) }
 
--- a resolved expression costs what the written one does
-cost_resolved : (q : Path → Option FlatLeaf) (e : Formula) (tree : Tree FlatLeaf) → IsResolved q e tree → cost_of tree ≡ cost_of e
-cost_resolved q e tree is = sym (cost_mapped Some tree) ∙ ap cost_of is ∙ cost_mapped q e
-
 pub woven_alike : WovenJudgesAlike
 woven_alike p m i w have at e tree woven_tree read =
     let r : (r : Resolver) × IsSound p m have.flat.written r × IsResolved (r at) e tree = read.before have.flat in
@@ -40,7 +36,7 @@ woven_alike p m i w have at e tree woven_tree read =
     alike m tree w woven_tree
     (λ sets. resolved_judged w (s.0 at) e woven_tree sets s.2
     ∙ sym (written_agrees p i have.weavable m w have.program have.woven_program have.flat have.woven_flat r.0 s.0 r.1 s.1 at e tree sets r.2 (has_leaves (s.0 at) e woven_tree s.2)))
-    (cost_resolved (s.0 at) e woven_tree s.2 ∙ sym (cost_resolved (r.0 at) e tree r.2))
+    (resolved_cost (s.0 at) e woven_tree s.2 ∙ sym (resolved_cost (r.0 at) e tree r.2))
 
 pub history_alike : HistoryJudgesAlike
 history_alike m fs closed e own =

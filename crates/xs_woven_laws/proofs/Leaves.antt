@@ -23,8 +23,9 @@ use Rattle.xs_type_laws.specs.Models.{kind_at, leaf_kind, judged_variables, judg
 use Rattle.xs_type_laws.proofs.ClosedLaws.{all_leaves}
 use Rattle.xs_type_laws.proofs.Mapped.{judge_mapped}
 use Rattle.xs_type_laws.proofs.ModelLaws.{after_keeps, judge_agrees}
-use Rattle.xs_type_laws.proofs.WrittenLaws.{IsReal, real_all, get_map}
+use Rattle.xs_type_laws.proofs.WrittenLaws.{IsReal, real_all}
 use Rattle.xs_type_laws.proofs.TraceLaws.{one_type}
+use Rattle.xs_tree.proofs.ListLaws.{get_map}
 
 -- the kind of what is given for a name
 abbrev pub kind_given : FlatModel → Option FlatLeaf → Kind

@@ -5,7 +5,6 @@ use Rattle.std.specs.Prelude.{IsTrue, option_map, flat_map, if◌then◌else◌}
 use Rattle.xs_tree.specs.ProgramTree.{Text, Path, Formula, DeclaredTree, boolean, range, members, instance, ModuleTree, ProgramTree}
 use Rattle.xs_tree.specs.Texts.{same_text}
 use Rattle.xs_tree.specs.Scope.{Place, state, input, frozen_role, Key, define_key, actual_key, Kind, a_formal, a_variable, a_define, an_instance, undeclared, kind_declared, kind_in_sections, kind_in, kind_at, module_at, actual_of_kind, is_symbol, Meaning, a_variable_at, an_expression_at, an_instance_at, a_symbol, LookUp, plain_name, through_plain, through_actual, through_formal, by_kind, means_in, Means}
-use Rattle.xs_tree.specs.Trace.{AtSome}
 use Rattle.xs_flat_laws.specs.Looks.{Look, at_actual, plain_of, step_formal, step_kind, step_of, step_on, look_after, ComesBack, MeansNothing}
 use Rattle.xs_flat_laws.specs.Rules.{HasNoValue, nothing, only_an_instance, expression_of_kind, expression_in, expression_of, Needs, Leads, is_input_kind, MeansInput, GivesInput}
 use Rattle.xs_fei.specs.Instructions.{SliceTree, InstructionTree, slices_of}
@@ -16,6 +15,7 @@ use Rattle.xs_fei.specs.Weavable.{IsFinite, HasMeaning, IsWeavable}
 use Rattle.xs_weave.proofs.WovenKinds.{kind_woven, slice_kind}
 use Rattle.xs_weave.proofs.Meanings.{module_woven, same_meaning}
 use Rattle.xs_weave_rules.proofs.KeptFacts.{finite_type}
+use Rattle.xs_tree.proofs.EachLaws.{some_kept}
 
 -- a name that has a value, and one that gives no input
 abbrev pub Valued : ProgramTree → Place → Path → Type 0
@@ -23,11 +23,6 @@ Valued q at name = HasNoValue q at name → ⊥
 
 abbrev pub Quiet : ProgramTree → Place → Path → Type 0
 Quiet q at name = GivesInput q at name → ⊥
-
-some_more : {A : Type 0} (P Q : A → Type 0) (xs : List A) → ((x : A) → P x → Q x) → AtSome P xs → AtSome Q xs
-some_more P Q [] f a = a
-some_more P Q (x ∷ xs) f (inl h) = inl (f x h)
-some_more P Q (x ∷ xs) f (inr a) = inr (some_more P Q xs f a)
 
 -- the type of a variable has finitely many values, and the type that stands for none has too
 pub type_finite : (m : ModuleTree) (x : Text) → IsFinite (type_of_kind (kind_in m x))
@@ -253,7 +248,7 @@ module _ (p : ProgramTree) (i : InstructionTree) (ok : IsWeavable p i) where
     place = h.place;
     written = h.written;
     is = sym (expression_same key) ∙ h.is;
-    named = some_more _ _ _ (λ name q. (q.0, q.1, (q.2.0, back q.2.0 h.place name (an_expression_at other q.0 q.1) tt q.2.1))) h.named;
+    named = some_kept _ _ _ (λ name q. (q.0, q.1, (q.2.0, back q.2.0 h.place name (an_expression_at other q.0 q.1) tt q.2.1))) h.named;
   }
 
   pub leads_back : (n : ℕ) (key other : Key) → Leads (woven p i) n key other → Leads p n key other
@@ -279,7 +274,7 @@ module _ (p : ProgramTree) (i : InstructionTree) (ok : IsWeavable p i) where
     last_place = r.last_place;
     last_written = r.last_written;
     is = sym (expression_same r.last) ∙ r.is;
-    names_input = some_more _ _ _ (means_input_back r.last_place) r.names_input;
+    names_input = some_kept _ _ _ (means_input_back r.last_place) r.names_input;
   }))
 
 -- what a name of a variable of the state means, and one of a symbol

@@ -16,8 +16,8 @@ use Rattle.xs_fei.specs.Templates.{named, branch}
 use Rattle.xs_type_laws.specs.Judged.{Class, truth_class, symbol_class, Kind, ends_in_true, judge, judge_trees, judge_conditions, judge_values}
 use Rattle.xs_weave.specs.Woven.{start_tree, mode_branches, set_one, guard_formula, entries_from, entries, stay_branch, moves_tree, read_tree}
 use Rattle.xs_woven_laws.proofs.Rightly.{Rightly, set_right, union_right, choice_right, case_right}
-use Rattle.xs_woven_laws.proofs.Domains.{class_of}
 use Rattle.xs_woven_laws.proofs.Effects.{SliceKinds, ModeKinds, own_right, symbol_right, stands_right, branch_right}
+use Rattle.xs_type_laws.specs.Declared.{class_declared}
 
 branches_end : (slice : Text) (f : ModeTree → Formula) (last : Formula) (ms : List ModeTree) → ends_in_true (mode_branches slice f last ms) ≡ true
 branches_end slice f last [] = refl
@@ -93,9 +93,9 @@ module _ (K : Path → Kind) (P : Path → Type 0) where
         (λ a. entries_right (set_one (mode_symbol s.name None)) s.modes j (λ b. one_right (mode_symbol s.name None) (symbol_right K P s type kinds false None tt b.0)) a) h)
 
     -- what is read has the class of the variable
-    pub read_right : ModesJudged s type s.modes → AllLeaves P (read_tree type s) → Rightly (class_of type) (judge K true (read_tree type s))
+    pub read_right : ModesJudged s type s.modes → AllLeaves P (read_tree type s) → Rightly (class_declared type) (judge K true (read_tree type s))
     read_right j h =
         let f : ModeTree → Formula = λ m. branch m.effect type s.target in
         let last = named (own_name s.target) in
-        case_of_right (class_of type) (mode_branches s.name f last s.modes) (branches_end s.name f last s.modes) (conditions_right f last s.modes j h)
-        (values_right (class_of type) f last s.modes j (λ m known judged a. branch_right K P m.effect s type kinds judged.allowed judged.followed a) (λ a. own_right K P s type kinds true a) h)
+        case_of_right (class_declared type) (mode_branches s.name f last s.modes) (branches_end s.name f last s.modes) (conditions_right f last s.modes j h)
+        (values_right (class_declared type) f last s.modes j (λ m known judged a. branch_right K P m.effect s type kinds judged.allowed judged.followed a) (λ a. own_right K P s type kinds true a) h)

@@ -33,7 +33,7 @@ use Rattle.xs_weave.proofs.LeafValues.{instance_among, own_variable, mode_variab
 use Rattle.xs_weave.proofs.Meanings.{Kept, kind_kept, symbol_stays}
 use Rattle.xs_weave.proofs.WovenSlices.{mode_known}
 use Rattle.xs_extend_laws.specs.Expressions.{followed, SomeBreaks}
-use Rattle.xs_woven_laws.proofs.Orders.{none_some, not_some}
+use Rattle.xs_woven_laws.proofs.Orders.{none_some}
 use Rattle.xs_woven_laws.proofs.WovenNamesItems.{OfRules, OfSlice}
 use Rattle.xs_woven_laws.proofs.WovenNamesLeaves.{none_under}
 use Rattle.xs_woven_laws.proofs.Looking.{Valued, Quiet, type_finite, still_valued, still_quiet, variable_valued, variable_quiet, symbol_valued, symbol_quiet}
@@ -42,6 +42,7 @@ use Rattle.xs_woven_laws.proofs.WovenNamesUses.{KeepsMode}
 use Rattle.xs_woven_laws.proofs.Clean.{Clean, CleanBranches, clean_name, clean_truth, clean_not, clean_binary, clean_clipped, clean_greater, clean_number, IsGoodMember, IsGoodType, clean_domain, clean_modes, clean_one, clean_symbols, clean_stay, clean_entries}
 use Rattle.std.proofs.lemmas.Bool.{false_from_ne_true as not_true}
 use Rattle.xs_flat_laws.proofs.KindLaws.{with_both}
+use Rattle.xs_tree.proofs.EachLaws.{each_not}
 
 module _ (q : ProgramTree) (at : Place) where
   -- a name that has a value and gives no input
@@ -242,8 +243,8 @@ module _ (p : ProgramTree) (i : InstructionTree) (ok : IsWeavable p i) (at : Pla
   effect_clean : (type : DeclaredTree) (e : EffectTree) → IsGoodType Good type → IsAllowed p at m e type → ((r : Rule) → SomeBreaks p at false (followed e) r → ⊥) → Clean Good (branch e type s.target)
   effect_clean type (stuck_at c) f allowed h = value_clean type c f allowed
   effect_clean type (follows e) f allowed h = record {
-    leaves = with_both (Valued p at) (Quiet p at) Good (leaves_in e) (λ name v q. (still_valued p i ok at name v, still_quiet p i ok at name q)) (not_some (HasNoValue p at) (leaves_in e) (h no_such_name))
-        (not_some (GivesInput p at) (leaves_in e) (λ b. h input_here (refl, b)));
+    leaves = with_both (Valued p at) (Quiet p at) Good (leaves_in e) (λ name v q. (still_valued p i ok at name v, still_quiet p i ok at name q)) (each_not (HasNoValue p at) (leaves_in e) (h no_such_name))
+        (each_not (GivesInput p at) (leaves_in e) (λ b. h input_here (refl, b)));
     free = not_true (has_next e) (h next_here);
   }
   effect_clean type inverted f allowed h = clean_not Good (named (own_name s.target)) (clean_name Good (own_name s.target) own_good)
@@ -273,7 +274,7 @@ module _ (p : ProgramTree) (i : InstructionTree) (ok : IsWeavable p i) (at : Pla
   guard_clean : (g : Option Formula) → ((r : Rule) → SomeBreaks p at true g r → ⊥) → Clean (Valued (woven p i) at) (guard_formula g)
   guard_clean None h = clean_truth (Valued (woven p i) at) true
   guard_clean (Some e) h = record {
-    leaves = each_more (Valued p at) (Valued (woven p i) at) (leaves_in e) (still_valued p i ok at) (not_some (HasNoValue p at) (leaves_in e) (h no_such_name));
+    leaves = each_more (Valued p at) (Valued (woven p i) at) (leaves_in e) (still_valued p i ok at) (each_not (HasNoValue p at) (leaves_in e) (h no_such_name));
     free = not_true (has_next e) (h next_here);
   }
 

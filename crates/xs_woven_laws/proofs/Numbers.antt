@@ -6,13 +6,12 @@ use Rattle.xs_tree.specs.declared.expr.Op.TheVariants as op
 use Rattle.xs_tree.specs.Tree.{number as is_number, negate, binary}
 use Rattle.xs_tree.specs.ProgramTree.{Path}
 use Rattle.xs_tree.specs.Values.{number, at_most, is_between}
-use Rattle.xs_tree.proofs.ValueLaws.{both_true}
+use Rattle.xs_tree.proofs.ValueLaws.{both_true, not_less}
 use Rattle.xs_fei.specs.Allowed.{is_small}
 use Rattle.xs_fei.specs.Templates.{number_tree}
 use Rattle.xs_type_laws.specs.Intervals.{Interval, just, sum_of, difference_of, fits_number, fits}
 use Rattle.xs_type_laws.specs.Judged.{number_class, Kind, too_wide, rule_if, wide, one_value, Judged, judged_number, judged_negative, judge}
 use Rattle.xs_woven_laws.proofs.Rightly.{Rightly}
-use Rattle.xs_type_laws.proofs.Parts.{not_less}
 
 -- numbers of this interval, with no rule broken
 abbrev pub numbers_in : Interval → Judged
@@ -43,7 +42,7 @@ between_fits lo hi n f g e =
     let most = (fits_bounds hi g).1 in
     fits_between n (omega (arith, ints)) (omega (arith, ints))
 
-both_fit : (lo hi : ℤ) → fits_number lo ≡ true → fits_number hi ≡ true → fits (record { lo = lo; hi = hi }) ≡ true
+pub both_fit : (lo hi : ℤ) → fits_number lo ≡ true → fits_number hi ≡ true → fits (record { lo = lo; hi = hi }) ≡ true
 both_fit lo hi e f = rw (e, f) refl
 
 -- an interval within 32 bits breaks no rule

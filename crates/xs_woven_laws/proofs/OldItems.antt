@@ -18,10 +18,12 @@ use Rattle.xs_fei.specs.Weavable.{Among, IsFinite, IsWeavable}
 use Rattle.xs_weave.proofs.WovenKinds.{find_woven}
 use Rattle.xs_weave.proofs.Added.{affected_slice}
 use Rattle.xs_weave.proofs.LeafValues.{own_variable}
-use Rattle.xs_woven_laws.proofs.Orders.{none_some, not_some}
+use Rattle.xs_woven_laws.proofs.Orders.{none_some}
 use Rattle.xs_woven_laws.proofs.WovenNamesItems.{woven_item}
 use Rattle.xs_woven_laws.proofs.WovenNamesLeaves.{both_leaves, under_leaves, next_same, under_same}
 use Rattle.xs_woven_laws.proofs.Looking.{Valued, Quiet, type_finite, Over, kind_over, nothing_back, comes_back, leads_back, still_valued, still_quiet, variable_valued, variable_quiet}
+use Rattle.xs_tree.proofs.EachLaws.{each_not}
+use Rattle.xs_flat_laws.proofs.KindLaws.{not_assigned_none}
 
 -- an item at an instance breaks no rule of names, whatever stands before it
 pub record ItemKept (q : ProgramTree) (at : Place) (item : Item) : Type 0 where
@@ -37,17 +39,12 @@ state_assigned Always type = refl
 state_assigned First type = refl
 state_assigned After type = refl
 
-pub undeclared_not : (when : Moment) → may_be_assigned when undeclared ≡ false
-undeclared_not Always = refl
-undeclared_not First = refl
-undeclared_not After = refl
-
 over_assigned : (when : Moment) (k k' : Kind) → Over k k' → (may_be_assigned when k ≡ false → ⊥) → may_be_assigned when k' ≡ false → ⊥
 over_assigned when (a_formal j) k' e fine h = fine (ap (may_be_assigned when) (sym e) ∙ h)
 over_assigned when (a_variable role type) k' e fine h = fine (ap (may_be_assigned when) (sym e) ∙ h)
 over_assigned when (a_define f) k' e fine h = fine (ap (may_be_assigned when) (sym e) ∙ h)
 over_assigned when (an_instance n es) k' e fine h = fine (ap (may_be_assigned when) (sym e) ∙ h)
-over_assigned when undeclared k' e fine h = fine (undeclared_not when)
+over_assigned when undeclared k' e fine h = fine (not_assigned_none when)
 
 pub finite_kind : (type : DeclaredTree) → IsFinite type → kind_declared state type ≡ a_variable state type
 finite_kind boolean h = refl
@@ -61,10 +58,10 @@ module _ (p : ProgramTree) (i : InstructionTree) (ok : IsWeavable p i) (at : Pla
   NoneValueless q e = SomeHasNoValue q at e → ⊥
 
   value_kept : (e : Formula) → NoneValueless p e → NoneValueless (woven p i) e
-  value_kept e h = none_some (HasNoValue (woven p i) at) (leaves_in e) (each_more (Valued p at) (Valued (woven p i) at) (leaves_in e) (still_valued p i ok at) (not_some (HasNoValue p at) (leaves_in e) h))
+  value_kept e h = none_some (HasNoValue (woven p i) at) (leaves_in e) (each_more (Valued p at) (Valued (woven p i) at) (leaves_in e) (still_valued p i ok at) (each_not (HasNoValue p at) (leaves_in e) h))
 
   inputs_kept : (names : List Path) → (AtSome (GivesInput p at) names → ⊥) → AtSome (GivesInput (woven p i) at) names → ⊥
-  inputs_kept names h = none_some (GivesInput (woven p i) at) names (each_more (Quiet p at) (Quiet (woven p i) at) names (still_quiet p i ok at) (not_some (GivesInput p at) names h))
+  inputs_kept names h = none_some (GivesInput (woven p i) at) names (each_more (Quiet p at) (Quiet (woven p i) at) names (still_quiet p i ok at) (each_not (GivesInput p at) names h))
 
   actual_kept : (e : Formula) (o : Option Path) → (ActualHasNoMeaning p at e o → ⊥) → ActualHasNoMeaning (woven p i) at e o → ⊥
   actual_kept e None h = value_kept e h
@@ -152,13 +149,13 @@ module _ (p : ProgramTree) (i : InstructionTree) (ok : IsWeavable p i) (at : Pla
     old_kept (an_init e) h = record {
       names = none_some (HasNoValue (woven p i) at) (leaves_in (tree_map_both (rename (is_affected i m.name)) same_path e))
           (both_leaves (Valued (woven p i) at) (rename (is_affected i m.name)) same_path e
-          (each_more (Valued p at) _ (leaves_in e) (λ name k. (renamed_valued name k, still_valued p i ok at name k)) (not_some (HasNoValue p at) (leaves_in e) h.names)));
+          (each_more (Valued p at) _ (leaves_in e) (λ name k. (renamed_valued name k, still_valued p i ok at name k)) (each_not (HasNoValue p at) (leaves_in e) h.names)));
       target = h.target;
       loops = h.loops;
       next = λ b. h.next (sym (next_same (rename (is_affected i m.name)) same_path e) ∙ b);
       inputs = none_some (GivesInput (woven p i) at) (leaves_in (tree_map_both (rename (is_affected i m.name)) same_path e))
           (both_leaves (Quiet (woven p i) at) (rename (is_affected i m.name)) same_path e
-          (each_more (Quiet p at) _ (leaves_in e) (λ name k. (renamed_quiet name k, still_quiet p i ok at name k)) (not_some (GivesInput p at) (leaves_in e) h.inputs)));
+          (each_more (Quiet p at) _ (leaves_in e) (λ name k. (renamed_quiet name k, still_quiet p i ok at name k)) (each_not (GivesInput p at) (leaves_in e) h.inputs)));
     }
     old_kept (an_invar e) h = record {
       names = value_kept e h.names;
@@ -170,11 +167,11 @@ module _ (p : ProgramTree) (i : InstructionTree) (ok : IsWeavable p i) (at : Pla
     old_kept (a_trans e) h = record {
       names = none_some (HasNoValue (woven p i) at) (leaves_in (tree_map_both same_path (rename (is_affected i m.name)) e))
           (both_leaves (Valued (woven p i) at) same_path (rename (is_affected i m.name)) e
-          (each_more (Valued p at) _ (leaves_in e) (λ name k. (still_valued p i ok at name k, renamed_valued name k)) (not_some (HasNoValue p at) (leaves_in e) h.names)));
+          (each_more (Valued p at) _ (leaves_in e) (λ name k. (still_valued p i ok at name k, renamed_valued name k)) (each_not (HasNoValue p at) (leaves_in e) h.names)));
       target = h.target;
       loops = h.loops;
       next = λ b. h.next (sym (under_same same_path (rename (is_affected i m.name)) e) ∙ b);
       inputs = none_some (GivesInput (woven p i) at) (leaves_under (tree_map_both same_path (rename (is_affected i m.name)) e))
           (under_leaves (Quiet (woven p i) at) same_path (rename (is_affected i m.name)) e
-          (each_more (Quiet p at) _ (leaves_under e) (λ name k. renamed_quiet name k) (not_some (GivesInput p at) (leaves_under e) h.inputs)));
+          (each_more (Quiet p at) _ (leaves_under e) (λ name k. renamed_quiet name k) (each_not (GivesInput p at) (leaves_under e) h.inputs)));
     }

@@ -17,10 +17,12 @@ use Rattle.xs_fei.specs.Weavable.{Among, IsLawfulSlice, IsWeavable}
 use Rattle.xs_fei.proofs.AmongLaws.{each_at}
 use Rattle.xs_weave.proofs.Added.{own_name_same, mode_variable_same, affected_slice, target_affected}
 use Rattle.xs_fei.proofs.OwnNames.{own_not_mode}
-use Rattle.xs_woven_laws.proofs.Orders.{EachAfter, Pairwise, Across, pairs_join, pairs_map, pairs_after, after_pairs}
+use Rattle.xs_woven_laws.proofs.Orders.{EachAfter, pairs_map, pairs_after, after_pairs}
 use Rattle.xs_woven_laws.proofs.WovenNamesItems.{woven_item, slice_items, taken_woven, slice_rules_nothing}
 use Rattle.xs_woven_laws.proofs.Slices.{SlicesApart}
-use Rattle.xs_woven_laws.proofs.OldItems.{ItemKept, undeclared_not}
+use Rattle.xs_woven_laws.proofs.OldItems.{ItemKept}
+use Rattle.xs_flat_laws.proofs.KindLaws.{not_assigned_none}
+use Rattle.xs_flat_laws.proofs.Pairs.{Pairwise, Across, pairs_join}
 
 -- what an item assigns, and when
 abbrev Target : Type 0
@@ -149,7 +151,7 @@ module _ (p : ProgramTree) (i : InstructionTree) (ok : IsWeavable p i) (at : Pla
 
   target_declared : (when : Moment) (target : Path) → (is_target p at when target ≡ false → ⊥) → IsDeclared target
   target_declared when [] h = h refl
-  target_declared when (x ∷ []) h = λ e. h (ap (λ o. may_be_assigned when (kind_at o x)) here ∙ ap (may_be_assigned when) e ∙ undeclared_not when)
+  target_declared when (x ∷ []) h = λ e. h (ap (λ o. may_be_assigned when (kind_at o x)) here ∙ ap (may_be_assigned when) e ∙ not_assigned_none when)
   target_declared when (x ∷ y ∷ path) h = h refl
 
   targets_declared : (items : List Item) → Each (ItemKept p at) items → Each (λ (u : Target). IsDeclared u.1) (targets_in items)

@@ -6,16 +6,13 @@ use Rattle.xs_flat_laws.proofs.Reaches.{each_left, each_right}
 use Rattle.xs_flat_laws.proofs.Conditions.{each_join}
 use Rattle.xs_flat_laws.proofs.Lists.{each_more}
 use Rattle.xs_flat_laws.proofs.KindLaws.{with_both}
+use Rattle.xs_flat_laws.proofs.Pairs.{Pairwise, Across}
 
 -- what holds at none holds not at some
 pub none_some : {A : Type 0} (P : A → Type 0) (xs : List A) → Each (λ x. P x → ⊥) xs → AtSome P xs → ⊥
 none_some P [] h a = a
 none_some P (x ∷ xs) h (inl e) = h.0 e
 none_some P (x ∷ xs) h (inr a) = none_some P xs h.1 a
-
-pub not_some : {A : Type 0} (P : A → Type 0) (xs : List A) → (AtSome P xs → ⊥) → Each (λ x. P x → ⊥) xs
-not_some P [] h = tt
-not_some P (x ∷ xs) h = ((λ e. h (inl e)), not_some P xs (λ a. h (inr a)))
 
 -- each member by those before it
 abbrev pub EachAfter : {A : Type 0} → (List A → A → Type 0) → List A → List A → Type 0
@@ -46,31 +43,6 @@ after_each Q before (x ∷ xs) h = (h.0, after_each Q (before ++ x ∷ []) xs h.
 pub each_after : {A : Type 0} (Q : A → Type 0) (before xs : List A) → Each Q xs → EachAfter (λ b x. Q x) before xs
 each_after Q before [] h = tt
 each_after Q before (x ∷ xs) h = (h.0, each_after Q (before ++ x ∷ []) xs h.1)
-
--- each member with each later one
-abbrev pub Pairwise : {A : Type 0} → (A → A → Type 0) → List A → Type 0
-Pairwise R [] = Unit {0}
-Pairwise R (x ∷ xs) = Each (R x) xs × Pairwise R xs
-
--- each of the first with each of the second
-abbrev pub Across : {A : Type 0} → (A → A → Type 0) → List A → List A → Type 0
-Across R xs ys = Each (λ x. Each (R x) ys) xs
-
-pub pairs_join : {A : Type 0} (R : A → A → Type 0) (xs ys : List A) → Pairwise R xs → Pairwise R ys → Across R xs ys → Pairwise R (xs ++ ys)
-pairs_join R [] ys h k c = k
-pairs_join R (x ∷ xs) ys h k c = (each_join (R x) xs ys h.0 c.0, pairs_join R xs ys h.1 k c.1)
-
-pub pairs_left : {A : Type 0} (R : A → A → Type 0) (xs ys : List A) → Pairwise R (xs ++ ys) → Pairwise R xs
-pairs_left R [] ys h = tt
-pairs_left R (x ∷ xs) ys h = (each_left (R x) xs ys h.0, pairs_left R xs ys h.1)
-
-pub pairs_right : {A : Type 0} (R : A → A → Type 0) (xs ys : List A) → Pairwise R (xs ++ ys) → Pairwise R ys
-pairs_right R [] ys h = h
-pairs_right R (x ∷ xs) ys h = pairs_right R xs ys h.1
-
-pub pairs_across : {A : Type 0} (R : A → A → Type 0) (xs ys : List A) → Pairwise R (xs ++ ys) → Across R xs ys
-pairs_across R [] ys h = tt
-pairs_across R (x ∷ xs) ys h = (each_right (R x) xs ys h.0, pairs_across R xs ys h.1)
 
 -- where two that are good and apart become two that are apart
 pub pairs_map : {A B : Type 0} (G : A → Type 0) (R : A → A → Type 0) (Q : B → B → Type 0) (f : A → B) (xs : List A) → ((x y : A) → G x → G y → R x y → Q (f x) (f y)) →

@@ -25,13 +25,14 @@ use Rattle.xs_flat_laws.proofs.Places.{In, in_left, in_right}
 use Rattle.xs_flat_laws.proofs.Reaches.{each_left}
 use Rattle.xs_flat_laws.proofs.Variables.{both_at, variables_are}
 use Rattle.xs_type_laws.proofs.ModelLaws.{all_leaves_more}
-use Rattle.xs_encode_laws.proofs.FlatEncodable.{appears}
 use Rattle.xs_woven_laws.proofs.Definitions.{expression_same, means_woven, variable_woven}
 use Rattle.xs_woven_laws.proofs.Leaves.{HasLeaf, has_leaves, declared_so}
 use Rattle.xs_woven_laws.proofs.WovenModel.{ItemHas, roots_down, roots_up}
 use Rattle.xs_woven_laws.specs.Tops.{HaveFlatModels}
 use Rattle.xs_woven_laws.specs.WovenTopsLaws.{WovenResolves}
 use Rattle.xs_woven_laws.proofs.WovenNamesItems.{woven_item, sections_woven}
+use Rattle.xs_flat_laws.proofs.OneTree.{leaf_or}
+use Rattle.xs_flat_laws.proofs.Found.{appears}
 
 -- Symbols: those of the program are symbols of the woven program.
 in_parts : {A : Type 0} (y : A) (xs ys : List A) → In y (xs ++ ys) → In y xs ⊎ In y ys
@@ -109,11 +110,6 @@ has_woven G affected at (a_trans e) h = h
 
 parts_same : (x y : Place × Formula) → Some x ≡ Some y → (x.0 ≡ y.0) × (x.1 ≡ y.1)
 parts_same x y h = let same : x ≡ y = cc in (ap (λ (z : Place × Formula). z.0) same, ap (λ (z : Place × Formula). z.1) same)
-
--- A leaf that is there, and another one where there is none.
-abbrev leaf_or : Option FlatLeaf → FlatLeaf
-leaf_or None = flat_symbol 0
-leaf_or (Some l) = l
 
 abbrev tree_by : (Path → Option FlatLeaf) → Formula → Tree FlatLeaf
 tree_by q e = tree_map (λ name. leaf_or (q name)) e

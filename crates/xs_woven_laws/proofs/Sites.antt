@@ -23,7 +23,7 @@ use Rattle.xs_weave_rules.proofs.ProgramNames.{any_false}
 use Rattle.xs_flat_laws.proofs.Reaches.{each_left, each_right}
 use Rattle.xs_woven_laws.proofs.Rightly.{none_joined}
 use Rattle.std.proofs.lemmas.Bool.{or_from as or_none}
-use Rattle.xs_encode_laws.proofs.SetLaws.{not_both}
+use Rattle.xs_tree.proofs.BoolLaws.{not_both}
 
 module _ (Q : Site → Type 0) where
   -- the item of the slice, and those of its modes

@@ -1,5 +1,5 @@
 -- Where no item of instructions breaks a rule: the names that slices add are new, and slices of a module stand apart.
-use Rattle.std.proofs.Common.{◌≡◌, Bool, true, false, ◌&&◌, List, [], ◌∷◌, ◌++◌, map, refl, sym, subst}
+use Rattle.std.proofs.Common.{◌≡◌, Bool, true, false, ◌&&◌, List, [], ◌∷◌, ◌++◌, map, refl, subst}
 use Rattle.std.specs.Prelude.{if◌then◌else◌}
 use Rattle.xs_tree.specs.ProgramTree.{Text, ProgramTree}
 use Rattle.xs_tree.specs.Texts.{same_text}
@@ -16,11 +16,10 @@ use Rattle.xs_weave_rules.specs.FirstBroken.{AllKept}
 use Rattle.xs_weave_rules.proofs.ProgramNames.{any_false}
 use Rattle.xs_weave_rules.proofs.KeptItems.{all_slices, slice_in_file, IsKeptSlice, AreKeptSlices, StandsAfter, kept_at, extensions_kept}
 use Rattle.xs_weave_rules.proofs.KeptFacts.{SliceKept, slice_facts, free}
-use Rattle.xs_woven_laws.proofs.Orders.{EachAfter, Pairwise, pairs_join, pairs_left, pairs_right, pairs_across, pairs_after}
+use Rattle.xs_woven_laws.proofs.Orders.{EachAfter, pairs_after}
 use Rattle.xs_weave_rules.proofs.WeavableLaw.{both_false}
-
-not_itself : (x y : Text) → same_text x y ≡ false → x ≡ y → ⊥
-not_itself x y h e = let same : same_text x x ≡ true = same_text_refl x in let no : same_text x x ≡ false = subst (λ z. same_text x z ≡ false) (sym e) h in cc
+use Rattle.xs_tree.proofs.AmongLaws.{not_itself}
+use Rattle.xs_flat_laws.proofs.Pairs.{Pairwise, pairs_join, pairs_left, pairs_right, pairs_across}
 
 -- two slices of a file: other names, and other variables where they are of one module
 abbrev OwnedApart : OwnedSlice → OwnedSlice → Type 0

@@ -30,18 +30,17 @@ use Rattle.xs_flat_laws.specs.Items.{instances_of}
 use Rattle.xs_flat_laws.specs.Rules.{IsWalkable}
 use Rattle.xs_flat_laws.specs.Model.{IsFlatOf}
 use Rattle.xs_flat_laws.proofs.Conditions.{each_at, each_flat}
-use Rattle.xs_flat_laws.proofs.Kept.{module_named}
 use Rattle.xs_flat_laws.proofs.Reaches.{each_left, each_right}
 use Rattle.xs_flat_laws.proofs.Variables.{variables_are}
 use Rattle.xs_type_laws.specs.Judged.{Class, truth_class, Kind, KindRule, mismatch, not_boolean, unless_class, Judged, judge}
-use Rattle.xs_type_laws.specs.Declared.{judged_declared}
+use Rattle.xs_type_laws.specs.Declared.{judged_declared, class_declared}
 use Rattle.xs_type_laws.specs.Models.{judged_in, least, breaches}
 use Rattle.xs_type_laws.proofs.Flags.{same_judged}
 use Rattle.xs_type_laws.proofs.Parts.{none_first, none_second, class_kept}
 use Rattle.xs_extend_laws.specs.Uses.{use_of_site, uses_from, uses_at}
 use Rattle.xs_extend_laws.specs.Expressions.{followed, IsForm, broken_by, class_of_followed, class_of_guard, or_else, kind_rule, KeepsUse, AllUsesKept}
 use Rattle.xs_woven_laws.proofs.Rightly.{Rightly}
-use Rattle.xs_woven_laws.proofs.Domains.{class_of, MemberKnown}
+use Rattle.xs_woven_laws.proofs.Domains.{MemberKnown}
 use Rattle.xs_woven_laws.proofs.Effects.{SliceKinds, ModeKinds}
 use Rattle.xs_woven_laws.proofs.Moves.{ModesJudged}
 use Rattle.xs_woven_laws.proofs.Leaves.{kind_given, HasLeaf, declared_so}
@@ -52,6 +51,7 @@ use Rattle.xs_woven_laws.proofs.Kept.{own_kind_at, target_kind_at}
 use Rattle.xs_woven_laws.proofs.Sites.{SliceItems, slice_items, HasItem, mode_items}
 use Rattle.xs_type_laws.proofs.Least.{least_none as none_least}
 use Rattle.xs_type_laws.proofs.TraceLaws.{one_type}
+use Rattle.xs_tree.proofs.ProgramLaws.{found_named}
 
 neither : (a b : Option KindRule) → or_else a b ≡ None → (a ≡ None) × (b ≡ None)
 neither None b e = (refl, e)
@@ -165,7 +165,7 @@ module _ (p : ProgramTree) (i : InstructionTree) (ok : IsWeavable p i) (m w : Fl
         let l : (j : ℕ) × (x : FlatInstance) × (slice_get (instances_of p) j ≡ Some x) × (x.place ≡ at) = (listed p walkable).all at k here in
         let real : (n : ModuleTree) × IsInstance p l.1.place n × (find_module p l.1.module_name ≡ Some n) = (listed p walkable).real l.0 l.1 l.2 in
         let same : real.0 ≡ k = one_module p real.0 k at l.1.place l.3 real.1 here in
-        let name : k.name ≡ l.1.module_name = module_named p l.1.module_name k (subst (λ n. find_module p l.1.module_name ≡ Some n) same real.2) in
+        let name : k.name ≡ l.1.module_name = found_named p l.1.module_name k (subst (λ n. find_module p l.1.module_name ≡ Some n) same real.2) in
         let uses_here : Each (KeepsUse p m) (uses_at p i l.1) = each_at (λ x. Each (KeepsUse p m) (uses_at p i x)) (instances_of p) l.0 l.1 ((each_flat (KeepsUse p m) (uses_at p i) (instances_of p)).0 used) l.2 in
         subst (λ y. Each (IsUsedAt p m (record { place = at; module_name = y })) (item_sites i)) (sym name)
         (subst (λ b. Each (IsUsedAt p m (record { place = b; module_name = l.1.module_name })) (item_sites i)) l.3 (used_from p m l.1 1 (item_sites i) uses_here))
@@ -188,12 +188,12 @@ module _ (p : ProgramTree) (i : InstructionTree) (ok : IsWeavable p i) (m w : Fl
     guard_right g (Some flat) form kept class h = record { kept = form_right g (Some flat) form kept h; class = form_class truth_class not_boolean g flat form class h }
 
     followed_right : (e : Formula) (flat : Option (Tree FlatLeaf)) → IsForm p m at (Some e) flat → broken_by m flat ≡ [] → class_of_followed m lawful.type flat ≡ [] → AllLeaves resolved e →
-        Rightly (class_of lawful.type) (judge after true e)
+        Rightly (class_declared lawful.type) (judge after true e)
     followed_right e None form kept class h = absurd form
     followed_right e (Some flat) form kept class h =
         let right = form_right e (Some flat) form kept h in
         let same = same_judged after e right in
-        record { kept = ap (λ (j : Judged). j.broken) same ∙ right; class = ap (λ (j : Judged). j.kind.class) same ∙ form_class (class_of lawful.type) mismatch e flat form class h }
+        record { kept = ap (λ (j : Judged). j.broken) same ∙ right; class = ap (λ (j : Judged). j.kind.class) same ∙ form_class (class_declared lawful.type) mismatch e flat form class h }
 
     mode_kinds : (mode : ModeTree) (n : ℕ) → fault_of mode.effect lawful.type ≡ None → KeepsUse p m (record { place = at; item = n; type = lawful.type; mode = mode }) → ModeKinds after resolved lawful.type mode
     mode_kinds mode n allowed one =

@@ -26,8 +26,8 @@ use Rattle.xs_woven_laws.proofs.OldItems.{ItemKept, old_kept}
 use Rattle.xs_woven_laws.proofs.WovenNamesUses.{KeepsMode, uses_kept}
 use Rattle.xs_woven_laws.proofs.NewItems.{new_kept}
 use Rattle.xs_woven_laws.proofs.Once.{IsOnce, once_kept}
-use Rattle.xs_weave_rules.proofs.KeptFacts.{found_named as found_name}
 use Rattle.xs_flat_laws.proofs.KindLaws.{with_both}
+use Rattle.xs_tree.proofs.ProgramLaws.{found_named}
 
 -- the walk
 visit_limits : (q : ProgramTree) (before : List Visit) (v : Visit) → VisitFacts q v → OnlyLimits q (a_visit before v)
@@ -76,7 +76,7 @@ module _ (p : ProgramTree) (i : InstructionTree) (can : IsExtendable p i) where
         (of_slices (ItemKept (woven p i) at.place) m (slices_of i m.name) (λ s a. new_kept p i can.weavable at.place m here s a (each_among (λ s. Each (KeepsMode p at.place) s.modes) (slices_of i m.name) s own a))))
       where
         own : Each (λ s. Each (KeepsMode p at.place) s.modes) (slices_of i m.name)
-        own = subst (λ x. Each (λ s. Each (KeepsMode p at.place) s.modes) (slices_of i x)) (sym (found_name p at.module_name m found)) modes
+        own = subst (λ x. Each (λ s. Each (KeepsMode p at.place) s.modes) (slices_of i x)) (sym (found_named p at.module_name m found)) modes
 
     uses_limits : Each (IsKept p) (map (a_use at) (items_named p at.module_name)) → Each (OnlyLimits (woven p i)) (map (a_use at) (items_named (woven p i) at.module_name))
     uses_limits h =

@@ -65,7 +65,7 @@ pub none_among : (first : Breach) (bs : List Breach) → bs ≡ [] → AtSome (�
 none_among first [] e h = h
 none_among first (b ∷ bs) e h = cc
 
-size_alone : (m : FlatModel) → breaches m ≡ [] → (rule : KindRule) (item : ℕ) → IsFault m rule item → (rule ≡ too_large) × (item ≡ 0)
+pub size_alone : (m : FlatModel) → breaches m ≡ [] → (rule : KindRule) (item : ℕ) → IsFault m rule item → (rule ≡ too_large) × (item ≡ 0)
 size_alone m right rule item (at_an_item first is r n) = absurd (none_among first (breaches m) right is.among)
 size_alone m right rule item (of_its_size none large r n) = (r, n)
 

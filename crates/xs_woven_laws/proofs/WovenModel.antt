@@ -46,8 +46,8 @@ use Rattle.xs_woven_laws.proofs.Kept.{EachAsked, own_kind_at, target_kind_at, it
 use Rattle.xs_woven_laws.proofs.Sites.{mode_type_right}
 use Rattle.xs_woven_laws.proofs.Uses.{type_right, kept_items}
 use Rattle.xs_woven_laws.proofs.Added.{added_keep}
-use Rattle.xs_type_laws.proofs.ClosedLaws.{same_length}
 use Rattle.xs_woven_laws.proofs.WovenNamesItems.{woven_item, sections_woven}
+use Rattle.xs_flat_laws.proofs.BothLaws.{both_size}
 
 each_three : {A : Type 0} (P Q R : A → Type 0) (xs : List A) → Each P xs → Each Q xs → Each R xs → Each (λ x. P x × Q x × R x) xs
 each_three P Q R [] h g j = tt
@@ -261,7 +261,7 @@ module _ (p : ProgramTree) (i : InstructionTree) (ok : IsWeavable p i) (m w : Fl
   definition_right j judged e =
       let below : j < length (judged_definitions w) = slice_get_within (judged_definitions w) j judged e in
       let many = after_length (judged_variables w.variables) [] w.definitions in
-      let many' = same_length (IsDefinitionOf (woven p i) w) iw.written w.definitions iw.placed in
+      let many' = both_size (IsDefinitionOf (woven p i) w) iw.written w.definitions iw.placed in
       let d' : (d : Definition) × (slice_get iw.written j ≡ Some d) = get_within iw.written j (omega arith) in
       let of : (f : FlatFormula) × (slice_get w.definitions j ≡ Some f) × IsDefinitionOf (woven p i) w d'.0 f = both_at (IsDefinitionOf (woven p i) w) iw.written w.definitions j d'.0 iw.placed d'.1 in
       let root = of.2.root in

@@ -10,15 +10,10 @@ use Rattle.xs_tree.specs.Flat.{FlatLeaf, FlatModel}
 use Rattle.xs_flat_laws.specs.Model.{IsFlatOf}
 use Rattle.xs_flat_laws.specs.Resolved.{has_next}
 use Rattle.xs_flat_laws.specs.ResolvedAt.{IsResolvedAt}
-use Rattle.xs_flat_laws.specs.Rules.{Rule, IsWalkable}
-use Rattle.xs_flat_laws.specs.ValueRules.{BreaksValue}
+use Rattle.xs_flat_laws.specs.Rules.{IsWalkable}
 use Rattle.xs_type_laws.specs.Costs.{cost_of}
 use Rattle.xs_type_laws.specs.Models.{judged_in, top_fault}
 use Rattle.xs_encode_laws.specs.Encodable.{IsFitTop}
-
--- the expression breaks no rule of names as the value of a DEFINE of the instance, which may read inputs or not
-abbrev pub KeepsValue : ProgramTree → Place → Bool → Formula → Type 0
-KeepsValue p at inputs e = (rule : Rule) → BreaksValue p at inputs e rule → ⊥
 
 -- a program and instructions that a weave takes, with the flat models of the program and of what is woven
 pub record HaveFlatModels (p : ProgramTree) (m : FlatModel) (i : InstructionTree) (w : FlatModel) : Type 0 where

@@ -13,13 +13,15 @@ use Rattle.xs_weave.specs.Woven.{woven}
 use Rattle.xs_fei.specs.Weavable.{IsReadable, IsWeavable}
 use Rattle.xs_tree.specs.Flat.{FlatLeaf, FlatModel, FlatMay}
 use Rattle.xs_flat_laws.specs.History.{Mode, with_history}
-use Rattle.xs_flat_laws.specs.Model.{EachBoth, IsFlatOf}
+use Rattle.xs_flat_laws.specs.Model.{IsFlatOf}
 use Rattle.xs_flat_laws.specs.ResolvedAt.{IsResolvedAt}
 use Rattle.xs_flat_laws.specs.Rules.{IsAccepted}
 use Rattle.xs_type_laws.specs.Laws.{ReadsOwn, IsClosed, values_by_number}
 use Rattle.xs_type_laws.specs.Models.{top_fault}
 use Rattle.xs_certificate_laws.specs.ExtendedTraces.{IsModeOfFault, IsExtensionModel}
-use Rattle.xs_woven_laws.specs.Tops.{KeepsValue, HaveFlatModels, IsReadAs, IsJudgedAlike, IsTopOf}
+use Rattle.xs_woven_laws.specs.Tops.{HaveFlatModels, IsReadAs, IsJudgedAlike, IsTopOf}
+use Rattle.xs_flat_laws.specs.ValueRules.{KeepsValue}
+use Rattle.xs_tree.specs.Trace.{EachBoth}
 
 -- an expression that breaks no rule of names breaks none over the woven program
 abbrev pub WovenKeepsValues : Type 0

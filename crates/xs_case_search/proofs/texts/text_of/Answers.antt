@@ -1,7 +1,7 @@
 use Rattle.std.proofs.Common.{◌≡◌, ◌<◌, ◌^◌, ◌∙◌, length, arith}
 use Rattle.xs_tree.specs.ModelTree.{model_tree}
 use Rattle.xs_text_laws.specs.TraceText.{trace_text}
-use Rattle.xs_report.specs.Told.{told_trace}
+use Rattle.xs_tree.specs.Told.{told_trace}
 use Rattle.xs_case_search.proofs.PrintedLemmas.{cut_text, text_writable}
 use Rattle.xs_case_search.proofs.texts.text_of.Goals as goal
 

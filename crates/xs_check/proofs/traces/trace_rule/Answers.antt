@@ -4,14 +4,13 @@ use Rattle.xs_check.specs.Asked.{asked}
 use Rattle.xs_text_laws.specs.Lines.{fed}
 use Rattle.xs_tree.specs.ModelTree.{model_tree}
 use Rattle.xs_certificate_laws.specs.Certificate.{a_trace}
-use Rattle.xs_eval.specs.Named.{named_trace}
-use Rattle.xs_report.specs.Told.{told_trace}
+use Rattle.xs_tree.specs.Told.{told_trace}
 use Rattle.xs_report.specs.Faults.{IsFaultOf}
 use Rattle.xs_text_laws.specs.Given.{BytesGive, GivesTrace}
 use Rattle.xs_check.specs.Found.{FindsAt}
 use Rattle.xs_check.specs.Moments.{FindsMoments, IsTextFault}
 use Rattle.xs_check.proofs.SiteLaws.{moments_found, text_broken}
-use Rattle.xs_check.proofs.TraceLaws.{lines_give, can_be_replayed, gives_none, trace_is_told}
+use Rattle.xs_check.proofs.TraceLaws.{lines_give, can_be_replayed, gives_none}
 use Rattle.xs_check.proofs.traces.trace_rule.Goals as goal
 
 pub moments_rule-requires-clause-replayed : goal.moments_rule-requires-clause-replayed
@@ -27,11 +26,10 @@ returns-in-Ok c =
     let a = asked c.args.q.now in
     let symbols = c.args.q.now.plain.now.model.symbols in
     let told = told_trace symbols c.in-Ok.trace in
-    let named = named_trace symbols c.in-Ok.trace in
     let same : c.as_slice-2.result.now ≡ fed c.args.text.now = c.as_slice-2.ensures ∙ c.in_ok-bytes.ensures ∙ ap fed c.as_slice.ensures in
     let gives = lines_give a.model c.requires.fit.printable c.args.text.now told c.requires.short.lines (subst (λ b. BytesGive a.model b told) same c.in-Ok.ensures.trace) in
-    IfOk-weaker c.moments_rule.result (FindsMoments a c.args.set.now named) (FindsAt a (a_trace c.args.k c.args.set.now c.args.text.now))
-    (moments_found a c.args.k c.args.set.now c.args.text.now c.requires.fit.printable named (subst (GivesTrace a.model c.args.text.now) (sym (trace_is_told symbols c.in-Ok.trace)) gives)) c.moments_rule.ensures
+    IfOk-weaker c.moments_rule.result (FindsMoments a c.args.set.now told) (FindsAt a (a_trace c.args.k c.args.set.now c.args.text.now))
+    (moments_found a c.args.k c.args.set.now c.args.text.now c.requires.fit.printable told gives) c.moments_rule.ensures
 
 pub returns : goal.returns
 returns c =

@@ -8,19 +8,19 @@ use Rattle.xs_encode.specs.Copies.{source_model}
 use Rattle.xs_encode.proofs.ModelParts.{definition_right, got_in}
 use Rattle.xs_encode.proofs.ListLaws.{defines_next, defines_end}
 use Rattle.xs_encode.proofs.lists.definitions.Goals as goal
-use Rattle.xs_type_laws.proofs.WrittenLaws.{get_map as at_mapped}
+use Rattle.xs_tree.proofs.ListLaws.{get_map}
 
 pub definition-requires-clause-right : goal.definition-requires-clause-right
 definition-requires-clause-right c =
     definition_right (source_model c.args.source.now) c.requires.encodable c.loop-d.d-index (formula_tree c.d-item.result)
-    (at_mapped formula_tree c.args.source.now.model.now.model.definitions c.loop-d.d-index c.d-item.result
+    (get_map formula_tree c.args.source.now.model.now.model.definitions c.loop-d.d-index c.d-item.result
     (got_in c.as_slice-d-items.result.now c.args.source.now.model.now.model.definitions c.loop-d.d-index c.d-item.result (c.as_slice-d-items.ensures ∙ ap (λ (m : Model). m.definitions) c.model.ensures.model) (omega arith) c.d-item.is))
 
 pub loop-d-preserved : goal.loop-d-preserved
 loop-d-preserved c =
     defines_next (source_model c.args.source.now) (signals_of c.args.variables) c.args.all (map formula_tree c.args.source.now.model.now.model.definitions) c.args.g.now _ c.loop-d.d-index (formula_tree c.d-item.result) c.loop-d.copy c.in_ok-signal.signal _
     c.loop-d.g c.definition.new.g
-    (at_mapped formula_tree c.args.source.now.model.now.model.definitions c.loop-d.d-index c.d-item.result
+    (get_map formula_tree c.args.source.now.model.now.model.definitions c.loop-d.d-index c.d-item.result
     (got_in c.as_slice-d-items.result.now c.args.source.now.model.now.model.definitions c.loop-d.d-index c.d-item.result (c.as_slice-d-items.ensures ∙ ap (λ (m : Model). m.definitions) c.model.ensures.model) (omega arith) c.d-item.is))
     c.in_ok-signal.ensures c.in_ok-push.ensures.ok c.loop-d.invariant
 

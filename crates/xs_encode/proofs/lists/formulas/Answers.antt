@@ -3,10 +3,10 @@ use Rattle.xs_tree.specs.ModelTree.{formula_tree}
 use Rattle.xs_expressions.specs.Naming.{model_of, names_in}
 use Rattle.xs_expressions.proofs.Members.{named_later}
 use Rattle.xs_encode.specs.Copies.{IsRightFormula}
-use Rattle.xs_encode.proofs.ModelParts.{each_at, got}
 use Rattle.xs_encode.proofs.LoopLaws.{formulas_next}
 use Rattle.xs_encode.proofs.lists.formulas.Goals as goal
-use Rattle.xs_type_laws.proofs.WrittenLaws.{get_map as at_mapped}
+use Rattle.xs_flat_laws.proofs.Conditions.{each_at}
+use Rattle.xs_tree.proofs.ListLaws.{get_there, get_map}
 
 pub holds-requires-clause-named : goal.holds-requires-clause-named
 holds-requires-clause-named c = named_later c.args.names.now c.args.g.now c.loop-formula.g c.loop-formula.invariant.1 c.requires.named
@@ -14,12 +14,12 @@ holds-requires-clause-named c = named_later c.args.names.now c.args.g.now c.loop
 pub holds-requires-clause-right : goal.holds-requires-clause-right
 holds-requires-clause-right c =
     each_at (IsRightFormula (model_of c.args.names.now)) (map formula_tree c.args.formulas.now) c.loop-formula.formula-index (formula_tree c.formula-item.result) c.requires.right
-    (at_mapped formula_tree c.args.formulas.now c.loop-formula.formula-index c.formula-item.result (got c.args.formulas.now c.loop-formula.formula-index c.formula-item.result (omega arith) c.formula-item.is))
+    (get_map formula_tree c.args.formulas.now c.loop-formula.formula-index c.formula-item.result (get_there c.args.formulas.now c.loop-formula.formula-index c.formula-item.result (omega arith) c.formula-item.is))
 
 pub loop-formula-preserved : goal.loop-formula-preserved
 loop-formula-preserved c = (
   formulas_next (names_in c.args.names.now) (map formula_tree c.args.formulas.now) c.loop-formula.formula-index (formula_tree c.formula-item.result) c.loop-formula.g c.holds.new.g _
-      (at_mapped formula_tree c.args.formulas.now c.loop-formula.formula-index c.formula-item.result (got c.args.formulas.now c.loop-formula.formula-index c.formula-item.result (omega arith) c.formula-item.is))
+      (get_map formula_tree c.args.formulas.now c.loop-formula.formula-index c.formula-item.result (get_there c.args.formulas.now c.loop-formula.formula-index c.formula-item.result (omega arith) c.formula-item.is))
       c.in_ok-holds.ensures c.loop-formula.invariant.0,
   omega (arith, c.loop-formula.invariant.1, c.in_ok-holds.ensures.grows),
 )

@@ -3,11 +3,11 @@ use Rattle.std.specs.Prelude.{All}
 use Rattle.xs_tree.specs.Written.{tree_of}
 use Rattle.xs_tree.specs.ModelTree.{model_tree, flat_tree}
 use Rattle.xs_eval.specs.Filled.{HasRoom, HasValues}
-use Rattle.xs_eval.specs.Named.{named_trace}
 use Rattle.xs_eval.specs.Replayed.{replayed, IsReplayed}
 use Rattle.xs_eval.proofs.FilledLaws.{all_lawful}
 use Rattle.xs_eval.proofs.ReplayLaws.{replayed_law}
 use Rattle.xs_eval.proofs.trace.replay.Goals as goal
+use Rattle.xs_tree.specs.Told.{told_trace}
 
 pub replay_in-requires-clause-some : goal.replay_in-requires-clause-some
 replay_in-requires-clause-some c = subst (λ ms. 0 < length ms) (sym c.as_slice.ensures) c.requires.some
@@ -32,5 +32,5 @@ returns-clause-answer c =
     let same : c.replay_in.result ≡ replayed m (tree_of c.args.top.now) c.args.trace.now =
     c.replay_in.ensures.answer
     ∙ (ap (λ n. replayed n (tree_of c.args.top.now) c.as_slice.result.now) c.model.ensures.model ∙ ap (replayed m (tree_of c.args.top.now)) c.as_slice.ensures) in
-    subst (IsReplayed (model_tree m) (flat_tree c.args.top.now) (named_trace m.symbols c.args.trace.now)) (sym same)
+    subst (IsReplayed (model_tree m) (flat_tree c.args.top.now) (told_trace m.symbols c.args.trace.now)) (sym same)
     (replayed_law m c.requires.model c.args.t.now.typed c.args.top.now c.requires.own c.requires.kept c.args.trace.now c.requires.some c.requires.lawful)

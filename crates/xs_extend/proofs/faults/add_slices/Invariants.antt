@@ -2,8 +2,9 @@ use Rattle.std.proofs.Common.{◌≡◌, ◌++◌, map, drop}
 use Rattle.std.specs.Prelude.{flat_map}
 use Rattle.xs_fei.specs.Instructions.{slice_tree}
 use Rattle.xs_weave.specs.Faults.{slice_faults}
-use Rattle.xs_extend.specs.WovenFaults.{place_of, fault_tree}
+use Rattle.xs_extend.specs.WovenFaults.{fault_tree}
 use Rattle.xs_extend.proofs.faults.add_slices.Given as goal
+use Rattle.xs_tree.specs.ModelTree.{place_of}
 
 abbrev pub invariant-loop-slice : goal.invariant-loop-slice
 invariant-loop-slice l =

@@ -2,10 +2,11 @@ use Rattle.std.proofs.Common.{sym, ap, ◌∙◌, map}
 use Rattle.std.specs.Prelude.{Err, codes}
 use Rattle.std.proofs.lemmas.Result.{err_from_is_err_and}
 use Rattle.xs_fei.specs.Instructions.{extension_tree}
-use Rattle.xs_expression_reader.proofs.ReadLaws.{each_viewed, each_end, each_spent, each_deep, each_none, same_fault}
+use Rattle.xs_expression_reader.proofs.ReadLaws.{each_viewed, each_end, each_spent, each_deep, each_none}
 use Rattle.xs_expression_reader.specs.Reads.{has_word}
 use Rattle.xs_fei_reader.specs.Reads.{extensions_at, extension_at}
 use Rattle.xs_fei_reader.proofs.build.extensions.Goals as goal
+use Rattle.xs_value.proofs.ResultLaws.{same_fault}
 
 pub returns-then-not-is_word-clause-ok : goal.returns-then-not-is_word-clause-ok
 returns-then-not-is_word-clause-ok c =

@@ -1,10 +1,11 @@
 use Rattle.std.proofs.Common.{not, sym, ap, ◌∙◌}
 use Rattle.std.specs.Prelude.{Err}
 use Rattle.std.proofs.lemmas.Result.{err_from_is_err_and}
-use Rattle.xs_expression_reader.proofs.ReadLaws.{each_pushed, each_end, each_spent, each_deep, each_none, same_fault}
+use Rattle.xs_expression_reader.proofs.ReadLaws.{each_pushed, each_end, each_spent, each_deep, each_none}
 use Rattle.xs_expression_reader.specs.Reads.{text_at}
 use Rattle.xs_fei_reader.specs.Reads.{in_braces, texts_at}
 use Rattle.xs_fei_reader.proofs.build.mark_texts.Goals as goal
+use Rattle.xs_value.proofs.ResultLaws.{same_fault}
 
 pub returns-then-is_next-clause-ok : goal.returns-then-is_next-clause-ok
 returns-then-is_next-clause-ok c =

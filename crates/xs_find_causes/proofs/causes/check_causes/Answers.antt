@@ -1,11 +1,11 @@
 use Rattle.std.proofs.Common.{Err, inl, sym, ap, ◌∙◌}
 use Rattle.std.proofs.lemmas.Result.{err_from_is_err_and}
 use Rattle.xs_desk.specs.Desk.{said_more}
-use Rattle.xs_loading.proofs.InputLemmas.{same_error}
 use Rattle.xs_loading.proofs.SaidLaws.{rose_later}
 use Rattle.xs_reach_status.proofs.StopLaws.{write_refused, write_desk}
 use Rattle.xs_find_causes.proofs.CausesLaws.{has_checked, leaves_checked, says_part}
 use Rattle.xs_find_causes.proofs.causes.check_causes.Goals as goal
+use Rattle.xs_value.proofs.ResultLaws.{same_fault}
 
 pub returns-in_err-report-clause-left : goal.returns-in_err-report-clause-left
 returns-in_err-report-clause-left g c = inl c.prepare_check.ensures.said
@@ -13,12 +13,12 @@ returns-in_err-report-clause-left g c = inl c.prepare_check.ensures.said
 pub returns-in_err-say_whole-clause-refused : goal.returns-in_err-say_whole-clause-refused
 returns-in_err-say_whole-clause-refused g c r e =
     let exit = err_from_is_err_and c.from_residual-in_err-say_whole.result c.from_residual-in_err-say_whole.ensures.1 in
-    absurd (write_refused _ r (sym exit.2 ∙ same_error (sym exit.1 ∙ e)))
+    absurd (write_refused _ r (sym exit.2 ∙ same_fault (sym exit.1 ∙ e)))
 
 pub returns-in_err-say_whole-clause-untouched : goal.returns-in_err-say_whole-clause-untouched
 returns-in_err-say_whole-clause-untouched g c r e =
     let exit = err_from_is_err_and c.from_residual-in_err-say_whole.result c.from_residual-in_err-say_whole.ensures.1 in
-    absurd (write_refused _ r (sym exit.2 ∙ same_error (sym exit.1 ∙ e)))
+    absurd (write_refused _ r (sym exit.2 ∙ same_fault (sym exit.1 ∙ e)))
 
 pub returns-in_err-say_whole-clause-left : goal.returns-in_err-say_whole-clause-left
 returns-in_err-say_whole-clause-left g c =
@@ -28,7 +28,7 @@ returns-in_err-say_whole-clause-left g c =
 pub returns-in_err-say_whole-clause-failed : goal.returns-in_err-say_whole-clause-failed
 returns-in_err-say_whole-clause-failed g c e =
     let exit = err_from_is_err_and c.from_residual-in_err-say_whole.result c.from_residual-in_err-say_whole.ensures.1 in
-    let is = write_desk _ (sym exit.2 ∙ same_error (sym exit.1 ∙ e)) in
+    let is = write_desk _ (sym exit.2 ∙ same_fault (sym exit.1 ∙ e)) in
     rose_later _ _ _ c.prepare_check.ensures.later (c.say_whole.ensures.failed (c.in_err-say_whole.was ∙ ap (λ s. Err s) is))
 
 pub returns-clause-ok : goal.returns-clause-ok

@@ -2,11 +2,11 @@ use Rattle.std.proofs.Common.{Err, inl, sym, ap, ◌∙◌}
 use Rattle.std.proofs.lemmas.Result.{err_from_is_err_and}
 use Rattle.xs_desk.specs.Desk.{said_more}
 use Rattle.xs_loading.specs.Answered.{told_maybe}
-use Rattle.xs_loading.proofs.InputLemmas.{same_error}
 use Rattle.xs_loading.proofs.SaidLaws.{rose_later}
 use Rattle.xs_reach_status.proofs.StopLaws.{write_refused, write_desk}
 use Rattle.xs_find_causes.proofs.CausesLaws.{has_found, leaves_found}
 use Rattle.xs_find_causes.proofs.causes.find_causes.Goals as goal
+use Rattle.xs_value.proofs.ResultLaws.{same_fault}
 
 pub returns-in_err-found-clause-left : goal.returns-in_err-found-clause-left
 returns-in_err-found-clause-left g c = inl (c.prepare_causes.ensures.files, c.prepare_causes.ensures.said)
@@ -14,12 +14,12 @@ returns-in_err-found-clause-left g c = inl (c.prepare_causes.ensures.files, c.pr
 pub returns-in_err-conclude-clause-refused : goal.returns-in_err-conclude-clause-refused
 returns-in_err-conclude-clause-refused g c r e =
     let exit = err_from_is_err_and c.from_residual-in_err-conclude.result c.from_residual-in_err-conclude.ensures.1 in
-    absurd (write_refused _ r (sym exit.2 ∙ same_error (sym exit.1 ∙ e)))
+    absurd (write_refused _ r (sym exit.2 ∙ same_fault (sym exit.1 ∙ e)))
 
 pub returns-in_err-conclude-clause-untouched : goal.returns-in_err-conclude-clause-untouched
 returns-in_err-conclude-clause-untouched g c r e =
     let exit = err_from_is_err_and c.from_residual-in_err-conclude.result c.from_residual-in_err-conclude.ensures.1 in
-    absurd (write_refused _ r (sym exit.2 ∙ same_error (sym exit.1 ∙ e)))
+    absurd (write_refused _ r (sym exit.2 ∙ same_fault (sym exit.1 ∙ e)))
 
 pub returns-in_err-conclude-clause-left : goal.returns-in_err-conclude-clause-left
 returns-in_err-conclude-clause-left g c =
@@ -28,7 +28,7 @@ returns-in_err-conclude-clause-left g c =
 pub returns-in_err-conclude-clause-failed : goal.returns-in_err-conclude-clause-failed
 returns-in_err-conclude-clause-failed g c e =
     let exit = err_from_is_err_and c.from_residual-in_err-conclude.result c.from_residual-in_err-conclude.ensures.1 in
-    let is = write_desk _ (sym exit.2 ∙ same_error (sym exit.1 ∙ e)) in
+    let is = write_desk _ (sym exit.2 ∙ same_fault (sym exit.1 ∙ e)) in
     rose_later _ _ _ c.prepare_causes.ensures.later (c.conclude.ensures.failed (c.in_err-conclude.was ∙ ap (λ s. Err s) is))
 
 pub returns-clause-ok : goal.returns-clause-ok

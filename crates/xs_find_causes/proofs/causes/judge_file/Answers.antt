@@ -5,34 +5,34 @@ use Rattle.std.proofs.lemmas.Result.{err_from_is_err_and}
 use Rattle.xs_flat_laws.specs.FaultModes.{mode_of}
 use Rattle.xs_text_laws.specs.AnalysisText.{size_line}
 use Rattle.xs_cert.specs.Seen.{seen}
-use Rattle.xs_loading.proofs.InputLemmas.{same_error}
 use Rattle.xs_reach_status.specs.declared.stop.Stop.TheVariants as stop
 use Rattle.xs_reach_status.proofs.StopLaws.{stop_refused, stop_desk}
 use Rattle.xs_find_causes.proofs.CausesLaws.{no_file, line_refused, accepts_staged}
 use Rattle.xs_find_causes.proofs.causes.judge_file.Goals as goal
+use Rattle.xs_value.proofs.ResultLaws.{same_fault}
 
 pub returns-in_err-certificate-clause-refused : goal.returns-in_err-certificate-clause-refused
 returns-in_err-certificate-clause-refused g c r e =
     let exit = err_from_is_err_and c.from_residual.result c.from_residual.ensures.1 in
-    let is = stop_refused _ r (sym exit.2 ∙ same_error (sym exit.1 ∙ e)) in
+    let is = stop_refused _ r (sym exit.2 ∙ same_fault (sym exit.1 ∙ e)) in
     no_file c.args.staged.now _ _ r is.refused is.told (c.load_certificate.ensures.refused is.refused (c.in_err-certificate.was ∙ ap (λ s. Err s) is.is))
 
 pub returns-in_err-certificate-clause-failed : goal.returns-in_err-certificate-clause-failed
 returns-in_err-certificate-clause-failed g c e =
     let exit = err_from_is_err_and c.from_residual.result c.from_residual.ensures.1 in
-    let is = stop_desk _ (sym exit.2 ∙ same_error (sym exit.1 ∙ e)) in
+    let is = stop_desk _ (sym exit.2 ∙ same_fault (sym exit.1 ∙ e)) in
     c.load_certificate.ensures.failed (c.in_err-certificate.was ∙ ap (λ s. Err s) is)
 
 pub returns-in_err-judge-clause-refused : goal.returns-in_err-judge-clause-refused
 returns-in_err-judge-clause-refused g c r e =
     let exit = err_from_is_err_and c.from_residual-in_err-judge.result c.from_residual-in_err-judge.ensures.1 in
-    let refused : IsErrOf c.judge.result (stop.Refused r) = c.in_err-judge.was ∙ ap (λ s. Err s) (sym exit.2 ∙ same_error (sym exit.1 ∙ e)) in
+    let refused : IsErrOf c.judge.result (stop.Refused r) = c.in_err-judge.was ∙ ap (λ s. Err s) (sym exit.2 ∙ same_fault (sym exit.1 ∙ e)) in
     line_refused c.args.staged.now _ _ (seen c.in_ok-certificate.certificate) c.in_ok-certificate.ensures.ok r (c.judge.ensures.refused r refused)
 
 pub returns-in_err-judge-clause-failed : goal.returns-in_err-judge-clause-failed
 returns-in_err-judge-clause-failed g c e =
     let exit = err_from_is_err_and c.from_residual-in_err-judge.result c.from_residual-in_err-judge.ensures.1 in
-    let refused : IsErrOf c.judge.result stop.Desk = c.in_err-judge.was ∙ ap (λ s. Err s) (sym exit.2 ∙ same_error (sym exit.1 ∙ e)) in
+    let refused : IsErrOf c.judge.result stop.Desk = c.in_err-judge.was ∙ ap (λ s. Err s) (sym exit.2 ∙ same_fault (sym exit.1 ∙ e)) in
     absurd (c.judge.ensures.desk refused)
 
 pub returns-clause-ok : goal.returns-clause-ok

@@ -1,14 +1,14 @@
 use Rattle.std.proofs.Common.{Err, IsErrOf, sym, ap, ◌∙◌}
 use Rattle.std.proofs.lemmas.Result.{err_from_is_err_and, IfOk-weaker}
-use Rattle.xs_loading.proofs.InputLemmas.{same_error}
 use Rattle.xs_reach_status.specs.declared.stop.Stop.TheVariants as stop
 use Rattle.xs_find_causes.proofs.CausesLaws.{holds_staged, check_no_staged, check_no_certificate, accepts_causes}
 use Rattle.xs_find_causes.proofs.causes.prepare_check.Goals as goal
+use Rattle.xs_value.proofs.ResultLaws.{same_fault}
 
 pub returns-in_err-staged-clause-refused : goal.returns-in_err-staged-clause-refused
 returns-in_err-staged-clause-refused g c r e =
     let exit = err_from_is_err_and c.from_residual.result c.from_residual.ensures.1 in
-    let refused : IsErrOf c.load_staged.result (stop.Refused r) = c.in_err-staged.was ∙ ap (λ s. Err s) (sym exit.2 ∙ same_error (sym exit.1 ∙ e)) in
+    let refused : IsErrOf c.load_staged.result (stop.Refused r) = c.in_err-staged.was ∙ ap (λ s. Err s) (sym exit.2 ∙ same_fault (sym exit.1 ∙ e)) in
     check_no_staged _ _ _ _ _ _ r (c.load_staged.ensures.refused r refused)
 
 pub returns-clause-refused : goal.returns-clause-refused

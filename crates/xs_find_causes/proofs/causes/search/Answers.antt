@@ -1,8 +1,8 @@
 use Rattle.std.proofs.Common.{length, subst, sym, map, ap, ◌∙◌}
-use Rattle.xs_tree.specs.ModelTree.{flat_tree}
+use Rattle.xs_tree.specs.ModelTree.{flat_tree, name_of_fault}
 use Rattle.xs_text_laws.specs.AnalysisText.{analysis_text}
 use Rattle.xs_report.specs.Analysed.{told_analysis}
-use Rattle.xs_report.specs.FaultText.{name_of, faults_text}
+use Rattle.xs_report.specs.FaultText.{faults_text}
 use Rattle.xs_case_search.specs.Searches.{IsSearched}
 use Rattle.xs_find_causes.specs.Causes.{staged_in, events_in}
 use Rattle.xs_find_causes.proofs.StagedLaws.{event_right}
@@ -26,5 +26,5 @@ returns g c =
       ends = c.told-ending.ensures;
       certified = c.in_ok-cert.ensures;
       reported = c.in_ok-report.ensures
-          ∙ ap (λ b. analysis_text (faults_text (map name_of l.events)) (staged_in l) b (length l.events) a.size (told_analysis l.typed.model.symbols a.sets a.traces a.first c.told-ending.result)) c.bits.ensures.bits;
+          ∙ ap (λ b. analysis_text (faults_text (map name_of_fault l.events)) (staged_in l) b (length l.events) a.size (told_analysis l.typed.model.symbols a.sets a.traces a.first c.told-ending.result)) c.bits.ensures.bits;
     }

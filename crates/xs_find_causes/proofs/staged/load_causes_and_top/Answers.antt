@@ -4,11 +4,11 @@ use Rattle.xs_tree.specs.ProgramTree.{program_tree}
 use Rattle.xs_tree.specs.ModelTree.{model_tree}
 use Rattle.xs_staging.specs.CauseOf.{cause_of}
 use Rattle.xs_loading.specs.Loaded.{case_of}
-use Rattle.xs_loading.proofs.InputLemmas.{same_error}
 use Rattle.xs_reach_status.specs.declared.stop.Stop.TheVariants as stop
 use Rattle.xs_reach_status.proofs.StopLaws.{stop_refused, stop_desk}
 use Rattle.xs_find_causes.proofs.CausesLaws.{has_causes, keeps_limits, staged_no_causes, staged_no_top}
 use Rattle.xs_find_causes.proofs.staged.load_causes_and_top.Goals as goal
+use Rattle.xs_value.proofs.ResultLaws.{same_fault}
 
 pub load_causes-requires : goal.load_causes-requires
 load_causes-requires g c = (program_tree c.args.model.now.program, c.requires.loaded, (model_tree c.args.model.now.typed.model, c.requires.lawful))
@@ -25,17 +25,17 @@ returns-in-Ok-clause-top g c = c.in-Ok.ensures.ok
 pub returns-in_err-staged-clause-refused : goal.returns-in_err-staged-clause-refused
 returns-in_err-staged-clause-refused g c r e of_model of_faults holds =
     let exit = err_from_is_err_and c.from_residual.result c.from_residual.ensures.1 in
-    let refused : IsErrOf c.load_causes.result (stop.Refused r) = c.in_err-staged.was ∙ ap (λ s. Err s) (sym exit.2 ∙ same_error (sym exit.1 ∙ e)) in
+    let refused : IsErrOf c.load_causes.result (stop.Refused r) = c.in_err-staged.was ∙ ap (λ s. Err s) (sym exit.2 ∙ same_fault (sym exit.1 ∙ e)) in
     staged_no_causes of_model of_faults _ _ _ _ (program_tree c.args.model.now.program) c.args.case.now r c.requires.loaded refl holds (c.load_causes.ensures.refused r refused)
 
 pub returns-in_err-staged-clause-failed : goal.returns-in_err-staged-clause-failed
 returns-in_err-staged-clause-failed g c e =
     let exit = err_from_is_err_and c.from_residual.result c.from_residual.ensures.1 in
-    c.load_causes.ensures.failed (c.in_err-staged.was ∙ ap (λ s. Err s) (sym exit.2 ∙ same_error (sym exit.1 ∙ e)))
+    c.load_causes.ensures.failed (c.in_err-staged.was ∙ ap (λ s. Err s) (sym exit.2 ∙ same_fault (sym exit.1 ∙ e)))
 
 pub returns-in-Err-clause-refused : goal.returns-in-Err-clause-refused
 returns-in-Err-clause-refused g c r e of_model of_faults holds =
-    let is = stop_refused _ r (sym c.from.ensures ∙ same_error e) in
+    let is = stop_refused _ r (sym c.from.ensures ∙ same_fault e) in
     let p = program_tree c.args.model.now.program in
     let cs = map cause_of c.in_ok-staged.staged.causes in
     let has = has_causes _ _ p c.args.case.now _ cs c.requires.loaded refl c.in_ok-staged.ensures.ok in
@@ -44,7 +44,7 @@ returns-in-Err-clause-refused g c r e of_model of_faults holds =
 
 pub returns-in-Err-clause-failed : goal.returns-in-Err-clause-failed
 returns-in-Err-clause-failed g c e =
-    absurd (c.load_top.ensures.desk (c.in-Err.is ∙ ap (λ s. Err s) (stop_desk _ (sym c.from.ensures ∙ same_error e))))
+    absurd (c.load_top.ensures.desk (c.in-Err.is ∙ ap (λ s. Err s) (stop_desk _ (sym c.from.ensures ∙ same_fault e))))
 
 pub returns-in_err-staged-clause-files : goal.returns-in_err-staged-clause-files
 returns-in_err-staged-clause-files g c = c.load_causes.ensures.files

@@ -4,13 +4,13 @@ use Rattle.xs_tree.specs.ProgramTree.{program_tree}
 use Rattle.xs_tree.specs.ModelTree.{model_tree}
 use Rattle.xs_staging.specs.CauseOf.{cause_of}
 use Rattle.xs_loading.specs.Loaded.{case_of}
-use Rattle.xs_loading.proofs.InputLemmas.{same_error}
 use Rattle.xs_loading.proofs.LoadedLaws.{holds_case}
 use Rattle.xs_loading.proofs.SaidLaws.{rose_later}
 use Rattle.xs_reach_status.specs.declared.stop.Stop.TheVariants as stop
 use Rattle.xs_reach_status.proofs.StopLaws.{stop_refused, stop_desk}
 use Rattle.xs_find_causes.proofs.CausesLaws.{has_causes, staged_no_model, staged_no_faults, staged_no_rest}
 use Rattle.xs_find_causes.proofs.staged.load_staged.Goals as goal
+use Rattle.xs_value.proofs.ResultLaws.{same_fault}
 
 pub returns-clause-case : goal.returns-clause-case
 returns-clause-case g c =
@@ -33,31 +33,31 @@ returns-clause-staged g c =
 pub returns-in_err-model-clause-refused : goal.returns-in_err-model-clause-refused
 returns-in_err-model-clause-refused g c r e =
     let exit = err_from_is_err_and c.from_residual.result c.from_residual.ensures.1 in
-    let is = stop_refused _ r (sym exit.2 ∙ same_error (sym exit.1 ∙ e)) in
+    let is = stop_refused _ r (sym exit.2 ∙ same_fault (sym exit.1 ∙ e)) in
     staged_no_model _ _ _ _ _ r is.refused is.told (c.load_model.ensures.refused is.refused (c.in_err-model.was ∙ ap (λ s. Err s) is.is))
 
 pub returns-in_err-model-clause-failed : goal.returns-in_err-model-clause-failed
 returns-in_err-model-clause-failed g c e =
     let exit = err_from_is_err_and c.from_residual.result c.from_residual.ensures.1 in
-    let is = stop_desk _ (sym exit.2 ∙ same_error (sym exit.1 ∙ e)) in
+    let is = stop_desk _ (sym exit.2 ∙ same_fault (sym exit.1 ∙ e)) in
     c.load_model.ensures.failed (c.in_err-model.was ∙ ap (λ s. Err s) is)
 
 pub returns-in_err-case-clause-refused : goal.returns-in_err-case-clause-refused
 returns-in_err-case-clause-refused g c r e =
     let exit = err_from_is_err_and c.from_residual-in_err-case.result c.from_residual-in_err-case.ensures.1 in
-    let is = stop_refused _ r (sym exit.2 ∙ same_error (sym exit.1 ∙ e)) in
+    let is = stop_refused _ r (sym exit.2 ∙ same_fault (sym exit.1 ∙ e)) in
     staged_no_faults _ _ _ _ _ _ _ r is.refused is.told c.load_model.ensures.files c.in_ok-model.ensures.ok (c.load_case.ensures.refused is.refused (c.in_err-case.was ∙ ap (λ s. Err s) is.is))
 
 pub returns-in_err-case-clause-failed : goal.returns-in_err-case-clause-failed
 returns-in_err-case-clause-failed g c e =
     let exit = err_from_is_err_and c.from_residual-in_err-case.result c.from_residual-in_err-case.ensures.1 in
-    let is = stop_desk _ (sym exit.2 ∙ same_error (sym exit.1 ∙ e)) in
+    let is = stop_desk _ (sym exit.2 ∙ same_fault (sym exit.1 ∙ e)) in
     rose_later _ _ _ c.load_model.ensures.later (c.load_case.ensures.failed (c.in_err-case.was ∙ ap (λ s. Err s) is))
 
 pub returns-in_err-found-clause-refused : goal.returns-in_err-found-clause-refused
 returns-in_err-found-clause-refused g c r e =
     let exit = err_from_is_err_and c.from_residual-in_err-found.result c.from_residual-in_err-found.ensures.1 in
-    let refused : IsErrOf c.load_causes_and_top.result (stop.Refused r) = c.in_err-found.was ∙ ap (λ s. Err s) (sym exit.2 ∙ same_error (sym exit.1 ∙ e)) in
+    let refused : IsErrOf c.load_causes_and_top.result (stop.Refused r) = c.in_err-found.was ∙ ap (λ s. Err s) (sym exit.2 ∙ same_fault (sym exit.1 ∙ e)) in
     let p = program_tree c.in_ok-model.model.program in
     let holds = holds_case _ _ c.args.word.now c.args.word.now _ _ p c.in_ok-case.case c.load_model.ensures.files c.in_ok-model.ensures.ok c.in_ok-case.ensures.ok in
     staged_no_rest _ _ _ _ _ _ (case_of p c.in_ok-case.case) r (c.load_case.ensures.files ∙ c.load_model.ensures.files) holds (c.load_causes_and_top.ensures.refused r refused _ _)
@@ -65,7 +65,7 @@ returns-in_err-found-clause-refused g c r e =
 pub returns-in_err-found-clause-failed : goal.returns-in_err-found-clause-failed
 returns-in_err-found-clause-failed g c e =
     let exit = err_from_is_err_and c.from_residual-in_err-found.result c.from_residual-in_err-found.ensures.1 in
-    let failed : IsErrOf c.load_causes_and_top.result stop.Desk = c.in_err-found.was ∙ ap (λ s. Err s) (sym exit.2 ∙ same_error (sym exit.1 ∙ e)) in
+    let failed : IsErrOf c.load_causes_and_top.result stop.Desk = c.in_err-found.was ∙ ap (λ s. Err s) (sym exit.2 ∙ same_fault (sym exit.1 ∙ e)) in
     rose_later _ _ _ c.load_model.ensures.later (rose_later _ _ _ c.load_case.ensures.later (c.load_causes_and_top.ensures.failed failed))
 
 pub returns-in_err-model-clause-files : goal.returns-in_err-model-clause-files

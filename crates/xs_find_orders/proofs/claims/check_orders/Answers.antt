@@ -3,32 +3,32 @@ use Rattle.std.specs.Prelude.{codes}
 use Rattle.std.proofs.lemmas.Result.{err_from_is_err_and}
 use Rattle.xs_desk.specs.Desk.{SaysPrefix}
 use Rattle.xs_words.specs.Sets.{numbers_of}
-use Rattle.xs_loading.proofs.InputLemmas.{same_error}
 use Rattle.xs_loading.proofs.SaidLaws.{rose_later, says_in_part}
 use Rattle.xs_reach_status.proofs.StopLaws.{write_refused, write_desk}
 use Rattle.xs_find_orders.proofs.ClaimLaws.{check_said}
 use Rattle.xs_find_orders.proofs.claims.check_orders.Goals as goal
+use Rattle.xs_value.proofs.ResultLaws.{same_fault}
 
 pub returns-in_err-prepare-clause-refused : goal.returns-in_err-prepare-clause-refused
 returns-in_err-prepare-clause-refused g c r e asked =
     let exit = err_from_is_err_and c.from_residual.result c.from_residual.ensures.1 in
-    c.prepare.ensures.refused r (c.in_err-prepare.was ∙ ap (λ s. Err s) (sym exit.2 ∙ same_error (sym exit.1 ∙ e))) asked
+    c.prepare.ensures.refused r (c.in_err-prepare.was ∙ ap (λ s. Err s) (sym exit.2 ∙ same_fault (sym exit.1 ∙ e))) asked
 
 pub returns-in_err-prepare-clause-left : goal.returns-in_err-prepare-clause-left
 returns-in_err-prepare-clause-left g c = inl c.prepare.ensures.said
 
 pub returns-in_err-say_whole-clause-refused : goal.returns-in_err-say_whole-clause-refused
 returns-in_err-say_whole-clause-refused g c r e asked =
-    let exit = err_from_is_err_and c.from_residual-in_err-say_whole.result c.from_residual-in_err-say_whole.ensures.1 in absurd (write_refused _ r (sym exit.2 ∙ same_error (sym exit.1 ∙ e)))
+    let exit = err_from_is_err_and c.from_residual-in_err-say_whole.result c.from_residual-in_err-say_whole.ensures.1 in absurd (write_refused _ r (sym exit.2 ∙ same_fault (sym exit.1 ∙ e)))
 
 pub returns-in_err-say_whole-clause-untouched : goal.returns-in_err-say_whole-clause-untouched
 returns-in_err-say_whole-clause-untouched g c r e =
-    let exit = err_from_is_err_and c.from_residual-in_err-say_whole.result c.from_residual-in_err-say_whole.ensures.1 in absurd (write_refused _ r (sym exit.2 ∙ same_error (sym exit.1 ∙ e)))
+    let exit = err_from_is_err_and c.from_residual-in_err-say_whole.result c.from_residual-in_err-say_whole.ensures.1 in absurd (write_refused _ r (sym exit.2 ∙ same_fault (sym exit.1 ∙ e)))
 
 pub returns-in_err-say_whole-clause-failed : goal.returns-in_err-say_whole-clause-failed
 returns-in_err-say_whole-clause-failed g c e =
     let exit = err_from_is_err_and c.from_residual-in_err-say_whole.result c.from_residual-in_err-say_whole.ensures.1 in
-    let is = write_desk _ (sym exit.2 ∙ same_error (sym exit.1 ∙ e)) in
+    let is = write_desk _ (sym exit.2 ∙ same_fault (sym exit.1 ∙ e)) in
     rose_later _ _ _ c.prepare.ensures.later (c.say_whole.ensures.failed (c.in_err-say_whole.was ∙ ap (λ s. Err s) is))
 
 pub returns-in_err-say_whole-clause-left : goal.returns-in_err-say_whole-clause-left

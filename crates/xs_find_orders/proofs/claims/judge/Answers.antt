@@ -3,9 +3,9 @@ use Rattle.xs_tree.specs.ModelTree.{model_tree, flat_tree}
 use Rattle.xs_cert.specs.Seen.{seen}
 use Rattle.xs_check.specs.Found.{IsJudgedUnlisted}
 use Rattle.xs_find_orders.specs.Orders.{staged_matter}
-use Rattle.xs_loading.proofs.InputLemmas.{same_error}
 use Rattle.xs_find_orders.proofs.ClaimLaws.{claim_accepted, claim_refused, line_refused, line_no_desk}
 use Rattle.xs_find_orders.proofs.claims.judge.Goals as goal
+use Rattle.xs_value.proofs.ResultLaws.{same_fault}
 
 pub expression-requires-clause-few : goal.expression-requires-clause-few
 expression-requires-clause-few c = let is : IsTrue c.are_few.result = grind arith in c.are_few.ensures.few is
@@ -24,7 +24,7 @@ returns-clause-refused c r e =
     let s = c.args.staged.now in
     let found = subst (IsJudgedUnlisted (staged_matter (model_tree s.typed.model) (flat_tree c.in_ok-top.top) (seen c.args.certificate.now))) c.in-No.is c.in_ok-judged.ensures in
     claim_refused s c.requires.staged c.args.claim (flat_tree c.in_ok-top.top) c.in_ok-top.ensures.speaks c.in_ok-top.ensures.searchable c.args.certificate.now c.in-No.line c.in-No.rule r
-    (line_refused c.in-No.line c.in-No.rule _ r c.line_stop.ensures (sym c.from.ensures ∙ same_error e)) found
+    (line_refused c.in-No.line c.in-No.rule _ r c.line_stop.ensures (sym c.from.ensures ∙ same_fault e)) found
 
 pub returns-clause-desk : goal.returns-clause-desk
-returns-clause-desk c e = line_no_desk c.in-No.line c.in-No.rule _ c.line_stop.ensures (sym c.from.ensures ∙ same_error e)
+returns-clause-desk c e = line_no_desk c.in-No.line c.in-No.rule _ c.line_stop.ensures (sym c.from.ensures ∙ same_fault e)

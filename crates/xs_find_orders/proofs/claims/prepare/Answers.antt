@@ -1,11 +1,11 @@
 use Rattle.std.proofs.Common.{Err, IsErrOf, sym, ap, ◌∙◌}
 use Rattle.std.proofs.lemmas.Result.{err_from_is_err_and}
-use Rattle.xs_loading.proofs.InputLemmas.{same_error}
 use Rattle.xs_loading.proofs.SaidLaws.{rose_later}
 use Rattle.xs_reach_status.specs.declared.stop.Stop.TheVariants as stop
 use Rattle.xs_find_orders.specs.declared.pair.PairWords.{PairWords}
 use Rattle.xs_find_orders.proofs.ClaimLaws.{check_no_pair, check_refused, check_done}
 use Rattle.xs_find_orders.proofs.claims.prepare.Goals as goal
+use Rattle.xs_value.proofs.ResultLaws.{same_fault}
 
 pub judge_file-judged-requires : goal.judge_file-judged-requires
 judge_file-judged-requires g c = c.in_ok-staged.ensures.staged
@@ -13,7 +13,7 @@ judge_file-judged-requires g c = c.in_ok-staged.ensures.staged
 pub returns-in_err-staged-clause-refused : goal.returns-in_err-staged-clause-refused
 returns-in_err-staged-clause-refused g c r e asked =
     let exit = err_from_is_err_and c.from_residual.result c.from_residual.ensures.1 in
-    let refused : IsErrOf c.load_pair.result (stop.Refused r) = c.in_err-staged.was ∙ ap (λ s. Err s) (sym exit.2 ∙ same_error (sym exit.1 ∙ e)) in
+    let refused : IsErrOf c.load_pair.result (stop.Refused r) = c.in_err-staged.was ∙ ap (λ s. Err s) (sym exit.2 ∙ same_fault (sym exit.1 ∙ e)) in
     let a = c.args.asked.now in
     let w : PairWords = record { model = a.model; faults = a.faults; top = a.top; set = a.set; first = a.first; second = a.second } in
     check_no_pair w a.claim.now a.cert.now _ r (c.load_pair.ensures.refused r refused asked)

@@ -2,7 +2,7 @@ use Rattle.std.proofs.Common.{◌≡◌, length, map, take, ◌∙◌, ap}
 use Rattle.xs_tree.specs.declared.model.FlatModel.{FlatModel}
 use Rattle.xs_type_laws.specs.Costs.{state_bits}
 use Rattle.xs_loading.specs.LoadedEvents.{case_in}
-use Rattle.xs_report.specs.Told.{told_trace}
+use Rattle.xs_tree.specs.Told.{told_trace}
 use Rattle.xs_report_laws.specs.ExtendedTraces.{complete}
 use Rattle.xs_find_orders.specs.Orders.{either, order_text, staged_of}
 use Rattle.xs_find_orders.proofs.OrderLaws.{either_concluded}

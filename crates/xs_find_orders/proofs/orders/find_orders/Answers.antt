@@ -1,32 +1,32 @@
 use Rattle.std.proofs.Common.{Err, inl, inr, sym, ap, ◌∙◌}
 use Rattle.std.proofs.lemmas.Result.{err_from_is_err_and}
 use Rattle.xs_words.specs.Sets.{numbers_of}
-use Rattle.xs_loading.proofs.InputLemmas.{same_error}
 use Rattle.xs_loading.proofs.SaidLaws.{rose_later}
 use Rattle.xs_reach_status.proofs.StopLaws.{write_refused, write_desk}
 use Rattle.xs_find_orders.proofs.OrderLaws.{has_order, orders_in_part}
 use Rattle.xs_find_orders.proofs.orders.find_orders.Goals as goal
+use Rattle.xs_value.proofs.ResultLaws.{same_fault}
 
 pub returns-in_err-found-clause-refused : goal.returns-in_err-found-clause-refused
 returns-in_err-found-clause-refused g c r e asked =
     let exit = err_from_is_err_and c.from_residual.result c.from_residual.ensures.1 in
-    c.prepare.ensures.refused r (c.in_err-found.was ∙ ap (λ s. Err s) (sym exit.2 ∙ same_error (sym exit.1 ∙ e))) asked
+    c.prepare.ensures.refused r (c.in_err-found.was ∙ ap (λ s. Err s) (sym exit.2 ∙ same_fault (sym exit.1 ∙ e))) asked
 
 pub returns-in_err-found-clause-left : goal.returns-in_err-found-clause-left
 returns-in_err-found-clause-left g c = inl (c.prepare.ensures.files, c.prepare.ensures.said)
 
 pub returns-in_err-conclude-clause-refused : goal.returns-in_err-conclude-clause-refused
 returns-in_err-conclude-clause-refused g c r e asked =
-    let exit = err_from_is_err_and c.from_residual-in_err-conclude.result c.from_residual-in_err-conclude.ensures.1 in absurd (write_refused _ r (sym exit.2 ∙ same_error (sym exit.1 ∙ e)))
+    let exit = err_from_is_err_and c.from_residual-in_err-conclude.result c.from_residual-in_err-conclude.ensures.1 in absurd (write_refused _ r (sym exit.2 ∙ same_fault (sym exit.1 ∙ e)))
 
 pub returns-in_err-conclude-clause-untouched : goal.returns-in_err-conclude-clause-untouched
 returns-in_err-conclude-clause-untouched g c r e =
-    let exit = err_from_is_err_and c.from_residual-in_err-conclude.result c.from_residual-in_err-conclude.ensures.1 in absurd (write_refused _ r (sym exit.2 ∙ same_error (sym exit.1 ∙ e)))
+    let exit = err_from_is_err_and c.from_residual-in_err-conclude.result c.from_residual-in_err-conclude.ensures.1 in absurd (write_refused _ r (sym exit.2 ∙ same_fault (sym exit.1 ∙ e)))
 
 pub returns-in_err-conclude-clause-failed : goal.returns-in_err-conclude-clause-failed
 returns-in_err-conclude-clause-failed g c e =
     let exit = err_from_is_err_and c.from_residual-in_err-conclude.result c.from_residual-in_err-conclude.ensures.1 in
-    let is = write_desk _ (sym exit.2 ∙ same_error (sym exit.1 ∙ e)) in
+    let is = write_desk _ (sym exit.2 ∙ same_fault (sym exit.1 ∙ e)) in
     rose_later _ _ _ c.prepare.ensures.later (c.conclude.ensures.failed (c.in_err-conclude.was ∙ ap (λ s. Err s) is))
 
 pub returns-in_err-conclude-clause-left : goal.returns-in_err-conclude-clause-left

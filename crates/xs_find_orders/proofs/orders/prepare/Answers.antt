@@ -1,9 +1,9 @@
 use Rattle.std.proofs.Common.{Err, sym, ap, ◌∙◌}
 use Rattle.std.proofs.lemmas.Result.{err_from_is_err_and}
-use Rattle.xs_loading.proofs.InputLemmas.{same_error}
 use Rattle.xs_find_orders.specs.declared.pair.PairWords.{PairWords}
 use Rattle.xs_find_orders.proofs.OrderLaws.{concludes_from}
 use Rattle.xs_find_orders.proofs.orders.prepare.Goals as goal
+use Rattle.xs_value.proofs.ResultLaws.{same_fault}
 
 pub answer-found-requires : goal.answer-found-requires
 answer-found-requires g c = c.in_ok-staged.ensures.staged
@@ -11,7 +11,7 @@ answer-found-requires g c = c.in_ok-staged.ensures.staged
 pub returns-in_err-staged-clause-refused : goal.returns-in_err-staged-clause-refused
 returns-in_err-staged-clause-refused g c r e asked =
     let exit = err_from_is_err_and c.from_residual.result c.from_residual.ensures.1 in
-    c.load_pair.ensures.refused r (c.in_err-staged.was ∙ ap (λ s. Err s) (sym exit.2 ∙ same_error (sym exit.1 ∙ e))) asked
+    c.load_pair.ensures.refused r (c.in_err-staged.was ∙ ap (λ s. Err s) (sym exit.2 ∙ same_fault (sym exit.1 ∙ e))) asked
 
 pub returns-clause-ok : goal.returns-clause-ok
 returns-clause-ok g c asked =

@@ -1,15 +1,15 @@
 use Rattle.std.proofs.Common.{◌≡◌, ◌+◌, false, IsTrue, refl, arith}
 use Rattle.std.proofs.lemmas.Bool.{both_ways}
-use Rattle.xs_loading.proofs.InputLemmas.{same_error}
 use Rattle.xs_find_orders.specs.Pairs.{outside_refusal}
 use Rattle.xs_find_orders.proofs.PairLaws.{one_numbered, first_outside, one_stop}
 use Rattle.xs_find_orders.proofs.pair.judge_set.Goals as goal
+use Rattle.xs_value.proofs.ResultLaws.{same_fault}
 
 pub returns-then-not-is_fault-clause-refused : goal.returns-then-not-is_fault-clause-refused
 returns-then-not-is_fault-clause-refused c r e =
     let is_not : c.is_fault.result ≡ false = grind arith in (
       c.loop-k.k + 1,
-      one_stop (outside_refusal (c.loop-k.k + 1)) r c.set_stop.result c.set_stop.ensures (same_error e),
+      one_stop (outside_refusal (c.loop-k.k + 1)) r c.set_stop.result c.set_stop.ensures (same_fault e),
       first_outside c.args.faults c.args.set.now c.loop-k.k (c.loop-k.k + 1) (omega arith) refl c.loop-k.invariant (λ of. both_ways _ is_not (c.is_fault.ensures.1 (of.counts, of.within))),
     )
 

@@ -5,48 +5,48 @@ use Rattle.xs_tree.specs.ModelTree.{model_tree}
 use Rattle.xs_encode_laws.specs.FlatTraces.{IsNumbered}
 use Rattle.xs_type_laws.specs.Models.{IsTyped}
 use Rattle.xs_words.specs.Sets.{numbers_of}
-use Rattle.xs_loading.proofs.InputLemmas.{same_error}
 use Rattle.xs_loading.proofs.LoadedLaws.{holds_case}
 use Rattle.xs_reach_status.specs.declared.stop.Stop.TheVariants as stops
 use Rattle.xs_find_orders.specs.Pairs.{IsPair, IsStaged, RefusesStage}
 use Rattle.xs_reach_status.proofs.StopLaws.{stop_refused, stop_desk}
 use Rattle.xs_find_orders.proofs.PairLaws.{pair_no_model, pair_no_faults, pair_no_stage, pair_no_top}
 use Rattle.xs_find_orders.proofs.pair.load_pair.Goals as goal
+use Rattle.xs_value.proofs.ResultLaws.{same_fault}
 
 pub returns-in_err-set-clause-refused : goal.returns-in_err-set-clause-refused
 returns-in_err-set-clause-refused g c r e asked =
     let exit = err_from_is_err_and c.from_residual.result c.from_residual.ensures.1 in
-    let refused : IsErrOf c.pair_set.result (stops.Refused r) = c.in_err-set.was ∙ ap (λ s. Err s) (sym exit.2 ∙ same_error (sym exit.1 ∙ e)) in
+    let refused : IsErrOf c.pair_set.result (stops.Refused r) = c.in_err-set.was ∙ ap (λ s. Err s) (sym exit.2 ∙ same_fault (sym exit.1 ∙ e)) in
     absurd (c.pair_set.ensures.kept r refused asked)
 
 pub returns-in_err-set-clause-failed : goal.returns-in_err-set-clause-failed
 returns-in_err-set-clause-failed g c e =
     let exit = err_from_is_err_and c.from_residual.result c.from_residual.ensures.1 in
-    let refused : IsErrOf c.pair_set.result stops.Desk = c.in_err-set.was ∙ ap (λ s. Err s) (sym exit.2 ∙ same_error (sym exit.1 ∙ e)) in
+    let refused : IsErrOf c.pair_set.result stops.Desk = c.in_err-set.was ∙ ap (λ s. Err s) (sym exit.2 ∙ same_fault (sym exit.1 ∙ e)) in
     absurd (c.pair_set.ensures.desk refused)
 
 pub returns-in_err-model-clause-refused : goal.returns-in_err-model-clause-refused
 returns-in_err-model-clause-refused g c r e asked =
     let exit = err_from_is_err_and c.from_residual-in_err-model.result c.from_residual-in_err-model.ensures.1 in
-    let is = stop_refused _ r (sym exit.2 ∙ same_error (sym exit.1 ∙ e)) in
+    let is = stop_refused _ r (sym exit.2 ∙ same_fault (sym exit.1 ∙ e)) in
     pair_no_model c.args.asked.now.model.now c.args.asked.now.faults.now c.args.asked.now.top.now (numbers_of c.args.asked.now.set.now) c.args.asked.now.first c.args.asked.now.second _ r is.refused is.told (c.load_model.ensures.refused is.refused (c.in_err-model.was ∙ ap (λ s. Err s) is.is))
 
 pub returns-in_err-model-clause-failed : goal.returns-in_err-model-clause-failed
 returns-in_err-model-clause-failed g c e =
     let exit = err_from_is_err_and c.from_residual-in_err-model.result c.from_residual-in_err-model.ensures.1 in
-    let is = stop_desk _ (sym exit.2 ∙ same_error (sym exit.1 ∙ e)) in
+    let is = stop_desk _ (sym exit.2 ∙ same_fault (sym exit.1 ∙ e)) in
     c.load_model.ensures.failed (c.in_err-model.was ∙ ap (λ s. Err s) is)
 
 pub returns-in_err-case-clause-refused : goal.returns-in_err-case-clause-refused
 returns-in_err-case-clause-refused g c r e asked =
     let exit = err_from_is_err_and c.from_residual-in_err-case.result c.from_residual-in_err-case.ensures.1 in
-    let is = stop_refused _ r (sym exit.2 ∙ same_error (sym exit.1 ∙ e)) in
+    let is = stop_refused _ r (sym exit.2 ∙ same_fault (sym exit.1 ∙ e)) in
     pair_no_faults c.args.asked.now.model.now c.args.asked.now.faults.now c.args.asked.now.top.now (numbers_of c.args.asked.now.set.now) c.args.asked.now.first c.args.asked.now.second _ _ _ r is.refused is.told c.load_model.ensures.files c.in_ok-model.ensures.ok (c.load_case.ensures.refused is.refused (c.in_err-case.was ∙ ap (λ s. Err s) is.is))
 
 pub returns-in_err-typed-clause-refused : goal.returns-in_err-typed-clause-refused
 returns-in_err-typed-clause-refused g c r e asked =
     let exit = err_from_is_err_and c.from_residual-in_err-typed.result c.from_residual-in_err-typed.ensures.1 in
-    let refused : IsErrOf c.staged.result (stops.Refused r) = c.in_err-typed.was ∙ ap (λ s. Err s) (sym exit.2 ∙ same_error (sym exit.1 ∙ e)) in
+    let refused : IsErrOf c.staged.result (stops.Refused r) = c.in_err-typed.was ∙ ap (λ s. Err s) (sym exit.2 ∙ same_fault (sym exit.1 ∙ e)) in
     let p = program_tree c.in_ok-model.model.program in
     let holds = holds_case _ _ c.args.asked.now.top.now c.args.asked.now.top.now _ _ p c.in_ok-case.case c.load_model.ensures.files c.in_ok-model.ensures.ok c.in_ok-case.ensures.ok in
     let numbers : c.in_ok-set.set.items ≡ numbers_of c.args.asked.now.set.now = c.in_ok-set.ensures.numbers asked in
@@ -56,13 +56,13 @@ returns-in_err-typed-clause-refused g c r e asked =
 pub returns-in_err-typed-clause-failed : goal.returns-in_err-typed-clause-failed
 returns-in_err-typed-clause-failed g c e =
     let exit = err_from_is_err_and c.from_residual-in_err-typed.result c.from_residual-in_err-typed.ensures.1 in
-    let refused : IsErrOf c.staged.result stops.Desk = c.in_err-typed.was ∙ ap (λ s. Err s) (sym exit.2 ∙ same_error (sym exit.1 ∙ e)) in
+    let refused : IsErrOf c.staged.result stops.Desk = c.in_err-typed.was ∙ ap (λ s. Err s) (sym exit.2 ∙ same_fault (sym exit.1 ∙ e)) in
     absurd (c.staged.ensures.desk refused)
 
 pub returns-in_err-top-clause-refused : goal.returns-in_err-top-clause-refused
 returns-in_err-top-clause-refused g c r e asked =
     let exit = err_from_is_err_and c.from_residual-in_err-top.result c.from_residual-in_err-top.ensures.1 in
-    let is = stop_refused _ r (sym exit.2 ∙ same_error (sym exit.1 ∙ e)) in
+    let is = stop_refused _ r (sym exit.2 ∙ same_fault (sym exit.1 ∙ e)) in
     let p = program_tree c.in_ok-model.model.program in
     let holds = holds_case _ _ c.args.asked.now.top.now c.args.asked.now.top.now _ _ p c.in_ok-case.case c.load_model.ensures.files c.in_ok-model.ensures.ok c.in_ok-case.ensures.ok in
     let numbers : c.in_ok-set.set.items ≡ numbers_of c.args.asked.now.set.now = c.in_ok-set.ensures.numbers asked in
@@ -74,7 +74,7 @@ returns-in_err-top-clause-refused g c r e asked =
 pub returns-in_err-top-clause-failed : goal.returns-in_err-top-clause-failed
 returns-in_err-top-clause-failed g c e =
     let exit = err_from_is_err_and c.from_residual-in_err-top.result c.from_residual-in_err-top.ensures.1 in
-    let is = stop_desk _ (sym exit.2 ∙ same_error (sym exit.1 ∙ e)) in
+    let is = stop_desk _ (sym exit.2 ∙ same_fault (sym exit.1 ∙ e)) in
     absurd (c.load_top.ensures.desk (c.in_err-top.was ∙ ap (λ s. Err s) is))
 
 pub staged-requires : goal.staged-requires

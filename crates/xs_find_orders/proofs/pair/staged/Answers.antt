@@ -2,23 +2,23 @@ use Rattle.std.proofs.Common.{Err, IsErrOf, length, subst, sym, ap, ◌∙◌}
 use Rattle.std.proofs.lemmas.Result.{IfOk-weaker, err_from_is_err_and}
 use Rattle.xs_encode_laws.specs.FlatTraces.{IsNumbered}
 use Rattle.xs_reach_laws.specs.Laws.{IsFaultNumber}
-use Rattle.xs_loading.proofs.InputLemmas.{same_error}
 use Rattle.xs_reach_status.specs.declared.stop.Stop.TheVariants as stops
 use Rattle.xs_find_orders.specs.Pairs.{IsFirstOutside, outside, unlawful}
 use Rattle.xs_find_orders.proofs.PairLaws.{number_of_fault}
 use Rattle.xs_find_orders.proofs.pair.staged.Goals as goal
+use Rattle.xs_value.proofs.ResultLaws.{same_fault}
 
 pub returns-in_err-judge_set-clause-refused : goal.returns-in_err-judge_set-clause-refused
 returns-in_err-judge_set-clause-refused c r e =
     let exit = err_from_is_err_and c.from_residual.result c.from_residual.ensures.1 in
-    let refused : IsErrOf c.judge_set.result (stops.Refused r) = c.in_err-judge_set.was ∙ ap (λ s. Err s) (sym exit.2 ∙ same_error (sym exit.1 ∙ e)) in
+    let refused : IsErrOf c.judge_set.result (stops.Refused r) = c.in_err-judge_set.was ∙ ap (λ s. Err s) (sym exit.2 ∙ same_fault (sym exit.1 ∙ e)) in
     let bad = c.judge_set.ensures.refused r refused in
     outside bad.0 bad.1 (subst (λ n. IsFirstOutside n c.args.set.now bad.0) c.len.ensures bad.2)
 
 pub returns-in_err-judge_set-clause-desk : goal.returns-in_err-judge_set-clause-desk
 returns-in_err-judge_set-clause-desk c e =
     let exit = err_from_is_err_and c.from_residual.result c.from_residual.ensures.1 in
-    let refused : IsErrOf c.judge_set.result stops.Desk = c.in_err-judge_set.was ∙ ap (λ s. Err s) (sym exit.2 ∙ same_error (sym exit.1 ∙ e)) in
+    let refused : IsErrOf c.judge_set.result stops.Desk = c.in_err-judge_set.was ∙ ap (λ s. Err s) (sym exit.2 ∙ same_fault (sym exit.1 ∙ e)) in
     c.judge_set.ensures.desk refused
 
 pub staged_model-requires-clause-first : goal.staged_model-requires-clause-first

@@ -2,15 +2,15 @@ use Rattle.std.proofs.Common.{◌∙◌, sym, ap, map}
 use Rattle.xs_tree.specs.ModelTree.{model_tree}
 use Rattle.xs_flat_laws.specs.FaultModes.{mode_of}
 use Rattle.xs_orders.specs.Stage.{stage}
-use Rattle.xs_loading.proofs.InputLemmas.{same_error}
 use Rattle.xs_loading.specs.Wholes.{BreaksKinds}
 use Rattle.xs_find_orders.proofs.PairLaws.{stage_refused, stage_no_desk, stage_wrong}
 use Rattle.xs_find_orders.proofs.pair.staged_model.Goals as goal
+use Rattle.xs_value.proofs.ResultLaws.{same_fault}
 
 pub returns-in-Err-clause-refused : goal.returns-in-Err-clause-refused
 returns-in-Err-clause-refused c r e =
-    stage_refused (BreaksKinds (stage (model_tree c.args.limited.now.typed.model) (map mode_of c.args.limited.now.faults) c.args.first c.args.second)) c.in-Err.wrong r (sym c.stage_stop.ensures ∙ same_error e)
+    stage_refused (BreaksKinds (stage (model_tree c.args.limited.now.typed.model) (map mode_of c.args.limited.now.faults) c.args.first c.args.second)) c.in-Err.wrong r (sym c.stage_stop.ensures ∙ same_fault e)
     (stage_wrong c.in_ok-model.model c.in-Err.wrong _ (c.in_ok-model.ensures ∙ ap (λ m. stage (model_tree m) (map mode_of c.args.limited.now.faults) c.args.first c.args.second) c.model.ensures.model) c.in-Err.ensures.wrong)
 
 pub returns-in-Err-clause-desk : goal.returns-in-Err-clause-desk
-returns-in-Err-clause-desk c e = stage_no_desk c.in-Err.wrong (sym c.stage_stop.ensures ∙ same_error e)
+returns-in-Err-clause-desk c e = stage_no_desk c.in-Err.wrong (sym c.stage_stop.ensures ∙ same_fault e)

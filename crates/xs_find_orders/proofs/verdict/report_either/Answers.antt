@@ -1,7 +1,7 @@
 use Rattle.std.specs.Prelude.{codes}
 use Rattle.std.specs.Fmt.{decimal}
 use Rattle.xs_tree.specs.ModelTree.{model_tree}
-use Rattle.xs_report.specs.Told.{told_trace}
+use Rattle.xs_tree.specs.Told.{told_trace}
 use Rattle.xs_find_orders.specs.Orders.{either, traces_text}
 use Rattle.xs_find_orders.proofs.VerdictLaws.{appended}
 use Rattle.xs_find_orders.proofs.verdict.report_either.Goals as goal

@@ -4,10 +4,10 @@ use Rattle.std.specs.Prelude.{slice_get, OnOk}
 use Rattle.std.proofs.lemmas.Bool.{ltb-true, ltb-false}
 use Rattle.xs_scope.specs.declared.modules.Names.{Names}
 use Rattle.xs_tree.specs.ModelTree.{instance_tree}
-use Rattle.xs_scope.proofs.RowLaws.{get_there}
 use Rattle.xs_flat.proofs.BuildLoops.{told_some, told_none}
 use Rattle.xs_flat.proofs.build.add_instance.Goals as goal
 use Rattle.std.proofs.lemmas.Option.{slice_get_past as get_past}
+use Rattle.xs_tree.proofs.ListLaws.{get_there}
 
 pub returns-in-Some : goal.returns-in-Some
 returns-in-Some c =

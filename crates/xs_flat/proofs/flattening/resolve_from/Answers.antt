@@ -8,10 +8,11 @@ use Rattle.xs_scope.specs.Faults.{IsFaultOf}
 use Rattle.xs_tree.specs.ModelTree.{model_tree, flat_tree}
 use Rattle.xs_scope.specs.SceneTree.{program_of}
 use Rattle.xs_flat_laws.specs.ResolvedAt.{IsResolvedAt}
-use Rattle.xs_flat.specs.ResolvedAt.{IsAt, IsValueFault, IsValueKept}
+use Rattle.xs_flat.specs.ResolvedAt.{IsAt, IsValueFault}
 use Rattle.xs_flat.proofs.FlatFaults.{no_rule}
 use Rattle.xs_flat.proofs.ResolvedAtLaws.{no_rule_value}
 use Rattle.xs_flat.proofs.flattening.resolve_from.Goals as goal
+use Rattle.xs_flat_laws.specs.ValueRules.{KeepsValue}
 
 pub returns-in_err-scene-clause-fault : goal.returns-in_err-scene-clause-fault
 returns-in_err-scene-clause-fault c = λ at is.
@@ -34,5 +35,5 @@ returns-clause-no_next c = λ at is.
 pub returns-clause-kept : goal.returns-clause-kept
 returns-clause-kept c = λ at is.
     let same : program_of c.in_ok-scene.scene ≡ program_tree c.args.p.now = search rules in
-    subst (λ (q : ProgramTree). (at : FlatInstance) → IsAt q (model_tree c.args.m.now) c.args.spot at → OnOk c.resolve_in.result (IsValueKept q at.place c.args.inputs (tree_of c.args.e.now))) same
+    subst (λ (q : ProgramTree). (at : FlatInstance) → IsAt q (model_tree c.args.m.now) c.args.spot at → OnOk c.resolve_in.result (KeepsValue q at.place c.args.inputs (tree_of c.args.e.now))) same
     c.resolve_in.ensures.kept at is

@@ -14,12 +14,13 @@ use Rattle.xs_scope.specs.SceneTree.{program_of}
 use Rattle.xs_flat.specs.Judging.{IsJudged}
 use Rattle.xs_flat.specs.ResolverOf.{leaf_at, told_tree, asked_tree, IsKnown}
 use Rattle.xs_flat_laws.specs.ResolvedAt.{IsResolvedAt}
-use Rattle.xs_flat.specs.ResolvedAt.{IsValueFault, IsValueKept}
+use Rattle.xs_flat.specs.ResolvedAt.{IsValueFault}
 use Rattle.xs_flat_laws.specs.Resolved.{has_next}
 use Rattle.xs_flat.proofs.FlatFaults.{err_weaker, ok_always}
 use Rattle.xs_flat.proofs.OnlyModel.{second_not}
 use Rattle.xs_flat.proofs.ResolvedAtLaws.{there, resolved_at, known_at, none_told, none_broken, want_value}
 use Rattle.xs_flat.proofs.flattening.resolve_value.Goals as goal
+use Rattle.xs_flat_laws.specs.ValueRules.{KeepsValue}
 
 pub returns-in-None-clause-resolved : goal.returns-in-None-clause-resolved
 returns-in-None-clause-resolved c = λ at is.
@@ -55,5 +56,5 @@ returns-in-None-clause-kept c = λ at is.
     let s : Scene = c.args.scene.now in let n : Needs = c.args.needs.now in
     let judged : IsJudged (program_of s) at.place (tree_of c.args.e.now) c.in_ok-judged.judged =
     c.in_ok-judged.ensures.judged at (there s n c.requires.scene c.requires.needs is.accepted (model_tree c.args.m.now) c.args.spot at is) in
-    ok_always c.resolve.result (IsValueKept (program_of s) at.place c.args.inputs (tree_of c.args.e.now))
+    ok_always c.resolve.result (KeepsValue (program_of s) at.place c.args.inputs (tree_of c.args.e.now))
     (none_broken (program_of s) at.place c.args.inputs (tree_of c.args.e.now) c.in_ok-judged.judged judged (sym c.rule_at.ensures ∙ c.in-None.is))

@@ -6,7 +6,6 @@ use Rattle.xs_tree.specs.ModelTree.{flat_tree, model_tree}
 use Rattle.xs_flat_laws.specs.ResolvedAt.{IsResolvedAt}
 use Rattle.xs_flat_laws.specs.Rules.{IsAccepted}
 use Rattle.xs_flat_laws.specs.Model.{IsFlatOf}
-use Rattle.xs_woven_laws.specs.Tops.{KeepsValue}
 use Rattle.xs_loading.specs.Wrongs.{IfRefused}
 use Rattle.xs_loading.specs.Cases.{IsWrongTop, IsWrongWord, not_kept}
 use Rattle.xs_loading.specs.Loaded.{case_of, IsTopIn, IsWrongTopText}
@@ -14,6 +13,7 @@ use Rattle.xs_loading.proofs.Told.{refused_weaker}
 use Rattle.xs_loading.proofs.TopLaws.{names_over, top_over}
 use Rattle.xs_loading.proofs.TopLemmas.{wrong_text}
 use Rattle.xs_loading.proofs.top.top_of.Goals as goal
+use Rattle.xs_flat_laws.specs.ValueRules.{KeepsValue}
 
 pub returns-in_err-written-clause-wrong : goal.returns-in_err-written-clause-wrong
 returns-in_err-written-clause-wrong c =

@@ -5,8 +5,9 @@ use Rattle.xs_tree.specs.Written.{tree_of}
 use Rattle.xs_expression_reader.specs.Marks.{s_comma}
 use Rattle.xs_expression_reader.specs.Reads.{has_next, next_expr, expr_at}
 use Rattle.xs_parse.specs.ProgramParts.{commas_at}
-use Rattle.xs_expression_reader.proofs.ReadLaws.{each_viewed, each_end, each_spent, each_deep, each_none, same_fault}
+use Rattle.xs_expression_reader.proofs.ReadLaws.{each_viewed, each_end, each_spent, each_deep, each_none}
 use Rattle.xs_parse.proofs.sections.actuals.Goals as goal
+use Rattle.xs_value.proofs.ResultLaws.{same_fault}
 
 pub returns-then-not-is_next-clause-ok : goal.returns-then-not-is_next-clause-ok
 returns-then-not-is_next-clause-ok c =

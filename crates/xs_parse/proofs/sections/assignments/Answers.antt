@@ -3,8 +3,9 @@ use Rattle.std.specs.Prelude.{Err}
 use Rattle.std.proofs.lemmas.Result.{err_from_is_err_and}
 use Rattle.xs_tree.specs.ProgramTree.{assignment_tree}
 use Rattle.xs_parse.specs.ProgramParts.{begins_assignment, assigns_at, assignment_at}
-use Rattle.xs_expression_reader.proofs.ReadLaws.{each_viewed, each_end, each_spent, each_deep, each_none, same_fault}
+use Rattle.xs_expression_reader.proofs.ReadLaws.{each_viewed, each_end, each_spent, each_deep, each_none}
 use Rattle.xs_parse.proofs.sections.assignments.Goals as goal
+use Rattle.xs_value.proofs.ResultLaws.{same_fault}
 
 pub returns-then-not-begins_assignment-clause-ok : goal.returns-then-not-begins_assignment-clause-ok
 returns-then-not-begins_assignment-clause-ok c =

@@ -4,8 +4,9 @@ use Rattle.std.proofs.lemmas.Result.{err_from_is_err_and}
 use Rattle.xs_expression_reader.specs.Marks.{s_comma}
 use Rattle.xs_expression_reader.specs.Reads.{has_next}
 use Rattle.xs_parse.specs.ProgramParts.{members_at, next_member, member_at}
-use Rattle.xs_expression_reader.proofs.ReadLaws.{each_pushed, each_end, each_spent, each_deep, each_none, same_fault}
+use Rattle.xs_expression_reader.proofs.ReadLaws.{each_pushed, each_end, each_spent, each_deep, each_none}
 use Rattle.xs_parse.proofs.sections.members.Goals as goal
+use Rattle.xs_value.proofs.ResultLaws.{same_fault}
 
 pub returns-then-not-is_next-clause-ok : goal.returns-then-not-is_next-clause-ok
 returns-then-not-is_next-clause-ok c =

@@ -5,10 +5,10 @@ use Rattle.xs_tree.specs.ProgramTree.{section_tree}
 use Rattle.xs_expression_reader.specs.MarkView.{mark_view}
 use Rattle.xs_expression_reader.specs.Reads.{rest_of, with_front}
 use Rattle.xs_parse.specs.ProgramParts.{past_skipped, section_at, is_kept, sections_at}
-use Rattle.xs_expression_reader.proofs.ReadLaws.{same_fault}
 use Rattle.xs_parse.proofs.PartLaws.{sections_skip, sections_next, sections_end, sections_deep, sections_none}
 use Rattle.xs_parse.proofs.sections.sections.Goals.{then-is_next, else-is_next+then-begins_section+in_ok-section+in_ok-push}
 use Rattle.xs_parse.proofs.sections.sections.Goals as goal
+use Rattle.xs_value.proofs.ResultLaws.{same_fault}
 
 pub returns-in_err-section-clause-deep : goal.returns-in_err-section-clause-deep
 returns-in_err-section-clause-deep c = λ e.

@@ -1,7 +1,7 @@
 use Rattle.std.proofs.Common.{◌≡◌, ◌++◌}
 use Rattle.xs_tree.specs.ModelTree.{model_tree}
 use Rattle.xs_text_laws.specs.TraceText.{trace_text}
-use Rattle.xs_report.specs.Told.{told_trace}
+use Rattle.xs_tree.specs.Told.{told_trace}
 use Rattle.xs_report.proofs.TextLaws.{moments_from}
 use Rattle.xs_report.proofs.traces.print_moments.Given as goal
 

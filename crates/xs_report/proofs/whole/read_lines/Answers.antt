@@ -5,7 +5,7 @@ use Rattle.xs_value.specs.declared.value.Value.TheVariants.{Bool as ABool}
 use Rattle.xs_text_laws.specs.Given.{BytesGive}
 use Rattle.xs_report.specs.Faults.{IsFaultOf}
 use Rattle.xs_report.specs.Reading.{IsFinished, IsUnfinished, ended}
-use Rattle.xs_report.specs.Told.{told_trace}
+use Rattle.xs_tree.specs.Told.{told_trace}
 use Rattle.xs_report.proofs.WholeLaws.{first_after, read_start, read_more, read_few, begun_fewer, read_tail, read_fault, read_gives}
 use Rattle.xs_report.proofs.whole.read_lines.Goals as goal
 

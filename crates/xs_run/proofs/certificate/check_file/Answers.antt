@@ -8,20 +8,20 @@ use Rattle.xs_text_laws.specs.AnalysisText.{size_line}
 use Rattle.xs_loading.specs.LoadedEvents.{case_in}
 use Rattle.xs_loading.specs.declared.input.Stop.TheVariants as stop
 use Rattle.xs_case_search.proofs.Analysable.{case_counts}
-use Rattle.xs_loading.proofs.InputLemmas.{same_error}
 use Rattle.xs_run.proofs.CertificateLaws.{file_refused, line_refused, file_accepted}
 use Rattle.xs_run.proofs.certificate.check_file.Goals as goal
+use Rattle.xs_value.proofs.ResultLaws.{same_fault}
 
 pub returns-in_err-certificate-clause-refused : goal.returns-in_err-certificate-clause-refused
 returns-in_err-certificate-clause-refused g c r e =
     let exit = err_from_is_err_and c.from_residual.result c.from_residual.ensures.1 in
-    let refused : IsErrOf c.load_certificate.result (stop.Refused r) = c.in_err-certificate.was ∙ ap (λ stop. Err stop) (sym exit.2 ∙ same_error (sym exit.1 ∙ e)) in
+    let refused : IsErrOf c.load_certificate.result (stop.Refused r) = c.in_err-certificate.was ∙ ap (λ stop. Err stop) (sym exit.2 ∙ same_fault (sym exit.1 ∙ e)) in
     file_refused _ (case_in c.args.loaded.now) (flat_tree c.args.loaded.now.top) _ r (c.load_certificate.ensures.refused r refused)
 
 pub returns-in_err-judge_certificate-clause-refused : goal.returns-in_err-judge_certificate-clause-refused
 returns-in_err-judge_certificate-clause-refused g c r e =
     let exit = err_from_is_err_and c.from_residual-in_err-judge_certificate.result c.from_residual-in_err-judge_certificate.ensures.1 in
-    let refused : IsErrOf c.judge_certificate.result (stop.Refused r) = c.in_err-judge_certificate.was ∙ ap (λ stop. Err stop) (sym exit.2 ∙ same_error (sym exit.1 ∙ e)) in
+    let refused : IsErrOf c.judge_certificate.result (stop.Refused r) = c.in_err-judge_certificate.was ∙ ap (λ stop. Err stop) (sym exit.2 ∙ same_fault (sym exit.1 ∙ e)) in
     line_refused _ (case_in c.args.loaded.now) (flat_tree c.args.loaded.now.top) _ (seen c.in_ok-certificate.certificate) c.in_ok-certificate.ensures.ok r (c.judge_certificate.ensures.refused r refused)
 
 pub returns-clause-ok : goal.returns-clause-ok

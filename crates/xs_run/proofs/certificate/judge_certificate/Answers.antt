@@ -2,9 +2,10 @@ use Rattle.std.proofs.Common.{rules, ◌<◌, ◌^◌, length, sym, subst, ◌�
 use Rattle.xs_cert.specs.Seen.{seen}
 use Rattle.xs_check.specs.Matter.{matter_of}
 use Rattle.xs_check.specs.Found.{IsJudged}
-use Rattle.xs_loading.proofs.InputLemmas.{same_error, same_refusal}
+use Rattle.xs_loading.proofs.InputLemmas.{same_refusal}
 use Rattle.xs_run.proofs.CertificateLaws.{event_fits, event_accepted, event_not_accepted}
 use Rattle.xs_run.proofs.certificate.judge_certificate.Goals as goal
+use Rattle.xs_value.proofs.ResultLaws.{same_fault}
 
 pub check-requires-clause-fit : goal.check-requires-clause-fit
 check-requires-clause-fit c =
@@ -21,5 +22,5 @@ returns-in-Yes-clause-ok c =
 pub returns-in-No-clause-refused : goal.returns-in-No-clause-refused
 returns-in-No-clause-refused c r e =
     let l = c.args.loaded.now in
-    event_not_accepted l c.requires.event (seen c.args.certificate.now) c.in-No.line c.in-No.rule r (same_refusal (sym c.line_stop.ensures ∙ same_error e))
+    event_not_accepted l c.requires.event (seen c.args.certificate.now) c.in-No.line c.in-No.rule r (same_refusal (sym c.line_stop.ensures ∙ same_fault e))
     (subst (λ j. IsJudged (matter_of l.case.limited.full.model l.case.limited.typed.model l.case.limited.faults l.top (seen c.args.certificate.now)) j) c.in-No.is c.in_ok-judged.ensures)

@@ -1,11 +1,11 @@
 use Rattle.std.proofs.Common.{◌≡◌, ◌++◌}
 use Rattle.xs_tree.specs.ModelTree.{model_tree}
 use Rattle.xs_flat_laws.specs.FlatTrace.{stands_in_some}
-use Rattle.xs_eval.specs.Named.{named_trace}
 use Rattle.xs_run.proofs.NamingLaws.{named_from}
 use Rattle.xs_run.proofs.replay.append_failed.Given as goal
+use Rattle.xs_tree.specs.Told.{told_trace}
 
 abbrev pub invariant-loop-i : goal.invariant-loop-i
 invariant-loop-i l =
-    l.text ++ named_from (λ f. stands_in_some (model_tree l.typed.model) f (named_trace l.typed.model.symbols l.trace)) l.woven l.faults l.i
-    ≡ l.initial.text ++ named_from (λ f. stands_in_some (model_tree l.typed.model) f (named_trace l.typed.model.symbols l.trace)) l.woven l.faults 0
+    l.text ++ named_from (λ f. stands_in_some (model_tree l.typed.model) f (told_trace l.typed.model.symbols l.trace)) l.woven l.faults l.i
+    ≡ l.initial.text ++ named_from (λ f. stands_in_some (model_tree l.typed.model) f (told_trace l.typed.model.symbols l.trace)) l.woven l.faults 0

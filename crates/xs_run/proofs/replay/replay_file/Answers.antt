@@ -3,10 +3,10 @@ use Rattle.std.proofs.lemmas.Result.{err_from_is_err_and}
 use Rattle.xs_tree.specs.ProgramTree.{program_tree}
 use Rattle.xs_tree.specs.ModelTree.{flat_tree}
 use Rattle.xs_loading.specs.declared.input.Stop.TheVariants as stop
-use Rattle.xs_loading.proofs.InputLemmas.{same_error}
 use Rattle.xs_loading.proofs.LoadedLaws.{loaded_printable, loaded_symbols, loaded_evaluable}
 use Rattle.xs_run.proofs.ReplayLemmas.{trace_refused, moment_refused, trace_reaches}
 use Rattle.xs_run.proofs.replay.replay_file.Goals as goal
+use Rattle.xs_value.proofs.ResultLaws.{same_fault}
 
 pub load_trace-requires-clause-printable : goal.load_trace-requires-clause-printable
 load_trace-requires-clause-printable g c = loaded_printable (program_tree c.args.model.now.program) c.args.case.now c.requires.loaded
@@ -26,19 +26,19 @@ replay_report-requires-clause-numbered g c = c.requires.loaded.numbered
 pub returns-in_err-trace-clause-refused : goal.returns-in_err-trace-clause-refused
 returns-in_err-trace-clause-refused g c r e =
     let exit = err_from_is_err_and c.from_residual.result c.from_residual.ensures.1 in
-    let refused : IsErrOf c.load_trace.result (stop.Refused r) = c.in_err-trace.was ∙ ap (λ stop. Err stop) (sym exit.2 ∙ same_error (sym exit.1 ∙ e)) in
+    let refused : IsErrOf c.load_trace.result (stop.Refused r) = c.in_err-trace.was ∙ ap (λ stop. Err stop) (sym exit.2 ∙ same_fault (sym exit.1 ∙ e)) in
     trace_refused _ (program_tree c.args.model.now.program) c.args.case.now (flat_tree c.args.top.now) _ r (c.load_trace.ensures.refused r refused)
 
 pub returns-in_err-judge_trace-clause-refused : goal.returns-in_err-judge_trace-clause-refused
 returns-in_err-judge_trace-clause-refused g c r e =
     let exit = err_from_is_err_and c.from_residual-in_err-judge_trace.result c.from_residual-in_err-judge_trace.ensures.1 in
-    let refused : IsErrOf c.judge_trace.result (stop.Refused r) = c.in_err-judge_trace.was ∙ ap (λ stop. Err stop) (sym exit.2 ∙ same_error (sym exit.1 ∙ e)) in
+    let refused : IsErrOf c.judge_trace.result (stop.Refused r) = c.in_err-judge_trace.was ∙ ap (λ stop. Err stop) (sym exit.2 ∙ same_fault (sym exit.1 ∙ e)) in
     moment_refused _ (program_tree c.args.model.now.program) c.args.case.now (flat_tree c.args.top.now) _ c.in_ok-trace.trace c.in_ok-trace.ensures.ok r (c.judge_trace.ensures.refused r refused)
 
 pub returns-in_err-judge_trace-clause-failed : goal.returns-in_err-judge_trace-clause-failed
 returns-in_err-judge_trace-clause-failed g c e =
     let exit = err_from_is_err_and c.from_residual-in_err-judge_trace.result c.from_residual-in_err-judge_trace.ensures.1 in
-    let refused : IsErrOf c.judge_trace.result stop.Desk = c.in_err-judge_trace.was ∙ ap (λ stop. Err stop) (sym exit.2 ∙ same_error (sym exit.1 ∙ e)) in
+    let refused : IsErrOf c.judge_trace.result stop.Desk = c.in_err-judge_trace.was ∙ ap (λ stop. Err stop) (sym exit.2 ∙ same_fault (sym exit.1 ∙ e)) in
     absurd (c.judge_trace.ensures.desk refused)
 
 pub returns-clause-ok : goal.returns-clause-ok

@@ -1,11 +1,11 @@
 use Rattle.std.proofs.Common.{arith, map, sym, ◌∙◌, subst}
 use Rattle.xs_tree.specs.ProgramTree.{Formula}
 use Rattle.xs_tree.specs.ModelTree.{flat_tree}
-use Rattle.xs_flat_laws.specs.Model.{EachBoth}
 use Rattle.xs_run.specs.Tables.{IsEventOf, IsColumn, tabulated_case, tabulated_events}
 use Rattle.xs_run.proofs.TableLemmas.{first_at, both_next, both_whole}
 use Rattle.xs_run.proofs.Columns.{columns_of_events}
 use Rattle.xs_run.proofs.tops.columns_in.Goals as goal
+use Rattle.xs_tree.specs.Trace.{EachBoth}
 
 pub column_of-requires-clause-event : goal.column_of-requires-clause-event
 column_of-requires-clause-event g c =

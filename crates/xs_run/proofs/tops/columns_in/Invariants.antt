@@ -1,9 +1,9 @@
 use Rattle.std.proofs.Common.{◌≡◌, take}
 use Rattle.xs_tree.specs.ProgramTree.{Formula}
 use Rattle.xs_tree.specs.ModelTree.{flat_tree}
-use Rattle.xs_flat_laws.specs.Model.{EachBoth}
 use Rattle.xs_run.specs.Tables.{IsEventOf, IsColumn, tabulated_case}
 use Rattle.xs_run.proofs.tops.columns_in.Given as goal
+use Rattle.xs_tree.specs.Trace.{EachBoth}
 
 abbrev pub invariant-loop-top : goal.invariant-loop-top
 invariant-loop-top g l = record {

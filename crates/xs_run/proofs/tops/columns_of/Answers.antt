@@ -2,12 +2,12 @@ use Rattle.std.proofs.Common.{◌≡◌, [], ◌∷◌, List, Bool, true, false,
 use Rattle.std.specs.Prelude.{nat_eq}
 use Rattle.xs_tree.specs.ProgramTree.{program_tree}
 use Rattle.xs_tree.specs.ModelTree.{flat_tree}
-use Rattle.xs_flat_laws.specs.Model.{EachBoth}
 use Rattle.xs_run.specs.Tables.{AreColumns, IsEventOf, tabulated_case, tabulated_events}
 use Rattle.xs_run.proofs.TableLemmas.{first_at}
 use Rattle.xs_run.proofs.TopEvents.{event_searchable}
 use Rattle.xs_run.proofs.Columns.{columns_of_events}
 use Rattle.xs_run.proofs.tops.columns_of.Goals as goal
+use Rattle.xs_tree.specs.Trace.{EachBoth}
 
 none_there : {A : Type 0} (xs : List A) → length xs ≡ 0 → xs ≡ []
 none_there [] none = refl

@@ -6,27 +6,27 @@ use Rattle.xs_tree.specs.ModelTree.{model_tree}
 use Rattle.xs_loading.specs.Cases.{HoldsTops}
 use Rattle.xs_loading.specs.Loaded.{case_of}
 use Rattle.xs_loading.specs.declared.input.Stop.TheVariants as stop
-use Rattle.xs_loading.proofs.InputLemmas.{same_error}
 use Rattle.xs_loading.proofs.LoadedLaws.{holds_case}
 use Rattle.xs_run.proofs.TableLemmas.{table_model_refused, table_faults_refused, table_tops_refused}
 use Rattle.xs_run.proofs.tops.load_table.Goals as goal
+use Rattle.xs_value.proofs.ResultLaws.{same_fault}
 
 pub returns-in_err-model-clause-refused : goal.returns-in_err-model-clause-refused
 returns-in_err-model-clause-refused g c r e =
     let exit = err_from_is_err_and c.from_residual.result c.from_residual.ensures.1 in
-    let refused : IsErrOf c.load_model.result (stop.Refused r) = c.in_err-model.was ∙ ap (λ stop. Err stop) (sym exit.2 ∙ same_error (sym exit.1 ∙ e)) in
+    let refused : IsErrOf c.load_model.result (stop.Refused r) = c.in_err-model.was ∙ ap (λ stop. Err stop) (sym exit.2 ∙ same_fault (sym exit.1 ∙ e)) in
     table_model_refused _ _ _ _ r (c.load_model.ensures.refused r refused)
 
 pub returns-in_err-case-clause-refused : goal.returns-in_err-case-clause-refused
 returns-in_err-case-clause-refused g c r e =
     let exit = err_from_is_err_and c.from_residual-in_err-case.result c.from_residual-in_err-case.ensures.1 in
-    let refused : IsErrOf c.load_case.result (stop.Refused r) = c.in_err-case.was ∙ ap (λ stop. Err stop) (sym exit.2 ∙ same_error (sym exit.1 ∙ e)) in
+    let refused : IsErrOf c.load_case.result (stop.Refused r) = c.in_err-case.was ∙ ap (λ stop. Err stop) (sym exit.2 ∙ same_fault (sym exit.1 ∙ e)) in
     table_faults_refused _ _ _ _ _ _ r c.load_model.ensures.files c.in_ok-model.ensures.ok (c.load_case.ensures.refused r refused)
 
 pub returns-in_err-tops-clause-refused : goal.returns-in_err-tops-clause-refused
 returns-in_err-tops-clause-refused g c r e =
     let exit = err_from_is_err_and c.from_residual-in_err-tops.result c.from_residual-in_err-tops.ensures.1 in
-    let refused : IsErrOf c.load_tops.result (stop.Refused r) = c.in_err-tops.was ∙ ap (λ stop. Err stop) (sym exit.2 ∙ same_error (sym exit.1 ∙ e)) in
+    let refused : IsErrOf c.load_tops.result (stop.Refused r) = c.in_err-tops.was ∙ ap (λ stop. Err stop) (sym exit.2 ∙ same_fault (sym exit.1 ∙ e)) in
     let p = program_tree c.in_ok-model.model.program in
     let holds = holds_case _ _ c.args.tops.now c.args.tops.now _ _ p c.in_ok-case.case c.load_model.ensures.files c.in_ok-model.ensures.ok c.in_ok-case.ensures.ok in
     table_tops_refused _ _ _ _ _ (case_of p c.in_ok-case.case) r (c.load_case.ensures.files ∙ c.load_model.ensures.files) holds (c.load_tops.ensures.refused r refused)

@@ -4,9 +4,9 @@ use Rattle.xs_tree.specs.Written.{tree_of}
 use Rattle.xs_tree.specs.ModelTree.{model_tree, flat_tree}
 use Rattle.xs_flat_laws.specs.Model.{IsFlatOf}
 use Rattle.xs_flat_laws.specs.ResolvedAt.{IsResolvedAt}
-use Rattle.xs_woven_laws.specs.Tops.{KeepsValue}
 use Rattle.xs_run.proofs.TableLemmas.{each_at, both_next, both_whole}
 use Rattle.xs_run.proofs.tops.over_case.Goals as goal
+use Rattle.xs_flat_laws.specs.ValueRules.{KeepsValue}
 
 pub over_extension-requires-clause-flat : goal.over_extension-requires-clause-flat
 over_extension-requires-clause-flat c =

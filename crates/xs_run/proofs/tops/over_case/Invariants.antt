@@ -2,9 +2,9 @@ use Rattle.std.proofs.Common.{[], take}
 use Rattle.xs_tree.specs.ProgramTree.{program_tree}
 use Rattle.xs_tree.specs.Written.{tree_of}
 use Rattle.xs_tree.specs.ModelTree.{model_tree, flat_tree}
-use Rattle.xs_flat_laws.specs.Model.{EachBoth}
 use Rattle.xs_flat_laws.specs.ResolvedAt.{IsResolvedAt}
 use Rattle.xs_run.proofs.tops.over_case.Given as goal
+use Rattle.xs_tree.specs.Trace.{EachBoth}
 
 abbrev pub invariant-loop-top : goal.invariant-loop-top
 invariant-loop-top l = EachBoth (λ e tree. IsResolvedAt (program_tree l.case.limited.woven.program) (model_tree l.case.limited.typed.model) [] (tree_of e) (flat_tree tree)) (take l.top-index l.tops) l.over

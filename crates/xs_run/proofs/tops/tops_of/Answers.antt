@@ -2,13 +2,12 @@ use Rattle.std.proofs.Common.{[], ◌≤◌, length, false, map, sym, subst}
 use Rattle.std.proofs.lemmas.Result.{err_from_is_err_and}
 use Rattle.std.proofs.lemmas.List.{length-map}
 use Rattle.xs_tree.specs.ProgramTree.{program_tree}
-use Rattle.xs_tree.specs.Trace.{Each}
+use Rattle.xs_tree.specs.Trace.{Each, EachBoth}
 use Rattle.xs_tree.specs.Written.{tree_of}
 use Rattle.xs_tree.specs.ModelTree.{flat_tree, model_tree}
-use Rattle.xs_flat_laws.specs.Model.{IsFlatOf, EachBoth}
+use Rattle.xs_flat_laws.specs.Model.{IsFlatOf}
 use Rattle.xs_flat_laws.specs.ResolvedAt.{IsResolvedAt}
 use Rattle.xs_flat_laws.specs.Rules.{IsAccepted}
-use Rattle.xs_woven_laws.specs.Tops.{KeepsValue}
 use Rattle.xs_loading.specs.Wrongs.{IfRefused}
 use Rattle.xs_loading.specs.Cases.{IsTop}
 use Rattle.xs_loading.specs.Loaded.{case_of}
@@ -19,6 +18,7 @@ use Rattle.xs_run.proofs.TableLemmas.{are_events}
 use Rattle.xs_run.proofs.tops.tops_of.Goals as goal
 use Rattle.xs_encode_laws.proofs.SetLaws.{each_kept}
 use Rattle.xs_flat_laws.proofs.Lists.{each_of_map}
+use Rattle.xs_flat_laws.specs.ValueRules.{KeepsValue}
 
 pub returns-in_err-written-clause-wrong : goal.returns-in_err-written-clause-wrong
 returns-in_err-written-clause-wrong c =

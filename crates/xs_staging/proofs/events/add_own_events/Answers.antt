@@ -1,8 +1,8 @@
 use Rattle.std.proofs.Common.{◌≡◌, ◌+◌, ◌++◌, ◌∷◌, [], length, map, drop, ap, ◌∙◌}
-use Rattle.xs_tree.specs.ModelTree.{model_tree}
+use Rattle.xs_tree.specs.ModelTree.{model_tree, name_of_fault}
 use Rattle.xs_flat_laws.specs.FaultModes.{mode_of}
 use Rattle.xs_cause_laws.specs.Staged.{with_own, with_owns, own_events}
-use Rattle.xs_staging.specs.CauseOf.{cause_of, told_name}
+use Rattle.xs_staging.specs.CauseOf.{cause_of}
 use Rattle.xs_staging.proofs.Counts.{owns_next, own_events_next, told_next, first_of}
 use Rattle.xs_staging.proofs.events.add_own_events.Goals as goal
 use Rattle.std.proofs.lemmas.List.{map-append}
@@ -24,9 +24,9 @@ loop-i-preserved c =
           (model_tree c.add_own_event.new.made) (map mode_of c.loop-i.events)
           (map mode_of c.args.events.now ++ own_events (length (model_tree c.args.made.now).variables) (length (model_tree c.args.made.now).symbols) (map mode_of c.args.faults.now)) step
           c.loop-i.invariant.events;
-      names = ap (λ z. z ++ map told_name (drop (c.loop-i.i + 1) c.args.faults.now))
-          (ap (map told_name) c.in_ok-push.ensures.ok ∙ map-append told_name c.loop-i.events (c.in_ok-event.event ∷ [])
-          ∙ ap (λ f. map told_name c.loop-i.events ++ f ∷ []) (c.in_ok-event.ensures.name ∙ ap told_name c.index-faults-i.is))
-          ∙ told_next told_name c.args.faults.now c.loop-i.i c.index-faults-i.result c.loop-i-test.true (map told_name c.loop-i.events)
-          (map told_name c.args.events.now ++ map told_name c.args.faults.now) c.loop-i.invariant.names;
+      names = ap (λ z. z ++ map name_of_fault (drop (c.loop-i.i + 1) c.args.faults.now))
+          (ap (map name_of_fault) c.in_ok-push.ensures.ok ∙ map-append name_of_fault c.loop-i.events (c.in_ok-event.event ∷ [])
+          ∙ ap (λ f. map name_of_fault c.loop-i.events ++ f ∷ []) (c.in_ok-event.ensures.name ∙ ap name_of_fault c.index-faults-i.is))
+          ∙ told_next name_of_fault c.args.faults.now c.loop-i.i c.index-faults-i.result c.loop-i-test.true (map name_of_fault c.loop-i.events)
+          (map name_of_fault c.args.events.now ++ map name_of_fault c.args.faults.now) c.loop-i.invariant.names;
     }

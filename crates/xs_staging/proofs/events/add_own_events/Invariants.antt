@@ -1,8 +1,8 @@
 use Rattle.std.proofs.Common.{◌≡◌, ◌+◌, ◌++◌, length, map, drop}
-use Rattle.xs_tree.specs.ModelTree.{model_tree}
+use Rattle.xs_tree.specs.ModelTree.{model_tree, name_of_fault}
 use Rattle.xs_flat_laws.specs.FaultModes.{mode_of}
 use Rattle.xs_cause_laws.specs.Staged.{with_owns, own_events}
-use Rattle.xs_staging.specs.CauseOf.{cause_of, told_name}
+use Rattle.xs_staging.specs.CauseOf.{cause_of}
 use Rattle.xs_staging.proofs.events.add_own_events.Given as goal
 
 abbrev pub invariant-loop-i : goal.invariant-loop-i
@@ -11,5 +11,5 @@ invariant-loop-i l = record {
       ≡ with_owns (map mode_of l.faults) (map cause_of l.causes) l.ages 1 (map mode_of l.faults) (model_tree l.fn.made);
   events : map mode_of l.events ++ own_events (length (model_tree l.made).variables) (length (model_tree l.made).symbols) (map mode_of (drop l.i l.faults))
       ≡ map mode_of l.fn.events ++ own_events (length (model_tree l.fn.made).variables) (length (model_tree l.fn.made).symbols) (map mode_of l.faults);
-  names : map told_name l.events ++ map told_name (drop l.i l.faults) ≡ map told_name l.fn.events ++ map told_name l.faults;
+  names : map name_of_fault l.events ++ map name_of_fault (drop l.i l.faults) ≡ map name_of_fault l.fn.events ++ map name_of_fault l.faults;
 }

@@ -1,10 +1,10 @@
 use Rattle.std.proofs.Common.{◌≡◌, ◌+◌, ◌<◌, ◌++◌, ◌∷◌, [], length, map, drop, sym, ap, ◌∙◌, subst, arith, get_or}
 use Rattle.std.proofs.lemmas.List.{length-map}
-use Rattle.xs_tree.specs.ModelTree.{model_tree, variable_tree}
+use Rattle.xs_tree.specs.ModelTree.{model_tree, variable_tree, name_of_fault}
 use Rattle.xs_flat_laws.specs.FaultModes.{mode_of}
 use Rattle.xs_cause_laws.specs.Causes.{IsCauseOf}
 use Rattle.xs_cause_laws.specs.Staged.{with_cause, with_each_cause, age_numbers, cause_events}
-use Rattle.xs_staging.specs.CauseOf.{cause_of, told_name, told_cause}
+use Rattle.xs_staging.specs.CauseOf.{cause_of, told_cause}
 use Rattle.xs_staging.proofs.Counts.{each_map_get, causes_next, ages_next, events_next, told_next}
 use Rattle.xs_staging.proofs.staging.add_causes.Goals as goal
 use Rattle.std.proofs.lemmas.List.{map-append}
@@ -37,8 +37,8 @@ loop-cause-preserved c =
           (map mode_of c.args.events.now ++ cause_events (length (model_tree c.args.made.now).variables) (length (model_tree c.args.made.now).symbols) (map cause_of c.args.causes.now)) step
           c.loop-cause.invariant.events;
       names = ap (λ z. z ++ map told_cause (drop (c.loop-cause.cause-index + 1) c.args.causes.now))
-          (ap (map told_name) c.in_ok-push-2.ensures.ok ∙ map-append told_name c.loop-cause.events (c.in_ok-add_cause.field-0 ∷ [])
-          ∙ ap (λ f. map told_name c.loop-cause.events ++ f ∷ []) (c.in_ok-add_cause.ensures.name ∙ ap told_cause c.cause-item.is))
-          ∙ told_next told_cause c.args.causes.now c.loop-cause.cause-index c.cause-item.result below (map told_name c.loop-cause.events)
-          (map told_name c.args.events.now ++ map told_cause c.args.causes.now) c.loop-cause.invariant.names;
+          (ap (map name_of_fault) c.in_ok-push-2.ensures.ok ∙ map-append name_of_fault c.loop-cause.events (c.in_ok-add_cause.field-0 ∷ [])
+          ∙ ap (λ f. map name_of_fault c.loop-cause.events ++ f ∷ []) (c.in_ok-add_cause.ensures.name ∙ ap told_cause c.cause-item.is))
+          ∙ told_next told_cause c.args.causes.now c.loop-cause.cause-index c.cause-item.result below (map name_of_fault c.loop-cause.events)
+          (map name_of_fault c.args.events.now ++ map told_cause c.args.causes.now) c.loop-cause.invariant.names;
     }

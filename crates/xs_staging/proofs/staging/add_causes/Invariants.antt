@@ -1,8 +1,8 @@
 use Rattle.std.proofs.Common.{◌≡◌, ◌++◌, length, map, drop}
-use Rattle.xs_tree.specs.ModelTree.{model_tree}
+use Rattle.xs_tree.specs.ModelTree.{model_tree, name_of_fault}
 use Rattle.xs_flat_laws.specs.FaultModes.{mode_of}
 use Rattle.xs_cause_laws.specs.Staged.{with_each_cause, age_numbers, cause_events}
-use Rattle.xs_staging.specs.CauseOf.{cause_of, told_name, told_cause}
+use Rattle.xs_staging.specs.CauseOf.{cause_of, told_cause}
 use Rattle.xs_staging.proofs.staging.add_causes.Given as goal
 
 abbrev pub invariant-loop-cause : goal.invariant-loop-cause
@@ -11,5 +11,5 @@ invariant-loop-cause l = record {
   ages : l.ages.items ++ age_numbers (length (model_tree l.made).variables) (map cause_of (drop l.cause-index l.causes)) ≡ l.fn.ages.items ++ age_numbers (length (model_tree l.fn.made).variables) (map cause_of l.causes);
   events : map mode_of l.events ++ cause_events (length (model_tree l.made).variables) (length (model_tree l.made).symbols) (map cause_of (drop l.cause-index l.causes))
       ≡ map mode_of l.fn.events ++ cause_events (length (model_tree l.fn.made).variables) (length (model_tree l.fn.made).symbols) (map cause_of l.causes);
-  names : map told_name l.events ++ map told_cause (drop l.cause-index l.causes) ≡ map told_name l.fn.events ++ map told_cause l.causes;
+  names : map name_of_fault l.events ++ map told_cause (drop l.cause-index l.causes) ≡ map name_of_fault l.fn.events ++ map told_cause l.causes;
 }

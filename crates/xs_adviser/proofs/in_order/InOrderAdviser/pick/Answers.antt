@@ -1,8 +1,8 @@
 use Rattle.std.proofs.Common.{rules, ◌<◌, ⊎_elim, ◌≡◌, ◌+◌, ◌*◌, sym, ◌∙◌, arith, length, ap}
 use Rattle.std.proofs.lemmas.List.FromFn.{get_or-map-range_with_len, length-map-range_with_len}
-use Rattle.xs_adviser.specs.Count.{risen}
 use Rattle.xs_adviser.specs.Round.{Round, answer_of, negations, place_after}
 use Rattle.xs_adviser.proofs.in_order.InOrderAdviser.pick.Goals as goal
+use Rattle.xs_value.specs.Counts.{next_count}
 
 pub returns-clause-answer : goal.returns-clause-answer
 returns-clause-answer c =
@@ -16,8 +16,8 @@ returns-clause-next c =
     let len : length (negations c.self.inside.vars) ≡ c.self.inside.vars = length-map-range_with_len (λ v. 2 * v + 1) 1 c.self.inside.vars in
     let at : place_after c.self.inside.place (length (negations c.self.inside.vars)) ≡ c.place_after-self-inside.result =
     ap (place_after c.self.inside.place) len ∙ sym c.place_after-self-inside.ensures.value in
-    let count : risen c.self.inside.asked ≡ c.saturating_add-self-inside.result = search rules in
-    let moved : record { answers = negations c.self.inside.vars; place = place_after c.self.inside.place (length (negations c.self.inside.vars)); told = c.self.inside.told; asked = risen c.self.inside.asked }
+    let count : next_count c.self.inside.asked ≡ c.saturating_add-self-inside.result = search rules in
+    let moved : record { answers = negations c.self.inside.vars; place = place_after c.self.inside.place (length (negations c.self.inside.vars)); told = c.self.inside.told; asked = next_count c.self.inside.asked }
     ≡ record { answers = negations c.self.inside.vars; place = c.place_after-self-inside.result; told = c.self.inside.told; asked = c.saturating_add-self-inside.result } =
     (λ k. record { answers = negations c.self.inside.vars; place = at k; told = c.self.inside.told; asked = count k }) in
-    sym moved ∙ ap (λ (r : Round). record r { place = place_after r.place (length r.answers); asked = risen r.asked }) c.self.view_is
+    sym moved ∙ ap (λ (r : Round). record r { place = place_after r.place (length r.answers); asked = next_count r.asked }) c.self.view_is

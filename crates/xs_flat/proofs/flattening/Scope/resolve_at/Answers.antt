@@ -5,8 +5,9 @@ use Rattle.xs_tree.specs.Written.{tree_of}
 use Rattle.xs_tree.specs.Flat.{FlatInstance}
 use Rattle.xs_tree.specs.ModelTree.{model_tree, flat_tree}
 use Rattle.xs_flat_laws.specs.ResolvedAt.{IsResolvedAt}
-use Rattle.xs_flat.specs.ResolvedAt.{IsAt, IsValueFault, IsValueKept}
+use Rattle.xs_flat.specs.ResolvedAt.{IsAt, IsValueFault}
 use Rattle.xs_flat.proofs.flattening.Scope.resolve_at.Goals as goal
+use Rattle.xs_flat_laws.specs.ValueRules.{KeepsValue}
 
 pub returns-clause-resolved : goal.returns-clause-resolved
 returns-clause-resolved c = λ p is at a.
@@ -20,5 +21,5 @@ returns-clause-fault c = λ p is at a.
 
 pub returns-clause-kept : goal.returns-clause-kept
 returns-clause-kept c = λ p is at a.
-    subst (λ (q : ProgramTree). (at : FlatInstance) → IsAt q (model_tree c.args.m.now) c.args.«instance» at → OnOk c.resolve_value.result (IsValueKept q at.place c.args.inputs (tree_of c.args.e.now))) is.program
+    subst (λ (q : ProgramTree). (at : FlatInstance) → IsAt q (model_tree c.args.m.now) c.args.«instance» at → OnOk c.resolve_value.result (KeepsValue q at.place c.args.inputs (tree_of c.args.e.now))) is.program
     c.resolve_value.ensures.kept at a

@@ -3,10 +3,10 @@ use Rattle.std.proofs.Common.{◌≡◌, ◌<◌, ◌≤◌, arith, Some, None, 
 use Rattle.xs_tree.specs.ProgramTree.{Path}
 use Rattle.xs_tree.specs.Written.{tree_of}
 use Rattle.xs_tree.specs.Scope.{plain_name}
-use Rattle.xs_scope.proofs.RowLaws.{get_there}
 use Rattle.xs_scope.proofs.Frames.{frame_made}
 use Rattle.xs_scope.proofs.Actuals.{spot_within, own_within, own_plain}
 use Rattle.xs_scope.proofs.names.Scene.frame_of.Goals as goal
+use Rattle.xs_tree.proofs.ListLaws.{get_there}
 
 pub index-own-requires : goal.index-own-requires
 index-own-requires c =

@@ -1,8 +1,9 @@
 -- One formal is told.
 use Rattle.std.proofs.Common.{◌≡◌, ◌<◌, ◌≤◌, length, get_or, refl, rules}
 use Rattle.std.specs.Vec.{with_item}
-use Rattle.xs_scope.proofs.RowLaws.{written, written_past, get_there}
+use Rattle.xs_scope.proofs.RowLaws.{written, written_past}
 use Rattle.xs_scope.proofs.names.Scene.set_formal.Goals as goal
+use Rattle.xs_tree.proofs.ListLaws.{get_there}
 
 pub returns-in-Some-get_mut-clause-formals : goal.returns-in-Some-get_mut-clause-formals
 returns-in-Some-get_mut-clause-formals c =

@@ -6,7 +6,7 @@ use Rattle.xs_scope.specs.Known.{rows}
 use Rattle.xs_scope.specs.Waiting.{has_frame, IsCircled}
 use Rattle.xs_scope.proofs.Turns.{circle_closed, circle_turned}
 use Rattle.xs_scope.proofs.names.Scene.wait_for.Goals as goal
-use Rattle.xs_scope.proofs.ClosedLaws.{right_true}
+use Rattle.xs_tree.proofs.BoolLaws.{right_true}
 
 pub returns-then-comes_back-clause-waiting : goal.returns-then-comes_back-clause-waiting
 returns-then-comes_back-clause-waiting c =

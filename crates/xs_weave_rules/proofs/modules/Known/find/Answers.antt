@@ -1,9 +1,9 @@
 use Rattle.std.proofs.Common.{◌∙◌, ap}
 use Rattle.std.specs.Prelude.{option_map}
-use Rattle.xs_weave_rules.specs.Keyed.{first_with}
 use Rattle.xs_weave_rules.specs.Locals.{locals_in, scopes_in}
 use Rattle.xs_weave_rules.proofs.KeyedLaws.{found_first}
 use Rattle.xs_weave_rules.proofs.modules.Known.find.Goals as goal
+use Rattle.xs_tree.specs.Texts.{first_with}
 
 pub returns : goal.returns
 returns c =

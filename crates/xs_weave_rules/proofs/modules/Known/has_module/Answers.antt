@@ -1,14 +1,14 @@
 use Rattle.std.proofs.Common.{◌∙◌, sym, ap, is_some}
 use Rattle.xs_tree.specs.ProgramTree.{program_tree}
-use Rattle.xs_weave_rules.specs.Keyed.{first_with}
-use Rattle.xs_weave_rules.specs.Rules.{opposite_of}
 use Rattle.xs_weave_rules.specs.Locals.{locals_in, scopes_in}
 use Rattle.xs_weave_rules.proofs.KeyedLaws.{has_key}
 use Rattle.xs_weave_rules.proofs.LocalLaws.{missing_is}
 use Rattle.xs_weave_rules.proofs.modules.Known.has_module.Goals as goal
+use Rattle.xs_tree.specs.Texts.{first_with}
+use Rattle.xs_tree.specs.Values.{opposite}
 
 pub returns : goal.returns
 returns c =
-    missing_is (program_tree c.args.self.now.program.now) c.args.name.now ∙ ap (λ s. opposite_of (is_some (first_with s c.args.name.now))) (sym c.requires.scopes)
-    ∙ ap (λ x. opposite_of (is_some (first_with (scopes_in c.args.self.now) x))) (sym c.text.ensures)
-    ∙ ap opposite_of (sym (has_key (λ k. k.now) locals_in c.args.self.now.scopes.entries c.text.result.now)) ∙ ap opposite_of (sym c.contains_key.ensures)
+    missing_is (program_tree c.args.self.now.program.now) c.args.name.now ∙ ap (λ s. opposite (is_some (first_with s c.args.name.now))) (sym c.requires.scopes)
+    ∙ ap (λ x. opposite (is_some (first_with (scopes_in c.args.self.now) x))) (sym c.text.ensures)
+    ∙ ap opposite (sym (has_key (λ k. k.now) locals_in c.args.self.now.scopes.entries c.text.result.now)) ∙ ap opposite (sym c.contains_key.ensures)

@@ -2,10 +2,10 @@ use Rattle.std.proofs.Common.{◌∙◌, sym, ap}
 use Rattle.std.specs.Prelude.{option_map}
 use Rattle.std.specs.Option.{option_copied}
 use Rattle.xs_tree.specs.ProgramTree.{program_tree}
-use Rattle.xs_weave_rules.specs.Keyed.{first_with}
 use Rattle.xs_weave_rules.specs.Locals.{locals_in, local_in}
 use Rattle.xs_weave_rules.proofs.LocalLaws.{local_there}
 use Rattle.xs_weave_rules.proofs.modules.Known.local.Goals as goal
+use Rattle.xs_tree.specs.Texts.{first_with}
 
 pub returns-in-Some : goal.returns-in-Some
 returns-in-Some c =

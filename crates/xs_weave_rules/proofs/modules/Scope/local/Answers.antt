@@ -1,10 +1,10 @@
 use Rattle.std.proofs.Common.{◌∙◌, ap, sym}
 use Rattle.std.specs.Prelude.{option_map}
 use Rattle.std.specs.Option.{option_copied}
-use Rattle.xs_weave_rules.specs.Keyed.{first_with}
 use Rattle.xs_weave_rules.specs.Locals.{local_tree, locals_in}
 use Rattle.xs_weave_rules.proofs.KeyedLaws.{found_first}
 use Rattle.xs_weave_rules.proofs.modules.Scope.local.Goals as goal
+use Rattle.xs_tree.specs.Texts.{first_with}
 
 pub returns-in-Some : goal.returns-in-Some
 returns-in-Some c =

@@ -1,20 +1,16 @@
 -- Values by number as definitions see them: a symbol by its name.
-use Rattle.std.specs.Prelude.{Option, Some, None, List, [], map, slice_get}
+use Rattle.std.specs.Prelude.{List, map, slice_get}
 use Rattle.xs_tree.specs.ProgramTree.{Text}
 use Rattle.xs_tree.specs.Values.{Value, truth, number, symbol}
 use Rattle.xs_value.specs.declared.value.Value.{Value as Numbered}
 use Rattle.xs_value.specs.declared.value.Value.TheVariants.{Bool as ABool, Num, Sym}
-
--- the text of a symbol; the empty one where there is none
-abbrev pub text_at : Option Text → Text
-text_at None = []
-text_at (Some x) = x
+use Rattle.xs_tree.specs.Texts.{text_or_none}
 
 -- a value; a number beyond the last symbol names none
 abbrev pub told_value : List Text → Numbered → Value
 told_value symbols (ABool b) = truth b
 told_value symbols (Num n) = number n
-told_value symbols (Sym i) = symbol (text_at (slice_get symbols i))
+told_value symbols (Sym i) = symbol (text_or_none (slice_get symbols i))
 
 -- the values of a moment
 abbrev pub told_moment : List Text → List Numbered → List Value
