@@ -13,6 +13,7 @@ ghost use Rattle.xs_check.specs.Asked.{asked};
 ghost use Rattle.xs_check.specs.Fit.{IsFit, IsShortText};
 ghost use Rattle.xs_check.specs.Found.{FindsAt};
 ghost use Rattle.xs_check.specs.Moments.{CanBeReplayed, FindsMoments, FailsExactly, IsTextFault, are_those_of};
+ghost use Rattle.xs_tree.specs.Told.{told_trace};
 
 use crate::question::Question;
 use crate::sets::are_faults;
@@ -22,7 +23,6 @@ use xs_eval::{Replayed, Table, has_failed, replay};
 use xs_report::{TraceFault, read_trace};
 use xs_sets::has_number;
 use xs_value::{ByteList, MomentList, OutOfMemory};
-ghost use Rattle.xs_tree.specs.Told.{told_trace};
 
 /// The rule that is broken first at the text of a trace for a set.
 pub(crate) fn trace_rule(

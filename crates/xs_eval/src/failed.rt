@@ -8,11 +8,11 @@ ghost use Rattle.xs_tree.specs.ModelTree.{model_tree};
 ghost use Rattle.xs_flat_laws.specs.FaultModes.{mode_of};
 ghost use Rattle.xs_eval.specs.Failed.{has_symbol, HasVariable};
 ghost use Rattle.xs_eval.specs.Named.{IsEvaluable, IsLawful};
+ghost use Rattle.xs_tree.specs.Told.{told_trace};
 
 use xs_tree::model::Fault;
 use xs_types::Typed;
 use xs_value::{MomentList, Valuation, Value};
-ghost use Rattle.xs_tree.specs.Told.{told_trace};
 
 /// Whether the mode of a fault stands at some moment. Takes no memory.
 pub fn has_failed(t: &Typed, fault: &Fault, trace: &MomentList) -> bool

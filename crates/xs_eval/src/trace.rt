@@ -10,6 +10,7 @@ ghost use Rattle.xs_type_laws.specs.Models.{judged_in, broken_condition};
 ghost use Rattle.xs_eval.specs.Filled.{filled, step_holds, HasRoom, HasValues};
 ghost use Rattle.xs_eval.specs.Named.{IsEvaluable, IsLawful};
 ghost use Rattle.xs_eval.specs.Replayed.{ended, replayed_from, replayed, IsReplayed};
+ghost use Rattle.xs_tree.specs.Told.{told_trace};
 
 use crate::conditions::{first_holds, step_holds};
 use crate::operate::is_true;
@@ -20,7 +21,6 @@ use xs_tree::Expr;
 use xs_tree::model::{Flat, FlatModel};
 use xs_types::Typed;
 use xs_value::{MomentList, Valuation};
-ghost use Rattle.xs_tree.specs.Told.{told_trace};
 
 /// What becomes of a list of moments: it is a trace that reaches the top event; it is one, and the event is
 /// FALSE at its last moment; its first moment breaks a condition; or the moment of this number, from 0, is

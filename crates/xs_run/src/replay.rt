@@ -22,6 +22,7 @@ ghost use Rattle.xs_loading.specs.declared.status.Refusal.TheVariants as refusal
 ghost use Rattle.xs_loading.specs.declared.status.Objection.TheVariants as objection;
 ghost use Rattle.xs_loading.specs.declared.input.Stop.TheVariants as stop;
 ghost use Rattle.xs_check.specs.Moments.{CanBeReplayed};
+ghost use Rattle.xs_tree.specs.Told.{told_trace};
 
 use crate::trace::load_trace;
 use std::alloc::Global;
@@ -37,7 +38,6 @@ use xs_tree::Expr;
 use xs_tree::model::{Fault, Flat};
 use xs_types::Typed;
 use xs_value::{ByteList, MomentList, OutOfMemory};
-ghost use Rattle.xs_tree.specs.Told.{told_trace};
 
 /// Judges the trace of a file over the extension, and makes what is to be said of it.
 pub(crate) fn replay_file<D: Desk>(
