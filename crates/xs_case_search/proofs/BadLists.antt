@@ -13,9 +13,9 @@ use Rattle.xs_tree.specs.Flat.{FlatLeaf, FlatModel}
 use Rattle.xs_flat_laws.specs.History.{Mode, with_history}
 use Rattle.xs_lits.specs.Literal.{Literal}
 use Rattle.xs_frames.specs.Condition.{IsOverNow}
+use Rattle.xs_cut_laws.specs.Problem.{problem_of}
 use Rattle.xs_cut_laws.specs.Searched.{IsBadFor}
 use Rattle.xs_encode_laws.specs.FlatTraces.{history_of}
-use Rattle.xs_encode_laws.specs.Bits.{state_of, inputs_of}
 use Rattle.xs_encode_laws.specs.Lists.{system_of, bad_list}
 use Rattle.xs_encode.specs.History.{last_numbers}
 use Rattle.xs_cut_laws.specs.Searchable.{IsSearchable}
@@ -57,17 +57,17 @@ module _ (m : FlatModel) (fs : List Mode) (top : Tree FlatLeaf) (is : IsSearchab
   pub over_now : All (All (IsOverNow (system_of (with_history m fs)))) bad
   over_now = subst (All (All (IsOverNow (system_of (with_history m fs))))) (sym same) ((lists_fit m fs top is).1 sets most small)
 
-  for_most : IsBadFor m fs top (system_of (with_history m fs)) (state_of (with_history m fs)) (inputs_of (with_history m fs)) most sets bad
+  for_most : IsBadFor (problem_of m fs top) most sets bad
   for_most =
-      subst (IsBadFor m fs top (system_of (with_history m fs)) (state_of (with_history m fs)) (inputs_of (with_history m fs)) most sets) (sym same)
+      subst (IsBadFor (problem_of m fs top) most sets) (sym same)
       ((lists_serve m fs top is.own is.encodable).1 is.fits sets most)
 
-  pub bad_for : IsBadFor m fs top (system_of (with_history m fs)) (state_of (with_history m fs)) (inputs_of (with_history m fs)) size sets bad
+  pub bad_for : IsBadFor (problem_of m fs top) size sets bad
   bad_for =
       ⊎_elim
       (λ less. let here : most ≡ size = least ∙ min-eq_left (omega (arith, less)) in
-      subst (λ n. IsBadFor m fs top (system_of (with_history m fs)) (state_of (with_history m fs)) (inputs_of (with_history m fs)) n sets bad) here for_most)
+      subst (λ n. IsBadFor (problem_of m fs top) n sets bad) here for_most)
       (λ more. let here : most ≡ length fs = least ∙ min-eq_right (omega (arith, more)) ∙ all in
-      larger_serve m fs top (system_of (with_history m fs)) (state_of (with_history m fs)) (inputs_of (with_history m fs)) size (omega (arith, more, all)) sets bad
-      (subst (λ n. IsBadFor m fs top (system_of (with_history m fs)) (state_of (with_history m fs)) (inputs_of (with_history m fs)) n sets bad) here for_most))
+      larger_serve (problem_of m fs top) size (omega (arith, more, all)) sets bad
+      (subst (λ n. IsBadFor (problem_of m fs top) n sets bad) here for_most))
       (cases_lt size count)

@@ -24,12 +24,13 @@ use Rattle.xs_right_laws.specs.Laws.{AreBoth}
 use Rattle.xs_right_laws.proofs.Places.{get_within, place_within}
 use Rattle.xs_encode_laws.specs.Encoded.{IsBadListOf, IsBadMoment}
 use Rattle.xs_encode_laws.specs.FlatTraces.{ReachesTop, HasFailedNumber, IsNumbered, IsRightFlat, history_of}
-use Rattle.xs_encode_laws.specs.Bits.{state_of, inputs_of}
+use Rattle.xs_encode_laws.specs.Bits.{state_of}
 use Rattle.xs_encode_laws.specs.Lists.{system_of, bad_list}
 use Rattle.xs_encode_laws.specs.Encodable.{IsEncodable}
 use Rattle.xs_encode_laws.proofs.EncodingLaws.{bad_states_encoded}
 use Rattle.xs_encode_laws.proofs.HistoryPlaces.{history_last}
 use Rattle.xs_cut_laws.specs.Found.{traces_of}
+use Rattle.xs_cut_laws.specs.Problem.{problem_of}
 use Rattle.xs_cuts.specs.Answer.{IsEnd}
 use Rattle.xs_cuts.specs.Progress.{CodeFound}
 use Rattle.xs_cuts.specs.Values.{value_of, values_of, trace_of, all_found}
@@ -97,8 +98,8 @@ module _ (plain : Model) (fs : List Mode) (top : Tree FlatLeaf) (able : IsCertif
   abbrev subject : Subject
   subject = subject_of full m fs top
 
-  ends : IsEnd m fs top (system_of full) (state_of full) (inputs_of full) is.depth a.size is.answer.found (Complete is.clauses)
-  ends = subst (IsEnd m fs top (system_of full) (state_of full) (inputs_of full) is.depth a.size is.answer.found) is.complete is.answer.ends
+  ends : IsEnd (problem_of m fs top) is.depth a.size is.answer.found (Complete is.clauses)
+  ends = subst (IsEnd (problem_of m fs top) is.depth a.size is.answer.found) is.complete is.answer.ends
 
   right : IsRightFlat m fs top a.size (IsFlatTrace m) a.sets (map (trace_of m.symbols) a.traces)
   right =
@@ -106,7 +107,7 @@ module _ (plain : Model) (fs : List Mode) (top : Tree FlatLeaf) (able : IsCertif
       (subst (λ ss. IsRightFlat m fs top a.size (IsFlatTrace m) ss (traces_of (all_found m.symbols is.answer.found))) (sets_same m.symbols is.answer.found ∙ sym is.answer.sets) ends.1)
 
   numbered : Each (IsNumbered (length fs)) a.sets
-  numbered = sets_numbered m fs top (system_of full) (state_of full) (inputs_of full) a.size is.answer.found a.sets is.answer.sets is.answer.are
+  numbered = sets_numbered (problem_of m fs top) a.size is.answer.found a.sets is.answer.sets is.answer.are
 
   -- Its invariant is one of the exact lists.
   exact_bad : IsBadListOf full (system_of full) (state_of full) top (history_of m fs) a.sets a.size (bad_list full top (history_of m fs) a.sets a.size)

@@ -18,6 +18,7 @@ use Rattle.xs_encode_laws.specs.Bits.{state_of, inputs_of}
 use Rattle.xs_encode_laws.specs.Layout.{input_place}
 use Rattle.xs_encode_laws.specs.Lists.{system_of}
 use Rattle.xs_encode_laws.specs.Encodable.{IsEncodable}
+use Rattle.xs_cut_laws.specs.Problem.{problem_of}
 use Rattle.xs_cut_laws.specs.Searchable.{with_least}
 use Rattle.xs_cut_laws.proofs.Leasts.{least_values_show}
 use Rattle.xs_encode.specs.Values.{StandFor, HasState, values_in}
@@ -58,14 +59,14 @@ told_all symbols (x ∷ v) (y ∷ w) h = both (value_of symbols x) y (values_of 
 
 module _ (m : FlatModel) (fs : List Mode) (top : Tree FlatLeaf) (encodable : IsEncodable (with_history m fs)) where
   -- a moment that gives bits of a valuation has these
-  has_state : (last : Bool) (a : Assignment) (r : IsReadable m fs top (system_of (with_history m fs)) (state_of (with_history m fs)) (inputs_of (with_history m fs)) last a) → HasState (with_history m fs) a r.values
+  has_state : (last : Bool) (a : Assignment) (r : IsReadable (problem_of m fs top) last a) → HasState (with_history m fs) a r.values
   has_state last a r = record {
     domains = r.domains;
     state = subst (Agrees (values_in a) 2) (sym r.state) (read_agrees (system_of (with_history m fs)).state_bits 2 a);
   }
 
-  pub is_read_of : (last : Bool) (a : Assignment) (v : List Value) → IsReadable m fs top (system_of (with_history m fs)) (state_of (with_history m fs)) (inputs_of (with_history m fs)) last a → IsRead (with_history m fs) last a v →
-      IsReadOf m fs top (system_of (with_history m fs)) (state_of (with_history m fs)) (inputs_of (with_history m fs)) last a v
+  pub is_read_of : (last : Bool) (a : Assignment) (v : List Value) → IsReadable (problem_of m fs top) last a → IsRead (with_history m fs) last a v →
+      IsReadOf (problem_of m fs top) last a v
   is_read_of true a v r read =
       let whole = with_history m fs in
       let shown = (least_values_show whole encodable).1 r.values r.domains in
@@ -96,7 +97,7 @@ module _ (m : FlatModel) (fs : List Mode) (top : Tree FlatLeaf) (encodable : IsE
 
   -- as what is read of the whole model is, where memory suffices
   pub are_read_of : (full : FlatModel) → full ≡ with_history m fs → (last : Bool) (a : Assignment) (result : Result (List Value) OutOfMemory) →
-      IsReadable m fs top (system_of (with_history m fs)) (state_of (with_history m fs)) (inputs_of (with_history m fs)) last a → IfOk result (λ v. IsRead full last a v) →
-      IfOk result (λ v. IsReadOf m fs top (system_of (with_history m fs)) (state_of (with_history m fs)) (inputs_of (with_history m fs)) last a v)
+      IsReadable (problem_of m fs top) last a → IfOk result (λ v. IsRead full last a v) →
+      IfOk result (λ v. IsReadOf (problem_of m fs top) last a v)
   are_read_of full e last a (Ok v) r read = is_read_of last a v r (subst (λ w. IsRead w last a v) e read)
   are_read_of full e last a (Err o) r read = read

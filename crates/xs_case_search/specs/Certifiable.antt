@@ -7,13 +7,13 @@ use Rattle.xs_lits.specs.Literal.{Literal}
 use Rattle.xs_lits.specs.Hints.{HasNoOpposites}
 use Rattle.xs_lits.specs.States.{IsOverBits, IsInvariant}
 use Rattle.xs_text_laws.specs.Lines.{Line}
-use Rattle.xs_encode_laws.specs.Bits.{state_of, inputs_of}
 use Rattle.xs_encode_laws.specs.Lists.{system_of, bad_list}
 use Rattle.xs_encode_laws.specs.Encodable.{IsEncodable, IsFitTop}
 use Rattle.xs_encode.specs.History.{last_numbers}
 use Rattle.xs_text_laws.specs.Given.{IsPrintable}
 use Rattle.xs_certificate_laws.specs.Certificate.{Certificate}
 use Rattle.xs_certifying.specs.declared.parts.Parts.{Parts}
+use Rattle.xs_cut_laws.specs.Problem.{problem_of}
 use Rattle.xs_cuts.specs.Answer.{IsAnswer}
 use Rattle.xs_cuts.specs.declared.answer.Analysis.{Analysis}
 use Rattle.xs_cuts.specs.declared.answer.End.TheVariants.{Complete}
@@ -28,7 +28,7 @@ module _ (m : FlatModel) (fs : List Mode) (top : Tree FlatLeaf) where
   pub record IsCompleteAnswer (a : Analysis) : Type 0 where
     pub depth : ℕ
     pub clauses : List (List Literal)
-    pub answer : IsAnswer m fs top (system_of (with_history m fs)) (state_of (with_history m fs)) (inputs_of (with_history m fs)) depth a.size a
+    pub answer : IsAnswer (problem_of m fs top) depth a.size a
     pub complete : a.end ≡ Complete clauses
     pub small : a.size ≤ length fs
     pub printable : a.sets ≢ [] → IsPrintable m

@@ -5,8 +5,7 @@ use Rattle.xs_tree.specs.ProgramTree.{Formula}
 use Rattle.xs_tree.specs.Values.{Value}
 use Rattle.xs_tree.specs.Flat.{FlatLeaf, FlatModel}
 use Rattle.xs_flat_laws.specs.History.{Mode, with_history}
-use Rattle.xs_encode_laws.specs.Bits.{state_of, inputs_of}
-use Rattle.xs_encode_laws.specs.Lists.{system_of}
+use Rattle.xs_cut_laws.specs.Problem.{problem_of}
 use Rattle.xs_cuts.specs.Progress.{HasChainFor}
 use Rattle.xs_text_laws.specs.Given.{GivesTrace}
 use Rattle.xs_text_laws.specs.Lines.{fed}
@@ -16,7 +15,7 @@ use Rattle.xs_certificate_laws.specs.CertificateText.{SpellsCertificate, version
 use Rattle.xs_certificate_laws.specs.Certified.{IsCertified}
 use Rattle.xs_certificate_laws.specs.Subject.{subject_of}
 use Rattle.xs_report_laws.specs.ExtendedTraces.{Ending, complete, bounded, Analysis, IsAnalysisOf}
-use Rattle.xs_loading.specs.Cases.{Case, whole_of}
+use Rattle.xs_loading.specs.Cases.{Case}
 use Rattle.xs_loading.specs.Tasks.{IsTopTree}
 
 -- the size with which a model of so many faults is searched
@@ -27,7 +26,7 @@ size_for (Some n) faults = min n faults
 -- a chain of so many frames exists for the case with history, the event, and the listed sets of this size
 abbrev pub HasChain : Case → Formula → ℕ → List (List ℕ) → ℕ → Type 0
 HasChain c top size sets k =
-    (tree : Tree FlatLeaf) × IsTopTree c top tree × HasChainFor c.flat c.modes tree (system_of (whole_of c)) (state_of (whole_of c)) (inputs_of (whole_of c)) size sets k
+    (tree : Tree FlatLeaf) × IsTopTree c top tree × HasChainFor (problem_of c.flat c.modes tree) size sets k
 
 -- for all traces, or for those of at most as many steps as the depth, where a chain as long as the depth exists
 abbrev pub EndsBy : Case → Formula → ℕ → ℕ → List (List ℕ) → Ending → Type 0

@@ -5,11 +5,10 @@ use Rattle.xs_tree.specs.ProgramTree.{Text}
 use Rattle.xs_tree.specs.Flat.{FlatLeaf, FlatModel}
 use Rattle.xs_flat_laws.specs.History.{Mode, with_history}
 use Rattle.xs_encode_laws.specs.EncodedLaws.{AreOwn}
-use Rattle.xs_encode_laws.specs.Bits.{state_of, inputs_of}
 use Rattle.xs_encode_laws.specs.Encodable.{IsEncodable, IsFitTop}
-use Rattle.xs_encode_laws.specs.Lists.{system_of}
 use Rattle.xs_text_laws.specs.Given.{IsPrintable}
 use Rattle.xs_tree.specs.Told.{told_trace}
+use Rattle.xs_cut_laws.specs.Problem.{problem_of}
 use Rattle.xs_cuts.specs.Answer.{IsAnswer}
 use Rattle.xs_cuts.specs.declared.answer.Analysis.{Analysis as Searched}
 use Rattle.xs_cuts.specs.declared.answer.End.{End}
@@ -23,7 +22,7 @@ module _ (m : FlatModel) (fs : List Mode) (tree : Tree FlatLeaf) where
     pub encodable : IsEncodable (with_history m fs)
     pub fits : IsFitTop (with_history m fs) tree
     pub printable : IsPrintable m
-    pub answer : IsAnswer m fs tree (system_of (with_history m fs)) (state_of (with_history m fs)) (inputs_of (with_history m fs)) depth size a
+    pub answer : IsAnswer (problem_of m fs tree) depth size a
     pub small : size ≤ length fs
 
   -- a complete answer has a certificate of this size with its sets and traces, and a bounded one none

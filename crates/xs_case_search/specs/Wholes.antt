@@ -7,9 +7,8 @@ use Rattle.xs_tree.specs.ModelTree.{model_tree}
 use Rattle.xs_flat_laws.specs.FaultModes.{mode_of}
 use Rattle.xs_tree.specs.Flat.{FlatLeaf, FlatModel as ModelTree}
 use Rattle.xs_flat_laws.specs.History.{Mode, with_history}
+use Rattle.xs_cut_laws.specs.Problem.{problem_of}
 use Rattle.xs_cut_laws.specs.Searchable.{IsSearchable}
-use Rattle.xs_encode_laws.specs.Bits.{state_of, inputs_of}
-use Rattle.xs_encode_laws.specs.Lists.{system_of}
 use Rattle.xs_cuts.specs.Answer.{IsAnswer}
 use Rattle.xs_cuts.specs.declared.answer.Analysis.{Analysis}
 
@@ -29,4 +28,4 @@ pub record CanBeSearched (plain full : FlatModel) (faults : List Fault) (top : T
 -- this answers a search of the model as deep as the depth, for sets of at most so many faults as the size
 abbrev pub AnswersSearch : FlatModel → List Fault → Tree FlatLeaf → ℕ → ℕ → (Analysis → Type 0)
 AnswersSearch m faults top depth size =
-    IsAnswer (model_tree m) (modes_of faults) top (system_of (whole_of m faults)) (state_of (whole_of m faults)) (inputs_of (whole_of m faults)) depth size
+    IsAnswer (problem_of (model_tree m) (modes_of faults) top) depth size

@@ -64,21 +64,10 @@ fn read(alloc: Global, t: &Typed, moment: &Assign, last: bool) -> Result<Valuati
 
 impl<'a> Encoded for Faulty<'a> {
     ghost use Rattle.xs_tree.specs.ModelTree.{model_tree, flat_tree};
-    ghost use Rattle.xs_encode_laws.specs.Bits as bits;
-    ghost use Rattle.xs_encode_laws.specs.Lists.{system_of};
-    ghost use Rattle.xs_case_search.specs.Wholes.{modes_of, whole_of, CanBeSearched};
+    ghost use Rattle.xs_cut_laws.specs.Problem.{problem_of};
+    ghost use Rattle.xs_case_search.specs.Wholes.{modes_of, CanBeSearched};
 
-    ghost model = { λ f. model_tree f.plain.now.model };
-
-    ghost modes = { λ f. modes_of f.faults.now };
-
-    ghost top = { λ f. flat_tree f.top.now };
-
-    ghost system = { λ f. system_of (whole_of f.plain.now.model f.faults.now) };
-
-    ghost state_of = { λ f. bits.state_of (whole_of f.plain.now.model f.faults.now) };
-
-    ghost inputs_of = { λ f. bits.inputs_of (whole_of f.plain.now.model f.faults.now) };
+    ghost problem = { λ f. problem_of (model_tree f.plain.now.model) (modes_of f.faults.now) (flat_tree f.top.now) };
 
     ghost searchable = { λ f. CanBeSearched f.plain.now.model f.full.now.model f.faults.now (flat_tree f.top.now) };
 

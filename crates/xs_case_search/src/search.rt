@@ -6,8 +6,8 @@ ghost use Rattle.std.specs.Prelude.{◌≡◌, ◌<◌, ◌^◌, IfOk, IsOk, OnO
 ghost use Rattle.xs_tree.specs.ModelTree.{model_tree, flat_tree};
 ghost use Rattle.xs_flat_laws.specs.FaultModes.{mode_of};
 ghost use Rattle.xs_flat_laws.specs.History.{with_history};
-ghost use Rattle.xs_encode_laws.specs.Bits.{state_of, inputs_of};
 ghost use Rattle.xs_encode_laws.specs.Lists.{system_of};
+ghost use Rattle.xs_cut_laws.specs.Problem.{problem_of};
 ghost use Rattle.xs_cut_laws.specs.Searchable.{IsSearchable};
 ghost use Rattle.xs_cuts.specs.Answer.{IsAnswer};
 ghost use Rattle.xs_case_search.specs.Found.{size_for};
@@ -59,10 +59,7 @@ pub fn analysed(
     requires whole { model_tree case.now.limited.full.model ≡ with_history (model_tree case.now.limited.typed.model) (map mode_of case.now.limited.faults) }
     requires searchable { length case.now.limited.typed.model.symbols < 2 ^ 31 → IsSearchable (model_tree case.now.limited.typed.model) (map mode_of case.now.limited.faults) (flat_tree top.now) }
     ensures few { OnOk result (length case.now.limited.typed.model.symbols < 2 ^ 31) }
-    ensures answer { IfOk result (IsAnswer (model_tree case.now.limited.typed.model) (map mode_of case.now.limited.faults) (flat_tree top.now)
-        (system_of (with_history (model_tree case.now.limited.typed.model) (map mode_of case.now.limited.faults)))
-        (state_of (with_history (model_tree case.now.limited.typed.model) (map mode_of case.now.limited.faults)))
-        (inputs_of (with_history (model_tree case.now.limited.typed.model) (map mode_of case.now.limited.faults))) depth size) }
+    ensures answer { IfOk result (IsAnswer (problem_of (model_tree case.now.limited.typed.model) (map mode_of case.now.limited.faults) (flat_tree top.now)) depth size) }
 {
     count_symbols(case)?;
     let limited = &case.limited;
@@ -108,10 +105,7 @@ pub fn analysed_in(
     requires searchable { length case.now.limited.typed.model.symbols < 2 ^ 31 → IsSearchable (model_tree case.now.limited.typed.model) (map mode_of case.now.limited.faults) (flat_tree top.now) }
     requires system { frames.old.system ≡ system_of (with_history (model_tree case.now.limited.typed.model) (map mode_of case.now.limited.faults)) }
     ensures system { frames.new.system ≡ frames.old.system }
-    ensures answer { IfOk result (IsAnswer (model_tree case.now.limited.typed.model) (map mode_of case.now.limited.faults) (flat_tree top.now)
-        (system_of (with_history (model_tree case.now.limited.typed.model) (map mode_of case.now.limited.faults)))
-        (state_of (with_history (model_tree case.now.limited.typed.model) (map mode_of case.now.limited.faults)))
-        (inputs_of (with_history (model_tree case.now.limited.typed.model) (map mode_of case.now.limited.faults))) depth size) }
+    ensures answer { IfOk result (IsAnswer (problem_of (model_tree case.now.limited.typed.model) (map mode_of case.now.limited.faults) (flat_tree top.now)) depth size) }
 {
     count_symbols(case)?;
     let limited = &case.limited;

@@ -1,13 +1,11 @@
 -- Chains stay chains and grow, and two equal frames give an invariant.
-use Rattle.std.proofs.Common.{◌≡◌, ℕ, zero, suc, ◌+◌, ◌-◌, ◌<◌, ◌≤◌, Bool, true, false, List, [], ◌∷◌, length, drop, Some, refl, sym, subst, arith, inl, inr}
+use Rattle.std.proofs.Common.{◌≡◌, ℕ, zero, suc, ◌+◌, ◌-◌, ◌<◌, ◌≤◌, true, false, List, [], ◌∷◌, length, drop, Some, refl, sym, subst, arith, inl, inr}
 use Rattle.std.proofs.lemmas.List.{length-drop}
 use Rattle.std.specs.Prelude.{slice_get, slice_index_or, All}
 use Rattle.std.proofs.lemmas.List.Elements.{All-nil}
-use Rattle.xs_tree.specs.Tree.{Tree}
 use Rattle.xs_tree.specs.Values.{Value}
 use Rattle.xs_tree.specs.Trace.{Each, AtSome}
-use Rattle.xs_tree.specs.Flat.{FlatLeaf, FlatModel}
-use Rattle.xs_flat_laws.specs.History.{Mode, with_history}
+use Rattle.xs_flat_laws.specs.History.{with_history}
 use Rattle.xs_flat_laws.specs.FlatTrace.{IsFlatTrace}
 use Rattle.xs_flat_laws.proofs.Lists.{each_map, each_of_map}
 use Rattle.xs_lits.specs.Literal.{Literal}
@@ -27,6 +25,7 @@ use Rattle.std.proofs.lemmas.Bool.{false_from_ne_true as refuted}
 use Rattle.std.proofs.lemmas.List.FromFn.{length-range_with_len}
 use Rattle.xs_type_laws.proofs.ClosedLaws.{each_both}
 use Rattle.xs_tree.proofs.BoolLaws.{not_both}
+use Rattle.xs_cut_laws.specs.Problem.{Problem}
 
 pub no_place : {A : Type 0} (i : ℕ) (x : A) → slice_get [] i ≡ Some x → ⊥
 no_place i x e = cc
@@ -68,8 +67,10 @@ after_first d x (y ∷ ys) (suc i) p e = get_place d x (y ∷ ys) (suc i) (subst
     less : (i : ℕ) → suc i - 1 ≡ i
     less i = omega arith
 
-module _ (m : FlatModel) (fs : List Mode) (top : Tree FlatLeaf) (system : System) (state_of inputs_of : List Value → List Bool) where
-  pub fixed_is_invariant : FixedIsInvariant m fs top system state_of inputs_of
+module _ (problem : Problem) where
+  open problem use {model as m, modes as fs, top, system, state_of}
+
+  pub fixed_is_invariant : FixedIsInvariant problem
   fixed_is_invariant bad old now clauses longer clear fixed = record {
     inductive = fixed.inductive;
     excludes = λ s h b. clear s (in_number s (fixed.implies s h)) b;
@@ -84,7 +85,7 @@ module _ (m : FlatModel) (fs : List Mode) (top : Tree FlatLeaf) (system : System
           let next : length old - 1 ≡ suc (length old - 2) = follows fixed.equal_ones.at (length old) (length now) fixed.equal_ones.from_one fixed.equal_ones.within longer in
           subst (λ n. InNumber system old n s) (sym next) (subst (λ n. InFrame system (frame_at old n) s) next h)
 
-  pub fewer_are_bad : FewerAreBad m fs top system state_of inputs_of
+  pub fewer_are_bad : FewerAreBad problem
   fewer_are_bad size before now bad worse searched are are' contain lists lists' s h = by_moment (lists'.bad_means s h)
     where
       long : (set : List ℕ) → IsNumbered (length fs) set → IsNumbered (length (history_of m fs)) set
@@ -126,7 +127,7 @@ module _ (m : FlatModel) (fs : List Mode) (top : Tree FlatLeaf) (system : System
           one f is some =
               unlisted_comes (history_of m fs) b.0 f.set (subst (λ k. IsNumbered k f.set) (sym (length-range_with_len (length m.variables) (length fs))) is.numbered) (outside f now none some)
 
-  pub chain_stays : ChainStays m fs top system state_of inputs_of
+  pub chain_stays : ChainStays problem
   chain_stays bad worse k fewer has = (
     has.0,
     has.1,
@@ -142,7 +143,7 @@ module _ (m : FlatModel) (fs : List Mode) (top : Tree FlatLeaf) (system : System
     },
   )
 
-  pub chain_grows : ChainGrows m fs top system state_of inputs_of
+  pub chain_grows : ChainGrows problem
   chain_grows bad old now numbered clear stronger longer chain = (
     drop 1 now,
     length-drop 1 now,

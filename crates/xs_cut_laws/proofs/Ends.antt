@@ -3,13 +3,8 @@ use Rattle.std.proofs.Common.{◌≡◌, ℕ, zero, suc, ◌+◌, ◌-◌, ◌<�
 use Rattle.std.proofs.lemmas.List.{length-map}
 use Rattle.std.specs.Prelude.{slice_index_or}
 use Rattle.std.specs.List.{range_with_len, list_all}
-use Rattle.xs_tree.specs.Tree.{Tree}
-use Rattle.xs_tree.specs.Values.{Value}
 use Rattle.xs_tree.specs.Trace.{Each, AtSome}
-use Rattle.xs_tree.specs.Flat.{FlatLeaf, FlatModel}
-use Rattle.xs_flat_laws.specs.History.{Mode}
 use Rattle.xs_flat_laws.specs.FlatTrace.{IsFlatTrace}
-use Rattle.xs_lits.specs.declared.system.System.{System}
 use Rattle.xs_frames.proofs.Count.{Within, count_less}
 use Rattle.xs_right_laws.specs.Sets.{has_number, is_contained}
 use Rattle.xs_cut_laws.specs.Found.{Found, sets_of, with_found, IsFound, AreFound, IsNew, ContainOneOf}
@@ -21,6 +16,7 @@ use Rattle.xs_cut_laws.proofs.FoundLaws.{some_kept, each_found, still_contain, n
 use Rattle.std.proofs.lemmas.Bool.{or_left, or_right, and_parts, and_from as and_both, false_from_ne_true as refuted, not_from_true, not_from_false}
 use Rattle.std.proofs.lemmas.List.FromFn.{length-range_with_len}
 use Rattle.xs_tree.proofs.BoolLaws.{or_cases, not_both}
+use Rattle.xs_cut_laws.specs.Problem.{Problem}
 
 -- a test of all passes the test of each part
 all_has : (p : ℕ → Bool) (set : List ℕ) (i : ℕ) → list_all p set ≡ true → has_number set i ≡ true → p i ≡ true
@@ -122,6 +118,8 @@ module _ (T : Type 0) (is_trace reaches : T → Type 0) (has_failed : T → ℕ 
           refuted (is_covered (sets_of fs) (pattern_of faults new.set))
           (λ t. none fs (each_found T is_trace reaches has_failed faults size fs are) fresh (covered_means (pattern_of faults new.set) fs t))
 
-module _ (m : FlatModel) (fs : List Mode) (top : Tree FlatLeaf) (system : System) (state_of inputs_of : List Value → List Bool) where
-  pub search_ends : SearchEnds m fs top system state_of inputs_of
+module _ (problem : Problem) where
+  open problem use {model as m, modes as fs, top}
+
+  pub search_ends : SearchEnds problem
   search_ends size new found are is fresh = falls FlatTrace (IsFlatTrace m) (ReachesTop m top) (HasFailedNumber m fs) (length fs) size new found are is fresh

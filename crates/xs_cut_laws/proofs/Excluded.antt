@@ -2,12 +2,11 @@
 use Rattle.std.proofs.Common.{◌≡◌, ℕ, zero, suc, ◌+◌, ◌-◌, ◌<◌, ◌≤◌, Bool, true, false, List, [], ◌∷◌, ◌++◌, length, refl, sym, ap, ◌∙◌, subst, arith, ◌⊎◌, inl, inr}
 use Rattle.std.specs.Prelude.{Contains}
 use Rattle.std.proofs.lemmas.List.FromFn.{length-range_with_len}
-use Rattle.xs_tree.specs.Tree.{Tree}
 use Rattle.xs_tree.specs.Values.{Value, truth}
 use Rattle.xs_tree.specs.Evaluate.{evaluate}
 use Rattle.xs_tree.specs.Trace.{Each, EachPair, AtSome}
-use Rattle.xs_tree.specs.Flat.{FlatLeaf, FlatModel, FlatMay, leaves_at}
-use Rattle.xs_flat_laws.specs.History.{Mode, with_history}
+use Rattle.xs_tree.specs.Flat.{FlatModel, FlatMay, leaves_at}
+use Rattle.xs_flat_laws.specs.History.{with_history}
 use Rattle.xs_flat_laws.specs.FlatTrace.{AreInDomains, IsFlatMoment, IsFlatStep, IsFlatTrace, bits_after, told_from, IsOwnFormula}
 use Rattle.xs_flat_laws.proofs.Lists.{each_map}
 use Rattle.xs_flat_laws.proofs.HistoryTraces.{holds_longer, domains_length, history_exactly}
@@ -30,6 +29,7 @@ use Rattle.xs_encode_laws.proofs.HistoryFacts.{at_last, each_last, last_told, la
 use Rattle.xs_flat_laws.proofs.HistoryLaws.{length_told}
 use Rattle.xs_type_laws.proofs.ClosedLaws.{each_both}
 use Rattle.xs_tree.proofs.ListLaws.{contains_here, contains_later}
+use Rattle.xs_cut_laws.specs.Problem.{Problem}
 
 -- under some inputs a step is a step
 pub any_inputs : (system : System) (inputs : List Bool) (s t : State) → IsStepUnder system inputs s t → IsStepOf system s t
@@ -100,7 +100,9 @@ at_frontier system frames numbered s i l h =
     short : (i n : ℕ) → 0 < n → i ≤ n - 1 → i + (n - 1 - i) < n
     short i n p l = omega (arith, p, l)
 
-module _ (m : FlatModel) (fs : List Mode) (top : Tree FlatLeaf) (system : System) (state_of inputs_of : List Value → List Bool) (searched : IsSearched m fs top system state_of inputs_of) where
+module _ (problem : Problem) (searched : IsSearched problem) where
+  open problem use {model as m, modes as fs, top}
+
   -- the top event of a valuation is that of a longer one
   pub top_longer : (v bs : List Value) → AreInDomains m.variables v → evaluate (leaves_at m (v ++ bs)) (leaves_at m (v ++ bs)) top ≡ evaluate (leaves_at m v) (leaves_at m v) top
   top_longer v bs dom =
@@ -125,7 +127,7 @@ module _ (m : FlatModel) (fs : List Mode) (top : Tree FlatLeaf) (system : System
       by_test (inr e) (inl r) = inl (r.0, contains_later r.0 f.set (sets_of found) r.1, r.2)
       by_test (inr e) (inr r) = inr (e, r)
 
-  module _ (size : ℕ) (found : List (Found FlatTrace)) (are : AreFoundFlat m fs top system state_of inputs_of size found) where
+  module _ (size : ℕ) (found : List (Found FlatTrace)) (are : AreFoundFlat problem size found) where
     abbrev Bad : List Value → Type 0
     Bad u = IsBadMoment (with_history m fs) top (history_of m fs) (sets_of found) size u
 
@@ -174,11 +176,13 @@ module _ (m : FlatModel) (fs : List Mode) (top : Tree FlatLeaf) (system : System
             (l.0, l.1, λ i inside. (failed_exactly m fs (v ∷ vs) i).1 (has_contains (failed_set m fs (v ∷ vs)) i (contained_has l.0 (failed_set m fs (v ∷ vs)) i l.2 (contains_has l.0 i inside))))
         by_listed (inr none) = absurd (excluded v vs c long (ends_bad v vs (is_one (v ∷ vs) c) long reaches (failed_small m fs (v ∷ vs) size few) none))
 
-module _ (m : FlatModel) (fs : List Mode) (top : Tree FlatLeaf) (system : System) (state_of inputs_of : List Value → List Bool) where
-  pub clear_is_right : ClearIsRight m fs top system state_of inputs_of
+module _ (problem : Problem) where
+  open problem use {model as m, modes as fs, top, system, state_of, inputs_of}
+
+  pub clear_is_right : ClearIsRight problem
   clear_is_right size found bad frames searched are lists numbered clear =
       found_is_right FlatTrace (IsFlatTrace m) (ReachesTop m top) (HasFailedNumber m fs) (length fs) size (λ trace. IsFlatTrace m trace × (length trace ≤ length frames - 1 + 1)) found are
-      (covers m fs top system state_of inputs_of searched size found are (λ trace. IsFlatTrace m trace × (length trace ≤ length frames - 1 + 1)) (λ trace c. c.0) excluded)
+      (covers problem searched size found are (λ trace. IsFlatTrace m trace × (length trace ≤ length frames - 1 + 1)) (λ trace c. c.0) excluded)
     where
       carries : (i : ℕ) (s t : State) → i < length frames - 1 → InNumber system frames i s → IsStepOf system s t → InNumber system frames (suc i) t
       carries i s t l h step = numbered.steps i s t (below i (length frames) l) h step
@@ -200,10 +204,10 @@ module _ (m : FlatModel) (fs : List Mode) (top : Tree FlatLeaf) (system : System
               less : (n k : ℕ) → suc n ≤ k + 1 → n ≤ k
               less n k l = omega (arith, l)
 
-  pub invariant_is_right : InvariantIsRight m fs top system state_of inputs_of
+  pub invariant_is_right : InvariantIsRight problem
   invariant_is_right size found bad clauses searched are lists inductive excludes =
       found_is_right FlatTrace (IsFlatTrace m) (ReachesTop m top) (HasFailedNumber m fs) (length fs) size (IsFlatTrace m) found are
-      (covers m fs top system state_of inputs_of searched size found are (IsFlatTrace m) (λ trace c. c) excluded)
+      (covers problem searched size found are (IsFlatTrace m) (λ trace c. c) excluded)
     where
       excluded : (v : List Value) (vs : List (List Value)) → IsFlatTrace m (v ∷ vs) → IsFlatTrace (with_history m fs) (told_from m fs [] (v ∷ vs)) →
           IsBadMoment (with_history m fs) top (history_of m fs) (sets_of found) size (last_of (told_from m fs [] (v ∷ vs))) → ⊥
@@ -216,8 +220,10 @@ module _ (m : FlatModel) (fs : List Mode) (top : Tree FlatLeaf) (system : System
           same : (n : ℕ) → n ≤ n
           same n = omega arith
 
-module _ (m : FlatModel) (fs : List Mode) (top : Tree FlatLeaf) (system : System) (state_of inputs_of : List Value → List Bool) where
-  pub first_states_show : FirstStatesShow m fs top system state_of inputs_of
+module _ (problem : Problem) where
+  open problem use {model as m, modes as fs, system, state_of}
+
+  pub first_states_show : FirstStatesShow problem
   first_states_show searched = (forward, backward)
     where
       forward : ((s : State) × IsFirstState system s) → (trace : FlatTrace) × IsFlatTrace m trace

@@ -1,19 +1,17 @@
 -- A path of the system into bad states is a trace that shows a new set.
-use Rattle.std.proofs.Common.{◌≡◌, ℕ, zero, suc, ◌+◌, ◌-◌, ◌*◌, ◌<◌, ◌≤◌, Bool, true, false, List, [], ◌∷◌, ◌++◌, length, map, take, refl, sym, ap, ◌∙◌, subst, arith, ◌⊎◌, inl, inr}
+use Rattle.std.proofs.Common.{◌≡◌, ℕ, zero, suc, ◌+◌, ◌-◌, ◌*◌, ◌<◌, ◌≤◌, true, false, List, [], ◌∷◌, ◌++◌, length, map, take, refl, sym, ap, ◌∙◌, subst, arith, ◌⊎◌, inl, inr}
 use Rattle.std.proofs.lemmas.Bool.{cases_lt}
 use Rattle.std.specs.Prelude.{slice_index_or}
 use Rattle.std.proofs.lemmas.List.FromFn.{length-range_with_len}
-use Rattle.xs_tree.specs.Tree.{Tree}
 use Rattle.xs_tree.specs.Values.{Value, truth}
 use Rattle.xs_tree.specs.Trace.{Each, EachPair, AtSome, AtFirst}
-use Rattle.xs_tree.specs.Flat.{FlatLeaf, FlatModel, FlatMay}
+use Rattle.xs_tree.specs.Flat.{FlatModel, FlatMay}
 use Rattle.xs_flat_laws.specs.History.{Mode, with_history}
 use Rattle.xs_flat_laws.specs.FlatTrace.{AreInDomains, IsFlatMoment, IsFlatStep, IsFlatTrace, bits_after, told_from}
 use Rattle.xs_flat_laws.proofs.Lists.{each_of_map}
 use Rattle.xs_flat_laws.proofs.HistoryTraces.{domains_length, history_exactly}
 use Rattle.xs_lits.specs.Literal.{Literal}
 use Rattle.xs_lits.specs.Assignment.{Assignment}
-use Rattle.xs_lits.specs.declared.system.System.{System}
 use Rattle.xs_frames.specs.Path.{state_in, inputs_in, IsPath}
 use Rattle.xs_right_laws.specs.Right.{Shows}
 use Rattle.xs_right_laws.specs.Sets.{is_contained}
@@ -29,6 +27,7 @@ use Rattle.xs_cut_laws.proofs.Excluded.{reached_shorter}
 use Rattle.xs_frames.proofs.BitLemmas.{length_read as read_length}
 use Rattle.xs_type_laws.proofs.ClosedLaws.{each_both}
 use Rattle.xs_tree.proofs.ListLaws.{take_own}
+use Rattle.xs_cut_laws.specs.Problem.{Problem}
 
 -- Lists by place.
 pub place_of_each : {A : Type 0} (P : A → Type 0) (xs : List A) (i : ℕ) (d : A) → Each P xs → i < length xs → P (slice_index_or xs i d)
@@ -73,8 +72,10 @@ cut_told m fs n before (v ∷ vs) h =
     both : (a b : List Value) (as' bs : List (List Value)) → a ≡ b → as' ≡ bs → (a ∷ as') ≡ (b ∷ bs)
     both a b as' bs e g = cc
 
-module _ (m : FlatModel) (fs : List Mode) (top : Tree FlatLeaf) (system : System) (state_of inputs_of : List Value → List Bool) where
-  module _ (searched : IsSearched m fs top system state_of inputs_of) (size : ℕ) (sets : List (List ℕ)) (bad : List (List Literal)) (lists : IsBadFor m fs top system state_of inputs_of size sets bad)
+module _ (problem : Problem) where
+  open problem use {model as m, modes as fs, top, system, state_of, inputs_of}
+
+  module _ (searched : IsSearched problem) (size : ℕ) (sets : List (List ℕ)) (bad : List (List Literal)) (lists : IsBadFor problem size sets bad)
       (k : ℕ) (path : List Assignment) (is : IsPath system bad k path) where
     abbrev at : ℕ → Assignment
     at i = slice_index_or path i []
@@ -115,10 +116,10 @@ module _ (m : FlatModel) (fs : List Mode) (top : Tree FlatLeaf) (system : System
     of_end : (v : List Value) × IsBadMoment (with_history m fs) top (history_of m fs) sets size v × (state_of v ≡ state_in system (at (length path - 1)))
     of_end = lists.bad_means (state_in system (at (length path - 1))) is.ends_bad
 
-    pub lawful : (i : ℕ) → i < length path → IsLawfulMoment m fs top system state_of inputs_of path i
+    pub lawful : (i : ℕ) → i < length path → IsLawfulMoment problem path i
     lawful i l = by_place (cases_lt (suc i) (length path))
       where
-        by_place : (suc i < length path) ⊎ (length path ≤ suc i) → IsLawfulMoment m fs top system state_of inputs_of path i
+        by_place : (suc i < length path) ⊎ (length path ≤ suc i) → IsLawfulMoment problem path i
         by_place (inl more) = let two : AreOfStep i = of_step i more in record { values = two.now; domains = two.is_moment.domains; state = two.state; inputs = λ h. two.inputs }
         by_place (inr none) = record {
           values = of_end.0;
@@ -134,7 +135,7 @@ module _ (m : FlatModel) (fs : List Mode) (top : Tree FlatLeaf) (system : System
             no i n h l = omega (arith, l, h)
 
     -- The path read as valuations.
-    module _ (long : FlatTrace) (read : AreReadFrom (with_history m fs) system state_of inputs_of path long) where
+    module _ (long : FlatTrace) (read : AreReadFrom problem path long) where
       abbrev value : ℕ → List Value
       value i = slice_index_or long i []
 
@@ -191,10 +192,10 @@ module _ (m : FlatModel) (fs : List Mode) (top : Tree FlatLeaf) (system : System
       pub ends_bad : IsBadMoment (with_history m fs) top (history_of m fs) sets size (last_of long)
       ends_bad = subst (IsBadMoment (with_history m fs) top (history_of m fs) sets size) (ap (λ n. slice_index_or long (n - 1) []) (sym read.one_each) ∙ sym (last_place long)) bad_end
 
-  pub path_is_lawful : PathIsLawful m fs top system state_of inputs_of
+  pub path_is_lawful : PathIsLawful problem
   path_is_lawful size sets bad k path searched lists is i l = lawful searched size sets bad lists k path is i l
 
-  pub path_is_found : PathIsFound m fs top system state_of inputs_of
+  pub path_is_found : PathIsFound problem
   path_is_found size found bad k path long searched are lists is read =
       by_trace ((history_exactly m fs searched.own searched.modes long).0 (is_long searched size (sets_of found) bad lists k path is long read))
       (ends_bad searched size (sets_of found) bad lists k path is long read)
@@ -204,7 +205,7 @@ module _ (m : FlatModel) (fs : List Mode) (top : Tree FlatLeaf) (system : System
 
       -- from the trace without history
       by_trace : ((trace : FlatTrace) × IsFlatTrace m trace × (long ≡ told_from m fs [] trace)) → IsBadMoment (with_history m fs) top (history_of m fs) (sets_of found) size (last_of long) →
-          IsFoundFlat m fs top system state_of inputs_of size (found_of m fs top system state_of inputs_of long) × IsNew (failed_in (history_of m fs) (last_of long)) found
+          IsFoundFlat problem size (found_of problem long) × IsNew (failed_in (history_of m fs) (last_of long)) found
       by_trace t ends = with_trace t.0 t.1 t.2
         where
           new : IsNew (failed_in (history_of m fs) (last_of long)) found
@@ -224,7 +225,7 @@ module _ (m : FlatModel) (fs : List Mode) (top : Tree FlatLeaf) (system : System
               at_most i a b e l = omega (arith, e, l)
 
           with_trace : (trace : FlatTrace) → IsFlatTrace m trace → long ≡ told_from m fs [] trace →
-              IsFoundFlat m fs top system state_of inputs_of size (found_of m fs top system state_of inputs_of long) × IsNew (failed_in (history_of m fs) (last_of long)) found
+              IsFoundFlat problem size (found_of problem long) × IsNew (failed_in (history_of m fs) (last_of long)) found
           with_trace [] one e = absurd one.first
           with_trace (v ∷ vs) one e = (
             record {
@@ -236,7 +237,7 @@ module _ (m : FlatModel) (fs : List Mode) (top : Tree FlatLeaf) (system : System
                   (record {
                     is_one = one;
                     reaching = to_last (λ v. FlatMay m v v top (truth true)) v vs
-                        (reached_shorter m fs top system state_of inputs_of searched (last_of (v ∷ vs)) (bits_after m fs (v ∷ vs)) last_moment.domains
+                        (reached_shorter problem searched (last_of (v ∷ vs)) (bits_after m fs (v ∷ vs)) last_moment.domains
                         (subst (λ u. FlatMay m u u top (truth true)) (ap last_of e ∙ last_told m fs [] v vs) ends.reaches));
                     exactly = failed_exactly m fs (v ∷ vs);
                   }));

@@ -12,7 +12,7 @@ lists_serve m fs top own is = (
 )
 
 pub invariants_serve : InvariantsServe
-invariants_serve m fs top system state_of inputs_of bad clauses are = record {
+invariants_serve problem bad clauses are = record {
   holds_first = are.inductive.holds_first;
   is_kept = are.inductive.is_kept;
   excludes = are.excludes;

@@ -27,8 +27,8 @@ module _ (m : FlatModel) (fs : List Mode) (top : Tree FlatLeaf) (sets : List (Li
   narrowed size v bad = record { moment = bad.moment; reaches = bad.reaches; small = passed_few (is_true_at v) (length m.variables) (length fs); unlisted = bad.unlisted }
 
 pub larger_serve : LargerSizesServe
-larger_serve m fs top system states inputs size h sets bad is = record {
-  bad_means = λ s b. let found = is.bad_means s b in (found.0, widened m fs top sets size h found.0 found.1, found.2);
-  bad_comes = λ v b. is.bad_comes v (narrowed m fs top sets size v b);
-  bad_free = λ v w d e b. widened m fs top sets size h w (is.bad_free v w d e (narrowed m fs top sets size v b));
+larger_serve problem size h sets bad is = record {
+  bad_means = λ s b. let found = is.bad_means s b in (found.0, widened problem.model problem.modes problem.top sets size h found.0 found.1, found.2);
+  bad_comes = λ v b. is.bad_comes v (narrowed problem.model problem.modes problem.top sets size v b);
+  bad_free = λ v w d e b. widened problem.model problem.modes problem.top sets size h w (is.bad_free v w d e (narrowed problem.model problem.modes problem.top sets size v b));
 }

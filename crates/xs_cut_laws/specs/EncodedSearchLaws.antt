@@ -1,29 +1,26 @@
 -- The lists of an encodable model with history are those that a search for cut sets and a certificate stand on.
-use Rattle.std.specs.Prelude.{ℕ, Bool, List}
+use Rattle.std.specs.Prelude.{ℕ, List}
 use Rattle.xs_tree.specs.Tree.{Tree}
-use Rattle.xs_tree.specs.Values.{Value}
 use Rattle.xs_tree.specs.Flat.{FlatLeaf, FlatModel}
 use Rattle.xs_flat_laws.specs.History.{Mode, with_history}
 use Rattle.xs_lits.specs.Literal.{Literal}
-use Rattle.xs_lits.specs.declared.system.System.{System}
 use Rattle.xs_lits.specs.States.{IsInvariant}
 use Rattle.xs_encode_laws.specs.FlatTraces.{history_of}
 use Rattle.xs_encode_laws.specs.EncodedLaws.{AreOwn}
-use Rattle.xs_encode_laws.specs.Bits.{state_of, inputs_of}
-use Rattle.xs_encode_laws.specs.Lists.{system_of, bad_list}
+use Rattle.xs_encode_laws.specs.Lists.{bad_list}
 use Rattle.xs_encode_laws.specs.Encodable.{IsEncodable, IsFitTop}
+use Rattle.xs_cut_laws.specs.Problem.{Problem, problem_of}
 use Rattle.xs_cut_laws.specs.Searched.{IsSearched, IsBadFor, AreInvariant}
 
 -- A search stands on the lists of the model with history, and on its list of bad states for any sets and size.
 abbrev pub ListsServe : Type 0
 ListsServe =
     (m : FlatModel) (fs : List Mode) (top : Tree FlatLeaf) → AreOwn m fs top → IsEncodable (with_history m fs) →
-    IsSearched m fs top (system_of (with_history m fs)) (state_of (with_history m fs)) (inputs_of (with_history m fs))
+    IsSearched (problem_of m fs top)
     × (IsFitTop (with_history m fs) top → (sets : List (List ℕ)) (size : ℕ) →
-    IsBadFor m fs top (system_of (with_history m fs)) (state_of (with_history m fs)) (inputs_of (with_history m fs)) size sets (bad_list (with_history m fs) top (history_of m fs) sets size))
+    IsBadFor (problem_of m fs top) size sets (bad_list (with_history m fs) top (history_of m fs) sets size))
 
 -- An invariant that a search ends with is one that a certificate takes.
 abbrev pub InvariantsServe : Type 0
 InvariantsServe =
-    (m : FlatModel) (fs : List Mode) (top : Tree FlatLeaf) (system : System) (state_of inputs_of : List Value → List Bool) (bad clauses : List (List Literal)) →
-    AreInvariant m fs top system state_of inputs_of bad clauses → IsInvariant system bad clauses
+    (problem : Problem) (bad clauses : List (List Literal)) → AreInvariant problem bad clauses → IsInvariant problem.system bad clauses

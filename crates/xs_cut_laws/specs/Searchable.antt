@@ -1,5 +1,5 @@
 -- What a model, its faults and a top event must be for a search on the lists of the model with history.
-use Rattle.std.specs.Prelude.{◌≡◌, ℕ, ◌≤◌, ◌^◌, Bool, List, All, length}
+use Rattle.std.specs.Prelude.{◌≡◌, ℕ, ◌≤◌, ◌^◌, List, All, length}
 use Rattle.xs_tree.specs.Tree.{Tree}
 use Rattle.xs_tree.specs.Values.{Value}
 use Rattle.xs_tree.specs.Flat.{FlatLeaf, FlatModel}
@@ -7,7 +7,6 @@ use Rattle.xs_flat_laws.specs.History.{Mode, with_history}
 use Rattle.xs_flat_laws.specs.FlatTrace.{AreInDomains}
 use Rattle.xs_type_laws.specs.Costs.{cost_of}
 use Rattle.xs_lits.specs.Literal.{Literal}
-use Rattle.xs_lits.specs.declared.system.System.{System}
 use Rattle.xs_frames.specs.Condition.{IsFit, IsOverNow}
 use Rattle.xs_type_laws.specs.Least.{least_values, with_inputs}
 use Rattle.xs_encode_laws.specs.FlatTraces.{history_of}
@@ -16,6 +15,7 @@ use Rattle.xs_encode_laws.specs.Bits.{state_of, inputs_of}
 use Rattle.xs_encode_laws.specs.Layout.{input_bits}
 use Rattle.xs_encode_laws.specs.Lists.{system_of, bad_list}
 use Rattle.xs_encode_laws.specs.Encodable.{IsEncodable, IsFitTop}
+use Rattle.xs_cut_laws.specs.Problem.{Problem}
 use Rattle.xs_cut_laws.specs.Searched.{IsBadFor}
 
 -- The model with history is encodable, its faults are modes of it, the top event fits it, and inputs and event are small.
@@ -36,8 +36,8 @@ ListsFitFrames =
 -- a list of bad states with at most as many faults as there are is one for every larger size
 abbrev pub LargerSizesServe : Type 0
 LargerSizesServe =
-    (m : FlatModel) (fs : List Mode) (top : Tree FlatLeaf) (system : System) (states inputs : List Value → List Bool) (size : ℕ) → length fs ≤ size → (sets : List (List ℕ)) (bad : List (List Literal)) →
-    IsBadFor m fs top system states inputs (length fs) sets bad → IsBadFor m fs top system states inputs size sets bad
+    (problem : Problem) (size : ℕ) → length problem.modes ≤ size → (sets : List (List ℕ)) (bad : List (List Literal)) →
+    IsBadFor problem (length problem.modes) sets bad → IsBadFor problem size sets bad
 
 -- the valuation with the least inputs
 abbrev pub with_least : FlatModel → List Value → List Value

@@ -1,14 +1,11 @@
 -- What a search for cut sets stands on, and its laws.
-use Rattle.std.specs.Prelude.{◌≡◌, ◌↔◌, ℕ, ◌+◌, ◌-◌, ◌<◌, Bool, List, [], length, map, drop, slice_index_or, take}
-use Rattle.xs_tree.specs.Tree.{Tree}
+use Rattle.std.specs.Prelude.{◌≡◌, ◌↔◌, ℕ, ◌+◌, ◌-◌, ◌<◌, List, [], length, map, drop, slice_index_or, take}
 use Rattle.xs_tree.specs.Values.{Value}
 use Rattle.xs_tree.specs.Trace.{Each}
-use Rattle.xs_tree.specs.Flat.{FlatLeaf, FlatModel}
-use Rattle.xs_flat_laws.specs.History.{Mode, with_history}
+use Rattle.xs_flat_laws.specs.History.{with_history}
 use Rattle.xs_flat_laws.specs.FlatTrace.{AreInDomains, IsFlatTrace, NamesOwn, IsModeOf}
 use Rattle.xs_lits.specs.Literal.{Literal}
 use Rattle.xs_lits.specs.Assignment.{Assignment}
-use Rattle.xs_lits.specs.declared.system.System.{System}
 use Rattle.xs_frames.specs.Chain.{State, IsFirstState, IsBad, InFrame, HasChain}
 use Rattle.xs_frames.specs.Path.{state_in, inputs_in, IsPath}
 use Rattle.xs_frames.specs.Framed.{AreStronger, IsInductive, IsClear}
@@ -19,19 +16,22 @@ use Rattle.xs_cut_laws.specs.Found.{Found, sets_of, traces_of, with_found, IsNew
 use Rattle.xs_encode_laws.specs.Encoded.{IsEncodingOf, IsBadListOf}
 use Rattle.xs_encode_laws.specs.FlatTraces.{ReachesTop, HasFailedNumber, IsShortTrace, IsRightFlat, last_of, history_of, failed_in, ReadsOwn}
 use Rattle.xs_cut_laws.specs.Uncovered.{uncovered}
+use Rattle.xs_cut_laws.specs.Problem.{Problem}
 
 -- a trace of a flat model
 abbrev pub FlatTrace : Type 0
 FlatTrace = List (List Value)
 
--- the moments of a path, read as valuations: each has the moment's state, and each but the last its inputs
-pub record AreReadFrom (full : FlatModel) (system : System) (state_of inputs_of : List Value → List Bool) (path : List Assignment) (long : FlatTrace) : Type 0 where
-  pub one_each : length long ≡ length path
-  pub domains : Each (AreInDomains full.variables) long
-  pub states : (i : ℕ) → i < length path → state_of (slice_index_or long i []) ≡ state_in system (slice_index_or path i [])
-  pub inputs : (i : ℕ) → i + 1 < length path → inputs_of (slice_index_or long i []) ≡ inputs_in system (slice_index_or path i [])
+module _ (problem : Problem) where
+  open problem use {model as m, modes as fs, top, system, state_of, inputs_of}
 
-module _ (m : FlatModel) (fs : List Mode) (top : Tree FlatLeaf) (system : System) (state_of inputs_of : List Value → List Bool) where
+  -- the moments of a path, read as valuations: each has the moment's state, and each but the last its inputs
+  pub record AreReadFrom (path : List Assignment) (long : FlatTrace) : Type 0 where
+    pub one_each : length long ≡ length path
+    pub domains : Each (AreInDomains (with_history m fs).variables) long
+    pub states : (i : ℕ) → i < length path → state_of (slice_index_or long i []) ≡ state_in system (slice_index_or path i [])
+    pub inputs : (i : ℕ) → i + 1 < length path → inputs_of (slice_index_or long i []) ≡ inputs_in system (slice_index_or path i [])
+
   -- the model reads its own variables, as does the top event, and the clause lists are those of the model with history
   pub record IsSearched : Type 0 where
     pub own : NamesOwn m
@@ -71,7 +71,7 @@ module _ (m : FlatModel) (fs : List Mode) (top : Tree FlatLeaf) (system : System
   abbrev pub PathIsFound : Type 0
   PathIsFound =
       (size : ℕ) (found : List (Found FlatTrace)) (bad : List (List Literal)) (k : ℕ) (path : List Assignment) (long : FlatTrace) → IsSearched → AreFoundFlat size found → IsBadFor size (sets_of found) bad →
-      IsPath system bad k path → AreReadFrom (with_history m fs) system state_of inputs_of path long → IsFoundFlat size (found_of long) × IsNew (failed_in (history_of m fs) (last_of long)) found
+      IsPath system bad k path → AreReadFrom path long → IsFoundFlat size (found_of long) × IsNew (failed_in (history_of m fs) (last_of long)) found
 
   -- Each moment of a path is that of some valuation: its state, and with a next moment its inputs too.
   pub record IsLawfulMoment (path : List Assignment) (i : ℕ) : Type 0 where

@@ -3,10 +3,10 @@
 //! A set of faults is a rising list of numbers (`xs_right_laws`). A search keeps a list of sets, each with a trace
 //! that shows it (`specs/Found.antt`): a new set is put at its place in the order, and the sets that contain it are
 //! taken out. How many patterns of faults contain no listed set falls with each (`specs/Uncovered.antt`).
-//! What clause lists say of a model is the record of `xs_encode_laws`, the only thing that is known of the encoding;
-//! there are also the traces of a flat model that reach a top event, and the faults that they have failed.
-//! `specs/Searched.antt` has the laws, of all models, systems and encodings (`Always` of `specs/Laws.antt`), which the contracts
-//! below carry.
+//! What a search is about is one record, `specs/Problem.antt`: a model, its faults and a top event, with the clause lists and the bits
+//! of the model with history. What clause lists say of a model is the record of `xs_encode_laws`, the only thing that is known of the
+//! encoding; there are also the traces of a flat model that reach a top event, and the faults that they have failed.
+//! `specs/Searched.antt` has the laws, of all problems (`Always` of `specs/Laws.antt`), which the contracts below carry.
 //!
 //! The encoding proves that record of its exact lists, and `specs/EncodedSearchLaws.antt` joins the two: the lists of a model
 //! with history are those that a search for cut sets stands on. `specs/Searchable.antt` says what a model, its faults and a top

@@ -17,12 +17,11 @@ use Rattle.xs_flat_laws.specs.Rules.{IsAccepted}
 use Rattle.xs_type_laws.specs.Models.{IsTyped}
 use Rattle.xs_encode_laws.specs.FlatTraces.{ReachesTop, HasFailedNumber}
 use Rattle.xs_encode_laws.specs.EncodedLaws.{AreOwn}
-use Rattle.xs_encode_laws.specs.Bits.{state_of, inputs_of}
-use Rattle.xs_encode_laws.specs.Lists.{system_of}
 use Rattle.xs_cuts.specs.Answer.{IsAnswer}
 use Rattle.xs_cuts.specs.declared.answer.Analysis.{Analysis as Searched}
 use Rattle.xs_encode_laws.specs.Encodable.{IsEncodable}
 use Rattle.xs_encode_laws.proofs.FlatEncodable.{flat_models_encodable}
+use Rattle.xs_cut_laws.specs.Problem.{problem_of}
 use Rattle.xs_cut_laws.specs.Searchable.{IsSearchable}
 use Rattle.xs_cut_laws.proofs.Fitting.{few_faults}
 use Rattle.xs_extend.specs.WovenFaults.{fault_tree}
@@ -272,8 +271,7 @@ module _ (l : StagedEvent) (is : IsStagedEvent l) where
 
     -- what answers a search of it
     pub event_searched : (depth size : ℕ) (a : Searched) → size ≡ length (events_in l) →
-        IsAnswer (staged_in l) (events_in l) tree (system_of (with_history (staged_in l) (events_in l))) (state_of (with_history (staged_in l) (events_in l)))
-        (inputs_of (with_history (staged_in l) (events_in l))) depth size a → IsSearched (staged_in l) (events_in l) tree depth (length (events_in l)) a
+        IsAnswer (problem_of (staged_in l) (events_in l) tree) depth size a → IsSearched (staged_in l) (events_in l) tree depth (length (events_in l)) a
     event_searched depth size a same answer =
         let s = event_searchable in
         record {
@@ -283,8 +281,7 @@ module _ (l : StagedEvent) (is : IsStagedEvent l) where
           printable = event_fits.printable;
           answer =
               subst
-              (λ n. IsAnswer (staged_in l) (events_in l) tree (system_of (with_history (staged_in l) (events_in l))) (state_of (with_history (staged_in l) (events_in l)))
-              (inputs_of (with_history (staged_in l) (events_in l))) depth n a) same answer;
+              (λ n. IsAnswer (problem_of (staged_in l) (events_in l) tree) depth n a) same answer;
           small = omega arith;
         }
 
@@ -294,5 +291,5 @@ module _ (l : StagedEvent) (is : IsStagedEvent l) where
     event_right depth size a searched =
         let c : Case = case_of program case in
         answers_caused c.program c.instructions c.faults is.event.event.top m fs tree (model_of_case program case l.word.now tree is.event) cs is.staged.names.strikes
-        (system_of (with_history (staged_in l) (events_in l))) (state_of (with_history (staged_in l) (events_in l))) (inputs_of (with_history (staged_in l) (events_in l))) depth size a
-        (taken (λ n es. IsAnswer n es tree (system_of (with_history (staged_in l) (events_in l))) (state_of (with_history (staged_in l) (events_in l))) (inputs_of (with_history (staged_in l) (events_in l))) depth size a) searched.answer)
+        (problem_of (with_causes m fs cs) (events_of m fs cs) tree) depth size a
+        (taken (λ n es. IsAnswer (problem_of n es tree) depth size a) searched.answer)

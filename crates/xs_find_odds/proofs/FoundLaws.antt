@@ -11,8 +11,6 @@ use Rattle.xs_tree.specs.ModelTree.{model_tree, name_of_fault}
 use Rattle.xs_flat_laws.specs.FaultModes.{mode_of}
 use Rattle.xs_type_laws.specs.Costs.{state_bits}
 use Rattle.xs_tree.specs.Flat.{FlatLeaf}
-use Rattle.xs_encode_laws.specs.Bits.{state_of, inputs_of}
-use Rattle.xs_encode_laws.specs.Lists.{system_of}
 use Rattle.xs_encode_laws.specs.FlatTraces.{IsNumbered}
 use Rattle.xs_extend.specs.WovenFaults.{fault_tree}
 use Rattle.xs_fei.specs.Instructions.{InstructionTree}
@@ -28,6 +26,7 @@ use Rattle.xs_odds.proofs.UnitLemmas.{odds_at_most_one}
 use Rattle.xs_report.specs.FaultText as lines
 use Rattle.xs_text_laws.specs.Analysis.{told_ending}
 use Rattle.xs_value.specs.declared.ending.Ending.{Ending as Printed}
+use Rattle.xs_cut_laws.specs.Problem.{problem_of}
 use Rattle.xs_cuts.specs.Answer.{IsAnswer}
 use Rattle.xs_cuts.specs.declared.answer.Analysis.{Analysis as Searched}
 use Rattle.xs_cuts.proofs.SearchLemmas.{sets_numbered}
@@ -36,7 +35,7 @@ use Rattle.xs_report_laws.specs.Answered.{ending_of, analysis_of}
 use Rattle.xs_report_laws.proofs.Analyses.{answers_are_analyses}
 use Rattle.xs_report_laws.specs.ExtendedTraces.{Ending, complete, bounded}
 use Rattle.xs_loading.specs.declared.loaded.LoadedCase.{LoadedCase}
-use Rattle.xs_loading.specs.Cases.{Case, whole_of}
+use Rattle.xs_loading.specs.Cases.{Case}
 use Rattle.xs_loading.specs.Tasks.{IsTopTree}
 use Rattle.xs_loading.specs.Loaded.{case_of}
 use Rattle.xs_loading.specs.Answered.{faults_text}
@@ -87,7 +86,7 @@ are_bounded odds small sets = record { each = each sets; sum = λ scale h. sums_
 
 -- how it ends
 ends_by : (c : Case) (e : Formula) (tree : Tree FlatLeaf) → IsTopTree c e tree → (depth size : ℕ) (sets : List (List ℕ)) (ending : Ending) →
-    found.EndsBy c.flat c.modes tree (system_of (whole_of c)) (state_of (whole_of c)) (inputs_of (whole_of c)) depth size sets ending → EndsBy c e size depth sets ending
+    found.EndsBy (problem_of c.flat c.modes tree) depth size sets ending → EndsBy c e size depth sets ending
 ends_by c e tree is_tree depth size sets complete h = h
 ends_by c e tree is_tree depth size sets (bounded k) h = (h.0, (tree, is_tree, h.1))
 
@@ -100,27 +99,27 @@ module _ (p : ProgramTree) (l : LoadedCase) (word : Text) (tree : Tree FlatLeaf)
 
   -- the sets of an answer are sets of numbers of the units
   pub sets_named : (depth size : ℕ) (a : Searched) →
-      IsAnswer the_case.flat the_case.modes tree (system_of (whole_of the_case)) (state_of (whole_of the_case)) (inputs_of (whole_of the_case)) depth size a →
+      IsAnswer (problem_of the_case.flat the_case.modes tree) depth size a →
       All (All (λ i. (0 < i) × (i ≤ length odds))) a.sets
   sets_named depth size a answer =
       each_all (All (λ i. (0 < i) × (i ≤ length odds))) a.sets
       (each_kept (IsNumbered (length the_case.modes)) (All (λ i. (0 < i) × (i ≤ length odds))) (named_set (length the_case.modes) (length odds) counted) a.sets
-      (sets_numbered the_case.flat the_case.modes tree (system_of (whole_of the_case)) (state_of (whole_of the_case)) (inputs_of (whole_of the_case)) size answer.found a.sets answer.sets answer.are))
+      (sets_numbered (problem_of the_case.flat the_case.modes tree) size answer.found a.sets answer.sets answer.are))
 
   fault_lines_are : lines.faults_text (map name_of_fault l.limited.faults) ≡ faults_text (map fault_tree l.limited.woven.faults)
   fault_lines_are = named_lines l.limited.woven.faults l.limited.faults (are_listed l.limited.typed.model l.limited.woven.faults l.limited.faults is.loaded.numbered)
 
   -- an answer with the size of all faults is a finding with its bounds and its report
   pub odds_found : (depth len size : ℕ) (a : Searched) (ending : Printed) (report : Text) → len ≡ length l.limited.faults → size ≡ len →
-      IsAnswer the_case.flat the_case.modes tree (system_of (whole_of the_case)) (state_of (whole_of the_case)) (inputs_of (whole_of the_case)) depth size a → told_ending ending ≡ ending_of a.end →
+      IsAnswer (problem_of the_case.flat the_case.modes tree) depth size a → told_ending ending ≡ ending_of a.end →
       report ≡ lines.faults_text (map name_of_fault l.limited.faults) ++ (sets_text a.sets ++ (odds_text odds a.sets ++ ending_line (told_ending ending) (state_bits (model_tree l.limited.full.model)))) →
       IsOddsFinding the_case word depth odds (record { report = report; ending = ending })
   odds_found depth len size a ending report counts sized answer told printed =
       let c : Case = the_case in
       let whole : size ≡ length c.faults = sized ∙ counts ∙ sym (case_counts p l word tree is) in
-      let all = subst (λ n. IsAnswer c.flat c.modes tree (system_of (whole_of c)) (state_of (whole_of c)) (inputs_of (whole_of c)) depth n a) whole answer in
+      let all = subst (λ n. IsAnswer (problem_of c.flat c.modes tree) depth n a) whole answer in
       let both =
-      answers_are_analyses c.program c.instructions c.faults is.event.top c.flat c.modes tree (model_of_case p l word tree is) (system_of (whole_of c)) (state_of (whole_of c)) (inputs_of (whole_of c)) depth (length c.faults) a all in
+      answers_are_analyses c.program c.instructions c.faults is.event.top (problem_of c.flat c.modes tree) (model_of_case p l word tree is) depth (length c.faults) a all in
       record {
         event = is.event.top;
         is_event = is.event.is_word;

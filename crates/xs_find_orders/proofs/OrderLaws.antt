@@ -10,17 +10,15 @@ use Rattle.xs_tree.specs.ModelTree.{model_tree, flat_tree}
 use Rattle.xs_flat_laws.specs.FaultModes.{mode_of}
 use Rattle.xs_tree.specs.declared.model.Fault.{Fault as FaultOf}
 use Rattle.xs_tree.specs.Flat.{FlatLeaf, FlatModel}
-use Rattle.xs_flat_laws.specs.History.{with_history}
 use Rattle.xs_flat_laws.proofs.HistoryLaws.{no_bits}
 use Rattle.xs_type_laws.specs.Costs.{state_bits}
-use Rattle.xs_encode_laws.specs.Bits.{state_of, inputs_of}
-use Rattle.xs_encode_laws.specs.Lists.{system_of}
 use Rattle.xs_text_laws.specs.Given.{GivesTrace}
 use Rattle.xs_text_laws.specs.Lines.{fed}
 use Rattle.xs_tree.specs.Told.{told_trace}
 use Rattle.xs_text_laws.specs.Analysis.{told_ending}
 use Rattle.xs_value.specs.declared.ending.Ending.{Ending as Printed}
 use Rattle.xs_value.specs.declared.ending.Ending.TheVariants as printed
+use Rattle.xs_cut_laws.specs.Problem.{problem_of}
 use Rattle.xs_cuts.specs.Progress.{HasChainFor}
 use Rattle.xs_cuts.specs.Answer.{IsEnd}
 use Rattle.xs_cuts.specs.declared.answer.End.{End}
@@ -155,7 +153,7 @@ module _ (s : StagedCase) (is : IsStagedCase s) (claim : Option Relation) (depth
   claim_holds =
       claim_of_class s is claim (class_of r.analysis.end) (ending_of r.analysis.end) (of_class r.analysis.end)
       (at_stage s is (λ m e. NoneReaches m e (class_of r.analysis.end)) claim e search.speaks
-      (empty_refute m e (system_of (with_history m [])) (state_of (with_history m [])) (inputs_of (with_history m [])) depth 0 r.analysis search.answer none))
+      (empty_refute (problem_of m [] e) depth 0 r.analysis search.answer none))
 
   -- how it ends
   pub claim_ends : EndsOrder (case_in s.loaded) s.set.items s.asked.first s.asked.second (flat_tree s.loaded.top) depth (claimed claim) (ending_of r.analysis.end)
@@ -164,13 +162,13 @@ module _ (s : StagedCase) (is : IsStagedCase s) (claim : Option Relation) (depth
       empty : sets_of search.answer.found ≡ []
       empty = empty_sets search.answer.found (sym (ap length search.answer.traces) ∙ none)
 
-      by : (end : End) → IsEnd m [] e (system_of (with_history m [])) (state_of (with_history m [])) (inputs_of (with_history m [])) depth 0 search.answer.found end →
+      by : (end : End) → IsEnd (problem_of m [] e) depth 0 search.answer.found end →
           EndsOrder (case_in s.loaded) s.set.items s.asked.first s.asked.second (flat_tree s.loaded.top) depth (claimed claim) (ending_of end)
       by (Complete clauses) h = tt
       by (Bounded k) h = (
         h.0,
-        at_stage s is (λ m e. HasChainFor m [] e (system_of (with_history m [])) (state_of (with_history m [])) (inputs_of (with_history m [])) 0 [] k) claim e search.speaks
-            (subst (λ sets. HasChainFor m [] e (system_of (with_history m [])) (state_of (with_history m [])) (inputs_of (with_history m [])) 0 sets k) empty h.1),
+        at_stage s is (λ m e. HasChainFor (problem_of m [] e) 0 [] k) claim e search.speaks
+            (subst (λ sets. HasChainFor (problem_of m [] e) 0 sets k) empty h.1),
       )
 
   -- a trace that tells the relation shows that there is one
@@ -277,8 +275,7 @@ module _ (s : StagedCase) (is : IsStagedCase s) (claim : Option Relation) (depth
 pub trace_found : (s : StagedCase) (claim : Option Relation) (depth : ℕ) (r : Searched) → IsSearchOf s claim depth r → (trace : List (List Numbered)) → slice_get r.analysis.traces 0 ≡ Some trace → IsTraceAgainst s claim trace
 trace_found s claim depth r search trace at =
     let both =
-    found_reach (model_tree s.typed.model) (flat_tree r.top) (system_of (with_history (model_tree s.typed.model) [])) (state_of (with_history (model_tree s.typed.model) []))
-    (inputs_of (with_history (model_tree s.typed.model) [])) depth 0 r.analysis search.answer trace at in
+    found_reach (problem_of (model_tree s.typed.model) [] (flat_tree r.top)) depth 0 r.analysis search.answer trace at in
     record { e = flat_tree r.top; speaks = search.speaks; is_trace = both.0; reaching = both.1 }
 
 -- a list that is not empty has a first member

@@ -12,6 +12,7 @@ use Rattle.xs_tree.specs.Flat.{FlatLeaf, FlatModel}
 use Rattle.xs_flat_laws.specs.History.{Mode, with_history}
 use Rattle.xs_flat_laws.proofs.HistoryLaws.{no_bits}
 use Rattle.xs_type_laws.specs.Models.{IsTyped}
+use Rattle.xs_cut_laws.specs.Problem.{problem_of}
 use Rattle.xs_cut_laws.specs.Searchable.{IsSearchable}
 use Rattle.xs_orders.specs.declared.Relation.{Relation}
 use Rattle.xs_orders.specs.Stage.{stage, against}
@@ -21,8 +22,6 @@ use Rattle.xs_case_search.proofs.Analysable.{case_searchable, top_fits}
 use Rattle.xs_find_orders.specs.declared.pair.StagedCase.{StagedCase}
 use Rattle.xs_find_orders.specs.Pairs.{IsStagedCase}
 use Rattle.xs_lits.specs.Literal.{Literal}
-use Rattle.xs_encode_laws.specs.Bits.{state_of, inputs_of}
-use Rattle.xs_encode_laws.specs.Lists.{system_of}
 use Rattle.xs_cut_laws.specs.Found.{sets_of, traces_of}
 use Rattle.xs_cuts.specs.Answer.{IsAnswer}
 use Rattle.xs_cuts.specs.Progress.{CodeFound}
@@ -98,7 +97,7 @@ module _ (s : StagedCase) (claim : Option Relation) (depth : ℕ) (r : Searched)
       record {
         depth = depth;
         clauses = clauses;
-        answer = subst (λ n. IsAnswer (model_tree s.typed.model) [] (flat_tree r.top) (system_of whole) (state_of whole) (inputs_of whole) depth n r.analysis) (sym answer.size_is) answer;
+        answer = subst (λ n. IsAnswer (problem_of (model_tree s.typed.model) [] (flat_tree r.top)) depth n r.analysis) (sym answer.size_is) answer;
         complete = e;
         small = omega (arith, answer.size_is);
         printable = λ some. absurd (some no_sets);

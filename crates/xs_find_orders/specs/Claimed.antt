@@ -8,10 +8,8 @@ use Rattle.xs_value.specs.declared.value.Value.TheVariants.{Bool as ABool, Num, 
 use Rattle.xs_tree.specs.ModelTree.{model_tree, flat_tree}
 use Rattle.xs_tree.specs.Flat.{FlatLeaf, FlatModel}
 use Rattle.xs_flat_laws.specs.FlatTrace.{IsFlatTrace}
-use Rattle.xs_flat_laws.specs.History.{with_history}
-use Rattle.xs_encode_laws.specs.Bits.{state_of, inputs_of}
-use Rattle.xs_encode_laws.specs.Lists.{system_of}
 use Rattle.xs_encode_laws.specs.FlatTraces.{ReachesTop}
+use Rattle.xs_cut_laws.specs.Problem.{problem_of}
 use Rattle.xs_cut_laws.specs.Searchable.{IsSearchable}
 use Rattle.xs_text_laws.specs.Analysis.{told_ending}
 use Rattle.xs_cuts.specs.Answer.{IsAnswer}
@@ -43,7 +41,7 @@ SpeaksFor s claim e = e ≡ against (model_tree s.typed.model) (length s.loaded.
 
 -- this answers a search of a model without faults
 abbrev pub IsAnswerAlone : FlatModel → Tree FlatLeaf → ℕ → Analysis → Type 0
-IsAnswerAlone m e depth a = IsAnswer m [] e (system_of (with_history m [])) (state_of (with_history m [])) (inputs_of (with_history m [])) depth 0 a
+IsAnswerAlone m e depth a = IsAnswer (problem_of m [] e) depth 0 a
 
 -- what speaks against the claim was searched for
 pub record IsSearchOf (s : StagedCase) (claim : Option Relation) (depth : ℕ) (r : Searched) : Type 0 where

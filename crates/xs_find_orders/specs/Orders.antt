@@ -8,16 +8,14 @@ use Rattle.xs_tree.specs.Tree.{Tree}
 use Rattle.xs_tree.specs.ProgramTree.{Text, Formula}
 use Rattle.xs_tree.specs.Values.{Value}
 use Rattle.xs_tree.specs.Flat.{FlatLeaf, FlatModel}
-use Rattle.xs_flat_laws.specs.History.{with_history}
 use Rattle.xs_type_laws.specs.Costs.{state_bits}
 use Rattle.xs_weave.specs.Extended.{Moment}
 use Rattle.xs_weave.specs.Faults.{Fault}
-use Rattle.xs_encode_laws.specs.Bits.{state_of, inputs_of}
-use Rattle.xs_encode_laws.specs.Lists.{system_of}
 use Rattle.xs_encode_laws.specs.EncodedLaws.{AreOwn}
 use Rattle.xs_certificate_laws.specs.ExtendedTraces.{IsFlatCut}
 use Rattle.xs_text_laws.specs.TraceText.{trace_text}
 use Rattle.xs_text_laws.specs.Given.{GivesTrace}
+use Rattle.xs_cut_laws.specs.Problem.{problem_of}
 use Rattle.xs_cuts.specs.Progress.{HasChainFor}
 use Rattle.xs_certificate_laws.specs.Certificate.{Certificate}
 use Rattle.xs_certificate_laws.specs.Certified.{IsSubjectOf, IsCertified}
@@ -110,8 +108,7 @@ abbrev pub EndsOrder : Case → List ℕ → ℕ → ℕ → Tree FlatLeaf → �
 EndsOrder c set first second tree depth order complete = Unit {0}
 EndsOrder c set first second tree depth (claimed claim) (bounded k) =
     (k ≡ depth)
-    × HasChainFor (staged_of c first second) [] (against_of c set first second tree claim) (system_of (with_history (staged_of c first second) [])) (state_of (with_history (staged_of c first second) []))
-    (inputs_of (with_history (staged_of c first second) [])) 0 [] k
+    × HasChainFor (problem_of (staged_of c first second) [] (against_of c set first second tree claim)) 0 [] k
 EndsOrder c set first second tree depth (either values others) (bounded k) = ⊥
 
 -- the bytes spell a certificate with no fault, size 0 and no set, which is accepted for the staged model and what speaks against the claim

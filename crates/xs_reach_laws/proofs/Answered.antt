@@ -1,5 +1,5 @@
 -- What answers a search of the model with causes is right for caused traces.
-use Rattle.std.proofs.Common.{◌≡◌, ℕ, Bool, List, [], ◌∷◌, length, map, sym, ap, ◌∙◌, subst}
+use Rattle.std.proofs.Common.{◌≡◌, ℕ, List, [], ◌∷◌, length, map, sym, ap, ◌∙◌, subst}
 use Rattle.xs_tree.specs.Tree.{Tree}
 use Rattle.xs_tree.specs.ProgramTree.{Formula, ProgramTree}
 use Rattle.xs_tree.specs.Trace.{Each}
@@ -12,12 +12,11 @@ use Rattle.xs_right_laws.specs.Laws.{AreBoth}
 use Rattle.xs_encode_laws.specs.FlatTraces.{ReachesTop, HasFailedNumber, IsShortTrace, IsRightFlat}
 use Rattle.xs_certificate_laws.specs.ExtendedTraces.{IsExtensionModel}
 use Rattle.xs_cut_laws.specs.Found.{Found, sets_of, traces_of, AreFound}
+use Rattle.xs_cut_laws.specs.Problem.{Problem}
 use Rattle.xs_cut_laws.specs.Searched.{FlatTrace}
 use Rattle.xs_cuts.specs.Values.{trace_of, all_found}
 use Rattle.xs_cuts.specs.Progress.{CodeFound}
 use Rattle.xs_cuts.specs.Answer.{IsEnd}
-use Rattle.xs_lits.specs.declared.system.System.{System}
-use Rattle.xs_tree.specs.Values.{Value}
 use Rattle.xs_cuts.specs.declared.answer.End.{End}
 use Rattle.xs_cuts.specs.declared.answer.End.TheVariants.{Complete, Bounded}
 use Rattle.xs_cuts.proofs.SearchLemmas.{sets_same}
@@ -62,16 +61,16 @@ module _ (p : ProgramTree) (i : InstructionTree) (faults : List Fault) (top : Fo
       short_right_caused_extended p i faults top m fs flat_top model cs are k size sets parts.flats traces parts.cut (short_right m fs cs s.0 flat_top s.1 k size sets longs parts.flats parts.tell right)
 
   -- the sets are right for the caused traces that the ending speaks of
-  right_by : (system : System) (state_of inputs_of : List Value → List Bool) (depth size : ℕ) (found : List CodeFound) (end : End) → IsEnd staged events flat_top system state_of inputs_of depth size found end →
+  right_by : (lists : Problem) (depth size : ℕ) (found : List CodeFound) (end : End) → IsEnd (record lists { model = staged; modes = events; top = flat_top }) depth size found end →
       (traces : List CausedTrace) → AreBoth (ShowsCaused p i m fs cs) (traces_of (all_found staged.symbols found)) traces →
       IsRightCausedExtended p i faults cs top size (IsOfEnd p i faults cs end) (sets_of (all_found staged.symbols found)) traces
-  right_by system state_of inputs_of depth size found (Complete clauses) ends traces both =
+  right_by lists depth size found (Complete clauses) ends traces both =
       all_caused size (sets_of (all_found staged.symbols found)) (traces_of (all_found staged.symbols found)) traces both ends.1
-  right_by system state_of inputs_of depth size found (Bounded k) ends traces both =
+  right_by lists depth size found (Bounded k) ends traces both =
       short_caused k size (sets_of (all_found staged.symbols found)) (traces_of (all_found staged.symbols found)) traces both ends.2
 
 pub answers_caused : AnswersAreCaused
-answers_caused p i faults top m fs flat_top model cs are system state_of inputs_of depth size a answer =
+answers_caused p i faults top m fs flat_top model cs are lists depth size a answer =
     let n : FlatModel = with_causes m fs cs in
     let found = all_found n.symbols answer.found in
     let shows = show_all p i faults top m fs flat_top model cs are size found answer.are in
@@ -82,5 +81,5 @@ answers_caused p i faults top m fs flat_top model cs are system state_of inputs_
       show = subst (λ longs. AreBoth (ShowsCaused p i m fs cs) longs shows.0) (sym same) shows.1;
       right =
           subst (λ s. IsRightCausedExtended p i faults cs top size (IsOfEnd p i faults cs a.end) s shows.0) (sym sets)
-          (right_by p i faults top m fs flat_top model cs are system state_of inputs_of depth size answer.found a.end answer.ends shows.0 shows.1);
+          (right_by p i faults top m fs flat_top model cs are lists depth size answer.found a.end answer.ends shows.0 shows.1);
     }

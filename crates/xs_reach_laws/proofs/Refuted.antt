@@ -18,7 +18,7 @@ use Rattle.xs_cuts.specs.Progress.{CodeFound, AreListed}
 use Rattle.xs_cuts.specs.Values.{trace_of, all_found}
 use Rattle.xs_text_laws.specs.Given.{GivesTrace}
 use Rattle.xs_certificate_laws.proofs.Certified.{certified_is_right}
-use Rattle.xs_reach_laws.specs.FaultlessLaws.{class_of, NoneReaches, EmptyAnswersRefute, FoundTracesReach, AcceptedRefute}
+use Rattle.xs_reach_laws.specs.FaultlessLaws.{class_of, NoneReaches, without_faults, EmptyAnswersRefute, FoundTracesReach, AcceptedRefute}
 
 in_none : (set : List ℕ) → Contains {X = List ℕ} [] set → ⊥
 in_none set h = let l = h.1 in omega (arith, l)
@@ -46,23 +46,27 @@ within n k e = by (leb_tells n (k + 1))
     by (inr h) = let bad : true ≡ false = sym e ∙ h.0 in cc
 
 pub empty_refute : EmptyAnswersRefute
-empty_refute m e system state_of inputs_of depth size a answer none = by a.end answer.ends
+empty_refute problem depth size a answer none = by a.end answer.ends
   where
+    open problem use {model as m, top as e}
+
     empty : sets_of (all_found m.symbols answer.found) ≡ []
     empty = empty_found m.symbols answer.found (sym (ap length answer.traces) ∙ none)
 
-    by : (end : End) → IsEnd m [] e system state_of inputs_of depth size answer.found end → NoneReaches m e (class_of end)
+    by : (end : End) → IsEnd (without_faults problem) depth size answer.found end → NoneReaches m e (class_of end)
     by (Complete clauses) h long is class reach = refuted m e (IsFlatTrace m) size (sets_of (all_found m.symbols answer.found)) (traces_of (all_found m.symbols answer.found)) empty h.1 long is reach
     by (Bounded k) h long is class reach =
         refuted m e (IsShortTrace m k) size (sets_of (all_found m.symbols answer.found)) (traces_of (all_found m.symbols answer.found)) empty h.2 long (is, within (length long) k class) reach
 
 pub found_reach : FoundTracesReach
-found_reach m e system state_of inputs_of depth size a answer trace at = by answer.found answer.are (subst (λ ts. slice_get ts 0 ≡ Some trace) answer.traces at)
+found_reach problem depth size a answer trace at = by answer.found answer.are (subst (λ ts. slice_get ts 0 ≡ Some trace) answer.traces at)
   where
+    open problem use {model as m, top as e}
+
     same_trace : (a b : List (List Numbered)) → Some a ≡ Some b → a ≡ b
     same_trace a b e = cc
 
-    by : (found : List CodeFound) → AreListed m [] e system state_of inputs_of size found → slice_get (traces_of found) 0 ≡ Some trace → IsFlatTrace m (trace_of m.symbols trace) × ReachesTop m e (trace_of m.symbols trace)
+    by : (found : List CodeFound) → AreListed (without_faults problem) size found → slice_get (traces_of found) 0 ≡ Some trace → IsFlatTrace m (trace_of m.symbols trace) × ReachesTop m e (trace_of m.symbols trace)
     by [] are is = let bad : None ≡ Some trace = is in cc
     by (f ∷ found) are is =
         let same : f.trace ≡ trace = same_trace f.trace trace is in

@@ -5,10 +5,10 @@ use Rattle.xs_tree.specs.Values.{Value}
 use Rattle.xs_value.specs.declared.value.Value.{Value as Numbered}
 use Rattle.xs_tree.specs.Flat.{FlatLeaf, FlatModel}
 use Rattle.xs_flat_laws.specs.FlatTrace.{IsFlatTrace}
-use Rattle.xs_lits.specs.declared.system.System.{System}
 use Rattle.xs_encode_laws.specs.FlatTraces.{ReachesTop}
 use Rattle.xs_encode_laws.specs.EncodedLaws.{AreOwn}
 use Rattle.xs_text_laws.specs.Given.{GivesTrace}
+use Rattle.xs_cut_laws.specs.Problem.{Problem}
 use Rattle.xs_cuts.specs.declared.answer.Analysis.{Analysis}
 use Rattle.xs_cuts.specs.declared.answer.End.{End}
 use Rattle.xs_cuts.specs.declared.answer.End.TheVariants.{Complete, Bounded}
@@ -27,17 +27,20 @@ class_of (Bounded k) n = nat_le n (k + 1)
 abbrev pub NoneReaches : FlatModel → Tree FlatLeaf → (ℕ → Bool) → Type 0
 NoneReaches m e class = (long : List (List Value)) → IsFlatTrace m long → IsTrue (class (length long)) → ReachesTop m e long → ⊥
 
+-- the problem without its faults
+abbrev pub without_faults : Problem → Problem
+without_faults problem = record problem { modes = [] }
+
 -- where an answer lists nothing, no trace that its end speaks of makes the expression TRUE at its end
 abbrev pub EmptyAnswersRefute : Type 0
 EmptyAnswersRefute =
-    (m : FlatModel) (e : Tree FlatLeaf) (system : System) (state_of inputs_of : List Value → List Bool) (depth size : ℕ) (a : Analysis) → IsAnswer m [] e system state_of inputs_of depth size a →
-    length a.traces ≡ 0 → NoneReaches m e (class_of a.end)
+    (problem : Problem) (depth size : ℕ) (a : Analysis) → IsAnswer (without_faults problem) depth size a → length a.traces ≡ 0 → NoneReaches problem.model problem.top (class_of a.end)
 
 -- the first trace of an answer is one that does
 abbrev pub FoundTracesReach : Type 0
 FoundTracesReach =
-    (m : FlatModel) (e : Tree FlatLeaf) (system : System) (state_of inputs_of : List Value → List Bool) (depth size : ℕ) (a : Analysis) → IsAnswer m [] e system state_of inputs_of depth size a →
-    (trace : List (List Numbered)) → slice_get a.traces 0 ≡ Some trace → IsFlatTrace m (trace_of m.symbols trace) × ReachesTop m e (trace_of m.symbols trace)
+    (problem : Problem) (depth size : ℕ) (a : Analysis) → IsAnswer (without_faults problem) depth size a → (trace : List (List Numbered)) → slice_get a.traces 0 ≡ Some trace →
+    IsFlatTrace problem.model (trace_of problem.model.symbols trace) × ReachesTop problem.model problem.top (trace_of problem.model.symbols trace)
 
 -- where an accepted certificate lists no set, no trace at all makes the expression TRUE at its end
 abbrev pub AcceptedRefute : Type 0

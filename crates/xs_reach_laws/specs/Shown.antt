@@ -1,5 +1,5 @@
 -- What an accepted certificate, and what an analysis, of the model with causes shows of caused traces.
-use Rattle.std.specs.Prelude.{◌↔◌, ℕ, Bool, List, map, length}
+use Rattle.std.specs.Prelude.{◌↔◌, ℕ, List, map, length}
 use Rattle.xs_tree.specs.Tree.{Tree}
 use Rattle.xs_tree.specs.ProgramTree.{Formula, ProgramTree}
 use Rattle.xs_tree.specs.Values.{Value}
@@ -17,7 +17,7 @@ use Rattle.xs_text_laws.specs.Lines.{Line}
 use Rattle.xs_certificate_laws.specs.Certificate.{Certificate}
 use Rattle.xs_certificate_laws.specs.Accepted.{Subject}
 use Rattle.xs_certificate_laws.specs.Certified.{IsSubjectOf, IsCertified}
-use Rattle.xs_lits.specs.declared.system.System.{System}
+use Rattle.xs_cut_laws.specs.Problem.{Problem}
 use Rattle.xs_cuts.specs.Values.{trace_of}
 use Rattle.xs_cuts.specs.Answer.{IsAnswer}
 use Rattle.xs_cuts.specs.declared.answer.Analysis.{Analysis}
@@ -75,5 +75,5 @@ pub record IsCausedAnalysis (p : ProgramTree) (i : InstructionTree) (faults : Li
 abbrev pub AnswersAreCaused : Type 0
 AnswersAreCaused =
     (p : ProgramTree) (i : InstructionTree) (faults : List Fault) (top : Formula) (m : FlatModel) (fs : List Mode) (flat_top : Tree FlatLeaf) → IsExtensionModel p i faults top m fs flat_top →
-    (cs : List CommonCause) → Each (IsCauseOf (length fs)) cs → (system : System) (state_of inputs_of : List Value → List Bool) (depth size : ℕ) (a : Analysis) →
-    IsAnswer (with_causes m fs cs) (events_of m fs cs) flat_top system state_of inputs_of depth size a → IsCausedAnalysis p i faults top m fs cs size a
+    (cs : List CommonCause) → Each (IsCauseOf (length fs)) cs → (lists : Problem) (depth size : ℕ) (a : Analysis) →
+    IsAnswer (record lists { model = with_causes m fs cs; modes = events_of m fs cs; top = flat_top }) depth size a → IsCausedAnalysis p i faults top m fs cs size a

@@ -1,12 +1,8 @@
 -- The answer of a search for cut sets as definitions see it, and when a bounded one has a chain.
-use Rattle.std.specs.Prelude.{◌≡◌, ℕ, Bool, List, map}
-use Rattle.xs_tree.specs.Tree.{Tree}
+use Rattle.std.specs.Prelude.{◌≡◌, ℕ, List, map}
 use Rattle.xs_tree.specs.ProgramTree.{Text}
-use Rattle.xs_tree.specs.Values.{Value}
-use Rattle.xs_tree.specs.Flat.{FlatLeaf, FlatModel}
-use Rattle.xs_flat_laws.specs.History.{Mode}
-use Rattle.xs_lits.specs.declared.system.System.{System}
 use Rattle.xs_text_laws.specs.Analysis.{Ending, complete, bounded, Analysis}
+use Rattle.xs_cut_laws.specs.Problem.{Problem}
 use Rattle.xs_cuts.specs.declared.answer.Analysis.{Analysis as Found}
 use Rattle.xs_cuts.specs.declared.answer.End.{End}
 use Rattle.xs_cuts.specs.declared.answer.End.TheVariants.{Complete, Bounded}
@@ -22,8 +18,8 @@ ending_of (Bounded k) = bounded k
 abbrev pub analysis_of : List Text → Found → Analysis
 analysis_of symbols a = record { sets = a.sets; shown = map (trace_of symbols) a.traces; first = a.first; ending = ending_of a.end }
 
-module _ (m : FlatModel) (fs : List Mode) (top : Tree FlatLeaf) (system : System) (state_of inputs_of : List Value → List Bool) where
+module _ (problem : Problem) where
   -- it ends for all traces, or by the depth, where a chain as long as the depth exists for the sets
   abbrev pub EndsBy : ℕ → ℕ → List (List ℕ) → Ending → Type 0
   EndsBy depth size sets complete = Unit {0}
-  EndsBy depth size sets (bounded k) = (k ≡ depth) × HasChainFor m fs top system state_of inputs_of size sets k
+  EndsBy depth size sets (bounded k) = (k ≡ depth) × HasChainFor problem size sets k

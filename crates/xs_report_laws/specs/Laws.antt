@@ -1,15 +1,11 @@
 -- What the answer of a search for cut sets says of extended traces.
-use Rattle.std.specs.Prelude.{◌≡◌, ℕ, Bool, List}
-use Rattle.xs_tree.specs.Tree.{Tree}
+use Rattle.std.specs.Prelude.{◌≡◌, ℕ, List}
 use Rattle.xs_tree.specs.ProgramTree.{Text, Formula, ProgramTree}
-use Rattle.xs_tree.specs.Values.{Value}
-use Rattle.xs_tree.specs.Flat.{FlatLeaf, FlatModel}
-use Rattle.xs_flat_laws.specs.History.{Mode}
 use Rattle.xs_fei.specs.Instructions.{InstructionTree}
 use Rattle.xs_weave.specs.Faults.{Fault}
-use Rattle.xs_lits.specs.declared.system.System.{System}
 use Rattle.xs_certificate_laws.specs.ExtendedTraces.{IsExtensionModel}
 use Rattle.xs_report_laws.specs.ExtendedTraces.{IsAnalysisOf}
+use Rattle.xs_cut_laws.specs.Problem.{Problem}
 use Rattle.xs_cuts.specs.declared.answer.Analysis.{Analysis as Found}
 use Rattle.xs_cuts.specs.Answer.{IsAnswer}
 use Rattle.xs_value.specs.declared.ending.Ending.{Ending as Printed}
@@ -21,9 +17,9 @@ use Rattle.xs_report_laws.specs.Answered.{ending_of, analysis_of, EndsBy}
 -- for those of at most as many steps as the depth, and then a chain that long exists.
 abbrev pub AnswersAreAnalyses : Type 0
 AnswersAreAnalyses =
-    (p : ProgramTree) (i : InstructionTree) (faults : List Fault) (top : Formula) (m : FlatModel) (fs : List Mode) (flat_top : Tree FlatLeaf) → IsExtensionModel p i faults top m fs flat_top →
-    (system : System) (state_of inputs_of : List Value → List Bool) (depth size : ℕ) (a : Found) → IsAnswer m fs flat_top system state_of inputs_of depth size a →
-    IsAnalysisOf p i faults m top size (analysis_of m.symbols a) × EndsBy m fs flat_top system state_of inputs_of depth size a.sets (ending_of a.end)
+    (p : ProgramTree) (i : InstructionTree) (faults : List Fault) (top : Formula) (problem : Problem) → IsExtensionModel p i faults top problem.model problem.modes problem.top →
+    (depth size : ℕ) (a : Found) → IsAnswer problem depth size a →
+    IsAnalysisOf p i faults problem.model top size (analysis_of problem.model.symbols a) × EndsBy problem depth size a.sets (ending_of a.end)
 
 -- what a report prints of an answer is the analysis that it tells
 abbrev pub AnswersArePrinted : Type 0

@@ -11,15 +11,14 @@ use Rattle.xs_desk.specs.Desk.{said_more, SaysPrefix}
 use Rattle.xs_tree.specs.ProgramTree.{Text, Formula, ProgramTree}
 use Rattle.xs_tree.specs.Tree.{Tree}
 use Rattle.xs_tree.specs.Flat.{FlatLeaf}
-use Rattle.xs_encode_laws.specs.Bits.{state_of, inputs_of}
-use Rattle.xs_encode_laws.specs.Lists.{system_of}
+use Rattle.xs_cut_laws.specs.Problem.{problem_of}
 use Rattle.xs_cuts.specs.Answer.{IsAnswer}
 use Rattle.xs_cuts.specs.declared.answer.Analysis.{Analysis as Searched}
 use Rattle.xs_report_laws.specs.Answered.{ending_of, analysis_of}
 use Rattle.xs_value.specs.declared.ending.Ending.{Ending as Ended}
 use Rattle.xs_loading.specs.declared.loaded.LoadedCase.{LoadedCase}
 use Rattle.xs_loading.specs.Loaded.{case_of}
-use Rattle.xs_loading.specs.Cases.{whole_of, Case, HoldsCase, HoldsTops}
+use Rattle.xs_loading.specs.Cases.{Case, HoldsCase, HoldsTops}
 use Rattle.xs_run.specs.Tables.{IsExtensible, IsEventOf, IsColumn, AreColumns, AreFound, HasTabulated, TabulatesInPart, MeansColumn, IsTabulated, table_of, after_column, ended_with_all}
 use Rattle.xs_run.proofs.TopEvents.{counts_in_case, event_found}
 use Rattle.xs_tree.specs.ModelTree.{model_tree, name_of_fault}
@@ -61,7 +60,7 @@ names_faults c e size depth a found =
 -- what a search of an event found, as a column
 pub column_found : (p : ProgramTree) (l : LoadedCase) (is : IsExtensible p l) (e : Formula) (tree : Tree FlatLeaf) → IsEventOf (case_of p l) e tree → (depth : ℕ) (a : Searched) (len size : ℕ) →
     len ≡ length l.limited.faults → size ≡ len →
-    IsAnswer (case_of p l).flat (case_of p l).modes tree (system_of (whole_of (case_of p l))) (state_of (whole_of (case_of p l))) (inputs_of (whole_of (case_of p l))) depth size a →
+    IsAnswer (problem_of (case_of p l).flat (case_of p l).modes tree) depth size a →
     (ending : Ended) → told_ending ending ≡ ending_of a.end → IsColumn (case_of p l) depth e (record { sets = a.sets; ending = ending })
 column_found p l is e tree event depth a len size counted sized answer ending told =
     let c : Case = case_of p l in

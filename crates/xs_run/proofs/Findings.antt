@@ -9,8 +9,7 @@ use Rattle.xs_type_laws.specs.Costs.{state_bits}
 use Rattle.xs_tree.specs.ModelTree.{model_tree, name_of_fault}
 use Rattle.xs_flat_laws.specs.FaultModes.{mode_of}
 use Rattle.xs_tree.specs.Flat.{FlatLeaf}
-use Rattle.xs_encode_laws.specs.Bits.{state_of, inputs_of}
-use Rattle.xs_encode_laws.specs.Lists.{system_of}
+use Rattle.xs_cut_laws.specs.Problem.{problem_of}
 use Rattle.xs_cut_laws.specs.Searchable.{IsSearchable}
 use Rattle.xs_extend.specs.WovenFaults.{fault_tree}
 use Rattle.xs_report.specs.FaultText as lines
@@ -29,7 +28,7 @@ use Rattle.xs_report_laws.proofs.Printed.{answers_printed}
 use Rattle.xs_report_laws.specs.ExtendedTraces.{Ending, complete, bounded, Analysis}
 use Rattle.xs_report_laws.specs.AnalysisText.{analysis_text}
 use Rattle.xs_loading.specs.declared.loaded.LoadedCase.{LoadedCase}
-use Rattle.xs_loading.specs.Cases.{Case, whole_of}
+use Rattle.xs_loading.specs.Cases.{Case}
 use Rattle.xs_loading.specs.Tasks.{IsTopTree}
 use Rattle.xs_loading.specs.Loaded.{case_of}
 use Rattle.xs_loading.specs.Answered.{faults_text}
@@ -50,7 +49,7 @@ size_small (Some k) n = min-le_right k n
 -- a search answered for the case
 pub is_searched : (p : ProgramTree) (l : LoadedCase) (word : Text) (tree : Tree FlatLeaf) → IsAnalysable p l word tree → IsSearchable (case_of p l).flat (case_of p l).modes tree → (depth size : ℕ) (a : Searched) →
     size ≤ length (case_of p l).modes →
-    IsAnswer (case_of p l).flat (case_of p l).modes tree (system_of (whole_of (case_of p l))) (state_of (whole_of (case_of p l))) (inputs_of (whole_of (case_of p l))) depth size a →
+    IsAnswer (problem_of (case_of p l).flat (case_of p l).modes tree) depth size a →
     IsSearched (case_of p l).flat (case_of p l).modes tree depth size a
 is_searched p l word tree is able depth size a small answer =
     record { own = able.own; encodable = able.encodable; fits = able.fits; printable = loaded_printable p l is.loaded; answer = answer; small = small }
@@ -58,7 +57,7 @@ is_searched p l word tree is able depth size a small answer =
 module _ (c : Case) (e : Formula) (tree : Tree FlatLeaf) (is_tree : IsTopTree c e tree) where
   -- how it ends
   pub ends_by : (depth size : ℕ) (sets : List (List ℕ)) (ending : Ending) →
-      found.EndsBy c.flat c.modes tree (system_of (whole_of c)) (state_of (whole_of c)) (inputs_of (whole_of c)) depth size sets ending → EndsBy c e size depth sets ending
+      found.EndsBy (problem_of c.flat c.modes tree) depth size sets ending → EndsBy c e size depth sets ending
   ends_by depth size sets complete h = h
   ends_by depth size sets (bounded k) h = (h.0, (tree, is_tree, h.1))
 
@@ -91,7 +90,7 @@ module _ (p : ProgramTree) (l : LoadedCase) (word : Text) (tree : Tree FlatLeaf)
       analysis_text (fault_lines_are j) the_case.flat (state_bits (is.loaded.full j)) (sym (case_counts p l word tree is) j) (sizes j) (answers_printed symbols a ending told j)
 
   pub finding : (depth size : ℕ) (a : Searched) (cert : Option (List ℕ)) (report : Text) (ending : Printed) →
-      IsAnswer the_case.flat the_case.modes tree (system_of (whole_of the_case)) (state_of (whole_of the_case)) (inputs_of (whole_of the_case)) depth size a →
+      IsAnswer (problem_of the_case.flat the_case.modes tree) depth size a →
       HasCertificate the_case.flat the_case.modes tree symbols a a.end cert → told_ending ending ≡ ending_of a.end →
       report ≡ analysis_text (lines.faults_text (map name_of_fault l.limited.faults)) the_case.flat (state_bits (model_tree l.limited.full.model)) (length l.limited.faults) a.size
       (told_analysis symbols a.sets a.traces a.first ending) →
@@ -99,7 +98,7 @@ module _ (p : ProgramTree) (l : LoadedCase) (word : Text) (tree : Tree FlatLeaf)
   finding depth size a cert report ending answer has told printed =
       let c : Case = the_case in
       let both =
-      answers_are_analyses c.program c.instructions c.faults is.event.top c.flat c.modes tree (model_of_case p l word tree is) (system_of (whole_of c)) (state_of (whole_of c)) (inputs_of (whole_of c)) depth size a answer in
+      answers_are_analyses c.program c.instructions c.faults is.event.top (problem_of c.flat c.modes tree) (model_of_case p l word tree is) depth size a answer in
       let texts : map (told_trace symbols) a.traces ≡ (analysis_of symbols a).shown = ap (λ (x : Analysis). x.shown) (answers_printed symbols a ending told) in
       record {
         event = is.event.top;
@@ -123,17 +122,17 @@ module _ (p : ProgramTree) (l : LoadedCase) (word : Text) (tree : Tree FlatLeaf)
         omega (arith, small, sized, counted, modes)
 
     pub case_searched : (depth : ℕ) (a : Searched) → length symbols < 2 ^ 31 →
-        IsAnswer the_case.flat the_case.modes tree (system_of (whole_of the_case)) (state_of (whole_of the_case)) (inputs_of (whole_of the_case)) depth size a →
+        IsAnswer (problem_of the_case.flat the_case.modes tree) depth size a →
         IsSearched the_case.flat the_case.modes tree depth a.size a
     case_searched depth a few answer =
         subst (λ n. IsSearched the_case.flat the_case.modes tree depth n a) (sym answer.size_is) (is_searched p l word tree is (case_searchable p l word tree is few) depth size a size_in answer)
 
     pub case_found : (depth bits : ℕ) (a : Searched) (cert : Option (List ℕ)) (report : Text) (ending : Printed) →
-        IsAnswer the_case.flat the_case.modes tree (system_of (whole_of the_case)) (state_of (whole_of the_case)) (inputs_of (whole_of the_case)) depth size a →
+        IsAnswer (problem_of the_case.flat the_case.modes tree) depth size a →
         HasCertificate the_case.flat the_case.modes tree symbols a a.end cert → told_ending ending ≡ ending_of a.end → bits ≡ state_bits (model_tree l.limited.full.model) →
         report ≡ analysis_text (lines.faults_text (map name_of_fault l.limited.faults)) the_case.flat bits (length l.limited.faults) a.size (told_analysis symbols a.sets a.traces a.first ending) →
         IsFinding the_case word depth (size_for given (length the_case.faults)) (record { cert = cert; report = report; ending = ending })
     case_found depth bits a cert report ending answer has told counts printed =
         finding depth (size_for given (length the_case.faults)) a cert report ending
-        (subst (λ n. IsAnswer the_case.flat the_case.modes tree (system_of (whole_of the_case)) (state_of (whole_of the_case)) (inputs_of (whole_of the_case)) depth n a) size_is answer) has told
+        (subst (λ n. IsAnswer (problem_of the_case.flat the_case.modes tree) depth n a) size_is answer) has told
         (printed ∙ ap (λ b. analysis_text (lines.faults_text (map name_of_fault l.limited.faults)) the_case.flat b (length l.limited.faults) a.size (told_analysis symbols a.sets a.traces a.first ending)) counts)

@@ -13,10 +13,9 @@ use Rattle.xs_fei.specs.SpellsInstructions.{BytesSpellInstructions}
 use Rattle.xs_tree.specs.ModelTree.{model_tree, variable_tree}
 use Rattle.xs_tree.specs.Flat.{FlatLeaf}
 use Rattle.xs_type_laws.specs.Costs.{state_bits}
-use Rattle.xs_encode_laws.specs.Bits.{state_of, inputs_of}
-use Rattle.xs_encode_laws.specs.Lists.{system_of}
 use Rattle.xs_text_laws.specs.Analysis.{told_ending}
 use Rattle.xs_value.specs.declared.ending.Ending.{Ending as Printed}
+use Rattle.xs_cut_laws.specs.Problem.{problem_of}
 use Rattle.xs_cuts.specs.Answer.{IsAnswer}
 use Rattle.xs_cuts.specs.declared.answer.Analysis.{Analysis as Searched}
 use Rattle.xs_report_laws.specs.Answered.{ending_of, analysis_of}
@@ -27,7 +26,7 @@ use Rattle.xs_run.specs.declared.make.Summary.{Summary}
 use Rattle.xs_loading.specs.declared.status.Status.{Status}
 use Rattle.xs_loading.specs.Models.{IsModelText}
 use Rattle.xs_loading.specs.Inputs.{IsInstructionText}
-use Rattle.xs_loading.specs.Cases.{Case, whole_of}
+use Rattle.xs_loading.specs.Cases.{Case}
 use Rattle.xs_loading.specs.Loaded.{case_of}
 use Rattle.xs_loading.specs.Answered.{Told, Said, bits_of}
 use Rattle.xs_run.specs.AnswerTexts.{summary_text}
@@ -56,12 +55,12 @@ module _ (p : ProgramTree) (l : LoadedCase) (tree : Tree FlatLeaf) (is : IsAnaly
 
   -- what answers the search is an analysis of the case
   analysis_found : (depth size : ℕ) (a : Searched) →
-      IsAnswer the_case.flat the_case.modes tree (system_of (whole_of the_case)) (state_of (whole_of the_case)) (inputs_of (whole_of the_case)) depth size a →
+      IsAnswer (problem_of the_case.flat the_case.modes tree) depth size a →
       IsFound the_case is.event.top size depth (analysis_of symbols a)
   analysis_found depth size a answer =
       let c : Case = the_case in
       let both =
-      answers_are_analyses c.program c.instructions c.faults is.event.top c.flat c.modes tree (model_of_case p l dead_word tree is) (system_of (whole_of c)) (state_of (whole_of c)) (inputs_of (whole_of c)) depth size a answer in
+      answers_are_analyses c.program c.instructions c.faults is.event.top (problem_of c.flat c.modes tree) (model_of_case p l dead_word tree is) depth size a answer in
       record { right = both.0; ends = ends_by c is.event.top tree is.event.is_tree depth size a.sets (ending_of a.end) both.1 }
 
   module _ (variables faults bits sets : ℕ) (counted_variables : variables ≡ length l.limited.typed.model.variables) (counted : faults ≡ length l.limited.faults)
@@ -81,7 +80,7 @@ module _ (p : ProgramTree) (l : LoadedCase) (tree : Tree FlatLeaf) (is : IsAnaly
     line_is stages a ending counted_sets told = λ j. summary_line stages (variables_are j) (faults_are j) (bits_are j) (counted_sets j) (told j)
 
     pub summarised : (stages depth size : ℕ) (a : Searched) (line : Text) (ending : Printed) → size ≡ length l.limited.faults → sets ≡ length a.sets →
-        IsAnswer the_case.flat the_case.modes tree (system_of (whole_of the_case)) (state_of (whole_of the_case)) (inputs_of (whole_of the_case)) depth size a →
+        IsAnswer (problem_of the_case.flat the_case.modes tree) depth size a →
         told_ending ending ≡ ending_of a.end → line ≡ summary_line stages variables faults bits sets (told_ending ending) →
         IsSummary the_case stages depth (record { line = line; ending = ending })
     summarised stages depth size a line ending sized counted_sets answer told printed =

@@ -5,10 +5,9 @@ use Rattle.xs_tree.specs.Tree.{Tree}
 use Rattle.xs_tree.specs.ProgramTree.{Formula, ProgramTree}
 use Rattle.xs_flat_laws.specs.FaultModes.{mode_of}
 use Rattle.xs_tree.specs.Flat.{FlatLeaf}
-use Rattle.xs_encode_laws.specs.Bits.{state_of, inputs_of}
-use Rattle.xs_encode_laws.specs.Lists.{system_of}
 use Rattle.xs_type_laws.specs.Models.{IsTyped}
 use Rattle.xs_type_laws.specs.Costs.{cost_of}
+use Rattle.xs_cut_laws.specs.Problem.{problem_of}
 use Rattle.xs_cut_laws.specs.Searchable.{IsSearchable}
 use Rattle.xs_cut_laws.proofs.Fitting.{few_faults}
 use Rattle.xs_cuts.specs.Answer.{IsAnswer}
@@ -71,14 +70,14 @@ module _ (p : ProgramTree) (l : LoadedCase) (is : IsExtensible p l) where
         extensions_searchable c.program c.instructions c.faults e c.flat c.modes tree model_of_event is.loaded.writable few typed h.typed event_fits.fits small
 
     ends_by : (depth size : ℕ) (sets : List (List ℕ)) (ending : Ending) →
-        found.EndsBy case_is.flat case_is.modes tree (system_of (whole_of case_is)) (state_of (whole_of case_is)) (inputs_of (whole_of case_is)) depth size sets ending → EndsBy case_is e size depth sets ending
+        found.EndsBy (problem_of case_is.flat case_is.modes tree) depth size sets ending → EndsBy case_is e size depth sets ending
     ends_by depth size sets complete h = h
     ends_by depth size sets (bounded k) h = (h.0, (tree, event.is_tree, h.1))
 
     pub event_found : (depth size : ℕ) (a : Searched) →
-        IsAnswer case_is.flat case_is.modes tree (system_of (whole_of case_is)) (state_of (whole_of case_is)) (inputs_of (whole_of case_is)) depth size a →
+        IsAnswer (problem_of case_is.flat case_is.modes tree) depth size a →
         IsFound case_is e size depth (analysis_of l.limited.typed.model.symbols a)
     event_found depth size a answer =
         let c : Case = case_is in
-        let both = answers_are_analyses c.program c.instructions c.faults e c.flat c.modes tree model_of_event (system_of (whole_of c)) (state_of (whole_of c)) (inputs_of (whole_of c)) depth size a answer in
+        let both = answers_are_analyses c.program c.instructions c.faults e (problem_of c.flat c.modes tree) model_of_event depth size a answer in
         record { right = both.0; ends = ends_by depth size a.sets (ending_of a.end) both.1 }

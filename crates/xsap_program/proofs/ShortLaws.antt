@@ -6,9 +6,8 @@ use Rattle.xs_tree.specs.ModelTree.{flat_tree}
 use Rattle.xs_tree.specs.Flat.{FlatLeaf}
 use Rattle.xs_flat_laws.specs.History.{with_history}
 use Rattle.xs_type_laws.specs.Costs.{state_bits}
-use Rattle.xs_encode_laws.specs.Bits.{state_of, inputs_of}
-use Rattle.xs_encode_laws.specs.Lists.{system_of}
 use Rattle.xs_text_laws.specs.Analysis.{Ending, complete, bounded}
+use Rattle.xs_cut_laws.specs.Problem.{problem_of}
 use Rattle.xs_cuts.specs.Progress.{CodeFound}
 use Rattle.xs_cuts.specs.Answer.{IsEnd}
 use Rattle.xs_cuts.specs.declared.answer.End.{End}
@@ -42,7 +41,7 @@ IsBelow bits depth k = (k ≡ depth) × (k < 2 ^ bits + 2)
 
 module _ (l : StagedEvent) (depth : ℕ) (s : Status) (k : ℕ) where
   staged_short : (found : List CodeFound) (end : End) → s ≡ ended_with (ending_of end) →
-      IsEnd (staged_in l) (events_in l) (flat_tree l.loaded.top) (system_of (with_history (staged_in l) (events_in l))) (state_of (with_history (staged_in l) (events_in l))) (inputs_of (with_history (staged_in l) (events_in l)))
+      IsEnd (problem_of (staged_in l) (events_in l) (flat_tree l.loaded.top))
       depth (length (events_in l)) found end →
       s ≡ status.Bounded k → IsBelow (state_bits (with_history (staged_in l) (events_in l))) depth k
   staged_short found (Complete clauses) e ends is = never e is

@@ -3,9 +3,7 @@ use Rattle.std.specs.Prelude.{IfOk}
 use Rattle.xs_tree.specs.declared.model.Fault.{Fault}
 use Rattle.xs_tree.specs.ModelTree.{model_tree, flat_tree}
 use Rattle.xs_flat_laws.specs.FaultModes.{mode_of}
-use Rattle.xs_flat_laws.specs.History.{with_history}
-use Rattle.xs_encode_laws.specs.Bits.{state_of, inputs_of}
-use Rattle.xs_encode_laws.specs.Lists.{system_of}
+use Rattle.xs_cut_laws.specs.Problem.{problem_of}
 use Rattle.xs_cuts.specs.Answer.{IsAnswer}
 use Rattle.xs_find_orders.proofs.StagedCases.{alone, searchable_alone}
 use Rattle.xs_find_orders.proofs.searched.analysed.Goals as goal
@@ -19,5 +17,5 @@ analyse-requires-clause-searchable g c = searchable_alone (model_tree c.args.sta
 pub returns : goal.returns
 returns g c =
     let m = model_tree c.args.staged.now.typed.model in
-    subst (λ (fs : List Fault). IfOk c.analyse.result (IsAnswer m (map mode_of fs) (flat_tree c.args.top.now) (system_of (with_history m (map mode_of fs))) (state_of (with_history m (map mode_of fs))) (inputs_of (with_history m (map mode_of fs))) c.args.depth 0))
+    subst (λ (fs : List Fault). IfOk c.analyse.result (IsAnswer (problem_of m (map mode_of fs) (flat_tree c.args.top.now)) c.args.depth 0))
     c.requires.none c.analyse.ensures
