@@ -61,7 +61,8 @@ impl Adviser for Scripted {
 
     fn pick(&mut self) -> u64
         ensures answer { result ≡ answer_of self.old }
-        ensures next { self.new ≡ record self.old { place = place_after self.old.place (length self.old.answers); asked = next_count self.old.asked } }
+        ensures next { self.new
+            ≡ record self.old { place = place_after self.old.place (length self.old.answers); asked = next_count self.old.asked } }
     {
         self.asked = self.asked.saturating_add(1);
         if self.answers.is_empty() {

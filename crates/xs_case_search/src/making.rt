@@ -95,7 +95,8 @@ fn made(
     requires model { IsCertifiable (model_tree plain.now.model) (map mode_of faults.now) (flat_tree top.now) }
     requires answer { IsCompleteAnswer (model_tree plain.now.model) (map mode_of faults.now) (flat_tree top.now) a.now }
     requires ends { a.now.end ≡ End.Complete invariant.now }
-    ensures certified { IfOk result (λ c. IsCertified (model_tree plain.now.model) (map mode_of faults.now) (flat_tree top.now) (GivesTrace (model_tree plain.now.model))
+    ensures certified { IfOk result (λ c. IsCertified (model_tree plain.now.model) (map mode_of faults.now)
+        (flat_tree top.now) (GivesTrace (model_tree plain.now.model))
         (subject_of (model_tree full.now.model) (model_tree plain.now.model) (map mode_of faults.now) (flat_tree top.now)) (seen c)) }
     ensures writable { IfOk result (λ c. IsWritable (seen c)) }
     ensures sets { IfOk result (λ c. c.sets ≡ a.now.sets) }
@@ -125,7 +126,8 @@ pub fn certify(
     requires history { model_tree full.now.model ≡ with_history (model_tree plain.now.model) (map mode_of faults.now) }
     requires model { IsCertifiable (model_tree plain.now.model) (map mode_of faults.now) (flat_tree top.now) }
     requires answer { IsCompleteAnswer (model_tree plain.now.model) (map mode_of faults.now) (flat_tree top.now) a.now }
-    ensures certified { IfOk result (λ c. IsCertified (model_tree plain.now.model) (map mode_of faults.now) (flat_tree top.now) (GivesTrace (model_tree plain.now.model))
+    ensures certified { IfOk result (λ c. IsCertified (model_tree plain.now.model) (map mode_of faults.now)
+        (flat_tree top.now) (GivesTrace (model_tree plain.now.model))
         (subject_of (model_tree full.now.model) (model_tree plain.now.model) (map mode_of faults.now) (flat_tree top.now)) (seen c)) }
     ensures writable { IfOk result (λ c. IsWritable (seen c)) }
     ensures sets { IfOk result (λ c. c.sets ≡ a.now.sets) }

@@ -56,10 +56,13 @@ pub fn analysed(
     size: u32,
     panel: &mut Panel,
 ) -> Result<Analysis, OutOfMemory>
-    requires whole { model_tree case.now.limited.full.model ≡ with_history (model_tree case.now.limited.typed.model) (map mode_of case.now.limited.faults) }
-    requires searchable { length case.now.limited.typed.model.symbols < 2 ^ 31 → IsSearchable (model_tree case.now.limited.typed.model) (map mode_of case.now.limited.faults) (flat_tree top.now) }
+    requires whole { model_tree case.now.limited.full.model
+        ≡ with_history (model_tree case.now.limited.typed.model) (map mode_of case.now.limited.faults) }
+    requires searchable { length case.now.limited.typed.model.symbols < 2 ^ 31 →
+        IsSearchable (model_tree case.now.limited.typed.model) (map mode_of case.now.limited.faults) (flat_tree top.now) }
     ensures few { OnOk result (length case.now.limited.typed.model.symbols < 2 ^ 31) }
-    ensures answer { IfOk result (IsAnswer (problem_of (model_tree case.now.limited.typed.model) (map mode_of case.now.limited.faults) (flat_tree top.now)) depth size) }
+    ensures answer { IfOk result (IsAnswer (problem_of (model_tree case.now.limited.typed.model)
+        (map mode_of case.now.limited.faults) (flat_tree top.now)) depth size) }
 {
     count_symbols(case)?;
     let limited = &case.limited;
@@ -81,8 +84,10 @@ pub fn frames_of_case(
     case: &LoadedCase,
     top: &Expr<Flat>,
 ) -> Result<Frames, OutOfMemory>
-    requires whole { model_tree case.now.limited.full.model ≡ with_history (model_tree case.now.limited.typed.model) (map mode_of case.now.limited.faults) }
-    requires searchable { length case.now.limited.typed.model.symbols < 2 ^ 31 → IsSearchable (model_tree case.now.limited.typed.model) (map mode_of case.now.limited.faults) (flat_tree top.now) }
+    requires whole { model_tree case.now.limited.full.model
+        ≡ with_history (model_tree case.now.limited.typed.model) (map mode_of case.now.limited.faults) }
+    requires searchable { length case.now.limited.typed.model.symbols < 2 ^ 31 →
+        IsSearchable (model_tree case.now.limited.typed.model) (map mode_of case.now.limited.faults) (flat_tree top.now) }
     ensures { IfOk result (λ f. f.system ≡ system_of (with_history (model_tree case.now.limited.typed.model) (map mode_of case.now.limited.faults))) }
 {
     count_symbols(case)?;
@@ -101,11 +106,14 @@ pub fn analysed_in(
     frames: &mut Frames,
     panel: &mut Panel,
 ) -> Result<Analysis, OutOfMemory>
-    requires whole { model_tree case.now.limited.full.model ≡ with_history (model_tree case.now.limited.typed.model) (map mode_of case.now.limited.faults) }
-    requires searchable { length case.now.limited.typed.model.symbols < 2 ^ 31 → IsSearchable (model_tree case.now.limited.typed.model) (map mode_of case.now.limited.faults) (flat_tree top.now) }
+    requires whole { model_tree case.now.limited.full.model
+        ≡ with_history (model_tree case.now.limited.typed.model) (map mode_of case.now.limited.faults) }
+    requires searchable { length case.now.limited.typed.model.symbols < 2 ^ 31 →
+        IsSearchable (model_tree case.now.limited.typed.model) (map mode_of case.now.limited.faults) (flat_tree top.now) }
     requires system { frames.old.system ≡ system_of (with_history (model_tree case.now.limited.typed.model) (map mode_of case.now.limited.faults)) }
     ensures system { frames.new.system ≡ frames.old.system }
-    ensures answer { IfOk result (IsAnswer (problem_of (model_tree case.now.limited.typed.model) (map mode_of case.now.limited.faults) (flat_tree top.now)) depth size) }
+    ensures answer { IfOk result (IsAnswer (problem_of (model_tree case.now.limited.typed.model)
+        (map mode_of case.now.limited.faults) (flat_tree top.now)) depth size) }
 {
     count_symbols(case)?;
     let limited = &case.limited;

@@ -42,7 +42,8 @@ pub(crate) fn lawful(
     written: &WrittenList,
 ) -> Result<CauseList, CauseFault>
     ensures kept { OnOk result (first_broken (paths_of faults.now) (taken_in (program_tree w.now)) [] (written_trees written.now) ≡ None) }
-    ensures free { OnOk result (are_owns_among (with_texts (taken_in (program_tree w.now)) (flat_map names_of_cause (written_trees written.now))) (length faults.now) ≡ false) }
+    ensures free { OnOk result (are_owns_among (with_texts (taken_in (program_tree w.now)) (flat_map names_of_cause (written_trees written.now)))
+        (length faults.now) ≡ false) }
     ensures read { IfOk result (λ causes. EachBoth (IsReadIn (paths_of faults.now)) (written_trees written.now) (map cause_of causes)) }
     ensures told { IfErr result (λ fault. TellsFirst fault (first_broken (paths_of faults.now) (taken_in (program_tree w.now)) [] (written_trees written.now))
         (are_owns_among (with_texts (taken_in (program_tree w.now)) (flat_map names_of_cause (written_trees written.now))) (length faults.now))) }
@@ -93,7 +94,8 @@ fn broken(
     names: &Texts,
     cause: &Written,
 ) -> Result<Option<CauseRule>, OutOfMemory>
-    ensures { IfOk result (λ o. option_map rule_of o ≡ broken_by (paths_of faults.now) names.now (written_trees before.now) (written_tree cause.now)) }
+    ensures { IfOk result (λ o. option_map rule_of o
+        ≡ broken_by (paths_of faults.now) names.now (written_trees before.now) (written_tree cause.now)) }
 {
     if names_no_fault(faults, cause.strikes.as_slice()) {
         Ok(Some(CauseRule::NoSuchFault))

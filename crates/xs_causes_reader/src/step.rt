@@ -118,7 +118,8 @@ fn to_step(name: Name, from: u64, token: &TokenText) -> Option<State>
 
 /// After the token where `STRIKES` comes.
 fn strikes_step(alloc: Global, head: Head, token: &TokenText) -> Result<Option<State>, OutOfMemory>
-    ensures { IfOk result (λ next. option_map stage_of next ≡ stage_where (is_word token.now (codes "STRIKES")) (part head.name head.from head.to [] [])) }
+    ensures { IfOk result (λ next. option_map stage_of next
+        ≡ stage_where (is_word token.now (codes "STRIKES")) (part head.name head.from head.to [] [])) }
 {
     let to = State::Part(head, PathList::new(alloc), NameList::new(alloc));
     Ok(where_so(token.is_word(b"STRIKES"), to))
@@ -152,7 +153,8 @@ fn after_step(
     causes: &mut WrittenList,
     token: &TokenText,
 ) -> Result<Option<State>, OutOfMemory>
-    ensures { IfOk result (λ next. read_view next causes.new ≡ after_read (mark_of token.now) head.name head.from head.to strikes parts (written_trees causes.old)) }
+    ensures { IfOk result (λ next. read_view next causes.new
+        ≡ after_read (mark_of token.now) head.name head.from head.to strikes parts (written_trees causes.old)) }
 {
     match token.mark() {
         Mark::Dot => Ok(Some(State::Part(head, strikes, parts))),

@@ -229,7 +229,8 @@ impl Reading {
 
     /// Reads the number of clauses.
     fn take_clauses_count(&mut self, line: &[u8]) -> Result<(), Refusal>
-        ensures ok { OnOk result (option_map (λ n. then_expecting self.old (clauses_left n)) (count_in (codes "invariant") line.now) ≡ Some self.new) }
+        ensures ok { OnOk result (option_map (λ n. then_expecting self.old (clauses_left n)) (count_in (codes "invariant") line.now)
+            ≡ Some self.new) }
         ensures err { IfErr result (IsRefused (option_map (λ n. then_expecting self.old (clauses_left n)) (count_in (codes "invariant") line.now))) }
     {
         match count_in(line, b"invariant") {
@@ -258,7 +259,8 @@ impl Reading {
 
     /// Reads the number of a derivation's steps.
     fn take_steps_count(&mut self, part: Part, line: &[u8]) -> Result<(), Refusal>
-        ensures ok { OnOk result (option_map (λ n. then_expecting self.old (steps_left part n)) (count_in (part_word (told_part part)) line.now) ≡ Some self.new) }
+        ensures ok { OnOk result (option_map (λ n. then_expecting self.old (steps_left part n)) (count_in (part_word (told_part part)) line.now)
+            ≡ Some self.new) }
         ensures err { IfErr result (IsRefused (option_map (λ n. then_expecting self.old (steps_left part n)) (count_in (part_word (told_part part)) line.now))) }
     {
         match steps_count(part, line) {

@@ -56,7 +56,8 @@ fn read_certificate_file<D: Desk>(alloc: Global, desk: &mut D, name: &str) -> Re
     ensures bytes { IfOk result (λ bytes. IfSome (D.files desk.old) (λ files. HasAtMost 268435456 files name.now bytes.items)) }
     ensures short { IfOk result (λ bytes. length bytes.items ≤ 268435456) }
     ensures refused { (r : Refusal) → IsErrOf result (stop.Refused r) →
-        (fault : InputFault) × (r ≡ refusal.NotAccepted (objection.Cert fault)) × IfSome (D.files desk.old) (λ files. IsRefusedAbove 268435456 files name.now fault) }
+        (fault : InputFault) × (r ≡ refusal.NotAccepted (objection.Cert fault))
+        × IfSome (D.files desk.old) (λ files. IsRefusedAbove 268435456 files name.now fault) }
     ensures failed { IsErrOf result stop.Desk → Rose (D.faults desk.old) (D.faults desk.new) }
     ensures files { D.files desk.new ≡ D.files desk.old }
     ensures said { D.said desk.new ≡ D.said desk.old }

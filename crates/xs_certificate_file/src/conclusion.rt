@@ -20,7 +20,8 @@ pub struct Conclusion {
 
 /// Writes the certificate, where there is one, and says the report.
 pub fn conclude<D: Desk>(desk: &mut D, name: &str, found: &Conclusion) -> Result<(), WriteStop>
-    ensures ok { OnOk result ((D.files desk.new ≡ told_maybe (D.files desk.old) name.now found.now.cert) × (D.said desk.new ≡ said_more (D.said desk.old) found.now.report)) }
+    ensures ok { OnOk result ((D.files desk.new ≡ told_maybe (D.files desk.old) name.now found.now.cert)
+        × (D.said desk.new ≡ said_more (D.said desk.old) found.now.report)) }
     ensures part { ConcludesInPart name.now found.now (D.files desk.old) (D.files desk.new) (D.said desk.old) (D.said desk.new) }
     ensures later { D.faults desk.old ≤ D.faults desk.new }
     ensures failed { IsErrOf result write_stop.Failed → Rose (D.faults desk.old) (D.faults desk.new) }

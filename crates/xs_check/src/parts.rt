@@ -29,7 +29,8 @@ pub(crate) fn judge_parts(alloc: Global, q: &Question<'_>, line: u64) -> Result<
     requires numbers { HasNumbers (asked q.now).subject (asked q.now).certificate }
     requires over_bits { All (IsOverBits (asked q.now).subject.system) q.now.certificate.now.invariant }
     requires line { line ≡ first_line (asked q.now).certificate }
-    ensures { IfOk result (Finds (asked q.now) (step_sites part_first 0 q.now.certificate.now.first ++ (step_sites part_next 0 q.now.certificate.now.next ++ step_sites part_bad 0 q.now.certificate.now.bad))) }
+    ensures { IfOk result (Finds (asked q.now) (step_sites part_first 0 q.now.certificate.now.first
+        ++ (step_sites part_next 0 q.now.certificate.now.next ++ step_sites part_bad 0 q.now.certificate.now.bad))) }
 {
     let system = encode(alloc, q.full)?;
     let next = line + q.certificate.first.len() as u64 + 1;

@@ -49,7 +49,8 @@ fn judge_end(
     needed: &[Clause],
     line: u64,
 ) -> Judged
-    requires clauses { checker.now.clauses ≡ known_at (asked q.now).subject (asked q.now).certificate (part_of part) (length (steps_in (asked q.now).certificate (part_of part))) }
+    requires clauses { checker.now.clauses
+        ≡ known_at (asked q.now).subject (asked q.now).certificate (part_of part) (length (steps_in (asked q.now).certificate (part_of part))) }
     requires needed { needed.now ≡ goals (asked q.now).subject (asked q.now).certificate (part_of part) }
     requires line { line ≡ head_line (asked q.now).certificate (part_of part) + 1 }
     requires room { line + length (steps_in (asked q.now).certificate (part_of part)) < 2 ^ 64 }
@@ -73,7 +74,8 @@ fn judge_steps(
     requires line { line ≡ head_line (asked q.now).certificate (part_of part) + 1 }
     requires room { line + length (steps_in (asked q.now).certificate (part_of part)) < 2 ^ 64 }
     ensures found { IfOk result (FindsSteps (asked q.now) (part_of part)) }
-    ensures known { result ≡ Ok Judged.Yes → checker.new.clauses ≡ known_at (asked q.now).subject (asked q.now).certificate (part_of part) (length (steps_in (asked q.now).certificate (part_of part))) }
+    ensures known { result ≡ Ok Judged.Yes → checker.new.clauses
+        ≡ known_at (asked q.now).subject (asked q.now).certificate (part_of part) (length (steps_in (asked q.now).certificate (part_of part))) }
 {
     let steps = steps_of(q, part);
     for i in 0..steps.len() {

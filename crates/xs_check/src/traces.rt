@@ -121,7 +121,8 @@ fn has_failed_exactly(q: &Question<'_>, set: &[u32], trace: &MomentList) -> bool
 fn are_failed(q: &Question<'_>, set: &[u32], trace: &MomentList) -> bool
     requires fit { IsFit (asked q.now).model (asked q.now).modes (asked q.now).top }
     requires replayed { CanBeReplayed (asked q.now).model trace.now }
-    ensures { result ≡ are_those_of (λ f. stands_in_some (asked q.now).model f (told_trace q.now.plain.now.model.symbols trace.now)) set.now 1 (map mode_of q.now.faults.now) }
+    ensures { result ≡ are_those_of (λ f. stands_in_some (asked q.now).model f (told_trace q.now.plain.now.model.symbols trace.now)) set.now 1
+        (map mode_of q.now.faults.now) }
 {
     for i in 0..q.faults.len() {
         let failed = has_failed(q.plain, q.faults.at(i), trace);

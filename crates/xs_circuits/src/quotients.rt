@@ -28,7 +28,8 @@ pub fn choose(
     requires right { AllBelow g.old.free ys.now }
     requires room { g.old.free + length xs.now < 2 ^ 31 }
     ensures exact { IfOk result (λ w. choose_gates c xs.now ys.now g.old ≡ (g.new, w)) }
-    ensures value { IfOk result (λ w. Means g.old (g.new, w) (IsOfWidth (length xs.now)) (λ v u. word_value v u ≡ (if literal_value v c then word_value v xs.now else word_value v ys.now))) }
+    ensures value { IfOk result (λ w. Means g.old (g.new, w) (IsOfWidth (length xs.now)) (λ v u.
+        word_value v u ≡ (if literal_value v c then word_value v xs.now else word_value v ys.now))) }
     ensures next { OnOk result (g.new.free ≡ g.old.free + length xs.now) }
     ensures err { OnErr result (StopsWithin g.old g.new (choose_gates c xs.now ys.now g.old).0) }
 {
@@ -184,7 +185,8 @@ pub fn divide(
     requires right { IsWordOf g.old b.now }
     requires room { g.old.free ≤ 2 ^ 31 - 20000 }
     ensures exact { IfOk result (λ w. divide_gates a.now b.now width g.old ≡ (g.new, w)) }
-    ensures value { IfOk result (λ w. Means g.old (g.new, w) (IsOfWidth width) (λ v x. word_value v b.now ≢ pos 0 → IsCutTo width (int_div (word_value v a.now) (word_value v b.now)) (word_value v x))) }
+    ensures value { IfOk result (λ w. Means g.old (g.new, w) (IsOfWidth width) (λ v x. word_value v b.now ≢ pos 0 →
+        IsCutTo width (int_div (word_value v a.now) (word_value v b.now)) (word_value v x))) }
     ensures next { OnOk result (g.new.free ≤ g.old.free + 20000) }
     ensures err { OnErr result (StopsWithin g.old g.new (divide_gates a.now b.now width g.old).0) }
 {
@@ -212,7 +214,8 @@ pub fn remainder(
     requires right { IsWordOf g.old b.now }
     requires room { g.old.free ≤ 2 ^ 31 - 20000 }
     ensures exact { IfOk result (λ w. remainder_gates a.now b.now width g.old ≡ (g.new, w)) }
-    ensures value { IfOk result (λ w. Means g.old (g.new, w) (IsOfWidth width) (λ v x. word_value v b.now ≢ pos 0 → IsCutTo width (int_rem (word_value v a.now) (word_value v b.now)) (word_value v x))) }
+    ensures value { IfOk result (λ w. Means g.old (g.new, w) (IsOfWidth width) (λ v x. word_value v b.now ≢ pos 0 →
+        IsCutTo width (int_rem (word_value v a.now) (word_value v b.now)) (word_value v x))) }
     ensures next { OnOk result (g.new.free ≤ g.old.free + 20000) }
     ensures err { OnErr result (StopsWithin g.old g.new (remainder_gates a.now b.now width g.old).0) }
 {

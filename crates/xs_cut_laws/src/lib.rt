@@ -62,7 +62,8 @@ pub fn each_set_brings_the_end_nearer()
 pub fn small_examples()
     ensures smaller_first { stands_before (2 ∷ []) (1 ∷ 3 ∷ []) ≡ true }
     ensures by_numbers { stands_before (1 ∷ 3 ∷ []) (1 ∷ 4 ∷ []) ≡ true }
-    ensures taken_out { let large : Found ℕ = record { set = 1 ∷ 2 ∷ []; trace = 0 } in let small : Found ℕ = record { set = 1 ∷ []; trace = 1 } in sets_of (with_found small (large ∷ [])) ≡ (1 ∷ []) ∷ [] }
+    ensures taken_out { let large : Found ℕ = record { set = 1 ∷ 2 ∷ []; trace = 0 } in
+        let small : Found ℕ = record { set = 1 ∷ []; trace = 1 } in sets_of (with_found small (large ∷ [])) ≡ (1 ∷ []) ∷ [] }
     ensures left { uncovered 2 ((1 ∷ []) ∷ []) ≡ 2 }
 {}
 

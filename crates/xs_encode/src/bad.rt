@@ -65,7 +65,8 @@ fn counted(
     requires encodable { IsEncodable (source_model source.now) }
     requires top { IsFitTop (source_model source.now) (flat_tree top.now) }
     requires faults { faults ≤ length source.now.model.now.model.variables }
-    ensures clauses { IfOk result (λ r. r.0 ≡ (counted_circuit (source_model source.now) (flat_tree top.now) (last_numbers (source_model source.now) faults) size).clauses) }
+    ensures clauses { IfOk result (λ r. r.0 ≡ (counted_circuit (source_model source.now) (flat_tree top.now)
+        (last_numbers (source_model source.now) faults) size).clauses) }
     ensures history { IfOk result (λ r. r.1 ≡ history_literals (source_model source.now) (last_numbers (source_model source.now) faults)) }
 {
     let (mut g, now) = state_gates(alloc, source)?;

@@ -39,7 +39,9 @@ pub fn state_of(t: &Typed, a: &Assign, into: &mut Valuation)
     requires encodable { IsEncodable (model_tree t.now.model) }
     requires long { length into.old ≡ length t.now.model.variables }
     ensures same { length into.new ≡ length into.old }
-    ensures values { (values : List Told) → HasState (model_tree t.now.model) a.now values → StandFor t.now.model.symbols into.new (with_inputs (model_tree t.now.model).variables values (least_values (model_tree t.now.model).symbols (model_tree t.now.model).variables)) }
+    ensures values { (values : List Told) → HasState (model_tree t.now.model) a.now values →
+        StandFor t.now.model.symbols into.new (with_inputs (model_tree t.now.model).variables values
+        (least_values (model_tree t.now.model).symbols (model_tree t.now.model).variables)) }
 {
     // No variable is past 2^62.
     let _highest = a.vars();

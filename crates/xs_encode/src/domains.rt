@@ -45,7 +45,8 @@ pub(crate) fn domains(
     requires encodable { IsEncodable (model_tree t.now.model) }
     requires symbols { symbols ≡ symbol_width (model_tree t.now.model).symbols }
     requires usable { Each (IsSignal g.old) (signals_of signals.now) }
-    ensures { OnOk result ((now next : Copy) → Builds g.old (domains_gates (model_tree t.now.model) (names_of (model_tree t.now.model) now next) all (model_tree t.now.model).variables (signals_of signals.now) g.old) g.new) }
+    ensures { OnOk result ((now next : Copy) → Builds g.old (domains_gates (model_tree t.now.model)
+        (names_of (model_tree t.now.model) now next) all (model_tree t.now.model).variables (signals_of signals.now) g.old) g.new) }
 {
     let count = t.model().variables.len().min(signals.len());
     for i in 0..count {
@@ -126,7 +127,8 @@ fn some_symbol(
 ) -> Result<(), OutOfMemory>
     requires some { 1 ≤ symbols }
     requires usable { IsSignal g.old (signal_of signal.now) }
-    ensures { OnOk result (Builds g.old (asserted_literal (some_gates (signal_of signal.now) (map (symbol_word symbols) listed.now) (constant_lit false) g.old)) g.new) }
+    ensures { OnOk result (Builds g.old (asserted_literal (some_gates (signal_of signal.now)
+        (map (symbol_word symbols) listed.now) (constant_lit false) g.old)) g.new) }
 {
     let mut found = g.constant(false);
     for symbol in listed {

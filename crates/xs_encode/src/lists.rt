@@ -162,8 +162,10 @@ fn copied(
     requires state { 1 ≤ places.state }
     requires input { 1 ≤ places.input }
     requires placed { IsPlaced (source_model source.now) g.old places.state places.input }
-    ensures copy { IfOk result (BuildsCopy g.old (copy_gates (source_model source.now) (variable_signals (source_model source.now).symbols places.state places.input (source_model source.now).variables) all g.old) g.new) }
-    ensures variables { IfOk result (λ c. signals_of c.variables ≡ variable_signals (source_model source.now).symbols places.state places.input (source_model source.now).variables) }
+    ensures copy { IfOk result (BuildsCopy g.old (copy_gates (source_model source.now)
+        (variable_signals (source_model source.now).symbols places.state places.input (source_model source.now).variables) all g.old) g.new) }
+    ensures variables { IfOk result (λ c. signals_of c.variables
+        ≡ variable_signals (source_model source.now).symbols places.state places.input (source_model source.now).variables) }
 {
     let variables = variable_signals(alloc, source.model, places, source.symbols)?;
     // The variable of the constants is true, and below the next free one.
@@ -228,7 +230,8 @@ fn definition(
     requires source { IsSource source.now }
     requires right { IsRightFormula (source_model source.now) (formula_tree d.now) }
     requires usable { IsCopied g.old copy.now }
-    ensures { IfOk result (BuildsSignal g.old (definition_signal (source_model source.now) (signals_of copy.now.variables) all (formula_tree d.now) (signals_of copy.now.definitions) g.old) g.new) }
+    ensures { IfOk result (BuildsSignal g.old (definition_signal (source_model source.now)
+        (signals_of copy.now.variables) all (formula_tree d.now) (signals_of copy.now.definitions) g.old) g.new) }
 {
     if reads_input(&source.reading, &d.value) && !all {
         return Ok(Signal::Bit(g.constant(false)));

@@ -26,8 +26,11 @@ pub fn bits_of(t: &Typed, v: &Valuation, into: &mut Assign)
     requires free { IsFreeMoment (model_tree t.now.model) into.old }
     ensures same { length into.new ≡ length into.old }
     ensures kept { (x : ℕ) → IsElsewhere (model_tree t.now.model) x → slice_index_or into.new x None ≡ slice_index_or into.old x None }
-    ensures state { (values : List Told) → AreInDomains (model_tree t.now.model).variables values → StandFor t.now.model.symbols v.now values → Gives into.new 2 (state_of (model_tree t.now.model) values) }
-    ensures inputs { (values : List Told) → AreInDomains (model_tree t.now.model).variables values → StandFor t.now.model.symbols v.now values → Gives into.new (input_place (model_tree t.now.model)) (inputs_of (model_tree t.now.model) values) }
+    ensures state { (values : List Told) → AreInDomains (model_tree t.now.model).variables values →
+        StandFor t.now.model.symbols v.now values → Gives into.new 2 (state_of (model_tree t.now.model) values) }
+    ensures inputs { (values : List Told) → AreInDomains (model_tree t.now.model).variables values →
+        StandFor t.now.model.symbols v.now values →
+        Gives into.new (input_place (model_tree t.now.model)) (inputs_of (model_tree t.now.model) values) }
 {
     set_all(t, v, into);
 }

@@ -26,7 +26,8 @@ pub fn holds_step(t: &Typed, now: &Table, next: &Table) -> bool
     requires model { IsEvaluable (model_tree t.now.model) }
     requires filled_now { IsFilled (model_tree t.now.model) now.now }
     requires filled_next { IsFilled (model_tree t.now.model) next.now }
-    ensures { IsTrue result ↔ IsNextMoment (model_tree t.now.model) (values_in (model_tree t.now.model) now.now) (values_in (model_tree t.now.model) next.now) }
+    ensures { IsTrue result
+        ↔ IsNextMoment (model_tree t.now.model) (values_in (model_tree t.now.model) now.now) (values_in (model_tree t.now.model) next.now) }
 {
     step_holds(t.model(), now, next)
 }

@@ -243,7 +243,8 @@ impl GrownBranches {
     /// The branches with one more.
     #[tactic(auto, using(crate::proofs::Heights::branch_height, crate::proofs::Heights::pushed_branch))]
     pub fn with(self, condition: Grown, value: Grown) -> Result<GrownBranches, OutOfMemory>
-        ensures { IfOk result (λ made. map branch_trees made.branches ≡ map branch_trees self.branches ++ (tree_of condition.tree, tree_of value.tree) ∷ []) }
+        ensures { IfOk result (λ made. map branch_trees made.branches
+            ≡ map branch_trees self.branches ++ (tree_of condition.tree, tree_of value.tree) ∷ []) }
     {
         let height = self.height.max(condition.height.max(value.height));
         let mut branches = self.branches;

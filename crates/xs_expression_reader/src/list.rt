@@ -38,7 +38,8 @@ pub enum Place {
 #[tactic(auto, using(crate::proofs::ListLaws::live_stuck))]
 fn begin_step(frames: &mut Frames, token: &TokenText) -> Result<Option<Place>, OutOfMemory>
     requires { frames.old ≡ [] }
-    ensures next { IfOk result (λ place. after_view place frames.new ≡ lists.live (machine.step machine.start (role_of token.now)) (lists.more ∷ [])) }
+    ensures next { IfOk result (λ place. after_view place frames.new
+        ≡ lists.live (machine.step machine.start (role_of token.now)) (lists.more ∷ [])) }
     ensures fits { IfOk result (λ place. IfSome place (λ p. Fits p frames.new)) }
 {
     let mode = step(Mode::Wants, frames, token.role())?;
@@ -56,7 +57,8 @@ fn inside_step(
     token: &TokenText,
 ) -> Result<Option<Place>, OutOfMemory>
     requires { machine.is_stuck (state_with mode frames.old) ≡ false }
-    ensures next { IfOk result (λ place. after_view place frames.new ≡ stepped (lists.live (state_with mode frames.old) (lists.more ∷ [])) token.now) }
+    ensures next { IfOk result (λ place. after_view place frames.new
+        ≡ stepped (lists.live (state_with mode frames.old) (lists.more ∷ [])) token.now) }
     ensures fits { IfOk result (λ place. IfSome place (λ p. Fits p frames.new)) }
 {
     let whole = is_whole(mode, frames);

@@ -123,7 +123,8 @@ pub fn reduce(
     level: u32,
     operand: Grown,
 ) -> Result<Grown, GrowFault>
-    ensures ok { IfOk result (λ made. held (tree_of made.tree) (parts_of parts.new.items) ≡ machine.reduce level (tree_of operand.tree) (parts_of parts.old.items)) }
+    ensures ok { IfOk result (λ made. held (tree_of made.tree) (parts_of parts.new.items)
+        ≡ machine.reduce level (tree_of operand.tree) (parts_of parts.old.items)) }
     ensures deep { result ≡ Err GrowFault.TooDeep → deepest < held_height (machine.reduce level (tree_of operand.tree) (parts_of parts.old.items)) }
 {
     let mut made = operand;

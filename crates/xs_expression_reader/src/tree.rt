@@ -70,8 +70,10 @@ fn shut_set(
     operand: Grown,
     role: Role,
 ) -> Result<Build, GrowFault>
-    ensures ok { IfOk result (λ made. build_view made (parts_of parts.new.items) ≡ machine.shut (tree_of operand.tree) (part_view (Part.Set members) ∷ parts_of parts.old.items) (role_view role)) }
-    ensures deep { result ≡ Err GrowFault.TooDeep → TooHigh (machine.shut (tree_of operand.tree) (part_view (Part.Set members) ∷ parts_of parts.old.items) (role_view role)) }
+    ensures ok { IfOk result (λ made. build_view made (parts_of parts.new.items)
+        ≡ machine.shut (tree_of operand.tree) (part_view (Part.Set members) ∷ parts_of parts.old.items) (role_view role)) }
+    ensures deep { result ≡ Err GrowFault.TooDeep →
+        TooHigh (machine.shut (tree_of operand.tree) (part_view (Part.Set members) ∷ parts_of parts.old.items) (role_view role)) }
 {
     match role {
         Role::Comma => {
@@ -93,7 +95,8 @@ fn shut_branch(
     operand: Grown,
     role: Role,
 ) -> Result<Build, OutOfMemory>
-    ensures { (ps : List machine.Part) → IfOk result (λ made. build_view made ps ≡ machine.shut (tree_of operand.tree) (part_view (Part.Outcome branches condition) ∷ ps) (role_view role)) }
+    ensures { (ps : List machine.Part) → IfOk result (λ made.
+        build_view made ps ≡ machine.shut (tree_of operand.tree) (part_view (Part.Outcome branches condition) ∷ ps) (role_view role)) }
 {
     match role {
         Role::Semicolon => Ok(Build::BranchOn(branches.with(condition, operand)?)),
@@ -109,8 +112,10 @@ fn shut_part(
     operand: Grown,
     role: Role,
 ) -> Result<Build, GrowFault>
-    ensures ok { IfOk result (λ made. build_view made (parts_of parts.new.items) ≡ machine.shut (tree_of operand.tree) (part_view part ∷ parts_of parts.old.items) (role_view role)) }
-    ensures deep { result ≡ Err GrowFault.TooDeep → TooHigh (machine.shut (tree_of operand.tree) (part_view part ∷ parts_of parts.old.items) (role_view role)) }
+    ensures ok { IfOk result (λ made. build_view made (parts_of parts.new.items)
+        ≡ machine.shut (tree_of operand.tree) (part_view part ∷ parts_of parts.old.items) (role_view role)) }
+    ensures deep { result ≡ Err GrowFault.TooDeep →
+        TooHigh (machine.shut (tree_of operand.tree) (part_view part ∷ parts_of parts.old.items) (role_view role)) }
 {
     match part {
         Part::Group => match role {
@@ -142,7 +147,8 @@ fn shut(
     operand: Grown,
     role: Role,
 ) -> Result<Build, GrowFault>
-    ensures ok { IfOk result (λ made. build_view made (parts_of parts.new.items) ≡ machine.shut (tree_of operand.tree) (parts_of parts.old.items) (role_view role)) }
+    ensures ok { IfOk result (λ made. build_view made (parts_of parts.new.items)
+        ≡ machine.shut (tree_of operand.tree) (parts_of parts.old.items) (role_view role)) }
     ensures deep { result ≡ Err GrowFault.TooDeep → TooHigh (machine.shut (tree_of operand.tree) (parts_of parts.old.items) (role_view role)) }
 {
     match pop(parts) {
@@ -159,7 +165,8 @@ fn go_on(
     operand: Grown,
     role: Role,
 ) -> Result<Build, GrowFault>
-    ensures ok { IfOk result (λ made. build_view made (parts_of parts.new.items) ≡ machine.go_on (tree_of operand.tree) (parts_of parts.old.items) (role_view role)) }
+    ensures ok { IfOk result (λ made. build_view made (parts_of parts.new.items)
+        ≡ machine.go_on (tree_of operand.tree) (parts_of parts.old.items) (role_view role)) }
     ensures deep { result ≡ Err GrowFault.TooDeep → TooHigh (machine.go_on (tree_of operand.tree) (parts_of parts.old.items) (role_view role)) }
 {
     match role {
@@ -203,8 +210,10 @@ fn after_number(
     digits: Digits,
     role: Role,
 ) -> Result<Build, GrowFault>
-    ensures ok { IfOk result (λ made. build_view made (parts_of parts.new.items) ≡ machine.after_hand (machine.number_hand digits.value) (parts_of parts.old.items) (role_view role)) }
-    ensures deep { result ≡ Err GrowFault.TooDeep → TooHigh (machine.after_hand (machine.number_hand digits.value) (parts_of parts.old.items) (role_view role)) }
+    ensures ok { IfOk result (λ made. build_view made (parts_of parts.new.items)
+        ≡ machine.after_hand (machine.number_hand digits.value) (parts_of parts.old.items) (role_view role)) }
+    ensures deep { result ≡ Err GrowFault.TooDeep →
+        TooHigh (machine.after_hand (machine.number_hand digits.value) (parts_of parts.old.items) (role_view role)) }
 {
     match role {
         Role::Dots => Ok(span_from(parts, digits)?),
@@ -219,8 +228,10 @@ fn after_name(
     name: Dotted,
     role: Role,
 ) -> Result<Build, GrowFault>
-    ensures ok { IfOk result (λ made. build_view made (parts_of parts.new.items) ≡ machine.after_hand (machine.name_hand name) (parts_of parts.old.items) (role_view role)) }
-    ensures deep { result ≡ Err GrowFault.TooDeep → TooHigh (machine.after_hand (machine.name_hand name) (parts_of parts.old.items) (role_view role)) }
+    ensures ok { IfOk result (λ made. build_view made (parts_of parts.new.items)
+        ≡ machine.after_hand (machine.name_hand name) (parts_of parts.old.items) (role_view role)) }
+    ensures deep { result ≡ Err GrowFault.TooDeep →
+        TooHigh (machine.after_hand (machine.name_hand name) (parts_of parts.old.items) (role_view role)) }
 {
     match role {
         Role::Dot => Ok(Build::NameOn(name)),
@@ -235,7 +246,8 @@ fn after_hand(
     hand: Hand,
     role: Role,
 ) -> Result<Build, GrowFault>
-    ensures ok { IfOk result (λ made. build_view made (parts_of parts.new.items) ≡ machine.after_hand (hand_view hand) (parts_of parts.old.items) (role_view role)) }
+    ensures ok { IfOk result (λ made. build_view made (parts_of parts.new.items)
+        ≡ machine.after_hand (hand_view hand) (parts_of parts.old.items) (role_view role)) }
     ensures deep { result ≡ Err GrowFault.TooDeep → TooHigh (machine.after_hand (hand_view hand) (parts_of parts.old.items) (role_view role)) }
 {
     match hand {
@@ -252,7 +264,8 @@ fn open_operand(
     token: &TokenText,
     role: Role,
 ) -> Result<Build, OutOfMemory>
-    ensures { IfOk result (λ made. build_view made (parts_of parts.new.items) ≡ machine.open_operand (parts_of parts.old.items) token.now (role_view role)) }
+    ensures { IfOk result (λ made. build_view made (parts_of parts.new.items)
+        ≡ machine.open_operand (parts_of parts.old.items) token.now (role_view role)) }
 {
     match role {
         Role::Truth(value) => Ok(Build::Holds(Hand::Other(Grown::truth(value)))),
@@ -278,7 +291,8 @@ fn after_dot(
     token: &TokenText,
     role: Role,
 ) -> Result<Build, OutOfMemory>
-    ensures { (ps : List machine.Part) → IfOk result (λ made. build_view made ps ≡ machine.build_step (machine.name_on name ps) token.now (role_view role)) }
+    ensures { (ps : List machine.Part) → IfOk result (λ made.
+        build_view made ps ≡ machine.build_step (machine.name_on name ps) token.now (role_view role)) }
 {
     match role {
         Role::Name => {
@@ -313,7 +327,8 @@ fn after_minus(lo: i64, token: &TokenText, role: Role) -> Build
 
 /// What follows a `next`.
 fn after_next(parts: &mut Vec<Part>, token: &TokenText, role: Role) -> Result<Build, OutOfMemory>
-    ensures { IfOk result (λ made. build_view made (parts_of parts.new.items) ≡ machine.build_step (machine.next_on (parts_of parts.old.items)) token.now (role_view role)) }
+    ensures { IfOk result (λ made. build_view made (parts_of parts.new.items)
+        ≡ machine.build_step (machine.next_on (parts_of parts.old.items)) token.now (role_view role)) }
 {
     match role {
         Role::Opens => wait(parts, Part::Next),
@@ -329,8 +344,10 @@ fn after_branch(
     token: &TokenText,
     role: Role,
 ) -> Result<Build, GrowFault>
-    ensures ok { IfOk result (λ made. build_view made (parts_of parts.new.items) ≡ machine.build_step (build_view (Build.BranchOn branches) (parts_of parts.old.items)) token.now (role_view role)) }
-    ensures deep { result ≡ Err GrowFault.TooDeep → TooHigh (machine.build_step (build_view (Build.BranchOn branches) (parts_of parts.old.items)) token.now (role_view role)) }
+    ensures ok { IfOk result (λ made. build_view made (parts_of parts.new.items)
+        ≡ machine.build_step (build_view (Build.BranchOn branches) (parts_of parts.old.items)) token.now (role_view role)) }
+    ensures deep { result ≡ Err GrowFault.TooDeep →
+        TooHigh (machine.build_step (build_view (Build.BranchOn branches) (parts_of parts.old.items)) token.now (role_view role)) }
 {
     match role {
         Role::Esac => Ok(Build::Holds(Hand::Other(Grown::case(branches)?))),
@@ -349,8 +366,10 @@ fn step(
     token: &TokenText,
     role: Role,
 ) -> Result<Build, GrowFault>
-    ensures ok { IfOk result (λ made. build_view made (parts_of parts.new.items) ≡ machine.build_step (build_view build (parts_of parts.old.items)) token.now (role_view role)) }
-    ensures deep { result ≡ Err GrowFault.TooDeep → TooHigh (machine.build_step (build_view build (parts_of parts.old.items)) token.now (role_view role)) }
+    ensures ok { IfOk result (λ made. build_view made (parts_of parts.new.items)
+        ≡ machine.build_step (build_view build (parts_of parts.old.items)) token.now (role_view role)) }
+    ensures deep { result ≡ Err GrowFault.TooDeep →
+        TooHigh (machine.build_step (build_view build (parts_of parts.old.items)) token.now (role_view role)) }
 {
     match build {
         Build::Ready => Ok(open_operand(alloc, parts, token, role)?),
@@ -369,7 +388,8 @@ fn step(
 fn finish(alloc: Global, build: Build, parts: Vec<Part>) -> Result<Expr<Dotted>, BuildFault>
     ensures ok { IfOk result (λ made. machine.finish (build_view build (parts_of parts.items)) ≡ Some (tree_of made)) }
     ensures within { IfOk result (λ made. height_of (tree_of made) ≤ deepest) }
-    ensures deep { (t : Formula) → result ≡ Err BuildFault.TooDeep → machine.finish (build_view build (parts_of parts.items)) ≡ Some t → deepest < height_of t }
+    ensures deep { (t : Formula) → result ≡ Err BuildFault.TooDeep →
+        machine.finish (build_view build (parts_of parts.items)) ≡ Some t → deepest < height_of t }
     ensures none { result ≡ Err BuildFault.NoTree → machine.finish (build_view build (parts_of parts.items)) ≡ None }
 {
     match build {

@@ -87,7 +87,8 @@ impl<'a> Names<'a> {
     /// The signal of a name now; a symbol is its number.
     pub fn signal(&self, alloc: Global, g: &Gates, name: Flat) -> Result<Signal, OutOfMemory>
         requires { IsNamed g.now self.now }
-        ensures value { IfOk result (λ e. signal_of e ≡ leaf_signal (model_of self.now).symbols (copy_of self.now.current.now).variables (copy_of self.now.current.now).definitions (leaf_of name)) }
+        ensures value { IfOk result (λ e. signal_of e
+            ≡ leaf_signal (model_of self.now).symbols (copy_of self.now.current.now).variables (copy_of self.now.current.now).definitions (leaf_of name)) }
     {
         match name {
             Flat::Var(i) => signal_at(g, &self.current.variables, i),

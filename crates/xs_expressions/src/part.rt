@@ -177,7 +177,8 @@ pub fn leaf_part(
 ) -> Result<Part, OutOfMemory>
     requires named { IsNamed g.old names.now }
     requires asked { IsAskedIn g.old (asked_of asked) }
-    ensures { IfOk result (Answers (asked_of asked.entry) g.old (g.old, (names_in names.now).now (leaf_of name)) (told_sort (kind_of_leaf (model_of names.now) (leaf_of name))) g.new) }
+    ensures { IfOk result (Answers (asked_of asked.entry) g.old (g.old, (names_in names.now).now (leaf_of name))
+        (told_sort (kind_of_leaf (model_of names.now) (leaf_of name))) g.new) }
 {
     let part = named_part(alloc, g, names, name)?;
     answer(alloc, g, asked, part)
@@ -225,7 +226,8 @@ pub fn negated_part(
     requires symbols { 1 ≤ names.now.symbols }
     requires asked { IsAskedIn g.old (asked_of asked) }
     requires usable { IsSignal g.old (signal_of a.signal) }
-    ensures { IfOk result (Answers (asked_of asked.entry) g.old (as_word (negate_gates (word_in (signal_of a.signal)) (sort_width names.now.symbols (negative_sort a.sort)) g.old)) (negative_sort a.sort) g.new) }
+    ensures { IfOk result (Answers (asked_of asked.entry) g.old
+        (as_word (negate_gates (word_in (signal_of a.signal)) (sort_width names.now.symbols (negative_sort a.sort)) g.old)) (negative_sort a.sort) g.new) }
 {
     let width = sort_width(names.symbols, negative(kept(a.sort)).sort);
     let signal = negated(alloc, g, width, a.signal)?;
@@ -250,7 +252,8 @@ pub fn applied_part(
     requires asked { IsAskedIn g.old (asked_of asked) }
     requires left { IsSignal g.old (signal_of a.signal) }
     requires right { IsSignal g.old (signal_of b.signal) }
-    ensures { IfOk result (Answers (asked_of asked.entry) g.old (operator_gates op (sort_width names.now.symbols (operation_sort op a.sort b.sort)) (signal_of a.signal) (signal_of b.signal) g.old) (operation_sort op a.sort b.sort) g.new) }
+    ensures { IfOk result (Answers (asked_of asked.entry) g.old (operator_gates op (sort_width names.now.symbols (operation_sort op a.sort b.sort))
+        (signal_of a.signal) (signal_of b.signal) g.old) (operation_sort op a.sort b.sort) g.new) }
 {
     let width = sort_width(
         names.symbols,
@@ -268,7 +271,8 @@ pub fn applied_part(
 pub fn union_part(g: &mut Gates, a: Part, b: Part) -> Result<Part, OutOfMemory>
     requires left { IsSignal g.old (signal_of a.signal) }
     requires right { IsSignal g.old (signal_of b.signal) }
-    ensures signal { IfOk result (λ p. BuildsSignal g.old (as_bit (or_gate (literal_in (signal_of a.signal)) (literal_in (signal_of b.signal)) g.old)) g.new p.signal) }
+    ensures signal { IfOk result (λ p. BuildsSignal g.old (as_bit
+        (or_gate (literal_in (signal_of a.signal)) (literal_in (signal_of b.signal)) g.old)) g.new p.signal) }
     ensures bit { IfOk result (λ p. IsBit (signal_of p.signal)) }
 {
     let l = either(g, a.signal.literal(g), b.signal.literal(g))?;
@@ -307,7 +311,8 @@ pub fn chosen_part(
     requires condition { IsSignal g.old (signal_of c.signal) }
     requires left { IsSignal g.old (signal_of a.signal) }
     requires right { IsSignal g.old (signal_of b.signal) }
-    ensures signal { IfOk result (λ p. BuildsSignal g.old (choice_gates (sort_width names.now.symbols (joined_sort a.sort b.sort)) (literal_in (signal_of c.signal)) (signal_of a.signal) (signal_of b.signal) g.old) g.new p.signal) }
+    ensures signal { IfOk result (λ p. BuildsSignal g.old (choice_gates (sort_width names.now.symbols (joined_sort a.sort b.sort))
+        (literal_in (signal_of c.signal)) (signal_of a.signal) (signal_of b.signal) g.old) g.new p.signal) }
     ensures sort { IfOk result (λ p. p.sort ≡ joined_sort a.sort b.sort) }
 {
     let width = sort_width(names.symbols, joined_sort(a.sort, b.sort));

@@ -74,7 +74,8 @@ fn add_extension(
     extension: &Extension,
     faults: &mut WovenFaultList,
 ) -> Result<(), OutOfMemory>
-    ensures { OnOk result (map fault_tree faults.new ≡ map fault_tree faults.old ++ flat_map (slice_faults (place_of instance.now.path)) (own_slices (extension_tree extension.now) instance.now.«module»)) }
+    ensures { OnOk result (map fault_tree faults.new
+        ≡ map fault_tree faults.old ++ flat_map (slice_faults (place_of instance.now.path)) (own_slices (extension_tree extension.now) instance.now.«module»)) }
 {
     if extends(extension, instance) {
         return add_slices(instance, extension.slices.as_slice(), faults);
@@ -96,7 +97,8 @@ fn add_slices(
     slices: &[Slice],
     faults: &mut WovenFaultList,
 ) -> Result<(), OutOfMemory>
-    ensures { OnOk result (map fault_tree faults.new ≡ map fault_tree faults.old ++ flat_map (slice_faults (place_of instance.now.path)) (map slice_tree slices.now)) }
+    ensures { OnOk result (map fault_tree faults.new
+        ≡ map fault_tree faults.old ++ flat_map (slice_faults (place_of instance.now.path)) (map slice_tree slices.now)) }
 {
     for slice in slices {
         add_slice(instance, slice, faults)?;
@@ -111,7 +113,8 @@ fn add_slice(
     slice: &Slice,
     faults: &mut WovenFaultList,
 ) -> Result<(), OutOfMemory>
-    ensures { OnOk result (map fault_tree faults.new ≡ map fault_tree faults.old ++ slice_faults (place_of instance.now.path) (slice_tree slice.now)) }
+    ensures { OnOk result (map fault_tree faults.new
+        ≡ map fault_tree faults.old ++ slice_faults (place_of instance.now.path) (slice_tree slice.now)) }
 {
     for mode in slice.modes.as_slice() {
         faults.push(woven_fault(instance, &slice.name, mode)?)?;

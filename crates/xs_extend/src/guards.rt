@@ -115,8 +115,10 @@ fn judge_instance(
 ) -> Result<(), WeaveFault>
     requires scope { IsScopeOf (program_in nominal) scope.now }
     ensures want { IfErr result IsFromExpressions }
-    ensures kept { (at : FlatInstance) → IsInstanceAt nominal.entry «instance» at → at.module_name ≡ «module».now → OnOk result (AreUsesKept nominal.entry (uses_of_slices (map seen_placed slices.now) at)) }
-    ensures told { (at : FlatInstance) → IsInstanceAt nominal.entry «instance» at → at.module_name ≡ «module».now → IfErr result (IsFirstOfUses nominal.entry (uses_of_slices (map seen_placed slices.now) at)) }
+    ensures kept { (at : FlatInstance) → IsInstanceAt nominal.entry «instance» at →
+        at.module_name ≡ «module».now → OnOk result (AreUsesKept nominal.entry (uses_of_slices (map seen_placed slices.now) at)) }
+    ensures told { (at : FlatInstance) → IsInstanceAt nominal.entry «instance» at →
+        at.module_name ≡ «module».now → IfErr result (IsFirstOfUses nominal.entry (uses_of_slices (map seen_placed slices.now) at)) }
 {
     for placed in slices {
         if placed.owner.is_same(module) {
@@ -136,8 +138,10 @@ fn judge_slice(
 ) -> Result<(), WeaveFault>
     requires scope { IsScopeOf (program_in nominal) scope.now }
     ensures want { IfErr result IsFromExpressions }
-    ensures kept { (at : FlatInstance) → IsInstanceAt nominal.entry «instance» at → OnOk result (AreUsesKept nominal.entry (uses_of_placed placed.entry at)) }
-    ensures told { (at : FlatInstance) → IsInstanceAt nominal.entry «instance» at → IfErr result (IsFirstOfUses nominal.entry (uses_of_placed placed.entry at)) }
+    ensures kept { (at : FlatInstance) → IsInstanceAt nominal.entry «instance» at →
+        OnOk result (AreUsesKept nominal.entry (uses_of_placed placed.entry at)) }
+    ensures told { (at : FlatInstance) → IsInstanceAt nominal.entry «instance» at →
+        IfErr result (IsFirstOfUses nominal.entry (uses_of_placed placed.entry at)) }
 {
     let mut item = placed.item;
     for mode in placed.slice.modes.as_slice() {
@@ -162,8 +166,10 @@ fn judge_mode(
 ) -> Result<(), Cause>
     requires scope { IsScopeOf (program_in nominal) scope.now }
     ensures want { IfErr result IsOfExpressions }
-    ensures kept { (at : FlatInstance) (n : ℕ) → IsInstanceAt nominal.entry «instance» at → OnOk result (IsUseKept nominal.entry (use_at at.place (declared_tree declared.now) (mode_tree mode.now) n)) }
-    ensures told { (at : FlatInstance) (n : ℕ) → IsInstanceAt nominal.entry «instance» at → IfErr result (λ cause. IsWantOr cause (IsUseBroken nominal.entry (use_at at.place (declared_tree declared.now) (mode_tree mode.now) n))) }
+    ensures kept { (at : FlatInstance) (n : ℕ) → IsInstanceAt nominal.entry «instance» at →
+        OnOk result (IsUseKept nominal.entry (use_at at.place (declared_tree declared.now) (mode_tree mode.now) n)) }
+    ensures told { (at : FlatInstance) (n : ℕ) → IsInstanceAt nominal.entry «instance» at →
+        IfErr result (λ cause. IsWantOr cause (IsUseBroken nominal.entry (use_at at.place (declared_tree declared.now) (mode_tree mode.now) n))) }
 {
     let resolved = resolve_mode(alloc, nominal, scope, instance, mode)?;
     match first_of_kinds(nominal.typed, &resolved, declared) {
@@ -182,10 +188,14 @@ fn resolve_mode(
 ) -> Result<Resolved, Cause>
     requires scope { IsScopeOf (program_in nominal) scope.now }
     ensures want { IfErr result IsOfExpressions }
-    ensures follows { (at : FlatInstance) → IsInstanceAt nominal.entry «instance» at → IfOk result (λ r. IsFormAt nominal.entry at (followed (effect_tree mode.now.effect)) r.follows) }
-    ensures guard { (at : FlatInstance) → IsInstanceAt nominal.entry «instance» at → IfOk result (λ r. IsFormAt nominal.entry at (guard_tree mode.now.guard) r.guard) }
-    ensures kept { (at : FlatInstance) (type : DeclaredTree) (n : ℕ) → IsInstanceAt nominal.entry «instance» at → OnOk result (KeepsNames (program_in nominal.entry) (use_at at.place type (mode_tree mode.now) n)) }
-    ensures told { (at : FlatInstance) (type : DeclaredTree) (n : ℕ) → IsInstanceAt nominal.entry «instance» at → IfErr result (λ cause. IsWantOr cause (IsUseBroken nominal.entry (use_at at.place type (mode_tree mode.now) n))) }
+    ensures follows { (at : FlatInstance) → IsInstanceAt nominal.entry «instance» at →
+        IfOk result (λ r. IsFormAt nominal.entry at (followed (effect_tree mode.now.effect)) r.follows) }
+    ensures guard { (at : FlatInstance) → IsInstanceAt nominal.entry «instance» at →
+        IfOk result (λ r. IsFormAt nominal.entry at (guard_tree mode.now.guard) r.guard) }
+    ensures kept { (at : FlatInstance) (type : DeclaredTree) (n : ℕ) → IsInstanceAt nominal.entry «instance» at →
+        OnOk result (KeepsNames (program_in nominal.entry) (use_at at.place type (mode_tree mode.now) n)) }
+    ensures told { (at : FlatInstance) (type : DeclaredTree) (n : ℕ) → IsInstanceAt nominal.entry «instance» at →
+        IfErr result (λ cause. IsWantOr cause (IsUseBroken nominal.entry (use_at at.place type (mode_tree mode.now) n))) }
 {
     let follows = resolve(
         alloc,
@@ -228,8 +238,10 @@ fn resolve(
 ) -> Result<Option<Expr<Flat>>, FlatFault>
     requires scope { IsScopeOf (program_in nominal) scope.now }
     ensures form { (at : FlatInstance) → IsInstanceAt nominal.entry «instance» at → IfOk result (IsFormAt nominal.entry at (written e.entry)) }
-    ensures kept { (at : FlatInstance) → IsInstanceAt nominal.entry «instance» at → OnOk result (IsSomeKept (program_in nominal.entry) at.place inputs (written e.entry)) }
-    ensures told { (at : FlatInstance) → IsInstanceAt nominal.entry «instance» at → IfErr result (IsSomeFault (program_in nominal.entry) at.place inputs (written e.entry)) }
+    ensures kept { (at : FlatInstance) → IsInstanceAt nominal.entry «instance» at →
+        OnOk result (IsSomeKept (program_in nominal.entry) at.place inputs (written e.entry)) }
+    ensures told { (at : FlatInstance) → IsInstanceAt nominal.entry «instance» at →
+        IfErr result (IsSomeFault (program_in nominal.entry) at.place inputs (written e.entry)) }
 {
     let Some(e) = e else {
         return Ok(None);
@@ -252,7 +264,8 @@ fn follows_of(effect: &Effect) -> Option<&Expr<Dotted>>
 /// The first rule of kinds that a mode's expressions break: the least of both, and else the demands on
 /// their classes.
 fn first_of_kinds(typed: &Typed, resolved: &Resolved, declared: &Declared) -> Option<Rule>
-    ensures { result ≡ told_first (kind_rule (model_tree typed.now.model) (declared_tree declared.now) (option_map flat_tree resolved.now.follows) (option_map flat_tree resolved.now.guard)) }
+    ensures { result ≡ told_first (kind_rule (model_tree typed.now.model) (declared_tree declared.now)
+        (option_map flat_tree resolved.now.follows) (option_map flat_tree resolved.now.guard)) }
 {
     let follows = judged(typed, resolved.follows.as_ref());
     let guard = judged(typed, resolved.guard.as_ref());
@@ -265,7 +278,8 @@ fn first_of_kinds(typed: &Typed, resolved: &Resolved, declared: &Declared) -> Op
 /// The rule of kinds that an expression breaks, or its kind, where there is one.
 fn judged(typed: &Typed, e: Option<&Expr<Flat>>) -> Verdict
     ensures rule { result.rule ≡ told_rules (broken_by (model_tree typed.now.model) (option_map flat_tree (option_copied e.entry))) }
-    ensures kind { result.rule ≡ None → result.kind ≡ option_map shown (kind_of_form (model_tree typed.now.model) (option_map flat_tree (option_copied e.entry))) }
+    ensures kind { result.rule ≡ None → result.kind
+        ≡ option_map shown (kind_of_form (model_tree typed.now.model) (option_map flat_tree (option_copied e.entry))) }
 {
     match e {
         Some(e) => of_answer(check_value(typed, e)),
@@ -294,7 +308,8 @@ fn of_answer(answer: Result<Kind, TypeFault>) -> Verdict
 
 /// The demands on classes: what is followed has that of the variable, and a guard is a truth value.
 fn demand(follows: Option<Kind>, guard: Option<Kind>, declared: &Declared) -> Option<Rule>
-    ensures { result ≡ lower (unless (fits_class follows (class_declared (declared_tree declared.now))) type_rules.Mismatch) (unless (fits_class guard truth_class) type_rules.NotBoolean) }
+    ensures { result ≡ lower (unless (fits_class follows (class_declared (declared_tree declared.now))) type_rules.Mismatch)
+        (unless (fits_class guard truth_class) type_rules.NotBoolean) }
 {
     if !follows_fits(follows, declared) {
         return Some(Rule::Mismatch);

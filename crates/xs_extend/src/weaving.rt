@@ -46,11 +46,13 @@ pub fn weave(alloc: Global, p: &Program, i: &Instructions) -> Result<Woven, Weav
     ensures program { IfOk result (λ w. program_tree w.program ≡ woven (program_tree p.now) (instruction_tree i.now)) }
     ensures weavable { OnOk result (IsWeavable (program_tree p.now) (instruction_tree i.now)) }
     ensures extension { IfOk result (λ w. IsExtensionOf (program_tree p.now) (instruction_tree i.now) (program_tree w.program)) }
-    ensures faults { HasInstancesInVar (program_tree p.now) → IfOk result (λ w. HasFaults (program_tree p.now) (instruction_tree i.now) (map fault_tree w.faults)) }
+    ensures faults { HasInstancesInVar (program_tree p.now) →
+        IfOk result (λ w. HasFaults (program_tree p.now) (instruction_tree i.now) (map fault_tree w.faults)) }
     ensures kept { OnOk result (AllKept (broken_at (program_tree p.now)) (item_sites (instruction_tree i.now))) }
     ensures uses { (m : FlatModel) → IsFlatOf (program_tree p.now) m → OnOk result (AllUsesKept (program_tree p.now) m (instruction_tree i.now)) }
     ensures told { IfErr result (IsToldSomewhere (program_tree p.now) (instruction_tree i.now)) }
-    ensures exact { (m : FlatModel) → IsAccepted (program_tree p.now) → IsFlatOf (program_tree p.now) m → IsTyped m → IfErr result (IsTold (program_tree p.now) m (instruction_tree i.now) (modules_at m)) }
+    ensures exact { (m : FlatModel) → IsAccepted (program_tree p.now) → IsFlatOf (program_tree p.now) m →
+        IsTyped m → IfErr result (IsTold (program_tree p.now) m (instruction_tree i.now) (modules_at m)) }
 {
     let typed = typed_of(alloc, p)?;
     weave_typed(alloc, p, &typed, i)
@@ -64,11 +66,14 @@ pub fn weave_typed(
     i: &Instructions,
 ) -> Result<Woven, WeaveFault>
     ensures program { IfOk result (λ w. program_tree w.program ≡ woven (program_tree p.now) (instruction_tree i.now)) }
-    ensures weavable { IsAccepted (program_tree p.now) → IsFlatOf (program_tree p.now) (model_tree typed.now.model) → ActualsMean (program_tree p.now) → OnOk result (IsWeavable (program_tree p.now) (instruction_tree i.now)) }
-    ensures faults { IfOk result (λ w. AreInstancesOf (program_tree p.now) typed.now.model.instances → HasFaults (program_tree p.now) (instruction_tree i.now) (map fault_tree w.faults)) }
+    ensures weavable { IsAccepted (program_tree p.now) → IsFlatOf (program_tree p.now) (model_tree typed.now.model) →
+        ActualsMean (program_tree p.now) → OnOk result (IsWeavable (program_tree p.now) (instruction_tree i.now)) }
+    ensures faults { IfOk result (λ w. AreInstancesOf (program_tree p.now) typed.now.model.instances →
+        HasFaults (program_tree p.now) (instruction_tree i.now) (map fault_tree w.faults)) }
     ensures listed { IfOk result (λ w. map fault_tree w.faults ≡ faults_at (instruction_tree i.now) typed.now.model.instances) }
     ensures kept { OnOk result (KeepsRules (program_tree p.now) (instruction_tree i.now) (modules_in typed.now.model.instances)) }
-    ensures uses { IsAccepted (program_tree p.now) → IsFlatOf (program_tree p.now) (model_tree typed.now.model) → OnOk result (AllUsesKept (program_tree p.now) (model_tree typed.now.model) (instruction_tree i.now)) }
+    ensures uses { IsAccepted (program_tree p.now) → IsFlatOf (program_tree p.now) (model_tree typed.now.model) →
+        OnOk result (AllUsesKept (program_tree p.now) (model_tree typed.now.model) (instruction_tree i.now)) }
     ensures told { IfErr result (IsTold (program_tree p.now) (model_tree typed.now.model) (instruction_tree i.now) (modules_in typed.now.model.instances)) }
 {
     judge(alloc, p, typed, i)?;
@@ -79,7 +84,8 @@ pub fn weave_typed(
 /// Tells the first rule that the instructions break.
 fn judge(alloc: Global, p: &Program, typed: &Typed, i: &Instructions) -> Result<(), WeaveFault>
     ensures kept { OnOk result (KeepsRules (program_tree p.now) (instruction_tree i.now) (modules_in typed.now.model.instances)) }
-    ensures uses { IsAccepted (program_tree p.now) → IsFlatOf (program_tree p.now) (model_tree typed.now.model) → OnOk result (AllUsesKept (program_tree p.now) (model_tree typed.now.model) (instruction_tree i.now)) }
+    ensures uses { IsAccepted (program_tree p.now) → IsFlatOf (program_tree p.now) (model_tree typed.now.model) →
+        OnOk result (AllUsesKept (program_tree p.now) (model_tree typed.now.model) (instruction_tree i.now)) }
     ensures told { IfErr result (IsTold (program_tree p.now) (model_tree typed.now.model) (instruction_tree i.now) (modules_in typed.now.model.instances)) }
 {
     let slices = placed_slices(alloc, p, i)?;
@@ -90,7 +96,8 @@ fn judge(alloc: Global, p: &Program, typed: &Typed, i: &Instructions) -> Result<
 /// Tells the first mode with which there are too many faults, or too many modes.
 fn count(alloc: Global, typed: &Typed, i: &Instructions) -> Result<(), RuleFault>
     ensures kept { OnOk result (AllKept (count_broken_at (modules_in typed.now.model.instances)) (item_sites (instruction_tree i.now))) }
-    ensures first { IfErr result (λ fault. fault.rule ≢ broken.OutOfMemory → IsFirstBroken (count_broken_at (modules_in typed.now.model.instances)) (item_sites (instruction_tree i.now)) fault.rule fault.item) }
+    ensures first { IfErr result (λ fault. fault.rule ≢ broken.OutOfMemory →
+        IsFirstBroken (count_broken_at (modules_in typed.now.model.instances)) (item_sites (instruction_tree i.now)) fault.rule fault.item) }
 {
     let owners = modules_of(alloc, typed.model().instances.as_slice())?;
     judge_counts(owners.as_slice(), i)

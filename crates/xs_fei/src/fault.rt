@@ -48,7 +48,8 @@ pub fn allowed(e: &Effect, d: &Declared) -> Result<(), EffectFault>
 
 /// `StuckAt`: the constant is of the variable's kind, and one of its values.
 fn constant_allowed(c: &Constant, d: &Declared) -> Result<(), EffectFault>
-    ensures { result_err result ≡ constant_fault (is_of_kind_of (declared_tree d.now) (constant_value c.now)) (in_domain (declared_tree d.now) (constant_value c.now)) }
+    ensures { result_err result
+        ≡ constant_fault (is_of_kind_of (declared_tree d.now) (constant_value c.now)) (in_domain (declared_tree d.now) (constant_value c.now)) }
 {
     if !is_of_kind(d, c) {
         return Err(EffectFault::WrongKind);

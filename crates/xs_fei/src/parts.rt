@@ -76,7 +76,8 @@ fn moved(
 ) -> Result<Expr<Dotted>, OutOfMemory>
     requires distance { HasNegation distance }
     requires declared { TypeHasNegations (declared_tree d.now) }
-    ensures { IfOk result (λ made. tree_of made ≡ clipped_tree (declared_tree d.now) (binary_of Op.Plus (named_tree (own_name_of target.now)) (number_tree distance))) }
+    ensures { IfOk result (λ made. tree_of made ≡ clipped_tree (declared_tree d.now)
+        (binary_of Op.Plus (named_tree (own_name_of target.now)) (number_tree distance))) }
 {
     let own = own_value(alloc, target)?;
     let distance = number(alloc, distance)?;

@@ -44,12 +44,16 @@ pub fn find_causes<D: Desk>(
     asked: &FindCauses,
     panel: &mut Panel,
 ) -> Result<Status, Stop>
-    ensures ok { IfOk result (λ s. IfSome (D.files desk.old) (λ files. HasFoundCauses files asked.now.model.now asked.now.faults.now asked.now.causes.now asked.now.top.now asked.now.cert.now asked.now.depth s (D.files desk.old) (D.files desk.new) (D.said desk.old) (D.said desk.new))) }
+    ensures ok { IfOk result (λ s. IfSome (D.files desk.old) (λ files.
+        HasFoundCauses files asked.now.model.now asked.now.faults.now asked.now.causes.now asked.now.top.now asked.now.cert.now asked.now.depth s
+        (D.files desk.old) (D.files desk.new) (D.said desk.old) (D.said desk.new))) }
     ensures finished { IfOk result IsFinished }
     ensures refused { (r : Refusal) → IsErrOf result (stop.Refused r) →
         IfSome (D.files desk.old) (λ files. RefusesStaged files asked.now.model.now asked.now.faults.now asked.now.causes.now asked.now.top.now r) }
-    ensures untouched { (r : Refusal) → IsErrOf result (stop.Refused r) → (D.files desk.new ≡ D.files desk.old) × (D.said desk.new ≡ D.said desk.old) }
-    ensures left { LeavesCauses asked.now.model.now asked.now.faults.now asked.now.causes.now asked.now.top.now asked.now.cert.now asked.now.depth (D.files desk.old) (D.files desk.new) (D.said desk.old) (D.said desk.new) }
+    ensures untouched { (r : Refusal) → IsErrOf result (stop.Refused r) →
+        (D.files desk.new ≡ D.files desk.old) × (D.said desk.new ≡ D.said desk.old) }
+    ensures left { LeavesCauses asked.now.model.now asked.now.faults.now asked.now.causes.now asked.now.top.now asked.now.cert.now asked.now.depth
+        (D.files desk.old) (D.files desk.new) (D.said desk.old) (D.said desk.new) }
     ensures failed { IsErrOf result stop.Desk → Rose (D.faults desk.old) (D.faults desk.new) }
     ensures later { D.faults desk.old ≤ D.faults desk.new }
     ensures quiet { D.quiet desk.old → D.quiet desk.new × (D.faults desk.new ≡ D.faults desk.old) }
@@ -65,13 +69,17 @@ pub fn check_causes<D: Desk>(
     desk: &mut D,
     asked: &CheckCauses,
 ) -> Result<Status, Stop>
-    ensures ok { IfOk result (λ s. IfSome (D.files desk.old) (λ files. HasCheckedCauses files asked.now.model.now asked.now.faults.now asked.now.causes.now asked.now.top.now asked.now.cert.now (D.said desk.old) (D.said desk.new))) }
+    ensures ok { IfOk result (λ s. IfSome (D.files desk.old) (λ files.
+        HasCheckedCauses files asked.now.model.now asked.now.faults.now asked.now.causes.now asked.now.top.now asked.now.cert.now
+        (D.said desk.old) (D.said desk.new))) }
     ensures ends { IfOk result (λ s. s ≡ Status.Done) }
     ensures finished { IfOk result IsFinished }
     ensures refused { (r : Refusal) → IsErrOf result (stop.Refused r) →
         IfSome (D.files desk.old) (λ files. RefusesCauseCheck files asked.now.model.now asked.now.faults.now asked.now.causes.now asked.now.top.now asked.now.cert.now r) }
-    ensures untouched { (r : Refusal) → IsErrOf result (stop.Refused r) → (D.files desk.new ≡ D.files desk.old) × (D.said desk.new ≡ D.said desk.old) }
-    ensures left { LeavesCheck asked.now.model.now asked.now.faults.now asked.now.causes.now asked.now.top.now asked.now.cert.now (D.files desk.old) (D.said desk.old) (D.said desk.new) }
+    ensures untouched { (r : Refusal) → IsErrOf result (stop.Refused r) →
+        (D.files desk.new ≡ D.files desk.old) × (D.said desk.new ≡ D.said desk.old) }
+    ensures left { LeavesCheck asked.now.model.now asked.now.faults.now asked.now.causes.now asked.now.top.now asked.now.cert.now
+        (D.files desk.old) (D.said desk.old) (D.said desk.new) }
     ensures failed { IsErrOf result stop.Desk → Rose (D.faults desk.old) (D.faults desk.new) }
     ensures files { D.files desk.new ≡ D.files desk.old }
     ensures later { D.faults desk.old ≤ D.faults desk.new }
@@ -89,7 +97,8 @@ fn prepare_causes<D: Desk>(
     asked: &FindCauses,
     panel: &mut Panel,
 ) -> Result<Conclusion, Stop>
-    ensures ok { IfOk result (λ found. IfSome (D.files desk.old) (λ files. FindsCauses files asked.now.model.now asked.now.faults.now asked.now.causes.now asked.now.top.now asked.now.depth found)) }
+    ensures ok { IfOk result (λ found. IfSome (D.files desk.old) (λ files.
+        FindsCauses files asked.now.model.now asked.now.faults.now asked.now.causes.now asked.now.top.now asked.now.depth found)) }
     ensures refused { (r : Refusal) → IsErrOf result (stop.Refused r) →
         IfSome (D.files desk.old) (λ files. RefusesStaged files asked.now.model.now asked.now.faults.now asked.now.causes.now asked.now.top.now r) }
     ensures failed { IsErrOf result stop.Desk → Rose (D.faults desk.old) (D.faults desk.new) }
@@ -120,7 +129,8 @@ fn prepare_check<D: Desk>(
     desk: &mut D,
     asked: &CheckCauses,
 ) -> Result<ByteList, Stop>
-    ensures ok { IfOk result (λ report. IfSome (D.files desk.old) (λ files. AcceptsCauses files asked.now.model.now asked.now.faults.now asked.now.causes.now asked.now.top.now asked.now.cert.now report)) }
+    ensures ok { IfOk result (λ report. IfSome (D.files desk.old) (λ files.
+        AcceptsCauses files asked.now.model.now asked.now.faults.now asked.now.causes.now asked.now.top.now asked.now.cert.now report)) }
     ensures refused { (r : Refusal) → IsErrOf result (stop.Refused r) →
         IfSome (D.files desk.old) (λ files. RefusesCauseCheck files asked.now.model.now asked.now.faults.now asked.now.causes.now asked.now.top.now asked.now.cert.now r) }
     ensures failed { IsErrOf result stop.Desk → Rose (D.faults desk.old) (D.faults desk.new) }
@@ -170,7 +180,8 @@ fn judge(alloc: Global, staged: &StagedEvent, certificate: &Certificate) -> Resu
     requires event { IsStagedEvent staged.now }
     requires checkable { IsCheckable (seen certificate.now) }
     ensures ok { OnOk result (CertifiesStaged staged.now (seen certificate.now)) }
-    ensures refused { (r : Refusal) → IsErrOf result (stop.Refused r) → BreaksLine (staged_in staged.now) (events_in staged.now) (flat_tree staged.now.loaded.top) (seen certificate.now) r }
+    ensures refused { (r : Refusal) → IsErrOf result (stop.Refused r) →
+        BreaksLine (staged_in staged.now) (events_in staged.now) (flat_tree staged.now.loaded.top) (seen certificate.now) r }
     ensures desk { IsErrOf result stop.Desk → ⊥ }
 {
     if staged.typed.model().symbols.len() >= MOST_SYMBOLS {
@@ -231,7 +242,8 @@ fn analysed(
 ) -> Result<Analysis, OutOfMemory>
     requires { IsStagedEvent staged.now }
     ensures few { OnOk result (length staged.now.typed.model.symbols < 2 ^ 31) }
-    ensures searched { IfOk result (IsSearched (staged_in staged.now) (events_in staged.now) (flat_tree staged.now.loaded.top) depth (length (events_in staged.now))) }
+    ensures searched { IfOk result (IsSearched (staged_in staged.now) (events_in staged.now)
+        (flat_tree staged.now.loaded.top) depth (length (events_in staged.now))) }
 {
     if staged.typed.model().symbols.len() >= MOST_SYMBOLS {
         return Err(OutOfMemory);
@@ -259,7 +271,8 @@ fn certificate(
 ) -> Result<Option<ByteList>, OutOfMemory>
     requires staged { IsStagedEvent staged.now }
     requires searched { IsSearched (staged_in staged.now) (events_in staged.now) (flat_tree staged.now.loaded.top) depth a.now.size a.now }
-    ensures { IfOk result (HasCertificate (staged_in staged.now) (events_in staged.now) (flat_tree staged.now.loaded.top) staged.now.typed.model.symbols a.now a.now.end) }
+    ensures { IfOk result (HasCertificate (staged_in staged.now) (events_in staged.now)
+        (flat_tree staged.now.loaded.top) staged.now.typed.model.symbols a.now a.now.end) }
 {
     match &a.end {
         End::Complete(_clauses) => {
@@ -281,7 +294,8 @@ fn certificate_text(
     requires staged { IsStagedEvent staged.now }
     requires searched { IsSearched (staged_in staged.now) (events_in staged.now) (flat_tree staged.now.loaded.top) depth a.now.size a.now }
     requires complete { (k : ℕ) → a.now.end ≡ ends.Bounded k → ⊥ }
-    ensures { IfOk result (IsCertificateFor (staged_in staged.now) (events_in staged.now) (flat_tree staged.now.loaded.top) a.now.size a.now.sets (map (told_trace staged.now.typed.model.symbols) a.now.traces)) }
+    ensures { IfOk result (IsCertificateFor (staged_in staged.now) (events_in staged.now)
+        (flat_tree staged.now.loaded.top) a.now.size a.now.sets (map (told_trace staged.now.typed.model.symbols) a.now.traces)) }
 {
     let certificate = certify(
         alloc,

@@ -126,7 +126,8 @@ fn load_causes_and_top<D: Desk>(
 ) -> Result<StagedTop, Stop>
     requires lawful { IsLawful (program_tree model.now.program) (model_tree model.now.typed.model) }
     requires loaded { IsLoaded (program_tree model.now.program) case.now }
-    ensures causes { IfOk result (λ l. IfSome (D.files desk.old) (λ files. HoldsCauses files name.now (faults_in case.now) (extension_in case.now) (map cause_of l.staged.causes))) }
+    ensures causes { IfOk result (λ l. IfSome (D.files desk.old) (λ files.
+        HoldsCauses files name.now (faults_in case.now) (extension_in case.now) (map cause_of l.staged.causes))) }
     ensures staged { IfOk result (λ l. IsStagedCase case.now l.staged) }
     ensures top { IfOk result (λ l. IsTopIn (case_of (program_tree model.now.program) case.now) word.now (flat_tree l.top)) }
     ensures refused { (r : Refusal) → IsErrOf result (stop.Refused r) → (of_model : Text) → (of_faults : Text) →
@@ -159,7 +160,8 @@ fn load_causes<D: Desk>(
     case: &LoadedCase,
 ) -> Result<StagedCase, Stop>
     requires { IsSomeCase case.now }
-    ensures ok { IfOk result (λ l. IfSome (D.files desk.old) (λ files. HoldsCauses files name.now (faults_in case.now) (extension_in case.now) (map cause_of l.causes))) }
+    ensures ok { IfOk result (λ l. IfSome (D.files desk.old) (λ files.
+        HoldsCauses files name.now (faults_in case.now) (extension_in case.now) (map cause_of l.causes))) }
     ensures staged { IfOk result (IsStagedCase case.now) }
     ensures refused { (r : Refusal) → IsErrOf result (stop.Refused r) →
         IfSome (D.files desk.old) (λ files. RefusesCauses files name.now (faults_in case.now) (extension_in case.now) (flat_in case.now) (modes_in case.now) r) }
@@ -203,7 +205,8 @@ fn causes_of(alloc: Global, bytes: &[u8], case: &LoadedCase) -> Result<CauseList
     requires case { IsSomeCase case.now }
     requires short { length bytes.now ≤ 1048576 }
     ensures read { IfOk result (λ causes. AreCausesOf case.now bytes.now (map cause_of causes)) }
-    ensures refused { (r : Refusal) → IsErrOf result (stop.Refused r) → RefusesBytes (faults_in case.now) (extension_in case.now) (flat_in case.now) (modes_in case.now) bytes.now r }
+    ensures refused { (r : Refusal) → IsErrOf result (stop.Refused r) →
+        RefusesBytes (faults_in case.now) (extension_in case.now) (flat_in case.now) (modes_in case.now) bytes.now r }
     ensures desk { IsErrOf result stop.Desk → ⊥ }
 {
     let limited = &case.limited;

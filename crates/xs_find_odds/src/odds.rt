@@ -61,7 +61,8 @@ pub fn find_odds<D: Desk>(
     asked: &FindOdds,
     panel: &mut Panel,
 ) -> Result<Status, Stop>
-    ensures ok { IfOk result (λ s. IfSome (D.files desk.old) (λ files. HasOdds files asked.now.model.now asked.now.faults.now asked.now.top.now asked.now.depth s (D.said desk.old) (D.said desk.new))) }
+    ensures ok { IfOk result (λ s. IfSome (D.files desk.old) (λ files.
+        HasOdds files asked.now.model.now asked.now.faults.now asked.now.top.now asked.now.depth s (D.said desk.old) (D.said desk.new))) }
     ensures finished { IfOk result IsFinished }
     ensures refused { (r : Refusal) → IsErrOf result (stop.Refused r) →
         IfSome (D.files desk.old) (λ files. RefusesOdds files asked.now.model.now asked.now.faults.now asked.now.top.now r) }
@@ -85,7 +86,8 @@ fn prepare_odds<D: Desk>(
     asked: &FindOdds,
     panel: &mut Panel,
 ) -> Result<FoundOdds, Stop>
-    ensures ok { IfOk result (λ found. IfSome (D.files desk.old) (λ files. FindsOdds files asked.now.model.now asked.now.faults.now asked.now.top.now asked.now.depth found)) }
+    ensures ok { IfOk result (λ found. IfSome (D.files desk.old) (λ files.
+        FindsOdds files asked.now.model.now asked.now.faults.now asked.now.top.now asked.now.depth found)) }
     ensures refused { (r : Refusal) → IsErrOf result (stop.Refused r) →
         IfSome (D.files desk.old) (λ files. RefusesOdds files asked.now.model.now asked.now.faults.now asked.now.top.now r) }
     ensures failed { IsErrOf result stop.Desk → Rose (D.faults desk.old) (D.faults desk.new) }
@@ -203,7 +205,8 @@ fn report_of(
     ending: Ending,
 ) -> Result<ByteList, OutOfMemory>
     requires named { All (All (λ i. (0 < i) × (i ≤ length odds.now))) a.now.sets }
-    ensures { IfOk result (λ text. text ≡ faults_text (map name_of_fault case.now.limited.faults) ++ (sets_text a.now.sets ++ (odds_text odds.now a.now.sets ++ ending_line (told_ending ending) (state_bits (model_tree case.now.limited.full.model))))) }
+    ensures { IfOk result (λ text. text ≡ faults_text (map name_of_fault case.now.limited.faults) ++
+        (sets_text a.now.sets ++ (odds_text odds.now a.now.sets ++ ending_line (told_ending ending) (state_bits (model_tree case.now.limited.full.model))))) }
 {
     let mut text = print_faults(alloc, &case.limited.faults)?;
     append_sets(alloc, &mut text, a.sets.as_slice())?;

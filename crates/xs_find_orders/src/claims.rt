@@ -39,19 +39,25 @@ pub fn check_orders<D: Desk>(
     asked: &CheckOrders,
 ) -> Result<Status, Stop>
     ensures ok { IfOk result (λ s. IsAskedPair asked.now.set.now asked.now.first asked.now.second → IfSome (D.files desk.old) (λ files.
-        HasCheckedOrder files asked.now.model.now asked.now.faults.now asked.now.top.now (numbers_of asked.now.set.now) asked.now.first asked.now.second asked.now.claim.now asked.now.cert.now
+        HasCheckedOrder files asked.now.model.now asked.now.faults.now asked.now.top.now
+        (numbers_of asked.now.set.now) asked.now.first asked.now.second asked.now.claim.now asked.now.cert.now
         s (D.said desk.old) (D.said desk.new))) }
     ensures finished { IfOk result IsFinished }
-    ensures refused { (r : Refusal) → IsErrOf result (stop.Refused r) → IsAskedPair asked.now.set.now asked.now.first asked.now.second → IfSome (D.files desk.old) (λ files.
-        RefusesCheck files asked.now.model.now asked.now.faults.now asked.now.top.now (numbers_of asked.now.set.now) asked.now.first asked.now.second asked.now.claim.now asked.now.cert.now r) }
-    ensures untouched { (r : Refusal) → IsErrOf result (stop.Refused r) → (D.files desk.new ≡ D.files desk.old) × (D.said desk.new ≡ D.said desk.old) }
+    ensures refused { (r : Refusal) → IsErrOf result (stop.Refused r) →
+        IsAskedPair asked.now.set.now asked.now.first asked.now.second → IfSome (D.files desk.old) (λ files.
+        RefusesCheck files asked.now.model.now asked.now.faults.now asked.now.top.now
+        (numbers_of asked.now.set.now) asked.now.first asked.now.second asked.now.claim.now asked.now.cert.now r) }
+    ensures untouched { (r : Refusal) → IsErrOf result (stop.Refused r) →
+        (D.files desk.new ≡ D.files desk.old) × (D.said desk.new ≡ D.said desk.old) }
     ensures files { D.files desk.new ≡ D.files desk.old }
     ensures failed { IsErrOf result stop.Desk → Rose (D.faults desk.old) (D.faults desk.new) }
     ensures later { D.faults desk.old ≤ D.faults desk.new }
     ensures quiet { D.quiet desk.old → D.quiet desk.new × (D.faults desk.new ≡ D.faults desk.old) }
     // However it ends, nothing was said, or the certificate is accepted, and a part of that was said.
-    ensures left { (D.said desk.new ≡ D.said desk.old) ⊎ (SaysPrefix (D.said desk.old) (D.said desk.new) (codes "accepted\n") × (IsAskedPair asked.now.set.now asked.now.first asked.now.second → IfSome (D.files desk.old) (λ files.
-        AcceptsOrder files asked.now.model.now asked.now.faults.now asked.now.top.now (numbers_of asked.now.set.now) asked.now.first asked.now.second asked.now.claim.now asked.now.cert.now))) }
+    ensures left { (D.said desk.new ≡ D.said desk.old) ⊎ (SaysPrefix (D.said desk.old) (D.said desk.new) (codes "accepted\n")
+        × (IsAskedPair asked.now.set.now asked.now.first asked.now.second → IfSome (D.files desk.old) (λ files.
+        AcceptsOrder files asked.now.model.now asked.now.faults.now asked.now.top.now
+        (numbers_of asked.now.set.now) asked.now.first asked.now.second asked.now.claim.now asked.now.cert.now))) }
 {
     prepare(alloc, desk, asked)?;
     say_whole(desk, b"accepted\n")?;
@@ -61,9 +67,12 @@ pub fn check_orders<D: Desk>(
 /// Reads the model, the instructions and the certificate, and judges it. Nothing is written or said.
 fn prepare<D: Desk>(alloc: Global, desk: &mut D, asked: &CheckOrders) -> Result<(), Stop>
     ensures ok { OnOk result (IsAskedPair asked.now.set.now asked.now.first asked.now.second → IfSome (D.files desk.old) (λ files.
-        AcceptsOrder files asked.now.model.now asked.now.faults.now asked.now.top.now (numbers_of asked.now.set.now) asked.now.first asked.now.second asked.now.claim.now asked.now.cert.now)) }
-    ensures refused { (r : Refusal) → IsErrOf result (stop.Refused r) → IsAskedPair asked.now.set.now asked.now.first asked.now.second → IfSome (D.files desk.old) (λ files.
-        RefusesCheck files asked.now.model.now asked.now.faults.now asked.now.top.now (numbers_of asked.now.set.now) asked.now.first asked.now.second asked.now.claim.now asked.now.cert.now r) }
+        AcceptsOrder files asked.now.model.now asked.now.faults.now asked.now.top.now
+        (numbers_of asked.now.set.now) asked.now.first asked.now.second asked.now.claim.now asked.now.cert.now)) }
+    ensures refused { (r : Refusal) → IsErrOf result (stop.Refused r) →
+        IsAskedPair asked.now.set.now asked.now.first asked.now.second → IfSome (D.files desk.old) (λ files.
+        RefusesCheck files asked.now.model.now asked.now.faults.now asked.now.top.now
+        (numbers_of asked.now.set.now) asked.now.first asked.now.second asked.now.claim.now asked.now.cert.now r) }
     ensures failed { IsErrOf result stop.Desk → Rose (D.faults desk.old) (D.faults desk.new) }
     ensures files { D.files desk.new ≡ D.files desk.old }
     ensures said { D.said desk.new ≡ D.said desk.old }
@@ -93,8 +102,10 @@ fn judge_file<D: Desk>(
     cert: &str,
 ) -> Result<(), Stop>
     requires { IsStagedCase staged.now }
-    ensures ok { OnOk result (IfSome (D.files desk.old) (λ files. AcceptsFile files cert.now (staged_in staged.now) (against_in staged.now (claim_in claim.now)))) }
-    ensures refused { (r : Refusal) → IsErrOf result (stop.Refused r) → IfSome (D.files desk.old) (λ files. RefusesFile files cert.now (staged_in staged.now) (against_in staged.now (claim_in claim.now)) r) }
+    ensures ok { OnOk result (IfSome (D.files desk.old) (λ files.
+        AcceptsFile files cert.now (staged_in staged.now) (against_in staged.now (claim_in claim.now)))) }
+    ensures refused { (r : Refusal) → IsErrOf result (stop.Refused r) →
+        IfSome (D.files desk.old) (λ files. RefusesFile files cert.now (staged_in staged.now) (against_in staged.now (claim_in claim.now)) r) }
     ensures failed { IsErrOf result stop.Desk → Rose (D.faults desk.old) (D.faults desk.new) }
     ensures files { D.files desk.new ≡ D.files desk.old }
     ensures said { D.said desk.new ≡ D.said desk.old }
@@ -128,9 +139,12 @@ fn judge(
     requires staged { IsStagedCase staged.now }
     requires checkable { IsCheckable (seen certificate.now) }
     ensures ok { OnOk result (IsAcceptedClaim (staged_of (case_in staged.now.loaded) staged.now.asked.first staged.now.asked.second)
-        (against_of (case_in staged.now.loaded) staged.now.set.items staged.now.asked.first staged.now.asked.second (flat_tree staged.now.loaded.top) claim) (seen certificate.now)) }
-    ensures refused { (r : Refusal) → IsErrOf result (stop.Refused r) → RefusesClaim (staged_of (case_in staged.now.loaded) staged.now.asked.first staged.now.asked.second)
-        (against_of (case_in staged.now.loaded) staged.now.set.items staged.now.asked.first staged.now.asked.second (flat_tree staged.now.loaded.top) claim) (seen certificate.now) r }
+        (against_of (case_in staged.now.loaded) staged.now.set.items staged.now.asked.first staged.now.asked.second
+        (flat_tree staged.now.loaded.top) claim) (seen certificate.now)) }
+    ensures refused { (r : Refusal) → IsErrOf result (stop.Refused r) →
+        RefusesClaim (staged_of (case_in staged.now.loaded) staged.now.asked.first staged.now.asked.second)
+        (against_of (case_in staged.now.loaded) staged.now.set.items staged.now.asked.first staged.now.asked.second
+        (flat_tree staged.now.loaded.top) claim) (seen certificate.now) r }
     ensures desk { IsErrOf result stop.Desk → ⊥ }
 {
     if !are_few(staged) {

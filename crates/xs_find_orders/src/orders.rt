@@ -39,18 +39,23 @@ pub fn find_orders<D: Desk>(
     panel: &mut Panel,
 ) -> Result<Status, Stop>
     ensures ok { IfOk result (λ s. IsAskedPair asked.now.set.now asked.now.first asked.now.second → IfSome (D.files desk.old) (λ files.
-        HasOrder files asked.now.model.now asked.now.faults.now asked.now.top.now (numbers_of asked.now.set.now) asked.now.first asked.now.second asked.now.depth asked.now.cert.now
+        HasOrder files asked.now.model.now asked.now.faults.now asked.now.top.now
+        (numbers_of asked.now.set.now) asked.now.first asked.now.second asked.now.depth asked.now.cert.now
         s (D.files desk.old) (D.files desk.new) (D.said desk.old) (D.said desk.new))) }
     ensures finished { IfOk result IsFinished }
-    ensures refused { (r : Refusal) → IsErrOf result (stop.Refused r) → IsAskedPair asked.now.set.now asked.now.first asked.now.second → IfSome (D.files desk.old) (λ files.
+    ensures refused { (r : Refusal) → IsErrOf result (stop.Refused r) →
+        IsAskedPair asked.now.set.now asked.now.first asked.now.second → IfSome (D.files desk.old) (λ files.
         RefusesPair files asked.now.model.now asked.now.faults.now asked.now.top.now (numbers_of asked.now.set.now) asked.now.first asked.now.second r) }
-    ensures untouched { (r : Refusal) → IsErrOf result (stop.Refused r) → (D.files desk.new ≡ D.files desk.old) × (D.said desk.new ≡ D.said desk.old) }
+    ensures untouched { (r : Refusal) → IsErrOf result (stop.Refused r) →
+        (D.files desk.new ≡ D.files desk.old) × (D.said desk.new ≡ D.said desk.old) }
     ensures failed { IsErrOf result stop.Desk → Rose (D.faults desk.old) (D.faults desk.new) }
     ensures later { D.faults desk.old ≤ D.faults desk.new }
     ensures quiet { D.quiet desk.old → D.quiet desk.new × (D.faults desk.new ≡ D.faults desk.old) }
     // However it ends, nothing was done, or a part of that stands: a prefix of what would be written and said.
-    ensures left { ((D.files desk.new ≡ D.files desk.old) × (D.said desk.new ≡ D.said desk.old)) ⊎ (IsAskedPair asked.now.set.now asked.now.first asked.now.second → IfSome (D.files desk.old) (λ files.
-        OrdersInPart files asked.now.model.now asked.now.faults.now asked.now.top.now (numbers_of asked.now.set.now) asked.now.first asked.now.second asked.now.depth asked.now.cert.now
+    ensures left { ((D.files desk.new ≡ D.files desk.old) × (D.said desk.new ≡ D.said desk.old))
+        ⊎ (IsAskedPair asked.now.set.now asked.now.first asked.now.second → IfSome (D.files desk.old) (λ files.
+        OrdersInPart files asked.now.model.now asked.now.faults.now asked.now.top.now
+        (numbers_of asked.now.set.now) asked.now.first asked.now.second asked.now.depth asked.now.cert.now
         (D.files desk.old) (D.files desk.new) (D.said desk.old) (D.said desk.new))) }
 {
     let found = prepare(alloc, desk, asked, panel)?;
@@ -66,8 +71,10 @@ fn prepare<D: Desk>(
     panel: &mut Panel,
 ) -> Result<Conclusion, Stop>
     ensures ok { IfOk result (λ k. IsAskedPair asked.now.set.now asked.now.first asked.now.second → IfSome (D.files desk.old) (λ files.
-        ConcludesFrom files asked.now.model.now asked.now.faults.now asked.now.top.now (numbers_of asked.now.set.now) asked.now.first asked.now.second asked.now.depth k)) }
-    ensures refused { (r : Refusal) → IsErrOf result (stop.Refused r) → IsAskedPair asked.now.set.now asked.now.first asked.now.second → IfSome (D.files desk.old) (λ files.
+        ConcludesFrom files asked.now.model.now asked.now.faults.now asked.now.top.now
+        (numbers_of asked.now.set.now) asked.now.first asked.now.second asked.now.depth k)) }
+    ensures refused { (r : Refusal) → IsErrOf result (stop.Refused r) →
+        IsAskedPair asked.now.set.now asked.now.first asked.now.second → IfSome (D.files desk.old) (λ files.
         RefusesPair files asked.now.model.now asked.now.faults.now asked.now.top.now (numbers_of asked.now.set.now) asked.now.first asked.now.second r) }
     ensures failed { IsErrOf result stop.Desk → Rose (D.faults desk.old) (D.faults desk.new) }
     ensures files { D.files desk.new ≡ D.files desk.old }
@@ -251,7 +258,8 @@ fn certificate_text(
     requires searched { IsSearchOf staged.now claim depth searched.now }
     requires none { length searched.now.analysis.traces ≡ 0 }
     requires complete { (k : ℕ) → searched.now.analysis.end ≡ ends.Bounded k → ⊥ }
-    ensures { IfOk result (CertifiesClaim (case_in staged.now.loaded) staged.now.set.items staged.now.asked.first staged.now.asked.second (flat_tree staged.now.loaded.top) claim) }
+    ensures { IfOk result (CertifiesClaim (case_in staged.now.loaded) staged.now.set.items staged.now.asked.first staged.now.asked.second
+        (flat_tree staged.now.loaded.top) claim) }
 {
     let certificate = certify(
         alloc,

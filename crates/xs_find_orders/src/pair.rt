@@ -81,7 +81,8 @@ pub(crate) fn load_pair<'a, D: Desk>(
     ensures staged { IfOk result IsStagedCase }
     ensures asked { IfOk result (λ s. s.asked ≡ asked.now) }
     ensures numbers { IfOk result (λ s. IsAsked asked.now → s.set.items ≡ numbers_of asked.now.set.now) }
-    ensures refused { (r : Refusal) → IsErrOf result (stops.Refused r) → IsAsked asked.now → IfSome (D.files desk.old) (λ files. RefusesAsked files asked.now r) }
+    ensures refused { (r : Refusal) → IsErrOf result (stops.Refused r) → IsAsked asked.now →
+        IfSome (D.files desk.old) (λ files. RefusesAsked files asked.now r) }
     ensures failed { IsErrOf result stops.Desk → Rose (D.faults desk.old) (D.faults desk.new) }
     ensures files { D.files desk.new ≡ D.files desk.old }
     ensures said { D.said desk.new ≡ D.said desk.old }
@@ -163,9 +164,11 @@ fn staged_model(alloc: Global, limited: &Limited, first: u32, second: u32) -> Re
     requires first { IsFaultNumber (length limited.now.faults) first }
     requires second { IsFaultNumber (length limited.now.faults) second }
     requires apart { first ≢ second }
-    ensures ok { IfOk result (λ t. (model_tree t.model ≡ stage_of (model_tree limited.now.typed.model) (map mode_of limited.now.faults) first second) × IsTyped (model_tree t.model)) }
+    ensures ok { IfOk result (λ t. (model_tree t.model ≡ stage_of (model_tree limited.now.typed.model) (map mode_of limited.now.faults) first second)
+        × IsTyped (model_tree t.model)) }
     ensures refused { (r : Refusal) → IsErrOf result (stops.Refused r) →
-        (fault : SharedFault) × (r ≡ stage_refusal fault) × BreaksKinds (stage_of (model_tree limited.now.typed.model) (map mode_of limited.now.faults) first second) fault }
+        (fault : SharedFault) × (r ≡ stage_refusal fault)
+        × BreaksKinds (stage_of (model_tree limited.now.typed.model) (map mode_of limited.now.faults) first second) fault }
     ensures desk { IsErrOf result stops.Desk → ⊥ }
 {
     let model = stage(alloc, limited.typed.model(), &limited.faults, first, second)?;
@@ -185,7 +188,8 @@ fn stage_stop(wrong: Wrong) -> Stop
 /// Refuses a set with a number that is none of a fault, by the position of the first such number, from 1.
 fn judge_set(set: &[u32], faults: usize) -> Result<(), Stop>
     ensures ok { OnOk result (IsNumbered faults set.now) }
-    ensures refused { (r : Refusal) → IsErrOf result (stops.Refused r) → (position : ℕ) × (r ≡ outside_refusal position) × IsFirstOutside faults set.now position }
+    ensures refused { (r : Refusal) → IsErrOf result (stops.Refused r) →
+        (position : ℕ) × (r ≡ outside_refusal position) × IsFirstOutside faults set.now position }
     ensures desk { IsErrOf result stops.Desk → ⊥ }
 {
     for (k, number) in set.iter().enumerate() {

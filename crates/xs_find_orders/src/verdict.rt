@@ -107,8 +107,10 @@ pub(crate) fn report_either(
     one: &MomentList,
     other: &MomentList,
 ) -> Result<ByteList, OutOfMemory>
-    ensures { IfOk result (λ text. (bits : ℕ) → text ≡ order_text (model_tree staged.now.loaded.case.limited.typed.model) staged.now.asked.first staged.now.asked.second
-        (either (told_trace staged.now.loaded.case.limited.typed.model.symbols one.now) (told_trace staged.now.loaded.case.limited.typed.model.symbols other.now)) (told_ending Ending.Complete) bits) }
+    ensures { IfOk result (λ text. (bits : ℕ) → text
+        ≡ order_text (model_tree staged.now.loaded.case.limited.typed.model) staged.now.asked.first staged.now.asked.second
+        (either (told_trace staged.now.loaded.case.limited.typed.model.symbols one.now)
+        (told_trace staged.now.loaded.case.limited.typed.model.symbols other.now)) (told_ending Ending.Complete) bits) }
 {
     let mut text = pair(alloc, staged.asked.first, staged.asked.second)?;
     text.append(b"either")?;
@@ -132,7 +134,8 @@ fn append_traces(
     one: &MomentList,
     other: &MomentList,
 ) -> Result<(), OutOfMemory>
-    ensures { OnOk result (text.new ≡ text.old ++ traces_text (model_tree typed.now.model) (either (told_trace typed.now.model.symbols one.now) (told_trace typed.now.model.symbols other.now))) }
+    ensures { OnOk result (text.new ≡ text.old ++ traces_text (model_tree typed.now.model)
+        (either (told_trace typed.now.model.symbols one.now) (told_trace typed.now.model.symbols other.now))) }
 {
     text.append(b"trace 1\n")?;
     append_trace(alloc, text, typed, one)?;

@@ -245,7 +245,8 @@ fn formulas_of(
 ) -> Result<FlatList, FlatFault>
     requires scene { IsScene scene.now }
     requires known { AreConditionsKnown scene.now needs.now bounds (conditions_asked asked) }
-    ensures told { IfOk result (λ made. map told made ≡ asked_from scene.now needs.now (conditions_asked asked) 0 (instances_of (program_of scene.now))) }
+    ensures told { IfOk result (λ made. map told made
+        ≡ asked_from scene.now needs.now (conditions_asked asked) 0 (instances_of (program_of scene.now))) }
     ensures closed { IfOk result (λ made. are_closed bounds made ≡ true) }
     ensures want { IfErr result IsWant }
 {
@@ -266,7 +267,8 @@ fn add_formulas(
     requires scene { IsScene scene.now }
     requires known { AreConditionsKnown scene.now needs.now bounds (conditions_asked asked) }
     requires closed { are_closed bounds list.old ≡ true }
-    ensures told { OnOk result (map told list.new ≡ map told list.old ++ asked_from scene.now needs.now (conditions_asked asked) 0 (instances_of (program_of scene.now))) }
+    ensures told { OnOk result (map told list.new ≡ map told list.old ++ asked_from scene.now needs.now
+        (conditions_asked asked) 0 (instances_of (program_of scene.now))) }
     ensures closed { OnOk result (are_closed bounds list.new ≡ true) }
     ensures want { IfErr result IsWant }
 {
@@ -289,7 +291,8 @@ fn add_of_instance(
     requires scene { IsScene scene.now }
     requires known { AreConditionsKnown scene.now needs.now bounds (conditions_asked asked) }
     requires closed { are_closed bounds list.old ≡ true }
-    ensures told { OnOk result (map told list.new ≡ map told list.old ++ asked_items scene.now needs.now (conditions_asked asked) spot (items_at (program_of scene.now) spot)) }
+    ensures told { OnOk result (map told list.new ≡ map told list.old ++ asked_items scene.now needs.now
+        (conditions_asked asked) spot (items_at (program_of scene.now) spot)) }
     ensures closed { OnOk result (are_closed bounds list.new ≡ true) }
     ensures want { IfErr result IsWant }
 {
@@ -313,7 +316,8 @@ fn add_at(
     requires scene { IsScene scene.now }
     requires known { AreConditionsKnown scene.now needs.now bounds (conditions_asked asked) }
     requires closed { are_closed bounds list.old ≡ true }
-    ensures told { OnOk result (map told list.new ≡ map told list.old ++ asked_items scene.now needs.now (conditions_asked asked) spot (item_listed (slice_get (items_at (program_of scene.now) spot) place))) }
+    ensures told { OnOk result (map told list.new ≡ map told list.old ++ asked_items scene.now needs.now
+        (conditions_asked asked) spot (item_listed (slice_get (items_at (program_of scene.now) spot) place))) }
     ensures closed { OnOk result (are_closed bounds list.new ≡ true) }
     ensures want { IfErr result IsWant }
 {
@@ -342,7 +346,8 @@ fn add_of_item(
 ) -> Result<(), FlatFault>
     requires known { Each (IsConditionKnown (leaf_at scene.now needs.now source.spot) source.bounds) (conditions_asked asked (item_tree item)) }
     requires closed { are_closed source.bounds list.old ≡ true }
-    ensures told { OnOk result (map told list.new ≡ map told list.old ++ asked_conditions (leaf_at scene.now needs.now source.spot) source.spot source.item (conditions_asked asked (item_tree item.entry))) }
+    ensures told { OnOk result (map told list.new ≡ map told list.old ++ asked_conditions
+        (leaf_at scene.now needs.now source.spot) source.spot source.item (conditions_asked asked (item_tree item.entry))) }
     ensures closed { OnOk result (are_closed source.bounds list.new ≡ true) }
     ensures want { IfErr result IsWant }
 {
@@ -363,7 +368,8 @@ fn add_clause(
 ) -> Result<(), FlatFault>
     requires known { IsConditionKnown (leaf_at scene.now needs.now source.spot) source.bounds (clause_tree clause) }
     requires closed { are_closed source.bounds list.old ≡ true }
-    ensures told { OnOk result (map told list.new ≡ map told list.old ++ asked_conditions (leaf_at scene.now needs.now source.spot) source.spot source.item (clause_tree clause.entry ∷ [])) }
+    ensures told { OnOk result (map told list.new ≡ map told list.old ++ asked_conditions
+        (leaf_at scene.now needs.now source.spot) source.spot source.item (clause_tree clause.entry ∷ [])) }
     ensures closed { OnOk result (are_closed source.bounds list.new ≡ true) }
     ensures want { IfErr result IsWant }
 {
@@ -414,7 +420,8 @@ fn now_value(
     e: &Expr<Dotted>,
 ) -> Result<Expr<Flat>, FlatFault>
     requires known { IsConditionKnown (leaf_at scene.now needs.now source.spot) source.bounds (now_among target.now (tree_of e.now)) }
-    ensures told { IfOk result (λ made. told_tree made ≡ asked_condition (leaf_at scene.now needs.now source.spot) (now_among target.now (tree_of e.now))) }
+    ensures told { IfOk result (λ made. told_tree made
+        ≡ asked_condition (leaf_at scene.now needs.now source.spot) (now_among target.now (tree_of e.now))) }
     ensures closed { IfOk result (λ made. is_closed source.bounds made ≡ true) }
     ensures want { IfErr result IsWant }
 {
@@ -434,7 +441,8 @@ fn next_value(
     e: &Expr<Dotted>,
 ) -> Result<Expr<Flat>, FlatFault>
     requires known { IsConditionKnown (leaf_at scene.now needs.now source.spot) source.bounds (next_among target.now (tree_of e.now)) }
-    ensures told { IfOk result (λ made. told_tree made ≡ asked_condition (leaf_at scene.now needs.now source.spot) (next_among target.now (tree_of e.now))) }
+    ensures told { IfOk result (λ made. told_tree made
+        ≡ asked_condition (leaf_at scene.now needs.now source.spot) (next_among target.now (tree_of e.now))) }
     ensures closed { IfOk result (λ made. is_closed source.bounds made ≡ true) }
     ensures want { IfErr result IsWant }
 {

@@ -374,7 +374,8 @@ fn note_assigned<'a>(
     when: Moment,
 ) -> Result<bool, OutOfMemory>
     ensures met { IfOk result (λ met. met ≡ is_met (times_of assigned.old.entries target.now) when) }
-    ensures noted { OnOk result ((x : Text) → times_of assigned.new.entries x ≡ (if same_text target.now x then with_moment (times_of assigned.old.entries target.now) when else times_of assigned.old.entries x)) }
+    ensures noted { OnOk result ((x : Text) → times_of assigned.new.entries x
+        ≡ (if same_text target.now x then with_moment (times_of assigned.old.entries target.now) when else times_of assigned.old.entries x)) }
 {
     let times = times_at(assigned, target.text());
     note_times(assigned, target.text(), times.with(when))?;
@@ -401,7 +402,8 @@ fn note_times<'a>(
     target: &'a [u8],
     times: Times,
 ) -> Result<(), OutOfMemory>
-    ensures { OnOk result ((x : Text) → times_of assigned.new.entries x ≡ (if same_text target.now x then times else times_of assigned.old.entries x)) }
+    ensures { OnOk result ((x : Text) → times_of assigned.new.entries x
+        ≡ (if same_text target.now x then times else times_of assigned.old.entries x)) }
 {
     assigned.insert(target, times)?;
     Ok(())

@@ -152,7 +152,8 @@ pub(crate) fn judge_value(
 ) -> Result<Judged, OutOfMemory>
     requires scene { IsScene scene.now }
     requires needs { AreNeeds (program_of scene.now) needs.now }
-    ensures judged { (at : FlatInstance) → slice_get (instances_of (program_of scene.now)) spot ≡ Some at → IfOk result (IsJudged (program_of scene.now) at.place (tree_of value.now)) }
+    ensures judged { (at : FlatInstance) → slice_get (instances_of (program_of scene.now)) spot ≡ Some at →
+        IfOk result (IsJudged (program_of scene.now) at.place (tree_of value.now)) }
 {
     let uses = Uses::of_value(alloc, value)?;
     Ok(judge_names(
@@ -196,7 +197,8 @@ impl Judged {
     fn with_name(self, scene: &Scene<'_>, needs: &Needs, spot: usize, each: &Use<'_>) -> Judged
         requires scene { IsScene scene.now }
         requires needs { AreNeeds (program_of scene.now) needs.now }
-        ensures { (us : List (Path × Bool)) (next nested : Bool) → AreJudged (program_of scene.now) spot us next nested self → AreJudged (program_of scene.now) spot (us ++ each.now ∷ []) next nested result }
+        ensures { (us : List (Path × Bool)) (next nested : Bool) → AreJudged (program_of scene.now) spot us next nested self →
+            AreJudged (program_of scene.now) spot (us ++ each.now ∷ []) next nested result }
     {
         let meaning = scene.meaning(spot, each.name());
         self.with_flags(

@@ -24,7 +24,8 @@ pub fn print_table(
 ) -> Result<Vec<u8>, OutOfMemory>
     ensures text { IfOk result (λ text. text.items ≡ printed_table fault_lines.now bits t.now) }
     // The text of a table of analyses is theirs.
-    ensures table { IfOk result (λ text. (faults size : ℕ) (columns : List Analysis) → IsTableOf faults size columns t.now → text.items ≡ table_text fault_lines.now bits faults size columns) }
+    ensures table { IfOk result (λ text. (faults size : ℕ) (columns : List Analysis) →
+        IsTableOf faults size columns t.now → text.items ≡ table_text fault_lines.now bits faults size columns) }
 {
     text_of(alloc, fault_lines, bits, t)
 }
@@ -53,7 +54,8 @@ fn append_table(
     bits: u32,
     t: &FmeaTable,
 ) -> Result<(), OutOfMemory>
-    ensures { OnOk result (text.new ≡ text.old ++ (codes "tops " ++ (decimal (length t.now.endings) ++ (codes "\n" ++ (ending_lines bits 1 (map told_ending t.now.endings) ++ entry_lines t.now.rows (map (map told_entry) t.now.entries)))))) }
+    ensures { OnOk result (text.new ≡ text.old ++ (codes "tops " ++ (decimal (length t.now.endings)
+        ++ (codes "\n" ++ (ending_lines bits 1 (map told_ending t.now.endings) ++ entry_lines t.now.rows (map (map told_entry) t.now.entries)))))) }
 {
     text.append(b"tops ")?;
     text.append_number(alloc, t.endings.len() as u64)?;

@@ -36,7 +36,8 @@ pub fn load_event<D: Desk>(
 ) -> Result<LoadedEvent, Stop>
     ensures ok { IfOk result (λ l. IfSome (D.files desk.old) (λ files. HoldsCase files model.now faults.now (case_in l))) }
     ensures event { IfOk result (IsEvent word.now) }
-    ensures refused { (r : Refusal) → IsErrOf result (stop.Refused r) → IfSome (D.files desk.old) (λ files. RefusesEvent files model.now faults.now word.now r) }
+    ensures refused { (r : Refusal) → IsErrOf result (stop.Refused r) →
+        IfSome (D.files desk.old) (λ files. RefusesEvent files model.now faults.now word.now r) }
     ensures failed { IsErrOf result stop.Desk → Rose (D.faults desk.old) (D.faults desk.new) }
     ensures files { D.files desk.new ≡ D.files desk.old }
     ensures said { D.said desk.new ≡ D.said desk.old }

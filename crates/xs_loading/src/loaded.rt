@@ -59,7 +59,8 @@ pub fn load_case<D: Desk>(
     requires spelled { IsSpelled (program_tree model.now.program) }
     ensures ok { IfOk result (λ l. IfSome (D.files desk.old) (λ files. HoldsLoaded files name.now (program_tree model.now.program) l)) }
     ensures loaded { IfOk result (IsLoaded (program_tree model.now.program)) }
-    ensures refused { (r : Refusal) → IsErrOf result (stop.Refused r) → IfSome (D.files desk.old) (λ files. RefusesFaults files name.now (program_tree model.now.program) r) }
+    ensures refused { (r : Refusal) → IsErrOf result (stop.Refused r) →
+        IfSome (D.files desk.old) (λ files. RefusesFaults files name.now (program_tree model.now.program) r) }
     ensures failed { IsErrOf result stop.Desk → Rose (D.faults desk.old) (D.faults desk.new) }
     ensures files { D.files desk.new ≡ D.files desk.old }
     ensures said { D.said desk.new ≡ D.said desk.old }

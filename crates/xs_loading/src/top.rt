@@ -45,7 +45,8 @@ pub fn load_top(
     requires lawful { IsLawful (program_tree model.now.program) (model_tree model.now.typed.model) }
     requires loaded { IsLoaded (program_tree model.now.program) case.now }
     ensures ok { IfOk result (λ tree. IsTopIn (case_of (program_tree model.now.program) case.now) word.now (flat_tree tree)) }
-    ensures refused { (r : Refusal) → IsErrOf result (stop.Refused r) → (fault : InputFault) × (r ≡ refusal.Top fault) × IsWrongWord (program_tree model.now.program) word.now fault }
+    ensures refused { (r : Refusal) → IsErrOf result (stop.Refused r) →
+        (fault : InputFault) × (r ≡ refusal.Top fault) × IsWrongWord (program_tree model.now.program) word.now fault }
     ensures desk { IsErrOf result stop.Desk → ⊥ }
 {
     match top_of(alloc, word.as_bytes(), model, case) {

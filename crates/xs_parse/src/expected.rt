@@ -58,7 +58,8 @@ fn begin_actuals(
     token: &TokenText,
 ) -> Result<Option<Position>, OutOfMemory>
     requires { frames.old ≡ [] }
-    ensures next { IfOk result (λ position. Taken position (read.live (machine.step machine.start (role_of token.now)) (read.more_actuals ∷ [])) symbols.old frames.new symbols.new) }
+    ensures next { IfOk result (λ position. Taken position (read.live (machine.step machine.start (role_of token.now))
+        (read.more_actuals ∷ [])) symbols.old frames.new symbols.new) }
     ensures fits { IfOk result (λ position. IfSome position (λ p. Fits p frames.new)) }
 {
     let mode = step(Mode::Wants, frames, token.role())?;
@@ -156,7 +157,8 @@ fn inside_step(
     token: &TokenText,
 ) -> Result<Option<Position>, OutOfMemory>
     requires { machine.is_stuck (state_with mode frames.old) ≡ false }
-    ensures next { IfOk result (λ position. after_view position frames.new symbols.new ≡ stepped read.Sym read.programs (read.live (state_with mode frames.old) symbols.old) token.now) }
+    ensures next { IfOk result (λ position. after_view position frames.new symbols.new
+        ≡ stepped read.Sym read.programs (read.live (state_with mode frames.old) symbols.old) token.now) }
     ensures fits { IfOk result (λ position. IfSome position (λ p. Fits p frames.new)) }
 {
     let whole = is_whole(mode, frames);
@@ -179,7 +181,8 @@ fn program_step(
     token: &TokenText,
 ) -> Result<Option<Position>, OutOfMemory>
     requires { Fits position frames.old }
-    ensures next { IfOk result (λ new. after_view new frames.new symbols.new ≡ stepped read.Sym read.programs (position_view position frames.old symbols.old) token.now) }
+    ensures next { IfOk result (λ new. after_view new frames.new symbols.new
+        ≡ stepped read.Sym read.programs (position_view position frames.old symbols.old) token.now) }
     ensures fits { IfOk result (λ new. IfSome new (λ p. Fits p frames.new)) }
 {
     match position {

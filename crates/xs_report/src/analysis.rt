@@ -32,7 +32,8 @@ pub fn print_analysis(
     size: u32,
     ending: Ending,
 ) -> Result<ByteList, OutOfMemory>
-    ensures { IfOk result (λ text. text ≡ analysis_text (faults_text (map name_of_fault faults.now)) (model_tree t.now.model) bits (length faults.now) size (told_analysis t.now.model.symbols sets.now traces.now first ending)) }
+    ensures { IfOk result (λ text. text ≡ analysis_text (faults_text (map name_of_fault faults.now))
+        (model_tree t.now.model) bits (length faults.now) size (told_analysis t.now.model.symbols sets.now traces.now first ending)) }
 {
     let mut text = print_faults(alloc, faults)?;
     append_found(alloc, &mut text, t, sets, traces)?;
@@ -50,7 +51,8 @@ fn append_found(
     sets: &SetList,
     traces: &TraceList,
 ) -> Result<(), OutOfMemory>
-    ensures { OnOk result (text.new ≡ text.old ++ (codes "sets " ++ (decimal (length sets.now) ++ (codes "\n" ++ (set_lines sets.now ++ trace_parts (model_tree t.now.model) 1 (told_traces t.now.model.symbols traces.now)))))) }
+    ensures { OnOk result (text.new ≡ text.old ++ (codes "sets " ++ (decimal (length sets.now) ++
+        (codes "\n" ++ (set_lines sets.now ++ trace_parts (model_tree t.now.model) 1 (told_traces t.now.model.symbols traces.now)))))) }
 {
     text.append(b"sets ")?;
     text.append_number(alloc, sets.len() as u64)?;
@@ -117,7 +119,8 @@ fn append_trace(
     number: usize,
     trace: &MomentList,
 ) -> Result<(), OutOfMemory>
-    ensures { OnOk result (text.new ≡ text.old ++ (codes "trace " ++ (decimal number ++ (codes "\n" ++ trace_text (model_tree t.now.model) (told_trace t.now.model.symbols trace.now))))) }
+    ensures { OnOk result (text.new ≡ text.old ++ (codes "trace " ++
+        (decimal number ++ (codes "\n" ++ trace_text (model_tree t.now.model) (told_trace t.now.model.symbols trace.now))))) }
 {
     text.append(b"trace ")?;
     text.append_number(alloc, number as u64)?;

@@ -39,7 +39,8 @@ pub(crate) struct Reading {
 impl Reading {
     /// Before the first line, for so many variables.
     pub(crate) fn new(alloc: Global, variables: usize) -> Result<Reading, OutOfMemory>
-        ensures { IfOk result (λ reading. (reading.begun ≡ 0) × (reading.moments ≡ []) × (reading.slots.items ≡ replicate variables (record { moment = 0; value = ABool false }))) }
+        ensures { IfOk result (λ reading. (reading.begun ≡ 0) × (reading.moments ≡ [])
+            × (reading.slots.items ≡ replicate variables (record { moment = 0; value = ABool false }))) }
     {
         let empty = Slot {
             moment: 0,
@@ -65,8 +66,10 @@ impl Reading {
         requires symbols { HasItsSymbols (model_tree lookup.now.typed.now.model) }
         requires many { length self.old.slots.items ≡ length lookup.now.typed.now.model.variables }
         requires room { self.old.begun < 2 ^ 64 - 1 }
-        ensures after { (lines : List Line) → IsAfter (model_tree lookup.now.typed.now.model) lines self.old → OnOk result (IsAfter (model_tree lookup.now.typed.now.model) (lines ++ line.now ∷ []) self.new) }
-        ensures cause { (lines : List Line) → IsAfter (model_tree lookup.now.typed.now.model) lines self.old → IfErr result (IsCauseOf (model_tree lookup.now.typed.now.model) lines line.now) }
+        ensures after { (lines : List Line) → IsAfter (model_tree lookup.now.typed.now.model) lines self.old →
+            OnOk result (IsAfter (model_tree lookup.now.typed.now.model) (lines ++ line.now ∷ []) self.new) }
+        ensures cause { (lines : List Line) → IsAfter (model_tree lookup.now.typed.now.model) lines self.old →
+            IfErr result (IsCauseOf (model_tree lookup.now.typed.now.model) lines line.now) }
     {
         if line.is_empty() {
             return Ok(());

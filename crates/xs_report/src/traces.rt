@@ -43,7 +43,8 @@ fn append_moment(
     number: usize,
     moment: &Valuation,
 ) -> Result<(), OutOfMemory>
-    ensures { OnOk result (text.new ≡ text.old ++ fed (moment_line number ∷ value_lines (map variable_tree m.now.variables) (told_moment m.now.symbols moment.now))) }
+    ensures { OnOk result (text.new ≡ text.old ++ fed (moment_line number ∷ value_lines
+        (map variable_tree m.now.variables) (told_moment m.now.symbols moment.now))) }
 {
     text.append(b"moment ")?;
     text.append_number(alloc, number as u64)?;

@@ -36,7 +36,8 @@ pub(crate) fn deliver_analysis<D: Desk>(
     panel: &mut Panel,
 ) -> Result<Status, WriteStop>
     requires { IsEvent asked.now.word.now asked.now.loaded }
-    ensures ok { IfOk result (λ s. HasAnalysed (analysed_case asked.now) asked.now.word.now asked.now.depth (analysed_size asked.now) asked.now.extended.now asked.now.cert.now
+    ensures ok { IfOk result (λ s. HasAnalysed (analysed_case asked.now) asked.now.word.now asked.now.depth
+        (analysed_size asked.now) asked.now.extended.now asked.now.cert.now
         s (D.files desk.old) (D.files desk.new) (D.said desk.old) (D.said desk.new)) }
     ensures part { AnalysesInPart (analysed_case asked.now) asked.now.word.now asked.now.depth (analysed_size asked.now) asked.now.extended.now asked.now.cert.now
         (D.files desk.old) (D.files desk.new) (D.said desk.old) (D.said desk.new) }

@@ -32,8 +32,10 @@ pub fn check_file<D: Desk>(
     loaded: &LoadedEvent,
 ) -> Result<ByteList, Stop>
     requires { IsSomeEvent loaded.now }
-    ensures ok { IfOk result (λ report. IfSome (D.files desk.old) (λ files. CertSays files (case_in loaded.now) (flat_tree loaded.now.top) name.now report)) }
-    ensures refused { (r : Refusal) → IsErrOf result (stop.Refused r) → IfSome (D.files desk.old) (λ files. CertRefuses files (case_in loaded.now) (flat_tree loaded.now.top) name.now r) }
+    ensures ok { IfOk result (λ report. IfSome (D.files desk.old) (λ files.
+        CertSays files (case_in loaded.now) (flat_tree loaded.now.top) name.now report)) }
+    ensures refused { (r : Refusal) → IsErrOf result (stop.Refused r) →
+        IfSome (D.files desk.old) (λ files. CertRefuses files (case_in loaded.now) (flat_tree loaded.now.top) name.now r) }
     ensures failed { IsErrOf result stop.Desk → Rose (D.faults desk.old) (D.faults desk.new) }
     ensures files { D.files desk.new ≡ D.files desk.old }
     ensures said { D.said desk.new ≡ D.said desk.old }
@@ -54,7 +56,8 @@ fn judge_certificate(
     requires event { IsSomeEvent loaded.now }
     requires checkable { IsCheckable (seen certificate.now) }
     ensures ok { OnOk result (IsAcceptedFor (case_in loaded.now) (flat_tree loaded.now.top) (seen certificate.now)) }
-    ensures refused { (r : Refusal) → IsErrOf result (stop.Refused r) → RefusesLine (case_in loaded.now) (flat_tree loaded.now.top) (seen certificate.now) r }
+    ensures refused { (r : Refusal) → IsErrOf result (stop.Refused r) →
+        RefusesLine (case_in loaded.now) (flat_tree loaded.now.top) (seen certificate.now) r }
     ensures desk { IsErrOf result stop.Desk → ⊥ }
 {
     let limited = &loaded.case.limited;

@@ -54,9 +54,11 @@ pub(crate) fn ended(status: Status, done: Result<(), WriteStop>) -> Status
 
 /// Writes an extension to its file, and says its report.
 pub(crate) fn write_and_say<D: Desk>(desk: &mut D, file: &str, made: &Made) -> Result<(), WriteStop>
-    ensures ok { OnOk result ((D.files desk.new ≡ told_with (D.files desk.old) file.now made.now.text.items) × (D.said desk.new ≡ said_more (D.said desk.old) made.now.report)) }
+    ensures ok { OnOk result ((D.files desk.new ≡ told_with (D.files desk.old) file.now made.now.text.items)
+        × (D.said desk.new ≡ said_more (D.said desk.old) made.now.report)) }
     ensures part { (WritesPrefix (D.files desk.old) (D.files desk.new) file.now made.now.text.items × (D.said desk.new ≡ D.said desk.old)) ⊎
-        ((D.files desk.new ≡ told_with (D.files desk.old) file.now made.now.text.items) × SaysPrefix (D.said desk.old) (D.said desk.new) made.now.report) }
+        ((D.files desk.new ≡ told_with (D.files desk.old) file.now made.now.text.items)
+        × SaysPrefix (D.said desk.old) (D.said desk.new) made.now.report) }
     ensures failed { IsErrOf result write_stop.Failed → Rose (D.faults desk.old) (D.faults desk.new) }
     ensures later { D.faults desk.old ≤ D.faults desk.new }
     ensures quiet { D.quiet desk.old → D.quiet desk.new × (D.faults desk.new ≡ D.faults desk.old) }

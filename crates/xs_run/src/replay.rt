@@ -51,8 +51,10 @@ pub(crate) fn replay_file<D: Desk>(
     requires loaded { IsLoaded (program_tree model.now.program) case.now }
     requires own { ReadsOwn (model_tree case.now.limited.typed.model) (flat_tree top.now) }
     requires kept { broken_condition (judged_in (model_tree case.now.limited.typed.model) false (flat_tree top.now)) ≡ [] }
-    ensures ok { IfOk result (λ report. IfSome (D.files desk.old) (λ files. TraceComesTo files (case_of (program_tree model.now.program) case.now) (flat_tree top.now) name.now (says report))) }
-    ensures refused { (r : Refusal) → IsErrOf result (stop.Refused r) → IfSome (D.files desk.old) (λ files. TraceComesTo files (case_of (program_tree model.now.program) case.now) (flat_tree top.now) name.now (refuses r)) }
+    ensures ok { IfOk result (λ report. IfSome (D.files desk.old) (λ files.
+        TraceComesTo files (case_of (program_tree model.now.program) case.now) (flat_tree top.now) name.now (says report))) }
+    ensures refused { (r : Refusal) → IsErrOf result (stop.Refused r) →
+        IfSome (D.files desk.old) (λ files. TraceComesTo files (case_of (program_tree model.now.program) case.now) (flat_tree top.now) name.now (refuses r)) }
     ensures failed { IsErrOf result stop.Desk → Rose (D.faults desk.old) (D.faults desk.new) }
     ensures files { D.files desk.new ≡ D.files desk.old }
     ensures said { D.said desk.new ≡ D.said desk.old }
@@ -76,7 +78,8 @@ pub(crate) fn judge_trace(
     requires own { ReadsOwn (model_tree typed.now.model) (flat_tree top.now) }
     requires kept { broken_condition (judged_in (model_tree typed.now.model) false (flat_tree top.now)) ≡ [] }
     ensures ok { OnOk result (IsReaching (model_tree typed.now.model) (flat_tree top.now) (told_trace typed.now.model.symbols trace.now)) }
-    ensures refused { (r : Refusal) → IsErrOf result (stop.Refused r) → RefusesMoment (model_tree typed.now.model) (flat_tree top.now) (told_trace typed.now.model.symbols trace.now) r }
+    ensures refused { (r : Refusal) → IsErrOf result (stop.Refused r) →
+        RefusesMoment (model_tree typed.now.model) (flat_tree top.now) (told_trace typed.now.model.symbols trace.now) r }
     ensures desk { IsErrOf result stop.Desk → ⊥ }
 {
     let mut now = Table::for_model(alloc, typed)?;
@@ -106,7 +109,8 @@ pub(crate) fn replay_report(
     requires model { IsEvaluable (model_tree case.now.limited.typed.model) }
     requires fit { CanBeReplayed (model_tree case.now.limited.typed.model) trace.now }
     requires numbered { AreNumbered case.now.limited.typed.model case.now.limited.woven.faults case.now.limited.faults }
-    ensures { IfOk result (λ text. text ≡ codes "reaches\nfailed" ++ (failed_in case.now.limited.typed.model case.now.limited.woven.faults case.now.limited.faults trace.now ++ codes "\n")) }
+    ensures { IfOk result (λ text. text ≡ codes "reaches\nfailed" ++
+        (failed_in case.now.limited.typed.model case.now.limited.woven.faults case.now.limited.faults trace.now ++ codes "\n")) }
 {
     let mut text = ByteList::from_slice(alloc, b"reaches\nfailed")?;
     append_failed(
@@ -153,7 +157,8 @@ fn append_if_failed(
     requires model { IsEvaluable (model_tree typed.now.model) }
     requires fit { CanBeReplayed (model_tree typed.now.model) trace.now }
     requires numbered { IsNumbered typed.now.model woven.now fault.now }
-    ensures { OnOk result (text.new ≡ text.old ++ (if stands_in_some (model_tree typed.now.model) (mode_of fault.now) (told_trace typed.now.model.symbols trace.now) then codes " " ++ name_text (fault_tree woven.now) else [])) }
+    ensures { OnOk result (text.new ≡ text.old ++ (if stands_in_some (model_tree typed.now.model)
+        (mode_of fault.now) (told_trace typed.now.model.symbols trace.now) then codes " " ++ name_text (fault_tree woven.now) else [])) }
 {
     if has_failed(typed, fault, trace) {
         text.append(b" ")?;

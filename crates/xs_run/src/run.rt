@@ -52,32 +52,43 @@ pub fn run<D: Desk>(
     // A run that is done has written the woven program, as the one program that the model spells and the instructions make it:
     // its traces are the extended traces, and its faultless ones the model's. It has said the list of its faults.
     ensures extended { (model faults extended : Text) → result ≡ Status.Done → AsksToExtend (map (λ w. w.now) words.now) model faults extended →
-        IfSome (D.files desk.old) (λ before. IsSomeAnd (D.files desk.new) (λ after. IsExtended before after (D.said desk.old) (D.said desk.new) model faults extended)) }
+        IfSome (D.files desk.old) (λ before. IsSomeAnd (D.files desk.new) (λ after.
+        IsExtended before after (D.said desk.old) (D.said desk.new) model faults extended)) }
     // A run that is done has replayed the trace: its values are cut to an extended trace that reaches the event, and the names of
     // exactly the faults that it has failed were said; no file was changed.
     ensures replayed { (model faults trace top : Text) → result ≡ Status.Done → AsksToReplay (map (λ w. w.now) words.now) model faults trace top →
-        IfSome (D.files desk.old) (λ files. IsReplayed files (D.said desk.old) (D.said desk.new) model faults trace top × (D.files desk.new ≡ D.files desk.old)) }
+        IfSome (D.files desk.old) (λ files. IsReplayed files (D.said desk.old) (D.said desk.new) model faults trace top
+        × (D.files desk.new ≡ D.files desk.old)) }
     // And such a trace is refused for nothing.
     ensures reaching { (model faults trace top : Text) → IsAnswer result → AsksToReplay (map (λ w. w.now) words.now) model faults trace top →
         IfSome (D.files desk.old) (λ files. HoldsReaching files model faults trace top → result ≡ Status.Done) }
     // A run that is done has analysed the extended traces, of every length: it has written the extension, found exactly the sets
     // that the headline says, shown a trace for each, and written an accepted certificate.
-    ensures complete { (model faults top extended cert : Text) (depth : ℕ) (size : Option ℕ) → result ≡ Status.Done → AsksToAnalyse (map (λ w. w.now) words.now) model faults top depth extended cert size →
-        IfSome (D.files desk.old) (λ before. IsSomeAnd (D.files desk.new) (λ after. IsComplete before after (D.said desk.old) (D.said desk.new) model faults top extended cert size)) }
+    ensures complete { (model faults top extended cert : Text) (depth : ℕ) (size : Option ℕ) →
+        result ≡ Status.Done → AsksToAnalyse (map (λ w. w.now) words.now) model faults top depth extended cert size →
+        IfSome (D.files desk.old) (λ before. IsSomeAnd (D.files desk.new) (λ after.
+        IsComplete before after (D.said desk.old) (D.said desk.new) model faults top extended cert size)) }
     // And one that is bounded has analysed those of at most so many steps as the depth.
-    ensures bounded { (model faults top extended cert : Text) (depth : ℕ) (size : Option ℕ) (k : ℕ) → result ≡ Status.Bounded k → AsksToAnalyse (map (λ w. w.now) words.now) model faults top depth extended cert size →
-        IfSome (D.files desk.old) (λ before. IsSomeAnd (D.files desk.new) (λ after. (k ≡ depth) × IsBounded before after (D.said desk.old) (D.said desk.new) model faults top extended cert depth size)) }
+    ensures bounded { (model faults top extended cert : Text) (depth : ℕ) (size : Option ℕ) (k : ℕ) →
+        result ≡ Status.Bounded k → AsksToAnalyse (map (λ w. w.now) words.now) model faults top depth extended cert size →
+        IfSome (D.files desk.old) (λ before. IsSomeAnd (D.files desk.new) (λ after.
+        (k ≡ depth) × IsBounded before after (D.said desk.old) (D.said desk.new) model faults top extended cert depth size)) }
     // A run that is done has checked the certificate: the sets that its bytes spell are right for all extended traces, of every
     // length, with the traces that its texts give; no file was changed.
     ensures accepted { (model faults top cert : Text) → result ≡ Status.Done → AsksToCheck (map (λ w. w.now) words.now) model faults top cert →
-        IfSome (D.files desk.old) (λ files. IsChecked files (D.said desk.old) (D.said desk.new) model faults top cert × (D.files desk.new ≡ D.files desk.old)) }
+        IfSome (D.files desk.old) (λ files. IsChecked files (D.said desk.old) (D.said desk.new) model faults top cert
+        × (D.files desk.new ≡ D.files desk.old)) }
     // A run that has finished a table has said it: each entry means what it says of the extended traces; no file was changed.
-    ensures tabulated { (model faults tops : Text) (size depth : ℕ) → IsFinished result → AsksToTabulate (map (λ w. w.now) words.now) model faults tops size depth →
-        IfSome (D.files desk.old) (λ files. IsTabulated files (D.said desk.old) (D.said desk.new) model faults tops size depth result × (D.files desk.new ≡ D.files desk.old)) }
+    ensures tabulated { (model faults tops : Text) (size depth : ℕ) → IsFinished result →
+        AsksToTabulate (map (λ w. w.now) words.now) model faults tops size depth →
+        IfSome (D.files desk.old) (λ files. IsTabulated files (D.said desk.old) (D.said desk.new) model faults tops size depth result
+        × (D.files desk.new ≡ D.files desk.old)) }
     // A run that has finished a generated case has written the generator's model and instructions, and said what they are and what
     // an analysis of them found.
-    ensures made { (number stages depth : ℕ) (model faults : Text) → IsFinished result → AsksToMake (map (λ w. w.now) words.now) number stages depth model faults →
-        IfSome (D.files desk.old) (λ files. IsSomeAnd (D.files desk.new) (λ after. IsMade after (D.said desk.old) (D.said desk.new) number stages depth model faults result)) }
+    ensures made { (number stages depth : ℕ) (model faults : Text) → IsFinished result →
+        AsksToMake (map (λ w. w.now) words.now) number stages depth model faults →
+        IfSome (D.files desk.old) (λ files. IsSomeAnd (D.files desk.new) (λ after.
+        IsMade after (D.said desk.old) (D.said desk.new) number stages depth model faults result)) }
     // However it ends, nothing was done, or a part of that stands: a prefix of what would be written and said.
     ensures left { ((D.files desk.new ≡ D.files desk.old) × (D.said desk.new ≡ D.said desk.old)) ⊎ IfSome (D.files desk.old) (λ files.
         HasStopped files (map (λ w. w.now) words.now) (D.files desk.old) (D.files desk.new) (D.said desk.old) (D.said desk.new)) }

@@ -48,10 +48,12 @@ fn certificate_text(
     a: &Analysis,
     panel: &mut Panel,
 ) -> Result<ByteList, OutOfMemory>
-    requires whole { model_tree case.now.limited.full.model ≡ with_history (model_tree case.now.limited.typed.model) (map mode_of case.now.limited.faults) }
+    requires whole { model_tree case.now.limited.full.model
+        ≡ with_history (model_tree case.now.limited.typed.model) (map mode_of case.now.limited.faults) }
     requires searched { IsSearched (model_tree case.now.limited.typed.model) (map mode_of case.now.limited.faults) (flat_tree top.now) depth a.now.size a.now }
     requires complete { (k : ℕ) → a.now.end ≡ ends.Bounded k → ⊥ }
-    ensures { IfOk result (IsCertificateFor (model_tree case.now.limited.typed.model) (map mode_of case.now.limited.faults) (flat_tree top.now) a.now.size a.now.sets (map (told_trace case.now.limited.typed.model.symbols) a.now.traces)) }
+    ensures { IfOk result (IsCertificateFor (model_tree case.now.limited.typed.model) (map mode_of case.now.limited.faults)
+        (flat_tree top.now) a.now.size a.now.sets (map (told_trace case.now.limited.typed.model.symbols) a.now.traces)) }
 {
     let limited = &case.limited;
     let certificate = certify(
@@ -75,9 +77,11 @@ fn certificate(
     a: &Analysis,
     panel: &mut Panel,
 ) -> Result<Option<ByteList>, OutOfMemory>
-    requires whole { model_tree case.now.limited.full.model ≡ with_history (model_tree case.now.limited.typed.model) (map mode_of case.now.limited.faults) }
+    requires whole { model_tree case.now.limited.full.model
+        ≡ with_history (model_tree case.now.limited.typed.model) (map mode_of case.now.limited.faults) }
     requires searched { IsSearched (model_tree case.now.limited.typed.model) (map mode_of case.now.limited.faults) (flat_tree top.now) depth a.now.size a.now }
-    ensures { IfOk result (HasCertificate (model_tree case.now.limited.typed.model) (map mode_of case.now.limited.faults) (flat_tree top.now) case.now.limited.typed.model.symbols a.now a.now.end) }
+    ensures { IfOk result (HasCertificate (model_tree case.now.limited.typed.model)
+        (map mode_of case.now.limited.faults) (flat_tree top.now) case.now.limited.typed.model.symbols a.now a.now.end) }
 {
     match &a.end {
         End::Complete(_clauses) => {

@@ -83,10 +83,12 @@ pub(crate) fn load_table<D: Desk>(
 ) -> Result<Tabulating, Stop>
     requires small { size ≤ 2 }
     ensures ok { IfOk result (λ a. IfSome (D.files desk.old) (λ files. HoldsCase files model.now faults.now (tabulated_case a))) }
-    ensures tops { IfOk result (λ a. IfSome (D.files desk.old) (λ files. HoldsTops files tops.now (program_tree a.model.program) (tabulated_events a))) }
+    ensures tops { IfOk result (λ a. IfSome (D.files desk.old) (λ files.
+        HoldsTops files tops.now (program_tree a.model.program) (tabulated_events a))) }
     ensures able { IfOk result IsTabulable }
     ensures asked { IfOk result (λ a. (a.size ≡ size) × (a.depth ≡ depth)) }
-    ensures refused { (r : Refusal) → IsErrOf result (stop.Refused r) → IfSome (D.files desk.old) (λ files. RefusesTable files model.now faults.now tops.now r) }
+    ensures refused { (r : Refusal) → IsErrOf result (stop.Refused r) →
+        IfSome (D.files desk.old) (λ files. RefusesTable files model.now faults.now tops.now r) }
     ensures failed { IsErrOf result stop.Desk → Rose (D.faults desk.old) (D.faults desk.new) }
     ensures files { D.files desk.new ≡ D.files desk.old }
     ensures said { D.said desk.new ≡ D.said desk.old }
@@ -115,9 +117,11 @@ pub(crate) fn load_tops<D: Desk>(
 ) -> Result<Tops, Stop>
     requires lawful { IsLawful (program_tree model.now.program) (model_tree model.now.typed.model) }
     requires loaded { IsLoaded (program_tree model.now.program) case.now }
-    ensures ok { IfOk result (λ t. IfSome (D.files desk.old) (λ files. HoldsTops files name.now (program_tree model.now.program) (map tree_of t.written))) }
+    ensures ok { IfOk result (λ t. IfSome (D.files desk.old) (λ files.
+        HoldsTops files name.now (program_tree model.now.program) (map tree_of t.written))) }
     ensures events { IfOk result (λ t. EachBoth (IsEventOf (case_of (program_tree model.now.program) case.now)) (map tree_of t.written) (map flat_tree t.over)) }
-    ensures refused { (r : Refusal) → IsErrOf result (stop.Refused r) → IfSome (D.files desk.old) (λ files. RefusesTops files name.now (program_tree model.now.program) r) }
+    ensures refused { (r : Refusal) → IsErrOf result (stop.Refused r) →
+        IfSome (D.files desk.old) (λ files. RefusesTops files name.now (program_tree model.now.program) r) }
     ensures failed { IsErrOf result stop.Desk → Rose (D.faults desk.old) (D.faults desk.new) }
     ensures files { D.files desk.new ≡ D.files desk.old }
     ensures said { D.said desk.new ≡ D.said desk.old }
@@ -245,7 +249,8 @@ fn over_case(
     requires accepted { IsAccepted (program_tree case.now.limited.woven.program) }
     requires flat { IsFlatOf (program_tree case.now.limited.woven.program) (model_tree case.now.limited.typed.model) }
     requires names { Each (λ e. KeepsValue (program_tree case.now.limited.woven.program) [] false (tree_of e)) tops.now }
-    ensures ok { IfOk result (λ made. EachBoth (λ e tree. IsResolvedAt (program_tree case.now.limited.woven.program) (model_tree case.now.limited.typed.model) [] (tree_of e) (flat_tree tree)) tops.now made) }
+    ensures ok { IfOk result (λ made. EachBoth (λ e tree. IsResolvedAt (program_tree case.now.limited.woven.program)
+        (model_tree case.now.limited.typed.model) [] (tree_of e) (flat_tree tree)) tops.now made) }
     ensures wrong { IfErr result (IfRefused (λ fault. ⊥)) }
 {
     let mut over = Items::new(alloc);
@@ -329,7 +334,8 @@ fn column_of(
     requires able { IsExtensible (program_tree asked.now.model.program) asked.now.case }
     requires event { (e : Formula) × IsEventOf (tabulated_case asked.now) e (flat_tree top.now) }
     requires system { frames.old.system ≡ system_of (whole_of (tabulated_case asked.now)) }
-    ensures column { IfOk result (λ column. (e : Formula) → IsEventOf (tabulated_case asked.now) e (flat_tree top.now) → IsColumn (tabulated_case asked.now) asked.now.depth e column) }
+    ensures column { IfOk result (λ column. (e : Formula) → IsEventOf (tabulated_case asked.now) e (flat_tree top.now) →
+        IsColumn (tabulated_case asked.now) asked.now.depth e column) }
     ensures system { frames.new.system ≡ frames.old.system }
 {
     let size = size_of(None, asked.case.limited.faults.len());
@@ -345,7 +351,8 @@ fn column_of(
 fn text_of(alloc: Global, asked: &Tabulating, columns: &ColumnList) -> Result<Vec<u8>, OutOfMemory>
     requires able { IsTabulable asked.now }
     requires named { All (NamesFaults (length (tabulated_case asked.now).faults)) columns.now }
-    ensures { IfOk result (λ text. (found : List Analysis) → AreTold found columns.now → text.items ≡ table_of (tabulated_case asked.now) asked.now.size found) }
+    ensures { IfOk result (λ text. (found : List Analysis) → AreTold found columns.now →
+        text.items ≡ table_of (tabulated_case asked.now) asked.now.size found) }
 {
     let limited = &asked.case.limited;
     let faults = size_of(None, limited.faults.len());

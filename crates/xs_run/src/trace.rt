@@ -35,9 +35,11 @@ pub(crate) fn load_trace<D: Desk>(
 ) -> Result<MomentList, Stop>
     requires printable { IsPrintable (model_tree typed.now.model) }
     requires symbols { HasItsSymbols (model_tree typed.now.model) }
-    ensures ok { IfOk result (λ trace. IfSome (D.files desk.old) (λ files. HoldsTrace files name.now (model_tree typed.now.model) (told_trace typed.now.model.symbols trace))) }
+    ensures ok { IfOk result (λ trace. IfSome (D.files desk.old) (λ files.
+        HoldsTrace files name.now (model_tree typed.now.model) (told_trace typed.now.model.symbols trace))) }
     ensures fit { IfOk result (CanBeReplayed (model_tree typed.now.model)) }
-    ensures refused { (r : Refusal) → IsErrOf result (stop.Refused r) → IfSome (D.files desk.old) (λ files. RefusesTrace files name.now (model_tree typed.now.model) r) }
+    ensures refused { (r : Refusal) → IsErrOf result (stop.Refused r) →
+        IfSome (D.files desk.old) (λ files. RefusesTrace files name.now (model_tree typed.now.model) r) }
     ensures failed { IsErrOf result stop.Desk → Rose (D.faults desk.old) (D.faults desk.new) }
     ensures files { D.files desk.new ≡ D.files desk.old }
     ensures said { D.said desk.new ≡ D.said desk.old }
@@ -56,7 +58,8 @@ fn read_trace_file<D: Desk>(alloc: Global, desk: &mut D, name: &str) -> Result<V
     ensures bytes { IfOk result (λ bytes. IfSome (D.files desk.old) (λ files. HasAtMost 16777216 files name.now bytes.items)) }
     ensures short { IfOk result (λ bytes. length bytes.items ≤ 16777216) }
     ensures refused { (r : Refusal) → IsErrOf result (stop.Refused r) →
-        (fault : InputFault) × (r ≡ refusal.NotAccepted (objection.Trace fault)) × IfSome (D.files desk.old) (λ files. IsRefusedAbove 16777216 files name.now fault) }
+        (fault : InputFault) × (r ≡ refusal.NotAccepted (objection.Trace fault))
+        × IfSome (D.files desk.old) (λ files. IsRefusedAbove 16777216 files name.now fault) }
     ensures failed { IsErrOf result stop.Desk → Rose (D.faults desk.old) (D.faults desk.new) }
     ensures files { D.files desk.new ≡ D.files desk.old }
     ensures said { D.said desk.new ≡ D.said desk.old }

@@ -184,9 +184,11 @@ fn prepare_analysis<'a, D: Desk>(
     desk: &mut D,
     asked: &Analyse<'a>,
 ) -> Result<Analysing<'a>, Stop>
-    ensures ok { IfOk result (λ a. IfSome (D.files desk.old) (λ files. CommandComesTo files (seen (ask.Analyse asked.now)) (analyses (analysed_case a) a.word.now a.depth (analysed_size a) a.extended.now a.cert.now))) }
+    ensures ok { IfOk result (λ a. IfSome (D.files desk.old) (λ files.
+        CommandComesTo files (seen (ask.Analyse asked.now)) (analyses (analysed_case a) a.word.now a.depth (analysed_size a) a.extended.now a.cert.now))) }
     ensures event { IfOk result (λ a. IsEvent a.word.now a.loaded) }
-    ensures refused { (r : Refusal) → IsErrOf result (stops.Refused r) → IfSome (D.files desk.old) (λ files. CommandComesTo files (seen (ask.Analyse asked.now)) (refuses r)) }
+    ensures refused { (r : Refusal) → IsErrOf result (stops.Refused r) →
+        IfSome (D.files desk.old) (λ files. CommandComesTo files (seen (ask.Analyse asked.now)) (refuses r)) }
     ensures failed { IsErrOf result stops.Desk → Rose (D.faults desk.old) (D.faults desk.new) }
     ensures files { D.files desk.new ≡ D.files desk.old }
     ensures said { D.said desk.new ≡ D.said desk.old }
@@ -265,8 +267,10 @@ fn prepare_made<'a>(alloc: Global, asked: &Make<'a>) -> Result<Making<'a>, OutOf
 
 /// Writes an extension to its file and says its report.
 fn deliver_extension<D: Desk>(desk: &mut D, file: &str, made: &Made) -> Status
-    ensures done { IsAnswer result → IsDelivered (extends file.now made.now.text.items made.now.report) result (D.files desk.old) (D.files desk.new) (D.said desk.old) (D.said desk.new) }
-    ensures part { IsDeliveredInPart (extends file.now made.now.text.items made.now.report) (D.files desk.old) (D.files desk.new) (D.said desk.old) (D.said desk.new) }
+    ensures done { IsAnswer result → IsDelivered (extends file.now made.now.text.items made.now.report) result
+        (D.files desk.old) (D.files desk.new) (D.said desk.old) (D.said desk.new) }
+    ensures part { IsDeliveredInPart (extends file.now made.now.text.items made.now.report)
+        (D.files desk.old) (D.files desk.new) (D.said desk.old) (D.said desk.new) }
     ensures failed { result ≡ Status.Desk → Rose (D.faults desk.old) (D.faults desk.new) }
     ensures later { D.faults desk.old ≤ D.faults desk.new }
     ensures quiet { D.quiet desk.old → D.quiet desk.new × (D.faults desk.new ≡ D.faults desk.old) }

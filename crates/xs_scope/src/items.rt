@@ -46,7 +46,7 @@ impl<'a> ItemList<'a> {
         header: u32,
         module: &'a Module,
     ) -> Result<ItemList<'a>, OutOfMemory>
-        ensures { IfOk result (λ list. counted_of list ≡ counted_below header (items_of (module_tree module.now))) }
+        ensures { IfOk result (λ list. counted_of list ≡ counted_below header (items_of (module_tree «module».now))) }
     {
         let mut list = ItemList {
             items: Vec::new(alloc),
@@ -94,7 +94,8 @@ impl<'a> ItemList<'a> {
 
     /// Adds the declarations of a section, whose variables have this role.
     fn add_decls(&mut self, role: Role, decls: &'a [Decl]) -> Result<(), OutOfMemory>
-        ensures { OnOk result (counted_of self.new ≡ with_items (counted_of self.old) (map (a_declaration (role_of role)) (map decl_tree decls.now))) }
+        ensures { OnOk result (counted_of self.new
+            ≡ with_items (counted_of self.old) (map (a_declaration (role_of role)) (map decl_tree decls.now))) }
     {
         for decl in decls {
             self.add(Item::Declared(role, decl))?;

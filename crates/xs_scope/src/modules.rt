@@ -77,9 +77,9 @@ impl<'a> Modules<'a> {
     /// Adds a module whose header comes after the item `last`; the answer is the module's last item.
     fn add(&mut self, alloc: Global, last: u32, module: &'a Module) -> Result<u32, FlatFault>
         requires { AreRead self.old last }
-        ensures read { IfOk result (IsReadAfter self.old (module_tree module.now) self.new) }
-        ensures kept { OnOk result (module_told (trees_read self.old) (suc last) (module_tree module.now) ≡ None) }
-        ensures fault { IfErr result (IsTold (module_told (trees_read self.old) (suc last) (module_tree module.now))) }
+        ensures read { IfOk result (IsReadAfter self.old (module_tree «module».now) self.new) }
+        ensures kept { OnOk result (module_told (trees_read self.old) (suc last) (module_tree «module».now) ≡ None) }
+        ensures fault { IfErr result (IsTold (module_told (trees_read self.old) (suc last) (module_tree «module».now))) }
     {
         let header = number_after(last)?;
         self.add_place(header, module)?;
@@ -93,12 +93,13 @@ impl<'a> Modules<'a> {
     /// Gives a module its place, after the rules of its header.
     fn add_place(&mut self, header: u32, module: &'a Module) -> Result<(), FlatFault>
         requires { named self.old.places.entries ≡ module_entries 0 (trees_read self.old) }
-        ensures places { OnOk result (named self.new.places.entries ≡ named self.old.places.entries ++ (module.now.name, length self.old.list.items) ∷ []) }
+        ensures places { OnOk result (named self.new.places.entries
+            ≡ named self.old.places.entries ++ («module».now.name, length self.old.list.items) ∷ []) }
         ensures list { self.new.list ≡ self.old.list }
         ensures program { self.new.program ≡ self.old.program }
         ensures main { self.new.main ≡ self.old.main }
-        ensures kept { OnOk result (header_told (trees_read self.old) header (module_tree module.now) ≡ None) }
-        ensures fault { IfErr result (IsTold (header_told (trees_read self.old) header (module_tree module.now))) }
+        ensures kept { OnOk result (header_told (trees_read self.old) header (module_tree «module».now) ≡ None) }
+        ensures fault { IfErr result (IsTold (header_told (trees_read self.old) header (module_tree «module».now))) }
     {
         if is_main_with_formals(module) {
             return Err(FlatFault {
@@ -125,12 +126,12 @@ impl<'a> Names<'a> {
         module: &'a Module,
         items: Vec<Numbered<'a>>,
     ) -> Result<Names<'a>, FlatFault>
-        requires { map numbered_tree items.items ≡ counted_from (suc header) (items_of (module_tree module.now)) }
-        ensures same { IfOk result (λ names. names.module.now ≡ module.now) }
+        requires { map numbered_tree items.items ≡ counted_from (suc header) (items_of (module_tree «module».now)) }
+        ensures same { IfOk result (λ names. names.«module».now ≡ «module».now) }
         ensures items { IfOk result (λ names. names.items ≡ items.entry) }
-        ensures locals { IfOk result (λ names. named names.locals.entries ≡ local_entries (module_tree module.now)) }
-        ensures kept { OnOk result (names_told header (module_tree module.now) ≡ None) }
-        ensures fault { IfErr result (IsTold (names_told header (module_tree module.now))) }
+        ensures locals { IfOk result (λ names. named names.locals.entries ≡ local_entries (module_tree «module».now)) }
+        ensures kept { OnOk result (names_told header (module_tree «module».now) ≡ None) }
+        ensures fault { IfErr result (IsTold (names_told header (module_tree «module».now))) }
     {
         let mut locals = IndexMap::new(alloc);
         declare_formals(&mut locals, header, module.formals.as_slice())?;
@@ -181,8 +182,10 @@ fn declare_item<'a>(
     numbered: Numbered<'a>,
 ) -> Result<(), FlatFault>
     ensures entries { OnOk result (named locals.new.entries ≡ named locals.old.entries ++ entries_of_item place (item_of_numbered numbered.entry)) }
-    ensures kept { OnOk result (told_if (is_name_again (texts_of (named locals.old.entries)) (names_of_item (item_of_numbered numbered.entry))) double_name numbered.entry.number ≡ None) }
-    ensures fault { IfErr result (IsTold (told_if (is_name_again (texts_of (named locals.old.entries)) (names_of_item (item_of_numbered numbered.entry))) double_name numbered.entry.number)) }
+    ensures kept { OnOk result (told_if (is_name_again (texts_of (named locals.old.entries))
+        (names_of_item (item_of_numbered numbered.entry))) double_name numbered.entry.number ≡ None) }
+    ensures fault { IfErr result (IsTold (told_if (is_name_again (texts_of (named locals.old.entries))
+        (names_of_item (item_of_numbered numbered.entry))) double_name numbered.entry.number)) }
 {
     let number = numbered.number;
     match numbered.item {
@@ -228,7 +231,7 @@ pub fn main_place(modules: &[Module]) -> Option<usize>
 
 /// Whether a module is `main` and has formals.
 fn is_main_with_formals(module: &Module) -> bool
-    ensures { result ≡ (same_text module.now.name (codes "main") && has_formals module.now.formals) }
+    ensures { result ≡ (same_text «module».now.name (codes "main") && has_formals «module».now.formals) }
 {
     is_main(&module.name) && !module.formals.is_empty()
 }

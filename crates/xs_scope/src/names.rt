@@ -247,7 +247,8 @@ impl<'a> Scene<'a> {
         ensures same { IsSameProgram self.old self.new }
         ensures rows { rows self.new ≡ rows self.old }
         ensures number { IfOk result (λ made. made ≡ length self.old.definitions.items) }
-        ensures pushed { OnOk result (self.new.definitions.items ≡ self.old.definitions.items ++ (record { spot = spot; item = item; value = value.entry }) ∷ []) }
+        ensures pushed { OnOk result (self.new.definitions.items
+            ≡ self.old.definitions.items ++ (record { spot = spot; item = item; value = value.entry }) ∷ []) }
     {
         let made = self.definitions.len();
         self.definitions.push(Defined { spot, item, value })?;
@@ -287,7 +288,8 @@ impl<'a> Scene<'a> {
 
     /// The item at a place of an instance's module, with its number.
     pub fn item_at(&self, spot: usize, place: usize) -> Option<(Item<'a>, u32)>
-        ensures item { IsScene self.now → option_map (λ r. (r.1, item_tree r.0)) result ≡ option_map number_and_item (slice_get (items_at (program_of self.now) spot) place) }
+        ensures item { IsScene self.now → option_map (λ r. (r.1, item_tree r.0)) result
+            ≡ option_map number_and_item (slice_get (items_at (program_of self.now) spot) place) }
     {
         match self.numbered_at(spot, place) {
             Some(numbered) => Some((numbered.item, numbered.number)),
@@ -388,7 +390,8 @@ impl<'a> Scene<'a> {
     /// What a name means at an instance, once all formals are answered.
     pub fn meaning(&self, spot: usize, name: &Dotted) -> Meaning
         ensures value { result ≡ found_at self.now spot name.now }
-        ensures found { IsScene self.now → (at : FlatInstance) → slice_get (instances_of (program_of self.now)) spot ≡ Some at → IsFound (program_of self.now) at.place name.now result }
+        ensures found { IsScene self.now → (at : FlatInstance) →
+            slice_get (instances_of (program_of self.now)) spot ≡ Some at → IsFound (program_of self.now) at.place name.now result }
     {
         self.look_up(spot, name.parts())
     }

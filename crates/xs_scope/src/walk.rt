@@ -133,8 +133,10 @@ impl<'a> Walk<'a> {
         requires variables { AreVariables self.old.variables }
         ensures variables { OnOk result (AreVariables self.new.variables) }
         ensures entered { IfOk result (HasEntered modules.now self.old spot.entry self.new) }
-        ensures kept { OnOk result (visits_told (program_in modules.now) (suc (length self.old.spots.items)) (length self.old.variables) (visits_within modules.now self.old spot.entry) ≡ None) }
-        ensures fault { IfErr result (IsTold (visits_told (program_in modules.now) (suc (length self.old.spots.items)) (length self.old.variables) (visits_within modules.now self.old spot.entry))) }
+        ensures kept { OnOk result (visits_told (program_in modules.now) (suc (length self.old.spots.items))
+            (length self.old.variables) (visits_within modules.now self.old spot.entry) ≡ None) }
+        ensures fault { IfErr result (IsTold (visits_told (program_in modules.now)
+            (suc (length self.old.spots.items)) (length self.old.variables) (visits_within modules.now self.old spot.entry))) }
     {
         let number = self.spots.len();
         let names = &modules.list[spot.module];
@@ -226,7 +228,8 @@ impl<'a> Walk<'a> {
         ensures variables { OnOk result (AreVariables self.new.variables) }
         ensures met { IfOk result (HasMet modules.now self.old declaring.entry.spot (declared_item declaring.entry) self.new) }
         ensures kept { OnOk result (told_from modules.now self.old (visits_at modules.now self.old declaring.entry.spot (declared_item declaring.entry)) ≡ None) }
-        ensures fault { IfErr result (IsTold (told_from modules.now self.old (visits_at modules.now self.old declaring.entry.spot (declared_item declaring.entry)))) }
+        ensures fault { IfErr result (IsTold (told_from modules.now self.old
+            (visits_at modules.now self.old declaring.entry.spot (declared_item declaring.entry)))) }
     {
         match &declaring.decl.what {
             Declared::Instance(name, actuals) => {
@@ -255,7 +258,8 @@ impl<'a> Walk<'a> {
         ensures variables { OnOk result (AreVariables self.new.variables) }
         ensures met { IfOk result (HasMet modules.now self.old declaring.entry.spot (declared_item declaring.entry) self.new) }
         ensures kept { OnOk result (told_from modules.now self.old (visits_at modules.now self.old declaring.entry.spot (declared_item declaring.entry)) ≡ None) }
-        ensures fault { IfErr result (IsTold (told_from modules.now self.old (visits_at modules.now self.old declaring.entry.spot (declared_item declaring.entry)))) }
+        ensures fault { IfErr result (IsTold (told_from modules.now self.old
+            (visits_at modules.now self.old declaring.entry.spot (declared_item declaring.entry)))) }
     {
         let module = self.module_of(modules, declaring.item, name, actuals.len())?;
         let path = self.path_below(alloc, declaring.spot, &declaring.decl.name)?;
@@ -279,7 +283,8 @@ impl<'a> Walk<'a> {
     ) -> Result<usize, FlatFault>
         requires { AreModules modules.now }
         ensures found { IfOk result (IsModuleOf modules.now self.now name.now) }
-        ensures kept { OnOk result (instance_told (program_in modules.now) (on_path_of self.now) (length self.now.spots.items) item name.now actuals ≡ None) }
+        ensures kept { OnOk result (instance_told (program_in modules.now) (on_path_of self.now) (length self.now.spots.items) item name.now actuals
+            ≡ None) }
         ensures fault { IfErr result (IsTold (instance_told (program_in modules.now) (on_path_of self.now) (length self.now.spots.items) item name.now actuals)) }
     {
         let rule = match modules.find(name) {
@@ -325,7 +330,8 @@ impl<'a> Walk<'a> {
         ensures variables { OnOk result (AreVariables self.new.variables) }
         ensures met { IfOk result (HasMet modules.now self.old declaring.entry.spot (declared_item declaring.entry) self.new) }
         ensures kept { OnOk result (told_from modules.now self.old (visits_at modules.now self.old declaring.entry.spot (declared_item declaring.entry)) ≡ None) }
-        ensures fault { IfErr result (IsTold (told_from modules.now self.old (visits_at modules.now self.old declaring.entry.spot (declared_item declaring.entry)))) }
+        ensures fault { IfErr result (IsTold (told_from modules.now self.old
+            (visits_at modules.now self.old declaring.entry.spot (declared_item declaring.entry)))) }
     {
         let place = self.variables.len();
         if place >= VARIABLE_LIMIT {

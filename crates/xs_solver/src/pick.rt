@@ -38,7 +38,8 @@ fn rank(trail: &Trail, lit: Lit) -> usize
 // The better of the best one so far and one more literal.
 fn better(trail: &Trail, best: Best, lit: Lit, but: u64) -> Best
     requires { lit.var ≤ trail.now.vars }
-    ensures { (c : List Literal) → IsBest trail.now.vars trail.now.lits but c best.code best.rank → IsBest trail.now.vars trail.now.lits but (c ++ lit ∷ []) result.code result.rank }
+    ensures { (c : List Literal) → IsBest trail.now.vars trail.now.lits but c best.code best.rank →
+        IsBest trail.now.vars trail.now.lits but (c ++ lit ∷ []) result.code result.rank }
 {
     let code = lit.code();
     if code == but {

@@ -35,8 +35,10 @@ pub(crate) fn add_own_events(
     ages: &[u32],
 ) -> Result<(), OutOfMemory>
     requires ages { length ages.now ≡ length causes.now }
-    ensures model { OnOk result (model_tree made.new ≡ with_owns (map mode_of faults.now) (map cause_of causes.now) ages.now 1 (map mode_of faults.now) (model_tree made.old)) }
-    ensures events { OnOk result (map mode_of events.new ≡ map mode_of events.old ++ own_events (length (model_tree made.old).variables) (length (model_tree made.old).symbols) (map mode_of faults.now)) }
+    ensures model { OnOk result (model_tree made.new
+        ≡ with_owns (map mode_of faults.now) (map cause_of causes.now) ages.now 1 (map mode_of faults.now) (model_tree made.old)) }
+    ensures events { OnOk result (map mode_of events.new
+        ≡ map mode_of events.old ++ own_events (length (model_tree made.old).variables) (length (model_tree made.old).symbols) (map mode_of faults.now)) }
     ensures names { OnOk result (map name_of_fault events.new ≡ map name_of_fault events.old ++ map name_of_fault faults.now) }
 {
     for (i, fault) in faults.iter().enumerate() {
@@ -59,8 +61,10 @@ fn add_own_event(
 ) -> Result<Fault, OutOfMemory>
     requires number { (0 < number) × (number ≤ length faults.now) }
     requires ages { length ages.now ≡ length causes.now }
-    ensures model { OnOk result (model_tree made.new ≡ own_with (map mode_of faults.now) (map cause_of causes.now) ages.now number (model_tree made.old)) }
-    ensures event { IfOk result (λ f. mode_of f ≡ record { variable = length (model_tree made.old).variables; symbol = suc (length (model_tree made.old).symbols) }) }
+    ensures model { OnOk result (model_tree made.new
+        ≡ own_with (map mode_of faults.now) (map cause_of causes.now) ages.now number (model_tree made.old)) }
+    ensures event { IfOk result (λ f. mode_of f
+        ≡ record { variable = length (model_tree made.old).variables; symbol = suc (length (model_tree made.old).symbols) }) }
     ensures name { IfOk result (λ f. name_of_fault f ≡ name.now) }
 {
     let own = number_of(made.variables.len())?;
@@ -109,7 +113,8 @@ fn own_at_first(
     requires number { (0 < number) × (number ≤ length faults.now) }
     requires ages { length ages.now ≡ length causes.now }
     requires symbols { mark.itself ≡ suc mark.none }
-    ensures { IfOk result (λ f. formula_tree f ≡ own_first (stands_of (map mode_of faults.now) number) (windows_of (windows_on_of number (map cause_of causes.now) ages.now)) mark.own mark.none) }
+    ensures { IfOk result (λ f. formula_tree f ≡ own_first (stands_of (map mode_of faults.now) number)
+        (windows_of (windows_on_of number (map cause_of causes.now) ages.now)) mark.own mark.none) }
 {
     let begins = stands(alloc, faults, number)?;
     let free = opposite(alloc, windows_on(alloc, causes, ages, number)?)?;
@@ -129,7 +134,8 @@ fn own_at_step(
     requires number { (0 < number) × (number ≤ length faults.now) }
     requires ages { length ages.now ≡ length causes.now }
     requires symbols { mark.itself ≡ suc mark.none }
-    ensures { IfOk result (λ f. formula_tree f ≡ own_step (stands_of (map mode_of faults.now) number) (windows_of (windows_on_of number (map cause_of causes.now) ages.now)) mark.own mark.none) }
+    ensures { IfOk result (λ f. formula_tree f ≡ own_step (stands_of (map mode_of faults.now) number)
+        (windows_of (windows_on_of number (map cause_of causes.now) ages.now)) mark.own mark.none) }
 {
     let then = next(alloc, stands(alloc, faults, number)?)?;
     let before = opposite(alloc, stands(alloc, faults, number)?)?;
@@ -141,7 +147,8 @@ fn own_at_step(
 
 /// The symbol that tells the event where a condition is TRUE, and the other one elsewhere.
 fn told(alloc: Global, condition: Expr<Flat>, mark: Marked) -> Result<Expr<Flat>, OutOfMemory>
-    ensures { IfOk result (λ e. flat_tree e ≡ choice_tree (flat_tree condition) (only_tree (leaf (flat_symbol mark.itself))) (only_tree (leaf (flat_symbol mark.none)))) }
+    ensures { IfOk result (λ e. flat_tree e ≡ choice_tree (flat_tree condition)
+        (only_tree (leaf (flat_symbol mark.itself))) (only_tree (leaf (flat_symbol mark.none)))) }
 {
     let begins = only(alloc, symbol(mark.itself))?;
     let rests = only(alloc, symbol(mark.none))?;

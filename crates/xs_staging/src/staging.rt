@@ -102,7 +102,8 @@ fn add_causes(
     requires { Each (IsCauseOf (length faults.now)) (map cause_of causes.now) }
     ensures model { OnOk result (model_tree made.new ≡ with_each_cause (map mode_of faults.now) (model_tree made.old) (map cause_of causes.now)) }
     ensures ages { OnOk result (ages.new.items ≡ ages.old.items ++ age_numbers (length (model_tree made.old).variables) (map cause_of causes.now)) }
-    ensures events { OnOk result (map mode_of events.new ≡ map mode_of events.old ++ cause_events (length (model_tree made.old).variables) (length (model_tree made.old).symbols) (map cause_of causes.now)) }
+    ensures events { OnOk result (map mode_of events.new
+        ≡ map mode_of events.old ++ cause_events (length (model_tree made.old).variables) (length (model_tree made.old).symbols) (map cause_of causes.now)) }
     ensures names { OnOk result (map name_of_fault events.new ≡ map name_of_fault events.old ++ map told_cause causes.now) }
 {
     for cause in causes {
@@ -183,7 +184,8 @@ fn add_event(
     age: u32,
 ) -> Result<Fault, OutOfMemory>
     ensures model { OnOk result (model_tree made.new ≡ event_of (model_tree made.old) (cause_of cause.now) age) }
-    ensures event { IfOk result (λ f. mode_of f ≡ record { variable = length (model_tree made.old).variables; symbol = suc (length (model_tree made.old).symbols) }) }
+    ensures event { IfOk result (λ f. mode_of f
+        ≡ record { variable = length (model_tree made.old).variables; symbol = suc (length (model_tree made.old).symbols) }) }
     ensures name { IfOk result (λ f. name_of_fault f ≡ told_cause cause.now) }
 {
     let event = number_of(made.variables.len())?;

@@ -37,7 +37,8 @@ pub fn kind_of(t: &Typed, e: &Expr<Flat>) -> Kind
 /// An expression that is not refused breaks no rule, and at values of the domains its value lies in its
 /// kind.
 pub fn check_value(t: &Typed, e: &Expr<Flat>) -> Result<Kind, TypeFault>
-    ensures answer { result ≡ value_answer (value_fault (model_tree t.now.model) (flat_tree e.now)) (judged_in (model_tree t.now.model) false (flat_tree e.now)).kind }
+    ensures answer { result
+        ≡ value_answer (value_fault (model_tree t.now.model) (flat_tree e.now)) (judged_in (model_tree t.now.model) false (flat_tree e.now)).kind }
     ensures kept { OnOk result ((judged_in (model_tree t.now.model) false (flat_tree e.now)).broken ≡ []) }
     ensures lies { OnOk result (LiesInKind (model_tree t.now.model) (flat_tree e.now)) }
 {

@@ -13,7 +13,8 @@ use xs_tree::model::{FlatModel, Formula};
 
 /// The first rule that a model's formulas break.
 pub(crate) fn judge_conditions(sorts: &Sorts, m: &FlatModel) -> Option<Site>
-    ensures { result ≡ told_first_site (first_of (formula_breaches (name_kind sorts.now) m.now.init ++ (formula_breaches (name_kind sorts.now) m.now.invar ++ formula_breaches (name_kind sorts.now) m.now.trans))) }
+    ensures { result ≡ told_first_site (first_of (formula_breaches (name_kind sorts.now) m.now.init
+        ++ (formula_breaches (name_kind sorts.now) m.now.invar ++ formula_breaches (name_kind sorts.now) m.now.trans))) }
 {
     let init = judge_formulas(sorts, m.init.as_slice());
     let invar = judge_formulas(sorts, m.invar.as_slice());

@@ -52,8 +52,10 @@ pub(crate) fn judge_definitions(
 /// One more definition.
 fn add_definition(before: Defined, definition: &Formula) -> Result<Defined, OutOfMemory>
     ensures variables { IfOk result (λ d. d.sorts.variables.items ≡ before.sorts.variables.items) }
-    ensures kinds { IfOk result (λ d. d.sorts.definitions.items ≡ before.sorts.definitions.items ++ kept_sort (judge (name_kind before.sorts) false (tree_of definition.now.value)) ∷ []) }
-    ensures first { IfOk result (λ d. d.first ≡ earlier_site before.first (site_at definition.now.«instance» definition.now.item (told_rules (judge (name_kind before.sorts) false (tree_of definition.now.value)).broken))) }
+    ensures kinds { IfOk result (λ d. d.sorts.definitions.items
+        ≡ before.sorts.definitions.items ++ kept_sort (judge (name_kind before.sorts) false (tree_of definition.now.value)) ∷ []) }
+    ensures first { IfOk result (λ d. d.first ≡ earlier_site before.first
+        (site_at definition.now.«instance» definition.now.item (told_rules (judge (name_kind before.sorts) false (tree_of definition.now.value)).broken))) }
 {
     let Defined { sorts, first } = before;
     let judged = judge(&sorts, false, &definition.value);

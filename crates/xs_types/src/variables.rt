@@ -76,7 +76,8 @@ fn add_variable(
 ) -> Result<Declarations, OutOfMemory>
     ensures domains { IfOk result (λ d. d.domains.items ≡ before.domains.items ++ variable_domain numbers.now.texts.now variable.now ∷ []) }
     ensures kinds { IfOk result (λ d. d.sorts.items ≡ before.sorts.items ++ kept_sort (judged_declared (declared_tree variable.now.declared)) ∷ []) }
-    ensures first { IfOk result (λ d. d.first ≡ earlier_site before.first (site_at variable.now.«instance» variable.now.item (told_rules (judged_declared (declared_tree variable.now.declared)).broken))) }
+    ensures first { IfOk result (λ d. d.first ≡ earlier_site before.first
+        (site_at variable.now.«instance» variable.now.item (told_rules (judged_declared (declared_tree variable.now.declared)).broken))) }
     ensures bits { IfOk result (λ d. d.bits ≡ min (before.bits + variable_bits numbers.now.texts.now variable.now) 50001) }
 {
     let Declarations {

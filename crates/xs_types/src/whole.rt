@@ -69,7 +69,8 @@ fn first_in_all(
 ) -> Option<Site>
     requires kinds { AreKindsOf (model_tree m.now) sorts.now }
     requires variables { variables ≡ told_first_site (first_of (variable_breaches (model_tree m.now).variables)) }
-    requires definitions { definitions ≡ told_first_site (first_of (definition_breaches (model_tree m.now).definitions (judged_definitions (model_tree m.now)))) }
+    requires definitions { definitions
+        ≡ told_first_site (first_of (definition_breaches (model_tree m.now).definitions (judged_definitions (model_tree m.now)))) }
     ensures { result ≡ told_first_site (first_of (breaches (model_tree m.now))) }
 {
     let conditions = judge_conditions(sorts, m);

@@ -21,7 +21,8 @@ pub fn renamed_sections(
     owner: &Name,
     sections: &[Section],
 ) -> Result<SectionList, OutOfMemory>
-    ensures { IfOk result (λ made. map section_tree made ≡ map (woven_section (is_affected_in (instruction_tree i.now) owner.now)) (map section_tree sections.now)) }
+    ensures { IfOk result (λ made. map section_tree made
+        ≡ map (woven_section (is_affected_in (instruction_tree i.now) owner.now)) (map section_tree sections.now)) }
 {
     let mut made = Items::new(alloc);
     for section in sections {
@@ -62,7 +63,8 @@ fn renamed_assignments(
     owner: &Name,
     assignments: &[Assignment],
 ) -> Result<AssignList, OutOfMemory>
-    ensures { IfOk result (λ made. map assignment_tree made ≡ map (woven_assignment (is_affected_in (instruction_tree i.now) owner.now)) (map assignment_tree assignments.now)) }
+    ensures { IfOk result (λ made. map assignment_tree made
+        ≡ map (woven_assignment (is_affected_in (instruction_tree i.now) owner.now)) (map assignment_tree assignments.now)) }
 {
     let mut made = Items::new(alloc);
     for assignment in assignments {
@@ -78,7 +80,8 @@ fn renamed_assignment(
     owner: &Name,
     assignment: &Assignment,
 ) -> Result<Assignment, OutOfMemory>
-    ensures { IfOk result (λ made. assignment_tree made ≡ woven_assignment (is_affected_in (instruction_tree i.now) owner.now) (assignment_tree assignment.now)) }
+    ensures { IfOk result (λ made. assignment_tree made
+        ≡ woven_assignment (is_affected_in (instruction_tree i.now) owner.now) (assignment_tree assignment.now)) }
 {
     let target = renamed_name(alloc, i, owner, &assignment.target)?;
     let value = assignment.value.copy(alloc)?;
@@ -151,7 +154,8 @@ fn renamed(
     under: bool,
     e: &Expr<Dotted>,
 ) -> Result<Expr<Dotted>, OutOfMemory>
-    ensures { IfOk result (λ made. tree_of made ≡ tree_map_both (renaming outside (is_affected_in (instruction_tree i.now) owner.now)) (renaming under (is_affected_in (instruction_tree i.now) owner.now)) (tree_of e.now)) }
+    ensures { IfOk result (λ made. tree_of made ≡ tree_map_both (renaming outside (is_affected_in (instruction_tree i.now) owner.now))
+        (renaming under (is_affected_in (instruction_tree i.now) owner.now)) (tree_of e.now)) }
 {
     match e {
         Expr::Truth(b) => Ok(Expr::Truth(*b)),
@@ -192,7 +196,9 @@ fn renamed_boxed(
     under: bool,
     e: &Expr<Dotted>,
 ) -> Result<Box<Expr<Dotted>>, OutOfMemory>
-    ensures { IfOk result (λ made. tree_of made.value ≡ tree_map_both (renaming outside (is_affected_in (instruction_tree i.now) owner.now)) (renaming under (is_affected_in (instruction_tree i.now) owner.now)) (tree_of e.now)) }
+    ensures { IfOk result (λ made. tree_of made.value
+        ≡ tree_map_both (renaming outside (is_affected_in (instruction_tree i.now) owner.now))
+        (renaming under (is_affected_in (instruction_tree i.now) owner.now)) (tree_of e.now)) }
 {
     let made = renamed(alloc, i, owner, outside, under, e)?;
     match Box::new(alloc, made) {
@@ -211,7 +217,8 @@ fn renamed_members(
     under: bool,
     members: &[Expr<Dotted>],
 ) -> Result<ExprList<Dotted>, OutOfMemory>
-    ensures { IfOk result (λ made. trees_of made ≡ trees_map_both (renaming outside (is_affected_in (instruction_tree i.now) owner.now)) (renaming under (is_affected_in (instruction_tree i.now) owner.now)) (trees_of members.now)) }
+    ensures { IfOk result (λ made. trees_of made ≡ trees_map_both (renaming outside (is_affected_in (instruction_tree i.now) owner.now))
+        (renaming under (is_affected_in (instruction_tree i.now) owner.now)) (trees_of members.now)) }
 {
     let mut made = Items::new(alloc);
     for member in members {
@@ -230,7 +237,9 @@ fn renamed_branches(
     under: bool,
     branches: &[(Expr<Dotted>, Expr<Dotted>)],
 ) -> Result<BranchList<Dotted>, OutOfMemory>
-    ensures { IfOk result (λ made. branches_of made ≡ branches_map_both (renaming outside (is_affected_in (instruction_tree i.now) owner.now)) (renaming under (is_affected_in (instruction_tree i.now) owner.now)) (branches_of branches.now)) }
+    ensures { IfOk result (λ made. branches_of made
+        ≡ branches_map_both (renaming outside (is_affected_in (instruction_tree i.now) owner.now))
+        (renaming under (is_affected_in (instruction_tree i.now) owner.now)) (branches_of branches.now)) }
 {
     let mut made = Items::new(alloc);
     for (condition, value) in branches {

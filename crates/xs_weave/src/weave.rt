@@ -66,7 +66,9 @@ fn woven_module(alloc: Global, i: &Instructions, m: &Module) -> Result<Module, O
 fn woven_sections(alloc: Global, i: &Instructions, m: &Module) -> Result<SectionList, OutOfMemory>
     requires types { ModuleHasNegations m.now }
     requires effects { All ExtensionHasNegations i.now.extensions }
-    ensures { IfOk result (λ made. map section_tree made ≡ map (woven_section (is_affected (instruction_tree i.now) m.now.name)) (map section_tree m.now.sections) ++ added_sections (instruction_tree i.now) (module_tree m.now)) }
+    ensures { IfOk result (λ made. map section_tree made
+        ≡ map (woven_section (is_affected (instruction_tree i.now) m.now.name)) (map section_tree m.now.sections)
+        ++ added_sections (instruction_tree i.now) (module_tree m.now)) }
 {
     let mut sections = renamed_sections(alloc, i, &m.name, m.sections.as_slice())?;
     add_extensions(alloc, i, m, &mut sections)?;
@@ -83,7 +85,8 @@ fn add_extensions(
 ) -> Result<(), OutOfMemory>
     requires types { ModuleHasNegations m.now }
     requires effects { All ExtensionHasNegations i.now.extensions }
-    ensures { OnOk result (map section_tree sections.new ≡ map section_tree sections.old ++ added_sections (instruction_tree i.now) (module_tree m.now)) }
+    ensures { OnOk result (map section_tree sections.new
+        ≡ map section_tree sections.old ++ added_sections (instruction_tree i.now) (module_tree m.now)) }
 {
     for extension in i.extensions.as_slice() {
         add_extension(alloc, m, extension, sections)?;
@@ -101,7 +104,8 @@ fn add_extension(
 ) -> Result<(), OutOfMemory>
     requires types { ModuleHasNegations m.now }
     requires effects { ExtensionHasNegations extension.now }
-    ensures { OnOk result (map section_tree sections.new ≡ map section_tree sections.old ++ flat_map (slice_sections (module_tree m.now)) (own_slices (extension_tree extension.now) m.now.name)) }
+    ensures { OnOk result (map section_tree sections.new
+        ≡ map section_tree sections.old ++ flat_map (slice_sections (module_tree m.now)) (own_slices (extension_tree extension.now) m.now.name)) }
 {
     if has_text(&extension.module, &m.name) {
         return add_slices(alloc, m, extension.slices.as_slice(), sections);
@@ -119,7 +123,8 @@ fn add_slices(
 ) -> Result<(), OutOfMemory>
     requires types { ModuleHasNegations m.now }
     requires effects { All SliceHasNegations slices.now }
-    ensures { OnOk result (map section_tree sections.new ≡ map section_tree sections.old ++ flat_map (slice_sections (module_tree m.now)) (map slice_tree slices.now)) }
+    ensures { OnOk result (map section_tree sections.new
+        ≡ map section_tree sections.old ++ flat_map (slice_sections (module_tree m.now)) (map slice_tree slices.now)) }
 {
     for slice in slices {
         add_slice(alloc, m, slice, sections)?;

@@ -29,7 +29,8 @@ pub(crate) struct Counted {
 /// fault at each instance of its module; `instances` has the module of each instance.
 pub fn judge_counts(instances: &[&Name], i: &Instructions) -> Result<(), RuleFault>
     ensures kept { OnOk result (AllKept (count_broken_at (module_names instances.now)) (item_sites (instruction_tree i.now))) }
-    ensures first { IfErr result (λ fault. fault.rule ≢ broken.OutOfMemory → IsFirstBroken (count_broken_at (module_names instances.now)) (item_sites (instruction_tree i.now)) fault.rule fault.item) }
+    ensures first { IfErr result (λ fault. fault.rule ≢ broken.OutOfMemory →
+        IsFirstBroken (count_broken_at (module_names instances.now)) (item_sites (instruction_tree i.now)) fault.rule fault.item) }
 {
     let none = Counted { item: 0, faults: 0 };
     count_extensions(instances, i.extensions.as_slice(), none)?;
@@ -42,8 +43,10 @@ fn count_extensions(
     extensions: &[Extension],
     before: Counted,
 ) -> Result<Counted, RuleFault>
-    ensures counted { IfOk result (λ counted. counted_extensions (module_names instances.now) (map extension_tree extensions.now) before ≡ Ok counted) }
-    ensures told { IfErr result (λ fault. fault.rule ≢ broken.OutOfMemory → counted_extensions (module_names instances.now) (map extension_tree extensions.now) before ≡ Err fault) }
+    ensures counted { IfOk result (λ counted. counted_extensions (module_names instances.now) (map extension_tree extensions.now) before
+        ≡ Ok counted) }
+    ensures told { IfErr result (λ fault. fault.rule ≢ broken.OutOfMemory →
+        counted_extensions (module_names instances.now) (map extension_tree extensions.now) before ≡ Err fault) }
 {
     let mut counted = before;
     for extension in extensions {
@@ -59,7 +62,8 @@ fn count_extension(
     before: Counted,
 ) -> Result<Counted, RuleFault>
     ensures counted { IfOk result (λ counted. counted_extension (module_names instances.now) (extension_tree extension.now) before ≡ Ok counted) }
-    ensures told { IfErr result (λ fault. fault.rule ≢ broken.OutOfMemory → counted_extension (module_names instances.now) (extension_tree extension.now) before ≡ Err fault) }
+    ensures told { IfErr result (λ fault. fault.rule ≢ broken.OutOfMemory →
+        counted_extension (module_names instances.now) (extension_tree extension.now) before ≡ Err fault) }
 {
     let item = item_after(before.item)?;
     let faults = before.faults;

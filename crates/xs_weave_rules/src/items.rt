@@ -62,7 +62,8 @@ pub fn placed_slices<'a>(
     ensures placed { IfOk result (λ placed. map placed_tree placed.items ≡ file_slices (instruction_tree i.now).extensions) }
     ensures items { IfOk result (λ placed. map seen_placed placed.items ≡ placed_from (program_tree p.now) 0 (item_sites (instruction_tree i.now))) }
     ensures kept { OnOk result (AllKept (broken_at (program_tree p.now)) (item_sites (instruction_tree i.now))) }
-    ensures first { IfErr result (λ fault. fault.rule ≢ broken.OutOfMemory → IsFirstBroken (broken_at (program_tree p.now)) (item_sites (instruction_tree i.now)) fault.rule fault.item) }
+    ensures first { IfErr result (λ fault. fault.rule ≢ broken.OutOfMemory →
+        IsFirstBroken (broken_at (program_tree p.now)) (item_sites (instruction_tree i.now)) fault.rule fault.item) }
 {
     let known = Known::read(alloc, p)?;
     let mut met = Met::none(alloc);
@@ -97,9 +98,12 @@ impl<'a> Met<'a> {
     ) -> Result<(), RuleFault>
         requires known { IsKnown known.now }
         requires met { IsMet self.old }
-        ensures kept { OnOk result (IsTaken (program_known known.now) self.old.last self.old self.new (extension_sites (slices_in self.old) (map extension_tree extensions.now)) (file_slices (map extension_tree extensions.now))) }
-        ensures places { OnOk result (places_in self.new ≡ places_in self.old ++ placed_from (program_known known.now) self.old.last (extension_sites (slices_in self.old) (map extension_tree extensions.now))) }
-        ensures told { IfErr result (IsFirstAfter (program_known known.now) self.old.last (extension_sites (slices_in self.old) (map extension_tree extensions.now))) }
+        ensures kept { OnOk result (IsTaken (program_known known.now) self.old.last self.old self.new
+            (extension_sites (slices_in self.old) (map extension_tree extensions.now)) (file_slices (map extension_tree extensions.now))) }
+        ensures places { OnOk result (places_in self.new
+            ≡ places_in self.old ++ placed_from (program_known known.now) self.old.last (extension_sites (slices_in self.old) (map extension_tree extensions.now))) }
+        ensures told { IfErr result (IsFirstAfter (program_known known.now) self.old.last
+            (extension_sites (slices_in self.old) (map extension_tree extensions.now))) }
     {
         for extension in extensions {
             self.take_extension(alloc, known, extension)?;
@@ -116,8 +120,10 @@ impl<'a> Met<'a> {
     ) -> Result<(), RuleFault>
         requires known { IsKnown known.now }
         requires met { IsMet self.old }
-        ensures kept { OnOk result (IsTaken (program_known known.now) self.old.last self.old self.new (sites_of (slices_in self.old) (extension_tree extension.now)) (owned_slices (extension_tree extension.now))) }
-        ensures places { OnOk result (places_in self.new ≡ places_in self.old ++ placed_from (program_known known.now) self.old.last (sites_of (slices_in self.old) (extension_tree extension.now))) }
+        ensures kept { OnOk result (IsTaken (program_known known.now) self.old.last self.old self.new
+            (sites_of (slices_in self.old) (extension_tree extension.now)) (owned_slices (extension_tree extension.now))) }
+        ensures places { OnOk result (places_in self.new
+            ≡ places_in self.old ++ placed_from (program_known known.now) self.old.last (sites_of (slices_in self.old) (extension_tree extension.now))) }
         ensures told { IfErr result (IsFirstAfter (program_known known.now) self.old.last (sites_of (slices_in self.old) (extension_tree extension.now))) }
     {
         let item = item_after(self.last)?;
@@ -141,8 +147,10 @@ impl<'a> Met<'a> {
     ) -> Result<(), RuleFault>
         requires known { IsKnown known.now }
         requires met { IsMet self.old }
-        ensures kept { OnOk result (IsTaken (program_known known.now) self.old.last self.old self.new (slice_sites (slices_in self.old) owner.now (map slice_tree slices.now)) (map (owned owner.now) (map slice_tree slices.now))) }
-        ensures places { OnOk result (places_in self.new ≡ places_in self.old ++ placed_from (program_known known.now) self.old.last (slice_sites (slices_in self.old) owner.now (map slice_tree slices.now))) }
+        ensures kept { OnOk result (IsTaken (program_known known.now) self.old.last self.old self.new
+            (slice_sites (slices_in self.old) owner.now (map slice_tree slices.now)) (map (owned owner.now) (map slice_tree slices.now))) }
+        ensures places { OnOk result (places_in self.new
+            ≡ places_in self.old ++ placed_from (program_known known.now) self.old.last (slice_sites (slices_in self.old) owner.now (map slice_tree slices.now))) }
         ensures told { IfErr result (IsFirstAfter (program_known known.now) self.old.last (slice_sites (slices_in self.old) owner.now (map slice_tree slices.now))) }
     {
         for slice in slices {
@@ -161,8 +169,10 @@ impl<'a> Met<'a> {
     ) -> Result<(), RuleFault>
         requires known { IsKnown known.now }
         requires met { IsMet self.old }
-        ensures kept { OnOk result (IsTaken (program_known known.now) self.old.last self.old self.new (slice_sites (slices_in self.old) owner.now (slice_tree slice.now ∷ [])) (owned owner.now (slice_tree slice.now) ∷ [])) }
-        ensures places { OnOk result (places_in self.new ≡ places_in self.old ++ placed_from (program_known known.now) self.old.last (slice_sites (slices_in self.old) owner.now (slice_tree slice.now ∷ []))) }
+        ensures kept { OnOk result (IsTaken (program_known known.now) self.old.last self.old self.new
+            (slice_sites (slices_in self.old) owner.now (slice_tree slice.now ∷ [])) (owned owner.now (slice_tree slice.now) ∷ [])) }
+        ensures places { OnOk result (places_in self.new
+            ≡ places_in self.old ++ placed_from (program_known known.now) self.old.last (slice_sites (slices_in self.old) owner.now (slice_tree slice.now ∷ []))) }
         ensures told { IfErr result (IsFirstAfter (program_known known.now) self.old.last (slice_sites (slices_in self.old) owner.now (slice_tree slice.now ∷ []))) }
     {
         let item = item_after(self.last)?;
@@ -192,9 +202,11 @@ impl<'a> Met<'a> {
         requires met { IsMet self.old }
         requires names { names.now ≡ names_of (slice_tree placed.now.slice.now) }
         requires declared { declared_tree placed.now.declared.now ≡ type_of_kind (target_kind (program_known known.now) (placed_tree placed.now)) }
-        ensures kept { OnOk result (IsTaken (program_known known.now) placed.now.item self.old self.new (mode_sites (slices_in self.old) (placed_tree placed.now) [] (placed_tree placed.now).slice.modes) (placed_tree placed.now ∷ [])) }
+        ensures kept { OnOk result (IsTaken (program_known known.now) placed.now.item self.old self.new
+            (mode_sites (slices_in self.old) (placed_tree placed.now) [] (placed_tree placed.now).slice.modes) (placed_tree placed.now ∷ [])) }
         ensures places { OnOk result (places_in self.new ≡ places_in self.old ++ seen_placed placed.now ∷ []) }
-        ensures told { IfErr result (IsFirstAfter (program_known known.now) placed.now.item (mode_sites (slices_in self.old) (placed_tree placed.now) [] (placed_tree placed.now).slice.modes)) }
+        ensures told { IfErr result (IsFirstAfter (program_known known.now) placed.now.item
+            (mode_sites (slices_in self.old) (placed_tree placed.now) [] (placed_tree placed.now).slice.modes)) }
     {
         self.add_slice(alloc, names, placed)?;
         let judged = Judged {
@@ -250,8 +262,10 @@ impl<'a> Met<'a> {
         requires known { IsKnown known.now }
         requires met { IsMet self.now }
         requires names { names.now ≡ names_of (slice_tree slice.now) }
-        ensures rule { result_err result ≡ broken_at (program_known known.now) (a_slice (slices_in self.now) (owned owner.now (slice_tree slice.now))) }
-        ensures declared { IfOk result (λ declared. declared_tree declared.now ≡ type_of_kind (target_kind (program_known known.now) (owned owner.now (slice_tree slice.now)))) }
+        ensures rule { result_err result
+            ≡ broken_at (program_known known.now) (a_slice (slices_in self.now) (owned owner.now (slice_tree slice.now))) }
+        ensures declared { IfOk result (λ declared.
+            declared_tree declared.now ≡ type_of_kind (target_kind (program_known known.now) (owned owner.now (slice_tree slice.now)))) }
     {
         let declared = target_of(known.local(owner, &slice.target))?;
         match self.later_rule(known, owner, slice, names, declared) {

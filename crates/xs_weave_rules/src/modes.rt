@@ -40,7 +40,8 @@ pub(crate) fn take_modes(
     ensures kept { OnOk result (faults_of judged.now states.old [] item (map mode_tree judged.now.slice.now.modes) ≡ None) }
     ensures states { OnOk result (states.new ≡ with_texts states.old (mode_symbols judged.now.slice.now.name (map mode_tree judged.now.slice.now.modes))) }
     ensures last { IfOk result (λ last. last ≡ item + length judged.now.slice.now.modes) }
-    ensures told { IfErr result (λ fault. fault.rule ≢ broken.OutOfMemory → faults_of judged.now states.old [] item (map mode_tree judged.now.slice.now.modes) ≡ Some fault) }
+    ensures told { IfErr result (λ fault. fault.rule ≢ broken.OutOfMemory →
+        faults_of judged.now states.old [] item (map mode_tree judged.now.slice.now.modes) ≡ Some fault) }
 {
     take_each(alloc, judged, states, item, judged.slice.modes.as_slice())
 }
@@ -57,7 +58,8 @@ fn take_each(
     ensures kept { OnOk result (faults_of judged.now states.old [] item (map mode_tree modes.now) ≡ None) }
     ensures states { OnOk result (states.new ≡ with_texts states.old (mode_symbols judged.now.slice.now.name (map mode_tree modes.now))) }
     ensures last { IfOk result (λ last. last ≡ item + length modes.now) }
-    ensures told { IfErr result (λ fault. fault.rule ≢ broken.OutOfMemory → faults_of judged.now states.old [] item (map mode_tree modes.now) ≡ Some fault) }
+    ensures told { IfErr result (λ fault. fault.rule ≢ broken.OutOfMemory →
+        faults_of judged.now states.old [] item (map mode_tree modes.now) ≡ Some fault) }
 {
     let mut names = Texts::new(alloc);
     let mut last = item;
@@ -81,7 +83,8 @@ fn take_mode(
     ensures item { IfOk result (λ item. item ≡ last + 1) }
     ensures states { OnOk result (states.new ≡ with_text states.old (mode_symbol_of judged.now.slice.now.name (Some mode.now.name))) }
     ensures names { OnOk result (names.new ≡ with_text names.old mode.now.name) }
-    ensures told { IfErr result (λ fault. fault.rule ≢ broken.OutOfMemory → rule_of judged.now states.old names.old (mode_tree mode.now) ≡ Some fault.rule) }
+    ensures told { IfErr result (λ fault. fault.rule ≢ broken.OutOfMemory →
+        rule_of judged.now states.old names.old (mode_tree mode.now) ≡ Some fault.rule) }
     ensures told_item { IfErr result (λ fault. fault.rule ≢ broken.OutOfMemory → fault.item ≡ last + 1) }
 {
     let item = item_after(last)?;

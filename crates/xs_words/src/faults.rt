@@ -56,7 +56,8 @@ fn fault_here(
     at: u32,
 ) -> Option<WordFault>
     requires { at + 1 < 2 ^ 32 }
-    ensures { result ≡ fault_by (kind_in (map viewed options.now) option.now) (value_in (pairs_of (texts before.now)) option.now) (option_map (λ w. w.now) value.entry) at }
+    ensures { result ≡ fault_by (kind_in (map viewed options.now) option.now)
+        (value_in (pairs_of (texts before.now)) option.now) (option_map (λ w. w.now) value.entry) at }
 {
     let Some(kind) = kind_of(options, option) else {
         return Some(WordFault::UnknownOption { at });

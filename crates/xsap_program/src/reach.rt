@@ -42,17 +42,22 @@ pub fn run<D: Desk>(alloc: Global, words: &[&str], desk: &mut D) -> Status
     ensures finished { (c : Asked) → Means (texts words.now) c → IsFinished result →
         IfSome (D.files desk.old) (λ files. IsDone c files result (D.files desk.old) (D.files desk.new) (D.said desk.old) (D.said desk.new)) }
     // It is bounded only by the depth, and never where the depth is two more than the number of states, or above that.
-    ensures bounded { (c : Asked) (k : ℕ) → Means (texts words.now) c → result ≡ Status.Bounded k → IfSome (D.files desk.old) (λ files. IsShort c files k) }
+    ensures bounded { (c : Asked) (k : ℕ) → Means (texts words.now) c → result ≡ Status.Bounded k →
+        IfSome (D.files desk.old) (λ files. IsShort c files k) }
     // One that is refused has said the line of the rule that is broken first, and changed no file.
-    ensures refused { (c : Asked) (r : Refusal) → Means (texts words.now) c → result ≡ Status.Refused r → IfSome (D.files desk.old) (λ files. RefusesCommand c files r) }
+    ensures refused { (c : Asked) (r : Refusal) → Means (texts words.now) c → result ≡ Status.Refused r →
+        IfSome (D.files desk.old) (λ files. RefusesCommand c files r) }
     // No other rule is: words whose files break one are refused by it, unless the desk fails or memory runs out.
-    ensures exact { (c : Asked) (r : Refusal) → Means (texts words.now) c → IsAnswer result → IfSome (D.files desk.old) (λ files. RefusesCommand c files r → result ≡ Status.Refused r) }
-    ensures told { (r : Refusal) → result ≡ Status.Refused r → (D.files desk.new ≡ D.files desk.old) × (D.said desk.new ≡ said_more (D.said desk.old) (refusal_text r)) }
+    ensures exact { (c : Asked) (r : Refusal) → Means (texts words.now) c → IsAnswer result →
+        IfSome (D.files desk.old) (λ files. RefusesCommand c files r → result ≡ Status.Refused r) }
+    ensures told { (r : Refusal) → result ≡ Status.Refused r →
+        (D.files desk.new ≡ D.files desk.old) × (D.said desk.new ≡ said_more (D.said desk.old) (refusal_text r)) }
     // Words that mean nothing are refused by the rule that they break first, at its place.
     ensures words { (rule place : ℕ) → BreaksFirst (texts words.now) rule place → IsAnswer result →
         (f : WordFault) × (rule_of f ≡ rule) × (place_of f ≡ place) × (result ≡ Status.Refused (refused.Words f)) }
     // One that is stopped has left nothing, or a beginning of what it would write and say.
-    ensures left { (result ≡ Status.Desk) ⊎ (result ≡ Status.Memory) → IfSome (D.files desk.old) (λ files. IsLeft files (texts words.now) (D.files desk.old) (D.files desk.new) (D.said desk.old) (D.said desk.new)) }
+    ensures left { (result ≡ Status.Desk) ⊎ (result ≡ Status.Memory) →
+        IfSome (D.files desk.old) (λ files. IsLeft files (texts words.now) (D.files desk.old) (D.files desk.new) (D.said desk.old) (D.said desk.new)) }
     // The desk's status comes only where its count of faults rose.
     ensures failed { result ≡ Status.Desk → Rose (D.faults desk.old) (D.faults desk.new) }
     ensures later { D.faults desk.old ≤ D.faults desk.new }
@@ -74,7 +79,8 @@ fn stopped<D: Desk>(alloc: Global, desk: &mut D, stop: Stop) -> Status
         (stop ≡ stops.Refused r) × (D.files desk.new ≡ D.files desk.old) × (D.said desk.new ≡ said_more (D.said desk.old) (refusal_text r)) }
     ensures ended { IsFinished result → ⊥ }
     ensures files { D.files desk.new ≡ D.files desk.old }
-    ensures part { ((D.said desk.new ≡ D.said desk.old) × ((r : Refusal) → stop ≡ stops.Refused r → ⊥)) ⊎ ((r : Refusal) × (stop ≡ stops.Refused r) × SaysPrefix (D.said desk.old) (D.said desk.new) (refusal_text r)) }
+    ensures part { ((D.said desk.new ≡ D.said desk.old) × ((r : Refusal) → stop ≡ stops.Refused r → ⊥))
+        ⊎ ((r : Refusal) × (stop ≡ stops.Refused r) × SaysPrefix (D.said desk.old) (D.said desk.new) (refusal_text r)) }
     ensures failed { result ≡ Status.Desk → (stop ≡ stops.Desk) ⊎ Rose (D.faults desk.old) (D.faults desk.new) }
     ensures later { D.faults desk.old ≤ D.faults desk.new }
     ensures quiet { D.quiet desk.old → D.quiet desk.new × (D.faults desk.new ≡ D.faults desk.old) }
