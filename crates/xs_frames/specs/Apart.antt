@@ -1,6 +1,6 @@
 -- The variables 0 and 1 of a list are its own, as those above the places are: numbered apart from the places, they may be
 -- renamed, and two lists that are asked together never share them.
-use Rattle.std.specs.Prelude.{◌≡◌, ℕ, zero, suc, ◌+◌, ◌≤◌, ◌<◌, ◌^◌, List, map, nat_le, if◌then◌else◌, IsTrue, All, Contains, length, take, drop}
+use Rattle.std.specs.Prelude.{◌≡◌, ℕ, zero, suc, ◌+◌, ◌≤◌, ◌<◌, ◌^◌, List, map, nat_le, if◌then◌else◌, IsTrue, All, Contains}
 use Rattle.xs_lits.specs.Literal.{Literal, opposite}
 use Rattle.xs_lits.specs.Assignment.{Assignment}
 use Rattle.xs_lits.specs.Models.{TotalAssignment, literal_value, clause_value, all_true}
@@ -35,12 +35,6 @@ apart_system system = record system { first = apart_list (places_of system) syst
 -- the literal's variable is one of states and inputs
 abbrev pub IsPlace : ℕ → Literal → Type 0
 IsPlace places l = (2 ≤ l.var) × (l.var ≤ places)
-
--- a list is another one, and then clauses over states and inputs alone
-pub record GoesOn (places : ℕ) (list other : List (List Literal)) : Type 0 where
-  pub fits : length list ≤ length other
-  pub same : take (length list) other ≡ list
-  pub more : All (All (IsPlace places)) (drop (length list) other)
 
 -- the literal's variable is small
 abbrev pub IsNear : Literal → Type 0

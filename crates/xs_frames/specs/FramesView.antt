@@ -8,7 +8,7 @@ use Rattle.xs_frames.specs.declared.frames.Frames.TheInside.{Inside}
 
 -- what contracts see of its parts
 abbrev pub value_of : Inside → FramesValue
-value_of f = record { system = f.system; frames = frames_of f.levels; spent = f.spent }
+value_of f = record { system = f.system; frames = frames_of f.levels; bad = f.bad; spent = f.spent }
 
 -- the frames are those of the system, and unless memory was wanted the search holds them
 pub record AreSound (f : Inside) : Type 0 where

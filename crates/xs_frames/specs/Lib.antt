@@ -15,3 +15,4 @@ pub mod Looked
 pub mod Advance
 pub mod FramesRecord
 pub mod FramesView
+pub mod Minimal

@@ -17,7 +17,7 @@ ghost use Rattle.xs_frames.specs.Guards.{unguarded};
 ghost use Rattle.xs_frames.specs.Guarding.{IsWell, IsHolding, IsGuardIn, HasRoomFor, IsEmpty, HasPut, HasWidened, HasNewBad, HasNewFrame, HasAsked, Tells, TakesBad, AddsBad, Puts, Grows, BeginsAgain, asked_guards};
 
 use crate::apart::list_apart;
-use crate::query::highest;
+use crate::highest::highest;
 use std::alloc::Global;
 use xs_adviser::Panel;
 use xs_lits::System;

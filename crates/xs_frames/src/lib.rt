@@ -19,7 +19,8 @@
 //!
 //! ```text
 //! let mut frames = Frames::new(alloc, system)?;    // one bit that is false first and stays
-//! frames.clear(&bad, &mut panel)?                  // Clear: the bit is not true in a first state
+//! frames.ask_about(bad, &mut panel)?;
+//! frames.clear(&[], &mut panel)?                    // Clear: the bit is not true in a first state
 //! frames.advance(&mut panel)?                      // Fixed or Further
 //! ```
 #![tactic(auto)]
@@ -28,13 +29,14 @@ ghost use Rattle.xs_frames.specs.Chain.{ChainsAreShort};
 
 mod advance;
 mod apart;
+mod bad;
 mod bits;
 mod clear;
 mod condition;
 mod frames;
 mod guarded;
+mod highest;
 mod levels;
-mod query;
 mod steps;
 
 pub use advance::Advanced;

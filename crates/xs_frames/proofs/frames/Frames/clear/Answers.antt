@@ -12,7 +12,7 @@ returns-then-self-clause-numbered g c =
 
 pub returns-clause-frontier : goal.returns-clause-frontier
 returns-clause-frontier g c =
-    subst (λ (v : FramesValue). length (frames_of c.clear_bad-answer.new.frames) - 1 ≡ length v.frames - 1) c.self.view_is (last_less c.self.inside.levels c.clear_bad-answer.new.frames c.clear_bad-answer.ensures.last)
+    subst (λ (v : FramesValue). length (frames_of c.clear_frames-answer.new.frames) - 1 ≡ length v.frames - 1) c.self.view_is (last_less c.self.inside.levels c.clear_frames-answer.new.frames c.clear_frames-answer.ensures.last)
 
 pub returns-clause-numbered : goal.returns-clause-numbered
-returns-clause-numbered g c = numbered c.self.inside.system (frames_of c.clear_bad-answer.new.frames) c.clear_bad-answer.ensures.framed.framed
+returns-clause-numbered g c = numbered c.self.inside.system (frames_of c.clear_frames-answer.new.frames) c.clear_frames-answer.ensures.framed.framed

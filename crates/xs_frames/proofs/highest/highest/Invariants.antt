@@ -1,6 +1,6 @@
 use Rattle.std.proofs.Common.{◌<◌, ◌^◌, All, take}
 use Rattle.xs_lits.specs.Derivation.{IsUpTo}
-use Rattle.xs_frames.proofs.query.highest.Given as goal
+use Rattle.xs_frames.proofs.highest.highest.Given as goal
 
 abbrev pub invariant-loop-clause : goal.invariant-loop-clause
 invariant-loop-clause l = record {

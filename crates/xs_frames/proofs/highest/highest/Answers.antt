@@ -4,7 +4,7 @@ use Rattle.std.proofs.lemmas.List.Elements.{All-more}
 use Rattle.xs_lits.specs.Literal.{Literal}
 use Rattle.xs_lits.specs.Derivation.{IsUpTo}
 use Rattle.xs_frames.proofs.AnswerLemmas.{all_raised, lists_raised}
-use Rattle.xs_frames.proofs.query.highest.Goals as goal
+use Rattle.xs_frames.proofs.highest.highest.Goals as goal
 
 pub loop-clause-preserved : goal.loop-clause-preserved
 loop-clause-preserved c =

@@ -4,7 +4,7 @@ use Rattle.std.proofs.lemmas.List.Elements.{All-more}
 use Rattle.xs_lits.specs.Literal.{Literal}
 use Rattle.xs_lits.specs.Derivation.{IsUpTo}
 use Rattle.xs_frames.proofs.AnswerLemmas.{all_raised}
-use Rattle.xs_frames.proofs.query.highest_of.Goals as goal
+use Rattle.xs_frames.proofs.highest.highest_of.Goals as goal
 
 pub loop-lit-preserved : goal.loop-lit-preserved
 loop-lit-preserved c =

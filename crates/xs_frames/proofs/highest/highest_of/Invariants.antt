@@ -1,6 +1,6 @@
 use Rattle.std.proofs.Common.{◌<◌, ◌^◌, All, take}
 use Rattle.xs_lits.specs.Derivation.{IsUpTo}
-use Rattle.xs_frames.proofs.query.highest_of.Given as goal
+use Rattle.xs_frames.proofs.highest.highest_of.Given as goal
 
 abbrev pub invariant-loop-lit : goal.invariant-loop-lit
 invariant-loop-lit l = record {

@@ -1,0 +1,13 @@
+use Rattle.std.proofs.Common.{subst}
+use Rattle.xs_frames.specs.FramesRecord.{FramesValue}
+use Rattle.xs_frames.specs.Levels.{frames_of}
+use Rattle.xs_frames.specs.Numbered.{AreNumbered}
+use Rattle.xs_frames.proofs.Framing.{numbered}
+use Rattle.xs_frames.proofs.frames.Frames.add_bad.Goals as goal
+
+pub returns-then-self-clause-numbered : goal.returns-then-self-clause-numbered
+returns-then-self-clause-numbered c =
+    subst (λ (v : FramesValue). AreNumbered v.system v.frames) c.self.view_is (numbered c.self.inside.system (frames_of c.self.inside.levels) c.self.invariant.levelled.framed)
+
+pub returns-clause-numbered : goal.returns-clause-numbered
+returns-clause-numbered c = numbered c.self.inside.system (frames_of c.self.inside.levels) c.self.invariant.levelled.framed
