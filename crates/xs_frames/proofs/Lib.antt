@@ -9,6 +9,8 @@ pub mod BitLemmas
 pub mod LookLemmas
 pub mod PushLemmas
 pub mod OwedLemmas
+pub mod PartLemmas
+pub mod ShrinkLemmas
 pub mod AdvanceLemmas
 pub mod AnswerLemmas
 pub mod QueryLemmas

@@ -15,4 +15,5 @@ pub mod Looked
 pub mod Advance
 pub mod FramesRecord
 pub mod FramesView
+pub mod Parts
 pub mod Minimal

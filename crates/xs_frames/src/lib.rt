@@ -37,6 +37,9 @@ mod frames;
 mod guarded;
 mod highest;
 mod levels;
+mod outline;
+mod shrink;
+mod smaller;
 mod steps;
 
 pub use advance::Advanced;

@@ -2,6 +2,7 @@ use Rattle.std.proofs.Common.{◌≡◌, ◌++◌, ◌∷◌, [], sym, ◌∙◌
 use Rattle.std.proofs.lemmas.Grind.{common_steps}
 use Rattle.xs_lits.specs.Assignment.{Assignment}
 use Rattle.xs_frames.specs.Levels.{frames_of, HasGained}
+use Rattle.xs_frames.specs.Parts.{AreAgreed}
 use Rattle.xs_frames.specs.Path.{AreOwed, IsPath}
 use Rattle.xs_frames.specs.Looked.{IsLook}
 use Rattle.xs_frames.specs.Counted.{work_left}
@@ -46,6 +47,7 @@ looks-preserved-in-Continue-branch-3 g c =
       last = c.looks.invariant.last;
       stronger = c.looks.invariant.stronger;
       owed = subst (λ (o : List Assignment). AreOwed c.args.system.now c.args.bad.now (frames_of c.looks.frames) o) (sym pushed) more.1;
+      same = c.look_once.ensures.same ∙ c.looks.invariant.same;
       kept = c.in_ok-look_once.ensures.kept;
     }
 
@@ -140,5 +142,9 @@ looks-preserved g c =
       last = c.block.ensures.last ∙ c.looks.invariant.last;
       stronger = stronger_blocked c.args.system.now c.args.bad.now (frames_of c.args.frames.now) (frames_of c.looks.frames) (frames_of c.block.new.frames) c.level_of-level.result c.in-Blocked.clause now c.looks.invariant.stronger;
       owed = owed_less c.args.system.now c.args.bad.now (frames_of c.looks.frames) (frames_of c.block.new.frames) c.pop.new.self c.pop.ensures.0 c.level_of-level.result c.in-Blocked.clause now at owed;
+      same = c.look_once.ensures.same ∙ c.looks.invariant.same;
       kept = c.in_ok-block-in-Blocked.ensures.kept;
     }
+
+pub look_once-requires-clause-agreed : goal.look_once-requires-clause-agreed
+look_once-requires-clause-agreed g c = subst (AreAgreed c.args.system.now) (sym c.looks.invariant.same) c.requires.agreed

@@ -12,6 +12,7 @@ invariant-looks g l = record {
   last : l.frames.last ≡ l.initial.frames.last;
   stronger : AreStronger l.system (frames_of l.initial.frames) (frames_of l.frames);
   owed : AreOwed l.system l.bad (frames_of l.frames) l.owed;
+  same : l.outline.agreed.items ≡ l.initial.outline.agreed.items;
   kept : IsKept l.system l.bad (frames_of l.frames) l.kept;
 }
 

@@ -9,6 +9,7 @@ use Rattle.xs_frames.specs.Path.{state_in}
 use Rattle.xs_frames.proofs.BitLemmas.{length_read}
 use Rattle.xs_frames.proofs.LevelLaws.{level_is, level_low, owed_fits}
 use Rattle.xs_frames.proofs.OwedLemmas.{look_newest, newest_inside}
+use Rattle.xs_frames.proofs.PartLemmas.{kept_stays}
 use Rattle.xs_frames.proofs.clear.look_once.Goals as goal
 
 pub level_of-level-requires-clause-fits : goal.level_of-level-requires-clause-fits
@@ -45,5 +46,8 @@ returns-clause-look g c =
     look_newest c.args.system.now c.args.bad.now (frames_of c.args.frames.now) c.args.owed.now c.in_ok-look.look c.in_ok-state.state some state
     (subst (λ (n : ℕ). IsStepLook c.args.system.now (frames_of c.args.frames.now) n c.in_ok-state.state c.in_ok-look.look) (level ∙ sym (level_is c.args.frames.now (length c.args.owed.now))) c.in_ok-look.ensures.look)
 
+pub look_before-requires-clause-kept : goal.look_before-requires-clause-kept
+look_before-requires-clause-kept g c = record { bad = c.args.bad.now; kept = c.requires.kept }
+
 pub returns-clause-kept : goal.returns-clause-kept
-returns-clause-kept g c = c.in_ok-look.ensures.kept
+returns-clause-kept g c = kept_stays c.args.system.now c.args.bad.now (frames_of c.args.frames.now) c.args.kept.now c.look_before.new.kept c.requires.kept c.in_ok-look.ensures.asked

@@ -26,6 +26,7 @@ pub invariant_of-self : goal.invariant_of-self
 invariant_of-self c =
     record {
       fit = c.self.invariant.fit;
+      agreed = c.self.invariant.agreed;
       levelled = levelled_new c.self.inside.system c.new.result c.new.ensures.held c.new.ensures.last;
       kept = λ ready.
           subst (λ (fs : List (List (List Literal))). IsKept c.self.inside.system c.self.inside.bad fs c.begin_again-answer.new.self)

@@ -16,3 +16,6 @@ returns-clause-frontier g c =
 
 pub returns-clause-numbered : goal.returns-clause-numbered
 returns-clause-numbered g c = numbered c.self.inside.system (frames_of c.clear_frames-answer.new.frames) c.clear_frames-answer.ensures.framed.framed
+
+pub returns-then-is_err-clause-numbered : goal.returns-then-is_err-clause-numbered
+returns-then-is_err-clause-numbered g c = numbered c.self.inside.system (frames_of c.self.inside.levels) c.self.invariant.levelled.framed
