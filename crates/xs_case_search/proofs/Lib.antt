@@ -3,6 +3,7 @@ pub mod CaseKinds
 pub mod Certifying
 pub mod Readings
 pub mod BadLists
+pub mod HistoryBits
 pub mod TextLemmas
 pub mod PrintedLemmas
 pub mod Places

@@ -7,6 +7,9 @@ use Rattle.xs_tree.specs.ModelTree.{model_tree}
 use Rattle.xs_flat_laws.specs.FaultModes.{mode_of}
 use Rattle.xs_tree.specs.Flat.{FlatLeaf, FlatModel as ModelTree}
 use Rattle.xs_flat_laws.specs.History.{Mode, with_history}
+use Rattle.xs_lits.specs.Literal.{Literal}
+use Rattle.xs_encode_laws.specs.FlatTraces.{history_of}
+use Rattle.xs_encode_laws.specs.Lists.{history_literals}
 use Rattle.xs_cut_laws.specs.Problem.{problem_of}
 use Rattle.xs_cut_laws.specs.Searchable.{IsSearchable}
 use Rattle.xs_cuts.specs.Answer.{IsAnswer}
@@ -20,10 +23,12 @@ modes_of faults = map mode_of faults
 abbrev pub whole_of : FlatModel → List Fault → ModelTree
 whole_of m faults = with_history (model_tree m) (modes_of faults)
 
--- the second model is the first with the history of the faults, and these and the top event can be searched
-pub record CanBeSearched (plain full : FlatModel) (faults : List Fault) (top : Tree FlatLeaf) : Type 0 where
+-- the second model is the first with the history of the faults, these and the top event can be searched, and these are the literals
+-- of the history bits
+pub record CanBeSearched (plain full : FlatModel) (faults : List Fault) (top : Tree FlatLeaf) (history : List Literal) : Type 0 where
   pub whole : model_tree full ≡ whole_of plain faults
   pub searchable : IsSearchable (model_tree plain) (modes_of faults) top
+  pub literals : history ≡ history_literals (whole_of plain faults) (history_of (model_tree plain) (modes_of faults))
 
 -- this answers a search of the model as deep as the depth, for sets of at most so many faults as the size
 abbrev pub AnswersSearch : FlatModel → List Fault → Tree FlatLeaf → ℕ → ℕ → (Analysis → Type 0)

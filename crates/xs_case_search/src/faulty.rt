@@ -4,28 +4,60 @@
 //! they are stands in the trait; the lists are made in `xs_encode`.
 
 ghost use Rattle.std.specs.Prelude.{◌≡◌, IfOk, length};
-ghost use Rattle.xs_tree.specs.ModelTree.{model_tree};
+ghost use Rattle.xs_tree.specs.ModelTree.{model_tree, flat_tree};
 ghost use Rattle.xs_encode_laws.specs.Encodable.{IsEncodable};
+ghost use Rattle.xs_cut_laws.specs.Problem.{problem_of};
+ghost use Rattle.xs_cut_laws.specs.Searchable.{IsSearchable};
 ghost use Rattle.xs_case_search.specs.Reads.{IsRead};
+ghost use Rattle.xs_case_search.specs.Wholes.{modes_of, whole_of, CanBeSearched};
 
 use std::alloc::Global;
 use xs_cuts::encoded::Encoded;
-use xs_encode::{bad_clauses, encode, state_of, valuation_of};
+use xs_encode::{bad_clauses, encode, history_literals, state_of, unlisted_clause, valuation_of};
 use xs_lits::System;
 use xs_lits::assign::Assign;
-use xs_lits::clause::ClauseList;
+use xs_lits::clause::{Clause, ClauseList};
+use xs_lits::lit::Lit;
 use xs_tree::Expr;
 use xs_tree::model::{FaultList, Flat};
 use xs_types::Typed;
-use xs_value::{OutOfMemory, SetList, Valuation, Value};
+use xs_value::{Items, OutOfMemory, SetList, Valuation, Value};
 
 /// A model, the model with the history of its faults, and a top event.
 #[derive(Drop)]
 pub(crate) struct Faulty<'a> {
-    pub(crate) plain: &'a Typed,
-    pub(crate) full: &'a Typed,
-    pub(crate) faults: &'a FaultList,
-    pub(crate) top: &'a Expr<Flat>,
+    plain: &'a Typed,
+    full: &'a Typed,
+    faults: &'a FaultList,
+    top: &'a Expr<Flat>,
+    // The literals of the history bits, in the order of the faults.
+    history: Items<Lit>,
+}
+
+impl<'a> Faulty<'a> {
+    /// The model with the literals of its history bits.
+    pub(crate) fn new(
+        alloc: Global,
+        plain: &'a Typed,
+        full: &'a Typed,
+        faults: &'a FaultList,
+        top: &'a Expr<Flat>,
+    ) -> Result<Faulty<'a>, OutOfMemory>
+        requires whole { model_tree full.now.model ≡ whole_of plain.now.model faults.now }
+        requires searchable { IsSearchable (model_tree plain.now.model) (modes_of faults.now) (flat_tree top.now) }
+        ensures can { IfOk result (λ f. CanBeSearched f.plain.now.model f.full.now.model f.faults.now (flat_tree f.top.now) f.history) }
+        ensures problem { IfOk result (λ f. problem_of (model_tree f.plain.now.model) (modes_of f.faults.now) (flat_tree f.top.now)
+            ≡ problem_of (model_tree plain.now.model) (modes_of faults.now) (flat_tree top.now)) }
+    {
+        let history = history_literals(alloc, full, faults.len() as u32)?;
+        Ok(Faulty {
+            plain,
+            full,
+            faults,
+            top,
+            history,
+        })
+    }
 }
 
 /// A valuation with a value for each variable of a model, which no one has asked for.
@@ -69,7 +101,7 @@ impl<'a> Encoded for Faulty<'a> {
 
     ghost problem = { λ f. problem_of (model_tree f.plain.now.model) (modes_of f.faults.now) (flat_tree f.top.now) };
 
-    ghost searchable = { λ f. CanBeSearched f.plain.now.model f.full.now.model f.faults.now (flat_tree f.top.now) };
+    ghost searchable = { λ f. CanBeSearched f.plain.now.model f.full.now.model f.faults.now (flat_tree f.top.now) f.history };
 
     fn encode(&self, alloc: Global) -> Result<System, OutOfMemory> {
         let system = encode(alloc, self.full)?;
@@ -87,6 +119,15 @@ impl<'a> Encoded for Faulty<'a> {
         let faults = self.faults.len() as u32;
         let clauses = bad_clauses(alloc, self.full, self.top, listed, faults, size.min(faults))?;
         Ok(clauses)
+    }
+
+    fn history(&self) -> &[Lit] {
+        self.history.as_slice()
+    }
+
+    fn set_clause(&self, alloc: Global, set: &[u32]) -> Result<Clause, OutOfMemory> {
+        let clause = unlisted_clause(alloc, self.history.as_slice(), set)?;
+        Ok(clause)
     }
 
     fn valuation_of(

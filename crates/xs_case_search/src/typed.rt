@@ -37,12 +37,7 @@ pub fn analyse(
     requires searchable { IsSearchable (model_tree plain.now.model) (modes_of faults.now) (flat_tree top.now) }
     ensures { IfOk result (AnswersSearch plain.now.model faults.now (flat_tree top.now) depth size) }
 {
-    let model = Faulty {
-        plain,
-        full,
-        faults,
-        top,
-    };
+    let model = Faulty::new(alloc, plain, full, faults, top)?;
     search::analyse(alloc, &model, depth, size, panel)
 }
 
@@ -59,12 +54,7 @@ pub fn frames_of(
     requires searchable { IsSearchable (model_tree plain.now.model) (modes_of faults.now) (flat_tree top.now) }
     ensures { IfOk result (λ f. f.system ≡ system_of (whole_of plain.now.model faults.now)) }
 {
-    let model = Faulty {
-        plain,
-        full,
-        faults,
-        top,
-    };
+    let model = Faulty::new(alloc, plain, full, faults, top)?;
     let frames = search::frames_of(alloc, &model)?;
     Ok(frames)
 }
@@ -88,11 +78,6 @@ pub fn analyse_in(
     ensures system { frames.new.system ≡ frames.old.system }
     ensures answer { IfOk result (AnswersSearch plain.now.model faults.now (flat_tree top.now) depth size) }
 {
-    let model = Faulty {
-        plain,
-        full,
-        faults,
-        top,
-    };
+    let model = Faulty::new(alloc, plain, full, faults, top)?;
     search::analyse_in(alloc, &model, depth, size, frames, panel)
 }

@@ -2,7 +2,9 @@ pub mod FoundLaws
 pub mod Excluded
 pub mod Paths
 pub mod Chains
+pub mod Clauses
 pub mod Ends
+pub mod HistoryTells
 pub mod Serves
 pub mod Fitting
 pub mod Sizes

@@ -7,10 +7,10 @@ use Rattle.xs_lits.specs.Literal.{Literal}
 use Rattle.xs_lits.specs.States.{IsInvariant}
 use Rattle.xs_encode_laws.specs.FlatTraces.{history_of}
 use Rattle.xs_encode_laws.specs.EncodedLaws.{AreOwn}
-use Rattle.xs_encode_laws.specs.Lists.{bad_list}
+use Rattle.xs_encode_laws.specs.Lists.{history_literals, bad_list}
 use Rattle.xs_encode_laws.specs.Encodable.{IsEncodable, IsFitTop}
 use Rattle.xs_cut_laws.specs.Problem.{Problem, problem_of}
-use Rattle.xs_cut_laws.specs.Searched.{IsSearched, IsBadFor, AreInvariant}
+use Rattle.xs_cut_laws.specs.Searched.{IsSearched, IsBadFor, AreHistory, AreInvariant}
 
 -- A search stands on the lists of the model with history, and on its list of bad states for any sets and size.
 abbrev pub ListsServe : Type 0
@@ -19,6 +19,11 @@ ListsServe =
     IsSearched (problem_of m fs top)
     × (IsFitTop (with_history m fs) top → (sets : List (List ℕ)) (size : ℕ) →
     IsBadFor (problem_of m fs top) size sets (bad_list (with_history m fs) top (history_of m fs) sets size))
+
+-- The literals of the history bits are what a search takes them for.
+abbrev pub HistoryServes : Type 0
+HistoryServes =
+    (m : FlatModel) (fs : List Mode) (top : Tree FlatLeaf) → AreHistory (problem_of m fs top) (history_literals (with_history m fs) (history_of m fs))
 
 -- An invariant that a search ends with is one that a certificate takes.
 abbrev pub InvariantsServe : Type 0

@@ -1,20 +1,23 @@
 -- What a search for cut sets stands on, and its laws.
-use Rattle.std.specs.Prelude.{◌≡◌, ◌↔◌, ℕ, ◌+◌, ◌-◌, ◌<◌, List, [], length, map, drop, slice_index_or, take}
+use Rattle.std.specs.Prelude.{◌≡◌, ◌↔◌, ℕ, ◌+◌, ◌-◌, ◌<◌, false, List, [], ◌∷◌, ◌++◌, Some, length, map, drop, slice_get, slice_index_or, take, All}
 use Rattle.xs_tree.specs.Values.{Value}
-use Rattle.xs_tree.specs.Trace.{Each}
+use Rattle.xs_tree.specs.Trace.{Each, AtSome}
 use Rattle.xs_flat_laws.specs.History.{with_history}
 use Rattle.xs_flat_laws.specs.FlatTrace.{AreInDomains, IsFlatTrace, NamesOwn, IsModeOf}
 use Rattle.xs_lits.specs.Literal.{Literal}
 use Rattle.xs_lits.specs.Assignment.{Assignment}
-use Rattle.xs_frames.specs.Chain.{State, IsFirstState, IsBad, InFrame, HasChain}
+use Rattle.xs_lits.specs.Models.{literal_value}
+use Rattle.xs_frames.specs.Chain.{State, IsFirstState, IsBad, InFrame, IsOverBits, Makes, state_values, HasChain}
 use Rattle.xs_frames.specs.Path.{state_in, inputs_in, IsPath}
 use Rattle.xs_frames.specs.Framed.{AreStronger, IsInductive, IsClear}
 use Rattle.xs_frames.specs.Growing.{IsOpenChain}
 use Rattle.xs_frames.specs.Advance.{IsFixed}
 use Rattle.xs_frames.specs.Numbered.{AreNumbered}
+use Rattle.xs_frames.specs.Minimal.{IsPlain}
 use Rattle.xs_cut_laws.specs.Found.{Found, sets_of, traces_of, with_found, IsNew, IsFound, AreFound, ContainOneOf}
-use Rattle.xs_encode_laws.specs.Encoded.{IsEncodingOf, IsBadListOf}
-use Rattle.xs_encode_laws.specs.FlatTraces.{ReachesTop, HasFailedNumber, IsShortTrace, IsRightFlat, last_of, history_of, failed_in, ReadsOwn}
+use Rattle.xs_encode_laws.specs.Encoded.{bit_of, IsEncodingOf, IsBadListOf}
+use Rattle.xs_encode_laws.specs.FlatTraces.{ReachesTop, HasFailedNumber, IsShortTrace, IsRightFlat, last_of, history_of, failed_in, IsNumbered, ReadsOwn}
+use Rattle.xs_encode_laws.specs.Lists.{unlisted_clause}
 use Rattle.xs_cut_laws.specs.Uncovered.{uncovered}
 use Rattle.xs_cut_laws.specs.Problem.{Problem}
 
@@ -42,6 +45,19 @@ module _ (problem : Problem) where
   -- the list bad of these sets and this size
   abbrev pub IsBadFor : ℕ → List (List ℕ) → List (List Literal) → Type 0
   IsBadFor size sets bad = IsBadListOf (with_history m fs) system state_of top (history_of m fs) sets size bad
+
+  -- the literals of the history bits now, in the order of the faults: the bits of a valuation make true those of the faults that have failed
+  pub record AreHistory (literals : List Literal) : Type 0 where
+    pub one_each : length literals ≡ length fs
+    pub over_bits : IsOverBits system literals
+    pub positive : All IsPlain literals
+    pub tells : (v : List Value) → AreInDomains (with_history m fs).variables v → (i : ℕ) (l : Literal) → slice_get literals i ≡ Some l →
+        literal_value (state_values system (state_of v)) l ≡ bit_of (history_of m fs) v (i + 1)
+
+  -- the clause of a set: the bits of a valuation make it true where some fault of the set has not failed
+  pub record IsClauseOf (set : List ℕ) (clause : List Literal) : Type 0 where
+    pub over_bits : IsOverBits system clause
+    pub tells : (v : List Value) → AreInDomains (with_history m fs).variables v → (Makes system (state_of v) clause ↔ AtSome (λ i. bit_of (history_of m fs) v i ≡ false) set)
 
   -- the sets found so far, with their traces of the model
   abbrev pub AreFoundFlat : ℕ → List (Found FlatTrace) → Type 0
@@ -95,6 +111,17 @@ module _ (problem : Problem) where
   FixedIsInvariant =
       (bad : List (List Literal)) (old now : List (List (List Literal))) (clauses : List (List Literal)) → length now ≡ length old + 1 → IsClear system bad old → IsFixed system old now clauses →
       AreInvariant bad clauses
+
+  -- The opposites of a set's history literals are its clause.
+  abbrev pub OppositesAreClause : Type 0
+  OppositesAreClause = (literals : List Literal) (set : List ℕ) → AreHistory literals → IsNumbered (length fs) set → IsClauseOf set (unlisted_clause literals set)
+
+  -- With the clause of a new set, the list bad of the sets before is that of the sets now: beside this clause, those of the sets that
+  -- contain the new one say nothing, and the order of the clauses says nothing either.
+  abbrev pub ClauseListsSet : Type 0
+  ClauseListsSet =
+      (size : ℕ) (new : Found FlatTrace) (found : List (Found FlatTrace)) (bad : List (List Literal)) (clause : List Literal) → IsBadFor size (sets_of found) bad → IsClauseOf new.set clause →
+      IsBadFor size (sets_of (with_found new found)) (bad ++ clause ∷ [])
 
   -- A new set lists fewer states as bad.
   abbrev pub FewerAreBad : Type 0

@@ -23,8 +23,8 @@ ghost use Rattle.xs_right_laws.specs.Sets.{stands_before};
 ghost use Rattle.xs_cut_laws.specs.Found.{Found, sets_of, with_found};
 ghost use Rattle.xs_cut_laws.specs.Uncovered.{uncovered};
 ghost use Rattle.xs_cut_laws.specs.Laws.{Always};
-ghost use Rattle.xs_cut_laws.specs.Searched.{ClearIsRight, InvariantIsRight, FirstStatesShow, PathIsLawful, PathIsFound, FixedIsInvariant, FewerAreBad, ChainStays, ChainGrows, SearchEnds};
-ghost use Rattle.xs_cut_laws.specs.EncodedSearchLaws.{ListsServe, InvariantsServe};
+ghost use Rattle.xs_cut_laws.specs.Searched.{ClearIsRight, InvariantIsRight, FirstStatesShow, PathIsLawful, PathIsFound, OppositesAreClause, ClauseListsSet, FixedIsInvariant, FewerAreBad, ChainStays, ChainGrows, SearchEnds};
+ghost use Rattle.xs_cut_laws.specs.EncodedSearchLaws.{ListsServe, HistoryServes, InvariantsServe};
 ghost use Rattle.xs_cut_laws.specs.Searchable.{ListsFitFrames, LargerSizesServe, LeastValuesShow};
 
 /// Where no state of the frontier's frame is bad, or inductive clauses exclude the bad states, the listed sets are
@@ -41,6 +41,13 @@ pub fn listed_sets_are_right()
 pub fn paths_show_new_sets()
     ensures lawful { Always PathIsLawful }
     ensures found { Always PathIsFound }
+{}
+
+/// A list of bad states goes on from set to set by one clause for each new set. The clauses of sets that contain the new one may
+/// stay, and the sets may be listed in any order.
+pub fn clauses_list_sets()
+    ensures opposites { Always OppositesAreClause }
+    ensures lists { Always ClauseListsSet }
 {}
 
 /// The clauses of two equal frames are an invariant where the frontier was clear; the frames from 1 on of a further
@@ -68,9 +75,10 @@ pub fn small_examples()
 {}
 
 /// A search for cut sets stands on the lists of an encodable model with history, and on its list of bad
-/// states for any sets and size.
+/// states for any sets and size; its history bits are told by their literals.
 pub fn lists_serve()
-    ensures { ListsServe }
+    ensures lists { ListsServe }
+    ensures history { HistoryServes }
 {}
 
 /// The invariant with which a search ends is one that a certificate takes.

@@ -2,27 +2,31 @@
 //!
 //! [`bad_clauses`] is the main function. A bad state is one at which the top event is TRUE, of which no more
 //! history bits are TRUE than the size says, and at least one of each listed set is FALSE. The clauses are those of
-//! the states, the top event and a counter, with one more for each listed set.
+//! the states, the top event and a counter, with one more for each listed set. [`unlisted_clause`] is that one, and
+//! [`history_literals`] the literals of the history bits that it is made of.
 
 ghost use Rattle.std.specs.Prelude.{◌≡◌, ◌≤◌, ◌-◌, ◌+◌, ◌*◌, ◌^◌, ◌++◌, IfOk, IsOk, OnOk, length, map};
 ghost use Rattle.std.specs.List.{range_with_len};
 ghost use Rattle.xs_tree.specs.Trace.{Each};
 ghost use Rattle.xs_tree.specs.ModelTree.{model_tree, flat_tree};
+ghost use Rattle.xs_type_laws.specs.Costs.{state_bits};
 ghost use Rattle.xs_circuits.specs.Meaning.{AllBelow};
 ghost use Rattle.xs_encode_laws.specs.Meanings.{IsSignal};
 ghost use Rattle.xs_encode_laws.specs.Encodable.{IsEncodable, IsFitTop};
+ghost use Rattle.xs_encode_laws.specs.Layout.{literals_from};
 ghost use Rattle.xs_encode_laws.specs.Lists.{size_gates, history_literals, unlisted_clause, literal_at, bad_list};
 ghost use Rattle.xs_expressions.specs.Built.{signals_of};
 ghost use Rattle.xs_encode.specs.History.{last_numbers, literal_of, counted_circuit};
 ghost use Rattle.xs_encode.specs.Copies.{source_model, IsSource};
 
+use crate::layout::literals_from;
 use crate::lists::{Source, holds, source_of, state_gates};
 use std::alloc::Global;
 use xs_circuits::counts::at_most;
 use xs_circuits::gates::Gates;
 use xs_circuits::word::Word;
 use xs_expressions::names::{Names, SignalList};
-use xs_lits::clause::ClauseList;
+use xs_lits::clause::{Clause, ClauseList};
 use xs_lits::lit::Lit;
 use xs_tree::Expr;
 use xs_tree::model::Flat;
@@ -137,20 +141,32 @@ fn unlisted(
     let mut all = clauses;
     for set in listed.as_slice() {
         let clause = unlisted_clause(alloc, history, set.as_slice())?;
-        all.push_lits(clause.as_slice())?;
+        all.push(clause)?;
     }
     Ok(all)
 }
 
-/// The negated history bits of a set.
-fn unlisted_clause(alloc: Global, history: &[Lit], set: &[u32]) -> Result<Word, OutOfMemory>
+/// The negated history bits of a set: some fault of it has not failed.
+pub fn unlisted_clause(alloc: Global, history: &[Lit], set: &[u32]) -> Result<Clause, OutOfMemory>
     ensures { IfOk result (λ c. c ≡ unlisted_clause history.now set.now) }
 {
-    let mut clause = Items::new(alloc);
+    let mut lits = Items::new(alloc);
     for n in set {
-        clause.push(history_literal(history, *n).neg())?;
+        lits.push(history_literal(history, *n).neg())?;
     }
+    let clause = Clause::from_lits(alloc, lits.as_slice())?;
     Ok(clause)
+}
+
+/// The literals of the history bits now, which are the last bits of the state.
+pub fn history_literals(alloc: Global, t: &Typed, faults: u32) -> Result<Word, OutOfMemory>
+    requires encodable { IsEncodable (model_tree t.now.model) }
+    requires faults { faults ≤ state_bits (model_tree t.now.model) }
+    ensures { IfOk result (λ w. w ≡ literals_from faults (state_bits (model_tree t.now.model) - faults + 2)) }
+{
+    let first = t.bits() as u64 - faults as u64 + 2;
+    let literals = literals_from(alloc, faults, first)?;
+    Ok(literals)
 }
 
 /// The history bit of a fault, by its number from 1; of none, FALSE.

@@ -243,7 +243,7 @@ fn number_signal(alloc: Global, ends: Ends, place: u64, wide: u32) -> Result<Sig
 }
 
 /// So many variables from one on.
-fn literals_from(alloc: Global, count: u32, place: u64) -> Result<Word, OutOfMemory>
+pub(crate) fn literals_from(alloc: Global, count: u32, place: u64) -> Result<Word, OutOfMemory>
     requires least { 1 ≤ place }
     requires greatest { place < 2 ^ 32 }
     ensures { IfOk result (λ w. w ≡ literals_from count place) }

@@ -154,15 +154,8 @@ fn has_numbers(path: &StepList, bits: u32, inputs: u32, numbers: &[u64]) -> bool
 }
 
 // A path, where the frontier's frame has a bad state, or nothing more.
-fn clear(
-    frames: &mut Frames,
-    bad: &ClauseList,
-    panel: &mut Panel,
-) -> Result<Option<Ending>, OutOfMemory> {
-    if !frames.can_clear(bad) {
-        return Ok(Some(Ending::Open));
-    }
-    match frames.clear(bad, panel)? {
+fn clear(frames: &mut Frames, panel: &mut Panel) -> Result<Option<Ending>, OutOfMemory> {
+    match frames.clear(&[], panel)? {
         Cleared::Path(path) => Ok(Some(Ending::Reached(path))),
         Cleared::Clear => Ok(None),
     }
@@ -177,10 +170,14 @@ fn advance(frames: &mut Frames, panel: &mut Panel) -> Result<Option<Ending>, Out
 }
 
 // Clears and advances up to a depth.
-fn explore(alloc: Global, frames: &mut Frames, bad: &ClauseList) -> Result<Ending, OutOfMemory> {
+fn explore(alloc: Global, frames: &mut Frames, bad: ClauseList) -> Result<Ending, OutOfMemory> {
     let mut panel = Panel::new(Vec::new(alloc));
+    if !frames.can_clear(&bad) {
+        return Ok(Ending::Open);
+    }
+    frames.ask_about(bad, &mut panel)?;
     for _ in 0..10 {
-        if let Some(ending) = clear(frames, bad, &mut panel)? {
+        if let Some(ending) = clear(frames, &mut panel)? {
             return Ok(ending);
         }
         if let Some(ending) = advance(frames, &mut panel)? {
@@ -191,7 +188,7 @@ fn explore(alloc: Global, frames: &mut Frames, bad: &ClauseList) -> Result<Endin
 }
 
 // How the search through the frames of a system ends.
-fn explored(alloc: Global, system: System, bad: &ClauseList) -> Result<Ending, OutOfMemory> {
+fn explored(alloc: Global, system: System, bad: ClauseList) -> Result<Ending, OutOfMemory> {
     if !can_frame(&system) {
         return Ok(Ending::Open);
     }
@@ -203,7 +200,7 @@ fn explored(alloc: Global, system: System, bad: &ClauseList) -> Result<Ending, O
 fn ends(
     alloc: Global,
     system: System,
-    bad: &ClauseList,
+    bad: ClauseList,
     wanted: Wanted<'_>,
 ) -> Result<bool, OutOfMemory> {
     let (bits, inputs) = (system.state_bits, system.input_bits);
@@ -232,7 +229,7 @@ fn first_wrong(alloc: Global, rows: &[Row<'_>]) -> Result<Option<usize>, OutOfMe
     for (i, row) in rows.iter().enumerate() {
         let system = by_table(alloc, row.bits, row.first, row.table)?;
         let bad = state_is(alloc, row.bits, row.bad)?;
-        if !ends(alloc, system, &bad, row.wanted)? {
+        if !ends(alloc, system, bad, row.wanted)? {
             return Ok(Some(i));
         }
     }
@@ -316,7 +313,7 @@ fn moved_bit(alloc: Global) -> Result<System, OutOfMemory> {
 fn keeps(alloc: Global) -> Result<bool, OutOfMemory> {
     let bad = list_of(alloc, &[1, 0, 2, 0])?;
     let wanted = Wanted { path: &[], most: 3 };
-    ends(alloc, kept_bit(alloc)?, &bad, wanted)
+    ends(alloc, kept_bit(alloc)?, bad, wanted)
 }
 
 fn moves(alloc: Global) -> Result<bool, OutOfMemory> {
@@ -325,14 +322,14 @@ fn moves(alloc: Global) -> Result<bool, OutOfMemory> {
         path: &[2, 1],
         most: 0,
     };
-    ends(alloc, moved_bit(alloc)?, &bad, wanted)
+    ends(alloc, moved_bit(alloc)?, bad, wanted)
 }
 
 // Whether no cell of a ring of so many comes to be true.
 fn stays(alloc: Global, cells: u32) -> Result<bool, OutOfMemory> {
     let bad = list_of(alloc, &[8, 0])?;
     let wanted = Wanted { path: &[], most: 9 };
-    ends(alloc, ring(alloc, cells)?, &bad, wanted)
+    ends(alloc, ring(alloc, cells)?, bad, wanted)
 }
 
 #[test]
