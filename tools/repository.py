@@ -3,6 +3,7 @@
 A crate in a folder of its own, with the built libraries below it, can be checked or built beside others: rt holds the folders that it
 works in, and so does one crate after another where they stand together.
 """
+import hashlib
 import os
 import shutil
 
@@ -57,3 +58,40 @@ def copy_parts(crate, room, parts, copy_function):
     for part in parts:
         if os.path.isdir(f"{TOP}/crates/{crate}/{part}"):
             shutil.copytree(f"{TOP}/crates/{crate}/{part}", f"{room}/crates/{crate}/{part}", copy_function=copy_function)
+
+
+def sources_of(name):
+    """Returns a text of all that a program's bytes are made of beside the kit: HANDLES, and of its crate and of each below it the line of
+    crates.txt and the files of code with their sums. Specifications and proofs are erased before code is made, so they are left out."""
+    rows, text = lines(), ""
+    if os.path.isfile(f"{TOP}/HANDLES"):
+        text += f"HANDLES {sum_of(f'{TOP}/HANDLES')}\n"
+    for crate in sorted([*below(name), name]):
+        text += f"crate {rows[crate]}\n"
+        found = (f"{at}/{it}" for at, _, names in os.walk(f"{TOP}/crates/{crate}/src") for it in names if it.endswith(".rt"))
+        text += "".join(f"{os.path.relpath(path, TOP)} {sum_of(path)}\n" for path in sorted(found))
+    return text
+
+
+def sum_of(path):
+    """Returns the sum of a file, by SHA-256."""
+    with open(path, "rb") as it:
+        return hashlib.sha256(it.read()).hexdigest()
+
+
+def sources_sum(name):
+    """Returns the sum of all that a program's bytes are made of beside the kit."""
+    return hashlib.sha256(sources_of(name).encode()).hexdigest()
+
+
+def is_current(name):
+    """Returns whether the program was built in its crate's out/, and no file that it was proved and built of is newer."""
+    program = f"{TOP}/crates/{name}/out/{name}"
+    if not os.access(program, os.X_OK):
+        return False
+    built = os.path.getmtime(program)
+    files = [f"{TOP}/crates.txt", f"{TOP}/HANDLES"]
+    for crate in [*below(name), name]:
+        for part in PARTS:
+            files += [f"{at}/{it}" for at, _, names in os.walk(f"{TOP}/crates/{crate}/{part}") for it in names]
+    return all(os.path.getmtime(it) <= built for it in files if os.path.exists(it))

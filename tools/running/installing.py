@@ -1,0 +1,167 @@
+"""Installs the programs below a folder, with a front that runs them, a manual page and the completion of words; and tells of the version.
+
+  PREFIX/bin/xsap, xsap_program, xsap_explain       links to what stands in
+  PREFIX/lib/xsap/                                  the front, the programs, release.txt with their sums, and about.txt
+  PREFIX/share/man/man1/xsap.1                      the manual page
+  PREFIX/share/doc/xsap/                            the manual, and the example of the help
+  PREFIX/share/bash-completion/completions/xsap     and PREFIX/share/zsh/site-functions/_xsap: completions
+"""
+import os
+import subprocess
+
+from running import kept, programs
+from running.machine import Unready
+from running.programs import TOP
+from running.verbs import FRONT, VERBS, VERSION, file_options, options_of
+
+EXAMPLE_FILES = ("model.smv", "faults.fei", "causes", "tops", "crash.trace", "pass.trace")
+
+
+def said_by(words, folder):
+    """Returns the line that a command prints, or nothing."""
+    try:
+        done = subprocess.run(words, cwd=folder, stdin=subprocess.DEVNULL, stdout=subprocess.PIPE, stderr=subprocess.DEVNULL)
+    except OSError:
+        return ""
+    return done.stdout.decode(errors="replace").strip() if not done.returncode else ""
+
+
+def about():
+    """Returns the version, the commit, the kit and where the program comes from, as lines."""
+    if programs.is_installed():
+        return kept.read(f"{TOP}/about.txt").decode()
+    has_git = os.path.exists(f"{TOP}/.git")
+    commit = said_by(["git", "describe", "--always", "--abbrev=12", "--dirty=, with changes", "--exclude=*"], TOP) if has_git else ""
+    try:
+        kit = programs.release().kit
+    except Unready:
+        kit = ""
+    try:
+        path, is_kept = programs.find(kept.PROGRAMS[0])
+    except Unready as why:
+        path, is_kept, program = None, True, f"none: {why}"
+    if path and is_kept:
+        program = "kept in release/, which .ci/run compares with the one that it proves"
+    elif path:
+        program = f"proved and built here, {os.path.relpath(path, TOP)}"
+        kit = said_by(["rt", "version"], TOP) or kit
+    return f"xsap {VERSION}\ncommit: {commit or 'not known'}\nkit: {kit or 'not known'}\nprogram: {program}\n"
+
+
+def install(prefix):
+    """Installs all below a folder, and returns the status."""
+    prefix = os.path.abspath(prefix)
+    found = {name: programs.find(name) for name in kept.PROGRAMS}
+    text = about().replace("program: kept in release/, which", "program: the kept one of that commit, which")
+    text = text.replace(f", {os.path.relpath(programs.built(kept.PROGRAMS[0]), TOP)}", "").replace("built here", "built where it was installed from")
+    try:
+        lay_down(prefix, {name: kept.read(path) for name, (path, _) in found.items()}, text)
+    except OSError as error:
+        raise Unready(f"not installed: {error.strerror} ({error.filename})") from None
+    programs.tell(f"installed below {prefix}: bin/xsap, with its manual page ({prefix}/share/man) and completions")
+    return 0
+
+
+def lay_down(prefix, data, text):
+    """Writes the files below a folder, the programs last, so that a front of them finds all that it needs."""
+    to, share = f"{prefix}/lib/xsap", f"{prefix}/share"
+    kept.write(f"{to}/xsap", kept.read(f"{TOP}/xsap"), 0o755)
+    for name in sorted(os.listdir(f"{TOP}/tools/running")):
+        if name.endswith(".py"):
+            kept.write(f"{to}/tools/running/{name}", kept.read(f"{TOP}/tools/running/{name}"))
+    kept.write(f"{to}/about.txt", text.encode())
+    kept.write(f"{share}/man/man1/xsap.1", kept.read(f"{TOP}/docs/xsap.1"))
+    kept.write(f"{share}/doc/xsap/MANUAL.md", kept.read(f"{TOP}/docs/MANUAL.md"))
+    for name in EXAMPLE_FILES:
+        kept.write(f"{share}/doc/xsap/examples/crossing/{name}", kept.read(f"{TOP}/examples/crossing/{name}"))
+    kept.write(f"{share}/bash-completion/completions/xsap", bash_completion().encode())
+    kept.write(f"{share}/zsh/site-functions/_xsap", zsh_completion().encode())
+    kit = next(it for it in text.split("\n") if it.startswith("kit: "))[5:]
+    values = {name: {"bytes": len(it), "sum": kept.sum_of(it), "packed": 0, "sources": 0} for name, it in data.items()}
+    for name, it in data.items():
+        kept.write(f"{to}/{name}", it, 0o755)
+    kept.write(f"{to}/{kept.TEXT}", kept.text_of(kit, values).encode())
+    os.makedirs(f"{prefix}/bin", exist_ok=True)
+    for name in ("xsap", *data):
+        link(f"../lib/xsap/{name}", f"{prefix}/bin/{name}")
+
+
+def link(target, path):
+    """Makes a link, or puts it in the place of what an earlier installation left."""
+    part = f"{path}.{os.getpid()}"
+    os.symlink(target, part)
+    os.replace(part, path)
+
+
+def bash_completion():
+    """Returns the completion for bash: verbs, then the options of the verb that are not yet there, and names of files as their values."""
+    arms = "".join(f"        {verb}) options='{' '.join(options_of(verb))}' ;;\n" for verb in VERBS)
+    return f"""# Completes the words of xsap in bash.
+_xsap() {{
+    local word=${{COMP_WORDS[COMP_CWORD]}} before=${{COMP_WORDS[COMP_CWORD-1]}} verb='' at=1 options='' option
+    while [[ ${{COMP_WORDS[at]}} == --explain || ${{COMP_WORDS[at]}} == --exact || ${{COMP_WORDS[at]}} == --unproved ]]; do
+        at=$((at + 1))
+    done
+    COMPREPLY=()
+    if ((COMP_CWORD <= at)); then
+        COMPREPLY=($(compgen -W '{' '.join([*VERBS, *FRONT])}' -- "$word"))
+        return
+    fi
+    verb=${{COMP_WORDS[at]}}
+    if [[ $verb == --help ]]; then
+        COMPREPLY=($(compgen -W '{' '.join(VERBS)}' -- "$word"))
+        return
+    fi
+    if [[ $verb == --install ]]; then
+        COMPREPLY=($(compgen -d -- "$word"))
+        return
+    fi
+    if (((COMP_CWORD - at) % 2 == 0)); then
+        case $before in
+            {'|'.join(sorted(file_options()))}) compopt -o filenames 2>/dev/null; mapfile -t COMPREPLY < <(compgen -f -- "$word") ;;
+            --claim) COMPREPLY=($(compgen -W 'before after together none' -- "$word")) ;;
+        esac
+        return
+    fi
+    case $verb in
+{arms}    esac
+    for option in $options; do
+        [[ " ${{COMP_WORDS[*]:at}} " == *" $option "* && $option != "$word" ]] || COMPREPLY+=($(compgen -W "$option" -- "$word"))
+    done
+}}
+complete -F _xsap xsap
+"""
+
+
+def zsh_completion():
+    """Returns the completion for zsh: verbs, then the options of the verb, and names of files as their values."""
+    arms = "".join(f"        {verb}) options=({' '.join(options_of(verb))}) ;;\n" for verb in VERBS)
+    files = "|".join(sorted(file_options()))
+    return f"""#compdef xsap
+# Completes the words of xsap in zsh.
+_xsap() {{
+    local at=2 verb
+    local -a options
+    while [[ ${{words[at]}} == (--explain|--exact|--unproved) ]]; do at=$((at + 1)); done
+    if ((CURRENT <= at)); then
+        compadd -- {' '.join([*VERBS, *FRONT])}
+        return
+    fi
+    verb=${{words[at]}}
+    case $verb in
+        --help) compadd -- {' '.join(VERBS)}; return ;;
+        --install) _files -/; return ;;
+    esac
+    if (((CURRENT - at) % 2 == 0)); then
+        case ${{words[CURRENT-1]}} in
+            ({files}) _files ;;
+            (--claim) compadd -- before after together none ;;
+        esac
+        return
+    fi
+    case $verb in
+{arms}    esac
+    compadd -- ${{options:|words}}
+}}
+_xsap "$@"
+"""

@@ -1,0 +1,112 @@
+"""The verbs of the program with their options, as docs/MANUAL.md has them, and the help that is printed of them.
+
+Help, the completion of words and the front's test read this one table. The program itself knows its verbs by its own.
+"""
+import os
+
+VERSION = "1.0"
+# Each verb with what it does, and its options in the order in which the program asks for them; one in brackets may be left out.
+VERBS = {
+    "extend": ("writes the model extended with its faults", "--model FILE --faults FILE --extended FILE"),
+    "analyse": ("finds the minimal cut sets of a top event, with a trace for each and a certificate",
+                "--model FILE --faults FILE --top EXPRESSION --depth NUMBER --extended FILE --cert FILE [--size NUMBER]"),
+    "check": ("judges a certificate of analyse, without any search", "--model FILE --faults FILE --top EXPRESSION --cert FILE"),
+    "replay": ("judges a trace of the extension, and names the faults that have failed in it",
+               "--model FILE --faults FILE --trace FILE --top EXPRESSION"),
+    "fmea": ("makes a table of failure modes and effects for several top events",
+             "--model FILE --faults FILE --tops FILE --size NUMBER --depth NUMBER"),
+    "make": ("makes a model of relays on two rails, to try the program with, and analyses it",
+             "--number NUMBER --stages NUMBER --depth NUMBER --model FILE --faults FILE"),
+    "causes": ("finds the minimal cut sets of faults and common causes, with a certificate",
+               "--model FILE --faults FILE --causes FILE --top EXPRESSION --depth NUMBER --cert FILE"),
+    "check-causes": ("judges a certificate of causes", "--model FILE --faults FILE --causes FILE --top EXPRESSION --cert FILE"),
+    "orders": ("finds the order in which two faults of a set come, with a certificate",
+               "--model FILE --faults FILE --top EXPRESSION --set NUMBERS --first NUMBER --second NUMBER --depth NUMBER --cert FILE"),
+    "check-orders": ("judges a certificate of orders",
+                     "--model FILE --faults FILE --top EXPRESSION --set NUMBERS --first NUMBER --second NUMBER --claim WORD --cert FILE"),
+    "odds": ("bounds the probabilities of the minimal cut sets, by the marks of the modes",
+             "--model FILE --faults FILE --top EXPRESSION --depth NUMBER"),
+}
+OPTIONS = {
+    "--model": "the nominal model, in finite-domain SMV",
+    "--faults": "the fault instructions",
+    "--extended": "the extension, which is written",
+    "--top": "the top event, an expression over the model, as 'road & !down'",
+    "--tops": "top events with ; between",
+    "--depth": "how many steps the search may look ahead; 40 is a good begin",
+    "--size": "of how many faults a set has at most",
+    "--cert": "the certificate: written by analyse, causes and orders, read by the checks",
+    "--trace": "the trace that is judged",
+    "--causes": "the common causes",
+    "--set": "numbers of faults, as '2 3'",
+    "--first": "the number of one fault of the set",
+    "--second": "the number of the other one",
+    "--claim": "before, after, together or none",
+    "--number": "which of the models",
+    "--stages": "how many relays, 1 to 64",
+}
+# What stands in for a verb: words of ./xsap itself.
+FRONT = {
+    "--help": "this text; --help VERB: a verb's options, one by one",
+    "--version": "the version, the commit, the kit, and whether the program was proved here",
+    "--explain": "before the words of a run: explains a refusal on standard error, as is done on a terminal",
+    "--exact": "before the words of a run: hands all of them on as they are, and explains nothing",
+    "--prove": "proves and builds the programs here, by the kit's command rt",
+    "--unproved": "before the words of a run: compiles and runs the program without any proof",
+    "--install": "installs the programs, a manual page and completions below a folder: --install PREFIX",
+}
+EXAMPLE = """  cd {folder}
+  {command} analyse --model model.smv --faults faults.fei --top crash --depth 40 \\
+    --extended /tmp/extended.smv --cert /tmp/cuts.cert
+  {command} check --model model.smv --faults faults.fei --top crash --cert /tmp/cuts.cert
+"""
+STATUSES = """Exit status: 0 done, complete; 1 done, but only up to the depth; 2 to 6, 9, 10 refused, in one line that tells the place;
+7 a file or standard output failed; 8 out of memory; 11 a word is no text; 70 there is no program to run."""
+
+
+def options_of(verb):
+    """Returns the options of a verb, each with what its value is."""
+    words = VERBS[verb][1].replace("[", "").replace("]", "").split()
+    return dict(zip(words[::2], words[1::2]))
+
+
+def file_options():
+    """Returns the options whose values are names of files."""
+    return {option for verb in VERBS for option, value in options_of(verb).items() if value == "FILE"}
+
+
+def wrapped(text, indent):
+    """Returns a list of options as lines of at most some hundred columns, each option with its value."""
+    parts, lines = text.replace(" --", "\0--").replace(" [--", "\0[--").split("\0"), [""]
+    for part in parts:
+        if lines[-1] and len(lines[-1]) + len(part) > 96:
+            lines.append("")
+        lines[-1] += (" " if lines[-1] else "") + part
+    return "".join(f"{indent}{line}\n" for line in lines)
+
+
+def help_text(name, manual, folder):
+    """Returns the help, for a command of this name with the manual at that place, and the example's files in that folder."""
+    verbs = "".join(f"  {verb:13} {does}\n{wrapped(options, ' ' * 16)}" for verb, (does, options) in VERBS.items())
+    front = "".join(f"  {word:13} {means}\n" for word, means in FRONT.items())
+    example = EXAMPLE.format(folder=folder, command="../../xsap" if name == "./xsap" else name)
+    return (
+        f"{name} extends SMV models with faults, and finds and certifies the minimal cut sets of a top event.\n\n"
+        f"  {name} VERB --OPTION VALUE ..      the options in any order, each value a word of its own\n\n"
+        f"{verbs}\n{front}\nAn example{'' if os.path.isabs(folder) else ', at the top of the repository'}:\n{example}\n"
+        f"{STATUSES}\nThe manual: {manual}\n"
+    )
+
+
+def help_of(verb, name, manual):
+    """Returns the help of one verb."""
+    options = "".join(f"  {option + ' ' + value:23} {OPTIONS[option]}\n" for option, value in options_of(verb).items())
+    free = "".join(f"  ({option.strip('[]')} may be left out)\n" for option in VERBS[verb][1].split() if option.startswith("["))
+    return f"{name} {verb} {VERBS[verb][0]}.\n\n  {name} {verb}\n{wrapped(VERBS[verb][1], ' ' * 4)}\n{options}{free}\nThe manual: {manual}\n"
+
+
+def nearest(word):
+    """Returns the verb that a word may have meant, or None."""
+    import difflib
+
+    return next(iter(difflib.get_close_matches(word.lower(), VERBS, 1, 0.6)), None)
