@@ -116,7 +116,7 @@ def explain(line, words):
             said, shown = explained(line, name or "-"), printable(name)
     except (OSError, Unready) as why:
         return programs.tell(f"the refusal can't be explained: {why}")
-    place = re.search(r"line (\d+), column (\d+):|^line (\d+):", said, re.M)
+    place = re.search(r"line (\d+)(?:, column (\d+))?:", said)
     if option == "--top":
         head = f"{shown}, column {place[2]}" if place else shown
     elif option:
