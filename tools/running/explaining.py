@@ -4,7 +4,6 @@ What the program prints goes on to standard output as it comes, byte for byte, a
 of the front. A signal to the front goes on to the program. Where the run ended with a refusal, the line is given to xsap_explain with the
 file that was refused, which the words of the run name.
 """
-import errno
 import os
 import re
 import signal
@@ -32,16 +31,17 @@ def run(path, words):
         child = subprocess.Popen([path, *words], stdout=subprocess.PIPE, preexec_fn=end_with_parent)
     except OSError as error:
         raise Unready(f"{path} can't be run: {error.strerror}") from None
-    pass_signals_to(child)
+    handle_signals(lambda number, _: child.send_signal(number))
     first, failed = relay(child.stdout.fileno())
+    # (where it failed, the program finds its pipe closed)
     child.stdout.close()
     status = child.wait()
-    if failed == errno.EPIPE and status in (0, 1, *REFUSED, -signal.SIGPIPE):
-        end_by(signal.SIGPIPE)
-    if failed:
-        return FAILED
-    if status < 0:
+    handle_signals(signal.SIG_DFL)
+    if status < 0 and not (failed and status == -signal.SIGPIPE):
         end_by(-status)
+    if failed:
+        # (so ends the program itself, also where a pipe is closed)
+        return FAILED
     if status in REFUSED:
         explain(first.partition(b"\n")[0].decode(errors="replace"), words)
     elif status in SILENT:
@@ -59,26 +59,27 @@ def end_with_parent():
         pass
 
 
-def pass_signals_to(child):
+def handle_signals(handler):
+    """Sets what is done at the signals that go on to the program, but for those that whoever began the run ignores."""
     for name in PASSED_ON:
         number = getattr(signal, name)
         if signal.getsignal(number) is not signal.SIG_IGN:
-            signal.signal(number, lambda given, _: child.send_signal(given))
+            signal.signal(number, handler)
 
 
 def relay(source):
-    """Hands on what comes from the program, and returns the beginning of it, and the number of the error where it could not be handed on."""
+    """Hands on what comes from the program, and returns the beginning of it, and whether it could not be handed on."""
     first = b""
     while True:
         piece = os.read(source, PIECE)
         if not piece:
-            return first, 0
+            return first, False
         first = (first + piece)[:LONGEST_LINE]
         while piece:
             try:
                 piece = piece[os.write(1, piece):]
-            except OSError as error:
-                return first, error.errno
+            except OSError:
+                return first, True
 
 
 def end_by(number):

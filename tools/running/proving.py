@@ -74,7 +74,7 @@ def prove():
                 os.utime(path, (begun, begun))
     except OSError as error:
         raise Unready(f"--prove can't go on: {error.strerror} ({error.filename})") from None
-    programs.tell(f"proved and built in {(time.time() - begun) / 60:.0f} minutes: {' and '.join(map(programs.built, kept.PROGRAMS))}")
+    programs.tell(f"proved and built in {(time.time() - begun) / 60:.0f} min: {' and '.join(map(programs.built, kept.PROGRAMS))}")
     return 0
 
 
@@ -91,7 +91,7 @@ def run_ci(rt, folder, count, log):
                 if found and found[1] not in done:
                     done.add(found[1])
                     how = "kept" if found[2] else found[3].lower()
-                    programs.tell(f"{len(done)} of {count} crates, {(time.monotonic() - begun) / 60:.0f} minutes: {found[1]} {how}")
+                    programs.tell(f"{len(done)} of {count} crates after {(time.monotonic() - begun) / 60:.0f} min: {found[1]} {how}")
         except BaseException:
             ran.terminate()
             raise
