@@ -131,7 +131,7 @@ def explain(line, words):
 
 def explained(line, name):
     """Returns what xsap_explain says of a line and the file of that name."""
-    path, _ = programs.find(kept.PROGRAMS[1])
+    path = programs.find(kept.PROGRAMS[1])
     done = subprocess.run([path, "explain", name], input=f"{line}\n".encode(), stdout=subprocess.PIPE)
     if done.returncode:
         raise Unready(done.stdout.decode(errors="replace").strip() or f"xsap_explain ended with {done.returncode}")

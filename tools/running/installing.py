@@ -12,7 +12,7 @@ import subprocess
 from running import kept, programs
 from running.machine import Unready
 from running.programs import TOP
-from running.verbs import FRONT, VERBS, VERSION, file_options, options_of
+from running.verbs import OWN, VERBS, VERSION, file_options, options_of
 
 EXAMPLE_FILES = ("model.smv", "faults.fei", "causes", "tops", "crash.trace", "pass.trace")
 
@@ -37,12 +37,11 @@ def about():
     except Unready:
         kit = ""
     try:
-        path, is_kept = programs.find(kept.PROGRAMS[0])
-    except Unready as why:
-        path, is_kept, program = None, True, f"none: {why}"
-    if path and is_kept:
+        path, _ = programs.chosen(kept.PROGRAMS[0])
         program = "kept in release/, which .ci/run compares with the one that it proves"
-    elif path:
+    except Unready as why:
+        path, program = None, f"none: {why}"
+    if path:
         program = f"proved and built here, {os.path.relpath(path, TOP)}"
         kit = said_by(["rt", "version"], TOP) or kit
     return f"xsap {VERSION}\ncommit: {commit or 'not known'}\nkit: {kit or 'not known'}\nprogram: {program}\n"
@@ -51,11 +50,11 @@ def about():
 def install(prefix):
     """Installs all below a folder, and returns the status."""
     prefix = os.path.abspath(prefix)
-    found = {name: programs.find(name) for name in kept.PROGRAMS}
+    data = {name: kept.read(programs.find(name)) for name in kept.PROGRAMS}
     text = about().replace("program: kept in release/, which", "program: the kept one of that commit, which")
     text = text.replace(f", {os.path.relpath(programs.built(kept.PROGRAMS[0]), TOP)}", "").replace("built here", "built where it was installed from")
     try:
-        lay_down(prefix, {name: kept.read(path) for name, (path, _) in found.items()}, text)
+        lay_down(prefix, data, text)
     except OSError as error:
         raise Unready(f"not installed: {error.strerror} ({error.filename})") from None
     programs.tell(f"installed below {prefix}: bin/xsap, with its manual page ({prefix}/share/man) and completions")
@@ -99,21 +98,17 @@ def bash_completion():
     return f"""# Completes the words of xsap in bash.
 _xsap() {{
     local word=${{COMP_WORDS[COMP_CWORD]}} before=${{COMP_WORDS[COMP_CWORD-1]}} verb='' at=1 options='' option
-    while [[ ${{COMP_WORDS[at]}} == --explain || ${{COMP_WORDS[at]}} == --exact || ${{COMP_WORDS[at]}} == --unproved ]]; do
+    while [[ ${{COMP_WORDS[at]}} == --explain || ${{COMP_WORDS[at]}} == --exact ]]; do
         at=$((at + 1))
     done
     COMPREPLY=()
     if ((COMP_CWORD <= at)); then
-        COMPREPLY=($(compgen -W '{' '.join([*VERBS, *FRONT])}' -- "$word"))
+        COMPREPLY=($(compgen -W '{' '.join([*VERBS, *OWN])}' -- "$word"))
         return
     fi
     verb=${{COMP_WORDS[at]}}
     if [[ $verb == --help ]]; then
         COMPREPLY=($(compgen -W '{' '.join(VERBS)}' -- "$word"))
-        return
-    fi
-    if [[ $verb == --install ]]; then
-        COMPREPLY=($(compgen -d -- "$word"))
         return
     fi
     if (((COMP_CWORD - at) % 2 == 0)); then
@@ -142,16 +137,16 @@ def zsh_completion():
 _xsap() {{
     local at=2 verb
     local -a options
-    while [[ ${{words[at]}} == (--explain|--exact|--unproved) ]]; do at=$((at + 1)); done
+    while [[ ${{words[at]}} == (--explain|--exact) ]]; do at=$((at + 1)); done
     if ((CURRENT <= at)); then
-        compadd -- {' '.join([*VERBS, *FRONT])}
+        compadd -- {' '.join([*VERBS, *OWN])}
         return
     fi
     verb=${{words[at]}}
-    case $verb in
-        --help) compadd -- {' '.join(VERBS)}; return ;;
-        --install) _files -/; return ;;
-    esac
+    if [[ $verb == --help ]]; then
+        compadd -- {' '.join(VERBS)}
+        return
+    fi
     if (((CURRENT - at) % 2 == 0)); then
         case ${{words[CURRENT-1]}} in
             ({files}) _files ;;

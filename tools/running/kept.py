@@ -115,26 +115,41 @@ def write(path, data, mode=0o644):
 
 
 def cache():
-    """Returns the user's folder for what can be made anew."""
+    """Returns the user's folder for what can be made anew, or None where he has none."""
     given = os.environ.get("XDG_CACHE_HOME", "")
-    return f"{given if os.path.isabs(given) else os.path.expanduser('~/.cache')}/xsap"
+    folder = given if os.path.isabs(given) else os.path.expanduser("~/.cache")
+    return f"{folder}/xsap" if os.path.isabs(folder) else None
+
+
+def is_private(folder):
+    """Returns whether nobody but the user can change what stands in a folder of the cache."""
+    try:
+        found = [os.stat(it) for it in (folder, os.path.dirname(folder))]
+    except OSError:
+        return False
+    return all(it.st_uid == os.geteuid() and not it.st_mode & 0o022 for it in found)
 
 
 def unpack(release, name):
     """Returns where the program stands that is kept under a name, and whether it was unpacked just now: beside the release in a folder
     that git ignores, or where nothing can be written there in the user's cache."""
-    apart = release.programs[name]["sum"][:16]
-    places = [f"{release.folder}/out/{name}", f"{cache()}/{apart}/{name}"]
-    for path in places:
-        if release.is_at(name, path):
-            return path, False
+    beside, apart = f"{release.folder}/out", cache() and f"{cache()}/{release.programs[name]['sum'][:16]}"
+    folders = [beside, apart] if apart else [beside]
+    for folder in folders:
+        if (folder == beside or is_private(folder)) and release.is_at(name, f"{folder}/{name}"):
+            return f"{folder}/{name}", False
     data, why = release.program(name), "nothing that is written there can be run"
-    for path in places:
+    for folder in folders:
         try:
-            write(path, data, 0o755)
+            for it in (os.path.dirname(folder), folder) if folder == apart else ():
+                os.makedirs(it, 0o700, exist_ok=True)
+            if folder == apart and not is_private(folder):
+                why = "others can write there"
+                continue
+            write(f"{folder}/{name}", data, 0o755)
         except OSError as error:
             why = error.strerror
             continue
-        if release.is_at(name, path):
-            return path, True
-    raise Unready(f"the kept program can't be unpacked into {' or '.join(os.path.dirname(it) for it in places)} ({why})")
+        if release.is_at(name, f"{folder}/{name}"):
+            return f"{folder}/{name}", True
+    raise Unready(f"the kept program can't be unpacked into {' or '.join(folders)} ({why})")

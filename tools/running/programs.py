@@ -38,31 +38,42 @@ def release():
     return kept.Release(TOP if is_installed() else f"{TOP}/release")
 
 
-def find(name):
-    """Returns where a program stands that fits these sources, and whether it is the kept one, or says why there is none."""
-    if is_installed():
-        path = f"{TOP}/{name}"
-        if not release().is_at(name, path):
-            raise Unready(f"{path} is not the program that was installed, so it is not run: install it again")
-        return path, True
+def chosen(name):
+    """Returns where a program stands that is proved and built here of these sources, and else None and the release that keeps it, or says
+    why there is neither."""
     from repository import is_current, sources_sum
 
     if is_current(name):
-        return built(name), False
+        return built(name), None
     try:
         found = release()
         if found.programs[name]["sources"] != sources_sum(name):
             raise Unready("release/ keeps a program of other sources than these")
-        lacks = machine.lacking()
-        path, is_new = (None, False) if lacks else kept.unpack(found, name)
     except Unready as why:
         stale = ", and the one that was built here is older than a source" if os.path.exists(built(name)) else ""
         raise Unready(f"{why}{stale}: {WHAT_TO_DO}") from None
+    return None, found
+
+
+def find(name):
+    """Returns where a program stands that can be run, or says why there is none. A kept one is unpacked where it was not."""
+    if is_installed():
+        if not release().is_at(name, f"{TOP}/{name}"):
+            raise Unready(f"{TOP}/{name} is not the program that was installed, so it is not run: install it again")
+        return f"{TOP}/{name}"
+    path, found = chosen(name)
+    if path:
+        return path
+    lacks = machine.lacking()
     if lacks:
         raise Unready(lacks)
+    try:
+        path, is_new = kept.unpack(found, name)
+    except Unready as why:
+        raise Unready(f"{why}: {WHAT_TO_DO}") from None
     if is_new and name == kept.PROGRAMS[0]:
         tell("this is the kept program of release/, which .ci/run compares with the one that it proves; ./xsap --prove proves it here")
-    return path, True
+    return path
 
 
 def as_given():

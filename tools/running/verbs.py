@@ -45,12 +45,14 @@ OPTIONS = {
     "--number": "which of the models",
     "--stages": "how many relays, 1 to 64",
 }
-# What stands in for a verb: words of ./xsap itself.
-FRONT = {
+# The words of the command itself, which come in place of a verb or before it; and those that it has in the repository alone.
+OWN = {
     "--help": "this text; --help VERB: a verb's options, one by one",
     "--version": "the version, the commit, the kit, and whether the program was proved here",
     "--explain": "before the words of a run: explains a refusal on standard error, as is done on a terminal",
     "--exact": "before the words of a run: hands all of them on as they are, and explains nothing",
+}
+OF_REPOSITORY = {
     "--prove": "proves and builds the programs here, by the kit's command rt",
     "--unproved": "before the words of a run: compiles and runs the program without any proof",
     "--install": "installs the programs, a manual page and completions below a folder: --install PREFIX",
@@ -88,12 +90,13 @@ def wrapped(text, indent):
 def help_text(name, manual, folder):
     """Returns the help, for a command of this name with the manual at that place, and the example's files in that folder."""
     verbs = "".join(f"  {verb:13} {does}\n{wrapped(options, ' ' * 16)}" for verb, (does, options) in VERBS.items())
-    front = "".join(f"  {word:13} {means}\n" for word, means in FRONT.items())
+    words = OWN if os.path.isabs(folder) else {**OWN, **OF_REPOSITORY}
+    own = "".join(f"  {word:13} {means}\n" for word, means in words.items())
     example = EXAMPLE.format(folder=folder, command="../../xsap" if name == "./xsap" else name)
     return (
         f"{name} extends SMV models with faults, and finds and certifies the minimal cut sets of a top event.\n\n"
         f"  {name} VERB --OPTION VALUE ..      the options in any order, each value a word of its own\n\n"
-        f"{verbs}\n{front}\nAn example{'' if os.path.isabs(folder) else ', at the top of the repository'}:\n{example}\n"
+        f"{verbs}\n{own}\nAn example{'' if os.path.isabs(folder) else ', at the top of the repository'}:\n{example}\n"
         f"{STATUSES}\nThe manual: {manual}\n"
     )
 
