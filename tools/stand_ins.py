@@ -49,7 +49,8 @@ case "$1" in
 version) echo "${KIT_LINE:-stand-in kit 1}" ;;
 try) shift; for word in "$@"; do printf '[%s]' "$word"; done; echo; exit 4 ;;
 ci) [ -e must-fail ] && exit 9
-    echo "rt: low is kept: an earlier run"; echo "rt: xsap_program proved"; echo "rt: xsap_program: its tests are proved"; echo "rt: xsap_explain NOT PROVED"
+    echo "rt: low is kept: an earlier run"; echo "rt: xsap_program proved"
+    echo "rt: xsap_program: its tests are proved"; echo "rt: xsap_explain NOT PROVED"
     [ -n "$FAILS" ] && exit 1
     [ -n "$TOUCH" ] && touch "$TOUCH"
     for name in xsap_program xsap_explain; do
