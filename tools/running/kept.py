@@ -138,18 +138,19 @@ def unpack(release, name):
     for folder in folders:
         if (folder == beside or is_private(folder)) and release.is_at(name, f"{folder}/{name}"):
             return f"{folder}/{name}", False
-    data, why = release.program(name), "nothing that is written there can be run"
+    data, tried = release.program(name), []
     for folder in folders:
+        why = "what is written there can't be run"
         try:
             for it in (os.path.dirname(folder), folder) if folder == apart else ():
                 os.makedirs(it, 0o700, exist_ok=True)
             if folder == apart and not is_private(folder):
                 why = "others can write there"
-                continue
-            write(f"{folder}/{name}", data, 0o755)
+            else:
+                write(f"{folder}/{name}", data, 0o755)
+                if release.is_at(name, f"{folder}/{name}"):
+                    return f"{folder}/{name}", True
         except OSError as error:
             why = error.strerror
-            continue
-        if release.is_at(name, f"{folder}/{name}"):
-            return f"{folder}/{name}", True
-    raise Unready(f"the kept program can't be unpacked into {' or '.join(folders)} ({why})")
+        tried.append(f"{folder} ({why})")
+    raise Unready(f"the kept program can't be unpacked into {' or '.join(tried)}")
