@@ -12,7 +12,7 @@ import tempfile
 
 from running import kept, programs
 from running.machine import Unready
-from running.verbs import VERBS, options_of
+from running.verbs import VERBS
 
 PIECE = 65536
 # No line of a refusal has so many bytes, and these are the statuses that go with one.
@@ -145,7 +145,7 @@ def usage(line, words):
         return ""
     place = int(found[2])
     shown = f"word {place} is {printable(words[place - 1])}\n" if found[1] != "5" and 0 < place <= len(words) else ""
-    missing = [it for it in options_of(words[0]) if it not in words[1::2]]
+    missing = [it for it in VERBS[words[0]][1].split() if it.startswith("--") and it not in words[1::2]]
     shown += f"missing: {' '.join(missing)}\n" if found[1] == "5" and missing else ""
     return f"{shown}{words[0]} {VERBS[words[0]][1]}\n"
 
