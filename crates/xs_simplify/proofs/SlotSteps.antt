@@ -1,0 +1,41 @@
+-- Steps of the loops over slots.
+use Rattle.std.proofs.Common.{◌≡◌, ℕ, ◌+◌, ◌<◌, ◌≤◌, Bool, true, false, cond, List, [], ◌∷◌, ◌++◌, length, get_or, set, take, Option, Some, None, refl, sym, ap, ◌∙◌, subst, arith}
+use Rattle.std.specs.List.{fold, flat_map}
+use Rattle.std.proofs.lemmas.Bool.{cond-true, cond-false}
+use Rattle.std.proofs.lemmas.List.{set_past, set-get_or, get_or_past, get_or_default, append-nil, take_more, flat_map_more}
+use Rattle.std.proofs.lemmas.List.Sums.{fold_more}
+use Rattle.xs_lits.specs.Literal.{Literal}
+use Rattle.xs_simplify.specs.Slots.{Slot}
+use Rattle.xs_simplify.specs.Resolution.{has_literal, without, each_once}
+use Rattle.xs_simplify.specs.Changes.{slot_at, changed_at, changed, slot_has, dropped, shrunk, picked, gathered}
+
+-- no slot past the end is changed, and none by a change that leaves it as it is
+pub changed_past : (f : Slot → Slot) (slots : List Slot) (i : ℕ) → length slots ≤ i → changed_at f slots i ≡ slots
+changed_past f slots i over = set_past slots i (f (slot_at slots i)) over
+
+pub changed_same : (f : Slot → Slot) (slots : List Slot) (i : ℕ) → f (slot_at slots i) ≡ slot_at slots i → changed_at f slots i ≡ slots
+changed_same f slots i same = ap (set slots i) same ∙ set-get_or slots i None
+
+pub changed_to : (f : Slot → Slot) (slots : List Slot) (i : ℕ) (o : Slot) → f (slot_at slots i) ≡ o → changed_at f slots i ≡ set slots i o
+changed_to f slots i o e = ap (set slots i) e
+
+pub dropped_has : (l : Literal) (o : Slot) → slot_has l o ≡ true → dropped l o ≡ None
+dropped_has l None e = refl
+dropped_has l (Some c) e = cond-true (has_literal l c) None (Some c) e
+
+pub dropped_lacks : (l : Literal) (o : Slot) → slot_has l o ≡ false → dropped l o ≡ o
+dropped_lacks l None e = refl
+dropped_lacks l (Some c) e = cond-false (has_literal l c) None (Some c) e
+
+pub shrunk_lacks : (l : Literal) (o : Slot) → slot_has l o ≡ false → shrunk l o ≡ o
+shrunk_lacks l None e = refl
+shrunk_lacks l (Some c) e = cond-false (has_literal l c) (Some (each_once (without l c))) (Some c) e
+
+-- one clause more is looked at
+pub changed_more : (f : Slot → Slot) (slots : List Slot) (at : List ℕ) (k i : ℕ) (now next : List Slot) → k < length at → i ≡ get_or at k 0 → now ≡ changed f slots (take k at) → next ≡ changed_at f now i → next ≡ changed f slots (take (k + 1) at)
+changed_more f slots at k i now next lt is e step =
+    step ∙ (ap (λ s. changed_at f s i) e ∙ (ap (changed_at f (changed f slots (take k at))) is ∙ sym (fold_more (changed_at f) slots at k 0 lt)))
+
+pub gathered_more : (l : Literal) (slots : List Slot) (at : List ℕ) (k i : ℕ) (now next : List (List Literal)) → k < length at → i ≡ get_or at k 0 → now ≡ gathered l slots (take k at) → next ≡ now ++ picked l (slot_at slots i) → next ≡ gathered l slots (take (k + 1) at)
+gathered_more l slots at k i now next lt is e step =
+    step ∙ (ap (λ r. r ++ picked l (slot_at slots i)) e ∙ (flat_map_more (λ i. picked l (slot_at slots i)) [] (take k at) i ∙ ap (gathered l slots) (ap (λ n. take k at ++ n ∷ []) is ∙ sym (take_more at k 0 lt))))

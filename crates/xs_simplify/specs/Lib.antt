@@ -1,0 +1,6 @@
+pub mod Meeting
+pub mod Resolution
+pub mod Elimination
+pub mod Slots
+pub mod Changes
+pub mod Occurring

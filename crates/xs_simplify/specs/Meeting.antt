@@ -1,0 +1,30 @@
+-- What a list of clauses says of its places, and when another list says the same.
+use Rattle.std.specs.Prelude.{◌≡◌, ℕ, ◌≤◌, ◌<◌, ◌↔◌, ◌⊎◌, List, IsTrue, Contains}
+use Rattle.xs_lits.specs.Literal.{Literal}
+use Rattle.xs_lits.specs.Models.{TotalAssignment, all_true}
+
+-- a list whose variables other than its places are its own: some values that agree on the places make it true
+pub record IsMet (places : ℕ) (list : List (List Literal)) (v : TotalAssignment) : Type 0 where
+  pub values : TotalAssignment
+  pub agree : (x : ℕ) → 2 ≤ x → x ≤ places → values x ≡ v x
+  pub all : IsTrue (all_true values list)
+
+-- the variable is the list's own: it is no place
+abbrev pub IsOwn : ℕ → ℕ → Type 0
+IsOwn places x = (x < 2) ⊎ (places < x)
+
+-- the variable stands in the list
+pub record IsVariableOf (list : List (List Literal)) (x : ℕ) : Type 0 where
+  pub clause : List Literal
+  pub literal : Literal
+  pub listed : Contains list clause
+  pub has : Contains clause literal
+  pub is : literal.var ≡ x
+
+-- the two lists can be made true with the same values of the places
+abbrev pub AreMetAlike : ℕ → List (List Literal) → List (List Literal) → Type 0
+AreMetAlike places old new = (v : TotalAssignment) → IsMet places old v ↔ IsMet places new v
+
+-- each variable of the new list is one of the old list
+abbrev pub HasNoNewVariable : List (List Literal) → List (List Literal) → Type 0
+HasNoNewVariable old new = (x : ℕ) → IsVariableOf new x → IsVariableOf old x
